@@ -1,0 +1,4 @@
+pub mod formers
+pub mod Exceptions
+pub mod Value
+pub mod Items
