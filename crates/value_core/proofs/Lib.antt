@@ -1,0 +1,5 @@
+pub mod CharacterLemmas
+pub mod DivisionLemmas
+pub mod Examples
+pub mod Ranges
+pub mod ShiftLemmas

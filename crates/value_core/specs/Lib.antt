@@ -2,3 +2,6 @@ pub mod formers
 pub mod Exceptions
 pub mod Value
 pub mod Items
+pub mod Arithmetic
+pub mod Division
+pub mod Characters

@@ -8,14 +8,30 @@
 //! `specs/Characters.antt` the code points of a text.
 #![tactic(auto)]
 
+mod arith;
+mod characters;
 mod exception;
+mod int;
+mod int64;
 mod many;
 mod memory;
 mod name;
+mod number;
+#[cfg(test)]
+mod tests;
 mod text;
 
+pub use arith::Arith;
+pub use characters::{char_at, char_len, place_of};
 pub use exception::{ExcClass, is_under};
+pub use int::{
+    int_add, int_floor_div, int_modulo, int_mul, int_neg, int_shl, int_shr, int_sub, is_short,
+};
+pub use int64::{
+    i64_add, i64_floor_div, i64_modulo, i64_mul, i64_neg, i64_shl, i64_shr, i64_sub, int_to_i64,
+};
 pub use many::Many;
 pub use memory::Memory;
 pub use name::Name;
+pub use number::number_text;
 pub use text::Text;
