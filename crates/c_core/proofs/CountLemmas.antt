@@ -1,0 +1,71 @@
+-- What the small changes of cells and ledgers leave of counts and holders.
+use Rattle.std.proofs.Common.{◌≡◌, ℕ, zero, suc, ◌+◌, ◌<◌, ◌≤◌, List, [], ◌∷◌, ◌++◌, length, Option, Some, None, refl, sym, ap, ◌∙◌, subst, arith, append_assoc, length-append}
+use Rattle.std.specs.Prelude.{slice_get}
+use Rattle.c_core.specs.Cells.{Cell, Cells, same, times, counted, count_at, content_of, content_at, raised, take_one, make}
+use Rattle.c_core.specs.Release.{inside, uses}
+use Rattle.c_core.specs.Step.{keep_or_drop, without}
+use Rattle.c_core.proofs.ReleaseLemmas.{times-append}
+
+pub same_one : (d c n : ℕ) → same d c ≡ suc n → d ≡ c
+same_one zero zero n e = refl
+same_one zero (suc c) n e = absurd (omega arith)
+same_one (suc d) zero n e = absurd (omega arith)
+same_one (suc d) (suc c) n e = ap suc (same_one d c n e)
+
+keep_or_drop-times : (k c d : ℕ) (l : List ℕ) (o : Option (List ℕ)) (r : List ℕ) → k ≡ same d c → ((m : List ℕ) → o ≡ Some m → (x : ℕ) → times l x ≡ same c x + times m x) → keep_or_drop k d l o ≡ Some r → (x : ℕ) → times (d ∷ l) x ≡ same c x + times r x
+keep_or_drop-times zero c d l None r k h e x = cc
+keep_or_drop-times zero c d l (Some m) r k h e x =
+    let f : d ∷ m ≡ r = cc in
+    subst (λ z. times (d ∷ l) x ≡ same c x + times z x) f (omega (arith, h m refl x))
+keep_or_drop-times (suc n) c d l o r k h e x =
+    let f : l ≡ r = cc in
+    let same_names = same_one d c n (sym k) in
+    subst (λ z. times (d ∷ l) x ≡ same c x + times z x) f (omega (arith, ap (λ z. same z x) same_names))
+
+pub without-times : (c : ℕ) (l r : List ℕ) → without c l ≡ Some r → (x : ℕ) → times l x ≡ same c x + times r x
+without-times c [] r e x = cc
+without-times c (d ∷ l) r e x = keep_or_drop-times (same d c) c d l (without c l) r refl (λ m h. without-times c l m h) e x
+
+pub same_self : (c : ℕ) → same c c ≡ 1
+same_self zero = refl
+same_self (suc c) = same_self c
+
+module _ {X : Type 0} where
+  pub count-take_one : (h : Cells X) (c d : ℕ) (v : X) → content_at h c ≡ Some v → count_at (take_one c h) d ≡ same c d + count_at h d
+  count-take_one [] c d v e = cc
+  count-take_one (None ∷ h) zero d v e = cc
+  count-take_one (Some cell ∷ h) zero zero v e = omega arith
+  count-take_one (Some cell ∷ h) zero (suc d) v e = omega arith
+  count-take_one (o ∷ h) (suc c) zero v e = omega arith
+  count-take_one (o ∷ h) (suc c) (suc d) v e = count-take_one h c d v e
+
+  pub count-make : (h : Cells X) (d : ℕ) (x : X) → count_at (make x h) d ≡ count_at h d + same (length h) d
+  count-make [] zero x = omega arith
+  count-make [] (suc d) x = omega arith
+  count-make (o ∷ h) zero x = omega arith
+  count-make (o ∷ h) (suc d) x = count-make h d x
+
+  -- a cell that is counted is there
+  pub there : (h : Cells X) (c : ℕ) → 1 ≤ count_at h c → (v : X) × (content_at h c ≡ Some v)
+  there [] c le = absurd (omega arith)
+  there (None ∷ h) zero le = absurd (omega arith)
+  there (Some cell ∷ h) zero le = (cell.content, refl)
+  there (o ∷ h) (suc c) le = there h c le
+
+  module _ (refs_in : X → List ℕ) where
+    pub held-uses : (h : Cells X) (c d : ℕ) (v : X) → content_at h c ≡ Some v → times (refs_in v) d ≤ uses refs_in h d
+    held-uses [] c d v e = cc
+    held-uses (None ∷ h) zero d v e = cc
+    held-uses (Some cell ∷ h) zero d v e =
+        let f : cell.content ≡ v = cc in omega (arith, ap (λ z. times (refs_in z) d) f)
+    held-uses (o ∷ h) (suc c) d v e = omega (arith, held-uses h c d v e)
+
+    pub uses-take_one : (h : Cells X) (c d : ℕ) → uses refs_in (take_one c h) d ≡ uses refs_in h d
+    uses-take_one [] c d = refl
+    uses-take_one (None ∷ h) zero d = refl
+    uses-take_one (Some cell ∷ h) zero d = refl
+    uses-take_one (o ∷ h) (suc c) d = omega (arith, uses-take_one h c d)
+
+    pub uses-make : (h : Cells X) (d : ℕ) (x : X) → uses refs_in (make x h) d ≡ uses refs_in h d + times (refs_in x) d
+    uses-make [] d x = omega arith
+    uses-make (o ∷ h) d x = omega (arith, uses-make h d x)

@@ -1,0 +1,49 @@
+-- What is known of every release, every step and every run of the machine.
+use Rattle.std.specs.Prelude.{◌≡◌, ℕ, ◌+◌, ◌≤◌, List, [], ◌∷◌, length, Option, Some}
+use Rattle.value_core.specs.Items.{Items}
+use Rattle.c_core.specs.declared.code.Code.{Code}
+use Rattle.c_core.specs.Cells.{Cells, count_at, times}
+use Rattle.c_core.specs.Release.{uses, release}
+use Rattle.c_core.specs.Machine.{Content, refs_in, MachineState}
+use Rattle.c_core.specs.Holders.{holders, owned}
+use Rattle.c_core.specs.Step.{Next, Goes, Ends, step}
+use Rattle.c_core.specs.Run.{Stop, start, most_steps, machine_run}
+use Rattle.c_core.specs.WellFormed.{WellFormed}
+
+-- where a count is what the contents, the references that are given up and others hold, it is afterwards what the
+-- contents and the others hold
+abbrev pub ReleaseKeepsCounts : Type 0
+ReleaseKeepsCounts =
+    (cells : Cells Content) (refs : List ℕ) (c others : ℕ) → count_at cells c ≡ uses refs_in cells c + times refs c + others → count_at (release refs_in cells refs) c ≡ uses refs_in (release refs_in cells refs) c + others
+
+-- the order in which references are given up makes no difference
+abbrev pub ReleaseInAnyOrder : Type 0
+ReleaseInAnyOrder =
+    (cells : Cells Content) (refs others : List ℕ) → ((c : ℕ) → times refs c ≡ times others c) → release refs_in cells refs ≡ release refs_in cells others
+
+-- each count is what the holders and all ledgers hold
+abbrev pub IsCounted : MachineState → Type 0
+IsCounted s = (c : ℕ) → count_at s.cells c ≡ holders s c + owned s c
+
+abbrev pub IsCountedAfter : Next → Type 0
+IsCountedAfter (Goes s) = IsCounted s
+IsCountedAfter (Ends e s) = IsCounted s
+
+-- the states that steps lead to from a state, with how many steps
+pub data Reaches (code : Code) : ℕ → MachineState → MachineState → Type 0 where
+  Here : (s : MachineState) → Reaches code 0 s s
+  There : (k : ℕ) (s t u : MachineState) → step code s ≡ Goes t → Reaches code k t u → Reaches code (k + 1) s u
+
+-- the run of a well-formed code exists, whatever the turns and the input
+abbrev pub RunExists : Type 0
+RunExists = (code : Code) → WellFormed code → (n : ℕ) (items : Items) → (stop : Stop) × (machine_run n items code ≡ Some stop)
+
+-- in each state of each run, the last one too, a count is what the holders and all ledgers hold
+abbrev pub RunKeepsCounts : Type 0
+RunKeepsCounts =
+    (code : Code) (n : ℕ) (items : Items) → ((k : ℕ) (s : MachineState) → Reaches code k (start code n items) s → IsCounted s) × ((stop : Stop) → machine_run n items code ≡ Some stop → IsCounted stop.state)
+
+-- a run takes no more steps than its bound, and each step makes at most one cell and raises a count by at most one
+abbrev pub RunStaysSmall : Type 0
+RunStaysSmall =
+    (code : Code) → WellFormed code → (n : ℕ) (items : Items) (k : ℕ) (s : MachineState) → Reaches code k (start code n items) s → (k ≤ most_steps n code) × (length s.cells ≤ k) × ((c : ℕ) → count_at s.cells c ≤ k)

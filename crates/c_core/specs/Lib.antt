@@ -1,0 +1,11 @@
+pub mod Cells
+pub mod Release
+pub mod Machine
+pub mod Holders
+pub mod Primitives
+pub mod Step
+pub mod Run
+pub mod Stands
+pub mod Text
+pub mod WellFormed
+pub mod Laws

@@ -1,0 +1,259 @@
+-- One step of the machine: what a line of the C text does to a state. The tests of a line go from left to right, a
+-- later one sees what the earlier ones took from the ledger, and a fault leaves the state as it was before the line.
+use Rattle.std.specs.Prelude.{ℕ, zero, suc, ◌+◌, ◌/◌, ◌%◌, ◌==◌, ◌<◌, Bool, true, false, cond, ℤ, pos, negsuc, List, [], ◌∷◌, ◌++◌, length, Option, Some, None, slice_get, slice_set}
+use Rattle.std.specs.Option.{option_and_then, option_map}
+use Rattle.value_core.specs.declared.exception.ExcClass.{ExcClass}
+use Rattle.c_core.specs.declared.code.Kind.{Kind}
+use Rattle.c_core.specs.declared.code.Kind.TheVariants.{Tagged, Int64, Char, Object}
+use Rattle.c_core.specs.declared.code.CLit.{CLit}
+use Rattle.c_core.specs.declared.code.CLit.TheVariants.{Number, Null, PyNone, PyTrue, PyFalse}
+use Rattle.c_core.specs.declared.code.CArg.{CArg}
+use Rattle.c_core.specs.declared.code.CArg.TheVariants as arg
+use Rattle.c_core.specs.declared.code.Line.{Line}
+use Rattle.c_core.specs.declared.code.Line.TheVariants.{Lit, Call, Return, Dec}
+use Rattle.c_core.specs.declared.code.CFunc.{CFunc}
+use Rattle.c_core.specs.declared.code.Code.{Code}
+use Rattle.c_core.specs.declared.fault.Fault.{Fault}
+use Rattle.c_core.specs.declared.fault.Fault.TheVariants as fault
+use Rattle.c_core.specs.declared.primitive.Prim.{Prim}
+use Rattle.c_core.specs.declared.primitive.Prim.TheVariants.{Str, Io}
+use Rattle.c_core.specs.declared.primitive.StrPrim.TheVariants.{Literal}
+use Rattle.c_core.specs.declared.primitive.IoPrim.TheVariants.{Write}
+use Rattle.c_core.specs.Cells.{Cells, same, content_at, make}
+use Rattle.c_core.specs.Release.{release}
+use Rattle.c_core.specs.Machine.{Word, ShortInt, BigInt, TaggedError, Native, CharWord, ObjectCell, NoneObject, TrueObject, FalseObject, NoObject, Content, IntCell, StrCell, ListCell, DictCell, TupleCell, InstCell, ExcCell, refs_of, refs_in, Ledger, Frame, MachineState}
+use Rattle.c_core.specs.Primitives.{Parameter, Borrows, Steals, TakesNumber, TakesText, TakesGlobal, TakesClass, Outcome, Nothing, Owned, Borrowed, Row, row_of, primitive_named}
+
+-- how a run ends: by itself, by an exception that leaves the module, without turns, at an input line that is too far
+-- along, at a failed read, or by a fault
+pub data Ending : Type 0 where
+  Done : Ending
+  Raised : (class : ExcClass) (text : List ℕ) → Ending
+  Cut : Ending
+  Over : Ending
+  Broken : Ending
+  Faulted : (f : Fault) → Ending
+
+-- what a step leads to
+pub data Next : Type 0 where
+  Goes : (s : MachineState) → Next
+  Ends : (e : Ending) (s : MachineState) → Next
+
+-- the ledger with one reference less, None where it has none: the first of them goes
+abbrev pub keep_or_drop : ℕ → ℕ → Ledger → Option Ledger → Option Ledger
+keep_or_drop zero d l None = None
+keep_or_drop zero d l (Some r) = Some (d ∷ r)
+keep_or_drop (suc n) d l r = Some l
+
+abbrev pub without : ℕ → Ledger → Option Ledger
+without c [] = None
+without c (d ∷ l) = keep_or_drop (same d c) d l (without c l)
+
+-- parts of a state
+abbrev pub with_cells : Cells Content → MachineState → MachineState
+with_cells cells s = record s { cells = cells }
+
+abbrev pub with_ledger : Ledger → MachineState → MachineState
+with_ledger l s = record s { top = record s.top { ledger = l } }
+
+abbrev pub with_var : ℕ → Word → MachineState → MachineState
+with_var x w s = record s { top = record s.top { vars = slice_set s.top.vars x w } }
+
+abbrev pub with_target : Option ℕ → Word → MachineState → MachineState
+with_target None w s = s
+with_target (Some x) w s = with_var x w s
+
+abbrev pub next_line : MachineState → MachineState
+next_line s = record s { top = record s.top { place = s.top.place + 1 } }
+
+-- the frame owns one reference to c more
+abbrev pub own : ℕ → MachineState → MachineState
+own c s = with_ledger (s.top.ledger ++ c ∷ []) s
+
+-- the word of a literal in a variable of this kind; the number of a tagged `int` is twice its value, or 1
+abbrev pub halved : ℤ → Option Word
+halved (pos n) = cond (n % 2 == 0) (Some (ShortInt (pos (n / 2)))) (cond (n == 1) (Some TaggedError) None)
+halved (negsuc n) = cond (n % 2 == 1) (Some (ShortInt (negsuc (n / 2)))) None
+
+abbrev pub char_word : ℤ → Option Word
+char_word (pos zero) = Some (CharWord 0)
+char_word (pos (suc zero)) = Some (CharWord 1)
+char_word (pos (suc (suc zero))) = Some (CharWord 2)
+char_word (pos (suc (suc (suc n)))) = None
+char_word (negsuc n) = None
+
+abbrev pub literal_word : Kind → CLit → Option Word
+literal_word Tagged (Number n) = halved n
+literal_word Int64 (Number n) = Some (Native n)
+literal_word Char (Number n) = char_word n
+literal_word Object Null = Some NoObject
+literal_word Object PyNone = Some NoneObject
+literal_word Object PyTrue = Some TrueObject
+literal_word Object PyFalse = Some FalseObject
+literal_word _ _ = None
+
+-- whether a word is the error value of its kind, and of that kind alone
+abbrev pub is_error : Word → Bool
+is_error TaggedError = true
+is_error (CharWord n) = n == 2
+is_error NoObject = true
+is_error _ = false
+
+-- the native integer -113 is an error value and an ordinary one too
+abbrev pub is_both : Word → Bool
+is_both (Native (negsuc n)) = n == 112
+is_both _ = false
+
+-- an argument as a primitive meets it: the content of an object's cell, or what is written
+pub data Argument : Type 0 where
+  Cell : (c : ℕ) (content : Content) → Argument
+  Plain : (w : Word) → Argument
+  Written : (a : CArg) → Argument
+
+-- what a primitive does: it was called wrongly, it makes a cell, or it writes to the output
+pub data Effect : Type 0 where
+  Wrong : Effect
+  Makes : (content : Content) → Effect
+  Writes : (text : List ℕ) → Effect
+
+abbrev pub effect : Prim → List Argument → Effect
+effect (Str Literal) (Written (arg.Text text) ∷ []) = Makes (StrCell text)
+effect (Io Write) (Cell c (StrCell text) ∷ []) = Writes text
+effect _ _ = Wrong
+
+-- the tests, which fault at the state that the line began with. An unchecked run makes no test of ownership, and in it
+-- no cell ever goes
+module _ (is_checked : Bool) (s : MachineState) where
+  abbrev pub faulted : Fault → Next
+  faulted f = Ends (Faulted f) s
+
+  abbrev pub if_some : {A : Type 0} → Fault → Option A → (A → Next) → Next
+  if_some f None go = faulted f
+  if_some f (Some a) go = go a
+
+  -- no exception is pending
+  abbrev pub if_calm : Option ℕ → Next → Next
+  if_calm None go = go
+  if_calm (Some c) go = faulted fault.Kind
+
+  abbrev pub if_content : ℕ → (Content → Next) → Next
+  if_content c go = if_some fault.Dead (content_at s.cells c) go
+
+  -- a reference leaves a ledger
+  abbrev pub or_same : Option Ledger → Ledger → Ledger
+  or_same None l = l
+  or_same (Some r) l = r
+
+  abbrev pub if_taken : ℕ → Ledger → (Ledger → Next) → Next
+  if_taken c l go = cond is_checked (if_some fault.NotOwned (without c l) go) (go (or_same (without c l) l))
+
+  abbrev pub given : List ℕ → MachineState → MachineState
+  given refs t = cond is_checked (with_cells (release refs_in t.cells refs) t) t
+
+  abbrev pub word_of : ℕ → (Word → Next) → Next
+  word_of x go = if_some fault.Kind (slice_get s.top.vars x) go
+
+  -- an object that is no error value, and for a cell that it is there
+  abbrev pub if_object : Word → (Argument → Next) → Next
+  if_object (ObjectCell c) go = if_content c (λ content. go (Cell c content))
+  if_object NoneObject go = go (Plain NoneObject)
+  if_object TrueObject go = go (Plain TrueObject)
+  if_object FalseObject go = go (Plain FalseObject)
+  if_object _ go = faulted fault.Kind
+
+  -- the arguments of a primitive from left to right
+  abbrev pub if_argument : Parameter → CArg → (Argument → Next) → Next
+  if_argument (Borrows Object) (arg.Var x) go = word_of x (λ w. if_object w go)
+  if_argument TakesText (arg.Text text) go = go (Written (arg.Text text))
+  if_argument _ _ go = faulted fault.Kind
+
+  abbrev pub if_arguments : List Parameter → List CArg → (List Argument → Next) → Next
+  if_arguments [] [] go = go []
+  if_arguments (p ∷ ps) (a ∷ rest) go = if_argument p a (λ first. if_arguments ps rest (λ others. go (first ∷ others)))
+  if_arguments _ _ go = faulted fault.Kind
+
+  -- a new cell, which the frame owns and the target refers to
+  abbrev pub made_cell : Option ℕ → Content → MachineState
+  made_cell x content = with_target x (ObjectCell (length s.cells)) (own (length s.cells) (with_cells (make content s.cells) s))
+
+  abbrev pub applied : Option ℕ → Effect → Next
+  applied x Wrong = faulted fault.Kind
+  applied x (Makes content) = Goes (next_line (made_cell x content))
+  applied x (Writes text) = Goes (next_line (record s { output = s.output ++ text }))
+
+  abbrev pub primitive_step : Option ℕ → List CArg → Prim → Next
+  primitive_step x args p = if_arguments (row_of p).parameters args (λ all. applied x (effect p all))
+
+  -- a reference is given up; nothing happens for a word without a cell
+  abbrev pub given_up : ℕ → Next
+  given_up c = if_content c (λ content. if_taken c s.top.ledger (λ l. Goes (next_line (given (c ∷ []) (with_ledger l s)))))
+
+  abbrev pub decremented : Word → Next
+  decremented (ShortInt n) = Goes (next_line s)
+  decremented (BigInt c) = given_up c
+  decremented (ObjectCell c) = given_up c
+  decremented NoneObject = Goes (next_line s)
+  decremented TrueObject = Goes (next_line s)
+  decremented FalseObject = Goes (next_line s)
+  decremented _ = faulted fault.Kind
+
+  -- an error value is returned with a pending exception, any other value with none, and -113 with either
+  abbrev pub if_in_order : Word → Option ℕ → Next → Next
+  if_in_order w None go = cond (is_error w) (faulted fault.Kind) go
+  if_in_order w (Some c) go = cond (is_error w) go (cond (is_both w) go (faulted fault.Kind))
+
+  -- the returned reference leaves the ledger
+  abbrev pub if_result : Word → (Ledger → Next) → Next
+  if_result (BigInt c) go = if_content c (λ content. if_taken c s.top.ledger go)
+  if_result (ObjectCell c) go = if_content c (λ content. if_taken c s.top.ledger go)
+  if_result _ go = go s.top.ledger
+
+  -- and nothing more may be left in it
+  abbrev pub if_none_left : Ledger → Next → Next
+  if_none_left [] go = go
+  if_none_left (c ∷ l) go = cond is_checked (faulted fault.Leak) go
+
+  -- the module itself returns 1, or 2 with an exception that is still pending
+  abbrev pub raised_by : Option Content → Next
+  raised_by (Some (ExcCell class text)) = Ends (Raised class text) s
+  raised_by _ = faulted fault.Kind
+
+  abbrev pub ended : Word → Option ℕ → Next
+  ended (CharWord (suc zero)) None = Ends Done s
+  ended (CharWord (suc (suc zero))) (Some c) = raised_by (content_at s.cells c)
+  ended _ _ = faulted fault.Kind
+
+  abbrev pub to_caller : Word → List Frame → Next
+  to_caller w [] = ended w s.pending
+  to_caller w (f ∷ fs) =
+      Goes (with_target s.top.into w (record s { top = record f { ledger = f.ledger ++ refs_of w }; below = fs }))
+
+  abbrev pub returned : Word → Next
+  returned w = if_in_order w s.pending (if_result w (λ l. if_none_left l (to_caller w s.below)))
+
+-- the function that a frame runs, the kind of a variable, and the line that comes next
+abbrev pub function_of : Code → Frame → Option CFunc
+function_of code f = slice_get code.funcs f.func
+
+abbrev pub kind_of : Code → Frame → ℕ → Option Kind
+kind_of code f x = option_and_then (λ g. option_map (λ v. v.1) (slice_get g.vars x)) (function_of code f)
+
+abbrev pub line_at : Code → Frame → Option Line
+line_at code f = option_and_then (λ g. slice_get g.lines f.place) (function_of code f)
+
+abbrev pub step_at : Bool → Code → MachineState → Option Line → Next
+step_at b code s None = faulted b s fault.Kind
+step_at b code s (Some (Lit x l)) =
+    if_some b s fault.Kind (option_and_then (λ k. literal_word k l) (kind_of code s.top x)) (λ w. Goes (next_line (with_var x w s)))
+step_at b code s (Some (Call x name args)) =
+    if_calm b s s.pending (if_some b s fault.Kind (primitive_named name) (primitive_step b s x args))
+step_at b code s (Some (Return x)) = word_of b s x (returned b s)
+step_at b code s (Some (Dec x)) = word_of b s x (decremented b s)
+
+-- one step of a checked run
+abbrev pub step : Code → MachineState → Next
+step code s = step_at true code s (line_at code s.top)
+
+-- one step of a run that makes no test of ownership
+abbrev pub unchecked_step : Code → MachineState → Next
+unchecked_step code s = step_at false code s (line_at code s.top)

@@ -1,0 +1,102 @@
+-- The one text of a code. Lines end with a line feed, and nothing in it is written in two ways.
+use Rattle.std.specs.Prelude.{ℕ, ◌+◌, ◌/◌, ◌%◌, ◌==◌, nat_lt, Bool, cond, ◌||◌, ℤ, List, [], ◌∷◌, ◌++◌, Option, Some, None, codes, flat_map, slice_get}
+use Rattle.std.specs.Option.{option_map}
+use Rattle.std.specs.Fmt.{signed_decimal}
+use Rattle.std.specs.declared.option.Option.{Option}
+use Rattle.c_core.specs.declared.code.Kind.{Kind}
+use Rattle.c_core.specs.declared.code.Kind.TheVariants.{Tagged, Int64, Char, Object}
+use Rattle.c_core.specs.declared.code.CArg.{CArg}
+use Rattle.c_core.specs.declared.code.CArg.TheVariants as arg
+use Rattle.c_core.specs.declared.code.CLit.{CLit}
+use Rattle.c_core.specs.declared.code.CLit.TheVariants.{Number, Null, PyNone, PyTrue, PyFalse}
+use Rattle.c_core.specs.declared.code.Line.{Line}
+use Rattle.c_core.specs.declared.code.Line.TheVariants.{Lit, Call, Return, Dec}
+use Rattle.c_core.specs.declared.code.CFunc.{CFunc}
+use Rattle.c_core.specs.declared.code.Code.{Code}
+
+-- texts with something between each two of them
+abbrev pub joined : List ℕ → List (List ℕ) → List ℕ
+joined between [] = []
+joined between (t ∷ []) = t
+joined between (t ∷ u ∷ ts) = t ++ (between ++ joined between (u ∷ ts))
+
+abbrev pub comma : List ℕ
+comma = codes ", "
+
+-- a kind before a name
+abbrev pub kind_text : Kind → List ℕ
+kind_text Tagged = codes "CPyTagged "
+kind_text Int64 = codes "int64_t "
+kind_text Char = codes "char "
+kind_text Object = codes "PyObject *"
+
+-- a byte in a text: `"`, `\` and line feeds have a backslash, other bytes below 32, and 127, three octal digits
+abbrev pub digit : ℕ → ℕ
+digit n = 48 + n
+
+abbrev pub octal : ℕ → List ℕ
+octal b = 92 ∷ digit (b / 64) ∷ digit (b / 8 % 8) ∷ digit (b % 8) ∷ []
+
+abbrev pub byte_text : ℕ → List ℕ
+byte_text b =
+    cond (b == 34) (codes "\\\"") (cond (b == 92) (codes "\\\\") (cond (b == 10) (codes "\\n") (cond (nat_lt b 32 || (b == 127)) (octal b) (b ∷ []))))
+
+abbrev pub quoted : List ℕ → List ℕ
+quoted text = codes "\"" ++ (flat_map byte_text text ++ codes "\"")
+
+-- a variable by its number; one that is not declared has no text
+abbrev pub var_name : Option (List ℕ × Kind) → List ℕ
+var_name None = []
+var_name (Some v) = codes "cpy_" ++ v.0
+
+abbrev pub var_text : List (List ℕ × Kind) → ℕ → List ℕ
+var_text vars x = var_name (slice_get vars x)
+
+abbrev pub arg_text : List (List ℕ × Kind) → CArg → List ℕ
+arg_text vars (arg.Var x) = var_text vars x
+arg_text vars (arg.Number n) = signed_decimal n
+arg_text vars (arg.Text text) = quoted text
+arg_text vars (arg.Global name) = codes "CPyStatic_" ++ name
+arg_text vars (arg.Class name) = codes "CPyType_" ++ name
+
+abbrev pub arg_texts : List (List ℕ × Kind) → List CArg → List (List ℕ)
+arg_texts vars [] = []
+arg_texts vars (a ∷ rest) = arg_text vars a ∷ arg_texts vars rest
+
+abbrev pub literal_text : CLit → List ℕ
+literal_text (Number n) = signed_decimal n
+literal_text Null = codes "NULL"
+literal_text PyNone = codes "Py_None"
+literal_text PyTrue = codes "Py_True"
+literal_text PyFalse = codes "Py_False"
+
+abbrev pub target_text : List (List ℕ × Kind) → Option ℕ → List ℕ
+target_text vars None = []
+target_text vars (Some x) = var_text vars x ++ codes " = "
+
+-- the count statement goes by the variable's kind
+abbrev pub counter_of : Option (List ℕ × Kind) → List ℕ
+counter_of (Some (name, Tagged)) = codes "CPyTagged_"
+counter_of _ = codes "CPy_"
+
+abbrev pub statement_text : List (List ℕ × Kind) → Line → List ℕ
+statement_text vars (Lit x l) = var_text vars x ++ (codes " = " ++ literal_text l)
+statement_text vars (Call x name args) =
+    target_text vars x ++ (name ++ (codes "(" ++ (joined comma (arg_texts vars args) ++ codes ")")))
+statement_text vars (Return x) = codes "return " ++ var_text vars x
+statement_text vars (Dec x) = counter_of (slice_get vars x) ++ (codes "DECREF(" ++ (var_text vars x ++ codes ")"))
+
+abbrev pub line_text : List (List ℕ × Kind) → Line → List ℕ
+line_text vars l = codes "    " ++ (statement_text vars l ++ codes ";\n")
+
+abbrev pub declaration_text : List ℕ × Kind → List ℕ
+declaration_text v = codes "    " ++ (kind_text v.1 ++ (codes "cpy_" ++ (v.0 ++ codes ";\n")))
+
+-- the module's own function
+abbrev pub top_text : CFunc → List ℕ
+top_text g =
+    codes "char CPyModule(void) {\n" ++ (flat_map declaration_text g.vars ++ (flat_map (line_text g.vars) g.lines ++ codes "}\n"))
+
+-- the text of a code. Globals, classes and functions beside the module's own are not built: no code that is spelled has them
+abbrev pub code_text : Code → List ℕ
+code_text code = codes "/* mypyc subset 1 */\n" ++ flat_map top_text code.funcs

@@ -1,0 +1,177 @@
+-- Which codes have a text of their own, and which of them the machine may run.
+use Rattle.std.specs.Prelude.{ℕ, ◌-◌, nat_lt, ◌==◌, Bool, true, false, cond, not, ◌&&◌, List, [], ◌∷◌, ◌++◌, length, map, Option, Some, None, is_some, codes, slice_get, IsTrue}
+use Rattle.std.specs.Option.{option_map}
+use Rattle.std.specs.List.{list_all, list_any}
+use Rattle.std.specs.Str.{bytes_eq, chars, is_utf8}
+use Rattle.unicode_ident.specs.Ident.{is_xid_continue}
+use Rattle.value_core.specs.Arithmetic.{lies_within}
+use Rattle.c_core.specs.declared.code.Kind.{Kind}
+use Rattle.c_core.specs.declared.code.Kind.TheVariants.{Tagged, Int64, Char, Object}
+use Rattle.c_core.specs.declared.code.CArg.{CArg}
+use Rattle.c_core.specs.declared.code.CArg.TheVariants as arg
+use Rattle.c_core.specs.declared.code.CLit.{CLit}
+use Rattle.c_core.specs.declared.code.CLit.TheVariants.{Number}
+use Rattle.c_core.specs.declared.code.Line.{Line}
+use Rattle.c_core.specs.declared.code.Line.TheVariants.{Lit, Call, Return, Dec}
+use Rattle.c_core.specs.declared.code.CFunc.{CFunc}
+use Rattle.c_core.specs.declared.code.Code.{Code}
+use Rattle.c_core.specs.declared.primitive.Prim.{Prim}
+use Rattle.c_core.specs.Primitives.{Parameter, Borrows, Steals, TakesNumber, TakesText, TakesGlobal, TakesClass, Outcome, Nothing, Owned, Borrowed, row_of, primitive_named}
+use Rattle.c_core.specs.Step.{literal_word}
+
+-- a variable with its name and kind
+abbrev pub Declared : Type 0
+Declared = List ℕ × Kind
+
+-- ---- spelled
+
+-- one or more characters that may continue an identifier (Unicode Standard Annex 31)
+abbrev pub is_identifier : List ℕ → Bool
+is_identifier name = not (bytes_eq name []) && list_all is_xid_continue (chars name)
+
+-- `CPy` and an identifier, but none of the words that begin other statements
+abbrev pub other_words : List (List ℕ)
+other_words =
+    codes "CPyVirtual" ∷ codes "CPyTrait" ∷ codes "CPyTurn" ∷ codes "CPy_INCREF" ∷ codes "CPy_DECREF" ∷ codes "CPy_XDECREF"
+    ∷ codes "CPyTagged_INCREF" ∷ codes "CPyTagged_DECREF" ∷ codes "CPyTagged_XDECREF" ∷ []
+
+abbrev pub after_prefix : List ℕ → List ℕ → Option (List ℕ)
+after_prefix [] name = Some name
+after_prefix (p ∷ ps) [] = None
+after_prefix (p ∷ ps) (b ∷ name) = cond (p == b) (after_prefix ps name) None
+
+abbrev pub is_some_and : (List ℕ → Bool) → Option (List ℕ) → Bool
+is_some_and p None = false
+is_some_and p (Some x) = p x
+
+abbrev pub is_call_name : List ℕ → Bool
+is_call_name name = is_some_and is_identifier (after_prefix (codes "CPy") name) && not (list_any (bytes_eq name) other_words)
+
+module _ (vars : List Declared) where
+  abbrev pub is_declared : ℕ → Bool
+  is_declared x = nat_lt x (length vars)
+
+  abbrev pub kind_at : ℕ → Option Kind
+  kind_at x = option_map (λ v. v.1) (slice_get vars x)
+
+  -- a count is of an `int` or of an object
+  abbrev pub is_counted_kind : Option Kind → Bool
+  is_counted_kind (Some Tagged) = true
+  is_counted_kind (Some Object) = true
+  is_counted_kind _ = false
+
+  abbrev pub spelled_arg : CArg → Bool
+  spelled_arg (arg.Var x) = is_declared x
+  spelled_arg (arg.Number n) = lies_within 63 n
+  spelled_arg (arg.Text text) = is_utf8 text
+  spelled_arg (arg.Global name) = is_identifier name
+  spelled_arg (arg.Class name) = is_identifier name
+
+  abbrev pub spelled_literal : CLit → Bool
+  spelled_literal (Number n) = lies_within 63 n
+  spelled_literal _ = true
+
+  abbrev pub spelled_target : Option ℕ → Bool
+  spelled_target None = true
+  spelled_target (Some x) = is_declared x
+
+  abbrev pub spelled_line : Line → Bool
+  spelled_line (Lit x l) = is_declared x && spelled_literal l
+  spelled_line (Call x name args) = spelled_target x && (is_call_name name && list_all spelled_arg args)
+  spelled_line (Return x) = is_declared x
+  spelled_line (Dec x) = is_counted_kind (kind_at x)
+
+abbrev pub is_char : Kind → Bool
+is_char Char = true
+is_char _ = false
+
+-- the module's own function, which comes last and alone has no name
+abbrev pub spelled_top : CFunc → Bool
+spelled_top g =
+    bytes_eq g.name [] && (is_char g.ret && ((g.params == 0) && (list_all (λ v. is_identifier v.0) g.vars && list_all (spelled_line g.vars) g.lines)))
+
+abbrev pub spelled_functions : List CFunc → Bool
+spelled_functions (g ∷ []) = spelled_top g
+spelled_functions _ = false
+
+abbrev pub is_empty : {A : Type 0} → List A → Bool
+is_empty [] = true
+is_empty (a ∷ rest) = false
+
+-- The code has a text of which it is the only reading. Of globals, classes and functions beside the module's own none
+-- are built, so no code with any of them is spelled.
+abbrev pub is_spelled : Code → Bool
+is_spelled code = is_empty code.globals && (is_empty code.classes && spelled_functions code.funcs)
+
+abbrev pub Spelled : Code → Type 0
+Spelled code = IsTrue (is_spelled code)
+
+-- ---- well formed
+
+abbrev pub same_kind : Kind → Kind → Bool
+same_kind Tagged Tagged = true
+same_kind Int64 Int64 = true
+same_kind Char Char = true
+same_kind Object Object = true
+same_kind _ _ = false
+
+abbrev pub has_kind : Kind → Option Kind → Bool
+has_kind k None = false
+has_kind k (Some l) = same_kind k l
+
+abbrev pub names_differ : List (List ℕ) → Bool
+names_differ [] = true
+names_differ (n ∷ ns) = not (list_any (bytes_eq n) ns) && names_differ ns
+
+module _ (vars : List Declared) where
+  -- arguments have the number and the kinds that a row asks for
+  abbrev pub arg_fits : Parameter → CArg → Bool
+  arg_fits (Borrows k) (arg.Var x) = has_kind k (kind_at vars x)
+  arg_fits (Steals k) (arg.Var x) = has_kind k (kind_at vars x)
+  arg_fits TakesNumber (arg.Number n) = true
+  arg_fits TakesText (arg.Text text) = true
+  arg_fits TakesGlobal (arg.Global name) = true
+  arg_fits TakesClass (arg.Class name) = true
+  arg_fits _ _ = false
+
+  abbrev pub args_fit : List Parameter → List CArg → Bool
+  args_fit [] [] = true
+  args_fit (p ∷ ps) (a ∷ rest) = arg_fits p a && args_fit ps rest
+  args_fit _ _ = false
+
+  -- a result may be left without a target; a row without a result has none
+  abbrev pub target_fits : Outcome → Option ℕ → Bool
+  target_fits o None = true
+  target_fits Nothing (Some x) = false
+  target_fits (Owned k) (Some x) = has_kind k (kind_at vars x)
+  target_fits (Borrowed k) (Some x) = has_kind k (kind_at vars x)
+
+  abbrev pub call_fits : Option ℕ → List CArg → Option Prim → Bool
+  call_fits x args None = false
+  call_fits x args (Some p) = args_fit (row_of p).parameters args && target_fits (row_of p).outcome x
+
+  abbrev pub literal_fits : CLit → Option Kind → Bool
+  literal_fits l None = false
+  literal_fits l (Some k) = is_some (literal_word k l)
+
+  -- literals, calls and returns have the numbers and kinds that their declarations or rows ask for
+  abbrev pub line_fits : Kind → Line → Bool
+  line_fits ret (Lit x l) = literal_fits l (kind_at vars x)
+  line_fits ret (Call x name args) = call_fits x args (primitive_named name)
+  line_fits ret (Return x) = has_kind ret (kind_at vars x)
+  line_fits ret (Dec x) = true
+
+-- the last line of a function leaves it
+abbrev pub is_leaving : Option Line → Bool
+is_leaving (Some (Return x)) = true
+is_leaving _ = false
+
+abbrev pub function_fits : CFunc → Bool
+function_fits g =
+    names_differ (map (λ v. v.0) g.vars) && (list_all (line_fits g.vars g.ret) g.lines && is_leaving (slice_get g.lines (length g.lines - 1)))
+
+abbrev pub well_formed : Code → Bool
+well_formed code = is_spelled code && list_all function_fits code.funcs
+
+abbrev pub WellFormed : Code → Type 0
+WellFormed code = IsTrue (well_formed code)

@@ -1,0 +1,19 @@
+//! The C text and its machine.
+//!
+//! What comes in is a `Code`, the C text as data; what stands here is what it is and what it does: its one text
+//! (`specs/Text.antt`), when it is well formed (`specs/WellFormed.antt`), and the machine that runs it, cells, counts
+//! and ledgers included (`specs/Machine.antt`, `specs/Step.antt`, `specs/Run.antt`). The promise: these definitions
+//! are total, and the public calls are exactly them.
+#![tactic(auto)]
+
+mod code;
+mod fault;
+mod laws;
+mod primitive;
+
+pub use code::{CArg, CClass, CFunc, CLit, Code, Kind, Line};
+pub use fault::Fault;
+pub use laws::{
+    release_in_any_order, release_keeps_counts, run_exists, run_keeps_counts, run_stays_small,
+};
+pub use primitive::{IoPrim, Prim, StrPrim};
