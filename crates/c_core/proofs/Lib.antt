@@ -5,3 +5,4 @@ pub mod ReleaseLemmas
 pub mod KeepsCounts
 pub mod StepCases
 pub mod Bounds
+pub mod WellFormedLemmas

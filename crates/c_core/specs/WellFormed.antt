@@ -47,6 +47,10 @@ is_some_and p (Some x) = p x
 abbrev pub is_call_name : List ℕ → Bool
 is_call_name name = is_some_and is_identifier (after_prefix (codes "CPy") name) && not (list_any (bytes_eq name) other_words)
 
+abbrev pub spelled_literal : CLit → Bool
+spelled_literal (Number n) = lies_within 63 n
+spelled_literal _ = true
+
 module _ (vars : List Declared) where
   abbrev pub is_declared : ℕ → Bool
   is_declared x = nat_lt x (length vars)
@@ -66,10 +70,6 @@ module _ (vars : List Declared) where
   spelled_arg (arg.Text text) = is_utf8 text
   spelled_arg (arg.Global name) = is_identifier name
   spelled_arg (arg.Class name) = is_identifier name
-
-  abbrev pub spelled_literal : CLit → Bool
-  spelled_literal (Number n) = lies_within 63 n
-  spelled_literal _ = true
 
   abbrev pub spelled_target : Option ℕ → Bool
   spelled_target None = true
@@ -123,6 +123,11 @@ abbrev pub names_differ : List (List ℕ) → Bool
 names_differ [] = true
 names_differ (n ∷ ns) = not (list_any (bytes_eq n) ns) && names_differ ns
 
+-- a literal is one of its variable's kind
+abbrev pub literal_fits : CLit → Option Kind → Bool
+literal_fits l None = false
+literal_fits l (Some k) = is_some (literal_word k l)
+
 module _ (vars : List Declared) where
   -- arguments have the number and the kinds that a row asks for
   abbrev pub arg_fits : Parameter → CArg → Bool
@@ -149,10 +154,6 @@ module _ (vars : List Declared) where
   abbrev pub call_fits : Option ℕ → List CArg → Option Prim → Bool
   call_fits x args None = false
   call_fits x args (Some p) = args_fit (row_of p).parameters args && target_fits (row_of p).outcome x
-
-  abbrev pub literal_fits : CLit → Option Kind → Bool
-  literal_fits l None = false
-  literal_fits l (Some k) = is_some (literal_word k l)
 
   -- literals, calls and returns have the numbers and kinds that their declarations or rows ask for
   abbrev pub line_fits : Kind → Line → Bool

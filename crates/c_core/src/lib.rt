@@ -10,6 +10,9 @@ mod code;
 mod fault;
 mod laws;
 mod primitive;
+#[cfg(test)]
+mod tests;
+mod well_formed;
 
 pub use code::{CArg, CClass, CFunc, CLit, Code, Kind, Line};
 pub use fault::Fault;
@@ -17,3 +20,4 @@ pub use laws::{
     release_in_any_order, release_keeps_counts, run_exists, run_keeps_counts, run_stays_small,
 };
 pub use primitive::{IoPrim, Prim, StrPrim};
+pub use well_formed::{is_call_name, is_identifier, is_spelled, is_well_formed};
