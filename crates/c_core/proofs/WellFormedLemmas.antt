@@ -3,13 +3,14 @@ use Rattle.std.proofs.Common.{◌≡◌, refl, sym, ◌∙◌, ap, ℕ, zero, su
 use Rattle.std.proofs.lemmas.List.{take_all}
 use Rattle.std.specs.Prelude.{map, ◌&&◌, ◌||◌, ◌==◌}
 use Rattle.std.specs.List.{list_all, list_any}
-use Rattle.std.specs.Str.{bytes_eq, chars}
+use Rattle.std.specs.Str.{bytes_eq, chars, is_utf8, IsUtf8}
+use Rattle.std.proofs.lemmas.Str.{is_utf8-from_IsUtf8, IsUtf8-nil}
 use Rattle.unicode_ident.specs.Ident.{is_xid_continue}
 use Rattle.c_core.specs.WellFormed.{Declared, is_identifier, names_differ}
 
-pub some_identifier : (name : List ℕ) (r : Bool) → false ≡ (length name == 0) → r ≡ list_all is_xid_continue (chars name) → r ≡ is_identifier name
-some_identifier [] r e f = absurd (cc)
-some_identifier (b ∷ bs) r e f = f
+pub some_identifier : (name : List ℕ) (r : Bool) → IsUtf8 name → false ≡ (length name == 0) → r ≡ list_all is_xid_continue (chars name) → r ≡ is_identifier name
+some_identifier [] r u e f = absurd (cc)
+some_identifier (b ∷ bs) r u e f = f ∙ rw (is_utf8-from_IsUtf8 (b ∷ bs) u) refl
 
 pub any_name : (name : List ℕ) (vars : List Declared) → list_any (bytes_eq name) (map (λ v. v.0) vars) ≡ list_any (λ v. bytes_eq name v.0) vars
 any_name name [] = refl

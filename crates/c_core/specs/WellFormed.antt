@@ -25,9 +25,9 @@ Declared = List ℕ × Kind
 
 -- ---- spelled
 
--- one or more characters that may continue an identifier (Unicode Standard Annex 31)
+-- a text of one or more characters that may continue an identifier (Unicode Standard Annex 31)
 abbrev pub is_identifier : List ℕ → Bool
-is_identifier name = not (bytes_eq name []) && list_all is_xid_continue (chars name)
+is_identifier name = is_utf8 name && (not (bytes_eq name []) && list_all is_xid_continue (chars name))
 
 -- `CPy` and an identifier, but none of the words that begin other statements
 abbrev pub other_words : List (List ℕ)

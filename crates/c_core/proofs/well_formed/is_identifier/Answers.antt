@@ -7,5 +7,5 @@ use Rattle.c_core.proofs.well_formed.is_identifier.Goals as goal
 
 pub returns-then-not-is_empty : goal.returns-then-not-is_empty
 returns-then-not-is_empty c =
-    some_identifier c.args.name.now c.all.result c.if-not-is_empty.ensures
+    some_identifier c.args.name.now c.all.result c.utf8.name c.if-not-is_empty.ensures
     (all_from_yields_List is_xid_continue _ _ _ c.all.ensures.ran (YieldsList-from_chars c.args.name.now c.utf8.name cc) (λ x b q k. search rules))
