@@ -1,27 +1,25 @@
 -- How far a run can go: each step of a well-formed code goes on to the next line, makes at most one cell and raises a
 -- count by at most one.
 use Rattle.std.proofs.Common.{◌≡◌, refl, sym, ◌∙◌, ap, subst, ℕ, zero, suc, ◌+◌, ◌-◌, ◌*◌, ◌<◌, ◌≤◌, arith, Bool, true, false, List, [], ◌∷◌, ◌++◌, length, length-append, Option, Some, None}
-use Rattle.std.specs.Prelude.{slice_get, max, IsTrue, ◌&&◌}
+use Rattle.std.specs.Prelude.{slice_get, ◌&&◌}
 use Rattle.std.specs.List.{list_all}
 use Rattle.std.specs.Option.{option_and_then}
 use Rattle.std.proofs.lemmas.Option.{slice_get_within}
 use Rattle.value_core.specs.Items.{Items}
-use Rattle.c_core.specs.declared.code.CArg.{CArg}
 use Rattle.c_core.specs.declared.code.Line.{Line}
 use Rattle.c_core.specs.declared.code.Line.TheVariants.{Lit, Call, Return, Dec}
 use Rattle.c_core.specs.declared.code.CFunc.{CFunc}
-use Rattle.c_core.specs.declared.code.CClass.{CClass}
 use Rattle.c_core.specs.declared.code.Code.{Code}
 use Rattle.c_core.specs.declared.fault.Fault.{Fault}
 use Rattle.c_core.specs.declared.fault.Fault.TheVariants as fault
 use Rattle.c_core.specs.declared.primitive.Prim.{Prim}
-use Rattle.c_core.specs.Cells.{Cell, Cells, same, counted, count_at, content_at, one_less, change, lowered, make}
-use Rattle.c_core.specs.Release.{after, freed, weight, release_some, release}
-use Rattle.c_core.specs.Machine.{Word, ShortInt, BigInt, TaggedError, Native, CharWord, ObjectCell, NoneObject, TrueObject, FalseObject, NoObject, Content, ExcCell, refs_in, Ledger, Frame, MachineState}
+use Rattle.c_core.specs.Cells.{Cell, Cells, same, counted, count_at, content_at, one_less, change, lowered}
+use Rattle.c_core.specs.Release.{after, freed, weight, release_some}
+use Rattle.c_core.specs.Machine.{Word, ShortInt, BigInt, CharWord, ObjectCell, NoneObject, TrueObject, FalseObject, Content, ExcCell, refs_in, Ledger, Frame, MachineState}
 use Rattle.c_core.specs.Primitives.{row_of, primitive_named}
-use Rattle.c_core.specs.Step.{Next, Goes, Ends, Faulted, Argument, Effect, Wrong, Makes, Writes, effect, with_cells, with_ledger, with_var, with_target, own, next_line, literal_word, kind_of, applied, made_cell, primitive_step, given, given_up, decremented, if_content, if_taken, if_result, if_none_left, raised_by, ended, to_caller, returned, step_at, line_at, function_of, step}
-use Rattle.c_core.specs.Run.{Stop, go_on, start, most_lines, most_steps, module_function, machine_run}
-use Rattle.c_core.specs.WellFormed.{WellFormed, well_formed, is_spelled, is_empty, spelled_functions, function_fits, is_leaving}
+use Rattle.c_core.specs.Step.{Next, Goes, Ends, Faulted, Effect, Wrong, Makes, Writes, effect, next_line, literal_word, kind_of, applied, made_cell, given_up, decremented, if_result, if_none_left, raised_by, ended, to_caller, step_at, line_at, step}
+use Rattle.c_core.specs.Run.{Stop, go_on, start, most_lines, most_steps}
+use Rattle.c_core.specs.WellFormed.{WellFormed, is_spelled, is_empty, spelled_functions, function_fits, is_leaving}
 use Rattle.c_core.specs.Laws.{Reaches, Here, There, RunExists, RunStaysSmall}
 use Rattle.c_core.proofs.CountLemmas.{count-make}
 use Rattle.c_core.proofs.StepCases.{at_some, at_calm, at_content, at_taken, at_word, at_arguments, at_order, at_none_left}

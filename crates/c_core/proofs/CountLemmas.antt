@@ -1,10 +1,8 @@
 -- What the small changes of cells and ledgers leave of counts and holders.
-use Rattle.std.proofs.Common.{◌≡◌, ℕ, zero, suc, ◌+◌, ◌<◌, ◌≤◌, List, [], ◌∷◌, ◌++◌, length, Option, Some, None, refl, sym, ap, ◌∙◌, subst, arith, append_assoc, length-append}
-use Rattle.std.specs.Prelude.{slice_get}
-use Rattle.c_core.specs.Cells.{Cell, Cells, same, times, counted, count_at, content_of, content_at, raised, take_one, make}
-use Rattle.c_core.specs.Release.{inside, uses}
+use Rattle.std.proofs.Common.{◌≡◌, ℕ, zero, suc, ◌+◌, ◌≤◌, List, [], ◌∷◌, length, Option, Some, None, refl, sym, ap, subst, arith}
+use Rattle.c_core.specs.Cells.{Cells, same, times, count_at, content_at, take_one, make}
+use Rattle.c_core.specs.Release.{uses}
 use Rattle.c_core.specs.Step.{keep_or_drop, without}
-use Rattle.c_core.proofs.ReleaseLemmas.{times-append}
 
 pub same_one : (d c n : ℕ) → same d c ≡ suc n → d ≡ c
 same_one zero zero n e = refl

@@ -1,5 +1,5 @@
 -- The definitions on the code of a module that prints 3.
-use Rattle.std.proofs.Common.{◌≡◌, refl, [], ◌∷◌, ◌++◌, codes, Some, None, true, false, List, ℕ, Option}
+use Rattle.std.proofs.Common.{◌≡◌, refl, [], ◌∷◌, ◌++◌, codes, Some, None, true, List, ℕ, Option}
 use Rattle.std.specs.Option.{option_map}
 use Rattle.std.specs.Prelude.{pos}
 use Rattle.std.specs.Fmt.{digits}

@@ -1,6 +1,6 @@
 -- A step keeps every count equal to the number of places that hold the cell.
-use Rattle.std.proofs.Common.{◌≡◌, refl, sym, ◌∙◌, ap, subst, ℕ, zero, suc, ◌+◌, arith, Bool, true, false, List, [], ◌∷◌, ◌++◌, length, Option, Some, None}
-use Rattle.std.specs.Prelude.{slice_get, map}
+use Rattle.std.proofs.Common.{◌≡◌, refl, ap, subst, ℕ, zero, suc, ◌+◌, arith, true, List, [], ◌∷◌, length, Option, Some, None}
+use Rattle.std.specs.Prelude.{map}
 use Rattle.std.specs.Option.{option_and_then}
 use Rattle.value_core.specs.Items.{Items}
 use Rattle.c_core.specs.declared.code.CArg.{CArg}
@@ -14,12 +14,11 @@ use Rattle.c_core.specs.declared.primitive.Prim.{Prim}
 use Rattle.c_core.specs.declared.primitive.Prim.TheVariants.{Str, Io}
 use Rattle.c_core.specs.declared.primitive.StrPrim.TheVariants.{Literal}
 use Rattle.c_core.specs.declared.primitive.IoPrim.TheVariants.{Write}
-use Rattle.c_core.specs.Cells.{same, times, count_at, content_at}
-use Rattle.c_core.specs.Release.{uses}
-use Rattle.c_core.specs.Machine.{Word, ShortInt, BigInt, TaggedError, Native, CharWord, ObjectCell, NoneObject, TrueObject, FalseObject, NoObject, Content, StrCell, ExcCell, refs_of, refs_in, set_refs, Ledger, Frame, MachineState}
-use Rattle.c_core.specs.Holders.{pending_refs, holders, owned_below, owned}
+use Rattle.c_core.specs.Cells.{same, times, content_at}
+use Rattle.c_core.specs.Machine.{Word, ShortInt, BigInt, CharWord, ObjectCell, NoneObject, TrueObject, FalseObject, Content, StrCell, ExcCell, refs_of, refs_in, set_refs, Ledger, Frame, MachineState}
+use Rattle.c_core.specs.Holders.{pending_refs, owned_below}
 use Rattle.c_core.specs.Primitives.{row_of, primitive_named}
-use Rattle.c_core.specs.Step.{Ending, Next, Goes, Ends, Faulted, Argument, Cell, Plain, Written, Effect, Wrong, Makes, Writes, effect, without, with_ledger, with_var, with_target, next_line, literal_word, kind_of, applied, made_cell, primitive_step, given, given_up, decremented, if_content, if_taken, if_result, if_none_left, raised_by, ended, to_caller, returned, step_at, line_at, step}
+use Rattle.c_core.specs.Step.{Next, Goes, Ends, Faulted, Argument, Cell, Written, Effect, Wrong, Makes, Writes, effect, with_target, next_line, literal_word, kind_of, applied, made_cell, primitive_step, given_up, decremented, if_content, if_taken, if_result, if_none_left, raised_by, ended, to_caller, step_at, line_at, step}
 use Rattle.c_core.specs.Run.{Stop, go_on, start, most_steps}
 use Rattle.c_core.specs.Laws.{IsCounted, IsCountedAfter, Reaches, Here, There, RunKeepsCounts}
 use Rattle.c_core.proofs.ReleaseLemmas.{times-append, release_keeps}

@@ -1,7 +1,7 @@
 -- The order in which references are given up makes no difference.
-use Rattle.std.proofs.Common.{◌≡◌, ℕ, zero, suc, ◌+◌, ◌<◌, ◌≤◌, ◌⊎◌, List, [], ◌∷◌, ◌++◌, length, Option, Some, None, refl, sym, ap, ◌∙◌, subst, inl, inr, ⊎_elim, arith, append_assoc, length-append}
-use Rattle.c_core.specs.Cells.{Cell, Cells, same, times, counted, one_less, lowered}
-use Rattle.c_core.specs.Release.{after, inside, let_go, freed_of, freed, weight, release_some, release}
+use Rattle.std.proofs.Common.{◌≡◌, ℕ, zero, suc, ◌+◌, ◌<◌, ◌≤◌, ◌⊎◌, List, [], ◌∷◌, ◌++◌, length, Option, Some, None, refl, sym, ap, ◌∙◌, inl, inr, ⊎_elim, arith, length-append}
+use Rattle.c_core.specs.Cells.{Cells, same, times}
+use Rattle.c_core.specs.Release.{after, freed, weight, release_some, release}
 use Rattle.c_core.specs.Step.{keep_or_drop, without}
 use Rattle.c_core.proofs.ReleaseLemmas.{times-append, weight-after}
 use Rattle.c_core.proofs.CountLemmas.{same_one, same_self, without-times}

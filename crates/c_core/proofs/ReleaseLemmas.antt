@@ -1,7 +1,7 @@
 -- Giving references up keeps the counts.
-use Rattle.std.proofs.Common.{◌≡◌, ℕ, zero, suc, ◌+◌, ◌<◌, ◌≤◌, List, [], ◌∷◌, ◌++◌, length, Option, Some, None, refl, sym, ap, ◌∙◌, subst, arith, append_assoc, length-append}
-use Rattle.c_core.specs.Cells.{Cell, Cells, same, times, counted, count_at, one_less, lowered}
-use Rattle.c_core.specs.Release.{after, inside, let_go, freed_of, freed, weight, uses, release_some, release}
+use Rattle.std.proofs.Common.{◌≡◌, ℕ, zero, suc, ◌+◌, ◌≤◌, List, [], ◌∷◌, ◌++◌, length, Some, None, ◌∙◌, arith, length-append}
+use Rattle.c_core.specs.Cells.{Cells, same, times, counted, count_at, one_less}
+use Rattle.c_core.specs.Release.{after, inside, let_go, freed, weight, uses, release_some, release}
 
 pub times-append : (xs ys : List ℕ) (c : ℕ) → times (xs ++ ys) c ≡ times xs c + times ys c
 times-append [] ys c = omega arith

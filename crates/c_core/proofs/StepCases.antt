@@ -1,15 +1,15 @@
 -- What holds of each end of the tests of a step, and of each fault, holds of the whole.
-use Rattle.std.proofs.Common.{◌≡◌, refl, ℕ, zero, suc, Bool, true, false, cond, List, [], ◌∷◌, Option, Some, None}
+use Rattle.std.proofs.Common.{◌≡◌, refl, ℕ, Bool, true, false, cond, List, [], ◌∷◌, Option, Some, None}
 use Rattle.std.specs.Prelude.{slice_get}
-use Rattle.c_core.specs.declared.code.Kind.TheVariants.{Tagged, Int64, Char, Object}
+use Rattle.c_core.specs.declared.code.Kind.TheVariants.{Object}
 use Rattle.c_core.specs.declared.code.CArg.{CArg}
 use Rattle.c_core.specs.declared.code.CArg.TheVariants as arg
 use Rattle.c_core.specs.declared.fault.Fault.{Fault}
 use Rattle.c_core.specs.declared.fault.Fault.TheVariants as fault
 use Rattle.c_core.specs.Cells.{content_at}
-use Rattle.c_core.specs.Machine.{Word, ShortInt, BigInt, TaggedError, Native, CharWord, ObjectCell, NoneObject, TrueObject, FalseObject, NoObject, Content, Ledger, MachineState}
-use Rattle.c_core.specs.Primitives.{Parameter, Borrows, Steals, TakesNumber, TakesText, TakesGlobal, TakesClass}
-use Rattle.c_core.specs.Step.{Next, Goes, Ends, Faulted, Argument, Cell, Plain, Written, without, or_same, if_some, if_calm, if_content, if_taken, word_of, if_object, if_argument, if_arguments, if_in_order, if_result, if_none_left, is_error, is_both}
+use Rattle.c_core.specs.Machine.{Word, ObjectCell, NoneObject, TrueObject, FalseObject, Content, Ledger, MachineState}
+use Rattle.c_core.specs.Primitives.{Parameter, Borrows, TakesText}
+use Rattle.c_core.specs.Step.{Next, Ends, Faulted, Argument, Cell, Plain, Written, without, if_some, if_calm, if_content, if_taken, word_of, if_object, if_argument, if_arguments, if_in_order, if_none_left, is_error, is_both}
 
 module _ (s : MachineState) (P : Next → Type 0) (bad : (f : Fault) → P (Ends (Faulted f) s)) where
   pub at_some : {A : Type 0} (f : Fault) (o : Option A) (go : A → Next) → ((a : A) → o ≡ Some a → P (go a)) → P (if_some true s f o go)

@@ -1,10 +1,10 @@
 -- What the tests of a code compute, one part after another.
-use Rattle.std.proofs.Common.{◌≡◌, refl, sym, ◌∙◌, ap, ℕ, zero, suc, ◌+◌, ◌-◌, ◌<◌, arith, take, length-drop, Bool, true, false, not, List, [], ◌∷◌, length, drop, get_or, add-one, drop-cons}
+use Rattle.std.proofs.Common.{◌≡◌, refl, sym, ◌∙◌, ap, ℕ, suc, ◌+◌, ◌-◌, ◌<◌, arith, take, length-drop, Bool, false, not, List, [], ◌∷◌, length, drop, get_or, add-one, drop-cons}
 use Rattle.std.proofs.lemmas.List.{take_all}
 use Rattle.std.specs.Prelude.{map, ◌&&◌, ◌||◌, ◌==◌}
 use Rattle.std.specs.List.{list_all, list_any}
-use Rattle.std.specs.Str.{bytes_eq, chars, is_utf8, IsUtf8}
-use Rattle.std.proofs.lemmas.Str.{is_utf8-from_IsUtf8, IsUtf8-nil}
+use Rattle.std.specs.Str.{bytes_eq, chars, IsUtf8}
+use Rattle.std.proofs.lemmas.Str.{is_utf8-from_IsUtf8}
 use Rattle.unicode_ident.specs.Ident.{is_xid_continue}
 use Rattle.c_core.specs.WellFormed.{Declared, is_identifier, names_differ}
 

@@ -1,5 +1,5 @@
 -- What is known of every release, every step and every run of the machine.
-use Rattle.std.specs.Prelude.{◌≡◌, ℕ, ◌+◌, ◌≤◌, List, [], ◌∷◌, length, Option, Some}
+use Rattle.std.specs.Prelude.{◌≡◌, ℕ, ◌+◌, ◌≤◌, List, length, Some}
 use Rattle.value_core.specs.Items.{Items}
 use Rattle.c_core.specs.declared.code.Code.{Code}
 use Rattle.c_core.specs.Cells.{Cells, count_at, times}

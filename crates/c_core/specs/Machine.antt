@@ -1,8 +1,8 @@
 -- The states of the machine that runs the C text.
-use Rattle.std.specs.Prelude.{ℕ, ◌+◌, ℤ, List, [], ◌∷◌, ◌++◌, Option, Some, None}
+use Rattle.std.specs.Prelude.{ℕ, ℤ, List, [], ◌∷◌, ◌++◌, Option, Some, None}
 use Rattle.value_core.specs.declared.exception.ExcClass.{ExcClass}
 use Rattle.value_core.specs.Items.{Items}
-use Rattle.c_core.specs.Cells.{Cells, times}
+use Rattle.c_core.specs.Cells.{Cells}
 
 -- A word, what a variable, a global or a container's place holds. An `int` is a short number or a counted cell, a
 -- native integer or a `char` its number, an object a counted cell or one of three that have no count. Each kind has

@@ -1,6 +1,6 @@
 -- The primitives of the runtime: each is one row with the kinds of its arguments, which of them it steals, its
 -- result, its error kind and its effect (mypyc's developer guide, "Primitives" and "Error kinds").
-use Rattle.std.specs.Prelude.{ℕ, Bool, List, [], ◌∷◌, Option, Some, None, codes, find}
+use Rattle.std.specs.Prelude.{ℕ, Bool, List, [], ◌∷◌, Option, codes, find}
 use Rattle.std.specs.Str.{bytes_eq}
 use Rattle.c_core.specs.declared.code.Kind.{Kind}
 use Rattle.c_core.specs.declared.code.Kind.TheVariants.{Object}

@@ -2,7 +2,7 @@
 -- is one less, and at zero the cell goes and gives up each reference that it holds. A reference to a cell that is
 -- gone is passed over.
 use Rattle.std.specs.Prelude.{ℕ, zero, suc, ◌+◌, List, [], ◌∷◌, ◌++◌, length, Option, Some, None}
-use Rattle.c_core.specs.Cells.{Cell, Cells, times, change, one_less, lowered}
+use Rattle.c_core.specs.Cells.{Cell, Cells, times, change, lowered}
 
 module _ {X : Type 0} where
   -- the cells with one reference to c less

@@ -1,12 +1,12 @@
 -- Whole runs of the machine.
-use Rattle.std.specs.Prelude.{◌≡◌, ℕ, zero, suc, ◌+◌, ◌*◌, ◌-◌, max, ℤ, pos, List, [], ◌∷◌, length, map, Option, Some, None, slice_get}
+use Rattle.std.specs.Prelude.{ℕ, zero, suc, ◌+◌, ◌*◌, ◌-◌, max, List, [], ◌∷◌, length, map, Option, Some, None, slice_get}
 use Rattle.value_core.specs.Items.{Items}
 use Rattle.c_core.specs.declared.code.Kind.{Kind}
 use Rattle.c_core.specs.declared.code.Kind.TheVariants.{Tagged, Int64, Char, Object}
 use Rattle.c_core.specs.declared.code.CFunc.{CFunc}
 use Rattle.c_core.specs.declared.code.Code.{Code}
 use Rattle.std.specs.Prelude.{negsuc}
-use Rattle.c_core.specs.Machine.{Word, TaggedError, Native, CharWord, NoObject, Frame, MachineState}
+use Rattle.c_core.specs.Machine.{Word, TaggedError, Native, CharWord, NoObject, MachineState}
 use Rattle.c_core.specs.Step.{Ending, Next, Goes, Ends, step, unchecked_step}
 
 -- the state in which a run stopped, and how it ended

@@ -1,6 +1,6 @@
 -- One step of the machine: what a line of the C text does to a state. The tests of a line go from left to right, a
 -- later one sees what the earlier ones took from the ledger, and a fault leaves the state as it was before the line.
-use Rattle.std.specs.Prelude.{ℕ, zero, suc, ◌+◌, ◌/◌, ◌%◌, ◌==◌, ◌<◌, Bool, true, false, cond, ℤ, pos, negsuc, List, [], ◌∷◌, ◌++◌, length, Option, Some, None, slice_get, slice_set}
+use Rattle.std.specs.Prelude.{ℕ, zero, suc, ◌+◌, ◌/◌, ◌%◌, ◌==◌, Bool, true, false, cond, ℤ, pos, negsuc, List, [], ◌∷◌, ◌++◌, length, Option, Some, None, slice_get, slice_set}
 use Rattle.std.specs.Option.{option_and_then, option_map}
 use Rattle.value_core.specs.declared.exception.ExcClass.{ExcClass}
 use Rattle.c_core.specs.declared.code.Kind.{Kind}
@@ -21,8 +21,8 @@ use Rattle.c_core.specs.declared.primitive.StrPrim.TheVariants.{Literal}
 use Rattle.c_core.specs.declared.primitive.IoPrim.TheVariants.{Write}
 use Rattle.c_core.specs.Cells.{Cells, same, content_at, make}
 use Rattle.c_core.specs.Release.{release}
-use Rattle.c_core.specs.Machine.{Word, ShortInt, BigInt, TaggedError, Native, CharWord, ObjectCell, NoneObject, TrueObject, FalseObject, NoObject, Content, IntCell, StrCell, ListCell, DictCell, TupleCell, InstCell, ExcCell, refs_of, refs_in, Ledger, Frame, MachineState}
-use Rattle.c_core.specs.Primitives.{Parameter, Borrows, Steals, TakesNumber, TakesText, TakesGlobal, TakesClass, Outcome, Nothing, Owned, Borrowed, Row, row_of, primitive_named}
+use Rattle.c_core.specs.Machine.{Word, ShortInt, BigInt, TaggedError, Native, CharWord, ObjectCell, NoneObject, TrueObject, FalseObject, NoObject, Content, StrCell, ExcCell, refs_of, refs_in, Ledger, Frame, MachineState}
+use Rattle.c_core.specs.Primitives.{Parameter, Borrows, TakesText, row_of, primitive_named}
 
 -- how a run ends: by itself, by an exception that leaves the module, without turns, at an input line that is too far
 -- along, at a failed read, or by a fault

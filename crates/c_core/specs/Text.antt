@@ -1,6 +1,5 @@
 -- The one text of a code. Lines end with a line feed, and nothing in it is written in two ways.
-use Rattle.std.specs.Prelude.{ℕ, ◌+◌, ◌/◌, ◌%◌, ◌==◌, nat_lt, Bool, cond, ◌||◌, ℤ, List, [], ◌∷◌, ◌++◌, Option, Some, None, codes, flat_map, slice_get}
-use Rattle.std.specs.Option.{option_map}
+use Rattle.std.specs.Prelude.{ℕ, ◌+◌, ◌/◌, ◌%◌, ◌==◌, nat_lt, cond, ◌||◌, List, [], ◌∷◌, ◌++◌, Option, Some, None, codes, flat_map, slice_get}
 use Rattle.std.specs.Fmt.{signed_decimal}
 use Rattle.std.specs.declared.option.Option.{Option}
 use Rattle.c_core.specs.declared.code.Kind.{Kind}

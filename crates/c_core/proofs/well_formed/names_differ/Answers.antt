@@ -1,4 +1,4 @@
-use Rattle.std.proofs.Common.{◌<◌, ◌∙◌, sym, length, arith}
+use Rattle.std.proofs.Common.{◌<◌, sym, length, arith}
 use Rattle.c_core.proofs.WellFormedLemmas.{names_turn}
 use Rattle.c_core.proofs.well_formed.names_differ.Goals as goal
 

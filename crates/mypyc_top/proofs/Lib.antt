@@ -1,0 +1,8 @@
+pub mod Lines
+pub mod Numbers
+pub mod PrintedFaithful
+pub mod PrintedForm
+pub mod PrintedRun
+pub mod Joined
+pub mod AnswerLemmas
+pub mod Statuses

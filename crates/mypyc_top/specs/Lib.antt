@@ -1,0 +1,13 @@
+pub mod Words
+pub mod WordsStep
+pub mod Statuses
+pub mod Source
+pub mod SourceFaults
+pub mod SourceRun
+pub mod Printed
+pub mod Faithful
+pub mod Diagnostics
+pub mod ErrorLines
+pub mod Answer
+pub mod Given
+pub mod Refusals

@@ -1,0 +1,54 @@
+ghost use Rattle.std.specs.Prelude.{◌≡◌, ◌++◌, ◌⊎◌, IsTrue, OnOk, OnErr};
+ghost use Rattle.outside_core.specs.Bytes.{TakesFront};
+ghost use Rattle.outside_core.specs.Counts.{Rose};
+ghost use Rattle.mypyc_top.specs.Given.{sink_call, Took, TookFront, Gave, IsReplied};
+
+use crate::reply::Reply;
+use crate::status::Status;
+use outside_core::{Sink, WriteFault, write_whole};
+
+/// Sends a reply to the output and the lines on errors, and answers its status. It stops at the first refusal.
+pub(crate) fn send_reply<O: Sink, E: Sink>(reply: &Reply, out: &mut O, err: &mut E) -> Status
+    ensures gave { IsReplied reply.now.status → Gave
+        (sink_call O.tells (O.taken out.old) (O.taken out.new))
+        (sink_call E.tells (E.taken err.old) (E.taken err.new))
+        reply.now.out.items reply.now.err.items reply.now.status result }
+    ensures status { (result ≡ reply.now.status) ⊎ (result ≡ Status.WriteFault) }
+    ensures write_fault { IsReplied reply.now.status → result ≡ Status.WriteFault →
+        Rose (O.faults out.old) (O.faults out.new) ⊎ Rose (E.faults err.old) (E.faults err.new) }
+{
+    match send_both(reply, out, err) {
+        Ok(()) => reply.status,
+        Err(WriteFault) => Status::WriteFault,
+    }
+}
+
+fn send_both<O: Sink, E: Sink>(reply: &Reply, out: &mut O, err: &mut E) -> Result<(), WriteFault>
+    ensures out { OnOk result (Took
+        (sink_call O.tells (O.taken out.old) (O.taken out.new)) reply.now.out.items) }
+    ensures err { OnOk result (Took
+        (sink_call E.tells (E.taken err.old) (E.taken err.new)) reply.now.err.items) }
+    ensures out_front { OnErr result (TookFront
+        (sink_call O.tells (O.taken out.old) (O.taken out.new)) reply.now.out.items) }
+    ensures err_front { OnErr result (TookFront
+        (sink_call E.tells (E.taken err.old) (E.taken err.new)) reply.now.err.items) }
+    ensures refused { OnErr result
+        (Rose (O.faults out.old) (O.faults out.new) ⊎ Rose (E.faults err.old) (E.faults err.new)) }
+{
+    send(out, &reply.out)?;
+    send(err, &reply.err)
+}
+
+/// Sends all bytes, and passes them on. Where there are none, the sink is left alone.
+fn send<S: Sink>(sink: &mut S, bytes: &[u8]) -> Result<(), WriteFault>
+    ensures ok { OnOk result (IsTrue S.tells → S.taken sink.new ≡ S.taken sink.old ++ bytes.now) }
+    ensures err { OnErr result (IsTrue S.tells → TakesFront (S.taken sink.old) (S.taken sink.new) bytes.now) }
+    ensures refused { OnErr result (Rose (S.faults sink.old) (S.faults sink.new)) }
+{
+    if bytes.is_empty() {
+        return Ok(());
+    }
+    write_whole(sink, bytes)?;
+    sink.flush()?;
+    Ok(())
+}

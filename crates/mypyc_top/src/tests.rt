@@ -1,0 +1,242 @@
+//! Whole commands over files, and sinks that refuse calls.
+use crate::{Status, mypyc, status_number};
+use outside_core::{CalmFiles, CalmSource, MemFiles, MemSink};
+use std::alloc::{AllocError, Global};
+use std::process::Abort;
+use std::test::Fail;
+
+const USAGE: &str =
+    "usage: mypyc [--emit=check|ir|c|run|runc|selftest] [--stage=build|errors|owned] [--turns=N] FILE\n";
+
+const FOUND: &str = "Found 1 error in 1 file (checked 1 source file)\n";
+
+const THREE: &str = r#"/* mypyc subset 1 */
+char CPyModule(void) {
+    PyObject *cpy_t_0;
+    char cpy_t_1;
+    cpy_t_0 = CPyStr_Literal("3\n");
+    CPy_Write(cpy_t_0);
+    CPy_DECREF(cpy_t_0);
+    cpy_t_1 = 1;
+    return cpy_t_1;
+}
+"#;
+
+const NONE: &str = r#"/* mypyc subset 1 */
+char CPyModule(void) {
+    PyObject *cpy_t_0;
+    char cpy_t_1;
+    cpy_t_1 = 1;
+    return cpy_t_1;
+}
+"#;
+
+const TWO: &str = r#"/* mypyc subset 1 */
+char CPyModule(void) {
+    PyObject *cpy_t_0;
+    char cpy_t_1;
+    cpy_t_0 = CPyStr_Literal("0\n");
+    CPy_Write(cpy_t_0);
+    CPy_DECREF(cpy_t_0);
+    cpy_t_0 = CPyStr_Literal("4611686018427387903\n");
+    CPy_Write(cpy_t_0);
+    CPy_DECREF(cpy_t_0);
+    cpy_t_1 = 1;
+    return cpy_t_1;
+}
+"#;
+
+/// What a command gave: the output, the lines on errors, and the number that it exits with.
+#[derive(Drop)]
+struct Given {
+    out: MemSink,
+    err: MemSink,
+    number: u8,
+}
+
+/// Which calls on the files, the output and the lines on errors are to fail.
+#[derive(Clone, Copy)]
+struct Fails(&'static [u64], &'static [u64], &'static [u64]);
+
+const CALM: Fails = Fails(&[], &[], &[]);
+
+fn words_of(alloc: Global, words: &[&str]) -> Result<Vec<String>, AllocError> {
+    let mut all = Vec::new(alloc);
+    for word in words {
+        all.push(String::from_str(alloc, word)?)?;
+    }
+    Ok(all)
+}
+
+/// A command over the one file `t.py`.
+fn command(alloc: Global, words: &[&str], bytes: &[u8], fails: Fails) -> Result<Given, AllocError> {
+    let mut all = Vec::new(alloc);
+    all.push((
+        String::from_str(alloc, "t.py")?,
+        Vec::from_slice(alloc, bytes)?,
+    ))?;
+    let mut files = MemFiles::new(all, Vec::from_slice(alloc, fails.0)?);
+    let mut input = CalmSource::new(Vec::new(alloc));
+    let mut out = MemSink::new(alloc, Vec::from_slice(alloc, fails.1)?);
+    let mut err = MemSink::new(alloc, Vec::from_slice(alloc, fails.2)?);
+    let words = words_of(alloc, words)?;
+    let status = mypyc(alloc, &words, &mut files, &mut input, &mut out, &mut err);
+    Ok(Given {
+        out,
+        err,
+        number: status_number(status),
+    })
+}
+
+fn check(rt: &impl Abort, given: &Given, out: &str, err: &str, number: u8) {
+    assert_eq!(rt; given.out.bytes(), out.as_bytes());
+    assert_eq!(rt; given.err.bytes(), err.as_bytes());
+    assert_eq!(rt; given.number, number);
+}
+
+#[test]
+fn modules(rt: HostRuntime) -> Result<(), Fail> {
+    let second = "t.py:2: error: Form is not built yet  [unbuilt]\n";
+    let first = "t.py:1: error: Form is not built yet  [unbuilt]\n";
+    let cases: &[(&[u8], &str, &str, u8)] = &[
+        (b"print(3)\n", THREE, "", 0),
+        (b"print(3)", THREE, "", 0),
+        (b"", NONE, "", 0),
+        (b"print(0)\nprint(4611686018427387903)\n", TWO, "", 0),
+        (b"print(3)\nx\nprint(00)\n", second, FOUND, 1),
+        (b"print(00)\n", first, FOUND, 1),
+        (b"print(4611686018427387904)\n", first, FOUND, 1),
+        (b"print(18446744073709551616)\n", first, FOUND, 1),
+        (b"print(3)\r\n", first, FOUND, 1),
+        (b"print(3)\n\n", second, FOUND, 1),
+        (b"print(+3)", first, FOUND, 1),
+        (b"print()", first, FOUND, 1),
+        (b"print(\xff)", first, FOUND, 1),
+        (b" print(3)", first, FOUND, 1),
+        (b"print(3) ", first, FOUND, 1),
+    ];
+    for (bytes, out, found, number) in cases {
+        let given = command(rt.alloc(), &["--emit=c", "t.py"], bytes, CALM)?;
+        let mut text = String::from_str(rt.alloc(), out)?;
+        text.push_str(found)?;
+        check(&rt, &given, text.as_str(), "", *number);
+    }
+    Ok(())
+}
+
+#[test]
+fn words(rt: HostRuntime) -> Result<(), Fail> {
+    let cases: &[(&[&str], &str, &str, u8)] = &[
+        (&["t.py", "--emit=c"], THREE, "", 0),
+        (&[], "", USAGE, 2),
+        (&[""], "", USAGE, 2),
+        (&["t.py"], "", USAGE, 2),
+        (&["--emit=c"], "", USAGE, 2),
+        (&["--emit=c", "--emit=c", "t.py"], "", USAGE, 2),
+        (&["--emit=c", "t.py", "t.py"], "", USAGE, 2),
+        (&["--emit=c", "t.py", ""], "", USAGE, 2),
+        (&["--emit=run", "t.py"], "", USAGE, 2),
+        (&["--emit=", "t.py"], "", USAGE, 2),
+        (&["--emit=c", "--", "t.py"], "", USAGE, 2),
+        (&["--emit=c", "-t.py"], "", USAGE, 2),
+        (&["--help"], "", USAGE, 2),
+        (
+            &["--emit=c", "absent.py"],
+            "",
+            "mypyc: cannot open absent.py\n",
+            3,
+        ),
+        (&["-", "--emit=c"], "", "mypyc: cannot open -\n", 3),
+    ];
+    for (words, out, err, number) in cases {
+        let given = command(rt.alloc(), words, b"print(3)", CALM)?;
+        check(&rt, &given, out, err, *number);
+    }
+    Ok(())
+}
+
+// The calls on the files are an open and the reads, on a sink a write and a flush.
+#[test]
+fn refusals(rt: HostRuntime) -> Result<(), Fail> {
+    let open = "mypyc: cannot open t.py\n";
+    let read = "mypyc: cannot read t.py\n";
+    let cases: &[(&[&str], Fails, &str, &str, u8)] = &[
+        (&["--emit=c", "t.py"], Fails(&[0], &[], &[]), "", open, 3),
+        (&["--emit=c", "t.py"], Fails(&[1], &[], &[]), "", read, 4),
+        (&["--emit=c", "t.py"], Fails(&[2], &[], &[]), "", read, 4),
+        (&["--emit=c", "t.py"], Fails(&[3], &[], &[]), THREE, "", 0),
+        (&["--emit=c", "t.py"], Fails(&[], &[0], &[]), "", "", 5),
+        (&["--emit=c", "t.py"], Fails(&[], &[1], &[]), THREE, "", 5),
+        (&["--emit=c", "t.py"], Fails(&[], &[2], &[0]), THREE, "", 0),
+        (&["--emit=c", "t.py"], Fails(&[0], &[], &[0]), "", "", 5),
+        (&["--emit=c", "t.py"], Fails(&[0], &[], &[1]), "", open, 5),
+        (&["--emit=c"], Fails(&[], &[], &[0]), "", "", 5),
+    ];
+    for (words, fails, out, err, number) in cases {
+        let given = command(rt.alloc(), words, b"print(3)", *fails)?;
+        check(&rt, &given, out, err, *number);
+    }
+    Ok(())
+}
+
+// A file of as many bytes as a module may have, and of one more.
+#[test]
+fn sizes(rt: HostRuntime) -> Result<(), Fail> {
+    let mut bytes = vec![in rt.alloc(); b'#'; 262_144]?;
+    let given = command(rt.alloc(), &["--emit=c", "t.py"], &bytes, CALM)?;
+    let mut text = String::from_str(
+        rt.alloc(),
+        "t.py:1: error: Form is not built yet  [unbuilt]\n",
+    )?;
+    text.push_str(FOUND)?;
+    check(&rt, &given, text.as_str(), "", 1);
+    bytes.push(b'#')?;
+    let given = command(rt.alloc(), &["--emit=c", "t.py"], &bytes, CALM)?;
+    check(&rt, &given, "", "mypyc: t.py is too large\n", 6);
+    Ok(())
+}
+
+#[test]
+fn numbers_of_the_statuses(rt: HostRuntime) {
+    let all = [
+        Status::Done,
+        Status::Diagnosed,
+        Status::Usage,
+        Status::OpenFault,
+        Status::ReadFault,
+        Status::WriteFault,
+        Status::TooLarge,
+        Status::Raised,
+        Status::Cut,
+        Status::TextRefused,
+        Status::Faulted,
+        Status::InputOver,
+        Status::Memory,
+        Status::InputFault,
+    ];
+    for (place, status) in all.iter().enumerate() {
+        assert_eq!(rt; status_number(*status) as usize, place);
+    }
+}
+
+// Over objects that never fail.
+#[test]
+fn calm_objects(rt: HostRuntime) -> Result<(), Fail> {
+    let mut files = CalmFiles::new(Vec::from_slice(rt.alloc(), b"print(3)\n")?);
+    let mut input = CalmSource::new(Vec::new(rt.alloc()));
+    let mut out = MemSink::new(rt.alloc(), Vec::new(rt.alloc()));
+    let mut err = MemSink::new(rt.alloc(), Vec::new(rt.alloc()));
+    let words = words_of(rt.alloc(), &["--emit=c", "any.py"])?;
+    let status = mypyc(
+        rt.alloc(),
+        &words,
+        &mut files,
+        &mut input,
+        &mut out,
+        &mut err,
+    );
+    assert_eq!(rt; status, Status::Done);
+    assert_eq!(rt; out.bytes(), THREE.as_bytes());
+    assert_eq!(rt; err.bytes(), b"".as_slice());
+    Ok(())
+}

@@ -1,0 +1,7 @@
+pub mod Lists
+pub mod Chains
+pub mod Entries
+pub mod Condemned
+pub mod Sound
+pub mod Changes
+pub mod Keys

@@ -1,0 +1,5 @@
+pub mod Contents
+pub mod Slot
+pub mod Places
+pub mod Layout
+pub mod Lends

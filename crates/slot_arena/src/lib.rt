@@ -1,0 +1,18 @@
+//! A store of values under keys that are never used again.
+//!
+//! What comes in are values; what goes out are keys, and under each key its value until it is taken out. A
+//! removed key stays dead, also after its slot holds another value. Values can be condemned: they leave the map at
+//! once and are taken off one by one later, without memory and without recursion. `specs/Contents.antt` says what
+//! an arena holds and what each call makes of it.
+//!
+//! `arena` has the calls, over the slots of `slots`, each of which is a `Slot`. Free slots and condemned slots are
+//! linked through the slots themselves.
+#![tactic(auto)]
+
+mod arena;
+mod key;
+mod slot;
+mod slots;
+
+pub use arena::Arena;
+pub use key::Key;
