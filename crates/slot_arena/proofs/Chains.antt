@@ -1,11 +1,11 @@
 -- Slots that are linked: how a chain stands a write, a push, and a slot more or less at its head.
-use Rattle.std.proofs.Common.{◌≡◌, ◌≢◌, ℕ, zero, suc, ◌+◌, ◌<◌, ◌≤◌, List, [], ◌∷◌, ◌++◌, length, set, get_or, Bool, true, false, cond, Option, Some, None, is_some, count_by, slice_get, option_and_then, refl, sym, ap, subst, ◌∙◌, arith}
-use Rattle.std.proofs.lemmas.Option.{slice_get_within, slice_get-get_or, get_or_from_slice_get}
+use Rattle.std.proofs.Common.{◌≡◌, ◌≢◌, ℕ, zero, suc, ◌+◌, ◌<◌, List, [], ◌∷◌, ◌++◌, length, set, true, cond, Option, Some, None, is_some, slice_get, option_and_then, refl, ap, subst, ◌∙◌, arith}
+use Rattle.std.proofs.lemmas.Option.{slice_get_within, get_or_from_slice_get}
 use Rattle.std.proofs.lemmas.List.Sums.{sum_by-set, sum_by_push, count_by-le-length}
 use Rattle.std.proofs.lemmas.List.{length-set}
 use Rattle.slot_arena.specs.declared.slot.Slot.{Slot}
 use Rattle.slot_arena.specs.Layout.{link_at, link_count, IsChain}
-use Rattle.slot_arena.proofs.Lists.{slice_get-set_same, slice_get-set_other, slice_get-append_left, slice_get_push}
+use Rattle.slot_arena.proofs.Lists.{slice_get-set_same, slice_get-set_other, slice_get-append_left}
 
 module _ {T : Type 0} (link : Slot T → Option (Option ℕ)) where
   -- only a place inside has a link

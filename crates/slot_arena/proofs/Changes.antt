@@ -1,7 +1,7 @@
 -- What each change of the slots makes of what a contract sees.
-use Rattle.std.proofs.Common.{◌≡◌, ◌≢◌, ◌⊎◌, ℕ, zero, suc, ◌+◌, ◌-◌, ◌^◌, ◌<◌, ◌≤◌, List, [], ◌∷◌, ◌++◌, length, set, get_or, Option, Some, None, IsSome, slice_get, option_and_then, refl, sym, ap, subst, ◌∙◌, inl, inr, arith, add-one}
+use Rattle.std.proofs.Common.{◌≡◌, ◌≢◌, ℕ, zero, suc, ◌+◌, ◌-◌, ◌^◌, ◌<◌, List, [], ◌∷◌, ◌++◌, length, set, Option, Some, None, IsSome, slice_get, option_and_then, refl, sym, ap, subst, ◌∙◌, inl, inr, arith}
 use Rattle.std.proofs.lemmas.Bool.{cases_eq, false≢true}
-use Rattle.std.proofs.lemmas.Option.{same_Some, slice_get_within, slice_get_past}
+use Rattle.std.proofs.lemmas.Option.{slice_get_within, slice_get_past}
 use Rattle.std.proofs.lemmas.List.{length-set, length_push}
 use Rattle.slot_arena.specs.declared.key.Key.{Key}
 use Rattle.slot_arena.specs.declared.slot.Slot.{Slot}
@@ -10,7 +10,7 @@ use Rattle.slot_arena.specs.declared.slot.Standing.{Standing}
 use Rattle.slot_arena.specs.declared.slot.Standing.TheVariants.{Live, Condemned}
 use Rattle.slot_arena.specs.Contents.{Entry, Contents, value_at, ContainsKey, with_value, inserted, removed, condemned_with, taken_off}
 use Rattle.slot_arena.specs.Slot.{value_under, free_link, condemned_link}
-use Rattle.slot_arena.specs.Layout.{value_here, entry_from, entries_of, link_at, link_count, condemned_from, contents_of, IsChain, IsApart, IsNumbered, IsSound}
+use Rattle.slot_arena.specs.Layout.{value_here, entry_from, link_count, condemned_from, contents_of, IsChain, IsApart, IsSound}
 use Rattle.slot_arena.proofs.Chains.{no_link_is_off, head_is_off, popped, link_count-set, link_count-push, link_count-lt-length}
 use Rattle.slot_arena.proofs.Condemned.{condemned_from-head, condemned_from-set, condemned_from-push}
 use Rattle.slot_arena.proofs.Entries.{value_under_own, value_under_live, value_here-set_same, value_here-set_other, value_here-push_same, value_here-push_other, entry_found, entry_gone, entry_same, value_in-entries_of, entries_of-changed, entries_of-same, entries_of-more}

@@ -1,17 +1,16 @@
 -- What the slots have in the map under each serial, and how a write or a push changes it.
-use Rattle.std.proofs.Common.{◌≡◌, ◌≢◌, ◌⊎◌, ℕ, zero, suc, ◌+◌, ◌<◌, ◌≤◌, List, [], ◌∷◌, ◌++◌, map, length, set, get_or, Bool, true, false, cond, eqb, Option, Some, None, slice_get, option_and_then, refl, sym, ap, subst, ◌∙◌, inl, inr, arith, add-zero, zero-add, eqb-true, eq-eqb, ne_eqb}
-use Rattle.std.specs.List.{range_with_len}
+use Rattle.std.proofs.Common.{◌≡◌, ◌≢◌, ℕ, zero, suc, ◌+◌, ◌<◌, List, [], ◌∷◌, ◌++◌, length, set, get_or, eqb, Option, Some, None, option_and_then, refl, sym, ap, subst, ◌∙◌, inl, inr, arith, add-zero, zero-add, eqb-true, eq-eqb, ne_eqb}
 use Rattle.std.proofs.lemmas.Bool.{cases_eq, cases_lt, cond-true, cond-false}
 use Rattle.std.proofs.lemmas.Option.{cond_some, same_Some}
-use Rattle.std.proofs.lemmas.List.{length-set, same_lists, get_or-set_same, get_or-set_other, get_or_past, get_or_default}
+use Rattle.std.proofs.lemmas.List.{length-set, same_lists, get_or-set_same, get_or-set_other, get_or_past}
 use Rattle.std.proofs.lemmas.List.FromFn.{length-map-range_with_len, get_or-map-range_with_len, map-range_with_len_more}
 use Rattle.slot_arena.specs.declared.slot.Slot.{Slot}
-use Rattle.slot_arena.specs.declared.slot.Slot.TheVariants.{Free, Full}
-use Rattle.slot_arena.specs.declared.slot.Standing.TheVariants.{Live, Condemned}
+use Rattle.slot_arena.specs.declared.slot.Slot.TheVariants.{Full}
+use Rattle.slot_arena.specs.declared.slot.Standing.TheVariants.{Live}
 use Rattle.slot_arena.specs.Contents.{Entry, value_in}
 use Rattle.slot_arena.specs.Slot.{value_under}
 use Rattle.slot_arena.specs.Layout.{value_here, entry_or, entry_from, entries_of, IsApart, IsNumbered}
-use Rattle.slot_arena.proofs.Lists.{slice_get-set_same, slice_get-set_other, slice_get-append_left, slice_get_push}
+use Rattle.slot_arena.proofs.Lists.{slice_get-set_same, slice_get-set_other, slice_get_push}
 
 module _ {T : Type 0} where
   -- a live slot has its value under its own serial, and under no other

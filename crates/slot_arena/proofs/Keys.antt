@@ -1,5 +1,5 @@
 -- The keys of the live slots, sorted by their serials, are the keys of the map in order of their serials.
-use Rattle.std.proofs.Common.{◌≡◌, ◌≢◌, ◌⊎◌, ℕ, zero, suc, ◌+◌, ◌<◌, ◌≤◌, List, [], ◌∷◌, ◌++◌, length, get_or, take, drop, Bool, true, false, eqb, Option, Some, None, slice_get, option_and_then, Contains, IsPermutation, refl, sym, ap, subst, ◌∙◌, inl, inr, arith, add-zero, zero-add, eq-eqb, ne_eqb}
+use Rattle.std.proofs.Common.{◌≡◌, ◌≢◌, ◌⊎◌, ℕ, zero, suc, ◌+◌, ◌<◌, ◌≤◌, List, [], ◌∷◌, ◌++◌, length, get_or, drop, Bool, false, eqb, Option, Some, None, slice_get, option_and_then, Contains, IsPermutation, refl, sym, ap, subst, ◌∙◌, inl, inr, arith, add-zero, zero-add, eq-eqb, ne_eqb}
 use Rattle.std.specs.List.{IsDistinct, AllByRecursion}
 use Rattle.std.specs.List.Sorted.{IsNonDecreasingBy}
 use Rattle.std.proofs.lemmas.Bool.{cases_eq, eqb-false}
@@ -13,7 +13,7 @@ use Rattle.slot_arena.specs.declared.slot.Slot.TheVariants.{Free, Full}
 use Rattle.slot_arena.specs.declared.slot.Standing.TheVariants.{Live, Condemned}
 use Rattle.slot_arena.specs.Contents.{Entry, keys_from}
 use Rattle.slot_arena.specs.Slot.{live_serial, value_under}
-use Rattle.slot_arena.specs.Layout.{value_here, serial_here, entry_from, entries_of, IsApart, IsNumbered}
+use Rattle.slot_arena.specs.Layout.{serial_here, entry_from, entries_of, IsApart, IsNumbered}
 use Rattle.slot_arena.proofs.Entries.{value_under_own, value_under_live, Sought, gone, there, sought, entry_found, length-entries_of, get_or-entries_of}
 
 module _ {X : Type 0} where

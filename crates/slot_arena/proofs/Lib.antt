@@ -5,3 +5,4 @@ pub mod Condemned
 pub mod Sound
 pub mod Changes
 pub mod Keys
+pub mod ContentsLemmas

@@ -1,5 +1,5 @@
 -- Each change of the slots keeps an arena sound.
-use Rattle.std.proofs.Common.{◌≡◌, ◌≢◌, ◌⊎◌, ℕ, zero, suc, ◌+◌, ◌-◌, ◌^◌, ◌<◌, ◌≤◌, List, [], ◌∷◌, ◌++◌, length, set, Option, Some, None, slice_get, option_and_then, refl, sym, ap, subst, ◌∙◌, inl, inr, arith, add-one}
+use Rattle.std.proofs.Common.{◌≡◌, ◌≢◌, ℕ, zero, suc, ◌+◌, ◌-◌, ◌^◌, ◌<◌, ◌≤◌, List, [], ◌∷◌, ◌++◌, length, set, Option, Some, slice_get, option_and_then, refl, sym, ap, subst, ◌∙◌, inl, inr, arith, add-one}
 use Rattle.std.proofs.lemmas.Bool.{cases_eq}
 use Rattle.std.proofs.lemmas.Option.{slice_get_within}
 use Rattle.std.proofs.lemmas.List.{length-set, length_push}
@@ -7,7 +7,7 @@ use Rattle.slot_arena.specs.declared.slot.Slot.{Slot}
 use Rattle.slot_arena.specs.declared.slot.Slot.TheVariants.{Free, Full}
 use Rattle.slot_arena.specs.declared.slot.Standing.TheVariants.{Live, Condemned}
 use Rattle.slot_arena.specs.Slot.{value_under, free_link, condemned_link}
-use Rattle.slot_arena.specs.Layout.{value_here, link_at, link_count, IsChain, IsApart, IsNumbered, IsSound}
+use Rattle.slot_arena.specs.Layout.{value_here, link_count, IsChain, IsApart, IsNumbered, IsSound}
 use Rattle.slot_arena.proofs.Chains.{IsChain-set, IsChain-push, IsChain-pop, IsChain-cons, no_link_is_off, link_count-set, link_count-push}
 use Rattle.slot_arena.proofs.Entries.{value_under_own, value_under_live, value_here-set_same, value_here-set_other, value_here-push_same, value_here-push_other}
 

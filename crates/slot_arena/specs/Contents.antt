@@ -1,7 +1,7 @@
 -- What a contract sees of an `Arena`: a map from keys to values, the condemned pairs, and how many inserts may follow.
 -- A key names a slot and a serial, which is the number of inserts before its own. The map stands as a list by serial:
 -- place n says what became of the value that was inserted after n others.
-use Rattle.std.specs.Prelude.{ℕ, ◌+◌, ◌-◌, ◌==◌, if◌then◌else◌, List, [], ◌∷◌, ◌++◌, length, Option, Some, None, IsSome, slice_index_or, slice_set}
+use Rattle.std.specs.Prelude.{◌≡◌, ℕ, ◌+◌, ◌-◌, ◌<◌, ◌==◌, if◌then◌else◌, List, [], ◌∷◌, ◌++◌, length, Option, Some, None, IsSome, slice_index_or, slice_set}
 use Rattle.slot_arena.specs.declared.key.Key.{Key}
 
 -- a value in the map, and the slot in which it lies
@@ -37,6 +37,10 @@ module _ {T : Type 0} where
   -- the key is in the map
   abbrev pub ContainsKey : Contents T → Key → Type 0
   ContainsKey a key = IsSome (value_at a key)
+
+  -- every key that was made so far finds what it found: one that was taken out stays out
+  abbrev pub KeepsEarlier : Contents T → Contents T → Type 0
+  KeepsEarlier old new = (key : Key) → serial_of key < inserts old → value_at new key ≡ value_at old key
 
   -- nothing stored and no room
   abbrev pub empty : Contents T

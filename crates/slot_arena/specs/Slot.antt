@@ -1,8 +1,7 @@
 -- What one slot holds. No public clause cites this module.
-use Rattle.std.specs.Prelude.{ℕ, Bool, true, false, ◌==◌, if◌then◌else◌, Option, Some, None}
+use Rattle.std.specs.Prelude.{ℕ, ◌==◌, if◌then◌else◌, Option, Some, None}
 use Rattle.slot_arena.specs.declared.slot.Slot.{Slot}
 use Rattle.slot_arena.specs.declared.slot.Slot.TheVariants.{Free, Full}
-use Rattle.slot_arena.specs.declared.slot.Standing.{Standing}
 use Rattle.slot_arena.specs.declared.slot.Standing.TheVariants.{Live, Condemned}
 
 module _ {T : Type 0} where

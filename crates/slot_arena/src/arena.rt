@@ -2,7 +2,7 @@
 ghost use Rattle.std.specs.Prelude.{◌≡◌, ◌+◌, ◌-◌, ◌^◌, ◌<◌, ◌≤◌, ◌↔◌, ◌∷◌, [], IsTrue, IsNone, IsOk, IsSome, Some, IfNone, IfOk, IfSome, OnOk, OnErr, OnSome, MatchOption, option_copied};
 ghost use Rattle.std.specs.Option.{option_copied_mut};
 ghost use Rattle.std.specs.Borrow.{sem};
-ghost use Rattle.slot_arena.specs.Contents.{inserts, value_at, ContainsKey, empty, inserted, removed, condemned_with, taken_off, keys_of, serial_of};
+ghost use Rattle.slot_arena.specs.Contents.{inserts, value_at, ContainsKey, KeepsEarlier, empty, inserted, removed, condemned_with, taken_off, keys_of, serial_of};
 
 use crate::key::Key;
 use crate::slot::{Slot, Standing};
@@ -75,6 +75,7 @@ impl<T> Arena<T> {
         requires serials { inserts self.old < 2 ^ 128 - 1 }
         ensures serial { serial_of result ≡ inserts self.old }
         ensures stored { self.new ≡ inserted self.old result value }
+        ensures earlier { KeepsEarlier self.old self.new }
     {
         let serial = self.inserts;
         let full = Slot::Full {

@@ -13,6 +13,8 @@ mod arena;
 mod key;
 mod slot;
 mod slots;
+#[cfg(test)]
+mod tests;
 
 pub use arena::Arena;
 pub use key::Key;

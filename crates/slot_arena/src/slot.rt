@@ -50,13 +50,7 @@ impl<T> Slot<T> {
                 standing: Standing::Live,
                 serial,
                 value,
-            } => {
-                if *serial == wanted {
-                    Some(value)
-                } else {
-                    None
-                }
-            }
+            } => { if *serial == wanted { Some(value) } else { None } }
             _ => None,
         }
     }

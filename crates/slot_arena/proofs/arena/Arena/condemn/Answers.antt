@@ -1,8 +1,7 @@
-use Rattle.std.proofs.Common.{◌≡◌, sym, ap, ◌∙◌, arith}
+use Rattle.std.proofs.Common.{◌≡◌}
 use Rattle.std.proofs.lemmas.Option.{slice_get_within}
 use Rattle.slot_arena.specs.declared.slot.Slot.TheVariants.{Full}
-use Rattle.slot_arena.specs.declared.slot.Standing.TheVariants.{Live, Condemned}
-use Rattle.slot_arena.specs.Slot.{condemned_slot}
+use Rattle.slot_arena.specs.declared.slot.Standing.TheVariants.{Live}
 use Rattle.slot_arena.proofs.Lists.{slice_get_unique}
 use Rattle.slot_arena.proofs.Sound.{IsSound-condemn}
 use Rattle.slot_arena.proofs.Changes.{present, contents_of-condemn}

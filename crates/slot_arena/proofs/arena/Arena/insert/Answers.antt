@@ -1,10 +1,13 @@
-use Rattle.std.proofs.Common.{◌≡◌, ◌<◌, None, Some, length, sym, ap, subst, ◌∙◌, arith}
+use Rattle.std.proofs.Common.{sym, subst, arith}
+use Rattle.slot_arena.specs.declared.key.Key.{Key}
+use Rattle.slot_arena.specs.Contents.{KeepsEarlier}
 use Rattle.slot_arena.specs.Layout.{IsSound, IsChain}
 use Rattle.slot_arena.specs.Slot.{free_link}
 use Rattle.slot_arena.proofs.Chains.{IsChain-none, IsChain-within}
 use Rattle.slot_arena.proofs.Entries.{length-entries_of}
 use Rattle.slot_arena.proofs.Sound.{IsSound-push, IsSound-fill}
 use Rattle.slot_arena.proofs.Changes.{contents_of-push, contents_of-fill}
+use Rattle.slot_arena.proofs.ContentsLemmas.{KeepsEarlier-inserted}
 use Rattle.slot_arena.proofs.arena.Arena.insert.Goals as goal
 
 pub overflow_add-self : goal.overflow_add-self
@@ -43,3 +46,13 @@ pub returns-clause-stored : goal.returns-clause-stored
 returns-clause-stored g c =
     let sound = subst (λ free. IsSound c.self.inside.slots.slots c.self.inside.slots.capacity free c.self.inside.freed c.self.inside.condemned c.self.inside.inserts) c.in-Some.is c.self.invariant in
     rw (← c.self.view_is, c.replace.ensures.slots) (contents_of-fill _ _ _ _ _ _ _ c.args.value c.in-Free.ensures.was sound)
+
+pub returns-in_default-clause-earlier : goal.returns-in_default-clause-earlier
+returns-in_default-clause-earlier g c =
+    let key : Key = record { slot = c.len-slot.result; serial = c.self.inside.inserts } in
+    subst (KeepsEarlier c.args.self.now) (sym (returns-in_default-clause-stored g c)) (KeepsEarlier-inserted c.args.self.now key c.args.value)
+
+pub returns-clause-earlier : goal.returns-clause-earlier
+returns-clause-earlier g c =
+    let key : Key = record { slot = c.in-Some.slot; serial = c.self.inside.inserts } in
+    subst (KeepsEarlier c.args.self.now) (sym (returns-clause-stored g c)) (KeepsEarlier-inserted c.args.self.now key c.args.value)

@@ -1,7 +1,7 @@
 use Rattle.std.proofs.Common.{◌≡◌, None, Some, IsPermutation, length, rules, sym, ap, subst, ◌∙◌, arith}
 use Rattle.std.proofs.lemmas.List.{take_at, append-nil}
 use Rattle.std.proofs.lemmas.List.Sorted.{IsNonDecreasingBy-from_sort_by_key}
-use Rattle.slot_arena.proofs.Keys.{live_keys, live_keys_more, live_keys_all, keys_of_sorted}
+use Rattle.slot_arena.proofs.Keys.{live_keys_more, live_keys_all, keys_of_sorted}
 use Rattle.slot_arena.proofs.arena.Arena.keys.Goals as goal
 use Rattle.slot_arena.proofs.arena.Arena.keys.Goals.{in-Some+in_ok-push, in_default}
 

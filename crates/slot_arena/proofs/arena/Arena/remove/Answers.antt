@@ -1,6 +1,6 @@
 use Rattle.std.proofs.Common.{◌≡◌, Some, sym, ap, ◌∙◌, arith}
 use Rattle.std.proofs.lemmas.Option.{slice_get_within}
-use Rattle.slot_arena.specs.declared.slot.Slot.TheVariants.{Free, Full}
+use Rattle.slot_arena.specs.declared.slot.Slot.TheVariants.{Full}
 use Rattle.slot_arena.specs.declared.slot.Standing.TheVariants.{Live}
 use Rattle.slot_arena.specs.Slot.{stored_value}
 use Rattle.slot_arena.proofs.Lists.{slice_get_unique}

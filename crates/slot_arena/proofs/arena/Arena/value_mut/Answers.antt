@@ -1,11 +1,11 @@
-use Rattle.std.proofs.Common.{◌≡◌, IsSome, Some, refl, sym, ap, subst, ◌∙◌, arith}
+use Rattle.std.proofs.Common.{◌≡◌, IsSome, Some, refl, sym, ap, subst, ◌∙◌}
 use Rattle.std.proofs.lemmas.Option.{slice_get_within}
 use Rattle.slot_arena.specs.declared.slot.Slot.TheVariants.{Full}
 use Rattle.slot_arena.specs.declared.slot.Standing.TheVariants.{Live}
 use Rattle.slot_arena.specs.Slot.{stored_value}
 use Rattle.slot_arena.proofs.Lists.{slice_get_unique}
 use Rattle.slot_arena.proofs.Sound.{IsSound-rewrite}
-use Rattle.slot_arena.proofs.Changes.{present, value_at-contents_of, value_here-live, contents_of-rewrite}
+use Rattle.slot_arena.proofs.Changes.{present, contents_of-rewrite}
 use Rattle.slot_arena.proofs.arena.Arena.value_mut.Goals as goal
 
 pub at_mut-requires : goal.at_mut-requires
