@@ -3,6 +3,5 @@ pub mod Numbers
 pub mod PrintedFaithful
 pub mod PrintedForm
 pub mod PrintedRun
-pub mod Joined
 pub mod AnswerLemmas
 pub mod Statuses

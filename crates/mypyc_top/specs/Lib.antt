@@ -11,3 +11,4 @@ pub mod ErrorLines
 pub mod Answer
 pub mod Given
 pub mod Refusals
+pub mod Output

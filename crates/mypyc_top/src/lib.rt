@@ -8,7 +8,6 @@
 #![tactic(auto)]
 
 mod code;
-mod code_text;
 mod reading;
 mod reply;
 mod sending;

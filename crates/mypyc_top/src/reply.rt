@@ -1,5 +1,6 @@
 ghost use Rattle.std.specs.Prelude.{◌≡◌, ◌≢◌, ℕ, ◌<◌, ◌++◌, ◌↔◌, [], ◌∷◌, List, None, length, nat_lt, decimal, codes, true, false, is_none, IsTrue, IfOk, OnErr};
 ghost use Rattle.outside_core.specs.Counts.{count_end, count_if, has_risen, Rose};
+ghost use Rattle.mypyc_top.specs.Output.{output_text};
 ghost use Rattle.mypyc_top.specs.Words.{texts, words_of};
 ghost use Rattle.mypyc_top.specs.Diagnostics.{faults, not_built, diagnostics_text};
 ghost use Rattle.mypyc_top.specs.ErrorLines.{usage_line, open_line, read_line, large_line};
@@ -7,11 +8,11 @@ ghost use Rattle.mypyc_top.specs.Answer.{Answer, RequestAnswer, ModuleAnswer, fi
 ghost use Rattle.mypyc_top.specs.Given.{IsReplied, AbsentOpens, is_module_status};
 
 use crate::code::code_of;
-use crate::code_text::text_of_code;
 use crate::reading::{Refusal, read_file};
 use crate::source::{SourceError, printed_numbers};
 use crate::status::Status;
 use crate::words::{Request, Words, read_words};
+use c_core::Code;
 use itoa::Buffer;
 use outside_core::Files;
 use std::alloc::Global;
@@ -21,10 +22,17 @@ use value_core::Memory;
 const USAGE: &[u8] =
     b"usage: mypyc [--emit=check|ir|c|run|runc|selftest] [--stage=build|errors|owned] [--turns=N] FILE\n";
 
-/// What is to be answered: the bytes for the output, the line on errors, and the status.
+/// What goes to the output: bytes, or the text of a code.
+#[derive(Drop)]
+pub(crate) enum Output {
+    Bytes(Vec<u8>),
+    Text(Code),
+}
+
+/// What is to be answered: what goes to the output, the line on errors, and the status.
 #[derive(Drop)]
 pub(crate) struct Reply {
-    pub(crate) out: Vec<u8>,
+    pub(crate) out: Output,
     pub(crate) err: Vec<u8>,
     pub(crate) status: Status,
 }
@@ -49,7 +57,7 @@ pub(crate) fn reply_to<F: Files>(
         Answer (texts words.now)
         (file_meaning (has_risen (F.faults files.old) (F.faults files.new)) (F.is_open files.new)
         (named_content (F.content files.old) (texts words.now)))
-        reply.out.items reply.err.items reply.status) }
+        (output_text reply.out) reply.err.items reply.status) }
 {
     match read_words(alloc, words)? {
         Words::Usage => usage(alloc),
@@ -59,10 +67,10 @@ pub(crate) fn reply_to<F: Files>(
 
 fn usage(alloc: Global) -> Result<Reply, Memory>
     ensures { IfOk result (λ reply.
-        (reply.out.items ≡ []) × (reply.err.items ≡ usage_line) × (reply.status ≡ Status.Usage)) }
+        (output_text reply.out ≡ []) × (reply.err.items ≡ usage_line) × (reply.status ≡ Status.Usage)) }
 {
     Ok(Reply {
-        out: Vec::new(alloc),
+        out: Output::Bytes(Vec::new(alloc)),
         err: Vec::from_slice(alloc, USAGE)?,
         status: Status::Usage,
     })
@@ -81,7 +89,7 @@ fn request_reply<F: Files>(alloc: Global, request: &Request, files: &mut F) -> R
         RequestAnswer request.now
         (file_meaning (has_risen (F.faults files.old) (F.faults files.new)) (F.is_open files.new)
         (F.content files.old request.now.file))
-        reply.out.items reply.err.items reply.status) }
+        (output_text reply.out) reply.err.items reply.status) }
 {
     let file = request.file.as_str();
     match read_file(alloc, files, file) {
@@ -120,14 +128,14 @@ fn refused(
     behind: &[u8],
 ) -> Result<Reply, Memory>
     ensures { IfOk result (λ reply.
-        (reply.out.items ≡ []) × (reply.err.items ≡ before.now ++ (file.now ++ behind.now))
+        (output_text reply.out ≡ []) × (reply.err.items ≡ before.now ++ (file.now ++ behind.now))
         × (reply.status ≡ status)) }
 {
     let mut err = Vec::from_slice(alloc, before)?;
     err.extend_from_slice(file.as_bytes())?;
     err.extend_from_slice(behind)?;
     Ok(Reply {
-        out: Vec::new(alloc),
+        out: Output::Bytes(Vec::new(alloc)),
         err,
         status,
     })
@@ -137,16 +145,16 @@ fn refused(
 fn module_reply(alloc: Global, request: &Request, bytes: &[u8]) -> Result<Reply, Memory>
     ensures replied { IfOk result (λ reply. IsTrue (is_module_status reply.status)) }
     ensures answer { IfOk result (λ reply. ModuleAnswer request.now bytes.now false (faults bytes.now)
-        reply.out.items reply.err.items reply.status) }
+        (output_text reply.out) reply.err.items reply.status) }
 {
     match printed_numbers(alloc, bytes) {
         Ok(numbers) => Ok(Reply {
-            out: text_of_code(alloc, &code_of(alloc, &numbers)?)?,
+            out: Output::Text(code_of(alloc, &numbers)?),
             err: Vec::new(alloc),
             status: Status::Done,
         }),
         Err(SourceError::Unbuilt(line)) => Ok(Reply {
-            out: unbuilt_text(alloc, request.file.as_str(), line)?,
+            out: Output::Bytes(unbuilt_text(alloc, request.file.as_str(), line)?),
             err: Vec::new(alloc),
             status: Status::Diagnosed,
         }),

@@ -1,10 +1,12 @@
 ghost use Rattle.std.specs.Prelude.{◌≡◌, ◌++◌, ◌⊎◌, IsTrue, OnOk, OnErr};
 ghost use Rattle.outside_core.specs.Bytes.{TakesFront};
 ghost use Rattle.outside_core.specs.Counts.{Rose};
+ghost use Rattle.mypyc_top.specs.Output.{output_text};
 ghost use Rattle.mypyc_top.specs.Given.{sink_call, Took, TookFront, Gave, IsReplied};
 
-use crate::reply::Reply;
+use crate::reply::{Output, Reply};
 use crate::status::Status;
+use c_text::write;
 use outside_core::{Sink, WriteFault, write_whole};
 
 /// Sends a reply to the output and the lines on errors, and answers its status. It stops at the first refusal.
@@ -12,7 +14,7 @@ pub(crate) fn send_reply<O: Sink, E: Sink>(reply: &Reply, out: &mut O, err: &mut
     ensures gave { IsReplied reply.now.status → Gave
         (sink_call O.tells (O.taken out.old) (O.taken out.new))
         (sink_call E.tells (E.taken err.old) (E.taken err.new))
-        reply.now.out.items reply.now.err.items reply.now.status result }
+        (output_text reply.now.out) reply.now.err.items reply.now.status result }
     ensures status { (result ≡ reply.now.status) ⊎ (result ≡ Status.WriteFault) }
     ensures write_fault { IsReplied reply.now.status → result ≡ Status.WriteFault →
         Rose (O.faults out.old) (O.faults out.new) ⊎ Rose (E.faults err.old) (E.faults err.new) }
@@ -25,18 +27,35 @@ pub(crate) fn send_reply<O: Sink, E: Sink>(reply: &Reply, out: &mut O, err: &mut
 
 fn send_both<O: Sink, E: Sink>(reply: &Reply, out: &mut O, err: &mut E) -> Result<(), WriteFault>
     ensures out { OnOk result (Took
-        (sink_call O.tells (O.taken out.old) (O.taken out.new)) reply.now.out.items) }
+        (sink_call O.tells (O.taken out.old) (O.taken out.new)) (output_text reply.now.out)) }
     ensures err { OnOk result (Took
         (sink_call E.tells (E.taken err.old) (E.taken err.new)) reply.now.err.items) }
     ensures out_front { OnErr result (TookFront
-        (sink_call O.tells (O.taken out.old) (O.taken out.new)) reply.now.out.items) }
+        (sink_call O.tells (O.taken out.old) (O.taken out.new)) (output_text reply.now.out)) }
     ensures err_front { OnErr result (TookFront
         (sink_call E.tells (E.taken err.old) (E.taken err.new)) reply.now.err.items) }
     ensures refused { OnErr result
         (Rose (O.faults out.old) (O.faults out.new) ⊎ Rose (E.faults err.old) (E.faults err.new)) }
 {
-    send(out, &reply.out)?;
+    send_output(out, &reply.out)?;
     send(err, &reply.err)
+}
+
+fn send_output<O: Sink>(sink: &mut O, output: &Output) -> Result<(), WriteFault>
+    ensures ok { OnOk result (IsTrue O.tells →
+        O.taken sink.new ≡ O.taken sink.old ++ output_text output.now) }
+    ensures err { OnErr result (IsTrue O.tells →
+        TakesFront (O.taken sink.old) (O.taken sink.new) (output_text output.now)) }
+    ensures refused { OnErr result (Rose (O.faults sink.old) (O.faults sink.new)) }
+{
+    match output {
+        Output::Bytes(bytes) => send(sink, bytes),
+        Output::Text(code) => {
+            write(code, sink)?;
+            sink.flush()?;
+            Ok(())
+        }
+    }
 }
 
 /// Sends all bytes, and passes them on. Where there are none, the sink is left alone.
