@@ -1,4 +1,8 @@
 pub mod Lists
+pub mod Sharing
+pub mod Memory
+pub mod Deeds
+pub mod Laid
 pub mod Chains
 pub mod Entries
 pub mod Condemned
@@ -6,3 +10,4 @@ pub mod Sound
 pub mod Changes
 pub mod Keys
 pub mod ContentsLemmas
+pub mod Examples

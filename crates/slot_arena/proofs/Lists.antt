@@ -27,3 +27,9 @@ module _ {X : Type 0} where
   -- a place has one element
   pub slice_get_unique : (xs : List X) (i : ℕ) (x y : X) → slice_get xs i ≡ Some x → slice_get xs i ≡ Some y → x ≡ y
   slice_get_unique xs i x y first second = same_Some x y (sym first ∙ second)
+
+  -- a place of the list has an element
+  pub slice_get_some : (xs : List X) (i : ℕ) → i < length xs → (x : X) × (slice_get xs i ≡ Some x)
+  slice_get_some [] i within = absurd (omega arith)
+  slice_get_some (x ∷ xs) zero within = (x, refl)
+  slice_get_some (x ∷ xs) (suc i) within = slice_get_some xs i (omega arith)

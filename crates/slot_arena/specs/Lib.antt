@@ -1,5 +1,10 @@
 pub mod Contents
 pub mod Slot
 pub mod Places
+pub mod SlotMemory
 pub mod Layout
 pub mod Lends
+pub mod Memory
+pub mod BlockLends
+pub mod Laid
+pub mod RoomLends

@@ -6,11 +6,15 @@
 //! an arena holds and what each call makes of it.
 //!
 //! `arena` has the calls, over the slots of `slots`, each of which is a `Slot`. Free slots and condemned slots are
-//! linked through the slots themselves.
+//! linked through the slots themselves. The slots lie in a `Room`, which is one `Block` of memory: raw pointers stand
+//! only in `block`, in the five functions that take memory, give it back, lend a slot for reading or for writing, and
+//! fill or empty one.
 #![tactic(auto)]
 
 mod arena;
+mod block;
 mod key;
+mod room;
 mod slot;
 mod slots;
 #[cfg(test)]
