@@ -56,9 +56,9 @@ struct Given {
 
 /// Which calls on the files, the output and the lines on errors are to fail.
 #[derive(Clone, Copy)]
-struct Fails(&'static [u64], &'static [u64], &'static [u64]);
+struct Fails<'a>(&'a [u64], &'a [u64], &'a [u64]);
 
-const CALM: Fails = Fails(&[], &[], &[]);
+const CALM: Fails<'static> = Fails(&[], &[], &[]);
 
 fn words_of(alloc: Global, words: &[&str]) -> Result<Vec<String>, AllocError> {
     let mut all = Vec::new(alloc);
@@ -69,7 +69,12 @@ fn words_of(alloc: Global, words: &[&str]) -> Result<Vec<String>, AllocError> {
 }
 
 /// A command over the one file `t.py`.
-fn command(alloc: Global, words: &[&str], bytes: &[u8], fails: Fails) -> Result<Given, AllocError> {
+fn command(
+    alloc: Global,
+    words: &[&str],
+    bytes: &[u8],
+    fails: Fails<'_>,
+) -> Result<Given, AllocError> {
     let mut all = Vec::new(alloc);
     all.push((
         String::from_str(alloc, "t.py")?,
@@ -155,19 +160,18 @@ fn words(rt: HostRuntime) -> Result<(), Fail> {
     Ok(())
 }
 
-// The calls on the files are an open and the reads, on a sink a write and a flush.
+// The calls on the files are an open and the reads, on the lines on errors a write and a flush.
 #[test]
 fn refusals(rt: HostRuntime) -> Result<(), Fail> {
     let open = "mypyc: cannot open t.py\n";
     let read = "mypyc: cannot read t.py\n";
-    let cases: &[(&[&str], Fails, &str, &str, u8)] = &[
+    let cases: &[(&[&str], Fails<'static>, &str, &str, u8)] = &[
         (&["--emit=c", "t.py"], Fails(&[0], &[], &[]), "", open, 3),
         (&["--emit=c", "t.py"], Fails(&[1], &[], &[]), "", read, 4),
         (&["--emit=c", "t.py"], Fails(&[2], &[], &[]), "", read, 4),
         (&["--emit=c", "t.py"], Fails(&[3], &[], &[]), THREE, "", 0),
         (&["--emit=c", "t.py"], Fails(&[], &[0], &[]), "", "", 5),
-        (&["--emit=c", "t.py"], Fails(&[], &[1], &[]), THREE, "", 5),
-        (&["--emit=c", "t.py"], Fails(&[], &[2], &[0]), THREE, "", 0),
+        (&["--emit=c", "t.py"], Fails(&[], &[], &[0]), THREE, "", 0),
         (&["--emit=c", "t.py"], Fails(&[0], &[], &[0]), "", "", 5),
         (&["--emit=c", "t.py"], Fails(&[0], &[], &[1]), "", open, 5),
         (&["--emit=c"], Fails(&[], &[], &[0]), "", "", 5),
@@ -176,6 +180,35 @@ fn refusals(rt: HostRuntime) -> Result<(), Fail> {
         let given = command(rt.alloc(), words, b"print(3)", *fails)?;
         check(&rt, &given, out, err, *number);
     }
+    Ok(())
+}
+
+// The text goes to the output in pieces, and then a flush. Whichever call fails, a front of it was taken.
+#[test]
+fn calls_of_the_output_fail_in_turn(rt: HostRuntime) -> Result<(), Fail> {
+    let mut refused = 0;
+    let mut whole = 0;
+    for number in 0..200u64 {
+        let given = command(
+            rt.alloc(),
+            &["--emit=c", "t.py"],
+            b"print(3)",
+            Fails(&[], &[number], &[]),
+        )?;
+        assert!(rt; THREE.as_bytes().starts_with(given.out.bytes()));
+        if given.number == 0 {
+            continue;
+        }
+        assert_eq!(rt; given.number, 5);
+        assert_eq!(rt; number, refused);
+        refused = number.saturating_add(1);
+        if given.out.bytes() == THREE.as_bytes() {
+            whole = number;
+        }
+    }
+    // The flush alone fails behind the whole text.
+    assert!(rt; 0 < whole);
+    assert_eq!(rt; refused, whole.saturating_add(1));
     Ok(())
 }
 
