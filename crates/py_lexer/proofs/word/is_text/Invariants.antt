@@ -1,0 +1,10 @@
+use Rattle.std.proofs.Common.{◌≡◌, length}
+use Rattle.std.specs.Str.{bytes_eq}
+use Rattle.py_lexer.specs.Places.{characters}
+use Rattle.py_lexer.proofs.word.is_text.Given as goal
+
+abbrev pub invariant-loop-left : goal.invariant-loop-left
+invariant-loop-left l = bytes_eq l.right (characters l.left) ≡ bytes_eq l.text (characters l.word)
+
+abbrev pub decreases-loop-left : goal.decreases-loop-left
+decreases-loop-left l = length l.left

@@ -1,0 +1,13 @@
+pub mod Faults
+pub mod Places
+pub mod Reading
+pub mod Words
+pub mod Numbers
+pub mod Strings
+pub mod Signs
+pub mod Pieces
+pub mod Lines
+pub mod Indents
+pub mod Tokens
+pub mod Laws
+pub mod Remaining
