@@ -1,0 +1,153 @@
+-- A run that goes on, and what is answered where it ends.
+use Rattle.std.proofs.Common.{◌≡◌, refl, sym, ◌∙◌, ap, subst, ℕ, ◌+◌, ◌-◌, ◌<◌, ◌≤◌, arith, Bool, false, List, [], ◌++◌, length, append_assoc, append-nil, Some, None, Ok, Err}
+use Rattle.std.specs.Prelude.{min, nat_le, IsTrue, Result}
+use Rattle.std.proofs.lemmas.Bool.Decides.{nat_tests}
+use Rattle.value_core.specs.Items.{Items, AtEof, input_items}
+use Rattle.outside_core.specs.Bytes.{TakesFront}
+use Rattle.outside_core.specs.Counts.{count_end}
+use Rattle.outside_core.proofs.Fronts.{TakesFront-none, TakesFront-all, TakesFront-before, TakesFront-after}
+use Rattle.c_core.specs.declared.code.Code.{Code}
+use Rattle.c_core.specs.Step.{Goes, step}
+use Rattle.c_core.specs.Run.{Stop, go_on, start, most_steps, machine_run}
+use Rattle.c_core.specs.Laws.{RunExists}
+use Rattle.c_core.specs.WellFormed.{WellFormed}
+use Rattle.c_runner.specs.declared.report.Ending.{Ending}
+use Rattle.c_runner.specs.declared.report.Report.{Report}
+use Rattle.c_runner.specs.declared.report.RunError.{RunError}
+use Rattle.c_runner.specs.declared.report.RunError.TheVariants.{WriteFault, Memory}
+use Rattle.c_runner.specs.declared.state.State.{State}
+use Rattle.c_runner.specs.Handing.{HandsOn}
+use Rattle.c_runner.specs.Ran.{AreGiven, Ran, given_items}
+use Rattle.c_runner.specs.Report.{ending_of, live_cells, Reports}
+use Rattle.c_runner.specs.States.{Rest, AreBelow, first_rest, state_of, Follows}
+use Rattle.c_runner.proofs.StepLemmas.{Keeps, KeepsTo, step_keeps, some_left, one_taken, grows}
+
+-- the output that was handed on of a run, and else what there was at the start
+abbrev pub rest_after : Code → Items → List ℕ → Rest
+rest_after code items handed = record (first_rest code items) { handed = handed }
+
+-- a run of at most so many more steps goes on from a state, and the sink took what was handed on
+pub record Running (tells : Bool) (before now : List ℕ) (code : Code) (turns : ℕ) (items : Items) (left : ℕ) (state : State) : Type 0 where
+  pub handed : List ℕ
+  pub taken : IsTrue tells → now ≡ before ++ handed
+  pub newest : AreBelow (length state.cells) state.top.ledger
+  pub goes : go_on (step code) left (Goes (state_of (rest_after code items handed) state)) ≡ machine_run turns items code
+
+pub at_start : (tells : Bool) (before : List ℕ) (code : Code) (turns left : ℕ) (items : Items) (state : State) → ((i : Items) → state_of (first_rest code i) state ≡ start code turns i) → left ≡ most_steps turns code → Running tells before before code turns items left state
+at_start tells before code turns left items state is count = record {
+  handed = [];
+  taken = λ t. sym (append-nil before);
+  newest = subst (λ l. AreBelow (length state.cells) l) (sym (ap (λ s. s.top.ledger) (is items))) tt;
+  goes = ap (λ k. go_on (step code) k (Goes (state_of (first_rest code items) state))) count ∙ ap (λ s. go_on (step code) (most_steps turns code) (Goes s)) (is items);
+}
+
+module _ (tells : Bool) (before now : List ℕ) (code : Code) (turns : ℕ) (items : Items) (left : ℕ) (state : State) (running : Running tells before now code turns items left state) where
+  abbrev rest : Rest
+  rest = rest_after code items running.handed
+
+  pub can_step : RunExists → WellFormed code → 1 ≤ left
+  can_step exists formed =
+      let run = exists code formed turns items in
+      some_left code left (state_of rest state) run.0 (running.goes ∙ run.1)
+
+  -- what the sink took is a front of the output
+  pub front_so_far : (stop : Stop) → machine_run turns items code ≡ Some stop → IsTrue tells → TakesFront before now stop.state.output
+  front_so_far stop is t =
+      let grown = grows code left (state_of rest state) stop refl running.newest (running.goes ∙ is) in
+      let all : stop.state.output ≡ running.handed ++ (state.output ++ grown.more) = grown.grown ∙ append_assoc running.handed state.output grown.more in
+      rw all (TakesFront-before before now running.handed (state.output ++ grown.more) (TakesFront-all before now running.handed (running.taken t)))
+
+  -- a front of what is held went too
+  pub front_of_held : (after : List ℕ) → (IsTrue tells → TakesFront now after state.output) → (stop : Stop) → machine_run turns items code ≡ Some stop → IsTrue tells → TakesFront before after stop.state.output
+  front_of_held after front stop is t =
+      let grown = grows code left (state_of rest state) stop refl running.newest (running.goes ∙ is) in
+      rw grown.grown (TakesFront-before before after (running.handed ++ state.output) grown.more (TakesFront-after before now after running.handed state.output (running.taken t) (front t)))
+
+  -- a step, after which the run goes on
+  pub stepped : (new : State) → 1 ≤ left → Follows (step code) None state new → Running tells before now code turns items (left - 1) new
+  stepped new more follows =
+      let kept : Keeps (state_of rest state) (state_of rest new) = subst (KeepsTo (state_of rest state)) (follows rest) (step_keeps (state_of rest state) refl running.newest code) in
+      record {
+        handed = running.handed;
+        taken = running.taken;
+        newest = kept.newest;
+        goes = ap (go_on (step code) (left - 1)) (sym (follows rest)) ∙ sym (one_taken code left (state_of rest state) more) ∙ running.goes;
+      }
+
+  -- some of what is held is handed on
+  pub handed_on : (after output : List ℕ) → HandsOn tells now after state.output output → Running tells before after code turns items left (record state { output = output })
+  handed_on after output hands = record {
+    handed = running.handed ++ hands.0;
+    taken = λ t. hands.2 t ∙ ap (λ l. l ++ hands.0) (running.taken t) ∙ append_assoc before running.handed hands.0;
+    newest = running.newest;
+    goes = ap (λ l. go_on (step code) left (Goes (record (state_of rest state) { output = l }))) (append_assoc running.handed hands.0 output ∙ ap (λ l. running.handed ++ l) (sym hands.1)) ∙ running.goes;
+  }
+
+  -- a step with which the run ends
+  pub ended : (new : State) (ending : Ending) → 1 ≤ left → Follows (step code) (Some ending) state new → (stop : Stop) → machine_run turns items code ≡ Some stop → stop ≡ record { ending = ending_of ending; state = state_of rest new }
+  ended new ending more follows stop is =
+      let last : go_on (step code) left (Goes (state_of rest state)) ≡ Some (record { ending = ending_of ending; state = state_of rest new }) = one_taken code left (state_of rest state) more ∙ ap (go_on (step code) (left - 1)) (follows rest) in
+      let both : Some stop ≡ Some (record { ending = ending_of ending; state = state_of rest new }) = sym is ∙ sym running.goes ∙ last in
+      cc
+
+  -- of the whole output a front was taken, or all
+  pub front_at_end : (new : State) (ending : Ending) (after : List ℕ) → 1 ≤ left → Follows (step code) (Some ending) state new → (IsTrue tells → TakesFront now after new.output) → (stop : Stop) → machine_run turns items code ≡ Some stop → IsTrue tells → TakesFront before after stop.state.output
+  front_at_end new ending after more follows front stop is t =
+      rw (ap (λ s. s.state.output) (ended new ending more follows stop is)) (TakesFront-after before now after running.handed new.output (running.taken t) (front t))
+
+  pub all_at_end : (new : State) (ending : Ending) (after : List ℕ) → 1 ≤ left → Follows (step code) (Some ending) state new → (IsTrue tells → after ≡ now ++ new.output) → (stop : Stop) → machine_run turns items code ≡ Some stop → IsTrue tells → after ≡ before ++ stop.state.output
+  all_at_end new ending after more follows all stop is t =
+      all t ∙ ap (λ l. l ++ new.output) (running.taken t) ∙ append_assoc before running.handed new.output
+      ∙ ap (λ s. before ++ s.state.output) (sym (ended new ending more follows stop is))
+
+  pub reported : (new : State) (ending : Ending) (report : Report) → 1 ≤ left → Follows (step code) (Some ending) state new → report.ending ≡ ending → report.live ≡ live_cells code.classes new.cells → report.turns_left ≡ new.turns → (stop : Stop) → machine_run turns items code ≡ Some stop → Reports code report stop
+  reported new ending report more follows same_ending same_live same_turns stop is =
+      let end = ended new ending more follows stop is in
+      record {
+        same_ending = ap ending_of same_ending ∙ ap (λ s. s.ending) (sym end);
+        same_cells = same_live ∙ ap (λ s. live_cells code.classes s.state.cells) (sym end);
+        same_turns = same_turns ∙ ap (λ s. s.state.turns) (sym end);
+      }
+
+-- ---- nothing is taken from the input
+still : (n m : ℕ) → n < m → nat_le (n + min 1 (m - n)) n ≡ false
+still n m lt = grind (arith, nat_tests)
+
+given : (tells : Bool) (faults : ℕ) (left : List ℕ) → AreGiven tells faults faults left left (input_items left AtEof)
+given tells faults left = λ t room. ap (λ b. given_items b left left) (sym (still faults count_end room))
+
+-- ---- what a call says of the run
+abbrev pub Answered : Bool → ℕ → List ℕ → Code → ℕ → Bool → List ℕ → List ℕ → Result Report RunError → Type 0
+Answered input_tells faults left code turns tells before after result =
+    (items : Items) × AreGiven input_tells faults faults left left items × ((stop : Stop) × (machine_run turns items code ≡ Some stop) × Ran code stop tells before after result)
+
+-- nothing was handed on yet
+pub nothing_taken : (before : List ℕ) (stop : Stop) → TakesFront before before stop.state.output
+nothing_taken before stop = TakesFront-none before before stop.state.output refl
+
+module _ (input_tells : Bool) (faults : ℕ) (left : List ℕ) (code : Code) (turns : ℕ) (tells : Bool) (before after : List ℕ) (exists : RunExists) (formed : WellFormed code) where
+  abbrev items : Items
+  items = input_items left AtEof
+
+  answered : (result : Result Report RunError) → ((stop : Stop) → machine_run turns items code ≡ Some stop → Ran code stop tells before after result) → Answered input_tells faults left code turns tells before after result
+  answered result ran =
+      let run = exists code formed turns items in
+      (items, given input_tells faults left, (run.0, run.1, ran run.0 run.1))
+
+  -- the error that a `?` gave
+  abbrev pub Gives : RunError → Result Report RunError → Type 0
+  Gives error result = (e : RunError) × (result ≡ Err e) × (e ≡ error)
+
+  abbrev pub TakesAFront : Type 0
+  TakesAFront = (stop : Stop) → machine_run turns items code ≡ Some stop → IsTrue tells → TakesFront before after stop.state.output
+
+  pub answers_memory : (result : Result Report RunError) → Gives Memory result → TakesAFront → Answered input_tells faults left code turns tells before after result
+  answers_memory result is front =
+      answered result (λ stop run. subst (λ r. Ran code stop tells before after r) (sym (is.1 ∙ ap Err is.2)) (front stop run))
+
+  pub answers_fault : (result : Result Report RunError) → Gives WriteFault result → TakesAFront → Answered input_tells faults left code turns tells before after result
+  answers_fault result is front =
+      answered result (λ stop run. subst (λ r. Ran code stop tells before after r) (sym (is.1 ∙ ap Err is.2)) (front stop run))
+
+  pub answers_report : (report : Report) → ((stop : Stop) → machine_run turns items code ≡ Some stop → Reports code report stop) → ((stop : Stop) → machine_run turns items code ≡ Some stop → IsTrue tells → after ≡ before ++ stop.state.output) → Answered input_tells faults left code turns tells before after (Ok report)
+  answers_report report reports all = answered (Ok report) (λ stop run. (reports stop run, all stop run))

@@ -1,0 +1,48 @@
+-- When a report is that of a run.
+use Rattle.std.specs.Prelude.{◌≡◌, ℕ, List, [], ◌∷◌, Option, Some, None, codes, slice_get}
+use Rattle.value_core.specs.Exceptions.{class_name}
+use Rattle.c_core.specs.declared.code.CClass.{CClass}
+use Rattle.c_core.specs.declared.code.Code.{Code}
+use Rattle.c_core.specs.Cells.{Cells}
+use Rattle.c_core.specs.Machine.{Content, IntCell, StrCell, ListCell, DictCell, TupleCell, InstCell, ExcCell}
+use Rattle.c_core.specs.Step as step
+use Rattle.c_core.specs.Run.{Stop}
+use Rattle.c_runner.specs.declared.report.Ending.{Ending}
+use Rattle.c_runner.specs.declared.report.Ending.TheVariants.{Done, Raised, Cut, Over, Fault}
+use Rattle.c_runner.specs.declared.report.LiveCell.{LiveCell}
+use Rattle.c_runner.specs.declared.report.Report.{Report}
+
+-- the machine's ending of a report's
+abbrev pub ending_of : Ending → step.Ending
+ending_of Done = step.Done
+ending_of (Raised class text) = step.Raised class text
+ending_of Cut = step.Cut
+ending_of Over = step.Over
+ending_of (Fault f) = step.Faulted f
+
+-- what a cell holds, by name: an instance by its class's, an exception by its own class's
+abbrev pub name_of_class : Option CClass → List ℕ
+name_of_class None = []
+name_of_class (Some class) = class.name
+
+abbrev pub kind_name : List CClass → Content → List ℕ
+kind_name classes (IntCell n) = codes "Int"
+kind_name classes (StrCell text) = codes "Str"
+kind_name classes (ListCell items) = codes "List"
+kind_name classes (DictCell pairs) = codes "Dict"
+kind_name classes (TupleCell items) = codes "Tuple"
+kind_name classes (InstCell number attributes) = name_of_class (slice_get classes number)
+kind_name classes (ExcCell class text) = class_name class
+
+-- the cells that are there, in the order in which they were made
+abbrev pub live_cells : List CClass → Cells Content → List LiveCell
+live_cells classes [] = []
+live_cells classes (None ∷ cells) = live_cells classes cells
+live_cells classes (Some cell ∷ cells) =
+    record { kind = kind_name classes cell.content; count = cell.count } ∷ live_cells classes cells
+
+-- a report says how the run of a code stopped, and in which state
+pub record Reports (code : Code) (report : Report) (stop : Stop) : Type 0 where
+  pub same_ending : ending_of report.ending ≡ stop.ending
+  pub same_cells : report.live ≡ live_cells code.classes stop.state.cells
+  pub same_turns : report.turns_left ≡ stop.state.turns

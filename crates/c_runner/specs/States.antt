@@ -1,0 +1,57 @@
+-- The runner's state as the machine's, and what a step of it is.
+use Rattle.std.specs.Prelude.{◌≡◌, ℕ, ◌<◌, List, [], ◌∷◌, ◌++◌, Option, Some, None, map, slice_set}
+use Rattle.value_core.specs.Items.{Items}
+use Rattle.c_core.specs.declared.code.Code.{Code}
+use Rattle.c_core.specs.Machine as machine
+use Rattle.c_core.specs.Machine.{MachineState}
+use Rattle.c_core.specs.Step.{Next, Goes, Ends}
+use Rattle.c_runner.specs.declared.report.Ending.{Ending}
+use Rattle.c_runner.specs.declared.state.Frame.{Frame}
+use Rattle.c_runner.specs.declared.state.State.{State}
+use Rattle.c_runner.specs.declared.words.Word.{Word}
+use Rattle.c_runner.specs.Report.{ending_of}
+use Rattle.c_runner.specs.Words.{word_of}
+
+-- what a state of the machine has beside the runner's own: the globals, the lines of input, and the output that was
+-- handed on
+pub record Rest : Type 0 where
+  pub globals : List (Option machine.Word)
+  pub items : Items
+  pub handed : List ℕ
+
+-- where a run of a code begins: no global is set, and nothing was handed on
+abbrev pub first_rest : Code → Items → Rest
+first_rest code items = record { globals = map (λ g. None) code.globals; items = items; handed = [] }
+
+-- no frame waits, no exception is pending, and no list, dict or instance was made
+abbrev pub state_of : Rest → State → MachineState
+state_of rest r = record {
+  cells = r.cells;
+  top = record { func = r.top.func; place = r.top.place; vars = map word_of r.top.vars; ledger = r.top.ledger; into = None };
+  below = [];
+  globals = rest.globals;
+  pending = None;
+  output = rest.handed ++ r.output;
+  items = rest.items;
+  turns = r.turns;
+  made = [];
+}
+
+-- a frame with its target written, if there is one
+abbrev pub with_target : Option ℕ → Word → Frame → Frame
+with_target None w f = f
+with_target (Some x) w f = record f { vars = slice_set f.vars x w }
+
+-- the machine goes on, or ends so
+abbrev pub next_of : Option Ending → MachineState → Next
+next_of None s = Goes s
+next_of (Some e) s = Ends (ending_of e) s
+
+-- what the machine does leads from the runner's old state to its new one
+abbrev pub Follows : (MachineState → Next) → Option Ending → State → State → Type 0
+Follows does ending old new = (rest : Rest) → does (state_of rest old) ≡ next_of ending (state_of rest new)
+
+-- each number of a ledger is below n
+abbrev pub AreBelow : ℕ → List ℕ → Type 0
+AreBelow n [] = Unit {0}
+AreBelow n (d ∷ ds) = (d < n) × AreBelow n ds

@@ -1,0 +1,24 @@
+//! Running a C text.
+//!
+//! What comes in are a well-formed code, a number of turns, an input and a sink; what goes out are the program's output,
+//! to the sink, and a report: how the run ended, which cells are still there with their counts, and the turns that are
+//! left. The promise: it is exactly the run of the machine (`machine_run` of c_core), cells, counts and faults included;
+//! `specs/Report.antt` says when a report is that of a run, and `specs/Ran.antt` what a call gives.
+//!
+//! The runner keeps a state of its own and makes the machine's steps one for one: `specs/States.antt` says which state of
+//! the machine it stands for, and each step leads from that of the old state to that of the new one.
+#![tactic(auto)]
+
+mod cells;
+mod ledger;
+mod output;
+mod report;
+mod runner;
+mod state;
+mod step;
+#[cfg(test)]
+mod tests;
+mod words;
+
+pub use report::{Ending, LiveCell, Report, RunError};
+pub use runner::run;

@@ -1,0 +1,68 @@
+use c_core::Fault;
+use outside_core::WriteFault;
+use thiserror::Error;
+use value_core::{ExcClass, Many, Memory as NoMemory, Text};
+
+/// What came of a run: how it ended, the cells that are still there in the order in which they were made, and how many
+/// turns are left.
+#[derive(Debug, Drop)]
+pub struct Report {
+    pub ending: Ending,
+    pub live: Many<LiveCell>,
+    pub turns_left: u64,
+}
+
+/// How a run ends.
+#[derive(Debug, Drop)]
+pub enum Ending {
+    /// The module ended by itself.
+    Done,
+    /// An exception of this class and text left the module.
+    Raised(ExcClass, Text),
+    /// No turns were left.
+    Cut,
+    /// A line of input stands too far along.
+    Over,
+    /// The code broke a rule of the machine.
+    Fault(Fault),
+}
+
+/// A cell at the end of a run: what it holds, by name, and its count.
+#[derive(Debug, Drop)]
+pub struct LiveCell {
+    pub kind: Text,
+    pub count: u128,
+}
+
+/// Why a run has no report.
+#[derive(Clone, Copy, Debug, PartialEq, Eq, Error)]
+pub enum RunError {
+    #[error("the input refused a call")]
+    InputFault,
+    #[error("the output refused a call")]
+    WriteFault,
+    #[error("there is no memory")]
+    Memory,
+}
+
+impl From<NoMemory> for RunError {
+    ghost use Rattle.std.specs.Prelude.{◌≡◌};
+    ghost use Rattle.c_runner.specs.declared.report.RunError.TheVariants as errors;
+
+    ghost from_gives = { λ _ e. e ≡ errors.Memory };
+
+    fn from(_refused: NoMemory) -> RunError {
+        RunError::Memory
+    }
+}
+
+impl From<WriteFault> for RunError {
+    ghost use Rattle.std.specs.Prelude.{◌≡◌};
+    ghost use Rattle.c_runner.specs.declared.report.RunError.TheVariants as errors;
+
+    ghost from_gives = { λ _ e. e ≡ errors.WriteFault };
+
+    fn from(_refused: WriteFault) -> RunError {
+        RunError::WriteFault
+    }
+}

@@ -1,0 +1,66 @@
+ghost use Rattle.std.specs.Prelude.{◌≡◌, ◌≤◌, Some, IsErrOf};
+ghost use Rattle.outside_core.specs.Counts.{Rose};
+ghost use Rattle.value_core.specs.Items.{Items};
+ghost use Rattle.c_core.specs.Run.{Stop, machine_run, most_steps, most_lines};
+ghost use Rattle.c_core.specs.WellFormed.{WellFormed};
+ghost use Rattle.c_runner.specs.Ran.{AreGiven, Ran, most_turns, faults_of_out};
+
+use crate::report::{Report, RunError};
+use crate::state::State;
+use c_core::{CFunc, Code, run_exists};
+use outside_core::{Sink, Source};
+use std::alloc::Global;
+
+/// Runs a well-formed code for so many turns, on the lines of the input. What the program writes goes to `out`, as soon
+/// as 65536 bytes or more are held and before the answer. Nothing is taken from the input.
+pub fn run<I: Source, O: Sink>(
+    alloc: Global,
+    code: &Code,
+    turns: u64,
+    input: &mut I,
+    out: &mut O,
+) -> Result<Report, RunError>
+    requires well_formed { WellFormed code.now }
+    requires turns { turns ≤ most_turns }
+    ensures ran { (items : Items)
+        × AreGiven I.tells (I.faults input.old) (I.faults input.new) (I.left input.old) (I.left input.new) items
+        × ((stop : Stop) × (machine_run turns items code.now ≡ Some stop)
+        × Ran code.now stop O.tells (O.taken out.old) (O.taken out.new) result) }
+    ensures input { input.new ≡ input.old }
+    ensures input_fault { IsErrOf result RunError.InputFault → Rose (I.faults input.old) (I.faults input.new) }
+    ensures out_faults { O.faults out.new ≡ faults_of_out result (O.faults out.old) }
+{
+    run_exists();
+    let mut state = State::start(alloc, code, turns)?;
+    // A well-formed code stops before these steps are taken.
+    let mut left = most_steps(code, turns);
+    'steps: loop {
+        left -= 1;
+        match state.step(alloc, code)? {
+            None => state.output.hand_on_if_full(out)?,
+            Some(ending) => {
+                state.output.hand_on(out)?;
+                return Ok(state.report(alloc, ending)?);
+            }
+        }
+    }
+}
+
+/// More steps than a run for so many turns can take.
+fn most_steps(code: &Code, turns: u64) -> u128
+    requires { turns ≤ most_turns }
+    ensures { result ≡ most_steps turns code.now }
+{
+    (turns as u128 + 2) * most_lines(code.funcs.as_slice()) as u128
+}
+
+/// The greatest number of lines of a function.
+fn most_lines(functions: &[CFunc]) -> usize
+    ensures { result ≡ most_lines functions.now }
+{
+    let mut most = 0;
+    for function in functions {
+        most = function.lines.len().max(most);
+    }
+    most
+}

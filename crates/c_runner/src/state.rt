@@ -1,0 +1,113 @@
+ghost use Rattle.std.specs.Prelude.{◌≡◌, List, map, slice_set, IfOk};
+ghost use Rattle.std.specs.Option.{option_copied};
+ghost use Rattle.value_core.specs.Items.{Items};
+ghost use Rattle.c_core.specs.declared.code.CClass.{CClass};
+ghost use Rattle.c_core.specs.Run.{error_word, first_words, start};
+ghost use Rattle.c_runner.specs.Report.{live_cells};
+ghost use Rattle.c_runner.specs.States.{first_rest, state_of, with_target};
+ghost use Rattle.c_runner.specs.Words.{word_of};
+
+use crate::cells::Cells;
+use crate::ledger::Ledger;
+use crate::output::Output;
+use crate::report::{Ending, Report};
+use crate::words::Word;
+use c_core::{CFunc, Code, Kind};
+use std::alloc::Global;
+use value_core::{Many, Memory, Name};
+
+/// The state of a run. `specs/States.antt` says which state of the machine it is.
+#[derive(Drop)]
+pub(crate) struct State {
+    pub cells: Cells,
+    pub top: Frame,
+    pub output: Output,
+    pub turns: u64,
+}
+
+/// The call that goes on: the number of its function, the place of its next line, its variables, and what it owns.
+#[derive(Drop)]
+pub(crate) struct Frame {
+    pub func: usize,
+    pub place: usize,
+    pub vars: Many<Word>,
+    pub ledger: Ledger,
+}
+
+impl Frame {
+    /// Writes a variable, if there is one of this number.
+    pub fn set(&mut self, x: usize, word: Word)
+        ensures { self.new ≡ record self.old { vars = slice_set self.old.vars x word } }
+    {
+        if x < self.vars.len() {
+            self.vars.set(x, word);
+        }
+    }
+
+    /// Writes the variable that a line has for its result, if it has one.
+    pub fn set_target(&mut self, target: Option<usize>, word: Word)
+        ensures { self.new ≡ with_target target word self.old }
+    {
+        match target {
+            None => {}
+            Some(x) => self.set(x, word),
+        }
+    }
+}
+
+impl State {
+    /// Where the run of a code for so many turns begins: in its last function.
+    pub fn start(alloc: Global, code: &Code, turns: u64) -> Result<State, Memory>
+        ensures { IfOk result (λ state. (items : Items) →
+            state_of (first_rest code.now items) state ≡ start code.now turns items) }
+    {
+        let func = code.funcs.len().saturating_sub(1);
+        let vars = first_vars(alloc, code.funcs.get(func))?;
+        let top = Frame {
+            func,
+            place: 0,
+            vars,
+            ledger: Ledger::new(alloc),
+        };
+        Ok(State {
+            cells: Cells::new(alloc),
+            top,
+            output: Output::new(alloc),
+            turns,
+        })
+    }
+
+    /// The report of a run that ends so.
+    pub fn report(&self, alloc: Global, ending: Ending) -> Result<Report, Memory>
+        ensures ending { IfOk result (λ report. report.ending ≡ ending) }
+        ensures live { IfOk result (λ report. (classes : List CClass) →
+            report.live ≡ live_cells classes self.now.cells) }
+        ensures turns { IfOk result (λ report. report.turns_left ≡ self.now.turns) }
+    {
+        Ok(Report {
+            ending,
+            live: self.cells.live(alloc)?,
+            turns_left: self.turns,
+        })
+    }
+}
+
+/// The error values with which the variables of a function begin.
+fn first_vars(alloc: Global, function: Option<&CFunc>) -> Result<Many<Word>, Memory>
+    ensures { IfOk result (λ vars. map word_of vars ≡ first_words (option_copied function.entry)) }
+{
+    match function {
+        None => Ok(Many::new(alloc)),
+        Some(function) => error_values(alloc, function.vars.as_slice()),
+    }
+}
+
+fn error_values(alloc: Global, vars: &[(Name, Kind)]) -> Result<Many<Word>, Memory>
+    ensures { IfOk result (λ words. map word_of words ≡ map (λ v. error_word v.1) vars.now) }
+{
+    let mut words = Many::new(alloc);
+    for var in vars {
+        words.push(Word::error_of(var.1))?;
+    }
+    Ok(words)
+}
