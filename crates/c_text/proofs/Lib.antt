@@ -1,2 +1,12 @@
+pub mod ArgumentLemmas
+pub mod Bytes
 pub mod Fronts
 pub mod Joined
+pub mod LineTexts
+pub mod Literals
+pub mod Numbers
+pub mod PartLemmas
+pub mod Quoting
+pub mod ReadLemmas
+pub mod StatementLemmas
+pub mod VariableLemmas

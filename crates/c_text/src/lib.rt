@@ -1,14 +1,31 @@
-//! The C text of a code.
+//! The C text of a code, written and read.
 //!
-//! What comes in is a `Code` and a sink; what goes out are the bytes of the code's one text. Where the sink refuses a
-//! call, a front of the text has gone out. The one text is `code_text` of c_core's `specs/Text.antt`; `writer.rt` goes
-//! from the whole code to its lines, `statement.rt` writes a line, and `quote.rt` a text in quotes.
+//! `write`: what comes in is a `Code` and a sink; what goes out are the bytes of the code's one text. Where the sink
+//! refuses a call, a front of the text has gone out. The one text is `code_text` of c_core's `specs/Text.antt`;
+//! `writer.rt` goes from the whole code to its lines, `statement.rt` writes a line, and `quote.rt` a text in quotes.
+//!
+//! `read`: what comes in are bytes; what goes out is the code that has them as its text, or the place of the first line
+//! that cannot stand, exactly as `specs/Reading.antt` says. There is one relation for both ways: a line is read as what
+//! it seems to be, and is that line only where writing it gives the same bytes. `reader.rt` goes from line to line,
+//! `part.rt` says which line may follow, `declaration.rt`, `line.rt` and `argument.rt` read the parts of a line,
+//! `unquote.rt` a text in quotes, `variable.rt` and `word.rt` their words.
 #![tactic(auto)]
 
+mod argument;
+mod declaration;
+mod line;
+mod part;
 mod quote;
+mod reader;
 mod statement;
+mod text_error;
+mod unquote;
+mod variable;
+mod word;
 mod writer;
 
+pub use reader::read;
+pub use text_error::TextError;
 pub use writer::write;
 
 #[cfg(test)]

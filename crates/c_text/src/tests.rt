@@ -1,4 +1,4 @@
-use crate::write;
+use crate::{TextError, read, write};
 use c_core::{CArg, CFunc, CLit, Code, Kind, Line};
 use outside_core::{MemSink, WriteFault};
 use std::alloc::Global;
@@ -128,5 +128,82 @@ fn calls_of_a_sink_refuse_in_turn(rt: HostRuntime) -> Result<(), Fail> {
         assert!(rt; failing == 0 || sink.bytes().len() > before);
         before = sink.bytes().len();
     }
+    Ok(())
+}
+
+/// Texts that are read: what was read is written as the same text.
+#[test]
+fn what_is_read_is_written(rt: HostRuntime) -> Result<(), Fail> {
+    let alloc = rt.alloc();
+    for text in [
+        THREE,
+        "/* mypyc subset 1 */\nchar CPyModule(void) {\n    CPyTagged cpy_\u{e4};\n    int64_t cpy_n;\n    cpy_n = CPyA(cpy_n, -9223372036854775808, \"a, \\\")\\\\\\n\\011\\037\\177\u{e4}\", CPyStatic_g, CPyType_C);\n    CPyB();\n    CPy1(\"\");\n    cpy_n = 9223372036854775807;\n    cpy_\u{e4} = Py_None;\n    CPyTagged_DECREF(cpy_\u{e4});\n}\n".as_bytes(),
+        b"/* mypyc subset 1 */\nchar CPyModule(void) {\n    char cpy_x;\n    PyObject *cpy_x;\n    CPy_DECREF(cpy_x);\n    cpy_x = NULL;\n}\n",
+        b"/* mypyc subset 1 */\nchar CPyModule(void) {\n}\n",
+    ] {
+        let code = read(alloc, text)?;
+        let mut sink = MemSink::new(alloc, Vec::new(alloc));
+        assert_eq!(rt; write(&code, &mut sink), Ok(()));
+        assert_eq!(rt; sink.bytes(), text);
+    }
+    Ok(())
+}
+
+/// What stands in a function that declares `cpy_n` as an `int64_t`, and the place where the text is refused.
+#[test]
+fn texts_that_are_refused(rt: HostRuntime) -> Result<(), Fail> {
+    let alloc = rt.alloc();
+    let front = "/* mypyc subset 1 */\nchar CPyModule(void) {\n    int64_t cpy_n;\n";
+    for (behind, place) in [
+        ("", 63),
+        ("    cpy_n = 01;\n}\n", 63),
+        ("    cpy_n = -0;\n}\n", 63),
+        ("    cpy_n = +1;\n}\n", 63),
+        ("    cpy_n = 9223372036854775808;\n}\n", 63),
+        ("    cpy_n = 1 ;\n}\n", 63),
+        ("    cpy_n = 1; \n}\n", 63),
+        ("    return cpy_m;\n}\n", 63),
+        ("    CPy_DECREF(cpy_n);\n}\n", 63),
+        ("    char cpy_c;\n    CPy_DECREF(cpy_c);\n}\n", 79),
+        ("    CPyA(\"\\t\");\n}\n", 63),
+        ("    CPyA(\"\\12\");\n}\n", 63),
+        ("    CPyA(\"\\012\");\n}\n", 63),
+        ("    CPyA(\"\\101\");\n}\n", 63),
+        ("    CPyA(\"\\400\");\n}\n", 63),
+        ("    CPyA(\");\n}\n", 63),
+        ("    CPyA(1,2);\n}\n", 63),
+        ("    CPyA(1, );\n}\n", 63),
+        ("    CPyTurn();\n}\n", 63),
+        ("    CPyA();\n    char cpy_c;\n}\n", 75),
+        ("    CPyA();\n", 75),
+        ("}\n}\n", 65),
+        ("}\n}", 66),
+    ] {
+        let mut text = String::from_str(alloc, front)?;
+        text.push_str(behind)?;
+        assert_eq!(rt;
+            read(alloc, text.as_str().as_bytes()).err(),
+            Some(TextError::Refused(place)),
+            "{behind:?}"
+        );
+    }
+    Ok(())
+}
+
+/// A text that is cut off is refused at its end: its last line is not looked at. A space at a line's end is refused
+/// where the line begins.
+#[test]
+fn texts_that_are_cut_off(rt: HostRuntime) -> Result<(), Fail> {
+    for cut in 0..THREE.len() {
+        assert_eq!(rt;
+            read(rt.alloc(), &THREE[..cut]).err(),
+            Some(TextError::Refused(cut))
+        );
+    }
+    let spaced = b"/* mypyc subset 1 */\nchar CPyModule(void) { \n}\n";
+    assert_eq!(rt;
+        read(rt.alloc(), spaced).err(),
+        Some(TextError::Refused(21))
+    );
     Ok(())
 }

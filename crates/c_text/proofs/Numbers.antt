@@ -1,0 +1,90 @@
+-- The numbers of a C text: their digits, and that reading them gives them back.
+use Rattle.std.proofs.Common.{◌≡◌, ◌≢◌, ◌∙◌, ℕ, ℤ, pos, negsuc, ◌^◌, ◌<◌, ◌≤◌, true, List, [], ◌∷◌, ◌++◌, length, get_or, Result, Ok, Err, Some, IsTrue, refl, sym, ap, arith, suc, w64}
+use Rattle.std.specs.Prelude.{nat_lt, FitsSigned}
+use Rattle.std.specs.Fmt.{decimal, signed_decimal}
+use Rattle.std.specs.Str.{IsUtf8}
+use Rattle.std.specs.Int.{IsInRange}
+use Rattle.std.specs.Str.Parse.{AllDigits, ParsesSigned, digits_value}
+use Rattle.std.proofs.lemmas.Str.{IsUtf8-from_ascii}
+use Rattle.std.proofs.lemmas.Str.Parse.{IsNumeralModel, numerals_by_value, tells_digits, digit_at, not_in_digits}
+use Rattle.std.proofs.lemmas.Fmt.{decimal_is_IsNumeral, parse-signed_decimal, IsAscii-signed}
+use Rattle.std.proofs.lemmas.Bool.Decides.{nat_tests}
+use Rattle.std.specs.Int.Signed.{mag}
+use Rattle.std.proofs.lemmas.Int.{ints, to_z-of_z}
+use mir.Val.{to_z, of_z}
+use Rattle.value_core.specs.Arithmetic.{lies_within}
+use Rattle.c_text.specs.Words.{HasNo}
+use Rattle.c_text.proofs.Bytes.{HasNo-by_place, HasNo-cons}
+
+below : (n k : ℕ) → nat_lt n k ≡ true → n < k
+below n k h = grind (arith, nat_tests)
+
+own : IsNumeralModel (AllDigits 10) (digits_value 10)
+own = numerals_by_value (AllDigits 10) tells_digits
+
+-- a number begins with a digit or a minus sign
+pub number_begins : (n : ℤ) → IsTrue (lies_within 63 n) → (0 < length (signed_decimal n)) × (45 ≤ get_or (signed_decimal n) 0 0) × (get_or (signed_decimal n) 0 0 ≤ 57)
+number_begins (pos n) h =
+    let small : n < 2 ^ 63 = below n (2 ^ 63) h in
+    let d = decimal_is_IsNumeral n (omega arith) in
+    let first = digit_at (decimal n) 0 d.0.1 d.0.0 in
+    (d.0.0, omega arith, first.1)
+number_begins (negsuc n) h = (omega arith, omega arith, omega arith)
+
+decimal_has_no : (stop n : ℕ) → n < 2 ^ 64 → ¬ (IsInRange 48 57 stop) → HasNo stop (decimal n)
+decimal_has_no stop n small out =
+    HasNo-by_place stop (decimal n) (λ i l. not_in_digits own (decimal n) stop (decimal_is_IsNumeral n small).0.1 out i l)
+
+-- a byte that is no digit and no minus sign does not stand in a number
+pub HasNo-number : (stop : ℕ) (n : ℤ) → IsTrue (lies_within 63 n) → ¬ (IsInRange 48 57 stop) → 45 ≢ stop → HasNo stop (signed_decimal n)
+HasNo-number stop (pos n) h out minus =
+    let small : n < 2 ^ 63 = below n (2 ^ 63) h in
+    decimal_has_no stop n (omega arith) out
+HasNo-number stop (negsuc n) h out minus =
+    let small : n < 2 ^ 63 = below n (2 ^ 63) h in
+    HasNo-cons stop 45 (decimal (suc n)) minus (decimal_has_no stop (suc n) (omega arith) out)
+
+pub size_of : (n : ℤ) → IsTrue (lies_within 63 n) → mag n < 2 ^ 63
+size_of (pos n) h = below n (2 ^ 63) h
+size_of (negsuc n) h = below n (2 ^ 63) h
+
+fits_of : (n : ℤ) → IsTrue (lies_within 63 n) → FitsSigned w64 n
+fits_of n h = omega (arith, ints, size_of n h)
+
+pub IsUtf8-number : (n : ℤ) → IsTrue (lies_within 63 n) → IsUtf8 (signed_decimal n)
+IsUtf8-number n h = IsUtf8-from_ascii (signed_decimal n) (IsAscii-signed n (size_of n h))
+
+-- parsing the text of a number gives it
+pub parses_number : {E : Type 0} (n : ℤ) (bs : List ℕ) (r : Result ℤ E) → IsTrue (lies_within 63 n) → signed_decimal n ≡ bs → ParsesSigned w64 10 bs r → r ≡ Ok n
+parses_number n bs r h e p = parse-signed_decimal w64 n bs r (fits_of n h) (size_of n h) (sym e) p
+
+pub number_parsed : {E : Type 0} (n read : ℤ) (bs : List ℕ) (r : Result ℤ E) → IsTrue (lies_within 63 n) → signed_decimal n ≡ bs → ParsesSigned w64 10 bs r → r ≡ Ok read → Some (to_z w64 (of_z w64 read)) ≡ Some n
+number_parsed n read bs r h e p q =
+    let same : read ≡ n = let o : Ok read ≡ Ok n = sym q ∙ parses_number n bs r h e p in cc in
+    ap Some (ap (λ z. to_z w64 (of_z w64 z)) same ∙ to_z-of_z w64 n (fits_of n h))
+
+pub number_not_parsed : {E : Type 0} (n : ℤ) (fault : E) (bs : List ℕ) (r : Result ℤ E) → IsTrue (lies_within 63 n) → signed_decimal n ≡ bs → ParsesSigned w64 10 bs r → r ≡ Err fault → ⊥
+number_not_parsed n fault bs r h e p q = let o : Err fault ≡ Ok n = sym q ∙ parses_number n bs r h e p in cc
+
+-- no number begins with a letter
+pub not_number : (n : ℤ) (b : ℕ) (rest : List ℕ) → IsTrue (lies_within 63 n) → 57 < b → signed_decimal n ≢ b ∷ rest
+not_number n b rest h big e = let first = number_begins n h in omega (arith, first.2, ap (λ t. get_or t 0 0) e)
+
+first_of_front : (xs rest : List ℕ) → 0 < length xs → get_or (xs ++ rest) 0 0 ≡ get_or xs 0 0
+first_of_front [] rest h = absurd (omega arith)
+first_of_front (x ∷ xs) rest h = refl
+
+-- nothing that begins with a number begins with another byte
+pub not_number_front : (n : ℤ) (b : ℕ) (behind rest : List ℕ) → IsTrue (lies_within 63 n) → ¬ (IsInRange 45 57 b) → signed_decimal n ++ behind ≢ b ∷ rest
+not_number_front n b behind rest h out e =
+    let first = number_begins n h in
+    let same : get_or (signed_decimal n) 0 0 ≡ b = sym (first_of_front (signed_decimal n) behind first.0) ∙ ap (λ t. get_or t 0 0) e in
+    out (omega (arith, first.1), omega (arith, first.2))
+
+pub number_is_some : (n : ℤ) → IsTrue (lies_within 63 n) → signed_decimal n ≢ []
+number_is_some n h e = let first = number_begins n h in omega (arith, first.0, ap length e)
+
+pub number_again : (n read : ℤ) → IsTrue (lies_within 63 n) → Some read ≡ Some n → n ≡ to_z w64 (of_z w64 read)
+number_again n read h e =
+    let same : read ≡ n = cc in
+    sym (ap (λ z. to_z w64 (of_z w64 z)) same ∙ to_z-of_z w64 n (fits_of n h))

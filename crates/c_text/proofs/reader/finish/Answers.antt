@@ -1,0 +1,24 @@
+use Rattle.std.proofs.Common.{ℕ, ◌++◌, sym, subst}
+use Rattle.c_text.specs.declared.text_error.TextError.TheVariants.{Refused}
+use Rattle.c_text.specs.Parts.{part_lines}
+use Rattle.c_text.specs.Reading.{SaysRefused}
+use Rattle.c_text.specs.Whole.{whole_text}
+use Rattle.c_text.proofs.ArgumentLemmas.{empty_is, more_is}
+use Rattle.c_text.proofs.ReadLemmas.{finish_reading, refused_rest, refused_open, open_is}
+use Rattle.c_text.proofs.reader.finish.Goals as goal
+
+pub returns-then-is_empty-clause-reading : goal.returns-then-is_empty-clause-reading
+returns-then-is_empty-clause-reading c =
+    finish_reading c.args.part c.in-Closed.vars c.in-Closed.lines c.args.rest.now c.module_code.result c.requires.fine c.in-Closed.is (empty_is c.args.rest.now c.if-is_empty.ensures) c.module_code.ensures.code
+
+pub returns-in-Closed-clause-refused : goal.returns-in-Closed-clause-refused
+returns-in-Closed-clause-refused c =
+    subst (λ (n : ℕ). SaysRefused (whole_text (part_lines c.args.part) ++ c.args.rest.now) (Refused n)) (sym c.requires.whole)
+    (refused_rest c.args.part c.args.rest.now c.requires.fine c.requires.plain (more_is c.args.rest.now c.if-is_empty.ensures))
+
+pub returns : goal.returns
+returns c = record {
+  reading = tt;
+  refused = subst (λ (n : ℕ). SaysRefused (whole_text (part_lines c.args.part) ++ c.args.rest.now) (Refused n)) (sym c.requires.whole)
+      (refused_open c.args.part c.args.rest.now c.requires.fine c.requires.plain (open_is c.args.part c.in_default.not-Closed));
+}

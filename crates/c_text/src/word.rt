@@ -1,0 +1,128 @@
+//! Words of a line: what stands before or behind known bytes, names and numbers.
+ghost use Rattle.std.specs.Prelude.{◌≡◌, ◌≢◌, ◌++◌, ◌∷◌, ◌<◌, ◌≤◌, ◌==◌, ◌↔◌, ℤ, ℕ, List, length, Some, false, IsTrue, IfOk, IfSome, MatchOption};
+ghost use Rattle.std.specs.Fmt.{signed_decimal};
+ghost use Rattle.std.specs.List.{position_from};
+ghost use Rattle.value_core.specs.Arithmetic.{lies_within};
+ghost use Rattle.c_core.specs.declared.code.CLit.{CLit};
+ghost use Rattle.c_core.specs.Text.{literal_text};
+ghost use Rattle.c_core.specs.WellFormed.{is_identifier, spelled_literal};
+ghost use Rattle.c_text.specs.Words.{HasNo, FindsParts, EndsArgument};
+
+use c_core::{CLit, is_identifier};
+use std::alloc::Global;
+use std::str;
+use value_core::{Memory, Name};
+
+/// What stands behind a prefix.
+pub(crate) fn behind<'a>(bytes: &'a [u8], prefix: &[u8]) -> Option<&'a [u8]>
+    ensures { MatchOption result ((rest : List ℕ) → bytes.now ≢ prefix.now ++ rest) (λ rest. bytes.now ≡ prefix.now ++ rest.now) }
+{
+    bytes.strip_prefix(prefix)
+}
+
+/// What stands before a suffix.
+pub(crate) fn before<'a>(bytes: &'a [u8], suffix: &[u8]) -> Option<&'a [u8]>
+    ensures { MatchOption result ((front : List ℕ) → bytes.now ≢ front ++ suffix.now) (λ front. bytes.now ≡ front.now ++ suffix.now) }
+{
+    bytes.strip_suffix(suffix)
+}
+
+/// The first place of a byte.
+pub(crate) fn place_of(bytes: &[u8], stop: u8) -> Option<usize>
+    ensures value { result ≡ position_from (λ b. b == stop) 0 bytes.now }
+    ensures within { IfSome result (λ place. place < length bytes.now) }
+{
+    bytes.iter().position(|byte| *byte == stop)
+}
+
+/// What stands before the first byte of this value, and what behind it.
+pub(crate) fn cut(bytes: &[u8], stop: u8) -> Option<(&[u8], &[u8])>
+    ensures { (front back : List ℕ) → HasNo stop front → front ++ stop ∷ back ≡ bytes.now →
+        FindsParts result front back }
+{
+    match place_of(bytes, stop) {
+        Some(place) => Some((&bytes[..place], &bytes[place + 1..])),
+        None => None,
+    }
+}
+
+/// What stands before the first comma, and the rest from there on.
+pub(crate) fn up_to_comma(bytes: &[u8]) -> (&[u8], &[u8])
+    ensures finds { (front rest : List ℕ) → HasNo 44 front → EndsArgument rest → front ++ rest ≡ bytes.now →
+        (result.0.now ≡ front) × (result.1.now ≡ rest) }
+    ensures within { length result.1.now ≤ length bytes.now }
+{
+    match place_of(bytes, b',') {
+        Some(place) => bytes.split_at(place),
+        None => (bytes, &[]),
+    }
+}
+
+/// The bytes as an identifier.
+pub(crate) fn identifier(bytes: &[u8]) -> Option<&str>
+    ensures { MatchOption result (is_identifier bytes.now ≡ false) (λ text. (text.now ≡ bytes.now) × IsTrue (is_identifier bytes.now)) }
+{
+    let Ok(text) = str::from_utf8(bytes) else {
+        return None;
+    };
+    if is_identifier(text) {
+        Some(text)
+    } else {
+        None
+    }
+}
+
+/// The bytes as a name, where they are an identifier.
+pub(crate) fn name(alloc: Global, bytes: &[u8]) -> Result<Option<Name>, Memory>
+    ensures { IfOk result (λ found. MatchOption found (is_identifier bytes.now ≡ false) (λ name. (name ≡ bytes.now) × IsTrue (is_identifier bytes.now))) }
+{
+    match identifier(bytes) {
+        Some(text) => {
+            let name = Name::from_str(alloc, text)?;
+            Ok(Some(name))
+        }
+        None => Ok(None),
+    }
+}
+
+/// The number that the bytes write.
+pub(crate) fn number(bytes: &[u8]) -> Option<i64>
+    ensures finds { (n : ℤ) → IsTrue (lies_within 63 n) → signed_decimal n ≡ bytes.now → result ≡ Some n }
+    ensures within { IfSome result (λ n. IsTrue (lies_within 63 n)) }
+{
+    let Ok(text) = str::from_utf8(bytes) else {
+        return None;
+    };
+    match text.parse::<i64>() {
+        Ok(number) => Some(number),
+        Err(_) => None,
+    }
+}
+
+/// Whether the bytes are this word.
+pub(crate) fn is(bytes: &[u8], word: &[u8]) -> bool
+    ensures { IsTrue result ↔ (bytes.now ≡ word.now) }
+{
+    bytes == word
+}
+
+/// The literal that the bytes write.
+pub(crate) fn literal(bytes: &[u8]) -> Option<CLit>
+    ensures finds { (l : CLit) → IsTrue (spelled_literal l) → literal_text l ≡ bytes.now → result ≡ Some l }
+    ensures spelled { IfSome result (λ l. IsTrue (spelled_literal l)) }
+{
+    if is(bytes, b"NULL") {
+        Some(CLit::Null)
+    } else if is(bytes, b"Py_None") {
+        Some(CLit::PyNone)
+    } else if is(bytes, b"Py_True") {
+        Some(CLit::PyTrue)
+    } else if is(bytes, b"Py_False") {
+        Some(CLit::PyFalse)
+    } else {
+        match number(bytes) {
+            Some(number) => Some(CLit::Number(number)),
+            None => None,
+        }
+    }
+}
