@@ -1,0 +1,9 @@
+pub mod Classes
+pub mod Grammar
+pub mod Levels
+pub mod Actions
+pub mod Derivation
+pub mod Faults
+pub mod Reader
+pub mod Readings
+pub mod Laws
