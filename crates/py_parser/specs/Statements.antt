@@ -1,0 +1,131 @@
+-- Statements and their parts, as they were read, and the words by which the readers of rows of them speak.
+use Rattle.std.specs.Prelude.{ℕ, List, [], ◌∷◌, Option, Some, None, Ok, map, if◌then◌else◌}
+use Rattle.py_syntax.specs.declared.expression.BinOp.{BinOp}
+use Rattle.py_syntax.specs.declared.expression.Expr.{Expr}
+use Rattle.py_syntax.specs.declared.statement.Func.{Func}
+use Rattle.py_syntax.specs.declared.statement.Class.{Class}
+use Rattle.py_syntax.specs.declared.statement.Handler.{Handler}
+use Rattle.py_syntax.specs.declared.statement.Stmt.{Stmt}
+use Rattle.py_syntax.specs.declared.sign.Sign.{Sign}
+use Rattle.py_syntax.specs.declared.sign.Sign.TheVariants as s
+use Rattle.py_syntax.specs.declared.key.Key.{Key}
+use Rattle.py_syntax.specs.declared.key.Key.TheVariants as k
+use Rattle.py_syntax.specs.declared.token.Span.{Span}
+use Rattle.py_syntax.specs.declared.token.Token.{Token}
+use Rattle.py_syntax.specs.Expressions.{ExprTree, expr_tree}
+use Rattle.py_syntax.specs.Statements as st
+use Rattle.py_syntax.specs.Statements.{StmtTree, StmtNode, Block, HandlerTree, FuncTree, ClassTree, stmt_tree, handler_tree, func_tree, class_tree, param_tree, arm_tree, maybe_expr}
+use Rattle.py_grammar.specs.declared.class.Class.TheVariants as class
+use Rattle.py_grammar.specs.declared.place.Place.{Place}
+use Rattle.py_grammar.specs.Levels.{Piece}
+use Rattle.py_grammar.specs.Grammar as g
+use Rattle.py_grammar.specs.Grammar.{comma, tok, sign, key, ◌·◌, TEST, SMALL, ALIAS, ARM}
+use Rattle.py_grammar.specs.Actions.{name_of}
+use Rattle.py_grammar.specs.Reader.{Outcome, ◌>>=◌, accept, sees, tests}
+use Rattle.py_grammar.specs.Readings.{reads_expr, reads_sym, reads_after, after_into, single}
+
+-- what was read, and the place behind it
+abbrev pub stmt_seen : Stmt × Place → StmtTree × Place
+stmt_seen x = (stmt_tree x.0, x.1)
+
+abbrev pub stmts_seen : List Stmt × Place → List StmtTree × Place
+stmts_seen x = (map stmt_tree x.0, x.1)
+
+abbrev pub maybe_seen : Option Expr × Place → Option ExprTree × Place
+maybe_seen x = (maybe_expr x.0, x.1)
+
+abbrev pub caught_seen : (Option Expr × Option (List ℕ)) × Place → (Option ExprTree × Option (List ℕ)) × Place
+caught_seen x = ((maybe_expr x.0.0, x.0.1), x.1)
+
+abbrev pub arm_seen : (Expr × List Stmt) × Place → (ExprTree × Block) × Place
+arm_seen x = (arm_tree x.0, x.1)
+
+abbrev pub handler_seen : Handler × Place → HandlerTree × Place
+handler_seen x = (handler_tree x.0, x.1)
+
+abbrev pub handlers_seen : List Handler × Place → List HandlerTree × Place
+handlers_seen x = (map handler_tree x.0, x.1)
+
+abbrev pub arms_seen : List (Expr × List Stmt) × Place → List (ExprTree × Block) × Place
+arms_seen x = (map arm_tree x.0, x.1)
+
+abbrev pub exprs_listed : List Expr × Place → List ExprTree × Place
+exprs_listed x = (map expr_tree x.0, x.1)
+
+abbrev pub param_seen : (List ℕ × Option Expr) × Place → (List ℕ × Option ExprTree) × Place
+param_seen x = (param_tree x.0, x.1)
+
+abbrev pub params_seen : List (List ℕ × Option Expr) × Place → List (List ℕ × Option ExprTree) × Place
+params_seen x = (map param_tree x.0, x.1)
+
+abbrev pub func_seen : (Func × Span) × Place → (FuncTree × Span) × Place
+func_seen x = ((func_tree x.0.0, x.0.1), x.1)
+
+abbrev pub class_seen : (Class × Span) × Place → (ClassTree × Span) × Place
+class_seen x = ((class_tree x.0.0, x.0.1), x.1)
+
+abbrev pub mark_seen : (Expr × Span) × Place → (ExprTree × Span) × Place
+mark_seen x = ((expr_tree x.0.0, x.0.1), x.1)
+
+-- a statement of one keyword
+abbrev pub lone_node : Key → StmtNode
+lone_node k.Pass = st.Pass
+lone_node k.Break = st.Break
+lone_node _ = st.Continue
+
+abbrev pub reads_lone : List Token → Key → Place → Outcome StmtTree
+reads_lone ts word p = accept ts (class.Key word) p >>= λ x. Ok (st.at (lone_node word) x.0.span, x.1)
+
+-- an expression behind a sign, if the sign comes next
+unfoldable pub reads_maybe : List Token → Sign → Place → Outcome (Option ExprTree)
+reads_maybe ts text p =
+    if sees ts p (class.Sign text ∷ [])
+    then (accept ts (class.Sign text) p >>= λ a. reads_expr ts TEST a.1 >>= λ t. Ok (Some t.0.tree, t.1))
+    else Ok (None, p)
+
+-- the name behind `as`, if `as` comes next
+unfoldable pub reads_as : List Token → Place → Outcome (Option (List ℕ))
+reads_as ts p =
+    if sees ts p (class.Key k.As ∷ [])
+    then (accept ts (class.Key k.As) p >>= λ a. accept ts class.Name a.1 >>= λ n. Ok (Some (name_of n.0), n.1))
+    else Ok (None, p)
+
+-- what a handler catches, and its name
+unfoldable pub reads_caught : List Token → Place → Outcome (Option ExprTree × Option (List ℕ))
+reads_caught ts p =
+    if sees ts p tests
+    then (reads_expr ts TEST p >>= λ y. reads_as ts y.1 >>= λ n. Ok ((Some y.0.tree, n.0), n.1))
+    else Ok ((None, None), p)
+
+-- more statements of a line, behind those in front
+unfoldable pub reads_line : List Token → List StmtTree → Place → Outcome (List StmtTree)
+reads_line ts found p = after_into single found (reads_after ts (class.Sign s.Semicolon) (g.sym SMALL) p) >>= λ y. Ok (y.0.0, y.1)
+
+-- one statement of a line, where it is none of the shortest ones
+unfoldable pub reads_worded : List Token → Place → Outcome StmtTree
+reads_worded ts p =
+    if sees ts p (class.Key k.Global ∷ []) then reads_sym ts g.GLOBAL p
+    else (if sees ts p (class.Key k.Assert ∷ []) then reads_sym ts g.ASSERT p
+    else (if sees ts p (class.Key k.Del ∷ []) then reads_sym ts g.DEL p
+    else (if sees ts p (class.Key k.Import ∷ []) then reads_sym ts g.IMPORT p
+    else (if sees ts p (class.Key k.From ∷ []) then reads_sym ts g.FROM p else reads_sym ts g.PLAIN p))))
+
+-- an annotation behind a target, and what is assigned to it, if anything is
+unfoldable pub reads_annotated : List Token → Piece → Place → Outcome StmtTree
+reads_annotated ts x p =
+    accept ts (class.Sign s.Colon) p >>= λ c. reads_expr ts TEST c.1 >>= λ m.
+    if sees ts m.1 (class.Sign s.Assign ∷ [])
+    then (accept ts (class.Sign s.Assign) m.1 >>= λ a. reads_expr ts g.TESTS a.1 >>= λ v. Ok (st.at (st.Annot x.tree m.0.tree (Some v.0.tree)) x.begins, v.1))
+    else Ok (st.at (st.Annot x.tree m.0.tree None) x.begins, m.1)
+
+-- what is assigned to a target, or its annotation
+unfoldable pub reads_assigned : List Token → Piece → Place → Outcome StmtTree
+reads_assigned ts x p =
+    if sees ts p (class.Sign s.Colon ∷ []) then reads_annotated ts x p
+    else (if sees ts p (class.Sign s.Assign ∷ [])
+    then (accept ts (class.Sign s.Assign) p >>= λ a. reads_expr ts g.TESTS a.1 >>= λ v. Ok (st.at (st.Assign x.tree v.0.tree) x.begins, v.1))
+    else (reads_sym ts g.AUG p >>= λ o. reads_expr ts g.TESTS o.1 >>= λ v. Ok (st.at (st.Aug x.tree o.0 v.0.tree) x.begins, v.1)))
+
+-- the operator of an augmented assignment, by its sign
+abbrev pub reads_augmenting : List Token → Sign → BinOp → Place → Outcome BinOp
+reads_augmenting ts text op p = accept ts (class.Sign text) p >>= λ x. Ok (op, x.1)

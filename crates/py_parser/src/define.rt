@@ -1,0 +1,292 @@
+//! Functions and classes.
+ghost use Rattle.std.specs.Prelude.{◌≡◌, [], ◌∷◌, map, Ok, IfOk};
+ghost use Rattle.py_syntax.specs.Statements.{stmt_tree, func_tree, class_tree};
+ghost use Rattle.py_syntax.specs.Expressions.{expr_tree};
+ghost use Rattle.py_grammar.specs.Actions.{def_at, class_at};
+ghost use Rattle.py_grammar.specs.Grammar.{FUNC, PARAM, CLASS, CBLOCK, MEMBER, MARK, DECORATED};
+ghost use Rattle.py_grammar.specs.Readings.{reads_sym};
+ghost use Rattle.py_parser.specs.Definitions.{reads_bases, reads_members, reads_marks};
+ghost use Rattle.py_parser.specs.Gives.{Gives};
+ghost use Rattle.py_parser.specs.Parsed.{MovesTo, MovesUpTo};
+ghost use Rattle.py_parser.specs.Rows.{reads_row};
+ghost use Rattle.py_parser.specs.Statements.{stmt_seen, stmts_seen, maybe_seen, exprs_listed, param_seen, params_seen, func_seen, class_seen, mark_seen, reads_maybe};
+
+use crate::append::append;
+use crate::block::{block, stmt};
+use crate::expression::{items, test};
+use crate::fault::ParseError;
+use crate::place::{accept, accept_key, accept_sign, sees, sees_key, sees_sign};
+use crate::row::no_row;
+use crate::simple::{simple, statement};
+use crate::starts::begins_member;
+use crate::word::name_of;
+use py_grammar::{Class as Kind, Place};
+use py_syntax::{Class, Expr, Func, Key, Sign, Span, Stmt, StmtKind, Token};
+use std::alloc::Global;
+use value_core::{Many, Name};
+
+/// A function or a class behind its decorators.
+#[tactic(auto, using(crate::proofs::DefinitionReading::decorateds))]
+pub(crate) fn decorated(
+    alloc: Global,
+    tokens: &[Token],
+    place: Place,
+) -> Result<(Stmt, Place), ParseError>
+    ensures read { Gives stmt_seen result (reads_sym tokens.now DECORATED place) }
+    ensures moves { IfOk result (λ x. MovesTo tokens.now place x.1) }
+{
+    let ((first, begin), place) = mark(alloc, tokens, place)?;
+    let (marks, place) = marks(alloc, tokens, first, place)?;
+    if sees_key(tokens, place, Key::Def) {
+        let ((found, _), place) = func(alloc, tokens, place)?;
+        return Ok((defined(found, marks, begin), place));
+    }
+    let ((found, _), place) = class(alloc, tokens, place)?;
+    Ok((class_defined(found, marks, begin), place))
+}
+
+/// A function as a statement, with its decorators.
+pub(crate) fn defined(found: Func, marks: Many<Expr>, begin: Span) -> Stmt
+    ensures { stmt_tree result ≡ def_at (func_tree found) (map expr_tree marks) begin }
+{
+    let marked = Func {
+        name: found.name,
+        params: found.params,
+        ret: found.ret,
+        body: found.body,
+        marks,
+    };
+    statement(StmtKind::Def(marked), begin)
+}
+
+/// A class as a statement, with its decorators.
+pub(crate) fn class_defined(found: Class, marks: Many<Expr>, begin: Span) -> Stmt
+    ensures { stmt_tree result ≡ class_at (class_tree found) (map expr_tree marks) begin }
+{
+    let marked = Class {
+        name: found.name,
+        bases: found.bases,
+        body: found.body,
+        marks,
+    };
+    statement(StmtKind::Class(marked), begin)
+}
+
+// A decorator, with the place of its sign.
+#[tactic(auto, using(crate::proofs::DefinitionReading::marks))]
+fn mark(alloc: Global, tokens: &[Token], place: Place) -> Result<((Expr, Span), Place), ParseError>
+    ensures read { Gives mark_seen result (reads_sym tokens.now MARK place) }
+    ensures moves { IfOk result (λ x. MovesTo tokens.now place x.1) }
+{
+    let (token, place) = accept_sign(tokens, place, Sign::At)?;
+    let found = test(alloc, tokens, place)?;
+    let (_, place) = accept(tokens, found.place, Kind::Newline)?;
+    Ok(((found.expr, token.span), place))
+}
+
+// The decorators: the first one, and those behind it.
+#[tactic(auto, using(crate::proofs::DefinitionReading::mark_rows))]
+fn marks(
+    alloc: Global,
+    tokens: &[Token],
+    first: Expr,
+    place: Place,
+) -> Result<(Many<Expr>, Place), ParseError>
+    ensures read { Gives exprs_listed result (reads_marks tokens.now (expr_tree first ∷ []) place) }
+    ensures moves { IfOk result (λ x. MovesUpTo tokens.now place x.1) }
+{
+    let mut place = place;
+    let mut found = Many::new(alloc);
+    found.push(first)?;
+    'marks: while sees_sign(tokens, place, Sign::At) {
+        let ((more, _), behind) = mark(alloc, tokens, place)?;
+        found.push(more)?;
+        place = behind;
+    }
+    Ok((found, place))
+}
+
+/// A function without decorators, with the place of its keyword.
+#[tactic(auto, using(crate::proofs::DefinitionReading::funcs))]
+pub(crate) fn func(
+    alloc: Global,
+    tokens: &[Token],
+    place: Place,
+) -> Result<((Func, Span), Place), ParseError>
+    ensures read { Gives func_seen result (reads_sym tokens.now FUNC place) }
+    ensures moves { IfOk result (λ x. MovesTo tokens.now place x.1) }
+{
+    let (token, place) = accept_key(tokens, place, Key::Def)?;
+    let (named, place) = accept(tokens, place, Kind::Name)?;
+    let name = name_of(alloc, named)?;
+    let (_, place) = accept_sign(tokens, place, Sign::LeftParen)?;
+    let (params, place) = params(alloc, tokens, place)?;
+    let (_, place) = accept_sign(tokens, place, Sign::RightParen)?;
+    let (ret, place) = maybe_behind(alloc, tokens, place, Sign::Arrow)?;
+    let (_, place) = accept_sign(tokens, place, Sign::Colon)?;
+    let (body, place) = block(alloc, tokens, place)?;
+    let found = Func {
+        name,
+        params,
+        ret,
+        body,
+        marks: Many::new(alloc),
+    };
+    Ok(((found, token.span), place))
+}
+
+// An expression behind a sign, if the sign comes next.
+#[tactic(auto, unfolding(crate::specs::Statements::reads_maybe))]
+fn maybe_behind(
+    alloc: Global,
+    tokens: &[Token],
+    place: Place,
+    sign: Sign,
+) -> Result<(Option<Expr>, Place), ParseError>
+    ensures read { Gives maybe_seen result (reads_maybe tokens.now sign place) }
+    ensures moves { IfOk result (λ x. MovesUpTo tokens.now place x.1) }
+{
+    if !sees_sign(tokens, place, sign) {
+        return Ok((None, place));
+    }
+    let (_, place) = accept_sign(tokens, place, sign)?;
+    let found = test(alloc, tokens, place)?;
+    Ok((Some(found.expr), found.place))
+}
+
+// Parameters between commas, or none, and a last comma.
+#[tactic(auto, using(crate::proofs::RowReading::part_rows))]
+fn params(
+    alloc: Global,
+    tokens: &[Token],
+    place: Place,
+) -> Result<(Many<(Name, Option<Expr>)>, Place), ParseError>
+    ensures read { Gives params_seen result (reads_row tokens.now PARAM place) }
+    ensures moves { IfOk result (λ x. MovesUpTo tokens.now place x.1) }
+{
+    let mut found = Many::new(alloc);
+    let mut next = place;
+    'params: while sees(tokens, next, Kind::Name) {
+        let (more, behind) = param(alloc, tokens, next)?;
+        found.push(more)?;
+        if !sees_sign(tokens, behind, Sign::Comma) {
+            return Ok((found, behind));
+        }
+        let (_, after) = accept_sign(tokens, behind, Sign::Comma)?;
+        next = after;
+    }
+    Ok((found, next))
+}
+
+// A parameter, with its annotation.
+#[tactic(auto, using(crate::proofs::DefinitionReading::params))]
+fn param(
+    alloc: Global,
+    tokens: &[Token],
+    place: Place,
+) -> Result<((Name, Option<Expr>), Place), ParseError>
+    ensures read { Gives param_seen result (reads_sym tokens.now PARAM place) }
+    ensures moves { IfOk result (λ x. MovesTo tokens.now place x.1) }
+{
+    let (token, place) = accept(tokens, place, Kind::Name)?;
+    let name = name_of(alloc, token)?;
+    let (annotation, place) = maybe_behind(alloc, tokens, place, Sign::Colon)?;
+    Ok(((name, annotation), place))
+}
+
+/// A class without decorators, with the place of its keyword.
+#[tactic(auto, using(crate::proofs::DefinitionReading::classes))]
+pub(crate) fn class(
+    alloc: Global,
+    tokens: &[Token],
+    place: Place,
+) -> Result<((Class, Span), Place), ParseError>
+    ensures read { Gives class_seen result (reads_sym tokens.now CLASS place) }
+    ensures moves { IfOk result (λ x. MovesTo tokens.now place x.1) }
+{
+    let (token, place) = accept_key(tokens, place, Key::Class)?;
+    let (named, place) = accept(tokens, place, Kind::Name)?;
+    let name = name_of(alloc, named)?;
+    let (bases, place) = bases(alloc, tokens, place)?;
+    let (_, place) = accept_sign(tokens, place, Sign::Colon)?;
+    let (body, place) = class_block(alloc, tokens, place)?;
+    let found = Class {
+        name,
+        bases,
+        body,
+        marks: Many::new(alloc),
+    };
+    Ok(((found, token.span), place))
+}
+
+// The bases of a class, in brackets, or none.
+#[tactic(auto, unfolding(crate::specs::Definitions::reads_bases))]
+fn bases(alloc: Global, tokens: &[Token], place: Place) -> Result<(Many<Expr>, Place), ParseError>
+    ensures read { Gives exprs_listed result (reads_bases tokens.now place) }
+    ensures moves { IfOk result (λ x. MovesUpTo tokens.now place x.1) }
+{
+    if !sees_sign(tokens, place, Sign::LeftParen) {
+        return Ok((Many::new(alloc), place));
+    }
+    let (_, place) = accept_sign(tokens, place, Sign::LeftParen)?;
+    let found = items(alloc, tokens, no_row(alloc, place), place)?;
+    let (_, place) = accept_sign(tokens, found.place, Sign::RightParen)?;
+    Ok((found.list, place))
+}
+
+// A line of statements, or indented lines, where functions may stand.
+#[tactic(auto, using(crate::proofs::DefinitionReading::class_blocks))]
+fn class_block(
+    alloc: Global,
+    tokens: &[Token],
+    place: Place,
+) -> Result<(Many<Stmt>, Place), ParseError>
+    ensures read { Gives stmts_seen result (reads_sym tokens.now CBLOCK place) }
+    ensures moves { IfOk result (λ x. MovesTo tokens.now place x.1) }
+{
+    if !sees(tokens, place, Kind::Newline) {
+        return simple(alloc, tokens, place);
+    }
+    let (_, place) = accept(tokens, place, Kind::Newline)?;
+    let (_, place) = accept(tokens, place, Kind::Indent)?;
+    let (first, place) = member(alloc, tokens, place)?;
+    let (found, place) = members(alloc, tokens, first, place)?;
+    let (_, place) = accept(tokens, place, Kind::Dedent)?;
+    Ok((found, place))
+}
+
+// Any number of statements and functions, behind those in front of them.
+#[tactic(auto, using(crate::proofs::DefinitionReading::member_rows))]
+fn members(
+    alloc: Global,
+    tokens: &[Token],
+    front: Many<Stmt>,
+    place: Place,
+) -> Result<(Many<Stmt>, Place), ParseError>
+    ensures read { Gives stmts_seen result (reads_members tokens.now (map stmt_tree front) place) }
+    ensures moves { IfOk result (λ x. MovesUpTo tokens.now place x.1) }
+{
+    let mut found = front;
+    let mut place = place;
+    'members: while begins_member(tokens, place) {
+        let (more, next) = member(alloc, tokens, place)?;
+        found = append(found, more)?;
+        place = next;
+    }
+    Ok((found, place))
+}
+
+// What may stand in a class.
+#[tactic(auto, using(crate::proofs::DefinitionReading::member))]
+fn member(alloc: Global, tokens: &[Token], place: Place) -> Result<(Many<Stmt>, Place), ParseError>
+    ensures read { Gives stmts_seen result (reads_sym tokens.now MEMBER place) }
+    ensures moves { IfOk result (λ x. MovesTo tokens.now place x.1) }
+{
+    if !sees_key(tokens, place, Key::Def) {
+        return stmt(alloc, tokens, place);
+    }
+    let ((one, begin), place) = func(alloc, tokens, place)?;
+    let mut found = Many::new(alloc);
+    found.push(defined(one, Many::new(alloc), begin))?;
+    Ok((found, place))
+}
