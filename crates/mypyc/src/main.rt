@@ -1,11 +1,12 @@
 //! The command `mypyc`: the compiler over real files and streams. Its words come from the system, the file from the
-//! disk or, for `-`, from the standard input; it ends with the number of the status.
+//! disk or, for `-`, from the standard input; it ends with the number of the status. A program that runs reads the
+//! standard input, so one that came from `-` itself finds its input at its end.
 #![tactic(auto)]
 
 use mypyc_top::{Status, mypyc, status_number};
-use outside_core::{CalmSource, DiskFiles, StreamSink};
+use outside_core::{DiskFiles, StreamSink, StreamSource};
 use std::env;
-use std::io::{self, BufWriter};
+use std::io::{self, BufWriter, Input};
 use std::process::ExitCode;
 
 fn main(rt: HostRuntime) -> ExitCode {
@@ -23,7 +24,7 @@ fn main(rt: HostRuntime) -> ExitCode {
 fn run(rt: &HostRuntime) -> io::Result<Status> {
     let words = words(rt)?;
     let mut files = DiskFiles::new(rt);
-    let mut input = CalmSource::new(Vec::new(rt.alloc()));
+    let mut input = StreamSource::new(rt.reader());
     let mut out = StreamSink::new(BufWriter::new(rt.alloc(), rt.stdout())?);
     let mut err = StreamSink::new(rt.stderr());
     Ok(mypyc(

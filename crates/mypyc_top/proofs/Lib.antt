@@ -1,7 +1,12 @@
-pub mod Lines
+pub mod FaultLemmas
 pub mod Numbers
 pub mod PrintedFaithful
 pub mod PrintedForm
 pub mod PrintedRun
-pub mod AnswerLemmas
+pub mod Taken
+pub mod RunLemmas
+pub mod PlanLemmas
+pub mod RunGaveLemmas
+pub mod MostTurns
 pub mod Statuses
+pub mod AllowedLemmas

@@ -1,102 +1,51 @@
--- Lines that print a number.
-use Rattle.std.proofs.Common.{◌≡◌, ◌≢◌, refl, ap, ◌∙◌, sym, subst, ℕ, ◌-◌, ◌<◌, ◌≤◌, ◌^◌, Bool, true, false, cond, ◌&&◌, nat_le, List, ◌++◌, length, take, drop, Some, None, codes, decimal, arith, length-append, Result, Ok}
-use Rattle.std.specs.Str.{IsUtf8}
-use Rattle.std.specs.Str.Parse.{digits_value, ParsesUnsigned}
-use Rattle.std.proofs.lemmas.Slice.Eq.{bytes_eq-Decides}
-use Rattle.std.proofs.lemmas.Fmt.{decimal_is_IsNumeral, parse-decimal, IsAscii-decimal}
-use Rattle.std.proofs.lemmas.Str.{IsUtf8-from_ascii}
-use Rattle.std.proofs.lemmas.Grind.{common_steps}
+-- The numbers of a module are small.
+use Rattle.std.proofs.Common.{◌≡◌, refl, sym, subst, get_or, ℕ, zero, suc, ◌<◌, ◌≤◌, ◌^◌, Bool, true, false, List, [], ◌∷◌, length, Option, Some, None, arith}
+use Rattle.std.specs.Prelude.{ℤ, pos, negsuc, if◌then◌else◌}
+use Rattle.std.specs.List.{All, filter_map, cons_option}
+use Rattle.std.specs.Option.{option_and_then}
 use Rattle.std.proofs.lemmas.Bool.Decides.{nat_tests}
-use Rattle.mypyc_top.specs.Source.{print_line, prints, printed, number_in, greatest_number}
+use Rattle.py_syntax.specs.Expressions as expr
+use Rattle.py_syntax.specs.Expressions.{ExprTree, Int, Call}
+use Rattle.py_syntax.specs.Statements as stmt
+use Rattle.py_syntax.specs.Statements.{StmtTree, Do, listed_block}
+use Rattle.mypyc_top.specs.Source.{greatest_number, built, literal, is_print, only_argument, printed_by, printed, AreNumbers}
 
-and_both : (a b : Bool) → (a && b) ≡ true → (a ≡ true) × (b ≡ true)
-and_both true b h = (refl, h)
-and_both false b h = cc
+no_number : (n : ℕ) → None ≡ Some n → n ≤ greatest_number
+no_number n is = cc
 
-by_test : {A : Type 0} (b : Bool) → (b ≡ true → A) → (b ≡ false → A) → A
-by_test true t f = t refl
-by_test false t f = f refl
+built_within : (z : ℤ) (n : ℕ) → built z ≡ Some n → n ≤ greatest_number
+built_within (pos m) n is = small m n is where
+  small : (m n : ℕ) → built (pos m) ≡ Some n → n ≤ greatest_number
+  small m n is = grind (arith, nat_tests)
+built_within (negsuc m) n is = no_number n is
 
-le_by_test : (m n : ℕ) → nat_le m n ≡ true → m ≤ n
-le_by_test m n h = grind (arith, nat_tests)
+literal_within : (e : ExprTree) (n : ℕ) → literal e ≡ Some n → n ≤ greatest_number
+literal_within (expr.at (Int z) span) n is = built_within z n is
+literal_within _ n is = no_number n is
 
-test_by_le : (m n : ℕ) → m ≤ n → nat_le m n ≡ true
-test_by_le m n h = grind (arith, nat_tests)
+picked_within : (b : Bool) (o : Option ExprTree) (n : ℕ) → (if b then option_and_then literal o else None) ≡ Some n → n ≤ greatest_number
+picked_within true (Some e) n is = literal_within e n is
+picked_within true None n is = no_number n is
+picked_within false o n is = no_number n is
 
-small : (n : ℕ) → n ≤ greatest_number → n < 2 ^ 64
-small n h = omega arith
+call_within : (e : ExprTree) (n : ℕ) → printed_by e ≡ Some n → n ≤ greatest_number
+call_within (expr.at (Call callee more) span) n is = picked_within (is_print callee) (only_argument more) n is
+call_within _ n is = no_number n is
 
--- what stands between `print(` and `)`
-between : (inside : List ℕ) (k : ℕ) → k ≡ length inside → take k (inside ++ codes ")") ≡ inside
-between inside k e = grind (arith, common_steps)
+printed_within : (s : StmtTree) (n : ℕ) → printed s ≡ Some n → n ≤ greatest_number
+printed_within (stmt.at (Do e) span) n is = call_within e n is
+printed_within _ n is = no_number n is
 
-inside_length : (inside : List ℕ) → length (codes "print(" ++ (inside ++ codes ")")) - 7 ≡ length inside
-inside_length inside = grind (arith, common_steps)
+small_cons : (o : Option ℕ) (ns : List ℕ) → ((n : ℕ) → o ≡ Some n → n < 2 ^ 64) → All (λ n. n < 2 ^ 64) ns → All (λ n. n < 2 ^ 64) (cons_option o ns)
+small_cons None ns small all = all
+small_cons (Some n) ns small all = at where
+  at : (k d : ℕ) → k < length (n ∷ ns) → get_or (n ∷ ns) k d < 2 ^ 64
+  at zero d h = small n refl
+  at (suc k) d h = all k d (omega arith)
 
-pub number_in_print : (n : ℕ) → n ≤ greatest_number → number_in (print_line n) ≡ n
-number_in_print n h =
-    ap (digits_value 10) (between (decimal n) _ (inside_length (decimal n))) ∙ (decimal_is_IsNumeral n (small n h)).1
+small_of : (ss : List StmtTree) → All (λ n. n < 2 ^ 64) (filter_map printed ss)
+small_of [] = λ k d h. absurd (omega arith)
+small_of (s ∷ ss) = small_cons (printed s) (filter_map printed ss) (λ n is. let w = printed_within s n is in omega arith) (small_of ss)
 
--- a line that prints no number
-pub printed_none : (line : List ℕ) → ((n : ℕ) → n ≤ greatest_number → line ≢ print_line n) → None ≡ printed line
-printed_none line never =
-    by_test (prints line (number_in line))
-    (λ is. let both = and_both _ _ is in absurd (never (number_in line) (le_by_test _ _ both.1) ((bytes_eq-Decides line (print_line (number_in line))).0 both.0)))
-    (λ is. rw is refl)
-
-both_true : (a b : Bool) → a ≡ true → b ≡ true → (a && b) ≡ true
-both_true a b p q = rw (p, q) refl
-
-prints_own : (n : ℕ) → n ≤ greatest_number → prints (print_line n) n ≡ true
-prints_own n h = both_true _ _ ((bytes_eq-Decides (print_line n) (print_line n)).1 refl) (test_by_le n greatest_number h)
-
-chosen : (line : List ℕ) (m n : ℕ) → m ≡ n → prints line n ≡ true → Some n ≡ cond (prints line m) (Some m) None
-chosen line m n e is =
-    let P : ℕ → Type 0 = λ k. Some n ≡ cond (prints line k) (Some k) None in
-    subst P (sym e) (let Q : Bool → Type 0 = λ b. Some n ≡ cond b (Some n) None in subst Q (sym is) refl)
-
-printed_own : (n : ℕ) → n ≤ greatest_number → Some n ≡ printed (print_line n)
-printed_own n h = chosen (print_line n) (number_in (print_line n)) n (number_in_print n h) (prints_own n h)
-
--- a line that prints n
-pub printed_some : (line : List ℕ) (n : ℕ) → n ≤ greatest_number → line ≡ print_line n → Some n ≡ printed line
-printed_some line n h is =
-    let P : List ℕ → Type 0 = λ l. Some n ≡ printed l in
-    subst P (sym is) (printed_own n h)
-
--- what is inside two equal lines is equal
-drop_end : (a b : List ℕ) → a ++ codes ")" ≡ b ++ codes ")" → a ≡ b
-drop_end a b e = between_equal a b e (ap length e) where
-  between_equal : (a b : List ℕ) → a ++ codes ")" ≡ b ++ codes ")" → length (a ++ codes ")") ≡ length (b ++ codes ")") → a ≡ b
-  between_equal a b e l =
-      let same : length a ≡ length b = omega (arith, l, length-append a (codes ")"), length-append b (codes ")")) in
-      sym (between a (length a) refl) ∙ (ap (take (length a)) e ∙ between b (length a) same)
-
-pub same_inside : (a b : List ℕ) → codes "print(" ++ (a ++ codes ")") ≡ codes "print(" ++ (b ++ codes ")") → a ≡ b
-same_inside a b e = drop_end a b (ap (drop 6) e)
-
--- digits that are no text are no number, and a number is read from its decimal
-pub no_number : (digits : List ℕ) → ¬ (IsUtf8 digits) → (n : ℕ) → n ≤ greatest_number → digits ≢ decimal n
-no_number digits not_text n h e = not_text (subst IsUtf8 (sym e) (IsUtf8-from_ascii (decimal n) (IsAscii-decimal n (small n h))))
-
-pub read_number : {E : Type 0} (digits : List ℕ) (r : Result ℕ E) (n : ℕ) → n ≤ greatest_number → digits ≡ decimal n → ParsesUnsigned 64 10 digits r → r ≡ Ok n
-read_number digits r n h e parsed = parse-decimal 64 n digits r (small n h) (small n h) e parsed
-
--- a number that a line prints is small
-pub printed_within : (line : List ℕ) (n : ℕ) → printed line ≡ Some n → n ≤ greatest_number
-printed_within line n is =
-    by_test (prints line (number_in line))
-    (λ p. let m : number_in line ≡ n = some_is (number_in line) n (sym (chosen_true (prints line (number_in line)) (number_in line) p) ∙ is) in
-    subst (λ k. k ≤ greatest_number) m (le_by_test _ _ (and_both _ _ p).1))
-    (λ p. absurd (none_is n (sym (chosen_false (prints line (number_in line)) (number_in line) p) ∙ is))) where
-      chosen_true : (b : Bool) (m : ℕ) → b ≡ true → cond b (Some m) None ≡ Some m
-      chosen_true b m e = rw e refl
-
-      chosen_false : (b : Bool) (m : ℕ) → b ≡ false → cond b (Some m) None ≡ None
-      chosen_false b m e = rw e refl
-
-      some_is : (m n : ℕ) → Some m ≡ Some n → m ≡ n
-      some_is m n e = cc
-
-      none_is : (n : ℕ) → None ≡ Some n → ⊥
-      none_is n e = cc
+pub small_numbers : (bytes found : List ℕ) → AreNumbers bytes found → All (λ n. n < 2 ^ 64) found
+small_numbers bytes found are = subst (λ ns. All (λ n. n < 2 ^ 64) ns) (sym are.are_printed) (small_of (listed_block are.block))

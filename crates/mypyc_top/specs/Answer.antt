@@ -1,21 +1,24 @@
--- What the command answers: what its output and its lines on errors get, and its status, by its words and by what came
--- of its file. The first rule that applies holds.
-use Rattle.std.specs.Prelude.{◌≡◌, ℕ, nat_lt, Bool, true, false, cond, List, [], ◌∷◌, length, Option, Some, None}
+-- What the command answers: what its output and its lines on errors get, and its status, by its words, by what came of
+-- its file, and by the lines of its input. The first rule that applies holds.
+use Rattle.std.specs.Prelude.{◌≡◌, ℕ, nat_lt, Bool, true, false, List, [], ◌∷◌, length, codes, Option, Some, None}
 use Rattle.std.specs.Option.{option_and_then}
+use Rattle.value_core.specs.Items.{Items}
 use Rattle.c_core.specs.declared.code.Code.{Code}
 use Rattle.c_core.specs.Text.{code_text}
 use Rattle.mypyc_top.specs.declared.status.Status.{Status}
 use Rattle.mypyc_top.specs.declared.status.Status.TheVariants as status
 use Rattle.mypyc_top.specs.declared.words.Emit.{Emit}
-use Rattle.mypyc_top.specs.declared.words.Emit.TheVariants.{C}
+use Rattle.mypyc_top.specs.declared.words.Emit.TheVariants.{Check, C, Run, Runc}
 use Rattle.mypyc_top.specs.declared.words.Request.{Request}
 use Rattle.mypyc_top.specs.declared.words.Words.{Words}
 use Rattle.mypyc_top.specs.declared.words.Words.TheVariants.{Usage, Go}
 use Rattle.mypyc_top.specs.Words.{words_of}
-use Rattle.mypyc_top.specs.Source.{numbers}
+use Rattle.mypyc_top.specs.Source.{AreNumbers}
 use Rattle.mypyc_top.specs.Faithful.{Faithful}
-use Rattle.mypyc_top.specs.Diagnostics.{Diagnostic, faults, diagnostics_text}
+use Rattle.mypyc_top.specs.Diagnostics.{Diagnostic, diagnostics_text}
+use Rattle.mypyc_top.specs.Faults.{AreFaults}
 use Rattle.mypyc_top.specs.ErrorLines.{usage_line, open_line, read_line, large_line}
+use Rattle.mypyc_top.specs.Running.{ModuleRun, TextRun}
 
 -- what came of the file: it was not opened, it was not read, or it has these bytes
 pub data FileMeaning : Type 0 where
@@ -40,37 +43,50 @@ named_file (Go r) = Some r.file
 abbrev pub named_content : (List ℕ → Option (List ℕ)) → List (List ℕ) → Option (List ℕ)
 named_content content words = option_and_then content (named_file (words_of words))
 
--- the greatest number of bytes of a module
-abbrev pub most_bytes : ℕ
-most_bytes = 262144
+-- the greatest number of bytes of a file: of a C text, and of a module
+abbrev pub most_bytes : Emit → ℕ
+most_bytes Runc = 16777216
+most_bytes _ = 262144
 
--- the answer of a mode for a module without diagnostics: C text that is faithful to it
-abbrev pub ModeAnswer : Emit → List ℕ → List ℕ → List ℕ → Status → Type 0
-ModeAnswer C bytes out err s = ((code : Code) × Faithful (numbers bytes) code × (out ≡ code_text code)) × (err ≡ []) × (s ≡ status.Done)
+abbrev pub success_text : List ℕ
+success_text = codes "Success: no issues found in 1 source file\n"
 
--- for a file of these bytes: whether it is too large, and what is wrong with it
-abbrev pub ModuleAnswer : Request → List ℕ → Bool → List Diagnostic → List ℕ → List ℕ → Status → Type 0
-ModuleAnswer r bytes true ds out err s = (out ≡ []) × (err ≡ large_line r.file) × (s ≡ status.TooLarge)
-ModuleAnswer r bytes false (d ∷ ds) out err s = (out ≡ diagnostics_text r.file (d ∷ ds)) × (err ≡ []) × (s ≡ status.Diagnosed)
-ModuleAnswer r bytes false [] out err s = ModeAnswer r.emit bytes out err s
+-- a module that has no diagnostics is said to have none
+abbrev pub Checked : List ℕ → List ℕ → Status → Type 0
+Checked out err s = (out ≡ success_text) × (err ≡ []) × (s ≡ status.Done)
 
-abbrev pub RequestAnswer : Request → FileMeaning → List ℕ → List ℕ → Status → Type 0
-RequestAnswer r NoOpen out err s = (out ≡ []) × (err ≡ open_line r.file) × (s ≡ status.OpenFault)
-RequestAnswer r NoRead out err s = (out ≡ []) × (err ≡ read_line r.file) × (s ≡ status.ReadFault)
-RequestAnswer r (Bytes bytes) out err s = ModuleAnswer r bytes (nat_lt most_bytes (length bytes)) (faults bytes) out err s
+-- C text is that of a code that is faithful to the module
+abbrev pub Compiled : List ℕ → List ℕ → List ℕ → Status → Type 0
+Compiled numbers out err s = ((code : Code) × Faithful numbers code × (out ≡ code_text code)) × (err ≡ []) × (s ≡ status.Done)
 
-abbrev pub WordsAnswer : Words → FileMeaning → List ℕ → List ℕ → Status → Type 0
-WordsAnswer Usage file out err s = (out ≡ []) × (err ≡ usage_line) × (s ≡ status.Usage)
-WordsAnswer (Go r) file out err s = RequestAnswer r file out err s
+-- a module with these faults is answered by them, and one without any by what is asked for of its numbers
+abbrev pub FaultsAnswer : List ℕ → List ℕ → (List ℕ → Type 0) → List Diagnostic → List ℕ → List ℕ → Status → Type 0
+FaultsAnswer file bytes Good (d ∷ ds) out err s = (out ≡ diagnostics_text file (d ∷ ds)) × (err ≡ []) × (s ≡ status.Diagnosed)
+FaultsAnswer file bytes Good [] out err s = (numbers : List ℕ) × AreNumbers bytes numbers × Good numbers
 
--- what the words are answered, where this came of the file
-abbrev pub Answer : List (List ℕ) → FileMeaning → List ℕ → List ℕ → Status → Type 0
-Answer words file out err s = WordsAnswer (words_of words) file out err s
+abbrev pub ModuleAnswer : List ℕ → List ℕ → (List ℕ → Type 0) → List ℕ → List ℕ → Status → Type 0
+ModuleAnswer file bytes Good out err s = (ds : List Diagnostic) × AreFaults bytes ds × FaultsAnswer file bytes Good ds out err s
 
--- the status for a file of these bytes
-abbrev pub module_status : List Diagnostic → Status
-module_status [] = status.Done
-module_status (d ∷ ds) = status.Diagnosed
+abbrev pub ModeAnswer : Emit → Request → List ℕ → Items → List ℕ → List ℕ → Status → Type 0
+ModeAnswer Check r bytes items out err s = ModuleAnswer r.file bytes (λ numbers. Checked out err s) out err s
+ModeAnswer C r bytes items out err s = ModuleAnswer r.file bytes (λ numbers. Compiled numbers out err s) out err s
+ModeAnswer Run r bytes items out err s = ModuleAnswer r.file bytes (λ numbers. ModuleRun numbers r.turns items out err s) out err s
+ModeAnswer Runc r bytes items out err s = TextRun r.file bytes r.turns items out err s
 
-abbrev pub status_of : List ℕ → Status
-status_of bytes = cond (nat_lt most_bytes (length bytes)) status.TooLarge (module_status (faults bytes))
+-- whether the file is too large
+abbrev pub SizedAnswer : Bool → Request → List ℕ → Items → List ℕ → List ℕ → Status → Type 0
+SizedAnswer true r bytes items out err s = (out ≡ []) × (err ≡ large_line r.file) × (s ≡ status.TooLarge)
+SizedAnswer false r bytes items out err s = ModeAnswer r.emit r bytes items out err s
+
+abbrev pub RequestAnswer : Request → FileMeaning → Items → List ℕ → List ℕ → Status → Type 0
+RequestAnswer r NoOpen items out err s = (out ≡ []) × (err ≡ open_line r.file) × (s ≡ status.OpenFault)
+RequestAnswer r NoRead items out err s = (out ≡ []) × (err ≡ read_line r.file) × (s ≡ status.ReadFault)
+RequestAnswer r (Bytes bytes) items out err s = SizedAnswer (nat_lt (most_bytes r.emit) (length bytes)) r bytes items out err s
+
+abbrev pub WordsAnswer : Words → FileMeaning → Items → List ℕ → List ℕ → Status → Type 0
+WordsAnswer Usage file items out err s = (out ≡ []) × (err ≡ usage_line) × (s ≡ status.Usage)
+WordsAnswer (Go r) file items out err s = RequestAnswer r file items out err s
+
+-- what the words are answered, where this came of the file and these are the lines of the input
+abbrev pub Answer : List (List ℕ) → FileMeaning → Items → List ℕ → List ℕ → Status → Type 0
+Answer words file items out err s = WordsAnswer (words_of words) file items out err s

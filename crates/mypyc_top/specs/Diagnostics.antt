@@ -1,7 +1,7 @@
--- The diagnostics of a module, and how they are written.
-use Rattle.std.specs.Prelude.{ℕ, List, [], ◌∷◌, ◌++◌, length, codes, decimal, flat_map, option_to_list}
-use Rattle.std.specs.Option.{option_map}
-use Rattle.mypyc_top.specs.Source.{unbuilt}
+-- What is wrong with a module, and how it is written.
+use Rattle.std.specs.Prelude.{ℕ, List, [], ◌∷◌, ◌++◌, length, codes, decimal, flat_map}
+use Rattle.py_lexer.specs.declared.fault.LexKind.{LexKind}
+use Rattle.py_lexer.specs.Faults.{fault_text}
 
 -- a line of the module, what is wrong with it, and the code of that rule
 pub record Diagnostic : Type 0 where
@@ -9,12 +9,27 @@ pub record Diagnostic : Type 0 where
   pub text : List ℕ
   pub code : List ℕ
 
+abbrev pub syntax_fault : ℕ → List ℕ → Diagnostic
+syntax_fault line text = record { line = line; text = text; code = codes "syntax" }
+
+abbrev pub no_text : ℕ → Diagnostic
+no_text line = syntax_fault line (codes "File is not UTF-8")
+
+abbrev pub no_token : ℕ → LexKind → Diagnostic
+no_token line kind = syntax_fault line (fault_text kind)
+
+abbrev pub no_tree : ℕ → Diagnostic
+no_tree line = syntax_fault line (codes "Invalid syntax, or syntax outside the profile")
+
+abbrev pub nested_too_deeply : ℕ → Diagnostic
+nested_too_deeply line = syntax_fault line (codes "Nested too deeply")
+
+-- a keyword that the language of this compiler has not
+abbrev pub left_out : ℕ → List ℕ → Diagnostic
+left_out line word = record { line = line; text = codes "\"" ++ (word ++ codes "\" is outside the profile"); code = codes "profile" }
+
 abbrev pub not_built : ℕ → Diagnostic
 not_built line = record { line = line; text = codes "Form is not built yet"; code = codes "unbuilt" }
-
--- all that is wrong with a file: its first line that is not built
-abbrev pub faults : List ℕ → List Diagnostic
-faults bytes = option_to_list (option_map not_built (unbuilt bytes))
 
 abbrev pub diagnostic_text : List ℕ → Diagnostic → List ℕ
 diagnostic_text file d =

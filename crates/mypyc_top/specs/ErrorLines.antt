@@ -1,5 +1,7 @@
 -- The lines that are written on errors.
-use Rattle.std.specs.Prelude.{ℕ, List, ◌++◌, codes}
+use Rattle.std.specs.Prelude.{ℕ, List, [], ◌∷◌, ◌++◌, codes, decimal}
+use Rattle.value_core.specs.declared.exception.ExcClass.{ExcClass}
+use Rattle.value_core.specs.Exceptions.{class_name}
 
 abbrev pub usage_line : List ℕ
 usage_line = codes "usage: mypyc [--emit=check|ir|c|run|runc|selftest] [--stage=build|errors|owned] [--turns=N] FILE\n"
@@ -12,6 +14,34 @@ read_line file = codes "mypyc: cannot read " ++ (file ++ codes "\n")
 
 abbrev pub large_line : List ℕ → List ℕ
 large_line file = codes "mypyc: " ++ (file ++ codes " is too large\n")
+
+-- a C text that is refused at a byte, counted from 0, or that is not well formed
+abbrev pub refused_line : List ℕ → ℕ → List ℕ
+refused_line file place = codes "mypyc: " ++ (file ++ (codes ": refused at byte " ++ (decimal place ++ codes "\n")))
+
+abbrev pub ill_formed_line : List ℕ → List ℕ
+ill_formed_line file = codes "mypyc: " ++ (file ++ codes ": not well formed\n")
+
+-- an exception that left the module: its class, and its text if it has one
+abbrev pub text_behind : List ℕ → List ℕ
+text_behind [] = []
+text_behind (b ∷ bs) = codes ": " ++ (b ∷ bs)
+
+abbrev pub raised_line : ExcClass → List ℕ → List ℕ
+raised_line class text = class_name class ++ (text_behind text ++ codes "\n")
+
+-- a program without turns, and how many cells it left
+abbrev pub turns_line : ℕ → List ℕ
+turns_line live = codes "mypyc: out of turns, " ++ (decimal live ++ codes " live cells\n")
+
+abbrev pub long_input_line : List ℕ
+long_input_line = codes "mypyc: input is too long\n"
+
+abbrev pub input_line : List ℕ
+input_line = codes "mypyc: cannot read input\n"
+
+abbrev pub ownership_line : List ℕ
+ownership_line = codes "mypyc: ownership fault\n"
 
 abbrev pub memory_line : List ℕ
 memory_line = codes "mypyc: out of memory\n"

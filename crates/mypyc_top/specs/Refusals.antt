@@ -5,7 +5,6 @@ use Rattle.outside_core.specs.declared.read_error.ReadError.{ReadError}
 use Rattle.outside_core.specs.declared.read_error.ReadError.TheVariants as errors
 use Rattle.mypyc_top.specs.declared.reading.Refusal.{Refusal}
 use Rattle.mypyc_top.specs.declared.reading.Refusal.TheVariants.{Open, Read, TooLarge, Memory}
-use Rattle.mypyc_top.specs.Answer.{most_bytes}
 
 abbrev pub refusal_of : ReadError → Refusal
 refusal_of errors.Failed = Read
@@ -20,9 +19,10 @@ faults_after (Err Read) n = one_more n
 faults_after (Err TooLarge) n = n
 faults_after (Err Memory) n = n
 
--- whether a file is open afterwards, and what its content must be, where the files tell it
-abbrev pub Refused : Bool → Bool → Option (List ℕ) → Refusal → Type 0
-Refused tells is_open content Open = is_open ≡ false
-Refused tells is_open content Read = (is_open ≡ true) × (IsTrue tells → IsTrue (is_some content))
-Refused tells is_open content TooLarge = IsTrue tells → (bytes : List ℕ) × (content ≡ Some bytes) × (most_bytes < length bytes)
-Refused tells is_open content Memory = Unit {0}
+-- whether a file is open afterwards, and what its content must be, where the files tell it; `most` is how many bytes a
+-- file may have
+abbrev pub Refused : ℕ → Bool → Bool → Option (List ℕ) → Refusal → Type 0
+Refused most tells is_open content Open = is_open ≡ false
+Refused most tells is_open content Read = (is_open ≡ true) × (IsTrue tells → IsTrue (is_some content))
+Refused most tells is_open content TooLarge = IsTrue tells → (bytes : List ℕ) × (content ≡ Some bytes) × (most < length bytes)
+Refused most tells is_open content Memory = Unit {0}

@@ -1,45 +1,77 @@
--- The modules that are built: each line is a statement `print(N)`, N a number as Python writes it in decimal, without
--- leading zeros (Python Language Reference, "Integer literals").
-use Rattle.std.specs.Prelude.{◌≡◌, ℕ, ◌-◌, ◌≤◌, nat_le, Bool, cond, ◌&&◌, List, ◌++◌, length, take, drop, map, Option, Some, None, is_none, codes, decimal}
-use Rattle.std.specs.List.{filter_map, position_from}
-use Rattle.std.specs.Str.{bytes_eq}
-use Rattle.std.specs.Str.Parse.{digits_value}
-use Rattle.value_core.specs.Items.{pieces, unended}
-
--- the lines of a file: its bytes cut after each line feed, without it. A last piece that is empty is no line
-abbrev pub lines : List ℕ → List (List ℕ)
-lines bytes = map unended (pieces bytes)
+-- The modules that are built: each statement is `print(N)`, N an integer literal from 0 to 2 ^ 62 - 1.
+use Rattle.std.specs.Prelude.{◌≡◌, ℕ, nat_le, Bool, true, false, if◌then◌else◌, ◌&&◌, List, map, filter_map, find, Option, Some, None, is_none, ℤ, pos, negsuc, codes, Ok}
+use Rattle.std.specs.Option.{option_and_then, option_map}
+use Rattle.std.specs.Str.{chars, bytes_eq, is_utf8}
+use Rattle.py_syntax.specs.declared.token.Token.{Token}
+use Rattle.py_syntax.specs.Expressions as expr
+use Rattle.py_syntax.specs.Expressions.{ExprTree, Arguments, Name, Int, Call, no_arguments, argument_then}
+use Rattle.py_syntax.specs.Statements as stmt
+use Rattle.py_syntax.specs.Statements.{StmtTree, Do, Block, listed_block}
+use Rattle.py_lexer.specs.Tokens.{tokens_of}
+use Rattle.py_grammar.specs.Faults.{IsTree}
 
 -- 2 ^ 62 - 1, the greatest number that needs no object of its own
 abbrev pub greatest_number : ℕ
 greatest_number = 4611686018427387903
 
-abbrev pub print_line : ℕ → List ℕ
-print_line n = codes "print(" ++ (decimal n ++ codes ")")
+-- the number of an integer literal that is built
+abbrev pub built : ℤ → Option ℕ
+built (pos n) = if nat_le n greatest_number then Some n else None
+built (negsuc n) = None
 
--- a line prints n
-pub record Prints (line : List ℕ) (n : ℕ) : Type 0 where
-  pub written : line ≡ print_line n
-  pub within : n ≤ greatest_number
+abbrev pub literal : ExprTree → Option ℕ
+literal (expr.at (Int n) span) = built n
+literal _ = None
 
--- the number between the brackets of a line, if it has any
-abbrev pub number_in : List ℕ → ℕ
-number_in line = digits_value 10 (take (length line - 7) (drop 6 line))
+-- the name `print`
+abbrev pub is_print : ExprTree → Bool
+is_print (expr.at (Name name) span) = bytes_eq name (codes "print")
+is_print _ = false
 
--- whether a line prints this number, and the number that it prints: the one n with Prints line n, where there is one
-abbrev pub prints : List ℕ → ℕ → Bool
-prints line n = bytes_eq line (print_line n) && nat_le n greatest_number
+-- the one argument, which has no key
+abbrev pub only_argument : Arguments → Option ExprTree
+only_argument (argument_then value no_arguments) = Some value
+only_argument _ = None
 
-abbrev pub printed : List ℕ → Option ℕ
-printed line = cond (prints line (number_in line)) (Some (number_in line)) None
+-- the number that a call prints, and that a statement prints: it is `print(N)`
+abbrev pub printed_by : ExprTree → Option ℕ
+printed_by (expr.at (Call callee arguments) span) =
+    if is_print callee then option_and_then literal (only_argument arguments) else None
+printed_by _ = None
 
-abbrev pub is_unbuilt : List ℕ → Bool
-is_unbuilt line = is_none (printed line)
+abbrev pub printed : StmtTree → Option ℕ
+printed (stmt.at (Do e) span) = printed_by e
+printed _ = None
 
--- the first line that prints no number, counted from 1
-abbrev pub unbuilt : List ℕ → Option ℕ
-unbuilt bytes = position_from is_unbuilt 1 (lines bytes)
+-- the numbers of the statements that print one, in order
+abbrev pub numbers_in : List StmtTree → List ℕ
+numbers_in statements = filter_map printed statements
 
--- the numbers of the lines that print one, in order
-abbrev pub numbers : List ℕ → List ℕ
-numbers bytes = filter_map printed (lines bytes)
+abbrev pub numbers_of : Block → List ℕ
+numbers_of block = numbers_in (listed_block block)
+
+abbrev pub line_of : StmtTree → ℕ
+line_of (stmt.at node span) = span.line
+
+abbrev pub is_unbuilt : StmtTree → Bool
+is_unbuilt s = is_none (printed s)
+
+-- the line of the first statement that prints none
+abbrev pub unbuilt_in : List StmtTree → Option ℕ
+unbuilt_in statements = option_map line_of (find is_unbuilt statements)
+
+abbrev pub unbuilt_line : Block → Option ℕ
+unbuilt_line block = unbuilt_in (listed_block block)
+
+-- a file is a text, and this is the tree of its tokens
+pub record IsModule (bytes : List ℕ) (block : Block) : Type 0 where
+  pub tokens : List Token
+  pub is_text : is_utf8 bytes ≡ true
+  pub has_tokens : tokens_of (chars bytes) ≡ Ok tokens
+  pub derived : IsTree tokens block
+
+-- the numbers of a file are those of its tree
+pub record AreNumbers (bytes numbers : List ℕ) : Type 0 where
+  pub block : Block
+  pub is_module : IsModule bytes block
+  pub are_printed : numbers ≡ numbers_of block

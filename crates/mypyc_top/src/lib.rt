@@ -1,23 +1,39 @@
 //! The compiler behind one call: `mypyc` takes the words of the command, files, an input and two sinks,
 //! and answers a status.
 //!
-//! What comes in are words and the bytes of a module; what goes out is its C text or its diagnostics, a line
-//! on errors, and the status. The promise: wherever no object fails and memory lasts, it is exactly the answer
-//! of `specs/Answer.antt`, whose C text is faithful to the module (`specs/Faithful.antt`). `specs/Words.antt`
-//! has the words, `specs/Source.antt` the modules that are built, `specs/SourceRun.antt` what they mean.
+//! What comes in are words, the bytes of a module or of a C text, and the input of a program that runs; what goes out is
+//! the C text of the module, its diagnostics, or the output of the program, then a line on errors, and the status. The
+//! promise: wherever no object fails and memory lasts, it is exactly the answer of `specs/Answer.antt`, whose C text is
+//! faithful to the module (`specs/Faithful.antt`), and whose runs are those of the source and of the C text
+//! (`specs/Running.antt`). `specs/Words.antt` has the words, `specs/Source.antt` the modules that are built,
+//! `specs/SourceRun.antt` what they mean.
 #![tactic(auto)]
 
 mod code;
+mod ending;
+mod fault;
+mod front;
+mod laws;
+mod place;
+mod plan;
+mod printed;
 mod reading;
 mod reply;
+mod running;
+#[cfg(test)]
+mod running_tests;
 mod sending;
 mod source;
 mod status;
+mod summary;
 #[cfg(test)]
 mod tests;
 mod top;
 mod words;
+#[cfg(test)]
+mod words_tests;
 
+pub use laws::{faults_are_one, numbers_are_one};
 pub use status::{Status, status_number};
 pub use top::mypyc;
 pub use words::{Emit, Request, Stage, Words, read_words};

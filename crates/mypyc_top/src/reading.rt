@@ -3,11 +3,14 @@ ghost use Rattle.outside_core.specs.Counts.{count_if};
 ghost use Rattle.mypyc_top.specs.Answer.{most_bytes};
 ghost use Rattle.mypyc_top.specs.Refusals.{faults_after, Refused};
 
+use crate::words::Emit;
 use outside_core::{Failed, Files, ReadError, read_whole};
 use std::alloc::Global;
 
-/// How many bytes a module may have.
-const MOST_BYTES: usize = 262_144;
+/// How many bytes a module may have, and how many a C text.
+const MOST_OF_MODULE: usize = 262_144;
+
+const MOST_OF_TEXT: usize = 16_777_216;
 
 /// Why a file is not read.
 #[derive(Clone, Copy, Debug, PartialEq, Eq)]
@@ -16,7 +19,7 @@ pub(crate) enum Refusal {
     Open,
     /// It cannot be read.
     Read,
-    /// It has more bytes than a module may have.
+    /// It has more bytes than it may have.
     TooLarge,
     /// There is no memory for its bytes.
     Memory,
@@ -48,21 +51,32 @@ impl From<ReadError> for Refusal {
     }
 }
 
+/// How many bytes a file may have in this mode.
+fn most_bytes_of(mode: Emit) -> usize
+    ensures { result ≡ most_bytes mode }
+{
+    match mode {
+        Emit::Runc => MOST_OF_TEXT,
+        Emit::Check | Emit::C | Emit::Run => MOST_OF_MODULE,
+    }
+}
+
 /// The bytes of a file.
 pub(crate) fn read_file<F: Files>(
     alloc: Global,
     files: &mut F,
     name: &str,
+    mode: Emit,
 ) -> Result<Vec<u8>, Refusal>
     ensures counted { F.faults files.new ≡ faults_after result (F.faults files.old) }
-    ensures within { IfOk result (λ bytes. vec_len bytes ≤ most_bytes) }
+    ensures within { IfOk result (λ bytes. vec_len bytes ≤ most_bytes mode) }
     ensures whole { IfOk result (λ bytes. IsTrue F.tells →
         F.content files.old name.now ≡ Some bytes.items) }
     ensures refused { IfErr result
-        (Refused F.tells (F.is_open files.new) (F.content files.old name.now)) }
+        (Refused (most_bytes mode) F.tells (F.is_open files.new) (F.content files.old name.now)) }
     ensures absent { IsTrue F.tells → F.absent_opens files.new
         ≡ count_if (is_none (F.content files.old name.now)) (F.absent_opens files.old) }
 {
     files.open_file(name)?;
-    Ok(read_whole(alloc, files, MOST_BYTES)?)
+    Ok(read_whole(alloc, files, most_bytes_of(mode))?)
 }

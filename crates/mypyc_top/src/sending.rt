@@ -1,6 +1,7 @@
 ghost use Rattle.std.specs.Prelude.{◌≡◌, ◌++◌, ◌⊎◌, IsTrue, OnOk, OnErr};
 ghost use Rattle.outside_core.specs.Bytes.{TakesFront};
 ghost use Rattle.outside_core.specs.Counts.{Rose};
+ghost use Rattle.mypyc_top.specs.ErrorLines.{memory_line};
 ghost use Rattle.mypyc_top.specs.Output.{output_text};
 ghost use Rattle.mypyc_top.specs.Given.{sink_call, Took, TookFront, Gave, IsReplied};
 
@@ -25,6 +26,15 @@ pub(crate) fn send_reply<O: Sink, E: Sink>(reply: &Reply, out: &mut O, err: &mut
     }
 }
 
+/// Tries to say that there is no memory, and answers so.
+pub(crate) fn out_of_memory<E: Sink>(err: &mut E) -> Status
+    ensures status { result ≡ Status.Memory }
+    ensures front { TookFront (sink_call E.tells (E.taken err.old) (E.taken err.new)) memory_line }
+{
+    let _ = write_whole(err, b"mypyc: out of memory\n");
+    Status::Memory
+}
+
 fn send_both<O: Sink, E: Sink>(reply: &Reply, out: &mut O, err: &mut E) -> Result<(), WriteFault>
     ensures out { OnOk result (Took
         (sink_call O.tells (O.taken out.old) (O.taken out.new)) (output_text reply.now.out)) }
@@ -38,7 +48,7 @@ fn send_both<O: Sink, E: Sink>(reply: &Reply, out: &mut O, err: &mut E) -> Resul
         (Rose (O.faults out.old) (O.faults out.new) ⊎ Rose (E.faults err.old) (E.faults err.new)) }
 {
     send_output(out, &reply.out)?;
-    send(err, &reply.err)
+    send_line(err, &reply.err)
 }
 
 fn send_output<O: Sink>(sink: &mut O, output: &Output) -> Result<(), WriteFault>
@@ -49,6 +59,7 @@ fn send_output<O: Sink>(sink: &mut O, output: &Output) -> Result<(), WriteFault>
     ensures refused { OnErr result (Rose (O.faults sink.old) (O.faults sink.new)) }
 {
     match output {
+        Output::Nothing => Ok(()),
         Output::Bytes(bytes) => send(sink, bytes),
         Output::Text(code) => {
             write(code, sink)?;
@@ -58,15 +69,24 @@ fn send_output<O: Sink>(sink: &mut O, output: &Output) -> Result<(), WriteFault>
     }
 }
 
-/// Sends all bytes, and passes them on. Where there are none, the sink is left alone.
+/// Sends a line. Where there is none, the sink is left alone.
+fn send_line<S: Sink>(sink: &mut S, line: &[u8]) -> Result<(), WriteFault>
+    ensures ok { OnOk result (IsTrue S.tells → S.taken sink.new ≡ S.taken sink.old ++ line.now) }
+    ensures err { OnErr result (IsTrue S.tells → TakesFront (S.taken sink.old) (S.taken sink.new) line.now) }
+    ensures refused { OnErr result (Rose (S.faults sink.old) (S.faults sink.new)) }
+{
+    if line.is_empty() {
+        return Ok(());
+    }
+    send(sink, line)
+}
+
+/// Sends all bytes, and passes them on.
 fn send<S: Sink>(sink: &mut S, bytes: &[u8]) -> Result<(), WriteFault>
     ensures ok { OnOk result (IsTrue S.tells → S.taken sink.new ≡ S.taken sink.old ++ bytes.now) }
     ensures err { OnErr result (IsTrue S.tells → TakesFront (S.taken sink.old) (S.taken sink.new) bytes.now) }
     ensures refused { OnErr result (Rose (S.faults sink.old) (S.faults sink.new)) }
 {
-    if bytes.is_empty() {
-        return Ok(());
-    }
     write_whole(sink, bytes)?;
     sink.flush()?;
     Ok(())

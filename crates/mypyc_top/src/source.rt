@@ -1,19 +1,31 @@
-ghost use Rattle.std.specs.Prelude.{◌≡◌, ◌≢◌, ℕ, ◌<◌, ◌≤◌, List, ◌∷◌, ◌++◌, None, length, codes, decimal, position, MatchOption, IfOk, IfErr};
-ghost use Rattle.value_core.specs.Items.{is_line_feed};
-ghost use Rattle.mypyc_top.specs.Source.{Prints, greatest_number, lines, numbers, unbuilt, printed};
-ghost use Rattle.mypyc_top.specs.SourceFaults.{SaysUnbuilt};
+//! The front half of a compilation: from the bytes of a file to the numbers that its module prints.
+ghost use Rattle.std.specs.Prelude.{◌≡◌, [], true, false, MatchResult, IfOk, IfErr, OnOk};
+ghost use Rattle.std.specs.Str.{chars, is_utf8};
+ghost use Rattle.py_syntax.specs.Statements.{module_tree};
+ghost use Rattle.py_syntax.specs.Texts.{key_text};
+ghost use Rattle.py_syntax.specs.Tokens.{EndsOnce};
+ghost use Rattle.py_grammar.specs.Classes.{IsLeftOutAt};
+ghost use Rattle.py_lexer.specs.Tokens.{tokens_of};
+ghost use Rattle.py_grammar.specs.Faults.{IsTree};
+ghost use Rattle.py_parser.specs.Whole.{IsRight};
+ghost use Rattle.mypyc_top.specs.Source.{AreNumbers};
+ghost use Rattle.mypyc_top.specs.Diagnostics.{no_text};
+ghost use Rattle.mypyc_top.specs.Faults.{AreFaults, bad_line, line_at, word_at};
+ghost use Rattle.mypyc_top.specs.SourceFaults.{diagnostic_of, HasNumbers, SaysOfTokens, SaysOfText, SaysFault};
 
-use itoa::Buffer;
-use std::alloc::{AllocError, AllocFailed, Global};
-
-/// The greatest number that is built, 2^62 - 1.
-const GREATEST: u64 = 4_611_686_018_427_387_903;
+use crate::fault::{Fault, FaultKind};
+use crate::place::line_behind;
+use crate::printed::printed_numbers;
+use py_lexer::{LexError, tokens};
+use py_parser::{ParseError, module};
+use py_syntax::{Key, Module, Token, TokenKind, Tokens};
+use std::alloc::{AllocFailed, Global};
 
 /// Why a file gives no numbers.
 #[derive(Clone, Copy, Debug, PartialEq, Eq)]
 pub(crate) enum SourceError {
-    /// This line, counted from 1, is the first that prints no number.
-    Unbuilt(usize),
+    /// What is wrong with it.
+    Fault(Fault),
     /// There is no memory.
     Memory,
 }
@@ -29,75 +41,110 @@ impl From<AllocFailed<u64>> for SourceError {
     }
 }
 
-/// The numbers that the lines of a file print, in order.
-pub(crate) fn printed_numbers(alloc: Global, bytes: &[u8]) -> Result<Vec<u64>, SourceError>
-    ensures ok { IfOk result (λ found.
-        (found.items ≡ numbers bytes.now) × (unbuilt bytes.now ≡ None)) }
-    ensures err { IfErr result (SaysUnbuilt (unbuilt bytes.now)) }
+/// The numbers that the module of a file prints, in order, or what is wrong with the file.
+#[tactic(auto, using(crate::proofs::FaultLemmas::no_text_said, crate::proofs::FaultLemmas::file_numbers, crate::proofs::FaultLemmas::file_none, crate::proofs::FaultLemmas::file_fault))]
+pub(crate) fn read_module(alloc: Global, bytes: &[u8]) -> Result<Vec<u64>, SourceError>
+    ensures numbers { IfOk result (λ numbers. AreNumbers bytes.now numbers.items) }
+    ensures none { OnOk result (AreFaults bytes.now []) }
+    ensures fault { IfErr result (SaysFault bytes.now) }
 {
-    let mut found = Vec::new(alloc);
-    let mut rest = bytes;
-    let mut number = 1;
-    while !rest.is_empty() {
-        let (line, after) = first_line(rest);
-        let Some(printed) = printed_number(line) else {
-            return Err(SourceError::Unbuilt(number));
-        };
-        found.push(printed)?;
-        rest = after;
-        number += 1;
-    }
-    Ok(found)
-}
-
-/// The first line, without its line feed, and what stands behind it.
-fn first_line(bytes: &[u8]) -> (&[u8], &[u8])
-    requires { 0 < length bytes.now }
-    ensures cut { lines bytes.now ≡ result.0.now ∷ lines result.1.now }
-    ensures shorter { length result.1.now < length bytes.now }
-{
-    match line_end(bytes) {
-        Some(end) => (&bytes[..end], &bytes[end + 1..]),
-        None => (bytes, &[]),
+    match text_of(bytes) {
+        Ok(text) => read_text(alloc, text),
+        Err(fault) => Err(SourceError::Fault(fault)),
     }
 }
 
-fn line_end(bytes: &[u8]) -> Option<usize>
-    ensures { result ≡ position is_line_feed bytes.now }
+/// The text of a file, or its first byte that belongs to no character.
+#[tactic(auto, using(crate::proofs::FaultLemmas::not_text))]
+fn text_of(bytes: &[u8]) -> Result<&str, Fault>
+    ensures { MatchResult result
+        (λ text. (text.now ≡ bytes.now) × (is_utf8 bytes.now ≡ true))
+        (λ fault. (is_utf8 bytes.now ≡ false) × (diagnostic_of fault ≡ no_text (bad_line bytes.now))) }
 {
-    bytes.iter().position(|b| *b == b'\n')
+    match str::from_utf8(bytes) {
+        Ok(text) => Ok(text),
+        Err(error) => Err(Fault {
+            line: line_behind(&bytes[..error.valid_up_to()]),
+            kind: FaultKind::NoText,
+        }),
+    }
 }
 
-/// The number that a line prints, if it is `print(`, a number without leading zeros, and `)`.
-fn printed_number(line: &[u8]) -> Option<u64>
-    ensures value { result ≡ printed line.now }
-    ensures prints { MatchOption result ((n : ℕ) → ¬ (Prints line.now n)) (Prints line.now) }
+/// The numbers that the module of a text prints.
+#[tactic(auto, using(crate::proofs::FaultLemmas::text_said, crate::proofs::FaultLemmas::text_numbers, crate::proofs::FaultLemmas::text_fault))]
+fn read_text(alloc: Global, text: &str) -> Result<Vec<u64>, SourceError>
+    ensures numbers { IfOk result (λ numbers. HasNumbers (chars text.now) numbers.items) }
+    ensures fault { IfErr result (SaysOfText (chars text.now)) }
 {
-    number_of(inside_print(line)?)
+    let tokens = read_tokens(alloc, text)?;
+    let module = tree_of(alloc, &tokens)?;
+    printed_numbers(alloc, &module)
 }
 
-/// What stands between `print(` and `)`.
-fn inside_print(line: &[u8]) -> Option<&[u8]>
-    ensures { MatchOption result
-        ((inside : List ℕ) → line.now ≢ codes "print(" ++ (inside ++ codes ")"))
-        (λ inside. line.now ≡ codes "print(" ++ (inside.now ++ codes ")")) }
+/// The tokens of a text, or its first fault.
+fn read_tokens(alloc: Global, text: &str) -> Result<Tokens, SourceError>
+    ensures tokens { IfOk result (λ t. tokens_of (chars text.now) ≡ Ok t.list) }
+    ensures ended { IfOk result (λ t. EndsOnce t.list) }
+    ensures fault { IfErr result (SaysOfText (chars text.now)) }
 {
-    let behind = line.strip_prefix(b"print(")?;
-    behind.strip_suffix(b")")
+    match tokens(alloc, text) {
+        Ok(tokens) => Ok(tokens),
+        Err(LexError::Fault(line, kind)) => Err(SourceError::Fault(Fault {
+            line,
+            kind: FaultKind::NoToken(kind),
+        })),
+        Err(LexError::Memory) => Err(SourceError::Memory),
+    }
 }
 
-/// The number that is written so, without leading zeros, if it is built.
-fn number_of(digits: &[u8]) -> Option<u64>
-    ensures { MatchOption result
-        ((n : ℕ) → n ≤ greatest_number → digits.now ≢ decimal n)
-        (λ n. (digits.now ≡ decimal n) × (n ≤ greatest_number)) }
+/// The tree of a module's tokens, or their fault.
+fn tree_of(alloc: Global, tokens: &Tokens) -> Result<Module, SourceError>
+    requires { EndsOnce tokens.now.list }
+    ensures tree { IfOk result (λ m. IsTree tokens.now.list (module_tree m)) }
+    ensures fault { IfErr result (SaysOfTokens tokens.now.list) }
 {
-    let text = str::from_utf8(digits).ok()?;
-    let number: u64 = text.parse().ok()?;
-    let mut buffer = Buffer::new();
-    if number <= GREATEST && buffer.format(number) == text {
-        Some(number)
-    } else {
-        None
+    match module(alloc, tokens) {
+        Ok(module) => Ok(module),
+        Err(error) => Err(tree_fault(tokens, error)),
+    }
+}
+
+#[tactic(auto, using(crate::proofs::FaultLemmas::syntax_said, crate::proofs::FaultLemmas::profile_said, crate::proofs::FaultLemmas::too_deep_said))]
+fn tree_fault(tokens: &Tokens, error: ParseError) -> SourceError
+    requires { IsRight tokens.now.list (Err error) }
+    ensures { SaysOfTokens tokens.now.list result }
+{
+    match error {
+        ParseError::Syntax(place) => fault_at(tokens, place, FaultKind::NoTree),
+        ParseError::Profile(place) => {
+            let kind = FaultKind::LeftOut(key_at(tokens, place));
+            fault_at(tokens, place, kind)
+        }
+        ParseError::TooDeep(place) => fault_at(tokens, place, FaultKind::TooDeep),
+        ParseError::Memory => SourceError::Memory,
+    }
+}
+
+/// A fault at a token, on its line.
+fn fault_at(tokens: &Tokens, place: usize, kind: FaultKind) -> SourceError
+    ensures { result ≡ SourceError.Fault (record { line = line_at tokens.now.list place; kind = kind }) }
+{
+    let line = tokens.list.get(place).map_or(0, |token| token.span.line);
+    SourceError::Fault(Fault { line, kind })
+}
+
+/// The keyword that a token is, of those that this language has not.
+fn key_at(tokens: &Tokens, place: usize) -> Key
+    requires { IsLeftOutAt tokens.now.list place }
+    ensures { word_at tokens.now.list place ≡ key_text result }
+{
+    match tokens.list.get(place) {
+        Some(
+            Token {
+                kind: TokenKind::Key(key),
+                ..
+            },
+        ) => *key,
+        _ => unreachable!(),
     }
 }

@@ -8,9 +8,11 @@ use std::test::Fail;
 const USAGE: &str =
     "usage: mypyc [--emit=check|ir|c|run|runc|selftest] [--stage=build|errors|owned] [--turns=N] FILE\n";
 
+const SUCCESS: &str = "Success: no issues found in 1 source file\n";
+
 const FOUND: &str = "Found 1 error in 1 file (checked 1 source file)\n";
 
-const THREE: &str = r#"/* mypyc subset 1 */
+pub(crate) const THREE: &str = r#"/* mypyc subset 1 */
 char CPyModule(void) {
     PyObject *cpy_t_0;
     char cpy_t_1;
@@ -48,17 +50,21 @@ char CPyModule(void) {
 
 /// What a command gave: the output, the lines on errors, and the number that it exits with.
 #[derive(Drop)]
-struct Given {
-    out: MemSink,
-    err: MemSink,
-    number: u8,
+pub(crate) struct Given {
+    pub(crate) out: MemSink,
+    pub(crate) err: MemSink,
+    pub(crate) number: u8,
 }
 
 /// Which calls on the files, the output and the lines on errors are to fail.
 #[derive(Clone, Copy)]
-struct Fails<'a>(&'a [u64], &'a [u64], &'a [u64]);
+pub(crate) struct Fails<'a>(
+    pub(crate) &'a [u64],
+    pub(crate) &'a [u64],
+    pub(crate) &'a [u64],
+);
 
-const CALM: Fails<'static> = Fails(&[], &[], &[]);
+pub(crate) const CALM: Fails<'static> = Fails(&[], &[], &[]);
 
 fn words_of(alloc: Global, words: &[&str]) -> Result<Vec<String>, AllocError> {
     let mut all = Vec::new(alloc);
@@ -69,7 +75,7 @@ fn words_of(alloc: Global, words: &[&str]) -> Result<Vec<String>, AllocError> {
 }
 
 /// A command over the one file `t.py`.
-fn command(
+pub(crate) fn command(
     alloc: Global,
     words: &[&str],
     bytes: &[u8],
@@ -93,7 +99,7 @@ fn command(
     })
 }
 
-fn check(rt: &impl Abort, given: &Given, out: &str, err: &str, number: u8) {
+pub(crate) fn check(rt: &impl Abort, given: &Given, out: &str, err: &str, number: u8) {
     assert_eq!(rt; given.out.bytes(), out.as_bytes());
     assert_eq!(rt; given.err.bytes(), err.as_bytes());
     assert_eq!(rt; given.number, number);
@@ -103,22 +109,19 @@ fn check(rt: &impl Abort, given: &Given, out: &str, err: &str, number: u8) {
 fn modules(rt: HostRuntime) -> Result<(), Fail> {
     let second = "t.py:2: error: Form is not built yet  [unbuilt]\n";
     let first = "t.py:1: error: Form is not built yet  [unbuilt]\n";
+    let syntax = "t.py:1: error: Invalid syntax, or syntax outside the profile  [syntax]\n";
+    let no_text = "t.py:1: error: File is not UTF-8  [syntax]\n";
     let cases: &[(&[u8], &str, &str, u8)] = &[
         (b"print(3)\n", THREE, "", 0),
         (b"print(3)", THREE, "", 0),
         (b"", NONE, "", 0),
         (b"print(0)\nprint(4611686018427387903)\n", TWO, "", 0),
-        (b"print(3)\nx\nprint(00)\n", second, FOUND, 1),
-        (b"print(00)\n", first, FOUND, 1),
+        (b"print(0x3)\r\n\n# three\n", THREE, "", 0),
+        (b"print(3)\nx\nprint()\n", second, FOUND, 1),
         (b"print(4611686018427387904)\n", first, FOUND, 1),
-        (b"print(18446744073709551616)\n", first, FOUND, 1),
-        (b"print(3)\r\n", first, FOUND, 1),
-        (b"print(3)\n\n", second, FOUND, 1),
         (b"print(+3)", first, FOUND, 1),
-        (b"print()", first, FOUND, 1),
-        (b"print(\xff)", first, FOUND, 1),
-        (b" print(3)", first, FOUND, 1),
-        (b"print(3) ", first, FOUND, 1),
+        (b"print(\xff)", no_text, FOUND, 1),
+        (b" print(3)", syntax, FOUND, 1),
     ];
     for (bytes, out, found, number) in cases {
         let given = command(rt.alloc(), &["--emit=c", "t.py"], bytes, CALM)?;
@@ -135,12 +138,14 @@ fn words(rt: HostRuntime) -> Result<(), Fail> {
         (&["t.py", "--emit=c"], THREE, "", 0),
         (&[], "", USAGE, 2),
         (&[""], "", USAGE, 2),
-        (&["t.py"], "", USAGE, 2),
+        (&["t.py"], "3\n", "", 0),
+        (&["t.py", "--emit=check"], SUCCESS, "", 0),
         (&["--emit=c"], "", USAGE, 2),
         (&["--emit=c", "--emit=c", "t.py"], "", USAGE, 2),
         (&["--emit=c", "t.py", "t.py"], "", USAGE, 2),
         (&["--emit=c", "t.py", ""], "", USAGE, 2),
-        (&["--emit=run", "t.py"], "", USAGE, 2),
+        (&["--emit=run", "t.py", "--turns=0"], "3\n", "", 0),
+        (&["--emit=ir", "t.py"], "", USAGE, 2),
         (&["--emit=", "t.py"], "", USAGE, 2),
         (&["--emit=c", "--", "t.py"], "", USAGE, 2),
         (&["--emit=c", "-t.py"], "", USAGE, 2),
@@ -216,15 +221,10 @@ fn calls_of_the_output_fail_in_turn(rt: HostRuntime) -> Result<(), Fail> {
 #[test]
 fn sizes(rt: HostRuntime) -> Result<(), Fail> {
     let mut bytes = vec![in rt.alloc(); b'#'; 262_144]?;
-    let given = command(rt.alloc(), &["--emit=c", "t.py"], &bytes, CALM)?;
-    let mut text = String::from_str(
-        rt.alloc(),
-        "t.py:1: error: Form is not built yet  [unbuilt]\n",
-    )?;
-    text.push_str(FOUND)?;
-    check(&rt, &given, text.as_str(), "", 1);
+    let given = command(rt.alloc(), &["--emit=check", "t.py"], &bytes, CALM)?;
+    check(&rt, &given, SUCCESS, "", 0);
     bytes.push(b'#')?;
-    let given = command(rt.alloc(), &["--emit=c", "t.py"], &bytes, CALM)?;
+    let given = command(rt.alloc(), &["--emit=check", "t.py"], &bytes, CALM)?;
     check(&rt, &given, "", "mypyc: t.py is too large\n", 6);
     Ok(())
 }

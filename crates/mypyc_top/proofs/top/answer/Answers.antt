@@ -1,33 +1,66 @@
-use Rattle.std.proofs.Common.{◌≡◌, ℕ, List, ◌++◌, length, Result, Ok, Err, OnOk, OnErr, arith}
-use Rattle.std.proofs.lemmas.Grind.{common_steps}
-use Rattle.outside_core.specs.Bytes.{TakesFront}
-use Rattle.mypyc_top.specs.Words.{texts}
-use Rattle.mypyc_top.specs.ErrorLines.{memory_line}
+use Rattle.std.proofs.Common.{◌≡◌, refl, sym, append-nil, ◌⊎◌, inl, inr}
 use Rattle.outside_core.specs.Counts.{has_risen}
-use Rattle.mypyc_top.specs.Answer.{file_meaning, named_content}
-use Rattle.mypyc_top.proofs.AnswerLemmas.{some_answer}
+use Rattle.c_runner.specs.Ran.{given_items}
+use Rattle.mypyc_top.specs.Output.{output_text}
+use Rattle.mypyc_top.specs.Endings.{ending_status}
+use Rattle.mypyc_top.specs.Plans.{program_text, program_line}
+use Rattle.mypyc_top.proofs.AllowedLemmas.{sent_is_replied, sent_is_calm}
 use Rattle.mypyc_top.proofs.top.answer.Goals as goal
 
-nothing_taken : (old text : List ℕ) → TakesFront old old text
-nothing_taken old text = record { count = 0; within = omega arith; grown = grind (arith, common_steps) }
+pub returns-in-Ok-Send-clause-answer : goal.returns-in-Ok-Send-clause-answer
+returns-in-Ok-Send-clause-answer g c = λ tells below.
+    let fit = rw c.in-Ok-Send.field-0-is at c.in-Ok-Send.ensures.fit in
+    let planned = rw c.in-Ok-Send.field-0-is at c.in-Ok-Send.ensures.answer in
+    let faults = g.I.Source.faults c.args.input.now in
+    let items = given_items (has_risen faults faults) (g.I.Source.left c.args.input.now) (g.I.Source.left c.args.input.now) in
+    let reply = c.in-Ok-Send.reply in (
+      items,
+      λ _ _. refl,
+      inl (record {
+        text = output_text reply.out;
+        lines = reply.err.items;
+        status = reply.status;
+        answer = planned tells below items;
+        gave = c.send_reply.ensures.gave (sent_is_replied reply.status fit);
+      }),
+    )
 
-all_taken : (old new text : List ℕ) → new ≡ old ++ text → TakesFront old new text
-all_taken old new text e = record { count = length text; within = omega arith; grown = grind (arith, common_steps) }
+pub returns-in-Ok-Send-clause-write_fault : goal.returns-in-Ok-Send-clause-write_fault
+returns-in-Ok-Send-clause-write_fault g c =
+    let fit = rw c.in-Ok-Send.field-0-is at c.in-Ok-Send.ensures.fit in
+    c.send_reply.ensures.write_fault (sent_is_replied c.in-Ok-Send.reply.status fit)
 
--- a sink that took all of a text or a front of it took a front of it
-some_taken : {T E W : Type 0} (r : Result T E) (old new text : List ℕ) → OnOk r (W → new ≡ old ++ text) → OnErr r (W → TakesFront old new text) → W → TakesFront old new text
-some_taken (Ok x) old new text all front w = all_taken old new text (all w)
-some_taken (Err e) old new text all front w = front w
+pub returns-in-Ok-Send-clause-input_fault : goal.returns-in-Ok-Send-clause-input_fault
+returns-in-Ok-Send-clause-input_fault g c =
+    let fit = rw c.in-Ok-Send.field-0-is at c.in-Ok-Send.ensures.fit in
+    sent_is_calm _ c.in-Ok-Send.reply.status c.send_reply.result fit c.send_reply.ensures.status
+
+pub returns-in-Ok-Run-clause-answer : goal.returns-in-Ok-Run-clause-answer
+returns-in-Ok-Run-clause-answer g c = λ tells below.
+    let planned = rw c.in-Ok-Run.field-0-is at c.in-Ok-Run.ensures.answer in
+    let r = c.run_and_send.ensures.gave in
+    let program = c.in-Ok-Run.program in
+    let stop = r.2.stop in (
+      r.0,
+      r.1,
+      inl (record {
+        text = program_text program stop;
+        lines = program_line program stop;
+        status = ending_status stop.ending;
+        answer = planned tells below r.0 stop r.2.run;
+        gave = r.2.gave;
+      }),
+    )
 
 pub returns-in-Err-clause-answer : goal.returns-in-Err-clause-answer
 returns-in-Err-clause-answer g c = λ tells below.
-    let a = some_answer (texts c.args.words.now)
-    (file_meaning (has_risen (g.F.Files.faults c.args.files.now) (g.F.Files.faults c.reply_to.new.files)) (g.F.Files.is_open c.reply_to.new.files)
-    (named_content (g.F.Files.content c.args.files.now) (texts c.args.words.now))) in
-    record {
-      text = a.0;
-      lines = a.1;
-      status = a.2;
-      answer = a.3;
-      gave = (λ told. nothing_taken (g.O.Sink.taken c.args.out.now) a.0, λ told. some_taken c.write_whole.result (g.E.Sink.taken c.args.err.now) (g.E.Sink.taken c.write_whole.new.sink) memory_line c.write_whole.ensures.taken c.write_whole.ensures.front told);
-    }
+    let faults = g.I.Source.faults c.args.input.now in
+    let items = given_items (has_risen faults faults) (g.I.Source.left c.args.input.now) (g.I.Source.left c.args.input.now) in (
+      items,
+      λ _ _. refl,
+      inr (record {
+        status = c.out_of_memory.ensures.status;
+        out_nothing = λ _. sym (append-nil (g.O.Sink.taken c.args.out.now));
+        err_front = c.out_of_memory.ensures.front;
+      }),
+    )

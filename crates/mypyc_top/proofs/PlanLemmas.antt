@@ -1,0 +1,86 @@
+-- Plans by what came of the file.
+use Rattle.std.proofs.Common.{◌≡◌, refl, sym, ◌∙◌, ap, subst, get_or, ℕ, zero, suc, ◌<◌, ◌≤◌, ◌^◌, Bool, true, false, nat_lt, List, [], ◌∷◌, ◌++◌, length, Option, Some, None, Result, Ok, Err, IfOk, arith}
+use Rattle.std.proofs.lemmas.Bool.Decides.{nat_tests}
+use Rattle.std.specs.List.{filter_map, cons_option, All}
+use Rattle.std.specs.Option.{option_and_then}
+use Rattle.value_core.specs.Items.{Items}
+use Rattle.outside_core.specs.Counts.{count_end, has_risen}
+use Rattle.c_core.specs.declared.code.Code.{Code}
+use Rattle.mypyc_top.specs.declared.status.Status.{Status}
+use Rattle.mypyc_top.specs.declared.status.Status.TheVariants as status
+use Rattle.mypyc_top.specs.declared.words.Emit.{Emit}
+use Rattle.mypyc_top.specs.declared.words.Request.{Request}
+use Rattle.mypyc_top.specs.declared.words.Words.{Words}
+use Rattle.mypyc_top.specs.declared.words.Words.TheVariants.{Usage, Go}
+use Rattle.mypyc_top.specs.declared.plan.Plan.{Plan}
+use Rattle.mypyc_top.specs.declared.reply.Reply.{Reply}
+use Rattle.mypyc_top.specs.declared.front.Front.TheVariants.{Faulty}
+use Rattle.mypyc_top.specs.Source.{AreNumbers}
+use Rattle.mypyc_top.specs.Printed.{printed_code}
+use Rattle.mypyc_top.specs.Faults.{AreFaults}
+use Rattle.mypyc_top.specs.Output.{output_text}
+use Rattle.mypyc_top.specs.Fronts.{IsFront}
+use Rattle.mypyc_top.specs.Faithful.{Faithful}
+use Rattle.mypyc_top.specs.ErrorLines.{large_line}
+use Rattle.mypyc_top.specs.Running.{TextRun}
+use Rattle.mypyc_top.specs.Answer.{FileMeaning, file_meaning, Bytes, named_file, most_bytes, ModuleAnswer, ModeAnswer, SizedAnswer, RequestAnswer, WordsAnswer}
+use Rattle.mypyc_top.specs.Plans.{Answering, Plans}
+use Rattle.mypyc_top.proofs.Numbers.{small_numbers}
+use Rattle.mypyc_top.proofs.PrintedFaithful.{printed_faithful}
+
+-- ---- modules
+
+-- the code that is built for a module
+pub built_faithful : (bytes found ns : List ℕ) (code : Code) → code ≡ printed_code ns → ns ≡ found → AreNumbers bytes found → Faithful found code
+built_faithful bytes found ns code c n are =
+    let P : Code → Type 0 = λ x. Faithful found x in
+    subst P (sym (c ∙ ap printed_code n)) (printed_faithful found (small_numbers bytes found are))
+
+-- a module without faults gives what is asked for, and one with faults gives them
+pub good_module : (file bytes numbers : List ℕ) (Good : List ℕ → Type 0) (out err : List ℕ) (s : Status) → AreFaults bytes [] → AreNumbers bytes numbers → Good numbers → ModuleAnswer file bytes Good out err s
+good_module file bytes numbers Good out err s none are good = ([], none, (numbers, are, good))
+
+pub faulty_module : (file bytes : List ℕ) (Good : List ℕ → Type 0) (reply : Reply) → IsFront file bytes (Faulty reply) → ModuleAnswer file bytes Good (output_text reply.out) reply.err.items reply.status
+faulty_module file bytes Good reply f = (f.0 ∷ f.1.0, f.1.1, (f.1.2, f.1.3, f.1.4))
+
+-- ---- by what came of the file
+
+calm_count : (old new : ℕ) → new ≡ old → old < count_end → has_risen old new ≡ false
+calm_count old new e l = grind (arith, nat_tests)
+
+meaning_is : (old new : ℕ) (is_open : Bool) (content : Option (List ℕ)) (bytes : List ℕ) → new ≡ old → old < count_end → content ≡ Some bytes → file_meaning (has_risen old new) is_open content ≡ Bytes bytes
+meaning_is old new is_open content bytes e l c = rw (calm_count old new e l, c) refl
+
+within_limit : (most n : ℕ) → n ≤ most → nat_lt most n ≡ false
+within_limit most n l = grind (arith, nat_tests)
+
+past_limit : (most n : ℕ) → most < n → nat_lt most n ≡ true
+past_limit most n l = grind (arith, nat_tests)
+
+pub read_plan : (r : Request) (old new : ℕ) (is_open : Bool) (content : Option (List ℕ)) (bytes : List ℕ) (plan : Plan) → new ≡ old → old < count_end → content ≡ Some bytes → length bytes ≤ most_bytes r.emit → Plans (ModeAnswer r.emit r bytes) plan → Plans (RequestAnswer r (file_meaning (has_risen old new) is_open content)) plan
+read_plan r old new is_open content bytes plan e l c within p =
+    let P : FileMeaning → Type 0 = λ f. Plans (RequestAnswer r f) plan in
+    let Q : Bool → Type 0 = λ b. Plans (SizedAnswer b r bytes) plan in
+    subst P (sym (meaning_is old new is_open content bytes e l c)) (subst Q (sym (within_limit (most_bytes r.emit) (length bytes) within)) p)
+
+pub large_answer : (r : Request) (old new : ℕ) (is_open : Bool) (content : Option (List ℕ)) (bytes : List ℕ) (items : Items) (out err : List ℕ) (s : Status) → new ≡ old → old < count_end → content ≡ Some bytes → most_bytes r.emit < length bytes → out ≡ [] → err ≡ large_line r.file → s ≡ status.TooLarge → RequestAnswer r (file_meaning (has_risen old new) is_open content) items out err s
+large_answer r old new is_open content bytes items out err s e l c past o er t =
+    let P : FileMeaning → Type 0 = λ f. RequestAnswer r f items out err s in
+    let Q : Bool → Type 0 = λ b. SizedAnswer b r bytes items out err s in
+    subst P (sym (meaning_is old new is_open content bytes e l c)) (subst Q (sym (past_limit (most_bytes r.emit) (length bytes) past)) (o, er, t))
+
+pub words_plan : (w : Words) (r : Request) (content : List ℕ → Option (List ℕ)) (rises is_open : Bool) (plan : Plan) → Go r ≡ w → Plans (RequestAnswer r (file_meaning rises is_open (content r.file))) plan → Plans (WordsAnswer w (file_meaning rises is_open (option_and_then content (named_file w)))) plan
+words_plan w r content rises is_open plan e p =
+    let P : Words → Type 0 = λ x. Plans (WordsAnswer x (file_meaning rises is_open (option_and_then content (named_file x)))) plan in subst P e p
+
+-- what holds of a value
+pub if_ok : {T E : Type 0} (r : Result T E) (P Q : T → Type 0) → ((x : T) → P x → Q x) → IfOk r P → IfOk r Q
+if_ok (Ok x) P Q f p = f x p
+if_ok (Err e) P Q f p = p
+
+-- the plan of a mode is one of the request that has this mode and this file
+pub mode_plan : {E : Type 0} (r : Request) (mode : Emit) (file bytes : List ℕ) (A : List ℕ → Answering) (plan : Result Plan E) → r.emit ≡ mode → file ≡ r.file → ((out : Plan) → Plans (A r.file) out → Plans (ModeAnswer mode r bytes) out) → IfOk plan (Plans (A file)) → IfOk plan (Plans (ModeAnswer r.emit r bytes))
+mode_plan r mode file bytes A plan m f same p =
+    let P : Emit → Type 0 = λ x. IfOk plan (Plans (ModeAnswer x r bytes)) in
+    let Q : List ℕ → Type 0 = λ x. IfOk plan (Plans (A x)) in
+    subst P (sym m) (if_ok plan (Plans (A r.file)) (Plans (ModeAnswer mode r bytes)) same (subst Q f p))

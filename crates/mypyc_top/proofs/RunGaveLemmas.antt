@@ -1,0 +1,111 @@
+-- What the sinks took of a program that was run.
+use Rattle.std.proofs.Common.{◌≡◌, refl, sym, ◌∙◌, ap, subst, ℕ, Bool, true, false, IsTrue, List, [], ◌++◌, append_assoc, Some, Result, Ok, Err, IfOk, ◌⊎◌, inl, inr}
+use Rattle.value_core.specs.Items.{Items}
+use Rattle.c_core.specs.Step.{Ending, Done, Raised, Cut, Over, Broken, Faulted}
+use Rattle.c_core.specs.Run.{Stop, machine_run}
+use Rattle.c_runner.specs.declared.report.LiveCell.{LiveCell}
+use Rattle.mypyc_top.specs.declared.status.Status.{Status}
+use Rattle.mypyc_top.specs.declared.status.Status.TheVariants as status
+use Rattle.mypyc_top.specs.declared.reply.Reply.{Reply}
+use Rattle.mypyc_top.specs.declared.running.Program.{Program}
+use Rattle.mypyc_top.specs.declared.running.Unfinished.{Unfinished}
+use Rattle.mypyc_top.specs.Output.{output_text}
+use Rattle.mypyc_top.specs.ErrorLines.{memory_line, input_line}
+use Rattle.mypyc_top.specs.Endings.{ending_status, ending_line}
+use Rattle.mypyc_top.specs.Summary.{cells_left}
+use Rattle.mypyc_top.specs.Given.{SinkCall, sink_call, Took, TookFront, Gave, IsReplied, is_run_status}
+use Rattle.mypyc_top.specs.Plans.{behind_output, program_text, program_line, IsRest, Finishes, RunGave}
+use Rattle.outside_core.proofs.Fronts.{TakesFront-none, TakesFront-all, TakesFront-before, TakesFront-after}
+
+-- a run that ended, or could not read its input
+pub ended : (program : Program) (stop : Stop) (out : SinkCall) (ending : Ending) (cells : List LiveCell) (r : Result Reply Unfinished) → (IsTrue out.tells → out.after ≡ out.before ++ stop.state.output) → ending ≡ stop.ending → cells ≡ cells_left program.code stop → IfOk r (IsRest program.has_summary ending cells) → Finishes program stop out r
+ended program stop out ending cells (Ok rest) took e l rests =
+    let P : Ending → Type 0 = λ x. IsRest program.has_summary x cells rest in
+    let Q : List LiveCell → Type 0 = λ x. IsRest program.has_summary stop.ending x rest in
+    (took, subst Q l (subst P e rests))
+ended program stop out ending cells (Err unfinished) took e l rests = λ h. TakesFront-all out.before out.after stop.state.output (took h)
+
+nothing_behind : (b : Bool) (cells : List LiveCell) → behind_output b Broken cells ≡ []
+nothing_behind true cells = refl
+nothing_behind false cells = refl
+
+broken_rest : (b : Bool) (cells : List LiveCell) (r : Result Reply Unfinished) → IfOk r (λ rest. (output_text rest.out ≡ []) × (rest.err.items ≡ input_line) × (rest.status ≡ status.InputFault)) → IfOk r (IsRest b Broken cells)
+broken_rest b cells (Ok rest) p = (p.0 ∙ sym (nothing_behind b cells), p.1, p.2)
+broken_rest b cells (Err unfinished) p = p
+
+pub broken : (program : Program) (stop : Stop) (out : SinkCall) (r : Result Reply Unfinished) → (IsTrue out.tells → out.after ≡ out.before ++ stop.state.output) → stop.ending ≡ Broken → IfOk r (λ rest. (output_text rest.out ≡ []) × (rest.err.items ≡ input_line) × (rest.status ≡ status.InputFault)) → Finishes program stop out r
+broken program stop out r took e rests =
+    ended program stop out Broken (cells_left program.code stop) r took (sym e) refl (broken_rest program.has_summary (cells_left program.code stop) r rests)
+
+-- behind what the output took already
+module _ (tells : Bool) (o0 o1 o2 : List ℕ) (err : SinkCall) (text b l : List ℕ) (s : Status) (took : IsTrue tells → o1 ≡ o0 ++ text) where
+  both : Took (sink_call tells o1 o2) b → Took (sink_call tells o0 o2) (text ++ b)
+  both t = λ h. t h ∙ ap (λ x. x ++ b) (took h) ∙ append_assoc o0 text b
+
+  front : TookFront (sink_call tells o1 o2) b → TookFront (sink_call tells o0 o2) (text ++ b)
+  front f = λ h. TakesFront-after o0 o1 o2 text b (took h) (f h)
+
+  gave_behind : (t : Status) → Gave (sink_call tells o1 o2) err b l s t → Gave (sink_call tells o0 o2) err (text ++ b) l s t
+  gave_behind status.WriteFault g = (front g.0, g.1)
+  gave_behind status.Memory g = (front g.0, g.1)
+  gave_behind status.Done g = (g.0, both g.1, g.2)
+  gave_behind status.Diagnosed g = (g.0, both g.1, g.2)
+  gave_behind status.Usage g = (g.0, both g.1, g.2)
+  gave_behind status.OpenFault g = (g.0, both g.1, g.2)
+  gave_behind status.ReadFault g = (g.0, both g.1, g.2)
+  gave_behind status.TooLarge g = (g.0, both g.1, g.2)
+  gave_behind status.Raised g = (g.0, both g.1, g.2)
+  gave_behind status.Cut g = (g.0, both g.1, g.2)
+  gave_behind status.TextRefused g = (g.0, both g.1, g.2)
+  gave_behind status.Faulted g = (g.0, both g.1, g.2)
+  gave_behind status.InputOver g = (g.0, both g.1, g.2)
+  gave_behind status.InputFault g = (g.0, both g.1, g.2)
+
+ending_is_replied : (e : Ending) → IsReplied (ending_status e)
+ending_is_replied Done = refl
+ending_is_replied (Raised class text) = refl
+ending_is_replied Cut = refl
+ending_is_replied Over = refl
+ending_is_replied Broken = refl
+ending_is_replied (Faulted f) = refl
+
+pub rest_is_replied : (program : Program) (stop : Stop) (out : SinkCall) (rest : Reply) → Finishes program stop out (Ok rest) → IsReplied rest.status
+rest_is_replied program stop out rest f = subst IsReplied (sym f.1.2) (ending_is_replied stop.ending)
+
+-- the rest was sent
+pub rest_sent : (program : Program) (items : Items) (stop : Stop) (tells : Bool) (o0 o1 o2 : List ℕ) (err : SinkCall) (rest : Reply) (s : Status) → machine_run program.turns items program.code ≡ Some stop → Finishes program stop (sink_call tells o0 o1) (Ok rest) → (IsReplied rest.status → Gave (sink_call tells o1 o2) err (output_text rest.out) rest.err.items rest.status s) → RunGave program items (sink_call tells o0 o2) err s
+rest_sent program items stop tells o0 o1 o2 err rest s run f sent =
+    let out = sink_call tells o0 o2 in
+    let text = stop.state.output in
+    let g = gave_behind tells o0 o1 o2 err text (output_text rest.out) rest.err.items rest.status f.0 s (sent (rest_is_replied program stop (sink_call tells o0 o1) rest f)) in
+    let P : List ℕ → Type 0 = λ x. Gave out err (text ++ x) rest.err.items rest.status s in
+    let Q : List ℕ → Type 0 = λ x. Gave out err (program_text program stop) x rest.status s in
+    let R : Status → Type 0 = λ x. Gave out err (program_text program stop) (program_line program stop) x s in
+    record { stop = stop; run = run; gave = subst R f.1.2 (subst Q f.1.1 (subst P f.1.0 g)) }
+
+-- the run was not finished
+out_front : (program : Program) (stop : Stop) (out : SinkCall) → TookFront out stop.state.output → TookFront out (program_text program stop)
+out_front program stop out f = λ h. TakesFront-before out.before out.after stop.state.output _ (f h)
+
+pub not_written : (program : Program) (items : Items) (stop : Stop) (out : SinkCall) (tells : Bool) (old : List ℕ) → machine_run program.turns items program.code ≡ Some stop → TookFront out stop.state.output → RunGave program items out (sink_call tells old old) status.WriteFault
+not_written program items stop out tells old run f =
+    record { stop = stop; run = run; gave = (out_front program stop out f, λ h. TakesFront-none old old (program_line program stop) refl) }
+
+pub no_memory : (program : Program) (items : Items) (stop : Stop) (out err : SinkCall) (s : Status) → machine_run program.turns items program.code ≡ Some stop → TookFront out stop.state.output → s ≡ status.Memory → TookFront err memory_line → RunGave program items out err s
+no_memory program items stop out err s run f e m =
+    let P : Status → Type 0 = λ x. RunGave program items out err x in
+    subst P (sym e) (record { stop = stop; run = run; gave = (out_front program stop out f, m) })
+
+-- the statuses of a program that was run
+run_status_of : (e : Ending) → IsTrue (is_run_status (ending_status e))
+run_status_of Done = refl
+run_status_of (Raised class text) = refl
+run_status_of Cut = refl
+run_status_of Over = refl
+run_status_of Broken = refl
+run_status_of (Faulted f) = refl
+
+pub sent_run_status : (program : Program) (stop : Stop) (out : SinkCall) (rest : Reply) (s : Status) → Finishes program stop out (Ok rest) → (s ≡ rest.status) ⊎ (s ≡ status.WriteFault) → IsTrue (is_run_status s)
+sent_run_status program stop out rest s f (inl e) =
+    let P : Status → Type 0 = λ x. IsTrue (is_run_status x) in subst P (sym (e ∙ f.1.2)) (run_status_of stop.ending)
+sent_run_status program stop out rest s f (inr e) = let P : Status → Type 0 = λ x. IsTrue (is_run_status x) in subst P (sym e) refl

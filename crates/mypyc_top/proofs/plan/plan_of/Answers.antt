@@ -1,0 +1,15 @@
+use Rattle.std.proofs.Common.{sym, ◌∙◌}
+use Rattle.mypyc_top.specs.Words.{texts, words_of}
+use Rattle.mypyc_top.proofs.PlanLemmas.{if_ok, words_plan}
+use Rattle.mypyc_top.proofs.MostTurns.{most_asked}
+use Rattle.mypyc_top.proofs.plan.plan_of.Goals as goal
+
+pub returns-in-Go-clause-answer : goal.returns-in-Go-clause-answer
+returns-in-Go-clause-answer g c =
+    if_ok c.request_plan.result _ _
+    (λ plan p tells below.
+    words_plan (words_of (texts c.args.words.now)) c.in-Go.request (g.F.Files.content c.args.files.now) _ _ plan (sym c.in-Go.is ∙ c.in_ok-read_words.ensures) (p tells below))
+    c.request_plan.ensures.answer
+
+pub request_plan-requires : goal.request_plan-requires
+request_plan-requires g c = most_asked (texts c.args.words.now) c.in-Go.request (sym c.in-Go.is ∙ c.in_ok-read_words.ensures)

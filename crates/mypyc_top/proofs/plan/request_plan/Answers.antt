@@ -1,0 +1,30 @@
+use Rattle.std.proofs.Common.{◌≡◌, sym, ◌∙◌, ap, ℕ, ◌<◌, ◌≤◌, List, length, Some, IsTrue, arith, Result}
+use Rattle.outside_core.specs.Counts.{count_end}
+use Rattle.mypyc_top.specs.ErrorLines.{large_line}
+use Rattle.mypyc_top.specs.Answer.{ModeAnswer, RequestAnswer, most_bytes}
+use Rattle.mypyc_top.specs.Plans.{Plans}
+use Rattle.mypyc_top.proofs.PlanLemmas.{if_ok, read_plan, large_answer}
+use Rattle.mypyc_top.proofs.plan.request_plan.Goals as goal
+
+pub returns-in-Ok-clause-answer : goal.returns-in-Ok-clause-answer
+returns-in-Ok-clause-answer g c =
+    if_ok c.file_plan.result (Plans (ModeAnswer c.args.request.now.emit c.args.request.now c.deref.result.now)) _
+    (λ plan p tells below.
+    let within : length c.deref.result.now ≤ most_bytes c.args.request.now.emit = omega (arith, c.deref.ensures.len, c.in-Ok.ensures.within) in
+    read_plan c.args.request.now (g.F.Files.faults c.args.files.now) (g.F.Files.faults c.read_file.new.files) _ _ c.deref.result.now plan
+    c.in-Ok.ensures.counted below
+    (ap (λ name. g.F.Files.content c.args.files.now name) (sym c.as_str-file.ensures) ∙ (c.in-Ok.ensures.whole tells ∙ ap (λ (b : List ℕ). Some b) (sym c.deref.ensures.value)))
+    within p)
+    c.file_plan.ensures.answer
+
+pub returns-in_ok-file_reply-in-Err-TooLarge-clause-answer : goal.returns-in_ok-file_reply-in-Err-TooLarge-clause-answer
+returns-in_ok-file_reply-in-Err-TooLarge-clause-answer g c = λ tells below items.
+    let refused = rw c.in-Err-TooLarge.field-0-is at c.in-Err-TooLarge.ensures.refused in
+    let counted = rw c.in-Err-TooLarge.field-0-is at c.in-Err-TooLarge.ensures.counted in
+    let large = refused tells in
+    let sent = c.in_ok-file_reply-in-Err-TooLarge.ensures in
+    large_answer c.args.request.now (g.F.Files.faults c.args.files.now) (g.F.Files.faults c.read_file.new.files) _ _ large.0 items _ _ _
+    counted below
+    (ap (λ name. g.F.Files.content c.args.files.now name) (sym c.as_str-file.ensures) ∙ large.1)
+    large.2
+    sent.0 (sent.1 ∙ ap large_line c.as_str-file.ensures) sent.2

@@ -1,0 +1,13 @@
+-- Laws of what is wrong with a file.
+use Rattle.std.specs.Prelude.{◌≡◌, ℕ, List}
+use Rattle.mypyc_top.specs.Source.{AreNumbers}
+use Rattle.mypyc_top.specs.Diagnostics.{Diagnostic}
+use Rattle.mypyc_top.specs.Faults.{AreFaults}
+
+-- each file has exactly one list of faults
+abbrev pub FaultsAreOne : Type 0
+FaultsAreOne = (bytes : List ℕ) → (ds : List Diagnostic) × AreFaults bytes ds × ((other : List Diagnostic) → AreFaults bytes other → other ≡ ds)
+
+-- a file has no two lists of numbers
+abbrev pub NumbersAreOne : Type 0
+NumbersAreOne = (bytes a b : List ℕ) → AreNumbers bytes a → AreNumbers bytes b → a ≡ b

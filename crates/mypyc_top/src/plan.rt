@@ -1,0 +1,195 @@
+ghost use Rattle.std.specs.Prelude.{◌≡◌, ◌<◌, ◌≤◌, false, true, IsTrue, IfOk};
+ghost use Rattle.outside_core.specs.Counts.{count_end, has_risen, Rose};
+ghost use Rattle.c_runner.specs.Ran.{most_turns};
+ghost use Rattle.mypyc_top.specs.Words.{texts, words_of};
+ghost use Rattle.mypyc_top.specs.Running.{ModuleRun, TextRun};
+ghost use Rattle.mypyc_top.specs.Answer.{Answer, RequestAnswer, ModeAnswer, ModuleAnswer, Checked, Compiled, file_meaning, named_content};
+ghost use Rattle.mypyc_top.specs.Given.{IsSent, is_file_status, is_module_status, AbsentOpens};
+ghost use Rattle.mypyc_top.specs.Plans.{MatchPlan, ForReply, IsRunnable, Plans, CanCome, Allowed};
+
+use crate::code::code_of;
+use crate::front::{Front, front_of};
+use crate::reading::{Refusal, read_file};
+use crate::reply::{Output, Reply, file_reply, output_reply, refused_reply, usage_reply};
+use crate::running::Program;
+use crate::status::Status;
+use crate::words::{Emit, Request, Words, read_words};
+use c_core::is_well_formed;
+use c_text::{TextError, read};
+use outside_core::Files;
+use std::alloc::Global;
+use value_core::Memory;
+
+/// What is said of a module without diagnostics.
+const SUCCESS: &[u8] = b"Success: no issues found in 1 source file\n";
+
+/// What is done once the file is read.
+#[derive(Drop)]
+pub(crate) enum Plan {
+    /// This is sent.
+    Send(Reply),
+    /// This is run.
+    Run(Program),
+}
+
+/// Reads the words and the file that they name, and finds what is to be done.
+pub(crate) fn plan_of<F: Files>(
+    alloc: Global,
+    words: &[String],
+    files: &mut F,
+) -> Result<Plan, Memory>
+    ensures fit { IfOk result (λ plan. MatchPlan plan (λ reply. IsSent reply.status) IsRunnable) }
+    ensures allowed { IfOk result (Allowed (words_of (texts words.now))) }
+    ensures open_fault { IfOk result (λ plan. ForReply plan (λ reply. reply.status ≡ Status.OpenFault →
+        Rose (F.faults files.old) (F.faults files.new) × (F.is_open files.new ≡ false))) }
+    ensures read_fault { IfOk result (λ plan. ForReply plan (λ reply. reply.status ≡ Status.ReadFault →
+        Rose (F.faults files.old) (F.faults files.new) × (F.is_open files.new ≡ true))) }
+    ensures absent { IfOk result (λ plan. ForReply plan (λ reply. IsTrue F.tells → AbsentOpens reply.status
+        (named_content (F.content files.old) (texts words.now))
+        (F.absent_opens files.old) (F.absent_opens files.new))) }
+    ensures answer { IfOk result (λ plan. IsTrue F.tells → F.faults files.old < count_end →
+        Plans (Answer (texts words.now)
+        (file_meaning (has_risen (F.faults files.old) (F.faults files.new)) (F.is_open files.new)
+        (named_content (F.content files.old) (texts words.now)))) plan) }
+{
+    match read_words(alloc, words)? {
+        Words::Usage => Ok(Plan::Send(usage_reply(alloc)?)),
+        Words::Go(request) => request_plan(alloc, &request, files),
+    }
+}
+
+fn request_plan<F: Files>(alloc: Global, request: &Request, files: &mut F) -> Result<Plan, Memory>
+    requires { request.now.turns ≤ most_turns }
+    ensures fit { IfOk result (λ plan. MatchPlan plan (λ reply. IsSent reply.status) IsRunnable) }
+    ensures allowed { IfOk result (CanCome request.now.emit) }
+    ensures open_fault { IfOk result (λ plan. ForReply plan (λ reply. reply.status ≡ Status.OpenFault →
+        Rose (F.faults files.old) (F.faults files.new) × (F.is_open files.new ≡ false))) }
+    ensures read_fault { IfOk result (λ plan. ForReply plan (λ reply. reply.status ≡ Status.ReadFault →
+        Rose (F.faults files.old) (F.faults files.new) × (F.is_open files.new ≡ true))) }
+    ensures absent { IfOk result (λ plan. ForReply plan (λ reply. IsTrue F.tells → AbsentOpens reply.status
+        (F.content files.old request.now.file)
+        (F.absent_opens files.old) (F.absent_opens files.new))) }
+    ensures answer { IfOk result (λ plan. IsTrue F.tells → F.faults files.old < count_end →
+        Plans (RequestAnswer request.now
+        (file_meaning (has_risen (F.faults files.old) (F.faults files.new)) (F.is_open files.new)
+        (F.content files.old request.now.file))) plan) }
+{
+    let file = request.file.as_str();
+    match read_file(alloc, files, file, request.emit) {
+        Ok(bytes) => file_plan(alloc, request, &bytes),
+        Err(Refusal::Open) => Ok(Plan::Send(file_reply(
+            alloc,
+            Status::OpenFault,
+            b"mypyc: cannot open ",
+            file,
+            b"\n",
+        )?)),
+        Err(Refusal::Read) => Ok(Plan::Send(file_reply(
+            alloc,
+            Status::ReadFault,
+            b"mypyc: cannot read ",
+            file,
+            b"\n",
+        )?)),
+        Err(Refusal::TooLarge) => Ok(Plan::Send(file_reply(
+            alloc,
+            Status::TooLarge,
+            b"mypyc: ",
+            file,
+            b" is too large\n",
+        )?)),
+        Err(Refusal::Memory) => Err(Memory),
+    }
+}
+
+/// What is done with the bytes of the file.
+fn file_plan(alloc: Global, request: &Request, bytes: &[u8]) -> Result<Plan, Memory>
+    requires { request.now.turns ≤ most_turns }
+    ensures fit { IfOk result (λ plan. MatchPlan plan (λ reply. IsTrue (is_file_status reply.status)) IsRunnable) }
+    ensures allowed { IfOk result (CanCome request.now.emit) }
+    ensures answer { IfOk result (Plans (ModeAnswer request.now.emit request.now bytes.now)) }
+{
+    let file = request.file.as_str();
+    match request.emit {
+        Emit::Check => check_plan(alloc, file, bytes),
+        Emit::C => compile_plan(alloc, file, bytes),
+        Emit::Run => run_plan(alloc, file, request.turns, bytes),
+        Emit::Runc => text_plan(alloc, file, request.turns, bytes),
+    }
+}
+
+/// A module is said to have no diagnostics, or has them.
+fn check_plan(alloc: Global, file: &str, bytes: &[u8]) -> Result<Plan, Memory>
+    ensures fit { IfOk result (λ plan. MatchPlan plan (λ reply. IsTrue (is_module_status reply.status)) (λ _. ⊥)) }
+    ensures answer { IfOk result (Plans (λ _ out err s. ModuleAnswer file.now bytes.now (λ _. Checked out err s) out err s)) }
+{
+    match front_of(alloc, file, bytes)? {
+        Front::Good(_) => {
+            let text = Vec::from_slice(alloc, SUCCESS)?;
+            Ok(Plan::Send(output_reply(alloc, Status::Done, Output::Bytes(text))))
+        }
+        Front::Faulty(reply) => Ok(Plan::Send(reply)),
+    }
+}
+
+/// The C text of a module, or its diagnostics.
+fn compile_plan(alloc: Global, file: &str, bytes: &[u8]) -> Result<Plan, Memory>
+    ensures fit { IfOk result (λ plan. MatchPlan plan (λ reply. IsTrue (is_module_status reply.status)) (λ _. ⊥)) }
+    ensures answer { IfOk result (Plans (λ _ out err s.
+        ModuleAnswer file.now bytes.now (λ numbers. Compiled numbers out err s) out err s)) }
+{
+    match front_of(alloc, file, bytes)? {
+        Front::Good(numbers) => {
+            let code = code_of(alloc, &numbers)?;
+            Ok(Plan::Send(output_reply(alloc, Status::Done, Output::Text(code))))
+        }
+        Front::Faulty(reply) => Ok(Plan::Send(reply)),
+    }
+}
+
+/// The code of a module is run, or its diagnostics are sent.
+fn run_plan(alloc: Global, file: &str, turns: u64, bytes: &[u8]) -> Result<Plan, Memory>
+    requires { turns ≤ most_turns }
+    ensures fit { IfOk result (λ plan. MatchPlan plan (λ reply. IsTrue (is_module_status reply.status)) IsRunnable) }
+    ensures allowed { IfOk result (CanCome Emit.Run) }
+    ensures answer { IfOk result (Plans (λ items out err s.
+        ModuleAnswer file.now bytes.now (λ numbers. ModuleRun numbers turns items out err s) out err s)) }
+{
+    match front_of(alloc, file, bytes)? {
+        Front::Good(numbers) => Ok(Plan::Run(Program {
+            code: code_of(alloc, &numbers)?,
+            turns,
+            has_summary: false,
+        })),
+        Front::Faulty(reply) => Ok(Plan::Send(reply)),
+    }
+}
+
+/// The code of a C text is run, where it is well formed.
+fn text_plan(alloc: Global, file: &str, turns: u64, bytes: &[u8]) -> Result<Plan, Memory>
+    requires { turns ≤ most_turns }
+    ensures fit { IfOk result (λ plan. MatchPlan plan (λ reply. reply.status ≡ Status.TextRefused) IsRunnable) }
+    ensures allowed { IfOk result (CanCome Emit.Runc) }
+    ensures answer { IfOk result (Plans (TextRun file.now bytes.now turns)) }
+{
+    match read(alloc, bytes) {
+        Ok(code) => {
+            if is_well_formed(&code) {
+                return Ok(Plan::Run(Program {
+                    code,
+                    turns,
+                    has_summary: true,
+                }));
+            }
+            Ok(Plan::Send(file_reply(
+                alloc,
+                Status::TextRefused,
+                b"mypyc: ",
+                file,
+                b": not well formed\n",
+            )?))
+        }
+        Err(TextError::Refused(place)) => Ok(Plan::Send(refused_reply(alloc, file, place)?)),
+        Err(TextError::Memory) => Err(Memory),
+    }
+}

@@ -1,0 +1,132 @@
+ghost use Rattle.std.specs.Prelude.{◌≡◌, ◌⊎◌, [], Some, IsTrue, IfOk, IfErr, OnOk, IsErrOf};
+ghost use Rattle.value_core.specs.Items.{Items};
+ghost use Rattle.outside_core.specs.Counts.{Rose};
+ghost use Rattle.c_core.specs.Run.{Stop, machine_run};
+ghost use Rattle.c_runner.specs.Report.{ending_of};
+ghost use Rattle.c_runner.specs.Ran.{AreGiven};
+ghost use Rattle.mypyc_top.specs.Output.{output_text};
+ghost use Rattle.mypyc_top.specs.ErrorLines.{input_line};
+ghost use Rattle.mypyc_top.specs.Given.{sink_call, is_run_status};
+ghost use Rattle.mypyc_top.specs.Plans.{IsRunnable, IsRest, Finishes, RunGave};
+
+use crate::ending::{input_text, line_of, status_of};
+use crate::reply::{Output, Reply};
+use crate::sending::{out_of_memory, send_reply};
+use crate::status::Status;
+use crate::summary::summary_of;
+use c_core::Code;
+use c_runner::{Report, RunError, run};
+use outside_core::{Sink, Source};
+use std::alloc::Global;
+use value_core::Memory;
+
+/// What is to be run: a code, for how many turns, and whether a summary follows its output.
+#[derive(Drop)]
+pub(crate) struct Program {
+    pub(crate) code: Code,
+    pub(crate) turns: u64,
+    pub(crate) has_summary: bool,
+}
+
+/// Why a program's run is not finished.
+#[derive(Clone, Copy, Debug, PartialEq, Eq)]
+pub(crate) enum Unfinished {
+    /// The output refused a call.
+    WriteFault,
+    /// There is no memory.
+    Memory,
+}
+
+impl From<Memory> for Unfinished {
+    ghost use Rattle.std.specs.Prelude.{◌≡◌};
+    ghost use Rattle.mypyc_top.specs.declared.running.Unfinished.TheVariants as reasons;
+
+    ghost from_gives = { λ _ e. e ≡ reasons.Memory };
+
+    fn from(_refused: Memory) -> Unfinished {
+        Unfinished::Memory
+    }
+}
+
+/// Runs a program, sends what is left, and answers the status.
+pub(crate) fn run_and_send<I: Source, O: Sink, E: Sink>(
+    alloc: Global,
+    program: &Program,
+    input: &mut I,
+    out: &mut O,
+    err: &mut E,
+) -> Status
+    requires { IsRunnable program.now }
+    ensures gave { (items : Items)
+        × AreGiven I.tells (I.faults input.old) (I.faults input.new) (I.left input.old) (I.left input.new) items
+        × RunGave program.now items (sink_call O.tells (O.taken out.old) (O.taken out.new))
+        (sink_call E.tells (E.taken err.old) (E.taken err.new)) result }
+    ensures status { IsTrue (is_run_status result) }
+    ensures input { input.new ≡ input.old }
+    ensures input_fault { result ≡ Status.InputFault → Rose (I.faults input.old) (I.faults input.new) }
+    ensures write_fault { result ≡ Status.WriteFault →
+        Rose (O.faults out.old) (O.faults out.new) ⊎ Rose (E.faults err.old) (E.faults err.new) }
+{
+    match run_program(alloc, program, input, out) {
+        Ok(rest) => send_reply(&rest, out, err),
+        Err(Unfinished::WriteFault) => Status::WriteFault,
+        Err(Unfinished::Memory) => out_of_memory(err),
+    }
+}
+
+/// Runs a program, and makes what is left to send.
+fn run_program<I: Source, O: Sink>(
+    alloc: Global,
+    program: &Program,
+    input: &mut I,
+    out: &mut O,
+) -> Result<Reply, Unfinished>
+    requires { IsRunnable program.now }
+    ensures ran { (items : Items)
+        × AreGiven I.tells (I.faults input.old) (I.faults input.new) (I.left input.old) (I.left input.new) items
+        × ((stop : Stop) × (machine_run program.now.turns items program.now.code ≡ Some stop)
+        × Finishes program.now stop (sink_call O.tells (O.taken out.old) (O.taken out.new)) result) }
+    ensures input { input.new ≡ input.old }
+    ensures input_fault { IfOk result (λ rest. rest.status ≡ Status.InputFault →
+        Rose (I.faults input.old) (I.faults input.new)) }
+    ensures calm { OnOk result (O.faults out.new ≡ O.faults out.old) }
+    ensures write_fault { IsErrOf result Unfinished.WriteFault → Rose (O.faults out.old) (O.faults out.new) }
+{
+    match run(alloc, &program.code, program.turns, input, out) {
+        Ok(report) => rest_of(alloc, program.has_summary, &report),
+        Err(RunError::InputFault) => broken_off(alloc),
+        Err(RunError::WriteFault) => Err(Unfinished::WriteFault),
+        Err(RunError::Memory) => Err(Unfinished::Memory),
+    }
+}
+
+/// What is left to send of a run that ended.
+fn rest_of(alloc: Global, has_summary: bool, report: &Report) -> Result<Reply, Unfinished>
+    ensures ok { IfOk result (IsRest has_summary (ending_of report.now.ending) report.now.live) }
+    ensures err { IfErr result (λ reason. reason ≡ Unfinished.Memory) }
+{
+    let text = if has_summary {
+        summary_of(alloc, report)?
+    } else {
+        Vec::new(alloc)
+    };
+    Ok(Reply {
+        out: Output::Bytes(text),
+        err: line_of(alloc, report)?,
+        status: status_of(&report.ending),
+    })
+}
+
+/// What is left to send of a run that could not read its input.
+fn broken_off(alloc: Global) -> Result<Reply, Unfinished>
+    ensures ok { IfOk result (λ rest. (output_text rest.out ≡ []) × (rest.err.items ≡ input_line)
+        × (rest.status ≡ Status.InputFault)) }
+    ensures err { IfErr result (λ reason. reason ≡ Unfinished.Memory) }
+{
+    let err = input_text(alloc)?;
+    Ok(Reply {
+        out: Output::Bytes(Vec::new(alloc)),
+        err,
+        status: Status::InputFault,
+    })
+}
