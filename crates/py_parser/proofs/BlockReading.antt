@@ -12,15 +12,16 @@ use Rattle.py_grammar.specs.declared.class.Class.TheVariants as class
 use Rattle.py_grammar.specs.declared.place.Place.{Place}
 use Rattle.py_grammar.specs.Classes.{class_of, same, next_in}
 use Rattle.py_grammar.specs.Grammar as g
-use Rattle.py_grammar.specs.Grammar.{key, ◌·◌, TEST, SIMPLE, STMT, BLOCK, IF, ARM, WHILE, FOR, TRY, EXCEPT, FINALLY}
+use Rattle.py_grammar.specs.Grammar.{key, ◌·◌, TEST, TESTS, TARGETS, SIMPLE, STMT, BLOCK, IF, ARM, WHILE, FOR, TRY, EXCEPT, FINALLY}
 use Rattle.py_grammar.specs.Actions.{seconds, joined}
 use Rattle.py_grammar.specs.Reader.{Outcome, ◌>>=◌, accept, sees, stmts}
-use Rattle.py_grammar.specs.Readings.{reads_sym, reads_many, many_into, spread, single, whole}
+use Rattle.py_grammar.specs.Readings.{reads_expr, reads_sym, reads_many, many_into, spread, single, whole}
 use Rattle.py_grammar.proofs.Opening.{bind_assoc}
 use Rattle.py_grammar.proofs.Loops.{spread_single, spread_joined}
 use Rattle.py_grammar.proofs.StatementEquations.{second_part, spread_seconds}
 use Rattle.py_grammar.proofs.CompoundEquations.{stmt_eq, block_eq, stmts_round, arm_eq, if_eq, arms_round, while_eq, for_eq, finally_eq, except_eq, try_eq, handlers_round, handler}
 use Rattle.py_parser.specs.declared.starts.TheConstants.{COMPOUND}
+use Rattle.py_parser.specs.Behind.{reads_behind, reads_suite}
 use Rattle.py_parser.specs.Blocks.{reads_compound, reads_stmts, reads_arms, reads_handlers, reads_else}
 use Rattle.py_parser.specs.Statements.{reads_as, reads_caught}
 use Rattle.py_parser.proofs.Binds.{if_bind, if_same, bind_same, regrouped}
@@ -104,28 +105,40 @@ block_stmts ts p =
     (bind_same (accept ts class.Newline p) _ _ (λ x. bind_same (accept ts class.Indent x.1) _ _ (λ y. bind_same (reads_sym ts STMT y.1) _ _ (λ z.
     ap (λ o. o >>= λ w. accept ts class.Dedent w.1 >>= λ d. Ok (w.0, d.1)) (sym (stmts_into ts z.0 z.1)))))) refl
 
-pub if_arms : (ts : List Token) (p : Place) → reads_sym ts IF p ≡
-    (accept ts (class.Key k.If) p >>= λ x. reads_sym ts ARM x.1 >>= λ a. reads_arms ts (a.0 ∷ []) a.1 >>= λ y. reads_else ts y.1 >>= λ o. Ok (st.at (st.If (arms_of y.0) (block_of o.0)) x.0.span, o.1))
-unfolding reads_else
-if_arms ts p =
+if_flat : (ts : List Token) (p : Place) → reads_sym ts IF p ≡
+    (accept ts (class.Key k.If) p >>= λ x. reads_sym ts ARM x.1 >>= λ a. reads_arms ts (a.0 ∷ []) a.1 >>= λ y.
+    if sees ts y.1 (class.Key k.Else ∷ [])
+    then (accept ts (class.Key k.Else) y.1 >>= λ w. accept ts (class.Sign s.Colon) w.1 >>= λ c. reads_sym ts BLOCK c.1 >>= λ b. Ok (st.at (st.If (arms_of y.0) (block_of b.0)) x.0.span, b.1))
+    else Ok (st.at (st.If (arms_of y.0) st.no_stmts) x.0.span, y.1))
+if_flat ts p =
     if_eq ts p
     ∙ bind_same (accept ts (class.Key k.If) p) _ _ (λ x. bind_same (reads_sym ts ARM x.1) _ _ (λ a.
     ap (λ o. o >>= λ y.
     if sees ts y.1 (class.Key k.Else ∷ [])
     then (accept ts (class.Key k.Else) y.1 >>= λ w. accept ts (class.Sign s.Colon) w.1 >>= λ c. reads_sym ts BLOCK c.1 >>= λ b. Ok (st.at (st.If (arms_of y.0) (block_of b.0)) x.0.span, b.1))
-    else Ok (st.at (st.If (arms_of y.0) st.no_stmts) x.0.span, y.1)) (sym (arms_into ts (a.0 ∷ []) a.1))
-    ∙ bind_same (reads_arms ts (a.0 ∷ []) a.1) _ _ (λ y. sym (ends x y))))
-  where
-    ends : (x : Token × Place) (y : List (ExprTree × Block) × Place)
-        → ((if sees ts y.1 (class.Key k.Else ∷ [])
-        then (accept ts (class.Key k.Else) y.1 >>= λ w. accept ts (class.Sign s.Colon) w.1 >>= λ c. reads_sym ts BLOCK c.1)
-        else Ok ([], y.1)) >>= λ o. Ok (st.at (st.If (arms_of y.0) (block_of o.0)) x.0.span, o.1))
-        ≡ (if sees ts y.1 (class.Key k.Else ∷ [])
-        then (accept ts (class.Key k.Else) y.1 >>= λ w. accept ts (class.Sign s.Colon) w.1 >>= λ c. reads_sym ts BLOCK c.1 >>= λ b. Ok (st.at (st.If (arms_of y.0) (block_of b.0)) x.0.span, b.1))
-        else Ok (st.at (st.If (arms_of y.0) st.no_stmts) x.0.span, y.1))
-    ends x y = simp (if_bind, bind_assoc)
+    else Ok (st.at (st.If (arms_of y.0) st.no_stmts) x.0.span, y.1)) (sym (arms_into ts (a.0 ∷ []) a.1))))
 
-pub try_handlers : (ts : List Token) (p : Place) → reads_sym ts TRY p ≡
+pub if_arms : (ts : List Token) (p : Place) → reads_sym ts IF p ≡
+    (accept ts (class.Key k.If) p >>= λ x. reads_sym ts ARM x.1 >>= λ a. reads_arms ts (a.0 ∷ []) a.1 >>= λ y. reads_else ts y.1 >>= λ o. Ok (st.at (st.If (arms_of y.0) (block_of o.0)) x.0.span, o.1))
+unfolding reads_else reads_suite
+if_arms ts p = if_flat ts p ∙ simp (if_bind, bind_assoc)
+
+pub arm_suite : (ts : List Token) (p : Place) → reads_sym ts ARM p ≡ (reads_expr ts TEST p >>= λ x. reads_suite ts x.1 >>= λ b. Ok ((x.0.tree, block_of b.0), b.1))
+unfolding reads_suite
+arm_suite ts p = arm_eq ts p ∙ simp bind_assoc
+
+pub while_suite : (ts : List Token) (p : Place) → reads_sym ts WHILE p ≡
+    (accept ts (class.Key k.While) p >>= λ x. reads_expr ts TEST x.1 >>= λ y. reads_suite ts y.1 >>= λ b. Ok (st.at (st.While y.0.tree (block_of b.0)) x.0.span, b.1))
+unfolding reads_suite
+while_suite ts p = while_eq ts p ∙ simp bind_assoc
+
+pub for_suite : (ts : List Token) (p : Place) → reads_sym ts FOR p ≡
+    (accept ts (class.Key k.For) p >>= λ x. reads_expr ts TARGETS x.1 >>= λ y. reads_behind ts (class.Key k.In) TESTS y.1 >>= λ z. reads_suite ts z.1 >>= λ b.
+    Ok (st.at (st.For y.0.tree z.0.tree (block_of b.0)) x.0.span, b.1))
+unfolding reads_suite reads_behind
+for_suite ts p = for_eq ts p ∙ simp bind_assoc
+
+try_flat : (ts : List Token) (p : Place) → reads_sym ts TRY p ≡
     (accept ts (class.Key k.Try) p >>= λ x. accept ts (class.Sign s.Colon) x.1 >>= λ c. reads_sym ts BLOCK c.1 >>= λ b.
     if sees ts b.1 (class.Key k.Except ∷ [])
     then (reads_sym ts EXCEPT b.1 >>= λ h. reads_handlers ts (h.0 ∷ []) h.1 >>= λ y.
@@ -133,7 +146,7 @@ pub try_handlers : (ts : List Token) (p : Place) → reads_sym ts TRY p ≡
     then (reads_sym ts FINALLY y.1 >>= λ f. Ok (st.at (st.Try (block_of b.0) (handlers_of y.0) (st.some_block (block_of f.0))) x.0.span, f.1))
     else Ok (st.at (st.Try (block_of b.0) (handlers_of y.0) st.no_block) x.0.span, y.1))
     else (reads_sym ts FINALLY b.1 >>= λ f. Ok (st.at (st.Try (block_of b.0) st.no_handlers (st.some_block (block_of f.0))) x.0.span, f.1)))
-try_handlers ts p =
+try_flat ts p =
     try_eq ts p
     ∙ bind_same (accept ts (class.Key k.Try) p) _ _ (λ x. bind_same (accept ts (class.Sign s.Colon) x.1) _ _ (λ c. bind_same (reads_sym ts BLOCK c.1) _ _ (λ b.
     if_same (sees ts b.1 (class.Key k.Except ∷ [])) (bind_same (reads_sym ts EXCEPT b.1) _ _ (λ h.
@@ -142,17 +155,29 @@ try_handlers ts p =
     then (reads_sym ts FINALLY y.1 >>= λ f. Ok (st.at (st.Try (block_of b.0) (handlers_of y.0) (st.some_block (block_of f.0))) x.0.span, f.1))
     else Ok (st.at (st.Try (block_of b.0) (handlers_of y.0) st.no_block) x.0.span, y.1)) (sym (handlers_into ts (h.0 ∷ []) h.1)))) refl)))
 
+pub try_handlers : (ts : List Token) (p : Place) → reads_sym ts TRY p ≡
+    (accept ts (class.Key k.Try) p >>= λ x. reads_suite ts x.1 >>= λ b.
+    if sees ts b.1 (class.Key k.Except ∷ [])
+    then (reads_sym ts EXCEPT b.1 >>= λ h. reads_handlers ts (h.0 ∷ []) h.1 >>= λ y.
+    if sees ts y.1 (class.Key k.Finally ∷ [])
+    then (reads_sym ts FINALLY y.1 >>= λ f. Ok (st.at (st.Try (block_of b.0) (handlers_of y.0) (st.some_block (block_of f.0))) x.0.span, f.1))
+    else Ok (st.at (st.Try (block_of b.0) (handlers_of y.0) st.no_block) x.0.span, y.1))
+    else (reads_sym ts FINALLY b.1 >>= λ f. Ok (st.at (st.Try (block_of b.0) st.no_handlers (st.some_block (block_of f.0))) x.0.span, f.1)))
+unfolding reads_suite
+try_handlers ts p = try_flat ts p ∙ bind_same (accept ts (class.Key k.Try) p) _ _ (λ x. sym (bind_assoc (accept ts (class.Sign s.Colon) x.1) _ _))
+
 same_end : {A : Type 0} (o : Outcome A) → (o >>= λ x. Ok (x.0, x.1)) ≡ o
 same_end (Ok x) = refl
 same_end (Err e) = refl
 
-pub finally_block : (ts : List Token) (p : Place) → reads_sym ts FINALLY p ≡ (accept ts (class.Key k.Finally) p >>= λ x. accept ts (class.Sign s.Colon) x.1 >>= λ c. reads_sym ts BLOCK c.1)
-finally_block ts p =
+pub finally_suite : (ts : List Token) (p : Place) → reads_sym ts FINALLY p ≡ (accept ts (class.Key k.Finally) p >>= λ x. reads_suite ts x.1)
+unfolding reads_suite
+finally_suite ts p =
     finally_eq ts p ∙ bind_same (accept ts (class.Key k.Finally) p) _ _ (λ x. bind_same (accept ts (class.Sign s.Colon) x.1) _ _ (λ c. same_end (reads_sym ts BLOCK c.1)))
 
 pub except_caught : (ts : List Token) (p : Place) → reads_sym ts EXCEPT p ≡
-    (accept ts (class.Key k.Except) p >>= λ x. reads_caught ts x.1 >>= λ n. accept ts (class.Sign s.Colon) n.1 >>= λ c. reads_sym ts BLOCK c.1 >>= λ b. Ok (handler n.0.0 n.0.1 (block_of b.0) x.0.span, b.1))
-unfolding reads_caught reads_as
+    (accept ts (class.Key k.Except) p >>= λ x. reads_caught ts x.1 >>= λ n. reads_suite ts n.1 >>= λ b. Ok (handler n.0.0 n.0.1 (block_of b.0) x.0.span, b.1))
+unfolding reads_caught reads_as reads_suite
 except_caught ts p = except_eq ts p ∙ simp (bind_assoc, if_bind)
 
 pub ruleset statements = (stmt_compound)
@@ -161,19 +186,19 @@ pub ruleset blocks = (block_stmts)
 
 pub ruleset stmt_rows = (stmts_eq)
 
-pub ruleset arm = (arm_eq)
+pub ruleset arm = (arm_suite)
 
 pub ruleset ifs = (if_arms)
 
 pub ruleset arm_rows = (arms_eq)
 
-pub ruleset whiles = (while_eq)
+pub ruleset whiles = (while_suite)
 
-pub ruleset fors = (for_eq)
+pub ruleset fors = (for_suite)
 
 pub ruleset tries = (try_handlers)
 
-pub ruleset finals = (finally_block)
+pub ruleset finals = (finally_suite)
 
 pub ruleset handler_rows = (handlers_eq)
 

@@ -9,13 +9,14 @@ use Rattle.py_syntax.specs.Statements.{StmtTree, block_of}
 use Rattle.py_grammar.specs.declared.class.Class.TheVariants as class
 use Rattle.py_grammar.specs.declared.place.Place.{Place}
 use Rattle.py_grammar.specs.Grammar as g
-use Rattle.py_grammar.specs.Grammar.{Sym, comma, expr, TEST, SIMPLE, STMT, BLOCK, FUNC, PARAM, CLASS, CBLOCK, MEMBER, MARK, DECORATED, TOP, MODULE}
+use Rattle.py_grammar.specs.Grammar.{Sym, comma, expr, TEST, SIMPLE, STMT, FUNC, PARAM, CLASS, CBLOCK, MEMBER, MARK, DECORATED, TOP, MODULE}
 use Rattle.py_grammar.specs.Actions.{name_of, joined, marks_of, def_at, class_at}
 use Rattle.py_grammar.specs.Reader.{◌>>=◌, accept, sees, starts}
 use Rattle.py_grammar.specs.Readings.{reads_sym, reads_many, many_into, spread, whole}
 use Rattle.py_grammar.proofs.Opening.{bind_assoc}
 use Rattle.py_grammar.proofs.Loops.{spread_joined}
 use Rattle.py_grammar.proofs.CompoundEquations.{func_eq, class_eq, param_eq, member_eq, cblock_eq, members_round, mark_eq, mark_part, decorated_eq, marks_round, top_eq, module_eq, tops_round, func_of, class_of_parts}
+use Rattle.py_parser.specs.Behind.{reads_suite}
 use Rattle.py_parser.specs.Definitions.{reads_bases, reads_members, reads_marks, reads_tops}
 use Rattle.py_parser.specs.Rows.{reads_row}
 use Rattle.py_parser.specs.Statements.{reads_maybe}
@@ -30,8 +31,8 @@ param_maybe ts p = param_eq ts p ∙ simp (bind_assoc, if_bind)
 
 pub func_maybe : (ts : List Token) (p : Place) → reads_sym ts FUNC p ≡
     (accept ts (class.Key k.Def) p >>= λ x. accept ts class.Name x.1 >>= λ n. accept ts (class.Sign s.LeftParen) n.1 >>= λ l. reads_row ts PARAM l.1 >>= λ ps. accept ts (class.Sign s.RightParen) ps.1 >>= λ r.
-    reads_maybe ts s.Arrow r.1 >>= λ t. accept ts (class.Sign s.Colon) t.1 >>= λ c. reads_sym ts BLOCK c.1 >>= λ b. Ok ((func_of (name_of n.0) ps.0 t.0 (block_of b.0), x.0.span), b.1))
-unfolding reads_maybe
+    reads_maybe ts s.Arrow r.1 >>= λ t. reads_suite ts t.1 >>= λ b. Ok ((func_of (name_of n.0) ps.0 t.0 (block_of b.0), x.0.span), b.1))
+unfolding reads_maybe reads_suite
 func_maybe ts p = func_eq ts p ∙ simp (bind_assoc, if_bind, items_row)
 
 pub class_bases : (ts : List Token) (p : Place) → reads_sym ts CLASS p ≡

@@ -1,5 +1,5 @@
 -- How each symbol of an expression is read.
-use Rattle.std.proofs.Common.{◌≡◌, ℕ, Bool, true, false, ◌||◌, List, [], ◌∷◌, ◌++◌, Option, Some, None, Ok, if◌then◌else◌, refl, ◌∙◌, ap}
+use Rattle.std.proofs.Common.{◌≡◌, ℕ, Bool, true, false, ◌||◌, List, [], ◌∷◌, ◌++◌, Option, Some, None, Ok, if◌then◌else◌, refl, sym, ◌∙◌, ap}
 use Rattle.std.specs.Prelude.{slice_get}
 use Rattle.py_syntax.specs.declared.expression.BinOp.TheVariants as op
 use Rattle.py_syntax.specs.declared.key.Key.TheVariants as k
@@ -14,7 +14,7 @@ use Rattle.py_grammar.specs.Classes.{class_of, same, next_in}
 use Rattle.py_grammar.specs.Levels.{Piece}
 use Rattle.py_grammar.specs.Grammar as g
 use Rattle.py_grammar.specs.Grammar.{Sym, ExprSym, More, expr, more, comma, tok, TESTS, TARGETS, TEST, OR, AND, NOT, COMP, BOR, SHIFT, SUM, TERM, FACTOR, PRIMARY, ATOM, OR_MORE, AND_MORE, BOR_MORE, SHIFT_MORE, SUM_MORE, TERM_MORE, TRAILER, COMP_MORE, COMP_OP, ARG, ENTRY}
-use Rattle.py_grammar.specs.Actions.{piece, compared, texts_of, text_in, name_of}
+use Rattle.py_grammar.specs.Actions.{piece, compared, texts_of, text_in}
 use Rattle.py_grammar.specs.Reader.{Outcome, ◌>>=◌, accept, sees}
 use Rattle.py_grammar.specs.Readings.{reads_sym, reads_expr, reads_grown, reads_many, growth, finish, many_into, spread}
 use Rattle.py_grammar.proofs.Opening.{bind_assoc, sym_eq}
@@ -24,11 +24,13 @@ use Rattle.py_parser.specs.declared.operator.Level.TheVariants as level
 use Rattle.py_parser.specs.declared.operator.Operator.{Operator}
 use Rattle.py_parser.specs.declared.operator.Operator.TheVariants as operator
 use Rattle.py_parser.specs.declared.starts.TheConstants.{LITERALS}
+use Rattle.py_parser.specs.Behind.{reads_behind}
 use Rattle.py_parser.specs.Brackets.{reads_group, reads_list, reads_dict}
 use Rattle.py_parser.specs.Literals.{reads_literal, reads_constant, reads_texts}
 use Rattle.py_parser.specs.Operators.{sym_of, below_of, more_of, operator_at, operation}
 use Rattle.py_parser.specs.Prefixes.{reads_condition, reads_alternative, conditional}
-use Rattle.py_parser.specs.Rows.{reads_row, reads_trees}
+use Rattle.py_parser.specs.Rows.{reads_trees}
+use Rattle.py_parser.specs.Trailers.{reads_attribute, reads_call, reads_indexed, reads_member, reads_arguments, reads_index}
 use Rattle.py_parser.specs.declared.fault.ParseError.{ParseError}
 use Rattle.py_parser.specs.Gives.{Fails}
 use Rattle.py_parser.proofs.Binds.{if_same, bind_same, regrouped}
@@ -51,7 +53,7 @@ unfolding reads_condition
 condition_opens ts v p = refl
 
 same_condition : (ts : List Token) (v : Piece) (p : Place) → condition_on ts v p ≡ (reads_alternative ts p >>= λ y. conditional (v, y.0.0) (reads_condition ts y.0.1 y.1))
-unfolding reads_alternative
+unfolding reads_alternative reads_behind
 same_condition ts v p = simp (bind_assoc, test_eq)
 
 pub condition_eq : (ts : List Token) (v : Piece) (p : Place) → reads_condition ts v p ≡
@@ -116,35 +118,25 @@ pub growth_none : (ts : List Token) (l : Level) (v : Piece) (p : Place) → oper
 growth_none ts l v p is = growth_step ts l v p ∙ ap (λ o. operation_on ts l o v p) is
 
 pub growth_some : (ts : List Token) (l : Level) (v : Piece) (p : Place) (o : Class × Operator) → operator_at ts p l ≡ Some o
-    → growth ts (more_of l) v p ≡ (accept ts o.0 p >>= λ x. reads_expr ts (below_of l) x.1 >>= λ y. finish (piece (operation o.1 v.tree y.0.tree) v.begins) y.1)
-growth_some ts l v p o is = growth_step ts l v p ∙ ap (λ o. operation_on ts l o v p) is
+    → growth ts (more_of l) v p ≡ (reads_behind ts o.0 (below_of l) p >>= λ y. finish (piece (operation o.1 v.tree y.0.tree) v.begins) y.1)
+unfolding reads_behind
+growth_some ts l v p o is = growth_step ts l v p ∙ ap (λ o. operation_on ts l o v p) is ∙ sym (bind_assoc (accept ts o.0 p) _ _)
 
-pub growth_makes : (ts : List Token) (l : Level) (v : Piece) (p : Place) (o : Class × Operator) (x : Token × Place) (y : Piece × Place) → operator_at ts p l ≡ Some o
-    → accept ts o.0 p ≡ Ok x → reads_expr ts (below_of l) x.1 ≡ Ok y → growth ts (more_of l) v p ≡ finish (piece (operation o.1 v.tree y.0.tree) v.begins) y.1
-growth_makes ts l v p o x y is a r = growth_some ts l v p o is ∙ rw a (rw r refl)
+pub growth_makes : (ts : List Token) (l : Level) (v : Piece) (p : Place) (o : Class × Operator) (y : Piece × Place) → operator_at ts p l ≡ Some o
+    → reads_behind ts o.0 (below_of l) p ≡ Ok y → growth ts (more_of l) v p ≡ finish (piece (operation o.1 v.tree y.0.tree) v.begins) y.1
+growth_makes ts l v p o y is r = growth_some ts l v p o is ∙ rw r refl
 
-pub growth_refuses : (ts : List Token) (l : Level) (v : Piece) (p : Place) (o : Class × Operator) (fault : ParseError) → operator_at ts p l ≡ Some o
-    → Fails fault (accept ts o.0 p) → Fails fault (growth ts (more_of l) v p)
-growth_refuses ts l v p o fault is h = rw (growth_some ts l v p o is) (fails_bind fault (accept ts o.0 p) _ h)
-
-pub growth_lacks : (ts : List Token) (l : Level) (v : Piece) (p : Place) (o : Class × Operator) (x : Token × Place) (fault : ParseError) → operator_at ts p l ≡ Some o
-    → accept ts o.0 p ≡ Ok x → Fails fault (reads_expr ts (below_of l) x.1) → Fails fault (growth ts (more_of l) v p)
-growth_lacks ts l v p o x fault is a h = rw (growth_some ts l v p o is) (rw a (fails_bind fault (reads_expr ts (below_of l) x.1) _ h))
+pub growth_lacks : (ts : List Token) (l : Level) (v : Piece) (p : Place) (o : Class × Operator) (fault : ParseError) → operator_at ts p l ≡ Some o
+    → Fails fault (reads_behind ts o.0 (below_of l) p) → Fails fault (growth ts (more_of l) v p)
+growth_lacks ts l v p o fault is h = rw (growth_some ts l v p o is) (fails_bind fault (reads_behind ts o.0 (below_of l) p) _ h)
 
 -- ---- trailers, prefixes, comparisons, brackets
 
 pub trailer_eq : (ts : List Token) (v : Piece) (p : Place) → growth ts TRAILER v p ≡
-    (if sees ts p (class.Sign s.Dot ∷ [])
-    then (accept ts (class.Sign s.Dot) p >>= λ x. accept ts class.Name x.1 >>= λ y. finish (piece (e.Attr v.tree (name_of y.0)) v.begins) y.1)
-    else (if sees ts p (class.Sign s.LeftParen ∷ [])
-    then (accept ts (class.Sign s.LeftParen) p >>= λ x. reads_row ts ARG x.1 >>= λ y. accept ts (class.Sign s.RightParen) y.1 >>= λ z. finish (piece (e.Call v.tree (arguments_of y.0)) v.begins) z.1)
-    else (accept ts (class.Sign s.LeftSquare) p >>= λ x. reads_expr ts TESTS x.1 >>= λ y. accept ts (class.Sign s.RightSquare) y.1 >>= λ z. finish (piece (e.Index v.tree y.0.tree) v.begins) z.1)))
-trailer_eq ts v p =
-    r.trailer_eq ts v p
-    ∙ if_same (sees ts p (class.Sign s.Dot ∷ [])) refl
-    (if_same (sees ts p (class.Sign s.LeftParen ∷ []))
-    (bind_same (accept ts (class.Sign s.LeftParen) p) _ _ (λ x.
-    ap (λ o. o >>= λ y. accept ts (class.Sign s.RightParen) y.1 >>= λ z. finish (piece (e.Call v.tree (arguments_of y.0)) v.begins) z.1) (items_row ts ARG x.1))) refl)
+    (if sees ts p (class.Sign s.Dot ∷ []) then reads_attribute ts v p
+    else (if sees ts p (class.Sign s.LeftParen ∷ []) then reads_call ts v p else reads_indexed ts v p))
+unfolding reads_attribute reads_call reads_indexed reads_member reads_arguments reads_index
+trailer_eq ts v p = r.trailer_eq ts v p ∙ simp (bind_assoc, items_row)
 
 pub not_eq : (ts : List Token) (p : Place) → reads_expr ts NOT p ≡
     (if sees ts p (class.Key k.Not ∷ [])
@@ -166,14 +158,25 @@ comp_eq ts p = sym_eq ts (expr COMP) p
 pub comp_more_eq : (ts : List Token) (p : Place) → reads_sym ts COMP_MORE p ≡ (reads_sym ts COMP_OP p >>= λ o. reads_expr ts BOR o.1 >>= λ y. Ok ((o.0, y.0.tree), y.1))
 comp_more_eq ts p = sym_eq ts COMP_MORE p
 
-pub arg_eq : (ts : List Token) (p : Place) → reads_sym ts ARG p ≡ (reads_expr ts TEST p >>= λ x.
+arg_flat : (ts : List Token) (p : Place) → reads_sym ts ARG p ≡ (reads_expr ts TEST p >>= λ x.
     if sees ts x.1 (class.Sign s.Assign ∷ [])
     then (accept ts (class.Sign s.Assign) x.1 >>= λ a. reads_expr ts TEST a.1 >>= λ y. Ok (record { key = Some x.0.tree; value = y.0.tree }, y.1))
     else Ok (record { key = None; value = x.0.tree }, x.1))
-arg_eq ts p = sym_eq ts ARG p
+arg_flat ts p = sym_eq ts ARG p
 
-pub entry_eq : (ts : List Token) (p : Place) → reads_sym ts ENTRY p ≡ (reads_expr ts TEST p >>= λ x. accept ts (class.Sign s.Colon) x.1 >>= λ a. reads_expr ts TEST a.1 >>= λ y. Ok ((x.0.tree, y.0.tree), y.1))
-entry_eq ts p = sym_eq ts ENTRY p
+pub arg_eq : (ts : List Token) (p : Place) → reads_sym ts ARG p ≡ (reads_expr ts TEST p >>= λ x.
+    if sees ts x.1 (class.Sign s.Assign ∷ [])
+    then (reads_behind ts (class.Sign s.Assign) TEST x.1 >>= λ y. Ok (record { key = Some x.0.tree; value = y.0.tree }, y.1))
+    else Ok (record { key = None; value = x.0.tree }, x.1))
+unfolding reads_behind
+arg_eq ts p = arg_flat ts p ∙ simp bind_assoc
+
+entry_flat : (ts : List Token) (p : Place) → reads_sym ts ENTRY p ≡ (reads_expr ts TEST p >>= λ x. accept ts (class.Sign s.Colon) x.1 >>= λ a. reads_expr ts TEST a.1 >>= λ y. Ok ((x.0.tree, y.0.tree), y.1))
+entry_flat ts p = sym_eq ts ENTRY p
+
+pub entry_eq : (ts : List Token) (p : Place) → reads_sym ts ENTRY p ≡ (reads_expr ts TEST p >>= λ x. reads_behind ts (class.Sign s.Colon) TEST x.1 >>= λ y. Ok ((x.0.tree, y.0.tree), y.1))
+unfolding reads_behind
+entry_eq ts p = entry_flat ts p ∙ simp bind_assoc
 
 -- a choice of six, by one look
 six : {A : Type 0} (a b c d e f : Bool) (u v w x y z r : A)

@@ -9,14 +9,16 @@ use Rattle.py_syntax.specs.Statements.{StmtTree}
 use Rattle.py_grammar.specs.declared.class.Class.TheVariants as class
 use Rattle.py_grammar.specs.declared.place.Place.{Place}
 use Rattle.py_grammar.specs.Grammar as g
-use Rattle.py_grammar.specs.Grammar.{SIMPLE, SMALL, RETURN, RAISE, PLAIN, AUG, TESTS}
+use Rattle.py_grammar.specs.Grammar.{SIMPLE, SMALL, RETURN, RAISE, ASSERT, PLAIN, AUG, TEST, TESTS}
 use Rattle.py_grammar.specs.Reader.{Outcome, ◌>>=◌, accept, sees, tests, smalls}
 use Rattle.py_grammar.specs.Readings.{reads_sym, reads_expr, reads_after, after_into, single}
+use Rattle.py_grammar.proofs.Opening.{bind_assoc}
 use Rattle.py_grammar.proofs.StatementEquations.{simple_eq, smalls_round, small_eq, plain_eq, aug_eq, return_eq, raise_eq, assert_eq, del_eq}
 use Rattle.py_parser.specs.declared.assign.TheConstants.{ASSIGNING}
 use Rattle.py_parser.specs.declared.fault.ParseError.{ParseError}
+use Rattle.py_parser.specs.Behind.{reads_behind}
 use Rattle.py_parser.specs.Gives.{Fails}
-use Rattle.py_parser.specs.Statements.{reads_lone, reads_line, reads_worded, reads_annotated, reads_assigned, reads_augmenting}
+use Rattle.py_parser.specs.Statements.{reads_lone, reads_line, reads_worded, reads_annotated, reads_assigned, reads_given, reads_changed, reads_augmenting}
 use Rattle.py_parser.proofs.Binds.{bind_same}
 use Rattle.py_parser.proofs.Faults.{fails_bind}
 
@@ -81,8 +83,8 @@ unfolding reads_worded
 small_worded_eq ts p = small_eq ts p
 
 pub plain_assigned_eq : (ts : List Token) (p : Place) → reads_sym ts PLAIN p ≡ (reads_expr ts TESTS p >>= λ x. if sees ts x.1 ASSIGNING then reads_assigned ts x.0 x.1 else Ok (st.at (st.Do x.0.tree) x.0.begins, x.1))
-unfolding reads_assigned reads_annotated
-plain_assigned_eq ts p = plain_eq ts p
+unfolding reads_assigned reads_annotated reads_given reads_changed reads_behind
+plain_assigned_eq ts p = plain_eq ts p ∙ simp bind_assoc
 
 pub augmenting_eq : (ts : List Token) (p : Place) → reads_sym ts AUG p ≡
     (if sees ts p (class.Sign s.PlusAssign ∷ []) then reads_augmenting ts s.PlusAssign op.Add p
@@ -111,6 +113,13 @@ pub ruleset returning = (returning_eq)
 
 pub ruleset raising = (raise_eq)
 
-pub ruleset asserting = (assert_eq)
+pub asserting_eq : (ts : List Token) (p : Place) → reads_sym ts ASSERT p ≡ (accept ts (class.Key k.Assert) p >>= λ x. reads_expr ts TEST x.1 >>= λ y.
+    if sees ts y.1 (class.Sign s.Comma ∷ [])
+    then (reads_behind ts (class.Sign s.Comma) TEST y.1 >>= λ m. Ok (st.at (st.Assert y.0.tree (Some m.0.tree)) x.0.span, m.1))
+    else Ok (st.at (st.Assert y.0.tree None) x.0.span, y.1))
+unfolding reads_behind
+asserting_eq ts p = assert_eq ts p ∙ simp bind_assoc
+
+pub ruleset asserting = (asserting_eq)
 
 pub ruleset deleting = (del_eq)

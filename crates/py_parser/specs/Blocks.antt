@@ -1,17 +1,17 @@
 -- Statements with blocks and their parts, as they are read.
 use Rattle.std.specs.Prelude.{List, [], ◌∷◌, ◌++◌, Ok, if◌then◌else◌}
 use Rattle.py_syntax.specs.declared.key.Key.TheVariants as k
-use Rattle.py_syntax.specs.declared.sign.Sign.TheVariants as s
 use Rattle.py_syntax.specs.declared.token.Token.{Token}
 use Rattle.py_syntax.specs.Expressions.{ExprTree}
 use Rattle.py_syntax.specs.Statements.{StmtTree, Block, HandlerTree}
 use Rattle.py_grammar.specs.declared.class.Class.TheVariants as class
 use Rattle.py_grammar.specs.declared.place.Place.{Place}
 use Rattle.py_grammar.specs.Grammar as g
-use Rattle.py_grammar.specs.Grammar.{key, ◌·◌, STMT, BLOCK, IF, ARM, WHILE, FOR, TRY, EXCEPT}
+use Rattle.py_grammar.specs.Grammar.{key, ◌·◌, STMT, IF, ARM, WHILE, FOR, TRY, EXCEPT}
 use Rattle.py_grammar.specs.Actions.{seconds, joined}
 use Rattle.py_grammar.specs.Reader.{Outcome, ◌>>=◌, accept, sees}
 use Rattle.py_grammar.specs.Readings.{reads_sym, reads_many}
+use Rattle.py_parser.specs.Behind.{reads_suite}
 
 -- one statement with blocks
 unfoldable pub reads_compound : List Token → Place → Outcome StmtTree
@@ -34,5 +34,5 @@ reads_handlers ts found p = reads_many ts (g.sym EXCEPT) p >>= λ y. Ok (found +
 unfoldable pub reads_else : List Token → Place → Outcome (List StmtTree)
 reads_else ts p =
     if sees ts p (class.Key k.Else ∷ [])
-    then (accept ts (class.Key k.Else) p >>= λ w. accept ts (class.Sign s.Colon) w.1 >>= λ c. reads_sym ts BLOCK c.1)
+    then (accept ts (class.Key k.Else) p >>= λ w. reads_suite ts w.1)
     else Ok ([], p)

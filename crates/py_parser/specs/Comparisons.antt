@@ -1,13 +1,17 @@
--- Comparison operators of words, as they are read.
+-- Comparisons and their operators, as they are read.
 use Rattle.std.specs.Prelude.{[], ◌∷◌, List, Ok, if◌then◌else◌}
 use Rattle.py_syntax.specs.declared.expression.CmpOp.{CmpOp}
 use Rattle.py_syntax.specs.declared.expression.CmpOp.TheVariants as cmp
 use Rattle.py_syntax.specs.declared.key.Key.TheVariants as k
 use Rattle.py_syntax.specs.declared.sign.Sign.{Sign}
 use Rattle.py_syntax.specs.declared.token.Token.{Token}
+use Rattle.py_syntax.specs.Expressions.{ExprTree}
 use Rattle.py_grammar.specs.declared.class.Class.TheVariants as class
 use Rattle.py_grammar.specs.declared.place.Place.{Place}
+use Rattle.py_grammar.specs.Grammar as g
+use Rattle.py_grammar.specs.Grammar.{COMP_MORE}
 use Rattle.py_grammar.specs.Reader.{Outcome, ◌>>=◌, accept, sees}
+use Rattle.py_grammar.specs.Readings.{reads_many}
 
 -- one of a sign
 abbrev pub reads_sign : List Token → Sign → CmpOp → Place → Outcome CmpOp
@@ -23,3 +27,7 @@ reads_words ts p =
     if sees ts x.1 (class.Key k.Not ∷ [])
     then (accept ts (class.Key k.Not) x.1 >>= λ y. Ok (cmp.IsNot, y.1))
     else Ok (cmp.Is, x.1)))
+
+-- any number of comparisons, each an operator with its operand
+unfoldable pub reads_comparisons : List Token → Place → Outcome (List (CmpOp × ExprTree))
+reads_comparisons ts p = reads_many ts (g.sym COMP_MORE) p

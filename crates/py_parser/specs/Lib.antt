@@ -1,3 +1,4 @@
+pub mod Behind
 pub mod Blocks
 pub mod Brackets
 pub mod Comparisons
@@ -11,4 +12,5 @@ pub mod Parsed
 pub mod Prefixes
 pub mod Rows
 pub mod Statements
+pub mod Trailers
 pub mod Whole

@@ -13,6 +13,7 @@ use Rattle.py_grammar.specs.Grammar.{OR, TEST}
 use Rattle.py_grammar.specs.Actions.{piece}
 use Rattle.py_grammar.specs.Reader.{Outcome, ◌>>=◌, accept, sees}
 use Rattle.py_grammar.specs.Readings.{reads_expr, finish}
+use Rattle.py_parser.specs.Behind.{reads_behind}
 
 -- an expression behind a prefix: `not`, minus or plus
 abbrev pub prefix_node : Token → ExprTree → ExprNode
@@ -52,5 +53,4 @@ reads_condition ts v p =
 -- a test, and the operand behind its `else`
 unfoldable pub reads_alternative : List Token → Place → Outcome (Piece × Piece)
 reads_alternative ts p =
-    accept ts (class.Key k.If) p >>= λ a. reads_expr ts OR a.1 >>= λ t.
-    accept ts (class.Key k.Else) t.1 >>= λ b. reads_expr ts OR b.1 >>= λ x. Ok ((t.0, x.0), x.1)
+    reads_behind ts (class.Key k.If) OR p >>= λ t. reads_behind ts (class.Key k.Else) OR t.1 >>= λ x. Ok ((t.0, x.0), x.1)

@@ -23,6 +23,7 @@ use Rattle.py_grammar.specs.Grammar.{comma, tok, sign, key, ◌·◌, TEST, SMAL
 use Rattle.py_grammar.specs.Actions.{name_of}
 use Rattle.py_grammar.specs.Reader.{Outcome, ◌>>=◌, accept, sees, tests}
 use Rattle.py_grammar.specs.Readings.{reads_expr, reads_sym, reads_after, after_into, single}
+use Rattle.py_parser.specs.Behind.{reads_behind}
 
 -- what was read, and the place behind it
 abbrev pub stmt_seen : Stmt × Place → StmtTree × Place
@@ -66,6 +67,10 @@ class_seen x = ((class_tree x.0.0, x.0.1), x.1)
 
 abbrev pub mark_seen : (Expr × Span) × Place → (ExprTree × Span) × Place
 mark_seen x = ((expr_tree x.0.0, x.0.1), x.1)
+
+-- a handler of these parts
+abbrev pub handler_of : Option ExprTree → Option (List ℕ) → Block → Span → HandlerTree
+handler_of caught name body span = record { class = caught; name = name; body = body; span = span }
 
 -- a statement of one keyword
 abbrev pub lone_node : Key → StmtNode
@@ -113,18 +118,24 @@ reads_worded ts p =
 -- an annotation behind a target, and what is assigned to it, if anything is
 unfoldable pub reads_annotated : List Token → Piece → Place → Outcome StmtTree
 reads_annotated ts x p =
-    accept ts (class.Sign s.Colon) p >>= λ c. reads_expr ts TEST c.1 >>= λ m.
+    reads_behind ts (class.Sign s.Colon) TEST p >>= λ m.
     if sees ts m.1 (class.Sign s.Assign ∷ [])
-    then (accept ts (class.Sign s.Assign) m.1 >>= λ a. reads_expr ts g.TESTS a.1 >>= λ v. Ok (st.at (st.Annot x.tree m.0.tree (Some v.0.tree)) x.begins, v.1))
+    then (reads_behind ts (class.Sign s.Assign) g.TESTS m.1 >>= λ v. Ok (st.at (st.Annot x.tree m.0.tree (Some v.0.tree)) x.begins, v.1))
     else Ok (st.at (st.Annot x.tree m.0.tree None) x.begins, m.1)
+
+-- a value that is assigned to a target
+unfoldable pub reads_given : List Token → Piece → Place → Outcome StmtTree
+reads_given ts x p = reads_behind ts (class.Sign s.Assign) g.TESTS p >>= λ v. Ok (st.at (st.Assign x.tree v.0.tree) x.begins, v.1)
+
+-- an operator by which a target is changed, and its other operand
+unfoldable pub reads_changed : List Token → Piece → Place → Outcome StmtTree
+reads_changed ts x p = reads_sym ts g.AUG p >>= λ o. reads_expr ts g.TESTS o.1 >>= λ v. Ok (st.at (st.Aug x.tree o.0 v.0.tree) x.begins, v.1)
 
 -- what is assigned to a target, or its annotation
 unfoldable pub reads_assigned : List Token → Piece → Place → Outcome StmtTree
 reads_assigned ts x p =
     if sees ts p (class.Sign s.Colon ∷ []) then reads_annotated ts x p
-    else (if sees ts p (class.Sign s.Assign ∷ [])
-    then (accept ts (class.Sign s.Assign) p >>= λ a. reads_expr ts g.TESTS a.1 >>= λ v. Ok (st.at (st.Assign x.tree v.0.tree) x.begins, v.1))
-    else (reads_sym ts g.AUG p >>= λ o. reads_expr ts g.TESTS o.1 >>= λ v. Ok (st.at (st.Aug x.tree o.0 v.0.tree) x.begins, v.1)))
+    else (if sees ts p (class.Sign s.Assign ∷ []) then reads_given ts x p else reads_changed ts x p)
 
 -- the operator of an augmented assignment, by its sign
 abbrev pub reads_augmenting : List Token → Sign → BinOp → Place → Outcome BinOp

@@ -4,13 +4,14 @@ ghost use Rattle.py_grammar.specs.Grammar.{PLAIN, AUG};
 ghost use Rattle.py_grammar.specs.Readings.{reads_sym};
 ghost use Rattle.py_parser.specs.Gives.{Gives};
 ghost use Rattle.py_parser.specs.Parsed.{piece_of, MovesTo};
-ghost use Rattle.py_parser.specs.Statements.{stmt_seen, reads_annotated, reads_assigned, reads_augmenting};
+ghost use Rattle.py_parser.specs.Statements.{stmt_seen, reads_annotated, reads_assigned, reads_given, reads_changed, reads_augmenting};
 
-use crate::expression::{test, tests};
+use crate::behind::tests_behind;
+use crate::expression::{test_behind, tests};
 use crate::fault::ParseError;
 use crate::parsed::Parsed;
 use crate::place::{accept_sign, sees_any, sees_sign};
-use crate::statement::{alone, annotating, assigning, augmented};
+use crate::statement::{alone, annotating, annotating_with, assigning, augmented};
 use py_grammar::{Class, Place};
 use py_syntax::{BinOp, Sign, Stmt, Token};
 use std::alloc::Global;
@@ -42,7 +43,8 @@ pub(crate) fn of_tests(
     if sees_any(tokens, target.place, &ASSIGNING) {
         return assigned(alloc, tokens, target);
     }
-    Ok((alone(target.expr, target.begin), target.place))
+    let place = target.place;
+    Ok((alone(target), place))
 }
 
 // What is assigned to a target, or its annotation.
@@ -55,15 +57,32 @@ fn assigned(alloc: Global, tokens: &[Token], target: Parsed) -> Result<(Stmt, Pl
         return annotated(alloc, tokens, target);
     }
     if sees_sign(tokens, target.place, Sign::Assign) {
-        let (_, place) = accept_sign(tokens, target.place, Sign::Assign)?;
-        let value = tests(alloc, tokens, place)?;
-        let made = assigning(target.expr, value.expr, target.begin);
-        return Ok((made, value.place));
+        return given(alloc, tokens, target);
     }
+    changed(alloc, tokens, target)
+}
+
+// A value that is assigned to a target.
+#[tactic(auto, unfolding(crate::specs::Statements::reads_given))]
+fn given(alloc: Global, tokens: &[Token], target: Parsed) -> Result<(Stmt, Place), ParseError>
+    ensures read { Gives stmt_seen result (reads_given tokens.now (piece_of target) target.place) }
+    ensures moves { IfOk result (λ x. MovesTo tokens.now target.place x.1) }
+{
+    let value = tests_behind(alloc, tokens, target.place, Class::Sign(Sign::Assign))?;
+    let place = value.place;
+    Ok((assigning(target, value), place))
+}
+
+// An operator by which a target is changed, and its other operand.
+#[tactic(auto, unfolding(crate::specs::Statements::reads_changed))]
+fn changed(alloc: Global, tokens: &[Token], target: Parsed) -> Result<(Stmt, Place), ParseError>
+    ensures read { Gives stmt_seen result (reads_changed tokens.now (piece_of target) target.place) }
+    ensures moves { IfOk result (λ x. MovesTo tokens.now target.place x.1) }
+{
     let (op, place) = augmenting(tokens, target.place)?;
     let value = tests(alloc, tokens, place)?;
-    let made = augmented(target.expr, op, value.expr, target.begin);
-    Ok((made, value.place))
+    let place = value.place;
+    Ok((augmented(target, op, value), place))
 }
 
 // An annotation behind a target, and what is assigned to it, if anything is.
@@ -72,16 +91,14 @@ fn annotated(alloc: Global, tokens: &[Token], target: Parsed) -> Result<(Stmt, P
     ensures read { Gives stmt_seen result (reads_annotated tokens.now (piece_of target) target.place) }
     ensures moves { IfOk result (λ x. MovesTo tokens.now target.place x.1) }
 {
-    let (_, place) = accept_sign(tokens, target.place, Sign::Colon)?;
-    let annotation = test(alloc, tokens, place)?;
-    if !sees_sign(tokens, annotation.place, Sign::Assign) {
-        let made = annotating(target.expr, annotation.expr, None, target.begin);
-        return Ok((made, annotation.place));
+    let annotation = test_behind(alloc, tokens, target.place, Sign::Colon)?;
+    let place = annotation.place;
+    if !sees_sign(tokens, place, Sign::Assign) {
+        return Ok((annotating(target, annotation), place));
     }
-    let (_, place) = accept_sign(tokens, annotation.place, Sign::Assign)?;
-    let value = tests(alloc, tokens, place)?;
-    let made = annotating(target.expr, annotation.expr, Some(value.expr), target.begin);
-    Ok((made, value.place))
+    let value = tests_behind(alloc, tokens, place, Class::Sign(Sign::Assign))?;
+    let place = value.place;
+    Ok((annotating_with(target, annotation, value), place))
 }
 
 // The operator of an augmented assignment.

@@ -3,19 +3,21 @@ ghost use Rattle.std.specs.Prelude.{[], ◌∷◌, map, IfOk};
 ghost use Rattle.py_syntax.specs.Statements.{stmt_tree, arm_tree, handler_tree};
 ghost use Rattle.py_grammar.specs.Grammar.{STMT, BLOCK, IF, ARM, WHILE, FOR, TRY, EXCEPT, FINALLY};
 ghost use Rattle.py_grammar.specs.Readings.{reads_sym};
+ghost use Rattle.py_parser.specs.Behind.{reads_suite};
 ghost use Rattle.py_parser.specs.Blocks.{reads_compound, reads_stmts, reads_arms, reads_handlers, reads_else};
 ghost use Rattle.py_parser.specs.Gives.{Gives};
 ghost use Rattle.py_parser.specs.Parsed.{MovesTo, MovesUpTo};
 ghost use Rattle.py_parser.specs.Statements.{stmt_seen, stmts_seen, caught_seen, arm_seen, handler_seen, arms_seen, handlers_seen, reads_caught};
 
 use crate::append::append;
-use crate::expression::{test, tests};
+use crate::behind::tests_behind;
+use crate::expression::test;
 use crate::fault::ParseError;
 use crate::import::maybe_as;
 use crate::place::{accept, accept_key, accept_sign, sees, sees_any, sees_key};
 use crate::simple::simple;
 use crate::starts::{COMPOUND, begins_stmt, begins_test};
-use crate::statement::{fors, ifs, tries, whiles};
+use crate::statement::{fors, handling, ifs, tries, whiles};
 use crate::target::targets;
 use py_grammar::{Class, Place};
 use py_syntax::{Expr, Handler, Key, Sign, Stmt, Token};
@@ -61,14 +63,10 @@ fn compound(alloc: Global, tokens: &[Token], place: Place) -> Result<(Stmt, Plac
     try_stmt(alloc, tokens, place)
 }
 
-/// A line of statements, or indented lines.
+// A line of statements, or indented lines.
 #[cycle(block)]
 #[tactic(auto, using(crate::proofs::BlockReading::blocks))]
-pub(crate) fn block(
-    alloc: Global,
-    tokens: &[Token],
-    place: Place,
-) -> Result<(Many<Stmt>, Place), ParseError>
+fn block(alloc: Global, tokens: &[Token], place: Place) -> Result<(Many<Stmt>, Place), ParseError>
     ensures read { Gives stmts_seen result (reads_sym tokens.now BLOCK place) }
     ensures moves { IfOk result (λ x. MovesTo tokens.now place x.1) }
 {
@@ -81,6 +79,21 @@ pub(crate) fn block(
     let (found, place) = stmts(alloc, tokens, first, place)?;
     let (_, place) = accept(tokens, place, Class::Dedent)?;
     Ok((found, place))
+}
+
+/// A block behind a colon.
+#[cycle(block)]
+#[tactic(auto, unfolding(crate::specs::Behind::reads_suite))]
+pub(crate) fn suite(
+    alloc: Global,
+    tokens: &[Token],
+    place: Place,
+) -> Result<(Many<Stmt>, Place), ParseError>
+    ensures read { Gives stmts_seen result (reads_suite tokens.now place) }
+    ensures moves { IfOk result (λ x. MovesTo tokens.now place x.1) }
+{
+    let (_, place) = accept_sign(tokens, place, Sign::Colon)?;
+    block(alloc, tokens, place)
 }
 
 // Any number of statements, behind those in front of them.
@@ -117,8 +130,7 @@ fn arm(
     ensures moves { IfOk result (λ x. MovesTo tokens.now place x.1) }
 {
     let condition = test(alloc, tokens, place)?;
-    let (_, place) = accept_sign(tokens, condition.place, Sign::Colon)?;
-    let (body, place) = block(alloc, tokens, place)?;
+    let (body, place) = suite(alloc, tokens, condition.place)?;
     Ok(((condition.expr, body), place))
 }
 
@@ -174,8 +186,7 @@ fn else_block(
         return Ok((Many::new(alloc), place));
     }
     let (_, place) = accept_key(tokens, place, Key::Else)?;
-    let (_, place) = accept_sign(tokens, place, Sign::Colon)?;
-    block(alloc, tokens, place)
+    suite(alloc, tokens, place)
 }
 
 #[cycle(block)]
@@ -186,9 +197,8 @@ fn while_stmt(alloc: Global, tokens: &[Token], place: Place) -> Result<(Stmt, Pl
 {
     let (token, place) = accept_key(tokens, place, Key::While)?;
     let condition = test(alloc, tokens, place)?;
-    let (_, place) = accept_sign(tokens, condition.place, Sign::Colon)?;
-    let (body, place) = block(alloc, tokens, place)?;
-    Ok((whiles(condition.expr, body, token.span), place))
+    let (body, place) = suite(alloc, tokens, condition.place)?;
+    Ok((whiles(condition, body, token.span), place))
 }
 
 #[cycle(block)]
@@ -199,11 +209,9 @@ fn for_stmt(alloc: Global, tokens: &[Token], place: Place) -> Result<(Stmt, Plac
 {
     let (token, place) = accept_key(tokens, place, Key::For)?;
     let target = targets(alloc, tokens, place)?;
-    let (_, place) = accept_key(tokens, target.place, Key::In)?;
-    let all = tests(alloc, tokens, place)?;
-    let (_, place) = accept_sign(tokens, all.place, Sign::Colon)?;
-    let (body, place) = block(alloc, tokens, place)?;
-    Ok((fors(target.expr, all.expr, body, token.span), place))
+    let all = tests_behind(alloc, tokens, target.place, Class::Key(Key::In))?;
+    let (body, place) = suite(alloc, tokens, all.place)?;
+    Ok((fors(target, all, body, token.span), place))
 }
 
 #[cycle(block)]
@@ -213,8 +221,7 @@ fn try_stmt(alloc: Global, tokens: &[Token], place: Place) -> Result<(Stmt, Plac
     ensures moves { IfOk result (λ x. MovesTo tokens.now place x.1) }
 {
     let (token, place) = accept_key(tokens, place, Key::Try)?;
-    let (_, place) = accept_sign(tokens, place, Sign::Colon)?;
-    let (body, place) = block(alloc, tokens, place)?;
+    let (body, place) = suite(alloc, tokens, place)?;
     if !sees_key(tokens, place, Key::Except) {
         let (last, place) = finally(alloc, tokens, place)?;
         let made = tries(body, Many::new(alloc), Some(last), token.span);
@@ -236,8 +243,7 @@ fn finally(alloc: Global, tokens: &[Token], place: Place) -> Result<(Many<Stmt>,
     ensures moves { IfOk result (λ x. MovesTo tokens.now place x.1) }
 {
     let (_, place) = accept_key(tokens, place, Key::Finally)?;
-    let (_, place) = accept_sign(tokens, place, Sign::Colon)?;
-    block(alloc, tokens, place)
+    suite(alloc, tokens, place)
 }
 
 // The handlers of a `try`: the first one, and those behind it.
@@ -270,16 +276,9 @@ fn handler(alloc: Global, tokens: &[Token], place: Place) -> Result<(Handler, Pl
     ensures moves { IfOk result (λ x. MovesTo tokens.now place x.1) }
 {
     let (token, place) = accept_key(tokens, place, Key::Except)?;
-    let ((class, name), place) = caught(alloc, tokens, place)?;
-    let (_, place) = accept_sign(tokens, place, Sign::Colon)?;
-    let (body, place) = block(alloc, tokens, place)?;
-    let found = Handler {
-        class,
-        name,
-        body,
-        span: token.span,
-    };
-    Ok((found, place))
+    let (caught, place) = caught(alloc, tokens, place)?;
+    let (body, place) = suite(alloc, tokens, place)?;
+    Ok((handling(caught, body, token.span), place))
 }
 
 // What a handler catches, and its name.

@@ -12,7 +12,7 @@ ghost use Rattle.py_parser.specs.Rows.{reads_row};
 ghost use Rattle.py_parser.specs.Statements.{stmt_seen, stmts_seen, maybe_seen, exprs_listed, param_seen, params_seen, func_seen, class_seen, mark_seen, reads_maybe};
 
 use crate::append::append;
-use crate::block::{block, stmt};
+use crate::block::{stmt, suite};
 use crate::expression::{items, test};
 use crate::fault::ParseError;
 use crate::place::{accept, accept_key, accept_sign, sees, sees_key, sees_sign};
@@ -123,8 +123,7 @@ pub(crate) fn func(
     let (params, place) = params(alloc, tokens, place)?;
     let (_, place) = accept_sign(tokens, place, Sign::RightParen)?;
     let (ret, place) = maybe_behind(alloc, tokens, place, Sign::Arrow)?;
-    let (_, place) = accept_sign(tokens, place, Sign::Colon)?;
-    let (body, place) = block(alloc, tokens, place)?;
+    let (body, place) = suite(alloc, tokens, place)?;
     let found = Func {
         name,
         params,

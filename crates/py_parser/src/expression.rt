@@ -1,15 +1,21 @@
 //! Expressions. A cycle of calls goes down the levels, and up again inside brackets.
-ghost use Rattle.std.specs.Prelude.{map, IfOk};
+ghost use Rattle.std.specs.Prelude.{◌≡◌, ◌≢◌, [], map, IfOk, true};
 ghost use Rattle.py_syntax.specs.Expressions.{expr_tree, arg_tree, entry_tree, comparison_tree};
-ghost use Rattle.py_grammar.specs.Grammar.{TEST, TESTS, NOT, FACTOR, COMP, ATOM, TRAILER, ARG, ENTRY, COMP_MORE};
+ghost use Rattle.py_grammar.specs.declared.class.Class.TheVariants as class;
+ghost use Rattle.py_grammar.specs.Grammar.{TEST, TESTS, OR, NOT, FACTOR, COMP, ATOM, TRAILER, ARG, ENTRY, COMP_MORE};
+ghost use Rattle.py_grammar.specs.Reader as reader;
+ghost use Rattle.py_grammar.specs.Reader.{sees};
 ghost use Rattle.py_grammar.specs.Readings.{reads_expr, reads_sym, growth};
-ghost use Rattle.py_parser.specs.Brackets.{reads_group};
+ghost use Rattle.py_parser.specs.Behind.{reads_behind};
+ghost use Rattle.py_parser.specs.Brackets.{reads_group, reads_list, reads_dict};
+ghost use Rattle.py_parser.specs.Comparisons.{reads_comparisons};
 ghost use Rattle.py_parser.specs.Gives.{Gives};
 ghost use Rattle.py_parser.specs.Heads.{alternative_seen, IsHead};
 ghost use Rattle.py_parser.specs.Operators.{sym_of, below_of, more_of};
 ghost use Rattle.py_parser.specs.Parsed.{seen, piece_of, exprs_seen, args_seen, entries_seen, comparisons_seen, IsFinished, Moves, MovesTo, MovesUpTo, AreExprs, AreArgs, AreEntries, AreComparisons};
 ghost use Rattle.py_parser.specs.Prefixes.{reads_alternative};
 ghost use Rattle.py_parser.specs.Rows.{fronted, one_more, reads_row, reads_trees};
+ghost use Rattle.py_parser.specs.Trailers.{index_seen, reads_member, reads_arguments, reads_index, reads_attribute, reads_call, reads_indexed};
 
 use crate::atom::literal;
 use crate::comparison::comparison_operator;
@@ -27,7 +33,7 @@ use crate::word::name_of;
 use py_grammar::{Class, Place};
 use py_syntax::{Arg, CmpOp, Expr, ExprKind, Key, Sign, Token};
 use std::alloc::Global;
-use value_core::Many;
+use value_core::{Many, Name};
 
 /// An expression: a condition, or what stands above one.
 #[cycle(expression)]
@@ -58,11 +64,41 @@ fn alternative(
     ensures moves { IfOk result (λ x. MovesTo tokens.now place x.1.place) }
     ensures finished { IfOk result IsHead }
 {
-    let (_, place) = accept_key(tokens, place, Key::If)?;
-    let condition = chain(alloc, tokens, place, Level::Or)?;
-    let (_, place) = accept_key(tokens, condition.place, Key::Else)?;
-    let other = chain(alloc, tokens, place, Level::Or)?;
+    let condition = chain_behind(alloc, tokens, place, Key::If)?;
+    let other = chain_behind(alloc, tokens, condition.place, Key::Else)?;
     Ok((condition, other))
+}
+
+// An operand of a condition, behind a keyword.
+#[cycle(expression)]
+#[tactic(auto, unfolding(crate::specs::Behind::reads_behind))]
+fn chain_behind(
+    alloc: Global,
+    tokens: &[Token],
+    place: Place,
+    key: Key,
+) -> Result<Parsed, ParseError>
+    ensures read { Gives seen result (reads_behind tokens.now (class.Key key) OR place) }
+    ensures moves { IfOk result (λ x. Moves tokens.now place x) }
+{
+    let (_, place) = accept_key(tokens, place, key)?;
+    chain(alloc, tokens, place, Level::Or)
+}
+
+/// An expression behind a sign.
+#[cycle(expression)]
+#[tactic(auto, unfolding(crate::specs::Behind::reads_behind))]
+pub(crate) fn test_behind(
+    alloc: Global,
+    tokens: &[Token],
+    place: Place,
+    sign: Sign,
+) -> Result<Parsed, ParseError>
+    ensures read { Gives seen result (reads_behind tokens.now (class.Sign sign) TEST place) }
+    ensures moves { IfOk result (λ x. Moves tokens.now place x) }
+{
+    let (_, place) = accept_sign(tokens, place, sign)?;
+    test(alloc, tokens, place)
 }
 
 /// An expression, or several between commas, which are a tuple.
@@ -168,11 +204,27 @@ fn grow(alloc: Global, tokens: &[Token], left: Parsed, level: Level) -> Result<P
         None => trailer(alloc, tokens, left),
         Some(next) => {
             let (class, operator) = next;
-            let (_, place) = accept(tokens, left.place, class)?;
-            let right = operand(alloc, tokens, place, level)?;
+            let right = operand_behind(alloc, tokens, left.place, class, level)?;
             joined(alloc, operator, left, right)
         }
     }
+}
+
+// What stands between the operators of a level, behind such an operator.
+#[cycle(expression)]
+#[tactic(auto, unfolding(crate::specs::Behind::reads_behind))]
+fn operand_behind(
+    alloc: Global,
+    tokens: &[Token],
+    place: Place,
+    class: Class,
+    level: Level,
+) -> Result<Parsed, ParseError>
+    ensures read { Gives seen result (reads_behind tokens.now class (below_of level) place) }
+    ensures moves { IfOk result (λ x. Moves tokens.now place x) }
+{
+    let (_, place) = accept(tokens, place, class)?;
+    operand(alloc, tokens, place, level)
 }
 
 // An attribute, a call or an index behind an expression.
@@ -184,21 +236,95 @@ fn trailer(alloc: Global, tokens: &[Token], left: Parsed) -> Result<Parsed, Pars
     ensures moves { IfOk result (λ x. Moves tokens.now left.place x) }
 {
     if sees_sign(tokens, left.place, Sign::Dot) {
-        let (_, place) = accept_sign(tokens, left.place, Sign::Dot)?;
-        let (token, place) = accept(tokens, place, Class::Name)?;
-        let name = name_of(alloc, token)?;
-        return attribute(alloc, left, name, place);
+        return attribute_of(alloc, tokens, left);
     }
     if sees_sign(tokens, left.place, Sign::LeftParen) {
-        let (_, place) = accept_sign(tokens, left.place, Sign::LeftParen)?;
-        let args = arguments(alloc, tokens, place)?;
-        let (_, place) = accept_sign(tokens, args.place, Sign::RightParen)?;
-        return called(alloc, left, args, place);
+        return call_of(alloc, tokens, left);
     }
-    let (_, place) = accept_sign(tokens, left.place, Sign::LeftSquare)?;
+    index_of(alloc, tokens, left)
+}
+
+#[tactic(auto, unfolding(crate::specs::Trailers::reads_attribute))]
+fn attribute_of(alloc: Global, tokens: &[Token], left: Parsed) -> Result<Parsed, ParseError>
+    requires { IsFinished left }
+    ensures read { Gives seen result (reads_attribute tokens.now (piece_of left) left.place) }
+    ensures moves { IfOk result (λ x. Moves tokens.now left.place x) }
+{
+    let (name, place) = member(alloc, tokens, left.place)?;
+    attribute(alloc, left, name, place)
+}
+
+// A name behind a dot.
+#[tactic(auto, unfolding(crate::specs::Trailers::reads_member))]
+fn member(alloc: Global, tokens: &[Token], place: Place) -> Result<(Name, Place), ParseError>
+    ensures read { Gives (λ x. x) result (reads_member tokens.now place) }
+    ensures moves { IfOk result (λ x. MovesTo tokens.now place x.1) }
+{
+    let (_, place) = accept_sign(tokens, place, Sign::Dot)?;
+    let (token, place) = accept(tokens, place, Class::Name)?;
+    Ok((name_of(alloc, token)?, place))
+}
+
+#[cycle(expression)]
+#[tactic(auto, unfolding(crate::specs::Trailers::reads_call))]
+fn call_of(alloc: Global, tokens: &[Token], left: Parsed) -> Result<Parsed, ParseError>
+    requires { IsFinished left }
+    ensures read { Gives seen result (reads_call tokens.now (piece_of left) left.place) }
+    ensures moves { IfOk result (λ x. Moves tokens.now left.place x) }
+{
+    let args = bracketed_arguments(alloc, tokens, left.place)?;
+    called(alloc, left, args)
+}
+
+// Arguments in brackets.
+#[cycle(expression)]
+#[tactic(auto, unfolding(crate::specs::Trailers::reads_arguments))]
+fn bracketed_arguments(
+    alloc: Global,
+    tokens: &[Token],
+    place: Place,
+) -> Result<Row<Arg>, ParseError>
+    ensures read { Gives args_seen result (reads_arguments tokens.now place) }
+    ensures moves { IfOk result (λ x. MovesTo tokens.now place x.place) }
+    ensures row { IfOk result AreArgs }
+{
+    let (_, place) = accept_sign(tokens, place, Sign::LeftParen)?;
+    let found = arguments(alloc, tokens, place)?;
+    let (_, place) = accept_sign(tokens, found.place, Sign::RightParen)?;
+    Ok(Row {
+        list: found.list,
+        level: found.level,
+        place,
+    })
+}
+
+#[cycle(expression)]
+#[tactic(auto, unfolding(crate::specs::Trailers::reads_indexed))]
+fn index_of(alloc: Global, tokens: &[Token], left: Parsed) -> Result<Parsed, ParseError>
+    requires { IsFinished left }
+    ensures read { Gives seen result (reads_indexed tokens.now (piece_of left) left.place) }
+    ensures moves { IfOk result (λ x. Moves tokens.now left.place x) }
+{
+    let (index, place) = bracketed_index(alloc, tokens, left.place)?;
+    indexed(alloc, left, index, place)
+}
+
+// An index in brackets, and the place behind them.
+#[cycle(expression)]
+#[tactic(auto, unfolding(crate::specs::Trailers::reads_index))]
+fn bracketed_index(
+    alloc: Global,
+    tokens: &[Token],
+    place: Place,
+) -> Result<(Parsed, Place), ParseError>
+    ensures read { Gives index_seen result (reads_index tokens.now place) }
+    ensures moves { IfOk result (λ x. MovesTo tokens.now place x.1) }
+    ensures finished { IfOk result (λ x. IsFinished x.0) }
+{
+    let (_, place) = accept_sign(tokens, place, Sign::LeftSquare)?;
     let index = tests(alloc, tokens, place)?;
     let (_, place) = accept_sign(tokens, index.place, Sign::RightSquare)?;
-    indexed(alloc, left, index, place)
+    Ok((index, place))
 }
 
 // Arguments between commas, or none, and a last comma.
@@ -244,8 +370,7 @@ fn argument(
     if !sees_sign(tokens, first.place, Sign::Assign) {
         return Ok(push_value(found, first)?);
     }
-    let (_, place) = accept_sign(tokens, first.place, Sign::Assign)?;
-    let value = test(alloc, tokens, place)?;
+    let value = test_behind(alloc, tokens, first.place, Sign::Assign)?;
     Ok(push_keyed(found, first, value)?)
 }
 
@@ -292,11 +417,28 @@ fn comparison(alloc: Global, tokens: &[Token], place: Place) -> Result<Parsed, P
     if !begins_comparison(tokens, first.place) {
         return Ok(first);
     }
-    let mut more = compare(alloc, tokens, no_row(alloc, first.place))?;
+    let more = comparisons(alloc, tokens, first.place)?;
+    compared(alloc, first, more)
+}
+
+// The comparisons behind an operand, of which there is one at least.
+#[cycle(expression)]
+fn comparisons(
+    alloc: Global,
+    tokens: &[Token],
+    place: Place,
+) -> Result<Row<(CmpOp, Expr)>, ParseError>
+    requires { sees tokens.now place reader.comparisons ≡ true }
+    ensures read { Gives comparisons_seen result (reads_comparisons tokens.now place) }
+    ensures some { IfOk result (λ x. map comparison_tree x.list ≢ []) }
+    ensures moves { IfOk result (λ x. MovesTo tokens.now place x.place) }
+    ensures row { IfOk result AreComparisons }
+{
+    let mut more = compare(alloc, tokens, no_row(alloc, place))?;
     'comparisons: while begins_comparison(tokens, more.place) {
         more = compare(alloc, tokens, more)?;
     }
-    compared(alloc, first, more)
+    Ok(more)
 }
 
 // One comparison operator and operand more.
@@ -319,7 +461,7 @@ fn compare(
 
 // A name, a literal, or what stands in brackets.
 #[cycle(expression)]
-#[tactic(auto, using(crate::proofs::ExprEquations::atom_eq), unfolding(crate::specs::Brackets::reads_list, crate::specs::Brackets::reads_dict))]
+#[tactic(auto, using(crate::proofs::ExprEquations::atom_eq))]
 fn atom(alloc: Global, tokens: &[Token], place: Place) -> Result<Parsed, ParseError>
     ensures read { Gives seen result (reads_expr tokens.now ATOM place) }
     ensures moves { IfOk result (λ x. Moves tokens.now place x) }
@@ -331,11 +473,31 @@ fn atom(alloc: Global, tokens: &[Token], place: Place) -> Result<Parsed, ParseEr
         return group(alloc, tokens, place);
     }
     if sees_sign(tokens, place, Sign::LeftSquare) {
-        let (open, place) = accept_sign(tokens, place, Sign::LeftSquare)?;
-        let found = items(alloc, tokens, no_row(alloc, place), place)?;
-        let (_, place) = accept_sign(tokens, found.place, Sign::RightSquare)?;
-        return Ok(list_display(found, open.span, place));
+        return list(alloc, tokens, place);
     }
+    dict(alloc, tokens, place)
+}
+
+// A list display.
+#[cycle(expression)]
+#[tactic(auto, using(crate::proofs::ManyReading::fronted_nil), unfolding(crate::specs::Brackets::reads_list))]
+fn list(alloc: Global, tokens: &[Token], place: Place) -> Result<Parsed, ParseError>
+    ensures read { Gives seen result (reads_list tokens.now place) }
+    ensures moves { IfOk result (λ x. Moves tokens.now place x) }
+{
+    let (open, place) = accept_sign(tokens, place, Sign::LeftSquare)?;
+    let found = items(alloc, tokens, no_row(alloc, place), place)?;
+    let (_, place) = accept_sign(tokens, found.place, Sign::RightSquare)?;
+    Ok(list_display(found, open.span, place))
+}
+
+// A dict display.
+#[cycle(expression)]
+#[tactic(auto, unfolding(crate::specs::Brackets::reads_dict))]
+fn dict(alloc: Global, tokens: &[Token], place: Place) -> Result<Parsed, ParseError>
+    ensures read { Gives seen result (reads_dict tokens.now place) }
+    ensures moves { IfOk result (λ x. Moves tokens.now place x) }
+{
     let (open, place) = accept_sign(tokens, place, Sign::LeftBrace)?;
     let found = entries(alloc, tokens, place)?;
     let (_, place) = accept_sign(tokens, found.place, Sign::RightBrace)?;
@@ -400,7 +562,6 @@ fn entry(
     ensures row { IfOk result AreEntries }
 {
     let key = test(alloc, tokens, place)?;
-    let (_, place) = accept_sign(tokens, key.place, Sign::Colon)?;
-    let value = test(alloc, tokens, place)?;
+    let value = test_behind(alloc, tokens, key.place, Sign::Colon)?;
     Ok(push_entry(found, key, value)?)
 }

@@ -212,23 +212,18 @@ pub(crate) fn indexed(
     Ok(closed(kind, left.begin, level, place))
 }
 
-/// A call, behind the closing bracket.
-pub(crate) fn called(
-    alloc: Global,
-    left: Parsed,
-    args: Row<Arg>,
-    place: Place,
-) -> Result<Parsed, ParseError>
+/// A call of an expression.
+pub(crate) fn called(alloc: Global, left: Parsed, args: Row<Arg>) -> Result<Parsed, ParseError>
     requires left { IsFinished left }
     requires args { AreArgs args }
-    ensures read { Gives seen result (finish (piece (e.Call (expr_tree left.expr) (arguments_of (map arg_tree args.list))) left.begin) place) }
+    ensures read { Gives seen result (finish (piece (e.Call (expr_tree left.expr) (arguments_of (map arg_tree args.list))) left.begin) args.place) }
     ensures finished { IfOk result IsFinished }
-    ensures at { IfOk result (λ x. x.place.at ≡ place.at) }
+    ensures at { IfOk result (λ x. x.place.at ≡ args.place.at) }
 {
     let level = left.level.max(args.level) + 1;
     let part = Box::new(alloc, left.expr)?;
     let kind = ExprKind::Call(part, args.list);
-    Ok(closed(kind, left.begin, level, place))
+    Ok(closed(kind, left.begin, level, args.place))
 }
 
 /// A list display, behind the closing bracket.

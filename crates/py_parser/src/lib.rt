@@ -15,6 +15,7 @@ ghost use Rattle.py_parser.specs.Whole.{IsRight};
 mod append;
 mod assign;
 mod atom;
+mod behind;
 mod block;
 mod comparison;
 mod define;

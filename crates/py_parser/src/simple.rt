@@ -9,12 +9,14 @@ ghost use Rattle.py_parser.specs.Parsed.{MovesTo, MovesUpTo};
 ghost use Rattle.py_parser.specs.Statements.{stmt_seen, stmts_seen, lone_node, reads_lone, reads_line, reads_worded};
 
 use crate::assign::of_tests;
-use crate::expression::{test, tests};
+use crate::expression::{test, test_behind, tests};
 use crate::fault::ParseError;
 use crate::import::{from_import, global, import};
 use crate::place::{accept, accept_key, accept_sign, sees_key, sees_sign};
 use crate::starts::{begins_small, begins_test};
-use crate::statement::{asserting, deleting, raising, returning};
+use crate::statement::{
+    asserting, asserting_with, deleting, raising, raising_value, returning, returning_value,
+};
 use py_grammar::{Class, Place};
 use py_syntax::{Key, Sign, Span, Stmt, StmtKind, Token};
 use std::alloc::Global;
@@ -148,10 +150,11 @@ fn returned(alloc: Global, tokens: &[Token], place: Place) -> Result<(Stmt, Plac
 {
     let (token, place) = accept_key(tokens, place, Key::Return)?;
     if !begins_test(tokens, place) {
-        return Ok((returning(None, token.span), place));
+        return Ok((returning(token.span), place));
     }
     let value = tests(alloc, tokens, place)?;
-    Ok((returning(Some(value.expr), token.span), value.place))
+    let place = value.place;
+    Ok((returning_value(value, token.span), place))
 }
 
 #[tactic(auto, using(crate::proofs::LineReading::raising))]
@@ -161,10 +164,11 @@ fn raised(alloc: Global, tokens: &[Token], place: Place) -> Result<(Stmt, Place)
 {
     let (token, place) = accept_key(tokens, place, Key::Raise)?;
     if !begins_test(tokens, place) {
-        return Ok((raising(None, token.span), place));
+        return Ok((raising(token.span), place));
     }
     let value = test(alloc, tokens, place)?;
-    Ok((raising(Some(value.expr), token.span), value.place))
+    let place = value.place;
+    Ok((raising_value(value, token.span), place))
 }
 
 #[tactic(auto, using(crate::proofs::LineReading::asserting))]
@@ -174,14 +178,13 @@ fn asserted(alloc: Global, tokens: &[Token], place: Place) -> Result<(Stmt, Plac
 {
     let (token, place) = accept_key(tokens, place, Key::Assert)?;
     let condition = test(alloc, tokens, place)?;
-    if !sees_sign(tokens, condition.place, Sign::Comma) {
-        let made = asserting(condition.expr, None, token.span);
-        return Ok((made, condition.place));
+    let place = condition.place;
+    if !sees_sign(tokens, place, Sign::Comma) {
+        return Ok((asserting(condition, token.span), place));
     }
-    let (_, place) = accept_sign(tokens, condition.place, Sign::Comma)?;
-    let message = test(alloc, tokens, place)?;
-    let made = asserting(condition.expr, Some(message.expr), token.span);
-    Ok((made, message.place))
+    let message = test_behind(alloc, tokens, place, Sign::Comma)?;
+    let place = message.place;
+    Ok((asserting_with(condition, message, token.span), place))
 }
 
 #[tactic(auto, using(crate::proofs::LineReading::deleting))]
@@ -191,5 +194,6 @@ fn deleted(alloc: Global, tokens: &[Token], place: Place) -> Result<(Stmt, Place
 {
     let (token, place) = accept_key(tokens, place, Key::Del)?;
     let target = test(alloc, tokens, place)?;
-    Ok((deleting(target.expr, token.span), target.place))
+    let place = target.place;
+    Ok((deleting(target, token.span), place))
 }

@@ -1,46 +1,75 @@
 //! Statements made of finished parts.
-ghost use Rattle.std.specs.Prelude.{◌≡◌, map};
+ghost use Rattle.std.specs.Prelude.{◌≡◌, Some, None, map};
 ghost use Rattle.std.specs.Option.{option_map};
 ghost use Rattle.py_syntax.specs.Expressions.{expr_tree};
+ghost use Rattle.py_parser.specs.Statements.{handler_of};
 ghost use Rattle.py_syntax.specs.Statements as tree;
 ghost use Rattle.py_syntax.specs.Statements.{stmt_tree, maybe_expr, arm_tree, body_tree, handler_tree, arms_of, handlers_of, maybe_block};
 
+use crate::parsed::Parsed;
 use py_syntax::{BinOp, Expr, Handler, Span, Stmt, StmtKind};
 use value_core::{Many, Name};
 
 /// `return`.
 #[tactic(auto, using(crate::proofs::StatementNodes::nodes))]
-pub(crate) fn returning(value: Option<Expr>, span: Span) -> Stmt
-    ensures { stmt_tree result ≡ tree.at (tree.Return (maybe_expr value)) span }
+pub(crate) fn returning(span: Span) -> Stmt
+    ensures { stmt_tree result ≡ tree.at (tree.Return None) span }
 {
-    let kind = StmtKind::Return(value);
+    let kind = StmtKind::Return(None);
+    Stmt { kind, span }
+}
+
+/// `return` with a value.
+#[tactic(auto, using(crate::proofs::StatementNodes::nodes))]
+pub(crate) fn returning_value(value: Parsed, span: Span) -> Stmt
+    ensures { stmt_tree result ≡ tree.at (tree.Return (Some (expr_tree value.expr))) span }
+{
+    let kind = StmtKind::Return(Some(value.expr));
     Stmt { kind, span }
 }
 
 /// `raise`.
 #[tactic(auto, using(crate::proofs::StatementNodes::nodes))]
-pub(crate) fn raising(value: Option<Expr>, span: Span) -> Stmt
-    ensures { stmt_tree result ≡ tree.at (tree.Raise (maybe_expr value)) span }
+pub(crate) fn raising(span: Span) -> Stmt
+    ensures { stmt_tree result ≡ tree.at (tree.Raise None) span }
 {
-    let kind = StmtKind::Raise(value);
+    let kind = StmtKind::Raise(None);
+    Stmt { kind, span }
+}
+
+/// `raise` with an exception.
+#[tactic(auto, using(crate::proofs::StatementNodes::nodes))]
+pub(crate) fn raising_value(value: Parsed, span: Span) -> Stmt
+    ensures { stmt_tree result ≡ tree.at (tree.Raise (Some (expr_tree value.expr))) span }
+{
+    let kind = StmtKind::Raise(Some(value.expr));
     Stmt { kind, span }
 }
 
 /// `assert`.
 #[tactic(auto, using(crate::proofs::StatementNodes::nodes))]
-pub(crate) fn asserting(test: Expr, message: Option<Expr>, span: Span) -> Stmt
-    ensures { stmt_tree result ≡ tree.at (tree.Assert (expr_tree test) (maybe_expr message)) span }
+pub(crate) fn asserting(test: Parsed, span: Span) -> Stmt
+    ensures { stmt_tree result ≡ tree.at (tree.Assert (expr_tree test.expr) None) span }
 {
-    let kind = StmtKind::Assert(test, message);
+    let kind = StmtKind::Assert(test.expr, None);
+    Stmt { kind, span }
+}
+
+/// `assert` with a message.
+#[tactic(auto, using(crate::proofs::StatementNodes::nodes))]
+pub(crate) fn asserting_with(test: Parsed, message: Parsed, span: Span) -> Stmt
+    ensures { stmt_tree result ≡ tree.at (tree.Assert (expr_tree test.expr) (Some (expr_tree message.expr))) span }
+{
+    let kind = StmtKind::Assert(test.expr, Some(message.expr));
     Stmt { kind, span }
 }
 
 /// `del`.
 #[tactic(auto, using(crate::proofs::StatementNodes::nodes))]
-pub(crate) fn deleting(target: Expr, span: Span) -> Stmt
-    ensures { stmt_tree result ≡ tree.at (tree.Del (expr_tree target)) span }
+pub(crate) fn deleting(target: Parsed, span: Span) -> Stmt
+    ensures { stmt_tree result ≡ tree.at (tree.Del (expr_tree target.expr)) span }
 {
-    let kind = StmtKind::Del(target);
+    let kind = StmtKind::Del(target.expr);
     Stmt { kind, span }
 }
 
@@ -73,38 +102,62 @@ pub(crate) fn from_importing(source: Name, names: Many<(Name, Option<Name>)>, sp
 
 /// An expression alone.
 #[tactic(auto, using(crate::proofs::StatementNodes::nodes))]
-pub(crate) fn alone(value: Expr, span: Span) -> Stmt
-    ensures { stmt_tree result ≡ tree.at (tree.Do (expr_tree value)) span }
+pub(crate) fn alone(value: Parsed) -> Stmt
+    ensures { stmt_tree result ≡ tree.at (tree.Do (expr_tree value.expr)) value.begin }
 {
-    let kind = StmtKind::Expr(value);
-    Stmt { kind, span }
+    let kind = StmtKind::Expr(value.expr);
+    Stmt {
+        kind,
+        span: value.begin,
+    }
 }
 
 /// An assignment.
 #[tactic(auto, using(crate::proofs::StatementNodes::nodes))]
-pub(crate) fn assigning(target: Expr, value: Expr, span: Span) -> Stmt
-    ensures { stmt_tree result ≡ tree.at (tree.Assign (expr_tree target) (expr_tree value)) span }
+pub(crate) fn assigning(target: Parsed, value: Parsed) -> Stmt
+    ensures { stmt_tree result ≡ tree.at (tree.Assign (expr_tree target.expr) (expr_tree value.expr)) target.begin }
 {
-    let kind = StmtKind::Assign(target, value);
-    Stmt { kind, span }
+    let kind = StmtKind::Assign(target.expr, value.expr);
+    Stmt {
+        kind,
+        span: target.begin,
+    }
 }
 
 /// An augmented assignment.
 #[tactic(auto, using(crate::proofs::StatementNodes::nodes))]
-pub(crate) fn augmented(target: Expr, op: BinOp, value: Expr, span: Span) -> Stmt
-    ensures { stmt_tree result ≡ tree.at (tree.Aug (expr_tree target) op (expr_tree value)) span }
+pub(crate) fn augmented(target: Parsed, op: BinOp, value: Parsed) -> Stmt
+    ensures { stmt_tree result ≡ tree.at (tree.Aug (expr_tree target.expr) op (expr_tree value.expr)) target.begin }
 {
-    let kind = StmtKind::Aug(target, op, value);
-    Stmt { kind, span }
+    let kind = StmtKind::Aug(target.expr, op, value.expr);
+    Stmt {
+        kind,
+        span: target.begin,
+    }
 }
 
 /// An annotation.
 #[tactic(auto, using(crate::proofs::StatementNodes::nodes))]
-pub(crate) fn annotating(target: Expr, annotation: Expr, value: Option<Expr>, span: Span) -> Stmt
-    ensures { stmt_tree result ≡ tree.at (tree.Annot (expr_tree target) (expr_tree annotation) (maybe_expr value)) span }
+pub(crate) fn annotating(target: Parsed, annotation: Parsed) -> Stmt
+    ensures { stmt_tree result ≡ tree.at (tree.Annot (expr_tree target.expr) (expr_tree annotation.expr) None) target.begin }
 {
-    let kind = StmtKind::Annot(target, annotation, value);
-    Stmt { kind, span }
+    let kind = StmtKind::Annot(target.expr, annotation.expr, None);
+    Stmt {
+        kind,
+        span: target.begin,
+    }
+}
+
+/// An annotation with a value.
+#[tactic(auto, using(crate::proofs::StatementNodes::nodes))]
+pub(crate) fn annotating_with(target: Parsed, annotation: Parsed, value: Parsed) -> Stmt
+    ensures { stmt_tree result ≡ tree.at (tree.Annot (expr_tree target.expr) (expr_tree annotation.expr) (Some (expr_tree value.expr))) target.begin }
+{
+    let kind = StmtKind::Annot(target.expr, annotation.expr, Some(value.expr));
+    Stmt {
+        kind,
+        span: target.begin,
+    }
 }
 
 /// `if`.
@@ -118,19 +171,19 @@ pub(crate) fn ifs(arms: Many<(Expr, Many<Stmt>)>, other: Many<Stmt>, span: Span)
 
 /// `while`.
 #[tactic(auto, using(crate::proofs::StatementNodes::nodes))]
-pub(crate) fn whiles(test: Expr, body: Many<Stmt>, span: Span) -> Stmt
-    ensures { stmt_tree result ≡ tree.at (tree.While (expr_tree test) (body_tree body)) span }
+pub(crate) fn whiles(test: Parsed, body: Many<Stmt>, span: Span) -> Stmt
+    ensures { stmt_tree result ≡ tree.at (tree.While (expr_tree test.expr) (body_tree body)) span }
 {
-    let kind = StmtKind::While(test, body);
+    let kind = StmtKind::While(test.expr, body);
     Stmt { kind, span }
 }
 
 /// `for`.
 #[tactic(auto, using(crate::proofs::StatementNodes::nodes))]
-pub(crate) fn fors(target: Expr, all: Expr, body: Many<Stmt>, span: Span) -> Stmt
-    ensures { stmt_tree result ≡ tree.at (tree.For (expr_tree target) (expr_tree all) (body_tree body)) span }
+pub(crate) fn fors(target: Parsed, all: Parsed, body: Many<Stmt>, span: Span) -> Stmt
+    ensures { stmt_tree result ≡ tree.at (tree.For (expr_tree target.expr) (expr_tree all.expr) (body_tree body)) span }
 {
-    let kind = StmtKind::For(target, all, body);
+    let kind = StmtKind::For(target.expr, all.expr, body);
     Stmt { kind, span }
 }
 
@@ -146,4 +199,22 @@ pub(crate) fn tries(
 {
     let kind = StmtKind::Try(body, handlers, last);
     Stmt { kind, span }
+}
+
+/// A handler, by what it catches and the name for it.
+#[tactic(auto, using(crate::proofs::Parts::parts))]
+pub(crate) fn handling(
+    caught: (Option<Expr>, Option<Name>),
+    body: Many<Stmt>,
+    span: Span,
+) -> Handler
+    ensures { handler_tree result ≡ handler_of (maybe_expr caught.0) caught.1 (body_tree body) span }
+{
+    let (class, name) = caught;
+    Handler {
+        class,
+        name,
+        body,
+        span,
+    }
 }

@@ -4,7 +4,6 @@ use Rattle.py_syntax.specs.Statements.{stmt_tree, arm_tree, handler_tree}
 use Rattle.py_parser.specs.Blocks.{reads_stmts, reads_arms, reads_handlers}
 use Rattle.py_parser.specs.Statements.{stmts_seen, arm_seen, handler_seen}
 use Rattle.py_parser.proofs.BlockReading.{stmts_more, arms_more, handlers_more}
-use Rattle.py_parser.proofs.Parts.{except_made}
 use Rattle.py_parser.proofs.block.+block.Goals as goal
 
 pub stmts-stmts-preserved : goal.stmts-stmts-preserved
@@ -55,9 +54,3 @@ handlers-handlers-preserved t c =
         within = λ h. c.in_ok-more.ensures.moves.within;
       };
     }
-
-pub handler-returns-clause-read : goal.handler-returns-clause-read
-handler-returns-clause-read t c =
-    except_made c.args.tokens.now c.args.place (c.in_ok-token.token.now, c.in_ok-token.place) c.in_ok-class.class c.in_ok-class.name c.in_ok-class.place
-    (c.in_ok-place.field-0-0.now, c.in_ok-place.place) c.in_ok-body.body c.in_ok-body.place
-    c.in_ok-token.ensures.read c.in_ok-class.ensures.read c.in_ok-place.ensures.read c.in_ok-body.ensures.read

@@ -13,6 +13,9 @@ decreases-compound l = (length l.tokens.now - l.place.at) * 4 + 1
 abbrev pub decreases-block : goal.decreases-block
 decreases-block l = (length l.tokens.now - l.place.at) * 4 + 3
 
+abbrev pub decreases-suite : goal.decreases-suite
+decreases-suite l = (length l.tokens.now - l.place.at) * 4 + 0
+
 abbrev pub decreases-stmts : goal.decreases-stmts
 decreases-stmts l = (length l.tokens.now - l.place.at) * 4 + 3
 

@@ -10,9 +10,9 @@ use Rattle.py_parser.specs.Prefixes.{conditionals, reads_condition}
 use Rattle.py_parser.specs.Rows.{fronted, reads_trees}
 use Rattle.py_parser.proofs.BracketReading.{list_close_fails}
 use Rattle.py_parser.proofs.ChainReading.{chain_start, chain_more}
-use Rattle.py_parser.proofs.ComparisonReading.{more_comparisons, chain_of, comp_alone, first_fails, first_comparison, next_fails, comp_end}
+use Rattle.py_parser.proofs.ComparisonReading.{one_more_some, first_comparison, more_comparisons, comparisons_end, first_fails, next_fails, comp_alone, comp_made, comparisons_fail}
 use Rattle.py_parser.proofs.Conditions.{test_start, test_more, test_end, alternative_fails}
-use Rattle.py_parser.proofs.ExprEquations.{atom_eq, growth_makes, growth_refuses, growth_lacks}
+use Rattle.py_parser.proofs.ExprEquations.{growth_makes, growth_lacks}
 use Rattle.py_parser.proofs.Faults.{exit_gives, gives_at}
 use Rattle.py_parser.proofs.HeadLemmas.{heads_push}
 use Rattle.py_parser.proofs.PrefixReading.{nots_more, nots_end, signs_more, signs_end}
@@ -134,23 +134,6 @@ factor-signs-preserved t c =
       };
     }
 
-pub comparison-comparisons-preserved : goal.comparison-comparisons-preserved
-comparison-comparisons-preserved t c =
-    let ts = c.args.tokens.now in
-    let first = c.in_ok-first.first in
-    let more = c.comparisons.more in
-    record {
-      so_far =
-          more_comparisons ts first.place more.place (map comparison_tree more.list) (comparisons_seen c.in_ok-more-2.more) c.comparisons.invariant.so_far
-          (sym c.begins_comparison-in-comparisons.ensures ∙ c.comparisons-test.true) c.in_ok-more-2.ensures.read;
-      some = chain_of (piece_of first) (map comparison_tree more.list) _ (comparisons_seen c.in_ok-more-2.more) c.in_ok-more-2.ensures.read;
-      moves = record {
-        on = omega (arith, c.comparisons.invariant.moves.on, c.in_ok-more-2.ensures.moves.on);
-        within = c.in_ok-more-2.ensures.moves.within;
-      };
-      row = c.in_ok-more-2.ensures.row;
-    }
-
 pub arguments-returns-then-not-sees_sign-clause-read : goal.arguments-returns-then-not-sees_sign-clause-read
 arguments-returns-then-not-sees_sign-clause-read t c =
     c.arguments.invariant.so_far
@@ -177,15 +160,6 @@ entries-returns-in_err-behind-clause-read t c =
     (next_comma_fails c.args.tokens.now ENTRY c.entries.next (map entry_tree c.entries.found.list) (entries_seen c.in_ok-found.found) _
     (sym c.begins_test.ensures ∙ c.entries-test.true) c.in_ok-found.ensures.read (sym c.sees_sign.ensures ∙ c.if-not-sees_sign.false) c.in_err-behind.ensures.read))
 
-pub atom-returns-in_err-place-clause-read : goal.atom-returns-in_err-place-clause-read
-atom-returns-in_err-place-clause-read t c =
-    let ts = c.args.tokens.now in
-    let p = c.args.place in
-    exit_gives seen _ _ _ c.from_residual-in_err-place.ensures.1
-    (rw (atom_eq ts p, sym c.begins_literal.ensures ∙ c.if-begins_literal.false, sym c.sees_sign.ensures ∙ c.if-sees_sign.false)
-    (rw (sym c.sees_sign-2.ensures ∙ c.if-sees_sign-2.true)
-    (list_close_fails ts p (c.in_ok-open.open.now, c.in_ok-open.place) _ _ c.in_ok-open.ensures.read (rw c.no_row.ensures.list at c.in_ok-found.ensures.read) c.in_err-place.ensures.read)))
-
 pub chain-growth-init : goal.chain-growth-init
 chain-growth-init t c =
     record {
@@ -197,44 +171,6 @@ pub comparison-returns-then-not-begins_comparison-clause-read : goal.comparison-
 comparison-returns-then-not-begins_comparison-clause-read t c =
     comp_alone c.args.tokens.now c.args.place (seen c.in_ok-first.first) c.in_ok-first.ensures.read
     (sym c.begins_comparison.ensures ∙ c.if-not-begins_comparison.true) c.in_ok-first.ensures.moves.finished.closed
-
-pub comparison-returns-in_err-more-clause-read : goal.comparison-returns-in_err-more-clause-read
-comparison-returns-in_err-more-clause-read t c =
-    exit_gives seen _ _ _ c.from_residual-in_err-more.ensures.1
-    (first_fails c.args.tokens.now c.args.place (seen c.in_ok-first.first) _ c.in_ok-first.ensures.read
-    (sym c.begins_comparison.ensures ∙ c.if-not-begins_comparison.false) (rw (c.no_row.ensures.list, c.no_row.ensures.place) at c.in_err-more.ensures.read))
-
-pub comparison-comparisons-init : goal.comparison-comparisons-init
-comparison-comparisons-init t c =
-    let ts = c.args.tokens.now in
-    let first = c.in_ok-first.first in
-    let more = c.in_ok-more.more in
-    let read = rw (c.no_row.ensures.list, c.no_row.ensures.place) at c.in_ok-more.ensures.read in
-    let at_is = ap (λ p. p.at) c.no_row.ensures.place in
-    record {
-      so_far = first_comparison ts first.place (comparisons_seen more) (sym c.begins_comparison.ensures ∙ c.if-not-begins_comparison.false) read;
-      some = chain_of (piece_of first) [] _ (comparisons_seen more) read;
-      moves = record {
-        on = omega (arith, at_is, c.in_ok-more.ensures.moves.on);
-        within = c.in_ok-more.ensures.moves.within;
-      };
-      row = c.in_ok-more.ensures.row;
-    }
-
-pub comparison-returns-in_err-more-2-clause-read : goal.comparison-returns-in_err-more-2-clause-read
-comparison-returns-in_err-more-2-clause-read t c =
-    let more = c.comparisons.more in
-    exit_gives seen _ _ _ c.from_residual-in_err-more-2.ensures.1
-    (next_fails c.args.tokens.now c.args.place (seen c.in_ok-first.first) more.place (map comparison_tree more.list) _ c.in_ok-first.ensures.read
-    c.comparisons.invariant.so_far (sym c.begins_comparison-in-comparisons.ensures ∙ c.comparisons-test.true) c.in_err-more-2.ensures.read)
-
-pub comparison-returns-clause-read : goal.comparison-returns-clause-read
-comparison-returns-clause-read t c =
-    let more = c.comparisons.more in
-    gives_at seen _ _ _
-    (comp_end c.args.tokens.now c.args.place (seen c.in_ok-first.first) more.place (map comparison_tree more.list) c.in_ok-first.ensures.read
-    c.comparisons.invariant.so_far (sym c.begins_comparison-in-comparisons.ensures ∙ c.comparisons-test.false) c.comparisons.invariant.some)
-    c.compared.ensures.read
 
 pub factor-returns-clause-read : goal.factor-returns-clause-read
 factor-returns-clause-read t c =
@@ -294,18 +230,79 @@ test-returns-clause-read t c =
     (sym c.sees_key.ensures ∙ c.heads-test.false) c.heads.invariant.moves.finished.closed)
     c.conditionals.ensures.read
 
-pub grow-returns-in_err-place-in-Some-clause-read : goal.grow-returns-in_err-place-in-Some-clause-read
-grow-returns-in_err-place-in-Some-clause-read t c =
-    exit_gives seen _ _ _ c.from_residual.ensures.1
-    (growth_refuses c.args.tokens.now c.args.level (piece_of c.args.left) c.args.left.place c.in-Some.next _ (sym c.in-Some.ensures) c.in_err-place-in-Some.ensures.read)
-
 pub grow-returns-in_err-right-in-Some-clause-read : goal.grow-returns-in_err-right-in-Some-clause-read
 grow-returns-in_err-right-in-Some-clause-read t c =
-    exit_gives seen _ _ _ c.from_residual-in_err-right-in-Some.ensures.1
-    (growth_lacks c.args.tokens.now c.args.level (piece_of c.args.left) c.args.left.place c.in-Some.next _ _ (sym c.in-Some.ensures) c.in_ok-place-in-Some.ensures.read c.in_err-right-in-Some.ensures.read)
+    exit_gives seen _ _ _ c.from_residual.ensures.1
+    (growth_lacks c.args.tokens.now c.args.level (piece_of c.args.left) c.args.left.place c.in-Some.next _ (sym c.in-Some.ensures) c.in_err-right-in-Some.ensures.read)
 
 pub grow-returns-in_ok-right-in-Some-clause-read : goal.grow-returns-in_ok-right-in-Some-clause-read
 grow-returns-in_ok-right-in-Some-clause-read t c =
     gives_at seen _ _ _
-    (growth_makes c.args.tokens.now c.args.level (piece_of c.args.left) c.args.left.place c.in-Some.next _ _ (sym c.in-Some.ensures) c.in_ok-place-in-Some.ensures.read c.in_ok-right-in-Some.ensures.read)
+    (growth_makes c.args.tokens.now c.args.level (piece_of c.args.left) c.args.left.place c.in-Some.next _ (sym c.in-Some.ensures) c.in_ok-right-in-Some.ensures.read)
     c.joined.ensures.read
+
+pub list-returns-in_err-place-clause-read : goal.list-returns-in_err-place-clause-read
+list-returns-in_err-place-clause-read t c =
+    exit_gives seen _ _ _ c.from_residual-in_err-place.ensures.1
+    (list_close_fails c.args.tokens.now c.args.place (c.in_ok-open.open.now, c.in_ok-open.place) _ _ c.in_ok-open.ensures.read
+    (rw c.no_row.ensures.list at c.in_ok-found.ensures.read) c.in_err-place.ensures.read)
+
+pub comparison-returns-in_err-more-clause-read : goal.comparison-returns-in_err-more-clause-read
+comparison-returns-in_err-more-clause-read t c =
+    exit_gives seen _ _ _ c.from_residual-in_err-more.ensures.1
+    (comparisons_fail c.args.tokens.now c.args.place (seen c.in_ok-first.first) _ c.in_ok-first.ensures.read c.in_err-more.ensures.read)
+
+pub comparison-returns-clause-read : goal.comparison-returns-clause-read
+comparison-returns-clause-read t c =
+    gives_at seen _ _ _
+    (comp_made c.args.tokens.now c.args.place (seen c.in_ok-first.first) (comparisons_seen c.in_ok-more.more) c.in_ok-first.ensures.read c.in_ok-more.ensures.read c.in_ok-more.ensures.some)
+    c.compared.ensures.read
+
+pub comparisons-comparisons-init : goal.comparisons-comparisons-init
+comparisons-comparisons-init t c =
+    let ts = c.args.tokens.now in
+    let more = c.in_ok-more.more in
+    let read = rw (c.no_row.ensures.list, c.no_row.ensures.place) at c.in_ok-more.ensures.read in
+    let at_is = ap (λ p. p.at) c.no_row.ensures.place in
+    record {
+      so_far = first_comparison ts c.args.place (comparisons_seen more) c.requires read;
+      some = one_more_some [] _ (comparisons_seen more) read;
+      moves = record {
+        on = omega (arith, at_is, c.in_ok-more.ensures.moves.on);
+        within = c.in_ok-more.ensures.moves.within;
+      };
+      row = c.in_ok-more.ensures.row;
+    }
+
+pub comparisons-comparisons-preserved : goal.comparisons-comparisons-preserved
+comparisons-comparisons-preserved t c =
+    let ts = c.args.tokens.now in
+    let more = c.comparisons.more in
+    record {
+      so_far =
+          more_comparisons ts c.args.place more.place (map comparison_tree more.list) (comparisons_seen c.in_ok-more-2.more) c.comparisons.invariant.so_far
+          (sym c.begins_comparison.ensures ∙ c.comparisons-test.true) c.in_ok-more-2.ensures.read;
+      some = one_more_some (map comparison_tree more.list) _ (comparisons_seen c.in_ok-more-2.more) c.in_ok-more-2.ensures.read;
+      moves = record {
+        on = omega (arith, c.comparisons.invariant.moves.on, c.in_ok-more-2.ensures.moves.on);
+        within = c.in_ok-more-2.ensures.moves.within;
+      };
+      row = c.in_ok-more-2.ensures.row;
+    }
+
+pub comparisons-returns-in_err-more-clause-read : goal.comparisons-returns-in_err-more-clause-read
+comparisons-returns-in_err-more-clause-read t c =
+    exit_gives comparisons_seen _ _ _ c.from_residual.ensures.1
+    (first_fails c.args.tokens.now c.args.place _ c.requires (rw (c.no_row.ensures.list, c.no_row.ensures.place) at c.in_err-more.ensures.read))
+
+pub comparisons-returns-in_err-more-2-clause-read : goal.comparisons-returns-in_err-more-2-clause-read
+comparisons-returns-in_err-more-2-clause-read t c =
+    let more = c.comparisons.more in
+    exit_gives comparisons_seen _ _ _ c.from_residual-in_err-more-2.ensures.1
+    (next_fails c.args.tokens.now c.args.place more.place (map comparison_tree more.list) _ c.comparisons.invariant.so_far
+    (sym c.begins_comparison.ensures ∙ c.comparisons-test.true) c.in_err-more-2.ensures.read)
+
+pub comparisons-returns-clause-read : goal.comparisons-returns-clause-read
+comparisons-returns-clause-read t c =
+    let more = c.comparisons.more in
+    comparisons_end c.args.tokens.now c.args.place more.place (map comparison_tree more.list) c.comparisons.invariant.so_far (sym c.begins_comparison.ensures ∙ c.comparisons-test.false)

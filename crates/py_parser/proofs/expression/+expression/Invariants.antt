@@ -1,15 +1,15 @@
-use Rattle.std.proofs.Common.{◌≡◌, ◌+◌, length, ◌-◌, ◌*◌, map}
+use Rattle.std.proofs.Common.{◌≡◌, ◌≢◌, ◌+◌, length, ◌-◌, ◌*◌, [], map}
 use Rattle.py_syntax.specs.Expressions.{expr_tree, arg_tree, entry_tree, comparison_tree}
-use Rattle.py_grammar.specs.Grammar as g
-use Rattle.py_grammar.specs.Grammar.{TEST, NOT, FACTOR, ARG, ENTRY, COMP_MORE}
-use Rattle.py_grammar.specs.Readings.{reads_expr, reads_many}
+use Rattle.py_grammar.specs.Grammar.{TEST, NOT, FACTOR, ARG, ENTRY}
+use Rattle.py_grammar.specs.Readings.{reads_expr}
+use Rattle.py_parser.specs.Comparisons.{reads_comparisons}
 use Rattle.py_parser.specs.Heads.{head_of, AreHeads}
 use Rattle.py_parser.specs.Operators.{sym_of, more_of}
 use Rattle.py_parser.specs.Parsed.{piece_of, Moves, MovesTo, MovesUpTo, AreExprs, AreArgs, AreEntries, AreComparisons}
 use Rattle.py_parser.specs.Prefixes.{prefixes, conditionals, reads_condition}
 use Rattle.py_parser.specs.Rows.{fronted, reads_row, reads_trees}
 use Rattle.py_parser.proofs.ChainReading.{reads_behind}
-use Rattle.py_parser.proofs.ComparisonReading.{is_chain}
+use Rattle.py_parser.proofs.ComparisonReading.{rest}
 use Rattle.py_parser.proofs.Ranks.{rank_of}
 use Rattle.py_parser.proofs.expression.+expression.Given as goal
 
@@ -50,7 +50,7 @@ abbrev pub decreases-group : goal.decreases-group
 decreases-group l = (length l.tokens.now - l.place.at) * 32 + 0
 
 abbrev pub decreases-alternative : goal.decreases-alternative
-decreases-alternative l = (length l.tokens.now - l.place.at) * 32 + 0
+decreases-alternative l = (length l.tokens.now - l.place.at) * 32 + 1
 
 abbrev pub decreases-chain : goal.decreases-chain
 decreases-chain l = (length l.tokens.now - l.place.at) * 32 + (rank_of l.level + 1)
@@ -59,13 +59,43 @@ abbrev pub decreases-operand : goal.decreases-operand
 decreases-operand l = (length l.tokens.now - l.place.at) * 32 + rank_of l.level
 
 abbrev pub decreases-grow : goal.decreases-grow
-decreases-grow l = (length l.tokens.now - l.left.place.at) * 32 + 1
+decreases-grow l = (length l.tokens.now - l.left.place.at) * 32 + 3
 
 abbrev pub decreases-trailer : goal.decreases-trailer
-decreases-trailer l = (length l.tokens.now - l.left.place.at) * 32
+decreases-trailer l = (length l.tokens.now - l.left.place.at) * 32 + 2
 
 abbrev pub decreases-compare : goal.decreases-compare
 decreases-compare l = (length l.tokens.now - l.row.place.at) * 32
+
+abbrev pub decreases-chain_behind : goal.decreases-chain_behind
+decreases-chain_behind l = (length l.tokens.now - l.place.at) * 32 + 0
+
+abbrev pub decreases-test_behind : goal.decreases-test_behind
+decreases-test_behind l = (length l.tokens.now - l.place.at) * 32 + 0
+
+abbrev pub decreases-operand_behind : goal.decreases-operand_behind
+decreases-operand_behind l = (length l.tokens.now - l.place.at) * 32 + 0
+
+abbrev pub decreases-call_of : goal.decreases-call_of
+decreases-call_of l = (length l.tokens.now - l.left.place.at) * 32 + 1
+
+abbrev pub decreases-index_of : goal.decreases-index_of
+decreases-index_of l = (length l.tokens.now - l.left.place.at) * 32 + 1
+
+abbrev pub decreases-bracketed_arguments : goal.decreases-bracketed_arguments
+decreases-bracketed_arguments l = (length l.tokens.now - l.place.at) * 32 + 0
+
+abbrev pub decreases-bracketed_index : goal.decreases-bracketed_index
+decreases-bracketed_index l = (length l.tokens.now - l.place.at) * 32 + 0
+
+abbrev pub decreases-comparisons : goal.decreases-comparisons
+decreases-comparisons l = (length l.tokens.now - l.place.at) * 32 + 1
+
+abbrev pub decreases-list : goal.decreases-list
+decreases-list l = (length l.tokens.now - l.place.at) * 32 + 0
+
+abbrev pub decreases-dict : goal.decreases-dict
+decreases-dict l = (length l.tokens.now - l.place.at) * 32 + 0
 
 abbrev pub invariant-test-heads : goal.invariant-test-heads
 invariant-test-heads l = record {
@@ -134,13 +164,13 @@ invariant-factor-signs l = record {
 abbrev pub decreases-factor-signs : goal.decreases-factor-signs
 decreases-factor-signs l = length l.tokens - l.inner.at
 
-abbrev pub invariant-comparison-comparisons : goal.invariant-comparison-comparisons
-invariant-comparison-comparisons l = record {
-  so_far : reads_many l.tokens (g.sym COMP_MORE) l.first.place ≡ fronted (map comparison_tree l.more.list) (reads_many l.tokens (g.sym COMP_MORE) l.more.place);
-  some : is_chain (piece_of l.first) (map comparison_tree l.more.list);
-  moves : MovesTo l.tokens l.first.place l.more.place;
+abbrev pub invariant-comparisons-comparisons : goal.invariant-comparisons-comparisons
+invariant-comparisons-comparisons l = record {
+  so_far : reads_comparisons l.tokens l.fn.place ≡ fronted (map comparison_tree l.more.list) (rest l.tokens l.more.place);
+  some : map comparison_tree l.more.list ≢ [];
+  moves : MovesTo l.tokens l.fn.place l.more.place;
   row : AreComparisons l.more;
 }
 
-abbrev pub decreases-comparison-comparisons : goal.decreases-comparison-comparisons
-decreases-comparison-comparisons l = length l.tokens - l.more.place.at
+abbrev pub decreases-comparisons-comparisons : goal.decreases-comparisons-comparisons
+decreases-comparisons-comparisons l = length l.tokens - l.more.place.at
