@@ -3,7 +3,7 @@ use Rattle.std.proofs.Common.{◌≡◌, ◌≢◌, ◌∙◌, ℕ, ℤ, ◌<◌
 use Rattle.std.specs.Prelude.{◌&&◌, ◌==◌, slice_get, codes, MatchOption}
 use Rattle.std.specs.List.{list_all, list_any, flat_map}
 use Rattle.std.specs.Fmt.{signed_decimal}
-use Rattle.std.proofs.lemmas.List.{append_cancel_left}
+use Rattle.std.proofs.lemmas.List.{append_cancel_left, nil_from_length}
 use Rattle.std.proofs.lemmas.List.Folds.{list_all-append}
 use Rattle.std.proofs.lemmas.Bool.{false≢true}
 use Rattle.std.proofs.lemmas.Bool.Decides.{Decides-eqb}
@@ -99,7 +99,7 @@ front_is_none : (xs rest : List ℕ) → xs ++ rest ≡ [] → xs ≡ []
 front_is_none [] rest e = refl
 front_is_none (x ∷ xs) rest e = absurd (cc)
 
-pub argument_is_some : (vars : List Declared) (a : CArg) (rest : List ℕ) → IsTrue (spelled_arg vars a) → arg_text vars a ++ rest ≢ []
+argument_is_some : (vars : List Declared) (a : CArg) (rest : List ℕ) → IsTrue (spelled_arg vars a) → arg_text vars a ++ rest ≢ []
 argument_is_some vars (arg.Var x) rest h e = let d = declared_at vars x h in differ (ap (λ t. t ++ rest) (sym (text_at vars x d.var d.at)) ∙ e) refl
 argument_is_some vars (arg.Number n) rest h e = number_is_some n h (front_is_none (signed_decimal n) rest e)
 argument_is_some vars (arg.Text t) rest h e = differ e refl
@@ -108,11 +108,11 @@ argument_is_some vars (arg.Class m) rest h e = differ e refl
 
 -- ---- one argument after another
 
-pub arg_texts-append : (vars : List Declared) (xs ys : List CArg) → arg_texts vars (xs ++ ys) ≡ arg_texts vars xs ++ arg_texts vars ys
+arg_texts-append : (vars : List Declared) (xs ys : List CArg) → arg_texts vars (xs ++ ys) ≡ arg_texts vars xs ++ arg_texts vars ys
 arg_texts-append vars [] ys = refl
 arg_texts-append vars (x ∷ xs) ys = ap (λ t. arg_text vars x ∷ t) (arg_texts-append vars xs ys)
 
-pub spelled_next : (vars : List Declared) (front others all : List CArg) (next : CArg) → front ++ next ∷ others ≡ all → IsTrue (list_all (spelled_arg vars) all) → IsTrue (spelled_arg vars next)
+spelled_next : (vars : List Declared) (front others all : List CArg) (next : CArg) → front ++ next ∷ others ≡ all → IsTrue (list_all (spelled_arg vars) all) → IsTrue (spelled_arg vars next)
 spelled_next vars front others all next e h =
     let parts = and_true (list_all (spelled_arg vars) front) (list_all (spelled_arg vars) (next ∷ others)) (sym (list_all-append (spelled_arg vars) front (next ∷ others)) ∙ ap (list_all (spelled_arg vars)) e ∙ h) in
     (and_true (spelled_arg vars next) _ parts.1).0
@@ -176,27 +176,20 @@ args_fail {vars} {read} {all} {left} h r fails = fail r.others r.whole r.written
     fail [] whole written = fails r.next [] (spelled_next vars r.front [] all r.next whole h) tt (append-nil (arg_text vars r.next) ∙ written)
     fail (b ∷ others) whole written = fails r.next (comma ++ args_text vars (b ∷ others)) (spelled_next vars r.front (b ∷ others) all r.next whole h) refl written
 
-pub args_start : (vars : List Declared) (a : CArg) (others : List CArg) (text : List ℕ) → args_text vars (a ∷ others) ≡ text → ArgsRemain vars [] (a ∷ others) text
-args_start vars a others text e = record { front = []; next = a; others = others; whole = refl; same = refl; only = λ own. refl; written = e }
-
-pub is_none : (xs : List ℕ) → length xs ≡ 0 → xs ≡ []
-is_none [] e = refl
-is_none (x ∷ xs) e = absurd (omega arith)
-
 -- no arguments are written as nothing, and only they
 pub args_of_none : (vars : List Declared) (args : List CArg) (text : List ℕ) → IsTrue (list_all (spelled_arg vars) args) → args_text vars args ≡ text → length text ≡ 0 → Alike vars (args_text vars) args []
 args_of_none vars [] text h e none = alike_is vars (args_text vars) [] [] refl
 args_of_none vars (a ∷ []) text h e none =
-    absurd (argument_is_some vars a [] (and_true (spelled_arg vars a) _ h).0 (append-nil (arg_text vars a) ∙ e ∙ is_none text none))
+    absurd (argument_is_some vars a [] (and_true (spelled_arg vars a) _ h).0 (append-nil (arg_text vars a) ∙ e ∙ nil_from_length text none))
 args_of_none vars (a ∷ b ∷ more) text h e none =
-    absurd (argument_is_some vars a (comma ++ args_text vars (b ∷ more)) (and_true (spelled_arg vars a) _ h).0 (e ∙ is_none text none))
+    absurd (argument_is_some vars a (comma ++ args_text vars (b ∷ more)) (and_true (spelled_arg vars a) _ h).0 (e ∙ nil_from_length text none))
 
 pub args_of_some : {P : Type 0} (vars : List Declared) (args : List CArg) (text : List ℕ) → args_text vars args ≡ text → length text ≢ 0 → ((a : CArg) (others : List CArg) → args ≡ a ∷ others → P) → P
 args_of_some vars [] text e some next = absurd (some (ap length (sym e)))
 args_of_some vars (a ∷ others) text e some next = next a others refl
 
 pub empty_is : (xs : List ℕ) → true ≡ (length xs == 0) → xs ≡ []
-empty_is xs e = is_none xs ((Decides-eqb (length xs) 0).0 (sym e))
+empty_is xs e = nil_from_length xs ((Decides-eqb (length xs) 0).0 (sym e))
 
 pub more_is : (xs : List ℕ) → false ≡ (length xs == 0) → xs ≢ []
 more_is xs e none = false≢true (e ∙ (Decides-eqb (length xs) 0).1 (ap length none))

@@ -28,10 +28,10 @@ and_true false b e = absurd (cc)
 pub differ : {xs ys : List ℕ} → xs ≡ ys → bytes_eq xs ys ≡ false → ⊥
 differ {xs} {ys} e h = false≢true (sym h ∙ (bytes_eq-Decides xs ys).1 e)
 
-pub same_byte : (b : ℕ) → (b == b) ≡ true
+same_byte : (b : ℕ) → (b == b) ≡ true
 same_byte b = (Decides-eqb b b).1 refl
 
-pub other_byte : (a b : ℕ) → a ≢ b → (a == b) ≡ false
+other_byte : (a b : ℕ) → a ≢ b → (a == b) ≡ false
 other_byte a b h = elim (eqb_tells a b) [ inl e ↦ absurd (h e.1) | inr e ↦ e.0 ]
 
 pub HasNo-append : (stop : ℕ) (xs ys : List ℕ) → HasNo stop xs → HasNo stop ys → HasNo stop (xs ++ ys)
@@ -46,14 +46,14 @@ HasNo-by_place stop (b ∷ bs) h =
     HasNo-cons stop b bs (h 0 (omega arith)) (HasNo-by_place stop bs (λ i l. h (suc i) (omega arith)))
 
 -- the first place of a byte behind bytes without it
-pub place_at : (stop i : ℕ) (front back : List ℕ) → HasNo stop front → position_from (λ b. b == stop) i (front ++ stop ∷ back) ≡ Some (i + length front)
+place_at : (stop i : ℕ) (front back : List ℕ) → HasNo stop front → position_from (λ b. b == stop) i (front ++ stop ∷ back) ≡ Some (i + length front)
 place_at stop i [] back h = ap (λ t. cond t (Some i) (position_from (λ b. b == stop) (i + 1) back)) (same_byte stop) ∙ ap Some (omega arith)
 place_at stop i (b ∷ front) back h =
     let parts = or_false (b == stop) _ h in
     ap (λ t. cond t (Some i) (position_from (λ x. x == stop) (i + 1) (front ++ stop ∷ back))) parts.0
     ∙ place_at stop (i + 1) front back parts.1 ∙ ap Some (omega arith)
 
-pub no_place : (stop i : ℕ) (bs : List ℕ) → HasNo stop bs → position_from (λ b. b == stop) i bs ≡ None
+no_place : (stop i : ℕ) (bs : List ℕ) → HasNo stop bs → position_from (λ b. b == stop) i bs ≡ None
 no_place stop i [] h = refl
 no_place stop i (b ∷ bs) h =
     let parts = or_false (b == stop) _ h in
@@ -96,7 +96,7 @@ no_comma front [] bytes h t e p = (grind (arith, common_steps, e), refl)
 no_comma front (b ∷ rest) bytes h t e p =
     absurd (is_cut 44 front rest bytes h (ap (λ x. front ++ x ∷ rest) (sym t) ∙ e) p)
 
--- bytes of which the first ones are known
+-- ---- bytes that stand in no identifier
 
 HasNo-encode : (stop c : ℕ) → stop < 128 → is_xid_continue stop ≡ false → is_xid_continue c ≡ true → HasNo stop (encode c)
 HasNo-encode stop c small stops passes = HasNo-by_place stop (encode c) (λ i l e.
@@ -142,7 +142,9 @@ pub comma_stops : is_xid_continue 44 ≡ false
 unfolding unicode_ident
 comma_stops = refl
 
--- where a byte was found
+-- ---- where a byte stands
+
+-- the bytes before the place of a byte, and those behind it
 pub record FoundAt (stop : ℕ) (bytes : List ℕ) (place : ℕ) : Type 0 where
   pub front : List ℕ
   pub back : List ℕ

@@ -35,7 +35,7 @@ pub front_behind : {mid new more : List ℕ} (old bytes : List ℕ) → mid ≡ 
 front_behind {mid} {new} {more} old bytes p f = TakesFront-after old mid new bytes more p f
 
 -- pieces that come of a list's elements: those before a place, the one at it, and those behind it
-pub pieces_around : {X : Type 0} (f : X → List ℕ) (xs : List X) (i : ℕ) (x d : X) → i < length xs → x ≡ get_or xs i d → flat_map f xs ≡ flat_map f (take i xs) ++ (f x ++ flat_map f (drop (i + 1) xs))
+pieces_around : {X : Type 0} (f : X → List ℕ) (xs : List X) (i : ℕ) (x d : X) → i < length xs → x ≡ get_or xs i d → flat_map f xs ≡ flat_map f (take i xs) ++ (f x ++ flat_map f (drop (i + 1) xs))
 pieces_around f xs i x d h p =
     let around : take i xs ++ (x ∷ drop (i + 1) xs) ≡ xs =
     rw add-one (ap (λ y. take i xs ++ (y ∷ drop (suc i) xs)) p ∙ sym (ap (λ ys. take i xs ++ ys) (drop-cons xs i d h)) ∙ take-append-drop i xs) in

@@ -8,7 +8,7 @@ use Rattle.std.specs.Str.Parse.{AllDigits, ParsesSigned, digits_value}
 use Rattle.std.proofs.lemmas.Str.{IsUtf8-from_ascii}
 use Rattle.std.proofs.lemmas.Str.Parse.{IsNumeralModel, numerals_by_value, tells_digits, digit_at, not_in_digits}
 use Rattle.std.proofs.lemmas.Fmt.{decimal_is_IsNumeral, parse-signed_decimal, IsAscii-signed}
-use Rattle.std.proofs.lemmas.Bool.Decides.{nat_tests}
+use Rattle.std.proofs.lemmas.Bool.{ltb-true}
 use Rattle.std.specs.Int.Signed.{mag}
 use Rattle.std.proofs.lemmas.Int.{ints, to_z-of_z}
 use mir.Val.{to_z, of_z}
@@ -16,16 +16,13 @@ use Rattle.value_core.specs.Arithmetic.{lies_within}
 use Rattle.c_text.specs.Words.{HasNo}
 use Rattle.c_text.proofs.Bytes.{HasNo-by_place, HasNo-cons}
 
-below : (n k : ℕ) → nat_lt n k ≡ true → n < k
-below n k h = grind (arith, nat_tests)
-
 own : IsNumeralModel (AllDigits 10) (digits_value 10)
 own = numerals_by_value (AllDigits 10) tells_digits
 
 -- a number begins with a digit or a minus sign
-pub number_begins : (n : ℤ) → IsTrue (lies_within 63 n) → (0 < length (signed_decimal n)) × (45 ≤ get_or (signed_decimal n) 0 0) × (get_or (signed_decimal n) 0 0 ≤ 57)
+number_begins : (n : ℤ) → IsTrue (lies_within 63 n) → (0 < length (signed_decimal n)) × (45 ≤ get_or (signed_decimal n) 0 0) × (get_or (signed_decimal n) 0 0 ≤ 57)
 number_begins (pos n) h =
-    let small : n < 2 ^ 63 = below n (2 ^ 63) h in
+    let small : n < 2 ^ 63 = ltb-true n (2 ^ 63) h in
     let d = decimal_is_IsNumeral n (omega arith) in
     let first = digit_at (decimal n) 0 d.0.1 d.0.0 in
     (d.0.0, omega arith, first.1)
@@ -38,15 +35,15 @@ decimal_has_no stop n small out =
 -- a byte that is no digit and no minus sign does not stand in a number
 pub HasNo-number : (stop : ℕ) (n : ℤ) → IsTrue (lies_within 63 n) → ¬ (IsInRange 48 57 stop) → 45 ≢ stop → HasNo stop (signed_decimal n)
 HasNo-number stop (pos n) h out minus =
-    let small : n < 2 ^ 63 = below n (2 ^ 63) h in
+    let small : n < 2 ^ 63 = ltb-true n (2 ^ 63) h in
     decimal_has_no stop n (omega arith) out
 HasNo-number stop (negsuc n) h out minus =
-    let small : n < 2 ^ 63 = below n (2 ^ 63) h in
+    let small : n < 2 ^ 63 = ltb-true n (2 ^ 63) h in
     HasNo-cons stop 45 (decimal (suc n)) minus (decimal_has_no stop (suc n) (omega arith) out)
 
-pub size_of : (n : ℤ) → IsTrue (lies_within 63 n) → mag n < 2 ^ 63
-size_of (pos n) h = below n (2 ^ 63) h
-size_of (negsuc n) h = below n (2 ^ 63) h
+size_of : (n : ℤ) → IsTrue (lies_within 63 n) → mag n < 2 ^ 63
+size_of (pos n) h = ltb-true n (2 ^ 63) h
+size_of (negsuc n) h = ltb-true n (2 ^ 63) h
 
 fits_of : (n : ℤ) → IsTrue (lies_within 63 n) → FitsSigned w64 n
 fits_of n h = omega (arith, ints, size_of n h)
@@ -55,7 +52,7 @@ pub IsUtf8-number : (n : ℤ) → IsTrue (lies_within 63 n) → IsUtf8 (signed_d
 IsUtf8-number n h = IsUtf8-from_ascii (signed_decimal n) (IsAscii-signed n (size_of n h))
 
 -- parsing the text of a number gives it
-pub parses_number : {E : Type 0} (n : ℤ) (bs : List ℕ) (r : Result ℤ E) → IsTrue (lies_within 63 n) → signed_decimal n ≡ bs → ParsesSigned w64 10 bs r → r ≡ Ok n
+parses_number : {E : Type 0} (n : ℤ) (bs : List ℕ) (r : Result ℤ E) → IsTrue (lies_within 63 n) → signed_decimal n ≡ bs → ParsesSigned w64 10 bs r → r ≡ Ok n
 parses_number n bs r h e p = parse-signed_decimal w64 n bs r (fits_of n h) (size_of n h) (sym e) p
 
 pub number_parsed : {E : Type 0} (n read : ℤ) (bs : List ℕ) (r : Result ℤ E) → IsTrue (lies_within 63 n) → signed_decimal n ≡ bs → ParsesSigned w64 10 bs r → r ≡ Ok read → Some (to_z w64 (of_z w64 read)) ≡ Some n

@@ -13,10 +13,10 @@ use Rattle.c_text.specs.Parts.{first_line, head_line, closing_line, AreSpelled, 
 use Rattle.c_text.proofs.Bytes.{and_true}
 use Rattle.c_text.proofs.LineTexts.{same_declaration, no_declaration, closing_not_declaration, closing_not_line}
 
-pub heads : {A : Type 0} {x y : A} {xs ys : List A} → x ∷ xs ≡ y ∷ ys → x ≡ y
+heads : {A : Type 0} {x y : A} {xs ys : List A} → x ∷ xs ≡ y ∷ ys → x ≡ y
 heads e = cc
 
-pub tails : {A : Type 0} {x y : A} {xs ys : List A} → x ∷ xs ≡ y ∷ ys → xs ≡ ys
+tails : {A : Type 0} {x y : A} {xs ys : List A} → x ∷ xs ≡ y ∷ ys → xs ≡ ys
 tails e = cc
 
 no_line_left : {A : Type 0} {x : A} {xs : List A} → x ∷ xs ≡ [] → ⊥
@@ -47,10 +47,10 @@ only_spelled vars [] h = refl
 only_spelled vars (l ∷ lines) h = ap (λ b. b && list_all (spelled_line vars) lines) h.0.spelled ∙ only_spelled vars lines h.1
 
 -- lines of a body, behind its first ones
-lines_behind : (vars : List Declared) (lines others : List Line) (tail : List (List ℕ)) → AreSpelled vars lines → body_lines vars lines ≡ map (line_text vars) others ++ tail → (ms : List Line) × AreSpelled vars ms × (body_lines vars ms ≡ tail)
-lines_behind vars lines [] tail h e = (lines, h, e)
-lines_behind vars [] (m ∷ others) tail h e = absurd (closing_not_line vars m (sym (heads e)))
-lines_behind vars (l ∷ lines) (m ∷ others) tail h e = lines_behind vars lines others tail (and_true (spelled_line vars l) _ h).1 (tails e)
+statements_behind : (vars : List Declared) (lines others : List Line) (tail : List (List ℕ)) → AreSpelled vars lines → body_lines vars lines ≡ map (line_text vars) others ++ tail → (ms : List Line) × AreSpelled vars ms × (body_lines vars ms ≡ tail)
+statements_behind vars lines [] tail h e = (lines, h, e)
+statements_behind vars [] (m ∷ others) tail h e = absurd (closing_not_line vars m (sym (heads e)))
+statements_behind vars (l ∷ lines) (m ∷ others) tail h e = statements_behind vars lines others tail (and_true (spelled_line vars l) _ h).1 (tails e)
 
 -- no line of a body is this one
 no_next : (vars : List Declared) (lines : List Line) (piece : List ℕ) (rest : List (List ℕ)) → piece ≢ closing_line → IsNoLine vars piece → AreSpelled vars lines → body_lines vars lines ≡ piece ∷ rest → ⊥
@@ -74,7 +74,7 @@ pub stops_statements : (vars : List Declared) (lines : List Line) (piece : List 
 stops_statements vars lines piece fine c n = λ others ls rest m h e.
     let s = same_vars others vars (body_lines others ls) (map (line_text vars) lines ++ piece ∷ rest) m fine.0 (subst IsPast (append-nil (body_lines others ls)) (body_is_past others ls [] h)) (begun_past vars lines (piece ∷ rest) fine.1 fine.2)
     (tails (tails e) ∙ append_assoc (map declaration_text vars) (map (line_text vars) lines) (piece ∷ rest)) in
-    subst (Body ls (map (line_text vars) lines ++ piece ∷ rest)) (sym s.0) (λ k q. let b = lines_behind vars ls lines (piece ∷ rest) k q in no_next vars b.0 piece rest c n b.1 b.2) h s.1
+    subst (Body ls (map (line_text vars) lines ++ piece ∷ rest)) (sym s.0) (λ k q. let b = statements_behind vars ls lines (piece ∷ rest) k q in no_next vars b.0 piece rest c n b.1 b.2) h s.1
 
 closed_end : (vars : List Declared) (lines : List Line) (piece : List ℕ) (rest : List (List ℕ)) → body_lines vars lines ≡ closing_line ∷ piece ∷ rest → ⊥
 closed_end vars [] piece rest e = no_line_left (sym (tails e))
@@ -86,7 +86,7 @@ stops_closed vars lines piece fine = λ others ls rest m h e.
     let joined : body_lines vars lines ++ piece ∷ rest ≡ tail = append_assoc (map (line_text vars) lines) (closing_line ∷ []) (piece ∷ rest) in
     let s = same_vars others vars (body_lines others ls) tail m fine.0 (subst IsPast (append-nil (body_lines others ls)) (body_is_past others ls [] h)) (subst IsPast joined (body_is_past vars lines (piece ∷ rest) (only_spelled vars lines fine.1)))
     (tails (tails e) ∙ append_assoc (map declaration_text vars) (body_lines vars lines) (piece ∷ rest) ∙ ap (λ t. map declaration_text vars ++ t) joined) in
-    subst (Body ls tail) (sym s.0) (λ k q. let b = lines_behind vars ls lines (closing_line ∷ piece ∷ rest) k q in closed_end vars b.0 piece rest b.2) h s.1
+    subst (Body ls tail) (sym s.0) (λ k q. let b = statements_behind vars ls lines (closing_line ∷ piece ∷ rest) k q in closed_end vars b.0 piece rest b.2) h s.1
 
 -- ---- the end of the text
 
@@ -107,12 +107,12 @@ open_is_no_text (Declarations others) vars lines fine o m h e =
     no_body vars lines s.1
 open_is_no_text (Statements others ls) vars lines fine o m h e =
     let s = same_vars vars others (body_lines vars lines) (map (line_text others) ls) m fine.0 (subst IsPast (append-nil (body_lines vars lines)) (body_is_past vars lines [] h)) (subst IsPast (append-nil (map (line_text others) ls)) (begun_past others ls [] fine.1 fine.2)) (tails (tails e)) in
-    subst (Body lines (map (line_text others) ls)) (sym s.0) (λ k q. let b = lines_behind others lines ls [] k (q ∙ sym (append-nil (map (line_text others) ls))) in no_body others b.0 b.2) h s.1
+    subst (Body lines (map (line_text others) ls)) (sym s.0) (λ k q. let b = statements_behind others lines ls [] k (q ∙ sym (append-nil (map (line_text others) ls))) in no_body others b.0 b.2) h s.1
 open_is_no_text (Closed others ls) vars lines fine o m h e = o
 
 -- ---- one line more
 
-pub only_push : (vars : List Declared) (lines : List Line) (l : Line) (piece : List ℕ) → AreOnly vars lines → IsLine vars piece l → AreOnly vars (lines ++ l ∷ [])
+only_push : (vars : List Declared) (lines : List Line) (l : Line) (piece : List ℕ) → AreOnly vars lines → IsLine vars piece l → AreOnly vars (lines ++ l ∷ [])
 only_push vars [] l piece h k = (subst (λ (t : List ℕ). IsLine vars t l) (sym k.text) k, tt)
 only_push vars (m ∷ lines) l piece h k = (h.0, only_push vars lines l piece h.1 k)
 

@@ -4,6 +4,7 @@ use Rattle.std.specs.Prelude.{◌&&◌, ◌==◌, map, codes}
 use Rattle.std.specs.List.{list_all, list_any, flat_map, position_from}
 use Rattle.std.proofs.lemmas.List.{take_at}
 use Rattle.std.specs.Str.{bytes_eq}
+use Rattle.std.specs.Cmp.Derive.{both_true}
 use Rattle.std.proofs.lemmas.Bool.{false≢true}
 use Rattle.std.proofs.lemmas.Bool.Decides.{Decides-eqb}
 use Rattle.std.proofs.lemmas.Slice.Eq.{bytes_eq-Decides}
@@ -59,7 +60,7 @@ not_plain rest one h = stands one.line (sym (ap (list_any (λ b. b == 10)) (behi
     stands [] k = false≢true (sym k)
     stands (b ∷ line) k = stands line (or_false (b == 10) _ k).1
 
-pub whole_append : (xs ys : List (List ℕ)) → whole_text (xs ++ ys) ≡ whole_text xs ++ whole_text ys
+whole_append : (xs ys : List (List ℕ)) → whole_text (xs ++ ys) ≡ whole_text xs ++ whole_text ys
 whole_append [] ys = refl
 whole_append (x ∷ xs) ys = ap (λ t. x ++ t) (whole_append xs ys) ∙ sym (append_assoc x (whole_text xs) (whole_text ys))
 
@@ -121,7 +122,7 @@ whole_map : {A : Type 0} (f : A → List ℕ) (xs : List A) → whole_text (map 
 whole_map f [] = refl
 whole_map f (x ∷ xs) = ap (λ t. f x ++ t) (whole_map f xs)
 
-pub module_text : (vars : List Declared) (lines : List Line) → code_text (module_code vars lines) ≡ whole_text (part_lines (Closed vars lines))
+module_text : (vars : List Declared) (lines : List Line) → code_text (module_code vars lines) ≡ whole_text (part_lines (Closed vars lines))
 module_text vars lines =
     ap (λ t. first_line ++ t)
     (append-nil (head_line ++ (flat_map declaration_text vars ++ (flat_map (line_text vars) lines ++ closing_line)))
@@ -175,12 +176,8 @@ spelled_is code h =
     parts [] [] (g ∷ []) x y z = function_is g z
     parts [] [] (g ∷ k ∷ fs) x y z = absurd (false≢true z)
 
-true_and : (a b : Bool) → a ≡ true → b ≡ true → (a && b) ≡ true
-true_and true b p q = q
-true_and false b p q = absurd (false≢true p)
-
 module_spelled : (vars : List Declared) (lines : List Line) → AreNamed vars → AreSpelled vars lines → Spelled (module_code vars lines)
-module_spelled vars lines n h = true_and (list_all (λ v. is_identifier v.0) vars) _ n h
+module_spelled vars lines n h = both_true n h
 
 -- the lines of a code that has a text
 record HasLines (bytes : List ℕ) : Type 0 where
@@ -244,7 +241,7 @@ stops_text part piece rest fine one stops h =
     let b = lines_behind (part_lines (Closed c.vars c.lines)) front rest (text_one c.vars c.lines c.named c.spelled) (ones_push (part_lines part) piece (part_one part fine) one) text in
     stops c.vars c.lines b.more c.named c.spelled (b.lines ∙ append_assoc (part_lines part) (piece ∷ []) b.more)
 
-pub refused_line : (part : Part) (piece rest : List ℕ) → IsFine part → IsOneLine piece → Stops part piece → SaysRefused (whole_text (part_lines part) ++ (piece ++ rest)) (Refused (length (whole_text (part_lines part))))
+refused_line : (part : Part) (piece rest : List ℕ) → IsFine part → IsOneLine piece → Stops part piece → SaysRefused (whole_text (part_lines part) ++ (piece ++ rest)) (Refused (length (whole_text (part_lines part))))
 refused_line part piece rest fine one stops = (
   stops_text part piece rest fine one stops,
   at_line (whole_text (part_lines part)) one.line rest (ap (λ t. whole_text (part_lines part) ++ t) (behind_one one rest)) (are_lines (part_lines part) (part_one part fine)) one.plain (can_stand part fine) (λ c. cannot c.0 c.1),
@@ -273,7 +270,7 @@ pub refused_rest : (part : Part) (rest : List ℕ) → IsFine part → HasNo 10 
 refused_rest part rest fine plain more = refused_end part rest fine plain (λ h. more (end_lines part rest fine plain h).2)
 
 -- the code of a closed part is the one of its text
-pub is_reading : (vars : List Declared) (lines : List Line) (code : Code) → IsFine (Closed vars lines) → code ≡ module_code vars lines → IsReading (whole_text (part_lines (Closed vars lines)) ++ []) code
+is_reading : (vars : List Declared) (lines : List Line) (code : Code) → IsFine (Closed vars lines) → code ≡ module_code vars lines → IsReading (whole_text (part_lines (Closed vars lines)) ++ []) code
 is_reading vars lines code fine e = subst (λ (c : Code). IsReading (whole_text (part_lines (Closed vars lines)) ++ []) c) (sym e) (record {
   spelled = module_spelled vars lines fine.0 (only_spelled vars lines fine.1);
   text = module_text vars lines ∙ sym (append-nil (whole_text (part_lines (Closed vars lines))));
@@ -292,8 +289,8 @@ is_reading vars lines code fine e = subst (λ (c : Code). IsReading (whole_text 
 
 -- ---- the steps of reading
 
-pub line_found : (place : ℕ) (text first : List ℕ) → position_from (λ b. b == 10) 0 text ≡ Some place → first ≡ take (place + 1) text → IsOneLine first
-line_found place text first e p =
+pub piece_is_one : (place : ℕ) (text first : List ℕ) → position_from (λ b. b == 10) 0 text ≡ Some place → first ≡ take (place + 1) text → IsOneLine first
+piece_is_one place text first e p =
     let f = found_at 10 0 place text e in
     let len : length (f.2.front ++ 10 ∷ []) ≡ place + 1 = omega (arith, length-append f.2.front (10 ∷ []), f.2.len, f.1) in
     record {

@@ -90,7 +90,7 @@ no_call_of_object_count name h e =
     false≢true (ap (λ n. not (list_any (bytes_eq n) other_words)) (sym e) ∙ p.other)
 
 -- a call begins with `CPy`, and no literal does
-pub call_front : (name : List ℕ) (rest text : List ℕ) → IsTrue (is_call_name name) → name ++ rest ≡ text → (r : List ℕ) × (text ≡ codes "CPy" ++ r)
+call_front : (name : List ℕ) (rest text : List ℕ) → IsTrue (is_call_name name) → name ++ rest ≡ text → (r : List ℕ) × (text ≡ codes "CPy" ++ r)
 call_front name rest text h e = let p = call_name_parts name h in (p.rest ++ rest, sym e ∙ ap (λ n. n ++ rest) p.whole)
 
 pub literal_front : (l : CLit) (rest : List ℕ) → IsTrue (spelled_literal l) → literal_text l ≢ codes "CPy" ++ rest
@@ -121,33 +121,23 @@ count_parts vars x h = split (slice_get vars x) refl
 
 -- ---- alike parts
 
-pub alike_through : {A B : Type 0} {vars : List Declared} {text : A → List ℕ} {whole : B → List ℕ} (f : A → B) {a b : A} → ((x y : A) → text x ≡ text y → whole (f x) ≡ whole (f y)) → Alike vars text a b → Alike vars whole (f a) (f b)
-alike_through f {a} {b} lifts p = record { same = lifts a b p.same; only = λ own. ap f (p.only own) }
-
-pub alike_then : {A : Type 0} {vars : List Declared} {text : A → List ℕ} {a b : A} (found : Option A) → Alike vars text a b → Finds vars text found b → Finds vars text found a
+alike_then : {A : Type 0} {vars : List Declared} {text : A → List ℕ} {a b : A} (found : Option A) → Alike vars text a b → Finds vars text found b → Finds vars text found a
 alike_then None p f = f
 alike_then (Some c) p f = record { same = p.same ∙ f.same; only = λ own. p.only own ∙ f.only own }
 
-pub alike_literal : {vars : List Declared} {x y : ℕ} (l : CLit) → Alike vars (var_text vars) x y → Alike vars (statement_text vars) (Lit x l) (Lit y l)
+alike_literal : {vars : List Declared} {x y : ℕ} (l : CLit) → Alike vars (var_text vars) x y → Alike vars (statement_text vars) (Lit x l) (Lit y l)
 alike_literal l p = record { same = ap (λ t. t ++ (codes " = " ++ literal_text l)) p.same; only = λ own. ap (λ x. Lit x l) (p.only own) }
 
-pub alike_call : {vars : List Declared} {x y : ℕ} (name : List ℕ) (args : List CArg) → Alike vars (var_text vars) x y → Alike vars (statement_text vars) (Call (Some x) name args) (Call (Some y) name args)
+alike_call : {vars : List Declared} {x y : ℕ} (name : List ℕ) (args : List CArg) → Alike vars (var_text vars) x y → Alike vars (statement_text vars) (Call (Some x) name args) (Call (Some y) name args)
 alike_call {vars} name args p = record {
   same = ap (λ t. (t ++ codes " = ") ++ (name ++ (codes "(" ++ (args_text vars args ++ codes ")")))) p.same;
   only = λ own. ap (λ x. Call (Some x) name args) (p.only own);
 }
 
-pub literal_found : {vars : List Declared} {x y : ℕ} (l : CLit) (found : Option Line) → Alike vars (var_text vars) x y → found ≡ Some (Lit y l) → Finds vars (statement_text vars) found (Lit x l)
+literal_found : {vars : List Declared} {x y : ℕ} (l : CLit) (found : Option Line) → Alike vars (var_text vars) x y → found ≡ Some (Lit y l) → Finds vars (statement_text vars) found (Lit x l)
 literal_found {vars} {x} {y} l found p e = subst (λ (o : Option Line). Finds vars (statement_text vars) o (Lit x l)) (sym e) (alike_literal l p)
 
 -- ---- which statement a text is
-
-pub not_return : (vars : List Declared) (l : Line) (word : List ℕ) → IsTrue (spelled_line vars l) → statement_text vars l ≡ codes "return " ++ word → (x : ℕ) × (l ≡ Return x) × (var_text vars x ≡ word)
-not_return vars (Lit x l) word h e = let d = declared_at vars x (and_true (is_declared vars x) _ h).0 in absurd (differ (ap (λ t. t ++ (codes " = " ++ literal_text l)) (sym (text_at vars x d.var d.at)) ∙ e) refl)
-not_return vars (Call None name args) word h e = let f = call_front name _ _ (and_true (is_call_name name) _ h).0 e in absurd (differ (sym f.1) refl)
-not_return vars (Call (Some x) name args) word h e = let d = declared_at vars x (and_true (is_declared vars x) _ h).0 in absurd (differ (ap (λ t. (t ++ codes " = ") ++ (name ++ (codes "(" ++ (args_text vars args ++ codes ")")))) (sym (text_at vars x d.var d.at)) ∙ e) refl)
-not_return vars (Return x) word h e = (x, refl, append_cancel_left (codes "return ") (var_text vars x) word e)
-not_return vars (Dec x) word h e = elim (count_parts vars x h) [ inl p ↦ absurd (differ (sym p.text ∙ e) refl) | inr p ↦ absurd (differ (sym p.text ∙ e) refl) ]
 
 ok_map : {T E : Type 0} {P Q : T → Type 0} (r : Result T E) → ((x : T) → P x → Q x) → IfOk r P → IfOk r Q
 ok_map (Ok x) f p = f x p
@@ -159,7 +149,7 @@ FindsLine vars r l = IfOk r (λ found. Finds vars (statement_text vars) found l)
 starts_as : (vars : List Declared) (x : ℕ) (rest : List ℕ) → IsTrue (is_declared vars x) → (r : List ℕ) × (var_text vars x ++ rest ≡ codes "cpy_" ++ r)
 starts_as vars x rest h = let d = declared_at vars x h in (d.var.0 ++ rest, ap (λ t. t ++ rest) (text_at vars x d.var d.at))
 
--- what is assigned decides an assignment
+-- a text that begins with a variable assigns to one, and what is assigned decides the rest
 pub assigned_reads : {E : Type 0} (vars : List Declared) (text word value : List ℕ) (r : Result (Option Line) E) (place : ℕ) → text ≡ codes "cpy_" ++ word → ((x : ℕ) (v : List ℕ) → IsTrue (is_declared vars x) → var_text vars x ++ (codes " = " ++ v) ≡ text → Alike vars (var_text vars) x place × (value ≡ v)) → ((l : CLit) → IsTrue (spelled_literal l) → literal_text l ≡ value → IfOk r (λ found. found ≡ Some (Lit place l))) → ((name : List ℕ) (args : List CArg) → IsTrue (is_call_name name) → IsTrue (list_all (spelled_arg vars) args) → name ++ (codes "(" ++ (args_text vars args ++ codes ")")) ≡ value → FindsLine vars r (Call (Some place) name args)) → (l : Line) → IsTrue (spelled_line vars l) → statement_text vars l ≡ text → FindsLine vars r l
 assigned_reads vars text word value r place starts target literals calls (Lit x l) h e =
     let parts = and_true (is_declared vars x) (spelled_literal l) h in
@@ -177,18 +167,6 @@ assigned_reads vars text word value r place starts target literals calls (Return
 assigned_reads vars text word value r place starts target literals calls (Dec x) h e =
     elim (count_parts vars x h) [ inl p ↦ absurd (differ (sym p.text ∙ e ∙ starts) refl) | inr p ↦ absurd (differ (sym p.text ∙ e ∙ starts) refl) ]
 
--- a text that begins with a variable assigns to one
-pub assigned_fails : (vars : List Declared) (text word : List ℕ) → text ≡ codes "cpy_" ++ word → ((x : ℕ) (v : List ℕ) → IsTrue (is_declared vars x) → var_text vars x ++ (codes " = " ++ v) ≡ text → ⊥) → (l : Line) → IsTrue (spelled_line vars l) → statement_text vars l ≡ text → ⊥
-assigned_fails vars text word starts target (Lit x l) h e = target x (literal_text l) (and_true (is_declared vars x) (spelled_literal l) h).0 e
-assigned_fails vars text word starts target (Call None name args) h e =
-    let f = call_front name _ _ (and_true (is_call_name name) _ h).0 e in differ (sym f.1 ∙ starts) refl
-assigned_fails vars text word starts target (Call (Some x) name args) h e =
-    let rest = name ++ (codes "(" ++ (args_text vars args ++ codes ")")) in
-    target x rest (and_true (is_declared vars x) _ h).0 (sym (append_assoc (var_text vars x) (codes " = ") rest) ∙ e)
-assigned_fails vars text word starts target (Return x) h e = differ (e ∙ starts) refl
-assigned_fails vars text word starts target (Dec x) h e =
-    elim (count_parts vars x h) [ inl p ↦ differ (sym p.text ∙ e ∙ starts) refl | inr p ↦ differ (sym p.text ∙ e ∙ starts) refl ]
-
 -- any other text calls or counts
 pub call_reads : {E : Type 0} (vars : List Declared) (text : List ℕ) (r : Result (Option Line) E) → ((w : List ℕ) → text ≢ codes "return " ++ w) → ((w : List ℕ) → text ≢ codes "cpy_" ++ w) → ((name : List ℕ) (args : List CArg) → IsTrue (spelled_line vars (Call None name args)) → statement_text vars (Call None name args) ≡ text → FindsLine vars r (Call None name args)) → ((x : ℕ) → IsTrue (spelled_line vars (Dec x)) → statement_text vars (Dec x) ≡ text → FindsLine vars r (Dec x)) → (l : Line) → IsTrue (spelled_line vars l) → statement_text vars l ≡ text → FindsLine vars r l
 call_reads vars text r no_return no_variable calls counts (Lit x l) h e =
@@ -201,17 +179,6 @@ call_reads vars text r no_return no_variable calls counts (Call (Some x) name ar
     absurd (no_variable s.0 (sym e ∙ append_assoc (var_text vars x) (codes " = ") rest ∙ s.1))
 call_reads vars text r no_return no_variable calls counts (Return x) h e = absurd (no_return (var_text vars x) (sym e))
 call_reads vars text r no_return no_variable calls counts (Dec x) h e = counts x h e
-
--- a return
-pub return_reads : (vars : List Declared) (text word : List ℕ) (place : ℕ) → text ≡ codes "return " ++ word → ((x : ℕ) → IsTrue (is_declared vars x) → var_text vars x ≡ word → Alike vars (var_text vars) x place) → (l : Line) → IsTrue (spelled_line vars l) → statement_text vars l ≡ text → Alike vars (statement_text vars) l (Return place)
-return_reads vars text word place starts finds l h e =
-    let r = not_return vars l word h (e ∙ starts) in
-    let p = finds r.0 (sym (ap (spelled_line vars) r.1) ∙ h) r.2 in
-    record { same = ap (statement_text vars) r.1 ∙ ap (λ t. codes "return " ++ t) p.same; only = λ own. r.1 ∙ ap Return (p.only own) }
-
-pub return_fails : (vars : List Declared) (text word : List ℕ) → text ≡ codes "return " ++ word → ((x : ℕ) → IsTrue (is_declared vars x) → var_text vars x ≡ word → ⊥) → (l : Line) → IsTrue (spelled_line vars l) → statement_text vars l ≡ text → ⊥
-return_fails vars text word starts fails l h e =
-    let r = not_return vars l word h (e ∙ starts) in fails r.0 (sym (ap (spelled_line vars) r.1) ∙ h) r.2
 
 -- a line of a statement
 line_found : (vars : List Declared) (l : Line) (found : Option Line) → Finds vars (statement_text vars) found l → Finds vars (line_text vars) found l

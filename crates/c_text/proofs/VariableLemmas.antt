@@ -7,7 +7,8 @@ use Rattle.std.specs.Str.{bytes_eq}
 use Rattle.std.proofs.lemmas.List.{append_cancel_left}
 use Rattle.std.proofs.lemmas.Option.{slice_get_within}
 use Rattle.std.proofs.lemmas.Slice.Eq.{bytes_eq-Decides}
-use Rattle.std.proofs.lemmas.Bool.{false≢true}
+use Rattle.std.specs.Cmp.Derive.{both_true}
+use Rattle.std.proofs.lemmas.Bool.{false≢true, ltb-true, lt-ltb}
 use Rattle.std.proofs.lemmas.Bool.Decides.{nat_tests}
 use Rattle.c_core.specs.declared.code.Kind.{Kind}
 use Rattle.c_core.specs.declared.code.Kind.TheVariants.{Tagged, Int64, Char, Object}
@@ -22,12 +23,6 @@ pub record StandsAt (p : Declared → Bool) (vars : List Declared) (x : ℕ) : T
   pub at : slice_get vars x ≡ Some var
   pub passes : p var ≡ true
 
-below : (x n : ℕ) → nat_lt x n ≡ true → x < n
-below x n h = grind (arith, nat_tests)
-
-above : (x n : ℕ) → x < n → nat_lt x n ≡ true
-above x n h = grind (arith, nat_tests)
-
 within_at : (vars : List Declared) (x : ℕ) → x < length vars → StandsAt (λ v. true) vars x
 within_at [] x h = absurd (omega arith)
 within_at (v ∷ vars) zero h = record { var = v; at = refl; passes = refl }
@@ -36,12 +31,12 @@ within_at (v ∷ vars) (suc x) h =
     record { var = rest.var; at = rest.at; passes = refl }
 
 pub declared_at : (vars : List Declared) (x : ℕ) → IsTrue (is_declared vars x) → StandsAt (λ v. true) vars x
-declared_at vars x h = within_at vars x (below x (length vars) h)
+declared_at vars x h = within_at vars x (ltb-true x (length vars) h)
 
 pub at_declared : (vars : List Declared) (x : ℕ) (v : Declared) → slice_get vars x ≡ Some v → IsTrue (is_declared vars x)
-at_declared vars x v e = above x (length vars) (slice_get_within vars x v e)
+at_declared vars x v e = lt-ltb x (length vars) (slice_get_within vars x v e)
 
-pub place_stands : (p : Declared → Bool) (vars : List Declared) (i y : ℕ) → position_from p i vars ≡ Some y → (k : ℕ) × (y ≡ i + k) × StandsAt p vars k
+place_stands : (p : Declared → Bool) (vars : List Declared) (i y : ℕ) → position_from p i vars ≡ Some y → (k : ℕ) × (y ≡ i + k) × StandsAt p vars k
 place_stands p [] i y e = absurd (cc)
 place_stands p (v ∷ vars) i y e = split (place_stands p vars (i + 1) y) (p v) refl
   where
@@ -76,7 +71,7 @@ named_again : (name : List ℕ) (vars : List Declared) (x : ℕ) (v : Declared) 
 named_again name vars x v g e own =
     false≢true (sym (ap not (any_named name vars x v g e)) ∙ (and_true _ _ own).0)
 
-pub first_place : (p : Declared → Bool) (name : List ℕ) → ((w : Declared) → p w ≡ true → w.0 ≡ name) → (vars : List Declared) (i x : ℕ) (v : Declared) → slice_get vars x ≡ Some v → p v ≡ true → First p vars i x
+first_place : (p : Declared → Bool) (name : List ℕ) → ((w : Declared) → p w ≡ true → w.0 ≡ name) → (vars : List Declared) (i x : ℕ) (v : Declared) → slice_get vars x ≡ Some v → p v ≡ true → First p vars i x
 first_place p name named [] i x v g t = absurd (cc)
 first_place p name named (w ∷ vars) i zero v g t =
     let same : w ≡ v = cc in
@@ -108,12 +103,12 @@ pub text_at : (vars : List Declared) (x : ℕ) (v : Declared) → slice_get vars
 text_at vars x v g = ap var_name g
 
 -- the variable at the first place of a name is written as the one that has the name
-found_alike : (p : Declared → Bool) (name word : List ℕ) → ((w : Declared) → p w ≡ true → w.0 ≡ name) → (vars : List Declared) (found : Option ℕ) (x : ℕ) (v : Declared) → position_from p 0 vars ≡ found → slice_get vars x ≡ Some v → p v ≡ true → Finds vars (var_text vars) found x
-found_alike p name word named vars None x v f g t =
+found_alike : (p : Declared → Bool) (name : List ℕ) → ((w : Declared) → p w ≡ true → w.0 ≡ name) → (vars : List Declared) (found : Option ℕ) (x : ℕ) (v : Declared) → position_from p 0 vars ≡ found → slice_get vars x ≡ Some v → p v ≡ true → Finds vars (var_text vars) found x
+found_alike p name named vars None x v f g t =
     let first = first_place p name named vars 0 x v g t in
     let q : None ≡ Some (0 + first.place) = sym f ∙ first.found in
     cc
-found_alike p name word named vars (Some y) x v f g t =
+found_alike p name named vars (Some y) x v f g t =
     let first = first_place p name named vars 0 x v g t in
     let q : Some y ≡ Some (0 + first.place) = sym f ∙ first.found in
     let r : y ≡ 0 + first.place = cc in
@@ -129,13 +124,13 @@ named name w t = (bytes_eq-Decides w.0 name).0 t
 named_and_kind : (name : List ℕ) (kind : Kind) (w : Declared) → has_name_and_kind name kind w ≡ true → w.0 ≡ name
 named_and_kind name kind w t = (bytes_eq-Decides w.0 name).0 (and_true _ _ t).0
 
-pub name_at : (vars : List Declared) (x : ℕ) (v : Declared) (name word : List ℕ) → slice_get vars x ≡ Some v → var_text vars x ≡ word → word ≡ codes "cpy_" ++ name → v.0 ≡ name
+name_at : (vars : List Declared) (x : ℕ) (v : Declared) (name word : List ℕ) → slice_get vars x ≡ Some v → var_text vars x ≡ word → word ≡ codes "cpy_" ++ name → v.0 ≡ name
 name_at vars x v name word g e w = append_cancel_left (codes "cpy_") v.0 name (sym (text_at vars x v g) ∙ e ∙ w)
 
 pub variable_found : (vars : List Declared) (name word : List ℕ) (found : Option ℕ) (x : ℕ) → found ≡ position_from (has_name name) 0 vars → word ≡ codes "cpy_" ++ name → IsTrue (is_declared vars x) → var_text vars x ≡ word → Finds vars (var_text vars) found x
 variable_found vars name word found x f w h e =
     let d = declared_at vars x h in
-    found_alike (has_name name) name word (named name) vars found x d.var (sym f) d.at ((bytes_eq-Decides d.var.0 name).1 (name_at vars x d.var name word d.at e w))
+    found_alike (has_name name) name (named name) vars found x d.var (sym f) d.at ((bytes_eq-Decides d.var.0 name).1 (name_at vars x d.var name word d.at e w))
 
 pub kind_is : (o : Option Declared) (kind : Kind) → option_map (λ v. v.1) o ≡ Some kind → (v : Declared) × (o ≡ Some v) × (v.1 ≡ kind)
 kind_is None kind e = absurd (cc)
@@ -165,15 +160,11 @@ same_kind_is Object Tagged h = absurd (cc)
 same_kind_is Object Int64 h = absurd (cc)
 same_kind_is Object Char h = absurd (cc)
 
-both : (a b : Bool) → a ≡ true → b ≡ true → (a && b) ≡ true
-both true b p q = q
-both false b p q = absurd (cc)
-
 pub variable_of_found : (vars : List Declared) (name word : List ℕ) (kind : Kind) (found : Option ℕ) (x : ℕ) → found ≡ position_from (has_name_and_kind name kind) 0 vars → word ≡ codes "cpy_" ++ name → kind_at vars x ≡ Some kind → var_text vars x ≡ word → Finds vars (var_text vars) found x
 variable_of_found vars name word kind found x f w h e =
     let d = kind_is (slice_get vars x) kind h in
-    found_alike (has_name_and_kind name kind) name word (named_and_kind name kind) vars found x d.0 (sym f) d.1
-    (both _ _ ((bytes_eq-Decides d.0.0 name).1 (name_at vars x d.0 name word d.1 e w)) (ap (λ k. same_kind k kind) d.2 ∙ same_kind_refl kind))
+    found_alike (has_name_and_kind name kind) name (named_and_kind name kind) vars found x d.0 (sym f) d.1
+    (both_true ((bytes_eq-Decides d.0.0 name).1 (name_at vars x d.0 name word d.1 e w)) (ap (λ k. same_kind k kind) d.2 ∙ same_kind_refl kind))
 
 pub found_declared : (p : Declared → Bool) (vars : List Declared) (found : Option ℕ) → found ≡ position_from p 0 vars → IfSome found (λ y. IsTrue (is_declared vars y))
 found_declared p vars None e = tt

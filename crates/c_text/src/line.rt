@@ -73,7 +73,7 @@ fn call_of(
     }
 }
 
-/// A count of a variable of this kind.
+/// The count of the variable of this kind that a word writes.
 fn release_of(vars: &Many<(Name, Kind)>, word: &[u8], kind: Kind) -> Option<Line>
     requires { IsTrue (is_counted_kind vars.now (Some kind)) }
     ensures finds { (x : ℕ) → kind_at vars.now x ≡ Some kind → var_text vars.now x ≡ word.now →

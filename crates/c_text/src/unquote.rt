@@ -14,7 +14,7 @@ fn octal_value(high: u8, middle: u8, low: u8) -> Option<u8>
     ensures { (b : ℕ) → b < 256 → high ≡ 48 + b / 64 → middle ≡ 48 + b / 8 % 8 → low ≡ 48 + b % 8 → result ≡ Some b }
 {
     let sum = u32::from(high) * 64 + u32::from(middle) * 8 + u32::from(low);
-    let zeros = u32::from(b'0') * 73;
+    let zeros = u32::from(b'0') * (64 + 8 + 1);
     if sum < zeros {
         return None;
     }
