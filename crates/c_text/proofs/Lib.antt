@@ -6,6 +6,7 @@ pub mod LineTexts
 pub mod Literals
 pub mod Numbers
 pub mod PartLemmas
+pub mod PlaceLemmas
 pub mod Quoting
 pub mod ReadLemmas
 pub mod StatementLemmas

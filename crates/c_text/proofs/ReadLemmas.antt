@@ -48,19 +48,19 @@ same_front stop (c ∷ a) (d ∷ b) x y p q e =
 behind_one : {t : List ℕ} (one : IsOneLine t) (rest : List ℕ) → t ++ rest ≡ one.line ++ 10 ∷ rest
 behind_one one rest = ap (λ x. x ++ rest) one.whole ∙ append_assoc one.line (10 ∷ []) rest
 
-same_line : {t u : List ℕ} (x y : List ℕ) → IsOneLine t → IsOneLine u → t ++ x ≡ u ++ y → (t ≡ u) × (x ≡ y)
+pub same_line : {t u : List ℕ} (x y : List ℕ) → IsOneLine t → IsOneLine u → t ++ x ≡ u ++ y → (t ≡ u) × (x ≡ y)
 same_line x y one other e =
     let s = same_front 10 one.line other.line x y one.plain other.plain (sym (behind_one one x) ∙ e ∙ behind_one other y) in
     (one.whole ∙ ap (λ l. l ++ 10 ∷ []) s.0 ∙ sym other.whole, s.1)
 
-not_plain : {t : List ℕ} (rest : List ℕ) → IsOneLine t → HasNo 10 (t ++ rest) → ⊥
+pub not_plain : {t : List ℕ} (rest : List ℕ) → IsOneLine t → HasNo 10 (t ++ rest) → ⊥
 not_plain rest one h = stands one.line (sym (ap (list_any (λ b. b == 10)) (behind_one one rest)) ∙ h)
   where
     stands : (line : List ℕ) → HasNo 10 (line ++ 10 ∷ rest) → ⊥
     stands [] k = false≢true (sym k)
     stands (b ∷ line) k = stands line (or_false (b == 10) _ k).1
 
-whole_append : (xs ys : List (List ℕ)) → whole_text (xs ++ ys) ≡ whole_text xs ++ whole_text ys
+pub whole_append : (xs ys : List (List ℕ)) → whole_text (xs ++ ys) ≡ whole_text xs ++ whole_text ys
 whole_append [] ys = refl
 whole_append (x ∷ xs) ys = ap (λ t. x ++ t) (whole_append xs ys) ∙ sym (append_assoc x (whole_text xs) (whole_text ys))
 
