@@ -1,6 +1,6 @@
 -- The numbers of a C text: their digits, and that reading them gives them back.
-use Rattle.std.proofs.Common.{◌≡◌, ◌≢◌, ◌∙◌, ℕ, ℤ, pos, negsuc, ◌^◌, ◌<◌, ◌≤◌, true, List, [], ◌∷◌, ◌++◌, length, get_or, Result, Ok, Err, Some, IsTrue, refl, sym, ap, arith, suc, w64}
-use Rattle.std.specs.Prelude.{nat_lt, FitsSigned}
+use Rattle.std.proofs.Common.{◌≡◌, ◌≢◌, ◌∙◌, ℕ, ℤ, pos, negsuc, ◌^◌, ◌<◌, ◌≤◌, List, [], ◌∷◌, ◌++◌, length, get_or, Result, Ok, Err, Some, IsTrue, refl, sym, ap, arith, suc, w64}
+use Rattle.std.specs.Prelude.{FitsSigned}
 use Rattle.std.specs.Fmt.{decimal, signed_decimal}
 use Rattle.std.specs.Str.{IsUtf8}
 use Rattle.std.specs.Int.{IsInRange}

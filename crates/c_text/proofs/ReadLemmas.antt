@@ -1,6 +1,6 @@
 -- Whole texts: a text has one list of lines, and its code is known by them.
-use Rattle.std.proofs.Common.{◌≡◌, ◌≢◌, ◌∙◌, ℕ, Bool, true, false, ◌+◌, ◌-◌, List, [], ◌∷◌, ◌++◌, length, take, get_or, drop, Some, Result, Ok, Err, IfOk, arith, length-append, refl, sym, ap, append_assoc, append-nil, subst}
-use Rattle.std.specs.Prelude.{◌&&◌, ◌==◌, map, codes}
+use Rattle.std.proofs.Common.{◌≡◌, ◌≢◌, ◌∙◌, ℕ, true, ◌+◌, ◌-◌, List, [], ◌∷◌, ◌++◌, length, take, get_or, drop, Some, Result, Ok, Err, IfOk, arith, length-append, refl, sym, ap, append_assoc, append-nil, subst}
+use Rattle.std.specs.Prelude.{◌==◌, map, codes}
 use Rattle.std.specs.List.{list_all, list_any, flat_map, position_from}
 use Rattle.std.proofs.lemmas.List.{take_at}
 use Rattle.std.specs.Str.{bytes_eq}
