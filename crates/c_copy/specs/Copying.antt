@@ -19,7 +19,7 @@ most_bytes = 16777216
 abbrev pub IsText : List ℕ → Type 0
 IsText bytes = (code : Code) × WellFormed code × (code_text code ≡ bytes)
 
--- why bytes that are no longer than a text may be are not copied; of want of memory, and of faults, nothing is said
+-- why bytes that are not too long have no well-formed code; of want of memory nothing is said
 abbrev pub JudgesBytes : List ℕ → CopyError → Type 0
 JudgesBytes bytes ReadFault = ⊥
 JudgesBytes bytes WriteFault = ⊥
