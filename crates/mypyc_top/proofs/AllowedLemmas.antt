@@ -1,5 +1,5 @@
 -- The statuses that come of a plan.
-use Rattle.std.proofs.Common.{◌≡◌, refl, sym, ◌∙◌, subst, ℕ, Bool, true, false, IsTrue, List, [], Some, ◌⊎◌, inl, inr, Option}
+use Rattle.std.proofs.Common.{◌≡◌, refl, sym, ◌∙◌, subst, ℕ, IsTrue, List, ◌⊎◌, inl, inr, Option}
 use Rattle.value_core.specs.Items.{Items}
 use Rattle.mypyc_top.specs.declared.status.Status.{Status}
 use Rattle.mypyc_top.specs.declared.status.Status.TheVariants as status

@@ -6,7 +6,6 @@ use Rattle.std.specs.Str.{chars, is_utf8, IsUtf8}
 use Rattle.std.proofs.lemmas.Str.{IsUtf8-from_is_utf8}
 use Rattle.py_syntax.specs.declared.key.Key.{Key}
 use Rattle.py_syntax.specs.declared.token.Token.{Token}
-use Rattle.py_syntax.specs.Tokens.{EndsOnce}
 use Rattle.py_lexer.specs.Reading.{Fault}
 use Rattle.py_lexer.specs.Tokens.{tokens_of}
 use Rattle.py_lexer.proofs.TokenLaws.{gives_end}
@@ -15,7 +14,7 @@ use Rattle.py_syntax.specs.Texts.{key_text}
 use Rattle.py_grammar.specs.Faults.{IsTree, Says, tree, syntax, profile, too_deep}
 use Rattle.py_grammar.proofs.Outcomes.{outcome_exists, outcome_is_one, tree_is_one}
 use Rattle.mypyc_top.specs.declared.fault.Fault.{Fault as SourceFault}
-use Rattle.mypyc_top.specs.declared.fault.FaultKind.TheVariants.{NoTree, LeftOut, TooDeep, Unbuilt}
+use Rattle.mypyc_top.specs.declared.fault.FaultKind.TheVariants.{NoTree, LeftOut, TooDeep}
 use Rattle.mypyc_top.specs.declared.source.SourceError.{SourceError}
 use Rattle.mypyc_top.specs.declared.source.SourceError.TheVariants as errors
 use Rattle.mypyc_top.specs.Source.{unbuilt_line, numbers_of, AreNumbers}

@@ -1,5 +1,5 @@
 -- A request asks for no more turns than there can be.
-use Rattle.std.proofs.Common.{◌≡◌, refl, sym, ◌∙◌, ap, subst, ℕ, ◌≤◌, Bool, true, false, ◌&&◌, List, [], ◌∷◌, filter, Option, Some, None, nat_le, arith}
+use Rattle.std.proofs.Common.{◌≡◌, refl, sym, subst, ℕ, ◌≤◌, Bool, true, false, ◌&&◌, List, [], ◌∷◌, filter, Option, Some, nat_le, arith}
 use Rattle.std.proofs.lemmas.Bool.Decides.{nat_tests}
 use Rattle.std.specs.Str.Parse.{digits_value}
 use Rattle.std.specs.List.{list_any}
@@ -8,8 +8,7 @@ use Rattle.mypyc_top.specs.declared.words.Emit.TheVariants.{Run}
 use Rattle.mypyc_top.specs.declared.words.Stage.{Stage}
 use Rattle.mypyc_top.specs.declared.words.Stage.TheVariants.{Owned}
 use Rattle.mypyc_top.specs.declared.words.Request.{Request}
-use Rattle.mypyc_top.specs.declared.words.Words.{Words}
-use Rattle.mypyc_top.specs.declared.words.Words.TheVariants.{Usage, Go}
+use Rattle.mypyc_top.specs.declared.words.Words.TheVariants.{Go}
 use Rattle.mypyc_top.specs.Faithful.{most_turns}
 use Rattle.mypyc_top.specs.Words.{words_of, meant_by, setting, is_turns, listed_turns, listed_emit, listed_stage, values, emit_name, stage_name, turns_name, only, is_file, is_left}
 

@@ -1,7 +1,6 @@
 -- Plans by what came of the file.
-use Rattle.std.proofs.Common.{◌≡◌, refl, sym, ◌∙◌, ap, subst, get_or, ℕ, zero, suc, ◌<◌, ◌≤◌, ◌^◌, Bool, true, false, nat_lt, List, [], ◌∷◌, ◌++◌, length, Option, Some, None, Result, Ok, Err, IfOk, arith}
+use Rattle.std.proofs.Common.{◌≡◌, refl, sym, ◌∙◌, ap, subst, ℕ, ◌<◌, ◌≤◌, Bool, true, false, nat_lt, List, [], ◌∷◌, length, Option, Some, Result, Ok, Err, IfOk, arith}
 use Rattle.std.proofs.lemmas.Bool.Decides.{nat_tests}
-use Rattle.std.specs.List.{filter_map, cons_option, All}
 use Rattle.std.specs.Option.{option_and_then}
 use Rattle.value_core.specs.Items.{Items}
 use Rattle.outside_core.specs.Counts.{count_end, has_risen}
@@ -11,7 +10,7 @@ use Rattle.mypyc_top.specs.declared.status.Status.TheVariants as status
 use Rattle.mypyc_top.specs.declared.words.Emit.{Emit}
 use Rattle.mypyc_top.specs.declared.words.Request.{Request}
 use Rattle.mypyc_top.specs.declared.words.Words.{Words}
-use Rattle.mypyc_top.specs.declared.words.Words.TheVariants.{Usage, Go}
+use Rattle.mypyc_top.specs.declared.words.Words.TheVariants.{Go}
 use Rattle.mypyc_top.specs.declared.plan.Plan.{Plan}
 use Rattle.mypyc_top.specs.declared.reply.Reply.{Reply}
 use Rattle.mypyc_top.specs.declared.front.Front.TheVariants.{Faulty}
@@ -22,7 +21,6 @@ use Rattle.mypyc_top.specs.Output.{output_text}
 use Rattle.mypyc_top.specs.Fronts.{IsFront}
 use Rattle.mypyc_top.specs.Faithful.{Faithful}
 use Rattle.mypyc_top.specs.ErrorLines.{large_line}
-use Rattle.mypyc_top.specs.Running.{TextRun}
 use Rattle.mypyc_top.specs.Answer.{FileMeaning, file_meaning, Bytes, named_file, most_bytes, ModuleAnswer, ModeAnswer, SizedAnswer, RequestAnswer, WordsAnswer}
 use Rattle.mypyc_top.specs.Plans.{Answering, Plans}
 use Rattle.mypyc_top.proofs.Numbers.{small_numbers}

@@ -11,7 +11,7 @@ use Rattle.mypyc_top.specs.declared.running.Program.{Program}
 use Rattle.mypyc_top.specs.declared.running.Unfinished.{Unfinished}
 use Rattle.mypyc_top.specs.Output.{output_text}
 use Rattle.mypyc_top.specs.ErrorLines.{memory_line, input_line}
-use Rattle.mypyc_top.specs.Endings.{ending_status, ending_line}
+use Rattle.mypyc_top.specs.Endings.{ending_status}
 use Rattle.mypyc_top.specs.Summary.{cells_left}
 use Rattle.mypyc_top.specs.Given.{SinkCall, sink_call, Took, TookFront, Gave, IsReplied, is_run_status}
 use Rattle.mypyc_top.specs.Plans.{behind_output, program_text, program_line, IsRest, Finishes, RunGave}

@@ -1,12 +1,11 @@
 -- The status of a call, by its answer.
-use Rattle.std.proofs.Common.{◌≡◌, refl, sym, ◌∙◌, subst, ℕ, Bool, true, false, ◌&&◌, nat_lt, List, [], ◌∷◌, length, Option, Some, IsTrue, ◌⊎◌, inl, inr, arith}
+use Rattle.std.proofs.Common.{◌≡◌, refl, sym, subst, ℕ, Bool, true, false, ◌&&◌, nat_lt, List, [], ◌∷◌, length, Option, Some, ◌⊎◌, inl, inr, arith}
 use Rattle.std.proofs.lemmas.Bool.Decides.{nat_tests}
 use Rattle.std.specs.Option.{option_and_then}
 use Rattle.value_core.specs.Items.{Items}
 use Rattle.outside_core.specs.Counts.{Rose, has_risen}
 use Rattle.c_core.specs.declared.code.Code.{Code}
 use Rattle.c_core.specs.WellFormed.{is_spelled, Spelled, WellFormed}
-use Rattle.c_text.specs.Reading.{HasCode}
 use Rattle.mypyc_top.specs.declared.status.Status.{Status}
 use Rattle.mypyc_top.specs.declared.status.Status.TheVariants as status
 use Rattle.mypyc_top.specs.declared.words.Emit.{Emit}
@@ -16,7 +15,7 @@ use Rattle.mypyc_top.specs.declared.words.Words.{Words}
 use Rattle.mypyc_top.specs.declared.words.Words.TheVariants.{Usage, Go}
 use Rattle.mypyc_top.specs.Words.{words_of}
 use Rattle.mypyc_top.specs.Diagnostics.{Diagnostic}
-use Rattle.mypyc_top.specs.Running.{HasWellFormed, TextRun, no_text, ill_formed, runs}
+use Rattle.mypyc_top.specs.Running.{TextRun, no_text, ill_formed, runs}
 use Rattle.mypyc_top.specs.Answer.{FileMeaning, Bytes, file_meaning, most_bytes, FaultsAnswer, ModuleAnswer, ModeAnswer, SizedAnswer, WordsAnswer, Answer, named_file}
 use Rattle.mypyc_top.specs.StatusOf.{IsFaultsStatus, IsModuleStatus, IsTextStatus, IsModeStatus, IsSizedStatus, IsStatus}
 use Rattle.mypyc_top.specs.Given.{SinkCall, Gave, Answers, Answered, Yields}

@@ -1,7 +1,7 @@
 -- All that is wrong with a file, by its bytes. The rules go in this order, and the first that finds a fault ends the search,
 -- so that there is one fault at most: the file is a text; its characters are tokens; its tokens are a module; and each
 -- statement of the module is built.
-use Rattle.std.specs.Prelude.{◌≡◌, ℕ, ◌+◌, ◌==◌, Bool, true, false, List, [], ◌∷◌, take, count_by, Option, Some, None, option_to_list, slice_get, Result, Ok, Err}
+use Rattle.std.specs.Prelude.{◌≡◌, ℕ, ◌+◌, ◌==◌, Bool, true, false, List, [], ◌∷◌, take, count_by, option_to_list, slice_get, Result, Ok, Err}
 use Rattle.std.specs.Option.{option_map, option_map_or}
 use Rattle.std.specs.Str.{chars, is_utf8}
 use Rattle.std.specs.Str.Lossy.{utf8_valid_len}

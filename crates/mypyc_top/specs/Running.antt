@@ -9,7 +9,7 @@ use Rattle.c_core.specs.Run.{Stop, machine_run}
 use Rattle.c_text.specs.Reading.{HasCode, RefusedAt}
 use Rattle.mypyc_top.specs.declared.status.Status.{Status}
 use Rattle.mypyc_top.specs.declared.status.Status.TheVariants as status
-use Rattle.mypyc_top.specs.SourceRun.{SourceStop, source_run}
+use Rattle.mypyc_top.specs.SourceRun.{source_run}
 use Rattle.mypyc_top.specs.Faithful.{Faithful}
 use Rattle.mypyc_top.specs.ErrorLines.{refused_line, ill_formed_line}
 use Rattle.mypyc_top.specs.Endings.{ending_status, ending_line}

@@ -1,5 +1,5 @@
 -- The modules that are built: each statement is `print(N)`, N an integer literal from 0 to 2 ^ 62 - 1.
-use Rattle.std.specs.Prelude.{◌≡◌, ℕ, nat_le, Bool, true, false, if◌then◌else◌, ◌&&◌, List, map, filter_map, find, Option, Some, None, is_none, ℤ, pos, negsuc, codes, Ok}
+use Rattle.std.specs.Prelude.{◌≡◌, ℕ, nat_le, Bool, true, false, if◌then◌else◌, List, filter_map, find, Option, Some, None, is_none, ℤ, pos, negsuc, codes, Ok}
 use Rattle.std.specs.Option.{option_and_then, option_map}
 use Rattle.std.specs.Str.{chars, bytes_eq, is_utf8}
 use Rattle.py_syntax.specs.declared.token.Token.{Token}

@@ -13,7 +13,7 @@ use Rattle.mypyc_top.specs.declared.words.Request.{Request}
 use Rattle.mypyc_top.specs.declared.words.Words.{Words}
 use Rattle.mypyc_top.specs.declared.words.Words.TheVariants.{Usage, Go}
 use Rattle.mypyc_top.specs.Source.{AreNumbers}
-use Rattle.mypyc_top.specs.SourceRun.{SourceStop, source_run}
+use Rattle.mypyc_top.specs.SourceRun.{source_run}
 use Rattle.mypyc_top.specs.Diagnostics.{Diagnostic}
 use Rattle.mypyc_top.specs.Faults.{AreFaults}
 use Rattle.mypyc_top.specs.Endings.{ending_status}

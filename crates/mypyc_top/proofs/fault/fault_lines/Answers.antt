@@ -1,4 +1,4 @@
-use Rattle.std.proofs.Common.{◌≡◌, ◌∙◌, ap, append_assoc}
+use Rattle.std.proofs.Common.{◌∙◌, ap, append_assoc}
 use Rattle.mypyc_top.proofs.fault.fault_lines.Goals as goal
 
 pub returns : goal.returns

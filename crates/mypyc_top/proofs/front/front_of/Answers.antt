@@ -1,4 +1,3 @@
-use Rattle.mypyc_top.specs.SourceFaults.{diagnostic_of}
 use Rattle.mypyc_top.proofs.front.front_of.Goals as goal
 
 pub returns-in-Ok : goal.returns-in-Ok

@@ -1,4 +1,3 @@
-use Rattle.std.proofs.Common.{◌∙◌}
 use Rattle.mypyc_top.proofs.PlanLemmas.{built_faithful, good_module, faulty_module}
 use Rattle.mypyc_top.proofs.plan.compile_plan.Goals as goal
 

@@ -1,4 +1,3 @@
-use Rattle.std.proofs.Common.{List, ℕ}
 use Rattle.mypyc_top.specs.declared.words.Emit.TheVariants.{Check, C, Run, Runc}
 use Rattle.mypyc_top.specs.Answer.{ModuleAnswer, Checked, Compiled}
 use Rattle.mypyc_top.specs.Running.{ModuleRun, TextRun}

@@ -1,7 +1,6 @@
-use Rattle.std.proofs.Common.{◌≡◌, sym, ◌∙◌, ap, ℕ, ◌<◌, ◌≤◌, List, length, Some, IsTrue, arith, Result}
-use Rattle.outside_core.specs.Counts.{count_end}
+use Rattle.std.proofs.Common.{sym, ◌∙◌, ap, ℕ, ◌≤◌, List, length, Some, arith}
 use Rattle.mypyc_top.specs.ErrorLines.{large_line}
-use Rattle.mypyc_top.specs.Answer.{ModeAnswer, RequestAnswer, most_bytes}
+use Rattle.mypyc_top.specs.Answer.{ModeAnswer, most_bytes}
 use Rattle.mypyc_top.specs.Plans.{Plans}
 use Rattle.mypyc_top.proofs.PlanLemmas.{if_ok, read_plan, large_answer}
 use Rattle.mypyc_top.proofs.plan.request_plan.Goals as goal

@@ -1,4 +1,3 @@
-use Rattle.std.proofs.Common.{List, ℕ}
 use Rattle.mypyc_top.proofs.PlanLemmas.{built_faithful, good_module, faulty_module}
 use Rattle.mypyc_top.proofs.RunLemmas.{module_run, run_can_come}
 use Rattle.mypyc_top.proofs.plan.run_plan.Goals as goal

@@ -1,7 +1,7 @@
 use Rattle.std.proofs.Common.{◌≡◌, sym, ◌∙◌, ap, subst, List, map, None}
 use Rattle.std.specs.Prelude.{IfOk, OnOk, IfErr}
 use Rattle.py_syntax.specs.declared.statement.Stmt.{Stmt}
-use Rattle.py_syntax.specs.Statements.{StmtTree, stmt_tree, body_tree, listed_block}
+use Rattle.py_syntax.specs.Statements.{stmt_tree, body_tree, listed_block}
 use Rattle.py_syntax.proofs.StatementLemmas.{listed-block_of}
 use Rattle.mypyc_top.specs.Source.{numbers_in, unbuilt_in}
 use Rattle.mypyc_top.specs.SourceFaults.{SaysUnbuilt}

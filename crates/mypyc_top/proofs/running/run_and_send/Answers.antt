@@ -1,6 +1,5 @@
-use Rattle.std.proofs.Common.{◌≡◌, sym, subst, ℕ, ◌⊎◌}
+use Rattle.std.proofs.Common.{subst, ℕ, ◌⊎◌}
 use Rattle.outside_core.specs.Counts.{Rose}
-use Rattle.mypyc_top.specs.Given.{sink_call}
 use Rattle.mypyc_top.proofs.RunGaveLemmas.{rest_is_replied, rest_sent, not_written, no_memory, sent_run_status}
 use Rattle.mypyc_top.proofs.running.run_and_send.Goals as goal
 

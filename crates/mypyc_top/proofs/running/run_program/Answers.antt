@@ -1,4 +1,3 @@
-use Rattle.std.proofs.Common.{◌≡◌, sym}
 use Rattle.c_runner.specs.Report.{ending_of}
 use Rattle.mypyc_top.specs.Given.{sink_call}
 use Rattle.mypyc_top.proofs.RunGaveLemmas.{ended, broken}

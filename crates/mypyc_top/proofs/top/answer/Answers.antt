@@ -1,4 +1,4 @@
-use Rattle.std.proofs.Common.{◌≡◌, refl, sym, append-nil, ◌⊎◌, inl, inr}
+use Rattle.std.proofs.Common.{refl, sym, append-nil, inl, inr}
 use Rattle.outside_core.specs.Counts.{has_risen}
 use Rattle.c_runner.specs.Ran.{given_items}
 use Rattle.mypyc_top.specs.Output.{output_text}
