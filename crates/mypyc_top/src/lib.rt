@@ -24,6 +24,8 @@ mod running;
 mod running_tests;
 mod sending;
 mod source;
+#[cfg(test)]
+mod source_tests;
 mod status;
 mod summary;
 #[cfg(test)]

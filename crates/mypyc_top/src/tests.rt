@@ -8,9 +8,9 @@ use std::test::Fail;
 const USAGE: &str =
     "usage: mypyc [--emit=check|ir|c|run|runc|selftest] [--stage=build|errors|owned] [--turns=N] FILE\n";
 
-const SUCCESS: &str = "Success: no issues found in 1 source file\n";
+pub(crate) const SUCCESS: &str = "Success: no issues found in 1 source file\n";
 
-const FOUND: &str = "Found 1 error in 1 file (checked 1 source file)\n";
+pub(crate) const FOUND: &str = "Found 1 error in 1 file (checked 1 source file)\n";
 
 pub(crate) const THREE: &str = r#"/* mypyc subset 1 */
 char CPyModule(void) {
