@@ -6,3 +6,4 @@ pub mod Items
 pub mod Arithmetic
 pub mod Division
 pub mod Characters
+pub mod Laws
