@@ -1,4 +1,5 @@
 pub mod Cells
+pub mod Ledgers
 pub mod Release
 pub mod Machine
 pub mod Holders
@@ -6,6 +7,7 @@ pub mod Primitives
 pub mod Step
 pub mod Run
 pub mod Stands
+pub mod Agreement
 pub mod Text
 pub mod WellFormed
 pub mod Laws

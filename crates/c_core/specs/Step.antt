@@ -2,7 +2,7 @@
 -- later one sees what the earlier ones took from the ledger, and a fault leaves the state as it was before the line.
 use Rattle.std.specs.Prelude.{ℕ, zero, suc, ◌+◌, ◌/◌, ◌%◌, ◌==◌, Bool, true, false, cond, ℤ, pos, negsuc, List, [], ◌∷◌, ◌++◌, length, Option, Some, None, slice_get, slice_set}
 use Rattle.std.specs.Option.{option_and_then, option_map}
-use Rattle.value_core.specs.declared.exception.ExcClass.{ExcClass}
+use Rattle.value_core.specs.Ending.{Ending, Done, Raised}
 use Rattle.c_core.specs.declared.code.Kind.{Kind}
 use Rattle.c_core.specs.declared.code.Kind.TheVariants.{Tagged, Int64, Char, Object}
 use Rattle.c_core.specs.declared.code.CLit.{CLit}
@@ -19,35 +19,21 @@ use Rattle.c_core.specs.declared.primitive.Prim.{Prim}
 use Rattle.c_core.specs.declared.primitive.Prim.TheVariants.{Str, Io}
 use Rattle.c_core.specs.declared.primitive.StrPrim.TheVariants.{Literal}
 use Rattle.c_core.specs.declared.primitive.IoPrim.TheVariants.{Write}
-use Rattle.c_core.specs.Cells.{Cells, same, content_at, make}
+use Rattle.c_core.specs.Cells.{Cells, times, content_at, make}
+use Rattle.c_core.specs.Ledgers.{Ledger, more, more_of, without}
 use Rattle.c_core.specs.Release.{release}
-use Rattle.c_core.specs.Machine.{Word, ShortInt, BigInt, TaggedError, Native, CharWord, ObjectCell, NoneObject, TrueObject, FalseObject, NoObject, Content, StrCell, ExcCell, refs_of, refs_in, Ledger, Frame, MachineState}
+use Rattle.c_core.specs.Machine.{Word, ShortInt, BigInt, TaggedError, Native, CharWord, ObjectCell, NoneObject, TrueObject, FalseObject, NoObject, Content, StrCell, ExcCell, refs_of, refs_in, Frame, MachineState}
 use Rattle.c_core.specs.Primitives.{Parameter, Borrows, TakesText, row_of, primitive_named}
 
--- how a run ends: by itself, by an exception that leaves the module, without turns, at an input line that is too far
--- along, at a failed read, or by a fault
-pub data Ending : Type 0 where
-  Done : Ending
-  Raised : (class : ExcClass) (text : List ℕ) → Ending
-  Cut : Ending
-  Over : Ending
-  Broken : Ending
-  Faulted : (f : Fault) → Ending
+-- how a run of the machine ends: as a program of the source does, or by a fault
+pub data MachineEnding : Type 0 where
+  Ended : (e : Ending) → MachineEnding
+  Faulted : (f : Fault) → MachineEnding
 
 -- what a step leads to
 pub data Next : Type 0 where
   Goes : (s : MachineState) → Next
-  Ends : (e : Ending) (s : MachineState) → Next
-
--- the ledger with one reference less, None where it has none: the first of them goes
-abbrev pub keep_or_drop : ℕ → ℕ → Ledger → Option Ledger → Option Ledger
-keep_or_drop zero d l None = None
-keep_or_drop zero d l (Some r) = Some (d ∷ r)
-keep_or_drop (suc n) d l r = Some l
-
-abbrev pub without : ℕ → Ledger → Option Ledger
-without c [] = None
-without c (d ∷ l) = keep_or_drop (same d c) d l (without c l)
+  Ends : (e : MachineEnding) (s : MachineState) → Next
 
 -- parts of a state
 abbrev pub with_cells : Cells Content → MachineState → MachineState
@@ -68,7 +54,7 @@ next_line s = record s { top = record s.top { place = s.top.place + 1 } }
 
 -- the frame owns one reference to c more
 abbrev pub own : ℕ → MachineState → MachineState
-own c s = with_ledger (s.top.ledger ++ c ∷ []) s
+own c s = with_ledger (more c s.top.ledger) s
 
 -- the word of a literal in a variable of this kind; the number of a tagged `int` is twice its value, or 1
 abbrev pub halved : ℤ → Option Word
@@ -139,13 +125,13 @@ module _ (is_checked : Bool) (s : MachineState) where
   abbrev pub if_content : ℕ → (Content → Next) → Next
   if_content c go = if_some fault.Dead (content_at s.cells c) go
 
-  -- a reference leaves a ledger
-  abbrev pub or_same : Option Ledger → Ledger → Ledger
-  or_same None l = l
-  or_same (Some r) l = r
+  -- a reference leaves a ledger, in which it is to stand
+  abbrev pub if_any : ℕ → Next → Next
+  if_any zero go = faulted fault.NotOwned
+  if_any (suc n) go = go
 
   abbrev pub if_taken : ℕ → Ledger → (Ledger → Next) → Next
-  if_taken c l go = cond is_checked (if_some fault.NotOwned (without c l) go) (go (or_same (without c l) l))
+  if_taken c l go = cond is_checked (if_any (times l c) (go (without c l))) (go (without c l))
 
   abbrev pub given : List ℕ → MachineState → MachineState
   given refs t = cond is_checked (with_cells (release refs_in t.cells refs) t) t
@@ -214,22 +200,24 @@ module _ (is_checked : Bool) (s : MachineState) where
   if_none_left (c ∷ l) go = cond is_checked (faulted fault.Leak) go
 
   -- the module itself returns 1, or 2 with an exception that is still pending
-  abbrev pub raised_by : Option Content → Next
-  raised_by (Some (ExcCell class text)) = Ends (Raised class text) s
-  raised_by _ = faulted fault.Kind
+  abbrev pub if_thrown : Content → (Ending → Next) → Next
+  if_thrown (ExcCell e) go = go (Raised e)
+  if_thrown _ go = faulted fault.Kind
 
-  abbrev pub ended : Word → Option ℕ → Next
-  ended (CharWord (suc zero)) None = Ends Done s
-  ended (CharWord (suc (suc zero))) (Some c) = raised_by (content_at s.cells c)
-  ended _ _ = faulted fault.Kind
+  abbrev pub if_ended : Word → Option ℕ → (Ending → Next) → Next
+  if_ended (CharWord (suc zero)) None go = go Done
+  if_ended (CharWord (suc (suc zero))) (Some c) go = if_content c (λ content. if_thrown content go)
+  if_ended _ _ go = faulted fault.Kind
 
-  abbrev pub to_caller : Word → List Frame → Next
-  to_caller w [] = ended w s.pending
-  to_caller w (f ∷ fs) =
-      Goes (with_target s.top.into w (record s { top = record f { ledger = f.ledger ++ refs_of w }; below = fs }))
+  -- what a return leads to: the module's end, or the caller, which owns the reference of the word from then on
+  abbrev pub if_return : Word → List Frame → (Next → Next) → Next
+  if_return w [] go = if_ended w s.pending (λ e. go (Ends (Ended e) s))
+  if_return w (f ∷ fs) go =
+      go (Goes (with_target s.top.into w (record s { top = record f { ledger = more_of (refs_of w) f.ledger }; below = fs })))
 
+  -- the tests of kinds come before those of the ledger
   abbrev pub returned : Word → Next
-  returned w = if_in_order w s.pending (if_result w (λ l. if_none_left l (to_caller w s.below)))
+  returned w = if_in_order w s.pending (if_return w s.below (λ next. if_result w (λ l. if_none_left l next)))
 
 -- the function that a frame runs, the kind of a variable, and the line that comes next
 abbrev pub function_of : Code → Frame → Option CFunc
