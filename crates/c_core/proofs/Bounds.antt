@@ -12,13 +12,15 @@ use Rattle.c_core.specs.declared.code.Code.{Code}
 use Rattle.c_core.specs.declared.fault.Fault.{Fault}
 use Rattle.c_core.specs.declared.fault.Fault.TheVariants as fault
 use Rattle.c_core.specs.Cells.{count_at}
+use Rattle.c_core.specs.Ledgers.{Ledger}
 use Rattle.c_core.specs.Machine.{Word, ShortInt, BigInt, ObjectCell, NoneObject, TrueObject, FalseObject, Content, Frame, MachineState}
 use Rattle.c_core.specs.Primitives.{row_of, primitive_named}
-use Rattle.c_core.specs.Step.{Next, Goes, Ends, Faulted, Effect, Wrong, Makes, Writes, effect, next_line, literal_word, kind_of, applied, made_cell, given_up, decremented, if_return, if_result, if_none_left, step_at, line_at, step}
+use Rattle.c_core.specs.Arguments.{stolen}
+use Rattle.c_core.specs.Step.{Next, Goes, Ends, Faulted, Effect, Wrong, Makes, Writes, effect, with_ledger, next_line, literal_word, kind_of, applied, made_cell, given_up, decremented, if_return, if_result, if_none_left, step_at, line_at, step}
 use Rattle.c_core.specs.Run.{Stop, go_on, start, most_lines, most_steps}
 use Rattle.c_core.specs.WellFormed.{WellFormed, is_spelled, is_empty, spelled_functions, function_fits, is_leaving}
 use Rattle.c_core.specs.Laws.{state_after, Reaches, Here, There, RunExists, RunStaysSmall}
-use Rattle.c_core.proofs.StepCases.{at_some, at_calm, at_given_up, at_word, at_arguments, at_order, at_ended, at_result}
+use Rattle.c_core.proofs.StepCases.{at_some, at_given_up, at_word, at_called, at_order, at_ended, at_result}
 use Rattle.c_core.proofs.SmallSteps.{IsSmallStep, small_step}
 
 -- a step on to the next line of the same function, and no frame waits
@@ -41,14 +43,14 @@ module _ (s : MachineState) (alone : s.below ≡ []) where
   on : Advances s (next_line s)
   on = record { next_place = refl; same_function = refl; alone = alone }
 
-  made_on : (x : Option ℕ) (content : Content) → Advances s (next_line (made_cell true s x content))
-  made_on None content = record { next_place = refl; same_function = refl; alone = alone }
-  made_on (Some x) content = record { next_place = refl; same_function = refl; alone = alone }
+  made_on : (x : Option ℕ) (l : Ledger) (content : Content) → Advances s (next_line (made_cell true s x content (with_ledger l s)))
+  made_on None l content = record { next_place = refl; same_function = refl; alone = alone }
+  made_on (Some x) l content = record { next_place = refl; same_function = refl; alone = alone }
 
-  applied_on : (x : Option ℕ) (e : Effect) → To (applied true s x e)
-  applied_on x Wrong = tt
-  applied_on x (Makes content) = made_on x content
-  applied_on x (Writes text) = record { next_place = refl; same_function = refl; alone = alone }
+  applied_on : (x : Option ℕ) (l : Ledger) (gone : List ℕ) (e : Effect) → To (applied true s x l gone e)
+  applied_on x l gone Wrong = tt
+  applied_on x l gone (Makes content) = made_on x l content
+  applied_on x l gone (Writes text) = record { next_place = refl; same_function = refl; alone = alone }
 
   given_on : (c : ℕ) → To (given_up true s c)
   given_on c =
@@ -73,9 +75,8 @@ module _ (s : MachineState) (alone : s.below ≡ []) where
       at_some s To bad fault.Kind (option_and_then (λ k. literal_word k l) (kind_of code s.top x)) _
       (λ w e. record { next_place = refl; same_function = refl; alone = alone })
   step_on code (Some (Call x name args)) =
-      at_calm s To bad s.pending _
-      (λ calm. at_some s To bad fault.Kind (primitive_named name) _
-      (λ p e. at_arguments s To bad (row_of p).parameters args _ (λ all. applied_on x (effect p all))))
+      at_some s To bad fault.Kind (primitive_named name) _
+      (λ p e. at_called s To bad code x args p (λ all l left. applied_on x l (stolen (row_of p).parameters all) (effect code s p all)))
   step_on code (Some (Return x)) = at_word s To bad x _ (λ w e. at_order s To bad w s.pending _ (return_ends w s.below alone))
   step_on code (Some (Dec x)) = at_word s To bad x _ (λ w e. decremented_on w)
 
@@ -94,10 +95,10 @@ has_lines : (lines : List Line) → is_leaving (slice_get lines (length lines - 
 has_lines [] e = absurd (cc)
 has_lines (l ∷ lines) e = omega arith
 
-one_function : (code : Code) (fs : List CFunc) → code.funcs ≡ fs → spelled_functions fs ≡ true → list_all function_fits fs ≡ true → OneFunction code
+one_function : (code : Code) (fs : List CFunc) → code.funcs ≡ fs → spelled_functions fs ≡ true → list_all (function_fits code) fs ≡ true → OneFunction code
 one_function code [] e s f = absurd (cc)
 one_function code (g ∷ []) e s f =
-    let fits = (and_true (function_fits g) true f).0 in
+    let fits = (and_true (function_fits code g) true f).0 in
     let rest = (and_true _ _ fits).1 in
     let leaving = (and_true _ _ rest).1 in
     record { g = g; is = e; some_lines = has_lines g.lines leaving }
@@ -105,7 +106,7 @@ one_function code (g ∷ h ∷ fs) e s f = absurd (cc)
 
 one_of : (code : Code) → WellFormed code → OneFunction code
 one_of code wf =
-    let both = and_true (is_spelled code) (list_all function_fits code.funcs) wf in
+    let both = and_true (is_spelled code) (list_all (function_fits code) code.funcs) wf in
     let classes = (and_true (is_empty code.globals) _ both.0).1 in
     let functions = (and_true (is_empty code.classes) _ classes).1 in
     one_function code code.funcs refl functions both.1

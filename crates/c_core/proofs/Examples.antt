@@ -41,7 +41,7 @@ text_of_three : code_text (code_of three) ≡
 unfolding digits
 text_of_three = refl
 
-three_fits : function_fits (module_of three) ≡ true
+three_fits : function_fits (code_of three) (module_of three) ≡ true
 three_fits = refl
 
 abbrev seen : Option Stop → Option (MachineEnding × List ℕ)

@@ -7,13 +7,15 @@ use Rattle.c_core.specs.declared.code.Code.{Code}
 use Rattle.c_core.specs.declared.fault.Fault.{Fault}
 use Rattle.c_core.specs.declared.fault.Fault.TheVariants as fault
 use Rattle.c_core.specs.Cells.{Cell, Cells, same, counted, count_at, one_less, change, lowered}
-use Rattle.c_core.specs.Release.{after, freed, weight, release_some}
+use Rattle.c_core.specs.Ledgers.{Ledger}
+use Rattle.c_core.specs.Release.{after, freed, weight, release_some, release}
 use Rattle.c_core.specs.Machine.{Word, ShortInt, BigInt, ObjectCell, NoneObject, TrueObject, FalseObject, Content, refs_in, Frame, MachineState}
 use Rattle.c_core.specs.Primitives.{row_of, primitive_named}
-use Rattle.c_core.specs.Step.{Next, Ends, Faulted, Effect, Wrong, Makes, Writes, effect, with_target, next_line, literal_word, kind_of, applied, made_cell, given_up, decremented, if_return, if_result, if_none_left, step_at, line_at, step}
+use Rattle.c_core.specs.Arguments.{stolen}
+use Rattle.c_core.specs.Step.{Next, Ends, Faulted, Effect, Wrong, Makes, Writes, effect, with_ledger, with_target, next_line, literal_word, kind_of, applied, made_cell, given_up, decremented, if_return, if_result, if_none_left, step_at, line_at, step}
 use Rattle.c_core.specs.Laws.{state_after, StepStaysSmall}
 use Rattle.c_core.proofs.CountLemmas.{count-make}
-use Rattle.c_core.proofs.StepCases.{at_some, at_calm, at_given_up, at_word, at_arguments, at_order, at_ended, at_result}
+use Rattle.c_core.proofs.StepCases.{at_some, at_given_up, at_word, at_called, at_order, at_ended, at_result}
 
 same_most : (c d : ℕ) → same c d ≤ 1
 same_most zero zero = omega arith
@@ -66,28 +68,29 @@ module _ (s : MachineState) where
   bad : (f : Fault) → To (Ends (Faulted f) s)
   bad f = same_cells s refl
 
-  made_small : (x : Option ℕ) (content : Content) → IsSmallStep s (next_line (made_cell true s x content))
-  made_small None content = record {
+  made_small : (x : Option ℕ) (l : Ledger) (content : Content) → IsSmallStep s (next_line (made_cell true s x content (with_ledger l s)))
+  made_small None l content = record {
     few_cells = omega (arith, length-append s.cells (Some (record { count = 1; content = content }) ∷ []));
     small_counts = λ c. omega (arith, count-make s.cells c content, same_most (length s.cells) c);
   }
-  made_small (Some x) content = record {
+  made_small (Some x) l content = record {
     few_cells = omega (arith, length-append s.cells (Some (record { count = 1; content = content }) ∷ []));
     small_counts = λ c. omega (arith, count-make s.cells c content, same_most (length s.cells) c);
   }
 
-  applied_small : (x : Option ℕ) (e : Effect) → To (applied true s x e)
-  applied_small x Wrong = bad fault.Kind
-  applied_small x (Makes content) = made_small x content
-  applied_small x (Writes text) = same_cells _ refl
+  released_small : (t : MachineState) (gone : List ℕ) → t.cells ≡ release refs_in s.cells gone → IsSmallStep s t
+  released_small t gone e = record {
+    few_cells = omega (arith, ap length e, length-release refs_in (length gone + weight refs_in s.cells) s.cells gone);
+    small_counts = λ d. omega (arith, ap (λ h. count_at h d) e, release_most refs_in (length gone + weight refs_in s.cells) s.cells gone d);
+  }
+
+  applied_small : (x : Option ℕ) (l : Ledger) (gone : List ℕ) (e : Effect) → To (applied true s x l gone e)
+  applied_small x l gone Wrong = bad fault.Kind
+  applied_small x l gone (Makes content) = made_small x l content
+  applied_small x l gone (Writes text) = released_small _ gone refl
 
   given_small : (c : ℕ) → To (given_up true s c)
-  given_small c =
-      at_given_up s To bad c
-      (λ l took. record {
-        few_cells = omega (arith, length-release refs_in (length (c ∷ []) + weight refs_in s.cells) s.cells (c ∷ []));
-        small_counts = λ d. omega (arith, release_most refs_in (length (c ∷ []) + weight refs_in s.cells) s.cells (c ∷ []) d);
-      })
+  given_small c = at_given_up s To bad c (λ l took. released_small _ (c ∷ []) refl)
 
   decremented_small : (w : Word) → To (decremented true s w)
   decremented_small (ShortInt n) = same_cells _ refl
@@ -111,9 +114,8 @@ module _ (s : MachineState) where
   step_small code (Some (Lit x l)) =
       at_some s To bad fault.Kind (option_and_then (λ k. literal_word k l) (kind_of code s.top x)) _ (λ w e. same_cells _ refl)
   step_small code (Some (Call x name args)) =
-      at_calm s To bad s.pending _
-      (λ calm. at_some s To bad fault.Kind (primitive_named name) _
-      (λ p e. at_arguments s To bad (row_of p).parameters args _ (λ all. applied_small x (effect p all))))
+      at_some s To bad fault.Kind (primitive_named name) _
+      (λ p e. at_called s To bad code x args p (λ all l left. applied_small x l (stolen (row_of p).parameters all) (effect code s p all)))
   step_small code (Some (Return x)) = at_word s To bad x _ (λ w e. at_order s To bad w s.pending _ (return_small w s.below))
   step_small code (Some (Dec x)) = at_word s To bad x _ (λ w e. decremented_small w)
 

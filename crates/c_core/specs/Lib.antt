@@ -4,6 +4,7 @@ pub mod Release
 pub mod Machine
 pub mod Holders
 pub mod Primitives
+pub mod Arguments
 pub mod Step
 pub mod Run
 pub mod Stands

@@ -23,7 +23,8 @@ use Rattle.c_core.specs.Cells.{Cells, times, content_at, make}
 use Rattle.c_core.specs.Ledgers.{Ledger, more, more_of, without}
 use Rattle.c_core.specs.Release.{release}
 use Rattle.c_core.specs.Machine.{Word, ShortInt, BigInt, TaggedError, Native, CharWord, ObjectCell, NoneObject, TrueObject, FalseObject, NoObject, Content, StrCell, ExcCell, refs_of, refs_in, Frame, MachineState}
-use Rattle.c_core.specs.Primitives.{Parameter, Borrows, TakesText, row_of, primitive_named}
+use Rattle.c_core.specs.Primitives.{Holding, Parameter, Borrows, Steals, TakesNumber, TakesText, TakesGlobal, TakesClass, row_of, primitive_named}
+use Rattle.c_core.specs.Arguments.{Argument, Cell, Plain, Written, is_value_of, is_holding, kind_found, stolen}
 
 -- how a run of the machine ends: as a program of the source does, or by a fault
 pub data MachineEnding : Type 0 where
@@ -90,22 +91,17 @@ abbrev pub is_both : Word → Bool
 is_both (Native (negsuc n)) = n == 112
 is_both _ = false
 
--- an argument as a primitive meets it: the content of an object's cell, or what is written
-pub data Argument : Type 0 where
-  Cell : (c : ℕ) (content : Content) → Argument
-  Plain : (w : Word) → Argument
-  Written : (a : CArg) → Argument
-
--- what a primitive does: it was called wrongly, it makes a cell, or it writes to the output
+-- what a primitive does: it was called wrongly, it makes a cell, whose content takes over what was stolen, or it writes to
+-- the output
 pub data Effect : Type 0 where
   Wrong : Effect
   Makes : (content : Content) → Effect
   Writes : (text : List ℕ) → Effect
 
-abbrev pub effect : Prim → List Argument → Effect
-effect (Str Literal) (Written (arg.Text text) ∷ []) = Makes (StrCell text)
-effect (Io Write) (Cell c (StrCell text) ∷ []) = Writes text
-effect _ _ = Wrong
+abbrev pub effect : Code → MachineState → Prim → List Argument → Effect
+effect code s (Str Literal) (Written (arg.Text text) ∷ []) = Makes (StrCell text)
+effect code s (Io Write) (Cell c (StrCell text) ∷ []) = Writes text
+effect code s _ _ = Wrong
 
 -- the tests, which fault at the state that the line began with. An unchecked run makes no test of ownership, and in it
 -- no cell ever goes
@@ -139,36 +135,65 @@ module _ (is_checked : Bool) (s : MachineState) where
   abbrev pub word_of : ℕ → (Word → Next) → Next
   word_of x go = if_some fault.Kind (slice_get s.top.vars x) go
 
-  -- an object that is no error value, and for a cell that it is there
-  abbrev pub if_object : Word → (Argument → Next) → Next
-  if_object (ObjectCell c) go = if_content c (λ content. go (Cell c content))
-  if_object NoneObject go = go (Plain NoneObject)
-  if_object TrueObject go = go (Plain TrueObject)
-  if_object FalseObject go = go (Plain FalseObject)
-  if_object _ go = faulted fault.Kind
+  abbrev pub if_true : Bool → Next → Next
+  if_true b go = cond b go (faulted fault.Kind)
 
-  -- the arguments of a primitive from left to right
-  abbrev pub if_argument : Parameter → CArg → (Argument → Next) → Next
-  if_argument (Borrows Object) (arg.Var x) go = word_of x (λ w. if_object w go)
-  if_argument TakesText (arg.Text text) go = go (Written (arg.Text text))
-  if_argument _ _ go = faulted fault.Kind
+  -- the cell of a word is there, if it has one
+  abbrev pub if_there : Word → (Argument → Next) → Next
+  if_there (BigInt c) go = if_content c (λ content. go (Cell c content))
+  if_there (ObjectCell c) go = if_content c (λ content. go (Cell c content))
+  if_there w go = go (Plain w)
 
-  abbrev pub if_arguments : List Parameter → List CArg → (List Argument → Next) → Next
-  if_arguments [] [] go = go []
-  if_arguments (p ∷ ps) (a ∷ rest) go = if_argument p a (λ first. if_arguments ps rest (λ others. go (first ∷ others)))
-  if_arguments _ _ go = faulted fault.Kind
+  -- a variable of a kind, which holds what is asked for
+  abbrev pub if_variable : Kind → Holding → ℕ → (Argument → Next) → Next
+  if_variable k h x go =
+      word_of x (λ w. if_true (is_value_of k w) (if_there w (λ a. if_true (is_holding h a) (go a))))
+
+  -- a stolen cell leaves the ledger
+  abbrev pub if_stolen : Argument → Ledger → (Ledger → Next) → Next
+  if_stolen (Cell c content) l go = if_taken c l go
+  if_stolen a l go = go l
+
+  -- an argument, behind those that were tested before it, and the ledger that is left
+  abbrev pub if_argument : Code → Parameter → CArg → List Argument → Ledger → (Argument → Ledger → Next) → Next
+  if_argument code (Borrows k h) (arg.Var x) earlier l go =
+      if_some fault.Kind (kind_found code k earlier) (λ kind. if_variable kind h x (λ a. go a l))
+  if_argument code (Steals k h) (arg.Var x) earlier l go =
+      if_some fault.Kind (kind_found code k earlier) (λ kind. if_variable kind h x (λ a. if_stolen a l (go a)))
+  if_argument code TakesNumber (arg.Number n) earlier l go = go (Written (arg.Number n)) l
+  if_argument code TakesText (arg.Text text) earlier l go = go (Written (arg.Text text)) l
+  if_argument code TakesGlobal (arg.Global name) earlier l go = go (Written (arg.Global name)) l
+  if_argument code TakesClass (arg.Class name) earlier l go = go (Written (arg.Class name)) l
+  if_argument code _ _ earlier l go = faulted fault.Kind
+
+  -- the arguments from left to right: each is tested whole before the next one is looked at
+  abbrev pub if_arguments : Code → List Parameter → List CArg → List Argument → Ledger → (List Argument → Ledger → Next) → Next
+  if_arguments code [] [] earlier l go = go [] l
+  if_arguments code (p ∷ ps) (a ∷ rest) earlier l go =
+      if_argument code p a earlier l (λ first r. if_arguments code ps rest (earlier ++ first ∷ []) r (λ others. go (first ∷ others)))
+  if_arguments code _ _ earlier l go = faulted fault.Kind
 
   -- a new cell, which the frame owns and the target refers to
-  abbrev pub made_cell : Option ℕ → Content → MachineState
-  made_cell x content = with_target x (ObjectCell (length s.cells)) (own (length s.cells) (with_cells (make content s.cells) s))
+  abbrev pub made_cell : Option ℕ → Content → MachineState → MachineState
+  made_cell x content t = with_target x (ObjectCell (length t.cells)) (own (length t.cells) (with_cells (make content t.cells) t))
 
-  abbrev pub applied : Option ℕ → Effect → Next
-  applied x Wrong = faulted fault.Kind
-  applied x (Makes content) = Goes (next_line (made_cell x content))
-  applied x (Writes text) = Goes (next_line (record s { output = s.output ++ text }))
+  -- l is the ledger that the arguments left, and `gone` what was stolen
+  abbrev pub applied : Option ℕ → Ledger → List ℕ → Effect → Next
+  applied x l gone Wrong = faulted fault.Kind
+  applied x l gone (Makes content) = Goes (next_line (made_cell x content (with_ledger l s)))
+  applied x l gone (Writes text) = Goes (next_line (given gone (with_ledger l (record s { output = s.output ++ text }))))
 
-  abbrev pub primitive_step : Option ℕ → List CArg → Prim → Next
-  primitive_step x args p = if_arguments (row_of p).parameters args (λ all. applied x (effect p all))
+  abbrev pub primitive_step : Code → Option ℕ → List CArg → Prim → Next
+  primitive_step code x args p =
+      if_arguments code (row_of p).parameters args [] s.top.ledger
+      (λ all l. applied x l (stolen (row_of p).parameters all) (effect code s p all))
+
+  -- while an exception is pending only some rows may stand
+  abbrev pub if_may_stand : Bool → Next → Next
+  if_may_stand b go = cond b go (if_calm s.pending go)
+
+  abbrev pub called : Code → Option ℕ → List CArg → Prim → Next
+  called code x args p = if_may_stand (row_of p).while_pending (primitive_step code x args p)
 
   -- a reference is given up; nothing happens for a word without a cell
   abbrev pub given_up : ℕ → Next
@@ -234,7 +259,7 @@ step_at b code s None = faulted b s fault.Kind
 step_at b code s (Some (Lit x l)) =
     if_some b s fault.Kind (option_and_then (λ k. literal_word k l) (kind_of code s.top x)) (λ w. Goes (next_line (with_var x w s)))
 step_at b code s (Some (Call x name args)) =
-    if_calm b s s.pending (if_some b s fault.Kind (primitive_named name) (primitive_step b s x args))
+    if_some b s fault.Kind (primitive_named name) (called b s code x args)
 step_at b code s (Some (Return x)) = word_of b s x (returned b s)
 step_at b code s (Some (Dec x)) = word_of b s x (decremented b s)
 
