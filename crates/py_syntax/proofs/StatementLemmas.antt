@@ -14,7 +14,7 @@ use Rattle.py_syntax.specs.declared.statement.StmtKind.TheOpen.{StmtKind-F}
 use Rattle.py_syntax.specs.declared.statement.StmtKind.TheShapes.{former-StmtKind-Try-2}
 use Rattle.py_syntax.specs.Expressions.{ExprTree, expr_tree}
 use Rattle.py_syntax.specs.Statements as tree
-use Rattle.py_syntax.specs.Statements.{StmtTree, StmtNode, HandlerTree, FuncTree, ClassTree, Block, no_stmts, stmt_then, Arms, no_arms, arm_then, Handlers, no_handlers, handler_then, at, block_of, arms_of, handlers_of, maybe_block, listed_block, listed_arms, listed_handlers, def_of, class_def_of, maybe_expr, arm_step, param_tree, node_step, class_step, func_step, handler_step, stmt_step, stmt_tree, stmt_node, handler_tree, func_tree, class_tree, body_tree, arm_tree}
+use Rattle.py_syntax.specs.Statements.{StmtTree, StmtNode, HandlerTree, FuncTree, ClassTree, Suite, no_stmts, stmt_then, Arms, no_arms, arm_then, Handlers, no_handlers, handler_then, at, suite_of, arms_of, handlers_of, maybe_suite, listed_suite, listed_arms, listed_handlers, def_of, class_def_of, maybe_expr, arm_step, param_tree, node_step, class_step, func_step, handler_step, stmt_step, stmt_tree, stmt_node, handler_tree, func_tree, class_tree, body_tree, arm_tree}
 
 -- a statement by its kind and its place
 pub stmt_tree_at : (s : Stmt) → stmt_tree s ≡ at (stmt_node s.kind) s.span
@@ -42,9 +42,9 @@ stepped : (arms : List (Expr × List Stmt)) → map arm_step (map (λ a. (a.0, m
 stepped [] = refl
 stepped (a ∷ more) = ap (λ l. arm_tree a ∷ l) (stepped more)
 
-last_block : (o : Option (List Stmt)) → option_map block_of (former-StmtKind-Try-2.map Stmt StmtTree stmt_tree o) ≡ option_map body_tree o
-last_block None = refl
-last_block (Some body) = refl
+last_suite : (o : Option (List Stmt)) → option_map suite_of (former-StmtKind-Try-2.map Stmt StmtTree stmt_tree o) ≡ option_map body_tree o
+last_suite None = refl
+last_suite (Some body) = refl
 
 pub stmt_node-Expr : (e : Expr) → stmt_node (kind.Expr e) ≡ tree.Do (expr_tree e)
 stmt_node-Expr e = rolled (StmtKind-F.Expr e) (kind.Expr e) (variant.rolls-Expr e)
@@ -97,8 +97,8 @@ stmt_node-While e body = rolled (StmtKind-F.While e body) (kind.While e body) (v
 pub stmt_node-For : (t e : Expr) (body : List Stmt) → stmt_node (kind.For t e body) ≡ tree.For (expr_tree t) (expr_tree e) (body_tree body)
 stmt_node-For t e body = rolled (StmtKind-F.For t e body) (kind.For t e body) (variant.rolls-For t e body)
 
-pub stmt_node-Try : (body : List Stmt) (handlers : List Handler) (last : Option (List Stmt)) → stmt_node (kind.Try body handlers last) ≡ tree.Try (body_tree body) (handlers_of (map handler_tree handlers)) (maybe_block (option_map body_tree last))
-stmt_node-Try body handlers last = rolled (StmtKind-F.Try body handlers last) (kind.Try body handlers last) (variant.rolls-Try body handlers last) ∙ ap (λ o. tree.Try (body_tree body) (handlers_of (map handler_tree handlers)) (maybe_block o)) (last_block last)
+pub stmt_node-Try : (body : List Stmt) (handlers : List Handler) (last : Option (List Stmt)) → stmt_node (kind.Try body handlers last) ≡ tree.Try (body_tree body) (handlers_of (map handler_tree handlers)) (maybe_suite (option_map body_tree last))
+stmt_node-Try body handlers last = rolled (StmtKind-F.Try body handlers last) (kind.Try body handlers last) (variant.rolls-Try body handlers last) ∙ ap (λ o. tree.Try (body_tree body) (handlers_of (map handler_tree handlers)) (maybe_suite o)) (last_suite last)
 
 pub stmt_node-Def : (f : Func) → stmt_node (kind.Def f) ≡ def_of (func_tree f)
 stmt_node-Def f = rolled (StmtKind-F.Def f) (kind.Def f) (variant.rolls-Def f)
@@ -130,15 +130,15 @@ pub ruleset stmt_nodes = (
 )
 
 -- a row made of a list lists it again, and a row is made of its list
-pub listed-block_of : (ss : List StmtTree) → listed_block (block_of ss) ≡ ss
-listed-block_of [] = refl
-listed-block_of (s ∷ ss) = ap (λ l. s ∷ l) (listed-block_of ss)
+pub listed-suite_of : (ss : List StmtTree) → listed_suite (suite_of ss) ≡ ss
+listed-suite_of [] = refl
+listed-suite_of (s ∷ ss) = ap (λ l. s ∷ l) (listed-suite_of ss)
 
-pub block_of-listed : (b : Block) → block_of (listed_block b) ≡ b
-block_of-listed no_stmts = refl
-block_of-listed (stmt_then s more) = ap (stmt_then s) (block_of-listed more)
+pub suite_of-listed : (b : Suite) → suite_of (listed_suite b) ≡ b
+suite_of-listed no_stmts = refl
+suite_of-listed (stmt_then s more) = ap (stmt_then s) (suite_of-listed more)
 
-pub listed-arms_of : (arms : List (ExprTree × Block)) → listed_arms (arms_of arms) ≡ arms
+pub listed-arms_of : (arms : List (ExprTree × Suite)) → listed_arms (arms_of arms) ≡ arms
 listed-arms_of [] = refl
 listed-arms_of (a ∷ more) = ap (λ l. a ∷ l) (listed-arms_of more)
 
