@@ -6,7 +6,7 @@ use py_syntax::{Key, Sign, TokenKind};
 
 /// A terminal of the grammar: what kind a token is, and which keyword or sign, but not which name or literal
 /// (Python Language Reference, "Lexical analysis").
-#[derive(Clone, Copy, Debug, PartialEq, Eq)]
+#[derive(Clone, Copy, PartialEq, Eq)]
 pub enum Terminal {
     Name,
     Int,
