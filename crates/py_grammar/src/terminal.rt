@@ -1,12 +1,13 @@
 //! What the grammar sees of a token.
 ghost use Rattle.std.specs.Prelude.{◌≡◌, ◌≤◌};
+ghost use Rattle.std.specs.Bool.{Decides};
 ghost use Rattle.py_grammar.specs.Terminals.{terminal_of, same, code, key_code, sign_code};
 
 use py_syntax::{Key, Sign, TokenKind};
 
 /// A terminal of the grammar: what kind a token is, and which keyword or sign, but not which name or literal
 /// (Python Language Reference, "Lexical analysis").
-#[derive(Clone, Copy, PartialEq, Eq)]
+#[derive(Clone, Copy)]
 pub enum Terminal {
     Name,
     Int,
@@ -37,8 +38,17 @@ impl Terminal {
         }
     }
 
+    /// Whether it is this terminal.
+    #[tactic(auto, using(crate::proofs::Codes::same_exact))]
+    pub fn is(self, other: Terminal) -> bool
+        ensures exact { Decides result (self ≡ other) }
+        ensures told { result ≡ same self other }
+    {
+        self.code() == other.code()
+    }
+
     /// The number of this terminal, from 0 to 95, which no other terminal has.
-    pub fn code(self) -> usize
+    fn code(self) -> usize
         ensures { result ≡ code self }
     {
         match self {
@@ -52,13 +62,6 @@ impl Terminal {
             Terminal::Key(key) => 10 + key_number(key),
             Terminal::Sign(sign) => 50 + sign_number(sign),
         }
-    }
-
-    /// Whether it is this terminal.
-    pub fn is(self, other: Terminal) -> bool
-        ensures { result ≡ same self other }
-    {
-        self.code() == other.code()
     }
 }
 
