@@ -3,3 +3,4 @@ pub mod ExpressionLemmas
 pub mod Sizes
 pub mod StatementLemmas
 pub mod TokenLemmas
+pub mod TraversalLemmas
