@@ -1,5 +1,5 @@
 -- The definitions at small values.
-use Rattle.std.proofs.Common.{◌≡◌, refl, ℕ, List, [], ◌∷◌, codes, Some, None, pos}
+use Rattle.std.proofs.Common.{◌≡◌, refl, ℕ, [], ◌∷◌, codes, Some, None}
 use Rattle.py_syntax.specs.declared.key.Key.TheVariants as key
 use Rattle.py_syntax.specs.declared.sign.Sign.TheVariants as sign
 use Rattle.py_syntax.specs.declared.token.Token.{Token}
@@ -12,7 +12,7 @@ use Rattle.py_syntax.specs.Expressions as e
 use Rattle.py_syntax.specs.Expressions.{ExprTree, ExprNode, exprs_of, arguments_of}
 use Rattle.py_syntax.specs.Statements as s
 use Rattle.py_syntax.specs.Statements.{StmtTree, StmtNode, suite_of, handlers_of}
-use Rattle.py_syntax.specs.Traversals.{expressions_in, SyntaxNode, statement, handler, expression, into_definitions, around_definitions, nodes_of_stmt, statements_of, expressions_of, function_in, class_in}
+use Rattle.py_syntax.specs.Traversals.{expressions_in, statement, handler, expression, into_definitions, around_definitions, nodes_of_stmt, statements_of, expressions_of, function_in, class_in}
 
 keys : (key_of (codes "None") ≡ Some key.Nothing) × (key_of (codes "none") ≡ None) × (key_of (codes "yield") ≡ Some key.Yield) × (key_of (codes "match") ≡ None)
 keys = (refl, refl, refl, refl)
@@ -61,7 +61,7 @@ in_expressions = (refl, refl)
 abbrev assignment : StmtTree
 assignment = s.at (s.Assign b c) (on 5 1)
 
--- `@a` above `def f(b: c) -> a:` with the assignment as its body
+-- `@b` above `def f(b: c) -> a:` with the assignment as its body
 abbrev function : StmtTree
 function = s.at (s.Def (102 ∷ []) ((98 ∷ [], Some c) ∷ []) (Some a) (suite_of (assignment ∷ [])) (b ∷ [])) (on 3 1)
 

@@ -99,19 +99,10 @@ abbrev pub maybe_suite : Option Suite → MaybeSuite
 maybe_suite None = no_suite
 maybe_suite (Some body) = some_suite body
 
--- rows of parts as lists
+-- statements in a row as a list
 abbrev pub listed_suite : Suite → List StmtTree
 listed_suite no_stmts = []
 listed_suite (stmt_then s more) = s ∷ listed_suite more
-
-abbrev pub listed_arms : Arms → List (ExprTree × Suite)
-listed_arms no_arms = []
-listed_arms (arm_then test body more) = (test, body) ∷ listed_arms more
-
-abbrev pub listed_handlers : Handlers → List HandlerTree
-listed_handlers no_handlers = []
-listed_handlers (handler_then c n b s more) =
-    record { class = c; name = n; body = b; span = s } ∷ listed_handlers more
 
 -- a function or a class as the statement that defines it
 abbrev pub def_of : FuncTree → StmtNode
