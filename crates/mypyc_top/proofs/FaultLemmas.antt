@@ -9,7 +9,7 @@ use Rattle.py_syntax.specs.declared.token.Token.{Token}
 use Rattle.py_lexer.specs.Reading.{Fault}
 use Rattle.py_lexer.specs.Tokens.{tokens_of}
 use Rattle.py_lexer.proofs.TokenLaws.{gives_end}
-use Rattle.py_syntax.specs.Statements.{Block}
+use Rattle.py_syntax.specs.Statements.{Suite}
 use Rattle.py_syntax.specs.Texts.{key_text}
 use Rattle.py_grammar.specs.Faults.{IsTree, Says, tree, syntax, profile, too_deep}
 use Rattle.py_grammar.proofs.Outcomes.{outcome_exists, outcome_is_one, tree_is_one}
@@ -35,16 +35,16 @@ pub too_deep_said : (ts : List Token) (j : ℕ) (e : SourceError) → e ≡ erro
 too_deep_said ts j e is says = subst (SaysOfTokens ts) (sym is) (too_deep j, says, refl)
 
 -- and of their tree
-of_line : (ts : List Token) (block : Block) (line : Option ℕ) (n : ℕ) → unbuilt_line block ≡ line → line ≡ Some n → Says ts (tree block) → AreOfTokens (Ok ts) (not_built n ∷ [])
-of_line ts block line n is same says = (tree block, says, ap (λ l. option_to_list (option_map not_built l)) (sym (is ∙ same)))
+of_line : (ts : List Token) (suite : Suite) (line : Option ℕ) (n : ℕ) → unbuilt_line suite ≡ line → line ≡ Some n → Says ts (tree suite) → AreOfTokens (Ok ts) (not_built n ∷ [])
+of_line ts suite line n is same says = (tree suite, says, ap (λ l. option_to_list (option_map not_built l)) (sym (is ∙ same)))
 
-pub unbuilt_said : (ts : List Token) (block : Block) (e : SourceError) → Says ts (tree block) → SaysUnbuilt (unbuilt_line block) e → SaysOfTokens ts e
-unbuilt_said ts block (errors.Fault f) says is =
-    subst (λ d. AreOfTokens (Ok ts) (d ∷ [])) (ap (λ k. diagnostic_of (record { line = f.line; kind = k })) (sym is.1)) (of_line ts block _ f.line refl is.0 says)
-unbuilt_said ts block errors.Memory says is = tt
+pub unbuilt_said : (ts : List Token) (suite : Suite) (e : SourceError) → Says ts (tree suite) → SaysUnbuilt (unbuilt_line suite) e → SaysOfTokens ts e
+unbuilt_said ts suite (errors.Fault f) says is =
+    subst (λ d. AreOfTokens (Ok ts) (d ∷ [])) (ap (λ k. diagnostic_of (record { line = f.line; kind = k })) (sym is.1)) (of_line ts suite _ f.line refl is.0 says)
+unbuilt_said ts suite errors.Memory says is = tt
 
-pub nothing_said : (ts : List Token) (block : Block) → Says ts (tree block) → unbuilt_line block ≡ None → AreOfTokens (Ok ts) []
-nothing_said ts block says all = (tree block, says, ap (λ l. option_to_list (option_map not_built l)) (sym all))
+pub nothing_said : (ts : List Token) (suite : Suite) → Says ts (tree suite) → unbuilt_line suite ≡ None → AreOfTokens (Ok ts) []
+nothing_said ts suite says all = (tree suite, says, ap (λ l. option_to_list (option_map not_built l)) (sym all))
 
 -- faults of a text, and of bytes
 pub text_said : (text : List ℕ) (ts : List Token) (e : SourceError) → tokens_of text ≡ Ok ts → SaysOfTokens ts e → SaysOfText text e
@@ -66,23 +66,23 @@ no_fault bytes text ts same good is none =
 
 -- what came of the statements of a module, of a text and of a file
 module _ {V : Type 0} (items : V → List ℕ) where
-  pub text_numbers : (text : List ℕ) (ts : List Token) (block : Block) (r : Result V SourceError) → tokens_of text ≡ Ok ts → IsTree ts block
-      → IfOk r (λ found. items found ≡ numbers_of block) → OnOk r (unbuilt_line block ≡ None) → IfOk r (λ found. HasNumbers text (items found))
-  text_numbers text ts block (Ok found) is derived same built =
-      record { tokens = ts; block = block; has_tokens = is; derived = derived; all_built = built; are_printed = same }
-  text_numbers text ts block (Err e) is derived same built = tt
+  pub text_numbers : (text : List ℕ) (ts : List Token) (suite : Suite) (r : Result V SourceError) → tokens_of text ≡ Ok ts → IsTree ts suite
+      → IfOk r (λ found. items found ≡ numbers_of suite) → OnOk r (unbuilt_line suite ≡ None) → IfOk r (λ found. HasNumbers text (items found))
+  text_numbers text ts suite (Ok found) is derived same built =
+      record { tokens = ts; suite = suite; has_tokens = is; derived = derived; all_built = built; are_printed = same }
+  text_numbers text ts suite (Err e) is derived same built = tt
 
-  pub text_fault : (text : List ℕ) (ts : List Token) (block : Block) (r : Result V SourceError) → tokens_of text ≡ Ok ts → IsTree ts block
-      → IfErr r (SaysUnbuilt (unbuilt_line block)) → IfErr r (SaysOfText text)
-  text_fault text ts block (Ok found) is derived says = tt
-  text_fault text ts block (Err e) is derived says = text_said text ts e is (unbuilt_said ts block e derived says)
+  pub text_fault : (text : List ℕ) (ts : List Token) (suite : Suite) (r : Result V SourceError) → tokens_of text ≡ Ok ts → IsTree ts suite
+      → IfErr r (SaysUnbuilt (unbuilt_line suite)) → IfErr r (SaysOfText text)
+  text_fault text ts suite (Ok found) is derived says = tt
+  text_fault text ts suite (Err e) is derived says = text_said text ts e is (unbuilt_said ts suite e derived says)
 
   pub file_numbers : (bytes text : List ℕ) (r : Result V SourceError) → text ≡ bytes → is_utf8 bytes ≡ true
       → IfOk r (λ found. HasNumbers (chars text) (items found)) → IfOk r (λ found. AreNumbers bytes (items found))
   file_numbers bytes text (Ok found) same good has =
       let is : tokens_of (chars bytes) ≡ Ok has.tokens = subst (λ t. tokens_of (chars t) ≡ Ok has.tokens) same has.has_tokens in
       record {
-        block = has.block;
+        suite = has.suite;
         is_module = record { tokens = has.tokens; is_text = good; has_tokens = is; derived = has.derived };
         are_printed = has.are_printed;
       }
@@ -91,7 +91,7 @@ module _ {V : Type 0} (items : V → List ℕ) where
   pub file_none : (bytes text : List ℕ) (r : Result V SourceError) → text ≡ bytes → is_utf8 bytes ≡ true
       → IfOk r (λ found. HasNumbers (chars text) (items found)) → OnOk r (AreFaults bytes [])
   file_none bytes text (Ok found) same good has =
-      no_fault bytes text has.tokens same good has.has_tokens (nothing_said has.tokens has.block has.derived has.all_built)
+      no_fault bytes text has.tokens same good has.has_tokens (nothing_said has.tokens has.suite has.derived has.all_built)
   file_none bytes text (Err e) same good has = tt
 
   pub file_fault : (bytes text : List ℕ) (r : Result V SourceError) → text ≡ bytes → is_utf8 bytes ≡ true
@@ -142,5 +142,5 @@ same_tokens read ts us x y = cc
 pub numbers_are_one : NumbersAreOne
 numbers_are_one bytes a b x y =
     let same : x.is_module.tokens ≡ y.is_module.tokens = same_tokens (tokens_of (chars bytes)) x.is_module.tokens y.is_module.tokens x.is_module.has_tokens y.is_module.has_tokens in
-    let derived : IsTree y.is_module.tokens x.block = subst (λ ts. IsTree ts x.block) same x.is_module.derived in
-    x.are_printed ∙ ap numbers_of (tree_is_one y.is_module.tokens x.block y.block derived y.is_module.derived) ∙ sym y.are_printed
+    let derived : IsTree y.is_module.tokens x.suite = subst (λ ts. IsTree ts x.suite) same x.is_module.derived in
+    x.are_printed ∙ ap numbers_of (tree_is_one y.is_module.tokens x.suite y.suite derived y.is_module.derived) ∙ sym y.are_printed

@@ -37,7 +37,7 @@ word_at ts i = option_map_or (λ t. word_of t.kind) (slice_get ts i) []
 
 -- what is wrong with a module, by what came of its tokens
 abbrev pub found_in : List Token → Came → List Diagnostic
-found_in ts (tree block) = option_to_list (option_map not_built (unbuilt_line block))
+found_in ts (tree suite) = option_to_list (option_map not_built (unbuilt_line suite))
 found_in ts (syntax i) = no_tree (line_at ts i) ∷ []
 found_in ts (profile i) = left_out (line_at ts i) (word_at ts i) ∷ []
 found_in ts (too_deep j) = nested_too_deeply (line_at ts j) ∷ []

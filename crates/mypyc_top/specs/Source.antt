@@ -6,7 +6,7 @@ use Rattle.py_syntax.specs.declared.token.Token.{Token}
 use Rattle.py_syntax.specs.Expressions as expr
 use Rattle.py_syntax.specs.Expressions.{ExprTree, Arguments, Name, Int, Call, no_arguments, argument_then}
 use Rattle.py_syntax.specs.Statements as stmt
-use Rattle.py_syntax.specs.Statements.{StmtTree, Do, Block, listed_block}
+use Rattle.py_syntax.specs.Statements.{StmtTree, Do, Suite, listed_suite}
 use Rattle.py_lexer.specs.Tokens.{tokens_of}
 use Rattle.py_grammar.specs.Faults.{IsTree}
 
@@ -47,8 +47,8 @@ printed _ = None
 abbrev pub numbers_in : List StmtTree → List ℕ
 numbers_in statements = filter_map printed statements
 
-abbrev pub numbers_of : Block → List ℕ
-numbers_of block = numbers_in (listed_block block)
+abbrev pub numbers_of : Suite → List ℕ
+numbers_of suite = numbers_in (listed_suite suite)
 
 abbrev pub line_of : StmtTree → ℕ
 line_of (stmt.at node span) = span.line
@@ -60,18 +60,18 @@ is_unbuilt s = is_none (printed s)
 abbrev pub unbuilt_in : List StmtTree → Option ℕ
 unbuilt_in statements = option_map line_of (find is_unbuilt statements)
 
-abbrev pub unbuilt_line : Block → Option ℕ
-unbuilt_line block = unbuilt_in (listed_block block)
+abbrev pub unbuilt_line : Suite → Option ℕ
+unbuilt_line suite = unbuilt_in (listed_suite suite)
 
 -- a file is a text, and this is the tree of its tokens
-pub record IsModule (bytes : List ℕ) (block : Block) : Type 0 where
+pub record IsModule (bytes : List ℕ) (suite : Suite) : Type 0 where
   pub tokens : List Token
   pub is_text : is_utf8 bytes ≡ true
   pub has_tokens : tokens_of (chars bytes) ≡ Ok tokens
-  pub derived : IsTree tokens block
+  pub derived : IsTree tokens suite
 
 -- the numbers of a file are those of its tree
 pub record AreNumbers (bytes numbers : List ℕ) : Type 0 where
-  pub block : Block
-  pub is_module : IsModule bytes block
-  pub are_printed : numbers ≡ numbers_of block
+  pub suite : Suite
+  pub is_module : IsModule bytes suite
+  pub are_printed : numbers ≡ numbers_of suite

@@ -1,7 +1,7 @@
 -- What the errors of reading a source say.
 use Rattle.std.specs.Prelude.{◌≡◌, ℕ, List, [], ◌∷◌, ◌++◌, codes, Option, Some, None, Ok}
 use Rattle.py_syntax.specs.declared.token.Token.{Token}
-use Rattle.py_syntax.specs.Statements.{Block}
+use Rattle.py_syntax.specs.Statements.{Suite}
 use Rattle.py_syntax.specs.Texts.{key_text}
 use Rattle.py_lexer.specs.Faults.{fault_text}
 use Rattle.py_lexer.specs.Tokens.{tokens_of}
@@ -59,8 +59,8 @@ SaysFault bytes errors.Memory = Unit {0}
 -- a text is a module that is built whole, and these are its numbers
 pub record HasNumbers (text numbers : List ℕ) : Type 0 where
   pub tokens : List Token
-  pub block : Block
+  pub suite : Suite
   pub has_tokens : tokens_of text ≡ Ok tokens
-  pub derived : IsTree tokens block
-  pub all_built : unbuilt_line block ≡ None
-  pub are_printed : numbers ≡ numbers_of block
+  pub derived : IsTree tokens suite
+  pub all_built : unbuilt_line suite ≡ None
+  pub are_printed : numbers ≡ numbers_of suite

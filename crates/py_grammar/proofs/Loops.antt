@@ -2,7 +2,7 @@
 use Rattle.std.specs.Prelude.{nat_le}
 use Rattle.std.proofs.Common.{◌≡◌, Bool, true, false, ◌&&◌, List, [], ◌∷◌, ◌++◌, Ok, Err, if◌then◌else◌, refl, sym, ◌∙◌, ap, subst}
 use Rattle.py_syntax.specs.declared.token.Token.{Token}
-use Rattle.py_grammar.specs.declared.class.Class.{Class}
+use Rattle.py_grammar.specs.declared.terminal.Terminal.{Terminal}
 use Rattle.py_grammar.specs.declared.place.Place.{Place}
 use Rattle.py_grammar.specs.Levels.{Piece}
 use Rattle.py_grammar.specs.Grammar as g
@@ -60,7 +60,7 @@ many_made g f found h (Err s) e = refl
 
 -- ---- between separators
 
-ready_after : (c : Class) (x : Sym) → (fine (after c (g.sym x)) && nat_le (weight (after c (g.sym x))) 900) ≡ true
+ready_after : (c : Terminal) (x : Sym) → (fine (after c (g.sym x)) && nat_le (weight (after c (g.sym x))) 900) ≡ true
 ready_after c (expr TESTS) = refl
 ready_after c (expr _) = refl
 ready_after c (more OR_MORE) = refl
@@ -73,7 +73,7 @@ after_on g found v (Ok y) = ap (λ l. Ok ((l, y.0.1), y.1)) (sym (append_assoc f
 after_on g found v (Err e) = refl
 
 -- one more separator and perhaps a symbol behind it, or the end
-pub after_round : {B : Type 0} (ts : List Token) (c : Class) (x : Sym) (p : Place) (f : Sem x → List B) (found : List B)
+pub after_round : {B : Type 0} (ts : List Token) (c : Terminal) (x : Sym) (p : Place) (f : Sem x → List B) (found : List B)
     → after_into f found (reads_after ts c (g.sym x) p) ≡ (if sees ts p (c ∷ [])
     then (accept ts c p >>= λ t.
     if sees ts t.1 (starts x) then (reads_sym ts x t.1 >>= λ y. after_into f (found ++ f y.0) (reads_after ts c (g.sym x) y.1)) else Ok ((found, true), t.1))

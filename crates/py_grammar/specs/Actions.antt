@@ -12,7 +12,7 @@ use Rattle.py_syntax.specs.declared.token.TokenKind.TheVariants as kind
 use Rattle.py_syntax.specs.Expressions as e
 use Rattle.py_syntax.specs.Expressions.{ExprTree, ExprNode, ArgTree, exprs_of, comparisons_of, entries_of, arguments_of}
 use Rattle.py_syntax.specs.Statements as s
-use Rattle.py_syntax.specs.Statements.{StmtTree, StmtNode, Block, HandlerTree, FuncTree, ClassTree, block_of, arms_of, handlers_of, maybe_block}
+use Rattle.py_syntax.specs.Statements.{StmtTree, StmtNode, Suite, HandlerTree, FuncTree, ClassTree, suite_of, arms_of, handlers_of, maybe_suite}
 use Rattle.py_grammar.specs.Levels.{Piece}
 use Rattle.py_grammar.specs.Grammar.{ExprSym, More, Sym, Part, tok, sym, ◌·◌, ◌⊕◌, maybe, many, after, left, grown, rhs, rhs_expr, rhs_more, expr, more, TESTS, TARGETS, TEST, OR, AND, NOT, COMP, BOR, SHIFT, SUM, TERM, FACTOR, PRIMARY, ATOM, OR_MORE, AND_MORE, BOR_MORE, SHIFT_MORE, SUM_MORE, TERM_MORE, TRAILER, COMP_MORE, COMP_OP, ARG, ENTRY, PLAIN, AUG, RETURN, RAISE, GLOBAL, ASSERT, DEL, IMPORT, FROM, DOTTED, ALIAS, SMALL, SIMPLE, STMT, IF, ARM, WHILE, FOR, TRY, EXCEPT, FINALLY, BLOCK, FUNC, PARAM, CLASS, CBLOCK, MEMBER, MARK, DECORATED, TOP, MODULE}
 
@@ -56,7 +56,7 @@ Sem SMALL = StmtTree
 Sem SIMPLE = List StmtTree
 Sem STMT = List StmtTree
 Sem IF = StmtTree
-Sem ARM = ExprTree × Block
+Sem ARM = ExprTree × Suite
 Sem WHILE = StmtTree
 Sem FOR = StmtTree
 Sem TRY = StmtTree
@@ -73,7 +73,7 @@ Sem MEMBER = List StmtTree
 Sem MARK = ExprTree × Span
 Sem DECORATED = StmtTree
 Sem TOP = List StmtTree
-Sem MODULE = Block
+Sem MODULE = Suite
 
 -- A part stands for what its parts stand for.
 abbrev pub Val : Part → Type 0
@@ -136,17 +136,17 @@ trees_of [] = []
 trees_of (p ∷ ps) = p.tree ∷ trees_of ps
 
 -- what may stand behind a keyword or a sign, and behind those alone
-abbrev pub block_behind : Option (Token × (Token × List StmtTree)) → List StmtTree
-block_behind None = []
-block_behind (Some x) = x.1.1
+abbrev pub suite_behind : Option (Token × (Token × List StmtTree)) → List StmtTree
+suite_behind None = []
+suite_behind (Some x) = x.1.1
 
 abbrev pub tree_behind : Option (Token × Piece) → Option ExprTree
 tree_behind None = None
 tree_behind (Some x) = Some x.1.tree
 
-abbrev pub block_in : Option (List StmtTree) → Option Block
-block_in None = None
-block_in (Some body) = Some (block_of body)
+abbrev pub suite_in : Option (List StmtTree) → Option Suite
+suite_in None = None
+suite_in (Some body) = Some (suite_of body)
 
 -- the bases of a class, where it has brackets
 abbrev pub bases_in : Option (Token × (Option (Piece × (List Piece × Bool)) × Token)) → List ExprTree
@@ -333,17 +333,17 @@ act STMT (inr (inl v)) = v ∷ []
 act STMT (inr (inr (inl v))) = v ∷ []
 act STMT (inr (inr (inr (inl v)))) = v ∷ []
 act STMT (inr (inr (inr (inr v)))) = v
-act IF (word, (arm, (arms, other))) = stmt (s.If (arms_of (arm ∷ seconds arms)) (block_of (block_behind other))) word
-act ARM (test, (colon, body)) = (test.tree, block_of body)
-act WHILE (word, (test, (colon, body))) = stmt (s.While test.tree (block_of body)) word
-act FOR (word, (target, (_, (all, (colon, body))))) = stmt (s.For target.tree all.tree (block_of body)) word
+act IF (word, (arm, (arms, other))) = stmt (s.If (arms_of (arm ∷ seconds arms)) (suite_of (suite_behind other))) word
+act ARM (test, (colon, body)) = (test.tree, suite_of body)
+act WHILE (word, (test, (colon, body))) = stmt (s.While test.tree (suite_of body)) word
+act FOR (word, (target, (_, (all, (colon, body))))) = stmt (s.For target.tree all.tree (suite_of body)) word
 act TRY (word, ((colon, body), inl (handler, (handlers, last)))) =
-    stmt (s.Try (block_of body) (handlers_of (handler ∷ handlers)) (maybe_block (block_in last))) word
+    stmt (s.Try (suite_of body) (handlers_of (handler ∷ handlers)) (maybe_suite (suite_in last))) word
 act TRY (word, ((colon, body), inr last)) =
-    stmt (s.Try (block_of body) s.no_handlers (s.some_block (block_of last))) word
-act EXCEPT (word, (None, (colon, body))) = record { class = None; name = None; body = block_of body; span = word.span }
+    stmt (s.Try (suite_of body) s.no_handlers (s.some_suite (suite_of last))) word
+act EXCEPT (word, (None, (colon, body))) = record { class = None; name = None; body = suite_of body; span = word.span }
 act EXCEPT (word, (Some (p, name), (colon, body))) =
-    record { class = Some p.tree; name = name_behind name; body = block_of body; span = word.span }
+    record { class = Some p.tree; name = name_behind name; body = suite_of body; span = word.span }
 act FINALLY (word, (colon, body)) = body
 act BLOCK (inl (line, (indent, (stmts, (others, dedent))))) = stmts ++ joined others
 act BLOCK (inr v) = v
@@ -352,14 +352,14 @@ act FUNC (word, (name, (params, (ret, (colon, body))))) = (
     name = name_of name;
     params = items params.1.0;
     ret = tree_behind ret;
-    body = block_of body;
+    body = suite_of body;
     marks = [];
   },
   word.span,
 )
 act PARAM (name, mark) = (name_of name, tree_behind mark)
 act CLASS (word, (name, (bases, (colon, body)))) =
-    (record { name = name_of name; bases = bases_in bases; body = block_of body; marks = [] }, word.span)
+    (record { name = name_of name; bases = bases_in bases; body = suite_of body; marks = [] }, word.span)
 act CBLOCK (inl (line, (indent, (stmts, (others, dedent))))) = stmts ++ joined others
 act CBLOCK (inr v) = v
 act MEMBER (inl f) = def_at f.0 [] f.1 ∷ []
@@ -371,4 +371,4 @@ act TOP (inl f) = def_at f.0 [] f.1 ∷ []
 act TOP (inr (inl c)) = class_at c.0 [] c.1 ∷ []
 act TOP (inr (inr (inl v))) = v ∷ []
 act TOP (inr (inr (inr v))) = v
-act MODULE (all, end) = block_of (joined all)
+act MODULE (all, end) = suite_of (joined all)

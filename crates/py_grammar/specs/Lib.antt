@@ -1,4 +1,4 @@
-pub mod Classes
+pub mod Terminals
 pub mod Grammar
 pub mod Levels
 pub mod Actions

@@ -4,7 +4,7 @@ use Rattle.py_syntax.specs.declared.token.Span.{Span}
 use Rattle.py_syntax.specs.declared.token.Token.{Token}
 use Rattle.py_syntax.specs.Expressions as e
 use Rattle.py_syntax.specs.Expressions.{ExprTree}
-use Rattle.py_grammar.specs.declared.class.Class.{Class}
+use Rattle.py_grammar.specs.declared.terminal.Terminal.{Terminal}
 use Rattle.py_grammar.specs.declared.place.Place.{Place}
 use Rattle.py_grammar.specs.Levels.{Piece}
 use Rattle.py_grammar.specs.Grammar.{ExprSym, More, Sym, expr, more, Part, sym, maybe, many, after, grown, list, comma, TEST, ATOM}
@@ -36,7 +36,7 @@ unfoldable pub reads_many : List Token → (a : Part) → Place → Outcome (Lis
 reads_many ts a p = reads ts (many a) p
 
 -- a part behind separators, and whether there is one at the end
-unfoldable pub reads_after : List Token → Class → (a : Part) → Place → Outcome (List (Val a) × Bool)
+unfoldable pub reads_after : List Token → Terminal → (a : Part) → Place → Outcome (List (Val a) × Bool)
 reads_after ts c a p = reads ts (after c a) p
 
 -- what stands in brackets: a symbol any number of times, between commas

@@ -7,10 +7,10 @@ use Rattle.py_syntax.specs.declared.sign.Sign.TheVariants as s
 use Rattle.py_syntax.specs.declared.token.Token.{Token}
 use Rattle.py_syntax.specs.Expressions as e
 use Rattle.py_syntax.specs.Expressions.{ExprTree, exprs_of, entries_of, arguments_of, comparisons_of}
-use Rattle.py_grammar.specs.declared.class.Class.{Class}
-use Rattle.py_grammar.specs.declared.class.Class.TheVariants as class
+use Rattle.py_grammar.specs.declared.terminal.Terminal.{Terminal}
+use Rattle.py_grammar.specs.declared.terminal.Terminal.TheVariants as terminal
 use Rattle.py_grammar.specs.declared.place.Place.{Place}
-use Rattle.py_grammar.specs.Classes.{class_of, same, next_in}
+use Rattle.py_grammar.specs.Terminals.{terminal_of, same, next_in}
 use Rattle.py_grammar.specs.Levels.{Piece}
 use Rattle.py_grammar.specs.Grammar as g
 use Rattle.py_grammar.specs.Grammar.{Sym, ExprSym, More, expr, more, comma, tok, TESTS, TARGETS, TEST, OR, AND, NOT, COMP, BOR, SHIFT, SUM, TERM, FACTOR, PRIMARY, ATOM, OR_MORE, AND_MORE, BOR_MORE, SHIFT_MORE, SUM_MORE, TERM_MORE, TRAILER, COMP_MORE, COMP_OP, ARG, ENTRY}
@@ -45,10 +45,10 @@ test_eq ts p = sym_eq ts (expr TEST) p
 
 abbrev condition_on : List Token → Piece → Place → Outcome Piece
 condition_on ts v p =
-    accept ts (class.Key k.If) p >>= λ a. reads_expr ts OR a.1 >>= λ t. accept ts (class.Key k.Else) t.1 >>= λ b.
+    accept ts (terminal.Key k.If) p >>= λ a. reads_expr ts OR a.1 >>= λ t. accept ts (terminal.Key k.Else) t.1 >>= λ b.
     reads_expr ts TEST b.1 >>= λ q. finish (piece (e.Cond v.tree t.0.tree q.0.tree) v.begins) q.1
 
-condition_opens : (ts : List Token) (v : Piece) (p : Place) → reads_condition ts v p ≡ (if sees ts p (class.Key k.If ∷ []) then condition_on ts v p else finish v p)
+condition_opens : (ts : List Token) (v : Piece) (p : Place) → reads_condition ts v p ≡ (if sees ts p (terminal.Key k.If ∷ []) then condition_on ts v p else finish v p)
 unfolding reads_condition
 condition_opens ts v p = refl
 
@@ -57,8 +57,8 @@ unfolding reads_alternative reads_behind
 same_condition ts v p = simp (bind_assoc, test_eq)
 
 pub condition_eq : (ts : List Token) (v : Piece) (p : Place) → reads_condition ts v p ≡
-    (if sees ts p (class.Key k.If ∷ []) then (reads_alternative ts p >>= λ y. conditional (v, y.0.0) (reads_condition ts y.0.1 y.1)) else finish v p)
-condition_eq ts v p = condition_opens ts v p ∙ if_same (sees ts p (class.Key k.If ∷ [])) (same_condition ts v p) refl
+    (if sees ts p (terminal.Key k.If ∷ []) then (reads_alternative ts p >>= λ y. conditional (v, y.0.0) (reads_condition ts y.0.1 y.1)) else finish v p)
+condition_eq ts v p = condition_opens ts v p ∙ if_same (sees ts p (terminal.Key k.If ∷ [])) (same_condition ts v p) refl
 
 -- ---- tuples
 
@@ -90,7 +90,7 @@ level_eq ts level.Term p = sym_eq ts (expr TERM) p
 level_eq ts level.Primary p = sym_eq ts (expr PRIMARY) p
 
 -- one more operator and operand, or a trailer
-abbrev pub operation_on : List Token → Level → Option (Class × Operator) → Piece → Place → Outcome Piece
+abbrev pub operation_on : List Token → Level → Option (Terminal × Operator) → Piece → Place → Outcome Piece
 operation_on ts l None v p = growth ts TRAILER v p
 operation_on ts l (Some o) v p = accept ts o.0 p >>= λ x. reads_expr ts (below_of l) x.1 >>= λ y. finish (piece (operation o.1 v.tree y.0.tree) v.begins) y.1
 
@@ -103,52 +103,52 @@ growth_step ts level.Or v p = r.or_more ts v p
 growth_step ts level.And v p = r.and_more ts v p
 growth_step ts level.Bar v p = r.bor_more ts v p
 growth_step ts level.Shift v p =
-    r.shift_more ts v p ∙ choice (sees ts p (class.Sign s.Shl ∷ [])) (λ o. operation_on ts level.Shift o v p) (Some (class.Sign s.Shl, operator.Bin op.Shl)) (Some (class.Sign s.Shr, operator.Bin op.Shr))
+    r.shift_more ts v p ∙ choice (sees ts p (terminal.Sign s.Shl ∷ [])) (λ o. operation_on ts level.Shift o v p) (Some (terminal.Sign s.Shl, operator.Bin op.Shl)) (Some (terminal.Sign s.Shr, operator.Bin op.Shr))
 growth_step ts level.Sum v p =
-    r.sum_more ts v p ∙ choice (sees ts p (class.Sign s.Plus ∷ [])) (λ o. operation_on ts level.Sum o v p) (Some (class.Sign s.Plus, operator.Bin op.Add)) (Some (class.Sign s.Minus, operator.Bin op.Sub))
+    r.sum_more ts v p ∙ choice (sees ts p (terminal.Sign s.Plus ∷ [])) (λ o. operation_on ts level.Sum o v p) (Some (terminal.Sign s.Plus, operator.Bin op.Add)) (Some (terminal.Sign s.Minus, operator.Bin op.Sub))
 growth_step ts level.Term v p =
     r.term_more ts v p
-    ∙ if_same (sees ts p (class.Sign s.Star ∷ [])) refl
-    (choice (sees ts p (class.Sign s.SlashSlash ∷ [])) (λ o. operation_on ts level.Term o v p) (Some (class.Sign s.SlashSlash, operator.Bin op.FloorDiv)) (Some (class.Sign s.Percent, operator.Bin op.Mod)))
-    ∙ choice (sees ts p (class.Sign s.Star ∷ [])) (λ o. operation_on ts level.Term o v p) (Some (class.Sign s.Star, operator.Bin op.Mul))
-    (if sees ts p (class.Sign s.SlashSlash ∷ []) then Some (class.Sign s.SlashSlash, operator.Bin op.FloorDiv) else Some (class.Sign s.Percent, operator.Bin op.Mod))
+    ∙ if_same (sees ts p (terminal.Sign s.Star ∷ [])) refl
+    (choice (sees ts p (terminal.Sign s.SlashSlash ∷ [])) (λ o. operation_on ts level.Term o v p) (Some (terminal.Sign s.SlashSlash, operator.Bin op.FloorDiv)) (Some (terminal.Sign s.Percent, operator.Bin op.Mod)))
+    ∙ choice (sees ts p (terminal.Sign s.Star ∷ [])) (λ o. operation_on ts level.Term o v p) (Some (terminal.Sign s.Star, operator.Bin op.Mul))
+    (if sees ts p (terminal.Sign s.SlashSlash ∷ []) then Some (terminal.Sign s.SlashSlash, operator.Bin op.FloorDiv) else Some (terminal.Sign s.Percent, operator.Bin op.Mod))
 growth_step ts level.Primary v p = refl
 
 pub growth_none : (ts : List Token) (l : Level) (v : Piece) (p : Place) → operator_at ts p l ≡ None → growth ts (more_of l) v p ≡ growth ts TRAILER v p
 growth_none ts l v p is = growth_step ts l v p ∙ ap (λ o. operation_on ts l o v p) is
 
-pub growth_some : (ts : List Token) (l : Level) (v : Piece) (p : Place) (o : Class × Operator) → operator_at ts p l ≡ Some o
+pub growth_some : (ts : List Token) (l : Level) (v : Piece) (p : Place) (o : Terminal × Operator) → operator_at ts p l ≡ Some o
     → growth ts (more_of l) v p ≡ (reads_behind ts o.0 (below_of l) p >>= λ y. finish (piece (operation o.1 v.tree y.0.tree) v.begins) y.1)
 unfolding reads_behind
 growth_some ts l v p o is = growth_step ts l v p ∙ ap (λ o. operation_on ts l o v p) is ∙ sym (bind_assoc (accept ts o.0 p) _ _)
 
-pub growth_makes : (ts : List Token) (l : Level) (v : Piece) (p : Place) (o : Class × Operator) (y : Piece × Place) → operator_at ts p l ≡ Some o
+pub growth_makes : (ts : List Token) (l : Level) (v : Piece) (p : Place) (o : Terminal × Operator) (y : Piece × Place) → operator_at ts p l ≡ Some o
     → reads_behind ts o.0 (below_of l) p ≡ Ok y → growth ts (more_of l) v p ≡ finish (piece (operation o.1 v.tree y.0.tree) v.begins) y.1
 growth_makes ts l v p o y is r = growth_some ts l v p o is ∙ rw r refl
 
-pub growth_lacks : (ts : List Token) (l : Level) (v : Piece) (p : Place) (o : Class × Operator) (fault : ParseError) → operator_at ts p l ≡ Some o
+pub growth_lacks : (ts : List Token) (l : Level) (v : Piece) (p : Place) (o : Terminal × Operator) (fault : ParseError) → operator_at ts p l ≡ Some o
     → Fails fault (reads_behind ts o.0 (below_of l) p) → Fails fault (growth ts (more_of l) v p)
 growth_lacks ts l v p o fault is h = rw (growth_some ts l v p o is) (fails_bind fault (reads_behind ts o.0 (below_of l) p) _ h)
 
 -- ---- trailers, prefixes, comparisons, brackets
 
 pub trailer_eq : (ts : List Token) (v : Piece) (p : Place) → growth ts TRAILER v p ≡
-    (if sees ts p (class.Sign s.Dot ∷ []) then reads_attribute ts v p
-    else (if sees ts p (class.Sign s.LeftParen ∷ []) then reads_call ts v p else reads_indexed ts v p))
+    (if sees ts p (terminal.Sign s.Dot ∷ []) then reads_attribute ts v p
+    else (if sees ts p (terminal.Sign s.LeftParen ∷ []) then reads_call ts v p else reads_indexed ts v p))
 unfolding reads_attribute reads_call reads_indexed reads_member reads_arguments reads_index
 trailer_eq ts v p = r.trailer_eq ts v p ∙ simp (bind_assoc, items_row)
 
 pub not_eq : (ts : List Token) (p : Place) → reads_expr ts NOT p ≡
-    (if sees ts p (class.Key k.Not ∷ [])
-    then (accept ts (class.Key k.Not) p >>= λ x. reads_expr ts NOT x.1 >>= λ y. finish (piece (e.Not y.0.tree) x.0.span) y.1)
+    (if sees ts p (terminal.Key k.Not ∷ [])
+    then (accept ts (terminal.Key k.Not) p >>= λ x. reads_expr ts NOT x.1 >>= λ y. finish (piece (e.Not y.0.tree) x.0.span) y.1)
     else (reads_expr ts COMP p >>= λ y. finish y.0 y.1))
 not_eq ts p = sym_eq ts (expr NOT) p
 
 pub factor_eq : (ts : List Token) (p : Place) → reads_expr ts FACTOR p ≡
-    (if sees ts p (class.Sign s.Minus ∷ class.Sign s.Plus ∷ [])
-    then (if sees ts p (class.Sign s.Minus ∷ [])
-    then (accept ts (class.Sign s.Minus) p >>= λ x. reads_expr ts FACTOR x.1 >>= λ y. finish (piece (e.Neg y.0.tree) x.0.span) y.1)
-    else (accept ts (class.Sign s.Plus) p >>= λ x. reads_expr ts FACTOR x.1 >>= λ y. finish (piece (e.Plus y.0.tree) x.0.span) y.1))
+    (if sees ts p (terminal.Sign s.Minus ∷ terminal.Sign s.Plus ∷ [])
+    then (if sees ts p (terminal.Sign s.Minus ∷ [])
+    then (accept ts (terminal.Sign s.Minus) p >>= λ x. reads_expr ts FACTOR x.1 >>= λ y. finish (piece (e.Neg y.0.tree) x.0.span) y.1)
+    else (accept ts (terminal.Sign s.Plus) p >>= λ x. reads_expr ts FACTOR x.1 >>= λ y. finish (piece (e.Plus y.0.tree) x.0.span) y.1))
     else (reads_expr ts PRIMARY p >>= λ y. finish y.0 y.1))
 factor_eq ts p = sym_eq ts (expr FACTOR) p
 
@@ -159,22 +159,22 @@ pub comp_more_eq : (ts : List Token) (p : Place) → reads_sym ts COMP_MORE p �
 comp_more_eq ts p = sym_eq ts COMP_MORE p
 
 arg_flat : (ts : List Token) (p : Place) → reads_sym ts ARG p ≡ (reads_expr ts TEST p >>= λ x.
-    if sees ts x.1 (class.Sign s.Assign ∷ [])
-    then (accept ts (class.Sign s.Assign) x.1 >>= λ a. reads_expr ts TEST a.1 >>= λ y. Ok (record { key = Some x.0.tree; value = y.0.tree }, y.1))
+    if sees ts x.1 (terminal.Sign s.Assign ∷ [])
+    then (accept ts (terminal.Sign s.Assign) x.1 >>= λ a. reads_expr ts TEST a.1 >>= λ y. Ok (record { key = Some x.0.tree; value = y.0.tree }, y.1))
     else Ok (record { key = None; value = x.0.tree }, x.1))
 arg_flat ts p = sym_eq ts ARG p
 
 pub arg_eq : (ts : List Token) (p : Place) → reads_sym ts ARG p ≡ (reads_expr ts TEST p >>= λ x.
-    if sees ts x.1 (class.Sign s.Assign ∷ [])
-    then (reads_behind ts (class.Sign s.Assign) TEST x.1 >>= λ y. Ok (record { key = Some x.0.tree; value = y.0.tree }, y.1))
+    if sees ts x.1 (terminal.Sign s.Assign ∷ [])
+    then (reads_behind ts (terminal.Sign s.Assign) TEST x.1 >>= λ y. Ok (record { key = Some x.0.tree; value = y.0.tree }, y.1))
     else Ok (record { key = None; value = x.0.tree }, x.1))
 unfolding reads_behind
 arg_eq ts p = arg_flat ts p ∙ simp bind_assoc
 
-entry_flat : (ts : List Token) (p : Place) → reads_sym ts ENTRY p ≡ (reads_expr ts TEST p >>= λ x. accept ts (class.Sign s.Colon) x.1 >>= λ a. reads_expr ts TEST a.1 >>= λ y. Ok ((x.0.tree, y.0.tree), y.1))
+entry_flat : (ts : List Token) (p : Place) → reads_sym ts ENTRY p ≡ (reads_expr ts TEST p >>= λ x. accept ts (terminal.Sign s.Colon) x.1 >>= λ a. reads_expr ts TEST a.1 >>= λ y. Ok ((x.0.tree, y.0.tree), y.1))
 entry_flat ts p = sym_eq ts ENTRY p
 
-pub entry_eq : (ts : List Token) (p : Place) → reads_sym ts ENTRY p ≡ (reads_expr ts TEST p >>= λ x. reads_behind ts (class.Sign s.Colon) TEST x.1 >>= λ y. Ok ((x.0.tree, y.0.tree), y.1))
+pub entry_eq : (ts : List Token) (p : Place) → reads_sym ts ENTRY p ≡ (reads_expr ts TEST p >>= λ x. reads_behind ts (terminal.Sign s.Colon) TEST x.1 >>= λ y. Ok ((x.0.tree, y.0.tree), y.1))
 unfolding reads_behind
 entry_eq ts p = entry_flat ts p ∙ simp bind_assoc
 
@@ -191,35 +191,35 @@ six false false false false false true u v w x y z r = refl
 six false false false false false false u v w x y z r = refl
 
 six_next : {A : Type 0} (o : Option Token) (u v w x y z r : A)
-    → (if next_in o (class.Name ∷ []) then u else (if next_in o (class.Int ∷ []) then v else (if next_in o (class.Str ∷ []) then w else (if next_in o (class.Key k.True ∷ []) then x else (if next_in o (class.Key k.False ∷ []) then y else (if next_in o (class.Key k.Nothing ∷ []) then z else r))))))
-    ≡ (if next_in o LITERALS then (if next_in o (class.Name ∷ []) then u else (if next_in o (class.Int ∷ []) then v else (if next_in o (class.Str ∷ []) then w else (if next_in o (class.Key k.True ∷ []) then x else (if next_in o (class.Key k.False ∷ []) then y else z))))) else r)
+    → (if next_in o (terminal.Name ∷ []) then u else (if next_in o (terminal.Int ∷ []) then v else (if next_in o (terminal.Str ∷ []) then w else (if next_in o (terminal.Key k.True ∷ []) then x else (if next_in o (terminal.Key k.False ∷ []) then y else (if next_in o (terminal.Key k.Nothing ∷ []) then z else r))))))
+    ≡ (if next_in o LITERALS then (if next_in o (terminal.Name ∷ []) then u else (if next_in o (terminal.Int ∷ []) then v else (if next_in o (terminal.Str ∷ []) then w else (if next_in o (terminal.Key k.True ∷ []) then x else (if next_in o (terminal.Key k.False ∷ []) then y else z))))) else r)
 six_next None u v w x y z r = refl
 six_next (Some t) u v w x y z r =
-    let c : Class = class_of t.kind in
-    six (same c class.Name) (same c class.Int) (same c class.Str) (same c (class.Key k.True)) (same c (class.Key k.False)) (same c (class.Key k.Nothing)) u v w x y z r
+    let c : Terminal = terminal_of t.kind in
+    six (same c terminal.Name) (same c terminal.Int) (same c terminal.Str) (same c (terminal.Key k.True)) (same c (terminal.Key k.False)) (same c (terminal.Key k.Nothing)) u v w x y z r
 
 texts_spread : (vs : List Token) → spread (λ t. text_in t.kind) vs ≡ texts_of vs
 texts_spread [] = refl
 texts_spread (v ∷ vs) = ap (λ l. text_in v.kind ++ l) (texts_spread vs)
 
-texts_into : (ts : List Token) (front : List ℕ) (p : Place) → many_into (λ (t : Token). text_in t.kind) front (reads_many ts (tok class.Str) p) ≡ reads_texts ts front p
+texts_into : (ts : List Token) (front : List ℕ) (p : Place) → many_into (λ (t : Token). text_in t.kind) front (reads_many ts (tok terminal.Str) p) ≡ reads_texts ts front p
 unfolding reads_texts
-texts_into ts front p = regrouped (spread (λ t. text_in t.kind)) texts_of front (reads_many ts (tok class.Str) p) texts_spread
+texts_into ts front p = regrouped (spread (λ t. text_in t.kind)) texts_of front (reads_many ts (tok terminal.Str) p) texts_spread
 
 pub atom_eq : (ts : List Token) (p : Place) → reads_expr ts ATOM p ≡
     (if sees ts p LITERALS then reads_literal ts p
-    else (if sees ts p (class.Sign s.LeftParen ∷ []) then reads_group ts p
-    else (if sees ts p (class.Sign s.LeftSquare ∷ []) then reads_list ts p else reads_dict ts p)))
+    else (if sees ts p (terminal.Sign s.LeftParen ∷ []) then reads_group ts p
+    else (if sees ts p (terminal.Sign s.LeftSquare ∷ []) then reads_list ts p else reads_dict ts p)))
 unfolding reads_literal reads_constant reads_group reads_list reads_dict
 atom_eq ts p =
     r.atom_eq ts p
     ∙ six_next (slice_get ts p.at) _ _ _ _ _ _ _
-    ∙ if_same (sees ts p LITERALS) (if_same (sees ts p (class.Name ∷ [])) refl (if_same (sees ts p (class.Int ∷ [])) refl (if_same (sees ts p (class.Str ∷ []))
-    (bind_same (accept ts class.Str p) _ _ (λ x. ap (λ o. o >>= λ y. finish (piece (e.Str y.0) x.0.span) y.1) (texts_into ts (text_in x.0.kind) x.1))) refl)))
-    (if_same (sees ts p (class.Sign s.LeftParen ∷ [])) refl (if_same (sees ts p (class.Sign s.LeftSquare ∷ []))
-    (bind_same (accept ts (class.Sign s.LeftSquare) p) _ _ (λ x.
-    ap (λ o. o >>= λ y. accept ts (class.Sign s.RightSquare) y.1 >>= λ z. finish (piece (e.ListOf (exprs_of y.0)) x.0.span) z.1) (trees_row ts x.1)))
-    (bind_same (accept ts (class.Sign s.LeftBrace) p) _ _ (λ x.
-    ap (λ o. o >>= λ y. accept ts (class.Sign s.RightBrace) y.1 >>= λ z. finish (piece (e.DictOf (entries_of y.0)) x.0.span) z.1) (items_row ts ENTRY x.1)))))
+    ∙ if_same (sees ts p LITERALS) (if_same (sees ts p (terminal.Name ∷ [])) refl (if_same (sees ts p (terminal.Int ∷ [])) refl (if_same (sees ts p (terminal.Str ∷ []))
+    (bind_same (accept ts terminal.Str p) _ _ (λ x. ap (λ o. o >>= λ y. finish (piece (e.Str y.0) x.0.span) y.1) (texts_into ts (text_in x.0.kind) x.1))) refl)))
+    (if_same (sees ts p (terminal.Sign s.LeftParen ∷ [])) refl (if_same (sees ts p (terminal.Sign s.LeftSquare ∷ []))
+    (bind_same (accept ts (terminal.Sign s.LeftSquare) p) _ _ (λ x.
+    ap (λ o. o >>= λ y. accept ts (terminal.Sign s.RightSquare) y.1 >>= λ z. finish (piece (e.ListOf (exprs_of y.0)) x.0.span) z.1) (trees_row ts x.1)))
+    (bind_same (accept ts (terminal.Sign s.LeftBrace) p) _ _ (λ x.
+    ap (λ o. o >>= λ y. accept ts (terminal.Sign s.RightBrace) y.1 >>= λ z. finish (piece (e.DictOf (entries_of y.0)) x.0.span) z.1) (items_row ts ENTRY x.1)))))
 
 pub ruleset growths = (growth_none, growth_some)

@@ -2,7 +2,7 @@
 use Rattle.std.proofs.Common.{◌≡◌, true, false, List, [], ◌∷◌, Ok, Err, if◌then◌else◌, refl, ◌∙◌}
 use Rattle.std.specs.Prelude.{nat_le}
 use Rattle.py_syntax.specs.declared.token.Token.{Token}
-use Rattle.py_grammar.specs.declared.class.Class.{Class}
+use Rattle.py_grammar.specs.declared.terminal.Terminal.{Terminal}
 use Rattle.py_grammar.specs.declared.place.Place.{Place}
 use Rattle.py_grammar.specs.Grammar.{Part, tok, many}
 use Rattle.py_grammar.specs.Actions.{Val}
@@ -27,5 +27,5 @@ pub many_fail : (ts : List Token) (a : Part) (p : Place) → fine (many a) ≡ t
 many_fail ts a p f w e s r = many_step ts a p f w ∙ rw (s, r) refl
 
 -- one token
-pub reads-tok : (ts : List Token) (c : Class) (p : Place) → reads ts (tok c) p ≡ accept ts c p
+pub reads-tok : (ts : List Token) (c : Terminal) (p : Place) → reads ts (tok c) p ≡ accept ts c p
 reads-tok ts c p = reads-eq ts (tok c) p refl refl

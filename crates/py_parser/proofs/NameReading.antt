@@ -5,7 +5,7 @@ use Rattle.py_syntax.specs.declared.sign.Sign.TheVariants as s
 use Rattle.py_syntax.specs.declared.token.Token.{Token}
 use Rattle.py_syntax.specs.Statements as st
 use Rattle.py_syntax.specs.Statements.{StmtTree}
-use Rattle.py_grammar.specs.declared.class.Class.TheVariants as class
+use Rattle.py_grammar.specs.declared.terminal.Terminal.TheVariants as terminal
 use Rattle.py_grammar.specs.declared.place.Place.{Place}
 use Rattle.py_grammar.specs.Grammar as g
 use Rattle.py_grammar.specs.Grammar.{comma, tok, sign, ◌·◌, GLOBAL, IMPORT, FROM, DOTTED, ALIAS}
@@ -29,45 +29,45 @@ same_names (v ∷ vs) = ap (λ l. name_of v.1 ∷ l) (same_names vs)
 
 -- ---- names behind commas
 
-names_into : (ts : List Token) (found : List (List ℕ)) (p : Place) → reads_names ts found p ≡ many_into name_part found (reads_many ts (tok comma · tok class.Name) p)
+names_into : (ts : List Token) (found : List (List ℕ)) (p : Place) → reads_names ts found p ≡ many_into name_part found (reads_many ts (tok comma · tok terminal.Name) p)
 unfolding reads_names
-names_into ts found p = sym (regrouped (spread name_part) names_on found (reads_many ts (tok comma · tok class.Name) p) same_names)
+names_into ts found p = sym (regrouped (spread name_part) names_on found (reads_many ts (tok comma · tok terminal.Name) p) same_names)
 
 pub names_eq : (ts : List Token) (found : List (List ℕ)) (p : Place) → reads_names ts found p ≡
-    (if sees ts p (comma ∷ []) then (accept ts comma p >>= λ d. accept ts class.Name d.1 >>= λ n. reads_names ts (found ++ name_of n.0 ∷ []) n.1) else Ok (found, p))
+    (if sees ts p (comma ∷ []) then (accept ts comma p >>= λ d. accept ts terminal.Name d.1 >>= λ n. reads_names ts (found ++ name_of n.0 ∷ []) n.1) else Ok (found, p))
 names_eq ts found p =
     names_into ts found p ∙ names_round ts p found
     ∙ if_same (sees ts p (comma ∷ []))
-    (bind_same (accept ts comma p) _ _ (λ d. bind_same (accept ts class.Name d.1) _ _ (λ n. sym (names_into ts (found ++ name_of n.0 ∷ []) n.1)))) refl
+    (bind_same (accept ts comma p) _ _ (λ d. bind_same (accept ts terminal.Name d.1) _ _ (λ n. sym (names_into ts (found ++ name_of n.0 ∷ []) n.1)))) refl
 
-pub names_more : (ts : List Token) (found : List (List ℕ)) (p : Place) (d n : Token × Place) → sees ts p (comma ∷ []) ≡ true → accept ts comma p ≡ Ok d → accept ts class.Name d.1 ≡ Ok n
+pub names_more : (ts : List Token) (found : List (List ℕ)) (p : Place) (d n : Token × Place) → sees ts p (comma ∷ []) ≡ true → accept ts comma p ≡ Ok d → accept ts terminal.Name d.1 ≡ Ok n
     → reads_names ts found p ≡ reads_names ts (found ++ name_of n.0 ∷ []) n.1
 names_more ts found p d n a b c = names_eq ts found p ∙ rw (a, b) (rw c refl)
 
 -- ---- names behind dots
 
-dots_into : (ts : List Token) (found : List ℕ) (p : Place) → reads_dots ts found p ≡ many_into dotted_part found (reads_many ts (sign s.Dot · tok class.Name) p)
+dots_into : (ts : List Token) (found : List ℕ) (p : Place) → reads_dots ts found p ≡ many_into dotted_part found (reads_many ts (sign s.Dot · tok terminal.Name) p)
 unfolding reads_dots
-dots_into ts found p = sym (regrouped (spread dotted_part) dotted_on found (reads_many ts (sign s.Dot · tok class.Name) p) same_dotted)
+dots_into ts found p = sym (regrouped (spread dotted_part) dotted_on found (reads_many ts (sign s.Dot · tok terminal.Name) p) same_dotted)
 
 pub dots_eq : (ts : List Token) (found : List ℕ) (p : Place) → reads_dots ts found p ≡
-    (if sees ts p (class.Sign s.Dot ∷ []) then (accept ts (class.Sign s.Dot) p >>= λ d. accept ts class.Name d.1 >>= λ n. reads_dots ts (found ++ 46 ∷ name_of n.0) n.1) else Ok (found, p))
+    (if sees ts p (terminal.Sign s.Dot ∷ []) then (accept ts (terminal.Sign s.Dot) p >>= λ d. accept ts terminal.Name d.1 >>= λ n. reads_dots ts (found ++ 46 ∷ name_of n.0) n.1) else Ok (found, p))
 dots_eq ts found p =
     dots_into ts found p ∙ dotted_round ts p found
-    ∙ if_same (sees ts p (class.Sign s.Dot ∷ []))
-    (bind_same (accept ts (class.Sign s.Dot) p) _ _ (λ d. bind_same (accept ts class.Name d.1) _ _ (λ n. sym (dots_into ts (found ++ 46 ∷ name_of n.0) n.1)))) refl
+    ∙ if_same (sees ts p (terminal.Sign s.Dot ∷ []))
+    (bind_same (accept ts (terminal.Sign s.Dot) p) _ _ (λ d. bind_same (accept ts terminal.Name d.1) _ _ (λ n. sym (dots_into ts (found ++ 46 ∷ name_of n.0) n.1)))) refl
 
-pub dots_more : (ts : List Token) (found : List ℕ) (p : Place) (d n : Token × Place) → sees ts p (class.Sign s.Dot ∷ []) ≡ true → accept ts (class.Sign s.Dot) p ≡ Ok d → accept ts class.Name d.1 ≡ Ok n
+pub dots_more : (ts : List Token) (found : List ℕ) (p : Place) (d n : Token × Place) → sees ts p (terminal.Sign s.Dot ∷ []) ≡ true → accept ts (terminal.Sign s.Dot) p ≡ Ok d → accept ts terminal.Name d.1 ≡ Ok n
     → reads_dots ts found p ≡ reads_dots ts (found ++ 46 ∷ name_of n.0) n.1
 dots_more ts found p d n a b c = dots_eq ts found p ∙ rw (a, b) (rw c refl)
 
-pub dotted_dots : (ts : List Token) (p : Place) → reads_sym ts DOTTED p ≡ (accept ts class.Name p >>= λ x. reads_dots ts (name_in x.0.kind) x.1)
+pub dotted_dots : (ts : List Token) (p : Place) → reads_sym ts DOTTED p ≡ (accept ts terminal.Name p >>= λ x. reads_dots ts (name_in x.0.kind) x.1)
 unfolding reads_dots
 dotted_dots ts p = sym_eq ts DOTTED p
 
 -- ---- names with new ones
 
-pub alias_as : (ts : List Token) (p : Place) → reads_sym ts ALIAS p ≡ (accept ts class.Name p >>= λ x. reads_as ts x.1 >>= λ n. Ok ((name_of x.0, n.0), n.1))
+pub alias_as : (ts : List Token) (p : Place) → reads_sym ts ALIAS p ≡ (accept ts terminal.Name p >>= λ x. reads_as ts x.1 >>= λ n. Ok ((name_of x.0, n.0), n.1))
 unfolding reads_as
 alias_as ts p = alias_eq ts p ∙ simp (bind_assoc, if_bind)
 
@@ -95,19 +95,19 @@ unfolding reads_aliases
 aliases_into ts found p = untrailed found (reads_after ts comma (g.sym ALIAS) p)
 
 pub aliases_eq : (ts : List Token) (found : List (List ℕ × Option (List ℕ))) (p : Place) → reads_aliases ts found p ≡
-    (if sees ts p (comma ∷ []) then (accept ts comma p >>= λ d. if sees ts d.1 (class.Name ∷ []) then (reads_sym ts ALIAS d.1 >>= λ n. reads_aliases ts (found ++ n.0 ∷ []) n.1) else Ok (found, d.1)) else Ok (found, p))
+    (if sees ts p (comma ∷ []) then (accept ts comma p >>= λ d. if sees ts d.1 (terminal.Name ∷ []) then (reads_sym ts ALIAS d.1 >>= λ n. reads_aliases ts (found ++ n.0 ∷ []) n.1) else Ok (found, d.1)) else Ok (found, p))
 aliases_eq ts found p =
     aliases_into ts found p
     ∙ ap (λ o. o >>= λ y. Ok (y.0.0, y.1)) (bracketed_aliases_round ts p found)
     ∙ if_bind (sees ts p (comma ∷ [])) _ _ _
     ∙ if_same (sees ts p (comma ∷ []))
     (bind_assoc (accept ts comma p) _ _ ∙ bind_same (accept ts comma p) _ _ (λ d.
-    if_bind (sees ts d.1 (class.Name ∷ [])) _ _ _
-    ∙ if_same (sees ts d.1 (class.Name ∷ []))
+    if_bind (sees ts d.1 (terminal.Name ∷ [])) _ _ _
+    ∙ if_same (sees ts d.1 (terminal.Name ∷ []))
     (bind_assoc (reads_sym ts ALIAS d.1) _ _ ∙ bind_same (reads_sym ts ALIAS d.1) _ _ (λ n. sym (aliases_into ts (found ++ n.0 ∷ []) n.1))) refl)) refl
 
 pub aliases_more : (ts : List Token) (found : List (List ℕ × Option (List ℕ))) (p : Place) (d : Token × Place) (n : (List ℕ × Option (List ℕ)) × Place) → sees ts p (comma ∷ []) ≡ true → accept ts comma p ≡ Ok d
-    → sees ts d.1 (class.Name ∷ []) ≡ true → reads_sym ts ALIAS d.1 ≡ Ok n
+    → sees ts d.1 (terminal.Name ∷ []) ≡ true → reads_sym ts ALIAS d.1 ≡ Ok n
     → reads_aliases ts found p ≡ reads_aliases ts (found ++ n.0 ∷ []) n.1
 aliases_more ts found p d n a b c r = aliases_eq ts found p ∙ rw (a, b) (rw (c, r) refl)
 
@@ -119,15 +119,15 @@ behind_first v f (Ok y) h = refl
 behind_first v f (Err e) h = refl
 
 pub global_eq : (ts : List Token) (p : Place) → reads_sym ts GLOBAL p ≡
-    (accept ts (class.Key k.Global) p >>= λ x. accept ts class.Name x.1 >>= λ n. reads_names ts (name_of n.0 ∷ []) n.1 >>= λ y. Ok (st.at (st.Global y.0) x.0.span, y.1))
+    (accept ts (terminal.Key k.Global) p >>= λ x. accept ts terminal.Name x.1 >>= λ n. reads_names ts (name_of n.0 ∷ []) n.1 >>= λ y. Ok (st.at (st.Global y.0) x.0.span, y.1))
 unfolding reads_names
 global_eq ts p =
     sym_eq ts GLOBAL p
-    ∙ bind_same (accept ts (class.Key k.Global) p) _ _ (λ x. bind_same (accept ts class.Name x.1) _ _ (λ n.
-    behind_first (name_of n.0) names_on (reads_many ts (tok comma · tok class.Name) n.1) (λ y. Ok (st.at (st.Global y.0) x.0.span, y.1))))
+    ∙ bind_same (accept ts (terminal.Key k.Global) p) _ _ (λ x. bind_same (accept ts terminal.Name x.1) _ _ (λ n.
+    behind_first (name_of n.0) names_on (reads_many ts (tok comma · tok terminal.Name) n.1) (λ y. Ok (st.at (st.Global y.0) x.0.span, y.1))))
 
 pub import_as : (ts : List Token) (p : Place) → reads_sym ts IMPORT p ≡
-    (accept ts (class.Key k.Import) p >>= λ x. reads_sym ts DOTTED x.1 >>= λ y. reads_as ts y.1 >>= λ n. Ok (st.at (st.Import y.0 n.0) x.0.span, n.1))
+    (accept ts (terminal.Key k.Import) p >>= λ x. reads_sym ts DOTTED x.1 >>= λ y. reads_as ts y.1 >>= λ n. Ok (st.at (st.Import y.0 n.0) x.0.span, n.1))
 unfolding reads_as
 import_as ts p = import_eq ts p ∙ simp (bind_assoc, if_bind)
 
@@ -136,18 +136,18 @@ in_brackets v (Ok y) h = refl
 in_brackets v (Err e) h = refl
 
 pub from_imported : (ts : List Token) (p : Place) → reads_sym ts FROM p ≡
-    (accept ts (class.Key k.From) p >>= λ x. reads_sym ts DOTTED x.1 >>= λ m. accept ts (class.Key k.Import) m.1 >>= λ i. reads_imported ts i.1 >>= λ y. Ok (st.at (st.From m.0 y.0) x.0.span, y.1))
+    (accept ts (terminal.Key k.From) p >>= λ x. reads_sym ts DOTTED x.1 >>= λ m. accept ts (terminal.Key k.Import) m.1 >>= λ i. reads_imported ts i.1 >>= λ y. Ok (st.at (st.From m.0 y.0) x.0.span, y.1))
 unfolding reads_imported reads_bare reads_aliases
 from_imported ts p =
     sym_eq ts FROM p
-    ∙ bind_same (accept ts (class.Key k.From) p) _ _ (λ x. bind_same (reads_sym ts DOTTED x.1) _ _ (λ m. bind_same (accept ts (class.Key k.Import) m.1) _ _ (λ i.
-    if_same (sees ts i.1 (class.Name ∷ []))
+    ∙ bind_same (accept ts (terminal.Key k.From) p) _ _ (λ x. bind_same (reads_sym ts DOTTED x.1) _ _ (λ m. bind_same (accept ts (terminal.Key k.Import) m.1) _ _ (λ i.
+    if_same (sees ts i.1 (terminal.Name ∷ []))
     (bind_same (reads_sym ts ALIAS i.1) _ _ (λ n. behind_first n.0 seconds (reads_many ts (tok comma · g.sym ALIAS) n.1) (λ y. Ok (st.at (st.From m.0 y.0) x.0.span, y.1)))
     ∙ sym (bind_assoc (reads_sym ts ALIAS i.1) _ _))
-    (bind_same (accept ts (class.Sign s.LeftParen) i.1) _ _ (λ b. bind_same (reads_sym ts ALIAS b.1) _ _ (λ n.
-    in_brackets n.0 (reads_after ts comma (g.sym ALIAS) n.1) (λ y. accept ts (class.Sign s.RightParen) y.1 >>= λ z. Ok (st.at (st.From m.0 y.0) x.0.span, z.1))))
+    (bind_same (accept ts (terminal.Sign s.LeftParen) i.1) _ _ (λ b. bind_same (reads_sym ts ALIAS b.1) _ _ (λ n.
+    in_brackets n.0 (reads_after ts comma (g.sym ALIAS) n.1) (λ y. accept ts (terminal.Sign s.RightParen) y.1 >>= λ z. Ok (st.at (st.From m.0 y.0) x.0.span, z.1))))
     ∙ simp bind_assoc)
-    ∙ sym (if_bind (sees ts i.1 (class.Name ∷ [])) _ _ _))))
+    ∙ sym (if_bind (sees ts i.1 (terminal.Name ∷ [])) _ _ _))))
 
 pub ruleset names = (names_eq)
 

@@ -11,7 +11,7 @@ use Rattle.py_syntax.specs.declared.token.Span.{Span}
 use Rattle.py_syntax.specs.declared.token.Token.{Token}
 use Rattle.py_syntax.specs.Expressions.{expr_tree}
 use Rattle.py_syntax.specs.Statements.{StmtTree, StmtNode, HandlerTree, FuncTree, ClassTree, maybe_expr, param_tree, node_step, class_step, func_step, handler_step, stmt_step, stmt_tree, handler_tree, func_tree, class_tree, body_tree}
-use Rattle.py_grammar.specs.declared.class.Class.TheVariants as class
+use Rattle.py_grammar.specs.declared.terminal.Terminal.TheVariants as terminal
 use Rattle.py_grammar.specs.declared.place.Place.{Place}
 use Rattle.py_grammar.specs.Actions.{name_of}
 use Rattle.py_grammar.specs.Grammar.{FUNC, PARAM, CLASS, CBLOCK}
@@ -38,8 +38,8 @@ class_made name bases body marks = fold-roll-Class StmtNode ClassTree FuncTree H
 
 -- a function, by its parts
 pub func_read : (ts : List Token) (p : Place) (x n l : Token × Place) (name : List ℕ) (params : List (List ℕ × Option Expr)) (q : Place) (y : Token × Place) (ret : Option Expr) (u : Place) (body : List Stmt) (v : Place) (marks : List Expr)
-    → accept ts (class.Key k.Def) p ≡ Ok x → accept ts class.Name x.1 ≡ Ok n → name ≡ name_of n.0 → accept ts (class.Sign s.LeftParen) n.1 ≡ Ok l
-    → reads_row ts PARAM l.1 ≡ Ok (map param_tree params, q) → accept ts (class.Sign s.RightParen) q ≡ Ok y → reads_maybe ts s.Arrow y.1 ≡ Ok (maybe_expr ret, u)
+    → accept ts (terminal.Key k.Def) p ≡ Ok x → accept ts terminal.Name x.1 ≡ Ok n → name ≡ name_of n.0 → accept ts (terminal.Sign s.LeftParen) n.1 ≡ Ok l
+    → reads_row ts PARAM l.1 ≡ Ok (map param_tree params, q) → accept ts (terminal.Sign s.RightParen) q ≡ Ok y → reads_maybe ts s.Arrow y.1 ≡ Ok (maybe_expr ret, u)
     → reads_suite ts u ≡ Ok (map stmt_tree body, v) → marks ≡ []
     → reads_sym ts FUNC p ≡ Ok ((func_tree (roll-Func (record { name = name; params = params; ret = ret; body = body; marks = marks })), x.0.span), v)
 func_read ts p x n l name params q y ret u body v marks h1 h2 h3 h4 h5 h6 h7 h8 h9 =
@@ -47,8 +47,8 @@ func_read ts p x n l name params q y ret u body v marks h1 h2 h3 h4 h5 h6 h7 h8 
 
 -- a class, by its parts
 pub class_read : (ts : List Token) (p : Place) (x n : Token × Place) (name : List ℕ) (bases : List Expr) (q : Place) (y : Token × Place) (body : List Stmt) (v : Place) (marks : List Expr)
-    → accept ts (class.Key k.Class) p ≡ Ok x → accept ts class.Name x.1 ≡ Ok n → name ≡ name_of n.0 → reads_bases ts n.1 ≡ Ok (map expr_tree bases, q)
-    → accept ts (class.Sign s.Colon) q ≡ Ok y → reads_sym ts CBLOCK y.1 ≡ Ok (map stmt_tree body, v) → marks ≡ []
+    → accept ts (terminal.Key k.Class) p ≡ Ok x → accept ts terminal.Name x.1 ≡ Ok n → name ≡ name_of n.0 → reads_bases ts n.1 ≡ Ok (map expr_tree bases, q)
+    → accept ts (terminal.Sign s.Colon) q ≡ Ok y → reads_sym ts CBLOCK y.1 ≡ Ok (map stmt_tree body, v) → marks ≡ []
     → reads_sym ts CLASS p ≡ Ok ((class_tree (roll-Class (record { name = name; bases = bases; body = body; marks = marks })), x.0.span), v)
 class_read ts p x n name bases q y body v marks h1 h2 h3 h4 h5 h6 h7 =
     class_bases ts p ∙ rw (class_made name bases body marks) (rw (h3, h7) (rw h1 (rw h2 (rw h4 (rw h5 (rw h6 refl))))))

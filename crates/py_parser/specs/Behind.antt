@@ -3,18 +3,18 @@ use Rattle.std.specs.Prelude.{List}
 use Rattle.py_syntax.specs.declared.sign.Sign.TheVariants as s
 use Rattle.py_syntax.specs.declared.token.Token.{Token}
 use Rattle.py_syntax.specs.Statements.{StmtTree}
-use Rattle.py_grammar.specs.declared.class.Class.{Class}
-use Rattle.py_grammar.specs.declared.class.Class.TheVariants as class
+use Rattle.py_grammar.specs.declared.terminal.Terminal.{Terminal}
+use Rattle.py_grammar.specs.declared.terminal.Terminal.TheVariants as terminal
 use Rattle.py_grammar.specs.declared.place.Place.{Place}
 use Rattle.py_grammar.specs.Levels.{Piece}
 use Rattle.py_grammar.specs.Grammar.{ExprSym, BLOCK}
 use Rattle.py_grammar.specs.Reader.{Outcome, ◌>>=◌, accept}
 use Rattle.py_grammar.specs.Readings.{reads_expr, reads_sym}
 
--- an expression behind a token of a class
-unfoldable pub reads_behind : List Token → Class → ExprSym → Place → Outcome Piece
+-- an expression behind a token of a terminal
+unfoldable pub reads_behind : List Token → Terminal → ExprSym → Place → Outcome Piece
 reads_behind ts c x p = accept ts c p >>= λ a. reads_expr ts x a.1
 
 -- a block behind a colon
 unfoldable pub reads_suite : List Token → Place → Outcome (List StmtTree)
-reads_suite ts p = accept ts (class.Sign s.Colon) p >>= λ c. reads_sym ts BLOCK c.1
+reads_suite ts p = accept ts (terminal.Sign s.Colon) p >>= λ c. reads_sym ts BLOCK c.1

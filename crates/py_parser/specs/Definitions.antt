@@ -4,7 +4,7 @@ use Rattle.py_syntax.specs.declared.sign.Sign.TheVariants as s
 use Rattle.py_syntax.specs.declared.token.Token.{Token}
 use Rattle.py_syntax.specs.Expressions.{ExprTree}
 use Rattle.py_syntax.specs.Statements.{StmtTree}
-use Rattle.py_grammar.specs.declared.class.Class.TheVariants as class
+use Rattle.py_grammar.specs.declared.terminal.Terminal.TheVariants as terminal
 use Rattle.py_grammar.specs.declared.place.Place.{Place}
 use Rattle.py_grammar.specs.Grammar as g
 use Rattle.py_grammar.specs.Grammar.{TEST, MEMBER, MARK, TOP}
@@ -16,8 +16,8 @@ use Rattle.py_parser.specs.Rows.{reads_trees}
 -- the bases of a class, in brackets, or none
 unfoldable pub reads_bases : List Token → Place → Outcome (List ExprTree)
 reads_bases ts p =
-    if sees ts p (class.Sign s.LeftParen ∷ [])
-    then (accept ts (class.Sign s.LeftParen) p >>= λ l. reads_trees ts TEST l.1 >>= λ b. accept ts (class.Sign s.RightParen) b.1 >>= λ r. Ok (b.0, r.1))
+    if sees ts p (terminal.Sign s.LeftParen ∷ [])
+    then (accept ts (terminal.Sign s.LeftParen) p >>= λ l. reads_trees ts TEST l.1 >>= λ b. accept ts (terminal.Sign s.RightParen) b.1 >>= λ r. Ok (b.0, r.1))
     else Ok ([], p)
 
 -- what may stand in a class, any number of times, and decorators, and what may stand in a module, behind those in front

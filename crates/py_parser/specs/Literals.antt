@@ -5,7 +5,7 @@ use Rattle.py_syntax.specs.declared.key.Key.TheVariants as k
 use Rattle.py_syntax.specs.declared.token.Token.{Token}
 use Rattle.py_syntax.specs.Expressions as e
 use Rattle.py_syntax.specs.Expressions.{ExprNode}
-use Rattle.py_grammar.specs.declared.class.Class.TheVariants as class
+use Rattle.py_grammar.specs.declared.terminal.Terminal.TheVariants as terminal
 use Rattle.py_grammar.specs.declared.place.Place.{Place}
 use Rattle.py_grammar.specs.Levels.{Piece}
 use Rattle.py_grammar.specs.Grammar.{tok}
@@ -15,21 +15,21 @@ use Rattle.py_grammar.specs.Readings.{reads_many, finish}
 
 -- texts side by side, behind what stands in front
 unfoldable pub reads_texts : List Token → List ℕ → Place → Outcome (List ℕ)
-reads_texts ts front p = reads_many ts (tok class.Str) p >>= λ v. Ok (front ++ texts_of v.0, v.1)
+reads_texts ts front p = reads_many ts (tok terminal.Str) p >>= λ v. Ok (front ++ texts_of v.0, v.1)
 
 -- a constant, by its word
 abbrev pub reads_word : List Token → Key → ExprNode → Place → Outcome Piece
-reads_word ts word node p = accept ts (class.Key word) p >>= λ x. finish (piece node x.0.span) x.1
+reads_word ts word node p = accept ts (terminal.Key word) p >>= λ x. finish (piece node x.0.span) x.1
 
 unfoldable pub reads_constant : List Token → Place → Outcome Piece
 reads_constant ts p =
-    if sees ts p (class.Key k.True ∷ []) then reads_word ts k.True e.True p
-    else (if sees ts p (class.Key k.False ∷ []) then reads_word ts k.False e.False p else reads_word ts k.Nothing e.Nothing p)
+    if sees ts p (terminal.Key k.True ∷ []) then reads_word ts k.True e.True p
+    else (if sees ts p (terminal.Key k.False ∷ []) then reads_word ts k.False e.False p else reads_word ts k.Nothing e.Nothing p)
 
 unfoldable pub reads_literal : List Token → Place → Outcome Piece
 reads_literal ts p =
-    if sees ts p (class.Name ∷ []) then (accept ts class.Name p >>= λ x. finish (piece (e.Name (name_of x.0)) x.0.span) x.1)
-    else (if sees ts p (class.Int ∷ []) then (accept ts class.Int p >>= λ x. finish (piece (e.Int (int_in x.0.kind)) x.0.span) x.1)
-    else (if sees ts p (class.Str ∷ [])
-    then (accept ts class.Str p >>= λ x. reads_texts ts (text_in x.0.kind) x.1 >>= λ v. finish (piece (e.Str v.0) x.0.span) v.1)
+    if sees ts p (terminal.Name ∷ []) then (accept ts terminal.Name p >>= λ x. finish (piece (e.Name (name_of x.0)) x.0.span) x.1)
+    else (if sees ts p (terminal.Int ∷ []) then (accept ts terminal.Int p >>= λ x. finish (piece (e.Int (int_in x.0.kind)) x.0.span) x.1)
+    else (if sees ts p (terminal.Str ∷ [])
+    then (accept ts terminal.Str p >>= λ x. reads_texts ts (text_in x.0.kind) x.1 >>= λ v. finish (piece (e.Str v.0) x.0.span) v.1)
     else reads_constant ts p))

@@ -8,8 +8,8 @@ use Rattle.py_syntax.specs.declared.sign.Sign.TheVariants as s
 use Rattle.py_syntax.specs.declared.token.Token.{Token}
 use Rattle.py_syntax.specs.Expressions as e
 use Rattle.py_syntax.specs.Expressions.{ExprTree, ExprNode}
-use Rattle.py_grammar.specs.declared.class.Class.{Class}
-use Rattle.py_grammar.specs.declared.class.Class.TheVariants as class
+use Rattle.py_grammar.specs.declared.terminal.Terminal.{Terminal}
+use Rattle.py_grammar.specs.declared.terminal.Terminal.TheVariants as terminal
 use Rattle.py_grammar.specs.declared.place.Place.{Place}
 use Rattle.py_grammar.specs.Grammar.{ExprSym, More, OR, AND, NOT, BOR, SHIFT, SUM, TERM, FACTOR, PRIMARY, ATOM, OR_MORE, AND_MORE, BOR_MORE, SHIFT_MORE, SUM_MORE, TERM_MORE, TRAILER}
 use Rattle.py_grammar.specs.Reader.{sees}
@@ -53,17 +53,17 @@ operation operator.Or a b = e.Or a b
 operation operator.And a b = e.And a b
 operation (operator.Bin o) a b = e.Bin o a b
 
-abbrev pub binary : Sign → BinOp → Option (Class × Operator)
-binary sign o = Some (class.Sign sign, operator.Bin o)
+abbrev pub binary : Sign → BinOp → Option (Terminal × Operator)
+binary sign o = Some (terminal.Sign sign, operator.Bin o)
 
 -- the operator that has to come next, where one of a level does
-abbrev pub operator_at : List Token → Place → Level → Option (Class × Operator)
-operator_at ts p level.Or = Some (class.Key k.Or, operator.Or)
-operator_at ts p level.And = Some (class.Key k.And, operator.And)
+abbrev pub operator_at : List Token → Place → Level → Option (Terminal × Operator)
+operator_at ts p level.Or = Some (terminal.Key k.Or, operator.Or)
+operator_at ts p level.And = Some (terminal.Key k.And, operator.And)
 operator_at ts p level.Bar = binary s.Bar op.Bar
-operator_at ts p level.Shift = if sees ts p (class.Sign s.Shl ∷ []) then binary s.Shl op.Shl else binary s.Shr op.Shr
-operator_at ts p level.Sum = if sees ts p (class.Sign s.Plus ∷ []) then binary s.Plus op.Add else binary s.Minus op.Sub
+operator_at ts p level.Shift = if sees ts p (terminal.Sign s.Shl ∷ []) then binary s.Shl op.Shl else binary s.Shr op.Shr
+operator_at ts p level.Sum = if sees ts p (terminal.Sign s.Plus ∷ []) then binary s.Plus op.Add else binary s.Minus op.Sub
 operator_at ts p level.Term =
-    if sees ts p (class.Sign s.Star ∷ []) then binary s.Star op.Mul
-    else (if sees ts p (class.Sign s.SlashSlash ∷ []) then binary s.SlashSlash op.FloorDiv else binary s.Percent op.Mod)
+    if sees ts p (terminal.Sign s.Star ∷ []) then binary s.Star op.Mul
+    else (if sees ts p (terminal.Sign s.SlashSlash ∷ []) then binary s.SlashSlash op.FloorDiv else binary s.Percent op.Mod)
 operator_at ts p level.Primary = None

@@ -14,8 +14,8 @@ use Rattle.py_syntax.specs.declared.token.Span.{Span}
 use Rattle.py_syntax.specs.declared.token.Token.{Token}
 use Rattle.py_syntax.specs.Expressions.{ExprTree, expr_tree}
 use Rattle.py_syntax.specs.Statements as st
-use Rattle.py_syntax.specs.Statements.{StmtTree, StmtNode, Block, HandlerTree, FuncTree, ClassTree, stmt_tree, handler_tree, func_tree, class_tree, param_tree, arm_tree, maybe_expr}
-use Rattle.py_grammar.specs.declared.class.Class.TheVariants as class
+use Rattle.py_syntax.specs.Statements.{StmtTree, StmtNode, Suite, HandlerTree, FuncTree, ClassTree, stmt_tree, handler_tree, func_tree, class_tree, param_tree, arm_tree, maybe_expr}
+use Rattle.py_grammar.specs.declared.terminal.Terminal.TheVariants as terminal
 use Rattle.py_grammar.specs.declared.place.Place.{Place}
 use Rattle.py_grammar.specs.Levels.{Piece}
 use Rattle.py_grammar.specs.Grammar as g
@@ -38,7 +38,7 @@ maybe_seen x = (maybe_expr x.0, x.1)
 abbrev pub caught_seen : (Option Expr × Option (List ℕ)) × Place → (Option ExprTree × Option (List ℕ)) × Place
 caught_seen x = ((maybe_expr x.0.0, x.0.1), x.1)
 
-abbrev pub arm_seen : (Expr × List Stmt) × Place → (ExprTree × Block) × Place
+abbrev pub arm_seen : (Expr × List Stmt) × Place → (ExprTree × Suite) × Place
 arm_seen x = (arm_tree x.0, x.1)
 
 abbrev pub handler_seen : Handler × Place → HandlerTree × Place
@@ -47,7 +47,7 @@ handler_seen x = (handler_tree x.0, x.1)
 abbrev pub handlers_seen : List Handler × Place → List HandlerTree × Place
 handlers_seen x = (map handler_tree x.0, x.1)
 
-abbrev pub arms_seen : List (Expr × List Stmt) × Place → List (ExprTree × Block) × Place
+abbrev pub arms_seen : List (Expr × List Stmt) × Place → List (ExprTree × Suite) × Place
 arms_seen x = (map arm_tree x.0, x.1)
 
 abbrev pub exprs_listed : List Expr × Place → List ExprTree × Place
@@ -69,7 +69,7 @@ abbrev pub mark_seen : (Expr × Span) × Place → (ExprTree × Span) × Place
 mark_seen x = ((expr_tree x.0.0, x.0.1), x.1)
 
 -- a handler of these parts
-abbrev pub handler_of : Option ExprTree → Option (List ℕ) → Block → Span → HandlerTree
+abbrev pub handler_of : Option ExprTree → Option (List ℕ) → Suite → Span → HandlerTree
 handler_of caught name body span = record { class = caught; name = name; body = body; span = span }
 
 -- a statement of one keyword
@@ -79,20 +79,20 @@ lone_node k.Break = st.Break
 lone_node _ = st.Continue
 
 abbrev pub reads_lone : List Token → Key → Place → Outcome StmtTree
-reads_lone ts word p = accept ts (class.Key word) p >>= λ x. Ok (st.at (lone_node word) x.0.span, x.1)
+reads_lone ts word p = accept ts (terminal.Key word) p >>= λ x. Ok (st.at (lone_node word) x.0.span, x.1)
 
 -- an expression behind a sign, if the sign comes next
 unfoldable pub reads_maybe : List Token → Sign → Place → Outcome (Option ExprTree)
 reads_maybe ts text p =
-    if sees ts p (class.Sign text ∷ [])
-    then (accept ts (class.Sign text) p >>= λ a. reads_expr ts TEST a.1 >>= λ t. Ok (Some t.0.tree, t.1))
+    if sees ts p (terminal.Sign text ∷ [])
+    then (accept ts (terminal.Sign text) p >>= λ a. reads_expr ts TEST a.1 >>= λ t. Ok (Some t.0.tree, t.1))
     else Ok (None, p)
 
 -- the name behind `as`, if `as` comes next
 unfoldable pub reads_as : List Token → Place → Outcome (Option (List ℕ))
 reads_as ts p =
-    if sees ts p (class.Key k.As ∷ [])
-    then (accept ts (class.Key k.As) p >>= λ a. accept ts class.Name a.1 >>= λ n. Ok (Some (name_of n.0), n.1))
+    if sees ts p (terminal.Key k.As ∷ [])
+    then (accept ts (terminal.Key k.As) p >>= λ a. accept ts terminal.Name a.1 >>= λ n. Ok (Some (name_of n.0), n.1))
     else Ok (None, p)
 
 -- what a handler catches, and its name
@@ -104,28 +104,28 @@ reads_caught ts p =
 
 -- more statements of a line, behind those in front
 unfoldable pub reads_line : List Token → List StmtTree → Place → Outcome (List StmtTree)
-reads_line ts found p = after_into single found (reads_after ts (class.Sign s.Semicolon) (g.sym SMALL) p) >>= λ y. Ok (y.0.0, y.1)
+reads_line ts found p = after_into single found (reads_after ts (terminal.Sign s.Semicolon) (g.sym SMALL) p) >>= λ y. Ok (y.0.0, y.1)
 
 -- one statement of a line, where it is none of the shortest ones
 unfoldable pub reads_worded : List Token → Place → Outcome StmtTree
 reads_worded ts p =
-    if sees ts p (class.Key k.Global ∷ []) then reads_sym ts g.GLOBAL p
-    else (if sees ts p (class.Key k.Assert ∷ []) then reads_sym ts g.ASSERT p
-    else (if sees ts p (class.Key k.Del ∷ []) then reads_sym ts g.DEL p
-    else (if sees ts p (class.Key k.Import ∷ []) then reads_sym ts g.IMPORT p
-    else (if sees ts p (class.Key k.From ∷ []) then reads_sym ts g.FROM p else reads_sym ts g.PLAIN p))))
+    if sees ts p (terminal.Key k.Global ∷ []) then reads_sym ts g.GLOBAL p
+    else (if sees ts p (terminal.Key k.Assert ∷ []) then reads_sym ts g.ASSERT p
+    else (if sees ts p (terminal.Key k.Del ∷ []) then reads_sym ts g.DEL p
+    else (if sees ts p (terminal.Key k.Import ∷ []) then reads_sym ts g.IMPORT p
+    else (if sees ts p (terminal.Key k.From ∷ []) then reads_sym ts g.FROM p else reads_sym ts g.PLAIN p))))
 
 -- an annotation behind a target, and what is assigned to it, if anything is
 unfoldable pub reads_annotated : List Token → Piece → Place → Outcome StmtTree
 reads_annotated ts x p =
-    reads_behind ts (class.Sign s.Colon) TEST p >>= λ m.
-    if sees ts m.1 (class.Sign s.Assign ∷ [])
-    then (reads_behind ts (class.Sign s.Assign) g.TESTS m.1 >>= λ v. Ok (st.at (st.Annot x.tree m.0.tree (Some v.0.tree)) x.begins, v.1))
+    reads_behind ts (terminal.Sign s.Colon) TEST p >>= λ m.
+    if sees ts m.1 (terminal.Sign s.Assign ∷ [])
+    then (reads_behind ts (terminal.Sign s.Assign) g.TESTS m.1 >>= λ v. Ok (st.at (st.Annot x.tree m.0.tree (Some v.0.tree)) x.begins, v.1))
     else Ok (st.at (st.Annot x.tree m.0.tree None) x.begins, m.1)
 
 -- a value that is assigned to a target
 unfoldable pub reads_given : List Token → Piece → Place → Outcome StmtTree
-reads_given ts x p = reads_behind ts (class.Sign s.Assign) g.TESTS p >>= λ v. Ok (st.at (st.Assign x.tree v.0.tree) x.begins, v.1)
+reads_given ts x p = reads_behind ts (terminal.Sign s.Assign) g.TESTS p >>= λ v. Ok (st.at (st.Assign x.tree v.0.tree) x.begins, v.1)
 
 -- an operator by which a target is changed, and its other operand
 unfoldable pub reads_changed : List Token → Piece → Place → Outcome StmtTree
@@ -134,9 +134,9 @@ reads_changed ts x p = reads_sym ts g.AUG p >>= λ o. reads_expr ts g.TESTS o.1 
 -- what is assigned to a target, or its annotation
 unfoldable pub reads_assigned : List Token → Piece → Place → Outcome StmtTree
 reads_assigned ts x p =
-    if sees ts p (class.Sign s.Colon ∷ []) then reads_annotated ts x p
-    else (if sees ts p (class.Sign s.Assign ∷ []) then reads_given ts x p else reads_changed ts x p)
+    if sees ts p (terminal.Sign s.Colon ∷ []) then reads_annotated ts x p
+    else (if sees ts p (terminal.Sign s.Assign ∷ []) then reads_given ts x p else reads_changed ts x p)
 
 -- the operator of an augmented assignment, by its sign
 abbrev pub reads_augmenting : List Token → Sign → BinOp → Place → Outcome BinOp
-reads_augmenting ts text op p = accept ts (class.Sign text) p >>= λ x. Ok (op, x.1)
+reads_augmenting ts text op p = accept ts (terminal.Sign text) p >>= λ x. Ok (op, x.1)

@@ -4,7 +4,7 @@ use Rattle.py_syntax.specs.declared.sign.Sign.TheVariants as s
 use Rattle.py_syntax.specs.declared.token.Token.{Token}
 use Rattle.py_syntax.specs.Expressions as e
 use Rattle.py_syntax.specs.Expressions.{ArgTree, arguments_of}
-use Rattle.py_grammar.specs.declared.class.Class.TheVariants as class
+use Rattle.py_grammar.specs.declared.terminal.Terminal.TheVariants as terminal
 use Rattle.py_grammar.specs.declared.place.Place.{Place}
 use Rattle.py_grammar.specs.Levels.{Piece}
 use Rattle.py_grammar.specs.Grammar.{TESTS, ARG}
@@ -17,17 +17,17 @@ use Rattle.py_parser.specs.Rows.{reads_row}
 
 -- a name behind a dot
 unfoldable pub reads_member : List Token → Place → Outcome (List ℕ)
-reads_member ts p = accept ts (class.Sign s.Dot) p >>= λ x. accept ts class.Name x.1 >>= λ y. Ok (name_of y.0, y.1)
+reads_member ts p = accept ts (terminal.Sign s.Dot) p >>= λ x. accept ts terminal.Name x.1 >>= λ y. Ok (name_of y.0, y.1)
 
 -- arguments in brackets
 unfoldable pub reads_arguments : List Token → Place → Outcome (List ArgTree)
 reads_arguments ts p =
-    accept ts (class.Sign s.LeftParen) p >>= λ x. reads_row ts ARG x.1 >>= λ y. accept ts (class.Sign s.RightParen) y.1 >>= λ z. Ok (y.0, z.1)
+    accept ts (terminal.Sign s.LeftParen) p >>= λ x. reads_row ts ARG x.1 >>= λ y. accept ts (terminal.Sign s.RightParen) y.1 >>= λ z. Ok (y.0, z.1)
 
 -- an index in brackets, and the place behind them
 unfoldable pub reads_index : List Token → Place → Outcome Piece
 reads_index ts p =
-    accept ts (class.Sign s.LeftSquare) p >>= λ x. reads_expr ts TESTS x.1 >>= λ y. accept ts (class.Sign s.RightSquare) y.1 >>= λ z. Ok (y.0, z.1)
+    accept ts (terminal.Sign s.LeftSquare) p >>= λ x. reads_expr ts TESTS x.1 >>= λ y. accept ts (terminal.Sign s.RightSquare) y.1 >>= λ z. Ok (y.0, z.1)
 
 abbrev pub index_seen : Parsed × Place → Piece × Place
 index_seen x = (piece_of x.0, x.1)

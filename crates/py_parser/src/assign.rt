@@ -12,21 +12,21 @@ use crate::fault::ParseError;
 use crate::parsed::Parsed;
 use crate::place::{accept_sign, sees_any, sees_sign};
 use crate::statement::{alone, annotating, annotating_with, assigning, augmented};
-use py_grammar::{Class, Place};
+use py_grammar::{Place, Terminal};
 use py_syntax::{BinOp, Sign, Stmt, Token};
 use std::alloc::Global;
 
 /// What stands between a target and what is assigned to it.
-const ASSIGNING: [Class; 9] = [
-    Class::Sign(Sign::Colon),
-    Class::Sign(Sign::Assign),
-    Class::Sign(Sign::PlusAssign),
-    Class::Sign(Sign::MinusAssign),
-    Class::Sign(Sign::StarAssign),
-    Class::Sign(Sign::SlashSlashAssign),
-    Class::Sign(Sign::PercentAssign),
-    Class::Sign(Sign::ShlAssign),
-    Class::Sign(Sign::ShrAssign),
+const ASSIGNING: [Terminal; 9] = [
+    Terminal::Sign(Sign::Colon),
+    Terminal::Sign(Sign::Assign),
+    Terminal::Sign(Sign::PlusAssign),
+    Terminal::Sign(Sign::MinusAssign),
+    Terminal::Sign(Sign::StarAssign),
+    Terminal::Sign(Sign::SlashSlashAssign),
+    Terminal::Sign(Sign::PercentAssign),
+    Terminal::Sign(Sign::ShlAssign),
+    Terminal::Sign(Sign::ShrAssign),
 ];
 
 /// A statement that begins with expressions: alone, or with what is assigned to them.
@@ -68,7 +68,7 @@ fn given(alloc: Global, tokens: &[Token], target: Parsed) -> Result<(Stmt, Place
     ensures read { Gives stmt_seen result (reads_given tokens.now (piece_of target) target.place) }
     ensures moves { IfOk result (λ x. MovesTo tokens.now target.place x.1) }
 {
-    let value = tests_behind(alloc, tokens, target.place, Class::Sign(Sign::Assign))?;
+    let value = tests_behind(alloc, tokens, target.place, Terminal::Sign(Sign::Assign))?;
     let place = value.place;
     Ok((assigning(target, value), place))
 }
@@ -96,7 +96,7 @@ fn annotated(alloc: Global, tokens: &[Token], target: Parsed) -> Result<(Stmt, P
     if !sees_sign(tokens, place, Sign::Assign) {
         return Ok((annotating(target, annotation), place));
     }
-    let value = tests_behind(alloc, tokens, place, Class::Sign(Sign::Assign))?;
+    let value = tests_behind(alloc, tokens, place, Terminal::Sign(Sign::Assign))?;
     let place = value.place;
     Ok((annotating_with(target, annotation, value), place))
 }

@@ -11,7 +11,7 @@ use crate::join::leaf;
 use crate::parsed::Parsed;
 use crate::place::{accept, accept_key, sees, sees_key};
 use crate::word::{int_of, name_of, texts};
-use py_grammar::{Class, Place};
+use py_grammar::{Place, Terminal};
 use py_syntax::{ExprKind, Key, Token};
 use std::alloc::Global;
 
@@ -21,17 +21,17 @@ pub(crate) fn literal(alloc: Global, tokens: &[Token], place: Place) -> Result<P
     ensures read { Gives seen result (reads_literal tokens.now place) }
     ensures moves { IfOk result (λ x. Moves tokens.now place x) }
 {
-    if sees(tokens, place, Class::Name) {
-        let (token, place) = accept(tokens, place, Class::Name)?;
+    if sees(tokens, place, Terminal::Name) {
+        let (token, place) = accept(tokens, place, Terminal::Name)?;
         let name = name_of(alloc, token)?;
         return Ok(leaf(ExprKind::Name(name), token.span, place));
     }
-    if sees(tokens, place, Class::Int) {
-        let (token, place) = accept(tokens, place, Class::Int)?;
+    if sees(tokens, place, Terminal::Int) {
+        let (token, place) = accept(tokens, place, Terminal::Int)?;
         return Ok(leaf(ExprKind::Int(int_of(token)), token.span, place));
     }
-    if sees(tokens, place, Class::Str) {
-        let (token, place) = accept(tokens, place, Class::Str)?;
+    if sees(tokens, place, Terminal::Str) {
+        let (token, place) = accept(tokens, place, Terminal::Str)?;
         let (text, place) = texts(alloc, tokens, token, place)?;
         return Ok(leaf(ExprKind::Str(text), token.span, place));
     }

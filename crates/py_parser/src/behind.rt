@@ -9,21 +9,21 @@ use crate::expression::tests;
 use crate::fault::ParseError;
 use crate::parsed::Parsed;
 use crate::place::accept;
-use py_grammar::{Class, Place};
+use py_grammar::{Place, Terminal};
 use py_syntax::Token;
 use std::alloc::Global;
 
-/// An expression, or several between commas, behind a token of a class.
+/// An expression, or several between commas, behind a token of a terminal.
 #[tactic(auto, unfolding(crate::specs::Behind::reads_behind))]
 pub(crate) fn tests_behind(
     alloc: Global,
     tokens: &[Token],
     place: Place,
-    class: Class,
+    terminal: Terminal,
 ) -> Result<Parsed, ParseError>
-    ensures read { Gives seen result (reads_behind tokens.now class TESTS place) }
+    ensures read { Gives seen result (reads_behind tokens.now terminal TESTS place) }
     ensures moves { IfOk result (λ x. Moves tokens.now place x) }
 {
-    let (_, place) = accept(tokens, place, class)?;
+    let (_, place) = accept(tokens, place, terminal)?;
     tests(alloc, tokens, place)
 }

@@ -19,7 +19,7 @@ use crate::simple::simple;
 use crate::starts::{COMPOUND, begins_stmt, begins_test};
 use crate::statement::{fors, handling, ifs, tries, whiles};
 use crate::target::targets;
-use py_grammar::{Class, Place};
+use py_grammar::{Place, Terminal};
 use py_syntax::{Expr, Handler, Key, Sign, Stmt, Token};
 use std::alloc::Global;
 use value_core::{Many, Name};
@@ -70,14 +70,14 @@ fn block(alloc: Global, tokens: &[Token], place: Place) -> Result<(Many<Stmt>, P
     ensures read { Gives stmts_seen result (reads_sym tokens.now BLOCK place) }
     ensures moves { IfOk result (λ x. MovesTo tokens.now place x.1) }
 {
-    if !sees(tokens, place, Class::Newline) {
+    if !sees(tokens, place, Terminal::Newline) {
         return simple(alloc, tokens, place);
     }
-    let (_, place) = accept(tokens, place, Class::Newline)?;
-    let (_, place) = accept(tokens, place, Class::Indent)?;
+    let (_, place) = accept(tokens, place, Terminal::Newline)?;
+    let (_, place) = accept(tokens, place, Terminal::Indent)?;
     let (first, place) = stmt(alloc, tokens, place)?;
     let (found, place) = stmts(alloc, tokens, first, place)?;
-    let (_, place) = accept(tokens, place, Class::Dedent)?;
+    let (_, place) = accept(tokens, place, Terminal::Dedent)?;
     Ok((found, place))
 }
 
@@ -209,7 +209,7 @@ fn for_stmt(alloc: Global, tokens: &[Token], place: Place) -> Result<(Stmt, Plac
 {
     let (token, place) = accept_key(tokens, place, Key::For)?;
     let target = targets(alloc, tokens, place)?;
-    let all = tests_behind(alloc, tokens, target.place, Class::Key(Key::In))?;
+    let all = tests_behind(alloc, tokens, target.place, Terminal::Key(Key::In))?;
     let (body, place) = suite(alloc, tokens, all.place)?;
     Ok((fors(target, all, body, token.span), place))
 }

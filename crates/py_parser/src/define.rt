@@ -20,7 +20,7 @@ use crate::row::no_row;
 use crate::simple::{simple, statement};
 use crate::starts::begins_member;
 use crate::word::name_of;
-use py_grammar::{Class as Kind, Place};
+use py_grammar::{Place, Terminal};
 use py_syntax::{Class, Expr, Func, Key, Sign, Span, Stmt, StmtKind, Token};
 use std::alloc::Global;
 use value_core::{Many, Name};
@@ -80,7 +80,7 @@ fn mark(alloc: Global, tokens: &[Token], place: Place) -> Result<((Expr, Span), 
 {
     let (token, place) = accept_sign(tokens, place, Sign::At)?;
     let found = test(alloc, tokens, place)?;
-    let (_, place) = accept(tokens, found.place, Kind::Newline)?;
+    let (_, place) = accept(tokens, found.place, Terminal::Newline)?;
     Ok(((found.expr, token.span), place))
 }
 
@@ -117,7 +117,7 @@ pub(crate) fn func(
     ensures moves { IfOk result (λ x. MovesTo tokens.now place x.1) }
 {
     let (token, place) = accept_key(tokens, place, Key::Def)?;
-    let (named, place) = accept(tokens, place, Kind::Name)?;
+    let (named, place) = accept(tokens, place, Terminal::Name)?;
     let name = name_of(alloc, named)?;
     let (_, place) = accept_sign(tokens, place, Sign::LeftParen)?;
     let (params, place) = params(alloc, tokens, place)?;
@@ -165,7 +165,7 @@ fn params(
 {
     let mut found = Many::new(alloc);
     let mut next = place;
-    'params: while sees(tokens, next, Kind::Name) {
+    'params: while sees(tokens, next, Terminal::Name) {
         let (more, behind) = param(alloc, tokens, next)?;
         found.push(more)?;
         if !sees_sign(tokens, behind, Sign::Comma) {
@@ -187,7 +187,7 @@ fn param(
     ensures read { Gives param_seen result (reads_sym tokens.now PARAM place) }
     ensures moves { IfOk result (λ x. MovesTo tokens.now place x.1) }
 {
-    let (token, place) = accept(tokens, place, Kind::Name)?;
+    let (token, place) = accept(tokens, place, Terminal::Name)?;
     let name = name_of(alloc, token)?;
     let (annotation, place) = maybe_behind(alloc, tokens, place, Sign::Colon)?;
     Ok(((name, annotation), place))
@@ -204,7 +204,7 @@ pub(crate) fn class(
     ensures moves { IfOk result (λ x. MovesTo tokens.now place x.1) }
 {
     let (token, place) = accept_key(tokens, place, Key::Class)?;
-    let (named, place) = accept(tokens, place, Kind::Name)?;
+    let (named, place) = accept(tokens, place, Terminal::Name)?;
     let name = name_of(alloc, named)?;
     let (bases, place) = bases(alloc, tokens, place)?;
     let (_, place) = accept_sign(tokens, place, Sign::Colon)?;
@@ -243,14 +243,14 @@ fn class_block(
     ensures read { Gives stmts_seen result (reads_sym tokens.now CBLOCK place) }
     ensures moves { IfOk result (λ x. MovesTo tokens.now place x.1) }
 {
-    if !sees(tokens, place, Kind::Newline) {
+    if !sees(tokens, place, Terminal::Newline) {
         return simple(alloc, tokens, place);
     }
-    let (_, place) = accept(tokens, place, Kind::Newline)?;
-    let (_, place) = accept(tokens, place, Kind::Indent)?;
+    let (_, place) = accept(tokens, place, Terminal::Newline)?;
+    let (_, place) = accept(tokens, place, Terminal::Indent)?;
     let (first, place) = member(alloc, tokens, place)?;
     let (found, place) = members(alloc, tokens, first, place)?;
-    let (_, place) = accept(tokens, place, Kind::Dedent)?;
+    let (_, place) = accept(tokens, place, Terminal::Dedent)?;
     Ok((found, place))
 }
 

@@ -1,7 +1,7 @@
 //! Expressions. A cycle of calls goes down the levels, and up again inside brackets.
 ghost use Rattle.std.specs.Prelude.{◌≡◌, ◌≢◌, [], map, IfOk, true};
 ghost use Rattle.py_syntax.specs.Expressions.{expr_tree, arg_tree, entry_tree, comparison_tree};
-ghost use Rattle.py_grammar.specs.declared.class.Class.TheVariants as class;
+ghost use Rattle.py_grammar.specs.declared.terminal.Terminal.TheVariants as terminal;
 ghost use Rattle.py_grammar.specs.Grammar.{TEST, TESTS, OR, NOT, FACTOR, COMP, ATOM, TRAILER, ARG, ENTRY, COMP_MORE};
 ghost use Rattle.py_grammar.specs.Reader as reader;
 ghost use Rattle.py_grammar.specs.Reader.{sees};
@@ -30,7 +30,7 @@ use crate::prefix::{conditionals, prefixes, sign_at};
 use crate::row::{no_row, push_comparison, push_entry, push_expr, push_keyed, push_value};
 use crate::starts::{begins_comparison, begins_literal, begins_sign, begins_test};
 use crate::word::name_of;
-use py_grammar::{Class, Place};
+use py_grammar::{Place, Terminal};
 use py_syntax::{Arg, CmpOp, Expr, ExprKind, Key, Sign, Token};
 use std::alloc::Global;
 use value_core::{Many, Name};
@@ -78,7 +78,7 @@ fn chain_behind(
     place: Place,
     key: Key,
 ) -> Result<Parsed, ParseError>
-    ensures read { Gives seen result (reads_behind tokens.now (class.Key key) OR place) }
+    ensures read { Gives seen result (reads_behind tokens.now (terminal.Key key) OR place) }
     ensures moves { IfOk result (λ x. Moves tokens.now place x) }
 {
     let (_, place) = accept_key(tokens, place, key)?;
@@ -94,7 +94,7 @@ pub(crate) fn test_behind(
     place: Place,
     sign: Sign,
 ) -> Result<Parsed, ParseError>
-    ensures read { Gives seen result (reads_behind tokens.now (class.Sign sign) TEST place) }
+    ensures read { Gives seen result (reads_behind tokens.now (terminal.Sign sign) TEST place) }
     ensures moves { IfOk result (λ x. Moves tokens.now place x) }
 {
     let (_, place) = accept_sign(tokens, place, sign)?;
@@ -203,8 +203,8 @@ fn grow(alloc: Global, tokens: &[Token], left: Parsed, level: Level) -> Result<P
     match operator_at(tokens, left.place, level) {
         None => trailer(alloc, tokens, left),
         Some(next) => {
-            let (class, operator) = next;
-            let right = operand_behind(alloc, tokens, left.place, class, level)?;
+            let (terminal, operator) = next;
+            let right = operand_behind(alloc, tokens, left.place, terminal, level)?;
             joined(alloc, operator, left, right)
         }
     }
@@ -217,13 +217,13 @@ fn operand_behind(
     alloc: Global,
     tokens: &[Token],
     place: Place,
-    class: Class,
+    terminal: Terminal,
     level: Level,
 ) -> Result<Parsed, ParseError>
-    ensures read { Gives seen result (reads_behind tokens.now class (below_of level) place) }
+    ensures read { Gives seen result (reads_behind tokens.now terminal (below_of level) place) }
     ensures moves { IfOk result (λ x. Moves tokens.now place x) }
 {
-    let (_, place) = accept(tokens, place, class)?;
+    let (_, place) = accept(tokens, place, terminal)?;
     operand(alloc, tokens, place, level)
 }
 
@@ -261,7 +261,7 @@ fn member(alloc: Global, tokens: &[Token], place: Place) -> Result<(Name, Place)
     ensures moves { IfOk result (λ x. MovesTo tokens.now place x.1) }
 {
     let (_, place) = accept_sign(tokens, place, Sign::Dot)?;
-    let (token, place) = accept(tokens, place, Class::Name)?;
+    let (token, place) = accept(tokens, place, Terminal::Name)?;
     Ok((name_of(alloc, token)?, place))
 }
 

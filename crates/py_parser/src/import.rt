@@ -12,7 +12,7 @@ use crate::fault::ParseError;
 use crate::place::{accept, accept_key, accept_sign, sees, sees_key, sees_sign};
 use crate::statement::{from_importing, globals, importing};
 use crate::word::{name_of, name_text};
-use py_grammar::{Class, Place};
+use py_grammar::{Place, Terminal};
 use py_syntax::{Key, Sign, Stmt, Token};
 use std::alloc::Global;
 use value_core::{Many, Name};
@@ -28,7 +28,7 @@ pub(crate) fn global(
     ensures moves { IfOk result (λ x. MovesTo tokens.now place x.1) }
 {
     let (token, place) = accept_key(tokens, place, Key::Global)?;
-    let (first, place) = accept(tokens, place, Class::Name)?;
+    let (first, place) = accept(tokens, place, Terminal::Name)?;
     let first = name_of(alloc, first)?;
     let (found, place) = names(alloc, tokens, first, place)?;
     Ok((globals(found, token.span), place))
@@ -50,7 +50,7 @@ fn names(
     found.push(first)?;
     'names: while sees_sign(tokens, place, Sign::Comma) {
         let (_, next) = accept_sign(tokens, place, Sign::Comma)?;
-        let (token, behind) = accept(tokens, next, Class::Name)?;
+        let (token, behind) = accept(tokens, next, Terminal::Name)?;
         let name = name_of(alloc, token)?;
         found.push(name)?;
         place = behind;
@@ -97,7 +97,7 @@ fn dotted(alloc: Global, tokens: &[Token], place: Place) -> Result<(Name, Place)
     ensures read { Gives (λ x. x) result (reads_sym tokens.now DOTTED place) }
     ensures moves { IfOk result (λ x. MovesTo tokens.now place x.1) }
 {
-    let (first, place) = accept(tokens, place, Class::Name)?;
+    let (first, place) = accept(tokens, place, Terminal::Name)?;
     dots(alloc, tokens, first, place)
 }
 
@@ -116,7 +116,7 @@ fn dots(
     let mut text = String::from_str(alloc, name_text(first))?;
     'dots: while sees_sign(tokens, place, Sign::Dot) {
         let (_, next) = accept_sign(tokens, place, Sign::Dot)?;
-        let (token, behind) = accept(tokens, next, Class::Name)?;
+        let (token, behind) = accept(tokens, next, Terminal::Name)?;
         text.push_str(".")?;
         text.push_str(name_text(token))?;
         place = behind;
@@ -138,7 +138,7 @@ pub(crate) fn maybe_as(
         return Ok((None, place));
     }
     let (_, place) = accept_key(tokens, place, Key::As)?;
-    let (token, place) = accept(tokens, place, Class::Name)?;
+    let (token, place) = accept(tokens, place, Terminal::Name)?;
     let name = name_of(alloc, token)?;
     Ok((Some(name), place))
 }
@@ -153,7 +153,7 @@ fn imported(
     ensures read { Gives (λ x. x) result (reads_imported tokens.now place) }
     ensures moves { IfOk result (λ x. MovesTo tokens.now place x.1) }
 {
-    if sees(tokens, place, Class::Name) {
+    if sees(tokens, place, Terminal::Name) {
         let (first, place) = alias(alloc, tokens, place)?;
         return bare(alloc, tokens, first, place);
     }
@@ -174,7 +174,7 @@ fn alias(
     ensures read { Gives (λ x. x) result (reads_sym tokens.now ALIAS place) }
     ensures moves { IfOk result (λ x. MovesTo tokens.now place x.1) }
 {
-    let (token, place) = accept(tokens, place, Class::Name)?;
+    let (token, place) = accept(tokens, place, Terminal::Name)?;
     let name = name_of(alloc, token)?;
     let (other, place) = maybe_as(alloc, tokens, place)?;
     Ok(((name, other), place))
@@ -219,7 +219,7 @@ fn aliases(
     found.push(first)?;
     'names: while sees_sign(tokens, place, Sign::Comma) {
         let (_, next) = accept_sign(tokens, place, Sign::Comma)?;
-        if !sees(tokens, next, Class::Name) {
+        if !sees(tokens, next, Terminal::Name) {
             return Ok((found, next));
         }
         let (name, behind) = alias(alloc, tokens, next)?;

@@ -14,7 +14,7 @@ use crate::fault::ParseError;
 use crate::operator::Operator;
 use crate::parsed::{Parsed, Row};
 use crate::place::is_of;
-use py_grammar::{Class, Place};
+use py_grammar::{Place, Terminal};
 use py_syntax::{Arg, CmpOp, Expr, ExprKind, Key, Sign, Span, Token};
 use std::alloc::Global;
 use value_core::Name;
@@ -102,10 +102,10 @@ fn behind_prefix(token: &Token, part: Box<Expr>) -> ExprKind
     ensures node { expr_node result ≡ prefix_node token.now (expr_tree part.value) }
     ensures level { node_level (expr_node result) ≡ level (expr_tree part.value) + 1 }
 {
-    if is_of(token, Class::Key(Key::Not)) {
+    if is_of(token, Terminal::Key(Key::Not)) {
         return ExprKind::Not(part);
     }
-    if is_of(token, Class::Sign(Sign::Minus)) {
+    if is_of(token, Terminal::Sign(Sign::Minus)) {
         return ExprKind::Neg(part);
     }
     ExprKind::Plus(part)

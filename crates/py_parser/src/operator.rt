@@ -4,7 +4,7 @@ ghost use Rattle.py_grammar.specs.Reader as reader;
 ghost use Rattle.py_parser.specs.Operators.{more_of, operator_at};
 
 use crate::place::{sees_key, sees_sign};
-use py_grammar::{Class, Place};
+use py_grammar::{Place, Terminal};
 use py_syntax::{BinOp, Key, Sign, Token};
 
 /// The levels whose operators group from the left, the loosest first. At the last one it is trailers that do.
@@ -50,13 +50,17 @@ pub(crate) fn goes_on(tokens: &[Token], place: Place, level: Level) -> bool
     }
 }
 
-/// The operator of a level that has to come next, with its token's class. None at the level of trailers.
-pub(crate) fn operator_at(tokens: &[Token], place: Place, level: Level) -> Option<(Class, Operator)>
+/// The operator of a level that has to come next, with its terminal. None at the level of trailers.
+pub(crate) fn operator_at(
+    tokens: &[Token],
+    place: Place,
+    level: Level,
+) -> Option<(Terminal, Operator)>
     ensures { result ≡ operator_at tokens.now place level }
 {
     match level {
-        Level::Or => Some((Class::Key(Key::Or), Operator::Or)),
-        Level::And => Some((Class::Key(Key::And), Operator::And)),
+        Level::Or => Some((Terminal::Key(Key::Or), Operator::Or)),
+        Level::And => Some((Terminal::Key(Key::And), Operator::And)),
         Level::Bar => Some(binary(Sign::Bar, BinOp::Bar)),
         Level::Shift if sees_sign(tokens, place, Sign::Shl) => Some(binary(Sign::Shl, BinOp::Shl)),
         Level::Shift => Some(binary(Sign::Shr, BinOp::Shr)),
@@ -71,8 +75,8 @@ pub(crate) fn operator_at(tokens: &[Token], place: Place, level: Level) -> Optio
     }
 }
 
-fn binary(sign: Sign, op: BinOp) -> (Class, Operator)
-    ensures { result ≡ (Class.Sign sign, Operator.Bin op) }
+fn binary(sign: Sign, op: BinOp) -> (Terminal, Operator)
+    ensures { result ≡ (Terminal.Sign sign, Operator.Bin op) }
 {
-    (Class::Sign(sign), Operator::Bin(op))
+    (Terminal::Sign(sign), Operator::Bin(op))
 }

@@ -6,7 +6,7 @@ use value_core::Many;
 /// An expression that was read: with the place of its first token, which may be a bracket around it, its level, from 1
 /// to 100, and where the parser stands behind it. Where that is deep, the expression is `None` in the place of what is
 /// too deep, so that nothing is ever built that is nested without bound.
-#[derive(Debug, Drop)]
+#[derive(Drop)]
 pub(crate) struct Parsed {
     pub expr: Expr,
     pub begin: Span,
@@ -15,7 +15,7 @@ pub(crate) struct Parsed {
 }
 
 /// Parts in a row, the greatest of their levels, up to 100, and where the parser stands behind them.
-#[derive(Debug, Drop)]
+#[derive(Drop)]
 pub(crate) struct Row<T> {
     pub list: Many<T>,
     pub level: usize,

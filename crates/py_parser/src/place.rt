@@ -1,66 +1,66 @@
 //! Tokens, one at a time.
 ghost use Rattle.std.specs.Prelude.{◌≡◌, ◌≤◌, ◌+◌, [], ◌∷◌, length, slice_get, Some, IfOk, false};
 ghost use Rattle.std.specs.List.{list_any};
-ghost use Rattle.py_grammar.specs.Classes.{class_of, is_left_out, same as same_class};
+ghost use Rattle.py_grammar.specs.Terminals.{terminal_of, is_left_out, same as same_terminal};
 ghost use Rattle.py_grammar.specs.Reader as reader;
 ghost use Rattle.py_parser.specs.Gives.{Gives, Fails};
 
 use crate::fault::ParseError;
-use py_grammar::{Class, Place};
+use py_grammar::{Place, Terminal};
 use py_syntax::{Key, Sign, Token, TokenKind};
 
-/// Whether a token is of a class.
-pub(crate) fn is_of(token: &Token, class: Class) -> bool
-    ensures { result ≡ same_class (class_of token.now.kind) class }
+/// Whether a token is of a terminal.
+pub(crate) fn is_of(token: &Token, terminal: Terminal) -> bool
+    ensures { result ≡ same_terminal (terminal_of token.now.kind) terminal }
 {
-    Class::of(&token.kind).is(class)
+    Terminal::of(&token.kind).is(terminal)
 }
 
-/// Whether the next token is of a class.
-pub(crate) fn sees(tokens: &[Token], place: Place, class: Class) -> bool
-    ensures { result ≡ reader.sees tokens.now place (class ∷ []) }
+/// Whether the next token is of a terminal.
+pub(crate) fn sees(tokens: &[Token], place: Place, terminal: Terminal) -> bool
+    ensures { result ≡ reader.sees tokens.now place (terminal ∷ []) }
 {
     match tokens.get(place.at) {
         None => false,
-        Some(token) => is_of(token, class),
+        Some(token) => is_of(token, terminal),
     }
 }
 
-/// Whether the next token is of one of some classes.
+/// Whether the next token is of one of some terminals.
 #[tactic(auto, using(crate::proofs::Sights::sights))]
-pub(crate) fn sees_any(tokens: &[Token], place: Place, classes: &[Class]) -> bool
-    ensures { result ≡ reader.sees tokens.now place classes.now }
+pub(crate) fn sees_any(tokens: &[Token], place: Place, terminals: &[Terminal]) -> bool
+    ensures { result ≡ reader.sees tokens.now place terminals.now }
 {
     match tokens.get(place.at) {
         None => false,
-        Some(token) => is_any_of(token, classes),
+        Some(token) => is_any_of(token, terminals),
     }
 }
 
-fn is_any_of(token: &Token, classes: &[Class]) -> bool
-    ensures { result ≡ list_any (λ c. same_class (class_of token.now.kind) c) classes.now }
+fn is_any_of(token: &Token, terminals: &[Terminal]) -> bool
+    ensures { result ≡ list_any (λ c. same_terminal (terminal_of token.now.kind) c) terminals.now }
 {
-    let class = Class::of(&token.kind);
-    classes.iter().any(|c| class.is(*c))
+    let terminal = Terminal::of(&token.kind);
+    terminals.iter().any(|c| terminal.is(*c))
 }
 
 /// Whether the next token is a keyword.
 pub(crate) fn sees_key(tokens: &[Token], place: Place, key: Key) -> bool
-    ensures { result ≡ reader.sees tokens.now place (Class.Key key ∷ []) }
+    ensures { result ≡ reader.sees tokens.now place (Terminal.Key key ∷ []) }
 {
-    sees(tokens, place, Class::Key(key))
+    sees(tokens, place, Terminal::Key(key))
 }
 
 /// Whether the next token is a sign.
 pub(crate) fn sees_sign(tokens: &[Token], place: Place, sign: Sign) -> bool
-    ensures { result ≡ reader.sees tokens.now place (Class.Sign sign ∷ []) }
+    ensures { result ≡ reader.sees tokens.now place (Terminal.Sign sign ∷ []) }
 {
-    sees(tokens, place, Class::Sign(sign))
+    sees(tokens, place, Terminal::Sign(sign))
 }
 
 // Whether a token is a keyword that the profile leaves out.
 fn is_left_out(token: &Token) -> bool
-    ensures { result ≡ is_left_out (class_of token.now.kind) }
+    ensures { result ≡ is_left_out (terminal_of token.now.kind) }
 {
     match &token.kind {
         TokenKind::Key(key) => matches!(
@@ -71,13 +71,13 @@ fn is_left_out(token: &Token) -> bool
     }
 }
 
-/// The next token, which has to be of a class, and the place behind it.
+/// The next token, which has to be of a terminal, and the place behind it.
 pub(crate) fn accept(
     tokens: &[Token],
     place: Place,
-    class: Class,
+    terminal: Terminal,
 ) -> Result<(&Token, Place), ParseError>
-    ensures read { Gives (λ x. (x.0.now, x.1)) result (reader.accept tokens.now class place) }
+    ensures read { Gives (λ x. (x.0.now, x.1)) result (reader.accept tokens.now terminal place) }
     ensures at { IfOk result (λ x. x.1.at ≡ place.at + 1) }
     ensures open { IfOk result (λ x. x.1.deep ≡ false) }
     ensures within { IfOk result (λ x. x.1.at ≤ length tokens.now) }
@@ -86,7 +86,7 @@ pub(crate) fn accept(
     let Some(token) = tokens.get(place.at) else {
         return Err(ParseError::Syntax(place.at));
     };
-    if !is_of(token, class) {
+    if !is_of(token, terminal) {
         return Err(refused(token, place));
     }
     if place.deep {
@@ -116,13 +116,13 @@ pub(crate) fn accept_key(
     place: Place,
     key: Key,
 ) -> Result<(&Token, Place), ParseError>
-    ensures read { Gives (λ x. (x.0.now, x.1)) result (reader.accept tokens.now (Class.Key key) place) }
+    ensures read { Gives (λ x. (x.0.now, x.1)) result (reader.accept tokens.now (Terminal.Key key) place) }
     ensures at { IfOk result (λ x. x.1.at ≡ place.at + 1) }
     ensures open { IfOk result (λ x. x.1.deep ≡ false) }
     ensures within { IfOk result (λ x. x.1.at ≤ length tokens.now) }
     ensures token { IfOk result (λ x. slice_get tokens.now place.at ≡ Some x.0.now) }
 {
-    accept(tokens, place, Class::Key(key))
+    accept(tokens, place, Terminal::Key(key))
 }
 
 /// The same at a sign.
@@ -131,11 +131,11 @@ pub(crate) fn accept_sign(
     place: Place,
     sign: Sign,
 ) -> Result<(&Token, Place), ParseError>
-    ensures read { Gives (λ x. (x.0.now, x.1)) result (reader.accept tokens.now (Class.Sign sign) place) }
+    ensures read { Gives (λ x. (x.0.now, x.1)) result (reader.accept tokens.now (Terminal.Sign sign) place) }
     ensures at { IfOk result (λ x. x.1.at ≡ place.at + 1) }
     ensures open { IfOk result (λ x. x.1.deep ≡ false) }
     ensures within { IfOk result (λ x. x.1.at ≤ length tokens.now) }
     ensures token { IfOk result (λ x. slice_get tokens.now place.at ≡ Some x.0.now) }
 {
-    accept(tokens, place, Class::Sign(sign))
+    accept(tokens, place, Terminal::Sign(sign))
 }

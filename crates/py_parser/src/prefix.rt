@@ -1,6 +1,6 @@
 //! Prefixes, and conditions: they nest once a token before anything is finished, and so are collected first.
 ghost use Rattle.std.specs.Prelude.{◌≡◌, ◌≤◌, ◌-◌, [], ◌∷◌, length, map, Ok, IfOk, if◌then◌else◌};
-ghost use Rattle.py_grammar.specs.declared.class.Class.TheVariants as class;
+ghost use Rattle.py_grammar.specs.declared.terminal.Terminal.TheVariants as terminal;
 ghost use Rattle.py_grammar.specs.Reader as reader;
 ghost use Rattle.py_parser.specs.Gives.{Gives};
 ghost use Rattle.py_parser.specs.Heads.{head_of, AreHeads};
@@ -17,7 +17,7 @@ use std::alloc::Global;
 
 /// The sign that has to come next, of those before an operand.
 pub(crate) fn sign_at(tokens: &[Token], place: Place) -> Sign
-    ensures { result ≡ (if reader.sees tokens.now place (class.Sign Sign.Minus ∷ []) then Sign.Minus else Sign.Plus) }
+    ensures { result ≡ (if reader.sees tokens.now place (terminal.Sign Sign.Minus ∷ []) then Sign.Minus else Sign.Plus) }
 {
     if sees_sign(tokens, place, Sign::Minus) {
         Sign::Minus

@@ -17,7 +17,7 @@ use crate::starts::{begins_small, begins_test};
 use crate::statement::{
     asserting, asserting_with, deleting, raising, raising_value, returning, returning_value,
 };
-use py_grammar::{Class, Place};
+use py_grammar::{Place, Terminal};
 use py_syntax::{Key, Sign, Span, Stmt, StmtKind, Token};
 use std::alloc::Global;
 use value_core::Many;
@@ -43,7 +43,7 @@ pub(crate) fn simple(
     let mut found = Many::new(alloc);
     found.push(first)?;
     let (found, place) = line(alloc, tokens, found, place)?;
-    let (_, place) = accept(tokens, place, Class::Newline)?;
+    let (_, place) = accept(tokens, place, Terminal::Newline)?;
     Ok((found, place))
 }
 

@@ -4,67 +4,67 @@ ghost use Rattle.py_grammar.specs.Reader as reader;
 ghost use Rattle.py_grammar.specs.Grammar.{TOP, MEMBER};
 
 use crate::place::{sees_any, sees_key};
-use py_grammar::{Class, Place};
+use py_grammar::{Place, Terminal};
 use py_syntax::{Key, Sign, Token};
 
 /// The comparison operators, or the first words of those that have two.
-const COMPARISONS: [Class; 9] = [
-    Class::Sign(Sign::Lt),
-    Class::Sign(Sign::Gt),
-    Class::Sign(Sign::EqEq),
-    Class::Sign(Sign::Ge),
-    Class::Sign(Sign::Le),
-    Class::Sign(Sign::NotEq),
-    Class::Key(Key::In),
-    Class::Key(Key::Not),
-    Class::Key(Key::Is),
+const COMPARISONS: [Terminal; 9] = [
+    Terminal::Sign(Sign::Lt),
+    Terminal::Sign(Sign::Gt),
+    Terminal::Sign(Sign::EqEq),
+    Terminal::Sign(Sign::Ge),
+    Terminal::Sign(Sign::Le),
+    Terminal::Sign(Sign::NotEq),
+    Terminal::Key(Key::In),
+    Terminal::Key(Key::Not),
+    Terminal::Key(Key::Is),
 ];
 
 /// Names, literals that are no display, and constants.
-const LITERALS: [Class; 6] = [
-    Class::Name,
-    Class::Int,
-    Class::Str,
-    Class::Key(Key::True),
-    Class::Key(Key::False),
-    Class::Key(Key::Nothing),
+const LITERALS: [Terminal; 6] = [
+    Terminal::Name,
+    Terminal::Int,
+    Terminal::Str,
+    Terminal::Key(Key::True),
+    Terminal::Key(Key::False),
+    Terminal::Key(Key::Nothing),
 ];
 
-const SIGNS: [Class; 2] = [Class::Sign(Sign::Minus), Class::Sign(Sign::Plus)];
+const SIGNS: [Terminal; 2] = [Terminal::Sign(Sign::Minus), Terminal::Sign(Sign::Plus)];
 
-const BRACKETS: [Class; 3] = [
-    Class::Sign(Sign::LeftParen),
-    Class::Sign(Sign::LeftSquare),
-    Class::Sign(Sign::LeftBrace),
+const BRACKETS: [Terminal; 3] = [
+    Terminal::Sign(Sign::LeftParen),
+    Terminal::Sign(Sign::LeftSquare),
+    Terminal::Sign(Sign::LeftBrace),
 ];
 
 /// The words that a statement of one line begins with.
-const WORDS: [Class; 10] = [
-    Class::Key(Key::Pass),
-    Class::Key(Key::Break),
-    Class::Key(Key::Continue),
-    Class::Key(Key::Return),
-    Class::Key(Key::Raise),
-    Class::Key(Key::Global),
-    Class::Key(Key::Assert),
-    Class::Key(Key::Del),
-    Class::Key(Key::Import),
-    Class::Key(Key::From),
+const WORDS: [Terminal; 10] = [
+    Terminal::Key(Key::Pass),
+    Terminal::Key(Key::Break),
+    Terminal::Key(Key::Continue),
+    Terminal::Key(Key::Return),
+    Terminal::Key(Key::Raise),
+    Terminal::Key(Key::Global),
+    Terminal::Key(Key::Assert),
+    Terminal::Key(Key::Del),
+    Terminal::Key(Key::Import),
+    Terminal::Key(Key::From),
 ];
 
 /// The words that a statement with blocks begins with.
-pub(crate) const COMPOUND: [Class; 4] = [
-    Class::Key(Key::If),
-    Class::Key(Key::While),
-    Class::Key(Key::For),
-    Class::Key(Key::Try),
+pub(crate) const COMPOUND: [Terminal; 4] = [
+    Terminal::Key(Key::If),
+    Terminal::Key(Key::While),
+    Terminal::Key(Key::For),
+    Terminal::Key(Key::Try),
 ];
 
 /// What a definition begins with.
-const DEFINITIONS: [Class; 3] = [
-    Class::Key(Key::Def),
-    Class::Key(Key::Class),
-    Class::Sign(Sign::At),
+const DEFINITIONS: [Terminal; 3] = [
+    Terminal::Key(Key::Def),
+    Terminal::Key(Key::Class),
+    Terminal::Sign(Sign::At),
 ];
 
 /// Whether a comparison operator comes next.

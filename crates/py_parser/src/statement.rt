@@ -4,7 +4,7 @@ ghost use Rattle.std.specs.Option.{option_map};
 ghost use Rattle.py_syntax.specs.Expressions.{expr_tree};
 ghost use Rattle.py_parser.specs.Statements.{handler_of};
 ghost use Rattle.py_syntax.specs.Statements as tree;
-ghost use Rattle.py_syntax.specs.Statements.{stmt_tree, maybe_expr, arm_tree, body_tree, handler_tree, arms_of, handlers_of, maybe_block};
+ghost use Rattle.py_syntax.specs.Statements.{stmt_tree, maybe_expr, arm_tree, body_tree, handler_tree, arms_of, handlers_of, maybe_suite};
 
 use crate::parsed::Parsed;
 use py_syntax::{BinOp, Expr, Handler, Span, Stmt, StmtKind};
@@ -195,7 +195,7 @@ pub(crate) fn tries(
     last: Option<Many<Stmt>>,
     span: Span,
 ) -> Stmt
-    ensures { stmt_tree result ≡ tree.at (tree.Try (body_tree body) (handlers_of (map handler_tree handlers)) (maybe_block (option_map body_tree last))) span }
+    ensures { stmt_tree result ≡ tree.at (tree.Try (body_tree body) (handlers_of (map handler_tree handlers)) (maybe_suite (option_map body_tree last))) span }
 {
     let kind = StmtKind::Try(body, handlers, last);
     Stmt { kind, span }

@@ -15,7 +15,7 @@ use crate::define::{class, class_defined, decorated, defined, func};
 use crate::fault::ParseError;
 use crate::place::{accept, sees_key, sees_sign};
 use crate::starts::begins_top;
-use py_grammar::{Class, Place};
+use py_grammar::{Place, Terminal};
 use py_syntax::{Key, Sign, Stmt, Token};
 use std::alloc::Global;
 use value_core::Many;
@@ -27,7 +27,7 @@ pub(crate) fn whole(alloc: Global, tokens: &[Token]) -> Result<(Many<Stmt>, Plac
 {
     let place = Place { at: 0, deep: false };
     let (body, place) = tops(alloc, tokens, place)?;
-    let (_, place) = accept(tokens, place, Class::End)?;
+    let (_, place) = accept(tokens, place, Terminal::End)?;
     Ok((body, place))
 }
 

@@ -7,7 +7,7 @@ ghost use Rattle.py_parser.specs.Parsed.{MovesUpTo};
 
 use crate::fault::ParseError;
 use crate::place::{accept, sees};
-use py_grammar::{Class, Place};
+use py_grammar::{Place, Terminal};
 use py_syntax::{Token, TokenKind};
 use std::alloc::Global;
 use value_core::{Memory, Name, Text};
@@ -61,8 +61,8 @@ pub(crate) fn texts(
 {
     let mut place = place;
     let mut text = String::from_str(alloc, text_of(first))?;
-    'texts: while sees(tokens, place, Class::Str) {
-        let (more, next) = accept(tokens, place, Class::Str)?;
+    'texts: while sees(tokens, place, Terminal::Str) {
+        let (more, next) = accept(tokens, place, Terminal::Str)?;
         text.push_str(text_of(more))?;
         place = next;
     }

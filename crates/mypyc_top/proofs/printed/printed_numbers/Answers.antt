@@ -1,14 +1,14 @@
 use Rattle.std.proofs.Common.{◌≡◌, sym, ◌∙◌, ap, subst, List, map, None}
 use Rattle.std.specs.Prelude.{IfOk, OnOk, IfErr}
 use Rattle.py_syntax.specs.declared.statement.Stmt.{Stmt}
-use Rattle.py_syntax.specs.Statements.{stmt_tree, body_tree, listed_block}
-use Rattle.py_syntax.proofs.StatementLemmas.{listed-block_of}
+use Rattle.py_syntax.specs.Statements.{stmt_tree, body_tree, listed_suite}
+use Rattle.py_syntax.proofs.StatementLemmas.{listed-suite_of}
 use Rattle.mypyc_top.specs.Source.{numbers_in, unbuilt_in}
 use Rattle.mypyc_top.specs.SourceFaults.{SaysUnbuilt}
 use Rattle.mypyc_top.proofs.printed.printed_numbers.Goals as goal
 
-same : (slice body : List Stmt) → slice ≡ body → map stmt_tree slice ≡ listed_block (body_tree body)
-same slice body is = ap (map stmt_tree) is ∙ sym (listed-block_of (map stmt_tree body))
+same : (slice body : List Stmt) → slice ≡ body → map stmt_tree slice ≡ listed_suite (body_tree body)
+same slice body is = ap (map stmt_tree) is ∙ sym (listed-suite_of (map stmt_tree body))
 
 pub returns-clause-numbers : goal.returns-clause-numbers
 returns-clause-numbers c =

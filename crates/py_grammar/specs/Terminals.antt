@@ -1,4 +1,4 @@
--- Classes of tokens, and sets of them.
+-- Terminals: what the grammar sees of a token, and sets of them.
 use Rattle.std.specs.Prelude.{ℕ, ◌+◌, ◌==◌, Bool, true, false, ◌||◌, List, [], ◌∷◌, Option, Some, None, slice_get, IsTrue}
 use Rattle.py_syntax.specs.declared.key.Key.{Key}
 use Rattle.py_syntax.specs.declared.key.Key.TheVariants as key
@@ -7,22 +7,22 @@ use Rattle.py_syntax.specs.declared.sign.Sign.TheVariants as sign
 use Rattle.py_syntax.specs.declared.token.Token.{Token}
 use Rattle.py_syntax.specs.declared.token.TokenKind.{TokenKind}
 use Rattle.py_syntax.specs.declared.token.TokenKind.TheVariants as kind
-use Rattle.py_grammar.specs.declared.class.Class.{Class}
-use Rattle.py_grammar.specs.declared.class.Class.TheVariants as class
+use Rattle.py_grammar.specs.declared.terminal.Terminal.{Terminal}
+use Rattle.py_grammar.specs.declared.terminal.Terminal.TheVariants as terminal
 
--- the class of a token of a kind
-abbrev pub class_of : TokenKind → Class
-class_of (kind.Name name) = class.Name
-class_of (kind.Int n) = class.Int
-class_of (kind.Str text) = class.Str
-class_of (kind.Key k) = class.Key k
-class_of (kind.Sign s) = class.Sign s
-class_of kind.Newline = class.Newline
-class_of kind.Indent = class.Indent
-class_of kind.Dedent = class.Dedent
-class_of kind.End = class.End
+-- the terminal of a token of a kind
+abbrev pub terminal_of : TokenKind → Terminal
+terminal_of (kind.Name name) = terminal.Name
+terminal_of (kind.Int n) = terminal.Int
+terminal_of (kind.Str text) = terminal.Str
+terminal_of (kind.Key k) = terminal.Key k
+terminal_of (kind.Sign s) = terminal.Sign s
+terminal_of kind.Newline = terminal.Newline
+terminal_of kind.Indent = terminal.Indent
+terminal_of kind.Dedent = terminal.Dedent
+terminal_of kind.End = terminal.End
 
--- a number for each keyword, each sign and each class
+-- a number for each keyword, each sign and each terminal
 abbrev pub key_code : Key → ℕ
 key_code key.False = 0
 key_code key.Nothing = 1
@@ -108,30 +108,30 @@ sign_code sign.ShrAssign = 43
 sign_code sign.ShlAssign = 44
 sign_code sign.StarStarAssign = 45
 
-abbrev pub code : Class → ℕ
-code class.Name = 0
-code class.Int = 1
-code class.Str = 2
-code class.Newline = 3
-code class.Indent = 4
-code class.Dedent = 5
-code class.End = 6
-code (class.Key k) = 10 + key_code k
-code (class.Sign s) = 50 + sign_code s
+abbrev pub code : Terminal → ℕ
+code terminal.Name = 0
+code terminal.Int = 1
+code terminal.Str = 2
+code terminal.Newline = 3
+code terminal.Indent = 4
+code terminal.Dedent = 5
+code terminal.End = 6
+code (terminal.Key k) = 10 + key_code k
+code (terminal.Sign s) = 50 + sign_code s
 
--- whether two classes are one
-abbrev pub same : Class → Class → Bool
+-- whether two terminals are one
+abbrev pub same : Terminal → Terminal → Bool
 same a b = code a == code b
 
--- whether a class is one of some
-abbrev pub among : Class → List Class → Bool
+-- whether a terminal is one of some
+abbrev pub among : Terminal → List Terminal → Bool
 among c [] = false
 among c (d ∷ ds) = same c d || among c ds
 
--- whether there is a token, of one of some classes
-abbrev pub next_in : Option Token → List Class → Bool
+-- whether there is a token, of one of some terminals
+abbrev pub next_in : Option Token → List Terminal → Bool
 next_in None cs = false
-next_in (Some t) cs = among (class_of t.kind) cs
+next_in (Some t) cs = among (terminal_of t.kind) cs
 
 -- the keywords that the grammar leaves out
 abbrev pub is_left_out_key : Key → Bool
@@ -143,14 +143,14 @@ is_left_out_key key.With = true
 is_left_out_key key.Yield = true
 is_left_out_key _ = false
 
-abbrev pub is_left_out : Class → Bool
-is_left_out (class.Key k) = is_left_out_key k
+abbrev pub is_left_out : Terminal → Bool
+is_left_out (terminal.Key k) = is_left_out_key k
 is_left_out _ = false
 
 -- whether there is a token, and it is such a keyword
 abbrev pub next_left_out : Option Token → Bool
 next_left_out None = false
-next_left_out (Some t) = is_left_out (class_of t.kind)
+next_left_out (Some t) = is_left_out (terminal_of t.kind)
 
 abbrev pub IsLeftOutAt : List Token → ℕ → Type 0
 IsLeftOutAt tokens i = IsTrue (next_left_out (slice_get tokens i))
