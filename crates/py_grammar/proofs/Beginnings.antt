@@ -40,9 +40,6 @@ pub not_true : (a : Bool) → not a ≡ true → a ≡ false
 not_true true e = cc
 not_true false e = refl
 
-pub same_refl : (c : Terminal) → same c c ≡ true
-same_refl c = eq-eqb (code c) (code c) refl
-
 -- ---- sets of terminals
 
 pub among_left : (c : Terminal) (xs bs : List Terminal) → among c xs ≡ true → among c (xs ++ bs) ≡ true
@@ -138,10 +135,6 @@ seq_begins ts a b i j k x y = record {
     steps : may_be_empty (a · b) ≡ false → (may_be_empty a ≡ true) ⊎ (may_be_empty a ≡ false) → i < k
     steps f (inr m) = omega (arith, x.solid m, y.le)
     steps f (inl m) = omega (arith, x.le, y.solid (sym (ap (λ t. t && may_be_empty b) m) ∙ f))
-
--- the first of two, where the whole shows what the first shows and may be empty
-front_part : (ts : List Token) (a r : Part) (i j k : ℕ) → Begins ts a i j → may_be_empty a ≡ false → j ≤ k → (next_in (slice_get ts i) (firsts a) ≡ true → next_in (slice_get ts i) (firsts r) ≡ true) → Begins ts r i k
-front_part ts a r i j k x m le tell = record { le = omega (arith, x.le); shows = λ lt. tell (x.shows (x.solid m)); solid = λ f. omega (arith, x.solid m) }
 
 or_false_left : (a b : Bool) → (a || b) ≡ false → a ≡ false
 or_false_left true b e = cc

@@ -6,16 +6,16 @@ use Rattle.py_syntax.specs.declared.token.Span.{Span}
 use Rattle.py_syntax.specs.declared.token.Token.{Token}
 use Rattle.py_syntax.specs.Expressions.{ExprTree}
 use Rattle.py_syntax.specs.Statements as st
-use Rattle.py_syntax.specs.Statements.{StmtTree, Suite, HandlerTree, FuncTree, ClassTree, suite_of, arms_of, handlers_of, maybe_suite}
+use Rattle.py_syntax.specs.Statements.{StmtTree, Suite, HandlerTree, FuncTree, ClassTree, suite_of, arms_of, handlers_of}
 use Rattle.py_grammar.specs.declared.terminal.Terminal.TheVariants as terminal
 use Rattle.py_grammar.specs.declared.place.Place.{Place}
 use Rattle.py_grammar.specs.Grammar as g
 use Rattle.py_grammar.specs.Grammar.{expr, tok, ◌·◌, comma, sign, key, TESTS, TARGETS, TEST, PLAIN, AUG, RETURN, RAISE, GLOBAL, ASSERT, DEL, IMPORT, FROM, DOTTED, ALIAS, SMALL, SIMPLE, STMT, IF, ARM, WHILE, FOR, TRY, EXCEPT, FINALLY, BLOCK, FUNC, PARAM, CLASS, CBLOCK, MEMBER, MARK, DECORATED, TOP, MODULE}
 use Rattle.py_grammar.specs.Actions.{stmt, name_of, seconds, joined, marks_of, def_at, class_at}
 use Rattle.py_grammar.specs.Reader.{Outcome, ◌>>=◌, accept, sees, starts, starts_expr}
-use Rattle.py_grammar.specs.Readings.{reads_sym, reads_expr, reads_many, reads_after, reads_items, reads_trees, many_into, after_into, spread, single, whole}
+use Rattle.py_grammar.specs.Readings.{reads_sym, reads_expr, reads_many, reads_items, reads_trees, many_into, spread, single, whole}
 use Rattle.py_grammar.proofs.Opening.{bind_same, if_same, sym_eq}
-use Rattle.py_grammar.proofs.Loops.{spread_single, spread_joined, many_round, many_made, after_round, items_opened, trees_opened}
+use Rattle.py_grammar.proofs.Loops.{spread_single, spread_joined, many_round, many_made, items_opened, trees_opened}
 use Rattle.py_grammar.proofs.StatementEquations.{second_part, spread_seconds}
 
 same_end : {A : Type 0} (o : Outcome A) → (o >>= λ x. Ok (x.0, x.1)) ≡ o
@@ -148,12 +148,6 @@ pub param_eq : (ts : List Token) (p : Place) → reads_sym ts PARAM p ≡ (accep
     then (accept ts (terminal.Sign s.Colon) x.1 >>= λ c. reads_expr ts TEST c.1 >>= λ y. Ok ((name_of x.0, Some y.0.tree), y.1))
     else Ok ((name_of x.0, None), x.1))
 param_eq ts p = sym_eq ts PARAM p
-
-pub params_round : (ts : List Token) (p : Place) (found : List (List ℕ × Option ExprTree)) → after_into single found (reads_after ts comma (g.sym PARAM) p) ≡ (if sees ts p (comma ∷ [])
-    then (accept ts comma p >>= λ t.
-    if sees ts t.1 (terminal.Name ∷ []) then (reads_sym ts PARAM t.1 >>= λ y. after_into single (found ++ y.0 ∷ []) (reads_after ts comma (g.sym PARAM) y.1)) else Ok ((found, true), t.1))
-    else Ok ((found, false), p))
-params_round ts p found = after_round ts comma PARAM p single found
 
 -- a function and a class of these parts, with no decorators yet
 abbrev pub func_of : List ℕ → List (List ℕ × Option ExprTree) → Option ExprTree → Suite → FuncTree

@@ -12,7 +12,7 @@ use Rattle.py_syntax.specs.declared.token.TokenKind.TheVariants as kind
 use Rattle.py_syntax.specs.Expressions as e
 use Rattle.py_syntax.specs.Expressions.{ExprTree, ExprNode, expr_then, no_exprs}
 use Rattle.py_syntax.specs.Statements as st
-use Rattle.py_syntax.specs.Statements.{StmtTree, StmtNode, Suite, suite_of}
+use Rattle.py_syntax.specs.Statements.{StmtTree, StmtNode, suite_of}
 use Rattle.py_grammar.specs.Grammar.{MODULE}
 use Rattle.py_grammar.specs.Reader.{run, reads, start}
 use Rattle.py_grammar.specs.Readings.{reads_sym}

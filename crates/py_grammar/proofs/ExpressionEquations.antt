@@ -6,22 +6,20 @@ use Rattle.py_syntax.specs.declared.expression.CmpOp.TheVariants as cmp
 use Rattle.py_syntax.specs.declared.key.Key.TheVariants as k
 use Rattle.py_syntax.specs.declared.sign.Sign.TheVariants as s
 use Rattle.py_syntax.specs.declared.expression.CmpOp.{CmpOp}
-use Rattle.py_syntax.specs.declared.token.Span.{Span}
 use Rattle.py_syntax.specs.declared.token.Token.{Token}
 use Rattle.py_syntax.specs.Expressions as e
-use Rattle.py_syntax.specs.Expressions.{ExprTree, ArgTree, exprs_of, entries_of, arguments_of}
+use Rattle.py_syntax.specs.Expressions.{ExprTree, exprs_of, entries_of, arguments_of}
 use Rattle.py_grammar.specs.declared.terminal.Terminal.TheVariants as terminal
 use Rattle.py_grammar.specs.declared.place.Place.{Place}
 use Rattle.py_grammar.specs.Levels.{Piece}
 use Rattle.py_grammar.specs.Grammar as g
 use Rattle.py_grammar.specs.Grammar.{expr, more, tok, comma, expression, TESTS, TARGETS, TEST, OR, AND, NOT, COMP, BOR, SHIFT, SUM, TERM, FACTOR, PRIMARY, ATOM, OR_MORE, AND_MORE, BOR_MORE, SHIFT_MORE, SUM_MORE, TERM_MORE, TRAILER, COMP_MORE, COMP_OP, ARG, ENTRY}
-use Rattle.py_grammar.specs.Actions.{piece, grouped_at, compared, argument, name_of, text_in, int_in, texts_of}
-use Rattle.py_grammar.specs.Reader.{◌>>=◌, accept, sees, starts, starts_expr, comparisons}
-use Rattle.py_grammar.specs.Readings.{reads_sym, reads_expr, growth, finish, reads_many, reads_after, reads_items, reads_trees, many_into, after_into, spread, single, single_tree, prefixed, negated, signed, condition}
-use Rattle.py_grammar.proofs.Beginnings.{next_left, next_right}
+use Rattle.py_grammar.specs.Actions.{piece, grouped_at, name_of, text_in, int_in, texts_of}
+use Rattle.py_grammar.specs.Reader.{◌>>=◌, accept, sees, starts_expr, comparisons}
+use Rattle.py_grammar.specs.Readings.{reads_sym, reads_expr, growth, finish, reads_many, reads_after, reads_items, reads_trees, many_into, after_into, spread, single, single_tree}
 use Rattle.py_grammar.proofs.Opening.{bind_same, if_same, sym_eq, growth_eq}
-use Rattle.py_grammar.proofs.Chains.{expr_finished, drop_finish, finish_end}
-use Rattle.py_grammar.proofs.Loops.{spread_single, many_round, many_made, after_round, items_opened, trees_opened, tuples_eq, prefixed_push}
+use Rattle.py_grammar.proofs.Chains.{expr_finished}
+use Rattle.py_grammar.proofs.Loops.{many_round, many_made, items_opened, trees_opened, tuples_eq}
 
 -- ---- what goes on with an expression
 
@@ -63,71 +61,9 @@ trailer_eq ts v p =
     (bind_same (accept ts (terminal.Sign s.LeftParen) p) _ _ (λ x. items_opened ts ARG x.1 (λ y. accept ts (terminal.Sign s.RightParen) y.1 >>= λ z. finish (piece (e.Call v.tree (arguments_of y.0)) v.begins) z.1)))
     refl)
 
--- ---- conditions and prefixes
-
-pub test_eq : (ts : List Token) (p : Place) → reads_expr ts TEST p ≡ (reads_expr ts OR p >>= λ x.
-    if sees ts x.1 (terminal.Key k.If ∷ [])
-    then (accept ts (terminal.Key k.If) x.1 >>= λ w. reads_expr ts OR w.1 >>= λ b. accept ts (terminal.Key k.Else) b.1 >>= λ z. reads_expr ts TEST z.1 >>= λ y. finish (piece (e.Cond x.0.tree b.0.tree y.0.tree) x.0.begins) y.1)
-    else Ok (x.0, x.1))
-test_eq ts p =
-    sym_eq ts (expr TEST) p
-    ∙ finish_end (reads_expr ts OR p) (λ q. sees ts q (terminal.Key k.If ∷ [])) _ (expr_finished ts OR p)
-
-pub not_eq : (ts : List Token) (p : Place) → reads_expr ts NOT p ≡ (if sees ts p (terminal.Key k.Not ∷ [])
-    then (accept ts (terminal.Key k.Not) p >>= λ x. reads_expr ts NOT x.1 >>= λ y. finish (piece (e.Not y.0.tree) x.0.span) y.1)
-    else reads_expr ts COMP p)
-not_eq ts p = sym_eq ts (expr NOT) p ∙ if_same (sees ts p (terminal.Key k.Not ∷ [])) refl (drop_finish (reads_expr ts COMP p) (expr_finished ts COMP p))
-
-pub factor_eq : (ts : List Token) (p : Place) → reads_expr ts FACTOR p ≡ (if sees ts p (terminal.Sign s.Minus ∷ terminal.Sign s.Plus ∷ [])
-    then (if sees ts p (terminal.Sign s.Minus ∷ [])
-    then (accept ts (terminal.Sign s.Minus) p >>= λ x. reads_expr ts FACTOR x.1 >>= λ y. finish (piece (e.Neg y.0.tree) x.0.span) y.1)
-    else (accept ts (terminal.Sign s.Plus) p >>= λ x. reads_expr ts FACTOR x.1 >>= λ y. finish (piece (e.Plus y.0.tree) x.0.span) y.1))
-    else reads_expr ts PRIMARY p)
-factor_eq ts p = sym_eq ts (expr FACTOR) p ∙ if_same (sees ts p (terminal.Sign s.Minus ∷ terminal.Sign s.Plus ∷ [])) refl (drop_finish (reads_expr ts PRIMARY p) (expr_finished ts PRIMARY p))
-
 -- the same in loops that collect the prefixes first
 
-pub not_push : (ts : List Token) (p : Place) (found : List Span) (x : Token × Place) → sees ts p (terminal.Key k.Not ∷ []) ≡ true → accept ts (terminal.Key k.Not) p ≡ Ok x
-    → prefixed negated found (reads_expr ts NOT p) ≡ prefixed negated (found ++ x.0.span ∷ []) (reads_expr ts NOT x.1)
-not_push ts p found x h a = ap (prefixed negated found) (not_eq ts p ∙ rw (h, a) refl) ∙ sym (prefixed_push negated found x.0.span (reads_expr ts NOT x.1))
-
-pub minus_push : (ts : List Token) (p : Place) (found : List (Bool × Span)) (x : Token × Place) → sees ts p (terminal.Sign s.Minus ∷ []) ≡ true → accept ts (terminal.Sign s.Minus) p ≡ Ok x
-    → prefixed signed found (reads_expr ts FACTOR p) ≡ prefixed signed (found ++ (true, x.0.span) ∷ []) (reads_expr ts FACTOR x.1)
-minus_push ts p found x h a =
-    ap (prefixed signed found) (factor_eq ts p ∙ rw (next_left (slice_get ts p.at) (terminal.Sign s.Minus ∷ []) (terminal.Sign s.Plus ∷ []) h, h, a) refl)
-    ∙ sym (prefixed_push signed found (true, x.0.span) (reads_expr ts FACTOR x.1))
-
-pub plus_push : (ts : List Token) (p : Place) (found : List (Bool × Span)) (x : Token × Place) → sees ts p (terminal.Sign s.Minus ∷ []) ≡ false → sees ts p (terminal.Sign s.Plus ∷ []) ≡ true → accept ts (terminal.Sign s.Plus) p ≡ Ok x
-    → prefixed signed found (reads_expr ts FACTOR p) ≡ prefixed signed (found ++ (false, x.0.span) ∷ []) (reads_expr ts FACTOR x.1)
-plus_push ts p found x n h a =
-    ap (prefixed signed found) (factor_eq ts p ∙ rw (next_right (slice_get ts p.at) (terminal.Sign s.Minus ∷ []) (terminal.Sign s.Plus ∷ []) h, n, a) refl)
-    ∙ sym (prefixed_push signed found (false, x.0.span) (reads_expr ts FACTOR x.1))
-
-pub condition_push : (ts : List Token) (p : Place) (found : List (Piece × ExprTree)) (a : Piece × Place) (w : Token × Place) (b : Piece × Place) (z : Token × Place) → reads_expr ts OR p ≡ Ok a → sees ts a.1 (terminal.Key k.If ∷ []) ≡ true → accept ts (terminal.Key k.If) a.1 ≡ Ok w → reads_expr ts OR w.1 ≡ Ok b → accept ts (terminal.Key k.Else) b.1 ≡ Ok z
-    → prefixed condition found (reads_expr ts TEST p) ≡ prefixed condition (found ++ (a.0, b.0.tree) ∷ []) (reads_expr ts TEST z.1)
-condition_push ts p found a w b z ra h rw1 rb rz =
-    ap (prefixed condition found) (test_eq ts p ∙ rw (ra, h) (rw (rw1, rb) (rw rz refl)))
-    ∙ sym (prefixed_push condition found (a.0, b.0.tree) (reads_expr ts TEST z.1))
-
 -- ---- comparisons, tuples and parts of calls
-
-pub comp_eq : (ts : List Token) (p : Place) → reads_expr ts COMP p ≡ (reads_expr ts BOR p >>= λ x. many_into single [] (reads_many ts (g.sym COMP_MORE) x.1) >>= λ y. finish (compared x.0 y.0) y.1)
-comp_eq ts p = sym_eq ts (expr COMP) p ∙ bind_same (reads_expr ts BOR p) _ _ (λ x. many_made single (λ l. l) [] (λ y. finish (compared x.0 y.0) y.1) (reads_many ts (g.sym COMP_MORE) x.1) spread_single)
-
-pub comp_more_eq : (ts : List Token) (p : Place) → reads_sym ts COMP_MORE p ≡ (reads_sym ts COMP_OP p >>= λ x. reads_expr ts BOR x.1 >>= λ y. Ok ((x.0, y.0.tree), y.1))
-comp_more_eq ts p = sym_eq ts COMP_MORE p
-
-pub comp_op_eq : (ts : List Token) (p : Place) → reads_sym ts COMP_OP p ≡
-    (if sees ts p (terminal.Sign s.Lt ∷ []) then (accept ts (terminal.Sign s.Lt) p >>= λ x. Ok (cmp.Lt, x.1))
-    else (if sees ts p (terminal.Sign s.Gt ∷ []) then (accept ts (terminal.Sign s.Gt) p >>= λ x. Ok (cmp.Gt, x.1))
-    else (if sees ts p (terminal.Sign s.EqEq ∷ []) then (accept ts (terminal.Sign s.EqEq) p >>= λ x. Ok (cmp.Eq, x.1))
-    else (if sees ts p (terminal.Sign s.Ge ∷ []) then (accept ts (terminal.Sign s.Ge) p >>= λ x. Ok (cmp.Ge, x.1))
-    else (if sees ts p (terminal.Sign s.Le ∷ []) then (accept ts (terminal.Sign s.Le) p >>= λ x. Ok (cmp.Le, x.1))
-    else (if sees ts p (terminal.Sign s.NotEq ∷ []) then (accept ts (terminal.Sign s.NotEq) p >>= λ x. Ok (cmp.Ne, x.1))
-    else (if sees ts p (terminal.Key k.In ∷ []) then (accept ts (terminal.Key k.In) p >>= λ x. Ok (cmp.Member, x.1))
-    else (if sees ts p (terminal.Key k.Not ∷ []) then (accept ts (terminal.Key k.Not) p >>= λ x. accept ts (terminal.Key k.In) x.1 >>= λ y. Ok (cmp.NotMember, y.1))
-    else (accept ts (terminal.Key k.Is) p >>= λ x. if sees ts x.1 (terminal.Key k.Not ∷ []) then (accept ts (terminal.Key k.Not) x.1 >>= λ y. Ok (cmp.IsNot, y.1)) else Ok (cmp.Is, x.1))))))))))
-comp_op_eq ts p = sym_eq ts COMP_OP p
 
 pub tests_eq : (ts : List Token) (p : Place) → reads_expr ts TESTS p ≡ (reads_expr ts TEST p >>= λ x.
     if sees ts x.1 (comma ∷ [])
@@ -140,15 +76,6 @@ pub targets_eq : (ts : List Token) (p : Place) → reads_expr ts TARGETS p ≡ (
     then (after_into single_tree (x.0.tree ∷ []) (reads_after ts comma (expression BOR) x.1) >>= λ y. finish (piece (e.TupleOf (exprs_of y.0.0)) x.0.begins) y.1)
     else Ok (x.0, x.1))
 targets_eq ts p = sym_eq ts (expr TARGETS) p ∙ tuples_eq ts BOR (reads_expr ts BOR p) (expr_finished ts BOR p)
-
-pub arg_eq : (ts : List Token) (p : Place) → reads_sym ts ARG p ≡ (reads_expr ts TEST p >>= λ x.
-    if sees ts x.1 (terminal.Sign s.Assign ∷ [])
-    then (accept ts (terminal.Sign s.Assign) x.1 >>= λ y. reads_expr ts TEST y.1 >>= λ z. Ok (argument x.0 (Some z.0.tree), z.1))
-    else Ok (argument x.0 None, x.1))
-arg_eq ts p = sym_eq ts ARG p
-
-pub entry_eq : (ts : List Token) (p : Place) → reads_sym ts ENTRY p ≡ (reads_expr ts TEST p >>= λ x. accept ts (terminal.Sign s.Colon) x.1 >>= λ y. reads_expr ts TEST y.1 >>= λ z. Ok ((x.0.tree, z.0.tree), z.1))
-entry_eq ts p = sym_eq ts ENTRY p
 
 -- ---- atoms
 
@@ -190,27 +117,3 @@ comps_round ts p found = many_round ts (g.sym COMP_MORE) p single found refl ref
 
 pub texts_round : (ts : List Token) (p : Place) (found : List ℕ) → many_into (λ t. text_in t.kind) found (reads_many ts (tok terminal.Str) p) ≡ (if sees ts p (terminal.Str ∷ []) then (accept ts terminal.Str p >>= λ x. many_into (λ t. text_in t.kind) (found ++ text_in x.0.kind) (reads_many ts (tok terminal.Str) x.1)) else Ok (found, p))
 texts_round ts p found = many_round ts (tok terminal.Str) p (λ t. text_in t.kind) found refl refl
-
-pub tests_round : (ts : List Token) (p : Place) (found : List (ExprTree)) → after_into single_tree found (reads_after ts comma (g.sym (expr TEST)) p) ≡ (if sees ts p (comma ∷ [])
-    then (accept ts comma p >>= λ t.
-    if sees ts t.1 (starts (expr TEST)) then (reads_sym ts (expr TEST) t.1 >>= λ y. after_into single_tree (found ++ y.0.tree ∷ []) (reads_after ts comma (g.sym (expr TEST)) y.1)) else Ok ((found, true), t.1))
-    else Ok ((found, false), p))
-tests_round ts p found = after_round ts comma (expr TEST) p single_tree found
-
-pub targets_round : (ts : List Token) (p : Place) (found : List (ExprTree)) → after_into single_tree found (reads_after ts comma (g.sym (expr BOR)) p) ≡ (if sees ts p (comma ∷ [])
-    then (accept ts comma p >>= λ t.
-    if sees ts t.1 (starts (expr BOR)) then (reads_sym ts (expr BOR) t.1 >>= λ y. after_into single_tree (found ++ y.0.tree ∷ []) (reads_after ts comma (g.sym (expr BOR)) y.1)) else Ok ((found, true), t.1))
-    else Ok ((found, false), p))
-targets_round ts p found = after_round ts comma (expr BOR) p single_tree found
-
-pub args_round : (ts : List Token) (p : Place) (found : List (ArgTree)) → after_into single found (reads_after ts comma (g.sym ARG) p) ≡ (if sees ts p (comma ∷ [])
-    then (accept ts comma p >>= λ t.
-    if sees ts t.1 (starts ARG) then (reads_sym ts ARG t.1 >>= λ y. after_into single (found ++ y.0 ∷ []) (reads_after ts comma (g.sym ARG) y.1)) else Ok ((found, true), t.1))
-    else Ok ((found, false), p))
-args_round ts p found = after_round ts comma ARG p single found
-
-pub entries_round : (ts : List Token) (p : Place) (found : List (ExprTree × ExprTree)) → after_into single found (reads_after ts comma (g.sym ENTRY) p) ≡ (if sees ts p (comma ∷ [])
-    then (accept ts comma p >>= λ t.
-    if sees ts t.1 (starts ENTRY) then (reads_sym ts ENTRY t.1 >>= λ y. after_into single (found ++ y.0 ∷ []) (reads_after ts comma (g.sym ENTRY) y.1)) else Ok ((found, true), t.1))
-    else Ok ((found, false), p))
-entries_round ts p found = after_round ts comma ENTRY p single found

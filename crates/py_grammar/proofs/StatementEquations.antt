@@ -5,16 +5,16 @@ use Rattle.py_syntax.specs.declared.key.Key.TheVariants as k
 use Rattle.py_syntax.specs.declared.sign.Sign.TheVariants as s
 use Rattle.py_syntax.specs.declared.token.Token.{Token}
 use Rattle.py_syntax.specs.Statements as st
-use Rattle.py_syntax.specs.Statements.{StmtTree, Suite, HandlerTree, FuncTree, ClassTree, suite_of, arms_of, handlers_of, maybe_suite}
+use Rattle.py_syntax.specs.Statements.{StmtTree}
 use Rattle.py_grammar.specs.declared.terminal.Terminal.TheVariants as terminal
 use Rattle.py_grammar.specs.declared.place.Place.{Place}
 use Rattle.py_grammar.specs.Grammar as g
 use Rattle.py_grammar.specs.Grammar.{expr, tok, ◌·◌, comma, sign, key, TESTS, TARGETS, TEST, PLAIN, AUG, RETURN, RAISE, GLOBAL, ASSERT, DEL, IMPORT, FROM, DOTTED, ALIAS, SMALL, SIMPLE, STMT, IF, ARM, WHILE, FOR, TRY, EXCEPT, FINALLY, BLOCK, FUNC, PARAM, CLASS, CBLOCK, MEMBER, MARK, DECORATED, TOP, MODULE}
-use Rattle.py_grammar.specs.Actions.{stmt, name_of, names_on, dotted_on, seconds}
+use Rattle.py_grammar.specs.Actions.{stmt, name_of, seconds}
 use Rattle.py_grammar.specs.Reader.{Outcome, ◌>>=◌, accept, sees, starts, starts_expr, augs}
 use Rattle.py_grammar.specs.Readings.{reads_sym, reads_expr, reads_many, reads_after, many_into, after_into, spread, single}
 use Rattle.py_grammar.proofs.Opening.{bind_same, if_same, sym_eq}
-use Rattle.py_grammar.proofs.Loops.{spread_single, many_round, many_made, after_round}
+use Rattle.py_grammar.proofs.Loops.{spread_single, many_round, after_round}
 
 -- ---- simple statements
 
@@ -80,39 +80,14 @@ name_part x = name_of x.1 ∷ []
 abbrev pub second_part : {A B : Type 0} → A × B → List B
 second_part x = x.1 ∷ []
 
-pub spread_dotted : (vs : List (Token × Token)) → spread dotted_part vs ≡ dotted_on vs
-spread_dotted [] = refl
-spread_dotted (v ∷ vs) = ap (λ l. 46 ∷ (name_of v.1 ++ l)) (spread_dotted vs)
-
-pub spread_names : (vs : List (Token × Token)) → spread name_part vs ≡ names_on vs
-spread_names [] = refl
-spread_names (v ∷ vs) = ap (λ l. name_of v.1 ∷ l) (spread_names vs)
-
 pub spread_seconds : {A B : Type 0} (vs : List (A × B)) → spread second_part vs ≡ seconds vs
 spread_seconds [] = refl
 spread_seconds (v ∷ vs) = ap (λ l. v.1 ∷ l) (spread_seconds vs)
-
-pub dotted_eq : (ts : List Token) (p : Place) → reads_sym ts DOTTED p ≡ (accept ts terminal.Name p >>= λ x. many_into dotted_part (name_of x.0) (reads_many ts (sign s.Dot · tok terminal.Name) x.1))
-dotted_eq ts p =
-    sym_eq ts DOTTED p
-    ∙ bind_same (accept ts terminal.Name p) _ _ (λ x. many_into_of (many_made dotted_part dotted_on (name_of x.0) (λ y. Ok (y.0, y.1)) (reads_many ts (sign s.Dot · tok terminal.Name) x.1) spread_dotted))
-  where
-    same_end : {A : Type 0} (o : Outcome A) → (o >>= λ y. Ok (y.0, y.1)) ≡ o
-    same_end (Ok y) = refl
-    same_end (Err e) = refl
-
-    many_into_of : {A : Type 0} {o q : Outcome A} → o ≡ (q >>= λ y. Ok (y.0, y.1)) → o ≡ q
-    many_into_of {q = q} h = h ∙ same_end q
 
 pub dotted_round : (ts : List Token) (p : Place) (found : List ℕ) → many_into dotted_part found (reads_many ts (sign s.Dot · tok terminal.Name) p) ≡ (if sees ts p (terminal.Sign s.Dot ∷ [])
     then (accept ts (terminal.Sign s.Dot) p >>= λ d. accept ts terminal.Name d.1 >>= λ n. many_into dotted_part (found ++ 46 ∷ name_of n.0) (reads_many ts (sign s.Dot · tok terminal.Name) n.1))
     else Ok (found, p))
 dotted_round ts p found = many_round ts (sign s.Dot · tok terminal.Name) p dotted_part found refl refl
-
-pub global_eq : (ts : List Token) (p : Place) → reads_sym ts GLOBAL p ≡ (accept ts (terminal.Key k.Global) p >>= λ x. accept ts terminal.Name x.1 >>= λ n. many_into name_part (name_of n.0 ∷ []) (reads_many ts (tok comma · tok terminal.Name) n.1) >>= λ y. Ok (stmt (st.Global y.0) x.0, y.1))
-global_eq ts p =
-    sym_eq ts GLOBAL p
-    ∙ bind_same (accept ts (terminal.Key k.Global) p) _ _ (λ x. bind_same (accept ts terminal.Name x.1) _ _ (λ n. many_made name_part names_on (name_of n.0 ∷ []) (λ y. Ok (stmt (st.Global y.0) x.0, y.1)) (reads_many ts (tok comma · tok terminal.Name) n.1) spread_names))
 
 pub names_round : (ts : List Token) (p : Place) (found : List (List ℕ)) → many_into name_part found (reads_many ts (tok comma · tok terminal.Name) p) ≡ (if sees ts p (comma ∷ [])
     then (accept ts comma p >>= λ d. accept ts terminal.Name d.1 >>= λ n. many_into name_part (found ++ name_of n.0 ∷ []) (reads_many ts (tok comma · tok terminal.Name) n.1))
@@ -122,17 +97,6 @@ names_round ts p found = many_round ts (tok comma · tok terminal.Name) p name_p
 aliases_behind : {A B : Type 0} (v : A) (o : Outcome (List A × Bool)) (h : List A × Place → Outcome B) → (o >>= λ z. h (v ∷ z.0.0, z.1)) ≡ (after_into single (v ∷ []) o >>= λ z. h (z.0.0, z.1))
 aliases_behind v (Ok y) h = ap (λ l. h (v ∷ l, y.1)) (sym (spread_single y.0.0))
 aliases_behind v (Err e) h = refl
-
-pub from_eq : (ts : List Token) (p : Place) → reads_sym ts FROM p ≡ (accept ts (terminal.Key k.From) p >>= λ x. reads_sym ts DOTTED x.1 >>= λ m. accept ts (terminal.Key k.Import) m.1 >>= λ i.
-    if sees ts i.1 (terminal.Name ∷ [])
-    then (reads_sym ts ALIAS i.1 >>= λ n. many_into second_part (n.0 ∷ []) (reads_many ts (tok comma · g.sym ALIAS) n.1) >>= λ y. Ok (stmt (st.From m.0 y.0) x.0, y.1))
-    else (accept ts (terminal.Sign s.LeftParen) i.1 >>= λ b. reads_sym ts ALIAS b.1 >>= λ n. after_into single (n.0 ∷ []) (reads_after ts comma (g.sym ALIAS) n.1) >>= λ y. accept ts (terminal.Sign s.RightParen) y.1 >>= λ z. Ok (stmt (st.From m.0 y.0.0) x.0, z.1)))
-from_eq ts p =
-    sym_eq ts FROM p
-    ∙ bind_same (accept ts (terminal.Key k.From) p) _ _ (λ x. bind_same (reads_sym ts DOTTED x.1) _ _ (λ m. bind_same (accept ts (terminal.Key k.Import) m.1) _ _ (λ i.
-    if_same (sees ts i.1 (terminal.Name ∷ []))
-    (bind_same (reads_sym ts ALIAS i.1) _ _ (λ n. many_made second_part seconds (n.0 ∷ []) (λ y. Ok (stmt (st.From m.0 y.0) x.0, y.1)) (reads_many ts (tok comma · g.sym ALIAS) n.1) spread_seconds))
-    (bind_same (accept ts (terminal.Sign s.LeftParen) i.1) _ _ (λ b. bind_same (reads_sym ts ALIAS b.1) _ _ (λ n. aliases_behind n.0 (reads_after ts comma (g.sym ALIAS) n.1) (λ y. accept ts (terminal.Sign s.RightParen) y.1 >>= λ z. Ok (stmt (st.From m.0 y.0) x.0, z.1))))))))
 
 pub aliases_round : (ts : List Token) (p : Place) (found : List (List ℕ × Option (List ℕ))) → many_into second_part found (reads_many ts (tok comma · g.sym ALIAS) p) ≡ (if sees ts p (comma ∷ [])
     then (accept ts comma p >>= λ d. reads_sym ts ALIAS d.1 >>= λ n. many_into second_part (found ++ n.0 ∷ []) (reads_many ts (tok comma · g.sym ALIAS) n.1))

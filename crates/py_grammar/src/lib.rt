@@ -18,6 +18,3 @@ pub use laws::{
 };
 pub use place::Place;
 pub use terminal::Terminal;
-
-#[cfg(test)]
-mod tests;

@@ -139,10 +139,10 @@ abbrev mutual
 -- ---- what is listed
 
 -- the place of a node: that of its first token
-abbrev pub place_of : SyntaxNode → Span
-place_of (statement (s.at node span)) = span
-place_of (handler h) = h.span
-place_of (expression (e.at node span)) = span
+abbrev pub node_place : SyntaxNode → Span
+node_place (statement (s.at node span)) = span
+node_place (handler h) = h.span
+node_place (expression (e.at node span)) = span
 
 abbrev pub as_statement : SyntaxNode → Option StmtTree
 as_statement (statement stmt) = Some stmt
