@@ -45,7 +45,7 @@ IsWritten _ = Unit {0}
 abbrev pub GapLess : List Placed → Option (Gap × List Placed) → Type 0
 GapLess cs o = IfSome o (λ x. IsLess cs x.1)
 
-abbrev PartLeaves : List Placed → Read (List ℕ) → Type 0
+abbrev pub PartLeaves : List Placed → Read (List ℕ) → Type 0
 PartLeaves cs r = IfOk r (λ x. IsRest cs x.1)
 
 abbrev pub TokenLess : List Placed → Read TokenKind → Type 0
@@ -111,7 +111,7 @@ escape_cases false false true unknown line cs = hex_leaves _ cs (hex_len (charac
 escape_cases false false false true line cs = tt
 escape_cases false false false false line cs = letter_leaves cs (simple_escape (character_at 0 cs))
 
-escape_leaves : (line : ℕ) (cs : List Placed) → PartLeaves cs (escape line cs)
+pub escape_leaves : (line : ℕ) (cs : List Placed) → PartLeaves cs (escape line cs)
 unfolding escape
 escape_leaves line cs =
     let c = character_at 0 cs in
