@@ -3,6 +3,7 @@ pub mod DigitLemmas
 pub mod EscapeSpelled
 pub mod GapLemmas
 pub mod IndentLemmas
+pub mod LexemeSpelled
 pub mod LineLemmas
 pub mod NumberLemmas
 pub mod NumberSpelled

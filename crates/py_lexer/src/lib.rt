@@ -50,7 +50,7 @@ pub fn tokens(alloc: Global, text: &str) -> Result<Tokens, LexError>
 }
 
 /// A law of the definition: cutting a text into pieces loses nothing and moves nothing. The call does nothing.
-#[tactic(auto, using(crate::proofs::PieceLemmas::side_by_side, crate::proofs::SignSpelled::sign_spelled, crate::proofs::WordSpelled::word_spelled, crate::proofs::NumberSpelled::number_spelled, crate::proofs::StringSpelled::string_spelled))]
+#[tactic(auto, using(crate::proofs::PieceLemmas::side_by_side))]
 pub fn pieces_lie_side_by_side()
     ensures { (text : List ℕ) → AreSideBySide start text (pieces_of text) }
 {}
