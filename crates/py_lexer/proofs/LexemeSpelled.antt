@@ -20,18 +20,17 @@ use Rattle.py_lexer.proofs.WordSpelled.{word_spelled}
 use Rattle.py_lexer.proofs.NumberSpelled.{number_spelled}
 use Rattle.py_lexer.proofs.StringSpelled.{string_spelled}
 
-lexeme_cases : (is_number is_string is_word : Bool) (cs : List Placed) → (is_string ≡ true → IfOk (string_at cs) (λ x. Spelled cs x.0 x.1)) → (is_word ≡ true → IfOk (word cs) (λ x. Spelled cs x.0 x.1)) →
+lexeme_cases : (is_number is_string is_word : Bool) (cs : List Placed) → begins_number cs ≡ is_number → begins_string cs ≡ is_string → begins_name (character_at 0 cs) ≡ is_word →
     IfOk (if is_number then number cs else (if is_string then string_at cs else (if is_word then word cs else sign_at cs))) (λ x. Spelled cs x.0 x.1)
-lexeme_cases true is_string is_word cs string name = number_spelled cs
-lexeme_cases false true is_word cs string name = string refl
-lexeme_cases false false true cs string name = name refl
-lexeme_cases false false false cs string name = sign_spelled cs
+lexeme_cases true is_string is_word cs a b c = number_spelled cs
+lexeme_cases false true is_word cs a b c = string_spelled cs b
+lexeme_cases false false true cs a b c = word_spelled cs b c
+lexeme_cases false false false cs a b c = sign_spelled cs a
 
 -- the characters that a token is read from spell it
 pub lexeme_spelled : (cs : List Placed) → IfOk (lexeme cs) (λ x. Spelled cs x.0 x.1)
 unfolding lexeme
-lexeme_spelled cs =
-    lexeme_cases (begins_number cs) (begins_string cs) (begins_name (character_at 0 cs)) cs (string_spelled cs) (word_spelled cs)
+lexeme_spelled cs = lexeme_cases (begins_number cs) (begins_string cs) (begins_name (character_at 0 cs)) cs refl refl refl
 
 -- the same of a gap
 pub record SpelledGap (cs : List Placed) (g : Gap) (rest : List Placed) : Type 0 where

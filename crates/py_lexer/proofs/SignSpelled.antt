@@ -1,6 +1,7 @@
 -- Signs: the longest that fits is read.
-use Rattle.std.proofs.Common.{◌≡◌, ◌≢◌, ℕ, ◌+◌, ◌<◌, ◌≤◌, Bool, true, false, List, [], ◌∷◌, ◌++◌, length, take, drop, Option, Some, None, Ok, Err, refl, ap, sym, subst, ◌∙◌, arith, min, nat_le}
+use Rattle.std.proofs.Common.{◌≡◌, ◌≢◌, ℕ, zero, suc, codes, eq-eqb, ◌+◌, ◌<◌, ◌≤◌, Bool, true, false, List, [], ◌∷◌, ◌++◌, length, take, drop, Option, Some, None, Ok, Err, refl, ap, sym, subst, ◌∙◌, arith, min, nat_le}
 use Rattle.std.specs.Prelude.{IfOk}
+use Rattle.std.specs.Char.{is_ascii_digit}
 use Rattle.std.specs.Io.{StartsWith}
 use Rattle.std.specs.Str.{bytes_eq}
 use Rattle.std.proofs.lemmas.List.{length-map, length-take}
@@ -16,7 +17,9 @@ use Rattle.py_lexer.specs.declared.placed.Placed.{Placed}
 use Rattle.py_lexer.specs.Places.{characters}
 use Rattle.py_lexer.specs.Reading.{Read}
 use Rattle.py_lexer.specs.Signs.{sign_at, sign_in, or_else}
-use Rattle.py_lexer.proofs.Spelled.{Spelled, front_split, found_passes}
+use Rattle.py_lexer.specs.Numbers.{begins_number}
+use Rattle.py_lexer.specs.Digits.{NextIsNot}
+use Rattle.py_lexer.proofs.Spelled.{Spelled, front_split, found_passes, second_or}
 
 -- each sign is found by its text
 sign_found : (s : Sign) → sign_of (sign_text s) ≡ Some s
@@ -142,24 +145,37 @@ fits_within cs other fits =
     let g = length-map cs (λ (c : Placed). c.character) in
     omega arith
 
-sign_here : (n : ℕ) (cs : List Placed) (s : Sign) → sign_in n cs ≡ Some s → IsLongest n cs → Spelled cs (token.Sign s) (drop n cs)
-sign_here n cs s found longest = record {
+-- a dot alone, where no number begins
+no_fraction : (n : ℕ) (cs : List Placed) → begins_number cs ≡ false → characters (take n cs) ≡ codes "." → NextIsNot (λ c. is_ascii_digit c ≡ true) (characters (drop n cs))
+no_fraction zero cs none is = cc
+no_fraction (suc n) [] none is = cc
+no_fraction (suc zero) (c ∷ []) none is = tt
+no_fraction (suc (suc n)) (c ∷ []) none is = tt
+no_fraction (suc zero) (c ∷ d ∷ cs) none is = λ digit.
+  let dot : c.character ≡ 46 = cc in
+  let begins : begins_number (c ∷ d ∷ cs) ≡ true = second_or (is_ascii_digit c.character) _ (rw (eq-eqb c.character 46 dot) digit) in
+  let e : true ≡ false = sym begins ∙ none in cc
+no_fraction (suc (suc n)) (c ∷ d ∷ cs) none is = cc
+
+sign_here : (n : ℕ) (cs : List Placed) (s : Sign) → begins_number cs ≡ false → sign_in n cs ≡ Some s → IsLongest n cs → Spelled cs (token.Sign s) (drop n cs)
+sign_here n cs s none found longest = record {
   text = characters (take n cs);
   split = front_split n cs;
-  spells = (
-    written_so (characters (take n cs)) s found,
-    λ other fits.
+  spells = record {
+    value = written_so (characters (take n cs)) s found;
+    longest = λ other fits.
       let here : StartsWith (characters cs) (sign_text other) = subst (λ l. StartsWith l (sign_text other)) (sym (front_split n cs)) fits in
       let a = longest other here in
       let b = fits_within cs other here in
       let c = front_length n cs in
-      omega arith,
-  );
+      omega arith;
+    no_fraction = no_fraction n cs none;
+  };
 }
 
-sign_next : (n : ℕ) (cs : List Placed) (o : Option Sign) (other : Read TokenKind) → sign_in n cs ≡ o → IsLongest n cs → (o ≡ None → IfOk other (λ x. Spelled cs x.0 x.1)) → IfOk (or_else o n cs other) (λ x. Spelled cs x.0 x.1)
-sign_next n cs (Some s) other is longest next = sign_here n cs s is longest
-sign_next n cs None other is longest next = next refl
+sign_next : (n : ℕ) (cs : List Placed) (o : Option Sign) (other : Read TokenKind) → begins_number cs ≡ false → sign_in n cs ≡ o → IsLongest n cs → (o ≡ None → IfOk other (λ x. Spelled cs x.0 x.1)) → IfOk (or_else o n cs other) (λ x. Spelled cs x.0 x.1)
+sign_next n cs (Some s) other none is longest next = sign_here n cs s none is longest
+sign_next n cs None other none is longest next = next refl
 
 shorter_longest : (n m : ℕ) (cs : List Placed) → n ≡ m + 1 → sign_in n cs ≡ None → IsLongest n cs → IsLongest m cs
 shorter_longest n m cs is none longest other fits =
@@ -167,12 +183,12 @@ shorter_longest n m cs is none longest other fits =
     let b : length (sign_text other) ≢ n = none_fits n cs other none fits in
     omega arith
 
-pub sign_spelled : (cs : List Placed) → IfOk (sign_at cs) (λ x. Spelled cs x.0 x.1)
+pub sign_spelled : (cs : List Placed) → begins_number cs ≡ false → IfOk (sign_at cs) (λ x. Spelled cs x.0 x.1)
 unfolding sign_at
-sign_spelled cs =
+sign_spelled cs none =
     let three : IsLongest 3 cs = λ other fits. leb-true (length (sign_text other)) 3 (sign_short other) in
-    sign_next 3 cs (sign_in 3 cs) _ refl three
+    sign_next 3 cs (sign_in 3 cs) _ none refl three
     (λ none3.
       let two = shorter_longest 3 2 cs refl none3 three in
-      sign_next 2 cs (sign_in 2 cs) _ refl two
-      (λ none2. sign_next 1 cs (sign_in 1 cs) _ refl (shorter_longest 2 1 cs refl none2 two) (λ none1. tt)))
+      sign_next 2 cs (sign_in 2 cs) _ none refl two
+      (λ none2. sign_next 1 cs (sign_in 1 cs) _ none refl (shorter_longest 2 1 cs refl none2 two) (λ none1. tt)))

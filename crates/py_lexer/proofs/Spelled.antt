@@ -39,3 +39,7 @@ first_true false b h = h
 pub second_true : (a b : Bool) → (a && b) ≡ true → b ≡ true
 second_true true b h = h
 second_true false b h = cc
+
+pub second_or : (a b : Bool) → b ≡ true → (a || b) ≡ true
+second_or true b h = refl
+second_or false b h = h

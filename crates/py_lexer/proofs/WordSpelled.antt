@@ -1,7 +1,8 @@
 -- Keywords and names.
-use Rattle.std.proofs.Common.{◌≡◌, ◌≢◌, ℕ, zero, suc, ◌+◌, ◌<◌, ◌≤◌, Bool, true, false, cond, List, [], ◌∷◌, ◌++◌, length, take, drop, Option, Some, None, Ok, Err, refl, ap, sym, subst, ◌∙◌, arith, ◌⊎◌, inl, inr, encode_utf8_all, eqb-true, one-add}
+use Rattle.std.proofs.Common.{◌≡◌, ◌≢◌, ℕ, zero, suc, ◌+◌, ◌<◌, ◌≤◌, Bool, true, false, cond, List, [], ◌∷◌, ◌++◌, length, take, drop, Option, Some, None, Ok, Err, refl, ap, sym, subst, ◌∙◌, arith, ◌⊎◌, inl, inr, encode_utf8_all, eqb-true, eq-eqb, one-add, is_some, slice_index_or}
 use Rattle.std.specs.Prelude.{IfOk, if◌then◌else◌, ◌==◌, ◌||◌, ◌&&◌}
-use Rattle.std.specs.List.{AllByRecursion, list_all, prefix_len}
+use Rattle.std.specs.List.{AllByRecursion, list_all, prefix_len, Contains}
+use Rattle.std.proofs.lemmas.List.Sums.{AllPass-from_list_all}
 use Rattle.std.specs.Str.{bytes_eq, byte}
 use Rattle.std.proofs.lemmas.Slice.Eq.{bytes_eq-Decides}
 use Rattle.unicode_ident.specs.Ident.{is_xid_start, is_xid_continue}
@@ -16,8 +17,10 @@ use Rattle.py_lexer.specs.declared.placed.Placed.{Placed}
 use Rattle.py_lexer.specs.Places.{characters, character_at, line_of}
 use Rattle.py_lexer.specs.Reading.{Fault, Read, ◌>>=◌}
 use Rattle.py_lexer.specs.Words.{word, word_at, word_len, past_word, begins_name, is_identifier, keyword_or_name, name_or_fault}
-use Rattle.py_lexer.specs.Spelling.{EndsWord, IsIdentifier}
-use Rattle.py_lexer.proofs.Spelled.{Spelled, front_split, found_passes, one_true, first_true, second_true}
+use Rattle.py_lexer.specs.Strings.{is_quote, prefix_of, begins_string}
+use Rattle.py_lexer.specs.Digits.{NextIsNot}
+use Rattle.py_lexer.specs.Spelling.{EndsWord, IsIdentifier, IsQuote, all_prefixes}
+use Rattle.py_lexer.proofs.Spelled.{Spelled, front_split, found_passes, one_true, first_true, second_true, second_or}
 use Rattle.py_lexer.proofs.WordLemmas.{continues, no_nul}
 
 key_found : (k : Key) → key_of (key_text k) ≡ Some k
@@ -102,8 +105,29 @@ identifier : (cs : List ℕ) → is_identifier cs ≡ true → IsIdentifier cs
 identifier [] h = cc
 identifier (c ∷ cs) h = (begins c (first_true _ _ h), all_continue cs (second_true (begins_name c) _ h))
 
-name_case : (b : Bool) (cs : List Placed) (f : Fault) → is_identifier (nfkc (word_at cs)) ≡ b → IsIdentifier (word_at cs) → ((k : Key) → word_at cs ≢ key_text k) → IfOk {T = TokenKind × List Placed} ((if b then Ok (token.Name (encode_utf8_all (nfkc (word_at cs)))) else Err f) >>= λ k. Ok (k, past_word cs)) (λ x. Spelled cs x.0 x.1)
-name_case true cs f is name none = record {
+-- a word before quotes, which is no prefix of theirs
+prefixes_found : list_all (λ text. is_some (prefix_of text)) all_prefixes ≡ true
+prefixes_found = refl
+
+quote_test : (c : ℕ) → IsQuote c → is_quote c ≡ true
+quote_test c (inl a) = second_or (c == byte "\"") _ (eq-eqb c 39 a)
+quote_test c (inr b) = ap (λ x. x || (c == byte "'")) (eq-eqb c 34 b)
+
+behind_word : (cs behind : List Placed) (b : Bool) → (is_quote (character_at 0 behind) && b) ≡ false → b ≡ true → NextIsNot IsQuote (characters behind)
+behind_word cs [] b none h = tt
+behind_word cs (c ∷ behind) b none h = λ q.
+  let both : (is_quote c.character && b) ≡ true = rw (quote_test c.character q) h in
+  let e : true ≡ false = sym both ∙ none in cc
+
+all_at : (p : List ℕ → Bool) (xs : List (List ℕ)) (k : ℕ) (d : List ℕ) → k < length xs → list_all p xs ≡ true → p (slice_index_or xs k d) ≡ true
+all_at p xs k d lt all = AllPass-from_list_all p xs all k d lt
+
+no_prefix : (cs : List Placed) → begins_string cs ≡ false → Contains all_prefixes (word_at cs) → NextIsNot IsQuote (characters (past_word cs))
+no_prefix cs none h = behind_word cs (past_word cs) (is_some (prefix_of (word_at cs))) none
+  (subst (λ text. is_some (prefix_of text) ≡ true) h.2 (all_at (λ text. is_some (prefix_of text)) all_prefixes h.0 (word_at cs) h.1 prefixes_found))
+
+name_case : (b : Bool) (cs : List Placed) (f : Fault) → is_identifier (nfkc (word_at cs)) ≡ b → IsIdentifier (word_at cs) → ((k : Key) → word_at cs ≢ key_text k) → begins_string cs ≡ false → IfOk {T = TokenKind × List Placed} ((if b then Ok (token.Name (encode_utf8_all (nfkc (word_at cs)))) else Err f) >>= λ k. Ok (k, past_word cs)) (λ x. Spelled cs x.0 x.1)
+name_case true cs f is name none no_string = record {
   text = word_at cs;
   split = front_split (word_len cs) cs;
   spells = record {
@@ -111,19 +135,20 @@ name_case true cs f is name none = record {
     is_identifier = name;
     is_normal = identifier (nfkc (word_at cs)) is;
     no_key = none;
+    no_prefix = no_prefix cs no_string;
     ends = (word_cut cs).1;
   };
 }
-name_case false cs f is name none = tt
+name_case false cs f is name none no_string = tt
 
-key_case : (o : Option Key) (cs : List Placed) (f : Fault) → key_of (word_at cs) ≡ o → IsIdentifier (word_at cs) → IfOk {T = TokenKind × List Placed} (keyword_or_name o (word_at cs) f >>= λ k. Ok (k, past_word cs)) (λ x. Spelled cs x.0 x.1)
-key_case (Some k) cs f is name = record {
+key_case : (o : Option Key) (cs : List Placed) (f : Fault) → key_of (word_at cs) ≡ o → IsIdentifier (word_at cs) → begins_string cs ≡ false → IfOk {T = TokenKind × List Placed} (keyword_or_name o (word_at cs) f >>= λ k. Ok (k, past_word cs)) (λ x. Spelled cs x.0 x.1)
+key_case (Some k) cs f is name no_string = record {
   text = word_at cs;
   split = front_split (word_len cs) cs;
   spells = (key_written (word_at cs) k is, (word_cut cs).1);
 }
-key_case None cs f is name = name_case (is_identifier (nfkc (word_at cs))) cs f refl name (no_key (word_at cs) is)
+key_case None cs f is name no_string = name_case (is_identifier (nfkc (word_at cs))) cs f refl name (no_key (word_at cs) is) no_string
 
-pub word_spelled : (cs : List Placed) → begins_name (character_at 0 cs) ≡ true → IfOk (word cs) (λ x. Spelled cs x.0 x.1)
+pub word_spelled : (cs : List Placed) → begins_string cs ≡ false → begins_name (character_at 0 cs) ≡ true → IfOk (word cs) (λ x. Spelled cs x.0 x.1)
 unfolding word
-word_spelled cs h = key_case (key_of (word_at cs)) cs _ refl (word_identifier cs h)
+word_spelled cs no_string h = key_case (key_of (word_at cs)) cs _ refl (word_identifier cs h) no_string

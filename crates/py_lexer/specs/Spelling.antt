@@ -2,7 +2,8 @@
 -- keywords, of bases and of escapes, and the grammar of a number and of a string. It says nothing of how a text is read. It is what the
 -- definition of a text's tokens is measured by.
 use Rattle.std.specs.Prelude.{◌≡◌, ◌≢◌, ◌⊎◌, ◌<◌, ◌≤◌, ◌^◌, ℕ, ℤ, pos, Bool, true, false, List, [], ◌∷◌, ◌++◌, length, replicate, codes, Some, slice_get, encode_utf8_all}
-use Rattle.std.specs.List.{AllByRecursion}
+use Rattle.std.specs.Char.{is_ascii_digit}
+use Rattle.std.specs.List.{AllByRecursion, Contains}
 use Rattle.std.specs.Io.{StartsWith}
 use Rattle.std.specs.Str.{byte}
 use Rattle.unicode_ident.specs.Ident.{is_xid_start, is_xid_continue}
@@ -23,10 +24,11 @@ use Rattle.py_lexer.specs.Escapes.{AreElements, Element, written, stands_for}
 abbrev pub EndsWord : List ℕ → Type 0
 EndsWord = NextIsNot (λ c. is_xid_continue c ≡ true)
 
--- a sign's text spells it, and no sign that fits there is longer
-abbrev pub IsSign : Sign → List ℕ → List ℕ → Type 0
-IsSign s text rest =
-    (text ≡ sign_text s) × ((other : Sign) → StartsWith (text ++ rest) (sign_text other) → length (sign_text other) ≤ length text)
+-- A sign's text spells it, and no sign that fits there is longer. A dot before a digit is none.
+pub record IsSign (sign : Sign) (text rest : List ℕ) : Type 0 where
+  pub value : text ≡ sign_text sign
+  pub longest : (other : Sign) → StartsWith (text ++ rest) (sign_text other) → length (sign_text other) ≤ length text
+  pub no_fraction : text ≡ codes "." → NextIsNot (λ c. is_ascii_digit c ≡ true) rest
 
 -- a keyword's text spells it, as it is written, and the word ends there
 abbrev pub IsKey : Key → List ℕ → List ℕ → Type 0
@@ -37,13 +39,24 @@ abbrev pub IsIdentifier : List ℕ → Type 0
 IsIdentifier [] = ⊥
 IsIdentifier (c ∷ cs) = ((c ≡ byte "_") ⊎ (is_xid_start c ≡ true)) × AllByRecursion (λ d. is_xid_continue d ≡ true) cs
 
--- A name is the normal form NFKC of its text, in UTF-8. Its text and its normal form are identifiers, its text is no keyword, and the
--- word ends there.
+-- what may stand before the quotes of a string, in either case of its letters
+abbrev pub all_prefixes : List (List ℕ)
+all_prefixes =
+    codes "u" ∷ codes "U" ∷ codes "r" ∷ codes "R" ∷ codes "b" ∷ codes "B" ∷ codes "f" ∷ codes "F"
+    ∷ codes "br" ∷ codes "bR" ∷ codes "Br" ∷ codes "BR" ∷ codes "rb" ∷ codes "rB" ∷ codes "Rb" ∷ codes "RB"
+    ∷ codes "fr" ∷ codes "fR" ∷ codes "Fr" ∷ codes "FR" ∷ codes "rf" ∷ codes "rF" ∷ codes "Rf" ∷ codes "RF" ∷ []
+
+abbrev pub IsQuote : ℕ → Type 0
+IsQuote c = (c ≡ byte "'") ⊎ (c ≡ byte "\"")
+
+-- A name is the normal form NFKC of its text, in UTF-8. Its text and its normal form are identifiers, its text is no keyword and no prefix
+-- of quotes that follow, and the word ends there.
 pub record IsName (name text rest : List ℕ) : Type 0 where
   pub value : name ≡ encode_utf8_all (nfkc text)
   pub is_identifier : IsIdentifier text
   pub is_normal : IsIdentifier (nfkc text)
   pub no_key : (k : Key) → text ≢ key_text k
+  pub no_prefix : Contains all_prefixes text → NextIsNot IsQuote rest
   pub ends : EndsWord rest
 
 -- the letters that name a base behind a 0
@@ -97,7 +110,7 @@ pub record IsString (string text rest : List ℕ) : Type 0 where
   pub count : ℕ
   pub elements : List Element
   pub is_prefix : (k : ℕ) × (slice_get string_prefixes k ≡ Some (prefix, is_raw))
-  pub is_quote : (quote ≡ byte "'") ⊎ (quote ≡ byte "\"")
+  pub is_quote : IsQuote quote
   pub split : text ≡ prefix ++ (replicate count quote ++ (written elements ++ replicate count quote))
   pub one_or_three : ((count ≡ 1) × ¬ StartsWith (replicate 1 quote ++ (written elements ++ (replicate 1 quote ++ rest))) (replicate 3 quote)) ⊎ (count ≡ 3)
   pub are_elements : AreElements is_raw (replicate count quote) elements rest
