@@ -10,12 +10,12 @@ use lib.Utf8.{scalar, scalar_cases}
 use Rattle.py_lexer.specs.declared.fault.LexKind.TheVariants.{BadString, Unended}
 use Rattle.py_lexer.specs.declared.placed.Placed.{Placed}
 use Rattle.py_lexer.specs.declared.string.Style.{Style}
-use Rattle.py_lexer.specs.Places.{characters, character_at, line_of, line_feed}
+use Rattle.py_lexer.specs.Places.{characters, character_at, line_of, line_feed_character}
 use Rattle.py_lexer.specs.Reading.{Fault, Read}
 use Rattle.py_lexer.specs.Strings.{backslash, is_quote, simple_escape, if_scalar, character_named, named_or_fault, hex_len, hex_escape, octal_len, octal_escape, escape_or_both, escape, element, quote_len}
 use Rattle.py_lexer.specs.Digits.{IsDigit, AreDigits, place_value, NextIsNot}
 use Rattle.py_lexer.specs.Escapes.{simple_escapes, hex_letters, escape_signs, IsScalar, IsEscape, Joins, Simple, Octal, Hex, Stays, IsElement, Plain, Kept, Escaped}
-use Rattle.py_lexer.proofs.Spelled.{front_split, one_true, first_true, second_true}
+use Rattle.py_lexer.proofs.Spelled.{front_split, one_true, first_true, second_true, row_of}
 use Rattle.py_lexer.proofs.DigitLemmas.{are_digits, digit_back, value_is}
 
 -- what was read of a string is a part of it with its meaning
@@ -88,8 +88,8 @@ octal_of n cs (Some c) f h is =
       text = characters (take n cs);
       split = front_split n cs;
       is = Octal ds named.are (subst (λ m. 1 ≤ m) (sym count) h.some)
-      (subst (λ m. (m ≡ 3) ⊎ ((m < 3) × NextIsNot (λ c. (d : ℕ) × IsDigit 8 c d) (characters (drop n cs)))) (sym count) h.longest)
-      (ap (λ x. x ∷ []) named.value) named.is_scalar;
+          (subst (λ m. (m ≡ 3) ⊎ ((m < 3) × NextIsNot (λ c. (d : ℕ) × IsDigit 8 c d) (characters (drop n cs)))) (sym count) h.longest)
+          (ap (λ x. x ∷ []) named.value) named.is_scalar;
     }
 
 -- hexadecimal digits
@@ -114,7 +114,7 @@ hex_named a cs n (Some c) f letter within is =
     record {
       text = a.character ∷ characters (take n cs);
       split = ap (λ l. a.character ∷ l) (front_split n cs);
-      is = Hex a.character letter.0 (characters (take n cs)) ds refl (letter.1 ∙ ap (λ m. Some (a.character, m)) (sym count)) named.are (ap (λ x. x ∷ []) named.value) named.is_scalar;
+      is = Hex a.character (characters (take n cs)) ds refl (row_of hex_letters letter.0 (a.character, length ds) (letter.1 ∙ ap (λ m. Some (a.character, m)) (sym count))) named.are (ap (λ x. x ∷ []) named.value) named.is_scalar;
     }
 
 hex_of : (a : Placed) (cs : List Placed) (n : ℕ) (b : Bool) (f : Fault) → (k : ℕ) × (slice_get hex_letters k ≡ Some (a.character, n)) → nat_lt (length cs) n ≡ b → IfOk {T = List ℕ × List Placed} (if b then Err f else named_or_fault (character_named 16 (characters (take n cs))) (drop n cs) f) (λ x. EscapeOf (a ∷ cs) x.0 x.1)
@@ -156,7 +156,7 @@ simple_is c d found = simple_cases c d _ _ _ _ _ _ _ _ refl refl refl refl refl 
 
 -- any other character stays
 abbrev begins_escape : ℕ → Bool
-begins_escape c = c == line_feed || (is_digit c 8 || (nat_lt 0 (hex_len c) || (c == byte "N" || is_some (simple_escape c))))
+begins_escape c = c == line_feed_character || (is_digit c 8 || (nat_lt 0 (hex_len c) || (c == byte "N" || is_some (simple_escape c))))
 
 each_begins : list_all begins_escape escape_signs ≡ true
 each_begins = refl
@@ -168,10 +168,10 @@ none_of p c (d ∷ ds) h all = (
   none_of p c ds h (second_true (p d) _ all),
 )
 
-letter_of : (a : Placed) (cs : List Placed) (o : Option ℕ) → simple_escape a.character ≡ o → (a.character == line_feed) ≡ false → is_digit a.character 8 ≡ false → nat_lt 0 (hex_len a.character) ≡ false → (a.character == byte "N") ≡ false → IfOk (escape_or_both o (a ∷ cs)) (λ x. EscapeOf (a ∷ cs) x.0 x.1)
+letter_of : (a : Placed) (cs : List Placed) (o : Option ℕ) → simple_escape a.character ≡ o → (a.character == line_feed_character) ≡ false → is_digit a.character 8 ≡ false → nat_lt 0 (hex_len a.character) ≡ false → (a.character == byte "N") ≡ false → IfOk (escape_or_both o (a ∷ cs)) (λ x. EscapeOf (a ∷ cs) x.0 x.1)
 letter_of a cs (Some d) is end octal hex unknown =
     let s = simple_is a.character d is in
-    record { text = a.character ∷ []; split = refl; is = Simple a.character d s.0 refl s.1 refl }
+    record { text = a.character ∷ []; split = refl; is = Simple a.character d refl (row_of simple_escapes s.0 (a.character, d) s.1) refl }
 letter_of a cs None is end octal hex unknown =
     let other : begins_escape a.character ≡ false = rw (end, octal, hex, unknown) (ap is_some is) in
     record {
@@ -180,7 +180,7 @@ letter_of a cs None is end octal hex unknown =
       is = Stays a.character refl (none_of begins_escape a.character escape_signs other each_begins) refl;
     }
 
-escape_cases : (end octal hex unknown : Bool) (line : ℕ) (a : Placed) (cs : List Placed) → (a.character == line_feed) ≡ end → is_digit a.character 8 ≡ octal → nat_lt 0 (hex_len a.character) ≡ hex → (a.character == byte "N") ≡ unknown →
+escape_cases : (end octal hex unknown : Bool) (line : ℕ) (a : Placed) (cs : List Placed) → (a.character == line_feed_character) ≡ end → is_digit a.character 8 ≡ octal → nat_lt 0 (hex_len a.character) ≡ hex → (a.character == byte "N") ≡ unknown →
     IfOk {T = List ℕ × List Placed} (if end then Ok ([], cs) else (if octal then octal_escape (line, BadString) (a ∷ cs) else (if hex then hex_escape (line, BadString) (hex_len a.character) cs else (if unknown then Err (line, BadString) else escape_or_both (simple_escape a.character) (a ∷ cs))))) (λ x. EscapeOf (a ∷ cs) x.0 x.1)
 escape_cases true octal hex unknown line a cs pe po ph pu = record {
   text = a.character ∷ [];

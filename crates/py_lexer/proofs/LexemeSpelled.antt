@@ -6,7 +6,7 @@ use Rattle.std.specs.Str.{byte}
 use Rattle.py_lexer.specs.declared.gap.Gap.{Gap}
 use Rattle.py_lexer.specs.declared.gap.Gap.TheVariants.{Space, Tab, FormFeed, Comment, Join, LineEnd}
 use Rattle.py_lexer.specs.declared.placed.Placed.{Placed}
-use Rattle.py_lexer.specs.Places.{characters, character_at, line_feed}
+use Rattle.py_lexer.specs.Places.{characters, character_at, line_feed_character}
 use Rattle.py_lexer.specs.Words.{begins_name, word}
 use Rattle.py_lexer.specs.Numbers.{begins_number, number}
 use Rattle.py_lexer.specs.Signs.{sign_at}
@@ -40,12 +40,12 @@ pub record SpelledGap (cs : List Placed) (g : Gap) (rest : List Placed) : Type 0
 
 -- a comment ends before its line does
 abbrev is_inside : Placed → Bool
-is_inside c = not (c.character == line_feed)
+is_inside c = not (c.character == line_feed_character)
 
 abbrev Ends : ℕ → List Placed → Type 0
-Ends n cs = AllByRecursion (λ c. c ≢ line_feed) (characters (take n cs)) × NextIsNot (λ c. c ≢ line_feed) (characters (drop n cs))
+Ends n cs = AllByRecursion (λ c. c ≢ line_feed_character) (characters (take n cs)) × NextIsNot (λ c. c ≢ line_feed_character) (characters (drop n cs))
 
-ends_case : (c : Placed) (cs : List Placed) (b : Bool) → (c.character == line_feed) ≡ b → Ends (prefix_len is_inside cs) cs → Ends (cond (not b) (1 + prefix_len is_inside cs) 0) (c ∷ cs)
+ends_case : (c : Placed) (cs : List Placed) (b : Bool) → (c.character == line_feed_character) ≡ b → Ends (prefix_len is_inside cs) cs → Ends (cond (not b) (1 + prefix_len is_inside cs) 0) (c ∷ cs)
 ends_case c cs true is more = (tt, λ no_end. no_end (eqb-true c.character 10 is))
 ends_case c cs false is more = subst (λ n. Ends n (c ∷ cs)) (sym (one-add (prefix_len is_inside cs))) (
   (λ e. let f : true ≡ false = sym (eq-eqb c.character 10 e) ∙ is in cc, more.0),
@@ -54,7 +54,7 @@ ends_case c cs false is more = subst (λ n. Ends n (c ∷ cs)) (sym (one-add (pr
 
 ends : (cs : List Placed) → Ends (prefix_len is_inside cs) cs
 ends [] = (tt, tt)
-ends (c ∷ cs) = ends_case c cs (c.character == line_feed) refl (ends cs)
+ends (c ∷ cs) = ends_case c cs (c.character == line_feed_character) refl (ends cs)
 
 one_character : (g : Gap) (c : Placed) (cs : List Placed) → SpellsGap g (c.character ∷ []) (characters cs) → SpelledGap (c ∷ cs) g cs
 one_character g c cs h = record { text = c.character ∷ []; split = refl; spells = h }
@@ -68,14 +68,14 @@ comment_spelled c cs is =
       spells = (characters (take n cs), ap (λ x. x ∷ characters (take n cs)) is, (ends cs).0, (ends cs).1);
     }
 
-join_spelled : (c : Placed) (cs : List Placed) → (c.character == backslash && character_at 0 cs == line_feed) ≡ true → SpelledGap (c ∷ cs) Join (drop 1 cs)
+join_spelled : (c : Placed) (cs : List Placed) → (c.character == backslash && character_at 0 cs == line_feed_character) ≡ true → SpelledGap (c ∷ cs) Join (drop 1 cs)
 join_spelled c [] h = let e = second_true (c.character == backslash) _ h in cc
 join_spelled c (d ∷ cs) h =
     let x = eqb-true c.character 92 (first_true _ _ h) in
     let y = eqb-true d.character 10 (second_true (c.character == backslash) _ h) in
     record { text = c.character ∷ d.character ∷ []; split = refl; spells = λ i. x i ∷ y i ∷ [] }
 
-gap_cases : (space tab form_feed line_end comment join : Bool) (c : Placed) (cs : List Placed) → (c.character == byte " ") ≡ space → (c.character == 9) ≡ tab → (c.character == 12) ≡ form_feed → (c.character == line_feed) ≡ line_end → (c.character == byte "#") ≡ comment → (c.character == backslash && character_at 0 cs == line_feed) ≡ join →
+gap_cases : (space tab form_feed line_end comment join : Bool) (c : Placed) (cs : List Placed) → (c.character == byte " ") ≡ space → (c.character == 9) ≡ tab → (c.character == 12) ≡ form_feed → (c.character == line_feed_character) ≡ line_end → (c.character == byte "#") ≡ comment → (c.character == backslash && character_at 0 cs == line_feed_character) ≡ join →
     IfSome {T = Gap × List Placed} (if space then Some (Space, cs) else (if tab then Some (Tab, cs) else (if form_feed then Some (FormFeed, cs) else (if line_end then Some (LineEnd, cs) else (if comment then Some (Comment, past_comment cs) else (if join then Some (Join, drop 1 cs) else None)))))) (λ x. SpelledGap (c ∷ cs) x.0 x.1)
 gap_cases true tab form_feed line_end comment join c cs ps pt pf pl pc pj = one_character Space c cs (ap (λ x. x ∷ []) (eqb-true c.character 32 ps))
 gap_cases false true form_feed line_end comment join c cs ps pt pf pl pc pj = one_character Tab c cs (ap (λ x. x ∷ []) (eqb-true c.character 9 pt))

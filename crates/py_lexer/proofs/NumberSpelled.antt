@@ -17,7 +17,7 @@ use Rattle.py_lexer.specs.Words.{word_at, word_len, past_word}
 use Rattle.py_lexer.specs.Numbers.{is_underscore, digits_of, begins_with_digit, is_spaced, is_row, below_end, row, unless_zero_leads, decimal, base_of, in_base, numeral, number, number_or_fault}
 use Rattle.py_lexer.specs.Digits.{digits_lower, digits_upper, IsDigit, IsRow, place_value, NextIsNot}
 use Rattle.py_lexer.specs.Spelling.{IsBased, IsDecimal, base_letters}
-use Rattle.py_lexer.proofs.Spelled.{Spelled, front_split, one_true, first_true, second_true}
+use Rattle.py_lexer.proofs.Spelled.{Spelled, front_split, one_true, first_true, second_true, row_of}
 use Rattle.py_lexer.proofs.DigitLemmas.{digit_is, value_is}
 use Rattle.py_lexer.proofs.WordSpelled.{word_cut}
 
@@ -202,7 +202,7 @@ based_case n c d cs (Some base) is_zero is found =
         first = r.0.first;
         digits = r.0.digits;
         split = ap (λ x. x ∷ d ∷ cs) is_zero;
-        named = (letter.1, letter.2);
+        named = row_of base_letters letter.1 (d, base) letter.2;
         is_row = r.0.is_row;
         value = r.0.value;
       }),

@@ -6,7 +6,7 @@ use Rattle.py_syntax.specs.declared.token.Span.{Span}
 use Rattle.py_syntax.specs.declared.token.TokenKind.{TokenKind}
 use Rattle.py_lexer.specs.declared.gap.Gap.{Gap}
 use Rattle.py_lexer.specs.declared.placed.Placed.{Placed}
-use Rattle.py_lexer.specs.Places.{line_feed, start, placed, end_of, place_of, characters, front_of}
+use Rattle.py_lexer.specs.Places.{line_feed_character, start, placed, end_of, place_of, characters, front_of}
 use Rattle.py_lexer.specs.Places as places
 use Rattle.py_lexer.specs.Reading.{Fault, Read}
 use Rattle.py_lexer.specs.Pieces.{Kind, Between, Lexeme, Wrong, Over, Piece, piece, pieces, gap, lexeme, after_gap, after_lexeme}

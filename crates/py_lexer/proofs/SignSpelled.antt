@@ -152,9 +152,9 @@ no_fraction (suc n) [] none is = cc
 no_fraction (suc zero) (c ∷ []) none is = tt
 no_fraction (suc (suc n)) (c ∷ []) none is = tt
 no_fraction (suc zero) (c ∷ d ∷ cs) none is = λ digit.
-  let dot : c.character ≡ 46 = cc in
-  let begins : begins_number (c ∷ d ∷ cs) ≡ true = second_or (is_ascii_digit c.character) _ (rw (eq-eqb c.character 46 dot) digit) in
-  let e : true ≡ false = sym begins ∙ none in cc
+    let dot : c.character ≡ 46 = cc in
+    let begins : begins_number (c ∷ d ∷ cs) ≡ true = second_or (is_ascii_digit c.character) _ (rw (eq-eqb c.character 46 dot) digit) in
+    let e : true ≡ false = sym begins ∙ none in cc
 no_fraction (suc (suc n)) (c ∷ d ∷ cs) none is = cc
 
 sign_here : (n : ℕ) (cs : List Placed) (s : Sign) → begins_number cs ≡ false → sign_in n cs ≡ Some s → IsLongest n cs → Spelled cs (token.Sign s) (drop n cs)
@@ -164,11 +164,11 @@ sign_here n cs s none found longest = record {
   spells = record {
     value = written_so (characters (take n cs)) s found;
     longest = λ other fits.
-      let here : StartsWith (characters cs) (sign_text other) = subst (λ l. StartsWith l (sign_text other)) (sym (front_split n cs)) fits in
-      let a = longest other here in
-      let b = fits_within cs other here in
-      let c = front_length n cs in
-      omega arith;
+        let here : StartsWith (characters cs) (sign_text other) = subst (λ l. StartsWith l (sign_text other)) (sym (front_split n cs)) fits in
+        let a = longest other here in
+        let b = fits_within cs other here in
+        let c = front_length n cs in
+        omega arith;
     no_fraction = no_fraction n cs none;
   };
 }
@@ -189,6 +189,6 @@ sign_spelled cs none =
     let three : IsLongest 3 cs = λ other fits. leb-true (length (sign_text other)) 3 (sign_short other) in
     sign_next 3 cs (sign_in 3 cs) _ none refl three
     (λ none3.
-      let two = shorter_longest 3 2 cs refl none3 three in
-      sign_next 2 cs (sign_in 2 cs) _ none refl two
-      (λ none2. sign_next 1 cs (sign_in 1 cs) _ none refl (shorter_longest 2 1 cs refl none2 two) (λ none1. tt)))
+    let two = shorter_longest 3 2 cs refl none3 three in
+    sign_next 2 cs (sign_in 2 cs) _ none refl two
+    (λ none2. sign_next 1 cs (sign_in 1 cs) _ none refl (shorter_longest 2 1 cs refl none2 two) (λ none1. tt)))

@@ -1,7 +1,8 @@
 -- What is said of a token that is read: its text spells it.
-use Rattle.std.proofs.Common.{◌≡◌, ℕ, Bool, true, false, List, [], ◌∷◌, ◌++◌, take, drop, find, Option, Some, None, refl, ap, sym, ◌∙◌, cond, ◌⊎◌, inl, inr}
+use Rattle.std.proofs.Common.{◌≡◌, ℕ, Bool, true, false, List, [], ◌∷◌, ◌++◌, take, drop, find, Option, Some, None, refl, ap, sym, ◌∙◌, cond, ◌⊎◌, inl, inr, slice_get, Contains}
 use Rattle.std.specs.Prelude.{◌||◌, ◌&&◌}
 use Rattle.std.proofs.lemmas.List.{take-append-drop, map-append}
+use Rattle.std.proofs.lemmas.Option.{slice_get_within, get_or_from_slice_get}
 use Rattle.py_syntax.specs.declared.token.TokenKind.{TokenKind}
 use Rattle.py_lexer.specs.declared.placed.Placed.{Placed}
 use Rattle.py_lexer.specs.Places.{characters}
@@ -43,3 +44,7 @@ second_true false b h = cc
 pub second_or : (a b : Bool) → b ≡ true → (a || b) ≡ true
 second_or true b h = refl
 second_or false b h = h
+
+-- a row of a table
+pub row_of : {A : Type 0} (rows : List A) (k : ℕ) (row : A) → slice_get rows k ≡ Some row → Contains rows row
+row_of rows k row at = (k, slice_get_within rows k row at, get_or_from_slice_get rows k row row at)

@@ -4,7 +4,7 @@ use Rattle.std.specs.Prelude.{IfOk, if◌then◌else◌, ◌==◌, ◌||◌, ◌
 use Rattle.std.specs.Char.{to_ascii_lowercase}
 use Rattle.std.specs.Io.{StartsWith}
 use Rattle.std.specs.Str.{byte, bytes_eq}
-use Rattle.std.specs.List.{take-map, AllByRecursion}
+use Rattle.std.specs.List.{take-map, AllByRecursion, Contains}
 use Rattle.std.proofs.lemmas.List.{length-map}
 use Rattle.std.proofs.lemmas.Slice.Eq.{bytes_eq-Decides}
 use Rattle.py_syntax.specs.declared.token.TokenKind.{TokenKind}
@@ -14,14 +14,14 @@ use Rattle.py_lexer.specs.declared.placed.Placed.{Placed}
 use Rattle.py_lexer.specs.declared.string.Prefix.{Prefix}
 use Rattle.py_lexer.specs.declared.string.Prefix.TheVariants.{Plain, Raw, Other}
 use Rattle.py_lexer.specs.declared.string.Style.{Style}
-use Rattle.py_lexer.specs.Places.{characters, character_at, line_of, line_feed}
+use Rattle.py_lexer.specs.Places.{characters, character_at, line_of, line_feed_character}
 use Rattle.py_lexer.specs.Reading.{Fault, Read, ◌>>=◌}
 use Rattle.py_lexer.specs.Words.{word_at, word_len, past_word}
 use Rattle.py_lexer.specs.Strings.{backslash, is_quote, escape, element, closes, quote_len, body, with_front, prefixes, lookup, prefix_of, begins_string, style, quoted, prefixed, string_at}
 use Rattle.py_lexer.specs.Escapes.{Element, written, stands_for, IsElement, AreElements}
 use Rattle.py_lexer.specs.Escapes as escapes
 use Rattle.py_lexer.specs.Spelling.{string_prefixes}
-use Rattle.py_lexer.proofs.Spelled.{Spelled, front_split, one_true, first_true, second_true}
+use Rattle.py_lexer.proofs.Spelled.{Spelled, front_split, one_true, first_true, second_true, row_of}
 use Rattle.py_lexer.proofs.RestLemmas.{escape_leaves, PartLeaves}
 use Rattle.py_lexer.proofs.EscapeSpelled.{EscapeOf, escape_spelled}
 
@@ -70,10 +70,10 @@ in_three true b is no_stop = refl
 in_three false true is no_stop = cc
 in_three false false is no_stop = cc
 
-line_ends : (s : Style) (c : ℕ) → (c == line_feed && not s.is_triple) ≡ false → c ≡ line_feed → length (quotes s) ≡ 3
-line_ends s c no_stop is = three_quotes s.is_triple s.quote (in_three s.is_triple (c == line_feed) (eq-eqb c line_feed is) no_stop)
+line_ends : (s : Style) (c : ℕ) → (c == line_feed_character && not s.is_triple) ≡ false → c ≡ line_feed_character → length (quotes s) ≡ 3
+line_ends s c no_stop is = three_quotes s.is_triple s.quote (in_three s.is_triple (c == line_feed_character) (eq-eqb c line_feed_character is) no_stop)
 
-element_cases : (stop slash : Bool) (s : Style) (a : Placed) (cs : List Placed) → (a.character == line_feed && not s.is_triple) ≡ stop → (a.character == backslash) ≡ slash →
+element_cases : (stop slash : Bool) (s : Style) (a : Placed) (cs : List Placed) → (a.character == line_feed_character && not s.is_triple) ≡ stop → (a.character == backslash) ≡ slash →
     IfOk {T = List ℕ × List Placed} (if stop then Err (s.line, Unended) else (if slash then (if s.is_raw then Ok (characters (take 2 (a ∷ cs)), drop 2 (a ∷ cs)) else escape (line_of (a ∷ cs)) cs) else Ok (a.character ∷ [], cs))) (IfOn s (a ∷ cs))
 element_cases true slash s a cs is_stop is_slash = tt
 element_cases false true s a cs is_stop is_slash = slash_case s a cs s.is_raw refl (eqb-true a.character 92 is_slash)
@@ -207,7 +207,7 @@ body_spelled (suc n) s (c ∷ cs) quote =
 
 -- prefixes
 abbrev IsPrefix : List ℕ → Bool → Type 0
-IsPrefix text is_raw = (k : ℕ) × (slice_get string_prefixes k ≡ Some (text, is_raw))
+IsPrefix text is_raw = Contains string_prefixes (text, is_raw)
 
 abbrev PrefixIs : List ℕ → Prefix → Type 0
 PrefixIs text Plain = IsPrefix text false
@@ -227,7 +227,7 @@ one_letter (c ∷ d ∷ cs) x h = cc
 
 prefix_at : (text : List ℕ) (c x k : ℕ) (is_raw : Bool) → text ≡ c ∷ [] → c ≡ x → slice_get string_prefixes k ≡ Some (x ∷ [], is_raw) → IsPrefix text is_raw
 prefix_at text c x k is_raw is letter at =
-    (k, at ∙ ap (λ y. Some (y ∷ [], is_raw)) (sym letter) ∙ ap (λ l. Some (l, is_raw)) (sym is))
+    row_of string_prefixes k (text, is_raw) (at ∙ ap (λ y. Some (y ∷ [], is_raw)) (sym letter) ∙ ap (λ l. Some (l, is_raw)) (sym is))
 
 empty_text : (text : List ℕ) → map to_ascii_lowercase text ≡ [] → text ≡ []
 empty_text [] h = refl
@@ -267,7 +267,7 @@ prefix_cases : (text : List ℕ) (p : Prefix) (none u r : Bool) → bytes_eq (ma
     (if none then Some Plain else (if u then Some Plain else (if r then Some Raw else lookup (map to_ascii_lowercase text) other_prefixes))) ≡ Some p → PrefixIs text p
 prefix_cases text p true u r is_none is_u is_r h =
     let e : Plain ≡ p = cc in
-    subst (PrefixIs text) e (0, ap (λ l. Some (l, false)) (sym (empty_text text ((bytes_eq-Decides (map to_ascii_lowercase text) []).0 is_none))))
+    subst (PrefixIs text) e (row_of string_prefixes 0 (text, false) (ap (λ l. Some (l, false)) (sym (empty_text text ((bytes_eq-Decides (map to_ascii_lowercase text) []).0 is_none)))))
 prefix_cases text p false true r is_none is_u is_r h =
     let e : Plain ≡ p = cc in
     subst (PrefixIs text) e (u_prefix text ((bytes_eq-Decides (map to_ascii_lowercase text) (codes "u")).0 is_u))
@@ -301,9 +301,9 @@ one_or_three true q cs inner rest is split = inr refl
 one_or_three false q cs inner rest is split = inl (
   refl,
   λ h.
-    let t = start_three q cs (subst (λ l. StartsWith l (replicate 3 q)) (sym split) h) in
-    let e : true ≡ false = sym t.1 ∙ is in
-    cc,
+      let t = start_three q cs (subst (λ l. StartsWith l (replicate 3 q)) (sym split) h) in
+      let e : true ≡ false = sym t.1 ∙ is in
+      cc,
 )
 
 quote_is : (q : ℕ) → is_quote q ≡ true → (q ≡ byte "'") ⊎ (q ≡ byte "\"")

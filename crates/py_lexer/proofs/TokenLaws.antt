@@ -13,7 +13,7 @@ use Rattle.py_syntax.specs.declared.token.TokenKind.TheVariants as kind
 use Rattle.py_syntax.specs.Tokens.{IsUpTo, EndsOnce, AreBalanced, AreInOrder, levels_after, levels_behind}
 use Rattle.py_lexer.specs.declared.fault.LexError.{LexError}
 use Rattle.py_lexer.specs.declared.gap.Gap.{Gap}
-use Rattle.py_lexer.specs.Places.{line_feed, start, placed, plain, end_of}
+use Rattle.py_lexer.specs.Places.{line_feed_character, start, placed, plain, end_of}
 use Rattle.py_lexer.specs.Places as places
 use Rattle.py_lexer.specs.Laws.{AreGaps, AreSpelled}
 use Rattle.py_lexer.specs.Reading.{Fault, Gives}
@@ -81,7 +81,7 @@ right_spelled (t ∷ ts) n at text s = record {
   split = s.split;
   spells = s.spells;
   behind = behind_is t.kind n _ _ (AreSpelled ts (end_of t.span s.own) s.rest) s.behind (λ m h. right_spelled ts m (end_of t.span s.own) s.rest h)
-    (λ last. subst (λ l. AreSpelled l (end_of t.span s.own) s.rest) (sym (none_after ts last.0)) last.1);
+      (λ last. subst (λ l. AreSpelled l (end_of t.span s.own) s.rest) (sym (none_after ts last.0)) last.1);
 }
 
 -- places in order
@@ -100,7 +100,7 @@ behind_up false s = inr (refl, omega arith)
 
 end_of_up : (s : Span) (cs : List ℕ) → IsUpTo s (end_of s cs)
 end_of_up s [] = up_to_self s
-end_of_up s (c ∷ cs) = up_to_along s (places.behind c s) (end_of s (c ∷ cs)) (behind_up (c == line_feed) s) (end_of_up (places.behind c s) cs)
+end_of_up s (c ∷ cs) = up_to_along s (places.behind c s) (end_of s (c ∷ cs)) (behind_up (c == line_feed_character) s) (end_of_up (places.behind c s) cs)
 
 gaps_up : (gs : List Gap) (a : Span) (x : List ℕ) (b : Span) (y : List ℕ) → AreGaps a x gs b y → IsUpTo a b
 gaps_up [] a x b y h = subst (IsUpTo a) h.0 (up_to_self a)
@@ -133,8 +133,8 @@ are_right [] n at text s = s
 are_right (t ∷ ts) n at text s = (
   gaps_up s.before.0 at text t.span s.here s.before.1,
   behind_on t.kind n _ _ _ _ s.behind
-  (λ m h. sooner_right m t.span (end_of t.span s.own) ts (end_of_up t.span s.own) (are_right ts m (end_of t.span s.own) s.rest h))
-  (λ last. none_after ts last.0),
+      (λ m h. sooner_right m t.span (end_of t.span s.own) ts (end_of_up t.span s.own) (are_right ts m (end_of t.span s.own) s.rest h))
+      (λ last. none_after ts last.0),
 )
 
 -- they end once

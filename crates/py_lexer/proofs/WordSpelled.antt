@@ -16,7 +16,7 @@ use Rattle.py_lexer.specs.declared.fault.LexKind.TheVariants.{BadCharacter}
 use Rattle.py_lexer.specs.declared.placed.Placed.{Placed}
 use Rattle.py_lexer.specs.Places.{characters, character_at, line_of}
 use Rattle.py_lexer.specs.Reading.{Fault, Read, ◌>>=◌}
-use Rattle.py_lexer.specs.Words.{word, word_at, word_len, past_word, begins_name, is_identifier, keyword_or_name, name_or_fault}
+use Rattle.py_lexer.specs.Words.{word, word_at, word_len, past_word, begins_name, is_python_identifier, keyword_or_name, name_or_fault}
 use Rattle.py_lexer.specs.Strings.{is_quote, prefix_of, begins_string}
 use Rattle.py_lexer.specs.Digits.{NextIsNot}
 use Rattle.py_lexer.specs.Spelling.{EndsWord, IsIdentifier, IsQuote, all_prefixes}
@@ -101,7 +101,7 @@ all_continue : (cs : List ℕ) → list_all is_xid_continue cs ≡ true → Cont
 all_continue [] h = tt
 all_continue (c ∷ cs) h = (first_true _ _ h, all_continue cs (second_true (is_xid_continue c) _ h))
 
-identifier : (cs : List ℕ) → is_identifier cs ≡ true → IsIdentifier cs
+identifier : (cs : List ℕ) → is_python_identifier cs ≡ true → IsIdentifier cs
 identifier [] h = cc
 identifier (c ∷ cs) h = (begins c (first_true _ _ h), all_continue cs (second_true (begins_name c) _ h))
 
@@ -116,17 +116,17 @@ quote_test c (inr b) = ap (λ x. x || (c == byte "'")) (eq-eqb c 34 b)
 behind_word : (cs behind : List Placed) (b : Bool) → (is_quote (character_at 0 behind) && b) ≡ false → b ≡ true → NextIsNot IsQuote (characters behind)
 behind_word cs [] b none h = tt
 behind_word cs (c ∷ behind) b none h = λ q.
-  let both : (is_quote c.character && b) ≡ true = rw (quote_test c.character q) h in
-  let e : true ≡ false = sym both ∙ none in cc
+    let both : (is_quote c.character && b) ≡ true = rw (quote_test c.character q) h in
+    let e : true ≡ false = sym both ∙ none in cc
 
 all_at : (p : List ℕ → Bool) (xs : List (List ℕ)) (k : ℕ) (d : List ℕ) → k < length xs → list_all p xs ≡ true → p (slice_index_or xs k d) ≡ true
 all_at p xs k d lt all = AllPass-from_list_all p xs all k d lt
 
 no_prefix : (cs : List Placed) → begins_string cs ≡ false → Contains all_prefixes (word_at cs) → NextIsNot IsQuote (characters (past_word cs))
 no_prefix cs none h = behind_word cs (past_word cs) (is_some (prefix_of (word_at cs))) none
-  (subst (λ text. is_some (prefix_of text) ≡ true) h.2 (all_at (λ text. is_some (prefix_of text)) all_prefixes h.0 (word_at cs) h.1 prefixes_found))
+    (subst (λ text. is_some (prefix_of text) ≡ true) h.2 (all_at (λ text. is_some (prefix_of text)) all_prefixes h.0 (word_at cs) h.1 prefixes_found))
 
-name_case : (b : Bool) (cs : List Placed) (f : Fault) → is_identifier (nfkc (word_at cs)) ≡ b → IsIdentifier (word_at cs) → ((k : Key) → word_at cs ≢ key_text k) → begins_string cs ≡ false → IfOk {T = TokenKind × List Placed} ((if b then Ok (token.Name (encode_utf8_all (nfkc (word_at cs)))) else Err f) >>= λ k. Ok (k, past_word cs)) (λ x. Spelled cs x.0 x.1)
+name_case : (b : Bool) (cs : List Placed) (f : Fault) → is_python_identifier (nfkc (word_at cs)) ≡ b → IsIdentifier (word_at cs) → ((k : Key) → word_at cs ≢ key_text k) → begins_string cs ≡ false → IfOk {T = TokenKind × List Placed} ((if b then Ok (token.Name (encode_utf8_all (nfkc (word_at cs)))) else Err f) >>= λ k. Ok (k, past_word cs)) (λ x. Spelled cs x.0 x.1)
 name_case true cs f is name none no_string = record {
   text = word_at cs;
   split = front_split (word_len cs) cs;
@@ -147,7 +147,7 @@ key_case (Some k) cs f is name no_string = record {
   split = front_split (word_len cs) cs;
   spells = (key_written (word_at cs) k is, (word_cut cs).1);
 }
-key_case None cs f is name no_string = name_case (is_identifier (nfkc (word_at cs))) cs f refl name (no_key (word_at cs) is) no_string
+key_case None cs f is name no_string = name_case (is_python_identifier (nfkc (word_at cs))) cs f refl name (no_key (word_at cs) is) no_string
 
 pub word_spelled : (cs : List Placed) → begins_string cs ≡ false → begins_name (character_at 0 cs) ≡ true → IfOk (word cs) (λ x. Spelled cs x.0 x.1)
 unfolding word

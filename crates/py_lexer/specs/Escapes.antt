@@ -1,7 +1,7 @@
 -- The elements of a string between its quotes: a character, or an escape, with the characters that it stands for (Python Language
 -- Reference, "Escape sequences").
-use Rattle.std.specs.Prelude.{◌≡◌, ◌≢◌, ◌⊎◌, ◌<◌, ◌≤◌, ℕ, Bool, true, false, List, [], ◌∷◌, ◌++◌, length, codes, Some, slice_get, map}
-use Rattle.std.specs.List.{AllByRecursion, concat}
+use Rattle.std.specs.Prelude.{◌≡◌, ◌≢◌, ◌⊎◌, ◌<◌, ◌≤◌, ℕ, Bool, true, false, List, [], ◌∷◌, ◌++◌, length, codes, map}
+use Rattle.std.specs.List.{AllByRecursion, Contains, concat}
 use Rattle.std.specs.Io.{StartsWith}
 use Rattle.std.specs.Str.{byte}
 use Rattle.py_lexer.specs.Digits.{IsDigit, AreDigits, place_value, NextIsNot}
@@ -39,11 +39,11 @@ IsScalar n = (n < 0xD800) ⊎ ((0xE000 ≤ n) × (n ≤ 0x10FFFF))
 pub data IsEscape (text rest value : List ℕ) : Type 0 where
   -- a backslash before the end of a line stands for nothing
   Joins : text ≡ codes "\n" → value ≡ [] → IsEscape text rest value
-  Simple : (c d k : ℕ) → text ≡ c ∷ [] → slice_get simple_escapes k ≡ Some (c, d) → value ≡ d ∷ [] → IsEscape text rest value
+  Simple : (c d : ℕ) → text ≡ c ∷ [] → Contains simple_escapes (c, d) → value ≡ d ∷ [] → IsEscape text rest value
   -- one to three octal digits, as many as there are
   Octal : (ds : List ℕ) → AreDigits 8 ds text → 1 ≤ length ds → (length ds ≡ 3) ⊎ ((length ds < 3) × NextIsNot (λ c. (d : ℕ) × IsDigit 8 c d) rest) → value ≡ place_value 8 ds ∷ [] → IsScalar (place_value 8 ds) → IsEscape text rest value
   -- a letter, and as many hexadecimal digits as it takes
-  Hex : (letter k : ℕ) (digits ds : List ℕ) → text ≡ letter ∷ digits → slice_get hex_letters k ≡ Some (letter, length ds) → AreDigits 16 ds digits → value ≡ place_value 16 ds ∷ [] → IsScalar (place_value 16 ds) → IsEscape text rest value
+  Hex : (letter : ℕ) (digits ds : List ℕ) → text ≡ letter ∷ digits → Contains hex_letters (letter, length ds) → AreDigits 16 ds digits → value ≡ place_value 16 ds ∷ [] → IsScalar (place_value 16 ds) → IsEscape text rest value
   -- any other character keeps its backslash
   Stays : (c : ℕ) → text ≡ c ∷ [] → AllByRecursion (λ d. c ≢ d) escape_signs → value ≡ byte "\\" ∷ c ∷ [] → IsEscape text rest value
 

@@ -1,7 +1,7 @@
 -- How each token is written (Python Language Reference, "Lexical analysis"), token by token, in words of its own: tables of signs, of
 -- keywords, of bases and of escapes, and the grammar of a number and of a string. It says nothing of how a text is read. It is what the
 -- definition of a text's tokens is measured by.
-use Rattle.std.specs.Prelude.{◌≡◌, ◌≢◌, ◌⊎◌, ◌<◌, ◌≤◌, ◌^◌, ℕ, ℤ, pos, Bool, true, false, List, [], ◌∷◌, ◌++◌, length, replicate, codes, Some, slice_get, encode_utf8_all}
+use Rattle.std.specs.Prelude.{◌≡◌, ◌≢◌, ◌⊎◌, ◌<◌, ◌≤◌, ◌^◌, ℕ, ℤ, pos, Bool, true, false, List, [], ◌∷◌, ◌++◌, length, replicate, codes, encode_utf8_all}
 use Rattle.std.specs.Char.{is_ascii_digit}
 use Rattle.std.specs.List.{AllByRecursion, Contains}
 use Rattle.std.specs.Io.{StartsWith}
@@ -71,7 +71,7 @@ pub record IsBased (n : ℕ) (text : List ℕ) : Type 0 where
   pub first : ℕ
   pub digits : List ℕ
   pub split : text ≡ byte "0" ∷ letter ∷ row
-  pub named : (k : ℕ) × (slice_get base_letters k ≡ Some (letter, base))
+  pub named : Contains base_letters (letter, base)
   pub is_row : IsRow base (first ∷ digits) row
   pub value : n ≡ place_value base (first ∷ digits)
 
@@ -109,7 +109,7 @@ pub record IsString (string text rest : List ℕ) : Type 0 where
   pub quote : ℕ
   pub count : ℕ
   pub elements : List Element
-  pub is_prefix : (k : ℕ) × (slice_get string_prefixes k ≡ Some (prefix, is_raw))
+  pub is_prefix : Contains string_prefixes (prefix, is_raw)
   pub is_quote : IsQuote quote
   pub split : text ≡ prefix ++ (replicate count quote ++ (written elements ++ replicate count quote))
   pub one_or_three : ((count ≡ 1) × ¬ StartsWith (replicate 1 quote ++ (written elements ++ (replicate 1 quote ++ rest))) (replicate 3 quote)) ⊎ (count ≡ 3)
