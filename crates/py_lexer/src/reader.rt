@@ -207,7 +207,7 @@ impl Reader {
 }
 
 /// What a token does to the open brackets.
-#[derive(Clone, Copy, Debug)]
+#[derive(Clone, Copy)]
 enum Bracket {
     Opening,
     Closing,
