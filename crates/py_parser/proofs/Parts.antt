@@ -17,10 +17,11 @@ use Rattle.py_grammar.specs.Actions.{name_of}
 use Rattle.py_grammar.specs.Grammar.{FUNC, PARAM, CLASS, CBLOCK}
 use Rattle.py_grammar.specs.Reader.{accept}
 use Rattle.py_grammar.specs.Readings.{reads_sym}
-use Rattle.py_parser.specs.Behind.{reads_suite}
+use Rattle.py_statements.specs.Suites.{reads_suite}
 use Rattle.py_parser.specs.Definitions.{reads_bases}
-use Rattle.py_parser.specs.Rows.{reads_row}
-use Rattle.py_parser.specs.Statements.{handler_of, reads_maybe}
+use Rattle.py_expressions.specs.Rows.{reads_row}
+use Rattle.py_statements.specs.Statements.{handler_of}
+use Rattle.py_parser.specs.Definitions.{reads_maybe}
 use Rattle.py_parser.proofs.DefinitionReading.{func_maybe, class_bases}
 
 pub handler_made : (c : Option Expr) (name : Option (List ℕ)) (body : List Stmt) (span : Span) → handler_tree (roll-Handler (record { class = c; name = name; body = body; span = span })) ≡ handler_of (maybe_expr c) name (body_tree body) span

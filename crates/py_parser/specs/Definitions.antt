@@ -11,7 +11,36 @@ use Rattle.py_grammar.specs.Grammar.{TEST, MEMBER, MARK, TOP}
 use Rattle.py_grammar.specs.Actions.{joined, marks_of}
 use Rattle.py_grammar.specs.Reader.{Outcome, ◌>>=◌, accept, sees}
 use Rattle.py_grammar.specs.Readings.{reads_many}
-use Rattle.py_parser.specs.Rows.{reads_trees}
+use Rattle.py_expressions.specs.Rows.{reads_trees}
+
+-- what was read, and the place behind it
+abbrev pub maybe_seen : Option Expr × Place → Option ExprTree × Place
+maybe_seen x = (maybe_expr x.0, x.1)
+
+abbrev pub exprs_listed : List Expr × Place → List ExprTree × Place
+exprs_listed x = (map expr_tree x.0, x.1)
+
+abbrev pub param_seen : (List ℕ × Option Expr) × Place → (List ℕ × Option ExprTree) × Place
+param_seen x = (param_tree x.0, x.1)
+
+abbrev pub params_seen : List (List ℕ × Option Expr) × Place → List (List ℕ × Option ExprTree) × Place
+params_seen x = (map param_tree x.0, x.1)
+
+abbrev pub func_seen : (Func × Span) × Place → (FuncTree × Span) × Place
+func_seen x = ((func_tree x.0.0, x.0.1), x.1)
+
+abbrev pub class_seen : (Class × Span) × Place → (ClassTree × Span) × Place
+class_seen x = ((class_tree x.0.0, x.0.1), x.1)
+
+abbrev pub mark_seen : (Expr × Span) × Place → (ExprTree × Span) × Place
+mark_seen x = ((expr_tree x.0.0, x.0.1), x.1)
+
+-- an expression behind a sign, if the sign comes next
+unfoldable pub reads_maybe : List Token → Sign → Place → Outcome (Option ExprTree)
+reads_maybe ts text p =
+    if sees ts p (class.Sign text ∷ [])
+    then (accept ts (class.Sign text) p >>= λ a. reads_expr ts TEST a.1 >>= λ t. Ok (Some t.0.tree, t.1))
+    else Ok (None, p)
 
 -- the bases of a class, in brackets, or none
 unfoldable pub reads_bases : List Token → Place → Outcome (List ExprTree)

@@ -6,20 +6,21 @@ ghost use Rattle.py_grammar.specs.Actions.{def_at, class_at};
 ghost use Rattle.py_grammar.specs.Grammar.{FUNC, PARAM, CLASS, CBLOCK, MEMBER, MARK, DECORATED};
 ghost use Rattle.py_grammar.specs.Readings.{reads_sym};
 ghost use Rattle.py_parser.specs.Definitions.{reads_bases, reads_members, reads_marks};
-ghost use Rattle.py_parser.specs.Gives.{Gives};
-ghost use Rattle.py_parser.specs.Parsed.{MovesTo, MovesUpTo};
-ghost use Rattle.py_parser.specs.Rows.{reads_row};
-ghost use Rattle.py_parser.specs.Statements.{stmt_seen, stmts_seen, maybe_seen, exprs_listed, param_seen, params_seen, func_seen, class_seen, mark_seen, reads_maybe};
+ghost use Rattle.py_reading.specs.Gives.{Gives};
+ghost use Rattle.py_reading.specs.Moves.{MovesTo, MovesUpTo};
+ghost use Rattle.py_expressions.specs.Rows.{reads_row};
+ghost use Rattle.py_statements.specs.Statements.{stmt_seen, stmts_seen};
+ghost use Rattle.py_parser.specs.Definitions.{maybe_seen, exprs_listed, param_seen, params_seen, func_seen, class_seen, mark_seen, reads_maybe};
 
-use crate::append::append;
-use crate::block::{stmt, suite};
-use crate::expression::{items, test};
-use crate::fault::ParseError;
-use crate::place::{accept, accept_key, accept_sign, sees, sees_key, sees_sign};
-use crate::row::no_row;
-use crate::simple::{simple, statement};
-use crate::starts::begins_member;
-use crate::word::name_of;
+use py_statements::append::append;
+use py_statements::block::{stmt, suite};
+use py_expressions::expression::{items, test};
+use py_reading::fault::ParseError;
+use py_reading::place::{accept, accept_key, accept_sign, sees, sees_key, sees_sign};
+use py_expressions::row::no_row;
+use py_statements::simple::{simple, statement};
+use py_reading::starts::begins_member;
+use py_reading::word::name_of;
 use py_grammar::{Class as Kind, Place};
 use py_syntax::{Class, Expr, Func, Key, Sign, Span, Stmt, StmtKind, Token};
 use std::alloc::Global;
@@ -27,7 +28,7 @@ use value_core::{Many, Name};
 
 /// A function or a class behind its decorators.
 #[tactic(auto, using(crate::proofs::DefinitionReading::decorateds))]
-pub(crate) fn decorated(
+pub fn decorated(
     alloc: Global,
     tokens: &[Token],
     place: Place,
@@ -46,7 +47,7 @@ pub(crate) fn decorated(
 }
 
 /// A function as a statement, with its decorators.
-pub(crate) fn defined(found: Func, marks: Many<Expr>, begin: Span) -> Stmt
+pub fn defined(found: Func, marks: Many<Expr>, begin: Span) -> Stmt
     ensures { stmt_tree result ≡ def_at (func_tree found) (map expr_tree marks) begin }
 {
     let marked = Func {
@@ -60,7 +61,7 @@ pub(crate) fn defined(found: Func, marks: Many<Expr>, begin: Span) -> Stmt
 }
 
 /// A class as a statement, with its decorators.
-pub(crate) fn class_defined(found: Class, marks: Many<Expr>, begin: Span) -> Stmt
+pub fn class_defined(found: Class, marks: Many<Expr>, begin: Span) -> Stmt
     ensures { stmt_tree result ≡ class_at (class_tree found) (map expr_tree marks) begin }
 {
     let marked = Class {
@@ -108,7 +109,7 @@ fn marks(
 
 /// A function without decorators, with the place of its keyword.
 #[tactic(auto, using(crate::proofs::DefinitionReading::funcs))]
-pub(crate) fn func(
+pub fn func(
     alloc: Global,
     tokens: &[Token],
     place: Place,
@@ -135,7 +136,7 @@ pub(crate) fn func(
 }
 
 // An expression behind a sign, if the sign comes next.
-#[tactic(auto, unfolding(crate::specs::Statements::reads_maybe))]
+#[tactic(auto, unfolding(py_statements::specs::Statements::reads_maybe))]
 fn maybe_behind(
     alloc: Global,
     tokens: &[Token],
@@ -154,7 +155,7 @@ fn maybe_behind(
 }
 
 // Parameters between commas, or none, and a last comma.
-#[tactic(auto, using(crate::proofs::RowReading::part_rows))]
+#[tactic(auto, using(py_expressions::proofs::RowReading::part_rows))]
 fn params(
     alloc: Global,
     tokens: &[Token],
@@ -195,7 +196,7 @@ fn param(
 
 /// A class without decorators, with the place of its keyword.
 #[tactic(auto, using(crate::proofs::DefinitionReading::classes))]
-pub(crate) fn class(
+pub fn class(
     alloc: Global,
     tokens: &[Token],
     place: Place,

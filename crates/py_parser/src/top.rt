@@ -4,17 +4,17 @@ ghost use Rattle.py_grammar.specs.Grammar.{TOP, MODULE};
 ghost use Rattle.py_grammar.specs.Reader.{start};
 ghost use Rattle.py_grammar.specs.Readings.{reads_sym};
 ghost use Rattle.py_parser.specs.Definitions.{reads_tops};
-ghost use Rattle.py_parser.specs.Gives.{Gives};
-ghost use Rattle.py_parser.specs.Parsed.{MovesTo, MovesUpTo};
-ghost use Rattle.py_parser.specs.Statements.{stmts_seen};
+ghost use Rattle.py_reading.specs.Gives.{Gives};
+ghost use Rattle.py_reading.specs.Moves.{MovesTo, MovesUpTo};
+ghost use Rattle.py_statements.specs.Statements.{stmts_seen};
 ghost use Rattle.py_parser.specs.Whole.{body_seen};
 
-use crate::append::append;
-use crate::block::stmt;
+use py_statements::append::append;
+use py_statements::block::stmt;
 use crate::define::{class, class_defined, decorated, defined, func};
-use crate::fault::ParseError;
-use crate::place::{accept, sees_key, sees_sign};
-use crate::starts::begins_top;
+use py_reading::fault::ParseError;
+use py_reading::place::{accept, sees_key, sees_sign};
+use py_reading::starts::begins_top;
 use py_grammar::{Class, Place};
 use py_syntax::{Key, Sign, Stmt, Token};
 use std::alloc::Global;
@@ -22,7 +22,7 @@ use value_core::Many;
 
 /// All the tokens, as the statements of a module, and the place behind them.
 #[tactic(auto, using(crate::proofs::DefinitionReading::modules))]
-pub(crate) fn whole(alloc: Global, tokens: &[Token]) -> Result<(Many<Stmt>, Place), ParseError>
+pub fn whole(alloc: Global, tokens: &[Token]) -> Result<(Many<Stmt>, Place), ParseError>
     ensures { Gives body_seen result (reads_sym tokens.now MODULE start) }
 {
     let place = Place { at: 0, deep: false };

@@ -1,0 +1,21 @@
+-- Reading the operators of augmented assignments.
+use Rattle.std.proofs.Common.{◌≡◌, List, [], ◌∷◌, if◌then◌else◌}
+use Rattle.py_syntax.specs.declared.sign.Sign.TheVariants as s
+use Rattle.py_syntax.specs.declared.expression.BinOp.TheVariants as op
+use Rattle.py_syntax.specs.declared.token.Token.{Token}
+use Rattle.py_grammar.specs.declared.class.Class.TheVariants as class
+use Rattle.py_grammar.specs.declared.place.Place.{Place}
+use Rattle.py_grammar.specs.Grammar.{AUG}
+use Rattle.py_grammar.specs.Reader.{sees}
+use Rattle.py_grammar.specs.Readings.{reads_sym}
+use Rattle.py_grammar.proofs.StatementEquations.{aug_eq}
+use Rattle.py_reading.specs.Augmenting.{reads_augmenting}
+
+pub augmenting_eq : (ts : List Token) (p : Place) → reads_sym ts AUG p ≡
+    (if sees ts p (class.Sign s.PlusAssign ∷ []) then reads_augmenting ts s.PlusAssign op.Add p
+    else (if sees ts p (class.Sign s.MinusAssign ∷ []) then reads_augmenting ts s.MinusAssign op.Sub p
+    else (if sees ts p (class.Sign s.StarAssign ∷ []) then reads_augmenting ts s.StarAssign op.Mul p
+    else (if sees ts p (class.Sign s.SlashSlashAssign ∷ []) then reads_augmenting ts s.SlashSlashAssign op.FloorDiv p
+    else (if sees ts p (class.Sign s.PercentAssign ∷ []) then reads_augmenting ts s.PercentAssign op.Mod p
+    else (if sees ts p (class.Sign s.ShlAssign ∷ []) then reads_augmenting ts s.ShlAssign op.Shl p else reads_augmenting ts s.ShrAssign op.Shr p))))))
+augmenting_eq ts p = aug_eq ts p

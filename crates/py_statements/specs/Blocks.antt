@@ -1,0 +1,38 @@
+-- Statements with blocks and their parts, as they are read.
+use Rattle.std.specs.Prelude.{List, [], ◌∷◌, ◌++◌, Ok, if◌then◌else◌}
+use Rattle.py_syntax.specs.declared.key.Key.TheVariants as k
+use Rattle.py_syntax.specs.declared.token.Token.{Token}
+use Rattle.py_syntax.specs.Expressions.{ExprTree}
+use Rattle.py_syntax.specs.Statements.{StmtTree, Block, HandlerTree}
+use Rattle.py_grammar.specs.declared.class.Class.TheVariants as class
+use Rattle.py_grammar.specs.declared.place.Place.{Place}
+use Rattle.py_grammar.specs.Grammar as g
+use Rattle.py_grammar.specs.Grammar.{key, ◌·◌, STMT, IF, ARM, WHILE, FOR, TRY, EXCEPT}
+use Rattle.py_grammar.specs.Actions.{seconds, joined}
+use Rattle.py_grammar.specs.Reader.{Outcome, ◌>>=◌, accept, sees}
+use Rattle.py_grammar.specs.Readings.{reads_sym, reads_many}
+use Rattle.py_statements.specs.Suites.{reads_suite}
+
+-- one statement with blocks
+unfoldable pub reads_compound : List Token → Place → Outcome StmtTree
+reads_compound ts p =
+    if sees ts p (class.Key k.If ∷ []) then reads_sym ts IF p
+    else (if sees ts p (class.Key k.While ∷ []) then reads_sym ts WHILE p
+    else (if sees ts p (class.Key k.For ∷ []) then reads_sym ts FOR p else reads_sym ts TRY p))
+
+-- any number of statements, arms or handlers, behind those in front
+unfoldable pub reads_stmts : List Token → List StmtTree → Place → Outcome (List StmtTree)
+reads_stmts ts found p = reads_many ts (g.sym STMT) p >>= λ y. Ok (found ++ joined y.0, y.1)
+
+unfoldable pub reads_arms : List Token → List (ExprTree × Block) → Place → Outcome (List (ExprTree × Block))
+reads_arms ts found p = reads_many ts (key k.Elif · g.sym ARM) p >>= λ y. Ok (found ++ seconds y.0, y.1)
+
+unfoldable pub reads_handlers : List Token → List HandlerTree → Place → Outcome (List HandlerTree)
+reads_handlers ts found p = reads_many ts (g.sym EXCEPT) p >>= λ y. Ok (found ++ y.0, y.1)
+
+-- the block behind `else`, if `else` comes next
+unfoldable pub reads_else : List Token → Place → Outcome (List StmtTree)
+reads_else ts p =
+    if sees ts p (class.Key k.Else ∷ [])
+    then (accept ts (class.Key k.Else) p >>= λ w. reads_suite ts w.1)
+    else Ok ([], p)
