@@ -1,8 +1,7 @@
 //! Functions and classes.
-ghost use Rattle.std.specs.Prelude.{◌≡◌, [], ◌∷◌, map, Ok, IfOk};
-ghost use Rattle.py_syntax.specs.Statements.{stmt_tree, func_tree, class_tree};
+ghost use Rattle.std.specs.Prelude.{[], ◌∷◌, map, IfOk};
+ghost use Rattle.py_syntax.specs.Statements.{stmt_tree};
 ghost use Rattle.py_syntax.specs.Expressions.{expr_tree};
-ghost use Rattle.py_grammar.specs.Actions.{def_at, class_at};
 ghost use Rattle.py_grammar.specs.Grammar.{FUNC, PARAM, CLASS, CBLOCK, MEMBER, MARK, DECORATED};
 ghost use Rattle.py_grammar.specs.Readings.{reads_sym};
 ghost use Rattle.py_parser.specs.Definitions.{reads_bases, reads_members, reads_marks};
@@ -12,27 +11,28 @@ ghost use Rattle.py_expressions.specs.Rows.{reads_row};
 ghost use Rattle.py_statements.specs.Statements.{stmt_seen, stmts_seen};
 ghost use Rattle.py_parser.specs.Definitions.{maybe_seen, exprs_listed, param_seen, params_seen, func_seen, class_seen, mark_seen, reads_maybe};
 
-use py_statements::append::append;
-use py_statements::block::{stmt, suite};
+use crate::definition::{class_defined, class_of, defined, func_of, push_mark, push_param};
 use py_expressions::expression::{items, test};
+use py_expressions::row::no_row;
+use py_grammar::{Class as Kind, Place};
 use py_reading::fault::ParseError;
 use py_reading::place::{accept, accept_key, accept_sign, sees, sees_key, sees_sign};
-use py_expressions::row::no_row;
-use py_statements::simple::{simple, statement};
 use py_reading::starts::begins_member;
 use py_reading::word::name_of;
-use py_grammar::{Class as Kind, Place};
-use py_syntax::{Class, Expr, Func, Key, Sign, Span, Stmt, StmtKind, Token};
+use py_statements::append::{append, row_of};
+use py_statements::block::{stmt, suite};
+use py_statements::simple::simple;
+use py_syntax::{Class, Expr, Func, Key, Sign, Span, Stmt, Token};
 use std::alloc::Global;
 use value_core::{Many, Name};
 
 /// A function or a class behind its decorators.
 #[tactic(auto, using(crate::proofs::DefinitionReading::decorateds))]
-pub fn decorated(
+pub(crate) fn decorated(
     alloc: Global,
     tokens: &[Token],
     place: Place,
-) -> Result<(Stmt, Place), ParseError>
+) -> Result<(Box<Stmt>, Place), ParseError>
     ensures read { Gives stmt_seen result (reads_sym tokens.now DECORATED place) }
     ensures moves { IfOk result (λ x. MovesTo tokens.now place x.1) }
 {
@@ -40,42 +40,19 @@ pub fn decorated(
     let (marks, place) = marks(alloc, tokens, first, place)?;
     if sees_key(tokens, place, Key::Def) {
         let ((found, _), place) = func(alloc, tokens, place)?;
-        return Ok((defined(found, marks, begin), place));
+        return Ok((defined(alloc, found, marks, begin)?, place));
     }
     let ((found, _), place) = class(alloc, tokens, place)?;
-    Ok((class_defined(found, marks, begin), place))
-}
-
-/// A function as a statement, with its decorators.
-pub fn defined(found: Func, marks: Many<Expr>, begin: Span) -> Stmt
-    ensures { stmt_tree result ≡ def_at (func_tree found) (map expr_tree marks) begin }
-{
-    let marked = Func {
-        name: found.name,
-        params: found.params,
-        ret: found.ret,
-        body: found.body,
-        marks,
-    };
-    statement(StmtKind::Def(marked), begin)
-}
-
-/// A class as a statement, with its decorators.
-pub fn class_defined(found: Class, marks: Many<Expr>, begin: Span) -> Stmt
-    ensures { stmt_tree result ≡ class_at (class_tree found) (map expr_tree marks) begin }
-{
-    let marked = Class {
-        name: found.name,
-        bases: found.bases,
-        body: found.body,
-        marks,
-    };
-    statement(StmtKind::Class(marked), begin)
+    Ok((class_defined(alloc, found, marks, begin)?, place))
 }
 
 // A decorator, with the place of its sign.
 #[tactic(auto, using(crate::proofs::DefinitionReading::marks))]
-fn mark(alloc: Global, tokens: &[Token], place: Place) -> Result<((Expr, Span), Place), ParseError>
+fn mark(
+    alloc: Global,
+    tokens: &[Token],
+    place: Place,
+) -> Result<((Box<Expr>, Span), Place), ParseError>
     ensures read { Gives mark_seen result (reads_sym tokens.now MARK place) }
     ensures moves { IfOk result (λ x. MovesTo tokens.now place x.1) }
 {
@@ -90,18 +67,17 @@ fn mark(alloc: Global, tokens: &[Token], place: Place) -> Result<((Expr, Span), 
 fn marks(
     alloc: Global,
     tokens: &[Token],
-    first: Expr,
+    first: Box<Expr>,
     place: Place,
 ) -> Result<(Many<Expr>, Place), ParseError>
-    ensures read { Gives exprs_listed result (reads_marks tokens.now (expr_tree first ∷ []) place) }
+    ensures read { Gives exprs_listed result (reads_marks tokens.now (expr_tree first.value ∷ []) place) }
     ensures moves { IfOk result (λ x. MovesUpTo tokens.now place x.1) }
 {
     let mut place = place;
-    let mut found = Many::new(alloc);
-    found.push(first)?;
+    let mut found = push_mark(Many::new(alloc), first)?;
     'marks: while sees_sign(tokens, place, Sign::At) {
         let ((more, _), behind) = mark(alloc, tokens, place)?;
-        found.push(more)?;
+        found = push_mark(found, more)?;
         place = behind;
     }
     Ok((found, place))
@@ -109,11 +85,11 @@ fn marks(
 
 /// A function without decorators, with the place of its keyword.
 #[tactic(auto, using(crate::proofs::DefinitionReading::funcs))]
-pub fn func(
+pub(crate) fn func(
     alloc: Global,
     tokens: &[Token],
     place: Place,
-) -> Result<((Func, Span), Place), ParseError>
+) -> Result<((Box<Func>, Span), Place), ParseError>
     ensures read { Gives func_seen result (reads_sym tokens.now FUNC place) }
     ensures moves { IfOk result (λ x. MovesTo tokens.now place x.1) }
 {
@@ -125,13 +101,7 @@ pub fn func(
     let (_, place) = accept_sign(tokens, place, Sign::RightParen)?;
     let (ret, place) = maybe_behind(alloc, tokens, place, Sign::Arrow)?;
     let (body, place) = suite(alloc, tokens, place)?;
-    let found = Func {
-        name,
-        params,
-        ret,
-        body,
-        marks: Many::new(alloc),
-    };
+    let found = func_of(alloc, name, params, ret, body)?;
     Ok(((found, token.span), place))
 }
 
@@ -142,7 +112,7 @@ fn maybe_behind(
     tokens: &[Token],
     place: Place,
     sign: Sign,
-) -> Result<(Option<Expr>, Place), ParseError>
+) -> Result<(Option<Box<Expr>>, Place), ParseError>
     ensures read { Gives maybe_seen result (reads_maybe tokens.now sign place) }
     ensures moves { IfOk result (λ x. MovesUpTo tokens.now place x.1) }
 {
@@ -168,7 +138,7 @@ fn params(
     let mut next = place;
     'params: while sees(tokens, next, Kind::Name) {
         let (more, behind) = param(alloc, tokens, next)?;
-        found.push(more)?;
+        found = push_param(found, more)?;
         if !sees_sign(tokens, behind, Sign::Comma) {
             return Ok((found, behind));
         }
@@ -184,7 +154,7 @@ fn param(
     alloc: Global,
     tokens: &[Token],
     place: Place,
-) -> Result<((Name, Option<Expr>), Place), ParseError>
+) -> Result<((Name, Option<Box<Expr>>), Place), ParseError>
     ensures read { Gives param_seen result (reads_sym tokens.now PARAM place) }
     ensures moves { IfOk result (λ x. MovesTo tokens.now place x.1) }
 {
@@ -196,11 +166,11 @@ fn param(
 
 /// A class without decorators, with the place of its keyword.
 #[tactic(auto, using(crate::proofs::DefinitionReading::classes))]
-pub fn class(
+pub(crate) fn class(
     alloc: Global,
     tokens: &[Token],
     place: Place,
-) -> Result<((Class, Span), Place), ParseError>
+) -> Result<((Box<Class>, Span), Place), ParseError>
     ensures read { Gives class_seen result (reads_sym tokens.now CLASS place) }
     ensures moves { IfOk result (λ x. MovesTo tokens.now place x.1) }
 {
@@ -210,12 +180,7 @@ pub fn class(
     let (bases, place) = bases(alloc, tokens, place)?;
     let (_, place) = accept_sign(tokens, place, Sign::Colon)?;
     let (body, place) = class_block(alloc, tokens, place)?;
-    let found = Class {
-        name,
-        bases,
-        body,
-        marks: Many::new(alloc),
-    };
+    let found = class_of(alloc, name, bases, body)?;
     Ok(((found, token.span), place))
 }
 
@@ -286,7 +251,6 @@ fn member(alloc: Global, tokens: &[Token], place: Place) -> Result<(Many<Stmt>, 
         return stmt(alloc, tokens, place);
     }
     let ((one, begin), place) = func(alloc, tokens, place)?;
-    let mut found = Many::new(alloc);
-    found.push(defined(one, Many::new(alloc), begin))?;
-    Ok((found, place))
+    let one = defined(alloc, one, Many::new(alloc), begin)?;
+    Ok((row_of(alloc, one)?, place))
 }

@@ -9,20 +9,21 @@ ghost use Rattle.py_reading.specs.Moves.{MovesTo, MovesUpTo};
 ghost use Rattle.py_statements.specs.Statements.{stmts_seen};
 ghost use Rattle.py_parser.specs.Whole.{body_seen};
 
-use py_statements::append::append;
-use py_statements::block::stmt;
-use crate::define::{class, class_defined, decorated, defined, func};
+use crate::define::{class, decorated, func};
+use crate::definition::{class_defined, defined};
+use py_grammar::{Class, Place};
 use py_reading::fault::ParseError;
 use py_reading::place::{accept, sees_key, sees_sign};
 use py_reading::starts::begins_top;
-use py_grammar::{Class, Place};
+use py_statements::append::{append, row_of};
+use py_statements::block::stmt;
 use py_syntax::{Key, Sign, Stmt, Token};
 use std::alloc::Global;
 use value_core::Many;
 
 /// All the tokens, as the statements of a module, and the place behind them.
 #[tactic(auto, using(crate::proofs::DefinitionReading::modules))]
-pub fn whole(alloc: Global, tokens: &[Token]) -> Result<(Many<Stmt>, Place), ParseError>
+pub(crate) fn whole(alloc: Global, tokens: &[Token]) -> Result<(Many<Stmt>, Place), ParseError>
     ensures { Gives body_seen result (reads_sym tokens.now MODULE start) }
 {
     let place = Place { at: 0, deep: false };
@@ -53,21 +54,19 @@ fn top(alloc: Global, tokens: &[Token], place: Place) -> Result<(Many<Stmt>, Pla
     ensures read { Gives stmts_seen result (reads_sym tokens.now TOP place) }
     ensures moves { IfOk result (λ x. MovesTo tokens.now place x.1) }
 {
-    let mut found = Many::new(alloc);
     if sees_key(tokens, place, Key::Def) {
         let ((one, begin), place) = func(alloc, tokens, place)?;
-        found.push(defined(one, Many::new(alloc), begin))?;
-        return Ok((found, place));
+        let one = defined(alloc, one, Many::new(alloc), begin)?;
+        return Ok((row_of(alloc, one)?, place));
     }
     if sees_key(tokens, place, Key::Class) {
         let ((one, begin), place) = class(alloc, tokens, place)?;
-        found.push(class_defined(one, Many::new(alloc), begin))?;
-        return Ok((found, place));
+        let one = class_defined(alloc, one, Many::new(alloc), begin)?;
+        return Ok((row_of(alloc, one)?, place));
     }
     if sees_sign(tokens, place, Sign::At) {
         let (one, place) = decorated(alloc, tokens, place)?;
-        found.push(one)?;
-        return Ok((found, place));
+        return Ok((row_of(alloc, one)?, place));
     }
     stmt(alloc, tokens, place)
 }

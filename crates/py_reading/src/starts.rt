@@ -21,7 +21,7 @@ const COMPARISONS: [Class; 9] = [
 ];
 
 /// Names, literals that are no display, and constants.
-const LITERALS: [Class; 6] = [
+pub const LITERALS: [Class; 6] = [
     Class::Name,
     Class::Int,
     Class::Str,
@@ -30,7 +30,7 @@ const LITERALS: [Class; 6] = [
     Class::Key(Key::Nothing),
 ];
 
-const SIGNS: [Class; 2] = [Class::Sign(Sign::Minus), Class::Sign(Sign::Plus)];
+pub const SIGNS: [Class; 2] = [Class::Sign(Sign::Minus), Class::Sign(Sign::Plus)];
 
 const BRACKETS: [Class; 3] = [
     Class::Sign(Sign::LeftParen),

@@ -1,12 +1,9 @@
 -- Statements and their parts, as they were read, and the words by which the readers of rows of them speak.
+use Rattle.std.specs.declared.boxed.Box.{Box}
 use Rattle.std.specs.Prelude.{ℕ, List, [], ◌∷◌, Option, Some, None, Ok, map, if◌then◌else◌}
-use Rattle.py_syntax.specs.declared.expression.BinOp.{BinOp}
 use Rattle.py_syntax.specs.declared.expression.Expr.{Expr}
-use Rattle.py_syntax.specs.declared.statement.Func.{Func}
-use Rattle.py_syntax.specs.declared.statement.Class.{Class}
 use Rattle.py_syntax.specs.declared.statement.Handler.{Handler}
 use Rattle.py_syntax.specs.declared.statement.Stmt.{Stmt}
-use Rattle.py_syntax.specs.declared.sign.Sign.{Sign}
 use Rattle.py_syntax.specs.declared.sign.Sign.TheVariants as s
 use Rattle.py_syntax.specs.declared.key.Key.{Key}
 use Rattle.py_syntax.specs.declared.key.Key.TheVariants as k
@@ -14,32 +11,40 @@ use Rattle.py_syntax.specs.declared.token.Span.{Span}
 use Rattle.py_syntax.specs.declared.token.Token.{Token}
 use Rattle.py_syntax.specs.Expressions.{ExprTree, expr_tree}
 use Rattle.py_syntax.specs.Statements as st
-use Rattle.py_syntax.specs.Statements.{StmtTree, StmtNode, Block, HandlerTree, FuncTree, ClassTree, stmt_tree, handler_tree, func_tree, class_tree, param_tree, arm_tree, maybe_expr}
+use Rattle.py_syntax.specs.Statements.{StmtTree, StmtNode, Block, HandlerTree, stmt_tree, handler_tree, arm_tree}
 use Rattle.py_grammar.specs.declared.class.Class.TheVariants as class
 use Rattle.py_grammar.specs.declared.place.Place.{Place}
 use Rattle.py_grammar.specs.Levels.{Piece}
 use Rattle.py_grammar.specs.Grammar as g
-use Rattle.py_grammar.specs.Grammar.{comma, tok, sign, key, ◌·◌, TEST, SMALL, ALIAS, ARM}
-use Rattle.py_grammar.specs.Actions.{name_of}
+use Rattle.py_grammar.specs.Grammar.{TEST, SMALL}
 use Rattle.py_grammar.specs.Reader.{Outcome, ◌>>=◌, accept, sees, tests}
 use Rattle.py_grammar.specs.Readings.{reads_expr, reads_sym, reads_after, after_into, single}
 use Rattle.py_expressions.specs.Behind.{reads_behind}
 
+-- an expression that may be missing
+abbrev pub maybe_boxed : Option (Box Expr) → Option ExprTree
+maybe_boxed None = None
+maybe_boxed (Some x) = Some (expr_tree x.value)
+
+-- a test with its body
+abbrev pub arm_boxed : Box Expr × List Stmt → ExprTree × Block
+arm_boxed x = arm_tree (x.0.value, x.1)
+
 -- what was read, and the place behind it
-abbrev pub stmt_seen : Stmt × Place → StmtTree × Place
-stmt_seen x = (stmt_tree x.0, x.1)
+abbrev pub stmt_seen : Box Stmt × Place → StmtTree × Place
+stmt_seen x = (stmt_tree x.0.value, x.1)
 
 abbrev pub stmts_seen : List Stmt × Place → List StmtTree × Place
 stmts_seen x = (map stmt_tree x.0, x.1)
 
-abbrev pub caught_seen : (Option Expr × Option (List ℕ)) × Place → (Option ExprTree × Option (List ℕ)) × Place
-caught_seen x = ((maybe_expr x.0.0, x.0.1), x.1)
+abbrev pub caught_seen : (Option (Box Expr) × Option (List ℕ)) × Place → (Option ExprTree × Option (List ℕ)) × Place
+caught_seen x = ((maybe_boxed x.0.0, x.0.1), x.1)
 
-abbrev pub arm_seen : (Expr × List Stmt) × Place → (ExprTree × Block) × Place
-arm_seen x = (arm_tree x.0, x.1)
+abbrev pub arm_seen : (Box Expr × List Stmt) × Place → (ExprTree × Block) × Place
+arm_seen x = (arm_boxed x.0, x.1)
 
-abbrev pub handler_seen : Handler × Place → HandlerTree × Place
-handler_seen x = (handler_tree x.0, x.1)
+abbrev pub handler_seen : Box Handler × Place → HandlerTree × Place
+handler_seen x = (handler_tree x.0.value, x.1)
 
 abbrev pub handlers_seen : List Handler × Place → List HandlerTree × Place
 handlers_seen x = (map handler_tree x.0, x.1)

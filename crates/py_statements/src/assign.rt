@@ -7,14 +7,14 @@ ghost use Rattle.py_expressions.specs.Parsed.{piece_of};
 ghost use Rattle.py_reading.specs.Moves.{MovesTo};
 ghost use Rattle.py_statements.specs.Statements.{stmt_seen, reads_annotated, reads_assigned, reads_given, reads_changed};
 
+use crate::statement::{alone, annotating, annotating_with, assigning, augmented};
 use py_expressions::behind::tests_behind;
 use py_expressions::expression::{test_behind, tests};
-use py_reading::fault::ParseError;
 use py_expressions::parsed::Parsed;
-use py_reading::augmenting::augmenting;
-use py_reading::place::{sees_any, sees_sign};
-use crate::statement::{alone, annotating, annotating_with, assigning, augmented};
 use py_grammar::{Class, Place};
+use py_reading::augmenting::augmenting;
+use py_reading::fault::ParseError;
+use py_reading::place::{sees_any, sees_sign};
 use py_syntax::{Sign, Stmt, Token};
 use std::alloc::Global;
 
@@ -37,7 +37,7 @@ pub fn of_tests(
     alloc: Global,
     tokens: &[Token],
     place: Place,
-) -> Result<(Stmt, Place), ParseError>
+) -> Result<(Box<Stmt>, Place), ParseError>
     ensures read { Gives stmt_seen result (reads_sym tokens.now PLAIN place) }
     ensures moves { IfOk result (λ x. MovesTo tokens.now place x.1) }
 {
@@ -46,12 +46,16 @@ pub fn of_tests(
         return assigned(alloc, tokens, target);
     }
     let place = target.place;
-    Ok((alone(target), place))
+    Ok((alone(alloc, target)?, place))
 }
 
 // What is assigned to a target, or its annotation.
 #[tactic(auto, unfolding(crate::specs::Statements::reads_assigned))]
-fn assigned(alloc: Global, tokens: &[Token], target: Parsed) -> Result<(Stmt, Place), ParseError>
+fn assigned(
+    alloc: Global,
+    tokens: &[Token],
+    target: Parsed,
+) -> Result<(Box<Stmt>, Place), ParseError>
     ensures read { Gives stmt_seen result (reads_assigned tokens.now (piece_of target) target.place) }
     ensures moves { IfOk result (λ x. MovesTo tokens.now target.place x.1) }
 {
@@ -66,39 +70,47 @@ fn assigned(alloc: Global, tokens: &[Token], target: Parsed) -> Result<(Stmt, Pl
 
 // A value that is assigned to a target.
 #[tactic(auto, unfolding(crate::specs::Statements::reads_given))]
-fn given(alloc: Global, tokens: &[Token], target: Parsed) -> Result<(Stmt, Place), ParseError>
+fn given(alloc: Global, tokens: &[Token], target: Parsed) -> Result<(Box<Stmt>, Place), ParseError>
     ensures read { Gives stmt_seen result (reads_given tokens.now (piece_of target) target.place) }
     ensures moves { IfOk result (λ x. MovesTo tokens.now target.place x.1) }
 {
     let value = tests_behind(alloc, tokens, target.place, Class::Sign(Sign::Assign))?;
     let place = value.place;
-    Ok((assigning(target, value), place))
+    Ok((assigning(alloc, target, value)?, place))
 }
 
 // An operator by which a target is changed, and its other operand.
 #[tactic(auto, unfolding(crate::specs::Statements::reads_changed))]
-fn changed(alloc: Global, tokens: &[Token], target: Parsed) -> Result<(Stmt, Place), ParseError>
+fn changed(
+    alloc: Global,
+    tokens: &[Token],
+    target: Parsed,
+) -> Result<(Box<Stmt>, Place), ParseError>
     ensures read { Gives stmt_seen result (reads_changed tokens.now (piece_of target) target.place) }
     ensures moves { IfOk result (λ x. MovesTo tokens.now target.place x.1) }
 {
     let (op, place) = augmenting(tokens, target.place)?;
     let value = tests(alloc, tokens, place)?;
     let place = value.place;
-    Ok((augmented(target, op, value), place))
+    Ok((augmented(alloc, target, op, value)?, place))
 }
 
 // An annotation behind a target, and what is assigned to it, if anything is.
 #[tactic(auto, unfolding(crate::specs::Statements::reads_annotated))]
-fn annotated(alloc: Global, tokens: &[Token], target: Parsed) -> Result<(Stmt, Place), ParseError>
+fn annotated(
+    alloc: Global,
+    tokens: &[Token],
+    target: Parsed,
+) -> Result<(Box<Stmt>, Place), ParseError>
     ensures read { Gives stmt_seen result (reads_annotated tokens.now (piece_of target) target.place) }
     ensures moves { IfOk result (λ x. MovesTo tokens.now target.place x.1) }
 {
     let annotation = test_behind(alloc, tokens, target.place, Sign::Colon)?;
     let place = annotation.place;
     if !sees_sign(tokens, place, Sign::Assign) {
-        return Ok((annotating(target, annotation), place));
+        return Ok((annotating(alloc, target, annotation)?, place));
     }
     let value = tests_behind(alloc, tokens, place, Class::Sign(Sign::Assign))?;
     let place = value.place;
-    Ok((annotating_with(target, annotation, value), place))
+    Ok((annotating_with(alloc, target, annotation, value)?, place))
 }

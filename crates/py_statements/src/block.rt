@@ -1,25 +1,25 @@
 //! Statements with blocks. A cycle of calls goes down the blocks.
 ghost use Rattle.std.specs.Prelude.{[], ◌∷◌, map, IfOk};
-ghost use Rattle.py_syntax.specs.Statements.{stmt_tree, arm_tree, handler_tree};
+ghost use Rattle.py_syntax.specs.Statements.{stmt_tree, handler_tree};
 ghost use Rattle.py_grammar.specs.Grammar.{STMT, BLOCK, IF, ARM, WHILE, FOR, TRY, EXCEPT, FINALLY};
 ghost use Rattle.py_grammar.specs.Readings.{reads_sym};
 ghost use Rattle.py_statements.specs.Suites.{reads_suite};
 ghost use Rattle.py_statements.specs.Blocks.{reads_compound, reads_stmts, reads_arms, reads_handlers, reads_else};
 ghost use Rattle.py_reading.specs.Gives.{Gives};
 ghost use Rattle.py_reading.specs.Moves.{MovesTo, MovesUpTo};
-ghost use Rattle.py_statements.specs.Statements.{stmt_seen, stmts_seen, caught_seen, arm_seen, handler_seen, arms_seen, handlers_seen, reads_caught};
+ghost use Rattle.py_statements.specs.Statements.{arm_boxed, stmt_seen, stmts_seen, caught_seen, arm_seen, handler_seen, arms_seen, handlers_seen, reads_caught};
 
-use crate::append::append;
+use crate::append::{append, push_arm, push_handler, row_of};
+use crate::simple::simple;
+use crate::statement::{fors, handling, ifs, tries, whiles};
 use py_expressions::behind::tests_behind;
 use py_expressions::expression::test;
-use py_reading::fault::ParseError;
-use crate::import::maybe_as;
-use py_reading::place::{accept, accept_key, accept_sign, sees, sees_any, sees_key};
-use crate::simple::simple;
-use py_reading::starts::{COMPOUND, begins_stmt, begins_test};
-use crate::statement::{fors, handling, ifs, tries, whiles};
 use py_expressions::target::targets;
 use py_grammar::{Class, Place};
+use py_reading::fault::ParseError;
+use py_reading::names::maybe_as;
+use py_reading::place::{accept, accept_key, accept_sign, sees, sees_any, sees_key};
+use py_reading::starts::{COMPOUND, begins_stmt, begins_test};
 use py_syntax::{Expr, Handler, Key, Sign, Stmt, Token};
 use std::alloc::Global;
 use value_core::{Many, Name};
@@ -37,9 +37,7 @@ pub fn stmt(
 {
     if sees_any(tokens, place, &COMPOUND) {
         let (one, place) = compound(alloc, tokens, place)?;
-        let mut found = Many::new(alloc);
-        found.push(one)?;
-        return Ok((found, place));
+        return Ok((row_of(alloc, one)?, place));
     }
     simple(alloc, tokens, place)
 }
@@ -47,7 +45,7 @@ pub fn stmt(
 // One statement with blocks.
 #[cycle(block)]
 #[tactic(auto, unfolding(crate::specs::Blocks::reads_compound))]
-fn compound(alloc: Global, tokens: &[Token], place: Place) -> Result<(Stmt, Place), ParseError>
+fn compound(alloc: Global, tokens: &[Token], place: Place) -> Result<(Box<Stmt>, Place), ParseError>
     ensures read { Gives stmt_seen result (reads_compound tokens.now place) }
     ensures moves { IfOk result (λ x. MovesTo tokens.now place x.1) }
 {
@@ -125,7 +123,7 @@ fn arm(
     alloc: Global,
     tokens: &[Token],
     place: Place,
-) -> Result<((Expr, Many<Stmt>), Place), ParseError>
+) -> Result<((Box<Expr>, Many<Stmt>), Place), ParseError>
     ensures read { Gives arm_seen result (reads_sym tokens.now ARM place) }
     ensures moves { IfOk result (λ x. MovesTo tokens.now place x.1) }
 {
@@ -136,7 +134,7 @@ fn arm(
 
 #[cycle(block)]
 #[tactic(auto, using(crate::proofs::BlockReading::ifs))]
-fn if_stmt(alloc: Global, tokens: &[Token], place: Place) -> Result<(Stmt, Place), ParseError>
+fn if_stmt(alloc: Global, tokens: &[Token], place: Place) -> Result<(Box<Stmt>, Place), ParseError>
     ensures read { Gives stmt_seen result (reads_sym tokens.now IF place) }
     ensures moves { IfOk result (λ x. MovesTo tokens.now place x.1) }
 {
@@ -144,7 +142,7 @@ fn if_stmt(alloc: Global, tokens: &[Token], place: Place) -> Result<(Stmt, Place
     let (first, place) = arm(alloc, tokens, place)?;
     let (arms, place) = arms(alloc, tokens, first, place)?;
     let (other, place) = else_block(alloc, tokens, place)?;
-    Ok((ifs(arms, other, token.span), place))
+    Ok((ifs(alloc, arms, other, token.span)?, place))
 }
 
 // The arms of an `if`: the first one, and one behind each `elif`.
@@ -153,19 +151,18 @@ fn if_stmt(alloc: Global, tokens: &[Token], place: Place) -> Result<(Stmt, Place
 fn arms(
     alloc: Global,
     tokens: &[Token],
-    first: (Expr, Many<Stmt>),
+    first: (Box<Expr>, Many<Stmt>),
     place: Place,
 ) -> Result<(Many<(Expr, Many<Stmt>)>, Place), ParseError>
-    ensures read { Gives arms_seen result (reads_arms tokens.now (arm_tree first ∷ []) place) }
+    ensures read { Gives arms_seen result (reads_arms tokens.now (arm_boxed first ∷ []) place) }
     ensures moves { IfOk result (λ x. MovesUpTo tokens.now place x.1) }
 {
     let mut place = place;
-    let mut found = Many::new(alloc);
-    found.push(first)?;
+    let mut found = push_arm(Many::new(alloc), first)?;
     'arms: while sees_key(tokens, place, Key::Elif) {
         let (_, next) = accept_key(tokens, place, Key::Elif)?;
         let (more, behind) = arm(alloc, tokens, next)?;
-        found.push(more)?;
+        found = push_arm(found, more)?;
         place = behind;
     }
     Ok((found, place))
@@ -191,19 +188,23 @@ fn else_block(
 
 #[cycle(block)]
 #[tactic(auto, using(crate::proofs::BlockReading::whiles))]
-fn while_stmt(alloc: Global, tokens: &[Token], place: Place) -> Result<(Stmt, Place), ParseError>
+fn while_stmt(
+    alloc: Global,
+    tokens: &[Token],
+    place: Place,
+) -> Result<(Box<Stmt>, Place), ParseError>
     ensures read { Gives stmt_seen result (reads_sym tokens.now WHILE place) }
     ensures moves { IfOk result (λ x. MovesTo tokens.now place x.1) }
 {
     let (token, place) = accept_key(tokens, place, Key::While)?;
     let condition = test(alloc, tokens, place)?;
     let (body, place) = suite(alloc, tokens, condition.place)?;
-    Ok((whiles(condition, body, token.span), place))
+    Ok((whiles(alloc, condition, body, token.span)?, place))
 }
 
 #[cycle(block)]
 #[tactic(auto, using(crate::proofs::BlockReading::fors))]
-fn for_stmt(alloc: Global, tokens: &[Token], place: Place) -> Result<(Stmt, Place), ParseError>
+fn for_stmt(alloc: Global, tokens: &[Token], place: Place) -> Result<(Box<Stmt>, Place), ParseError>
     ensures read { Gives stmt_seen result (reads_sym tokens.now FOR place) }
     ensures moves { IfOk result (λ x. MovesTo tokens.now place x.1) }
 {
@@ -211,12 +212,12 @@ fn for_stmt(alloc: Global, tokens: &[Token], place: Place) -> Result<(Stmt, Plac
     let target = targets(alloc, tokens, place)?;
     let all = tests_behind(alloc, tokens, target.place, Class::Key(Key::In))?;
     let (body, place) = suite(alloc, tokens, all.place)?;
-    Ok((fors(target, all, body, token.span), place))
+    Ok((fors(alloc, target, all, body, token.span)?, place))
 }
 
 #[cycle(block)]
 #[tactic(auto, using(crate::proofs::BlockReading::tries))]
-fn try_stmt(alloc: Global, tokens: &[Token], place: Place) -> Result<(Stmt, Place), ParseError>
+fn try_stmt(alloc: Global, tokens: &[Token], place: Place) -> Result<(Box<Stmt>, Place), ParseError>
     ensures read { Gives stmt_seen result (reads_sym tokens.now TRY place) }
     ensures moves { IfOk result (λ x. MovesTo tokens.now place x.1) }
 {
@@ -224,16 +225,16 @@ fn try_stmt(alloc: Global, tokens: &[Token], place: Place) -> Result<(Stmt, Plac
     let (body, place) = suite(alloc, tokens, place)?;
     if !sees_key(tokens, place, Key::Except) {
         let (last, place) = finally(alloc, tokens, place)?;
-        let made = tries(body, Many::new(alloc), Some(last), token.span);
+        let made = tries(alloc, body, Many::new(alloc), Some(last), token.span)?;
         return Ok((made, place));
     }
     let (first, place) = handler(alloc, tokens, place)?;
     let (handlers, place) = handlers(alloc, tokens, first, place)?;
     if !sees_key(tokens, place, Key::Finally) {
-        return Ok((tries(body, handlers, None, token.span), place));
+        return Ok((tries(alloc, body, handlers, None, token.span)?, place));
     }
     let (last, place) = finally(alloc, tokens, place)?;
-    Ok((tries(body, handlers, Some(last), token.span), place))
+    Ok((tries(alloc, body, handlers, Some(last), token.span)?, place))
 }
 
 #[cycle(block)]
@@ -252,18 +253,17 @@ fn finally(alloc: Global, tokens: &[Token], place: Place) -> Result<(Many<Stmt>,
 fn handlers(
     alloc: Global,
     tokens: &[Token],
-    first: Handler,
+    first: Box<Handler>,
     place: Place,
 ) -> Result<(Many<Handler>, Place), ParseError>
-    ensures read { Gives handlers_seen result (reads_handlers tokens.now (handler_tree first ∷ []) place) }
+    ensures read { Gives handlers_seen result (reads_handlers tokens.now (handler_tree first.value ∷ []) place) }
     ensures moves { IfOk result (λ x. MovesUpTo tokens.now place x.1) }
 {
     let mut place = place;
-    let mut found = Many::new(alloc);
-    found.push(first)?;
+    let mut found = push_handler(Many::new(alloc), first)?;
     'handlers: while sees_key(tokens, place, Key::Except) {
         let (more, behind) = handler(alloc, tokens, place)?;
-        found.push(more)?;
+        found = push_handler(found, more)?;
         place = behind;
     }
     Ok((found, place))
@@ -271,14 +271,18 @@ fn handlers(
 
 #[cycle(block)]
 #[tactic(auto, using(crate::proofs::BlockReading::excepts))]
-fn handler(alloc: Global, tokens: &[Token], place: Place) -> Result<(Handler, Place), ParseError>
+fn handler(
+    alloc: Global,
+    tokens: &[Token],
+    place: Place,
+) -> Result<(Box<Handler>, Place), ParseError>
     ensures read { Gives handler_seen result (reads_sym tokens.now EXCEPT place) }
     ensures moves { IfOk result (λ x. MovesTo tokens.now place x.1) }
 {
     let (token, place) = accept_key(tokens, place, Key::Except)?;
     let (caught, place) = caught(alloc, tokens, place)?;
     let (body, place) = suite(alloc, tokens, place)?;
-    Ok((handling(caught, body, token.span), place))
+    Ok((handling(alloc, caught, body, token.span)?, place))
 }
 
 // What a handler catches, and its name.
@@ -287,7 +291,7 @@ fn caught(
     alloc: Global,
     tokens: &[Token],
     place: Place,
-) -> Result<((Option<Expr>, Option<Name>), Place), ParseError>
+) -> Result<((Option<Box<Expr>>, Option<Name>), Place), ParseError>
     ensures read { Gives caught_seen result (reads_caught tokens.now place) }
     ensures moves { IfOk result (λ x. MovesUpTo tokens.now place x.1) }
 {

@@ -21,7 +21,7 @@ pub fn global(
     alloc: Global,
     tokens: &[Token],
     place: Place,
-) -> Result<(Stmt, Place), ParseError>
+) -> Result<(Box<Stmt>, Place), ParseError>
     ensures read { Gives stmt_seen result (reads_sym tokens.now GLOBAL place) }
     ensures moves { IfOk result (λ x. MovesTo tokens.now place x.1) }
 {
@@ -29,7 +29,7 @@ pub fn global(
     let (first, place) = accept(tokens, place, Class::Name)?;
     let first = name_of(alloc, first)?;
     let (found, place) = names(alloc, tokens, first, place)?;
-    Ok((globals(found, token.span), place))
+    Ok((globals(alloc, found, token.span)?, place))
 }
 
 /// `import module as name`.
@@ -38,14 +38,14 @@ pub fn import(
     alloc: Global,
     tokens: &[Token],
     place: Place,
-) -> Result<(Stmt, Place), ParseError>
+) -> Result<(Box<Stmt>, Place), ParseError>
     ensures read { Gives stmt_seen result (reads_sym tokens.now IMPORT place) }
     ensures moves { IfOk result (λ x. MovesTo tokens.now place x.1) }
 {
     let (token, place) = accept_key(tokens, place, Key::Import)?;
     let (module, place) = dotted(alloc, tokens, place)?;
     let (other, place) = maybe_as(alloc, tokens, place)?;
-    Ok((importing(module, other, token.span), place))
+    Ok((importing(alloc, module, other, token.span)?, place))
 }
 
 /// `from module import name as name, ..`.
@@ -54,7 +54,7 @@ pub fn from_import(
     alloc: Global,
     tokens: &[Token],
     place: Place,
-) -> Result<(Stmt, Place), ParseError>
+) -> Result<(Box<Stmt>, Place), ParseError>
     ensures read { Gives stmt_seen result (reads_sym tokens.now FROM place) }
     ensures moves { IfOk result (λ x. MovesTo tokens.now place x.1) }
 {
@@ -62,5 +62,5 @@ pub fn from_import(
     let (module, place) = dotted(alloc, tokens, place)?;
     let (_, place) = accept_key(tokens, place, Key::Import)?;
     let (names, place) = imported(alloc, tokens, place)?;
-    Ok((from_importing(module, names, token.span), place))
+    Ok((from_importing(alloc, module, names, token.span)?, place))
 }

@@ -1,6 +1,5 @@
 //! Statements of one line.
 ghost use Rattle.std.specs.Prelude.{◌≡◌, map, IfOk};
-ghost use Rattle.py_syntax.specs.Statements as tree;
 ghost use Rattle.py_syntax.specs.Statements.{stmt_tree, stmt_node};
 ghost use Rattle.py_grammar.specs.Grammar.{SIMPLE, SMALL, RETURN, RAISE, ASSERT, DEL};
 ghost use Rattle.py_grammar.specs.Readings.{reads_sym};
@@ -8,26 +7,20 @@ ghost use Rattle.py_reading.specs.Gives.{Gives};
 ghost use Rattle.py_reading.specs.Moves.{MovesTo, MovesUpTo};
 ghost use Rattle.py_statements.specs.Statements.{stmt_seen, stmts_seen, lone_node, reads_lone, reads_line, reads_worded};
 
+use crate::append::{push_stmt, row_of};
 use crate::assign::of_tests;
-use py_expressions::expression::{test, test_behind, tests};
-use py_reading::fault::ParseError;
 use crate::import::{from_import, global, import};
+use crate::statement::{
+    asserting, asserting_with, boxed, deleting, raising, raising_value, returning, returning_value,
+};
+use py_expressions::expression::{test, test_behind, tests};
+use py_grammar::{Class, Place};
+use py_reading::fault::ParseError;
 use py_reading::place::{accept, accept_key, accept_sign, sees_key, sees_sign};
 use py_reading::starts::{begins_small, begins_test};
-use crate::statement::{
-    asserting, asserting_with, deleting, raising, raising_value, returning, returning_value,
-};
-use py_grammar::{Class, Place};
-use py_syntax::{Key, Sign, Span, Stmt, StmtKind, Token};
+use py_syntax::{Key, Sign, Stmt, StmtKind, Token};
 use std::alloc::Global;
 use value_core::Many;
-
-/// A statement at a place.
-pub fn statement(kind: StmtKind, span: Span) -> Stmt
-    ensures { stmt_tree result ≡ tree.at (stmt_node kind) span }
-{
-    Stmt { kind, span }
-}
 
 /// A line of statements.
 #[tactic(auto, using(crate::proofs::LineReading::simple_line))]
@@ -40,8 +33,7 @@ pub fn simple(
     ensures moves { IfOk result (λ x. MovesTo tokens.now place x.1) }
 {
     let (first, place) = small(alloc, tokens, place)?;
-    let mut found = Many::new(alloc);
-    found.push(first)?;
+    let found = row_of(alloc, first)?;
     let (found, place) = line(alloc, tokens, found, place)?;
     let (_, place) = accept(tokens, place, Class::Newline)?;
     Ok((found, place))
@@ -66,7 +58,7 @@ fn line(
             return Ok((found, next));
         }
         let (more, behind) = small(alloc, tokens, next)?;
-        found.push(more)?;
+        found = push_stmt(found, more)?;
         place = behind;
     }
     Ok((found, place))
@@ -74,18 +66,18 @@ fn line(
 
 // One statement of a line.
 #[tactic(auto, using(crate::proofs::LineReading::small_split))]
-fn small(alloc: Global, tokens: &[Token], place: Place) -> Result<(Stmt, Place), ParseError>
+fn small(alloc: Global, tokens: &[Token], place: Place) -> Result<(Box<Stmt>, Place), ParseError>
     ensures read { Gives stmt_seen result (reads_sym tokens.now SMALL place) }
     ensures moves { IfOk result (λ x. MovesTo tokens.now place x.1) }
 {
     if sees_key(tokens, place, Key::Pass) {
-        return lone(tokens, place, Key::Pass);
+        return lone(alloc, tokens, place, Key::Pass);
     }
     if sees_key(tokens, place, Key::Break) {
-        return lone(tokens, place, Key::Break);
+        return lone(alloc, tokens, place, Key::Break);
     }
     if sees_key(tokens, place, Key::Continue) {
-        return lone(tokens, place, Key::Continue);
+        return lone(alloc, tokens, place, Key::Continue);
     }
     if sees_key(tokens, place, Key::Return) {
         return returned(alloc, tokens, place);
@@ -102,7 +94,7 @@ fn small_of_words(
     alloc: Global,
     tokens: &[Token],
     place: Place,
-) -> Result<(Stmt, Place), ParseError>
+) -> Result<(Box<Stmt>, Place), ParseError>
     ensures read { Gives stmt_seen result (reads_worded tokens.now place) }
     ensures moves { IfOk result (λ x. MovesTo tokens.now place x.1) }
 {
@@ -125,12 +117,17 @@ fn small_of_words(
 }
 
 // A statement of one keyword.
-fn lone(tokens: &[Token], place: Place, key: Key) -> Result<(Stmt, Place), ParseError>
+fn lone(
+    alloc: Global,
+    tokens: &[Token],
+    place: Place,
+    key: Key,
+) -> Result<(Box<Stmt>, Place), ParseError>
     ensures read { Gives stmt_seen result (reads_lone tokens.now key place) }
     ensures moves { IfOk result (λ x. MovesTo tokens.now place x.1) }
 {
     let (token, place) = accept_key(tokens, place, key)?;
-    Ok((statement(lone_kind(key), token.span), place))
+    Ok((boxed(alloc, lone_kind(key), token.span)?, place))
 }
 
 fn lone_kind(key: Key) -> StmtKind
@@ -144,35 +141,35 @@ fn lone_kind(key: Key) -> StmtKind
 }
 
 #[tactic(auto, using(crate::proofs::LineReading::returning))]
-fn returned(alloc: Global, tokens: &[Token], place: Place) -> Result<(Stmt, Place), ParseError>
+fn returned(alloc: Global, tokens: &[Token], place: Place) -> Result<(Box<Stmt>, Place), ParseError>
     ensures read { Gives stmt_seen result (reads_sym tokens.now RETURN place) }
     ensures moves { IfOk result (λ x. MovesTo tokens.now place x.1) }
 {
     let (token, place) = accept_key(tokens, place, Key::Return)?;
     if !begins_test(tokens, place) {
-        return Ok((returning(token.span), place));
+        return Ok((returning(alloc, token.span)?, place));
     }
     let value = tests(alloc, tokens, place)?;
     let place = value.place;
-    Ok((returning_value(value, token.span), place))
+    Ok((returning_value(alloc, value, token.span)?, place))
 }
 
 #[tactic(auto, using(crate::proofs::LineReading::raising))]
-fn raised(alloc: Global, tokens: &[Token], place: Place) -> Result<(Stmt, Place), ParseError>
+fn raised(alloc: Global, tokens: &[Token], place: Place) -> Result<(Box<Stmt>, Place), ParseError>
     ensures read { Gives stmt_seen result (reads_sym tokens.now RAISE place) }
     ensures moves { IfOk result (λ x. MovesTo tokens.now place x.1) }
 {
     let (token, place) = accept_key(tokens, place, Key::Raise)?;
     if !begins_test(tokens, place) {
-        return Ok((raising(token.span), place));
+        return Ok((raising(alloc, token.span)?, place));
     }
     let value = test(alloc, tokens, place)?;
     let place = value.place;
-    Ok((raising_value(value, token.span), place))
+    Ok((raising_value(alloc, value, token.span)?, place))
 }
 
 #[tactic(auto, using(crate::proofs::LineReading::asserting))]
-fn asserted(alloc: Global, tokens: &[Token], place: Place) -> Result<(Stmt, Place), ParseError>
+fn asserted(alloc: Global, tokens: &[Token], place: Place) -> Result<(Box<Stmt>, Place), ParseError>
     ensures read { Gives stmt_seen result (reads_sym tokens.now ASSERT place) }
     ensures moves { IfOk result (λ x. MovesTo tokens.now place x.1) }
 {
@@ -180,20 +177,23 @@ fn asserted(alloc: Global, tokens: &[Token], place: Place) -> Result<(Stmt, Plac
     let condition = test(alloc, tokens, place)?;
     let place = condition.place;
     if !sees_sign(tokens, place, Sign::Comma) {
-        return Ok((asserting(condition, token.span), place));
+        return Ok((asserting(alloc, condition, token.span)?, place));
     }
     let message = test_behind(alloc, tokens, place, Sign::Comma)?;
     let place = message.place;
-    Ok((asserting_with(condition, message, token.span), place))
+    Ok((
+        asserting_with(alloc, condition, message, token.span)?,
+        place,
+    ))
 }
 
 #[tactic(auto, using(crate::proofs::LineReading::deleting))]
-fn deleted(alloc: Global, tokens: &[Token], place: Place) -> Result<(Stmt, Place), ParseError>
+fn deleted(alloc: Global, tokens: &[Token], place: Place) -> Result<(Box<Stmt>, Place), ParseError>
     ensures read { Gives stmt_seen result (reads_sym tokens.now DEL place) }
     ensures moves { IfOk result (λ x. MovesTo tokens.now place x.1) }
 {
     let (token, place) = accept_key(tokens, place, Key::Del)?;
     let target = test(alloc, tokens, place)?;
     let place = target.place;
-    Ok((deleting(target, token.span), place))
+    Ok((deleting(alloc, target, token.span)?, place))
 }

@@ -8,7 +8,8 @@ use Rattle.py_expressions.proofs.row.push_value.Goals as goal
 pub returns-clause-row : goal.returns-clause-row
 returns-clause-row c =
     let is = c.in_ok-push.ensures.ok in
-    let all : arguments_level (arguments_of (map arg_tree c.push.new.self)) ≡ max (arguments_level (arguments_of (map arg_tree c.args.row.list))) (level (expr_tree c.args.value.expr.value)) =
+    let all : arguments_level (arguments_of (map arg_tree c.push.new.self)) ≡ max (arguments_level (arguments_of (map arg_tree c.args.row.list))) (level (expr_tree c.into_inner.result)) =
     ap (λ l. arguments_level (arguments_of (map arg_tree l))) is
-    ∙ simp (map-append, value_arg) (value_push (map arg_tree c.args.row.list) (expr_tree c.args.value.expr.value)) in
-    record { level = omega (arith, all, c.max-level.ensures); small = omega (arith, c.max-level.ensures) }
+    ∙ simp (map-append, value_arg) (value_push (map arg_tree c.args.row.list) (expr_tree c.into_inner.result)) in
+    let value = ap (λ x. level (expr_tree x)) c.into_inner.ensures in
+    record { level = omega (arith, all, value, c.max-level.ensures); small = omega (arith, c.max-level.ensures) }

@@ -6,7 +6,7 @@ use Rattle.py_parser.proofs.define.marks.Given as goal
 
 abbrev pub invariant-marks : goal.invariant-marks
 invariant-marks l = record {
-  so_far : reads_marks l.tokens (expr_tree l.fn.first ∷ []) l.fn.place ≡ reads_marks l.tokens (map expr_tree l.found) l.place;
+  so_far : reads_marks l.tokens (expr_tree l.fn.first.value ∷ []) l.fn.place ≡ reads_marks l.tokens (map expr_tree l.found) l.place;
   moves : MovesUpTo l.tokens l.fn.place l.place;
 }
 

@@ -1,4 +1,4 @@
-use Rattle.std.proofs.Common.{[], ◌∷◌, map, ap, sym, ◌∙◌, arith}
+use Rattle.std.proofs.Common.{map, ap, sym, ◌∙◌, arith}
 use Rattle.std.proofs.lemmas.List.{map-append}
 use Rattle.py_syntax.specs.Statements.{stmt_tree, arm_tree, handler_tree}
 use Rattle.py_statements.specs.Blocks.{reads_stmts, reads_arms, reads_handlers}
@@ -32,7 +32,7 @@ arms-arms-preserved t c =
           c.arms.invariant.so_far
           ∙ arms_more ts (map arm_tree c.arms.found) c.arms.place (c.in_ok-next.field-0-0.now, c.in_ok-next.next) (arm_seen (more, behind))
           (sym c.sees_key.ensures ∙ c.arms-test.true) c.in_ok-next.ensures.read c.in_ok-more.ensures.read
-          ∙ ap (λ l. reads_arms ts l behind) (sym (ap (map arm_tree) c.in_ok-push-2.ensures.ok ∙ map-append arm_tree c.arms.found (more ∷ [])));
+          ∙ ap (λ l. reads_arms ts l behind) (sym c.in_ok-found-2.ensures);
       moves = record {
         on = omega (arith, c.arms.invariant.moves.on, c.in_ok-next.ensures.at, c.in_ok-more.ensures.moves.on);
         within = λ h. c.in_ok-more.ensures.moves.within;
@@ -48,7 +48,7 @@ handlers-handlers-preserved t c =
       so_far =
           c.handlers.invariant.so_far
           ∙ handlers_more ts (map handler_tree c.handlers.found) c.handlers.place (handler_seen (more, behind)) (sym c.sees_key.ensures ∙ c.handlers-test.true) c.in_ok-more.ensures.read
-          ∙ ap (λ l. reads_handlers ts l behind) (sym (ap (map handler_tree) c.in_ok-push-2.ensures.ok ∙ map-append handler_tree c.handlers.found (more ∷ [])));
+          ∙ ap (λ l. reads_handlers ts l behind) (sym c.in_ok-found-2.ensures);
       moves = record {
         on = omega (arith, c.handlers.invariant.moves.on, c.in_ok-more.ensures.moves.on);
         within = λ h. c.in_ok-more.ensures.moves.within;

@@ -1,6 +1,7 @@
 use Rattle.std.proofs.Common.{◌≡◌, ◌+◌, length, ◌-◌, ◌*◌, [], ◌∷◌, map}
 use Rattle.py_syntax.specs.Statements.{stmt_tree, arm_tree, handler_tree}
 use Rattle.py_statements.specs.Blocks.{reads_stmts, reads_arms, reads_handlers}
+use Rattle.py_statements.specs.Statements.{arm_boxed}
 use Rattle.py_reading.specs.Moves.{MovesUpTo}
 use Rattle.py_statements.proofs.block.+block.Given as goal
 
@@ -60,7 +61,7 @@ decreases-stmts-stmts l = length l.tokens - l.place.at
 
 abbrev pub invariant-arms-arms : goal.invariant-arms-arms
 invariant-arms-arms l = record {
-  so_far : reads_arms l.tokens (arm_tree l.fn.first ∷ []) l.fn.place ≡ reads_arms l.tokens (map arm_tree l.found) l.place;
+  so_far : reads_arms l.tokens (arm_boxed l.fn.first ∷ []) l.fn.place ≡ reads_arms l.tokens (map arm_tree l.found) l.place;
   moves : MovesUpTo l.tokens l.fn.place l.place;
 }
 
@@ -69,7 +70,7 @@ decreases-arms-arms l = length l.tokens - l.place.at
 
 abbrev pub invariant-handlers-handlers : goal.invariant-handlers-handlers
 invariant-handlers-handlers l = record {
-  so_far : reads_handlers l.tokens (handler_tree l.fn.first ∷ []) l.fn.place ≡ reads_handlers l.tokens (map handler_tree l.found) l.place;
+  so_far : reads_handlers l.tokens (handler_tree l.fn.first.value ∷ []) l.fn.place ≡ reads_handlers l.tokens (map handler_tree l.found) l.place;
   moves : MovesUpTo l.tokens l.fn.place l.place;
 }
 

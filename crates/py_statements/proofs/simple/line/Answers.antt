@@ -1,5 +1,4 @@
-use Rattle.std.proofs.Common.{[], ◌∷◌, map, ap, sym, ◌∙◌, arith}
-use Rattle.std.proofs.lemmas.List.{map-append}
+use Rattle.std.proofs.Common.{map, ap, sym, ◌∙◌, arith}
 use Rattle.py_syntax.specs.Statements.{stmt_tree}
 use Rattle.py_statements.specs.Statements.{stmt_seen, stmts_seen, reads_line}
 use Rattle.py_reading.proofs.Faults.{exit_gives}
@@ -17,7 +16,7 @@ smalls-preserved c =
           ∙ line_more ts (map stmt_tree c.smalls.found) c.smalls.place (c.in_ok-next.field-0-0.now, c.in_ok-next.next) (stmt_seen (more, behind))
           (sym c.sees_sign.ensures ∙ c.smalls-test.true) c.in_ok-next.ensures.read
           (sym c.begins_small.ensures ∙ c.if-not-begins_small.false) c.in_ok-more.ensures.read
-          ∙ ap (λ l. reads_line ts l behind) (sym (ap (map stmt_tree) c.in_ok-push.ensures.ok ∙ map-append stmt_tree c.smalls.found (more ∷ [])));
+          ∙ ap (λ l. reads_line ts l behind) (sym c.in_ok-found.ensures);
       moves = record {
         on = omega (arith, c.smalls.invariant.moves.on, c.in_ok-next.ensures.at, c.in_ok-more.ensures.moves.on);
         within = λ h. c.in_ok-more.ensures.moves.within;
