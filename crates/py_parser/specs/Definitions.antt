@@ -1,5 +1,5 @@
 -- Definitions and modules and their parts, as they are read.
-use Rattle.std.specs.declared.boxed.Box.{Box}
+use Rattle.std.specs.Global.{Box}
 use Rattle.std.specs.Prelude.{ℕ, List, [], ◌∷◌, ◌++◌, Option, Some, None, Ok, map, if◌then◌else◌}
 use Rattle.py_syntax.specs.declared.expression.Expr.{Expr}
 use Rattle.py_syntax.specs.declared.statement.Func.{Func}

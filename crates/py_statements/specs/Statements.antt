@@ -1,5 +1,5 @@
 -- Statements and their parts, as they were read, and the words by which the readers of rows of them speak.
-use Rattle.std.specs.declared.boxed.Box.{Box}
+use Rattle.std.specs.Global.{Box}
 use Rattle.std.specs.Prelude.{ℕ, List, [], ◌∷◌, Option, Some, None, Ok, map, if◌then◌else◌}
 use Rattle.py_syntax.specs.declared.expression.Expr.{Expr}
 use Rattle.py_syntax.specs.declared.statement.Handler.{Handler}
@@ -20,6 +20,7 @@ use Rattle.py_grammar.specs.Grammar.{TEST, SMALL}
 use Rattle.py_grammar.specs.Reader.{Outcome, ◌>>=◌, accept, sees, tests}
 use Rattle.py_grammar.specs.Readings.{reads_expr, reads_sym, reads_after, after_into, single}
 use Rattle.py_expressions.specs.Behind.{reads_behind}
+use Rattle.py_reading.specs.Names.{reads_as}
 
 -- an expression that may be missing
 abbrev pub maybe_boxed : Option (Box Expr) → Option ExprTree
