@@ -7,9 +7,12 @@
 
 pub mod atom;
 pub mod behind;
+pub mod chain;
+pub mod display;
 pub mod expression;
 pub mod join;
 pub mod parsed;
 pub mod prefix;
 pub mod row;
 pub mod target;
+pub mod trailer;

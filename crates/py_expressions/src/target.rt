@@ -8,7 +8,7 @@ ghost use Rattle.py_expressions.specs.Parsed.{seen, exprs_seen, Moves, AreExprs}
 ghost use Rattle.py_reading.specs.Moves.{MovesUpTo};
 ghost use Rattle.py_expressions.specs.Rows.{fronted, reads_trees};
 
-use crate::expression::chain;
+use crate::chain::chain;
 use crate::join::tuple;
 use crate::parsed::{Parsed, Row};
 use crate::row::{no_row, push_expr};

@@ -11,7 +11,7 @@ ghost use Rattle.py_expressions.specs.Rows.{reads_row};
 ghost use Rattle.py_statements.specs.Statements.{stmt_seen, stmts_seen};
 ghost use Rattle.py_parser.specs.Definitions.{maybe_seen, exprs_listed, param_seen, params_seen, func_seen, class_seen, mark_seen, reads_maybe};
 
-use crate::definition::{class_defined, class_of, defined, func_of, push_mark, push_param};
+use crate::definition::{class_defined, defined, new_class, new_func, push_mark, push_param};
 use py_expressions::expression::{items, test};
 use py_expressions::row::no_row;
 use py_grammar::{Class as Kind, Place};
@@ -101,7 +101,7 @@ pub(crate) fn func(
     let (_, place) = accept_sign(tokens, place, Sign::RightParen)?;
     let (ret, place) = maybe_behind(alloc, tokens, place, Sign::Arrow)?;
     let (body, place) = suite(alloc, tokens, place)?;
-    let found = func_of(alloc, name, params, ret, body)?;
+    let found = new_func(alloc, name, params, ret, body)?;
     Ok(((found, token.span), place))
 }
 
@@ -180,7 +180,7 @@ pub(crate) fn class(
     let (bases, place) = bases(alloc, tokens, place)?;
     let (_, place) = accept_sign(tokens, place, Sign::Colon)?;
     let (body, place) = class_block(alloc, tokens, place)?;
-    let found = class_of(alloc, name, bases, body)?;
+    let found = new_class(alloc, name, bases, body)?;
     Ok(((found, token.span), place))
 }
 

@@ -13,7 +13,7 @@ use value_core::{Many, Memory, Name};
 
 /// A function without decorators.
 #[tactic(auto, using(crate::proofs::Parts::parts))]
-pub(crate) fn func_of(
+pub(crate) fn new_func(
     alloc: Global,
     name: Name,
     params: Many<(Name, Option<Expr>)>,
@@ -34,7 +34,7 @@ pub(crate) fn func_of(
 
 /// A class without decorators.
 #[tactic(auto, using(crate::proofs::Parts::parts))]
-pub(crate) fn class_of(
+pub(crate) fn new_class(
     alloc: Global,
     name: Name,
     bases: Many<Expr>,

@@ -17,10 +17,10 @@ use Rattle.py_reading.proofs.Faults.{exit_gives, gives_at}
 use Rattle.py_expressions.proofs.HeadLemmas.{heads_push}
 use Rattle.py_expressions.proofs.PrefixReading.{nots_more, nots_end, signs_more, signs_end}
 use Rattle.py_expressions.proofs.RowReading.{trees_more, trees_last, trees_comma_fails, row_step, row_stop, next_comma_fails}
-use Rattle.py_expressions.proofs.expression.+expression.Goals as goal
+use Rattle.py_expressions.proofs.+expression.Goals as goal
 
-pub test-heads-preserved : goal.test-heads-preserved
-test-heads-preserved t c =
+pub expression::test-heads-preserved : goal.expression::test-heads-preserved
+expression::test-heads-preserved t c =
     let ts = c.args.tokens.now in
     let last = c.heads.last in
     let condition = c.in_ok-condition.condition in
@@ -40,8 +40,8 @@ test-heads-preserved t c =
       };
     }
 
-pub items-items-preserved : goal.items-items-preserved
-items-items-preserved t c =
+pub expression::items-items-preserved : goal.expression::items-items-preserved
+expression::items-items-preserved t c =
     let ts = c.args.tokens.now in
     let item = c.in_ok-item.item in
     let place_is = c.in_ok-found.ensures.place in
@@ -60,8 +60,8 @@ items-items-preserved t c =
       row = c.in_ok-found.ensures.row;
     }
 
-pub chain-growth-preserved : goal.chain-growth-preserved
-chain-growth-preserved t c =
+pub chain::chain-growth-preserved : goal.chain::chain-growth-preserved
+chain::chain-growth-preserved t c =
     let ts = c.args.tokens.now in
     let left = c.growth.left in
     record {
@@ -75,8 +75,8 @@ chain-growth-preserved t c =
       };
     }
 
-pub arguments-arguments-preserved : goal.arguments-arguments-preserved
-arguments-arguments-preserved t c =
+pub trailer::arguments-arguments-preserved : goal.trailer::arguments-arguments-preserved
+trailer::arguments-arguments-preserved t c =
     let ts = c.args.tokens.now in
     record {
       so_far =
@@ -91,8 +91,8 @@ arguments-arguments-preserved t c =
       row = c.in_ok-found.ensures.row;
     }
 
-pub entries-entries-preserved : goal.entries-entries-preserved
-entries-entries-preserved t c =
+pub display::entries-entries-preserved : goal.display::entries-entries-preserved
+display::entries-entries-preserved t c =
     let ts = c.args.tokens.now in
     record {
       so_far =
@@ -107,8 +107,8 @@ entries-entries-preserved t c =
       row = c.in_ok-found.ensures.row;
     }
 
-pub not_test-nots-preserved : goal.not_test-nots-preserved
-not_test-nots-preserved t c =
+pub chain::not_test-nots-preserved : goal.chain::not_test-nots-preserved
+chain::not_test-nots-preserved t c =
     let ts = c.args.tokens.now in
     record {
       so_far =
@@ -120,8 +120,8 @@ not_test-nots-preserved t c =
       };
     }
 
-pub factor-signs-preserved : goal.factor-signs-preserved
-factor-signs-preserved t c =
+pub chain::factor-signs-preserved : goal.chain::factor-signs-preserved
+chain::factor-signs-preserved t c =
     let ts = c.args.tokens.now in
     let is = c.sign_at.ensures in
     record {
@@ -134,60 +134,60 @@ factor-signs-preserved t c =
       };
     }
 
-pub arguments-returns-then-not-sees_sign-clause-read : goal.arguments-returns-then-not-sees_sign-clause-read
-arguments-returns-then-not-sees_sign-clause-read t c =
+pub trailer::arguments-returns-then-not-sees_sign-clause-read : goal.trailer::arguments-returns-then-not-sees_sign-clause-read
+trailer::arguments-returns-then-not-sees_sign-clause-read t c =
     c.arguments.invariant.so_far
     ∙ row_stop c.args.tokens.now ARG c.arguments.next (map arg_tree c.arguments.found.list) (args_seen c.in_ok-found.found)
     (sym c.begins_test.ensures ∙ c.arguments-test.true) c.in_ok-found.ensures.read (sym c.sees_sign.ensures ∙ c.if-not-sees_sign.true)
 
-pub arguments-returns-in_err-behind-clause-read : goal.arguments-returns-in_err-behind-clause-read
-arguments-returns-in_err-behind-clause-read t c =
+pub trailer::arguments-returns-in_err-behind-clause-read : goal.trailer::arguments-returns-in_err-behind-clause-read
+trailer::arguments-returns-in_err-behind-clause-read t c =
     exit_gives args_seen _ _ _ c.from_residual-in_err-behind.ensures.1
     (rw c.arguments.invariant.so_far
     (next_comma_fails c.args.tokens.now ARG c.arguments.next (map arg_tree c.arguments.found.list) (args_seen c.in_ok-found.found) _
     (sym c.begins_test.ensures ∙ c.arguments-test.true) c.in_ok-found.ensures.read (sym c.sees_sign.ensures ∙ c.if-not-sees_sign.false) c.in_err-behind.ensures.read))
 
-pub entries-returns-then-not-sees_sign-clause-read : goal.entries-returns-then-not-sees_sign-clause-read
-entries-returns-then-not-sees_sign-clause-read t c =
+pub display::entries-returns-then-not-sees_sign-clause-read : goal.display::entries-returns-then-not-sees_sign-clause-read
+display::entries-returns-then-not-sees_sign-clause-read t c =
     c.entries.invariant.so_far
     ∙ row_stop c.args.tokens.now ENTRY c.entries.next (map entry_tree c.entries.found.list) (entries_seen c.in_ok-found.found)
     (sym c.begins_test.ensures ∙ c.entries-test.true) c.in_ok-found.ensures.read (sym c.sees_sign.ensures ∙ c.if-not-sees_sign.true)
 
-pub entries-returns-in_err-behind-clause-read : goal.entries-returns-in_err-behind-clause-read
-entries-returns-in_err-behind-clause-read t c =
+pub display::entries-returns-in_err-behind-clause-read : goal.display::entries-returns-in_err-behind-clause-read
+display::entries-returns-in_err-behind-clause-read t c =
     exit_gives entries_seen _ _ _ c.from_residual-in_err-behind.ensures.1
     (rw c.entries.invariant.so_far
     (next_comma_fails c.args.tokens.now ENTRY c.entries.next (map entry_tree c.entries.found.list) (entries_seen c.in_ok-found.found) _
     (sym c.begins_test.ensures ∙ c.entries-test.true) c.in_ok-found.ensures.read (sym c.sees_sign.ensures ∙ c.if-not-sees_sign.false) c.in_err-behind.ensures.read))
 
-pub chain-growth-init : goal.chain-growth-init
-chain-growth-init t c =
+pub chain::chain-growth-init : goal.chain::chain-growth-init
+chain::chain-growth-init t c =
     record {
       so_far = chain_start c.args.tokens.now c.args.level c.args.place (seen c.in_ok-left.left) c.in_ok-left.ensures.read;
       moves = c.in_ok-left.ensures.moves;
     }
 
-pub comparison-returns-then-not-begins_comparison-clause-read : goal.comparison-returns-then-not-begins_comparison-clause-read
-comparison-returns-then-not-begins_comparison-clause-read t c =
+pub chain::comparison-returns-then-not-begins_comparison-clause-read : goal.chain::comparison-returns-then-not-begins_comparison-clause-read
+chain::comparison-returns-then-not-begins_comparison-clause-read t c =
     comp_alone c.args.tokens.now c.args.place (seen c.in_ok-first.first) c.in_ok-first.ensures.read
     (sym c.begins_comparison.ensures ∙ c.if-not-begins_comparison.true) c.in_ok-first.ensures.moves.finished.closed
 
-pub factor-returns-clause-read : goal.factor-returns-clause-read
-factor-returns-clause-read t c =
+pub chain::factor-returns-clause-read : goal.chain::factor-returns-clause-read
+chain::factor-returns-clause-read t c =
     gives_at seen _ _ _
     (signs_end c.args.tokens.now c.args.place c.signs.inner (seen c.in_ok-found.found) c.signs.invariant.so_far
     (sym c.begins_sign.ensures ∙ c.signs-test.false) c.in_ok-found.ensures.read c.in_ok-found.ensures.moves.finished.closed)
     c.prefixes.ensures.read
 
-pub not_test-returns-clause-read : goal.not_test-returns-clause-read
-not_test-returns-clause-read t c =
+pub chain::not_test-returns-clause-read : goal.chain::not_test-returns-clause-read
+chain::not_test-returns-clause-read t c =
     gives_at seen _ _ _
     (nots_end c.args.tokens.now c.args.place c.nots.inner (seen c.in_ok-found.found) c.nots.invariant.so_far
     (sym c.sees_key.ensures ∙ c.nots-test.false) c.in_ok-found.ensures.read c.in_ok-found.ensures.moves.finished.closed)
     c.prefixes.ensures.read
 
-pub items-returns-then-not-sees_sign-clause-read : goal.items-returns-then-not-sees_sign-clause-read
-items-returns-then-not-sees_sign-clause-read t c =
+pub expression::items-returns-then-not-sees_sign-clause-read : goal.expression::items-returns-then-not-sees_sign-clause-read
+expression::items-returns-then-not-sees_sign-clause-read t c =
     let ts = c.args.tokens.now in
     let item = c.in_ok-item.item in
     let found = c.in_ok-found.found in
@@ -198,8 +198,8 @@ items-returns-then-not-sees_sign-clause-read t c =
     ∙ ap (λ l. Ok (l, item.place)) (sym c.in_ok-found.ensures.list)
     ∙ ap (λ p. Ok (map expr_tree found.list, p)) (sym place_is)
 
-pub items-returns-in_err-behind-clause-read : goal.items-returns-in_err-behind-clause-read
-items-returns-in_err-behind-clause-read t c =
+pub expression::items-returns-in_err-behind-clause-read : goal.expression::items-returns-in_err-behind-clause-read
+expression::items-returns-in_err-behind-clause-read t c =
     let place_is = c.in_ok-found.ensures.place in
     exit_gives exprs_seen _ _ _ c.from_residual-in_err-behind.ensures.1
     (rw c.items.invariant.so_far
@@ -207,59 +207,59 @@ items-returns-in_err-behind-clause-read t c =
     (sym c.begins_test.ensures ∙ c.items-test.true) c.in_ok-item.ensures.read
     (rw (← place_is) (sym c.sees_sign.ensures ∙ c.if-not-sees_sign.false)) (rw place_is at c.in_err-behind.ensures.read)))
 
-pub test-heads-init : goal.test-heads-init
-test-heads-init t c =
+pub expression::test-heads-init : goal.expression::test-heads-init
+expression::test-heads-init t c =
     record {
       so_far = rw c.new-heads.ensures.items (test_start c.args.tokens.now c.args.place (seen c.in_ok-last.last) c.in_ok-last.ensures.read);
       heads = rw c.new-heads.ensures.items tt;
       moves = c.in_ok-last.ensures.moves;
     }
 
-pub test-returns-in_err-condition-clause-read : goal.test-returns-in_err-condition-clause-read
-test-returns-in_err-condition-clause-read t c =
+pub expression::test-returns-in_err-condition-clause-read : goal.expression::test-returns-in_err-condition-clause-read
+expression::test-returns-in_err-condition-clause-read t c =
     let last = c.heads.last in
     exit_gives seen _ _ _ c.from_residual-in_err-condition.ensures.1
     (alternative_fails c.args.tokens.now c.args.place (map head_of c.heads.heads.items) (piece_of last) last.place _ c.heads.invariant.so_far
     (sym c.sees_key.ensures ∙ c.heads-test.true) c.in_err-condition.ensures.read)
 
-pub test-returns-clause-read : goal.test-returns-clause-read
-test-returns-clause-read t c =
+pub expression::test-returns-clause-read : goal.expression::test-returns-clause-read
+expression::test-returns-clause-read t c =
     let last = c.heads.last in
     gives_at seen _ _ _
     (test_end c.args.tokens.now c.args.place (map head_of c.heads.heads.items) (piece_of last) last.place c.heads.invariant.so_far
     (sym c.sees_key.ensures ∙ c.heads-test.false) c.heads.invariant.moves.finished.closed)
     c.conditionals.ensures.read
 
-pub grow-returns-in_err-right-in-Some-clause-read : goal.grow-returns-in_err-right-in-Some-clause-read
-grow-returns-in_err-right-in-Some-clause-read t c =
+pub chain::grow-returns-in_err-right-in-Some-clause-read : goal.chain::grow-returns-in_err-right-in-Some-clause-read
+chain::grow-returns-in_err-right-in-Some-clause-read t c =
     exit_gives seen _ _ _ c.from_residual.ensures.1
     (growth_lacks c.args.tokens.now c.args.level (piece_of c.args.left) c.args.left.place c.in-Some.next _ (sym c.in-Some.ensures) c.in_err-right-in-Some.ensures.read)
 
-pub grow-returns-in_ok-right-in-Some-clause-read : goal.grow-returns-in_ok-right-in-Some-clause-read
-grow-returns-in_ok-right-in-Some-clause-read t c =
+pub chain::grow-returns-in_ok-right-in-Some-clause-read : goal.chain::grow-returns-in_ok-right-in-Some-clause-read
+chain::grow-returns-in_ok-right-in-Some-clause-read t c =
     gives_at seen _ _ _
     (growth_makes c.args.tokens.now c.args.level (piece_of c.args.left) c.args.left.place c.in-Some.next _ (sym c.in-Some.ensures) c.in_ok-right-in-Some.ensures.read)
     c.joined.ensures.read
 
-pub list-returns-in_err-place-clause-read : goal.list-returns-in_err-place-clause-read
-list-returns-in_err-place-clause-read t c =
+pub display::list-returns-in_err-place-clause-read : goal.display::list-returns-in_err-place-clause-read
+display::list-returns-in_err-place-clause-read t c =
     exit_gives seen _ _ _ c.from_residual-in_err-place.ensures.1
     (list_close_fails c.args.tokens.now c.args.place (c.in_ok-open.open.now, c.in_ok-open.place) _ _ c.in_ok-open.ensures.read
     (rw c.no_row.ensures.list at c.in_ok-found.ensures.read) c.in_err-place.ensures.read)
 
-pub comparison-returns-in_err-more-clause-read : goal.comparison-returns-in_err-more-clause-read
-comparison-returns-in_err-more-clause-read t c =
+pub chain::comparison-returns-in_err-more-clause-read : goal.chain::comparison-returns-in_err-more-clause-read
+chain::comparison-returns-in_err-more-clause-read t c =
     exit_gives seen _ _ _ c.from_residual-in_err-more.ensures.1
     (comparisons_fail c.args.tokens.now c.args.place (seen c.in_ok-first.first) _ c.in_ok-first.ensures.read c.in_err-more.ensures.read)
 
-pub comparison-returns-clause-read : goal.comparison-returns-clause-read
-comparison-returns-clause-read t c =
+pub chain::comparison-returns-clause-read : goal.chain::comparison-returns-clause-read
+chain::comparison-returns-clause-read t c =
     gives_at seen _ _ _
     (comp_made c.args.tokens.now c.args.place (seen c.in_ok-first.first) (comparisons_seen c.in_ok-more.more) c.in_ok-first.ensures.read c.in_ok-more.ensures.read c.in_ok-more.ensures.some)
     c.compared.ensures.read
 
-pub comparisons-comparisons-init : goal.comparisons-comparisons-init
-comparisons-comparisons-init t c =
+pub chain::comparisons-comparisons-init : goal.chain::comparisons-comparisons-init
+chain::comparisons-comparisons-init t c =
     let ts = c.args.tokens.now in
     let more = c.in_ok-more.more in
     let read = rw (c.no_row.ensures.list, c.no_row.ensures.place) at c.in_ok-more.ensures.read in
@@ -274,8 +274,8 @@ comparisons-comparisons-init t c =
       row = c.in_ok-more.ensures.row;
     }
 
-pub comparisons-comparisons-preserved : goal.comparisons-comparisons-preserved
-comparisons-comparisons-preserved t c =
+pub chain::comparisons-comparisons-preserved : goal.chain::comparisons-comparisons-preserved
+chain::comparisons-comparisons-preserved t c =
     let ts = c.args.tokens.now in
     let more = c.comparisons.more in
     record {
@@ -290,19 +290,19 @@ comparisons-comparisons-preserved t c =
       row = c.in_ok-more-2.ensures.row;
     }
 
-pub comparisons-returns-in_err-more-clause-read : goal.comparisons-returns-in_err-more-clause-read
-comparisons-returns-in_err-more-clause-read t c =
+pub chain::comparisons-returns-in_err-more-clause-read : goal.chain::comparisons-returns-in_err-more-clause-read
+chain::comparisons-returns-in_err-more-clause-read t c =
     exit_gives comparisons_seen _ _ _ c.from_residual.ensures.1
     (first_fails c.args.tokens.now c.args.place _ c.requires (rw (c.no_row.ensures.list, c.no_row.ensures.place) at c.in_err-more.ensures.read))
 
-pub comparisons-returns-in_err-more-2-clause-read : goal.comparisons-returns-in_err-more-2-clause-read
-comparisons-returns-in_err-more-2-clause-read t c =
+pub chain::comparisons-returns-in_err-more-2-clause-read : goal.chain::comparisons-returns-in_err-more-2-clause-read
+chain::comparisons-returns-in_err-more-2-clause-read t c =
     let more = c.comparisons.more in
     exit_gives comparisons_seen _ _ _ c.from_residual-in_err-more-2.ensures.1
     (next_fails c.args.tokens.now c.args.place more.place (map comparison_tree more.list) _ c.comparisons.invariant.so_far
     (sym c.begins_comparison.ensures ∙ c.comparisons-test.true) c.in_err-more-2.ensures.read)
 
-pub comparisons-returns-clause-read : goal.comparisons-returns-clause-read
-comparisons-returns-clause-read t c =
+pub chain::comparisons-returns-clause-read : goal.chain::comparisons-returns-clause-read
+chain::comparisons-returns-clause-read t c =
     let more = c.comparisons.more in
     comparisons_end c.args.tokens.now c.args.place more.place (map comparison_tree more.list) c.comparisons.invariant.so_far (sym c.begins_comparison.ensures ∙ c.comparisons-test.false)
