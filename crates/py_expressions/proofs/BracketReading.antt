@@ -12,7 +12,7 @@ use Rattle.py_expressions.specs.Brackets.{reads_list}
 use Rattle.py_reading.specs.Gives.{Fails}
 use Rattle.py_expressions.specs.Rows.{fronted, reads_trees}
 use Rattle.py_reading.proofs.Faults.{fails_bind}
-use Rattle.py_expressions.proofs.ManyReading.{fronted_nil}
+use Rattle.py_expressions.proofs.Fronts.{fronted_nil}
 
 -- a list display whose closing bracket is missing
 pub list_close_fails : (ts : List Token) (p : Place) (x : Token × Place) (y : List ExprTree × Place) (e : ParseError) → accept ts (class.Sign s.LeftSquare) p ≡ Ok x

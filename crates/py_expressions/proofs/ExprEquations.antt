@@ -17,7 +17,7 @@ use Rattle.py_grammar.specs.Grammar.{Sym, ExprSym, More, expr, more, comma, tok,
 use Rattle.py_grammar.specs.Actions.{piece, compared, texts_of, text_in}
 use Rattle.py_grammar.specs.Reader.{Outcome, ◌>>=◌, accept, sees}
 use Rattle.py_grammar.specs.Readings.{reads_sym, reads_expr, reads_grown, reads_many, growth, finish, many_into, spread}
-use Rattle.py_grammar.proofs.Opening.{bind_assoc, sym_eq}
+use Rattle.py_grammar.proofs.Opening.{bind_assoc, sym_eq, if_same, bind_same}
 use Rattle.py_grammar.proofs.ExpressionEquations as r
 use Rattle.py_reading.specs.declared.operator.Level.{Level}
 use Rattle.py_reading.specs.declared.operator.Level.TheVariants as level
@@ -34,8 +34,9 @@ use Rattle.py_expressions.specs.Rows.{reads_trees}
 use Rattle.py_expressions.specs.Trailers.{reads_attribute, reads_call, reads_indexed, reads_attribute_name, reads_arguments, reads_index}
 use Rattle.py_reading.specs.declared.fault.ParseError.{ParseError}
 use Rattle.py_reading.specs.Gives.{Fails}
-use Rattle.py_reading.proofs.Binds.{if_same, bind_same, regrouped}
+use Rattle.py_reading.proofs.Binds.{regrouped}
 use Rattle.py_reading.proofs.Faults.{fails_bind}
+use Rattle.py_reading.proofs.TextReading.{texts_into}
 use Rattle.py_expressions.proofs.RowReading.{tuple_row, items_row, trees_row}
 
 -- ---- conditions
@@ -198,14 +199,6 @@ six_next None u v w x y z r = refl
 six_next (Some t) u v w x y z r =
     let c : Class = class_of t.kind in
     six (same c class.Name) (same c class.Int) (same c class.Str) (same c (class.Key k.True)) (same c (class.Key k.False)) (same c (class.Key k.Nothing)) u v w x y z r
-
-texts_spread : (vs : List Token) → spread (λ t. text_in t.kind) vs ≡ texts_of vs
-texts_spread [] = refl
-texts_spread (v ∷ vs) = ap (λ l. text_in v.kind ++ l) (texts_spread vs)
-
-texts_into : (ts : List Token) (front : List ℕ) (p : Place) → many_into (λ (t : Token). text_in t.kind) front (reads_many ts (tok class.Str) p) ≡ reads_texts ts front p
-unfolding reads_texts
-texts_into ts front p = regrouped (spread (λ t. text_in t.kind)) texts_of front (reads_many ts (tok class.Str) p) texts_spread
 
 pub atom_eq : (ts : List Token) (p : Place) → reads_expr ts ATOM p ≡
     (if sees ts p LITERALS then reads_literal ts p

@@ -3,8 +3,8 @@ pub mod ChainReading
 pub mod ComparisonReading
 pub mod Conditions
 pub mod ExprEquations
+pub mod Fronts
 pub mod HeadLemmas
-pub mod ManyReading
 pub mod PrefixReading
 pub mod Prefixes
 pub mod Ranks

@@ -13,14 +13,14 @@ use Rattle.py_grammar.specs.Actions.{Sem, piece, trees_of}
 use Rattle.py_grammar.specs.Reader.{Outcome, ◌>>=◌, accept, sees, starts, starts_expr}
 use Rattle.py_grammar.specs.Readings as r
 use Rattle.py_grammar.specs.Readings.{reads_sym, reads_expr, reads_after, reads_items, finish, after_into, spread, single, single_tree}
+use Rattle.py_grammar.proofs.Opening.{if_same, bind_same}
 use Rattle.py_grammar.proofs.Loops.{spread_single, items_eq}
 use Rattle.py_grammar.proofs.Steps.{fine, reads-eq}
 use Rattle.py_reading.specs.declared.fault.ParseError.{ParseError}
 use Rattle.py_reading.specs.Gives.{Fails}
 use Rattle.py_expressions.specs.Rows.{reads_row, reads_trees, fronted, one_more}
-use Rattle.py_reading.proofs.Binds.{if_same, bind_same}
 use Rattle.py_reading.proofs.Faults.{fails_bind}
-use Rattle.py_expressions.proofs.ManyReading.{one_of, unfails}
+use Rattle.py_expressions.proofs.Fronts.{one_of, unfails}
 
 row_fits : (x : Sym) → fine (after comma (g.sym x)) ≡ true
 row_fits (expr TESTS) = refl

@@ -43,7 +43,7 @@ pub fn atom(alloc: Global, tokens: &[Token], place: Place) -> Result<Parsed, Par
 
 // A list display.
 #[cycle(expression)]
-#[tactic(auto, using(crate::proofs::ManyReading::fronted_nil), unfolding(crate::specs::Brackets::reads_list))]
+#[tactic(auto, using(crate::proofs::Fronts::fronted_nil), unfolding(crate::specs::Brackets::reads_list))]
 fn list(alloc: Global, tokens: &[Token], place: Place) -> Result<Parsed, ParseError>
     ensures read { Gives seen result (reads_list tokens.now place) }
     ensures moves { IfOk result (λ x. Moves tokens.now place x) }

@@ -106,7 +106,7 @@ pub(crate) fn func(
 }
 
 // An expression behind a sign, if the sign comes next.
-#[tactic(auto, unfolding(py_statements::specs::Statements::reads_maybe))]
+#[tactic(auto, unfolding(crate::specs::Definitions::reads_maybe))]
 fn maybe_behind(
     alloc: Global,
     tokens: &[Token],

@@ -1,8 +1,7 @@
-pub mod AugmentingReading
 pub mod Binds
-pub mod Equations
 pub mod Faults
-pub mod Many
 pub mod NameReading
+pub mod OperatorReading
 pub mod Sights
 pub mod StartLemmas
+pub mod TextReading

@@ -12,12 +12,12 @@ use Rattle.py_grammar.specs.Grammar.{comma, tok, sign, ◌·◌, GLOBAL, IMPORT,
 use Rattle.py_grammar.specs.Actions.{name_of, name_in, dotted_on, names_on, seconds}
 use Rattle.py_grammar.specs.Reader.{Outcome, ◌>>=◌, accept, sees}
 use Rattle.py_grammar.specs.Readings.{reads_sym, reads_many, reads_after, many_into, after_into, spread, single}
-use Rattle.py_grammar.proofs.Opening.{sym_eq, bind_assoc}
+use Rattle.py_grammar.proofs.Opening.{sym_eq, bind_assoc, if_bind, if_same, bind_same}
 use Rattle.py_grammar.proofs.Loops.{spread_single}
 use Rattle.py_grammar.proofs.StatementEquations.{dotted_part, name_part, second_part, spread_seconds, dotted_round, names_round, aliases_round, bracketed_aliases_round, alias_eq, import_eq}
 use Rattle.py_reading.specs.Names.{reads_names, reads_dots, reads_bare, reads_aliases, reads_imported}
 use Rattle.py_reading.specs.Names.{reads_as}
-use Rattle.py_reading.proofs.Binds.{if_bind, if_same, bind_same, regrouped}
+use Rattle.py_reading.proofs.Binds.{regrouped}
 
 same_dotted : (vs : List (Token × Token)) → spread dotted_part vs ≡ dotted_on vs
 same_dotted [] = refl

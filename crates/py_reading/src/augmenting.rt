@@ -12,7 +12,7 @@ use py_grammar::Place;
 use py_syntax::{BinOp, Sign, Token};
 
 /// The operator of an augmented assignment.
-#[tactic(auto, using(crate::proofs::AugmentingReading::augmenting_eq))]
+#[tactic(auto, using(crate::proofs::OperatorReading::augmenting_eq))]
 pub fn augmenting(tokens: &[Token], place: Place) -> Result<(BinOp, Place), ParseError>
     ensures read { Gives (λ x. x) result (reads_sym tokens.now AUG place) }
     ensures moves { IfOk result (λ x. MovesTo tokens.now place x.1) }

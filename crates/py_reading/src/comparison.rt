@@ -12,7 +12,7 @@ use py_grammar::Place;
 use py_syntax::{CmpOp, Key, Sign, Token};
 
 /// A comparison operator, of one token or two.
-#[tactic(auto, using(crate::proofs::Equations::comp_op_eq))]
+#[tactic(auto, using(crate::proofs::OperatorReading::comp_op_eq))]
 pub fn comparison_operator(tokens: &[Token], place: Place) -> Result<(CmpOp, Place), ParseError>
     ensures read { Gives (λ x. x) result (reads_sym tokens.now COMP_OP place) }
     ensures moves { IfOk result (λ x. MovesTo tokens.now place x.1) }

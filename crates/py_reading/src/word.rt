@@ -49,7 +49,7 @@ fn text_of(token: &Token) -> &str
 }
 
 /// The text in a token, with those that stand side by side behind it.
-#[tactic(auto, using(crate::proofs::Equations::texts))]
+#[tactic(auto, using(crate::proofs::TextReading::texts))]
 pub fn texts(
     alloc: Global,
     tokens: &[Token],

@@ -6,7 +6,7 @@ use Rattle.py_syntax.specs.declared.sign.Sign.TheVariants as s
 use Rattle.py_syntax.specs.declared.token.Token.{Token}
 use Rattle.py_syntax.specs.Expressions.{ExprTree}
 use Rattle.py_syntax.specs.Statements as st
-use Rattle.py_syntax.specs.Statements.{StmtTree, Block, HandlerTree, block_of, arms_of, handlers_of}
+use Rattle.py_syntax.specs.Statements.{StmtTree, Block, HandlerTree, block_of, arms_of, handlers_of, maybe_block}
 use Rattle.py_grammar.specs.declared.class.Class.{Class}
 use Rattle.py_grammar.specs.declared.class.Class.TheVariants as class
 use Rattle.py_grammar.specs.declared.place.Place.{Place}
@@ -16,17 +16,17 @@ use Rattle.py_grammar.specs.Grammar.{key, ◌·◌, TEST, TESTS, TARGETS, SIMPLE
 use Rattle.py_grammar.specs.Actions.{seconds, joined}
 use Rattle.py_grammar.specs.Reader.{Outcome, ◌>>=◌, accept, sees, stmts}
 use Rattle.py_grammar.specs.Readings.{reads_expr, reads_sym, reads_many, many_into, spread, single, whole}
-use Rattle.py_grammar.proofs.Opening.{bind_assoc}
+use Rattle.py_grammar.proofs.Opening.{bind_assoc, if_bind, if_same, bind_same}
 use Rattle.py_grammar.proofs.Loops.{spread_single, spread_joined}
 use Rattle.py_grammar.proofs.StatementEquations.{second_part, spread_seconds}
 use Rattle.py_grammar.proofs.CompoundEquations.{stmt_eq, block_eq, stmts_round, arm_eq, if_eq, arms_round, while_eq, for_eq, finally_eq, except_eq, try_eq, handlers_round, handler}
 use Rattle.py_reading.specs.declared.starts.TheConstants.{COMPOUND}
 use Rattle.py_expressions.specs.Behind.{reads_behind}
 use Rattle.py_statements.specs.Suites.{reads_suite}
-use Rattle.py_statements.specs.Blocks.{reads_compound, reads_stmts, reads_arms, reads_handlers, reads_else}
+use Rattle.py_statements.specs.Blocks.{reads_compound, reads_stmts, reads_arms, reads_handlers, reads_handled, reads_else}
 use Rattle.py_reading.specs.Names.{reads_as}
 use Rattle.py_statements.specs.Statements.{reads_caught}
-use Rattle.py_reading.proofs.Binds.{if_bind, if_same, bind_same, regrouped}
+use Rattle.py_reading.proofs.Binds.{regrouped}
 
 four : {A : Type 0} (a b c d : Bool) (u v w x r : A)
     → (if a || false then u else (if b || false then v else (if c || false then w else (if d || false then x else r))))
@@ -157,7 +157,7 @@ try_flat ts p =
     then (reads_sym ts FINALLY y.1 >>= λ f. Ok (st.at (st.Try (block_of b.0) (handlers_of y.0) (st.some_block (block_of f.0))) x.0.span, f.1))
     else Ok (st.at (st.Try (block_of b.0) (handlers_of y.0) st.no_block) x.0.span, y.1)) (sym (handlers_into ts (h.0 ∷ []) h.1)))) refl)))
 
-pub try_handlers : (ts : List Token) (p : Place) → reads_sym ts TRY p ≡
+try_handlers : (ts : List Token) (p : Place) → reads_sym ts TRY p ≡
     (accept ts (class.Key k.Try) p >>= λ x. reads_suite ts x.1 >>= λ b.
     if sees ts b.1 (class.Key k.Except ∷ [])
     then (reads_sym ts EXCEPT b.1 >>= λ h. reads_handlers ts (h.0 ∷ []) h.1 >>= λ y.
@@ -167,6 +167,11 @@ pub try_handlers : (ts : List Token) (p : Place) → reads_sym ts TRY p ≡
     else (reads_sym ts FINALLY b.1 >>= λ f. Ok (st.at (st.Try (block_of b.0) st.no_handlers (st.some_block (block_of f.0))) x.0.span, f.1)))
 unfolding reads_suite
 try_handlers ts p = try_flat ts p ∙ bind_same (accept ts (class.Key k.Try) p) _ _ (λ x. sym (bind_assoc (accept ts (class.Sign s.Colon) x.1) _ _))
+
+pub try_handled : (ts : List Token) (p : Place) → reads_sym ts TRY p ≡
+    (accept ts (class.Key k.Try) p >>= λ x. reads_suite ts x.1 >>= λ b. reads_handled ts b.1 >>= λ r. Ok (st.at (st.Try (block_of b.0) (handlers_of r.0.0) (maybe_block r.0.1)) x.0.span, r.1))
+unfolding reads_handled
+try_handled ts p = try_handlers ts p ∙ simp (if_bind, bind_assoc)
 
 same_end : {A : Type 0} (o : Outcome A) → (o >>= λ x. Ok (x.0, x.1)) ≡ o
 same_end (Ok x) = refl
@@ -198,7 +203,7 @@ pub ruleset whiles = (while_suite)
 
 pub ruleset fors = (for_suite)
 
-pub ruleset tries = (try_handlers)
+pub ruleset tries = (try_handled)
 
 pub ruleset finals = (finally_suite)
 

@@ -11,14 +11,13 @@ use Rattle.py_grammar.specs.Grammar as g
 use Rattle.py_grammar.specs.Grammar.{SIMPLE, SMALL, RETURN, RAISE, ASSERT, PLAIN, TEST, TESTS}
 use Rattle.py_grammar.specs.Reader.{Outcome, ◌>>=◌, accept, sees, tests, smalls}
 use Rattle.py_grammar.specs.Readings.{reads_sym, reads_expr, reads_after, after_into, single}
-use Rattle.py_grammar.proofs.Opening.{bind_assoc}
+use Rattle.py_grammar.proofs.Opening.{bind_assoc, bind_same}
 use Rattle.py_grammar.proofs.StatementEquations.{simple_eq, smalls_round, small_eq, plain_eq, return_eq, raise_eq, assert_eq, del_eq}
 use Rattle.py_statements.specs.declared.assign.TheConstants.{ASSIGNING}
 use Rattle.py_reading.specs.declared.fault.ParseError.{ParseError}
 use Rattle.py_expressions.specs.Behind.{reads_behind}
 use Rattle.py_reading.specs.Gives.{Fails}
 use Rattle.py_statements.specs.Statements.{reads_lone, reads_line, reads_worded, reads_annotated, reads_assigned, reads_given, reads_changed}
-use Rattle.py_reading.proofs.Binds.{bind_same}
 use Rattle.py_reading.proofs.Faults.{fails_bind}
 
 -- a line

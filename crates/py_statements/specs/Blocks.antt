@@ -1,13 +1,13 @@
 -- Statements with blocks and their parts, as they are read.
-use Rattle.std.specs.Prelude.{List, [], ◌∷◌, ◌++◌, Ok, if◌then◌else◌}
+use Rattle.std.specs.Prelude.{List, [], ◌∷◌, ◌++◌, Option, Some, None, Ok, if◌then◌else◌}
 use Rattle.py_syntax.specs.declared.key.Key.TheVariants as k
 use Rattle.py_syntax.specs.declared.token.Token.{Token}
 use Rattle.py_syntax.specs.Expressions.{ExprTree}
-use Rattle.py_syntax.specs.Statements.{StmtTree, Block, HandlerTree}
+use Rattle.py_syntax.specs.Statements.{StmtTree, Block, HandlerTree, block_of}
 use Rattle.py_grammar.specs.declared.class.Class.TheVariants as class
 use Rattle.py_grammar.specs.declared.place.Place.{Place}
 use Rattle.py_grammar.specs.Grammar as g
-use Rattle.py_grammar.specs.Grammar.{key, ◌·◌, STMT, IF, ARM, WHILE, FOR, TRY, EXCEPT}
+use Rattle.py_grammar.specs.Grammar.{key, ◌·◌, STMT, IF, ARM, WHILE, FOR, TRY, EXCEPT, FINALLY}
 use Rattle.py_grammar.specs.Actions.{seconds, joined}
 use Rattle.py_grammar.specs.Reader.{Outcome, ◌>>=◌, accept, sees}
 use Rattle.py_grammar.specs.Readings.{reads_sym, reads_many}
@@ -36,3 +36,13 @@ reads_else ts p =
     if sees ts p (class.Key k.Else ∷ [])
     then (accept ts (class.Key k.Else) p >>= λ w. reads_suite ts w.1)
     else Ok ([], p)
+
+-- the handlers of a `try`, if there are any, and the block behind `finally`, which has to come where there are none
+unfoldable pub reads_handled : List Token → Place → Outcome (List HandlerTree × Option Block)
+reads_handled ts p =
+    if sees ts p (class.Key k.Except ∷ [])
+    then (reads_sym ts EXCEPT p >>= λ h. reads_handlers ts (h.0 ∷ []) h.1 >>= λ y.
+    if sees ts y.1 (class.Key k.Finally ∷ [])
+    then (reads_sym ts FINALLY y.1 >>= λ f. Ok ((y.0, Some (block_of f.0)), f.1))
+    else Ok ((y.0, None), y.1))
+    else (reads_sym ts FINALLY p >>= λ f. Ok (([], Some (block_of f.0)), f.1))

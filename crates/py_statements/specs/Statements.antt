@@ -1,5 +1,6 @@
 -- Statements and their parts, as they were read, and the words by which the readers of rows of them speak.
 use Rattle.std.specs.Global.{Box}
+use Rattle.std.specs.Option.{option_map}
 use Rattle.std.specs.Prelude.{ℕ, List, [], ◌∷◌, Option, Some, None, Ok, map, if◌then◌else◌}
 use Rattle.py_syntax.specs.declared.expression.Expr.{Expr}
 use Rattle.py_syntax.specs.declared.statement.Handler.{Handler}
@@ -11,7 +12,7 @@ use Rattle.py_syntax.specs.declared.token.Span.{Span}
 use Rattle.py_syntax.specs.declared.token.Token.{Token}
 use Rattle.py_syntax.specs.Expressions.{ExprTree, expr_tree}
 use Rattle.py_syntax.specs.Statements as st
-use Rattle.py_syntax.specs.Statements.{StmtTree, StmtNode, Block, HandlerTree, stmt_tree, handler_tree, arm_tree}
+use Rattle.py_syntax.specs.Statements.{StmtTree, StmtNode, Block, HandlerTree, stmt_tree, handler_tree, arm_tree, body_tree}
 use Rattle.py_grammar.specs.declared.class.Class.TheVariants as class
 use Rattle.py_grammar.specs.declared.place.Place.{Place}
 use Rattle.py_grammar.specs.Levels.{Piece}
@@ -49,6 +50,9 @@ handler_seen x = (handler_tree x.0.value, x.1)
 
 abbrev pub handlers_seen : List Handler × Place → List HandlerTree × Place
 handlers_seen x = (map handler_tree x.0, x.1)
+
+abbrev pub handled_seen : (List Handler × Option (List Stmt)) × Place → (List HandlerTree × Option Block) × Place
+handled_seen x = ((map handler_tree x.0.0, option_map body_tree x.0.1), x.1)
 
 abbrev pub arms_seen : List (Expr × List Stmt) × Place → List (ExprTree × Block) × Place
 arms_seen x = (map arm_tree x.0, x.1)

@@ -4,10 +4,10 @@ ghost use Rattle.py_syntax.specs.Statements.{stmt_tree, handler_tree};
 ghost use Rattle.py_grammar.specs.Grammar.{STMT, BLOCK, IF, ARM, WHILE, FOR, TRY, EXCEPT, FINALLY};
 ghost use Rattle.py_grammar.specs.Readings.{reads_sym};
 ghost use Rattle.py_statements.specs.Suites.{reads_suite};
-ghost use Rattle.py_statements.specs.Blocks.{reads_compound, reads_stmts, reads_arms, reads_handlers, reads_else};
+ghost use Rattle.py_statements.specs.Blocks.{reads_compound, reads_stmts, reads_arms, reads_handlers, reads_handled, reads_else};
 ghost use Rattle.py_reading.specs.Gives.{Gives};
 ghost use Rattle.py_reading.specs.Moves.{MovesTo, MovesUpTo};
-ghost use Rattle.py_statements.specs.Statements.{arm_boxed, stmt_seen, stmts_seen, caught_seen, arm_seen, handler_seen, arms_seen, handlers_seen, reads_caught};
+ghost use Rattle.py_statements.specs.Statements.{arm_boxed, stmt_seen, stmts_seen, caught_seen, arm_seen, handler_seen, arms_seen, handlers_seen, handled_seen, reads_caught};
 
 use crate::append::{append, push_arm, push_handler, row_of};
 use crate::simple::simple;
@@ -81,7 +81,7 @@ fn block(alloc: Global, tokens: &[Token], place: Place) -> Result<(Many<Stmt>, P
 
 /// A block behind a colon.
 #[cycle(block)]
-#[tactic(auto, unfolding(py_expressions::specs::Behind::reads_suite))]
+#[tactic(auto, unfolding(crate::specs::Suites::reads_suite))]
 pub fn suite(
     alloc: Global,
     tokens: &[Token],
@@ -223,18 +223,32 @@ fn try_stmt(alloc: Global, tokens: &[Token], place: Place) -> Result<(Box<Stmt>,
 {
     let (token, place) = accept_key(tokens, place, Key::Try)?;
     let (body, place) = suite(alloc, tokens, place)?;
+    let ((handlers, last), place) = handled(alloc, tokens, place)?;
+    Ok((tries(alloc, body, handlers, last, token.span)?, place))
+}
+
+// The handlers of a `try`, if there are any, and the block behind `finally`, which has to come where there are none.
+#[cycle(block)]
+#[tactic(auto, unfolding(crate::specs::Blocks::reads_handled))]
+fn handled(
+    alloc: Global,
+    tokens: &[Token],
+    place: Place,
+) -> Result<((Many<Handler>, Option<Many<Stmt>>), Place), ParseError>
+    ensures read { Gives handled_seen result (reads_handled tokens.now place) }
+    ensures moves { IfOk result (λ x. MovesTo tokens.now place x.1) }
+{
     if !sees_key(tokens, place, Key::Except) {
         let (last, place) = finally(alloc, tokens, place)?;
-        let made = tries(alloc, body, Many::new(alloc), Some(last), token.span)?;
-        return Ok((made, place));
+        return Ok(((Many::new(alloc), Some(last)), place));
     }
     let (first, place) = handler(alloc, tokens, place)?;
     let (handlers, place) = handlers(alloc, tokens, first, place)?;
     if !sees_key(tokens, place, Key::Finally) {
-        return Ok((tries(alloc, body, handlers, None, token.span)?, place));
+        return Ok(((handlers, None), place));
     }
     let (last, place) = finally(alloc, tokens, place)?;
-    Ok((tries(alloc, body, handlers, Some(last), token.span)?, place))
+    Ok(((handlers, Some(last)), place))
 }
 
 #[cycle(block)]

@@ -2,7 +2,7 @@ use Rattle.std.proofs.Common.{◌≡◌, ◌++◌, ap, sym, ◌∙◌, arith}
 use Rattle.std.specs.String.{string_bytes}
 use Rattle.py_grammar.specs.Actions.{text_in}
 use Rattle.py_reading.specs.Texts.{reads_texts}
-use Rattle.py_reading.proofs.Equations.{texts_more}
+use Rattle.py_reading.proofs.TextReading.{texts_more}
 use Rattle.py_reading.proofs.word.texts.Goals as goal
 
 pub texts-preserved : goal.texts-preserved

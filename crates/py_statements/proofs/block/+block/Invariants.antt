@@ -41,6 +41,9 @@ decreases-for_stmt l = (length l.tokens.now - l.place.at) * 4 + 0
 abbrev pub decreases-try_stmt : goal.decreases-try_stmt
 decreases-try_stmt l = (length l.tokens.now - l.place.at) * 4 + 0
 
+abbrev pub decreases-handled : goal.decreases-handled
+decreases-handled l = (length l.tokens.now - l.place.at) * 4 + 2
+
 abbrev pub decreases-finally : goal.decreases-finally
 decreases-finally l = (length l.tokens.now - l.place.at) * 4 + 0
 
