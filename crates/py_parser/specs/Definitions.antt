@@ -13,11 +13,11 @@ use Rattle.py_syntax.specs.Statements.{StmtTree, Block, FuncTree, ClassTree, fun
 use Rattle.py_grammar.specs.declared.class.Class.TheVariants as class
 use Rattle.py_grammar.specs.declared.place.Place.{Place}
 use Rattle.py_grammar.specs.Grammar as g
-use Rattle.py_grammar.specs.Grammar.{TEST, MEMBER, MARK, TOP}
-use Rattle.py_grammar.specs.Actions.{joined, marks_of}
+use Rattle.py_grammar.specs.Grammar.{TEST, FUNC, PARAM, CLASS, CBLOCK, MEMBER, MARK, TOP}
+use Rattle.py_grammar.specs.Actions.{joined, marks_of, def_at, class_at}
 use Rattle.py_grammar.specs.Reader.{Outcome, ◌>>=◌, accept, sees}
-use Rattle.py_grammar.specs.Readings.{reads_expr, reads_many}
-use Rattle.py_expressions.specs.Rows.{reads_trees}
+use Rattle.py_grammar.specs.Readings.{reads_expr, reads_sym, reads_many}
+use Rattle.py_expressions.specs.Rows.{reads_row, reads_trees}
 use Rattle.py_statements.specs.Statements.{maybe_boxed}
 
 -- what was read, and the place behind it
@@ -58,6 +58,22 @@ reads_maybe ts text p =
     if sees ts p (class.Sign text ∷ [])
     then (accept ts (class.Sign text) p >>= λ a. reads_expr ts TEST a.1 >>= λ t. Ok (Some t.0.tree, t.1))
     else Ok (None, p)
+
+-- parameters in brackets
+unfoldable pub reads_params : List Token → Place → Outcome (List (List ℕ × Option ExprTree))
+reads_params ts p =
+    accept ts (class.Sign s.LeftParen) p >>= λ l. reads_row ts PARAM l.1 >>= λ ps. accept ts (class.Sign s.RightParen) ps.1 >>= λ r. Ok (ps.0, r.1)
+
+-- the body of a class behind its colon
+unfoldable pub reads_class_body : List Token → Place → Outcome (List StmtTree)
+reads_class_body ts p = accept ts (class.Sign s.Colon) p >>= λ c. reads_sym ts CBLOCK c.1
+
+-- a function and a class without decorators, as a row of one statement
+abbrev pub reads_def : List Token → Place → Outcome (List StmtTree)
+reads_def ts p = reads_sym ts FUNC p >>= λ f. Ok (def_at f.0.0 [] f.0.1 ∷ [], f.1)
+
+abbrev pub reads_class : List Token → Place → Outcome (List StmtTree)
+reads_class ts p = reads_sym ts CLASS p >>= λ c. Ok (class_at c.0.0 [] c.0.1 ∷ [], c.1)
 
 -- the bases of a class, in brackets, or none
 unfoldable pub reads_bases : List Token → Place → Outcome (List ExprTree)

@@ -9,7 +9,7 @@ ghost use Rattle.py_reading.specs.Gives.{Gives};
 ghost use Rattle.py_reading.specs.Moves.{MovesTo, MovesUpTo};
 ghost use Rattle.py_expressions.specs.Rows.{reads_row};
 ghost use Rattle.py_statements.specs.Statements.{stmt_seen, stmts_seen};
-ghost use Rattle.py_parser.specs.Definitions.{maybe_seen, exprs_listed, param_seen, params_seen, func_seen, class_seen, mark_seen, reads_maybe};
+ghost use Rattle.py_parser.specs.Definitions.{maybe_seen, exprs_listed, param_seen, params_seen, func_seen, class_seen, mark_seen, reads_maybe, reads_params, reads_class_body, reads_def, reads_class};
 
 use crate::definition::{class_defined, defined, new_class, new_func, push_mark, push_param};
 use py_expressions::expression::{items, test};
@@ -83,9 +83,9 @@ fn marks(
     Ok((found, place))
 }
 
-/// A function without decorators, with the place of its keyword.
+// A function without decorators, with the place of its keyword.
 #[tactic(auto, using(crate::proofs::DefinitionReading::funcs))]
-pub(crate) fn func(
+fn func(
     alloc: Global,
     tokens: &[Token],
     place: Place,
@@ -95,14 +95,39 @@ pub(crate) fn func(
 {
     let (token, place) = accept_key(tokens, place, Key::Def)?;
     let (named, place) = accept(tokens, place, Kind::Name)?;
-    let name = name_of(alloc, named)?;
-    let (_, place) = accept_sign(tokens, place, Sign::LeftParen)?;
-    let (params, place) = params(alloc, tokens, place)?;
-    let (_, place) = accept_sign(tokens, place, Sign::RightParen)?;
+    let (params, place) = bracketed_params(alloc, tokens, place)?;
     let (ret, place) = maybe_behind(alloc, tokens, place, Sign::Arrow)?;
     let (body, place) = suite(alloc, tokens, place)?;
-    let found = new_func(alloc, name, params, ret, body)?;
+    let found = new_func(alloc, named, params, ret, body)?;
     Ok(((found, token.span), place))
+}
+
+/// A function without decorators, as a row of one statement.
+pub(crate) fn plain_def(
+    alloc: Global,
+    tokens: &[Token],
+    place: Place,
+) -> Result<(Many<Stmt>, Place), ParseError>
+    ensures read { Gives stmts_seen result (reads_def tokens.now place) }
+    ensures moves { IfOk result (λ x. MovesTo tokens.now place x.1) }
+{
+    let ((one, begin), place) = func(alloc, tokens, place)?;
+    let one = defined(alloc, one, Many::new(alloc), begin)?;
+    Ok((row_of(alloc, one)?, place))
+}
+
+/// A class without decorators, as a row of one statement.
+pub(crate) fn plain_class(
+    alloc: Global,
+    tokens: &[Token],
+    place: Place,
+) -> Result<(Many<Stmt>, Place), ParseError>
+    ensures read { Gives stmts_seen result (reads_class tokens.now place) }
+    ensures moves { IfOk result (λ x. MovesTo tokens.now place x.1) }
+{
+    let ((one, begin), place) = class(alloc, tokens, place)?;
+    let one = class_defined(alloc, one, Many::new(alloc), begin)?;
+    Ok((row_of(alloc, one)?, place))
 }
 
 // An expression behind a sign, if the sign comes next.
@@ -122,6 +147,22 @@ fn maybe_behind(
     let (_, place) = accept_sign(tokens, place, sign)?;
     let found = test(alloc, tokens, place)?;
     Ok((Some(found.expr), found.place))
+}
+
+// Parameters in brackets.
+#[tactic(auto, unfolding(crate::specs::Definitions::reads_params))]
+fn bracketed_params(
+    alloc: Global,
+    tokens: &[Token],
+    place: Place,
+) -> Result<(Many<(Name, Option<Expr>)>, Place), ParseError>
+    ensures read { Gives params_seen result (reads_params tokens.now place) }
+    ensures moves { IfOk result (λ x. MovesTo tokens.now place x.1) }
+{
+    let (_, place) = accept_sign(tokens, place, Sign::LeftParen)?;
+    let (params, place) = params(alloc, tokens, place)?;
+    let (_, place) = accept_sign(tokens, place, Sign::RightParen)?;
+    Ok((params, place))
 }
 
 // Parameters between commas, or none, and a last comma.
@@ -164,9 +205,9 @@ fn param(
     Ok(((name, annotation), place))
 }
 
-/// A class without decorators, with the place of its keyword.
+// A class without decorators, with the place of its keyword.
 #[tactic(auto, using(crate::proofs::DefinitionReading::classes))]
-pub(crate) fn class(
+fn class(
     alloc: Global,
     tokens: &[Token],
     place: Place,
@@ -176,11 +217,9 @@ pub(crate) fn class(
 {
     let (token, place) = accept_key(tokens, place, Key::Class)?;
     let (named, place) = accept(tokens, place, Kind::Name)?;
-    let name = name_of(alloc, named)?;
     let (bases, place) = bases(alloc, tokens, place)?;
-    let (_, place) = accept_sign(tokens, place, Sign::Colon)?;
-    let (body, place) = class_block(alloc, tokens, place)?;
-    let found = new_class(alloc, name, bases, body)?;
+    let (body, place) = class_body(alloc, tokens, place)?;
+    let found = new_class(alloc, named, bases, body)?;
     Ok(((found, token.span), place))
 }
 
@@ -197,6 +236,20 @@ fn bases(alloc: Global, tokens: &[Token], place: Place) -> Result<(Many<Expr>, P
     let found = items(alloc, tokens, no_row(alloc, place), place)?;
     let (_, place) = accept_sign(tokens, found.place, Sign::RightParen)?;
     Ok((found.list, place))
+}
+
+// The body of a class behind its colon.
+#[tactic(auto, unfolding(crate::specs::Definitions::reads_class_body))]
+fn class_body(
+    alloc: Global,
+    tokens: &[Token],
+    place: Place,
+) -> Result<(Many<Stmt>, Place), ParseError>
+    ensures read { Gives stmts_seen result (reads_class_body tokens.now place) }
+    ensures moves { IfOk result (λ x. MovesTo tokens.now place x.1) }
+{
+    let (_, place) = accept_sign(tokens, place, Sign::Colon)?;
+    class_block(alloc, tokens, place)
 }
 
 // A line of statements, or indented lines, where functions may stand.
@@ -250,7 +303,5 @@ fn member(alloc: Global, tokens: &[Token], place: Place) -> Result<(Many<Stmt>, 
     if !sees_key(tokens, place, Key::Def) {
         return stmt(alloc, tokens, place);
     }
-    let ((one, begin), place) = func(alloc, tokens, place)?;
-    let one = defined(alloc, one, Many::new(alloc), begin)?;
-    Ok((row_of(alloc, one)?, place))
+    plain_def(alloc, tokens, place)
 }

@@ -2,26 +2,28 @@
 ghost use Rattle.std.specs.Prelude.{◌≡◌, [], ◌∷◌, ◌++◌, map, IfOk};
 ghost use Rattle.py_syntax.specs.Expressions.{expr_tree};
 ghost use Rattle.py_syntax.specs.Statements.{stmt_tree, func_tree, class_tree, param_tree, body_tree};
-ghost use Rattle.py_grammar.specs.Actions.{def_at, class_at};
+ghost use Rattle.py_grammar.specs.Actions.{def_at, class_at, name_of};
 ghost use Rattle.py_parser.specs.Definitions.{param_boxed, plain_func, plain_class};
 ghost use Rattle.py_statements.specs.Statements.{maybe_boxed};
 
+use py_reading::word::name_of;
 use py_statements::statement::{boxed, unboxed};
-use py_syntax::{Class, Expr, Func, Span, Stmt, StmtKind};
+use py_syntax::{Class, Expr, Func, Span, Stmt, StmtKind, Token};
 use std::alloc::Global;
 use value_core::{Many, Memory, Name};
 
-/// A function without decorators.
+/// A function without decorators, with the name in a token.
 #[tactic(auto, using(crate::proofs::Parts::parts))]
 pub(crate) fn new_func(
     alloc: Global,
-    name: Name,
+    named: &Token,
     params: Many<(Name, Option<Expr>)>,
     ret: Option<Box<Expr>>,
     body: Many<Stmt>,
 ) -> Result<Box<Func>, Memory>
-    ensures { IfOk result (λ f. func_tree f.value ≡ plain_func name (map param_tree params) (maybe_boxed ret) (body_tree body)) }
+    ensures { IfOk result (λ f. func_tree f.value ≡ plain_func (name_of named.now) (map param_tree params) (maybe_boxed ret) (body_tree body)) }
 {
+    let name = name_of(alloc, named)?;
     let made = Func {
         name,
         params,
@@ -32,16 +34,17 @@ pub(crate) fn new_func(
     Ok(Box::new(alloc, made)?)
 }
 
-/// A class without decorators.
+/// A class without decorators, with the name in a token.
 #[tactic(auto, using(crate::proofs::Parts::parts))]
 pub(crate) fn new_class(
     alloc: Global,
-    name: Name,
+    named: &Token,
     bases: Many<Expr>,
     body: Many<Stmt>,
 ) -> Result<Box<Class>, Memory>
-    ensures { IfOk result (λ c. class_tree c.value ≡ plain_class name (map expr_tree bases) (body_tree body)) }
+    ensures { IfOk result (λ c. class_tree c.value ≡ plain_class (name_of named.now) (map expr_tree bases) (body_tree body)) }
 {
+    let name = name_of(alloc, named)?;
     let made = Class {
         name,
         bases,

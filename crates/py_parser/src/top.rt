@@ -9,8 +9,7 @@ ghost use Rattle.py_reading.specs.Moves.{MovesTo, MovesUpTo};
 ghost use Rattle.py_statements.specs.Statements.{stmts_seen};
 ghost use Rattle.py_parser.specs.Whole.{body_seen};
 
-use crate::define::{class, decorated, func};
-use crate::definition::{class_defined, defined};
+use crate::define::{decorated, plain_class, plain_def};
 use py_grammar::{Class, Place};
 use py_reading::fault::ParseError;
 use py_reading::place::{accept, sees_key, sees_sign};
@@ -55,14 +54,10 @@ fn top(alloc: Global, tokens: &[Token], place: Place) -> Result<(Many<Stmt>, Pla
     ensures moves { IfOk result (λ x. MovesTo tokens.now place x.1) }
 {
     if sees_key(tokens, place, Key::Def) {
-        let ((one, begin), place) = func(alloc, tokens, place)?;
-        let one = defined(alloc, one, Many::new(alloc), begin)?;
-        return Ok((row_of(alloc, one)?, place));
+        return plain_def(alloc, tokens, place);
     }
     if sees_key(tokens, place, Key::Class) {
-        let ((one, begin), place) = class(alloc, tokens, place)?;
-        let one = class_defined(alloc, one, Many::new(alloc), begin)?;
-        return Ok((row_of(alloc, one)?, place));
+        return plain_class(alloc, tokens, place);
     }
     if sees_sign(tokens, place, Sign::At) {
         let (one, place) = decorated(alloc, tokens, place)?;
