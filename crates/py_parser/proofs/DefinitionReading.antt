@@ -13,15 +13,15 @@ use Rattle.py_grammar.specs.Grammar.{Sym, comma, expr, TEST, SIMPLE, STMT, FUNC,
 use Rattle.py_grammar.specs.Actions.{name_of, joined, marks_of, def_at, class_at}
 use Rattle.py_grammar.specs.Reader.{◌>>=◌, accept, sees, starts}
 use Rattle.py_grammar.specs.Readings.{reads_sym, reads_many, many_into, spread, whole}
-use Rattle.py_grammar.proofs.Opening.{bind_assoc}
+use Rattle.py_grammar.proofs.Opening.{bind_assoc, if_bind, if_same, bind_same}
 use Rattle.py_grammar.proofs.Loops.{spread_joined}
 use Rattle.py_grammar.proofs.CompoundEquations.{func_eq, class_eq, param_eq, member_eq, cblock_eq, members_round, mark_eq, mark_part, decorated_eq, marks_round, top_eq, module_eq, tops_round, func_of, class_of_parts}
-use Rattle.py_parser.specs.Behind.{reads_suite}
-use Rattle.py_parser.specs.Definitions.{reads_bases, reads_members, reads_marks, reads_tops}
-use Rattle.py_parser.specs.Rows.{reads_row}
-use Rattle.py_parser.specs.Statements.{reads_maybe}
-use Rattle.py_parser.proofs.Binds.{if_bind, if_same, bind_same, regrouped}
-use Rattle.py_parser.proofs.RowReading.{items_row, trees_row}
+use Rattle.py_statements.specs.Suites.{reads_suite}
+use Rattle.py_parser.specs.Definitions.{reads_params, reads_class_body, reads_bases, reads_members, reads_marks, reads_tops}
+use Rattle.py_expressions.specs.Rows.{reads_row}
+use Rattle.py_parser.specs.Definitions.{reads_maybe}
+use Rattle.py_reading.proofs.Binds.{regrouped}
+use Rattle.py_expressions.proofs.RowReading.{items_row, trees_row}
 
 -- ---- functions and classes
 
@@ -30,15 +30,14 @@ unfolding reads_maybe
 param_maybe ts p = param_eq ts p ∙ simp (bind_assoc, if_bind)
 
 pub func_maybe : (ts : List Token) (p : Place) → reads_sym ts FUNC p ≡
-    (accept ts (terminal.Key k.Def) p >>= λ x. accept ts terminal.Name x.1 >>= λ n. accept ts (terminal.Sign s.LeftParen) n.1 >>= λ l. reads_row ts PARAM l.1 >>= λ ps. accept ts (terminal.Sign s.RightParen) ps.1 >>= λ r.
-    reads_maybe ts s.Arrow r.1 >>= λ t. reads_suite ts t.1 >>= λ b. Ok ((func_of (name_of n.0) ps.0 t.0 (suite_of b.0), x.0.span), b.1))
-unfolding reads_maybe reads_suite
+    (accept ts (terminal.Key k.Def) p >>= λ x. accept ts terminal.Name x.1 >>= λ n. reads_params ts n.1 >>= λ ps. reads_maybe ts s.Arrow ps.1 >>= λ t. reads_suite ts t.1 >>= λ b. Ok ((func_of (name_of n.0) ps.0 t.0 (suite_of b.0), x.0.span), b.1))
+unfolding reads_params reads_maybe reads_suite
 func_maybe ts p = func_eq ts p ∙ simp (bind_assoc, if_bind, items_row)
 
 pub class_bases : (ts : List Token) (p : Place) → reads_sym ts CLASS p ≡
-    (accept ts (terminal.Key k.Class) p >>= λ x. accept ts terminal.Name x.1 >>= λ n. reads_bases ts n.1 >>= λ bs. accept ts (terminal.Sign s.Colon) bs.1 >>= λ c. reads_sym ts CBLOCK c.1 >>= λ b.
+    (accept ts (terminal.Key k.Class) p >>= λ x. accept ts terminal.Name x.1 >>= λ n. reads_bases ts n.1 >>= λ bs. reads_class_body ts bs.1 >>= λ b.
     Ok ((class_of_parts (name_of n.0) bs.0 (suite_of b.0), x.0.span), b.1))
-unfolding reads_bases
+unfolding reads_bases reads_class_body
 class_bases ts p = class_eq ts p ∙ simp (bind_assoc, if_bind, trees_row)
 
 -- ---- rows of members, decorators, and what stands in a module
