@@ -1,10 +1,10 @@
 -- The rules of spelling at small texts, and that each escape of the table stands for its own character and for nothing else.
-use Rattle.std.proofs.Common.{◌≡◌, ◌≢◌, ℕ, ◌+◌, ◌<◌, ◌≤◌, Bool, true, false, not, List, [], ◌∷◌, length, codes, refl, ap, sym, subst, ◌∙◌, arith, inl, inr, eqb-true, eq-eqb, ne_eqb, slice_index_or, Contains}
+use Rattle.std.proofs.Common.{◌≡◌, ◌≢◌, ℕ, Bool, true, false, not, List, [], ◌∷◌, length, codes, refl, ap, sym, subst, ◌∙◌, arith, inl, inr, eqb-true, eq-eqb, ne_eqb, Contains}
 use Rattle.std.specs.Prelude.{◌==◌, ◌||◌, ◌&&◌}
 use Rattle.std.specs.Char.{is_digit}
 use Rattle.std.specs.List.{AllByRecursion, list_all}
 use Rattle.std.proofs.lemmas.List.Sums.{AllPass-from_list_all}
-use Rattle.py_lexer.specs.Digits.{IsRow, IsDigit, place_value}
+use Rattle.py_lexer.specs.Digits.{IsRow, place_value}
 use Rattle.py_lexer.specs.Escapes.{simple_escapes, hex_letters, escape_signs, IsEscape, Joins, Simple, Octal, Hex, Stays}
 use Rattle.py_lexer.proofs.Spelled.{first_true, second_true}
 use Rattle.py_lexer.proofs.DigitLemmas.{digit_back}
