@@ -7,6 +7,7 @@ pub mod Literals
 pub mod Numbers
 pub mod PartLemmas
 pub mod PlaceLemmas
+pub mod PlaceTables
 pub mod Quoting
 pub mod ReadLemmas
 pub mod StatementLemmas

@@ -121,7 +121,7 @@ named : (name : List ℕ) (w : Declared) → has_name name w ≡ true → w.0 �
 named name w t = (bytes_eq-Decides w.0 name).0 t
 
 named_and_kind : (name : List ℕ) (kind : Kind) (w : Declared) → has_name_and_kind name kind w ≡ true → w.0 ≡ name
-named_and_kind name kind w t = (bytes_eq-Decides w.0 name).0 (and_true _ _ t).0
+named_and_kind name kind w t = (bytes_eq-Decides w.0 name).0 (and_true _ _ t).1
 
 name_at : (vars : List Declared) (x : ℕ) (v : Declared) (name word : List ℕ) → slice_get vars x ≡ Some v → var_text vars x ≡ word → word ≡ codes "cpy_" ++ name → v.0 ≡ name
 name_at vars x v name word g e w = append_cancel_left (codes "cpy_") v.0 name (sym (text_at vars x v g) ∙ e ∙ w)
@@ -163,7 +163,7 @@ pub variable_of_found : (vars : List Declared) (name word : List ℕ) (kind : Ki
 variable_of_found vars name word kind found x f w h e =
     let d = kind_is (slice_get vars x) kind h in
     found_alike (has_name_and_kind name kind) name (named_and_kind name kind) vars found x d.0 (sym f) d.1
-    (both_true ((bytes_eq-Decides d.0.0 name).1 (name_at vars x d.0 name word d.1 e w)) (ap (λ k. same_kind k kind) d.2 ∙ same_kind_refl kind))
+    (both_true (ap (λ k. same_kind k kind) d.2 ∙ same_kind_refl kind) ((bytes_eq-Decides d.0.0 name).1 (name_at vars x d.0 name word d.1 e w)))
 
 pub found_declared : (p : Declared → Bool) (vars : List Declared) (found : Option ℕ) → found ≡ position_from p 0 vars → IfSome found (λ y. IsTrue (is_declared vars y))
 found_declared p vars None e = tt
@@ -177,4 +177,4 @@ found_kind vars name kind None e = tt
 found_kind vars name kind (Some y) e =
     let s = place_stands (has_name_and_kind name kind) vars 0 y (sym e) in
     let at : s.0 ≡ y = omega (arith, s.1) in
-    ap (kind_at vars) (sym at) ∙ ap (option_map (λ v. v.1)) s.2.at ∙ ap Some (same_kind_is s.2.var.1 kind (and_true _ _ s.2.passes).1)
+    ap (kind_at vars) (sym at) ∙ ap (option_map (λ v. v.1)) s.2.at ∙ ap Some (same_kind_is s.2.var.1 kind (and_true _ _ s.2.passes).0)

@@ -1,5 +1,6 @@
 pub mod Arguments
 pub mod Parts
+pub mod Places
 pub mod Quotes
 pub mod Reading
 pub mod Statements

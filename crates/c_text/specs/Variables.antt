@@ -21,4 +21,4 @@ abbrev pub has_name : List ℕ → Declared → Bool
 has_name name v = bytes_eq v.0 name
 
 abbrev pub has_name_and_kind : List ℕ → Kind → Declared → Bool
-has_name_and_kind name kind v = bytes_eq v.0 name && same_kind v.1 kind
+has_name_and_kind name kind v = same_kind v.1 kind && bytes_eq v.0 name

@@ -14,13 +14,13 @@ ghost use Rattle.c_text.specs.Statements.{AreNamed, IsSpelledLine, IsLine, IsNoL
 
 use crate::argument::arguments;
 use crate::statement::write_line;
-use crate::variable::{variable, variable_of};
+use crate::variable::{Variables, variable, variable_of};
 use crate::word::{before, behind, cut, is, literal};
 use c_core::{Kind, Line, is_call_name};
 use outside_core::MemSink;
 use std::alloc::Global;
 use std::str;
-use value_core::{Many, Memory, Name};
+use value_core::{Memory, Name};
 
 /// The bytes as the name in a call.
 fn call_name(alloc: Global, bytes: &[u8]) -> Result<Option<Name>, Memory>
@@ -53,7 +53,7 @@ fn call_parts(text: &[u8]) -> Option<(&[u8], &[u8])>
 /// The call of a word with what stands between its brackets.
 fn call_of(
     alloc: Global,
-    vars: &Many<(Name, Kind)>,
+    vars: &Variables,
     target: Option<usize>,
     word: &[u8],
     inside: &[u8],
@@ -74,7 +74,7 @@ fn call_of(
 }
 
 /// The count of the variable of this kind that a word writes.
-fn release_of(vars: &Many<(Name, Kind)>, word: &[u8], kind: Kind) -> Option<Line>
+fn release_of(vars: &Variables, word: &[u8], kind: Kind) -> Option<Line>
     requires { IsTrue (is_counted_kind vars.now (Some kind)) }
     ensures finds { (x : ℕ) → kind_at vars.now x ≡ Some kind → var_text vars.now x ≡ word.now →
         Finds vars.now (statement_text vars.now) result (Line.Dec x) }
@@ -87,7 +87,7 @@ fn release_of(vars: &Many<(Name, Kind)>, word: &[u8], kind: Kind) -> Option<Line
 }
 
 /// A statement that begins with the name of a call or a count.
-fn call(alloc: Global, vars: &Many<(Name, Kind)>, text: &[u8]) -> Result<Option<Line>, Memory>
+fn call(alloc: Global, vars: &Variables, text: &[u8]) -> Result<Option<Line>, Memory>
     requires { AreNamed vars.now }
     ensures calls { (name : List ℕ) (args : List CArg) → IsTrue (spelled_line vars.now (Line.Call None name args)) →
         statement_text vars.now (Line.Call None name args) ≡ text.now →
@@ -111,7 +111,7 @@ fn call(alloc: Global, vars: &Many<(Name, Kind)>, text: &[u8]) -> Result<Option<
 /// What is assigned to a variable: a literal or a call.
 fn assigned(
     alloc: Global,
-    vars: &Many<(Name, Kind)>,
+    vars: &Variables,
     place: usize,
     text: &[u8],
 ) -> Result<Option<Line>, Memory>
@@ -138,7 +138,7 @@ fn assigned(
 }
 
 /// The target of an assignment, and what stands behind the equals sign.
-fn target<'a>(vars: &Many<(Name, Kind)>, text: &'a [u8]) -> Option<(usize, &'a [u8])>
+fn target<'a>(vars: &Variables, text: &'a [u8]) -> Option<(usize, &'a [u8])>
     requires { AreNamed vars.now }
     ensures finds { (x : ℕ) (value : List ℕ) → IsTrue (is_declared vars.now x) → var_text vars.now x ++ (codes " = " ++ value) ≡ text.now →
         FindsTarget vars.now result x value }
@@ -157,7 +157,7 @@ fn target<'a>(vars: &Many<(Name, Kind)>, text: &'a [u8]) -> Option<(usize, &'a [
 }
 
 /// A statement: what stands between the spaces and the semicolon of its line.
-fn statement(alloc: Global, vars: &Many<(Name, Kind)>, text: &[u8]) -> Result<Option<Line>, Memory>
+fn statement(alloc: Global, vars: &Variables, text: &[u8]) -> Result<Option<Line>, Memory>
     requires { AreNamed vars.now }
     ensures finds { (l : Line) → IsTrue (spelled_line vars.now l) → statement_text vars.now l ≡ text.now →
         IfOk result (λ found. Finds vars.now (statement_text vars.now) found l) }
@@ -179,11 +179,7 @@ fn statement(alloc: Global, vars: &Many<(Name, Kind)>, text: &[u8]) -> Result<Op
 }
 
 /// The line that a piece seems to be.
-fn seeming_line(
-    alloc: Global,
-    vars: &Many<(Name, Kind)>,
-    piece: &[u8],
-) -> Result<Option<Line>, Memory>
+fn seeming_line(alloc: Global, vars: &Variables, piece: &[u8]) -> Result<Option<Line>, Memory>
     requires { AreNamed vars.now }
     ensures finds { (l : Line) → IsTrue (spelled_line vars.now l) → line_text vars.now l ≡ piece.now →
         IfOk result (λ found. Finds vars.now (line_text vars.now) found l) }
@@ -199,27 +195,18 @@ fn seeming_line(
 }
 
 /// Whether a line is written so.
-fn is_written(
-    alloc: Global,
-    vars: &Many<(Name, Kind)>,
-    line: &Line,
-    piece: &[u8],
-) -> Result<bool, Memory>
+fn is_written(alloc: Global, vars: &Variables, line: &Line, piece: &[u8]) -> Result<bool, Memory>
     ensures { IfOk result (λ same. IsTrue same ↔ (line_text vars.now line.now ≡ piece.now)) }
 {
     let mut written = MemSink::new(alloc, Vec::new(alloc));
-    match write_line(vars, line, &mut written) {
+    match write_line(vars.list(), line, &mut written) {
         Ok(()) => Ok(is(written.bytes(), piece)),
         Err(_) => Err(Memory),
     }
 }
 
 /// The line of a function that a piece is, with its line feed.
-pub(crate) fn line(
-    alloc: Global,
-    vars: &Many<(Name, Kind)>,
-    piece: &[u8],
-) -> Result<Option<Line>, Memory>
+pub(crate) fn line(alloc: Global, vars: &Variables, piece: &[u8]) -> Result<Option<Line>, Memory>
     requires { AreNamed vars.now }
     ensures { IfOk result (λ found. MatchOption found (IsNoLine vars.now piece.now) (IsLine vars.now piece.now)) }
 {
