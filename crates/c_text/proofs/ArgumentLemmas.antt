@@ -99,7 +99,7 @@ front_is_none : (xs rest : List ℕ) → xs ++ rest ≡ [] → xs ≡ []
 front_is_none [] rest e = refl
 front_is_none (x ∷ xs) rest e = absurd (cc)
 
-argument_is_some : (vars : List Declared) (a : CArg) (rest : List ℕ) → IsTrue (spelled_arg vars a) → arg_text vars a ++ rest ≢ []
+pub argument_is_some : (vars : List Declared) (a : CArg) (rest : List ℕ) → IsTrue (spelled_arg vars a) → arg_text vars a ++ rest ≢ []
 argument_is_some vars (arg.Var x) rest h e = let d = declared_at vars x h in differ (ap (λ t. t ++ rest) (sym (text_at vars x d.var d.at)) ∙ e) refl
 argument_is_some vars (arg.Number n) rest h e = number_is_some n h (front_is_none (signed_decimal n) rest e)
 argument_is_some vars (arg.Text t) rest h e = differ e refl

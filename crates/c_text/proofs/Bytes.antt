@@ -183,3 +183,26 @@ not_found stop i (b ∷ bytes) e = split (not_found stop (i + 1) bytes) (b == st
         let q : Some i ≡ None = sym (ap (λ x. cond x (Some i) (position_from (λ b. b == stop) (i + 1) bytes)) t) ∙ e in absurd (cc)
     split later false t =
         ap (λ x. x || list_any (λ b. b == stop) bytes) t ∙ later (sym (ap (λ x. cond x (Some i) (position_from (λ b. b == stop) (i + 1) bytes)) t) ∙ e)
+
+-- ---- a byte parts a text in one way
+
+pub same_front : (stop : ℕ) (a b x y : List ℕ) → HasNo stop a → HasNo stop b → a ++ stop ∷ x ≡ b ++ stop ∷ y → (a ≡ b) × (x ≡ y)
+same_front stop [] [] x y p q e = (refl, ap (drop 1) e)
+same_front stop [] (d ∷ b) x y p q e =
+    let same : stop ≡ d = ap (λ l. get_or l 0 0) e in
+    absurd (false≢true (sym (or_false (d == stop) _ q).0 ∙ (Decides-eqb d stop).1 (sym same)))
+same_front stop (c ∷ a) [] x y p q e =
+    let same : c ≡ stop = ap (λ l. get_or l 0 0) e in
+    absurd (false≢true (sym (or_false (c == stop) _ p).0 ∙ (Decides-eqb c stop).1 same))
+same_front stop (c ∷ a) (d ∷ b) x y p q e =
+    let same : c ≡ d = ap (λ l. get_or l 0 0) e in
+    let rest = same_front stop a b x y (or_false (c == stop) _ p).1 (or_false (d == stop) _ q).1 (ap (drop 1) e) in
+    (ap (λ n. n ∷ a) same ∙ ap (λ xs. d ∷ xs) rest.0, rest.1)
+
+-- a byte that stands in one of two texts stands in the other
+pub not_in : (stop : ℕ) (u v rest : List ℕ) → HasNo stop u → u ≡ v ++ stop ∷ rest → ⊥
+not_in stop u v rest h e = stands v (sym (ap (list_any (λ b. b == stop)) e) ∙ h)
+  where
+    stands : (v : List ℕ) → HasNo stop (v ++ stop ∷ rest) → ⊥
+    stands [] k = false≢true (sym (or_false (stop == stop) _ k).0 ∙ same_byte stop)
+    stands (b ∷ v) k = stands v (or_false (b == stop) _ k).1

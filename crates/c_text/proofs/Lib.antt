@@ -5,10 +5,12 @@ pub mod Joined
 pub mod LineTexts
 pub mod Literals
 pub mod Numbers
+pub mod OneCode
 pub mod PartLemmas
 pub mod PlaceLemmas
 pub mod PlaceTables
 pub mod Quoting
 pub mod ReadLemmas
+pub mod SameParts
 pub mod StatementLemmas
 pub mod VariableLemmas

@@ -25,24 +25,11 @@ use Rattle.c_text.specs.Statements.{AreNamed}
 use Rattle.c_text.specs.Parts.{IsOneLine, first_line, head_line, closing_line, AreSpelled, IsFine, Stops, body_lines, part_lines, module_code}
 use Rattle.c_text.specs.Whole.{whole_text, AreOne}
 use Rattle.c_text.specs.Reading.{IsReading, HasCode, CanStand, AreLines, no_lines, line_then, at_line, at_end, SaysRefused}
-use Rattle.c_text.proofs.Bytes.{and_true, or_false, found_at}
+use Rattle.c_text.proofs.Bytes.{and_true, or_false, found_at, same_front}
 use Rattle.c_text.proofs.LineTexts.{declaration_is_one, line_is_one, closing_is_one}
 use Rattle.c_text.proofs.PartLemmas.{IsOpen, open_is_no_text, only_spelled, same_text}
 
 -- ---- a text has one list of lines
-
-same_front : (stop : ℕ) (a b x y : List ℕ) → HasNo stop a → HasNo stop b → a ++ stop ∷ x ≡ b ++ stop ∷ y → (a ≡ b) × (x ≡ y)
-same_front stop [] [] x y p q e = (refl, ap (drop 1) e)
-same_front stop [] (d ∷ b) x y p q e =
-    let same : stop ≡ d = ap (λ l. get_or l 0 0) e in
-    absurd (false≢true (sym (or_false (d == stop) _ q).0 ∙ (Decides-eqb d stop).1 (sym same)))
-same_front stop (c ∷ a) [] x y p q e =
-    let same : c ≡ stop = ap (λ l. get_or l 0 0) e in
-    absurd (false≢true (sym (or_false (c == stop) _ p).0 ∙ (Decides-eqb c stop).1 same))
-same_front stop (c ∷ a) (d ∷ b) x y p q e =
-    let same : c ≡ d = ap (λ l. get_or l 0 0) e in
-    let rest = same_front stop a b x y (or_false (c == stop) _ p).1 (or_false (d == stop) _ q).1 (ap (drop 1) e) in
-    (ap (λ n. n ∷ a) same ∙ ap (λ xs. d ∷ xs) rest.0, rest.1)
 
 -- a line and what stands behind it
 behind_one : {t : List ℕ} (one : IsOneLine t) (rest : List ℕ) → t ++ rest ≡ one.line ++ 10 ∷ rest

@@ -70,7 +70,7 @@ named_again : (name : List ℕ) (vars : List Declared) (x : ℕ) (v : Declared) 
 named_again name vars x v g e own =
     false≢true (sym (ap not (any_named name vars x v g e)) ∙ (and_true _ _ own).0)
 
-first_place : (p : Declared → Bool) (name : List ℕ) → ((w : Declared) → p w ≡ true → w.0 ≡ name) → (vars : List Declared) (i x : ℕ) (v : Declared) → slice_get vars x ≡ Some v → p v ≡ true → First p vars i x
+pub first_place : (p : Declared → Bool) (name : List ℕ) → ((w : Declared) → p w ≡ true → w.0 ≡ name) → (vars : List Declared) (i x : ℕ) (v : Declared) → slice_get vars x ≡ Some v → p v ≡ true → First p vars i x
 first_place p name named [] i x v g t = absurd (cc)
 first_place p name named (w ∷ vars) i zero v g t =
     let same : w ≡ v = cc in
@@ -117,7 +117,7 @@ found_alike p name named vars (Some y) x v f g t =
       only = λ own. sym (first.only own) ∙ at;
     }
 
-named : (name : List ℕ) (w : Declared) → has_name name w ≡ true → w.0 ≡ name
+pub named : (name : List ℕ) (w : Declared) → has_name name w ≡ true → w.0 ≡ name
 named name w t = (bytes_eq-Decides w.0 name).0 t
 
 named_and_kind : (name : List ℕ) (kind : Kind) (w : Declared) → has_name_and_kind name kind w ≡ true → w.0 ≡ name

@@ -1,4 +1,5 @@
 pub mod Arguments
+pub mod Laws
 pub mod Parts
 pub mod Places
 pub mod Quotes

@@ -40,7 +40,3 @@ pub data RefusedAt (bytes : List ℕ) : ℕ → Type 0 where
 abbrev pub SaysRefused : List ℕ → TextError → Type 0
 SaysRefused bytes (Refused place) = ¬ (HasCode bytes) × RefusedAt bytes place
 SaysRefused bytes Memory = Unit {0}
-
--- a text is refused at one place
-abbrev pub PlacesAreOne : Type 0
-PlacesAreOne = (bytes : List ℕ) (m n : ℕ) → RefusedAt bytes m → RefusedAt bytes n → m ≡ n

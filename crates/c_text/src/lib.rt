@@ -26,7 +26,7 @@ mod variable;
 mod word;
 mod writer;
 
-pub use laws::places_are_one;
+pub use laws::{codes_are_one, places_are_one};
 pub use reader::read;
 pub use text_error::TextError;
 pub use writer::write;
