@@ -17,7 +17,8 @@ mod well_formed;
 pub use code::{CArg, CClass, CFunc, CLit, Code, Kind, Line};
 pub use fault::Fault;
 pub use laws::{
-    release_in_any_order, release_keeps_counts, run_exists, run_keeps_counts, run_stays_small,
+    ledgers_ascend, release_in_any_order, release_keeps_counts, run_exists, run_keeps_counts,
+    run_stays_small, step_stays_small,
 };
 pub use primitive::{IoPrim, Prim, StrPrim};
 pub use well_formed::{is_call_name, is_identifier, is_spelled, is_well_formed};
