@@ -16,13 +16,13 @@ use Rattle.c_core.specs.declared.code.CLit.TheVariants.{Number, Null, PyNone, Py
 use Rattle.c_core.specs.Text.{arg_text, byte_text, comma, literal_text, octal, var_text}
 use Rattle.c_core.specs.WellFormed.{Declared, is_declared, spelled_arg, spelled_literal}
 use Rattle.c_text.specs.Words.{HasNo, EndsArgument}
-use Rattle.c_text.specs.Variables.{HaveOwnNames, has_name}
+use Rattle.c_text.specs.Variables.{has_name}
 use Rattle.c_text.specs.Statements.{AreNamed, IsWord, args_text}
 use Rattle.c_text.proofs.Bytes.{and_true, differ, not_in, same_front}
 use Rattle.c_text.proofs.Literals.{is_null, is_none, is_true, is_false}
 use Rattle.c_text.proofs.Numbers.{not_number, size_of}
 use Rattle.c_text.proofs.ArgumentLemmas.{HasNo-word, argument_is_some, is_class, is_global, is_number, is_quoted, is_variable}
-use Rattle.c_text.proofs.VariableLemmas.{declared_at, first_place, named, text_at}
+use Rattle.c_text.proofs.VariableLemmas.{HaveOwnNames, declared_at, first_place, named, text_at}
 
 -- ---- texts in quotes
 

@@ -13,8 +13,12 @@ use Rattle.c_core.specs.declared.code.Kind.{Kind}
 use Rattle.c_core.specs.declared.code.Kind.TheVariants.{Tagged, Int64, Char, Object}
 use Rattle.c_core.specs.Text.{var_text, var_name}
 use Rattle.c_core.specs.WellFormed.{Declared, is_declared, kind_at, names_differ, same_kind}
-use Rattle.c_text.specs.Variables.{HaveOwnNames, Finds, has_name, has_name_and_kind}
+use Rattle.c_text.specs.Variables.{Finds, has_name, has_name_and_kind}
 use Rattle.c_text.proofs.Bytes.{and_true}
+
+-- no two variables have one name
+abbrev pub HaveOwnNames : List Declared → Type 0
+HaveOwnNames vars = IsTrue (names_differ (map (λ v. v.0) vars))
 
 -- a variable that passes a test stands at a place
 pub record StandsAt (p : Declared → Bool) (vars : List Declared) (x : ℕ) : Type 0 where
@@ -102,7 +106,7 @@ pub text_at : (vars : List Declared) (x : ℕ) (v : Declared) → slice_get vars
 text_at vars x v g = ap var_name g
 
 -- the variable at the first place of a name is written as the one that has the name
-found_alike : (p : Declared → Bool) (name : List ℕ) → ((w : Declared) → p w ≡ true → w.0 ≡ name) → (vars : List Declared) (found : Option ℕ) (x : ℕ) (v : Declared) → position_from p 0 vars ≡ found → slice_get vars x ≡ Some v → p v ≡ true → Finds vars (var_text vars) found x
+found_alike : (p : Declared → Bool) (name : List ℕ) → ((w : Declared) → p w ≡ true → w.0 ≡ name) → (vars : List Declared) (found : Option ℕ) (x : ℕ) (v : Declared) → position_from p 0 vars ≡ found → slice_get vars x ≡ Some v → p v ≡ true → Finds (var_text vars) found x
 found_alike p name named vars None x v f g t =
     let first = first_place p name named vars 0 x v g t in
     let q : None ≡ Some (0 + first.place) = sym f ∙ first.found in
@@ -112,10 +116,7 @@ found_alike p name named vars (Some y) x v f g t =
     let q : Some y ≡ Some (0 + first.place) = sym f ∙ first.found in
     let r : y ≡ 0 + first.place = cc in
     let at : first.place ≡ y = omega arith in
-    record {
-      same = text_at vars x v g ∙ ap (λ t. codes "cpy_" ++ t) (named v t ∙ sym (named first.stands.var first.stands.passes)) ∙ sym (text_at vars first.place first.stands.var first.stands.at) ∙ ap (var_text vars) at;
-      only = λ own. sym (first.only own) ∙ at;
-    }
+    text_at vars x v g ∙ ap (λ t. codes "cpy_" ++ t) (named v t ∙ sym (named first.stands.var first.stands.passes)) ∙ sym (text_at vars first.place first.stands.var first.stands.at) ∙ ap (var_text vars) at
 
 pub named : (name : List ℕ) (w : Declared) → has_name name w ≡ true → w.0 ≡ name
 named name w t = (bytes_eq-Decides w.0 name).0 t
@@ -126,7 +127,7 @@ named_and_kind name kind w t = (bytes_eq-Decides w.0 name).0 (and_true _ _ t).1
 name_at : (vars : List Declared) (x : ℕ) (v : Declared) (name word : List ℕ) → slice_get vars x ≡ Some v → var_text vars x ≡ word → word ≡ codes "cpy_" ++ name → v.0 ≡ name
 name_at vars x v name word g e w = append_cancel_left (codes "cpy_") v.0 name (sym (text_at vars x v g) ∙ e ∙ w)
 
-pub variable_found : (vars : List Declared) (name word : List ℕ) (found : Option ℕ) (x : ℕ) → found ≡ position_from (has_name name) 0 vars → word ≡ codes "cpy_" ++ name → IsTrue (is_declared vars x) → var_text vars x ≡ word → Finds vars (var_text vars) found x
+pub variable_found : (vars : List Declared) (name word : List ℕ) (found : Option ℕ) (x : ℕ) → found ≡ position_from (has_name name) 0 vars → word ≡ codes "cpy_" ++ name → IsTrue (is_declared vars x) → var_text vars x ≡ word → Finds (var_text vars) found x
 variable_found vars name word found x f w h e =
     let d = declared_at vars x h in
     found_alike (has_name name) name (named name) vars found x d.var (sym f) d.at ((bytes_eq-Decides d.var.0 name).1 (name_at vars x d.var name word d.at e w))
@@ -159,7 +160,7 @@ same_kind_is Object Tagged h = absurd (cc)
 same_kind_is Object Int64 h = absurd (cc)
 same_kind_is Object Char h = absurd (cc)
 
-pub variable_of_found : (vars : List Declared) (name word : List ℕ) (kind : Kind) (found : Option ℕ) (x : ℕ) → found ≡ position_from (has_name_and_kind name kind) 0 vars → word ≡ codes "cpy_" ++ name → kind_at vars x ≡ Some kind → var_text vars x ≡ word → Finds vars (var_text vars) found x
+pub variable_of_found : (vars : List Declared) (name word : List ℕ) (kind : Kind) (found : Option ℕ) (x : ℕ) → found ≡ position_from (has_name_and_kind name kind) 0 vars → word ≡ codes "cpy_" ++ name → kind_at vars x ≡ Some kind → var_text vars x ≡ word → Finds (var_text vars) found x
 variable_of_found vars name word kind found x f w h e =
     let d = kind_is (slice_get vars x) kind h in
     found_alike (has_name_and_kind name kind) name (named_and_kind name kind) vars found x d.0 (sym f) d.1

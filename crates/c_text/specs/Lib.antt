@@ -6,5 +6,5 @@ pub mod Quotes
 pub mod Reading
 pub mod Statements
 pub mod Variables
-pub mod Whole
 pub mod Words
+pub mod Written

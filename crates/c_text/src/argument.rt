@@ -18,7 +18,7 @@ use value_core::{Many, Memory};
 /// The argument that a word writes.
 fn word_argument(alloc: Global, vars: &Variables, word: &[u8]) -> Result<Option<CArg>, Memory>
     ensures finds { (a : CArg) → IsTrue (spelled_arg vars.now a) → IsWord a → arg_text vars.now a ≡ word.now →
-        IfOk result (λ found. Finds vars.now (arg_text vars.now) found a) }
+        IfOk result (λ found. Finds (arg_text vars.now) found a) }
     ensures spelled { IfOk result (λ found. IfSome found (λ a. IsTrue (spelled_arg vars.now a))) }
 {
     if let Some(word) = behind(word, b"CPyStatic_") {
@@ -79,7 +79,7 @@ fn some_arguments(
     requires { AreNamed vars.now }
     ensures finds { (a : CArg) (others : List CArg) → IsTrue (list_all (spelled_arg vars.now) (a ∷ others)) →
         args_text vars.now (a ∷ others) ≡ text.now →
-        IfOk result (λ found. Finds vars.now (args_text vars.now) found (a ∷ others)) }
+        IfOk result (λ found. Finds (args_text vars.now) found (a ∷ others)) }
     ensures spelled { IfOk result (λ found. IfSome found (λ args. IsTrue (list_all (spelled_arg vars.now) args))) }
 {
     let mut args = Vec::new(alloc);
@@ -107,7 +107,7 @@ pub(crate) fn arguments(
 ) -> Result<Option<Many<CArg>>, Memory>
     requires { AreNamed vars.now }
     ensures finds { (args : List CArg) → IsTrue (list_all (spelled_arg vars.now) args) → args_text vars.now args ≡ text.now →
-        IfOk result (λ found. Finds vars.now (args_text vars.now) found args) }
+        IfOk result (λ found. Finds (args_text vars.now) found args) }
     ensures spelled { IfOk result (λ found. IfSome found (λ args. IsTrue (list_all (spelled_arg vars.now) args))) }
 {
     if text.is_empty() {

@@ -8,7 +8,6 @@ pub fn places_are_one()
 {}
 
 /// No two well-formed codes have one text.
-#[tactic(auto, using(crate::proofs::OneCode::codes_are_one))]
 pub fn codes_are_one()
     ensures { CodesAreOne }
 {}

@@ -30,7 +30,7 @@ pub(crate) enum Part {
 fn behind_start(piece: &[u8]) -> Option<Part>
     ensures { GoesOn variant.Start piece.now result }
 {
-    if is(piece, b"/* mypyc subset 1 */\n") {
+    if is(piece, b"/* mypyc subset 1 */") {
         Some(Part::Head)
     } else {
         None
@@ -40,7 +40,7 @@ fn behind_start(piece: &[u8]) -> Option<Part>
 fn behind_head(alloc: Global, piece: &[u8]) -> Option<Part>
     ensures { GoesOn variant.Head piece.now result }
 {
-    if is(piece, b"char CPyModule(void) {\n") {
+    if is(piece, b"char CPyModule(void) {") {
         Some(Part::Declarations(Variables::new(alloc)))
     } else {
         None
@@ -51,7 +51,7 @@ fn behind_declarations(alloc: Global, vars: Variables, piece: &[u8]) -> Result<O
     requires { AreNamed vars }
     ensures { IfOk result (GoesOn (variant.Declarations vars) piece.now) }
 {
-    if is(piece, b"}\n") {
+    if is(piece, b"}") {
         return Ok(Some(Part::Closed(vars.into_list(), Many::new(alloc))));
     }
     if let Some(declared) = declaration(alloc, piece)? {
@@ -75,7 +75,7 @@ fn behind_statements(
     requires { IsFine (variant.Statements vars lines) }
     ensures { IfOk result (GoesOn (variant.Statements vars lines) piece.now) }
 {
-    if is(piece, b"}\n") {
+    if is(piece, b"}") {
         return Ok(Some(Part::Closed(vars.into_list(), lines)));
     }
     let Some(line) = line(alloc, &vars, piece)? else {

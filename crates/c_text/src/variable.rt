@@ -180,7 +180,7 @@ impl Variables {
 pub(crate) fn variable(vars: &Variables, word: &[u8]) -> Option<usize>
     ensures within { IfSome result (λ y. IsTrue (is_declared vars.now y)) }
     ensures finds { (x : ℕ) → IsTrue (is_declared vars.now x) → var_text vars.now x ≡ word.now →
-        Finds vars.now (var_text vars.now) result x }
+        Finds (var_text vars.now) result x }
 {
     match behind(word, b"cpy_") {
         Some(name) => vars.of_name(name),
@@ -192,7 +192,7 @@ pub(crate) fn variable(vars: &Variables, word: &[u8]) -> Option<usize>
 pub(crate) fn variable_of(vars: &Variables, word: &[u8], kind: Kind) -> Option<usize>
     ensures within { IfSome result (λ y. kind_at vars.now y ≡ Some kind) }
     ensures finds { (x : ℕ) → kind_at vars.now x ≡ Some kind → var_text vars.now x ≡ word.now →
-        Finds vars.now (var_text vars.now) result x }
+        Finds (var_text vars.now) result x }
 {
     match behind(word, b"cpy_") {
         Some(name) => vars.of_name_and_kind(name, kind),
