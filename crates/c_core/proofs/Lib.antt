@@ -8,3 +8,4 @@ pub mod StepCases
 pub mod SmallSteps
 pub mod Bounds
 pub mod WellFormedLemmas
+pub mod NameLemmas

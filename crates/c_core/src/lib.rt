@@ -6,6 +6,7 @@
 //! are total, and the public calls are exactly them.
 #![tactic(auto)]
 
+mod checked;
 mod code;
 mod fault;
 mod laws;
@@ -14,6 +15,7 @@ mod primitive;
 mod tests;
 mod well_formed;
 
+pub use checked::check_well_formed;
 pub use code::{CArg, CClass, CFunc, CLit, Code, Kind, Line};
 pub use fault::Fault;
 pub use laws::{

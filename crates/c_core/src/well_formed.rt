@@ -196,13 +196,13 @@ fn is_declared_in(name: &str, vars: &[(Name, Kind)]) -> bool
     vars.iter().any(|var| name == var.0.as_str())
 }
 
-fn lines_fit(code: &Code, vars: &[(Name, Kind)], ret: Kind, lines: &[Line]) -> bool
+pub(crate) fn lines_fit(code: &Code, vars: &[(Name, Kind)], ret: Kind, lines: &[Line]) -> bool
     ensures { result ≡ list_all (spec.line_fits code.now vars.now ret) lines.now }
 {
     lines.iter().all(|line| line_fits(code, vars, ret, line))
 }
 
-fn ends_leaving(lines: &[Line]) -> bool
+pub(crate) fn ends_leaving(lines: &[Line]) -> bool
     ensures { result ≡ spec.is_leaving (slice_get lines.now (length lines.now - 1)) }
 {
     match lines.last() {
