@@ -1,7 +1,7 @@
 -- Whole texts: a text has one list of lines, and its code is known by them.
 use Rattle.std.proofs.Common.{◌≡◌, ◌≢◌, ◌∙◌, ℕ, ◌+◌, ◌-◌, ◌<◌, List, [], ◌∷◌, ◌++◌, length, take, drop, Some, Result, Ok, Err, IfOk, arith, length-append, refl, sym, ap, append_assoc, append-nil, subst}
 use Rattle.std.specs.Prelude.{◌==◌}
-use Rattle.std.specs.List.{list_all, list_any, position_from}
+use Rattle.std.specs.List.{list_any, position_from}
 use Rattle.c_core.specs.declared.code.Code.{Code}
 use Rattle.c_core.specs.declared.code.Line.{Line}
 use Rattle.c_core.specs.Text.{code_lines, code_text, declaration_lines, first_line, function_end, module_head, statement_lines, text_of}

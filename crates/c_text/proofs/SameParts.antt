@@ -1,7 +1,7 @@
 -- No two parts of a statement have one text.
-use Rattle.std.proofs.Common.{◌≡◌, ◌≢◌, ◌∙◌, ℕ, ℤ, ◌+◌, ◌-◌, ◌*◌, ◌/◌, ◌%◌, ◌<◌, Bool, true, false, cond, List, [], ◌∷◌, ◌++◌, get_or, drop, Option, Some, None, IsTrue, refl, sym, ap, arith, append_assoc, append-nil}
-use Rattle.std.specs.Prelude.{◌&&◌, ◌||◌, ◌==◌, nat_lt, codes}
-use Rattle.std.specs.List.{list_all, flat_map, position_from}
+use Rattle.std.proofs.Common.{◌≡◌, ◌≢◌, ◌∙◌, ℕ, ℤ, ◌+◌, ◌-◌, ◌*◌, ◌/◌, ◌%◌, ◌<◌, Bool, true, false, cond, List, [], ◌∷◌, ◌++◌, get_or, drop, Some, IsTrue, refl, sym, ap, arith, append_assoc, append-nil}
+use Rattle.std.specs.Prelude.{◌||◌, ◌==◌, nat_lt, codes}
+use Rattle.std.specs.List.{list_all, flat_map}
 use Rattle.std.specs.Fmt.{signed_decimal}
 use Rattle.std.proofs.lemmas.Bool.{ltb-true}
 use Rattle.std.proofs.lemmas.Bool.Decides.{Decides-eqb}
