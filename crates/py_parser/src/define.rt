@@ -11,15 +11,15 @@ ghost use Rattle.py_expressions.specs.Rows.{reads_row};
 ghost use Rattle.py_statements.specs.Statements.{stmt_seen, stmts_seen};
 ghost use Rattle.py_parser.specs.Definitions.{maybe_seen, exprs_listed, param_seen, params_seen, func_seen, class_seen, mark_seen, reads_maybe, reads_params, reads_class_body, reads_def, reads_class};
 
-use crate::definition::{class_defined, defined, new_class, new_func, push_mark, push_param};
 use py_expressions::expression::{items, test};
 use py_expressions::row::no_row;
 use py_grammar::{Class as Kind, Place};
+use py_nodes::append::{append, row_of};
+use py_nodes::definition::{class_defined, defined, new_class, new_func, push_mark, push_param};
 use py_reading::fault::ParseError;
 use py_reading::place::{accept, accept_key, accept_sign, sees, sees_key, sees_sign};
 use py_reading::starts::begins_member;
 use py_reading::word::name_of;
-use py_statements::append::{append, row_of};
 use py_statements::block::{stmt, suite};
 use py_statements::simple::simple;
 use py_syntax::{Class, Expr, Func, Key, Sign, Span, Stmt, Token};
