@@ -3,8 +3,7 @@ ghost use Rattle.std.specs.Prelude.{◌≡◌, [], ◌∷◌, ◌++◌, map, IfO
 ghost use Rattle.py_syntax.specs.Expressions.{expr_tree};
 ghost use Rattle.py_syntax.specs.Statements.{stmt_tree, func_tree, class_tree, param_tree, body_tree};
 ghost use Rattle.py_grammar.specs.Actions.{def_at, class_at, name_of};
-ghost use Rattle.py_nodes.specs.Parts.{param_boxed, plain_func, plain_class};
-ghost use Rattle.py_nodes.specs.Parts.{maybe_boxed};
+ghost use Rattle.py_nodes.specs.Parts.{param_boxed, plain_func, plain_class, maybe_boxed};
 
 use crate::statement::{boxed, unboxed};
 use py_reading::word::name_of;

@@ -4,12 +4,11 @@ ghost use Rattle.py_syntax.specs.Statements.{stmt_tree};
 ghost use Rattle.py_syntax.specs.Expressions.{expr_tree};
 ghost use Rattle.py_grammar.specs.Grammar.{FUNC, PARAM, CLASS, CBLOCK, MEMBER, MARK, DECORATED};
 ghost use Rattle.py_grammar.specs.Readings.{reads_sym};
-ghost use Rattle.py_parser.specs.Definitions.{reads_bases, reads_members, reads_marks};
+ghost use Rattle.py_parser.specs.Definitions.{reads_bases, reads_members, reads_marks, maybe_seen, exprs_listed, param_seen, params_seen, func_seen, class_seen, mark_seen, reads_maybe, reads_params, reads_class_body, reads_def, reads_class};
 ghost use Rattle.py_reading.specs.Gives.{Gives};
 ghost use Rattle.py_reading.specs.Moves.{MovesTo, MovesUpTo};
 ghost use Rattle.py_expressions.specs.Rows.{reads_row};
 ghost use Rattle.py_statements.specs.Statements.{stmt_seen, stmts_seen};
-ghost use Rattle.py_parser.specs.Definitions.{maybe_seen, exprs_listed, param_seen, params_seen, func_seen, class_seen, mark_seen, reads_maybe, reads_params, reads_class_body, reads_def, reads_class};
 
 use py_expressions::expression::{items, test};
 use py_expressions::row::no_row;

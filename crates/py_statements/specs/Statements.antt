@@ -8,9 +8,8 @@ use Rattle.py_syntax.specs.declared.statement.Stmt.{Stmt}
 use Rattle.py_syntax.specs.declared.sign.Sign.TheVariants as s
 use Rattle.py_syntax.specs.declared.key.Key.{Key}
 use Rattle.py_syntax.specs.declared.key.Key.TheVariants as k
-use Rattle.py_syntax.specs.declared.token.Span.{Span}
 use Rattle.py_syntax.specs.declared.token.Token.{Token}
-use Rattle.py_syntax.specs.Expressions.{ExprTree, expr_tree}
+use Rattle.py_syntax.specs.Expressions.{ExprTree}
 use Rattle.py_syntax.specs.Statements as st
 use Rattle.py_syntax.specs.Statements.{StmtTree, StmtNode, Block, HandlerTree, stmt_tree, handler_tree, arm_tree, body_tree}
 use Rattle.py_grammar.specs.declared.class.Class.TheVariants as class
