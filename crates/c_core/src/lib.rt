@@ -10,8 +10,6 @@ mod code;
 mod fault;
 mod laws;
 mod primitive;
-#[cfg(test)]
-mod tests;
 mod well_formed;
 
 pub use code::{CArg, CClass, CFunc, CLit, Code, Kind, Line};

@@ -16,8 +16,6 @@ mod report;
 mod runner;
 mod state;
 mod step;
-#[cfg(test)]
-mod tests;
 mod words;
 
 pub use report::{Ending, LiveCell, Report, RunError};

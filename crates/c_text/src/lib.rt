@@ -30,6 +30,3 @@ pub use laws::places_are_one;
 pub use reader::read;
 pub use text_error::TextError;
 pub use writer::write;
-
-#[cfg(test)]
-mod tests;

@@ -18,6 +18,3 @@ pub use laws::{
     trees_are_shallow,
 };
 pub use place::Place;
-
-#[cfg(test)]
-mod tests;

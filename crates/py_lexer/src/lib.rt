@@ -54,6 +54,3 @@ pub fn tokens(alloc: Global, text: &str) -> Result<Tokens, LexError>
 pub fn pieces_lie_side_by_side()
     ensures { (text : List ℕ) → AreSideBySide start text (pieces_of text) }
 {}
-
-#[cfg(test)]
-mod tests;

@@ -5,7 +5,6 @@ pub mod ChainReading
 pub mod ComparisonReading
 pub mod Conditions
 pub mod DefinitionReading
-pub mod Endings
 pub mod Equations
 pub mod ExprEquations
 pub mod Faults

@@ -50,6 +50,3 @@ pub fn module(alloc: Global, tokens: &Tokens) -> Result<Module, ParseError>
     let (body, _) = whole(alloc, tokens.list.as_slice())?;
     Ok(Module { body })
 }
-
-#[cfg(test)]
-mod tests;

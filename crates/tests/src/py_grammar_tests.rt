@@ -1,0 +1,55 @@
+//! Classes of tokens, and the laws of the grammar.
+use crate::case::check;
+use py_grammar::{
+    Class, faults_are_tokens, outcome_exists, outcome_is_one, reading_is_exact, tree_is_one,
+    trees_are_shallow,
+};
+use py_syntax::{Key, Sign, TokenKind};
+
+/// The class of a keyword or a sign is of this one alone.
+#[test]
+fn classes_are_told_apart(rt: HostRuntime) {
+    for key in Key::ALL.iter() {
+        let class = Class::of(&TokenKind::Key(*key));
+        for other in Key::ALL.iter() {
+            check(
+                &rt,
+                &key.text(),
+                class.is(Class::Key(*other)) == (key == other),
+            );
+        }
+        check(&rt, &key.text(), !class.is(Class::Name));
+    }
+    for sign in Sign::ALL.iter() {
+        let class = Class::of(&TokenKind::Sign(*sign));
+        for other in Sign::ALL.iter() {
+            check(
+                &rt,
+                &sign.text(),
+                class.is(Class::Sign(*other)) == (sign == other),
+            );
+        }
+        check(&rt, &sign.text(), !class.is(Class::End));
+    }
+    for (kind, class) in [
+        (TokenKind::Int(7), Class::Int),
+        (TokenKind::Newline, Class::Newline),
+        (TokenKind::Indent, Class::Indent),
+        (TokenKind::Dedent, Class::Dedent),
+        (TokenKind::End, Class::End),
+    ] {
+        let is_right = Class::of(&kind).is(class) && !Class::of(&kind).is(Class::Str);
+        check(&rt, &"another kind", is_right);
+    }
+}
+
+/// The laws are called, and change nothing.
+#[test]
+fn laws_are_there(_rt: HostRuntime) {
+    outcome_exists();
+    outcome_is_one();
+    tree_is_one();
+    trees_are_shallow();
+    faults_are_tokens();
+    reading_is_exact();
+}
