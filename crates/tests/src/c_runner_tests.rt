@@ -4,7 +4,7 @@ use crate::codes::{call, module, text_argument};
 use c_core::{CArg, CLit, Code, Fault, Kind, Line, is_well_formed};
 use c_runner::{Ending, Report, RunError, run};
 use outside_core::{CalmSource, MemSink};
-use std::alloc::Global;
+use std::alloc::{AllocError, Global};
 use std::test::Fail;
 use value_core::{Many, Memory};
 
@@ -66,21 +66,23 @@ fn comes_to(alloc: Global, code: &Code, out: &mut MemSink, want: Outcome) -> boo
     }
 }
 
+// Lines, how their run ends and whether a cell is left, and its output.
+const SHORT: &[(&str, (Option<Fault>, bool), &str)] = &[
+    ("", (None, false), ""),
+    ("mwd", (None, false), "3\n"),
+    ("mwdmwwd", (None, false), "3\n3\n3\n"),
+    ("mw", (Some(Fault::Leak), true), "3\n"),
+    ("mmwd", (Some(Fault::Leak), true), "3\n"),
+    ("mwdd", (Some(Fault::Dead), false), "3\n"),
+    ("mdw", (Some(Fault::Dead), false), ""),
+    ("w", (Some(Fault::Kind), false), ""),
+    ("d", (Some(Fault::Kind), false), ""),
+];
+
 #[test]
 fn short_codes(rt: HostRuntime) -> Result<(), Fail> {
     let alloc = rt.alloc();
-    let rows = [
-        ("", (None, false), ""),
-        ("mwd", (None, false), "3\n"),
-        ("mwdmwwd", (None, false), "3\n3\n3\n"),
-        ("mw", (Some(Fault::Leak), true), "3\n"),
-        ("mmwd", (Some(Fault::Leak), true), "3\n"),
-        ("mwdd", (Some(Fault::Dead), false), "3\n"),
-        ("mdw", (Some(Fault::Dead), false), ""),
-        ("w", (Some(Fault::Kind), false), ""),
-        ("d", (Some(Fault::Kind), false), ""),
-    ];
-    for (letters, want, output) in rows {
+    for (letters, want, output) in SHORT.iter().copied() {
         let code = code_of(alloc, letters, "3\n")?;
         let mut out = MemSink::new(alloc, Vec::new(alloc));
         let is_right = comes_to(alloc, &code, &mut out, Ok(want));
@@ -89,21 +91,27 @@ fn short_codes(rt: HostRuntime) -> Result<(), Fail> {
     Ok(())
 }
 
-// Three texts of 40000 bytes: two are handed on together as soon as they are held, and the third at the end.
-#[test]
-fn refused_calls(rt: HostRuntime) -> Result<(), Fail> {
-    let alloc = rt.alloc();
+// The number of the call that fails, what comes of the run, how many bytes are taken, and how many calls failed.
+const REFUSED: &[(u64, Outcome, usize, u64)] = &[
+    (0, Err(RunError::WriteFault), 0, 1),
+    (1, Err(RunError::WriteFault), 80_000, 1),
+    (2, Ok((None, false)), 120_000, 0),
+];
+
+fn long_text(alloc: Global) -> Result<String, AllocError> {
     let mut text = String::new(alloc);
     for _ in 0..4000 {
         text.push_str("123456789\n")?;
     }
-    let code = code_of(alloc, "mwdmwdmwd", text.as_str())?;
-    let rows = [
-        (0, Err(RunError::WriteFault), 0, 1),
-        (1, Err(RunError::WriteFault), 80_000, 1),
-        (2, Ok((None, false)), 120_000, 0),
-    ];
-    for (failing, want, taken, faults) in rows {
+    Ok(text)
+}
+
+// Three texts of 40000 bytes: two are handed on together as soon as they are held, and the third at the end.
+#[test]
+fn refused_calls(rt: HostRuntime) -> Result<(), Fail> {
+    let alloc = rt.alloc();
+    let code = code_of(alloc, "mwdmwdmwd", long_text(alloc)?.as_str())?;
+    for (failing, want, taken, faults) in REFUSED.iter().copied() {
         let mut out = MemSink::new(alloc, Vec::from_slice(alloc, &[failing])?);
         let is_right = comes_to(alloc, &code, &mut out, want);
         check(

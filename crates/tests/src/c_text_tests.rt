@@ -24,8 +24,7 @@ fn printing_three(alloc: Global) -> Result<Code, Memory> {
     module(alloc, &[("t_0", Kind::Object), ("t_1", Kind::Char)], lines)
 }
 
-/// Each kind, literal and argument, a text with every form of a byte, and variables that nothing declares.
-fn having_each_form(alloc: Global) -> Result<Code, Memory> {
+fn each_argument(alloc: Global) -> Result<Many<CArg>, Memory> {
     let mut arguments = Many::new(alloc);
     arguments.push(CArg::Var(1))?;
     arguments.push(CArg::Number(-9223372036854775808))?;
@@ -33,7 +32,13 @@ fn having_each_form(alloc: Global) -> Result<Code, Memory> {
     arguments.push(CArg::Global(Name::from_str(alloc, "g")?))?;
     arguments.push(CArg::Class(Name::from_str(alloc, "C")?))?;
     arguments.push(CArg::Var(7))?;
+    Ok(arguments)
+}
+
+/// Each kind, literal and argument, a text with every form of a byte, and variables that nothing declares.
+fn having_each_form(alloc: Global) -> Result<Code, Memory> {
     let mut lines = Many::new(alloc);
+    let arguments = each_argument(alloc)?;
     lines.push(Line::Call(Some(1), Name::from_str(alloc, "CPyA")?, arguments))?;
     lines.push(Line::Call(None, Name::from_str(alloc, "CPyB")?, Many::new(alloc)))?;
     for literal in [
@@ -94,17 +99,19 @@ fn calls_of_a_sink_refuse_in_turn(rt: HostRuntime) -> Result<(), Fail> {
     Ok(())
 }
 
+/// Texts that are read.
+const READ: &[&[u8]] = &[
+    THREE,
+    b"/* mypyc subset 1 */\nchar CPyModule(void) {\n    CPyTagged cpy_\xc3\xa4;\n    int64_t cpy_n;\n    cpy_n = CPyA(cpy_n, -9223372036854775808, \"a, \\\")\\\\\\n\\011\\037\\177\xc3\xa4\", CPyStatic_g, CPyType_C);\n    CPyB();\n    CPy1(\"\");\n    cpy_n = 9223372036854775807;\n    cpy_\xc3\xa4 = Py_None;\n    CPyTagged_DECREF(cpy_\xc3\xa4);\n}\n",
+    b"/* mypyc subset 1 */\nchar CPyModule(void) {\n    char cpy_x;\n    PyObject *cpy_x;\n    CPy_DECREF(cpy_x);\n    cpy_x = NULL;\n}\n",
+    b"/* mypyc subset 1 */\nchar CPyModule(void) {\n}\n",
+];
+
 /// Texts that are read: what was read is written as the same text.
 #[test]
 fn what_is_read_is_written(rt: HostRuntime) -> Result<(), Fail> {
-    let alloc = rt.alloc();
-    for text in [
-        THREE,
-        "/* mypyc subset 1 */\nchar CPyModule(void) {\n    CPyTagged cpy_\u{e4};\n    int64_t cpy_n;\n    cpy_n = CPyA(cpy_n, -9223372036854775808, \"a, \\\")\\\\\\n\\011\\037\\177\u{e4}\", CPyStatic_g, CPyType_C);\n    CPyB();\n    CPy1(\"\");\n    cpy_n = 9223372036854775807;\n    cpy_\u{e4} = Py_None;\n    CPyTagged_DECREF(cpy_\u{e4});\n}\n".as_bytes(),
-        b"/* mypyc subset 1 */\nchar CPyModule(void) {\n    char cpy_x;\n    PyObject *cpy_x;\n    CPy_DECREF(cpy_x);\n    cpy_x = NULL;\n}\n",
-        b"/* mypyc subset 1 */\nchar CPyModule(void) {\n}\n",
-    ] {
-        check_text(&rt, alloc, &read(alloc, text)?, text);
+    for text in READ {
+        check_text(&rt, rt.alloc(), &read(rt.alloc(), text)?, text);
     }
     Ok(())
 }

@@ -28,53 +28,55 @@ fn joined(alloc: Global, parts: &[&str]) -> Result<String, AllocError> {
     Ok(text)
 }
 
+/// The parts of a text, with the output, the line on errors, and the number of the status.
+const TEXTS: &[(&[&str], &str, &str, u8)] = &[
+    (&[HEAD, WRITE, DEC, TAIL], "3\n-- Done\n-- live 0\n", "", 0),
+    (
+        &[HEAD, WRITE, TAIL],
+        "3\n-- Fault Leak\n-- live 1\n-- Str 1\n",
+        OWNERSHIP,
+        10,
+    ),
+    (
+        &[HEAD, WRITE, DEC, DEC, TAIL],
+        "3\n-- Fault Dead\n-- live 0\n",
+        OWNERSHIP,
+        10,
+    ),
+    (
+        &[HEAD, DEC, WRITE, TAIL],
+        "-- Fault Dead\n-- live 0\n",
+        OWNERSHIP,
+        10,
+    ),
+    (
+        &[HEAD, WRITE, DEC, "    return cpy_t_1;\n}\n"],
+        "3\n-- Fault Kind\n-- live 0\n",
+        OWNERSHIP,
+        10,
+    ),
+    (
+        &[HEAD, WRITE, DEC, "    cpy_t_1 = 1;\n}\n"],
+        "",
+        "mypyc: t.py: not well formed\n",
+        9,
+    ),
+    (
+        &[
+            "/* mypyc subset 1 */\nchar CPyModule(void) { \n",
+            WRITE,
+            TAIL,
+        ],
+        "",
+        "mypyc: t.py: refused at byte 21\n",
+        9,
+    ),
+    (&[], "", "mypyc: t.py: refused at byte 0\n", 9),
+];
+
 #[test]
 fn texts_are_run(rt: HostRuntime) -> Result<(), Fail> {
-    let cases: &[(&[&str], &str, &str, u8)] = &[
-        (&[HEAD, WRITE, DEC, TAIL], "3\n-- Done\n-- live 0\n", "", 0),
-        (
-            &[HEAD, WRITE, TAIL],
-            "3\n-- Fault Leak\n-- live 1\n-- Str 1\n",
-            OWNERSHIP,
-            10,
-        ),
-        (
-            &[HEAD, WRITE, DEC, DEC, TAIL],
-            "3\n-- Fault Dead\n-- live 0\n",
-            OWNERSHIP,
-            10,
-        ),
-        (
-            &[HEAD, DEC, WRITE, TAIL],
-            "-- Fault Dead\n-- live 0\n",
-            OWNERSHIP,
-            10,
-        ),
-        (
-            &[HEAD, WRITE, DEC, "    return cpy_t_1;\n}\n"],
-            "3\n-- Fault Kind\n-- live 0\n",
-            OWNERSHIP,
-            10,
-        ),
-        (
-            &[HEAD, WRITE, DEC, "    cpy_t_1 = 1;\n}\n"],
-            "",
-            "mypyc: t.py: not well formed\n",
-            9,
-        ),
-        (
-            &[
-                "/* mypyc subset 1 */\nchar CPyModule(void) { \n",
-                WRITE,
-                TAIL,
-            ],
-            "",
-            "mypyc: t.py: refused at byte 21\n",
-            9,
-        ),
-        (&[], "", "mypyc: t.py: refused at byte 0\n", 9),
-    ];
-    for (parts, out, err, number) in cases {
+    for (parts, out, err, number) in TEXTS {
         let text = joined(rt.alloc(), parts)?;
         let given = command(rt.alloc(), &["--emit=runc", "t.py"], text.as_bytes(), CALM)?;
         check_given(&rt, &given, out, err, *number);
@@ -82,21 +84,23 @@ fn texts_are_run(rt: HostRuntime) -> Result<(), Fail> {
     Ok(())
 }
 
+const UNBUILT: &str =
+    "t.py:2: error: Form is not built yet  [unbuilt]\nFound 1 error in 1 file (checked 1 source file)\n";
+
+const MODULES: &[(&[u8], &str, u8)] = &[
+    (b"print(3)\n", "3\n", 0),
+    (
+        b"print(0)\nprint(4611686018427387903)",
+        "0\n4611686018427387903\n",
+        0,
+    ),
+    (b"", "", 0),
+    (b"print(3)\nx\n", UNBUILT, 1),
+];
+
 #[test]
 fn modules_are_run(rt: HostRuntime) -> Result<(), Fail> {
-    let unbuilt =
-        "t.py:2: error: Form is not built yet  [unbuilt]\nFound 1 error in 1 file (checked 1 source file)\n";
-    let cases: &[(&[u8], &str, u8)] = &[
-        (b"print(3)\n", "3\n", 0),
-        (
-            b"print(0)\nprint(4611686018427387903)",
-            "0\n4611686018427387903\n",
-            0,
-        ),
-        (b"", "", 0),
-        (b"print(3)\nx\n", unbuilt, 1),
-    ];
-    for (bytes, out, number) in cases {
+    for (bytes, out, number) in MODULES {
         let given = command(rt.alloc(), &["t.py"], bytes, CALM)?;
         check_given(&rt, &given, out, "", *number);
     }

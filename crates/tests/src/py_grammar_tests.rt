@@ -6,6 +6,10 @@ use py_grammar::{
 };
 use py_syntax::{Key, Sign, TokenKind};
 
+fn is_of(kind: TokenKind, class: Class) -> bool {
+    Class::of(&kind).is(class)
+}
+
 /// The class of a keyword or a sign is of this one alone.
 #[test]
 fn classes_are_told_apart(rt: HostRuntime) {
@@ -31,16 +35,17 @@ fn classes_are_told_apart(rt: HostRuntime) {
         }
         check(&rt, &sign.text(), !class.is(Class::End));
     }
-    for (kind, class) in [
-        (TokenKind::Int(7), Class::Int),
-        (TokenKind::Newline, Class::Newline),
-        (TokenKind::Indent, Class::Indent),
-        (TokenKind::Dedent, Class::Dedent),
-        (TokenKind::End, Class::End),
-    ] {
-        let is_right = Class::of(&kind).is(class) && !Class::of(&kind).is(Class::Str);
-        check(&rt, &"another kind", is_right);
-    }
+    let is_told = is_of(TokenKind::Int(7), Class::Int) && !is_of(TokenKind::Int(7), Class::Str);
+    check(&rt, &"literals", is_told);
+    let is_told = is_of(TokenKind::Newline, Class::Newline) && is_of(TokenKind::End, Class::End);
+    check(&rt, &"lines", is_told);
+    let is_told = is_of(TokenKind::Indent, Class::Indent)
+        && !is_of(TokenKind::Indent, Class::Dedent);
+    check(
+        &rt,
+        &"levels",
+        is_told && is_of(TokenKind::Dedent, Class::Dedent),
+    );
 }
 
 /// The laws are called, and change nothing.

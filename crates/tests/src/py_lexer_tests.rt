@@ -1,12 +1,14 @@
 //! Texts with their tokens or their faults, as CPython has them.
+use crate::case::check;
 use py_lexer::{LexError, LexKind, pieces_lie_side_by_side, tokens};
 use py_syntax::TokenKind;
 use std::alloc::{AllocError, Global};
+use std::process::Abort;
 use std::test::Fail;
 
 /// Texts with their tokens, each behind its place, as CPython's `tokenize` has them: but that `Newline` stands directly
 /// behind the last token of its line, `Indent` and `Dedent` at the first one of theirs, and `...` is three dots.
-const ROWS: [(&str, &str); 24] = [
+const ROWS: &[(&str, &str)] = &[
     ("", "1:1 End"),
     ("\n\n", "3:1 End"),
     ("x", "1:1 Name(x) 1:2 Newline 2:1 End"),
@@ -97,7 +99,7 @@ const ROWS: [(&str, &str); 24] = [
 ];
 
 /// Texts with the line and the kind of their first fault.
-const FAULTS: [(&str, usize, LexKind); 37] = [
+const FAULTS: &[(&str, usize, LexKind)] = &[
     ("a\n  b\n c\n", 3, LexKind::BadIndent),
     ("if a:\n    b\n  \\\n\n  c\n", 5, LexKind::BadIndent),
     ("if a:\n    b\n  \\\n  c\n", 3, LexKind::BadIndent),
@@ -172,11 +174,16 @@ fn shown(alloc: Global, text: &str) -> Result<String, AllocError> {
     Ok(out)
 }
 
+fn check_fault(rt: &impl Abort, alloc: Global, text: &str, want: Option<LexError>) {
+    let found = tokens(alloc, text).err();
+    check(rt, &text, found == want);
+}
+
 #[test]
 fn tokens_are_cpythons(rt: HostRuntime) -> Result<(), Fail> {
     for (text, want) in ROWS {
         let found = shown(rt.alloc(), text)?;
-        assert!(rt; found.as_str() == want, "{text} has {found}");
+        check(&rt, &(text, found.as_str()), found.as_str() == *want);
     }
     Ok(())
 }
@@ -184,36 +191,49 @@ fn tokens_are_cpythons(rt: HostRuntime) -> Result<(), Fail> {
 #[test]
 fn faults_are_the_first_ones(rt: HostRuntime) {
     for (text, line, kind) in FAULTS {
-        let found = tokens(rt.alloc(), text).err();
-        assert!(rt; found == Some(LexError::Fault(line, kind)), "in {text}");
+        check_fault(&rt, rt.alloc(), text, Some(LexError::Fault(*line, *kind)));
     }
+}
+
+/// The text, and then the part so many times.
+fn repeated(alloc: Global, text: &str, part: &str, count: usize) -> Result<String, AllocError> {
+    let mut out = String::from_str(alloc, text)?;
+    for _ in 0..count {
+        out.push_str(part)?;
+    }
+    Ok(out)
+}
+
+/// So many lines, each of which opens a level of indentation, and one more within the last level.
+fn indented(alloc: Global, count: usize) -> Result<String, AllocError> {
+    let mut lines = String::new(alloc);
+    for level in 0..count {
+        let space = repeated(alloc, "", " ", level)?;
+        lines.push_str(space.as_str())?;
+        lines.push_str("if a:\n")?;
+    }
+    let space = repeated(alloc, "", " ", count)?;
+    lines.push_str(space.as_str())?;
+    lines.push('b')?;
+    Ok(lines)
 }
 
 /// A hundred levels may be open at once, of brackets as of indentation, and no more.
 #[test]
 fn levels_end_at_a_hundred(rt: HostRuntime) -> Result<(), Fail> {
-    let mut brackets = String::new(rt.alloc());
-    let mut lines = String::new(rt.alloc());
-    let mut space = String::new(rt.alloc());
-    for _level in 0..100 {
-        brackets.push('[')?;
-        lines.push_str(space.as_str())?;
-        lines.push_str("if a:\n")?;
-        space.push(' ')?;
-    }
-    let most = format!(in rt.alloc(); "{lines}{space}")?;
-    let more = format!(in rt.alloc(); "{lines}{space}if a:\n {space}b")?;
-    let open = format!(in rt.alloc(); "{brackets}\n[")?;
-    for (text, want) in [
-        (most.as_str(), None),
-        (more.as_str(), Some(LexError::Fault(102, LexKind::TooDeep))),
-        (
-            brackets.as_str(),
-            Some(LexError::Fault(1, LexKind::Unended)),
-        ),
-        (open.as_str(), Some(LexError::Fault(2, LexKind::TooDeep))),
+    for (count, want) in [
+        (100, None),
+        (101, Some(LexError::Fault(102, LexKind::TooDeep))),
     ] {
-        assert!(rt; tokens(rt.alloc(), text).err() == want, "in {text}");
+        let text = indented(rt.alloc(), count)?;
+        check_fault(&rt, rt.alloc(), text.as_str(), want);
+    }
+    for (count, want) in [
+        (99, LexError::Fault(2, LexKind::Unended)),
+        (100, LexError::Fault(2, LexKind::TooDeep)),
+    ] {
+        let text = repeated(rt.alloc(), "[\n", "[", count)?;
+        check_fault(&rt, rt.alloc(), text.as_str(), Some(want));
     }
     Ok(())
 }
@@ -223,6 +243,10 @@ fn faults_say_their_line(rt: HostRuntime) -> Result<(), Fail> {
     pieces_lie_side_by_side();
     let fault = LexError::Fault(3, LexKind::Tab);
     let said = format!(in rt.alloc(); "{fault}")?;
-    assert!(rt; said.as_str() == "line 3: Inconsistent use of tabs in indentation");
+    check(
+        &rt,
+        &"said",
+        said.as_str() == "line 3: Inconsistent use of tabs in indentation",
+    );
     Ok(())
 }

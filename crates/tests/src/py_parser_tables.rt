@@ -3,7 +3,7 @@
 /// Token by token, each but `End`, and the tree of CPython's `ast`. A token stands in line 1, in the column of its
 /// number, from 1, and `@` is before the column of a node. But a tuple in brackets begins at its first item's first
 /// token, and a decorated definition at its first `@`.
-pub(crate) const ROWS: [(&str, &str); 58] = [
+pub(crate) const ROWS: &[(&str, &str)] = &[
     ("x NEWLINE", "[Expr(Name(x)@1)@1]"),
     ("a ; b ; NEWLINE", "[Expr(Name(a)@1)@1, Expr(Name(b)@3)@3]"),
     ("", "[]"),
@@ -203,7 +203,7 @@ pub(crate) const ROWS: [(&str, &str); 58] = [
 ];
 
 /// Statements of a line, with the index of the first token that cannot stand there.
-pub(crate) const LINES: [(&str, usize); 32] = [
+pub(crate) const LINES: &[(&str, usize)] = &[
     ("x", 1),
     ("a ; b", 3),
     ("a b NEWLINE", 1),
@@ -239,7 +239,7 @@ pub(crate) const LINES: [(&str, usize); 32] = [
 ];
 
 /// The same of expressions.
-pub(crate) const EXPRESSIONS: [(&str, usize); 43] = [
+pub(crate) const EXPRESSIONS: &[(&str, usize)] = &[
     ("a if b NEWLINE", 3),
     ("a if b else NEWLINE", 4),
     ("a if b if c else d NEWLINE", 3),
@@ -286,7 +286,7 @@ pub(crate) const EXPRESSIONS: [(&str, usize); 43] = [
 ];
 
 /// The same of statements with blocks.
-pub(crate) const BLOCKS: [(&str, usize); 42] = [
+pub(crate) const BLOCKS: &[(&str, usize)] = &[
     ("if NEWLINE", 1),
     ("if a NEWLINE", 2),
     ("if a : if b : c NEWLINE", 3),
@@ -332,7 +332,7 @@ pub(crate) const BLOCKS: [(&str, usize); 42] = [
 ];
 
 /// The same, where the token is a keyword that is left out.
-pub(crate) const LEFT_OUT: [(&str, usize); 7] = [
+pub(crate) const LEFT_OUT: &[(&str, usize)] = &[
     ("async", 0),
     ("x = await", 2),
     ("lambda : a", 0),
@@ -343,7 +343,7 @@ pub(crate) const LEFT_OUT: [(&str, usize); 7] = [
 ];
 
 /// What each puts around an expression has one level more: the tokens before it and behind it.
-pub(crate) const LEVELS: [(&str, &str); 13] = [
+pub(crate) const LEVELS: &[(&str, &str)] = &[
     ("not ", ""),
     ("- ", ""),
     ("", "+ x "),

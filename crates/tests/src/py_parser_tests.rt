@@ -4,6 +4,7 @@ ghost use Rattle.std.specs.List.{AllByRecursion};
 ghost use Rattle.py_syntax.specs.Tokens.{EndsOnce};
 ghost use Rattle.py_syntax.specs.declared.token.TokenKind.TheVariants as k;
 
+use crate::case::check;
 use crate::py_parser_tables::{BLOCKS, EXPRESSIONS, LEFT_OUT, LEVELS, LINES, ROWS};
 use crate::tree_text::suite_text;
 use py_parser::{ParseError, module};
@@ -89,7 +90,8 @@ fn check_fault(
     text: &str,
     want: Option<ParseError>,
 ) -> Result<(), Fail> {
-    assert!(rt; fault_of(alloc, text)? == want, "in {text}");
+    let found = fault_of(alloc, text)?;
+    check(rt, &text, found == want);
     Ok(())
 }
 
@@ -97,14 +99,14 @@ fn check_fault(
 fn trees_are_pythons(rt: HostRuntime) -> Result<(), Fail> {
     for (text, want) in ROWS {
         let found = shown(rt.alloc(), text)?;
-        assert!(rt; found.as_str() == want, "{text} has {found}");
+        check(&rt, &(text, found.as_str()), found.as_str() == *want);
     }
     Ok(())
 }
 
 #[test]
 fn faults_of_syntax(rt: HostRuntime) -> Result<(), Fail> {
-    for table in [LINES.as_slice(), EXPRESSIONS.as_slice(), BLOCKS.as_slice()] {
+    for table in [LINES, EXPRESSIONS, BLOCKS] {
         for (text, at) in table {
             check_fault(&rt, rt.alloc(), text, Some(ParseError::Syntax(*at)))?;
         }
@@ -115,7 +117,7 @@ fn faults_of_syntax(rt: HostRuntime) -> Result<(), Fail> {
 #[test]
 fn keywords_left_out(rt: HostRuntime) -> Result<(), Fail> {
     for (text, at) in LEFT_OUT {
-        check_fault(&rt, rt.alloc(), text, Some(ParseError::Profile(at)))?;
+        check_fault(&rt, rt.alloc(), text, Some(ParseError::Profile(*at)))?;
     }
     Ok(())
 }
@@ -158,7 +160,7 @@ fn count_words(text: &str) -> usize {
 /// A hundred levels are no fault. A hundred and one are one at the last token, if the next one may stand there.
 #[test]
 fn levels_end_at_a_hundred(rt: HostRuntime) -> Result<(), Fail> {
-    for around in LEVELS {
+    for around in LEVELS.iter().copied() {
         let count = count_words(nested(rt.alloc(), around, 100, "")?.as_str());
         let last = count.saturating_sub(1);
         for (levels, behind, want) in [

@@ -1,9 +1,10 @@
 //! Arenas as maps, keys that are dead, and values that are dropped once.
-ghost use Rattle.std.specs.Prelude.{◌+◌, ◌<◌, ◌≤◌};
+ghost use Rattle.std.specs.Prelude.{◌≡◌, ◌+◌, ◌<◌, ◌≤◌};
 ghost use Rattle.slot_arena.specs.Contents.{inserts};
 
 use crate::case::check;
 use slot_arena::{Arena, Key};
+use std::alloc::Global;
 use std::cell::Cell;
 use std::rc::Rc;
 use std::test::Fail;
@@ -16,6 +17,19 @@ fn store<T: Drop>(arena: &mut Arena<T>, value: T) -> Result<Key, Memory>
 {
     arena.reserve(1)?;
     Ok(arena.insert(value))
+}
+
+// Stores the numbers from 0 on, so many.
+fn filled(alloc: Global, arena: &mut Arena<u32>, count: u32) -> Result<Vec<Key>, Fail>
+    requires empty { inserts arena.old ≡ 0 }
+    requires small { count ≤ 4000000000 }
+    ensures { inserts arena.new ≤ count }
+{
+    let mut keys = Vec::new(alloc);
+    'value: for value in 0..count {
+        keys.push(store(arena, value)?)?;
+    }
+    Ok(keys)
 }
 
 #[test]
@@ -55,16 +69,17 @@ fn each_call_answers_as_a_map(rt: HostRuntime) -> Result<(), Fail> {
     Ok(())
 }
 
-// The second value needs no new room: it stands where the first one was.
+// No room is made for the second value: it stands where the first one stood.
 #[test]
 fn a_removed_key_stays_dead_after_its_slot_is_used_again(rt: HostRuntime) -> Result<(), Fail> {
     let mut arena = Arena::new(rt.alloc());
     arena.reserve(1)?;
     let dead = arena.insert(1u32);
-    let removed = arena.remove(dead);
-    arena.reserve(1)?;
+    let Some(removed) = arena.remove(dead) else {
+        return Err("nothing was removed".into());
+    };
     let alive = arena.insert(2);
-    check(&rt, &"removed", removed == Some(1) && alive != dead);
+    check(&rt, &"removed", removed == 1 && alive != dead);
     let is_dead = arena.get(dead).is_none() && arena.get_mut(dead).is_none();
     let is_dead = is_dead && arena.remove(dead).is_none() && !arena.condemn(dead);
     check(
@@ -78,16 +93,13 @@ fn a_removed_key_stays_dead_after_its_slot_is_used_again(rt: HostRuntime) -> Res
 #[test]
 fn condemned_values_come_off_once_each(rt: HostRuntime) -> Result<(), Fail> {
     let mut arena = Arena::new(rt.alloc());
-    let mut keys = Vec::new(rt.alloc());
-    for value in 0..1000u32 {
-        keys.push(store(&mut arena, value)?)?;
-    }
+    let keys = filled(rt.alloc(), &mut arena, 1000)?;
     for key in &keys {
         check(&rt, &"condemned", arena.condemn(*key));
     }
     for (value, key) in keys.iter().enumerate().rev() {
-        let found = arena.next_condemned();
-        check(&rt, &value, found == Some((*key, value as u32)));
+        let found = arena.next_condemned().map(|pair| (pair.0, pair.1 as usize));
+        check(&rt, &value, found == Some((*key, value)));
     }
     check(&rt, &"all are off", arena.next_condemned().is_none());
     Ok(())
@@ -96,10 +108,7 @@ fn condemned_values_come_off_once_each(rt: HostRuntime) -> Result<(), Fail> {
 #[test]
 fn keys_stand_in_order_after_slots_are_used_again(rt: HostRuntime) -> Result<(), Fail> {
     let mut arena = Arena::new(rt.alloc());
-    let mut keys = Vec::new(rt.alloc());
-    for value in 0..100u32 {
-        keys.push(store(&mut arena, value)?)?;
-    }
+    let keys = filled(rt.alloc(), &mut arena, 100)?;
     let mut kept = Vec::new(rt.alloc());
     for (place, key) in keys.iter().enumerate() {
         if place % 3 == 0 {
@@ -119,15 +128,20 @@ fn keys_stand_in_order_after_slots_are_used_again(rt: HostRuntime) -> Result<(),
 #[test]
 fn a_million_inserts_and_removes(rt: HostRuntime) -> Result<(), Fail> {
     let mut arena = Arena::new(rt.alloc());
-    let mut keys = Vec::new(rt.alloc());
-    for value in 0..1_000_000u64 {
-        keys.push(store(&mut arena, value)?)?;
+    let keys = filled(rt.alloc(), &mut arena, 1_000_000)?;
+    for (value, key) in keys.iter().enumerate() {
+        check(
+            &rt,
+            &value,
+            arena.get(*key).map(|found| *found as usize) == Some(value),
+        );
     }
     for (value, key) in keys.iter().enumerate() {
-        check(&rt, &value, arena.get(*key).copied() == Some(value as u64));
-    }
-    for (value, key) in keys.iter().enumerate() {
-        check(&rt, &value, arena.remove(*key) == Some(value as u64));
+        check(
+            &rt,
+            &value,
+            arena.remove(*key).map(|found| found as usize) == Some(value),
+        );
     }
     check(&rt, &"nothing left", arena.keys(rt.alloc())?.is_empty());
     Ok(())

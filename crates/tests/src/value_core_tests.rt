@@ -216,6 +216,12 @@ const WORD_SHIFTS: &[WordShift] = &[
     (i64::MIN, -1, (Err(OutOfRange), Err(OutOfRange))),
 ];
 
+const NEGATED: &[(i128, OneInt)] = &[
+    (i128::MIN, Err(Overflow)),
+    (i128::MAX, Ok(-i128::MAX)),
+    (-5, Ok(5)),
+];
+
 #[test]
 fn ints(rt: HostRuntime) {
     for (a, b, want) in INTS.iter().copied() {
@@ -231,11 +237,7 @@ fn ints(rt: HostRuntime) {
     for (a, n, want) in INT_SHIFTS.iter().copied() {
         check(&rt, &(a, n), (int_shl(a, n), int_shr(a, n)) == want);
     }
-    for (a, want) in [
-        (i128::MIN, Err(Overflow)),
-        (i128::MAX, Ok(-i128::MAX)),
-        (-5, Ok(5)),
-    ] {
+    for (a, want) in NEGATED.iter().copied() {
         check(&rt, &a, int_neg(a) == want);
     }
 }
@@ -258,23 +260,25 @@ fn words(rt: HostRuntime) {
     }
 }
 
+// A number, the same as a word of 64 bits, and whether it is short.
+const CONVERSIONS: &[(i128, Result<i64, Arith>, bool)] = &[
+    (0, Ok(0), true),
+    (-1, Ok(-1), true),
+    (4611686018427387903, Ok(4611686018427387903), true),
+    (4611686018427387904, Ok(4611686018427387904), false),
+    (-4611686018427387904, Ok(-4611686018427387904), true),
+    (-4611686018427387905, Ok(-4611686018427387905), false),
+    (9223372036854775807, Ok(i64::MAX), false),
+    (9223372036854775808, Err(OutOfRange), false),
+    (-9223372036854775808, Ok(i64::MIN), false),
+    (-9223372036854775809, Err(OutOfRange), false),
+    (i128::MAX, Err(OutOfRange), false),
+    (i128::MIN, Err(OutOfRange), false),
+];
+
 #[test]
 fn conversions(rt: HostRuntime) {
-    let rows = [
-        (0, Ok(0), true),
-        (-1, Ok(-1), true),
-        (4611686018427387903, Ok(4611686018427387903), true),
-        (4611686018427387904, Ok(4611686018427387904), false),
-        (-4611686018427387904, Ok(-4611686018427387904), true),
-        (-4611686018427387905, Ok(-4611686018427387905), false),
-        (9223372036854775807, Ok(i64::MAX), false),
-        (9223372036854775808, Err(OutOfRange), false),
-        (-9223372036854775808, Ok(i64::MIN), false),
-        (-9223372036854775809, Err(OutOfRange), false),
-        (i128::MAX, Err(OutOfRange), false),
-        (i128::MIN, Err(OutOfRange), false),
-    ];
-    for (a, word, short) in rows {
+    for (a, word, short) in CONVERSIONS.iter().copied() {
         check(&rt, &a, int_to_i64(a) == word && is_short(a) == short);
     }
 }
