@@ -32,23 +32,23 @@ enum Part<'a> {
 
 use Part::Nothing;
 
-/// A node: its word and its parts.
+/// A node: its word and its parts, of which a leaf has none.
 type Node<'a> = (&'a str, [Part<'a>; 5]);
-
-fn leaf<'a>(word: &'a str) -> Node<'a> {
-    (word, [Nothing; 5])
-}
-
-fn one<'a>(word: &'a str, part: Part<'a>) -> Node<'a> {
-    (word, [part, Nothing, Nothing, Nothing, Nothing])
-}
-
-fn two<'a>(word: &'a str, first: Part<'a>, second: Part<'a>) -> Node<'a> {
-    (word, [first, second, Nothing, Nothing, Nothing])
-}
 
 fn three<'a>(word: &'a str, first: Part<'a>, second: Part<'a>, third: Part<'a>) -> Node<'a> {
     (word, [first, second, third, Nothing, Nothing])
+}
+
+fn two<'a>(word: &'a str, first: Part<'a>, second: Part<'a>) -> Node<'a> {
+    three(word, first, second, Nothing)
+}
+
+fn one<'a>(word: &'a str, part: Part<'a>) -> Node<'a> {
+    three(word, part, Nothing, Nothing)
+}
+
+fn leaf<'a>(word: &'a str) -> Node<'a> {
+    three(word, Nothing, Nothing, Nothing)
 }
 
 fn maybe<'a>(found: &'a Option<Expr>) -> Part<'a> {
@@ -218,18 +218,16 @@ fn put_all<'a>(left: &mut Left<'a>, parts: &[Part<'a>]) -> Result<(), AllocError
 }
 
 fn put_node<'a>(left: &mut Left<'a>, node: Node<'a>, column: usize) -> Result<(), AllocError> {
-    let (word, [first, second, third, fourth, fifth]) = node;
-    let word = Part::Word(word);
-    let at = Part::At(column);
-    if matches!(first, Nothing) {
-        return put_all(left, &[word, at]);
+    let (word, parts) = node;
+    let parts = &parts[..];
+    left.push(Part::At(column))?;
+    if !matches!(parts[0], Nothing) {
+        left.push(Part::Behind(")"))?;
+        put_all(left, parts)?;
+        left.push(Part::Behind("("))?;
     }
-    let open = Part::Behind("(");
-    let close = Part::Behind(")");
-    put_all(
-        left,
-        &[word, open, first, second, third, fourth, fifth, close, at],
-    )
+    left.push(Part::Word(word))?;
+    Ok(())
 }
 
 fn put_pair<'a>(left: &mut Left<'a>, first: Part<'a>, second: Part<'a>) -> Result<(), AllocError> {
