@@ -1,5 +1,6 @@
 //! Programs that run: modules, and C texts that were changed by hand.
-use crate::tests::{CALM, Fails, Given, THREE, check, command};
+use crate::case::check;
+use crate::mypyc_top_tests::{CALM, Fails, Given, THREE, check_given, command};
 use std::alloc::{AllocError, Global};
 use std::process::Abort;
 use std::test::Fail;
@@ -27,77 +28,81 @@ fn joined(alloc: Global, parts: &[&str]) -> Result<String, AllocError> {
     Ok(text)
 }
 
+/// The parts of a text, with the output, the line on errors, and the number of the status.
+const TEXTS: &[(&[&str], &str, &str, u8)] = &[
+    (&[HEAD, WRITE, DEC, TAIL], "3\n-- Done\n-- live 0\n", "", 0),
+    (
+        &[HEAD, WRITE, TAIL],
+        "3\n-- Fault Leak\n-- live 1\n-- Str 1\n",
+        OWNERSHIP,
+        10,
+    ),
+    (
+        &[HEAD, WRITE, DEC, DEC, TAIL],
+        "3\n-- Fault Dead\n-- live 0\n",
+        OWNERSHIP,
+        10,
+    ),
+    (
+        &[HEAD, DEC, WRITE, TAIL],
+        "-- Fault Dead\n-- live 0\n",
+        OWNERSHIP,
+        10,
+    ),
+    (
+        &[HEAD, WRITE, DEC, "    return cpy_t_1;\n}\n"],
+        "3\n-- Fault Kind\n-- live 0\n",
+        OWNERSHIP,
+        10,
+    ),
+    (
+        &[HEAD, WRITE, DEC, "    cpy_t_1 = 1;\n}\n"],
+        "",
+        "mypyc: t.py: not well formed\n",
+        9,
+    ),
+    (
+        &[
+            "/* mypyc subset 1 */\nchar CPyModule(void) { \n",
+            WRITE,
+            TAIL,
+        ],
+        "",
+        "mypyc: t.py: refused at byte 21\n",
+        9,
+    ),
+    (&[], "", "mypyc: t.py: refused at byte 0\n", 9),
+];
+
 #[test]
 fn texts_are_run(rt: HostRuntime) -> Result<(), Fail> {
-    let cases: &[(&[&str], &str, &str, u8)] = &[
-        (&[HEAD, WRITE, DEC, TAIL], "3\n-- Done\n-- live 0\n", "", 0),
-        (
-            &[HEAD, WRITE, TAIL],
-            "3\n-- Fault Leak\n-- live 1\n-- Str 1\n",
-            OWNERSHIP,
-            10,
-        ),
-        (
-            &[HEAD, WRITE, DEC, DEC, TAIL],
-            "3\n-- Fault Dead\n-- live 0\n",
-            OWNERSHIP,
-            10,
-        ),
-        (
-            &[HEAD, DEC, WRITE, TAIL],
-            "-- Fault Dead\n-- live 0\n",
-            OWNERSHIP,
-            10,
-        ),
-        (
-            &[HEAD, WRITE, DEC, "    return cpy_t_1;\n}\n"],
-            "3\n-- Fault Kind\n-- live 0\n",
-            OWNERSHIP,
-            10,
-        ),
-        (
-            &[HEAD, WRITE, DEC, "    cpy_t_1 = 1;\n}\n"],
-            "",
-            "mypyc: t.py: not well formed\n",
-            9,
-        ),
-        (
-            &[
-                "/* mypyc subset 1 */\nchar CPyModule(void) { \n",
-                WRITE,
-                TAIL,
-            ],
-            "",
-            "mypyc: t.py: refused at byte 21\n",
-            9,
-        ),
-        (&[], "", "mypyc: t.py: refused at byte 0\n", 9),
-    ];
-    for (parts, out, err, number) in cases {
+    for (parts, out, err, number) in TEXTS {
         let text = joined(rt.alloc(), parts)?;
         let given = command(rt.alloc(), &["--emit=runc", "t.py"], text.as_bytes(), CALM)?;
-        check(&rt, &given, out, err, *number);
+        check_given(&rt, &given, out, err, *number);
     }
     Ok(())
 }
 
+const UNBUILT: &str =
+    "t.py:2: error: Form is not built yet  [unbuilt]\nFound 1 error in 1 file (checked 1 source file)\n";
+
+const MODULES: &[(&[u8], &str, u8)] = &[
+    (b"print(3)\n", "3\n", 0),
+    (
+        b"print(0)\nprint(4611686018427387903)",
+        "0\n4611686018427387903\n",
+        0,
+    ),
+    (b"", "", 0),
+    (b"print(3)\nx\n", UNBUILT, 1),
+];
+
 #[test]
 fn modules_are_run(rt: HostRuntime) -> Result<(), Fail> {
-    let unbuilt =
-        "t.py:2: error: Form is not built yet  [unbuilt]\nFound 1 error in 1 file (checked 1 source file)\n";
-    let cases: &[(&[u8], &str, u8)] = &[
-        (b"print(3)\n", "3\n", 0),
-        (
-            b"print(0)\nprint(4611686018427387903)",
-            "0\n4611686018427387903\n",
-            0,
-        ),
-        (b"", "", 0),
-        (b"print(3)\nx\n", unbuilt, 1),
-    ];
-    for (bytes, out, number) in cases {
+    for (bytes, out, number) in MODULES {
         let given = command(rt.alloc(), &["t.py"], bytes, CALM)?;
-        check(&rt, &given, out, "", *number);
+        check_given(&rt, &given, out, "", *number);
     }
     Ok(())
 }
@@ -112,7 +117,7 @@ fn long_output(rt: HostRuntime) -> Result<(), Fail> {
         out.push_str("4611686018427387903\n")?;
     }
     let given = command(rt.alloc(), &["t.py"], module.as_bytes(), CALM)?;
-    check(&rt, &given, out.as_str(), "", 0);
+    check_given(&rt, &given, out.as_str(), "", 0);
     Ok(())
 }
 
@@ -120,7 +125,7 @@ fn long_output(rt: HostRuntime) -> Result<(), Fail> {
 fn a_text_of_too_many_bytes(rt: HostRuntime) -> Result<(), Fail> {
     let bytes = vec![in rt.alloc(); b'#'; 16_777_217]?;
     let given = command(rt.alloc(), &["--emit=runc", "t.py"], &bytes, CALM)?;
-    check(&rt, &given, "", "mypyc: t.py is too large\n", 6);
+    check_given(&rt, &given, "", "mypyc: t.py is too large\n", 6);
     Ok(())
 }
 
@@ -135,14 +140,20 @@ fn fail_in_turn(
 ) -> Result<(), AllocError> {
     for number in 0..calls.0 {
         let given = command(alloc, words, bytes, Fails(&[], &[number], &[]))?;
-        assert_eq!(rt; given.number, 5);
-        assert!(rt; out.as_bytes().starts_with(given.out.bytes()));
-        assert_eq!(rt; given.err.bytes(), b"".as_slice());
+        let is_front = out.as_bytes().starts_with(given.out.bytes());
+        check(
+            rt,
+            &number,
+            is_front && given.err.bytes().is_empty() && given.number == 5,
+        );
     }
     for number in 0..calls.1 {
         let given = command(alloc, words, bytes, Fails(&[], &[], &[number]))?;
-        assert_eq!(rt; given.number, 5);
-        assert_eq!(rt; given.out.bytes(), out.as_bytes());
+        check(
+            rt,
+            &number,
+            given.out.bytes() == out.as_bytes() && given.number == 5,
+        );
     }
     Ok(())
 }
@@ -175,7 +186,7 @@ fn cuts_of_a_text(rt: HostRuntime) -> Result<(), Fail> {
             CALM,
         )?;
         let line = format!(in rt.alloc(); "mypyc: t.py: refused at byte {length}\n")?;
-        check(&rt, &given, "", line.as_str(), 9);
+        check_given(&rt, &given, "", line.as_str(), 9);
     }
     Ok(())
 }
@@ -229,13 +240,14 @@ fn check_refused(
     start: usize,
 ) -> Result<(), AllocError> {
     let Some(place) = place_told(given.err.bytes()) else {
-        check(rt, given, "", "mypyc: t.py: not well formed\n", 9);
+        check_given(rt, given, "", "mypyc: t.py: not well formed\n", 9);
         return Ok(());
     };
     let line = format!(in alloc; "mypyc: t.py: refused at byte {place}\n")?;
-    check(rt, given, "", line.as_str(), 9);
-    assert!(rt; start <= place && place <= text.len());
-    assert!(rt; place == 0 || place == text.len() || text[..place].ends_with(b"\n"));
+    check_given(rt, given, "", line.as_str(), 9);
+    let is_within = start <= place && place <= text.len();
+    let is_begin = place == 0 || place >= text.len() || text[..place].ends_with(b"\n");
+    check(rt, &place, is_within && is_begin);
     Ok(())
 }
 
@@ -248,18 +260,19 @@ fn check_changed(
     other: u8,
 ) -> Result<(), AllocError> {
     let mut text = Vec::from_slice(alloc, THREE.as_bytes())?;
-    assert!(rt; place < text.len());
-    text[place] = other;
+    if place < text.len() {
+        text[place] = other;
+    }
     let given = command(alloc, &["--emit=runc", "t.py"], &text, CALM)?;
     let mut out = printed(alloc, place, other)?;
     match status_of_change(place, other) {
         0 => {
             out.push_str("-- Done\n-- live 0\n")?;
-            check(rt, &given, out.as_str(), "", 0);
+            check_given(rt, &given, out.as_str(), "", 0);
         }
         10 => {
             out.push_str("-- Fault Kind\n-- live 0\n")?;
-            check(rt, &given, out.as_str(), OWNERSHIP, 10);
+            check_given(rt, &given, out.as_str(), OWNERSHIP, 10);
         }
         _ => check_refused(rt, alloc, &given, &text, start)?,
     }

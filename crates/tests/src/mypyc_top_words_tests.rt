@@ -1,6 +1,7 @@
 //! Lists of words, and what they mean.
-use crate::{Emit, Stage, Words, read_words};
-use std::alloc::{AllocError, Global};
+use crate::case::check;
+use crate::mypyc_top_tests::words_of;
+use mypyc_top::{Emit, Stage, Words, read_words};
 use std::test::Fail;
 
 /// A list of words, and the options and the file of the request that it is.
@@ -90,14 +91,6 @@ const REFUSED: &[&[&str]] = &[
     &["--turns=00000000000000000012", "t.py"],
 ];
 
-fn words_of(alloc: Global, words: &[&str]) -> Result<Vec<String>, AllocError> {
-    let mut all = Vec::new(alloc);
-    for word in words {
-        all.push(String::from_str(alloc, word)?)?;
-    }
-    Ok(all)
-}
-
 #[test]
 fn meanings(rt: HostRuntime) -> Result<(), Fail> {
     for (words, request) in REQUESTS {
@@ -106,11 +99,12 @@ fn meanings(rt: HostRuntime) -> Result<(), Fail> {
             return Err("no command".into());
         };
         let found = (found.emit, found.stage, found.turns, found.file.as_str());
-        assert_eq!(rt; found, *request);
+        check(&rt, &request.3, found == *request);
     }
-    for words in REFUSED {
-        let words = words_of(rt.alloc(), words)?;
-        assert!(rt; matches!(read_words(rt.alloc(), &words)?, Words::Usage));
+    for refused in REFUSED {
+        let words = words_of(rt.alloc(), refused)?;
+        let found = read_words(rt.alloc(), &words)?;
+        check(&rt, refused, matches!(found, Words::Usage));
     }
     Ok(())
 }

@@ -1,5 +1,5 @@
 //! Modules, and what `check` says of them.
-use crate::tests::{CALM, FOUND, SUCCESS, check, command};
+use crate::mypyc_top_tests::{CALM, FOUND, SUCCESS, check_given, command};
 use std::alloc::{AllocError, Global};
 use std::process::Abort;
 use std::test::Fail;
@@ -210,9 +210,9 @@ const DEEP_ONES: &[((&str, &str, usize, &str), usize, &str)] = &[
 fn built_modules(rt: HostRuntime) -> Result<(), Fail> {
     for (bytes, out) in BUILT {
         let given = command(rt.alloc(), &["--emit=check", "t.py"], bytes, CALM)?;
-        check(&rt, &given, SUCCESS, "", 0);
+        check_given(&rt, &given, SUCCESS, "", 0);
         let given = command(rt.alloc(), &["t.py"], bytes, CALM)?;
-        check(&rt, &given, out, "", 0);
+        check_given(&rt, &given, out, "", 0);
     }
     Ok(())
 }
@@ -227,7 +227,7 @@ fn check_faulty(
 ) -> Result<(), AllocError> {
     let out = format!(in alloc; "t.py:{line}: error: {text}\n{FOUND}")?;
     let given = command(alloc, &["--emit=check", "t.py"], bytes, CALM)?;
-    check(rt, &given, out.as_str(), "", 1);
+    check_given(rt, &given, out.as_str(), "", 1);
     Ok(())
 }
 
@@ -292,7 +292,7 @@ fn levels_of_brackets_and_blocks(rt: HostRuntime) -> Result<(), Fail> {
         module.push(')')?;
     }
     let given = command(rt.alloc(), &["t.py"], module.as_bytes(), CALM)?;
-    check(&rt, &given, "3\n", "", 0);
+    check_given(&rt, &given, "3\n", "", 0);
     let mut blocks = String::new(rt.alloc());
     let mut space = String::new(rt.alloc());
     for _ in 0..100 {
