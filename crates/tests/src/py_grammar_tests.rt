@@ -35,9 +35,11 @@ fn terminals_are_told_apart(rt: HostRuntime) {
         }
         check(&rt, &sign.text(), !terminal.is(Terminal::End));
     }
-    let is_told = is_of(TokenKind::Int(7), Terminal::Int) && !is_of(TokenKind::Int(7), Terminal::Str);
+    let is_told = is_of(TokenKind::Int(7), Terminal::Int)
+        && !is_of(TokenKind::Int(7), Terminal::Str);
     check(&rt, &"literals", is_told);
-    let is_told = is_of(TokenKind::Newline, Terminal::Newline) && is_of(TokenKind::End, Terminal::End);
+    let is_told = is_of(TokenKind::Newline, Terminal::Newline)
+        && is_of(TokenKind::End, Terminal::End);
     check(&rt, &"lines", is_told);
     let is_told = is_of(TokenKind::Indent, Terminal::Indent)
         && !is_of(TokenKind::Indent, Terminal::Dedent);
