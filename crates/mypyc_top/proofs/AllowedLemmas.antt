@@ -11,7 +11,9 @@ use Rattle.mypyc_top.specs.declared.reply.Reply.{Reply}
 use Rattle.mypyc_top.specs.declared.running.Program.{Program}
 use Rattle.mypyc_top.specs.declared.plan.Plan.TheVariants as plans
 use Rattle.mypyc_top.specs.Modes.{CanAnswer, IsAllowed}
-use Rattle.mypyc_top.specs.Given.{SinkCall, Yields, IsSent, IsReplied, is_run_status, AbsentOpens}
+use Rattle.mypyc_top.specs.Causes.{Yields, AbsentOpens}
+use Rattle.mypyc_top.specs.Replies.{IsSent, IsReplied, is_run_status}
+use Rattle.mypyc_top.specs.Sinks.{SinkCall}
 use Rattle.mypyc_top.specs.Plans.{Allowed, RunGave}
 use Rattle.mypyc_top.proofs.Statuses.{gave_status, either}
 

@@ -1,4 +1,5 @@
 pub mod FaultLemmas
+pub mod Bodies
 pub mod Numbers
 pub mod PrintedFaithful
 pub mod PrintedForm

@@ -1,13 +1,17 @@
 -- The code of printed numbers is faithful to them.
-use Rattle.std.proofs.Common.{◌≡◌, refl, sym, subst, ℕ, ◌<◌, ◌^◌, List, []}
+use Rattle.std.proofs.Common.{◌≡◌, refl, sym, ◌∙◌, ap, subst, ℕ, ◌<◌, ◌^◌, List, []}
 use Rattle.std.specs.List.{All}
 use Rattle.value_core.specs.Items.{Items}
+use Rattle.py_syntax.specs.Statements.{Block}
+use Rattle.c_core.specs.declared.code.Code.{Code}
 use Rattle.c_core.specs.Machine.{MachineState}
 use Rattle.c_core.specs.Stands.{MatchesStore, MatchSet, Stands}
 use Rattle.c_core.specs.Run.{Stop}
+use Rattle.mypyc_top.specs.Forms.{numbers_of}
 use Rattle.mypyc_top.specs.SourceRun.{source_run}
 use Rattle.mypyc_top.specs.Printed.{printed_code}
 use Rattle.mypyc_top.specs.Faithful.{EndsWhole, Agrees, Faithful}
+use Rattle.mypyc_top.proofs.Numbers.{small_numbers}
 use Rattle.mypyc_top.proofs.PrintedRun.{IsDone, printed_run}
 use Rattle.mypyc_top.proofs.PrintedForm.{printed_well_formed}
 
@@ -32,3 +36,9 @@ printed_faithful ns small = record {
   same_variables = refl;
   runs = λ n most items. let r = printed_run ns n items in (r.0, r.1, agrees ns n items r.0 r.2);
 }
+
+-- the code that is built for a module
+pub built_faithful : (block : Block) (ns found : List ℕ) (code : Code) → code ≡ printed_code ns → ns ≡ found → found ≡ numbers_of block → Faithful (numbers_of block) code
+built_faithful block ns found code c n f =
+    let P : Code → Type 0 = λ x. Faithful (numbers_of block) x in
+    subst P (sym (c ∙ ap printed_code (n ∙ f))) (printed_faithful (numbers_of block) (small_numbers block))

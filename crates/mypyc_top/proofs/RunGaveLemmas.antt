@@ -13,7 +13,9 @@ use Rattle.mypyc_top.specs.Output.{output_text}
 use Rattle.mypyc_top.specs.ErrorLines.{memory_line, input_line}
 use Rattle.mypyc_top.specs.Endings.{ending_status}
 use Rattle.mypyc_top.specs.Summary.{cells_left}
-use Rattle.mypyc_top.specs.Given.{SinkCall, sink_call, Took, TookFront, Gave, IsReplied, is_run_status}
+use Rattle.mypyc_top.specs.Replies.{IsReplied, is_run_status}
+use Rattle.mypyc_top.specs.Sinks.{SinkCall, sink_call, Took, TookFront}
+use Rattle.mypyc_top.specs.Answered.{Gave}
 use Rattle.mypyc_top.specs.Plans.{behind_output, program_text, program_line, IsRest, Finishes, RunGave}
 use Rattle.outside_core.proofs.Fronts.{TakesFront-none, TakesFront-all, TakesFront-before, TakesFront-after}
 

@@ -7,7 +7,8 @@ use Rattle.c_core.specs.Step.{Ending, Done, Raised, Cut, Over, Broken, Faulted}
 use Rattle.c_core.specs.Run.{Stop, machine_run}
 use Rattle.mypyc_top.specs.declared.words.Emit.TheVariants as modes
 use Rattle.mypyc_top.specs.SourceRun.{SourceStop, source_run}
-use Rattle.mypyc_top.specs.Faithful.{most_turns, EndsWhole, Agrees, Faithful}
+use Rattle.c_runner.specs.Ran.{most_turns}
+use Rattle.mypyc_top.specs.Faithful.{EndsWhole, Agrees, Faithful}
 use Rattle.mypyc_top.specs.Endings.{ending_status, ending_line}
 use Rattle.mypyc_top.specs.Summary.{cells_left}
 use Rattle.mypyc_top.specs.Running.{ModuleRun}

@@ -12,11 +12,8 @@ use Rattle.c_core.specs.Stands.{Stands, IsLive}
 use Rattle.c_core.specs.Step.{Ending, Done, Raised, Cut, Over, Broken, Faulted}
 use Rattle.c_core.specs.Run.{Stop, machine_run}
 use Rattle.c_core.specs.WellFormed.{WellFormed}
+use Rattle.c_runner.specs.Ran.{most_turns}
 use Rattle.mypyc_top.specs.SourceRun.{SourceStop, source_run}
-
--- the greatest number of turns: 2 ^ 63 - 1
-abbrev pub most_turns : ℕ
-most_turns = 9223372036854775807
 
 -- the variables of a module that prints numbers: it has none
 abbrev pub module_variables : List ℕ → List (List ℕ × Kind)

@@ -20,7 +20,8 @@ use Rattle.mypyc_top.specs.Output.{output_text}
 use Rattle.mypyc_top.specs.Endings.{ending_status, ending_line}
 use Rattle.mypyc_top.specs.Summary.{cells_left, summary_at}
 use Rattle.mypyc_top.specs.Modes.{CanAnswer}
-use Rattle.mypyc_top.specs.Given.{SinkCall, Took, TookFront, Gave}
+use Rattle.mypyc_top.specs.Sinks.{SinkCall, Took, TookFront}
+use Rattle.mypyc_top.specs.Answered.{Gave}
 
 abbrev pub MatchPlan : Plan → (Reply → Type 0) → (Program → Type 0) → Type 0
 MatchPlan (Send reply) P Q = P reply

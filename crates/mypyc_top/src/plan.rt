@@ -4,14 +4,17 @@ ghost use Rattle.c_runner.specs.Ran.{most_turns};
 ghost use Rattle.mypyc_top.specs.Words.{texts, words_of};
 ghost use Rattle.mypyc_top.specs.Running.{ModuleRun, TextRun};
 ghost use Rattle.mypyc_top.specs.Answer.{Answer, RequestAnswer, ModeAnswer, ModuleAnswer, Checked, Compiled, file_meaning, named_content};
-ghost use Rattle.mypyc_top.specs.Given.{IsSent, is_file_status, is_module_status, AbsentOpens};
+ghost use Rattle.mypyc_top.specs.Causes.{AbsentOpens};
+ghost use Rattle.mypyc_top.specs.Replies.{IsSent, is_file_status, is_module_status};
 ghost use Rattle.mypyc_top.specs.Plans.{MatchPlan, ForReply, IsRunnable, Plans, CanCome, Allowed};
 
 use crate::code::code_of;
-use crate::front::{Front, front_of};
 use crate::reading::{Refusal, read_file};
-use crate::reply::{Output, Reply, file_reply, output_reply, refused_reply, usage_reply};
+use crate::reply::{
+    Output, Reply, diagnosed_reply, file_reply, output_reply, refused_reply, usage_reply,
+};
 use crate::running::Program;
+use crate::source::{SourceError, read_module};
 use crate::status::Status;
 use crate::words::{Emit, Request, Words, read_words};
 use c_core::is_well_formed;
@@ -121,14 +124,18 @@ fn file_plan(alloc: Global, request: &Request, bytes: &[u8]) -> Result<Plan, Mem
 /// A module is said to have no diagnostics, or has them.
 fn check_plan(alloc: Global, file: &str, bytes: &[u8]) -> Result<Plan, Memory>
     ensures fit { IfOk result (λ plan. MatchPlan plan (λ reply. IsTrue (is_module_status reply.status)) (λ _. ⊥)) }
-    ensures answer { IfOk result (Plans (λ _ out err s. ModuleAnswer file.now bytes.now (λ _. Checked out err s) out err s)) }
+    ensures answer { IfOk result (Plans (λ _ out err s.
+        ModuleAnswer Emit.Check file.now bytes.now (λ _. Checked out err s) out err s)) }
 {
-    match front_of(alloc, file, bytes)? {
-        Front::Good(_) => {
+    match read_module(alloc, Emit::Check, bytes) {
+        Ok(_parsed) => {
             let text = Vec::from_slice(alloc, SUCCESS)?;
             Ok(Plan::Send(output_reply(alloc, Status::Done, Output::Bytes(text))))
         }
-        Front::Faulty(reply) => Ok(Plan::Send(reply)),
+        Err(SourceError::Faulty(diagnostic)) => {
+            Ok(Plan::Send(diagnosed_reply(alloc, file, &[diagnostic])?))
+        }
+        Err(SourceError::Memory) => Err(Memory),
     }
 }
 
@@ -136,14 +143,17 @@ fn check_plan(alloc: Global, file: &str, bytes: &[u8]) -> Result<Plan, Memory>
 fn compile_plan(alloc: Global, file: &str, bytes: &[u8]) -> Result<Plan, Memory>
     ensures fit { IfOk result (λ plan. MatchPlan plan (λ reply. IsTrue (is_module_status reply.status)) (λ _. ⊥)) }
     ensures answer { IfOk result (Plans (λ _ out err s.
-        ModuleAnswer file.now bytes.now (λ numbers. Compiled numbers out err s) out err s)) }
+        ModuleAnswer Emit.C file.now bytes.now (λ numbers. Compiled numbers out err s) out err s)) }
 {
-    match front_of(alloc, file, bytes)? {
-        Front::Good(numbers) => {
-            let code = code_of(alloc, &numbers)?;
+    match read_module(alloc, Emit::C, bytes) {
+        Ok(parsed) => {
+            let code = code_of(alloc, &parsed)?;
             Ok(Plan::Send(output_reply(alloc, Status::Done, Output::Text(code))))
         }
-        Front::Faulty(reply) => Ok(Plan::Send(reply)),
+        Err(SourceError::Faulty(diagnostic)) => {
+            Ok(Plan::Send(diagnosed_reply(alloc, file, &[diagnostic])?))
+        }
+        Err(SourceError::Memory) => Err(Memory),
     }
 }
 
@@ -153,15 +163,21 @@ fn run_plan(alloc: Global, file: &str, turns: u64, bytes: &[u8]) -> Result<Plan,
     ensures fit { IfOk result (λ plan. MatchPlan plan (λ reply. IsTrue (is_module_status reply.status)) IsRunnable) }
     ensures allowed { IfOk result (CanCome Emit.Run) }
     ensures answer { IfOk result (Plans (λ items out err s.
-        ModuleAnswer file.now bytes.now (λ numbers. ModuleRun numbers turns items out err s) out err s)) }
+        ModuleAnswer Emit.Run file.now bytes.now (λ numbers. ModuleRun numbers turns items out err s) out err s)) }
 {
-    match front_of(alloc, file, bytes)? {
-        Front::Good(numbers) => Ok(Plan::Run(Program {
-            code: code_of(alloc, &numbers)?,
-            turns,
-            has_summary: false,
-        })),
-        Front::Faulty(reply) => Ok(Plan::Send(reply)),
+    match read_module(alloc, Emit::Run, bytes) {
+        Ok(parsed) => {
+            let code = code_of(alloc, &parsed)?;
+            Ok(Plan::Run(Program {
+                code,
+                turns,
+                has_summary: false,
+            }))
+        }
+        Err(SourceError::Faulty(diagnostic)) => {
+            Ok(Plan::Send(diagnosed_reply(alloc, file, &[diagnostic])?))
+        }
+        Err(SourceError::Memory) => Err(Memory),
     }
 }
 

@@ -13,7 +13,7 @@ const MOST_OF_MODULE: usize = 262_144;
 const MOST_OF_TEXT: usize = 16_777_216;
 
 /// Why a file is not read.
-#[derive(Clone, Copy, Debug, PartialEq, Eq)]
+#[derive(Clone, Copy)]
 pub(crate) enum Refusal {
     /// It cannot be opened.
     Open,

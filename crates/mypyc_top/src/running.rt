@@ -6,7 +6,8 @@ ghost use Rattle.c_runner.specs.Report.{ending_of};
 ghost use Rattle.c_runner.specs.Ran.{AreGiven};
 ghost use Rattle.mypyc_top.specs.Output.{output_text};
 ghost use Rattle.mypyc_top.specs.ErrorLines.{input_line};
-ghost use Rattle.mypyc_top.specs.Given.{sink_call, is_run_status};
+ghost use Rattle.mypyc_top.specs.Replies.{is_run_status};
+ghost use Rattle.mypyc_top.specs.Sinks.{sink_call};
 ghost use Rattle.mypyc_top.specs.Plans.{IsRunnable, IsRest, Finishes, RunGave};
 
 use crate::ending::{input_text, line_of, status_of};
@@ -29,7 +30,7 @@ pub(crate) struct Program {
 }
 
 /// Why a program's run is not finished.
-#[derive(Clone, Copy, Debug, PartialEq, Eq)]
+#[derive(Clone, Copy)]
 pub(crate) enum Unfinished {
     /// The output refused a call.
     WriteFault,

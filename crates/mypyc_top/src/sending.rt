@@ -3,7 +3,9 @@ ghost use Rattle.outside_core.specs.Bytes.{TakesFront};
 ghost use Rattle.outside_core.specs.Counts.{Rose};
 ghost use Rattle.mypyc_top.specs.ErrorLines.{memory_line};
 ghost use Rattle.mypyc_top.specs.Output.{output_text};
-ghost use Rattle.mypyc_top.specs.Given.{sink_call, Took, TookFront, Gave, IsReplied};
+ghost use Rattle.mypyc_top.specs.Replies.{IsReplied};
+ghost use Rattle.mypyc_top.specs.Sinks.{sink_call, Took, TookFront};
+ghost use Rattle.mypyc_top.specs.Answered.{Gave};
 
 use crate::reply::{Output, Reply};
 use crate::status::Status;

@@ -3,10 +3,11 @@ ghost use Rattle.value_core.specs.Items.{Items};
 ghost use Rattle.outside_core.specs.Counts.{count_end, has_risen, Rose};
 ghost use Rattle.c_runner.specs.Ran.{AreGiven};
 ghost use Rattle.mypyc_top.specs.Words.{texts, words_of};
-ghost use Rattle.mypyc_top.specs.Answer.{file_meaning, named_content};
-ghost use Rattle.mypyc_top.specs.StatusOf.{IsStatus};
+ghost use Rattle.mypyc_top.specs.Answer.{file_meaning, named_content, IsStatus};
 ghost use Rattle.mypyc_top.specs.Modes.{IsAllowed};
-ghost use Rattle.mypyc_top.specs.Given.{Answered, AbsentOpens, Yields, sink_call};
+ghost use Rattle.mypyc_top.specs.Causes.{AbsentOpens, Yields};
+ghost use Rattle.mypyc_top.specs.Sinks.{sink_call};
+ghost use Rattle.mypyc_top.specs.Answered.{Answered};
 
 use crate::plan::{Plan, plan_of};
 use crate::running::run_and_send;
@@ -62,7 +63,7 @@ pub fn mypyc<F: Files, I: Source, O: Sink, E: Sink>(
         → ¬ (Rose (F.faults files.old) (F.faults files.new))
         → (items : Items)
         × AreGiven I.tells (I.faults input.old) (I.faults input.new) (I.left input.old) (I.left input.new) items
-        × (IsStatus (words_of (texts words.now)) bytes items result ⊎ Yields result) }
+        × (IsStatus (texts words.now) bytes items result ⊎ Yields result) }
     // Where no call on a sink failed either, only want of memory comes between.
     ensures complete { (bytes : List ℕ) → IsTrue F.tells → F.faults files.old < count_end
         → named_content (F.content files.old) (texts words.now) ≡ Some bytes
@@ -71,7 +72,7 @@ pub fn mypyc<F: Files, I: Source, O: Sink, E: Sink>(
         → ¬ (Rose (E.faults err.old) (E.faults err.new))
         → (items : Items)
         × AreGiven I.tells (I.faults input.old) (I.faults input.new) (I.left input.old) (I.left input.new) items
-        × (IsStatus (words_of (texts words.now)) bytes items result ⊎ (result ≡ Status.Memory)) }
+        × (IsStatus (texts words.now) bytes items result ⊎ (result ≡ Status.Memory)) }
 {
     answer(alloc, words, files, input, out, err)
 }

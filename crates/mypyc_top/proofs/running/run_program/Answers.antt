@@ -1,5 +1,5 @@
 use Rattle.c_runner.specs.Report.{ending_of}
-use Rattle.mypyc_top.specs.Given.{sink_call}
+use Rattle.mypyc_top.specs.Sinks.{sink_call}
 use Rattle.mypyc_top.proofs.RunGaveLemmas.{ended, broken}
 use Rattle.mypyc_top.proofs.running.run_program.Goals as goal
 
