@@ -52,9 +52,9 @@ sent_allowed Usage reply s a (inl e) = let P : Status → Type 0 = λ x. (x ≡ 
 sent_allowed (Go r) reply s a (inl e) = let P : Status → Type 0 = λ x. CanAnswer r.emit x in subst P (sym e) a
 
 -- a program that was run
-pub run_allowed : (w : Words) (program : Program) (items : Items) (out err : SinkCall) (s : Status) → Allowed w (plans.Run program) → RunGave program items out err s → IsAllowed w s
-run_allowed Usage program items out err s a g = absurd a
-run_allowed (Go r) program items out err s a g =
+pub run_allowed : (w : Words) (program : Program) (items : Items) (out err : SinkCall) (OutAlone ErrAlone : Type 0) (s : Status) → Allowed w (plans.Run program) → RunGave program items out err OutAlone ErrAlone s → IsAllowed w s
+run_allowed Usage program items out err OutAlone ErrAlone s a g = absurd a
+run_allowed (Go r) program items out err OutAlone ErrAlone s a g =
     let P : Status → Type 0 = λ x. CanAnswer r.emit x in
     either (λ e. subst P (sym e) (a items g.stop g.run)) (λ y. yields_allowed (Go r) s y) (gave_status out err _ _ _ s g.gave)
 

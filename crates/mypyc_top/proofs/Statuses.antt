@@ -40,12 +40,12 @@ pub either : {A B C : Type 0} → (A → C) → (B → C) → A ⊎ B → C
 either f g (inl a) = f a
 either f g (inr b) = g b
 
-module _ (words : List (List ℕ)) (content : List ℕ → Option (List ℕ)) (bytes : List ℕ) (items : Items) (old new : ℕ) (is_open : Bool) (out err : SinkCall) (s : Status)
+module _ (words : List (List ℕ)) (content : List ℕ → Option (List ℕ)) (bytes : List ℕ) (items : Items) (old new : ℕ) (is_open : Bool) (out err : SinkCall) (OutAlone ErrAlone : Type 0) (s : Status)
     (named : option_and_then content (named_file (words_of words)) ≡ Some bytes) (calm : ¬ (Rose old new)) where
   abbrev file : FileMeaning
   file = file_meaning (has_risen old new) is_open (option_and_then content (named_file (words_of words)))
 
-  answers_is : Answers words file items out err s → IsStatus words bytes items s ⊎ Yields s
+  answers_is : Answers words file items out err OutAlone ErrAlone s → IsStatus words bytes items s ⊎ Yields s
   answers_is a =
       let P : FileMeaning → Type 0 = λ f. Answer words f items a.text a.lines a.status in
       let known : IsStatus words bytes items a.status = (a.text, (a.lines, subst P (meaning_is (has_risen old new) is_open _ bytes (not_rose old new calm) named) a.answer)) in
@@ -53,7 +53,7 @@ module _ (words : List (List ℕ)) (content : List ℕ → Option (List ℕ)) (b
       either (λ e. inl (subst Q (sym e) known)) (λ y. inr y) (gave_status out err a.text a.lines a.status s a.gave)
 
   -- the status of a call whose file has these bytes
-  pub by_bytes : Answered words file items out err s → IsStatus words bytes items s ⊎ Yields s
+  pub by_bytes : Answered words file items out err OutAlone ErrAlone s → IsStatus words bytes items s ⊎ Yields s
   by_bytes a = either answers_is (λ l. inr (inr l.status)) a
 
 -- only want of memory comes between where no sink refused

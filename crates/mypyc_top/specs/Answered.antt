@@ -13,19 +13,24 @@ Gave out err o e s status.WriteFault = TookFront out o × TookFront err e
 Gave out err o e s status.Memory = TookFront out o × TookFront err memory_line
 Gave out err o e s t = (t ≡ s) × Took out o × Took err e
 
--- the call answered what its words and its file ask for
-pub record Answers (words : List (List ℕ)) (file : FileMeaning) (items : Items) (out err : SinkCall) (s : Status) : Type 0 where
+-- The call answered what its words and its file ask for. A sink that is to get nothing is left alone, and not even told to
+-- pass on what it holds back; `OutAlone` and `ErrAlone` say that the sinks are as they were.
+pub record Answers (words : List (List ℕ)) (file : FileMeaning) (items : Items) (out err : SinkCall) (OutAlone ErrAlone : Type 0) (s : Status) : Type 0 where
   pub text : List ℕ
   pub lines : List ℕ
   pub status : Status
   pub answer : Answer words file items text lines status
   pub gave : Gave out err text lines status s
+  pub out_alone : text ≡ [] → OutAlone
+  pub err_alone : lines ≡ [] → (s ≡ status.Memory) ⊎ ErrAlone
 
 -- memory ran out before the output took anything
-pub record LacksMemory (out err : SinkCall) (s : Status) : Type 0 where
+pub record LacksMemory (out err : SinkCall) (OutAlone : Type 0) (s : Status) : Type 0 where
   pub status : s ≡ status.Memory
   pub out_nothing : Took out []
   pub err_front : TookFront err memory_line
+  pub out_alone : OutAlone
 
-abbrev pub Answered : List (List ℕ) → FileMeaning → Items → SinkCall → SinkCall → Status → Type 0
-Answered words file items out err s = Answers words file items out err s ⊎ LacksMemory out err s
+abbrev pub Answered : List (List ℕ) → FileMeaning → Items → SinkCall → SinkCall → Type 0 → Type 0 → Status → Type 0
+Answered words file items out err OutAlone ErrAlone s =
+    Answers words file items out err OutAlone ErrAlone s ⊎ LacksMemory out err OutAlone s

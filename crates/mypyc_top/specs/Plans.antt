@@ -1,5 +1,5 @@
 -- What a plan means: a reply that is there, or a program whose run decides.
-use Rattle.std.specs.Prelude.{◌≡◌, ℕ, ◌≤◌, Bool, true, false, List, [], ◌++◌, length, Some, Result, Ok, Err}
+use Rattle.std.specs.Prelude.{◌≡◌, ◌⊎◌, ℕ, ◌≤◌, Bool, true, false, List, [], ◌++◌, length, Some, Result, Ok, Err}
 use Rattle.value_core.specs.Items.{Items}
 use Rattle.c_core.specs.WellFormed.{WellFormed}
 use Rattle.c_core.specs.Step.{Ending}
@@ -13,6 +13,7 @@ use Rattle.mypyc_top.specs.declared.words.Words.{Words}
 use Rattle.mypyc_top.specs.declared.words.Words.TheVariants.{Usage, Go}
 use Rattle.mypyc_top.specs.declared.reply.Reply.{Reply}
 use Rattle.mypyc_top.specs.declared.running.Program.{Program}
+use Rattle.mypyc_top.specs.declared.running.Rest.{Rest}
 use Rattle.mypyc_top.specs.declared.running.Unfinished.{Unfinished}
 use Rattle.mypyc_top.specs.declared.plan.Plan.{Plan}
 use Rattle.mypyc_top.specs.declared.plan.Plan.TheVariants.{Send, Run}
@@ -78,12 +79,16 @@ IsRest has_summary ending cells rest =
     × (rest.status ≡ ending_status ending)
 
 -- what the output took where a program was run: all of its output, and the rest is left to send, or else a front of it
-abbrev pub Finishes : Program → Stop → SinkCall → Result Reply Unfinished → Type 0
-Finishes program stop out (Ok rest) = Took out stop.state.output × IsRest program.has_summary stop.ending (cells_left program.code stop) rest
+abbrev pub Finishes : Program → Stop → SinkCall → Result Rest Unfinished → Type 0
+Finishes program stop out (Ok rest) =
+    Took out stop.state.output × IsRest program.has_summary stop.ending (cells_left program.code stop) rest.reply
+    × (stop.state.output ≡ [] → rest.has_output ≡ false)
 Finishes program stop out (Err unfinished) = TookFront out stop.state.output
 
--- the run of a program and what the sinks took of it
-pub record RunGave (program : Program) (items : Items) (out err : SinkCall) (s : Status) : Type 0 where
+-- the run of a program and what the sinks took of it; a sink that is to get nothing is left alone
+pub record RunGave (program : Program) (items : Items) (out err : SinkCall) (OutAlone ErrAlone : Type 0) (s : Status) : Type 0 where
   pub stop : Stop
   pub run : machine_run program.turns items program.code ≡ Some stop
   pub gave : Gave out err (program_text program stop) (program_line program stop) (ending_status stop.ending) s
+  pub out_alone : program_text program stop ≡ [] → OutAlone
+  pub err_alone : program_line program stop ≡ [] → (s ≡ status.Memory) ⊎ ErrAlone

@@ -30,7 +30,7 @@ pub fn mypyc<F: Files, I: Source, O: Sink, E: Sink>(
     err: &mut E,
 ) -> Status
     // Where the files tell their content, the status and what the sinks took are the answer, for the lines of the
-    // input, which are those that it gave where it tells them.
+    // input, which are those that it gave where it tells them. A sink that is to get nothing is left as it was.
     ensures answer { IsTrue F.tells → F.faults files.old < count_end → (items : Items)
         × AreGiven I.tells (I.faults input.old) (I.faults input.new) (I.left input.old) (I.left input.new) items
         × Answered (texts words.now)
@@ -39,6 +39,7 @@ pub fn mypyc<F: Files, I: Source, O: Sink, E: Sink>(
         items
         (sink_call O.tells (O.taken out.old) (O.taken out.new))
         (sink_call E.tells (E.taken err.old) (E.taken err.new))
+        (out.new ≡ out.old) (err.new ≡ err.old)
         result }
     ensures usage { result ≡ Status.Usage → words_of (texts words.now) ≡ Words.Usage }
     ensures usage_comes { words_of (texts words.now) ≡ Words.Usage →
@@ -93,6 +94,7 @@ fn answer<F: Files, I: Source, O: Sink, E: Sink>(
         items
         (sink_call O.tells (O.taken out.old) (O.taken out.new))
         (sink_call E.tells (E.taken err.old) (E.taken err.new))
+        (out.new ≡ out.old) (err.new ≡ err.old)
         result }
     ensures allowed { IsAllowed (words_of (texts words.now)) result }
     ensures open_fault { result ≡ Status.OpenFault →
@@ -108,7 +110,7 @@ fn answer<F: Files, I: Source, O: Sink, E: Sink>(
     ensures input { input.new ≡ input.old }
 {
     match plan_of(alloc, words, files) {
-        Ok(Plan::Send(reply)) => send_reply(&reply, out, err),
+        Ok(Plan::Send(reply)) => send_reply(&reply, false, out, err),
         Ok(Plan::Run(program)) => run_and_send(alloc, &program, input, out, err),
         Err(Memory) => out_of_memory(err),
     }
