@@ -1,8 +1,9 @@
-ghost use Rattle.std.specs.Prelude.{◌≡◌, is_ok, not};
+ghost use Rattle.std.specs.Prelude.{◌≡◌, ◌≤◌, is_ok, not};
 ghost use Rattle.outside_core.specs.Schedule.{schedule, is_refused, after_call};
-ghost use Rattle.outside_core.specs.Counts.{one_more};
+ghost use Rattle.outside_core.specs.Counts.{count_end, one_more};
 
 use crate::failed::Failed;
+use crate::faults::Faults;
 use std::marker::Model;
 
 /// The calls of an object in memory: their numbers, those that are to fail, and how many failed.
@@ -10,7 +11,7 @@ use std::marker::Model;
 pub(crate) struct Calls {
     fails: Vec<u64>,
     next: u64,
-    faults: u64,
+    faults: Faults,
 }
 
 impl Model for Calls {
@@ -33,7 +34,7 @@ impl Calls {
         Calls {
             fails,
             next: 0,
-            faults: 0,
+            faults: Faults::new(),
         }
     }
 
@@ -41,27 +42,26 @@ impl Calls {
     pub(crate) fn make(&mut self) -> Result<(), Failed>
         ensures answer { is_ok result ≡ not (is_refused self.old) }
         ensures after { self.new ≡ after_call self.old (is_ok result) }
+        ensures bounded { self.new.faults ≤ count_end }
     {
         let is_refused = self.fails.contains(&self.next);
         self.next = self.next.saturating_add(1);
-        if is_refused {
-            return Err(self.refuse());
-        }
-        Ok(())
+        self.faults
+            .counted(if is_refused { Err(Failed) } else { Ok(()) })
     }
 
     /// Counts one more fault.
     pub(crate) fn refuse(&mut self) -> Failed
-        ensures { self.new ≡ record self.old { faults = one_more self.old.faults } }
+        ensures after { self.new ≡ record self.old { faults = one_more self.old.faults } }
+        ensures bounded { self.new.faults ≤ count_end }
     {
-        self.faults = self.faults.saturating_add(1);
-        Failed
+        self.faults.refuse()
     }
 
     /// How many calls failed.
     pub(crate) fn faults(&self) -> u64
         ensures { result ≡ self.now.faults }
     {
-        self.faults
+        self.faults.count()
     }
 }

@@ -1,7 +1,7 @@
 ghost use Rattle.std.specs.Prelude.{◌≡◌, ◌≤◌, false, length, is_some, IfOk};
-ghost use Rattle.outside_core.specs.Counts.{one_more};
 
 use crate::failed::Failed;
+use crate::faults::Faults;
 use crate::files::Files;
 use std::io::{Input, Read};
 use std::{fs, io, rt};
@@ -11,7 +11,7 @@ use std::{fs, io, rt};
 pub struct DiskFiles<R: rt::Files + Input> {
     rt: R,
     reader: Option<Reader<R>>,
-    faults: u64,
+    faults: Faults,
 }
 
 /// What is open.
@@ -41,7 +41,7 @@ impl<R: rt::Files + Input> DiskFiles<R> {
         DiskFiles {
             rt,
             reader: None,
-            faults: 0,
+            faults: Faults::new(),
         }
     }
 
@@ -49,7 +49,7 @@ impl<R: rt::Files + Input> DiskFiles<R> {
     pub fn faults(&self) -> u64
         ensures { result ≡ ⟦<DiskFiles<R> as Files>⟧.faults self.now }
     {
-        self.faults
+        self.faults.count()
     }
 
     fn reader_of(&self, name: &str) -> io::Result<Reader<R>> {
@@ -57,13 +57,6 @@ impl<R: rt::Files + Input> DiskFiles<R> {
             return Ok(Reader::Input(self.rt.reader()));
         }
         Ok(Reader::File(fs::open(&self.rt, name)?))
-    }
-
-    fn refuse(&mut self) -> Failed
-        ensures { self.new ≡ record self.old { faults = one_more self.old.faults } }
-    {
-        self.faults = self.faults.saturating_add(1);
-        Failed
     }
 }
 
@@ -74,19 +67,13 @@ impl<R: rt::Files + Input> Files for DiskFiles<R> {
 
     fn open_file(&mut self, name: &str) -> Result<(), Failed> {
         self.reader = None;
-        match self.reader_of(name) {
-            Ok(reader) => {
-                self.reader = Some(reader);
-                Ok(())
-            }
-            Err(_) => Err(self.refuse()),
-        }
+        let answer = self.reader_of(name);
+        self.reader = Some(self.faults.counted(answer)?);
+        Ok(())
     }
 
     fn read(&mut self, into: &mut [u8]) -> Result<usize, Failed> {
-        match self.reader.as_mut().unwrap().read(into) {
-            Ok(count) => Ok(count),
-            Err(_) => Err(self.refuse()),
-        }
+        let answer = self.reader.as_mut().unwrap().read(into);
+        self.faults.counted(answer)
     }
 }

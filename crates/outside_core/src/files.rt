@@ -1,5 +1,5 @@
 ghost use Rattle.std.specs.Prelude.{◌≡◌, ℕ, List, [], ◌++◌, ◌<◌, ◌≤◌, ◌↔◌, Bool, false, Option, Some, None, length, take, is_ok, is_none, IsTrue, IfOk, OnOk, OnErr};
-ghost use Rattle.outside_core.specs.Counts.{count_after, count_if};
+ghost use Rattle.outside_core.specs.Counts.{count_end, count_after, count_if};
 
 use crate::failed::Failed;
 
@@ -27,11 +27,13 @@ pub trait Files {
     /// and after `Failed` no file is open.
     fn open_file(&mut self, name: &str) -> Result<(), Failed>
         ensures counted { faults self.new ≡ count_after result (faults self.old) }
+        ensures bounded { faults self.new ≤ count_end }
         ensures opened { is_open self.new ≡ is_ok result }
         ensures found { OnOk result (IsTrue tells →
             content self.old name.now ≡ Some (left self.new)) }
         ensures absent { IsTrue tells → absent_opens self.new
             ≡ count_if (is_none (content self.old name.now)) (absent_opens self.old) }
+        ensures absent_bounded { absent_opens self.new ≤ count_end }
         ensures kept { content self.new ≡ content self.old };
 
     /// Reads bytes of the open file to the front of `into`, and answers how many. Where `into` has
@@ -40,6 +42,7 @@ pub trait Files {
     fn read(&mut self, into: &mut [u8]) -> Result<usize, Failed>
         requires { IsTrue (is_open self.old) }
         ensures counted { faults self.new ≡ count_after result (faults self.old) }
+        ensures bounded { faults self.new ≤ count_end }
         ensures stays_open { IsTrue (is_open self.new) }
         ensures within { IfOk result (λ n. n ≤ length into.new) }
         ensures given { IfOk result (λ n. IsTrue tells →

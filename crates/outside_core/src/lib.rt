@@ -20,6 +20,7 @@ mod copy;
 mod count_sink;
 mod disk_files;
 mod failed;
+mod faults;
 mod files;
 mod mem_files;
 mod mem_sink;

@@ -1,5 +1,5 @@
 ghost use Rattle.std.specs.Prelude.{◌≡◌, if◌then◌else◌, [], ◌++◌, ◌<◌, ◌≤◌, ◌&&◌, true, not, min, length, take, drop, None, is_ok, is_some, is_none, unwrap_or, IsTrue, IfOk, OnErr, position};
-ghost use Rattle.outside_core.specs.Counts.{count_if};
+ghost use Rattle.outside_core.specs.Counts.{count_end, count_if};
 ghost use Rattle.outside_core.specs.Schedule.{schedule, is_refused, after_call};
 ghost use Rattle.outside_core.specs.States.{content_of, named, is_called};
 
@@ -100,8 +100,10 @@ impl Files for MemFiles {
         ensures left { self.new.left
             ≡ (if is_ok result then content_of self.old.files name.now else None) }
         ensures calls { self.new.calls ≡ after_call self.old.calls (is_ok result) }
+        ensures bounded { self.new.calls.faults ≤ count_end }
         ensures absent { self.new.absent_opens
             ≡ count_if (is_none (content_of self.old.files name.now)) self.old.absent_opens }
+        ensures absent_bounded { self.new.absent_opens ≤ count_end }
         ensures files { self.new.files ≡ self.old.files }
     {
         self.place = None;
@@ -130,6 +132,7 @@ impl Files for MemFiles {
         ensures failed { OnErr result ((self.new.left ≡ self.old.left) × (into.new ≡ into.old)) }
         ensures stays_open { IsTrue (is_some self.new.left) }
         ensures calls { self.new.calls ≡ after_call self.old.calls (is_ok result) }
+        ensures bounded { self.new.calls.faults ≤ count_end }
         ensures absent { self.new.absent_opens ≡ self.old.absent_opens }
         ensures files { self.new.files ≡ self.old.files }
     {

@@ -1,4 +1,5 @@
-ghost use Rattle.std.specs.Prelude.{◌≡◌, [], ◌++◌, ◌<◌, true, length, is_ok, not, IsTrue, IsErr, IfOk, OnOk, OnErr};
+ghost use Rattle.std.specs.Prelude.{◌≡◌, [], ◌++◌, ◌<◌, ◌≤◌, true, length, is_ok, not, IsTrue, IsErr, IfOk, OnOk, OnErr};
+ghost use Rattle.outside_core.specs.Counts.{count_end};
 ghost use Rattle.outside_core.specs.Schedule.{schedule, is_refused, after_call};
 
 use crate::calls::Calls;
@@ -63,6 +64,7 @@ impl Sink for MemSink {
         ensures ok { OnOk result (self.new.taken ≡ self.old.taken ++ piece.now) }
         ensures err { OnErr result (self.new.taken ≡ self.old.taken) }
         ensures calls { self.new.calls ≡ after_call self.old.calls (is_ok result) }
+        ensures bounded { self.new.calls.faults ≤ count_end }
     {
         self.calls.make()?;
         match self.bytes.extend_from_slice(piece) {
@@ -75,6 +77,7 @@ impl Sink for MemSink {
         ensures answer { is_ok result ≡ not (is_refused self.old.calls) }
         ensures after { self.new
             ≡ record self.old { calls = after_call self.old.calls (is_ok result) } }
+        ensures bounded { self.new.calls.faults ≤ count_end }
     {
         self.calls.make()
     }

@@ -1,4 +1,5 @@
 ghost use Rattle.std.specs.Prelude.{◌≡◌, [], ◌++◌, ◌<◌, ◌≤◌, ◌↔◌, true, min, not, length, take, drop, is_ok, IfOk, OnErr};
+ghost use Rattle.outside_core.specs.Counts.{count_end};
 ghost use Rattle.outside_core.specs.Schedule.{schedule, is_refused, after_call};
 
 use crate::calls::Calls;
@@ -81,6 +82,7 @@ impl Source for MemSource {
         ensures end { IfOk result (λ n. 0 < length into.old → ((n ≡ 0) ↔ (self.old.left ≡ []))) }
         ensures failed { OnErr result ((self.new.left ≡ self.old.left) × (into.new ≡ into.old)) }
         ensures calls { self.new.calls ≡ after_call self.old.calls (is_ok result) }
+        ensures bounded { self.new.calls.faults ≤ count_end }
         ensures piece { self.new.piece ≡ self.old.piece }
     {
         self.calls.make()?;

@@ -1,5 +1,5 @@
 ghost use Rattle.std.specs.Prelude.{◌≡◌, ℕ, List, [], ◌++◌, ◌<◌, ◌≤◌, Bool, false, length, take, IsTrue, IfOk, OnErr};
-ghost use Rattle.outside_core.specs.Counts.{count_after};
+ghost use Rattle.outside_core.specs.Counts.{count_end, count_after};
 
 use crate::failed::Failed;
 
@@ -18,6 +18,7 @@ pub trait Sink {
     /// has any. After `Failed` nothing of the piece was taken.
     fn write(&mut self, piece: &[u8]) -> Result<usize, Failed>
         ensures counted { faults self.new ≡ count_after result (faults self.old) }
+        ensures bounded { faults self.new ≤ count_end }
         ensures within { IfOk result (λ n. n ≤ length piece.now) }
         ensures some { IfOk result (λ n. 0 < length piece.now → 0 < n) }
         ensures taken { IfOk result (λ n. IsTrue tells →
@@ -27,5 +28,6 @@ pub trait Sink {
     /// Passes on what the sink may hold back. Nothing more is taken.
     fn flush(&mut self) -> Result<(), Failed>
         ensures counted { faults self.new ≡ count_after result (faults self.old) }
+        ensures bounded { faults self.new ≤ count_end }
         ensures taken { taken self.new ≡ taken self.old };
 }

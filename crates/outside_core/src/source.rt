@@ -1,5 +1,5 @@
 ghost use Rattle.std.specs.Prelude.{◌≡◌, ℕ, List, [], ◌++◌, ◌<◌, ◌≤◌, ◌↔◌, Bool, false, length, take, IsTrue, IfOk, OnErr};
-ghost use Rattle.outside_core.specs.Counts.{count_after};
+ghost use Rattle.outside_core.specs.Counts.{count_end, count_after};
 
 use crate::failed::Failed;
 
@@ -18,6 +18,7 @@ pub trait Source {
     /// end. What stands behind them in `into` is not said. After `Failed` the same bytes are left.
     fn read(&mut self, into: &mut [u8]) -> Result<usize, Failed>
         ensures counted { faults self.new ≡ count_after result (faults self.old) }
+        ensures bounded { faults self.new ≤ count_end }
         ensures within { IfOk result (λ n. n ≤ length into.new) }
         ensures given { IfOk result (λ n. IsTrue tells →
             left self.old ≡ take n into.new ++ left self.new) }

@@ -1,9 +1,10 @@
 ghost use Rattle.std.specs.Prelude.{◌≡◌, ◌<◌, ◌≤◌, length, IfOk};
 ghost use Rattle.std.specs.Io.KnownBytes.{Keeps, WriteAppends};
 ghost use Rattle.outside_core.specs.Streams.{written_stream};
-ghost use Rattle.outside_core.specs.Counts.{count_after, one_more};
+ghost use Rattle.outside_core.specs.Counts.{count_end, count_after};
 
 use crate::failed::Failed;
+use crate::faults::Faults;
 use crate::sink::Sink;
 use std::io::Write;
 
@@ -11,7 +12,7 @@ use std::io::Write;
 #[derive(Drop)]
 pub struct StreamSink<W> {
     to: W,
-    faults: u64,
+    faults: Faults,
 }
 
 impl<W: Write> StreamSink<W> {
@@ -19,21 +20,17 @@ impl<W: Write> StreamSink<W> {
     pub fn new(to: W) -> StreamSink<W>
         ensures { ⟦<StreamSink<W> as Sink>⟧.faults result ≡ 0 }
     {
-        StreamSink { to, faults: 0 }
+        StreamSink {
+            to,
+            faults: Faults::new(),
+        }
     }
 
     /// How many calls failed.
     pub fn faults(&self) -> u64
         ensures { result ≡ ⟦<StreamSink<W> as Sink>⟧.faults self.now }
     {
-        self.faults
-    }
-
-    fn refuse(&mut self) -> Failed
-        ensures { self.new ≡ record self.old { faults = one_more self.old.faults } }
-    {
-        self.faults = self.faults.saturating_add(1);
-        Failed
+        self.faults.count()
     }
 }
 
@@ -44,27 +41,28 @@ impl<W: Write> Sink for StreamSink<W> {
     fn write(&mut self, piece: &[u8]) -> Result<usize, Failed>
         ensures counted { ⟦<StreamSink<W> as Sink>⟧.faults self.new
             ≡ count_after result (⟦<StreamSink<W> as Sink>⟧.faults self.old) }
+        ensures bounded { ⟦<StreamSink<W> as Sink>⟧.faults self.new ≤ count_end }
         ensures within { IfOk result (λ n. n ≤ length piece.now) }
         ensures some { IfOk result (λ n. 0 < length piece.now → 0 < n) }
         ensures bytes { WriteAppends (W.contents (written_stream self.old))
             (W.contents (written_stream self.new)) result piece.now }
     {
-        match self.to.write(piece) {
-            Ok(0) if !piece.is_empty() => Err(self.refuse()),
+        let answer = match self.to.write(piece) {
+            Ok(0) if !piece.is_empty() => Err(Failed),
             Ok(count) => Ok(count),
-            Err(_) => Err(self.refuse()),
-        }
+            Err(_) => Err(Failed),
+        };
+        self.faults.counted(answer)
     }
 
     fn flush(&mut self) -> Result<(), Failed>
         ensures counted { ⟦<StreamSink<W> as Sink>⟧.faults self.new
             ≡ count_after result (⟦<StreamSink<W> as Sink>⟧.faults self.old) }
+        ensures bounded { ⟦<StreamSink<W> as Sink>⟧.faults self.new ≤ count_end }
         ensures bytes { Keeps (W.contents (written_stream self.old))
             (W.contents (written_stream self.new)) }
     {
-        match self.to.flush() {
-            Ok(()) => Ok(()),
-            Err(_) => Err(self.refuse()),
-        }
+        let answer = self.to.flush();
+        self.faults.counted(answer)
     }
 }

@@ -1,9 +1,10 @@
 ghost use Rattle.std.specs.Prelude.{◌≡◌, ◌≤◌, length, IfOk};
 ghost use Rattle.std.specs.Io.KnownBytes.{ReadConsumes};
-ghost use Rattle.outside_core.specs.Counts.{count_after};
+ghost use Rattle.outside_core.specs.Counts.{count_end, count_after};
 ghost use Rattle.outside_core.specs.Streams.{read_stream};
 
 use crate::failed::Failed;
+use crate::faults::Faults;
 use crate::source::Source;
 use std::io::Read;
 
@@ -11,7 +12,7 @@ use std::io::Read;
 #[derive(Drop)]
 pub struct StreamSource<R> {
     from: R,
-    faults: u64,
+    faults: Faults,
 }
 
 impl<R: Read> StreamSource<R> {
@@ -19,14 +20,17 @@ impl<R: Read> StreamSource<R> {
     pub fn new(from: R) -> StreamSource<R>
         ensures { ⟦<StreamSource<R> as Source>⟧.faults result ≡ 0 }
     {
-        StreamSource { from, faults: 0 }
+        StreamSource {
+            from,
+            faults: Faults::new(),
+        }
     }
 
     /// How many reads failed.
     pub fn faults(&self) -> u64
         ensures { result ≡ ⟦<StreamSource<R> as Source>⟧.faults self.now }
     {
-        self.faults
+        self.faults.count()
     }
 }
 
@@ -37,16 +41,12 @@ impl<R: Read> Source for StreamSource<R> {
     fn read(&mut self, into: &mut [u8]) -> Result<usize, Failed>
         ensures counted { ⟦<StreamSource<R> as Source>⟧.faults self.new
             ≡ count_after result (⟦<StreamSource<R> as Source>⟧.faults self.old) }
+        ensures bounded { ⟦<StreamSource<R> as Source>⟧.faults self.new ≤ count_end }
         ensures within { IfOk result (λ n. n ≤ length into.new) }
         ensures bytes { ReadConsumes (R.remaining (read_stream self.old))
             (R.remaining (read_stream self.new)) result into.new }
     {
-        match self.from.read(into) {
-            Ok(count) => Ok(count),
-            Err(_) => {
-                self.faults = self.faults.saturating_add(1);
-                Err(Failed)
-            }
-        }
+        let answer = self.from.read(into);
+        self.faults.counted(answer)
     }
 }

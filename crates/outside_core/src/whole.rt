@@ -1,6 +1,6 @@
 ghost use Rattle.std.specs.Prelude.{◌≡◌, ◌+◌, ◌++◌, ◌≤◌, [], length, vec_len, IsTrue, IfOk, OnOk, OnErr, IsErrOf};
 ghost use Rattle.outside_core.specs.Counts.{count_after};
-ghost use Rattle.outside_core.specs.Bytes.{TakesFront};
+ghost use Rattle.outside_core.specs.Bytes.{TakesFront, GivesAtMost};
 ghost use Rattle.outside_core.specs.Reading.{count_after_reading};
 
 use crate::failed::WriteFault;
@@ -13,7 +13,8 @@ use std::alloc::Global;
 const PIECE: usize = 4096;
 
 /// Reads what is left of the open file, which may be `limit` bytes at most. It stops at the end, at
-/// the first refusal, and after one byte more than the limit, which is `TooLong`.
+/// the first refusal, and after one byte more than the limit, which is `TooLong`. However it ends,
+/// it has taken one byte more than the limit at most, and what it did not take is left.
 pub fn read_whole<F: Files>(
     alloc: Global,
     files: &mut F,
@@ -26,6 +27,7 @@ pub fn read_whole<F: Files>(
     ensures end { OnOk result (IsTrue F.tells → F.left files.new ≡ []) }
     ensures too_long { IsErrOf result ReadError.TooLong → IsTrue F.tells →
         length (F.left files.old) ≡ limit + 1 + length (F.left files.new) }
+    ensures taken { IsTrue F.tells → GivesAtMost (limit + 1) (F.left files.old) (F.left files.new) }
     ensures stays_open { IsTrue (F.is_open files.new) }
     ensures absent { F.absent_opens files.new ≡ F.absent_opens files.old }
     ensures kept { F.content files.new ≡ F.content files.old }

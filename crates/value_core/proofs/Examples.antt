@@ -1,13 +1,15 @@
 -- The definitions at small values, as Python's rules give them.
-use Rattle.std.proofs.Common.{◌≡◌, refl, ◌-◌, ◌^◌, [], ◌∷◌, ◌++◌, codes, Some, None, Ok, Err, true, false}
+use Rattle.std.proofs.Common.{◌≡◌, refl, ◌-◌, ◌^◌, [], ◌∷◌, ◌++◌, codes, Some, None, Ok, Err, Less, true, false}
 use Rattle.std.specs.Prelude.{pos, negsuc}
 use Rattle.std.specs.Str.{is_utf8, chars}
+use Rattle.std.specs.Ordering.{nat_cmp}
+use Rattle.std.specs.Cmp.Lexicographic.{slice_cmp}
 use Rattle.std.proofs.Math.Utf8.{encode}
 use Rattle.std.specs.Int.{int_wrap}
 use Rattle.value_core.specs.declared.arith.Arith.TheVariants.{Overflow, ZeroDivisor, NegativeShift, OutOfRange}
 use Rattle.value_core.specs.declared.exception.ExcClass.TheVariants.{Exception, OverflowError, LookupError, KeyError}
 use Rattle.value_core.specs.Arithmetic.{int_add, int_neg, int_floor_div, int_modulo, int_shl, int_shr, i64_add, i64_floor_div, i64_shl, int_to_i64, is_short}
-use Rattle.value_core.specs.Exceptions.{is_under, class_named}
+use Rattle.value_core.specs.Exceptions.{is_under, class_named, thrown}
 use Rattle.value_core.specs.Items.{Eof, Broken, Over, Line, Bad, AtEof, AtFailure, input_items, pieces, lines_from, most_input}
 
 -- -7 // 2 is -4, -7 % 2 is 1, 7 // -2 is -4, 7 % -2 is -1, -7 // -2 is 3
@@ -33,6 +35,15 @@ wrapped = (refl, refl)
 
 classes : (is_under KeyError LookupError ≡ true) × (is_under KeyError Exception ≡ true) × (is_under KeyError OverflowError ≡ false) × (is_under LookupError KeyError ≡ false) × (class_named (codes "KeyError") ≡ Some KeyError) × (class_named (codes "Key") ≡ None)
 classes = (refl, refl, refl, refl, refl, refl)
+
+-- an exception by its class and text
+thrown_key : ((thrown KeyError (codes "a")).class ≡ KeyError) × ((thrown KeyError (codes "a")).text ≡ codes "a")
+thrown_key = (refl, refl)
+
+-- "z" stands before "é", by bytes and by code points
+orders : (slice_cmp nat_cmp (codes "z") (195 ∷ 169 ∷ []) ≡ Less) × (chars (195 ∷ 169 ∷ []) ≡ 233 ∷ []) × (slice_cmp nat_cmp (chars (codes "z")) (chars (195 ∷ 169 ∷ [])) ≡ Less)
+unfolding chars
+orders = (refl, refl, refl)
 
 -- the bytes are cut after each line feed
 cuts : pieces (codes "a" ++ 10 ∷ 10 ∷ codes "b") ≡ (97 ∷ 10 ∷ []) ∷ (10 ∷ []) ∷ (98 ∷ []) ∷ []

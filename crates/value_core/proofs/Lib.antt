@@ -1,5 +1,9 @@
 pub mod CharacterLemmas
 pub mod DivisionLemmas
 pub mod Examples
+pub mod LineLemmas
+pub mod OrderLemmas
 pub mod Ranges
+pub mod RestLemmas
 pub mod ShiftLemmas
+pub mod ValueLemmas

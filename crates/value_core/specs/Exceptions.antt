@@ -1,5 +1,5 @@
--- The tree of exception classes (Python Library Reference, "Exception hierarchy"): each class but Exception has one
--- class directly above it, and a class is under another where going up from it leads there.
+-- Exceptions, and the tree of their classes (Python Library Reference, "Exception hierarchy"): each class but Exception has
+-- one class directly above it, and a class is under another where going up from it leads there.
 use Rattle.std.specs.Prelude.{ℕ, zero, suc, Bool, List, [], ◌∷◌, Option, Some, None, codes, find}
 use Rattle.std.specs.List.{list_any}
 use Rattle.std.specs.Str.{bytes_eq}
@@ -64,3 +64,12 @@ all_classes =
 -- the class of this name, if there is one
 abbrev pub class_named : List ℕ → Option ExcClass
 class_named name = find (is_called name) all_classes
+
+-- an exception: its class and its text
+pub record Thrown : Type 0 where
+  pub class : ExcClass
+  pub text : List ℕ
+
+-- the exception of this class and this text
+abbrev pub thrown : ExcClass → List ℕ → Thrown
+thrown c t = record { class = c; text = t }

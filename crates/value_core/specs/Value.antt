@@ -1,9 +1,9 @@
 -- The values and objects of a running program (Python Language Reference, "Objects, values and types").
 -- Lists, dicts and instances are objects: they have an identity and can change, and stand in a store. All else is a value.
 use Rattle.std.specs.Prelude.{ℕ, ℤ, Bool, List, [], ◌∷◌, Option}
-use Rattle.value_core.specs.declared.exception.ExcClass.{ExcClass}
+use Rattle.value_core.specs.Exceptions.{Thrown}
 
--- a value. A text is its bytes in UTF-8; an exception has its class and its text; an object is known by its place in the store
+-- a value. A text is its bytes in UTF-8; an object is known by its place in the store
 mutual
   pub data Value : Type 0 where
     IntVal : (n : ℤ) → Value
@@ -11,7 +11,7 @@ mutual
     NoneVal : Value
     StrVal : (text : List ℕ) → Value
     TupleVal : (parts : Values) → Value
-    ExcVal : (class : ExcClass) (text : List ℕ) → Value
+    ExcVal : (e : Thrown) → Value
     ObjVal : (k : ℕ) → Value
 
   -- the parts of a tuple

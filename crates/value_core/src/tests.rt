@@ -397,9 +397,9 @@ fn lists_and_texts(rt: HostRuntime) -> Result<(), Fail> {
     assert!(rt; Many::<u8>::new(rt.alloc()).is_empty());
 
     let text = Text::from_str(rt.alloc(), "\u{e9}")?;
-    assert_eq!(rt; text.copy(rt.alloc())?.into_string().as_str(), "\u{e9}");
+    assert_eq!(rt; text.clone()?.into_string().as_str(), "\u{e9}");
     let name = Name::from_str(rt.alloc(), "b")?;
-    assert!(rt; name == name.copy(rt.alloc())?);
+    assert!(rt; name == name.clone()?);
     assert!(rt; Name::from_str(rt.alloc(), "a")? < name);
     Ok(())
 }

@@ -8,7 +8,7 @@ ghost use Rattle.std.specs.String.{string_bytes};
 ghost use Rattle.std.proofs.Common.{rules};
 
 use crate::memory::Memory;
-use std::alloc::Global;
+use std::alloc::{AllocError, Global};
 use std::cmp::Ordering;
 use std::convert::AsStr;
 use std::fmt;
@@ -60,12 +60,14 @@ impl Text {
         let text = String::from_str(alloc, text)?;
         Ok(Text { text })
     }
+}
 
-    /// A copy.
-    pub fn copy(&self, alloc: Global) -> Result<Text, Memory>
-        ensures { IfOk result (λ copy. copy ≡ self.now) }
-    {
-        Text::from_str(alloc, self.as_str())
+impl Clone for Text {
+    ghost is_clone = { λ text copy. copy ≡ text };
+
+    fn clone(&self) -> Result<Text, AllocError> {
+        let text = self.text.clone()?;
+        Ok(Text { text })
     }
 }
 
