@@ -1,6 +1,5 @@
--- How far a run can go: each step of a well-formed code goes on to the next line, makes at most one cell and raises a
--- count by at most one.
-use Rattle.std.proofs.Common.{◌≡◌, refl, sym, ◌∙◌, ap, subst, ℕ, zero, suc, ◌+◌, ◌-◌, ◌*◌, ◌<◌, ◌≤◌, arith, Bool, true, false, List, [], ◌∷◌, ◌++◌, length, length-append, Option, Some, None}
+-- How far a run can go: each step of a well-formed code goes on to the next line.
+use Rattle.std.proofs.Common.{◌≡◌, refl, sym, ◌∙◌, ap, subst, ℕ, zero, suc, ◌+◌, ◌-◌, ◌*◌, ◌<◌, ◌≤◌, arith, Bool, true, false, List, [], ◌∷◌, length, Option, Some, None}
 use Rattle.std.specs.Prelude.{slice_get, ◌&&◌}
 use Rattle.std.specs.List.{list_all}
 use Rattle.std.specs.Option.{option_and_then}
@@ -12,60 +11,23 @@ use Rattle.c_core.specs.declared.code.CFunc.{CFunc}
 use Rattle.c_core.specs.declared.code.Code.{Code}
 use Rattle.c_core.specs.declared.fault.Fault.{Fault}
 use Rattle.c_core.specs.declared.fault.Fault.TheVariants as fault
-use Rattle.c_core.specs.declared.primitive.Prim.{Prim}
-use Rattle.c_core.specs.Cells.{Cell, Cells, same, counted, count_at, content_at, one_less, change, lowered}
-use Rattle.c_core.specs.Release.{after, freed, weight, release_some}
-use Rattle.c_core.specs.Machine.{Word, ShortInt, BigInt, CharWord, ObjectCell, NoneObject, TrueObject, FalseObject, Content, ExcCell, refs_in, Ledger, Frame, MachineState}
+use Rattle.c_core.specs.Cells.{count_at}
+use Rattle.c_core.specs.Ledgers.{Ledger}
+use Rattle.c_core.specs.Machine.{Word, ShortInt, BigInt, ObjectCell, NoneObject, TrueObject, FalseObject, Content, Frame, MachineState}
 use Rattle.c_core.specs.Primitives.{row_of, primitive_named}
-use Rattle.c_core.specs.Step.{Next, Goes, Ends, Faulted, Effect, Wrong, Makes, Writes, effect, next_line, literal_word, kind_of, applied, made_cell, given_up, decremented, if_result, if_none_left, raised_by, ended, to_caller, step_at, line_at, step}
+use Rattle.c_core.specs.Arguments.{stolen}
+use Rattle.c_core.specs.Step.{Next, Goes, Ends, Faulted, Effect, Wrong, Makes, Writes, effect, with_ledger, next_line, literal_word, kind_of, applied, made_cell, given_up, decremented, if_return, if_result, if_none_left, step_at, line_at, step}
 use Rattle.c_core.specs.Run.{Stop, go_on, start, most_lines, most_steps}
 use Rattle.c_core.specs.WellFormed.{WellFormed, is_spelled, is_empty, spelled_functions, function_fits, is_leaving}
-use Rattle.c_core.specs.Laws.{Reaches, Here, There, RunExists, RunStaysSmall}
-use Rattle.c_core.proofs.CountLemmas.{count-make}
-use Rattle.c_core.proofs.StepCases.{at_some, at_calm, at_content, at_taken, at_word, at_arguments, at_order, at_none_left}
+use Rattle.c_core.specs.Laws.{state_after, Reaches, Here, There, RunExists, RunStaysSmall}
+use Rattle.c_core.proofs.StepCases.{at_some, at_given_up, at_word, at_called, at_order, at_ended, at_result}
+use Rattle.c_core.proofs.SmallSteps.{IsSmallStep, small_step}
 
-same_most : (c d : ℕ) → same c d ≤ 1
-same_most zero zero = omega arith
-same_most zero (suc d) = omega arith
-same_most (suc c) zero = omega arith
-same_most (suc c) (suc d) = same_most c d
-
-module _ {X : Type 0} where
-  less_most : (n : ℕ) (x : X) → counted (one_less n x) ≤ n
-  less_most zero x = omega arith
-  less_most (suc zero) x = omega arith
-  less_most (suc (suc n)) x = omega arith
-
-  after_most : (h : Cells X) (w c : ℕ) → count_at (after w h) c ≤ count_at h c
-  after_most [] w c = omega arith
-  after_most (None ∷ h) zero zero = omega arith
-  after_most (Some cell ∷ h) zero zero = less_most cell.count cell.content
-  after_most (o ∷ h) zero (suc c) = omega arith
-  after_most (o ∷ h) (suc w) zero = omega arith
-  after_most (o ∷ h) (suc w) (suc c) = after_most h w c
-
-  length-change : (f : Option (Cell X) → Option (Cell X)) (w : ℕ) (h : Cells X) → length (change f w h) ≡ length h
-  length-change f w [] = refl
-  length-change f zero (o ∷ h) = omega arith
-  length-change f (suc w) (o ∷ h) = omega (arith, length-change f w h)
-
-  release_most : (words : X → List ℕ) (n : ℕ) (h : Cells X) (refs : List ℕ) (c : ℕ) → count_at (release_some words n h refs) c ≤ count_at h c
-  release_most words zero h refs c = omega arith
-  release_most words (suc n) h [] c = omega arith
-  release_most words (suc n) h (w ∷ refs) c = omega (arith, release_most words n (after w h) (freed words w h ++ refs) c, after_most h w c)
-
-  length-release : (words : X → List ℕ) (n : ℕ) (h : Cells X) (refs : List ℕ) → length (release_some words n h refs) ≡ length h
-  length-release words zero h refs = refl
-  length-release words (suc n) h [] = refl
-  length-release words (suc n) h (w ∷ refs) = length-release words n (after w h) (freed words w h ++ refs) ∙ length-change lowered w h
-
--- a step on to the next line of the same function, with little more in the cells
+-- a step on to the next line of the same function, and no frame waits
 pub record Advances (s t : MachineState) : Type 0 where
   pub next_place : t.top.place ≡ s.top.place + 1
   pub same_function : t.top.func ≡ s.top.func
   pub alone : t.below ≡ []
-  pub few_cells : length t.cells ≤ length s.cells + 1
-  pub small_counts : (c : ℕ) → count_at t.cells c ≤ count_at s.cells c + 1
 
 abbrev pub AdvancesTo : MachineState → Next → Type 0
 AdvancesTo s (Goes t) = Advances s t
@@ -79,40 +41,20 @@ module _ (s : MachineState) (alone : s.below ≡ []) where
   bad f = tt
 
   on : Advances s (next_line s)
-  on = record { next_place = refl; same_function = refl; alone = alone; few_cells = omega arith; small_counts = λ c. omega arith }
+  on = record { next_place = refl; same_function = refl; alone = alone }
 
-  made_on : (x : Option ℕ) (content : Content) → Advances s (next_line (made_cell true s x content))
-  made_on None content = record {
-    next_place = refl;
-    same_function = refl;
-    alone = alone;
-    few_cells = omega (arith, length-append s.cells (Some (record { count = 1; content = content }) ∷ []));
-    small_counts = λ c. omega (arith, count-make s.cells c content, same_most (length s.cells) c);
-  }
-  made_on (Some x) content = record {
-    next_place = refl;
-    same_function = refl;
-    alone = alone;
-    few_cells = omega (arith, length-append s.cells (Some (record { count = 1; content = content }) ∷ []));
-    small_counts = λ c. omega (arith, count-make s.cells c content, same_most (length s.cells) c);
-  }
+  made_on : (x : Option ℕ) (l : Ledger) (content : Content) → Advances s (next_line (made_cell true s x content (with_ledger l s)))
+  made_on None l content = record { next_place = refl; same_function = refl; alone = alone }
+  made_on (Some x) l content = record { next_place = refl; same_function = refl; alone = alone }
 
-  applied_on : (x : Option ℕ) (e : Effect) → To (applied true s x e)
-  applied_on x Wrong = tt
-  applied_on x (Makes content) = made_on x content
-  applied_on x (Writes text) = record { next_place = refl; same_function = refl; alone = alone; few_cells = omega arith; small_counts = λ c. omega arith }
+  applied_on : (x : Option ℕ) (l : Ledger) (gone : List ℕ) (e : Effect) → To (applied true s x l gone e)
+  applied_on x l gone Wrong = tt
+  applied_on x l gone (Makes content) = made_on x l content
+  applied_on x l gone (Writes text) = record { next_place = refl; same_function = refl; alone = alone }
 
   given_on : (c : ℕ) → To (given_up true s c)
   given_on c =
-      at_content s To bad c _
-      (λ x e. at_taken s To bad c s.top.ledger _
-      (λ l took. record {
-        next_place = refl;
-        same_function = refl;
-        alone = alone;
-        few_cells = omega (arith, length-release refs_in (length (c ∷ []) + weight refs_in s.cells) s.cells (c ∷ []));
-        small_counts = λ d. omega (arith, release_most refs_in (length (c ∷ []) + weight refs_in s.cells) s.cells (c ∷ []) d);
-      }))
+      at_given_up s To bad c (λ l took. record { next_place = refl; same_function = refl; alone = alone })
 
   decremented_on : (w : Word) → To (decremented true s w)
   decremented_on (ShortInt n) = on
@@ -123,37 +65,19 @@ module _ (s : MachineState) (alone : s.below ≡ []) where
   decremented_on FalseObject = on
   decremented_on _ = tt
 
-  raised_ends : (o : Option Content) → To (raised_by true s o)
-  raised_ends (Some (ExcCell class text)) = tt
-  raised_ends _ = tt
-
-  ended_ends : (w : Word) (o : Option ℕ) → To (ended true s w o)
-  ended_ends (CharWord (suc zero)) None = tt
-  ended_ends (CharWord (suc (suc zero))) (Some c) = raised_ends (content_at s.cells c)
-  ended_ends _ _ = tt
-
-  caller_ends : (w : Word) (fs : List Frame) → fs ≡ [] → To (to_caller true s w fs)
-  caller_ends w [] e = ended_ends w s.pending
-  caller_ends w (f ∷ fs) e = absurd (cc)
-
-  left_ends : (w : Word) (l : Ledger) → To (if_none_left true s l (to_caller true s w s.below))
-  left_ends w l = at_none_left s To bad l _ (λ nil. caller_ends w s.below alone)
-
-  result_ends : (w : Word) → To (if_result true s w (λ l. if_none_left true s l (to_caller true s w s.below)))
-  result_ends (BigInt c) = at_content s To bad c _ (λ x e. at_taken s To bad c s.top.ledger _ (λ l took. left_ends (BigInt c) l))
-  result_ends (ObjectCell c) = at_content s To bad c _ (λ x e. at_taken s To bad c s.top.ledger _ (λ l took. left_ends (ObjectCell c) l))
-  result_ends w = left_ends w s.top.ledger
+  return_ends : (w : Word) (fs : List Frame) → fs ≡ [] → To (if_return true s w fs (λ next. if_result true s w (λ l. if_none_left true s l next)))
+  return_ends w [] e = at_ended s To bad w s.pending _ (λ end. at_result s To bad w _ (λ all. tt))
+  return_ends w (f ∷ fs) e = absurd (cc)
 
   step_on : (code : Code) (o : Option Line) → To (step_at true code s o)
   step_on code None = tt
   step_on code (Some (Lit x l)) =
       at_some s To bad fault.Kind (option_and_then (λ k. literal_word k l) (kind_of code s.top x)) _
-      (λ w e. record { next_place = refl; same_function = refl; alone = alone; few_cells = omega arith; small_counts = λ c. omega arith })
+      (λ w e. record { next_place = refl; same_function = refl; alone = alone })
   step_on code (Some (Call x name args)) =
-      at_calm s To bad s.pending _
-      (λ calm. at_some s To bad fault.Kind (primitive_named name) _
-      (λ p e. at_arguments s To bad (row_of p).parameters args _ (λ all. applied_on x (effect p all))))
-  step_on code (Some (Return x)) = at_word s To bad x _ (λ w e. at_order s To bad w s.pending _ (result_ends w))
+      at_some s To bad fault.Kind (primitive_named name) _
+      (λ p e. at_called s To bad code x args p (λ all l left. applied_on x l (stolen (row_of p).parameters all) (effect code s p all)))
+  step_on code (Some (Return x)) = at_word s To bad x _ (λ w e. at_order s To bad w s.pending _ (return_ends w s.below alone))
   step_on code (Some (Dec x)) = at_word s To bad x _ (λ w e. decremented_on w)
 
 -- ---- what is used of a well-formed code: its one function, which has lines
@@ -171,10 +95,10 @@ has_lines : (lines : List Line) → is_leaving (slice_get lines (length lines - 
 has_lines [] e = absurd (cc)
 has_lines (l ∷ lines) e = omega arith
 
-one_function : (code : Code) (fs : List CFunc) → code.funcs ≡ fs → spelled_functions fs ≡ true → list_all function_fits fs ≡ true → OneFunction code
+one_function : (code : Code) (fs : List CFunc) → code.funcs ≡ fs → spelled_functions fs ≡ true → list_all (function_fits code) fs ≡ true → OneFunction code
 one_function code [] e s f = absurd (cc)
 one_function code (g ∷ []) e s f =
-    let fits = (and_true (function_fits g) true f).0 in
+    let fits = (and_true (function_fits code g) true f).0 in
     let rest = (and_true _ _ fits).1 in
     let leaving = (and_true _ _ rest).1 in
     record { g = g; is = e; some_lines = has_lines g.lines leaving }
@@ -182,7 +106,7 @@ one_function code (g ∷ h ∷ fs) e s f = absurd (cc)
 
 one_of : (code : Code) → WellFormed code → OneFunction code
 one_of code wf =
-    let both = and_true (is_spelled code) (list_all function_fits code.funcs) wf in
+    let both = and_true (is_spelled code) (list_all (function_fits code) code.funcs) wf in
     let classes = (and_true (is_empty code.globals) _ both.0).1 in
     let functions = (and_true (is_empty code.classes) _ classes).1 in
     one_function code code.funcs refl functions both.1
@@ -212,14 +136,15 @@ module _ (code : Code) (one : OneFunction code) where
 
   one_step : (k : ℕ) (s t : MachineState) → IsAt k s → step code s ≡ Goes t → (k < length lines) × IsAt (k + 1) t
   one_step k s t at g =
-      let on : Advances s t = subst (AdvancesTo s) g (step_on s at.alone code (line_at code s.top)) in (
+      let on : Advances s t = subst (AdvancesTo s) g (step_on s at.alone code (line_at code s.top)) in
+      let small : IsSmallStep s t = subst (λ next. IsSmallStep s (state_after next)) g (small_step code s) in (
         leaves_a_line s t k (line_at code s.top) (line_is k s at) g,
         record {
           in_module = on.same_function ∙ at.in_module;
           alone = on.alone;
           at_line = on.next_place ∙ ap (λ p. p + 1) at.at_line;
-          few_cells = omega (arith, on.few_cells, at.few_cells);
-          small_counts = λ c. omega (arith, on.small_counts c, at.small_counts c);
+          few_cells = omega (arith, small.few_cells, at.few_cells);
+          small_counts = λ c. omega (arith, small.small_counts c, at.small_counts c);
         },
       )
 

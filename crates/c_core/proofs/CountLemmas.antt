@@ -1,28 +1,13 @@
--- What the small changes of cells and ledgers leave of counts and holders.
-use Rattle.std.proofs.Common.{◌≡◌, ℕ, zero, suc, ◌+◌, ◌≤◌, List, [], ◌∷◌, length, Option, Some, None, refl, sym, ap, subst, arith}
+-- What the small changes of cells leave of counts and holders.
+use Rattle.std.proofs.Common.{◌≡◌, ℕ, zero, suc, ◌+◌, ◌≤◌, List, [], ◌∷◌, length, Some, None, refl, ap, arith}
 use Rattle.c_core.specs.Cells.{Cells, same, times, count_at, content_at, take_one, make}
 use Rattle.c_core.specs.Release.{uses}
-use Rattle.c_core.specs.Step.{keep_or_drop, without}
 
 pub same_one : (d c n : ℕ) → same d c ≡ suc n → d ≡ c
 same_one zero zero n e = refl
 same_one zero (suc c) n e = absurd (omega arith)
 same_one (suc d) zero n e = absurd (omega arith)
 same_one (suc d) (suc c) n e = ap suc (same_one d c n e)
-
-keep_or_drop-times : (k c d : ℕ) (l : List ℕ) (o : Option (List ℕ)) (r : List ℕ) → k ≡ same d c → ((m : List ℕ) → o ≡ Some m → (x : ℕ) → times l x ≡ same c x + times m x) → keep_or_drop k d l o ≡ Some r → (x : ℕ) → times (d ∷ l) x ≡ same c x + times r x
-keep_or_drop-times zero c d l None r k h e x = cc
-keep_or_drop-times zero c d l (Some m) r k h e x =
-    let f : d ∷ m ≡ r = cc in
-    subst (λ z. times (d ∷ l) x ≡ same c x + times z x) f (omega (arith, h m refl x))
-keep_or_drop-times (suc n) c d l o r k h e x =
-    let f : l ≡ r = cc in
-    let same_names = same_one d c n (sym k) in
-    subst (λ z. times (d ∷ l) x ≡ same c x + times z x) f (omega (arith, ap (λ z. same z x) same_names))
-
-pub without-times : (c : ℕ) (l r : List ℕ) → without c l ≡ Some r → (x : ℕ) → times l x ≡ same c x + times r x
-without-times c [] r e x = cc
-without-times c (d ∷ l) r e x = keep_or_drop-times (same d c) c d l (without c l) r refl (λ m h. without-times c l m h) e x
 
 pub same_self : (c : ℕ) → same c c ≡ 1
 same_self zero = refl

@@ -12,7 +12,8 @@ use Rattle.c_core.specs.declared.code.Line.TheVariants.{Lit, Call, Return, Dec}
 use Rattle.c_core.specs.declared.code.CFunc.{CFunc}
 use Rattle.c_core.specs.declared.code.Code.{Code}
 use Rattle.c_core.specs.declared.fault.Fault.TheVariants as fault
-use Rattle.c_core.specs.Step.{Ending, Done, Faulted}
+use Rattle.value_core.specs.Ending.{Done}
+use Rattle.c_core.specs.Step.{MachineEnding, Ended, Faulted}
 use Rattle.c_core.specs.Run.{Stop, machine_run, unchecked_run}
 use Rattle.c_core.specs.Text.{code_text}
 use Rattle.c_core.specs.WellFormed.{function_fits}
@@ -40,21 +41,21 @@ text_of_three : code_text (code_of three) ≡
 unfolding digits
 text_of_three = refl
 
-three_fits : function_fits (module_of three) ≡ true
+three_fits : function_fits (code_of three) (module_of three) ≡ true
 three_fits = refl
 
-abbrev seen : Option Stop → Option (Ending × List ℕ)
+abbrev seen : Option Stop → Option (MachineEnding × List ℕ)
 seen r = option_map (λ stop. (stop.ending, stop.state.output)) r
 
 -- it writes the number and a line feed, whatever the turns
-run_of_three : seen (machine_run 0 Eof (code_of three)) ≡ Some (Done, codes "3\n")
+run_of_three : seen (machine_run 0 Eof (code_of three)) ≡ Some (Ended Done, codes "3\n")
 run_of_three = refl
 
 -- without DECREF the module leaks, but not in an unchecked run; with two of them, or before the write, the cell is gone
 leak : seen (machine_run 0 Eof (code_of (making ∷ writing ∷ ending))) ≡ Some (Faulted fault.Leak, codes "3\n")
 leak = refl
 
-unchecked_leak : seen (unchecked_run 0 Eof (code_of (making ∷ writing ∷ ending))) ≡ Some (Done, codes "3\n")
+unchecked_leak : seen (unchecked_run 0 Eof (code_of (making ∷ writing ∷ ending))) ≡ Some (Ended Done, codes "3\n")
 unchecked_leak = refl
 
 twice : seen (machine_run 0 Eof (code_of (making ∷ writing ∷ Dec 0 ∷ Dec 0 ∷ ending))) ≡ Some (Faulted fault.Dead, codes "3\n")
@@ -62,6 +63,10 @@ twice = refl
 
 too_early : seen (machine_run 0 Eof (code_of (making ∷ Dec 0 ∷ writing ∷ ending))) ≡ Some (Faulted fault.Dead, [])
 too_early = refl
+
+-- a 0 that the module returns is not of the kind that it may return, whatever its ledger still holds
+wrong_and_leaking : seen (machine_run 0 Eof (code_of (making ∷ Lit 1 (Number (pos 0)) ∷ Return 1 ∷ []))) ≡ Some (Faulted fault.Kind, [])
+wrong_and_leaking = refl
 
 -- a variable of objects begins with its error value
 unset : seen (machine_run 0 Eof (code_of (writing ∷ ending))) ≡ Some (Faulted fault.Kind, [])

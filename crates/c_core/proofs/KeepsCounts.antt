@@ -3,7 +3,6 @@ use Rattle.std.proofs.Common.{◌≡◌, refl, ap, subst, ℕ, zero, suc, ◌+�
 use Rattle.std.specs.Prelude.{map}
 use Rattle.std.specs.Option.{option_and_then}
 use Rattle.value_core.specs.Items.{Items}
-use Rattle.c_core.specs.declared.code.CArg.{CArg}
 use Rattle.c_core.specs.declared.code.CArg.TheVariants as arg
 use Rattle.c_core.specs.declared.code.Line.{Line}
 use Rattle.c_core.specs.declared.code.Line.TheVariants.{Lit, Call, Return, Dec}
@@ -14,54 +13,56 @@ use Rattle.c_core.specs.declared.primitive.Prim.{Prim}
 use Rattle.c_core.specs.declared.primitive.Prim.TheVariants.{Str, Io}
 use Rattle.c_core.specs.declared.primitive.StrPrim.TheVariants.{Literal}
 use Rattle.c_core.specs.declared.primitive.IoPrim.TheVariants.{Write}
-use Rattle.c_core.specs.Cells.{same, times, content_at}
-use Rattle.c_core.specs.Machine.{Word, ShortInt, BigInt, CharWord, ObjectCell, NoneObject, TrueObject, FalseObject, Content, StrCell, ExcCell, refs_of, refs_in, set_refs, Ledger, Frame, MachineState}
+use Rattle.c_core.specs.Cells.{times, count_at}
+use Rattle.c_core.specs.Ledgers.{Ledger}
+use Rattle.c_core.specs.Release.{uses, release}
+use Rattle.c_core.specs.Machine.{Word, ShortInt, BigInt, ObjectCell, NoneObject, TrueObject, FalseObject, Content, StrCell, refs_of, refs_in, set_refs, Frame, MachineState}
 use Rattle.c_core.specs.Holders.{pending_refs, owned_below}
 use Rattle.c_core.specs.Primitives.{row_of, primitive_named}
-use Rattle.c_core.specs.Step.{Next, Goes, Ends, Faulted, Argument, Cell, Written, Effect, Wrong, Makes, Writes, effect, with_target, next_line, literal_word, kind_of, applied, made_cell, primitive_step, given_up, decremented, if_content, if_taken, if_result, if_none_left, raised_by, ended, to_caller, step_at, line_at, step}
+use Rattle.c_core.specs.Arguments.{Argument, Cell, Written, stolen}
+use Rattle.c_core.specs.Step.{Next, Goes, Ends, Faulted, Effect, Wrong, Makes, Writes, effect, with_ledger, with_target, next_line, literal_word, kind_of, applied, made_cell, given_up, decremented, if_return, if_result, if_none_left, step_at, line_at, step}
 use Rattle.c_core.specs.Run.{Stop, go_on, start, most_steps}
 use Rattle.c_core.specs.Laws.{IsCounted, IsCountedAfter, Reaches, Here, There, RunKeepsCounts}
-use Rattle.c_core.proofs.ReleaseLemmas.{times-append, release_keeps}
-use Rattle.c_core.proofs.CountLemmas.{without-times, count-make, uses-make}
-use Rattle.c_core.proofs.StepCases.{at_some, at_calm, at_content, at_taken, at_word, at_arguments, at_order, at_none_left}
+use Rattle.c_core.proofs.ReleaseLemmas.{release_keeps}
+use Rattle.c_core.proofs.CountLemmas.{count-make, uses-make}
+use Rattle.c_core.proofs.LedgerLemmas.{more-times, more_of-times}
+use Rattle.c_core.proofs.StepCases.{Leaves, at_some, at_given_up, at_word, at_called, at_order, at_ended, at_result}
 
--- a primitive makes no references: a new cell holds none
-abbrev pub Fair : Effect → Type 0
-Fair Wrong = Unit {0}
-Fair (Makes content) = (c : ℕ) → times (refs_in content) c ≡ 0
-Fair (Writes text) = Unit {0}
+-- a primitive makes no references: a new cell holds what was stolen
+abbrev pub Fair : Effect → List ℕ → Type 0
+Fair Wrong gone = Unit {0}
+Fair (Makes content) gone = (c : ℕ) → times (refs_in content) c ≡ times gone c
+Fair (Writes text) gone = Unit {0}
 
-fair : (p : Prim) (all : List Argument) → Fair (effect p all)
-fair (Str Literal) (Written (arg.Text text) ∷ []) = λ c. refl
-fair (Io Write) (Cell c (StrCell text) ∷ []) = tt
-fair _ _ = tt
+fair : (code : Code) (s : MachineState) (p : Prim) (all : List Argument) → Fair (effect code s p all) (stolen (row_of p).parameters all)
+fair code s (Str Literal) (Written (arg.Text text) ∷ []) = λ c. refl
+fair code s (Io Write) (Cell c (StrCell text) ∷ []) = tt
+fair code s _ _ = tt
 
 module _ (s : MachineState) (ok : IsCounted s) where
   bad : (f : Fault) → IsCountedAfter (Ends (Faulted f) s)
   bad f = ok
 
-  made_kept : (x : Option ℕ) (content : Content) → ((c : ℕ) → times (refs_in content) c ≡ 0) → IsCounted (next_line (made_cell true s x content))
-  made_kept None content none c =
-      omega (arith, ok c, none c, times-append s.top.ledger (length s.cells ∷ []) c, count-make s.cells c content, uses-make refs_in s.cells c content)
-  made_kept (Some x) content none c =
-      omega (arith, ok c, none c, times-append s.top.ledger (length s.cells ∷ []) c, count-make s.cells c content, uses-make refs_in s.cells c content)
+  made_kept : (x : Option ℕ) (l : Ledger) (gone : List ℕ) (content : Content) → Leaves s.top.ledger gone l → ((c : ℕ) → times (refs_in content) c ≡ times gone c) → IsCounted (next_line (made_cell true s x content (with_ledger l s)))
+  made_kept None l gone content left fair c =
+      omega (arith, ok c, left c, fair c, more-times (length s.cells) l c, count-make s.cells c content, uses-make refs_in s.cells c content)
+  made_kept (Some x) l gone content left fair c =
+      omega (arith, ok c, left c, fair c, more-times (length s.cells) l c, count-make s.cells c content, uses-make refs_in s.cells c content)
 
-  applied_kept : (x : Option ℕ) (e : Effect) → Fair e → IsCountedAfter (applied true s x e)
-  applied_kept x Wrong f = ok
-  applied_kept x (Makes content) f = made_kept x content f
-  applied_kept x (Writes text) f = ok
+  -- references that left the ledger are given up
+  all_given : (l : Ledger) (gone : List ℕ) → Leaves s.top.ledger gone l → (d : ℕ) → count_at (release refs_in s.cells gone) d ≡ uses refs_in (release refs_in s.cells gone) d + (times (set_refs s.globals) d + (times (pending_refs s.pending) d + (times l d + owned_below s.below d)))
+  all_given l gone left d =
+      release_keeps refs_in s.cells gone d (times (set_refs s.globals) d + (times (pending_refs s.pending) d + (times l d + owned_below s.below d)))
+      (omega (arith, ok d, left d))
 
-  primitive_kept : (x : Option ℕ) (args : List CArg) (p : Prim) → IsCountedAfter (primitive_step true s x args p)
-  primitive_kept x args p =
-      at_arguments s IsCountedAfter bad (row_of p).parameters args _ (λ all. applied_kept x (effect p all) (fair p all))
+  applied_kept : (x : Option ℕ) (l : Ledger) (gone : List ℕ) (e : Effect) → Leaves s.top.ledger gone l → Fair e gone → IsCountedAfter (applied true s x l gone e)
+  applied_kept x l gone Wrong left f = ok
+  applied_kept x l gone (Makes content) left f = made_kept x l gone content left f
+  applied_kept x l gone (Writes text) left f = λ d. omega (arith, all_given l gone left d)
 
   given_kept : (c : ℕ) → IsCountedAfter (given_up true s c)
   given_kept c =
-      at_content s IsCountedAfter bad c _
-      (λ x e. at_taken s IsCountedAfter bad c s.top.ledger _
-      (λ l took d.
-      let others = times (set_refs s.globals) d + (times (pending_refs s.pending) d + (times l d + owned_below s.below d)) in
-      omega (arith, release_keeps refs_in s.cells (c ∷ []) d others (omega (arith, ok d, without-times c s.top.ledger l took d)))))
+      at_given_up s IsCountedAfter bad c (λ l took d. omega (arith, all_given l (c ∷ []) (λ e. omega (arith, took e)) d))
 
   decremented_kept : (w : Word) → IsCountedAfter (decremented true s w)
   decremented_kept (ShortInt n) = ok
@@ -72,46 +73,24 @@ module _ (s : MachineState) (ok : IsCounted s) where
   decremented_kept FalseObject = ok
   decremented_kept _ = ok
 
-  raised_kept : (o : Option Content) → IsCountedAfter (raised_by true s o)
-  raised_kept (Some (ExcCell class text)) = ok
-  raised_kept _ = ok
-
-  ended_kept : (w : Word) (o : Option ℕ) → IsCountedAfter (ended true s w o)
-  ended_kept (CharWord (suc zero)) None = ok
-  ended_kept (CharWord (suc (suc zero))) (Some c) = raised_kept (content_at s.cells c)
-  ended_kept _ _ = ok
-
   target_kept : (x : Option ℕ) (w : Word) (t : MachineState) → IsCounted t → IsCounted (with_target x w t)
   target_kept None w t k = k
   target_kept (Some x) w t k = k
 
-  -- the ledger is what the returned word refers to, and goes over to the caller
-  caller_kept : (w : Word) (fs : List Frame) → s.below ≡ fs → ((c : ℕ) → times s.top.ledger c ≡ times (refs_of w) c) → IsCountedAfter (to_caller true s w fs)
-  caller_kept w [] e all = ended_kept w s.pending
-  caller_kept w (f ∷ fs) e all =
-      target_kept s.top.into w _ (λ c. omega (arith, ok c, all c, ap (λ b. owned_below b c) e, times-append f.ledger (refs_of w) c))
-
-  left_kept : (w : Word) (l : Ledger) → ((c : ℕ) → times s.top.ledger c ≡ times (refs_of w) c + times l c) → IsCountedAfter (if_none_left true s l (to_caller true s w s.below))
-  left_kept w l all = at_none_left s IsCountedAfter bad l _ (λ nil. caller_kept w s.below refl (λ c. omega (arith, all c, ap (λ r. times r c) nil)))
-
-  taken_kept : (w : Word) (c : ℕ) → ((d : ℕ) → times (refs_of w) d ≡ same c d) → IsCountedAfter (if_content true s c (λ x. if_taken true s c s.top.ledger (λ l. if_none_left true s l (to_caller true s w s.below))))
-  taken_kept w c is =
-      at_content s IsCountedAfter bad c _
-      (λ x e. at_taken s IsCountedAfter bad c s.top.ledger _ (λ l took. left_kept w l (λ d. omega (arith, is d, without-times c s.top.ledger l took d))))
-
-  result_kept : (w : Word) → IsCountedAfter (if_result true s w (λ l. if_none_left true s l (to_caller true s w s.below)))
-  result_kept (BigInt c) = taken_kept (BigInt c) c (λ d. omega arith)
-  result_kept (ObjectCell c) = taken_kept (ObjectCell c) c (λ d. omega arith)
-  result_kept w = left_kept w s.top.ledger (λ c. omega arith)
+  -- what the word refers to goes over to the caller's ledger
+  return_kept : (w : Word) (fs : List Frame) → s.below ≡ fs → IsCountedAfter (if_return true s w fs (λ next. if_result true s w (λ l. if_none_left true s l next)))
+  return_kept w [] e = at_ended s IsCountedAfter bad w s.pending _ (λ end. at_result s IsCountedAfter bad w _ (λ all. ok))
+  return_kept w (f ∷ fs) e =
+      at_result s IsCountedAfter bad w _ (λ all. target_kept s.top.into w _ (λ c. omega (arith, ok c, all c, ap (λ b. owned_below b c) e, more_of-times (refs_of w) f.ledger c)))
 
 step_kept : (s : MachineState) → IsCounted s → (code : Code) (o : Option Line) → IsCountedAfter (step_at true code s o)
 step_kept s ok code None = ok
 step_kept s ok code (Some (Lit x l)) =
     at_some s IsCountedAfter (bad s ok) fault.Kind (option_and_then (λ k. literal_word k l) (kind_of code s.top x)) _ (λ w e. ok)
 step_kept s ok code (Some (Call x name args)) =
-    at_calm s IsCountedAfter (bad s ok) s.pending _
-    (λ calm. at_some s IsCountedAfter (bad s ok) fault.Kind (primitive_named name) _ (λ p e. primitive_kept s ok x args p))
-step_kept s ok code (Some (Return x)) = at_word s IsCountedAfter (bad s ok) x _ (λ w e. at_order s IsCountedAfter (bad s ok) w s.pending _ (result_kept s ok w))
+    at_some s IsCountedAfter (bad s ok) fault.Kind (primitive_named name) _
+    (λ p e. at_called s IsCountedAfter (bad s ok) code x args p (λ all l left. applied_kept s ok x l (stolen (row_of p).parameters all) (effect code s p all) left (fair code s p all)))
+step_kept s ok code (Some (Return x)) = at_word s IsCountedAfter (bad s ok) x _ (λ w e. at_order s IsCountedAfter (bad s ok) w s.pending _ (return_kept s ok w s.below refl))
 step_kept s ok code (Some (Dec x)) = at_word s IsCountedAfter (bad s ok) x _ (λ w e. decremented_kept s ok w)
 
 step_keeps : (code : Code) (s : MachineState) → IsCounted s → IsCountedAfter (step code s)

@@ -1,8 +1,11 @@
 pub mod CountLemmas
+pub mod LedgerLemmas
 pub mod Examples
 pub mod Order
 pub mod ReleaseLemmas
 pub mod KeepsCounts
 pub mod StepCases
+pub mod SmallSteps
 pub mod Bounds
 pub mod WellFormedLemmas
+pub mod NameLemmas

@@ -1,32 +1,11 @@
 -- The order in which references are given up makes no difference.
-use Rattle.std.proofs.Common.{◌≡◌, ℕ, zero, suc, ◌+◌, ◌<◌, ◌≤◌, ◌⊎◌, List, [], ◌∷◌, ◌++◌, length, Option, Some, None, refl, sym, ap, ◌∙◌, inl, inr, ⊎_elim, arith, length-append}
+use Rattle.std.proofs.Common.{◌≡◌, ℕ, zero, suc, ◌+◌, ◌<◌, ◌≤◌, List, [], ◌∷◌, ◌++◌, length, refl, sym, ap, ◌∙◌, arith, length-append}
 use Rattle.c_core.specs.Cells.{Cells, same, times}
 use Rattle.c_core.specs.Release.{after, freed, weight, release_some, release}
-use Rattle.c_core.specs.Step.{keep_or_drop, without}
+use Rattle.c_core.specs.Ledgers.{without}
 use Rattle.c_core.proofs.ReleaseLemmas.{times-append, weight-after}
-use Rattle.c_core.proofs.CountLemmas.{same_one, same_self, without-times}
-
-keep_length : (k d : ℕ) (l r : List ℕ) (o : Option (List ℕ)) → ((m : List ℕ) → o ≡ Some m → length l ≡ 1 + length m) → keep_or_drop k d l o ≡ Some r → length (d ∷ l) ≡ 1 + length r
-keep_length zero d l r None h e = cc
-keep_length zero d l r (Some m) h e = let f : d ∷ m ≡ r = cc in omega (arith, h m refl, ap length f)
-keep_length (suc n) d l r o h e = let f : l ≡ r = cc in omega (arith, ap length f)
-
-pub without-length : (c : ℕ) (l r : List ℕ) → without c l ≡ Some r → length l ≡ 1 + length r
-without-length c [] r e = cc
-without-length c (d ∷ l) r e = keep_length (same d c) d l r (without c l) (λ m. without-length c l m) e
-
-keep_some : (k d : ℕ) (l : List ℕ) (o : Option (List ℕ)) → (1 ≤ k) ⊎ ((m : List ℕ) × (o ≡ Some m)) → (r : List ℕ) × (keep_or_drop k d l o ≡ Some r)
-keep_some zero d l None h = ⊎_elim (λ le. absurd (omega (arith, le))) (λ p. let e : None ≡ Some p.0 = p.1 in absurd (cc)) h
-keep_some zero d l (Some m) h = (d ∷ m, refl)
-keep_some (suc n) d l o h = (l, refl)
-
-same_or_in : (k c d : ℕ) (l : List ℕ) → k ≡ same d c → 1 ≤ times (d ∷ l) c → (1 ≤ times l c → (m : List ℕ) × (without c l ≡ Some m)) → (1 ≤ k) ⊎ ((m : List ℕ) × (without c l ≡ Some m))
-same_or_in zero c d l e le h = inr (h (omega arith))
-same_or_in (suc n) c d l e le h = inl (omega arith)
-
-pub is_in : (c : ℕ) (l : List ℕ) → 1 ≤ times l c → (r : List ℕ) × (without c l ≡ Some r)
-is_in c [] le = absurd (omega arith)
-is_in c (d ∷ l) le = keep_some (same d c) d l (without c l) (same_or_in (same d c) c d l refl le (is_in c l))
+use Rattle.c_core.proofs.CountLemmas.{same_one, same_self}
+use Rattle.c_core.proofs.LedgerLemmas.{without-times, without-length}
 
 module _ {X : Type 0} (refs_in : X → List ℕ) where
   after_swap : (x y : ℕ) (h : Cells X) → same x y ≡ 0 → after y (after x h) ≡ after x (after y h)
@@ -108,15 +87,15 @@ module _ {X : Type 0} (refs_in : X → List ℕ) where
       ih (after x h) (freed refs_in x h ++ xs) (freed refs_in x h ++ ys) alike (omega (arith, length-append (freed refs_in x h) xs)) (omega (arith, length-append (freed refs_in x h) ys))
       ∙ ap (λ z. release_some refs_in m (after z h) (freed refs_in z h ++ ys)) f
   by_names zero m ih h x xs y ys is e le le' =
-      let p = is_in y xs (omega (arith, e y, same_self y)) in
-      let r = p.0 in
-      let len = without-length y xs r p.1 in
+      let in_it : 1 ≤ times xs y = omega (arith, e y, same_self y) in
+      let r = without y xs in
+      let len = without-length y xs in_it in
       let wx = weight-after refs_in h x in
       let wy = weight-after refs_in h y in
       let left : (c : ℕ) → times (freed refs_in x h ++ xs) c ≡ times (y ∷ (freed refs_in x h ++ r)) c =
-      λ c. omega (arith, times-append (freed refs_in x h) xs c, times-append (freed refs_in x h) r c, without-times y xs r p.1 c) in
+      λ c. omega (arith, times-append (freed refs_in x h) xs c, times-append (freed refs_in x h) r c, without-times y xs in_it c) in
       let right : (c : ℕ) → times (x ∷ (freed refs_in y h ++ r)) c ≡ times (freed refs_in y h ++ ys) c =
-      λ c. omega (arith, times-append (freed refs_in y h) ys c, times-append (freed refs_in y h) r c, without-times y xs r p.1 c, e c) in
+      λ c. omega (arith, times-append (freed refs_in y h) ys c, times-append (freed refs_in y h) r c, without-times y xs in_it c, e c) in
       ih (after x h) _ _ left (omega (arith, length-append (freed refs_in x h) xs)) (omega (arith, length-append (freed refs_in x h) r))
       ∙ two_first m ih h x y r (sym is) (omega arith)
       ∙ ih (after y h) _ _ right (omega (arith, length-append (freed refs_in y h) r)) (omega (arith, length-append (freed refs_in y h) ys))

@@ -1,5 +1,5 @@
 -- Giving references up keeps the counts.
-use Rattle.std.proofs.Common.{◌≡◌, ℕ, zero, suc, ◌+◌, ◌≤◌, List, [], ◌∷◌, ◌++◌, length, Some, None, ◌∙◌, arith, length-append}
+use Rattle.std.proofs.Common.{◌≡◌, refl, ℕ, zero, suc, ◌+◌, ◌≤◌, List, [], ◌∷◌, ◌++◌, length, Some, None, ◌∙◌, arith, length-append}
 use Rattle.c_core.specs.Cells.{Cells, same, times, counted, count_at, one_less}
 use Rattle.c_core.specs.Release.{after, inside, let_go, freed, weight, uses, release_some, release}
 
@@ -56,3 +56,11 @@ module _ {X : Type 0} (refs_in : X → List ℕ) where
 
   pub release_keeps : (h : Cells X) (ws : List ℕ) (c k : ℕ) → count_at h c ≡ uses refs_in h c + times ws c + k → count_at (release refs_in h ws) c ≡ uses refs_in (release refs_in h ws) c + k
   release_keeps h ws c k e = release_some_keeps (length ws + weight refs_in h) h ws c k (omega arith) e
+
+  release_some-nothing : (n : ℕ) (h : Cells X) → release_some refs_in n h [] ≡ h
+  release_some-nothing zero h = refl
+  release_some-nothing (suc n) h = refl
+
+  -- nothing is given up
+  pub release-nothing : (h : Cells X) → release refs_in h [] ≡ h
+  release-nothing h = release_some-nothing (0 + weight refs_in h) h

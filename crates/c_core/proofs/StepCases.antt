@@ -1,15 +1,26 @@
 -- What holds of each end of the tests of a step, and of each fault, holds of the whole.
-use Rattle.std.proofs.Common.{◌≡◌, refl, ℕ, Bool, true, false, cond, List, [], ◌∷◌, Option, Some, None}
+use Rattle.std.proofs.Common.{◌≡◌, refl, ap, ℕ, zero, suc, ◌+◌, ◌≤◌, arith, Bool, true, false, cond, List, [], ◌∷◌, ◌++◌, Option, Some, None}
 use Rattle.std.specs.Prelude.{slice_get}
-use Rattle.c_core.specs.declared.code.Kind.TheVariants.{Object}
+use Rattle.c_core.specs.declared.code.Kind.{Kind}
 use Rattle.c_core.specs.declared.code.CArg.{CArg}
 use Rattle.c_core.specs.declared.code.CArg.TheVariants as arg
+use Rattle.c_core.specs.declared.code.Code.{Code}
 use Rattle.c_core.specs.declared.fault.Fault.{Fault}
 use Rattle.c_core.specs.declared.fault.Fault.TheVariants as fault
-use Rattle.c_core.specs.Cells.{content_at}
-use Rattle.c_core.specs.Machine.{Word, ObjectCell, NoneObject, TrueObject, FalseObject, Content, Ledger, MachineState}
-use Rattle.c_core.specs.Primitives.{Parameter, Borrows, TakesText}
-use Rattle.c_core.specs.Step.{Next, Ends, Faulted, Argument, Cell, Plain, Written, without, if_some, if_calm, if_content, if_taken, word_of, if_object, if_argument, if_arguments, if_in_order, if_none_left, is_error, is_both}
+use Rattle.c_core.specs.declared.primitive.Prim.{Prim}
+use Rattle.value_core.specs.Ending.{Ending, Done, Raised}
+use Rattle.c_core.specs.Cells.{same, times, content_at}
+use Rattle.c_core.specs.Ledgers.{Ledger, without}
+use Rattle.c_core.specs.Machine.{Word, BigInt, CharWord, ObjectCell, Content, ExcCell, refs_of, MachineState}
+use Rattle.c_core.specs.Primitives.{KindAt, Holding, Parameter, Borrows, Steals, TakesNumber, TakesText, TakesGlobal, TakesClass, row_of}
+use Rattle.c_core.specs.Arguments.{Argument, Cell, Plain, Written, is_value_of, is_holding, kind_found, stolen_from, stolen}
+use Rattle.c_core.specs.Step.{Next, Goes, Ends, Faulted, effect, if_some, if_calm, if_content, if_any, if_taken, if_true, if_there, if_variable, if_stolen, if_argument, if_arguments, if_may_stand, applied, called, if_thrown, if_ended, word_of, if_in_order, if_result, if_none_left, with_ledger, next_line, given, given_up, is_error, is_both}
+use Rattle.c_core.proofs.ReleaseLemmas.{times-append}
+use Rattle.c_core.proofs.LedgerLemmas.{without-times}
+
+-- what was stolen and the ledger that is left are the ledger from before
+abbrev pub Leaves : Ledger → List ℕ → Ledger → Type 0
+Leaves l gone r = (d : ℕ) → times l d ≡ times gone d + times r d
 
 module _ (s : MachineState) (P : Next → Type 0) (bad : (f : Fault) → P (Ends (Faulted f) s)) where
   pub at_some : {A : Type 0} (f : Fault) (o : Option A) (go : A → Next) → ((a : A) → o ≡ Some a → P (go a)) → P (if_some true s f o go)
@@ -23,28 +34,61 @@ module _ (s : MachineState) (P : Next → Type 0) (bad : (f : Fault) → P (Ends
   pub at_content : (c : ℕ) (go : Content → Next) → ((x : Content) → content_at s.cells c ≡ Some x → P (go x)) → P (if_content true s c go)
   at_content c go h = at_some fault.Dead (content_at s.cells c) go h
 
-  pub at_taken : (c : ℕ) (l : Ledger) (go : Ledger → Next) → ((r : Ledger) → without c l ≡ Some r → P (go r)) → P (if_taken true s c l go)
-  at_taken c l go h = at_some fault.NotOwned (without c l) go h
+  at_any : (n : ℕ) (go : Next) → (1 ≤ n → P go) → P (if_any true s n go)
+  at_any zero go h = bad fault.NotOwned
+  at_any (suc n) go h = h (omega arith)
+
+  pub at_taken : (c : ℕ) (l : Ledger) (go : Ledger → Next) → ((r : Ledger) → ((d : ℕ) → times l d ≡ same c d + times r d) → P (go r)) → P (if_taken true s c l go)
+  at_taken c l go h = at_any (times l c) _ (λ stands. h (without c l) (without-times c l stands))
 
   pub at_word : (x : ℕ) (go : Word → Next) → ((w : Word) → slice_get s.top.vars x ≡ Some w → P (go w)) → P (word_of true s x go)
   at_word x go h = at_some fault.Kind (slice_get s.top.vars x) go h
 
-  pub at_object : (w : Word) (go : Argument → Next) → ((a : Argument) → P (go a)) → P (if_object true s w go)
-  at_object (ObjectCell c) go h = at_content c _ (λ x e. h (Cell c x))
-  at_object NoneObject go h = h (Plain NoneObject)
-  at_object TrueObject go h = h (Plain TrueObject)
-  at_object FalseObject go h = h (Plain FalseObject)
-  at_object _ go h = bad fault.Kind
+  at_true : (b : Bool) (go : Next) → P go → P (if_true true s b go)
+  at_true true go h = h
+  at_true false go h = bad fault.Kind
 
-  at_argument : (p : Parameter) (a : CArg) (go : Argument → Next) → ((x : Argument) → P (go x)) → P (if_argument true s p a go)
-  at_argument (Borrows Object) (arg.Var x) go h = at_word x _ (λ w e. at_object w go h)
-  at_argument TakesText (arg.Text text) go h = h (Written (arg.Text text))
-  at_argument _ _ go h = bad fault.Kind
+  at_there : (w : Word) (go : Argument → Next) → ((a : Argument) → P (go a)) → P (if_there true s w go)
+  at_there (BigInt c) go h = at_content c _ (λ x e. h (Cell c x))
+  at_there (ObjectCell c) go h = at_content c _ (λ x e. h (Cell c x))
+  at_there w go h = h (Plain w)
 
-  pub at_arguments : (ps : List Parameter) (args : List CArg) (go : List Argument → Next) → ((xs : List Argument) → P (go xs)) → P (if_arguments true s ps args go)
-  at_arguments [] [] go h = h []
-  at_arguments (p ∷ ps) (a ∷ rest) go h = at_argument p a _ (λ x. at_arguments ps rest _ (λ xs. h (x ∷ xs)))
-  at_arguments _ _ go h = bad fault.Kind
+  at_variable : (k : Kind) (h : Holding) (x : ℕ) (go : Argument → Next) → ((a : Argument) → P (go a)) → P (if_variable true s k h x go)
+  at_variable k h x go is =
+      at_word x _ (λ w e. at_true (is_value_of k w) _ (at_there w _ (λ a. at_true (is_holding h a) (go a) (is a))))
+
+  at_stolen : (k : KindAt) (h : Holding) (a : Argument) (l : Ledger) (go : Ledger → Next) → ((r : Ledger) → Leaves l (stolen_from (Steals k h) a) r → P (go r)) → P (if_stolen true s a l go)
+  at_stolen k h (Cell c x) l go is = at_taken c l go (λ r took. is r (λ d. omega (arith, took d)))
+  at_stolen k h (Plain w) l go is = is l (λ d. omega arith)
+  at_stolen k h (Written a) l go is = is l (λ d. omega arith)
+
+  at_argument : (code : Code) (p : Parameter) (a : CArg) (earlier : List Argument) (l : Ledger) (go : Argument → Ledger → Next) → ((x : Argument) (r : Ledger) → Leaves l (stolen_from p x) r → P (go x r)) → P (if_argument true s code p a earlier l go)
+  at_argument code (Borrows k h) (arg.Var x) earlier l go is =
+      at_some fault.Kind (kind_found code k earlier) _ (λ kind e. at_variable kind h x _ (λ a. is a l (λ d. omega arith)))
+  at_argument code (Steals k h) (arg.Var x) earlier l go is =
+      at_some fault.Kind (kind_found code k earlier) _ (λ kind e. at_variable kind h x _ (λ a. at_stolen k h a l (go a) (is a)))
+  at_argument code TakesNumber (arg.Number n) earlier l go is = is (Written (arg.Number n)) l (λ d. omega arith)
+  at_argument code TakesText (arg.Text text) earlier l go is = is (Written (arg.Text text)) l (λ d. omega arith)
+  at_argument code TakesGlobal (arg.Global name) earlier l go is = is (Written (arg.Global name)) l (λ d. omega arith)
+  at_argument code TakesClass (arg.Class name) earlier l go is = is (Written (arg.Class name)) l (λ d. omega arith)
+  at_argument code _ _ earlier l go is = bad fault.Kind
+
+  at_arguments : (code : Code) (ps : List Parameter) (args : List CArg) (earlier : List Argument) (l : Ledger) (go : List Argument → Ledger → Next) → ((xs : List Argument) (r : Ledger) → Leaves l (stolen ps xs) r → P (go xs r)) → P (if_arguments true s code ps args earlier l go)
+  at_arguments code [] [] earlier l go is = is [] l (λ d. omega arith)
+  at_arguments code (p ∷ ps) (a ∷ rest) earlier l go is =
+      at_argument code p a earlier l _
+      (λ x r first. at_arguments code ps rest (earlier ++ x ∷ []) r (λ others. go (x ∷ others))
+      (λ xs last others. is (x ∷ xs) last (λ d. omega (arith, first d, others d, times-append (stolen_from p x) (stolen ps xs) d))))
+  at_arguments code _ _ earlier l go is = bad fault.Kind
+
+  at_may_stand : (b : Bool) (go : Next) → P go → P (if_may_stand true s b go)
+  at_may_stand true go h = h
+  at_may_stand false go h = at_calm s.pending go (λ calm. h)
+
+  -- a call of a primitive
+  pub at_called : (code : Code) (x : Option ℕ) (args : List CArg) (p : Prim) → ((all : List Argument) (l : Ledger) → Leaves s.top.ledger (stolen (row_of p).parameters all) l → P (applied true s x l (stolen (row_of p).parameters all) (effect code s p all))) → P (called true s code x args p)
+  at_called code x args p is =
+      at_may_stand (row_of p).while_pending _ (at_arguments code (row_of p).parameters args [] s.top.ledger _ is)
 
   at_choice : (b : Bool) (x y : Next) → P x → P y → P (cond b x y)
   at_choice true x y p q = p
@@ -57,3 +101,31 @@ module _ (s : MachineState) (P : Next → Type 0) (bad : (f : Fault) → P (Ends
   pub at_none_left : (l : Ledger) (go : Next) → (l ≡ [] → P go) → P (if_none_left true s l go)
   at_none_left [] go h = h refl
   at_none_left (c ∷ l) go h = bad fault.Leak
+
+  -- where a word leaves, the ledger is what it refers to
+  abbrev pub IsLeft : Word → Type 0
+  IsLeft w = (c : ℕ) → times s.top.ledger c ≡ times (refs_of w) c
+
+  at_left : (w : Word) (l : Ledger) (next : Next) → ((c : ℕ) → times s.top.ledger c ≡ times (refs_of w) c + times l c) → (IsLeft w → P next) → P (if_none_left true s l next)
+  at_left w l next all h = at_none_left l next (λ nil. h (λ c. omega (arith, all c, ap (λ r. times r c) nil)))
+
+  at_given : (w : Word) (c : ℕ) (next : Next) → ((d : ℕ) → times (refs_of w) d ≡ same c d) → (IsLeft w → P next) → P (if_content true s c (λ x. if_taken true s c s.top.ledger (λ l. if_none_left true s l next)))
+  at_given w c next is h =
+      at_content c _ (λ x e. at_taken c s.top.ledger _ (λ l took. at_left w l next (λ d. omega (arith, is d, took d)) h))
+
+  pub at_result : (w : Word) (next : Next) → (IsLeft w → P next) → P (if_result true s w (λ l. if_none_left true s l next))
+  at_result (BigInt c) next h = at_given (BigInt c) c next (λ d. omega arith) h
+  at_result (ObjectCell c) next h = at_given (ObjectCell c) c next (λ d. omega arith) h
+  at_result w next h = at_left w s.top.ledger next (λ c. omega arith) h
+
+  pub at_given_up : (c : ℕ) → ((l : Ledger) → ((d : ℕ) → times s.top.ledger d ≡ same c d + times l d) → P (Goes (next_line (given true s (c ∷ []) (with_ledger l s))))) → P (given_up true s c)
+  at_given_up c h = at_content c _ (λ x e. at_taken c s.top.ledger (λ l. Goes (next_line (given true s (c ∷ []) (with_ledger l s)))) h)
+
+  at_thrown : (x : Content) (go : Ending → Next) → ((e : Ending) → P (go e)) → P (if_thrown true s x go)
+  at_thrown (ExcCell e) go h = h (Raised e)
+  at_thrown _ go h = bad fault.Kind
+
+  pub at_ended : (w : Word) (o : Option ℕ) (go : Ending → Next) → ((e : Ending) → P (go e)) → P (if_ended true s w o go)
+  at_ended (CharWord (suc zero)) None go h = h Done
+  at_ended (CharWord (suc (suc zero))) (Some c) go h = at_content c _ (λ x e. at_thrown x go h)
+  at_ended _ _ go h = bad fault.Kind

@@ -1,11 +1,14 @@
 pub mod Cells
+pub mod Ledgers
 pub mod Release
 pub mod Machine
 pub mod Holders
 pub mod Primitives
+pub mod Arguments
 pub mod Step
 pub mod Run
 pub mod Stands
+pub mod Agreement
 pub mod Text
 pub mod WellFormed
 pub mod Laws

@@ -1,8 +1,9 @@
 -- The states of the machine that runs the C text.
 use Rattle.std.specs.Prelude.{ℕ, ℤ, List, [], ◌∷◌, ◌++◌, Option, Some, None}
-use Rattle.value_core.specs.declared.exception.ExcClass.{ExcClass}
+use Rattle.value_core.specs.Exceptions.{Thrown}
 use Rattle.value_core.specs.Items.{Items}
 use Rattle.c_core.specs.Cells.{Cells}
+use Rattle.c_core.specs.Ledgers.{Ledger}
 
 -- A word, what a variable, a global or a container's place holds. An `int` is a short number or a counted cell, a
 -- native integer or a `char` its number, an object a counted cell or one of three that have no count. Each kind has
@@ -28,7 +29,7 @@ pub data Content : Type 0 where
   DictCell : (pairs : List (Word × Word)) → Content
   TupleCell : (items : List Word) → Content
   InstCell : (class : ℕ) (attributes : List (Option Word)) → Content
-  ExcCell : (class : ExcClass) (text : List ℕ) → Content
+  ExcCell : (e : Thrown) → Content
 
 -- the references of a word, of words, and of a content: the numbers of the cells that they refer to
 abbrev pub refs_of : Word → List ℕ
@@ -63,11 +64,7 @@ refs_in (ListCell items) = refs items
 refs_in (DictCell pairs) = pair_refs pairs
 refs_in (TupleCell items) = refs items
 refs_in (InstCell class attributes) = set_refs attributes
-refs_in (ExcCell class text) = []
-
--- A ledger: the cells that a frame owns, each as often as it owns it.
-abbrev pub Ledger : Type 0
-Ledger = List ℕ
+refs_in (ExcCell e) = []
 
 -- A call that goes on: the number of its function, the place of its next line, its variables, its ledger, and the
 -- caller's variable for its result, if there is one.

@@ -7,11 +7,11 @@ use Rattle.c_core.specs.declared.code.CFunc.{CFunc}
 use Rattle.c_core.specs.declared.code.Code.{Code}
 use Rattle.std.specs.Prelude.{negsuc}
 use Rattle.c_core.specs.Machine.{Word, TaggedError, Native, CharWord, NoObject, MachineState}
-use Rattle.c_core.specs.Step.{Ending, Next, Goes, Ends, step, unchecked_step}
+use Rattle.c_core.specs.Step.{MachineEnding, Next, Goes, Ends, step, unchecked_step}
 
 -- the state in which a run stopped, and how it ended
 pub record Stop : Type 0 where
-  pub ending : Ending
+  pub ending : MachineEnding
   pub state : MachineState
 
 -- at most k steps, None where the run would go on
@@ -53,6 +53,10 @@ start code n items = record {
 abbrev pub most_lines : List CFunc → ℕ
 most_lines [] = 0
 most_lines (g ∷ gs) = max (length g.lines) (most_lines gs)
+
+-- the greatest number of turns that a run is given: 2 ^ 63 - 1
+abbrev pub most_turns : ℕ
+most_turns = 9223372036854775807
 
 -- more steps than a run for n turns can take
 abbrev pub most_steps : ℕ → Code → ℕ

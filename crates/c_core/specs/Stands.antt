@@ -31,7 +31,7 @@ module _ (s : MachineState) where
     Matches NoneVal w = w ≡ NoneObject
     Matches (StrVal text) w = (c : ℕ) × (w ≡ ObjectCell c) × IsLive c (StrCell text)
     Matches (TupleVal parts) w = (c : ℕ) × (w ≡ ObjectCell c) × ((items : List Word) × IsLive c (TupleCell items) × MatchesParts parts items)
-    Matches (ExcVal class text) w = (c : ℕ) × (w ≡ ObjectCell c) × IsLive c (ExcCell class text)
+    Matches (ExcVal e) w = (c : ℕ) × (w ≡ ObjectCell c) × IsLive c (ExcCell e)
     Matches (ObjVal k) w = (c : ℕ) × (w ≡ ObjectCell c) × (slice_get s.made k ≡ Some c) × ((content : Content) × IsLive c content)
 
     pub MatchesParts : Values → List Word → Type 0

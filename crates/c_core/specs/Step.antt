@@ -2,7 +2,7 @@
 -- later one sees what the earlier ones took from the ledger, and a fault leaves the state as it was before the line.
 use Rattle.std.specs.Prelude.{ℕ, zero, suc, ◌+◌, ◌/◌, ◌%◌, ◌==◌, Bool, true, false, cond, ℤ, pos, negsuc, List, [], ◌∷◌, ◌++◌, length, Option, Some, None, slice_get, slice_set}
 use Rattle.std.specs.Option.{option_and_then, option_map}
-use Rattle.value_core.specs.declared.exception.ExcClass.{ExcClass}
+use Rattle.value_core.specs.Ending.{Ending, Done, Raised}
 use Rattle.c_core.specs.declared.code.Kind.{Kind}
 use Rattle.c_core.specs.declared.code.Kind.TheVariants.{Tagged, Int64, Char, Object}
 use Rattle.c_core.specs.declared.code.CLit.{CLit}
@@ -19,35 +19,22 @@ use Rattle.c_core.specs.declared.primitive.Prim.{Prim}
 use Rattle.c_core.specs.declared.primitive.Prim.TheVariants.{Str, Io}
 use Rattle.c_core.specs.declared.primitive.StrPrim.TheVariants.{Literal}
 use Rattle.c_core.specs.declared.primitive.IoPrim.TheVariants.{Write}
-use Rattle.c_core.specs.Cells.{Cells, same, content_at, make}
+use Rattle.c_core.specs.Cells.{Cells, times, content_at, make}
+use Rattle.c_core.specs.Ledgers.{Ledger, more, more_of, without}
 use Rattle.c_core.specs.Release.{release}
-use Rattle.c_core.specs.Machine.{Word, ShortInt, BigInt, TaggedError, Native, CharWord, ObjectCell, NoneObject, TrueObject, FalseObject, NoObject, Content, StrCell, ExcCell, refs_of, refs_in, Ledger, Frame, MachineState}
-use Rattle.c_core.specs.Primitives.{Parameter, Borrows, TakesText, row_of, primitive_named}
+use Rattle.c_core.specs.Machine.{Word, ShortInt, BigInt, TaggedError, Native, CharWord, ObjectCell, NoneObject, TrueObject, FalseObject, NoObject, Content, StrCell, ExcCell, refs_of, refs_in, Frame, MachineState}
+use Rattle.c_core.specs.Primitives.{Holding, Parameter, Borrows, Steals, TakesNumber, TakesText, TakesGlobal, TakesClass, row_of, primitive_named}
+use Rattle.c_core.specs.Arguments.{Argument, Cell, Plain, Written, is_value_of, is_holding, kind_found, stolen}
 
--- how a run ends: by itself, by an exception that leaves the module, without turns, at an input line that is too far
--- along, at a failed read, or by a fault
-pub data Ending : Type 0 where
-  Done : Ending
-  Raised : (class : ExcClass) (text : List ℕ) → Ending
-  Cut : Ending
-  Over : Ending
-  Broken : Ending
-  Faulted : (f : Fault) → Ending
+-- how a run of the machine ends: as a program of the source does, or by a fault
+pub data MachineEnding : Type 0 where
+  Ended : (e : Ending) → MachineEnding
+  Faulted : (f : Fault) → MachineEnding
 
 -- what a step leads to
 pub data Next : Type 0 where
   Goes : (s : MachineState) → Next
-  Ends : (e : Ending) (s : MachineState) → Next
-
--- the ledger with one reference less, None where it has none: the first of them goes
-abbrev pub keep_or_drop : ℕ → ℕ → Ledger → Option Ledger → Option Ledger
-keep_or_drop zero d l None = None
-keep_or_drop zero d l (Some r) = Some (d ∷ r)
-keep_or_drop (suc n) d l r = Some l
-
-abbrev pub without : ℕ → Ledger → Option Ledger
-without c [] = None
-without c (d ∷ l) = keep_or_drop (same d c) d l (without c l)
+  Ends : (e : MachineEnding) (s : MachineState) → Next
 
 -- parts of a state
 abbrev pub with_cells : Cells Content → MachineState → MachineState
@@ -68,7 +55,7 @@ next_line s = record s { top = record s.top { place = s.top.place + 1 } }
 
 -- the frame owns one reference to c more
 abbrev pub own : ℕ → MachineState → MachineState
-own c s = with_ledger (s.top.ledger ++ c ∷ []) s
+own c s = with_ledger (more c s.top.ledger) s
 
 -- the word of a literal in a variable of this kind; the number of a tagged `int` is twice its value, or 1
 abbrev pub halved : ℤ → Option Word
@@ -104,22 +91,17 @@ abbrev pub is_both : Word → Bool
 is_both (Native (negsuc n)) = n == 112
 is_both _ = false
 
--- an argument as a primitive meets it: the content of an object's cell, or what is written
-pub data Argument : Type 0 where
-  Cell : (c : ℕ) (content : Content) → Argument
-  Plain : (w : Word) → Argument
-  Written : (a : CArg) → Argument
-
--- what a primitive does: it was called wrongly, it makes a cell, or it writes to the output
+-- what a primitive does: it was called wrongly, it makes a cell, whose content takes over what was stolen, or it writes to
+-- the output
 pub data Effect : Type 0 where
   Wrong : Effect
   Makes : (content : Content) → Effect
   Writes : (text : List ℕ) → Effect
 
-abbrev pub effect : Prim → List Argument → Effect
-effect (Str Literal) (Written (arg.Text text) ∷ []) = Makes (StrCell text)
-effect (Io Write) (Cell c (StrCell text) ∷ []) = Writes text
-effect _ _ = Wrong
+abbrev pub effect : Code → MachineState → Prim → List Argument → Effect
+effect code s (Str Literal) (Written (arg.Text text) ∷ []) = Makes (StrCell text)
+effect code s (Io Write) (Cell c (StrCell text) ∷ []) = Writes text
+effect code s _ _ = Wrong
 
 -- the tests, which fault at the state that the line began with. An unchecked run makes no test of ownership, and in it
 -- no cell ever goes
@@ -139,13 +121,13 @@ module _ (is_checked : Bool) (s : MachineState) where
   abbrev pub if_content : ℕ → (Content → Next) → Next
   if_content c go = if_some fault.Dead (content_at s.cells c) go
 
-  -- a reference leaves a ledger
-  abbrev pub or_same : Option Ledger → Ledger → Ledger
-  or_same None l = l
-  or_same (Some r) l = r
+  -- a reference leaves a ledger, in which it is to stand
+  abbrev pub if_any : ℕ → Next → Next
+  if_any zero go = faulted fault.NotOwned
+  if_any (suc n) go = go
 
   abbrev pub if_taken : ℕ → Ledger → (Ledger → Next) → Next
-  if_taken c l go = cond is_checked (if_some fault.NotOwned (without c l) go) (go (or_same (without c l) l))
+  if_taken c l go = cond is_checked (if_any (times l c) (go (without c l))) (go (without c l))
 
   abbrev pub given : List ℕ → MachineState → MachineState
   given refs t = cond is_checked (with_cells (release refs_in t.cells refs) t) t
@@ -153,36 +135,65 @@ module _ (is_checked : Bool) (s : MachineState) where
   abbrev pub word_of : ℕ → (Word → Next) → Next
   word_of x go = if_some fault.Kind (slice_get s.top.vars x) go
 
-  -- an object that is no error value, and for a cell that it is there
-  abbrev pub if_object : Word → (Argument → Next) → Next
-  if_object (ObjectCell c) go = if_content c (λ content. go (Cell c content))
-  if_object NoneObject go = go (Plain NoneObject)
-  if_object TrueObject go = go (Plain TrueObject)
-  if_object FalseObject go = go (Plain FalseObject)
-  if_object _ go = faulted fault.Kind
+  abbrev pub if_true : Bool → Next → Next
+  if_true b go = cond b go (faulted fault.Kind)
 
-  -- the arguments of a primitive from left to right
-  abbrev pub if_argument : Parameter → CArg → (Argument → Next) → Next
-  if_argument (Borrows Object) (arg.Var x) go = word_of x (λ w. if_object w go)
-  if_argument TakesText (arg.Text text) go = go (Written (arg.Text text))
-  if_argument _ _ go = faulted fault.Kind
+  -- the cell of a word is there, if it has one
+  abbrev pub if_there : Word → (Argument → Next) → Next
+  if_there (BigInt c) go = if_content c (λ content. go (Cell c content))
+  if_there (ObjectCell c) go = if_content c (λ content. go (Cell c content))
+  if_there w go = go (Plain w)
 
-  abbrev pub if_arguments : List Parameter → List CArg → (List Argument → Next) → Next
-  if_arguments [] [] go = go []
-  if_arguments (p ∷ ps) (a ∷ rest) go = if_argument p a (λ first. if_arguments ps rest (λ others. go (first ∷ others)))
-  if_arguments _ _ go = faulted fault.Kind
+  -- a variable of a kind, which holds what is asked for
+  abbrev pub if_variable : Kind → Holding → ℕ → (Argument → Next) → Next
+  if_variable k h x go =
+      word_of x (λ w. if_true (is_value_of k w) (if_there w (λ a. if_true (is_holding h a) (go a))))
+
+  -- a stolen cell leaves the ledger
+  abbrev pub if_stolen : Argument → Ledger → (Ledger → Next) → Next
+  if_stolen (Cell c content) l go = if_taken c l go
+  if_stolen a l go = go l
+
+  -- an argument, behind those that were tested before it, and the ledger that is left
+  abbrev pub if_argument : Code → Parameter → CArg → List Argument → Ledger → (Argument → Ledger → Next) → Next
+  if_argument code (Borrows k h) (arg.Var x) earlier l go =
+      if_some fault.Kind (kind_found code k earlier) (λ kind. if_variable kind h x (λ a. go a l))
+  if_argument code (Steals k h) (arg.Var x) earlier l go =
+      if_some fault.Kind (kind_found code k earlier) (λ kind. if_variable kind h x (λ a. if_stolen a l (go a)))
+  if_argument code TakesNumber (arg.Number n) earlier l go = go (Written (arg.Number n)) l
+  if_argument code TakesText (arg.Text text) earlier l go = go (Written (arg.Text text)) l
+  if_argument code TakesGlobal (arg.Global name) earlier l go = go (Written (arg.Global name)) l
+  if_argument code TakesClass (arg.Class name) earlier l go = go (Written (arg.Class name)) l
+  if_argument code _ _ earlier l go = faulted fault.Kind
+
+  -- the arguments from left to right: each is tested whole before the next one is looked at
+  abbrev pub if_arguments : Code → List Parameter → List CArg → List Argument → Ledger → (List Argument → Ledger → Next) → Next
+  if_arguments code [] [] earlier l go = go [] l
+  if_arguments code (p ∷ ps) (a ∷ rest) earlier l go =
+      if_argument code p a earlier l (λ first r. if_arguments code ps rest (earlier ++ first ∷ []) r (λ others. go (first ∷ others)))
+  if_arguments code _ _ earlier l go = faulted fault.Kind
 
   -- a new cell, which the frame owns and the target refers to
-  abbrev pub made_cell : Option ℕ → Content → MachineState
-  made_cell x content = with_target x (ObjectCell (length s.cells)) (own (length s.cells) (with_cells (make content s.cells) s))
+  abbrev pub made_cell : Option ℕ → Content → MachineState → MachineState
+  made_cell x content t = with_target x (ObjectCell (length t.cells)) (own (length t.cells) (with_cells (make content t.cells) t))
 
-  abbrev pub applied : Option ℕ → Effect → Next
-  applied x Wrong = faulted fault.Kind
-  applied x (Makes content) = Goes (next_line (made_cell x content))
-  applied x (Writes text) = Goes (next_line (record s { output = s.output ++ text }))
+  -- l is the ledger that the arguments left, and `gone` what was stolen
+  abbrev pub applied : Option ℕ → Ledger → List ℕ → Effect → Next
+  applied x l gone Wrong = faulted fault.Kind
+  applied x l gone (Makes content) = Goes (next_line (made_cell x content (with_ledger l s)))
+  applied x l gone (Writes text) = Goes (next_line (given gone (with_ledger l (record s { output = s.output ++ text }))))
 
-  abbrev pub primitive_step : Option ℕ → List CArg → Prim → Next
-  primitive_step x args p = if_arguments (row_of p).parameters args (λ all. applied x (effect p all))
+  abbrev pub primitive_step : Code → Option ℕ → List CArg → Prim → Next
+  primitive_step code x args p =
+      if_arguments code (row_of p).parameters args [] s.top.ledger
+      (λ all l. applied x l (stolen (row_of p).parameters all) (effect code s p all))
+
+  -- while an exception is pending only some rows may stand
+  abbrev pub if_may_stand : Bool → Next → Next
+  if_may_stand b go = cond b go (if_calm s.pending go)
+
+  abbrev pub called : Code → Option ℕ → List CArg → Prim → Next
+  called code x args p = if_may_stand (row_of p).while_pending (primitive_step code x args p)
 
   -- a reference is given up; nothing happens for a word without a cell
   abbrev pub given_up : ℕ → Next
@@ -214,22 +225,24 @@ module _ (is_checked : Bool) (s : MachineState) where
   if_none_left (c ∷ l) go = cond is_checked (faulted fault.Leak) go
 
   -- the module itself returns 1, or 2 with an exception that is still pending
-  abbrev pub raised_by : Option Content → Next
-  raised_by (Some (ExcCell class text)) = Ends (Raised class text) s
-  raised_by _ = faulted fault.Kind
+  abbrev pub if_thrown : Content → (Ending → Next) → Next
+  if_thrown (ExcCell e) go = go (Raised e)
+  if_thrown _ go = faulted fault.Kind
 
-  abbrev pub ended : Word → Option ℕ → Next
-  ended (CharWord (suc zero)) None = Ends Done s
-  ended (CharWord (suc (suc zero))) (Some c) = raised_by (content_at s.cells c)
-  ended _ _ = faulted fault.Kind
+  abbrev pub if_ended : Word → Option ℕ → (Ending → Next) → Next
+  if_ended (CharWord (suc zero)) None go = go Done
+  if_ended (CharWord (suc (suc zero))) (Some c) go = if_content c (λ content. if_thrown content go)
+  if_ended _ _ go = faulted fault.Kind
 
-  abbrev pub to_caller : Word → List Frame → Next
-  to_caller w [] = ended w s.pending
-  to_caller w (f ∷ fs) =
-      Goes (with_target s.top.into w (record s { top = record f { ledger = f.ledger ++ refs_of w }; below = fs }))
+  -- what a return leads to: the module's end, or the caller, which owns the reference of the word from then on
+  abbrev pub if_return : Word → List Frame → (Next → Next) → Next
+  if_return w [] go = if_ended w s.pending (λ e. go (Ends (Ended e) s))
+  if_return w (f ∷ fs) go =
+      go (Goes (with_target s.top.into w (record s { top = record f { ledger = more_of (refs_of w) f.ledger }; below = fs })))
 
+  -- the tests of kinds come before those of the ledger
   abbrev pub returned : Word → Next
-  returned w = if_in_order w s.pending (if_result w (λ l. if_none_left l (to_caller w s.below)))
+  returned w = if_in_order w s.pending (if_return w s.below (λ next. if_result w (λ l. if_none_left l next)))
 
 -- the function that a frame runs, the kind of a variable, and the line that comes next
 abbrev pub function_of : Code → Frame → Option CFunc
@@ -246,7 +259,7 @@ step_at b code s None = faulted b s fault.Kind
 step_at b code s (Some (Lit x l)) =
     if_some b s fault.Kind (option_and_then (λ k. literal_word k l) (kind_of code s.top x)) (λ w. Goes (next_line (with_var x w s)))
 step_at b code s (Some (Call x name args)) =
-    if_calm b s s.pending (if_some b s fault.Kind (primitive_named name) (primitive_step b s x args))
+    if_some b s fault.Kind (primitive_named name) (called b s code x args)
 step_at b code s (Some (Return x)) = word_of b s x (returned b s)
 step_at b code s (Some (Dec x)) = word_of b s x (decremented b s)
 

@@ -2,6 +2,7 @@
 use Rattle.std.specs.Prelude.{ℕ, ◌+◌, ◌/◌, ◌%◌, ◌==◌, nat_lt, cond, ◌||◌, List, [], ◌∷◌, ◌++◌, Option, Some, None, codes, flat_map, slice_get}
 use Rattle.std.specs.Fmt.{signed_decimal}
 use Rattle.std.specs.declared.option.Option.{Option}
+use Rattle.value_core.specs.Items.{line_feed}
 use Rattle.c_core.specs.declared.code.Kind.{Kind}
 use Rattle.c_core.specs.declared.code.Kind.TheVariants.{Tagged, Int64, Char, Object}
 use Rattle.c_core.specs.declared.code.CArg.{CArg}
@@ -85,17 +86,47 @@ statement_text vars (Call x name args) =
 statement_text vars (Return x) = codes "return " ++ var_text vars x
 statement_text vars (Dec x) = counter_of (slice_get vars x) ++ (codes "DECREF(" ++ (var_text vars x ++ codes ")"))
 
-abbrev pub line_text : List (List ℕ × Kind) → Line → List ℕ
-line_text vars l = codes "    " ++ (statement_text vars l ++ codes ";\n")
+-- the lines of a text, without their line feeds: of a declaration, and of a statement
+abbrev pub indented : List ℕ → List ℕ
+indented text = codes "    " ++ (text ++ codes ";")
 
 abbrev pub declaration_text : List ℕ × Kind → List ℕ
-declaration_text v = codes "    " ++ (kind_text v.1 ++ (codes "cpy_" ++ (v.0 ++ codes ";\n")))
+declaration_text v = kind_text v.1 ++ (codes "cpy_" ++ v.0)
 
--- the module's own function
-abbrev pub top_text : CFunc → List ℕ
-top_text g =
-    codes "char CPyModule(void) {\n" ++ (flat_map declaration_text g.vars ++ (flat_map (line_text g.vars) g.lines ++ codes "}\n"))
+abbrev pub declaration_lines : List (List ℕ × Kind) → List (List ℕ)
+declaration_lines [] = []
+declaration_lines (v ∷ vars) = indented (declaration_text v) ∷ declaration_lines vars
 
--- the text of a code. Globals, classes and functions beside the module's own are not built: no code that is spelled has them
+abbrev pub statement_lines : List (List ℕ × Kind) → List Line → List (List ℕ)
+statement_lines vars [] = []
+statement_lines vars (l ∷ lines) = indented (statement_text vars l) ∷ statement_lines vars lines
+
+-- the fixed lines: the first of a text, the head of the module's own function, and the end of a function
+abbrev pub first_line : List ℕ
+first_line = codes "/* mypyc subset 1 */"
+
+abbrev pub module_head : List ℕ
+module_head = codes "char CPyModule(void) {"
+
+abbrev pub function_end : List ℕ
+function_end = codes "}"
+
+-- the lines of functions: only the module's own has a text so far
+abbrev pub function_lines : List CFunc → List (List ℕ)
+function_lines [] = []
+function_lines (g ∷ gs) =
+    module_head ∷ (declaration_lines g.vars ++ (statement_lines g.vars g.lines ++ (function_end ∷ function_lines gs)))
+
+-- the lines of a code's text. Globals, classes and functions beside the module's own are not built: no code that is
+-- spelled has them
+abbrev pub code_lines : Code → List (List ℕ)
+code_lines code = first_line ∷ function_lines code.funcs
+
+-- lines as a text: each has its line feed
+abbrev pub text_of : List (List ℕ) → List ℕ
+text_of [] = []
+text_of (line ∷ lines) = line ++ (line_feed ∷ text_of lines)
+
+-- the text of a code
 abbrev pub code_text : Code → List ℕ
-code_text code = codes "/* mypyc subset 1 */\n" ++ flat_map top_text code.funcs
+code_text code = text_of (code_lines code)

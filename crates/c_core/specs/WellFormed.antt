@@ -16,7 +16,8 @@ use Rattle.c_core.specs.declared.code.Line.TheVariants.{Lit, Call, Return, Dec}
 use Rattle.c_core.specs.declared.code.CFunc.{CFunc}
 use Rattle.c_core.specs.declared.code.Code.{Code}
 use Rattle.c_core.specs.declared.primitive.Prim.{Prim}
-use Rattle.c_core.specs.Primitives.{Parameter, Borrows, Steals, TakesNumber, TakesText, TakesGlobal, TakesClass, Outcome, Nothing, Owned, Borrowed, row_of, primitive_named}
+use Rattle.c_core.specs.Primitives.{KindAt, Is, OfGlobal, OfSlot, Parameter, Borrows, Steals, TakesNumber, TakesText, TakesGlobal, TakesClass, Outcome, Nothing, Owned, row_of, primitive_named}
+use Rattle.c_core.specs.Arguments.{kind_of_global}
 use Rattle.c_core.specs.Step.{literal_word}
 
 -- a variable with its name and kind
@@ -128,32 +129,48 @@ abbrev pub literal_fits : CLit → Option Kind → Bool
 literal_fits l None = false
 literal_fits l (Some k) = is_some (literal_word k l)
 
-module _ (vars : List Declared) where
-  -- arguments have the number and the kinds that a row asks for
-  abbrev pub arg_fits : Parameter → CArg → Bool
-  arg_fits (Borrows k) (arg.Var x) = has_kind k (kind_at vars x)
-  arg_fits (Steals k) (arg.Var x) = has_kind k (kind_at vars x)
-  arg_fits TakesNumber (arg.Number n) = true
-  arg_fits TakesText (arg.Text text) = true
-  arg_fits TakesGlobal (arg.Global name) = true
-  arg_fits TakesClass (arg.Class name) = true
-  arg_fits _ _ = false
+-- a kind is the one that is asked for, if one is
+abbrev pub kinds_agree : Option Kind → Option Kind → Bool
+kinds_agree None k = false
+kinds_agree (Some k) l = has_kind k l
 
-  abbrev pub args_fit : List Parameter → List CArg → Bool
-  args_fit [] [] = true
-  args_fit (p ∷ ps) (a ∷ rest) = arg_fits p a && args_fit ps rest
-  args_fit _ _ = false
+-- the kind of the global that a call names first
+abbrev pub named_kind : Code → List CArg → Option Kind
+named_kind code (arg.Global name ∷ rest) = kind_of_global code name
+named_kind code _ = None
+
+-- a variable has the kind that a row of a call with these arguments asks for; the kind of a slot is known only when the
+-- call is run
+abbrev pub kind_fits : Code → List CArg → KindAt → Option Kind → Bool
+kind_fits code args (Is k) l = has_kind k l
+kind_fits code args OfGlobal l = kinds_agree (named_kind code args) l
+kind_fits code args OfSlot l = is_some l
+
+module _ (code : Code) (vars : List Declared) where
+  -- arguments have the number and the kinds that a row asks for, and the globals and classes that they name exist
+  abbrev pub arg_fits : List CArg → Parameter → CArg → Bool
+  arg_fits args (Borrows k h) (arg.Var x) = kind_fits code args k (kind_at vars x)
+  arg_fits args (Steals k h) (arg.Var x) = kind_fits code args k (kind_at vars x)
+  arg_fits args TakesNumber (arg.Number n) = true
+  arg_fits args TakesText (arg.Text text) = true
+  arg_fits args TakesGlobal (arg.Global name) = is_some (kind_of_global code name)
+  arg_fits args TakesClass (arg.Class name) = list_any (λ k. bytes_eq name k.name) code.classes
+  arg_fits args _ _ = false
+
+  abbrev pub args_fit : List CArg → List Parameter → List CArg → Bool
+  args_fit args [] [] = true
+  args_fit args (p ∷ ps) (a ∷ rest) = arg_fits args p a && args_fit args ps rest
+  args_fit args _ _ = false
 
   -- a result may be left without a target; a row without a result has none
-  abbrev pub target_fits : Outcome → Option ℕ → Bool
-  target_fits o None = true
-  target_fits Nothing (Some x) = false
-  target_fits (Owned k) (Some x) = has_kind k (kind_at vars x)
-  target_fits (Borrowed k) (Some x) = has_kind k (kind_at vars x)
+  abbrev pub target_fits : List CArg → Outcome → Option ℕ → Bool
+  target_fits args o None = true
+  target_fits args Nothing (Some x) = false
+  target_fits args (Owned k) (Some x) = kind_fits code args k (kind_at vars x)
 
   abbrev pub call_fits : Option ℕ → List CArg → Option Prim → Bool
   call_fits x args None = false
-  call_fits x args (Some p) = args_fit (row_of p).parameters args && target_fits (row_of p).outcome x
+  call_fits x args (Some p) = args_fit args (row_of p).parameters args && target_fits args (row_of p).outcome x
 
   -- literals, calls and returns have the numbers and kinds that their declarations or rows ask for
   abbrev pub line_fits : Kind → Line → Bool
@@ -167,12 +184,12 @@ abbrev pub is_leaving : Option Line → Bool
 is_leaving (Some (Return x)) = true
 is_leaving _ = false
 
-abbrev pub function_fits : CFunc → Bool
-function_fits g =
-    names_differ (map (λ v. v.0) g.vars) && (list_all (line_fits g.vars g.ret) g.lines && is_leaving (slice_get g.lines (length g.lines - 1)))
+abbrev pub function_fits : Code → CFunc → Bool
+function_fits code g =
+    names_differ (map (λ v. v.0) g.vars) && (list_all (line_fits code g.vars g.ret) g.lines && is_leaving (slice_get g.lines (length g.lines - 1)))
 
 abbrev pub well_formed : Code → Bool
-well_formed code = is_spelled code && list_all function_fits code.funcs
+well_formed code = is_spelled code && list_all (function_fits code) code.funcs
 
 abbrev pub WellFormed : Code → Type 0
 WellFormed code = IsTrue (well_formed code)

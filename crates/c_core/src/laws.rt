@@ -1,5 +1,10 @@
 //! The laws of the machine. Each function is its clause, and does nothing when it runs.
-ghost use Rattle.c_core.specs.Laws.{ReleaseKeepsCounts, ReleaseInAnyOrder, RunExists, RunKeepsCounts, RunStaysSmall};
+ghost use Rattle.c_core.specs.Laws.{LedgersAscend, ReleaseKeepsCounts, ReleaseInAnyOrder, StepStaysSmall, RunExists, RunKeepsCounts, RunStaysSmall};
+
+/// The numbers of a ledger stay in order.
+pub fn ledgers_ascend()
+    ensures { LedgersAscend }
+{}
 
 /// Giving references up keeps every count equal to the number of places that hold the cell.
 pub fn release_keeps_counts()
@@ -9,6 +14,11 @@ pub fn release_keeps_counts()
 /// The order in which references are given up makes no difference.
 pub fn release_in_any_order()
     ensures { ReleaseInAnyOrder }
+{}
+
+/// A step makes at most one cell and raises a count by at most one.
+pub fn step_stays_small()
+    ensures { StepStaysSmall }
 {}
 
 /// Each run of a well-formed code ends.
@@ -21,7 +31,7 @@ pub fn run_keeps_counts()
     ensures { RunKeepsCounts }
 {}
 
-/// A run has a bound of steps, and no number of cells and no count passes the steps that were taken.
+/// A run has a bound of steps, and neither the number of cells ever made nor a count passes the steps that were taken.
 pub fn run_stays_small()
     ensures { RunStaysSmall }
 {}

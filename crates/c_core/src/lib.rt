@@ -6,6 +6,7 @@
 //! are total, and the public calls are exactly them.
 #![tactic(auto)]
 
+mod checked;
 mod code;
 mod fault;
 mod laws;
@@ -14,10 +15,12 @@ mod primitive;
 mod tests;
 mod well_formed;
 
+pub use checked::check_well_formed;
 pub use code::{CArg, CClass, CFunc, CLit, Code, Kind, Line};
 pub use fault::Fault;
 pub use laws::{
-    release_in_any_order, release_keeps_counts, run_exists, run_keeps_counts, run_stays_small,
+    ledgers_ascend, release_in_any_order, release_keeps_counts, run_exists, run_keeps_counts,
+    run_stays_small, step_stays_small,
 };
 pub use primitive::{IoPrim, Prim, StrPrim};
 pub use well_formed::{is_call_name, is_identifier, is_spelled, is_well_formed};

@@ -4,6 +4,7 @@ ghost use Rattle.std.specs.List.{list_all, list_any};
 ghost use Rattle.std.specs.Str.{bytes_eq, is_utf8};
 ghost use Rattle.value_core.specs.Arithmetic.{lies_within};
 ghost use Rattle.c_core.specs.WellFormed as spec;
+ghost use Rattle.c_core.specs.declared.code.Code as declared;
 
 use crate::code::{CArg, CFunc, CLit, Code, Kind, Line};
 use crate::primitive::{IoPrim, Prim, StrPrim};
@@ -15,7 +16,7 @@ use value_core::Name;
 pub fn is_well_formed(code: &Code) -> bool
     ensures { result ≡ spec.well_formed code.now }
 {
-    is_spelled(code) && functions_fit(code.funcs.as_slice())
+    is_spelled(code) && functions_fit(code)
 }
 
 /// Whether a code has a text of which it is the only reading. It takes no memory.
@@ -161,18 +162,21 @@ fn is_other_word(name: &str) -> bool
     )
 }
 
-fn functions_fit(functions: &[CFunc]) -> bool
-    ensures { result ≡ list_all spec.function_fits functions.now }
+fn functions_fit(code: &Code) -> bool
+    ensures { result ≡ list_all (spec.function_fits code.now) code.now.funcs }
 {
-    functions.iter().all(|function| function_fits(function))
+    let functions = code.funcs.as_slice();
+    functions
+        .iter()
+        .all(|function| function_fits(code, function))
 }
 
-fn function_fits(function: &CFunc) -> bool
-    ensures { result ≡ spec.function_fits function.now }
+fn function_fits(code: &Code, function: &CFunc) -> bool
+    ensures { result ≡ spec.function_fits code.now function.now }
 {
     let vars = function.vars.as_slice();
     let lines = function.lines.as_slice();
-    names_differ(vars) && lines_fit(vars, function.ret, lines) && ends_leaving(lines)
+    names_differ(vars) && lines_fit(code, vars, function.ret, lines) && ends_leaving(lines)
 }
 
 fn names_differ(vars: &[(Name, Kind)]) -> bool
@@ -192,13 +196,13 @@ fn is_declared_in(name: &str, vars: &[(Name, Kind)]) -> bool
     vars.iter().any(|var| name == var.0.as_str())
 }
 
-fn lines_fit(vars: &[(Name, Kind)], ret: Kind, lines: &[Line]) -> bool
-    ensures { result ≡ list_all (spec.line_fits vars.now ret) lines.now }
+pub(crate) fn lines_fit(code: &Code, vars: &[(Name, Kind)], ret: Kind, lines: &[Line]) -> bool
+    ensures { result ≡ list_all (spec.line_fits code.now vars.now ret) lines.now }
 {
-    lines.iter().all(|line| line_fits(vars, ret, line))
+    lines.iter().all(|line| line_fits(code, vars, ret, line))
 }
 
-fn ends_leaving(lines: &[Line]) -> bool
+pub(crate) fn ends_leaving(lines: &[Line]) -> bool
     ensures { result ≡ spec.is_leaving (slice_get lines.now (length lines.now - 1)) }
 {
     match lines.last() {
@@ -207,8 +211,8 @@ fn ends_leaving(lines: &[Line]) -> bool
     }
 }
 
-fn line_fits(vars: &[(Name, Kind)], ret: Kind, line: &Line) -> bool
-    ensures { result ≡ spec.line_fits vars.now ret line.now }
+fn line_fits(code: &Code, vars: &[(Name, Kind)], ret: Kind, line: &Line) -> bool
+    ensures { result ≡ spec.line_fits code.now vars.now ret line.now }
 {
     match line {
         Line::Lit(x, literal) => literal_fits(*literal, kind_at(vars, *x)),
@@ -235,7 +239,7 @@ fn literal_fits(literal: CLit, kind: Option<Kind>) -> bool
 }
 
 fn call_fits(vars: &[(Name, Kind)], primitive: Prim, target: Option<usize>, args: &[CArg]) -> bool
-    ensures { result ≡ spec.call_fits vars.now target args.now (Some primitive) }
+    ensures { (code : declared.Code) → result ≡ spec.call_fits code vars.now target args.now (Some primitive) }
 {
     match (primitive, args) {
         (Prim::Str(StrPrim::Literal), [CArg::Text(_)]) => match target {

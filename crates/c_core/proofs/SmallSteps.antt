@@ -1,0 +1,127 @@
+-- Each step makes at most one cell and raises a count by at most one.
+use Rattle.std.proofs.Common.{◌≡◌, refl, ap, ◌∙◌, ℕ, zero, suc, ◌+◌, ◌≤◌, arith, true, List, [], ◌∷◌, ◌++◌, length, length-append, Option, Some, None}
+use Rattle.std.specs.Option.{option_and_then}
+use Rattle.c_core.specs.declared.code.Line.{Line}
+use Rattle.c_core.specs.declared.code.Line.TheVariants.{Lit, Call, Return, Dec}
+use Rattle.c_core.specs.declared.code.Code.{Code}
+use Rattle.c_core.specs.declared.fault.Fault.{Fault}
+use Rattle.c_core.specs.declared.fault.Fault.TheVariants as fault
+use Rattle.c_core.specs.Cells.{Cell, Cells, same, counted, count_at, one_less, change, lowered}
+use Rattle.c_core.specs.Ledgers.{Ledger}
+use Rattle.c_core.specs.Release.{after, freed, weight, release_some, release}
+use Rattle.c_core.specs.Machine.{Word, ShortInt, BigInt, ObjectCell, NoneObject, TrueObject, FalseObject, Content, refs_in, Frame, MachineState}
+use Rattle.c_core.specs.Primitives.{row_of, primitive_named}
+use Rattle.c_core.specs.Arguments.{stolen}
+use Rattle.c_core.specs.Step.{Next, Ends, Faulted, Effect, Wrong, Makes, Writes, effect, with_ledger, with_target, next_line, literal_word, kind_of, applied, made_cell, given_up, decremented, if_return, if_result, if_none_left, step_at, line_at, step}
+use Rattle.c_core.specs.Laws.{state_after, StepStaysSmall}
+use Rattle.c_core.proofs.CountLemmas.{count-make}
+use Rattle.c_core.proofs.StepCases.{at_some, at_given_up, at_word, at_called, at_order, at_ended, at_result}
+
+same_most : (c d : ℕ) → same c d ≤ 1
+same_most zero zero = omega arith
+same_most zero (suc d) = omega arith
+same_most (suc c) zero = omega arith
+same_most (suc c) (suc d) = same_most c d
+
+module _ {X : Type 0} where
+  less_most : (n : ℕ) (x : X) → counted (one_less n x) ≤ n
+  less_most zero x = omega arith
+  less_most (suc zero) x = omega arith
+  less_most (suc (suc n)) x = omega arith
+
+  after_most : (h : Cells X) (w c : ℕ) → count_at (after w h) c ≤ count_at h c
+  after_most [] w c = omega arith
+  after_most (None ∷ h) zero zero = omega arith
+  after_most (Some cell ∷ h) zero zero = less_most cell.count cell.content
+  after_most (o ∷ h) zero (suc c) = omega arith
+  after_most (o ∷ h) (suc w) zero = omega arith
+  after_most (o ∷ h) (suc w) (suc c) = after_most h w c
+
+  length-change : (f : Option (Cell X) → Option (Cell X)) (w : ℕ) (h : Cells X) → length (change f w h) ≡ length h
+  length-change f w [] = refl
+  length-change f zero (o ∷ h) = omega arith
+  length-change f (suc w) (o ∷ h) = omega (arith, length-change f w h)
+
+  release_most : (words : X → List ℕ) (n : ℕ) (h : Cells X) (refs : List ℕ) (c : ℕ) → count_at (release_some words n h refs) c ≤ count_at h c
+  release_most words zero h refs c = omega arith
+  release_most words (suc n) h [] c = omega arith
+  release_most words (suc n) h (w ∷ refs) c = omega (arith, release_most words n (after w h) (freed words w h ++ refs) c, after_most h w c)
+
+  length-release : (words : X → List ℕ) (n : ℕ) (h : Cells X) (refs : List ℕ) → length (release_some words n h refs) ≡ length h
+  length-release words zero h refs = refl
+  length-release words (suc n) h [] = refl
+  length-release words (suc n) h (w ∷ refs) = length-release words n (after w h) (freed words w h ++ refs) ∙ length-change lowered w h
+
+-- at most one cell more, and no count more than one higher
+pub record IsSmallStep (s t : MachineState) : Type 0 where
+  pub few_cells : length t.cells ≤ length s.cells + 1
+  pub small_counts : (c : ℕ) → count_at t.cells c ≤ count_at s.cells c + 1
+
+module _ (s : MachineState) where
+  abbrev To : Next → Type 0
+  To next = IsSmallStep s (state_after next)
+
+  -- the cells are the same
+  same_cells : (t : MachineState) → t.cells ≡ s.cells → IsSmallStep s t
+  same_cells t e = record { few_cells = omega (arith, ap length e); small_counts = λ c. omega (arith, ap (λ h. count_at h c) e) }
+
+  bad : (f : Fault) → To (Ends (Faulted f) s)
+  bad f = same_cells s refl
+
+  made_small : (x : Option ℕ) (l : Ledger) (content : Content) → IsSmallStep s (next_line (made_cell true s x content (with_ledger l s)))
+  made_small None l content = record {
+    few_cells = omega (arith, length-append s.cells (Some (record { count = 1; content = content }) ∷ []));
+    small_counts = λ c. omega (arith, count-make s.cells c content, same_most (length s.cells) c);
+  }
+  made_small (Some x) l content = record {
+    few_cells = omega (arith, length-append s.cells (Some (record { count = 1; content = content }) ∷ []));
+    small_counts = λ c. omega (arith, count-make s.cells c content, same_most (length s.cells) c);
+  }
+
+  released_small : (t : MachineState) (gone : List ℕ) → t.cells ≡ release refs_in s.cells gone → IsSmallStep s t
+  released_small t gone e = record {
+    few_cells = omega (arith, ap length e, length-release refs_in (length gone + weight refs_in s.cells) s.cells gone);
+    small_counts = λ d. omega (arith, ap (λ h. count_at h d) e, release_most refs_in (length gone + weight refs_in s.cells) s.cells gone d);
+  }
+
+  applied_small : (x : Option ℕ) (l : Ledger) (gone : List ℕ) (e : Effect) → To (applied true s x l gone e)
+  applied_small x l gone Wrong = bad fault.Kind
+  applied_small x l gone (Makes content) = made_small x l content
+  applied_small x l gone (Writes text) = released_small _ gone refl
+
+  given_small : (c : ℕ) → To (given_up true s c)
+  given_small c = at_given_up s To bad c (λ l took. released_small _ (c ∷ []) refl)
+
+  decremented_small : (w : Word) → To (decremented true s w)
+  decremented_small (ShortInt n) = same_cells _ refl
+  decremented_small (BigInt c) = given_small c
+  decremented_small (ObjectCell c) = given_small c
+  decremented_small NoneObject = same_cells _ refl
+  decremented_small TrueObject = same_cells _ refl
+  decremented_small FalseObject = same_cells _ refl
+  decremented_small _ = bad fault.Kind
+
+  target_small : (x : Option ℕ) (w : Word) (t : MachineState) → t.cells ≡ s.cells → IsSmallStep s (with_target x w t)
+  target_small None w t e = same_cells t e
+  target_small (Some x) w t e = same_cells _ e
+
+  return_small : (w : Word) (fs : List Frame) → To (if_return true s w fs (λ next. if_result true s w (λ l. if_none_left true s l next)))
+  return_small w [] = at_ended s To bad w s.pending _ (λ end. at_result s To bad w _ (λ all. same_cells s refl))
+  return_small w (f ∷ fs) = at_result s To bad w _ (λ all. target_small s.top.into w _ refl)
+
+  step_small : (code : Code) (o : Option Line) → To (step_at true code s o)
+  step_small code None = bad fault.Kind
+  step_small code (Some (Lit x l)) =
+      at_some s To bad fault.Kind (option_and_then (λ k. literal_word k l) (kind_of code s.top x)) _ (λ w e. same_cells _ refl)
+  step_small code (Some (Call x name args)) =
+      at_some s To bad fault.Kind (primitive_named name) _
+      (λ p e. at_called s To bad code x args p (λ all l left. applied_small x l (stolen (row_of p).parameters all) (effect code s p all)))
+  step_small code (Some (Return x)) = at_word s To bad x _ (λ w e. at_order s To bad w s.pending _ (return_small w s.below))
+  step_small code (Some (Dec x)) = at_word s To bad x _ (λ w e. decremented_small w)
+
+-- the state after a step
+pub small_step : (code : Code) (s : MachineState) → IsSmallStep s (state_after (step code s))
+small_step code s = step_small s code (line_at code s.top)
+
+pub step_stays_small : StepStaysSmall
+step_stays_small code s = let small = small_step code s in (small.few_cells, small.small_counts)
