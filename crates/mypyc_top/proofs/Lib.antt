@@ -7,6 +7,7 @@ pub mod PrintedRun
 pub mod Taken
 pub mod RunLemmas
 pub mod PlanLemmas
+pub mod ReadLemmas
 pub mod RunGaveLemmas
 pub mod MostTurns
 pub mod Statuses

@@ -2,7 +2,8 @@
 use Rattle.std.proofs.Common.{◌≡◌, refl, sym, ◌∙◌, ap, subst, ℕ, Bool, true, false, IsTrue, List, [], ◌∷◌, ◌++◌, append_assoc, Some, Result, Ok, Err, IfOk, ◌⊎◌, inl, inr}
 use Rattle.value_core.specs.Items.{Items, AtEof, AtFailure}
 use Rattle.outside_core.specs.Bytes.{bytes_between}
-use Rattle.c_core.specs.Step.{Ending, Done, Raised, Cut, Over, Broken, Faulted}
+use Rattle.value_core.specs.Ending.{Ending, Done, Raised, Cut, Over, Broken}
+use Rattle.c_core.specs.Step.{MachineEnding, Ended, Faulted}
 use Rattle.c_core.specs.Run.{Stop, machine_run}
 use Rattle.c_runner.specs.declared.report.LiveCell.{LiveCell}
 use Rattle.c_runner.specs.Handing.{has_bytes}
@@ -14,7 +15,7 @@ use Rattle.mypyc_top.specs.declared.running.Rest.{Rest}
 use Rattle.mypyc_top.specs.declared.running.Unfinished.{Unfinished}
 use Rattle.mypyc_top.specs.Output.{output_text}
 use Rattle.mypyc_top.specs.ErrorLines.{memory_line, input_line}
-use Rattle.mypyc_top.specs.Endings.{ending_status}
+use Rattle.mypyc_top.specs.Endings.{ending_status, machine_status}
 use Rattle.mypyc_top.specs.Summary.{cells_left}
 use Rattle.mypyc_top.specs.Replies.{IsReplied, is_run_status}
 use Rattle.mypyc_top.specs.Sinks.{SinkCall, sink_call, Took, TookFront}
@@ -32,9 +33,9 @@ no_bytes : (b : Bool) (text : List ℕ) → b ≡ has_bytes text → text ≡ []
 no_bytes b text is none = is ∙ ap has_bytes none
 
 -- a run that ended, or could not read its input
-pub ended : (program : Program) (stop : Stop) (out : SinkCall) (ending : Ending) (cells : List LiveCell) (r : Result Rest Unfinished) → (IsTrue out.tells → out.after ≡ out.before ++ stop.state.output) → ending ≡ stop.ending → cells ≡ cells_left program.code stop → IfOk r (λ rest. IsRest program.has_summary ending cells rest.reply) → IfOk r (λ rest. stop.state.output ≡ [] → rest.has_output ≡ false) → Finishes program stop out r
+pub ended : (program : Program) (stop : Stop) (out : SinkCall) (ending : MachineEnding) (cells : List LiveCell) (r : Result Rest Unfinished) → (IsTrue out.tells → out.after ≡ out.before ++ stop.state.output) → ending ≡ stop.ending → cells ≡ cells_left program.code stop → IfOk r (λ rest. IsRest program.has_summary ending cells rest.reply) → IfOk r (λ rest. stop.state.output ≡ [] → rest.has_output ≡ false) → Finishes program stop out r
 ended program stop out ending cells (Ok rest) took e l rests has =
-    let P : Ending → Type 0 = λ x. IsRest program.has_summary x cells rest.reply in
+    let P : MachineEnding → Type 0 = λ x. IsRest program.has_summary x cells rest.reply in
     let Q : List LiveCell → Type 0 = λ x. IsRest program.has_summary stop.ending x rest.reply in
     (took, subst Q l (subst P e rests), has)
 ended program stop out ending cells (Err unfinished) took e l rests has = λ h. TakesFront-all out.before out.after stop.state.output (took h)
@@ -43,14 +44,14 @@ pub has_of_report : (stop : Stop) (has : Bool) (r : Result Rest Unfinished) → 
 has_of_report stop has (Ok rest) is same = λ none. same ∙ no_bytes has stop.state.output is none
 has_of_report stop has (Err unfinished) is same = same
 
-nothing_behind : (b : Bool) (cells : List LiveCell) → behind_output b Broken cells ≡ []
+nothing_behind : (b : Bool) (cells : List LiveCell) → behind_output b (Ended Broken) cells ≡ []
 nothing_behind true cells = refl
 nothing_behind false cells = refl
 
 abbrev IsBroken : Rest → Type 0
 IsBroken rest = (output_text rest.reply.out ≡ []) × (rest.reply.err.items ≡ input_line) × (rest.reply.status ≡ status.InputFault)
 
-broken_rest : (b : Bool) (cells : List LiveCell) (r : Result Rest Unfinished) → IfOk r IsBroken → IfOk r (λ rest. IsRest b Broken cells rest.reply)
+broken_rest : (b : Bool) (cells : List LiveCell) (r : Result Rest Unfinished) → IfOk r IsBroken → IfOk r (λ rest. IsRest b (Ended Broken) cells rest.reply)
 broken_rest b cells (Ok rest) p = (p.0 ∙ sym (nothing_behind b cells), p.1, p.2)
 broken_rest b cells (Err unfinished) p = p
 
@@ -58,9 +59,9 @@ broken_has : (stop : Stop) (r : Result Rest Unfinished) → IfOk r (λ rest. res
 broken_has stop (Ok rest) same = λ none. same
 broken_has stop (Err unfinished) same = same
 
-pub broken : (program : Program) (stop : Stop) (out : SinkCall) (r : Result Rest Unfinished) → (IsTrue out.tells → out.after ≡ out.before ++ stop.state.output) → stop.ending ≡ Broken → IfOk r IsBroken → IfOk r (λ rest. rest.has_output ≡ false) → Finishes program stop out r
+pub broken : (program : Program) (stop : Stop) (out : SinkCall) (r : Result Rest Unfinished) → (IsTrue out.tells → out.after ≡ out.before ++ stop.state.output) → stop.ending ≡ Ended Broken → IfOk r IsBroken → IfOk r (λ rest. rest.has_output ≡ false) → Finishes program stop out r
 broken program stop out r took e rests has =
-    ended program stop out Broken (cells_left program.code stop) r took (sym e) refl (broken_rest program.has_summary (cells_left program.code stop) r rests) (broken_has stop r has)
+    ended program stop out (Ended Broken) (cells_left program.code stop) r took (sym e) refl (broken_rest program.has_summary (cells_left program.code stop) r rests) (broken_has stop r has)
 
 -- behind what the output took already
 module _ (tells : Bool) (o0 o1 o2 : List ℕ) (err : SinkCall) (text b l : List ℕ) (s : Status) (took : IsTrue tells → o1 ≡ o0 ++ text) where
@@ -86,12 +87,12 @@ module _ (tells : Bool) (o0 o1 o2 : List ℕ) (err : SinkCall) (text b l : List 
   gave_behind status.InputOver g = (g.0, both g.1, g.2)
   gave_behind status.InputFault g = (g.0, both g.1, g.2)
 
-ending_is_replied : (e : Ending) → IsReplied (ending_status e)
-ending_is_replied Done = refl
-ending_is_replied (Raised class text) = refl
-ending_is_replied Cut = refl
-ending_is_replied Over = refl
-ending_is_replied Broken = refl
+ending_is_replied : (e : MachineEnding) → IsReplied (machine_status e)
+ending_is_replied (Ended Done) = refl
+ending_is_replied (Ended (Raised e)) = refl
+ending_is_replied (Ended Cut) = refl
+ending_is_replied (Ended Over) = refl
+ending_is_replied (Ended Broken) = refl
 ending_is_replied (Faulted f) = refl
 
 pub rest_is_replied : (program : Program) (stop : Stop) (out : SinkCall) (rest : Rest) → Finishes program stop out (Ok rest) → IsReplied rest.reply.status
@@ -150,12 +151,12 @@ no_memory program items stop out err s out0 out1 ErrAlone run f e m alone =
     })
 
 -- the statuses of a program that was run
-run_status_of : (e : Ending) → IsTrue (is_run_status (ending_status e))
-run_status_of Done = refl
-run_status_of (Raised class text) = refl
-run_status_of Cut = refl
-run_status_of Over = refl
-run_status_of Broken = refl
+run_status_of : (e : MachineEnding) → IsTrue (is_run_status (machine_status e))
+run_status_of (Ended Done) = refl
+run_status_of (Ended (Raised e)) = refl
+run_status_of (Ended Cut) = refl
+run_status_of (Ended Over) = refl
+run_status_of (Ended Broken) = refl
 run_status_of (Faulted f) = refl
 
 pub sent_run_status : (program : Program) (stop : Stop) (out : SinkCall) (rest : Rest) (s : Status) → Finishes program stop out (Ok rest) → (s ≡ rest.reply.status) ⊎ (s ≡ status.WriteFault) → IsTrue (is_run_status s)

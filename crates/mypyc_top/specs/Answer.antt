@@ -49,6 +49,11 @@ abbrev pub most_bytes : Emit → ℕ
 most_bytes Runc = 16777216
 most_bytes _ = 262144
 
+-- of the file that the words name
+abbrev pub named_most : Words → ℕ
+named_most Usage = 0
+named_most (Go r) = most_bytes r.emit
+
 abbrev pub success_text : List ℕ
 success_text = codes "Success: no issues found in 1 source file\n"
 

@@ -19,20 +19,12 @@ mod plan;
 mod reading;
 mod reply;
 mod running;
-#[cfg(test)]
-mod running_tests;
 mod sending;
 mod source;
-#[cfg(test)]
-mod source_tests;
 mod status;
 mod summary;
-#[cfg(test)]
-mod tests;
 mod top;
 mod words;
-#[cfg(test)]
-mod words_tests;
 
 pub use laws::{faults_are_one, numbers_are_one};
 pub use status::{Status, status_number};

@@ -1,9 +1,10 @@
-ghost use Rattle.std.specs.Prelude.{◌≡◌, ◌<◌, ◌⊎◌, ℕ, List, Some, false, true, IsTrue};
+ghost use Rattle.std.specs.Prelude.{◌≡◌, ◌+◌, ◌<◌, ◌⊎◌, ℕ, List, Some, false, true, IsTrue};
 ghost use Rattle.value_core.specs.Items.{Items};
+ghost use Rattle.outside_core.specs.Bytes.{GivesAtMost};
 ghost use Rattle.outside_core.specs.Counts.{count_end, has_risen, Rose};
 ghost use Rattle.c_runner.specs.Ran.{AreGiven};
 ghost use Rattle.mypyc_top.specs.Words.{texts, words_of};
-ghost use Rattle.mypyc_top.specs.Answer.{file_meaning, named_content, IsStatus};
+ghost use Rattle.mypyc_top.specs.Answer.{file_meaning, named_content, named_most, IsStatus};
 ghost use Rattle.mypyc_top.specs.Modes.{IsAllowed};
 ghost use Rattle.mypyc_top.specs.Causes.{AbsentOpens, Yields};
 ghost use Rattle.mypyc_top.specs.Sinks.{sink_call};
@@ -58,6 +59,10 @@ pub fn mypyc<F: Files, I: Source, O: Sink, E: Sink>(
         Rose (O.faults out.old) (O.faults out.new) ⊎ Rose (E.faults err.old) (E.faults err.new) }
     ensures input_fault { result ≡ Status.InputFault → Rose (I.faults input.old) (I.faults input.new) }
     ensures input { input.new ≡ input.old }
+    // A file is read to its limit, and one byte further at most, whatever comes of it.
+    ensures read_at_most { (bytes : List ℕ) → IsTrue F.tells → F.is_open files.old ≡ false
+        → named_content (F.content files.old) (texts words.now) ≡ Some bytes → IsTrue (F.is_open files.new)
+        → GivesAtMost (named_most (words_of (texts words.now)) + 1) bytes (F.left files.new) }
     // The status for a file whose bytes the files tell, where no call on them failed.
     ensures by_bytes { (bytes : List ℕ) → IsTrue F.tells → F.faults files.old < count_end
         → named_content (F.content files.old) (texts words.now) ≡ Some bytes
@@ -108,6 +113,9 @@ fn answer<F: Files, I: Source, O: Sink, E: Sink>(
         Rose (O.faults out.old) (O.faults out.new) ⊎ Rose (E.faults err.old) (E.faults err.new) }
     ensures input_fault { result ≡ Status.InputFault → Rose (I.faults input.old) (I.faults input.new) }
     ensures input { input.new ≡ input.old }
+    ensures read_at_most { (bytes : List ℕ) → IsTrue F.tells → F.is_open files.old ≡ false
+        → named_content (F.content files.old) (texts words.now) ≡ Some bytes → IsTrue (F.is_open files.new)
+        → GivesAtMost (named_most (words_of (texts words.now)) + 1) bytes (F.left files.new) }
 {
     match plan_of(alloc, words, files) {
         Ok(Plan::Send(reply)) => send_reply(&reply, false, out, err),

@@ -6,10 +6,10 @@ use Rattle.mypyc_top.proofs.RunLemmas.{module_run, run_can_come}
 use Rattle.mypyc_top.proofs.plan.run_plan.Goals as goal
 
 pub returns-in_ok-code-in-Ok-clause-allowed : goal.returns-in_ok-code-in-Ok-clause-allowed
-returns-in_ok-code-in-Ok-clause-allowed c = λ items stop e.
-    run_can_come (numbers_of (module_tree c.in-Ok.parsed)) c.in_ok-code-in-Ok.code c.args.turns items stop c.in_ok-code-in-Ok.ensures c.requires e
+returns-in_ok-code-in-Ok-clause-allowed c = λ items lines stop e.
+    run_can_come (numbers_of (module_tree c.in-Ok.parsed)) c.in_ok-code-in-Ok.code c.args.turns items stop c.in_ok-code-in-Ok.ensures c.requires lines e
 
 pub returns-in_ok-code-in-Ok-clause-answer : goal.returns-in_ok-code-in-Ok-clause-answer
-returns-in_ok-code-in-Ok-clause-answer c = λ items stop e.
+returns-in_ok-code-in-Ok-clause-answer c = λ items lines stop e.
     good_module Run c.args.file.now c.args.bytes.now (module_tree c.in-Ok.parsed) _ _ _ _ c.in-Ok.ensures.judged c.in-Ok.ensures.module
-    (module_run (numbers_of (module_tree c.in-Ok.parsed)) c.in_ok-code-in-Ok.code c.args.turns items stop c.in_ok-code-in-Ok.ensures c.requires e)
+    (module_run (numbers_of (module_tree c.in-Ok.parsed)) c.in_ok-code-in-Ok.code c.args.turns items stop c.in_ok-code-in-Ok.ensures c.requires lines e)

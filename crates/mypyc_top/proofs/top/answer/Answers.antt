@@ -2,7 +2,7 @@ use Rattle.std.proofs.Common.{refl, sym, append-nil, inl, inr}
 use Rattle.outside_core.specs.Counts.{has_risen}
 use Rattle.c_runner.specs.Ran.{given_items}
 use Rattle.mypyc_top.specs.Output.{output_text}
-use Rattle.mypyc_top.specs.Endings.{ending_status}
+use Rattle.mypyc_top.specs.Endings.{machine_status}
 use Rattle.mypyc_top.specs.Plans.{program_text, program_line}
 use Rattle.mypyc_top.proofs.AllowedLemmas.{sent_is_replied, sent_is_calm}
 use Rattle.mypyc_top.proofs.RunGaveLemmas.{given_lines}
@@ -49,8 +49,8 @@ returns-in-Ok-Run-clause-answer g c = λ tells below.
       inl (record {
         text = program_text program stop;
         lines = program_line program stop;
-        status = ending_status stop.ending;
-        answer = planned tells below r.0 stop r.2.run;
+        status = machine_status stop.ending;
+        answer = planned tells below r.0 r.1.0 stop r.2.run;
         gave = r.2.gave;
         out_alone = r.2.out_alone;
         err_alone = r.2.err_alone;
