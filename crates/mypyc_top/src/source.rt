@@ -3,7 +3,7 @@ ghost use Rattle.std.specs.Prelude.{◌≡◌, true, false, Some, MatchResult, I
 ghost use Rattle.std.specs.Str.{chars, is_utf8};
 ghost use Rattle.py_syntax.specs.Statements.{module_tree};
 ghost use Rattle.py_syntax.specs.Tokens.{EndsOnce};
-ghost use Rattle.py_grammar.specs.Classes.{IsLeftOutAt};
+ghost use Rattle.py_grammar.specs.Terminals.{IsLeftOutAt};
 ghost use Rattle.py_lexer.specs.Tokens.{tokens_of};
 ghost use Rattle.py_grammar.specs.Faults.{IsTree};
 ghost use Rattle.py_parser.specs.Whole.{IsRight};

@@ -1,8 +1,8 @@
 -- What derivations and fronts begin with.
 use Rattle.std.proofs.Common.{◌≡◌, ℕ, ◌≤◌, ◌<◌, Bool, true, false, not, ◌&&◌, ◌||◌, List, [], ◌∷◌, ◌++◌, Option, Some, None, if◌then◌else◌, inl, inr, refl, sym, ◌∙◌, ap, arith, ◌⊎◌}
 use Rattle.py_syntax.specs.declared.token.Token.{Token}
-use Rattle.py_grammar.specs.declared.class.Class.{Class}
-use Rattle.py_grammar.specs.Classes.{class_of, same, among, code, next_in}
+use Rattle.py_grammar.specs.declared.terminal.Terminal.{Terminal}
+use Rattle.py_grammar.specs.Terminals.{terminal_of, same, among, code, next_in}
 use Rattle.py_grammar.specs.Levels.{Limit}
 use Rattle.py_grammar.specs.Grammar.{Part, ◌·◌, maybe, many, after, grown, rhs}
 use Rattle.py_grammar.specs.Actions.{Val}
@@ -40,36 +40,33 @@ pub not_true : (a : Bool) → not a ≡ true → a ≡ false
 not_true true e = cc
 not_true false e = refl
 
-pub same_refl : (c : Class) → same c c ≡ true
-same_refl c = eq-eqb (code c) (code c) refl
+-- ---- sets of terminals
 
--- ---- sets of classes
-
-pub among_left : (c : Class) (xs bs : List Class) → among c xs ≡ true → among c (xs ++ bs) ≡ true
+pub among_left : (c : Terminal) (xs bs : List Terminal) → among c xs ≡ true → among c (xs ++ bs) ≡ true
 among_left c [] bs h = cc
 among_left c (a ∷ xs) bs h = or_cases (same c a) (among c xs) h (or_left _ _) (λ e. or_right (same c a) _ (among_left c xs bs e))
 
-pub among_right : (c : Class) (xs bs : List Class) → among c bs ≡ true → among c (xs ++ bs) ≡ true
+pub among_right : (c : Terminal) (xs bs : List Terminal) → among c bs ≡ true → among c (xs ++ bs) ≡ true
 among_right c [] bs h = h
 among_right c (a ∷ xs) bs h = or_right (same c a) _ (among_right c xs bs h)
 
--- classes with one code are alike to every set
-pub among_same : (c a : Class) (ds : List Class) → same c a ≡ true → among a ds ≡ true → among c ds ≡ true
+-- terminals with one code are alike to every set
+pub among_same : (c a : Terminal) (ds : List Terminal) → same c a ≡ true → among a ds ≡ true → among c ds ≡ true
 among_same c a ds s h = go ds h
   where
     e : code c ≡ code a
     e = eqb-true (code c) (code a) s
 
-    go : (xs : List Class) → among a xs ≡ true → among c xs ≡ true
+    go : (xs : List Terminal) → among a xs ≡ true → among c xs ≡ true
     go [] k = k
     go (d ∷ xs) k = or_cases (same a d) (among a xs) k (λ t. or_left (same c d) _ (ap (λ n. n == code d) e ∙ t)) (λ t. or_right (same c d) _ (go xs t))
 
-pub among_within : (c : Class) (xs ds : List Class) → among c xs ≡ true → within xs ds ≡ true → among c ds ≡ true
+pub among_within : (c : Terminal) (xs ds : List Terminal) → among c xs ≡ true → within xs ds ≡ true → among c ds ≡ true
 among_within c [] ds h w = absurd (cc)
 among_within c (a ∷ xs) ds h w =
     or_cases (same c a) (among c xs) h (λ t. among_same c a ds t (and_left (among a ds) _ w)) (λ t. among_within c xs ds t (and_right (among a ds) _ w))
 
-pub among_apart : (c : Class) (xs ds : List Class) → among c xs ≡ true → among c ds ≡ true → apart xs ds ≡ true → ⊥
+pub among_apart : (c : Terminal) (xs ds : List Terminal) → among c xs ≡ true → among c ds ≡ true → apart xs ds ≡ true → ⊥
 among_apart c [] ds h k w = cc
 among_apart c (a ∷ xs) ds h k w =
     or_cases (same c a) (among c xs) h
@@ -77,32 +74,32 @@ among_apart c (a ∷ xs) ds h k w =
     let yes : among a ds ≡ true = among_same a c ds (flip c a t) k in cc)
     (λ t. among_apart c xs ds t k (and_right (not (among a ds)) _ w))
   where
-    flip : (x y : Class) → same x y ≡ true → same y x ≡ true
+    flip : (x y : Terminal) → same x y ≡ true → same y x ≡ true
     flip x y t = eq-eqb (code y) (code x) (sym (eqb-true (code x) (code y) t))
 
 -- ---- the next token
 
-pub next_left : (o : Option Token) (xs ds : List Class) → next_in o xs ≡ true → next_in o (xs ++ ds) ≡ true
+pub next_left : (o : Option Token) (xs ds : List Terminal) → next_in o xs ≡ true → next_in o (xs ++ ds) ≡ true
 next_left None xs ds h = h
-next_left (Some t) xs ds h = among_left (class_of t.kind) xs ds h
+next_left (Some t) xs ds h = among_left (terminal_of t.kind) xs ds h
 
-pub next_right : (o : Option Token) (xs ds : List Class) → next_in o ds ≡ true → next_in o (xs ++ ds) ≡ true
+pub next_right : (o : Option Token) (xs ds : List Terminal) → next_in o ds ≡ true → next_in o (xs ++ ds) ≡ true
 next_right None xs ds h = h
-next_right (Some t) xs ds h = among_right (class_of t.kind) xs ds h
+next_right (Some t) xs ds h = among_right (terminal_of t.kind) xs ds h
 
-pub next_within : (o : Option Token) (xs ds : List Class) → next_in o xs ≡ true → within xs ds ≡ true → next_in o ds ≡ true
+pub next_within : (o : Option Token) (xs ds : List Terminal) → next_in o xs ≡ true → within xs ds ≡ true → next_in o ds ≡ true
 next_within None xs ds h w = h
-next_within (Some t) xs ds h w = among_within (class_of t.kind) xs ds h w
+next_within (Some t) xs ds h w = among_within (terminal_of t.kind) xs ds h w
 
-pub next_apart : (o : Option Token) (xs ds : List Class) → next_in o xs ≡ true → next_in o ds ≡ true → apart xs ds ≡ true → ⊥
+pub next_apart : (o : Option Token) (xs ds : List Terminal) → next_in o xs ≡ true → next_in o ds ≡ true → apart xs ds ≡ true → ⊥
 next_apart None xs ds h k w = cc
-next_apart (Some t) xs ds h k w = among_apart (class_of t.kind) xs ds h k w
+next_apart (Some t) xs ds h k w = among_apart (terminal_of t.kind) xs ds h k w
 
-pub next_first : (o : Option Token) (b : Bool) (xs ds : List Class) → next_in o xs ≡ true → next_in o (if b then xs ++ ds else xs) ≡ true
+pub next_first : (o : Option Token) (b : Bool) (xs ds : List Terminal) → next_in o xs ≡ true → next_in o (if b then xs ++ ds else xs) ≡ true
 next_first o true xs ds h = next_left o xs ds h
 next_first o false xs ds h = h
 
-pub next_second : (o : Option Token) (b : Bool) (xs ds : List Class) → b ≡ true → next_in o ds ≡ true → next_in o (if b then xs ++ ds else xs) ≡ true
+pub next_second : (o : Option Token) (b : Bool) (xs ds : List Terminal) → b ≡ true → next_in o ds ≡ true → next_in o (if b then xs ++ ds else xs) ≡ true
 next_second o true xs ds e h = next_right o xs ds h
 next_second o false xs ds e h = absurd (cc)
 
@@ -110,8 +107,8 @@ pub true_or_false : (b : Bool) → (b ≡ true) ⊎ (b ≡ false)
 true_or_false true = inl refl
 true_or_false false = inr refl
 
-pub next_one : (ts : List Token) (i : ℕ) (t : Token) (c : Class) → slice_get ts i ≡ Some t → same (class_of t.kind) c ≡ true → next_in (slice_get ts i) (c ∷ []) ≡ true
-next_one ts i t c e h = ap (λ o. next_in o (c ∷ [])) e ∙ or_left (same (class_of t.kind) c) false h
+pub next_one : (ts : List Token) (i : ℕ) (t : Token) (c : Terminal) → slice_get ts i ≡ Some t → same (terminal_of t.kind) c ≡ true → next_in (slice_get ts i) (c ∷ []) ≡ true
+next_one ts i t c e h = ap (λ o. next_in o (c ∷ [])) e ∙ or_left (same (terminal_of t.kind) c) false h
 
 -- ---- derivations
 
@@ -138,10 +135,6 @@ seq_begins ts a b i j k x y = record {
     steps : may_be_empty (a · b) ≡ false → (may_be_empty a ≡ true) ⊎ (may_be_empty a ≡ false) → i < k
     steps f (inr m) = omega (arith, x.solid m, y.le)
     steps f (inl m) = omega (arith, x.le, y.solid (sym (ap (λ t. t && may_be_empty b) m) ∙ f))
-
--- the first of two, where the whole shows what the first shows and may be empty
-front_part : (ts : List Token) (a r : Part) (i j k : ℕ) → Begins ts a i j → may_be_empty a ≡ false → j ≤ k → (next_in (slice_get ts i) (firsts a) ≡ true → next_in (slice_get ts i) (firsts r) ≡ true) → Begins ts r i k
-front_part ts a r i j k x m le tell = record { le = omega (arith, x.le); shows = λ lt. tell (x.shows (x.solid m)); solid = λ f. omega (arith, x.solid m) }
 
 or_false_left : (a b : Bool) → (a || b) ≡ false → a ≡ false
 or_false_left true b e = cc

@@ -1,9 +1,9 @@
 -- Fronts with what may stand behind them, and what reading one token says of them.
 use Rattle.std.proofs.Common.{◌≡◌, ℕ, ◌+◌, ◌-◌, ◌≤◌, ◌<◌, Bool, true, false, ◌&&◌, ◌||◌, List, [], ◌∷◌, ◌++◌, Option, Some, None, Ok, Err, if◌then◌else◌, refl, sym, ◌∙◌, ap, subst, arith}
 use Rattle.py_syntax.specs.declared.token.Token.{Token}
-use Rattle.py_grammar.specs.declared.class.Class.{Class}
+use Rattle.py_grammar.specs.declared.terminal.Terminal.{Terminal}
 use Rattle.py_grammar.specs.declared.place.Place.{Place}
-use Rattle.py_grammar.specs.Classes.{class_of, same, next_in, next_left_out}
+use Rattle.py_grammar.specs.Terminals.{terminal_of, same, next_in, next_left_out}
 use Rattle.py_grammar.specs.Levels.{Limit, free, shallow}
 use Rattle.py_grammar.specs.Grammar.{Part, tok}
 use Rattle.py_grammar.specs.Actions.{Val}
@@ -25,14 +25,14 @@ pub data FrontK (b : Bool) (ts : List Token) (n : ℕ) (r : Part) (i : ℕ) (K :
   inside : Front (limit b) ts n r i → FrontK b ts n r i K
   past : (j : ℕ) (v : Val r) → Derives (limit b) ts r i j v → K v j → FrontK b ts n r i K
 
--- what comes at place j: the front ends there, the next token is of one of the classes, or there is no token
-pub data Follow (ts : List Token) (n j : ℕ) (nx : List Class) : Type 0 where
+-- what comes at place j: the front ends there, the next token is of one of the terminals, or there is no token
+pub data Follow (ts : List Token) (n j : ℕ) (nx : List Terminal) : Type 0 where
   at_end : j ≡ n → Follow ts n j nx
   seen : next_in (slice_get ts j) nx ≡ true → Follow ts n j nx
   over : slice_get ts j ≡ None → Follow ts n j nx
 
--- where K goes on, there comes one of the classes
-abbrev pub Follows : List Token → ℕ → {A : Type 0} → (A → ℕ → Type 0) → List Class → Type 0
+-- where K goes on, there comes one of the terminals
+abbrev pub Follows : List Token → ℕ → {A : Type 0} → (A → ℕ → Type 0) → List Terminal → Type 0
 Follows ts n {A} K nx = (v : A) (j : ℕ) → K v j → Follow ts n j nx
 
 -- a fault of syntax at j says that no front reaches past token j, and with the test a level above 100 that is finished at j
@@ -48,7 +48,7 @@ abbrev pub Excludes : Bool → ℕ → Type 0 → {A : Type 0} → (A → ℕ �
 Excludes b n F K (Ok x) = x.1.at < n → F → ((b && x.1.deep) ≡ false) × K x.0 x.1.at
 Excludes b n F K (Err e) = ExcludesStop b n F e
 
-pub follow_within : (ts : List Token) (n j : ℕ) (xs ds : List Class) → within xs ds ≡ true → Follow ts n j xs → Follow ts n j ds
+pub follow_within : (ts : List Token) (n j : ℕ) (xs ds : List Terminal) → within xs ds ≡ true → Follow ts n j xs → Follow ts n j ds
 follow_within ts n j xs ds w (at_end e) = at_end e
 follow_within ts n j xs ds w (seen e) = seen (next_within (slice_get ts j) xs ds e w)
 follow_within ts n j xs ds w (over e) = over e
@@ -85,20 +85,20 @@ pub late : (b : Bool) (n : ℕ) (F : Type 0) {A : Type 0} (K : A → ℕ → Typ
 late b n F K i (Ok x) l w = λ lt f. w (omega arith) f lt f
 late b n F K i (Err e) l w = late_stop b n F i e l w
 
-pub next_some : (o : Option Token) (e : Bool) (xs ds : List Class) → next_in o xs ≡ true → next_in o (if e then xs ++ ds else xs) ≡ true
+pub next_some : (o : Option Token) (e : Bool) (xs ds : List Terminal) → next_in o xs ≡ true → next_in o (if e then xs ++ ds else xs) ≡ true
 next_some o true xs ds h = next_left o xs ds h
 next_some o false xs ds h = h
 
-pub next_rest : (o : Option Token) (e : Bool) (xs ds : List Class) → e ≡ true → next_in o ds ≡ true → next_in o (if e then xs ++ ds else xs) ≡ true
+pub next_rest : (o : Option Token) (e : Bool) (xs ds : List Terminal) → e ≡ true → next_in o ds ≡ true → next_in o (if e then xs ++ ds else xs) ≡ true
 next_rest o true xs ds e h = next_right o xs ds h
 next_rest o false xs ds e h = absurd (cc)
 
 -- ---- one token
 
-pub derives_tok : (lim : Limit) (ts : List Token) {c : Class} {i j : ℕ} {v : Token} → Derives lim ts (tok c) i j v → (j ≡ i + 1) × (slice_get ts i ≡ Some v)
+pub derives_tok : (lim : Limit) (ts : List Token) {c : Terminal} {i j : ℕ} {v : Token} → Derives lim ts (tok c) i j v → (j ≡ i + 1) × (slice_get ts i ≡ Some v)
 derives_tok lim ts (one c i t e h) = (refl, e)
 
-pub front_tok : (lim : Limit) (ts : List Token) (n : ℕ) {c : Class} {i : ℕ} → Front lim ts n (tok c) i → n ≤ i + 1
+pub front_tok : (lim : Limit) (ts : List Token) (n : ℕ) {c : Terminal} {i : ℕ} → Front lim ts n (tok c) i → n ≤ i + 1
 front_tok lim ts n (empty r) = omega arith
 front_tok lim ts n (whole r i v d) = let e = derives_tok lim ts d in omega (arith, e.0)
 
@@ -106,7 +106,7 @@ pub shown : (b : Bool) (ts : List Token) (n : ℕ) {r : Part} {i : ℕ} {K : Val
 shown b ts n m lt (inside f) = let x = front_begins (limit b) ts n f in x.shows lt
 shown b ts n m lt (past j v d k) = let x = derives_begins (limit b) ts d in x.shows (x.solid m)
 
-module _ (b : Bool) (ts : List Token) (n : ℕ) (c : Class) (K : Token → ℕ → Type 0) (p : Place) (clear : (b && p.deep) ≡ false) where
+module _ (b : Bool) (ts : List Token) (n : ℕ) (c : Terminal) (K : Token → ℕ → Type 0) (p : Place) (clear : (b && p.deep) ≡ false) where
   abbrev F : Type 0
   F = FrontK b ts n (tok c) p.at K
 
@@ -141,6 +141,6 @@ module _ (b : Bool) (ts : List Token) (n : ℕ) (c : Class) (K : Token → ℕ �
       go : (o : Option Token) → slice_get ts p.at ≡ o → Excludes b n F K (accept_one o c p)
       go None e = excludes_refusal None e refl
       go (Some t) e =
-          either_way (Excludes b n F K) (same (class_of t.kind) c) (take_it t p) (Err (refusal (Some t) p.at))
+          either_way (Excludes b n F K) (same (terminal_of t.kind) c) (take_it t p) (Err (refusal (Some t) p.at))
           (λ y. excludes_take t e)
           (λ y. excludes_refusal (Some t) e (ap (λ x. x || false) y))

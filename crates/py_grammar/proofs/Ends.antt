@@ -2,8 +2,8 @@
 use Rattle.std.specs.Prelude.{slice_get, ◌==◌, get_or}
 use Rattle.std.proofs.Common.{◌≡◌, ℕ, ◌+◌, ◌-◌, ◌≤◌, ◌<◌, Bool, true, false, not, ◌&&◌, ◌||◌, List, [], ◌∷◌, Option, Some, None, inl, inr, refl, sym, ◌∙◌, ap, subst, arith, ◌⊎◌, length}
 use Rattle.py_syntax.specs.declared.token.Token.{Token}
-use Rattle.py_grammar.specs.declared.class.Class.{Class}
-use Rattle.py_grammar.specs.Classes.{class_of, same, code, next_in}
+use Rattle.py_grammar.specs.declared.terminal.Terminal.{Terminal}
+use Rattle.py_grammar.specs.Terminals.{terminal_of, same, code, next_in}
 use Rattle.py_grammar.specs.Levels.{Limit}
 use Rattle.py_grammar.specs.Grammar as g
 use Rattle.py_grammar.specs.Grammar.{ExprSym, More, Sym, expr, more, Part, tok, ◌·◌, ◌⊕◌, maybe, many, after, left, grown, rhs, ATOM, MODULE}
@@ -13,7 +13,7 @@ use Rattle.py_syntax.specs.declared.token.TokenKind.{TokenKind}
 use Rattle.py_syntax.specs.declared.token.TokenKind.TheVariants as kind
 use Rattle.py_syntax.specs.Tokens.{EndsOnce}
 use Rattle.py_syntax.proofs.TokenLemmas.{end_is_last, last_is_end, some_token}
-use Rattle.py_grammar.specs.declared.class.Class.TheVariants as class
+use Rattle.py_grammar.specs.declared.terminal.Terminal.TheVariants as terminal
 use Rattle.py_grammar.specs.Grammar.{TESTS, OR_MORE, COMP_MORE, TOP}
 use Rattle.std.proofs.lemmas.Bool.{eqb-true}
 use Rattle.std.proofs.lemmas.Option.{slice_get_cases}
@@ -26,13 +26,13 @@ inner MODULE = false
 inner _ = true
 
 abbrev lacks : Part → Bool
-lacks (tok c) = not (same c class.End)
+lacks (tok c) = not (same c terminal.End)
 lacks (g.sym x) = inner x
 lacks (a · b) = lacks a && lacks b
 lacks (a ⊕ b) = lacks a && lacks b
 lacks (maybe a) = lacks a
 lacks (many a) = lacks a
-lacks (after c a) = not (same c class.End) && lacks a
+lacks (after c a) = not (same c terminal.End) && lacks a
 lacks (left e m) = true
 lacks (grown m v) = true
 
@@ -46,14 +46,14 @@ all_lack COMP_MORE h = refl
 all_lack _ h = refl
 
 abbrev Ends : Option Token → Type 0
-Ends o = next_in o (class.End ∷ []) ≡ true
+Ends o = next_in o (terminal.End ∷ []) ≡ true
 
-one_lacks : (ts : List Token) (i : ℕ) (t : Token) (c : Class) → slice_get ts i ≡ Some t → same (class_of t.kind) c ≡ true → same c class.End ≡ false → Ends (slice_get ts i) → ⊥
+one_lacks : (ts : List Token) (i : ℕ) (t : Token) (c : Terminal) → slice_get ts i ≡ Some t → same (terminal_of t.kind) c ≡ true → same c terminal.End ≡ false → Ends (slice_get ts i) → ⊥
 one_lacks ts i t c e h n x =
-    let is_c : code (class_of t.kind) ≡ code c = eqb-true (code (class_of t.kind)) (code c) h in
-    let y : next_in (Some t) (class.End ∷ []) ≡ true = ap (λ o. next_in o (class.End ∷ [])) (sym e) ∙ x in
-    let z : (same c class.End || false) ≡ true = ap (λ m. (m == code class.End) || false) (sym is_c) ∙ y in
-    let w : (same c class.End || false) ≡ false = ap (λ b. b || false) n in
+    let is_c : code (terminal_of t.kind) ≡ code c = eqb-true (code (terminal_of t.kind)) (code c) h in
+    let y : next_in (Some t) (terminal.End ∷ []) ≡ true = ap (λ o. next_in o (terminal.End ∷ [])) (sym e) ∙ x in
+    let z : (same c terminal.End || false) ≡ true = ap (λ m. (m == code terminal.End) || false) (sym is_c) ∙ y in
+    let w : (same c terminal.End || false) ≡ false = ap (λ b. b || false) n in
     cc
 
 -- no End is among the tokens that are derived from such a part
@@ -71,10 +71,10 @@ derives_lacks lim ts k (present p i j v d) l a b x = derives_lacks lim ts k d l 
 derives_lacks lim ts k (no_more p i) l a b x = absurd (omega arith)
 derives_lacks lim ts k (again p i j m v vs d e) l a b x = split k j (λ y. derives_lacks lim ts k d l a y x) (λ y. derives_lacks lim ts k e l y b x)
 derives_lacks lim ts k (ends c p i) l a b x = absurd (omega arith)
-derives_lacks lim ts k (trails c p i j t d) l a b x = derives_lacks lim ts k d (and_left (not (same c class.End)) _ l) a b x
+derives_lacks lim ts k (trails c p i j t d) l a b x = derives_lacks lim ts k d (and_left (not (same c terminal.End)) _ l) a b x
 derives_lacks lim ts k (goes_on c p i j m n t v vs d e f) l a b x =
-    split k j (λ y. derives_lacks lim ts k d (and_left (not (same c class.End)) _ l) a y x)
-    (λ y. split k m (λ z. derives_lacks lim ts k e (and_right (not (same c class.End)) _ l) y z x) (λ z. derives_lacks lim ts k f l z b x))
+    split k j (λ y. derives_lacks lim ts k d (and_left (not (same c terminal.End)) _ l) a y x)
+    (λ y. split k m (λ z. derives_lacks lim ts k e (and_right (not (same c terminal.End)) _ l) y z x) (λ z. derives_lacks lim ts k f l z b x))
 derives_lacks lim ts k (from_left e m i j n v u d f) l a b x = split k j (λ y. derives_lacks lim ts k d refl a y x) (λ y. derives_lacks lim ts k f refl y b x)
 derives_lacks lim ts k (full m v i) l a b x = absurd (omega arith)
 derives_lacks lim ts k (grows m v u i j n w d h f) l a b x = split k j (λ y. derives_lacks lim ts k d refl a y x) (λ y. derives_lacks lim ts k f refl y b x)
@@ -92,10 +92,10 @@ front_lacks lim ts n k (of_maybe p i f) l a b x = front_lacks lim ts n k f l a b
 front_lacks lim ts n k (in_one p i f) l a b x = front_lacks lim ts n k f l a b x
 front_lacks lim ts n k (in_more p i j v d f) l a b x = split k j (λ y. derives_lacks lim ts k d l a y x) (λ y. front_lacks lim ts n k f l y b x)
 front_lacks lim ts n k (in_item c p i j t d f) l a b x =
-    split k j (λ y. derives_lacks lim ts k d (and_left (not (same c class.End)) _ l) a y x) (λ y. front_lacks lim ts n k f (and_right (not (same c class.End)) _ l) y b x)
+    split k j (λ y. derives_lacks lim ts k d (and_left (not (same c terminal.End)) _ l) a y x) (λ y. front_lacks lim ts n k f (and_right (not (same c terminal.End)) _ l) y b x)
 front_lacks lim ts n k (in_items c p i j m t v d e f) l a b x =
-    split k j (λ y. derives_lacks lim ts k d (and_left (not (same c class.End)) _ l) a y x)
-    (λ y. split k m (λ z. derives_lacks lim ts k e (and_right (not (same c class.End)) _ l) y z x) (λ z. front_lacks lim ts n k f l z b x))
+    split k j (λ y. derives_lacks lim ts k d (and_left (not (same c terminal.End)) _ l) a y x)
+    (λ y. split k m (λ z. derives_lacks lim ts k e (and_right (not (same c terminal.End)) _ l) y z x) (λ z. front_lacks lim ts n k f l z b x))
 front_lacks lim ts n k (in_left e m i f) l a b x = front_lacks lim ts n k f refl a b x
 front_lacks lim ts n k (behind_left e m i j v d f) l a b x = split k j (λ y. derives_lacks lim ts k d refl a y x) (λ y. front_lacks lim ts n k f refl y b x)
 front_lacks lim ts n k (in_growth m v i f) l a b x = front_lacks lim ts n k f refl a b x
@@ -103,13 +103,13 @@ front_lacks lim ts n k (behind_growth m v i j w d h f) l a b x = split k j (λ y
 
 -- ---- the whole list
 
--- a token of the class of the End is one
-is_end : (k : TokenKind) → same (class_of k) class.End ≡ true → k ≡ kind.End
+-- a token of the terminal End is an End
+is_end : (k : TokenKind) → same (terminal_of k) terminal.End ≡ true → k ≡ kind.End
 is_end (kind.Name _) e = absurd (cc)
 is_end (kind.Int _) e = absurd (cc)
 is_end (kind.Str _) e = absurd (cc)
-is_end (kind.Key k) e = absurd (omega (arith, eqb-true (code (class.Key k)) 6 e))
-is_end (kind.Sign s) e = absurd (omega (arith, eqb-true (code (class.Sign s)) 6 e))
+is_end (kind.Key k) e = absurd (omega (arith, eqb-true (code (terminal.Key k)) 6 e))
+is_end (kind.Sign s) e = absurd (omega (arith, eqb-true (code (terminal.Sign s)) 6 e))
 is_end kind.Newline e = absurd (cc)
 is_end kind.Indent e = absurd (cc)
 is_end kind.Dedent e = absurd (cc)
@@ -119,7 +119,7 @@ is_end kind.End e = refl
 pub module_whole : (lim : Limit) (ts : List Token) {i j : ℕ} {v : Sem MODULE} → EndsOnce ts → Derives lim ts (g.sym MODULE) i j v → j ≡ length ts
 module_whole lim ts once (by_rule _ i j v d w) = of_pair d
   where
-    of_tok : {k l : ℕ} {t : Token} → Derives lim ts (tok class.End) k l t → l ≡ length ts
+    of_tok : {k l : ℕ} {t : Token} → Derives lim ts (tok terminal.End) k l t → l ≡ length ts
     of_tok (one _ k t e h) = end_is_last ts once k t e (is_end t.kind h)
 
     of_pair : {k l : ℕ} {u : Val (rhs MODULE)} → Derives lim ts (rhs MODULE) k l u → l ≡ length ts
@@ -130,8 +130,8 @@ last_ends ts once k q = go (slice_get_cases ts k).1
   where
     go : ((x : Token) × (k < length ts) × (slice_get ts k ≡ Some x) × (get_or ts k x ≡ x)) ⊎ ((length ts ≤ k) × (slice_get ts k ≡ None)) → Ends (slice_get ts k)
     go (inl (t, lt, e, _)) =
-        ap (λ o. next_in o (class.End ∷ [])) e
-        ∙ ap (λ s. next_in (Some (record { kind = s; span = t.span })) (class.End ∷ [])) (last_is_end ts once k t e q)
+        ap (λ o. next_in o (terminal.End ∷ [])) e
+        ∙ ap (λ s. next_in (Some (record { kind = s; span = t.span })) (terminal.End ∷ [])) (last_is_end ts once k t e q)
     go (inr (le, e)) = absurd (omega arith)
 
 -- a front of a module that has all tokens is one
@@ -145,9 +145,9 @@ module _ (lim : Limit) (ts : List Token) (once : EndsOnce ts) (n k : ℕ) (last 
   whole_pair z (in_first _ _ i f) = absurd (front_lacks lim ts n k f refl (omega arith) (omega arith) end_at)
   whole_pair z (in_second _ _ i j v d f) = by_tok f d
     where
-      by_tok : {j : ℕ} → Front lim ts n (tok class.End) j → Derives lim ts (many (g.sym TOP)) i j v → (v : Val (rhs MODULE)) × Derives lim ts (rhs MODULE) i n v
+      by_tok : {j : ℕ} → Front lim ts n (tok terminal.End) j → Derives lim ts (many (g.sym TOP)) i j v → (v : Val (rhs MODULE)) × Derives lim ts (rhs MODULE) i n v
       by_tok (empty _) d = absurd (derives_lacks lim ts k d refl (omega arith) (omega arith) end_at)
-      by_tok (whole _ j t e) d = ((v, t), both (many (g.sym TOP)) (tok class.End) i j n v t d e)
+      by_tok (whole _ j t e) d = ((v, t), both (many (g.sym TOP)) (tok terminal.End) i j n v t d e)
 
   whole_module : {i : ℕ} → i ≡ 0 → Front lim ts n (g.sym MODULE) i → (b : Sem MODULE) × Derives lim ts (g.sym MODULE) i n b
   whole_module z (empty _) = absurd (omega arith)

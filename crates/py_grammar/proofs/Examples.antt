@@ -12,7 +12,7 @@ use Rattle.py_syntax.specs.declared.token.TokenKind.TheVariants as kind
 use Rattle.py_syntax.specs.Expressions as e
 use Rattle.py_syntax.specs.Expressions.{ExprTree, ExprNode, expr_then, no_exprs}
 use Rattle.py_syntax.specs.Statements as st
-use Rattle.py_syntax.specs.Statements.{StmtTree, StmtNode, Block, block_of}
+use Rattle.py_syntax.specs.Statements.{StmtTree, StmtNode, suite_of}
 use Rattle.py_grammar.specs.Grammar.{MODULE}
 use Rattle.py_grammar.specs.Reader.{run, reads, start}
 use Rattle.py_grammar.specs.Readings.{reads_sym}
@@ -39,7 +39,7 @@ abbrev stm : ℕ → StmtNode → StmtTree
 stm n node = st.at node (column n)
 
 abbrev program : List StmtTree → Option Came
-program all = Some (tree (block_of all))
+program all = Some (tree (suite_of all))
 
 abbrev a : TokenKind
 a = kind.Name (codes "a")
@@ -119,22 +119,22 @@ unfolding run reads reads_sym
 imports = refl
 
 -- if a: if is no simple statement; an else belongs to the last if of its depth
-ifs : answer (kind.Key k.If ∷ a ∷ sign s.Colon ∷ kind.Newline ∷ kind.Indent ∷ kind.Key k.If ∷ a ∷ sign s.Colon ∷ kind.Key k.Pass ∷ kind.Newline ∷ kind.Dedent ∷ kind.Key k.Else ∷ sign s.Colon ∷ kind.Key k.Break ∷ kind.Newline ∷ kind.End ∷ []) ≡ program (stm 1 (st.If (st.arm_then (name_at 2) (block_of (stm 6 (st.If (st.arm_then (name_at 7) (block_of (stm 9 st.Pass ∷ [])) st.no_arms) st.no_stmts) ∷ [])) st.no_arms) (block_of (stm 14 st.Break ∷ []))) ∷ [])
+ifs : answer (kind.Key k.If ∷ a ∷ sign s.Colon ∷ kind.Newline ∷ kind.Indent ∷ kind.Key k.If ∷ a ∷ sign s.Colon ∷ kind.Key k.Pass ∷ kind.Newline ∷ kind.Dedent ∷ kind.Key k.Else ∷ sign s.Colon ∷ kind.Key k.Break ∷ kind.Newline ∷ kind.End ∷ []) ≡ program (stm 1 (st.If (st.arm_then (name_at 2) (suite_of (stm 6 (st.If (st.arm_then (name_at 7) (suite_of (stm 9 st.Pass ∷ [])) st.no_arms) st.no_stmts) ∷ [])) st.no_arms) (suite_of (stm 14 st.Break ∷ []))) ∷ [])
 unfolding run reads reads_sym
 ifs = refl
 
 -- for a, a in a: continue
-targets : answer (kind.Key k.For ∷ a ∷ sign s.Comma ∷ a ∷ kind.Key k.In ∷ a ∷ sign s.Colon ∷ kind.Key k.Continue ∷ kind.Newline ∷ kind.End ∷ []) ≡ program (stm 1 (st.For (ex 2 (e.TupleOf (expr_then (name_at 2) (expr_then (name_at 4) no_exprs)))) (name_at 6) (block_of (stm 8 st.Continue ∷ []))) ∷ [])
+targets : answer (kind.Key k.For ∷ a ∷ sign s.Comma ∷ a ∷ kind.Key k.In ∷ a ∷ sign s.Colon ∷ kind.Key k.Continue ∷ kind.Newline ∷ kind.End ∷ []) ≡ program (stm 1 (st.For (ex 2 (e.TupleOf (expr_then (name_at 2) (expr_then (name_at 4) no_exprs)))) (name_at 6) (suite_of (stm 8 st.Continue ∷ []))) ∷ [])
 unfolding run reads reads_sym
 targets = refl
 
 -- try: pass, except a as b: pass, finally: pass
-handlers : answer (kind.Key k.Try ∷ sign s.Colon ∷ kind.Key k.Pass ∷ kind.Newline ∷ kind.Key k.Except ∷ a ∷ kind.Key k.As ∷ b ∷ sign s.Colon ∷ kind.Key k.Pass ∷ kind.Newline ∷ kind.Key k.Finally ∷ sign s.Colon ∷ kind.Key k.Pass ∷ kind.Newline ∷ kind.End ∷ []) ≡ program (stm 1 (st.Try (block_of (stm 3 st.Pass ∷ [])) (st.handler_then (Some (name_at 6)) (Some (codes "b")) (block_of (stm 10 st.Pass ∷ [])) (column 5) st.no_handlers) (st.some_block (block_of (stm 14 st.Pass ∷ [])))) ∷ [])
+handlers : answer (kind.Key k.Try ∷ sign s.Colon ∷ kind.Key k.Pass ∷ kind.Newline ∷ kind.Key k.Except ∷ a ∷ kind.Key k.As ∷ b ∷ sign s.Colon ∷ kind.Key k.Pass ∷ kind.Newline ∷ kind.Key k.Finally ∷ sign s.Colon ∷ kind.Key k.Pass ∷ kind.Newline ∷ kind.End ∷ []) ≡ program (stm 1 (st.Try (suite_of (stm 3 st.Pass ∷ [])) (st.handler_then (Some (name_at 6)) (Some (codes "b")) (suite_of (stm 10 st.Pass ∷ [])) (column 5) st.no_handlers) (st.some_suite (suite_of (stm 14 st.Pass ∷ [])))) ∷ [])
 unfolding run reads reads_sym
 handlers = refl
 
 -- @a, def b(a: a,) -> None: pass
-decorated : answer (sign s.At ∷ a ∷ kind.Newline ∷ kind.Key k.Def ∷ b ∷ sign s.LeftParen ∷ a ∷ sign s.Colon ∷ a ∷ sign s.Comma ∷ sign s.RightParen ∷ sign s.Arrow ∷ kind.Key k.Nothing ∷ sign s.Colon ∷ kind.Key k.Pass ∷ kind.Newline ∷ kind.End ∷ []) ≡ program (stm 1 (st.Def (codes "b") ((codes "a", Some (name_at 9)) ∷ []) (Some (ex 13 e.Nothing)) (block_of (stm 15 st.Pass ∷ [])) (name_at 2 ∷ [])) ∷ [])
+decorated : answer (sign s.At ∷ a ∷ kind.Newline ∷ kind.Key k.Def ∷ b ∷ sign s.LeftParen ∷ a ∷ sign s.Colon ∷ a ∷ sign s.Comma ∷ sign s.RightParen ∷ sign s.Arrow ∷ kind.Key k.Nothing ∷ sign s.Colon ∷ kind.Key k.Pass ∷ kind.Newline ∷ kind.End ∷ []) ≡ program (stm 1 (st.Def (codes "b") ((codes "a", Some (name_at 9)) ∷ []) (Some (ex 13 e.Nothing)) (suite_of (stm 15 st.Pass ∷ [])) (name_at 2 ∷ [])) ∷ [])
 unfolding run reads reads_sym
 decorated = refl
 

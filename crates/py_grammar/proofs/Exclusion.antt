@@ -1,7 +1,7 @@
 -- No front reaches past a fault that was read.
 use Rattle.std.proofs.Common.{◌≡◌, ℕ, zero, suc, ◌<◌, Bool, true, false, not, ◌&&◌, ◌||◌, List, [], ◌∷◌, ◌++◌, Option, Some, None, Ok, Err, if◌then◌else◌, inl, inr, refl, arith, ◌⊎◌}
 use Rattle.py_syntax.specs.declared.token.Token.{Token}
-use Rattle.py_grammar.specs.declared.class.Class.{Class}
+use Rattle.py_grammar.specs.declared.terminal.Terminal.{Terminal}
 use Rattle.py_grammar.specs.declared.place.Place.{Place}
 use Rattle.py_grammar.specs.Levels.{Piece, Limit, shallow}
 use Rattle.py_grammar.specs.Grammar as g
@@ -21,7 +21,7 @@ use Rattle.py_grammar.proofs.Unfolding.{rest_follow, to_rule, to_two, mark_clear
 
 module _ (b : Bool) (ts : List Token) (n : ℕ) (run : Reader)
     (lat : (r : Part) (p : Place) → Later p.at (run r p))
-    (ih : (r : Part) (nx : List Class) (K : Val r → ℕ → Type 0) → Follows ts n K nx → decided r nx ≡ true → (p : Place) → (b && p.deep) ≡ false → Excludes b n (FrontK b ts n r p.at K) K (run r p)) where
+    (ih : (r : Part) (nx : List Terminal) (K : Val r → ℕ → Type 0) → Follows ts n K nx → decided r nx ≡ true → (p : Place) → (b && p.deep) ≡ false → Excludes b n (FrontK b ts n r p.at K) K (run r p)) where
   lim : Limit
   lim = limit b
 
@@ -36,7 +36,7 @@ module _ (b : Bool) (ts : List Token) (n : ℕ) (run : Reader)
       (λ e l. l) (lat a p)
 
   -- two in a row
-  excludes_two : (a c : Part) {C : Type 0} (h : Val a → Val c → C) (K : C → ℕ → Type 0) (na nc : List Class) (F : Type 0) (p : Place)
+  excludes_two : (a c : Part) {C : Type 0} (h : Val a → Val c → C) (K : C → ℕ → Type 0) (na nc : List Terminal) (F : Type 0) (p : Place)
       → Follows ts n {A = Val a} (λ v j. FrontK b ts n c j (λ w l. K (h v w) l)) na → decided a na ≡ true
       → ((v : Val a) → Follows ts n {A = Val c} (λ w l. K (h v w) l) nc) → decided c nc ≡ true
       → (b && p.deep) ≡ false
@@ -55,7 +55,7 @@ module _ (b : Bool) (ts : List Token) (n : ℕ) (run : Reader)
       Fa : Type 0
       Fa = FrontK b ts n a p.at Ka
 
-  excludes_sym : (s : Sym) (nx : List Class) (K : Sem s → ℕ → Type 0) → Follows ts n K nx → within nx (follow s) ≡ true → (p : Place) → (b && p.deep) ≡ false
+  excludes_sym : (s : Sym) (nx : List Terminal) (K : Sem s → ℕ → Type 0) → Follows ts n K nx → within nx (follow s) ≡ true → (p : Place) → (b && p.deep) ≡ false
       → Excludes b n (FrontK b ts n (g.sym s) p.at K) K (step keep_all ts run (g.sym s) p)
   excludes_sym s nx K fo de p clear =
       bound (Excludes b n Fr Kr) (Excludes b n (FrontK b ts n (g.sym s) p.at K) K) (λ x. Ok (act s x.0, mark (admits shallow s (act s x.0)) x.1)) (run (rhs s) p)
@@ -69,7 +69,7 @@ module _ (b : Bool) (ts : List Token) (n : ℕ) (run : Reader)
       Fr : Type 0
       Fr = FrontK b ts n (rhs s) p.at Kr
 
-  excludes_pair : (a c : Part) (nx : List Class) (K : Val a × (Val c) → ℕ → Type 0) → Follows ts n K nx → decided (a · c) nx ≡ true → (p : Place) → (b && p.deep) ≡ false
+  excludes_pair : (a c : Part) (nx : List Terminal) (K : Val a × (Val c) → ℕ → Type 0) → Follows ts n K nx → decided (a · c) nx ≡ true → (p : Place) → (b && p.deep) ≡ false
       → Excludes b n (FrontK b ts n (a · c) p.at K) K (step keep_all ts run (a · c) p)
   excludes_pair a c nx K fo de p clear =
       excludes_two a c (λ v w. (v, w)) K (if may_be_empty c then firsts c ++ nx else firsts c) nx (FrontK b ts n (a · c) p.at K) p
@@ -77,7 +77,7 @@ module _ (b : Bool) (ts : List Token) (n : ℕ) (run : Reader)
       (λ v w l k. fo (v, w) l k) (and_right (decided a _) _ de)
       clear (to_two b ts n a c K p.at)
 
-  excludes_choice : (a c : Part) (nx : List Class) (K : Val a ⊎ (Val c) → ℕ → Type 0) → Follows ts n K nx → decided (a ⊕ c) nx ≡ true → (p : Place) → (b && p.deep) ≡ false
+  excludes_choice : (a c : Part) (nx : List Terminal) (K : Val a ⊎ (Val c) → ℕ → Type 0) → Follows ts n K nx → decided (a ⊕ c) nx ≡ true → (p : Place) → (b && p.deep) ≡ false
       → Excludes b n (FrontK b ts n (a ⊕ c) p.at K) K (step keep_all ts run (a ⊕ c) p)
   excludes_choice a c nx K fo de p clear =
       let t1 = and_left (apart (firsts a) (firsts c)) _ de in
@@ -93,7 +93,7 @@ module _ (b : Bool) (ts : List Token) (n : ℕ) (run : Reader)
       (λ y. excludes_map b n (FrontK b ts n (a ⊕ c) p.at K) (FrontK b ts n c p.at (λ v j. K (inr v) j)) inr K (run c p) (pick_other b ts n a c K p.at t2 y)
       (ih c nx (λ v j. K (inr v) j) (λ v j k. fo (inr v) j k) (and_right (decided a nx) _ d3) p clear))
 
-  excludes_maybe : (a : Part) (nx : List Class) (K : Option (Val a) → ℕ → Type 0) → Follows ts n K nx → decided (maybe a) nx ≡ true → (p : Place) → (b && p.deep) ≡ false
+  excludes_maybe : (a : Part) (nx : List Terminal) (K : Option (Val a) → ℕ → Type 0) → Follows ts n K nx → decided (maybe a) nx ≡ true → (p : Place) → (b && p.deep) ≡ false
       → Excludes b n (FrontK b ts n (maybe a) p.at K) K (step keep_all ts run (maybe a) p)
   excludes_maybe a nx K fo de p clear =
       let m = not_true (may_be_empty a) (and_left (not (may_be_empty a)) _ de) in
@@ -106,7 +106,7 @@ module _ (b : Bool) (ts : List Token) (n : ℕ) (run : Reader)
       (ih a nx (λ v j. K (Some v) j) (λ v j k. fo (Some v) j k) d2 p clear))
       (λ y lt f. (clear, stay_out b ts n a p.at K None _ m y lt (to_maybe b ts n a K p.at f)))
 
-  excludes_many : (a : Part) (nx : List Class) (K : List (Val a) → ℕ → Type 0) → Follows ts n K nx → decided (many a) nx ≡ true → (p : Place) → (b && p.deep) ≡ false
+  excludes_many : (a : Part) (nx : List Terminal) (K : List (Val a) → ℕ → Type 0) → Follows ts n K nx → decided (many a) nx ≡ true → (p : Place) → (b && p.deep) ≡ false
       → Excludes b n (FrontK b ts n (many a) p.at K) K (step keep_all ts run (many a) p)
   excludes_many a nx K fo de p clear =
       let m = not_true (may_be_empty a) (and_left (not (may_be_empty a)) _ de) in
@@ -120,7 +120,7 @@ module _ (b : Bool) (ts : List Token) (n : ℕ) (run : Reader)
       clear (λ f. go_in b ts n a p.at nx K [] _ fo far y (to_many b ts n a K p.at f)))
       (λ y lt f. (clear, stay_out b ts n a p.at K [] _ m y lt (to_many b ts n a K p.at f)))
 
-  excludes_after : (c : Class) (a : Part) (nx : List Class) (K : List (Val a) × Bool → ℕ → Type 0) → Follows ts n K nx → decided (after c a) nx ≡ true → (p : Place) → (b && p.deep) ≡ false
+  excludes_after : (c : Terminal) (a : Part) (nx : List Terminal) (K : List (Val a) × Bool → ℕ → Type 0) → Follows ts n K nx → decided (after c a) nx ≡ true → (p : Place) → (b && p.deep) ≡ false
       → Excludes b n (FrontK b ts n (after c a) p.at K) K (step keep_all ts run (after c a) p)
   excludes_after c a nx K fo de p clear =
       let m = not_true (may_be_empty a) (and_left (not (may_be_empty a)) _ de) in
@@ -163,7 +163,7 @@ module _ (b : Bool) (ts : List Token) (n : ℕ) (run : Reader)
           (λ y l _. (clear, stay_out b ts n a x.1.at K ([], true) _ m y lt k))
 
   -- what a growth leaves
-  excludes_left : (e : ExprSym) (m : More) (nx : List Class) (K : Piece → ℕ → Type 0) → Follows ts n K nx → decided (left e m) nx ≡ true → (p : Place) → (b && p.deep) ≡ false
+  excludes_left : (e : ExprSym) (m : More) (nx : List Terminal) (K : Piece → ℕ → Type 0) → Follows ts n K nx → decided (left e m) nx ≡ true → (p : Place) → (b && p.deep) ≡ false
       → Excludes b n (FrontK b ts n (left e m) p.at K) K (step keep_all ts run (left e m) p)
   excludes_left e m nx K fo de p clear =
       let far = and_left (apart (starts_more m) nx) _ de in
@@ -186,7 +186,7 @@ module _ (b : Bool) (ts : List Token) (n : ℕ) (run : Reader)
       Fr : Type 0
       Fr = FrontK b ts n (g.sym (expr e)) p.at Kr
 
-  excludes_grown : (m : More) (v : Piece) (nx : List Class) (K : Piece → ℕ → Type 0) → Follows ts n K nx → decided (grown m v) nx ≡ true → (p : Place) → (b && p.deep) ≡ false
+  excludes_grown : (m : More) (v : Piece) (nx : List Terminal) (K : Piece → ℕ → Type 0) → Follows ts n K nx → decided (grown m v) nx ≡ true → (p : Place) → (b && p.deep) ≡ false
       → Excludes b n (FrontK b ts n (grown m v) p.at K) K (step keep_all ts run (grown m v) p)
   excludes_grown m v nx K fo de p clear =
       let far = and_left (apart (starts_more m) nx) _ de in
@@ -213,7 +213,7 @@ module _ (b : Bool) (ts : List Token) (n : ℕ) (run : Reader)
       mark_clear_tree : (t : Piece) (d : Bool) → (b && d) ≡ false → IsTrue (limit b t.tree) → (b && (not (shallow t.tree) || d)) ≡ false
       mark_clear_tree t d c w = mark_clear b ts n (expr ATOM) t d c w
 
-  pub excludes_step : (r : Part) (nx : List Class) (K : Val r → ℕ → Type 0) → Follows ts n K nx → decided r nx ≡ true → (p : Place) → (b && p.deep) ≡ false → Excludes b n (FrontK b ts n r p.at K) K (step keep_all ts run r p)
+  pub excludes_step : (r : Part) (nx : List Terminal) (K : Val r → ℕ → Type 0) → Follows ts n K nx → decided r nx ≡ true → (p : Place) → (b && p.deep) ≡ false → Excludes b n (FrontK b ts n r p.at K) K (step keep_all ts run r p)
   excludes_step (tok c) nx K fo de p clear = excludes_tok b ts n c K p clear
   excludes_step (g.sym s) nx K fo de p clear = excludes_sym s nx K fo de p clear
   excludes_step (a · c) nx K fo de p clear = excludes_pair a c nx K fo de p clear
@@ -225,7 +225,7 @@ module _ (b : Bool) (ts : List Token) (n : ℕ) (run : Reader)
   excludes_step (grown m v) nx K fo de p clear = excludes_grown m v nx K fo de p clear
 
 -- THE THEOREM, one direction: whatever is a front of the part and what may follow it, goes on with what was read, and no front reaches past a fault.
-pub excludes : (b : Bool) (ts : List Token) (n steps : ℕ) (r : Part) (nx : List Class) (K : Val r → ℕ → Type 0) → Follows ts n K nx → decided r nx ≡ true → (p : Place) → (b && p.deep) ≡ false → Excludes b n (FrontK b ts n r p.at K) K (run keep_all ts steps r p)
+pub excludes : (b : Bool) (ts : List Token) (n steps : ℕ) (r : Part) (nx : List Terminal) (K : Val r → ℕ → Type 0) → Follows ts n K nx → decided r nx ≡ true → (p : Place) → (b && p.deep) ≡ false → Excludes b n (FrontK b ts n r p.at K) K (run keep_all ts steps r p)
 unfolding run
 excludes b ts n zero r nx K fo de p clear = tt
 excludes b ts n (suc steps) r nx K fo de p clear = excludes_step b ts n (run keep_all ts steps) (later ts steps) (excludes b ts n steps) r nx K fo de p clear

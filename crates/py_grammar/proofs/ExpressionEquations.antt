@@ -6,128 +6,64 @@ use Rattle.py_syntax.specs.declared.expression.CmpOp.TheVariants as cmp
 use Rattle.py_syntax.specs.declared.key.Key.TheVariants as k
 use Rattle.py_syntax.specs.declared.sign.Sign.TheVariants as s
 use Rattle.py_syntax.specs.declared.expression.CmpOp.{CmpOp}
-use Rattle.py_syntax.specs.declared.token.Span.{Span}
 use Rattle.py_syntax.specs.declared.token.Token.{Token}
 use Rattle.py_syntax.specs.Expressions as e
-use Rattle.py_syntax.specs.Expressions.{ExprTree, ArgTree, exprs_of, entries_of, arguments_of}
-use Rattle.py_grammar.specs.declared.class.Class.TheVariants as class
+use Rattle.py_syntax.specs.Expressions.{ExprTree, exprs_of, entries_of, arguments_of}
+use Rattle.py_grammar.specs.declared.terminal.Terminal.TheVariants as terminal
 use Rattle.py_grammar.specs.declared.place.Place.{Place}
 use Rattle.py_grammar.specs.Levels.{Piece}
 use Rattle.py_grammar.specs.Grammar as g
 use Rattle.py_grammar.specs.Grammar.{expr, more, tok, comma, expression, TESTS, TARGETS, TEST, OR, AND, NOT, COMP, BOR, SHIFT, SUM, TERM, FACTOR, PRIMARY, ATOM, OR_MORE, AND_MORE, BOR_MORE, SHIFT_MORE, SUM_MORE, TERM_MORE, TRAILER, COMP_MORE, COMP_OP, ARG, ENTRY}
-use Rattle.py_grammar.specs.Actions.{piece, grouped_at, compared, argument, name_of, text_in, int_in, texts_of}
-use Rattle.py_grammar.specs.Reader.{◌>>=◌, accept, sees, starts, starts_expr, comparisons}
-use Rattle.py_grammar.specs.Readings.{reads_sym, reads_expr, growth, finish, reads_many, reads_after, reads_items, reads_trees, many_into, after_into, spread, single, single_tree, prefixed, negated, signed, condition}
-use Rattle.py_grammar.proofs.Beginnings.{next_left, next_right}
+use Rattle.py_grammar.specs.Actions.{piece, grouped_at, name_of, text_in, int_in, texts_of}
+use Rattle.py_grammar.specs.Reader.{◌>>=◌, accept, sees, starts_expr, comparisons}
+use Rattle.py_grammar.specs.Readings.{reads_sym, reads_expr, growth, finish, reads_many, reads_after, reads_items, reads_trees, many_into, after_into, spread, single, single_tree}
 use Rattle.py_grammar.proofs.Opening.{bind_same, if_same, sym_eq, growth_eq}
-use Rattle.py_grammar.proofs.Chains.{expr_finished, drop_finish, finish_end}
-use Rattle.py_grammar.proofs.Loops.{spread_single, many_round, many_made, after_round, items_opened, trees_opened, tuples_eq, prefixed_push}
+use Rattle.py_grammar.proofs.Chains.{expr_finished}
+use Rattle.py_grammar.proofs.Loops.{many_round, many_made, items_opened, trees_opened, tuples_eq}
 
 -- ---- what goes on with an expression
 
-pub or_more : (ts : List Token) (v : Piece) (p : Place) → growth ts OR_MORE v p ≡ (accept ts (class.Key k.Or) p >>= λ x. reads_expr ts AND x.1 >>= λ y. finish (piece (e.Or v.tree y.0.tree) v.begins) y.1)
+pub or_more : (ts : List Token) (v : Piece) (p : Place) → growth ts OR_MORE v p ≡ (accept ts (terminal.Key k.Or) p >>= λ x. reads_expr ts AND x.1 >>= λ y. finish (piece (e.Or v.tree y.0.tree) v.begins) y.1)
 or_more ts v p = growth_eq ts OR_MORE v p
 
-pub and_more : (ts : List Token) (v : Piece) (p : Place) → growth ts AND_MORE v p ≡ (accept ts (class.Key k.And) p >>= λ x. reads_expr ts NOT x.1 >>= λ y. finish (piece (e.And v.tree y.0.tree) v.begins) y.1)
+pub and_more : (ts : List Token) (v : Piece) (p : Place) → growth ts AND_MORE v p ≡ (accept ts (terminal.Key k.And) p >>= λ x. reads_expr ts NOT x.1 >>= λ y. finish (piece (e.And v.tree y.0.tree) v.begins) y.1)
 and_more ts v p = growth_eq ts AND_MORE v p
 
-pub bor_more : (ts : List Token) (v : Piece) (p : Place) → growth ts BOR_MORE v p ≡ (accept ts (class.Sign s.Bar) p >>= λ x. reads_expr ts SHIFT x.1 >>= λ y. finish (piece (e.Bin op.Bar v.tree y.0.tree) v.begins) y.1)
+pub bor_more : (ts : List Token) (v : Piece) (p : Place) → growth ts BOR_MORE v p ≡ (accept ts (terminal.Sign s.Bar) p >>= λ x. reads_expr ts SHIFT x.1 >>= λ y. finish (piece (e.Bin op.Bar v.tree y.0.tree) v.begins) y.1)
 bor_more ts v p = growth_eq ts BOR_MORE v p
 
-pub shift_more : (ts : List Token) (v : Piece) (p : Place) → growth ts SHIFT_MORE v p ≡ (if sees ts p (class.Sign s.Shl ∷ [])
-    then (accept ts (class.Sign s.Shl) p >>= λ x. reads_expr ts SUM x.1 >>= λ y. finish (piece (e.Bin op.Shl v.tree y.0.tree) v.begins) y.1)
-    else (accept ts (class.Sign s.Shr) p >>= λ x. reads_expr ts SUM x.1 >>= λ y. finish (piece (e.Bin op.Shr v.tree y.0.tree) v.begins) y.1))
+pub shift_more : (ts : List Token) (v : Piece) (p : Place) → growth ts SHIFT_MORE v p ≡ (if sees ts p (terminal.Sign s.Shl ∷ [])
+    then (accept ts (terminal.Sign s.Shl) p >>= λ x. reads_expr ts SUM x.1 >>= λ y. finish (piece (e.Bin op.Shl v.tree y.0.tree) v.begins) y.1)
+    else (accept ts (terminal.Sign s.Shr) p >>= λ x. reads_expr ts SUM x.1 >>= λ y. finish (piece (e.Bin op.Shr v.tree y.0.tree) v.begins) y.1))
 shift_more ts v p = growth_eq ts SHIFT_MORE v p
 
-pub sum_more : (ts : List Token) (v : Piece) (p : Place) → growth ts SUM_MORE v p ≡ (if sees ts p (class.Sign s.Plus ∷ [])
-    then (accept ts (class.Sign s.Plus) p >>= λ x. reads_expr ts TERM x.1 >>= λ y. finish (piece (e.Bin op.Add v.tree y.0.tree) v.begins) y.1)
-    else (accept ts (class.Sign s.Minus) p >>= λ x. reads_expr ts TERM x.1 >>= λ y. finish (piece (e.Bin op.Sub v.tree y.0.tree) v.begins) y.1))
+pub sum_more : (ts : List Token) (v : Piece) (p : Place) → growth ts SUM_MORE v p ≡ (if sees ts p (terminal.Sign s.Plus ∷ [])
+    then (accept ts (terminal.Sign s.Plus) p >>= λ x. reads_expr ts TERM x.1 >>= λ y. finish (piece (e.Bin op.Add v.tree y.0.tree) v.begins) y.1)
+    else (accept ts (terminal.Sign s.Minus) p >>= λ x. reads_expr ts TERM x.1 >>= λ y. finish (piece (e.Bin op.Sub v.tree y.0.tree) v.begins) y.1))
 sum_more ts v p = growth_eq ts SUM_MORE v p
 
-pub term_more : (ts : List Token) (v : Piece) (p : Place) → growth ts TERM_MORE v p ≡ (if sees ts p (class.Sign s.Star ∷ [])
-    then (accept ts (class.Sign s.Star) p >>= λ x. reads_expr ts FACTOR x.1 >>= λ y. finish (piece (e.Bin op.Mul v.tree y.0.tree) v.begins) y.1)
-    else (if sees ts p (class.Sign s.SlashSlash ∷ [])
-    then (accept ts (class.Sign s.SlashSlash) p >>= λ x. reads_expr ts FACTOR x.1 >>= λ y. finish (piece (e.Bin op.FloorDiv v.tree y.0.tree) v.begins) y.1)
-    else (accept ts (class.Sign s.Percent) p >>= λ x. reads_expr ts FACTOR x.1 >>= λ y. finish (piece (e.Bin op.Mod v.tree y.0.tree) v.begins) y.1)))
+pub term_more : (ts : List Token) (v : Piece) (p : Place) → growth ts TERM_MORE v p ≡ (if sees ts p (terminal.Sign s.Star ∷ [])
+    then (accept ts (terminal.Sign s.Star) p >>= λ x. reads_expr ts FACTOR x.1 >>= λ y. finish (piece (e.Bin op.Mul v.tree y.0.tree) v.begins) y.1)
+    else (if sees ts p (terminal.Sign s.SlashSlash ∷ [])
+    then (accept ts (terminal.Sign s.SlashSlash) p >>= λ x. reads_expr ts FACTOR x.1 >>= λ y. finish (piece (e.Bin op.FloorDiv v.tree y.0.tree) v.begins) y.1)
+    else (accept ts (terminal.Sign s.Percent) p >>= λ x. reads_expr ts FACTOR x.1 >>= λ y. finish (piece (e.Bin op.Mod v.tree y.0.tree) v.begins) y.1)))
 term_more ts v p = growth_eq ts TERM_MORE v p
 
-pub trailer_eq : (ts : List Token) (v : Piece) (p : Place) → growth ts TRAILER v p ≡ (if sees ts p (class.Sign s.Dot ∷ [])
-    then (accept ts (class.Sign s.Dot) p >>= λ x. accept ts class.Name x.1 >>= λ y. finish (piece (e.Attr v.tree (name_of y.0)) v.begins) y.1)
-    else (if sees ts p (class.Sign s.LeftParen ∷ [])
-    then (accept ts (class.Sign s.LeftParen) p >>= λ x. reads_items ts ARG x.1 >>= λ y. accept ts (class.Sign s.RightParen) y.1 >>= λ z. finish (piece (e.Call v.tree (arguments_of y.0)) v.begins) z.1)
-    else (accept ts (class.Sign s.LeftSquare) p >>= λ x. reads_expr ts TESTS x.1 >>= λ y. accept ts (class.Sign s.RightSquare) y.1 >>= λ z. finish (piece (e.Index v.tree y.0.tree) v.begins) z.1)))
+pub trailer_eq : (ts : List Token) (v : Piece) (p : Place) → growth ts TRAILER v p ≡ (if sees ts p (terminal.Sign s.Dot ∷ [])
+    then (accept ts (terminal.Sign s.Dot) p >>= λ x. accept ts terminal.Name x.1 >>= λ y. finish (piece (e.Attr v.tree (name_of y.0)) v.begins) y.1)
+    else (if sees ts p (terminal.Sign s.LeftParen ∷ [])
+    then (accept ts (terminal.Sign s.LeftParen) p >>= λ x. reads_items ts ARG x.1 >>= λ y. accept ts (terminal.Sign s.RightParen) y.1 >>= λ z. finish (piece (e.Call v.tree (arguments_of y.0)) v.begins) z.1)
+    else (accept ts (terminal.Sign s.LeftSquare) p >>= λ x. reads_expr ts TESTS x.1 >>= λ y. accept ts (terminal.Sign s.RightSquare) y.1 >>= λ z. finish (piece (e.Index v.tree y.0.tree) v.begins) z.1)))
 trailer_eq ts v p =
     growth_eq ts TRAILER v p
-    ∙ if_same (sees ts p (class.Sign s.Dot ∷ [])) refl
-    (if_same (sees ts p (class.Sign s.LeftParen ∷ []))
-    (bind_same (accept ts (class.Sign s.LeftParen) p) _ _ (λ x. items_opened ts ARG x.1 (λ y. accept ts (class.Sign s.RightParen) y.1 >>= λ z. finish (piece (e.Call v.tree (arguments_of y.0)) v.begins) z.1)))
+    ∙ if_same (sees ts p (terminal.Sign s.Dot ∷ [])) refl
+    (if_same (sees ts p (terminal.Sign s.LeftParen ∷ []))
+    (bind_same (accept ts (terminal.Sign s.LeftParen) p) _ _ (λ x. items_opened ts ARG x.1 (λ y. accept ts (terminal.Sign s.RightParen) y.1 >>= λ z. finish (piece (e.Call v.tree (arguments_of y.0)) v.begins) z.1)))
     refl)
-
--- ---- conditions and prefixes
-
-pub test_eq : (ts : List Token) (p : Place) → reads_expr ts TEST p ≡ (reads_expr ts OR p >>= λ x.
-    if sees ts x.1 (class.Key k.If ∷ [])
-    then (accept ts (class.Key k.If) x.1 >>= λ w. reads_expr ts OR w.1 >>= λ b. accept ts (class.Key k.Else) b.1 >>= λ z. reads_expr ts TEST z.1 >>= λ y. finish (piece (e.Cond x.0.tree b.0.tree y.0.tree) x.0.begins) y.1)
-    else Ok (x.0, x.1))
-test_eq ts p =
-    sym_eq ts (expr TEST) p
-    ∙ finish_end (reads_expr ts OR p) (λ q. sees ts q (class.Key k.If ∷ [])) _ (expr_finished ts OR p)
-
-pub not_eq : (ts : List Token) (p : Place) → reads_expr ts NOT p ≡ (if sees ts p (class.Key k.Not ∷ [])
-    then (accept ts (class.Key k.Not) p >>= λ x. reads_expr ts NOT x.1 >>= λ y. finish (piece (e.Not y.0.tree) x.0.span) y.1)
-    else reads_expr ts COMP p)
-not_eq ts p = sym_eq ts (expr NOT) p ∙ if_same (sees ts p (class.Key k.Not ∷ [])) refl (drop_finish (reads_expr ts COMP p) (expr_finished ts COMP p))
-
-pub factor_eq : (ts : List Token) (p : Place) → reads_expr ts FACTOR p ≡ (if sees ts p (class.Sign s.Minus ∷ class.Sign s.Plus ∷ [])
-    then (if sees ts p (class.Sign s.Minus ∷ [])
-    then (accept ts (class.Sign s.Minus) p >>= λ x. reads_expr ts FACTOR x.1 >>= λ y. finish (piece (e.Neg y.0.tree) x.0.span) y.1)
-    else (accept ts (class.Sign s.Plus) p >>= λ x. reads_expr ts FACTOR x.1 >>= λ y. finish (piece (e.Plus y.0.tree) x.0.span) y.1))
-    else reads_expr ts PRIMARY p)
-factor_eq ts p = sym_eq ts (expr FACTOR) p ∙ if_same (sees ts p (class.Sign s.Minus ∷ class.Sign s.Plus ∷ [])) refl (drop_finish (reads_expr ts PRIMARY p) (expr_finished ts PRIMARY p))
 
 -- the same in loops that collect the prefixes first
 
-pub not_push : (ts : List Token) (p : Place) (found : List Span) (x : Token × Place) → sees ts p (class.Key k.Not ∷ []) ≡ true → accept ts (class.Key k.Not) p ≡ Ok x
-    → prefixed negated found (reads_expr ts NOT p) ≡ prefixed negated (found ++ x.0.span ∷ []) (reads_expr ts NOT x.1)
-not_push ts p found x h a = ap (prefixed negated found) (not_eq ts p ∙ rw (h, a) refl) ∙ sym (prefixed_push negated found x.0.span (reads_expr ts NOT x.1))
-
-pub minus_push : (ts : List Token) (p : Place) (found : List (Bool × Span)) (x : Token × Place) → sees ts p (class.Sign s.Minus ∷ []) ≡ true → accept ts (class.Sign s.Minus) p ≡ Ok x
-    → prefixed signed found (reads_expr ts FACTOR p) ≡ prefixed signed (found ++ (true, x.0.span) ∷ []) (reads_expr ts FACTOR x.1)
-minus_push ts p found x h a =
-    ap (prefixed signed found) (factor_eq ts p ∙ rw (next_left (slice_get ts p.at) (class.Sign s.Minus ∷ []) (class.Sign s.Plus ∷ []) h, h, a) refl)
-    ∙ sym (prefixed_push signed found (true, x.0.span) (reads_expr ts FACTOR x.1))
-
-pub plus_push : (ts : List Token) (p : Place) (found : List (Bool × Span)) (x : Token × Place) → sees ts p (class.Sign s.Minus ∷ []) ≡ false → sees ts p (class.Sign s.Plus ∷ []) ≡ true → accept ts (class.Sign s.Plus) p ≡ Ok x
-    → prefixed signed found (reads_expr ts FACTOR p) ≡ prefixed signed (found ++ (false, x.0.span) ∷ []) (reads_expr ts FACTOR x.1)
-plus_push ts p found x n h a =
-    ap (prefixed signed found) (factor_eq ts p ∙ rw (next_right (slice_get ts p.at) (class.Sign s.Minus ∷ []) (class.Sign s.Plus ∷ []) h, n, a) refl)
-    ∙ sym (prefixed_push signed found (false, x.0.span) (reads_expr ts FACTOR x.1))
-
-pub condition_push : (ts : List Token) (p : Place) (found : List (Piece × ExprTree)) (a : Piece × Place) (w : Token × Place) (b : Piece × Place) (z : Token × Place) → reads_expr ts OR p ≡ Ok a → sees ts a.1 (class.Key k.If ∷ []) ≡ true → accept ts (class.Key k.If) a.1 ≡ Ok w → reads_expr ts OR w.1 ≡ Ok b → accept ts (class.Key k.Else) b.1 ≡ Ok z
-    → prefixed condition found (reads_expr ts TEST p) ≡ prefixed condition (found ++ (a.0, b.0.tree) ∷ []) (reads_expr ts TEST z.1)
-condition_push ts p found a w b z ra h rw1 rb rz =
-    ap (prefixed condition found) (test_eq ts p ∙ rw (ra, h) (rw (rw1, rb) (rw rz refl)))
-    ∙ sym (prefixed_push condition found (a.0, b.0.tree) (reads_expr ts TEST z.1))
-
 -- ---- comparisons, tuples and parts of calls
-
-pub comp_eq : (ts : List Token) (p : Place) → reads_expr ts COMP p ≡ (reads_expr ts BOR p >>= λ x. many_into single [] (reads_many ts (g.sym COMP_MORE) x.1) >>= λ y. finish (compared x.0 y.0) y.1)
-comp_eq ts p = sym_eq ts (expr COMP) p ∙ bind_same (reads_expr ts BOR p) _ _ (λ x. many_made single (λ l. l) [] (λ y. finish (compared x.0 y.0) y.1) (reads_many ts (g.sym COMP_MORE) x.1) spread_single)
-
-pub comp_more_eq : (ts : List Token) (p : Place) → reads_sym ts COMP_MORE p ≡ (reads_sym ts COMP_OP p >>= λ x. reads_expr ts BOR x.1 >>= λ y. Ok ((x.0, y.0.tree), y.1))
-comp_more_eq ts p = sym_eq ts COMP_MORE p
-
-pub comp_op_eq : (ts : List Token) (p : Place) → reads_sym ts COMP_OP p ≡
-    (if sees ts p (class.Sign s.Lt ∷ []) then (accept ts (class.Sign s.Lt) p >>= λ x. Ok (cmp.Lt, x.1))
-    else (if sees ts p (class.Sign s.Gt ∷ []) then (accept ts (class.Sign s.Gt) p >>= λ x. Ok (cmp.Gt, x.1))
-    else (if sees ts p (class.Sign s.EqEq ∷ []) then (accept ts (class.Sign s.EqEq) p >>= λ x. Ok (cmp.Eq, x.1))
-    else (if sees ts p (class.Sign s.Ge ∷ []) then (accept ts (class.Sign s.Ge) p >>= λ x. Ok (cmp.Ge, x.1))
-    else (if sees ts p (class.Sign s.Le ∷ []) then (accept ts (class.Sign s.Le) p >>= λ x. Ok (cmp.Le, x.1))
-    else (if sees ts p (class.Sign s.NotEq ∷ []) then (accept ts (class.Sign s.NotEq) p >>= λ x. Ok (cmp.Ne, x.1))
-    else (if sees ts p (class.Key k.In ∷ []) then (accept ts (class.Key k.In) p >>= λ x. Ok (cmp.Member, x.1))
-    else (if sees ts p (class.Key k.Not ∷ []) then (accept ts (class.Key k.Not) p >>= λ x. accept ts (class.Key k.In) x.1 >>= λ y. Ok (cmp.NotMember, y.1))
-    else (accept ts (class.Key k.Is) p >>= λ x. if sees ts x.1 (class.Key k.Not ∷ []) then (accept ts (class.Key k.Not) x.1 >>= λ y. Ok (cmp.IsNot, y.1)) else Ok (cmp.Is, x.1))))))))))
-comp_op_eq ts p = sym_eq ts COMP_OP p
 
 pub tests_eq : (ts : List Token) (p : Place) → reads_expr ts TESTS p ≡ (reads_expr ts TEST p >>= λ x.
     if sees ts x.1 (comma ∷ [])
@@ -141,43 +77,34 @@ pub targets_eq : (ts : List Token) (p : Place) → reads_expr ts TARGETS p ≡ (
     else Ok (x.0, x.1))
 targets_eq ts p = sym_eq ts (expr TARGETS) p ∙ tuples_eq ts BOR (reads_expr ts BOR p) (expr_finished ts BOR p)
 
-pub arg_eq : (ts : List Token) (p : Place) → reads_sym ts ARG p ≡ (reads_expr ts TEST p >>= λ x.
-    if sees ts x.1 (class.Sign s.Assign ∷ [])
-    then (accept ts (class.Sign s.Assign) x.1 >>= λ y. reads_expr ts TEST y.1 >>= λ z. Ok (argument x.0 (Some z.0.tree), z.1))
-    else Ok (argument x.0 None, x.1))
-arg_eq ts p = sym_eq ts ARG p
-
-pub entry_eq : (ts : List Token) (p : Place) → reads_sym ts ENTRY p ≡ (reads_expr ts TEST p >>= λ x. accept ts (class.Sign s.Colon) x.1 >>= λ y. reads_expr ts TEST y.1 >>= λ z. Ok ((x.0.tree, z.0.tree), z.1))
-entry_eq ts p = sym_eq ts ENTRY p
-
 -- ---- atoms
 
 pub atom_eq : (ts : List Token) (p : Place) → reads_expr ts ATOM p ≡
-    (if sees ts p (class.Name ∷ []) then (accept ts class.Name p >>= λ x. finish (piece (e.Name (name_of x.0)) x.0.span) x.1)
-    else (if sees ts p (class.Int ∷ []) then (accept ts class.Int p >>= λ x. finish (piece (e.Int (int_in x.0.kind)) x.0.span) x.1)
-    else (if sees ts p (class.Str ∷ []) then (accept ts class.Str p >>= λ x. many_into (λ t. text_in t.kind) (text_in x.0.kind) (reads_many ts (tok class.Str) x.1) >>= λ y. finish (piece (e.Str y.0) x.0.span) y.1)
-    else (if sees ts p (class.Key k.True ∷ []) then (accept ts (class.Key k.True) p >>= λ x. finish (piece e.True x.0.span) x.1)
-    else (if sees ts p (class.Key k.False ∷ []) then (accept ts (class.Key k.False) p >>= λ x. finish (piece e.False x.0.span) x.1)
-    else (if sees ts p (class.Key k.Nothing ∷ []) then (accept ts (class.Key k.Nothing) p >>= λ x. finish (piece e.Nothing x.0.span) x.1)
-    else (if sees ts p (class.Sign s.LeftParen ∷ []) then (accept ts (class.Sign s.LeftParen) p >>= λ x.
+    (if sees ts p (terminal.Name ∷ []) then (accept ts terminal.Name p >>= λ x. finish (piece (e.Name (name_of x.0)) x.0.span) x.1)
+    else (if sees ts p (terminal.Int ∷ []) then (accept ts terminal.Int p >>= λ x. finish (piece (e.Int (int_in x.0.kind)) x.0.span) x.1)
+    else (if sees ts p (terminal.Str ∷ []) then (accept ts terminal.Str p >>= λ x. many_into (λ t. text_in t.kind) (text_in x.0.kind) (reads_many ts (tok terminal.Str) x.1) >>= λ y. finish (piece (e.Str y.0) x.0.span) y.1)
+    else (if sees ts p (terminal.Key k.True ∷ []) then (accept ts (terminal.Key k.True) p >>= λ x. finish (piece e.True x.0.span) x.1)
+    else (if sees ts p (terminal.Key k.False ∷ []) then (accept ts (terminal.Key k.False) p >>= λ x. finish (piece e.False x.0.span) x.1)
+    else (if sees ts p (terminal.Key k.Nothing ∷ []) then (accept ts (terminal.Key k.Nothing) p >>= λ x. finish (piece e.Nothing x.0.span) x.1)
+    else (if sees ts p (terminal.Sign s.LeftParen ∷ []) then (accept ts (terminal.Sign s.LeftParen) p >>= λ x.
     if sees ts x.1 (starts_expr TESTS)
-    then (reads_expr ts TESTS x.1 >>= λ y. accept ts (class.Sign s.RightParen) y.1 >>= λ z. finish (grouped_at x.0.span y.0) z.1)
-    else (accept ts (class.Sign s.RightParen) x.1 >>= λ z. finish (piece (e.TupleOf e.no_exprs) x.0.span) z.1))
-    else (if sees ts p (class.Sign s.LeftSquare ∷ []) then (accept ts (class.Sign s.LeftSquare) p >>= λ x. reads_trees ts x.1 >>= λ y. accept ts (class.Sign s.RightSquare) y.1 >>= λ z. finish (piece (e.ListOf (exprs_of y.0)) x.0.span) z.1)
-    else (accept ts (class.Sign s.LeftBrace) p >>= λ x. reads_items ts ENTRY x.1 >>= λ y. accept ts (class.Sign s.RightBrace) y.1 >>= λ z. finish (piece (e.DictOf (entries_of y.0)) x.0.span) z.1)))))))))
+    then (reads_expr ts TESTS x.1 >>= λ y. accept ts (terminal.Sign s.RightParen) y.1 >>= λ z. finish (grouped_at x.0.span y.0) z.1)
+    else (accept ts (terminal.Sign s.RightParen) x.1 >>= λ z. finish (piece (e.TupleOf e.no_exprs) x.0.span) z.1))
+    else (if sees ts p (terminal.Sign s.LeftSquare ∷ []) then (accept ts (terminal.Sign s.LeftSquare) p >>= λ x. reads_trees ts x.1 >>= λ y. accept ts (terminal.Sign s.RightSquare) y.1 >>= λ z. finish (piece (e.ListOf (exprs_of y.0)) x.0.span) z.1)
+    else (accept ts (terminal.Sign s.LeftBrace) p >>= λ x. reads_items ts ENTRY x.1 >>= λ y. accept ts (terminal.Sign s.RightBrace) y.1 >>= λ z. finish (piece (e.DictOf (entries_of y.0)) x.0.span) z.1)))))))))
 atom_eq ts p =
     sym_eq ts (expr ATOM) p
-    ∙ if_same (sees ts p (class.Name ∷ [])) refl
-    (if_same (sees ts p (class.Int ∷ [])) refl
-    (if_same (sees ts p (class.Str ∷ []))
-    (bind_same (accept ts class.Str p) _ _ (λ x. many_made (λ t. text_in t.kind) texts_of (text_in x.0.kind) (λ y. finish (piece (e.Str y.0) x.0.span) y.1) (reads_many ts (tok class.Str) x.1) spread_texts))
-    (if_same (sees ts p (class.Key k.True ∷ [])) refl
-    (if_same (sees ts p (class.Key k.False ∷ [])) refl
-    (if_same (sees ts p (class.Key k.Nothing ∷ [])) refl
-    (if_same (sees ts p (class.Sign s.LeftParen ∷ [])) refl
-    (if_same (sees ts p (class.Sign s.LeftSquare ∷ []))
-    (bind_same (accept ts (class.Sign s.LeftSquare) p) _ _ (λ x. trees_opened ts x.1 (λ y. accept ts (class.Sign s.RightSquare) y.1 >>= λ z. finish (piece (e.ListOf (exprs_of y.0)) x.0.span) z.1)))
-    (bind_same (accept ts (class.Sign s.LeftBrace) p) _ _ (λ x. items_opened ts ENTRY x.1 (λ y. accept ts (class.Sign s.RightBrace) y.1 >>= λ z. finish (piece (e.DictOf (entries_of y.0)) x.0.span) z.1))))))))))
+    ∙ if_same (sees ts p (terminal.Name ∷ [])) refl
+    (if_same (sees ts p (terminal.Int ∷ [])) refl
+    (if_same (sees ts p (terminal.Str ∷ []))
+    (bind_same (accept ts terminal.Str p) _ _ (λ x. many_made (λ t. text_in t.kind) texts_of (text_in x.0.kind) (λ y. finish (piece (e.Str y.0) x.0.span) y.1) (reads_many ts (tok terminal.Str) x.1) spread_texts))
+    (if_same (sees ts p (terminal.Key k.True ∷ [])) refl
+    (if_same (sees ts p (terminal.Key k.False ∷ [])) refl
+    (if_same (sees ts p (terminal.Key k.Nothing ∷ [])) refl
+    (if_same (sees ts p (terminal.Sign s.LeftParen ∷ [])) refl
+    (if_same (sees ts p (terminal.Sign s.LeftSquare ∷ []))
+    (bind_same (accept ts (terminal.Sign s.LeftSquare) p) _ _ (λ x. trees_opened ts x.1 (λ y. accept ts (terminal.Sign s.RightSquare) y.1 >>= λ z. finish (piece (e.ListOf (exprs_of y.0)) x.0.span) z.1)))
+    (bind_same (accept ts (terminal.Sign s.LeftBrace) p) _ _ (λ x. items_opened ts ENTRY x.1 (λ y. accept ts (terminal.Sign s.RightBrace) y.1 >>= λ z. finish (piece (e.DictOf (entries_of y.0)) x.0.span) z.1))))))))))
   where
     spread_texts : (vs : List Token) → spread (λ t. text_in t.kind) vs ≡ texts_of vs
     spread_texts [] = refl
@@ -188,29 +115,5 @@ atom_eq ts p =
 pub comps_round : (ts : List Token) (p : Place) (found : List (CmpOp × ExprTree)) → many_into single found (reads_many ts (g.sym COMP_MORE) p) ≡ (if sees ts p comparisons then (reads_sym ts COMP_MORE p >>= λ x. many_into single (found ++ x.0 ∷ []) (reads_many ts (g.sym COMP_MORE) x.1)) else Ok (found, p))
 comps_round ts p found = many_round ts (g.sym COMP_MORE) p single found refl refl
 
-pub texts_round : (ts : List Token) (p : Place) (found : List ℕ) → many_into (λ t. text_in t.kind) found (reads_many ts (tok class.Str) p) ≡ (if sees ts p (class.Str ∷ []) then (accept ts class.Str p >>= λ x. many_into (λ t. text_in t.kind) (found ++ text_in x.0.kind) (reads_many ts (tok class.Str) x.1)) else Ok (found, p))
-texts_round ts p found = many_round ts (tok class.Str) p (λ t. text_in t.kind) found refl refl
-
-pub tests_round : (ts : List Token) (p : Place) (found : List (ExprTree)) → after_into single_tree found (reads_after ts comma (g.sym (expr TEST)) p) ≡ (if sees ts p (comma ∷ [])
-    then (accept ts comma p >>= λ t.
-    if sees ts t.1 (starts (expr TEST)) then (reads_sym ts (expr TEST) t.1 >>= λ y. after_into single_tree (found ++ y.0.tree ∷ []) (reads_after ts comma (g.sym (expr TEST)) y.1)) else Ok ((found, true), t.1))
-    else Ok ((found, false), p))
-tests_round ts p found = after_round ts comma (expr TEST) p single_tree found
-
-pub targets_round : (ts : List Token) (p : Place) (found : List (ExprTree)) → after_into single_tree found (reads_after ts comma (g.sym (expr BOR)) p) ≡ (if sees ts p (comma ∷ [])
-    then (accept ts comma p >>= λ t.
-    if sees ts t.1 (starts (expr BOR)) then (reads_sym ts (expr BOR) t.1 >>= λ y. after_into single_tree (found ++ y.0.tree ∷ []) (reads_after ts comma (g.sym (expr BOR)) y.1)) else Ok ((found, true), t.1))
-    else Ok ((found, false), p))
-targets_round ts p found = after_round ts comma (expr BOR) p single_tree found
-
-pub args_round : (ts : List Token) (p : Place) (found : List (ArgTree)) → after_into single found (reads_after ts comma (g.sym ARG) p) ≡ (if sees ts p (comma ∷ [])
-    then (accept ts comma p >>= λ t.
-    if sees ts t.1 (starts ARG) then (reads_sym ts ARG t.1 >>= λ y. after_into single (found ++ y.0 ∷ []) (reads_after ts comma (g.sym ARG) y.1)) else Ok ((found, true), t.1))
-    else Ok ((found, false), p))
-args_round ts p found = after_round ts comma ARG p single found
-
-pub entries_round : (ts : List Token) (p : Place) (found : List (ExprTree × ExprTree)) → after_into single found (reads_after ts comma (g.sym ENTRY) p) ≡ (if sees ts p (comma ∷ [])
-    then (accept ts comma p >>= λ t.
-    if sees ts t.1 (starts ENTRY) then (reads_sym ts ENTRY t.1 >>= λ y. after_into single (found ++ y.0 ∷ []) (reads_after ts comma (g.sym ENTRY) y.1)) else Ok ((found, true), t.1))
-    else Ok ((found, false), p))
-entries_round ts p found = after_round ts comma ENTRY p single found
+pub texts_round : (ts : List Token) (p : Place) (found : List ℕ) → many_into (λ t. text_in t.kind) found (reads_many ts (tok terminal.Str) p) ≡ (if sees ts p (terminal.Str ∷ []) then (accept ts terminal.Str p >>= λ x. many_into (λ t. text_in t.kind) (found ++ text_in x.0.kind) (reads_many ts (tok terminal.Str) x.1)) else Ok (found, p))
+texts_round ts p found = many_round ts (tok terminal.Str) p (λ t. text_in t.kind) found refl refl

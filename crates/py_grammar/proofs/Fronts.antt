@@ -2,7 +2,7 @@
 use Rattle.std.specs.Prelude.{IsTrue}
 use Rattle.std.proofs.Common.{◌≡◌, ℕ, ◌≤◌, ◌<◌, true, List, [], inl, inr, refl, subst, arith, ◌⊎◌, length}
 use Rattle.py_syntax.specs.declared.token.Token.{Token}
-use Rattle.py_grammar.specs.declared.class.Class.{Class}
+use Rattle.py_grammar.specs.declared.terminal.Terminal.{Terminal}
 use Rattle.py_grammar.specs.Levels.{Limit, free}
 use Rattle.py_grammar.specs.Grammar.{Sym, expr, Part, tok, maybe, many, after, grown}
 use Rattle.py_grammar.specs.Actions.{Val, Sem, act}
@@ -23,7 +23,7 @@ split {X = X} j n f h = at (cases_lt j n)
     at (inl l) = f l
     at (inr l) = h l
 
-tok_front : (lim : Limit) (ts : List Token) (n : ℕ) (c : Class) (p : Part) {i : ℕ} → Front lim ts n (tok c) i → Front lim ts n (after c p) i
+tok_front : (lim : Limit) (ts : List Token) (n : ℕ) (c : Terminal) (p : Part) {i : ℕ} → Front lim ts n (tok c) i → Front lim ts n (after c p) i
 tok_front lim ts n c p (empty _) = empty (after c p)
 tok_front lim ts n c p (whole _ i v d) = whole (after c p) i ([], true) (trails c p i n v d)
 

@@ -2,9 +2,9 @@
 use Rattle.std.specs.Prelude.{slice_get}
 use Rattle.std.proofs.Common.{◌≡◌, ℕ, zero, suc, ◌+◌, ◌-◌, Bool, true, false, not, ◌||◌, List, [], ◌∷◌, Option, Some, None, Ok, Err, if◌then◌else◌, inl, inr, refl, ◌∙◌, ap, subst}
 use Rattle.py_syntax.specs.declared.token.Token.{Token}
-use Rattle.py_grammar.specs.declared.class.Class.{Class}
+use Rattle.py_grammar.specs.declared.terminal.Terminal.{Terminal}
 use Rattle.py_grammar.specs.declared.place.Place.{Place}
-use Rattle.py_grammar.specs.Classes.{class_of, same}
+use Rattle.py_grammar.specs.Terminals.{terminal_of, same}
 use Rattle.py_grammar.specs.Levels.{Piece, shallow}
 use Rattle.py_grammar.specs.Grammar as g
 use Rattle.py_grammar.specs.Grammar.{ExprSym, More, Sym, expr, more, COMP_MORE, Part, tok, ◌·◌, ◌⊕◌, maybe, many, after, left, grown, rhs, ATOM}
@@ -51,7 +51,7 @@ like_two {A = A} {C = C} {D = D} p h f g (read v w r e s) k = go (k r)
 like_same : {A : Type 0} (v : A) (p : Place) → Like p (Ok (v, p)) (Ok (v, p))
 like_same v p = read v v p (λ e. refl) (λ e. e)
 
-like_accept : (ts : List Token) (c : Class) (p : Place) → Like p (accept ts c p) (accept ts c p)
+like_accept : (ts : List Token) (c : Terminal) (p : Place) → Like p (accept ts c p) (accept ts c p)
 like_accept ts c p = go (slice_get ts p.at)
   where
     taken : (d : Bool) (t : Token) → d ≡ p.deep → Like p (if d then Err (too_deep_at (p.at - 1)) else Ok (t, record { at = p.at + 1; deep = false })) (if d then Err (too_deep_at (p.at - 1)) else Ok (t, record { at = p.at + 1; deep = false }))
@@ -60,7 +60,7 @@ like_accept ts c p = go (slice_get ts p.at)
 
     go : (o : Option Token) → Like p (accept_one o c p) (accept_one o c p)
     go None = stopped _
-    go (Some t) = like_if p (same (class_of t.kind) c) _ _ _ _ (taken p.deep t refl) (stopped _)
+    go (Some t) = like_if p (same (terminal_of t.kind) c) _ _ _ _ (taken p.deep t refl) (stopped _)
 
 small_is : (x : Sym) (d : Bool) (v : Sem x) → d ≡ false → keep_small x d v ≡ v
 small_is (expr e) true v h = absurd (cc)
@@ -93,7 +93,7 @@ like_close x v w p = go p.deep
 module _ (ts : List Token) (small all : Reader)
     (ih : (r : Part) (p : Place) → Like p (small r p) (all r p))
     (ih_grown : (m : More) (v w : Piece) (p : Place) → (p.deep ≡ false → v ≡ w) → Like p (small (grown m v) p) (all (grown m w) p)) where
-  like_next : (c : Class) (a : Part) (x : Token) (p : Place) → Like {A = List (Val a) × Bool} p
+  like_next : (c : Terminal) (a : Part) (x : Token) (p : Place) → Like {A = List (Val a) × Bool} p
       (if sees ts p (firsts a) then (small a p >>= λ y. small (after c a) y.1 >>= λ z. Ok ((y.0 ∷ z.0.0, z.0.1), z.1)) else Ok (([], true), p))
       (if sees ts p (firsts a) then (all a p >>= λ y. all (after c a) y.1 >>= λ z. Ok ((y.0 ∷ z.0.0, z.0.1), z.1)) else Ok (([], true), p))
   like_next c a x p =

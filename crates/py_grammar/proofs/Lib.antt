@@ -15,8 +15,8 @@ pub mod Outcomes
 pub mod Shallow
 pub mod Opening
 pub mod Chains
+pub mod Codes
 pub mod Loops
 pub mod ExpressionEquations
 pub mod StatementEquations
 pub mod CompoundEquations
-pub mod Equations

@@ -2,14 +2,14 @@
 use Rattle.std.specs.Prelude.{nat_le}
 use Rattle.std.proofs.Common.{◌≡◌, Bool, true, false, ◌&&◌, List, [], ◌∷◌, ◌++◌, Ok, Err, if◌then◌else◌, refl, sym, ◌∙◌, ap, subst}
 use Rattle.py_syntax.specs.declared.token.Token.{Token}
-use Rattle.py_grammar.specs.declared.class.Class.{Class}
+use Rattle.py_grammar.specs.declared.terminal.Terminal.{Terminal}
 use Rattle.py_grammar.specs.declared.place.Place.{Place}
 use Rattle.py_grammar.specs.Levels.{Piece}
 use Rattle.py_grammar.specs.Grammar as g
 use Rattle.py_grammar.specs.Grammar.{ExprSym, More, Sym, expr, more, Part, tok, ◌·◌, ◌⊕◌, maybe, many, after, left, grown, rhs, expression, sign, key, list, comma, body, TESTS, TARGETS, TEST, OR, AND, NOT, COMP, BOR, SHIFT, SUM, TERM, FACTOR, PRIMARY, ATOM, OR_MORE, AND_MORE, BOR_MORE, SHIFT_MORE, SUM_MORE, TERM_MORE, TRAILER, COMP_MORE, COMP_OP, ARG, ENTRY, PLAIN, AUG, RETURN, RAISE, GLOBAL, ASSERT, DEL, IMPORT, FROM, DOTTED, ALIAS, SMALL, SIMPLE, STMT, IF, ARM, WHILE, FOR, TRY, EXCEPT, FINALLY, BLOCK, FUNC, PARAM, CLASS, CBLOCK, MEMBER, MARK, DECORATED, TOP, MODULE}
 use Rattle.py_grammar.specs.Actions.{Val, Sem}
-use Rattle.py_grammar.specs.Reader.{Outcome, ◌>>=◌, Stop, reads, accept, sees, firsts, starts}
-use Rattle.py_grammar.specs.Readings.{reads_items, reads_trees, spread, many_into, after_into, single, single_tree, whole, prefixed, reads_sym, reads_expr, finish, reads_many, reads_after}
+use Rattle.py_grammar.specs.Reader.{Outcome, ◌>>=◌, reads, accept, sees, firsts, starts}
+use Rattle.py_grammar.specs.Readings.{reads_items, reads_trees, spread, many_into, after_into, single, single_tree, whole, reads_sym, finish, reads_many, reads_after}
 use Rattle.py_grammar.proofs.Progress.{either_way}
 use Rattle.py_grammar.proofs.Steps.{fine, weight}
 use Rattle.std.proofs.Common.{append-nil, append_assoc}
@@ -60,7 +60,7 @@ many_made g f found h (Err s) e = refl
 
 -- ---- between separators
 
-ready_after : (c : Class) (x : Sym) → (fine (after c (g.sym x)) && nat_le (weight (after c (g.sym x))) 900) ≡ true
+ready_after : (c : Terminal) (x : Sym) → (fine (after c (g.sym x)) && nat_le (weight (after c (g.sym x))) 900) ≡ true
 ready_after c (expr TESTS) = refl
 ready_after c (expr _) = refl
 ready_after c (more OR_MORE) = refl
@@ -73,7 +73,7 @@ after_on g found v (Ok y) = ap (λ l. Ok ((l, y.0.1), y.1)) (sym (append_assoc f
 after_on g found v (Err e) = refl
 
 -- one more separator and perhaps a symbol behind it, or the end
-pub after_round : {B : Type 0} (ts : List Token) (c : Class) (x : Sym) (p : Place) (f : Sem x → List B) (found : List B)
+pub after_round : {B : Type 0} (ts : List Token) (c : Terminal) (x : Sym) (p : Place) (f : Sem x → List B) (found : List B)
     → after_into f found (reads_after ts c (g.sym x) p) ≡ (if sees ts p (c ∷ [])
     then (accept ts c p >>= λ t.
     if sees ts t.1 (starts x) then (reads_sym ts x t.1 >>= λ y. after_into f (found ++ f y.0) (reads_after ts c (g.sym x) y.1)) else Ok ((found, true), t.1))
@@ -121,20 +121,6 @@ unfolding reads_items
 items_eq ts x p =
     opens ts (maybe (list comma (g.sym x))) p (λ y. Ok (items y.0, y.1)) (ready_items x)
     ∙ if_same (sees ts p (starts x)) (bind_same (reads_sym ts x p) _ _ (λ y. single_behind y.0 (reads_after ts comma (g.sym x) y.1))) refl
-
-trees_behind : (v : Piece) (o : Outcome (List Piece × Bool)) → (o >>= λ z. Ok (trees_of (v ∷ z.0.0), z.1)) ≡ (after_into single_tree (v.tree ∷ []) o >>= λ z. Ok (z.0.0, z.1))
-trees_behind v (Ok y) = ap (λ l. Ok (v.tree ∷ l, y.1)) (sym (spread_trees y.0.0))
-trees_behind v (Err e) = refl
-
--- the trees of expressions in brackets, or none
-pub trees_eq : (ts : List Token) (p : Place) → reads_trees ts p ≡ (if sees ts p (starts (expr TEST))
-    then (reads_expr ts TEST p >>= λ y. after_into single_tree (y.0.tree ∷ []) (reads_after ts comma (expression TEST) y.1) >>= λ z. Ok (z.0.0, z.1))
-    else Ok ([], p))
-unfolding reads_items reads_trees
-trees_eq ts p =
-    bind_assoc (reads ts (maybe (list comma (g.sym (expr TEST)))) p) (λ y. Ok (items y.0, y.1)) (λ y. Ok (trees_of y.0, y.1))
-    ∙ opens ts (maybe (list comma (g.sym (expr TEST)))) p (λ y. Ok (trees_of (items y.0), y.1)) (ready_items (expr TEST))
-    ∙ if_same (sees ts p (starts (expr TEST))) (bind_same (reads_expr ts TEST p) _ _ (λ y. trees_behind y.0 (reads_after ts comma (expression TEST) y.1))) refl
 
 pub trees_opened : {C : Type 0} (ts : List Token) (p : Place) (h : List ExprTree × Place → Outcome C) → opened ts (maybe (list comma (expression TEST))) p (λ y. h (trees_of (items y.0), y.1)) ≡ (reads_trees ts p >>= h)
 unfolding reads_trees
@@ -190,14 +176,3 @@ pub tuples_eq : (ts : List Token) (x : ExprSym) (o : Outcome Piece) → Finished
     else Ok (y.0, y.1))
 tuples_eq ts x (Ok y) h = tuple_eq ts x y.0 y.1 h
 tuples_eq ts x (Err e) h = refl
-
--- ---- prefixes
-
--- one more prefix behind those that were read
-pub prefixed_push : {A : Type 0} (put : A → Piece → Piece) (found : List A) (a : A) (o : Outcome Piece) → prefixed put (found ++ a ∷ []) o ≡ prefixed put found (o >>= λ y. finish (put a y.0) y.1)
-prefixed_push put [] a o = refl
-prefixed_push put (b ∷ found) a o = ap (λ o. o >>= λ y. finish (put b y.0) y.1) (prefixed_push put found a o)
-
-pub prefixed_stop : {A : Type 0} (put : A → Piece → Piece) (found : List A) (s : Stop) → prefixed put found (Err s) ≡ Err s
-prefixed_stop put [] s = refl
-prefixed_stop put (a ∷ found) s = ap (λ o. o >>= λ y. finish (put a y.0) y.1) (prefixed_stop put found s)

@@ -2,9 +2,9 @@
 use Rattle.std.specs.Prelude.{slice_get}
 use Rattle.std.proofs.Common.{◌≡◌, ℕ, zero, suc, ◌+◌, ◌-◌, ◌≤◌, ◌<◌, Bool, true, false, ◌&&◌, List, [], ◌∷◌, Option, Some, None, Ok, Err, refl, sym, ◌∙◌, ap, subst, arith, length}
 use Rattle.py_syntax.specs.declared.token.Token.{Token}
-use Rattle.py_grammar.specs.declared.class.Class.{Class}
+use Rattle.py_grammar.specs.declared.terminal.Terminal.{Terminal}
 use Rattle.py_grammar.specs.declared.place.Place.{Place}
-use Rattle.py_grammar.specs.Classes.{class_of, same, next_left_out}
+use Rattle.py_grammar.specs.Terminals.{terminal_of, same, next_left_out}
 use Rattle.py_grammar.specs.Levels.{free, shallow}
 use Rattle.py_grammar.specs.Grammar as g
 use Rattle.py_grammar.specs.Grammar.{ExprSym, More, Sym, expr, more, Part, tok, ◌·◌, ◌⊕◌, maybe, many, after, left, grown, rhs, ATOM, MODULE}
@@ -13,9 +13,9 @@ use Rattle.py_grammar.specs.Derivation.{Derives, Front}
 use Rattle.py_grammar.specs.Reader.{Outcome, ◌>>=◌, Stop, syntax_at, profile_at, too_deep_at, out, keep_all, keep_small, Reader, step, run, reads, enough, start, accept, accept_one, take_it, refusal, sees, firsts, starts_more, mark}
 use Rattle.std.proofs.lemmas.Option.{slice_get_past}
 use Rattle.py_syntax.specs.Tokens.{EndsOnce}
-use Rattle.py_syntax.specs.Statements.{Block}
-use Rattle.py_grammar.specs.declared.class.Class.TheVariants as class
-use Rattle.py_grammar.specs.Classes.{IsLeftOutAt}
+use Rattle.py_syntax.specs.Statements.{Suite}
+use Rattle.py_grammar.specs.declared.terminal.Terminal.TheVariants as terminal
+use Rattle.py_grammar.specs.Terminals.{IsLeftOutAt}
 use Rattle.py_grammar.specs.Grammar.{TOP}
 use Rattle.py_grammar.specs.Faults.{IsTree, IsFront, SyntaxAt, TooDeepAt, Came, tree, syntax, profile, too_deep, Says}
 use Rattle.py_grammar.specs.Readings.{reads_sym}
@@ -45,7 +45,7 @@ refused_then : (ts : List Token) {A C : Type 0} (o : Outcome A) (f : A × Place 
 refused_then ts (Ok x) f w k = k x
 refused_then ts (Err e) f w k = w
 
-refused_accept : (ts : List Token) (c : Class) (p : Place) → Refused ts (accept ts c p)
+refused_accept : (ts : List Token) (c : Terminal) (p : Place) → Refused ts (accept ts c p)
 refused_accept ts c p = go (slice_get ts p.at) refl
   where
     here : (o : Option Token) → slice_get ts p.at ≡ o → RefusedAt ts (refusal o p.at)
@@ -54,7 +54,7 @@ refused_accept ts c p = go (slice_get ts p.at) refl
     go : (o : Option Token) → slice_get ts p.at ≡ o → Refused ts (accept_one o c p)
     go None e = here None e
     go (Some t) e =
-        either_way (Refused ts) (same (class_of t.kind) c) (take_it t p) (Err (refusal (Some t) p.at))
+        either_way (Refused ts) (same (terminal_of t.kind) c) (take_it t p) (Err (refusal (Some t) p.at))
         (λ _. either_way (Refused ts) p.deep (Err (too_deep_at (p.at - 1))) (Ok (t, record { at = p.at + 1; deep = false })) (λ _. tt) (λ _. tt))
         (λ _. here (Some t) e)
 
@@ -101,13 +101,13 @@ clear_map : {A C : Type 0} (h : A → C) (o : Outcome A) → Clear o → Clear (
 clear_map h (Ok x) c = c
 clear_map h (Err e) c = tt
 
-clear_accept : (ts : List Token) (c : Class) (p : Place) → Clear (accept ts c p)
+clear_accept : (ts : List Token) (c : Terminal) (p : Place) → Clear (accept ts c p)
 clear_accept ts c p = go (slice_get ts p.at)
   where
     go : (o : Option Token) → Clear (accept_one o c p)
     go None = tt
     go (Some t) =
-        either_way Clear (same (class_of t.kind) c) (take_it t p) (Err (refusal (Some t) p.at))
+        either_way Clear (same (terminal_of t.kind) c) (take_it t p) (Err (refusal (Some t) p.at))
         (λ _. either_way Clear p.deep (Err (too_deep_at (p.at - 1))) (Ok (t, record { at = p.at + 1; deep = false })) (λ _. tt) (λ _. refl))
         (λ _. tt)
 
@@ -118,8 +118,8 @@ clear_module ts (suc zero) p = tt
 clear_module ts (suc (suc zero)) p = tt
 clear_module ts (suc (suc (suc n))) p =
     clear_map (act MODULE) (run keep_all ts (suc (suc n)) (rhs MODULE) p)
-    (clear_then (run keep_all ts (suc n) (many (g.sym TOP)) p) (λ x. run keep_all ts (suc n) (tok class.End) x.1 >>= λ y. Ok ((x.0, y.0), y.1))
-    (λ x. clear_map (λ y. (x.0, y)) (accept ts class.End x.1) (clear_accept ts class.End x.1)))
+    (clear_then (run keep_all ts (suc n) (many (g.sym TOP)) p) (λ x. run keep_all ts (suc n) (tok terminal.End) x.1 >>= λ y. Ok ((x.0, y.0), y.1))
+    (λ x. clear_map (λ y. (x.0, y)) (accept ts terminal.End x.1) (clear_accept ts terminal.End x.1)))
 
 -- ---- faults
 
@@ -188,7 +188,7 @@ module _ (ts : List Token) (once : EndsOnce ts) (k j : ℕ) where
 
 -- ---- what reading answers
 
-abbrev pub Tells : List Token → Outcome Block → Type 0
+abbrev pub Tells : List Token → Outcome Suite → Type 0
 Tells ts (Ok x) = IsTree ts x.0
 Tells ts (Err (syntax_at i)) = Says ts (syntax i)
 Tells ts (Err (profile_at i)) = Says ts (profile i)
@@ -206,16 +206,16 @@ module _ (ts : List Token) (once : EndsOnce ts) (k : ℕ) where
   tells_stop (too_deep_at i) s r = deep_fault ts once k i r
   tells_stop out s r = absurd s
 
-  tells_tree : (v w : Block) (q : Place) → (q.deep ≡ false → v ≡ w) → run keep_all ts k (g.sym MODULE) start ≡ Ok (w, q) → IsTree ts v
+  tells_tree : (v w : Suite) (q : Place) → (q.deep ≡ false → v ≡ w) → run keep_all ts k (g.sym MODULE) start ≡ Ok (w, q) → IsTree ts v
   tells_tree v w q e r =
       let p = subst (Sound ts (g.sym MODULE) start) r (sound ts k (g.sym MODULE) start) in
       let clear : q.deep ≡ false = subst Clear r (clear_module ts k start) in
       let d = p.tight refl clear in
       let P : ℕ → Type 0 = λ n. Derives shallow ts (g.sym MODULE) 0 n v in
-      let Q : Block → Type 0 = λ b. Derives shallow ts (g.sym MODULE) 0 q.at b in
+      let Q : Suite → Type 0 = λ b. Derives shallow ts (g.sym MODULE) 0 q.at b in
       subst P (module_whole shallow ts once d) (subst Q (sym (e clear)) d)
 
-  tells_like : (o a : Outcome Block) → Like start o a → Sure ts (rest ts start) false o → run keep_all ts k (g.sym MODULE) start ≡ a → Tells ts o
+  tells_like : (o a : Outcome Suite) → Like start o a → Sure ts (rest ts start) false o → run keep_all ts k (g.sym MODULE) start ≡ a → Tells ts o
   tells_like _ _ (stopped e) s r = tells_stop e s r
   tells_like _ _ (read v w q e t) s r = tells_tree v w q e r
 
@@ -228,20 +228,20 @@ reading_tells ts once =
     (sure keep_small ts (enough ts) (g.sym MODULE) start refl (omega arith))
     refl
 
-pub reading_told : (ts : List Token) → EndsOnce ts → (o : Outcome Block) → reads_sym ts MODULE start ≡ o → Tells ts o
+pub reading_told : (ts : List Token) → EndsOnce ts → (o : Outcome Suite) → reads_sym ts MODULE start ≡ o → Tells ts o
 reading_told ts once o e = subst (Tells ts) e (reading_tells ts once)
 
 -- ---- only one thing is so
 
 module _ (ts : List Token) where
   -- a front up to a place that a whole tree has
-  tree_front : (b : Block) (n : ℕ) → IsTree ts b → n ≤ length ts → IsFront shallow ts n
+  tree_front : (b : Suite) (n : ℕ) → IsTree ts b → n ≤ length ts → IsFront shallow ts n
   tree_front b n d le = derives_cut shallow ts n d (omega arith) le
 
-  no_syntax : (b : Block) (i : ℕ) → IsTree ts b → SyntaxAt ts i → ⊥
+  no_syntax : (b : Suite) (i : ℕ) → IsTree ts b → SyntaxAt ts i → ⊥
   no_syntax b i d s = let l = s.within in s.fault (front_free shallow ts (i + 1) (tree_front b (i + 1) d (omega arith)))
 
-  no_deep : (b : Block) (j : ℕ) → IsTree ts b → TooDeepAt ts j → ⊥
+  no_deep : (b : Suite) (j : ℕ) → IsTree ts b → TooDeepAt ts j → ⊥
   no_deep b j d s = s.fault (tree_front b (j + 2) d (front_within free ts (j + 2) s.goes_on (omega arith)))
 
   syntax_not_deep : (i j : ℕ) → SyntaxAt ts i → TooDeepAt ts j → ⊥
@@ -265,7 +265,7 @@ module _ (ts : List Token) where
   two_kinds : (i j : ℕ) → Says ts (syntax i) → Says ts (profile j) → ⊥
   two_kinds i j s t = s.1 (let P : ℕ → Type 0 = IsLeftOutAt ts in subst P (one_syntax j i t.0 s.0) t.1)
 
-  one_tree_read : (n : ℕ) (b c : Block) → IsTree ts b → IsTree ts c → (o a : Outcome Block) → Like start o a → Sure ts (rest ts start) false o → run keep_all ts n (g.sym MODULE) start ≡ a → b ≡ c
+  one_tree_read : (n : ℕ) (b c : Suite) → IsTree ts b → IsTree ts c → (o a : Outcome Suite) → Like start o a → Sure ts (rest ts start) false o → run keep_all ts n (g.sym MODULE) start ≡ a → b ≡ c
   one_tree_read n b c d e _ _ (stopped (syntax_at j)) s r =
       let w = subst (Sound ts (g.sym MODULE) start) r (sound ts n (g.sym MODULE) start) in
       let le = front_within shallow ts j (w.front refl) (omega arith) in
@@ -284,11 +284,11 @@ module _ (ts : List Token) where
   one_tree_read n b c d e _ _ (read v w q f t) s r =
       let p = subst (Sound ts (g.sym MODULE) start) r (sound ts n (g.sym MODULE) start) in
       let le = derives_within free ts p.anyhow (omega arith) in
-      let is : (x : Block) → IsTree ts x → w ≡ x = λ x h.
+      let is : (x : Suite) → IsTree ts x → w ≡ x = λ x h.
       (subst (Excludes true (length ts + 1) (FrontK true ts (length ts + 1) (g.sym MODULE) 0 (AtEnd ts (λ v. v ≡ x))) (AtEnd ts (λ v. v ≡ x))) r (reads_tree true ts n x (λ v. v ≡ x) h refl) (omega arith) (past (length ts) x h (omega arith, refl))).1.1 in
       sym (is b d) ∙ is c e
 
-  pub one_tree : (b c : Block) → IsTree ts b → IsTree ts c → b ≡ c
+  pub one_tree : (b c : Suite) → IsTree ts b → IsTree ts c → b ≡ c
   one_tree b c d e =
       one_tree_read (enough ts) b c d e (run keep_small ts (enough ts) (g.sym MODULE) start) (run keep_all ts (enough ts) (g.sym MODULE) start)
       (like ts (enough ts) (g.sym MODULE) start)
@@ -315,7 +315,7 @@ module _ (ts : List Token) where
 
 -- ---- the laws
 
-tells_came : (ts : List Token) (o : Outcome Block) → Tells ts o → (x : Came) × (came o ≡ Some x) × Says ts x
+tells_came : (ts : List Token) (o : Outcome Suite) → Tells ts o → (x : Came) × (came o ≡ Some x) × Says ts x
 tells_came ts (Ok x) w = (tree x.0, refl, w)
 tells_came ts (Err (syntax_at i)) w = (syntax i, refl, w)
 tells_came ts (Err (profile_at i)) w = (profile i, refl, w)

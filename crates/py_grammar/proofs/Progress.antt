@@ -1,9 +1,9 @@
 -- Where reading stops.
 use Rattle.std.proofs.Common.{◌≡◌, ℕ, zero, suc, ◌+◌, ◌-◌, ◌≤◌, Bool, true, false, List, [], ◌∷◌, Option, Some, None, Ok, Err, if◌then◌else◌, refl, arith}
 use Rattle.py_syntax.specs.declared.token.Token.{Token}
-use Rattle.py_grammar.specs.declared.class.Class.{Class}
+use Rattle.py_grammar.specs.declared.terminal.Terminal.{Terminal}
 use Rattle.py_grammar.specs.declared.place.Place.{Place}
-use Rattle.py_grammar.specs.Classes.{class_of, same, next_left_out}
+use Rattle.py_grammar.specs.Terminals.{terminal_of, same, next_left_out}
 use Rattle.py_grammar.specs.Levels.{shallow}
 use Rattle.py_grammar.specs.Grammar as g
 use Rattle.py_grammar.specs.Grammar.{ExprSym, More, Sym, expr, more, Part, tok, ◌·◌, ◌⊕◌, maybe, many, after, left, grown, rhs, ATOM, MODULE}
@@ -41,9 +41,9 @@ later_refusal o i = either_way (LaterStop i) (next_left_out o) (profile_at i) (s
 later_take : (t : Token) (p : Place) → Later p.at (take_it t p)
 later_take t p = either_way (Later p.at) p.deep (Err (too_deep_at (p.at - 1))) (Ok (t, record { at = p.at + 1; deep = false })) (λ _. omega arith) (λ _. omega arith)
 
-pub later_accept : (o : Option Token) (c : Class) (p : Place) → Later p.at (accept_one o c p)
+pub later_accept : (o : Option Token) (c : Terminal) (p : Place) → Later p.at (accept_one o c p)
 later_accept None c p = omega arith
-later_accept (Some t) c p = either_way (Later p.at) (same (class_of t.kind) c) (take_it t p) (Err (refusal (Some t) p.at)) (λ _. later_take t p) (λ _. later_refusal (Some t) p.at)
+later_accept (Some t) c p = either_way (Later p.at) (same (terminal_of t.kind) c) (take_it t p) (Err (refusal (Some t) p.at)) (λ _. later_take t p) (λ _. later_refusal (Some t) p.at)
 
 pub later_weaken : {A : Type 0} (i j : ℕ) (o : Outcome A) → i ≤ j → Later j o → Later i o
 later_weaken i j (Ok y) h l = omega arith

@@ -9,12 +9,12 @@ use Rattle.py_grammar.specs.Actions.{Val, Sem, act, grow}
 use Rattle.py_grammar.specs.Derivation.{admits, Derives, one, by_rule, both, first, other, absent, present, no_more, again, ends, trails, goes_on, from_left, full, grows}
 use Rattle.std.proofs.lemmas.Bool.{leb-true}
 use Rattle.py_syntax.specs.declared.token.Span.{Span}
-use Rattle.py_grammar.specs.declared.class.Class.TheVariants as class
+use Rattle.py_grammar.specs.declared.terminal.Terminal.TheVariants as terminal
 use Rattle.py_syntax.specs.Expressions.{ExprTree}
-use Rattle.py_syntax.specs.Statements.{StmtTree, Block, HandlerTree, FuncTree, ClassTree, block_of, arms_of, handlers_of, maybe_block}
-use Rattle.py_grammar.specs.Levels.{level, maybe_level, list_level, params_level, stmt_level, block_level, arms_level, handlers_level, maybe_block_level}
+use Rattle.py_syntax.specs.Statements.{StmtTree, Suite, HandlerTree, FuncTree, ClassTree, suite_of, arms_of, handlers_of, maybe_suite}
+use Rattle.py_grammar.specs.Levels.{level, maybe_level, list_level, params_level, stmt_level, suite_level, arms_level, handlers_level, maybe_suite_level}
 use Rattle.py_grammar.specs.Grammar.{TESTS, TARGETS, TEST, OR_MORE, COMP_MORE, COMP_OP, ARG, ENTRY, PLAIN, AUG, RETURN, RAISE, GLOBAL, ASSERT, DEL, IMPORT, FROM, DOTTED, ALIAS, SMALL, SIMPLE, STMT, IF, ARM, WHILE, FOR, TRY, EXCEPT, FINALLY, BLOCK, FUNC, PARAM, CLASS, CBLOCK, MEMBER, MARK, DECORATED, TOP}
-use Rattle.py_grammar.specs.Actions.{items, seconds, joined, trees_of, block_behind, tree_behind, maybe_tree, block_in, bases_in, marks_of}
+use Rattle.py_grammar.specs.Actions.{items, seconds, joined, trees_of, suite_behind, tree_behind, maybe_tree, suite_in, bases_in, marks_of}
 use Rattle.py_grammar.specs.Laws.{TreesAreShallow}
 
 -- ---- the greatest level of the expressions in what a part stands for; parts of expressions count with the whole
@@ -24,16 +24,16 @@ greatest f [] = 0
 greatest f (x ∷ xs) = max (f x) (greatest f xs)
 
 abbrev of_stmts : List StmtTree → ℕ
-of_stmts ss = block_level (block_of ss)
+of_stmts ss = suite_level (suite_of ss)
 
 abbrev of_handler : HandlerTree → ℕ
-of_handler h = max (maybe_level h.class) (block_level h.body)
+of_handler h = max (maybe_level h.class) (suite_level h.body)
 
 abbrev of_func : FuncTree × Span → ℕ
-of_func f = max (params_level f.0.params) (max (maybe_level f.0.ret) (block_level f.0.body))
+of_func f = max (params_level f.0.params) (max (maybe_level f.0.ret) (suite_level f.0.body))
 
 abbrev of_class : ClassTree × Span → ℕ
-of_class c = max (list_level c.0.bases) (block_level c.0.body)
+of_class c = max (list_level c.0.bases) (suite_level c.0.body)
 
 abbrev of_param : List ℕ × Option ExprTree → ℕ
 of_param p = maybe_level p.1
@@ -52,7 +52,7 @@ of_sym SMALL v = stmt_level v
 of_sym SIMPLE v = of_stmts v
 of_sym STMT v = of_stmts v
 of_sym IF v = stmt_level v
-of_sym ARM v = max (level v.0) (block_level v.1)
+of_sym ARM v = max (level v.0) (suite_level v.1)
 of_sym WHILE v = stmt_level v
 of_sym FOR v = stmt_level v
 of_sym TRY v = stmt_level v
@@ -67,7 +67,7 @@ of_sym MEMBER v = of_stmts v
 of_sym MARK v = level v.0
 of_sym DECORATED v = stmt_level v
 of_sym TOP v = of_stmts v
-of_sym MODULE v = block_level v
+of_sym MODULE v = suite_level v
 of_sym _ v = 0
 
 abbrev of_part : (r : Part) → Val r → ℕ
@@ -97,10 +97,10 @@ stmts_listed : (xs : List StmtTree) → of_stmts xs ≡ greatest stmt_level xs
 stmts_listed [] = refl
 stmts_listed (x ∷ xs) = omega (arith, stmts_listed xs)
 
-abbrev of_arm : ExprTree × Block → ℕ
-of_arm a = max (level a.0) (block_level a.1)
+abbrev of_arm : ExprTree × Suite → ℕ
+of_arm a = max (level a.0) (suite_level a.1)
 
-arms_seconds : (xs : List (Token × (ExprTree × Block))) → arms_level (arms_of (seconds xs)) ≡ greatest (λ x. max 0 (of_arm x.1)) xs
+arms_seconds : (xs : List (Token × (ExprTree × Suite))) → arms_level (arms_of (seconds xs)) ≡ greatest (λ x. max 0 (of_arm x.1)) xs
 arms_seconds [] = refl
 arms_seconds (x ∷ xs) = omega (arith, arms_seconds xs)
 
@@ -120,7 +120,7 @@ marks_listed : (ms : List (ExprTree × Span)) → list_level (marks_of ms) ≡ g
 marks_listed [] = refl
 marks_listed (m ∷ ms) = omega (arith, marks_listed ms)
 
-behind_level : (o : Option (Token × Piece)) (n : ℕ) → of_part (maybe (tok class.End · g.expression TEST)) o ≤ n → maybe_level (tree_behind o) ≤ n
+behind_level : (o : Option (Token × Piece)) (n : ℕ) → of_part (maybe (tok terminal.End · g.expression TEST)) o ≤ n → maybe_level (tree_behind o) ≤ n
 behind_level None n h = omega arith
 behind_level (Some x) n h = omega (arith, h)
 
@@ -128,15 +128,15 @@ maybe_tree_level : (o : Option Piece) (n : ℕ) → of_part (maybe (g.expression
 maybe_tree_level None n h = omega arith
 maybe_tree_level (Some x) n h = h
 
-block_behind_level : (o : Option (Token × (Token × List StmtTree))) (n : ℕ) → of_part (maybe (tok class.End · g.body)) o ≤ n → of_stmts (block_behind o) ≤ n
-block_behind_level None n h = omega arith
-block_behind_level (Some x) n h = omega (arith, h)
+suite_behind_level : (o : Option (Token × (Token × List StmtTree))) (n : ℕ) → of_part (maybe (tok terminal.End · g.body)) o ≤ n → of_stmts (suite_behind o) ≤ n
+suite_behind_level None n h = omega arith
+suite_behind_level (Some x) n h = omega (arith, h)
 
-block_in_level : (o : Option (List StmtTree)) (n : ℕ) → of_part (maybe (g.sym FINALLY)) o ≤ n → maybe_block_level (maybe_block (block_in o)) ≤ n
-block_in_level None n h = omega arith
-block_in_level (Some x) n h = h
+suite_in_level : (o : Option (List StmtTree)) (n : ℕ) → of_part (maybe (g.sym FINALLY)) o ≤ n → maybe_suite_level (maybe_suite (suite_in o)) ≤ n
+suite_in_level None n h = omega arith
+suite_in_level (Some x) n h = h
 
-bases_level : (o : Option (Token × (Option (Piece × (List Piece × Bool)) × Token))) (n : ℕ) → of_part (maybe (tok class.End · maybe (g.list g.comma (g.expression TEST)) · tok class.End)) o ≤ n → list_level (bases_in o) ≤ n
+bases_level : (o : Option (Token × (Option (Piece × (List Piece × Bool)) × Token))) (n : ℕ) → of_part (maybe (tok terminal.End · maybe (g.list g.comma (g.expression TEST)) · tok terminal.End)) o ≤ n → list_level (bases_in o) ≤ n
 bases_level None n h = omega arith
 bases_level (Some (t, (None, u))) n h = omega arith
 bases_level (Some (t, (Some (p, (ps, b)), u))) n h = omega (arith, h, trees_listed ps)
@@ -178,11 +178,11 @@ act_level STMT (inr (inl v)) n h = inl (omega (arith, h))
 act_level STMT (inr (inr (inl v))) n h = inl (omega (arith, h))
 act_level STMT (inr (inr (inr (inl v)))) n h = inl (omega (arith, h))
 act_level STMT (inr (inr (inr (inr v)))) n h = inl h
-act_level IF (word, (arm, (arms, last))) n h = inl (let w = block_behind_level last n (omega (arith, h)) in omega (arith, h, w, arms_seconds arms))
+act_level IF (word, (arm, (arms, last))) n h = inl (let w = suite_behind_level last n (omega (arith, h)) in omega (arith, h, w, arms_seconds arms))
 act_level ARM (test, (colon, body)) n h = inl (omega (arith, h))
 act_level WHILE (word, (test, (colon, body))) n h = inl (omega (arith, h))
 act_level FOR (word, (target, (_, (all, (colon, body))))) n h = inl (omega (arith, h))
-act_level TRY (word, ((colon, body), inl (handler, (handlers, last)))) n h = inl (let w = block_in_level last n (omega (arith, h)) in omega (arith, h, w, handlers_listed handlers))
+act_level TRY (word, ((colon, body), inl (handler, (handlers, last)))) n h = inl (let w = suite_in_level last n (omega (arith, h)) in omega (arith, h, w, handlers_listed handlers))
 act_level TRY (word, ((colon, body), inr last)) n h = inl (omega (arith, h))
 act_level EXCEPT (word, (None, (colon, body))) n h = inl (omega (arith, h))
 act_level EXCEPT (word, (Some (p, name), (colon, body))) n h = inl (omega (arith, h))

@@ -1,9 +1,9 @@
 -- What was read is derived, and what was read up to a fault is a front.
 use Rattle.std.proofs.Common.{◌≡◌, ℕ, zero, suc, ◌+◌, ◌-◌, ◌≤◌, ◌<◌, Bool, true, false, not, ◌||◌, List, [], ◌∷◌, Option, Some, None, Ok, Err, if◌then◌else◌, inl, inr, refl, sym, ◌∙◌, subst, arith, ◌⊎◌}
 use Rattle.py_syntax.specs.declared.token.Token.{Token}
-use Rattle.py_grammar.specs.declared.class.Class.{Class}
+use Rattle.py_grammar.specs.declared.terminal.Terminal.{Terminal}
 use Rattle.py_grammar.specs.declared.place.Place.{Place}
-use Rattle.py_grammar.specs.Classes.{class_of, same, next_left_out}
+use Rattle.py_grammar.specs.Terminals.{terminal_of, same, next_left_out}
 use Rattle.py_grammar.specs.Levels.{Piece, Limit, free, shallow}
 use Rattle.py_grammar.specs.Grammar as g
 use Rattle.py_grammar.specs.Grammar.{ExprSym, More, Sym, expr, more, Part, tok, ◌·◌, ◌⊕◌, maybe, many, after, left, grown, rhs, ATOM, MODULE}
@@ -107,7 +107,7 @@ module _ (ts : List Token) (c r : Part) (p q : Place) (D : Limit → Type 0)
 
 -- ---- one token
 
-sound_accept : (ts : List Token) (c : Class) (p : Place) → Sound ts (tok c) p (accept ts c p)
+sound_accept : (ts : List Token) (c : Terminal) (p : Place) → Sound ts (tok c) p (accept ts c p)
 sound_accept ts c p = go (slice_get ts p.at) refl
   where
     here : SoundAt ts (tok c) p p.at
@@ -119,7 +119,7 @@ sound_accept ts c p = go (slice_get ts p.at) refl
     go : (o : Option Token) → slice_get ts p.at ≡ o → Sound ts (tok c) p (accept_one o c p)
     go None e = here
     go (Some t) e =
-        either_way (Sound ts (tok c) p) (same (class_of t.kind) c) (take_it t p) (Err (refusal (Some t) p.at))
+        either_way (Sound ts (tok c) p) (same (terminal_of t.kind) c) (take_it t p) (Err (refusal (Some t) p.at))
         (λ y. either_way (Sound ts (tok c) p) p.deep (Err (too_deep_at (p.at - 1))) (Ok (t, record { at = p.at + 1; deep = false }))
         (λ d. record { behind = p.at; last = refl; some = λ f. absurd (cc); anyhow = whole (tok c) p.at t (one c p.at t e y); at = here })
         (λ d. record { anyhow = one c p.at t e y; tight = λ _ _. one c p.at t e y; front = λ _. whole (tok c) p.at t (one c p.at t e y); stuck = λ f. absurd (cc); moved = λ f h. absurd (cc) }))
@@ -181,11 +181,11 @@ module _ (ts : List Token) (run : Reader) (ih : (r : Part) (p : Place) → Sound
   }
   sound_sym s p (Err e) w = sound_stop ts (rhs s) (g.sym s) p e (λ lim n. of_rule s p.at) w
 
-  tok_front : (lim : Limit) (n : ℕ) (c : Class) (a : Part) {i : ℕ} → Front lim ts n (tok c) i → Front lim ts n (after c a) i
+  tok_front : (lim : Limit) (n : ℕ) (c : Terminal) (a : Part) {i : ℕ} → Front lim ts n (tok c) i → Front lim ts n (after c a) i
   tok_front lim n c a (empty _) = empty (after c a)
   tok_front lim n c a (whole _ i v d) = whole (after c a) i ([], true) (trails c a i n v d)
 
-  pair_front : (lim : Limit) (n : ℕ) (c : Class) (a : Part) (i : ℕ) (t : Token) {j : ℕ} → Derives lim ts (tok c) i j t → Front lim ts n (a · after c a) j → Front lim ts n (after c a) i
+  pair_front : (lim : Limit) (n : ℕ) (c : Terminal) (a : Part) (i : ℕ) (t : Token) {j : ℕ} → Derives lim ts (tok c) i j t → Front lim ts n (a · after c a) j → Front lim ts n (after c a) i
   pair_front lim n c a i t d (empty _) = whole (after c a) i ([], true) (trails c a i n t d)
   pair_front lim n c a i t d (whole _ j v e) = by_pair e
     where
@@ -194,10 +194,10 @@ module _ (ts : List Token) (run : Reader) (ih : (r : Part) (p : Place) → Sound
   pair_front lim n c a i t d (in_first _ _ j f) = in_item c a i j t d f
   pair_front lim n c a i t d (in_second _ _ j l v e f) = in_items c a i j l t v d e f
 
-  pair_derives : (lim : Limit) (c : Class) (a : Part) (i : ℕ) (t : Token) {j l : ℕ} {v : Val a × (List (Val a) × Bool)} → Derives lim ts (tok c) i j t → Derives lim ts (a · after c a) j l v → Derives lim ts (after c a) i l (v.0 ∷ v.1.0, v.1.1)
+  pair_derives : (lim : Limit) (c : Terminal) (a : Part) (i : ℕ) (t : Token) {j l : ℕ} {v : Val a × (List (Val a) × Bool)} → Derives lim ts (tok c) i j t → Derives lim ts (a · after c a) j l v → Derives lim ts (after c a) i l (v.0 ∷ v.1.0, v.1.1)
   pair_derives lim c a i t d (both _ _ j m l v vs e f) = goes_on c a i j m l t v vs d e f
 
-  sound_after : (c : Class) (a : Part) (p : Place) (o : Outcome Token) → Sound ts (tok c) p o
+  sound_after : (c : Terminal) (a : Part) (p : Place) (o : Outcome Token) → Sound ts (tok c) p o
       → Sound ts (after c a) p (o >>= λ x. if sees ts x.1 (firsts a) then (run a x.1 >>= λ y. run (after c a) y.1 >>= λ z. Ok ((y.0 ∷ z.0.0, z.0.1), z.1)) else Ok (([], true), x.1))
   sound_after c a p (Ok x) w =
       either_way (Sound ts (after c a) p) (sees ts x.1 (firsts a)) (run a x.1 >>= λ y. run (after c a) y.1 >>= λ z. Ok ((y.0 ∷ z.0.0, z.0.1), z.1)) (Ok (([], true), x.1))

@@ -4,9 +4,9 @@ use Rattle.std.proofs.lemmas.Bool.{leb-true}
 use Rattle.std.proofs.lemmas.Option.{slice_get_within}
 use Rattle.std.proofs.Common.{◌≡◌, ℕ, zero, suc, ◌+◌, ◌-◌, ◌*◌, ◌≤◌, ◌<◌, Bool, true, false, not, ◌&&◌, ◌||◌, List, [], ◌∷◌, Option, Some, None, Ok, Err, if◌then◌else◌, inl, inr, refl, sym, ap, subst, arith, ◌⊎◌, length}
 use Rattle.py_syntax.specs.declared.token.Token.{Token}
-use Rattle.py_grammar.specs.declared.class.Class.{Class}
+use Rattle.py_grammar.specs.declared.terminal.Terminal.{Terminal}
 use Rattle.py_grammar.specs.declared.place.Place.{Place}
-use Rattle.py_grammar.specs.Classes.{class_of, same, next_left_out}
+use Rattle.py_grammar.specs.Terminals.{terminal_of, same, next_left_out}
 use Rattle.py_grammar.specs.Levels.{Piece, shallow}
 use Rattle.py_grammar.specs.Grammar as g
 use Rattle.py_grammar.specs.Grammar.{ExprSym, More, Sym, expr, more, Part, tok, ◌·◌, ◌⊕◌, maybe, many, after, left, grown, rhs, ATOM, MODULE}
@@ -139,7 +139,7 @@ sure_then : (ts : List Token) (l : ℕ) (d e f : Bool) {A C : Type 0} (o : Outco
 sure_then ts l d e f (Ok x) h w k rel = shift ts l (rest ts x.1) d e f (h x) w.0 w.1 rel (k x w.0 w.1)
 sure_then ts l d e f (Err s) h w k rel = w
 
-sure_accept : (ts : List Token) (c : Class) (p : Place) → Sure ts (rest ts p) false (accept ts c p)
+sure_accept : (ts : List Token) (c : Terminal) (p : Place) → Sure ts (rest ts p) false (accept ts c p)
 sure_accept ts c p = go (slice_get ts p.at) refl
   where
     refused : (o : Option Token) → SureStop (refusal o p.at)
@@ -149,7 +149,7 @@ sure_accept ts c p = go (slice_get ts p.at) refl
     go None e = tt
     go (Some t) e =
         let lt = slice_get_within ts p.at t e in
-        either_way (Sure ts (rest ts p) false) (same (class_of t.kind) c) (take_it t p) (Err (refusal (Some t) p.at))
+        either_way (Sure ts (rest ts p) false) (same (terminal_of t.kind) c) (take_it t p) (Err (refusal (Some t) p.at))
         (λ _. either_way (Sure ts (rest ts p) false) p.deep (Err (too_deep_at (p.at - 1))) (Ok (t, record { at = p.at + 1; deep = false })) (λ _. tt) (λ _. (omega arith, λ _. omega arith)))
         (λ _. refused (Some t))
 

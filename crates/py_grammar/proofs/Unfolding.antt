@@ -1,8 +1,8 @@
 -- What a front of a part, with what may stand behind it, is of the parts in it.
 use Rattle.std.proofs.Common.{◌≡◌, ℕ, ◌<◌, Bool, true, false, not, ◌&&◌, ◌||◌, List, [], ◌∷◌, ◌++◌, Option, Some, None, if◌then◌else◌, inl, inr, refl, sym, ap, subst, arith, ◌⊎◌}
 use Rattle.py_syntax.specs.declared.token.Token.{Token}
-use Rattle.py_grammar.specs.declared.class.Class.{Class}
-use Rattle.py_grammar.specs.Classes.{next_in}
+use Rattle.py_grammar.specs.declared.terminal.Terminal.{Terminal}
+use Rattle.py_grammar.specs.Terminals.{next_in}
 use Rattle.py_grammar.specs.Levels.{Piece, shallow}
 use Rattle.py_grammar.specs.Grammar as g
 use Rattle.py_grammar.specs.Grammar.{ExprSym, More, Sym, expr, more, Part, tok, ◌·◌, ◌⊕◌, maybe, many, after, left, grown, rhs, ATOM, MODULE}
@@ -17,7 +17,7 @@ use Rattle.py_grammar.proofs.Continuations.{limit, FrontK, inside, past, Follow,
 
 module _ (b : Bool) (ts : List Token) (n : ℕ) where
   -- what is behind b, where b may be empty
-  pub rest_follow : (r : Part) (K : Val r → ℕ → Type 0) (nx : List Class) → Follows ts n K nx → (j : ℕ) → FrontK b ts n r j K → Follow ts n j (if may_be_empty r then firsts r ++ nx else firsts r)
+  pub rest_follow : (r : Part) (K : Val r → ℕ → Type 0) (nx : List Terminal) → Follows ts n K nx → (j : ℕ) → FrontK b ts n r j K → Follow ts n j (if may_be_empty r then firsts r ++ nx else firsts r)
   rest_follow r K nx fo j (inside f) = at (eq-or-lt_of_le (front_begins (limit b) ts n f).le)
     where
       at : (j ≡ n) ⊎ (j < n) → Follow ts n j (if may_be_empty r then firsts r ++ nx else firsts r)
@@ -68,7 +68,7 @@ module _ (b : Bool) (ts : List Token) (n : ℕ) where
       derived : {i j : ℕ} {v : Val a × (Val c)} → Derives (limit b) ts (a · c) i j v → K v j → FrontK b ts n a i (λ v j. FrontK b ts n c j (λ w l. K (v, w) l))
       derived (both _ _ i j l v w d e) k = past j v d (past l w e k)
 
-  clash : (i : ℕ) (xs ds : List Class) → apart xs ds ≡ true → next_in (slice_get ts i) xs ≡ true → next_in (slice_get ts i) ds ≡ true → ⊥
+  clash : (i : ℕ) (xs ds : List Terminal) → apart xs ds ≡ true → next_in (slice_get ts i) xs ≡ true → next_in (slice_get ts i) ds ≡ true → ⊥
   clash i xs ds ap h k = next_apart (slice_get ts i) xs ds h k ap
 
   pub mark_clear : (s : Sym) (v : Sem s) (d : Bool) → (b && d) ≡ false → IsTrue (admits (limit b) s v) → (b && (not (admits shallow s v) || d)) ≡ false
@@ -139,7 +139,7 @@ module _ (b : Bool) (ts : List Token) (n : ℕ) where
     out_at : K v i → Left_out a i K v Rest
     in_at : Rest → Left_out a i K v Rest
 
-  pub go_in : {C : Type 0} (a : Part) (i : ℕ) (nx : List Class) (K : C → ℕ → Type 0) (v : C) (K2 : Val a → ℕ → Type 0) → Follows ts n K nx → apart (firsts a) nx ≡ true → next_in (slice_get ts i) (firsts a) ≡ true
+  pub go_in : {C : Type 0} (a : Part) (i : ℕ) (nx : List Terminal) (K : C → ℕ → Type 0) (v : C) (K2 : Val a → ℕ → Type 0) → Follows ts n K nx → apart (firsts a) nx ≡ true → next_in (slice_get ts i) (firsts a) ≡ true
       → Left_out a i K v (FrontK b ts n a i K2) → FrontK b ts n a i K2
   go_in a i nx K v K2 fo far sees (in_at x) = x
   go_in a i nx K v K2 fo far sees (out_at k) = at (fo v i k)
@@ -191,10 +191,10 @@ module _ (b : Bool) (ts : List Token) (n : ℕ) where
 
   -- ---- separators
 
-  abbrev pub Behind : (a : Part) (c : Class) (K : List (Val a) × Bool → ℕ → Type 0) → Token → ℕ → Type 0
+  abbrev pub Behind : (a : Part) (c : Terminal) (K : List (Val a) × Bool → ℕ → Type 0) → Token → ℕ → Type 0
   Behind a c K t j = Left_out a j K ([], true) (FrontK b ts n a j (λ v l. FrontK b ts n (after c a) l (λ vs q. K (v ∷ vs.0, vs.1) q)))
 
-  pub to_after : (c : Class) (a : Part) (K : List (Val a) × Bool → ℕ → Type 0) (i : ℕ) → FrontK b ts n (after c a) i K → Left_out (tok c) i K ([], false) (FrontK b ts n (tok c) i (Behind a c K))
+  pub to_after : (c : Terminal) (a : Part) (K : List (Val a) × Bool → ℕ → Type 0) (i : ℕ) → FrontK b ts n (after c a) i K → Left_out (tok c) i K ([], false) (FrontK b ts n (tok c) i (Behind a c K))
   to_after c a K i (inside f) = front f
     where
       derived : {j : ℕ} {v : List (Val a) × Bool} → Derives (limit b) ts (after c a) j n v → Left_out (tok c) j K ([], false) (FrontK b ts n (tok c) j (Behind a c K))

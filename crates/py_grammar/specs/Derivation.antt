@@ -2,8 +2,8 @@
 use Rattle.std.specs.Prelude.{◌≡◌, ℕ, ◌+◌, Bool, true, false, IsTrue, List, [], ◌∷◌, Some, None, slice_get}
 use Rattle.std.proofs.Common.{inl, inr}
 use Rattle.py_syntax.specs.declared.token.Token.{Token}
-use Rattle.py_grammar.specs.declared.class.Class.{Class}
-use Rattle.py_grammar.specs.Classes.{class_of, same}
+use Rattle.py_grammar.specs.declared.terminal.Terminal.{Terminal}
+use Rattle.py_grammar.specs.Terminals.{terminal_of, same}
 use Rattle.py_grammar.specs.Levels.{Piece, Limit}
 use Rattle.py_grammar.specs.Grammar.{ExprSym, More, Sym, expr, more, Part, tok, sym, ◌·◌, ◌⊕◌, maybe, many, after, left, grown, rhs}
 use Rattle.py_grammar.specs.Actions.{Sem, SemMore, Val, act, grow}
@@ -16,7 +16,7 @@ admits fits _ v = true
 -- The tokens from the first number up to the second are derived from the part, and stand for the value. Each expression
 -- that is finished on the way passes the test.
 pub data Derives (fits : Limit) (ts : List Token) : (r : Part) → ℕ → ℕ → Val r → Type 0 where
-  one : (c : Class) (i : ℕ) (t : Token) → slice_get ts i ≡ Some t → same (class_of t.kind) c ≡ true → Derives fits ts (tok c) i (i + 1) t
+  one : (c : Terminal) (i : ℕ) (t : Token) → slice_get ts i ≡ Some t → same (terminal_of t.kind) c ≡ true → Derives fits ts (tok c) i (i + 1) t
   by_rule : (x : Sym) (i j : ℕ) (v : Val (rhs x)) → Derives fits ts (rhs x) i j v → IsTrue (admits fits x (act x v)) → Derives fits ts (sym x) i j (act x v)
   both : (a b : Part) (i j k : ℕ) (v : Val a) (w : Val b) → Derives fits ts a i j v → Derives fits ts b j k w → Derives fits ts (a · b) i k (v, w)
   first : (a b : Part) (i j : ℕ) (v : Val a) → Derives fits ts a i j v → Derives fits ts (a ⊕ b) i j (inl v)
@@ -26,9 +26,9 @@ pub data Derives (fits : Limit) (ts : List Token) : (r : Part) → ℕ → ℕ �
   no_more : (a : Part) (i : ℕ) → Derives fits ts (many a) i i []
   again : (a : Part) (i j k : ℕ) (v : Val a) (vs : List (Val a)) → Derives fits ts a i j v → Derives fits ts (many a) j k vs → Derives fits ts (many a) i k (v ∷ vs)
   -- of what stands between separators: nothing more, a last separator, or a separator and an item
-  ends : (c : Class) (a : Part) (i : ℕ) → Derives fits ts (after c a) i i ([], false)
-  trails : (c : Class) (a : Part) (i j : ℕ) (t : Token) → Derives fits ts (tok c) i j t → Derives fits ts (after c a) i j ([], true)
-  goes_on : (c : Class) (a : Part) (i j k l : ℕ) (t : Token) (v : Val a) (vs : List (Val a) × Bool) → Derives fits ts (tok c) i j t → Derives fits ts a j k v → Derives fits ts (after c a) k l vs → Derives fits ts (after c a) i l (v ∷ vs.0, vs.1)
+  ends : (c : Terminal) (a : Part) (i : ℕ) → Derives fits ts (after c a) i i ([], false)
+  trails : (c : Terminal) (a : Part) (i j : ℕ) (t : Token) → Derives fits ts (tok c) i j t → Derives fits ts (after c a) i j ([], true)
+  goes_on : (c : Terminal) (a : Part) (i j k l : ℕ) (t : Token) (v : Val a) (vs : List (Val a) × Bool) → Derives fits ts (tok c) i j t → Derives fits ts a j k v → Derives fits ts (after c a) k l vs → Derives fits ts (after c a) i l (v ∷ vs.0, vs.1)
   -- of what is grouped from the left: the first operand, and then what goes on with all that stands in front
   from_left : (e : ExprSym) (m : More) (i j k : ℕ) (v u : Piece) → Derives fits ts (sym (expr e)) i j v → Derives fits ts (grown m v) j k u → Derives fits ts (left e m) i k u
   full : (m : More) (v : Piece) (i : ℕ) → Derives fits ts (grown m v) i i v
@@ -48,8 +48,8 @@ pub data Front (fits : Limit) (ts : List Token) (n : ℕ) : Part → ℕ → Typ
   of_maybe : (a : Part) (i : ℕ) → Front fits ts n a i → Front fits ts n (maybe a) i
   in_one : (a : Part) (i : ℕ) → Front fits ts n a i → Front fits ts n (many a) i
   in_more : (a : Part) (i j : ℕ) (v : Val a) → Derives fits ts a i j v → Front fits ts n (many a) j → Front fits ts n (many a) i
-  in_item : (c : Class) (a : Part) (i j : ℕ) (t : Token) → Derives fits ts (tok c) i j t → Front fits ts n a j → Front fits ts n (after c a) i
-  in_items : (c : Class) (a : Part) (i j k : ℕ) (t : Token) (v : Val a) → Derives fits ts (tok c) i j t → Derives fits ts a j k v → Front fits ts n (after c a) k → Front fits ts n (after c a) i
+  in_item : (c : Terminal) (a : Part) (i j : ℕ) (t : Token) → Derives fits ts (tok c) i j t → Front fits ts n a j → Front fits ts n (after c a) i
+  in_items : (c : Terminal) (a : Part) (i j k : ℕ) (t : Token) (v : Val a) → Derives fits ts (tok c) i j t → Derives fits ts a j k v → Front fits ts n (after c a) k → Front fits ts n (after c a) i
   in_left : (e : ExprSym) (m : More) (i : ℕ) → Front fits ts n (sym (expr e)) i → Front fits ts n (left e m) i
   behind_left : (e : ExprSym) (m : More) (i j : ℕ) (v : Piece) → Derives fits ts (sym (expr e)) i j v → Front fits ts n (grown m v) j → Front fits ts n (left e m) i
   in_growth : (m : More) (v : Piece) (i : ℕ) → Front fits ts n (sym (more m)) i → Front fits ts n (grown m v) i

@@ -1,14 +1,14 @@
 -- What the tokens of a module are: its tree, or its first fault.
 use Rattle.std.specs.Prelude.{ℕ, ◌+◌, ◌≤◌, ◌<◌, List, length}
 use Rattle.py_syntax.specs.declared.token.Token.{Token}
-use Rattle.py_syntax.specs.Statements.{Block}
-use Rattle.py_grammar.specs.Classes.{IsLeftOutAt}
+use Rattle.py_syntax.specs.Statements.{Suite}
+use Rattle.py_grammar.specs.Terminals.{IsLeftOutAt}
 use Rattle.py_grammar.specs.Levels.{Limit, free, shallow}
 use Rattle.py_grammar.specs.Grammar.{sym, MODULE}
 use Rattle.py_grammar.specs.Derivation.{Derives, Front}
 
 -- all tokens are derived from a module, with no expression of level above 100, and the tree is their value
-abbrev pub IsTree : List Token → Block → Type 0
+abbrev pub IsTree : List Token → Suite → Type 0
 IsTree ts b = Derives shallow ts (sym MODULE) 0 (length ts) b
 
 -- the tokens before n are a front of a module
@@ -32,7 +32,7 @@ pub record TooDeepAt (ts : List Token) (j : ℕ) : Type 0 where
 
 -- what may come of the tokens of a module; a fault has the number of its token
 pub data Came : Type 0 where
-  tree : Block → Came
+  tree : Suite → Came
   syntax : ℕ → Came
   profile : ℕ → Came
   too_deep : ℕ → Came

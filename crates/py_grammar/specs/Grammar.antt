@@ -3,8 +3,8 @@ use Rattle.py_syntax.specs.declared.key.Key.{Key}
 use Rattle.py_syntax.specs.declared.key.Key.TheVariants as k
 use Rattle.py_syntax.specs.declared.sign.Sign.{Sign}
 use Rattle.py_syntax.specs.declared.sign.Sign.TheVariants as s
-use Rattle.py_grammar.specs.declared.class.Class.{Class}
-use Rattle.py_grammar.specs.declared.class.Class.TheVariants as class
+use Rattle.py_grammar.specs.declared.terminal.Terminal.{Terminal}
+use Rattle.py_grammar.specs.declared.terminal.Terminal.TheVariants as terminal
 use Rattle.py_grammar.specs.Levels.{Piece}
 
 -- the symbols that stand for an expression
@@ -81,8 +81,8 @@ infixr 30 ◌·◌
 infixr 25 ◌⊕◌
 -- what the rules are made of
 pub data Part : Type 0 where
-  -- one token of a class
-  tok : Class → Part
+  -- one token of a terminal
+  tok : Terminal → Part
   -- what a symbol stands for
   sym : Sym → Part
   -- one part and then the other
@@ -94,7 +94,7 @@ pub data Part : Type 0 where
   -- the part, any number of times
   many : Part → Part
   -- a separator and the part, any number of times, and then perhaps a separator
-  after : Class → Part → Part
+  after : Terminal → Part → Part
   -- an expression, and any number of times what goes on with it; it is grouped from the left
   left : ExprSym → More → Part
   -- any number of times what goes on with an expression that is there; no rule has this part
@@ -102,20 +102,20 @@ pub data Part : Type 0 where
 
 -- a keyword, a sign, an expression
 abbrev pub key : Key → Part
-key word = tok (class.Key word)
+key word = tok (terminal.Key word)
 
 abbrev pub sign : Sign → Part
-sign text = tok (class.Sign text)
+sign text = tok (terminal.Sign text)
 
 abbrev pub expression : ExprSym → Part
 expression e = sym (expr e)
 
 -- the part at least once, between separators, of which one may stand at the end
-abbrev pub list : Class → Part → Part
+abbrev pub list : Terminal → Part → Part
 list separator part = part · after separator part
 
-abbrev pub comma : Class
-comma = class.Sign s.Comma
+abbrev pub comma : Terminal
+comma = terminal.Sign s.Comma
 
 -- the part any number of times, between commas and in brackets
 abbrev pub bracketed : Sign → Part → Sign → Part
@@ -133,7 +133,7 @@ rhs_more SHIFT_MORE = (sign s.Shl ⊕ sign s.Shr) · expression SUM
 rhs_more SUM_MORE = (sign s.Plus ⊕ sign s.Minus) · expression TERM
 rhs_more TERM_MORE = (sign s.Star ⊕ sign s.SlashSlash ⊕ sign s.Percent) · expression FACTOR
 rhs_more TRAILER =
-    sign s.Dot · tok class.Name
+    sign s.Dot · tok terminal.Name
     ⊕ bracketed s.LeftParen (sym ARG) s.RightParen
     ⊕ sign s.LeftSquare · expression TESTS · sign s.RightSquare
 
@@ -152,9 +152,9 @@ rhs_expr TERM = left FACTOR TERM_MORE
 rhs_expr FACTOR = (sign s.Minus ⊕ sign s.Plus) · expression FACTOR ⊕ expression PRIMARY
 rhs_expr PRIMARY = left ATOM TRAILER
 rhs_expr ATOM =
-    tok class.Name
-    ⊕ tok class.Int
-    ⊕ tok class.Str · many (tok class.Str)
+    tok terminal.Name
+    ⊕ tok terminal.Int
+    ⊕ tok terminal.Str · many (tok terminal.Str)
     ⊕ key k.True
     ⊕ key k.False
     ⊕ key k.Nothing
@@ -194,17 +194,17 @@ rhs AUG =
     ⊕ sign s.ShrAssign
 rhs RETURN = key k.Return · maybe (expression TESTS)
 rhs RAISE = key k.Raise · maybe (expression TEST)
-rhs GLOBAL = key k.Global · tok class.Name · many (tok comma · tok class.Name)
+rhs GLOBAL = key k.Global · tok terminal.Name · many (tok comma · tok terminal.Name)
 rhs ASSERT = key k.Assert · expression TEST · maybe (tok comma · expression TEST)
 rhs DEL = key k.Del · expression TEST
-rhs IMPORT = key k.Import · sym DOTTED · maybe (key k.As · tok class.Name)
+rhs IMPORT = key k.Import · sym DOTTED · maybe (key k.As · tok terminal.Name)
 rhs FROM =
     key k.From
     · sym DOTTED
     · key k.Import
     · (sym ALIAS · many (tok comma · sym ALIAS) ⊕ sign s.LeftParen · list comma (sym ALIAS) · sign s.RightParen)
-rhs DOTTED = tok class.Name · many (sign s.Dot · tok class.Name)
-rhs ALIAS = tok class.Name · maybe (key k.As · tok class.Name)
+rhs DOTTED = tok terminal.Name · many (sign s.Dot · tok terminal.Name)
+rhs ALIAS = tok terminal.Name · maybe (key k.As · tok terminal.Name)
 rhs SMALL =
     key k.Pass
     ⊕ key k.Break
@@ -217,28 +217,28 @@ rhs SMALL =
     ⊕ sym IMPORT
     ⊕ sym FROM
     ⊕ sym PLAIN
-rhs SIMPLE = list (class.Sign s.Semicolon) (sym SMALL) · tok class.Newline
+rhs SIMPLE = list (terminal.Sign s.Semicolon) (sym SMALL) · tok terminal.Newline
 rhs STMT = sym IF ⊕ sym WHILE ⊕ sym FOR ⊕ sym TRY ⊕ sym SIMPLE
 rhs IF = key k.If · sym ARM · many (key k.Elif · sym ARM) · maybe (key k.Else · body)
 rhs ARM = expression TEST · body
 rhs WHILE = key k.While · expression TEST · body
 rhs FOR = key k.For · expression TARGETS · key k.In · expression TESTS · body
 rhs TRY = key k.Try · body · (sym EXCEPT · many (sym EXCEPT) · maybe (sym FINALLY) ⊕ sym FINALLY)
-rhs EXCEPT = key k.Except · maybe (expression TEST · maybe (key k.As · tok class.Name)) · body
+rhs EXCEPT = key k.Except · maybe (expression TEST · maybe (key k.As · tok terminal.Name)) · body
 rhs FINALLY = key k.Finally · body
-rhs BLOCK = tok class.Newline · tok class.Indent · sym STMT · many (sym STMT) · tok class.Dedent ⊕ sym SIMPLE
+rhs BLOCK = tok terminal.Newline · tok terminal.Indent · sym STMT · many (sym STMT) · tok terminal.Dedent ⊕ sym SIMPLE
 rhs FUNC =
     key k.Def
-    · tok class.Name
+    · tok terminal.Name
     · bracketed s.LeftParen (sym PARAM) s.RightParen
     · maybe (sign s.Arrow · expression TEST)
     · body
-rhs PARAM = tok class.Name · maybe (sign s.Colon · expression TEST)
+rhs PARAM = tok terminal.Name · maybe (sign s.Colon · expression TEST)
 rhs CLASS =
-    key k.Class · tok class.Name · maybe (bracketed s.LeftParen (expression TEST) s.RightParen) · sign s.Colon · sym CBLOCK
-rhs CBLOCK = tok class.Newline · tok class.Indent · sym MEMBER · many (sym MEMBER) · tok class.Dedent ⊕ sym SIMPLE
+    key k.Class · tok terminal.Name · maybe (bracketed s.LeftParen (expression TEST) s.RightParen) · sign s.Colon · sym CBLOCK
+rhs CBLOCK = tok terminal.Newline · tok terminal.Indent · sym MEMBER · many (sym MEMBER) · tok terminal.Dedent ⊕ sym SIMPLE
 rhs MEMBER = sym FUNC ⊕ sym STMT
-rhs MARK = sign s.At · expression TEST · tok class.Newline
+rhs MARK = sign s.At · expression TEST · tok terminal.Newline
 rhs DECORATED = sym MARK · many (sym MARK) · (sym FUNC ⊕ sym CLASS)
 rhs TOP = sym FUNC ⊕ sym CLASS ⊕ sym DECORATED ⊕ sym STMT
-rhs MODULE = many (sym TOP) · tok class.End
+rhs MODULE = many (sym TOP) · tok terminal.End

@@ -2,7 +2,7 @@
 use Rattle.std.specs.Prelude.{◌≡◌, ◌<◌, List, length, Option, Some, None, Ok, Err}
 use Rattle.py_syntax.specs.declared.token.Token.{Token}
 use Rattle.py_syntax.specs.Tokens.{EndsOnce}
-use Rattle.py_syntax.specs.Statements.{Block}
+use Rattle.py_syntax.specs.Statements.{Suite}
 use Rattle.py_grammar.specs.Levels.{IsShallow}
 use Rattle.py_grammar.specs.Grammar.{MODULE}
 use Rattle.py_grammar.specs.Faults.{IsTree, Came, tree, syntax, profile, too_deep, Says}
@@ -10,7 +10,7 @@ use Rattle.py_grammar.specs.Reader.{Outcome, syntax_at, profile_at, too_deep_at,
 use Rattle.py_grammar.specs.Readings.{reads_sym}
 
 -- what came of reading a module, unless reading ran out of steps
-abbrev pub came : Outcome Block → Option Came
+abbrev pub came : Outcome Suite → Option Came
 came (Ok x) = Some (tree x.0)
 came (Err (syntax_at i)) = Some (syntax i)
 came (Err (profile_at i)) = Some (profile i)
@@ -27,11 +27,11 @@ OutcomeIsOne = (ts : List Token) (x y : Came) → Says ts x → Says ts y → x 
 
 -- there is one tree at most
 abbrev pub TreeIsOne : Type 0
-TreeIsOne = (ts : List Token) (b c : Block) → IsTree ts b → IsTree ts c → b ≡ c
+TreeIsOne = (ts : List Token) (b c : Suite) → IsTree ts b → IsTree ts c → b ≡ c
 
 -- no tree has an expression of level above 100
 abbrev pub TreesAreShallow : Type 0
-TreesAreShallow = (ts : List Token) (b : Block) → IsTree ts b → IsShallow b
+TreesAreShallow = (ts : List Token) (b : Suite) → IsTree ts b → IsShallow b
 
 -- the number of a fault is that of a token
 abbrev pub IsWithin : List Token → Came → Type 0

@@ -3,7 +3,7 @@ use Rattle.std.specs.Prelude.{ℕ, ◌+◌, ◌≤◌, max, nat_le, Bool, true, 
 use Rattle.py_syntax.specs.declared.token.Span.{Span}
 use Rattle.py_syntax.specs.Expressions.{ExprTree, at, ExprNode, Int, Str, True, False, Nothing, Name, Neg, Plus, Not, Bin, Compare, And, Or, Cond, ListOf, DictOf, TupleOf, Attr, Index, Call, ExprTrees, no_exprs, expr_then, Comparisons, no_comparisons, comparison_then, Entries, no_entries, entry_then, Arguments, no_arguments, argument_then, keyed_then}
 use Rattle.py_syntax.specs.Statements as s
-use Rattle.py_syntax.specs.Statements.{StmtTree, StmtNode, Block, Arms, Handlers, MaybeBlock}
+use Rattle.py_syntax.specs.Statements.{StmtTree, StmtNode, Suite, Arms, Handlers, MaybeSuite}
 
 -- A name, a literal, an empty display and `()` have level 1. Any other expression has 1 more than the greatest of its
 -- parts; the key of an argument is such a part.
@@ -83,34 +83,34 @@ abbrev mutual
   body_level (s.Assert e message) = max (level e) (maybe_level message)
   body_level (s.Import name other) = 0
   body_level (s.From name names) = 0
-  body_level (s.If arms other) = max (arms_level arms) (block_level other)
-  body_level (s.While e body) = max (level e) (block_level body)
-  body_level (s.For target e body) = max (level target) (max (level e) (block_level body))
-  body_level (s.Try body handlers last) = max (block_level body) (max (handlers_level handlers) (maybe_block_level last))
+  body_level (s.If arms other) = max (arms_level arms) (suite_level other)
+  body_level (s.While e body) = max (level e) (suite_level body)
+  body_level (s.For target e body) = max (level target) (max (level e) (suite_level body))
+  body_level (s.Try body handlers last) = max (suite_level body) (max (handlers_level handlers) (maybe_suite_level last))
   body_level (s.Def name params ret body marks) =
-      max (params_level params) (max (maybe_level ret) (max (block_level body) (list_level marks)))
-  body_level (s.ClassDef name bases body marks) = max (list_level bases) (max (block_level body) (list_level marks))
+      max (params_level params) (max (maybe_level ret) (max (suite_level body) (list_level marks)))
+  body_level (s.ClassDef name bases body marks) = max (list_level bases) (max (suite_level body) (list_level marks))
 
-  pub block_level : Block → ℕ
-  block_level s.no_stmts = 0
-  block_level (s.stmt_then stmt more) = max (stmt_level stmt) (block_level more)
+  pub suite_level : Suite → ℕ
+  suite_level s.no_stmts = 0
+  suite_level (s.stmt_then stmt more) = max (stmt_level stmt) (suite_level more)
 
   pub arms_level : Arms → ℕ
   arms_level s.no_arms = 0
-  arms_level (s.arm_then test body more) = max (max (level test) (block_level body)) (arms_level more)
+  arms_level (s.arm_then test body more) = max (max (level test) (suite_level body)) (arms_level more)
 
   pub handlers_level : Handlers → ℕ
   handlers_level s.no_handlers = 0
   handlers_level (s.handler_then class name body span more) =
-      max (max (maybe_level class) (block_level body)) (handlers_level more)
+      max (max (maybe_level class) (suite_level body)) (handlers_level more)
 
-  pub maybe_block_level : MaybeBlock → ℕ
-  maybe_block_level s.no_block = 0
-  maybe_block_level (s.some_block body) = block_level body
+  pub maybe_suite_level : MaybeSuite → ℕ
+  maybe_suite_level s.no_suite = 0
+  maybe_suite_level (s.some_suite body) = suite_level body
 
 -- no expression of a module has a level above 100
-abbrev pub IsShallow : Block → Type 0
-IsShallow body = block_level body ≤ 100
+abbrev pub IsShallow : Suite → Type 0
+IsShallow body = suite_level body ≤ 100
 
 -- what is asked of each expression that is finished: nothing, or a level of at most 100
 abbrev pub Limit : Type 0

@@ -1,6 +1,7 @@
-pub mod Classes
+pub mod Terminals
 pub mod Grammar
 pub mod Levels
+pub mod Values
 pub mod Actions
 pub mod Derivation
 pub mod Faults

@@ -5,56 +5,56 @@ use Rattle.py_syntax.specs.declared.key.Key.TheVariants as k
 use Rattle.py_syntax.specs.declared.sign.Sign.TheVariants as s
 use Rattle.py_syntax.specs.declared.token.Token.{Token}
 use Rattle.py_syntax.specs.Expressions as e
-use Rattle.py_grammar.specs.declared.class.Class.{Class}
-use Rattle.py_grammar.specs.declared.class.Class.TheVariants as class
+use Rattle.py_grammar.specs.declared.terminal.Terminal.{Terminal}
+use Rattle.py_grammar.specs.declared.terminal.Terminal.TheVariants as terminal
 use Rattle.py_grammar.specs.declared.place.Place.{Place}
-use Rattle.py_grammar.specs.Classes.{class_of, same, next_in, next_left_out}
+use Rattle.py_grammar.specs.Terminals.{terminal_of, same, next_in, next_left_out}
 use Rattle.py_grammar.specs.Levels.{Piece, shallow}
 use Rattle.py_grammar.specs.Grammar.{ExprSym, More, Sym, expr, more, Part, tok, sym, ◌·◌, ◌⊕◌, maybe, many, after, left, grown, rhs, TESTS, TARGETS, TEST, OR, AND, NOT, COMP, BOR, SHIFT, SUM, TERM, FACTOR, PRIMARY, ATOM, OR_MORE, AND_MORE, BOR_MORE, SHIFT_MORE, SUM_MORE, TERM_MORE, TRAILER, COMP_MORE, COMP_OP, ARG, ENTRY, PLAIN, AUG, RETURN, RAISE, GLOBAL, ASSERT, DEL, IMPORT, FROM, DOTTED, ALIAS, SMALL, SIMPLE, STMT, IF, ARM, WHILE, FOR, TRY, EXCEPT, FINALLY, BLOCK, FUNC, PARAM, CLASS, CBLOCK, MEMBER, MARK, DECORATED, TOP, MODULE}
 use Rattle.py_grammar.specs.Actions.{Sem, Val, act, grow, piece}
 use Rattle.py_grammar.specs.Derivation.{admits}
 
--- ---- the classes that a part may begin with
+-- ---- the terminals that a part may begin with
 
-abbrev pub atoms : List Class
+abbrev pub atoms : List Terminal
 atoms =
-    class.Name ∷ class.Int ∷ class.Str ∷ class.Key k.True ∷ class.Key k.False ∷ class.Key k.Nothing
-    ∷ class.Sign s.LeftParen ∷ class.Sign s.LeftSquare ∷ class.Sign s.LeftBrace ∷ []
+    terminal.Name ∷ terminal.Int ∷ terminal.Str ∷ terminal.Key k.True ∷ terminal.Key k.False ∷ terminal.Key k.Nothing
+    ∷ terminal.Sign s.LeftParen ∷ terminal.Sign s.LeftSquare ∷ terminal.Sign s.LeftBrace ∷ []
 
-abbrev pub factors : List Class
-factors = class.Sign s.Minus ∷ class.Sign s.Plus ∷ atoms
+abbrev pub factors : List Terminal
+factors = terminal.Sign s.Minus ∷ terminal.Sign s.Plus ∷ atoms
 
-abbrev pub tests : List Class
-tests = class.Key k.Not ∷ factors
+abbrev pub tests : List Terminal
+tests = terminal.Key k.Not ∷ factors
 
-abbrev pub augs : List Class
+abbrev pub augs : List Terminal
 augs =
-    class.Sign s.PlusAssign ∷ class.Sign s.MinusAssign ∷ class.Sign s.StarAssign ∷ class.Sign s.SlashSlashAssign
-    ∷ class.Sign s.PercentAssign ∷ class.Sign s.ShlAssign ∷ class.Sign s.ShrAssign ∷ []
+    terminal.Sign s.PlusAssign ∷ terminal.Sign s.MinusAssign ∷ terminal.Sign s.StarAssign ∷ terminal.Sign s.SlashSlashAssign
+    ∷ terminal.Sign s.PercentAssign ∷ terminal.Sign s.ShlAssign ∷ terminal.Sign s.ShrAssign ∷ []
 
-abbrev pub smalls : List Class
+abbrev pub smalls : List Terminal
 smalls =
-    class.Key k.Pass ∷ class.Key k.Break ∷ class.Key k.Continue ∷ class.Key k.Return ∷ class.Key k.Raise ∷ class.Key k.Global
-    ∷ class.Key k.Assert ∷ class.Key k.Del ∷ class.Key k.Import ∷ class.Key k.From ∷ tests
+    terminal.Key k.Pass ∷ terminal.Key k.Break ∷ terminal.Key k.Continue ∷ terminal.Key k.Return ∷ terminal.Key k.Raise ∷ terminal.Key k.Global
+    ∷ terminal.Key k.Assert ∷ terminal.Key k.Del ∷ terminal.Key k.Import ∷ terminal.Key k.From ∷ tests
 
-abbrev pub stmts : List Class
-stmts = class.Key k.If ∷ class.Key k.While ∷ class.Key k.For ∷ class.Key k.Try ∷ smalls
+abbrev pub stmts : List Terminal
+stmts = terminal.Key k.If ∷ terminal.Key k.While ∷ terminal.Key k.For ∷ terminal.Key k.Try ∷ smalls
 
-abbrev pub comparisons : List Class
+abbrev pub comparisons : List Terminal
 comparisons =
-    class.Sign s.Lt ∷ class.Sign s.Gt ∷ class.Sign s.EqEq ∷ class.Sign s.Ge ∷ class.Sign s.Le ∷ class.Sign s.NotEq
-    ∷ class.Key k.In ∷ class.Key k.Not ∷ class.Key k.Is ∷ []
+    terminal.Sign s.Lt ∷ terminal.Sign s.Gt ∷ terminal.Sign s.EqEq ∷ terminal.Sign s.Ge ∷ terminal.Sign s.Le ∷ terminal.Sign s.NotEq
+    ∷ terminal.Key k.In ∷ terminal.Key k.Not ∷ terminal.Key k.Is ∷ []
 
-abbrev pub starts_more : More → List Class
-starts_more OR_MORE = class.Key k.Or ∷ []
-starts_more AND_MORE = class.Key k.And ∷ []
-starts_more BOR_MORE = class.Sign s.Bar ∷ []
-starts_more SHIFT_MORE = class.Sign s.Shl ∷ class.Sign s.Shr ∷ []
-starts_more SUM_MORE = class.Sign s.Plus ∷ class.Sign s.Minus ∷ []
-starts_more TERM_MORE = class.Sign s.Star ∷ class.Sign s.SlashSlash ∷ class.Sign s.Percent ∷ []
-starts_more TRAILER = class.Sign s.Dot ∷ class.Sign s.LeftParen ∷ class.Sign s.LeftSquare ∷ []
+abbrev pub starts_more : More → List Terminal
+starts_more OR_MORE = terminal.Key k.Or ∷ []
+starts_more AND_MORE = terminal.Key k.And ∷ []
+starts_more BOR_MORE = terminal.Sign s.Bar ∷ []
+starts_more SHIFT_MORE = terminal.Sign s.Shl ∷ terminal.Sign s.Shr ∷ []
+starts_more SUM_MORE = terminal.Sign s.Plus ∷ terminal.Sign s.Minus ∷ []
+starts_more TERM_MORE = terminal.Sign s.Star ∷ terminal.Sign s.SlashSlash ∷ terminal.Sign s.Percent ∷ []
+starts_more TRAILER = terminal.Sign s.Dot ∷ terminal.Sign s.LeftParen ∷ terminal.Sign s.LeftSquare ∷ []
 
-abbrev pub starts_expr : ExprSym → List Class
+abbrev pub starts_expr : ExprSym → List Terminal
 starts_expr TESTS = tests
 starts_expr TARGETS = factors
 starts_expr TEST = tests
@@ -70,7 +70,7 @@ starts_expr FACTOR = factors
 starts_expr PRIMARY = atoms
 starts_expr ATOM = atoms
 
-abbrev pub starts : Sym → List Class
+abbrev pub starts : Sym → List Terminal
 starts (expr x) = starts_expr x
 starts (more m) = starts_more m
 starts COMP_MORE = comparisons
@@ -79,35 +79,35 @@ starts ARG = tests
 starts ENTRY = tests
 starts PLAIN = tests
 starts AUG = augs
-starts RETURN = class.Key k.Return ∷ []
-starts RAISE = class.Key k.Raise ∷ []
-starts GLOBAL = class.Key k.Global ∷ []
-starts ASSERT = class.Key k.Assert ∷ []
-starts DEL = class.Key k.Del ∷ []
-starts IMPORT = class.Key k.Import ∷ []
-starts FROM = class.Key k.From ∷ []
-starts DOTTED = class.Name ∷ []
-starts ALIAS = class.Name ∷ []
+starts RETURN = terminal.Key k.Return ∷ []
+starts RAISE = terminal.Key k.Raise ∷ []
+starts GLOBAL = terminal.Key k.Global ∷ []
+starts ASSERT = terminal.Key k.Assert ∷ []
+starts DEL = terminal.Key k.Del ∷ []
+starts IMPORT = terminal.Key k.Import ∷ []
+starts FROM = terminal.Key k.From ∷ []
+starts DOTTED = terminal.Name ∷ []
+starts ALIAS = terminal.Name ∷ []
 starts SMALL = smalls
 starts SIMPLE = smalls
 starts STMT = stmts
-starts IF = class.Key k.If ∷ []
+starts IF = terminal.Key k.If ∷ []
 starts ARM = tests
-starts WHILE = class.Key k.While ∷ []
-starts FOR = class.Key k.For ∷ []
-starts TRY = class.Key k.Try ∷ []
-starts EXCEPT = class.Key k.Except ∷ []
-starts FINALLY = class.Key k.Finally ∷ []
-starts BLOCK = class.Newline ∷ smalls
-starts FUNC = class.Key k.Def ∷ []
-starts PARAM = class.Name ∷ []
-starts CLASS = class.Key k.Class ∷ []
-starts CBLOCK = class.Newline ∷ smalls
-starts MEMBER = class.Key k.Def ∷ stmts
-starts MARK = class.Sign s.At ∷ []
-starts DECORATED = class.Sign s.At ∷ []
-starts TOP = class.Key k.Def ∷ class.Key k.Class ∷ class.Sign s.At ∷ stmts
-starts MODULE = class.End ∷ class.Key k.Def ∷ class.Key k.Class ∷ class.Sign s.At ∷ stmts
+starts WHILE = terminal.Key k.While ∷ []
+starts FOR = terminal.Key k.For ∷ []
+starts TRY = terminal.Key k.Try ∷ []
+starts EXCEPT = terminal.Key k.Except ∷ []
+starts FINALLY = terminal.Key k.Finally ∷ []
+starts BLOCK = terminal.Newline ∷ smalls
+starts FUNC = terminal.Key k.Def ∷ []
+starts PARAM = terminal.Name ∷ []
+starts CLASS = terminal.Key k.Class ∷ []
+starts CBLOCK = terminal.Newline ∷ smalls
+starts MEMBER = terminal.Key k.Def ∷ stmts
+starts MARK = terminal.Sign s.At ∷ []
+starts DECORATED = terminal.Sign s.At ∷ []
+starts TOP = terminal.Key k.Def ∷ terminal.Key k.Class ∷ terminal.Sign s.At ∷ stmts
+starts MODULE = terminal.End ∷ terminal.Key k.Def ∷ terminal.Key k.Class ∷ terminal.Sign s.At ∷ stmts
 
 -- whether no token at all is derived from a part
 abbrev pub may_be_empty : Part → Bool
@@ -121,7 +121,7 @@ may_be_empty (after c a) = true
 may_be_empty (left e m) = false
 may_be_empty (grown m v) = true
 
-abbrev pub firsts : Part → List Class
+abbrev pub firsts : Part → List Terminal
 firsts (tok c) = c ∷ []
 firsts (sym x) = starts x
 firsts (a · b) = if may_be_empty a then firsts a ++ firsts b else firsts a
@@ -150,8 +150,8 @@ abbrev pub ◌>>=◌ : {A B : Type 0} → Outcome A → (A × Place → Outcome 
 (Ok x) >>= f = f x
 (Err e) >>= f = Err e
 
--- whether the next token has one of some classes
-abbrev pub sees : List Token → Place → List Class → Bool
+-- whether the next token is of one of some terminals
+abbrev pub sees : List Token → Place → List Terminal → Bool
 sees ts p cs = next_in (slice_get ts p.at) cs
 
 -- a token that may not stand there
@@ -163,12 +163,12 @@ refusal o i = if next_left_out o then profile_at i else syntax_at i
 abbrev pub take_it : Token → Place → Outcome Token
 take_it t p = if p.deep then Err (too_deep_at (p.at - 1)) else Ok (t, record { at = p.at + 1; deep = false })
 
-abbrev pub accept_one : Option Token → Class → Place → Outcome Token
+abbrev pub accept_one : Option Token → Terminal → Place → Outcome Token
 accept_one None c p = Err (refusal None p.at)
-accept_one (Some t) c p = if same (class_of t.kind) c then take_it t p else Err (refusal (Some t) p.at)
+accept_one (Some t) c p = if same (terminal_of t.kind) c then take_it t p else Err (refusal (Some t) p.at)
 
--- the next token, which must have the class
-abbrev pub accept : List Token → Class → Place → Outcome Token
+-- the next token, which must be of the terminal
+abbrev pub accept : List Token → Terminal → Place → Outcome Token
 accept ts c p = accept_one (slice_get ts p.at) c p
 
 -- the place behind what was just read, which passed the test or not

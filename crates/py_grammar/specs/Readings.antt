@@ -1,14 +1,13 @@
 -- The words by which contracts speak of reading: each stands for a reading and is not opened by itself.
 use Rattle.std.specs.Prelude.{Bool, true, false, List, [], ◌∷◌, ◌++◌, Ok}
-use Rattle.py_syntax.specs.declared.token.Span.{Span}
 use Rattle.py_syntax.specs.declared.token.Token.{Token}
 use Rattle.py_syntax.specs.Expressions as e
 use Rattle.py_syntax.specs.Expressions.{ExprTree}
-use Rattle.py_grammar.specs.declared.class.Class.{Class}
+use Rattle.py_grammar.specs.declared.terminal.Terminal.{Terminal}
 use Rattle.py_grammar.specs.declared.place.Place.{Place}
 use Rattle.py_grammar.specs.Levels.{Piece}
 use Rattle.py_grammar.specs.Grammar.{ExprSym, More, Sym, expr, more, Part, sym, maybe, many, after, grown, list, comma, TEST, ATOM}
-use Rattle.py_grammar.specs.Actions.{Sem, Val, grow, items, trees_of, piece}
+use Rattle.py_grammar.specs.Actions.{Sem, Val, grow, items, trees_of}
 use Rattle.py_grammar.specs.Reader.{Outcome, ◌>>=◌, reads, close, keep_small}
 
 -- what a symbol stands for
@@ -36,7 +35,7 @@ unfoldable pub reads_many : List Token → (a : Part) → Place → Outcome (Lis
 reads_many ts a p = reads ts (many a) p
 
 -- a part behind separators, and whether there is one at the end
-unfoldable pub reads_after : List Token → Class → (a : Part) → Place → Outcome (List (Val a) × Bool)
+unfoldable pub reads_after : List Token → Terminal → (a : Part) → Place → Outcome (List (Val a) × Bool)
 reads_after ts c a p = reads ts (after c a) p
 
 -- what stands in brackets: a symbol any number of times, between commas
@@ -70,20 +69,3 @@ whole vs = vs
 
 abbrev pub single_tree : Piece → List ExprTree
 single_tree p = p.tree ∷ []
-
--- Prefixes, each of which makes an expression of what is behind it, are read first and put in front afterwards, the last
--- one first.
-abbrev pub prefixed : {A : Type 0} → (A → Piece → Piece) → List A → Outcome Piece → Outcome Piece
-prefixed put [] o = o
-prefixed put (a ∷ more_on) o = prefixed put more_on o >>= λ y. finish (put a y.0) y.1
-
-abbrev pub negated : Span → Piece → Piece
-negated span p = piece (e.Not p.tree) span
-
--- a minus, or else a plus
-abbrev pub signed : Bool × Span → Piece → Piece
-signed (true, span) p = piece (e.Neg p.tree) span
-signed (false, span) p = piece (e.Plus p.tree) span
-
-abbrev pub condition : Piece × ExprTree → Piece → Piece
-condition (first, test) p = piece (e.Cond first.tree test p.tree) first.begins

@@ -8,16 +8,13 @@
 //! fault, and the reader answers it. A parser is proved by being equal to the reader.
 #![tactic(auto)]
 
-mod class;
 mod laws;
 mod place;
+mod terminal;
 
-pub use class::Class;
 pub use laws::{
     faults_are_tokens, outcome_exists, outcome_is_one, reading_is_exact, tree_is_one,
     trees_are_shallow,
 };
 pub use place::Place;
-
-#[cfg(test)]
-mod tests;
+pub use terminal::Terminal;

@@ -1,17 +1,20 @@
--- The pieces of a text lie side by side.
+-- The pieces of a text lie side by side, each spelled by its characters.
 use Rattle.std.proofs.Common.{◌≡◌, ℕ, zero, suc, ◌-◌, ◌<◌, ◌≤◌, List, [], ◌∷◌, ◌++◌, length, take, drop, min, Option, Some, None, Ok, Err, refl, ap, sym, subst, ◌∙◌, arith, length-drop}
-use Rattle.std.specs.Prelude.{◌≢◌}
-use Rattle.std.proofs.lemmas.List.{take-append-drop, take_min}
+use Rattle.std.specs.Prelude.{◌≢◌, IfOk, IfSome}
+use Rattle.std.proofs.lemmas.List.{take-append-drop, take_min, append_cancel_right}
 use Rattle.py_syntax.specs.declared.token.Span.{Span}
 use Rattle.py_syntax.specs.declared.token.TokenKind.{TokenKind}
 use Rattle.py_lexer.specs.declared.gap.Gap.{Gap}
 use Rattle.py_lexer.specs.declared.placed.Placed.{Placed}
-use Rattle.py_lexer.specs.Places.{line_feed, start, placed, end_of, place_of, characters, front_of}
+use Rattle.py_lexer.specs.Places.{line_feed_character, start, placed, end_of, place_of, characters, front_of}
 use Rattle.py_lexer.specs.Places as places
 use Rattle.py_lexer.specs.Reading.{Fault, Read}
 use Rattle.py_lexer.specs.Pieces.{Kind, Between, Lexeme, Wrong, Over, Piece, piece, pieces, gap, lexeme, after_gap, after_lexeme}
 use Rattle.py_lexer.specs.Tokens.{pieces_of}
-use Rattle.py_lexer.specs.Laws.{AreSideBySide, IfRight}
+use Rattle.py_lexer.specs.Spelling.{Spells, SpellsGap}
+use Rattle.py_lexer.specs.Laws.{AreSideBySide, IfRight, SpellsPiece}
+use Rattle.py_lexer.proofs.Spelled.{Spelled}
+use Rattle.py_lexer.proofs.LexemeSpelled.{SpelledGap, lexeme_spelled, gap_spelled}
 use Rattle.py_lexer.proofs.RestLemmas.{IsLess, GapLess, TokenLess, gap_less, lexeme_less}
 
 -- characters that are placed: their number, what they are, what is left of them, and where that begins
@@ -71,6 +74,28 @@ cuts s cs rest less =
       shorter = let a = length-placed s cs in let b = length-placed (end_of s (take n cs)) (drop n cs) in let l = ap length left in omega (arith, less.2);
     }
 
+-- what was read spells the piece
+characters-placed : (s : Span) (cs : List ℕ) → characters (placed s cs) ≡ cs
+characters-placed s [] = refl
+characters-placed s (c ∷ cs) = ap (λ l. c ∷ l) (characters-placed (places.behind c s) cs)
+
+others_are : (s : Span) (cs : List ℕ) (rest : List Placed) (c : Cuts s cs rest) → characters rest ≡ c.others
+others_are s cs rest c = ap characters c.left ∙ characters-placed (end_of s c.text) c.others
+
+-- two texts before the same rest are one
+same_text : (s : Span) (cs text : List ℕ) (rest : List Placed) (c : Cuts s cs rest) → characters (placed s cs) ≡ text ++ characters rest → text ≡ front_of (placed s cs) rest
+same_text s cs text rest c split =
+    let mine : cs ≡ text ++ c.others = sym (characters-placed s cs) ∙ split ∙ ap (λ l. text ++ l) (others_are s cs rest c) in
+    append_cancel_right text c.text c.others (sym mine ∙ c.split) ∙ sym c.front
+
+token_spelled : (s : Span) (cs : List ℕ) (k : TokenKind) (rest : List Placed) (c : Cuts s cs rest) → Spelled (placed s cs) k rest → Spells k (front_of (placed s cs) rest) c.others
+token_spelled s cs k rest c h =
+    subst (λ text. Spells k text c.others) (same_text s cs h.text rest c h.split) (subst (Spells k h.text) (others_are s cs rest c) h.spells)
+
+between_spelled : (s : Span) (cs : List ℕ) (g : Gap) (rest : List Placed) (c : Cuts s cs rest) → SpelledGap (placed s cs) g rest → SpellsGap g (front_of (placed s cs) rest) c.others
+between_spelled s cs g rest c h =
+    subst (λ text. SpellsGap g text c.others) (same_text s cs h.text rest c h.split) (subst (SpellsGap g h.text) (others_are s cs rest c) h.spells)
+
 right : (kind : Kind) (none next : Type 0) → ((f : Fault) → kind ≢ Wrong f) → next → IfRight kind none next
 right (Between g) none next no_fault x = x
 right (Lexeme k) none next no_fault x = x
@@ -78,12 +103,13 @@ right (Over line) none next no_fault x = x
 right (Wrong f) none next no_fault x = absurd (no_fault f refl)
 
 -- a piece that is no fault, and those behind it
-onward : (s : Span) (cs : List ℕ) (kind : Kind) (rest : List Placed) (ps : List Piece) → ((f : Fault) → kind ≢ Wrong f) → (c : Cuts s cs rest) → AreSideBySide (end_of s c.text) c.others ps → AreSideBySide s cs (piece (end_of s cs) kind (placed s cs) rest ∷ ps)
-onward s cs kind rest ps no_fault c more = (
+onward : (s : Span) (cs : List ℕ) (kind : Kind) (rest : List Placed) (ps : List Piece) → ((f : Fault) → kind ≢ Wrong f) → (c : Cuts s cs rest) → SpellsPiece kind (front_of (placed s cs) rest) c.others → AreSideBySide (end_of s c.text) c.others ps → AreSideBySide s cs (piece (end_of s cs) kind (placed s cs) rest ∷ ps)
+onward s cs kind rest ps no_fault c spelled more = (
   c.from,
   right kind _ _ no_fault (
     c.others,
     c.split ∙ ap (λ l. l ++ c.others) (sym c.front),
+    spelled,
     c.to ∙ ap (end_of s) (sym c.front),
     subst (λ at. AreSideBySide at c.others ps) (sym c.to) more,
   ),
@@ -97,25 +123,25 @@ others_cut : (n : ℕ) (s : Span) (cs : List ℕ) (rest : List Placed) → Cut n
 others_cut n s cs rest cut few c =
     subst (AreSideBySide (end_of s c.text) c.others) (sym (λ i. pieces (c.end i) n (c.left i))) (cut (end_of s c.text) c.others (omega (arith, c.shorter)))
 
-lexeme_cuts : (n : ℕ) (s : Span) (cs : List ℕ) (r : Read TokenKind) → Cut n → length cs ≤ suc n → TokenLess (placed s cs) r → AreSideBySide s cs (after_lexeme (end_of s cs) (placed s cs) (pieces (end_of s cs) n) r)
-lexeme_cuts n s cs (Ok x) cut few less =
+lexeme_cuts : (n : ℕ) (s : Span) (cs : List ℕ) (r : Read TokenKind) → Cut n → length cs ≤ suc n → TokenLess (placed s cs) r → IfOk r (λ x. Spelled (placed s cs) x.0 x.1) → AreSideBySide s cs (after_lexeme (end_of s cs) (placed s cs) (pieces (end_of s cs) n) r)
+lexeme_cuts n s cs (Ok x) cut few less spelled =
     let c = cuts s cs x.1 less.1 in
-    onward s cs (Lexeme x.0) x.1 (pieces (end_of s cs) n x.1) (λ f e. cc) c (others_cut n s cs x.1 cut few c)
-lexeme_cuts n s cs (Err f) cut few less = (place_of-placed s cs, refl)
+    onward s cs (Lexeme x.0) x.1 (pieces (end_of s cs) n x.1) (λ f e. cc) c (token_spelled s cs x.0 x.1 c spelled) (others_cut n s cs x.1 cut few c)
+lexeme_cuts n s cs (Err f) cut few less spelled = (place_of-placed s cs, refl)
 
-gap_cuts : (n : ℕ) (s : Span) (cs : List ℕ) (o : Option (Gap × List Placed)) → Cut n → 0 < length (placed s cs) → length cs ≤ suc n → GapLess (placed s cs) o → AreSideBySide s cs (after_gap (end_of s cs) (placed s cs) (pieces (end_of s cs) n) o)
-gap_cuts n s cs (Some x) cut some few less =
+gap_cuts : (n : ℕ) (s : Span) (cs : List ℕ) (o : Option (Gap × List Placed)) → Cut n → 0 < length (placed s cs) → length cs ≤ suc n → GapLess (placed s cs) o → IfSome o (λ x. SpelledGap (placed s cs) x.0 x.1) → AreSideBySide s cs (after_gap (end_of s cs) (placed s cs) (pieces (end_of s cs) n) o)
+gap_cuts n s cs (Some x) cut some few less spelled =
     let c = cuts s cs x.1 less in
-    onward s cs (Between x.0) x.1 (pieces (end_of s cs) n x.1) (λ f e. cc) c (others_cut n s cs x.1 cut few c)
-gap_cuts n s cs None cut some few less =
-    lexeme_cuts n s cs (lexeme (placed s cs)) cut few (lexeme_less (placed s cs) some)
+    onward s cs (Between x.0) x.1 (pieces (end_of s cs) n x.1) (λ f e. cc) c (between_spelled s cs x.0 x.1 c spelled) (others_cut n s cs x.1 cut few c)
+gap_cuts n s cs None cut some few less spelled =
+    lexeme_cuts n s cs (lexeme (placed s cs)) cut few (lexeme_less (placed s cs) some) (lexeme_spelled (placed s cs))
 
 cut_all : (n : ℕ) → Cut n
 unfolding pieces
 cut_all n s [] few = refl
 cut_all zero s (c ∷ cs) few = absurd (omega arith)
 cut_all (suc n) s (c ∷ cs) few =
-    gap_cuts n s (c ∷ cs) (gap (placed s (c ∷ cs))) (cut_all n) (omega arith) few (gap_less (placed s (c ∷ cs)) (omega arith))
+    gap_cuts n s (c ∷ cs) (gap (placed s (c ∷ cs))) (cut_all n) (omega arith) few (gap_less (placed s (c ∷ cs)) (omega arith)) (gap_spelled (placed s (c ∷ cs)))
 
 -- the law
 pub side_by_side : (text : List ℕ) → AreSideBySide start text (pieces_of text)

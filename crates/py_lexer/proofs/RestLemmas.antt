@@ -16,9 +16,9 @@ use Rattle.py_lexer.specs.declared.placed.Placed.{Placed}
 use Rattle.py_lexer.specs.declared.string.Prefix.{Prefix}
 use Rattle.py_lexer.specs.declared.string.Prefix.TheVariants.{Plain, Raw, Other}
 use Rattle.py_lexer.specs.declared.string.Style.{Style}
-use Rattle.py_lexer.specs.Places.{character_at, characters, line_of, line_feed}
+use Rattle.py_lexer.specs.Places.{character_at, characters, line_of, line_feed_character}
 use Rattle.py_lexer.specs.Reading.{Fault, Read, ◌>>=◌}
-use Rattle.py_lexer.specs.Words.{word_len, word_at, past_word, begins_name, word, keyword_or_name, is_identifier}
+use Rattle.py_lexer.specs.Words.{word_len, word_at, past_word, begins_name, word, keyword_or_name, is_python_identifier}
 use Rattle.py_lexer.specs.Numbers.{begins_number, number, numeral, number_or_fault}
 use Rattle.py_lexer.specs.Signs.{sign_at, sign_in, or_else}
 use Rattle.py_lexer.specs.Strings.{backslash, is_quote, escape, element, body, with_front, closes, quote_len, string_at, prefixed, quoted, begins_string, hex_escape, octal_escape, octal_len, hex_len, named_or_fault, character_named, escape_or_both, simple_escape, prefix_of, style}
@@ -45,7 +45,7 @@ IsWritten _ = Unit {0}
 abbrev pub GapLess : List Placed → Option (Gap × List Placed) → Type 0
 GapLess cs o = IfSome o (λ x. IsLess cs x.1)
 
-abbrev PartLeaves : List Placed → Read (List ℕ) → Type 0
+abbrev pub PartLeaves : List Placed → Read (List ℕ) → Type 0
 PartLeaves cs r = IfOk r (λ x. IsRest cs x.1)
 
 abbrev pub TokenLess : List Placed → Read TokenKind → Type 0
@@ -89,7 +89,7 @@ pub gap_less : (cs : List Placed) → 0 < length cs → GapLess cs (gap cs)
 unfolding gap
 gap_less cs h =
     let c = character_at 0 cs in
-    gap_cases (c == byte " ") (c == 9) (c == 12) (c == line_feed) (c == byte "#") (c == backslash && character_at 1 cs == line_feed) cs h
+    gap_cases (c == byte " ") (c == 9) (c == 12) (c == line_feed_character) (c == byte "#") (c == backslash && character_at 1 cs == line_feed_character) cs h
 
 named_leaves : (cs rest : List Placed) (o : Option ℕ) (f : Fault) → IsRest cs rest → PartLeaves cs (named_or_fault o rest f)
 named_leaves cs rest None f h = tt
@@ -111,11 +111,11 @@ escape_cases false false true unknown line cs = hex_leaves _ cs (hex_len (charac
 escape_cases false false false true line cs = tt
 escape_cases false false false false line cs = letter_leaves cs (simple_escape (character_at 0 cs))
 
-escape_leaves : (line : ℕ) (cs : List Placed) → PartLeaves cs (escape line cs)
+pub escape_leaves : (line : ℕ) (cs : List Placed) → PartLeaves cs (escape line cs)
 unfolding escape
 escape_leaves line cs =
     let c = character_at 0 cs in
-    escape_cases (c == line_feed) (is_digit c 8) (nat_lt 0 (hex_len c)) (c == byte "N") line cs
+    escape_cases (c == line_feed_character) (is_digit c 8) (nat_lt 0 (hex_len c)) (c == byte "N") line cs
 
 leaves_more : (cs rest : List Placed) (r : Read (List ℕ)) → IsRest cs rest → PartLeaves rest r → PartLeaves cs r
 leaves_more cs rest (Ok x) h k = rest_of_rest cs rest x.1 h k
@@ -132,7 +132,7 @@ element_cases false false raw s cs = (1, refl)
 element_leaves : (s : Style) (cs : List Placed) → PartLeaves cs (element s cs)
 unfolding element
 element_leaves s cs =
-    element_cases (character_at 0 cs == line_feed && not s.is_triple) (character_at 0 cs == backslash) s.is_raw s cs
+    element_cases (character_at 0 cs == line_feed_character && not s.is_triple) (character_at 0 cs == backslash) s.is_raw s cs
 
 front_leaves : (cs : List Placed) (front : List ℕ) (r : Read (List ℕ)) → PartLeaves cs r → PartLeaves cs (with_front front r)
 front_leaves cs front (Ok x) h = h
@@ -176,7 +176,7 @@ name_less false normal cs f less = tt
 
 keyword_less : (o : Option Key) (cs : List Placed) (f : Fault) → IsLess cs (past_word cs) → TokenLess cs (keyword_or_name o (word_at cs) f >>= λ k. Ok (k, past_word cs))
 keyword_less (Some k) cs f less = (tt, less)
-keyword_less None cs f less = name_less (is_identifier (nfkc (word_at cs))) (nfkc (word_at cs)) cs f less
+keyword_less None cs f less = name_less (is_python_identifier (nfkc (word_at cs))) (nfkc (word_at cs)) cs f less
 
 word_less : (cs : List Placed) → begins_name (character_at 0 cs) ≡ true → TokenLess cs (word cs)
 unfolding word

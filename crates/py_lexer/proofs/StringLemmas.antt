@@ -11,7 +11,7 @@ use Rattle.py_lexer.specs.declared.fault.LexError.TheVariants as error
 use Rattle.py_lexer.specs.declared.fault.LexKind.TheVariants.{Unended}
 use Rattle.py_lexer.specs.declared.placed.Placed.{Placed}
 use Rattle.py_lexer.specs.declared.string.Style.{Style}
-use Rattle.py_lexer.specs.Places.{character_at, line_feed}
+use Rattle.py_lexer.specs.Places.{character_at, line_feed_character}
 use Rattle.py_lexer.specs.Reading.{Read, Fault, Fails, ◌>>=◌}
 use Rattle.py_lexer.specs.Strings.{if_scalar, with_front, body, element, closes, quote_len, escape, escape_or_both, simple_escape, hex_len}
 
@@ -93,14 +93,14 @@ body_fails m s rest out whole error.Memory is h le going read = tt
 body_fails m s rest out whole (error.Fault line kind) is h le going read = is ∙ body_faults m s rest out (line, kind) h le going read
 
 -- an escape that is a letter or a sign, or not known
-by_letter : (line : ℕ) (cs : List Placed) → (character_at 0 cs == line_feed) ≡ false → is_digit (character_at 0 cs) 8 ≡ false → nat_lt 0 (hex_len (character_at 0 cs)) ≡ false → (character_at 0 cs == byte "N") ≡ false → escape line cs ≡ escape_or_both (simple_escape (character_at 0 cs)) cs
+by_letter : (line : ℕ) (cs : List Placed) → (character_at 0 cs == line_feed_character) ≡ false → is_digit (character_at 0 cs) 8 ≡ false → nat_lt 0 (hex_len (character_at 0 cs)) ≡ false → (character_at 0 cs == byte "N") ≡ false → escape line cs ≡ escape_or_both (simple_escape (character_at 0 cs)) cs
 unfolding escape
 by_letter line cs a b h n = rw (a, b, h, n) refl
 
-pub escape_letter : (line : ℕ) (cs : List Placed) (c : ℕ) → c ≡ character_at 0 cs → c ≢ line_feed → is_digit c 8 ≡ false → hex_len c ≡ 0 → c ≢ byte "N" → escape line cs ≡ escape_or_both (simple_escape c) cs
+pub escape_letter : (line : ℕ) (cs : List Placed) (c : ℕ) → c ≡ character_at 0 cs → c ≢ line_feed_character → is_digit c 8 ≡ false → hex_len c ≡ 0 → c ≢ byte "N" → escape line cs ≡ escape_or_both (simple_escape c) cs
 escape_letter line cs c is a b h n =
     by_letter line cs
-    (subst (λ x. (x == line_feed) ≡ false) is (ne_eqb c line_feed a))
+    (subst (λ x. (x == line_feed_character) ≡ false) is (ne_eqb c line_feed_character a))
     (subst (λ x. is_digit x 8 ≡ false) is b)
     (subst (λ x. nat_lt 0 (hex_len x) ≡ false) is (rw h refl))
     (subst (λ x. (x == byte "N") ≡ false) is (ne_eqb c 78 n))

@@ -7,7 +7,7 @@ use Rattle.py_lexer.specs.declared.placed.Placed.{Placed}
 use Rattle.py_lexer.specs.Places.{character_at}
 use Rattle.py_lexer.specs.Words.{begins_name, word_len}
 
-no_nul : begins_name 0 ≡ false
+pub no_nul : begins_name 0 ≡ false
 unfolding unicode_ident
 no_nul = refl
 
@@ -15,7 +15,7 @@ underscore : is_xid_continue 95 ≡ true
 unfolding unicode_ident
 underscore = refl
 
-continues : (c : ℕ) → begins_name c ≡ true → is_xid_continue c ≡ true
+pub continues : (c : ℕ) → begins_name c ≡ true → is_xid_continue c ≡ true
 continues c h = grind (arith, underscore, is_xid_start-is_xid_continue)
 
 longer : (c : Placed) (cs : List Placed) → is_xid_continue c.character ≡ true → 1 ≤ word_len (c ∷ cs)

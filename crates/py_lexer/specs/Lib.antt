@@ -9,5 +9,8 @@ pub mod Pieces
 pub mod Lines
 pub mod Indents
 pub mod Tokens
+pub mod Digits
+pub mod Escapes
+pub mod Spelling
 pub mod Laws
 pub mod Remaining

@@ -7,7 +7,7 @@ use Rattle.py_syntax.specs.declared.token.TokenKind.{TokenKind}
 use Rattle.py_lexer.specs.declared.placed.Placed.{Placed}
 use Rattle.py_lexer.specs.declared.gap.Gap.{Gap}
 use Rattle.py_lexer.specs.declared.gap.Gap.TheVariants.{Space, Tab, FormFeed, Comment, Join, LineEnd}
-use Rattle.py_lexer.specs.Places.{character_at, line_feed, place_of, front_of}
+use Rattle.py_lexer.specs.Places.{character_at, line_feed_character, place_of, front_of}
 use Rattle.py_lexer.specs.Reading.{Fault, Read}
 use Rattle.py_lexer.specs.Words.{begins_name, word}
 use Rattle.py_lexer.specs.Numbers.{begins_number, number}
@@ -16,7 +16,7 @@ use Rattle.py_lexer.specs.Strings.{begins_string, string_at, backslash}
 
 -- a comment ends before the end of its line
 abbrev pub past_comment : List Placed → List Placed
-past_comment cs = drop (prefix_len (λ c. not (c.character == line_feed)) cs) cs
+past_comment cs = drop (prefix_len (λ c. not (c.character == line_feed_character)) cs) cs
 
 -- what is no token, and the rest: a space, a tab, a form feed, a comment, a backslash with the line's end behind it, a line's end
 unfoldable pub gap : List Placed → Option (Gap × List Placed)
@@ -25,9 +25,9 @@ gap cs =
     if c == byte " " then Some (Space, drop 1 cs)
     else (if c == 9 then Some (Tab, drop 1 cs)
     else (if c == 12 then Some (FormFeed, drop 1 cs)
-    else (if c == line_feed then Some (LineEnd, drop 1 cs)
+    else (if c == line_feed_character then Some (LineEnd, drop 1 cs)
     else (if c == byte "#" then Some (Comment, past_comment (drop 1 cs))
-    else (if c == backslash && character_at 1 cs == line_feed then Some (Join, drop 2 cs)
+    else (if c == backslash && character_at 1 cs == line_feed_character then Some (Join, drop 2 cs)
     else None)))))
 
 -- a token without its place, and the rest

@@ -7,8 +7,8 @@ use Rattle.py_lexer.specs.declared.placed.Placed.{Placed}
 abbrev pub byte_order_mark : ℕ
 byte_order_mark = 0xFEFF
 
-abbrev pub line_feed : ℕ
-line_feed = 10
+abbrev pub line_feed_character : ℕ
+line_feed_character = 10
 
 abbrev pub carriage_return : ℕ
 carriage_return = 13
@@ -27,16 +27,16 @@ first (c ∷ cs) = c
 abbrev pub plain_ends : List ℕ → List ℕ
 plain_ends [] = []
 plain_ends (c ∷ cs) =
-    if c == carriage_return then (if first cs == line_feed then plain_ends cs else line_feed ∷ plain_ends cs)
+    if c == carriage_return then (if first cs == line_feed_character then plain_ends cs else line_feed_character ∷ plain_ends cs)
     else c ∷ plain_ends cs
 
 -- whether a text, read from its end, has its last line ended
 abbrev pub is_ended : List ℕ → Bool
 is_ended [] = true
-is_ended (c ∷ cs) = c == line_feed
+is_ended (c ∷ cs) = c == line_feed_character
 
 abbrev pub ended : List ℕ → List ℕ
-ended cs = if is_ended (reverse cs) then cs else cs ++ line_feed ∷ []
+ended cs = if is_ended (reverse cs) then cs else cs ++ line_feed_character ∷ []
 
 -- the characters that are read
 abbrev pub plain : List ℕ → List ℕ
@@ -47,7 +47,7 @@ start = record { line = 1; col = 1 }
 
 -- the place behind a character
 abbrev pub behind : ℕ → Span → Span
-behind c s = if c == line_feed then record { line = s.line + 1; col = 1 } else record { line = s.line; col = s.col + 1 }
+behind c s = if c == line_feed_character then record { line = s.line + 1; col = 1 } else record { line = s.line; col = s.col + 1 }
 
 -- characters from a place on
 abbrev pub placed : Span → List ℕ → List Placed

@@ -12,7 +12,7 @@ use Rattle.py_lexer.specs.declared.placed.Placed.{Placed}
 use Rattle.py_lexer.specs.declared.string.Prefix.{Prefix}
 use Rattle.py_lexer.specs.declared.string.Prefix.TheVariants.{Plain, Raw, Other}
 use Rattle.py_lexer.specs.declared.string.Style.{Style}
-use Rattle.py_lexer.specs.Places.{character_at, characters, line_of, line_feed}
+use Rattle.py_lexer.specs.Places.{character_at, characters, line_of, line_feed_character}
 use Rattle.py_lexer.specs.Reading.{Fault, Read, ◌>>=◌}
 use Rattle.py_lexer.specs.Words.{word_at, past_word}
 
@@ -73,7 +73,7 @@ escape_or_both None cs = Ok (backslash ∷ character_at 0 cs ∷ [], drop 1 cs)
 unfoldable pub escape : ℕ → List Placed → Read (List ℕ)
 escape line cs =
     let c = character_at 0 cs in
-    if c == line_feed then Ok ([], drop 1 cs)
+    if c == line_feed_character then Ok ([], drop 1 cs)
     else (if is_digit c 8 then octal_escape (line, BadString) cs
     else (if nat_lt 0 (hex_len c) then hex_escape (line, BadString) (hex_len c) (drop 1 cs)
     else (if c == byte "N" then Err (line, BadString)
@@ -92,7 +92,7 @@ quote_len s = if s.is_triple then 3 else 1
 -- behind a backslash; a raw string keeps its backslashes.
 unfoldable pub element : Style → List Placed → Read (List ℕ)
 element s cs =
-    if character_at 0 cs == line_feed && not s.is_triple then Err (s.line, Unended)
+    if character_at 0 cs == line_feed_character && not s.is_triple then Err (s.line, Unended)
     else (if character_at 0 cs == backslash
     then (if s.is_raw then Ok (characters (take 2 cs), drop 2 cs) else escape (line_of cs) (drop 1 cs))
     else Ok (characters (take 1 cs), drop 1 cs))

@@ -27,13 +27,13 @@ past_word cs = drop (word_len cs) cs
 abbrev pub begins_name : ℕ → Bool
 begins_name c = c == byte "_" || is_xid_start c
 
-abbrev pub is_identifier : List ℕ → Bool
-is_identifier [] = false
-is_identifier (c ∷ cs) = begins_name c && list_all is_xid_continue cs
+abbrev pub is_python_identifier : List ℕ → Bool
+is_python_identifier [] = false
+is_python_identifier (c ∷ cs) = begins_name c && list_all is_xid_continue cs
 
 -- a name by its normal form, which has to be an identifier itself
 abbrev pub name_or_fault : List ℕ → Fault → Result TokenKind Fault
-name_or_fault normal f = if is_identifier normal then Ok (token.Name (encode_utf8_all normal)) else Err f
+name_or_fault normal f = if is_python_identifier normal then Ok (token.Name (encode_utf8_all normal)) else Err f
 
 -- a word is a keyword as it is written, and else a name
 abbrev pub keyword_or_name : Option Key → List ℕ → Fault → Result TokenKind Fault

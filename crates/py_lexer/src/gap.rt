@@ -5,7 +5,7 @@ ghost use Rattle.py_lexer.specs.Pieces as spec;
 use crate::placed::{Placed, character_at, skip};
 
 /// What stands between tokens.
-#[derive(Clone, Copy, Debug, PartialEq, Eq)]
+#[derive(Clone, Copy)]
 pub(crate) enum Gap {
     Space,
     Tab,

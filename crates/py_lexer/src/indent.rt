@@ -9,7 +9,7 @@ use py_syntax::{Span, Token, TokenKind};
 use std::alloc::AllocError;
 
 /// A column, counted twice.
-#[derive(Clone, Copy, Debug)]
+#[derive(Clone, Copy)]
 pub(crate) struct Column {
     /// With tabs up to the next multiple of 8.
     pub(crate) wide: usize,

@@ -8,8 +8,8 @@
 
 ghost use Rattle.std.specs.Prelude.{chars, ℕ, List, IfOk};
 ghost use Rattle.py_syntax.specs.Tokens.{EndsOnce, AreBalanced, AreInOrder};
-ghost use Rattle.py_lexer.specs.Laws.{AreSideBySide};
-ghost use Rattle.py_lexer.specs.Places.{start};
+ghost use Rattle.py_lexer.specs.Laws.{AreSideBySide, AreSpelled};
+ghost use Rattle.py_lexer.specs.Places.{start, plain};
 ghost use Rattle.py_lexer.specs.Reading.{Gives};
 ghost use Rattle.py_lexer.specs.Tokens.{tokens_of, pieces_of};
 
@@ -42,6 +42,7 @@ pub fn tokens(alloc: Global, text: &str) -> Result<Tokens, LexError>
     ensures ended { IfOk result (λ t. EndsOnce t.list) }
     ensures balanced { IfOk result (λ t. AreBalanced t.list) }
     ensures in_order { IfOk result (λ t. AreInOrder t.list) }
+    ensures spelled { IfOk result (λ t. AreSpelled t.list start (plain (chars text.now))) }
 {
     let text = characters(alloc, text)?;
     let text = plain(alloc, &text)?;
@@ -54,6 +55,3 @@ pub fn tokens(alloc: Global, text: &str) -> Result<Tokens, LexError>
 pub fn pieces_lie_side_by_side()
     ensures { (text : List ℕ) → AreSideBySide start text (pieces_of text) }
 {}
-
-#[cfg(test)]
-mod tests;

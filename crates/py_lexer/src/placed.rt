@@ -7,7 +7,7 @@ use py_syntax::Span;
 use unicode_ident::is_xid_continue;
 
 /// A character with its place.
-#[derive(Clone, Copy, Debug)]
+#[derive(Clone, Copy)]
 pub(crate) struct Placed {
     pub(crate) character: char,
     pub(crate) span: Span,

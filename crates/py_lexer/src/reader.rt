@@ -15,7 +15,7 @@ use std::alloc::{AllocError, Global};
 use value_core::Many;
 
 /// The tokens so far, and what is open.
-#[derive(Debug, Drop)]
+#[derive(Drop)]
 pub(crate) struct Reader {
     tokens: Vec<Token>,
     /// The lines where the open brackets stand, the innermost last.
@@ -207,7 +207,7 @@ impl Reader {
 }
 
 /// What a token does to the open brackets.
-#[derive(Clone, Copy, Debug)]
+#[derive(Clone, Copy)]
 enum Bracket {
     Opening,
     Closing,

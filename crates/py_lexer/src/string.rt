@@ -15,7 +15,7 @@ use std::alloc::{AllocError, Global};
 use value_core::Text;
 
 /// What a word directly before a quote makes of the string.
-#[derive(Clone, Copy, Debug)]
+#[derive(Clone, Copy)]
 pub(crate) enum Prefix {
     Plain,
     Raw,
@@ -24,7 +24,7 @@ pub(crate) enum Prefix {
 }
 
 /// How a string is written: its quote, whether three of them, whether raw, and the line where it begins.
-#[derive(Clone, Copy, Debug)]
+#[derive(Clone, Copy)]
 pub(crate) struct Style {
     quote: char,
     is_triple: bool,

@@ -30,7 +30,7 @@ fn all_continue(text: &[char]) -> bool
 }
 
 fn is_identifier(text: &[char]) -> bool
-    ensures { result ≡ spec.is_identifier text.now }
+    ensures { result ≡ spec.is_python_identifier text.now }
 {
     match text {
         [] => false,

@@ -1,23 +1,85 @@
 -- Definitions and modules and their parts, as they are read.
-use Rattle.std.specs.Prelude.{List, [], ◌∷◌, ◌++◌, Ok, if◌then◌else◌}
+use Rattle.std.specs.Global.{Box}
+use Rattle.std.specs.Prelude.{ℕ, List, [], ◌∷◌, ◌++◌, Option, Some, None, Ok, map, if◌then◌else◌}
+use Rattle.py_syntax.specs.declared.expression.Expr.{Expr}
+use Rattle.py_syntax.specs.declared.statement.Func.{Func}
+use Rattle.py_syntax.specs.declared.statement.Class.{Class}
+use Rattle.py_syntax.specs.declared.sign.Sign.{Sign}
 use Rattle.py_syntax.specs.declared.sign.Sign.TheVariants as s
+use Rattle.py_syntax.specs.declared.token.Span.{Span}
 use Rattle.py_syntax.specs.declared.token.Token.{Token}
-use Rattle.py_syntax.specs.Expressions.{ExprTree}
-use Rattle.py_syntax.specs.Statements.{StmtTree}
-use Rattle.py_grammar.specs.declared.class.Class.TheVariants as class
+use Rattle.py_syntax.specs.Expressions.{ExprTree, expr_tree}
+use Rattle.py_syntax.specs.Statements.{StmtTree, Suite, FuncTree, ClassTree, func_tree, class_tree, param_tree}
+use Rattle.py_grammar.specs.declared.terminal.Terminal.TheVariants as terminal
 use Rattle.py_grammar.specs.declared.place.Place.{Place}
 use Rattle.py_grammar.specs.Grammar as g
-use Rattle.py_grammar.specs.Grammar.{TEST, MEMBER, MARK, TOP}
-use Rattle.py_grammar.specs.Actions.{joined, marks_of}
+use Rattle.py_grammar.specs.Grammar.{TEST, FUNC, PARAM, CLASS, CBLOCK, MEMBER, MARK, TOP}
+use Rattle.py_grammar.specs.Actions.{joined, marks_of, def_at, class_at}
 use Rattle.py_grammar.specs.Reader.{Outcome, ◌>>=◌, accept, sees}
-use Rattle.py_grammar.specs.Readings.{reads_many}
-use Rattle.py_parser.specs.Rows.{reads_trees}
+use Rattle.py_grammar.specs.Readings.{reads_expr, reads_sym, reads_many}
+use Rattle.py_expressions.specs.Rows.{reads_row, reads_trees}
+use Rattle.py_statements.specs.Statements.{maybe_boxed}
+
+-- what was read, and the place behind it
+abbrev pub maybe_seen : Option (Box Expr) × Place → Option ExprTree × Place
+maybe_seen x = (maybe_boxed x.0, x.1)
+
+abbrev pub exprs_listed : List Expr × Place → List ExprTree × Place
+exprs_listed x = (map expr_tree x.0, x.1)
+
+abbrev pub param_boxed : List ℕ × Option (Box Expr) → List ℕ × Option ExprTree
+param_boxed x = (x.0, maybe_boxed x.1)
+
+abbrev pub param_seen : (List ℕ × Option (Box Expr)) × Place → (List ℕ × Option ExprTree) × Place
+param_seen x = (param_boxed x.0, x.1)
+
+abbrev pub params_seen : List (List ℕ × Option Expr) × Place → List (List ℕ × Option ExprTree) × Place
+params_seen x = (map param_tree x.0, x.1)
+
+abbrev pub func_seen : (Box Func × Span) × Place → (FuncTree × Span) × Place
+func_seen x = ((func_tree x.0.0.value, x.0.1), x.1)
+
+abbrev pub class_seen : (Box Class × Span) × Place → (ClassTree × Span) × Place
+class_seen x = ((class_tree x.0.0.value, x.0.1), x.1)
+
+abbrev pub mark_seen : (Box Expr × Span) × Place → (ExprTree × Span) × Place
+mark_seen x = ((expr_tree x.0.0.value, x.0.1), x.1)
+
+-- a function and a class of these parts, without decorators
+abbrev pub plain_func : List ℕ → List (List ℕ × Option ExprTree) → Option ExprTree → Suite → FuncTree
+plain_func name params ret body = record { name = name; params = params; ret = ret; body = body; marks = [] }
+
+abbrev pub plain_class : List ℕ → List ExprTree → Suite → ClassTree
+plain_class name bases body = record { name = name; bases = bases; body = body; marks = [] }
+
+-- an expression behind a sign, if the sign comes next
+unfoldable pub reads_maybe : List Token → Sign → Place → Outcome (Option ExprTree)
+reads_maybe ts text p =
+    if sees ts p (terminal.Sign text ∷ [])
+    then (accept ts (terminal.Sign text) p >>= λ a. reads_expr ts TEST a.1 >>= λ t. Ok (Some t.0.tree, t.1))
+    else Ok (None, p)
+
+-- parameters in brackets
+unfoldable pub reads_params : List Token → Place → Outcome (List (List ℕ × Option ExprTree))
+reads_params ts p =
+    accept ts (terminal.Sign s.LeftParen) p >>= λ l. reads_row ts PARAM l.1 >>= λ ps. accept ts (terminal.Sign s.RightParen) ps.1 >>= λ r. Ok (ps.0, r.1)
+
+-- the body of a class behind its colon
+unfoldable pub reads_class_body : List Token → Place → Outcome (List StmtTree)
+reads_class_body ts p = accept ts (terminal.Sign s.Colon) p >>= λ c. reads_sym ts CBLOCK c.1
+
+-- a function and a class without decorators, as a row of one statement
+abbrev pub reads_def : List Token → Place → Outcome (List StmtTree)
+reads_def ts p = reads_sym ts FUNC p >>= λ f. Ok (def_at f.0.0 [] f.0.1 ∷ [], f.1)
+
+abbrev pub reads_class : List Token → Place → Outcome (List StmtTree)
+reads_class ts p = reads_sym ts CLASS p >>= λ c. Ok (class_at c.0.0 [] c.0.1 ∷ [], c.1)
 
 -- the bases of a class, in brackets, or none
 unfoldable pub reads_bases : List Token → Place → Outcome (List ExprTree)
 reads_bases ts p =
-    if sees ts p (class.Sign s.LeftParen ∷ [])
-    then (accept ts (class.Sign s.LeftParen) p >>= λ l. reads_trees ts TEST l.1 >>= λ b. accept ts (class.Sign s.RightParen) b.1 >>= λ r. Ok (b.0, r.1))
+    if sees ts p (terminal.Sign s.LeftParen ∷ [])
+    then (accept ts (terminal.Sign s.LeftParen) p >>= λ l. reads_trees ts TEST l.1 >>= λ b. accept ts (terminal.Sign s.RightParen) b.1 >>= λ r. Ok (b.0, r.1))
     else Ok ([], p)
 
 -- what may stand in a class, any number of times, and decorators, and what may stand in a module, behind those in front

@@ -1,16 +1,2 @@
-pub mod Behind
-pub mod Blocks
-pub mod Brackets
-pub mod Comparisons
 pub mod Definitions
-pub mod Gives
-pub mod Heads
-pub mod Literals
-pub mod Names
-pub mod Operators
-pub mod Parsed
-pub mod Prefixes
-pub mod Rows
-pub mod Statements
-pub mod Trailers
 pub mod Whole

@@ -1,27 +1,28 @@
 //! Functions and classes.
-ghost use Rattle.std.specs.Prelude.{◌≡◌, [], ◌∷◌, map, Ok, IfOk};
-ghost use Rattle.py_syntax.specs.Statements.{stmt_tree, func_tree, class_tree};
+ghost use Rattle.std.specs.Prelude.{[], ◌∷◌, map, IfOk};
+ghost use Rattle.py_syntax.specs.Statements.{stmt_tree};
 ghost use Rattle.py_syntax.specs.Expressions.{expr_tree};
-ghost use Rattle.py_grammar.specs.Actions.{def_at, class_at};
 ghost use Rattle.py_grammar.specs.Grammar.{FUNC, PARAM, CLASS, CBLOCK, MEMBER, MARK, DECORATED};
 ghost use Rattle.py_grammar.specs.Readings.{reads_sym};
 ghost use Rattle.py_parser.specs.Definitions.{reads_bases, reads_members, reads_marks};
-ghost use Rattle.py_parser.specs.Gives.{Gives};
-ghost use Rattle.py_parser.specs.Parsed.{MovesTo, MovesUpTo};
-ghost use Rattle.py_parser.specs.Rows.{reads_row};
-ghost use Rattle.py_parser.specs.Statements.{stmt_seen, stmts_seen, maybe_seen, exprs_listed, param_seen, params_seen, func_seen, class_seen, mark_seen, reads_maybe};
+ghost use Rattle.py_reading.specs.Gives.{Gives};
+ghost use Rattle.py_reading.specs.Moves.{MovesTo, MovesUpTo};
+ghost use Rattle.py_expressions.specs.Rows.{reads_row};
+ghost use Rattle.py_statements.specs.Statements.{stmt_seen, stmts_seen};
+ghost use Rattle.py_parser.specs.Definitions.{maybe_seen, exprs_listed, param_seen, params_seen, func_seen, class_seen, mark_seen, reads_maybe, reads_params, reads_class_body, reads_def, reads_class};
 
-use crate::append::append;
-use crate::block::{stmt, suite};
-use crate::expression::{items, test};
-use crate::fault::ParseError;
-use crate::place::{accept, accept_key, accept_sign, sees, sees_key, sees_sign};
-use crate::row::no_row;
-use crate::simple::{simple, statement};
-use crate::starts::begins_member;
-use crate::word::name_of;
-use py_grammar::{Class as Kind, Place};
-use py_syntax::{Class, Expr, Func, Key, Sign, Span, Stmt, StmtKind, Token};
+use crate::definition::{class_defined, defined, new_class, new_func, push_mark, push_param};
+use py_expressions::expression::{items, test};
+use py_expressions::row::no_row;
+use py_grammar::{Place, Terminal};
+use py_reading::fault::ParseError;
+use py_reading::place::{accept, accept_key, accept_sign, sees, sees_key, sees_sign};
+use py_reading::starts::begins_member;
+use py_reading::word::name_of;
+use py_statements::append::{append, row_of};
+use py_statements::block::{stmt, suite};
+use py_statements::simple::simple;
+use py_syntax::{Class, Expr, Func, Key, Sign, Span, Stmt, Token};
 use std::alloc::Global;
 use value_core::{Many, Name};
 
@@ -31,7 +32,7 @@ pub(crate) fn decorated(
     alloc: Global,
     tokens: &[Token],
     place: Place,
-) -> Result<(Stmt, Place), ParseError>
+) -> Result<(Box<Stmt>, Place), ParseError>
     ensures read { Gives stmt_seen result (reads_sym tokens.now DECORATED place) }
     ensures moves { IfOk result (λ x. MovesTo tokens.now place x.1) }
 {
@@ -39,48 +40,25 @@ pub(crate) fn decorated(
     let (marks, place) = marks(alloc, tokens, first, place)?;
     if sees_key(tokens, place, Key::Def) {
         let ((found, _), place) = func(alloc, tokens, place)?;
-        return Ok((defined(found, marks, begin), place));
+        return Ok((defined(alloc, found, marks, begin)?, place));
     }
     let ((found, _), place) = class(alloc, tokens, place)?;
-    Ok((class_defined(found, marks, begin), place))
-}
-
-/// A function as a statement, with its decorators.
-pub(crate) fn defined(found: Func, marks: Many<Expr>, begin: Span) -> Stmt
-    ensures { stmt_tree result ≡ def_at (func_tree found) (map expr_tree marks) begin }
-{
-    let marked = Func {
-        name: found.name,
-        params: found.params,
-        ret: found.ret,
-        body: found.body,
-        marks,
-    };
-    statement(StmtKind::Def(marked), begin)
-}
-
-/// A class as a statement, with its decorators.
-pub(crate) fn class_defined(found: Class, marks: Many<Expr>, begin: Span) -> Stmt
-    ensures { stmt_tree result ≡ class_at (class_tree found) (map expr_tree marks) begin }
-{
-    let marked = Class {
-        name: found.name,
-        bases: found.bases,
-        body: found.body,
-        marks,
-    };
-    statement(StmtKind::Class(marked), begin)
+    Ok((class_defined(alloc, found, marks, begin)?, place))
 }
 
 // A decorator, with the place of its sign.
 #[tactic(auto, using(crate::proofs::DefinitionReading::marks))]
-fn mark(alloc: Global, tokens: &[Token], place: Place) -> Result<((Expr, Span), Place), ParseError>
+fn mark(
+    alloc: Global,
+    tokens: &[Token],
+    place: Place,
+) -> Result<((Box<Expr>, Span), Place), ParseError>
     ensures read { Gives mark_seen result (reads_sym tokens.now MARK place) }
     ensures moves { IfOk result (λ x. MovesTo tokens.now place x.1) }
 {
     let (token, place) = accept_sign(tokens, place, Sign::At)?;
     let found = test(alloc, tokens, place)?;
-    let (_, place) = accept(tokens, found.place, Kind::Newline)?;
+    let (_, place) = accept(tokens, found.place, Terminal::Newline)?;
     Ok(((found.expr, token.span), place))
 }
 
@@ -89,59 +67,77 @@ fn mark(alloc: Global, tokens: &[Token], place: Place) -> Result<((Expr, Span), 
 fn marks(
     alloc: Global,
     tokens: &[Token],
-    first: Expr,
+    first: Box<Expr>,
     place: Place,
 ) -> Result<(Many<Expr>, Place), ParseError>
-    ensures read { Gives exprs_listed result (reads_marks tokens.now (expr_tree first ∷ []) place) }
+    ensures read { Gives exprs_listed result (reads_marks tokens.now (expr_tree first.value ∷ []) place) }
     ensures moves { IfOk result (λ x. MovesUpTo tokens.now place x.1) }
 {
     let mut place = place;
-    let mut found = Many::new(alloc);
-    found.push(first)?;
+    let mut found = push_mark(Many::new(alloc), first)?;
     'marks: while sees_sign(tokens, place, Sign::At) {
         let ((more, _), behind) = mark(alloc, tokens, place)?;
-        found.push(more)?;
+        found = push_mark(found, more)?;
         place = behind;
     }
     Ok((found, place))
 }
 
-/// A function without decorators, with the place of its keyword.
+// A function without decorators, with the place of its keyword.
 #[tactic(auto, using(crate::proofs::DefinitionReading::funcs))]
-pub(crate) fn func(
+fn func(
     alloc: Global,
     tokens: &[Token],
     place: Place,
-) -> Result<((Func, Span), Place), ParseError>
+) -> Result<((Box<Func>, Span), Place), ParseError>
     ensures read { Gives func_seen result (reads_sym tokens.now FUNC place) }
     ensures moves { IfOk result (λ x. MovesTo tokens.now place x.1) }
 {
     let (token, place) = accept_key(tokens, place, Key::Def)?;
-    let (named, place) = accept(tokens, place, Kind::Name)?;
-    let name = name_of(alloc, named)?;
-    let (_, place) = accept_sign(tokens, place, Sign::LeftParen)?;
-    let (params, place) = params(alloc, tokens, place)?;
-    let (_, place) = accept_sign(tokens, place, Sign::RightParen)?;
+    let (named, place) = accept(tokens, place, Terminal::Name)?;
+    let (params, place) = bracketed_params(alloc, tokens, place)?;
     let (ret, place) = maybe_behind(alloc, tokens, place, Sign::Arrow)?;
     let (body, place) = suite(alloc, tokens, place)?;
-    let found = Func {
-        name,
-        params,
-        ret,
-        body,
-        marks: Many::new(alloc),
-    };
+    let found = new_func(alloc, named, params, ret, body)?;
     Ok(((found, token.span), place))
 }
 
+/// A function without decorators, as a row of one statement.
+pub(crate) fn plain_def(
+    alloc: Global,
+    tokens: &[Token],
+    place: Place,
+) -> Result<(Many<Stmt>, Place), ParseError>
+    ensures read { Gives stmts_seen result (reads_def tokens.now place) }
+    ensures moves { IfOk result (λ x. MovesTo tokens.now place x.1) }
+{
+    let ((one, begin), place) = func(alloc, tokens, place)?;
+    let one = defined(alloc, one, Many::new(alloc), begin)?;
+    Ok((row_of(alloc, one)?, place))
+}
+
+/// A class without decorators, as a row of one statement.
+pub(crate) fn plain_class(
+    alloc: Global,
+    tokens: &[Token],
+    place: Place,
+) -> Result<(Many<Stmt>, Place), ParseError>
+    ensures read { Gives stmts_seen result (reads_class tokens.now place) }
+    ensures moves { IfOk result (λ x. MovesTo tokens.now place x.1) }
+{
+    let ((one, begin), place) = class(alloc, tokens, place)?;
+    let one = class_defined(alloc, one, Many::new(alloc), begin)?;
+    Ok((row_of(alloc, one)?, place))
+}
+
 // An expression behind a sign, if the sign comes next.
-#[tactic(auto, unfolding(crate::specs::Statements::reads_maybe))]
+#[tactic(auto, unfolding(crate::specs::Definitions::reads_maybe))]
 fn maybe_behind(
     alloc: Global,
     tokens: &[Token],
     place: Place,
     sign: Sign,
-) -> Result<(Option<Expr>, Place), ParseError>
+) -> Result<(Option<Box<Expr>>, Place), ParseError>
     ensures read { Gives maybe_seen result (reads_maybe tokens.now sign place) }
     ensures moves { IfOk result (λ x. MovesUpTo tokens.now place x.1) }
 {
@@ -153,8 +149,24 @@ fn maybe_behind(
     Ok((Some(found.expr), found.place))
 }
 
+// Parameters in brackets.
+#[tactic(auto, unfolding(crate::specs::Definitions::reads_params))]
+fn bracketed_params(
+    alloc: Global,
+    tokens: &[Token],
+    place: Place,
+) -> Result<(Many<(Name, Option<Expr>)>, Place), ParseError>
+    ensures read { Gives params_seen result (reads_params tokens.now place) }
+    ensures moves { IfOk result (λ x. MovesTo tokens.now place x.1) }
+{
+    let (_, place) = accept_sign(tokens, place, Sign::LeftParen)?;
+    let (params, place) = params(alloc, tokens, place)?;
+    let (_, place) = accept_sign(tokens, place, Sign::RightParen)?;
+    Ok((params, place))
+}
+
 // Parameters between commas, or none, and a last comma.
-#[tactic(auto, using(crate::proofs::RowReading::part_rows))]
+#[tactic(auto, using(py_expressions::proofs::RowReading::part_rows))]
 fn params(
     alloc: Global,
     tokens: &[Token],
@@ -165,9 +177,9 @@ fn params(
 {
     let mut found = Many::new(alloc);
     let mut next = place;
-    'params: while sees(tokens, next, Kind::Name) {
+    'params: while sees(tokens, next, Terminal::Name) {
         let (more, behind) = param(alloc, tokens, next)?;
-        found.push(more)?;
+        found = push_param(found, more)?;
         if !sees_sign(tokens, behind, Sign::Comma) {
             return Ok((found, behind));
         }
@@ -183,38 +195,31 @@ fn param(
     alloc: Global,
     tokens: &[Token],
     place: Place,
-) -> Result<((Name, Option<Expr>), Place), ParseError>
+) -> Result<((Name, Option<Box<Expr>>), Place), ParseError>
     ensures read { Gives param_seen result (reads_sym tokens.now PARAM place) }
     ensures moves { IfOk result (λ x. MovesTo tokens.now place x.1) }
 {
-    let (token, place) = accept(tokens, place, Kind::Name)?;
+    let (token, place) = accept(tokens, place, Terminal::Name)?;
     let name = name_of(alloc, token)?;
     let (annotation, place) = maybe_behind(alloc, tokens, place, Sign::Colon)?;
     Ok(((name, annotation), place))
 }
 
-/// A class without decorators, with the place of its keyword.
+// A class without decorators, with the place of its keyword.
 #[tactic(auto, using(crate::proofs::DefinitionReading::classes))]
-pub(crate) fn class(
+fn class(
     alloc: Global,
     tokens: &[Token],
     place: Place,
-) -> Result<((Class, Span), Place), ParseError>
+) -> Result<((Box<Class>, Span), Place), ParseError>
     ensures read { Gives class_seen result (reads_sym tokens.now CLASS place) }
     ensures moves { IfOk result (λ x. MovesTo tokens.now place x.1) }
 {
     let (token, place) = accept_key(tokens, place, Key::Class)?;
-    let (named, place) = accept(tokens, place, Kind::Name)?;
-    let name = name_of(alloc, named)?;
+    let (named, place) = accept(tokens, place, Terminal::Name)?;
     let (bases, place) = bases(alloc, tokens, place)?;
-    let (_, place) = accept_sign(tokens, place, Sign::Colon)?;
-    let (body, place) = class_block(alloc, tokens, place)?;
-    let found = Class {
-        name,
-        bases,
-        body,
-        marks: Many::new(alloc),
-    };
+    let (body, place) = class_body(alloc, tokens, place)?;
+    let found = new_class(alloc, named, bases, body)?;
     Ok(((found, token.span), place))
 }
 
@@ -233,6 +238,20 @@ fn bases(alloc: Global, tokens: &[Token], place: Place) -> Result<(Many<Expr>, P
     Ok((found.list, place))
 }
 
+// The body of a class behind its colon.
+#[tactic(auto, unfolding(crate::specs::Definitions::reads_class_body))]
+fn class_body(
+    alloc: Global,
+    tokens: &[Token],
+    place: Place,
+) -> Result<(Many<Stmt>, Place), ParseError>
+    ensures read { Gives stmts_seen result (reads_class_body tokens.now place) }
+    ensures moves { IfOk result (λ x. MovesTo tokens.now place x.1) }
+{
+    let (_, place) = accept_sign(tokens, place, Sign::Colon)?;
+    class_block(alloc, tokens, place)
+}
+
 // A line of statements, or indented lines, where functions may stand.
 #[tactic(auto, using(crate::proofs::DefinitionReading::class_blocks))]
 fn class_block(
@@ -243,14 +262,14 @@ fn class_block(
     ensures read { Gives stmts_seen result (reads_sym tokens.now CBLOCK place) }
     ensures moves { IfOk result (λ x. MovesTo tokens.now place x.1) }
 {
-    if !sees(tokens, place, Kind::Newline) {
+    if !sees(tokens, place, Terminal::Newline) {
         return simple(alloc, tokens, place);
     }
-    let (_, place) = accept(tokens, place, Kind::Newline)?;
-    let (_, place) = accept(tokens, place, Kind::Indent)?;
+    let (_, place) = accept(tokens, place, Terminal::Newline)?;
+    let (_, place) = accept(tokens, place, Terminal::Indent)?;
     let (first, place) = member(alloc, tokens, place)?;
     let (found, place) = members(alloc, tokens, first, place)?;
-    let (_, place) = accept(tokens, place, Kind::Dedent)?;
+    let (_, place) = accept(tokens, place, Terminal::Dedent)?;
     Ok((found, place))
 }
 
@@ -284,8 +303,5 @@ fn member(alloc: Global, tokens: &[Token], place: Place) -> Result<(Many<Stmt>, 
     if !sees_key(tokens, place, Key::Def) {
         return stmt(alloc, tokens, place);
     }
-    let ((one, begin), place) = func(alloc, tokens, place)?;
-    let mut found = Many::new(alloc);
-    found.push(defined(one, Many::new(alloc), begin))?;
-    Ok((found, place))
+    plain_def(alloc, tokens, place)
 }

@@ -12,31 +12,12 @@ ghost use Rattle.py_syntax.specs.Tokens.{EndsOnce};
 ghost use Rattle.py_grammar.specs.Levels.{IsShallow};
 ghost use Rattle.py_parser.specs.Whole.{IsRight};
 
-mod append;
-mod assign;
-mod atom;
-mod behind;
-mod block;
-mod comparison;
 mod define;
-mod expression;
-mod fault;
-mod import;
-mod join;
-mod operator;
-mod parsed;
-mod place;
-mod prefix;
-mod row;
-mod simple;
-mod starts;
-mod statement;
-mod target;
+mod definition;
 mod top;
-mod word;
 
 use crate::top::whole;
-pub use fault::ParseError;
+pub use py_reading::fault::ParseError;
 use py_syntax::{Module, Tokens};
 use std::alloc::Global;
 
@@ -50,6 +31,3 @@ pub fn module(alloc: Global, tokens: &Tokens) -> Result<Module, ParseError>
     let (body, _) = whole(alloc, tokens.list.as_slice())?;
     Ok(Module { body })
 }
-
-#[cfg(test)]
-mod tests;

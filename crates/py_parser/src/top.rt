@@ -4,18 +4,18 @@ ghost use Rattle.py_grammar.specs.Grammar.{TOP, MODULE};
 ghost use Rattle.py_grammar.specs.Reader.{start};
 ghost use Rattle.py_grammar.specs.Readings.{reads_sym};
 ghost use Rattle.py_parser.specs.Definitions.{reads_tops};
-ghost use Rattle.py_parser.specs.Gives.{Gives};
-ghost use Rattle.py_parser.specs.Parsed.{MovesTo, MovesUpTo};
-ghost use Rattle.py_parser.specs.Statements.{stmts_seen};
+ghost use Rattle.py_reading.specs.Gives.{Gives};
+ghost use Rattle.py_reading.specs.Moves.{MovesTo, MovesUpTo};
+ghost use Rattle.py_statements.specs.Statements.{stmts_seen};
 ghost use Rattle.py_parser.specs.Whole.{body_seen};
 
-use crate::append::append;
-use crate::block::stmt;
-use crate::define::{class, class_defined, decorated, defined, func};
-use crate::fault::ParseError;
-use crate::place::{accept, sees_key, sees_sign};
-use crate::starts::begins_top;
-use py_grammar::{Class, Place};
+use crate::define::{decorated, plain_class, plain_def};
+use py_grammar::{Place, Terminal};
+use py_reading::fault::ParseError;
+use py_reading::place::{accept, sees_key, sees_sign};
+use py_reading::starts::begins_top;
+use py_statements::append::{append, row_of};
+use py_statements::block::stmt;
 use py_syntax::{Key, Sign, Stmt, Token};
 use std::alloc::Global;
 use value_core::Many;
@@ -27,7 +27,7 @@ pub(crate) fn whole(alloc: Global, tokens: &[Token]) -> Result<(Many<Stmt>, Plac
 {
     let place = Place { at: 0, deep: false };
     let (body, place) = tops(alloc, tokens, place)?;
-    let (_, place) = accept(tokens, place, Class::End)?;
+    let (_, place) = accept(tokens, place, Terminal::End)?;
     Ok((body, place))
 }
 
@@ -53,21 +53,15 @@ fn top(alloc: Global, tokens: &[Token], place: Place) -> Result<(Many<Stmt>, Pla
     ensures read { Gives stmts_seen result (reads_sym tokens.now TOP place) }
     ensures moves { IfOk result (λ x. MovesTo tokens.now place x.1) }
 {
-    let mut found = Many::new(alloc);
     if sees_key(tokens, place, Key::Def) {
-        let ((one, begin), place) = func(alloc, tokens, place)?;
-        found.push(defined(one, Many::new(alloc), begin))?;
-        return Ok((found, place));
+        return plain_def(alloc, tokens, place);
     }
     if sees_key(tokens, place, Key::Class) {
-        let ((one, begin), place) = class(alloc, tokens, place)?;
-        found.push(class_defined(one, Many::new(alloc), begin))?;
-        return Ok((found, place));
+        return plain_class(alloc, tokens, place);
     }
     if sees_sign(tokens, place, Sign::At) {
         let (one, place) = decorated(alloc, tokens, place)?;
-        found.push(one)?;
-        return Ok((found, place));
+        return Ok((row_of(alloc, one)?, place));
     }
     stmt(alloc, tokens, place)
 }

@@ -1,5 +1,5 @@
--- What each kind of declared expression stands for, and its rows of parts as lists.
-use Rattle.std.proofs.Common.{◌≡◌, ℕ, ℤ, List, [], ◌∷◌, map, Option, Some, None, refl, ap, sym, ◌∙◌}
+-- What each kind of declared expression stands for.
+use Rattle.std.proofs.Common.{◌≡◌, ℕ, ℤ, List, map, Option, Some, None, refl, ap, sym, ◌∙◌}
 use Rattle.std.specs.declared.boxed.Box.{Box}
 use Rattle.std.specs.declared.alloc.Global.{Global}
 use Rattle.std.specs.Option.{option_map}
@@ -13,7 +13,7 @@ use Rattle.py_syntax.specs.declared.expression.ExprKind.TheVariants as variant
 use Rattle.py_syntax.specs.declared.expression.ExprKind.TheOpen.{ExprKind-F}
 use Rattle.py_syntax.specs.declared.expression.ExprKind.TheShapes.{former-Arg-key}
 use Rattle.py_syntax.specs.Expressions as tree
-use Rattle.py_syntax.specs.Expressions.{ExprTree, ExprNode, ArgTree, ExprTrees, Comparisons, Entries, Arguments, no_exprs, expr_then, no_comparisons, comparison_then, no_entries, entry_then, no_arguments, argument_then, keyed_then, at, exprs_of, comparisons_of, entries_of, arguments_of, with_key, listed_exprs, listed_comparisons, listed_entries, listed_arguments, node_step, arg_step, expr_step, expr_tree, expr_node, arg_tree, comparison_tree, entry_tree}
+use Rattle.py_syntax.specs.Expressions.{ExprTree, ExprNode, ArgTree, ExprTrees, Comparisons, Entries, Arguments, no_exprs, expr_then, no_comparisons, comparison_then, no_entries, entry_then, no_arguments, argument_then, keyed_then, at, exprs_of, comparisons_of, entries_of, arguments_of, with_key, node_step, arg_step, expr_step, expr_tree, expr_node, arg_tree, comparison_tree, entry_tree}
 
 -- an expression in a box
 abbrev Part : Type 0
@@ -22,10 +22,6 @@ Part = Box Expr Global
 -- an expression by its kind and its place
 pub expr_tree_at : (e : Expr) → expr_tree e ≡ at (expr_node e.kind) e.span
 expr_tree_at e = fold_out-Expr ExprNode ArgTree ExprTree node_step arg_step expr_step e
-
--- the same where its kind is known, and what that stands for
-pub expr_tree_of : (e : Expr) (k : ExprKind) (n : ExprNode) → e.kind ≡ k → expr_node k ≡ n → expr_tree e ≡ at n e.span
-expr_tree_of e k n is stands = expr_tree_at e ∙ ap (λ x. at x e.span) (ap expr_node is ∙ stands)
 
 keyed : (o : Option Expr) → former-Arg-key.map Expr ExprTree expr_tree o ≡ option_map expr_tree o
 keyed None = refl
@@ -119,41 +115,3 @@ pub ruleset expr_nodes = (
   expr_node-Index,
   expr_node-Call,
 )
-
--- a row made of a list lists it again, and a row is made of its list
-pub listed-exprs_of : (es : List ExprTree) → listed_exprs (exprs_of es) ≡ es
-listed-exprs_of [] = refl
-listed-exprs_of (e ∷ es) = ap (λ l. e ∷ l) (listed-exprs_of es)
-
-pub exprs_of-listed : (es : ExprTrees) → exprs_of (listed_exprs es) ≡ es
-exprs_of-listed no_exprs = refl
-exprs_of-listed (expr_then e es) = ap (expr_then e) (exprs_of-listed es)
-
-pub listed-comparisons_of : (cs : List (CmpOp × ExprTree)) → listed_comparisons (comparisons_of cs) ≡ cs
-listed-comparisons_of [] = refl
-listed-comparisons_of (c ∷ cs) = ap (λ l. c ∷ l) (listed-comparisons_of cs)
-
-pub comparisons_of-listed : (cs : Comparisons) → comparisons_of (listed_comparisons cs) ≡ cs
-comparisons_of-listed no_comparisons = refl
-comparisons_of-listed (comparison_then op e cs) = ap (comparison_then op e) (comparisons_of-listed cs)
-
-pub listed-entries_of : (es : List (ExprTree × ExprTree)) → listed_entries (entries_of es) ≡ es
-listed-entries_of [] = refl
-listed-entries_of (e ∷ es) = ap (λ l. e ∷ l) (listed-entries_of es)
-
-pub entries_of-listed : (es : Entries) → entries_of (listed_entries es) ≡ es
-entries_of-listed no_entries = refl
-entries_of-listed (entry_then key value es) = ap (entry_then key value) (entries_of-listed es)
-
-listed-with_key : (key : Option ExprTree) (value : ExprTree) (more : Arguments) → listed_arguments (with_key key value more) ≡ record { key = key; value = value } ∷ listed_arguments more
-listed-with_key None value more = refl
-listed-with_key (Some key) value more = refl
-
-pub listed-arguments_of : (as_ : List ArgTree) → listed_arguments (arguments_of as_) ≡ as_
-listed-arguments_of [] = refl
-listed-arguments_of (a ∷ more) = listed-with_key a.key a.value (arguments_of more) ∙ ap (λ l. a ∷ l) (listed-arguments_of more)
-
-pub arguments_of-listed : (as_ : Arguments) → arguments_of (listed_arguments as_) ≡ as_
-arguments_of-listed no_arguments = refl
-arguments_of-listed (argument_then value more) = ap (argument_then value) (arguments_of-listed more)
-arguments_of-listed (keyed_then key value more) = ap (keyed_then key value) (arguments_of-listed more)

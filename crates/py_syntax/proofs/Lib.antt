@@ -1,5 +1,5 @@
 mod Examples
 pub mod ExpressionLemmas
-pub mod Sizes
 pub mod StatementLemmas
 pub mod TokenLemmas
+pub mod TraversalLemmas

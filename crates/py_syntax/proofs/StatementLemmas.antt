@@ -1,38 +1,24 @@
--- What each kind of declared statement stands for, and its rows of parts as lists.
+-- What each kind of declared statement stands for, and statements in a row as a list.
 use Rattle.std.proofs.Common.{◌≡◌, ℕ, List, [], ◌∷◌, map, Option, Some, None, refl, ap, sym, ◌∙◌}
 use Rattle.std.specs.Option.{option_map}
 use Rattle.py_syntax.specs.declared.expression.BinOp.{BinOp}
 use Rattle.py_syntax.specs.declared.expression.Expr.{Expr}
 use Rattle.py_syntax.specs.declared.statement.Stmt.{Stmt, fold_out-Stmt}
-use Rattle.py_syntax.specs.declared.statement.Handler.{Handler, out-Handler, fold_out-Handler}
-use Rattle.py_syntax.specs.declared.statement.Func.{Func, out-Func, fold_out-Func}
-use Rattle.py_syntax.specs.declared.statement.Class.{Class, out-Class, fold_out-Class}
+use Rattle.py_syntax.specs.declared.statement.Handler.{Handler}
+use Rattle.py_syntax.specs.declared.statement.Func.{Func}
+use Rattle.py_syntax.specs.declared.statement.Class.{Class}
 use Rattle.py_syntax.specs.declared.statement.StmtKind.{StmtKind, fold-roll-StmtKind, roll-StmtKind}
 use Rattle.py_syntax.specs.declared.statement.StmtKind as kind
 use Rattle.py_syntax.specs.declared.statement.StmtKind.TheVariants as variant
 use Rattle.py_syntax.specs.declared.statement.StmtKind.TheOpen.{StmtKind-F}
 use Rattle.py_syntax.specs.declared.statement.StmtKind.TheShapes.{former-StmtKind-Try-2}
-use Rattle.py_syntax.specs.Expressions.{ExprTree, expr_tree}
+use Rattle.py_syntax.specs.Expressions.{expr_tree}
 use Rattle.py_syntax.specs.Statements as tree
-use Rattle.py_syntax.specs.Statements.{StmtTree, StmtNode, HandlerTree, FuncTree, ClassTree, Block, no_stmts, stmt_then, Arms, no_arms, arm_then, Handlers, no_handlers, handler_then, at, block_of, arms_of, handlers_of, maybe_block, listed_block, listed_arms, listed_handlers, def_of, class_def_of, maybe_expr, arm_step, param_tree, node_step, class_step, func_step, handler_step, stmt_step, stmt_tree, stmt_node, handler_tree, func_tree, class_tree, body_tree, arm_tree}
+use Rattle.py_syntax.specs.Statements.{StmtTree, StmtNode, HandlerTree, FuncTree, ClassTree, Suite, no_stmts, stmt_then, Arms, no_arms, arm_then, Handlers, no_handlers, handler_then, at, suite_of, arms_of, handlers_of, maybe_suite, listed_suite, def_of, class_def_of, maybe_expr, arm_step, param_tree, node_step, class_step, func_step, handler_step, stmt_step, stmt_tree, stmt_node, handler_tree, func_tree, class_tree, body_tree, arm_tree}
 
 -- a statement by its kind and its place
 pub stmt_tree_at : (s : Stmt) → stmt_tree s ≡ at (stmt_node s.kind) s.span
 stmt_tree_at s = fold_out-Stmt StmtNode ClassTree FuncTree HandlerTree StmtTree node_step class_step func_step handler_step stmt_step s
-
--- the same where its kind is known, and what that stands for
-pub stmt_tree_of : (s : Stmt) (k : StmtKind) (n : StmtNode) → s.kind ≡ k → stmt_node k ≡ n → stmt_tree s ≡ at n s.span
-stmt_tree_of s k n is stands = stmt_tree_at s ∙ ap (λ x. at x s.span) (ap stmt_node is ∙ stands)
-
--- the parts of a handler, a function and a class
-pub handler_tree_at : (h : Handler) → handler_tree h ≡ record { class = maybe_expr (out-Handler h).class; name = (out-Handler h).name; body = body_tree (out-Handler h).body; span = (out-Handler h).span }
-handler_tree_at h = fold_out-Handler StmtNode ClassTree FuncTree HandlerTree StmtTree node_step class_step func_step handler_step stmt_step h
-
-pub func_tree_at : (f : Func) → func_tree f ≡ record { name = (out-Func f).name; params = map param_tree (out-Func f).params; ret = maybe_expr (out-Func f).ret; body = body_tree (out-Func f).body; marks = map expr_tree (out-Func f).marks }
-func_tree_at f = fold_out-Func StmtNode ClassTree FuncTree HandlerTree StmtTree node_step class_step func_step handler_step stmt_step f
-
-pub class_tree_at : (c : Class) → class_tree c ≡ record { name = (out-Class c).name; bases = map expr_tree (out-Class c).bases; body = body_tree (out-Class c).body; marks = map expr_tree (out-Class c).marks }
-class_tree_at c = fold_out-Class StmtNode ClassTree FuncTree HandlerTree StmtTree node_step class_step func_step handler_step stmt_step c
 
 rolled : (k : StmtKind-F StmtKind Class Func Handler Stmt) (made : StmtKind) → roll-StmtKind k ≡ made → stmt_node made ≡ node_step (kind.map-StmtKind StmtKind Class Func Handler Stmt StmtNode ClassTree FuncTree HandlerTree StmtTree stmt_node class_tree func_tree handler_tree stmt_tree k)
 rolled k made is = ap stmt_node (sym is) ∙ fold-roll-StmtKind StmtNode ClassTree FuncTree HandlerTree StmtTree node_step class_step func_step handler_step stmt_step k
@@ -42,9 +28,9 @@ stepped : (arms : List (Expr × List Stmt)) → map arm_step (map (λ a. (a.0, m
 stepped [] = refl
 stepped (a ∷ more) = ap (λ l. arm_tree a ∷ l) (stepped more)
 
-last_block : (o : Option (List Stmt)) → option_map block_of (former-StmtKind-Try-2.map Stmt StmtTree stmt_tree o) ≡ option_map body_tree o
-last_block None = refl
-last_block (Some body) = refl
+last_suite : (o : Option (List Stmt)) → option_map suite_of (former-StmtKind-Try-2.map Stmt StmtTree stmt_tree o) ≡ option_map body_tree o
+last_suite None = refl
+last_suite (Some body) = refl
 
 pub stmt_node-Expr : (e : Expr) → stmt_node (kind.Expr e) ≡ tree.Do (expr_tree e)
 stmt_node-Expr e = rolled (StmtKind-F.Expr e) (kind.Expr e) (variant.rolls-Expr e)
@@ -97,8 +83,8 @@ stmt_node-While e body = rolled (StmtKind-F.While e body) (kind.While e body) (v
 pub stmt_node-For : (t e : Expr) (body : List Stmt) → stmt_node (kind.For t e body) ≡ tree.For (expr_tree t) (expr_tree e) (body_tree body)
 stmt_node-For t e body = rolled (StmtKind-F.For t e body) (kind.For t e body) (variant.rolls-For t e body)
 
-pub stmt_node-Try : (body : List Stmt) (handlers : List Handler) (last : Option (List Stmt)) → stmt_node (kind.Try body handlers last) ≡ tree.Try (body_tree body) (handlers_of (map handler_tree handlers)) (maybe_block (option_map body_tree last))
-stmt_node-Try body handlers last = rolled (StmtKind-F.Try body handlers last) (kind.Try body handlers last) (variant.rolls-Try body handlers last) ∙ ap (λ o. tree.Try (body_tree body) (handlers_of (map handler_tree handlers)) (maybe_block o)) (last_block last)
+pub stmt_node-Try : (body : List Stmt) (handlers : List Handler) (last : Option (List Stmt)) → stmt_node (kind.Try body handlers last) ≡ tree.Try (body_tree body) (handlers_of (map handler_tree handlers)) (maybe_suite (option_map body_tree last))
+stmt_node-Try body handlers last = rolled (StmtKind-F.Try body handlers last) (kind.Try body handlers last) (variant.rolls-Try body handlers last) ∙ ap (λ o. tree.Try (body_tree body) (handlers_of (map handler_tree handlers)) (maybe_suite o)) (last_suite last)
 
 pub stmt_node-Def : (f : Func) → stmt_node (kind.Def f) ≡ def_of (func_tree f)
 stmt_node-Def f = rolled (StmtKind-F.Def f) (kind.Def f) (variant.rolls-Def f)
@@ -129,27 +115,7 @@ pub ruleset stmt_nodes = (
   stmt_node-Class,
 )
 
--- a row made of a list lists it again, and a row is made of its list
-pub listed-block_of : (ss : List StmtTree) → listed_block (block_of ss) ≡ ss
-listed-block_of [] = refl
-listed-block_of (s ∷ ss) = ap (λ l. s ∷ l) (listed-block_of ss)
-
-pub block_of-listed : (b : Block) → block_of (listed_block b) ≡ b
-block_of-listed no_stmts = refl
-block_of-listed (stmt_then s more) = ap (stmt_then s) (block_of-listed more)
-
-pub listed-arms_of : (arms : List (ExprTree × Block)) → listed_arms (arms_of arms) ≡ arms
-listed-arms_of [] = refl
-listed-arms_of (a ∷ more) = ap (λ l. a ∷ l) (listed-arms_of more)
-
-pub arms_of-listed : (arms : Arms) → arms_of (listed_arms arms) ≡ arms
-arms_of-listed no_arms = refl
-arms_of-listed (arm_then test body more) = ap (arm_then test body) (arms_of-listed more)
-
-pub listed-handlers_of : (handlers : List HandlerTree) → listed_handlers (handlers_of handlers) ≡ handlers
-listed-handlers_of [] = refl
-listed-handlers_of (h ∷ more) = ap (λ l. h ∷ l) (listed-handlers_of more)
-
-pub handlers_of-listed : (handlers : Handlers) → handlers_of (listed_handlers handlers) ≡ handlers
-handlers_of-listed no_handlers = refl
-handlers_of-listed (handler_then c n b s more) = ap (handler_then c n b s) (handlers_of-listed more)
+-- a row made of a list lists it again
+pub listed-suite_of : (ss : List StmtTree) → listed_suite (suite_of ss) ≡ ss
+listed-suite_of [] = refl
+listed-suite_of (s ∷ ss) = ap (λ l. s ∷ l) (listed-suite_of ss)

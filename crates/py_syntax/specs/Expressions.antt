@@ -83,24 +83,6 @@ abbrev pub arguments_of : List ArgTree → Arguments
 arguments_of [] = no_arguments
 arguments_of (a ∷ more) = with_key a.key a.value (arguments_of more)
 
--- rows of parts as lists
-abbrev pub listed_exprs : ExprTrees → List ExprTree
-listed_exprs no_exprs = []
-listed_exprs (expr_then e es) = e ∷ listed_exprs es
-
-abbrev pub listed_comparisons : Comparisons → List (CmpOp × ExprTree)
-listed_comparisons no_comparisons = []
-listed_comparisons (comparison_then op e cs) = (op, e) ∷ listed_comparisons cs
-
-abbrev pub listed_entries : Entries → List (ExprTree × ExprTree)
-listed_entries no_entries = []
-listed_entries (entry_then key value es) = (key, value) ∷ listed_entries es
-
-abbrev pub listed_arguments : Arguments → List ArgTree
-listed_arguments no_arguments = []
-listed_arguments (argument_then value more) = record { key = None; value = value } ∷ listed_arguments more
-listed_arguments (keyed_then key value more) = record { key = Some key; value = value } ∷ listed_arguments more
-
 -- one level of a declared expression, whose parts are trees already
 abbrev pub node_step : ExprKind-F ExprNode ArgTree ExprTree → ExprNode
 node_step (ExprKind-F.Int n) = Int n

@@ -34,60 +34,60 @@ mutual
     Assert : ExprTree → Option ExprTree → StmtNode
     Import : List ℕ → Option (List ℕ) → StmtNode
     From : List ℕ → List (List ℕ × Option (List ℕ)) → StmtNode
-    If : Arms → Block → StmtNode
-    While : ExprTree → Block → StmtNode
-    For : ExprTree → ExprTree → Block → StmtNode
-    Try : Block → Handlers → MaybeBlock → StmtNode
+    If : Arms → Suite → StmtNode
+    While : ExprTree → Suite → StmtNode
+    For : ExprTree → ExprTree → Suite → StmtNode
+    Try : Suite → Handlers → MaybeSuite → StmtNode
     -- its name, parameters, result, body and decorators
-    Def : List ℕ → List (List ℕ × Option ExprTree) → Option ExprTree → Block → List ExprTree → StmtNode
+    Def : List ℕ → List (List ℕ × Option ExprTree) → Option ExprTree → Suite → List ExprTree → StmtNode
     -- its name, bases, body and decorators
-    ClassDef : List ℕ → List ExprTree → Block → List ExprTree → StmtNode
+    ClassDef : List ℕ → List ExprTree → Suite → List ExprTree → StmtNode
 
   -- statements in a row
-  pub data Block : Type 0 where
-    no_stmts : Block
-    stmt_then : StmtTree → Block → Block
+  pub data Suite : Type 0 where
+    no_stmts : Suite
+    stmt_then : StmtTree → Suite → Suite
 
   -- tests, each with its body
   pub data Arms : Type 0 where
     no_arms : Arms
-    arm_then : ExprTree → Block → Arms → Arms
+    arm_then : ExprTree → Suite → Arms → Arms
 
   -- handlers, each with its class, name, body and place
   pub data Handlers : Type 0 where
     no_handlers : Handlers
-    handler_then : Option ExprTree → Option (List ℕ) → Block → Span → Handlers → Handlers
+    handler_then : Option ExprTree → Option (List ℕ) → Suite → Span → Handlers → Handlers
 
-  pub data MaybeBlock : Type 0 where
-    no_block : MaybeBlock
-    some_block : Block → MaybeBlock
+  pub data MaybeSuite : Type 0 where
+    no_suite : MaybeSuite
+    some_suite : Suite → MaybeSuite
 
 -- the parts of a handler, a function and a class, by name
 pub record HandlerTree : Type 0 where
   pub class : Option ExprTree
   pub name : Option (List ℕ)
-  pub body : Block
+  pub body : Suite
   pub span : Span
 
 pub record FuncTree : Type 0 where
   pub name : List ℕ
   pub params : List (List ℕ × Option ExprTree)
   pub ret : Option ExprTree
-  pub body : Block
+  pub body : Suite
   pub marks : List ExprTree
 
 pub record ClassTree : Type 0 where
   pub name : List ℕ
   pub bases : List ExprTree
-  pub body : Block
+  pub body : Suite
   pub marks : List ExprTree
 
 -- rows of parts made of lists
-abbrev pub block_of : List StmtTree → Block
-block_of [] = no_stmts
-block_of (s ∷ ss) = stmt_then s (block_of ss)
+abbrev pub suite_of : List StmtTree → Suite
+suite_of [] = no_stmts
+suite_of (s ∷ ss) = stmt_then s (suite_of ss)
 
-abbrev pub arms_of : List (ExprTree × Block) → Arms
+abbrev pub arms_of : List (ExprTree × Suite) → Arms
 arms_of [] = no_arms
 arms_of (a ∷ more) = arm_then a.0 a.1 (arms_of more)
 
@@ -95,23 +95,14 @@ abbrev pub handlers_of : List HandlerTree → Handlers
 handlers_of [] = no_handlers
 handlers_of (h ∷ more) = handler_then h.class h.name h.body h.span (handlers_of more)
 
-abbrev pub maybe_block : Option Block → MaybeBlock
-maybe_block None = no_block
-maybe_block (Some body) = some_block body
+abbrev pub maybe_suite : Option Suite → MaybeSuite
+maybe_suite None = no_suite
+maybe_suite (Some body) = some_suite body
 
--- rows of parts as lists
-abbrev pub listed_block : Block → List StmtTree
-listed_block no_stmts = []
-listed_block (stmt_then s more) = s ∷ listed_block more
-
-abbrev pub listed_arms : Arms → List (ExprTree × Block)
-listed_arms no_arms = []
-listed_arms (arm_then test body more) = (test, body) ∷ listed_arms more
-
-abbrev pub listed_handlers : Handlers → List HandlerTree
-listed_handlers no_handlers = []
-listed_handlers (handler_then c n b s more) =
-    record { class = c; name = n; body = b; span = s } ∷ listed_handlers more
+-- statements in a row as a list
+abbrev pub listed_suite : Suite → List StmtTree
+listed_suite no_stmts = []
+listed_suite (stmt_then s more) = s ∷ listed_suite more
 
 -- a function or a class as the statement that defines it
 abbrev pub def_of : FuncTree → StmtNode
@@ -124,8 +115,8 @@ abbrev pub maybe_expr : Option Expr → Option ExprTree
 maybe_expr = option_map expr_tree
 
 -- a test with its body, and a parameter with its annotation
-abbrev pub arm_step : Expr × List StmtTree → ExprTree × Block
-arm_step a = (expr_tree a.0, block_of a.1)
+abbrev pub arm_step : Expr × List StmtTree → ExprTree × Suite
+arm_step a = (expr_tree a.0, suite_of a.1)
 
 abbrev pub param_tree : List ℕ × Option Expr → List ℕ × Option ExprTree
 param_tree p = (p.0, maybe_expr p.1)
@@ -146,11 +137,11 @@ node_step (StmtKind-F.Global names) = Global names
 node_step (StmtKind-F.Assert e message) = Assert (expr_tree e) (maybe_expr message)
 node_step (StmtKind-F.Import name other) = Import name other
 node_step (StmtKind-F.From name names) = From name names
-node_step (StmtKind-F.If arms other) = If (arms_of (map arm_step arms)) (block_of other)
-node_step (StmtKind-F.While e body) = While (expr_tree e) (block_of body)
-node_step (StmtKind-F.For t e body) = For (expr_tree t) (expr_tree e) (block_of body)
+node_step (StmtKind-F.If arms other) = If (arms_of (map arm_step arms)) (suite_of other)
+node_step (StmtKind-F.While e body) = While (expr_tree e) (suite_of body)
+node_step (StmtKind-F.For t e body) = For (expr_tree t) (expr_tree e) (suite_of body)
 node_step (StmtKind-F.Try body handlers last) =
-    Try (block_of body) (handlers_of handlers) (maybe_block (option_map block_of last))
+    Try (suite_of body) (handlers_of handlers) (maybe_suite (option_map suite_of last))
 node_step (StmtKind-F.Def f) = def_of f
 node_step (StmtKind-F.Class c) = class_def_of c
 
@@ -158,7 +149,7 @@ abbrev pub class_step : Class-F StmtNode ClassTree FuncTree HandlerTree StmtTree
 class_step c = record {
   name = c.name;
   bases = map expr_tree c.bases;
-  body = block_of c.body;
+  body = suite_of c.body;
   marks = map expr_tree c.marks;
 }
 
@@ -167,12 +158,12 @@ func_step f = record {
   name = f.name;
   params = map param_tree f.params;
   ret = maybe_expr f.ret;
-  body = block_of f.body;
+  body = suite_of f.body;
   marks = map expr_tree f.marks;
 }
 
 abbrev pub handler_step : Handler-F StmtNode ClassTree FuncTree HandlerTree StmtTree → HandlerTree
-handler_step h = record { class = maybe_expr h.class; name = h.name; body = block_of h.body; span = h.span }
+handler_step h = record { class = maybe_expr h.class; name = h.name; body = suite_of h.body; span = h.span }
 
 abbrev pub stmt_step : Stmt-F StmtNode ClassTree FuncTree HandlerTree StmtTree → StmtTree
 stmt_step s = at s.kind s.span
@@ -194,11 +185,11 @@ abbrev pub class_tree : Class → ClassTree
 class_tree = fold-Class StmtNode ClassTree FuncTree HandlerTree StmtTree node_step class_step func_step handler_step stmt_step
 
 -- the statements of a list, a test with its body, and a module
-abbrev pub body_tree : List Stmt → Block
-body_tree ss = block_of (map stmt_tree ss)
+abbrev pub body_tree : List Stmt → Suite
+body_tree ss = suite_of (map stmt_tree ss)
 
-abbrev pub arm_tree : Expr × List Stmt → ExprTree × Block
+abbrev pub arm_tree : Expr × List Stmt → ExprTree × Suite
 arm_tree a = (expr_tree a.0, body_tree a.1)
 
-abbrev pub module_tree : Module → Block
+abbrev pub module_tree : Module → Suite
 module_tree m = body_tree m.body

@@ -4,7 +4,7 @@ use value_core::{Many, Name, Text};
 
 /// An expression, with the place of its first token (Python Language Reference, "Expressions").
 #[cycle(expression)]
-#[derive(Debug, Drop)]
+#[derive(Drop)]
 pub struct Expr {
     pub kind: ExprKind,
     pub span: Span,
@@ -12,7 +12,7 @@ pub struct Expr {
 
 /// What an expression is. Parts stand in the order of the text, but where it is said.
 #[cycle(expression)]
-#[derive(Debug, Drop)]
+#[derive(Drop)]
 pub enum ExprKind {
     Int(i128),
     /// String literals side by side are one text.
@@ -43,7 +43,7 @@ pub enum ExprKind {
 
 /// An argument of a call: `value`, or `key=value`.
 #[cycle(expression)]
-#[derive(Debug, Drop)]
+#[derive(Drop)]
 pub struct Arg {
     pub key: Option<Expr>,
     pub value: Expr,

@@ -3,7 +3,7 @@ ghost use Rattle.std.specs.Prelude.{◌≡◌, Some};
 ghost use Rattle.py_syntax.specs.Texts.{key_text, key_of};
 
 /// The keywords (Python Language Reference, "Keywords"). `Nothing` is `None`; every other one is named by its text.
-#[derive(Clone, Copy, Debug, PartialEq, Eq)]
+#[derive(Clone, Copy, PartialEq, Eq)]
 pub enum Key {
     False,
     Nothing,

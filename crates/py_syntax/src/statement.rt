@@ -6,7 +6,7 @@ use value_core::{Many, Name};
 /// A statement, with the place of its first token
 /// (Python Language Reference, "Simple statements" and "Compound statements").
 #[cycle(statement)]
-#[derive(Debug, Drop)]
+#[derive(Drop)]
 pub struct Stmt {
     pub kind: StmtKind,
     pub span: Span,
@@ -14,7 +14,7 @@ pub struct Stmt {
 
 /// What a statement is. Parts stand in the order of the text.
 #[cycle(statement)]
-#[derive(Debug, Drop)]
+#[derive(Drop)]
 pub enum StmtKind {
     Expr(Expr),
     /// `target = value`.
@@ -49,7 +49,7 @@ pub enum StmtKind {
 
 /// `except class as name:` with its body.
 #[cycle(statement)]
-#[derive(Debug, Drop)]
+#[derive(Drop)]
 pub struct Handler {
     pub class: Option<Expr>,
     pub name: Option<Name>,
@@ -59,7 +59,7 @@ pub struct Handler {
 
 /// A function definition: its parameters with their annotations, the annotation of its result, and its decorators.
 #[cycle(statement)]
-#[derive(Debug, Drop)]
+#[derive(Drop)]
 pub struct Func {
     pub name: Name,
     pub params: Many<(Name, Option<Expr>)>,
@@ -70,7 +70,7 @@ pub struct Func {
 
 /// A class definition: its bases, its body, and its decorators.
 #[cycle(statement)]
-#[derive(Debug, Drop)]
+#[derive(Drop)]
 pub struct Class {
     pub name: Name,
     pub bases: Many<Expr>,
@@ -79,7 +79,7 @@ pub struct Class {
 }
 
 /// A module, which is the body of a file.
-#[derive(Debug, Drop)]
+#[derive(Drop)]
 pub struct Module {
     pub body: Many<Stmt>,
 }

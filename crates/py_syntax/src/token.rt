@@ -13,20 +13,20 @@ pub struct Span {
 }
 
 /// A token, with the place where it begins (Python Language Reference, "Lexical analysis").
-#[derive(Debug, PartialEq, Eq, Drop)]
+#[derive(PartialEq, Eq, Drop)]
 pub struct Token {
     pub kind: TokenKind,
     pub span: Span,
 }
 
 /// The tokens of a text, in its order. The last one is `End`, and no other one is.
-#[derive(Debug, Drop)]
+#[derive(Drop)]
 pub struct Tokens {
     pub list: Many<Token>,
 }
 
 /// What a token is.
-#[derive(Debug, PartialEq, Eq, Drop)]
+#[derive(PartialEq, Eq, Drop)]
 pub enum TokenKind {
     /// An identifier that is no keyword, in the normal form NFKC.
     Name(Name),

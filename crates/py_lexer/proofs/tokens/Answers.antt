@@ -4,7 +4,7 @@ use Rattle.py_lexer.specs.Reading.{Gives, Fault}
 use Rattle.py_lexer.specs.Places.{plain}
 use Rattle.py_lexer.specs.Tokens.{tokens_of}
 use Rattle.py_lexer.proofs.ReadLemmas.{from_text}
-use Rattle.py_lexer.proofs.TokenLaws.{gives_end, gives_balance, gives_order}
+use Rattle.py_lexer.proofs.TokenLaws.{gives_end, gives_balance, gives_order, gives_spelling}
 use Rattle.py_lexer.proofs.tokens.Goals as goal
 
 -- what was read are the tokens of the text
@@ -26,3 +26,6 @@ returns-clause-balanced c = gives_balance c.read.result (chars c.args.text.now) 
 
 pub returns-clause-in_order : goal.returns-clause-in_order
 returns-clause-in_order c = gives_order c.read.result (chars c.args.text.now) (exact c)
+
+pub returns-clause-spelled : goal.returns-clause-spelled
+returns-clause-spelled c = gives_spelling c.read.result (chars c.args.text.now) (exact c)

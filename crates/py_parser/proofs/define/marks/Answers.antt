@@ -1,5 +1,4 @@
-use Rattle.std.proofs.Common.{[], ◌∷◌, map, ap, sym, ◌∙◌, arith}
-use Rattle.std.proofs.lemmas.List.{map-append}
+use Rattle.std.proofs.Common.{map, ap, sym, ◌∙◌, arith}
 use Rattle.py_syntax.specs.Expressions.{expr_tree}
 use Rattle.py_parser.specs.Definitions.{reads_marks}
 use Rattle.py_parser.proofs.DefinitionReading.{marks_more}
@@ -14,7 +13,7 @@ marks-preserved c =
       so_far =
           c.marks.invariant.so_far
           ∙ marks_more ts (map expr_tree c.marks.found) c.marks.place _ (sym c.sees_sign.ensures ∙ c.marks-test.true) c.in_ok-more.ensures.read
-          ∙ ap (λ l. reads_marks ts l behind) (sym (ap (map expr_tree) c.in_ok-push-2.ensures.ok ∙ map-append expr_tree c.marks.found (more ∷ [])));
+          ∙ ap (λ l. reads_marks ts l behind) (sym c.in_ok-found-2.ensures);
       moves = record {
         on = omega (arith, c.marks.invariant.moves.on, c.in_ok-more.ensures.moves.on);
         within = λ h. c.in_ok-more.ensures.moves.within;

@@ -1,12 +1,12 @@
 use Rattle.std.proofs.Common.{◌≡◌, ◌-◌, length, [], ◌∷◌, map}
 use Rattle.py_syntax.specs.Expressions.{expr_tree}
 use Rattle.py_parser.specs.Definitions.{reads_marks}
-use Rattle.py_parser.specs.Parsed.{MovesUpTo}
+use Rattle.py_reading.specs.Moves.{MovesUpTo}
 use Rattle.py_parser.proofs.define.marks.Given as goal
 
 abbrev pub invariant-marks : goal.invariant-marks
 invariant-marks l = record {
-  so_far : reads_marks l.tokens (expr_tree l.fn.first ∷ []) l.fn.place ≡ reads_marks l.tokens (map expr_tree l.found) l.place;
+  so_far : reads_marks l.tokens (expr_tree l.fn.first.value ∷ []) l.fn.place ≡ reads_marks l.tokens (map expr_tree l.found) l.place;
   moves : MovesUpTo l.tokens l.fn.place l.place;
 }
 

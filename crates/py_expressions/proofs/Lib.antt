@@ -1,0 +1,12 @@
+pub mod BracketReading
+pub mod ChainReading
+pub mod ComparisonReading
+pub mod Conditions
+pub mod ExprEquations
+pub mod Fronts
+pub mod HeadLemmas
+pub mod PrefixReading
+pub mod Prefixes
+pub mod Ranks
+pub mod RowReading
+pub mod Rows

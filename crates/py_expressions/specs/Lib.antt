@@ -1,0 +1,9 @@
+pub mod Behind
+pub mod Brackets
+pub mod Chains
+pub mod Heads
+pub mod Literals
+pub mod Parsed
+pub mod Prefixes
+pub mod Rows
+pub mod Trailers

@@ -1,5 +1,0 @@
-use Rattle.py_parser.proofs.Endings.{others_more}
-use Rattle.py_parser.proofs.tests.words_of.Goals as goal
-
-pub words-preserved : goal.words-preserved
-words-preserved c = record { others = rw c.in_ok-push.ensures.ok (others_more c.words.list _ c.words.invariant.others c.in_ok-kind.ensures) }

@@ -1,0 +1,4 @@
+pub mod BlockReading
+pub mod ImportReading
+pub mod LineReading
+pub mod StatementNodes

@@ -1,0 +1,116 @@
+//! Statements that begin with expressions.
+ghost use Rattle.std.specs.Prelude.{IfOk};
+ghost use Rattle.py_grammar.specs.Grammar.{PLAIN};
+ghost use Rattle.py_grammar.specs.Readings.{reads_sym};
+ghost use Rattle.py_reading.specs.Gives.{Gives};
+ghost use Rattle.py_expressions.specs.Parsed.{piece_of};
+ghost use Rattle.py_reading.specs.Moves.{MovesTo};
+ghost use Rattle.py_statements.specs.Statements.{stmt_seen, reads_annotated, reads_assigned, reads_given, reads_changed};
+
+use crate::statement::{alone, annotating, annotating_with, assigning, augmented};
+use py_expressions::behind::tests_behind;
+use py_expressions::expression::{test_behind, tests};
+use py_expressions::parsed::Parsed;
+use py_grammar::{Place, Terminal};
+use py_reading::augmenting::augmenting;
+use py_reading::fault::ParseError;
+use py_reading::place::{sees_any, sees_sign};
+use py_syntax::{Sign, Stmt, Token};
+use std::alloc::Global;
+
+/// What stands between a target and what is assigned to it.
+const ASSIGNING: [Terminal; 9] = [
+    Terminal::Sign(Sign::Colon),
+    Terminal::Sign(Sign::Assign),
+    Terminal::Sign(Sign::PlusAssign),
+    Terminal::Sign(Sign::MinusAssign),
+    Terminal::Sign(Sign::StarAssign),
+    Terminal::Sign(Sign::SlashSlashAssign),
+    Terminal::Sign(Sign::PercentAssign),
+    Terminal::Sign(Sign::ShlAssign),
+    Terminal::Sign(Sign::ShrAssign),
+];
+
+/// A statement that begins with expressions: alone, or with what is assigned to them.
+#[tactic(auto, using(crate::proofs::LineReading::plain_split))]
+pub fn of_tests(
+    alloc: Global,
+    tokens: &[Token],
+    place: Place,
+) -> Result<(Box<Stmt>, Place), ParseError>
+    ensures read { Gives stmt_seen result (reads_sym tokens.now PLAIN place) }
+    ensures moves { IfOk result (λ x. MovesTo tokens.now place x.1) }
+{
+    let target = tests(alloc, tokens, place)?;
+    if sees_any(tokens, target.place, &ASSIGNING) {
+        return assigned(alloc, tokens, target);
+    }
+    let place = target.place;
+    Ok((alone(alloc, target)?, place))
+}
+
+// What is assigned to a target, or its annotation.
+#[tactic(auto, unfolding(crate::specs::Statements::reads_assigned))]
+fn assigned(
+    alloc: Global,
+    tokens: &[Token],
+    target: Parsed,
+) -> Result<(Box<Stmt>, Place), ParseError>
+    ensures read { Gives stmt_seen result (reads_assigned tokens.now (piece_of target) target.place) }
+    ensures moves { IfOk result (λ x. MovesTo tokens.now target.place x.1) }
+{
+    if sees_sign(tokens, target.place, Sign::Colon) {
+        return annotated(alloc, tokens, target);
+    }
+    if sees_sign(tokens, target.place, Sign::Assign) {
+        return given(alloc, tokens, target);
+    }
+    changed(alloc, tokens, target)
+}
+
+// A value that is assigned to a target.
+#[tactic(auto, unfolding(crate::specs::Statements::reads_given))]
+fn given(alloc: Global, tokens: &[Token], target: Parsed) -> Result<(Box<Stmt>, Place), ParseError>
+    ensures read { Gives stmt_seen result (reads_given tokens.now (piece_of target) target.place) }
+    ensures moves { IfOk result (λ x. MovesTo tokens.now target.place x.1) }
+{
+    let value = tests_behind(alloc, tokens, target.place, Terminal::Sign(Sign::Assign))?;
+    let place = value.place;
+    Ok((assigning(alloc, target, value)?, place))
+}
+
+// An operator by which a target is changed, and its other operand.
+#[tactic(auto, unfolding(crate::specs::Statements::reads_changed))]
+fn changed(
+    alloc: Global,
+    tokens: &[Token],
+    target: Parsed,
+) -> Result<(Box<Stmt>, Place), ParseError>
+    ensures read { Gives stmt_seen result (reads_changed tokens.now (piece_of target) target.place) }
+    ensures moves { IfOk result (λ x. MovesTo tokens.now target.place x.1) }
+{
+    let (op, place) = augmenting(tokens, target.place)?;
+    let value = tests(alloc, tokens, place)?;
+    let place = value.place;
+    Ok((augmented(alloc, target, op, value)?, place))
+}
+
+// An annotation behind a target, and what is assigned to it, if anything is.
+#[tactic(auto, unfolding(crate::specs::Statements::reads_annotated))]
+fn annotated(
+    alloc: Global,
+    tokens: &[Token],
+    target: Parsed,
+) -> Result<(Box<Stmt>, Place), ParseError>
+    ensures read { Gives stmt_seen result (reads_annotated tokens.now (piece_of target) target.place) }
+    ensures moves { IfOk result (λ x. MovesTo tokens.now target.place x.1) }
+{
+    let annotation = test_behind(alloc, tokens, target.place, Sign::Colon)?;
+    let place = annotation.place;
+    if !sees_sign(tokens, place, Sign::Assign) {
+        return Ok((annotating(alloc, target, annotation)?, place));
+    }
+    let value = tests_behind(alloc, tokens, place, Terminal::Sign(Sign::Assign))?;
+    let place = value.place;
+    Ok((annotating_with(alloc, target, annotation, value)?, place))
+}
