@@ -6,7 +6,7 @@ use Rattle.std.specs.Str.{chars, is_utf8, IsUtf8}
 use Rattle.std.proofs.lemmas.Str.{IsUtf8-from_is_utf8}
 use Rattle.py_syntax.specs.declared.key.Key.{Key}
 use Rattle.py_syntax.specs.declared.token.Token.{Token}
-use Rattle.py_syntax.specs.Statements.{Block}
+use Rattle.py_syntax.specs.Statements.{Suite}
 use Rattle.py_lexer.specs.Reading.{Fault}
 use Rattle.py_lexer.specs.Tokens.{tokens_of}
 use Rattle.py_lexer.proofs.TokenLaws.{gives_end}
@@ -45,9 +45,9 @@ text_judged mode text (Ok found) is says = absurd (cc)
 text_judged mode text (Err (Faulty d)) is says = says mode
 text_judged mode text (Err Memory) is says = tt
 
-pub forms_judged : (mode : Emit) (text : List ℕ) (ts : List Token) (block : Block) (ds : List Diagnostic) → tokens_of text ≡ Ok ts → IsTree ts block → of_tree mode block ≡ ds → AreOfTokens mode (tokens_of text) ds
-forms_judged mode text ts block ds is derived same =
-    subst (λ r. AreOfTokens mode r ds) (sym is) (tree block, derived, sym same)
+pub forms_judged : (mode : Emit) (text : List ℕ) (ts : List Token) (suite : Suite) (ds : List Diagnostic) → tokens_of text ≡ Ok ts → IsTree ts suite → of_tree mode suite ≡ ds → AreOfTokens mode (tokens_of text) ds
+forms_judged mode text ts suite ds is derived same =
+    subst (λ r. AreOfTokens mode r ds) (sym is) (tree suite, derived, sym same)
 
 -- faults of bytes
 pub no_text_judged : (mode : Emit) (bytes : List ℕ) (d : Diagnostic) → is_utf8 bytes ≡ false → d ≡ at_line (bad_line bytes) NoText → AreFaults mode bytes (d ∷ [])
@@ -63,9 +63,9 @@ module _ {V : Type 0} where
   file_judged mode bytes text (Err (Faulty d)) same good are = of_file mode bytes text (d ∷ []) same good are
   file_judged mode bytes text (Err Memory) same good are = tt
 
-  pub file_module : (block : V → Block) (bytes text : List ℕ) (r : Result V SourceError) → text ≡ bytes → is_utf8 bytes ≡ true → IfOk r (λ found. HasTree (chars text) (block found)) → IfOk r (λ found. IsModule bytes (block found))
-  file_module block bytes text (Ok found) same good has = (good, subst (λ t. HasTree (chars t) (block found)) same has)
-  file_module block bytes text (Err e) same good has = tt
+  pub file_module : (suite : V → Suite) (bytes text : List ℕ) (r : Result V SourceError) → text ≡ bytes → is_utf8 bytes ≡ true → IfOk r (λ found. HasTree (chars text) (suite found)) → IfOk r (λ found. IsModule bytes (suite found))
+  file_module suite bytes text (Ok found) same good has = (good, subst (λ t. HasTree (chars t) (suite found)) same has)
+  file_module suite bytes text (Err e) same good has = tt
 
 pub not_text : (bytes : List ℕ) → ¬ (IsUtf8 bytes) → is_utf8 bytes ≡ false
 not_text bytes bad = by_test (is_utf8 bytes) (λ good. bad (IsUtf8-from_is_utf8 bytes good)) where
@@ -107,11 +107,11 @@ faults_are_one mode bytes =
 same_tokens : (read : Result (List Token) Fault) (ts us : List Token) → read ≡ Ok ts → read ≡ Ok us → ts ≡ us
 same_tokens read ts us x y = cc
 
-one_block : (text : List ℕ) (a b : Block) → HasTree text a → HasTree text b → a ≡ b
+one_block : (text : List ℕ) (a b : Suite) → HasTree text a → HasTree text b → a ≡ b
 one_block text a b x y =
     let same : x.tokens ≡ y.tokens = same_tokens (tokens_of text) x.tokens y.tokens x.has_tokens y.has_tokens in
     tree_is_one y.tokens a b (subst (λ ts. IsTree ts a) same x.derived) y.derived
 
 pub numbers_are_one : NumbersAreOne
 numbers_are_one bytes a b x y =
-    x.are_printed ∙ ap numbers_of (one_block (chars bytes) x.block y.block x.is_module.1 y.is_module.1) ∙ sym y.are_printed
+    x.are_printed ∙ ap numbers_of (one_block (chars bytes) x.suite y.suite x.is_module.1 y.is_module.1) ∙ sym y.are_printed

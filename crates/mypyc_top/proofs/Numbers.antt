@@ -7,7 +7,7 @@ use Rattle.std.proofs.lemmas.Bool.Decides.{nat_tests}
 use Rattle.py_syntax.specs.Expressions as expr
 use Rattle.py_syntax.specs.Expressions.{ExprTree, Int, Call}
 use Rattle.py_syntax.specs.Statements as stmt
-use Rattle.py_syntax.specs.Statements.{StmtTree, Do, Block, listed_block}
+use Rattle.py_syntax.specs.Statements.{StmtTree, Do, Suite, listed_suite}
 use Rattle.mypyc_top.specs.Forms.{greatest_number, built, literal, is_print, only_argument, printed_by, printed, numbers_of}
 
 no_number : (n : ℕ) → None ≡ Some n → n ≤ greatest_number
@@ -47,5 +47,5 @@ small_of : (ss : List StmtTree) → All (λ n. n < 2 ^ 64) (filter_map printed s
 small_of [] = λ k d h. absurd (omega arith)
 small_of (s ∷ ss) = small_cons (printed s) (filter_map printed ss) (λ n is. let w = printed_within s n is in omega arith) (small_of ss)
 
-pub small_numbers : (block : Block) → All (λ n. n < 2 ^ 64) (numbers_of block)
-small_numbers block = small_of (listed_block block)
+pub small_numbers : (suite : Suite) → All (λ n. n < 2 ^ 64) (numbers_of suite)
+small_numbers suite = small_of (listed_suite suite)

@@ -4,7 +4,7 @@ use Rattle.std.proofs.lemmas.Bool.Decides.{nat_tests}
 use Rattle.std.specs.Option.{option_and_then}
 use Rattle.value_core.specs.Items.{Items}
 use Rattle.outside_core.specs.Counts.{count_end, has_risen}
-use Rattle.py_syntax.specs.Statements.{Block}
+use Rattle.py_syntax.specs.Statements.{Suite}
 use Rattle.mypyc_top.specs.declared.status.Status.{Status}
 use Rattle.mypyc_top.specs.declared.status.Status.TheVariants as status
 use Rattle.mypyc_top.specs.declared.words.Emit.{Emit}
@@ -26,9 +26,9 @@ use Rattle.mypyc_top.specs.Plans.{Answering, Plans}
 -- ---- modules
 
 -- a module without faults gives what is asked for, and one with faults gives them
-pub good_module : (mode : Emit) (file bytes : List ℕ) (block : Block) (Good : List ℕ → Type 0) (out err : List ℕ) (s : Status) → AreFaults mode bytes [] → IsModule bytes block → Good (numbers_of block) → ModuleAnswer mode file bytes Good out err s
-good_module mode file bytes block Good out err s none is good =
-    ([], none, (numbers_of block, record { block = block; is_module = is; are_printed = refl }, good))
+pub good_module : (mode : Emit) (file bytes : List ℕ) (suite : Suite) (Good : List ℕ → Type 0) (out err : List ℕ) (s : Status) → AreFaults mode bytes [] → IsModule bytes suite → Good (numbers_of suite) → ModuleAnswer mode file bytes Good out err s
+good_module mode file bytes suite Good out err s none is good =
+    ([], none, (numbers_of suite, record { suite = suite; is_module = is; are_printed = refl }, good))
 
 pub faulty_module : (mode : Emit) (file bytes : List ℕ) (Good : List ℕ → Type 0) (d : Diagnostic) (reply : Reply) → AreFaults mode bytes (d ∷ []) → (output_text reply.out ≡ diagnostics_text file (d ∷ [])) × (reply.err.items ≡ []) × (reply.status ≡ status.Diagnosed) → ModuleAnswer mode file bytes Good (output_text reply.out) reply.err.items reply.status
 faulty_module mode file bytes Good d reply are sent = (d ∷ [], are, sent)

@@ -10,7 +10,7 @@ use Rattle.py_syntax.specs.declared.key.Key.{Key}
 use Rattle.py_syntax.specs.declared.token.Token.{Token}
 use Rattle.py_syntax.specs.declared.token.TokenKind.{TokenKind}
 use Rattle.py_syntax.specs.declared.token.TokenKind.TheVariants as tokens
-use Rattle.py_syntax.specs.Statements.{Block}
+use Rattle.py_syntax.specs.Statements.{Suite}
 use Rattle.py_lexer.specs.Places.{line_feed, plain_ends}
 use Rattle.py_lexer.specs.Reading.{Fault}
 use Rattle.py_lexer.specs.Tokens.{tokens_of}
@@ -53,8 +53,8 @@ abbrev pub unbuilt_at : Option ℕ → List Diagnostic
 unbuilt_at line = option_to_list (option_map (λ n. at_line n Unbuilt) line)
 
 -- what is wrong with a module's types: there are no typing rules yet
-abbrev pub of_types : Block → List Diagnostic
-of_types block = []
+abbrev pub of_types : Suite → List Diagnostic
+of_types suite = []
 
 -- the modes that compile a module
 abbrev pub compiles : Emit → Bool
@@ -69,16 +69,16 @@ or_else [] others = others
 or_else (d ∷ ds) others = d ∷ ds
 
 -- what is wrong with a module that has this tree
-abbrev pub of_tree : Emit → Block → List Diagnostic
-of_tree mode block =
-    or_else (unbuilt_at (untyped_line block))
-    (or_else (of_types block) (if compiles mode then unbuilt_at (uncompiled_line block) else []))
+abbrev pub of_tree : Emit → Suite → List Diagnostic
+of_tree mode suite =
+    or_else (unbuilt_at (untyped_line suite))
+    (or_else (of_types suite) (if compiles mode then unbuilt_at (uncompiled_line suite) else []))
 
 -- ---- a file
 
 -- what is wrong with a module, by what came of its tokens
 abbrev pub found_in : Emit → List Token → Came → List Diagnostic
-found_in mode ts (tree block) = of_tree mode block
+found_in mode ts (tree suite) = of_tree mode suite
 found_in mode ts (syntax i) = at_line (line_at ts i) NoTree ∷ []
 found_in mode ts (profile i) = option_to_list (option_map (λ k. at_line (line_at ts i) (LeftOut k)) (key_at ts i))
 found_in mode ts (too_deep j) = at_line (line_at ts j) TooDeep ∷ []

@@ -6,7 +6,7 @@ use Rattle.std.specs.Str.{bytes_eq}
 use Rattle.py_syntax.specs.Expressions as expr
 use Rattle.py_syntax.specs.Expressions.{ExprTree, Arguments, Name, Int, Call, no_arguments, argument_then}
 use Rattle.py_syntax.specs.Statements as stmt
-use Rattle.py_syntax.specs.Statements.{StmtTree, Do, Block, listed_block}
+use Rattle.py_syntax.specs.Statements.{StmtTree, Do, Suite, listed_suite}
 
 -- 2 ^ 62 - 1, the greatest number that needs no object of its own
 abbrev pub greatest_number : ℕ
@@ -56,11 +56,11 @@ line_of (stmt.at node span) = span.line
 abbrev pub line_outside : (StmtTree → Bool) → List StmtTree → Option ℕ
 line_outside is_form statements = option_map line_of (find (λ s. not (is_form s)) statements)
 
-abbrev pub untyped_line : Block → Option ℕ
-untyped_line block = line_outside is_typed (listed_block block)
+abbrev pub untyped_line : Suite → Option ℕ
+untyped_line suite = line_outside is_typed (listed_suite suite)
 
-abbrev pub uncompiled_line : Block → Option ℕ
-uncompiled_line block = line_outside is_compiled (listed_block block)
+abbrev pub uncompiled_line : Suite → Option ℕ
+uncompiled_line suite = line_outside is_compiled (listed_suite suite)
 
 -- ---- what a module prints
 
@@ -68,5 +68,5 @@ uncompiled_line block = line_outside is_compiled (listed_block block)
 abbrev pub numbers_in : List StmtTree → List ℕ
 numbers_in statements = filter_map printed statements
 
-abbrev pub numbers_of : Block → List ℕ
-numbers_of block = numbers_in (listed_block block)
+abbrev pub numbers_of : Suite → List ℕ
+numbers_of suite = numbers_in (listed_suite suite)
