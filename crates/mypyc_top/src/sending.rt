@@ -1,6 +1,6 @@
 ghost use Rattle.std.specs.Prelude.{◌≡◌, ◌++◌, [], ◌⊎◌, false, IsTrue, IfOk, OnOk, OnErr};
 ghost use Rattle.outside_core.specs.Bytes.{TakesFront};
-ghost use Rattle.outside_core.specs.Counts.{Rose};
+ghost use Rattle.outside_core.specs.Counts.{Rose, count_after};
 ghost use Rattle.mypyc_top.specs.ErrorLines.{memory_line};
 ghost use Rattle.mypyc_top.specs.Output.{output_text};
 ghost use Rattle.mypyc_top.specs.Replies.{IsReplied};
@@ -92,7 +92,7 @@ fn write_output<O: Sink>(sink: &mut O, output: &Output) -> Result<bool, WriteFau
         TakesFront (O.taken sink.old) (O.taken sink.new) (output_text output.now)) }
     ensures any { IfOk result (λ any. output_text output.now ≡ [] → any ≡ false) }
     ensures alone { output_text output.now ≡ [] → sink.new ≡ sink.old }
-    ensures refused { OnErr result (Rose (O.faults sink.old) (O.faults sink.new)) }
+    ensures counted { O.faults sink.new ≡ count_after result (O.faults sink.old) }
 {
     match output {
         Output::Nothing => Ok(false),
@@ -110,7 +110,7 @@ fn write_any<S: Sink>(sink: &mut S, bytes: &[u8]) -> Result<bool, WriteFault>
     ensures err { OnErr result (IsTrue S.tells → TakesFront (S.taken sink.old) (S.taken sink.new) bytes.now) }
     ensures any { IfOk result (λ any. bytes.now ≡ [] → any ≡ false) }
     ensures alone { bytes.now ≡ [] → sink.new ≡ sink.old }
-    ensures refused { OnErr result (Rose (S.faults sink.old) (S.faults sink.new)) }
+    ensures counted { S.faults sink.new ≡ count_after result (S.faults sink.old) }
 {
     if bytes.is_empty() {
         return Ok(false);

@@ -4,7 +4,7 @@ use Rattle.mypyc_top.proofs.plan.text_plan.Goals as goal
 
 pub returns-then-fits-clause-answer : goal.returns-then-fits-clause-answer
 returns-then-fits-clause-answer c = λ items lines stop e.
-    runs c.in-Ok.code (sym c.in_ok-fits.ensures ∙ c.if-fits.true) c.in-Ok.ensures.reading.text (stop, e, refl, refl, refl)
+    runs c.in-Ok.code (sym c.in_ok-fits-in-Ok.ensures ∙ c.if-fits.true) c.in-Ok.ensures.reading.text (stop, e, refl, refl, refl)
 
 pub returns-in_ok-refused_reply-in-Err-Refused-clause-answer : goal.returns-in_ok-refused_reply-in-Err-Refused-clause-answer
 returns-in_ok-refused_reply-in-Err-Refused-clause-answer c = λ items.
