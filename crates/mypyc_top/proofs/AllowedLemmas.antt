@@ -1,6 +1,7 @@
 -- The statuses that come of a plan.
 use Rattle.std.proofs.Common.{◌≡◌, refl, sym, ◌∙◌, subst, ℕ, IsTrue, List, ◌⊎◌, inl, inr, Option}
 use Rattle.value_core.specs.Items.{Items}
+use Rattle.c_runner.specs.Ran.{AreLines}
 use Rattle.mypyc_top.specs.declared.status.Status.{Status}
 use Rattle.mypyc_top.specs.declared.status.Status.TheVariants as status
 use Rattle.mypyc_top.specs.declared.words.Emit.{Emit}
@@ -11,7 +12,9 @@ use Rattle.mypyc_top.specs.declared.reply.Reply.{Reply}
 use Rattle.mypyc_top.specs.declared.running.Program.{Program}
 use Rattle.mypyc_top.specs.declared.plan.Plan.TheVariants as plans
 use Rattle.mypyc_top.specs.Modes.{CanAnswer, IsAllowed}
-use Rattle.mypyc_top.specs.Given.{SinkCall, Yields, IsSent, IsReplied, is_run_status, AbsentOpens}
+use Rattle.mypyc_top.specs.Causes.{Yields, AbsentOpens}
+use Rattle.mypyc_top.specs.Replies.{IsSent, IsReplied, is_run_status}
+use Rattle.mypyc_top.specs.Sinks.{SinkCall}
 use Rattle.mypyc_top.specs.Plans.{Allowed, RunGave}
 use Rattle.mypyc_top.proofs.Statuses.{gave_status, either}
 
@@ -50,11 +53,11 @@ sent_allowed Usage reply s a (inl e) = let P : Status → Type 0 = λ x. (x ≡ 
 sent_allowed (Go r) reply s a (inl e) = let P : Status → Type 0 = λ x. CanAnswer r.emit x in subst P (sym e) a
 
 -- a program that was run
-pub run_allowed : (w : Words) (program : Program) (items : Items) (out err : SinkCall) (s : Status) → Allowed w (plans.Run program) → RunGave program items out err s → IsAllowed w s
-run_allowed Usage program items out err s a g = absurd a
-run_allowed (Go r) program items out err s a g =
+pub run_allowed : (w : Words) (program : Program) (items : Items) (out err : SinkCall) (OutAlone ErrAlone : Type 0) (s : Status) → Allowed w (plans.Run program) → AreLines items → RunGave program items out err OutAlone ErrAlone s → IsAllowed w s
+run_allowed Usage program items out err OutAlone ErrAlone s a lines g = absurd a
+run_allowed (Go r) program items out err OutAlone ErrAlone s a lines g =
     let P : Status → Type 0 = λ x. CanAnswer r.emit x in
-    either (λ e. subst P (sym e) (a items g.stop g.run)) (λ y. yields_allowed (Go r) s y) (gave_status out err _ _ _ s g.gave)
+    either (λ e. subst P (sym e) (a items lines g.stop g.run)) (λ y. yields_allowed (Go r) s y) (gave_status out err _ _ _ s g.gave)
 
 -- the usage line comes of words that are no command, and only of them
 no_usage : (mode : Emit) → CanAnswer mode status.Usage → ⊥

@@ -1,4 +1,5 @@
 pub mod FaultLemmas
+pub mod Bodies
 pub mod Numbers
 pub mod PrintedFaithful
 pub mod PrintedForm
@@ -6,6 +7,7 @@ pub mod PrintedRun
 pub mod Taken
 pub mod RunLemmas
 pub mod PlanLemmas
+pub mod ReadLemmas
 pub mod RunGaveLemmas
 pub mod MostTurns
 pub mod Statuses

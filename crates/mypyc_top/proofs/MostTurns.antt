@@ -9,7 +9,7 @@ use Rattle.mypyc_top.specs.declared.words.Stage.{Stage}
 use Rattle.mypyc_top.specs.declared.words.Stage.TheVariants.{Owned}
 use Rattle.mypyc_top.specs.declared.words.Request.{Request}
 use Rattle.mypyc_top.specs.declared.words.Words.TheVariants.{Go}
-use Rattle.mypyc_top.specs.Faithful.{most_turns}
+use Rattle.c_core.specs.Run.{most_turns}
 use Rattle.mypyc_top.specs.Words.{words_of, meant_by, setting, is_turns, listed_turns, listed_emit, listed_stage, values, emit_name, stage_name, turns_name, only, is_file, is_left}
 
 both_true : (a b : Bool) → a && b ≡ true → b ≡ true

@@ -7,8 +7,8 @@ use Rattle.std.proofs.lemmas.Bool.Decides.{nat_tests}
 use Rattle.py_syntax.specs.Expressions as expr
 use Rattle.py_syntax.specs.Expressions.{ExprTree, Int, Call}
 use Rattle.py_syntax.specs.Statements as stmt
-use Rattle.py_syntax.specs.Statements.{StmtTree, Do, listed_suite}
-use Rattle.mypyc_top.specs.Source.{greatest_number, built, literal, is_print, only_argument, printed_by, printed, AreNumbers}
+use Rattle.py_syntax.specs.Statements.{StmtTree, Do, Suite, listed_suite}
+use Rattle.mypyc_top.specs.Forms.{greatest_number, built, literal, is_print, only_argument, printed_by, printed, numbers_of}
 
 no_number : (n : ℕ) → None ≡ Some n → n ≤ greatest_number
 no_number n is = cc
@@ -47,5 +47,5 @@ small_of : (ss : List StmtTree) → All (λ n. n < 2 ^ 64) (filter_map printed s
 small_of [] = λ k d h. absurd (omega arith)
 small_of (s ∷ ss) = small_cons (printed s) (filter_map printed ss) (λ n is. let w = printed_within s n is in omega arith) (small_of ss)
 
-pub small_numbers : (bytes found : List ℕ) → AreNumbers bytes found → All (λ n. n < 2 ^ 64) found
-small_numbers bytes found are = subst (λ ns. All (λ n. n < 2 ^ 64) ns) (sym are.are_printed) (small_of (listed_suite are.suite))
+pub small_numbers : (suite : Suite) → All (λ n. n < 2 ^ 64) (numbers_of suite)
+small_numbers suite = small_of (listed_suite suite)

@@ -4,7 +4,7 @@ use Rattle.std.proofs.lemmas.Bool.Decides.{nat_tests}
 use Rattle.std.specs.Option.{option_and_then}
 use Rattle.value_core.specs.Items.{Items}
 use Rattle.outside_core.specs.Counts.{count_end, has_risen}
-use Rattle.c_core.specs.declared.code.Code.{Code}
+use Rattle.py_syntax.specs.Statements.{Suite}
 use Rattle.mypyc_top.specs.declared.status.Status.{Status}
 use Rattle.mypyc_top.specs.declared.status.Status.TheVariants as status
 use Rattle.mypyc_top.specs.declared.words.Emit.{Emit}
@@ -13,33 +13,25 @@ use Rattle.mypyc_top.specs.declared.words.Words.{Words}
 use Rattle.mypyc_top.specs.declared.words.Words.TheVariants.{Go}
 use Rattle.mypyc_top.specs.declared.plan.Plan.{Plan}
 use Rattle.mypyc_top.specs.declared.reply.Reply.{Reply}
-use Rattle.mypyc_top.specs.declared.front.Front.TheVariants.{Faulty}
-use Rattle.mypyc_top.specs.Source.{AreNumbers}
-use Rattle.mypyc_top.specs.Printed.{printed_code}
+use Rattle.mypyc_top.specs.declared.diagnostic.Diagnostic.{Diagnostic}
+use Rattle.mypyc_top.specs.Forms.{numbers_of}
+use Rattle.mypyc_top.specs.Source.{IsModule}
+use Rattle.mypyc_top.specs.Diagnostics.{diagnostics_text}
 use Rattle.mypyc_top.specs.Faults.{AreFaults}
 use Rattle.mypyc_top.specs.Output.{output_text}
-use Rattle.mypyc_top.specs.Fronts.{IsFront}
-use Rattle.mypyc_top.specs.Faithful.{Faithful}
 use Rattle.mypyc_top.specs.ErrorLines.{large_line}
 use Rattle.mypyc_top.specs.Answer.{FileMeaning, file_meaning, Bytes, named_file, most_bytes, ModuleAnswer, ModeAnswer, SizedAnswer, RequestAnswer, WordsAnswer}
 use Rattle.mypyc_top.specs.Plans.{Answering, Plans}
-use Rattle.mypyc_top.proofs.Numbers.{small_numbers}
-use Rattle.mypyc_top.proofs.PrintedFaithful.{printed_faithful}
 
 -- ---- modules
 
--- the code that is built for a module
-pub built_faithful : (bytes found ns : List ℕ) (code : Code) → code ≡ printed_code ns → ns ≡ found → AreNumbers bytes found → Faithful found code
-built_faithful bytes found ns code c n are =
-    let P : Code → Type 0 = λ x. Faithful found x in
-    subst P (sym (c ∙ ap printed_code n)) (printed_faithful found (small_numbers bytes found are))
-
 -- a module without faults gives what is asked for, and one with faults gives them
-pub good_module : (file bytes numbers : List ℕ) (Good : List ℕ → Type 0) (out err : List ℕ) (s : Status) → AreFaults bytes [] → AreNumbers bytes numbers → Good numbers → ModuleAnswer file bytes Good out err s
-good_module file bytes numbers Good out err s none are good = ([], none, (numbers, are, good))
+pub good_module : (mode : Emit) (file bytes : List ℕ) (suite : Suite) (Good : List ℕ → Type 0) (out err : List ℕ) (s : Status) → AreFaults mode bytes [] → IsModule bytes suite → Good (numbers_of suite) → ModuleAnswer mode file bytes Good out err s
+good_module mode file bytes suite Good out err s none is good =
+    ([], none, (numbers_of suite, record { suite = suite; is_module = is; are_printed = refl }, good))
 
-pub faulty_module : (file bytes : List ℕ) (Good : List ℕ → Type 0) (reply : Reply) → IsFront file bytes (Faulty reply) → ModuleAnswer file bytes Good (output_text reply.out) reply.err.items reply.status
-faulty_module file bytes Good reply f = (f.0 ∷ f.1.0, f.1.1, (f.1.2, f.1.3, f.1.4))
+pub faulty_module : (mode : Emit) (file bytes : List ℕ) (Good : List ℕ → Type 0) (d : Diagnostic) (reply : Reply) → AreFaults mode bytes (d ∷ []) → (output_text reply.out ≡ diagnostics_text file (d ∷ [])) × (reply.err.items ≡ []) × (reply.status ≡ status.Diagnosed) → ModuleAnswer mode file bytes Good (output_text reply.out) reply.err.items reply.status
+faulty_module mode file bytes Good d reply are sent = (d ∷ [], are, sent)
 
 -- ---- by what came of the file
 

@@ -8,6 +8,7 @@ use Rattle.std.proofs.lemmas.Str.{is_utf8-from_IsUtf8, IsUtf8-from_ascii, IsUtf8
 use Rattle.std.proofs.lemmas.List.Folds.{list_all-append}
 use Rattle.std.proofs.lemmas.Fmt.{IsAscii-decimal}
 use Rattle.unicode_ident.proofs.Computing.{unicode_ident}
+use Rattle.c_core.specs.declared.code.Code.{Code}
 use Rattle.c_core.specs.declared.code.Kind.TheVariants.{Char}
 use Rattle.c_core.specs.declared.code.Line.{Line}
 use Rattle.c_core.specs.WellFormed.{is_identifier, is_call_name, spelled_line, line_fits, is_leaving, WellFormed}
@@ -30,8 +31,8 @@ text_is_utf8 n l =
 lines_spelled : (n : ℕ) → n < 2 ^ 64 → list_all (spelled_line module_vars) (print_lines n) ≡ true
 lines_spelled n l = rw (identifiers.2, identifiers.3, text_is_utf8 n l) refl
 
-lines_fit : (n : ℕ) → list_all (line_fits module_vars Char) (print_lines n) ≡ true
-lines_fit n = refl
+lines_fit : (code : Code) (n : ℕ) → list_all (line_fits code module_vars Char) (print_lines n) ≡ true
+lines_fit code n = refl
 
 module _ (p : Line → Bool) (last : list_all p last_lines ≡ true) where
   all_lines : (ns : List ℕ) → ((k : ℕ) (d : ℕ) → k < length ns → list_all p (print_lines (slice_index_or ns k d)) ≡ true) → list_all p (flat_map print_lines ns ++ last_lines) ≡ true
@@ -50,5 +51,5 @@ leaves ns =
 pub printed_well_formed : (ns : List ℕ) → All (λ n. n < 2 ^ 64) ns → WellFormed (printed_code ns)
 printed_well_formed ns small =
     let spelled = all_lines (spelled_line module_vars) refl ns (λ k d l. lines_spelled (slice_index_or ns k d) (small k d l)) in
-    let fits = all_lines (line_fits module_vars Char) refl ns (λ k d l. lines_fit (slice_index_or ns k d)) in
+    let fits = all_lines (line_fits (printed_code ns) module_vars Char) refl ns (λ k d l. lines_fit (printed_code ns) (slice_index_or ns k d)) in
     rw (identifiers.0, identifiers.1, spelled, fits, leaves ns) refl

@@ -2,6 +2,8 @@
 use Rattle.std.proofs.Common.{◌≡◌, refl, sym, ◌∙◌, ap, subst, ℕ, zero, suc, ◌+◌, ◌*◌, ◌≤◌, arith, true, List, [], ◌∷◌, ◌++◌, length, append_assoc, append-nil, length-append, Some, None, codes}
 use Rattle.std.specs.Prelude.{pos, slice_get}
 use Rattle.std.specs.List.{flat_map}
+use Rattle.std.proofs.lemmas.Bool.{eq-eqb}
+use Rattle.value_core.specs.Ending.{Done}
 use Rattle.value_core.specs.Items.{Items}
 use Rattle.c_core.specs.declared.code.CArg.TheVariants.{Var, Text}
 use Rattle.c_core.specs.declared.code.CLit.TheVariants.{Number}
@@ -12,7 +14,8 @@ use Rattle.c_core.specs.Cells.{Cells, same, count_at, content_at, make}
 use Rattle.c_core.specs.Release.{after, freed, weight, uses, release_some, release}
 use Rattle.c_core.specs.Holders.{holders}
 use Rattle.c_core.specs.Machine.{Word, ObjectCell, NoObject, CharWord, Content, StrCell, refs_in, MachineState}
-use Rattle.c_core.specs.Step.{Done, Goes, Ends, step_at, step}
+use Rattle.c_core.specs.Step.{Ended, Goes, Ends, step_at, step}
+use Rattle.c_core.proofs.ReleaseLemmas.{release-nothing}
 use Rattle.c_core.specs.Run.{Stop, go_on, most_steps, machine_run}
 use Rattle.mypyc_top.specs.SourceRun.{printed_text}
 use Rattle.mypyc_top.specs.Printed.{print_lines, last_lines, module_function, printed_code}
@@ -77,7 +80,7 @@ release_made h text =
 
 -- ---- how a run that printed this output stops
 pub record IsDone (output : List ℕ) (stop : Stop) : Type 0 where
-  pub by_itself : stop.ending ≡ Done
+  pub by_itself : stop.ending ≡ Ended Done
   pub wrote : stop.state.output ≡ output
   pub no_globals : stop.state.globals ≡ []
   pub no_objects : stop.state.made ≡ []
@@ -111,17 +114,17 @@ module _ (ns : List ℕ) (n : ℕ) (items : Items) where
   writing_step : (p : ℕ) (h : Cells Content) (w : Word) (output : List ℕ) (text : List ℕ) → slice_get lines p ≡ Some (Call None (codes "CPy_Write") (Var 0 ∷ [])) → step code (between p (make (StrCell text) h) (ObjectCell (length h)) w (length h ∷ []) output) ≡ Goes (between (p + 1) (make (StrCell text) h) (ObjectCell (length h)) w (length h ∷ []) (output ++ text))
   writing_step p h w output text e =
       let s = between p (make (StrCell text) h) (ObjectCell (length h)) w (length h ∷ []) output in
-      ap (step_at true code s) e ∙ rw (content_made h (StrCell text)) refl
+      ap (step_at true code s) e ∙ rw (content_made h (StrCell text), release-nothing refs_in (make (StrCell text) h)) refl
 
   giving_step : (p : ℕ) (h : Cells Content) (w : Word) (output : List ℕ) (text : List ℕ) → slice_get lines p ≡ Some (Dec 0) → step code (between p (make (StrCell text) h) (ObjectCell (length h)) w (length h ∷ []) output) ≡ Goes (between (p + 1) (h ++ None ∷ []) (ObjectCell (length h)) w [] output)
   giving_step p h w output text e =
       let s = between p (make (StrCell text) h) (ObjectCell (length h)) w (length h ∷ []) output in
-      ap (step_at true code s) e ∙ rw (content_made h (StrCell text), same_self (length h), release_made h text) refl
+      ap (step_at true code s) e ∙ rw (content_made h (StrCell text), same_self (length h), eq-eqb (length h) (length h) refl, release_made h text) refl
 
   literal_step : (p : ℕ) (h : Cells Content) (v w : Word) (output : List ℕ) → slice_get lines p ≡ Some (Lit 1 (Number (pos 1))) → step code (between p h v w [] output) ≡ Goes (between (p + 1) h v (CharWord 1) [] output)
   literal_step p h v w output e = ap (step_at true code (between p h v w [] output)) e
 
-  return_step : (p : ℕ) (h : Cells Content) (v : Word) (output : List ℕ) → slice_get lines p ≡ Some (Return 1) → step code (between p h v (CharWord 1) [] output) ≡ Ends Done (between p h v (CharWord 1) [] output)
+  return_step : (p : ℕ) (h : Cells Content) (v : Word) (output : List ℕ) → slice_get lines p ≡ Some (Return 1) → step code (between p h v (CharWord 1) [] output) ≡ Ends (Ended Done) (between p h v (CharWord 1) [] output)
   return_step p h v output e = ap (step_at true code (between p h v (CharWord 1) [] output)) e
 
   abbrev Stops : ℕ → MachineState → List ℕ → Type 0
@@ -133,7 +136,7 @@ module _ (ns : List ℕ) (n : ℕ) (items : Items) where
   last_stop : (k p : ℕ) (h : Cells Content) (v : Word) (output : List ℕ) → AllGone h → slice_get lines p ≡ Some (Return 1) → Stops (suc k) (between p h v (CharWord 1) [] output) output
   last_stop k p h v output g e =
       let s = between p h v (CharWord 1) [] output in
-      let done : IsDone output (record { ending = Done; state = s }) = record {
+      let done : IsDone output (record { ending = Ended Done; state = s }) = record {
         by_itself = refl;
         wrote = refl;
         no_globals = refl;
@@ -141,7 +144,7 @@ module _ (ns : List ℕ) (n : ℕ) (items : Items) where
         calm = refl;
         counts = λ c. g.no_count c ∙ omega (arith, g.no_use c);
       } in
-      (record { ending = Done; state = s }, ap (go_on (step code) k) (return_step p h v output e), done)
+      (record { ending = Ended Done; state = s }, ap (go_on (step code) k) (return_step p h v output e), done)
 
   module _ (before : List Line) (p : ℕ) (at : p ≡ length before) (h : Cells Content) (g : AllGone h) (v w : Word) (output : List ℕ) where
     line : (xs : List Line) (k : ℕ) (x : Line) → lines ≡ before ++ xs → slice_get xs k ≡ Some x → slice_get lines (p + k) ≡ Some x

@@ -1,14 +1,16 @@
 -- The runs of a code that is faithful to a module.
 use Rattle.std.proofs.Common.{◌≡◌, refl, sym, ◌∙◌, ap, subst, ℕ, ◌≤◌, List, [], ◌++◌, append-nil, length, Some}
-use Rattle.value_core.specs.Items.{Items}
+use Rattle.value_core.specs.Ending.{Ending, Done, Raised, Cut, Over, Broken}
+use Rattle.value_core.specs.Items.{Items, input_items}
 use Rattle.c_core.specs.declared.code.Code.{Code}
-use Rattle.c_core.specs.Machine.{MachineState}
-use Rattle.c_core.specs.Step.{Ending, Done, Raised, Cut, Over, Broken, Faulted}
-use Rattle.c_core.specs.Run.{Stop, machine_run}
+use Rattle.c_core.specs.Agreement.{Agrees}
+use Rattle.c_core.specs.Step.{MachineEnding, Ended, Faulted}
+use Rattle.c_core.specs.Run.{Stop, most_turns, machine_run}
+use Rattle.c_runner.specs.Ran.{AreLines}
 use Rattle.mypyc_top.specs.declared.words.Emit.TheVariants as modes
-use Rattle.mypyc_top.specs.SourceRun.{SourceStop, source_run}
-use Rattle.mypyc_top.specs.Faithful.{most_turns, EndsWhole, Agrees, Faithful}
-use Rattle.mypyc_top.specs.Endings.{ending_status, ending_line}
+use Rattle.mypyc_top.specs.SourceRun.{source_run}
+use Rattle.mypyc_top.specs.Faithful.{Faithful}
+use Rattle.mypyc_top.specs.Endings.{ending_status, machine_status, machine_line}
 use Rattle.mypyc_top.specs.Summary.{cells_left}
 use Rattle.mypyc_top.specs.Running.{ModuleRun}
 use Rattle.mypyc_top.specs.Modes.{CanAnswer}
@@ -17,38 +19,45 @@ same_stop : (a b : Stop) → Some a ≡ Some b → a ≡ b
 same_stop a b e = cc
 
 -- each run agrees with the source's
-pub run_agrees : (ns : List ℕ) (code : Code) (n : ℕ) (items : Items) (stop : Stop) → Faithful ns code → n ≤ most_turns → machine_run n items code ≡ Some stop → Agrees (source_run n items ns) stop
-run_agrees ns code n items stop f most e =
-    let r = f.runs n most items in
-    subst (Agrees (source_run n items ns)) (same_stop r.0 stop (sym r.1 ∙ e)) r.2
+pub run_agrees : (ns : List ℕ) (code : Code) (n : ℕ) (items : Items) (stop : Stop) → Faithful ns code → n ≤ most_turns → AreLines items → machine_run n items code ≡ Some stop → Agrees (source_run ns n items) stop
+run_agrees ns code n items stop f most lines e =
+    let r = f.runs n most lines.0 lines.1.0 in
+    let read : Items = input_items lines.0 lines.1.0 in
+    let run : machine_run n read code ≡ Some stop = subst (λ i. machine_run n i code ≡ Some stop) lines.1.1 e in
+    let same : r.0 ≡ stop = same_stop r.0 stop (sym r.1 ∙ run) in
+    subst (λ i. Agrees (source_run ns n i) stop) (sym lines.1.1) (subst (λ x. Agrees (source_run ns n read) x) same r.2)
 
 -- so it is a run of the module
-pub module_run : (ns : List ℕ) (code : Code) (n : ℕ) (items : Items) (stop : Stop) → Faithful ns code → n ≤ most_turns → machine_run n items code ≡ Some stop → ModuleRun ns n items (stop.state.output ++ []) (ending_line stop.ending (length (cells_left code stop))) (ending_status stop.ending)
-module_run ns code n items stop f most e =
-    let a = run_agrees ns code n items stop f most e in (
+pub module_run : (ns : List ℕ) (code : Code) (n : ℕ) (items : Items) (stop : Stop) → Faithful ns code → n ≤ most_turns → AreLines items → machine_run n items code ≡ Some stop → ModuleRun ns n items (stop.state.output ++ []) (machine_line stop.ending (length (cells_left code stop))) (machine_status stop.ending)
+module_run ns code n items stop f most lines e =
+    let a = run_agrees ns code n items stop f most lines e in (
       append-nil stop.state.output ∙ a.same_output,
-      (code, f, (stop, e, ap (λ x. ending_line x (length (cells_left code stop))) a.same_ending)),
-      ap ending_status a.same_ending,
+      (code, f, (stop, e, ap (λ x. machine_line x (length (cells_left code stop))) a.same_ending)),
+      ap machine_status a.same_ending,
     )
 
 -- and does not end in a fault
-no_fault : (e : Ending) (source : SourceStop) (s : MachineState) → EndsWhole e source s → CanAnswer modes.Run (ending_status e)
-no_fault Done source s w = refl
-no_fault (Raised class text) source s w = refl
-no_fault Cut source s w = refl
-no_fault Over source s w = refl
-no_fault Broken source s w = refl
-no_fault (Faulted f) source s w = absurd w
+no_fault : (e : Ending) → CanAnswer modes.Run (ending_status e)
+no_fault Done = refl
+no_fault (Raised e) = refl
+no_fault Cut = refl
+no_fault Over = refl
+no_fault Broken = refl
 
-pub run_can_come : (ns : List ℕ) (code : Code) (n : ℕ) (items : Items) (stop : Stop) → Faithful ns code → n ≤ most_turns → machine_run n items code ≡ Some stop → CanAnswer modes.Run (ending_status stop.ending)
-run_can_come ns code n items stop f most e =
-    let a = run_agrees ns code n items stop f most e in no_fault stop.ending (source_run n items ns) stop.state a.whole
+pub run_can_come : (ns : List ℕ) (code : Code) (n : ℕ) (items : Items) (stop : Stop) → Faithful ns code → n ≤ most_turns → AreLines items → machine_run n items code ≡ Some stop → CanAnswer modes.Run (machine_status stop.ending)
+run_can_come ns code n items stop f most lines e =
+    let a = run_agrees ns code n items stop f most lines e in
+    let P : MachineEnding → Type 0 = λ x. CanAnswer modes.Run (machine_status x) in
+    subst P (sym a.same_ending) (no_fault (source_run ns n items).ending)
 
 -- every ending of a code can come of C text
-pub text_can_come : (e : Ending) → CanAnswer modes.Runc (ending_status e)
-text_can_come Done = refl
-text_can_come (Raised class text) = refl
-text_can_come Cut = refl
-text_can_come Over = refl
-text_can_come Broken = refl
+ended_can_come : (e : Ending) → CanAnswer modes.Runc (ending_status e)
+ended_can_come Done = refl
+ended_can_come (Raised e) = refl
+ended_can_come Cut = refl
+ended_can_come Over = refl
+ended_can_come Broken = refl
+
+pub text_can_come : (e : MachineEnding) → CanAnswer modes.Runc (machine_status e)
+text_can_come (Ended e) = ended_can_come e
 text_can_come (Faulted f) = refl

@@ -13,9 +13,10 @@ use Rattle.mypyc_top.specs.declared.words.Request.{Request}
 use Rattle.mypyc_top.specs.declared.words.Words.{Words}
 use Rattle.mypyc_top.specs.declared.words.Words.TheVariants.{Usage, Go}
 use Rattle.mypyc_top.specs.Words.{words_of}
+use Rattle.mypyc_top.specs.declared.diagnostic.Diagnostic.{Diagnostic}
 use Rattle.mypyc_top.specs.Source.{AreNumbers}
 use Rattle.mypyc_top.specs.Faithful.{Faithful}
-use Rattle.mypyc_top.specs.Diagnostics.{Diagnostic, diagnostics_text}
+use Rattle.mypyc_top.specs.Diagnostics.{diagnostics_text}
 use Rattle.mypyc_top.specs.Faults.{AreFaults}
 use Rattle.mypyc_top.specs.ErrorLines.{usage_line, open_line, read_line, large_line}
 use Rattle.mypyc_top.specs.Running.{ModuleRun, TextRun}
@@ -48,6 +49,11 @@ abbrev pub most_bytes : Emit → ℕ
 most_bytes Runc = 16777216
 most_bytes _ = 262144
 
+-- of the file that the words name
+abbrev pub named_most : Words → ℕ
+named_most Usage = 0
+named_most (Go r) = most_bytes r.emit
+
 abbrev pub success_text : List ℕ
 success_text = codes "Success: no issues found in 1 source file\n"
 
@@ -64,13 +70,14 @@ abbrev pub FaultsAnswer : List ℕ → List ℕ → (List ℕ → Type 0) → Li
 FaultsAnswer file bytes Good (d ∷ ds) out err s = (out ≡ diagnostics_text file (d ∷ ds)) × (err ≡ []) × (s ≡ status.Diagnosed)
 FaultsAnswer file bytes Good [] out err s = (numbers : List ℕ) × AreNumbers bytes numbers × Good numbers
 
-abbrev pub ModuleAnswer : List ℕ → List ℕ → (List ℕ → Type 0) → List ℕ → List ℕ → Status → Type 0
-ModuleAnswer file bytes Good out err s = (ds : List Diagnostic) × AreFaults bytes ds × FaultsAnswer file bytes Good ds out err s
+-- a module is answered by its faults in the mode
+abbrev pub ModuleAnswer : Emit → List ℕ → List ℕ → (List ℕ → Type 0) → List ℕ → List ℕ → Status → Type 0
+ModuleAnswer mode file bytes Good out err s = (ds : List Diagnostic) × AreFaults mode bytes ds × FaultsAnswer file bytes Good ds out err s
 
 abbrev pub ModeAnswer : Emit → Request → List ℕ → Items → List ℕ → List ℕ → Status → Type 0
-ModeAnswer Check r bytes items out err s = ModuleAnswer r.file bytes (λ numbers. Checked out err s) out err s
-ModeAnswer C r bytes items out err s = ModuleAnswer r.file bytes (λ numbers. Compiled numbers out err s) out err s
-ModeAnswer Run r bytes items out err s = ModuleAnswer r.file bytes (λ numbers. ModuleRun numbers r.turns items out err s) out err s
+ModeAnswer Check r bytes items out err s = ModuleAnswer Check r.file bytes (λ numbers. Checked out err s) out err s
+ModeAnswer C r bytes items out err s = ModuleAnswer C r.file bytes (λ numbers. Compiled numbers out err s) out err s
+ModeAnswer Run r bytes items out err s = ModuleAnswer Run r.file bytes (λ numbers. ModuleRun numbers r.turns items out err s) out err s
 ModeAnswer Runc r bytes items out err s = TextRun r.file bytes r.turns items out err s
 
 -- whether the file is too large
@@ -90,3 +97,7 @@ WordsAnswer (Go r) file items out err s = RequestAnswer r file items out err s
 -- what the words are answered, where this came of the file and these are the lines of the input
 abbrev pub Answer : List (List ℕ) → FileMeaning → Items → List ℕ → List ℕ → Status → Type 0
 Answer words file items out err s = WordsAnswer (words_of words) file items out err s
+
+-- THE STATUS that the words are answered where the file has these bytes: it is that of an answer
+abbrev pub IsStatus : List (List ℕ) → List ℕ → Items → Status → Type 0
+IsStatus words bytes items s = (out : List ℕ) × ((err : List ℕ) × Answer words (Bytes bytes) items out err s)

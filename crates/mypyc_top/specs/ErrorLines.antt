@@ -1,7 +1,6 @@
 -- The lines that are written on errors.
 use Rattle.std.specs.Prelude.{ℕ, List, [], ◌∷◌, ◌++◌, codes, decimal}
-use Rattle.value_core.specs.declared.exception.ExcClass.{ExcClass}
-use Rattle.value_core.specs.Exceptions.{class_name}
+use Rattle.value_core.specs.Exceptions.{Thrown, class_name}
 
 abbrev pub usage_line : List ℕ
 usage_line = codes "usage: mypyc [--emit=check|ir|c|run|runc|selftest] [--stage=build|errors|owned] [--turns=N] FILE\n"
@@ -27,8 +26,8 @@ abbrev pub text_behind : List ℕ → List ℕ
 text_behind [] = []
 text_behind (b ∷ bs) = codes ": " ++ (b ∷ bs)
 
-abbrev pub raised_line : ExcClass → List ℕ → List ℕ
-raised_line class text = class_name class ++ (text_behind text ++ codes "\n")
+abbrev pub raised_line : Thrown → List ℕ
+raised_line e = class_name e.class ++ (text_behind e.text ++ codes "\n")
 
 -- a program without turns, and how many cells it left
 abbrev pub turns_line : ℕ → List ℕ

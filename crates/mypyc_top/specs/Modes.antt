@@ -7,7 +7,7 @@ use Rattle.mypyc_top.specs.declared.words.Emit.{Emit}
 use Rattle.mypyc_top.specs.declared.words.Emit.TheVariants.{Check, C, Run, Runc}
 use Rattle.mypyc_top.specs.declared.words.Words.{Words}
 use Rattle.mypyc_top.specs.declared.words.Words.TheVariants.{Usage, Go}
-use Rattle.mypyc_top.specs.Given.{Yields}
+use Rattle.mypyc_top.specs.Causes.{Yields}
 
 -- of every mode
 abbrev pub is_common : Status → Bool

@@ -4,7 +4,7 @@ use Rattle.value_core.specs.Items.{Items}
 use Rattle.c_core.specs.declared.code.Code.{Code}
 use Rattle.c_core.specs.Text.{code_text}
 use Rattle.c_core.specs.WellFormed.{WellFormed}
-use Rattle.c_core.specs.Step.{Ending}
+use Rattle.value_core.specs.Ending.{Ending}
 use Rattle.c_core.specs.Run.{Stop, machine_run}
 use Rattle.c_text.specs.Reading.{HasCode, RefusedAt}
 use Rattle.mypyc_top.specs.declared.status.Status.{Status}
@@ -12,7 +12,7 @@ use Rattle.mypyc_top.specs.declared.status.Status.TheVariants as status
 use Rattle.mypyc_top.specs.SourceRun.{source_run}
 use Rattle.mypyc_top.specs.Faithful.{Faithful}
 use Rattle.mypyc_top.specs.ErrorLines.{refused_line, ill_formed_line}
-use Rattle.mypyc_top.specs.Endings.{ending_status, ending_line}
+use Rattle.mypyc_top.specs.Endings.{ending_status, ending_line, machine_status, machine_line}
 use Rattle.mypyc_top.specs.Summary.{cells_left, summary}
 
 -- the line for the ending of a source: the cells that it may tell of are those of the run of a code that is faithful to it
@@ -23,7 +23,7 @@ IsSourceLine numbers turns items ending err =
 -- a module that is run gives the output of its source for these turns and this input, and a line and a status by the ending
 abbrev pub ModuleRun : List ℕ → ℕ → Items → List ℕ → List ℕ → Status → Type 0
 ModuleRun numbers turns items out err s =
-    let source = source_run turns items numbers in
+    let source = source_run numbers turns items in
     (out ≡ source.output) × IsSourceLine numbers turns items source.ending err × (s ≡ ending_status source.ending)
 
 -- a well-formed code has this text
@@ -34,7 +34,7 @@ HasWellFormed bytes = (code : Code) × WellFormed code × (code_text code ≡ by
 abbrev pub CodeRun : Code → ℕ → Items → List ℕ → List ℕ → Status → Type 0
 CodeRun code turns items out err s =
     (stop : Stop) × (machine_run turns items code ≡ Some stop) × (out ≡ stop.state.output ++ summary code stop)
-    × (err ≡ ending_line stop.ending (length (cells_left code stop))) × (s ≡ ending_status stop.ending)
+    × (err ≡ machine_line stop.ending (length (cells_left code stop))) × (s ≡ machine_status stop.ending)
 
 -- A file that is run as C text: it is refused where it is the text of no spelled code, and where none of those is well
 -- formed; else the well-formed code that has the text is run.

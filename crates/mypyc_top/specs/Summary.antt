@@ -5,7 +5,8 @@ use Rattle.value_core.specs.Exceptions.{class_name}
 use Rattle.c_core.specs.declared.code.Code.{Code}
 use Rattle.c_core.specs.declared.fault.Fault.{Fault}
 use Rattle.c_core.specs.declared.fault.Fault.TheVariants.{Kind, Dead, NotOwned, Leak}
-use Rattle.c_core.specs.Step.{Ending, Done, Raised, Cut, Over, Broken, Faulted}
+use Rattle.value_core.specs.Ending.{Done, Raised, Cut, Over, Broken}
+use Rattle.c_core.specs.Step.{MachineEnding, Ended, Faulted}
 use Rattle.c_core.specs.Run.{Stop}
 use Rattle.c_runner.specs.declared.report.LiveCell.{LiveCell}
 use Rattle.c_runner.specs.Report.{live_cells}
@@ -17,18 +18,18 @@ fault_name NotOwned = codes "NotOwned"
 fault_name Leak = codes "Leak"
 
 -- a run that could not read its input has no summary, and its ending no name there
-abbrev pub ending_name : Ending → List ℕ
-ending_name Done = codes "Done"
-ending_name (Raised class text) = codes "Raised " ++ class_name class
-ending_name Cut = codes "Cut"
-ending_name Over = codes "Over"
-ending_name Broken = []
+abbrev pub ending_name : MachineEnding → List ℕ
+ending_name (Ended Done) = codes "Done"
+ending_name (Ended (Raised e)) = codes "Raised " ++ class_name e.class
+ending_name (Ended Cut) = codes "Cut"
+ending_name (Ended Over) = codes "Over"
+ending_name (Ended Broken) = []
 ending_name (Faulted f) = codes "Fault " ++ fault_name f
 
 abbrev pub cell_line : LiveCell → List ℕ
 cell_line cell = codes "-- " ++ (cell.kind ++ (codes " " ++ (decimal cell.count ++ codes "\n")))
 
-abbrev pub summary_text : Ending → List LiveCell → List ℕ
+abbrev pub summary_text : MachineEnding → List LiveCell → List ℕ
 summary_text ending cells =
     codes "-- " ++ (ending_name ending ++ (codes "\n-- live " ++ (decimal (length cells) ++ (codes "\n" ++ flat_map cell_line cells))))
 
@@ -37,8 +38,8 @@ abbrev pub cells_left : Code → Stop → List LiveCell
 cells_left code stop = live_cells code.classes stop.state.cells
 
 -- the summary, which a run that could not read its input does not have
-abbrev pub summary_at : Ending → List LiveCell → List ℕ
-summary_at Broken cells = []
+abbrev pub summary_at : MachineEnding → List LiveCell → List ℕ
+summary_at (Ended Broken) cells = []
 summary_at ending cells = summary_text ending cells
 
 abbrev pub summary : Code → Stop → List ℕ

@@ -11,7 +11,7 @@ use Rattle.mypyc_top.specs.declared.words.Emit.{Emit}
 use Rattle.mypyc_top.specs.declared.words.Emit.TheVariants.{Check, C, Run, Runc}
 use Rattle.mypyc_top.specs.declared.words.Stage.{Stage}
 use Rattle.mypyc_top.specs.declared.words.Stage.TheVariants.{Build, Errors, Owned}
-use Rattle.mypyc_top.specs.Faithful.{most_turns}
+use Rattle.c_core.specs.Run.{most_turns}
 
 -- the bytes of the words
 abbrev pub texts : {A : Type 0} → List (String A) → List (List ℕ)

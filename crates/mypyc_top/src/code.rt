@@ -1,9 +1,15 @@
+//! The code that is built for a module.
 ghost use Rattle.std.specs.Prelude.{◌≡◌, ◌∷◌, [], ◌++◌, IfOk, OnOk};
 ghost use Rattle.std.specs.List.{flat_map};
+ghost use Rattle.py_syntax.specs.Statements.{module_tree};
+ghost use Rattle.mypyc_top.specs.Forms.{numbers_of};
+ghost use Rattle.mypyc_top.specs.Faithful.{Faithful};
 ghost use Rattle.mypyc_top.specs.SourceRun.{printed_text};
 ghost use Rattle.mypyc_top.specs.Printed.{print_lines, last_lines, module_vars, module_function, printed_code};
 
+use crate::forms::module_numbers;
 use c_core::{CArg, CFunc, CLit, Code, Kind, Line};
+use py_syntax::Module;
 use std::alloc::Global;
 use value_core::{Many, Memory, Name, Text};
 
@@ -12,8 +18,16 @@ const PRINTED: usize = 0;
 
 const RESULT: usize = 1;
 
+/// The code of a module. Statements that cannot be compiled have no part in it.
+pub(crate) fn code_of(alloc: Global, parsed: &Module) -> Result<Code, Memory>
+    ensures { IfOk result (Faithful (numbers_of (module_tree parsed.now))) }
+{
+    let numbers = module_numbers(alloc, parsed)?;
+    code_of_numbers(alloc, &numbers)
+}
+
 /// The code of a module that prints these numbers, each on a line of its own.
-pub(crate) fn code_of(alloc: Global, numbers: &[u64]) -> Result<Code, Memory>
+fn code_of_numbers(alloc: Global, numbers: &[u64]) -> Result<Code, Memory>
     ensures { IfOk result (λ code. code ≡ printed_code numbers.now) }
 {
     let mut funcs = Many::new(alloc);

@@ -1,7 +1,8 @@
 ghost use Rattle.std.specs.Prelude.{◌≡◌, length, IfOk};
+ghost use Rattle.value_core.specs.Exceptions.{thrown};
 ghost use Rattle.c_runner.specs.Report.{ending_of};
 ghost use Rattle.mypyc_top.specs.ErrorLines.{raised_line, turns_line, input_line};
-ghost use Rattle.mypyc_top.specs.Endings.{ending_status, ending_line};
+ghost use Rattle.mypyc_top.specs.Endings.{machine_status, machine_line};
 
 use crate::status::Status;
 use c_runner::{Ending, Report};
@@ -11,7 +12,7 @@ use value_core::{ExcClass, Memory, Text};
 
 /// The status of a run that ended so.
 pub(crate) fn status_of(ending: &Ending) -> Status
-    ensures { result ≡ ending_status (ending_of ending.now) }
+    ensures { result ≡ machine_status (ending_of ending.now) }
 {
     match ending {
         Ending::Done => Status::Done,
@@ -25,7 +26,7 @@ pub(crate) fn status_of(ending: &Ending) -> Status
 /// The line on errors of a run with this report.
 pub(crate) fn line_of(alloc: Global, report: &Report) -> Result<Vec<u8>, Memory>
     ensures { IfOk result (λ line. line.items
-        ≡ ending_line (ending_of report.now.ending) (length report.now.live)) }
+        ≡ machine_line (ending_of report.now.ending) (length report.now.live)) }
 {
     match &report.ending {
         Ending::Done => Ok(Vec::new(alloc)),
@@ -38,7 +39,7 @@ pub(crate) fn line_of(alloc: Global, report: &Report) -> Result<Vec<u8>, Memory>
 
 /// An exception that left the module: its class, and its text if it has one.
 fn raised_text(alloc: Global, class: ExcClass, text: &Text) -> Result<Vec<u8>, Memory>
-    ensures { IfOk result (λ line. line.items ≡ raised_line class text.now) }
+    ensures { IfOk result (λ line. line.items ≡ raised_line (thrown class text.now)) }
 {
     let mut line = Vec::from_slice(alloc, class.name().as_bytes())?;
     if !text.as_str().is_empty() {

@@ -10,13 +10,12 @@
 #![tactic(auto)]
 
 mod code;
+mod diagnostic;
 mod ending;
-mod fault;
-mod front;
+mod forms;
 mod laws;
 mod place;
 mod plan;
-mod printed;
 mod reading;
 mod reply;
 mod running;

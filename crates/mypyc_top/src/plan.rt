@@ -1,20 +1,24 @@
-ghost use Rattle.std.specs.Prelude.{◌≡◌, ◌<◌, ◌≤◌, false, true, IsTrue, IfOk};
+ghost use Rattle.std.specs.Prelude.{◌≡◌, ◌+◌, ◌<◌, ◌≤◌, ℕ, List, Some, false, true, IsTrue, IfOk};
+ghost use Rattle.outside_core.specs.Bytes.{GivesAtMost};
 ghost use Rattle.outside_core.specs.Counts.{count_end, has_risen, Rose};
-ghost use Rattle.c_runner.specs.Ran.{most_turns};
+ghost use Rattle.c_core.specs.Run.{most_turns};
 ghost use Rattle.mypyc_top.specs.Words.{texts, words_of};
 ghost use Rattle.mypyc_top.specs.Running.{ModuleRun, TextRun};
-ghost use Rattle.mypyc_top.specs.Answer.{Answer, RequestAnswer, ModeAnswer, ModuleAnswer, Checked, Compiled, file_meaning, named_content};
-ghost use Rattle.mypyc_top.specs.Given.{IsSent, is_file_status, is_module_status, AbsentOpens};
+ghost use Rattle.mypyc_top.specs.Answer.{Answer, RequestAnswer, ModeAnswer, ModuleAnswer, Checked, Compiled, file_meaning, named_content, most_bytes, named_most};
+ghost use Rattle.mypyc_top.specs.Causes.{AbsentOpens};
+ghost use Rattle.mypyc_top.specs.Replies.{IsSent, is_file_status, is_module_status};
 ghost use Rattle.mypyc_top.specs.Plans.{MatchPlan, ForReply, IsRunnable, Plans, CanCome, Allowed};
 
 use crate::code::code_of;
-use crate::front::{Front, front_of};
 use crate::reading::{Refusal, read_file};
-use crate::reply::{Output, Reply, file_reply, output_reply, refused_reply, usage_reply};
+use crate::reply::{
+    Output, Reply, diagnosed_reply, file_reply, output_reply, refused_reply, usage_reply,
+};
 use crate::running::Program;
+use crate::source::{SourceError, read_module};
 use crate::status::Status;
 use crate::words::{Emit, Request, Words, read_words};
-use c_core::is_well_formed;
+use c_core::check_well_formed;
 use c_text::{TextError, read};
 use outside_core::Files;
 use std::alloc::Global;
@@ -51,6 +55,9 @@ pub(crate) fn plan_of<F: Files>(
         Plans (Answer (texts words.now)
         (file_meaning (has_risen (F.faults files.old) (F.faults files.new)) (F.is_open files.new)
         (named_content (F.content files.old) (texts words.now)))) plan) }
+    ensures read_at_most { (bytes : List ℕ) → IsTrue F.tells → F.is_open files.old ≡ false
+        → named_content (F.content files.old) (texts words.now) ≡ Some bytes → IsTrue (F.is_open files.new)
+        → GivesAtMost (named_most (words_of (texts words.now)) + 1) bytes (F.left files.new) }
 {
     match read_words(alloc, words)? {
         Words::Usage => Ok(Plan::Send(usage_reply(alloc)?)),
@@ -73,9 +80,12 @@ fn request_plan<F: Files>(alloc: Global, request: &Request, files: &mut F) -> Re
         Plans (RequestAnswer request.now
         (file_meaning (has_risen (F.faults files.old) (F.faults files.new)) (F.is_open files.new)
         (F.content files.old request.now.file))) plan) }
+    ensures read_at_most { (bytes : List ℕ) → IsTrue F.tells
+        → F.content files.old request.now.file ≡ Some bytes → IsTrue (F.is_open files.new)
+        → GivesAtMost (most_bytes request.now.emit + 1) bytes (F.left files.new) }
 {
     let file = request.file.as_str();
-    match read_file(alloc, files, file, request.emit) {
+    match read_file(alloc, files, &request.file, request.emit) {
         Ok(bytes) => file_plan(alloc, request, &bytes),
         Err(Refusal::Open) => Ok(Plan::Send(file_reply(
             alloc,
@@ -121,14 +131,18 @@ fn file_plan(alloc: Global, request: &Request, bytes: &[u8]) -> Result<Plan, Mem
 /// A module is said to have no diagnostics, or has them.
 fn check_plan(alloc: Global, file: &str, bytes: &[u8]) -> Result<Plan, Memory>
     ensures fit { IfOk result (λ plan. MatchPlan plan (λ reply. IsTrue (is_module_status reply.status)) (λ _. ⊥)) }
-    ensures answer { IfOk result (Plans (λ _ out err s. ModuleAnswer file.now bytes.now (λ _. Checked out err s) out err s)) }
+    ensures answer { IfOk result (Plans (λ _ out err s.
+        ModuleAnswer Emit.Check file.now bytes.now (λ _. Checked out err s) out err s)) }
 {
-    match front_of(alloc, file, bytes)? {
-        Front::Good(_) => {
+    match read_module(alloc, Emit::Check, bytes) {
+        Ok(_parsed) => {
             let text = Vec::from_slice(alloc, SUCCESS)?;
             Ok(Plan::Send(output_reply(alloc, Status::Done, Output::Bytes(text))))
         }
-        Front::Faulty(reply) => Ok(Plan::Send(reply)),
+        Err(SourceError::Faulty(diagnostic)) => {
+            Ok(Plan::Send(diagnosed_reply(alloc, file, &[diagnostic])?))
+        }
+        Err(SourceError::Memory) => Err(Memory),
     }
 }
 
@@ -136,14 +150,17 @@ fn check_plan(alloc: Global, file: &str, bytes: &[u8]) -> Result<Plan, Memory>
 fn compile_plan(alloc: Global, file: &str, bytes: &[u8]) -> Result<Plan, Memory>
     ensures fit { IfOk result (λ plan. MatchPlan plan (λ reply. IsTrue (is_module_status reply.status)) (λ _. ⊥)) }
     ensures answer { IfOk result (Plans (λ _ out err s.
-        ModuleAnswer file.now bytes.now (λ numbers. Compiled numbers out err s) out err s)) }
+        ModuleAnswer Emit.C file.now bytes.now (λ numbers. Compiled numbers out err s) out err s)) }
 {
-    match front_of(alloc, file, bytes)? {
-        Front::Good(numbers) => {
-            let code = code_of(alloc, &numbers)?;
+    match read_module(alloc, Emit::C, bytes) {
+        Ok(parsed) => {
+            let code = code_of(alloc, &parsed)?;
             Ok(Plan::Send(output_reply(alloc, Status::Done, Output::Text(code))))
         }
-        Front::Faulty(reply) => Ok(Plan::Send(reply)),
+        Err(SourceError::Faulty(diagnostic)) => {
+            Ok(Plan::Send(diagnosed_reply(alloc, file, &[diagnostic])?))
+        }
+        Err(SourceError::Memory) => Err(Memory),
     }
 }
 
@@ -153,15 +170,21 @@ fn run_plan(alloc: Global, file: &str, turns: u64, bytes: &[u8]) -> Result<Plan,
     ensures fit { IfOk result (λ plan. MatchPlan plan (λ reply. IsTrue (is_module_status reply.status)) IsRunnable) }
     ensures allowed { IfOk result (CanCome Emit.Run) }
     ensures answer { IfOk result (Plans (λ items out err s.
-        ModuleAnswer file.now bytes.now (λ numbers. ModuleRun numbers turns items out err s) out err s)) }
+        ModuleAnswer Emit.Run file.now bytes.now (λ numbers. ModuleRun numbers turns items out err s) out err s)) }
 {
-    match front_of(alloc, file, bytes)? {
-        Front::Good(numbers) => Ok(Plan::Run(Program {
-            code: code_of(alloc, &numbers)?,
-            turns,
-            has_summary: false,
-        })),
-        Front::Faulty(reply) => Ok(Plan::Send(reply)),
+    match read_module(alloc, Emit::Run, bytes) {
+        Ok(parsed) => {
+            let code = code_of(alloc, &parsed)?;
+            Ok(Plan::Run(Program {
+                code,
+                turns,
+                has_summary: false,
+            }))
+        }
+        Err(SourceError::Faulty(diagnostic)) => {
+            Ok(Plan::Send(diagnosed_reply(alloc, file, &[diagnostic])?))
+        }
+        Err(SourceError::Memory) => Err(Memory),
     }
 }
 
@@ -174,7 +197,8 @@ fn text_plan(alloc: Global, file: &str, turns: u64, bytes: &[u8]) -> Result<Plan
 {
     match read(alloc, bytes) {
         Ok(code) => {
-            if is_well_formed(&code) {
+            let fits = check_well_formed(alloc, &code)?;
+            if fits {
                 return Ok(Plan::Run(Program {
                     code,
                     turns,

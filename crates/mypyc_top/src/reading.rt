@@ -1,4 +1,5 @@
-ghost use Rattle.std.specs.Prelude.{◌≡◌, ◌<◌, ◌≤◌, Some, length, vec_len, is_none, IsTrue, IfOk, IfErr};
+ghost use Rattle.std.specs.Prelude.{◌≡◌, ◌+◌, ◌<◌, ◌≤◌, ℕ, List, Some, length, vec_len, is_none, IsTrue, IfOk, IfErr};
+ghost use Rattle.outside_core.specs.Bytes.{GivesAtMost};
 ghost use Rattle.outside_core.specs.Counts.{count_if};
 ghost use Rattle.mypyc_top.specs.Answer.{most_bytes};
 ghost use Rattle.mypyc_top.specs.Refusals.{faults_after, Refused};
@@ -6,6 +7,7 @@ ghost use Rattle.mypyc_top.specs.Refusals.{faults_after, Refused};
 use crate::words::Emit;
 use outside_core::{Failed, Files, ReadError, read_whole};
 use std::alloc::Global;
+use value_core::Text;
 
 /// How many bytes a module may have, and how many a C text.
 const MOST_OF_MODULE: usize = 262_144;
@@ -13,7 +15,7 @@ const MOST_OF_MODULE: usize = 262_144;
 const MOST_OF_TEXT: usize = 16_777_216;
 
 /// Why a file is not read.
-#[derive(Clone, Copy, Debug, PartialEq, Eq)]
+#[derive(Clone, Copy)]
 pub(crate) enum Refusal {
     /// It cannot be opened.
     Open,
@@ -65,7 +67,7 @@ fn most_bytes_of(mode: Emit) -> usize
 pub(crate) fn read_file<F: Files>(
     alloc: Global,
     files: &mut F,
-    name: &str,
+    name: &Text,
     mode: Emit,
 ) -> Result<Vec<u8>, Refusal>
     ensures counted { F.faults files.new ≡ faults_after result (F.faults files.old) }
@@ -76,7 +78,10 @@ pub(crate) fn read_file<F: Files>(
         (Refused (most_bytes mode) F.tells (F.is_open files.new) (F.content files.old name.now)) }
     ensures absent { IsTrue F.tells → F.absent_opens files.new
         ≡ count_if (is_none (F.content files.old name.now)) (F.absent_opens files.old) }
+    ensures read_at_most { (bytes : List ℕ) → IsTrue F.tells
+        → F.content files.old name.now ≡ Some bytes → IsTrue (F.is_open files.new)
+        → GivesAtMost (most_bytes mode + 1) bytes (F.left files.new) }
 {
-    files.open_file(name)?;
+    files.open_file(name.as_str())?;
     Ok(read_whole(alloc, files, most_bytes_of(mode))?)
 }

@@ -1,4 +1,4 @@
-ghost use Rattle.std.specs.Prelude.{◌≡◌, ◌⊎◌, [], Some, IsTrue, IfOk, IfErr, OnOk, IsErrOf};
+ghost use Rattle.std.specs.Prelude.{◌≡◌, ◌⊎◌, [], false, Some, IsTrue, IfOk, IfErr, OnOk, IsErrOf};
 ghost use Rattle.value_core.specs.Items.{Items};
 ghost use Rattle.outside_core.specs.Counts.{Rose};
 ghost use Rattle.c_core.specs.Run.{Stop, machine_run};
@@ -6,7 +6,8 @@ ghost use Rattle.c_runner.specs.Report.{ending_of};
 ghost use Rattle.c_runner.specs.Ran.{AreGiven};
 ghost use Rattle.mypyc_top.specs.Output.{output_text};
 ghost use Rattle.mypyc_top.specs.ErrorLines.{input_line};
-ghost use Rattle.mypyc_top.specs.Given.{sink_call, is_run_status};
+ghost use Rattle.mypyc_top.specs.Replies.{is_run_status};
+ghost use Rattle.mypyc_top.specs.Sinks.{sink_call};
 ghost use Rattle.mypyc_top.specs.Plans.{IsRunnable, IsRest, Finishes, RunGave};
 
 use crate::ending::{input_text, line_of, status_of};
@@ -28,8 +29,15 @@ pub(crate) struct Program {
     pub(crate) has_summary: bool,
 }
 
+/// What is left to send of a run, and whether the output got any byte of it.
+#[derive(Drop)]
+pub(crate) struct Rest {
+    pub(crate) reply: Reply,
+    pub(crate) has_output: bool,
+}
+
 /// Why a program's run is not finished.
-#[derive(Clone, Copy, Debug, PartialEq, Eq)]
+#[derive(Clone, Copy)]
 pub(crate) enum Unfinished {
     /// The output refused a call.
     WriteFault,
@@ -60,7 +68,8 @@ pub(crate) fn run_and_send<I: Source, O: Sink, E: Sink>(
     ensures gave { (items : Items)
         × AreGiven I.tells (I.faults input.old) (I.faults input.new) (I.left input.old) (I.left input.new) items
         × RunGave program.now items (sink_call O.tells (O.taken out.old) (O.taken out.new))
-        (sink_call E.tells (E.taken err.old) (E.taken err.new)) result }
+        (sink_call E.tells (E.taken err.old) (E.taken err.new))
+        (out.new ≡ out.old) (err.new ≡ err.old) result }
     ensures status { IsTrue (is_run_status result) }
     ensures input { input.new ≡ input.old }
     ensures input_fault { result ≡ Status.InputFault → Rose (I.faults input.old) (I.faults input.new) }
@@ -68,7 +77,7 @@ pub(crate) fn run_and_send<I: Source, O: Sink, E: Sink>(
         Rose (O.faults out.old) (O.faults out.new) ⊎ Rose (E.faults err.old) (E.faults err.new) }
 {
     match run_program(alloc, program, input, out) {
-        Ok(rest) => send_reply(&rest, out, err),
+        Ok(rest) => send_reply(&rest.reply, rest.has_output, out, err),
         Err(Unfinished::WriteFault) => Status::WriteFault,
         Err(Unfinished::Memory) => out_of_memory(err),
     }
@@ -80,14 +89,15 @@ fn run_program<I: Source, O: Sink>(
     program: &Program,
     input: &mut I,
     out: &mut O,
-) -> Result<Reply, Unfinished>
+) -> Result<Rest, Unfinished>
     requires { IsRunnable program.now }
     ensures ran { (items : Items)
         × AreGiven I.tells (I.faults input.old) (I.faults input.new) (I.left input.old) (I.left input.new) items
         × ((stop : Stop) × (machine_run program.now.turns items program.now.code ≡ Some stop)
-        × Finishes program.now stop (sink_call O.tells (O.taken out.old) (O.taken out.new)) result) }
+        × Finishes program.now stop (sink_call O.tells (O.taken out.old) (O.taken out.new)) result
+        × (stop.state.output ≡ [] → out.new ≡ out.old)) }
     ensures input { input.new ≡ input.old }
-    ensures input_fault { IfOk result (λ rest. rest.status ≡ Status.InputFault →
+    ensures input_fault { IfOk result (λ rest. rest.reply.status ≡ Status.InputFault →
         Rose (I.faults input.old) (I.faults input.new)) }
     ensures calm { OnOk result (O.faults out.new ≡ O.faults out.old) }
     ensures write_fault { IsErrOf result Unfinished.WriteFault → Rose (O.faults out.old) (O.faults out.new) }
@@ -101,8 +111,9 @@ fn run_program<I: Source, O: Sink>(
 }
 
 /// What is left to send of a run that ended.
-fn rest_of(alloc: Global, has_summary: bool, report: &Report) -> Result<Reply, Unfinished>
-    ensures ok { IfOk result (IsRest has_summary (ending_of report.now.ending) report.now.live) }
+fn rest_of(alloc: Global, has_summary: bool, report: &Report) -> Result<Rest, Unfinished>
+    ensures ok { IfOk result (λ rest. IsRest has_summary (ending_of report.now.ending) report.now.live rest.reply) }
+    ensures output { IfOk result (λ rest. rest.has_output ≡ report.now.has_output) }
     ensures err { IfErr result (λ reason. reason ≡ Unfinished.Memory) }
 {
     let text = if has_summary {
@@ -110,23 +121,32 @@ fn rest_of(alloc: Global, has_summary: bool, report: &Report) -> Result<Reply, U
     } else {
         Vec::new(alloc)
     };
-    Ok(Reply {
+    let reply = Reply {
         out: Output::Bytes(text),
         err: line_of(alloc, report)?,
         status: status_of(&report.ending),
+    };
+    Ok(Rest {
+        reply,
+        has_output: report.has_output,
     })
 }
 
-/// What is left to send of a run that could not read its input.
-fn broken_off(alloc: Global) -> Result<Reply, Unfinished>
-    ensures ok { IfOk result (λ rest. (output_text rest.out ≡ []) × (rest.err.items ≡ input_line)
-        × (rest.status ≡ Status.InputFault)) }
+/// What is left to send of a run that could not read its input, and has passed its output on.
+fn broken_off(alloc: Global) -> Result<Rest, Unfinished>
+    ensures ok { IfOk result (λ rest. (output_text rest.reply.out ≡ []) × (rest.reply.err.items ≡ input_line)
+        × (rest.reply.status ≡ Status.InputFault)) }
+    ensures output { IfOk result (λ rest. rest.has_output ≡ false) }
     ensures err { IfErr result (λ reason. reason ≡ Unfinished.Memory) }
 {
     let err = input_text(alloc)?;
-    Ok(Reply {
-        out: Output::Bytes(Vec::new(alloc)),
+    let reply = Reply {
+        out: Output::Nothing,
         err,
         status: Status::InputFault,
+    };
+    Ok(Rest {
+        reply,
+        has_output: false,
     })
 }

@@ -1,84 +1,74 @@
-//! The front half of a compilation: from the bytes of a file to the numbers that its module prints.
-ghost use Rattle.std.specs.Prelude.{◌≡◌, [], true, false, MatchResult, IfOk, IfErr, OnOk};
+//! The front half of a compilation: from the bytes of a file to its module, or to what is wrong with it.
+ghost use Rattle.std.specs.Prelude.{◌≡◌, true, false, Some, MatchResult, IfOk, IfErr};
 ghost use Rattle.std.specs.Str.{chars, is_utf8};
 ghost use Rattle.py_syntax.specs.Statements.{module_tree};
-ghost use Rattle.py_syntax.specs.Texts.{key_text};
 ghost use Rattle.py_syntax.specs.Tokens.{EndsOnce};
 ghost use Rattle.py_grammar.specs.Terminals.{IsLeftOutAt};
 ghost use Rattle.py_lexer.specs.Tokens.{tokens_of};
 ghost use Rattle.py_grammar.specs.Faults.{IsTree};
 ghost use Rattle.py_parser.specs.Whole.{IsRight};
-ghost use Rattle.mypyc_top.specs.Source.{AreNumbers};
-ghost use Rattle.mypyc_top.specs.Diagnostics.{no_text};
-ghost use Rattle.mypyc_top.specs.Faults.{AreFaults, bad_line, line_at, word_at};
-ghost use Rattle.mypyc_top.specs.SourceFaults.{diagnostic_of, HasNumbers, SaysOfTokens, SaysOfText, SaysFault};
+ghost use Rattle.mypyc_top.specs.Source.{HasTree, IsModule};
+ghost use Rattle.mypyc_top.specs.Faults.{AreFaults, AreOfTokens, at_line, bad_line, line_at, key_at};
+ghost use Rattle.mypyc_top.specs.SourceFaults.{SaysOfTokens, SaysOfText, Judges};
 
-use crate::fault::{Fault, FaultKind};
+use crate::diagnostic::{Diagnostic, DiagnosticKind};
+use crate::forms::fault_of_forms;
 use crate::place::line_behind;
-use crate::printed::printed_numbers;
+use crate::words::Emit;
 use py_lexer::{LexError, tokens};
 use py_parser::{ParseError, module};
 use py_syntax::{Key, Module, Token, TokenKind, Tokens};
-use std::alloc::{AllocFailed, Global};
+use std::alloc::Global;
 
-/// Why a file gives no numbers.
-#[derive(Clone, Copy, Debug, PartialEq, Eq)]
+/// Why a file gives no module.
+#[derive(Clone, Copy)]
 pub(crate) enum SourceError {
-    /// What is wrong with it.
-    Fault(Fault),
+    /// This is wrong with it.
+    Faulty(Diagnostic),
     /// There is no memory.
     Memory,
 }
 
-impl From<AllocFailed<u64>> for SourceError {
-    ghost use Rattle.std.specs.Prelude.{◌≡◌};
-    ghost use Rattle.mypyc_top.specs.declared.source.SourceError.TheVariants as errors;
-
-    ghost from_gives = { λ _ e. e ≡ errors.Memory };
-
-    fn from(_refused: AllocFailed<u64>) -> SourceError {
-        SourceError::Memory
-    }
-}
-
-/// The numbers that the module of a file prints, in order, or what is wrong with the file.
-#[tactic(auto, using(crate::proofs::FaultLemmas::no_text_said, crate::proofs::FaultLemmas::file_numbers, crate::proofs::FaultLemmas::file_none, crate::proofs::FaultLemmas::file_fault))]
-pub(crate) fn read_module(alloc: Global, bytes: &[u8]) -> Result<Vec<u64>, SourceError>
-    ensures numbers { IfOk result (λ numbers. AreNumbers bytes.now numbers.items) }
-    ensures none { OnOk result (AreFaults bytes.now []) }
-    ensures fault { IfErr result (SaysFault bytes.now) }
+/// The module of a file, or what is wrong with it in this mode.
+#[tactic(auto, using(crate::proofs::FaultLemmas::no_text_judged, crate::proofs::FaultLemmas::file_module, crate::proofs::FaultLemmas::file_judged))]
+pub(crate) fn read_module(alloc: Global, mode: Emit, bytes: &[u8]) -> Result<Module, SourceError>
+    ensures module { IfOk result (λ found. IsModule bytes.now (module_tree found)) }
+    ensures judged { Judges (AreFaults mode bytes.now) result }
 {
     match text_of(bytes) {
-        Ok(text) => read_text(alloc, text),
-        Err(fault) => Err(SourceError::Fault(fault)),
+        Ok(text) => read_text(alloc, mode, text),
+        Err(diagnostic) => Err(SourceError::Faulty(diagnostic)),
     }
 }
 
 /// The text of a file, or its first byte that belongs to no character.
 #[tactic(auto, using(crate::proofs::FaultLemmas::not_text))]
-fn text_of(bytes: &[u8]) -> Result<&str, Fault>
+fn text_of(bytes: &[u8]) -> Result<&str, Diagnostic>
     ensures { MatchResult result
         (λ text. (text.now ≡ bytes.now) × (is_utf8 bytes.now ≡ true))
-        (λ fault. (is_utf8 bytes.now ≡ false) × (diagnostic_of fault ≡ no_text (bad_line bytes.now))) }
+        (λ d. (is_utf8 bytes.now ≡ false) × (d ≡ at_line (bad_line bytes.now) DiagnosticKind.NoText)) }
 {
     match str::from_utf8(bytes) {
         Ok(text) => Ok(text),
-        Err(error) => Err(Fault {
+        Err(error) => Err(Diagnostic {
             line: line_behind(&bytes[..error.valid_up_to()]),
-            kind: FaultKind::NoText,
+            kind: DiagnosticKind::NoText,
         }),
     }
 }
 
-/// The numbers that the module of a text prints.
-#[tactic(auto, using(crate::proofs::FaultLemmas::text_said, crate::proofs::FaultLemmas::text_numbers, crate::proofs::FaultLemmas::text_fault))]
-fn read_text(alloc: Global, text: &str) -> Result<Vec<u64>, SourceError>
-    ensures numbers { IfOk result (λ numbers. HasNumbers (chars text.now) numbers.items) }
-    ensures fault { IfErr result (SaysOfText (chars text.now)) }
+/// The module of a text.
+#[tactic(auto, using(crate::proofs::FaultLemmas::text_said))]
+fn read_text(alloc: Global, mode: Emit, text: &str) -> Result<Module, SourceError>
+    ensures module { IfOk result (λ found. HasTree (chars text.now) (module_tree found)) }
+    ensures judged { Judges (AreOfTokens mode (tokens_of (chars text.now))) result }
 {
     let tokens = read_tokens(alloc, text)?;
-    let module = tree_of(alloc, &tokens)?;
-    printed_numbers(alloc, &module)
+    let found = tree_of(alloc, &tokens)?;
+    match fault_of_forms(mode, &found) {
+        None => Ok(found),
+        Some(diagnostic) => Err(SourceError::Faulty(diagnostic)),
+    }
 }
 
 /// The tokens of a text, or its first fault.
@@ -89,9 +79,9 @@ fn read_tokens(alloc: Global, text: &str) -> Result<Tokens, SourceError>
 {
     match tokens(alloc, text) {
         Ok(tokens) => Ok(tokens),
-        Err(LexError::Fault(line, kind)) => Err(SourceError::Fault(Fault {
+        Err(LexError::Fault(line, kind)) => Err(SourceError::Faulty(Diagnostic {
             line,
-            kind: FaultKind::NoToken(kind),
+            kind: DiagnosticKind::NoToken(kind),
         })),
         Err(LexError::Memory) => Err(SourceError::Memory),
     }
@@ -115,28 +105,28 @@ fn tree_fault(tokens: &Tokens, error: ParseError) -> SourceError
     ensures { SaysOfTokens tokens.now.list result }
 {
     match error {
-        ParseError::Syntax(place) => fault_at(tokens, place, FaultKind::NoTree),
+        ParseError::Syntax(place) => fault_at(tokens, place, DiagnosticKind::NoTree),
         ParseError::Profile(place) => {
-            let kind = FaultKind::LeftOut(key_at(tokens, place));
+            let kind = DiagnosticKind::LeftOut(keyword_at(tokens, place));
             fault_at(tokens, place, kind)
         }
-        ParseError::TooDeep(place) => fault_at(tokens, place, FaultKind::TooDeep),
+        ParseError::TooDeep(place) => fault_at(tokens, place, DiagnosticKind::TooDeep),
         ParseError::Memory => SourceError::Memory,
     }
 }
 
 /// A fault at a token, on its line.
-fn fault_at(tokens: &Tokens, place: usize, kind: FaultKind) -> SourceError
-    ensures { result ≡ SourceError.Fault (record { line = line_at tokens.now.list place; kind = kind }) }
+fn fault_at(tokens: &Tokens, place: usize, kind: DiagnosticKind) -> SourceError
+    ensures { result ≡ SourceError.Faulty (at_line (line_at tokens.now.list place) kind) }
 {
     let line = tokens.list.get(place).map_or(0, |token| token.span.line);
-    SourceError::Fault(Fault { line, kind })
+    SourceError::Faulty(Diagnostic { line, kind })
 }
 
 /// The keyword that a token is, of those that this language has not.
-fn key_at(tokens: &Tokens, place: usize) -> Key
+fn keyword_at(tokens: &Tokens, place: usize) -> Key
     requires { IsLeftOutAt tokens.now.list place }
-    ensures { word_at tokens.now.list place ≡ key_text result }
+    ensures { key_at tokens.now.list place ≡ Some result }
 {
     match tokens.list.get(place) {
         Some(

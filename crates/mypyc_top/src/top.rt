@@ -1,12 +1,14 @@
-ghost use Rattle.std.specs.Prelude.{◌≡◌, ◌<◌, ◌⊎◌, ℕ, List, Some, false, true, IsTrue};
+ghost use Rattle.std.specs.Prelude.{◌≡◌, ◌+◌, ◌<◌, ◌⊎◌, ℕ, List, Some, false, true, IsTrue};
 ghost use Rattle.value_core.specs.Items.{Items};
+ghost use Rattle.outside_core.specs.Bytes.{GivesAtMost};
 ghost use Rattle.outside_core.specs.Counts.{count_end, has_risen, Rose};
 ghost use Rattle.c_runner.specs.Ran.{AreGiven};
 ghost use Rattle.mypyc_top.specs.Words.{texts, words_of};
-ghost use Rattle.mypyc_top.specs.Answer.{file_meaning, named_content};
-ghost use Rattle.mypyc_top.specs.StatusOf.{IsStatus};
+ghost use Rattle.mypyc_top.specs.Answer.{file_meaning, named_content, named_most, IsStatus};
 ghost use Rattle.mypyc_top.specs.Modes.{IsAllowed};
-ghost use Rattle.mypyc_top.specs.Given.{Answered, AbsentOpens, Yields, sink_call};
+ghost use Rattle.mypyc_top.specs.Causes.{AbsentOpens, Yields};
+ghost use Rattle.mypyc_top.specs.Sinks.{sink_call};
+ghost use Rattle.mypyc_top.specs.Answered.{Answered};
 
 use crate::plan::{Plan, plan_of};
 use crate::running::run_and_send;
@@ -29,7 +31,7 @@ pub fn mypyc<F: Files, I: Source, O: Sink, E: Sink>(
     err: &mut E,
 ) -> Status
     // Where the files tell their content, the status and what the sinks took are the answer, for the lines of the
-    // input, which are those that it gave where it tells them.
+    // input, which are those that it gave where it tells them. A sink that is to get nothing is left as it was.
     ensures answer { IsTrue F.tells → F.faults files.old < count_end → (items : Items)
         × AreGiven I.tells (I.faults input.old) (I.faults input.new) (I.left input.old) (I.left input.new) items
         × Answered (texts words.now)
@@ -38,6 +40,7 @@ pub fn mypyc<F: Files, I: Source, O: Sink, E: Sink>(
         items
         (sink_call O.tells (O.taken out.old) (O.taken out.new))
         (sink_call E.tells (E.taken err.old) (E.taken err.new))
+        (out.new ≡ out.old) (err.new ≡ err.old)
         result }
     ensures usage { result ≡ Status.Usage → words_of (texts words.now) ≡ Words.Usage }
     ensures usage_comes { words_of (texts words.now) ≡ Words.Usage →
@@ -56,13 +59,17 @@ pub fn mypyc<F: Files, I: Source, O: Sink, E: Sink>(
         Rose (O.faults out.old) (O.faults out.new) ⊎ Rose (E.faults err.old) (E.faults err.new) }
     ensures input_fault { result ≡ Status.InputFault → Rose (I.faults input.old) (I.faults input.new) }
     ensures input { input.new ≡ input.old }
+    // A file is read to its limit, and one byte further at most, whatever comes of it.
+    ensures read_at_most { (bytes : List ℕ) → IsTrue F.tells → F.is_open files.old ≡ false
+        → named_content (F.content files.old) (texts words.now) ≡ Some bytes → IsTrue (F.is_open files.new)
+        → GivesAtMost (named_most (words_of (texts words.now)) + 1) bytes (F.left files.new) }
     // The status for a file whose bytes the files tell, where no call on them failed.
     ensures by_bytes { (bytes : List ℕ) → IsTrue F.tells → F.faults files.old < count_end
         → named_content (F.content files.old) (texts words.now) ≡ Some bytes
         → ¬ (Rose (F.faults files.old) (F.faults files.new))
         → (items : Items)
         × AreGiven I.tells (I.faults input.old) (I.faults input.new) (I.left input.old) (I.left input.new) items
-        × (IsStatus (words_of (texts words.now)) bytes items result ⊎ Yields result) }
+        × (IsStatus (texts words.now) bytes items result ⊎ Yields result) }
     // Where no call on a sink failed either, only want of memory comes between.
     ensures complete { (bytes : List ℕ) → IsTrue F.tells → F.faults files.old < count_end
         → named_content (F.content files.old) (texts words.now) ≡ Some bytes
@@ -71,7 +78,7 @@ pub fn mypyc<F: Files, I: Source, O: Sink, E: Sink>(
         → ¬ (Rose (E.faults err.old) (E.faults err.new))
         → (items : Items)
         × AreGiven I.tells (I.faults input.old) (I.faults input.new) (I.left input.old) (I.left input.new) items
-        × (IsStatus (words_of (texts words.now)) bytes items result ⊎ (result ≡ Status.Memory)) }
+        × (IsStatus (texts words.now) bytes items result ⊎ (result ≡ Status.Memory)) }
 {
     answer(alloc, words, files, input, out, err)
 }
@@ -92,6 +99,7 @@ fn answer<F: Files, I: Source, O: Sink, E: Sink>(
         items
         (sink_call O.tells (O.taken out.old) (O.taken out.new))
         (sink_call E.tells (E.taken err.old) (E.taken err.new))
+        (out.new ≡ out.old) (err.new ≡ err.old)
         result }
     ensures allowed { IsAllowed (words_of (texts words.now)) result }
     ensures open_fault { result ≡ Status.OpenFault →
@@ -105,9 +113,12 @@ fn answer<F: Files, I: Source, O: Sink, E: Sink>(
         Rose (O.faults out.old) (O.faults out.new) ⊎ Rose (E.faults err.old) (E.faults err.new) }
     ensures input_fault { result ≡ Status.InputFault → Rose (I.faults input.old) (I.faults input.new) }
     ensures input { input.new ≡ input.old }
+    ensures read_at_most { (bytes : List ℕ) → IsTrue F.tells → F.is_open files.old ≡ false
+        → named_content (F.content files.old) (texts words.now) ≡ Some bytes → IsTrue (F.is_open files.new)
+        → GivesAtMost (named_most (words_of (texts words.now)) + 1) bytes (F.left files.new) }
 {
     match plan_of(alloc, words, files) {
-        Ok(Plan::Send(reply)) => send_reply(&reply, out, err),
+        Ok(Plan::Send(reply)) => send_reply(&reply, false, out, err),
         Ok(Plan::Run(program)) => run_and_send(alloc, &program, input, out, err),
         Err(Memory) => out_of_memory(err),
     }

@@ -9,7 +9,7 @@ use std::alloc::Global;
 use value_core::{Memory, Text};
 
 /// What the words of the command mean.
-#[derive(Debug, Drop)]
+#[derive(Drop)]
 pub enum Words {
     /// They are no command.
     Usage,
@@ -17,7 +17,7 @@ pub enum Words {
 }
 
 /// What the command is to do.
-#[derive(Debug, Drop)]
+#[derive(Drop)]
 pub struct Request {
     pub emit: Emit,
     pub stage: Stage,
@@ -75,7 +75,7 @@ pub fn read_words(alloc: Global, words: &[String]) -> Result<Words, Memory>
 }
 
 /// A request, with the file's name among the words.
-#[derive(Clone, Copy, Debug)]
+#[derive(Clone, Copy)]
 struct Settings<'a> {
     emit: Emit,
     stage: Stage,
@@ -84,7 +84,7 @@ struct Settings<'a> {
 }
 
 /// What words have of one kind.
-#[derive(Clone, Copy, Debug)]
+#[derive(Clone, Copy)]
 enum Found<'a> {
     Nothing,
     One(&'a str),

@@ -2,6 +2,7 @@ use Rattle.std.proofs.Common.{sym, ◌∙◌}
 use Rattle.mypyc_top.specs.Words.{texts, words_of}
 use Rattle.mypyc_top.proofs.PlanLemmas.{if_ok, words_plan}
 use Rattle.mypyc_top.proofs.MostTurns.{most_asked}
+use Rattle.mypyc_top.proofs.ReadLemmas.{of_request}
 use Rattle.mypyc_top.proofs.plan.plan_of.Goals as goal
 
 pub returns-in-Go-clause-answer : goal.returns-in-Go-clause-answer
@@ -13,3 +14,8 @@ returns-in-Go-clause-answer g c =
 
 pub request_plan-requires : goal.request_plan-requires
 request_plan-requires g c = most_asked (texts c.args.words.now) c.in-Go.request (sym c.in-Go.is ∙ c.in_ok-read_words.ensures)
+
+pub returns-in-Go-clause-read_at_most : goal.returns-in-Go-clause-read_at_most
+returns-in-Go-clause-read_at_most g c = λ bytes tells closed named is_open.
+    of_request (g.F.Files.content c.args.files.now) (words_of (texts c.args.words.now)) c.in-Go.request _ bytes (sym c.in-Go.is ∙ c.in_ok-read_words.ensures)
+    (λ content. c.request_plan.ensures.read_at_most bytes tells content is_open) named

@@ -12,7 +12,7 @@ returns-in-Ok-clause-answer g c =
     let within : length c.deref.result.now ≤ most_bytes c.args.request.now.emit = omega (arith, c.deref.ensures.len, c.in-Ok.ensures.within) in
     read_plan c.args.request.now (g.F.Files.faults c.args.files.now) (g.F.Files.faults c.read_file.new.files) _ _ c.deref.result.now plan
     c.in-Ok.ensures.counted below
-    (ap (λ name. g.F.Files.content c.args.files.now name) (sym c.as_str-file.ensures) ∙ (c.in-Ok.ensures.whole tells ∙ ap (λ (b : List ℕ). Some b) (sym c.deref.ensures.value)))
+    (c.in-Ok.ensures.whole tells ∙ ap (λ (b : List ℕ). Some b) (sym c.deref.ensures.value))
     within p)
     c.file_plan.ensures.answer
 
@@ -24,6 +24,6 @@ returns-in_ok-file_reply-in-Err-TooLarge-clause-answer g c = λ tells below item
     let sent = c.in_ok-file_reply-in-Err-TooLarge.ensures in
     large_answer c.args.request.now (g.F.Files.faults c.args.files.now) (g.F.Files.faults c.read_file.new.files) _ _ large.0 items _ _ _
     counted below
-    (ap (λ name. g.F.Files.content c.args.files.now name) (sym c.as_str-file.ensures) ∙ large.1)
+    large.1
     large.2
     sent.0 (sent.1 ∙ ap large_line c.as_str-file.ensures) sent.2

@@ -2,9 +2,9 @@ use Rattle.std.proofs.Common.{refl, sym, ◌∙◌}
 use Rattle.mypyc_top.specs.Running.{runs, no_text}
 use Rattle.mypyc_top.proofs.plan.text_plan.Goals as goal
 
-pub returns-then-is_well_formed-clause-answer : goal.returns-then-is_well_formed-clause-answer
-returns-then-is_well_formed-clause-answer c = λ items stop e.
-    runs c.in-Ok.code (sym c.is_well_formed.ensures ∙ c.if-is_well_formed.true) c.in-Ok.ensures.reading.text (stop, e, refl, refl, refl)
+pub returns-then-fits-clause-answer : goal.returns-then-fits-clause-answer
+returns-then-fits-clause-answer c = λ items lines stop e.
+    runs c.in-Ok.code (sym c.in_ok-fits-in-Ok.ensures ∙ c.if-fits.true) c.in-Ok.ensures.reading.text (stop, e, refl, refl, refl)
 
 pub returns-in_ok-refused_reply-in-Err-Refused-clause-answer : goal.returns-in_ok-refused_reply-in-Err-Refused-clause-answer
 returns-in_ok-refused_reply-in-Err-Refused-clause-answer c = λ items.

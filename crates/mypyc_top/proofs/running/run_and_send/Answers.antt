@@ -6,7 +6,7 @@ use Rattle.mypyc_top.proofs.running.run_and_send.Goals as goal
 pub returns-in-Ok-clause-gave : goal.returns-in-Ok-clause-gave
 returns-in-Ok-clause-gave g c =
     let r = c.in-Ok.ensures.ran in
-    (r.0, r.1, rest_sent c.args.program.now r.0 r.2.0 g.O.Sink.tells _ _ _ _ c.in-Ok.rest c.send_reply.result r.2.1 r.2.2 c.send_reply.ensures.gave)
+    (r.0, r.1, rest_sent c.args.program.now r.0 r.2.0 g.O.Sink.tells _ _ _ _ c.in-Ok.rest c.send_reply.result c.args.out.now c.run_program.new.out c.send_reply.new.out c.args.err.now c.send_reply.new.err r.2.1 r.2.2 r.2.3 c.send_reply.ensures.gave c.send_reply.ensures.out_alone c.send_reply.ensures.err_alone)
 
 pub returns-in-Ok-clause-write_fault : goal.returns-in-Ok-clause-write_fault
 returns-in-Ok-clause-write_fault g c = λ e.
@@ -17,12 +17,12 @@ returns-in-Ok-clause-write_fault g c = λ e.
 pub returns-in-Err-WriteFault-clause-gave : goal.returns-in-Err-WriteFault-clause-gave
 returns-in-Err-WriteFault-clause-gave g c =
     let r = c.in-Err-WriteFault.ensures.ran in
-    (r.0, r.1, not_written c.args.program.now r.0 r.2.0 _ g.E.Sink.tells (g.E.Sink.taken c.args.err.now) r.2.1 r.2.2)
+    (r.0, r.1, not_written c.args.program.now r.0 r.2.0 _ g.E.Sink.tells (g.E.Sink.taken c.args.err.now) c.args.out.now c.run_program.new.out c.args.err.now r.2.1 r.2.2 r.2.3)
 
 pub returns-in-Err-Memory-clause-gave : goal.returns-in-Err-Memory-clause-gave
 returns-in-Err-Memory-clause-gave g c =
     let r = c.in-Err-Memory.ensures.ran in
-    (r.0, r.1, no_memory c.args.program.now r.0 r.2.0 _ _ c.out_of_memory.result r.2.1 r.2.2 c.out_of_memory.ensures.status c.out_of_memory.ensures.front)
+    (r.0, r.1, no_memory c.args.program.now r.0 r.2.0 _ _ c.out_of_memory.result c.args.out.now c.run_program.new.out _ r.2.1 r.2.2 c.out_of_memory.ensures.status c.out_of_memory.ensures.front r.2.3)
 
 pub returns-in-Ok-clause-status : goal.returns-in-Ok-clause-status
 returns-in-Ok-clause-status g c = let r = c.in-Ok.ensures.ran in sent_run_status c.args.program.now r.2.0 _ c.in-Ok.rest c.send_reply.result r.2.2 c.send_reply.ensures.status

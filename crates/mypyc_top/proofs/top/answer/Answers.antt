@@ -2,9 +2,10 @@ use Rattle.std.proofs.Common.{refl, sym, append-nil, inl, inr}
 use Rattle.outside_core.specs.Counts.{has_risen}
 use Rattle.c_runner.specs.Ran.{given_items}
 use Rattle.mypyc_top.specs.Output.{output_text}
-use Rattle.mypyc_top.specs.Endings.{ending_status}
+use Rattle.mypyc_top.specs.Endings.{machine_status}
 use Rattle.mypyc_top.specs.Plans.{program_text, program_line}
 use Rattle.mypyc_top.proofs.AllowedLemmas.{sent_is_replied, sent_is_calm}
+use Rattle.mypyc_top.proofs.RunGaveLemmas.{given_lines}
 use Rattle.mypyc_top.proofs.top.answer.Goals as goal
 
 pub returns-in-Ok-Send-clause-answer : goal.returns-in-Ok-Send-clause-answer
@@ -15,13 +16,15 @@ returns-in-Ok-Send-clause-answer g c = λ tells below.
     let items = given_items (has_risen faults faults) (g.I.Source.left c.args.input.now) (g.I.Source.left c.args.input.now) in
     let reply = c.in-Ok-Send.reply in (
       items,
-      λ _ _. refl,
+      (given_lines (has_risen faults faults) _ _, λ _ _. refl),
       inl (record {
         text = output_text reply.out;
         lines = reply.err.items;
-        status = reply.status;
+        result = reply.status;
         answer = planned tells below items;
         gave = c.send_reply.ensures.gave (sent_is_replied reply.status fit);
+        out_alone = c.send_reply.ensures.out_alone refl;
+        err_alone = λ none. inr (c.send_reply.ensures.err_alone none);
       }),
     )
 
@@ -46,9 +49,11 @@ returns-in-Ok-Run-clause-answer g c = λ tells below.
       inl (record {
         text = program_text program stop;
         lines = program_line program stop;
-        status = ending_status stop.ending;
-        answer = planned tells below r.0 stop r.2.run;
+        result = machine_status stop.ending;
+        answer = planned tells below r.0 r.1.0 stop r.2.run;
         gave = r.2.gave;
+        out_alone = r.2.out_alone;
+        err_alone = r.2.err_alone;
       }),
     )
 
@@ -57,10 +62,11 @@ returns-in-Err-clause-answer g c = λ tells below.
     let faults = g.I.Source.faults c.args.input.now in
     let items = given_items (has_risen faults faults) (g.I.Source.left c.args.input.now) (g.I.Source.left c.args.input.now) in (
       items,
-      λ _ _. refl,
+      (given_lines (has_risen faults faults) _ _, λ _ _. refl),
       inr (record {
         status = c.out_of_memory.ensures.status;
         out_nothing = λ _. sym (append-nil (g.O.Sink.taken c.args.out.now));
         err_front = c.out_of_memory.ensures.front;
+        out_alone = refl;
       }),
     )

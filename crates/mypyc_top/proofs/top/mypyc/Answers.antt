@@ -12,7 +12,7 @@ returns-clause-usage_comes g c = λ e. usage_comes (words_of (texts c.args.words
 pub returns-clause-by_bytes : goal.returns-clause-by_bytes
 returns-clause-by_bytes g c = λ bytes tells below named calm.
     let a = c.answer.ensures.answer tells below in
-    (a.0, a.1, by_bytes (texts c.args.words.now) (g.F.Files.content c.args.files.now) bytes a.0 _ _ _ _ _ c.answer.result named calm a.2)
+    (a.0, a.1, by_bytes (texts c.args.words.now) (g.F.Files.content c.args.files.now) bytes a.0 _ _ _ _ _ _ _ c.answer.result named calm a.2)
 
 pub returns-clause-complete : goal.returns-clause-complete
 returns-clause-complete g c = λ bytes tells below named calm out_calm err_calm.
@@ -20,6 +20,6 @@ returns-clause-complete g c = λ bytes tells below named calm out_calm err_calm.
       a.0,
       a.1,
       complete _ c.answer.result _ _
-          (by_bytes (texts c.args.words.now) (g.F.Files.content c.args.files.now) bytes a.0 _ _ _ _ _ c.answer.result named calm a.2)
+          (by_bytes (texts c.args.words.now) (g.F.Files.content c.args.files.now) bytes a.0 _ _ _ _ _ _ _ c.answer.result named calm a.2)
           c.answer.ensures.write_fault out_calm err_calm,
     )

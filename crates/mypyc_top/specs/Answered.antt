@@ -1,0 +1,36 @@
+-- When what a call gave is the answer.
+use Rattle.std.specs.Prelude.{◌≡◌, ℕ, List, [], ◌⊎◌}
+use Rattle.value_core.specs.Items.{Items}
+use Rattle.mypyc_top.specs.declared.status.Status.{Status}
+use Rattle.mypyc_top.specs.declared.status.Status.TheVariants as status
+use Rattle.mypyc_top.specs.ErrorLines.{memory_line}
+use Rattle.mypyc_top.specs.Answer.{FileMeaning, Answer}
+use Rattle.mypyc_top.specs.Sinks.{SinkCall, Took, TookFront}
+
+-- the status of a call is the answer's, unless a sink refused or memory ran out: the sinks took their texts, or fronts
+abbrev pub Gave : SinkCall → SinkCall → List ℕ → List ℕ → Status → Status → Type 0
+Gave out err o e s status.WriteFault = TookFront out o × TookFront err e
+Gave out err o e s status.Memory = TookFront out o × TookFront err memory_line
+Gave out err o e s t = (t ≡ s) × Took out o × Took err e
+
+-- The call answered what its words and its file ask for. A sink that is to get nothing is left alone, and not even told to
+-- pass on what it holds back; `OutAlone` and `ErrAlone` say that the sinks are as they were.
+pub record Answers (words : List (List ℕ)) (file : FileMeaning) (items : Items) (out err : SinkCall) (OutAlone ErrAlone : Type 0) (s : Status) : Type 0 where
+  pub text : List ℕ
+  pub lines : List ℕ
+  pub result : Status
+  pub answer : Answer words file items text lines result
+  pub gave : Gave out err text lines result s
+  pub out_alone : text ≡ [] → OutAlone
+  pub err_alone : lines ≡ [] → (s ≡ status.Memory) ⊎ ErrAlone
+
+-- memory ran out before the output took anything
+pub record LacksMemory (out err : SinkCall) (OutAlone : Type 0) (s : Status) : Type 0 where
+  pub status : s ≡ status.Memory
+  pub out_nothing : Took out []
+  pub err_front : TookFront err memory_line
+  pub out_alone : OutAlone
+
+abbrev pub Answered : List (List ℕ) → FileMeaning → Items → SinkCall → SinkCall → Type 0 → Type 0 → Status → Type 0
+Answered words file items out err OutAlone ErrAlone s =
+    Answers words file items out err OutAlone ErrAlone s ⊎ LacksMemory out err OutAlone s
