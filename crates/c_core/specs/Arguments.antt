@@ -8,7 +8,7 @@ use Rattle.c_core.specs.declared.code.CArg.{CArg}
 use Rattle.c_core.specs.declared.code.CArg.TheVariants as arg
 use Rattle.c_core.specs.declared.code.Code.{Code}
 use Rattle.c_core.specs.Machine.{Word, ShortInt, BigInt, Native, CharWord, ObjectCell, NoneObject, TrueObject, FalseObject, Content, StrCell, InstCell}
-use Rattle.c_core.specs.Primitives.{KindAt, Is, OfGlobal, OfSlot, Holding, Anything, AText, Parameter, Borrows, Steals}
+use Rattle.c_core.specs.Primitives.{KindAt, Is, OfGlobal, OfSlot, Holding, Anything, AText, Parameter, Steals}
 
 -- an argument that passed its tests: a cell that is there with its content, a word without a cell, or what is written
 pub data Argument : Type 0 where

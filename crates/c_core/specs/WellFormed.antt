@@ -1,4 +1,4 @@
--- Which codes have a text of their own, and which of them the machine may run.
+-- Which codes are spelled, so that their text is C text, and which of them the machine may run.
 use Rattle.std.specs.Prelude.{ℕ, ◌-◌, nat_lt, ◌==◌, Bool, true, false, cond, not, ◌&&◌, List, [], ◌∷◌, length, map, Option, Some, None, is_some, codes, slice_get, IsTrue}
 use Rattle.std.specs.Option.{option_map}
 use Rattle.std.specs.List.{list_all, list_any}
@@ -99,8 +99,9 @@ abbrev pub is_empty : {A : Type 0} → List A → Bool
 is_empty [] = true
 is_empty (a ∷ rest) = false
 
--- The code has a text of which it is the only reading. Of globals, classes and functions beside the module's own none
--- are built, so no code with any of them is spelled.
+-- Each part of the code stands in its text as C text wants it. Two spelled codes may share a text, where a name is
+-- declared twice. Of globals, classes and functions beside the module's own none are built, so no code with any of them
+-- is spelled.
 abbrev pub is_spelled : Code → Bool
 is_spelled code = is_empty code.globals && (is_empty code.classes && spelled_functions code.funcs)
 

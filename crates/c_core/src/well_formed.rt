@@ -11,15 +11,15 @@ use crate::primitive::{IoPrim, Prim, StrPrim};
 use unicode_ident::is_xid_continue;
 use value_core::Name;
 
-/// Whether a code is well formed: it has a text of its own, and lines, calls and returns have the numbers and kinds
-/// that they ask for. It takes no memory.
+/// Whether a code is well formed: it is spelled, its names differ, and lines, calls and returns have the numbers and
+/// kinds that they ask for. It takes no memory, and a time that grows with the square of the number of names.
 pub fn is_well_formed(code: &Code) -> bool
     ensures { result ≡ spec.well_formed code.now }
 {
     is_spelled(code) && functions_fit(code)
 }
 
-/// Whether a code has a text of which it is the only reading. It takes no memory.
+/// Whether each part of a code stands in its text as C text wants it. It takes no memory.
 pub fn is_spelled(code: &Code) -> bool
     ensures { result ≡ spec.is_spelled code.now }
 {

@@ -21,10 +21,10 @@ impl Model for Output {
 }
 
 impl Output {
-    ghost use Rattle.std.specs.Prelude.{◌≡◌, ◌<◌, [], ◌++◌, length, IsTrue, OnOk, OnErr};
+    ghost use Rattle.std.specs.Prelude.{◌≡◌, ◌<◌, [], ◌++◌, ◌||◌, length, IsTrue, OnOk, OnErr};
     ghost use Rattle.outside_core.specs.Bytes.{TakesFront};
     ghost use Rattle.outside_core.specs.Counts.{count_after};
-    ghost use Rattle.c_runner.specs.Handing.{HandsOn};
+    ghost use Rattle.c_runner.specs.Handing.{HandsOn, has_bytes};
 
     /// Nothing is held. It takes no memory.
     pub fn new(alloc: Global) -> Output
@@ -43,7 +43,14 @@ impl Output {
         Ok(())
     }
 
-    /// Hands all on. It stops at the first refusal.
+    /// Whether there were bytes earlier, or there are some now.
+    pub fn has_any(&self, earlier: bool) -> bool
+        ensures { result ≡ (earlier || has_bytes self.now) }
+    {
+        earlier || !self.held.is_empty()
+    }
+
+    /// Hands all on. It stops at the first refusal, and does nothing to the sink where nothing is held.
     pub fn hand_on<O: Sink>(&mut self, out: &mut O) -> Result<(), WriteFault>
         ensures counted { O.faults out.new ≡ count_after result (O.faults out.old) }
         ensures taken { OnOk result (IsTrue O.tells →
@@ -51,7 +58,11 @@ impl Output {
         ensures front { OnErr result (IsTrue O.tells →
             TakesFront (O.taken out.old) (O.taken out.new) self.old) }
         ensures emptied { OnOk result (self.new ≡ []) }
+        ensures alone { self.old ≡ [] → out.new ≡ out.old }
     {
+        if self.held.is_empty() {
+            return Ok(());
+        }
         write_whole(out, self.held.as_slice())?;
         self.held.clear();
         Ok(())
@@ -61,10 +72,11 @@ impl Output {
     pub fn hand_on_if_full<O: Sink>(&mut self, out: &mut O) -> Result<(), WriteFault>
         ensures counted { O.faults out.new ≡ count_after result (O.faults out.old) }
         ensures taken { OnOk result
-            (HandsOn O.tells (O.taken out.old) (O.taken out.new) self.old self.new) }
+            (HandsOn O.tells (O.taken out.old) (O.taken out.new) self.old self.new (out.new ≡ out.old)) }
         ensures short { OnOk result (length self.new < FULL) }
         ensures front { OnErr result (IsTrue O.tells →
             TakesFront (O.taken out.old) (O.taken out.new) self.old) }
+        ensures alone { self.old ≡ [] → out.new ≡ out.old }
     {
         if self.held.len() >= FULL {
             self.hand_on(out)?;

@@ -1,4 +1,4 @@
-use Rattle.std.proofs.Common.{refl, sym, ap, ◌∙◌, ◌<◌, ◌≡◌, length, map, arith}
+use Rattle.std.proofs.Common.{refl, sym, ap, ◌∙◌, ◌<◌, length, map, arith}
 use Rattle.std.proofs.lemmas.List.{take_all}
 use Rattle.c_core.specs.WellFormed.{names_differ}
 use Rattle.c_core.proofs.NameLemmas.{knows, known_more, not_added, differ_still}

@@ -7,7 +7,7 @@ use Rattle.c_runner.proofs.runner.run.Given as goal
 abbrev pub invariant-steps : goal.invariant-steps
 invariant-steps g l = record {
   calm : g.O.Sink.faults l.out ≡ g.O.Sink.faults l.fn.out;
-  running : Running g.O.Sink.tells (g.O.Sink.taken l.fn.out) (g.O.Sink.taken l.out) l.code l.turns (input_items (g.I.Source.left l.fn.input) AtEof) l.left l.state;
+  running : Running g.O.Sink.tells (g.O.Sink.taken l.fn.out) (g.O.Sink.taken l.out) l.code l.turns (input_items (g.I.Source.left l.fn.input) AtEof) l.left l.has_output (l.out ≡ l.fn.out) l.state;
 }
 
 abbrev pub decreases-steps : goal.decreases-steps

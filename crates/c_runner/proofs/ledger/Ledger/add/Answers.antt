@@ -1,4 +1,4 @@
-use Rattle.std.proofs.Common.{◌∙◌, ap, sym, arith}
+use Rattle.std.proofs.Common.{◌∙◌, ap, arith}
 use Rattle.c_runner.proofs.LedgerLemmas.{standing, stands, added}
 use Rattle.c_runner.proofs.ledger.Ledger.add.Goals as goal
 use Rattle.c_runner.proofs.ledger.Ledger.add.Goals.{in-None, in-Some}
