@@ -11,8 +11,6 @@ mod code;
 mod fault;
 mod laws;
 mod primitive;
-#[cfg(test)]
-mod tests;
 mod well_formed;
 
 pub use checked::check_well_formed;

@@ -1,65 +1,209 @@
--- A set of numbers in order as a ledger.
-use Rattle.std.proofs.Common.{◌≡◌, refl, sym, ap, ◌∙◌, ℕ, zero, suc, ◌<◌, arith, Bool, true, false, cond, List, [], ◌∷◌, ◌++◌, Option, Some, None}
-use Rattle.std.specs.Prelude.{◌||◌, is_some}
-use Rattle.std.specs.List.{list_any}
+-- Numbers with how often each stands there further, as a ledger.
+use Rattle.std.proofs.Common.{◌≡◌, refl, sym, ap, ◌∙◌, ℕ, zero, suc, ◌+◌, ◌<◌, ◌≤◌, ◌↔◌, arith, add-one, Bool, true, false, cond, ◌==◌, nat_le, nat_lt, replicate, List, [], ◌∷◌, ◌++◌, length, Option, Some, None}
+use Rattle.std.specs.List.{AllByRecursion}
+use Rattle.std.specs.List.Sorted.{IsStrictlySortedBy}
 use Rattle.std.specs.Ordering.{nat_cmp, match_ordering}
-use Rattle.std.specs.declared.cmp.Ordering.TheVariants.{Greater}
-use Rattle.std.specs.BTreeMap.{is_at}
-use Rattle.std.specs.BTreeSet.{insert_key}
-use Rattle.std.specs.Set.{remove_key}
+use Rattle.std.specs.declared.cmp.Ordering.{Ordering}
+use Rattle.std.specs.declared.cmp.Ordering.TheVariants.{Less, Equal, Greater}
+use Rattle.std.specs.BTreeMap.{is_at, insert_entry}
+use Rattle.std.specs.Map.{keys_of, lookup, remove_entry, set_value}
 use Rattle.std.proofs.lemmas.Bool.Decides.{nat_tests}
-use Rattle.c_core.specs.Cells.{same}
-use Rattle.c_core.specs.Step.{keep_or_drop, without}
-use Rattle.c_runner.specs.States.{AreBelow}
+use Rattle.std.proofs.lemmas.Map.Keys.{sorted_head, sorted_tail}
+use Rattle.c_core.specs.Cells.{same, times}
+use Rattle.c_core.specs.Ledgers.{more, without}
+use Rattle.c_core.proofs.CountLemmas.{same_one, same_self}
+use Rattle.c_runner.specs.Ledgers.{numbers_of}
 
--- whether a number is c
-abbrev pub is_number : ℕ → ℕ → Bool
-is_number c d = is_at (nat_cmp c) d
+-- how often a number stands further, where it stands at all
+abbrev pub further : ℕ → List (ℕ × ℕ) → Option ℕ
+further c es = lookup (is_at (nat_cmp c)) es
 
-is_number-suc : (c d : ℕ) → is_number (suc c) (suc d) ≡ is_number c d
-is_number-suc c d = grind (arith, nat_tests)
+-- how often it stands
+abbrev pub standing : Option ℕ → ℕ
+standing None = 0
+standing (Some n) = n + 1
 
-is_number-zero : (d : ℕ) → is_number zero (suc d) ≡ false
-is_number-zero d = grind (arith, nat_tests)
+-- ---- two numbers
+is_less : (c d : ℕ) → nat_cmp c d ≡ Less → nat_le c d ≡ true
+is_less c d e = grind (arith, nat_tests, e)
 
-is_number-more : (c : ℕ) → is_number (suc c) zero ≡ false
-is_number-more c = grind (arith, nat_tests)
+less_than : (c d : ℕ) → nat_cmp c d ≡ Less → c < d
+less_than c d e = grind (arith, nat_tests, e)
 
-same_is : (d c : ℕ) → same d c ≡ cond (is_number c d) 1 0
-same_is zero zero = refl
-same_is zero (suc c) = ap (λ b. cond b 1 0) (sym (is_number-more c))
-same_is (suc d) zero = ap (λ b. cond b 1 0) (sym (is_number-zero d))
-same_is (suc d) (suc c) = same_is d c ∙ ap (λ b. cond b 1 0) (sym (is_number-suc c d))
+is_equal : (c d : ℕ) → nat_cmp c d ≡ Equal → c ≡ d
+is_equal c d e = grind (arith, nat_tests, e)
 
--- what is left where a number is taken out
-abbrev pub left_without : ℕ → List ℕ → Option (List ℕ)
-left_without c ds = cond (list_any (is_number c) ds) (Some (remove_key (is_number c) ds)) None
+is_greater : (c d : ℕ) → nat_cmp c d ≡ Greater → d < c
+is_greater c d e = grind (arith, nat_tests, e)
 
-kept : (b : Bool) (d : ℕ) (ds rest : List ℕ) → keep_or_drop 0 d ds (cond b (Some rest) None) ≡ cond b (Some (d ∷ rest)) None
-kept true d ds rest = refl
-kept false d ds rest = refl
+at_is : (c d : ℕ) → is_at (nat_cmp c) d ≡ true → d ≡ c
+at_is c d e = grind (arith, nat_tests, e)
 
-one_more : (b : Bool) (c d : ℕ) (ds : List ℕ) → without c ds ≡ left_without c ds → keep_or_drop (cond b 1 0) d ds (without c ds) ≡ cond (b || list_any (is_number c) ds) (Some (cond b ds (d ∷ remove_key (is_number c) ds))) None
-one_more true c d ds rest = refl
-one_more false c d ds rest = ap (keep_or_drop 0 d ds) rest ∙ kept (list_any (is_number c) ds) d ds (remove_key (is_number c) ds)
+at_same : (c d : ℕ) → is_at (nat_cmp c) d ≡ true → (d == c) ≡ true
+at_same c d e = grind (arith, nat_tests, e)
 
-pub without_is : (c : ℕ) (ds : List ℕ) → without c ds ≡ left_without c ds
-without_is c [] = refl
-without_is c (d ∷ ds) = ap (λ k. keep_or_drop k d ds (without c ds)) (same_is d c) ∙ one_more (is_number c d) c d ds (without_is c ds)
+at_other : (c d : ℕ) → is_at (nat_cmp c) d ≡ false → (d == c) ≡ false
+at_other c d e = grind (arith, nat_tests, e)
 
-found : (b : Bool) (ds : List ℕ) → is_some (cond b (Some ds) None) ≡ b
-found true ds = refl
-found false ds = refl
+at_less : (c d : ℕ) → c < d → is_at (nat_cmp c) d ≡ false
+at_less c d lt = grind (arith, nat_tests, lt)
 
-pub owned_is : (c : ℕ) (ds : List ℕ) → is_some (without c ds) ≡ list_any (is_number c) ds
-owned_is c ds = ap is_some (without_is c ds) ∙ found (list_any (is_number c) ds) (remove_key (is_number c) ds)
+not_same : (k c d : ℕ) → k ≡ same d c → (d == c) ≡ false → k ≡ 0
+not_same zero c d e other = refl
+not_same (suc k) c d e other =
+    let equal : d ≡ c = same_one d c k (sym e) in absurd (grind (arith, nat_tests, equal, other))
 
-above : (c x : ℕ) → x < c → nat_cmp c x ≡ Greater
-above c x lt = grind (arith, nat_tests)
+differ : (c d : ℕ) → is_at (nat_cmp c) d ≡ false → same d c ≡ 0
+differ c d e = not_same (same d c) c d refl (at_other c d e)
 
--- a number above all others goes to the end
-pub insert_newest : (ds : List ℕ) (c : ℕ) → AreBelow c ds → insert_key nat_cmp ds c ≡ ds ++ c ∷ []
-insert_newest [] c below = refl
-insert_newest (x ∷ xs) c below =
-    ap (λ o. match_ordering o (c ∷ x ∷ xs) (x ∷ xs) (x ∷ insert_key nat_cmp xs c)) (above c x below.0)
-    ∙ ap (λ t. x ∷ t) (insert_newest xs c below.1)
+-- ---- one number several times
+times_past : (n d c : ℕ) (l : List ℕ) → same d c ≡ 0 → times (replicate n d ++ l) c ≡ times l c
+times_past zero d c l e = refl
+times_past (suc n) d c l e = omega (arith, e, times_past n d c l e)
+
+times_here : (n c : ℕ) (l : List ℕ) → times (replicate n c ++ l) c ≡ n + times l c
+times_here zero c l = omega arith
+times_here (suc n) c l = omega (arith, same_self c, times_here n c l)
+
+more_past : (n d c : ℕ) (l : List ℕ) → d < c → more c (replicate n d ++ l) ≡ replicate n d ++ more c l
+more_past zero d c l lt = refl
+more_past (suc n) d c l lt =
+    let over : nat_le c d ≡ false = grind (arith, nat_tests, lt) in
+    ap (λ b. cond b (c ∷ (d ∷ (replicate n d ++ l))) (d ∷ more c (replicate n d ++ l))) over ∙ ap (λ t. d ∷ t) (more_past n d c l lt)
+
+without_past : (n d c : ℕ) (l : List ℕ) → (d == c) ≡ false → without c (replicate n d ++ l) ≡ replicate n d ++ without c l
+without_past zero d c l e = refl
+without_past (suc n) d c l e =
+    ap (λ b. cond b (replicate n d ++ l) (d ∷ without c (replicate n d ++ l))) e ∙ ap (λ t. d ∷ t) (without_past n d c l e)
+
+-- ---- one entry: its number, how often it stands further, and the numbers behind it
+module _ (c d n : ℕ) (l : List ℕ) where
+  abbrev entry : List ℕ
+  entry = d ∷ (replicate n d ++ l)
+
+  times_at : is_at (nat_cmp c) d ≡ true → n + 1 ≤ times entry c
+  times_at e =
+      let equal = at_is c d e in
+      omega (arith, ap (λ z. same z c) equal, same_self c, ap (λ z. times (replicate n z ++ l) c) equal, times_here n c l)
+
+  times_other : is_at (nat_cmp c) d ≡ false → times entry c ≡ times l c
+  times_other e = omega (arith, differ c d e, times_past n d c l (differ c d e))
+
+  without_at : is_at (nat_cmp c) d ≡ true → without c entry ≡ replicate n d ++ l
+  without_at e = ap (λ b. cond b (replicate n d ++ l) (d ∷ without c (replicate n d ++ l))) (at_same c d e)
+
+  without_other : is_at (nat_cmp c) d ≡ false → without c entry ≡ d ∷ (replicate n d ++ without c l)
+  without_other e = without_past (suc n) d c l (at_other c d e)
+
+  more_before : nat_cmp c d ≡ Less → more c entry ≡ c ∷ entry
+  more_before e = ap (λ b. cond b (c ∷ entry) (d ∷ more c (replicate n d ++ l))) (is_less c d e)
+
+  more_same : nat_cmp c d ≡ Equal → more c entry ≡ d ∷ (replicate (n + 1) d ++ l)
+  more_same e =
+      let le : nat_le c d ≡ true = grind (arith, nat_tests, e) in
+      ap (λ b. cond b (c ∷ entry) (d ∷ more c (replicate n d ++ l))) le
+      ∙ ap (λ z. z ∷ entry) (is_equal c d e)
+      ∙ ap (λ m. d ∷ (replicate m d ++ l)) (sym (add-one n))
+
+  more_behind : nat_cmp c d ≡ Greater → more c entry ≡ d ∷ (replicate n d ++ more c l)
+  more_behind e = more_past (suc n) d c l (is_greater c d e)
+
+-- ---- how often a number stands
+stands_either : (b : Bool) (c : ℕ) (e : ℕ × ℕ) (es : List (ℕ × ℕ)) → is_at (nat_cmp c) e.0 ≡ b → standing (further c es) ≤ times (numbers_of es) c → standing (cond b (Some e.1) (further c es)) ≤ times (numbers_of (e ∷ es)) c
+stands_either true c e es is le = times_at c e.0 e.1 (numbers_of es) is
+stands_either false c e es is le = omega (arith, le, times_other c e.0 e.1 (numbers_of es) is)
+
+pub stands : (c : ℕ) (es : List (ℕ × ℕ)) → standing (further c es) ≤ times (numbers_of es) c
+stands c [] = omega arith
+stands c (e ∷ es) = stands_either (is_at (nat_cmp c) e.0) c e es refl (stands c es)
+
+absent_either : (b : Bool) (c : ℕ) (e : ℕ × ℕ) (es : List (ℕ × ℕ)) → is_at (nat_cmp c) e.0 ≡ b → cond b (Some e.1) (further c es) ≡ None → (further c es ≡ None → (times (numbers_of es) c ≡ 0) × (without c (numbers_of es) ≡ numbers_of es)) → (times (numbers_of (e ∷ es)) c ≡ 0) × (without c (numbers_of (e ∷ es)) ≡ numbers_of (e ∷ es))
+absent_either true c e es is gone h = absurd (cc)
+absent_either false c e es is gone h =
+    let rest = h gone in (
+      times_other c e.0 e.1 (numbers_of es) is ∙ rest.0,
+      without_other c e.0 e.1 (numbers_of es) is ∙ ap (λ l. e.0 ∷ (replicate e.1 e.0 ++ l)) rest.1,
+    )
+
+-- a number without an entry does not stand there
+pub absent : (c : ℕ) (es : List (ℕ × ℕ)) → further c es ≡ None → (times (numbers_of es) c ≡ 0) × (without c (numbers_of es) ≡ numbers_of es)
+absent c [] e = (refl, refl)
+absent c (x ∷ es) e = absent_either (is_at (nat_cmp c) x.0) c x es refl e (absent c es)
+
+-- ---- one less
+some_same : (m n : ℕ) → Some m ≡ Some n → m ≡ n
+some_same m n e = cc
+
+removed_either : (b : Bool) (c : ℕ) (e : ℕ × ℕ) (es : List (ℕ × ℕ)) → is_at (nat_cmp c) e.0 ≡ b → cond b (Some e.1) (further c es) ≡ Some 0 → (further c es ≡ Some 0 → numbers_of (remove_entry (is_at (nat_cmp c)) es) ≡ without c (numbers_of es)) → numbers_of (cond b es (e ∷ remove_entry (is_at (nat_cmp c)) es)) ≡ without c (numbers_of (e ∷ es))
+removed_either true c e es is once h =
+    sym (without_at c e.0 e.1 (numbers_of es) is ∙ ap (λ n. replicate n e.0 ++ numbers_of es) (some_same e.1 0 once))
+removed_either false c e es is once h =
+    ap (λ l. e.0 ∷ (replicate e.1 e.0 ++ l)) (h once) ∙ sym (without_other c e.0 e.1 (numbers_of es) is)
+
+-- a number that stands once goes
+pub removed : (c : ℕ) (es : List (ℕ × ℕ)) → further c es ≡ Some 0 → numbers_of (remove_entry (is_at (nat_cmp c)) es) ≡ without c (numbers_of es)
+removed c [] e = absurd (cc)
+removed c (x ∷ es) e = removed_either (is_at (nat_cmp c) x.0) c x es refl e (removed c es)
+
+lowered_either : (b : Bool) (c n : ℕ) (e : ℕ × ℕ) (es : List (ℕ × ℕ)) → is_at (nat_cmp c) e.0 ≡ b → cond b (Some e.1) (further c es) ≡ Some (n + 1) → (further c es ≡ Some (n + 1) → numbers_of (set_value (is_at (nat_cmp c)) es n) ≡ without c (numbers_of es)) → numbers_of (cond b ((e.0, n) ∷ es) (e ∷ set_value (is_at (nat_cmp c)) es n)) ≡ without c (numbers_of (e ∷ es))
+lowered_either true c n e es is often h =
+    sym (without_at c e.0 e.1 (numbers_of es) is ∙ ap (λ m. replicate m e.0 ++ numbers_of es) (some_same e.1 (n + 1) often ∙ add-one n))
+lowered_either false c n e es is often h =
+    ap (λ l. e.0 ∷ (replicate e.1 e.0 ++ l)) (h often) ∙ sym (without_other c e.0 e.1 (numbers_of es) is)
+
+-- a number that stands more than once stands once less
+pub lowered : (c n : ℕ) (es : List (ℕ × ℕ)) → further c es ≡ Some (n + 1) → numbers_of (set_value (is_at (nat_cmp c)) es n) ≡ without c (numbers_of es)
+lowered c n [] e = absurd (cc)
+lowered c n (x ∷ es) e = lowered_either (is_at (nat_cmp c) x.0) c n x es refl e (lowered c n es)
+
+-- ---- one more
+none_below : (c d : ℕ) (es : List (ℕ × ℕ)) → c < d → AllByRecursion (λ y. nat_cmp d y ≡ Less) (keys_of es) → further c es ≡ None
+none_below c d [] lt above = refl
+none_below c d (e ∷ es) lt above =
+    let over : c < e.0 = omega (arith, lt, less_than d e.0 above.0) in
+    ap (λ b. cond b (Some e.1) (further c es)) (at_less c e.0 over) ∙ none_below c d es lt above.1
+
+insert_either : (o : Ordering) (c n : ℕ) (e : ℕ × ℕ) (es : List (ℕ × ℕ)) → nat_cmp c e.0 ≡ o → n ≡ standing (further c (e ∷ es)) → (c < e.0 → further c es ≡ None) → (n ≡ standing (further c es) → numbers_of (insert_entry nat_cmp es c n) ≡ more c (numbers_of es)) → numbers_of (match_ordering o ((c, n) ∷ (e ∷ es)) ((e.0, n) ∷ es) (e ∷ insert_entry nat_cmp es c n)) ≡ more c (numbers_of (e ∷ es))
+insert_either Less c n e es is v new later =
+    let before = less_than c e.0 is in
+    let first : n ≡ 0 = v ∙ ap standing (ap (λ b. cond b (Some e.1) (further c es)) (at_less c e.0 before) ∙ new before) in
+    ap (λ m. c ∷ (replicate m c ++ numbers_of (e ∷ es))) first ∙ sym (more_before c e.0 e.1 (numbers_of es) is)
+insert_either Equal c n e es is v new later =
+    let here : is_at (nat_cmp c) e.0 ≡ true = grind (arith, nat_tests, is) in
+    let again : n ≡ e.1 + 1 = v ∙ ap (λ b. standing (cond b (Some e.1) (further c es))) here in
+    ap (λ m. e.0 ∷ (replicate m e.0 ++ numbers_of es)) again ∙ sym (more_same c e.0 e.1 (numbers_of es) is)
+insert_either Greater c n e es is v new later =
+    let other : is_at (nat_cmp c) e.0 ≡ false = grind (arith, nat_tests, is) in
+    ap (λ l. e.0 ∷ (replicate e.1 e.0 ++ l)) (later (v ∙ ap (λ b. standing (cond b (Some e.1) (further c es))) other))
+    ∙ sym (more_behind c e.0 e.1 (numbers_of es) is)
+
+pub inserted : (c n : ℕ) (es : List (ℕ × ℕ)) → IsStrictlySortedBy nat_cmp (keys_of es) → n ≡ standing (further c es) → numbers_of (insert_entry nat_cmp es c n) ≡ more c (numbers_of es)
+inserted c n [] up v = ap (λ m. c ∷ (replicate m c ++ [])) v
+inserted c n (e ∷ es) up v =
+    insert_either (nat_cmp c e.0) c n e es refl v (λ lt. none_below c e.0 es lt (sorted_head nat_cmp e.0 (keys_of es) up))
+    (inserted c n es (sorted_tail nat_cmp e.0 (keys_of es) up))
+
+-- ---- nothing
+pub none_there : (es : List (ℕ × ℕ)) → (length es ≡ 0) ↔ (numbers_of es ≡ [])
+none_there [] = (λ e. refl, λ e. refl)
+none_there (e ∷ es) = (λ f. absurd (omega (arith, f)), λ f. absurd (cc))
+
+-- ---- maps that were changed
+pub added : (c n : ℕ) (es old new : List (ℕ × ℕ)) → IsStrictlySortedBy nat_cmp (keys_of old) → old ≡ es → n ≡ standing (further c es) → new ≡ insert_entry nat_cmp old c n → numbers_of new ≡ more c (numbers_of es)
+added c n es old new up same often is =
+    ap numbers_of is
+    ∙ inserted c n old up (often ∙ ap (λ xs. standing (further c xs)) (sym same))
+    ∙ ap (λ xs. more c (numbers_of xs)) same
+
+pub owned : (c n : ℕ) (es : List (ℕ × ℕ)) → further c es ≡ Some n → true ≡ nat_lt 0 (times (numbers_of es) c)
+owned c n es e = let once = stands c es in let often = ap standing e in grind (arith, nat_tests, once, often)
+
+set_either : (b : Bool) (n : ℕ) (e : ℕ × ℕ) (es rest : List (ℕ × ℕ)) (o : Option ℕ) → cond b (Some e.1) o ≡ Some n → (o ≡ Some n → rest ≡ es) → cond b ((e.0, n) ∷ es) (e ∷ rest) ≡ e ∷ es
+set_either true n e es rest o is h = ap (λ m. (e.0, m) ∷ es) (sym (some_same e.1 n is))
+set_either false n e es rest o is h = ap (λ xs. e ∷ xs) (h is)
+
+-- a value that is written again changes nothing
+pub set_again : (c n : ℕ) (es : List (ℕ × ℕ)) → further c es ≡ Some n → set_value (is_at (nat_cmp c)) es n ≡ es
+set_again c n [] e = refl
+set_again c n (x ∷ es) e =
+    set_either (is_at (nat_cmp c) x.0) n x es (set_value (is_at (nat_cmp c)) es n) (further c es) e (set_again c n es)

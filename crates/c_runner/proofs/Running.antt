@@ -1,5 +1,5 @@
 -- A run that goes on, and what is answered where it ends.
-use Rattle.std.proofs.Common.{◌≡◌, refl, sym, ◌∙◌, ap, subst, ℕ, ◌+◌, ◌-◌, ◌<◌, ◌≤◌, arith, Bool, false, List, [], ◌++◌, length, append_assoc, append-nil, Some, None, Ok, Err}
+use Rattle.std.proofs.Common.{◌≡◌, refl, sym, ◌∙◌, ap, subst, ℕ, ◌+◌, ◌-◌, ◌^◌, ◌<◌, ◌≤◌, arith, Bool, false, List, [], ◌++◌, length, append_assoc, append-nil, Some, None, Ok, Err}
 use Rattle.std.specs.Prelude.{min, nat_le, IsTrue, Result}
 use Rattle.std.proofs.lemmas.Bool.Decides.{nat_tests}
 use Rattle.value_core.specs.Items.{Items, AtEof, input_items}
@@ -9,7 +9,7 @@ use Rattle.outside_core.proofs.Fronts.{TakesFront-none, TakesFront-all, TakesFro
 use Rattle.c_core.specs.declared.code.Code.{Code}
 use Rattle.c_core.specs.Step.{Goes, step}
 use Rattle.c_core.specs.Run.{Stop, go_on, start, most_steps, machine_run}
-use Rattle.c_core.specs.Laws.{RunExists}
+use Rattle.c_core.specs.Laws.{Reaches, Here, RunExists, RunKeepsCounts, RunStaysSmall}
 use Rattle.c_core.specs.WellFormed.{WellFormed}
 use Rattle.c_runner.specs.declared.report.Ending.{Ending}
 use Rattle.c_runner.specs.declared.report.Report.{Report}
@@ -19,8 +19,8 @@ use Rattle.c_runner.specs.declared.state.State.{State}
 use Rattle.c_runner.specs.Handing.{HandsOn}
 use Rattle.c_runner.specs.Ran.{AreGiven, Ran, given_items}
 use Rattle.c_runner.specs.Report.{ending_of, live_cells, Reports}
-use Rattle.c_runner.specs.States.{Rest, AreBelow, first_rest, state_of, Follows}
-use Rattle.c_runner.proofs.StepLemmas.{Keeps, KeepsTo, step_keeps, some_left, one_taken, grows}
+use Rattle.c_runner.specs.States.{Rest, IsCountable, first_rest, state_of, Follows}
+use Rattle.c_runner.proofs.StepLemmas.{some_left, one_taken, one_further, grows}
 
 -- the output that was handed on of a run, and else what there was at the start
 abbrev pub rest_after : Code → Items → List ℕ → Rest
@@ -30,14 +30,18 @@ rest_after code items handed = record (first_rest code items) { handed = handed 
 pub record Running (tells : Bool) (before now : List ℕ) (code : Code) (turns : ℕ) (items : Items) (left : ℕ) (state : State) : Type 0 where
   pub handed : List ℕ
   pub taken : IsTrue tells → now ≡ before ++ handed
-  pub newest : AreBelow (length state.cells) state.top.ledger
+  pub steps : ℕ
+  pub all_steps : steps + left ≡ most_steps turns code
+  pub reaches : Reaches code steps (start code turns items) (state_of (rest_after code items handed) state)
   pub goes : go_on (step code) left (Goes (state_of (rest_after code items handed) state)) ≡ machine_run turns items code
 
 pub at_start : (tells : Bool) (before : List ℕ) (code : Code) (turns left : ℕ) (items : Items) (state : State) → ((i : Items) → state_of (first_rest code i) state ≡ start code turns i) → left ≡ most_steps turns code → Running tells before before code turns items left state
 at_start tells before code turns left items state is count = record {
   handed = [];
   taken = λ t. sym (append-nil before);
-  newest = subst (λ l. AreBelow (length state.cells) l) (sym (ap (λ s. s.top.ledger) (is items))) tt;
+  steps = 0;
+  all_steps = omega (arith, count);
+  reaches = subst (λ s. Reaches code 0 (start code turns items) s) (sym (is items)) (Here (start code turns items));
   goes = ap (λ k. go_on (step code) k (Goes (state_of (first_rest code items) state))) count ∙ ap (λ s. go_on (step code) (most_steps turns code) (Goes s)) (is items);
 }
 
@@ -53,33 +57,43 @@ module _ (tells : Bool) (before now : List ℕ) (code : Code) (turns : ℕ) (ite
   -- what the sink took is a front of the output
   pub front_so_far : (stop : Stop) → machine_run turns items code ≡ Some stop → IsTrue tells → TakesFront before now stop.state.output
   front_so_far stop is t =
-      let grown = grows code left (state_of rest state) stop refl running.newest (running.goes ∙ is) in
+      let grown = grows code left (state_of rest state) stop refl (running.goes ∙ is) in
       let all : stop.state.output ≡ running.handed ++ (state.output ++ grown.more) = grown.grown ∙ append_assoc running.handed state.output grown.more in
       rw all (TakesFront-before before now running.handed (state.output ++ grown.more) (TakesFront-all before now running.handed (running.taken t)))
 
   -- a front of what is held went too
   pub front_of_held : (after : List ℕ) → (IsTrue tells → TakesFront now after state.output) → (stop : Stop) → machine_run turns items code ≡ Some stop → IsTrue tells → TakesFront before after stop.state.output
   front_of_held after front stop is t =
-      let grown = grows code left (state_of rest state) stop refl running.newest (running.goes ∙ is) in
+      let grown = grows code left (state_of rest state) stop refl (running.goes ∙ is) in
       rw grown.grown (TakesFront-before before after (running.handed ++ state.output) grown.more (TakesFront-after before now after running.handed state.output (running.taken t) (front t)))
 
   -- a step, after which the run goes on
   pub stepped : (new : State) → 1 ≤ left → Follows (step code) None state new → Running tells before now code turns items (left - 1) new
   stepped new more follows =
-      let kept : Keeps (state_of rest state) (state_of rest new) = subst (KeepsTo (state_of rest state)) (follows rest) (step_keeps (state_of rest state) refl running.newest code) in
       record {
         handed = running.handed;
         taken = running.taken;
-        newest = kept.newest;
+        steps = running.steps + 1;
+        all_steps = omega (arith, running.all_steps, more);
+        reaches = one_further code running.steps (start code turns items) (state_of rest state) (state_of rest new) running.reaches (follows rest);
         goes = ap (go_on (step code) (left - 1)) (sym (follows rest)) ∙ sym (one_taken code left (state_of rest state) more) ∙ running.goes;
       }
+
+  -- no cell is owned more often than there were steps
+  pub countable : RunKeepsCounts → RunStaysSmall → WellFormed code → most_steps turns code < 2 ^ 128 → IsCountable state.top.ledger
+  countable counts small formed room c =
+      let counted = (counts code turns items).0 running.steps (state_of rest state) running.reaches c in
+      let few = (small code formed turns items running.steps (state_of rest state) running.reaches).2 c in
+      omega (arith, counted, few, running.all_steps, room)
 
   -- some of what is held is handed on
   pub handed_on : (after output : List ℕ) → HandsOn tells now after state.output output → Running tells before after code turns items left (record state { output = output })
   handed_on after output hands = record {
     handed = running.handed ++ hands.0;
     taken = λ t. hands.2 t ∙ ap (λ l. l ++ hands.0) (running.taken t) ∙ append_assoc before running.handed hands.0;
-    newest = running.newest;
+    steps = running.steps;
+    all_steps = running.all_steps;
+    reaches = subst (λ l. Reaches code running.steps (start code turns items) (record (state_of rest state) { output = l })) (sym (append_assoc running.handed hands.0 output ∙ ap (λ l. running.handed ++ l) (sym hands.1))) running.reaches;
     goes = ap (λ l. go_on (step code) left (Goes (record (state_of rest state) { output = l }))) (append_assoc running.handed hands.0 output ∙ ap (λ l. running.handed ++ l) (sym hands.1)) ∙ running.goes;
   }
 

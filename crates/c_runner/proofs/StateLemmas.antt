@@ -1,6 +1,6 @@
 -- What the parts of a step of the machine are at the runner's states.
-use Rattle.std.proofs.Common.{◌≡◌, refl, sym, ap, ◌∙◌, ℕ, ◌+◌, ◌<◌, ◌≤◌, arith, Bool, true, false, cond, eqb, List, [], ◌∷◌, ◌++◌, length, append_assoc, Option, Some, None, Ok, Err}
-use Rattle.std.specs.Prelude.{slice_get, slice_set, is_some, Result, IfOk}
+use Rattle.std.proofs.Common.{◌≡◌, refl, sym, ap, ◌∙◌, ℕ, zero, suc, ◌+◌, ◌<◌, ◌≤◌, arith, Bool, true, false, cond, eqb, List, [], ◌∷◌, ◌++◌, length, append_assoc, Option, Some, None, Ok, Err}
+use Rattle.std.specs.Prelude.{slice_get, slice_set, nat_lt, is_some, Result, IfOk}
 use Rattle.std.specs.Option.{option_map, option_and_then}
 use Rattle.std.proofs.lemmas.List.{map-set}
 use Rattle.std.proofs.lemmas.Option.{slice_get-map}
@@ -14,12 +14,16 @@ use Rattle.c_core.specs.declared.primitive.Prim.{Prim}
 use Rattle.c_core.specs.declared.primitive.Prim.TheVariants.{Io}
 use Rattle.c_core.specs.declared.primitive.IoPrim.{IoPrim}
 use Rattle.c_core.specs.declared.primitive.IoPrim.TheVariants.{Write}
-use Rattle.c_core.specs.Cells.{Cells, content_at, make}
+use Rattle.c_core.specs.declared.code.Code.{Code}
+use Rattle.c_core.specs.Arguments.{Cell, is_holding}
+use Rattle.c_core.specs.Cells.{Cells, times, content_at, make}
+use Rattle.c_core.specs.Ledgers.{more}
 use Rattle.c_core.specs.Machine as machine
-use Rattle.c_core.specs.Machine.{MachineState, ObjectCell, StrCell}
+use Rattle.c_core.specs.Machine.{MachineState, StrCell, refs_in}
+use Rattle.c_core.specs.Primitives.{AText}
 use Rattle.c_core.specs.Step as step
-use Rattle.c_core.specs.Step.{Next, Goes, Ends, Faulted, Makes, word_of, if_some, literal_word, with_var, next_line, applied, primitive_step, if_content, if_taken, if_none_left, without}
-use Rattle.c_core.proofs.Order.{without-length}
+use Rattle.c_core.specs.Step.{Next, Goes, Ends, Faulted, Makes, word_of, if_some, literal_word, with_var, next_line, applied, primitive_step, called, given_up, if_any}
+use Rattle.c_core.proofs.ReleaseLemmas.{release-nothing}
 use Rattle.c_runner.specs.declared.report.Ending.{Ending}
 use Rattle.c_runner.specs.declared.state.Frame.{Frame}
 use Rattle.c_runner.specs.declared.state.State.{State}
@@ -27,7 +31,7 @@ use Rattle.c_runner.specs.declared.words.Word.{Word}
 use Rattle.c_runner.specs.declared.words.Word.TheVariants.{Object}
 use Rattle.c_runner.specs.States.{Rest, state_of, with_target, Follows}
 use Rattle.c_runner.specs.Words as words
-use Rattle.c_runner.specs.Parts.{written, left_with}
+use Rattle.c_runner.specs.Parts.{written}
 
 module _ (rest : Rest) (old : State) where
   abbrev s : MachineState
@@ -57,75 +61,57 @@ module _ (rest : Rest) (old : State) where
       ∙ ap Goes (set_is x w ∙ ap (λ t. state_of rest (onwards t)) (sym g))
 
   -- a text is written
-  pub text_written : (target : Option ℕ) (x c : ℕ) (text output : List ℕ) (is_alone : Bool) → slice_get old.top.vars x ≡ Some (Object c) → content_at old.cells c ≡ Some (StrCell text) → is_alone ≡ true → output ≡ old.output ++ text → written target x is_alone s ≡ Goes (state_of rest (record (onwards old.top) { output = output }))
-  text_written target x c text output is_alone e f g h =
+  pub text_written : (code : Code) (target : Option ℕ) (x c : ℕ) (text output : List ℕ) (is_alone : Bool) → slice_get old.top.vars x ≡ Some (Object c) → content_at old.cells c ≡ Some (StrCell text) → is_alone ≡ true → output ≡ old.output ++ text → written code target x is_alone s ≡ Goes (state_of rest (record (onwards old.top) { output = output }))
+  text_written code target x c text output is_alone e f g h =
       word_at x (Object c) _ e
-      ∙ ap (λ o. if_some true s fault.Dead o (λ content. cond is_alone (applied true s target (step.effect (Io Write) (step.Cell c content ∷ []))) (step.faulted true s fault.Kind))) f
-      ∙ ap (λ b. cond b (applied true s target (step.Writes text)) (step.faulted true s fault.Kind)) g
+      ∙ ap (λ o. if_some true s fault.Dead o (λ content. step.if_true true s (is_holding AText (Cell c content)) (cond is_alone (applied true s target s.top.ledger [] (step.effect code s (Io Write) (Cell c content ∷ []))) (step.faulted true s fault.Kind)))) f
+      ∙ ap (λ b. cond b (applied true s target s.top.ledger [] (step.Writes text)) (step.faulted true s fault.Kind)) g
+      ∙ ap (λ cells. Goes (next_line (record s { cells = cells; output = s.output ++ text }))) (release-nothing refs_in s.cells)
       ∙ ap (λ out. Goes (next_line (record s { output = out }))) (append_assoc rest.handed old.output text ∙ ap (λ t. rest.handed ++ t) (sym h))
 
 -- a cell is made, which the frame owns and the target refers to
-pub cell_made : (rest : Rest) (old : State) (target : Option ℕ) (content : machine.Content) (number : ℕ) (cells : Cells machine.Content) (ledger : List ℕ) (top : Frame) → number ≡ length old.cells → cells ≡ make content old.cells → ledger ≡ old.top.ledger ++ number ∷ [] → top ≡ with_target target (Object number) (record old.top { ledger = ledger }) → applied true (state_of rest old) target (Makes content) ≡ Goes (state_of rest (record old { cells = cells; top = record top { place = top.place + 1 } }))
+pub cell_made : (rest : Rest) (old : State) (target : Option ℕ) (content : machine.Content) (number : ℕ) (cells : Cells machine.Content) (ledger : List ℕ) (top : Frame) → number ≡ length old.cells → cells ≡ make content old.cells → ledger ≡ more number old.top.ledger → top ≡ with_target target (Object number) (record old.top { ledger = ledger }) → applied true (state_of rest old) target old.top.ledger [] (Makes content) ≡ Goes (state_of rest (record old { cells = cells; top = record top { place = top.place + 1 } }))
 cell_made rest old None content number cells ledger top n c l t =
-    sym (ap (λ f. Goes (state_of rest (record old { cells = cells; top = record f { place = f.place + 1 } }))) t ∙ ap (λ h. Goes (state_of rest (record old { cells = h; top = record old.top { place = old.top.place + 1; ledger = ledger } }))) c ∙ ap (λ d. Goes (state_of rest (record old { cells = make content old.cells; top = record old.top { place = old.top.place + 1; ledger = d } }))) (l ∙ ap (λ m. old.top.ledger ++ m ∷ []) n))
+    sym (ap (λ f. Goes (state_of rest (record old { cells = cells; top = record f { place = f.place + 1 } }))) t ∙ ap (λ h. Goes (state_of rest (record old { cells = h; top = record old.top { place = old.top.place + 1; ledger = ledger } }))) c ∙ ap (λ d. Goes (state_of rest (record old { cells = make content old.cells; top = record old.top { place = old.top.place + 1; ledger = d } }))) (l ∙ ap (λ m. more m old.top.ledger) n))
 cell_made rest old (Some x) content number cells ledger top n c l t =
-    let made : State = record old { cells = make content old.cells; top = record old.top { ledger = old.top.ledger ++ length old.cells ∷ [] } } in
+    let made : State = record old { cells = make content old.cells; top = record old.top { ledger = more (length old.cells) old.top.ledger } } in
     ap Goes (set_is rest made x (Object (length old.cells)))
     ∙ sym (ap (λ f. Goes (state_of rest (record old { cells = cells; top = record f { place = f.place + 1 } }))) t
     ∙ ap (λ h. Goes (state_of rest (record old { cells = h; top = record old.top { place = old.top.place + 1; ledger = ledger; vars = slice_set old.top.vars x (Object number) } }))) c
     ∙ ap (λ d. Goes (state_of rest (record old { cells = make content old.cells; top = record old.top { place = old.top.place + 1; ledger = d; vars = slice_set old.top.vars x (Object number) } }))) l
-    ∙ ap (λ m. Goes (state_of rest (record old { cells = make content old.cells; top = record old.top { place = old.top.place + 1; ledger = old.top.ledger ++ m ∷ []; vars = slice_set old.top.vars x (Object m) } }))) n)
+    ∙ ap (λ m. Goes (state_of rest (record old { cells = make content old.cells; top = record old.top { place = old.top.place + 1; ledger = more m old.top.ledger; vars = slice_set old.top.vars x (Object m) } }))) n)
 
 -- ---- the arguments of a write
 pub only_write : (p : IoPrim) → p ≡ Write
 only_write Write = refl
 
-call_is : (s : MachineState) (target : Option ℕ) (args : List CArg) (x : ℕ) (alone : Bool) → slice_get args 0 ≡ Some (arg.Var x) → alone ≡ eqb (length args) 1 → primitive_step true s target args (Io Write) ≡ written target x alone s
-call_is s target [] x alone e is = absurd (cc)
-call_is s target (a ∷ []) x alone e is =
+call_is : (code : Code) (s : MachineState) (target : Option ℕ) (args : List CArg) (x : ℕ) (alone : Bool) → slice_get args 0 ≡ Some (arg.Var x) → alone ≡ eqb (length args) 1 → primitive_step true s code target args (Io Write) ≡ written code target x alone s
+call_is code s target [] x alone e is = absurd (cc)
+call_is code s target (a ∷ []) x alone e is =
     let first : a ≡ arg.Var x = cc in
     let yes : alone ≡ true = is ∙ grind (arith, nat_tests) in
-    ap (λ b. primitive_step true s target (b ∷ []) (Io Write)) first ∙ ap (λ b. written target x b s) (sym yes)
-call_is s target (a ∷ b ∷ more) x alone e is =
+    ap (λ b. primitive_step true s code target (b ∷ []) (Io Write)) first ∙ ap (λ b. written code target x b s) (sym yes)
+call_is code s target (a ∷ b ∷ more) x alone e is =
     let first : a ≡ arg.Var x = cc in
     let no : alone ≡ false = is ∙ grind (arith, nat_tests) in
-    ap (λ d. primitive_step true s target (d ∷ b ∷ more) (Io Write)) first ∙ ap (λ d. written target x d s) (sym no)
+    ap (λ d. primitive_step true s code target (d ∷ b ∷ more) (Io Write)) first ∙ ap (λ d. written code target x d s) (sym no)
 
-pub call_writes : {E : Type 0} (target : Option ℕ) (args : List CArg) (x : ℕ) (alone : Bool) (p : Prim) (old new : State) (r : Result (Option Ending) E) → p ≡ Io Write → slice_get args 0 ≡ Some (arg.Var x) → alone ≡ eqb (length args) 1 → IfOk r (λ ending. (t : Option ℕ) → Follows (written t x alone) ending old new) → IfOk r (λ ending. Follows (λ s. primitive_step true s target args p) ending old new)
+pub call_writes : {E : Type 0} (target : Option ℕ) (args : List CArg) (x : ℕ) (alone : Bool) (p : Prim) (old new : State) (r : Result (Option Ending) E) → p ≡ Io Write → slice_get args 0 ≡ Some (arg.Var x) → alone ≡ eqb (length args) 1 → IfOk r (λ ending. (code : Code) (t : Option ℕ) → Follows (written code t x alone) ending old new) → IfOk r (λ ending. (code : Code) → Follows (λ s. called true s code target args p) ending old new)
 call_writes target args x alone p old new (Ok ending) e f g h =
-    λ rest. ap (λ q. primitive_step true (state_of rest old) target args q) e ∙ call_is (state_of rest old) target args x alone f g ∙ h target rest
+    λ code rest. ap (λ q. called true (state_of rest old) code target args q) e ∙ call_is code (state_of rest old) target args x alone f g ∙ h code target rest
 call_writes target args x alone p old new (Err failed) e f g h = tt
 
--- ---- a word that leaves the module
-there : {A : Type 0} (o : Option A) → is_some o ≡ true → (a : A) × (o ≡ Some a)
-there None e = absurd (cc)
-there (Some a) e = (a, refl)
+-- ---- a reference that is given up
+none_owned : (s : MachineState) (c n : ℕ) (go : Next) → nat_lt 0 n ≡ false → if_any true s n go ≡ Ends (Faulted fault.NotOwned) s
+none_owned s c zero go e = refl
+none_owned s c (suc n) go e = absurd (grind (arith, nat_tests, e))
 
-module _ (s : MachineState) where
-  leaks : (l : List ℕ) (go : Next) → 0 < length l → if_none_left true s l go ≡ Ends (Faulted fault.Leak) s
-  leaks [] go lt = absurd (omega arith)
-  leaks (c ∷ l) go lt = refl
+live_content : {A : Type 0} (o : Option A) → is_some o ≡ true → (a : A) × (o ≡ Some a)
+live_content None e = absurd (cc)
+live_content (Some a) e = (a, refl)
 
-  leaks_not : (l : List ℕ) (go : Next) → length l ≤ 0 → if_none_left true s l go ≡ go
-  leaks_not [] go le = refl
-  leaks_not (c ∷ l) go le = absurd (omega arith)
-
-  taken_out : (c : ℕ) (go : List ℕ → Next) (content : machine.Content) (l : List ℕ) → content_at s.cells c ≡ Some content → without c s.top.ledger ≡ Some l → if_content true s c (λ x. if_taken true s c s.top.ledger go) ≡ go l
-  taken_out c go content l e f =
-      ap (λ o. if_some true s fault.Dead o (λ x. if_taken true s c s.top.ledger go)) e
-      ∙ ap (λ o. if_some true s fault.NotOwned o go) f
-
-module _ (rest : Rest) (old : State) (c n : ℕ) where
-  pub cell_leaks : is_some (content_at old.cells c) ≡ true → is_some (without c old.top.ledger) ≡ true → n ≡ length old.top.ledger → 1 < n → left_with (ObjectCell c) (state_of rest old) ≡ Ends (Faulted fault.Leak) (state_of rest old)
-  cell_leaks live owned count more =
-      let content = there (content_at old.cells c) live in
-      let l = there (without c old.top.ledger) owned in
-      taken_out (state_of rest old) c _ content.0 l.0 content.1 l.1
-      ∙ leaks (state_of rest old) l.0 _ (omega (arith, without-length c old.top.ledger l.0 l.1))
-
-  pub cell_is_no_result : is_some (content_at old.cells c) ≡ true → is_some (without c old.top.ledger) ≡ true → n ≡ length old.top.ledger → n ≤ 1 → left_with (ObjectCell c) (state_of rest old) ≡ Ends (Faulted fault.Kind) (state_of rest old)
-  cell_is_no_result live owned count no_more =
-      let content = there (content_at old.cells c) live in
-      let l = there (without c old.top.ledger) owned in
-      taken_out (state_of rest old) c _ content.0 l.0 content.1 l.1
-      ∙ leaks_not (state_of rest old) l.0 _ (omega (arith, without-length c old.top.ledger l.0 l.1))
+pub not_owned : (s : MachineState) (c : ℕ) → is_some (content_at s.cells c) ≡ true → nat_lt 0 (times s.top.ledger c) ≡ false → given_up true s c ≡ Ends (Faulted fault.NotOwned) s
+not_owned s c live none =
+    let content = live_content (content_at s.cells c) live in
+    ap (λ o. if_some true s fault.Dead o (λ x. step.if_taken true s c s.top.ledger (λ l. Goes (next_line (step.given true s (c ∷ []) (step.with_ledger l s)))))) content.1
+    ∙ none_owned s c (times s.top.ledger c) _ none

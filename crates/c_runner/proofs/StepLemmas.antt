@@ -1,64 +1,32 @@
--- What each step of the machine keeps: the output only grows, no frame waits, and a ledger's numbers are below the
--- number of the cells.
-use Rattle.std.proofs.Common.{◌≡◌, refl, sym, ◌∙◌, ap, subst, ℕ, zero, suc, ◌+◌, ◌-◌, ◌<◌, ◌≤◌, arith, true, List, [], ◌∷◌, ◌++◌, length, length-append, append_assoc, append-nil, Option, Some, None}
+-- What each step of the machine keeps: the output only grows, and no frame waits.
+use Rattle.std.proofs.Common.{◌≡◌, refl, sym, ◌∙◌, ap, ℕ, zero, suc, ◌+◌, ◌-◌, ◌≤◌, arith, true, List, [], ◌∷◌, ◌++◌, append_assoc, append-nil, Option, Some, None}
 use Rattle.std.specs.Option.{option_and_then}
 use Rattle.c_core.specs.declared.code.Line.{Line}
 use Rattle.c_core.specs.declared.code.Line.TheVariants.{Lit, Call, Return, Dec}
 use Rattle.c_core.specs.declared.code.Code.{Code}
 use Rattle.c_core.specs.declared.fault.Fault.{Fault}
 use Rattle.c_core.specs.declared.fault.Fault.TheVariants as fault
-use Rattle.c_core.specs.Cells.{Cell, Cells, same, change, lowered, content_at}
-use Rattle.c_core.specs.Release.{after, freed, weight, release_some}
-use Rattle.c_core.specs.Machine.{Word, ShortInt, BigInt, CharWord, ObjectCell, NoneObject, TrueObject, FalseObject, Content, ExcCell, refs_in, Ledger, Frame, MachineState}
+use Rattle.c_core.specs.Arguments.{stolen}
+use Rattle.c_core.specs.Ledgers.{Ledger}
+use Rattle.c_core.specs.Laws.{Reaches, Here, There}
+use Rattle.c_core.specs.Machine.{Word, ShortInt, BigInt, ObjectCell, NoneObject, TrueObject, FalseObject, Content, Frame, MachineState}
 use Rattle.c_core.specs.Primitives.{row_of, primitive_named}
-use Rattle.c_core.specs.Step.{Next, Goes, Ends, Faulted, Effect, Wrong, Makes, Writes, effect, next_line, literal_word, kind_of, keep_or_drop, without, applied, made_cell, given_up, decremented, if_result, if_none_left, raised_by, ended, to_caller, step_at, line_at, step}
+use Rattle.c_core.specs.Step.{Next, Goes, Ends, Faulted, Effect, Wrong, Makes, Writes, effect, with_ledger, next_line, literal_word, kind_of, applied, made_cell, given_up, decremented, if_return, if_result, if_none_left, step_at, line_at, step}
 use Rattle.c_core.specs.Run.{Stop, go_on}
-use Rattle.c_core.proofs.StepCases.{at_some, at_calm, at_content, at_taken, at_word, at_arguments, at_order, at_none_left}
-use Rattle.c_runner.specs.States.{AreBelow}
-
--- ---- numbers below a bound
-below_more : (n m : ℕ) (ds : List ℕ) → n ≤ m → AreBelow n ds → AreBelow m ds
-below_more n m [] le b = tt
-below_more n m (d ∷ ds) le b = (omega (arith, b.0), below_more n m ds le b.1)
-
-below_append : (n : ℕ) (ds : List ℕ) → AreBelow n ds → AreBelow (n + 1) (ds ++ n ∷ [])
-below_append n [] b = (omega arith, tt)
-below_append n (d ∷ ds) b = (omega (arith, b.0), below_append n ds b.1)
-
-below_kept : (k n d : ℕ) (ds l : List ℕ) (o : Option Ledger) → d < n → AreBelow n ds → ((r : List ℕ) → o ≡ Some r → AreBelow n r) → keep_or_drop k d ds o ≡ Some l → AreBelow n l
-below_kept zero n d ds l None lt b h e = absurd (cc)
-below_kept zero n d ds l (Some r) lt b h e = let is : d ∷ r ≡ l = cc in subst (AreBelow n) is (lt, h r refl)
-below_kept (suc k) n d ds l o lt b h e = let is : ds ≡ l = cc in subst (AreBelow n) is b
-
-below_without : (n c : ℕ) (ds l : List ℕ) → AreBelow n ds → without c ds ≡ Some l → AreBelow n l
-below_without n c [] l b e = absurd (cc)
-below_without n c (d ∷ ds) l b e = below_kept (same d c) n d ds l (without c ds) b.0 b.1 (λ r. below_without n c ds r b.1) e
-
--- ---- as many cells as before
-module _ {X : Type 0} where
-  length-change : (f : Option (Cell X) → Option (Cell X)) (w : ℕ) (h : Cells X) → length (change f w h) ≡ length h
-  length-change f w [] = refl
-  length-change f zero (o ∷ h) = omega arith
-  length-change f (suc w) (o ∷ h) = omega (arith, length-change f w h)
-
-  length-release : (words : X → List ℕ) (n : ℕ) (h : Cells X) (refs : List ℕ) → length (release_some words n h refs) ≡ length h
-  length-release words zero h refs = refl
-  length-release words (suc n) h [] = refl
-  length-release words (suc n) h (w ∷ refs) = length-release words n (after w h) (freed words w h ++ refs) ∙ length-change lowered w h
+use Rattle.c_core.proofs.StepCases.{at_some, at_given_up, at_word, at_called, at_order, at_ended, at_result}
 
 -- ---- a step
 pub record Keeps (s t : MachineState) : Type 0 where
   pub more : List ℕ
   pub grown : t.output ≡ s.output ++ more
   pub alone : t.below ≡ []
-  pub newest : AreBelow (length t.cells) t.top.ledger
 
 -- where a run ends its state stays
 abbrev pub KeepsTo : MachineState → Next → Type 0
 KeepsTo s (Goes t) = Keeps s t
 KeepsTo s (Ends e t) = t ≡ s
 
-module _ (s : MachineState) (alone : s.below ≡ []) (newest : AreBelow (length s.cells) s.top.ledger) where
+module _ (s : MachineState) (alone : s.below ≡ []) where
   abbrev To : Next → Type 0
   To = KeepsTo s
 
@@ -66,32 +34,19 @@ module _ (s : MachineState) (alone : s.below ≡ []) (newest : AreBelow (length 
   bad f = refl
 
   on : Keeps s (next_line s)
-  on = record { more = []; grown = sym (append-nil s.output); alone = alone; newest = newest }
+  on = record { more = []; grown = sym (append-nil s.output); alone = alone }
 
-  owned_too : (content : Content) → AreBelow (length (s.cells ++ Some (record { count = 1; content = content }) ∷ [])) (s.top.ledger ++ length s.cells ∷ [])
-  owned_too content =
-      let longer : length (s.cells ++ Some (record { count = 1; content = content }) ∷ []) ≡ length s.cells + 1 = omega (arith, length-append s.cells (Some (record { count = 1; content = content }) ∷ [])) in
-      subst (λ n. AreBelow n (s.top.ledger ++ length s.cells ∷ [])) (sym longer) (below_append (length s.cells) s.top.ledger newest)
+  made_on : (x : Option ℕ) (l : Ledger) (content : Content) → Keeps s (next_line (made_cell true s x content (with_ledger l s)))
+  made_on None l content = record { more = []; grown = sym (append-nil s.output); alone = alone }
+  made_on (Some x) l content = record { more = []; grown = sym (append-nil s.output); alone = alone }
 
-  made_on : (x : Option ℕ) (content : Content) → Keeps s (next_line (made_cell true s x content))
-  made_on None content = record { more = []; grown = sym (append-nil s.output); alone = alone; newest = owned_too content }
-  made_on (Some x) content = record { more = []; grown = sym (append-nil s.output); alone = alone; newest = owned_too content }
-
-  applied_on : (x : Option ℕ) (e : Effect) → To (applied true s x e)
-  applied_on x Wrong = refl
-  applied_on x (Makes content) = made_on x content
-  applied_on x (Writes text) = record { more = text; grown = refl; alone = alone; newest = newest }
+  applied_on : (x : Option ℕ) (l : Ledger) (gone : List ℕ) (e : Effect) → To (applied true s x l gone e)
+  applied_on x l gone Wrong = refl
+  applied_on x l gone (Makes content) = made_on x l content
+  applied_on x l gone (Writes text) = record { more = text; grown = refl; alone = alone }
 
   given_on : (c : ℕ) → To (given_up true s c)
-  given_on c =
-      at_content s To bad c _
-      (λ x e. at_taken s To bad c s.top.ledger _
-      (λ l took. record {
-        more = [];
-        grown = sym (append-nil s.output);
-        alone = alone;
-        newest = subst (λ n. AreBelow n l) (sym (length-release refs_in (length (c ∷ []) + weight refs_in s.cells) s.cells (c ∷ []))) (below_without (length s.cells) c s.top.ledger l newest took);
-      }))
+  given_on c = at_given_up s To bad c (λ l took. record { more = []; grown = sym (append-nil s.output); alone = alone })
 
   decremented_on : (w : Word) → To (decremented true s w)
   decremented_on (ShortInt n) = on
@@ -102,37 +57,19 @@ module _ (s : MachineState) (alone : s.below ≡ []) (newest : AreBelow (length 
   decremented_on FalseObject = on
   decremented_on _ = refl
 
-  raised_ends : (o : Option Content) → To (raised_by true s o)
-  raised_ends (Some (ExcCell class text)) = refl
-  raised_ends _ = refl
-
-  ended_ends : (w : Word) (o : Option ℕ) → To (ended true s w o)
-  ended_ends (CharWord (suc zero)) None = refl
-  ended_ends (CharWord (suc (suc zero))) (Some c) = raised_ends (content_at s.cells c)
-  ended_ends _ _ = refl
-
-  caller_ends : (w : Word) (fs : List Frame) → fs ≡ [] → To (to_caller true s w fs)
-  caller_ends w [] e = ended_ends w s.pending
-  caller_ends w (f ∷ fs) e = absurd (cc)
-
-  left_ends : (w : Word) (l : Ledger) → To (if_none_left true s l (to_caller true s w s.below))
-  left_ends w l = at_none_left s To bad l _ (λ nil. caller_ends w s.below alone)
-
-  result_ends : (w : Word) → To (if_result true s w (λ l. if_none_left true s l (to_caller true s w s.below)))
-  result_ends (BigInt c) = at_content s To bad c _ (λ x e. at_taken s To bad c s.top.ledger _ (λ l took. left_ends (BigInt c) l))
-  result_ends (ObjectCell c) = at_content s To bad c _ (λ x e. at_taken s To bad c s.top.ledger _ (λ l took. left_ends (ObjectCell c) l))
-  result_ends w = left_ends w s.top.ledger
+  return_ends : (w : Word) (fs : List Frame) → fs ≡ [] → To (if_return true s w fs (λ next. if_result true s w (λ l. if_none_left true s l next)))
+  return_ends w [] e = at_ended s To bad w s.pending _ (λ end. at_result s To bad w _ (λ all. refl))
+  return_ends w (f ∷ fs) e = absurd (cc)
 
   step_on : (code : Code) (o : Option Line) → To (step_at true code s o)
   step_on code None = refl
   step_on code (Some (Lit x l)) =
       at_some s To bad fault.Kind (option_and_then (λ k. literal_word k l) (kind_of code s.top x)) _
-      (λ w e. record { more = []; grown = sym (append-nil s.output); alone = alone; newest = newest })
+      (λ w e. record { more = []; grown = sym (append-nil s.output); alone = alone })
   step_on code (Some (Call x name args)) =
-      at_calm s To bad s.pending _
-      (λ calm. at_some s To bad fault.Kind (primitive_named name) _
-      (λ p e. at_arguments s To bad (row_of p).parameters args _ (λ all. applied_on x (effect p all))))
-  step_on code (Some (Return x)) = at_word s To bad x _ (λ w e. at_order s To bad w s.pending _ (result_ends w))
+      at_some s To bad fault.Kind (primitive_named name) _
+      (λ p e. at_called s To bad code x args p (λ all l left. applied_on x l (stolen (row_of p).parameters all) (effect code s p all)))
+  step_on code (Some (Return x)) = at_word s To bad x _ (λ w e. at_order s To bad w s.pending _ (return_ends w s.below alone))
   step_on code (Some (Dec x)) = at_word s To bad x _ (λ w e. decremented_on w)
 
   pub step_keeps : (code : Code) → KeepsTo s (step code s)
@@ -160,9 +97,14 @@ module _ (code : Code) where
       record { more = []; grown = ap (λ z. z.state.output) (sym same_stop) ∙ ap (λ z. z.output) kept ∙ sym (append-nil s.output) }
   grows_after zero (Goes t) s stop kept is = absurd (cc)
   grows_after (suc k) (Goes t) s stop kept is =
-      let later = grows_after k (step code t) t stop (step_keeps t kept.alone kept.newest code) is in
+      let later = grows_after k (step code t) t stop (step_keeps t kept.alone code) is in
       record { more = kept.more ++ later.more; grown = later.grown ∙ ap (λ o. o ++ later.more) kept.grown ∙ append_assoc s.output kept.more later.more }
 
-  pub grows : (k : ℕ) (s : MachineState) (stop : Stop) → s.below ≡ [] → AreBelow (length s.cells) s.top.ledger → go_on (step code) k (Goes s) ≡ Some stop → Grows s stop.state
-  grows k s stop alone newest is =
-      grows_after (k - 1) (step code s) s stop (step_keeps s alone newest code) (sym (one_taken k s (some_left k s stop is)) ∙ is)
+  pub grows : (k : ℕ) (s : MachineState) (stop : Stop) → s.below ≡ [] → go_on (step code) k (Goes s) ≡ Some stop → Grows s stop.state
+  grows k s stop alone is =
+      grows_after (k - 1) (step code s) s stop (step_keeps s alone code) (sym (one_taken k s (some_left k s stop is)) ∙ is)
+
+  -- a step more
+  pub one_further : (k : ℕ) (s t u : MachineState) → Reaches code k s t → step code t ≡ Goes u → Reaches code (k + 1) s u
+  one_further k s t u (Here w) e = There 0 s u u e (Here u)
+  one_further k s t u (There j a b w f r) e = There (j + 1) a b u f (one_further j b w u r e)

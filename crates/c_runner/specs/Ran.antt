@@ -4,16 +4,13 @@ use Rattle.value_core.specs.Items.{Items, AtEof, AtFailure, input_items}
 use Rattle.outside_core.specs.Bytes.{TakesFront, bytes_between}
 use Rattle.outside_core.specs.Counts.{count_end, has_risen, one_more}
 use Rattle.c_core.specs.declared.code.Code.{Code}
-use Rattle.c_core.specs.Step as step
+use Rattle.value_core.specs.Ending as source
+use Rattle.c_core.specs.Step.{Ended}
 use Rattle.c_core.specs.Run.{Stop}
 use Rattle.c_runner.specs.declared.report.Report.{Report}
 use Rattle.c_runner.specs.declared.report.RunError.{RunError}
 use Rattle.c_runner.specs.declared.report.RunError.TheVariants.{InputFault, WriteFault, Memory}
 use Rattle.c_runner.specs.Report.{Reports}
-
--- the greatest number of turns: 2 ^ 63 - 1
-abbrev pub most_turns : ℕ
-most_turns = 9223372036854775807
 
 -- the lines that a source gave in a call: those of all that it told before where no read failed in the call, and else
 -- those of the bytes that it gave, behind which reading failed
@@ -33,7 +30,7 @@ abbrev pub Ran : Code → Stop → Bool → List ℕ → List ℕ → Result Rep
 Ran code stop tells before after (Ok report) =
     Reports code report stop × (IsTrue tells → after ≡ before ++ stop.state.output)
 Ran code stop tells before after (Err InputFault) =
-    (stop.ending ≡ step.Broken) × (IsTrue tells → after ≡ before ++ stop.state.output)
+    (stop.ending ≡ Ended source.Broken) × (IsTrue tells → after ≡ before ++ stop.state.output)
 Ran code stop tells before after (Err WriteFault) = IsTrue tells → TakesFront before after stop.state.output
 Ran code stop tells before after (Err Memory) = IsTrue tells → TakesFront before after stop.state.output
 

@@ -1,11 +1,12 @@
 -- When a report is that of a run.
 use Rattle.std.specs.Prelude.{◌≡◌, ℕ, List, [], ◌∷◌, Option, Some, None, codes, slice_get}
-use Rattle.value_core.specs.Exceptions.{class_name}
+use Rattle.value_core.specs.Exceptions.{class_name, thrown}
+use Rattle.value_core.specs.Ending as source
 use Rattle.c_core.specs.declared.code.CClass.{CClass}
 use Rattle.c_core.specs.declared.code.Code.{Code}
 use Rattle.c_core.specs.Cells.{Cells}
 use Rattle.c_core.specs.Machine.{Content, IntCell, StrCell, ListCell, DictCell, TupleCell, InstCell, ExcCell}
-use Rattle.c_core.specs.Step as step
+use Rattle.c_core.specs.Step.{MachineEnding, Ended, Faulted}
 use Rattle.c_core.specs.Run.{Stop}
 use Rattle.c_runner.specs.declared.report.Ending.{Ending}
 use Rattle.c_runner.specs.declared.report.Ending.TheVariants.{Done, Raised, Cut, Over, Fault}
@@ -13,12 +14,12 @@ use Rattle.c_runner.specs.declared.report.LiveCell.{LiveCell}
 use Rattle.c_runner.specs.declared.report.Report.{Report}
 
 -- the machine's ending of a report's
-abbrev pub ending_of : Ending → step.Ending
-ending_of Done = step.Done
-ending_of (Raised class text) = step.Raised class text
-ending_of Cut = step.Cut
-ending_of Over = step.Over
-ending_of (Fault f) = step.Faulted f
+abbrev pub ending_of : Ending → MachineEnding
+ending_of Done = Ended source.Done
+ending_of (Raised class text) = Ended (source.Raised (thrown class text))
+ending_of Cut = Ended source.Cut
+ending_of Over = Ended source.Over
+ending_of (Fault f) = Faulted f
 
 -- what a cell holds, by name: an instance by its class's, an exception by its own class's
 abbrev pub name_of_class : Option CClass → List ℕ
@@ -32,7 +33,7 @@ kind_name classes (ListCell items) = codes "List"
 kind_name classes (DictCell pairs) = codes "Dict"
 kind_name classes (TupleCell items) = codes "Tuple"
 kind_name classes (InstCell number attributes) = name_of_class (slice_get classes number)
-kind_name classes (ExcCell class text) = class_name class
+kind_name classes (ExcCell e) = class_name e.class
 
 -- the cells that are there, in the order in which they were made
 abbrev pub live_cells : List CClass → Cells Content → List LiveCell

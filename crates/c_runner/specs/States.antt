@@ -1,7 +1,8 @@
 -- The runner's state as the machine's, and what a step of it is.
-use Rattle.std.specs.Prelude.{◌≡◌, ℕ, ◌<◌, List, [], ◌∷◌, ◌++◌, Option, Some, None, map, slice_set}
+use Rattle.std.specs.Prelude.{◌≡◌, ℕ, ◌^◌, ◌<◌, List, [], ◌++◌, Option, Some, None, map, slice_set}
 use Rattle.value_core.specs.Items.{Items}
 use Rattle.c_core.specs.declared.code.Code.{Code}
+use Rattle.c_core.specs.Cells.{times}
 use Rattle.c_core.specs.Machine as machine
 use Rattle.c_core.specs.Machine.{MachineState}
 use Rattle.c_core.specs.Step.{Next, Goes, Ends}
@@ -51,7 +52,6 @@ next_of (Some e) s = Ends (ending_of e) s
 abbrev pub Follows : (MachineState → Next) → Option Ending → State → State → Type 0
 Follows does ending old new = (rest : Rest) → does (state_of rest old) ≡ next_of ending (state_of rest new)
 
--- each number of a ledger is below n
-abbrev pub AreBelow : ℕ → List ℕ → Type 0
-AreBelow n [] = Unit {0}
-AreBelow n (d ∷ ds) = (d < n) × AreBelow n ds
+-- no number stands so often in a ledger that the runner could not count it
+abbrev pub IsCountable : List ℕ → Type 0
+IsCountable l = (c : ℕ) → times l c < 2 ^ 128

@@ -1,73 +1,75 @@
 use std::alloc::Global;
-use std::collections::BTreeSet;
+use std::collections::BTreeMap;
 use std::marker::Model;
 use value_core::Memory;
 
-/// The cells that a frame owns, by their numbers. So far a frame owns each cell at most once, and makes each cell that
-/// it owns, so the numbers ascend; they are found in a time that grows only with the logarithm of their number.
-/// Contracts see the list of the numbers.
+/// The cells that a frame owns, by their numbers: for each how often the frame owns it beyond the first time. Contracts
+/// see the list of the numbers, each as often as it is owned.
 #[derive(Drop)]
 pub(crate) struct Ledger {
-    numbers: BTreeSet<usize>,
+    further: BTreeMap<usize, u128>,
 }
 
 impl Model for Ledger {
     ghost use Rattle.std.specs.Prelude.{ℕ, List};
+    ghost use Rattle.c_runner.specs.Ledgers.{numbers_of};
 
     ghost Value = { List ℕ };
 
-    ghost view = { λ ledger. ledger.numbers.keys };
+    ghost view = { λ ledger. numbers_of ledger.further.entries };
 }
 
 impl Ledger {
-    ghost use Rattle.std.specs.Prelude.{◌≡◌, ◌↔◌, [], ◌∷◌, ◌++◌, length, Some, None, is_some, false, IsTrue, if◌then◌else◌, OnOk};
-    ghost use Rattle.c_core.specs.Step.{without};
-    ghost use Rattle.c_runner.specs.States.{AreBelow};
+    ghost use Rattle.std.specs.Prelude.{◌≡◌, ◌↔◌, ◌<◌, ◌^◌, [], false, nat_lt, IsTrue, OnOk};
+    ghost use Rattle.c_core.specs.Cells.{times};
+    ghost use Rattle.c_core.specs.Ledgers.{more, without};
 
     /// Nothing is owned. It takes no memory.
     pub fn new(alloc: Global) -> Ledger
         ensures { result ≡ [] }
     {
         Ledger {
-            numbers: BTreeSet::new(alloc),
+            further: BTreeMap::new(alloc),
         }
     }
 
-    /// Adds a cell that is newer than all others.
+    /// Adds one reference to a cell.
     pub fn add(&mut self, c: usize) -> Result<(), Memory>
-        requires newest { AreBelow c self.old }
-        ensures ok { OnOk result (self.new ≡ self.old ++ c ∷ []) }
+        requires countable { times self.old c < 2 ^ 128 }
+        ensures { OnOk result (self.new ≡ more c self.old) }
     {
-        self.numbers.insert(c)?;
+        let further = match self.further.get(&c) {
+            None => 0,
+            Some(further) => *further + 1,
+        };
+        self.further.insert(c, further)?;
         Ok(())
     }
 
-    /// Takes a cell out, and says whether it was there.
+    /// Takes one reference to a cell out, and says whether there was one.
     pub fn take(&mut self, c: usize) -> bool
-        ensures taken { without c self.old ≡ (if result then Some self.new else None) }
+        ensures owned { result ≡ nat_lt 0 (times self.old c) }
+        ensures taken { self.new ≡ without c self.old }
         ensures kept { result ≡ false → self.new ≡ self.old }
     {
-        self.numbers.remove(&c)
-    }
-
-    /// Whether a cell is there.
-    pub fn owns(&self, c: usize) -> bool
-        ensures { result ≡ is_some (without c self.now) }
-    {
-        self.numbers.contains(&c)
+        let is_last = match self.further.get_mut(&c) {
+            None => return false,
+            Some(further) => {
+                if *further > 0 {
+                    *further -= 1;
+                    return true;
+                }
+                true
+            }
+        };
+        self.further.remove(&c);
+        is_last
     }
 
     /// Whether nothing is owned.
     pub fn is_empty(&self) -> bool
         ensures { IsTrue result ↔ (self.now ≡ []) }
     {
-        self.numbers.is_empty()
-    }
-
-    /// How many cells there are.
-    pub fn len(&self) -> usize
-        ensures { result ≡ length self.now }
-    {
-        self.numbers.len()
+        self.further.is_empty()
     }
 }

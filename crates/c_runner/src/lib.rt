@@ -16,9 +16,8 @@ mod report;
 mod runner;
 mod state;
 mod step;
-#[cfg(test)]
-mod tests;
 mod words;
 
+pub use c_core::Fault;
 pub use report::{Ending, LiveCell, Report, RunError};
 pub use runner::run;

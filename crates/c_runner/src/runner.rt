@@ -1,13 +1,13 @@
 ghost use Rattle.std.specs.Prelude.{◌≡◌, ◌≤◌, Some, IsErrOf};
 ghost use Rattle.outside_core.specs.Counts.{Rose};
 ghost use Rattle.value_core.specs.Items.{Items};
-ghost use Rattle.c_core.specs.Run.{Stop, machine_run, most_steps, most_lines};
+ghost use Rattle.c_core.specs.Run.{Stop, machine_run, most_turns, most_steps, most_lines};
 ghost use Rattle.c_core.specs.WellFormed.{WellFormed};
-ghost use Rattle.c_runner.specs.Ran.{AreGiven, Ran, most_turns, faults_of_out};
+ghost use Rattle.c_runner.specs.Ran.{AreGiven, Ran, faults_of_out};
 
 use crate::report::{Report, RunError};
 use crate::state::State;
-use c_core::{CFunc, Code, run_exists};
+use c_core::{CFunc, Code, run_exists, run_keeps_counts, run_stays_small};
 use outside_core::{Sink, Source};
 use std::alloc::Global;
 
@@ -31,6 +31,8 @@ pub fn run<I: Source, O: Sink>(
     ensures out_faults { O.faults out.new ≡ faults_of_out result (O.faults out.old) }
 {
     run_exists();
+    run_keeps_counts();
+    run_stays_small();
     let mut state = State::start(alloc, code, turns)?;
     // A well-formed code stops before these steps are taken.
     let mut left = most_steps(code, turns);

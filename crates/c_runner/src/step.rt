@@ -1,11 +1,12 @@
 //! One step of a run, with the tests in the machine's order. At a fault the state is as it was before the line.
-ghost use Rattle.std.specs.Prelude.{◌≡◌, ℕ, ◌+◌, ◌^◌, ◌<◌, true, length, Option, Some, IfOk, slice_get};
+ghost use Rattle.std.specs.Prelude.{◌≡◌, ℕ, ◌+◌, ◌^◌, ◌<◌, true, [], Option, Some, IfOk, slice_get};
 ghost use Rattle.std.specs.Option.{option_map, option_and_then};
 ghost use Rattle.c_core.specs.declared.fault.Fault.TheVariants as fault;
-ghost use Rattle.c_core.specs.Machine.{StrCell, ObjectCell};
-ghost use Rattle.c_core.specs.Step.{Goes, Makes, literal_word, with_var, next_line, if_some, word_of, applied, primitive_step, given_up, decremented, returned, step};
-ghost use Rattle.c_runner.specs.States.{Follows, AreBelow};
-ghost use Rattle.c_runner.specs.Parts.{written, left_with};
+ghost use Rattle.c_core.specs.declared.code.Code.{Code};
+ghost use Rattle.c_core.specs.Machine.{StrCell};
+ghost use Rattle.c_core.specs.Step.{Goes, Makes, literal_word, with_var, next_line, if_some, word_of, applied, called, given_up, decremented, returned, step};
+ghost use Rattle.c_runner.specs.States.{Follows, IsCountable};
+ghost use Rattle.c_runner.specs.Parts.{written};
 
 use crate::cells::Content;
 use crate::report::Ending;
@@ -18,7 +19,7 @@ use value_core::{Memory, Text};
 impl State {
     /// What the next line does, and how the run ends if it ends there. Without memory the state is not said.
     pub fn step(&mut self, alloc: Global, code: &Code) -> Result<Option<Ending>, Memory>
-        requires { AreBelow (length self.old.cells) self.old.top.ledger }
+        requires { IsCountable self.old.top.ledger }
         ensures { IfOk result (λ ending. Follows (step code.now) ending self.old self.new) }
     {
         let Some(function) = code.funcs.get(self.top.func) else {
@@ -67,10 +68,10 @@ impl State {
         target: Option<usize>,
         args: &[CArg],
     ) -> Result<Option<Ending>, Memory>
-        requires newest { AreBelow (length self.old.cells) self.old.top.ledger }
+        requires countable { IsCountable self.old.top.ledger }
         requires place { self.old.top.place + 1 < 2 ^ 64 }
-        ensures { IfOk result (λ ending. Follows
-            (λ s. primitive_step true s target args.now primitive) ending self.old self.new) }
+        ensures { IfOk result (λ ending. (code : Code) → Follows
+            (λ s. called true s code target args.now primitive) ending self.old self.new) }
     {
         match primitive {
             Prim::Str(StrPrim::Literal) => match args {
@@ -91,10 +92,10 @@ impl State {
         target: Option<usize>,
         text: &Text,
     ) -> Result<Option<Ending>, Memory>
-        requires newest { AreBelow (length self.old.cells) self.old.top.ledger }
+        requires countable { IsCountable self.old.top.ledger }
         requires place { self.old.top.place + 1 < 2 ^ 64 }
         ensures { IfOk result (λ ending. Follows
-            (λ s. applied true s target (Makes (StrCell text.now))) ending self.old self.new) }
+            (λ s. applied true s target s.top.ledger [] (Makes (StrCell text.now))) ending self.old self.new) }
     {
         let number = self.cells.make(Content::Str(text.copy(alloc)?))?;
         self.top.ledger.add(number)?;
@@ -106,8 +107,8 @@ impl State {
     /// Writes the text of an object to the output. The object is tested before the number of the arguments.
     fn write(&mut self, x: usize, is_alone: bool) -> Result<Option<Ending>, Memory>
         requires { self.old.top.place + 1 < 2 ^ 64 }
-        ensures { IfOk result (λ ending. (target : Option ℕ) →
-            Follows (written target x is_alone) ending self.old self.new) }
+        ensures { IfOk result (λ ending. (code : Code) (target : Option ℕ) →
+            Follows (written code target x is_alone) ending self.old self.new) }
     {
         let Some(word) = self.top.vars.get(x) else {
             return Ok(Some(Ending::Fault(Fault::Kind)));
@@ -167,31 +168,16 @@ impl State {
         let Some(word) = self.top.vars.get(x) else {
             return Ending::Fault(Fault::Kind);
         };
-        if word.is_error() {
-            return Ending::Fault(Fault::Kind);
-        }
         match *word {
-            Word::Object(c) => self.leave_with_cell(c),
-            _ if !self.top.ledger.is_empty() => Ending::Fault(Fault::Leak),
-            Word::Char(1) => Ending::Done,
+            Word::Char(1) => {
+                if self.top.ledger.is_empty() {
+                    Ending::Done
+                } else {
+                    Ending::Fault(Fault::Leak)
+                }
+            }
             _ => Ending::Fault(Fault::Kind),
         }
-    }
-
-    /// Returns a cell from the module, whose result is no object.
-    fn leave_with_cell(&self, c: usize) -> Ending
-        ensures { Follows (left_with (ObjectCell c)) (Some result) self.now self.now }
-    {
-        if !self.cells.is_live(c) {
-            return Ending::Fault(Fault::Dead);
-        }
-        if !self.top.ledger.owns(c) {
-            return Ending::Fault(Fault::NotOwned);
-        }
-        if self.top.ledger.len() > 1 {
-            return Ending::Fault(Fault::Leak);
-        }
-        Ending::Fault(Fault::Kind)
     }
 }
 

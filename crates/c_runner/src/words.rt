@@ -1,7 +1,7 @@
 ghost use Rattle.std.specs.Prelude.{◌≡◌};
 ghost use Rattle.std.specs.Option.{option_map};
 ghost use Rattle.c_core.specs.Run.{error_word};
-ghost use Rattle.c_core.specs.Step.{literal_word, halved, char_word, is_error};
+ghost use Rattle.c_core.specs.Step.{literal_word, halved, char_word};
 ghost use Rattle.c_runner.specs.Words.{word_of};
 
 use c_core::{CLit, Kind};
@@ -77,12 +77,5 @@ impl Word {
             2 => Some(Word::Char(2)),
             _ => None,
         }
-    }
-
-    /// Whether it is the error value of its kind, and no ordinary value.
-    pub fn is_error(self) -> bool
-        ensures { result ≡ is_error (word_of self) }
-    {
-        matches!(self, Word::TaggedError | Word::Char(2) | Word::NoObject)
     }
 }

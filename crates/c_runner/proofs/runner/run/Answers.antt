@@ -1,7 +1,7 @@
 use Rattle.std.proofs.Common.{refl, ◌∙◌, arith}
 use Rattle.std.proofs.lemmas.Result.{err_from_is_err_and}
 use Rattle.outside_core.proofs.Fronts.{TakesFront-all}
-use Rattle.c_runner.proofs.Running.{at_start, can_step, front_so_far, front_of_held, stepped, handed_on, front_at_end, all_at_end, reported, nothing_taken, answers_memory, answers_fault, answers_report}
+use Rattle.c_runner.proofs.Running.{at_start, can_step, countable, front_so_far, front_of_held, stepped, handed_on, front_at_end, all_at_end, reported, nothing_taken, answers_memory, answers_fault, answers_report}
 use Rattle.c_runner.proofs.runner.run.Goals as goal
 
 pub returns-in_err-state-clause-ran : goal.returns-in_err-state-clause-ran
@@ -18,6 +18,11 @@ steps-init g c = record {
 
 pub overflow_sub-left : goal.overflow_sub-left
 overflow_sub-left g c = can_step _ _ _ _ _ _ _ _ c.steps.invariant.running c.run_exists.ensures c.requires.well_formed
+
+pub step-requires : goal.step-requires
+step-requires g c =
+    countable _ _ _ _ _ _ _ _ c.steps.invariant.running c.run_keeps_counts.ensures c.run_stays_small.ensures c.requires.well_formed
+    (omega (arith, c.most_steps-left.ensures))
 
 pub returns-in_err-step-clause-ran : goal.returns-in_err-step-clause-ran
 returns-in_err-step-clause-ran g c =
