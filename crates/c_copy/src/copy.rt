@@ -5,10 +5,11 @@ ghost use Rattle.c_core.specs.WellFormed.{WellFormed};
 ghost use Rattle.c_copy.specs.Copying.{Judges, JudgesBytes, faults_of_input, faults_of_out, status_number};
 
 use crate::input::read_input;
-use c_core::{Code, is_well_formed};
+use c_core::{Code, check_well_formed};
 use c_text::{TextError, read, write};
 use outside_core::{Failed, ReadError, Sink, Source, WriteFault};
 use std::alloc::Global;
+use value_core::Memory;
 
 /// How many bytes a text may have.
 const MOST_BYTES: usize = 16_777_216;
@@ -57,6 +58,17 @@ impl From<TextError> for CopyError {
     }
 }
 
+impl From<Memory> for CopyError {
+    ghost use Rattle.std.specs.Prelude.{◌≡◌};
+    ghost use Rattle.c_copy.specs.declared.copy.CopyError.TheVariants as errors;
+
+    ghost from_gives = { λ _ e. e ≡ errors.Memory };
+
+    fn from(_refused: Memory) -> CopyError {
+        CopyError::Memory
+    }
+}
+
 impl From<WriteFault> for CopyError {
     ghost use Rattle.std.specs.Prelude.{◌≡◌};
     ghost use Rattle.c_copy.specs.declared.copy.CopyError.TheVariants as errors;
@@ -86,7 +98,7 @@ fn code_of(alloc: Global, bytes: &[u8]) -> Result<Code, CopyError>
     ensures refused { IfErr result (JudgesBytes bytes.now) }
 {
     let code = read(alloc, bytes)?;
-    if is_well_formed(&code) {
+    if check_well_formed(alloc, &code)? {
         Ok(code)
     } else {
         Err(CopyError::TextRefused)

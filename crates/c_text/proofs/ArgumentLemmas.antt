@@ -13,14 +13,11 @@ use Rattle.c_core.specs.declared.code.CArg.TheVariants as arg
 use Rattle.c_core.specs.Text.{arg_text, arg_texts, joined, comma, var_text, byte_text}
 use Rattle.c_core.specs.WellFormed.{Declared, is_declared, is_identifier, spelled_arg}
 use Rattle.c_text.specs.Words.{HasNo, EndsArgument}
-use Rattle.c_text.specs.Variables.{Alike, Finds}
+use Rattle.c_text.specs.Variables.{Finds}
 use Rattle.c_text.specs.Statements.{AreNamed, IsWord, args_text, ArgsRemain}
 use Rattle.c_text.proofs.Bytes.{differ, and_true, HasNo-append, HasNo-identifier, comma_stops}
 use Rattle.c_text.proofs.Numbers.{not_number, not_number_front, number_is_some, HasNo-number}
 use Rattle.c_text.proofs.VariableLemmas.{declared_at, text_at}
-
-pub alike_is : {A : Type 0} (vars : List Declared) (text : A → List ℕ) (a b : A) → a ≡ b → Alike vars text a b
-alike_is vars text a b e = record { same = ap text e; only = λ own. e }
 
 -- ---- one argument that is a word
 
@@ -56,9 +53,9 @@ pub spelled_name : (vars : List Declared) (a b : CArg) → a ≡ b → IsTrue (s
 spelled_name vars a b e h = ap (spelled_arg vars) (sym e) ∙ h
 
 -- a variable that was found is the argument of its text
-pub variable_argument : (vars : List Declared) (a : CArg) (x : ℕ) (found : Option ℕ) → a ≡ arg.Var x → Finds vars (var_text vars) found x → MatchOption found ⊥ (λ y. Alike vars (arg_text vars) a (arg.Var y))
+pub variable_argument : (vars : List Declared) (a : CArg) (x : ℕ) (found : Option ℕ) → a ≡ arg.Var x → Finds (var_text vars) found x → MatchOption found ⊥ (λ y. arg_text vars a ≡ arg_text vars (arg.Var y))
 variable_argument vars a x None e f = f
-variable_argument vars a x (Some y) e f = record { same = ap (arg_text vars) e ∙ f.same; only = λ own. e ∙ ap arg.Var (f.only own) }
+variable_argument vars a x (Some y) e f = ap (arg_text vars) e ∙ f
 
 -- ---- where an argument ends
 
@@ -99,7 +96,7 @@ front_is_none : (xs rest : List ℕ) → xs ++ rest ≡ [] → xs ≡ []
 front_is_none [] rest e = refl
 front_is_none (x ∷ xs) rest e = absurd (cc)
 
-argument_is_some : (vars : List Declared) (a : CArg) (rest : List ℕ) → IsTrue (spelled_arg vars a) → arg_text vars a ++ rest ≢ []
+pub argument_is_some : (vars : List Declared) (a : CArg) (rest : List ℕ) → IsTrue (spelled_arg vars a) → arg_text vars a ++ rest ≢ []
 argument_is_some vars (arg.Var x) rest h e = let d = declared_at vars x h in differ (ap (λ t. t ++ rest) (sym (text_at vars x d.var d.at)) ∙ e) refl
 argument_is_some vars (arg.Number n) rest h e = number_is_some n h (front_is_none (signed_decimal n) rest e)
 argument_is_some vars (arg.Text t) rest h e = differ e refl
@@ -120,7 +117,7 @@ spelled_next vars front others all next e h =
 -- what reading the next argument finds
 abbrev pub FindsNext : List Declared → List ℕ → CArg → List ℕ → Type 0
 FindsNext vars left argument after =
-    (a : CArg) (rest : List ℕ) → IsTrue (spelled_arg vars a) → EndsArgument rest → arg_text vars a ++ rest ≡ left → Alike vars (arg_text vars) a argument × (after ≡ rest)
+    (a : CArg) (rest : List ℕ) → IsTrue (spelled_arg vars a) → EndsArgument rest → arg_text vars a ++ rest ≡ left → (arg_text vars a ≡ arg_text vars argument) × (after ≡ rest)
 
 pub grown : (vars : List Declared) (front read : List CArg) (a argument : CArg) → arg_texts vars front ≡ arg_texts vars read → arg_text vars a ≡ arg_text vars argument → arg_texts vars (front ++ a ∷ []) ≡ arg_texts vars (read ++ argument ∷ [])
 grown vars front read a argument p q =
@@ -140,21 +137,17 @@ args_turn {vars} {read} {all} {left} argument after next new h r finds behind pu
           next = b;
           others = more;
           whole = append_assoc r.front (r.next ∷ []) (b ∷ more) ∙ whole;
-          same = grown vars r.front read r.next argument r.same f.0.same ∙ ap (arg_texts vars) (sym pushed);
-          only = λ own. ap (λ t. t ++ r.next ∷ []) (r.only own) ∙ ap (λ t. read ++ t ∷ []) (f.0.only own) ∙ sym pushed;
+          same = grown vars r.front read r.next argument r.same f.0 ∙ ap (arg_texts vars) (sym pushed);
           written = append_cancel_left comma (args_text vars (b ∷ more)) next (sym f.1 ∙ behind);
         }
 
-pub args_end : {vars : List Declared} {read all : List CArg} {left : List ℕ} (argument : CArg) (after : List ℕ) (new : List CArg) → IsTrue (list_all (spelled_arg vars) all) → ArgsRemain vars read all left → FindsNext vars left argument after → after ≡ [] → new ≡ read ++ argument ∷ [] → Alike vars (args_text vars) all new
+pub args_end : {vars : List Declared} {read all : List CArg} {left : List ℕ} (argument : CArg) (after : List ℕ) (new : List CArg) → IsTrue (list_all (spelled_arg vars) all) → ArgsRemain vars read all left → FindsNext vars left argument after → after ≡ [] → new ≡ read ++ argument ∷ [] → args_text vars all ≡ args_text vars new
 args_end {vars} {read} {all} {left} argument after new h r finds over pushed = end r.others r.whole r.written
   where
-    end : (others : List CArg) → r.front ++ r.next ∷ others ≡ all → args_text vars (r.next ∷ others) ≡ left → Alike vars (args_text vars) all new
+    end : (others : List CArg) → r.front ++ r.next ∷ others ≡ all → args_text vars (r.next ∷ others) ≡ left → args_text vars all ≡ args_text vars new
     end [] whole written =
         let f = finds r.next [] (spelled_next vars r.front [] all r.next whole h) tt (append-nil (arg_text vars r.next) ∙ written) in
-        record {
-          same = ap (joined comma) (ap (arg_texts vars) (sym whole) ∙ grown vars r.front read r.next argument r.same f.0.same ∙ ap (arg_texts vars) (sym pushed));
-          only = λ own. sym whole ∙ ap (λ t. t ++ r.next ∷ []) (r.only own) ∙ ap (λ t. read ++ t ∷ []) (f.0.only own) ∙ sym pushed;
-        }
+        ap (joined comma) (ap (arg_texts vars) (sym whole) ∙ grown vars r.front read r.next argument r.same f.0 ∙ ap (arg_texts vars) (sym pushed))
     end (b ∷ more) whole written =
         let f = finds r.next (comma ++ args_text vars (b ∷ more)) (spelled_next vars r.front (b ∷ more) all r.next whole h) refl written in
         absurd (differ (sym over ∙ f.1) refl)
@@ -177,8 +170,8 @@ args_fail {vars} {read} {all} {left} h r fails = fail r.others r.whole r.written
     fail (b ∷ others) whole written = fails r.next (comma ++ args_text vars (b ∷ others)) (spelled_next vars r.front (b ∷ others) all r.next whole h) refl written
 
 -- no arguments are written as nothing, and only they
-pub args_of_none : (vars : List Declared) (args : List CArg) (text : List ℕ) → IsTrue (list_all (spelled_arg vars) args) → args_text vars args ≡ text → length text ≡ 0 → Alike vars (args_text vars) args []
-args_of_none vars [] text h e none = alike_is vars (args_text vars) [] [] refl
+pub args_of_none : (vars : List Declared) (args : List CArg) (text : List ℕ) → IsTrue (list_all (spelled_arg vars) args) → args_text vars args ≡ text → length text ≡ 0 → args_text vars args ≡ args_text vars []
+args_of_none vars [] text h e none = refl
 args_of_none vars (a ∷ []) text h e none =
     absurd (argument_is_some vars a [] (and_true (spelled_arg vars a) _ h).0 (append-nil (arg_text vars a) ∙ e ∙ nil_from_length text none))
 args_of_none vars (a ∷ b ∷ more) text h e none =

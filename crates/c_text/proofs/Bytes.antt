@@ -1,9 +1,9 @@
 -- Bytes that do not stand in a word, and where a word ends.
 use Rattle.std.proofs.Common.{◌≡◌, ◌≢◌, ◌∙◌, ℕ, ◌+◌, ◌-◌, ◌<◌, Bool, true, false, cond, List, [], ◌∷◌, ◌++◌, length, take, drop, get_or, Some, None, IsTrue, suc, refl, sym, ap, arith, append_assoc, length-append, inl, inr}
-use Rattle.std.specs.Prelude.{◌==◌, ◌||◌, ◌&&◌, not}
+use Rattle.std.specs.Prelude.{◌==◌, ◌||◌, ◌&&◌, not, codes}
 use Rattle.std.specs.List.{list_any, list_all, position_from}
 use Rattle.std.specs.Str.{bytes_eq, chars, is_utf8, IsUtf8}
-use Rattle.std.proofs.lemmas.List.{take_at, drop_at, take_all}
+use Rattle.std.proofs.lemmas.List.{append_cancel_left, append_cancel_right, take_at, drop_at, take_all}
 use Rattle.std.proofs.lemmas.List.Folds.{list_any-append}
 use Rattle.std.proofs.lemmas.Bool.{false≢true}
 use Rattle.std.proofs.lemmas.Bool.Decides.{Decides-eqb, eqb_tells}
@@ -13,6 +13,7 @@ use Rattle.std.proofs.lemmas.Str.{inside_one, encodes-chars, IsUtf8-from_is_utf8
 use lib.Utf8.{encodes, encode}
 use Rattle.unicode_ident.specs.Ident.{is_xid_continue}
 use Rattle.unicode_ident.proofs.Computing.{unicode_ident}
+use Rattle.c_core.specs.Text.{indented}
 use Rattle.c_core.specs.WellFormed.{is_identifier}
 use Rattle.c_text.specs.Words.{HasNo, EndsArgument}
 
@@ -59,7 +60,7 @@ no_place stop i (b ∷ bs) h =
     let parts = or_false (b == stop) _ h in
     ap (λ t. cond t (Some i) (position_from (λ x. x == stop) (i + 1) bs)) parts.0 ∙ no_place stop (i + 1) bs parts.1
 
-behind_at : (place : ℕ) (front back : List ℕ) (stop : ℕ) (bytes : List ℕ) → place ≡ length front → front ++ stop ∷ back ≡ bytes → (take place bytes ≡ front) × (take (length bytes - (place + 1)) (drop (place + 1) bytes) ≡ back)
+pub behind_at : (place : ℕ) (front back : List ℕ) (stop : ℕ) (bytes : List ℕ) → place ≡ length front → front ++ stop ∷ back ≡ bytes → (take place bytes ≡ front) × (take (length bytes - (place + 1)) (drop (place + 1) bytes) ≡ back)
 behind_at place front back stop bytes at e =
     let whole : (front ++ stop ∷ []) ++ back ≡ bytes = append_assoc front (stop ∷ []) back ∙ e in
     let len : length (front ++ stop ∷ []) ≡ place + 1 = omega (arith, length-append front (stop ∷ [])) in
@@ -183,3 +184,40 @@ not_found stop i (b ∷ bytes) e = split (not_found stop (i + 1) bytes) (b == st
         let q : Some i ≡ None = sym (ap (λ x. cond x (Some i) (position_from (λ b. b == stop) (i + 1) bytes)) t) ∙ e in absurd (cc)
     split later false t =
         ap (λ x. x || list_any (λ b. b == stop) bytes) t ∙ later (sym (ap (λ x. cond x (Some i) (position_from (λ b. b == stop) (i + 1) bytes)) t) ∙ e)
+
+-- ---- a byte parts a text in one way
+
+pub same_front : (stop : ℕ) (a b x y : List ℕ) → HasNo stop a → HasNo stop b → a ++ stop ∷ x ≡ b ++ stop ∷ y → (a ≡ b) × (x ≡ y)
+same_front stop [] [] x y p q e = (refl, ap (drop 1) e)
+same_front stop [] (d ∷ b) x y p q e =
+    let same : stop ≡ d = ap (λ l. get_or l 0 0) e in
+    absurd (false≢true (sym (or_false (d == stop) _ q).0 ∙ (Decides-eqb d stop).1 (sym same)))
+same_front stop (c ∷ a) [] x y p q e =
+    let same : c ≡ stop = ap (λ l. get_or l 0 0) e in
+    absurd (false≢true (sym (or_false (c == stop) _ p).0 ∙ (Decides-eqb c stop).1 same))
+same_front stop (c ∷ a) (d ∷ b) x y p q e =
+    let same : c ≡ d = ap (λ l. get_or l 0 0) e in
+    let rest = same_front stop a b x y (or_false (c == stop) _ p).1 (or_false (d == stop) _ q).1 (ap (drop 1) e) in
+    (ap (λ n. n ∷ a) same ∙ ap (λ xs. d ∷ xs) rest.0, rest.1)
+
+-- a byte that stands in one of two texts stands in the other
+pub not_in : (stop : ℕ) (u v rest : List ℕ) → HasNo stop u → u ≡ v ++ stop ∷ rest → ⊥
+not_in stop u v rest h e = stands v (sym (ap (list_any (λ b. b == stop)) e) ∙ h)
+  where
+    stands : (v : List ℕ) → HasNo stop (v ++ stop ∷ rest) → ⊥
+    stands [] k = false≢true (sym (or_false (stop == stop) _ k).0 ∙ same_byte stop)
+    stands (b ∷ v) k = stands v (or_false (b == stop) _ k).1
+
+-- ---- what stands inside a line
+
+pub inside_same : (a b : List ℕ) → indented a ≡ indented b → a ≡ b
+inside_same a b e = append_cancel_right a b (codes ";") (append_cancel_left (codes "    ") (a ++ codes ";") (b ++ codes ";") e)
+
+pub inside_ends : (piece rest : List ℕ) → piece ≡ codes "    " ++ rest → ((front : List ℕ) → rest ≢ front ++ codes ";") → (text : List ℕ) → indented text ≢ piece
+inside_ends piece rest p ends text e = ends text (sym (append_cancel_left (codes "    ") (text ++ codes ";") rest (e ∙ p)))
+
+pub inside_is : (piece rest text : List ℕ) → piece ≡ codes "    " ++ rest → rest ≡ text ++ codes ";" → indented text ≡ piece
+inside_is piece rest text p q = ap (λ t. codes "    " ++ t) (sym q) ∙ sym p
+
+pub inside_first : (piece : List ℕ) → ((rest : List ℕ) → piece ≢ codes "    " ++ rest) → (text : List ℕ) → indented text ≢ piece
+inside_first piece starts text e = starts (text ++ codes ";") (sym e)

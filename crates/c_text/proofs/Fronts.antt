@@ -52,3 +52,10 @@ taken_more old f xs i x d h p q r =
 pub front_more : {X : Type 0} {mid new : List ℕ} (old : List ℕ) (f : X → List ℕ) (xs ys : List X) (i : ℕ) (x d : X) → xs ≡ ys → i < length xs → x ≡ get_or xs i d → mid ≡ old ++ flat_map f (take i xs) → TakesFront mid new (f x) → TakesFront old new (flat_map f ys)
 front_more {new = new} old f xs ys i x d same h p q r =
     subst (λ text. TakesFront old new text) (sym (pieces_around f xs i x d h p) ∙ ap (flat_map f) same) (front_behind _ _ q (front_of_first _ r))
+
+-- the same of a text that is written in another way
+pub all_as : {old new text : List ℕ} (bytes : List ℕ) → bytes ≡ text → TakesAll old new bytes → TakesAll old new text
+all_as {old} bytes e all = record { grown = all.grown ∙ ap (λ t. old ++ t) e }
+
+pub front_as : {old new text : List ℕ} (bytes : List ℕ) → bytes ≡ text → TakesFront old new bytes → TakesFront old new text
+front_as {old} {new} bytes e f = subst (λ (t : List ℕ). TakesFront old new t) e f

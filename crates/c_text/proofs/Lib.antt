@@ -5,9 +5,16 @@ pub mod Joined
 pub mod LineTexts
 pub mod Literals
 pub mod Numbers
+pub mod OneCode
+pub mod OneText
 pub mod PartLemmas
 pub mod PlaceLemmas
+pub mod PlaceTables
 pub mod Quoting
 pub mod ReadLemmas
+pub mod SameLines
+pub mod SameParts
+pub mod SpelledCodes
 pub mod StatementLemmas
 pub mod VariableLemmas
+pub mod WrittenLemmas

@@ -2,7 +2,7 @@
 use Rattle.std.proofs.Common.{◌≡◌, ◌≢◌, ◌∙◌, ℕ, ◌+◌, ◌/◌, ◌%◌, Bool, true, false, cond, List, [], ◌∷◌, ◌++◌, get_or, drop, Some, None, IsTrue, refl, sym, ap, arith, append_assoc, inl, inr}
 use Rattle.std.specs.Prelude.{◌&&◌, ◌||◌, ◌==◌, nat_lt, slice_get, codes}
 use Rattle.std.specs.List.{list_all, list_any, flat_map}
-use Rattle.std.proofs.lemmas.List.{append_cancel_left, append_cancel_right}
+use Rattle.std.proofs.lemmas.List.{append_cancel_left}
 use Rattle.std.proofs.lemmas.Bool.{false≢true}
 use Rattle.std.proofs.lemmas.Bool.Decides.{Decides-eqb}
 use Rattle.c_core.specs.declared.code.CArg.{CArg}
@@ -13,12 +13,11 @@ use Rattle.c_core.specs.declared.code.Kind.{Kind}
 use Rattle.c_core.specs.declared.code.Kind.TheVariants.{Tagged, Int64, Char, Object}
 use Rattle.c_core.specs.declared.code.Line.{Line}
 use Rattle.c_core.specs.declared.code.Line.TheVariants.{Lit, Call, Return, Dec}
-use Rattle.c_core.specs.Text.{statement_text, line_text, declaration_text, kind_text, literal_text, var_text, arg_text, comma, byte_text, octal}
+use Rattle.c_core.specs.Text.{statement_text, declaration_text, function_end, indented, kind_text, literal_text, var_text, arg_text, comma, byte_text, octal}
 use Rattle.c_core.specs.WellFormed.{Declared, is_call_name, is_declared, kind_at, is_identifier, spelled_arg, spelled_line, spelled_literal}
 use Rattle.c_text.specs.Words.{HasNo}
 use Rattle.c_text.specs.Statements.{AreNamed, args_text}
-use Rattle.c_text.specs.Parts.{IsOneLine, closing_line}
-use Rattle.c_text.proofs.Bytes.{differ, and_true, HasNo-append, HasNo-cons, HasNo-identifier, or_false, line_feed_stops, space_stops}
+use Rattle.c_text.proofs.Bytes.{differ, and_true, inside_same, HasNo-append, HasNo-cons, HasNo-identifier, or_false, line_feed_stops, space_stops}
 use Rattle.c_text.proofs.Numbers.{HasNo-number}
 use Rattle.c_text.proofs.ArgumentLemmas.{HasNo-variable}
 use Rattle.c_text.proofs.StatementLemmas.{HasNo-call_name, count_parts, call_name_parts}
@@ -92,12 +91,8 @@ statement_plain vars (Dec x) names h =
     bracketed : (w : List ℕ) → HasNo 10 w → {k : Kind} → kind_at vars x ≡ Some k → HasNo 10 (w ++ (codes "(" ++ (var_text vars x ++ codes ")")))
     bracketed w plain k = HasNo-append 10 w (codes "(" ++ (var_text vars x ++ codes ")")) plain (HasNo-append 10 (codes "(") (var_text vars x ++ codes ")") refl (HasNo-append 10 (var_text vars x) (codes ")") (variable_plain vars x names (at_declared vars x (kind_is (slice_get vars x) _ k).0 (kind_is (slice_get vars x) _ k).1)) refl))
 
-pub line_is_one : (vars : List Declared) (l : Line) → AreNamed vars → IsTrue (spelled_line vars l) → IsOneLine (line_text vars l)
-line_is_one vars l names h = record {
-  line = codes "    " ++ (statement_text vars l ++ codes ";");
-  whole = ap (λ t. codes "    " ++ t) (sym (append_assoc (statement_text vars l) (codes ";") (10 ∷ [])));
-  plain = HasNo-append 10 (codes "    ") (statement_text vars l ++ codes ";") refl (HasNo-append 10 (statement_text vars l) (codes ";") (statement_plain vars l names h) refl);
-}
+pub line_plain : (vars : List Declared) (l : Line) → AreNamed vars → IsTrue (spelled_line vars l) → HasNo 10 (indented (statement_text vars l))
+line_plain vars l names h = HasNo-append 10 (codes "    ") (statement_text vars l ++ codes ";") refl (HasNo-append 10 (statement_text vars l) (codes ";") (statement_plain vars l names h) refl)
 
 kind_plain : (k : Kind) → HasNo 10 (kind_text k)
 kind_plain Tagged = refl
@@ -105,12 +100,9 @@ kind_plain Int64 = refl
 kind_plain Char = refl
 kind_plain Object = refl
 
-pub declaration_is_one : (v : Declared) → IsTrue (is_identifier v.0) → IsOneLine (declaration_text v)
-declaration_is_one v h = record {
-  line = codes "    " ++ (kind_text v.1 ++ (codes "cpy_" ++ (v.0 ++ codes ";")));
-  whole = ap (λ t. codes "    " ++ t) (ap (λ t. kind_text v.1 ++ (codes "cpy_" ++ t)) (sym (append_assoc v.0 (codes ";") (10 ∷ []))) ∙ sym (append_assoc (kind_text v.1) (codes "cpy_" ++ (v.0 ++ codes ";")) (10 ∷ [])));
-  plain = HasNo-append 10 (codes "    ") (kind_text v.1 ++ (codes "cpy_" ++ (v.0 ++ codes ";"))) refl (HasNo-append 10 (kind_text v.1) (codes "cpy_" ++ (v.0 ++ codes ";")) (kind_plain v.1) (HasNo-append 10 (codes "cpy_") (v.0 ++ codes ";") refl (HasNo-append 10 v.0 (codes ";") (HasNo-identifier 10 v.0 (omega arith) line_feed_stops h) refl)));
-}
+pub declaration_plain : (v : Declared) → IsTrue (is_identifier v.0) → HasNo 10 (indented (declaration_text v))
+declaration_plain v h =
+    HasNo-append 10 (codes "    ") (declaration_text v ++ codes ";") refl (HasNo-append 10 (declaration_text v) (codes ";") (HasNo-append 10 (kind_text v.1) (codes "cpy_" ++ v.0) (kind_plain v.1) (HasNo-append 10 (codes "cpy_") v.0 refl (HasNo-identifier 10 v.0 (omega arith) line_feed_stops h))) refl)
 
 -- ---- no declaration has the text of another one
 
@@ -132,25 +124,16 @@ same_declared Object Tagged a b e = absurd (differ e refl)
 same_declared Object Int64 a b e = absurd (differ e refl)
 same_declared Object Char a b e = absurd (differ e refl)
 
--- what stands before the semicolon of a declaration
-pub declared_text : (v : Declared) (piece rest : List ℕ) → declaration_text v ≡ piece → piece ≡ codes "    " ++ rest → rest ≡ (kind_text v.1 ++ (codes "cpy_" ++ v.0)) ++ codes ";\n"
-declared_text v piece rest e p =
-    sym (append_cancel_left (codes "    ") _ rest (e ∙ p)) ∙ sym (append_assoc (kind_text v.1) (codes "cpy_" ++ v.0) (codes ";\n"))
-
-pub declared_word : (v : Declared) (piece rest text : List ℕ) → declaration_text v ≡ piece → piece ≡ codes "    " ++ rest → rest ≡ text ++ codes ";\n" → kind_text v.1 ++ (codes "cpy_" ++ v.0) ≡ text
-declared_word v piece rest text e p q = append_cancel_right _ text (codes ";\n") (sym (declared_text v piece rest e p) ∙ q)
-
 pub no_kind : (k : Kind) (name text : List ℕ) → kind_text k ++ (codes "cpy_" ++ name) ≡ text → ((r : List ℕ) → text ≢ codes "CPyTagged cpy_" ++ r) → ((r : List ℕ) → text ≢ codes "int64_t cpy_" ++ r) → ((r : List ℕ) → text ≢ codes "char cpy_" ++ r) → ((r : List ℕ) → text ≢ codes "PyObject *cpy_" ++ r) → ⊥
 no_kind Tagged name text e t i c o = t name (sym e)
 no_kind Int64 name text e t i c o = i name (sym e)
 no_kind Char name text e t i c o = c name (sym e)
 no_kind Object name text e t i c o = o name (sym e)
 
-pub same_declaration : (v w : Declared) → declaration_text v ≡ declaration_text w → v ≡ w
+pub same_declaration : (v w : Declared) → indented (declaration_text v) ≡ indented (declaration_text w) → v ≡ w
 same_declaration v w e =
-    let p = same_declared v.1 w.1 (v.0 ++ codes ";\n") (w.0 ++ codes ";\n") (append_cancel_left (codes "    ") _ _ e) in
-    let names : v.0 ≡ w.0 = append_cancel_right v.0 w.0 (codes ";\n") p.1 in
-    pair names p.0
+    let p = same_declared v.1 w.1 v.0 w.0 (inside_same (declaration_text v) (declaration_text w) e) in
+    pair p.1 p.0
   where
     pair : v.0 ≡ w.0 → v.1 ≡ w.1 → v ≡ w
     pair p q = ap (λ n. (n, v.1)) p ∙ ap (λ k. (w.0, k)) q
@@ -200,32 +183,29 @@ kind_not_call Int64 rest name r h e = let p = call_name_parts name h in differ (
 kind_not_call Char rest name r h e = let p = call_name_parts name h in differ (e ∙ ap (λ n. n ++ 40 ∷ r) p.whole) refl
 kind_not_call Object rest name r h e = let p = call_name_parts name h in differ (e ∙ ap (λ n. n ++ 40 ∷ r) p.whole) refl
 
-kind_not_statement : (vars : List Declared) (l : Line) (k : Kind) (rest : List ℕ) → IsTrue (spelled_line vars l) → kind_text k ++ rest ≢ statement_text vars l ++ codes ";\n"
+kind_not_statement : (vars : List Declared) (l : Line) (k : Kind) (rest : List ℕ) → IsTrue (spelled_line vars l) → kind_text k ++ rest ≢ statement_text vars l ++ codes ";"
 kind_not_statement vars (Lit x l) k rest h e =
     let d = declared_at vars x (and_true (is_declared vars x) _ h).0 in
-    kind_not_variable k rest _ (e ∙ ap (λ t. (t ++ (codes " = " ++ literal_text l)) ++ codes ";\n") (text_at vars x d.var d.at))
+    kind_not_variable k rest _ (e ∙ ap (λ t. (t ++ (codes " = " ++ literal_text l)) ++ codes ";") (text_at vars x d.var d.at))
 kind_not_statement vars (Call None name args) k rest h e =
-    kind_not_call k rest name ((args_text vars args ++ codes ")") ++ codes ";\n") (and_true (is_call_name name) _ h).0 (e ∙ append_assoc name (codes "(" ++ (args_text vars args ++ codes ")")) (codes ";\n"))
+    kind_not_call k rest name ((args_text vars args ++ codes ")") ++ codes ";") (and_true (is_call_name name) _ h).0 (e ∙ append_assoc name (codes "(" ++ (args_text vars args ++ codes ")")) (codes ";"))
 kind_not_statement vars (Call (Some x) name args) k rest h e =
     let d = declared_at vars x (and_true (is_declared vars x) _ h).0 in
-    kind_not_variable k rest _ (e ∙ ap (λ t. ((t ++ codes " = ") ++ (name ++ (codes "(" ++ (args_text vars args ++ codes ")")))) ++ codes ";\n") (text_at vars x d.var d.at))
+    kind_not_variable k rest _ (e ∙ ap (λ t. ((t ++ codes " = ") ++ (name ++ (codes "(" ++ (args_text vars args ++ codes ")")))) ++ codes ";") (text_at vars x d.var d.at))
 kind_not_statement vars (Return x) k rest h e = kind_not_return k rest _ e
 kind_not_statement vars (Dec x) k rest h e =
     elim (count_parts vars x h) [
-      | inl p ↦ kind_not_count k rest _ (e ∙ ap (λ t. t ++ codes ";\n") p.text)
-      | inr p ↦ kind_not_object_count k rest _ (e ∙ ap (λ t. t ++ codes ";\n") p.text)
+      | inl p ↦ kind_not_count k rest _ (e ∙ ap (λ t. t ++ codes ";") p.text)
+      | inr p ↦ kind_not_object_count k rest _ (e ∙ ap (λ t. t ++ codes ";") p.text)
     ]
 
-pub no_declaration : (vars : List Declared) (l : Line) (v : Declared) → IsTrue (spelled_line vars l) → declaration_text v ≢ line_text vars l
-no_declaration vars l v h e = kind_not_statement vars l v.1 (codes "cpy_" ++ (v.0 ++ codes ";\n")) h (append_cancel_left (codes "    ") _ _ e)
+pub no_declaration : (vars : List Declared) (l : Line) (v : Declared) → IsTrue (spelled_line vars l) → indented (declaration_text v) ≢ indented (statement_text vars l)
+no_declaration vars l v h e = kind_not_statement vars l v.1 (codes "cpy_" ++ (v.0 ++ codes ";")) h (sym (append_assoc (kind_text v.1) (codes "cpy_" ++ v.0) (codes ";")) ∙ append_cancel_left (codes "    ") _ _ e)
 
 -- ---- the last line is of no other sort
 
-pub closing_not_declaration : (v : Declared) → declaration_text v ≢ closing_line
-closing_not_declaration v e = differ e refl
+pub end_not_declaration : (v : Declared) → indented (declaration_text v) ≢ function_end
+end_not_declaration v e = differ e refl
 
-pub closing_not_line : (vars : List Declared) (l : Line) → line_text vars l ≢ closing_line
-closing_not_line vars l e = differ e refl
-
-pub closing_is_one : IsOneLine closing_line
-closing_is_one = record { line = codes "}"; whole = refl; plain = refl }
+pub end_not_line : (vars : List Declared) (l : Line) → indented (statement_text vars l) ≢ function_end
+end_not_line vars l e = differ e refl

@@ -41,7 +41,7 @@ HasNo-number stop (negsuc n) h out minus =
     let small : n < 2 ^ 63 = ltb-true n (2 ^ 63) h in
     HasNo-cons stop 45 (decimal (suc n)) minus (decimal_has_no stop (suc n) (omega arith) out)
 
-size_of : (n : ℤ) → IsTrue (lies_within 63 n) → mag n < 2 ^ 63
+pub size_of : (n : ℤ) → IsTrue (lies_within 63 n) → mag n < 2 ^ 63
 size_of (pos n) h = ltb-true n (2 ^ 63) h
 size_of (negsuc n) h = ltb-true n (2 ^ 63) h
 

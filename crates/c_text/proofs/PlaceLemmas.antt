@@ -1,49 +1,22 @@
 -- A text is refused at one place.
-use Rattle.std.proofs.Common.{◌≡◌, ◌∙◌, ℕ, ◌≤◌, List, [], ◌∷◌, ◌++◌, length, refl, sym, ap, arith, append_assoc, length-append, subst, ◌⊎◌, inl, inr}
-use Rattle.std.specs.Prelude.{◌==◌}
-use Rattle.std.specs.List.{list_any}
+use Rattle.std.proofs.Common.{◌≡◌, ◌∙◌, ℕ, ◌≤◌, List, [], ◌∷◌, ◌++◌, length, refl, sym, ap, arith, append_assoc, length-append, ◌⊎◌, inl, inr}
 use Rattle.std.proofs.lemmas.List.{append_cancel_left}
-use Rattle.std.proofs.lemmas.List.Folds.{list_any-append}
+use Rattle.c_core.specs.Text.{text_of}
 use Rattle.c_text.specs.Words.{HasNo}
-use Rattle.c_text.specs.Parts.{IsOneLine}
-use Rattle.c_text.specs.Whole.{whole_text, AreOne}
-use Rattle.c_text.specs.Reading.{HasCode, CanStand, AreLines, no_lines, line_then, RefusedAt, at_line, at_end}
-use Rattle.c_text.proofs.Bytes.{or_false}
-use Rattle.c_text.proofs.ReadLemmas.{same_line, not_plain, whole_append}
+use Rattle.c_text.specs.Reading.{CanStand, RefusedAt, at_line, at_end}
+use Rattle.c_text.proofs.Bytes.{not_in, same_front}
+use Rattle.c_text.proofs.ReadLemmas.{ArePlain, standing_plain, text_append}
 
--- whole lines as a list
-record Listed (bytes : List ℕ) : Type 0 where
-  lines : List (List ℕ)
-  one : AreOne lines
-  text : whole_text lines ≡ bytes
-
-listed : {bytes : List ℕ} → AreLines bytes → Listed bytes
-listed no_lines = record { lines = []; one = tt; text = refl }
-listed (line_then line rest plain more) =
-    let r = listed more in
-    record {
-      lines = (line ++ 10 ∷ []) ∷ r.lines;
-      one = (record { line = line; whole = refl; plain = plain }, r.one);
-      text = append_assoc line (10 ∷ []) (whole_text r.lines) ∙ ap (λ t. line ++ 10 ∷ t) r.text;
-    }
-
--- what holds of some bytes holds of each front of them
-abbrev HoldsOfFronts : (List ℕ → Type 0) → Type 0
-HoldsOfFronts P = (front rest : List ℕ) → P (front ++ rest) → P front
-
-stands_of_fronts : HoldsOfFronts CanStand
-stands_of_fronts front rest h = (rest ++ h.0, subst HasCode (append_assoc front rest h.0) h.1)
-
--- lines that stand end no later than those behind which a line does not stand
-stands_before : (P : List ℕ → Type 0) (lines others : List (List ℕ)) (line rest behind : List ℕ) → HoldsOfFronts P → AreOne lines → AreOne others → IsOneLine line → whole_text lines ++ (line ++ rest) ≡ whole_text others ++ behind → P (whole_text others) → ¬ (P (whole_text lines ++ line)) → (more : List (List ℕ)) × (lines ≡ others ++ more)
-stands_before P lines [] line rest behind fronts one two is e stands stops = (lines, refl)
-stands_before P [] (u ∷ others) line rest behind fronts one two is e stands stops =
-    let same = same_line rest (whole_text others ++ behind) is two.0 (e ∙ append_assoc u (whole_text others) behind) in
-    absurd (stops (subst P (sym same.0) (fronts u (whole_text others) stands)))
-stands_before P (t ∷ lines) (u ∷ others) line rest behind fronts one two is e stands stops =
-    let same = same_line (whole_text lines ++ (line ++ rest)) (whole_text others ++ behind) one.0 two.0 (sym (append_assoc t (whole_text lines) (line ++ rest)) ∙ e ∙ append_assoc u (whole_text others) behind) in
-    let r = stands_before (λ bytes. P (u ++ bytes)) lines others line rest behind (λ front more h. fronts (u ++ front) more (subst P (sym (append_assoc u front more)) h)) one.1 two.1 is same.1 stands
-    (λ h. stops (subst P (ap (λ s. s ++ (whole_text lines ++ line)) (sym same.0) ∙ sym (append_assoc t (whole_text lines) line)) h)) in
+-- lines that can stand end no later than those behind which a line cannot stand
+stands_before : (lines others : List (List ℕ)) (line rest behind : List ℕ) → ArePlain lines → ArePlain others → HasNo 10 line → text_of lines ++ (line ++ 10 ∷ rest) ≡ text_of others ++ behind → ((more : List (List ℕ)) → others ≡ lines ++ line ∷ more → ⊥) → (more : List (List ℕ)) × (lines ≡ others ++ more)
+stands_before lines [] line rest behind p q plain e apart = (lines, refl)
+stands_before [] (u ∷ others) line rest behind p q plain e apart =
+    let same = same_front 10 line u rest (text_of others ++ behind) plain q.0 (e ∙ append_assoc u (10 ∷ text_of others) behind) in
+    absurd (apart others (ap (λ s. s ∷ others) (sym same.0)))
+stands_before (t ∷ lines) (u ∷ others) line rest behind p q plain e apart =
+    let same = same_front 10 t u (text_of lines ++ (line ++ 10 ∷ rest)) (text_of others ++ behind) p.0 q.0
+    (sym (append_assoc t (10 ∷ text_of lines) (line ++ 10 ∷ rest)) ∙ e ∙ append_assoc u (10 ∷ text_of others) behind) in
+    let r = stands_before lines others line rest behind p.1 q.1 plain same.1 (λ more f. apart more (ap (λ s. s ∷ others) (sym same.0) ∙ ap (λ ls. t ∷ ls) f)) in
     (r.0, ap (λ s. s ∷ lines) same.0 ∙ ap (λ ls. u ∷ ls) r.1)
 
 -- refused at a line
@@ -51,65 +24,45 @@ record LineAt (bytes : List ℕ) (place : ℕ) : Type 0 where
   lines : List (List ℕ)
   line : List ℕ
   rest : List ℕ
-  one : AreOne lines
-  is_line : IsOneLine line
-  whole : bytes ≡ whole_text lines ++ (line ++ rest)
-  stands : CanStand (whole_text lines)
-  stops : ¬ (CanStand (whole_text lines ++ line))
-  length_is : length (whole_text lines) ≡ place
+  whole : bytes ≡ text_of lines ++ (line ++ 10 ∷ rest)
+  plain : HasNo 10 line
+  stands : CanStand lines
+  stops : ¬ (CanStand (lines ++ line ∷ []))
+  length_is : length (text_of lines) ≡ place
 
 -- refused at the end
 record EndAt (bytes : List ℕ) (place : ℕ) : Type 0 where
   lines : List (List ℕ)
   piece : List ℕ
-  one : AreOne lines
+  whole : bytes ≡ text_of lines ++ piece
   plain : HasNo 10 piece
-  whole : bytes ≡ whole_text lines ++ piece
-  stands : CanStand (whole_text lines)
+  stands : CanStand lines
   length_is : length bytes ≡ place
 
 parts_of : {bytes : List ℕ} {place : ℕ} → RefusedAt bytes place → LineAt bytes place ⊎ EndAt bytes place
-parts_of (at_line before line rest whole lines plain stands stops) =
-    let l = listed lines in
-    inl (record {
-      lines = l.lines;
-      line = line ++ 10 ∷ [];
-      rest = rest;
-      one = l.one;
-      is_line = record { line = line; whole = refl; plain = plain };
-      whole = whole ∙ ap (λ t. t ++ (line ++ 10 ∷ rest)) (sym l.text) ∙ ap (λ t. whole_text l.lines ++ t) (sym (append_assoc line (10 ∷ []) rest));
-      stands = subst CanStand (sym l.text) stands;
-      stops = λ h. stops (subst (λ (t : List ℕ). CanStand (t ++ (line ++ 10 ∷ []))) l.text h);
-      length_is = ap length l.text;
-    })
-parts_of (at_end lines piece whole are plain stands) =
-    let l = listed are in
-    inr (record {
-      lines = l.lines;
-      piece = piece;
-      one = l.one;
-      plain = plain;
-      whole = whole ∙ ap (λ t. t ++ piece) (sym l.text);
-      stands = subst CanStand (sym l.text) stands;
-      length_is = refl;
-    })
+parts_of (at_line lines line rest whole plain stands stops) =
+    inl (record { lines = lines; line = line; rest = rest; whole = whole; plain = plain; stands = stands; stops = stops; length_is = refl })
+parts_of (at_end lines piece whole plain stands) =
+    inr (record { lines = lines; piece = piece; whole = whole; plain = plain; stands = stands; length_is = refl })
+
+-- lines that can stand do not go on with one that cannot
+apart_of : (front : List (List ℕ)) (line : List ℕ) (others more : List (List ℕ)) → CanStand others → ¬ (CanStand (front ++ line ∷ [])) → others ≡ front ++ line ∷ more → ⊥
+apart_of front line others more c stops e =
+    stops (record { code = c.code; spelled = c.spelled; rest = more ++ c.rest; lines = c.lines ∙ ap (λ ls. ls ++ c.rest) (e ∙ sym (append_assoc front (line ∷ []) more)) ∙ append_assoc (front ++ line ∷ []) more c.rest })
 
 not_before : {bytes : List ℕ} {m n : ℕ} → LineAt bytes m → LineAt bytes n → n ≤ m
 not_before a b =
-    let front = stands_before CanStand a.lines b.lines a.line a.rest (b.line ++ b.rest) stands_of_fronts a.one b.one a.is_line (sym a.whole ∙ b.whole) b.stands a.stops in
-    omega (arith, a.length_is, b.length_is, ap (λ ls. length (whole_text ls)) front.1, ap length (whole_append b.lines front.0), length-append (whole_text b.lines) (whole_text front.0))
-
-no_feed_behind : (xs ys : List ℕ) → HasNo 10 (xs ++ ys) → HasNo 10 ys
-no_feed_behind xs ys h = (or_false (list_any (λ b. b == 10) xs) _ (sym (list_any-append (λ b. b == 10) xs ys) ∙ h)).1
+    let front = stands_before a.lines b.lines a.line a.rest (b.line ++ 10 ∷ b.rest) (standing_plain a.lines a.stands) (standing_plain b.lines b.stands) a.plain (sym a.whole ∙ b.whole) (λ more e. apart_of a.lines a.line b.lines more b.stands a.stops e) in
+    omega (arith, a.length_is, b.length_is, ap (λ ls. length (text_of ls)) front.1, ap length (text_append b.lines front.0), length-append (text_of b.lines) (text_of front.0))
 
 not_both : {bytes : List ℕ} {m n : ℕ} → LineAt bytes m → EndAt bytes n → ⊥
 not_both a b =
     let e = sym a.whole ∙ b.whole in
-    let front = stands_before CanStand a.lines b.lines a.line a.rest b.piece stands_of_fronts a.one b.one a.is_line e b.stands a.stops in
-    let split : whole_text a.lines ≡ whole_text b.lines ++ whole_text front.0 = ap whole_text front.1 ∙ whole_append b.lines front.0 in
-    let left : whole_text front.0 ++ (a.line ++ a.rest) ≡ b.piece =
-    append_cancel_left (whole_text b.lines) (whole_text front.0 ++ (a.line ++ a.rest)) b.piece (sym (append_assoc (whole_text b.lines) (whole_text front.0) (a.line ++ a.rest)) ∙ ap (λ t. t ++ (a.line ++ a.rest)) (sym split) ∙ e) in
-    not_plain a.rest a.is_line (no_feed_behind (whole_text front.0) (a.line ++ a.rest) (ap (list_any (λ b. b == 10)) left ∙ b.plain))
+    let front = stands_before a.lines b.lines a.line a.rest b.piece (standing_plain a.lines a.stands) (standing_plain b.lines b.stands) a.plain e (λ more f. apart_of a.lines a.line b.lines more b.stands a.stops f) in
+    let split : text_of a.lines ≡ text_of b.lines ++ text_of front.0 = ap text_of front.1 ∙ text_append b.lines front.0 in
+    let left : text_of front.0 ++ (a.line ++ 10 ∷ a.rest) ≡ b.piece =
+    append_cancel_left (text_of b.lines) (text_of front.0 ++ (a.line ++ 10 ∷ a.rest)) b.piece (sym (append_assoc (text_of b.lines) (text_of front.0) (a.line ++ 10 ∷ a.rest)) ∙ ap (λ t. t ++ (a.line ++ 10 ∷ a.rest)) (sym split) ∙ e) in
+    not_in 10 b.piece (text_of front.0 ++ a.line) a.rest b.plain (sym left ∙ sym (append_assoc (text_of front.0) a.line (10 ∷ a.rest)))
 
 same_place : {bytes : List ℕ} {m n : ℕ} → LineAt bytes m ⊎ EndAt bytes m → LineAt bytes n ⊎ EndAt bytes n → m ≡ n
 same_place (inl a) (inl b) = omega (arith, not_before a b, not_before b a)

@@ -1,10 +1,9 @@
 -- Statements: which one a text is, and how it comes apart.
 use Rattle.std.proofs.Common.{◌≡◌, ◌≢◌, ◌∙◌, ℕ, ◌<◌, suc, zero, Bool, true, false, cond, List, [], ◌∷◌, ◌++◌, Option, Some, None, IsTrue, IfOk, Result, Ok, Err, refl, sym, ap, arith, append_assoc, subst, ◌⊎◌, inl, inr}
-use Rattle.std.specs.Prelude.{◌==◌, not, slice_get, codes}
+use Rattle.std.specs.Prelude.{◌==◌, MatchOption, not, slice_get, codes}
 use Rattle.std.specs.List.{list_all, list_any}
 use Rattle.std.specs.Option.{option_map}
 use Rattle.std.specs.Str.{IsAscii, IsUtf8, bytes_eq, is_utf8}
-use Rattle.std.proofs.lemmas.List.{append_cancel_left, append_cancel_right}
 use Rattle.std.proofs.lemmas.Bool.{false≢true}
 use Rattle.std.proofs.lemmas.Bool.Decides.{Decides-eqb}
 use Rattle.std.proofs.lemmas.Str.{IsUtf8-append, IsUtf8-from_ascii, IsUtf8-from_is_utf8}
@@ -16,12 +15,12 @@ use Rattle.c_core.specs.declared.code.Kind.{Kind}
 use Rattle.c_core.specs.declared.code.Kind.TheVariants.{Tagged, Int64, Char, Object}
 use Rattle.c_core.specs.declared.code.Line.{Line}
 use Rattle.c_core.specs.declared.code.Line.TheVariants.{Lit, Call, Return, Dec}
-use Rattle.c_core.specs.Text.{statement_text, line_text, literal_text, var_text, counter_of}
+use Rattle.c_core.specs.Text.{counter_of, indented, literal_text, statement_text, var_text}
 use Rattle.c_core.specs.WellFormed.{Declared, is_call_name, is_declared, is_identifier, is_counted_kind, kind_at, after_prefix, is_some_and, other_words, spelled_arg, spelled_line, spelled_literal}
 use Rattle.c_text.specs.Words.{HasNo}
-use Rattle.c_text.specs.Variables.{Alike, Finds}
-use Rattle.c_text.specs.Statements.{args_text}
-use Rattle.c_text.proofs.Bytes.{differ, and_true, HasNo-append, HasNo-identifier}
+use Rattle.c_text.specs.Variables.{Finds}
+use Rattle.c_text.specs.Statements.{IsLine, IsNoLine, IsNoStatement, IsStatement, args_text}
+use Rattle.c_text.proofs.Bytes.{differ, and_true, inside_same, HasNo-append, HasNo-identifier}
 use Rattle.c_text.proofs.Numbers.{not_number}
 use Rattle.c_text.proofs.VariableLemmas.{declared_at, text_at}
 
@@ -121,21 +120,16 @@ count_parts vars x h = split (slice_get vars x) refl
 
 -- ---- alike parts
 
-alike_then : {A : Type 0} {vars : List Declared} {text : A → List ℕ} {a b : A} (found : Option A) → Alike vars text a b → Finds vars text found b → Finds vars text found a
-alike_then None p f = f
-alike_then (Some c) p f = record { same = p.same ∙ f.same; only = λ own. p.only own ∙ f.only own }
+alike_then : {A : Type 0} (text : A → List ℕ) (a b : A) (found : Option A) → text a ≡ text b → Finds text found b → Finds text found a
+alike_then text a b None p f = f
+alike_then text a b (Some c) p f = p ∙ f
 
-alike_literal : {vars : List Declared} {x y : ℕ} (l : CLit) → Alike vars (var_text vars) x y → Alike vars (statement_text vars) (Lit x l) (Lit y l)
-alike_literal l p = record { same = ap (λ t. t ++ (codes " = " ++ literal_text l)) p.same; only = λ own. ap (λ x. Lit x l) (p.only own) }
+alike_call : (vars : List Declared) (x y : ℕ) (name : List ℕ) (args : List CArg) → var_text vars x ≡ var_text vars y → statement_text vars (Call (Some x) name args) ≡ statement_text vars (Call (Some y) name args)
+alike_call vars x y name args p = ap (λ t. (t ++ codes " = ") ++ (name ++ (codes "(" ++ (args_text vars args ++ codes ")")))) p
 
-alike_call : {vars : List Declared} {x y : ℕ} (name : List ℕ) (args : List CArg) → Alike vars (var_text vars) x y → Alike vars (statement_text vars) (Call (Some x) name args) (Call (Some y) name args)
-alike_call {vars} name args p = record {
-  same = ap (λ t. (t ++ codes " = ") ++ (name ++ (codes "(" ++ (args_text vars args ++ codes ")")))) p.same;
-  only = λ own. ap (λ x. Call (Some x) name args) (p.only own);
-}
-
-literal_found : {vars : List Declared} {x y : ℕ} (l : CLit) (found : Option Line) → Alike vars (var_text vars) x y → found ≡ Some (Lit y l) → Finds vars (statement_text vars) found (Lit x l)
-literal_found {vars} {x} {y} l found p e = subst (λ (o : Option Line). Finds vars (statement_text vars) o (Lit x l)) (sym e) (alike_literal l p)
+literal_found : (vars : List Declared) (x y : ℕ) (l : CLit) (found : Option Line) → var_text vars x ≡ var_text vars y → found ≡ Some (Lit y l) → Finds (statement_text vars) found (Lit x l)
+literal_found vars x y l found p e =
+    subst (λ (o : Option Line). Finds (statement_text vars) o (Lit x l)) (sym e) (ap (λ t. t ++ (codes " = " ++ literal_text l)) p)
 
 -- ---- which statement a text is
 
@@ -144,17 +138,17 @@ ok_map (Ok x) f p = f x p
 ok_map (Err e) f p = p
 
 abbrev pub FindsLine : {E : Type 0} → List Declared → Result (Option Line) E → Line → Type 0
-FindsLine vars r l = IfOk r (λ found. Finds vars (statement_text vars) found l)
+FindsLine vars r l = IfOk r (λ found. Finds (statement_text vars) found l)
 
 starts_as : (vars : List Declared) (x : ℕ) (rest : List ℕ) → IsTrue (is_declared vars x) → (r : List ℕ) × (var_text vars x ++ rest ≡ codes "cpy_" ++ r)
 starts_as vars x rest h = let d = declared_at vars x h in (d.var.0 ++ rest, ap (λ t. t ++ rest) (text_at vars x d.var d.at))
 
 -- a text that begins with a variable assigns to one, and what is assigned decides the rest
-pub assigned_reads : {E : Type 0} (vars : List Declared) (text word value : List ℕ) (r : Result (Option Line) E) (place : ℕ) → text ≡ codes "cpy_" ++ word → ((x : ℕ) (v : List ℕ) → IsTrue (is_declared vars x) → var_text vars x ++ (codes " = " ++ v) ≡ text → Alike vars (var_text vars) x place × (value ≡ v)) → ((l : CLit) → IsTrue (spelled_literal l) → literal_text l ≡ value → IfOk r (λ found. found ≡ Some (Lit place l))) → ((name : List ℕ) (args : List CArg) → IsTrue (is_call_name name) → IsTrue (list_all (spelled_arg vars) args) → name ++ (codes "(" ++ (args_text vars args ++ codes ")")) ≡ value → FindsLine vars r (Call (Some place) name args)) → (l : Line) → IsTrue (spelled_line vars l) → statement_text vars l ≡ text → FindsLine vars r l
+pub assigned_reads : {E : Type 0} (vars : List Declared) (text word value : List ℕ) (r : Result (Option Line) E) (place : ℕ) → text ≡ codes "cpy_" ++ word → ((x : ℕ) (v : List ℕ) → IsTrue (is_declared vars x) → var_text vars x ++ (codes " = " ++ v) ≡ text → (var_text vars x ≡ var_text vars place) × (value ≡ v)) → ((l : CLit) → IsTrue (spelled_literal l) → literal_text l ≡ value → IfOk r (λ found. found ≡ Some (Lit place l))) → ((name : List ℕ) (args : List CArg) → IsTrue (is_call_name name) → IsTrue (list_all (spelled_arg vars) args) → name ++ (codes "(" ++ (args_text vars args ++ codes ")")) ≡ value → FindsLine vars r (Call (Some place) name args)) → (l : Line) → IsTrue (spelled_line vars l) → statement_text vars l ≡ text → FindsLine vars r l
 assigned_reads vars text word value r place starts target literals calls (Lit x l) h e =
     let parts = and_true (is_declared vars x) (spelled_literal l) h in
     let t = target x (literal_text l) parts.0 e in
-    ok_map r (λ found q. literal_found l found t.0 q) (literals l parts.1 (sym t.1))
+    ok_map r (λ found q. literal_found vars x place l found t.0 q) (literals l parts.1 (sym t.1))
 assigned_reads vars text word value r place starts target literals calls (Call None name args) h e =
     let f = call_front name _ _ (and_true (is_call_name name) _ h).0 e in absurd (differ (sym f.1 ∙ starts) refl)
 assigned_reads vars text word value r place starts target literals calls (Call (Some x) name args) h e =
@@ -162,7 +156,7 @@ assigned_reads vars text word value r place starts target literals calls (Call (
     let more = and_true (is_call_name name) _ parts.1 in
     let rest = name ++ (codes "(" ++ (args_text vars args ++ codes ")")) in
     let t = target x rest parts.0 (sym (append_assoc (var_text vars x) (codes " = ") rest) ∙ e) in
-    ok_map r (λ found q. alike_then found (alike_call name args t.0) q) (calls name args more.0 more.1 (sym t.1))
+    ok_map r (λ found q. alike_then (statement_text vars) (Call (Some x) name args) (Call (Some place) name args) found (alike_call vars x place name args t.0) q) (calls name args more.0 more.1 (sym t.1))
 assigned_reads vars text word value r place starts target literals calls (Return x) h e = absurd (differ (e ∙ starts) refl)
 assigned_reads vars text word value r place starts target literals calls (Dec x) h e =
     elim (count_parts vars x h) [ inl p ↦ absurd (differ (sym p.text ∙ e ∙ starts) refl) | inr p ↦ absurd (differ (sym p.text ∙ e ∙ starts) refl) ]
@@ -181,11 +175,7 @@ call_reads vars text r no_return no_variable calls counts (Return x) h e = absur
 call_reads vars text r no_return no_variable calls counts (Dec x) h e = counts x h e
 
 -- a line of a statement
-line_found : (vars : List Declared) (l : Line) (found : Option Line) → Finds vars (statement_text vars) found l → Finds vars (line_text vars) found l
-line_found vars l None f = f
-line_found vars l (Some m) f = record { same = ap (λ t. codes "    " ++ (t ++ codes ";\n")) f.same; only = f.only }
-
-pub line_reads : {E : Type 0} (vars : List Declared) (piece rest text : List ℕ) (r : Result (Option Line) E) → piece ≡ codes "    " ++ rest → rest ≡ text ++ codes ";\n" → ((l : Line) → IsTrue (spelled_line vars l) → statement_text vars l ≡ text → FindsLine vars r l) → (l : Line) → IsTrue (spelled_line vars l) → line_text vars l ≡ piece → IfOk r (λ found. Finds vars (line_text vars) found l)
-line_reads vars piece rest text r p q finds l h e =
-    ok_map r (λ found f. line_found vars l found f)
-    (finds l h (append_cancel_right (statement_text vars l) text (codes ";\n") (append_cancel_left (codes "    ") (statement_text vars l ++ codes ";\n") rest (e ∙ p) ∙ q)))
+pub line_found : {E : Type 0} (vars : List Declared) (piece text : List ℕ) (r : Result (Option Line) E) → indented text ≡ piece → IfOk r (λ found. MatchOption found (IsNoStatement vars text) (IsStatement vars text)) → IfOk r (λ found. MatchOption found (IsNoLine vars piece) (IsLine vars piece))
+line_found vars piece text (Err e) p h = h
+line_found vars piece text (Ok None) p h = λ l k e. h l k (inside_same (statement_text vars l) text (e ∙ sym p))
+line_found vars piece text (Ok (Some l)) p h = (h.0, ap indented h.1 ∙ p)

@@ -13,8 +13,12 @@ use Rattle.c_core.specs.declared.code.Kind.{Kind}
 use Rattle.c_core.specs.declared.code.Kind.TheVariants.{Tagged, Int64, Char, Object}
 use Rattle.c_core.specs.Text.{var_text, var_name}
 use Rattle.c_core.specs.WellFormed.{Declared, is_declared, kind_at, names_differ, same_kind}
-use Rattle.c_text.specs.Variables.{HaveOwnNames, Finds, has_name, has_name_and_kind}
+use Rattle.c_text.specs.Variables.{Finds, has_name, has_name_and_kind}
 use Rattle.c_text.proofs.Bytes.{and_true}
+
+-- no two variables have one name
+abbrev pub HaveOwnNames : List Declared → Type 0
+HaveOwnNames vars = IsTrue (names_differ (map (λ v. v.0) vars))
 
 -- a variable that passes a test stands at a place
 pub record StandsAt (p : Declared → Bool) (vars : List Declared) (x : ℕ) : Type 0 where
@@ -70,7 +74,7 @@ named_again : (name : List ℕ) (vars : List Declared) (x : ℕ) (v : Declared) 
 named_again name vars x v g e own =
     false≢true (sym (ap not (any_named name vars x v g e)) ∙ (and_true _ _ own).0)
 
-first_place : (p : Declared → Bool) (name : List ℕ) → ((w : Declared) → p w ≡ true → w.0 ≡ name) → (vars : List Declared) (i x : ℕ) (v : Declared) → slice_get vars x ≡ Some v → p v ≡ true → First p vars i x
+pub first_place : (p : Declared → Bool) (name : List ℕ) → ((w : Declared) → p w ≡ true → w.0 ≡ name) → (vars : List Declared) (i x : ℕ) (v : Declared) → slice_get vars x ≡ Some v → p v ≡ true → First p vars i x
 first_place p name named [] i x v g t = absurd (cc)
 first_place p name named (w ∷ vars) i zero v g t =
     let same : w ≡ v = cc in
@@ -102,7 +106,7 @@ pub text_at : (vars : List Declared) (x : ℕ) (v : Declared) → slice_get vars
 text_at vars x v g = ap var_name g
 
 -- the variable at the first place of a name is written as the one that has the name
-found_alike : (p : Declared → Bool) (name : List ℕ) → ((w : Declared) → p w ≡ true → w.0 ≡ name) → (vars : List Declared) (found : Option ℕ) (x : ℕ) (v : Declared) → position_from p 0 vars ≡ found → slice_get vars x ≡ Some v → p v ≡ true → Finds vars (var_text vars) found x
+found_alike : (p : Declared → Bool) (name : List ℕ) → ((w : Declared) → p w ≡ true → w.0 ≡ name) → (vars : List Declared) (found : Option ℕ) (x : ℕ) (v : Declared) → position_from p 0 vars ≡ found → slice_get vars x ≡ Some v → p v ≡ true → Finds (var_text vars) found x
 found_alike p name named vars None x v f g t =
     let first = first_place p name named vars 0 x v g t in
     let q : None ≡ Some (0 + first.place) = sym f ∙ first.found in
@@ -112,21 +116,18 @@ found_alike p name named vars (Some y) x v f g t =
     let q : Some y ≡ Some (0 + first.place) = sym f ∙ first.found in
     let r : y ≡ 0 + first.place = cc in
     let at : first.place ≡ y = omega arith in
-    record {
-      same = text_at vars x v g ∙ ap (λ t. codes "cpy_" ++ t) (named v t ∙ sym (named first.stands.var first.stands.passes)) ∙ sym (text_at vars first.place first.stands.var first.stands.at) ∙ ap (var_text vars) at;
-      only = λ own. sym (first.only own) ∙ at;
-    }
+    text_at vars x v g ∙ ap (λ t. codes "cpy_" ++ t) (named v t ∙ sym (named first.stands.var first.stands.passes)) ∙ sym (text_at vars first.place first.stands.var first.stands.at) ∙ ap (var_text vars) at
 
-named : (name : List ℕ) (w : Declared) → has_name name w ≡ true → w.0 ≡ name
+pub named : (name : List ℕ) (w : Declared) → has_name name w ≡ true → w.0 ≡ name
 named name w t = (bytes_eq-Decides w.0 name).0 t
 
 named_and_kind : (name : List ℕ) (kind : Kind) (w : Declared) → has_name_and_kind name kind w ≡ true → w.0 ≡ name
-named_and_kind name kind w t = (bytes_eq-Decides w.0 name).0 (and_true _ _ t).0
+named_and_kind name kind w t = (bytes_eq-Decides w.0 name).0 (and_true _ _ t).1
 
 name_at : (vars : List Declared) (x : ℕ) (v : Declared) (name word : List ℕ) → slice_get vars x ≡ Some v → var_text vars x ≡ word → word ≡ codes "cpy_" ++ name → v.0 ≡ name
 name_at vars x v name word g e w = append_cancel_left (codes "cpy_") v.0 name (sym (text_at vars x v g) ∙ e ∙ w)
 
-pub variable_found : (vars : List Declared) (name word : List ℕ) (found : Option ℕ) (x : ℕ) → found ≡ position_from (has_name name) 0 vars → word ≡ codes "cpy_" ++ name → IsTrue (is_declared vars x) → var_text vars x ≡ word → Finds vars (var_text vars) found x
+pub variable_found : (vars : List Declared) (name word : List ℕ) (found : Option ℕ) (x : ℕ) → found ≡ position_from (has_name name) 0 vars → word ≡ codes "cpy_" ++ name → IsTrue (is_declared vars x) → var_text vars x ≡ word → Finds (var_text vars) found x
 variable_found vars name word found x f w h e =
     let d = declared_at vars x h in
     found_alike (has_name name) name (named name) vars found x d.var (sym f) d.at ((bytes_eq-Decides d.var.0 name).1 (name_at vars x d.var name word d.at e w))
@@ -159,11 +160,11 @@ same_kind_is Object Tagged h = absurd (cc)
 same_kind_is Object Int64 h = absurd (cc)
 same_kind_is Object Char h = absurd (cc)
 
-pub variable_of_found : (vars : List Declared) (name word : List ℕ) (kind : Kind) (found : Option ℕ) (x : ℕ) → found ≡ position_from (has_name_and_kind name kind) 0 vars → word ≡ codes "cpy_" ++ name → kind_at vars x ≡ Some kind → var_text vars x ≡ word → Finds vars (var_text vars) found x
+pub variable_of_found : (vars : List Declared) (name word : List ℕ) (kind : Kind) (found : Option ℕ) (x : ℕ) → found ≡ position_from (has_name_and_kind name kind) 0 vars → word ≡ codes "cpy_" ++ name → kind_at vars x ≡ Some kind → var_text vars x ≡ word → Finds (var_text vars) found x
 variable_of_found vars name word kind found x f w h e =
     let d = kind_is (slice_get vars x) kind h in
     found_alike (has_name_and_kind name kind) name (named_and_kind name kind) vars found x d.0 (sym f) d.1
-    (both_true ((bytes_eq-Decides d.0.0 name).1 (name_at vars x d.0 name word d.1 e w)) (ap (λ k. same_kind k kind) d.2 ∙ same_kind_refl kind))
+    (both_true (ap (λ k. same_kind k kind) d.2 ∙ same_kind_refl kind) ((bytes_eq-Decides d.0.0 name).1 (name_at vars x d.0 name word d.1 e w)))
 
 pub found_declared : (p : Declared → Bool) (vars : List Declared) (found : Option ℕ) → found ≡ position_from p 0 vars → IfSome found (λ y. IsTrue (is_declared vars y))
 found_declared p vars None e = tt
@@ -177,4 +178,4 @@ found_kind vars name kind None e = tt
 found_kind vars name kind (Some y) e =
     let s = place_stands (has_name_and_kind name kind) vars 0 y (sym e) in
     let at : s.0 ≡ y = omega (arith, s.1) in
-    ap (kind_at vars) (sym at) ∙ ap (option_map (λ v. v.1)) s.2.at ∙ ap Some (same_kind_is s.2.var.1 kind (and_true _ _ s.2.passes).1)
+    ap (kind_at vars) (sym at) ∙ ap (option_map (λ v. v.1)) s.2.at ∙ ap Some (same_kind_is s.2.var.1 kind (and_true _ _ s.2.passes).0)

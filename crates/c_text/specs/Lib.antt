@@ -1,8 +1,10 @@
 pub mod Arguments
+pub mod Laws
 pub mod Parts
+pub mod Places
 pub mod Quotes
 pub mod Reading
 pub mod Statements
 pub mod Variables
-pub mod Whole
 pub mod Words
+pub mod Written

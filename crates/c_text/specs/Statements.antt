@@ -5,9 +5,8 @@ use Rattle.std.specs.List.{list_all}
 use Rattle.c_core.specs.declared.code.CArg.{CArg}
 use Rattle.c_core.specs.declared.code.CArg.TheVariants as arg
 use Rattle.c_core.specs.declared.code.Line.{Line}
-use Rattle.c_core.specs.Text.{var_text, arg_text, arg_texts, joined, comma, line_text}
+use Rattle.c_core.specs.Text.{var_text, arg_text, arg_texts, joined, comma, indented, statement_text}
 use Rattle.c_core.specs.WellFormed.{Declared, is_identifier, spelled_line}
-use Rattle.c_text.specs.Variables.{HaveOwnNames, Alike}
 
 -- each variable's name is an identifier
 abbrev pub AreNamed : List Declared → Type 0
@@ -20,7 +19,7 @@ IsWord _ = Unit {0}
 
 -- an argument was found, and this stands behind it
 abbrev pub FindsArgument : List Declared → Option (CArg × Bor (List ℕ)) → CArg → List ℕ → Type 0
-FindsArgument vars found a rest = MatchOption found ⊥ (λ p. Alike vars (arg_text vars) a p.0 × (p.1.now ≡ rest))
+FindsArgument vars found a rest = MatchOption found ⊥ (λ p. (arg_text vars a ≡ arg_text vars p.0) × (p.1.now ≡ rest))
 
 -- arguments with a comma between each two
 abbrev pub args_text : List Declared → List CArg → List ℕ
@@ -28,21 +27,25 @@ args_text vars args = joined comma (arg_texts vars args)
 
 -- a target was found, and this stands behind its equals sign
 abbrev pub FindsTarget : List Declared → Option (ℕ × Bor (List ℕ)) → ℕ → List ℕ → Type 0
-FindsTarget vars found x value = MatchOption found ⊥ (λ p. Alike vars (var_text vars) x p.0 × (p.1.now ≡ value))
+FindsTarget vars found x value = MatchOption found ⊥ (λ p. (var_text vars x ≡ var_text vars p.0) × (p.1.now ≡ value))
 
 -- what was found is a line that is spelled
 abbrev pub IsSpelledLine : List Declared → Option Line → Type 0
 IsSpelledLine vars found = IfSome found (λ l. IsTrue (spelled_line vars l))
 
--- the line that a piece is, and the only one where the variables' names differ
-pub record IsLine (vars : List Declared) (piece : List ℕ) (line : Line) : Type 0 where
-  pub spelled : IsTrue (spelled_line vars line)
-  pub text : line_text vars line ≡ piece
-  pub only : (l : Line) → IsTrue (spelled_line vars l) → line_text vars l ≡ piece → HaveOwnNames vars → l ≡ line
+-- a statement has this text, and none has it
+abbrev pub IsStatement : List Declared → List ℕ → Line → Type 0
+IsStatement vars text line = IsTrue (spelled_line vars line) × (statement_text vars line ≡ text)
 
--- no line of this text is spelled
+abbrev pub IsNoStatement : List Declared → List ℕ → Type 0
+IsNoStatement vars text = (l : Line) → IsTrue (spelled_line vars l) → statement_text vars l ≡ text → ⊥
+
+-- a statement stands on this line, and none stands there
+abbrev pub IsLine : List Declared → List ℕ → Line → Type 0
+IsLine vars piece line = IsTrue (spelled_line vars line) × (indented (statement_text vars line) ≡ piece)
+
 abbrev pub IsNoLine : List Declared → List ℕ → Type 0
-IsNoLine vars piece = (l : Line) → IsTrue (spelled_line vars l) → line_text vars l ≡ piece → ⊥
+IsNoLine vars piece = (l : Line) → IsTrue (spelled_line vars l) → indented (statement_text vars l) ≡ piece → ⊥
 
 -- some arguments were read, and these are the others, of which there is one at least
 pub record ArgsRemain (vars : List Declared) (read all : List CArg) (left : List ℕ) : Type 0 where
@@ -51,5 +54,4 @@ pub record ArgsRemain (vars : List Declared) (read all : List CArg) (left : List
   pub others : List CArg
   pub whole : front ++ next ∷ others ≡ all
   pub same : arg_texts vars front ≡ arg_texts vars read
-  pub only : HaveOwnNames vars → front ≡ read
   pub written : args_text vars (next ∷ others) ≡ left

@@ -1,5 +1,5 @@
 -- Words of a line: bytes that stand before a known byte, or between known bytes.
-use Rattle.std.specs.Prelude.{◌≡◌, ℕ, ◌==◌, false, List, [], ◌∷◌, Option, MatchOption}
+use Rattle.std.specs.Prelude.{◌≡◌, ℕ, ◌==◌, false, List, [], ◌∷◌, ◌++◌, Option, MatchOption}
 use Rattle.std.specs.Borrow.{Bor}
 use Rattle.std.specs.List.{list_any}
 
@@ -19,3 +19,8 @@ FindsParts found front back = MatchOption found ⊥ (AreParts front back)
 abbrev pub EndsArgument : List ℕ → Type 0
 EndsArgument [] = Unit {0}
 EndsArgument (b ∷ rest) = b ≡ 44
+
+-- a line at the front of a text, without its line feed, and what stands behind that
+pub record IsFirstLine (line rest text : List ℕ) : Type 0 where
+  pub plain : HasNo 10 line
+  pub whole : text ≡ line ++ 10 ∷ rest

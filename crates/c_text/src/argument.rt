@@ -9,20 +9,16 @@ ghost use Rattle.c_text.specs.Variables.{Finds};
 ghost use Rattle.c_text.specs.Statements.{AreNamed, IsWord, FindsArgument, args_text};
 
 use crate::unquote::unquoted;
-use crate::variable::variable;
+use crate::variable::{Variables, variable};
 use crate::word::{behind, name, number, up_to_comma};
-use c_core::{CArg, Kind};
+use c_core::CArg;
 use std::alloc::Global;
-use value_core::{Many, Memory, Name};
+use value_core::{Many, Memory};
 
 /// The argument that a word writes.
-fn word_argument(
-    alloc: Global,
-    vars: &Many<(Name, Kind)>,
-    word: &[u8],
-) -> Result<Option<CArg>, Memory>
+fn word_argument(alloc: Global, vars: &Variables, word: &[u8]) -> Result<Option<CArg>, Memory>
     ensures finds { (a : CArg) → IsTrue (spelled_arg vars.now a) → IsWord a → arg_text vars.now a ≡ word.now →
-        IfOk result (λ found. Finds vars.now (arg_text vars.now) found a) }
+        IfOk result (λ found. Finds (arg_text vars.now) found a) }
     ensures spelled { IfOk result (λ found. IfSome found (λ a. IsTrue (spelled_arg vars.now a))) }
 {
     if let Some(word) = behind(word, b"CPyStatic_") {
@@ -51,7 +47,7 @@ fn word_argument(
 /// The first of some arguments, and what stands behind it.
 fn next_argument<'a>(
     alloc: Global,
-    vars: &Many<(Name, Kind)>,
+    vars: &Variables,
     text: &'a [u8],
 ) -> Result<Option<(CArg, &'a [u8])>, Memory>
     requires { AreNamed vars.now }
@@ -77,13 +73,13 @@ fn next_argument<'a>(
 /// One or more arguments with a comma and a space between each two.
 fn some_arguments(
     alloc: Global,
-    vars: &Many<(Name, Kind)>,
+    vars: &Variables,
     text: &[u8],
 ) -> Result<Option<Many<CArg>>, Memory>
     requires { AreNamed vars.now }
     ensures finds { (a : CArg) (others : List CArg) → IsTrue (list_all (spelled_arg vars.now) (a ∷ others)) →
         args_text vars.now (a ∷ others) ≡ text.now →
-        IfOk result (λ found. Finds vars.now (args_text vars.now) found (a ∷ others)) }
+        IfOk result (λ found. Finds (args_text vars.now) found (a ∷ others)) }
     ensures spelled { IfOk result (λ found. IfSome found (λ args. IsTrue (list_all (spelled_arg vars.now) args))) }
 {
     let mut args = Vec::new(alloc);
@@ -106,12 +102,12 @@ fn some_arguments(
 /// The arguments between the brackets of a call.
 pub(crate) fn arguments(
     alloc: Global,
-    vars: &Many<(Name, Kind)>,
+    vars: &Variables,
     text: &[u8],
 ) -> Result<Option<Many<CArg>>, Memory>
     requires { AreNamed vars.now }
     ensures finds { (args : List CArg) → IsTrue (list_all (spelled_arg vars.now) args) → args_text vars.now args ≡ text.now →
-        IfOk result (λ found. Finds vars.now (args_text vars.now) found args) }
+        IfOk result (λ found. Finds (args_text vars.now) found args) }
     ensures spelled { IfOk result (λ found. IfSome found (λ args. IsTrue (list_all (spelled_arg vars.now) args))) }
 {
     if text.is_empty() {

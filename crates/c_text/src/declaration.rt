@@ -1,9 +1,9 @@
 //! Declarations, as they are written.
 ghost use Rattle.std.specs.Prelude.{◌≡◌, ◌≢◌, ◌++◌, codes, false, IsTrue, IfOk, MatchOption};
-ghost use Rattle.c_core.specs.Text.{declaration_text, kind_text};
+ghost use Rattle.c_core.specs.Text.{declaration_text, indented, kind_text};
 ghost use Rattle.c_core.specs.WellFormed.{Declared, is_identifier};
 
-use crate::word::{before, behind, name};
+use crate::word::{behind, inside_line, name};
 use c_core::Kind;
 use std::alloc::Global;
 use value_core::{Memory, Name};
@@ -25,15 +25,12 @@ fn declared(text: &[u8]) -> Option<(Kind, &[u8])>
     }
 }
 
-/// The variable that a piece declares, with its line feed.
+/// The variable that a line declares.
 pub(crate) fn declaration(alloc: Global, piece: &[u8]) -> Result<Option<(Name, Kind)>, Memory>
-    ensures { IfOk result (λ found. MatchOption found ((v : Declared) → IsTrue (is_identifier v.0) → declaration_text v ≢ piece.now)
-        (λ v. IsTrue (is_identifier v.0) × (declaration_text v ≡ piece.now))) }
+    ensures { IfOk result (λ found. MatchOption found ((v : Declared) → IsTrue (is_identifier v.0) → indented (declaration_text v) ≢ piece.now)
+        (λ v. IsTrue (is_identifier v.0) × (indented (declaration_text v) ≡ piece.now))) }
 {
-    let Some(rest) = behind(piece, b"    ") else {
-        return Ok(None);
-    };
-    let Some(text) = before(rest, b";\n") else {
+    let Some(text) = inside_line(piece) else {
         return Ok(None);
     };
     let Some((kind, bytes)) = declared(text) else {

@@ -8,8 +8,8 @@
 //! that cannot stand, exactly as `specs/Reading.antt` says. There is one relation for both ways: a line is read as what
 //! it seems to be, and is that line only where writing it gives the same bytes. `reader.rt` goes from line to line,
 //! `part.rt` says which line may follow, `declaration.rt`, `line.rt` and `argument.rt` read the parts of a line,
-//! `unquote.rt` a text in quotes, `variable.rt` and `word.rt` their words. `places_are_one` is the law that a text is
-//! refused at one place.
+//! `unquote.rt` a text in quotes, `variable.rt` finds variables by their names, and `word.rt` reads words. The laws are that
+//! a text is refused at one place (`places_are_one`), and that it has at most one well-formed code (`codes_are_one`).
 #![tactic(auto)]
 
 mod argument;
@@ -26,10 +26,7 @@ mod variable;
 mod word;
 mod writer;
 
-pub use laws::places_are_one;
+pub use laws::{codes_are_one, places_are_one};
 pub use reader::read;
 pub use text_error::TextError;
 pub use writer::write;
-
-#[cfg(test)]
-mod tests;

@@ -6,21 +6,21 @@ ghost use Rattle.c_core.specs.declared.code.CArg.{CArg};
 ghost use Rattle.c_core.specs.declared.code.CLit.{CLit};
 ghost use Rattle.c_core.specs.declared.code.Line.{Line};
 ghost use Rattle.c_core.specs.declared.code.Kind.{Kind};
-ghost use Rattle.c_core.specs.Text.{statement_text, line_text, literal_text, var_text};
+ghost use Rattle.c_core.specs.Text.{statement_text, literal_text, var_text};
 ghost use Rattle.c_core.specs.WellFormed.{is_call_name, is_declared, kind_at, is_counted_kind, spelled_arg, spelled_line, spelled_literal, spelled_target};
 ghost use Rattle.c_text.specs.Words.{HasNo, FindsParts};
 ghost use Rattle.c_text.specs.Variables.{Finds};
-ghost use Rattle.c_text.specs.Statements.{AreNamed, IsSpelledLine, IsLine, IsNoLine, FindsTarget, args_text};
+ghost use Rattle.c_text.specs.Statements.{AreNamed, IsSpelledLine, IsStatement, IsNoStatement, IsLine, IsNoLine, FindsTarget, args_text};
 
 use crate::argument::arguments;
-use crate::statement::write_line;
-use crate::variable::{variable, variable_of};
-use crate::word::{before, behind, cut, is, literal};
+use crate::statement::write_statement;
+use crate::variable::{Variables, variable, variable_of};
+use crate::word::{before, behind, cut, inside_line, is, literal};
 use c_core::{Kind, Line, is_call_name};
 use outside_core::MemSink;
 use std::alloc::Global;
 use std::str;
-use value_core::{Many, Memory, Name};
+use value_core::{Memory, Name};
 
 /// The bytes as the name in a call.
 fn call_name(alloc: Global, bytes: &[u8]) -> Result<Option<Name>, Memory>
@@ -53,7 +53,7 @@ fn call_parts(text: &[u8]) -> Option<(&[u8], &[u8])>
 /// The call of a word with what stands between its brackets.
 fn call_of(
     alloc: Global,
-    vars: &Many<(Name, Kind)>,
+    vars: &Variables,
     target: Option<usize>,
     word: &[u8],
     inside: &[u8],
@@ -61,7 +61,7 @@ fn call_of(
     requires named { AreNamed vars.now }
     requires declared { IsTrue (spelled_target vars.now target) }
     ensures finds { (args : List CArg) → IsTrue (is_call_name word.now) → IsTrue (list_all (spelled_arg vars.now) args) → args_text vars.now args ≡ inside.now →
-        IfOk result (λ found. Finds vars.now (statement_text vars.now) found (Line.Call target word.now args)) }
+        IfOk result (λ found. Finds (statement_text vars.now) found (Line.Call target word.now args)) }
     ensures spelled { IfOk result (IsSpelledLine vars.now) }
 {
     let Some(name) = call_name(alloc, word)? else {
@@ -74,10 +74,10 @@ fn call_of(
 }
 
 /// The count of the variable of this kind that a word writes.
-fn release_of(vars: &Many<(Name, Kind)>, word: &[u8], kind: Kind) -> Option<Line>
+fn release_of(vars: &Variables, word: &[u8], kind: Kind) -> Option<Line>
     requires { IsTrue (is_counted_kind vars.now (Some kind)) }
     ensures finds { (x : ℕ) → kind_at vars.now x ≡ Some kind → var_text vars.now x ≡ word.now →
-        Finds vars.now (statement_text vars.now) result (Line.Dec x) }
+        Finds (statement_text vars.now) result (Line.Dec x) }
     ensures spelled { IsSpelledLine vars.now result }
 {
     match variable_of(vars, word, kind) {
@@ -87,13 +87,13 @@ fn release_of(vars: &Many<(Name, Kind)>, word: &[u8], kind: Kind) -> Option<Line
 }
 
 /// A statement that begins with the name of a call or a count.
-fn call(alloc: Global, vars: &Many<(Name, Kind)>, text: &[u8]) -> Result<Option<Line>, Memory>
+fn call(alloc: Global, vars: &Variables, text: &[u8]) -> Result<Option<Line>, Memory>
     requires { AreNamed vars.now }
     ensures calls { (name : List ℕ) (args : List CArg) → IsTrue (spelled_line vars.now (Line.Call None name args)) →
         statement_text vars.now (Line.Call None name args) ≡ text.now →
-        IfOk result (λ found. Finds vars.now (statement_text vars.now) found (Line.Call None name args)) }
+        IfOk result (λ found. Finds (statement_text vars.now) found (Line.Call None name args)) }
     ensures counts { (x : ℕ) → IsTrue (spelled_line vars.now (Line.Dec x)) → statement_text vars.now (Line.Dec x) ≡ text.now →
-        IfOk result (λ found. Finds vars.now (statement_text vars.now) found (Line.Dec x)) }
+        IfOk result (λ found. Finds (statement_text vars.now) found (Line.Dec x)) }
     ensures spelled { IfOk result (IsSpelledLine vars.now) }
 {
     let Some((word, inside)) = call_parts(text) else {
@@ -111,7 +111,7 @@ fn call(alloc: Global, vars: &Many<(Name, Kind)>, text: &[u8]) -> Result<Option<
 /// What is assigned to a variable: a literal or a call.
 fn assigned(
     alloc: Global,
-    vars: &Many<(Name, Kind)>,
+    vars: &Variables,
     place: usize,
     text: &[u8],
 ) -> Result<Option<Line>, Memory>
@@ -121,7 +121,7 @@ fn assigned(
         IfOk result (λ found. found ≡ Some (Line.Lit place l)) }
     ensures calls { (name : List ℕ) (args : List CArg) → IsTrue (is_call_name name) → IsTrue (list_all (spelled_arg vars.now) args) →
         name ++ (codes "(" ++ (args_text vars.now args ++ codes ")")) ≡ text.now →
-        IfOk result (λ found. Finds vars.now (statement_text vars.now) found (Line.Call (Some place) name args)) }
+        IfOk result (λ found. Finds (statement_text vars.now) found (Line.Call (Some place) name args)) }
     ensures spelled { IfOk result (IsSpelledLine vars.now) }
 {
     if let Some(_) = behind(text, b"CPy") {
@@ -138,7 +138,7 @@ fn assigned(
 }
 
 /// The target of an assignment, and what stands behind the equals sign.
-fn target<'a>(vars: &Many<(Name, Kind)>, text: &'a [u8]) -> Option<(usize, &'a [u8])>
+fn target<'a>(vars: &Variables, text: &'a [u8]) -> Option<(usize, &'a [u8])>
     requires { AreNamed vars.now }
     ensures finds { (x : ℕ) (value : List ℕ) → IsTrue (is_declared vars.now x) → var_text vars.now x ++ (codes " = " ++ value) ≡ text.now →
         FindsTarget vars.now result x value }
@@ -157,10 +157,10 @@ fn target<'a>(vars: &Many<(Name, Kind)>, text: &'a [u8]) -> Option<(usize, &'a [
 }
 
 /// A statement: what stands between the spaces and the semicolon of its line.
-fn statement(alloc: Global, vars: &Many<(Name, Kind)>, text: &[u8]) -> Result<Option<Line>, Memory>
+fn statement(alloc: Global, vars: &Variables, text: &[u8]) -> Result<Option<Line>, Memory>
     requires { AreNamed vars.now }
     ensures finds { (l : Line) → IsTrue (spelled_line vars.now l) → statement_text vars.now l ≡ text.now →
-        IfOk result (λ found. Finds vars.now (statement_text vars.now) found l) }
+        IfOk result (λ found. Finds (statement_text vars.now) found l) }
     ensures spelled { IfOk result (IsSpelledLine vars.now) }
 {
     if let Some(word) = behind(text, b"return ") {
@@ -178,57 +178,39 @@ fn statement(alloc: Global, vars: &Many<(Name, Kind)>, text: &[u8]) -> Result<Op
     }
 }
 
-/// The line that a piece seems to be.
-fn seeming_line(
-    alloc: Global,
-    vars: &Many<(Name, Kind)>,
-    piece: &[u8],
-) -> Result<Option<Line>, Memory>
-    requires { AreNamed vars.now }
-    ensures finds { (l : Line) → IsTrue (spelled_line vars.now l) → line_text vars.now l ≡ piece.now →
-        IfOk result (λ found. Finds vars.now (line_text vars.now) found l) }
-    ensures spelled { IfOk result (IsSpelledLine vars.now) }
-{
-    match behind(piece, b"    ") {
-        Some(rest) => match before(rest, b";\n") {
-            Some(text) => statement(alloc, vars, text),
-            None => Ok(None),
-        },
-        None => Ok(None),
-    }
-}
-
-/// Whether a line is written so.
-fn is_written(
-    alloc: Global,
-    vars: &Many<(Name, Kind)>,
-    line: &Line,
-    piece: &[u8],
-) -> Result<bool, Memory>
-    ensures { IfOk result (λ same. IsTrue same ↔ (line_text vars.now line.now ≡ piece.now)) }
+/// Whether a statement is written so.
+fn is_written(alloc: Global, vars: &Variables, line: &Line, text: &[u8]) -> Result<bool, Memory>
+    ensures { IfOk result (λ same. IsTrue same ↔ (statement_text vars.now line.now ≡ text.now)) }
 {
     let mut written = MemSink::new(alloc, Vec::new(alloc));
-    match write_line(vars, line, &mut written) {
-        Ok(()) => Ok(is(written.bytes(), piece)),
+    match write_statement(vars.list(), line, &mut written) {
+        Ok(()) => Ok(is(written.bytes(), text)),
         Err(_) => Err(Memory),
     }
 }
 
-/// The line of a function that a piece is, with its line feed.
-pub(crate) fn line(
-    alloc: Global,
-    vars: &Many<(Name, Kind)>,
-    piece: &[u8],
-) -> Result<Option<Line>, Memory>
+/// The statement that a text is.
+fn written_statement(alloc: Global, vars: &Variables, text: &[u8]) -> Result<Option<Line>, Memory>
     requires { AreNamed vars.now }
-    ensures { IfOk result (λ found. MatchOption found (IsNoLine vars.now piece.now) (IsLine vars.now piece.now)) }
+    ensures { IfOk result (λ found. MatchOption found (IsNoStatement vars.now text.now) (IsStatement vars.now text.now)) }
 {
-    let Some(line) = seeming_line(alloc, vars, piece)? else {
+    let Some(line) = statement(alloc, vars, text)? else {
         return Ok(None);
     };
-    if is_written(alloc, vars, &line, piece)? {
+    if is_written(alloc, vars, &line, text)? {
         Ok(Some(line))
     } else {
         Ok(None)
     }
+}
+
+/// The statement that stands on a line.
+pub(crate) fn line(alloc: Global, vars: &Variables, piece: &[u8]) -> Result<Option<Line>, Memory>
+    requires { AreNamed vars.now }
+    ensures { IfOk result (λ found. MatchOption found (IsNoLine vars.now piece.now) (IsLine vars.now piece.now)) }
+{
+    let Some(text) = inside_line(piece) else {
+        return Ok(None);
+    };
+    written_statement(alloc, vars, text)
 }

@@ -6,22 +6,23 @@ ghost use Rattle.c_text.specs.Statements.{AreNamed};
 
 use crate::declaration::declaration;
 use crate::line::line;
+use crate::variable::Variables;
 use crate::word::is;
 use c_core::{Kind, Line};
 use std::alloc::Global;
 use value_core::{Many, Memory, Name};
 
 /// How far a text has come.
-#[derive(Debug, Drop)]
+#[derive(Drop)]
 pub(crate) enum Part {
     /// Nothing was read.
     Start,
     /// The first line was read.
     Head,
     /// The module's function has begun, and a declaration may follow.
-    Declarations(Many<(Name, Kind)>),
+    Declarations(Variables),
     /// The function has a statement.
-    Statements(Many<(Name, Kind)>, Many<Line>),
+    Statements(Variables, Many<Line>),
     /// The function has ended.
     Closed(Many<(Name, Kind)>, Many<Line>),
 }
@@ -29,7 +30,7 @@ pub(crate) enum Part {
 fn behind_start(piece: &[u8]) -> Option<Part>
     ensures { GoesOn variant.Start piece.now result }
 {
-    if is(piece, b"/* mypyc subset 1 */\n") {
+    if is(piece, b"/* mypyc subset 1 */") {
         Some(Part::Head)
     } else {
         None
@@ -39,26 +40,22 @@ fn behind_start(piece: &[u8]) -> Option<Part>
 fn behind_head(alloc: Global, piece: &[u8]) -> Option<Part>
     ensures { GoesOn variant.Head piece.now result }
 {
-    if is(piece, b"char CPyModule(void) {\n") {
-        Some(Part::Declarations(Many::new(alloc)))
+    if is(piece, b"char CPyModule(void) {") {
+        Some(Part::Declarations(Variables::new(alloc)))
     } else {
         None
     }
 }
 
-fn behind_declarations(
-    alloc: Global,
-    mut vars: Many<(Name, Kind)>,
-    piece: &[u8],
-) -> Result<Option<Part>, Memory>
+fn behind_declarations(alloc: Global, vars: Variables, piece: &[u8]) -> Result<Option<Part>, Memory>
     requires { AreNamed vars }
     ensures { IfOk result (GoesOn (variant.Declarations vars) piece.now) }
 {
-    if is(piece, b"}\n") {
-        return Ok(Some(Part::Closed(vars, Many::new(alloc))));
+    if is(piece, b"}") {
+        return Ok(Some(Part::Closed(vars.into_list(), Many::new(alloc))));
     }
     if let Some(declared) = declaration(alloc, piece)? {
-        vars.push(declared)?;
+        let vars = vars.and(alloc, declared)?;
         return Ok(Some(Part::Declarations(vars)));
     }
     let Some(line) = line(alloc, &vars, piece)? else {
@@ -71,15 +68,15 @@ fn behind_declarations(
 
 fn behind_statements(
     alloc: Global,
-    vars: Many<(Name, Kind)>,
+    vars: Variables,
     mut lines: Many<Line>,
     piece: &[u8],
 ) -> Result<Option<Part>, Memory>
     requires { IsFine (variant.Statements vars lines) }
     ensures { IfOk result (GoesOn (variant.Statements vars lines) piece.now) }
 {
-    if is(piece, b"}\n") {
-        return Ok(Some(Part::Closed(vars, lines)));
+    if is(piece, b"}") {
+        return Ok(Some(Part::Closed(vars.into_list(), lines)));
     }
     let Some(line) = line(alloc, &vars, piece)? else {
         return Ok(None);

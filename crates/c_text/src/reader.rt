@@ -1,9 +1,9 @@
 ghost use Rattle.std.specs.Prelude.{◌≡◌, ◌++◌, ◌<◌, length, IfOk, IfErr, MatchOption};
 ghost use Rattle.c_text.specs.declared.text_error.TextError.TheVariants as errors;
 ghost use Rattle.c_text.specs.Reading.{IsReading, SaysRefused};
-ghost use Rattle.c_text.specs.Words.{HasNo};
-ghost use Rattle.c_text.specs.Parts.{IsFine, IsOneLine, module_code, part_lines};
-ghost use Rattle.c_text.specs.Whole.{whole_text};
+ghost use Rattle.c_text.specs.Words.{HasNo, IsFirstLine};
+ghost use Rattle.c_core.specs.Text.{text_of};
+ghost use Rattle.c_text.specs.Parts.{IsFine, module_code, part_lines};
 
 use crate::part::{Part, behind_line};
 use crate::text_error::TextError;
@@ -12,12 +12,12 @@ use c_core::{CFunc, Code, Kind, Line};
 use std::alloc::Global;
 use value_core::{Many, Name};
 
-/// The first line of a text, with its line feed, and the rest.
+/// The first line of a text, without its line feed, and what stands behind that.
 fn first_line(text: &[u8]) -> Option<(&[u8], &[u8])>
-    ensures { MatchOption result (HasNo 10 text.now) (λ p. IsOneLine p.0.now × (text.now ≡ p.0.now ++ p.1.now) × (length p.1.now < length text.now)) }
+    ensures { MatchOption result (HasNo 10 text.now) (λ p. IsFirstLine p.0.now p.1.now text.now × (length p.1.now < length text.now)) }
 {
     match place_of(text, b'\n') {
-        Some(place) => Some(text.split_at(place + 1)),
+        Some(place) => Some((&text[..place], &text[place + 1..])),
         None => None,
     }
 }
@@ -52,9 +52,9 @@ fn module_code(
 fn finish(alloc: Global, part: Part, rest: &[u8], len: usize) -> Result<Code, TextError>
     requires fine { IsFine part }
     requires plain { HasNo 10 rest.now }
-    requires whole { len ≡ length (whole_text (part_lines part) ++ rest.now) }
-    ensures reading { IfOk result (IsReading (whole_text (part_lines part) ++ rest.now)) }
-    ensures refused { IfErr result (SaysRefused (whole_text (part_lines part) ++ rest.now)) }
+    requires whole { len ≡ length (text_of (part_lines part) ++ rest.now) }
+    ensures reading { IfOk result (IsReading (text_of (part_lines part) ++ rest.now)) }
+    ensures refused { IfErr result (SaysRefused (text_of (part_lines part) ++ rest.now)) }
 {
     match part {
         Part::Closed(vars, lines) => {

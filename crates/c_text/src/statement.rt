@@ -3,7 +3,8 @@ ghost use Rattle.std.specs.Fmt.{signed_decimal};
 ghost use Rattle.std.specs.List.{flat_map};
 ghost use Rattle.outside_core.specs.Counts.{count_after};
 ghost use Rattle.outside_core.specs.Bytes.{TakesFront};
-ghost use Rattle.c_core.specs.Text.{comma, joined, var_text, arg_text, arg_texts, literal_text, target_text, counter_of, statement_text, line_text};
+ghost use Rattle.c_core.specs.Text.{comma, joined, var_text, arg_text, arg_texts, literal_text, target_text, counter_of, statement_text};
+ghost use Rattle.c_text.specs.Written.{line_written};
 ghost use Rattle.c_text.specs.Arguments.{next_text};
 
 use crate::quote::write_quoted;
@@ -20,16 +21,16 @@ pub(crate) fn write_line<O: Sink>(
 ) -> Result<(), WriteFault>
     ensures counted { O.faults out.new ≡ count_after result (O.faults out.old) }
     ensures taken { OnOk result (IsTrue O.tells →
-        O.taken out.new ≡ O.taken out.old ++ line_text vars.now line.now) }
+        O.taken out.new ≡ O.taken out.old ++ line_written vars.now line.now) }
     ensures front { OnErr result (IsTrue O.tells →
-        TakesFront (O.taken out.old) (O.taken out.new) (line_text vars.now line.now)) }
+        TakesFront (O.taken out.old) (O.taken out.new) (line_written vars.now line.now)) }
 {
     write_whole(out, b"    ")?;
     write_statement(vars, line, out)?;
     write_whole(out, b";\n")
 }
 
-fn write_statement<O: Sink>(
+pub(crate) fn write_statement<O: Sink>(
     vars: &Many<(Name, Kind)>,
     line: &Line,
     out: &mut O,

@@ -4,7 +4,7 @@ ghost use Rattle.std.specs.Fmt.{signed_decimal};
 ghost use Rattle.std.specs.List.{position_from};
 ghost use Rattle.value_core.specs.Arithmetic.{lies_within};
 ghost use Rattle.c_core.specs.declared.code.CLit.{CLit};
-ghost use Rattle.c_core.specs.Text.{literal_text};
+ghost use Rattle.c_core.specs.Text.{indented, literal_text};
 ghost use Rattle.c_core.specs.WellFormed.{is_identifier, spelled_literal};
 ghost use Rattle.c_text.specs.Words.{HasNo, FindsParts, EndsArgument};
 
@@ -25,6 +25,19 @@ pub(crate) fn before<'a>(bytes: &'a [u8], suffix: &[u8]) -> Option<&'a [u8]>
     ensures { MatchOption result ((front : List ℕ) → bytes.now ≢ front ++ suffix.now) (λ front. bytes.now ≡ front.now ++ suffix.now) }
 {
     bytes.strip_suffix(suffix)
+}
+
+/// What stands between the spaces and the semicolon of a line.
+pub(crate) fn inside_line(piece: &[u8]) -> Option<&[u8]>
+    ensures { MatchOption result ((text : List ℕ) → indented text ≢ piece.now) (λ text. indented text.now ≡ piece.now) }
+{
+    let Some(rest) = behind(piece, b"    ") else {
+        return None;
+    };
+    match before(rest, b";") {
+        Some(text) => Some(text),
+        None => None,
+    }
 }
 
 /// The first place of a byte.

@@ -2,7 +2,8 @@ ghost use Rattle.std.specs.Prelude.{◌≡◌, ◌++◌, IsTrue, OnOk, OnErr};
 ghost use Rattle.std.specs.List.{flat_map};
 ghost use Rattle.outside_core.specs.Counts.{count_after};
 ghost use Rattle.outside_core.specs.Bytes.{TakesFront};
-ghost use Rattle.c_core.specs.Text.{kind_text, declaration_text, line_text, top_text, code_text};
+ghost use Rattle.c_core.specs.Text.{kind_text, code_text};
+ghost use Rattle.c_text.specs.Written.{declaration_written, line_written, function_written};
 
 use crate::statement::{write_line, write_name};
 use c_core::{CFunc, Code, Kind, Line};
@@ -25,9 +26,9 @@ pub fn write<O: Sink>(code: &Code, out: &mut O) -> Result<(), WriteFault>
 fn write_functions<O: Sink>(functions: &Many<CFunc>, out: &mut O) -> Result<(), WriteFault>
     ensures counted { O.faults out.new ≡ count_after result (O.faults out.old) }
     ensures taken { OnOk result (IsTrue O.tells →
-        O.taken out.new ≡ O.taken out.old ++ (flat_map top_text functions.now)) }
+        O.taken out.new ≡ O.taken out.old ++ (flat_map function_written functions.now)) }
     ensures front { OnErr result (IsTrue O.tells →
-        TakesFront (O.taken out.old) (O.taken out.new) (flat_map top_text functions.now)) }
+        TakesFront (O.taken out.old) (O.taken out.new) (flat_map function_written functions.now)) }
 {
     for function in functions.as_slice() {
         write_top(function, out)?;
@@ -39,9 +40,9 @@ fn write_functions<O: Sink>(functions: &Many<CFunc>, out: &mut O) -> Result<(), 
 fn write_top<O: Sink>(function: &CFunc, out: &mut O) -> Result<(), WriteFault>
     ensures counted { O.faults out.new ≡ count_after result (O.faults out.old) }
     ensures taken { OnOk result (IsTrue O.tells →
-        O.taken out.new ≡ O.taken out.old ++ top_text function.now) }
+        O.taken out.new ≡ O.taken out.old ++ function_written function.now) }
     ensures front { OnErr result (IsTrue O.tells →
-        TakesFront (O.taken out.old) (O.taken out.new) (top_text function.now)) }
+        TakesFront (O.taken out.old) (O.taken out.new) (function_written function.now)) }
 {
     write_whole(out, b"char CPyModule(void) {\n")?;
     write_declarations(&function.vars, out)?;
@@ -52,9 +53,9 @@ fn write_top<O: Sink>(function: &CFunc, out: &mut O) -> Result<(), WriteFault>
 fn write_declarations<O: Sink>(vars: &Many<(Name, Kind)>, out: &mut O) -> Result<(), WriteFault>
     ensures counted { O.faults out.new ≡ count_after result (O.faults out.old) }
     ensures taken { OnOk result (IsTrue O.tells →
-        O.taken out.new ≡ O.taken out.old ++ flat_map declaration_text vars.now) }
+        O.taken out.new ≡ O.taken out.old ++ flat_map declaration_written vars.now) }
     ensures front { OnErr result (IsTrue O.tells →
-        TakesFront (O.taken out.old) (O.taken out.new) (flat_map declaration_text vars.now)) }
+        TakesFront (O.taken out.old) (O.taken out.new) (flat_map declaration_written vars.now)) }
 {
     for declared in vars.as_slice() {
         write_declaration(declared, out)?;
@@ -65,9 +66,9 @@ fn write_declarations<O: Sink>(vars: &Many<(Name, Kind)>, out: &mut O) -> Result
 fn write_declaration<O: Sink>(declared: &(Name, Kind), out: &mut O) -> Result<(), WriteFault>
     ensures counted { O.faults out.new ≡ count_after result (O.faults out.old) }
     ensures taken { OnOk result (IsTrue O.tells →
-        O.taken out.new ≡ O.taken out.old ++ declaration_text declared.now) }
+        O.taken out.new ≡ O.taken out.old ++ declaration_written declared.now) }
     ensures front { OnErr result (IsTrue O.tells →
-        TakesFront (O.taken out.old) (O.taken out.new) (declaration_text declared.now)) }
+        TakesFront (O.taken out.old) (O.taken out.new) (declaration_written declared.now)) }
 {
     write_whole(out, b"    ")?;
     write_kind(declared.1, out)?;
@@ -99,9 +100,9 @@ fn write_lines<O: Sink>(
 ) -> Result<(), WriteFault>
     ensures counted { O.faults out.new ≡ count_after result (O.faults out.old) }
     ensures taken { OnOk result (IsTrue O.tells →
-        O.taken out.new ≡ O.taken out.old ++ flat_map (line_text vars.now) lines.now) }
+        O.taken out.new ≡ O.taken out.old ++ flat_map (line_written vars.now) lines.now) }
     ensures front { OnErr result (IsTrue O.tells →
-        TakesFront (O.taken out.old) (O.taken out.new) (flat_map (line_text vars.now) lines.now)) }
+        TakesFront (O.taken out.old) (O.taken out.new) (flat_map (line_written vars.now) lines.now)) }
 {
     for line in lines.as_slice() {
         write_line(vars, line, out)?;

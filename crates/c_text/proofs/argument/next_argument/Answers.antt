@@ -1,7 +1,7 @@
 use Rattle.std.proofs.Common.{sym, ◌∙◌, ap}
 use Rattle.c_core.specs.declared.code.CArg.TheVariants as arg
 use Rattle.c_core.specs.Text.{arg_text}
-use Rattle.c_text.proofs.ArgumentLemmas.{alike_is, is_quoted, is_word, spelled_name, HasNo-word}
+use Rattle.c_text.proofs.ArgumentLemmas.{is_quoted, is_word, spelled_name, HasNo-word}
 use Rattle.c_text.proofs.argument.next_argument.Goals as goal
 
 pub returns-in-Some-2-clause-finds : goal.returns-in-Some-2-clause-finds
@@ -9,7 +9,7 @@ returns-in-Some-2-clause-finds c = λ a rest h ends e.
     let q = is_quoted c.args.vars.now a rest c.in-Some.inside.now h (e ∙ c.in-Some.ensures) in
     let f = c.in_ok-text.ensures.finds q.0 rest (spelled_name c.args.vars.now a (arg.Text q.0) q.1 h) q.2 in
     let g = rw c.in-Some-2.is at f in
-    (alike_is _ _ a (arg.Text c.in-Some-2.text) (q.1 ∙ ap arg.Text (sym g.0)), g.1)
+    (ap (arg_text c.args.vars.now) (q.1 ∙ ap arg.Text (sym g.0)), g.1)
 
 pub returns-in-None-clause-finds : goal.returns-in-None-clause-finds
 returns-in-None-clause-finds c = λ a rest h ends e.

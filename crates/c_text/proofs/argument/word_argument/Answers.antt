@@ -1,7 +1,7 @@
 use Rattle.std.proofs.Common.{sym, ◌∙◌, ap}
 use Rattle.c_core.specs.declared.code.CArg.TheVariants as arg
 use Rattle.std.proofs.lemmas.Bool.{false≢true}
-use Rattle.c_text.proofs.ArgumentLemmas.{alike_is, is_global, is_class, is_variable, is_number, spelled_name, variable_argument}
+use Rattle.c_text.proofs.ArgumentLemmas.{is_global, is_class, is_variable, is_number, spelled_name, variable_argument}
 use Rattle.c_core.specs.Text.{arg_text}
 use Rattle.c_text.proofs.Numbers.{number_again}
 use Rattle.c_text.proofs.argument.word_argument.Goals as goal
@@ -10,7 +10,7 @@ pub returns-in-Some-2-clause-finds : goal.returns-in-Some-2-clause-finds
 returns-in-Some-2-clause-finds c = λ a h w e.
     let g = is_global c.args.vars.now a c.args.word.now c.in-Some.word.now h w e c.in-Some.ensures in
     let n = rw c.in-Some-2.is at c.in_ok-name.ensures in
-    alike_is _ _ a (arg.Global c.in-Some-2.name) (g ∙ ap arg.Global (sym n.0))
+    ap (arg_text c.args.vars.now) (g ∙ ap arg.Global (sym n.0))
 
 pub returns-in-None-clause-finds : goal.returns-in-None-clause-finds
 returns-in-None-clause-finds c = λ a h w e.
@@ -22,7 +22,7 @@ pub returns-in-Some-3-clause-finds : goal.returns-in-Some-3-clause-finds
 returns-in-Some-3-clause-finds c = λ a h w e.
     let g = is_class c.args.vars.now a c.args.word.now c.in-Some-behind.word.now h w e c.in-Some-behind.ensures in
     let n = rw c.in-Some-3.is at c.in_ok-name-2.ensures in
-    alike_is _ _ a (arg.Class c.in-Some-3.name) (g ∙ ap arg.Class (sym n.0))
+    ap (arg_text c.args.vars.now) (g ∙ ap arg.Class (sym n.0))
 
 pub returns-in-None-2-clause-finds : goal.returns-in-None-2-clause-finds
 returns-in-None-2-clause-finds c = λ a h w e.
@@ -47,7 +47,7 @@ returns-in-Some-number-clause-finds c = λ a h w e.
     let g = is_number c.args.vars.now a c.args.word.now h w e c.in_default.ensures c.in_default-behind.ensures c.in_default-behind-2.ensures in
     let s = spelled_name c.args.vars.now a (arg.Number g.0) g.1 h in
     let f = c.number.ensures.finds g.0 s (ap (arg_text c.args.vars.now) (sym g.1) ∙ e) in
-    alike_is _ _ a _ (g.1 ∙ ap arg.Number (number_again g.0 c.in-Some-number.number s (sym c.in-Some-number.is ∙ f)))
+    ap (arg_text c.args.vars.now) (g.1 ∙ ap arg.Number (number_again g.0 c.in-Some-number.number s (sym c.in-Some-number.is ∙ f)))
 
 pub returns-in-None-number-clause-finds : goal.returns-in-None-number-clause-finds
 returns-in-None-number-clause-finds c = λ a h w e.

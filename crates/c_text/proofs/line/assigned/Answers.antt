@@ -15,7 +15,7 @@ pub returns-in-Some-call_parts-clause-calls : goal.returns-in-Some-call_parts-cl
 returns-in-Some-call_parts-clause-calls c = λ name args h k e.
     let vars = c.args.vars.now in
     let p = c.in-Some-call_parts.ensures name (args_text vars args) (HasNo-call_name 40 name (omega arith) bracket_stops refl h) e in
-    subst (λ (n : List ℕ). IfOk c.call_of.result (λ found. Finds vars (statement_text vars) found (Call (Some c.args.place) n args))) p.0
+    subst (λ (n : List ℕ). IfOk c.call_of.result (λ found. Finds (statement_text vars) found (Call (Some c.args.place) n args))) p.0
     (c.call_of.ensures.finds args (ap is_call_name p.0 ∙ h) k (sym p.1))
 
 pub returns-in-None-clause-literals : goal.returns-in-None-clause-literals

@@ -55,7 +55,7 @@ returns-else-is-2-clause-calls c = λ name args h e.
     let vars = c.args.vars.now in
     let k = and_true (is_call_name name) _ h in
     let p = c.in-Some.ensures name (args_text vars args) (HasNo-call_name 40 name (omega arith) bracket_stops refl k.0) e in
-    subst (λ (n : List ℕ). IfOk c.call_of.result (λ found. Finds vars (statement_text vars) found (Call None n args))) p.0
+    subst (λ (n : List ℕ). IfOk c.call_of.result (λ found. Finds (statement_text vars) found (Call None n args))) p.0
     (c.call_of.ensures.finds args (ap is_call_name p.0 ∙ k.0) k.1 (sym p.1))
 
 pub returns-else-is-2-clause-counts : goal.returns-else-is-2-clause-counts

@@ -2,7 +2,7 @@ use Rattle.std.proofs.Common.{ℕ, ◌++◌, sym, subst}
 use Rattle.c_text.specs.declared.text_error.TextError.TheVariants.{Refused}
 use Rattle.c_text.specs.Parts.{part_lines}
 use Rattle.c_text.specs.Reading.{SaysRefused}
-use Rattle.c_text.specs.Whole.{whole_text}
+use Rattle.c_core.specs.Text.{text_of}
 use Rattle.c_text.proofs.ArgumentLemmas.{empty_is, more_is}
 use Rattle.c_text.proofs.ReadLemmas.{finish_reading, refused_rest, refused_open, open_is}
 use Rattle.c_text.proofs.reader.finish.Goals as goal
@@ -13,12 +13,12 @@ returns-then-is_empty-clause-reading c =
 
 pub returns-in-Closed-clause-refused : goal.returns-in-Closed-clause-refused
 returns-in-Closed-clause-refused c =
-    subst (λ (n : ℕ). SaysRefused (whole_text (part_lines c.args.part) ++ c.args.rest.now) (Refused n)) (sym c.requires.whole)
+    subst (λ (n : ℕ). SaysRefused (text_of (part_lines c.args.part) ++ c.args.rest.now) (Refused n)) (sym c.requires.whole)
     (refused_rest c.args.part c.args.rest.now c.requires.fine c.requires.plain (more_is c.args.rest.now c.if-is_empty.ensures))
 
 pub returns : goal.returns
 returns c = record {
   reading = tt;
-  refused = subst (λ (n : ℕ). SaysRefused (whole_text (part_lines c.args.part) ++ c.args.rest.now) (Refused n)) (sym c.requires.whole)
+  refused = subst (λ (n : ℕ). SaysRefused (text_of (part_lines c.args.part) ++ c.args.rest.now) (Refused n)) (sym c.requires.whole)
       (refused_open c.args.part c.args.rest.now c.requires.fine c.requires.plain (open_is c.args.part c.in_default.not-Closed));
 }

@@ -1,4 +1,4 @@
-use Rattle.c_core.specs.Text.{top_text}
+use Rattle.c_text.specs.Written.{function_written}
 use Rattle.c_text.proofs.Fronts.{OnOk-through, all_behind, OnErr-front, OnErr-through, front_of_first, front_behind}
 use Rattle.c_text.proofs.writer.write_top.Goals as goal
 
@@ -21,5 +21,5 @@ returns-clause-front g c =
 
 pub returns-clause-taken : goal.returns-clause-taken
 returns-clause-taken g c =
-    OnOk-through (g.O.Sink.taken c.args.out.now) (top_text c.args.function.now) _ (λ tells taken. all_behind _ _ (c.in_ok-write_whole.ensures.taken tells) (all_behind _ _ (c.in_ok-write_declarations.ensures.taken tells) (all_behind _ _ (c.in_ok-write_lines.ensures.taken tells) taken)))
+    OnOk-through (g.O.Sink.taken c.args.out.now) (function_written c.args.function.now) _ (λ tells taken. all_behind _ _ (c.in_ok-write_whole.ensures.taken tells) (all_behind _ _ (c.in_ok-write_declarations.ensures.taken tells) (all_behind _ _ (c.in_ok-write_lines.ensures.taken tells) taken)))
     c.write_whole-2.ensures.taken
