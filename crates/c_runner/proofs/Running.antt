@@ -1,5 +1,5 @@
 -- A run that goes on, and what is answered where it ends.
-use Rattle.std.proofs.Common.{◌≡◌, refl, sym, ◌∙◌, ap, subst, ℕ, ◌+◌, ◌-◌, ◌^◌, ◌<◌, ◌≤◌, arith, Bool, false, List, [], ◌++◌, length, append_assoc, append-nil, Some, None, Ok, Err}
+use Rattle.std.proofs.Common.{◌≡◌, refl, sym, ◌∙◌, ap, subst, ℕ, ◌+◌, ◌-◌, ◌^◌, ◌<◌, ◌≤◌, arith, Bool, true, false, ◌||◌, List, [], ◌∷◌, ◌++◌, length, append_assoc, append-nil, Some, None, Ok, Err}
 use Rattle.std.specs.Prelude.{min, nat_le, IsTrue, Result}
 use Rattle.std.proofs.lemmas.Bool.Decides.{nat_tests}
 use Rattle.value_core.specs.Items.{Items, AtEof, input_items}
@@ -16,11 +16,41 @@ use Rattle.c_runner.specs.declared.report.Report.{Report}
 use Rattle.c_runner.specs.declared.report.RunError.{RunError}
 use Rattle.c_runner.specs.declared.report.RunError.TheVariants.{WriteFault, Memory}
 use Rattle.c_runner.specs.declared.state.State.{State}
-use Rattle.c_runner.specs.Handing.{HandsOn}
+use Rattle.c_runner.specs.Handing.{HandsOn, has_bytes}
 use Rattle.c_runner.specs.Ran.{AreGiven, Ran, given_items}
 use Rattle.c_runner.specs.Report.{ending_of, live_cells, Reports}
 use Rattle.c_runner.specs.States.{Rest, IsCountable, first_rest, state_of, Follows}
 use Rattle.c_runner.proofs.StepLemmas.{some_left, one_taken, one_further, grows}
+
+-- ---- whether there are any bytes
+first_none : (a b : List ℕ) → a ++ b ≡ [] → has_bytes a ≡ false
+first_none [] b e = refl
+first_none (x ∷ a) b e = absurd (cc)
+
+second_none : (a b : List ℕ) → a ++ b ≡ [] → b ≡ []
+second_none [] b e = e
+second_none (x ∷ a) b e = absurd (cc)
+
+some_and_none : (A : Type 0) (a : List ℕ) → has_bytes a ≡ true → a ≡ [] → A
+some_and_none A [] some none = absurd (cc)
+some_and_none A (x ∷ a) some none = absurd (cc)
+
+any_of_both : (a b : List ℕ) → has_bytes b || has_bytes a ≡ has_bytes (a ++ b)
+any_of_both [] [] = refl
+any_of_both [] (y ∷ b) = refl
+any_of_both (x ∷ a) [] = refl
+any_of_both (x ∷ a) (y ∷ b) = refl
+
+none_of_either : (a b : Bool) → a || b ≡ false → (a ≡ false) × (b ≡ false)
+none_of_either true b e = absurd (cc)
+none_of_either false b e = (refl, e)
+
+-- where neither of two calls gave the sink anything, it is as it was
+pub still_alone : {S : Type 0} (a b : Bool) (first second third : S) → (b ≡ false → second ≡ first) → (a ≡ false → third ≡ second) → a || b ≡ false → third ≡ first
+still_alone a b first second third before behind e =
+    let none = none_of_either a b e in behind none.0 ∙ before none.1
+
+-- ---- a run that goes on
 
 -- the output that was handed on of a run, and else what there was at the start
 abbrev pub rest_after : Code → Items → List ℕ → Rest
@@ -53,6 +83,24 @@ module _ (tells : Bool) (before now : List ℕ) (code : Code) (turns : ℕ) (ite
   can_step exists formed =
       let run = exists code formed turns items in
       some_left code left (state_of rest state) run.0 (running.goes ∙ run.1)
+
+  -- the output begins with what was handed on, and then with what is held
+  begins : (stop : Stop) → machine_run turns items code ≡ Some stop → (more : List ℕ) × (stop.state.output ≡ running.handed ++ (state.output ++ more))
+  begins stop is =
+      let grown = grows code left (state_of rest state) stop refl (running.goes ∙ is) in
+      (grown.more, grown.grown ∙ append_assoc running.handed state.output grown.more)
+
+  -- a sink that is to get nothing was left alone, and a refusal shows that it was to get something
+  pub alone_so_far : {S : Type 0} (has_output : Bool) (first now_is : S) → has_output ≡ has_bytes running.handed → (has_output ≡ false → now_is ≡ first) → (stop : Stop) → machine_run turns items code ≡ Some stop → stop.state.output ≡ [] → now_is ≡ first
+  alone_so_far has_output first now_is has alone stop is none =
+      let b = begins stop is in alone (has ∙ first_none running.handed (state.output ++ b.0) (sym b.1 ∙ none))
+
+  pub refused_held : (A : Type 0) → has_bytes state.output ≡ true → (stop : Stop) → machine_run turns items code ≡ Some stop → stop.state.output ≡ [] → A
+  refused_held A some stop is none =
+      let b = begins stop is in
+      let held : state.output ++ b.0 ≡ [] = second_none running.handed (state.output ++ b.0) (sym b.1 ∙ none) in
+      let nothing : has_bytes state.output ≡ false = first_none state.output b.0 held in
+      absurd (cc)
 
   -- what the sink took is a front of the output
   pub front_so_far : (stop : Stop) → machine_run turns items code ≡ Some stop → IsTrue tells → TakesFront before now stop.state.output
@@ -87,8 +135,11 @@ module _ (tells : Bool) (before now : List ℕ) (code : Code) (turns : ℕ) (ite
       omega (arith, counted, few, running.all_steps, room)
 
   -- some of what is held is handed on
-  pub handed_on : (after output : List ℕ) → HandsOn tells now after state.output output → Running tells before after code turns items left (record state { output = output })
-  handed_on after output hands = record {
+  pub any_handed : (after output : List ℕ) (any has_output : Bool) (hands : HandsOn tells now after state.output output any) → has_output ≡ has_bytes running.handed → any || has_output ≡ has_bytes (running.handed ++ hands.0)
+  any_handed after output any has_output hands has = rw (hands.3, has) (any_of_both running.handed hands.0)
+
+  pub handed_on : (after output : List ℕ) (any : Bool) → HandsOn tells now after state.output output any → Running tells before after code turns items left (record state { output = output })
+  handed_on after output any hands = record {
     handed = running.handed ++ hands.0;
     taken = λ t. hands.2 t ∙ ap (λ l. l ++ hands.0) (running.taken t) ∙ append_assoc before running.handed hands.0;
     steps = running.steps;
@@ -104,6 +155,19 @@ module _ (tells : Bool) (before now : List ℕ) (code : Code) (turns : ℕ) (ite
       let both : Some stop ≡ Some (record { ending = ending_of ending; state = state_of rest new }) = sym is ∙ sym running.goes ∙ last in
       cc
 
+  -- the same at the end of the run
+  end_is : (new : State) (ending : Ending) → 1 ≤ left → Follows (step code) (Some ending) state new → (stop : Stop) → machine_run turns items code ≡ Some stop → stop.state.output ≡ [] → running.handed ++ new.output ≡ []
+  end_is new ending more follows stop is none = sym (ap (λ s. s.state.output) (ended new ending more follows stop is)) ∙ none
+
+  pub alone_at_end : {S : Type 0} (new : State) (ending : Ending) (has_output : Bool) (first now_is last_is : S) → 1 ≤ left → Follows (step code) (Some ending) state new → has_output ≡ has_bytes running.handed → (has_output ≡ false → now_is ≡ first) → (new.output ≡ [] → last_is ≡ now_is) → (stop : Stop) → machine_run turns items code ≡ Some stop → stop.state.output ≡ [] → last_is ≡ first
+  alone_at_end new ending has_output first now_is last_is more follows has alone last_alone stop is none =
+      let nothing = end_is new ending more follows stop is none in
+      last_alone (second_none running.handed new.output nothing) ∙ alone (has ∙ first_none running.handed new.output nothing)
+
+  pub refused_at_end : (A : Type 0) (new : State) (ending : Ending) → 1 ≤ left → Follows (step code) (Some ending) state new → has_bytes new.output ≡ true → (stop : Stop) → machine_run turns items code ≡ Some stop → stop.state.output ≡ [] → A
+  refused_at_end A new ending more follows some stop is none =
+      some_and_none A new.output some (second_none running.handed new.output (end_is new ending more follows stop is none))
+
   -- of the whole output a front was taken, or all
   pub front_at_end : (new : State) (ending : Ending) (after : List ℕ) → 1 ≤ left → Follows (step code) (Some ending) state new → (IsTrue tells → TakesFront now after new.output) → (stop : Stop) → machine_run turns items code ≡ Some stop → IsTrue tells → TakesFront before after stop.state.output
   front_at_end new ending after more follows front stop is t =
@@ -114,13 +178,17 @@ module _ (tells : Bool) (before now : List ℕ) (code : Code) (turns : ℕ) (ite
       all t ∙ ap (λ l. l ++ new.output) (running.taken t) ∙ append_assoc before running.handed new.output
       ∙ ap (λ s. before ++ s.state.output) (sym (ended new ending more follows stop is))
 
-  pub reported : (new : State) (ending : Ending) (report : Report) → 1 ≤ left → Follows (step code) (Some ending) state new → report.ending ≡ ending → report.live ≡ live_cells code.classes new.cells → report.turns_left ≡ new.turns → (stop : Stop) → machine_run turns items code ≡ Some stop → Reports code report stop
-  reported new ending report more follows same_ending same_live same_turns stop is =
+  pub any_at_end : (new : State) (any has_output has : Bool) → has ≡ any || has_output → any ≡ has_bytes new.output → has_output ≡ has_bytes running.handed → has ≡ has_bytes (running.handed ++ new.output)
+  any_at_end new any has_output has is a h = is ∙ rw (a, h) (any_of_both running.handed new.output)
+
+  pub reported : (new : State) (ending : Ending) (report : Report) → 1 ≤ left → Follows (step code) (Some ending) state new → report.ending ≡ ending → report.live ≡ live_cells code.classes new.cells → report.turns_left ≡ new.turns → report.has_output ≡ has_bytes (running.handed ++ new.output) → (stop : Stop) → machine_run turns items code ≡ Some stop → Reports code report stop
+  reported new ending report more follows same_ending same_live same_turns same_output stop is =
       let end = ended new ending more follows stop is in
       record {
         same_ending = ap ending_of same_ending ∙ ap (λ s. s.ending) (sym end);
         same_cells = same_live ∙ ap (λ s. live_cells code.classes s.state.cells) (sym end);
         same_turns = same_turns ∙ ap (λ s. s.state.turns) (sym end);
+        same_output = same_output ∙ ap (λ s. has_bytes s.state.output) (sym end);
       }
 
 -- ---- nothing is taken from the input
@@ -128,25 +196,28 @@ still : (n m : ℕ) → n < m → nat_le (n + min 1 (m - n)) n ≡ false
 still n m lt = grind (arith, nat_tests)
 
 given : (tells : Bool) (faults : ℕ) (left : List ℕ) → AreGiven tells faults faults left left (input_items left AtEof)
-given tells faults left = λ t room. ap (λ b. given_items b left left) (sym (still faults count_end room))
+given tells faults left = ((left, (AtEof, refl)), λ t room. ap (λ b. given_items b left left) (sym (still faults count_end room)))
 
 -- ---- what a call says of the run
-abbrev pub Answered : Bool → ℕ → List ℕ → Code → ℕ → Bool → List ℕ → List ℕ → Result Report RunError → Type 0
-Answered input_tells faults left code turns tells before after result =
-    (items : Items) × AreGiven input_tells faults faults left left items × ((stop : Stop) × (machine_run turns items code ≡ Some stop) × Ran code stop tells before after result)
+abbrev pub Answered : Bool → ℕ → List ℕ → Code → ℕ → Bool → List ℕ → List ℕ → Type 0 → Result Report RunError → Type 0
+Answered input_tells faults left code turns tells before after Alone result =
+    (items : Items) × AreGiven input_tells faults faults left left items × ((stop : Stop) × (machine_run turns items code ≡ Some stop) × Ran code stop tells before after result × (stop.state.output ≡ [] → Alone))
 
 -- nothing was handed on yet
 pub nothing_taken : (before : List ℕ) (stop : Stop) → TakesFront before before stop.state.output
 nothing_taken before stop = TakesFront-none before before stop.state.output refl
 
-module _ (input_tells : Bool) (faults : ℕ) (left : List ℕ) (code : Code) (turns : ℕ) (tells : Bool) (before after : List ℕ) (exists : RunExists) (formed : WellFormed code) where
+module _ (input_tells : Bool) (faults : ℕ) (left : List ℕ) (code : Code) (turns : ℕ) (tells : Bool) (before after : List ℕ) (exists : RunExists) (formed : WellFormed code) (Alone : Type 0) where
   abbrev items : Items
   items = input_items left AtEof
 
-  answered : (result : Result Report RunError) → ((stop : Stop) → machine_run turns items code ≡ Some stop → Ran code stop tells before after result) → Answered input_tells faults left code turns tells before after result
-  answered result ran =
+  abbrev pub LeftAlone : Type 0
+  LeftAlone = (stop : Stop) → machine_run turns items code ≡ Some stop → stop.state.output ≡ [] → Alone
+
+  answered : (result : Result Report RunError) → ((stop : Stop) → machine_run turns items code ≡ Some stop → Ran code stop tells before after result) → LeftAlone → Answered input_tells faults left code turns tells before after Alone result
+  answered result ran alone =
       let run = exists code formed turns items in
-      (items, given input_tells faults left, (run.0, run.1, ran run.0 run.1))
+      (items, given input_tells faults left, (run.0, run.1, ran run.0 run.1, alone run.0 run.1))
 
   -- the error that a `?` gave
   abbrev pub Gives : RunError → Result Report RunError → Type 0
@@ -155,13 +226,13 @@ module _ (input_tells : Bool) (faults : ℕ) (left : List ℕ) (code : Code) (tu
   abbrev pub TakesAFront : Type 0
   TakesAFront = (stop : Stop) → machine_run turns items code ≡ Some stop → IsTrue tells → TakesFront before after stop.state.output
 
-  pub answers_memory : (result : Result Report RunError) → Gives Memory result → TakesAFront → Answered input_tells faults left code turns tells before after result
-  answers_memory result is front =
-      answered result (λ stop run. subst (λ r. Ran code stop tells before after r) (sym (is.1 ∙ ap Err is.2)) (front stop run))
+  pub answers_memory : (result : Result Report RunError) → Gives Memory result → TakesAFront → LeftAlone → Answered input_tells faults left code turns tells before after Alone result
+  answers_memory result is front alone =
+      answered result (λ stop run. subst (λ r. Ran code stop tells before after r) (sym (is.1 ∙ ap Err is.2)) (front stop run)) alone
 
-  pub answers_fault : (result : Result Report RunError) → Gives WriteFault result → TakesAFront → Answered input_tells faults left code turns tells before after result
-  answers_fault result is front =
-      answered result (λ stop run. subst (λ r. Ran code stop tells before after r) (sym (is.1 ∙ ap Err is.2)) (front stop run))
+  pub answers_fault : (result : Result Report RunError) → Gives WriteFault result → TakesAFront → LeftAlone → Answered input_tells faults left code turns tells before after Alone result
+  answers_fault result is front alone =
+      answered result (λ stop run. subst (λ r. Ran code stop tells before after r) (sym (is.1 ∙ ap Err is.2)) (front stop run)) alone
 
-  pub answers_report : (report : Report) → ((stop : Stop) → machine_run turns items code ≡ Some stop → Reports code report stop) → ((stop : Stop) → machine_run turns items code ≡ Some stop → IsTrue tells → after ≡ before ++ stop.state.output) → Answered input_tells faults left code turns tells before after (Ok report)
-  answers_report report reports all = answered (Ok report) (λ stop run. (reports stop run, all stop run))
+  pub answers_report : (report : Report) → ((stop : Stop) → machine_run turns items code ≡ Some stop → Reports code report stop) → ((stop : Stop) → machine_run turns items code ≡ Some stop → IsTrue tells → after ≡ before ++ stop.state.output) → LeftAlone → Answered input_tells faults left code turns tells before after Alone (Ok report)
+  answers_report report reports all alone = answered (Ok report) (λ stop run. (reports stop run, all stop run)) alone

@@ -1,8 +1,8 @@
+pub mod Handing
 pub mod Report
 pub mod Ran
 pub mod Words
 pub mod Slots
 pub mod Ledgers
 pub mod States
-pub mod Handing
 pub mod Parts

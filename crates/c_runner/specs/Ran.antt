@@ -1,6 +1,6 @@
 -- What a call that runs a code gives.
 use Rattle.std.specs.Prelude.{◌≡◌, ℕ, ◌<◌, Bool, true, false, List, ◌++◌, IsTrue, Result, Ok, Err}
-use Rattle.value_core.specs.Items.{Items, AtEof, AtFailure, input_items}
+use Rattle.value_core.specs.Items.{Items, InputEnd, AtEof, AtFailure, input_items}
 use Rattle.outside_core.specs.Bytes.{TakesFront, bytes_between}
 use Rattle.outside_core.specs.Counts.{count_end, has_risen, one_more}
 use Rattle.c_core.specs.declared.code.Code.{Code}
@@ -18,11 +18,15 @@ abbrev pub given_items : Bool → List ℕ → List ℕ → Items
 given_items false before after = input_items before AtEof
 given_items true before after = input_items (bytes_between before after) AtFailure
 
--- lines are those, where the source tells its content and its count of faults was not at its end: of any other source
--- nothing is said
+-- lines are those of some bytes, with the end that these have
+abbrev pub AreLines : Items → Type 0
+AreLines items = (bytes : List ℕ) × ((e : InputEnd) × (items ≡ input_items bytes e))
+
+-- lines are those that a source gave, where it tells its content and its count of faults was not at its end: of any other
+-- source nothing more is said
 abbrev pub AreGiven : Bool → ℕ → ℕ → List ℕ → List ℕ → Items → Type 0
 AreGiven tells faults_before faults_after before after items =
-    IsTrue tells → faults_before < count_end → items ≡ given_items (has_risen faults_before faults_after) before after
+    AreLines items × (IsTrue tells → faults_before < count_end → items ≡ given_items (has_risen faults_before faults_after) before after)
 
 -- A report is that of the run, whose output the sink took; where reading the input failed the run is broken off there;
 -- where the sink refused a call or memory ran out the sink took a front of the output

@@ -12,6 +12,7 @@ use Rattle.c_runner.specs.declared.report.Ending.{Ending}
 use Rattle.c_runner.specs.declared.report.Ending.TheVariants.{Done, Raised, Cut, Over, Fault}
 use Rattle.c_runner.specs.declared.report.LiveCell.{LiveCell}
 use Rattle.c_runner.specs.declared.report.Report.{Report}
+use Rattle.c_runner.specs.Handing.{has_bytes}
 
 -- the machine's ending of a report's
 abbrev pub ending_of : Ending → MachineEnding
@@ -47,3 +48,4 @@ pub record Reports (code : Code) (report : Report) (stop : Stop) : Type 0 where
   pub same_ending : ending_of report.ending ≡ stop.ending
   pub same_cells : report.live ≡ live_cells code.classes stop.state.cells
   pub same_turns : report.turns_left ≡ stop.state.turns
+  pub same_output : report.has_output ≡ has_bytes stop.state.output

@@ -21,10 +21,10 @@ impl Model for Output {
 }
 
 impl Output {
-    ghost use Rattle.std.specs.Prelude.{◌≡◌, ◌<◌, [], ◌++◌, length, IsTrue, OnOk, OnErr};
+    ghost use Rattle.std.specs.Prelude.{◌≡◌, ◌<◌, [], ◌++◌, true, false, length, IsTrue, IfOk, OnOk, OnErr};
     ghost use Rattle.outside_core.specs.Bytes.{TakesFront};
     ghost use Rattle.outside_core.specs.Counts.{count_after};
-    ghost use Rattle.c_runner.specs.Handing.{HandsOn};
+    ghost use Rattle.c_runner.specs.Handing.{HandsOn, has_bytes};
 
     /// Nothing is held. It takes no memory.
     pub fn new(alloc: Global) -> Output
@@ -43,32 +43,40 @@ impl Output {
         Ok(())
     }
 
-    /// Hands all on. It stops at the first refusal.
-    pub fn hand_on<O: Sink>(&mut self, out: &mut O) -> Result<(), WriteFault>
+    /// Hands all on, and says whether there was anything. It stops at the first refusal.
+    pub fn hand_on<O: Sink>(&mut self, out: &mut O) -> Result<bool, WriteFault>
         ensures counted { O.faults out.new ≡ count_after result (O.faults out.old) }
+        ensures any { IfOk result (λ any. any ≡ has_bytes self.old) }
+        ensures alone { self.old ≡ [] → out.new ≡ out.old }
+        ensures refused { OnErr result (has_bytes self.old ≡ true) }
         ensures taken { OnOk result (IsTrue O.tells →
             O.taken out.new ≡ O.taken out.old ++ self.old) }
         ensures front { OnErr result (IsTrue O.tells →
             TakesFront (O.taken out.old) (O.taken out.new) self.old) }
         ensures emptied { OnOk result (self.new ≡ []) }
     {
+        if self.held.is_empty() {
+            return Ok(false);
+        }
         write_whole(out, self.held.as_slice())?;
         self.held.clear();
-        Ok(())
+        Ok(true)
     }
 
-    /// Hands all on where there is enough of it. It stops at the first refusal.
-    pub fn hand_on_if_full<O: Sink>(&mut self, out: &mut O) -> Result<(), WriteFault>
+    /// Hands all on where there is enough of it, and says whether it did. It stops at the first refusal.
+    pub fn hand_on_if_full<O: Sink>(&mut self, out: &mut O) -> Result<bool, WriteFault>
         ensures counted { O.faults out.new ≡ count_after result (O.faults out.old) }
-        ensures taken { OnOk result
+        ensures taken { IfOk result
             (HandsOn O.tells (O.taken out.old) (O.taken out.new) self.old self.new) }
+        ensures alone { IfOk result (λ any. any ≡ false → out.new ≡ out.old) }
+        ensures refused { OnErr result (has_bytes self.old ≡ true) }
         ensures short { OnOk result (length self.new < FULL) }
         ensures front { OnErr result (IsTrue O.tells →
             TakesFront (O.taken out.old) (O.taken out.new) self.old) }
     {
-        if self.held.len() >= FULL {
-            self.hand_on(out)?;
+        if self.held.len() < FULL {
+            return Ok(false);
         }
-        Ok(())
+        self.hand_on(out)
     }
 }

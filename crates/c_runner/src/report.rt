@@ -3,13 +3,14 @@ use outside_core::WriteFault;
 use thiserror::Error;
 use value_core::{ExcClass, Many, Memory as NoMemory, Text};
 
-/// What came of a run: how it ended, the cells that are still there in the order in which they were made, and how many
-/// turns are left.
+/// What came of a run: how it ended, the cells that are still there in the order in which they were made, how many
+/// turns are left, and whether the output got any byte.
 #[derive(Debug, Drop)]
 pub struct Report {
     pub ending: Ending,
     pub live: Many<LiveCell>,
     pub turns_left: u64,
+    pub has_output: bool,
 }
 
 /// How a run ends.

@@ -1,4 +1,4 @@
-ghost use Rattle.std.specs.Prelude.{◌≡◌, ◌≤◌, Some, IsErrOf};
+ghost use Rattle.std.specs.Prelude.{◌≡◌, ◌≤◌, [], Some, IsErrOf};
 ghost use Rattle.outside_core.specs.Counts.{Rose};
 ghost use Rattle.value_core.specs.Items.{Items};
 ghost use Rattle.c_core.specs.Run.{Stop, machine_run, most_turns, most_steps, most_lines};
@@ -12,7 +12,8 @@ use outside_core::{Sink, Source};
 use std::alloc::Global;
 
 /// Runs a well-formed code for so many turns, on the lines of the input. What the program writes goes to `out`, as soon
-/// as 65536 bytes or more are held and before the answer. Nothing is taken from the input.
+/// as 65536 bytes or more are held and before the answer; a sink that is to get nothing is left alone. Nothing is taken
+/// from the input.
 pub fn run<I: Source, O: Sink>(
     alloc: Global,
     code: &Code,
@@ -25,7 +26,8 @@ pub fn run<I: Source, O: Sink>(
     ensures ran { (items : Items)
         × AreGiven I.tells (I.faults input.old) (I.faults input.new) (I.left input.old) (I.left input.new) items
         × ((stop : Stop) × (machine_run turns items code.now ≡ Some stop)
-        × Ran code.now stop O.tells (O.taken out.old) (O.taken out.new) result) }
+        × Ran code.now stop O.tells (O.taken out.old) (O.taken out.new) result
+        × (stop.state.output ≡ [] → out.new ≡ out.old)) }
     ensures input { input.new ≡ input.old }
     ensures input_fault { IsErrOf result RunError.InputFault → Rose (I.faults input.old) (I.faults input.new) }
     ensures out_faults { O.faults out.new ≡ faults_of_out result (O.faults out.old) }
@@ -36,13 +38,17 @@ pub fn run<I: Source, O: Sink>(
     let mut state = State::start(alloc, code, turns)?;
     // A well-formed code stops before these steps are taken.
     let mut left = most_steps(code, turns);
+    let mut has_output = false;
     'steps: loop {
         left -= 1;
         match state.step(alloc, code)? {
-            None => state.output.hand_on_if_full(out)?,
+            None => {
+                let any = state.output.hand_on_if_full(out)?;
+                has_output = any || has_output;
+            }
             Some(ending) => {
-                state.output.hand_on(out)?;
-                return Ok(state.report(alloc, ending)?);
+                let any = state.output.hand_on(out)?;
+                return Ok(state.report(alloc, ending, any || has_output)?);
             }
         }
     }

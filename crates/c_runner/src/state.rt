@@ -78,16 +78,18 @@ impl State {
     }
 
     /// The report of a run that ends so.
-    pub fn report(&self, alloc: Global, ending: Ending) -> Result<Report, Memory>
+    pub fn report(&self, alloc: Global, ending: Ending, has_output: bool) -> Result<Report, Memory>
         ensures ending { IfOk result (λ report. report.ending ≡ ending) }
         ensures live { IfOk result (λ report. (classes : List CClass) →
             report.live ≡ live_cells classes self.now.cells) }
         ensures turns { IfOk result (λ report. report.turns_left ≡ self.now.turns) }
+        ensures output { IfOk result (λ report. report.has_output ≡ has_output) }
     {
         Ok(Report {
             ending,
             live: self.cells.live(alloc)?,
             turns_left: self.turns,
+            has_output,
         })
     }
 }

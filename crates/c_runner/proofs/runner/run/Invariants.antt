@@ -1,13 +1,16 @@
-use Rattle.std.proofs.Common.{◌≡◌}
+use Rattle.std.proofs.Common.{◌≡◌, false}
 use Rattle.value_core.specs.Items.{AtEof, input_items}
+use Rattle.c_runner.specs.Handing.{has_bytes}
 use Rattle.c_runner.proofs.Running.{Running}
 use Rattle.c_runner.proofs.runner.run.Given as goal
 
--- no call was refused, and the run goes on
+-- no call was refused, the run goes on, and a sink that got nothing is as it was
 abbrev pub invariant-steps : goal.invariant-steps
 invariant-steps g l = record {
   calm : g.O.Sink.faults l.out ≡ g.O.Sink.faults l.fn.out;
   running : Running g.O.Sink.tells (g.O.Sink.taken l.fn.out) (g.O.Sink.taken l.out) l.code l.turns (input_items (g.I.Source.left l.fn.input) AtEof) l.left l.state;
+  has : l.has_output ≡ has_bytes running.handed;
+  alone : l.has_output ≡ false → l.out ≡ l.fn.out;
 }
 
 abbrev pub decreases-steps : goal.decreases-steps
