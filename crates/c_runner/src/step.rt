@@ -97,7 +97,7 @@ impl State {
         ensures { IfOk result (λ ending. Follows
             (λ s. applied true s target s.top.ledger [] (Makes (StrCell text.now))) ending self.old self.new) }
     {
-        let number = self.cells.make(Content::Str(text.copy(alloc)?))?;
+        let number = self.cells.make(Content::Str(text.clone()?))?;
         self.top.ledger.add(number)?;
         self.top.set_target(target, Word::Object(number));
         self.top.place += 1;

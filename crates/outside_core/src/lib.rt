@@ -47,6 +47,3 @@ pub use source::Source;
 pub use stream_sink::StreamSink;
 pub use stream_source::StreamSource;
 pub use whole::{read_whole, write_whole};
-
-#[cfg(test)]
-mod tests;

@@ -1,22 +1,22 @@
 -- How each symbol of an expression is read.
-use Rattle.std.proofs.Common.{◌≡◌, ℕ, Bool, true, false, ◌||◌, List, [], ◌∷◌, ◌++◌, Option, Some, None, Ok, if◌then◌else◌, refl, sym, ◌∙◌, ap}
+use Rattle.std.proofs.Common.{◌≡◌, Bool, true, false, ◌||◌, List, [], ◌∷◌, Option, Some, None, Ok, if◌then◌else◌, refl, sym, ◌∙◌, ap}
 use Rattle.std.specs.Prelude.{slice_get}
 use Rattle.py_syntax.specs.declared.expression.BinOp.TheVariants as op
 use Rattle.py_syntax.specs.declared.key.Key.TheVariants as k
 use Rattle.py_syntax.specs.declared.sign.Sign.TheVariants as s
 use Rattle.py_syntax.specs.declared.token.Token.{Token}
 use Rattle.py_syntax.specs.Expressions as e
-use Rattle.py_syntax.specs.Expressions.{ExprTree, exprs_of, entries_of, arguments_of, comparisons_of}
+use Rattle.py_syntax.specs.Expressions.{exprs_of, entries_of}
 use Rattle.py_grammar.specs.declared.terminal.Terminal.{Terminal}
 use Rattle.py_grammar.specs.declared.terminal.Terminal.TheVariants as terminal
 use Rattle.py_grammar.specs.declared.place.Place.{Place}
 use Rattle.py_grammar.specs.Terminals.{terminal_of, same, next_in}
 use Rattle.py_grammar.specs.Levels.{Piece}
 use Rattle.py_grammar.specs.Grammar as g
-use Rattle.py_grammar.specs.Grammar.{Sym, ExprSym, More, expr, more, comma, tok, TESTS, TARGETS, TEST, OR, AND, NOT, COMP, BOR, SHIFT, SUM, TERM, FACTOR, PRIMARY, ATOM, OR_MORE, AND_MORE, BOR_MORE, SHIFT_MORE, SUM_MORE, TERM_MORE, TRAILER, COMP_MORE, COMP_OP, ARG, ENTRY}
-use Rattle.py_grammar.specs.Actions.{piece, compared, texts_of, text_in}
+use Rattle.py_grammar.specs.Grammar.{expr, comma, TESTS, TARGETS, TEST, OR, AND, NOT, COMP, BOR, SHIFT, SUM, TERM, FACTOR, PRIMARY, ATOM, TRAILER, COMP_MORE, COMP_OP, ARG, ENTRY}
+use Rattle.py_grammar.specs.Actions.{piece, compared, text_in}
 use Rattle.py_grammar.specs.Reader.{Outcome, ◌>>=◌, accept, sees}
-use Rattle.py_grammar.specs.Readings.{reads_sym, reads_expr, reads_grown, reads_many, growth, finish, many_into, spread}
+use Rattle.py_grammar.specs.Readings.{reads_sym, reads_expr, reads_grown, reads_many, growth, finish}
 use Rattle.py_grammar.proofs.Opening.{bind_assoc, sym_eq, if_same, bind_same}
 use Rattle.py_grammar.proofs.ExpressionEquations as r
 use Rattle.py_reading.specs.declared.operator.Level.{Level}
@@ -27,14 +27,12 @@ use Rattle.py_reading.specs.declared.starts.TheConstants.{LITERALS}
 use Rattle.py_expressions.specs.Behind.{reads_behind}
 use Rattle.py_expressions.specs.Brackets.{reads_group, reads_list, reads_dict}
 use Rattle.py_expressions.specs.Literals.{reads_literal, reads_constant}
-use Rattle.py_reading.specs.Texts.{reads_texts}
 use Rattle.py_reading.specs.Operators.{sym_of, below_of, more_of, operator_at, operation}
 use Rattle.py_expressions.specs.Prefixes.{reads_condition, reads_alternative, conditional}
 use Rattle.py_expressions.specs.Rows.{reads_trees}
 use Rattle.py_expressions.specs.Trailers.{reads_attribute, reads_call, reads_indexed, reads_attribute_name, reads_arguments, reads_index}
 use Rattle.py_reading.specs.declared.fault.ParseError.{ParseError}
 use Rattle.py_reading.specs.Gives.{Fails}
-use Rattle.py_reading.proofs.Binds.{regrouped}
 use Rattle.py_reading.proofs.Faults.{fails_bind}
 use Rattle.py_reading.proofs.TextReading.{texts_into}
 use Rattle.py_expressions.proofs.RowReading.{tuple_row, items_row, trees_row}

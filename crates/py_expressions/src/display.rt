@@ -1,5 +1,5 @@
 //! Names, literals, and what stands in brackets.
-ghost use Rattle.std.specs.Prelude.{◌≡◌, ◌≢◌, [], map, IfOk};
+ghost use Rattle.std.specs.Prelude.{map, IfOk};
 ghost use Rattle.py_syntax.specs.Expressions.{entry_tree};
 ghost use Rattle.py_grammar.specs.Grammar.{ATOM, ENTRY};
 ghost use Rattle.py_grammar.specs.Readings.{reads_expr, reads_sym};
@@ -11,7 +11,7 @@ ghost use Rattle.py_expressions.specs.Rows.{one_more, reads_row};
 
 use crate::atom::literal;
 use crate::expression::{items, test, test_behind, tests};
-use crate::join::{dict_display, grouped, leaf, list_display, tuple};
+use crate::join::{dict_display, grouped, leaf, list_display};
 use crate::parsed::{Parsed, Row};
 use crate::row::{no_row, push_entry};
 use py_grammar::Place;

@@ -1,5 +1,5 @@
 //! Expressions, alone and in rows. A cycle of calls goes down the levels, and up again inside brackets.
-ghost use Rattle.std.specs.Prelude.{◌≡◌, ◌≢◌, [], map, IfOk};
+ghost use Rattle.std.specs.Prelude.{map, IfOk};
 ghost use Rattle.py_syntax.specs.Expressions.{expr_tree};
 ghost use Rattle.py_grammar.specs.declared.terminal.Terminal.TheVariants as terminal;
 ghost use Rattle.py_grammar.specs.Grammar.{TEST, TESTS, OR};

@@ -1,5 +1,5 @@
 //! What stands behind an expression and goes on with it.
-ghost use Rattle.std.specs.Prelude.{◌≡◌, ◌≢◌, [], map, IfOk};
+ghost use Rattle.std.specs.Prelude.{map, IfOk};
 ghost use Rattle.py_syntax.specs.Expressions.{arg_tree};
 ghost use Rattle.py_grammar.specs.Grammar.{TRAILER, ARG};
 ghost use Rattle.py_grammar.specs.Readings.{reads_sym, growth};

@@ -1,8 +1,6 @@
 -- What reading an expression is, by what reading its parts is.
-use Rattle.std.specs.Prelude.{slice_get}
-use Rattle.std.proofs.Common.{◌≡◌, ℕ, Bool, true, false, List, [], ◌∷◌, ◌++◌, Some, None, Ok, if◌then◌else◌, refl, ◌∙◌, ap, sym}
+use Rattle.std.proofs.Common.{◌≡◌, ℕ, List, [], ◌∷◌, ◌++◌, Ok, if◌then◌else◌, refl, ◌∙◌, ap}
 use Rattle.py_syntax.specs.declared.expression.BinOp.TheVariants as op
-use Rattle.py_syntax.specs.declared.expression.CmpOp.TheVariants as cmp
 use Rattle.py_syntax.specs.declared.key.Key.TheVariants as k
 use Rattle.py_syntax.specs.declared.sign.Sign.TheVariants as s
 use Rattle.py_syntax.specs.declared.expression.CmpOp.{CmpOp}

@@ -1,7 +1,6 @@
 -- The words by which contracts speak of reading: each stands for a reading and is not opened by itself.
-use Rattle.std.specs.Prelude.{Bool, true, false, List, [], ◌∷◌, ◌++◌, Ok}
+use Rattle.std.specs.Prelude.{Bool, List, [], ◌∷◌, ◌++◌, Ok}
 use Rattle.py_syntax.specs.declared.token.Token.{Token}
-use Rattle.py_syntax.specs.Expressions as e
 use Rattle.py_syntax.specs.Expressions.{ExprTree}
 use Rattle.py_grammar.specs.declared.terminal.Terminal.{Terminal}
 use Rattle.py_grammar.specs.declared.place.Place.{Place}

@@ -1,5 +1,5 @@
 -- Digits: their characters, and the value of a row of them.
-use Rattle.std.proofs.Common.{◌≡◌, ℕ, zero, suc, ◌+◌, ◌*◌, ◌^◌, ◌<◌, ◌≤◌, Bool, true, false, not, List, [], ◌∷◌, map, length, Some, refl, ap, sym, subst, ◌∙◌, arith, ◌⊎◌, inl, inr, eqb-true, eq-or-lt_of_le, lt-ltb, slice_get, get_or, pow-suc, add-mul, mul_assoc, mul_comm, ltb-true, zero-mul, zero-add}
+use Rattle.std.proofs.Common.{◌≡◌, ℕ, zero, suc, ◌+◌, ◌*◌, ◌^◌, ◌<◌, ◌≤◌, Bool, true, false, not, List, [], ◌∷◌, map, length, Some, refl, ap, sym, ◌∙◌, arith, ◌⊎◌, inl, inr, eqb-true, eq-or-lt_of_le, lt-ltb, slice_get, get_or, pow-suc, add-mul, mul_assoc, mul_comm, ltb-true, zero-mul, zero-add}
 use Rattle.std.specs.Prelude.{◌==◌, ◌||◌, ◌&&◌, nat_lt}
 use Rattle.std.specs.Char.{is_digit, digit_value}
 use Rattle.std.specs.List.{list_all}

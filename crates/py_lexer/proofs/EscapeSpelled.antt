@@ -1,20 +1,19 @@
 -- Escapes, and the elements of a string.
-use Rattle.std.proofs.Common.{◌≡◌, ◌≢◌, ℕ, zero, suc, ◌+◌, ◌<◌, ◌≤◌, Bool, true, false, not, List, [], ◌∷◌, ◌++◌, map, length, take, drop, replicate, codes, min, Option, Some, None, Ok, Err, refl, ap, sym, subst, ◌∙◌, arith, ◌⊎◌, inl, inr, eqb-true, eq-eqb, ltb-true, ltb-false, slice_get, is_some}
-use Rattle.std.specs.Prelude.{IfOk, if◌then◌else◌, ◌==◌, ◌||◌, ◌&&◌, nat_lt}
+use Rattle.std.proofs.Common.{◌≡◌, ◌≢◌, ℕ, ◌<◌, ◌≤◌, Bool, true, false, List, [], ◌∷◌, ◌++◌, map, length, take, drop, min, Option, Some, None, Ok, Err, refl, ap, sym, subst, ◌∙◌, arith, ◌⊎◌, inl, inr, eqb-true, ltb-false, slice_get, is_some}
+use Rattle.std.specs.Prelude.{IfOk, if◌then◌else◌, ◌==◌, ◌||◌, nat_lt}
 use Rattle.std.specs.Char.{is_digit, digit_value}
 use Rattle.std.specs.List.{list_all, AllByRecursion}
 use Rattle.std.specs.Str.{byte}
 use Rattle.std.specs.Str.Parse.{digits_value}
 use Rattle.std.proofs.lemmas.List.{length-map, length-take}
 use lib.Utf8.{scalar, scalar_cases}
-use Rattle.py_lexer.specs.declared.fault.LexKind.TheVariants.{BadString, Unended}
+use Rattle.py_lexer.specs.declared.fault.LexKind.TheVariants.{BadString}
 use Rattle.py_lexer.specs.declared.placed.Placed.{Placed}
-use Rattle.py_lexer.specs.declared.string.Style.{Style}
-use Rattle.py_lexer.specs.Places.{characters, character_at, line_of, line_feed_character}
-use Rattle.py_lexer.specs.Reading.{Fault, Read}
-use Rattle.py_lexer.specs.Strings.{backslash, is_quote, simple_escape, if_scalar, character_named, named_or_fault, hex_len, hex_escape, octal_len, octal_escape, escape_or_both, escape, element, quote_len}
+use Rattle.py_lexer.specs.Places.{characters, character_at, line_feed_character}
+use Rattle.py_lexer.specs.Reading.{Fault}
+use Rattle.py_lexer.specs.Strings.{backslash, is_quote, simple_escape, if_scalar, character_named, named_or_fault, hex_len, hex_escape, octal_len, octal_escape, escape_or_both, escape}
 use Rattle.py_lexer.specs.Digits.{IsDigit, AreDigits, place_value, NextIsNot}
-use Rattle.py_lexer.specs.Escapes.{simple_escapes, hex_letters, escape_signs, IsScalar, IsEscape, Joins, Simple, Octal, Hex, Stays, IsElement, Plain, Kept, Escaped}
+use Rattle.py_lexer.specs.Escapes.{simple_escapes, hex_letters, escape_signs, IsScalar, IsEscape, Joins, Simple, Octal, Hex, Stays}
 use Rattle.py_lexer.proofs.Spelled.{front_split, one_true, first_true, second_true, row_of}
 use Rattle.py_lexer.proofs.DigitLemmas.{are_digits, digit_back, value_is}
 

@@ -1,4 +1,5 @@
 mod Examples
+mod SpellingRows
 pub mod DigitLemmas
 pub mod EscapeSpelled
 pub mod GapLemmas

@@ -1,21 +1,17 @@
 -- Numbers: a row of digits and its value.
-use Rattle.std.proofs.Common.{◌≡◌, ◌≢◌, ℕ, zero, suc, ◌+◌, ◌*◌, ◌^◌, ◌<◌, ◌≤◌, Bool, true, false, cond, not, List, [], ◌∷◌, ◌++◌, map, length, take, drop, filter, Option, Some, None, Ok, Err, refl, ap, sym, subst, ◌∙◌, arith, ◌⊎◌, inl, inr, eqb-true, eq-or-lt_of_le, lt-ltb, slice_get, pow-suc, add-mul, mul_assoc, mul_comm, add_assoc, pos, ltb-true, zero-mul, zero-add}
+use Rattle.std.proofs.Common.{◌≡◌, ℕ, suc, ◌^◌, ◌<◌, ◌≤◌, Bool, true, false, cond, not, List, [], ◌∷◌, map, drop, Option, Some, None, Err, refl, ap, sym, subst, ◌∙◌, arith, ◌⊎◌, inl, inr, eqb-true, slice_get, ltb-true}
 use Rattle.std.specs.Prelude.{IfOk, if◌then◌else◌, ◌==◌, ◌||◌, ◌&&◌, nat_lt}
 use Rattle.std.specs.Char.{is_digit, is_ascii_digit, digit_value}
 use Rattle.std.specs.List.{list_all}
 use Rattle.std.specs.Str.{byte}
-use Rattle.std.specs.Str.Parse.{digits_value, digits_value_after}
-use Rattle.std.proofs.lemmas.List.{length-map}
-use Rattle.std.proofs.Math.Nat.{pow-zero}
+use Rattle.std.specs.Str.Parse.{digits_value}
 use Rattle.py_syntax.specs.declared.token.TokenKind.{TokenKind}
-use Rattle.py_syntax.specs.declared.token.TokenKind.TheVariants as token
-use Rattle.py_lexer.specs.declared.fault.LexKind.TheVariants.{BadNumber}
 use Rattle.py_lexer.specs.declared.placed.Placed.{Placed}
-use Rattle.py_lexer.specs.Places.{characters, character_at, line_of}
-use Rattle.py_lexer.specs.Reading.{Fault, Read}
+use Rattle.py_lexer.specs.Places.{characters, character_at}
+use Rattle.py_lexer.specs.Reading.{Fault}
 use Rattle.py_lexer.specs.Words.{word_at, word_len, past_word}
 use Rattle.py_lexer.specs.Numbers.{is_underscore, digits_of, begins_with_digit, is_spaced, is_row, below_end, row, unless_zero_leads, decimal, base_of, in_base, numeral, number, number_or_fault}
-use Rattle.py_lexer.specs.Digits.{digits_lower, digits_upper, IsDigit, IsRow, place_value, NextIsNot}
+use Rattle.py_lexer.specs.Digits.{IsRow, place_value, NextIsNot}
 use Rattle.py_lexer.specs.Spelling.{IsBased, IsDecimal, base_letters}
 use Rattle.py_lexer.proofs.Spelled.{Spelled, front_split, one_true, first_true, second_true, row_of}
 use Rattle.py_lexer.proofs.DigitLemmas.{digit_is, value_is}

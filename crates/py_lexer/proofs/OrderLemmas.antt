@@ -6,7 +6,7 @@ use Rattle.py_syntax.specs.declared.token.Span.{Span}
 use Rattle.py_syntax.specs.declared.token.TokenKind.{TokenKind}
 use Rattle.py_lexer.specs.declared.gap.Gap.{Gap}
 use Rattle.py_lexer.specs.declared.placed.Placed.{Placed}
-use Rattle.py_lexer.specs.Places.{start, placed, end_of}
+use Rattle.py_lexer.specs.Places.{end_of}
 use Rattle.py_lexer.specs.Spelling.{Spells, SpellsGap}
 use Rattle.py_lexer.specs.Laws.{AreSideBySide, AreGaps}
 use Rattle.py_lexer.specs.Reading.{Read}

@@ -1,5 +1,5 @@
 -- What is said of a token that is read: its text spells it.
-use Rattle.std.proofs.Common.{◌≡◌, ℕ, Bool, true, false, List, [], ◌∷◌, ◌++◌, take, drop, find, Option, Some, None, refl, ap, sym, ◌∙◌, cond, ◌⊎◌, inl, inr, slice_get, Contains}
+use Rattle.std.proofs.Common.{◌≡◌, ℕ, Bool, true, false, List, [], ◌∷◌, ◌++◌, take, drop, find, Some, refl, ap, sym, ◌∙◌, cond, ◌⊎◌, inl, inr, slice_get, Contains}
 use Rattle.std.specs.Prelude.{◌||◌, ◌&&◌}
 use Rattle.std.proofs.lemmas.List.{take-append-drop, map-append}
 use Rattle.std.proofs.lemmas.Option.{slice_get_within, get_or_from_slice_get}

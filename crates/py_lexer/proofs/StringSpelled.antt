@@ -1,5 +1,5 @@
 -- Strings: the elements between the quotes, and the whole.
-use Rattle.std.proofs.Common.{◌≡◌, ◌≢◌, ℕ, zero, suc, ◌+◌, ◌<◌, ◌≤◌, Bool, true, false, cond, not, List, [], ◌∷◌, ◌++◌, map, length, take, drop, replicate, codes, Option, Some, None, Ok, Err, refl, ap, sym, subst, ◌∙◌, arith, ◌⊎◌, inl, inr, eqb-true, eq-eqb, slice_get, is_some, append_assoc, take-append-drop, encode_utf8_all, length-append, length-drop}
+use Rattle.std.proofs.Common.{◌≡◌, ℕ, zero, suc, ◌+◌, ◌<◌, Bool, true, false, cond, not, List, [], ◌∷◌, ◌++◌, map, length, take, drop, replicate, codes, Option, Some, None, Ok, Err, refl, ap, sym, subst, ◌∙◌, arith, ◌⊎◌, inl, inr, eqb-true, eq-eqb, slice_get, append_assoc, encode_utf8_all, length-append, length-drop}
 use Rattle.std.specs.Prelude.{IfOk, if◌then◌else◌, ◌==◌, ◌||◌, ◌&&◌}
 use Rattle.std.specs.Char.{to_ascii_lowercase}
 use Rattle.std.specs.Io.{StartsWith}
@@ -15,9 +15,9 @@ use Rattle.py_lexer.specs.declared.string.Prefix.{Prefix}
 use Rattle.py_lexer.specs.declared.string.Prefix.TheVariants.{Plain, Raw, Other}
 use Rattle.py_lexer.specs.declared.string.Style.{Style}
 use Rattle.py_lexer.specs.Places.{characters, character_at, line_of, line_feed_character}
-use Rattle.py_lexer.specs.Reading.{Fault, Read, ◌>>=◌}
+use Rattle.py_lexer.specs.Reading.{Read, ◌>>=◌}
 use Rattle.py_lexer.specs.Words.{word_at, word_len, past_word}
-use Rattle.py_lexer.specs.Strings.{backslash, is_quote, escape, element, closes, quote_len, body, with_front, prefixes, lookup, prefix_of, begins_string, style, quoted, prefixed, string_at}
+use Rattle.py_lexer.specs.Strings.{backslash, is_quote, escape, element, closes, quote_len, body, with_front, lookup, prefix_of, begins_string, style, prefixed, string_at}
 use Rattle.py_lexer.specs.Escapes.{Element, written, stands_for, IsElement, AreElements}
 use Rattle.py_lexer.specs.Escapes as escapes
 use Rattle.py_lexer.specs.Spelling.{string_prefixes}

@@ -1,7 +1,7 @@
 -- Keywords and names.
-use Rattle.std.proofs.Common.{◌≡◌, ◌≢◌, ℕ, zero, suc, ◌+◌, ◌<◌, ◌≤◌, Bool, true, false, cond, List, [], ◌∷◌, ◌++◌, length, take, drop, Option, Some, None, Ok, Err, refl, ap, sym, subst, ◌∙◌, arith, ◌⊎◌, inl, inr, encode_utf8_all, eqb-true, eq-eqb, one-add, is_some, slice_index_or}
+use Rattle.std.proofs.Common.{◌≡◌, ◌≢◌, ℕ, suc, ◌+◌, ◌<◌, Bool, true, false, cond, List, [], ◌∷◌, length, take, drop, Option, Some, None, Ok, Err, refl, ap, sym, subst, ◌∙◌, ◌⊎◌, inl, inr, encode_utf8_all, eqb-true, eq-eqb, one-add, is_some, slice_index_or}
 use Rattle.std.specs.Prelude.{IfOk, if◌then◌else◌, ◌==◌, ◌||◌, ◌&&◌}
-use Rattle.std.specs.List.{AllByRecursion, list_all, prefix_len, Contains}
+use Rattle.std.specs.List.{AllByRecursion, list_all, Contains}
 use Rattle.std.proofs.lemmas.List.Sums.{AllPass-from_list_all}
 use Rattle.std.specs.Str.{bytes_eq, byte}
 use Rattle.std.proofs.lemmas.Slice.Eq.{bytes_eq-Decides}
@@ -12,11 +12,10 @@ use Rattle.py_syntax.specs.declared.key.Key.TheVariants as key
 use Rattle.py_syntax.specs.declared.token.TokenKind.{TokenKind}
 use Rattle.py_syntax.specs.declared.token.TokenKind.TheVariants as token
 use Rattle.py_syntax.specs.Texts.{key_text, key_of, all_keys}
-use Rattle.py_lexer.specs.declared.fault.LexKind.TheVariants.{BadCharacter}
 use Rattle.py_lexer.specs.declared.placed.Placed.{Placed}
-use Rattle.py_lexer.specs.Places.{characters, character_at, line_of}
-use Rattle.py_lexer.specs.Reading.{Fault, Read, ◌>>=◌}
-use Rattle.py_lexer.specs.Words.{word, word_at, word_len, past_word, begins_name, is_python_identifier, keyword_or_name, name_or_fault}
+use Rattle.py_lexer.specs.Places.{characters, character_at}
+use Rattle.py_lexer.specs.Reading.{Fault, ◌>>=◌}
+use Rattle.py_lexer.specs.Words.{word, word_at, word_len, past_word, begins_name, is_python_identifier, keyword_or_name}
 use Rattle.py_lexer.specs.Strings.{is_quote, prefix_of, begins_string}
 use Rattle.py_lexer.specs.Digits.{NextIsNot}
 use Rattle.py_lexer.specs.Spelling.{EndsWord, IsIdentifier, IsQuote, all_prefixes}

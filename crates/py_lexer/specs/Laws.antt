@@ -5,7 +5,7 @@ use Rattle.py_syntax.specs.declared.token.Span.{Span}
 use Rattle.py_syntax.specs.declared.token.Token.{Token}
 use Rattle.py_lexer.specs.declared.gap.Gap.{Gap}
 use Rattle.py_lexer.specs.Places.{end_of}
-use Rattle.py_lexer.specs.Pieces.{Kind, Between, Lexeme, Wrong, Over, Piece}
+use Rattle.py_lexer.specs.Pieces.{Kind, Between, Lexeme, Wrong, Piece}
 use Rattle.py_lexer.specs.Spelling.{Spells, SpellsGap}
 
 -- behind a fault nothing is cut; behind any other piece the next one begins

@@ -2,8 +2,9 @@
 //!
 //! What comes in is a text; what goes out are its tokens with their places, or the first fault with its line.
 //! Either is exactly what `specs/Tokens.antt` defines, by cutting the text into pieces, the pieces into logical
-//! lines, and by judging each line's column. The code places the characters, and then reads them once, from left
-//! to right, with a stack of brackets and one of columns.
+//! lines, and by judging each line's column. What each token means is said a second time and apart from that, in
+//! `specs/Spelling.antt`: how it is written. The code places the characters, and then reads them once, from left to
+//! right, with a stack of brackets and one of columns.
 #![tactic(auto)]
 
 ghost use Rattle.std.specs.Prelude.{chars, ℕ, List, IfOk};
@@ -36,7 +37,7 @@ use std::alloc::Global;
 /// answer is `Memory`, also where a fault stands further on.
 ///
 /// The last token is `End`, and no other one is; indents and dedents are balanced; no token stands before an
-/// earlier one.
+/// earlier one. The text is what spells the tokens, each at its place, with nothing but gaps between them.
 pub fn tokens(alloc: Global, text: &str) -> Result<Tokens, LexError>
     ensures exact { Gives (λ t. t.list) result (tokens_of (chars text.now)) }
     ensures ended { IfOk result (λ t. EndsOnce t.list) }
@@ -50,7 +51,8 @@ pub fn tokens(alloc: Global, text: &str) -> Result<Tokens, LexError>
     read(alloc, &text, end)
 }
 
-/// A law of the definition: cutting a text into pieces loses nothing and moves nothing. The call does nothing.
+/// A law of the definition: cutting a text into pieces loses nothing and moves nothing, and each piece is spelled by its
+/// characters, also before a fault. The call does nothing.
 #[tactic(auto, using(crate::proofs::PieceLemmas::side_by_side))]
 pub fn pieces_lie_side_by_side()
     ensures { (text : List ℕ) → AreSideBySide start text (pieces_of text) }

@@ -1,3 +1,2 @@
 pub mod DefinitionReading
 pub mod ModuleReading
-pub mod Parts

@@ -9,7 +9,7 @@ use Rattle.py_syntax.specs.declared.sign.Sign.TheVariants as s
 use Rattle.py_syntax.specs.declared.token.Span.{Span}
 use Rattle.py_syntax.specs.declared.token.Token.{Token}
 use Rattle.py_syntax.specs.Expressions.{ExprTree, expr_tree}
-use Rattle.py_syntax.specs.Statements.{StmtTree, Suite, FuncTree, ClassTree, func_tree, class_tree, param_tree}
+use Rattle.py_syntax.specs.Statements.{StmtTree, FuncTree, ClassTree, func_tree, class_tree, param_tree}
 use Rattle.py_grammar.specs.declared.terminal.Terminal.TheVariants as terminal
 use Rattle.py_grammar.specs.declared.place.Place.{Place}
 use Rattle.py_grammar.specs.Grammar as g
@@ -18,7 +18,7 @@ use Rattle.py_grammar.specs.Actions.{joined, marks_of, def_at, class_at}
 use Rattle.py_grammar.specs.Reader.{Outcome, ◌>>=◌, accept, sees}
 use Rattle.py_grammar.specs.Readings.{reads_expr, reads_sym, reads_many}
 use Rattle.py_expressions.specs.Rows.{reads_row, reads_trees}
-use Rattle.py_statements.specs.Statements.{maybe_boxed}
+use Rattle.py_nodes.specs.Parts.{maybe_boxed, param_boxed}
 
 -- what was read, and the place behind it
 abbrev pub maybe_seen : Option (Box Expr) × Place → Option ExprTree × Place
@@ -26,9 +26,6 @@ maybe_seen x = (maybe_boxed x.0, x.1)
 
 abbrev pub exprs_listed : List Expr × Place → List ExprTree × Place
 exprs_listed x = (map expr_tree x.0, x.1)
-
-abbrev pub param_boxed : List ℕ × Option (Box Expr) → List ℕ × Option ExprTree
-param_boxed x = (x.0, maybe_boxed x.1)
 
 abbrev pub param_seen : (List ℕ × Option (Box Expr)) × Place → (List ℕ × Option ExprTree) × Place
 param_seen x = (param_boxed x.0, x.1)
@@ -44,13 +41,6 @@ class_seen x = ((class_tree x.0.0.value, x.0.1), x.1)
 
 abbrev pub mark_seen : (Box Expr × Span) × Place → (ExprTree × Span) × Place
 mark_seen x = ((expr_tree x.0.0.value, x.0.1), x.1)
-
--- a function and a class of these parts, without decorators
-abbrev pub plain_func : List ℕ → List (List ℕ × Option ExprTree) → Option ExprTree → Suite → FuncTree
-plain_func name params ret body = record { name = name; params = params; ret = ret; body = body; marks = [] }
-
-abbrev pub plain_class : List ℕ → List ExprTree → Suite → ClassTree
-plain_class name bases body = record { name = name; bases = bases; body = body; marks = [] }
 
 -- an expression behind a sign, if the sign comes next
 unfoldable pub reads_maybe : List Token → Sign → Place → Outcome (Option ExprTree)

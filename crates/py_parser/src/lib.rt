@@ -13,7 +13,6 @@ ghost use Rattle.py_grammar.specs.Levels.{IsShallow};
 ghost use Rattle.py_parser.specs.Whole.{IsRight};
 
 mod define;
-mod definition;
 mod top;
 
 use crate::top::whole;

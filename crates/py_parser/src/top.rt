@@ -11,10 +11,10 @@ ghost use Rattle.py_parser.specs.Whole.{body_seen};
 
 use crate::define::{decorated, plain_class, plain_def};
 use py_grammar::{Place, Terminal};
+use py_nodes::append::{append, row_of};
 use py_reading::fault::ParseError;
 use py_reading::place::{accept, sees_key, sees_sign};
 use py_reading::starts::begins_top;
-use py_statements::append::{append, row_of};
 use py_statements::block::stmt;
 use py_syntax::{Key, Sign, Stmt, Token};
 use std::alloc::Global;

@@ -1,6 +1,5 @@
 -- A law of reading a row.
 use Rattle.std.proofs.Common.{◌≡◌, List, ◌++◌, Ok, Err, refl, ap}
-use Rattle.py_grammar.specs.declared.place.Place.{Place}
 use Rattle.py_grammar.specs.Reader.{Outcome, ◌>>=◌}
 
 -- what was found, behind which there is what g makes of a row

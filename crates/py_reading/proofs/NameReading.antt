@@ -1,22 +1,18 @@
 -- Reading names in rows, one after the other.
 use Rattle.std.proofs.Common.{◌≡◌, ℕ, Bool, true, List, [], ◌∷◌, ◌++◌, Option, Ok, Err, if◌then◌else◌, refl, sym, ◌∙◌, ap}
-use Rattle.py_syntax.specs.declared.key.Key.TheVariants as k
 use Rattle.py_syntax.specs.declared.sign.Sign.TheVariants as s
 use Rattle.py_syntax.specs.declared.token.Token.{Token}
-use Rattle.py_syntax.specs.Statements as st
-use Rattle.py_syntax.specs.Statements.{StmtTree}
 use Rattle.py_grammar.specs.declared.terminal.Terminal.TheVariants as terminal
 use Rattle.py_grammar.specs.declared.place.Place.{Place}
 use Rattle.py_grammar.specs.Grammar as g
-use Rattle.py_grammar.specs.Grammar.{comma, tok, sign, ◌·◌, GLOBAL, IMPORT, FROM, DOTTED, ALIAS}
+use Rattle.py_grammar.specs.Grammar.{comma, tok, sign, ◌·◌, DOTTED, ALIAS}
 use Rattle.py_grammar.specs.Actions.{name_of, name_in, dotted_on, names_on, seconds}
 use Rattle.py_grammar.specs.Reader.{Outcome, ◌>>=◌, accept, sees}
 use Rattle.py_grammar.specs.Readings.{reads_sym, reads_many, reads_after, many_into, after_into, spread, single}
 use Rattle.py_grammar.proofs.Opening.{sym_eq, bind_assoc, if_bind, if_same, bind_same}
 use Rattle.py_grammar.proofs.Loops.{spread_single}
-use Rattle.py_grammar.proofs.StatementEquations.{dotted_part, name_part, second_part, spread_seconds, dotted_round, names_round, aliases_round, bracketed_aliases_round, alias_eq, import_eq}
-use Rattle.py_reading.specs.Names.{reads_names, reads_dots, reads_bare, reads_aliases, reads_imported}
-use Rattle.py_reading.specs.Names.{reads_as}
+use Rattle.py_grammar.proofs.StatementEquations.{dotted_part, name_part, second_part, spread_seconds, dotted_round, names_round, aliases_round, bracketed_aliases_round, alias_eq}
+use Rattle.py_reading.specs.Names.{reads_names, reads_dots, reads_bare, reads_aliases, reads_as}
 use Rattle.py_reading.proofs.Binds.{regrouped}
 
 same_dotted : (vs : List (Token × Token)) → spread dotted_part vs ≡ dotted_on vs

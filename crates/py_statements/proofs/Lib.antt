@@ -1,4 +1,3 @@
 pub mod BlockReading
 pub mod ImportReading
 pub mod LineReading
-pub mod StatementNodes

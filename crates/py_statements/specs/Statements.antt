@@ -8,9 +8,8 @@ use Rattle.py_syntax.specs.declared.statement.Stmt.{Stmt}
 use Rattle.py_syntax.specs.declared.sign.Sign.TheVariants as s
 use Rattle.py_syntax.specs.declared.key.Key.{Key}
 use Rattle.py_syntax.specs.declared.key.Key.TheVariants as k
-use Rattle.py_syntax.specs.declared.token.Span.{Span}
 use Rattle.py_syntax.specs.declared.token.Token.{Token}
-use Rattle.py_syntax.specs.Expressions.{ExprTree, expr_tree}
+use Rattle.py_syntax.specs.Expressions.{ExprTree}
 use Rattle.py_syntax.specs.Statements as st
 use Rattle.py_syntax.specs.Statements.{StmtTree, StmtNode, Suite, HandlerTree, stmt_tree, handler_tree, arm_tree, body_tree}
 use Rattle.py_grammar.specs.declared.terminal.Terminal.TheVariants as terminal
@@ -20,17 +19,9 @@ use Rattle.py_grammar.specs.Grammar as g
 use Rattle.py_grammar.specs.Grammar.{TEST, SMALL}
 use Rattle.py_grammar.specs.Reader.{Outcome, ◌>>=◌, accept, sees, tests}
 use Rattle.py_grammar.specs.Readings.{reads_expr, reads_sym, reads_after, after_into, single}
+use Rattle.py_nodes.specs.Parts.{maybe_boxed, arm_boxed}
 use Rattle.py_expressions.specs.Behind.{reads_behind}
 use Rattle.py_reading.specs.Names.{reads_as}
-
--- an expression that may be missing
-abbrev pub maybe_boxed : Option (Box Expr) → Option ExprTree
-maybe_boxed None = None
-maybe_boxed (Some x) = Some (expr_tree x.value)
-
--- a test with its body
-abbrev pub arm_boxed : Box Expr × List Stmt → ExprTree × Suite
-arm_boxed x = arm_tree (x.0.value, x.1)
 
 -- what was read, and the place behind it
 abbrev pub stmt_seen : Box Stmt × Place → StmtTree × Place
@@ -56,10 +47,6 @@ handled_seen x = ((map handler_tree x.0.0, option_map body_tree x.0.1), x.1)
 
 abbrev pub arms_seen : List (Expr × List Stmt) × Place → List (ExprTree × Suite) × Place
 arms_seen x = (map arm_tree x.0, x.1)
-
--- a handler of these parts
-abbrev pub handler_of : Option ExprTree → Option (List ℕ) → Suite → Span → HandlerTree
-handler_of caught name body span = record { class = caught; name = name; body = body; span = span }
 
 -- a statement of one keyword
 abbrev pub lone_node : Key → StmtNode

@@ -7,11 +7,11 @@ ghost use Rattle.py_expressions.specs.Parsed.{piece_of};
 ghost use Rattle.py_reading.specs.Moves.{MovesTo};
 ghost use Rattle.py_statements.specs.Statements.{stmt_seen, reads_annotated, reads_assigned, reads_given, reads_changed};
 
-use crate::statement::{alone, annotating, annotating_with, assigning, augmented};
 use py_expressions::behind::tests_behind;
 use py_expressions::expression::{test_behind, tests};
 use py_expressions::parsed::Parsed;
 use py_grammar::{Place, Terminal};
+use py_nodes::statement::{alone, annotating, annotating_with, assigning, augmented};
 use py_reading::augmenting::augmenting;
 use py_reading::fault::ParseError;
 use py_reading::place::{sees_any, sees_sign};
@@ -46,7 +46,7 @@ pub fn of_tests(
         return assigned(alloc, tokens, target);
     }
     let place = target.place;
-    Ok((alone(alloc, target)?, place))
+    Ok((alone(alloc, target.expr, target.begin)?, place))
 }
 
 // What is assigned to a target, or its annotation.
@@ -76,7 +76,10 @@ fn given(alloc: Global, tokens: &[Token], target: Parsed) -> Result<(Box<Stmt>, 
 {
     let value = tests_behind(alloc, tokens, target.place, Terminal::Sign(Sign::Assign))?;
     let place = value.place;
-    Ok((assigning(alloc, target, value)?, place))
+    Ok((
+        assigning(alloc, target.expr, value.expr, target.begin)?,
+        place,
+    ))
 }
 
 // An operator by which a target is changed, and its other operand.
@@ -92,7 +95,10 @@ fn changed(
     let (op, place) = augmenting(tokens, target.place)?;
     let value = tests(alloc, tokens, place)?;
     let place = value.place;
-    Ok((augmented(alloc, target, op, value)?, place))
+    Ok((
+        augmented(alloc, target.expr, op, value.expr, target.begin)?,
+        place,
+    ))
 }
 
 // An annotation behind a target, and what is assigned to it, if anything is.
@@ -108,9 +114,21 @@ fn annotated(
     let annotation = test_behind(alloc, tokens, target.place, Sign::Colon)?;
     let place = annotation.place;
     if !sees_sign(tokens, place, Sign::Assign) {
-        return Ok((annotating(alloc, target, annotation)?, place));
+        return Ok((
+            annotating(alloc, target.expr, annotation.expr, target.begin)?,
+            place,
+        ));
     }
     let value = tests_behind(alloc, tokens, place, Terminal::Sign(Sign::Assign))?;
     let place = value.place;
-    Ok((annotating_with(alloc, target, annotation, value)?, place))
+    Ok((
+        annotating_with(
+            alloc,
+            target.expr,
+            annotation.expr,
+            value.expr,
+            target.begin,
+        )?,
+        place,
+    ))
 }

@@ -7,15 +7,16 @@ ghost use Rattle.py_statements.specs.Suites.{reads_suite};
 ghost use Rattle.py_statements.specs.Blocks.{reads_compound, reads_stmts, reads_arms, reads_handlers, reads_handled, reads_else};
 ghost use Rattle.py_reading.specs.Gives.{Gives};
 ghost use Rattle.py_reading.specs.Moves.{MovesTo, MovesUpTo};
-ghost use Rattle.py_statements.specs.Statements.{arm_boxed, stmt_seen, stmts_seen, caught_seen, arm_seen, handler_seen, arms_seen, handlers_seen, handled_seen, reads_caught};
+ghost use Rattle.py_statements.specs.Statements.{stmt_seen, stmts_seen, caught_seen, arm_seen, handler_seen, arms_seen, handlers_seen, handled_seen, reads_caught};
+ghost use Rattle.py_nodes.specs.Parts.{arm_boxed};
 
-use crate::append::{append, push_arm, push_handler, row_of};
 use crate::simple::simple;
-use crate::statement::{fors, handling, ifs, tries, whiles};
 use py_expressions::behind::tests_behind;
 use py_expressions::expression::test;
 use py_expressions::target::targets;
 use py_grammar::{Place, Terminal};
+use py_nodes::append::{append, push_arm, push_handler, row_of};
+use py_nodes::statement::{fors, handling, ifs, tries, whiles};
 use py_reading::fault::ParseError;
 use py_reading::names::maybe_as;
 use py_reading::place::{accept, accept_key, accept_sign, sees, sees_any, sees_key};
@@ -199,7 +200,7 @@ fn while_stmt(
     let (token, place) = accept_key(tokens, place, Key::While)?;
     let condition = test(alloc, tokens, place)?;
     let (body, place) = suite(alloc, tokens, condition.place)?;
-    Ok((whiles(alloc, condition, body, token.span)?, place))
+    Ok((whiles(alloc, condition.expr, body, token.span)?, place))
 }
 
 #[cycle(block)]
@@ -212,7 +213,7 @@ fn for_stmt(alloc: Global, tokens: &[Token], place: Place) -> Result<(Box<Stmt>,
     let target = targets(alloc, tokens, place)?;
     let all = tests_behind(alloc, tokens, target.place, Terminal::Key(Key::In))?;
     let (body, place) = suite(alloc, tokens, all.place)?;
-    Ok((fors(alloc, target, all, body, token.span)?, place))
+    Ok((fors(alloc, target.expr, all.expr, body, token.span)?, place))
 }
 
 #[cycle(block)]

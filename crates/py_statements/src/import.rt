@@ -6,8 +6,8 @@ ghost use Rattle.py_reading.specs.Gives.{Gives};
 ghost use Rattle.py_reading.specs.Moves.{MovesTo};
 ghost use Rattle.py_statements.specs.Statements.{stmt_seen};
 
-use crate::statement::{from_importing, globals, importing};
 use py_grammar::{Place, Terminal};
+use py_nodes::statement::{from_importing, globals, importing};
 use py_reading::fault::ParseError;
 use py_reading::names::{dotted, imported, maybe_as, names};
 use py_reading::place::{accept, accept_key};

@@ -7,14 +7,14 @@ ghost use Rattle.py_reading.specs.Gives.{Gives};
 ghost use Rattle.py_reading.specs.Moves.{MovesTo, MovesUpTo};
 ghost use Rattle.py_statements.specs.Statements.{stmt_seen, stmts_seen, lone_node, reads_lone, reads_line, reads_worded};
 
-use crate::append::{push_stmt, row_of};
 use crate::assign::of_tests;
 use crate::import::{from_import, global, import};
-use crate::statement::{
-    asserting, asserting_with, boxed, deleting, raising, raising_value, returning, returning_value,
-};
 use py_expressions::expression::{test, test_behind, tests};
 use py_grammar::{Place, Terminal};
+use py_nodes::append::{push_stmt, row_of};
+use py_nodes::statement::{
+    asserting, asserting_with, boxed, deleting, raising, raising_value, returning, returning_value,
+};
 use py_reading::fault::ParseError;
 use py_reading::place::{accept, accept_key, accept_sign, sees_key, sees_sign};
 use py_reading::starts::{begins_small, begins_test};
@@ -151,7 +151,7 @@ fn returned(alloc: Global, tokens: &[Token], place: Place) -> Result<(Box<Stmt>,
     }
     let value = tests(alloc, tokens, place)?;
     let place = value.place;
-    Ok((returning_value(alloc, value, token.span)?, place))
+    Ok((returning_value(alloc, value.expr, token.span)?, place))
 }
 
 #[tactic(auto, using(crate::proofs::LineReading::raising))]
@@ -165,7 +165,7 @@ fn raised(alloc: Global, tokens: &[Token], place: Place) -> Result<(Box<Stmt>, P
     }
     let value = test(alloc, tokens, place)?;
     let place = value.place;
-    Ok((raising_value(alloc, value, token.span)?, place))
+    Ok((raising_value(alloc, value.expr, token.span)?, place))
 }
 
 #[tactic(auto, using(crate::proofs::LineReading::asserting))]
@@ -177,12 +177,12 @@ fn asserted(alloc: Global, tokens: &[Token], place: Place) -> Result<(Box<Stmt>,
     let condition = test(alloc, tokens, place)?;
     let place = condition.place;
     if !sees_sign(tokens, place, Sign::Comma) {
-        return Ok((asserting(alloc, condition, token.span)?, place));
+        return Ok((asserting(alloc, condition.expr, token.span)?, place));
     }
     let message = test_behind(alloc, tokens, place, Sign::Comma)?;
     let place = message.place;
     Ok((
-        asserting_with(alloc, condition, message, token.span)?,
+        asserting_with(alloc, condition.expr, message.expr, token.span)?,
         place,
     ))
 }
@@ -195,5 +195,5 @@ fn deleted(alloc: Global, tokens: &[Token], place: Place) -> Result<(Box<Stmt>, 
     let (token, place) = accept_key(tokens, place, Key::Del)?;
     let target = test(alloc, tokens, place)?;
     let place = target.place;
-    Ok((deleting(alloc, target, token.span)?, place))
+    Ok((deleting(alloc, target.expr, token.span)?, place))
 }

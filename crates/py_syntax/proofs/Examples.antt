@@ -8,6 +8,7 @@ use Rattle.py_syntax.specs.declared.token.TokenKind.TheVariants.{Newline, Indent
 use Rattle.py_syntax.specs.Texts.{key_of, sign_of}
 use Rattle.py_syntax.specs.Tokens.{levels_after}
 use Rattle.py_syntax.specs.declared.token.Span.{Span}
+use Rattle.py_syntax.specs.declared.expression.CmpOp.TheVariants as cmp
 use Rattle.py_syntax.specs.Expressions as e
 use Rattle.py_syntax.specs.Expressions.{ExprTree, ExprNode, exprs_of, arguments_of}
 use Rattle.py_syntax.specs.Statements as s
@@ -54,8 +55,15 @@ conditional = e.at (e.Cond a c b) (on 1 1)
 abbrev call : ExprTree
 call = e.at (e.Call a (arguments_of (record { key = None; value = b } ∷ record { key = Some c; value = a } ∷ []))) (on 1 1)
 
-in_expressions : (expressions_in conditional ≡ conditional ∷ a ∷ c ∷ b ∷ []) × (expressions_in call ≡ call ∷ a ∷ b ∷ a ∷ [])
-in_expressions = (refl, refl)
+-- `{a: b}`, and `a < b` as a chain
+abbrev entry : ExprTree
+entry = e.at (e.DictOf (e.entries_of ((a, b) ∷ []))) (on 1 1)
+
+abbrev chain : ExprTree
+chain = e.at (e.Compare a (e.comparisons_of ((cmp.Lt, b) ∷ []))) (on 1 1)
+
+in_expressions : (expressions_in entry ≡ entry ∷ a ∷ b ∷ []) × (expressions_in chain ≡ chain ∷ a ∷ b ∷ []) × (expressions_in conditional ≡ conditional ∷ a ∷ c ∷ b ∷ []) × (expressions_in call ≡ call ∷ a ∷ b ∷ a ∷ [])
+in_expressions = (refl, refl, refl, refl)
 
 -- `b = c`
 abbrev assignment : StmtTree
@@ -67,6 +75,13 @@ function = s.at (s.Def (102 ∷ []) ((98 ∷ [], Some c) ∷ []) (Some a) (suite
 
 functions : (nodes_of_stmt into_definitions function ≡ statement function ∷ expression b ∷ expression c ∷ expression a ∷ statement assignment ∷ expression b ∷ expression c ∷ []) × (nodes_of_stmt around_definitions function ≡ statement function ∷ expression b ∷ expression c ∷ expression a ∷ [])
 functions = (refl, refl)
+
+-- `@b` above `class k(c):` with the function as its body
+abbrev class : StmtTree
+class = s.at (s.ClassDef (107 ∷ []) (c ∷ []) (suite_of (function ∷ [])) (b ∷ [])) (on 2 1)
+
+classes : (nodes_of_stmt around_definitions class ≡ statement class ∷ expression b ∷ expression c ∷ []) × (statements_of into_definitions (suite_of (class ∷ [])) ≡ class ∷ function ∷ assignment ∷ [])
+classes = (refl, refl)
 
 -- `try:` with the assignment, `except a as b:` with `pass`, and `finally:` with the function
 abbrev pass : StmtTree

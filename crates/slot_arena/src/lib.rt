@@ -17,8 +17,6 @@ mod key;
 mod room;
 mod slot;
 mod slots;
-#[cfg(test)]
-mod tests;
 
 pub use arena::Arena;
 pub use key::Key;

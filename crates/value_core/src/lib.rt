@@ -19,8 +19,6 @@ mod many;
 mod memory;
 mod name;
 mod number;
-#[cfg(test)]
-mod tests;
 mod text;
 
 pub use arith::Arith;

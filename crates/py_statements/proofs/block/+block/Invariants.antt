@@ -1,7 +1,7 @@
 use Rattle.std.proofs.Common.{◌≡◌, ◌+◌, length, ◌-◌, ◌*◌, [], ◌∷◌, map}
 use Rattle.py_syntax.specs.Statements.{stmt_tree, arm_tree, handler_tree}
 use Rattle.py_statements.specs.Blocks.{reads_stmts, reads_arms, reads_handlers}
-use Rattle.py_statements.specs.Statements.{arm_boxed}
+use Rattle.py_nodes.specs.Parts.{arm_boxed}
 use Rattle.py_reading.specs.Moves.{MovesUpTo}
 use Rattle.py_statements.proofs.block.+block.Given as goal
 

@@ -3,18 +3,17 @@ ghost use Rattle.std.specs.Prelude.{◌≡◌, [], ◌∷◌, ◌++◌, map, IfO
 ghost use Rattle.py_syntax.specs.Expressions.{expr_tree};
 ghost use Rattle.py_syntax.specs.Statements.{stmt_tree, func_tree, class_tree, param_tree, body_tree};
 ghost use Rattle.py_grammar.specs.Actions.{def_at, class_at, name_of};
-ghost use Rattle.py_parser.specs.Definitions.{param_boxed, plain_func, plain_class};
-ghost use Rattle.py_statements.specs.Statements.{maybe_boxed};
+ghost use Rattle.py_nodes.specs.Parts.{param_boxed, plain_func, plain_class, maybe_boxed};
 
+use crate::statement::{boxed, unboxed};
 use py_reading::word::name_of;
-use py_statements::statement::{boxed, unboxed};
 use py_syntax::{Class, Expr, Func, Span, Stmt, StmtKind, Token};
 use std::alloc::Global;
 use value_core::{Many, Memory, Name};
 
 /// A function without decorators, with the name in a token.
-#[tactic(auto, using(crate::proofs::Parts::parts))]
-pub(crate) fn new_func(
+#[tactic(auto, using(crate::proofs::DefinitionNodes::parts))]
+pub fn new_func(
     alloc: Global,
     named: &Token,
     params: Many<(Name, Option<Expr>)>,
@@ -35,8 +34,8 @@ pub(crate) fn new_func(
 }
 
 /// A class without decorators, with the name in a token.
-#[tactic(auto, using(crate::proofs::Parts::parts))]
-pub(crate) fn new_class(
+#[tactic(auto, using(crate::proofs::DefinitionNodes::parts))]
+pub fn new_class(
     alloc: Global,
     named: &Token,
     bases: Many<Expr>,
@@ -55,7 +54,7 @@ pub(crate) fn new_class(
 }
 
 /// A function as a statement, with its decorators.
-pub(crate) fn defined(
+pub fn defined(
     alloc: Global,
     found: Box<Func>,
     marks: Many<Expr>,
@@ -75,7 +74,7 @@ pub(crate) fn defined(
 }
 
 /// A class as a statement, with its decorators.
-pub(crate) fn class_defined(
+pub fn class_defined(
     alloc: Global,
     found: Box<Class>,
     marks: Many<Expr>,
@@ -94,8 +93,8 @@ pub(crate) fn class_defined(
 }
 
 /// One decorator more.
-#[tactic(auto, using(crate::proofs::Parts::rows))]
-pub(crate) fn push_mark(front: Many<Expr>, one: Box<Expr>) -> Result<Many<Expr>, Memory>
+#[tactic(auto, using(crate::proofs::DefinitionNodes::rows))]
+pub fn push_mark(front: Many<Expr>, one: Box<Expr>) -> Result<Many<Expr>, Memory>
     ensures { IfOk result (λ all. map expr_tree all ≡ map expr_tree front ++ expr_tree one.value ∷ []) }
 {
     let mut all = front;
@@ -104,8 +103,8 @@ pub(crate) fn push_mark(front: Many<Expr>, one: Box<Expr>) -> Result<Many<Expr>,
 }
 
 /// One parameter more.
-#[tactic(auto, using(crate::proofs::Parts::rows))]
-pub(crate) fn push_param(
+#[tactic(auto, using(crate::proofs::DefinitionNodes::rows))]
+pub fn push_param(
     front: Many<(Name, Option<Expr>)>,
     one: (Name, Option<Box<Expr>>),
 ) -> Result<Many<(Name, Option<Expr>)>, Memory>

@@ -4,9 +4,8 @@ ghost use Rattle.std.specs.Option.{option_map};
 ghost use Rattle.py_syntax.specs.Expressions.{expr_tree};
 ghost use Rattle.py_syntax.specs.Statements as tree;
 ghost use Rattle.py_syntax.specs.Statements.{stmt_tree, stmt_node, maybe_expr, arm_tree, body_tree, handler_tree, arms_of, handlers_of, maybe_suite};
-ghost use Rattle.py_statements.specs.Statements.{maybe_boxed, handler_of};
+ghost use Rattle.py_nodes.specs.Parts.{maybe_boxed, handler_of};
 
-use py_expressions::parsed::Parsed;
 use py_syntax::{BinOp, Expr, Handler, Span, Stmt, StmtKind};
 use std::alloc::Global;
 use value_core::{Many, Memory, Name};
@@ -29,10 +28,10 @@ pub fn returning(alloc: Global, span: Span) -> Result<Box<Stmt>, Memory>
 
 /// `return` with a value.
 #[tactic(auto, using(crate::proofs::StatementNodes::nodes))]
-pub fn returning_value(alloc: Global, value: Parsed, span: Span) -> Result<Box<Stmt>, Memory>
-    ensures { IfOk result (λ s. stmt_tree s.value ≡ tree.at (tree.Return (Some (expr_tree value.expr.value))) span) }
+pub fn returning_value(alloc: Global, value: Box<Expr>, span: Span) -> Result<Box<Stmt>, Memory>
+    ensures { IfOk result (λ s. stmt_tree s.value ≡ tree.at (tree.Return (Some (expr_tree value.value))) span) }
 {
-    let kind = StmtKind::Return(Some(Box::into_inner(value.expr)));
+    let kind = StmtKind::Return(Some(Box::into_inner(value)));
     boxed(alloc, kind, span)
 }
 
@@ -47,19 +46,19 @@ pub fn raising(alloc: Global, span: Span) -> Result<Box<Stmt>, Memory>
 
 /// `raise` with an exception.
 #[tactic(auto, using(crate::proofs::StatementNodes::nodes))]
-pub fn raising_value(alloc: Global, value: Parsed, span: Span) -> Result<Box<Stmt>, Memory>
-    ensures { IfOk result (λ s. stmt_tree s.value ≡ tree.at (tree.Raise (Some (expr_tree value.expr.value))) span) }
+pub fn raising_value(alloc: Global, value: Box<Expr>, span: Span) -> Result<Box<Stmt>, Memory>
+    ensures { IfOk result (λ s. stmt_tree s.value ≡ tree.at (tree.Raise (Some (expr_tree value.value))) span) }
 {
-    let kind = StmtKind::Raise(Some(Box::into_inner(value.expr)));
+    let kind = StmtKind::Raise(Some(Box::into_inner(value)));
     boxed(alloc, kind, span)
 }
 
 /// `assert`.
 #[tactic(auto, using(crate::proofs::StatementNodes::nodes))]
-pub fn asserting(alloc: Global, test: Parsed, span: Span) -> Result<Box<Stmt>, Memory>
-    ensures { IfOk result (λ s. stmt_tree s.value ≡ tree.at (tree.Assert (expr_tree test.expr.value) None) span) }
+pub fn asserting(alloc: Global, test: Box<Expr>, span: Span) -> Result<Box<Stmt>, Memory>
+    ensures { IfOk result (λ s. stmt_tree s.value ≡ tree.at (tree.Assert (expr_tree test.value) None) span) }
 {
-    let kind = StmtKind::Assert(Box::into_inner(test.expr), None);
+    let kind = StmtKind::Assert(Box::into_inner(test), None);
     boxed(alloc, kind, span)
 }
 
@@ -67,25 +66,22 @@ pub fn asserting(alloc: Global, test: Parsed, span: Span) -> Result<Box<Stmt>, M
 #[tactic(auto, using(crate::proofs::StatementNodes::nodes))]
 pub fn asserting_with(
     alloc: Global,
-    test: Parsed,
-    message: Parsed,
+    test: Box<Expr>,
+    message: Box<Expr>,
     span: Span,
 ) -> Result<Box<Stmt>, Memory>
-    ensures { IfOk result (λ s. stmt_tree s.value ≡ tree.at (tree.Assert (expr_tree test.expr.value) (Some (expr_tree message.expr.value))) span) }
+    ensures { IfOk result (λ s. stmt_tree s.value ≡ tree.at (tree.Assert (expr_tree test.value) (Some (expr_tree message.value))) span) }
 {
-    let kind = StmtKind::Assert(
-        Box::into_inner(test.expr),
-        Some(Box::into_inner(message.expr)),
-    );
+    let kind = StmtKind::Assert(Box::into_inner(test), Some(Box::into_inner(message)));
     boxed(alloc, kind, span)
 }
 
 /// `del`.
 #[tactic(auto, using(crate::proofs::StatementNodes::nodes))]
-pub fn deleting(alloc: Global, target: Parsed, span: Span) -> Result<Box<Stmt>, Memory>
-    ensures { IfOk result (λ s. stmt_tree s.value ≡ tree.at (tree.Del (expr_tree target.expr.value)) span) }
+pub fn deleting(alloc: Global, target: Box<Expr>, span: Span) -> Result<Box<Stmt>, Memory>
+    ensures { IfOk result (λ s. stmt_tree s.value ≡ tree.at (tree.Del (expr_tree target.value)) span) }
 {
-    let kind = StmtKind::Del(Box::into_inner(target.expr));
+    let kind = StmtKind::Del(Box::into_inner(target));
     boxed(alloc, kind, span)
 }
 
@@ -128,69 +124,73 @@ pub fn from_importing(
 
 /// An expression alone.
 #[tactic(auto, using(crate::proofs::StatementNodes::nodes))]
-pub fn alone(alloc: Global, value: Parsed) -> Result<Box<Stmt>, Memory>
-    ensures { IfOk result (λ s. stmt_tree s.value ≡ tree.at (tree.Do (expr_tree value.expr.value)) value.begin) }
+pub fn alone(alloc: Global, value: Box<Expr>, begin: Span) -> Result<Box<Stmt>, Memory>
+    ensures { IfOk result (λ s. stmt_tree s.value ≡ tree.at (tree.Do (expr_tree value.value)) begin) }
 {
-    let kind = StmtKind::Expr(Box::into_inner(value.expr));
-    boxed(alloc, kind, value.begin)
+    let kind = StmtKind::Expr(Box::into_inner(value));
+    boxed(alloc, kind, begin)
 }
 
 /// An assignment.
 #[tactic(auto, using(crate::proofs::StatementNodes::nodes))]
-pub fn assigning(alloc: Global, target: Parsed, value: Parsed) -> Result<Box<Stmt>, Memory>
-    ensures { IfOk result (λ s. stmt_tree s.value ≡ tree.at (tree.Assign (expr_tree target.expr.value) (expr_tree value.expr.value)) target.begin) }
+pub fn assigning(
+    alloc: Global,
+    target: Box<Expr>,
+    value: Box<Expr>,
+    begin: Span,
+) -> Result<Box<Stmt>, Memory>
+    ensures { IfOk result (λ s. stmt_tree s.value ≡ tree.at (tree.Assign (expr_tree target.value) (expr_tree value.value)) begin) }
 {
-    let kind = StmtKind::Assign(Box::into_inner(target.expr), Box::into_inner(value.expr));
-    boxed(alloc, kind, target.begin)
+    let kind = StmtKind::Assign(Box::into_inner(target), Box::into_inner(value));
+    boxed(alloc, kind, begin)
 }
 
 /// An augmented assignment.
 #[tactic(auto, using(crate::proofs::StatementNodes::nodes))]
 pub fn augmented(
     alloc: Global,
-    target: Parsed,
+    target: Box<Expr>,
     op: BinOp,
-    value: Parsed,
+    value: Box<Expr>,
+    begin: Span,
 ) -> Result<Box<Stmt>, Memory>
-    ensures { IfOk result (λ s. stmt_tree s.value ≡ tree.at (tree.Aug (expr_tree target.expr.value) op (expr_tree value.expr.value)) target.begin) }
+    ensures { IfOk result (λ s. stmt_tree s.value ≡ tree.at (tree.Aug (expr_tree target.value) op (expr_tree value.value)) begin) }
 {
-    let kind = StmtKind::Aug(
-        Box::into_inner(target.expr),
-        op,
-        Box::into_inner(value.expr),
-    );
-    boxed(alloc, kind, target.begin)
+    let kind = StmtKind::Aug(Box::into_inner(target), op, Box::into_inner(value));
+    boxed(alloc, kind, begin)
 }
 
 /// An annotation.
 #[tactic(auto, using(crate::proofs::StatementNodes::nodes))]
-pub fn annotating(alloc: Global, target: Parsed, annotation: Parsed) -> Result<Box<Stmt>, Memory>
-    ensures { IfOk result (λ s. stmt_tree s.value ≡ tree.at (tree.Annot (expr_tree target.expr.value) (expr_tree annotation.expr.value) None) target.begin) }
+pub fn annotating(
+    alloc: Global,
+    target: Box<Expr>,
+    annotation: Box<Expr>,
+    begin: Span,
+) -> Result<Box<Stmt>, Memory>
+    ensures { IfOk result (λ s. stmt_tree s.value ≡ tree.at (tree.Annot (expr_tree target.value) (expr_tree annotation.value) None) begin) }
 {
-    let kind = StmtKind::Annot(
-        Box::into_inner(target.expr),
-        Box::into_inner(annotation.expr),
-        None,
-    );
-    boxed(alloc, kind, target.begin)
+    let kind = StmtKind::Annot(Box::into_inner(target), Box::into_inner(annotation), None);
+    boxed(alloc, kind, begin)
 }
 
 /// An annotation with a value.
 #[tactic(auto, using(crate::proofs::StatementNodes::nodes))]
 pub fn annotating_with(
     alloc: Global,
-    target: Parsed,
-    annotation: Parsed,
-    value: Parsed,
+    target: Box<Expr>,
+    annotation: Box<Expr>,
+    value: Box<Expr>,
+    begin: Span,
 ) -> Result<Box<Stmt>, Memory>
-    ensures { IfOk result (λ s. stmt_tree s.value ≡ tree.at (tree.Annot (expr_tree target.expr.value) (expr_tree annotation.expr.value) (Some (expr_tree value.expr.value))) target.begin) }
+    ensures { IfOk result (λ s. stmt_tree s.value ≡ tree.at (tree.Annot (expr_tree target.value) (expr_tree annotation.value) (Some (expr_tree value.value))) begin) }
 {
     let kind = StmtKind::Annot(
-        Box::into_inner(target.expr),
-        Box::into_inner(annotation.expr),
-        Some(Box::into_inner(value.expr)),
+        Box::into_inner(target),
+        Box::into_inner(annotation),
+        Some(Box::into_inner(value)),
     );
-    boxed(alloc, kind, target.begin)
+    boxed(alloc, kind, begin)
 }
 
 /// `if`.
@@ -211,13 +211,13 @@ pub fn ifs(
 #[tactic(auto, using(crate::proofs::StatementNodes::nodes))]
 pub fn whiles(
     alloc: Global,
-    test: Parsed,
+    test: Box<Expr>,
     body: Many<Stmt>,
     span: Span,
 ) -> Result<Box<Stmt>, Memory>
-    ensures { IfOk result (λ s. stmt_tree s.value ≡ tree.at (tree.While (expr_tree test.expr.value) (body_tree body)) span) }
+    ensures { IfOk result (λ s. stmt_tree s.value ≡ tree.at (tree.While (expr_tree test.value) (body_tree body)) span) }
 {
-    let kind = StmtKind::While(Box::into_inner(test.expr), body);
+    let kind = StmtKind::While(Box::into_inner(test), body);
     boxed(alloc, kind, span)
 }
 
@@ -225,18 +225,14 @@ pub fn whiles(
 #[tactic(auto, using(crate::proofs::StatementNodes::nodes))]
 pub fn fors(
     alloc: Global,
-    target: Parsed,
-    all: Parsed,
+    target: Box<Expr>,
+    all: Box<Expr>,
     body: Many<Stmt>,
     span: Span,
 ) -> Result<Box<Stmt>, Memory>
-    ensures { IfOk result (λ s. stmt_tree s.value ≡ tree.at (tree.For (expr_tree target.expr.value) (expr_tree all.expr.value) (body_tree body)) span) }
+    ensures { IfOk result (λ s. stmt_tree s.value ≡ tree.at (tree.For (expr_tree target.value) (expr_tree all.value) (body_tree body)) span) }
 {
-    let kind = StmtKind::For(
-        Box::into_inner(target.expr),
-        Box::into_inner(all.expr),
-        body,
-    );
+    let kind = StmtKind::For(Box::into_inner(target), Box::into_inner(all), body);
     boxed(alloc, kind, span)
 }
 

@@ -1,7 +1,7 @@
 //! Rows of statements and of their parts, one behind the other.
 ghost use Rattle.std.specs.Prelude.{◌≡◌, [], ◌∷◌, ◌++◌, map, IfOk};
 ghost use Rattle.py_syntax.specs.Statements.{stmt_tree, arm_tree, handler_tree};
-ghost use Rattle.py_statements.specs.Statements.{arm_boxed};
+ghost use Rattle.py_nodes.specs.Parts.{arm_boxed};
 
 use py_syntax::{Expr, Handler, Stmt};
 use std::alloc::{AllocError, Global};

@@ -1,0 +1,2 @@
+pub mod DefinitionNodes
+pub mod StatementNodes

@@ -1,6 +1,0 @@
-use Rattle.std.proofs.Common.{◌≤◌}
-use Rattle.slot_arena.specs.Contents.{inserts}
-use Rattle.slot_arena.proofs.tests.condemned_values_come_off_once_each.Given as goal
-
-abbrev pub invariant-loop-value : goal.invariant-loop-value
-invariant-loop-value g l = inserts l.arena ≤ l.value

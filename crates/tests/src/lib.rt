@@ -1,0 +1,45 @@
+//! Tests of the public calls of the other crates, of what their contracts do not say: values from outside, texts that
+//! are printed, and objects whose calls fail.
+//!
+//! They stand in a crate of their own, since a crate with tests is proved twice. Each file has the name of the crate
+//! that it tests. Like cases are rows of one table, and one `check` in a loop over it tells them.
+#![tactic(auto)]
+
+#[cfg(test)]
+mod c_core_tests;
+#[cfg(test)]
+mod c_runner_tests;
+#[cfg(test)]
+mod c_text_tests;
+#[cfg(test)]
+mod case;
+#[cfg(test)]
+mod codes;
+#[cfg(test)]
+mod mypyc_top_running_tests;
+#[cfg(test)]
+mod mypyc_top_source_tests;
+#[cfg(test)]
+mod mypyc_top_tests;
+#[cfg(test)]
+mod mypyc_top_words_tests;
+#[cfg(test)]
+mod outside_core_tests;
+#[cfg(test)]
+mod py_grammar_tests;
+#[cfg(test)]
+mod py_lexer_tests;
+#[cfg(test)]
+mod py_parser_tables;
+#[cfg(test)]
+mod py_parser_tests;
+#[cfg(test)]
+mod slot_arena_tests;
+#[cfg(test)]
+mod tree_text;
+#[cfg(test)]
+mod value_core_class_tests;
+#[cfg(test)]
+mod value_core_tests;
+#[cfg(test)]
+mod value_core_text_tests;

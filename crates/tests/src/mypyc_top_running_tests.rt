@@ -1,0 +1,297 @@
+//! Programs that run: modules, and C texts that were changed by hand.
+use crate::case::check;
+use crate::mypyc_top_tests::{CALM, Fails, Given, THREE, check_given, command};
+use std::alloc::{AllocError, Global};
+use std::process::Abort;
+use std::test::Fail;
+
+const HEAD: &str = r#"/* mypyc subset 1 */
+char CPyModule(void) {
+    PyObject *cpy_t_0;
+    char cpy_t_1;
+    cpy_t_0 = CPyStr_Literal("3\n");
+"#;
+
+const WRITE: &str = "    CPy_Write(cpy_t_0);\n";
+
+const DEC: &str = "    CPy_DECREF(cpy_t_0);\n";
+
+const TAIL: &str = "    cpy_t_1 = 1;\n    return cpy_t_1;\n}\n";
+
+const OWNERSHIP: &str = "mypyc: ownership fault\n";
+
+fn joined(alloc: Global, parts: &[&str]) -> Result<String, AllocError> {
+    let mut text = String::new(alloc);
+    for part in parts {
+        text.push_str(part)?;
+    }
+    Ok(text)
+}
+
+/// The parts of a text, with the output, the line on errors, and the number of the status.
+const TEXTS: &[(&[&str], &str, &str, u8)] = &[
+    (&[HEAD, WRITE, DEC, TAIL], "3\n-- Done\n-- live 0\n", "", 0),
+    (
+        &[HEAD, WRITE, TAIL],
+        "3\n-- Fault Leak\n-- live 1\n-- Str 1\n",
+        OWNERSHIP,
+        10,
+    ),
+    (
+        &[HEAD, WRITE, DEC, DEC, TAIL],
+        "3\n-- Fault Dead\n-- live 0\n",
+        OWNERSHIP,
+        10,
+    ),
+    (
+        &[HEAD, DEC, WRITE, TAIL],
+        "-- Fault Dead\n-- live 0\n",
+        OWNERSHIP,
+        10,
+    ),
+    (
+        &[HEAD, WRITE, DEC, "    return cpy_t_1;\n}\n"],
+        "3\n-- Fault Kind\n-- live 0\n",
+        OWNERSHIP,
+        10,
+    ),
+    (
+        &[HEAD, WRITE, DEC, "    cpy_t_1 = 1;\n}\n"],
+        "",
+        "mypyc: t.py: not well formed\n",
+        9,
+    ),
+    (
+        &[
+            "/* mypyc subset 1 */\nchar CPyModule(void) { \n",
+            WRITE,
+            TAIL,
+        ],
+        "",
+        "mypyc: t.py: refused at byte 21\n",
+        9,
+    ),
+    (&[], "", "mypyc: t.py: refused at byte 0\n", 9),
+];
+
+#[test]
+fn texts_are_run(rt: HostRuntime) -> Result<(), Fail> {
+    for (parts, out, err, number) in TEXTS {
+        let text = joined(rt.alloc(), parts)?;
+        let given = command(rt.alloc(), &["--emit=runc", "t.py"], text.as_bytes(), CALM)?;
+        check_given(&rt, &given, out, err, *number);
+    }
+    Ok(())
+}
+
+const UNBUILT: &str =
+    "t.py:2: error: Form is not built yet  [unbuilt]\nFound 1 error in 1 file (checked 1 source file)\n";
+
+const MODULES: &[(&[u8], &str, u8)] = &[
+    (b"print(3)\n", "3\n", 0),
+    (
+        b"print(0)\nprint(4611686018427387903)",
+        "0\n4611686018427387903\n",
+        0,
+    ),
+    (b"", "", 0),
+    (b"print(3)\nx\n", UNBUILT, 1),
+];
+
+#[test]
+fn modules_are_run(rt: HostRuntime) -> Result<(), Fail> {
+    for (bytes, out, number) in MODULES {
+        let given = command(rt.alloc(), &["t.py"], bytes, CALM)?;
+        check_given(&rt, &given, out, "", *number);
+    }
+    Ok(())
+}
+
+// More output than a run holds before it hands it on.
+#[test]
+fn long_output(rt: HostRuntime) -> Result<(), Fail> {
+    let mut module = String::new(rt.alloc());
+    let mut out = String::new(rt.alloc());
+    for _ in 0..9_000 {
+        module.push_str("print(4611686018427387903)\n")?;
+        out.push_str("4611686018427387903\n")?;
+    }
+    let given = command(rt.alloc(), &["t.py"], module.as_bytes(), CALM)?;
+    check_given(&rt, &given, out.as_str(), "", 0);
+    Ok(())
+}
+
+#[test]
+fn a_text_of_too_many_bytes(rt: HostRuntime) -> Result<(), Fail> {
+    let bytes = vec![in rt.alloc(); b'#'; 16_777_217]?;
+    let given = command(rt.alloc(), &["--emit=runc", "t.py"], &bytes, CALM)?;
+    check_given(&rt, &given, "", "mypyc: t.py is too large\n", 6);
+    Ok(())
+}
+
+/// The calls of the output fail in turn, and then those of the lines on errors: whichever fails, the output took a front.
+fn fail_in_turn(
+    rt: &impl Abort,
+    alloc: Global,
+    words: &[&str],
+    bytes: &[u8],
+    out: &str,
+    calls: (u64, u64),
+) -> Result<(), AllocError> {
+    for number in 0..calls.0 {
+        let given = command(alloc, words, bytes, Fails(&[], &[number], &[]))?;
+        let is_front = out.as_bytes().starts_with(given.out.bytes());
+        check(
+            rt,
+            &number,
+            is_front && given.err.bytes().is_empty() && given.number == 5,
+        );
+    }
+    for number in 0..calls.1 {
+        let given = command(alloc, words, bytes, Fails(&[], &[], &[number]))?;
+        check(
+            rt,
+            &number,
+            given.out.bytes() == out.as_bytes() && given.number == 5,
+        );
+    }
+    Ok(())
+}
+
+// A run hands its output on once, a text its summary behind it, and the output is flushed once; a line is written and
+// flushed.
+#[test]
+fn calls_of_the_sinks_fail_in_turn(rt: HostRuntime) -> Result<(), Fail> {
+    fail_in_turn(&rt, rt.alloc(), &["t.py"], b"print(3)", "3\n", (2, 0))?;
+    let text = joined(rt.alloc(), &[HEAD, WRITE, TAIL])?;
+    fail_in_turn(
+        &rt,
+        rt.alloc(),
+        &["--emit=runc", "t.py"],
+        text.as_bytes(),
+        "3\n-- Fault Leak\n-- live 1\n-- Str 1\n",
+        (3, 2),
+    )?;
+    Ok(())
+}
+
+// Each front of a text is refused at its end: all of its lines can stand.
+#[test]
+fn cuts_of_a_text(rt: HostRuntime) -> Result<(), Fail> {
+    for length in 0..THREE.len() {
+        let given = command(
+            rt.alloc(),
+            &["--emit=runc", "t.py"],
+            &THREE.as_bytes()[..length],
+            CALM,
+        )?;
+        let line = format!(in rt.alloc(); "mypyc: t.py: refused at byte {length}\n")?;
+        check_given(&rt, &given, "", line.as_str(), 9);
+    }
+    Ok(())
+}
+
+/// Where the text has its literal `3\n`, byte by byte, and the 1 that its function gives.
+const DIGIT: usize = 115;
+
+const ESCAPE: usize = 116;
+
+const ESCAPED: usize = 117;
+
+const RESULT: usize = 185;
+
+/// The status of the text with another byte at a place. A literal that can stand is printed; a function that gives 0 or
+/// 2 ends in a fault, since no exception is pending; nothing else can be changed.
+fn status_of_change(place: usize, other: u8) -> u8 {
+    match (place, other) {
+        (DIGIT | ESCAPE, b' '..=b'!' | b'#'..=b'~') => 0,
+        (ESCAPED, b'"' | b'\\') => 0,
+        (RESULT, b'0' | b'2') => 10,
+        _ => 9,
+    }
+}
+
+/// What the text prints with another byte at a place.
+fn printed(alloc: Global, place: usize, other: u8) -> Result<String, AllocError> {
+    let other = char::from(other);
+    match place {
+        DIGIT if other == '\\' => String::from_str(alloc, "\\n"),
+        DIGIT => format!(in alloc; "{other}\n"),
+        ESCAPE => format!(in alloc; "3{other}n"),
+        ESCAPED => format!(in alloc; "3{other}"),
+        _ => String::from_str(alloc, "3\n"),
+    }
+}
+
+/// The place that a line on errors says a text is refused at.
+fn place_told(line: &[u8]) -> Option<usize> {
+    let line = str::from_utf8(line).ok()?;
+    let place = line.strip_prefix("mypyc: t.py: refused at byte ")?;
+    place.strip_suffix("\n")?.parse().ok()
+}
+
+/// A text is refused for not being well formed, or at its end or at the begin of a line, where the changed line, which
+/// begins at `start`, does not stand behind.
+fn check_refused(
+    rt: &impl Abort,
+    alloc: Global,
+    given: &Given,
+    text: &[u8],
+    start: usize,
+) -> Result<(), AllocError> {
+    let Some(place) = place_told(given.err.bytes()) else {
+        check_given(rt, given, "", "mypyc: t.py: not well formed\n", 9);
+        return Ok(());
+    };
+    let line = format!(in alloc; "mypyc: t.py: refused at byte {place}\n")?;
+    check_given(rt, given, "", line.as_str(), 9);
+    let is_within = start <= place && place <= text.len();
+    let is_begin = place == 0 || place >= text.len() || text[..place].ends_with(b"\n");
+    check(rt, &place, is_within && is_begin);
+    Ok(())
+}
+
+/// Runs the text with another byte at a place, in the line that begins at `start`.
+fn check_changed(
+    rt: &impl Abort,
+    alloc: Global,
+    start: usize,
+    place: usize,
+    other: u8,
+) -> Result<(), AllocError> {
+    let mut text = Vec::from_slice(alloc, THREE.as_bytes())?;
+    if place < text.len() {
+        text[place] = other;
+    }
+    let given = command(alloc, &["--emit=runc", "t.py"], &text, CALM)?;
+    let mut out = printed(alloc, place, other)?;
+    match status_of_change(place, other) {
+        0 => {
+            out.push_str("-- Done\n-- live 0\n")?;
+            check_given(rt, &given, out.as_str(), "", 0);
+        }
+        10 => {
+            out.push_str("-- Fault Kind\n-- live 0\n")?;
+            check_given(rt, &given, out.as_str(), OWNERSHIP, 10);
+        }
+        _ => check_refused(rt, alloc, &given, &text, start)?,
+    }
+    Ok(())
+}
+
+// Each byte of a text becomes each other one.
+#[test]
+fn changes_of_a_text(rt: HostRuntime) -> Result<(), Fail> {
+    let mut start = 0;
+    for (place, byte) in THREE.as_bytes().iter().enumerate() {
+        for other in 0..=u8::MAX {
+            if other != *byte {
+                check_changed(&rt, rt.alloc(), start, place, other)?;
+            }
+        }
+        if *byte == b'\n' {
+            start = place.saturating_add(1);
+        }
+    }
+    Ok(())
+}

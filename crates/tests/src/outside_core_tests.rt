@@ -1,0 +1,257 @@
+//! Files, sources and sinks: those of the tests, whose calls fail as they are told, and those of the system.
+use crate::case::check;
+use outside_core::{
+    CalmFiles, CalmSource, CountSink, DiskFiles, Failed, Files, MemFiles, MemSink, MemSource,
+    ReadError, Sink, Source, StreamSink, StreamSource, WriteFault, read_whole, write_whole,
+};
+use std::alloc::{AllocError, Global};
+use std::process::Abort;
+use std::test::Fail;
+use std::{fs, io};
+
+/// Opens a file and reads it.
+fn open_whole<F: Files>(
+    alloc: Global,
+    files: &mut F,
+    name: &str,
+    limit: usize,
+) -> Result<Vec<u8>, ReadError> {
+    files.open_file(name)?;
+    read_whole(alloc, files, limit)
+}
+
+fn files_of(alloc: Global, all: &[(&str, &[u8])], fails: &[u64]) -> Result<MemFiles, AllocError> {
+    let mut files = Vec::new(alloc);
+    for (name, bytes) in all {
+        let name = String::from_str(alloc, name)?;
+        files.push((name, Vec::from_slice(alloc, bytes)?))?;
+    }
+    Ok(MemFiles::new(files, Vec::from_slice(alloc, fails)?))
+}
+
+/// A name, the limit that its file is read with, and what comes of it.
+type Case<'a> = (&'a str, usize, Result<&'a [u8], ReadError>);
+
+fn check_files<F: Files>(rt: &impl Abort, alloc: Global, files: &mut F, cases: &[Case<'_>]) {
+    for (name, limit, want) in cases {
+        let found = open_whole(alloc, files, name, *limit);
+        let is_right = match (&found, want) {
+            (Ok(bytes), Ok(want)) => bytes.as_slice() == *want,
+            (Err(e), Err(want)) => *e == *want,
+            _ => false,
+        };
+        check(rt, &(name, limit), is_right);
+    }
+}
+
+const FILES: &[(&str, &[u8])] = &[
+    ("a.py", b"one"),
+    ("empty", b""),
+    ("a.py", b"two"),
+    ("", b"no name"),
+    ("-", b"dash"),
+    ("\u{e4} b\n", b"any text"),
+];
+
+const NAMED: &[Case<'static>] = &[
+    ("a.py", 3, Ok(b"one")),
+    ("a.py", 2, Err(ReadError::TooLong)),
+    ("empty", 0, Ok(b"")),
+    ("absent", 9, Err(ReadError::Failed)),
+    ("", 7, Ok(b"no name")),
+    ("-", 100, Ok(b"dash")),
+    ("\u{e4} b\n", 8, Ok(b"any text")),
+    ("a.p", 9, Err(ReadError::Failed)),
+];
+
+#[test]
+fn names_open_their_bytes(rt: HostRuntime) -> Result<(), Fail> {
+    let mut files = files_of(rt.alloc(), FILES, &[])?;
+    check_files(&rt, rt.alloc(), &mut files, NAMED);
+    check(
+        &rt,
+        &"counts",
+        (files.faults(), files.absent_opens()) == (2, 2),
+    );
+    Ok(())
+}
+
+const LONG: &[u8] = &[b'x'; 5000];
+
+const LONG_READ: &[Case<'static>] = &[
+    ("long", 5000, Err(ReadError::Failed)),
+    ("long", 5000, Ok(LONG)),
+];
+
+/// The long file takes an open and three reads, the last of which finds the end.
+#[test]
+fn calls_of_files_fail_in_turn(rt: HostRuntime) -> Result<(), Fail> {
+    for failing in 0..4 {
+        let mut files = files_of(rt.alloc(), &[("long", LONG)], &[failing])?;
+        check_files(&rt, rt.alloc(), &mut files, LONG_READ);
+        let counts = (files.faults(), files.absent_opens());
+        check(&rt, &failing, counts == (1, 0));
+    }
+    Ok(())
+}
+
+// How many bytes a read gives, what stands in the room for them, and what is left.
+const READS: &[(Result<usize, Failed>, &[u8], &[u8])] = &[
+    (Ok(2), b"ab.", b"cde"),
+    (Err(Failed), b"ab.", b"cde"),
+    (Ok(2), b"cd.", b"e"),
+    (Ok(1), b"ed.", b""),
+    (Ok(0), b"ed.", b""),
+];
+
+#[test]
+fn sources_give_pieces(rt: HostRuntime) -> Result<(), Fail> {
+    let bytes = Vec::from_slice(rt.alloc(), b"abcde")?;
+    let fails = Vec::from_slice(rt.alloc(), &[1])?;
+    let mut source = MemSource::new(bytes, 2, fails);
+    let mut into = [b'.'; 3];
+    for (count, filled, left) in READS {
+        let is_right = source.read(&mut into) == *count && into.as_slice() == *filled;
+        check(&rt, left, is_right && source.left() == *left);
+    }
+    check(&rt, &"faults", source.faults() == 1);
+    Ok(())
+}
+
+// The number of the call that fails, what the sink has then, and which of four calls went well.
+const FAILING: &[(u64, &[u8], (bool, bool, bool, bool))] = &[
+    (0, b"two", (false, true, true, true)),
+    (1, b"onetwo", (true, false, true, true)),
+    (2, b"one", (true, true, false, true)),
+    (3, b"onetwo", (true, true, true, false)),
+];
+
+#[test]
+fn calls_of_a_sink_fail_in_turn(rt: HostRuntime) -> Result<(), Fail> {
+    for (failing, want, went_well) in FAILING {
+        let mut sink = MemSink::new(rt.alloc(), Vec::from_slice(rt.alloc(), &[*failing])?);
+        let answers = (
+            write_whole(&mut sink, b"one").is_ok(),
+            sink.flush().is_ok(),
+            write_whole(&mut sink, b"two").is_ok(),
+            sink.flush().is_ok(),
+        );
+        let is_right = answers == *went_well && sink.bytes() == *want;
+        check(&rt, failing, is_right && sink.faults() == 1);
+    }
+    Ok(())
+}
+
+const CALM: &[Case<'static>] = &[
+    ("a.py", 4, Ok(b"calm")),
+    ("-", 4, Ok(b"calm")),
+    ("", 4, Ok(b"calm")),
+];
+
+#[test]
+fn calm_objects_never_fail(rt: HostRuntime) -> Result<(), Fail> {
+    let mut files = CalmFiles::new(Vec::from_slice(rt.alloc(), b"calm")?);
+    check_files(&rt, rt.alloc(), &mut files, CALM);
+    let mut source = CalmSource::new(Vec::from_slice(rt.alloc(), b"abc")?);
+    let mut into = [0; 2];
+    for (count, filled) in [(Ok(2), *b"ab"), (Ok(1), *b"cb"), (Ok(0), *b"cb")] {
+        check(
+            &rt,
+            &filled,
+            source.read(&mut into) == count && into == filled,
+        );
+    }
+    let mut sink = CountSink::new();
+    let is_taken = write_whole(&mut sink, b"abc").is_ok() && sink.flush().is_ok();
+    check(
+        &rt,
+        &"taken",
+        is_taken && sink.write(b"de") == Ok(2) && sink.taken() == 5,
+    );
+    Ok(())
+}
+
+const ON_DISK: &[Case<'static>] = &[
+    ("disk_files.txt", 11, Ok(b"on the disk")),
+    ("disk_files.txt", 10, Err(ReadError::TooLong)),
+    ("absent.txt", 11, Err(ReadError::Failed)),
+    // A folder can be opened and not be read.
+    (".", 11, Err(ReadError::Failed)),
+    ("disk_files.txt", 11, Ok(b"on the disk")),
+];
+
+#[test]
+fn files_of_the_disk(rt: HostRuntime) -> Result<(), Fail> {
+    fs::write(&rt, "disk_files.txt", b"on the disk")?;
+    let mut files = DiskFiles::new(&rt);
+    check_files(&rt, rt.alloc(), &mut files, ON_DISK);
+    let before = files.faults();
+    let is_open = files.open_file("-") == Ok(());
+    check(&rt, &"-", is_open && (before, files.faults()) == (2, 2));
+    fs::remove_file(&rt, "disk_files.txt")?;
+    Ok(())
+}
+
+/// What is written to a real stream is read from it. A stream that is only written cannot be read,
+/// nor the other way round.
+#[test]
+fn real_streams(rt: HostRuntime) -> Result<(), Fail> {
+    let mut into = [0; 8];
+    let mut sink = StreamSink::new(fs::create(&rt, "streams.txt")?);
+    let is_written = write_whole(&mut sink, b"streams").is_ok() && sink.flush().is_ok();
+    check(&rt, &"written", is_written && sink.faults() == 0);
+    let mut source = StreamSource::new(fs::open(&rt, "streams.txt")?);
+    for count in [7, 0] {
+        check(
+            &rt,
+            &count,
+            source.read(&mut into) == Ok(count) && into == *b"streams\0",
+        );
+    }
+    let mut closed = StreamSink::new(fs::open(&rt, "streams.txt")?);
+    let is_refused = write_whole(&mut closed, b"streams") == Err(WriteFault);
+    let mut mute = StreamSource::new(fs::create(&rt, "streams.txt")?);
+    let is_refused = is_refused && mute.read(&mut into) == Err(Failed);
+    let faults = (source.faults(), closed.faults(), mute.faults());
+    check(&rt, &"refused", is_refused && faults == (0, 1, 1));
+    fs::remove_file(&rt, "streams.txt")?;
+    Ok(())
+}
+
+/// A stream that takes at most two bytes a write, and six in all.
+#[derive(Drop)]
+struct Narrow {
+    room: usize,
+}
+
+impl io::Write for Narrow {
+    fn write(&mut self, piece: &[u8]) -> io::Result<usize> {
+        let count = piece.len().min(2).min(self.room);
+        self.room -= count;
+        Ok(count)
+    }
+
+    fn flush(&mut self) -> io::Result<()> {
+        Err(io::Error::from(io::ErrorKind::Other))
+    }
+}
+
+const NARROW_WRITES: &[(&[u8], Result<(), WriteFault>, u64)] = &[
+    (b"abcde", Ok(()), 0),
+    (b"", Ok(()), 0),
+    (b"fg", Err(WriteFault), 1),
+];
+
+#[test]
+fn a_stream_that_takes_nothing_has_failed(rt: HostRuntime) {
+    let mut narrow = Narrow { room: 6 };
+    let mut sink = StreamSink::new(&mut narrow);
+    for (bytes, want, faults) in NARROW_WRITES {
+        let is_right = write_whole(&mut sink, bytes) == *want;
+        check(&rt, bytes, is_right && sink.faults() == *faults);
+    }
+    let empty = sink.write(b"");
+    let is_right = empty == Ok(0) && sink.faults() == 1 && sink.flush() == Err(Failed);
+    check(&rt, &"flush", is_right && sink.faults() == 2);
+    check(&rt, &"room", narrow.room == 0);
+}

@@ -1,0 +1,62 @@
+//! Terminals, and the laws of the grammar.
+use crate::case::check;
+use py_grammar::{
+    Terminal, faults_are_tokens, outcome_exists, outcome_is_one, reading_is_exact, tree_is_one,
+    trees_are_shallow,
+};
+use py_syntax::{Key, Sign, TokenKind};
+
+fn is_of(kind: TokenKind, terminal: Terminal) -> bool {
+    Terminal::of(&kind).is(terminal)
+}
+
+/// The terminal of a keyword or a sign is of this one alone.
+#[test]
+fn terminals_are_told_apart(rt: HostRuntime) {
+    for key in Key::ALL.iter() {
+        let terminal = Terminal::of(&TokenKind::Key(*key));
+        for other in Key::ALL.iter() {
+            check(
+                &rt,
+                &key.text(),
+                terminal.is(Terminal::Key(*other)) == (key == other),
+            );
+        }
+        check(&rt, &key.text(), !terminal.is(Terminal::Name));
+    }
+    for sign in Sign::ALL.iter() {
+        let terminal = Terminal::of(&TokenKind::Sign(*sign));
+        for other in Sign::ALL.iter() {
+            check(
+                &rt,
+                &sign.text(),
+                terminal.is(Terminal::Sign(*other)) == (sign == other),
+            );
+        }
+        check(&rt, &sign.text(), !terminal.is(Terminal::End));
+    }
+    let is_told = is_of(TokenKind::Int(7), Terminal::Int)
+        && !is_of(TokenKind::Int(7), Terminal::Str);
+    check(&rt, &"literals", is_told);
+    let is_told = is_of(TokenKind::Newline, Terminal::Newline)
+        && is_of(TokenKind::End, Terminal::End);
+    check(&rt, &"lines", is_told);
+    let is_told = is_of(TokenKind::Indent, Terminal::Indent)
+        && !is_of(TokenKind::Indent, Terminal::Dedent);
+    check(
+        &rt,
+        &"levels",
+        is_told && is_of(TokenKind::Dedent, Terminal::Dedent),
+    );
+}
+
+/// The laws are called, and change nothing.
+#[test]
+fn laws_are_there(_rt: HostRuntime) {
+    outcome_exists();
+    outcome_is_one();
+    tree_is_one();
+    trees_are_shallow();
+    faults_are_tokens();
+    reading_is_exact();
+}
