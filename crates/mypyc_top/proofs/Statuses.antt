@@ -47,10 +47,10 @@ module _ (words : List (List ℕ)) (content : List ℕ → Option (List ℕ)) (b
 
   answers_is : Answers words file items out err OutAlone ErrAlone s → IsStatus words bytes items s ⊎ Yields s
   answers_is a =
-      let P : FileMeaning → Type 0 = λ f. Answer words f items a.text a.lines a.status in
-      let known : IsStatus words bytes items a.status = (a.text, (a.lines, subst P (meaning_is (has_risen old new) is_open _ bytes (not_rose old new calm) named) a.answer)) in
+      let P : FileMeaning → Type 0 = λ f. Answer words f items a.text a.lines a.result in
+      let known : IsStatus words bytes items a.result = (a.text, (a.lines, subst P (meaning_is (has_risen old new) is_open _ bytes (not_rose old new calm) named) a.answer)) in
       let Q : Status → Type 0 = λ t. IsStatus words bytes items t in
-      either (λ e. inl (subst Q (sym e) known)) (λ y. inr y) (gave_status out err a.text a.lines a.status s a.gave)
+      either (λ e. inl (subst Q (sym e) known)) (λ y. inr y) (gave_status out err a.text a.lines a.result s a.gave)
 
   -- the status of a call whose file has these bytes
   pub by_bytes : Answered words file items out err OutAlone ErrAlone s → IsStatus words bytes items s ⊎ Yields s

@@ -18,9 +18,9 @@ Gave out err o e s t = (t ≡ s) × Took out o × Took err e
 pub record Answers (words : List (List ℕ)) (file : FileMeaning) (items : Items) (out err : SinkCall) (OutAlone ErrAlone : Type 0) (s : Status) : Type 0 where
   pub text : List ℕ
   pub lines : List ℕ
-  pub status : Status
-  pub answer : Answer words file items text lines status
-  pub gave : Gave out err text lines status s
+  pub result : Status
+  pub answer : Answer words file items text lines result
+  pub gave : Gave out err text lines result s
   pub out_alone : text ≡ [] → OutAlone
   pub err_alone : lines ≡ [] → (s ≡ status.Memory) ⊎ ErrAlone
 

@@ -20,7 +20,7 @@ returns-in-Ok-Send-clause-answer g c = λ tells below.
       inl (record {
         text = output_text reply.out;
         lines = reply.err.items;
-        status = reply.status;
+        result = reply.status;
         answer = planned tells below items;
         gave = c.send_reply.ensures.gave (sent_is_replied reply.status fit);
         out_alone = c.send_reply.ensures.out_alone refl;
@@ -49,7 +49,7 @@ returns-in-Ok-Run-clause-answer g c = λ tells below.
       inl (record {
         text = program_text program stop;
         lines = program_line program stop;
-        status = machine_status stop.ending;
+        result = machine_status stop.ending;
         answer = planned tells below r.0 r.1.0 stop r.2.run;
         gave = r.2.gave;
         out_alone = r.2.out_alone;
