@@ -57,25 +57,27 @@ abbrev pub rest_after : Code → Items → List ℕ → Rest
 rest_after code items handed = record (first_rest code items) { handed = handed }
 
 -- a run of at most so many more steps goes on from a state, and the sink took what was handed on
-pub record Running (tells : Bool) (before now : List ℕ) (code : Code) (turns : ℕ) (items : Items) (left : ℕ) (state : State) : Type 0 where
+pub record Running (tells : Bool) (before now : List ℕ) (code : Code) (turns : ℕ) (items : Items) (left : ℕ) (state : State) (has_output : Bool) : Type 0 where
   pub handed : List ℕ
   pub taken : IsTrue tells → now ≡ before ++ handed
+  pub has : has_output ≡ has_bytes handed
   pub steps : ℕ
   pub all_steps : steps + left ≡ most_steps turns code
   pub reaches : Reaches code steps (start code turns items) (state_of (rest_after code items handed) state)
   pub goes : go_on (step code) left (Goes (state_of (rest_after code items handed) state)) ≡ machine_run turns items code
 
-pub at_start : (tells : Bool) (before : List ℕ) (code : Code) (turns left : ℕ) (items : Items) (state : State) → ((i : Items) → state_of (first_rest code i) state ≡ start code turns i) → left ≡ most_steps turns code → Running tells before before code turns items left state
+pub at_start : (tells : Bool) (before : List ℕ) (code : Code) (turns left : ℕ) (items : Items) (state : State) → ((i : Items) → state_of (first_rest code i) state ≡ start code turns i) → left ≡ most_steps turns code → Running tells before before code turns items left state false
 at_start tells before code turns left items state is count = record {
   handed = [];
   taken = λ t. sym (append-nil before);
+  has = refl;
   steps = 0;
   all_steps = omega (arith, count);
   reaches = subst (λ s. Reaches code 0 (start code turns items) s) (sym (is items)) (Here (start code turns items));
   goes = ap (λ k. go_on (step code) k (Goes (state_of (first_rest code items) state))) count ∙ ap (λ s. go_on (step code) (most_steps turns code) (Goes s)) (is items);
 }
 
-module _ (tells : Bool) (before now : List ℕ) (code : Code) (turns : ℕ) (items : Items) (left : ℕ) (state : State) (running : Running tells before now code turns items left state) where
+module _ (tells : Bool) (before now : List ℕ) (code : Code) (turns : ℕ) (items : Items) (left : ℕ) (state : State) (has_output : Bool) (running : Running tells before now code turns items left state has_output) where
   abbrev rest : Rest
   rest = rest_after code items running.handed
 
@@ -91,9 +93,9 @@ module _ (tells : Bool) (before now : List ℕ) (code : Code) (turns : ℕ) (ite
       (grown.more, grown.grown ∙ append_assoc running.handed state.output grown.more)
 
   -- a sink that is to get nothing was left alone, and a refusal shows that it was to get something
-  pub alone_so_far : {S : Type 0} (has_output : Bool) (first now_is : S) → has_output ≡ has_bytes running.handed → (has_output ≡ false → now_is ≡ first) → (stop : Stop) → machine_run turns items code ≡ Some stop → stop.state.output ≡ [] → now_is ≡ first
-  alone_so_far has_output first now_is has alone stop is none =
-      let b = begins stop is in alone (has ∙ first_none running.handed (state.output ++ b.0) (sym b.1 ∙ none))
+  pub alone_so_far : {S : Type 0} (first now_is : S) → (has_output ≡ false → now_is ≡ first) → (stop : Stop) → machine_run turns items code ≡ Some stop → stop.state.output ≡ [] → now_is ≡ first
+  alone_so_far first now_is alone stop is none =
+      let b = begins stop is in alone (running.has ∙ first_none running.handed (state.output ++ b.0) (sym b.1 ∙ none))
 
   pub refused_held : (A : Type 0) → has_bytes state.output ≡ true → (stop : Stop) → machine_run turns items code ≡ Some stop → stop.state.output ≡ [] → A
   refused_held A some stop is none =
@@ -116,11 +118,12 @@ module _ (tells : Bool) (before now : List ℕ) (code : Code) (turns : ℕ) (ite
       rw grown.grown (TakesFront-before before after (running.handed ++ state.output) grown.more (TakesFront-after before now after running.handed state.output (running.taken t) (front t)))
 
   -- a step, after which the run goes on
-  pub stepped : (new : State) → 1 ≤ left → Follows (step code) None state new → Running tells before now code turns items (left - 1) new
+  pub stepped : (new : State) → 1 ≤ left → Follows (step code) None state new → Running tells before now code turns items (left - 1) new has_output
   stepped new more follows =
       record {
         handed = running.handed;
         taken = running.taken;
+        has = running.has;
         steps = running.steps + 1;
         all_steps = omega (arith, running.all_steps, more);
         reaches = one_further code running.steps (start code turns items) (state_of rest state) (state_of rest new) running.reaches (follows rest);
@@ -135,13 +138,11 @@ module _ (tells : Bool) (before now : List ℕ) (code : Code) (turns : ℕ) (ite
       omega (arith, counted, few, running.all_steps, room)
 
   -- some of what is held is handed on
-  pub any_handed : (after output : List ℕ) (any has_output : Bool) (hands : HandsOn tells now after state.output output any) → has_output ≡ has_bytes running.handed → any || has_output ≡ has_bytes (running.handed ++ hands.0)
-  any_handed after output any has_output hands has = rw (hands.3, has) (any_of_both running.handed hands.0)
-
-  pub handed_on : (after output : List ℕ) (any : Bool) → HandsOn tells now after state.output output any → Running tells before after code turns items left (record state { output = output })
-  handed_on after output any hands = record {
+  pub handed_on : (after output : List ℕ) (any has : Bool) → has ≡ any || has_output → HandsOn tells now after state.output output any → Running tells before after code turns items left (record state { output = output }) has
+  handed_on after output any has is hands = record {
     handed = running.handed ++ hands.0;
     taken = λ t. hands.2 t ∙ ap (λ l. l ++ hands.0) (running.taken t) ∙ append_assoc before running.handed hands.0;
+    has = is ∙ rw (hands.3, running.has) (any_of_both running.handed hands.0);
     steps = running.steps;
     all_steps = running.all_steps;
     reaches = subst (λ l. Reaches code running.steps (start code turns items) (record (state_of rest state) { output = l })) (sym (append_assoc running.handed hands.0 output ∙ ap (λ l. running.handed ++ l) (sym hands.1))) running.reaches;
@@ -159,10 +160,10 @@ module _ (tells : Bool) (before now : List ℕ) (code : Code) (turns : ℕ) (ite
   end_is : (new : State) (ending : Ending) → 1 ≤ left → Follows (step code) (Some ending) state new → (stop : Stop) → machine_run turns items code ≡ Some stop → stop.state.output ≡ [] → running.handed ++ new.output ≡ []
   end_is new ending more follows stop is none = sym (ap (λ s. s.state.output) (ended new ending more follows stop is)) ∙ none
 
-  pub alone_at_end : {S : Type 0} (new : State) (ending : Ending) (has_output : Bool) (first now_is last_is : S) → 1 ≤ left → Follows (step code) (Some ending) state new → has_output ≡ has_bytes running.handed → (has_output ≡ false → now_is ≡ first) → (new.output ≡ [] → last_is ≡ now_is) → (stop : Stop) → machine_run turns items code ≡ Some stop → stop.state.output ≡ [] → last_is ≡ first
-  alone_at_end new ending has_output first now_is last_is more follows has alone last_alone stop is none =
+  pub alone_at_end : {S : Type 0} (new : State) (ending : Ending) (first now_is last_is : S) → 1 ≤ left → Follows (step code) (Some ending) state new → (has_output ≡ false → now_is ≡ first) → (new.output ≡ [] → last_is ≡ now_is) → (stop : Stop) → machine_run turns items code ≡ Some stop → stop.state.output ≡ [] → last_is ≡ first
+  alone_at_end new ending first now_is last_is more follows alone last_alone stop is none =
       let nothing = end_is new ending more follows stop is none in
-      last_alone (second_none running.handed new.output nothing) ∙ alone (has ∙ first_none running.handed new.output nothing)
+      last_alone (second_none running.handed new.output nothing) ∙ alone (running.has ∙ first_none running.handed new.output nothing)
 
   pub refused_at_end : (A : Type 0) (new : State) (ending : Ending) → 1 ≤ left → Follows (step code) (Some ending) state new → has_bytes new.output ≡ true → (stop : Stop) → machine_run turns items code ≡ Some stop → stop.state.output ≡ [] → A
   refused_at_end A new ending more follows some stop is none =
@@ -178,8 +179,8 @@ module _ (tells : Bool) (before now : List ℕ) (code : Code) (turns : ℕ) (ite
       all t ∙ ap (λ l. l ++ new.output) (running.taken t) ∙ append_assoc before running.handed new.output
       ∙ ap (λ s. before ++ s.state.output) (sym (ended new ending more follows stop is))
 
-  pub any_at_end : (new : State) (any has_output has : Bool) → has ≡ any || has_output → any ≡ has_bytes new.output → has_output ≡ has_bytes running.handed → has ≡ has_bytes (running.handed ++ new.output)
-  any_at_end new any has_output has is a h = is ∙ rw (a, h) (any_of_both running.handed new.output)
+  pub any_at_end : (new : State) (any has : Bool) → has ≡ any || has_output → any ≡ has_bytes new.output → has ≡ has_bytes (running.handed ++ new.output)
+  any_at_end new any has is a = is ∙ rw (a, running.has) (any_of_both running.handed new.output)
 
   pub reported : (new : State) (ending : Ending) (report : Report) → 1 ≤ left → Follows (step code) (Some ending) state new → report.ending ≡ ending → report.live ≡ live_cells code.classes new.cells → report.turns_left ≡ new.turns → report.has_output ≡ has_bytes (running.handed ++ new.output) → (stop : Stop) → machine_run turns items code ≡ Some stop → Reports code report stop
   reported new ending report more follows same_ending same_live same_turns same_output stop is =

@@ -1,4 +1,4 @@
-ghost use Rattle.std.specs.Prelude.{◌≡◌, ◌≤◌, [], Some, IsErrOf};
+ghost use Rattle.std.specs.Prelude.{◌≡◌, ◌≤◌, ◌||◌, [], Some, IsErrOf};
 ghost use Rattle.outside_core.specs.Counts.{Rose};
 ghost use Rattle.value_core.specs.Items.{Items};
 ghost use Rattle.c_core.specs.Run.{Stop, machine_run, most_turns, most_steps, most_lines};
@@ -44,14 +44,22 @@ pub fn run<I: Source, O: Sink>(
         match state.step(alloc, code)? {
             None => {
                 let any = state.output.hand_on_if_full(out)?;
-                has_output = any || has_output;
+                has_output = either(any, has_output);
             }
             Some(ending) => {
                 let any = state.output.hand_on(out)?;
-                return Ok(state.report(alloc, ending, any || has_output)?);
+                let has = either(any, has_output);
+                return Ok(state.report(alloc, ending, has)?);
             }
         }
     }
+}
+
+/// Whether one of two holds.
+fn either(a: bool, b: bool) -> bool
+    ensures { result ≡ a || b }
+{
+    a || b
 }
 
 /// More steps than a run for so many turns can take.
