@@ -32,7 +32,7 @@ differ {xs} {ys} e h = false≢true (sym h ∙ (bytes_eq-Decides xs ys).1 e)
 same_byte : (b : ℕ) → (b == b) ≡ true
 same_byte b = (Decides-eqb b b).1 refl
 
-other_byte : (a b : ℕ) → a ≢ b → (a == b) ≡ false
+pub other_byte : (a b : ℕ) → a ≢ b → (a == b) ≡ false
 other_byte a b h = elim (eqb_tells a b) [ inl e ↦ absurd (h e.1) | inr e ↦ e.0 ]
 
 pub HasNo-append : (stop : ℕ) (xs ys : List ℕ) → HasNo stop xs → HasNo stop ys → HasNo stop (xs ++ ys)

@@ -14,7 +14,7 @@ use Rattle.c_text.proofs.Bytes.{and_true}
 use Rattle.c_text.proofs.SpelledCodes.{spelled_is}
 use Rattle.c_text.proofs.LineTexts.{same_declaration, no_declaration, end_not_declaration, end_not_line}
 
-heads : {A : Type 0} {x y : A} {xs ys : List A} → x ∷ xs ≡ y ∷ ys → x ≡ y
+pub heads : {A : Type 0} {x y : A} {xs ys : List A} → x ∷ xs ≡ y ∷ ys → x ≡ y
 heads e = cc
 
 pub tails : {A : Type 0} {x y : A} {xs ys : List A} → x ∷ xs ≡ y ∷ ys → xs ≡ ys

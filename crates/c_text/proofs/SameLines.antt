@@ -18,6 +18,7 @@ use Rattle.c_text.specs.Statements.{AreNamed, args_text}
 use Rattle.c_text.proofs.Bytes.{and_true, bracket_stops, differ, inside_same, same_front, space_stops}
 use Rattle.c_text.proofs.ArgumentLemmas.{HasNo-variable}
 use Rattle.c_text.proofs.LineTexts.{end_not_line}
+use Rattle.c_text.proofs.PartLemmas.{heads, tails}
 use Rattle.c_text.proofs.SameParts.{same_arguments, same_literal, same_variable}
 use Rattle.c_text.proofs.StatementLemmas.{HasNo-call_name, call_name_parts, count_parts, literal_front, no_call_of_count, no_call_of_object_count}
 use Rattle.c_text.proofs.VariableLemmas.{HaveOwnNames, at_declared, declared_at, kind_is, text_at}
@@ -147,12 +148,6 @@ same_statement vars (Dec x) (Return y) own names p q e = absurd (apart vars (Dec
 same_statement vars (Dec x) (Dec y) own names p q e = ap Dec (same_count vars x y own p q e)
 
 -- ---- the lines of a function
-
-heads : {A : Type 0} {x y : A} {xs ys : List A} → x ∷ xs ≡ y ∷ ys → x ≡ y
-heads e = cc
-
-tails : {A : Type 0} {x y : A} {xs ys : List A} → x ∷ xs ≡ y ∷ ys → xs ≡ ys
-tails e = cc
 
 pub same_statements : (vars : List Declared) (ls ms : List Line) → HaveOwnNames vars → AreNamed vars → AreSpelled vars ls → AreSpelled vars ms → statement_lines vars ls ++ function_end ∷ [] ≡ statement_lines vars ms ++ function_end ∷ [] → ls ≡ ms
 same_statements vars [] [] own names p q e = refl

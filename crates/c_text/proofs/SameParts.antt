@@ -18,7 +18,7 @@ use Rattle.c_core.specs.WellFormed.{Declared, is_declared, spelled_arg, spelled_
 use Rattle.c_text.specs.Words.{HasNo, EndsArgument}
 use Rattle.c_text.specs.Variables.{has_name}
 use Rattle.c_text.specs.Statements.{AreNamed, IsWord, args_text}
-use Rattle.c_text.proofs.Bytes.{and_true, differ, not_in, same_front}
+use Rattle.c_text.proofs.Bytes.{and_true, differ, not_in, other_byte, same_front}
 use Rattle.c_text.proofs.Literals.{is_null, is_none, is_true, is_false}
 use Rattle.c_text.proofs.Numbers.{not_number, size_of}
 use Rattle.c_text.proofs.ArgumentLemmas.{HasNo-word, argument_is_some, is_class, is_global, is_number, is_quoted, is_variable}
@@ -41,19 +41,12 @@ is_small b h = split (nat_lt b 32) refl h
     split true e k = let l = ltb-true b 32 e in omega (arith, l)
     split false e k = let l = (Decides-eqb b 127).0 k in omega (arith, l)
 
-other_test : (b c : ℕ) → (b ≡ c → ⊥) → (b == c) ≡ false
-other_test b c h = split (b == c) refl
-  where
-    split : (t : Bool) → (b == c) ≡ t → t ≡ false
-    split false e = refl
-    split true e = absurd (h ((Decides-eqb b c).0 e))
-
 octal_first : (b : ℕ) (rest : List ℕ) → b < 128 → first_byte (octal b ++ rest) ≡ b
 unfolding first_byte
 octal_first b rest h =
-    ap (λ t. cond t 34 (cond (48 + b / 64 == 92) 92 (cond (48 + b / 64 == 110) 10 value))) (other_test (48 + b / 64) 34 (λ e. omega (arith, e)))
-    ∙ ap (λ t. cond t 92 (cond (48 + b / 64 == 110) 10 value)) (other_test (48 + b / 64) 92 (λ e. omega (arith, e)))
-    ∙ ap (λ t. cond t 10 value) (other_test (48 + b / 64) 110 (λ e. omega (arith, e)))
+    ap (λ t. cond t 34 (cond (48 + b / 64 == 92) 92 (cond (48 + b / 64 == 110) 10 value))) (other_byte (48 + b / 64) 34 (λ e. omega (arith, e)))
+    ∙ ap (λ t. cond t 92 (cond (48 + b / 64 == 110) 10 value)) (other_byte (48 + b / 64) 92 (λ e. omega (arith, e)))
+    ∙ ap (λ t. cond t 10 value) (other_byte (48 + b / 64) 110 (λ e. omega (arith, e)))
     ∙ omega arith
   where
     value : ℕ

@@ -1,11 +1,10 @@
 -- The places of the first variables of their names, by which a variable is found without a walk over those before it.
-use Rattle.std.specs.Prelude.{◌≡◌, ℕ, List, Vec, Option, Some, None}
+use Rattle.std.specs.Prelude.{◌≡◌, ℕ, min, List, Vec, Option, Some, None}
 use Rattle.std.specs.declared.alloc.Global.{Global}
 use Rattle.std.specs.BTreeMap.{BTreeMap, get_by}
 use Rattle.std.specs.Cmp.Lexicographic.{slice_cmp}
 use Rattle.std.specs.List.{position_from}
 use Rattle.std.specs.Ordering.{nat_cmp}
-use Rattle.std.specs.Prelude.{min}
 use Rattle.c_core.specs.declared.code.Kind.{Kind}
 use Rattle.c_core.specs.declared.code.Kind.TheVariants.{Tagged, Int64, Char, Object}
 use Rattle.c_core.specs.WellFormed.{Declared}

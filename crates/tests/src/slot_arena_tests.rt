@@ -32,6 +32,13 @@ fn filled(alloc: Global, arena: &mut Arena<u32>, count: u32) -> Result<Vec<Key>,
     Ok(keys)
 }
 
+fn is_number(found: Option<u32>, want: usize) -> bool {
+    match found {
+        Some(number) => number as usize == want,
+        None => false,
+    }
+}
+
 #[test]
 fn each_call_answers_as_a_map(rt: HostRuntime) -> Result<(), Fail> {
     let mut arena = Arena::new(rt.alloc());
@@ -98,8 +105,11 @@ fn condemned_values_come_off_once_each(rt: HostRuntime) -> Result<(), Fail> {
         check(&rt, &"condemned", arena.condemn(*key));
     }
     for (value, key) in keys.iter().enumerate().rev() {
-        let found = arena.next_condemned().map(|pair| (pair.0, pair.1 as usize));
-        check(&rt, &value, found == Some((*key, value)));
+        let is_right = match arena.next_condemned() {
+            Some((other, number)) => other == *key && is_number(Some(number), value),
+            None => false,
+        };
+        check(&rt, &value, is_right);
     }
     check(&rt, &"all are off", arena.next_condemned().is_none());
     Ok(())
@@ -130,18 +140,10 @@ fn a_million_inserts_and_removes(rt: HostRuntime) -> Result<(), Fail> {
     let mut arena = Arena::new(rt.alloc());
     let keys = filled(rt.alloc(), &mut arena, 1_000_000)?;
     for (value, key) in keys.iter().enumerate() {
-        check(
-            &rt,
-            &value,
-            arena.get(*key).map(|found| *found as usize) == Some(value),
-        );
+        check(&rt, &value, is_number(arena.get(*key).copied(), value));
     }
     for (value, key) in keys.iter().enumerate() {
-        check(
-            &rt,
-            &value,
-            arena.remove(*key).map(|found| found as usize) == Some(value),
-        );
+        check(&rt, &value, is_number(arena.remove(*key), value));
     }
     check(&rt, &"nothing left", arena.keys(rt.alloc())?.is_empty());
     Ok(())
