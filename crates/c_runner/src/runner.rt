@@ -41,7 +41,7 @@ pub fn run<I: Source, O: Sink>(
     let mut has_output = false;
     'steps: loop {
         left -= 1;
-        let ending = state.step(alloc, code)?;
+        let ending = state.step(code)?;
         has_output = state.output.has_any(has_output);
         match ending {
             None => state.output.hand_on_if_full(out)?,

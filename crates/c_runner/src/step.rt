@@ -13,12 +13,11 @@ use crate::report::Ending;
 use crate::state::State;
 use crate::words::Word;
 use c_core::{CArg, CFunc, CLit, Code, Fault, IoPrim, Kind, Line, Prim, StrPrim};
-use std::alloc::Global;
 use value_core::{Memory, Text};
 
 impl State {
     /// What the next line does, and how the run ends if it ends there. Without memory the state is not said.
-    pub fn step(&mut self, alloc: Global, code: &Code) -> Result<Option<Ending>, Memory>
+    pub fn step(&mut self, code: &Code) -> Result<Option<Ending>, Memory>
         requires { IsCountable self.old.top.ledger }
         ensures { IfOk result (λ ending. Follows (step code.now) ending self.old self.new) }
     {
@@ -33,7 +32,7 @@ impl State {
             Line::Lit(x, literal) => Ok(self.assign(kind_of(function, *x), *x, *literal)),
             Line::Call(target, name, args) => match Prim::named(name.as_str()) {
                 None => Ok(Some(Ending::Fault(Fault::Kind))),
-                Some(primitive) => self.call(alloc, primitive, *target, args.as_slice()),
+                Some(primitive) => self.call(primitive, *target, args.as_slice()),
             },
             Line::Return(x) => Ok(Some(self.leave(*x))),
             Line::Dec(x) => Ok(self.decrement(*x)),
@@ -63,7 +62,6 @@ impl State {
     /// Calls a primitive.
     fn call(
         &mut self,
-        alloc: Global,
         primitive: Prim,
         target: Option<usize>,
         args: &[CArg],
@@ -75,7 +73,7 @@ impl State {
     {
         match primitive {
             Prim::Str(StrPrim::Literal) => match args {
-                [CArg::Text(text)] => self.make_text(alloc, target, text),
+                [CArg::Text(text)] => self.make_text(target, text),
                 _ => Ok(Some(Ending::Fault(Fault::Kind))),
             },
             Prim::Io(IoPrim::Write) => match args.first() {
@@ -86,12 +84,7 @@ impl State {
     }
 
     /// Makes a cell with a text, which the frame owns, and writes it to the target.
-    fn make_text(
-        &mut self,
-        alloc: Global,
-        target: Option<usize>,
-        text: &Text,
-    ) -> Result<Option<Ending>, Memory>
+    fn make_text(&mut self, target: Option<usize>, text: &Text) -> Result<Option<Ending>, Memory>
         requires countable { IsCountable self.old.top.ledger }
         requires place { self.old.top.place + 1 < 2 ^ 64 }
         ensures { IfOk result (λ ending. Follows
