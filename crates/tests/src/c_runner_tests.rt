@@ -1,14 +1,14 @@
 //! Short codes by hand, what is left of them, and sinks that refuse a call.
 use crate::case::check;
 use crate::codes::{call, module, text_argument};
-use c_core::{CArg, CLit, Code, Fault, Kind, Line, is_well_formed};
-use c_runner::{Ending, Report, RunError, run};
+use c_core::{CArg, CLit, Code, Kind, Line, is_well_formed};
+use c_runner::{Ending, Fault, Report, RunError, run};
 use outside_core::{CalmSource, MemSink};
 use std::alloc::{AllocError, Global};
 use std::test::Fail;
 use value_core::{Many, Memory};
 
-// A line by one letter: the text is made, written or given up.
+// A line by one letter: the text is made, written or given up, or 0 is to be returned.
 fn line(alloc: Global, letter: char, text: &str) -> Result<Line, Memory> {
     match letter {
         'm' => call(
@@ -18,6 +18,8 @@ fn line(alloc: Global, letter: char, text: &str) -> Result<Line, Memory> {
             text_argument(alloc, text)?,
         ),
         'w' => call(alloc, None, "CPy_Write", CArg::Var(0)),
+        '0' => Ok(Line::Lit(1, CLit::Number(0))),
+        'r' => Ok(Line::Return(1)),
         _ => Ok(Line::Dec(0)),
     }
 }
@@ -73,6 +75,7 @@ const SHORT: &[(&str, (Option<Fault>, bool), &str)] = &[
     ("mwdmwwd", (None, false), "3\n3\n3\n"),
     ("mw", (Some(Fault::Leak), true), "3\n"),
     ("mmwd", (Some(Fault::Leak), true), "3\n"),
+    ("mw0r", (Some(Fault::Kind), true), "3\n"),
     ("mwdd", (Some(Fault::Dead), false), "3\n"),
     ("mdw", (Some(Fault::Dead), false), ""),
     ("w", (Some(Fault::Kind), false), ""),

@@ -206,6 +206,34 @@ fn refusals(rt: HostRuntime) -> Result<(), Fail> {
     Ok(())
 }
 
+/// Commands whose sinks fail at calls that must not be made, with the output and the number: what a sink got is passed on
+/// by one call behind it, and a sink that is to get nothing is left alone.
+const LEFT_ALONE: &[(&[&str], &[u8], Fails<'static>, &str, u8)] = &[
+    (&["t.py"], b"", Fails(&[], &[0], &[0]), "", 0),
+    (&["t.py"], b"# nothing\n", Fails(&[], &[0], &[0]), "", 0),
+    (
+        &["--emit=check", "t.py"],
+        b"",
+        Fails(&[], &[2], &[0]),
+        SUCCESS,
+        0,
+    ),
+    (&["t.py"], b"print(3)", Fails(&[], &[2], &[0]), "3\n", 0),
+    (&["t.py"], b"print(3)", Fails(&[], &[1], &[0]), "3\n", 5),
+    (&["--emit=c"], b"", Fails(&[], &[0], &[2]), "", 2),
+    (&["--emit=c"], b"", Fails(&[], &[0], &[1]), "", 5),
+];
+
+#[test]
+fn sinks_are_left_alone(rt: HostRuntime) -> Result<(), Fail> {
+    for (words, bytes, fails, out, number) in LEFT_ALONE {
+        let given = command(rt.alloc(), words, bytes, *fails)?;
+        let is_right = given.out.bytes() == out.as_bytes() && given.number == *number;
+        check(&rt, &(out, number), is_right);
+    }
+    Ok(())
+}
+
 // The text goes to the output in pieces, and then a flush. Whichever call fails, a front of it was taken.
 #[test]
 fn calls_of_the_output_fail_in_turn(rt: HostRuntime) -> Result<(), Fail> {
