@@ -21,7 +21,7 @@ pub data SyntaxNode : Type 0 where
 
 -- ---- expressions
 
--- What stands in a target is a target only in its tuples and lists; the object of an attribute or an index is a value.
+-- The items of a tuple or a list that is a target are targets; what stands in any other part of a target is computed.
 abbrev pub within : Standing → Standing
 within Target = Value
 within m = m
