@@ -13,7 +13,7 @@ use Rattle.py_syntax.specs.Expressions as e
 use Rattle.py_syntax.specs.Expressions.{ExprTree, ExprNode, exprs_of, arguments_of}
 use Rattle.py_syntax.specs.Statements as s
 use Rattle.py_syntax.specs.Statements.{StmtTree, StmtNode, suite_of, handlers_of}
-use Rattle.py_syntax.specs.Traversals.{expressions_in, statement, handler, expression, into_definitions, around_definitions, nodes_of_stmt, statements_of, expressions_of, function_in, class_in}
+use Rattle.py_syntax.specs.Traversals.{expressions_in, statement, handler, expression, into_definitions, around_definitions, nodes_of_stmt, statements_of, expressions_of, function_in, class_in, Value, Annotation, Target}
 
 keys : (key_of (codes "None") ≡ Some key.Nothing) × (key_of (codes "none") ≡ None) × (key_of (codes "yield") ≡ Some key.Yield) × (key_of (codes "match") ≡ None)
 keys = (refl, refl, refl, refl)
@@ -69,18 +69,28 @@ in_expressions = (refl, refl, refl, refl)
 abbrev assignment : StmtTree
 assignment = s.at (s.Assign b c) (on 5 1)
 
+-- `(a, b.c) = c`: the object of an attribute is computed
+abbrev member : ExprTree
+member = e.at (e.Attr b (99 ∷ [])) (on 1 1)
+
+abbrev pair : ExprTree
+pair = e.at (e.TupleOf (exprs_of (a ∷ member ∷ []))) (on 1 1)
+
+targets : (span : Span) → nodes_of_stmt into_definitions (s.at (s.Assign pair c) span) ≡ statement (s.at (s.Assign pair c) span) ∷ expression Target pair ∷ expression Target a ∷ expression Target member ∷ expression Value b ∷ expression Value c ∷ []
+targets span = refl
+
 -- `@b` above `def f(b: c) -> a:` with the assignment as its body
 abbrev function : StmtTree
 function = s.at (s.Def (102 ∷ []) ((98 ∷ [], Some c) ∷ []) (Some a) (suite_of (assignment ∷ [])) (b ∷ [])) (on 3 1)
 
-functions : (nodes_of_stmt into_definitions function ≡ statement function ∷ expression b ∷ expression c ∷ expression a ∷ statement assignment ∷ expression b ∷ expression c ∷ []) × (nodes_of_stmt around_definitions function ≡ statement function ∷ expression b ∷ expression c ∷ expression a ∷ [])
+functions : (nodes_of_stmt into_definitions function ≡ statement function ∷ expression Value b ∷ expression Annotation c ∷ expression Annotation a ∷ statement assignment ∷ expression Target b ∷ expression Value c ∷ []) × (nodes_of_stmt around_definitions function ≡ statement function ∷ expression Value b ∷ expression Annotation c ∷ expression Annotation a ∷ [])
 functions = (refl, refl)
 
 -- `@b` above `class k(c):` with the function as its body
 abbrev class : StmtTree
 class = s.at (s.ClassDef (107 ∷ []) (c ∷ []) (suite_of (function ∷ [])) (b ∷ [])) (on 2 1)
 
-classes : (nodes_of_stmt around_definitions class ≡ statement class ∷ expression b ∷ expression c ∷ []) × (statements_of into_definitions (suite_of (class ∷ [])) ≡ class ∷ function ∷ assignment ∷ [])
+classes : (nodes_of_stmt around_definitions class ≡ statement class ∷ expression Value b ∷ expression Value c ∷ []) × (statements_of into_definitions (suite_of (class ∷ [])) ≡ class ∷ function ∷ assignment ∷ [])
 classes = (refl, refl)
 
 -- `try:` with the assignment, `except a as b:` with `pass`, and `finally:` with the function
@@ -93,14 +103,14 @@ caught = record { class = Some a; name = Some (98 ∷ []); body = suite_of (pass
 abbrev tried : StmtTree
 tried = s.at (s.Try (suite_of (assignment ∷ [])) (handlers_of (caught ∷ [])) (s.some_suite (suite_of (function ∷ [])))) (on 4 1)
 
-tries : (nodes_of_stmt around_definitions tried ≡ statement tried ∷ statement assignment ∷ expression b ∷ expression c ∷ handler caught ∷ expression a ∷ statement pass ∷ statement function ∷ expression b ∷ expression c ∷ expression a ∷ []) × (statements_of into_definitions (suite_of (tried ∷ [])) ≡ tried ∷ assignment ∷ pass ∷ function ∷ assignment ∷ []) × (expressions_of around_definitions (suite_of (tried ∷ pass ∷ [])) ≡ b ∷ c ∷ a ∷ b ∷ c ∷ a ∷ [])
+tries : (nodes_of_stmt around_definitions tried ≡ statement tried ∷ statement assignment ∷ expression Target b ∷ expression Value c ∷ handler caught ∷ expression Value a ∷ statement pass ∷ statement function ∷ expression Value b ∷ expression Annotation c ∷ expression Annotation a ∷ []) × (statements_of into_definitions (suite_of (tried ∷ [])) ≡ tried ∷ assignment ∷ pass ∷ function ∷ assignment ∷ []) × (expressions_of around_definitions (suite_of (tried ∷ pass ∷ [])) ≡ b ∷ c ∷ a ∷ b ∷ c ∷ a ∷ [])
 tries = (refl, refl, refl)
 
 -- `if a:` with `pass`, `elif b:` with the assignment: each test stands in front of its body
 abbrev choice : StmtTree
 choice = s.at (s.If (s.arms_of ((a, suite_of (pass ∷ [])) ∷ (b, suite_of (assignment ∷ [])) ∷ [])) (suite_of [])) (on 1 1)
 
-choices : nodes_of_stmt into_definitions choice ≡ statement choice ∷ expression a ∷ statement pass ∷ expression b ∷ statement assignment ∷ expression b ∷ expression c ∷ []
+choices : nodes_of_stmt into_definitions choice ≡ statement choice ∷ expression Value a ∷ statement pass ∷ expression Value b ∷ statement assignment ∷ expression Target b ∷ expression Value c ∷ []
 choices = refl
 
 -- a statement that defines a function or a class gives it back

@@ -1,11 +1,10 @@
 -- Lists of nodes, row by row.
-use Rattle.std.proofs.Common.{◌≡◌, List, [], ◌∷◌, ◌++◌, map, filter_map, refl, ap, ◌∙◌, sym}
+use Rattle.std.proofs.Common.{◌≡◌, List, [], ◌∷◌, ◌++◌, filter_map, refl, ap, ◌∙◌, sym}
 use Rattle.std.specs.List.{flat_map}
 use Rattle.std.proofs.lemmas.List.Elements.{filter_map-append}
 use Rattle.std.proofs.lemmas.Grind.{flat_map-append}
-use Rattle.py_syntax.specs.Expressions.{ExprTree}
 use Rattle.py_syntax.specs.Statements.{StmtTree, Suite, stmt_then, suite_of}
-use Rattle.py_syntax.specs.Traversals.{expressions_in, expression, Reach, as_statement, as_expression, nodes_of_expr, nodes_of_stmt, nodes_of_suite, statements_of, expressions_of}
+use Rattle.py_syntax.specs.Traversals.{Reach, as_statement, as_expression, nodes_of_stmt, nodes_of_suite, statements_of, expressions_of}
 
 -- the nodes of statements in a row
 pub nodes-suite_of : (r : Reach) (ss : List StmtTree) → nodes_of_suite r (suite_of ss) ≡ flat_map (nodes_of_stmt r) ss
@@ -25,18 +24,3 @@ statements-then r s more = filter_map-append as_statement (nodes_of_stmt r s) (n
 
 pub expressions-then : (r : Reach) (s : StmtTree) (more : Suite) → expressions_of r (stmt_then s more) ≡ filter_map as_expression (nodes_of_stmt r s) ++ expressions_of r more
 expressions-then r s more = filter_map-append as_expression (nodes_of_stmt r s) (nodes_of_suite r more)
-
--- no statement stands in an expression, and all its nodes are expressions
-no_statements : (es : List ExprTree) → filter_map as_statement (map expression es) ≡ []
-no_statements [] = refl
-no_statements (e ∷ es) = no_statements es
-
-pub statements-expr : (e : ExprTree) → filter_map as_statement (nodes_of_expr e) ≡ []
-statements-expr e = no_statements (expressions_in e)
-
-all_expressions : (es : List ExprTree) → filter_map as_expression (map expression es) ≡ es
-all_expressions [] = refl
-all_expressions (e ∷ es) = ap (λ l. e ∷ l) (all_expressions es)
-
-pub expressions-expr : (e : ExprTree) → filter_map as_expression (nodes_of_expr e) ≡ expressions_in e
-expressions-expr e = all_expressions (expressions_in e)
