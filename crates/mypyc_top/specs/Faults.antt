@@ -9,7 +9,7 @@ use Rattle.py_syntax.specs.declared.token.Token.{Token}
 use Rattle.py_syntax.specs.declared.token.TokenKind.{TokenKind}
 use Rattle.py_syntax.specs.declared.token.TokenKind.TheVariants.{Key}
 use Rattle.py_syntax.specs.Texts.{key_text}
-use Rattle.py_lexer.specs.Places.{line_feed, plain_ends}
+use Rattle.py_lexer.specs.Places.{line_feed_character, plain_ends}
 use Rattle.py_lexer.specs.Reading.{Fault}
 use Rattle.py_lexer.specs.Tokens.{tokens_of}
 use Rattle.py_grammar.specs.Faults.{Came, tree, syntax, profile, too_deep, Says}
@@ -18,7 +18,7 @@ use Rattle.mypyc_top.specs.Diagnostics.{Diagnostic, no_text, no_token, no_tree, 
 
 -- how many lines end in some bytes, each at LF, CR LF or CR
 abbrev pub line_ends : List ℕ → ℕ
-line_ends bytes = count_by (λ b. b == line_feed) (plain_ends bytes)
+line_ends bytes = count_by (λ b. b == line_feed_character) (plain_ends bytes)
 
 -- the line of the first byte that belongs to no character
 abbrev pub bad_line : List ℕ → ℕ
