@@ -7,4 +7,4 @@ use Rattle.c_runner.proofs.state.State.make_text.Goals as goal
 pub returns : goal.returns
 returns c =
     λ rest. cell_made rest c.args.self.now c.args.target (StrCell c.args.text.now) c.in_ok-number.number _ _ _ c.in_ok-number.ensures.number
-    (c.in_ok-number.ensures.made ∙ ap (λ text. make (StrCell text) c.args.self.now.cells) c.in_ok-clone.ensures) c.in_ok-add.ensures c.set_target.ensures
+    (c.in_ok-number.ensures.made ∙ ap (λ text. make (StrCell text) c.args.self.now.cells) c.in_ok-clone.ensures.cases) c.in_ok-add.ensures c.set_target.ensures
