@@ -4,9 +4,9 @@ use Rattle.std.specs.Option.{option_map}
 use Rattle.std.specs.Prelude.{pos}
 use Rattle.std.specs.Fmt.{digits}
 use Rattle.value_core.specs.Items.{Eof}
-use Rattle.c_core.specs.declared.code.Kind.TheVariants.{Char, Object}
+use Rattle.c_core.specs.declared.code.Kind.TheVariants.{Tagged, Int64, Char, Object}
 use Rattle.c_core.specs.declared.code.CArg.TheVariants as arg
-use Rattle.c_core.specs.declared.code.CLit.TheVariants.{Number}
+use Rattle.c_core.specs.declared.code.CLit.TheVariants.{Number, PyNone}
 use Rattle.c_core.specs.declared.code.Line.{Line}
 use Rattle.c_core.specs.declared.code.Line.TheVariants.{Lit, Call, Return, Dec}
 use Rattle.c_core.specs.declared.code.CFunc.{CFunc}
@@ -14,6 +14,10 @@ use Rattle.c_core.specs.declared.code.Code.{Code}
 use Rattle.c_core.specs.declared.fault.Fault.TheVariants as fault
 use Rattle.value_core.specs.Ending.{Done}
 use Rattle.c_core.specs.Step.{MachineEnding, Ended, Faulted}
+use Rattle.c_core.specs.Ledgers.{more, without}
+use Rattle.c_core.specs.Machine.{NoneObject, StrCell, InstCell}
+use Rattle.c_core.specs.Primitives.{Is, OfGlobal, OfSlot, Anything, Borrows, Steals}
+use Rattle.c_core.specs.Arguments.{Cell, Plain, Written, kind_found, stolen}
 use Rattle.c_core.specs.Run.{Stop, machine_run, unchecked_run}
 use Rattle.c_core.specs.Text.{code_text}
 use Rattle.c_core.specs.WellFormed.{function_fits}
@@ -71,3 +75,42 @@ wrong_and_leaking = refl
 -- a variable of objects begins with its error value
 unset : seen (machine_run 0 Eof (code_of (writing ∷ ending))) ≡ Some (Faulted fault.Kind, [])
 unset = refl
+
+-- an argument is tested whole before the next one is looked at: a text that is gone, and then an argument too many
+two_arguments : seen (machine_run 0 Eof (code_of (making ∷ Dec 0 ∷ Call None (codes "CPy_Write") (arg.Var 0 ∷ arg.Var 1 ∷ []) ∷ ending))) ≡ Some (Faulted fault.Dead, [])
+two_arguments = refl
+
+-- None is an object, but no text
+none_written : seen (machine_run 0 Eof (code_of (Lit 0 PyNone ∷ writing ∷ ending))) ≡ Some (Faulted fault.Kind, [])
+none_written = refl
+
+-- ---- ledgers
+put_in : more 2 (1 ∷ 2 ∷ 3 ∷ []) ≡ 1 ∷ 2 ∷ 2 ∷ 3 ∷ []
+put_in = refl
+
+taken_out : without 2 (1 ∷ 2 ∷ 2 ∷ 3 ∷ []) ≡ 1 ∷ 2 ∷ 3 ∷ []
+taken_out = refl
+
+-- ---- where kinds are found: at a global by its name, and at a slot by the object and its number
+abbrev with_globals : Code
+with_globals = record {
+  globals = (codes "x", Tagged) ∷ (codes "y", Int64) ∷ [];
+  classes = record { name = codes "A"; attrs = (codes "a", Char) ∷ (codes "b", Object) ∷ []; methods = []; traits = [] } ∷ [];
+  funcs = [];
+}
+
+kind_of_y : kind_found with_globals OfGlobal (Written (arg.Global (codes "y")) ∷ []) ≡ Some Int64
+kind_of_y = refl
+
+kind_of_z : kind_found with_globals OfGlobal (Written (arg.Global (codes "z")) ∷ []) ≡ None
+kind_of_z = refl
+
+kind_of_b : kind_found with_globals OfSlot (Cell 7 (InstCell 0 (None ∷ None ∷ [])) ∷ Written (arg.Number (pos 1)) ∷ []) ≡ Some Object
+kind_of_b = refl
+
+kind_past_b : kind_found with_globals OfSlot (Cell 7 (InstCell 0 (None ∷ None ∷ [])) ∷ Written (arg.Number (pos 2)) ∷ []) ≡ None
+kind_past_b = refl
+
+-- a stolen cell is lost, a borrowed one and a word without a cell are not
+lost : stolen (Borrows (Is Object) Anything ∷ Steals (Is Object) Anything ∷ Steals (Is Object) Anything ∷ []) (Cell 3 (StrCell []) ∷ Cell 4 (StrCell []) ∷ Plain NoneObject ∷ []) ≡ 4 ∷ []
+lost = refl
