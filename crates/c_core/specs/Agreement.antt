@@ -1,6 +1,6 @@
--- When a code does what a program of the source does: run on any input for any number of turns it gives the source's
--- output and ending without a fault, and at its end it holds the source's objects with every count equal to the number of
--- places that hold it.
+-- When a code does what a program of the source does: on every input and for every number of turns its run has the
+-- source's output and ending, and no fault; and where it ends, the machine's cells are the source's objects, each counted
+-- as often as something holds it.
 use Rattle.std.specs.Prelude.{◌≡◌, ℕ, ◌≤◌, List, Option, Some, None}
 use Rattle.value_core.specs.Exceptions.{Thrown}
 use Rattle.value_core.specs.Items.{Items, InputEnd, input_items}

@@ -8,7 +8,7 @@ abbrev pub pending_refs : Option ℕ → List ℕ
 pending_refs None = []
 pending_refs (Some c) = c ∷ []
 
--- how often the globals, the pending exception and the contents of live cells hold a cell
+-- how often a cell is held: by the globals, by the pending exception, and by what live cells contain
 abbrev pub holders : MachineState → ℕ → ℕ
 holders s c = times (set_refs s.globals) c + (times (pending_refs s.pending) c + uses refs_in s.cells c)
 

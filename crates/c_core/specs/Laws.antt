@@ -53,7 +53,7 @@ abbrev pub state_after : Next → MachineState
 state_after (Goes s) = s
 state_after (Ends e s) = s
 
--- a step makes at most one cell and raises a count by at most one
+-- one step adds at most one cell, and at most one to any count
 abbrev pub StepStaysSmall : Type 0
 StepStaysSmall =
     (code : Code) (s : MachineState) → (length (state_after (step code s)).cells ≤ length s.cells + 1) × ((c : ℕ) → count_at (state_after (step code s)).cells c ≤ count_at s.cells c + 1)

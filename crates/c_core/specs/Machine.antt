@@ -77,7 +77,8 @@ pub record Frame : Type 0 where
 
 -- The machine's state: the cells, the frame that runs, the frames that wait for it (the innermost first), the globals,
 -- each a word or unset, the cell of the pending exception, the output so far, the lines of input that are left, the
--- turns that are left, and the numbers of all list, dict and instance cells ever made, in order.
+-- turns that are left, and, in the order of their making, the numbers of the cells that were made for a list, a dict or
+-- an instance.
 pub record MachineState : Type 0 where
   pub cells : Cells Content
   pub top : Frame

@@ -1,5 +1,5 @@
--- When a state of the machine holds the objects of a source's store: object k of the store and place k of `made` belong
--- together, and words and contents match values and objects.
+-- When a state of the machine holds the objects of a source's store: the cell that was made as the k-th is the store's
+-- object k, and words and contents match values and objects.
 use Rattle.std.specs.Prelude.{◌≡◌, ℕ, ℤ, Bool, true, false, List, [], ◌∷◌, Option, Some, None, slice_get}
 use Rattle.value_core.specs.Value.{Value, IntVal, BoolVal, NoneVal, StrVal, TupleVal, ExcVal, ObjVal, Values, no_values, value_then, Object, ListObj, DictObj, InstObj, Store}
 use Rattle.c_core.specs.Cells.{content_at}

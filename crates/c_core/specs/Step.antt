@@ -1,5 +1,5 @@
--- One step of the machine: what a line of the C text does to a state. The tests of a line go from left to right, a
--- later one sees what the earlier ones took from the ledger, and a fault leaves the state as it was before the line.
+-- One step of the machine: what a line of the C text does to a state. Its tests go from left to right, each on the
+-- ledger that those before it left, and a fault leaves the state as it was before the line.
 use Rattle.std.specs.Prelude.{ℕ, zero, suc, ◌+◌, ◌/◌, ◌%◌, ◌==◌, Bool, true, false, cond, ℤ, pos, negsuc, List, [], ◌∷◌, ◌++◌, length, Option, Some, None, slice_get, slice_set}
 use Rattle.std.specs.Option.{option_and_then, option_map}
 use Rattle.value_core.specs.Ending.{Ending, Done, Raised}

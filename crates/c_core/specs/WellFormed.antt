@@ -173,7 +173,7 @@ module _ (code : Code) (vars : List Declared) where
   call_fits x args None = false
   call_fits x args (Some p) = args_fit args (row_of p).parameters args && target_fits args (row_of p).outcome x
 
-  -- literals, calls and returns have the numbers and kinds that their declarations or rows ask for
+  -- literals, calls and returns fit the declarations of their variables, and calls their rows
   abbrev pub line_fits : Kind → Line → Bool
   line_fits ret (Lit x l) = literal_fits l (kind_at vars x)
   line_fits ret (Call x name args) = call_fits x args (primitive_named name)

@@ -16,7 +16,7 @@ pub fn release_in_any_order()
     ensures { ReleaseInAnyOrder }
 {}
 
-/// A step makes at most one cell and raises a count by at most one.
+/// One step adds at most one cell, and at most one to any count.
 pub fn step_stays_small()
     ensures { StepStaysSmall }
 {}

@@ -11,8 +11,8 @@ use c_core::{CFunc, Code, run_exists, run_keeps_counts, run_stays_small};
 use outside_core::{Sink, Source};
 use std::alloc::Global;
 
-/// Runs a well-formed code for so many turns, on the lines of the input. What the program writes goes to `out`, as soon
-/// as 65536 bytes or more are held and before the answer; where it writes nothing, nothing happens to `out`. Nothing is
+/// Runs a well-formed code for so many turns, on the lines of the input. What the program writes goes to `out`,
+/// whenever 65536 bytes have come together, and what is left before the answer; where it writes nothing, nothing happens to `out`. Nothing is
 /// taken from the input.
 pub fn run<I: Source, O: Sink>(
     alloc: Global,

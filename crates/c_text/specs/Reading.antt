@@ -28,7 +28,7 @@ pub record CanStand (front : List (List ℕ)) : Type 0 where
 abbrev pub has_no_line_feed : List ℕ → Type 0
 has_no_line_feed bytes = list_any is_line_feed bytes ≡ false
 
--- The place at which a text that no spelled code has is refused: the first byte of the first line that cannot stand
+-- The place at which a text that no spelled code has is refused: where the first line begins that cannot stand
 -- behind those before it, or else the text's end. A last piece without a line feed is no line.
 pub data RefusedAt (bytes : List ℕ) : ℕ → Type 0 where
   at_line : (before : List (List ℕ)) (line rest : List ℕ) → bytes ≡ text_of before ++ (line ++ (line_feed ∷ rest)) → has_no_line_feed line → CanStand before → ¬ (CanStand (before ++ line ∷ [])) → RefusedAt bytes (length (text_of before))

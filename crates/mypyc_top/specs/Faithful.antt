@@ -1,5 +1,5 @@
--- When a code is faithful to a module: run on any input for any number of turns it gives the source's output and ending
--- without a fault, and at its end it holds the source's objects with every count equal to the number of places that hold it.
+-- When a code is faithful to a module: it is well formed, it has the module's variables, and whatever it is run on, for
+-- however many turns, it does what the source does.
 use Rattle.std.specs.Prelude.{◌≡◌, ℕ, List, []}
 use Rattle.c_core.specs.declared.code.Kind.{Kind}
 use Rattle.c_core.specs.declared.code.Code.{Code}

@@ -23,7 +23,7 @@ pub trait Files {
     /// How many times an absent name was to be opened. The number stands still at 2^64 - 1.
     ghost absent_opens: { Self → ℕ } = { λ _. 0 };
 
-    /// Opens the file of this name, in place of any file that was open. An absent name is `Failed`,
+    /// Opens the file of this name; one that was open is open no more. An absent name is `Failed`,
     /// and after `Failed` no file is open.
     fn open_file(&mut self, name: &str) -> Result<(), Failed>
         ensures counted { faults self.new ≡ count_after result (faults self.old) }

@@ -44,8 +44,8 @@ impl Model for MemFiles {
 }
 
 impl MemFiles {
-    /// Files of these names and bytes, of which none is open. Of two entries with one name the
-    /// first counts. The calls with a number in `fails` fail; an open and a read are calls, and the
+    /// Files of these names and bytes, of which none is open. Where a name stands twice, the
+    /// bytes beside the first of them are its own. The calls with a number in `fails` fail; an open and a read are calls, and the
     /// first has number 0.
     pub fn new(files: Vec<(String, Vec<u8>)>, fails: Vec<u64>) -> MemFiles
         ensures { result ≡ record {

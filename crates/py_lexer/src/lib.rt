@@ -36,7 +36,7 @@ use std::alloc::Global;
 /// The tokens of a text (Python Language Reference, "Lexical analysis"), or its first fault. For want of memory the
 /// answer is `Memory`, also where a fault stands further on.
 ///
-/// The last token is `End`, and no other one is; indents and dedents are balanced; no token stands before an
+/// `End` stands last and nowhere else; indents and dedents are balanced; no token stands before an
 /// earlier one. The text is what spells the tokens, each at its place, with nothing but gaps between them.
 pub fn tokens(alloc: Global, text: &str) -> Result<Tokens, LexError>
     ensures exact { Gives (λ t. t.list) result (tokens_of (chars text.now)) }

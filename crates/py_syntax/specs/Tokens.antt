@@ -6,7 +6,7 @@ use Rattle.py_syntax.specs.declared.token.Token.{Token}
 use Rattle.py_syntax.specs.declared.token.TokenKind.{TokenKind}
 use Rattle.py_syntax.specs.declared.token.TokenKind.TheVariants.{Indent, Dedent, End}
 
--- the last token is End, and no other one is
+-- End stands last, and nowhere else
 pub record EndsOnce (tokens : List Token) : Type 0 where
   pub front : List Token
   pub last : Token

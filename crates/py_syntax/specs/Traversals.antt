@@ -26,8 +26,8 @@ abbrev pub within : Standing → Standing
 within Target = Value
 within m = m
 
--- THE NODES of an expression: it and all those within it, each in front of its parts, and the parts in the order of the
--- text: in `a if c else b` it is a, c, b. The key of an argument names a parameter, and is none of them.
+-- THE NODES of an expression: it and all those within it, each in front of its parts, and the parts as they follow each
+-- other in the text: `a if c else b` has a, then c, then b. The key of an argument names a parameter, and is none of them.
 abbrev mutual
   pub nodes_of_expr : Standing → ExprTree → List SyntaxNode
   nodes_of_expr m (e.at node span) = expression m (e.at node span) ∷ parts_of m node

@@ -32,7 +32,7 @@ pub enum StmtKind {
     Global(Many<Name>),
     /// The test, and the message.
     Assert(Expr, Option<Expr>),
-    /// `import module as name`. A dotted module name is one name, with its dots.
+    /// `import module as name`. The name of a module has its dots in it.
     Import(Name, Option<Name>),
     /// `from module import name as name, ..`.
     From(Name, Many<(Name, Option<Name>)>),

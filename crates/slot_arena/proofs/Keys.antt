@@ -1,4 +1,4 @@
--- The keys of the live slots, sorted by their serials, are the keys of the map in order of their serials.
+-- The keys of the live slots, sorted by serial, are those of the map as they ascend.
 use Rattle.std.proofs.Common.{◌≡◌, ◌≢◌, ◌⊎◌, ℕ, zero, suc, ◌+◌, ◌<◌, ◌≤◌, List, [], ◌∷◌, ◌++◌, length, get_or, drop, Bool, false, eqb, Option, Some, None, slice_get, option_and_then, Contains, IsPermutation, refl, sym, ap, subst, ◌∙◌, inl, inr, arith, add-zero, zero-add, eq-eqb, ne_eqb}
 use Rattle.std.specs.List.{IsDistinct, AllByRecursion}
 use Rattle.std.specs.List.Sorted.{IsNonDecreasingBy}

@@ -78,6 +78,6 @@ module _ {T : Type 0} where
   keys_from serial (None ∷ rest) = keys_from (serial + 1) rest
   keys_from serial (Some entry ∷ rest) = record { slot = entry.slot; serial = serial } ∷ keys_from (serial + 1) rest
 
-  -- the keys of the map in order of their serials
+  -- the map's keys, by ascending serials
   abbrev pub keys_of : Contents T → List Key
   keys_of a = keys_from 0 a.entries

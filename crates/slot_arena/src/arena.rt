@@ -187,7 +187,7 @@ impl<T> Arena<T> {
         }
     }
 
-    /// The keys of the map, in order of their serials.
+    /// The map's keys, by ascending serials.
     pub fn keys(&self, alloc: Global) -> Result<Many<Key>, Memory>
         ensures { IfOk result (λ keys. keys ≡ keys_of self.now) }
     {

@@ -5,8 +5,8 @@
 //! once and are taken off one by one later, without memory and without recursion. `specs/Contents.antt` says what
 //! an arena holds and what each call makes of it.
 //!
-//! `arena` has the calls, over the slots of `slots`, each of which is a `Slot`. Free slots and condemned slots are
-//! linked through the slots themselves. The slots lie in a `Room`, which is one `Block` of memory: raw pointers stand
+//! `arena` has the calls, over the slots of `slots`, each of which is a `Slot`. Each free slot holds the
+//! number of the next one, and so does each condemned slot. The slots lie in a `Room`, which is one `Block` of memory: raw pointers stand
 //! only in `block`, in the five functions that take memory, give it back, lend a slot for reading or for writing, and
 //! fill or empty one.
 #![tactic(auto)]

@@ -36,7 +36,7 @@ pub fn int_neg(a: i128) -> Result<i128, Arith>
     a.checked_neg().ok_or(Arith::Overflow)
 }
 
-/// `a // b`, rounded to minus infinity. ZeroDivisor exactly where `b` is 0; Overflow exactly at the least value `// -1`.
+/// `a // b`, rounded to minus infinity. `ZeroDivisor` for a `b` of 0 and for no other; `Overflow` for the least value and -1 alone.
 pub fn int_floor_div(a: i128, b: i128) -> Result<i128, Arith>
     ensures { result ≡ spec.int_floor_div a b }
 {
@@ -54,7 +54,7 @@ pub fn int_floor_div(a: i128, b: i128) -> Result<i128, Arith>
     }
 }
 
-/// `a % b`, with the sign of `b`. ZeroDivisor exactly where `b` is 0.
+/// `a % b`, with the sign of `b`. `ZeroDivisor` for a `b` of 0 and for no other.
 pub fn int_modulo(a: i128, b: i128) -> Result<i128, Arith>
     ensures { result ≡ spec.int_modulo a b }
 {

@@ -33,7 +33,7 @@ pub fn i64_neg(a: i64) -> i64
     a.wrapping_neg()
 }
 
-/// `a // b`, rounded to minus infinity. ZeroDivisor exactly where `b` is 0; Overflow exactly at the least value `// -1`.
+/// `a // b`, rounded to minus infinity. `ZeroDivisor` for a `b` of 0 and for no other; `Overflow` for the least value and -1 alone.
 pub fn i64_floor_div(a: i64, b: i64) -> Result<i64, Arith>
     ensures { result ≡ spec.i64_floor_div a b }
 {
@@ -41,7 +41,7 @@ pub fn i64_floor_div(a: i64, b: i64) -> Result<i64, Arith>
     i64::try_from(quotient).map_err(|_| Arith::Overflow)
 }
 
-/// `a % b`, with the sign of `b`. ZeroDivisor exactly where `b` is 0.
+/// `a % b`, with the sign of `b`. `ZeroDivisor` for a `b` of 0 and for no other.
 pub fn i64_modulo(a: i64, b: i64) -> Result<i64, Arith>
     ensures { result ≡ spec.i64_modulo a b }
 {
@@ -49,7 +49,7 @@ pub fn i64_modulo(a: i64, b: i64) -> Result<i64, Arith>
     Ok(rest as i64)
 }
 
-/// `a << n`, wrapped. OutOfRange exactly where `n` is outside 0 to 63.
+/// `a << n`, wrapped. `OutOfRange` for an `n` below 0 or above 63, and for no other.
 pub fn i64_shl(a: i64, n: i64) -> Result<i64, Arith>
     ensures { result ≡ spec.i64_shl a n }
 {
@@ -59,7 +59,7 @@ pub fn i64_shl(a: i64, n: i64) -> Result<i64, Arith>
     }
 }
 
-/// `a >> n`, rounded to minus infinity. OutOfRange exactly where `n` is outside 0 to 63.
+/// `a >> n`, rounded to minus infinity. `OutOfRange` for an `n` below 0 or above 63, and for no other.
 pub fn i64_shr(a: i64, n: i64) -> Result<i64, Arith>
     ensures { result ≡ spec.i64_shr a n }
 {
