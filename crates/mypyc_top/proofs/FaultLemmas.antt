@@ -18,7 +18,7 @@ use Rattle.mypyc_top.specs.declared.diagnostic.DiagnosticKind.TheVariants.{NoTex
 use Rattle.mypyc_top.specs.declared.source.SourceError.{SourceError}
 use Rattle.mypyc_top.specs.declared.source.SourceError.TheVariants.{Faulty, Memory}
 use Rattle.mypyc_top.specs.Forms.{numbers_of}
-use Rattle.mypyc_top.specs.Source.{HasTree, IsModule, AreNumbers}
+use Rattle.mypyc_top.specs.Source.{HasTree, IsModule}
 use Rattle.mypyc_top.specs.Faults.{at_line, bad_line, line_at, key_at, of_tree, found_in, AreOfTokens, AreOfBytes, AreFaults}
 use Rattle.mypyc_top.specs.FaultLaws.{FaultsAreOne, NumbersAreOne}
 use Rattle.mypyc_top.specs.SourceFaults.{SaysOfTokens, SaysOfText, Judges}

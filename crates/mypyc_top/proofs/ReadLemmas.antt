@@ -1,5 +1,5 @@
 -- How much of a file is read.
-use Rattle.std.proofs.Common.{◌≡◌, sym, ◌∙◌, subst, ℕ, ◌+◌, List, Bool, true, false, IsTrue, Option, Some}
+use Rattle.std.proofs.Common.{◌≡◌, sym, ◌∙◌, subst, ℕ, ◌+◌, List, Bool, false, IsTrue, Option, Some}
 use Rattle.std.specs.Option.{option_and_then}
 use Rattle.outside_core.specs.Bytes.{GivesAtMost}
 use Rattle.mypyc_top.specs.declared.words.Request.{Request}

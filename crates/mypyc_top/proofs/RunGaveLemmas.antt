@@ -2,7 +2,7 @@
 use Rattle.std.proofs.Common.{◌≡◌, refl, sym, ◌∙◌, ap, subst, ℕ, Bool, true, false, IsTrue, List, [], ◌∷◌, ◌++◌, append_assoc, Some, Result, Ok, Err, IfOk, ◌⊎◌, inl, inr}
 use Rattle.value_core.specs.Items.{Items, AtEof, AtFailure}
 use Rattle.outside_core.specs.Bytes.{bytes_between}
-use Rattle.value_core.specs.Ending.{Ending, Done, Raised, Cut, Over, Broken}
+use Rattle.value_core.specs.Ending.{Done, Raised, Cut, Over, Broken}
 use Rattle.c_core.specs.Step.{MachineEnding, Ended, Faulted}
 use Rattle.c_core.specs.Run.{Stop, machine_run}
 use Rattle.c_runner.specs.declared.report.LiveCell.{LiveCell}
@@ -15,7 +15,7 @@ use Rattle.mypyc_top.specs.declared.running.Rest.{Rest}
 use Rattle.mypyc_top.specs.declared.running.Unfinished.{Unfinished}
 use Rattle.mypyc_top.specs.Output.{output_text}
 use Rattle.mypyc_top.specs.ErrorLines.{memory_line, input_line}
-use Rattle.mypyc_top.specs.Endings.{ending_status, machine_status}
+use Rattle.mypyc_top.specs.Endings.{machine_status}
 use Rattle.mypyc_top.specs.Summary.{cells_left}
 use Rattle.mypyc_top.specs.Replies.{IsReplied, is_run_status}
 use Rattle.mypyc_top.specs.Sinks.{SinkCall, sink_call, Took, TookFront}

@@ -2,7 +2,7 @@
 -- text is held to. A module's statements are `print(N)`, and a module is the list of its numbers.
 use Rattle.std.specs.Prelude.{ℕ, List, [], ◌∷◌, ◌++◌, decimal}
 use Rattle.std.specs.List.{flat_map}
-use Rattle.value_core.specs.Items.{Items, line_feed}
+use Rattle.value_core.specs.Items.{line_feed}
 use Rattle.value_core.specs.Ending.{Done}
 use Rattle.c_core.specs.Agreement.{Source}
 
