@@ -1,0 +1,5 @@
+pub mod Sights
+pub mod Scope
+pub mod Faults
+pub mod Collected
+pub mod Tables
