@@ -1,10 +1,10 @@
 -- The scopes and the faults of a function and of a module, from what was collected.
-use Rattle.std.proofs.Common.{◌≡◌, ℕ, Result, Ok, Err, IfOk, OnOk, List, [], ◌∷◌, ◌++◌, map, Option, refl, ap, sym, ◌∙◌}
+use Rattle.std.proofs.Common.{◌≡◌, ℕ, Result, Ok, Err, IfOk, OnOk, List, ◌++◌, map, Option, ap, sym, ◌∙◌}
 use Rattle.value_core.specs.declared.memory.Memory.{Memory}
 use Rattle.py_syntax.specs.declared.expression.Expr.{Expr}
 use Rattle.py_syntax.specs.declared.statement.Stmt.{Stmt}
 use Rattle.py_syntax.specs.declared.statement.Func.{Func, out-Func}
-use Rattle.py_syntax.specs.Statements.{FuncTree, func_tree, body_tree, param_tree}
+use Rattle.py_syntax.specs.Statements.{func_tree, body_tree, param_tree}
 use Rattle.py_binder.specs.declared.sight.Home.TheVariants.{InModule, InFunction}
 use Rattle.py_binder.specs.Sights.{Sight, suite_sights}
 use Rattle.py_binder.specs.Scope.{Roles, contains, first_sights, inner_role, role_among, module_role, scope_of, module_scope, function_scope, functions, all_there, seen_there, bound_there, listed_there, held_there}

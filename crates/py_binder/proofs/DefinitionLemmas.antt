@@ -1,5 +1,5 @@
 -- What functions, classes, handlers and arms stand for, by their parts.
-use Rattle.std.proofs.Common.{◌≡◌, List, map, refl, ap, sym, ◌∙◌}
+use Rattle.std.proofs.Common.{◌≡◌, map}
 use Rattle.py_syntax.specs.declared.statement.Func.{Func, out-Func, fold_out-Func}
 use Rattle.py_syntax.specs.declared.statement.Class.{Class, out-Class, fold_out-Class}
 use Rattle.py_syntax.specs.declared.statement.Handler.{Handler, out-Handler, fold_out-Handler}

@@ -1,5 +1,5 @@
 -- The definitions at small modules.
-use Rattle.std.proofs.Common.{◌≡◌, ℕ, List, [], ◌∷◌, codes, map, Option, Some, None, refl, pos}
+use Rattle.std.proofs.Common.{◌≡◌, ℕ, List, [], ◌∷◌, codes, map, None, refl, pos}
 use Rattle.py_syntax.specs.declared.token.Span.{Span}
 use Rattle.py_syntax.specs.Expressions as e
 use Rattle.py_syntax.specs.Expressions.{ExprTree}

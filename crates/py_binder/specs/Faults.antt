@@ -10,7 +10,7 @@ use Rattle.py_syntax.specs.Statements.{Suite, FuncTree}
 use Rattle.py_binder.specs.declared.scope.Diag.{Diag}
 use Rattle.py_binder.specs.declared.scope.Role.{Role}
 use Rattle.py_binder.specs.declared.scope.Role.TheVariants.{Unknown}
-use Rattle.py_binder.specs.Sights.{Use, Reads, Binds, Defines, Declares, Holds, Sight, module_sights, body_sights}
+use Rattle.py_binder.specs.Sights.{Use, Reads, Declares, Holds, Sight, module_sights, body_sights}
 use Rattle.py_binder.specs.Scope.{contains, seen_there, Roles, module_role, function_role, is_variable, param_names}
 
 -- a fault: its place, its text, and the code of its rule

@@ -1,4 +1,3 @@
-use Rattle.std.proofs.Common.{rules, ◌≡◌}
 use Rattle.py_binder.proofs.FaultLemmas.{scopes_step, faults_step}
 use Rattle.py_binder.proofs.bodies.add_all_functions.Goals as goal
 

@@ -1,4 +1,3 @@
-use Rattle.std.proofs.Common.{rules, ◌≡◌}
 use Rattle.py_binder.proofs.FaultLemmas.{body_step}
 use Rattle.py_binder.proofs.faults.add_body_faults.Goals as goal
 

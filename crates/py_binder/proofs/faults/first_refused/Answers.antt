@@ -1,4 +1,4 @@
-use Rattle.std.proofs.Common.{rules, ◌≡◌, sym, ◌∙◌}
+use Rattle.std.proofs.Common.{sym, ◌∙◌}
 use Rattle.py_binder.specs.Scope.{contains}
 use Rattle.py_binder.proofs.TableLemmas.{find_step, find_here}
 use Rattle.py_binder.proofs.faults.first_refused.Goals as goal

@@ -1,5 +1,3 @@
-use Rattle.std.proofs.Common.{rules, ◌≡◌, ◌++◌}
-use Rattle.py_binder.specs.Collected.{sights_of}
 use Rattle.py_binder.proofs.StatementLemmas.{on_ok, if_end, while_end, for_end, try_end, no_last, some_last}
 use Rattle.py_binder.proofs.statements.+statement.Goals as goal
 
