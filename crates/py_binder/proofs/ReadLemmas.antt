@@ -7,10 +7,10 @@ use Rattle.py_syntax.specs.declared.expression.CmpOp.{CmpOp}
 use Rattle.py_syntax.specs.declared.expression.Expr.{Expr}
 use Rattle.py_syntax.specs.declared.expression.ExprKind as kind
 use Rattle.py_syntax.specs.Expressions as tree
-use Rattle.py_syntax.specs.Expressions.{expr_tree, comparisons_of, comparison_tree, entries_of, entry_tree}
-use Rattle.py_syntax.proofs.ExpressionLemmas.{expr_tree_at, expr_node-Compare, expr_node-Dict}
+use Rattle.py_syntax.specs.Expressions.{expr_tree, comparisons_of, comparison_tree}
+use Rattle.py_syntax.proofs.ExpressionLemmas.{expr_tree_at, expr_node-Compare}
 use Rattle.py_binder.specs.declared.sight.Manner.{Manner}
-use Rattle.py_binder.specs.Sights.{Sight, reads, node_reads, comparisons_reads, entries_reads}
+use Rattle.py_binder.specs.Sights.{Sight, reads, node_reads, comparisons_reads}
 
 pub nothing_left : {A : Type 0} (xs : List A) (i : ℕ) → length xs ≤ i → drop i xs ≡ []
 nothing_left [] zero h = refl
@@ -23,13 +23,9 @@ pub row_end : {A B : Type 0} (f : List A → List B) (xs : List A) (i : ℕ) →
 row_end f xs i n none old new e =
     sym (append-nil new) ∙ ap (λ l. new ++ l) (sym none) ∙ ap (λ l. new ++ f l) (sym (nothing_left xs i n)) ∙ e
 
-pub reads_compare : (m : Manner) (e : Expr) (a : Box Expr Global) (cs : List (CmpOp × Expr)) → e.kind ≡ kind.Compare a cs → reads m (expr_tree e) ≡ reads m (expr_tree a.value) ++ comparisons_reads m (comparisons_of (map comparison_tree cs))
+reads_compare : (m : Manner) (e : Expr) (a : Box Expr Global) (cs : List (CmpOp × Expr)) → e.kind ≡ kind.Compare a cs → reads m (expr_tree e) ≡ reads m (expr_tree a.value) ++ comparisons_reads m (comparisons_of (map comparison_tree cs))
 reads_compare m e a cs is =
     ap (reads m) (expr_tree_at e) ∙ ap (λ k. node_reads m (tree.expr_node k) e.span) is ∙ ap (λ n. node_reads m n e.span) (expr_node-Compare a cs)
-
-pub reads_dict : (m : Manner) (e : Expr) (es : List (Expr × Expr)) → e.kind ≡ kind.Dict es → reads m (expr_tree e) ≡ entries_reads m (entries_of (map entry_tree es))
-reads_dict m e es is =
-    ap (reads m) (expr_tree_at e) ∙ ap (λ k. node_reads m (tree.expr_node k) e.span) is ∙ ap (λ n. node_reads m n e.span) (expr_node-Dict es)
 
 pub compare_end : (m : Manner) (e : Expr) (a : Box Expr Global) (cs : List (CmpOp × Expr)) → e.kind ≡ kind.Compare a cs → (i : ℕ) → length cs ≤ i → (f0 f1 f2 : List Sight) → f1 ≡ f0 ++ reads m (expr_tree a.value) → f2 ++ comparisons_reads m (comparisons_of (map comparison_tree (drop i cs))) ≡ f1 ++ comparisons_reads m (comparisons_of (map comparison_tree cs)) → f2 ≡ f0 ++ reads m (expr_tree e)
 compare_end m e a cs is i n f0 f1 f2 first row =
@@ -37,7 +33,3 @@ compare_end m e a cs is i n f0 f1 f2 first row =
     ∙ ap (λ l. l ++ comparisons_reads m (comparisons_of (map comparison_tree cs))) first
     ∙ append_assoc f0 _ _
     ∙ ap (λ l. f0 ++ l) (sym (reads_compare m e a cs is))
-
-pub dict_end : (m : Manner) (e : Expr) (es : List (Expr × Expr)) → e.kind ≡ kind.Dict es → (i : ℕ) → length es ≤ i → (f0 f1 : List Sight) → f1 ++ entries_reads m (entries_of (map entry_tree (drop i es))) ≡ f0 ++ entries_reads m (entries_of (map entry_tree es)) → f1 ≡ f0 ++ reads m (expr_tree e)
-dict_end m e es is i n f0 f1 row =
-    row_end (λ l. entries_reads m (entries_of (map entry_tree l))) es i n refl f0 f1 row ∙ ap (λ l. f0 ++ l) (sym (reads_dict m e es is))

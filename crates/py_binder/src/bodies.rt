@@ -1,5 +1,5 @@
 //! The scopes of a module, function by function.
-ghost use Rattle.std.specs.Prelude.{◌≡◌, ℕ, List, ◌∷◌, ◌++◌, [], map, IfOk, OnOk};
+ghost use Rattle.std.specs.Prelude.{◌≡◌, ◌++◌, [], map, IfOk, OnOk};
 ghost use Rattle.py_syntax.specs.Statements.{func_tree, param_tree};
 ghost use Rattle.py_binder.specs.Scope as spec;
 ghost use Rattle.py_binder.specs.Scope.{all_there};

@@ -1,8 +1,7 @@
 //! The names that definitions see, and the functions that they hold.
-ghost use Rattle.std.specs.Prelude.{◌≡◌, [], ◌∷◌, ◌++◌, map, OnOk};
-ghost use Rattle.std.specs.Option.{option_map};
+ghost use Rattle.std.specs.Prelude.{◌≡◌, ◌++◌, map, OnOk};
 ghost use Rattle.py_syntax.specs.Expressions.{expr_tree};
-ghost use Rattle.py_syntax.specs.Statements.{stmt_tree, body_tree, func_tree, class_tree, param_tree, maybe_expr};
+ghost use Rattle.py_syntax.specs.Statements.{stmt_tree, body_tree, func_tree, class_tree, param_tree};
 ghost use Rattle.py_binder.specs.Sights as spec;
 ghost use Rattle.py_binder.specs.Collected.{sights_of};
 

@@ -1,5 +1,5 @@
 //! What names are inside a function, or in the module itself.
-ghost use Rattle.std.specs.Prelude.{◌≡◌, ℕ, List, ◌∷◌, ◌++◌, [], map, IfOk};
+ghost use Rattle.std.specs.Prelude.{◌≡◌, ℕ, List, map, IfOk};
 ghost use Rattle.py_binder.specs.Scope as spec;
 ghost use Rattle.py_binder.specs.Scope.{all_there, listed_there, bound_there};
 ghost use Rattle.py_binder.specs.Collected.{sights_of};

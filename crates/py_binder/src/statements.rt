@@ -1,7 +1,5 @@
 //! The names that statements see.
 ghost use Rattle.std.specs.Prelude.{◌≡◌, [], ◌∷◌, ◌++◌, map, OnOk};
-ghost use Rattle.std.specs.Option.{option_map};
-ghost use Rattle.py_syntax.specs.Expressions.{expr_tree};
 ghost use Rattle.py_syntax.specs.Statements.{stmt_tree, body_tree, handler_tree, handlers_of};
 ghost use Rattle.py_binder.specs.Sights as spec;
 ghost use Rattle.py_binder.specs.Collected.{sights_of};
