@@ -201,3 +201,16 @@ find_here p xs i x found h at it before =
     ∙ ap (λ y. find p (y ∷ drop (suc i) xs)) at
     ∙ ap (find p) (sym (drop-cons xs i x h))
     ∙ before
+
+-- names behind others: those come first, and then what is new
+inserted_behind : (ks xs ys : List (List ℕ)) → insert_all bytes_eq ks (xs ++ ys) ≡ insert_all bytes_eq (insert_all bytes_eq ks xs) ys
+inserted_behind ks [] ys = refl
+inserted_behind ks (x ∷ xs) ys = inserted_behind (insert_key bytes_eq ks x) xs ys
+
+pub first_come_first : (xs ys : List (List ℕ)) → first_sights (xs ++ ys) ≡ first_sights xs ++ filter (λ y. not (contains xs y)) (first_sights ys)
+first_come_first xs ys =
+    sym (inserted (xs ++ ys))
+    ∙ inserted_behind [] xs ys
+    ∙ ap (λ l. insert_all bytes_eq l ys) (inserted xs)
+    ∙ insert_first (first_sights xs) ys
+    ∙ ap (λ (t : List ℕ → Bool). first_sights xs ++ filter (λ y. not (t y)) (first_sights ys)) (λ i y. contains_first xs y i)

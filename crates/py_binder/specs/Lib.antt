@@ -3,3 +3,4 @@ pub mod Scope
 pub mod Faults
 pub mod Collected
 pub mod Tables
+pub mod Laws

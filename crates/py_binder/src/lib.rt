@@ -4,6 +4,7 @@
 //! What comes in is a module's tree; what goes out are its scope, those of its functions, and the faults.
 //! `specs/Sights.antt` lists what is seen of names, place by place, `specs/Scope.antt` says by that list what each name is,
 //! and `specs/Faults.antt` what is wrong. The code collects the same list once, fills tables from it, and goes over it.
+//! `specs/Laws.antt` says what holds of the names of every scope, and `laws` proves it.
 #![tactic(auto)]
 
 ghost use Rattle.std.specs.Prelude.{◌≡◌, map, IfOk};
@@ -16,6 +17,7 @@ mod definitions;
 mod faults;
 mod imports;
 mod inside;
+mod laws;
 mod names;
 mod reads;
 mod scope;
@@ -31,6 +33,7 @@ use crate::sight::Home;
 use crate::statements::see_all;
 use crate::table::table_of;
 use indexmap::IndexSet;
+pub use laws::{first_come_first, no_name_is_lost};
 use py_syntax::Module;
 pub use scope::{Diag, Role, Scope, Scopes};
 use std::alloc::Global;
