@@ -21,6 +21,7 @@ mod lexeme;
 mod number;
 mod placed;
 mod plain;
+mod quoted;
 mod read;
 mod reader;
 mod sign;
@@ -30,6 +31,7 @@ mod word;
 use crate::plain::{characters, place_all, plain};
 use crate::read::read;
 pub use fault::{LexError, LexKind};
+pub use quoted::name_in_quotes;
 use py_syntax::Tokens;
 use std::alloc::Global;
 

@@ -29,7 +29,8 @@ fn all_continue(text: &[char]) -> bool
     text.iter().all(|c| is_xid_continue(*c))
 }
 
-fn is_identifier(text: &[char]) -> bool
+/// Whether characters are an identifier.
+pub(crate) fn is_identifier(text: &[char]) -> bool
     ensures { result ≡ spec.is_python_identifier text.now }
 {
     match text {

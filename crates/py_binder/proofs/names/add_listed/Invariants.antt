@@ -1,0 +1,9 @@
+use Rattle.std.proofs.Common.{◌≡◌, ◌++◌, drop}
+use Rattle.py_binder.specs.Scope.{all_there, listed_there}
+use Rattle.py_binder.specs.Collected.{sights_of}
+use Rattle.py_binder.proofs.names.add_listed.Given as goal
+
+abbrev pub invariant-loop-sight : goal.invariant-loop-sight
+invariant-loop-sight l =
+    l.names.items ++ all_there listed_there (sights_of (drop l.sight-index l.sights))
+    ≡ l.fn.names.items ++ all_there listed_there (sights_of l.sights)

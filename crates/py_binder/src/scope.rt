@@ -1,0 +1,40 @@
+//! What binding names gives: what each name is, and what is wrong.
+use py_syntax::Span;
+use value_core::{Many, Name, Text};
+
+/// What a name is.
+#[derive(Clone, Copy, PartialEq, Eq)]
+pub enum Role {
+    Param,
+    Local,
+    /// A variable of the module.
+    GlobalVar,
+    Function,
+    Class,
+    Import,
+    Builtin,
+    Unknown,
+}
+
+/// The names that are seen in a module or in a function, each once, in the order of first sight.
+#[derive(Drop)]
+pub struct Scope {
+    pub names: Many<(Name, Role)>,
+}
+
+/// A fault, with its place, its text and the code of its rule.
+#[derive(Drop)]
+pub struct Diag {
+    pub span: Span,
+    pub text: Text,
+    pub code: Text,
+}
+
+/// The scopes of a module's functions in the order of the text, methods at their class's place; that of the module; and
+/// the faults in the order of the text.
+#[derive(Drop)]
+pub struct Scopes {
+    pub funcs: Many<Scope>,
+    pub top: Scope,
+    pub faults: Many<Diag>,
+}
