@@ -26,6 +26,8 @@ mod mypyc_top_words_tests;
 #[cfg(test)]
 mod outside_core_tests;
 #[cfg(test)]
+mod py_binder_tests;
+#[cfg(test)]
 mod py_grammar_tests;
 #[cfg(test)]
 mod py_lexer_tests;
