@@ -5,9 +5,10 @@ use outside_core::{
     ReadError, Sink, Source, StreamSink, StreamSource, WriteFault, read_whole, write_whole,
 };
 use std::alloc::{AllocError, Global};
+use std::io::{self, Input};
 use std::process::Abort;
 use std::test::Fail;
-use std::{fs, io};
+use std::{fs, rt};
 
 /// Opens a file and reads it.
 fn open_whole<F: Files>(
@@ -180,14 +181,17 @@ const ON_DISK: &[Case<'static>] = &[
     ("disk_files.txt", 11, Ok(b"on the disk")),
 ];
 
+fn check_disk<R: rt::Files + Input>(rt: &impl Abort, alloc: Global, files: &mut DiskFiles<R>) {
+    check_files(rt, alloc, files, ON_DISK);
+    let before = files.faults();
+    let is_open = files.open_file("-") == Ok(());
+    check(rt, &"-", is_open && (before, files.faults()) == (2, 2));
+}
+
 #[test]
 fn files_of_the_disk(rt: HostRuntime) -> Result<(), Fail> {
     fs::write(&rt, "disk_files.txt", b"on the disk")?;
-    let mut files = DiskFiles::new(&rt);
-    check_files(&rt, rt.alloc(), &mut files, ON_DISK);
-    let before = files.faults();
-    let is_open = files.open_file("-") == Ok(());
-    check(&rt, &"-", is_open && (before, files.faults()) == (2, 2));
+    check_disk(&rt, rt.alloc(), &mut DiskFiles::new(&rt));
     fs::remove_file(&rt, "disk_files.txt")?;
     Ok(())
 }
