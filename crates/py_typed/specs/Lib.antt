@@ -1,0 +1,13 @@
+pub mod Sorts
+pub mod Classes
+pub mod Fits
+pub mod TypeTexts
+pub mod Expressions
+pub mod Statements
+pub mod Order
+pub mod State
+pub mod Operations
+pub mod ExpressionMeaning
+pub mod WaysOut
+pub mod StatementMeaning
+pub mod SourceRun
