@@ -13,10 +13,12 @@ pub record Closed (R : ℕ → (A : Type 0) → Does A → Does A → Type 0) (A
   pub raises : (t : ℕ) {A : Type 0} (e : Value) → R t A (raise e) (raise e)
   pub stops : (t : ℕ) {A : Type 0} (w : Stop) → R t A (stop w) (stop w)
   pub binds : (t : ℕ) {A B : Type 0} {d e : Does A} {f g : A → Does B} → R t _ d e → ((a : A) → R t _ (f a) (g a)) → R t _ (d >>= f) (e >>= g)
-  pub looks : (t : ℕ) {A B : Type 0} (part : State → A) {f g : A → Does B} → ((a : A) → R t _ (f a) (g a)) → R t _ (look part f) (look part g)
+  pub looks : (t : ℕ) {A B : Type 0} (part : State → A) {f g : A → Does B} → ((s : State) (n : ℕ) → part (record s { turns = n }) ≡ part s) → ((a : A) → R t _ (f a) (g a)) → R t _ (look part f) (look part g)
   pub fewer : (t u : ℕ) {A : Type 0} {d e : Does A} → u ≤ t → R t _ d e → R u _ d e
-  pub spends : (t n m : ℕ) → Allowed t n m → {A : Type 0} (f g : ℕ → Does A) → f zero ≡ stop Cut → g zero ≡ stop Cut
-      → ((u n' m' : ℕ) → u ≤ t → n ≡ suc n' → m ≡ suc m' → Allowed u n' m' → R u _ (f n) (g m)) → R t _ (spend >> f n) (spend >> g m)
+  pub both_ends : (t : ℕ) {A : Type 0} → Allowed t zero zero → R t A (spend >> stop Cut) (spend >> stop Cut)
+  pub left_ends : (t m : ℕ) {A : Type 0} {e : Does A} → Allowed t zero (suc m) → R t _ (spend >> stop Cut) (spend >> e)
+  pub right_ends : (t n : ℕ) {A : Type 0} {d : Does A} → Allowed t (suc n) zero → R t _ (spend >> d) (spend >> stop Cut)
+  pub spends : (t n m : ℕ) {A : Type 0} {d e : Does A} → Allowed t (suc n) (suc m) → ((u : ℕ) → u ≤ t → Allowed u n m → R u _ d e) → R t _ (spend >> d) (spend >> e)
   pub catching : (t : ℕ) {d e : Does Flow} {f g : Value → Does Flow} → R t _ d e → ((v : Value) → R t _ (f v) (g v)) → R t _ (catch d f) (catch e g)
   pub finals : (t : ℕ) {d e f g : Does Flow} → R t _ d e → R t _ f g → R t _ (finally d f) (finally e g)
   pub handles : (t : ℕ) (v : Value) {d e : Does Flow} → R t _ d e → R t _ (handling v d) (handling v e)

@@ -18,10 +18,10 @@ module _ {R : ℕ → (A : Type 0) → Does A → Does A → Type 0} {Allowed : 
   values p (Some (Some v)) = k.gives t v
 
   pub locals_read : (locals : List Variable) (i : ℕ) → R t _ (read_local locals i) (read_local locals i)
-  locals_read locals i = k.looks t (λ s. slice_get s.locals i) (values (k.raises t _))
+  locals_read locals i = k.looks t (λ s. slice_get s.locals i) (λ s n. refl) (values (k.raises t _))
 
   pub globals_read : (globals : List Variable) (i : ℕ) → R t _ (read_global globals i) (read_global globals i)
-  globals_read globals i = k.looks t (λ s. slice_get s.globals i) (values (k.raises t _))
+  globals_read globals i = k.looks t (λ s. slice_get s.globals i) (λ s n. refl) (values (k.raises t _))
 
   module _ (classes : List ClassEntry) where
     pub attributes_read : (name : List ℕ) (o : Value) → R t _ (attribute classes name o) (attribute classes name o)
@@ -69,7 +69,7 @@ module _ {R : ℕ → (A : Type 0) → Does A → Does A → Type 0} {Allowed : 
           node_alike (ListOf es) s = k.binds t (expressions_alike es) (λ vs. k.makes t _)
           node_alike (DictOf es) s = k.binds t (entries_alike es) (λ ps. k.makes t _)
           node_alike (TupleOf es) s = k.binds t (expressions_alike es) (λ vs. k.gives t _)
-          node_alike (Attr e name) s = k.binds t (expression_alike e) (λ o. attributes_read classes name o)
+          node_alike (Attr e name) s = k.binds t (expression_alike e) (λ o. attributes_read name o)
           node_alike (At e i) s = k.binds t (expression_alike e) (λ x. k.binds t (expression_alike i) (λ j. items_at k t (type_of e) x j))
           node_alike (TupleAt e i) s = k.binds t (expression_alike e) (λ x. parts k t i x)
           node_alike (Call f es) s = k.binds t (expressions_alike es) (λ vs. calls f vs)
@@ -78,7 +78,7 @@ module _ {R : ℕ → (A : Type 0) → Does A → Does A → Type 0} {Allowed : 
           node_alike (Method e name es) s = k.binds t (expression_alike e) (λ o. k.binds t (expressions_alike es) (λ vs. methods name o vs))
           node_alike (SuperInit f es) s = k.binds t (locals_read locals 0) (λ o. k.binds t (expressions_alike es) (λ vs. nexts f o vs))
           node_alike (Print es) s = k.binds t (expressions_alike es) (λ vs. k.writes t _)
-          node_alike Input s = k.looks t (λ u. u.items) (k.reads t)
+          node_alike Input s = k.looks t (λ s. s.items) (λ s n. refl) (k.reads t)
           node_alike (Len e) s = k.binds t (expression_alike e) (λ x. lengths k t x)
           node_alike (ToStr e) s = k.binds t (expression_alike e) (λ x. k.gives t _)
           node_alike (Append a b) s = k.binds t (expression_alike a) (λ l. k.binds t (expression_alike b) (λ v. appends k t l v))

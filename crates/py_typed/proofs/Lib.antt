@@ -1,1 +1,10 @@
 pub mod TypeLemmas
+pub mod FitLemmas
+pub mod Closed
+pub mod OperationsAlike
+pub mod ExpressionAlike
+pub mod StatementAlike
+pub mod RunAlike
+pub mod AnyBound
+pub mod Longer
+mod samples

@@ -1,5 +1,5 @@
 -- What operators and builtins do is alike to itself.
-use Rattle.std.proofs.Common.{◌≡◌, ℕ, zero, suc, ℤ, pos, negsuc, Bool, true, false, List, [], ◌∷◌, length, map, Option, Some, None, Result, Ok, Err, refl, slice_get, nat_lt, if◌then◌else◌, not, ◌==◌}
+use Rattle.std.proofs.Common.{◌≡◌, ℕ, zero, suc, ℤ, pos, negsuc, Bool, true, false, List, [], ◌∷◌, ◌++◌, length, map, Option, Some, None, Result, Ok, Err, refl, slice_get, nat_lt, if◌then◌else◌, not, ◌==◌}
 use Rattle.value_core.specs.declared.arith.Arith.{Arith}
 use Rattle.value_core.specs.declared.arith.Arith.TheVariants.{Overflow, ZeroDivisor, NegativeShift, OutOfRange}
 use Rattle.value_core.specs.Arithmetic.{int_to_i64, int_neg}
@@ -116,7 +116,7 @@ module _ {R : ℕ → (A : Type 0) → Does A → Does A → Type 0} {Allowed : 
   instances_at j h None = k.stops t Stuck
 
   objects : {A : Type 0} (v : Value) {f g : ℕ → Option Object → Does A} → ((j : ℕ) (o : Option Object) → R t _ (f j o) (g j o)) → R t _ (with_object v f) (with_object v g)
-  objects (ObjVal j) h = k.looks t (λ s. slice_get s.store j) (h j)
+  objects (ObjVal j) h = k.looks t (λ s. slice_get s.store j) (λ s n. refl) (h j)
   objects (IntVal n) h = k.stops t Stuck
   objects _ h = k.stops t Stuck
 
@@ -168,7 +168,7 @@ module _ {R : ℕ → (A : Type 0) → Does A → Does A → Type 0} {Allowed : 
   sets_item _ x i v = k.stops t Stuck
 
   pub appends : (l v : Value) → R t _ (append_item l v) (append_item l v)
-  appends l v = lists l (λ j vs. k.binds t (k.puts t j _) (λ _. k.gives t _))
+  appends l v = lists l (λ j vs. k.binds t (k.puts t j (ListObj (vs ++ v ∷ []))) (λ _. k.gives t NoneVal))
 
   pub pops : (l : Value) → R t _ (pop_item l) (pop_item l)
   pops l = lists l (λ j vs. places _ (length vs) (IntVal (negsuc 0)) (λ m. k.binds t (k.puts t j _) (λ _. sures (slice_get vs m))))
@@ -198,7 +198,7 @@ module _ {R : ℕ → (A : Type 0) → Does A → Does A → Type 0} {Allowed : 
   truths (StrVal s) = k.gives t _
   truths (TupleVal vs) = k.gives t _
   truths (ExcVal e) = k.gives t _
-  truths (ObjVal j) = k.looks t (λ s. slice_get s.store j) object_truths
+  truths (ObjVal j) = k.looks t (λ s. slice_get s.store j) (λ s n. refl) object_truths
 
   object_lengths : (o : Option Object) → R t _ (length_of_object o) (length_of_object o)
   object_lengths (Some (ListObj vs)) = k.gives t _
@@ -209,7 +209,7 @@ module _ {R : ℕ → (A : Type 0) → Does A → Does A → Type 0} {Allowed : 
   pub lengths : (v : Value) → R t _ (length_of v) (length_of v)
   lengths (StrVal s) = k.gives t _
   lengths (TupleVal vs) = k.gives t _
-  lengths (ObjVal j) = k.looks t (λ s. slice_get s.store j) object_lengths
+  lengths (ObjVal j) = k.looks t (λ s. slice_get s.store j) (λ s n. refl) object_lengths
   lengths (IntVal n) = k.stops t Stuck
   lengths _ = k.stops t Stuck
 

@@ -11,3 +11,4 @@ pub mod ExpressionMeaning
 pub mod WaysOut
 pub mod StatementMeaning
 pub mod SourceRun
+pub mod Laws

@@ -1,5 +1,5 @@
 //! Copies and texts of types.
-ghost use Rattle.std.specs.Prelude.{◌≡◌, ◌++◌, map, IfOk};
+ghost use Rattle.std.specs.Prelude.{◌≡◌, ◌++◌, map, slice_get, IfOk};
 ghost use Rattle.std.specs.String.{string_bytes};
 ghost use Rattle.py_typed.specs.Sorts.{sort, sorts_of};
 ghost use Rattle.py_typed.specs.Classes.{class_entry};
@@ -98,14 +98,21 @@ fn write_type(t: &Ty, classes: &[ClassInfo], text: &mut String) -> Result<(), Me
             write_type(t, classes, text)?;
             text.push_str("]")?;
         }
-        Ty::Class(c) => {
-            if let Some(info) = classes.get(*c) {
-                text.push_str(info.name.as_str())?;
-            }
-        }
+        Ty::Class(c) => text.push_str(name_of(classes, *c))?,
         Ty::Exc(c) => text.push_str(c.name())?,
     }
     Ok(())
+}
+
+// The name of the class of a number.
+#[tactic(auto, using(crate::proofs::TypeLemmas::entry_found))]
+fn name_of(classes: &[ClassInfo], c: usize) -> &str
+    ensures { result.now ≡ written.name_in (slice_get (map class_entry classes.now) c) }
+{
+    match classes.get(c) {
+        Some(info) => info.name.as_str(),
+        None => "",
+    }
 }
 
 // The same of types with commas between them.

@@ -140,6 +140,7 @@ fn is_class_under(classes: &[ClassInfo], c: usize, d: usize) -> bool
 }
 
 // The same by at most so many steps from a class to a base.
+#[tactic(auto, using(crate::proofs::TypeLemmas::under_at_last, crate::proofs::TypeLemmas::under_by_bases))]
 fn is_under_by(steps: usize, classes: &[ClassInfo], d: usize, c: usize) -> bool
     ensures { result ≡ class.is_under_by (map class_entry classes.now) steps d c }
 {
@@ -149,15 +150,23 @@ fn is_under_by(steps: usize, classes: &[ClassInfo], d: usize, c: usize) -> bool
     if steps == 0 {
         return false;
     }
-    let Some(info) = classes.get(c) else {
-        return false;
-    };
-    for base in info.bases.as_slice() {
+    for base in bases_of(classes, c) {
         if is_under_by(steps - 1, classes, d, *base) {
             return true;
         }
     }
     false
+}
+
+// The bases of the class of a number.
+#[tactic(auto, using(crate::proofs::TypeLemmas::entry_found))]
+fn bases_of(classes: &[ClassInfo], c: usize) -> &[usize]
+    ensures { result.now ≡ class.bases_of (map class_entry classes.now) c }
+{
+    match classes.get(c) {
+        Some(info) => info.bases.as_slice(),
+        None => &[],
+    }
 }
 
 /// Whether a type is one of numbers: int, i64 or bool.

@@ -1,0 +1,7 @@
+pub mod Building
+mod Numbers
+mod Collections
+mod Objects
+mod Flows
+mod Inputs
+mod Types
