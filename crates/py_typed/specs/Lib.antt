@@ -12,3 +12,7 @@ pub mod WaysOut
 pub mod StatementMeaning
 pub mod SourceRun
 pub mod Laws
+pub mod Narrowing
+pub mod WellTypedExpr
+pub mod WellTyped
+pub mod WellTypedModule

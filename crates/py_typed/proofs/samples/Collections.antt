@@ -1,6 +1,8 @@
 -- Sample programs: lists, texts, tuples and dicts.
 use Rattle.std.proofs.Common.{◌≡◌, ℕ, ◌^◌, ◌-◌, ℤ, pos, negsuc, Bool, true, false, List, [], ◌∷◌, ◌++◌, Option, Some, None, refl, codes}
 use Rattle.std.specs.Fmt.{digits}
+use Rattle.std.specs.Str.{chars}
+use Rattle.std.proofs.Math.Utf8.{encode}
 use Rattle.value_core.specs.declared.exception.ExcClass.TheVariants.{IndexError, KeyError, RuntimeError, OverflowError}
 use Rattle.value_core.specs.Ending.{Done, Raised}
 use Rattle.value_core.specs.Items.{Eof}
@@ -39,9 +41,9 @@ unfolding digits source_run
 empty_pop = refl
 
 -- print("né"[-1], len("né")); print("a" + "b" < "b", "x"[1])
-letters : run (plain [] (print (as_type Str (tree.At (text (codes "né")) (as_type Int (tree.Neg (num 1)))) ∷ as_type Int (tree.Len (text (codes "né"))) ∷ []) ▸ print (compare Lt (as_type Str (tree.Concat (text (codes "a")) (text (codes "b")))) (text (codes "b")) ∷ as_type Str (tree.At (text (codes "x")) (num 1)) ∷ []) ▸ end))
-    ≡ (codes "é 2\n", fails IndexError (codes "string index out of range"))
-unfolding digits source_run
+letters : run (plain [] (print (as_type Str (tree.At (text (110 ∷ 195 ∷ 169 ∷ [])) (as_type Int (tree.Neg (num 1)))) ∷ as_type Int (tree.Len (text (110 ∷ 195 ∷ 169 ∷ []))) ∷ []) ▸ print (compare Lt (as_type Str (tree.Concat (text (codes "a")) (text (codes "b")))) (text (codes "b")) ∷ as_type Str (tree.At (text (codes "x")) (num 1)) ∷ []) ▸ end))
+    ≡ (195 ∷ 169 ∷ 32 ∷ 50 ∷ 10 ∷ [], fails IndexError (codes "string index out of range"))
+unfolding digits source_run chars encode
 letters = refl
 
 -- d = {1: 5, 2: 6}; d[1] = 7; d[3] = 8; del d[2]
