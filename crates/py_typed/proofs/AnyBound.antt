@@ -1,14 +1,13 @@
 -- Within any two bounds of at least the turns left a part does the same; and what it leaves is later: it has no more turns, no
 -- shorter store, and at least the output.
-use Rattle.std.proofs.Common.{◌≡◌, ℕ, zero, suc, ◌+◌, ◌<◌, ◌≤◌, List, [], ◌∷◌, ◌++◌, length, Option, Some, None, refl, sym, ap, ◌∙◌, arith, slice_set, le_refl, le_trans, append_assoc, append-nil}
-use Rattle.std.proofs.lemmas.Grind.{common_steps}
+use Rattle.std.proofs.Common.{◌≡◌, ℕ, zero, suc, ◌≤◌, List, [], ◌∷◌, ◌++◌, length, Option, Some, None, refl, sym, ap, ◌∙◌, arith, slice_set, le_refl, le_trans, append_assoc, append-nil}
 use Rattle.value_core.specs.Items as item
 use Rattle.value_core.specs.Items.{Items}
 use Rattle.value_core.specs.Value.{Value, Object}
 use Rattle.py_typed.specs.Statements.{TypedTarget, LocalTarget, GlobalTarget, AttrTarget, ItemTarget}
-use Rattle.py_typed.specs.State.{State, Stop, Cut, Outcome, Gives, Raises, Stops, Does, on_to, ◌>>=◌, ◌>>◌, give, raise, stop, look, spend, spend_from, make, put, set_local, set_global, write}
+use Rattle.py_typed.specs.State.{State, Outcome, Gives, Raises, Stops, Does, on_to, ◌>>=◌, ◌>>◌, give, raise, spend, spend_from}
 use Rattle.py_typed.specs.Operations.{next_line}
-use Rattle.py_typed.specs.WaysOut.{Flow, Goes, Breaks, Continues, Returns, flow_on, caught, catch, at_last, finally, and_set, handling, unset, unset_after, inside}
+use Rattle.py_typed.specs.WaysOut.{Flow, Goes, Breaks, Continues, Returns, flow_on, caught, catch, at_last, finally, and_set, unset}
 use Rattle.py_typed.specs.Laws.{Begins, IsLater, LeavesLater}
 use Rattle.py_typed.specs.Statements.{TypedModule}
 use Rattle.py_typed.specs.SourceRun.{top_of}

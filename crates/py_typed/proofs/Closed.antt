@@ -1,5 +1,5 @@
 -- What is asked of a relation between two ways to act, so that it holds of every part of a module run within two bounds.
-use Rattle.std.proofs.Common.{◌≡◌, ℕ, zero, suc, ◌≤◌, List, Option, Some, None}
+use Rattle.std.proofs.Common.{◌≡◌, ℕ, zero, suc, ◌≤◌, List, Option}
 use Rattle.value_core.specs.Items.{Items}
 use Rattle.value_core.specs.Value.{Value, Object}
 use Rattle.py_typed.specs.Statements.{TypedTarget}

@@ -1,13 +1,13 @@
 -- What an expression does is alike to itself, where calls are.
-use Rattle.std.proofs.Common.{◌≡◌, ℕ, zero, suc, Bool, List, [], ◌∷◌, length, replicate, Option, Some, None, refl, slice_get, if◌then◌else◌, codes}
-use Rattle.value_core.specs.Value.{Value, InstObj}
+use Rattle.std.proofs.Common.{ℕ, List, ◌∷◌, Option, Some, None, refl, slice_get, codes}
+use Rattle.value_core.specs.Value.{Value}
 use Rattle.py_typed.specs.Sorts.{Sort}
 use Rattle.py_typed.specs.Classes.{ClassEntry}
 use Rattle.py_typed.specs.Order.{method_of, attributes, place_in}
 use Rattle.py_typed.specs.Expressions.{TypedExpr, typed, TypedNode, Int, Str, Flag, Nothing, Local, Global, Neg, Not, Truth, Arith, Concat, Compare, And, Or, Cond, ListOf, DictOf, TupleOf, Attr, At, TupleAt, Call, Make, MakeExc, Method, SuperInit, Print, Input, Len, ToStr, Append, Pop, Coerce, TypedExprs, no_exprs, expr_then, Comparisons, no_comparisons, comparison_then, Entries, no_entries, entry_then, MaybeExpr, no_expr, some_expr, type_of}
 use Rattle.py_typed.specs.Statements.{Variable}
-use Rattle.py_typed.specs.State.{State, Stuck, Does, Calls, ◌>>=◌, ◌>>◌, give}
-use Rattle.py_typed.specs.ExpressionMeaning.{value_in, read_local, read_global, unset_attribute, attribute, set_attribute, start_with, new_instance, call_method, call_next, expression, node, expressions, chain, entries, text_or_empty}
+use Rattle.py_typed.specs.State.{Stuck, Does, Calls}
+use Rattle.py_typed.specs.ExpressionMeaning.{value_in, read_local, read_global, attribute, set_attribute, start_with, new_instance, call_method, call_next, expression, node, expressions, chain, entries, text_or_empty}
 use Rattle.py_typed.proofs.Closed.{Closed}
 use Rattle.py_typed.proofs.OperationsAlike.{either, sures, coercions, arithmetics, negates, joins, instances, items_at, appends, pops, parts, truths, lengths, relations}
 

@@ -1,5 +1,5 @@
 -- What fits, and what a join is to its parts.
-use Rattle.std.proofs.Common.{◌≡◌, ℕ, zero, suc, Bool, true, false, ◌&&◌, ◌||◌, ◌==◌, List, [], ◌∷◌, Option, Some, None, refl, sym, ap, subst, ◌∙◌, ◌⊎◌, inl, inr, if◌then◌else◌}
+use Rattle.std.proofs.Common.{◌≡◌, ℕ, zero, suc, Bool, true, false, ◌&&◌, ◌||◌, List, Option, Some, None, refl, sym, ap, subst, ◌∙◌, ◌⊎◌, inl, inr, if◌then◌else◌}
 use Rattle.std.specs.List.{list_any}
 use Rattle.std.proofs.lemmas.Slice.Eq.{bytes_eq-Decides}
 use Rattle.std.proofs.lemmas.Bool.{eqb-true, eq-eqb}
@@ -9,14 +9,14 @@ use Rattle.value_core.specs.declared.exception.ExcClass.TheVariants.{Exception, 
 use Rattle.value_core.specs.Exceptions.{class_name, is_under}
 use Rattle.value_core.proofs.ValueLemmas.{names_differ}
 use Rattle.py_typed.specs.Sorts.{Sort, Int, I64, Bool as BoolSort, Str, Nothing, ListOf, DictOf, TupleOf, Optional, Instance, Exc, Sorts, no_sorts, sort_then}
-use Rattle.py_typed.specs.Classes.{ClassEntry, bases_of, is_class_under, is_under_by}
+use Rattle.py_typed.specs.Classes.{ClassEntry, bases_of, is_under_by}
 use Rattle.py_typed.specs.Fits.{is_same_type, are_same_types, is_number, is_nothing, number_join, optional, same, all_same, fits, join}
 
-and_left : (a b : Bool) → (a && b) ≡ true → a ≡ true
+pub and_left : (a b : Bool) → (a && b) ≡ true → a ≡ true
 and_left true b e = refl
 and_left false b e = absurd (cc)
 
-and_right : (a b : Bool) → (a && b) ≡ true → b ≡ true
+pub and_right : (a b : Bool) → (a && b) ≡ true → b ≡ true
 and_right true b e = e
 and_right false b e = absurd (cc)
 
@@ -175,12 +175,12 @@ module _ (classes : List ClassEntry) where
   fits_optional (Instance c) = fits_itself (Instance c)
   fits_optional (Exc c) = fits_itself (Exc c)
 
-  nothing_is : (s : Sort) → is_nothing s ≡ true → s ≡ Nothing
+  pub nothing_is : (s : Sort) → is_nothing s ≡ true → s ≡ Nothing
   nothing_is Nothing e = refl
   nothing_is _ e = absurd (cc)
 
   -- the join by the answers of its tests
-  abbrev by_tests : Sort → Sort → Bool → Bool → Bool → Bool → Bool → Bool → Option Sort
+  abbrev pub by_tests : Sort → Sort → Bool → Bool → Bool → Bool → Bool → Bool → Option Sort
   by_tests s t one numbers none none' under over =
       if one then Some s else if numbers then Some (number_join s t) else if none then Some (optional t) else
       if none' then Some (optional s) else if under then Some t else if over then Some s else None

@@ -1,5 +1,7 @@
 pub mod TypeLemmas
 pub mod FitLemmas
+pub mod OneWayLemmas
+pub mod JoinLemmas
 pub mod Closed
 pub mod OperationsAlike
 pub mod ExpressionAlike

@@ -1,11 +1,11 @@
 -- A run for more turns does the same up to where the shorter one was cut.
-use Rattle.std.proofs.Common.{◌≡◌, ◌≢◌, ℕ, zero, suc, ◌+◌, ◌≤◌, List, [], ◌∷◌, ◌++◌, length, Option, Some, None, refl, sym, ap, subst, ◌∙◌, arith, slice_set, le_refl, append_assoc, append-nil}
+use Rattle.std.proofs.Common.{◌≡◌, ℕ, zero, suc, ◌+◌, List, [], ◌∷◌, ◌++◌, Option, Some, None, refl, sym, ap, subst, ◌∙◌, arith, le_refl, append_assoc, append-nil}
 use Rattle.value_core.specs.Items as item
 use Rattle.value_core.specs.Items.{Items}
 use Rattle.value_core.specs.Ending as ending
-use Rattle.value_core.specs.Value.{Value, IntVal, ExcVal, Object}
+use Rattle.value_core.specs.Value.{Value, IntVal, ExcVal}
 use Rattle.py_typed.specs.Statements.{TypedTarget, LocalTarget, GlobalTarget, AttrTarget, ItemTarget, TypedModule}
-use Rattle.py_typed.specs.State.{State, Stop, Cut, Over, Broken, Stuck, Outcome, Gives, Raises, Stops, Does, on_to, ◌>>=◌, ◌>>◌, give, raise, stop, look, spend, spend_from, make, put, set_local, set_global, write}
+use Rattle.py_typed.specs.State.{State, Stop, Cut, Over, Broken, Stuck, Outcome, Gives, Raises, Stops, Does, on_to, ◌>>=◌, ◌>>◌, give, raise, stop, look, spend, spend_from}
 use Rattle.py_typed.specs.Operations.{next_line}
 use Rattle.py_typed.specs.WaysOut.{Flow, Goes, Breaks, Continues as Repeats, Returns, flow_on, caught, catch, at_last, finally, and_set, handling, unset, unset_after, inside}
 use Rattle.py_typed.specs.SourceRun.{top_of, start, stop_of, raised_as, source_run}

@@ -1,17 +1,17 @@
 -- What operators and builtins do is alike to itself.
-use Rattle.std.proofs.Common.{◌≡◌, ℕ, zero, suc, ℤ, pos, negsuc, Bool, true, false, List, [], ◌∷◌, ◌++◌, length, map, Option, Some, None, Result, Ok, Err, refl, slice_get, nat_lt, if◌then◌else◌, not, ◌==◌}
+use Rattle.std.proofs.Common.{ℕ, zero, suc, ℤ, pos, negsuc, Bool, true, false, List, [], ◌∷◌, ◌++◌, length, map, Option, Some, None, Result, Ok, Err, refl, slice_get, if◌then◌else◌}
 use Rattle.value_core.specs.declared.arith.Arith.{Arith}
 use Rattle.value_core.specs.declared.arith.Arith.TheVariants.{Overflow, ZeroDivisor, NegativeShift, OutOfRange}
-use Rattle.value_core.specs.Arithmetic.{int_to_i64, int_neg}
+use Rattle.value_core.specs.Arithmetic.{int_to_i64}
 use Rattle.value_core.specs.Characters.{place_of}
 use Rattle.value_core.specs.Value.{Value, IntVal, BoolVal, NoneVal, StrVal, TupleVal, ExcVal, ObjVal, listed, Object, ListObj, DictObj, InstObj}
 use Rattle.py_syntax.specs.declared.expression.BinOp.{BinOp}
 use Rattle.py_syntax.specs.declared.expression.BinOp.TheVariants.{Add, Sub, Mul, FloorDiv, Mod, Shl, Shr, Bar}
 use Rattle.py_syntax.specs.declared.expression.CmpOp.{CmpOp}
 use Rattle.py_syntax.specs.declared.expression.CmpOp.TheVariants as compare
-use Rattle.py_typed.specs.Sorts.{Sort, Sorts, Int, I64, Bool as BoolSort, Str, Nothing, ListOf, DictOf, TupleOf, Optional, Instance, Exc}
-use Rattle.py_typed.specs.State.{Stop, Stuck, State, Does, ◌>>=◌, ◌>>◌, give, stop, raise_new, look, or_else, sure, put}
-use Rattle.py_typed.specs.Operations.{raise_fault, number_of, of_int, of_i64, of_numbers, with_number, fitting, coerced, arithmetic, negated_as, negated, joined, combined, with_object, as_list, as_dict, as_instance, with_list, with_dict, with_instance, with_place, at_place, list_item, set_list_item, append_item, pop_item, letter, letters, tuple_part, key_place, at_key, dict_item, set_dict_item, delete_entry, has_key, truth_of_object, truth_of, length_of_object, length_of, item_at, set_item, compared, compared_as, found, holds, key_sort}
+use Rattle.py_typed.specs.Sorts.{Sort, Int, I64, Bool as BoolSort, Str, ListOf, DictOf, Optional}
+use Rattle.py_typed.specs.State.{Stuck, Does, sure}
+use Rattle.py_typed.specs.Operations.{raise_fault, number_of, of_int, of_i64, of_numbers, with_number, fitting, coerced, arithmetic, negated_as, negated, joined, combined, with_object, as_list, as_dict, as_instance, with_list, with_dict, with_instance, with_place, at_place, list_item, append_item, pop_item, letter, letters, tuple_part, key_place, at_key, dict_item, delete_entry, truth_of_object, truth_of, length_of_object, length_of, item_at, set_item, compared, compared_as, found, holds, key_sort}
 use Rattle.py_typed.proofs.Closed.{Closed}
 
 module _ {R : ℕ → (A : Type 0) → Does A → Does A → Type 0} {Allowed : ℕ → ℕ → ℕ → Type 0} (k : Closed R Allowed) (t : ℕ) where

@@ -1,10 +1,10 @@
 -- Calls, and the module's own statements, are alike within two allowed bounds.
-use Rattle.std.proofs.Common.{◌≡◌, ℕ, zero, suc, ◌-◌, ◌++◌, List, [], length, map, replicate, Option, Some, None, slice_get, ◌==◌}
-use Rattle.value_core.specs.Value.{Value, NoneVal}
+use Rattle.std.proofs.Common.{ℕ, zero, suc, List, [], length, Option, Some, None, slice_get, ◌==◌}
+use Rattle.value_core.specs.Value.{Value}
 use Rattle.py_typed.specs.Statements.{TypedFunc, TypedModule}
-use Rattle.py_typed.specs.State.{State, Stuck, Does, Calls, ◌>>=◌, ◌>>◌, spend}
+use Rattle.py_typed.specs.State.{Stuck, Does, Calls}
 use Rattle.py_typed.specs.WaysOut.{Flow, Goes, Breaks, Continues, Returns, answer}
-use Rattle.py_typed.specs.SourceRun.{enter, body_of, call_of, top_of}
+use Rattle.py_typed.specs.SourceRun.{enter, call_of, top_of}
 use Rattle.py_typed.proofs.Closed.{Closed}
 use Rattle.py_typed.proofs.OperationsAlike.{either}
 use Rattle.py_typed.proofs.StatementAlike.{suite_alike}

@@ -1,13 +1,13 @@
 -- What a statement does is alike within two allowed bounds, where calls are.
-use Rattle.std.proofs.Common.{◌≡◌, ℕ, zero, suc, ◌≤◌, ◌<◌, ℤ, pos, ◌+ℤ◌, Bool, true, false, List, [], ◌∷◌, length, map, Option, Some, None, refl, slice_get, nat_lt, int_lt, ◌==◌, if◌then◌else◌, le_refl}
-use Rattle.value_core.specs.Value.{Value, Values, IntVal, BoolVal, NoneVal, StrVal, TupleVal, ExcVal, ObjVal, listed}
+use Rattle.std.proofs.Common.{ℕ, zero, suc, pos, ◌+ℤ◌, Bool, List, [], ◌∷◌, length, map, Option, Some, None, refl, slice_get, int_lt, ◌==◌}
+use Rattle.value_core.specs.Value.{Value, IntVal, TupleVal, listed}
 use Rattle.py_syntax.specs.declared.expression.BinOp.{BinOp}
 use Rattle.py_typed.specs.Sorts.{Sort}
 use Rattle.py_typed.specs.Classes.{ClassEntry}
 use Rattle.py_typed.specs.Fits.{fits}
 use Rattle.py_typed.specs.Expressions.{TypedExpr, type_of}
 use Rattle.py_typed.specs.Statements.{Variable, TypedTarget, LocalTarget, GlobalTarget, AttrTarget, ItemTarget, TypedStmt, on_line, TypedAct, Do, Assign, Aug, Del, If, While, ForRange, ForList, ForDict, Try, Raise, Return, Break, Continue, Assert, Pass, TypedSuite, no_stmts, stmt_then, Arms, no_arms, arm_then, Handlers, no_handlers, handler_then, MaybeSuite, no_suite, some_suite}
-use Rattle.py_typed.specs.State.{State, Stop, Stuck, Does, Calls, ◌>>=◌, ◌>>◌, give, spend}
+use Rattle.py_typed.specs.State.{Stuck, Does, Calls, ◌>>◌, give, spend}
 use Rattle.py_typed.specs.Operations.{item_sort, key_sort, counted}
 use Rattle.py_typed.specs.WaysOut.{Flow, Goes, Breaks, Continues, Returns, flow_on, raise_again, catches, after_body, loop}
 use Rattle.py_typed.specs.StatementMeaning.{target_sort, value_of, assign, coerce_each, assign_each, unpack, bind, update, changed, test_of, value_or, raised_by, fail_with, name_bound, handled_by, list_goes_on, list_next, dict_goes_on, dict_next, statement, act, suite, first_arm, handle, last_part}

@@ -1,8 +1,8 @@
 -- Where one row of types has come to its end.
-use Rattle.std.proofs.Common.{◌≡◌, ℕ, zero, suc, ◌≤◌, ◌<◌, List, [], ◌∷◌, ◌-◌, ◌||◌, ◌==◌, ◌++◌, length, map, drop, slice_get, Option, Some, None, Bool, true, false, nat_eq, refl, ap, ◌∙◌, arith}
+use Rattle.std.proofs.Common.{◌≡◌, ℕ, zero, suc, ◌≤◌, ◌<◌, List, [], ◌∷◌, ◌-◌, ◌||◌, ◌==◌, length, map, drop, slice_get, true, false, nat_eq, refl, ap, ◌∙◌, arith}
 use Rattle.std.proofs.lemmas.Grind.{common_steps}
 use Rattle.py_typed.specs.declared.types.Ty.{Ty}
-use Rattle.py_typed.specs.Sorts.{Sort, Sorts, no_sorts, sort_then, sort, sorts_of}
+use Rattle.py_typed.specs.Sorts.{Sorts, no_sorts, sort, sorts_of}
 use Rattle.py_typed.specs.declared.classes.ClassInfo.{ClassInfo}
 use Rattle.std.specs.Option.{option_map}
 use Rattle.std.specs.List.{list_any}

@@ -5,3 +5,4 @@ mod Objects
 mod Flows
 mod Inputs
 mod Types
+mod Typing

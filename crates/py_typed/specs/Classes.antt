@@ -1,5 +1,5 @@
 -- Classes and signatures as plain data, what declared ones stand for, and which class stands under which.
-use Rattle.std.specs.Prelude.{ℕ, zero, suc, Bool, false, ◌==◌, ◌||◌, List, [], map, Option, Some, None, slice_get}
+use Rattle.std.specs.Prelude.{ℕ, zero, suc, Bool, ◌==◌, ◌||◌, List, [], map, Option, Some, None, slice_get}
 use Rattle.std.specs.List.{list_any}
 use Rattle.py_typed.specs.declared.types.Ty.{Ty}
 use Rattle.py_typed.specs.declared.classes.Sig.{Sig}

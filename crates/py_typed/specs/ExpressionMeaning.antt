@@ -1,5 +1,5 @@
 -- What an expression does (Python Language Reference, "Expressions"): parts go from left to right, and each part only where it is needed.
-use Rattle.std.specs.Prelude.{ℕ, zero, suc, Bool, true, false, not, List, [], ◌∷◌, ◌++◌, length, replicate, Option, Some, None, slice_get, slice_set, if◌then◌else◌, codes}
+use Rattle.std.specs.Prelude.{ℕ, true, false, not, List, [], ◌∷◌, ◌++◌, length, replicate, Option, Some, None, slice_get, slice_set, if◌then◌else◌, codes}
 use Rattle.value_core.specs.declared.exception.ExcClass.TheVariants.{AttributeError, NameError, UnboundLocalError}
 use Rattle.value_core.specs.Exceptions.{thrown}
 use Rattle.value_core.specs.Value.{Value, IntVal, BoolVal, NoneVal, StrVal, TupleVal, ExcVal, tupled, ListObj, DictObj, InstObj}
@@ -9,7 +9,7 @@ use Rattle.py_typed.specs.Order.{method_of, attributes, place_in}
 use Rattle.py_typed.specs.TypeTexts.{name_in}
 use Rattle.py_typed.specs.Expressions.{TypedExpr, typed, TypedNode, Int, Str, Flag, Nothing, Local, Global, Neg, Not, Truth, Arith, Concat, Compare, And, Or, Cond, ListOf, DictOf, TupleOf, Attr, At, TupleAt, Call, Make, MakeExc, Method, SuperInit, Print, Input, Len, ToStr, Append, Pop, Coerce, TypedExprs, no_exprs, expr_then, Comparisons, no_comparisons, comparison_then, Entries, no_entries, entry_then, MaybeExpr, no_expr, some_expr, type_of}
 use Rattle.py_typed.specs.Statements.{Variable}
-use Rattle.py_typed.specs.State.{Stuck, State, Does, Calls, on_to, ◌>>=◌, ◌>>◌, give, stop, raise_new, look, or_else, sure, make, put, write}
+use Rattle.py_typed.specs.State.{Stuck, Does, Calls, ◌>>=◌, ◌>>◌, give, stop, raise_new, look, sure, make, put, write}
 use Rattle.py_typed.specs.Operations.{coerced, arithmetic, negated, joined, holds, with_instance, item_at, tuple_part, append_item, pop_item, entered, text_of, line_of, truth_of, length_of, next_line}
 
 -- ---- variables

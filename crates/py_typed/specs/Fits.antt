@@ -1,6 +1,6 @@
 -- When a value of one type stands where another is asked for, and the type of a choice between two (PEP 484, "Type Definition
 -- Syntax" and "Union types"; PEP 483, "Subtype relationships").
-use Rattle.std.specs.Prelude.{ℕ, Bool, true, false, ◌==◌, ◌&&◌, Option, Some, None, List, if◌then◌else◌}
+use Rattle.std.specs.Prelude.{Bool, true, false, ◌==◌, ◌&&◌, Option, Some, None, List, if◌then◌else◌}
 use Rattle.std.specs.Str.{bytes_eq}
 use Rattle.value_core.specs.Exceptions.{class_name, is_under}
 use Rattle.py_typed.specs.Sorts.{Sort, Int, I64, Bool as BoolSort, Str, Nothing, ListOf, DictOf, TupleOf, Optional, Instance, Exc, Sorts, no_sorts, sort_then}

@@ -1,9 +1,10 @@
 -- What holds of every run of every module.
-use Rattle.std.specs.Prelude.{◌≡◌, ◌≢◌, true, ℕ, ◌+◌, ◌≤◌, List, ◌++◌, length, Option, Some}
+use Rattle.std.specs.Prelude.{◌≡◌, ◌≢◌, true, nat_lt, ℕ, ◌+◌, ◌≤◌, List, ◌++◌, length, Some}
+use Rattle.std.specs.List.{list_all}
 use Rattle.value_core.specs.Ending.{Cut}
 use Rattle.value_core.specs.Items.{Items}
 use Rattle.py_typed.specs.Sorts.{Sort}
-use Rattle.py_typed.specs.Classes.{ClassEntry}
+use Rattle.py_typed.specs.Classes.{ClassEntry, bases_of}
 use Rattle.py_typed.specs.Fits.{same, fits, join}
 use Rattle.py_typed.specs.Statements.{TypedModule}
 use Rattle.py_typed.specs.State.{State, Outcome, Gives, Raises, Stops}
@@ -56,3 +57,11 @@ SameFits = (classes : List ClassEntry) (s t : Sort) → same classes s t ≡ tru
 -- both types fit their join
 abbrev pub JoinHoldsBoth : Type 0
 JoinHoldsBoth = (classes : List ClassEntry) (s t u : Sort) → join classes s t ≡ Some u → (fits classes s u ≡ true) × (fits classes t u ≡ true)
+
+-- each base has a smaller number than its class
+abbrev pub BasesAreSmaller : List ClassEntry → Type 0
+BasesAreSmaller classes = (c : ℕ) → list_all (λ b. nat_lt b c) (bases_of classes c) ≡ true
+
+-- then a join does not hang on the order of its parts
+abbrev pub JoinIsSymmetric : Type 0
+JoinIsSymmetric = (classes : List ClassEntry) → BasesAreSmaller classes → (s t : Sort) → join classes s t ≡ join classes t s

@@ -16,3 +16,4 @@ pub mod Narrowing
 pub mod WellTypedExpr
 pub mod WellTyped
 pub mod WellTypedModule
+pub mod Soundness

@@ -3,9 +3,9 @@ use Rattle.std.specs.Prelude.{ℕ, Bool, true, false, not, ◌==◌, ◌&&◌, �
 use Rattle.std.specs.List.{list_any, flat_map}
 use Rattle.py_syntax.specs.declared.expression.CmpOp.{CmpOp}
 use Rattle.py_syntax.specs.declared.expression.CmpOp.TheVariants as compare
-use Rattle.py_typed.specs.Sorts.{Sort, Nothing as NoneSort, Optional, Sorts, no_sorts, sort_then, TupleOf, listed_sorts}
+use Rattle.py_typed.specs.Sorts.{Sort, Nothing as NoneSort, Optional, TupleOf, listed_sorts}
 use Rattle.py_typed.specs.Expressions.{TypedExpr, typed, TypedNode, Flag, Nothing, Local, Not, Truth, Compare, And, Or, Coerce, Comparisons, no_comparisons, comparison_then, type_of}
-use Rattle.py_typed.specs.Statements.{TypedTarget, LocalTarget, GlobalTarget, AttrTarget, ItemTarget, TypedStmt, on_line, TypedAct, Do, Assign, Aug, Del, If, While, ForRange, ForList, ForDict, Try, Raise, Return, Break, Continue, Assert, Pass, TypedSuite, no_stmts, stmt_then, Arms, no_arms, arm_then, Handlers, no_handlers, handler_then, MaybeSuite, no_suite, some_suite}
+use Rattle.py_typed.specs.Statements.{TypedTarget, LocalTarget, GlobalTarget, AttrTarget, ItemTarget, TypedStmt, on_line, TypedAct, Assign, Aug, If, While, ForRange, ForList, ForDict, Try, Raise, Return, Break, Continue, Assert, TypedSuite, no_stmts, stmt_then, Arms, no_arms, arm_then, Handlers, no_handlers, handler_then, MaybeSuite, no_suite, some_suite}
 
 -- ---- sets of locals
 

@@ -6,11 +6,10 @@ use Rattle.std.specs.Option.{option_map}
 use Rattle.std.specs.Str.{chars, encode_utf8_all, bytes_eq}
 use Rattle.value_core.specs.declared.arith.Arith.{Arith}
 use Rattle.value_core.specs.declared.arith.Arith.TheVariants.{Overflow, ZeroDivisor, NegativeShift, OutOfRange}
-use Rattle.value_core.specs.declared.exception.ExcClass.{ExcClass}
 use Rattle.value_core.specs.declared.exception.ExcClass.TheVariants.{ValueError, ZeroDivisionError, OverflowError, IndexError, KeyError, EOFError}
 use Rattle.value_core.specs.Arithmetic.{int_add, int_sub, int_mul, int_neg, int_floor_div, int_modulo, int_shl, int_shr, i64_add, i64_sub, i64_mul, i64_neg, i64_floor_div, i64_modulo, i64_shl, i64_shr, int_to_i64}
 use Rattle.value_core.specs.Characters.{place_of}
-use Rattle.value_core.specs.Exceptions.{Thrown, thrown}
+use Rattle.value_core.specs.Exceptions.{thrown}
 use Rattle.value_core.specs.Items as item
 use Rattle.value_core.specs.Items.{Items, line_feed}
 use Rattle.value_core.specs.Value.{Value, IntVal, BoolVal, NoneVal, StrVal, TupleVal, ExcVal, ObjVal, listed, Object, ListObj, DictObj, InstObj}
@@ -18,8 +17,8 @@ use Rattle.py_syntax.specs.declared.expression.BinOp.{BinOp}
 use Rattle.py_syntax.specs.declared.expression.BinOp.TheVariants.{Add, Sub, Mul, FloorDiv, Mod, Shl, Shr, Bar}
 use Rattle.py_syntax.specs.declared.expression.CmpOp.{CmpOp}
 use Rattle.py_syntax.specs.declared.expression.CmpOp.TheVariants as compare
-use Rattle.py_typed.specs.Sorts.{Sort, Int, I64, Bool as BoolSort, Str, Nothing, ListOf, DictOf, TupleOf, Optional, Instance, Exc}
-use Rattle.py_typed.specs.State.{Stop, Over, Broken, Stuck, State, Does, Gives, Raises, Stops, on_to, ◌>>=◌, ◌>>◌, give, stop, raise_new, look, sure, put, write, set_items}
+use Rattle.py_typed.specs.Sorts.{Sort, Int, I64, Str, ListOf, DictOf, Optional}
+use Rattle.py_typed.specs.State.{Over, Broken, Stuck, Does, Gives, Raises, ◌>>=◌, ◌>>◌, give, stop, raise_new, look, sure, put, set_items}
 
 -- ---- numbers
 

@@ -1,13 +1,12 @@
 -- What a module does: the meaning that all that is made of it is held to.
-use Rattle.std.specs.Prelude.{ℕ, zero, suc, ◌-◌, List, [], ◌∷◌, ◌++◌, length, map, replicate, Option, Some, None, slice_get, ◌==◌, if◌then◌else◌}
-use Rattle.value_core.specs.Exceptions.{Thrown}
+use Rattle.std.specs.Prelude.{ℕ, zero, suc, ◌-◌, List, [], ◌++◌, length, map, replicate, Option, Some, None, slice_get, ◌==◌, if◌then◌else◌}
 use Rattle.value_core.specs.Ending as ending
 use Rattle.value_core.specs.Ending.{Ending, Done, Raised}
 use Rattle.value_core.specs.Items.{Items}
 use Rattle.value_core.specs.Value.{Value, NoneVal, ExcVal, Store}
 use Rattle.py_typed.specs.Statements.{TypedFunc, TypedModule}
 use Rattle.py_typed.specs.State.{State, Stop, Cut, Over, Broken, Stuck, Outcome, Gives, Raises, Stops, Does, Calls, ◌>>=◌, ◌>>◌, stop, spend}
-use Rattle.py_typed.specs.WaysOut.{Flow, Goes, answer, inside}
+use Rattle.py_typed.specs.WaysOut.{Flow, answer, inside}
 use Rattle.py_typed.specs.StatementMeaning.{suite}
 
 module _ (m : TypedModule) where

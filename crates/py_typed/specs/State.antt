@@ -1,7 +1,7 @@
 -- The state of a running module, what a part of it does to the state, and how one part follows another.
-use Rattle.std.specs.Prelude.{ℕ, zero, suc, List, [], ◌∷◌, ◌++◌, length, Option, Some, None, slice_get, slice_set}
+use Rattle.std.specs.Prelude.{ℕ, zero, suc, List, [], ◌∷◌, ◌++◌, length, Option, Some, None, slice_set}
 use Rattle.value_core.specs.declared.exception.ExcClass.{ExcClass}
-use Rattle.value_core.specs.Exceptions.{Thrown, thrown}
+use Rattle.value_core.specs.Exceptions.{thrown}
 use Rattle.value_core.specs.Items.{Items}
 use Rattle.value_core.specs.Value.{Value, NoneVal, ExcVal, ObjVal, Object, Store}
 

@@ -1,5 +1,5 @@
 -- What a statement does (Python Language Reference, "Simple statements" and "Compound statements").
-use Rattle.std.specs.Prelude.{ℕ, zero, suc, ◌-◌, ℤ, pos, ◌+ℤ◌, Bool, true, false, List, [], ◌∷◌, ◌++◌, length, map, Option, Some, None, slice_get, slice_set, nat_lt, int_lt, ◌==◌, if◌then◌else◌, codes}
+use Rattle.std.specs.Prelude.{ℕ, suc, ℤ, pos, ◌+ℤ◌, Bool, List, [], ◌∷◌, length, map, Option, Some, None, slice_get, nat_lt, int_lt, ◌==◌, if◌then◌else◌, codes}
 use Rattle.value_core.specs.declared.exception.ExcClass.TheVariants.{AssertionError, RuntimeError}
 use Rattle.value_core.specs.Value.{Value, IntVal, NoneVal, TupleVal, listed}
 use Rattle.py_syntax.specs.declared.expression.BinOp.{BinOp}
@@ -9,7 +9,7 @@ use Rattle.py_typed.specs.Fits.{fits}
 use Rattle.py_typed.specs.Order.{attribute_of}
 use Rattle.py_typed.specs.Expressions.{TypedExpr, type_of}
 use Rattle.py_typed.specs.Statements.{Variable, TypedTarget, LocalTarget, GlobalTarget, AttrTarget, ItemTarget, TypedStmt, on_line, TypedAct, Do, Assign, Aug, Del, If, While, ForRange, ForList, ForDict, Try, Raise, Return, Break, Continue, Assert, Pass, TypedSuite, no_stmts, stmt_then, Arms, no_arms, arm_then, Handlers, no_handlers, handler_then, MaybeSuite, no_suite, some_suite}
-use Rattle.py_typed.specs.State.{Stuck, State, Does, Calls, on_to, ◌>>=◌, ◌>>◌, give, raise, stop, raise_new, look, sure, set_local, set_global}
+use Rattle.py_typed.specs.State.{Stuck, Does, Calls, ◌>>=◌, ◌>>◌, give, raise, stop, raise_new, look, sure, set_local, set_global}
 use Rattle.py_typed.specs.Operations.{coerced, combined, with_number, with_list, with_dict, item_at, set_item, item_sort, key_sort, delete_entry, truth_of, text_of, counted}
 use Rattle.py_typed.specs.ExpressionMeaning.{expression, read_local, read_global, attribute, set_attribute}
 use Rattle.py_typed.specs.WaysOut.{Flow, Goes, Breaks, Continues, Returns, flow_on, catch, finally, handling, raise_again, catches, unset_after, loop}

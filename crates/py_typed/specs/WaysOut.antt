@@ -5,7 +5,7 @@ use Rattle.value_core.specs.declared.exception.ExcClass.{ExcClass}
 use Rattle.value_core.specs.Exceptions.{is_under}
 use Rattle.value_core.specs.Value.{Value, ExcVal}
 use Rattle.py_typed.specs.Statements.{TypedTarget, LocalTarget, GlobalTarget, AttrTarget, ItemTarget}
-use Rattle.py_typed.specs.State.{State, Stop, Cut, Stuck, Outcome, Gives, Raises, Stops, Does, on_to, ◌>>=◌, ◌>>◌, give, raise, stop, spend}
+use Rattle.py_typed.specs.State.{State, Cut, Stuck, Outcome, Gives, Raises, Stops, Does, ◌>>=◌, ◌>>◌, give, raise, stop, spend}
 
 -- how a statement ends: the next one follows, or it leaves a loop's body or the function
 pub data Flow : Type 0 where

@@ -1,22 +1,20 @@
 -- Which typed modules are well typed: every number names something, names differ, and each statement, function and class has the
 -- parts and the types that its rule asks for.
-use Rattle.std.specs.Prelude.{ℕ, zero, suc, Bool, true, false, not, ◌==◌, ◌&&◌, ◌||◌, if◌then◌else◌, nat_lt, List, [], ◌∷◌, ◌++◌, length, map, take, drop, Option, Some, None, slice_get, codes}
-use Rattle.std.specs.List.{list_any, list_all, flat_map}
-use Rattle.std.specs.Option.{option_map}
+use Rattle.std.specs.Prelude.{ℕ, Bool, true, false, not, ◌&&◌, ◌||◌, nat_lt, List, [], ◌∷◌, ◌++◌, length, Option, Some, None}
+use Rattle.std.specs.List.{list_any, list_all}
 use Rattle.std.specs.Str.{bytes_eq}
 use Rattle.value_core.specs.declared.exception.ExcClass.TheVariants.{Exception}
 use Rattle.py_syntax.specs.declared.expression.BinOp.{BinOp}
 use Rattle.py_typed.specs.Sorts as sort
 use Rattle.py_typed.specs.Sorts.{Sort, I64, Optional, Instance, Exc, Sorts, no_sorts, sort_then, sorts_of, listed_sorts}
-use Rattle.py_typed.specs.Classes.{ClassEntry, Signature}
-use Rattle.py_typed.specs.Fits.{is_same_type, are_same_types, is_nothing, fits}
-use Rattle.py_typed.specs.Order.{order, listed_order, own_method, own_attribute, is_named_in}
+use Rattle.py_typed.specs.Classes.{ClassEntry}
+use Rattle.py_typed.specs.Fits.{is_same_type, is_nothing, fits}
 use Rattle.py_typed.specs.Expressions.{TypedExpr, type_of}
-use Rattle.py_typed.specs.Statements.{Variable, TypedTarget, LocalTarget, GlobalTarget, AttrTarget, ItemTarget, TypedStmt, on_line, TypedAct, Do, Assign, Aug, Del, If, While, ForRange, ForList, ForDict, Try, Raise, Return, Break, Continue, Assert, Pass, TypedSuite, no_stmts, stmt_then, Arms, no_arms, arm_then, Handlers, no_handlers, handler_then, MaybeSuite, no_suite, some_suite, TypedFunc, TypedModule}
+use Rattle.py_typed.specs.Statements.{Variable, TypedTarget, LocalTarget, GlobalTarget, AttrTarget, ItemTarget, TypedStmt, on_line, TypedAct, Do, Assign, Aug, Del, If, While, ForRange, ForList, ForDict, Try, Raise, Return, Break, Continue, Assert, Pass, TypedSuite, no_stmts, stmt_then, Arms, no_arms, arm_then, Handlers, no_handlers, handler_then, MaybeSuite, no_suite, some_suite, TypedModule}
 use Rattle.py_typed.specs.StatementMeaning.{attribute_sort, sort_at}
 use Rattle.py_typed.specs.Operations.{item_sort, key_sort}
-use Rattle.py_typed.specs.Narrowing.{is_in, facts, without, bound_by_all, bound_suite, bound_handlers, bound_last, bound_by_name, after_parts, part_sorts, after, is_closed}
-use Rattle.py_typed.specs.WellTypedExpr.{is_key_type, is_exception, is_type, operation_sort, indexed, instance_of, reads_as, declared, init_class, is_same_place, is_typed, is_value}
+use Rattle.py_typed.specs.Narrowing.{is_in, facts, without, bound_by_all, bound_suite, bound_handlers, bound_last, after_parts, part_sorts, after}
+use Rattle.py_typed.specs.WellTypedExpr.{is_key_type, is_exception, is_type, operation_sort, indexed, reads_as, is_typed, is_value}
 
 -- ---- types
 

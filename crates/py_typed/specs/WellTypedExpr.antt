@@ -10,12 +10,12 @@ use Rattle.py_syntax.specs.declared.expression.CmpOp.{CmpOp}
 use Rattle.py_syntax.specs.declared.expression.CmpOp.TheVariants as compare
 use Rattle.py_typed.specs.Sorts as sort
 use Rattle.py_typed.specs.Sorts.{Sort, I64, Instance, Exc, Optional, Sorts, sorts_of, listed_sorts}
-use Rattle.py_typed.specs.Classes.{ClassEntry, Signature, ClassTable}
+use Rattle.py_typed.specs.Classes.{ClassEntry, Signature}
 use Rattle.py_typed.specs.Fits.{is_same_type, are_same_types, is_number, is_nothing, number_join, fits}
 use Rattle.py_typed.specs.Order.{order, listed_order, method_along, method_of, attribute_of}
 use Rattle.py_typed.specs.Expressions.{TypedExpr, typed, TypedNode, Int, Str, Flag, Nothing, Local, Global, Neg, Not, Truth, Arith, Concat, Compare, And, Or, Cond, ListOf, DictOf, TupleOf, Attr, At, TupleAt, Call, Make, MakeExc, Method, SuperInit, Print, Input, Len, ToStr, Append, Pop, Coerce, TypedExprs, no_exprs, expr_then, Comparisons, no_comparisons, comparison_then, Entries, no_entries, entry_then, MaybeExpr, no_expr, some_expr, type_of}
 use Rattle.py_typed.specs.Statements.{Variable, TypedFunc, TypedModule}
-use Rattle.py_typed.specs.Narrowing.{is_in, facts, node_of}
+use Rattle.py_typed.specs.Narrowing.{is_in, facts}
 
 -- ---- types of one kind
 
@@ -85,14 +85,12 @@ declared variables i = option_map (λ x. x.1) (slice_get variables i)
 
 -- a call that gives no value
 abbrev pub is_empty_call : TypedNode → Sort → Bool
-is_empty_call Nothing t = false
-is_empty_call (Coerce e) t = false
-is_empty_call (Local i) t = false
-is_empty_call (Global i) t = false
-is_empty_call e t = is_nothing t
-
-abbrev pub gives_value : TypedExpr → Bool
-gives_value (typed e t place) = not (is_empty_call e t)
+is_empty_call (Call f es) t = is_nothing t
+is_empty_call (Method e name es) t = is_nothing t
+is_empty_call (SuperInit f es) t = true
+is_empty_call (Print es) t = true
+is_empty_call (Append a b) t = true
+is_empty_call e t = false
 
 abbrev pub is_none_literal : TypedExpr → Bool
 is_none_literal (typed Nothing t place) = true

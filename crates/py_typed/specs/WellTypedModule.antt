@@ -1,13 +1,13 @@
 -- Which typed modules are well typed: every number names something, names differ, and each function and class has the parts and the
 -- types that its rule asks for.
-use Rattle.std.specs.Prelude.{ℕ, zero, suc, Bool, true, false, not, ◌==◌, ◌&&◌, ◌||◌, if◌then◌else◌, nat_lt, List, [], ◌∷◌, ◌++◌, length, map, take, drop, Option, Some, None, slice_get, codes}
+use Rattle.std.specs.Prelude.{ℕ, suc, Bool, true, false, not, ◌==◌, ◌&&◌, ◌||◌, if◌then◌else◌, nat_lt, List, [], ◌∷◌, ◌++◌, length, map, take, drop, Option, Some, None, slice_get, codes}
 use Rattle.std.specs.List.{list_any, list_all, flat_map}
 use Rattle.std.specs.Str.{bytes_eq}
-use Rattle.py_typed.specs.Sorts.{Sort, Nothing, Instance, sorts_of}
-use Rattle.py_typed.specs.Classes.{ClassEntry, Signature, ClassTable}
+use Rattle.py_typed.specs.Sorts.{Sort, Instance, sorts_of}
+use Rattle.py_typed.specs.Classes.{ClassEntry, Signature}
 use Rattle.py_typed.specs.Fits.{is_same_type, are_same_types, is_nothing}
 use Rattle.py_typed.specs.Order.{order, listed_order, own_method, own_attribute}
-use Rattle.py_typed.specs.Statements.{Variable, TypedFunc, TypedModule, TypedSuite}
+use Rattle.py_typed.specs.Statements.{Variable, TypedFunc, TypedModule}
 use Rattle.py_typed.specs.Narrowing.{is_closed}
 use Rattle.py_typed.specs.WellTypedExpr.{init_class, is_same_place, is_trait_in}
 use Rattle.py_typed.specs.WellTyped.{is_value_type, is_result_type, all_differ, suite_typed}

@@ -1,5 +1,5 @@
 //! The laws of the definitions. Each function is its clause, and does nothing when it runs.
-ghost use Rattle.py_typed.specs.Laws.{AnyBoundServes, RunsOnlyAdd, LongerRunsContinue, FitsItself, SameFits, JoinHoldsBoth};
+ghost use Rattle.py_typed.specs.Laws.{AnyBoundServes, RunsOnlyAdd, LongerRunsContinue, FitsItself, SameFits, JoinHoldsBoth, JoinIsSymmetric};
 
 /// What a module's statements do does not hang on the bound of loops and calls, where it is at least the turns left.
 pub fn any_bound_serves()
@@ -29,4 +29,9 @@ pub fn same_fits()
 /// Both types fit their join.
 pub fn join_holds_both()
     ensures { JoinHoldsBoth }
+{}
+
+/// A join does not hang on the order of its parts, where each base has a smaller number than its class.
+pub fn join_is_symmetric()
+    ensures { JoinIsSymmetric }
 {}

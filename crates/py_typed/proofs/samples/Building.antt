@@ -1,5 +1,5 @@
 -- Short words for the typed trees of the sample programs.
-use Rattle.std.proofs.Common.{◌≡◌, ℕ, ◌^◌, ◌-◌, ℤ, pos, negsuc, Bool, true, List, [], ◌∷◌, Option, Some, None}
+use Rattle.std.proofs.Common.{ℕ, ◌^◌, ◌-◌, pos, Bool, List, [], ◌∷◌, Option, Some, None}
 use Rattle.value_core.specs.declared.exception.ExcClass.{ExcClass}
 use Rattle.value_core.specs.Exceptions.{thrown}
 use Rattle.value_core.specs.Ending.{Ending, Raised}
@@ -7,11 +7,11 @@ use Rattle.value_core.specs.Items.{Items, Eof}
 use Rattle.py_syntax.specs.declared.token.Span.{Span}
 use Rattle.py_syntax.specs.declared.expression.BinOp.{BinOp}
 use Rattle.py_syntax.specs.declared.expression.CmpOp.{CmpOp}
-use Rattle.py_typed.specs.Sorts.{Sort, Int, I64, Bool as BoolSort, Str, Nothing, ListOf, DictOf, TupleOf, Optional, Instance, Exc}
+use Rattle.py_typed.specs.Sorts.{Sort, Int, I64, Bool as BoolSort, Str, Nothing, ListOf}
 use Rattle.py_typed.specs.Classes.{ClassEntry}
 use Rattle.py_typed.specs.Expressions as tree
 use Rattle.py_typed.specs.Expressions.{TypedExpr, typed, TypedNode, TypedExprs, no_exprs, expr_then, no_comparisons, comparison_then, some_expr}
-use Rattle.py_typed.specs.Statements.{Variable, TypedTarget, LocalTarget, GlobalTarget, TypedAct, Do, Assign, If, Return, on_line, TypedSuite, no_stmts, stmt_then, no_arms, arm_then, TypedFunc, TypedModule}
+use Rattle.py_typed.specs.Statements.{Variable, LocalTarget, GlobalTarget, TypedAct, Do, Assign, If, Return, on_line, TypedSuite, no_stmts, stmt_then, no_arms, arm_then, TypedFunc, TypedModule}
 use Rattle.py_typed.specs.SourceRun.{ModuleStop, source_run}
 
 abbrev pub here : Span

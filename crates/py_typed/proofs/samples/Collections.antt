@@ -1,15 +1,15 @@
 -- Sample programs: lists, texts, tuples and dicts.
-use Rattle.std.proofs.Common.{◌≡◌, ℕ, ◌^◌, ◌-◌, ℤ, pos, negsuc, Bool, true, false, List, [], ◌∷◌, ◌++◌, Option, Some, None, refl, codes}
+use Rattle.std.proofs.Common.{◌≡◌, ◌^◌, pos, true, [], ◌∷◌, Some, refl, codes}
 use Rattle.std.specs.Fmt.{digits}
 use Rattle.std.specs.Str.{chars}
 use Rattle.std.proofs.Math.Utf8.{encode}
-use Rattle.value_core.specs.declared.exception.ExcClass.TheVariants.{IndexError, KeyError, RuntimeError, OverflowError}
-use Rattle.value_core.specs.Ending.{Done, Raised}
+use Rattle.value_core.specs.declared.exception.ExcClass.TheVariants.{IndexError, KeyError, RuntimeError}
+use Rattle.value_core.specs.Ending.{Done}
 use Rattle.value_core.specs.Items.{Eof}
-use Rattle.value_core.specs.Value.{IntVal, ListObj, DictObj, ObjVal}
-use Rattle.py_syntax.specs.declared.expression.BinOp.TheVariants.{Add, Mul}
+use Rattle.value_core.specs.Value.{IntVal}
+use Rattle.py_syntax.specs.declared.expression.BinOp.TheVariants.{Add}
 use Rattle.py_syntax.specs.declared.expression.CmpOp.TheVariants.{Lt, Member, NotMember}
-use Rattle.py_typed.specs.Sorts.{Sort, Int, I64, Bool as BoolSort, Str, Nothing, ListOf, DictOf, TupleOf, sorts_of}
+use Rattle.py_typed.specs.Sorts.{Int, I64, Str, Nothing, ListOf, DictOf, TupleOf, sorts_of}
 use Rattle.py_typed.specs.Expressions as tree
 use Rattle.py_typed.specs.Statements.{Aug, Assign, Del, Do, ForList, ForDict, GlobalTarget, ItemTarget}
 use Rattle.py_typed.specs.SourceRun.{source_run}

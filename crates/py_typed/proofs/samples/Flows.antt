@@ -1,18 +1,17 @@
 -- Sample programs: exceptions, loops, calls and turns.
-use Rattle.std.proofs.Common.{◌≡◌, ℕ, ◌^◌, ◌-◌, ℤ, pos, negsuc, Bool, true, false, List, [], ◌∷◌, ◌++◌, Option, Some, None, refl, codes}
+use Rattle.std.proofs.Common.{◌≡◌, ℕ, true, false, List, [], ◌∷◌, Some, None, refl, codes}
 use Rattle.std.specs.Fmt.{digits}
-use Rattle.value_core.specs.declared.exception.ExcClass.TheVariants.{Exception, ValueError, ArithmeticError, ZeroDivisionError, LookupError, NameError, UnboundLocalError, AssertionError}
-use Rattle.value_core.specs.Ending.{Done, Raised, Cut}
+use Rattle.value_core.specs.declared.exception.ExcClass.TheVariants.{Exception, ValueError, ArithmeticError, LookupError, NameError, UnboundLocalError, AssertionError}
+use Rattle.value_core.specs.Ending.{Done, Cut}
 use Rattle.value_core.specs.Items.{Eof}
-use Rattle.value_core.specs.Value.{IntVal}
 use Rattle.py_syntax.specs.declared.expression.BinOp.TheVariants.{Add, FloorDiv}
 use Rattle.py_syntax.specs.declared.expression.CmpOp.TheVariants.{Lt, Eq}
-use Rattle.py_typed.specs.Sorts.{Sort, Int, I64, Bool as BoolSort, Str, Nothing, Exc}
+use Rattle.py_typed.specs.Sorts.{Int, Nothing, Exc}
 use Rattle.py_typed.specs.Expressions as tree
 use Rattle.py_typed.specs.Expressions.{TypedExpr, no_expr, some_expr}
-use Rattle.py_typed.specs.Statements.{TypedAct, TypedSuite, Assign, Do, While, ForRange, Try, Raise, Break, Continue, Assert, GlobalTarget, LocalTarget, no_handlers, handler_then, no_suite, some_suite}
+use Rattle.py_typed.specs.Statements.{TypedAct, Do, While, ForRange, Try, Raise, Break, Continue, Assert, GlobalTarget, no_handlers, handler_then, no_suite, some_suite}
 use Rattle.py_typed.specs.SourceRun.{source_run}
-use Rattle.py_typed.proofs.samples.Building.{as_type, num, text, flag, g, l, arith, compare, call, print, set, set_l, when, return, ◌▸◌, end, func, module_of, plain, run, ran, most, fails}
+use Rattle.py_typed.proofs.samples.Building.{as_type, num, text, flag, g, l, arith, compare, call, print, set, set_l, when, return, ◌▸◌, end, func, module_of, plain, run, ran, fails}
 
 -- raise ValueError(text)
 abbrev raise_value : List ℕ → TypedAct

@@ -1,14 +1,14 @@
 -- Sample programs: input.
-use Rattle.std.proofs.Common.{◌≡◌, ℕ, List, [], ◌∷◌, ◌++◌, Option, Some, None, refl, codes}
+use Rattle.std.proofs.Common.{◌≡◌, [], ◌∷◌, Some, None, refl, codes}
 use Rattle.value_core.specs.declared.exception.ExcClass.TheVariants.{ValueError, EOFError}
 use Rattle.value_core.specs.Ending as ending
 use Rattle.value_core.specs.Ending.{Done, Raised}
-use Rattle.value_core.specs.Items.{Items, Line, Bad, Eof, Over, Broken}
+use Rattle.value_core.specs.Items.{Line, Bad, Eof, Over, Broken}
 use Rattle.py_typed.specs.Sorts.{Str}
 use Rattle.py_typed.specs.Expressions as tree
 use Rattle.py_typed.specs.Statements.{TypedModule, Try, handler_then, no_handlers, no_suite}
 use Rattle.py_typed.specs.SourceRun.{source_run}
-use Rattle.py_typed.proofs.samples.Building.{as_type, text, print, ◌▸◌, end, plain, ran, fails}
+use Rattle.py_typed.proofs.samples.Building.{as_type, print, ◌▸◌, end, plain, ran, fails}
 
 -- print(input()); print(input())
 abbrev echo : TypedModule

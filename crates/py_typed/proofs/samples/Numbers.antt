@@ -1,17 +1,17 @@
 -- Sample programs: numbers.
-use Rattle.std.proofs.Common.{◌≡◌, ℕ, ◌^◌, ◌-◌, ◌+◌, ℤ, pos, negsuc, Bool, true, false, List, [], ◌∷◌, ◌++◌, Option, Some, None, refl, codes}
+use Rattle.std.proofs.Common.{◌≡◌, ◌^◌, ◌-◌, negsuc, true, [], ◌∷◌, Some, refl, codes}
 use Rattle.std.specs.Fmt.{digits}
 use Rattle.std.specs.Int.{int_wrap}
-use Rattle.value_core.specs.declared.exception.ExcClass.TheVariants.{ValueError, ZeroDivisionError, OverflowError, KeyError}
-use Rattle.value_core.specs.Ending.{Done, Raised}
-use Rattle.py_syntax.specs.declared.expression.BinOp.TheVariants.{Add, Sub, Mul, FloorDiv, Mod, Shl, Shr}
-use Rattle.py_syntax.specs.declared.expression.CmpOp.TheVariants.{Lt, Eq}
-use Rattle.py_typed.specs.Sorts.{Sort, Int, I64, Bool as BoolSort, Str, Nothing}
+use Rattle.value_core.specs.declared.exception.ExcClass.TheVariants.{ValueError, ZeroDivisionError, OverflowError}
+use Rattle.value_core.specs.Ending.{Done}
+use Rattle.py_syntax.specs.declared.expression.BinOp.TheVariants.{Add, FloorDiv, Mod, Shl, Shr}
+use Rattle.py_syntax.specs.declared.expression.CmpOp.TheVariants.{Lt}
+use Rattle.py_typed.specs.Sorts.{Int, I64, Bool as BoolSort}
 use Rattle.py_typed.specs.Expressions as tree
 use Rattle.py_typed.specs.Expressions.{no_comparisons, comparison_then}
-use Rattle.py_typed.specs.Statements.{Aug, Do, GlobalTarget}
+use Rattle.py_typed.specs.Statements.{Aug, GlobalTarget}
 use Rattle.py_typed.specs.SourceRun.{source_run}
-use Rattle.py_typed.proofs.samples.Building.{as_type, num, text, flag, g, arith, arith64, compare, call, print, set, when, return, ◌▸◌, end, func, module_of, plain, run, fails}
+use Rattle.py_typed.proofs.samples.Building.{as_type, num, flag, g, arith, arith64, call, print, set, return, ◌▸◌, end, func, module_of, plain, run, fails}
 
 -- print(-7 // 2, -7 % 2, 7 % -2)
 floor : run (plain [] (print (arith FloorDiv (as_type Int (tree.Neg (num 7))) (num 2) ∷ arith Mod (as_type Int (tree.Neg (num 7))) (num 2) ∷ arith Mod (num 7) (as_type Int (tree.Neg (num 2))) ∷ []) ▸ end)) ≡ (codes "-4 1 -1\n", Some Done)

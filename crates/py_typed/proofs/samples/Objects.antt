@@ -1,20 +1,20 @@
 -- Sample programs: classes, instances, methods.
-use Rattle.std.proofs.Common.{◌≡◌, ℕ, ◌^◌, ◌-◌, ℤ, pos, Bool, true, false, List, [], ◌∷◌, ◌++◌, Option, Some, None, map, refl, codes}
+use Rattle.std.proofs.Common.{◌≡◌, ℕ, pos, false, List, [], ◌∷◌, Some, map, refl, codes}
 use Rattle.std.specs.Fmt.{digits}
 use Rattle.value_core.specs.declared.exception.ExcClass.TheVariants.{AttributeError}
-use Rattle.value_core.specs.Ending.{Done, Raised}
+use Rattle.value_core.specs.Ending.{Done}
 use Rattle.value_core.specs.Items.{Eof}
 use Rattle.value_core.specs.Value.{IntVal, InstObj}
 use Rattle.py_syntax.specs.declared.expression.BinOp.TheVariants.{Add}
 use Rattle.py_syntax.specs.declared.expression.CmpOp.TheVariants.{Is, IsNot}
-use Rattle.py_typed.specs.Sorts.{Sort, Int, Bool as BoolSort, Str, Nothing, Optional, Instance}
+use Rattle.py_typed.specs.Sorts.{Sort, Int, Nothing, Optional, Instance}
 use Rattle.py_typed.specs.Classes.{ClassEntry}
 use Rattle.py_typed.specs.Order.{attributes}
 use Rattle.py_typed.specs.Expressions as tree
 use Rattle.py_typed.specs.Expressions.{TypedExpr}
 use Rattle.py_typed.specs.Statements.{Variable, TypedFunc, Assign, Do, AttrTarget, Aug}
 use Rattle.py_typed.specs.SourceRun.{source_run}
-use Rattle.py_typed.proofs.samples.Building.{as_type, num, text, g, l, row, arith, compare, call, print, set, when, return, ◌▸◌, end, func, method, module_of, plain, run, most, fails}
+use Rattle.py_typed.proofs.samples.Building.{as_type, num, g, l, row, arith, compare, print, set, when, return, ◌▸◌, end, method, module_of, plain, run, most, fails}
 
 abbrev class_of : List ℕ → List ℕ → List (List ℕ × Sort) → List (List ℕ × ℕ) → ClassEntry
 class_of name bases attributes methods = record { name = name; is_trait = false; bases = bases; attributes = attributes; methods = methods }

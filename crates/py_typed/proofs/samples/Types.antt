@@ -1,11 +1,11 @@
 -- Samples of what fits what, of joins and of the orders of classes.
-use Rattle.std.proofs.Common.{◌≡◌, ℕ, Bool, true, false, List, [], ◌∷◌, ◌++◌, Option, Some, None, refl, codes}
+use Rattle.std.proofs.Common.{◌≡◌, ℕ, true, false, List, [], ◌∷◌, Some, None, refl, codes}
 use Rattle.value_core.specs.declared.exception.ExcClass.TheVariants.{Exception, ArithmeticError, OverflowError}
-use Rattle.py_typed.specs.Sorts.{Sort, Int, I64, Bool as BoolSort, Str, Nothing, ListOf, DictOf, TupleOf, Optional, Instance, Exc, sorts_of}
+use Rattle.py_typed.specs.Sorts.{Int, I64, Bool as BoolSort, Str, Nothing, ListOf, DictOf, TupleOf, Optional, Instance, Exc, sorts_of}
 use Rattle.py_typed.specs.Classes.{ClassEntry, is_class_under}
-use Rattle.py_typed.specs.Fits.{same, fits, join}
+use Rattle.py_typed.specs.Fits.{fits, join}
 use Rattle.py_typed.specs.TypeTexts.{type_text}
-use Rattle.py_typed.specs.Order.{order, method_of}
+use Rattle.py_typed.specs.Order.{order}
 
 abbrev class_over : List ℕ → List ℕ → ClassEntry
 class_over name bases = record { name = name; is_trait = true; bases = bases; attributes = []; methods = [] }

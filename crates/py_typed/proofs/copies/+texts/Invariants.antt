@@ -1,7 +1,7 @@
-use Rattle.std.proofs.Common.{◌≡◌, map, drop, ◌++◌, ℕ, zero, suc, List}
+use Rattle.std.proofs.Common.{◌≡◌, map, drop, ◌++◌}
 use Rattle.std.specs.String.{string_bytes}
-use Rattle.py_typed.specs.Sorts.{sort, sorts_of, Sorts}
-use Rattle.py_typed.specs.Classes.{class_entry, ClassEntry}
+use Rattle.py_typed.specs.Sorts.{sort, sorts_of}
+use Rattle.py_typed.specs.Classes.{class_entry}
 use Rattle.py_typed.specs.TypeTexts.{types_text}
 use Rattle.py_typed.proofs.TypeLemmas.{types_from}
 use Rattle.py_typed.proofs.copies.+texts.Given as goal

@@ -1,4 +1,4 @@
-use Rattle.std.proofs.Common.{◌≡◌, drop, length, [], sym, ◌∙◌, ap, map, arith}
+use Rattle.std.proofs.Common.{map, arith}
 use Rattle.std.proofs.lemmas.Grind.{common_steps}
 use Rattle.py_typed.specs.Classes.{class_entry}
 use Rattle.py_typed.proofs.TypeLemmas.{also_at_end}

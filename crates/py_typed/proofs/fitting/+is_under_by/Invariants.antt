@@ -1,4 +1,4 @@
-use Rattle.std.proofs.Common.{◌≡◌, ◌-◌, ◌<◌, map, drop, length}
+use Rattle.std.proofs.Common.{◌≡◌, ◌-◌, ◌<◌, map, drop}
 use Rattle.std.specs.List.{list_any}
 use Rattle.py_typed.specs.Classes.{class_entry}
 use Rattle.py_typed.specs.Classes as class

@@ -1,4 +1,4 @@
-use Rattle.std.proofs.Common.{◌≡◌, drop, length, [], sym, ◌∙◌, ap, map, arith}
+use Rattle.std.proofs.Common.{arith}
 use Rattle.std.proofs.lemmas.Grind.{common_steps}
 use Rattle.py_typed.proofs.TypeLemmas.{same_at_end}
 use Rattle.py_typed.proofs.fitting.+one.Goals as goal
