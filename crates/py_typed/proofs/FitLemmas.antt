@@ -112,6 +112,7 @@ module _ (classes : List ClassEntry) where
       as_one_int : (s : Sort) → same classes s Int ≡ true → is_same_type s Int ≡ true
       as_one_int Int e = refl
       as_one_int _ e = absurd (cc)
+
       number_of_one : (s t : Sort) → s ≡ t → is_number t ≡ true → is_number s ≡ true
       number_of_one s t p q = ap is_number p ∙ q
   same_fits s I64 e = number_of_one s I64 (one_type s I64 (as_one_i64 s e)) refl
@@ -119,6 +120,7 @@ module _ (classes : List ClassEntry) where
       as_one_i64 : (s : Sort) → same classes s I64 ≡ true → is_same_type s I64 ≡ true
       as_one_i64 I64 e = refl
       as_one_i64 _ e = absurd (cc)
+
       number_of_one : (s t : Sort) → s ≡ t → is_number t ≡ true → is_number s ≡ true
       number_of_one s t p q = ap is_number p ∙ q
   same_fits Nothing (Optional u) e = refl
@@ -191,9 +193,10 @@ module _ (classes : List ClassEntry) where
       let p = same_Some s u j in
       (subst (λ x. fits classes s x ≡ true) p (fits_itself s), subst (λ x. fits classes t x ≡ true) (sym (one_type s t a) ∙ p) (fits_itself t))
   upper s t u false true none none' under over a b c d e f j =
-      let p = same_Some (number_join s t) u j in
-      (subst (λ x. fits classes s x ≡ true) p (number_fits s (number_join s t) (and_left (is_number s) (is_number t) b) (joined_number s t)),
-       subst (λ x. fits classes t x ≡ true) p (number_fits t (number_join s t) (and_right (is_number s) (is_number t) b) (joined_number s t)))
+      let p = same_Some (number_join s t) u j in (
+        subst (λ x. fits classes s x ≡ true) p (number_fits s (number_join s t) (and_left (is_number s) (is_number t) b) (joined_number s t)),
+        subst (λ x. fits classes t x ≡ true) p (number_fits t (number_join s t) (and_right (is_number s) (is_number t) b) (joined_number s t)),
+      )
   upper s t u false false true none' under over a b c d e f j =
       let p = same_Some (optional t) u j in
       (subst (λ x. fits classes s x ≡ true) p (ap (λ x. fits classes x (optional t)) (nothing_is s c) ∙ none_fits t), subst (λ x. fits classes t x ≡ true) p (fits_optional t))

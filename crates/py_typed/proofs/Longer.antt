@@ -292,5 +292,5 @@ pub continues : (n more : ℕ) (items : Items) (m : TypedModule) → Continues (
 unfolding source_run
 continues n more items m =
     subst (λ o. Continues (stop_of o) (stop_of (top_of m (n + more) (start m (n + more) items))))
-        (any_bound m (n + more) n (start m n items) (omega arith) (le_refl n))
-        (continues_by more (top_of m (n + more) (start m n items)) (top_of m (n + more) (start m (n + more) items)) (top_after more m (n + more) (start m n items)))
+    (any_bound m (n + more) n (start m n items) (omega arith) (le_refl n))
+    (continues_by more (top_of m (n + more) (start m n items)) (top_of m (n + more) (start m (n + more) items)) (top_after more m (n + more) (start m n items)))

@@ -55,17 +55,17 @@ module _ (classes : List ClassEntry) (small : (c : ℕ) → list_all (λ b. nat_
   any_below steps d c reached [] h e = absurd (cc)
   any_below steps d c reached (b ∷ bs) h e =
       choose (or_cases (is_under_by classes steps d b) (list_any (is_under_by classes steps d) bs) e)
-          (λ p. choose (reached b p)
-              (λ q. subst (λ x. x < c) q (ltb-true b c (and_left (nat_lt b c) (list_all (λ x. nat_lt x c) bs) h)))
-              (λ q. omega (arith, q, ltb-true b c (and_left (nat_lt b c) (list_all (λ x. nat_lt x c) bs) h))))
-          (λ p. any_below steps d c reached bs (and_right (nat_lt b c) (list_all (λ x. nat_lt x c) bs) h) p)
+      (λ p. choose (reached b p)
+      (λ q. subst (λ x. x < c) q (ltb-true b c (and_left (nat_lt b c) (list_all (λ x. nat_lt x c) bs) h)))
+      (λ q. omega (arith, q, ltb-true b c (and_left (nat_lt b c) (list_all (λ x. nat_lt x c) bs) h))))
+      (λ p. any_below steps d c reached bs (and_right (nat_lt b c) (list_all (λ x. nat_lt x c) bs) h) p)
 
   under_falls : (steps d c : ℕ) → is_under_by classes steps d c ≡ true → (c ≡ d) ⊎ (d < c)
   under_falls zero d c e = inl (eqb-true c d e)
   under_falls (suc steps) d c e =
       choose (or_cases (c == d) (list_any (is_under_by classes steps d) (bases_of classes c)) e)
-          (λ p. inl (eqb-true c d p))
-          (λ p. inr (any_below steps d c (under_falls steps d) (bases_of classes c) (small c) p))
+      (λ p. inl (eqb-true c d p))
+      (λ p. inr (any_below steps d c (under_falls steps d) (bases_of classes c) (small c) p))
 
   class_one_way : (c d : ℕ) → is_class_under classes c d ≡ true → is_class_under classes d c ≡ true → c ≡ d
   class_one_way c d e f = choose (under_falls c d c e) (λ p. p) (λ p. choose (under_falls d c d f) (λ q. sym q) (λ q. absurd (omega (arith, p, q))))

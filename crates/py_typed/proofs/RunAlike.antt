@@ -20,8 +20,8 @@ module _ {R : ℕ → (A : Type 0) → Does A → Does A → Type 0} {Allowed : 
   enters t n n' ok c c' calls None args = k.stops t Stuck
   enters t n n' ok c c' calls (Some f) args =
       either k t (length args == f.params)
-          (k.insides t _ (k.binds t (suite_alike k t n n' ok m.classes.classes c c' calls m.globals f.locals f.body) (answers t _)))
-          (k.stops t Stuck)
+      (k.insides t _ (k.binds t (suite_alike k t n n' ok m.classes.classes c c' calls m.globals f.locals f.body) (answers t _)))
+      (k.stops t Stuck)
 
   calls_alike : (t n n' : ℕ) → Allowed t n n' → (f : ℕ) (args : List Value) → R t _ (call_of m n f args) (call_of m n' f args)
   calls_alike t zero zero ok f args = k.both_ends t ok

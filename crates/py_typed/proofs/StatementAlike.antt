@@ -35,8 +35,8 @@ module _ {R : ℕ → (A : Type 0) → Does A → Does A → Type 0} {Allowed : 
     loops t (suc n) zero ok p q x = k.binds t (p x) (λ h. either k t h (k.binds t (q x) (after t (k.right_ends t n ok))) (k.gives t _))
     loops t (suc n) (suc m) ok p q x =
         k.binds t (p x) (λ h. either k t h
-            (k.binds t (q x) (after t (k.spends t n m ok (λ u le ok'. loops u n m ok' (λ y. k.fewer t u le (p y)) (λ y. k.fewer t u le (q y)) (next x)))))
-            (k.gives t _))
+        (k.binds t (q x) (after t (k.spends t n m ok (λ u le ok'. loops u n m ok' (λ y. k.fewer t u le (p y)) (λ y. k.fewer t u le (q y)) (next x)))))
+        (k.gives t _))
 
   module _ (t n m : ℕ) (ok : Allowed t n m) (classes : List ClassEntry) (c c' : Calls) (calls : (f : ℕ) (args : List Value) → R t _ (c f args) (c' f args)) (globals locals : List Variable) where
     expressions : (e : TypedExpr) → R t _ (value_of classes c globals locals e) (value_of classes c' globals locals e)
@@ -132,13 +132,13 @@ module _ {R : ℕ → (A : Type 0) → Does A → Does A → Type 0} {Allowed : 
       act_alike (While test body) = loops _ _ _ _ _ t n m ok (λ i. tests test) (λ i. suite_alike body) 0
       act_alike (ForRange xs a b body) =
           k.binds t (values_or _ a) (λ x. k.binds t (expressions b) (λ y. with_numbers k t x (λ i. with_numbers k t y (λ j.
-              loops (λ l. give (int_lt l j)) (λ l. give (int_lt l j)) _ _ (λ l. l +ℤ pos 1) t n m ok (λ l. k.gives t (int_lt l j)) (λ l. k.binds t (binds_all xs (type_of b) (IntVal l)) (λ _. suite_alike body)) i))))
+          loops (λ l. give (int_lt l j)) (λ l. give (int_lt l j)) _ _ (λ l. l +ℤ pos 1) t n m ok (λ l. k.gives t (int_lt l j)) (λ l. k.binds t (binds_all xs (type_of b) (IntVal l)) (λ _. suite_alike body)) i))))
       act_alike (ForList xs e body) =
           k.binds t (expressions e) (λ l. loops _ _ _ _ _ t n m ok (lists_go l)
-              (λ i. k.binds t (k.binds t (lists_next l i) (binds_all xs (item_sort (type_of e)))) (λ _. suite_alike body)) 0)
+          (λ i. k.binds t (k.binds t (lists_next l i) (binds_all xs (item_sort (type_of e)))) (λ _. suite_alike body)) 0)
       act_alike (ForDict xs e body) =
           k.binds t (expressions e) (λ d. dicts k t d (λ j ps. loops _ _ _ _ _ t n m ok (dicts_go d (length ps))
-              (λ i. k.binds t (k.binds t (dicts_next d i) (binds_all xs (key_sort (type_of e)))) (λ _. suite_alike body)) 0))
+          (λ i. k.binds t (k.binds t (dicts_next d i) (binds_all xs (key_sort (type_of e)))) (λ _. suite_alike body)) 0))
       act_alike (Try body hs last) = k.finals t (k.catching t (suite_alike body) (handle_alike hs)) (last_alike last)
       act_alike (Raise e) = raises_by e
       act_alike (Return e) = k.binds t (values_or _ e) (λ v. k.gives t _)

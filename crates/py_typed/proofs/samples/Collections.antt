@@ -22,8 +22,8 @@ use Rattle.py_typed.proofs.samples.Building.{as_type, num, text, flag, g, row, a
 a_list_grows : run (plain ((codes "xs", ListOf Int) ∷ (codes "x", Int) ∷ [])
     (set 0 (list Int (num 1 ∷ num 2 ∷ []))
     ▸ ForList (GlobalTarget 1 ∷ []) (g 0 (ListOf Int))
-        (when (compare Lt (as_type Int (tree.Len (g 0 (ListOf Int)))) (num 4)) (Do (as_type Nothing (tree.Append (g 0 (ListOf Int)) (arith Add (g 1 Int) (num 2)))) ▸ end)
-        ▸ print (g 1 Int ∷ []) ▸ end)
+    (when (compare Lt (as_type Int (tree.Len (g 0 (ListOf Int)))) (num 4)) (Do (as_type Nothing (tree.Append (g 0 (ListOf Int)) (arith Add (g 1 Int) (num 2)))) ▸ end)
+    ▸ print (g 1 Int ∷ []) ▸ end)
     ▸ end)) ≡ (codes "1\n2\n3\n4\n", Some Done)
 unfolding digits source_run
 a_list_grows = refl

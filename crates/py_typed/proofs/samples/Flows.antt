@@ -50,8 +50,8 @@ finally_at_break = refl
 -- print(e): the name is unset behind its clause
 by_class : run (plain ((codes "e", Exc Exception) ∷ [])
     (Try (Do (arith FloorDiv (num 1) (num 0)) ▸ end)
-        (handler_then (LookupError ∷ []) None (say (codes "no") ▸ end) (handler_then (ValueError ∷ ArithmeticError ∷ []) (Some (GlobalTarget 0)) (print (g 0 (Exc Exception) ∷ []) ▸ end) no_handlers))
-        no_suite
+    (handler_then (LookupError ∷ []) None (say (codes "no") ▸ end) (handler_then (ValueError ∷ ArithmeticError ∷ []) (Some (GlobalTarget 0)) (print (g 0 (Exc Exception) ∷ []) ▸ end) no_handlers))
+    no_suite
     ▸ print (g 0 (Exc Exception) ∷ []) ▸ end))
     ≡ (codes "integer division or modulo by zero\n", fails NameError (codes "name 'e' is not defined"))
 unfolding source_run
@@ -66,8 +66,8 @@ by_class = refl
 -- except Exception as e: print(e)
 innermost_again : run (plain ((codes "e", Exc Exception) ∷ [])
     (Try (Try (raise_value (codes "a") ▸ end)
-            (handler_then (ValueError ∷ []) None (Try (raise_value (codes "b") ▸ end) (handler_then (ValueError ∷ []) None (say (codes "inner") ▸ end) no_handlers) no_suite ▸ Raise None ▸ end) no_handlers) no_suite ▸ end)
-        (handler_then (Exception ∷ []) (Some (GlobalTarget 0)) (print (g 0 (Exc Exception) ∷ []) ▸ end) no_handlers) no_suite ▸ end))
+    (handler_then (ValueError ∷ []) None (Try (raise_value (codes "b") ▸ end) (handler_then (ValueError ∷ []) None (say (codes "inner") ▸ end) no_handlers) no_suite ▸ Raise None ▸ end) no_handlers) no_suite ▸ end)
+    (handler_then (Exception ∷ []) (Some (GlobalTarget 0)) (print (g 0 (Exc Exception) ∷ []) ▸ end) no_handlers) no_suite ▸ end))
     ≡ (codes "inner\na\n", Some Done)
 unfolding source_run
 innermost_again = refl

@@ -62,7 +62,7 @@ count_out_of_range = refl
 -- print(1 < f() < 9, 1 < 0 < f())
 chains : run (module_of [] [] (func (codes "f") 0 [] Int (print (num 7 ∷ []) ▸ return (num 5) ▸ end) ∷ [])
     (print (as_type BoolSort (tree.Compare (num 1) (comparison_then Lt (call 0 Int []) (comparison_then Lt (num 9) no_comparisons)))
-        ∷ as_type BoolSort (tree.Compare (num 1) (comparison_then Lt (num 0) (comparison_then Lt (call 0 Int []) no_comparisons))) ∷ []) ▸ end))
+    ∷ as_type BoolSort (tree.Compare (num 1) (comparison_then Lt (num 0) (comparison_then Lt (call 0 Int []) no_comparisons))) ∷ []) ▸ end))
     ≡ (codes "7\nTrue False\n", Some Done)
 unfolding digits source_run
 chains = refl
