@@ -1,0 +1,5 @@
+use Rattle.py_typed.proofs.AnyBound.{only_adds}
+use Rattle.py_typed.proofs.laws.runs_only_add.Goals as goal
+
+pub returns : goal.returns
+returns c = only_adds

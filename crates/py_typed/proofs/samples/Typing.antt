@@ -1,0 +1,68 @@
+-- Samples of modules that are well typed, and of ones that are not.
+use Rattle.std.proofs.Common.{◌≡◌, ℕ, Bool, true, false, List, [], ◌∷◌, refl, codes}
+use Rattle.py_syntax.specs.declared.expression.BinOp.TheVariants.{Add}
+use Rattle.py_syntax.specs.declared.expression.CmpOp.TheVariants.{Is}
+use Rattle.py_typed.specs.Sorts.{Sort, Int, I64, Nothing, ListOf, Optional, Instance}
+use Rattle.py_typed.specs.Classes.{ClassEntry, Signature}
+use Rattle.py_typed.specs.Expressions as tree
+use Rattle.py_typed.specs.Statements.{Variable, TypedSuite, TypedFunc, TypedModule, Do, ForList, Assign, Break, GlobalTarget, AttrTarget}
+use Rattle.py_typed.specs.WellTypedModule.{is_well_typed}
+use Rattle.py_typed.proofs.samples.Building.{as_type, num, g, l, row, arith, compare, list, print, set, when, return, ◌▸◌, end, func, method, plain}
+
+abbrev any : List ℕ → Bool
+any name = true
+
+abbrev signed : List ClassEntry → List Signature → List Variable → List TypedFunc → TypedSuite → TypedModule
+signed classes signatures globals funcs top = record { classes = record { classes = classes; signatures = signatures }; globals = globals; funcs = funcs; top = top }
+
+abbrev takes : List Sort → Sort → Signature
+takes params ret = record { params = params; ret = ret }
+
+-- xs = [1, 2]
+-- for x in xs: print(x, len(xs))
+loop : is_well_typed any (plain ((codes "xs", ListOf Int) ∷ (codes "x", Int) ∷ []) (set 0 (list Int (num 1 ∷ num 2 ∷ [])) ▸ ForList (GlobalTarget 1 ∷ []) (g 0 (ListOf Int)) (print (g 1 Int ∷ as_type Int (tree.Len (g 0 (ListOf Int))) ∷ []) ▸ end) ▸ end)) ≡ true
+loop = refl
+
+-- a number that is no variable's, and a break outside a loop
+no_such_variable : is_well_typed any (plain ((codes "x", Int) ∷ []) (print (g 1 Int ∷ []) ▸ end)) ≡ false
+no_such_variable = refl
+
+break_outside : is_well_typed any (plain [] (Break ▸ end)) ≡ false
+break_outside = refl
+
+-- an i64 from an int has to be coerced
+uncoerced : is_well_typed any (plain ((codes "x", I64) ∷ []) (set 0 (num 1) ▸ end)) ≡ false
+uncoerced = refl
+
+coerced : is_well_typed any (plain ((codes "x", I64) ∷ []) (set 0 (as_type I64 (tree.Coerce (num 1))) ▸ end)) ≡ true
+coerced = refl
+
+-- def f(x: Optional[int]) -> int:
+--     if x is None: return 0
+--     return x + 1
+narrowed : is_well_typed any (signed [] (takes (Optional Int ∷ []) Int ∷ []) [] (func (codes "f") 1 ((codes "x", Optional Int) ∷ []) Int
+    (when (compare Is (l 0 (Optional Int)) (as_type Nothing tree.Nothing)) (return (num 0) ▸ end) ▸ return (arith Add (l 0 Int) (num 1)) ▸ end) ∷ []) end) ≡ true
+narrowed = refl
+
+-- the same without the test
+not_narrowed : is_well_typed any (signed [] (takes (Optional Int ∷ []) Int ∷ []) [] (func (codes "f") 1 ((codes "x", Optional Int) ∷ []) Int (return (arith Add (l 0 Int) (num 1)) ▸ end) ∷ []) end) ≡ false
+not_narrowed = refl
+
+-- a function without an end
+no_return : is_well_typed any (signed [] (takes [] Int ∷ []) [] (func (codes "f") 0 [] Int (print (num 1 ∷ []) ▸ end) ∷ []) end) ≡ false
+no_return = refl
+
+-- class A: n: int; def __init__(self, n: int): self.n = n
+-- print(A(1).n)
+abbrev class_a : ClassEntry
+class_a = record { name = codes "A"; is_trait = false; bases = []; attributes = (codes "n", Int) ∷ []; methods = (codes "__init__", 0) ∷ [] }
+
+abbrev init_a : TypedFunc
+init_a = method (codes "__init__") 0 2 ((codes "self", Instance 0) ∷ (codes "n", Int) ∷ []) Nothing (Assign (AttrTarget (l 0 (Instance 0)) (codes "n") ∷ []) (l 1 Int) ▸ end)
+
+class_module : is_well_typed any (signed (class_a ∷ []) (takes (Int ∷ []) Nothing ∷ []) [] (init_a ∷ []) (print (as_type Int (tree.Attr (as_type (Instance 0) (tree.Make 0 (row (num 1 ∷ [])))) (codes "n")) ∷ []) ▸ end)) ≡ true
+class_module = refl
+
+-- a number of arguments that no `__init__` takes
+wrong_arguments : is_well_typed any (signed (class_a ∷ []) (takes (Int ∷ []) Nothing ∷ []) [] (init_a ∷ []) (Do (as_type (Instance 0) (tree.Make 0 (row []))) ▸ end)) ≡ false
+wrong_arguments = refl

@@ -1,0 +1,67 @@
+-- What holds of every run of every module.
+use Rattle.std.specs.Prelude.{◌≡◌, ◌≢◌, true, nat_lt, ℕ, ◌+◌, ◌≤◌, List, ◌++◌, length, Some}
+use Rattle.std.specs.List.{list_all}
+use Rattle.value_core.specs.Ending.{Cut}
+use Rattle.value_core.specs.Items.{Items}
+use Rattle.py_typed.specs.Sorts.{Sort}
+use Rattle.py_typed.specs.Classes.{ClassEntry, bases_of}
+use Rattle.py_typed.specs.Fits.{same, fits, join}
+use Rattle.py_typed.specs.Statements.{TypedModule}
+use Rattle.py_typed.specs.State.{State, Outcome, Gives, Raises, Stops}
+use Rattle.py_typed.specs.SourceRun.{top_of, ModuleStop, source_run}
+
+-- the second text begins with the first
+abbrev pub Begins : List ℕ → List ℕ → Type 0
+Begins front text = (more : List ℕ) × (text ≡ front ++ more)
+
+-- the second state has no more turns left than the first, at least its output, and no fewer objects
+pub record IsLater (s u : State) : Type 0 where
+  pub turns : u.turns ≤ s.turns
+  pub output : Begins s.output u.output
+  pub store : length s.store ≤ length u.store
+
+-- the state that a part leaves
+abbrev pub state_of : {A : Type 0} → Outcome A → State
+state_of (Gives a s) = s
+state_of (Raises e s) = s
+state_of (Stops w s) = s
+
+abbrev pub LeavesLater : {A : Type 0} → State → Outcome A → Type 0
+LeavesLater s (Gives a u) = IsLater s u
+LeavesLater s (Raises e u) = IsLater s u
+LeavesLater s (Stops w u) = IsLater s u
+
+-- any bound of at least the turns left gives the same: what a module's statements do does not hang on the bound
+abbrev pub AnyBoundServes : Type 0
+AnyBoundServes = (m : TypedModule) (n k : ℕ) (s : State) → s.turns ≤ n → s.turns ≤ k → top_of m n s ≡ top_of m k s
+
+-- turns never rise, output only grows, and the store is never shortened
+abbrev pub RunsOnlyAdd : Type 0
+RunsOnlyAdd = (m : TypedModule) (n : ℕ) (s : State) → s.turns ≤ n → LeavesLater s (top_of m n s)
+
+-- a run for more turns continues one that was cut, and is the same as one that was not
+pub record Continues (short long : ModuleStop) : Type 0 where
+  pub cut : short.ending ≡ Some Cut → Begins short.output long.output
+  pub whole : short.ending ≢ Some Cut → long ≡ short
+
+abbrev pub LongerRunsContinue : Type 0
+LongerRunsContinue = (n more : ℕ) (items : Items) (m : TypedModule) → Continues (source_run n items m) (source_run (n + more) items m)
+
+-- each type fits itself, and what is of a type as it stands fits it
+abbrev pub FitsItself : Type 0
+FitsItself = (classes : List ClassEntry) (t : Sort) → fits classes t t ≡ true
+
+abbrev pub SameFits : Type 0
+SameFits = (classes : List ClassEntry) (s t : Sort) → same classes s t ≡ true → fits classes s t ≡ true
+
+-- both types fit their join
+abbrev pub JoinHoldsBoth : Type 0
+JoinHoldsBoth = (classes : List ClassEntry) (s t u : Sort) → join classes s t ≡ Some u → (fits classes s u ≡ true) × (fits classes t u ≡ true)
+
+-- each base has a smaller number than its class
+abbrev pub BasesAreSmaller : List ClassEntry → Type 0
+BasesAreSmaller classes = (c : ℕ) → list_all (λ b. nat_lt b c) (bases_of classes c) ≡ true
+
+-- then a join does not hang on the order of its parts
+abbrev pub JoinIsSymmetric : Type 0
+JoinIsSymmetric = (classes : List ClassEntry) → BasesAreSmaller classes → (s t : Sort) → join classes s t ≡ join classes t s

@@ -1,0 +1,34 @@
+//! Types, the typed tree of a module, and what a module does.
+//!
+//! Types and trees are plain data with public parts. Computed are only what fits what, joins, copies and texts of types,
+//! each exactly its definition. All else are definitions that the crates above are proved against: `specs/Sorts.antt`,
+//! `specs/Classes.antt`, `specs/Expressions.antt` and `specs/Statements.antt` have the types, classes and trees as plain
+//! data, with what declared ones stand for; `specs/Fits.antt` and `specs/TypeTexts.antt` what fits what, joins and the
+//! texts of types; `specs/Order.antt` the orders of classes and their members. `specs/State.antt`, `specs/Operations.antt`,
+//! `specs/ExpressionMeaning.antt`, `specs/WaysOut.antt`, `specs/StatementMeaning.antt` and `specs/SourceRun.antt` are the
+//! meaning of a module, `specs/Laws.antt` what holds of it, and `specs/Narrowing.antt`, `specs/WellTypedExpr.antt`,
+//! `specs/WellTyped.antt` and `specs/WellTypedModule.antt` which modules are well typed. For proofs above,
+//! `proofs/Closed.antt` has what is asked of a relation that holds of every part of a run, and `proofs/RunAlike.antt` the
+//! induction.
+#![tactic(auto)]
+
+mod checked;
+mod classes;
+mod copies;
+mod expression;
+mod fitting;
+mod laws;
+mod statement;
+mod types;
+
+pub use checked::{Checked, TFunc, Var};
+pub use classes::{ClassInfo, Classes, Sig};
+pub use copies::{copy_of, type_text};
+pub use expression::{TExpr, TKind};
+pub use fitting::{fits, is_nothing, is_number, is_same_type, join, number_join, optional, same};
+pub use laws::{
+    any_bound_serves, fits_itself, join_holds_both, join_is_symmetric, longer_runs_continue,
+    runs_only_add, same_fits,
+};
+pub use statement::{THandler, TStmt, TStmtKind, Target};
+pub use types::Ty;
