@@ -31,8 +31,8 @@ mod word;
 use crate::plain::{characters, place_all, plain};
 use crate::read::read;
 pub use fault::{LexError, LexKind};
-pub use quoted::name_in_quotes;
 use py_syntax::Tokens;
+pub use quoted::name_in_quotes;
 use std::alloc::Global;
 
 /// The tokens of a text (Python Language Reference, "Lexical analysis"), or its first fault. For want of memory the

@@ -36,7 +36,9 @@ fn may_be_name(written: &[char]) -> bool
 fn key_among(keys: &[Key], written: &[char]) -> Option<Key>
     ensures { result ≡ find (λ k. bytes_eq (key_text k) written.now) keys.now }
 {
-    keys.iter().copied().find(|key| are_those(written, key.text()))
+    keys.iter()
+        .copied()
+        .find(|key| are_those(written, key.text()))
 }
 
 /// Whether characters are those of a text, which is ASCII.
