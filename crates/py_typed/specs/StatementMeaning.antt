@@ -116,7 +116,7 @@ module _ (classes : List ClassEntry) (call : Calls) (globals locals : List Varia
   abbrev pub list_next : Value → ℕ → Does Value
   list_next l i = with_list l (λ k vs. sure (slice_get vs i))
 
-  -- the length must be that of the loop's start
+  -- a dict that has grown or shrunk since the loop began cannot be gone over further
   abbrev pub dict_goes_on : Value → ℕ → ℕ → Does Bool
   dict_goes_on d size i =
       with_dict d (λ k ps. if counted (length ps) == counted size then give (nat_lt i (counted (length ps))) else raise_new RuntimeError (codes "dictionary changed size during iteration"))

@@ -107,7 +107,8 @@ module _ (is_identifier : List ℕ → Bool) (m : TypedModule) where
           is_own None = false
           is_own (Some entry) = list_any (λ p. (p.1 == i) && bytes_eq p.0 f.name) entry.methods
 
-  -- at most one base is no trait, and it comes first; a trait has only traits as bases, no attributes and no `__init__`
+  -- a base that is no trait comes first and is the only one; the bases of a trait are traits, and it has neither
+  -- attributes nor `__init__`
   abbrev pub bases_typed : ClassEntry → Bool
   bases_typed entry =
       list_all (λ b. is_trait_in (slice_get classes b)) (if entry.is_trait then entry.bases else drop 1 entry.bases)
