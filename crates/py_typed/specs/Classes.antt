@@ -7,12 +7,13 @@ use Rattle.py_typed.specs.declared.classes.ClassInfo.{ClassInfo}
 use Rattle.py_typed.specs.declared.classes.Classes.{Classes}
 use Rattle.py_typed.specs.Sorts.{Sort, sort}
 
--- what a function takes and gives
+-- what a function takes and gives, and a method without its first parameter
 pub record Signature : Type 0 where
   pub params : List Sort
   pub ret : Sort
 
--- a class: its bases by number, the attributes that it declares itself, and its own methods with their functions' numbers
+-- a class: its bases by number, the attributes that it declares itself, and its own methods, each with
+-- its place among the functions and their signatures
 pub record ClassEntry : Type 0 where
   pub name : List ℕ
   pub is_trait : Bool

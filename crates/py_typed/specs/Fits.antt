@@ -51,7 +51,8 @@ optional u = Optional u
 
 module _ (classes : List ClassEntry) where
   -- a value of the first type is one of the second as it stands: the types are one; a class stands under the other; None and
-  -- what is of the type are of its Optional; tuples part by part. Lists and dicts have items of one type
+  -- what is of the type are of its Optional, and so is an Optional whose type is of it; tuples part by part. Lists and dicts
+  -- have items of one type
   abbrev mutual
     pub same : Sort → Sort → Bool
     same Nothing (Optional u) = true
@@ -68,7 +69,7 @@ module _ (classes : List ClassEntry) where
     all_same ss ts = false
 
   -- a value of the first type stands where the second is asked for, changed if need be: numbers for int and for i64; for an
-  -- Optional, what is no Optional and fits its type
+  -- Optional, what is no Optional and fits its type, while another Optional has to be of it as it stands; and so has all else
   abbrev pub fits : Sort → Sort → Bool
   fits s Int = is_number s
   fits s I64 = is_number s

@@ -1,4 +1,4 @@
--- What holds of every run of every module.
+-- What holds of every run of every module, and of what fits and of joins.
 use Rattle.std.specs.Prelude.{◌≡◌, ◌≢◌, true, nat_lt, ℕ, ◌+◌, ◌≤◌, List, ◌++◌, length, Some}
 use Rattle.std.specs.List.{list_all}
 use Rattle.value_core.specs.Ending.{Cut}
@@ -35,11 +35,12 @@ LeavesLater s (Stops w u) = IsLater s u
 abbrev pub AnyBoundServes : Type 0
 AnyBoundServes = (m : TypedModule) (n k : ℕ) (s : State) → s.turns ≤ n → s.turns ≤ k → top_of m n s ≡ top_of m k s
 
--- turns never rise, output only grows, and the store is never shortened
+-- for a bound of at least the turns left: turns never rise, output only grows, and the store is never shortened
 abbrev pub RunsOnlyAdd : Type 0
 RunsOnlyAdd = (m : TypedModule) (n : ℕ) (s : State) → s.turns ≤ n → LeavesLater s (top_of m n s)
 
--- a run for more turns continues one that was cut, and is the same as one that was not
+-- the output of a run for more turns begins with that of one that was cut, and one that was not cut is the same for more
+-- turns
 pub record Continues (short long : ModuleStop) : Type 0 where
   pub cut : short.ending ≡ Some Cut → Begins short.output long.output
   pub whole : short.ending ≢ Some Cut → long ≡ short

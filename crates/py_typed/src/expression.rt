@@ -12,7 +12,8 @@ pub struct TExpr {
     pub span: Span,
 }
 
-/// What a typed expression is. Names are numbers: a local's within its function, a module variable's, a function's, a class's.
+/// What a typed expression is. Variables, functions and classes are numbers, a local's within its function; attributes and
+/// methods keep their names.
 #[cycle(typed_expression)]
 #[derive(Drop)]
 pub enum TKind {

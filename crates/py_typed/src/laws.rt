@@ -6,12 +6,12 @@ pub fn any_bound_serves()
     ensures { AnyBoundServes }
 {}
 
-/// Turns never rise, output only grows, and the store is never shortened.
+/// For a bound of at least the turns left: turns never rise, output only grows, and the store is never shortened.
 pub fn runs_only_add()
     ensures { RunsOnlyAdd }
 {}
 
-/// A run for more turns continues one that was cut, and is the same as one that was not.
+/// The output of a run for more turns begins with that of one that was cut, and one that was not cut is the same for more turns.
 pub fn longer_runs_continue()
     ensures { LongerRunsContinue }
 {}

@@ -26,7 +26,8 @@ pub struct TStmt {
 #[derive(Drop)]
 pub enum TStmtKind {
     Expr(TExpr),
-    /// One target takes the value; several take the parts of a tuple.
+    /// One target takes a value that fits its type; else, and where there are several, the targets take the parts of a tuple.
+    /// So it is for the targets of the three loops too.
     Assign(Many<Target>, TExpr),
     /// With the type of the operation's result.
     Aug(Target, BinOp, TExpr, Ty),
@@ -35,7 +36,7 @@ pub enum TStmtKind {
     /// Each test with its body, then the body of `else`.
     If(Many<(TExpr, Many<TStmt>)>, Many<TStmt>),
     While(TExpr, Many<TStmt>),
-    /// From the first bound, or 0, up to the last one.
+    /// From the first bound, or 0, up to the second and without it.
     ForRange(Many<Target>, Option<TExpr>, TExpr, Many<TStmt>),
     ForList(Many<Target>, TExpr, Many<TStmt>),
     ForDict(Many<Target>, TExpr, Many<TStmt>),
