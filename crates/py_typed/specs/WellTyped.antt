@@ -1,5 +1,5 @@
--- Which typed modules are well typed: every number names something, names differ, and each statement, function and class has the
--- parts and the types that its rule asks for.
+-- Which types a variable may have, and which typed statements are well typed: every number names something, and each statement
+-- has the parts and the types that its rule asks for.
 use Rattle.std.specs.Prelude.{ℕ, Bool, true, false, not, ◌&&◌, ◌||◌, nat_lt, List, [], ◌∷◌, ◌++◌, length, Option, Some, None}
 use Rattle.std.specs.List.{list_any, list_all}
 use Rattle.std.specs.Str.{bytes_eq}
@@ -13,7 +13,7 @@ use Rattle.py_typed.specs.Expressions.{TypedExpr, type_of}
 use Rattle.py_typed.specs.Statements.{Variable, TypedTarget, LocalTarget, GlobalTarget, AttrTarget, ItemTarget, TypedStmt, on_line, TypedAct, Do, Assign, Aug, Del, If, While, ForRange, ForList, ForDict, Try, Raise, Return, Break, Continue, Assert, Pass, TypedSuite, no_stmts, stmt_then, Arms, no_arms, arm_then, Handlers, no_handlers, handler_then, MaybeSuite, no_suite, some_suite, TypedModule}
 use Rattle.py_typed.specs.StatementMeaning.{attribute_sort, sort_at}
 use Rattle.py_typed.specs.Operations.{item_sort, key_sort}
-use Rattle.py_typed.specs.Narrowing.{is_in, facts, without, bound_by_all, bound_suite, bound_handlers, bound_last, after_parts, part_sorts, after}
+use Rattle.py_typed.specs.Narrowing.{is_in, facts, without, bound_by_all, bound_suite, bound_handlers, bound_last, bound_by_name, after_target, after_parts, part_sorts, after}
 use Rattle.py_typed.specs.WellTypedExpr.{is_key_type, is_exception, is_type, operation_sort, indexed, reads_as, is_typed, is_value}
 
 -- ---- types
@@ -74,6 +74,17 @@ module _ (m : TypedModule) (locals : List Variable) (init : Option ℕ) (result 
   target_typed known (AttrTarget e name) = is_value m locals init known e && not (is_nothing (attribute_sort classes_of (type_of e) name))
   target_typed known (ItemTarget e i) = is_value m locals init known e && is_value m locals init known i && is_assignable (type_of e) (type_of i)
 
+  -- targets that are bound one behind the other to the parts of a value: each is looked at with what is known once those before
+  -- it are bound
+  abbrev pub targets_typed : List ℕ → List TypedTarget → List Sort → Bool
+  targets_typed known [] ss = true
+  targets_typed known (t ∷ ts) [] = target_typed known t && targets_typed known ts []
+  targets_typed known (t ∷ ts) (s ∷ ss) = target_typed known t && targets_typed (after_target known t s) ts ss
+
+  abbrev pub is_filled : {A : Type 0} → List A → Bool
+  is_filled [] = false
+  is_filled (a ∷ more) = true
+
   abbrev pub is_name : TypedTarget → Bool
   is_name (LocalTarget i) = true
   is_name (GlobalTarget i) = true
@@ -132,17 +143,13 @@ module _ (m : TypedModule) (locals : List Variable) (init : Option ℕ) (result 
   is_dict_type (sort.DictOf k t) = true
   is_dict_type t = false
 
-  -- targets that are names, for items of this type
+  -- targets that are names, at least one, for items of this type
   abbrev pub items_fit : List ℕ → List TypedTarget → Sort → Bool
-  items_fit known ts s = list_all is_name ts && list_all (target_typed known) ts && binding_fits ts s
+  items_fit known ts s = is_filled ts && list_all is_name ts && list_all (target_typed known) ts && binding_fits ts s
 
   abbrev pub name_fits : Option TypedTarget → Bool
   name_fits None = true
   name_fits (Some t) = is_name t && target_typed [] t && fits classes_of (Exc Exception) (target_type t)
-
-  abbrev pub is_filled : {A : Type 0} → List A → Bool
-  is_filled [] = false
-  is_filled (a ∷ more) = true
 
   abbrev pub has_part : Handlers → MaybeSuite → Bool
   has_part no_handlers no_suite = false
@@ -164,7 +171,7 @@ module _ (m : TypedModule) (locals : List Variable) (init : Option ℕ) (result 
     pub act_typed : List ℕ → Bool → Bool → TypedAct → Bool
     act_typed known looping handling (Do e) = is_typed m locals init known e
     act_typed known looping handling (Assign ts e) =
-        is_value m locals init known e && is_filled ts && list_all (target_typed known) ts && assignment_fits ts (type_of e)
+        is_value m locals init known e && is_filled ts && targets_typed known ts (part_sorts (type_of e)) && assignment_fits ts (type_of e)
     act_typed known looping handling (Aug t o e s) = is_value m locals init known e && target_typed known t && update_fits known t o (type_of e) s
     act_typed known looping handling (Del e i) = is_value m locals init known e && is_value m locals init known i && is_dict_type (type_of e) && is_there (indexed (type_of e) (type_of i))
     act_typed known looping handling (If arms other) = arms_typed known looping handling arms (λ there. suite_typed there looping handling other)
@@ -201,10 +208,11 @@ module _ (m : TypedModule) (locals : List Variable) (init : Option ℕ) (result 
     arms_typed known looping handling (arm_then test body more) other =
         is_test known test && suite_typed (facts true test ++ known) looping handling body && arms_typed (facts false test ++ known) looping handling more other
 
+    -- the exception that a handler names is none that may be None
     pub handlers_typed : List ℕ → Bool → Handlers → Bool
     handlers_typed known looping no_handlers = true
     handlers_typed known looping (handler_then classes name body more) =
-        is_filled classes && name_fits name && suite_typed known looping true body && handlers_typed known looping more
+        is_filled classes && name_fits name && suite_typed (bound_by_name name ++ known) looping true body && handlers_typed known looping more
 
     pub last_typed : List ℕ → Bool → Bool → MaybeSuite → Bool
     last_typed known looping handling no_suite = true
