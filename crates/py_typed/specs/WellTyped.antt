@@ -1,5 +1,5 @@
--- Which types a variable may have, and which typed statements are well typed: every number names something, and each statement
--- has the parts and the types that its rule asks for.
+-- Which typed statements are well typed: every number names something, and each statement has the parts and the types that its
+-- rule asks for.
 use Rattle.std.specs.Prelude.{ℕ, Bool, true, false, not, ◌&&◌, ◌||◌, nat_lt, List, [], ◌∷◌, ◌++◌, length, Option, Some, None}
 use Rattle.std.specs.List.{list_any, list_all}
 use Rattle.std.specs.Str.{bytes_eq}
@@ -14,28 +14,7 @@ use Rattle.py_typed.specs.Statements.{Variable, TypedTarget, LocalTarget, Global
 use Rattle.py_typed.specs.StatementMeaning.{attribute_sort, sort_at}
 use Rattle.py_typed.specs.Operations.{item_sort, key_sort}
 use Rattle.py_typed.specs.Narrowing.{is_in, facts, without, bound_by_all, bound_suite, bound_handlers, bound_last, bound_by_name, after_target, after_parts, part_sorts, after}
-use Rattle.py_typed.specs.WellTypedExpr.{is_key_type, is_exception, is_type, operation_sort, indexed, reads_as, is_typed, is_value}
-
--- ---- types
-
--- a type that a variable, an item or a parameter may have, where there are so many classes
-abbrev mutual
-  pub is_value_type : ℕ → Sort → Bool
-  is_value_type classes sort.Nothing = false
-  is_value_type classes (sort.ListOf t) = is_value_type classes t
-  is_value_type classes (sort.DictOf k t) = is_key_type k && is_value_type classes t
-  is_value_type classes (sort.TupleOf ts) = nat_lt 0 (length (listed_sorts ts)) && nat_lt (length (listed_sorts ts)) 17 && are_value_types classes ts
-  is_value_type classes (Optional (Optional t)) = false
-  is_value_type classes (Optional t) = is_value_type classes t
-  is_value_type classes (Instance c) = nat_lt c classes
-  is_value_type classes t = true
-
-  pub are_value_types : ℕ → Sorts → Bool
-  are_value_types classes no_sorts = true
-  are_value_types classes (sort_then t ts) = is_value_type classes t && are_value_types classes ts
-
-abbrev pub is_result_type : ℕ → Sort → Bool
-is_result_type classes t = is_nothing t || is_value_type classes t
+use Rattle.py_typed.specs.WellTypedExpr.{is_none_literal, is_exception, is_type, operation_sort, indexed, reads_as, is_typed, is_value}
 
 -- ---- names
 
@@ -126,6 +105,7 @@ module _ (m : TypedModule) (locals : List Variable) (init : Option ℕ) (result 
   abbrev pub return_fits : List ℕ → Option Sort → Option TypedExpr → Bool
   return_fits known None e = false
   return_fits known (Some t) None = is_nothing t
+  return_fits known (Some sort.Nothing) (Some e) = is_value m locals init known e && is_none_literal e
   return_fits known (Some t) (Some e) = is_value m locals init known e && is_same_type (type_of e) t
 
   abbrev pub raise_fits : List ℕ → Bool → Option TypedExpr → Bool

@@ -9,7 +9,7 @@ use Rattle.py_syntax.specs.declared.expression.BinOp.TheVariants as op
 use Rattle.py_syntax.specs.declared.expression.CmpOp.{CmpOp}
 use Rattle.py_syntax.specs.declared.expression.CmpOp.TheVariants as compare
 use Rattle.py_typed.specs.Sorts as sort
-use Rattle.py_typed.specs.Sorts.{Sort, I64, Instance, Exc, Optional, Sorts, sorts_of, listed_sorts}
+use Rattle.py_typed.specs.Sorts.{Sort, I64, Instance, Exc, Optional, Sorts, no_sorts, sort_then, sorts_of, listed_sorts}
 use Rattle.py_typed.specs.Classes.{ClassEntry, Signature}
 use Rattle.py_typed.specs.Fits.{is_same_type, are_same_types, is_number, is_nothing, number_join, fits}
 use Rattle.py_typed.specs.Order.{order, listed_order, method_along, method_of, attribute_of}
@@ -22,6 +22,25 @@ use Rattle.py_typed.specs.Narrowing.{is_in, facts}
 abbrev pub is_key_type : Sort → Bool
 is_key_type sort.Str = true
 is_key_type t = is_number t
+
+-- a type that a variable, an item or a parameter may have, where there are so many classes
+abbrev mutual
+  pub is_value_type : ℕ → Sort → Bool
+  is_value_type classes sort.Nothing = false
+  is_value_type classes (sort.ListOf t) = is_value_type classes t
+  is_value_type classes (sort.DictOf k t) = is_key_type k && is_value_type classes t
+  is_value_type classes (sort.TupleOf ts) = nat_lt 0 (length (listed_sorts ts)) && nat_lt (length (listed_sorts ts)) 17 && are_value_types classes ts
+  is_value_type classes (Optional (Optional t)) = false
+  is_value_type classes (Optional t) = is_value_type classes t
+  is_value_type classes (Instance c) = nat_lt c classes
+  is_value_type classes t = true
+
+  pub are_value_types : ℕ → Sorts → Bool
+  are_value_types classes no_sorts = true
+  are_value_types classes (sort_then t ts) = is_value_type classes t && are_value_types classes ts
+
+abbrev pub is_result_type : ℕ → Sort → Bool
+is_result_type classes t = is_nothing t || is_value_type classes t
 
 abbrev pub is_exception : Sort → Bool
 is_exception (Exc c) = true
@@ -206,6 +225,7 @@ module _ (m : TypedModule) (locals : List Variable) (init : Option ℕ) where
   rule known (Truth e) t = not (is_same_type (type_of e) sort.Bool) && is_same_type t sort.Bool
   rule known (Arith o a b) t = are_numbers (type_of a) (type_of b) && is_type (operation_sort o (type_of a) (type_of b)) t
   rule known (Concat a b) t = are_texts (type_of a) (type_of b) && is_same_type t sort.Str
+  rule known (Compare e no_comparisons) t = false
   rule known (Compare e more) t = is_same_type t sort.Bool
   rule known (And a b) t = is_same_type (type_of a) t && is_same_type (type_of b) t
   rule known (Or a b) t = is_same_type (type_of a) t && is_same_type (type_of b) t
@@ -236,10 +256,11 @@ module _ (m : TypedModule) (locals : List Variable) (init : Option ℕ) where
   -- all parts are well typed, and so is the node; each part gives a value. What a test says holds behind it
   abbrev mutual
     pub is_typed : List ℕ → TypedExpr → Bool
-    is_typed known (typed e t place) = parts_typed known e && rule known e t
+    is_typed known (typed e t place) = parts_typed known e && rule known e t && is_result_type (length entries_of_classes) t
 
     pub is_value : List ℕ → TypedExpr → Bool
-    is_value known (typed e t place) = parts_typed known e && rule known e t && not (is_empty_call e t)
+    is_value known (typed e t place) =
+        parts_typed known e && rule known e t && is_result_type (length entries_of_classes) t && not (is_empty_call e t)
 
     pub parts_typed : List ℕ → TypedNode → Bool
     parts_typed known (Neg e) = is_value known e

@@ -9,8 +9,8 @@ use Rattle.py_typed.specs.Fits.{is_same_type, are_same_types, is_nothing}
 use Rattle.py_typed.specs.Order.{order, listed_order, own_method, own_attribute}
 use Rattle.py_typed.specs.Statements.{Variable, TypedFunc, TypedModule}
 use Rattle.py_typed.specs.Narrowing.{is_closed}
-use Rattle.py_typed.specs.WellTypedExpr.{init_class, is_same_place, is_trait_in}
-use Rattle.py_typed.specs.WellTyped.{is_value_type, is_result_type, all_differ, suite_typed}
+use Rattle.py_typed.specs.WellTypedExpr.{is_value_type, is_result_type, init_class, is_same_place, is_trait_in}
+use Rattle.py_typed.specs.WellTyped.{all_differ, suite_typed}
 
 abbrev pub names_of : {A : Type 0} → List (List ℕ × A) → List (List ℕ)
 names_of row = map (λ p. p.0) row
@@ -49,9 +49,13 @@ abbrev pub signature_fits : Option Signature → TypedFunc → Bool
 signature_fits None f = false
 signature_fits (Some s) f = same_row (parameter_types f) s.params && is_same_type f.ret s.ret
 
--- `__init__` gives nothing
+-- a class's `__init__` gives nothing
 abbrev pub init_gives_nothing : TypedFunc → Bool
-init_gives_nothing f = not (bytes_eq f.name (codes "__init__")) || is_nothing f.ret
+init_gives_nothing f = gives_nothing (init_class f)
+  where
+    gives_nothing : Option ℕ → Bool
+    gives_nothing None = true
+    gives_nothing (Some c) = is_nothing f.ret
 
 abbrev pub is_init_of_trait : List ClassEntry → Option ℕ → Bool
 is_init_of_trait classes None = false
@@ -166,6 +170,6 @@ module _ (is_identifier : List ℕ → Bool) (m : TypedModule) where
 
   abbrev pub is_well_typed : Bool
   is_well_typed =
-      variables_typed m.globals && all_differ (flat_map own_name m.funcs) && all_differ (map (λ entry. entry.name) classes)
+      variables_typed m.globals && all_differ (names_of m.globals ++ (flat_map own_name m.funcs ++ map (λ entry. entry.name) classes))
       && (length m.classes.signatures == length m.funcs) && all_at 0 class_typed classes && all_at 0 is_listed m.funcs && all_at 0 func_typed m.funcs
       && suite_typed m [] None None [] false false m.top
