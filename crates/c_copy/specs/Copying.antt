@@ -3,9 +3,7 @@ use Rattle.std.specs.Prelude.{◌≡◌, ℕ, ◌<◌, ◌≤◌, List, length, 
 use Rattle.outside_core.specs.Counts.{one_more}
 use Rattle.outside_core.specs.declared.read_error.ReadError.{ReadError}
 use Rattle.outside_core.specs.declared.read_error.ReadError.TheVariants as reading
-use Rattle.c_core.specs.declared.code.Code.{Code}
-use Rattle.c_core.specs.Text.{code_text}
-use Rattle.c_core.specs.WellFormed.{WellFormed}
+use Rattle.c_text.specs.Reading.{HasWellFormed}
 use Rattle.c_text.specs.declared.text_error.TextError.{TextError}
 use Rattle.c_text.specs.declared.text_error.TextError.TheVariants as text
 use Rattle.c_copy.specs.declared.copy.CopyError.{CopyError}
@@ -15,26 +13,22 @@ use Rattle.c_copy.specs.declared.copy.CopyError.TheVariants.{ReadFault, WriteFau
 abbrev pub most_bytes : ℕ
 most_bytes = 16777216
 
--- a well-formed code has this text
-abbrev pub IsText : List ℕ → Type 0
-IsText bytes = (code : Code) × WellFormed code × (code_text code ≡ bytes)
-
 -- why bytes that are not too long have no well-formed code; of want of memory nothing is said
 abbrev pub JudgesBytes : List ℕ → CopyError → Type 0
 JudgesBytes bytes ReadFault = ⊥
 JudgesBytes bytes WriteFault = ⊥
 JudgesBytes bytes TooLarge = ⊥
-JudgesBytes bytes TextRefused = ¬ (IsText bytes)
+JudgesBytes bytes TextRefused = ¬ (HasWellFormed bytes)
 JudgesBytes bytes Memory = Unit {0}
 
 -- which bytes are copied, and why others are not: a text of a well-formed code that is not too long, unless a call on the
 -- outside failed or memory ran out
 abbrev pub Judges : {T : Type 0} → List ℕ → Result T CopyError → Type 0
-Judges bytes (Ok x) = IsText bytes × (length bytes ≤ most_bytes)
+Judges bytes (Ok x) = HasWellFormed bytes × (length bytes ≤ most_bytes)
 Judges bytes (Err ReadFault) = Unit {0}
-Judges bytes (Err WriteFault) = IsText bytes × (length bytes ≤ most_bytes)
+Judges bytes (Err WriteFault) = HasWellFormed bytes × (length bytes ≤ most_bytes)
 Judges bytes (Err TooLarge) = most_bytes < length bytes
-Judges bytes (Err TextRefused) = (¬ (IsText bytes)) × (length bytes ≤ most_bytes)
+Judges bytes (Err TextRefused) = (¬ (HasWellFormed bytes)) × (length bytes ≤ most_bytes)
 Judges bytes (Err Memory) = Unit {0}
 
 -- what a failure to read comes to, and a text that has no code

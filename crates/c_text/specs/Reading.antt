@@ -18,6 +18,10 @@ pub record IsReading (bytes : List ℕ) (code : Code) : Type 0 where
 abbrev pub HasCode : List ℕ → Type 0
 HasCode bytes = (code : Code) × Spelled code × (code_text code ≡ bytes)
 
+-- a well-formed code has this text
+abbrev pub HasWellFormed : List ℕ → Type 0
+HasWellFormed bytes = (code : Code) × WellFormed code × (code_text code ≡ bytes)
+
 -- lines can stand where the lines of a spelled code begin with them
 pub record CanStand (front : List (List ℕ)) : Type 0 where
   pub code : Code

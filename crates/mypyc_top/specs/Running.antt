@@ -6,7 +6,7 @@ use Rattle.c_core.specs.Text.{code_text}
 use Rattle.c_core.specs.WellFormed.{WellFormed}
 use Rattle.value_core.specs.Ending.{Ending}
 use Rattle.c_core.specs.Run.{Stop, machine_run}
-use Rattle.c_text.specs.Reading.{HasCode, RefusedAt}
+use Rattle.c_text.specs.Reading.{HasCode, HasWellFormed, RefusedAt}
 use Rattle.mypyc_top.specs.declared.status.Status.{Status}
 use Rattle.mypyc_top.specs.declared.status.Status.TheVariants as status
 use Rattle.mypyc_top.specs.SourceRun.{source_run}
@@ -25,10 +25,6 @@ abbrev pub ModuleRun : List ℕ → ℕ → Items → List ℕ → List ℕ → 
 ModuleRun numbers turns items out err s =
     let source = source_run numbers turns items in
     (out ≡ source.output) × IsSourceLine numbers turns items source.ending err × (s ≡ ending_status source.ending)
-
--- a well-formed code has this text
-abbrev pub HasWellFormed : List ℕ → Type 0
-HasWellFormed bytes = (code : Code) × WellFormed code × (code_text code ≡ bytes)
 
 -- the run of a code gives its output with the summary, and a line and a status by its ending
 abbrev pub CodeRun : Code → ℕ → Items → List ℕ → List ℕ → Status → Type 0
