@@ -83,7 +83,10 @@ raised_no_cut (IntVal n) c = absurd (cc)
 raised_no_cut _ c = absurd (cc)
 
 same_output : (o : Outcome Flow) → Begins (state_of o).output (stop_of o).output
-same_output (Gives f s) = begins s.output
+same_output (Gives Goes s) = begins s.output
+same_output (Gives Breaks s) = begins s.output
+same_output (Gives Repeats s) = begins s.output
+same_output (Gives (Returns v) s) = begins s.output
 same_output (Raises e s) = begins s.output
 same_output (Stops w s) = begins s.output
 
@@ -278,7 +281,10 @@ module _ (k : ℕ) where
 
   -- where the shorter run stops, and where the longer one does
   continues_by : (o o' : Outcome Flow) → After o o' → Continues (stop_of o) (stop_of o')
-  continues_by (Gives f s) o' p = record { cut = λ c. absurd (cc); whole = λ c. ap stop_of p }
+  continues_by (Gives Goes s) o' p = record { cut = λ c. absurd (cc); whole = λ c. ap stop_of p }
+  continues_by (Gives Breaks s) o' p = record { cut = λ c. absurd (cc); whole = λ c. ap stop_of p }
+  continues_by (Gives Repeats s) o' p = record { cut = λ c. absurd (cc); whole = λ c. ap stop_of p }
+  continues_by (Gives (Returns v) s) o' p = record { cut = λ c. absurd (cc); whole = λ c. ap stop_of p }
   continues_by (Raises e s) o' p = record { cut = λ c. raised_no_cut e c; whole = λ c. ap stop_of p }
   continues_by (Stops Cut s) o' p = record { cut = λ c. further _ _ _ p (same_output o'); whole = λ c. absurd (c refl) }
   continues_by (Stops Over s) o' p = record { cut = λ c. absurd (cc); whole = λ c. ap stop_of p }

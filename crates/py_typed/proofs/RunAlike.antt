@@ -12,8 +12,8 @@ use Rattle.py_typed.proofs.StatementAlike.{suite_alike}
 module _ {R : ℕ → (A : Type 0) → Does A → Does A → Type 0} {Allowed : ℕ → ℕ → ℕ → Type 0} (k : Closed R Allowed) (m : TypedModule) where
   answers : (t : ℕ) (v : Value) (f : Flow) → R t _ (answer v f) (answer v f)
   answers t v Goes = k.gives t _
-  answers t v Breaks = k.gives t _
-  answers t v Continues = k.gives t _
+  answers t v Breaks = k.stops t Stuck
+  answers t v Continues = k.stops t Stuck
   answers t v (Returns w) = k.gives t _
 
   enters : (t n n' : ℕ) → Allowed t n n' → (c c' : Calls) → ((f : ℕ) (args : List Value) → R t _ (c f args) (c' f args)) → (f : Option TypedFunc) (args : List Value) → R t _ (enter m c n f args) (enter m c' n' f args)

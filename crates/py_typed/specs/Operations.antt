@@ -136,7 +136,7 @@ abbrev pub is_none : Value → Bool
 is_none NoneVal = true
 is_none _ = false
 
--- the type in which two numbers are compared: i64 where one is, bool where both are, else int
+-- the join of two numbers, or of two texts, in which they are compared: i64 where one is, bool where both are, else int
 abbrev pub compared_as : Sort → Sort → Sort
 compared_as I64 t = I64
 compared_as s I64 = I64
@@ -357,6 +357,7 @@ holds compare.Gt s t x y = compared (λ a b. is_less b a) s t x y
 holds compare.Ge s t x y = compared (λ a b. not (is_less a b)) s t x y
 holds compare.Member s t x y = found t x y
 holds compare.NotMember s t x y = found t x y >>= λ b. give (not b)
+-- only None stands behind `is`
 holds compare.Is s t x y = give (is_none x)
 holds compare.IsNot s t x y = give (not (is_none x))
 

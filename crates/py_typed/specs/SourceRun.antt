@@ -6,7 +6,7 @@ use Rattle.value_core.specs.Items.{Items}
 use Rattle.value_core.specs.Value.{Value, NoneVal, ExcVal, Store}
 use Rattle.py_typed.specs.Statements.{TypedFunc, TypedModule}
 use Rattle.py_typed.specs.State.{State, Stop, Cut, Over, Broken, Stuck, Outcome, Gives, Raises, Stops, Does, Calls, ◌>>=◌, ◌>>◌, stop, spend}
-use Rattle.py_typed.specs.WaysOut.{Flow, answer, inside}
+use Rattle.py_typed.specs.WaysOut.{Flow, Goes, answer, inside}
 use Rattle.py_typed.specs.StatementMeaning.{suite}
 
 module _ (m : TypedModule) where
@@ -18,11 +18,13 @@ module _ (m : TypedModule) where
       then inside (map Some args ++ replicate (length f.locals - length args) None) (suite m.classes.classes call m.globals f.locals n f.body >>= answer NoneVal)
       else stop Stuck)
 
-  -- a call behind its turn, and with it; n bounds the calls inside one another, and the repetitions of each loop
+  -- what a call does once its turn is spent; n bounds the calls inside one another and the repetitions of each loop, and is
+  -- never reached where it is at least the turns that were left when the call was made
   abbrev pub body_of : ℕ → Calls
   body_of zero f args = stop Cut
   body_of (suc n) f args = enter (λ g vs. spend >> body_of n g vs) n (slice_get m.funcs f) args
 
+  -- a call: a turn, and then that
   abbrev pub call_of : ℕ → Calls
   call_of n f args = spend >> body_of n f args
 
@@ -63,7 +65,8 @@ raised_as (ExcVal e) = Some (Raised e)
 raised_as v = None
 
 abbrev pub stop_of : Outcome Flow → ModuleStop
-stop_of (Gives f s) = stopped s (Some Done)
+stop_of (Gives Goes s) = stopped s (Some Done)
+stop_of (Gives f s) = stopped s None
 stop_of (Raises e s) = stopped s (raised_as e)
 stop_of (Stops w s) = stopped s (ending_by w)
 

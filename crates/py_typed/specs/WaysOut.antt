@@ -36,7 +36,7 @@ at_last last (Gives f s) = (last >>= flow_on (give f)) s
 at_last last (Raises e s) = (last >>= flow_on (raise e)) s
 at_last last (Stops w s) = Stops w s
 
--- the last part comes on every way out
+-- the last part comes on every way out but the end of the run
 abbrev pub finally : Does Flow → Does Flow → Does Flow
 finally body last s = at_last last (body s)
 
@@ -89,8 +89,9 @@ loop (suc n) test body next x = test x >>= λ h. if h then body x >>= after_body
 
 -- what a call gives by the way in which its body ended
 abbrev pub answer : Value → Flow → Does Value
+answer none Goes = give none
 answer none (Returns v) = give v
-answer none f = give none
+answer none f = stop Stuck
 
 -- a body with locals of its own, and no exception being handled
 abbrev pub inside : {A : Type 0} → List (Option Value) → Does A → Does A

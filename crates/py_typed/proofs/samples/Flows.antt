@@ -81,7 +81,7 @@ unset_local : run (module_of [] [] (func (codes "f") 0 ((codes "x", Int) ∷ [])
 unfolding source_run
 unset_local = refl
 
--- print(x); x = 1
+-- print(x); x: int = 1
 unset_variable : run (plain ((codes "x", Int) ∷ []) (print (g 0 Int ∷ []) ▸ set 0 (num 1) ▸ end)) ≡ ([], fails NameError (codes "name 'x' is not defined"))
 unfolding source_run
 unset_variable = refl

@@ -14,7 +14,7 @@ use Rattle.py_typed.specs.Expressions as tree
 use Rattle.py_typed.specs.Expressions.{TypedExpr}
 use Rattle.py_typed.specs.Statements.{Variable, TypedFunc, Assign, Do, AttrTarget, Aug}
 use Rattle.py_typed.specs.SourceRun.{source_run}
-use Rattle.py_typed.proofs.samples.Building.{as_type, num, g, l, row, arith, compare, print, set, when, return, ◌▸◌, end, method, module_of, plain, run, most, fails}
+use Rattle.py_typed.proofs.samples.Building.{as_type, num, g, l, row, arith, compare, call, print, set, set_l, when, return, ◌▸◌, end, func, method, module_of, plain, run, most, fails}
 
 abbrev class_of : List ℕ → List ℕ → List (List ℕ × Sort) → List (List ℕ × ℕ) → ClassEntry
 class_of name bases attributes methods = record { name = name; is_trait = false; bases = bases; attributes = attributes; methods = methods }
@@ -78,12 +78,13 @@ attribute_changed = refl
 slots : map (λ p. p.0) (attributes classes 1) ≡ codes "n" ∷ codes "m" ∷ []
 slots = refl
 
--- x: Optional[int] = None; print(x is None); x = 2
--- if x is not None: print(x + 1)
-optional_value : run (plain ((codes "x", Optional Int) ∷ [])
-    (set 0 (as_type (Optional Int) (tree.Coerce (as_type Nothing tree.Nothing))) ▸ print (compare Is (g 0 (Optional Int)) (as_type Nothing tree.Nothing) ∷ [])
-    ▸ set 0 (as_type (Optional Int) (tree.Coerce (num 2)))
-    ▸ when (compare IsNot (g 0 (Optional Int)) (as_type Nothing tree.Nothing)) (print (arith Add (g 0 Int) (num 1) ∷ []) ▸ end) ▸ end))
+-- def f() -> None: x: Optional[int] = None; print(x is None); x = 2
+--                  if x is not None: print(x + 1)
+-- f()
+optional_value : run (module_of [] [] (func (codes "f") 0 ((codes "x", Optional Int) ∷ []) Nothing
+    (set_l 0 (as_type (Optional Int) (tree.Coerce (as_type Nothing tree.Nothing))) ▸ print (compare Is (l 0 (Optional Int)) (as_type Nothing tree.Nothing) ∷ [])
+    ▸ set_l 0 (as_type (Optional Int) (tree.Coerce (num 2)))
+    ▸ when (compare IsNot (l 0 Int) (as_type Nothing tree.Nothing)) (print (arith Add (l 0 Int) (num 1) ∷ []) ▸ end) ▸ end) ∷ []) (Do (call 0 Nothing []) ▸ end))
     ≡ (codes "True\n3\n", Some Done)
 unfolding digits source_run
 optional_value = refl
