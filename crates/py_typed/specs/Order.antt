@@ -17,6 +17,11 @@ abbrev pub first_there : {A B : Type 0} → (A → Option B) → List A → Opti
 first_there f [] = None
 first_there f (a ∷ more) = option_or (f a) (first_there f more)
 
+-- a member of a class: an attribute with its type, or a method with its function's number
+pub data Member : Type 0 where
+  AttributeMember : (t : Sort) → Member
+  MethodMember : (f : ℕ) → Member
+
 -- ---- the merge of C3
 
 abbrev pub has_class : ℕ → List ℕ → Bool
@@ -99,7 +104,15 @@ module _ (classes : List ClassEntry) where
   abbrev pub own_attribute : List ℕ → ℕ → Option Sort
   own_attribute name c = option_and_then (λ entry. named name entry.attributes) (slice_get classes c)
 
-  -- of the first class along the order that has the member
+  -- a class's own member of a name, of which it has no two
+  abbrev pub own_member : List ℕ → ℕ → Option Member
+  own_member name c = option_or (option_map MethodMember (own_method name c)) (option_map AttributeMember (own_attribute name c))
+
+  -- THE MEMBER of a class: that of the first class along the order that has one of this name
+  abbrev pub member_of : ℕ → List ℕ → Option Member
+  member_of c name = first_there (own_member name) (listed_order (order c))
+
+  -- its method and its attribute of a name, which are that member where all members of one name along the order are of one kind
   abbrev pub method_along : List ℕ → List ℕ → Option ℕ
   method_along name row = first_there (own_method name) row
 

@@ -43,7 +43,7 @@ module _ (m : TypedModule) where
     turns = n;
   }
 
--- where a run stops: its output; its ending, None where it is stuck, which no well-typed module is; the objects that it made;
+-- where a run stops: its output; its ending, None where it is stuck at a part that no well-typed module has; the objects that it made;
 -- and the values of the module's variables, None where one is unset
 pub record ModuleStop : Type 0 where
   pub output : List ℕ

@@ -16,8 +16,8 @@ pub record State : Type 0 where
   pub items : Items
   pub turns : ℕ
 
--- why a run stops for good: no turn was left; a line of input ends too far along; reading the input failed; or the part is none
--- that a well-typed module has
+-- why a run stops for good: no turn was left; a line of input ends too far along; reading the input failed; or the part is one
+-- of those that no well-typed module has
 pub data Stop : Type 0 where
   Cut : Stop
   Over : Stop

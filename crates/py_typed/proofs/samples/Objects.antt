@@ -9,7 +9,7 @@ use Rattle.py_syntax.specs.declared.expression.BinOp.TheVariants.{Add}
 use Rattle.py_syntax.specs.declared.expression.CmpOp.TheVariants.{Is, IsNot}
 use Rattle.py_typed.specs.Sorts.{Sort, Int, Nothing, Optional, Instance}
 use Rattle.py_typed.specs.Classes.{ClassEntry}
-use Rattle.py_typed.specs.Order.{attributes}
+use Rattle.py_typed.specs.Order.{AttributeMember, MethodMember, member_of, attributes}
 use Rattle.py_typed.specs.Expressions as tree
 use Rattle.py_typed.specs.Expressions.{TypedExpr}
 use Rattle.py_typed.specs.Statements.{Variable, TypedFunc, Assign, Do, AttrTarget, Aug}
@@ -73,6 +73,13 @@ attribute_changed : (source_run most Eof (module_of classes ((codes "a", Instanc
     ≡ InstObj 0 (Some (IntVal (pos 5)) ∷ []) ∷ []
 unfolding source_run
 attribute_changed = refl
+
+-- B takes `n` from A, and `get` is its own
+inherited : member_of classes 1 (codes "n") ≡ Some (AttributeMember Int)
+inherited = refl
+
+overridden : member_of classes 1 (codes "get") ≡ Some (MethodMember 2)
+overridden = refl
 
 -- an instance of B has the attributes of A before its own
 slots : map (λ p. p.0) (attributes classes 1) ≡ codes "n" ∷ codes "m" ∷ []
