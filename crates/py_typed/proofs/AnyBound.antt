@@ -108,27 +108,27 @@ spend_alike t {A = A} {d = d} {e = e} h s le = go s.turns (refl) le
             let r = h u refl (record s { turns = n }) (omega (arith, le)) in
             (r.0, leaves_on s (record s { turns = n }) _ (record { turns = omega (arith, q); output = begins s.output; store = le_refl _ }) r.1)
 
-same_turns : (s u : State) → u.turns ≡ s.turns → u.output ≡ s.output → u.store ≡ s.store → IsLater s u
+pub same_turns : (s u : State) → u.turns ≡ s.turns → u.output ≡ s.output → u.store ≡ s.store → IsLater s u
 same_turns s u p q r = record { turns = omega (arith, p); output = ([], q ∙ sym (append-nil s.output)); store = omega (arith, ap length r) }
 
-unset_later : (x : Option TypedTarget) (s : State) → IsLater s (unset x s)
+pub unset_later : (x : Option TypedTarget) (s : State) → IsLater s (unset x s)
 unset_later None s = stays s
 unset_later (Some (LocalTarget i)) s = same_turns s _ refl refl refl
 unset_later (Some (GlobalTarget i)) s = same_turns s _ refl refl refl
 unset_later (Some (AttrTarget e name)) s = stays s
 unset_later (Some (ItemTarget e i)) s = stays s
 
-read_leaves : (i : Items) (s : State) → LeavesLater s (next_line i s)
+pub read_leaves : (i : Items) (s : State) → LeavesLater s (next_line i s)
 read_leaves item.Eof s = stays s
 read_leaves item.Broken s = stays s
 read_leaves item.Over s = stays s
 read_leaves (item.Bad i) s = same_turns s _ refl refl refl
 read_leaves (item.Line l i) s = same_turns s _ refl refl refl
 
-longer : (l m : List Object) → length l ≤ length (l ++ m)
+pub longer : (l m : List Object) → length l ≤ length (l ++ m)
 longer l m = omega (arith, length-append l m)
 
-as_long : (l : List Object) (k : ℕ) (o : Object) → length l ≤ length (slice_set l k o)
+pub as_long : (l : List Object) (k : ℕ) (o : Object) → length l ≤ length (slice_set l k o)
 as_long l k o = omega (arith, length-set l k o)
 
 pub closed : Closed Alike Within
@@ -150,14 +150,11 @@ closed = record {
   insides = λ t locals p. set_alike t (λ s. record s { locals = locals; handled = [] }) (λ s u. record u { locals = s.locals; handled = s.handled }) (λ s. same_turns s _ refl refl refl) (λ s u. same_turns u _ refl refl refl) p;
   makes = λ t o s le. (refl, record { turns = le_refl _; output = begins s.output; store = longer s.store (o ∷ []) });
   puts = λ t k o s le. (refl, record { turns = le_refl _; output = begins s.output; store = as_long s.store k o });
-  sets_local = λ t i v s le. (refl, same_turns s _ refl refl refl);
-  sets_global = λ t i v s le. (refl, same_turns s _ refl refl refl);
+  puts_local = λ t i v s le. (refl, same_turns s _ refl refl refl);
+  puts_global = λ t i v s le. (refl, same_turns s _ refl refl refl);
   writes = λ t text s le. (refl, record { turns = le_refl _; output = (text, refl); store = le_refl _ });
   reads = λ t items s le. (refl, read_leaves items s);
 }
 
 pub any_bound : (m : TypedModule) (n k : ℕ) (s : State) → s.turns ≤ n → s.turns ≤ k → top_of m n s ≡ top_of m k s
 any_bound m n k s le le' = (top_alike closed m s.turns n k (le, le') s (le_refl _)).0
-
-pub only_adds : (m : TypedModule) (n : ℕ) (s : State) → s.turns ≤ n → LeavesLater s (top_of m n s)
-only_adds m n s le = (top_alike closed m s.turns n n (le, le) s (le_refl _)).1

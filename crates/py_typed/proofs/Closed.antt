@@ -3,7 +3,7 @@ use Rattle.std.proofs.Common.{◌≡◌, ℕ, zero, suc, ◌≤◌, List, Option
 use Rattle.value_core.specs.Items.{Items}
 use Rattle.value_core.specs.Value.{Value, Object}
 use Rattle.py_typed.specs.Statements.{TypedTarget}
-use Rattle.py_typed.specs.State.{State, Stop, Cut, Does, ◌>>=◌, ◌>>◌, give, raise, stop, look, spend, make, put, set_local, set_global, write}
+use Rattle.py_typed.specs.State.{State, Stop, Cut, Does, ◌>>=◌, ◌>>◌, give, raise, stop, look, spend, make, put, put_local, put_global, write}
 use Rattle.py_typed.specs.Operations.{next_line}
 use Rattle.py_typed.specs.WaysOut.{Flow, catch, finally, handling, unset_after, inside}
 
@@ -26,7 +26,7 @@ pub record Closed (R : ℕ → (A : Type 0) → Does A → Does A → Type 0) (A
   pub insides : (t : ℕ) (locals : List (Option Value)) {A : Type 0} {d e : Does A} → R t _ d e → R t _ (inside locals d) (inside locals e)
   pub makes : (t : ℕ) (o : Object) → R t _ (make o) (make o)
   pub puts : (t k : ℕ) (o : Object) → R t _ (put k o) (put k o)
-  pub sets_local : (t i : ℕ) (v : Option Value) → R t _ (set_local i v) (set_local i v)
-  pub sets_global : (t i : ℕ) (v : Option Value) → R t _ (set_global i v) (set_global i v)
+  pub puts_local : (t i : ℕ) (v : Option Value) → R t _ (put_local i v) (put_local i v)
+  pub puts_global : (t i : ℕ) (v : Option Value) → R t _ (put_global i v) (put_global i v)
   pub writes : (t : ℕ) (text : List ℕ) → R t _ (write text) (write text)
   pub reads : (t : ℕ) (items : Items) → R t _ (next_line items) (next_line items)

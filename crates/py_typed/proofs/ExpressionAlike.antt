@@ -1,5 +1,6 @@
 -- What an expression does is alike to itself, where calls are.
-use Rattle.std.proofs.Common.{ℕ, List, ◌∷◌, Option, Some, None, refl, slice_get, codes}
+use Rattle.std.proofs.Common.{ℕ, List, ◌∷◌, Option, Some, None, refl, length, nat_lt, slice_get, codes}
+use Rattle.std.specs.List.{list_all}
 use Rattle.value_core.specs.Value.{Value}
 use Rattle.py_typed.specs.Sorts.{Sort}
 use Rattle.py_typed.specs.Classes.{ClassEntry}
@@ -7,9 +8,10 @@ use Rattle.py_typed.specs.Order.{method_of, attributes, place_in}
 use Rattle.py_typed.specs.Expressions.{TypedExpr, typed, TypedNode, Int, Str, Flag, Nothing, Local, Global, Neg, Not, Truth, Arith, Concat, Compare, And, Or, Cond, ListOf, DictOf, TupleOf, Attr, At, TupleAt, Call, Make, MakeExc, Method, SuperInit, Print, Input, Len, ToStr, Append, Pop, Coerce, TypedExprs, no_exprs, expr_then, Comparisons, no_comparisons, comparison_then, Entries, no_entries, entry_then, MaybeExpr, no_expr, some_expr, type_of}
 use Rattle.py_typed.specs.Statements.{Variable}
 use Rattle.py_typed.specs.State.{Stuck, Does, Calls}
+use Rattle.py_typed.specs.Operations.{has_text}
 use Rattle.py_typed.specs.ExpressionMeaning.{value_in, read_local, read_global, attribute, set_attribute, start_with, new_instance, call_method, call_next, expression, node, expressions, chain, entries, text_or_empty}
 use Rattle.py_typed.proofs.Closed.{Closed}
-use Rattle.py_typed.proofs.OperationsAlike.{either, sures, coercions, arithmetics, negates, joins, instances, items_at, appends, pops, parts, truths, lengths, relations}
+use Rattle.py_typed.proofs.OperationsAlike.{either, sures, needed, coercions, arithmetics, negates, joins, instances, items_at, appends, pops, parts, truths, lengths, relations}
 
 module _ {R : ℕ → (A : Type 0) → Does A → Does A → Type 0} {Allowed : ℕ → ℕ → ℕ → Type 0} (k : Closed R Allowed) (t : ℕ) where
   values : {d : Does Value} → R t _ d d → (o : Option (Option Value)) → R t _ (value_in d o) (value_in d o)
@@ -28,7 +30,7 @@ module _ {R : ℕ → (A : Type 0) → Does A → Does A → Type 0} {Allowed : 
     attributes_read name o = instances k t o (λ j c vs. k.binds t (sures k t (place_in name (attributes classes c))) (λ i. values (k.raises t _) (slice_get vs i)))
 
     pub attributes_set : (name : List ℕ) (o v : Value) → R t _ (set_attribute classes name o v) (set_attribute classes name o v)
-    attributes_set name o v = instances k t o (λ j c vs. k.binds t (sures k t (place_in name (attributes classes c))) (λ i. k.puts t j _))
+    attributes_set name o v = instances k t o (λ j c vs. k.binds t (sures k t (place_in name (attributes classes c))) (λ i. needed k t (nat_lt i (length vs)) (k.puts t j _)))
 
     module _ (c c' : Calls) (calls : (f : ℕ) (args : List Value) → R t _ (c f args) (c' f args)) where
       starts : (f : Option ℕ) (o : Value) (args : List Value) → R t _ (start_with classes c f o args) (start_with classes c' f o args)
@@ -74,13 +76,13 @@ module _ {R : ℕ → (A : Type 0) → Does A → Does A → Type 0} {Allowed : 
           node_alike (TupleAt e i) s = k.binds t (expression_alike e) (λ x. parts k t i x)
           node_alike (Call f es) s = k.binds t (expressions_alike es) (λ vs. calls f vs)
           node_alike (Make n es) s = k.binds t (expressions_alike es) (λ vs. news n vs)
-          node_alike (MakeExc x e) s = k.binds t (text_alike e) (λ text. k.gives t _)
+          node_alike (MakeExc x e) s = k.binds t (text_alike e) (λ text. needed k t (has_text text) (k.gives t _))
           node_alike (Method e name es) s = k.binds t (expression_alike e) (λ o. k.binds t (expressions_alike es) (λ vs. methods name o vs))
           node_alike (SuperInit f es) s = k.binds t (locals_read locals 0) (λ o. k.binds t (expressions_alike es) (λ vs. nexts f o vs))
-          node_alike (Print es) s = k.binds t (expressions_alike es) (λ vs. k.writes t _)
+          node_alike (Print es) s = k.binds t (expressions_alike es) (λ vs. needed k t (list_all has_text vs) (k.writes t _))
           node_alike Input s = k.looks t (λ s. s.items) (λ s n. refl) (k.reads t)
           node_alike (Len e) s = k.binds t (expression_alike e) (λ x. lengths k t x)
-          node_alike (ToStr e) s = k.binds t (expression_alike e) (λ x. k.gives t _)
+          node_alike (ToStr e) s = k.binds t (expression_alike e) (λ x. needed k t (has_text x) (k.gives t _))
           node_alike (Append a b) s = k.binds t (expression_alike a) (λ l. k.binds t (expression_alike b) (λ v. appends k t l v))
           node_alike (Pop e) s = k.binds t (expression_alike e) (λ l. pops k t l)
           node_alike (Coerce e) s = k.binds t (expression_alike e) (λ x. coercions k t s x)

@@ -3,7 +3,7 @@ use Rattle.std.proofs.Common.{◌≡◌, Bool, true, false, ◌&&◌, List, Some
 use Rattle.py_typed.specs.Sorts.{Sort, Int, I64}
 use Rattle.py_typed.specs.Classes.{ClassEntry}
 use Rattle.py_typed.specs.Fits.{is_same_type, is_number, is_nothing, number_join, same, join}
-use Rattle.py_typed.specs.Laws.{BasesAreSmaller}
+use Rattle.py_typed.specs.Laws.{IsClassTree}
 use Rattle.py_typed.proofs.OneWayLemmas.{one_way}
 use Rattle.py_typed.proofs.FitLemmas.{type_is_itself, one_type, nothing_is, by_tests}
 
@@ -50,5 +50,5 @@ module _ (classes : List ClassEntry) (one_way : (s t : Sort) → same classes s 
   pub join_alike : (s t : Sort) → join classes s t ≡ join classes t s
   join_alike s t = alike s t _ _ _ _ _ _ _ _ refl refl refl refl refl refl refl refl
 
-pub join_symmetric : (classes : List ClassEntry) → BasesAreSmaller classes → (s t : Sort) → join classes s t ≡ join classes t s
-join_symmetric classes small = join_alike classes (one_way classes small)
+pub join_symmetric : (classes : List ClassEntry) → IsClassTree classes → (s t : Sort) → join classes s t ≡ join classes t s
+join_symmetric classes tree = join_alike classes (one_way classes tree)

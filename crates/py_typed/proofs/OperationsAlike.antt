@@ -1,5 +1,5 @@
 -- What operators and builtins do is alike to itself.
-use Rattle.std.proofs.Common.{ℕ, zero, suc, ℤ, pos, negsuc, Bool, true, false, List, [], ◌∷◌, ◌++◌, length, map, Option, Some, None, Result, Ok, Err, refl, slice_get, if◌then◌else◌}
+use Rattle.std.proofs.Common.{ℕ, zero, suc, ℤ, pos, negsuc, Bool, true, false, List, [], ◌∷◌, ◌++◌, length, map, Option, Some, None, Result, Ok, Err, refl, nat_lt, slice_get, if◌then◌else◌}
 use Rattle.value_core.specs.declared.arith.Arith.{Arith}
 use Rattle.value_core.specs.declared.arith.Arith.TheVariants.{Overflow, ZeroDivisor, NegativeShift, OutOfRange}
 use Rattle.value_core.specs.Arithmetic.{int_to_i64}
@@ -10,8 +10,8 @@ use Rattle.py_syntax.specs.declared.expression.BinOp.TheVariants.{Add, Sub, Mul,
 use Rattle.py_syntax.specs.declared.expression.CmpOp.{CmpOp}
 use Rattle.py_syntax.specs.declared.expression.CmpOp.TheVariants as compare
 use Rattle.py_typed.specs.Sorts.{Sort, Int, I64, Bool as BoolSort, Str, ListOf, DictOf, Optional}
-use Rattle.py_typed.specs.State.{Stuck, Does, sure}
-use Rattle.py_typed.specs.Operations.{raise_fault, number_of, of_int, of_i64, of_numbers, with_number, fitting, coerced, arithmetic, negated_as, negated, joined, combined, with_object, as_list, as_dict, as_instance, with_list, with_dict, with_instance, with_place, at_place, list_item, append_item, pop_item, letter, letters, tuple_part, key_place, at_key, dict_item, delete_entry, truth_of_object, truth_of, length_of_object, length_of, item_at, set_item, compared, compared_as, found, holds, key_sort}
+use Rattle.py_typed.specs.State.{Stuck, Does, sure, needs, set_local, set_global}
+use Rattle.py_typed.specs.Operations.{raise_fault, number_of, of_int, of_i64, of_numbers, with_number, fitting, coerced, arithmetic, negated_as, negated, joined, combined, with_object, as_list, as_dict, as_instance, with_list, with_dict, with_instance, with_place, at_place, list_item, append_item, pop_item, letter, letters, tuple_part, key_place, has_text, are_alike, at_key, dict_item, delete_entry, truth_of_object, truth_of, length_of_object, length_of, item_at, set_item, compared, compared_as, found, holds, key_sort}
 use Rattle.py_typed.proofs.Closed.{Closed}
 
 module _ {R : ℕ → (A : Type 0) → Does A → Does A → Type 0} {Allowed : ℕ → ℕ → ℕ → Type 0} (k : Closed R Allowed) (t : ℕ) where
@@ -22,6 +22,15 @@ module _ {R : ℕ → (A : Type 0) → Does A → Does A → Type 0} {Allowed : 
   pub sures : {A : Type 0} (o : Option A) → R t _ (sure o) (sure o)
   sures None = k.stops t Stuck
   sures (Some a) = k.gives t a
+
+  pub needed : {A : Type 0} {d e : Does A} (b : Bool) → R t _ d e → R t _ (needs b d) (needs b e)
+  needed b p = either b p (k.stops t Stuck)
+
+  pub sets_local : (i : ℕ) (v : Option Value) → R t _ (set_local i v) (set_local i v)
+  sets_local i v = k.looks t (λ s. nat_lt i (length s.locals)) (λ s n. refl) (λ b. needed b (k.puts_local t i v))
+
+  pub sets_global : (i : ℕ) (v : Option Value) → R t _ (set_global i v) (set_global i v)
+  sets_global i v = k.looks t (λ s. nat_lt i (length s.globals)) (λ s n. refl) (λ b. needed b (k.puts_global t i v))
 
   faults : {A : Type 0} (past : List ℕ) (fault : Arith) → R t A (raise_fault past fault) (raise_fault past fault)
   faults past Overflow = k.raises t _
@@ -149,7 +158,7 @@ module _ {R : ℕ → (A : Type 0) → Does A → Does A → Type 0} {Allowed : 
   letters_at _ i = k.stops t Stuck
 
   keys : {A : Type 0} (key : Value) (ps : List (Value × Value)) {f g : ℕ → Does A} → ((j : ℕ) → R t _ (f j) (g j)) → R t _ (at_key key ps f) (at_key key ps g)
-  keys key ps h = placed (k.raises t _) h (key_place key ps)
+  keys key ps h = placed (needed (has_text key) (k.raises t _)) h (key_place key ps)
 
   dict_items : (d key : Value) → R t _ (dict_item d key) (dict_item d key)
   dict_items d key = dicts d (λ j ps. keys key ps (λ m. sures (slice_get (map (λ p. p.1) ps) m)))
@@ -214,7 +223,7 @@ module _ {R : ℕ → (A : Type 0) → Does A → Does A → Type 0} {Allowed : 
   lengths _ = k.stops t Stuck
 
   comparisons : (test : Value → Value → Bool) (r s : Sort) (x y : Value) → R t _ (compared test r s x y) (compared test r s x y)
-  comparisons test r s x y = k.binds t (coercions (compared_as r s) x) (λ a. k.binds t (coercions (compared_as r s) y) (λ b. k.gives t _))
+  comparisons test r s x y = k.binds t (coercions (compared_as r s) x) (λ a. k.binds t (coercions (compared_as r s) y) (λ b. needed (are_alike a b) (k.gives t _)))
 
   founds : (s : Sort) (x d : Value) → R t _ (found s x d) (found s x d)
   founds s x d = k.binds t (coercions (key_sort s) x) (λ key. dicts d (λ j ps. k.gives t _))

@@ -1,6 +1,6 @@
 -- What a statement does is alike within two allowed bounds, where calls are.
 use Rattle.std.proofs.Common.{ℕ, zero, suc, pos, ◌+ℤ◌, Bool, List, [], ◌∷◌, length, map, Option, Some, None, refl, slice_get, int_lt, ◌==◌}
-use Rattle.value_core.specs.Value.{Value, IntVal, TupleVal, listed}
+use Rattle.value_core.specs.Value.{Value, IntVal, TupleVal, ExcVal, listed}
 use Rattle.py_syntax.specs.declared.expression.BinOp.{BinOp}
 use Rattle.py_typed.specs.Sorts.{Sort}
 use Rattle.py_typed.specs.Classes.{ClassEntry}
@@ -8,11 +8,11 @@ use Rattle.py_typed.specs.Fits.{fits}
 use Rattle.py_typed.specs.Expressions.{TypedExpr, type_of}
 use Rattle.py_typed.specs.Statements.{Variable, TypedTarget, LocalTarget, GlobalTarget, AttrTarget, ItemTarget, TypedStmt, on_line, TypedAct, Do, Assign, Aug, Del, If, While, ForRange, ForList, ForDict, Try, Raise, Return, Break, Continue, Assert, Pass, TypedSuite, no_stmts, stmt_then, Arms, no_arms, arm_then, Handlers, no_handlers, handler_then, MaybeSuite, no_suite, some_suite}
 use Rattle.py_typed.specs.State.{Stuck, Does, Calls, ◌>>◌, give, spend}
-use Rattle.py_typed.specs.Operations.{item_sort, key_sort, counted}
-use Rattle.py_typed.specs.WaysOut.{Flow, Goes, Breaks, Continues, Returns, flow_on, raise_again, catches, after_body, loop}
+use Rattle.py_typed.specs.Operations.{item_sort, key_sort, has_text, counted}
+use Rattle.py_typed.specs.WaysOut.{Flow, Goes, Breaks, Continues, Returns, flow_on, raise_again, raise_value, catches, after_body, loop}
 use Rattle.py_typed.specs.StatementMeaning.{target_sort, value_of, assign, coerce_each, assign_each, unpack, bind, update, changed, test_of, value_or, raised_by, fail_with, name_bound, handled_by, list_goes_on, list_next, dict_goes_on, dict_next, statement, act, suite, first_arm, handle, last_part}
 use Rattle.py_typed.proofs.Closed.{Closed}
-use Rattle.py_typed.proofs.OperationsAlike.{either, sures, with_numbers, coercions, combines, lists, dicts, items_at, sets_item, deletes, truths}
+use Rattle.py_typed.proofs.OperationsAlike.{either, sures, needed, sets_local, sets_global, with_numbers, coercions, combines, lists, dicts, items_at, sets_item, deletes, truths}
 use Rattle.py_typed.proofs.ExpressionAlike.{locals_read, globals_read, attributes_read, attributes_set, expression_alike}
 
 module _ {R : ℕ → (A : Type 0) → Does A → Does A → Type 0} {Allowed : ℕ → ℕ → ℕ → Type 0} (k : Closed R Allowed) where
@@ -43,8 +43,8 @@ module _ {R : ℕ → (A : Type 0) → Does A → Does A → Type 0} {Allowed : 
     expressions e = expression_alike k t classes c c' calls globals locals e
 
     assigns : (x : TypedTarget) (v : Value) → R t _ (assign classes c globals locals x v) (assign classes c' globals locals x v)
-    assigns (LocalTarget i) v = k.sets_local t i _
-    assigns (GlobalTarget i) v = k.sets_global t i _
+    assigns (LocalTarget i) v = sets_local k t i _
+    assigns (GlobalTarget i) v = sets_global k t i _
     assigns (AttrTarget e name) v = k.binds t (expressions e) (λ o. attributes_set k t classes name o v)
     assigns (ItemTarget e i) v = k.binds t (expressions e) (λ x. k.binds t (expressions i) (λ j. sets_item k t (type_of e) x j v))
 
@@ -72,8 +72,8 @@ module _ {R : ℕ → (A : Type 0) → Does A → Does A → Type 0} {Allowed : 
     binds_all (x ∷ y ∷ xs) s v = unpacks (x ∷ y ∷ xs) v
 
     updates : (x : TypedTarget) {f g : Value → Does Value} → ((v : Value) → R t _ (f v) (g v)) → R t _ (update classes c globals locals x f) (update classes c' globals locals x g)
-    updates (LocalTarget i) h = k.binds t (k.binds t (locals_read k t locals i) h) (λ v. k.sets_local t i _)
-    updates (GlobalTarget i) h = k.binds t (k.binds t (globals_read k t globals i) h) (λ v. k.sets_global t i _)
+    updates (LocalTarget i) h = k.binds t (k.binds t (locals_read k t locals i) h) (λ v. sets_local k t i _)
+    updates (GlobalTarget i) h = k.binds t (k.binds t (globals_read k t globals i) h) (λ v. sets_global k t i _)
     updates (AttrTarget e name) h = k.binds t (expressions e) (λ o. k.binds t (k.binds t (attributes_read k t classes name o) h) (λ v. attributes_set k t classes name o v))
     updates (ItemTarget e i) h =
         k.binds t (expressions e) (λ x. k.binds t (expressions i) (λ j. k.binds t (k.binds t (items_at k t (type_of e) x j) h) (λ v. sets_item k t (type_of e) x j v)))
@@ -92,13 +92,18 @@ module _ {R : ℕ → (A : Type 0) → Does A → Does A → Type 0} {Allowed : 
     again [] = k.stops t Stuck
     again (e ∷ es) = k.raises t e
 
+    raises_value : (v : Value) → R t _ (raise_value v) (raise_value v)
+    raises_value (ExcVal e) = k.raises t _
+    raises_value (IntVal n) = k.stops t Stuck
+    raises_value _ = k.stops t Stuck
+
     raises_by : (e : Option TypedExpr) → R t _ (raised_by classes c globals locals e) (raised_by classes c' globals locals e)
     raises_by None = k.looks t (λ s. s.handled) (λ s n. refl) again
-    raises_by (Some e) = k.binds t (expressions e) (λ v. k.raises t v)
+    raises_by (Some e) = k.binds t (expressions e) raises_value
 
     fails : (e : Option TypedExpr) → R t _ (fail_with classes c globals locals e) (fail_with classes c' globals locals e)
     fails None = k.raises t _
-    fails (Some e) = k.binds t (expressions e) (λ v. k.raises t _)
+    fails (Some e) = k.binds t (expressions e) (λ v. needed k t (has_text v) (k.raises t _))
 
     names : (x : Option TypedTarget) (v : Value) → R t _ (name_bound classes c globals locals x v) (name_bound classes c' globals locals x v)
     names None v = k.gives t _

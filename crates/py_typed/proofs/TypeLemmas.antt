@@ -1,12 +1,11 @@
 -- Where one row of types has come to its end.
-use Rattle.std.proofs.Common.{◌≡◌, ℕ, zero, suc, ◌≤◌, ◌<◌, List, [], ◌∷◌, ◌-◌, ◌||◌, ◌==◌, length, map, drop, slice_get, true, false, nat_eq, refl, ap, ◌∙◌, arith}
+use Rattle.std.proofs.Common.{◌≡◌, ℕ, zero, suc, ◌≤◌, ◌<◌, List, [], ◌∷◌, length, map, drop, slice_get, true, false, nat_eq, refl, arith}
 use Rattle.std.proofs.lemmas.Grind.{common_steps}
 use Rattle.py_typed.specs.declared.types.Ty.{Ty}
 use Rattle.py_typed.specs.Sorts.{Sorts, no_sorts, sort, sorts_of}
 use Rattle.py_typed.specs.declared.classes.ClassInfo.{ClassInfo}
 use Rattle.std.specs.Option.{option_map}
-use Rattle.std.specs.List.{list_any}
-use Rattle.py_typed.specs.Classes.{ClassEntry, class_entry, bases_of, is_under_by}
+use Rattle.py_typed.specs.Classes.{ClassEntry, class_entry}
 use Rattle.py_typed.specs.Fits.{are_same_types, all_same}
 use Rattle.py_typed.specs.TypeTexts.{types_text, further_types}
 
@@ -52,14 +51,3 @@ pub entry_found : (classes : List ClassInfo) (c : ℕ) → slice_get (map class_
 entry_found [] c = refl
 entry_found (i ∷ more) zero = refl
 entry_found (i ∷ more) (suc c) = entry_found more c
-
-pub under_at_last : (classes : List ClassEntry) (d c : ℕ) → (c == d) ≡ false → is_under_by classes 0 d c ≡ false
-under_at_last classes d c e = e
-
-one_less : (n : ℕ) → n ≡ suc n - 1
-one_less n = omega arith
-
-pub under_by_bases : (classes : List ClassEntry) (steps d c : ℕ) → (c == d) ≡ false → 0 < steps → is_under_by classes steps d c ≡ list_any (is_under_by classes (steps - 1) d) (bases_of classes c)
-under_by_bases classes zero d c e lt = absurd (omega (arith, lt))
-under_by_bases classes (suc steps) d c e lt =
-    ap (λ b. b || list_any (is_under_by classes steps d) (bases_of classes c)) e ∙ ap (λ n. list_any (is_under_by classes n d) (bases_of classes c)) (one_less steps)

@@ -4,5 +4,6 @@ mod Collections
 mod Objects
 mod Flows
 mod Inputs
+mod Stops
 mod Types
 mod Typing

@@ -1,5 +1,6 @@
 -- What an expression does (Python Language Reference, "Expressions"): parts go from left to right, and each part only where it is needed.
-use Rattle.std.specs.Prelude.{ℕ, true, false, not, List, [], ◌∷◌, ◌++◌, length, replicate, Option, Some, None, slice_get, slice_set, if◌then◌else◌, codes}
+use Rattle.std.specs.Prelude.{ℕ, true, false, not, nat_lt, List, [], ◌∷◌, ◌++◌, length, replicate, Option, Some, None, slice_get, slice_set, if◌then◌else◌, codes}
+use Rattle.std.specs.List.{list_all}
 use Rattle.value_core.specs.declared.exception.ExcClass.TheVariants.{AttributeError, NameError, UnboundLocalError}
 use Rattle.value_core.specs.Exceptions.{thrown}
 use Rattle.value_core.specs.Value.{Value, IntVal, BoolVal, NoneVal, StrVal, TupleVal, ExcVal, tupled, ListObj, DictObj, InstObj}
@@ -9,8 +10,8 @@ use Rattle.py_typed.specs.Order.{method_of, attributes, place_in}
 use Rattle.py_typed.specs.TypeTexts.{name_in}
 use Rattle.py_typed.specs.Expressions.{TypedExpr, typed, TypedNode, Int, Str, Flag, Nothing, Local, Global, Neg, Not, Truth, Arith, Concat, Compare, And, Or, Cond, ListOf, DictOf, TupleOf, Attr, At, TupleAt, Call, Make, MakeExc, Method, SuperInit, Print, Input, Len, ToStr, Append, Pop, Coerce, TypedExprs, no_exprs, expr_then, Comparisons, no_comparisons, comparison_then, Entries, no_entries, entry_then, MaybeExpr, no_expr, some_expr, type_of}
 use Rattle.py_typed.specs.Statements.{Variable}
-use Rattle.py_typed.specs.State.{Stuck, Does, Calls, ◌>>=◌, ◌>>◌, give, stop, raise_new, look, sure, make, put, write}
-use Rattle.py_typed.specs.Operations.{coerced, arithmetic, negated, joined, holds, with_instance, item_at, tuple_part, append_item, pop_item, entered, text_of, line_of, truth_of, length_of, next_line}
+use Rattle.py_typed.specs.State.{Stuck, Does, Calls, ◌>>=◌, ◌>>◌, give, stop, raise_new, look, sure, needs, make, put, write}
+use Rattle.py_typed.specs.Operations.{coerced, arithmetic, negated, joined, holds, with_instance, item_at, tuple_part, append_item, pop_item, entered, has_text, text_of, line_of, truth_of, length_of, next_line}
 
 -- ---- variables
 
@@ -48,7 +49,7 @@ module _ (classes : List ClassEntry) where
 
   abbrev pub set_attribute : List ℕ → Value → Value → Does (Unit {0})
   set_attribute name o v =
-      with_instance o (λ k c vs. sure (place_in name (attributes classes c)) >>= λ i. put k (InstObj c (slice_set vs i (Some v))))
+      with_instance o (λ k c vs. sure (place_in name (attributes classes c)) >>= λ i. needs (nat_lt i (length vs)) (put k (InstObj c (slice_set vs i (Some v)))))
 
   module _ (call : Calls) where
     -- a function on an object, if there is one; its result is dropped
@@ -144,7 +145,7 @@ module _ (classes : List ClassEntry) where
           new_instance c vs
         node (MakeExc c e) t = do
           text ← text_or_empty e
-          give (ExcVal (thrown c (text_of text)))
+          needs (has_text text) (give (ExcVal (thrown c (text_of text))))
         node (Method e name es) t = do
           o ← expression e
           vs ← expressions es
@@ -155,14 +156,14 @@ module _ (classes : List ClassEntry) where
           call_next f o vs
         node (Print es) t = do
           vs ← expressions es
-          write (line_of vs)
+          needs (list_all has_text vs) (write (line_of vs))
         node Input t = look (λ s. s.items) next_line
         node (Len e) t = do
           x ← expression e
           length_of x
         node (ToStr e) t = do
           x ← expression e
-          give (StrVal (text_of x))
+          needs (has_text x) (give (StrVal (text_of x)))
         node (Append a b) t = do
           l ← expression a
           v ← expression b

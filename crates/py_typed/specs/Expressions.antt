@@ -137,3 +137,9 @@ typed_expr = fold-TExpr TypedNode TypedExpr node_step expr_step
 
 abbrev pub typed_node : TKind → TypedNode
 typed_node = fold-TKind TypedNode TypedExpr node_step expr_step
+
+abbrev pub typed_comparison : CmpOp × TExpr → CmpOp × TypedExpr
+typed_comparison c = (c.0, typed_expr c.1)
+
+abbrev pub typed_entry : TExpr × TExpr → TypedExpr × TypedExpr
+typed_entry e = (typed_expr e.0, typed_expr e.1)

@@ -1,10 +1,10 @@
 -- What holds of every run of every module, and of what fits and of joins.
-use Rattle.std.specs.Prelude.{◌≡◌, ◌≢◌, true, nat_lt, ℕ, ◌+◌, ◌≤◌, List, ◌++◌, length, Some}
-use Rattle.std.specs.List.{list_all}
+use Rattle.std.specs.Prelude.{◌≡◌, ◌≢◌, true, ◌==◌, ◌||◌, nat_lt, ℕ, ◌+◌, ◌≤◌, List, ◌++◌, length, Some}
+use Rattle.std.specs.List.{list_any, list_all}
 use Rattle.value_core.specs.Ending.{Cut}
 use Rattle.value_core.specs.Items.{Items}
 use Rattle.py_typed.specs.Sorts.{Sort}
-use Rattle.py_typed.specs.Classes.{ClassEntry, bases_of}
+use Rattle.py_typed.specs.Classes.{ClassEntry, bases_of, has_the_same, is_class_under, bases_and_above, lists_what_is_above, those_above}
 use Rattle.py_typed.specs.Fits.{same, fits, join}
 use Rattle.py_typed.specs.Statements.{TypedModule}
 use Rattle.py_typed.specs.State.{State, Outcome, Gives, Raises, Stops}
@@ -35,14 +35,15 @@ LeavesLater s (Stops w u) = IsLater s u
 abbrev pub AnyBoundServes : Type 0
 AnyBoundServes = (m : TypedModule) (n k : ℕ) (s : State) → s.turns ≤ n → s.turns ≤ k → top_of m n s ≡ top_of m k s
 
--- for a bound of at least the turns left: turns never rise, output only grows, and the store is never shortened
+-- turns never rise, output only grows, and the store is never shortened
 abbrev pub RunsOnlyAdd : Type 0
-RunsOnlyAdd = (m : TypedModule) (n : ℕ) (s : State) → s.turns ≤ n → LeavesLater s (top_of m n s)
+RunsOnlyAdd = (m : TypedModule) (n : ℕ) (s : State) → LeavesLater s (top_of m n s)
 
--- the output of a run for more turns begins with that of one that was cut, and one that was not cut is the same for more
--- turns
+-- the output of a run for more turns begins with that of one that was cut, and its store is not shorter; one that was not cut is
+-- the same for more turns
 pub record Continues (short long : ModuleStop) : Type 0 where
   pub cut : short.ending ≡ Some Cut → Begins short.output long.output
+  pub kept : short.ending ≡ Some Cut → length short.store ≤ length long.store
   pub whole : short.ending ≢ Some Cut → long ≡ short
 
 abbrev pub LongerRunsContinue : Type 0
@@ -59,10 +60,27 @@ SameFits = (classes : List ClassEntry) (s t : Sort) → same classes s t ≡ tru
 abbrev pub JoinHoldsBoth : Type 0
 JoinHoldsBoth = (classes : List ClassEntry) (s t u : Sort) → join classes s t ≡ Some u → (fits classes s u ≡ true) × (fits classes t u ≡ true)
 
--- each base has a smaller number than its class
-abbrev pub BasesAreSmaller : List ClassEntry → Type 0
-BasesAreSmaller classes = (c : ℕ) → list_all (λ b. nat_lt b c) (bases_of classes c) ≡ true
+-- a class that lists what is above it stands under another exactly where it is that one, or one of its bases stands under it
+abbrev pub UnderByBases : Type 0
+UnderByBases = (classes : List ClassEntry) (c d : ℕ) → lists_what_is_above classes c ≡ true
+    → is_class_under classes c d ≡ ((c == d) || list_any (λ b. is_class_under classes b d) (bases_of classes c))
 
--- then a join does not hang on the order of its parts
+-- what is made for a class with some bases is what it has to list
+abbrev pub AboveIsMade : Type 0
+AboveIsMade = (classes : List ClassEntry) (bases : List ℕ) → has_the_same (those_above classes bases) (bases_and_above classes bases) ≡ true
+
+-- a tree of classes: each base has a smaller number than its class, and each class lists what is above it
+pub record IsClassTree (classes : List ClassEntry) : Type 0 where
+  pub falls : (c : ℕ) → list_all (λ b. nat_lt b c) (bases_of classes c) ≡ true
+  pub lists : (c : ℕ) → lists_what_is_above classes c ≡ true
+
+-- then what is of a type as it stands is also of what that type is of, and what fits a type fits also what that type fits
+abbrev pub SameGoesOn : Type 0
+SameGoesOn = (classes : List ClassEntry) → IsClassTree classes → (s t u : Sort) → same classes s t ≡ true → same classes t u ≡ true → same classes s u ≡ true
+
+abbrev pub FitsGoesOn : Type 0
+FitsGoesOn = (classes : List ClassEntry) → IsClassTree classes → (s t u : Sort) → fits classes s t ≡ true → fits classes t u ≡ true → fits classes s u ≡ true
+
+-- and a join does not hang on the order of its parts
 abbrev pub JoinIsSymmetric : Type 0
-JoinIsSymmetric = (classes : List ClassEntry) → BasesAreSmaller classes → (s t : Sort) → join classes s t ≡ join classes t s
+JoinIsSymmetric = (classes : List ClassEntry) → IsClassTree classes → (s t : Sort) → join classes s t ≡ join classes t s

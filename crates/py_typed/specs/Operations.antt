@@ -18,7 +18,7 @@ use Rattle.py_syntax.specs.declared.expression.BinOp.TheVariants.{Add, Sub, Mul,
 use Rattle.py_syntax.specs.declared.expression.CmpOp.{CmpOp}
 use Rattle.py_syntax.specs.declared.expression.CmpOp.TheVariants as compare
 use Rattle.py_typed.specs.Sorts.{Sort, Int, I64, Str, ListOf, DictOf, Optional}
-use Rattle.py_typed.specs.State.{Over, Broken, Stuck, Does, Gives, Raises, ◌>>=◌, ◌>>◌, give, stop, raise_new, look, sure, put, set_items}
+use Rattle.py_typed.specs.State.{Over, Broken, Stuck, Does, Gives, Raises, ◌>>=◌, ◌>>◌, give, stop, raise_new, look, sure, needs, put, set_items}
 
 -- ---- numbers
 
@@ -131,6 +131,13 @@ is_less (IntVal a) (IntVal b) = int_lt a b
 is_less (BoolVal false) (BoolVal b) = b
 is_less (StrVal s) (StrVal t) = comes_before (chars s) (chars t)
 is_less _ _ = false
+
+-- two numbers, two bools or two texts
+abbrev pub are_alike : Value → Value → Bool
+are_alike (IntVal a) (IntVal b) = true
+are_alike (BoolVal a) (BoolVal b) = true
+are_alike (StrVal s) (StrVal t) = true
+are_alike _ _ = false
 
 abbrev pub is_none : Value → Bool
 is_none NoneVal = true
@@ -246,7 +253,15 @@ entered (p ∷ ps) pairs = entered ps (with_entry p.0 p.1 pairs)
 abbrev pub flag_text : Bool → List ℕ
 flag_text b = if b then codes "True" else codes "False"
 
--- as `print` and `str` write it
+-- `print` and `str` take numbers, bools, texts and exceptions
+abbrev pub has_text : Value → Bool
+has_text (IntVal n) = true
+has_text (BoolVal b) = true
+has_text (StrVal t) = true
+has_text (ExcVal e) = true
+has_text _ = false
+
+-- as they write it
 abbrev pub text_of : Value → List ℕ
 text_of (IntVal n) = signed_decimal n
 text_of (BoolVal b) = flag_text b
@@ -262,7 +277,7 @@ line_of (v ∷ vs) = text_of v ++ 32 ∷ line_of vs
 
 -- a key that is not there is the text of the exception
 abbrev pub at_key : {A : Type 0} → Value → List (Value × Value) → (ℕ → Does A) → Does A
-at_key key ps f = with_place (raise_new KeyError (text_of key)) f (key_place key ps)
+at_key key ps f = with_place (needs (has_text key) (raise_new KeyError (text_of key))) f (key_place key ps)
 
 abbrev pub dict_item : Value → Value → Does Value
 dict_item d key = with_dict d (λ k ps. at_key key ps (λ j. sure (slice_get (map (λ p. p.1) ps) j)))
@@ -342,7 +357,7 @@ item_sort t = t
 
 -- both operands are there before the first is coerced
 abbrev pub compared : (Value → Value → Bool) → Sort → Sort → Value → Value → Does Bool
-compared test s t x y = coerced (compared_as s t) x >>= λ a. coerced (compared_as s t) y >>= λ b. give (test a b)
+compared test s t x y = coerced (compared_as s t) x >>= λ a. coerced (compared_as s t) y >>= λ b. needs (are_alike a b) (give (test a b))
 
 abbrev pub found : Sort → Value → Value → Does Bool
 found t x d = coerced (key_sort t) x >>= λ key. has_key d key

@@ -5,7 +5,7 @@ use Rattle.std.specs.List.{list_any, flat_map}
 use Rattle.std.specs.Option.{option_map, option_and_then, option_or}
 use Rattle.std.specs.Str.{bytes_eq}
 use Rattle.py_typed.specs.Sorts.{Sort}
-use Rattle.py_typed.specs.Classes.{ClassEntry, bases_of}
+use Rattle.py_typed.specs.Classes.{ClassEntry, bases_of, has_class}
 
 -- all of them, where each is there
 abbrev pub all_there : {A : Type 0} → List (Option A) → Option (List A)
@@ -23,9 +23,6 @@ pub data Member : Type 0 where
   MethodMember : (f : ℕ) → Member
 
 -- ---- the merge of C3
-
-abbrev pub has_class : ℕ → List ℕ → Bool
-has_class c classes = list_any (λ d. d == c) classes
 
 -- the class stands in no row but at its head
 abbrev pub is_free : List (List ℕ) → ℕ → Bool

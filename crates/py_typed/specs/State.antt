@@ -1,5 +1,5 @@
 -- The state of a running module, what a part of it does to the state, and how one part follows another.
-use Rattle.std.specs.Prelude.{ℕ, zero, suc, List, [], ◌∷◌, ◌++◌, length, Option, Some, None, slice_set}
+use Rattle.std.specs.Prelude.{ℕ, zero, suc, Bool, if◌then◌else◌, nat_lt, List, [], ◌∷◌, ◌++◌, length, Option, Some, None, slice_set}
 use Rattle.value_core.specs.declared.exception.ExcClass.{ExcClass}
 use Rattle.value_core.specs.Exceptions.{thrown}
 use Rattle.value_core.specs.Items.{Items}
@@ -78,6 +78,10 @@ or_else otherwise (Some a) = give a
 abbrev pub sure : {A : Type 0} → Option A → Does A
 sure o = or_else (stop Stuck) o
 
+-- what comes where this holds, as it always does in a well-typed module
+abbrev pub needs : {A : Type 0} → Bool → Does A → Does A
+needs holds d = if holds then d else stop Stuck
+
 -- ---- turns
 
 -- one turn less, or the end of the run where none is left
@@ -98,11 +102,18 @@ make o s = Gives (ObjVal (length s.store)) (record s { store = s.store ++ o ∷ 
 abbrev pub put : ℕ → Object → Does (Unit {0})
 put k o s = Gives tt (record s { store = slice_set s.store k o })
 
+abbrev pub put_local : ℕ → Option Value → Does (Unit {0})
+put_local i v s = Gives tt (record s { locals = slice_set s.locals i v })
+
+abbrev pub put_global : ℕ → Option Value → Does (Unit {0})
+put_global i v s = Gives tt (record s { globals = slice_set s.globals i v })
+
+-- another value for a variable that is there
 abbrev pub set_local : ℕ → Option Value → Does (Unit {0})
-set_local i v s = Gives tt (record s { locals = slice_set s.locals i v })
+set_local i v = look (λ s. nat_lt i (length s.locals)) (λ there. needs there (put_local i v))
 
 abbrev pub set_global : ℕ → Option Value → Does (Unit {0})
-set_global i v s = Gives tt (record s { globals = slice_set s.globals i v })
+set_global i v = look (λ s. nat_lt i (length s.globals)) (λ there. needs there (put_global i v))
 
 abbrev pub write : List ℕ → Does Value
 write text s = Gives NoneVal (record s { output = s.output ++ text })

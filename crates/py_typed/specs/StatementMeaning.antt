@@ -9,10 +9,10 @@ use Rattle.py_typed.specs.Fits.{fits}
 use Rattle.py_typed.specs.Order.{attribute_of}
 use Rattle.py_typed.specs.Expressions.{TypedExpr, type_of}
 use Rattle.py_typed.specs.Statements.{Variable, TypedTarget, LocalTarget, GlobalTarget, AttrTarget, ItemTarget, TypedStmt, on_line, TypedAct, Do, Assign, Aug, Del, If, While, ForRange, ForList, ForDict, Try, Raise, Return, Break, Continue, Assert, Pass, TypedSuite, no_stmts, stmt_then, Arms, no_arms, arm_then, Handlers, no_handlers, handler_then, MaybeSuite, no_suite, some_suite}
-use Rattle.py_typed.specs.State.{Stuck, Does, Calls, ◌>>=◌, ◌>>◌, give, raise, stop, raise_new, look, sure, set_local, set_global}
-use Rattle.py_typed.specs.Operations.{coerced, combined, with_number, with_list, with_dict, item_at, set_item, item_sort, key_sort, delete_entry, truth_of, text_of, counted}
+use Rattle.py_typed.specs.State.{Stuck, Does, Calls, ◌>>=◌, ◌>>◌, give, raise, stop, raise_new, look, sure, needs, set_local, set_global}
+use Rattle.py_typed.specs.Operations.{coerced, combined, with_number, with_list, with_dict, item_at, set_item, item_sort, key_sort, delete_entry, truth_of, has_text, text_of, counted}
 use Rattle.py_typed.specs.ExpressionMeaning.{expression, read_local, read_global, attribute, set_attribute}
-use Rattle.py_typed.specs.WaysOut.{Flow, Goes, Breaks, Continues, Returns, flow_on, catch, finally, handling, raise_again, catches, unset_after, loop}
+use Rattle.py_typed.specs.WaysOut.{Flow, Goes, Breaks, Continues, Returns, flow_on, catch, finally, handling, raise_again, raise_value, catches, unset_after, loop}
 
 -- ---- the types of targets
 
@@ -94,11 +94,11 @@ module _ (classes : List ClassEntry) (call : Calls) (globals locals : List Varia
 
   abbrev pub raised_by : Option TypedExpr → Does Flow
   raised_by None = look (λ s. s.handled) raise_again
-  raised_by (Some e) = value_of e >>= raise
+  raised_by (Some e) = value_of e >>= raise_value
 
   abbrev pub fail_with : Option TypedExpr → Does Flow
   fail_with None = raise_new AssertionError []
-  fail_with (Some e) = value_of e >>= λ v. raise_new AssertionError (text_of v)
+  fail_with (Some e) = value_of e >>= λ v. needs (has_text v) (raise_new AssertionError (text_of v))
 
   abbrev pub name_bound : Option TypedTarget → Value → Does (Unit {0})
   name_bound None e = give tt

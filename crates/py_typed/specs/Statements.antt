@@ -7,6 +7,8 @@ use Rattle.py_typed.specs.declared.expression.TExpr.{TExpr}
 use Rattle.py_typed.specs.declared.statement.Target.{Target}
 use Rattle.py_typed.specs.declared.statement.Target.TheVariants as target
 use Rattle.py_typed.specs.declared.statement.TStmt.{TStmt, fold-TStmt}
+use Rattle.py_typed.specs.declared.statement.TStmtKind.{TStmtKind, fold-TStmtKind}
+use Rattle.py_typed.specs.declared.statement.THandler.{THandler, fold-THandler}
 use Rattle.py_typed.specs.declared.statement.TStmtKind.TheOpen.{TStmtKind-F, THandler-F, TStmt-F}
 use Rattle.py_typed.specs.declared.checked.Var.{Var}
 use Rattle.py_typed.specs.declared.checked.TFunc.{TFunc}
@@ -132,8 +134,17 @@ stmt_step s = on_line s.kind s.line
 abbrev pub typed_stmt : TStmt → TypedStmt
 typed_stmt = fold-TStmt TypedAct HandlerParts TypedStmt act_step handler_step stmt_step
 
+abbrev pub typed_act : TStmtKind → TypedAct
+typed_act = fold-TStmtKind TypedAct HandlerParts TypedStmt act_step handler_step stmt_step
+
+abbrev pub typed_handler : THandler → HandlerParts
+typed_handler = fold-THandler TypedAct HandlerParts TypedStmt act_step handler_step stmt_step
+
 abbrev pub typed_suite : List TStmt → TypedSuite
 typed_suite ss = suite_of (map typed_stmt ss)
+
+abbrev pub typed_arm : TExpr × List TStmt → TypedExpr × TypedSuite
+typed_arm a = (typed_expr a.0, typed_suite a.1)
 
 -- a variable: its name and its type
 abbrev pub Variable : Type 0

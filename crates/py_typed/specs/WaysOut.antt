@@ -55,6 +55,11 @@ abbrev pub raise_again : List Value → Does Flow
 raise_again [] = stop Stuck
 raise_again (e ∷ es) = raise e
 
+-- an exception that is raised
+abbrev pub raise_value : Value → Does Flow
+raise_value (ExcVal e) = raise (ExcVal e)
+raise_value _ = stop Stuck
+
 abbrev pub catches : List ExcClass → Value → Bool
 catches classes (ExcVal e) = list_any (is_under e.class) classes
 catches classes _ = false

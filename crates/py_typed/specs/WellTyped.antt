@@ -15,6 +15,7 @@ use Rattle.py_typed.specs.StatementMeaning.{attribute_sort, sort_at}
 use Rattle.py_typed.specs.Operations.{item_sort, key_sort}
 use Rattle.py_typed.specs.Narrowing.{is_in, facts, without, bound_by_all, bound_suite, bound_handlers, bound_last, bound_by_name, after_target, after_parts, part_sorts, after}
 use Rattle.py_typed.specs.WellTypedExpr.{is_none_literal, is_exception, is_type, operation_sort, indexed, reads_as, is_typed, is_value}
+use Rattle.py_typed.specs.WellTypedExpr as expr
 
 -- ---- names
 
@@ -24,6 +25,10 @@ is_called_in names x = list_any (bytes_eq x) names
 abbrev pub all_differ : List (List ℕ) → Bool
 all_differ [] = true
 all_differ (x ∷ more) = not (is_called_in more x) && all_differ more
+
+abbrev pub has_statement : TypedSuite → Bool
+has_statement no_stmts = false
+has_statement (stmt_then s more) = true
 
 -- ---- statements, in a function with these locals, of this result (None at module level)
 
@@ -96,7 +101,7 @@ module _ (m : TypedModule) (locals : List Variable) (init : Option ℕ) (result 
   update_fits known t o operand s = is_type (operation_sort o (read_type known t) operand) s && fits classes_of s (target_type t)
 
   abbrev pub is_test : List ℕ → TypedExpr → Bool
-  is_test known e = is_value m locals init known e && is_same_type (type_of e) sort.Bool
+  is_test known e = expr.is_test m locals init known e
 
   abbrev pub maybe_of_type : List ℕ → Sort → Option TypedExpr → Bool
   maybe_of_type known t None = true
@@ -131,6 +136,10 @@ module _ (m : TypedModule) (locals : List Variable) (init : Option ℕ) (result 
   name_fits None = true
   name_fits (Some t) = is_name t && target_typed [] t && fits classes_of (Exc Exception) (target_type t)
 
+  abbrev pub has_arm : Arms → Bool
+  has_arm no_arms = false
+  has_arm (arm_then test body more) = true
+
   abbrev pub has_part : Handlers → MaybeSuite → Bool
   has_part no_handlers no_suite = false
   has_part hs last = true
@@ -143,6 +152,10 @@ module _ (m : TypedModule) (locals : List Variable) (init : Option ℕ) (result 
       loop_parts true = after_parts (without (bound_by_all ts ++ bound_suite body) known) ts (s ∷ [])
       loop_parts false = after_parts (without (bound_by_all ts ++ bound_suite body) known) ts (part_sorts s)
 
+  -- in a function each body has a statement; one of a module's own may hold imports alone, which have no typed form
+  abbrev pub is_body : TypedSuite → Bool
+  is_body body = not (is_there result) || has_statement body
+
   -- with the names known not to be None; whether a loop and whether a handler is around
   abbrev mutual
     pub stmt_typed : List ℕ → Bool → Bool → TypedStmt → Bool
@@ -154,20 +167,20 @@ module _ (m : TypedModule) (locals : List Variable) (init : Option ℕ) (result 
         is_value m locals init known e && is_filled ts && targets_typed known ts (part_sorts (type_of e)) && assignment_fits ts (type_of e)
     act_typed known looping handling (Aug t o e s) = is_value m locals init known e && target_typed known t && update_fits known t o (type_of e) s
     act_typed known looping handling (Del e i) = is_value m locals init known e && is_value m locals init known i && is_dict_type (type_of e) && is_there (indexed (type_of e) (type_of i))
-    act_typed known looping handling (If arms other) = arms_typed known looping handling arms (λ there. suite_typed there looping handling other)
+    act_typed known looping handling (If arms other) = has_arm arms && arms_typed known looping handling arms (λ there. suite_typed there looping handling other)
     act_typed known looping handling (While test body) =
-        is_test (without (bound_suite body) known) test && suite_typed (facts true test ++ without (bound_suite body) known) true handling body
+        is_test (without (bound_suite body) known) test && is_body body && suite_typed (facts true test ++ without (bound_suite body) known) true handling body
     act_typed known looping handling (ForRange ts a b body) =
         is_value m locals init known b && is_range_type (type_of b) && maybe_of_type known (type_of b) a && items_fit known ts (type_of b)
-        && suite_typed (in_loop_from known ts (type_of b) body) true handling body
+        && is_body body && suite_typed (in_loop_from known ts (type_of b) body) true handling body
     act_typed known looping handling (ForList ts e body) =
         is_value m locals init known e && is_list_type (type_of e) && items_fit known ts (item_sort (type_of e))
-        && suite_typed (in_loop_from known ts (item_sort (type_of e)) body) true handling body
+        && is_body body && suite_typed (in_loop_from known ts (item_sort (type_of e)) body) true handling body
     act_typed known looping handling (ForDict ts e body) =
         is_value m locals init known e && is_dict_type (type_of e) && items_fit known ts (key_sort (type_of e))
-        && suite_typed (in_loop_from known ts (key_sort (type_of e)) body) true handling body
+        && is_body body && suite_typed (in_loop_from known ts (key_sort (type_of e)) body) true handling body
     act_typed known looping handling (Try body handlers last) =
-        has_part handlers last && suite_typed known looping handling body
+        has_part handlers last && is_body body && suite_typed known looping handling body
         && handlers_typed (without (bound_suite body ++ bound_handlers handlers ++ bound_last last) known) looping handlers
         && last_typed (without (bound_suite body ++ bound_handlers handlers ++ bound_last last) known) looping handling last
     act_typed known looping handling (Raise e) = raise_fits known handling e
@@ -186,14 +199,14 @@ module _ (m : TypedModule) (locals : List Variable) (init : Option ℕ) (result 
     pub arms_typed : List ℕ → Bool → Bool → Arms → (List ℕ → Bool) → Bool
     arms_typed known looping handling no_arms other = other known
     arms_typed known looping handling (arm_then test body more) other =
-        is_test known test && suite_typed (facts true test ++ known) looping handling body && arms_typed (facts false test ++ known) looping handling more other
+        is_test known test && is_body body && suite_typed (facts true test ++ known) looping handling body && arms_typed (facts false test ++ known) looping handling more other
 
     -- the exception that a handler names is none that may be None
     pub handlers_typed : List ℕ → Bool → Handlers → Bool
     handlers_typed known looping no_handlers = true
     handlers_typed known looping (handler_then classes name body more) =
-        is_filled classes && name_fits name && suite_typed (bound_by_name name ++ known) looping true body && handlers_typed known looping more
+        is_filled classes && name_fits name && is_body body && suite_typed (bound_by_name name ++ known) looping true body && handlers_typed known looping more
 
     pub last_typed : List ℕ → Bool → Bool → MaybeSuite → Bool
     last_typed known looping handling no_suite = true
-    last_typed known looping handling (some_suite body) = suite_typed known looping handling body
+    last_typed known looping handling (some_suite body) = is_body body && suite_typed known looping handling body

@@ -1,9 +1,8 @@
 -- Which typed expressions are well typed (PEP 484): each has the parts and the type that its rule asks for.
-use Rattle.std.specs.Prelude.{ℕ, Bool, true, false, not, ◌==◌, ◌&&◌, ◌||◌, if◌then◌else◌, nat_lt, List, [], ◌∷◌, ◌++◌, length, drop, Option, Some, None, slice_get, codes}
+use Rattle.std.specs.Prelude.{ℕ, ◌^◌, ℤ, pos, negsuc, Bool, true, false, not, ◌==◌, ◌&&◌, ◌||◌, if◌then◌else◌, nat_lt, List, [], ◌∷◌, ◌++◌, length, drop, Option, Some, None, slice_get, codes}
 use Rattle.std.specs.List.{list_any, list_all}
 use Rattle.std.specs.Option.{option_and_then, option_map}
 use Rattle.std.specs.Str.{is_utf8, bytes_eq}
-use Rattle.value_core.specs.Arithmetic.{lies_within}
 use Rattle.py_syntax.specs.declared.expression.BinOp.{BinOp}
 use Rattle.py_syntax.specs.declared.expression.BinOp.TheVariants as op
 use Rattle.py_syntax.specs.declared.expression.CmpOp.{CmpOp}
@@ -101,6 +100,17 @@ reads_as known t = t
 
 abbrev pub declared : List Variable → ℕ → Option Sort
 declared variables i = option_map (λ x. x.1) (slice_get variables i)
+
+-- a number as it stands in a text: below zero there is none
+abbrev pub is_literal : ℤ → Bool
+is_literal (pos n) = nat_lt n (2 ^ 127)
+is_literal (negsuc n) = false
+
+-- in a condition place stands a bool, and only there is the truth of a value asked for
+abbrev pub suits : Bool → TypedNode → Sort → Bool
+suits true e t = is_same_type t sort.Bool
+suits false (Truth e) t = false
+suits false e t = true
 
 -- a call that gives no value
 abbrev pub is_empty_call : TypedNode → Sort → Bool
@@ -214,11 +224,12 @@ module _ (m : TypedModule) (locals : List Variable) (init : Option ℕ) where
 
   -- the rule of a node whose parts are well typed; the names known not to be None come first
   abbrev pub rule : List ℕ → TypedNode → Sort → Bool
-  rule known (Int n) t = lies_within 127 n && is_same_type t sort.Int
+  rule known (Int n) t = is_literal n && is_same_type t sort.Int
   rule known (Str text) t = is_utf8 text && is_same_type t sort.Str
   rule known (Flag b) t = is_same_type t sort.Bool
   rule known Nothing t = is_nothing t
-  rule known (Local i) t = is_type (option_map (reads_as (is_in known i)) (declared locals i)) t
+  -- as it is declared, or where it is known not to be None as what is not
+  rule known (Local i) t = is_type (declared locals i) t || is_type (option_map (reads_as (is_in known i)) (declared locals i)) t
   rule known (Global i) t = is_type (declared m.globals i) t
   rule known (Neg e) t = is_number (type_of e) && is_same_type t (number_join (type_of e) sort.Int)
   rule known (Not e) t = is_same_type (type_of e) sort.Bool && is_same_type t sort.Bool
@@ -253,56 +264,65 @@ module _ (m : TypedModule) (locals : List Variable) (init : Option ℕ) where
   rule known (Pop e) t = is_same_type (type_of e) (sort.ListOf t)
   rule known (Coerce e) t = fits entries_of_classes (type_of e) t && not (is_same_type (type_of e) t)
 
-  -- all parts are well typed, and so is the node; each part gives a value. What a test says holds behind it
+  -- what gives a value, in a condition place or not: all parts are well typed, and so is the node. The operand of `not` and the
+  -- test of a conditional stand in condition places, and so do the operands of `and` and `or` where these stand in one. What a
+  -- test says holds behind it
   abbrev mutual
-    pub is_typed : List ℕ → TypedExpr → Bool
-    is_typed known (typed e t place) = parts_typed known e && rule known e t && is_result_type (length entries_of_classes) t
+    pub stands : Bool → List ℕ → TypedExpr → Bool
+    stands testing known (typed e t place) =
+        parts_typed testing known e && rule known e t && suits testing e t && is_result_type (length entries_of_classes) t && not (is_empty_call e t)
 
-    pub is_value : List ℕ → TypedExpr → Bool
-    is_value known (typed e t place) =
-        parts_typed known e && rule known e t && is_result_type (length entries_of_classes) t && not (is_empty_call e t)
-
-    pub parts_typed : List ℕ → TypedNode → Bool
-    parts_typed known (Neg e) = is_value known e
-    parts_typed known (Not e) = is_value known e
-    parts_typed known (Truth e) = is_value known e
-    parts_typed known (Arith o a b) = is_value known a && is_value known b
-    parts_typed known (Concat a b) = is_value known a && is_value known b
-    parts_typed known (Compare e more) = is_value known e && chain_typed known e more
-    parts_typed known (And a b) = is_value known a && is_value (facts true a ++ known) b
-    parts_typed known (Or a b) = is_value known a && is_value (facts false a ++ known) b
-    parts_typed known (Cond a test b) = is_value known test && is_value (facts true test ++ known) a && is_value (facts false test ++ known) b
-    parts_typed known (ListOf es) = are_values known es
-    parts_typed known (DictOf es) = entries_typed known es
-    parts_typed known (TupleOf es) = are_values known es
-    parts_typed known (Attr e name) = is_value known e
-    parts_typed known (At e i) = is_value known e && is_value known i
-    parts_typed known (TupleAt e i) = is_value known e
-    parts_typed known (Call f es) = are_values known es
-    parts_typed known (Make c es) = are_values known es
-    parts_typed known (MakeExc c e) = maybe_value known e
-    parts_typed known (Method e name es) = is_value known e && are_values known es
-    parts_typed known (SuperInit f es) = are_values known es
-    parts_typed known (Print es) = are_values known es
-    parts_typed known (Len e) = is_value known e
-    parts_typed known (ToStr e) = is_value known e
-    parts_typed known (Append a b) = is_value known a && is_value known b
-    parts_typed known (Pop e) = is_value known e
-    parts_typed known (Coerce e) = is_value known e
-    parts_typed known e = true
+    pub parts_typed : Bool → List ℕ → TypedNode → Bool
+    parts_typed testing known (Neg e) = stands false known e
+    parts_typed testing known (Not e) = stands true known e
+    parts_typed testing known (Truth e) = stands false known e
+    parts_typed testing known (Arith o a b) = stands false known a && stands false known b
+    parts_typed testing known (Concat a b) = stands false known a && stands false known b
+    parts_typed testing known (Compare e more) = stands false known e && chain_typed known e more
+    parts_typed testing known (And a b) = stands testing known a && stands testing (facts true a ++ known) b
+    parts_typed testing known (Or a b) = stands testing known a && stands testing (facts false a ++ known) b
+    parts_typed testing known (Cond a test b) = stands true known test && stands false (facts true test ++ known) a && stands false (facts false test ++ known) b
+    parts_typed testing known (ListOf es) = are_values known es
+    parts_typed testing known (DictOf es) = entries_typed known es
+    parts_typed testing known (TupleOf es) = are_values known es
+    parts_typed testing known (Attr e name) = stands false known e
+    parts_typed testing known (At e i) = stands false known e && stands false known i
+    parts_typed testing known (TupleAt e i) = stands false known e
+    parts_typed testing known (Call f es) = are_values known es
+    parts_typed testing known (Make c es) = are_values known es
+    parts_typed testing known (MakeExc c e) = maybe_value known e
+    parts_typed testing known (Method e name es) = stands false known e && are_values known es
+    parts_typed testing known (SuperInit f es) = are_values known es
+    parts_typed testing known (Print es) = are_values known es
+    parts_typed testing known (Len e) = stands false known e
+    parts_typed testing known (ToStr e) = stands false known e
+    parts_typed testing known (Append a b) = stands false known a && stands false known b
+    parts_typed testing known (Pop e) = stands false known e
+    parts_typed testing known (Coerce e) = stands false known e
+    parts_typed testing known e = true
 
     pub are_values : List ℕ → TypedExprs → Bool
     are_values known no_exprs = true
-    are_values known (expr_then e more) = is_value known e && are_values known more
+    are_values known (expr_then e more) = stands false known e && are_values known more
 
     pub chain_typed : List ℕ → TypedExpr → Comparisons → Bool
     chain_typed known a no_comparisons = true
-    chain_typed known a (comparison_then o b more) = is_value known b && pair_fits o a b && chain_typed known b more
+    chain_typed known a (comparison_then o b more) = stands false known b && pair_fits o a b && chain_typed known b more
 
     pub entries_typed : List ℕ → Entries → Bool
     entries_typed known no_entries = true
-    entries_typed known (entry_then a b more) = is_value known a && is_value known b && entries_typed known more
+    entries_typed known (entry_then a b more) = stands false known a && stands false known b && entries_typed known more
 
     pub maybe_value : List ℕ → MaybeExpr → Bool
     maybe_value known no_expr = true
-    maybe_value known (some_expr e) = is_value known e
+    maybe_value known (some_expr e) = stands false known e
+
+  -- an expression that gives a value, a test, and an expression that stands alone and need not give one
+  abbrev pub is_value : List ℕ → TypedExpr → Bool
+  is_value known e = stands false known e
+
+  abbrev pub is_test : List ℕ → TypedExpr → Bool
+  is_test known e = stands true known e
+
+  abbrev pub is_typed : List ℕ → TypedExpr → Bool
+  is_typed known (typed e t place) = parts_typed false known e && rule known e t && suits false e t && is_result_type (length entries_of_classes) t

@@ -4,13 +4,13 @@ use Rattle.std.specs.Prelude.{ℕ, suc, Bool, true, false, not, ◌==◌, ◌&&�
 use Rattle.std.specs.List.{list_any, list_all, flat_map}
 use Rattle.std.specs.Str.{bytes_eq}
 use Rattle.py_typed.specs.Sorts.{Sort, Instance, sorts_of}
-use Rattle.py_typed.specs.Classes.{ClassEntry, Signature}
+use Rattle.py_typed.specs.Classes.{ClassEntry, Signature, lists_what_is_above}
 use Rattle.py_typed.specs.Fits.{is_same_type, are_same_types, is_nothing}
 use Rattle.py_typed.specs.Order.{order, listed_order, own_method, own_attribute}
 use Rattle.py_typed.specs.Statements.{Variable, TypedFunc, TypedModule}
 use Rattle.py_typed.specs.Narrowing.{is_closed}
 use Rattle.py_typed.specs.WellTypedExpr.{is_value_type, is_result_type, init_class, is_same_place, is_trait_in}
-use Rattle.py_typed.specs.WellTyped.{all_differ, suite_typed}
+use Rattle.py_typed.specs.WellTyped.{all_differ, has_statement, suite_typed}
 
 abbrev pub names_of : {A : Type 0} → List (List ℕ × A) → List (List ℕ)
 names_of row = map (λ p. p.0) row
@@ -78,7 +78,7 @@ module _ (is_identifier : List ℕ → Bool) (m : TypedModule) where
   func_typed i f =
       is_identifier f.name && class_there f.class && nat_lt f.params (suc (length f.locals)) && nat_lt (length f.locals) 101
       && variables_typed f.locals && is_result_type (length classes) f.ret && has_self f.class (types_in (take f.params f.locals))
-      && signature_fits (slice_get m.classes.signatures i) f && init_gives_nothing f && not (is_init_of_trait classes (init_class f)) && ends_well f
+      && signature_fits (slice_get m.classes.signatures i) f && init_gives_nothing f && not (is_init_of_trait classes (init_class f)) && has_statement f.body && ends_well f
       && suite_typed m f.locals (init_class f) (Some f.ret) [] false false f.body
 
   -- the names of the functions that are no methods
@@ -161,7 +161,7 @@ module _ (is_identifier : List ℕ → Bool) (m : TypedModule) where
 
   abbrev pub class_typed : ℕ → ClassEntry → Bool
   class_typed c entry =
-      is_identifier entry.name && list_all (λ b. nat_lt b c) entry.bases && differing entry.bases && bases_typed entry
+      is_identifier entry.name && list_all (λ b. nat_lt b c) entry.bases && differing entry.bases && lists_what_is_above classes c && bases_typed entry
       && list_all is_identifier (names_of entry.attributes ++ names_of entry.methods) && all_differ (names_of entry.attributes ++ names_of entry.methods)
       && list_all (is_value_type (length classes)) (map (λ p. p.1) entry.attributes) && list_all (method_typed c) entry.methods
       && has_order (order classes c) && list_all (members_agree (listed_order (order classes c))) (listed_order (order classes c))

@@ -9,12 +9,14 @@ pub struct Sig {
     pub ret: Ty,
 }
 
-/// A class: its bases by their numbers, the attributes that it declares itself, and its own methods by the numbers of their functions.
+/// A class: its bases by their numbers, all classes above it (its bases and those above them), the attributes that it
+/// declares itself, and its own methods by the numbers of their functions.
 #[derive(Drop)]
 pub struct ClassInfo {
     pub name: Name,
     pub is_trait: bool,
     pub bases: Many<usize>,
+    pub above: Many<usize>,
     pub attrs: Many<(Name, Ty)>,
     pub methods: Many<(Name, usize)>,
 }

@@ -1,5 +1,6 @@
 //! When a value of one type stands where another is asked for, and the type of a choice.
 ghost use Rattle.std.specs.Prelude.{◌≡◌, map, IfOk};
+ghost use Rattle.std.specs.List.{flat_map};
 ghost use Rattle.std.specs.Option.{option_map};
 ghost use Rattle.py_typed.specs.Sorts.{sort, sorts_of};
 ghost use Rattle.py_typed.specs.Classes.{class_entry};
@@ -10,7 +11,7 @@ use crate::classes::{ClassInfo, Classes};
 use crate::copies::copy_of;
 use crate::types::Ty;
 use std::alloc::Global;
-use value_core::{Memory, is_under};
+use value_core::{Many, Memory, is_under};
 
 /// Whether a value of the first type stands where the second is asked for, changed if need be.
 pub fn fits(s: &Ty, t: &Ty, classes: &Classes) -> bool
@@ -136,37 +137,63 @@ fn takes(t: &Ty, s: &Ty, classes: &[ClassInfo]) -> bool
 fn is_class_under(classes: &[ClassInfo], c: usize, d: usize) -> bool
     ensures { result ≡ class.is_class_under (map class_entry classes.now) c d }
 {
-    is_under_by(c, classes, d, c)
+    c == d || has_class(d, above_of(classes, c))
 }
 
-// The same by at most so many steps from a class to a base.
-#[tactic(auto, using(crate::proofs::TypeLemmas::under_at_last, crate::proofs::TypeLemmas::under_by_bases))]
-fn is_under_by(steps: usize, classes: &[ClassInfo], d: usize, c: usize) -> bool
-    ensures { result ≡ class.is_under_by (map class_entry classes.now) steps d c }
+// Whether a class is in a row.
+fn has_class(c: usize, row: &[usize]) -> bool
+    ensures { result ≡ class.has_class c row.now }
 {
-    if c == d {
-        return true;
-    }
-    if steps == 0 {
-        return false;
-    }
-    for base in bases_of(classes, c) {
-        if is_under_by(steps - 1, classes, d, *base) {
+    for d in row {
+        if *d == c {
             return true;
         }
     }
     false
 }
 
-// The bases of the class of a number.
+// The classes above the class of a number, as it lists them.
 #[tactic(auto, using(crate::proofs::TypeLemmas::entry_found))]
-fn bases_of(classes: &[ClassInfo], c: usize) -> &[usize]
-    ensures { result.now ≡ class.bases_of (map class_entry classes.now) c }
+fn above_of(classes: &[ClassInfo], c: usize) -> &[usize]
+    ensures { result.now ≡ class.above_of (map class_entry classes.now) c }
 {
     match classes.get(c) {
-        Some(info) => info.bases.as_slice(),
+        Some(info) => info.above.as_slice(),
         None => &[],
     }
+}
+
+/// What stands above a class with these bases: they, and all that stands above them, each once.
+#[tactic(auto, using(crate::proofs::ClassLemmas::with_rows))]
+pub fn above(alloc: Global, bases: &[usize], classes: &[ClassInfo]) -> Result<Many<usize>, Memory>
+    ensures { IfOk result (λ all. all ≡ class.those_above (map class_entry classes.now) bases.now) }
+{
+    let mut all = Many::new(alloc);
+    add_new(&mut all, bases)?;
+    add_above(&mut all, bases, classes)?;
+    Ok(all)
+}
+
+// Puts what is new of a row behind another.
+fn add_new(all: &mut Many<usize>, row: &[usize]) -> Result<(), Memory>
+    ensures { IfOk result (λ done. all.new ≡ class.with_classes all.old row.now) }
+{
+    for c in row {
+        if !has_class(*c, all.as_slice()) {
+            all.push(*c)?;
+        }
+    }
+    Ok(())
+}
+
+// The same with what stands above some bases.
+fn add_above(all: &mut Many<usize>, bases: &[usize], classes: &[ClassInfo]) -> Result<(), Memory>
+    ensures { IfOk result (λ done. all.new ≡ class.with_classes all.old (flat_map (class.above_of (map class_entry classes.now)) bases.now)) }
+{
+    for base in bases {
+        add_new(all, above_of(classes, *base))?;
+    }
+    Ok(())
 }
 
 /// Whether a type is one of numbers: int, i64 or bool.

@@ -1,17 +1,18 @@
 //! The laws of the definitions. Each function is its clause, and does nothing when it runs.
-ghost use Rattle.py_typed.specs.Laws.{AnyBoundServes, RunsOnlyAdd, LongerRunsContinue, FitsItself, SameFits, JoinHoldsBoth, JoinIsSymmetric};
+ghost use Rattle.py_typed.specs.Laws.{AnyBoundServes, RunsOnlyAdd, LongerRunsContinue, FitsItself, SameFits, UnderByBases, AboveIsMade, SameGoesOn, FitsGoesOn, JoinHoldsBoth, JoinIsSymmetric};
 
 /// What a module's statements do does not hang on the bound of loops and calls, where it is at least the turns left.
 pub fn any_bound_serves()
     ensures { AnyBoundServes }
 {}
 
-/// For a bound of at least the turns left: turns never rise, output only grows, and the store is never shortened.
+/// Turns never rise, output only grows, and the store is never shortened.
 pub fn runs_only_add()
     ensures { RunsOnlyAdd }
 {}
 
-/// The output of a run for more turns begins with that of one that was cut, and one that was not cut is the same for more turns.
+/// The output of a run for more turns begins with that of one that was cut, and its store is not shorter; one that was not cut is
+/// the same for more turns.
 pub fn longer_runs_continue()
     ensures { LongerRunsContinue }
 {}
@@ -26,12 +27,32 @@ pub fn same_fits()
     ensures { SameFits }
 {}
 
+/// A class that lists what is above it stands under another exactly where it is that one, or one of its bases stands under it.
+pub fn under_by_bases()
+    ensures { UnderByBases }
+{}
+
+/// What `above` makes for a class with some bases is what the class has to list.
+pub fn above_is_made()
+    ensures { AboveIsMade }
+{}
+
+/// In a tree of classes: what is of a type as it stands is also of what that type is of.
+pub fn same_goes_on()
+    ensures { SameGoesOn }
+{}
+
+/// In a tree of classes: what fits a type fits also what that type fits.
+pub fn fits_goes_on()
+    ensures { FitsGoesOn }
+{}
+
 /// Both types fit their join.
 pub fn join_holds_both()
     ensures { JoinHoldsBoth }
 {}
 
-/// A join does not hang on the order of its parts, where each base has a smaller number than its class.
+/// In a tree of classes a join does not hang on the order of its parts.
 pub fn join_is_symmetric()
     ensures { JoinIsSymmetric }
 {}

@@ -9,7 +9,8 @@
 //! meaning of a module, `specs/Laws.antt` what holds of it, and `specs/Narrowing.antt`, `specs/WellTypedExpr.antt`,
 //! `specs/WellTyped.antt` and `specs/WellTypedModule.antt` which modules are well typed. For proofs above,
 //! `proofs/Closed.antt` has what is asked of a relation that holds of every part of a run, and `proofs/RunAlike.antt` the
-//! induction.
+//! induction; `proofs/ExpressionLemmas.antt` and `proofs/StatementLemmas.antt` have what each kind of a declared tree stands
+//! for, as equations for crates that make or walk trees.
 #![tactic(auto)]
 
 mod checked;
@@ -25,10 +26,12 @@ pub use checked::{Checked, TFunc, Var};
 pub use classes::{ClassInfo, Classes, Sig};
 pub use copies::{copy_of, type_text};
 pub use expression::{TExpr, TKind};
-pub use fitting::{fits, is_nothing, is_number, is_same_type, join, number_join, optional, same};
+pub use fitting::{
+    above, fits, is_nothing, is_number, is_same_type, join, number_join, optional, same,
+};
 pub use laws::{
-    any_bound_serves, fits_itself, join_holds_both, join_is_symmetric, longer_runs_continue,
-    runs_only_add, same_fits,
+    above_is_made, any_bound_serves, fits_goes_on, fits_itself, join_holds_both, join_is_symmetric,
+    longer_runs_continue, runs_only_add, same_fits, same_goes_on, under_by_bases,
 };
 pub use statement::{THandler, TStmt, TStmtKind, Target};
 pub use types::Ty;
