@@ -3,9 +3,13 @@ pub mod LedgerLemmas
 pub mod Examples
 pub mod Order
 pub mod ReleaseLemmas
-pub mod KeepsCounts
 pub mod StepCases
+pub mod KeepsCounts
 pub mod SmallSteps
+pub mod Lines
+pub mod LineLemmas
+pub mod Falls
 pub mod Bounds
 pub mod WellFormedLemmas
 pub mod NameLemmas
+pub mod IndexLemmas

@@ -14,10 +14,10 @@ use Rattle.std.proofs.lemmas.List.{take_more, take-append-drop}
 use Rattle.std.proofs.lemmas.List.Folds.{list_any_more, list_any-append}
 use Rattle.std.proofs.lemmas.Map.Text.{is_eq-slice_cmp}
 use Rattle.std.proofs.lemmas.Slice.Eq.{bytes_eq-Decides}
-use Rattle.c_core.specs.WellFormed.{Declared, names_differ}
+use Rattle.c_core.specs.WellFormed.{names_differ}
 use Rattle.c_core.proofs.WellFormedLemmas.{any_name}
 
-bytes_eq-sym : (xs ys : List ℕ) → bytes_eq xs ys ≡ bytes_eq ys xs
+pub bytes_eq-sym : (xs ys : List ℕ) → bytes_eq xs ys ≡ bytes_eq ys xs
 bytes_eq-sym xs ys =
     let other = bytes_eq-Decides ys xs in
     same_from_decides (bytes_eq xs ys) (bytes_eq ys xs) (bytes_eq-Decides xs ys) (λ e. sym (other.0 e), λ e. other.1 (sym e))
@@ -64,72 +64,73 @@ insert-knows [] x name = refl
 insert-knows (y ∷ ys) x name = insert_either (order x y) x y ys (insert_key order ys x) name refl (insert-knows ys x name)
 
 -- ---- names that differ
-abbrev names : List Declared → List (List ℕ)
-names vars = map (λ v. v.0) vars
-
-abbrev pub any_is : List Declared → List ℕ → Bool
-any_is vars name = list_any (λ v. bytes_eq name v.0) vars
-
 one_behind : (a b d c : Bool) → (not (a || (b || false)) && (d && not c)) ≡ ((not a && d) && not (b || c))
 one_behind true b d c = refl
 one_behind false true true c = refl
 one_behind false true false c = refl
 one_behind false false d c = refl
 
-differ-behind : (vars : List Declared) (x : Declared) → names_differ (names (vars ++ x ∷ [])) ≡ (names_differ (names vars) && not (any_is vars x.0))
-differ-behind [] x = refl
-differ-behind (v ∷ vars) x =
-    ap (λ b. not b && names_differ (names (vars ++ x ∷ []))) (any_name v.0 (vars ++ x ∷ []) ∙ list_any-append (λ w. bytes_eq v.0 w.0) vars (x ∷ []))
-    ∙ ap (λ b. not (any_is vars v.0 || (bytes_eq v.0 x.0 || false)) && b) (differ-behind vars x)
-    ∙ one_behind (any_is vars v.0) (bytes_eq v.0 x.0) (names_differ (names vars)) (any_is vars x.0)
-    ∙ ap (λ b. (not (any_is vars v.0) && names_differ (names vars)) && not (b || any_is vars x.0)) (bytes_eq-sym v.0 x.0)
-    ∙ ap (λ b. (not b && names_differ (names vars)) && not (bytes_eq x.0 v.0 || any_is vars x.0)) (sym (any_name v.0 vars))
-
 front_or : (a b d e : Bool) → (not a && d) ≡ false → (d ≡ false → e ≡ false) → (not (a || b) && e) ≡ false
 front_or true b d e f h = refl
 front_or false true d e f h = refl
 front_or false false d e f h = h f
 
--- names of which two of the first are equal do not differ
-differ-front : (vars more : List Declared) → names_differ (names vars) ≡ false → names_differ (names (vars ++ more)) ≡ false
-differ-front [] more e = absurd (cc)
-differ-front (v ∷ vars) more e =
-    ap (λ b. not b && names_differ (names (vars ++ more))) (any_name v.0 (vars ++ more) ∙ list_any-append (λ w. bytes_eq v.0 w.0) vars more)
-    ∙ front_or (any_is vars v.0) (any_is more v.0) (names_differ (names vars)) (names_differ (names (vars ++ more)))
-    (ap (λ b. not b && names_differ (names vars)) (sym (any_name v.0 vars)) ∙ e) (differ-front vars more)
+module _ {A : Type 0} (name_of : A → List ℕ) where
+  abbrev names : List A → List (List ℕ)
+  names xs = map name_of xs
 
--- ---- one turn of a loop over the names
-module _ (vars : List Declared) (i : ℕ) (x : Declared) (within : i < length vars) (is : x ≡ get_or vars i x) where
-  differ_more : names_differ (names (take (i + 1) vars)) ≡ (names_differ (names (take i vars)) && not (any_is (take i vars) x.0))
-  differ_more =
-      ap (λ vs. names_differ (names vs)) (take_more vars i x within)
-      ∙ differ-behind (take i vars) (get_or vars i x)
-      ∙ ap (λ y. names_differ (names (take i vars)) && not (any_is (take i vars) y.0)) (sym is)
+  abbrev pub any_is : List A → List ℕ → Bool
+  any_is xs name = list_any (λ x. bytes_eq name (name_of x)) xs
 
-  found_again : names_differ (names (take i vars)) ≡ true → any_is (take i vars) x.0 ≡ true → names_differ (names vars) ≡ false
-  found_again so_far again =
-      ap (λ vs. names_differ (names vs)) (sym (take-append-drop (i + 1) vars))
-      ∙ differ-front (take (i + 1) vars) (drop (i + 1) vars)
-      (differ_more ∙ ap (λ b. b && not (any_is (take i vars) x.0)) so_far ∙ ap not again)
+  differ-behind : (xs : List A) (x : A) → names_differ (names (xs ++ x ∷ [])) ≡ (names_differ (names xs) && not (any_is xs (name_of x)))
+  differ-behind [] x = refl
+  differ-behind (v ∷ xs) x =
+      ap (λ b. not b && names_differ (names (xs ++ x ∷ []))) (any_name name_of (name_of v) (xs ++ x ∷ []) ∙ list_any-append (λ w. bytes_eq (name_of v) (name_of w)) xs (x ∷ []))
+      ∙ ap (λ b. not (any_is xs (name_of v) || (bytes_eq (name_of v) (name_of x) || false)) && b) (differ-behind xs x)
+      ∙ one_behind (any_is xs (name_of v)) (bytes_eq (name_of v) (name_of x)) (names_differ (names xs)) (any_is xs (name_of x))
+      ∙ ap (λ b. (not (any_is xs (name_of v)) && names_differ (names xs)) && not (b || any_is xs (name_of x))) (bytes_eq-sym (name_of v) (name_of x))
+      ∙ ap (λ b. (not b && names_differ (names xs)) && not (bytes_eq (name_of x) (name_of v) || any_is xs (name_of x))) (sym (any_name name_of (name_of v) xs))
 
-  pub known_more : (keys : List (Bor (List ℕ))) (name : Bor (List ℕ)) → name.now ≡ x.0 → ((q : List ℕ) → knows keys q ≡ any_is (take i vars) q) → (q : List ℕ) → knows (insert_key order keys name) q ≡ any_is (take (i + 1) vars) q
-  known_more keys name same_text known q =
-      insert-knows keys name q
-      ∙ ap (λ b. bytes_eq q name.now || b) (known q)
-      ∙ ap (λ t. bytes_eq q t || any_is (take i vars) q) (same_text ∙ ap (λ y. y.0) is)
-      ∙ or_flip (bytes_eq q (get_or vars i x).0) (any_is (take i vars) q)
-      ∙ sym (list_any_more (λ v. bytes_eq q v.0) vars i x within)
+  -- names of which two of the first are equal do not differ
+  differ-front : (xs more : List A) → names_differ (names xs) ≡ false → names_differ (names (xs ++ more)) ≡ false
+  differ-front [] more e = absurd (cc)
+  differ-front (v ∷ xs) more e =
+      ap (λ b. not b && names_differ (names (xs ++ more))) (any_name name_of (name_of v) (xs ++ more) ∙ list_any-append (λ w. bytes_eq (name_of v) (name_of w)) xs more)
+      ∙ front_or (any_is xs (name_of v)) (any_is more (name_of v)) (names_differ (names xs)) (names_differ (names (xs ++ more)))
+      (ap (λ b. not b && names_differ (names xs)) (sym (any_name name_of (name_of v) xs)) ∙ e) (differ-front xs more)
 
-  module _ (keys : List (Bor (List ℕ))) (name : Bor (List ℕ)) (added : Bool) (same_text : name.now ≡ x.0) (says : added ≡ not (list_any (is_at (order name)) keys)) (known : (q : List ℕ) → knows keys q ≡ any_is (take i vars) q) (so_far : names_differ (names (take i vars)) ≡ true) where
-    added_is : added ≡ not (any_is (take i vars) x.0)
-    added_is = says ∙ ap not (contains-knows keys name ∙ known name.now ∙ ap (any_is (take i vars)) same_text)
+  -- ---- one turn of a loop over the names
+  module _ (xs : List A) (i : ℕ) (x : A) (within : i < length xs) (is : x ≡ get_or xs i x) where
+    pub differ_more : names_differ (names (take (i + 1) xs)) ≡ (names_differ (names (take i xs)) && not (any_is (take i xs) (name_of x)))
+    differ_more =
+        ap (λ vs. names_differ (names vs)) (take_more xs i x within)
+        ∙ differ-behind (take i xs) (get_or xs i x)
+        ∙ ap (λ y. names_differ (names (take i xs)) && not (any_is (take i xs) (name_of y))) (sym is)
 
-    turned : (b : Bool) → false ≡ not b → b ≡ true
-    turned true e = refl
-    turned false e = absurd (cc)
+    pub found_again : names_differ (names (take i xs)) ≡ true → any_is (take i xs) (name_of x) ≡ true → names_differ (names xs) ≡ false
+    found_again so_far again =
+        ap (λ vs. names_differ (names vs)) (sym (take-append-drop (i + 1) xs))
+        ∙ differ-front (take (i + 1) xs) (drop (i + 1) xs)
+        (differ_more ∙ ap (λ b. b && not (any_is (take i xs) (name_of x))) so_far ∙ ap not again)
 
-    pub not_added : added ≡ false → false ≡ names_differ (names vars)
-    not_added e = sym (found_again so_far (turned (any_is (take i vars) x.0) (sym e ∙ added_is)))
+    pub known_more : (keys : List (Bor (List ℕ))) (name : Bor (List ℕ)) → name.now ≡ name_of x → ((q : List ℕ) → knows keys q ≡ any_is (take i xs) q) → (q : List ℕ) → knows (insert_key order keys name) q ≡ any_is (take (i + 1) xs) q
+    known_more keys name same_text known q =
+        insert-knows keys name q
+        ∙ ap (λ b. bytes_eq q name.now || b) (known q)
+        ∙ ap (λ t. bytes_eq q t || any_is (take i xs) q) (same_text ∙ ap name_of is)
+        ∙ or_flip (bytes_eq q (name_of (get_or xs i x))) (any_is (take i xs) q)
+        ∙ sym (list_any_more (λ v. bytes_eq q (name_of v)) xs i x within)
 
-    pub differ_still : added ≡ true → names_differ (names (take (i + 1) vars)) ≡ true
-    differ_still e = differ_more ∙ ap (λ b. b && not (any_is (take i vars) x.0)) so_far ∙ sym added_is ∙ e
+    module _ (keys : List (Bor (List ℕ))) (name : Bor (List ℕ)) (added : Bool) (same_text : name.now ≡ name_of x) (says : added ≡ not (list_any (is_at (order name)) keys)) (known : (q : List ℕ) → knows keys q ≡ any_is (take i xs) q) (so_far : names_differ (names (take i xs)) ≡ true) where
+      added_is : added ≡ not (any_is (take i xs) (name_of x))
+      added_is = says ∙ ap not (contains-knows keys name ∙ known name.now ∙ ap (any_is (take i xs)) same_text)
+
+      turned : (b : Bool) → false ≡ not b → b ≡ true
+      turned true e = refl
+      turned false e = absurd (cc)
+
+      pub not_added : added ≡ false → false ≡ names_differ (names xs)
+      not_added e = sym (found_again so_far (turned (any_is (take i xs) (name_of x)) (sym e ∙ added_is)))
+
+      pub differ_still : added ≡ true → names_differ (names (take (i + 1) xs)) ≡ true
+      differ_still e = differ_more ∙ ap (λ b. b && not (any_is (take i xs) (name_of x))) so_far ∙ sym added_is ∙ e

@@ -1,21 +1,24 @@
 -- One step adds at most one cell, and at most one to any count.
-use Rattle.std.proofs.Common.{◌≡◌, refl, ap, ◌∙◌, ℕ, zero, suc, ◌+◌, ◌≤◌, arith, true, List, [], ◌∷◌, ◌++◌, length, length-append, Option, Some, None}
+use Rattle.std.proofs.Common.{◌≡◌, refl, ap, ◌∙◌, ℕ, zero, suc, ◌+◌, ◌≤◌, arith, true, cond, List, [], ◌∷◌, ◌++◌, length, length-append, Option, Some, None}
 use Rattle.std.specs.Option.{option_and_then}
+use Rattle.c_core.specs.declared.code.CArg.{CArg}
 use Rattle.c_core.specs.declared.code.Line.{Line}
-use Rattle.c_core.specs.declared.code.Line.TheVariants.{Lit, Call, Return, Dec}
+use Rattle.c_core.specs.declared.code.Line.TheVariants.{Label, Move, Lit, Call, Goto, If, IfError, Turn, Return, Inc, Dec, XDec}
 use Rattle.c_core.specs.declared.code.Code.{Code}
+use Rattle.c_core.specs.declared.primitive.Primitive.{Primitive}
 use Rattle.c_core.specs.declared.fault.Fault.{Fault}
 use Rattle.c_core.specs.declared.fault.Fault.TheVariants as fault
-use Rattle.c_core.specs.Cells.{Cell, Cells, same, counted, count_at, one_less, change, lowered}
+use Rattle.c_core.specs.Cells.{Cell, Cells, same, counted, count_at, content_at, one_less, change, lowered, raised, take_one}
 use Rattle.c_core.specs.Ledgers.{Ledger}
 use Rattle.c_core.specs.Release.{after, freed, weight, release_some, release}
-use Rattle.c_core.specs.Machine.{Word, ShortInt, BigInt, ObjectCell, NoneObject, TrueObject, FalseObject, Content, refs_in, Frame, MachineState}
+use Rattle.c_core.specs.Machine.{Word, Content, refs_in, Frame, MachineState}
+use Rattle.c_core.specs.Functions.{function_named}
 use Rattle.c_core.specs.Primitives.{row_of, primitive_named}
 use Rattle.c_core.specs.Arguments.{stolen}
-use Rattle.c_core.specs.Step.{Next, Ends, Faulted, Effect, Wrong, Makes, Writes, effect, with_ledger, with_target, next_line, literal_word, kind_of, applied, made_cell, given_up, decremented, if_return, if_result, if_none_left, step_at, line_at, step}
+use Rattle.c_core.specs.Step.{Next, Ends, Faulted, Effect, Wrong, Says, Makes, Writes, effect, with_ledger, with_cells, with_target, next_line, own, given, literal_word, equals_error, kind_of, label_at, applied, made_cell, call_step, turned, if_return, if_result, if_none_left, step_at, line_at, step}
 use Rattle.c_core.specs.Laws.{state_after, StepStaysSmall}
-use Rattle.c_core.proofs.CountLemmas.{count-make}
-use Rattle.c_core.proofs.StepCases.{at_some, at_given_up, at_word, at_called, at_order, at_ended, at_result}
+use Rattle.c_core.proofs.CountLemmas.{count-make, count-take_one}
+use Rattle.c_core.proofs.StepCases.{at_some, at_calm, at_word, at_there, at_called, at_function, at_jumped, at_chosen, at_incremented, at_decremented, at_decremented_if_set, at_order, at_ended, at_result}
 
 same_most : (c d : ℕ) → same c d ≤ 1
 same_most zero zero = omega arith
@@ -86,20 +89,23 @@ module _ (s : MachineState) where
 
   applied_small : (x : Option ℕ) (l : Ledger) (gone : List ℕ) (e : Effect) → To (applied true s x l gone e)
   applied_small x l gone Wrong = bad fault.Kind
+  applied_small None l gone (Says w) = released_small _ gone refl
+  applied_small (Some x) l gone (Says w) = released_small _ gone refl
   applied_small x l gone (Makes content) = made_small x l content
   applied_small x l gone (Writes text) = released_small _ gone refl
 
-  given_small : (c : ℕ) → To (given_up true s c)
-  given_small c = at_given_up s To bad c (λ l took. released_small _ (c ∷ []) refl)
+  given_small : (c : ℕ) (l : Ledger) → IsSmallStep s (next_line (given true s (c ∷ []) (with_ledger l s)))
+  given_small c l = released_small _ (c ∷ []) refl
 
-  decremented_small : (w : Word) → To (decremented true s w)
-  decremented_small (ShortInt n) = same_cells _ refl
-  decremented_small (BigInt c) = given_small c
-  decremented_small (ObjectCell c) = given_small c
-  decremented_small NoneObject = same_cells _ refl
-  decremented_small TrueObject = same_cells _ refl
-  decremented_small FalseObject = same_cells _ refl
-  decremented_small _ = bad fault.Kind
+  took_small : (c : ℕ) (x : Content) → content_at s.cells c ≡ Some x → IsSmallStep s (next_line (own c (with_cells (take_one c s.cells) s)))
+  took_small c x e = record {
+    few_cells = omega (arith, length-change raised c s.cells);
+    small_counts = λ d. omega (arith, count-take_one s.cells c d x e, same_most c d);
+  }
+
+  turned_small : (n : ℕ) → To (turned true s n)
+  turned_small zero = same_cells _ refl
+  turned_small (suc n) = same_cells _ refl
 
   target_small : (x : Option ℕ) (w : Word) (t : MachineState) → t.cells ≡ s.cells → IsSmallStep s (with_target x w t)
   target_small None w t e = same_cells t e
@@ -109,15 +115,34 @@ module _ (s : MachineState) where
   return_small w [] = at_ended s To bad w s.pending _ (λ end. at_result s To bad w _ (λ all. same_cells s refl))
   return_small w (f ∷ fs) = at_result s To bad w _ (λ all. target_small s.top.into w _ refl)
 
+  call_small : (code : Code) (x : Option ℕ) (name : List ℕ) (args : List CArg) (o : Option Primitive) → To (call_step true s code x name args o)
+  call_small code x name args (Some p) =
+      at_called s To bad code x args p
+      (λ all l left. applied_small x l (stolen (row_of p).parameters all) (effect code s p all))
+  call_small code x name args None =
+      at_function s To bad code x args (function_named code.funcs name) (λ f g e is ws. same_cells _ refl)
+
   step_small : (code : Code) (o : Option Line) → To (step_at true code s o)
   step_small code None = bad fault.Kind
+  step_small code (Some Label) = same_cells _ refl
+  step_small code (Some (Move x y)) = at_word s To bad y _ (λ w e. at_there s To bad w _ (λ a. same_cells _ refl))
   step_small code (Some (Lit x l)) =
       at_some s To bad fault.Kind (option_and_then (λ k. literal_word k l) (kind_of code s.top x)) _ (λ w e. same_cells _ refl)
-  step_small code (Some (Call x name args)) =
-      at_some s To bad fault.Kind (primitive_named name) _
-      (λ p e. at_called s To bad code x args p (λ all l left. applied_small x l (stolen (row_of p).parameters all) (effect code s p all)))
+  step_small code (Some (Call x name args)) = call_small code x name args (primitive_named name)
+  step_small code (Some (Goto n)) = at_jumped s To bad (label_at code s.top n) (λ q e. same_cells _ refl)
+  step_small code (Some (If x n m)) =
+      at_word s To bad x _
+      (λ w e. at_chosen s To bad (label_at code s.top n) (label_at code s.top m) w
+      (at_jumped s To bad (label_at code s.top n) (λ q e. same_cells _ refl)) (at_jumped s To bad (label_at code s.top m) (λ q e. same_cells _ refl)))
+  step_small code (Some (IfError x n m)) =
+      at_word s To bad x _ (λ w e. at_jumped s To bad (label_at code s.top (cond (equals_error w) n m)) (λ q e. same_cells _ refl))
+  step_small code (Some Turn) = at_calm s To bad s.pending _ (λ calm. turned_small s.turns)
   step_small code (Some (Return x)) = at_word s To bad x _ (λ w e. at_order s To bad w s.pending _ (return_small w s.below))
-  step_small code (Some (Dec x)) = at_word s To bad x _ (λ w e. decremented_small w)
+  step_small code (Some (Inc x)) = at_word s To bad x _ (λ w e. at_incremented s To bad w (same_cells _ refl) took_small)
+  step_small code (Some (Dec x)) =
+      at_word s To bad x _ (λ w e. at_decremented s To bad w (same_cells _ refl) (λ c l took. given_small c l))
+  step_small code (Some (XDec x)) =
+      at_word s To bad x _ (λ w e. at_decremented_if_set s To bad w (same_cells _ refl) (λ c l took. given_small c l))
 
 -- the state after a step
 pub small_step : (code : Code) (s : MachineState) → IsSmallStep s (state_after (step code s))

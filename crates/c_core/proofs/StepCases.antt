@@ -4,17 +4,19 @@ use Rattle.std.specs.Prelude.{slice_get}
 use Rattle.c_core.specs.declared.code.Kind.{Kind}
 use Rattle.c_core.specs.declared.code.CArg.{CArg}
 use Rattle.c_core.specs.declared.code.CArg.TheVariants as arg
+use Rattle.c_core.specs.declared.code.CFunc.{CFunc}
 use Rattle.c_core.specs.declared.code.Code.{Code}
 use Rattle.c_core.specs.declared.fault.Fault.{Fault}
 use Rattle.c_core.specs.declared.fault.Fault.TheVariants as fault
-use Rattle.c_core.specs.declared.primitive.Prim.{Prim}
+use Rattle.c_core.specs.declared.primitive.Primitive.{Primitive}
 use Rattle.value_core.specs.Ending.{Ending, Done, Raised}
-use Rattle.c_core.specs.Cells.{same, times, content_at}
+use Rattle.c_core.specs.Cells.{same, times, content_at, take_one}
 use Rattle.c_core.specs.Ledgers.{Ledger, without}
-use Rattle.c_core.specs.Machine.{Word, BigInt, CharWord, ObjectCell, Content, ExcCell, refs_of, MachineState}
+use Rattle.c_core.specs.Machine.{Word, ShortInt, BigInt, TaggedError, CharWord, ObjectCell, NoneObject, TrueObject, FalseObject, NoObject, Content, ExcCell, refs_of, MachineState}
+use Rattle.c_core.specs.Functions.{parameter_kinds, entry_words}
 use Rattle.c_core.specs.Primitives.{KindAt, Holding, Parameter, Borrows, Steals, TakesNumber, TakesText, TakesGlobal, TakesClass, row_of}
 use Rattle.c_core.specs.Arguments.{Argument, Cell, Plain, Written, is_value_of, is_holding, kind_found, stolen_from, stolen}
-use Rattle.c_core.specs.Step.{Next, Goes, Ends, Faulted, effect, if_some, if_calm, if_content, if_any, if_taken, if_true, if_there, if_variable, if_stolen, if_argument, if_arguments, if_may_stand, applied, called, if_thrown, if_ended, word_of, if_in_order, if_result, if_none_left, with_ledger, next_line, given, given_up, is_error, is_both}
+use Rattle.c_core.specs.Step.{Next, Goes, Ends, Faulted, effect, if_some, if_calm, if_content, if_any, if_taken, if_true, if_there, if_variable, if_stolen, if_argument, if_arguments, if_may_stand, applied, called, if_thrown, if_ended, word_of, if_in_order, if_result, if_none_left, with_ledger, next_line, at_place, own, with_cells, given, given_up, is_error, is_both, if_passed, entered, function_step, function_called, jumped, chosen, taken, incremented, decremented, decremented_if_set}
 use Rattle.c_core.proofs.ReleaseLemmas.{times-append}
 use Rattle.c_core.proofs.LedgerLemmas.{without-times}
 
@@ -48,7 +50,7 @@ module _ (s : MachineState) (P : Next → Type 0) (bad : (f : Fault) → P (Ends
   at_true true go h = h
   at_true false go h = bad fault.Kind
 
-  at_there : (w : Word) (go : Argument → Next) → ((a : Argument) → P (go a)) → P (if_there true s w go)
+  pub at_there : (w : Word) (go : Argument → Next) → ((a : Argument) → P (go a)) → P (if_there true s w go)
   at_there (BigInt c) go h = at_content c _ (λ x e. h (Cell c x))
   at_there (ObjectCell c) go h = at_content c _ (λ x e. h (Cell c x))
   at_there w go h = h (Plain w)
@@ -86,9 +88,31 @@ module _ (s : MachineState) (P : Next → Type 0) (bad : (f : Fault) → P (Ends
   at_may_stand false go h = at_calm s.pending go (λ calm. h)
 
   -- a call of a primitive
-  pub at_called : (code : Code) (x : Option ℕ) (args : List CArg) (p : Prim) → ((all : List Argument) (l : Ledger) → Leaves s.top.ledger (stolen (row_of p).parameters all) l → P (applied true s x l (stolen (row_of p).parameters all) (effect code s p all))) → P (called true s code x args p)
+  pub at_called : (code : Code) (x : Option ℕ) (args : List CArg) (p : Primitive) → ((all : List Argument) (l : Ledger) → Leaves s.top.ledger (stolen (row_of p).parameters all) l → P (applied true s x l (stolen (row_of p).parameters all) (effect code s p all))) → P (called true s code x args p)
   at_called code x args p is =
       at_may_stand (row_of p).while_pending _ (at_arguments code (row_of p).parameters args [] s.top.ledger _ is)
+
+  at_passed : (ks : List Kind) (args : List CArg) (go : List Word → Next) → ((ws : List Word) → P (go ws)) → P (if_passed true s ks args go)
+  at_passed [] [] go h = h []
+  at_passed (k ∷ ks) (arg.Var x ∷ rest) go h =
+      at_word x _ (λ w e. at_true (is_value_of k w) _ (at_there w _ (λ a. at_passed ks rest (λ ws. go (w ∷ ws)) (λ ws. h (w ∷ ws)))))
+  at_passed _ _ go h = bad fault.Kind
+
+  -- a call of a function
+  pub at_function : (code : Code) (x : Option ℕ) (args : List CArg) (n : Option ℕ) → ((f : ℕ) (g : CFunc) → n ≡ Some f → slice_get code.funcs f ≡ Some g → (ws : List Word) → P (Goes (entered true s x f (entry_words ws g)))) → P (function_called true s code x args n)
+  at_function code x args n h =
+      at_calm s.pending _
+      (λ calm. at_some fault.Kind n _
+      (λ f e. at_some fault.Kind (slice_get code.funcs f) (function_step true s x args f)
+      (λ g is. at_passed (parameter_kinds g) args _ (h f g e is))))
+
+  pub at_jumped : (o : Option ℕ) → ((q : ℕ) → o ≡ Some q → P (Goes (at_place q s))) → P (jumped true s o)
+  at_jumped o h = at_some fault.Kind o _ h
+
+  pub at_chosen : (a b : Option ℕ) (w : Word) → P (jumped true s a) → P (jumped true s b) → P (chosen true s a b w)
+  at_chosen a b (CharWord zero) first second = second
+  at_chosen a b (CharWord (suc zero)) first second = first
+  at_chosen a b _ first second = bad fault.Kind
 
   at_choice : (b : Bool) (x y : Next) → P x → P y → P (cond b x y)
   at_choice true x y p q = p
@@ -118,8 +142,35 @@ module _ (s : MachineState) (P : Next → Type 0) (bad : (f : Fault) → P (Ends
   at_result (ObjectCell c) next h = at_given (ObjectCell c) c next (λ d. omega arith) h
   at_result w next h = at_left w s.top.ledger next (λ c. omega arith) h
 
-  pub at_given_up : (c : ℕ) → ((l : Ledger) → ((d : ℕ) → times s.top.ledger d ≡ same c d + times l d) → P (Goes (next_line (given true s (c ∷ []) (with_ledger l s))))) → P (given_up true s c)
+  at_given_up : (c : ℕ) → ((l : Ledger) → ((d : ℕ) → times s.top.ledger d ≡ same c d + times l d) → P (Goes (next_line (given true s (c ∷ []) (with_ledger l s))))) → P (given_up true s c)
   at_given_up c h = at_content c _ (λ x e. at_taken c s.top.ledger (λ l. Goes (next_line (given true s (c ∷ []) (with_ledger l s)))) h)
+
+  -- counts
+  at_taken_more : (c : ℕ) → ((x : Content) → content_at s.cells c ≡ Some x → P (Goes (next_line (own c (with_cells (take_one c s.cells) s))))) → P (taken true s c)
+  at_taken_more c h = at_content c _ h
+
+  pub at_incremented : (w : Word) → P (Goes (next_line s)) → ((c : ℕ) (x : Content) → content_at s.cells c ≡ Some x → P (Goes (next_line (own c (with_cells (take_one c s.cells) s))))) → P (incremented true s w)
+  at_incremented (ShortInt n) on h = on
+  at_incremented (BigInt c) on h = at_taken_more c (h c)
+  at_incremented (ObjectCell c) on h = at_taken_more c (h c)
+  at_incremented NoneObject on h = on
+  at_incremented TrueObject on h = on
+  at_incremented FalseObject on h = on
+  at_incremented _ on h = bad fault.Kind
+
+  pub at_decremented : (w : Word) → P (Goes (next_line s)) → ((c : ℕ) (l : Ledger) → ((d : ℕ) → times s.top.ledger d ≡ same c d + times l d) → P (Goes (next_line (given true s (c ∷ []) (with_ledger l s))))) → P (decremented true s w)
+  at_decremented (ShortInt n) on h = on
+  at_decremented (BigInt c) on h = at_given_up c (h c)
+  at_decremented (ObjectCell c) on h = at_given_up c (h c)
+  at_decremented NoneObject on h = on
+  at_decremented TrueObject on h = on
+  at_decremented FalseObject on h = on
+  at_decremented _ on h = bad fault.Kind
+
+  pub at_decremented_if_set : (w : Word) → P (Goes (next_line s)) → ((c : ℕ) (l : Ledger) → ((d : ℕ) → times s.top.ledger d ≡ same c d + times l d) → P (Goes (next_line (given true s (c ∷ []) (with_ledger l s))))) → P (decremented_if_set true s w)
+  at_decremented_if_set TaggedError on h = on
+  at_decremented_if_set NoObject on h = on
+  at_decremented_if_set w on h = at_decremented w on h
 
   at_thrown : (x : Content) (go : Ending → Next) → ((e : Ending) → P (go e)) → P (if_thrown true s x go)
   at_thrown (ExcCell e) go h = h (Raised e)

@@ -6,29 +6,31 @@ use Rattle.std.specs.List.{list_all, list_any}
 use Rattle.std.specs.Str.{bytes_eq, chars, IsUtf8}
 use Rattle.std.proofs.lemmas.Str.{is_utf8-from_IsUtf8}
 use Rattle.unicode_ident.specs.Ident.{is_xid_continue}
-use Rattle.c_core.specs.WellFormed.{Declared, is_identifier, names_differ}
+use Rattle.c_core.specs.WellFormed.{is_identifier, names_differ}
 
 pub some_identifier : (name : List ℕ) (r : Bool) → IsUtf8 name → false ≡ (length name == 0) → r ≡ list_all is_xid_continue (chars name) → r ≡ is_identifier name
 some_identifier [] r u e f = absurd (cc)
 some_identifier (b ∷ bs) r u e f = f ∙ rw (is_utf8-from_IsUtf8 (b ∷ bs) u) refl
 
-pub any_name : (name : List ℕ) (vars : List Declared) → list_any (bytes_eq name) (map (λ v. v.0) vars) ≡ list_any (λ v. bytes_eq name v.0) vars
-any_name name [] = refl
-any_name name (v ∷ vars) = ap (λ b. bytes_eq name v.0 || b) (any_name name vars)
+-- ---- names of things
+module _ {A : Type 0} (name_of : A → List ℕ) where
+  pub any_name : (name : List ℕ) (xs : List A) → list_any (bytes_eq name) (map name_of xs) ≡ list_any (λ x. bytes_eq name (name_of x)) xs
+  any_name name [] = refl
+  any_name name (x ∷ xs) = ap (λ b. bytes_eq name (name_of x) || b) (any_name name xs)
 
-pub names_step : (vars : List Declared) (i : ℕ) (x : Declared) → i < length vars → x ≡ get_or vars i x → names_differ (map (λ v. v.0) (drop i vars)) ≡ (not (list_any (λ v. bytes_eq x.0 v.0) (drop (i + 1) vars)) && names_differ (map (λ v. v.0) (drop (i + 1) vars)))
-names_step vars i x l e =
-    ap (λ vs. names_differ (map (λ v. v.0) vs)) (drop-cons vars i x l)
-    ∙ ap (λ y. not (list_any (bytes_eq y.0) (map (λ v. v.0) (drop (suc i) vars))) && names_differ (map (λ v. v.0) (drop (suc i) vars))) (sym e)
-    ∙ ap (λ b. not b && names_differ (map (λ v. v.0) (drop (suc i) vars))) (any_name x.0 (drop (suc i) vars))
-    ∙ ap (λ k. not (list_any (λ v. bytes_eq x.0 v.0) (drop k vars)) && names_differ (map (λ v. v.0) (drop k vars))) (sym (add-one i))
+  names_step : (xs : List A) (i : ℕ) (x : A) → i < length xs → x ≡ get_or xs i x → names_differ (map name_of (drop i xs)) ≡ (not (list_any (λ y. bytes_eq (name_of x) (name_of y)) (drop (i + 1) xs)) && names_differ (map name_of (drop (i + 1) xs)))
+  names_step xs i x l e =
+      ap (λ ys. names_differ (map name_of ys)) (drop-cons xs i x l)
+      ∙ ap (λ y. not (list_any (bytes_eq (name_of y)) (map name_of (drop (suc i) xs))) && names_differ (map name_of (drop (suc i) xs))) (sym e)
+      ∙ ap (λ b. not b && names_differ (map name_of (drop (suc i) xs))) (any_name (name_of x) (drop (suc i) xs))
+      ∙ ap (λ k. not (list_any (λ y. bytes_eq (name_of x) (name_of y)) (drop k xs)) && names_differ (map name_of (drop k xs))) (sym (add-one i))
 
--- one turn of the loop over the names: b is whether the name of number i stands again behind it
-pub names_turn : (vars : List Declared) (i : ℕ) (x : Declared) (name : List ℕ) (b : Bool) → i < length vars → x ≡ get_or vars i x → name ≡ (get_or vars i x).0 → b ≡ list_any (λ v. bytes_eq name v.0) (take (length vars - (i + 1)) (drop (i + 1) vars)) → names_differ (map (λ v. v.0) (drop i vars)) ≡ names_differ (map (λ v. v.0) vars) → names_differ (map (λ v. v.0) vars) ≡ (not b && names_differ (map (λ v. v.0) (drop (i + 1) vars)))
-names_turn vars i x name b l e n any so_far =
-    let rest : take (length vars - (i + 1)) (drop (i + 1) vars) ≡ drop (i + 1) vars =
-    take_all (length vars - (i + 1)) (drop (i + 1) vars) (omega (arith, length-drop (i + 1) vars)) in
-    let same_name : name ≡ x.0 = n ∙ ap (λ y. y.0) (sym e) in
-    let any_here : b ≡ list_any (λ v. bytes_eq x.0 v.0) (drop (i + 1) vars) =
-    any ∙ ap (list_any (λ v. bytes_eq name v.0)) rest ∙ ap (λ t. list_any (λ v. bytes_eq t v.0) (drop (i + 1) vars)) same_name in
-    sym so_far ∙ names_step vars i x l e ∙ ap (λ t. not t && names_differ (map (λ v. v.0) (drop (i + 1) vars))) (sym any_here)
+  -- one turn of the loop over the names: b is whether the name of number i stands again behind it
+  pub names_turn : (xs : List A) (i : ℕ) (x : A) (name : List ℕ) (b : Bool) → i < length xs → x ≡ get_or xs i x → name ≡ name_of (get_or xs i x) → b ≡ list_any (λ y. bytes_eq name (name_of y)) (take (length xs - (i + 1)) (drop (i + 1) xs)) → names_differ (map name_of (drop i xs)) ≡ names_differ (map name_of xs) → names_differ (map name_of xs) ≡ (not b && names_differ (map name_of (drop (i + 1) xs)))
+  names_turn xs i x name b l e n any so_far =
+      let rest : take (length xs - (i + 1)) (drop (i + 1) xs) ≡ drop (i + 1) xs =
+      take_all (length xs - (i + 1)) (drop (i + 1) xs) (omega (arith, length-drop (i + 1) xs)) in
+      let same_name : name ≡ name_of x = n ∙ ap name_of (sym e) in
+      let any_here : b ≡ list_any (λ y. bytes_eq (name_of x) (name_of y)) (drop (i + 1) xs) =
+      any ∙ ap (list_any (λ y. bytes_eq name (name_of y))) rest ∙ ap (λ t. list_any (λ y. bytes_eq t (name_of y)) (drop (i + 1) xs)) same_name in
+      sym so_far ∙ names_step xs i x l e ∙ ap (λ t. not t && names_differ (map name_of (drop (i + 1) xs))) (sym any_here)

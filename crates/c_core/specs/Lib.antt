@@ -2,6 +2,7 @@ pub mod Cells
 pub mod Ledgers
 pub mod Release
 pub mod Machine
+pub mod Functions
 pub mod Holders
 pub mod Primitives
 pub mod Arguments
@@ -11,4 +12,5 @@ pub mod Stands
 pub mod Agreement
 pub mod Text
 pub mod WellFormed
+pub mod Index
 pub mod Laws

@@ -1,13 +1,15 @@
 -- The primitives of the runtime: each is one row with what its arguments are to be, which of them it steals, its result,
 -- and whether it may stand while an exception is pending (mypyc's developer guide, "Primitives").
-use Rattle.std.specs.Prelude.{ℕ, Bool, false, List, [], ◌∷◌, Option, codes, find}
+use Rattle.std.specs.Prelude.{ℕ, Bool, false, List, [], ◌∷◌, Option, codes, find, map}
 use Rattle.std.specs.Str.{bytes_eq}
 use Rattle.c_core.specs.declared.code.Kind.{Kind}
-use Rattle.c_core.specs.declared.code.Kind.TheVariants.{Object}
-use Rattle.c_core.specs.declared.primitive.Prim.{Prim}
-use Rattle.c_core.specs.declared.primitive.Prim.TheVariants.{Str, Io}
-use Rattle.c_core.specs.declared.primitive.StrPrim.TheVariants.{Literal}
-use Rattle.c_core.specs.declared.primitive.IoPrim.TheVariants.{Write}
+use Rattle.c_core.specs.declared.code.Kind.TheVariants.{Int64, Char, Object}
+use Rattle.c_core.specs.declared.primitive.Primitive.{Primitive}
+use Rattle.c_core.specs.declared.primitive.Primitive.TheVariants as prim
+use Rattle.c_core.specs.declared.primitive.Int64Prim.TheVariants as int64
+use Rattle.c_core.specs.declared.primitive.BoolPrim.TheVariants as bool
+use Rattle.c_core.specs.declared.primitive.StrPrim.TheVariants as str
+use Rattle.c_core.specs.declared.primitive.IoPrim.TheVariants as io
 
 -- where the kind of a variable is found: in the row, at the global that the call names first, or at the slot of the
 -- object that the call names by its first two arguments
@@ -42,16 +44,34 @@ pub record Row : Type 0 where
   pub outcome : Outcome
   pub while_pending : Bool
 
-abbrev pub row_of : Prim → Row
-row_of (Str Literal) = record { name = codes "CPyStr_Literal"; parameters = TakesText ∷ []; outcome = Owned (Is Object); while_pending = false }
-row_of (Io Write) = record { name = codes "CPy_Write"; parameters = Borrows (Is Object) AText ∷ []; outcome = Nothing; while_pending = false }
+-- a row that borrows variables of these kinds, whatever they hold, and answers a word of a kind
+abbrev pub simple_row : List ℕ → List Kind → Kind → Row
+simple_row name kinds k = record { name = name; parameters = map (λ k. Borrows (Is k) Anything) kinds; outcome = Owned (Is k); while_pending = false }
 
-abbrev pub all_primitives : List Prim
-all_primitives = Str Literal ∷ Io Write ∷ []
+abbrev pub row_of : Primitive → Row
+row_of (prim.Int64 int64.Add) = simple_row (codes "CPyInt64_Add") (Int64 ∷ Int64 ∷ []) Int64
+row_of (prim.Int64 int64.Subtract) = simple_row (codes "CPyInt64_Subtract") (Int64 ∷ Int64 ∷ []) Int64
+row_of (prim.Int64 int64.Multiply) = simple_row (codes "CPyInt64_Multiply") (Int64 ∷ Int64 ∷ []) Int64
+row_of (prim.Int64 int64.Negate) = simple_row (codes "CPyInt64_Negate") (Int64 ∷ []) Int64
+row_of (prim.Int64 int64.FromBool) = simple_row (codes "CPyInt64_FromBool") (Char ∷ []) Int64
+row_of (prim.Int64 int64.Eq) = simple_row (codes "CPyInt64_Eq") (Int64 ∷ Int64 ∷ []) Char
+row_of (prim.Int64 int64.Lt) = simple_row (codes "CPyInt64_Lt") (Int64 ∷ Int64 ∷ []) Char
+row_of (prim.Int64 int64.Le) = simple_row (codes "CPyInt64_Le") (Int64 ∷ Int64 ∷ []) Char
+row_of (prim.Int64 int64.Str) = simple_row (codes "CPyInt64_Str") (Int64 ∷ []) Object
+row_of (prim.Bool bool.Not) = simple_row (codes "CPyBool_Not") (Char ∷ []) Char
+row_of (prim.Bool bool.Str) = simple_row (codes "CPyBool_Str") (Char ∷ []) Object
+row_of (prim.Str str.Literal) = record { name = codes "CPyStr_Literal"; parameters = TakesText ∷ []; outcome = Owned (Is Object); while_pending = false }
+row_of (prim.Io io.Write) = record { name = codes "CPy_Write"; parameters = Borrows (Is Object) AText ∷ []; outcome = Nothing; while_pending = false }
 
-abbrev pub is_named : List ℕ → Prim → Bool
+abbrev pub all_primitives : List Primitive
+all_primitives =
+    prim.Int64 int64.Add ∷ prim.Int64 int64.Subtract ∷ prim.Int64 int64.Multiply ∷ prim.Int64 int64.Negate ∷ prim.Int64 int64.FromBool
+    ∷ prim.Int64 int64.Eq ∷ prim.Int64 int64.Lt ∷ prim.Int64 int64.Le ∷ prim.Int64 int64.Str
+    ∷ prim.Bool bool.Not ∷ prim.Bool bool.Str ∷ prim.Str str.Literal ∷ prim.Io io.Write ∷ []
+
+abbrev pub is_named : List ℕ → Primitive → Bool
 is_named name p = bytes_eq (row_of p).name name
 
 -- the primitive of a name, if there is one
-abbrev pub primitive_named : List ℕ → Option Prim
+abbrev pub primitive_named : List ℕ → Option Primitive
 primitive_named name = find (is_named name) all_primitives

@@ -1,12 +1,10 @@
 -- Whole runs of the machine.
 use Rattle.std.specs.Prelude.{ℕ, zero, suc, ◌+◌, ◌*◌, ◌-◌, max, List, [], ◌∷◌, length, map, Option, Some, None, slice_get}
 use Rattle.value_core.specs.Items.{Items}
-use Rattle.c_core.specs.declared.code.Kind.{Kind}
-use Rattle.c_core.specs.declared.code.Kind.TheVariants.{Tagged, Int64, Char, Object}
 use Rattle.c_core.specs.declared.code.CFunc.{CFunc}
 use Rattle.c_core.specs.declared.code.Code.{Code}
-use Rattle.std.specs.Prelude.{negsuc}
-use Rattle.c_core.specs.Machine.{Word, TaggedError, Native, CharWord, NoObject, MachineState}
+use Rattle.c_core.specs.Machine.{Word, MachineState}
+pub use Rattle.c_core.specs.Functions.{error_word}
 use Rattle.c_core.specs.Step.{MachineEnding, Next, Goes, Ends, step, unchecked_step}
 
 -- the state in which a run stopped, and how it ended
@@ -20,13 +18,7 @@ go_on f k (Ends e s) = Some (record { ending = e; state = s })
 go_on f zero (Goes s) = None
 go_on f (suc k) (Goes s) = go_on f k (f s)
 
--- the error value of a kind, with which its variables begin
-abbrev pub error_word : Kind → Word
-error_word Tagged = TaggedError
-error_word Int64 = Native (negsuc 112)
-error_word Char = CharWord 2
-error_word Object = NoObject
-
+-- the words with which the variables of the module's own function begin
 abbrev pub first_words : Option CFunc → List Word
 first_words None = []
 first_words (Some g) = map (λ v. error_word v.1) g.vars

@@ -1,8 +1,11 @@
 -- One step of the machine: what a line of the C text does to a state. Its tests go from left to right, each on the
 -- ledger that those before it left, and a fault leaves the state as it was before the line.
-use Rattle.std.specs.Prelude.{ℕ, zero, suc, ◌+◌, ◌/◌, ◌%◌, ◌==◌, Bool, true, false, cond, ℤ, pos, negsuc, List, [], ◌∷◌, ◌++◌, length, Option, Some, None, slice_get, slice_set}
+use Rattle.std.specs.Prelude.{ℕ, zero, suc, ◌+◌, ◌/◌, ◌%◌, ◌==◌, Bool, true, false, not, ◌||◌, cond, ℤ, pos, negsuc, int_lt, List, [], ◌∷◌, ◌++◌, length, Option, Some, None, codes, slice_get, slice_set}
+use Rattle.std.specs.Fmt.{signed_decimal}
 use Rattle.std.specs.Option.{option_and_then, option_map}
-use Rattle.value_core.specs.Ending.{Ending, Done, Raised}
+use Rattle.std.specs.Ordering.{int_eq}
+use Rattle.value_core.specs.Arithmetic.{i64_add, i64_sub, i64_mul, i64_neg}
+use Rattle.value_core.specs.Ending.{Ending, Done, Raised, Cut}
 use Rattle.c_core.specs.declared.code.Kind.{Kind}
 use Rattle.c_core.specs.declared.code.Kind.TheVariants.{Tagged, Int64, Char, Object}
 use Rattle.c_core.specs.declared.code.CLit.{CLit}
@@ -10,19 +13,22 @@ use Rattle.c_core.specs.declared.code.CLit.TheVariants.{Number, Null, PyNone, Py
 use Rattle.c_core.specs.declared.code.CArg.{CArg}
 use Rattle.c_core.specs.declared.code.CArg.TheVariants as arg
 use Rattle.c_core.specs.declared.code.Line.{Line}
-use Rattle.c_core.specs.declared.code.Line.TheVariants.{Lit, Call, Return, Dec}
+use Rattle.c_core.specs.declared.code.Line.TheVariants.{Label, Move, Lit, Call, Goto, If, IfError, Turn, Return, Inc, Dec, XDec}
 use Rattle.c_core.specs.declared.code.CFunc.{CFunc}
 use Rattle.c_core.specs.declared.code.Code.{Code}
 use Rattle.c_core.specs.declared.fault.Fault.{Fault}
 use Rattle.c_core.specs.declared.fault.Fault.TheVariants as fault
-use Rattle.c_core.specs.declared.primitive.Prim.{Prim}
-use Rattle.c_core.specs.declared.primitive.Prim.TheVariants.{Str, Io}
-use Rattle.c_core.specs.declared.primitive.StrPrim.TheVariants.{Literal}
-use Rattle.c_core.specs.declared.primitive.IoPrim.TheVariants.{Write}
-use Rattle.c_core.specs.Cells.{Cells, times, content_at, make}
+use Rattle.c_core.specs.declared.primitive.Primitive.{Primitive}
+use Rattle.c_core.specs.declared.primitive.Primitive.TheVariants as prim
+use Rattle.c_core.specs.declared.primitive.Int64Prim.TheVariants as int64
+use Rattle.c_core.specs.declared.primitive.BoolPrim.TheVariants as bool
+use Rattle.c_core.specs.declared.primitive.StrPrim.TheVariants as str
+use Rattle.c_core.specs.declared.primitive.IoPrim.TheVariants as io
+use Rattle.c_core.specs.Cells.{Cells, times, content_at, take_one, make}
 use Rattle.c_core.specs.Ledgers.{Ledger, more, more_of, without}
 use Rattle.c_core.specs.Release.{release}
 use Rattle.c_core.specs.Machine.{Word, ShortInt, BigInt, TaggedError, Native, CharWord, ObjectCell, NoneObject, TrueObject, FalseObject, NoObject, Content, StrCell, ExcCell, refs_of, refs_in, Frame, MachineState}
+use Rattle.c_core.specs.Functions.{label_places, function_named, parameter_kinds, entry_words}
 use Rattle.c_core.specs.Primitives.{Holding, Parameter, Borrows, Steals, TakesNumber, TakesText, TakesGlobal, TakesClass, row_of, primitive_named}
 use Rattle.c_core.specs.Arguments.{Argument, Cell, Plain, Written, is_value_of, is_holding, kind_found, stolen}
 
@@ -50,8 +56,11 @@ abbrev pub with_target : Option ℕ → Word → MachineState → MachineState
 with_target None w s = s
 with_target (Some x) w s = with_var x w s
 
+abbrev pub at_place : ℕ → MachineState → MachineState
+at_place p s = record s { top = record s.top { place = p } }
+
 abbrev pub next_line : MachineState → MachineState
-next_line s = record s { top = record s.top { place = s.top.place + 1 } }
+next_line s = at_place (s.top.place + 1) s
 
 -- the frame owns one reference to c more
 abbrev pub own : ℕ → MachineState → MachineState
@@ -91,18 +100,59 @@ abbrev pub is_both : Word → Bool
 is_both (Native (negsuc n)) = n == 112
 is_both _ = false
 
--- what a primitive does: it was called wrongly, it makes a cell, whose content takes over what was stolen, or it writes to
--- the output
+-- whether a word equals the error value of its kind
+abbrev pub equals_error : Word → Bool
+equals_error w = is_error w || is_both w
+
+-- ---- primitives
+-- what a primitive does: it was called wrongly, it answers a word that has no cell, it makes a cell, whose content takes over
+-- what was stolen, or it writes to the output
 pub data Effect : Type 0 where
   Wrong : Effect
+  Says : (w : Word) → Effect
   Makes : (content : Content) → Effect
   Writes : (text : List ℕ) → Effect
 
-abbrev pub effect : Code → MachineState → Prim → List Argument → Effect
-effect code s (Str Literal) (Written (arg.Text text) ∷ []) = Makes (StrCell text)
-effect code s (Io Write) (Cell c (StrCell text) ∷ []) = Writes text
+-- a truth as a `char`, and as a text
+abbrev pub truth_word : Bool → Word
+truth_word true = CharWord 1
+truth_word false = CharWord 0
+
+abbrev pub truth_text : ℕ → List ℕ
+truth_text zero = codes "False"
+truth_text (suc n) = codes "True"
+
+abbrev pub effect : Code → MachineState → Primitive → List Argument → Effect
+effect code s (prim.Int64 int64.Add) (Plain (Native a) ∷ Plain (Native b) ∷ []) = Says (Native (i64_add a b))
+effect code s (prim.Int64 int64.Subtract) (Plain (Native a) ∷ Plain (Native b) ∷ []) = Says (Native (i64_sub a b))
+effect code s (prim.Int64 int64.Multiply) (Plain (Native a) ∷ Plain (Native b) ∷ []) = Says (Native (i64_mul a b))
+effect code s (prim.Int64 int64.Negate) (Plain (Native a) ∷ []) = Says (Native (i64_neg a))
+effect code s (prim.Int64 int64.FromBool) (Plain (CharWord n) ∷ []) = Says (Native (pos n))
+effect code s (prim.Int64 int64.Eq) (Plain (Native a) ∷ Plain (Native b) ∷ []) = Says (truth_word (int_eq a b))
+effect code s (prim.Int64 int64.Lt) (Plain (Native a) ∷ Plain (Native b) ∷ []) = Says (truth_word (int_lt a b))
+effect code s (prim.Int64 int64.Le) (Plain (Native a) ∷ Plain (Native b) ∷ []) = Says (truth_word (not (int_lt b a)))
+effect code s (prim.Int64 int64.Str) (Plain (Native a) ∷ []) = Makes (StrCell (signed_decimal a))
+effect code s (prim.Bool bool.Not) (Plain (CharWord n) ∷ []) = Says (truth_word (n == 0))
+effect code s (prim.Bool bool.Str) (Plain (CharWord n) ∷ []) = Makes (StrCell (truth_text n))
+effect code s (prim.Str str.Literal) (Written (arg.Text text) ∷ []) = Makes (StrCell text)
+effect code s (prim.Io io.Write) (Cell c (StrCell text) ∷ []) = Writes text
 effect code s _ _ = Wrong
 
+-- ---- what a frame runs
+-- the function that a frame runs, the kind of a variable, the line that comes next, and the place of a label
+abbrev pub function_of : Code → Frame → Option CFunc
+function_of code f = slice_get code.funcs f.func
+
+abbrev pub kind_of : Code → Frame → ℕ → Option Kind
+kind_of code f x = option_and_then (λ g. option_map (λ v. v.1) (slice_get g.vars x)) (function_of code f)
+
+abbrev pub line_at : Code → Frame → Option Line
+line_at code f = option_and_then (λ g. slice_get g.lines f.place) (function_of code f)
+
+abbrev pub label_at : Code → Frame → ℕ → Option ℕ
+label_at code f n = option_and_then (λ g. slice_get (label_places g.lines) n) (function_of code f)
+
+-- ---- tests
 -- the tests, which fault at the state that the line began with. An unchecked run makes no test of ownership, and in it
 -- no cell ever goes
 module _ (is_checked : Bool) (s : MachineState) where
@@ -180,10 +230,11 @@ module _ (is_checked : Bool) (s : MachineState) where
   -- l is the ledger that the arguments left, and `gone` what was stolen
   abbrev pub applied : Option ℕ → Ledger → List ℕ → Effect → Next
   applied x l gone Wrong = faulted fault.Kind
+  applied x l gone (Says w) = Goes (next_line (with_target x w (given gone (with_ledger l s))))
   applied x l gone (Makes content) = Goes (next_line (made_cell x content (with_ledger l s)))
   applied x l gone (Writes text) = Goes (next_line (given gone (with_ledger l (record s { output = s.output ++ text }))))
 
-  abbrev pub primitive_step : Code → Option ℕ → List CArg → Prim → Next
+  abbrev pub primitive_step : Code → Option ℕ → List CArg → Primitive → Next
   primitive_step code x args p =
       if_arguments code (row_of p).parameters args [] s.top.ledger
       (λ all l. applied x l (stolen (row_of p).parameters all) (effect code s p all))
@@ -192,8 +243,59 @@ module _ (is_checked : Bool) (s : MachineState) where
   abbrev pub if_may_stand : Bool → Next → Next
   if_may_stand b go = cond b go (if_calm s.pending go)
 
-  abbrev pub called : Code → Option ℕ → List CArg → Prim → Next
+  abbrev pub called : Code → Option ℕ → List CArg → Primitive → Next
   called code x args p = if_may_stand (row_of p).while_pending (primitive_step code x args p)
+
+  -- what a call of a function passes: for each parameter a word of its kind, whose cell is there if it has one
+  abbrev pub if_passed : List Kind → List CArg → (List Word → Next) → Next
+  if_passed [] [] go = go []
+  if_passed (k ∷ ks) (arg.Var x ∷ rest) go =
+      word_of x (λ w. if_true (is_value_of k w) (if_there w (λ a. if_passed ks rest (λ ws. go (w ∷ ws)))))
+  if_passed _ _ go = faulted fault.Kind
+
+  -- the function of number f begins, with an empty ledger: what it is passed stays with the caller, who waits at the line
+  -- behind the call
+  abbrev pub entered : Option ℕ → ℕ → List Word → MachineState
+  entered x f vars = record s { top = record { func = f; place = 0; vars = vars; ledger = []; into = x }; below = (next_line s).top ∷ s.below }
+
+  abbrev pub function_step : Option ℕ → List CArg → ℕ → CFunc → Next
+  function_step x args f g = if_passed (parameter_kinds g) args (λ ws. Goes (entered x f (entry_words ws g)))
+
+  abbrev pub function_called : Code → Option ℕ → List CArg → Option ℕ → Next
+  function_called code x args n =
+      if_calm s.pending (if_some fault.Kind n (λ f. if_some fault.Kind (slice_get code.funcs f) (function_step x args f)))
+
+  -- the name of a call is a primitive's or a function's
+  abbrev pub call_step : Code → Option ℕ → List ℕ → List CArg → Option Primitive → Next
+  call_step code x name args (Some p) = called code x args p
+  call_step code x name args None = function_called code x args (function_named code.funcs name)
+
+  -- the run goes on at a label
+  abbrev pub jumped : Option ℕ → Next
+  jumped p = if_some fault.Kind p (λ q. Goes (at_place q s))
+
+  abbrev pub chosen : Option ℕ → Option ℕ → Word → Next
+  chosen a b (CharWord zero) = jumped b
+  chosen a b (CharWord (suc zero)) = jumped a
+  chosen a b _ = faulted fault.Kind
+
+  -- where no turn is left the run is cut; else one is spent
+  abbrev pub turned : ℕ → Next
+  turned zero = Ends (Ended Cut) s
+  turned (suc n) = Goes (next_line (record s { turns = n }))
+
+  -- a reference is taken; nothing happens for a word without a cell
+  abbrev pub taken : ℕ → Next
+  taken c = if_content c (λ content. Goes (next_line (own c (with_cells (take_one c s.cells) s))))
+
+  abbrev pub incremented : Word → Next
+  incremented (ShortInt n) = Goes (next_line s)
+  incremented (BigInt c) = taken c
+  incremented (ObjectCell c) = taken c
+  incremented NoneObject = Goes (next_line s)
+  incremented TrueObject = Goes (next_line s)
+  incremented FalseObject = Goes (next_line s)
+  incremented _ = faulted fault.Kind
 
   -- a reference is given up; nothing happens for a word without a cell
   abbrev pub given_up : ℕ → Next
@@ -207,6 +309,12 @@ module _ (is_checked : Bool) (s : MachineState) where
   decremented TrueObject = Goes (next_line s)
   decremented FalseObject = Goes (next_line s)
   decremented _ = faulted fault.Kind
+
+  -- the same, but that nothing happens for an error value
+  abbrev pub decremented_if_set : Word → Next
+  decremented_if_set TaggedError = Goes (next_line s)
+  decremented_if_set NoObject = Goes (next_line s)
+  decremented_if_set w = decremented w
 
   -- an error value is returned with a pending exception, any other value with none, and -113 with either
   abbrev pub if_in_order : Word → Option ℕ → Next → Next
@@ -244,24 +352,21 @@ module _ (is_checked : Bool) (s : MachineState) where
   abbrev pub returned : Word → Next
   returned w = if_in_order w s.pending (if_return w s.below (λ next. if_result w (λ l. if_none_left l next)))
 
--- the function that a frame runs, the kind of a variable, and the line that comes next
-abbrev pub function_of : Code → Frame → Option CFunc
-function_of code f = slice_get code.funcs f.func
-
-abbrev pub kind_of : Code → Frame → ℕ → Option Kind
-kind_of code f x = option_and_then (λ g. option_map (λ v. v.1) (slice_get g.vars x)) (function_of code f)
-
-abbrev pub line_at : Code → Frame → Option Line
-line_at code f = option_and_then (λ g. slice_get g.lines f.place) (function_of code f)
-
 abbrev pub step_at : Bool → Code → MachineState → Option Line → Next
 step_at b code s None = faulted b s fault.Kind
+step_at b code s (Some Label) = Goes (next_line s)
+step_at b code s (Some (Move x y)) = word_of b s y (λ w. if_there b s w (λ a. Goes (next_line (with_var x w s))))
 step_at b code s (Some (Lit x l)) =
     if_some b s fault.Kind (option_and_then (λ k. literal_word k l) (kind_of code s.top x)) (λ w. Goes (next_line (with_var x w s)))
-step_at b code s (Some (Call x name args)) =
-    if_some b s fault.Kind (primitive_named name) (called b s code x args)
+step_at b code s (Some (Call x name args)) = call_step b s code x name args (primitive_named name)
+step_at b code s (Some (Goto n)) = jumped b s (label_at code s.top n)
+step_at b code s (Some (If x n m)) = word_of b s x (chosen b s (label_at code s.top n) (label_at code s.top m))
+step_at b code s (Some (IfError x n m)) = word_of b s x (λ w. jumped b s (label_at code s.top (cond (equals_error w) n m)))
+step_at b code s (Some Turn) = if_calm b s s.pending (turned b s s.turns)
 step_at b code s (Some (Return x)) = word_of b s x (returned b s)
+step_at b code s (Some (Inc x)) = word_of b s x (incremented b s)
 step_at b code s (Some (Dec x)) = word_of b s x (decremented b s)
+step_at b code s (Some (XDec x)) = word_of b s x (decremented_if_set b s)
 
 -- one step of a checked run
 abbrev pub step : Code → MachineState → Next

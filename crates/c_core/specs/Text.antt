@@ -1,6 +1,6 @@
 -- The one text of a code. Lines end with a line feed, and nothing in it is written in two ways.
-use Rattle.std.specs.Prelude.{ℕ, ◌+◌, ◌/◌, ◌%◌, ◌==◌, nat_lt, cond, ◌||◌, List, [], ◌∷◌, ◌++◌, Option, Some, None, codes, flat_map, slice_get}
-use Rattle.std.specs.Fmt.{signed_decimal}
+use Rattle.std.specs.Prelude.{ℕ, ◌+◌, ◌/◌, ◌%◌, ◌==◌, nat_lt, cond, ◌||◌, List, [], ◌∷◌, ◌++◌, Option, Some, None, codes, flat_map, map, take, drop, slice_get}
+use Rattle.std.specs.Fmt.{decimal, signed_decimal}
 use Rattle.std.specs.declared.option.Option.{Option}
 use Rattle.value_core.specs.Items.{line_feed}
 use Rattle.c_core.specs.declared.code.Kind.{Kind}
@@ -10,9 +10,10 @@ use Rattle.c_core.specs.declared.code.CArg.TheVariants as arg
 use Rattle.c_core.specs.declared.code.CLit.{CLit}
 use Rattle.c_core.specs.declared.code.CLit.TheVariants.{Number, Null, PyNone, PyTrue, PyFalse}
 use Rattle.c_core.specs.declared.code.Line.{Line}
-use Rattle.c_core.specs.declared.code.Line.TheVariants.{Lit, Call, Return, Dec}
+use Rattle.c_core.specs.declared.code.Line.TheVariants.{Label, Move, Lit, Call, Goto, If, IfError, Turn, Return, Inc, Dec, XDec}
 use Rattle.c_core.specs.declared.code.CFunc.{CFunc}
 use Rattle.c_core.specs.declared.code.Code.{Code}
+use Rattle.c_core.specs.Functions.{is_label}
 
 -- texts with something between each two of them
 abbrev pub joined : List ℕ → List (List ℕ) → List ℕ
@@ -74,19 +75,51 @@ abbrev pub target_text : List (List ℕ × Kind) → Option ℕ → List ℕ
 target_text vars None = []
 target_text vars (Some x) = var_text vars x ++ codes " = "
 
+-- a label by its number
+abbrev pub label_text : ℕ → List ℕ
+label_text n = codes "CPyL" ++ decimal n
+
+abbrev pub goto_text : ℕ → List ℕ
+goto_text n = codes "goto " ++ label_text n
+
+-- what follows the condition of an `if`
+abbrev pub branches_text : ℕ → ℕ → List ℕ
+branches_text n m = codes ") " ++ (goto_text n ++ (codes "; else " ++ goto_text m))
+
+-- the error value of a variable's kind
+abbrev pub error_text : Option (List ℕ × Kind) → List ℕ
+error_text None = []
+error_text (Some (name, Tagged)) = codes "1"
+error_text (Some (name, Int64)) = codes "-113"
+error_text (Some (name, Char)) = codes "2"
+error_text (Some (name, Object)) = codes "NULL"
+
 -- the count statement goes by the variable's kind
 abbrev pub counter_of : Option (List ℕ × Kind) → List ℕ
 counter_of (Some (name, Tagged)) = codes "CPyTagged_"
 counter_of _ = codes "CPy_"
 
+abbrev pub count_text : List (List ℕ × Kind) → List ℕ → ℕ → List ℕ
+count_text vars word x = counter_of (slice_get vars x) ++ (word ++ (codes "(" ++ (var_text vars x ++ codes ")")))
+
+-- a statement without its semicolon; a label is none
 abbrev pub statement_text : List (List ℕ × Kind) → Line → List ℕ
+statement_text vars Label = []
+statement_text vars (Move x y) = var_text vars x ++ (codes " = " ++ var_text vars y)
 statement_text vars (Lit x l) = var_text vars x ++ (codes " = " ++ literal_text l)
 statement_text vars (Call x name args) =
     target_text vars x ++ (name ++ (codes "(" ++ (joined comma (arg_texts vars args) ++ codes ")")))
+statement_text vars (Goto n) = goto_text n
+statement_text vars (If x n m) = codes "if (" ++ (var_text vars x ++ branches_text n m)
+statement_text vars (IfError x n m) =
+    codes "if (" ++ (var_text vars x ++ (codes " == " ++ (error_text (slice_get vars x) ++ branches_text n m)))
+statement_text vars Turn = codes "CPyTurn()"
 statement_text vars (Return x) = codes "return " ++ var_text vars x
-statement_text vars (Dec x) = counter_of (slice_get vars x) ++ (codes "DECREF(" ++ (var_text vars x ++ codes ")"))
+statement_text vars (Inc x) = count_text vars (codes "INCREF") x
+statement_text vars (Dec x) = count_text vars (codes "DECREF") x
+statement_text vars (XDec x) = count_text vars (codes "XDECREF") x
 
--- the lines of a text, without their line feeds: of a declaration, and of a statement
+-- the lines of a text, without their line feeds: of a declaration, and of a label or a statement
 abbrev pub indented : List ℕ → List ℕ
 indented text = codes "    " ++ (text ++ codes ";")
 
@@ -97,9 +130,18 @@ abbrev pub declaration_lines : List (List ℕ × Kind) → List (List ℕ)
 declaration_lines [] = []
 declaration_lines (v ∷ vars) = indented (declaration_text v) ∷ declaration_lines vars
 
+-- a label alone is not indented
+abbrev pub label_line : ℕ → List ℕ
+label_line n = label_text n ++ codes ": ;"
+
+-- the lines of statements with n labels above them
+abbrev pub lines_from : List (List ℕ × Kind) → ℕ → List Line → List (List ℕ)
+lines_from vars n [] = []
+lines_from vars n (l ∷ lines) =
+    cond (is_label l) (label_line n ∷ lines_from vars (n + 1) lines) (indented (statement_text vars l) ∷ lines_from vars n lines)
+
 abbrev pub statement_lines : List (List ℕ × Kind) → List Line → List (List ℕ)
-statement_lines vars [] = []
-statement_lines vars (l ∷ lines) = indented (statement_text vars l) ∷ statement_lines vars lines
+statement_lines vars lines = lines_from vars 0 lines
 
 -- the fixed lines: the first of a text, the head of the module's own function, and the end of a function
 abbrev pub first_line : List ℕ
@@ -111,16 +153,33 @@ module_head = codes "char CPyModule(void) {"
 abbrev pub function_end : List ℕ
 function_end = codes "}"
 
--- the lines of functions: only the module's own has a text so far
+-- the head of another function, with its parameters, `void` where there are none
+abbrev pub parameters_text : List (List ℕ × Kind) → List ℕ
+parameters_text [] = codes "void"
+parameters_text (v ∷ vars) = joined comma (map declaration_text (v ∷ vars))
+
+abbrev pub function_head : CFunc → List ℕ
+function_head g =
+    kind_text g.ret ++ (codes "CPyDef_" ++ (g.name ++ (codes "(" ++ (parameters_text (take g.params g.vars) ++ codes ") {"))))
+
+-- the lines of functions: the last one is the module's own, which declares all its variables
 abbrev pub function_lines : List CFunc → List (List ℕ)
 function_lines [] = []
-function_lines (g ∷ gs) =
-    module_head ∷ (declaration_lines g.vars ++ (statement_lines g.vars g.lines ++ (function_end ∷ function_lines gs)))
+function_lines (g ∷ []) =
+    module_head ∷ (declaration_lines g.vars ++ (statement_lines g.vars g.lines ++ (function_end ∷ [])))
+function_lines (g ∷ h ∷ gs) =
+    function_head g ∷ (declaration_lines (drop g.params g.vars) ++ (statement_lines g.vars g.lines ++ (function_end ∷ function_lines (h ∷ gs))))
 
--- the lines of a code's text. Globals, classes and functions beside the module's own are not built: no code that is
--- spelled has them
+-- the lines of globals
+abbrev pub global_line : List ℕ × Kind → List ℕ
+global_line v = kind_text v.1 ++ (codes "CPyStatic_" ++ (v.0 ++ codes ";"))
+
+abbrev pub global_lines : List (List ℕ × Kind) → List (List ℕ)
+global_lines vars = map global_line vars
+
+-- the lines of a code's text. Classes are not built: no code that is spelled has any
 abbrev pub code_lines : Code → List (List ℕ)
-code_lines code = first_line ∷ function_lines code.funcs
+code_lines code = first_line ∷ (global_lines code.globals ++ function_lines code.funcs)
 
 -- lines as a text: each has its line feed
 abbrev pub text_of : List (List ℕ) → List ℕ

@@ -30,22 +30,39 @@ pub enum CLit {
     PyFalse,
 }
 
-/// One line of a function. Variables go by their numbers.
-#[derive(Debug, Drop)]
+/// One line of a function. Variables go by their numbers, and labels by theirs: the labels of a function are numbered
+/// from 0 on in their order.
+#[derive(Drop)]
 pub enum Line {
+    /// `CPyLn: ;`, where n labels stand above.
+    Label,
+    /// `x = y;`
+    Move(usize, usize),
     /// `x = LITERAL;`
     Lit(usize, CLit),
-    /// `x = NAME(arguments);`, or `NAME(arguments);` without a target.
+    /// `x = NAME(arguments);`, or `NAME(arguments);` without a target: a primitive, or a function by `CPyDef_` and its name.
     Call(Option<usize>, Name, Many<CArg>),
+    /// `goto CPyLn;`
+    Goto(usize),
+    /// `if (x) goto CPyLa; else goto CPyLb;`
+    If(usize, usize, usize),
+    /// `if (x == E) goto CPyLa; else goto CPyLb;`, where E is the error value of the variable's kind.
+    IfError(usize, usize, usize),
+    /// `CPyTurn();`: one turn is spent.
+    Turn,
     /// `return x;`
     Return(usize),
+    /// `CPy_INCREF(x);` for an object, `CPyTagged_INCREF(x);` for an `int`: one reference more is owned.
+    Inc(usize),
     /// `CPy_DECREF(x);` for an object, `CPyTagged_DECREF(x);` for an `int`: one reference is given up.
     Dec(usize),
+    /// `CPy_XDECREF(x);` for an object, `CPyTagged_XDECREF(x);` for an `int`: the same, or nothing for an error value.
+    XDec(usize),
 }
 
 /// A function: its name without `CPyDef_`, the kind of its result, how many of its variables are parameters, its
 /// variables with their names without `cpy_`, and its lines.
-#[derive(Debug, Drop)]
+#[derive(Drop)]
 pub struct CFunc {
     pub name: Name,
     pub ret: Kind,
@@ -56,7 +73,7 @@ pub struct CFunc {
 
 /// A class: its name without `CPyType_`, its attributes, the functions of its methods, and for each trait the
 /// functions of its methods.
-#[derive(Debug, Drop)]
+#[derive(Drop)]
 pub struct CClass {
     pub name: Name,
     pub attrs: Many<(Name, Kind)>,
@@ -65,7 +82,7 @@ pub struct CClass {
 }
 
 /// A whole C text. The last function is the module's own, which has no name.
-#[derive(Debug, Drop)]
+#[derive(Drop)]
 pub struct Code {
     pub globals: Many<(Name, Kind)>,
     pub classes: Many<CClass>,

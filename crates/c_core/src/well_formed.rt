@@ -1,49 +1,88 @@
 //! Whether the machine may run a code.
-ghost use Rattle.std.specs.Prelude.{◌≡◌, ◌-◌, length, map, slice_get, Some};
-ghost use Rattle.std.specs.List.{list_all, list_any};
+ghost use Rattle.std.specs.Prelude.{◌≡◌, ◌&&◌, ℕ, ◌-◌, false, List, [], ◌∷◌, length, map, take, slice_get, Some};
+ghost use Rattle.std.specs.List.{list_all, list_any, position};
+ghost use Rattle.std.specs.Option.{option_and_then, option_map};
 ghost use Rattle.std.specs.Str.{bytes_eq, is_utf8};
 ghost use Rattle.value_core.specs.Arithmetic.{lies_within};
+ghost use Rattle.c_core.specs.Functions as function;
+ghost use Rattle.c_core.specs.Functions.{label_places};
+ghost use Rattle.c_core.specs.Primitives.{Owned, Is, simple_row, row_of, primitive_named};
 ghost use Rattle.c_core.specs.WellFormed as spec;
+ghost use Rattle.c_core.specs.declared.code.CArg.{CArg};
+ghost use Rattle.c_core.specs.declared.code.CFunc.{CFunc};
 ghost use Rattle.c_core.specs.declared.code.Code as declared;
+ghost use Rattle.c_core.specs.declared.primitive.Primitive.TheVariants as prim;
+ghost use Rattle.c_core.specs.declared.primitive.StrPrim.TheVariants as str;
 
 use crate::code::{CArg, CFunc, CLit, Code, Kind, Line};
-use crate::primitive::{IoPrim, Prim, StrPrim};
+use crate::primitive::{BoolPrim, Int64Prim, IoPrim, Primitive, StrPrim};
 use unicode_ident::is_xid_continue;
 use value_core::Name;
 
-/// Whether a code is well formed: it is spelled, its names differ, and lines, calls and returns have the numbers and
-/// kinds that they ask for. It takes no memory, and a time that grows with the square of the number of names.
+/// Whether a code is well formed: it is spelled, its names differ, lines, calls and returns have the numbers and kinds that
+/// they ask for, labels and functions are there, and no way round passes no turn. It takes no memory, and a time that
+/// grows with the square of the number of names, calls and jumps.
 pub fn is_well_formed(code: &Code) -> bool
     ensures { result ≡ spec.well_formed code.now }
 {
-    is_spelled(code) && functions_fit(code)
+    is_spelled(code)
+        && names_differ(code.globals.as_slice())
+        && function_names_differ(code.funcs.as_slice())
+        && functions_fit(code)
 }
 
 /// Whether each part of a code stands in its text as C text wants it. It takes no memory.
 pub fn is_spelled(code: &Code) -> bool
     ensures { result ≡ spec.is_spelled code.now }
 {
-    code.globals.is_empty() && code.classes.is_empty() && spelled_functions(code.funcs.as_slice())
+    spelled_globals(code.globals.as_slice())
+        && code.classes.is_empty()
+        && spelled_functions(code.funcs.as_slice())
+}
+
+fn spelled_globals(globals: &[(Name, Kind)]) -> bool
+    ensures { result ≡ spec.spelled_globals globals.now }
+{
+    spelled_names(globals)
 }
 
 fn spelled_functions(functions: &[CFunc]) -> bool
     ensures { result ≡ spec.spelled_functions functions.now }
 {
-    match functions {
-        [function] => spelled_top(function),
-        _ => false,
+    if functions.is_empty() {
+        return false;
     }
+    let last = functions.len() - 1;
+    for i in 0..last {
+        if !spelled_function(&functions[i]) {
+            return false;
+        }
+    }
+    spelled_top(&functions[last])
+}
+
+fn spelled_function(function: &CFunc) -> bool
+    ensures { result ≡ spec.spelled_function function.now }
+{
+    is_identifier(function.name.as_str())
+        && function.params <= function.vars.len()
+        && spelled_body(function)
 }
 
 fn spelled_top(function: &CFunc) -> bool
     ensures { result ≡ spec.spelled_top function.now }
 {
-    let vars = function.vars.as_slice();
     function.name.as_str().is_empty()
         && matches!(function.ret, Kind::Char)
         && function.params == 0
-        && spelled_names(vars)
-        && spelled_lines(vars, function.lines.as_slice())
+        && spelled_body(function)
+}
+
+fn spelled_body(function: &CFunc) -> bool
+    ensures { result ≡ spec.spelled_body function.now }
+{
+    let vars = function.vars.as_slice();
+    spelled_names(vars) && spelled_lines(vars, function.lines.as_slice())
 }
 
 fn spelled_names(vars: &[(Name, Kind)]) -> bool
@@ -62,15 +101,30 @@ fn spelled_line(vars: &[(Name, Kind)], line: &Line) -> bool
     ensures { result ≡ spec.spelled_line vars.now line.now }
 {
     match line {
+        Line::Label | Line::Turn => true,
+        Line::Move(x, y) => *x < vars.len() && *y < vars.len(),
         Line::Lit(x, literal) => *x < vars.len() && spelled_literal(*literal),
         Line::Call(target, name, args) => {
             spelled_target(vars, *target)
                 && is_call_name(name.as_str())
                 && spelled_args(vars, args.as_slice())
         }
+        Line::Goto(label) => spelled_label(*label),
+        Line::If(x, label, other) | Line::IfError(x, label, other) => {
+            *x < vars.len() && spelled_label(*label) && spelled_label(*other)
+        }
         Line::Return(x) => *x < vars.len(),
-        Line::Dec(x) => matches!(kind_at(vars, *x), Some(Kind::Tagged | Kind::Object)),
+        Line::Inc(x) | Line::Dec(x) | Line::XDec(x) => {
+            matches!(kind_at(vars, *x), Some(Kind::Tagged | Kind::Object))
+        }
     }
+}
+
+// Each number of a `usize` has a text.
+fn spelled_label(_label: usize) -> bool
+    ensures { result ≡ spec.spelled_label _label }
+{
+    true
 }
 
 // Each number of an `i64` has a text.
@@ -176,7 +230,10 @@ fn function_fits(code: &Code, function: &CFunc) -> bool
 {
     let vars = function.vars.as_slice();
     let lines = function.lines.as_slice();
-    names_differ(vars) && lines_fit(code, vars, function.ret, lines) && ends_leaving(lines)
+    names_differ(vars)
+        && lines_fit(code, vars, function.ret, lines)
+        && lines_lead_on(lines)
+        && begins_right(function)
 }
 
 fn names_differ(vars: &[(Name, Kind)]) -> bool
@@ -196,32 +253,275 @@ fn is_declared_in(name: &str, vars: &[(Name, Kind)]) -> bool
     vars.iter().any(|var| name == var.0.as_str())
 }
 
-pub(crate) fn lines_fit(code: &Code, vars: &[(Name, Kind)], ret: Kind, lines: &[Line]) -> bool
+fn function_names_differ(functions: &[CFunc]) -> bool
+    ensures { result ≡ spec.names_differ (map (λ function. function.name) functions.now) }
+{
+    for i in 0..functions.len() {
+        if is_function_in(functions[i].name.as_str(), &functions[i + 1..]) {
+            return false;
+        }
+    }
+    true
+}
+
+fn is_function_in(name: &str, functions: &[CFunc]) -> bool
+    ensures { result ≡ list_any (λ function. bytes_eq name.now function.name) functions.now }
+{
+    functions
+        .iter()
+        .any(|function| name == function.name.as_str())
+}
+
+fn lines_fit(code: &Code, vars: &[(Name, Kind)], ret: Kind, lines: &[Line]) -> bool
     ensures { result ≡ list_all (spec.line_fits code.now vars.now ret) lines.now }
 {
-    lines.iter().all(|line| line_fits(code, vars, ret, line))
+    let functions = code.funcs.as_slice();
+    lines.iter().all(|line| line_fits(code, vars, ret, line, callee_of(functions, line)))
+}
+
+fn callee_of(functions: &[CFunc], line: &Line) -> Option<usize>
+    ensures { result ≡ spec.callee_of functions.now line.now }
+{
+    match line {
+        Line::Call(_, name, _) => function_named(functions, name.as_str()),
+        _ => None,
+    }
+}
+
+fn lines_lead_on(lines: &[Line]) -> bool
+    ensures { result ≡ spec.lines_lead_on lines.now }
+{
+    jumps_fit(lines) && ends_leaving(lines)
+}
+
+// Without memory each jump looks for its labels.
+fn jumps_fit(lines: &[Line]) -> bool
+    ensures { result ≡ spec.jumps_fit (label_places lines.now) 0 false lines.now }
+{
+    let mut after_turn = false;
+    for place in 0..lines.len() {
+        let line = &lines[place];
+        if !jump_fits(lines, place, after_turn, line) {
+            return false;
+        }
+        after_turn = is_turn(line);
+    }
+    true
+}
+
+fn jump_fits(lines: &[Line], place: usize, after_turn: bool, line: &Line) -> bool
+    ensures { result ≡ spec.jump_fits (label_places lines.now) place after_turn line.now }
+{
+    match line {
+        Line::Goto(label) => goes_on(place, after_turn, place_of_label(lines, *label)),
+        Line::If(_, label, other) => branches_fit(lines, place, *label, *other),
+        Line::IfError(_, label, other) => branches_fit(lines, place, *label, *other),
+        _ => true,
+    }
+}
+
+fn branches_fit(lines: &[Line], place: usize, label: usize, other: usize) -> bool
+    ensures { result ≡ (spec.goes_down place (slice_get (label_places lines.now) label) && spec.goes_down place (slice_get (label_places lines.now) other)) }
+{
+    goes_down(place, place_of_label(lines, label)) && goes_down(place, place_of_label(lines, other))
+}
+
+pub(crate) fn goes_down(place: usize, label: Option<usize>) -> bool
+    ensures { result ≡ spec.goes_down place label }
+{
+    match label {
+        Some(other) => place < other,
+        None => false,
+    }
+}
+
+pub(crate) fn goes_on(place: usize, after_turn: bool, label: Option<usize>) -> bool
+    ensures { result ≡ spec.goes_on place after_turn label }
+{
+    match label {
+        Some(other) => place < other || after_turn,
+        None => false,
+    }
+}
+
+fn place_of_label(lines: &[Line], label: usize) -> Option<usize>
+    ensures { result ≡ slice_get (label_places lines.now) label }
+{
+    let mut others = label;
+    for place in 0..lines.len() {
+        if is_label(&lines[place]) {
+            if others == 0 {
+                return Some(place);
+            }
+            others -= 1;
+        }
+    }
+    None
+}
+
+pub(crate) fn is_label(line: &Line) -> bool
+    ensures { result ≡ function.is_label line.now }
+{
+    matches!(line, Line::Label)
+}
+
+pub(crate) fn is_turn(line: &Line) -> bool
+    ensures { result ≡ function.is_turn line.now }
+{
+    matches!(line, Line::Turn)
 }
 
 pub(crate) fn ends_leaving(lines: &[Line]) -> bool
     ensures { result ≡ spec.is_leaving (slice_get lines.now (length lines.now - 1)) }
 {
     match lines.last() {
-        Some(Line::Return(_)) => true,
+        Some(line) => is_leaving(line),
+        None => false,
+    }
+}
+
+fn is_leaving(line: &Line) -> bool
+    ensures { result ≡ spec.is_leaving (Some line.now) }
+{
+    matches!(
+        line,
+        Line::Goto(_) | Line::If(..) | Line::IfError(..) | Line::Return(_)
+    )
+}
+
+pub(crate) fn begins_right(function: &CFunc) -> bool
+    ensures { result ≡ spec.begins_right function.now }
+{
+    function.name.as_str().is_empty() || begins_with_turn(function.lines.as_slice())
+}
+
+fn begins_with_turn(lines: &[Line]) -> bool
+    ensures { result ≡ spec.is_turn_at (slice_get lines.now 0) }
+{
+    match lines.first() {
+        Some(line) => is_turn(line),
+        None => false,
+    }
+}
+
+/// Whether a line fits, where the number of the function that it calls is known.
+pub(crate) fn line_fits(
+    code: &Code,
+    vars: &[(Name, Kind)],
+    ret: Kind,
+    line: &Line,
+    callee: Option<usize>,
+) -> bool
+    requires { callee ≡ spec.callee_of code.now.funcs line.now }
+    ensures { result ≡ spec.line_fits code.now vars.now ret line.now }
+{
+    match line {
+        Line::Move(x, y) => same_kinds(kind_at(vars, *x), kind_at(vars, *y)),
+        Line::Lit(x, literal) => literal_fits(*literal, kind_at(vars, *x)),
+        Line::Call(target, name, args) => {
+            let args = args.as_slice();
+            match Primitive::named(name.as_str()) {
+                Some(primitive) => primitive_call_fits(vars, primitive, *target, args),
+                None => function_call_fits(code, vars, callee, *target, args),
+            }
+        }
+        Line::Return(x) => kind_at(vars, *x) == Some(ret),
+        _ => true,
+    }
+}
+
+fn same_kinds(kind: Option<Kind>, other: Option<Kind>) -> bool
+    ensures { result ≡ spec.same_kinds kind other }
+{
+    kind.is_some() && kind == other
+}
+
+/// The number of the function that a call means by a name, if there is one.
+fn function_named(functions: &[CFunc], name: &str) -> Option<usize>
+    ensures { result ≡ function.function_named functions.now name.now }
+{
+    match name.strip_prefix("CPyDef_") {
+        Some(rest) => number_of(functions, rest),
+        None => None,
+    }
+}
+
+fn number_of(functions: &[CFunc], name: &str) -> Option<usize>
+    ensures { result ≡ function.number_of functions.now name.now }
+{
+    if name.is_empty() {
+        None
+    } else {
+        place_of_name(functions, name)
+    }
+}
+
+fn place_of_name(functions: &[CFunc], name: &str) -> Option<usize>
+    ensures { result ≡ position (λ function. bytes_eq name.now function.name) functions.now }
+{
+    functions
+        .iter()
+        .position(|function| name == function.name.as_str())
+}
+
+fn function_call_fits(
+    code: &Code,
+    vars: &[(Name, Kind)],
+    callee: Option<usize>,
+    target: Option<usize>,
+    args: &[CArg],
+) -> bool
+    ensures { result ≡ spec.function_call_fits code.now vars.now target args.now (option_and_then (slice_get code.now.funcs) callee) }
+{
+    let Some(number) = callee else {
+        return false;
+    };
+    match code.funcs.get(number) {
+        Some(function) => {
+            passes(vars, parameters(function), args) && answers(vars, function.ret, target)
+        }
+        None => false,
+    }
+}
+
+/// The variables of a function that are its parameters.
+fn parameters(function: &CFunc) -> &[(Name, Kind)]
+    ensures { result.now ≡ take function.now.params function.now.vars }
+{
+    let vars = function.vars.as_slice();
+    &vars[..function.params.min(vars.len())]
+}
+
+fn passes(vars: &[(Name, Kind)], parameters: &[(Name, Kind)], args: &[CArg]) -> bool
+    ensures { result ≡ spec.passes vars.now (map (λ var. var.1) parameters.now) args.now }
+{
+    if parameters.len() != args.len() {
+        return false;
+    }
+    for i in 0..args.len() {
+        if !is_passed(vars, parameters[i].1, &args[i]) {
+            return false;
+        }
+    }
+    true
+}
+
+fn is_passed(vars: &[(Name, Kind)], kind: Kind, arg: &CArg) -> bool
+    ensures { result ≡ spec.passes vars.now (kind ∷ []) (arg.now ∷ []) }
+{
+    match arg {
+        CArg::Var(x) => kind_at(vars, *x) == Some(kind),
         _ => false,
     }
 }
 
-fn line_fits(code: &Code, vars: &[(Name, Kind)], ret: Kind, line: &Line) -> bool
-    ensures { result ≡ spec.line_fits code.now vars.now ret line.now }
+// A result of a kind may be left without a target.
+fn answers(vars: &[(Name, Kind)], kind: Kind, target: Option<usize>) -> bool
+    ensures { (code : declared.Code) (args : List CArg) → result ≡ spec.target_fits code vars.now args (Owned (Is kind)) target }
 {
-    match line {
-        Line::Lit(x, literal) => literal_fits(*literal, kind_at(vars, *x)),
-        Line::Call(target, name, args) => match Prim::named(name.as_str()) {
-            Some(primitive) => call_fits(vars, primitive, *target, args.as_slice()),
-            None => false,
-        },
-        Line::Return(x) => kind_at(vars, *x) == Some(ret),
-        Line::Dec(_) => true,
+    match target {
+        Some(x) => kind_at(vars, x) == Some(kind),
+        None => true,
     }
 }
 
@@ -238,16 +538,100 @@ fn literal_fits(literal: CLit, kind: Option<Kind>) -> bool
     }
 }
 
-fn call_fits(vars: &[(Name, Kind)], primitive: Prim, target: Option<usize>, args: &[CArg]) -> bool
-    ensures { (code : declared.Code) → result ≡ spec.call_fits code vars.now target args.now (Some primitive) }
+fn primitive_call_fits(
+    vars: &[(Name, Kind)],
+    primitive: Primitive,
+    target: Option<usize>,
+    args: &[CArg],
+) -> bool
+    ensures { (code : declared.Code) → result ≡ spec.row_fits code vars.now target args.now (row_of primitive) }
 {
     match (primitive, args) {
-        (Prim::Str(StrPrim::Literal), [CArg::Text(_)]) => match target {
-            None => true,
-            Some(x) => kind_at(vars, x) == Some(Kind::Object),
-        },
-        (Prim::Io(IoPrim::Write), [CArg::Var(x)]) => {
+        (Primitive::Int64(operation), _) => int64_call_fits(vars, operation, target, args),
+        (Primitive::Bool(operation), _) => bool_call_fits(vars, operation, target, args),
+        (Primitive::Str(StrPrim::Literal), _) => literal_call_fits(vars, target, args),
+        (Primitive::Io(IoPrim::Write), [CArg::Var(x)]) => {
             target.is_none() && kind_at(vars, *x) == Some(Kind::Object)
+        }
+        _ => false,
+    }
+}
+
+fn int64_call_fits(
+    vars: &[(Name, Kind)],
+    operation: Int64Prim,
+    target: Option<usize>,
+    args: &[CArg],
+) -> bool
+    ensures { (code : declared.Code) → result ≡ spec.row_fits code vars.now target args.now (row_of (prim.Int64 operation)) }
+{
+    match operation {
+        Int64Prim::Add => two_fit(vars, Kind::Int64, args, Kind::Int64, target),
+        Int64Prim::Subtract => two_fit(vars, Kind::Int64, args, Kind::Int64, target),
+        Int64Prim::Multiply => two_fit(vars, Kind::Int64, args, Kind::Int64, target),
+        Int64Prim::Negate => one_fits(vars, Kind::Int64, args, Kind::Int64, target),
+        Int64Prim::FromBool => one_fits(vars, Kind::Char, args, Kind::Int64, target),
+        Int64Prim::Eq => two_fit(vars, Kind::Int64, args, Kind::Char, target),
+        Int64Prim::Lt => two_fit(vars, Kind::Int64, args, Kind::Char, target),
+        Int64Prim::Le => two_fit(vars, Kind::Int64, args, Kind::Char, target),
+        Int64Prim::Str => one_fits(vars, Kind::Int64, args, Kind::Object, target),
+    }
+}
+
+fn bool_call_fits(
+    vars: &[(Name, Kind)],
+    operation: BoolPrim,
+    target: Option<usize>,
+    args: &[CArg],
+) -> bool
+    ensures { (code : declared.Code) → result ≡ spec.row_fits code vars.now target args.now (row_of (prim.Bool operation)) }
+{
+    match operation {
+        BoolPrim::Not => one_fits(vars, Kind::Char, args, Kind::Char, target),
+        BoolPrim::Str => one_fits(vars, Kind::Char, args, Kind::Object, target),
+    }
+}
+
+fn literal_call_fits(vars: &[(Name, Kind)], target: Option<usize>, args: &[CArg]) -> bool
+    ensures { (code : declared.Code) → result ≡ spec.row_fits code vars.now target args.now (row_of (prim.Str str.Literal)) }
+{
+    match args {
+        [CArg::Text(_)] => answers(vars, Kind::Object, target),
+        _ => false,
+    }
+}
+
+// One variable of a kind is borrowed, and a word of a kind is answered.
+fn one_fits(
+    vars: &[(Name, Kind)],
+    kind: Kind,
+    args: &[CArg],
+    answer: Kind,
+    target: Option<usize>,
+) -> bool
+    ensures { (code : declared.Code) (name : List ℕ) → result ≡ spec.row_fits code vars.now target args.now (simple_row name (kind ∷ []) answer) }
+{
+    match args {
+        [CArg::Var(x)] => kind_at(vars, *x) == Some(kind) && answers(vars, answer, target),
+        _ => false,
+    }
+}
+
+// The same of two variables.
+fn two_fit(
+    vars: &[(Name, Kind)],
+    kind: Kind,
+    args: &[CArg],
+    answer: Kind,
+    target: Option<usize>,
+) -> bool
+    ensures { (code : declared.Code) (name : List ℕ) → result ≡ spec.row_fits code vars.now target args.now (simple_row name (kind ∷ kind ∷ []) answer) }
+{
+    match args {
+        [CArg::Var(x), CArg::Var(y)] => {
+            kind_at(vars, *x) == Some(kind)
+                && kind_at(vars, *y) == Some(kind)
+                && answers(vars, answer, target)
         }
         _ => false,
     }

@@ -1,5 +1,6 @@
 -- Numbers with how often each stands there further, as a ledger.
-use Rattle.std.proofs.Common.{◌≡◌, refl, sym, ap, ◌∙◌, ℕ, zero, suc, ◌+◌, ◌<◌, ◌≤◌, ◌↔◌, arith, add-one, Bool, true, false, cond, ◌==◌, nat_le, nat_lt, replicate, List, [], ◌∷◌, ◌++◌, length, Option, Some, None}
+use Rattle.std.proofs.Common.{◌≡◌, refl, sym, ap, ◌∙◌, ℕ, zero, suc, ◌+◌, ◌<◌, ◌≤◌, ◌↔◌, arith, add-one, Bool, true, false, cond, ◌==◌, nat_eq, nat_le, nat_lt, replicate, List, [], ◌∷◌, ◌++◌, length, Option, Some, None}
+use Rattle.std.specs.Prelude.{◌&&◌}
 use Rattle.std.specs.List.{AllByRecursion}
 use Rattle.std.specs.List.Sorted.{IsStrictlySortedBy}
 use Rattle.std.specs.Ordering.{nat_cmp, match_ordering}
@@ -12,7 +13,7 @@ use Rattle.std.proofs.lemmas.Map.Keys.{sorted_head, sorted_tail}
 use Rattle.c_core.specs.Cells.{same, times}
 use Rattle.c_core.specs.Ledgers.{more, without}
 use Rattle.c_core.proofs.CountLemmas.{same_one, same_self}
-use Rattle.c_runner.specs.Ledgers.{numbers_of}
+use Rattle.c_runner.specs.Ledgers.{numbers_of, is_none, is_only}
 
 -- how often a number stands further, where it stands at all
 abbrev pub further : ℕ → List (ℕ × ℕ) → Option ℕ
@@ -183,6 +184,45 @@ inserted c n (e ∷ es) up v =
     insert_either (nat_cmp c e.0) c n e es refl v (λ lt. none_below c e.0 es lt (sorted_head nat_cmp e.0 (keys_of es) up))
     (inserted c n es (sorted_tail nat_cmp e.0 (keys_of es) up))
 
+pub owned : (c n : ℕ) (es : List (ℕ × ℕ)) → further c es ≡ Some n → true ≡ nat_lt 0 (times (numbers_of es) c)
+owned c n es e = let once = stands c es in let often = ap standing e in grind (arith, nat_tests, once, often)
+
+and_false : (b : Bool) → (b && false) ≡ false
+and_false true = refl
+and_false false = refl
+
+-- ---- one number once, and nothing else
+longer : (n d : ℕ) (x : ℕ) (l : List ℕ) → is_none (replicate n d ++ x ∷ l) ≡ false
+longer zero d x l = refl
+longer (suc n) d x l = refl
+
+once : (n : ℕ) (e f : ℕ × ℕ) (es : List (ℕ × ℕ)) → (nat_eq n 0 && nat_eq (length (e ∷ f ∷ es)) 1) ≡ false
+once n e f es =
+    let more : nat_eq (length (e ∷ f ∷ es)) 1 ≡ false = grind (arith, nat_tests) in
+    ap (λ b. nat_eq n 0 && b) more ∙ and_false (nat_eq n 0)
+
+only_here : (n : ℕ) (e : ℕ × ℕ) (es : List (ℕ × ℕ)) → (nat_eq n 0 && nat_eq (length (e ∷ es)) 1) ≡ is_none (replicate n e.0 ++ numbers_of es)
+only_here zero e [] = refl
+only_here (suc n) e [] =
+    let often : nat_eq (suc n) 0 ≡ false = grind (arith, nat_tests) in
+    ap (λ b. b && true) often
+only_here n e (f ∷ es) = once n e f es ∙ sym (longer n e.0 f.0 (replicate f.1 f.0 ++ numbers_of es))
+
+only_either : (b : Bool) (c n : ℕ) (e : ℕ × ℕ) (es : List (ℕ × ℕ)) → is_at (nat_cmp c) e.0 ≡ b → cond b (Some e.1) (further c es) ≡ Some n → (nat_eq n 0 && nat_eq (length (e ∷ es)) 1) ≡ is_none (without c (numbers_of (e ∷ es)))
+only_either true c n e es is some =
+    only_here n e es ∙ ap (λ m. is_none (replicate m e.0 ++ numbers_of es)) (sym (some_same e.1 n some)) ∙ ap is_none (sym (without_at c e.0 e.1 (numbers_of es) is))
+only_either false c n e [] is some = absurd (cc)
+only_either false c n e (f ∷ es) is some = once n e f es ∙ ap is_none (sym (without_other c e.0 e.1 (numbers_of (f ∷ es)) is))
+
+-- whether a number that stands there is all that does
+pub only : (c n : ℕ) (es : List (ℕ × ℕ)) → further c es ≡ Some n → (nat_eq n 0 && nat_eq (length es) 1) ≡ is_only c (numbers_of es)
+only c n [] some = absurd (cc)
+only c n (e ∷ es) some =
+    only_either (is_at (nat_cmp c) e.0) c n e es refl some ∙ ap (λ b. b && is_none (without c (numbers_of (e ∷ es)))) (owned c n (e ∷ es) some)
+
+pub none_owned : (c : ℕ) (es : List (ℕ × ℕ)) → further c es ≡ None → false ≡ is_only c (numbers_of es)
+none_owned c es none = ap (λ n. nat_lt 0 n && is_none (without c (numbers_of es))) (sym (absent c es none).0)
+
 -- ---- nothing
 pub none_there : (es : List (ℕ × ℕ)) → (length es ≡ 0) ↔ (numbers_of es ≡ [])
 none_there [] = (λ e. refl, λ e. refl)
@@ -194,9 +234,6 @@ added c n es old new up same often is =
     ap numbers_of is
     ∙ inserted c n old up (often ∙ ap (λ xs. standing (further c xs)) (sym same))
     ∙ ap (λ xs. more c (numbers_of xs)) same
-
-pub owned : (c n : ℕ) (es : List (ℕ × ℕ)) → further c es ≡ Some n → true ≡ nat_lt 0 (times (numbers_of es) c)
-owned c n es e = let once = stands c es in let often = ap standing e in grind (arith, nat_tests, once, often)
 
 set_either : (b : Bool) (n : ℕ) (e : ℕ × ℕ) (es rest : List (ℕ × ℕ)) (o : Option ℕ) → cond b (Some e.1) o ≡ Some n → (o ≡ Some n → rest ≡ es) → cond b ((e.0, n) ∷ es) (e ∷ rest) ≡ e ∷ es
 set_either true n e es rest o is h = ap (λ m. (e.0, m) ∷ es) (sym (some_same e.1 n is))

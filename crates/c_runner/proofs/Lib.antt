@@ -1,5 +1,8 @@
 pub mod SlotLemmas
 pub mod LedgerLemmas
+pub mod FrameLemmas
 pub mod StateLemmas
+pub mod TableLemmas
+pub mod CallLemmas
 pub mod StepLemmas
 pub mod Running

@@ -7,6 +7,7 @@ use Rattle.outside_core.specs.Bytes.{TakesFront}
 use Rattle.outside_core.specs.Counts.{count_end}
 use Rattle.outside_core.proofs.Fronts.{TakesFront-none, TakesFront-all, TakesFront-before, TakesFront-after}
 use Rattle.c_core.specs.declared.code.Code.{Code}
+use Rattle.c_core.specs.Cells.{count_at}
 use Rattle.c_core.specs.Step.{Goes, step}
 use Rattle.c_core.specs.Run.{Stop, go_on, start, most_steps, machine_run}
 use Rattle.c_core.specs.Laws.{Reaches, Here, RunExists, RunKeepsCounts, RunStaysSmall}
@@ -19,7 +20,7 @@ use Rattle.c_runner.specs.declared.state.State.{State}
 use Rattle.c_runner.specs.Handing.{HandsOn, has_bytes}
 use Rattle.c_runner.specs.Ran.{AreGiven, Ran, given_items}
 use Rattle.c_runner.specs.Report.{ending_of, live_cells, Reports}
-use Rattle.c_runner.specs.States.{Rest, IsCountable, first_rest, state_of, Follows}
+use Rattle.c_runner.specs.States.{Rest, IsSmall, first_rest, state_of, Follows}
 use Rattle.c_runner.proofs.StepLemmas.{Keeps, KeepsTo, step_keeps, some_left, one_taken, one_further, grows}
 
 -- ---- no bytes
@@ -80,34 +81,34 @@ module _ (tells : Bool) (before now : List ℕ) (code : Code) (turns : ℕ) (ite
   -- what the sink took is a front of the output
   pub front_so_far : (stop : Stop) → machine_run turns items code ≡ Some stop → IsTrue tells → TakesFront before now stop.state.output
   front_so_far stop is t =
-      let grown = grows code left (state_of rest state) stop refl (running.goes ∙ is) in
+      let grown = grows code left (state_of rest state) stop (running.goes ∙ is) in
       let all : stop.state.output ≡ running.handed ++ (state.output ++ grown.more) = grown.grown ∙ append_assoc running.handed state.output grown.more in
       rw all (TakesFront-before before now running.handed (state.output ++ grown.more) (TakesFront-all before now running.handed (running.taken t)))
 
   -- a front of what is held went too
   pub front_of_held : (after : List ℕ) → (IsTrue tells → TakesFront now after state.output) → (stop : Stop) → machine_run turns items code ≡ Some stop → IsTrue tells → TakesFront before after stop.state.output
   front_of_held after front stop is t =
-      let grown = grows code left (state_of rest state) stop refl (running.goes ∙ is) in
+      let grown = grows code left (state_of rest state) stop (running.goes ∙ is) in
       rw grown.grown (TakesFront-before before after (running.handed ++ state.output) grown.more (TakesFront-after before now after running.handed state.output (running.taken t) (front t)))
 
   -- a run that wrote nothing handed nothing on, and holds nothing
   pub nothing_so_far : (stop : Stop) → machine_run turns items code ≡ Some stop → stop.state.output ≡ [] → Untouched
   nothing_so_far stop is none =
-      let grown = grows code left (state_of rest state) stop refl (running.goes ∙ is) in
+      let grown = grows code left (state_of rest state) stop (running.goes ∙ is) in
       running.alone (no_front running.handed (state.output ++ grown.more) (sym (append_assoc running.handed state.output grown.more) ∙ sym grown.grown ∙ none))
 
   pub nothing_held : (stop : Stop) → machine_run turns items code ≡ Some stop → stop.state.output ≡ [] → state.output ≡ []
   nothing_held stop is none =
-      let grown = grows code left (state_of rest state) stop refl (running.goes ∙ is) in
+      let grown = grows code left (state_of rest state) stop (running.goes ∙ is) in
       no_front state.output grown.more (no_rest running.handed (state.output ++ grown.more) (sym (append_assoc running.handed state.output grown.more) ∙ sym grown.grown ∙ none))
 
   -- whether there was any output after a step
   any_after : (ending : Option Ending) (new : State) → Follows (step code) ending state new → (any || has_bytes new.output) ≡ has_bytes (running.handed ++ new.output)
   any_after None new follows =
-      let kept : Keeps (state_of rest state) (state_of rest new) = subst (KeepsTo (state_of rest state)) (follows rest) (step_keeps (state_of rest state) refl code) in
+      let kept : Keeps (state_of rest state) (state_of rest new) = subst (KeepsTo (state_of rest state)) (follows rest) (step_keeps (state_of rest state) code) in
       ap (λ b. b || has_bytes new.output) running.any_is ∙ any_longer running.handed state.output new.output kept.more kept.grown
   any_after (Some ending) new follows =
-      let kept : state_of rest new ≡ state_of rest state = subst (KeepsTo (state_of rest state)) (follows rest) (step_keeps (state_of rest state) refl code) in
+      let kept : state_of rest new ≡ state_of rest state = subst (KeepsTo (state_of rest state)) (follows rest) (step_keeps (state_of rest state) code) in
       ap (λ b. b || has_bytes new.output) running.any_is ∙ any_longer running.handed state.output new.output [] (ap (λ s. s.output) kept ∙ sym (append-nil (running.handed ++ state.output)))
 
   -- a step, after which the run goes on
@@ -124,12 +125,16 @@ module _ (tells : Bool) (before now : List ℕ) (code : Code) (turns : ℕ) (ite
         goes = ap (go_on (step code) (left - 1)) (sym (follows rest)) ∙ sym (one_taken code left (state_of rest state) more) ∙ running.goes;
       }
 
-  -- no cell is owned more often than there were steps
-  pub countable : RunKeepsCounts → RunStaysSmall → WellFormed code → most_steps turns code < 2 ^ 128 → IsCountable state.top.ledger
-  countable counts small formed room c =
-      let counted = (counts code turns items).0 running.steps (state_of rest state) running.reaches c in
-      let few = (small code formed turns items running.steps (state_of rest state) running.reaches).2 c in
-      omega (arith, counted, few, running.all_steps, room)
+  -- no count is greater than the number of steps so far
+  pub small : RunKeepsCounts → RunStaysSmall → WellFormed code → most_steps turns code < 2 ^ 128 → 1 ≤ left → IsSmall state
+  small counts stays formed room more =
+      let few : (c : ℕ) → count_at state.cells c ≤ running.steps = (stays code formed turns items running.steps (state_of rest state) running.reaches).2 in
+      record {
+        counts = λ c. omega (arith, few c, running.all_steps, room, more);
+        ledgers = λ c.
+            let counted = (counts code turns items).0 running.steps (state_of rest state) running.reaches c in
+            omega (arith, counted, few c, running.all_steps, room, more);
+      }
 
   -- some of what is held is handed on
   pub handed_on : (after output : List ℕ) (Still StillUntouched : Type 0) → (Untouched → Still → StillUntouched) → HandsOn tells now after state.output output Still → Running tells before after code turns items left any StillUntouched (record state { output = output })

@@ -3,7 +3,7 @@ use Rattle.std.proofs.Common.{◌≡◌, refl, sym, ap, ◌∙◌, ℕ, zero, su
 use Rattle.std.specs.Option.{option_map}
 use Rattle.std.proofs.lemmas.List.{take_more}
 use Rattle.c_core.specs.declared.code.CClass.{CClass}
-use Rattle.c_core.specs.Cells.{Cell, Cells, change, content_of, content_at}
+use Rattle.c_core.specs.Cells.{Cell, Cells, change, counted, content_of, count_at, content_at}
 use Rattle.c_core.specs.Release.{after, freed, let_go, weight, release_some, release}
 use Rattle.c_core.specs.Machine as machine
 use Rattle.c_core.specs.Machine.{refs_in}
@@ -21,6 +21,11 @@ pub content_here : (os : List (Option Slot)) (c : ℕ) (o d : Option Slot) → c
 content_here [] c o d lt is e = absurd (omega arith)
 content_here (x ∷ os) zero o d lt is e = ap (λ q. content_of (option_map cell_of q)) (sym is ∙ e)
 content_here (x ∷ os) (suc c) o d lt is e = content_here os c o d (omega arith) is e
+
+pub count_here : (os : List (Option Slot)) (c : ℕ) (o d : Option Slot) → c < length os → d ≡ get_or os c d → o ≡ d → count_at (cells_of os) c ≡ counted (option_map cell_of o)
+count_here [] c o d lt is e = absurd (omega arith)
+count_here (x ∷ os) zero o d lt is e = ap (λ q. counted (option_map cell_of q)) (sym (e ∙ is))
+count_here (x ∷ os) (suc c) o d lt is e = count_here os c o d (omega arith) is e
 
 pub content_past : (os : List (Option Slot)) (c : ℕ) → length os ≤ c → content_at (cells_of os) c ≡ None
 content_past [] c le = refl

@@ -7,31 +7,40 @@ use Rattle.std.proofs.lemmas.Option.{slice_get-map}
 use Rattle.std.proofs.lemmas.Bool.Decides.{nat_tests}
 use Rattle.c_core.specs.declared.code.CArg.{CArg}
 use Rattle.c_core.specs.declared.code.CArg.TheVariants as arg
+use Rattle.c_core.specs.declared.code.CFunc.{CFunc}
 use Rattle.c_core.specs.declared.code.Kind.{Kind}
+use Rattle.c_core.specs.declared.code.Line.{Line}
+use Rattle.c_core.specs.declared.code.Line.TheVariants.{Call}
 use Rattle.c_core.specs.declared.code.CLit.{CLit}
 use Rattle.c_core.specs.declared.fault.Fault.TheVariants as fault
-use Rattle.c_core.specs.declared.primitive.Prim.{Prim}
-use Rattle.c_core.specs.declared.primitive.Prim.TheVariants.{Io}
+use Rattle.c_core.specs.declared.primitive.Primitive.{Primitive}
+use Rattle.c_core.specs.declared.primitive.Primitive.TheVariants.{Io}
 use Rattle.c_core.specs.declared.primitive.IoPrim.{IoPrim}
 use Rattle.c_core.specs.declared.primitive.IoPrim.TheVariants.{Write}
 use Rattle.c_core.specs.declared.code.Code.{Code}
 use Rattle.c_core.specs.Arguments.{Cell, is_holding}
 use Rattle.c_core.specs.Cells.{Cells, times, content_at, make}
+use Rattle.c_core.specs.Functions.{label_places, function_named}
 use Rattle.c_core.specs.Ledgers.{more}
 use Rattle.c_core.specs.Machine as machine
 use Rattle.c_core.specs.Machine.{MachineState, StrCell, refs_in}
-use Rattle.c_core.specs.Primitives.{AText}
+use Rattle.c_core.specs.Primitives.{AText, primitive_named}
 use Rattle.c_core.specs.Step as step
-use Rattle.c_core.specs.Step.{Next, Goes, Ends, Faulted, Makes, word_of, if_some, literal_word, with_var, next_line, applied, primitive_step, called, given_up, if_any}
+use Rattle.c_core.specs.Step.{Next, Goes, Ends, Faulted, Makes, word_of, if_some, literal_word, with_var, next_line, applied, primitive_step, called, function_called, call_step, given_up, if_any}
 use Rattle.c_core.proofs.ReleaseLemmas.{release-nothing}
 use Rattle.c_runner.specs.declared.report.Ending.{Ending}
 use Rattle.c_runner.specs.declared.state.Frame.{Frame}
+use Rattle.c_runner.specs.declared.table.Callee.{Callee}
+use Rattle.c_runner.specs.declared.table.Callee.TheVariants as callee
+use Rattle.c_runner.specs.declared.table.Target.{Target}
 use Rattle.c_runner.specs.declared.state.State.{State}
 use Rattle.c_runner.specs.declared.words.Word.{Word}
 use Rattle.c_runner.specs.declared.words.Word.TheVariants.{Object}
 use Rattle.c_runner.specs.States.{Rest, state_of, with_target, Follows}
+use Rattle.c_runner.specs.Targets.{callee_among, callee_of, target_of}
 use Rattle.c_runner.specs.Words as words
-use Rattle.c_runner.specs.Parts.{written}
+use Rattle.c_runner.specs.Parts.{written, callee_called, is_there}
+use Rattle.c_runner.proofs.FrameLemmas.{there, target_set}
 
 module _ (rest : Rest) (old : State) where
   abbrev s : MachineState
@@ -41,7 +50,7 @@ module _ (rest : Rest) (old : State) where
   var_is : (x : ℕ) (o : Option Word) → slice_get old.top.vars x ≡ o → slice_get s.top.vars x ≡ option_map words.word_of o
   var_is x o e = slice_get-map words.word_of old.top.vars x ∙ ap (option_map words.word_of) e
 
-  word_at : (x : ℕ) (w : Word) (go : machine.Word → Next) → slice_get old.top.vars x ≡ Some w → word_of true s x go ≡ go (words.word_of w)
+  pub word_at : (x : ℕ) (w : Word) (go : machine.Word → Next) → slice_get old.top.vars x ≡ Some w → word_of true s x go ≡ go (words.word_of w)
   word_at x w go e = ap (λ o. if_some true s fault.Kind o go) (var_is x (Some w) e)
 
   -- a frame, which goes on to the next line
@@ -58,6 +67,20 @@ module _ (rest : Rest) (old : State) where
   assigned kind k literal x w top e f g =
       ap (λ o. if_some true s fault.Kind (option_and_then (λ j. literal_word j literal) o) (λ v. Goes (next_line (with_var x v s)))) e
       ∙ ap (λ o. if_some true s fault.Kind o (λ v. Goes (next_line (with_var x v s)))) (sym f)
+      ∙ ap Goes (set_is x w ∙ ap (λ t. state_of rest (onwards t)) (sym g))
+
+  -- an answer goes to its target
+  pub answered : (target : Option ℕ) (o : Option Word) (w : Word) (top : Frame) → o ≡ Some w → top ≡ with_target target w old.top → if_some true s fault.Kind (option_map words.word_of o) (λ v. Goes (next_line (step.with_target target v s))) ≡ Goes (state_of rest (onwards top))
+  answered target o w top e f =
+      ap (λ p. if_some true s fault.Kind (option_map words.word_of p) (λ v. Goes (next_line (step.with_target target v s)))) e
+      ∙ ap (λ t. Goes (next_line t)) (target_set rest old target w)
+      ∙ ap (λ t. Goes (state_of rest (onwards t))) (sym f)
+
+  -- the word of a variable is copied
+  pub copied : (x y : ℕ) (w : Word) (top : Frame) → slice_get old.top.vars y ≡ Some w → is_there old.cells (words.word_of w) ≡ true → top ≡ record old.top { vars = slice_set old.top.vars x w } → word_of true s y (λ v. step.if_there true s v (λ a. Goes (next_line (with_var x v s)))) ≡ Goes (state_of rest (onwards top))
+  copied x y w top e f g =
+      word_at y w _ e
+      ∙ there s (words.word_of w) (Goes (next_line (with_var x (words.word_of w) s))) f
       ∙ ap Goes (set_is x w ∙ ap (λ t. state_of rest (onwards t)) (sym g))
 
   -- a text is written
@@ -96,10 +119,61 @@ call_is code s target (a ∷ b ∷ more) x alone e is =
     let no : alone ≡ false = is ∙ grind (arith, nat_tests) in
     ap (λ d. primitive_step true s code target (d ∷ b ∷ more) (Io Write)) first ∙ ap (λ d. written code target x d s) (sym no)
 
-pub call_writes : {E : Type 0} (target : Option ℕ) (args : List CArg) (x : ℕ) (alone : Bool) (p : Prim) (old new : State) (r : Result (Option Ending) E) → p ≡ Io Write → slice_get args 0 ≡ Some (arg.Var x) → alone ≡ eqb (length args) 1 → IfOk r (λ ending. (code : Code) (t : Option ℕ) → Follows (written code t x alone) ending old new) → IfOk r (λ ending. (code : Code) → Follows (λ s. called true s code target args p) ending old new)
+pub call_writes : {E : Type 0} (target : Option ℕ) (args : List CArg) (x : ℕ) (alone : Bool) (p : Primitive) (old new : State) (r : Result (Option Ending) E) → p ≡ Io Write → slice_get args 0 ≡ Some (arg.Var x) → alone ≡ eqb (length args) 1 → IfOk r (λ ending. (code : Code) (t : Option ℕ) → Follows (written code t x alone) ending old new) → IfOk r (λ ending. (code : Code) → Follows (λ s. called true s code target args p) ending old new)
 call_writes target args x alone p old new (Ok ending) e f g h =
     λ code rest. ap (λ q. called true (state_of rest old) code target args q) e ∙ call_is code (state_of rest old) target args x alone f g ∙ h code target rest
 call_writes target args x alone p old new (Err failed) e f g h = tt
+
+-- ---- a line that calls
+module _ (rest : Rest) (old : State) (code : Code) (x : Option ℕ) (name : List ℕ) (args : List CArg) where
+  abbrev t : MachineState
+  t = state_of rest old
+
+  abbrev found : Option ℕ
+  found = function_named code.funcs name
+
+  no_function : (f : Option ℕ) → option_map callee.Function f ≡ None → function_called true t code x args f ≡ Ends (Faulted fault.Kind) t
+  no_function None e = refl
+  no_function (Some f) e = absurd (cc)
+
+  no_callee : (o : Option Primitive) → callee_among o found ≡ None → call_step true t code x name args o ≡ Ends (Faulted fault.Kind) t
+  no_callee None e = no_function found e
+  no_callee (Some p) e = absurd (cc)
+
+  no_primitive : (f : Option ℕ) (p : Primitive) → option_map callee.Function f ≡ Some (callee.Primitive p) → ⊥
+  no_primitive None p e = cc
+  no_primitive (Some f) p e = cc
+
+  primitive_callee : (o : Option Primitive) (p : Primitive) → callee_among o found ≡ Some (callee.Primitive p) → call_step true t code x name args o ≡ called true t code x args p
+  primitive_callee None p e = absurd (no_primitive found p e)
+  primitive_callee (Some q) p e = let same : q ≡ p = cc in ap (λ r. called true t code x args r) same
+
+  function_found : (o : Option ℕ) (f : ℕ) → option_map callee.Function o ≡ Some (callee.Function f) → o ≡ Some f
+  function_found None f e = absurd (cc)
+  function_found (Some g) f e = let same : g ≡ f = cc in ap Some same
+
+  function_callee : (o : Option Primitive) (f : ℕ) → callee_among o found ≡ Some (callee.Function f) → call_step true t code x name args o ≡ function_called true t code x args (Some f)
+  function_callee None f e = ap (function_called true t code x args) (function_found found f e)
+  function_callee (Some p) f e = absurd (cc)
+
+  callee_step : (o : Option Primitive) (k : Callee) → callee_among o found ≡ Some k → call_step true t code x name args o ≡ callee_called code x args k t
+  callee_step o (callee.Primitive p) e = primitive_callee o p e
+  callee_step o (callee.Function f) e = function_callee o f e
+
+module _ (code : Code) (g : CFunc) (line : Line) (x : Option ℕ) (name : List ℕ) (args : List CArg) (target : Target) (is : line ≡ Call x name args) (known : target ≡ target_of code.funcs (label_places g.lines) line) where
+  callee_is : (o : Option Callee) → target.callee ≡ o → callee_of code.funcs name ≡ o
+  callee_is o e = sym (ap (λ u. u.callee) (known ∙ ap (target_of code.funcs (label_places g.lines)) is)) ∙ e
+
+  pub calls_nothing : (rest : Rest) (old : State) → target.callee ≡ None → step.step_at true code (state_of rest old) (Some line) ≡ Ends (Faulted fault.Kind) (state_of rest old)
+  calls_nothing rest old e =
+      ap (λ l. step.step_at true code (state_of rest old) (Some l)) is ∙ no_callee rest old code x name args (primitive_named name) (callee_is None e)
+
+  pub calls : {E : Type 0} (old new : State) (slice : List CArg) (k : Callee) (r : Result (Option Ending) E) → target.callee ≡ Some k → slice ≡ args → IfOk r (λ ending. Follows (callee_called code x slice k) ending old new) → IfOk r (λ ending. Follows (λ s. step.step_at true code s (Some line)) ending old new)
+  calls old new slice k (Ok ending) e same h =
+      λ rest. ap (λ l. step.step_at true code (state_of rest old) (Some l)) is
+      ∙ callee_step rest old code x name args (primitive_named name) k (callee_is (Some k) e)
+      ∙ ap (λ a. callee_called code x a k (state_of rest old)) (sym same) ∙ h rest
+  calls old new slice k (Err failed) e same h = tt
 
 -- ---- a reference that is given up
 none_owned : (s : MachineState) (c n : ℕ) (go : Next) → nat_lt 0 n ≡ false → if_any true s n go ≡ Ends (Faulted fault.NotOwned) s

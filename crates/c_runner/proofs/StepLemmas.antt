@@ -1,76 +1,106 @@
--- What each step of the machine keeps: the output only grows, and no frame waits.
-use Rattle.std.proofs.Common.{◌≡◌, refl, sym, ◌∙◌, ap, ℕ, zero, suc, ◌+◌, ◌-◌, ◌≤◌, arith, true, List, [], ◌∷◌, ◌++◌, append_assoc, append-nil, Option, Some, None}
+-- What each step of the machine keeps: the output only grows.
+use Rattle.std.proofs.Common.{◌≡◌, refl, sym, ◌∙◌, ap, ℕ, zero, suc, ◌+◌, ◌-◌, ◌≤◌, arith, true, cond, List, [], ◌∷◌, ◌++◌, append_assoc, append-nil, Option, Some, None}
 use Rattle.std.specs.Option.{option_and_then}
 use Rattle.c_core.specs.declared.code.Line.{Line}
-use Rattle.c_core.specs.declared.code.Line.TheVariants.{Lit, Call, Return, Dec}
+use Rattle.c_core.specs.declared.code.Line.TheVariants.{Label, Move, Lit, Call, Goto, If, IfError, Turn, Return, Inc, Dec, XDec}
+use Rattle.c_core.specs.declared.code.CArg.{CArg}
 use Rattle.c_core.specs.declared.code.Code.{Code}
 use Rattle.c_core.specs.declared.fault.Fault.{Fault}
 use Rattle.c_core.specs.declared.fault.Fault.TheVariants as fault
+use Rattle.c_core.specs.declared.primitive.Primitive.{Primitive}
 use Rattle.c_core.specs.Arguments.{stolen}
-use Rattle.c_core.specs.Ledgers.{Ledger}
+use Rattle.c_core.specs.Functions.{function_named}
+use Rattle.c_core.specs.Ledgers.{Ledger, more_of}
 use Rattle.c_core.specs.Laws.{Reaches, Here, There}
-use Rattle.c_core.specs.Machine.{Word, ShortInt, BigInt, ObjectCell, NoneObject, TrueObject, FalseObject, Content, Frame, MachineState}
+use Rattle.c_core.specs.Machine.{Word, Content, Frame, MachineState, refs_of}
 use Rattle.c_core.specs.Primitives.{row_of, primitive_named}
-use Rattle.c_core.specs.Step.{Next, Goes, Ends, Faulted, Effect, Wrong, Makes, Writes, effect, with_ledger, next_line, literal_word, kind_of, applied, made_cell, given_up, decremented, if_return, if_result, if_none_left, step_at, line_at, step}
+use Rattle.c_core.specs.Step.{Next, Goes, Ends, Faulted, Effect, Wrong, Says, Makes, Writes, effect, with_ledger, with_target, next_line, literal_word, equals_error, kind_of, label_at, applied, given, made_cell, call_step, turned, if_return, if_result, if_none_left, step_at, line_at, step}
 use Rattle.c_core.specs.Run.{Stop, go_on}
-use Rattle.c_core.proofs.StepCases.{at_some, at_given_up, at_word, at_called, at_order, at_ended, at_result}
+use Rattle.c_core.proofs.StepCases.{at_some, at_calm, at_word, at_there, at_called, at_function, at_jumped, at_chosen, at_incremented, at_decremented, at_decremented_if_set, at_order, at_ended, at_result}
 
 -- ---- a step
 pub record Keeps (s t : MachineState) : Type 0 where
   pub more : List ℕ
   pub grown : t.output ≡ s.output ++ more
-  pub alone : t.below ≡ []
 
 -- where a run ends its state stays
 abbrev pub KeepsTo : MachineState → Next → Type 0
 KeepsTo s (Goes t) = Keeps s t
 KeepsTo s (Ends e t) = t ≡ s
 
-module _ (s : MachineState) (alone : s.below ≡ []) where
+module _ (s : MachineState) where
   abbrev To : Next → Type 0
   To = KeepsTo s
 
   bad : (f : Fault) → To (Ends (Faulted f) s)
   bad f = refl
 
-  on : Keeps s (next_line s)
-  on = record { more = []; grown = sym (append-nil s.output); alone = alone }
+  -- nothing is written
+  same : (t : MachineState) → t.output ≡ s.output → Keeps s t
+  same t e = record { more = []; grown = e ∙ sym (append-nil s.output) }
+
+  target_same : (x : Option ℕ) (w : Word) (t : MachineState) → t.output ≡ s.output → Keeps s (with_target x w t)
+  target_same None w t e = same t e
+  target_same (Some x) w t e = same (with_target (Some x) w t) e
 
   made_on : (x : Option ℕ) (l : Ledger) (content : Content) → Keeps s (next_line (made_cell true s x content (with_ledger l s)))
-  made_on None l content = record { more = []; grown = sym (append-nil s.output); alone = alone }
-  made_on (Some x) l content = record { more = []; grown = sym (append-nil s.output); alone = alone }
+  made_on None l content = same (next_line (made_cell true s None content (with_ledger l s))) refl
+  made_on (Some x) l content = same (next_line (made_cell true s (Some x) content (with_ledger l s))) refl
+
+  said_on : (x : Option ℕ) (l : Ledger) (gone : List ℕ) (w : Word) → Keeps s (next_line (with_target x w (given true s gone (with_ledger l s))))
+  said_on None l gone w = same (next_line (given true s gone (with_ledger l s))) refl
+  said_on (Some x) l gone w = same (next_line (with_target (Some x) w (given true s gone (with_ledger l s)))) refl
 
   applied_on : (x : Option ℕ) (l : Ledger) (gone : List ℕ) (e : Effect) → To (applied true s x l gone e)
   applied_on x l gone Wrong = refl
+  applied_on x l gone (Says w) = said_on x l gone w
   applied_on x l gone (Makes content) = made_on x l content
-  applied_on x l gone (Writes text) = record { more = text; grown = refl; alone = alone }
+  applied_on x l gone (Writes text) = record { more = text; grown = refl }
 
-  given_on : (c : ℕ) → To (given_up true s c)
-  given_on c = at_given_up s To bad c (λ l took. record { more = []; grown = sym (append-nil s.output); alone = alone })
+  on : Keeps s (next_line s)
+  on = same (next_line s) refl
 
-  decremented_on : (w : Word) → To (decremented true s w)
-  decremented_on (ShortInt n) = on
-  decremented_on (BigInt c) = given_on c
-  decremented_on (ObjectCell c) = given_on c
-  decremented_on NoneObject = on
-  decremented_on TrueObject = on
-  decremented_on FalseObject = on
-  decremented_on _ = refl
+  turned_on : (n : ℕ) → To (turned true s n)
+  turned_on zero = refl
+  turned_on (suc n) = same (next_line (record s { turns = n })) refl
 
-  return_ends : (w : Word) (fs : List Frame) → fs ≡ [] → To (if_return true s w fs (λ next. if_result true s w (λ l. if_none_left true s l next)))
-  return_ends w [] e = at_ended s To bad w s.pending _ (λ end. at_result s To bad w _ (λ all. refl))
-  return_ends w (f ∷ fs) e = absurd (cc)
+  return_on : (w : Word) (fs : List Frame) → To (if_return true s w fs (λ next. if_result true s w (λ l. if_none_left true s l next)))
+  return_on w [] = at_ended s To bad w s.pending _ (λ end. at_result s To bad w _ (λ all. refl))
+  return_on w (f ∷ fs) =
+      at_result s To bad w _ (λ all. target_same s.top.into w (record s { top = record f { ledger = more_of (refs_of w) f.ledger }; below = fs }) refl)
+
+  call_on : (code : Code) (x : Option ℕ) (name : List ℕ) (args : List CArg) (o : Option Primitive) → To (call_step true s code x name args o)
+  call_on code x name args (Some p) =
+      at_called s To bad code x args p (λ all l left. applied_on x l (stolen (row_of p).parameters all) (effect code s p all))
+  call_on code x name args None =
+      at_function s To bad code x args (function_named code.funcs name) (λ f g e is ws. record { more = []; grown = sym (append-nil s.output) })
+
+  jump_on : (code : Code) (n : ℕ) → To (step_at true code s (Some (Goto n)))
+  jump_on code n = at_jumped s To bad (label_at code s.top n) (λ q e. record { more = []; grown = sym (append-nil s.output) })
 
   step_on : (code : Code) (o : Option Line) → To (step_at true code s o)
   step_on code None = refl
+  step_on code (Some Label) = on
+  step_on code (Some (Move x y)) =
+      at_word s To bad y _ (λ w e. at_there s To bad w _ (λ a. record { more = []; grown = sym (append-nil s.output) }))
   step_on code (Some (Lit x l)) =
       at_some s To bad fault.Kind (option_and_then (λ k. literal_word k l) (kind_of code s.top x)) _
-      (λ w e. record { more = []; grown = sym (append-nil s.output); alone = alone })
-  step_on code (Some (Call x name args)) =
-      at_some s To bad fault.Kind (primitive_named name) _
-      (λ p e. at_called s To bad code x args p (λ all l left. applied_on x l (stolen (row_of p).parameters all) (effect code s p all)))
-  step_on code (Some (Return x)) = at_word s To bad x _ (λ w e. at_order s To bad w s.pending _ (return_ends w s.below alone))
-  step_on code (Some (Dec x)) = at_word s To bad x _ (λ w e. decremented_on w)
+      (λ w e. record { more = []; grown = sym (append-nil s.output) })
+  step_on code (Some (Call x name args)) = call_on code x name args (primitive_named name)
+  step_on code (Some (Goto n)) = jump_on code n
+  step_on code (Some (If x n m)) =
+      at_word s To bad x _
+      (λ w e. at_chosen s To bad (label_at code s.top n) (label_at code s.top m) w (jump_on code n) (jump_on code m))
+  step_on code (Some (IfError x n m)) =
+      at_word s To bad x _ (λ w e. jump_on code (cond (equals_error w) n m))
+  step_on code (Some Turn) = at_calm s To bad s.pending _ (λ calm. turned_on s.turns)
+  step_on code (Some (Return x)) = at_word s To bad x _ (λ w e. at_order s To bad w s.pending _ (return_on w s.below))
+  step_on code (Some (Inc x)) =
+      at_word s To bad x _ (λ w e. at_incremented s To bad w on (λ c content is. record { more = []; grown = sym (append-nil s.output) }))
+  step_on code (Some (Dec x)) =
+      at_word s To bad x _ (λ w e. at_decremented s To bad w on (λ c l took. record { more = []; grown = sym (append-nil s.output) }))
+  step_on code (Some (XDec x)) =
+      at_word s To bad x _ (λ w e. at_decremented_if_set s To bad w on (λ c l took. record { more = []; grown = sym (append-nil s.output) }))
 
   pub step_keeps : (code : Code) → KeepsTo s (step code s)
   step_keeps code = step_on code (line_at code s.top)
@@ -97,12 +127,12 @@ module _ (code : Code) where
       record { more = []; grown = ap (λ z. z.state.output) (sym same_stop) ∙ ap (λ z. z.output) kept ∙ sym (append-nil s.output) }
   grows_after zero (Goes t) s stop kept is = absurd (cc)
   grows_after (suc k) (Goes t) s stop kept is =
-      let later = grows_after k (step code t) t stop (step_keeps t kept.alone code) is in
+      let later = grows_after k (step code t) t stop (step_keeps t code) is in
       record { more = kept.more ++ later.more; grown = later.grown ∙ ap (λ o. o ++ later.more) kept.grown ∙ append_assoc s.output kept.more later.more }
 
-  pub grows : (k : ℕ) (s : MachineState) (stop : Stop) → s.below ≡ [] → go_on (step code) k (Goes s) ≡ Some stop → Grows s stop.state
-  grows k s stop alone is =
-      grows_after (k - 1) (step code s) s stop (step_keeps s alone code) (sym (one_taken k s (some_left k s stop is)) ∙ is)
+  pub grows : (k : ℕ) (s : MachineState) (stop : Stop) → go_on (step code) k (Goes s) ≡ Some stop → Grows s stop.state
+  grows k s stop is =
+      grows_after (k - 1) (step code s) s stop (step_keeps s code) (sym (one_taken k s (some_left k s stop is)) ∙ is)
 
   -- a step more
   pub one_further : (k : ℕ) (s t u : MachineState) → Reaches code k s t → step code t ≡ Goes u → Reaches code (k + 1) s u

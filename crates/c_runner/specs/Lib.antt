@@ -6,3 +6,4 @@ pub mod Slots
 pub mod Ledgers
 pub mod States
 pub mod Parts
+pub mod Targets

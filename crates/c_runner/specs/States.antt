@@ -1,8 +1,9 @@
 -- The runner's state as the machine's, and what a step of it is.
-use Rattle.std.specs.Prelude.{◌≡◌, ℕ, ◌^◌, ◌<◌, List, [], ◌++◌, Option, Some, None, map, slice_set}
+use Rattle.std.specs.Prelude.{◌≡◌, ℕ, ◌+◌, ◌^◌, ◌<◌, List, [], ◌++◌, Option, Some, None, map, reverse, slice_set}
 use Rattle.value_core.specs.Items.{Items}
 use Rattle.c_core.specs.declared.code.Code.{Code}
-use Rattle.c_core.specs.Cells.{times}
+use Rattle.c_core.specs.Cells.{times, count_at}
+use Rattle.c_core.specs.Holders.{owned_below}
 use Rattle.c_core.specs.Machine as machine
 use Rattle.c_core.specs.Machine.{MachineState}
 use Rattle.c_core.specs.Step.{Next, Goes, Ends}
@@ -24,12 +25,19 @@ pub record Rest : Type 0 where
 abbrev pub first_rest : Code → Items → Rest
 first_rest code items = record { globals = map (λ g. None) code.globals; items = items; handed = [] }
 
--- no frame waits, no exception is pending, and no list, dict or instance was made
+abbrev pub frame_of : Frame → machine.Frame
+frame_of f = record { func = f.func; place = f.place; vars = map word_of f.vars; ledger = f.ledger; into = f.into }
+
+-- the frames that wait, of which the runner has the innermost last
+abbrev pub waiting : List Frame → List machine.Frame
+waiting frames = reverse (map frame_of frames)
+
+-- no exception is pending, and no list, dict or instance was made
 abbrev pub state_of : Rest → State → MachineState
 state_of rest r = record {
   cells = r.cells;
-  top = record { func = r.top.func; place = r.top.place; vars = map word_of r.top.vars; ledger = r.top.ledger; into = None };
-  below = [];
+  top = frame_of r.top;
+  below = waiting r.below;
   globals = rest.globals;
   pending = None;
   output = rest.handed ++ r.output;
@@ -52,6 +60,7 @@ next_of (Some e) s = Ends (ending_of e) s
 abbrev pub Follows : (MachineState → Next) → Option Ending → State → State → Type 0
 Follows does ending old new = (rest : Rest) → does (state_of rest old) ≡ next_of ending (state_of rest new)
 
--- no number stands so often in a ledger that the runner could not count it
-abbrev pub IsCountable : List ℕ → Type 0
-IsCountable l = (c : ℕ) → times l c < 2 ^ 128
+-- no count of a cell, and no number of references that frames own, is so great that the runner could not count one more
+pub record IsSmall (r : State) : Type 0 where
+  pub counts : (c : ℕ) → count_at r.cells c + 1 < 2 ^ 128
+  pub ledgers : (c : ℕ) → times r.top.ledger c + owned_below (waiting r.below) c < 2 ^ 128

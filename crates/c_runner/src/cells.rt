@@ -51,10 +51,10 @@ impl Content {
 }
 
 impl Slot {
-    ghost use Rattle.std.specs.Prelude.{◌≡◌, List, Option, Some, IfOk};
+    ghost use Rattle.std.specs.Prelude.{◌≡◌, ◌+◌, ◌^◌, ◌<◌, List, Option, Some, IfOk};
     ghost use Rattle.std.specs.Option.{option_map};
     ghost use Rattle.c_core.specs.declared.code.CClass.{CClass};
-    ghost use Rattle.c_core.specs.Cells.{lowered};
+    ghost use Rattle.c_core.specs.Cells.{counted, lowered, raised};
     ghost use Rattle.c_runner.specs.Report.{kind_name};
     ghost use Rattle.c_runner.specs.Slots.{content_of, cell_of};
 
@@ -74,6 +74,20 @@ impl Slot {
                     None
                 }
             }
+        }
+    }
+
+    /// A cell with one reference more.
+    fn raised(slot: Option<Slot>) -> Option<Slot>
+        requires { counted (option_map cell_of slot) + 1 < 2 ^ 128 }
+        ensures { option_map cell_of result ≡ raised (option_map cell_of slot) }
+    {
+        match slot {
+            None => None,
+            Some(cell) => Some(Slot {
+                count: cell.count + 1,
+                content: cell.content,
+            }),
         }
     }
 
@@ -100,10 +114,10 @@ impl Model for Cells {
 }
 
 impl Cells {
-    ghost use Rattle.std.specs.Prelude.{◌≡◌, List, [], ◌∷◌, length, Option, Some, None, is_some, IfOk, OnOk};
+    ghost use Rattle.std.specs.Prelude.{◌≡◌, ◌+◌, ◌^◌, ◌<◌, List, [], ◌∷◌, length, Option, Some, None, is_some, IfOk, OnOk};
     ghost use Rattle.std.specs.Option.{option_map, option_copied};
     ghost use Rattle.c_core.specs.declared.code.CClass.{CClass};
-    ghost use Rattle.c_core.specs.Cells.{content_at, make};
+    ghost use Rattle.c_core.specs.Cells.{count_at, content_at, take_one, make};
     ghost use Rattle.c_core.specs.Machine.{refs_in};
     ghost use Rattle.c_core.specs.Release.{release};
     ghost use Rattle.c_runner.specs.Report.{live_cells};
@@ -147,6 +161,17 @@ impl Cells {
         ensures { result ≡ is_some (content_at self.now c) }
     {
         self.content(c).is_some()
+    }
+
+    /// Takes one reference more to a cell.
+    pub fn take_one(&mut self, c: usize)
+        requires { count_at self.old c + 1 < 2 ^ 128 }
+        ensures { self.new ≡ take_one c self.old }
+    {
+        if c < self.slots.len() {
+            let slot = self.slots[c].take();
+            self.slots[c] = Slot::raised(slot);
+        }
     }
 
     /// Gives one reference to a cell up. With the last one the cell goes; no content holds references of its own.

@@ -23,6 +23,7 @@ impl Ledger {
     ghost use Rattle.std.specs.Prelude.{◌≡◌, ◌↔◌, ◌<◌, ◌^◌, [], false, nat_lt, IsTrue, OnOk};
     ghost use Rattle.c_core.specs.Cells.{times};
     ghost use Rattle.c_core.specs.Ledgers.{more, without};
+    ghost use Rattle.c_runner.specs.Ledgers.{is_only};
 
     /// Nothing is owned. It takes no memory.
     pub fn new(alloc: Global) -> Ledger
@@ -64,6 +65,32 @@ impl Ledger {
         };
         self.further.remove(&c);
         is_last
+    }
+
+    /// Whether there is any reference to a cell.
+    pub fn owns(&self, c: usize) -> bool
+        ensures { result ≡ nat_lt 0 (times self.now c) }
+    {
+        match self.further.get(&c) {
+            None => false,
+            Some(_) => true,
+        }
+    }
+
+    /// Whether one reference to a cell is all that is owned.
+    pub fn owns_only(&self, c: usize) -> bool
+        ensures { result ≡ is_only c self.now }
+    {
+        match self.further.get(&c) {
+            None => false,
+            Some(further) => {
+                if *further > 0 {
+                    false
+                } else {
+                    self.further.len() == 1
+                }
+            }
+        }
     }
 
     /// Whether nothing is owned.

@@ -9,13 +9,17 @@
 //! the machine it stands for, and each step leads from that of the old state to that of the new one.
 #![tactic(auto)]
 
+mod calls;
 mod cells;
+mod counts;
+mod frames;
 mod ledger;
 mod output;
 mod report;
 mod runner;
 mod state;
 mod step;
+mod table;
 mod words;
 
 pub use c_core::Fault;

@@ -7,6 +7,7 @@ ghost use Rattle.c_runner.specs.Ran.{AreGiven, Ran, faults_of_out};
 
 use crate::report::{Report, RunError};
 use crate::state::State;
+use crate::table::table;
 use c_core::{CFunc, Code, run_exists, run_keeps_counts, run_stays_small};
 use outside_core::{Sink, Source};
 use std::alloc::Global;
@@ -35,13 +36,14 @@ pub fn run<I: Source, O: Sink>(
     run_exists();
     run_keeps_counts();
     run_stays_small();
+    let table = table(alloc, code.funcs.as_slice())?;
     let mut state = State::start(alloc, code, turns)?;
     // A well-formed code stops before these steps are taken.
     let mut left = most_steps(code, turns);
     let mut has_output = false;
     'steps: loop {
         left -= 1;
-        let ending = state.step(code)?;
+        let ending = state.step(alloc, code, &table)?;
         has_output = state.output.has_any(has_output);
         match ending {
             None => state.output.hand_on_if_full(out)?,

@@ -1,8 +1,12 @@
-ghost use Rattle.std.specs.Prelude.{◌≡◌, List, map, slice_set, IfOk};
+ghost use Rattle.std.specs.Prelude.{◌≡◌, ℕ, ◌^◌, ◌<◌, List, ◌++◌, map, slice_set, IfOk, OnOk};
 ghost use Rattle.std.specs.Option.{option_copied};
 ghost use Rattle.value_core.specs.Items.{Items};
 ghost use Rattle.c_core.specs.declared.code.CClass.{CClass};
-ghost use Rattle.c_core.specs.Run.{error_word, first_words, start};
+ghost use Rattle.c_core.specs.Cells.{times};
+ghost use Rattle.c_core.specs.Functions.{error_word};
+ghost use Rattle.c_core.specs.Ledgers.{more_of};
+ghost use Rattle.c_core.specs.Machine.{refs_of};
+ghost use Rattle.c_core.specs.Run.{first_words, start};
 ghost use Rattle.c_runner.specs.Report.{live_cells};
 ghost use Rattle.c_runner.specs.States.{first_rest, state_of, with_target};
 ghost use Rattle.c_runner.specs.Words.{word_of};
@@ -16,22 +20,26 @@ use c_core::{CFunc, Code, Kind};
 use std::alloc::Global;
 use value_core::{Many, Memory, Name};
 
-/// The state of a run. `specs/States.antt` says which state of the machine it is.
+/// The state of a run, with the frame that runs and those that wait for it, the innermost last. `specs/States.antt` says
+/// which state of the machine it is.
 #[derive(Drop)]
 pub(crate) struct State {
     pub cells: Cells,
     pub top: Frame,
+    pub below: Many<Frame>,
     pub output: Output,
     pub turns: u64,
 }
 
-/// The call that goes on: the number of its function, the place of its next line, its variables, and what it owns.
+/// A call that goes on: the number of its function, the place of its next line, its variables, what it owns, and the
+/// caller's variable for its result, if there is one.
 #[derive(Drop)]
 pub(crate) struct Frame {
     pub func: usize,
     pub place: usize,
     pub vars: Many<Word>,
     pub ledger: Ledger,
+    pub into: Option<usize>,
 }
 
 impl Frame {
@@ -55,6 +63,19 @@ impl Frame {
     }
 }
 
+impl Frame {
+    /// Owns the reference of a word, if it has one.
+    pub fn own(&mut self, word: Word) -> Result<(), Memory>
+        requires { (c : ℕ) → times self.old.ledger c < 2 ^ 128 }
+        ensures { OnOk result (self.new ≡ record self.old { ledger = more_of (refs_of (word_of word)) self.old.ledger }) }
+    {
+        match word {
+            Word::Object(c) => self.ledger.add(c),
+            _ => Ok(()),
+        }
+    }
+}
+
 impl State {
     /// Where the run of a code for so many turns begins: in its last function.
     pub fn start(alloc: Global, code: &Code, turns: u64) -> Result<State, Memory>
@@ -68,10 +89,12 @@ impl State {
             place: 0,
             vars,
             ledger: Ledger::new(alloc),
+            into: None,
         };
         Ok(State {
             cells: Cells::new(alloc),
             top,
+            below: Many::new(alloc),
             output: Output::new(alloc),
             turns,
         })
@@ -98,18 +121,19 @@ impl State {
 fn first_vars(alloc: Global, function: Option<&CFunc>) -> Result<Many<Word>, Memory>
     ensures { IfOk result (λ vars. map word_of vars ≡ first_words (option_copied function.entry)) }
 {
-    match function {
-        None => Ok(Many::new(alloc)),
-        Some(function) => error_values(alloc, function.vars.as_slice()),
+    let mut words = Many::new(alloc);
+    if let Some(function) = function {
+        push_error_values(&mut words, function.vars.as_slice())?;
     }
+    Ok(words)
 }
 
-fn error_values(alloc: Global, vars: &[(Name, Kind)]) -> Result<Many<Word>, Memory>
-    ensures { IfOk result (λ words. map word_of words ≡ map (λ v. error_word v.1) vars.now) }
+/// Adds the error values of variables.
+pub(crate) fn push_error_values(words: &mut Many<Word>, vars: &[(Name, Kind)]) -> Result<(), Memory>
+    ensures { OnOk result (map word_of words.new ≡ map word_of words.old ++ map (λ v. error_word v.1) vars.now) }
 {
-    let mut words = Many::new(alloc);
     for var in vars {
         words.push(Word::error_of(var.1))?;
     }
-    Ok(words)
+    Ok(())
 }

@@ -1,24 +1,33 @@
 //! One step of a run, with the tests in the machine's order. At a fault the state is as it was before the line.
-ghost use Rattle.std.specs.Prelude.{◌≡◌, ℕ, ◌+◌, ◌^◌, ◌<◌, true, [], Option, Some, IfOk, slice_get};
+ghost use Rattle.std.specs.Prelude.{◌≡◌, ◌+◌, ◌^◌, ◌<◌, true, Some, IfOk, slice_get};
 ghost use Rattle.std.specs.Option.{option_map, option_and_then};
 ghost use Rattle.c_core.specs.declared.fault.Fault.TheVariants as fault;
-ghost use Rattle.c_core.specs.declared.code.Code.{Code};
-ghost use Rattle.c_core.specs.Machine.{StrCell};
-ghost use Rattle.c_core.specs.Step.{Goes, Makes, literal_word, with_var, next_line, if_some, word_of, applied, called, given_up, decremented, returned, step};
-ghost use Rattle.c_runner.specs.States.{Follows, IsCountable};
-ghost use Rattle.c_runner.specs.Parts.{written};
+ghost use Rattle.c_core.specs.Functions.{label_places};
+ghost use Rattle.c_core.specs.Step.{Goes, literal_word, with_var, next_line, if_some, if_there, word_of, jumped, chosen, turned, step, step_at};
+ghost use Rattle.c_runner.specs.Parts.{callee_called, jumped_by_error, is_there};
+ghost use Rattle.c_runner.specs.States.{Follows, IsSmall};
+ghost use Rattle.c_runner.specs.Words as words;
+ghost use Rattle.c_runner.specs.Targets.{target_of, table_of};
 
-use crate::cells::Content;
 use crate::report::Ending;
 use crate::state::State;
+use crate::table::{Callee, Target, target_at};
 use crate::words::Word;
-use c_core::{CArg, CFunc, CLit, Code, Fault, IoPrim, Kind, Line, Prim, StrPrim};
-use value_core::{Memory, Text};
+use c_core::{CArg, CFunc, CLit, Code, Fault, Kind, Line};
+use std::alloc::Global;
+use value_core::{Many, Memory};
 
 impl State {
-    /// What the next line does, and how the run ends if it ends there. Without memory the state is not said.
-    pub fn step(&mut self, code: &Code) -> Result<Option<Ending>, Memory>
-        requires { IsCountable self.old.top.ledger }
+    /// What the next line does, and how the run ends if it ends there. The table tells what the lines of the code name.
+    /// Without memory the state is not said.
+    pub fn step(
+        &mut self,
+        alloc: Global,
+        code: &Code,
+        table: &Many<Many<Target>>,
+    ) -> Result<Option<Ending>, Memory>
+        requires table { table.now ≡ table_of code.now.funcs }
+        requires small { IsSmall self.old }
         ensures { IfOk result (λ ending. Follows (step code.now) ending self.old self.new) }
     {
         let Some(function) = code.funcs.get(self.top.func) else {
@@ -28,15 +37,90 @@ impl State {
         let Some(line) = lines.get(self.top.place) else {
             return Ok(Some(Ending::Fault(Fault::Kind)));
         };
+        let target = target_at(table, self.top.func, self.top.place);
+        self.line(alloc, code, function, line, target)
+    }
+
+    /// What a line of a function does.
+    fn line(
+        &mut self,
+        alloc: Global,
+        code: &Code,
+        function: &CFunc,
+        line: &Line,
+        target: Target,
+    ) -> Result<Option<Ending>, Memory>
+        requires small { IsSmall self.old }
+        requires place { self.old.top.place + 1 < 2 ^ 64 }
+        requires function { slice_get code.now.funcs self.old.top.func ≡ Some function.now }
+        requires target { target ≡ target_of code.now.funcs (label_places function.now.lines) line.now }
+        ensures { IfOk result (λ ending. Follows
+            (λ s. step_at true code.now s (Some line.now)) ending self.old self.new) }
+    {
         match line {
+            Line::Label => Ok(self.go_on()),
+            Line::Move(x, y) => Ok(self.copy(*x, *y)),
             Line::Lit(x, literal) => Ok(self.assign(kind_of(function, *x), *x, *literal)),
-            Line::Call(target, name, args) => match Prim::named(name.as_str()) {
+            Line::Call(x, _, args) => match target.callee {
                 None => Ok(Some(Ending::Fault(Fault::Kind))),
-                Some(primitive) => self.call(primitive, *target, args.as_slice()),
+                Some(callee) => self.call(alloc, code, callee, *x, args.as_slice()),
             },
-            Line::Return(x) => Ok(Some(self.leave(*x))),
+            Line::Goto(_) => Ok(self.jump(target.first)),
+            Line::If(x, _, _) => Ok(self.choose(*x, target.first, target.second)),
+            Line::IfError(x, _, _) => Ok(self.choose_by_error(*x, target.first, target.second)),
+            Line::Turn => Ok(self.spend_turn()),
+            Line::Return(x) => self.leave(*x),
+            Line::Inc(x) => self.increment(*x),
             Line::Dec(x) => Ok(self.decrement(*x)),
+            Line::XDec(x) => Ok(self.decrement_if_set(*x)),
         }
+    }
+
+    /// Calls a primitive or a function.
+    fn call(
+        &mut self,
+        alloc: Global,
+        code: &Code,
+        callee: Callee,
+        target: Option<usize>,
+        args: &[CArg],
+    ) -> Result<Option<Ending>, Memory>
+        requires small { IsSmall self.old }
+        requires place { self.old.top.place + 1 < 2 ^ 64 }
+        ensures { IfOk result (λ ending. Follows
+            (callee_called code.now target args.now callee) ending self.old self.new) }
+    {
+        match callee {
+            Callee::Primitive(primitive) => self.call_primitive(alloc, primitive, target, args),
+            Callee::Function(func) => self.enter(alloc, code, func, target, args),
+        }
+    }
+
+    /// Goes on to the next line.
+    fn go_on(&mut self) -> Option<Ending>
+        requires { self.old.top.place + 1 < 2 ^ 64 }
+        ensures { Follows (λ s. Goes (next_line s)) result self.old self.new }
+    {
+        self.top.place += 1;
+        None
+    }
+
+    /// Writes the word of a variable to another one. A cell that it refers to is to be there.
+    fn copy(&mut self, x: usize, y: usize) -> Option<Ending>
+        requires { self.old.top.place + 1 < 2 ^ 64 }
+        ensures { Follows (λ s. word_of true s y (λ w. if_there true s w (λ a. Goes (next_line (with_var x w s)))))
+            result self.old self.new }
+    {
+        let Some(word) = self.top.vars.get(y) else {
+            return Some(Ending::Fault(Fault::Kind));
+        };
+        let word = *word;
+        if !self.is_there(word) {
+            return Some(Ending::Fault(Fault::Dead));
+        }
+        self.top.set(x, word);
+        self.top.place += 1;
+        None
     }
 
     /// Writes a literal to a variable of this kind.
@@ -59,117 +143,72 @@ impl State {
         }
     }
 
-    /// Calls a primitive.
-    fn call(
-        &mut self,
-        primitive: Prim,
-        target: Option<usize>,
-        args: &[CArg],
-    ) -> Result<Option<Ending>, Memory>
-        requires countable { IsCountable self.old.top.ledger }
-        requires place { self.old.top.place + 1 < 2 ^ 64 }
-        ensures { IfOk result (λ ending. (code : Code) → Follows
-            (λ s. called true s code target args.now primitive) ending self.old self.new) }
+    /// Goes on at the place of a label, if the label is there.
+    fn jump(&mut self, place: Option<usize>) -> Option<Ending>
+        ensures { Follows (λ s. jumped true s place) result self.old self.new }
     {
-        match primitive {
-            Prim::Str(StrPrim::Literal) => match args {
-                [CArg::Text(text)] => self.make_text(target, text),
-                _ => Ok(Some(Ending::Fault(Fault::Kind))),
-            },
-            Prim::Io(IoPrim::Write) => match args.first() {
-                Some(CArg::Var(x)) => self.write(*x, args.len() == 1),
-                _ => Ok(Some(Ending::Fault(Fault::Kind))),
-            },
+        match place {
+            None => Some(Ending::Fault(Fault::Kind)),
+            Some(place) => {
+                self.top.place = place;
+                None
+            }
         }
     }
 
-    /// Makes a cell with a text, which the frame owns, and writes it to the target.
-    fn make_text(&mut self, target: Option<usize>, text: &Text) -> Result<Option<Ending>, Memory>
-        requires countable { IsCountable self.old.top.ledger }
-        requires place { self.old.top.place + 1 < 2 ^ 64 }
-        ensures { IfOk result (λ ending. Follows
-            (λ s. applied true s target s.top.ledger [] (Makes (StrCell text.now))) ending self.old self.new) }
-    {
-        let number = self.cells.make(Content::Str(text.clone()?))?;
-        self.top.ledger.add(number)?;
-        self.top.set_target(target, Word::Object(number));
-        self.top.place += 1;
-        Ok(None)
-    }
-
-    /// Writes the text of an object to the output. The object is tested before the number of the arguments.
-    fn write(&mut self, x: usize, is_alone: bool) -> Result<Option<Ending>, Memory>
-        requires { self.old.top.place + 1 < 2 ^ 64 }
-        ensures { IfOk result (λ ending. (code : Code) (target : Option ℕ) →
-            Follows (written code target x is_alone) ending self.old self.new) }
-    {
-        let Some(word) = self.top.vars.get(x) else {
-            return Ok(Some(Ending::Fault(Fault::Kind)));
-        };
-        let Word::Object(c) = *word else {
-            return Ok(Some(Ending::Fault(Fault::Kind)));
-        };
-        let Some(content) = self.cells.content(c) else {
-            return Ok(Some(Ending::Fault(Fault::Dead)));
-        };
-        if !is_alone {
-            return Ok(Some(Ending::Fault(Fault::Kind)));
-        }
-        self.output.add(content.text())?;
-        self.top.place += 1;
-        Ok(None)
-    }
-
-    /// Gives up the reference of a variable, if its word has a cell.
-    fn decrement(&mut self, x: usize) -> Option<Ending>
-        requires { self.old.top.place + 1 < 2 ^ 64 }
-        ensures { Follows (λ s. word_of true s x (decremented true s)) result self.old self.new }
+    /// Goes on at the first place where a variable is 1, and at the second one where it is 0.
+    fn choose(&mut self, x: usize, first: Option<usize>, second: Option<usize>) -> Option<Ending>
+        ensures { Follows (λ s. word_of true s x (chosen true s first second)) result self.old self.new }
     {
         let Some(word) = self.top.vars.get(x) else {
             return Some(Ending::Fault(Fault::Kind));
         };
         match *word {
-            Word::Object(c) => self.give_up(c),
-            Word::Short(_) | Word::NoneObject | Word::TrueObject | Word::FalseObject => {
-                self.top.place += 1;
-                None
-            }
+            Word::Char(0) => self.jump(second),
+            Word::Char(1) => self.jump(first),
             _ => Some(Ending::Fault(Fault::Kind)),
         }
     }
 
-    /// Gives a reference to a cell up, which the frame is to own.
-    fn give_up(&mut self, c: usize) -> Option<Ending>
-        requires { self.old.top.place + 1 < 2 ^ 64 }
-        ensures { Follows (λ s. given_up true s c) result self.old self.new }
+    /// Goes on at the first place where a variable equals the error value of its kind, and else at the second one.
+    fn choose_by_error(
+        &mut self,
+        x: usize,
+        first: Option<usize>,
+        second: Option<usize>,
+    ) -> Option<Ending>
+        ensures { Follows (λ s. word_of true s x (jumped_by_error s first second)) result self.old self.new }
     {
-        if !self.cells.is_live(c) {
-            return Some(Ending::Fault(Fault::Dead));
+        let Some(word) = self.top.vars.get(x) else {
+            return Some(Ending::Fault(Fault::Kind));
+        };
+        if word.equals_error() {
+            self.jump(first)
+        } else {
+            self.jump(second)
         }
-        if !self.top.ledger.take(c) {
-            return Some(Ending::Fault(Fault::NotOwned));
+    }
+
+    /// Spends a turn. Without one the run is cut.
+    fn spend_turn(&mut self) -> Option<Ending>
+        requires { self.old.top.place + 1 < 2 ^ 64 }
+        ensures { Follows (λ s. turned true s s.turns) result self.old self.new }
+    {
+        if self.turns == 0 {
+            return Some(Ending::Cut);
         }
-        self.cells.give_up(c);
+        self.turns -= 1;
         self.top.place += 1;
         None
     }
 
-    /// Returns a variable from the module, in which no exception is pending.
-    fn leave(&self, x: usize) -> Ending
-        ensures { Follows (λ s. word_of true s x (returned true s)) (Some result) self.now self.now }
+    /// Whether the cell of a word is there, if the word has one.
+    pub fn is_there(&self, word: Word) -> bool
+        ensures { result ≡ is_there self.now.cells (words.word_of word) }
     {
-        let Some(word) = self.top.vars.get(x) else {
-            return Ending::Fault(Fault::Kind);
-        };
-        match *word {
-            Word::Char(1) => {
-                if self.top.ledger.is_empty() {
-                    Ending::Done
-                } else {
-                    Ending::Fault(Fault::Leak)
-                }
-            }
-            _ => Ending::Fault(Fault::Kind),
+        match word {
+            Word::Object(c) => self.cells.is_live(c),
+            _ => true,
         }
     }
 }

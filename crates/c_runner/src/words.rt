@@ -1,7 +1,8 @@
 ghost use Rattle.std.specs.Prelude.{◌≡◌};
 ghost use Rattle.std.specs.Option.{option_map};
-ghost use Rattle.c_core.specs.Run.{error_word};
-ghost use Rattle.c_core.specs.Step.{literal_word, halved, char_word};
+ghost use Rattle.c_core.specs.Arguments.{is_value_of};
+ghost use Rattle.c_core.specs.Functions.{error_word};
+ghost use Rattle.c_core.specs.Step.{literal_word, halved, char_word, truth_word, is_error, equals_error};
 ghost use Rattle.c_runner.specs.Words.{word_of};
 
 use c_core::{CLit, Kind};
@@ -36,6 +37,17 @@ impl Word {
             Kind::Int64 => Word::Native(-113),
             Kind::Char => Word::Char(2),
             Kind::Object => Word::NoObject,
+        }
+    }
+
+    /// A truth.
+    pub fn truth(is_true: bool) -> Word
+        ensures { word_of result ≡ truth_word is_true }
+    {
+        if is_true {
+            Word::Char(1)
+        } else {
+            Word::Char(0)
         }
     }
 
@@ -76,6 +88,43 @@ impl Word {
             1 => Some(Word::Char(1)),
             2 => Some(Word::Char(2)),
             _ => None,
+        }
+    }
+
+    /// Whether it is of a kind, and no error value. -113 is an ordinary native integer too.
+    pub fn is_value_of(self, kind: Kind) -> bool
+        ensures { result ≡ is_value_of kind (word_of self) }
+    {
+        match (kind, self) {
+            (Kind::Tagged, Word::Short(_)) => true,
+            (Kind::Int64, Word::Native(_)) => true,
+            (Kind::Char, Word::Char(n)) => n != 2,
+            (
+                Kind::Object,
+                Word::Object(_) | Word::NoneObject | Word::TrueObject | Word::FalseObject,
+            ) => true,
+            _ => false,
+        }
+    }
+
+    /// Whether it is an error value, and nothing else: -113 is not.
+    pub fn is_error(self) -> bool
+        ensures { result ≡ is_error (word_of self) }
+    {
+        match self {
+            Word::TaggedError | Word::NoObject => true,
+            Word::Char(n) => n == 2,
+            _ => false,
+        }
+    }
+
+    /// Whether it equals the error value of its kind.
+    pub fn equals_error(self) -> bool
+        ensures { result ≡ equals_error (word_of self) }
+    {
+        match self {
+            Word::Native(n) => n == -113,
+            _ => self.is_error(),
         }
     }
 }

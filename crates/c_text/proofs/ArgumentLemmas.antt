@@ -1,6 +1,6 @@
 -- Arguments of a call: no text is of two, and one after another.
-use Rattle.std.proofs.Common.{◌≡◌, ◌≢◌, ◌∙◌, ℕ, ℤ, ◌<◌, suc, zero, Bool, true, false, List, [], ◌∷◌, ◌++◌, length, Option, Some, None, IsTrue, refl, sym, ap, arith, append_assoc, append-nil}
-use Rattle.std.specs.Prelude.{◌&&◌, ◌==◌, slice_get, codes, MatchOption}
+use Rattle.std.proofs.Common.{◌≡◌, ◌≢◌, ◌∙◌, ℕ, ℤ, ◌<◌, suc, zero, Bool, true, false, List, [], ◌∷◌, ◌++◌, length, Some, IsTrue, refl, sym, ap, arith, append_assoc, append-nil}
+use Rattle.std.specs.Prelude.{◌&&◌, ◌==◌, slice_get, codes}
 use Rattle.std.specs.List.{list_all, list_any, flat_map}
 use Rattle.std.specs.Fmt.{signed_decimal}
 use Rattle.std.proofs.lemmas.List.{append_cancel_left, nil_from_length}
@@ -13,7 +13,6 @@ use Rattle.c_core.specs.declared.code.CArg.TheVariants as arg
 use Rattle.c_core.specs.Text.{arg_text, arg_texts, joined, comma, var_text, byte_text}
 use Rattle.c_core.specs.WellFormed.{Declared, is_declared, is_identifier, spelled_arg}
 use Rattle.c_text.specs.Words.{HasNo, EndsArgument}
-use Rattle.c_text.specs.Variables.{Finds}
 use Rattle.c_text.specs.Statements.{AreNamed, IsWord, args_text, ArgsRemain}
 use Rattle.c_text.proofs.Bytes.{differ, and_true, HasNo-append, HasNo-identifier, comma_stops}
 use Rattle.c_text.proofs.Numbers.{not_number, not_number_front, number_is_some, HasNo-number}
@@ -51,11 +50,6 @@ is_number vars (arg.Class m) word h w e g c v = absurd (c m (sym e))
 
 pub spelled_name : (vars : List Declared) (a b : CArg) → a ≡ b → IsTrue (spelled_arg vars a) → IsTrue (spelled_arg vars b)
 spelled_name vars a b e h = ap (spelled_arg vars) (sym e) ∙ h
-
--- a variable that was found is the argument of its text
-pub variable_argument : (vars : List Declared) (a : CArg) (x : ℕ) (found : Option ℕ) → a ≡ arg.Var x → Finds (var_text vars) found x → MatchOption found ⊥ (λ y. arg_text vars a ≡ arg_text vars (arg.Var y))
-variable_argument vars a x None e f = f
-variable_argument vars a x (Some y) e f = ap (arg_text vars) e ∙ f
 
 -- ---- where an argument ends
 

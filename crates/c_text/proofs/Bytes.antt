@@ -15,7 +15,7 @@ use Rattle.unicode_ident.specs.Ident.{is_xid_continue}
 use Rattle.unicode_ident.proofs.Computing.{unicode_ident}
 use Rattle.c_core.specs.Text.{indented}
 use Rattle.c_core.specs.WellFormed.{is_identifier}
-use Rattle.c_text.specs.Words.{HasNo, EndsArgument}
+use Rattle.c_text.specs.Words.{HasNo, EndsArgument, IsCut, IsBracketed, bracketed}
 
 pub or_false : (a b : Bool) → (a || b) ≡ false → (a ≡ false) × (b ≡ false)
 or_false true b e = absurd (cc)
@@ -67,15 +67,7 @@ behind_at place front back stop bytes at e =
     let rest : drop (place + 1) bytes ≡ back = ap (drop (place + 1)) (sym whole) ∙ drop_at (front ++ stop ∷ []) back (place + 1) len in
     (ap (take place) (sym e) ∙ take_at front (stop ∷ back) place (sym at), ap (take (length bytes - (place + 1))) rest ∙ take_all (length bytes - (place + 1)) back (omega (arith, length-append front (stop ∷ back), ap length e)))
 
-pub parts_at : (stop place : ℕ) (front back bytes : List ℕ) → HasNo stop front → front ++ stop ∷ back ≡ bytes → position_from (λ b. b == stop) 0 bytes ≡ Some place → (take place bytes ≡ front) × (take (length bytes - (place + 1)) (drop (place + 1) bytes) ≡ back)
-parts_at stop place front back bytes h e p =
-    let at : place ≡ length front =
-    let q : Some place ≡ Some (0 + length front) = sym p ∙ ap (position_from (λ b. b == stop) 0) (sym e) ∙ place_at stop 0 front back h in
-    let r : place ≡ 0 + length front = cc in
-    omega arith in
-    behind_at place front back stop bytes at e
-
-pub is_cut : (stop : ℕ) (front back bytes : List ℕ) → HasNo stop front → front ++ stop ∷ back ≡ bytes → position_from (λ b. b == stop) 0 bytes ≢ None
+is_cut : (stop : ℕ) (front back bytes : List ℕ) → HasNo stop front → front ++ stop ∷ back ≡ bytes → position_from (λ b. b == stop) 0 bytes ≢ None
 is_cut stop front back bytes h e p =
     let q : None ≡ Some (0 + length front) = sym p ∙ ap (position_from (λ b. b == stop) 0) (sym e) ∙ place_at stop 0 front back h in
     cc
@@ -143,6 +135,10 @@ pub comma_stops : is_xid_continue 44 ≡ false
 unfolding unicode_ident
 comma_stops = refl
 
+pub closing_stops : is_xid_continue 41 ≡ false
+unfolding unicode_ident
+closing_stops = refl
+
 -- ---- where a byte stands
 
 -- the bytes before the place of a byte, and those behind it
@@ -185,6 +181,16 @@ not_found stop i (b ∷ bytes) e = split (not_found stop (i + 1) bytes) (b == st
     split later false t =
         ap (λ x. x || list_any (λ b. b == stop) bytes) t ∙ later (sym (ap (λ x. cond x (Some i) (position_from (λ b. b == stop) (i + 1) bytes)) t) ∙ e)
 
+pub cut_is : (stop place : ℕ) (bytes : List ℕ) → position_from (λ b. b == stop) 0 bytes ≡ Some place → IsCut stop (take place bytes) (take (length bytes - (place + 1)) (drop (place + 1) bytes)) bytes
+cut_is stop place bytes e =
+    let f = found_at stop 0 place bytes e in
+    let at : place ≡ length f.2.front = omega (arith, f.2.len, f.1) in
+    let parts = behind_at place f.2.front f.2.back stop bytes at (sym f.2.whole) in
+    record {
+      plain = ap (list_any (λ b. b == stop)) parts.0 ∙ f.2.plain;
+      whole = ap (λ t. t ++ stop ∷ take (length bytes - (place + 1)) (drop (place + 1) bytes)) parts.0 ∙ ap (λ t. f.2.front ++ stop ∷ t) parts.1 ∙ sym f.2.whole;
+    }
+
 -- ---- a byte parts a text in one way
 
 pub same_front : (stop : ℕ) (a b x y : List ℕ) → HasNo stop a → HasNo stop b → a ++ stop ∷ x ≡ b ++ stop ∷ y → (a ≡ b) × (x ≡ y)
@@ -207,6 +213,23 @@ not_in stop u v rest h e = stands v (sym (ap (list_any (λ b. b == stop)) e) ∙
     stands : (v : List ℕ) → HasNo stop (v ++ stop ∷ rest) → ⊥
     stands [] k = false≢true (sym (or_false (stop == stop) _ k).0 ∙ same_byte stop)
     stands (b ∷ v) k = stands v (or_false (b == stop) _ k).1
+
+-- ---- a word before brackets
+
+pub bracketed_is : (word rest inside text : List ℕ) → IsCut 40 word rest text → rest ≡ inside ++ codes ")" → IsBracketed word inside text
+bracketed_is word rest inside text cut e = record { plain = cut.plain; whole = ap (λ t. word ++ 40 ∷ t) (sym e) ∙ cut.whole }
+
+pub unclosed : (word rest other inside text : List ℕ) → IsCut 40 word rest text → ((front : List ℕ) → rest ≢ front ++ codes ")") → HasNo 40 other → bracketed other inside ≢ text
+unclosed word rest other inside text cut ends plain e =
+    ends inside (same_front 40 word other rest (inside ++ codes ")") cut.plain plain (cut.whole ∙ sym e)).1
+
+pub unopened : (other inside text : List ℕ) → HasNo 40 text → bracketed other inside ≢ text
+unopened other inside text none e = not_in 40 text other (inside ++ codes ")") none (sym e)
+
+-- words in brackets, by their parts
+pub same_bracketed : (a b x y : List ℕ) → HasNo 40 a → HasNo 40 b → bracketed a x ≡ bracketed b y → (a ≡ b) × (x ≡ y)
+same_bracketed a b x y p q e =
+    let s = same_front 40 a b (x ++ codes ")") (y ++ codes ")") p q e in (s.0, append_cancel_right x y (codes ")") s.1)
 
 -- ---- what stands inside a line
 

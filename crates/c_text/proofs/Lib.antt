@@ -1,7 +1,10 @@
 pub mod ArgumentLemmas
 pub mod Bytes
+pub mod Forms
 pub mod Fronts
+pub mod HeadLemmas
 pub mod Joined
+pub mod LabelLemmas
 pub mod LineTexts
 pub mod Literals
 pub mod Numbers
@@ -14,7 +17,7 @@ pub mod Quoting
 pub mod ReadLemmas
 pub mod SameLines
 pub mod SameParts
-pub mod SpelledCodes
 pub mod StatementLemmas
+pub mod StatementReads
 pub mod VariableLemmas
 pub mod WrittenLemmas

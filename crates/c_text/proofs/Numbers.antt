@@ -1,18 +1,19 @@
 -- The numbers of a C text: their digits, and that reading them gives them back.
-use Rattle.std.proofs.Common.{◌≡◌, ◌≢◌, ◌∙◌, ℕ, ℤ, pos, negsuc, ◌^◌, ◌<◌, ◌≤◌, List, [], ◌∷◌, ◌++◌, length, get_or, Result, Ok, Err, Some, IsTrue, refl, sym, ap, arith, suc, w64}
-use Rattle.std.specs.Prelude.{FitsSigned}
-use Rattle.std.specs.Fmt.{decimal, signed_decimal}
+use Rattle.std.proofs.Common.{◌≡◌, ◌≢◌, ◌∙◌, ℕ, ℤ, pos, negsuc, ◌+◌, ◌/◌, ◌%◌, ◌^◌, ◌<◌, ◌≤◌, List, [], ◌∷◌, ◌++◌, length, get_or, Result, Ok, Err, Some, IsTrue, refl, sym, ap, arith, suc, zero, w64}
+use Rattle.std.specs.Prelude.{Bool, true, false, cond, ◌==◌, FitsSigned}
+use Rattle.std.specs.Fmt.{decimal, digit_glyph, digits, digits_onto, signed_decimal}
 use Rattle.std.specs.Str.{IsUtf8}
 use Rattle.std.specs.Int.{IsInRange}
-use Rattle.std.specs.Str.Parse.{AllDigits, ParsesSigned, digits_value}
+use Rattle.std.specs.Str.Parse.{AllDigits, ParsesSigned, ParsesUnsigned, digits_value}
 use Rattle.std.proofs.lemmas.Str.{IsUtf8-from_ascii}
 use Rattle.std.proofs.lemmas.Str.Parse.{IsNumeralModel, numerals_by_value, tells_digits, digit_at, not_in_digits}
-use Rattle.std.proofs.lemmas.Fmt.{decimal_is_IsNumeral, parse-signed_decimal, IsAscii-signed}
-use Rattle.std.proofs.lemmas.Bool.{ltb-true}
+use Rattle.std.proofs.lemmas.Fmt.{decimal_injective, decimal_is_IsNumeral, parse-decimal, parse-signed_decimal, IsAscii-decimal, IsAscii-signed}
+use Rattle.std.proofs.lemmas.Bool.{lt-ltb, ltb-true}
 use Rattle.std.specs.Int.Signed.{mag}
 use Rattle.std.proofs.lemmas.Int.{ints, to_z-of_z}
 use mir.Val.{to_z, of_z}
 use Rattle.value_core.specs.Arithmetic.{lies_within}
+use Rattle.c_core.specs.WellFormed.{spelled_label}
 use Rattle.c_text.specs.Words.{HasNo}
 use Rattle.c_text.proofs.Bytes.{HasNo-by_place, HasNo-cons}
 
@@ -85,3 +86,44 @@ pub number_again : (n read : ℤ) → IsTrue (lies_within 63 n) → Some read �
 number_again n read h e =
     let same : read ≡ n = cc in
     sym (ap (λ z. to_z w64 (of_z w64 z)) same ∙ to_z-of_z w64 n (fits_of n h))
+
+-- ---- numbers of labels
+
+pub label_small : (n : ℕ) → IsTrue (spelled_label n) → n < 2 ^ 64
+label_small n h = ltb-true n (2 ^ 64) h
+
+pub label_fits : (n : ℕ) → n < 2 ^ 64 → IsTrue (spelled_label n)
+label_fits n l = lt-ltb n (2 ^ 64) l
+
+pub IsUtf8-label : (n : ℕ) → IsTrue (spelled_label n) → IsUtf8 (decimal n)
+IsUtf8-label n h = IsUtf8-from_ascii (decimal n) (IsAscii-decimal n (label_small n h))
+
+pub label_parsed : {E : Type 0} (n read : ℕ) (bs : List ℕ) (r : Result ℕ E) → IsTrue (spelled_label n) → decimal n ≡ bs → ParsesUnsigned 64 10 bs r → r ≡ Ok read → Some read ≡ Some n
+label_parsed n read bs r h e p q =
+    let o : Ok read ≡ Ok n = sym q ∙ parse-decimal 64 n bs r (label_small n h) (label_small n h) (sym e) p in cc
+
+pub label_not_parsed : {E : Type 0} (n : ℕ) (fault : E) (bs : List ℕ) (r : Result ℕ E) → IsTrue (spelled_label n) → decimal n ≡ bs → ParsesUnsigned 64 10 bs r → r ≡ Err fault → ⊥
+label_not_parsed n fault bs r h e p q =
+    let o : Err fault ≡ Ok n = sym q ∙ parse-decimal 64 n bs r (label_small n h) (label_small n h) (sym e) p in cc
+
+pub same_label : (n m : ℕ) → IsTrue (spelled_label n) → IsTrue (spelled_label m) → decimal n ≡ decimal m → n ≡ m
+same_label n m h k e = decimal_injective n m (label_small n h) (label_small m k) e
+
+-- a number of any size has digits alone
+onto_has_no : (stop k n : ℕ) (acc : List ℕ) → ¬ (IsInRange 48 57 stop) → HasNo stop acc → HasNo stop (digits_onto k 10 false n acc)
+onto_has_no stop zero n acc out h = h
+onto_has_no stop (suc k) n acc out h = split (n / 10 == 0) (onto_has_no stop k (n / 10) (digit_glyph false (n % 10) ∷ acc) out more)
+  where
+    glyph : digit_glyph false (n % 10) ≡ 48 + n % 10
+    glyph = ap (λ b. cond b (48 + n % 10) (87 + n % 10)) (lt-ltb (n % 10) 10 (omega arith))
+
+    more : HasNo stop (digit_glyph false (n % 10) ∷ acc)
+    more = HasNo-cons stop (digit_glyph false (n % 10)) acc (λ e. out (omega (arith, glyph, e), omega (arith, glyph, e))) h
+
+    split : (b : Bool) → HasNo stop (digits_onto k 10 false (n / 10) (digit_glyph false (n % 10) ∷ acc)) → HasNo stop (cond b (digit_glyph false (n % 10) ∷ acc) (digits_onto k 10 false (n / 10) (digit_glyph false (n % 10) ∷ acc)))
+    split true rest = more
+    split false rest = rest
+
+pub HasNo-decimal : (stop n : ℕ) → ¬ (IsInRange 48 57 stop) → HasNo stop (decimal n)
+unfolding digits
+HasNo-decimal stop n out = onto_has_no stop 64 n [] out refl

@@ -1,29 +1,116 @@
 -- No two well-formed codes have the same lines.
-use Rattle.std.proofs.Common.{◌≡◌, ◌∙◌, List, [], sym, ap, append-nil, subst}
-use Rattle.std.specs.Prelude.{map}
+use Rattle.std.proofs.Common.{◌≡◌, ◌∙◌, ℕ, ◌≤◌, List, [], ◌∷◌, ◌++◌, length, take, drop, true, IsTrue, refl, sym, ap, arith, subst, append_assoc, append-nil, take-append-drop, length-take}
+use Rattle.std.specs.Prelude.{◌==◌, map}
 use Rattle.std.specs.List.{list_all}
+use Rattle.std.specs.Str.{bytes_eq}
+use Rattle.std.proofs.lemmas.Bool.{false≢true, leb-true}
+use Rattle.std.proofs.lemmas.Bool.Decides.{Decides-eqb}
+use Rattle.std.proofs.lemmas.Slice.Eq.{bytes_eq-Decides}
+use Rattle.c_core.specs.declared.code.CFunc.{CFunc}
 use Rattle.c_core.specs.declared.code.Code.{Code}
+use Rattle.c_core.specs.declared.code.Kind.{Kind}
+use Rattle.c_core.specs.declared.code.Kind.TheVariants.{Tagged, Int64, Char, Object}
 use Rattle.c_core.specs.declared.code.Line.{Line}
-use Rattle.c_core.specs.Text.{code_lines}
-use Rattle.c_core.specs.WellFormed.{Declared, Spelled, WellFormed, function_fits, names_differ}
-use Rattle.c_text.specs.Parts.{AreSpelled, module_code}
+use Rattle.c_core.specs.Text.{code_lines, declaration_lines, function_end, function_lines, global_lines, statement_lines}
+use Rattle.c_core.specs.WellFormed.{Declared, Spelled, WellFormed, function_fits, is_char, names_differ, spelled_function, spelled_functions}
+use Rattle.c_text.specs.Parts.{AreSpelled}
 use Rattle.c_text.specs.Statements.{AreNamed}
 use Rattle.c_text.proofs.Bytes.{and_true}
-use Rattle.c_text.proofs.PartLemmas.{IsPast, body_is_past, body_lines, same_vars, tails}
-use Rattle.c_text.proofs.SameLines.{same_statements}
-use Rattle.c_text.proofs.SpelledCodes.{spelled_is}
+use Rattle.c_text.proofs.HeadLemmas.{named_drop, named_take, same_head}
+use Rattle.c_text.proofs.LineTexts.{global_not_head, global_not_module, head_not_module, same_global}
+use Rattle.c_text.proofs.PartLemmas.{IsPast, body_is_past, body_lines, code_parts, coded, heads, inner_ends, other_parts, same_vars, tails, top_parts}
+use Rattle.c_text.proofs.SameLines.{same_lines}
 use Rattle.c_text.proofs.VariableLemmas.{HaveOwnNames}
 
-same_modules : (vars others : List Declared) (ls ms : List Line) → HaveOwnNames vars → AreNamed vars → AreNamed others → AreSpelled vars ls → AreSpelled others ms → code_lines (module_code vars ls) ≡ code_lines (module_code others ms) → module_code vars ls ≡ module_code others ms
-same_modules vars others ls ms own n m h k e =
-    let s = same_vars vars others (body_lines vars ls) (body_lines others ms) n m (subst IsPast (append-nil (body_lines vars ls)) (body_is_past vars ls [] h)) (subst IsPast (append-nil (body_lines others ms)) (body_is_past others ms [] k)) (tails (tails e)) in
-    subst (λ (vs : List Declared). AreSpelled vs ms → body_lines vars ls ≡ body_lines vs ms → module_code vars ls ≡ module_code vs ms) s.0
-    (λ q f. ap (λ zs. module_code vars zs) (same_statements vars ls ms own n h q f)) k s.1
+-- the variables and the statements of two functions
+same_inner : (own others vars ws : List Declared) (ls ms : List Line) → HaveOwnNames vars → AreNamed own → AreNamed others → AreNamed vars → AreSpelled vars ls → AreSpelled ws ms → (own ≡ others → vars ≡ ws) → declaration_lines own ++ statement_lines vars ls ≡ declaration_lines others ++ statement_lines ws ms → (vars ≡ ws) × (ls ≡ ms)
+same_inner own others vars ws ls ms names n m k p q whole e =
+    let f = sym (append_assoc (declaration_lines own) (statement_lines vars ls) (function_end ∷ [])) ∙ ap (λ t. t ++ function_end ∷ []) e ∙ append_assoc (declaration_lines others) (statement_lines ws ms) (function_end ∷ []) in
+    let s = same_vars own others (body_lines vars 0 ls) (body_lines ws 0 ms) n m (subst IsPast (append-nil (body_lines vars 0 ls)) (body_is_past vars 0 ls [] p)) (subst IsPast (append-nil (body_lines ws 0 ms)) (body_is_past ws 0 ms [] q)) f in
+    let same = whole s.0 in
+    (same, subst (λ (vs : List Declared). AreSpelled vs ms → body_lines vars 0 ls ≡ body_lines vs 0 ms → ls ≡ ms) same (λ r g. same_lines vars 0 ls ms names k p r g) q s.1)
+
+abbrev made : List ℕ → Kind → ℕ → List Declared → List Line → CFunc
+made name ret params vars lines = record { name = name; ret = ret; params = params; vars = vars; lines = lines }
+
+same_made : (f g : CFunc) → f.name ≡ g.name → f.ret ≡ g.ret → f.params ≡ g.params → f.vars ≡ g.vars → f.lines ≡ g.lines → f ≡ g
+same_made f g a b c d e =
+    ap (λ z. made z f.ret f.params f.vars f.lines) a ∙ ap (λ z. made g.name z f.params f.vars f.lines) b ∙ ap (λ z. made g.name g.ret z f.vars f.lines) c ∙ ap (λ z. made g.name g.ret g.params z f.lines) d ∙ ap (λ z. made g.name g.ret g.params g.vars z) e
+
+char_is : (k : Kind) → is_char k ≡ true → k ≡ Char
+char_is Char h = refl
+char_is Tagged h = absurd (false≢true h)
+char_is Int64 h = absurd (false≢true h)
+char_is Object h = absurd (false≢true h)
+
+record TopIs (g : CFunc) : Type 0 where
+  name : g.name ≡ []
+  ret : g.ret ≡ Char
+  params : g.params ≡ 0
+
+top_is : (g : CFunc) → IsTrue (spelled_functions (g ∷ [])) → TopIs g
+top_is g h =
+    let name = and_true (bytes_eq g.name []) _ h in
+    let ret = and_true (is_char g.ret) _ name.1 in
+    let params = and_true (g.params == 0) _ ret.1 in
+    record { name = (bytes_eq-Decides g.name []).0 name.0; ret = char_is g.ret ret.0; params = (Decides-eqb g.params 0).0 params.0 }
+
+same_count : (n m : ℕ) (vars : List Declared) → n ≤ length vars → m ≤ length vars → take n vars ≡ take m vars → n ≡ m
+same_count n m vars h k e = omega (arith, ap length e, length-take n vars, length-take m vars)
+
+abbrev pub AllOwn : List CFunc → Type 0
+AllOwn [] = Unit {0}
+AllOwn (g ∷ gs) = HaveOwnNames g.vars × AllOwn gs
+
+all_own : (code : Code) (fs : List CFunc) → IsTrue (list_all (function_fits code) fs) → AllOwn fs
+all_own code [] h = tt
+all_own code (g ∷ fs) h =
+    let p = and_true (function_fits code g) _ h in ((and_true (names_differ (map (λ v. v.0) g.vars)) _ p.0).0, all_own code fs p.1)
+
+same_functions : (fs gs : List CFunc) → AllOwn fs → IsTrue (spelled_functions fs) → IsTrue (spelled_functions gs) → function_lines fs ≡ function_lines gs → fs ≡ gs
+same_functions [] gs own h k e = absurd (false≢true h)
+same_functions (f ∷ fs) [] own h k e = absurd (false≢true k)
+same_functions (f ∷ []) (g ∷ []) own h k e =
+    let p = top_parts f h in
+    let q = top_parts g k in
+    let a = top_is f h in
+    let b = top_is g k in
+    let ends = inner_ends f.vars f.vars g.vars g.vars f.lines g.lines [] [] (tails e) in
+    let s = same_inner f.vars g.vars f.vars g.vars f.lines g.lines own.0 p.named q.named p.named p.spelled q.spelled (λ z. z) ends.0 in
+    ap (λ z. z ∷ []) (same_made f g (a.name ∙ sym b.name) (a.ret ∙ sym b.ret) (a.params ∙ sym b.params) s.0 s.1)
+same_functions (f ∷ []) (g ∷ m ∷ gs) own h k e = absurd (head_not_module g (sym (heads e)))
+same_functions (f ∷ l ∷ fs) (g ∷ []) own h k e = absurd (head_not_module f (heads e))
+same_functions (f ∷ l ∷ fs) (g ∷ m ∷ gs) own h k e =
+    let x = and_true (spelled_function f) _ h in
+    let y = and_true (spelled_function g) _ k in
+    let p = other_parts f x.0 in
+    let q = other_parts g y.0 in
+    let head = same_head f g p.name q.name (named_take f.params f.vars p.named) (named_take g.params g.vars q.named) (heads e) in
+    let ends = inner_ends (drop f.params f.vars) f.vars (drop g.params g.vars) g.vars f.lines g.lines (function_lines (l ∷ fs)) (function_lines (m ∷ gs)) (tails e) in
+    let s = same_inner (drop f.params f.vars) (drop g.params g.vars) f.vars g.vars f.lines g.lines own.0 (named_drop f.params f.vars p.named) (named_drop g.params g.vars q.named) p.named p.spelled q.spelled
+    (λ z. sym (take-append-drop f.params f.vars) ∙ ap (λ t. t ++ drop f.params f.vars) head.2 ∙ ap (λ t. take g.params g.vars ++ t) z ∙ take-append-drop g.params g.vars) ends.0 in
+    let count = same_count f.params g.params g.vars (subst (λ (vs : List Declared). f.params ≤ length vs) s.0 (leb-true f.params (length f.vars) p.few)) (leb-true g.params (length g.vars) q.few) (ap (take f.params) (sym s.0) ∙ head.2) in
+    ap (λ z. z ∷ l ∷ fs) (same_made f g head.1 head.0 count s.0 s.1) ∙ ap (λ zs. g ∷ zs) (same_functions (l ∷ fs) (m ∷ gs) own.1 x.1 y.1 ends.1)
+
+functions_first : (fs : List CFunc) (v : Declared) (more : List (List ℕ)) → IsTrue (spelled_functions fs) → function_lines fs ≡ global_lines (v ∷ []) ++ more → ⊥
+functions_first [] v more h e = false≢true h
+functions_first (t ∷ []) v more h e = global_not_module v (sym (heads e))
+functions_first (f ∷ g ∷ fs) v more h e = global_not_head v f (sym (heads e))
+
+same_globals : (xs ys : List Declared) (fs gs : List CFunc) → IsTrue (spelled_functions fs) → IsTrue (spelled_functions gs) → global_lines xs ++ function_lines fs ≡ global_lines ys ++ function_lines gs → (xs ≡ ys) × (function_lines fs ≡ function_lines gs)
+same_globals [] [] fs gs h k e = (refl, e)
+same_globals [] (b ∷ ys) fs gs h k e = absurd (functions_first fs b (global_lines ys ++ function_lines gs) h e)
+same_globals (a ∷ xs) [] fs gs h k e = absurd (functions_first gs a (global_lines xs ++ function_lines fs) k (sym e))
+same_globals (a ∷ xs) (b ∷ ys) fs gs h k e =
+    let r = same_globals xs ys fs gs h k (tails e) in (ap (λ z. z ∷ xs) (same_global a b (heads e)) ∙ ap (λ zs. b ∷ zs) r.0, r.1)
 
 pub other_is : (other code : Code) → WellFormed other → Spelled code → code_lines other ≡ code_lines code → other ≡ code
 other_is other code w h e =
     let parts = and_true _ _ w in
-    let m = spelled_is other parts.0 in
-    let n = spelled_is code h in
-    let own : HaveOwnNames m.vars = (and_true (names_differ (map (λ v. v.0) m.vars)) _ (and_true _ _ (ap (λ c. list_all (function_fits c) c.funcs) (sym m.is) ∙ parts.1)).0).0 in
-    m.is ∙ same_modules m.vars n.vars m.lines n.lines own m.named n.named m.spelled n.spelled (ap code_lines (sym m.is) ∙ e ∙ ap code_lines n.is) ∙ sym n.is
+    let names = and_true (names_differ (map (λ v. v.0) other.globals)) _ parts.1 in
+    let fit = (and_true (names_differ (map (λ g. g.name) other.funcs)) _ names.1).1 in
+    let m = code_parts other parts.0 in
+    let n = code_parts code h in
+    let g = same_globals other.globals code.globals other.funcs code.funcs m.functions n.functions (tails e) in
+    let f = same_functions other.funcs code.funcs (all_own other other.funcs fit) m.functions n.functions g.1 in
+    m.whole ∙ ap (λ z. coded z [] other.funcs) g.0 ∙ ap (λ z. coded code.globals [] z) f ∙ sym n.whole

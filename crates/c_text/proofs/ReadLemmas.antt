@@ -1,22 +1,31 @@
 -- Whole texts: a text has one list of lines, and its code is known by them.
-use Rattle.std.proofs.Common.{◌≡◌, ◌≢◌, ◌∙◌, ℕ, ◌+◌, ◌-◌, ◌<◌, List, [], ◌∷◌, ◌++◌, length, take, drop, Some, Result, Ok, Err, IfOk, arith, length-append, refl, sym, ap, append_assoc, append-nil, subst}
+use Rattle.std.proofs.Common.{◌≡◌, ◌≢◌, ◌∙◌, ℕ, ◌+◌, ◌-◌, ◌<◌, List, [], ◌∷◌, ◌++◌, length, take, drop, Some, IsTrue, arith, length-append, refl, sym, ap, append_assoc, append-nil, subst}
 use Rattle.std.specs.Prelude.{◌==◌}
 use Rattle.std.specs.List.{list_any, position_from}
+use Rattle.std.specs.Cmp.Derive.{both_true}
+use Rattle.std.proofs.lemmas.Bool.{false≢true}
+use Rattle.c_core.specs.declared.code.CFunc.{CFunc}
 use Rattle.c_core.specs.declared.code.Code.{Code}
+use Rattle.c_core.specs.declared.code.Kind.TheVariants.{Char}
 use Rattle.c_core.specs.declared.code.Line.{Line}
-use Rattle.c_core.specs.Text.{code_lines, code_text, declaration_lines, first_line, function_end, module_head, statement_lines, text_of}
-use Rattle.c_core.specs.WellFormed.{Declared, Spelled, is_identifier, spelled_line}
+use Rattle.c_core.specs.Text.{code_lines, code_text, declaration_lines, first_line, function_end, function_lines, global_lines, lines_from, module_head, statement_lines, text_of}
+use Rattle.c_core.specs.WellFormed.{Declared, Spelled, is_identifier, spelled_function, spelled_functions, spelled_line}
+use Rattle.c_text.specs.declared.head.Head.{Head}
+use Rattle.c_text.specs.declared.head.Head.TheVariants.{Module, Function}
+use Rattle.c_text.specs.declared.part.Above.{Above}
 use Rattle.c_text.specs.declared.part.Part.{Part}
-use Rattle.c_text.specs.declared.part.Part.TheVariants.{Start, Head, Declarations, Statements, Closed}
+use Rattle.c_text.specs.declared.part.Part.TheVariants.{Start, Between, Inside, Closed}
 use Rattle.c_text.specs.declared.text_error.TextError.TheVariants.{Refused}
 use Rattle.c_text.specs.Words.{HasNo, IsFirstLine}
+use Rattle.c_text.specs.Heads.{function_of}
+use Rattle.c_text.specs.Labels.{labels_after}
 use Rattle.c_text.specs.Statements.{AreNamed}
-use Rattle.c_text.specs.Parts.{AreSpelled, IsFine, part_lines, module_code}
+use Rattle.c_text.specs.Parts.{AreSpelled, IsAbove, IsFine, above_lines, code_of, open_lines, other_lines, part_lines}
 use Rattle.c_text.specs.Reading.{IsReading, HasCode, CanStand, at_line, at_end, SaysRefused}
 use Rattle.c_text.proofs.Bytes.{and_true, behind_at, found_at, not_in, same_front}
-use Rattle.c_text.proofs.LineTexts.{declaration_plain, line_plain}
-use Rattle.c_text.proofs.SpelledCodes.{module_spelled, spelled_is}
-use Rattle.c_text.proofs.PartLemmas.{IsOpen, open_is_no_text}
+use Rattle.c_text.proofs.HeadLemmas.{global_plain, head_plain, named_drop, named_take}
+use Rattle.c_text.proofs.LineTexts.{declaration_plain, line_plain, lines_step}
+use Rattle.c_text.proofs.PartLemmas.{IsUnended, all_spelled, code_parts, functions_push, next_other, next_top, other_parts, top_parts, unended_is_no_text}
 use Rattle.c_text.proofs.OneCode.{other_is}
 
 -- ---- a text has one list of lines
@@ -64,49 +73,79 @@ declarations_plain [] more n m = m
 declarations_plain (v ∷ vars) more n m =
     let parts = and_true (is_identifier v.0) _ n in (declaration_plain v parts.0, declarations_plain vars more parts.1 m)
 
-statements_plain : (vars : List Declared) (lines : List Line) (more : List (List ℕ)) → AreNamed vars → AreSpelled vars lines → ArePlain more → ArePlain (statement_lines vars lines ++ more)
-statements_plain vars [] more n h m = m
-statements_plain vars (l ∷ lines) more n h m =
-    let parts = and_true (spelled_line vars l) _ h in (line_plain vars l n parts.0, statements_plain vars lines more n parts.1 m)
+statements_plain : (vars : List Declared) (k : ℕ) (lines : List Line) (more : List (List ℕ)) → AreNamed vars → AreSpelled vars lines → ArePlain more → ArePlain (lines_from vars k lines ++ more)
+statements_plain vars k [] more n h m = m
+statements_plain vars k (l ∷ lines) more n h m =
+    let parts = and_true (spelled_line vars l) _ h in
+    subst ArePlain (ap (λ t. t ++ more) (sym (lines_step vars k l lines))) (line_plain vars k l n parts.0, statements_plain vars (labels_after k l) lines more n parts.1 m)
 
-module_plain : (vars : List Declared) (lines : List Line) → AreNamed vars → AreSpelled vars lines → ArePlain (code_lines (module_code vars lines))
-module_plain vars lines n h = (refl, (refl, declarations_plain vars (statement_lines vars lines ++ function_end ∷ []) n (statements_plain vars lines (function_end ∷ []) n h (refl, tt))))
+functions_plain : (fs : List CFunc) → IsTrue (spelled_functions fs) → ArePlain (function_lines fs)
+functions_plain [] h = absurd (false≢true h)
+functions_plain (t ∷ []) h =
+    let p = top_parts t h in (refl, declarations_plain t.vars (statement_lines t.vars t.lines ++ (function_end ∷ [])) p.named (statements_plain t.vars 0 t.lines (function_end ∷ []) p.named p.spelled (refl, tt)))
+functions_plain (f ∷ g ∷ fs) h =
+    let q = and_true (spelled_function f) _ h in
+    let p = other_parts f q.0 in (
+      head_plain f p.name (named_take f.params f.vars p.named),
+      declarations_plain (drop f.params f.vars) (statement_lines f.vars f.lines ++ (function_end ∷ function_lines (g ∷ fs))) (named_drop f.params f.vars p.named) (statements_plain f.vars 0 f.lines (function_end ∷ function_lines (g ∷ fs)) p.named p.spelled (refl, functions_plain (g ∷ fs) q.1)),
+    )
+
+globals_plain : (gs : List Declared) (more : List (List ℕ)) → AreNamed gs → ArePlain more → ArePlain (global_lines gs ++ more)
+globals_plain [] more n m = m
+globals_plain (g ∷ gs) more n m =
+    let parts = and_true (is_identifier g.0) _ n in (global_plain g parts.0, globals_plain gs more parts.1 m)
 
 code_plain : (code : Code) → Spelled code → ArePlain (code_lines code)
-code_plain code h = let m = spelled_is code h in subst (λ (c : Code). ArePlain (code_lines c)) (sym m.is) (module_plain m.vars m.lines m.named m.spelled)
+code_plain code h =
+    let p = code_parts code h in (refl, globals_plain code.globals (function_lines code.funcs) p.named (functions_plain code.funcs p.functions))
 
 -- lines that can stand are plain
 pub standing_plain : (front : List (List ℕ)) → CanStand front → ArePlain front
 standing_plain front c = plain_front front c.rest (subst ArePlain c.lines (code_plain c.code c.spelled))
 
 -- each part can be closed
-record IsClosedBy (part : Part) (more : List (List ℕ)) : Type 0 where
-  vars : List Declared
-  lines : List Line
-  named : AreNamed vars
-  spelled : AreSpelled vars lines
-  same : code_lines (module_code vars lines) ≡ part_lines part ++ more
+record IsClosedBy (lines more : List (List ℕ)) : Type 0 where
+  code : Code
+  spelled : Spelled code
+  same : code_lines code ≡ lines ++ more
 
-closed_by : (part : Part) → IsFine part → (more : List (List ℕ)) × IsClosedBy part more
-closed_by Start fine = (code_lines (module_code [] []), record { vars = []; lines = []; named = refl; spelled = refl; same = refl })
-closed_by Head fine = (module_head ∷ function_end ∷ [], record { vars = []; lines = []; named = refl; spelled = refl; same = refl })
-closed_by (Declarations vars) fine = (function_end ∷ [], record { vars = vars; lines = []; named = fine; spelled = refl; same = refl })
-closed_by (Statements vars lines) fine = (
-  function_end ∷ [],
-  record {
-    vars = vars;
-    lines = lines;
-    named = fine.0;
-    spelled = fine.2;
-    same = ap (λ t. first_line ∷ module_head ∷ t) (sym (append_assoc (declaration_lines vars) (statement_lines vars lines) (function_end ∷ [])));
-  },
-)
-closed_by (Closed vars lines) fine = ([], record { vars = vars; lines = lines; named = fine.0; spelled = fine.1; same = sym (append-nil (code_lines (module_code vars lines))) })
+top : CFunc
+top = record { name = []; ret = Char; params = 0; vars = []; lines = [] }
+
+closed_between : (a : Above) → IsAbove a → IsClosedBy (above_lines a) (module_head ∷ function_end ∷ [])
+unfolding top
+closed_between a fine = record {
+  code = record { globals = a.globals; classes = []; funcs = a.functions ++ top ∷ [] };
+  spelled = both_true fine.named (all_spelled a.functions top fine.functions refl);
+  same = ap (λ t. first_line ∷ (global_lines a.globals ++ t)) (functions_push a.functions top) ∙ ap (λ t. first_line ∷ t) (sym (append_assoc (global_lines a.globals) (other_lines a.functions) (module_head ∷ function_end ∷ [])));
+}
+
+closed_by : (part : Part) → IsFine part → (more : List (List ℕ)) × IsClosedBy (part_lines part) more
+closed_by Start fine =
+    let a : Above = record { globals = []; functions = [] } in
+    let c = closed_between a (record { named = refl; functions = refl }) in
+    (code_lines c.code, record { code = c.code; spelled = c.spelled; same = refl })
+closed_by (Between a) fine = (module_head ∷ function_end ∷ [], closed_between a fine)
+closed_by (Inside a o) fine = split o.head refl
+  where
+    split : (head : Head) → o.head ≡ head → (more : List (List ℕ)) × IsClosedBy (above_lines a ++ open_lines o) more
+    split Module q =
+        let n = next_top a o (a.functions ++ function_of Module o.vars o.lines ∷ []) fine.0 fine.1 q refl in (
+          function_end ∷ [],
+          record { code = code_of (record { globals = a.globals; functions = a.functions ++ function_of Module o.vars o.lines ∷ [] }); spelled = n.0; same = n.1 },
+        )
+    split (Function name ret params) q =
+        let n = next_other a o (a.functions ++ function_of (Function name ret params) o.vars o.lines ∷ []) name ret params fine.0 fine.1 q refl in
+        let c = closed_between (record { globals = a.globals; functions = a.functions ++ function_of (Function name ret params) o.vars o.lines ∷ [] }) n.0 in (
+          function_end ∷ module_head ∷ function_end ∷ [],
+          record { code = c.code; spelled = c.spelled; same = c.same ∙ ap (λ t. t ++ module_head ∷ function_end ∷ []) n.1 ∙ append_assoc (above_lines a ++ open_lines o) (function_end ∷ []) (module_head ∷ function_end ∷ []) },
+        )
+closed_by (Closed a) fine = ([], record { code = code_of a; spelled = fine; same = sym (append-nil (code_lines (code_of a))) })
 
 can_stand : (part : Part) → IsFine part → CanStand (part_lines part)
 can_stand part fine =
     let c = closed_by part fine in
-    record { code = module_code c.1.vars c.1.lines; spelled = module_spelled c.1.vars c.1.lines c.1.named c.1.spelled; rest = c.0; lines = c.1.same }
+    record { code = c.1.code; spelled = c.1.spelled; rest = c.0; lines = c.1.same }
 
 -- ---- what reading says
 
@@ -143,10 +182,8 @@ end_lines part rest fine plain h =
 refused_end : (part : Part) (rest : List ℕ) → IsFine part → HasNo 10 rest → ¬ (HasCode (text_of (part_lines part) ++ rest)) → SaysRefused (text_of (part_lines part) ++ rest) (Refused (length (text_of (part_lines part) ++ rest)))
 refused_end part rest fine plain wrong = (wrong, at_end (part_lines part) rest refl plain (can_stand part fine))
 
-pub refused_open : (part : Part) (rest : List ℕ) → IsFine part → HasNo 10 rest → IsOpen part → SaysRefused (text_of (part_lines part) ++ rest) (Refused (length (text_of (part_lines part) ++ rest)))
-refused_open part rest fine plain opens = refused_end part rest fine plain (λ h.
-    let m = spelled_is h.0 h.1 in
-    open_is_no_text part m.vars m.lines fine opens m.named m.spelled (ap code_lines (sym m.is) ∙ (end_lines part rest fine plain h).0))
+pub refused_unended : (part : Part) (rest : List ℕ) → IsFine part → HasNo 10 rest → IsUnended part → SaysRefused (text_of (part_lines part) ++ rest) (Refused (length (text_of (part_lines part) ++ rest)))
+refused_unended part rest fine plain opens = refused_end part rest fine plain (λ h. unended_is_no_text part h.0 fine opens h.1 (end_lines part rest fine plain h).0)
 
 pub refused_rest : (part : Part) (rest : List ℕ) → IsFine part → HasNo 10 rest → rest ≢ [] → SaysRefused (text_of (part_lines part) ++ rest) (Refused (length (text_of (part_lines part) ++ rest)))
 refused_rest part rest fine plain more = refused_end part rest fine plain (λ h. more (end_lines part rest fine plain h).1)
@@ -158,10 +195,10 @@ same_code_lines other code w h t =
     b.lines ∙ ap (λ m. code_lines code ++ m) (no_more b.more (ap (list_any (λ x. x == 10)) b.text)) ∙ append-nil (code_lines code)
 
 -- the code of a closed part is the one of its text
-is_reading : (vars : List Declared) (lines : List Line) (code : Code) → IsFine (Closed vars lines) → code ≡ module_code vars lines → IsReading (code_text (module_code vars lines) ++ []) code
-is_reading vars lines code fine e =
-    let spelled : Spelled code = subst Spelled (sym e) (module_spelled vars lines fine.0 fine.1) in
-    let text : code_text code ≡ code_text (module_code vars lines) ++ [] = ap code_text e ∙ sym (append-nil (code_text (module_code vars lines))) in
+pub is_reading : (a : Above) (code : Code) → IsFine (Closed a) → code ≡ code_of a → IsReading (code_text (code_of a) ++ []) code
+is_reading a code fine e =
+    let spelled : Spelled code = subst Spelled (sym e) fine in
+    let text : code_text code ≡ code_text (code_of a) ++ [] = ap code_text e ∙ sym (append-nil (code_text (code_of a))) in
     record {
       spelled = spelled;
       text = text;
@@ -182,18 +219,16 @@ first_line_at place text e =
       omega (arith, ap length cut.1, ap length f.2.whole, length-append f.2.front (10 ∷ f.2.back)),
     )
 
-pub finish_reading : {E : Type 0} (part : Part) (vars : List Declared) (lines : List Line) (rest : List ℕ) (r : Result Code E) → IsFine part → part ≡ Closed vars lines → rest ≡ [] → IfOk r (λ code. code ≡ module_code vars lines) → IfOk r (IsReading (text_of (part_lines part) ++ rest))
-finish_reading part vars lines rest (Err e) fine p q k = k
-finish_reading part vars lines rest (Ok code) fine p q k =
+pub finish_reading : (part : Part) (a : Above) (rest : List ℕ) (code : Code) → IsFine part → part ≡ Closed a → rest ≡ [] → code ≡ code_of a → IsReading (text_of (part_lines part) ++ rest) code
+finish_reading part a rest code fine p q k =
     subst (λ (t : List ℕ). IsReading t code) (ap (λ x. text_of (part_lines x) ++ []) (sym p) ∙ ap (λ x. text_of (part_lines part) ++ x) (sym q))
-    (is_reading vars lines code (subst IsFine p fine) k)
+    (is_reading a code (subst IsFine p fine) k)
 
-pub open_is : (part : Part) → ((vars : List Declared) (lines : List Line) → part ≢ Closed vars lines) → IsOpen part
-open_is Start h = tt
-open_is Head h = tt
-open_is (Declarations vars) h = tt
-open_is (Statements vars lines) h = tt
-open_is (Closed vars lines) h = h vars lines refl
+pub unended_is : (part : Part) → ((a : Above) → part ≢ Closed a) → IsUnended part
+unended_is Start h = tt
+unended_is (Between a) h = tt
+unended_is (Inside a o) h = tt
+unended_is (Closed a) h = h a refl
 
 pub read_refused : (part : Part) (bytes rest line after : List ℕ) → IsFine part → bytes ≡ text_of (part_lines part) ++ rest → IsFirstLine line after rest → ¬ (CanStand (part_lines part ++ line ∷ [])) → SaysRefused bytes (Refused (length bytes - length rest))
 read_refused part bytes rest line after fine whole first stops =

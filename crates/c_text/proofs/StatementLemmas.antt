@@ -1,28 +1,27 @@
--- Statements: which one a text is, and how it comes apart.
-use Rattle.std.proofs.Common.{◌≡◌, ◌≢◌, ◌∙◌, ℕ, ◌<◌, suc, zero, Bool, true, false, cond, List, [], ◌∷◌, ◌++◌, Option, Some, None, IsTrue, IfOk, Result, Ok, Err, refl, sym, ap, arith, append_assoc, subst, ◌⊎◌, inl, inr}
-use Rattle.std.specs.Prelude.{◌==◌, MatchOption, not, slice_get, codes}
-use Rattle.std.specs.List.{list_all, list_any}
+-- The words of statements: the names in calls, and those of counts.
+use Rattle.std.proofs.Common.{◌≡◌, ◌≢◌, ◌∙◌, ℕ, ◌<◌, suc, zero, Bool, true, false, cond, List, [], ◌∷◌, ◌++◌, Option, Some, None, IsTrue, refl, sym, ap, arith, append_assoc, subst}
+use Rattle.std.specs.Prelude.{◌==◌, not, slice_get, codes}
+use Rattle.std.specs.List.{list_any}
 use Rattle.std.specs.Option.{option_map}
 use Rattle.std.specs.Str.{IsAscii, IsUtf8, bytes_eq, is_utf8}
 use Rattle.std.proofs.lemmas.Bool.{false≢true}
 use Rattle.std.proofs.lemmas.Bool.Decides.{Decides-eqb}
 use Rattle.std.proofs.lemmas.Str.{IsUtf8-append, IsUtf8-from_ascii, IsUtf8-from_is_utf8}
 use Rattle.unicode_ident.specs.Ident.{is_xid_continue}
-use Rattle.c_core.specs.declared.code.CArg.{CArg}
 use Rattle.c_core.specs.declared.code.CLit.{CLit}
 use Rattle.c_core.specs.declared.code.CLit.TheVariants.{Number, Null, PyNone, PyTrue, PyFalse}
 use Rattle.c_core.specs.declared.code.Kind.{Kind}
 use Rattle.c_core.specs.declared.code.Kind.TheVariants.{Tagged, Int64, Char, Object}
-use Rattle.c_core.specs.declared.code.Line.{Line}
-use Rattle.c_core.specs.declared.code.Line.TheVariants.{Lit, Call, Return, Dec}
-use Rattle.c_core.specs.Text.{counter_of, indented, literal_text, statement_text, var_text}
-use Rattle.c_core.specs.WellFormed.{Declared, is_call_name, is_declared, is_identifier, is_counted_kind, kind_at, after_prefix, is_some_and, other_words, spelled_arg, spelled_line, spelled_literal}
-use Rattle.c_text.specs.Words.{HasNo}
-use Rattle.c_text.specs.Variables.{Finds}
-use Rattle.c_text.specs.Statements.{IsLine, IsNoLine, IsNoStatement, IsStatement, args_text}
-use Rattle.c_text.proofs.Bytes.{differ, and_true, inside_same, HasNo-append, HasNo-identifier}
+use Rattle.c_core.specs.Functions.{after_prefix}
+use Rattle.c_core.specs.Text.{count_text, counter_of, literal_text, statement_text, var_text}
+use Rattle.c_core.specs.WellFormed.{Declared, is_call_name, is_identifier, is_counted_kind, kind_at, is_some_and, other_words, spelled_line, spelled_literal}
+use Rattle.c_text.specs.declared.count.Count.{Count}
+use Rattle.c_text.specs.declared.count.Count.TheVariants.{Inc, Dec, XDec}
+use Rattle.c_text.specs.Counts.{IsCounted, count_line, count_word, counter_text, verb_text}
+use Rattle.c_text.specs.Words.{HasNo, bracketed}
+use Rattle.c_text.specs.Statements.{IsIndented}
+use Rattle.c_text.proofs.Bytes.{differ, and_true, HasNo-append, HasNo-identifier}
 use Rattle.c_text.proofs.Numbers.{not_number}
-use Rattle.c_text.proofs.VariableLemmas.{declared_at, text_at}
 
 -- ---- the name in a call
 
@@ -78,20 +77,13 @@ HasNo-call_name stop name small stops start h =
     let p = call_name_parts name h in
     ap (list_any (λ b. b == stop)) p.whole ∙ HasNo-append stop (codes "CPy") p.rest start (HasNo-identifier stop p.rest small stops p.identifier)
 
-pub no_call_of_count : (name : List ℕ) → IsTrue (is_call_name name) → name ≢ codes "CPyTagged_DECREF"
-no_call_of_count name h e =
+-- none of the words that begin other statements is the name in a call
+pub no_other_word : (name word : List ℕ) → IsTrue (is_call_name name) → list_any (bytes_eq word) other_words ≡ true → name ≢ word
+no_other_word name word h listed e =
     let p = call_name_parts name h in
-    false≢true (ap (λ n. not (list_any (bytes_eq n) other_words)) (sym e) ∙ p.other)
+    false≢true (sym (ap not listed) ∙ sym (ap (λ n. not (list_any (bytes_eq n) other_words)) e) ∙ p.other)
 
-pub no_call_of_object_count : (name : List ℕ) → IsTrue (is_call_name name) → name ≢ codes "CPy_DECREF"
-no_call_of_object_count name h e =
-    let p = call_name_parts name h in
-    false≢true (ap (λ n. not (list_any (bytes_eq n) other_words)) (sym e) ∙ p.other)
-
--- a call begins with `CPy`, and no literal does
-call_front : (name : List ℕ) (rest text : List ℕ) → IsTrue (is_call_name name) → name ++ rest ≡ text → (r : List ℕ) × (text ≡ codes "CPy" ++ r)
-call_front name rest text h e = let p = call_name_parts name h in (p.rest ++ rest, sym e ∙ ap (λ n. n ++ rest) p.whole)
-
+-- no literal begins as a call or as a variable
 pub literal_front : (l : CLit) (rest : List ℕ) → IsTrue (spelled_literal l) → literal_text l ≢ codes "CPy" ++ rest
 literal_front (Number n) rest h e = not_number n _ _ h (omega arith) e
 literal_front Null rest h e = differ e refl
@@ -99,83 +91,125 @@ literal_front PyNone rest h e = differ e refl
 literal_front PyTrue rest h e = differ e refl
 literal_front PyFalse rest h e = differ e refl
 
+pub literal_not_variable : (l : CLit) (rest : List ℕ) → IsTrue (spelled_literal l) → literal_text l ≢ codes "cpy_" ++ rest
+literal_not_variable (Number n) rest h e = not_number n _ _ h (omega arith) e
+literal_not_variable Null rest h e = differ e refl
+literal_not_variable PyNone rest h e = differ e refl
+literal_not_variable PyTrue rest h e = differ e refl
+literal_not_variable PyFalse rest h e = differ e refl
+
 -- ---- counts
 
-pub record IsCount (vars : List Declared) (x : ℕ) (kind : Kind) (word : List ℕ) : Type 0 where
-  pub kind_is : kind_at vars x ≡ Some kind
-  pub text : statement_text vars (Dec x) ≡ word ++ (codes "(" ++ (var_text vars x ++ codes ")"))
+pub record IsCount (vars : List Declared) (verb : List ℕ) (x : ℕ) : Type 0 where
+  pub kind : Kind
+  pub counted : IsCounted kind
+  pub at : kind_at vars x ≡ Some kind
+  pub text : count_text vars verb x ≡ bracketed (counter_text kind ++ verb) (var_text vars x)
 
-pub count_parts : (vars : List Declared) (x : ℕ) → IsTrue (spelled_line vars (Dec x)) → IsCount vars x Tagged (codes "CPyTagged_DECREF") ⊎ IsCount vars x Object (codes "CPy_DECREF")
-count_parts vars x h = split (slice_get vars x) refl
+pub count_parts : (vars : List Declared) (verb : List ℕ) (x : ℕ) → IsTrue (is_counted_kind vars (kind_at vars x)) → IsCount vars verb x
+count_parts vars verb x h = split (slice_get vars x) refl
   where
     rest : List ℕ
-    rest = codes "DECREF(" ++ (var_text vars x ++ codes ")")
+    rest = verb ++ (codes "(" ++ (var_text vars x ++ codes ")"))
 
-    split : (o : Option Declared) → slice_get vars x ≡ o → IsCount vars x Tagged (codes "CPyTagged_DECREF") ⊎ IsCount vars x Object (codes "CPy_DECREF")
+    split : (o : Option Declared) → slice_get vars x ≡ o → IsCount vars verb x
     split None e = absurd (false≢true (sym (ap (λ o. is_counted_kind vars (option_map (λ v. v.1) o)) e) ∙ h))
-    split (Some (n, Tagged)) e = inl (record { kind_is = ap (option_map (λ v. v.1)) e; text = ap (λ o. counter_of o ++ rest) e })
-    split (Some (n, Object)) e = inr (record { kind_is = ap (option_map (λ v. v.1)) e; text = ap (λ o. counter_of o ++ rest) e })
+    split (Some (n, Tagged)) e = record { kind = Tagged; counted = refl; at = ap (option_map (λ v. v.1)) e; text = ap (λ o. counter_of o ++ rest) e ∙ sym (append_assoc (codes "CPyTagged_") verb (codes "(" ++ (var_text vars x ++ codes ")"))) }
+    split (Some (n, Object)) e = record { kind = Object; counted = refl; at = ap (option_map (λ v. v.1)) e; text = ap (λ o. counter_of o ++ rest) e ∙ sym (append_assoc (codes "CPy_") verb (codes "(" ++ (var_text vars x ++ codes ")"))) }
     split (Some (n, Int64)) e = absurd (false≢true (sym (ap (λ o. is_counted_kind vars (option_map (λ v. v.1) o)) e) ∙ h))
     split (Some (n, Char)) e = absurd (false≢true (sym (ap (λ o. is_counted_kind vars (option_map (λ v. v.1) o)) e) ∙ h))
 
--- ---- alike parts
+counted_kind : (vars : List Declared) (kind : Kind) → IsCounted kind → is_counted_kind vars (Some kind) ≡ true
+counted_kind vars Tagged h = refl
+counted_kind vars Object h = refl
+counted_kind vars Int64 h = absurd (false≢true h)
+counted_kind vars Char h = absurd (false≢true h)
 
-alike_then : {A : Type 0} (text : A → List ℕ) (a b : A) (found : Option A) → text a ≡ text b → Finds text found b → Finds text found a
-alike_then text a b None p f = f
-alike_then text a b (Some c) p f = p ∙ f
+pub count_spelled : (vars : List Declared) (count : Count) (x : ℕ) (kind : Kind) → IsCounted kind → kind_at vars x ≡ Some kind → IsIndented (count_line count x) × IsTrue (spelled_line vars (count_line count x))
+count_spelled vars Inc x kind h e = (tt, ap (is_counted_kind vars) e ∙ counted_kind vars kind h)
+count_spelled vars Dec x kind h e = (tt, ap (is_counted_kind vars) e ∙ counted_kind vars kind h)
+count_spelled vars XDec x kind h e = (tt, ap (is_counted_kind vars) e ∙ counted_kind vars kind h)
 
-alike_call : (vars : List Declared) (x y : ℕ) (name : List ℕ) (args : List CArg) → var_text vars x ≡ var_text vars y → statement_text vars (Call (Some x) name args) ≡ statement_text vars (Call (Some y) name args)
-alike_call vars x y name args p = ap (λ t. (t ++ codes " = ") ++ (name ++ (codes "(" ++ (args_text vars args ++ codes ")")))) p
+-- the text of a count, by the kind of its variable
+pub count_at : (vars : List Declared) (count : Count) (x : ℕ) (kind : Kind) → IsCounted kind → kind_at vars x ≡ Some kind → statement_text vars (count_line count x) ≡ bracketed (count_word count kind) (var_text vars x)
+count_at vars count x kind h e = by_verb count
+  where
+    word : (verb : List ℕ) → count_text vars verb x ≡ bracketed (counter_text kind ++ verb) (var_text vars x)
+    word verb =
+        let c = count_parts vars verb x (ap (is_counted_kind vars) e ∙ counted_kind vars kind h) in
+        let same : c.kind ≡ kind = let o : Some c.kind ≡ Some kind = sym c.at ∙ e in cc in
+        c.text ∙ ap (λ k. bracketed (counter_text k ++ verb) (var_text vars x)) same
 
-literal_found : (vars : List Declared) (x y : ℕ) (l : CLit) (found : Option Line) → var_text vars x ≡ var_text vars y → found ≡ Some (Lit y l) → Finds (statement_text vars) found (Lit x l)
-literal_found vars x y l found p e =
-    subst (λ (o : Option Line). Finds (statement_text vars) o (Lit x l)) (sym e) (ap (λ t. t ++ (codes " = " ++ literal_text l)) p)
+    by_verb : (count : Count) → statement_text vars (count_line count x) ≡ bracketed (count_word count kind) (var_text vars x)
+    by_verb Inc = word (codes "INCREF")
+    by_verb Dec = word (codes "DECREF")
+    by_verb XDec = word (codes "XDECREF")
 
--- ---- which statement a text is
+-- a count's word is no word of another statement
+pub count_listed : (count : Count) (kind : Kind) → IsCounted kind → list_any (bytes_eq (count_word count kind)) other_words ≡ true
+count_listed Inc Tagged h = refl
+count_listed Inc Object h = refl
+count_listed Dec Tagged h = refl
+count_listed Dec Object h = refl
+count_listed XDec Tagged h = refl
+count_listed XDec Object h = refl
+count_listed count Int64 h = absurd (false≢true h)
+count_listed count Char h = absurd (false≢true h)
 
-ok_map : {T E : Type 0} {P Q : T → Type 0} (r : Result T E) → ((x : T) → P x → Q x) → IfOk r P → IfOk r Q
-ok_map (Ok x) f p = f x p
-ok_map (Err e) f p = p
+pub turn_is_no_count : (count : Count) (kind : Kind) → IsCounted kind → count_word count kind ≢ codes "CPyTurn"
+turn_is_no_count Inc Tagged h e = differ e refl
+turn_is_no_count Inc Object h e = differ e refl
+turn_is_no_count Dec Tagged h e = differ e refl
+turn_is_no_count Dec Object h e = differ e refl
+turn_is_no_count XDec Tagged h e = differ e refl
+turn_is_no_count XDec Object h e = differ e refl
+turn_is_no_count count Int64 h e = false≢true h
+turn_is_no_count count Char h e = false≢true h
 
-abbrev pub FindsLine : {E : Type 0} → List Declared → Result (Option Line) E → Line → Type 0
-FindsLine vars r l = IfOk r (λ found. Finds (statement_text vars) found l)
+-- the bytes with which counts begin stand in no other place of their words
+verb_plain : (count : Count) → HasNo 40 (verb_text count) × HasNo 32 (verb_text count)
+verb_plain Inc = (refl, refl)
+verb_plain Dec = (refl, refl)
+verb_plain XDec = (refl, refl)
 
-starts_as : (vars : List Declared) (x : ℕ) (rest : List ℕ) → IsTrue (is_declared vars x) → (r : List ℕ) × (var_text vars x ++ rest ≡ codes "cpy_" ++ r)
-starts_as vars x rest h = let d = declared_at vars x h in (d.var.0 ++ rest, ap (λ t. t ++ rest) (text_at vars x d.var d.at))
+counter_plain : (kind : Kind) → HasNo 40 (counter_text kind) × HasNo 32 (counter_text kind)
+counter_plain Tagged = (refl, refl)
+counter_plain Int64 = (refl, refl)
+counter_plain Char = (refl, refl)
+counter_plain Object = (refl, refl)
 
--- a text that begins with a variable assigns to one, and what is assigned decides the rest
-pub assigned_reads : {E : Type 0} (vars : List Declared) (text word value : List ℕ) (r : Result (Option Line) E) (place : ℕ) → text ≡ codes "cpy_" ++ word → ((x : ℕ) (v : List ℕ) → IsTrue (is_declared vars x) → var_text vars x ++ (codes " = " ++ v) ≡ text → (var_text vars x ≡ var_text vars place) × (value ≡ v)) → ((l : CLit) → IsTrue (spelled_literal l) → literal_text l ≡ value → IfOk r (λ found. found ≡ Some (Lit place l))) → ((name : List ℕ) (args : List CArg) → IsTrue (is_call_name name) → IsTrue (list_all (spelled_arg vars) args) → name ++ (codes "(" ++ (args_text vars args ++ codes ")")) ≡ value → FindsLine vars r (Call (Some place) name args)) → (l : Line) → IsTrue (spelled_line vars l) → statement_text vars l ≡ text → FindsLine vars r l
-assigned_reads vars text word value r place starts target literals calls (Lit x l) h e =
-    let parts = and_true (is_declared vars x) (spelled_literal l) h in
-    let t = target x (literal_text l) parts.0 e in
-    ok_map r (λ found q. literal_found vars x place l found t.0 q) (literals l parts.1 (sym t.1))
-assigned_reads vars text word value r place starts target literals calls (Call None name args) h e =
-    let f = call_front name _ _ (and_true (is_call_name name) _ h).0 e in absurd (differ (sym f.1 ∙ starts) refl)
-assigned_reads vars text word value r place starts target literals calls (Call (Some x) name args) h e =
-    let parts = and_true (is_declared vars x) _ h in
-    let more = and_true (is_call_name name) _ parts.1 in
-    let rest = name ++ (codes "(" ++ (args_text vars args ++ codes ")")) in
-    let t = target x rest parts.0 (sym (append_assoc (var_text vars x) (codes " = ") rest) ∙ e) in
-    ok_map r (λ found q. alike_then (statement_text vars) (Call (Some x) name args) (Call (Some place) name args) found (alike_call vars x place name args t.0) q) (calls name args more.0 more.1 (sym t.1))
-assigned_reads vars text word value r place starts target literals calls (Return x) h e = absurd (differ (e ∙ starts) refl)
-assigned_reads vars text word value r place starts target literals calls (Dec x) h e =
-    elim (count_parts vars x h) [ inl p ↦ absurd (differ (sym p.text ∙ e ∙ starts) refl) | inr p ↦ absurd (differ (sym p.text ∙ e ∙ starts) refl) ]
+pub count_plain : (count : Count) (kind : Kind) → HasNo 40 (count_word count kind)
+count_plain count kind = HasNo-append 40 (counter_text kind) (verb_text count) (counter_plain kind).0 (verb_plain count).0
 
--- any other text calls or counts
-pub call_reads : {E : Type 0} (vars : List Declared) (text : List ℕ) (r : Result (Option Line) E) → ((w : List ℕ) → text ≢ codes "return " ++ w) → ((w : List ℕ) → text ≢ codes "cpy_" ++ w) → ((name : List ℕ) (args : List CArg) → IsTrue (spelled_line vars (Call None name args)) → statement_text vars (Call None name args) ≡ text → FindsLine vars r (Call None name args)) → ((x : ℕ) → IsTrue (spelled_line vars (Dec x)) → statement_text vars (Dec x) ≡ text → FindsLine vars r (Dec x)) → (l : Line) → IsTrue (spelled_line vars l) → statement_text vars l ≡ text → FindsLine vars r l
-call_reads vars text r no_return no_variable calls counts (Lit x l) h e =
-    let s = starts_as vars x (codes " = " ++ literal_text l) (and_true (is_declared vars x) (spelled_literal l) h).0 in
-    absurd (no_variable s.0 (sym e ∙ s.1))
-call_reads vars text r no_return no_variable calls counts (Call None name args) h e = calls name args h e
-call_reads vars text r no_return no_variable calls counts (Call (Some x) name args) h e =
-    let rest = name ++ (codes "(" ++ (args_text vars args ++ codes ")")) in
-    let s = starts_as vars x (codes " = " ++ rest) (and_true (is_declared vars x) _ h).0 in
-    absurd (no_variable s.0 (sym e ∙ append_assoc (var_text vars x) (codes " = ") rest ∙ s.1))
-call_reads vars text r no_return no_variable calls counts (Return x) h e = absurd (no_return (var_text vars x) (sym e))
-call_reads vars text r no_return no_variable calls counts (Dec x) h e = counts x h e
+pub count_unspaced : (count : Count) (kind : Kind) → HasNo 32 (count_word count kind)
+count_unspaced count kind = HasNo-append 32 (counter_text kind) (verb_text count) (counter_plain kind).1 (verb_plain count).1
 
--- a line of a statement
-pub line_found : {E : Type 0} (vars : List Declared) (piece text : List ℕ) (r : Result (Option Line) E) → indented text ≡ piece → IfOk r (λ found. MatchOption found (IsNoStatement vars text) (IsStatement vars text)) → IfOk r (λ found. MatchOption found (IsNoLine vars piece) (IsLine vars piece))
-line_found vars piece text (Err e) p h = h
-line_found vars piece text (Ok None) p h = λ l k e. h l k (inside_same (statement_text vars l) text (e ∙ sym p))
-line_found vars piece text (Ok (Some l)) p h = (h.0, ap indented h.1 ∙ p)
+pub count_begins : (count : Count) (kind : Kind) → (r : List ℕ) × (count_word count kind ≡ codes "CPy" ++ r)
+count_begins count Tagged = (codes "Tagged_" ++ verb_text count, refl)
+count_begins count Int64 = (codes "_" ++ verb_text count, refl)
+count_begins count Char = (codes "_" ++ verb_text count, refl)
+count_begins count Object = (codes "_" ++ verb_text count, refl)
+
+-- a word of a count means one count
+pub same_count : (c d : Count) (k l : Kind) → IsCounted k → IsCounted l → count_word c k ≡ count_word d l → c ≡ d
+same_count c d Int64 l h i e = absurd (false≢true h)
+same_count c d Char l h i e = absurd (false≢true h)
+same_count c d k Int64 h i e = absurd (false≢true i)
+same_count c d k Char h i e = absurd (false≢true i)
+same_count Inc Inc k l h i e = refl
+same_count Dec Dec k l h i e = refl
+same_count XDec XDec k l h i e = refl
+same_count c d Tagged Tagged h i e = absurd (differ e refl)
+same_count c d Tagged Object h i e = absurd (differ e refl)
+same_count c d Object Tagged h i e = absurd (differ e refl)
+same_count c d Object Object h i e = absurd (differ e refl)
+
+pub same_counter : (c d : Count) (k l : Kind) → IsCounted k → IsCounted l → count_word c k ≡ count_word d l → k ≡ l
+same_counter c d Int64 l h i e = absurd (false≢true h)
+same_counter c d Char l h i e = absurd (false≢true h)
+same_counter c d k Int64 h i e = absurd (false≢true i)
+same_counter c d k Char h i e = absurd (false≢true i)
+same_counter c d Tagged Tagged h i e = refl
+same_counter c d Object Object h i e = refl
+same_counter c d Tagged Object h i e = absurd (differ e refl)
+same_counter c d Object Tagged h i e = absurd (differ e refl)

@@ -1,6 +1,6 @@
 -- The first variable of a name.
-use Rattle.std.proofs.Common.{◌≡◌, ◌∙◌, ℕ, ◌+◌, ◌<◌, suc, zero, Bool, true, false, cond, List, [], ◌∷◌, ◌++◌, length, Option, Some, None, IsTrue, refl, sym, ap, arith}
-use Rattle.std.specs.Prelude.{◌||◌, ◌&&◌, not, map, slice_get, codes, IfSome}
+use Rattle.std.proofs.Common.{◌≡◌, ◌≢◌, ◌∙◌, ℕ, ◌+◌, ◌<◌, suc, zero, Bool, true, false, cond, List, [], ◌∷◌, ◌++◌, length, Option, Some, None, IsTrue, refl, sym, ap, arith}
+use Rattle.std.specs.Prelude.{◌||◌, ◌&&◌, not, map, slice_get, codes}
 use Rattle.std.specs.List.{list_any, position_from}
 use Rattle.std.specs.Option.{option_map}
 use Rattle.std.specs.Str.{bytes_eq}
@@ -13,7 +13,7 @@ use Rattle.c_core.specs.declared.code.Kind.{Kind}
 use Rattle.c_core.specs.declared.code.Kind.TheVariants.{Tagged, Int64, Char, Object}
 use Rattle.c_core.specs.Text.{var_text, var_name}
 use Rattle.c_core.specs.WellFormed.{Declared, is_declared, kind_at, names_differ, same_kind}
-use Rattle.c_text.specs.Variables.{Finds, has_name, has_name_and_kind}
+use Rattle.c_text.specs.Variables.{Finds, FindsVariable, FindsVariableOf, has_name, has_name_and_kind}
 use Rattle.c_text.proofs.Bytes.{and_true}
 
 -- no two variables have one name
@@ -127,14 +127,22 @@ named_and_kind name kind w t = (bytes_eq-Decides w.0 name).0 (and_true _ _ t).1
 name_at : (vars : List Declared) (x : ℕ) (v : Declared) (name word : List ℕ) → slice_get vars x ≡ Some v → var_text vars x ≡ word → word ≡ codes "cpy_" ++ name → v.0 ≡ name
 name_at vars x v name word g e w = append_cancel_left (codes "cpy_") v.0 name (sym (text_at vars x v g) ∙ e ∙ w)
 
-pub variable_found : (vars : List Declared) (name word : List ℕ) (found : Option ℕ) (x : ℕ) → found ≡ position_from (has_name name) 0 vars → word ≡ codes "cpy_" ++ name → IsTrue (is_declared vars x) → var_text vars x ≡ word → Finds (var_text vars) found x
-variable_found vars name word found x f w h e =
+-- the variable at the place of a name, or that no variable has it
+pub variable_found : (vars : List Declared) (name word : List ℕ) (found : Option ℕ) → found ≡ position_from (has_name name) 0 vars → word ≡ codes "cpy_" ++ name → FindsVariable vars word found
+variable_found vars name word None f w = λ x h e.
     let d = declared_at vars x h in
-    found_alike (has_name name) name (named name) vars found x d.var (sym f) d.at ((bytes_eq-Decides d.var.0 name).1 (name_at vars x d.var name word d.at e w))
+    found_alike (has_name name) name (named name) vars None x d.var (sym f) d.at ((bytes_eq-Decides d.var.0 name).1 (name_at vars x d.var name word d.at e w))
+variable_found vars name word (Some y) f w =
+    let s = place_stands (has_name name) vars 0 y (sym f) in
+    let at : s.0 ≡ y = omega (arith, s.1) in
+    (ap (is_declared vars) (sym at) ∙ at_declared vars s.0 s.2.var s.2.at, ap (var_text vars) (sym at) ∙ text_at vars s.0 s.2.var s.2.at ∙ ap (λ n. codes "cpy_" ++ n) (named name s.2.var s.2.passes) ∙ sym w)
 
 pub kind_is : (o : Option Declared) (kind : Kind) → option_map (λ v. v.1) o ≡ Some kind → (v : Declared) × (o ≡ Some v) × (v.1 ≡ kind)
 kind_is None kind e = absurd (cc)
 kind_is (Some v) kind e = (v, refl, cc)
+
+pub kind_declared : (vars : List Declared) (x : ℕ) (kind : Kind) → kind_at vars x ≡ Some kind → IsTrue (is_declared vars x)
+kind_declared vars x kind e = let d = kind_is (slice_get vars x) kind e in at_declared vars x d.0 d.1
 
 same_kind_refl : (k : Kind) → same_kind k k ≡ true
 same_kind_refl Tagged = refl
@@ -160,22 +168,19 @@ same_kind_is Object Tagged h = absurd (cc)
 same_kind_is Object Int64 h = absurd (cc)
 same_kind_is Object Char h = absurd (cc)
 
-pub variable_of_found : (vars : List Declared) (name word : List ℕ) (kind : Kind) (found : Option ℕ) (x : ℕ) → found ≡ position_from (has_name_and_kind name kind) 0 vars → word ≡ codes "cpy_" ++ name → kind_at vars x ≡ Some kind → var_text vars x ≡ word → Finds (var_text vars) found x
-variable_of_found vars name word kind found x f w h e =
+pub variable_of_found : (vars : List Declared) (name word : List ℕ) (kind : Kind) (found : Option ℕ) → found ≡ position_from (has_name_and_kind name kind) 0 vars → word ≡ codes "cpy_" ++ name → FindsVariableOf vars word kind found
+variable_of_found vars name word kind None f w = λ x h e.
     let d = kind_is (slice_get vars x) kind h in
-    found_alike (has_name_and_kind name kind) name (named_and_kind name kind) vars found x d.0 (sym f) d.1
+    found_alike (has_name_and_kind name kind) name (named_and_kind name kind) vars None x d.0 (sym f) d.1
     (both_true (ap (λ k. same_kind k kind) d.2 ∙ same_kind_refl kind) ((bytes_eq-Decides d.0.0 name).1 (name_at vars x d.0 name word d.1 e w)))
-
-pub found_declared : (p : Declared → Bool) (vars : List Declared) (found : Option ℕ) → found ≡ position_from p 0 vars → IfSome found (λ y. IsTrue (is_declared vars y))
-found_declared p vars None e = tt
-found_declared p vars (Some y) e =
-    let s = place_stands p vars 0 y (sym e) in
+variable_of_found vars name word kind (Some y) f w =
+    let s = place_stands (has_name_and_kind name kind) vars 0 y (sym f) in
     let at : s.0 ≡ y = omega (arith, s.1) in
-    ap (is_declared vars) (sym at) ∙ at_declared vars s.0 s.2.var s.2.at
+    (ap (kind_at vars) (sym at) ∙ ap (option_map (λ v. v.1)) s.2.at ∙ ap Some (same_kind_is s.2.var.1 kind (and_true _ _ s.2.passes).0), ap (var_text vars) (sym at) ∙ text_at vars s.0 s.2.var s.2.at ∙ ap (λ n. codes "cpy_" ++ n) (named_and_kind name kind s.2.var s.2.passes) ∙ sym w)
 
-pub found_kind : (vars : List Declared) (name : List ℕ) (kind : Kind) (found : Option ℕ) → found ≡ position_from (has_name_and_kind name kind) 0 vars → IfSome found (λ y. kind_at vars y ≡ Some kind)
-found_kind vars name kind None e = tt
-found_kind vars name kind (Some y) e =
-    let s = place_stands (has_name_and_kind name kind) vars 0 y (sym e) in
-    let at : s.0 ≡ y = omega (arith, s.1) in
-    ap (kind_at vars) (sym at) ∙ ap (option_map (λ v. v.1)) s.2.at ∙ ap Some (same_kind_is s.2.var.1 kind (and_true _ _ s.2.passes).0)
+-- no variable is written without its beginning
+pub no_variable : (vars : List Declared) (word : List ℕ) → ((rest : List ℕ) → word ≢ codes "cpy_" ++ rest) → FindsVariable vars word None
+no_variable vars word none = λ x h e. let d = declared_at vars x h in none d.var.0 (sym e ∙ text_at vars x d.var d.at)
+
+pub no_variable_of : (vars : List Declared) (word : List ℕ) (kind : Kind) → ((rest : List ℕ) → word ≢ codes "cpy_" ++ rest) → FindsVariableOf vars word kind None
+no_variable_of vars word kind none = λ x h e. let d = kind_is (slice_get vars x) kind h in none d.0.0 (sym e ∙ text_at vars x d.0 d.1)

@@ -1,4 +1,7 @@
 pub mod Arguments
+pub mod Counts
+pub mod Heads
+pub mod Labels
 pub mod Laws
 pub mod Parts
 pub mod Places

@@ -1,19 +1,23 @@
 -- Words of a line: bytes that stand before a known byte, or between known bytes.
-use Rattle.std.specs.Prelude.{◌≡◌, ℕ, ◌==◌, false, List, [], ◌∷◌, ◌++◌, Option, MatchOption}
-use Rattle.std.specs.Borrow.{Bor}
+use Rattle.std.specs.Prelude.{◌≡◌, ℕ, ◌==◌, false, List, [], ◌∷◌, ◌++◌, codes}
 use Rattle.std.specs.List.{list_any}
 
 -- a byte does not stand among these
 abbrev pub HasNo : ℕ → List ℕ → Type 0
 HasNo stop bytes = list_any (λ b. b == stop) bytes ≡ false
 
--- two parts were found, and they are these
-abbrev pub AreParts : List ℕ → List ℕ → Bor (List ℕ) × Bor (List ℕ) → Type 0
-AreParts front back found = (found.0.now ≡ front) × (found.1.now ≡ back)
+-- what stands before the first byte of this value, and what behind it
+pub record IsCut (stop : ℕ) (front back bytes : List ℕ) : Type 0 where
+  pub plain : HasNo stop front
+  pub whole : front ++ stop ∷ back ≡ bytes
 
--- two parts were found where there are these two
-abbrev pub FindsParts : Option (Bor (List ℕ) × Bor (List ℕ)) → List ℕ → List ℕ → Type 0
-FindsParts found front back = MatchOption found ⊥ (AreParts front back)
+-- a word with what stands behind it in brackets
+abbrev pub bracketed : List ℕ → List ℕ → List ℕ
+bracketed word inside = word ++ (codes "(" ++ (inside ++ codes ")"))
+
+pub record IsBracketed (word inside text : List ℕ) : Type 0 where
+  pub plain : HasNo 40 word
+  pub whole : bracketed word inside ≡ text
 
 -- what may stand behind an argument: nothing, or a comma
 abbrev pub EndsArgument : List ℕ → Type 0

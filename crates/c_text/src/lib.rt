@@ -13,9 +13,13 @@
 #![tactic(auto)]
 
 mod argument;
+mod count;
 mod declaration;
+mod head;
+mod jump;
 mod laws;
 mod line;
+mod lines;
 mod part;
 mod quote;
 mod reader;

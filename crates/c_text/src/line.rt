@@ -1,22 +1,23 @@
 //! The lines of a function, as they are written. What a line seems to be is written again: it is that line only where
 //! the bytes are the same.
-ghost use Rattle.std.specs.Prelude.{◌≡◌, ◌++◌, ◌↔◌, ℕ, List, Some, None, codes, false, IsTrue, IfOk, IfSome, MatchOption};
+ghost use Rattle.std.specs.Prelude.{◌≡◌, ◌≢◌, ◌++◌, ◌↔◌, ℕ, List, Option, Some, None, codes, false, IsTrue, IfOk, MatchOption};
 ghost use Rattle.std.specs.List.{list_all};
 ghost use Rattle.c_core.specs.declared.code.CArg.{CArg};
-ghost use Rattle.c_core.specs.declared.code.CLit.{CLit};
 ghost use Rattle.c_core.specs.declared.code.Line.{Line};
-ghost use Rattle.c_core.specs.declared.code.Kind.{Kind};
-ghost use Rattle.c_core.specs.Text.{statement_text, literal_text, var_text};
-ghost use Rattle.c_core.specs.WellFormed.{is_call_name, is_declared, kind_at, is_counted_kind, spelled_arg, spelled_line, spelled_literal, spelled_target};
-ghost use Rattle.c_text.specs.Words.{HasNo, FindsParts};
+ghost use Rattle.c_core.specs.Text.{label_line, statement_text};
+ghost use Rattle.c_core.specs.WellFormed.{is_call_name, is_declared, spelled_arg, spelled_target};
+ghost use Rattle.c_text.specs.Words.{HasNo, IsBracketed, bracketed};
 ghost use Rattle.c_text.specs.Variables.{Finds};
-ghost use Rattle.c_text.specs.Statements.{AreNamed, IsSpelledLine, IsStatement, IsNoStatement, IsLine, IsNoLine, FindsTarget, args_text};
+ghost use Rattle.c_text.specs.Statements.{AreNamed, FindsTarget, IsLine, IsNoLine, IsNoStatement, IsSpelledLine, IsStatement, Reads, args_text, assignment_text};
 
 use crate::argument::arguments;
+use crate::count::{count_named, counted};
+use crate::jump::{goto, test};
 use crate::statement::write_statement;
 use crate::variable::{Variables, variable, variable_of};
 use crate::word::{before, behind, cut, inside_line, is, literal};
-use c_core::{Kind, Line, is_call_name};
+use c_core::{Line, is_call_name};
+use itoa::Buffer;
 use outside_core::MemSink;
 use std::alloc::Global;
 use std::str;
@@ -36,14 +37,13 @@ fn call_name(alloc: Global, bytes: &[u8]) -> Result<Option<Name>, Memory>
     Ok(Some(name))
 }
 
-/// The name in a call, and what stands between its brackets.
-fn call_parts(text: &[u8]) -> Option<(&[u8], &[u8])>
-    ensures { (name inside : List ℕ) → HasNo 40 name → name ++ (codes "(" ++ (inside ++ codes ")")) ≡ text.now →
-        FindsParts result name inside }
+/// A word, and what stands between the brackets behind it.
+fn word_and_inside(text: &[u8]) -> Option<(&[u8], &[u8])>
+    ensures { MatchOption result ((word inside : List ℕ) → HasNo 40 word → bracketed word inside ≢ text.now) (λ p. IsBracketed p.0.now p.1.now text.now) }
 {
     match cut(text, b'(') {
-        Some((name, rest)) => match before(rest, b")") {
-            Some(inside) => Some((name, inside)),
+        Some((word, rest)) => match before(rest, b")") {
+            Some(inside) => Some((word, inside)),
             None => None,
         },
         None => None,
@@ -73,64 +73,65 @@ fn call_of(
     }
 }
 
-/// The count of the variable of this kind that a word writes.
-fn release_of(vars: &Variables, word: &[u8], kind: Kind) -> Option<Line>
-    requires { IsTrue (is_counted_kind vars.now (Some kind)) }
-    ensures finds { (x : ℕ) → kind_at vars.now x ≡ Some kind → var_text vars.now x ≡ word.now →
-        Finds (statement_text vars.now) result (Line.Dec x) }
-    ensures spelled { IsSpelledLine vars.now result }
+/// A turn, a count or a call without a target, by its word and what stands between its brackets.
+fn word_statement(
+    alloc: Global,
+    vars: &Variables,
+    word: &[u8],
+    inside: &[u8],
+) -> Result<Option<Line>, Memory>
+    requires named { AreNamed vars.now }
+    requires plain { HasNo 40 word.now }
+    requires begins { (rest : List ℕ) × (bracketed word.now inside.now ≡ codes "CPy" ++ rest) }
+    ensures { IfOk result (Reads vars.now (bracketed word.now inside.now)) }
 {
-    match variable_of(vars, word, kind) {
-        Some(place) => Some(Line::Dec(place)),
-        None => None,
+    if is(word, b"CPyTurn") {
+        return Ok(Some(Line::Turn));
     }
-}
-
-/// A statement that begins with the name of a call or a count.
-fn call(alloc: Global, vars: &Variables, text: &[u8]) -> Result<Option<Line>, Memory>
-    requires { AreNamed vars.now }
-    ensures calls { (name : List ℕ) (args : List CArg) → IsTrue (spelled_line vars.now (Line.Call None name args)) →
-        statement_text vars.now (Line.Call None name args) ≡ text.now →
-        IfOk result (λ found. Finds (statement_text vars.now) found (Line.Call None name args)) }
-    ensures counts { (x : ℕ) → IsTrue (spelled_line vars.now (Line.Dec x)) → statement_text vars.now (Line.Dec x) ≡ text.now →
-        IfOk result (λ found. Finds (statement_text vars.now) found (Line.Dec x)) }
-    ensures spelled { IfOk result (IsSpelledLine vars.now) }
-{
-    let Some((word, inside)) = call_parts(text) else {
-        return Ok(None);
+    let Some((count, kind)) = count_named(word) else {
+        return call_of(alloc, vars, None, word, inside);
     };
-    if is(word, b"CPyTagged_DECREF") {
-        Ok(release_of(vars, inside, Kind::Tagged))
-    } else if is(word, b"CPy_DECREF") {
-        Ok(release_of(vars, inside, Kind::Object))
-    } else {
-        call_of(alloc, vars, None, word, inside)
+    match variable_of(vars, inside, kind) {
+        Some(place) => Ok(Some(counted(count, place))),
+        None => Ok(None),
     }
 }
 
-/// What is assigned to a variable: a literal or a call.
+/// A statement that begins with a word of the runtime.
+fn call(alloc: Global, vars: &Variables, text: &[u8]) -> Result<Option<Line>, Memory>
+    requires named { AreNamed vars.now }
+    requires begins { (rest : List ℕ) × (text.now ≡ codes "CPy" ++ rest) }
+    ensures { IfOk result (Reads vars.now text.now) }
+{
+    match word_and_inside(text) {
+        Some((word, inside)) => word_statement(alloc, vars, word, inside),
+        None => Ok(None),
+    }
+}
+
+/// An assignment to a variable, by what is assigned: a call, a variable or a literal.
 fn assigned(
     alloc: Global,
     vars: &Variables,
     place: usize,
-    text: &[u8],
+    value: &[u8],
 ) -> Result<Option<Line>, Memory>
     requires named { AreNamed vars.now }
     requires declared { IsTrue (is_declared vars.now place) }
-    ensures literals { (l : CLit) → IsTrue (spelled_literal l) → literal_text l ≡ text.now →
-        IfOk result (λ found. found ≡ Some (Line.Lit place l)) }
-    ensures calls { (name : List ℕ) (args : List CArg) → IsTrue (is_call_name name) → IsTrue (list_all (spelled_arg vars.now) args) →
-        name ++ (codes "(" ++ (args_text vars.now args ++ codes ")")) ≡ text.now →
-        IfOk result (λ found. Finds (statement_text vars.now) found (Line.Call (Some place) name args)) }
-    ensures spelled { IfOk result (IsSpelledLine vars.now) }
+    ensures { IfOk result (Reads vars.now (assignment_text vars.now place value.now)) }
 {
-    if let Some(_) = behind(text, b"CPy") {
-        match call_parts(text) {
+    if let Some(_) = behind(value, b"CPy") {
+        match word_and_inside(value) {
             Some((word, inside)) => call_of(alloc, vars, Some(place), word, inside),
             None => Ok(None),
         }
+    } else if let Some(_) = behind(value, b"cpy_") {
+        match variable(vars, value) {
+            Some(source) => Ok(Some(Line::Move(place, source))),
+            None => Ok(None),
+        }
     } else {
-        match literal(text) {
+        match literal(value) {
             Some(literal) => Ok(Some(Line::Lit(place, literal))),
             None => Ok(None),
         }
@@ -140,9 +141,7 @@ fn assigned(
 /// The target of an assignment, and what stands behind the equals sign.
 fn target<'a>(vars: &Variables, text: &'a [u8]) -> Option<(usize, &'a [u8])>
     requires { AreNamed vars.now }
-    ensures finds { (x : ℕ) (value : List ℕ) → IsTrue (is_declared vars.now x) → var_text vars.now x ++ (codes " = " ++ value) ≡ text.now →
-        FindsTarget vars.now result x value }
-    ensures declared { IfSome result (λ p. IsTrue (is_declared vars.now p.0)) }
+    ensures { FindsTarget vars.now result text.now }
 {
     let Some((word, rest)) = cut(text, b' ') else {
         return None;
@@ -156,25 +155,45 @@ fn target<'a>(vars: &Variables, text: &'a [u8]) -> Option<(usize, &'a [u8])>
     }
 }
 
+/// A statement that begins with a variable.
+fn assignment(alloc: Global, vars: &Variables, text: &[u8]) -> Result<Option<Line>, Memory>
+    requires named { AreNamed vars.now }
+    requires begins { (rest : List ℕ) × (text.now ≡ codes "cpy_" ++ rest) }
+    ensures { IfOk result (Reads vars.now text.now) }
+{
+    match target(vars, text) {
+        Some((place, value)) => assigned(alloc, vars, place, value),
+        None => Ok(None),
+    }
+}
+
+/// A return, by the word of its variable.
+fn returned(vars: &Variables, word: &[u8]) -> Option<Line>
+    ensures { Reads vars.now (codes "return " ++ word.now) result }
+{
+    match variable(vars, word) {
+        Some(place) => Some(Line::Return(place)),
+        None => None,
+    }
+}
+
 /// A statement: what stands between the spaces and the semicolon of its line.
 fn statement(alloc: Global, vars: &Variables, text: &[u8]) -> Result<Option<Line>, Memory>
     requires { AreNamed vars.now }
-    ensures finds { (l : Line) → IsTrue (spelled_line vars.now l) → statement_text vars.now l ≡ text.now →
-        IfOk result (λ found. Finds (statement_text vars.now) found l) }
-    ensures spelled { IfOk result (IsSpelledLine vars.now) }
+    ensures { IfOk result (Reads vars.now text.now) }
 {
-    if let Some(word) = behind(text, b"return ") {
-        match variable(vars, word) {
-            Some(place) => Ok(Some(Line::Return(place))),
-            None => Ok(None),
-        }
-    } else if let Some(_) = behind(text, b"cpy_") {
-        match target(vars, text) {
-            Some((place, value)) => assigned(alloc, vars, place, value),
-            None => Ok(None),
-        }
-    } else {
+    if let Some(_) = behind(text, b"cpy_") {
+        assignment(alloc, vars, text)
+    } else if let Some(_) = behind(text, b"CPy") {
         call(alloc, vars, text)
+    } else if let Some(digits) = behind(text, b"goto CPyL") {
+        Ok(goto(digits))
+    } else if let Some(rest) = behind(text, b"if (") {
+        Ok(test(vars, rest))
+    } else if let Some(word) = behind(text, b"return ") {
+        Ok(returned(vars, word))
+    } else {
+        Ok(None)
     }
 }
 
@@ -204,13 +223,35 @@ fn written_statement(alloc: Global, vars: &Variables, text: &[u8]) -> Result<Opt
     }
 }
 
-/// The statement that stands on a line.
-pub(crate) fn line(alloc: Global, vars: &Variables, piece: &[u8]) -> Result<Option<Line>, Memory>
-    requires { AreNamed vars.now }
-    ensures { IfOk result (λ found. MatchOption found (IsNoLine vars.now piece.now) (IsLine vars.now piece.now)) }
+/// Whether a line is the label of a number.
+fn is_label(number: usize, piece: &[u8]) -> bool
+    ensures { IsTrue result ↔ (label_line number ≡ piece.now) }
 {
-    let Some(text) = inside_line(piece) else {
-        return Ok(None);
+    let Some(rest) = behind(piece, b"CPyL") else {
+        return false;
     };
-    written_statement(alloc, vars, text)
+    let Some(digits) = before(rest, b": ;") else {
+        return false;
+    };
+    let mut buffer = Buffer::new();
+    is(digits, buffer.format(number).as_bytes())
+}
+
+/// The line of a function that is written so, where so many labels stand above it.
+pub(crate) fn line(
+    alloc: Global,
+    vars: &Variables,
+    labels: usize,
+    piece: &[u8],
+) -> Result<Option<Line>, Memory>
+    requires { AreNamed vars.now }
+    ensures { IfOk result (λ found. MatchOption found (IsNoLine vars.now labels piece.now) (IsLine vars.now labels piece.now)) }
+{
+    if is_label(labels, piece) {
+        return Ok(Some(Line::Label));
+    }
+    match inside_line(piece) {
+        Some(text) => written_statement(alloc, vars, text),
+        None => Ok(None),
+    }
 }

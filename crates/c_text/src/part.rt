@@ -1,88 +1,175 @@
 //! How far a text has come, and which line may follow.
-ghost use Rattle.std.specs.Prelude.{IfOk};
+ghost use Rattle.std.specs.Prelude.{◌≡◌, ◌≢◌, [], IsTrue, IfOk, MatchOption};
+ghost use Rattle.c_core.specs.Text.{declaration_text, function_end, global_line, indented};
+ghost use Rattle.c_core.specs.WellFormed.{Declared, is_identifier};
 ghost use Rattle.c_text.specs.declared.part.Part.TheVariants as variant;
-ghost use Rattle.c_text.specs.Parts.{IsFine, GoesOn};
-ghost use Rattle.c_text.specs.Statements.{AreNamed};
+ghost use Rattle.c_text.specs.Parts.{IsAbove, IsFine, IsNext, IsOpen, GoesOn};
 
-use crate::declaration::declaration;
+use crate::declaration::{declaration, global};
+use crate::head::{Head, line_head};
 use crate::line::line;
+use crate::lines::Lines;
 use crate::variable::Variables;
 use crate::word::is;
-use c_core::{Kind, Line};
+use c_core::{CFunc, Kind};
 use std::alloc::Global;
 use value_core::{Many, Memory, Name};
+
+/// What stands above a function: the globals, and the functions that have ended.
+#[derive(Drop)]
+pub(crate) struct Above {
+    pub(crate) globals: Many<(Name, Kind)>,
+    pub(crate) functions: Many<CFunc>,
+}
+
+/// A function that has not ended.
+#[derive(Drop)]
+pub(crate) struct Open {
+    pub(crate) head: Head,
+    pub(crate) vars: Variables,
+    pub(crate) lines: Lines,
+}
 
 /// How far a text has come.
 #[derive(Drop)]
 pub(crate) enum Part {
     /// Nothing was read.
     Start,
-    /// The first line was read.
-    Head,
-    /// The module's function has begun, and a declaration may follow.
-    Declarations(Variables),
-    /// The function has a statement.
-    Statements(Variables, Many<Line>),
-    /// The function has ended.
-    Closed(Many<(Name, Kind)>, Many<Line>),
+    /// A function may follow, or a global where there is no function yet.
+    Between(Above),
+    /// A function has begun.
+    Inside(Above, Open),
+    /// The module's own function has ended.
+    Closed(Above),
 }
 
-fn behind_start(piece: &[u8]) -> Option<Part>
+fn behind_start(alloc: Global, piece: &[u8]) -> Option<Part>
     ensures { GoesOn variant.Start piece.now result }
 {
     if is(piece, b"/* mypyc subset 1 */") {
-        Some(Part::Head)
+        Some(Part::Between(Above {
+            globals: Many::new(alloc),
+            functions: Many::new(alloc),
+        }))
     } else {
         None
     }
 }
 
-fn behind_head(alloc: Global, piece: &[u8]) -> Option<Part>
-    ensures { GoesOn variant.Head piece.now result }
+/// The global that a line declares, where one may stand.
+fn global_behind(
+    alloc: Global,
+    functions: &Many<CFunc>,
+    piece: &[u8],
+) -> Result<Option<(Name, Kind)>, Memory>
+    ensures { IfOk result (λ found. MatchOption found ((v : Declared) → functions.now ≡ [] → IsTrue (is_identifier v.0) → global_line v ≢ piece.now)
+        (λ v. (functions.now ≡ []) × IsTrue (is_identifier v.0) × (global_line v ≡ piece.now))) }
 {
-    if is(piece, b"char CPyModule(void) {") {
-        Some(Part::Declarations(Variables::new(alloc)))
-    } else {
-        None
+    if !functions.is_empty() {
+        return Ok(None);
     }
+    global(alloc, piece)
 }
 
-fn behind_declarations(alloc: Global, vars: Variables, piece: &[u8]) -> Result<Option<Part>, Memory>
-    requires { AreNamed vars }
-    ensures { IfOk result (GoesOn (variant.Declarations vars) piece.now) }
+fn behind_between(alloc: Global, above: Above, piece: &[u8]) -> Result<Option<Part>, Memory>
+    requires { IsAbove above }
+    ensures { IfOk result (GoesOn (variant.Between above) piece.now) }
 {
-    if is(piece, b"}") {
-        return Ok(Some(Part::Closed(vars.into_list(), Many::new(alloc))));
+    let Above {
+        mut globals,
+        functions,
+    } = above;
+    if let Some(global) = global_behind(alloc, &functions, piece)? {
+        globals.push(global)?;
+        return Ok(Some(Part::Between(Above { globals, functions })));
     }
-    if let Some(declared) = declaration(alloc, piece)? {
-        let vars = vars.and(alloc, declared)?;
-        return Ok(Some(Part::Declarations(vars)));
-    }
-    let Some(line) = line(alloc, &vars, piece)? else {
+    let Some((head, vars)) = line_head(alloc, piece)? else {
         return Ok(None);
     };
-    let mut lines = Many::new(alloc);
-    lines.push(line)?;
-    Ok(Some(Part::Statements(vars, lines)))
+    let begun = Open {
+        head,
+        vars,
+        lines: Lines::new(alloc),
+    };
+    Ok(Some(Part::Inside(Above { globals, functions }, begun)))
 }
 
-fn behind_statements(
+/// The part behind the end of a function.
+fn behind_end(alloc: Global, above: Above, begun: Open) -> Result<Part, Memory>
+    requires above { IsAbove above }
+    requires begun { IsOpen begun }
+    ensures { IfOk result (IsNext (variant.Inside above begun) function_end) }
+{
+    let Above {
+        globals,
+        mut functions,
+    } = above;
+    let Open { head, vars, lines } = begun;
+    let vars = vars.into_list();
+    let lines = lines.into_list();
+    match head {
+        Head::Module => {
+            functions.push(CFunc {
+                name: Name::from_string(String::new(alloc)),
+                ret: Kind::Char,
+                params: 0,
+                vars,
+                lines,
+            })?;
+            Ok(Part::Closed(Above { globals, functions }))
+        }
+        Head::Function(name, ret, params) => {
+            functions.push(CFunc {
+                name,
+                ret,
+                params,
+                vars,
+                lines,
+            })?;
+            Ok(Part::Between(Above { globals, functions }))
+        }
+    }
+}
+
+/// The variable that a line declares, where one may stand.
+fn declaration_behind(
     alloc: Global,
-    vars: Variables,
-    mut lines: Many<Line>,
+    lines: &Lines,
+    piece: &[u8],
+) -> Result<Option<(Name, Kind)>, Memory>
+    ensures { IfOk result (λ found. MatchOption found ((v : Declared) → lines.now ≡ [] → IsTrue (is_identifier v.0) → indented (declaration_text v) ≢ piece.now)
+        (λ v. (lines.now ≡ []) × IsTrue (is_identifier v.0) × (indented (declaration_text v) ≡ piece.now))) }
+{
+    if !lines.is_empty() {
+        return Ok(None);
+    }
+    declaration(alloc, piece)
+}
+
+fn behind_inside(
+    alloc: Global,
+    above: Above,
+    begun: Open,
     piece: &[u8],
 ) -> Result<Option<Part>, Memory>
-    requires { IsFine (variant.Statements vars lines) }
-    ensures { IfOk result (GoesOn (variant.Statements vars lines) piece.now) }
+    requires above { IsAbove above }
+    requires begun { IsOpen begun }
+    ensures { IfOk result (GoesOn (variant.Inside above begun) piece.now) }
 {
     if is(piece, b"}") {
-        return Ok(Some(Part::Closed(vars.into_list(), lines)));
+        let part = behind_end(alloc, above, begun)?;
+        return Ok(Some(part));
     }
-    let Some(line) = line(alloc, &vars, piece)? else {
+    let Open { head, vars, lines } = begun;
+    if let Some(declared) = declaration_behind(alloc, &lines, piece)? {
+        let vars = vars.and(alloc, declared)?;
+        return Ok(Some(Part::Inside(above, Open { head, vars, lines })));
+    }
+    let Some(line) = line(alloc, &vars, lines.labels(), piece)? else {
         return Ok(None);
     };
-    lines.push(line)?;
-    Ok(Some(Part::Statements(vars, lines)))
+    let lines = lines.and(line)?;
+    Ok(Some(Part::Inside(above, Open { head, vars, lines })))
 }
 
 /// The part behind one more line, where the line may follow.
@@ -91,10 +178,9 @@ pub(crate) fn behind_line(alloc: Global, part: Part, piece: &[u8]) -> Result<Opt
     ensures { IfOk result (GoesOn part piece.now) }
 {
     match part {
-        Part::Start => Ok(behind_start(piece)),
-        Part::Head => Ok(behind_head(alloc, piece)),
-        Part::Declarations(vars) => behind_declarations(alloc, vars, piece),
-        Part::Statements(vars, lines) => behind_statements(alloc, vars, lines, piece),
-        Part::Closed(_, _) => Ok(None),
+        Part::Start => Ok(behind_start(alloc, piece)),
+        Part::Between(above) => behind_between(alloc, above, piece),
+        Part::Inside(above, begun) => behind_inside(alloc, above, begun, piece),
+        Part::Closed(_) => Ok(None),
     }
 }

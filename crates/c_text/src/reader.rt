@@ -1,16 +1,15 @@
 ghost use Rattle.std.specs.Prelude.{◌≡◌, ◌++◌, ◌<◌, length, IfOk, IfErr, MatchOption};
-ghost use Rattle.c_text.specs.declared.text_error.TextError.TheVariants as errors;
 ghost use Rattle.c_text.specs.Reading.{IsReading, SaysRefused};
 ghost use Rattle.c_text.specs.Words.{HasNo, IsFirstLine};
 ghost use Rattle.c_core.specs.Text.{text_of};
-ghost use Rattle.c_text.specs.Parts.{IsFine, module_code, part_lines};
+ghost use Rattle.c_text.specs.Parts.{IsFine, code_of, part_lines};
 
-use crate::part::{Part, behind_line};
+use crate::part::{Above, Part, behind_line};
 use crate::text_error::TextError;
 use crate::word::place_of;
-use c_core::{CFunc, Code, Kind, Line};
+use c_core::Code;
 use std::alloc::Global;
-use value_core::{Many, Name};
+use value_core::Many;
 
 /// The first line of a text, without its line feed, and what stands behind that.
 fn first_line(text: &[u8]) -> Option<(&[u8], &[u8])>
@@ -22,29 +21,16 @@ fn first_line(text: &[u8]) -> Option<(&[u8], &[u8])>
     }
 }
 
-/// The code of the module's own function.
-fn module_code(
-    alloc: Global,
-    vars: Many<(Name, Kind)>,
-    lines: Many<Line>,
-) -> Result<Code, TextError>
-    ensures code { IfOk result (λ code. code ≡ module_code vars lines) }
-    ensures memory { IfErr result (λ error. error ≡ errors.Memory) }
+/// The code of which nothing is missing.
+fn code(alloc: Global, above: Above) -> Code
+    ensures { result ≡ code_of above }
 {
-    let function = CFunc {
-        name: Name::from_string(String::new(alloc)),
-        ret: Kind::Char,
-        params: 0,
-        vars,
-        lines,
-    };
-    let mut funcs = Many::new(alloc);
-    funcs.push(function)?;
-    Ok(Code {
-        globals: Many::new(alloc),
+    let Above { globals, functions } = above;
+    Code {
+        globals,
         classes: Many::new(alloc),
-        funcs,
-    })
+        funcs: functions,
+    }
 }
 
 /// The code of a text that ends behind a part, or that there is none. Behind the part's lines stands a rest that is no
@@ -57,9 +43,9 @@ fn finish(alloc: Global, part: Part, rest: &[u8], len: usize) -> Result<Code, Te
     ensures refused { IfErr result (SaysRefused (text_of (part_lines part) ++ rest.now)) }
 {
     match part {
-        Part::Closed(vars, lines) => {
+        Part::Closed(above) => {
             if rest.is_empty() {
-                module_code(alloc, vars, lines)
+                Ok(code(alloc, above))
             } else {
                 Err(TextError::Refused(len))
             }

@@ -1,10 +1,10 @@
 ghost use Rattle.std.specs.Prelude.{◌≡◌, ℤ, ◌++◌, slice_get, codes, IsTrue, OnOk, OnErr};
-ghost use Rattle.std.specs.Fmt.{signed_decimal};
+ghost use Rattle.std.specs.Fmt.{decimal, signed_decimal};
 ghost use Rattle.std.specs.List.{flat_map};
 ghost use Rattle.outside_core.specs.Counts.{count_after};
 ghost use Rattle.outside_core.specs.Bytes.{TakesFront};
-ghost use Rattle.c_core.specs.Text.{comma, joined, var_text, arg_text, arg_texts, literal_text, target_text, counter_of, statement_text};
-ghost use Rattle.c_text.specs.Written.{line_written};
+ghost use Rattle.c_core.specs.Text.{arg_text, arg_texts, branches_text, comma, count_text, counter_of, error_text, joined, goto_text, literal_text, statement_text, target_text, var_text};
+ghost use Rattle.c_text.specs.Written.{indented_written, label_written, line_written};
 ghost use Rattle.c_text.specs.Arguments.{next_text};
 
 use crate::quote::write_quoted;
@@ -13,23 +13,54 @@ use itoa::Buffer;
 use outside_core::{Sink, WriteFault, write_whole};
 use value_core::{Many, Name};
 
-/// Writes a line of a function with these variables.
+/// Writes a line of a function with these variables, above which so many labels stand.
 pub(crate) fn write_line<O: Sink>(
+    vars: &Many<(Name, Kind)>,
+    labels: usize,
+    line: &Line,
+    out: &mut O,
+) -> Result<(), WriteFault>
+    ensures counted { O.faults out.new ≡ count_after result (O.faults out.old) }
+    ensures taken { OnOk result (IsTrue O.tells →
+        O.taken out.new ≡ O.taken out.old ++ (line_written vars.now labels line.now)) }
+    ensures front { OnErr result (IsTrue O.tells →
+        TakesFront (O.taken out.old) (O.taken out.new) (line_written vars.now labels line.now)) }
+{
+    match line {
+        Line::Label => write_label(labels, out),
+        _ => write_indented(vars, line, out),
+    }
+}
+
+fn write_label<O: Sink>(number: usize, out: &mut O) -> Result<(), WriteFault>
+    ensures counted { O.faults out.new ≡ count_after result (O.faults out.old) }
+    ensures taken { OnOk result (IsTrue O.tells →
+        O.taken out.new ≡ O.taken out.old ++ (label_written number)) }
+    ensures front { OnErr result (IsTrue O.tells →
+        TakesFront (O.taken out.old) (O.taken out.new) (label_written number)) }
+{
+    write_whole(out, b"CPyL")?;
+    write_number(number, out)?;
+    write_whole(out, b": ;\n")
+}
+
+fn write_indented<O: Sink>(
     vars: &Many<(Name, Kind)>,
     line: &Line,
     out: &mut O,
 ) -> Result<(), WriteFault>
     ensures counted { O.faults out.new ≡ count_after result (O.faults out.old) }
     ensures taken { OnOk result (IsTrue O.tells →
-        O.taken out.new ≡ O.taken out.old ++ line_written vars.now line.now) }
+        O.taken out.new ≡ O.taken out.old ++ (indented_written vars.now line.now)) }
     ensures front { OnErr result (IsTrue O.tells →
-        TakesFront (O.taken out.old) (O.taken out.new) (line_written vars.now line.now)) }
+        TakesFront (O.taken out.old) (O.taken out.new) (indented_written vars.now line.now)) }
 {
     write_whole(out, b"    ")?;
     write_statement(vars, line, out)?;
     write_whole(out, b";\n")
 }
 
+/// Writes what stands between the spaces and the semicolon of a line; a label has nothing there.
 pub(crate) fn write_statement<O: Sink>(
     vars: &Many<(Name, Kind)>,
     line: &Line,
@@ -37,16 +68,41 @@ pub(crate) fn write_statement<O: Sink>(
 ) -> Result<(), WriteFault>
     ensures counted { O.faults out.new ≡ count_after result (O.faults out.old) }
     ensures taken { OnOk result (IsTrue O.tells →
-        O.taken out.new ≡ O.taken out.old ++ statement_text vars.now line.now) }
+        O.taken out.new ≡ O.taken out.old ++ (statement_text vars.now line.now)) }
     ensures front { OnErr result (IsTrue O.tells →
         TakesFront (O.taken out.old) (O.taken out.new) (statement_text vars.now line.now)) }
 {
     match line {
+        Line::Label => Ok(()),
+        Line::Move(place, source) => write_move(vars, *place, *source, out),
         Line::Lit(place, literal) => write_assignment(vars, *place, *literal, out),
         Line::Call(target, name, args) => write_call(vars, *target, name, args, out),
+        Line::Goto(label) => write_jump(*label, out),
+        Line::If(place, first, second) => write_test(vars, *place, *first, *second, out),
+        Line::IfError(place, first, second) => write_error_test(vars, *place, *first, *second, out),
+        Line::Turn => write_turn(out),
         Line::Return(place) => write_return(vars, *place, out),
-        Line::Dec(place) => write_release(vars, *place, out),
+        Line::Inc(place) => write_count(vars, b"INCREF", *place, out),
+        Line::Dec(place) => write_count(vars, b"DECREF", *place, out),
+        Line::XDec(place) => write_count(vars, b"XDECREF", *place, out),
     }
+}
+
+fn write_move<O: Sink>(
+    vars: &Many<(Name, Kind)>,
+    place: usize,
+    source: usize,
+    out: &mut O,
+) -> Result<(), WriteFault>
+    ensures counted { O.faults out.new ≡ count_after result (O.faults out.old) }
+    ensures taken { OnOk result (IsTrue O.tells →
+        O.taken out.new ≡ O.taken out.old ++ (statement_text vars.now (Line.Move place source))) }
+    ensures front { OnErr result (IsTrue O.tells →
+        TakesFront (O.taken out.old) (O.taken out.new) (statement_text vars.now (Line.Move place source))) }
+{
+    write_variable(vars, place, out)?;
+    write_whole(out, b" = ")?;
+    write_variable(vars, source, out)
 }
 
 fn write_assignment<O: Sink>(
@@ -101,19 +157,116 @@ fn write_return<O: Sink>(
     write_variable(vars, place, out)
 }
 
-fn write_release<O: Sink>(
+fn write_turn<O: Sink>(out: &mut O) -> Result<(), WriteFault>
+    ensures counted { O.faults out.new ≡ count_after result (O.faults out.old) }
+    ensures taken { OnOk result (IsTrue O.tells →
+        O.taken out.new ≡ O.taken out.old ++ codes "CPyTurn()") }
+    ensures front { OnErr result (IsTrue O.tells →
+        TakesFront (O.taken out.old) (O.taken out.new) (codes "CPyTurn()")) }
+{
+    write_whole(out, b"CPyTurn()")
+}
+
+fn write_jump<O: Sink>(label: usize, out: &mut O) -> Result<(), WriteFault>
+    ensures counted { O.faults out.new ≡ count_after result (O.faults out.old) }
+    ensures taken { OnOk result (IsTrue O.tells →
+        O.taken out.new ≡ O.taken out.old ++ (goto_text label)) }
+    ensures front { OnErr result (IsTrue O.tells →
+        TakesFront (O.taken out.old) (O.taken out.new) (goto_text label)) }
+{
+    write_whole(out, b"goto CPyL")?;
+    write_number(label, out)
+}
+
+/// Writes what stands behind a test: where it goes on if it holds, and where else.
+fn write_branches<O: Sink>(first: usize, second: usize, out: &mut O) -> Result<(), WriteFault>
+    ensures counted { O.faults out.new ≡ count_after result (O.faults out.old) }
+    ensures taken { OnOk result (IsTrue O.tells →
+        O.taken out.new ≡ O.taken out.old ++ (branches_text first second)) }
+    ensures front { OnErr result (IsTrue O.tells →
+        TakesFront (O.taken out.old) (O.taken out.new) (branches_text first second)) }
+{
+    write_whole(out, b") ")?;
+    write_jump(first, out)?;
+    write_whole(out, b"; else ")?;
+    write_jump(second, out)
+}
+
+fn write_test<O: Sink>(
+    vars: &Many<(Name, Kind)>,
+    place: usize,
+    first: usize,
+    second: usize,
+    out: &mut O,
+) -> Result<(), WriteFault>
+    ensures counted { O.faults out.new ≡ count_after result (O.faults out.old) }
+    ensures taken { OnOk result (IsTrue O.tells →
+        O.taken out.new ≡ O.taken out.old ++ (statement_text vars.now (Line.If place first second))) }
+    ensures front { OnErr result (IsTrue O.tells →
+        TakesFront (O.taken out.old) (O.taken out.new) (statement_text vars.now (Line.If place first second))) }
+{
+    write_whole(out, b"if (")?;
+    write_variable(vars, place, out)?;
+    write_branches(first, second, out)
+}
+
+fn write_error_test<O: Sink>(
+    vars: &Many<(Name, Kind)>,
+    place: usize,
+    first: usize,
+    second: usize,
+    out: &mut O,
+) -> Result<(), WriteFault>
+    ensures counted { O.faults out.new ≡ count_after result (O.faults out.old) }
+    ensures taken { OnOk result (IsTrue O.tells →
+        O.taken out.new ≡ O.taken out.old ++ (statement_text vars.now (Line.IfError place first second))) }
+    ensures front { OnErr result (IsTrue O.tells →
+        TakesFront (O.taken out.old) (O.taken out.new) (statement_text vars.now (Line.IfError place first second))) }
+{
+    write_whole(out, b"if (")?;
+    write_variable(vars, place, out)?;
+    write_whole(out, b" == ")?;
+    write_error(vars, place, out)?;
+    write_branches(first, second, out)
+}
+
+/// Writes the error value of a variable's kind.
+fn write_error<O: Sink>(
     vars: &Many<(Name, Kind)>,
     place: usize,
     out: &mut O,
 ) -> Result<(), WriteFault>
     ensures counted { O.faults out.new ≡ count_after result (O.faults out.old) }
     ensures taken { OnOk result (IsTrue O.tells →
-        O.taken out.new ≡ O.taken out.old ++ (statement_text vars.now (Line.Dec place))) }
+        O.taken out.new ≡ O.taken out.old ++ (error_text (slice_get vars.now place))) }
     ensures front { OnErr result (IsTrue O.tells →
-        TakesFront (O.taken out.old) (O.taken out.new) (statement_text vars.now (Line.Dec place))) }
+        TakesFront (O.taken out.old) (O.taken out.new) (error_text (slice_get vars.now place))) }
+{
+    match vars.get(place) {
+        Some((_, Kind::Tagged)) => write_whole(out, b"1"),
+        Some((_, Kind::Int64)) => write_whole(out, b"-113"),
+        Some((_, Kind::Char)) => write_whole(out, b"2"),
+        Some((_, Kind::Object)) => write_whole(out, b"NULL"),
+        None => Ok(()),
+    }
+}
+
+/// Writes a count by what stands in its word behind the name of the kind.
+fn write_count<O: Sink>(
+    vars: &Many<(Name, Kind)>,
+    verb: &[u8],
+    place: usize,
+    out: &mut O,
+) -> Result<(), WriteFault>
+    ensures counted { O.faults out.new ≡ count_after result (O.faults out.old) }
+    ensures taken { OnOk result (IsTrue O.tells →
+        O.taken out.new ≡ O.taken out.old ++ (count_text vars.now verb.now place)) }
+    ensures front { OnErr result (IsTrue O.tells →
+        TakesFront (O.taken out.old) (O.taken out.new) (count_text vars.now verb.now place)) }
 {
     write_counter(vars, place, out)?;
-    write_whole(out, b"DECREF(")?;
+    write_whole(out, verb)?;
+    write_whole(out, b"(")?;
     write_variable(vars, place, out)?;
     write_whole(out, b")")
 }
@@ -195,7 +348,7 @@ fn write_literal<O: Sink>(literal: CLit, out: &mut O) -> Result<(), WriteFault>
         TakesFront (O.taken out.old) (O.taken out.new) (literal_text literal)) }
 {
     match literal {
-        CLit::Number(number) => write_number(number, out),
+        CLit::Number(number) => write_integer(number, out),
         CLit::Null => write_whole(out, b"NULL"),
         CLit::PyNone => write_whole(out, b"Py_None"),
         CLit::PyTrue => write_whole(out, b"Py_True"),
@@ -203,12 +356,23 @@ fn write_literal<O: Sink>(literal: CLit, out: &mut O) -> Result<(), WriteFault>
     }
 }
 
-fn write_number<O: Sink>(number: i64, out: &mut O) -> Result<(), WriteFault>
+fn write_integer<O: Sink>(number: i64, out: &mut O) -> Result<(), WriteFault>
     ensures counted { O.faults out.new ≡ count_after result (O.faults out.old) }
     ensures taken { OnOk result (IsTrue O.tells →
-        O.taken out.new ≡ O.taken out.old ++ signed_decimal number) }
+        O.taken out.new ≡ O.taken out.old ++ (signed_decimal number)) }
     ensures front { OnErr result (IsTrue O.tells →
         TakesFront (O.taken out.old) (O.taken out.new) (signed_decimal number)) }
+{
+    let mut buffer = Buffer::new();
+    write_whole(out, buffer.format(number).as_bytes())
+}
+
+fn write_number<O: Sink>(number: usize, out: &mut O) -> Result<(), WriteFault>
+    ensures counted { O.faults out.new ≡ count_after result (O.faults out.old) }
+    ensures taken { OnOk result (IsTrue O.tells →
+        O.taken out.new ≡ O.taken out.old ++ (decimal number)) }
+    ensures front { OnErr result (IsTrue O.tells →
+        TakesFront (O.taken out.old) (O.taken out.new) (decimal number)) }
 {
     let mut buffer = Buffer::new();
     write_whole(out, buffer.format(number).as_bytes())
@@ -293,7 +457,7 @@ fn write_argument<O: Sink>(
 {
     match arg {
         CArg::Var(place) => write_variable(vars, *place, out),
-        CArg::Number(number) => write_number(*number, out),
+        CArg::Number(number) => write_integer(*number, out),
         CArg::Text(text) => write_quoted(text, out),
         CArg::Global(name) => write_prefixed(b"CPyStatic_", name, out),
         CArg::Class(name) => write_prefixed(b"CPyType_", name, out),

@@ -1,12 +1,11 @@
 //! The variables of a function, and their places by their names as they are written.
-ghost use Rattle.std.specs.Prelude.{◌≡◌, ◌++◌, ◌∷◌, [], ◌&&◌, ℕ, List, cond, length, Option, Some, None, IsTrue, IfOk, IfSome, OnOk};
+ghost use Rattle.std.specs.Prelude.{◌≡◌, ◌++◌, ◌∷◌, [], ◌&&◌, ℕ, List, cond, length, Option, Some, None, IfOk, OnOk};
 ghost use Rattle.std.specs.List.{position_from};
 ghost use Rattle.std.specs.Option.{option_or};
 ghost use Rattle.std.specs.Str.{bytes_eq};
 ghost use Rattle.c_core.specs.declared.code.Kind.{Kind};
-ghost use Rattle.c_core.specs.Text.{var_text};
-ghost use Rattle.c_core.specs.WellFormed.{is_declared, kind_at, same_kind};
-ghost use Rattle.c_text.specs.Variables.{Finds, has_name, has_name_and_kind};
+ghost use Rattle.c_core.specs.WellFormed.{same_kind};
+ghost use Rattle.c_text.specs.Variables.{FindsVariable, FindsVariableOf, has_name, has_name_and_kind};
 ghost use Rattle.c_text.specs.Places.{earlier, place_of, places_by};
 
 use crate::word::behind;
@@ -178,9 +177,7 @@ impl Variables {
 
 /// The first variable that is written so.
 pub(crate) fn variable(vars: &Variables, word: &[u8]) -> Option<usize>
-    ensures within { IfSome result (λ y. IsTrue (is_declared vars.now y)) }
-    ensures finds { (x : ℕ) → IsTrue (is_declared vars.now x) → var_text vars.now x ≡ word.now →
-        Finds (var_text vars.now) result x }
+    ensures { FindsVariable vars.now word.now result }
 {
     match behind(word, b"cpy_") {
         Some(name) => vars.of_name(name),
@@ -190,9 +187,7 @@ pub(crate) fn variable(vars: &Variables, word: &[u8]) -> Option<usize>
 
 /// The first variable of this kind that is written so.
 pub(crate) fn variable_of(vars: &Variables, word: &[u8], kind: Kind) -> Option<usize>
-    ensures within { IfSome result (λ y. kind_at vars.now y ≡ Some kind) }
-    ensures finds { (x : ℕ) → kind_at vars.now x ≡ Some kind → var_text vars.now x ≡ word.now →
-        Finds (var_text vars.now) result x }
+    ensures { FindsVariableOf vars.now word.now kind result }
 {
     match behind(word, b"cpy_") {
         Some(name) => vars.of_name_and_kind(name, kind),

@@ -6,7 +6,8 @@ ghost use Rattle.value_core.specs.Arithmetic.{lies_within};
 ghost use Rattle.c_core.specs.declared.code.CLit.{CLit};
 ghost use Rattle.c_core.specs.Text.{indented, literal_text};
 ghost use Rattle.c_core.specs.WellFormed.{is_identifier, spelled_literal};
-ghost use Rattle.c_text.specs.Words.{HasNo, FindsParts, EndsArgument};
+ghost use Rattle.c_text.specs.Labels.{FindsLabel};
+ghost use Rattle.c_text.specs.Words.{HasNo, IsCut, EndsArgument};
 
 use c_core::{CLit, is_identifier};
 use std::alloc::Global;
@@ -50,8 +51,7 @@ pub(crate) fn place_of(bytes: &[u8], stop: u8) -> Option<usize>
 
 /// What stands before the first byte of this value, and what behind it.
 pub(crate) fn cut(bytes: &[u8], stop: u8) -> Option<(&[u8], &[u8])>
-    ensures { (front back : List ℕ) → HasNo stop front → front ++ stop ∷ back ≡ bytes.now →
-        FindsParts result front back }
+    ensures { MatchOption result (HasNo stop bytes.now) (λ p. IsCut stop p.0.now p.1.now bytes.now) }
 {
     match place_of(bytes, stop) {
         Some(place) => Some((&bytes[..place], &bytes[place + 1..])),
@@ -63,6 +63,7 @@ pub(crate) fn cut(bytes: &[u8], stop: u8) -> Option<(&[u8], &[u8])>
 pub(crate) fn up_to_comma(bytes: &[u8]) -> (&[u8], &[u8])
     ensures finds { (front rest : List ℕ) → HasNo 44 front → EndsArgument rest → front ++ rest ≡ bytes.now →
         (result.0.now ≡ front) × (result.1.now ≡ rest) }
+    ensures whole { result.0.now ++ result.1.now ≡ bytes.now }
     ensures within { length result.1.now ≤ length bytes.now }
 {
     match place_of(bytes, b',') {
@@ -107,6 +108,19 @@ pub(crate) fn number(bytes: &[u8]) -> Option<i64>
         return None;
     };
     match text.parse::<i64>() {
+        Ok(number) => Some(number),
+        Err(_) => None,
+    }
+}
+
+/// The number of a label that the bytes write.
+pub(crate) fn label(bytes: &[u8]) -> Option<usize>
+    ensures { FindsLabel bytes.now result }
+{
+    let Ok(text) = str::from_utf8(bytes) else {
+        return None;
+    };
+    match text.parse::<usize>() {
         Ok(number) => Some(number),
         Err(_) => None,
     }

@@ -1,5 +1,5 @@
 -- The code of printed numbers is well formed.
-use Rattle.std.proofs.Common.{◌≡◌, refl, ◌∙◌, ap, ℕ, suc, ◌+◌, ◌<◌, ◌^◌, arith, Bool, true, List, [], ◌∷◌, ◌++◌, codes, length, length-append, append_assoc}
+use Rattle.std.proofs.Common.{◌≡◌, refl, ◌∙◌, ap, ℕ, suc, ◌+◌, ◌<◌, ◌^◌, arith, Bool, true, false, List, [], ◌∷◌, ◌++◌, codes, length, length-append, append_assoc}
 use Rattle.std.specs.Prelude.{slice_index_or, slice_get, ◌-◌}
 use Rattle.std.specs.List.{list_all, flat_map, All}
 use Rattle.std.specs.Str.{chars, is_utf8}
@@ -11,7 +11,8 @@ use Rattle.unicode_ident.proofs.Computing.{unicode_ident}
 use Rattle.c_core.specs.declared.code.Code.{Code}
 use Rattle.c_core.specs.declared.code.Kind.TheVariants.{Char}
 use Rattle.c_core.specs.declared.code.Line.{Line}
-use Rattle.c_core.specs.WellFormed.{is_identifier, is_call_name, spelled_line, line_fits, is_leaving, WellFormed}
+use Rattle.c_core.specs.Functions.{label_places}
+use Rattle.c_core.specs.WellFormed.{is_identifier, is_call_name, spelled_line, line_fits, jumps_fit, is_leaving, WellFormed}
 use Rattle.mypyc_top.specs.SourceRun.{printed_text}
 use Rattle.mypyc_top.specs.Printed.{print_lines, last_lines, module_vars, module_function, printed_code}
 use Rattle.mypyc_top.proofs.PrintedRun.{ahead}
@@ -43,6 +44,11 @@ module _ (p : Line → Bool) (last : list_all p last_lines ≡ true) where
       ∙ list_all-append p (print_lines n) (flat_map print_lines ns ++ last_lines)
       ∙ rw (h 0 n (omega arith), rest) refl
 
+no_jumps : (ns labels : List ℕ) (p : ℕ) (after_turn : Bool) → jumps_fit labels p after_turn (flat_map print_lines ns ++ last_lines) ≡ true
+no_jumps [] labels p after_turn = refl
+no_jumps (n ∷ ns) labels p after_turn =
+    ap (jumps_fit labels p after_turn) (append_assoc (print_lines n) (flat_map print_lines ns) last_lines) ∙ no_jumps ns labels (p + 1 + 1 + 1) false
+
 leaves : (ns : List ℕ) → is_leaving (slice_get (module_function ns).lines (length (module_function ns).lines - 1)) ≡ true
 leaves ns =
     let at : length (module_function ns).lines - 1 ≡ length (flat_map print_lines ns) + 1 = omega (arith, length-append (flat_map print_lines ns) last_lines) in
@@ -52,4 +58,5 @@ pub printed_well_formed : (ns : List ℕ) → All (λ n. n < 2 ^ 64) ns → Well
 printed_well_formed ns small =
     let spelled = all_lines (spelled_line module_vars) refl ns (λ k d l. lines_spelled (slice_index_or ns k d) (small k d l)) in
     let fits = all_lines (line_fits (printed_code ns) module_vars Char) refl ns (λ k d l. lines_fit (printed_code ns) (slice_index_or ns k d)) in
-    rw (identifiers.0, identifiers.1, spelled, fits, leaves ns) refl
+    let jumps = no_jumps ns (label_places (module_function ns).lines) 0 false in
+    rw (identifiers.0, identifiers.1, spelled, fits, jumps, leaves ns) refl

@@ -10,14 +10,14 @@ loop-var-init c = record { known = λ name. ap (λ keys. knows keys name) c.new-
 pub returns-then-not-branch : goal.returns-then-not-branch
 returns-then-not-branch c =
     let within : c.loop-var.var-index < length c.args.vars.now = omega arith in
-    not_added c.args.vars.now c.loop-var.var-index c.var-item.result within c.var-item.is c.loop-var.seen.keys c.as_str.result c.in_ok-insert.field-0 c.as_str.ensures c.in_ok-insert.ensures.added c.loop-var.invariant.known c.loop-var.invariant.differ c.if-not-branch.true
+    not_added (λ var. var.0) c.args.vars.now c.loop-var.var-index c.var-item.result within c.var-item.is c.loop-var.seen.keys c.as_str.result c.in_ok-insert.field-0 c.as_str.ensures c.in_ok-insert.ensures.added c.loop-var.invariant.known c.loop-var.invariant.differ c.if-not-branch.true
 
 pub loop-var-preserved : goal.loop-var-preserved
 loop-var-preserved c =
     let within : c.loop-var.var-index < length c.args.vars.now = omega arith in
     record {
-      known = λ name. ap (λ keys. knows keys name) c.in_ok-insert.ensures.keys ∙ known_more c.args.vars.now c.loop-var.var-index c.var-item.result within c.var-item.is c.loop-var.seen.keys c.as_str.result c.as_str.ensures c.loop-var.invariant.known name;
-      differ = differ_still c.args.vars.now c.loop-var.var-index c.var-item.result within c.var-item.is c.loop-var.seen.keys c.as_str.result c.in_ok-insert.field-0 c.as_str.ensures c.in_ok-insert.ensures.added c.loop-var.invariant.known c.loop-var.invariant.differ c.if-not-branch.false;
+      known = λ name. ap (λ keys. knows keys name) c.in_ok-insert.ensures.keys ∙ known_more (λ var. var.0) c.args.vars.now c.loop-var.var-index c.var-item.result within c.var-item.is c.loop-var.seen.keys c.as_str.result c.as_str.ensures c.loop-var.invariant.known name;
+      differ = differ_still (λ var. var.0) c.args.vars.now c.loop-var.var-index c.var-item.result within c.var-item.is c.loop-var.seen.keys c.as_str.result c.in_ok-insert.field-0 c.as_str.ensures c.in_ok-insert.ensures.added c.loop-var.invariant.known c.loop-var.invariant.differ c.if-not-branch.false;
     }
 
 pub returns : goal.returns

@@ -1,13 +1,20 @@
 use Rattle.std.proofs.Common.{◌≡◌, refl, ◌∙◌, arith}
 use Rattle.std.proofs.lemmas.Result.{err_from_is_err_and}
 use Rattle.outside_core.proofs.Fronts.{TakesFront-all}
-use Rattle.c_runner.proofs.Running.{at_start, can_step, countable, front_so_far, front_of_held, nothing_so_far, nothing_held, stepped, handed_on, front_at_end, all_at_end, nothing_at_end, reported, nothing_taken, answers_memory, answers_fault, answers_report}
+use Rattle.c_runner.proofs.Running.{at_start, can_step, small, front_so_far, front_of_held, nothing_so_far, nothing_held, stepped, handed_on, front_at_end, all_at_end, nothing_at_end, reported, nothing_taken, answers_memory, answers_fault, answers_report}
 use Rattle.c_runner.proofs.runner.run.Goals as goal
+
+pub returns-in_err-table-clause-ran : goal.returns-in_err-table-clause-ran
+returns-in_err-table-clause-ran g c =
+    answers_memory g.I.Source.tells (g.I.Source.faults c.args.input.now) (g.I.Source.left c.args.input.now) c.args.code.now c.args.turns g.O.Sink.tells (g.O.Sink.taken c.args.out.now) (g.O.Sink.taken c.args.out.now) (c.args.out.now ≡ c.args.out.now) c.run_exists.ensures c.requires.well_formed c.from_residual.result
+    (err_from_is_err_and c.from_residual.result c.from_residual.ensures.1)
+    (λ stop run tells. nothing_taken (g.O.Sink.taken c.args.out.now) stop)
+    (λ stop run none. refl)
 
 pub returns-in_err-state-clause-ran : goal.returns-in_err-state-clause-ran
 returns-in_err-state-clause-ran g c =
-    answers_memory g.I.Source.tells (g.I.Source.faults c.args.input.now) (g.I.Source.left c.args.input.now) c.args.code.now c.args.turns g.O.Sink.tells (g.O.Sink.taken c.args.out.now) (g.O.Sink.taken c.args.out.now) (c.args.out.now ≡ c.args.out.now) c.run_exists.ensures c.requires.well_formed c.from_residual.result
-    (err_from_is_err_and c.from_residual.result c.from_residual.ensures.1)
+    answers_memory g.I.Source.tells (g.I.Source.faults c.args.input.now) (g.I.Source.left c.args.input.now) c.args.code.now c.args.turns g.O.Sink.tells (g.O.Sink.taken c.args.out.now) (g.O.Sink.taken c.args.out.now) (c.args.out.now ≡ c.args.out.now) c.run_exists.ensures c.requires.well_formed c.from_residual-in_err-state.result
+    (err_from_is_err_and c.from_residual-in_err-state.result c.from_residual-in_err-state.ensures.1)
     (λ stop run tells. nothing_taken (g.O.Sink.taken c.args.out.now) stop)
     (λ stop run none. refl)
 
@@ -20,10 +27,11 @@ steps-init g c = record {
 pub overflow_sub-left : goal.overflow_sub-left
 overflow_sub-left g c = can_step _ _ _ _ _ _ _ _ _ _ c.steps.invariant.running c.run_exists.ensures c.requires.well_formed
 
-pub step-requires : goal.step-requires
-step-requires g c =
-    countable _ _ _ _ _ _ _ _ _ _ c.steps.invariant.running c.run_keeps_counts.ensures c.run_stays_small.ensures c.requires.well_formed
+pub step-requires-clause-small : goal.step-requires-clause-small
+step-requires-clause-small g c =
+    small _ _ _ _ _ _ _ _ _ _ c.steps.invariant.running c.run_keeps_counts.ensures c.run_stays_small.ensures c.requires.well_formed
     (omega (arith, c.most_steps-left.ensures))
+    (can_step _ _ _ _ _ _ _ _ _ _ c.steps.invariant.running c.run_exists.ensures c.requires.well_formed)
 
 pub returns-in_err-ending-clause-ran : goal.returns-in_err-ending-clause-ran
 returns-in_err-ending-clause-ran g c =

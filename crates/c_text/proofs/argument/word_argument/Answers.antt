@@ -1,7 +1,7 @@
 use Rattle.std.proofs.Common.{sym, ◌∙◌, ap}
 use Rattle.c_core.specs.declared.code.CArg.TheVariants as arg
 use Rattle.std.proofs.lemmas.Bool.{false≢true}
-use Rattle.c_text.proofs.ArgumentLemmas.{is_global, is_class, is_variable, is_number, spelled_name, variable_argument}
+use Rattle.c_text.proofs.ArgumentLemmas.{is_global, is_class, is_variable, is_number, spelled_name}
 use Rattle.c_core.specs.Text.{arg_text}
 use Rattle.c_text.proofs.Numbers.{number_again}
 use Rattle.c_text.proofs.argument.word_argument.Goals as goal
@@ -31,16 +31,12 @@ returns-in-None-2-clause-finds c = λ a h w e.
     false≢true (sym n ∙ spelled_name c.args.vars.now a (arg.Class c.in-Some-behind.word.now) g h)
 
 pub returns-in-Some-variable-clause-finds : goal.returns-in-Some-variable-clause-finds
-returns-in-Some-variable-clause-finds c = λ a h w e.
-    let g = is_variable c.args.vars.now a c.args.word.now c.in-Some-behind-2.field-0.now h w e c.in-Some-behind-2.ensures in
-    let f = c.variable.ensures.finds g.0 (spelled_name c.args.vars.now a (arg.Var g.0) g.1 h) (ap (arg_text c.args.vars.now) (sym g.1) ∙ e) in
-    let v = variable_argument c.args.vars.now a g.0 c.variable.result g.1 f in
-    rw c.in-Some-variable.is at v
+returns-in-Some-variable-clause-finds c = λ a h w e. e ∙ sym c.in-Some-variable.ensures.1
 
 pub returns-in-None-variable-clause-finds : goal.returns-in-None-variable-clause-finds
 returns-in-None-variable-clause-finds c = λ a h w e.
     let g = is_variable c.args.vars.now a c.args.word.now c.in-Some-behind-2.field-0.now h w e c.in-Some-behind-2.ensures in
-    c.in-None-variable.ensures.finds g.0 (spelled_name c.args.vars.now a (arg.Var g.0) g.1 h) (ap (arg_text c.args.vars.now) (sym g.1) ∙ e)
+    c.in-None-variable.ensures g.0 (spelled_name c.args.vars.now a (arg.Var g.0) g.1 h) (ap (arg_text c.args.vars.now) (sym g.1) ∙ e)
 
 pub returns-in-Some-number-clause-finds : goal.returns-in-Some-number-clause-finds
 returns-in-Some-number-clause-finds c = λ a h w e.

@@ -8,4 +8,4 @@ use Rattle.c_text.proofs.part.behind_line.Goals as goal
 pub returns : goal.returns
 returns c =
     subst (λ (p : Part). ¬ (CanStand (part_lines p ++ c.args.piece.now ∷ []))) (sym c.in-Closed.is)
-    (stops_closed c.in-Closed.field-0 c.in-Closed.field-1 c.args.piece.now (subst IsFine c.in-Closed.is c.requires))
+    (stops_closed c.in-Closed.field-0 c.args.piece.now (subst IsFine c.in-Closed.is c.requires))

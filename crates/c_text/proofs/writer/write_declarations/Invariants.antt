@@ -7,5 +7,5 @@ use Rattle.c_text.proofs.writer.write_declarations.Given as goal
 abbrev pub invariant-loop-declared : goal.invariant-loop-declared
 invariant-loop-declared g l = record {
   calm : g.O.Sink.faults l.out ≡ g.O.Sink.faults l.fn.out;
-  taken : IsTrue g.O.Sink.tells → g.O.Sink.taken l.out ≡ g.O.Sink.taken l.fn.out ++ flat_map declaration_written (take l.declared-index l.declared-items);
+  taken : IsTrue g.O.Sink.tells → g.O.Sink.taken l.out ≡ g.O.Sink.taken l.fn.out ++ flat_map declaration_written (take l.declared-index l.vars);
 }

@@ -1,14 +1,18 @@
-use Rattle.std.proofs.Common.{◌∙◌}
-use Rattle.c_text.specs.Written.{function_written}
-use Rattle.c_text.proofs.Fronts.{OnErr-front, front_more, taken_more}
+use Rattle.std.proofs.Common.{◌≡◌, ◌++◌, ℕ, List, IsTrue, OnOk, OnErr, subst}
+use Rattle.outside_core.specs.Bytes.{TakesFront}
+use Rattle.c_text.proofs.WrittenLemmas.{functions_of}
 use Rattle.c_text.proofs.writer.write_functions.Goals as goal
 
-pub returns-in_err-write_top-clause-front : goal.returns-in_err-write_top-clause-front
-returns-in_err-write_top-clause-front g c =
-    OnErr-front _ (λ tells. front_more _ function_written _ _ _ _ _ c.as_slice-function-items.ensures c.loop-function-test.true c.function-item.is (c.loop-function.invariant.taken tells) (c.in_err-write_top.ensures.front tells))
+pub returns-clause-taken : goal.returns-clause-taken
+returns-clause-taken g c =
+    let call = c.write_others_and_top in
+    subst (λ (x : List ℕ). OnOk call.result (IsTrue g.O.Sink.tells → g.O.Sink.taken call.new.out ≡ g.O.Sink.taken c.args.out.now ++ x))
+    (functions_of _ _ _ c.as_slice.ensures c.in-len1-up.len_at_least c.top-item.is)
+    call.ensures.taken
 
-pub loop-function-preserved : goal.loop-function-preserved
-loop-function-preserved g c = record {
-  calm = c.in_ok-write_top.ensures.counted ∙ c.loop-function.invariant.calm;
-  taken = λ tells. taken_more _ function_written _ _ _ _ c.loop-function-test.true c.function-item.is (c.loop-function.invariant.taken tells) (c.in_ok-write_top.ensures.taken tells);
-}
+pub returns-clause-front : goal.returns-clause-front
+returns-clause-front g c =
+    let call = c.write_others_and_top in
+    subst (λ (x : List ℕ). OnErr call.result (IsTrue g.O.Sink.tells → TakesFront (g.O.Sink.taken c.args.out.now) (g.O.Sink.taken call.new.out) (x)))
+    (functions_of _ _ _ c.as_slice.ensures c.in-len1-up.len_at_least c.top-item.is)
+    call.ensures.front

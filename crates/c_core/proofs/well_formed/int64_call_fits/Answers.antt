@@ -1,0 +1,29 @@
+use Rattle.std.proofs.Common.{codes}
+use Rattle.c_core.proofs.well_formed.int64_call_fits.Goals as goal
+
+pub returns-in-Add : goal.returns-in-Add
+returns-in-Add c = λ code. rw c.in-Add.is (c.two_fit.ensures code (codes "CPyInt64_Add"))
+
+pub returns-in-Subtract : goal.returns-in-Subtract
+returns-in-Subtract c = λ code. rw c.in-Subtract.is (c.two_fit-in-Subtract.ensures code (codes "CPyInt64_Subtract"))
+
+pub returns-in-Multiply : goal.returns-in-Multiply
+returns-in-Multiply c = λ code. rw c.in-Multiply.is (c.two_fit-in-Multiply.ensures code (codes "CPyInt64_Multiply"))
+
+pub returns-in-Negate : goal.returns-in-Negate
+returns-in-Negate c = λ code. rw c.in-Negate.is (c.one_fits.ensures code (codes "CPyInt64_Negate"))
+
+pub returns-in-FromBool : goal.returns-in-FromBool
+returns-in-FromBool c = λ code. rw c.in-FromBool.is (c.one_fits-in-FromBool.ensures code (codes "CPyInt64_FromBool"))
+
+pub returns-in-Eq : goal.returns-in-Eq
+returns-in-Eq c = λ code. rw c.in-Eq.is (c.two_fit-in-Eq.ensures code (codes "CPyInt64_Eq"))
+
+pub returns-in-Lt : goal.returns-in-Lt
+returns-in-Lt c = λ code. rw c.in-Lt.is (c.two_fit-in-Lt.ensures code (codes "CPyInt64_Lt"))
+
+pub returns-in-Le : goal.returns-in-Le
+returns-in-Le c = λ code. rw c.in-Le.is (c.two_fit-in-Le.ensures code (codes "CPyInt64_Le"))
+
+pub returns-in-Str : goal.returns-in-Str
+returns-in-Str c = λ code. rw c.in-Str.is (c.one_fits-in-Str.ensures code (codes "CPyInt64_Str"))

@@ -1,0 +1,169 @@
+-- What the calls of primitives on native integers and truths are, by the words of their arguments.
+use Rattle.std.proofs.Common.{◌≡◌, refl, ap, ◌∙◌, ℕ, Bool, true, false, cond, List, [], ◌∷◌, Option, Some, None}
+use Rattle.std.specs.Prelude.{ℤ, pos, not, ◌==◌, slice_get}
+use Rattle.std.specs.Fmt.{signed_decimal}
+use Rattle.std.specs.Option.{option_and_then, option_map}
+use Rattle.value_core.specs.Arithmetic.{i64_neg}
+use Rattle.c_core.specs.declared.code.CArg.{CArg}
+use Rattle.c_core.specs.declared.code.CArg.TheVariants as arg
+use Rattle.c_core.specs.declared.code.Code.{Code}
+use Rattle.c_core.specs.declared.code.Kind.TheVariants.{Int64, Char}
+use Rattle.c_core.specs.declared.fault.Fault.TheVariants as fault
+use Rattle.c_core.specs.declared.primitive.Primitive.TheVariants as prim
+use Rattle.c_core.specs.declared.primitive.Int64Prim.{Int64Prim}
+use Rattle.c_core.specs.declared.primitive.Int64Prim.TheVariants as int64
+use Rattle.c_core.specs.declared.primitive.BoolPrim.TheVariants as bool
+use Rattle.c_core.specs.Arguments.{Argument, Plain, is_value_of}
+use Rattle.c_core.specs.Ledgers.{Ledger}
+use Rattle.c_core.specs.Machine.{Word, ShortInt, BigInt, TaggedError, Native, CharWord, ObjectCell, NoneObject, TrueObject, FalseObject, NoObject, StrCell, refs_in, MachineState}
+use Rattle.c_core.specs.Primitives.{Parameter, Borrows, Is, Anything}
+use Rattle.c_core.specs.Step.{Next, Goes, Says, Makes, if_some, if_true, if_there, if_argument, if_arguments, faulted, applied, called, next_line, with_target, with_cells, truth_word, truth_text}
+use Rattle.c_core.proofs.ReleaseLemmas.{release-nothing}
+use Rattle.c_runner.specs.declared.state.State.{State}
+use Rattle.c_runner.specs.Parts.{native_of, char_of, native_at, char_at, one_native, both, two_natives, one_char, int64_result, int64_answer}
+use Rattle.c_runner.specs.States.{Rest, state_of}
+
+module _ (s : MachineState) where
+  abbrev kind_fault : Next
+  kind_fault = faulted true s fault.Kind
+
+  abbrev some : {A : Type 0} → Option A → (A → Next) → Next
+  some o go = if_some true s fault.Kind o go
+
+  -- ---- an argument
+  native_word : (o : Option Word) (go : Argument → Next) → some o (λ w. if_true true s (is_value_of Int64 w) (if_there true s w (λ a. if_true true s true (go a)))) ≡ some (option_and_then native_of o) (λ n. go (Plain (Native n)))
+  native_word None go = refl
+  native_word (Some (ShortInt n)) go = refl
+  native_word (Some (BigInt c)) go = refl
+  native_word (Some TaggedError) go = refl
+  native_word (Some (Native n)) go = refl
+  native_word (Some (CharWord n)) go = refl
+  native_word (Some (ObjectCell c)) go = refl
+  native_word (Some NoneObject) go = refl
+  native_word (Some TrueObject) go = refl
+  native_word (Some FalseObject) go = refl
+  native_word (Some NoObject) go = refl
+
+  char_either : (b : Bool) (n : ℕ) (go : Argument → Next) → cond (not b) (go (Plain (CharWord n))) kind_fault ≡ some (cond b None (Some n)) (λ m. go (Plain (CharWord m)))
+  char_either true n go = refl
+  char_either false n go = refl
+
+  char_word : (o : Option Word) (go : Argument → Next) → some o (λ w. if_true true s (is_value_of Char w) (if_there true s w (λ a. if_true true s true (go a)))) ≡ some (option_and_then char_of o) (λ n. go (Plain (CharWord n)))
+  char_word None go = refl
+  char_word (Some (ShortInt n)) go = refl
+  char_word (Some (BigInt c)) go = refl
+  char_word (Some TaggedError) go = refl
+  char_word (Some (Native n)) go = refl
+  char_word (Some (CharWord n)) go = char_either (n == 2) n go
+  char_word (Some (ObjectCell c)) go = refl
+  char_word (Some NoneObject) go = refl
+  char_word (Some TrueObject) go = refl
+  char_word (Some FalseObject) go = refl
+  char_word (Some NoObject) go = refl
+
+  abbrev native : Parameter
+  native = Borrows (Is Int64) Anything
+
+  abbrev char : Parameter
+  char = Borrows (Is Char) Anything
+
+  native_found : (code : Code) (a : CArg) (earlier : List Argument) (l : Ledger) (go : Argument → Ledger → Next) → if_argument true s code native a earlier l go ≡ some (native_at s.top.vars a) (λ n. go (Plain (Native n)) l)
+  native_found code (arg.Var x) earlier l go = native_word (slice_get s.top.vars x) (λ a. go a l)
+  native_found code (arg.Number n) earlier l go = refl
+  native_found code (arg.Text text) earlier l go = refl
+  native_found code (arg.Global name) earlier l go = refl
+  native_found code (arg.Class name) earlier l go = refl
+
+  char_found : (code : Code) (a : CArg) (earlier : List Argument) (l : Ledger) (go : Argument → Ledger → Next) → if_argument true s code char a earlier l go ≡ some (char_at s.top.vars a) (λ n. go (Plain (CharWord n)) l)
+  char_found code (arg.Var x) earlier l go = char_word (slice_get s.top.vars x) (λ a. go a l)
+  char_found code (arg.Number n) earlier l go = refl
+  char_found code (arg.Text text) earlier l go = refl
+  char_found code (arg.Global name) earlier l go = refl
+  char_found code (arg.Class name) earlier l go = refl
+
+  -- ---- all arguments
+  wrong : {A : Type 0} (o : Option A) → some o (λ a. kind_fault) ≡ kind_fault
+  wrong None = refl
+  wrong (Some a) = refl
+
+  each : {A : Type 0} (o : Option A) (f g : A → Next) → ((a : A) → f a ≡ g a) → some o f ≡ some o g
+  each None f g e = refl
+  each (Some a) f g e = e a
+
+  paired : (o p : Option ℤ) (go : ℤ → ℤ → Next) → some o (λ a. some p (go a)) ≡ some (both o p) (λ q. go q.0 q.1)
+  paired None p go = refl
+  paired (Some a) None go = refl
+  paired (Some a) (Some b) go = refl
+
+  one_found : (code : Code) (args : List CArg) (l : Ledger) (go : List Argument → Ledger → Next) → if_arguments true s code (native ∷ []) args [] l go ≡ some (one_native s.top.vars args) (λ n. go (Plain (Native n) ∷ []) l)
+  one_found code [] l go = refl
+  one_found code (a ∷ []) l go = native_found code a [] l _
+  one_found code (a ∷ b ∷ more) l go = native_found code a [] l _ ∙ wrong (native_at s.top.vars a)
+
+  char_only : (code : Code) (args : List CArg) (l : Ledger) (go : List Argument → Ledger → Next) → if_arguments true s code (char ∷ []) args [] l go ≡ some (one_char s.top.vars args) (λ n. go (Plain (CharWord n) ∷ []) l)
+  char_only code [] l go = refl
+  char_only code (a ∷ []) l go = char_found code a [] l _
+  char_only code (a ∷ b ∷ more) l go = char_found code a [] l _ ∙ wrong (char_at s.top.vars a)
+
+  two_found : (code : Code) (args : List CArg) (l : Ledger) (go : List Argument → Ledger → Next) → if_arguments true s code (native ∷ native ∷ []) args [] l go ≡ some (two_natives s.top.vars args) (λ q. go (Plain (Native q.0) ∷ Plain (Native q.1) ∷ []) l)
+  two_found code [] l go = refl
+  two_found code (a ∷ []) l go = native_found code a [] l _ ∙ wrong (native_at s.top.vars a)
+  two_found code (a ∷ b ∷ []) l go =
+      native_found code a [] l _
+      ∙ each (native_at s.top.vars a) _ _ (λ n. native_found code b (Plain (Native n) ∷ []) l (λ second r. go (Plain (Native n) ∷ second ∷ []) r))
+      ∙ paired (native_at s.top.vars a) (native_at s.top.vars b) (λ n m. go (Plain (Native n) ∷ Plain (Native m) ∷ []) l)
+  two_found code (a ∷ b ∷ c ∷ more) l go =
+      native_found code a [] l _
+      ∙ each (native_at s.top.vars a) _ (λ n. kind_fault) (λ n. native_found code b (Plain (Native n) ∷ []) l _ ∙ wrong (native_at s.top.vars b))
+      ∙ wrong (native_at s.top.vars a)
+
+  -- ---- an answer
+  abbrev pub says : Option ℕ → Word → Next
+  says x w = Goes (next_line (with_target x w s))
+
+  said : (x : Option ℕ) (w : Word) → applied true s x s.top.ledger [] (Says w) ≡ says x w
+  said x w = ap (λ cells. Goes (next_line (with_target x w (with_cells cells s)))) (release-nothing refs_in s.cells)
+
+  all_said : {A : Type 0} (x : Option ℕ) (o : Option A) (f : A → Word) → some o (λ a. applied true s x s.top.ledger [] (Says (f a))) ≡ some (option_map f o) (says x)
+  all_said x None f = refl
+  all_said x (Some a) f = said x (f a)
+
+  then_said : {A : Type 0} (x : Option ℕ) (o : Option A) (f : A → Word) → some (option_map f o) (says x) ≡ some (option_and_then (λ a. Some (f a)) o) (says x)
+  then_said x None f = refl
+  then_said x (Some a) f = refl
+
+-- ---- calls, where no exception is pending
+module _ (rest : Rest) (old : State) (code : Code) (x : Option ℕ) (args : List CArg) where
+  abbrev t : MachineState
+  t = state_of rest old
+
+  pub number_shown : called true t code x args (prim.Int64 int64.Str) ≡ if_some true t fault.Kind (one_native t.top.vars args) (λ n. applied true t x t.top.ledger [] (Makes (StrCell (signed_decimal n))))
+  number_shown = one_found t code args t.top.ledger _
+
+  pub not_said : called true t code x args (prim.Bool bool.Not) ≡ if_some true t fault.Kind (option_map (λ n. truth_word (n == 0)) (one_char t.top.vars args)) (says t x)
+  not_said = char_only t code args t.top.ledger _ ∙ all_said t x (one_char t.top.vars args) (λ n. truth_word (n == 0))
+
+  pub truth_shown : called true t code x args (prim.Bool bool.Str) ≡ if_some true t fault.Kind (one_char t.top.vars args) (λ n. applied true t x t.top.ledger [] (Makes (StrCell (truth_text n))))
+  truth_shown = char_only t code args t.top.ledger _
+
+  two_said : (f : ℤ × ℤ → Word) → if_some true t fault.Kind (two_natives t.top.vars args) (λ q. applied true t x t.top.ledger [] (Says (f q))) ≡ if_some true t fault.Kind (option_and_then (λ q. Some (f q)) (two_natives t.top.vars args)) (says t x)
+  two_said f = all_said t x (two_natives t.top.vars args) f ∙ then_said t x (two_natives t.top.vars args) f
+
+  -- a primitive that answers a word
+  pub int64_called : (p : Int64Prim) → (p ≡ int64.Str → ⊥) → called true t code x args (prim.Int64 p) ≡ if_some true t fault.Kind (int64_answer p t.top.vars args) (says t x)
+  int64_called int64.Add other = two_found t code args t.top.ledger _ ∙ two_said _
+  int64_called int64.Subtract other = two_found t code args t.top.ledger _ ∙ two_said _
+  int64_called int64.Multiply other = two_found t code args t.top.ledger _ ∙ two_said _
+  int64_called int64.Negate other = one_found t code args t.top.ledger _ ∙ all_said t x (one_native t.top.vars args) (λ n. Native (i64_neg n))
+  int64_called int64.FromBool other = char_only t code args t.top.ledger _ ∙ all_said t x (one_char t.top.vars args) (λ n. Native (pos n))
+  int64_called int64.Eq other = two_found t code args t.top.ledger _ ∙ two_said _
+  int64_called int64.Lt other = two_found t code args t.top.ledger _ ∙ two_said _
+  int64_called int64.Le other = two_found t code args t.top.ledger _ ∙ two_said _
+  int64_called int64.Str other = absurd (other refl)
+
+-- the answer of a primitive on two native integers
+pub two_answer : (vars : List Word) (args : List CArg) (p : Int64Prim) → (p ≡ int64.Str → ⊥) → (p ≡ int64.Negate → ⊥) → (p ≡ int64.FromBool → ⊥) → int64_answer p vars args ≡ option_and_then (λ q. int64_result p q.0 q.1) (two_natives vars args)
+two_answer vars args int64.Negate a b c = absurd (b refl)
+two_answer vars args int64.FromBool a b c = absurd (c refl)
+two_answer vars args int64.Str a b c = absurd (a refl)
+two_answer vars args _ a b c = refl

@@ -1,0 +1,229 @@
+-- Calls of functions and returns from them, at the runner's states.
+use Rattle.std.proofs.Common.{◌≡◌, ◌≢◌, refl, sym, ap, ◌∙◌, ℕ, zero, suc, ◌+◌, ◌^◌, ◌<◌, ◌≤◌, arith, add-one, Bool, true, false, cond, List, [], ◌∷◌, ◌++◌, append_assoc, length, get_or, take, drop, drop-cons, Option, Some, None}
+use Rattle.std.specs.Prelude.{map, reverse, slice_get, nat_lt, is_some, ◌&&◌}
+use Rattle.std.proofs.lemmas.Bool.Decides.{nat_tests}
+use Rattle.std.proofs.lemmas.List.{map-append, map-set, reverse-append, reverse-reverse}
+use Rattle.c_core.specs.declared.code.CArg.{CArg}
+use Rattle.c_core.specs.declared.code.CArg.TheVariants as arg
+use Rattle.c_core.specs.declared.code.CFunc.{CFunc}
+use Rattle.c_core.specs.declared.code.Code.{Code}
+use Rattle.c_core.specs.declared.code.Kind.{Kind}
+use Rattle.c_core.specs.declared.fault.Fault.{Fault}
+use Rattle.c_core.specs.declared.fault.Fault.TheVariants as fault
+use Rattle.c_core.specs.Arguments.{is_value_of}
+use Rattle.c_core.specs.Cells.{times, content_at}
+use Rattle.c_core.specs.Functions.{entry_words}
+use Rattle.c_core.specs.Holders.{owned_below}
+use Rattle.c_core.specs.Ledgers.{Ledger, more_of, without}
+use Rattle.c_core.specs.Machine as machine
+use Rattle.c_core.specs.Machine.{MachineState, refs_of}
+use Rattle.c_core.specs.Step as step
+use Rattle.c_core.specs.Step.{Next, Goes, Ends, Faulted, if_some, if_there, if_any, if_content, if_taken, if_result, if_none_left, if_in_order, if_return, if_passed, function_called, function_step, entered, returned, faulted}
+use Rattle.c_runner.specs.declared.state.Frame.{Frame}
+use Rattle.c_runner.specs.declared.state.State.{State}
+use Rattle.c_runner.specs.declared.words.Word.{Word}
+use Rattle.c_runner.specs.Ledgers.{is_none, is_only}
+use Rattle.c_runner.specs.Parts.{if_argument, is_there, unless_fault, back_in, handed_back}
+use Rattle.c_runner.specs.States.{Rest, IsSmall, frame_of, waiting, state_of, with_target}
+use Rattle.c_runner.specs.Words as words
+
+-- ---- cells that are there, and cells that are gone
+some_there : (s : MachineState) {A : Type 0} (o : Option A) (go : Next) → is_some o ≡ true → if_some true s fault.Dead o (λ a. go) ≡ go
+some_there s None go e = absurd (cc)
+some_there s (Some a) go e = refl
+
+none_there : (s : MachineState) {A : Type 0} (o : Option A) (go : A → Next) → is_some o ≡ false → if_some true s fault.Dead o go ≡ Ends (Faulted fault.Dead) s
+none_there s None go e = refl
+none_there s (Some a) go e = absurd (cc)
+
+pub there : (s : MachineState) (w : machine.Word) (go : Next) → is_there s.cells w ≡ true → if_there true s w (λ a. go) ≡ go
+there s (machine.BigInt c) go e = some_there s (content_at s.cells c) go e
+there s (machine.ObjectCell c) go e = some_there s (content_at s.cells c) go e
+there s (machine.ShortInt n) go e = refl
+there s machine.TaggedError go e = refl
+there s (machine.Native n) go e = refl
+there s (machine.CharWord n) go e = refl
+there s machine.NoneObject go e = refl
+there s machine.TrueObject go e = refl
+there s machine.FalseObject go e = refl
+there s machine.NoObject go e = refl
+
+-- ---- passing
+next_passed : (s : MachineState) (k : Kind) (ks : List Kind) (a : CArg) (args : List CArg) (go : List machine.Word → Next) → if_passed true s (k ∷ ks) (a ∷ args) go ≡ if_argument s k a (λ w. if_passed true s ks args (λ ws. go (w ∷ ws)))
+next_passed s k ks (arg.Var x) args go = refl
+next_passed s k ks (arg.Number n) args go = refl
+next_passed s k ks (arg.Text text) args go = refl
+next_passed s k ks (arg.Global name) args go = refl
+next_passed s k ks (arg.Class name) args go = refl
+
+some_same : (s : MachineState) {A : Type 0} (f : Fault) (o : Option A) (go to : A → Next) → ((a : A) → go a ≡ to a) → if_some true s f o go ≡ if_some true s f o to
+some_same s f None go to e = refl
+some_same s f (Some a) go to e = e a
+
+argument_same : (s : MachineState) (k : Kind) (a : CArg) (go to : machine.Word → Next) → ((w : machine.Word) → go w ≡ to w) → if_argument s k a go ≡ if_argument s k a to
+argument_same s k (arg.Var x) go to e =
+    some_same s fault.Kind (slice_get s.top.vars x) _ _ (λ w. ap (λ n. step.if_true true s (is_value_of k w) (if_there true s w (λ a. n))) (e w))
+argument_same s k (arg.Number n) go to e = refl
+argument_same s k (arg.Text text) go to e = refl
+argument_same s k (arg.Global name) go to e = refl
+argument_same s k (arg.Class name) go to e = refl
+
+passed_same : (s : MachineState) (ks : List Kind) (args : List CArg) (go to : List machine.Word → Next) → ((ws : List machine.Word) → go ws ≡ to ws) → if_passed true s ks args go ≡ if_passed true s ks args to
+passed_same s [] [] go to e = e []
+passed_same s [] (a ∷ args) go to e = refl
+passed_same s (k ∷ ks) [] go to e = refl
+passed_same s (k ∷ ks) (a ∷ args) go to e =
+    next_passed s k ks a args go
+    ∙ argument_same s k a _ _ (λ w. passed_same s ks args (λ ws. go (w ∷ ws)) (λ ws. to (w ∷ ws)) (λ ws. e (w ∷ ws)))
+    ∙ sym (next_passed s k ks a args to)
+
+drop_all : {X : Type 0} (xs : List X) (i : ℕ) → length xs ≤ i → drop i xs ≡ []
+drop_all [] zero le = refl
+drop_all [] (suc i) le = refl
+drop_all (y ∷ xs) zero le = absurd (omega arith)
+drop_all (y ∷ xs) (suc i) le = drop_all xs i (omega arith)
+
+drop_rest : {X : Type 0} (xs : List X) (i : ℕ) → i < length xs → (x : X) × (drop i xs ≡ x ∷ drop (suc i) xs)
+drop_rest [] i lt = absurd (omega arith)
+drop_rest (y ∷ xs) zero lt = (y, refl)
+drop_rest (y ∷ xs) (suc i) lt = drop_rest xs i (omega arith)
+
+abbrev Declared : Type 0
+Declared = List ℕ × Kind
+
+module _ (s : MachineState) (ps : List Declared) (args : List CArg) where
+  -- what is left to be passed from the place i on
+  abbrev pub left : ℕ → (List machine.Word → Next) → Next
+  left i go = if_passed true s (map (λ v. v.1) (drop i ps)) (drop i args) go
+
+  abbrev both : List Declared → List CArg → (List machine.Word → Next) → Next
+  both qs rest go = if_passed true s (map (λ v. v.1) qs) rest go
+
+  pub one_passed : (i : ℕ) (p : Declared) (a : CArg) (go : List machine.Word → Next) → i < length ps → p ≡ get_or ps i p → i < length args → a ≡ get_or args i a → left i go ≡ if_argument s p.1 a (λ w. left (i + 1) (λ ws. go (w ∷ ws)))
+  one_passed i p a go lt is less e =
+      let here : drop i ps ≡ p ∷ drop (suc i) ps = drop-cons ps i p lt ∙ ap (λ q. q ∷ drop (suc i) ps) (sym is) in
+      let there : drop i args ≡ a ∷ drop (suc i) args = drop-cons args i a less ∙ ap (λ q. q ∷ drop (suc i) args) (sym e) in
+      ap (λ qs. both qs (drop i args) go) here
+      ∙ ap (λ rest. both (p ∷ drop (suc i) ps) rest go) there
+      ∙ next_passed s p.1 (map (λ v. v.1) (drop (suc i) ps)) a (drop (suc i) args) go
+      ∙ ap (λ j. if_argument s p.1 a (λ w. left j (λ ws. go (w ∷ ws)))) (sym (add-one i))
+
+  pub too_many : (i : ℕ) (go : List machine.Word → Next) → length ps ≤ i → i < length args → left i go ≡ Ends (Faulted fault.Kind) s
+  too_many i go le lt =
+      let more = drop_rest args i lt in
+      ap (λ qs. both qs (drop i args) go) (drop_all ps i le) ∙ ap (λ rest. both [] rest go) more.1
+
+  pub all_passed : (i : ℕ) (go : List machine.Word → Next) → length ps ≤ i → length args ≤ i → left i go ≡ go []
+  all_passed i go le lt =
+      ap (λ qs. both qs (drop i args) go) (drop_all ps i le) ∙ ap (λ rest. both [] rest go) (drop_all args i lt)
+
+  -- one word more before what is left
+  pub word_more : (i : ℕ) (before after : List Word) (w : Word) (go : List machine.Word → Next) → after ≡ before ++ w ∷ [] → left i (λ ws. go (map words.word_of before ++ words.word_of w ∷ ws)) ≡ left i (λ ws. go (map words.word_of after ++ ws))
+  word_more i before after w go e =
+      passed_same s (map (λ v. v.1) (drop i ps)) (drop i args) (λ ws. go (map words.word_of before ++ words.word_of w ∷ ws)) (λ ws. go (map words.word_of after ++ ws))
+      (λ ws. ap go (sym (ap (λ us. us ++ ws) (ap (map words.word_of) e ∙ map-append words.word_of before (w ∷ [])) ∙ append_assoc (map words.word_of before) (words.word_of w ∷ []) ws)))
+
+-- ---- frames that wait
+pub waiting-push : (frames : List Frame) (f : Frame) → waiting (frames ++ f ∷ []) ≡ frame_of f ∷ waiting frames
+waiting-push frames f = ap reverse (map-append frame_of frames (f ∷ [])) ∙ reverse-append (map frame_of frames) (frame_of f ∷ [])
+
+no_map : (frames : List Frame) → map frame_of frames ≡ [] → frames ≡ []
+no_map [] e = refl
+no_map (f ∷ frames) e = absurd (cc)
+
+pub none_waits : (frames : List Frame) → waiting frames ≡ [] → frames ≡ []
+none_waits frames e = no_map frames (sym (reverse-reverse (map frame_of frames)) ∙ ap reverse e)
+
+-- a function is not called where an argument may not be passed
+pub refused : (rest : Rest) (old : State) (code : Code) (g : CFunc) (f : ℕ) (target : Option ℕ) (args : List CArg) (ps : List Declared) (o : Option Fault) (why : Fault) (vars : List Word) → slice_get code.funcs f ≡ Some g → ps ≡ take g.params g.vars → ((go : List machine.Word → Next) → if_passed true (state_of rest old) (map (λ v. v.1) ps) args go ≡ unless_fault o (state_of rest old) (go (map words.word_of vars))) → o ≡ Some why → function_called true (state_of rest old) code target args (Some f) ≡ Ends (Faulted why) (state_of rest old)
+refused rest old code g f target args ps o why vars e is pass failed =
+    let s = state_of rest old in
+    let go : List machine.Word → Next = λ ws. Goes (entered true s target f (entry_words ws g)) in
+    ap (λ h. if_some true s fault.Kind h (function_step true s target args f)) e
+    ∙ ap (λ qs. if_passed true s (map (λ v. v.1) qs) args go) (sym is)
+    ∙ pass go
+    ∙ ap (λ h. unless_fault h s (go (map words.word_of vars))) failed
+
+-- ---- a return
+pub target_set : (rest : Rest) (st : State) (target : Option ℕ) (w : Word) → step.with_target target (words.word_of w) (state_of rest st) ≡ state_of rest (record st { top = with_target target w st.top })
+target_set rest st None w = refl
+target_set rest st (Some x) w =
+    let with : List machine.Word → MachineState = λ v. record (state_of rest st) { top = record (frame_of st.top) { vars = v } } in
+    ap with (sym (map-set words.word_of st.top.vars x w))
+
+-- the innermost frame that waits goes on
+pub handed : (rest : Rest) (old : State) (caller callee dest owner top : Frame) (below : List Frame) (w : Word) → old.below ≡ below ++ caller ∷ [] → callee ≡ old.top → dest ≡ caller → owner ≡ record dest { ledger = more_of (refs_of (words.word_of w)) dest.ledger } → top ≡ with_target callee.into w owner → handed_back (words.word_of w) (state_of rest old) ≡ state_of rest (record old { top = top; below = below })
+handed rest old caller callee dest owner top below w e callee_is dest_is owner_is top_is =
+    let s = state_of rest old in
+    let owned : Frame → Frame = λ f. record f { ledger = more_of (refs_of (words.word_of w)) f.ledger } in
+    let last : with_target old.top.into w (owned caller) ≡ top =
+    ap (λ f. with_target f.into w (owned caller)) (sym callee_is)
+    ∙ ap (λ f. with_target callee.into w (owned f)) (sym dest_is) ∙ ap (with_target callee.into w) (sym owner_is) ∙ sym top_is in
+    ap (back_in (words.word_of w) s) (ap waiting e ∙ waiting-push below caller)
+    ∙ target_set rest (record old { top = owned caller; below = below }) old.top.into w
+    ∙ ap (λ f. state_of rest (record old { top = f; below = below })) last
+
+-- the ledger of that frame can be counted
+pub caller_small : (old : State) (caller : Frame) (below : List Frame) → IsSmall old → old.below ≡ below ++ caller ∷ [] → (c : ℕ) → times caller.ledger c < 2 ^ 128
+caller_small old caller below few e c =
+    let all : owned_below (waiting old.below) c ≡ times caller.ledger c + owned_below (waiting below) c = ap (λ fs. owned_below fs c) (ap waiting e ∙ waiting-push below caller) in
+    omega (arith, few.ledgers c, all)
+
+return_at : (s : MachineState) (w : machine.Word) (fs : List machine.Frame) (go : Next → Next) → fs ≢ [] → if_return true s w fs go ≡ go (Goes (back_in w s fs))
+return_at s w [] go some = absurd (some refl)
+return_at s w (f ∷ fs) go some = refl
+
+-- a frame that returns to another one
+pub returns_to : (rest : Rest) (old : State) (w : machine.Word) (next : Next) → old.below ≢ [] → if_in_order true (state_of rest old) w None (if_result true (state_of rest old) w (λ l. if_none_left true (state_of rest old) l (Goes (handed_back w (state_of rest old))))) ≡ next → returned true (state_of rest old) w ≡ next
+returns_to rest old w next some is =
+    let s = state_of rest old in
+    ap (if_in_order true s w None) (return_at s w (waiting old.below) _ (λ e. some (none_waits old.below e))) ∙ is
+
+-- the ledger that a returned reference leaves
+left_either : (s : MachineState) (l : Ledger) (next : Next) → if_none_left true s l next ≡ cond (is_none l) next (Ends (Faulted fault.Leak) s)
+left_either s [] next = refl
+left_either s (c ∷ l) next = refl
+
+owned_either : (s : MachineState) (n : ℕ) (l : Ledger) (next : Next) → if_any true s n (if_none_left true s l next) ≡ cond (nat_lt 0 n) (cond (is_none l) next (Ends (Faulted fault.Leak) s)) (Ends (Faulted fault.NotOwned) s)
+owned_either s zero l next = refl
+owned_either s (suc n) l next =
+    let some : nat_lt 0 (suc n) ≡ true = grind (arith, nat_tests) in
+    left_either s l next ∙ ap (λ b. cond b (cond (is_none l) next (Ends (Faulted fault.Leak) s)) (Ends (Faulted fault.NotOwned) s)) (sym some)
+
+content_either : (s : MachineState) {A : Type 0} (o : Option A) (go : Next) → if_some true s fault.Dead o (λ a. go) ≡ cond (is_some o) go (Ends (Faulted fault.Dead) s)
+content_either s None go = refl
+content_either s (Some a) go = refl
+
+-- a returned reference, by what is asked of it
+pub result_either : (s : MachineState) (c : ℕ) (next : Next) → if_result true s (machine.ObjectCell c) (λ l. if_none_left true s l next) ≡ cond (is_some (content_at s.cells c)) (cond (nat_lt 0 (times s.top.ledger c)) (cond (is_none (without c s.top.ledger)) next (Ends (Faulted fault.Leak) s)) (Ends (Faulted fault.NotOwned) s)) (Ends (Faulted fault.Dead) s)
+result_either s c next =
+    content_either s (content_at s.cells c) _
+    ∙ ap (λ n. cond (is_some (content_at s.cells c)) n (Ends (Faulted fault.Dead) s)) (owned_either s (times s.top.ledger c) (without c s.top.ledger) next)
+
+module _ (s : MachineState) (c : ℕ) (next : Next) where
+  abbrev result : Next
+  result = if_result true s (machine.ObjectCell c) (λ l. if_none_left true s l next)
+
+  abbrev choice : Bool → Bool → Bool → Next
+  choice there owns alone = cond there (cond owns (cond alone next (Ends (Faulted fault.Leak) s)) (Ends (Faulted fault.NotOwned) s)) (Ends (Faulted fault.Dead) s)
+
+  chosen : (a b d : Bool) → is_some (content_at s.cells c) ≡ a → nat_lt 0 (times s.top.ledger c) ≡ b → is_none (without c s.top.ledger) ≡ d → result ≡ choice a b d
+  chosen a b d e f g =
+      result_either s c next ∙ ap (λ x. choice x (nat_lt 0 (times s.top.ledger c)) (is_none (without c s.top.ledger))) e
+      ∙ ap (λ x. choice a x (is_none (without c s.top.ledger))) f ∙ ap (choice a b) g
+
+  pub result_dead : is_some (content_at s.cells c) ≡ false → result ≡ Ends (Faulted fault.Dead) s
+  result_dead e = chosen false _ _ e refl refl
+
+  pub result_not_owned : is_some (content_at s.cells c) ≡ true → nat_lt 0 (times s.top.ledger c) ≡ false → result ≡ Ends (Faulted fault.NotOwned) s
+  result_not_owned e f = chosen true false _ e f refl
+
+  and_is : (a b : Bool) → a ≡ true → (a && b) ≡ b
+  and_is true b e = refl
+  and_is false b e = absurd (cc)
+
+  pub result_leaks : is_some (content_at s.cells c) ≡ true → nat_lt 0 (times s.top.ledger c) ≡ true → is_only c s.top.ledger ≡ false → result ≡ Ends (Faulted fault.Leak) s
+  result_leaks e f g = chosen true true false e f (sym (and_is _ _ f) ∙ g)
+
+  pub result_given : is_some (content_at s.cells c) ≡ true → nat_lt 0 (times s.top.ledger c) ≡ true → is_only c s.top.ledger ≡ true → result ≡ next
+  result_given e f g = chosen true true true e f (sym (and_is _ _ f) ∙ g)

@@ -1,0 +1,92 @@
+-- The table of what lines name.
+use Rattle.std.proofs.Common.{◌≡◌, refl, sym, ap, ◌∙◌, ℕ, suc, ◌+◌, ◌<◌, arith, Bool, true, false, cond, List, [], ◌∷◌, ◌++◌, append-nil, length, get_or, take, drop, drop-cons, Option, Some, None}
+use Rattle.std.specs.Prelude.{map, slice_get}
+use Rattle.std.specs.List.{position_from}
+use Rattle.std.specs.Option.{option_map}
+use Rattle.std.specs.Str.{bytes_eq}
+use Rattle.std.proofs.lemmas.Bool.Decides.{same_from_decides}
+use Rattle.std.proofs.lemmas.Slice.Eq.{bytes_eq-Decides}
+use Rattle.std.proofs.lemmas.List.{take_more, length-take-le, map-append}
+use Rattle.std.proofs.lemmas.Option.{slice_get-map}
+use Rattle.c_core.specs.declared.code.CFunc.{CFunc}
+use Rattle.c_core.specs.declared.code.Line.{Line}
+use Rattle.c_core.specs.declared.code.Line.TheVariants.{Label}
+use Rattle.c_core.specs.Functions.{is_label, labels_from, label_places, function_named}
+use Rattle.c_core.specs.Primitives.{primitive_named}
+use Rattle.c_runner.specs.declared.table.Callee.{Callee}
+use Rattle.c_runner.specs.declared.table.Callee.TheVariants as callee
+use Rattle.c_runner.specs.declared.table.Target.{Target}
+use Rattle.c_runner.specs.Targets.{callee_among, callee_of, target_of, targets_of, table_of}
+
+-- ---- one element more
+next_take : {X : Type 0} (xs : List X) (i : ℕ) (x : X) → i < length xs → x ≡ get_or xs i x → take (i + 1) xs ≡ take i xs ++ x ∷ []
+next_take xs i x lt is = take_more xs i x lt ∙ ap (λ q. take i xs ++ q ∷ []) (sym is)
+
+pub map_more : {X Y : Type 0} (f : X → Y) (xs : List X) (i : ℕ) (x : X) (ys : List Y) (y : Y) → i < length xs → x ≡ get_or xs i x → y ≡ f x → ys ≡ map f (take i xs) → ys ++ y ∷ [] ≡ map f (take (i + 1) xs)
+map_more f xs i x ys y lt is e so_far =
+    ap (λ zs. zs ++ y ∷ []) so_far ∙ ap (λ z. map f (take i xs) ++ z ∷ []) e
+    ∙ sym (map-append f (take i xs) (x ∷ [])) ∙ ap (map f) (sym (next_take xs i x lt is))
+
+-- ---- the places of labels
+either : (b : Bool) (p : ℕ) (t u v : List ℕ) → t ≡ u ++ v → cond b (p ∷ t) t ≡ cond b (p ∷ u) u ++ v
+either true p t u v e = ap (λ z. p ∷ z) e
+either false p t u v e = e
+
+labels_from-append : (p : ℕ) (xs ys : List Line) → labels_from p (xs ++ ys) ≡ labels_from p xs ++ labels_from (p + length xs) ys
+labels_from-append p [] ys = let e : p ≡ p + 0 = omega arith in ap (λ q. labels_from q ys) e
+labels_from-append p (l ∷ xs) ys =
+    let e : (p + 1) + length xs ≡ p + length (l ∷ xs) = omega arith in
+    either (is_label l) p (labels_from (p + 1) (xs ++ ys)) (labels_from (p + 1) xs) (labels_from (p + length (l ∷ xs)) ys)
+    (labels_from-append (p + 1) xs ys ∙ ap (λ q. labels_from (p + 1) xs ++ labels_from q ys) e)
+
+labels_more : (lines : List Line) (i : ℕ) (l : Line) (places : List ℕ) → i < length lines → l ≡ get_or lines i l → places ≡ label_places (take i lines) → places ++ labels_from i (l ∷ []) ≡ label_places (take (i + 1) lines)
+labels_more lines i l places lt is so_far =
+    let here : i ≡ 0 + length (take i lines) = omega (arith, length-take-le i lines (omega arith)) in
+    ap (λ p. p ++ labels_from i (l ∷ [])) so_far
+    ∙ ap (λ q. label_places (take i lines) ++ labels_from q (l ∷ [])) here
+    ∙ sym (labels_from-append 0 (take i lines) (l ∷ []))
+    ∙ ap label_places (sym (next_take lines i l lt is))
+
+pub label_more : (lines : List Line) (i : ℕ) (l : Line) (places : List ℕ) → i < length lines → l ≡ get_or lines i l → l ≡ Label → places ≡ label_places (take i lines) → places ++ i ∷ [] ≡ label_places (take (i + 1) lines)
+label_more lines i l places lt is e so_far =
+    ap (λ k. places ++ labels_from i (k ∷ [])) (sym e) ∙ labels_more lines i l places lt is so_far
+
+pub other_more : (lines : List Line) (i : ℕ) (l : Line) (places : List ℕ) → i < length lines → l ≡ get_or lines i l → is_label l ≡ false → places ≡ label_places (take i lines) → places ≡ label_places (take (i + 1) lines)
+other_more lines i l places lt is e so_far =
+    sym (append-nil places) ∙ ap (λ b. places ++ cond b (i ∷ []) []) (sym e) ∙ labels_more lines i l places lt is so_far
+
+-- a line that is no label
+pub other_line : (l : Line) → (l ≡ Label → ⊥) → is_label l ≡ false
+other_line Label not = absurd (not refl)
+other_line _ not = refl
+
+-- ---- names
+pub no_primitive : (functions : List CFunc) (name : List ℕ) → None ≡ primitive_named name → callee_of functions name ≡ option_map callee.Function (function_named functions name)
+no_primitive functions name e = ap (λ o. callee_among o (function_named functions name)) (sym e)
+
+bytes_eq-sym : (xs ys : List ℕ) → bytes_eq xs ys ≡ bytes_eq ys xs
+bytes_eq-sym xs ys =
+    let other = bytes_eq-Decides ys xs in
+    same_from_decides (bytes_eq xs ys) (bytes_eq ys xs) (bytes_eq-Decides xs ys) (λ e. sym (other.0 e), λ e. other.1 (sym e))
+
+-- a function more, before those from the number n on
+pub first_back : (functions : List CFunc) (m n : ℕ) (g : CFunc) (name text : List ℕ) (o : Option ℕ) → m < length functions → g ≡ get_or functions m g → n ≡ m + 1 → text ≡ g.name → o ≡ position_from (λ h. bytes_eq name h.name) n (drop n functions) → cond (bytes_eq text name) (Some m) o ≡ position_from (λ h. bytes_eq name h.name) m (drop m functions)
+first_back functions m n g name text o lt is next same later =
+    let here : drop m functions ≡ g ∷ drop (suc m) functions = drop-cons functions m g lt ∙ ap (λ h. h ∷ drop (suc m) functions) (sym is) in
+    let after : n ≡ suc m = omega (arith, next) in
+    ap (λ t. cond (bytes_eq t name) (Some m) o) same
+    ∙ ap (λ b. cond b (Some m) o) (bytes_eq-sym g.name name)
+    ∙ ap (cond (bytes_eq name g.name) (Some m)) (later ∙ ap (λ k. position_from (λ h. bytes_eq name h.name) k (drop n functions)) next ∙ ap (λ k. position_from (λ h. bytes_eq name h.name) (m + 1) (drop k functions)) after)
+    ∙ sym (ap (position_from (λ h. bytes_eq name h.name) m) here)
+
+-- ---- a line's entry
+abbrev pub only_callee : Option Callee → Target
+only_callee callee = record { first = None; second = None; callee = callee }
+
+pub row_is : (table : List (List Target)) (functions : List CFunc) (f : ℕ) (g : CFunc) → table ≡ table_of functions → slice_get functions f ≡ Some g → slice_get table f ≡ Some (targets_of functions g.lines)
+row_is table functions f g is e =
+    ap (λ t. slice_get t f) is ∙ slice_get-map (λ h. targets_of functions h.lines) functions f ∙ ap (option_map (λ h. targets_of functions h.lines)) e
+
+pub target_is : (functions : List CFunc) (g : CFunc) (p : ℕ) (l : Line) → slice_get g.lines p ≡ Some l → slice_get (targets_of functions g.lines) p ≡ Some (target_of functions (label_places g.lines) l)
+target_is functions g p l e =
+    slice_get-map (target_of functions (label_places g.lines)) g.lines p ∙ ap (option_map (target_of functions (label_places g.lines))) e

@@ -1,8 +1,0 @@
-use Rattle.std.proofs.Common.{◌≡◌, take}
-use Rattle.std.specs.Prelude.{map}
-use Rattle.c_core.specs.Run.{error_word}
-use Rattle.c_runner.specs.Words.{word_of}
-use Rattle.c_runner.proofs.state.error_values.Given as goal
-
-abbrev pub invariant-loop-var : goal.invariant-loop-var
-invariant-loop-var l = map word_of l.words ≡ map (λ v. error_word v.1) (take l.var-index l.vars)
