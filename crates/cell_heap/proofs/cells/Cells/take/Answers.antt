@@ -1,0 +1,29 @@
+use Rattle.std.proofs.Common.{◌≡◌, ◌+◌, refl, sym, ap, ◌∙◌, arith, rules, Some}
+use Rattle.std.specs.Option.{option_map}
+use Rattle.c_core.specs.Cells.{raised, count_at}
+use Rattle.cell_heap.specs.declared.cells.Slot.{Slot}
+use Rattle.cell_heap.specs.Numbered.{cell_of, cells_of}
+use Rattle.cell_heap.proofs.MapLemmas.{count-here, cells-change, cells-stay}
+use Rattle.cell_heap.proofs.cells.Cells.take.Goals as goal
+use Rattle.cell_heap.proofs.cells.Cells.take.Goals.{in-None, in-Some}
+
+pub overflow_add-slot : goal.overflow_add-slot
+overflow_add-slot c =
+    let is : count_at (cells_of c.self.inside.there c.self.inside.made) c.args.serial ≡ c.in-Some.slot.now.count =
+    count-here c.self.inside.there c.self.inside.made c.args.serial c.in-Some.slot.now c.self.invariant.unmade (sym c.in-Some.ensures.value) in
+    let small = rw (← c.self.view_is) at c.requires in
+    omega (arith, is, small)
+
+pub returns : goal.returns
+returns c =
+    rw (← c.self.view_is) (elim c.match-get_mut.branch [
+      | in-None w ↦
+          ap (λ i. cells_of i.there i.made) w.self-inside-is
+          ∙ ap (λ m. cells_of m c.self.inside.made) c.get_mut.follows.holds-at-none
+          ∙ cells-stay raised c.self.inside.there c.args.serial c.self.inside.made refl (sym w.in-None.ensures.value)
+      | in-Some w ↦
+          let slot : Slot = record { count = w.in-Some.slot.now.count + 1; content = w.in-Some.slot.now.content } in
+          let writes = (c.get_mut.follows.holds slot).3 (search rules) in
+          ap (λ i. cells_of i.there i.made) w.self-inside-is
+          ∙ cells-change raised c.self.inside.there (c.get_mut.follows.lender slot) c.args.serial c.self.inside.made (Some slot) writes.1 writes.2 (ap (λ o. raised (option_map cell_of o)) (sym w.in-Some.ensures.value))
+    ])

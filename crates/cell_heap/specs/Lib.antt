@@ -1,0 +1,4 @@
+pub mod Contents
+pub mod Room
+pub mod Numbered
+pub mod Keys

@@ -1,0 +1,9 @@
+pub mod BlockLemmas
+pub mod RunLemmas
+pub mod ModeLemmas
+pub mod PlaceLemmas
+pub mod LowerLemmas
+pub mod Samples
+pub mod BuildingLemmas
+pub mod Simulation
+pub mod StepLemmas

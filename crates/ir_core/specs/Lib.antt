@@ -1,0 +1,12 @@
+pub mod Items
+pub mod Rows
+pub mod Building
+pub mod Registers
+pub mod Names
+pub mod Effects
+pub mod Meaning
+pub mod Runs
+pub mod Laws
+pub mod Lower
+pub mod Lowered
+pub mod Shape

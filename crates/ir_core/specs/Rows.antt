@@ -1,0 +1,82 @@
+-- How operations fail: of each primitive whether it does, one row one line, and what is to stand behind an operation so that
+-- its failure is seen (mypyc's developer guide, "Error handling").
+use Rattle.std.specs.Prelude.{ℕ, List, Option, Some, slice_get}
+use Rattle.std.specs.Option.{option_map, option_and_then}
+use Rattle.c_core.specs.declared.primitive.Primitive.{Primitive}
+use Rattle.c_core.specs.declared.primitive.Primitive.TheVariants as prim
+use Rattle.c_core.specs.declared.primitive.Int64Prim.TheVariants as int64
+use Rattle.c_core.specs.declared.primitive.BoolPrim.TheVariants as bool
+use Rattle.c_core.specs.declared.primitive.StrPrim.TheVariants as str
+use Rattle.c_core.specs.declared.primitive.IoPrim.TheVariants as io
+use Rattle.ir_core.specs.declared.code.ErrorKind.{ErrorKind}
+use Rattle.ir_core.specs.declared.code.ErrorKind.TheVariants.{Never, Magic, Always, MagicOverlapping}
+use Rattle.ir_core.specs.declared.code.RType.{RType}
+use Rattle.ir_core.specs.declared.code.RType.TheVariants.{I64}
+use Rattle.ir_core.specs.declared.code.Op.{Op}
+use Rattle.ir_core.specs.declared.code.Op.TheVariants as op
+use Rattle.ir_core.specs.declared.code.Reg.{Reg}
+use Rattle.ir_core.specs.declared.kind.Edge.{Edge}
+use Rattle.ir_core.specs.declared.kind.Edge.TheVariants.{NoEdge, Tests, TestsTwice, Jumps}
+
+-- a primitive never fails, in some cases, or always
+pub data Failing : Type 0 where
+  NeverFails : Failing
+  MayFail : Failing
+  AlwaysFails : Failing
+
+abbrev pub failing : Primitive → Failing
+failing (prim.Int64 int64.Add) = NeverFails
+failing (prim.Int64 int64.Subtract) = NeverFails
+failing (prim.Int64 int64.Multiply) = NeverFails
+failing (prim.Int64 int64.Negate) = NeverFails
+failing (prim.Int64 int64.FromBool) = NeverFails
+failing (prim.Int64 int64.Eq) = NeverFails
+failing (prim.Int64 int64.Lt) = NeverFails
+failing (prim.Int64 int64.Le) = NeverFails
+failing (prim.Int64 int64.Str) = NeverFails
+failing (prim.Bool bool.Not) = NeverFails
+failing (prim.Bool bool.Str) = NeverFails
+failing (prim.Str str.Literal) = NeverFails
+failing (prim.Io io.Write) = NeverFails
+
+-- what may fail tells it by the error value of its result, which for a native integer is an ordinary value too
+abbrev pub kind_by_result : Option RType → ErrorKind
+kind_by_result (Some I64) = MagicOverlapping
+kind_by_result _ = Magic
+
+abbrev pub kind_by : Failing → Option RType → ErrorKind
+kind_by NeverFails t = Never
+kind_by MayFail t = kind_by_result t
+kind_by AlwaysFails t = Always
+
+-- the error kind of a primitive whose target has this type, if it has one
+abbrev pub error_kind : Primitive → Option RType → ErrorKind
+error_kind p t = kind_by (failing p) t
+
+-- what is to stand behind an operation of a kind and a target
+abbrev pub edge_of_kind : ErrorKind → Option Reg → Edge
+edge_of_kind Magic (Some r) = Tests r
+edge_of_kind MagicOverlapping (Some r) = TestsTwice r
+edge_of_kind Always r = Jumps
+edge_of_kind _ _ = NoEdge
+
+-- a function's registers, with their names
+abbrev pub Declared : Type 0
+Declared = List (List ℕ × RType)
+
+abbrev pub type_of_reg : Declared → Reg → Option RType
+type_of_reg regs r = option_map (λ x. x.1) (slice_get regs r.0)
+
+-- a call of a function may fail
+abbrev pub edge_of_call : Declared → Reg → Edge
+edge_of_call regs r = edge_of_kind (kind_by_result (type_of_reg regs r)) (Some r)
+
+abbrev pub edge_of_prim : Declared → Option Reg → Primitive → Edge
+edge_of_prim regs to p = edge_of_kind (error_kind p (option_and_then (type_of_reg regs) to)) to
+
+abbrev pub edge_of_op : Declared → Op → Edge
+edge_of_op regs (op.Prim to p args) = edge_of_prim regs to p
+edge_of_op regs (op.Call r g args) = edge_of_call regs r
+edge_of_op regs (op.Virtual r o n args) = edge_of_call regs r
+edge_of_op regs (op.TraitCall r o t n args) = edge_of_call regs r
+edge_of_op regs _ = NoEdge
