@@ -1,0 +1,3 @@
+pub mod AnnotationLemmas
+mod Examples
+pub mod LookUpLemmas

@@ -1,0 +1,14 @@
+//! The rules of assignments and returns: what a value is where it is bound or returned, or what is wrong with it.
+//!
+//! A rule takes a value that may have no type, and what a target or a return is for it. Where the value has a type, the rule
+//! gives the value as it is bound or returned, or a diagnostic, which it puts behind those that there are; else it gives nothing and
+//! says nothing. `specs/Assignments.antt` and `specs/Returns.antt` have the rules.
+#![tactic(auto)]
+
+mod assignments;
+mod returns;
+mod slots;
+
+pub use assignments::{assigned, binds, unpacked, unpacks};
+pub use returns::{Returns, returned, returned_nothing};
+pub use slots::Slot;

@@ -1,0 +1,5 @@
+pub mod Callees
+pub mod CalleesSeen
+pub mod Builtins
+pub mod Methods
+pub mod Calls

@@ -1,0 +1,2 @@
+pub mod Quiet
+mod Samples

@@ -1,0 +1,2 @@
+pub mod DisplayLemmas
+pub mod PlaceLemmas

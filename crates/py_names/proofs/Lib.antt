@@ -1,0 +1,5 @@
+pub mod WalkLemmas
+pub mod TableLemmas
+pub mod OutlineLemmas
+pub mod MeaningLemmas
+mod Examples

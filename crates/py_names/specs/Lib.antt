@@ -1,0 +1,4 @@
+pub mod Builtins
+pub mod Walked
+pub mod Outline
+pub mod Meanings

@@ -1,0 +1,5 @@
+pub mod PartLemmas
+pub mod NameLemmas
+pub mod FactLemmas
+pub mod RowLemmas
+pub mod ChainLemmas
