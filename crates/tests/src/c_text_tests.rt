@@ -1,5 +1,6 @@
 //! Codes with their texts, texts that are refused, and sinks that refuse a call.
 use crate::case::check;
+use crate::changes::{Change, changed, text_of};
 use crate::codes::{call, module, text_argument};
 use c_core::{CArg, CLit, Code, Kind, Line};
 use c_text::{TextError, read, write};
@@ -50,8 +51,24 @@ fn having_each_form(alloc: Global) -> Result<Code, Memory> {
     ] {
         lines.push(Line::Lit(0, literal))?;
     }
-    lines.push(Line::Dec(0))?;
-    lines.push(Line::Dec(7))?;
+    for line in [
+        Line::Dec(0),
+        Line::Dec(7),
+        Line::Label,
+        Line::Move(1, 7),
+        Line::Goto(usize::MAX),
+        Line::If(1, 0, 1),
+        Line::Label,
+        Line::IfError(0, 10, 2),
+        Line::IfError(1, 0, 0),
+        Line::IfError(7, 0, 0),
+        Line::Turn,
+        Line::Inc(0),
+        Line::XDec(7),
+        Line::Return(1),
+    ] {
+        lines.push(line)?;
+    }
     module(
         alloc,
         &[("\u{e4}", Kind::Tagged), ("n", Kind::Int64)],
@@ -74,7 +91,7 @@ fn codes_have_their_texts(rt: HostRuntime) -> Result<(), Fail> {
         &rt,
         alloc,
         &having_each_form(alloc)?,
-        "/* mypyc subset 1 */\nchar CPyModule(void) {\n    CPyTagged cpy_\u{e4};\n    int64_t cpy_n;\n    cpy_n = CPyA(cpy_n, -9223372036854775808, \"a\\\"\\\\\\n\\011\\037\\177\u{e4}\", CPyStatic_g, CPyType_C, );\n    CPyB();\n    cpy_\u{e4} = -1;\n    cpy_\u{e4} = NULL;\n    cpy_\u{e4} = Py_None;\n    cpy_\u{e4} = Py_True;\n    cpy_\u{e4} = Py_False;\n    CPyTagged_DECREF(cpy_\u{e4});\n    CPy_DECREF();\n}\n".as_bytes(),
+        "/* mypyc subset 1 */\nchar CPyModule(void) {\n    CPyTagged cpy_\u{e4};\n    int64_t cpy_n;\n    cpy_n = CPyA(cpy_n, -9223372036854775808, \"a\\\"\\\\\\n\\011\\037\\177\u{e4}\", CPyStatic_g, CPyType_C, );\n    CPyB();\n    cpy_\u{e4} = -1;\n    cpy_\u{e4} = NULL;\n    cpy_\u{e4} = Py_None;\n    cpy_\u{e4} = Py_True;\n    cpy_\u{e4} = Py_False;\n    CPyTagged_DECREF(cpy_\u{e4});\n    CPy_DECREF();\nCPyL0: ;\n    cpy_n = ;\n    goto CPyL18446744073709551615;\n    if (cpy_n) goto CPyL0; else goto CPyL1;\nCPyL1: ;\n    if (cpy_\u{e4} == 1) goto CPyL10; else goto CPyL2;\n    if (cpy_n == -113) goto CPyL0; else goto CPyL0;\n    if ( == ) goto CPyL0; else goto CPyL0;\n    CPyTurn();\n    CPyTagged_INCREF(cpy_\u{e4});\n    CPy_XDECREF();\n    return cpy_n;\n}\n".as_bytes(),
     );
     Ok(())
 }
@@ -99,12 +116,71 @@ fn calls_of_a_sink_refuse_in_turn(rt: HostRuntime) -> Result<(), Fail> {
     Ok(())
 }
 
+/// A text whose function is called once. Its lines are changed below.
+const CALLED: &str =
+    "/* mypyc subset 1 */\nPyObject *CPyDef_f(PyObject *cpy_r_s, char cpy_r_b) {\n    PyObject *cpy_t_0;\n    PyObject *cpy_t_1;\n    CPyTurn();\n    if (cpy_r_b) goto CPyL0; else goto CPyL1;\nCPyL0: ;\n    cpy_t_0 = CPyStr_Literal(\"!\\n\");\n    cpy_t_1 = CPyStr_Literal(\"a!\\n\");\n    CPy_DECREF(cpy_t_0);\n    return cpy_t_1;\nCPyL1: ;\n    CPy_INCREF(cpy_r_s);\n    return cpy_r_s;\n}\nchar CPyModule(void) {\n    PyObject *cpy_t_0;\n    PyObject *cpy_t_1;\n    char cpy_t_2;\n    cpy_t_0 = CPyStr_Literal(\"a\");\n    cpy_t_2 = 1;\n    cpy_t_1 = CPyDef_f(cpy_t_0, cpy_t_2);\n    CPy_DECREF(cpy_t_0);\n    CPy_Write(cpy_t_1);\n    CPy_DECREF(cpy_t_1);\n    cpy_t_2 = 1;\n    return cpy_t_2;\n}\n";
+
+/// A line of that text, what stands in its place, and where the text is then refused, if it is.
+const VARIATIONS: &[(&str, &str, Option<usize>)] = &[
+    ("    CPy_DECREF(cpy_t_0);\n    return", "    return", None),
+    (
+        "    CPy_DECREF(cpy_t_0);\n    return",
+        "    CPy_DECREF(cpy_r_s);\n    return",
+        None,
+    ),
+    (
+        "    CPy_DECREF(cpy_t_0);\n    return",
+        "    CPy_DECREF(cpy_t_0);\n    CPy_DECREF(cpy_t_0);\n    return",
+        None,
+    ),
+    ("cpy_r_b) {\n", "cpy_r_b) { \n", Some(21)),
+    ("    CPyTurn();\n", "", None),
+];
+
+/// The text with a part of it in another form.
+fn varied(alloc: Global, old: &str, new: &str) -> Result<String, AllocError> {
+    match CALLED.split_once(old) {
+        Some((front, behind)) => {
+            let mut text = String::from_str(alloc, front)?;
+            text.push_str(new)?;
+            text.push_str(behind)?;
+            Ok(text)
+        }
+        None => Ok(String::new(alloc)),
+    }
+}
+
+#[test]
+fn variations_of_a_call(rt: HostRuntime) -> Result<(), Fail> {
+    let alloc = rt.alloc();
+    check_text(
+        &rt,
+        alloc,
+        &read(alloc, CALLED.as_bytes())?,
+        CALLED.as_bytes(),
+    );
+    for (old, new, refused) in VARIATIONS {
+        let text = varied(alloc, old, new)?;
+        let bytes = text.as_str().as_bytes();
+        match refused {
+            Some(place) => check_refused(&rt, alloc, bytes, *place),
+            None => check_text(&rt, alloc, &read(alloc, bytes)?, bytes),
+        }
+    }
+    check_refused(&rt, alloc, b"", 0);
+    Ok(())
+}
+
 /// Texts that are read.
 const READ: &[&[u8]] = &[
     THREE,
     b"/* mypyc subset 1 */\nchar CPyModule(void) {\n    CPyTagged cpy_\xc3\xa4;\n    int64_t cpy_n;\n    cpy_n = CPyA(cpy_n, -9223372036854775808, \"a, \\\")\\\\\\n\\011\\037\\177\xc3\xa4\", CPyStatic_g, CPyType_C);\n    CPyB();\n    CPy1(\"\");\n    cpy_n = 9223372036854775807;\n    cpy_\xc3\xa4 = Py_None;\n    CPyTagged_DECREF(cpy_\xc3\xa4);\n}\n",
     b"/* mypyc subset 1 */\nchar CPyModule(void) {\n    char cpy_x;\n    PyObject *cpy_x;\n    CPy_DECREF(cpy_x);\n    cpy_x = NULL;\n}\n",
     b"/* mypyc subset 1 */\nchar CPyModule(void) {\n}\n",
+    b"/* mypyc subset 1 */\nCPyTagged CPyStatic_t;\nint64_t CPyStatic_\xc3\xa4;\nCPyTagged CPyStatic_t;\nCPyTagged CPyDef_4Node_m(CPyTagged cpy_a) {\n    char cpy_a;\n}\nint64_t CPyDef_4Node_m(char cpy_c, int64_t cpy_n, PyObject *cpy_o, CPyTagged cpy_c) {\nCPyL0: ;\n}\nchar CPyModule(void) {\nCPyL0: ;\n}\n",
+    b"/* mypyc subset 1 */\nchar CPyModule(void) {\n    goto CPyL18446744073709551615;\nCPyL0: ;\n}\n",
+    b"/* mypyc subset 1 */\nchar CPyModule(void) {\n    PyObject *cpy_o;\n    char cpy_c;\n    if (cpy_o == NULL) goto CPyL0; else goto CPyL7;\n    if (cpy_c == 2) goto CPyL0; else goto CPyL0;\n    CPyTurned();\n    CPy_INCREFS(cpy_c);\n}\n",
+    b"/* mypyc subset 1 */\nchar CPyModule(void) {\n    char cpy_x;\n    PyObject *cpy_x;\n    if (cpy_x == NULL) goto CPyL0; else goto CPyL0;\n    if (cpy_x == 2) goto CPyL0; else goto CPyL0;\n    CPy_XDECREF(cpy_x);\n    cpy_x = cpy_x;\n}\n",
 ];
 
 /// Texts that are read: what was read is written as the same text.
@@ -136,11 +212,57 @@ const REFUSED: &[(&str, usize)] = &[
     ("    CPyA(\");\n}\n", 63),
     ("    CPyA(1,2);\n}\n", 63),
     ("    CPyA(1, );\n}\n", 63),
-    ("    CPyTurn();\n}\n", 63),
+    ("    CPyTurn(1);\n}\n", 63),
+    ("    cpy_n = CPyTurn();\n}\n", 63),
+    ("    cpy_n = CPy_INCREF(cpy_n);\n}\n", 63),
+    ("    CPyVirtual(cpy_n, 0);\n}\n", 63),
+    ("    CPyTrait(cpy_n);\n}\n", 63),
+    ("    CPy_INCREF(cpy_n);\n}\n", 63),
+    ("    CPyTagged_XDECREF(cpy_n);\n}\n", 63),
+    ("    char cpy_c;\n    CPyTagged_INCREF(cpy_c);\n}\n", 79),
+    (
+        "    PyObject *cpy_o;\n    CPyTagged_DECREF(cpy_o);\n}\n",
+        84,
+    ),
+    ("    CPyTagged cpy_t;\n    CPy_DECREF(cpy_t);\n}\n", 84),
+    ("    cpy_n = cpy_m;\n}\n", 63),
+    ("    cpy_m = cpy_n;\n}\n", 63),
+    ("    if (cpy_n == 1) goto CPyL0; else goto CPyL0;\n}\n", 63),
+    ("    if (cpy_n == 2) goto CPyL0; else goto CPyL0;\n}\n", 63),
+    (
+        "    if (cpy_n == NULL) goto CPyL0; else goto CPyL0;\n}\n",
+        63,
+    ),
+    (
+        "    if (cpy_n == -114) goto CPyL0; else goto CPyL0;\n}\n",
+        63,
+    ),
+    (
+        "    if (cpy_m == -113) goto CPyL0; else goto CPyL0;\n}\n",
+        63,
+    ),
+    ("    if (cpy_m) goto CPyL0; else goto CPyL0;\n}\n", 63),
+    ("    if (cpy_n) goto CPyL0;\n}\n", 63),
+    ("    if (cpy_n)goto CPyL0; else goto CPyL0;\n}\n", 63),
+    ("    if (cpy_n) goto CPyL0; else goto CPyL00;\n}\n", 63),
+    ("    goto CPyL01;\n}\n", 63),
+    ("    goto CPyL+1;\n}\n", 63),
+    ("    goto CPyL;\n}\n", 63),
+    ("    goto CPyL18446744073709551616;\n}\n", 63),
+    ("CPyL1: ;\n}\n", 63),
+    ("CPyL00: ;\n}\n", 63),
+    ("CPyL0:;\n}\n", 63),
+    ("    CPyL0: ;\n}\n", 63),
+    ("CPyL0: ;\nCPyL0: ;\n}\n", 72),
+    ("CPyL0: ;\n    char cpy_c;\n}\n", 72),
+    ("    ;\n}\n", 63),
     ("    CPyA();\n    char cpy_c;\n}\n", 75),
     ("    CPyA();\n", 75),
     ("}\n}\n", 65),
     ("}\n}", 66),
+    ("}\nchar CPyModule(void) {\n}\n", 65),
+    ("}\nchar CPyDef_f(void) {\n}\n", 65),
+    ("}\nchar CPyStatic_g;\n", 65),
 ];
 
 fn check_refused(rt: &impl Abort, alloc: Global, text: &[u8], place: usize) {
@@ -169,5 +291,145 @@ fn texts_that_are_refused(rt: HostRuntime) -> Result<(), Fail> {
     }
     let spaced = b"/* mypyc subset 1 */\nchar CPyModule(void) { \n}\n";
     check_refused(&rt, alloc, spaced, 21);
+    Ok(())
+}
+
+/// A text with each kind of line: globals, a function with parameters and one without, and each statement.
+const LINES: [&str; 33] = [
+    "/* mypyc subset 1 */",
+    "PyObject *CPyStatic_a;",
+    "int64_t CPyStatic_b;",
+    "PyObject *CPyDef_f(PyObject *cpy_r_s, char cpy_r_b) {",
+    "    PyObject *cpy_t_0;",
+    "    CPyTurn();",
+    "CPyL0: ;",
+    "    return cpy_r_s;",
+    "}",
+    "char CPyDef_g(void) {",
+    "}",
+    "char CPyModule(void) {",
+    "    CPyTagged cpy_t;",
+    "    PyObject *cpy_o;",
+    "    char cpy_c;",
+    "    int64_t cpy_n;",
+    "    cpy_n = 5;",
+    "    CPyTurn();",
+    "    cpy_o = CPyStr_Literal(\"a\");",
+    "    cpy_o = CPyDef_f(cpy_o, cpy_c);",
+    "    if (cpy_c) goto CPyL0; else goto CPyL1;",
+    "CPyL0: ;",
+    "    cpy_t = cpy_t;",
+    "    if (cpy_t == 1) goto CPyL1; else goto CPyL1;",
+    "    if (cpy_n == -113) goto CPyL1; else goto CPyL1;",
+    "CPyL1: ;",
+    "    CPy_INCREF(cpy_o);",
+    "    CPy_DECREF(cpy_o);",
+    "    CPyTagged_XDECREF(cpy_t);",
+    "    CPy_Write(cpy_o);",
+    "    goto CPyL1;",
+    "    return cpy_c;",
+    "}",
+];
+
+/// The lines that are refused where they are changed, each with the first line that cannot stand: of the changed text,
+/// counted from 0. All other changes give a text that is read.
+const REFUSED_LINES: &[(Change, usize, usize)] = &[
+    (Change::Dropped, 0, 0),
+    (Change::Dropped, 3, 3),
+    (Change::Dropped, 8, 8),
+    (Change::Dropped, 9, 9),
+    (Change::Dropped, 10, 10),
+    (Change::Dropped, 11, 11),
+    (Change::Dropped, 12, 21),
+    (Change::Dropped, 13, 17),
+    (Change::Dropped, 14, 18),
+    (Change::Dropped, 15, 15),
+    (Change::Dropped, 21, 24),
+    (Change::Dropped, 32, 32),
+    (Change::Doubled, 0, 1),
+    (Change::Doubled, 3, 4),
+    (Change::Doubled, 6, 7),
+    (Change::Doubled, 8, 9),
+    (Change::Doubled, 9, 10),
+    (Change::Doubled, 10, 11),
+    (Change::Doubled, 11, 12),
+    (Change::Doubled, 21, 22),
+    (Change::Doubled, 25, 26),
+    (Change::Doubled, 32, 33),
+    (Change::Swapped, 0, 0),
+    (Change::Swapped, 2, 3),
+    (Change::Swapped, 3, 3),
+    (Change::Swapped, 4, 5),
+    (Change::Swapped, 7, 8),
+    (Change::Swapped, 8, 8),
+    (Change::Swapped, 9, 9),
+    (Change::Swapped, 10, 10),
+    (Change::Swapped, 11, 11),
+    (Change::Swapped, 15, 15),
+    (Change::Swapped, 31, 32),
+];
+
+fn refused_line(change: Change, at: usize) -> Option<usize> {
+    let row = REFUSED_LINES
+        .iter()
+        .find(|row| row.0 as u8 == change as u8 && row.1 == at);
+    row.map(|row| row.2)
+}
+
+fn check_changed(rt: &impl Abort, alloc: Global, change: Change, at: usize) -> Result<(), Fail> {
+    let lines = changed(alloc, &LINES, change, at)?;
+    let text = text_of(alloc, &lines)?;
+    let bytes = text.as_str().as_bytes();
+    match refused_line(change, at) {
+        Some(line) => {
+            let place = text_of(alloc, &lines[..line.min(lines.len())])?.len();
+            check_refused(rt, alloc, bytes, place);
+        }
+        None => check_text(rt, alloc, &read(alloc, bytes)?, bytes),
+    }
+    Ok(())
+}
+
+/// Each line of a text is dropped, doubled, and swapped with the next one.
+#[test]
+fn changed_lines(rt: HostRuntime) -> Result<(), Fail> {
+    for at in 0..LINES.len() {
+        for change in [Change::Dropped, Change::Doubled, Change::Swapped] {
+            check_changed(&rt, rt.alloc(), change, at)?;
+        }
+    }
+    Ok(())
+}
+
+/// The heads of functions and the globals that are refused, each behind the first line, at byte 21.
+const REFUSED_HEADS: &[&str] = &[
+    "char CPyDef_f() {\n",
+    "char CPyDef_f(void){\n",
+    "char CPyDef_f (void) {\n",
+    "char CPyDef_(void) {\n",
+    "CPyDef_f(void) {\n",
+    "int CPyDef_f(void) {\n",
+    "char CPyDef_f(void, char cpy_c) {\n",
+    "char CPyDef_f(char cpy_c, void) {\n",
+    "char CPyDef_f(char cpy_c,char cpy_d) {\n",
+    "char CPyDef_f(char cpy_c, ) {\n",
+    "char CPyDef_f(char c) {\n",
+    "char CPyDef_f(char cpy_) {\n",
+    "char CPyModule() {\n",
+    "PyObject *CPyModule(void) {\n",
+    "char CPyStatic_;\n",
+    "char CPyStatic_g; \n",
+    "    char CPyStatic_g;\n",
+    "char CPyType_g;\n",
+    "}\n",
+    "",
+];
+
+#[test]
+fn heads_that_are_refused(rt: HostRuntime) -> Result<(), Fail> {
+    for head in REFUSED_HEADS {
+        let text = joined(rt.alloc(), "/* mypyc subset 1 */\n", head)?;
+        check_refused(&rt, rt.alloc(), text.as_str().as_bytes(), 21);
+    }
     Ok(())
 }

@@ -16,6 +16,16 @@ pub(crate) fn call(
 ) -> Result<Line, Memory> {
     let mut arguments = Many::new(alloc);
     arguments.push(argument)?;
+    call_with(alloc, target, callee, arguments)
+}
+
+/// A call with these arguments.
+pub(crate) fn call_with(
+    alloc: Global,
+    target: Option<usize>,
+    callee: &str,
+    arguments: Many<CArg>,
+) -> Result<Line, Memory> {
     Ok(Line::Call(target, Name::from_str(alloc, callee)?, arguments))
 }
 
@@ -27,24 +37,40 @@ fn declared(alloc: Global, all: &[(&str, Kind)]) -> Result<Many<(Name, Kind)>, M
     Ok(vars)
 }
 
+/// A function, of whose variables the first are parameters.
+pub(crate) fn function(
+    alloc: Global,
+    name: &str,
+    ret: Kind,
+    params: usize,
+    all: &[(&str, Kind)],
+    lines: Many<Line>,
+) -> Result<CFunc, Memory> {
+    Ok(CFunc {
+        name: Name::from_str(alloc, name)?,
+        ret,
+        params,
+        vars: declared(alloc, all)?,
+        lines,
+    })
+}
+
+/// The code of these functions, without globals.
+pub(crate) fn code_of(alloc: Global, funcs: Many<CFunc>) -> Code {
+    Code {
+        globals: Many::new(alloc),
+        classes: Many::new(alloc),
+        funcs,
+    }
+}
+
 /// The module's own function, with these variables and lines.
 pub(crate) fn module(
     alloc: Global,
     all: &[(&str, Kind)],
     lines: Many<Line>,
 ) -> Result<Code, Memory> {
-    let vars = declared(alloc, all)?;
     let mut funcs = Many::new(alloc);
-    funcs.push(CFunc {
-        name: Name::from_str(alloc, "")?,
-        ret: Kind::Char,
-        params: 0,
-        vars,
-        lines,
-    })?;
-    Ok(Code {
-        globals: Many::new(alloc),
-        classes: Many::new(alloc),
-        funcs,
-    })
+    funcs.push(function(alloc, "", Kind::Char, 0, all, lines)?)?;
+    Ok(code_of(alloc, funcs))
 }

@@ -14,7 +14,15 @@ mod c_text_tests;
 #[cfg(test)]
 mod case;
 #[cfg(test)]
+mod cell_heap_tests;
+#[cfg(test)]
+mod changes;
+#[cfg(test)]
 mod codes;
+#[cfg(test)]
+mod ir_core_tests;
+#[cfg(test)]
+mod mypyc_top_changes_tests;
 #[cfg(test)]
 mod mypyc_top_running_tests;
 #[cfg(test)]
@@ -26,15 +34,23 @@ mod mypyc_top_words_tests;
 #[cfg(test)]
 mod outside_core_tests;
 #[cfg(test)]
+mod py_annotations_tests;
+#[cfg(test)]
 mod py_binder_tests;
+#[cfg(test)]
+mod py_flow_tests;
 #[cfg(test)]
 mod py_grammar_tests;
 #[cfg(test)]
 mod py_lexer_tests;
 #[cfg(test)]
+mod py_messages_tests;
+#[cfg(test)]
 mod py_parser_tables;
 #[cfg(test)]
 mod py_parser_tests;
+#[cfg(test)]
+mod py_typed_tests;
 #[cfg(test)]
 mod slot_arena_tests;
 #[cfg(test)]

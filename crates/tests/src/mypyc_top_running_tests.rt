@@ -84,6 +84,523 @@ fn texts_are_run(rt: HostRuntime) -> Result<(), Fail> {
     Ok(())
 }
 
+/// A function that gives a text back, with or without an exclamation mark as its own, and what calls it.
+const FUNCTION: &str = r#"/* mypyc subset 1 */
+PyObject *CPyDef_f(PyObject *cpy_r_s, char cpy_r_b) {
+    PyObject *cpy_t_0;
+    PyObject *cpy_t_1;
+"#;
+
+const CHOICE: &str = r#"    if (cpy_r_b) goto CPyL0; else goto CPyL1;
+CPyL0: ;
+    cpy_t_0 = CPyStr_Literal("!\n");
+    cpy_t_1 = CPyStr_Literal("a!\n");
+"#;
+
+const FIRST_DEC: &str = "    CPy_DECREF(cpy_t_0);\n";
+
+const OTHER_DEC: &str = "    CPy_DECREF(cpy_r_s);\n";
+
+const CALLER: &str = r#"    return cpy_t_1;
+CPyL1: ;
+    CPy_INCREF(cpy_r_s);
+    return cpy_r_s;
+}
+char CPyModule(void) {
+    PyObject *cpy_t_0;
+    PyObject *cpy_t_1;
+    char cpy_t_2;
+    cpy_t_0 = CPyStr_Literal("a");
+    cpy_t_2 = 1;
+    cpy_t_1 = CPyDef_f(cpy_t_0, cpy_t_2);
+    CPy_DECREF(cpy_t_0);
+    CPy_Write(cpy_t_1);
+    CPy_DECREF(cpy_t_1);
+    cpy_t_2 = 1;
+    return cpy_t_2;
+}
+"#;
+
+const TURN: &str = "    CPyTurn();\n";
+
+/// Changes of a text with a function.
+const FUNCTIONS: &[(&[&str], &str, &str, u8)] = &[
+    (
+        &[FUNCTION, TURN, CHOICE, FIRST_DEC, CALLER],
+        "a!\n-- Done\n-- live 0\n",
+        "",
+        0,
+    ),
+    (
+        &[FUNCTION, TURN, CHOICE, CALLER],
+        "-- Fault Leak\n-- live 3\n-- Str 1\n-- Str 1\n-- Str 1\n",
+        OWNERSHIP,
+        10,
+    ),
+    (
+        &[FUNCTION, TURN, CHOICE, OTHER_DEC, CALLER],
+        "-- Fault NotOwned\n-- live 3\n-- Str 1\n-- Str 1\n-- Str 1\n",
+        OWNERSHIP,
+        10,
+    ),
+    (
+        &[FUNCTION, TURN, CHOICE, FIRST_DEC, FIRST_DEC, CALLER],
+        "-- Fault Dead\n-- live 2\n-- Str 1\n-- Str 1\n",
+        OWNERSHIP,
+        10,
+    ),
+    (
+        &[FUNCTION, CHOICE, FIRST_DEC, CALLER],
+        "",
+        "mypyc: t.py: not well formed\n",
+        9,
+    ),
+];
+
+/// What stands before the lines of a module with variables of each kind, and behind them.
+const VARS: &str = r#"char CPyModule(void) {
+    CPyTagged cpy_i;
+    int64_t cpy_n;
+    int64_t cpy_m;
+    char cpy_c;
+    char cpy_d;
+    PyObject *cpy_o;
+    PyObject *cpy_p;
+"#;
+
+const END: &str = "    cpy_c = 1;\n    return cpy_c;\n}\n";
+
+const FIRST_LINE: &str = "/* mypyc subset 1 */\n";
+
+/// A function of native integers, one that returns what it borrows, one that returns an object that it does not have, and
+/// one that keeps what it made.
+const HELPERS: &str = r#"int64_t CPyDef_twice(int64_t cpy_x, char cpy_b) {
+    CPyTurn();
+    cpy_x = CPyInt64_Add(cpy_x, cpy_x);
+    return cpy_x;
+}
+PyObject *CPyDef_back(PyObject *cpy_s) {
+    CPyTurn();
+    return cpy_s;
+}
+PyObject *CPyDef_none(void) {
+    PyObject *cpy_s;
+    CPyTurn();
+    return cpy_s;
+}
+char CPyDef_keeps(void) {
+    PyObject *cpy_s;
+    char cpy_c;
+    CPyTurn();
+    cpy_s = CPyStr_Literal("s");
+    cpy_c = 0;
+    return cpy_c;
+}
+PyObject *CPyDef_gone(void) {
+    PyObject *cpy_s;
+    CPyTurn();
+    cpy_s = CPyStr_Literal("s");
+    CPy_DECREF(cpy_s);
+    return cpy_s;
+}
+"#;
+
+const MADE: &str = "    cpy_o = CPyStr_Literal(\"o\\n\");\n";
+
+const SHOWN: &str =
+    "    cpy_o = CPyInt64_Str(cpy_n);\n    CPy_Write(cpy_o);\n    CPy_DECREF(cpy_o);\n";
+
+const TRUTH: &str =
+    "    cpy_o = CPyBool_Str(cpy_d);\n    CPy_Write(cpy_o);\n    CPy_DECREF(cpy_o);\n";
+
+const GIVEN_UP: &str = "    CPy_DECREF(cpy_o);\n";
+
+/// Lines of the module, and what comes of them: output with the way in which the run ends, and the cells that are left.
+const LINES: &[(&[&str], &str)] = &[
+    (&[], "-- Done\n-- live 0\n"),
+    // moves and literals
+    (&["    cpy_p = cpy_o;\n"], "-- Done\n-- live 0\n"),
+    (
+        &[
+            MADE,
+            "    cpy_p = cpy_o;\n    CPy_Write(cpy_p);\n    CPy_DECREF(cpy_p);\n",
+        ],
+        "o\n-- Done\n-- live 0\n",
+    ),
+    (
+        &[MADE, GIVEN_UP, "    cpy_p = cpy_o;\n"],
+        "-- Fault Dead\n-- live 0\n",
+    ),
+    (
+        &[
+            "    cpy_i = 6;\n    cpy_n = -113;\n    cpy_o = Py_None;\n    cpy_o = Py_True;\n    cpy_o = Py_False;\n    cpy_o = NULL;\n",
+        ],
+        "-- Done\n-- live 0\n",
+    ),
+    // labels and jumps
+    (
+        &["    goto CPyL0;\n    cpy_d = 0;\n    return cpy_d;\nCPyL0: ;\n"],
+        "-- Done\n-- live 0\n",
+    ),
+    (
+        &[
+            "    cpy_d = 1;\n    if (cpy_d) goto CPyL1; else goto CPyL0;\nCPyL0: ;\n    return cpy_c;\nCPyL1: ;\n",
+        ],
+        "-- Done\n-- live 0\n",
+    ),
+    (
+        &[
+            "    cpy_d = 0;\n    if (cpy_d) goto CPyL0; else goto CPyL1;\nCPyL0: ;\n    return cpy_c;\nCPyL1: ;\n",
+        ],
+        "-- Done\n-- live 0\n",
+    ),
+    (
+        &["    if (cpy_d) goto CPyL0; else goto CPyL0;\nCPyL0: ;\n"],
+        "-- Fault Kind\n-- live 0\n",
+    ),
+    (
+        &[
+            "    if (cpy_o == NULL) goto CPyL1; else goto CPyL0;\nCPyL0: ;\n    return cpy_c;\nCPyL1: ;\n",
+        ],
+        "-- Done\n-- live 0\n",
+    ),
+    (
+        &[
+            "    cpy_n = -113;\n    if (cpy_n == -113) goto CPyL1; else goto CPyL0;\nCPyL0: ;\n    return cpy_c;\nCPyL1: ;\n",
+        ],
+        "-- Done\n-- live 0\n",
+    ),
+    (
+        &[
+            "    cpy_i = 0;\n    if (cpy_i == 1) goto CPyL0; else goto CPyL1;\nCPyL0: ;\n    return cpy_c;\nCPyL1: ;\n",
+        ],
+        "-- Done\n-- live 0\n",
+    ),
+    (
+        &[
+            MADE,
+            GIVEN_UP,
+            "    if (cpy_o == NULL) goto CPyL0; else goto CPyL1;\nCPyL0: ;\n    return cpy_c;\nCPyL1: ;\n",
+        ],
+        "-- Done\n-- live 0\n",
+    ),
+    // counts
+    (
+        &[MADE, "    CPy_INCREF(cpy_o);\n", GIVEN_UP, GIVEN_UP],
+        "-- Done\n-- live 0\n",
+    ),
+    (
+        &[MADE, "    CPy_INCREF(cpy_o);\n"],
+        "-- Fault Leak\n-- live 1\n-- Str 2\n",
+    ),
+    (
+        &[MADE, GIVEN_UP, "    CPy_INCREF(cpy_o);\n"],
+        "-- Fault Dead\n-- live 0\n",
+    ),
+    (&["    CPy_INCREF(cpy_o);\n"], "-- Fault Kind\n-- live 0\n"),
+    (
+        &["    CPyTagged_INCREF(cpy_i);\n"],
+        "-- Fault Kind\n-- live 0\n",
+    ),
+    (
+        &[
+            "    cpy_i = 8;\n    CPyTagged_INCREF(cpy_i);\n    CPyTagged_DECREF(cpy_i);\n    CPyTagged_XDECREF(cpy_i);\n",
+        ],
+        "-- Done\n-- live 0\n",
+    ),
+    (
+        &[
+            "    cpy_o = Py_None;\n    CPy_INCREF(cpy_o);\n    CPy_DECREF(cpy_o);\n    CPy_XDECREF(cpy_o);\n",
+        ],
+        "-- Done\n-- live 0\n",
+    ),
+    (&[GIVEN_UP], "-- Fault Kind\n-- live 0\n"),
+    (&[MADE, GIVEN_UP, GIVEN_UP], "-- Fault Dead\n-- live 0\n"),
+    (
+        &["    CPy_XDECREF(cpy_o);\n    CPyTagged_XDECREF(cpy_i);\n"],
+        "-- Done\n-- live 0\n",
+    ),
+    (&[MADE, "    CPy_XDECREF(cpy_o);\n"], "-- Done\n-- live 0\n"),
+    (
+        &[MADE, GIVEN_UP, "    CPy_XDECREF(cpy_o);\n"],
+        "-- Fault Dead\n-- live 0\n",
+    ),
+    // calls of functions, and returns
+    (
+        &[
+            "    cpy_n = 4;\n    cpy_d = 0;\n    cpy_n = CPyDef_twice(cpy_n, cpy_d);\n",
+            SHOWN,
+        ],
+        "8-- Done\n-- live 0\n",
+    ),
+    (
+        &["    cpy_d = 1;\n    CPyDef_twice(cpy_n, cpy_d);\n"],
+        "-- Done\n-- live 0\n",
+    ),
+    (
+        &["    cpy_n = CPyDef_twice(cpy_n, cpy_d);\n"],
+        "-- Fault Kind\n-- live 0\n",
+    ),
+    (
+        &["    cpy_p = CPyDef_back(cpy_o);\n"],
+        "-- Fault Kind\n-- live 0\n",
+    ),
+    (
+        &[MADE, GIVEN_UP, "    cpy_p = CPyDef_back(cpy_o);\n"],
+        "-- Fault Dead\n-- live 0\n",
+    ),
+    (
+        &[MADE, "    cpy_p = CPyDef_back(cpy_o);\n"],
+        "-- Fault NotOwned\n-- live 1\n-- Str 1\n",
+    ),
+    (
+        &["    cpy_o = Py_None;\n    cpy_p = CPyDef_back(cpy_o);\n    CPy_INCREF(cpy_p);\n"],
+        "-- Done\n-- live 0\n",
+    ),
+    (
+        &["    cpy_p = CPyDef_none();\n"],
+        "-- Fault Kind\n-- live 0\n",
+    ),
+    (
+        &["    cpy_d = CPyDef_keeps();\n"],
+        "-- Fault Leak\n-- live 1\n-- Str 1\n",
+    ),
+    (
+        &["    cpy_p = CPyDef_gone();\n"],
+        "-- Fault Dead\n-- live 0\n",
+    ),
+    (&[MADE], "-- Fault Leak\n-- live 1\n-- Str 1\n"),
+    (&["    return cpy_d;\n"], "-- Fault Kind\n-- live 0\n"),
+    (
+        &[MADE, "    cpy_d = 0;\n    return cpy_d;\n"],
+        "-- Fault Kind\n-- live 1\n-- Str 1\n",
+    ),
+    // native integers
+    (
+        &[
+            "    cpy_n = 9223372036854775807;\n    cpy_m = 1;\n    cpy_n = CPyInt64_Add(cpy_n, cpy_m);\n",
+            SHOWN,
+        ],
+        "-9223372036854775808-- Done\n-- live 0\n",
+    ),
+    (
+        &[
+            "    cpy_n = -9223372036854775808;\n    cpy_m = 1;\n    cpy_n = CPyInt64_Subtract(cpy_n, cpy_m);\n",
+            SHOWN,
+        ],
+        "9223372036854775807-- Done\n-- live 0\n",
+    ),
+    (
+        &[
+            "    cpy_n = 4611686018427387905;\n    cpy_m = -2;\n    cpy_n = CPyInt64_Multiply(cpy_n, cpy_m);\n",
+            SHOWN,
+        ],
+        "9223372036854775806-- Done\n-- live 0\n",
+    ),
+    (
+        &["    cpy_n = CPyInt64_Negate(cpy_n);\n", SHOWN],
+        "113-- Done\n-- live 0\n",
+    ),
+    (
+        &[
+            "    cpy_n = -9223372036854775808;\n    cpy_n = CPyInt64_Negate(cpy_n);\n",
+            SHOWN,
+        ],
+        "-9223372036854775808-- Done\n-- live 0\n",
+    ),
+    (
+        &[
+            "    cpy_d = 1;\n    cpy_n = CPyInt64_FromBool(cpy_d);\n",
+            SHOWN,
+        ],
+        "1-- Done\n-- live 0\n",
+    ),
+    (
+        &["    cpy_n = CPyInt64_FromBool(cpy_d);\n"],
+        "-- Fault Kind\n-- live 0\n",
+    ),
+    (
+        &[
+            "    cpy_m = -113;\n    cpy_d = CPyInt64_Eq(cpy_n, cpy_m);\n",
+            TRUTH,
+        ],
+        "True-- Done\n-- live 0\n",
+    ),
+    (
+        &[
+            "    cpy_m = 2;\n    cpy_d = CPyInt64_Eq(cpy_n, cpy_m);\n",
+            TRUTH,
+        ],
+        "False-- Done\n-- live 0\n",
+    ),
+    (
+        &[
+            "    cpy_n = -1;\n    cpy_m = 1;\n    cpy_d = CPyInt64_Lt(cpy_n, cpy_m);\n",
+            TRUTH,
+        ],
+        "True-- Done\n-- live 0\n",
+    ),
+    (
+        &[
+            "    cpy_n = 1;\n    cpy_m = -1;\n    cpy_d = CPyInt64_Lt(cpy_n, cpy_m);\n",
+            TRUTH,
+        ],
+        "False-- Done\n-- live 0\n",
+    ),
+    (
+        &[
+            "    cpy_n = -1;\n    cpy_m = -1;\n    cpy_d = CPyInt64_Le(cpy_n, cpy_m);\n",
+            TRUTH,
+        ],
+        "True-- Done\n-- live 0\n",
+    ),
+    (
+        &[
+            "    cpy_n = 1;\n    cpy_m = -1;\n    cpy_d = CPyInt64_Le(cpy_n, cpy_m);\n",
+            TRUTH,
+        ],
+        "False-- Done\n-- live 0\n",
+    ),
+    (
+        &["    cpy_o = CPyInt64_Str(cpy_n);\n"],
+        "-- Fault Leak\n-- live 1\n-- Str 1\n",
+    ),
+    // truths
+    (
+        &["    cpy_d = 0;\n    cpy_d = CPyBool_Not(cpy_d);\n", TRUTH],
+        "True-- Done\n-- live 0\n",
+    ),
+    (
+        &["    cpy_d = CPyBool_Not(cpy_d);\n"],
+        "-- Fault Kind\n-- live 0\n",
+    ),
+    (&[TRUTH], "-- Fault Kind\n-- live 0\n"),
+    // texts
+    (
+        &["    cpy_o = Py_None;\n    CPy_Write(cpy_o);\n"],
+        "-- Fault Kind\n-- live 0\n",
+    ),
+    (&["    CPy_Write(cpy_o);\n"], "-- Fault Kind\n-- live 0\n"),
+    (
+        &[MADE, GIVEN_UP, "    CPy_Write(cpy_o);\n"],
+        "-- Fault Dead\n-- live 0\n",
+    ),
+];
+
+#[test]
+fn functions_are_run(rt: HostRuntime) -> Result<(), Fail> {
+    for (parts, out, err, number) in FUNCTIONS {
+        let text = joined(rt.alloc(), parts)?;
+        let given = command(rt.alloc(), &["--emit=runc", "t.py"], text.as_bytes(), CALM)?;
+        check_given(&rt, &given, out, err, *number);
+    }
+    Ok(())
+}
+
+#[test]
+fn lines_are_run(rt: HostRuntime) -> Result<(), Fail> {
+    let alloc = rt.alloc();
+    for (parts, out) in LINES {
+        let mut text = joined(alloc, &[FIRST_LINE, HELPERS, VARS])?;
+        text.push_str(joined(alloc, parts)?.as_str())?;
+        text.push_str(END)?;
+        let given = command(alloc, &["--emit=runc", "t.py"], text.as_bytes(), CALM)?;
+        let (err, number) = if out.contains("-- Done") {
+            ("", 0)
+        } else {
+            (OWNERSHIP, 10)
+        };
+        check_given(&rt, &given, out, err, number);
+    }
+    Ok(())
+}
+
+/// A loop that writes a line each time round and never ends, a function that calls itself for ever, and one turn.
+const FOREVER: &str = r#"/* mypyc subset 1 */
+char CPyModule(void) {
+    PyObject *cpy_o;
+CPyL0: ;
+    cpy_o = CPyStr_Literal("o\n");
+    CPy_Write(cpy_o);
+    CPyTurn();
+    goto CPyL0;
+}
+"#;
+
+const DEEPER: &str = r#"/* mypyc subset 1 */
+char CPyDef_f(int64_t cpy_n) {
+    char cpy_c;
+    CPyTurn();
+    cpy_c = CPyDef_f(cpy_n);
+    return cpy_c;
+}
+char CPyModule(void) {
+    int64_t cpy_n;
+    char cpy_c;
+    cpy_c = CPyDef_f(cpy_n);
+    return cpy_c;
+}
+"#;
+
+const ONCE: &str = r#"/* mypyc subset 1 */
+char CPyModule(void) {
+    char cpy_c;
+    CPyTurn();
+    cpy_c = 1;
+    return cpy_c;
+}
+"#;
+
+/// Texts for some turns.
+const TURNS: &[(&str, &str, &str, &str, u8)] = &[
+    (
+        "--turns=0",
+        FOREVER,
+        "o\n-- Cut\n-- live 1\n-- Str 1\n",
+        "mypyc: out of turns, 1 live cells\n",
+        8,
+    ),
+    (
+        "--turns=2",
+        FOREVER,
+        "o\no\no\n-- Cut\n-- live 3\n-- Str 1\n-- Str 1\n-- Str 1\n",
+        "mypyc: out of turns, 3 live cells\n",
+        8,
+    ),
+    (
+        "--turns=0",
+        ONCE,
+        "-- Cut\n-- live 0\n",
+        "mypyc: out of turns, 0 live cells\n",
+        8,
+    ),
+    ("--turns=1", ONCE, "-- Done\n-- live 0\n", "", 0),
+    (
+        "--turns=0",
+        DEEPER,
+        "-- Cut\n-- live 0\n",
+        "mypyc: out of turns, 0 live cells\n",
+        8,
+    ),
+    (
+        "--turns=100000",
+        DEEPER,
+        "-- Cut\n-- live 0\n",
+        "mypyc: out of turns, 0 live cells\n",
+        8,
+    ),
+];
+
+#[test]
+fn turns_run_out(rt: HostRuntime) -> Result<(), Fail> {
+    for (turns, text, out, err, number) in TURNS {
+        let words = ["--emit=runc", *turns, "t.py"];
+        let given = command(rt.alloc(), &words, text.as_bytes(), CALM)?;
+        check_given(&rt, &given, out, err, *number);
+    }
+    Ok(())
+}
+
 const UNBUILT: &str =
     "t.py:2: error: Form is not built yet  [unbuilt]\nFound 1 error in 1 file (checked 1 source file)\n";
 
