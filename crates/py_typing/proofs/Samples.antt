@@ -19,7 +19,7 @@ use Rattle.py_scope.specs.declared.scope.Imported.TheVariants as imported
 use Rattle.py_scope.specs.Context.{Context, VarSorts, unset, untyped, has, free, test, wants, dropped}
 use Rattle.py_messages.specs.Seen.{Seen, diag, is, silent, fails}
 use Rattle.py_messages.specs.Messages.{not_defined, not_a_value, no_type_yet, unsupported_operand, unsupported_operands, only_for_none, no_common_type, wrong_item, empty_display, no_common_item, invalid_tuple, no_attribute, not_indexable, tuple_index, invalid_index, keyword_argument, not_callable, range_outside_for, wrong_number, wrong_argument, gives_nothing}
-use Rattle.py_check.specs.Typing.{typing}
+use Rattle.py_typing.specs.Typing.{typing}
 
 -- all at one place
 abbrev p : Span

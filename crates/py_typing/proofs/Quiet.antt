@@ -21,7 +21,7 @@ use Rattle.py_displays.specs.Displays.{item_sort, items_row, parts_row}
 use Rattle.py_calls.specs.Callees.{Callee, function, print, input, range, single, method, unknown, voiceless, uncalled, value, callee, has_key, is_named, is_variable, name_called}
 use Rattle.py_messages.specs.Messages.{range_outside_for, not_callable}
 use Rattle.py_calls.specs.Calls.{arguments_row, positional, no_keys, refused, called}
-use Rattle.py_check.specs.Typing.{typing, node_typing, items, operands, arguments, part, receiver, count}
+use Rattle.py_typing.specs.Typing.{typing, node_typing, items, operands, arguments, part, receiver, count}
 
 pub record IsQuiet {A : Type 0} (s : Seen A) : Type 0 where
   pub says : (a : A) → s.got ≡ Some a → s.said ≡ []

@@ -3,7 +3,7 @@ use Rattle.std.specs.Prelude.{◌≡◌, ℕ, List, [], Some}
 use Rattle.py_syntax.specs.Expressions.{ExprTree}
 use Rattle.py_typed.specs.Expressions.{TypedExpr}
 use Rattle.py_scope.specs.Context.{Context, VarSorts, Wanted}
-use Rattle.py_check.specs.Typing.{typing}
+use Rattle.py_typing.specs.Typing.{typing}
 
 -- where an expression is typed, nothing is said of it and of its parts
 abbrev pub TypedIsQuiet : Type 0
