@@ -1,5 +1,5 @@
-//! Tests of the public calls of the other crates, of what their contracts do not say: values from outside, texts that
-//! are printed, and objects whose calls fail.
+//! Tests of the public calls of the crates from the C text to the command, of what their contracts do not say: values
+//! from outside, texts that are printed, and objects whose calls fail.
 //!
 //! They stand in a crate of their own, since a crate with tests is proved twice. Each file has the name of the crate
 //! that it tests. Like cases are rows of one table, and one `check` in a loop over it tells them.
@@ -31,33 +31,3 @@ mod mypyc_top_source_tests;
 mod mypyc_top_tests;
 #[cfg(test)]
 mod mypyc_top_words_tests;
-#[cfg(test)]
-mod outside_core_tests;
-#[cfg(test)]
-mod py_annotations_tests;
-#[cfg(test)]
-mod py_binder_tests;
-#[cfg(test)]
-mod py_flow_tests;
-#[cfg(test)]
-mod py_grammar_tests;
-#[cfg(test)]
-mod py_lexer_tests;
-#[cfg(test)]
-mod py_messages_tests;
-#[cfg(test)]
-mod py_parser_tables;
-#[cfg(test)]
-mod py_parser_tests;
-#[cfg(test)]
-mod py_typed_tests;
-#[cfg(test)]
-mod slot_arena_tests;
-#[cfg(test)]
-mod tree_text;
-#[cfg(test)]
-mod value_core_class_tests;
-#[cfg(test)]
-mod value_core_tests;
-#[cfg(test)]
-mod value_core_text_tests;

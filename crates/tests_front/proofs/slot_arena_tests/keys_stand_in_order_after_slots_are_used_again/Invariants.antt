@@ -1,6 +1,6 @@
 use Rattle.std.proofs.Common.{◌≤◌, ◌+◌}
 use Rattle.slot_arena.specs.Contents.{inserts}
-use Rattle.tests.proofs.slot_arena_tests.keys_stand_in_order_after_slots_are_used_again.Given as goal
+use Rattle.tests_front.proofs.slot_arena_tests.keys_stand_in_order_after_slots_are_used_again.Given as goal
 
 abbrev pub invariant-loop-place : goal.invariant-loop-place
 invariant-loop-place g l = inserts l.arena ≤ 100
