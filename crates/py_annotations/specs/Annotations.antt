@@ -5,7 +5,7 @@
 -- `None` is a type of what is returned alone.
 --
 -- The fault of what is no type stands at that part, and nothing is said of what holds it. Of an expression of no such form only
--- the unknown names have faults, and where there is none the whole has one.
+-- the unknown names have faults; without such a name there is one fault, of the whole.
 use Rattle.std.specs.Prelude.{ℕ, Bool, true, false, ◌&&◌, if◌then◌else◌, List, [], Option, Some, None, Result}
 use Rattle.std.specs.Option.{ok_or}
 use Rattle.py_syntax.specs.declared.token.Span.{Span}

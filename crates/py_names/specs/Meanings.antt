@@ -1,7 +1,7 @@
 -- What a name means in a module or in a function, by its role there.
 --
--- A variable is known by its number: those of a module by their first sight in the module's own statements, those of a
--- function by their first sight there, its parameters first.
+-- A variable is known by its number. A module's are numbered as they first come up in its own statements; a function's are its
+-- parameters, and then the others as they first come up in its body.
 use Rattle.std.specs.Prelude.{ℕ, Bool, true, false, List, map, filter, Option, unwrap_or}
 use Rattle.std.specs.List.{position_or_len}
 use Rattle.std.specs.Map.{lookup}

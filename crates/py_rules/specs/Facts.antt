@@ -1,7 +1,7 @@
 -- What a test tells of a function's own names: those that are not None where it comes out true, or where it comes out false
 -- (mypy's guide, "Union types": narrowing by `is None` and `is not None`).
 --
--- A test is looked at as it is written, whatever its type. `x is not None` tells of x where it is true, and `x is None` where
+-- What a test tells of a name is seen by its form alone, whatever its type. `x is not None` tells of x where it is true, and `x is None` where
 -- it is false; `not` swaps; both operands of `and` are true where it is, and both of `or` are false where it is; else an
 -- operand alone decides, and what both would tell is told.
 use Rattle.std.specs.Prelude.{ℕ, Bool, true, false, not, ◌&&◌, List, [], ◌∷◌, ◌++◌, if◌then◌else◌}
