@@ -1,5 +1,5 @@
 -- The first form without typing rules in small modules.
-use Rattle.std.proofs.Common.{◌≡◌, refl, ℕ, List, [], ◌∷◌, Option, Some, None, codes}
+use Rattle.std.proofs.Common.{◌≡◌, refl, ℕ, List, [], ◌∷◌, Some, None, codes}
 use Rattle.py_syntax.specs.declared.token.Span.{Span}
 use Rattle.py_syntax.specs.Expressions as e
 use Rattle.py_syntax.specs.Expressions.{ExprTree}
@@ -7,17 +7,17 @@ use Rattle.py_syntax.specs.Statements as s
 use Rattle.py_syntax.specs.Statements.{StmtTree, suite_of}
 use Rattle.py_forms.specs.Later.{later_line}
 
-on : ℕ → Span
-on n = record { line = n; column = 1 }
+abbrev on : ℕ → Span
+on n = record { line = n; col = 1 }
 
-name : ℕ → List ℕ → ExprTree
+abbrev name : ℕ → List ℕ → ExprTree
 name n x = e.at (e.Name x) (on n)
 
 -- x.append on line n
-method : ℕ → ExprTree
+abbrev method : ℕ → ExprTree
 method n = e.at (e.Attr (name n (codes "x")) (codes "append")) (on n)
 
-doing : ℕ → ExprTree → StmtTree
+abbrev doing : ℕ → ExprTree → StmtTree
 doing n a = s.at (s.Do a) (on n)
 
 -- x.append()

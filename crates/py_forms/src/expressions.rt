@@ -15,13 +15,7 @@ pub fn lesser(line: usize, found: Option<usize>) -> usize
 {
     match found {
         None => line,
-        Some(other) => {
-            if other < line {
-                other
-            } else {
-                line
-            }
-        }
+        Some(other) => { if other < line { other } else { line } }
     }
 }
 
@@ -96,7 +90,10 @@ pub(crate) fn in_expression(e: &Expr, called: bool, found: Option<usize>) -> Opt
         ExprKind::Plus(a) => in_expression(a, false, found),
         ExprKind::Not(a) => in_expression(a, false, found),
         ExprKind::Bin(_, a, b) => in_expression(b, false, in_expression(a, false, found)),
-        ExprKind::Compare(a, more) => in_comparisons(more.as_slice(), in_expression(a, false, found)),
+        ExprKind::Compare(a, more) => in_comparisons(
+            more.as_slice(),
+            in_expression(a, false, found),
+        ),
         ExprKind::And(a, b) => in_expression(b, false, in_expression(a, false, found)),
         ExprKind::Or(a, b) => in_expression(b, false, in_expression(a, false, found)),
         ExprKind::Cond(a, test, b) => {
@@ -108,7 +105,10 @@ pub(crate) fn in_expression(e: &Expr, called: bool, found: Option<usize>) -> Opt
         ExprKind::Tuple(items) => in_row(items.as_slice(), found),
         ExprKind::Attr(a, _) => in_expression(a, false, found),
         ExprKind::Index(a, i) => in_expression(i, false, in_expression(a, false, found)),
-        ExprKind::Call(callee, arguments) => in_arguments(arguments.as_slice(), in_expression(callee, true, found)),
+        ExprKind::Call(callee, arguments) => in_arguments(
+            arguments.as_slice(),
+            in_expression(callee, true, found),
+        ),
         ExprKind::Name(_) => found,
         ExprKind::Int(_) => found,
         ExprKind::Str(_) => found,
@@ -184,7 +184,10 @@ pub(crate) fn in_list(items: &[Expr], found: Option<usize>) -> Option<usize>
 }
 
 /// In the annotations of parameters.
-pub(crate) fn in_parameters(parameters: &[(Name, Option<Expr>)], found: Option<usize>) -> Option<usize>
+pub(crate) fn in_parameters(
+    parameters: &[(Name, Option<Expr>)],
+    found: Option<usize>,
+) -> Option<usize>
     ensures { result ≡ find.parameter_least found (map param_tree parameters.now) }
 {
     let mut found = found;

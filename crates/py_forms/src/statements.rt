@@ -52,7 +52,10 @@ fn in_statement(s: &Stmt, found: Option<usize>) -> Option<usize>
     match &s.kind {
         StmtKind::Expr(a) => in_expression(a, false, found),
         StmtKind::Assign(to, a) => in_expression(a, false, in_expression(to, false, found)),
-        StmtKind::Annot(to, mark, a) => in_maybe(a, in_expression(mark, false, in_expression(to, false, found))),
+        StmtKind::Annot(to, mark, a) => in_maybe(
+            a,
+            in_expression(mark, false, in_expression(to, false, found)),
+        ),
         StmtKind::Aug(to, _, a) => in_expression(a, false, in_expression(to, false, found)),
         StmtKind::Del(a) => in_expression(a, false, found),
         StmtKind::Return(a) => in_maybe(a, found),
