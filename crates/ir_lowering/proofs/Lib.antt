@@ -1,0 +1,13 @@
+pub mod ListLemmas
+pub mod LayoutLemmas
+pub mod NameLemmas
+pub mod Fitting
+pub mod Facts
+pub mod Relation
+pub mod Reading
+pub mod OperationLemmas
+pub mod PrintLemmas
+pub mod CallLemmas
+pub mod EndLemmas
+pub mod Whole
+pub mod Samples
