@@ -1,2 +1,5 @@
 pub mod Quiet
+pub mod NodeLemmas
+pub mod RowLemmas
+pub mod SizeLemmas
 mod Samples
