@@ -154,7 +154,7 @@ fn first_itemless<'a>(slots: &[Slot<'a>]) -> Option<&'a Ty>
 }
 
 /// The types of a tuple's items, if there are so many.
-fn items_for(s: &Ty, n: usize) -> Option<&[Ty]>
+pub fn items_for(s: &Ty, n: usize) -> Option<&[Ty]>
     ensures { option_map (map sort) (option_copied result) ≡ rule_of.items_for (sort s.now) n }
 {
     match s {
@@ -170,7 +170,7 @@ fn as_many(ts: &[Ty], n: usize) -> Option<&[Ty]>
 }
 
 /// The first item's type that does not fit its target, with the target's.
-fn first_misfit<'a>(
+pub fn first_misfit<'a>(
     classes: &Classes,
     slots: &[Slot<'a>],
     items: &'a [Ty],

@@ -48,7 +48,7 @@ pub fn arguments_row<'a>(callee: Callee<'a>, part: &'a Option<Box<TExpr>>) -> Ro
 }
 
 /// The arguments, where none has a key.
-pub(crate) fn positional(
+pub fn positional(
     alloc: Global,
     span: Span,
     keyed: bool,

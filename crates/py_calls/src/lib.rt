@@ -10,7 +10,7 @@ mod callees;
 mod calls;
 mod methods;
 
-pub use arguments::{arguments_row, has_key};
+pub use arguments::{arguments_row, has_key, positional};
 pub use callees::{Callee, Single, callee_of, is_named};
 pub use calls::called;
 pub use methods::attribute;

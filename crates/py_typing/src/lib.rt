@@ -10,4 +10,4 @@ mod leaves;
 mod nodes;
 
 pub use laws::what_is_typed_has_said_nothing;
-pub use nodes::expression;
+pub use nodes::{arguments, expression};

@@ -452,9 +452,10 @@ fn receiver(
     }
 }
 
-// The arguments of a call.
+/// The arguments of a call, each typed for what the row asks at its place; their keys are not looked at
+/// (Python Language Reference, "Calls").
 #[cycle(expression)]
-fn arguments(
+pub fn arguments(
     alloc: Global,
     scope: &Scope<'_>,
     vars: &Variables,
