@@ -1,13 +1,15 @@
-// A library with one function.
+//! From typed expressions to intermediate code: those of native integers and bools, and calls.
+//!
+//! `is_compiled_expression` tells which expressions are compiled (`specs/Compiled.antt`), and `specs/Suiting.antt` says what
+//! is asked of one that is built. `emit_expression` and `emit_operand` add its code; `specs/Emitting.antt` says what that
+//! code does: what the source does, with the value or its number left in a register.
 #![tactic(auto)]
 
-ghost use Rattle.std.specs.Prelude.{◌≡◌};
-ghost use Rattle.ir_expressions.specs.Echo.{echo_of};
+mod choice;
+mod compiled;
+mod expression;
+mod operations;
 
-// The `ensures` clause is the contract: what `echo` returns is `echo_of` of its argument, a definition
-// in `specs/Echo.antt`, which a caller's clause can cite too.
-pub fn echo(x: usize) -> usize
-    ensures { result ≡ echo_of x }
-{
-    x
-}
+pub use compiled::{is_compiled_expression, is_operand_compiled};
+pub use expression::{emit_expression, emit_operand};
+pub use operations::emit_arithmetic;

@@ -64,6 +64,12 @@ module _ (p : Program) where
   ends_more t c (Raises v s) R S E F f g h = (h.0, h.1, h.2, g v s h.1 h.3)
   ends_more t c (Stops w s) R S E F f g h = h
 
+  -- and a few more steps behind a value and behind an exception
+  pub ends_both : {A : Type 0} (t : ℕ) (c : Config) (res : Outcome A) (R S : A → State → Config → Type 0) (E F : Value → State → Config → Type 0) → ((a : A) (s : State) (d : Config) → R a s d → (e : Config) × Leads p d e × S a s e) → ((v : Value) (s : State) (d : Config) → E v s d → (e : Config) × Leads p d e × F v s e) → Ends p t c res R E → Ends p t c res S F
+  ends_both t c (Gives a s) R S E F f g h = let n = f a s h.1 h.3 in (h.0, n.0, leads_trans c h.1 n.0 h.2 n.1, n.2)
+  ends_both t c (Raises v s) R S E F f g h = let n = g v s h.1 h.3 in (h.0, n.0, leads_trans c h.1 n.0 h.2 n.1, n.2)
+  ends_both t c (Stops w s) R S E F f g h = h
+
 pub on_assoc : {A B C : Type 0} (r : Outcome A) (f : A → Does B) (g : B → Does C) → on_to (on_to r f) g ≡ on_to r (λ a s. on_to (f a s) g)
 on_assoc (Gives a s) f g = refl
 on_assoc (Raises v s) f g = refl

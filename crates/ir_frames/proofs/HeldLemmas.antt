@@ -38,7 +38,7 @@ closed_extends b c l e = let P : Building → Type 0 = λ v. Extends b v in subs
 
 -- ---- registers and their types
 
-get_below : {A : Type 0} (xs : List A) (k : ℕ) (x : A) → slice_get xs k ≡ Some x → k < length xs
+pub get_below : {A : Type 0} (xs : List A) (k : ℕ) (x : A) → slice_get xs k ≡ Some x → k < length xs
 get_below [] k x e = let f : None ≡ Some x = e in absurd (cc)
 get_below (y ∷ xs) zero x e = omega arith
 get_below (y ∷ xs) (suc k) x e = omega (arith, get_below xs k x e)

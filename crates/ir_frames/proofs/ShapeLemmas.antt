@@ -5,9 +5,22 @@ use Rattle.ir_core.specs.declared.code.Op.{Op}
 use Rattle.ir_core.specs.declared.code.Last.{Last}
 use Rattle.ir_core.specs.declared.code.Last.TheVariants.{Goto, If, IfError, Return, Unreachable}
 use Rattle.ir_core.specs.declared.code.RType.{RType}
+use Rattle.ir_core.specs.declared.code.Reg.{Reg}
+use Rattle.ir_core.specs.declared.code.PArg.{PArg}
+use Rattle.ir_core.specs.declared.code.PArg.TheVariants.{Var, Number, Text, Global, Class}
+use Rattle.ir_core.specs.declared.code.Op.TheVariants.{Prim, Call}
+use Rattle.c_core.specs.declared.primitive.Primitive.{Primitive}
+use Rattle.c_core.specs.Primitives.{Outcome, Nothing, Owned, row_of}
+use Rattle.std.proofs.Common.{Bool, true, false, nat_eq}
+use Rattle.std.proofs.lemmas.Bool.{ne_eqb}
+use Rattle.std.specs.Prelude.{IsTrue, not, ◌&&◌, ◌||◌}
+use Rattle.std.specs.List.{list_any}
+use Rattle.ir_core.specs.Rows.{Failing, NeverFails, MayFail, AlwaysFails, failing}
+use Rattle.ir_core.specs.Shape.{is_target_of, is_register, is_argument}
 use Rattle.ir_core.specs.Building.{Building, with_last}
 use Rattle.ir_core.specs.Laws.{added, pushed, closed}
-use Rattle.ir_frames.specs.Shaped.{OpFits, OpsFit, Higher, GoesOn, EndFits, AllFit, Shaped, KeepsIf, Keeps}
+use Rattle.ir_frames.specs.Placing.{where_it_may}
+use Rattle.ir_frames.specs.Shaped.{Above, AreBelow, AllBelow, OpFits, OpsFit, Higher, GoesOn, EndFits, AllFit, Shaped, KeepsIf, Keeps}
 
 on_fits : (n m k : ℕ) (ops : List (Op × ℕ)) (l : Last) → GoesOn n m k l → EndFits n m k ops l
 on_fits n m k ops (Goto t) g = (inl g.0, g.1)
@@ -58,3 +71,40 @@ push_either (Err x) b c o e f n m fit s = kept_shaped n m b c f s
 pub close_either : {A E : Type 0} (res : Result A E) (b c : Building) (l : Last) → OnOk res (c ≡ closed b l) → OnErr res (c ≡ b) → KeepsIf (λ n m. EndFits n m (length b.blocks) b.ops l) b c
 close_either (Ok k) b c l e f n m fit s = close_shaped n m b c l e fit s
 close_either (Err x) b c l e f n m fit s = kept_shaped n m b c f s
+
+-- ---- operations with a register of their own
+
+target_any : (o : Outcome) (r s : Reg) → IsTrue (is_target_of o (Some r)) → IsTrue (is_target_of o (Some s))
+target_any Nothing r s h = h
+target_any (Owned k) r s h = h
+
+other_than : (r n : ℕ) → n < r → nat_eq r n ≡ false
+other_than r n lt = ne_eqb r n (λ e. omega arith)
+
+none_is : (r : Reg) (args : List PArg) → AreBelow r.0 args → list_any (is_argument r) args ≡ false
+none_is r [] h = refl
+none_is r (Var x ∷ args) h = ap (λ b. b || list_any (is_argument r) args) (other_than r.0 x.0 h.0) ∙ none_is r args h.1
+none_is r (Number n ∷ args) h = absurd h
+none_is r (Text t ∷ args) h = absurd h
+none_is r (Global g ∷ args) h = absurd h
+none_is r (Class c ∷ args) h = absurd h
+
+none_is_reg : (r : Reg) (args : List Reg) → AllBelow r.0 args → list_any (is_register r) args ≡ false
+none_is_reg r [] h = refl
+none_is_reg r (x ∷ args) h = ap (λ b. b || list_any (is_register r) args) (other_than r.0 x.0 h.0) ∙ none_is_reg r args h.1
+
+above_where : (f : Failing) (n r : ℕ) → n ≤ r → Above n (where_it_may f r)
+above_where NeverFails n r le = tt
+above_where MayFail n r le = le
+above_where AlwaysFails n r le = tt
+
+both_true : (a b : Bool) → IsTrue a → b ≡ true → IsTrue (a && b)
+both_true true b h e = e
+both_true false b h e = h
+
+pub primitive_fits : (n m : ℕ) (r : Reg) (q : Primitive) (args : List PArg) → n ≤ m → r.0 ≡ m → IsTrue (is_target_of (row_of q).outcome (Some record { 0 = 0 })) → AreBelow m args → OpFits n (Prim (Some r) q args)
+primitive_fits n m r q args le is target below =
+    (above_where (failing q) n r.0 (omega arith), both_true (is_target_of (row_of q).outcome (Some r)) (not (list_any (is_argument r) args)) (target_any (row_of q).outcome (record { 0 = 0 }) r target) (ap not (none_is r args (subst (λ k. AreBelow k args) (sym is) below))))
+
+pub call_fits : (n m g : ℕ) (r : Reg) (args : List Reg) → n ≤ m → r.0 ≡ m → AllBelow m args → OpFits n (Call r g args)
+call_fits n m g r args le is below = ((omega arith), ap not (none_is_reg r args (subst (λ k. AllBelow k args) (sym is) below)))

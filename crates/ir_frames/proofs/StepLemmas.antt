@@ -28,7 +28,7 @@ use Rattle.ir_core.proofs.StepLemmas.{put_same, put_other, op_step, lit_step, mo
 use Rattle.ir_frames.specs.Placing.{HasType, Has}
 use Rattle.ir_frames.specs.Calling.{Adds, Pushes}
 use Rattle.ir_frames.specs.Coming.{world, running, Leads}
-use Rattle.ir_frames.specs.Computing.{Makes}
+use Rattle.ir_frames.specs.Computing.{Makes, OfOne, OfTwo}
 use Rattle.ir_frames.proofs.HeldLemmas.{extends_trans, has_less, type_has, type_below, type_kept, adds_has, pushes_has}
 use Rattle.ir_frames.proofs.ComingLemmas.{leads_step, leads_trans, leads_as}
 
@@ -44,14 +44,11 @@ one_argument declared regs x v e = rw e refl
 two_arguments : (declared : Declared) (regs : Regs) (x y : ℕ) (u v : Value) → read declared regs (record { 0 = x }) ≡ Some u → read declared regs (record { 0 = y }) ≡ Some v → arguments declared regs (Var record { 0 = x } ∷ Var record { 0 = y } ∷ []) ≡ Some (Given u ∷ Given v ∷ [])
 two_arguments declared regs x y u v e f = rw (e, f) refl
 
-never_edge : (declared : Declared) (r : Reg) (q : Primitive) → failing q ≡ NeverFails → edge_of_prim declared (Some r) q ≡ NoEdge
-never_edge declared r q e = ap (λ (f : Failing). edge_of_kind (kind_by f (type_of_reg declared r)) (Some r)) e
-
 module _ (p : Program) (fn k i : ℕ) (regs : Regs) (below : List Waiting) (s : State) where
   prim_step : (r : ℕ) (q : Primitive) (args : List PArg) (t : RType) (xs : List Argument) (v : Value) → item_at p fn k i ≡ Some (Do (Prim (Some record { 0 = r }) q args)) → type_of_reg (registers_of p fn) (record { 0 = r }) ≡ Some t → arguments (registers_of p fn) regs args ≡ Some xs → failing q ≡ NeverFails → effect p q xs (world None s) ≡ Gives v (world None s) → step Strict p (running fn k i regs below (world None s)) ≡ running fn k (i + 1) (put regs r (Holds v)) below (world None s)
   prim_step r q args t xs v at type given never does =
       op_step Strict p (record { fn = fn; block = k; place = i; regs = regs }) below (world None s) (Prim (Some record { 0 = r }) q args) at
-      ∙ rw (given, does, type, never_edge (registers_of p fn) (record { 0 = r }) q never) refl
+      ∙ rw (given, does, type, never) refl
 
 -- a new register, by one step
 adds_makes : (b c : Building) (r : ℕ) (t : RType) (o : Op) (from : Regs → Held → Type 0) → Adds b c r t o → ((p : Program) (fn : ℕ) → Has p fn c → (regs : Regs) (below : List Waiting) (s : State) (h : Held) → from regs h → step Strict p (running fn (length b.blocks) (length b.ops) regs below (world None s)) ≡ running fn (length b.blocks) (length b.ops + 1) (put regs r h) below (world None s)) → Makes b c r t from
@@ -68,23 +65,6 @@ adds_makes b c r t o from a does = record {
 pub literal_makes : (b c : Building) (r : ℕ) (t : RType) (l : Literal) (held : Held) → Adds b c r t (Lit record { 0 = r } l) → literal_of t l ≡ Some held → Makes b c r t (λ regs h. h ≡ held)
 literal_makes b c r t l held a is = adds_makes b c r t _ _ a (λ p fn has regs below s h f.
     lit_step Strict p (record { fn = fn; block = length b.blocks; place = length b.ops; regs = regs }) below (world None s) (record { 0 = r }) l t h (adds_has p fn b c r t _ a has) (type_has p fn c r t has a.type) (is ∙ ap Some (sym f)))
-
--- what a primitive of one or two registers needs and gives
-pub record OfOne (x : ℕ) (P : Value → Value → Type 0) (regs : Regs) (h : Held) : Type 0 where
-  pub v : Value
-  pub is : regs x ≡ Holds v
-  pub result : Value
-  pub fits : P v result
-  pub gives : h ≡ Holds result
-
-pub record OfTwo (x y : ℕ) (P : Value → Value → Value → Type 0) (regs : Regs) (h : Held) : Type 0 where
-  pub u : Value
-  pub left : regs x ≡ Holds u
-  pub v : Value
-  pub right : regs y ≡ Holds v
-  pub result : Value
-  pub fits : P u v result
-  pub gives : h ≡ Holds result
 
 pub one_makes : (b c : Building) (r x : ℕ) (t u : RType) (q : Primitive) (P : Value → Value → Type 0) → Adds b c r t (Prim (Some record { 0 = r }) q (Var record { 0 = x } ∷ [])) → HasType b x u → failing q ≡ NeverFails → ((p : Program) (w : World) (v z : Value) → P v z → effect p q (Given v ∷ []) w ≡ Gives z w) → Makes b c r t (OfOne x P)
 one_makes b c r x t u q P a type never does = adds_makes b c r t _ _ a (λ p fn has regs below s h f.

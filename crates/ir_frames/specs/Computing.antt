@@ -85,3 +85,20 @@ pub record Makes (old new : Building) (r : ℕ) (t : RType) (from : Regs → Hel
   pub above : length old.regs ≤ r
   pub blocks : length new.blocks ≡ length old.blocks
   pub runs : (p : Program) (fn : ℕ) → Has p fn new → (regs : Regs) (below : List Waiting) (s : State) (h : Held) → from regs h → (now : Regs) × Leads p (running fn (length old.blocks) (length old.ops) regs below (world None s)) (running fn (length new.blocks) (length new.ops) now below (world None s)) × (now r ≡ h) × ((j : ℕ) → j < length old.regs → now j ≡ regs j)
+
+-- a register holds a value, of which the result is made
+pub record OfOne (x : ℕ) (P : Value → Value → Type 0) (regs : Regs) (h : Held) : Type 0 where
+  pub v : Value
+  pub is : regs x ≡ Holds v
+  pub result : Value
+  pub fits : P v result
+  pub gives : h ≡ Holds result
+
+pub record OfTwo (x y : ℕ) (P : Value → Value → Value → Type 0) (regs : Regs) (h : Held) : Type 0 where
+  pub u : Value
+  pub left : regs x ≡ Holds u
+  pub v : Value
+  pub right : regs y ≡ Holds v
+  pub result : Value
+  pub fits : P u v result
+  pub gives : h ≡ Holds result

@@ -16,8 +16,8 @@ use Rattle.ir_core.specs.declared.code.Reg.{Reg}
 use Rattle.ir_core.specs.Registers.{Held, Unset, Holds, Regs, first_regs}
 use Rattle.ir_core.specs.Building.{Building}
 use Rattle.ir_core.specs.Meaning.{Waiting, Config}
-use Rattle.ir_frames.specs.declared.Frame.{Frame}
-use Rattle.ir_frames.specs.declared.Vars.{Vars}
+use Rattle.ir_frames.specs.declared.frame.Frame.{Frame}
+use Rattle.ir_frames.specs.declared.frame.Vars.{Vars}
 use Rattle.ir_frames.specs.Settings.{Setting, rtype_of}
 use Rattle.ir_frames.specs.Placing.{HasType}
 use Rattle.ir_frames.specs.Coming.{world, running, Escapes, returning, Ends}

@@ -7,7 +7,7 @@ use Rattle.py_typed.specs.Sorts.{Sort}
 use Rattle.py_typed.specs.Statements.{Variable, TypedModule, typed_module, variable}
 use Rattle.ir_core.specs.declared.code.RType.{RType}
 use Rattle.ir_core.specs.declared.code.RType.TheVariants.{Int, I64, Bool, Ref}
-use Rattle.ir_frames.specs.declared.Frame.{Frame}
+use Rattle.ir_frames.specs.declared.frame.Frame.{Frame}
 
 pub record Setting : Type 0 where
   pub source : TypedModule

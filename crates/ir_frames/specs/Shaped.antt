@@ -2,6 +2,9 @@
 use Rattle.std.specs.Prelude.{◌≡◌, ℕ, suc, ◌<◌, ◌≤◌, ◌⊎◌, true, List, [], ◌∷◌, length, Option, Some, None, IsTrue}
 use Rattle.ir_core.specs.declared.code.Block.{Block}
 use Rattle.ir_core.specs.declared.code.Op.{Op}
+use Rattle.ir_core.specs.declared.code.Reg.{Reg}
+use Rattle.ir_core.specs.declared.code.PArg.{PArg}
+use Rattle.ir_core.specs.declared.code.PArg.TheVariants.{Var}
 use Rattle.ir_core.specs.declared.code.Last.{Last}
 use Rattle.ir_core.specs.declared.code.Last.TheVariants.{Goto, If, IfError, Return, Unreachable}
 use Rattle.ir_core.specs.Items.{handler_of}
@@ -17,6 +20,16 @@ Above n (Some r) = n ≤ r
 -- an operation that may stand, where the registers below n are variables and flags
 abbrev pub OpFits : ℕ → Op → Type 0
 OpFits n o = Above n (into o) × IsTrue (op_fits o)
+
+-- arguments that are registers below a number
+abbrev pub AreBelow : ℕ → List PArg → Type 0
+AreBelow n [] = Unit {0}
+AreBelow n (Var r ∷ args) = (r.0 < n) × AreBelow n args
+AreBelow n (a ∷ args) = ⊥
+
+abbrev pub AllBelow : ℕ → List Reg → Type 0
+AllBelow n [] = Unit {0}
+AllBelow n (r ∷ rs) = (r.0 < n) × AllBelow n rs
 
 abbrev pub OpsFit : ℕ → List (Op × ℕ) → Type 0
 OpsFit n [] = Unit {0}

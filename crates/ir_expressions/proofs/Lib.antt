@@ -1,0 +1,4 @@
+pub mod ValueLemmas
+pub mod ChoiceLemmas
+pub mod NodeLemmas
+pub mod CallLemmas
