@@ -4,7 +4,7 @@ use Rattle.std.specs.Ordering.{int_eq}
 use Rattle.value_core.specs.Arithmetic.{lies_within, i64_add, i64_sub, i64_mul, i64_neg}
 use Rattle.value_core.specs.Value.{Value, IntVal, BoolVal}
 use Rattle.c_core.specs.declared.primitive.Int64Prim.{Int64Prim}
-use Rattle.c_core.specs.declared.primitive.Int64Prim.TheVariants.{Add as AddPrim, Subtract, Multiply}
+use Rattle.c_core.specs.declared.primitive.Int64Prim.TheVariants.{Add as AddPrim, Subtract, Multiply, Eq as EqPrim, Lt as LtPrim, Le as LePrim}
 use Rattle.py_syntax.specs.declared.expression.BinOp.{BinOp}
 use Rattle.py_syntax.specs.declared.expression.BinOp.TheVariants.{Add, Sub, Mul}
 use Rattle.py_syntax.specs.declared.expression.CmpOp.{CmpOp}
@@ -61,6 +61,34 @@ ordered _ a b = false
 
 abbrev pub Orders : CmpOp → Value → Value → Value → Type 0
 Orders op u v z = (a : ℤ) × (b : ℤ) × (u ≡ IntVal a) × (v ≡ IntVal b) × (z ≡ BoolVal (ordered op a b))
+
+-- the primitive that a comparison is made of, whether that takes the operands the other way round, and whether the comparison is
+-- its opposite
+abbrev pub test_primitive : CmpOp → Int64Prim
+test_primitive Lt = LtPrim
+test_primitive Gt = LtPrim
+test_primitive Le = LePrim
+test_primitive Ge = LePrim
+test_primitive _ = EqPrim
+
+abbrev pub is_swapped : CmpOp → Bool
+is_swapped Gt = true
+is_swapped Ge = true
+is_swapped _ = false
+
+abbrev pub is_unequal : CmpOp → Bool
+is_unequal Ne = true
+is_unequal _ = false
+
+abbrev pub compares : CmpOp → ℤ → ℤ → Bool
+compares Lt a b = int_lt a b
+compares Le a b = not (int_lt b a)
+compares Gt a b = int_lt b a
+compares Ge a b = not (int_lt a b)
+compares _ a b = int_eq a b
+
+abbrev pub Compares : CmpOp → Value → Value → Value → Type 0
+Compares op u v z = (a : ℤ) × (b : ℤ) × (u ≡ IntVal a) × (v ≡ IntVal b) × (z ≡ BoolVal (compares op a b))
 
 -- ---- tests
 

@@ -11,7 +11,7 @@ ghost use Rattle.py_typed.specs.Sorts.{sort};
 ghost use Rattle.py_typed.specs.Expressions.{typed_expr};
 ghost use Rattle.ir_frames.specs.Settings.{rtype_of};
 ghost use Rattle.ir_expressions.specs.Compiled.{is_built, is_ordering, is_scalar, literal_in};
-ghost use Rattle.ir_expressions.specs.Operating.{Negates, Inverts, Numbers, Operates, Orders, Asks, primitive_of, literal_of_truth, TestsValue, FitsIfLiteral};
+ghost use Rattle.ir_expressions.specs.Operating.{Negates, Inverts, Numbers, Operates, Orders, Compares, Asks, primitive_of, test_primitive, is_swapped, is_unequal, literal_of_truth, TestsValue, FitsIfLiteral};
 
 use c_core::{BoolPrim, Int64Prim, Prim};
 use crate::compiled::is_bool;
@@ -102,6 +102,53 @@ pub fn emit_arithmetic(b: &mut Emitter, alloc: Global, op: BinOp, x: Reg, y: Reg
     emit_two(b, alloc, RType::I64, Prim::Int64(primitive_for(op)), x, y, line)
 }
 
+// The primitive that a comparison is made of.
+fn test_for(op: CmpOp) -> Int64Prim
+    ensures { result ≡ test_primitive op }
+{
+    match op {
+        CmpOp::Lt | CmpOp::Gt => Int64Prim::Lt,
+        CmpOp::Le | CmpOp::Ge => Int64Prim::Le,
+        _ => Int64Prim::Eq,
+    }
+}
+
+// Whether that primitive takes the operands the other way round.
+fn swaps(op: CmpOp) -> bool
+    ensures { result ≡ is_swapped op }
+{
+    match op {
+        CmpOp::Gt | CmpOp::Ge => true,
+        _ => false,
+    }
+}
+
+// Whether the comparison is the opposite of that primitive.
+fn inverts(op: CmpOp) -> bool
+    ensures { result ≡ is_unequal op }
+{
+    match op {
+        CmpOp::Ne => true,
+        _ => false,
+    }
+}
+
+// The primitive of a comparison.
+fn emit_test(b: &mut Emitter, alloc: Global, op: CmpOp, x: Reg, y: Reg, line: usize) -> Result<Reg, Memory>
+    requires ordering { is_ordering op ≡ true }
+    requires left { HasType b.old x.0 RType.I64 }
+    requires right { HasType b.old y.0 RType.I64 }
+    ensures kept { Extends b.old b.new }
+    ensures made { IfOk result (λ r. Makes b.old b.new r.0 RType.Bool (OfTwo x.0 y.0 (Compares op))) }
+    ensures shaped { Keeps b.old b.new }
+{
+    if swaps(op) {
+        emit_two(b, alloc, RType::Bool, Prim::Int64(test_for(op)), y, x, line)
+    } else {
+        emit_two(b, alloc, RType::Bool, Prim::Int64(test_for(op)), x, y, line)
+    }
+}
+
 /// A comparison of native integers.
 pub fn emit_comparison(b: &mut Emitter, alloc: Global, op: CmpOp, x: Reg, y: Reg, line: usize) -> Result<Reg, Memory>
     requires ordering { is_ordering op ≡ true }
@@ -111,16 +158,11 @@ pub fn emit_comparison(b: &mut Emitter, alloc: Global, op: CmpOp, x: Reg, y: Reg
     ensures made { IfOk result (λ r. Makes b.old b.new r.0 RType.Bool (OfTwo x.0 y.0 (Orders op))) }
     ensures shaped { Keeps b.old b.new }
 {
-    match op {
-        CmpOp::Lt => emit_two(b, alloc, RType::Bool, Prim::Int64(Int64Prim::Lt), x, y, line),
-        CmpOp::Le => emit_two(b, alloc, RType::Bool, Prim::Int64(Int64Prim::Le), x, y, line),
-        CmpOp::Gt => emit_two(b, alloc, RType::Bool, Prim::Int64(Int64Prim::Lt), y, x, line),
-        CmpOp::Ge => emit_two(b, alloc, RType::Bool, Prim::Int64(Int64Prim::Le), y, x, line),
-        CmpOp::Eq => emit_two(b, alloc, RType::Bool, Prim::Int64(Int64Prim::Eq), x, y, line),
-        _ => {
-            let same = emit_two(b, alloc, RType::Bool, Prim::Int64(Int64Prim::Eq), x, y, line)?;
-            emit_inversion(b, alloc, same, line)
-        }
+    if inverts(op) {
+        let r = emit_test(b, alloc, op, x, y, line)?;
+        emit_inversion(b, alloc, r, line)
+    } else {
+        emit_test(b, alloc, op, x, y, line)
     }
 }
 
