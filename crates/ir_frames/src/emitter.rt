@@ -133,7 +133,13 @@ impl Emitter {
     }
 
     /// The result of a primitive on registers, in a register of its own.
-    pub fn primitive(&mut self, t: RType, primitive: Prim, args: Many<PArg>, line: usize) -> Result<Reg, Memory>
+    pub fn primitive(
+        &mut self,
+        t: RType,
+        primitive: Prim,
+        args: Many<PArg>,
+        line: usize,
+    ) -> Result<Reg, Memory>
         requires result { IsTrue (is_target_of (row_of primitive).outcome (Some record { 0 = 0 })) }
         requires below { AreBelow (length self.old.regs) args }
         ensures kept { Extends self.old self.new }
@@ -146,7 +152,13 @@ impl Emitter {
     }
 
     /// The result of a call of the function of a number, in a register of its own.
-    pub fn call(&mut self, t: RType, function: usize, args: Many<Reg>, line: usize) -> Result<Reg, Memory>
+    pub fn call(
+        &mut self,
+        t: RType,
+        function: usize,
+        args: Many<Reg>,
+        line: usize,
+    ) -> Result<Reg, Memory>
         requires below { AllBelow (length self.old.regs) args }
         ensures kept { Extends self.old self.new }
         ensures added { IfOk result (λ r. Adds self.old self.new r.0 t (Op.Call r function args)) }
