@@ -152,20 +152,24 @@ call_emits x f g es place b0 b1 b2 rs r is room q a =
           ends_from p s1.turns s1.turns _ (running f 0 0 (first_regs code.0.regs (map Holds vs)) (waits ∷ below) (world None s1)) (call_of x.source n f vs s1) R T (le_refl _) (leads_step p _ _ enter)
           (ends_both p s1.turns _ (call_of x.source n f vs s1) _ R _ T
           (λ v s2 d c.
-          let back : returning p v (waits ∷ below) (world None s2) ≡ running fn (length b1.blocks) (length b1.ops + 1) (put now r (Holds v)) below (world None s2) = rw target refl in
-          (d, leads_refl p d, record {
-            now = put now r (Holds v);
-            is = c.2 ∙ back ∙ rw (a.blocks, a.ops) refl;
-            shows = subst (Shows g.ret v) (sym (put_same now r (Holds v))) (refl, c.0);
-            kept = λ j lt. put_kept (Holds v) j (omega arith) ∙ kept j lt;
-            locals = c.1 ∙ loc;
-          }))
+          let back : returning p v (waits ∷ below) (world None s2) ≡ running fn (length b1.blocks) (length b1.ops + 1) (put now r (Holds v)) below (world None s2) = rw target refl in (
+            d,
+            leads_refl p d,
+            record {
+              now = put now r (Holds v);
+              is = c.2 ∙ back ∙ rw (a.blocks, a.ops) refl;
+              shows = subst (Shows g.ret v) (sym (put_same now r (Holds v))) (refl, c.0);
+              kept = λ j lt. put_kept (Holds v) j (omega arith) ∙ kept j lt;
+              locals = c.1 ∙ loc;
+            },
+          ))
           (λ v s2 d c.
           let out = leaves_step p f code.0 fn (length b1.blocks) (length b1.ops) now r (rtype_of g.ret) below c.1.0 s2 code.1 target edge in
           let w : Held = error_of (rtype_of g.ret) in
-          let match2 = match_kept x b1 now (put now r w) s1.locals s2.locals (room_on x b0 b1 q.extends room) (λ j lt. put_kept w j (let z = room.top in omega arith)) c.0 match1 in
-          (away (handler_at p fn (length b1.blocks)) (record { fn = fn; block = length b1.blocks; place = length b1.ops + 1; regs = put now r w }) below (world (Some c.1.0) s2),
-          record { count = 1; is = ap (step Strict p) c.1.2 ∙ out },
-          let P : Value → Type 0 = λ y. IsThrown fn h below x (length b0.regs) regs y s2 (away (handler_at p fn (length b1.blocks)) (record { fn = fn; block = length b1.blocks; place = length b1.ops + 1; regs = put now r w }) below (world (Some c.1.0) s2)) in
-          subst P (sym c.1.1) (thrown_now p fn (length b1.blocks) (length b1.ops + 1) h below x (length b0.regs) regs (put now r w) c.1.0 s2 here match2 (λ j i lt o. put_kept w j (omega arith) ∙ kept j lt)))) body));
+          let match2 = match_kept x b1 now (put now r w) s1.locals s2.locals (room_on x b0 b1 q.extends room) (λ j lt. put_kept w j (let z = room.top in omega arith)) c.0 match1 in (
+            away (handler_at p fn (length b1.blocks)) (record { fn = fn; block = length b1.blocks; place = length b1.ops + 1; regs = put now r w }) below (world (Some c.1.0) s2),
+            record { count = 1; is = ap (step Strict p) c.1.2 ∙ out },
+            let P : Value → Type 0 = λ y. IsThrown fn h below x (length b0.regs) regs y s2 (away (handler_at p fn (length b1.blocks)) (record { fn = fn; block = length b1.blocks; place = length b1.ops + 1; regs = put now r w }) below (world (Some c.1.0) s2)) in
+                subst P (sym c.1.1) (thrown_now p fn (length b1.blocks) (length b1.ops + 1) h below x (length b0.regs) regs (put now r w) c.1.0 s2 here match2 (λ j i lt o. put_kept w j (omega arith) ∙ kept j lt)),
+          )) body));
     }

@@ -1,5 +1,5 @@
-pub mod ValueLemmas
 pub mod OperationLemmas
-pub mod ChoiceLemmas
-pub mod NodeLemmas
+pub mod BuildLemmas
 pub mod CallLemmas
+pub mod ArgumentLemmas
+pub mod ArmLemmas

@@ -14,8 +14,8 @@ pub record Opens (old new : Building) (target test first : ℕ) (t : RType) : Ty
   pub extends : Extends old new
   pub made : target ≡ length old.regs
   pub type : HasType new target t
-  pub test : test ≡ length old.blocks
-  pub first : first ≡ length new.blocks
+  pub test_is : test ≡ length old.blocks
+  pub first_is : first ≡ length new.blocks
   pub blocks : length new.blocks ≡ length old.blocks + 1
   pub ops : length new.ops ≡ 0
   pub hole : held new (length old.blocks) (length old.ops) ≡ Some (End Unreachable)
@@ -23,7 +23,7 @@ pub record Opens (old new : Building) (target test first : ℕ) (t : RType) : Ty
 -- a value was brought into the register, and the block was ended, where the jump will stand
 pub record Brings (old new : Building) (target r end : ℕ) : Type 0 where
   pub extends : Extends old new
-  pub end : end ≡ length old.blocks
+  pub end_is : end ≡ length old.blocks
   pub blocks : length new.blocks ≡ length old.blocks + 1
   pub ops : length new.ops ≡ 0
   pub move : held new (length old.blocks) (length old.ops) ≡ Some (Do (Move record { 0 = target } record { 0 = r }))

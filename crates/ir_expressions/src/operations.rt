@@ -1,6 +1,7 @@
 //! Operations on values in registers.
 ghost use Rattle.std.specs.Prelude.{◌≡◌, ◌<◌, ◌≤◌, [], ◌∷◌, length, IfOk, Some, IsTrue, true};
 ghost use Rattle.c_core.specs.Primitives.{row_of};
+ghost use Rattle.ir_core.specs.declared.code.Op.{Op};
 ghost use Rattle.ir_core.specs.Building.{Extends};
 ghost use Rattle.ir_core.specs.Shape.{is_target_of};
 ghost use Rattle.ir_frames.specs.Calling.{Adds};
@@ -10,20 +11,26 @@ ghost use Rattle.ir_frames.specs.Shaped.{Keeps};
 ghost use Rattle.py_typed.specs.Sorts.{sort};
 ghost use Rattle.py_typed.specs.Expressions.{typed_expr};
 ghost use Rattle.ir_frames.specs.Settings.{rtype_of};
-ghost use Rattle.ir_expressions.specs.Compiled.{is_built, is_ordering, is_scalar, literal_in};
-ghost use Rattle.ir_expressions.specs.Operating.{Negates, Inverts, Numbers, Operates, Orders, Compares, Asks, primitive_of, test_primitive, is_swapped, is_unequal, literal_of_truth, TestsValue, FitsIfLiteral};
+ghost use Rattle.ir_expressions.specs.Compiled.{is_built, literal_in};
+ghost use Rattle.ir_expressions.specs.Operating.{Negates, Inverts, Numbers, Operates, primitive_of, literal_of_truth, FitsIfLiteral};
 
 use c_core::{BoolPrim, Int64Prim, Prim};
-use crate::compiled::is_bool;
 use ir_core::{Lit, PArg, RType, Reg};
 use ir_frames::Emitter;
-use py_syntax::{BinOp, CmpOp};
+use py_syntax::BinOp;
 use py_typed::{TExpr, TKind, Ty};
 use std::alloc::Global;
 use value_core::{Many, Memory};
 
 // The result of a primitive on one register.
-fn emit_one(b: &mut Emitter, alloc: Global, t: RType, primitive: Prim, x: Reg, line: usize) -> Result<Reg, Memory>
+fn emit_one(
+    b: &mut Emitter,
+    alloc: Global,
+    t: RType,
+    primitive: Prim,
+    x: Reg,
+    line: usize,
+) -> Result<Reg, Memory>
     requires result { IsTrue (is_target_of (row_of primitive).outcome (Some record { 0 = 0 })) }
     requires below { x.0 < length b.old.regs }
     ensures kept { Extends b.old b.new }
@@ -36,7 +43,15 @@ fn emit_one(b: &mut Emitter, alloc: Global, t: RType, primitive: Prim, x: Reg, l
 }
 
 // The result of a primitive on two registers.
-fn emit_two(b: &mut Emitter, alloc: Global, t: RType, primitive: Prim, x: Reg, y: Reg, line: usize) -> Result<Reg, Memory>
+fn emit_two(
+    b: &mut Emitter,
+    alloc: Global,
+    t: RType,
+    primitive: Prim,
+    x: Reg,
+    y: Reg,
+    line: usize,
+) -> Result<Reg, Memory>
     requires result { IsTrue (is_target_of (row_of primitive).outcome (Some record { 0 = 0 })) }
     requires left { x.0 < length b.old.regs }
     requires right { y.0 < length b.old.regs }
@@ -57,7 +72,14 @@ pub fn emit_negation(b: &mut Emitter, alloc: Global, x: Reg, line: usize) -> Res
     ensures made { IfOk result (λ r. Makes b.old b.new r.0 RType.I64 (OfOne x.0 Negates)) }
     ensures shaped { Keeps b.old b.new }
 {
-    emit_one(b, alloc, RType::I64, Prim::Int64(Int64Prim::Negate), x, line)
+    emit_one(
+        b,
+        alloc,
+        RType::I64,
+        Prim::Int64(Int64Prim::Negate),
+        x,
+        line,
+    )
 }
 
 /// The other truth.
@@ -77,7 +99,14 @@ pub fn emit_number(b: &mut Emitter, alloc: Global, x: Reg, line: usize) -> Resul
     ensures made { IfOk result (λ r. Makes b.old b.new r.0 RType.I64 (OfOne x.0 Numbers)) }
     ensures shaped { Keeps b.old b.new }
 {
-    emit_one(b, alloc, RType::I64, Prim::Int64(Int64Prim::FromBool), x, line)
+    emit_one(
+        b,
+        alloc,
+        RType::I64,
+        Prim::Int64(Int64Prim::FromBool),
+        x,
+        line,
+    )
 }
 
 fn primitive_for(op: BinOp) -> Int64Prim
@@ -91,7 +120,14 @@ fn primitive_for(op: BinOp) -> Int64Prim
 }
 
 /// A sum, a difference or a product of native integers.
-pub fn emit_arithmetic(b: &mut Emitter, alloc: Global, op: BinOp, x: Reg, y: Reg, line: usize) -> Result<Reg, Memory>
+pub fn emit_arithmetic(
+    b: &mut Emitter,
+    alloc: Global,
+    op: BinOp,
+    x: Reg,
+    y: Reg,
+    line: usize,
+) -> Result<Reg, Memory>
     requires built { is_built op ≡ true }
     requires left { HasType b.old x.0 RType.I64 }
     requires right { HasType b.old y.0 RType.I64 }
@@ -99,105 +135,26 @@ pub fn emit_arithmetic(b: &mut Emitter, alloc: Global, op: BinOp, x: Reg, y: Reg
     ensures made { IfOk result (λ r. Makes b.old b.new r.0 RType.I64 (OfTwo x.0 y.0 (Operates op))) }
     ensures shaped { Keeps b.old b.new }
 {
-    emit_two(b, alloc, RType::I64, Prim::Int64(primitive_for(op)), x, y, line)
-}
-
-// The primitive that a comparison is made of.
-fn test_for(op: CmpOp) -> Int64Prim
-    ensures { result ≡ test_primitive op }
-{
-    match op {
-        CmpOp::Lt | CmpOp::Gt => Int64Prim::Lt,
-        CmpOp::Le | CmpOp::Ge => Int64Prim::Le,
-        _ => Int64Prim::Eq,
-    }
-}
-
-// Whether that primitive takes the operands the other way round.
-fn swaps(op: CmpOp) -> bool
-    ensures { result ≡ is_swapped op }
-{
-    match op {
-        CmpOp::Gt | CmpOp::Ge => true,
-        _ => false,
-    }
-}
-
-// Whether the comparison is the opposite of that primitive.
-fn inverts(op: CmpOp) -> bool
-    ensures { result ≡ is_unequal op }
-{
-    match op {
-        CmpOp::Ne => true,
-        _ => false,
-    }
-}
-
-// The primitive of a comparison.
-fn emit_test(b: &mut Emitter, alloc: Global, op: CmpOp, x: Reg, y: Reg, line: usize) -> Result<Reg, Memory>
-    requires ordering { is_ordering op ≡ true }
-    requires left { HasType b.old x.0 RType.I64 }
-    requires right { HasType b.old y.0 RType.I64 }
-    ensures kept { Extends b.old b.new }
-    ensures made { IfOk result (λ r. Makes b.old b.new r.0 RType.Bool (OfTwo x.0 y.0 (Compares op))) }
-    ensures shaped { Keeps b.old b.new }
-{
-    if swaps(op) {
-        emit_two(b, alloc, RType::Bool, Prim::Int64(test_for(op)), y, x, line)
-    } else {
-        emit_two(b, alloc, RType::Bool, Prim::Int64(test_for(op)), x, y, line)
-    }
-}
-
-/// A comparison of native integers.
-pub fn emit_comparison(b: &mut Emitter, alloc: Global, op: CmpOp, x: Reg, y: Reg, line: usize) -> Result<Reg, Memory>
-    requires ordering { is_ordering op ≡ true }
-    requires left { HasType b.old x.0 RType.I64 }
-    requires right { HasType b.old y.0 RType.I64 }
-    ensures kept { Extends b.old b.new }
-    ensures made { IfOk result (λ r. Makes b.old b.new r.0 RType.Bool (OfTwo x.0 y.0 (Orders op))) }
-    ensures shaped { Keeps b.old b.new }
-{
-    if inverts(op) {
-        let r = emit_test(b, alloc, op, x, y, line)?;
-        emit_inversion(b, alloc, r, line)
-    } else {
-        emit_test(b, alloc, op, x, y, line)
-    }
-}
-
-/// Whether a native integer is other than 0.
-pub fn emit_truth(b: &mut Emitter, alloc: Global, x: Reg, line: usize) -> Result<Reg, Memory>
-    requires { HasType b.old x.0 RType.I64 }
-    ensures kept { Extends b.old b.new }
-    ensures made { IfOk result (λ r. Makes b.old b.new r.0 RType.Bool (OfOne x.0 Asks)) }
-    ensures shaped { Keeps b.old b.new }
-{
-    let zero = b.literal(RType::I64, Lit::Number(0), line)?;
-    let same = emit_two(b, alloc, RType::Bool, Prim::Int64(Int64Prim::Eq), x, zero, line)?;
-    emit_inversion(b, alloc, same, line)
-}
-
-/// The truth of a value of a type: of a bool itself, of a native integer whether it is other than 0.
-pub fn emit_condition(b: &mut Emitter, alloc: Global, x: Reg, ty: &Ty, line: usize) -> Result<Reg, Memory>
-    requires scalar { is_scalar (sort ty.now) ≡ true }
-    requires value { HasType b.old x.0 (rtype_of (sort ty.now)) }
-    ensures kept { Extends b.old b.new }
-    ensures tests { IfOk result (λ c. TestsValue b.old b.new x.0 c.0 (sort ty.now)) }
-    ensures shaped { Keeps b.old b.new }
-{
-    if is_bool(ty) {
-        Ok(x)
-    } else {
-        emit_truth(b, alloc, x, line)
-    }
+    emit_two(
+        b,
+        alloc,
+        RType::I64,
+        Prim::Int64(primitive_for(op)),
+        x,
+        y,
+        line,
+    )
 }
 
 /// The literal of a bool.
 pub fn truth(value: bool) -> Lit
     ensures { result ≡ literal_of_truth value }
 {
-    if value { Lit::Number(1) } else { Lit::Number(0) }
+    if value {
+        Lit::Number(1)
+    } else {
+        Lit::Number(0)
+    }
 }
 
 /// The type of the registers for values of a type.
