@@ -1,0 +1,5 @@
+pub mod OperationLemmas
+pub mod BuildLemmas
+pub mod CallLemmas
+pub mod ArgumentLemmas
+pub mod ArmLemmas

@@ -1,0 +1,46 @@
+-- What the code of an expression does.
+use Rattle.std.specs.Prelude.{◌≡◌, ℕ, ◌≤◌, List, length, Option, None}
+use Rattle.value_core.specs.Value.{Value}
+use Rattle.py_typed.specs.Sorts.{Sort, Bool}
+use Rattle.py_typed.specs.Expressions.{TypedExpr, TypedExprs, Comparisons, type_of}
+use Rattle.py_typed.specs.ExpressionMeaning.{expression, expressions, chain}
+use Rattle.py_typed.specs.State.{State}
+use Rattle.py_typed.specs.SourceRun.{call_of}
+use Rattle.ir_core.specs.declared.code.Program.{Program}
+use Rattle.ir_core.specs.declared.code.RType.TheVariants as rtype
+use Rattle.ir_core.specs.declared.code.Reg.{Reg}
+use Rattle.ir_core.specs.Registers.{Regs}
+use Rattle.ir_core.specs.Building.{Building, Extends}
+use Rattle.ir_core.specs.Meaning.{Waiting}
+use Rattle.ir_frames.specs.Settings.{Setting, rtype_of}
+use Rattle.ir_frames.specs.Placing.{HasType, Placed}
+use Rattle.ir_frames.specs.Coming.{world, running, Ends}
+use Rattle.ir_frames.specs.Matching.{Matches, IsThrown, CallsWork}
+use Rattle.ir_frames.specs.Computing.{Shows, ShowsNumber, Meaning, Arrives, Computes, ComputesAll}
+
+-- what an expression means, by the bound of calls and turns
+abbrev pub means : Setting → TypedExpr → Meaning Value
+means x e n = expression x.source.classes.classes (call_of x.source n) x.source.globals x.variables e
+
+abbrev pub means_all : Setting → TypedExprs → Meaning (List Value)
+means_all x es n = expressions x.source.classes.classes (call_of x.source n) x.source.globals x.variables es
+
+abbrev pub means_chain : Setting → Sort → Value → Comparisons → Meaning Value
+means_chain x s v more n = chain x.source.classes.classes (call_of x.source n) x.source.globals x.variables s v more
+
+-- its value is in a register
+abbrev pub Emits : Setting → TypedExpr → Building → Building → ℕ → Type 0
+Emits x e old new r = Computes x (Shows (type_of e)) (rtype_of (type_of e)) (means x e) old new r
+
+-- its number is
+abbrev pub EmitsNumber : Setting → TypedExpr → Building → Building → ℕ → Type 0
+EmitsNumber x e old new r = Computes x (ShowsNumber (type_of e)) rtype.I64 (means x e) old new r
+
+abbrev pub EmitsAll : Setting → List Sort → TypedExprs → Building → Building → List Reg → Type 0
+EmitsAll x ts es old new rs = ComputesAll x ts (means_all x es) old new rs
+
+-- the comparisons of a chain behind an operand of a type, whose number is in a register
+pub record EmitsChain (x : Setting) (s : Sort) (first : ℕ) (more : Comparisons) (old new : Building) (r : ℕ) : Type 0 where
+  pub extends : Extends old new
+  pub type : HasType new r rtype.Bool
+  pub runs : (p : Program) (fn : ℕ) (h : Option ℕ) → Placed p fn old new h → (n : ℕ) → CallsWork p x.source n → (regs : Regs) (below : List Waiting) (st : State) (v : Value) → Matches x regs st.locals → st.turns ≤ n → ShowsNumber s v (regs first) → Ends p st.turns (running fn (length old.blocks) (length old.ops) regs below (world None st)) (means_chain x s v more n st) (Arrives (Shows Bool) fn (length new.blocks) (length new.ops) below (length old.regs) regs st.locals r) (IsThrown fn h below x (length old.regs) regs)

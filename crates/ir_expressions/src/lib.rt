@@ -1,0 +1,16 @@
+//! From typed expressions to intermediate code: what its parts share.
+//!
+//! `specs/Compiled.antt` says which expressions are to be compiled, those of native integers and bools and calls that give
+//! None, `specs/Suiting.antt` what is asked of one that is built, and `specs/Emitting.antt` what its code does. The calls
+//! here add the operations on registers (`specs/Operating.antt`) and the choices between two values (`specs/Choices.antt`)
+//! that it is made of; nothing goes over a tree yet. For that, `proofs/CallLemmas.antt` and `proofs/ArgumentLemmas.antt`
+//! have that the code of a call does what the call does.
+#![tactic(auto)]
+
+mod choice;
+mod operations;
+
+pub use choice::{Choice, begin, meet, turn};
+pub use operations::{
+    emit_arithmetic, emit_inversion, emit_negation, emit_number, literal_of, register_type, truth,
+};

@@ -1,0 +1,181 @@
+//! Operations on values in registers.
+ghost use Rattle.std.specs.Prelude.{◌≡◌, ◌<◌, ◌≤◌, [], ◌∷◌, length, IfOk, Some, IsTrue, true};
+ghost use Rattle.c_core.specs.Primitives.{row_of};
+ghost use Rattle.ir_core.specs.declared.code.Op.{Op};
+ghost use Rattle.ir_core.specs.Building.{Extends};
+ghost use Rattle.ir_core.specs.Shape.{is_target_of};
+ghost use Rattle.ir_frames.specs.Calling.{Adds};
+ghost use Rattle.ir_frames.specs.Computing.{Makes, OfOne, OfTwo};
+ghost use Rattle.ir_frames.specs.Placing.{HasType};
+ghost use Rattle.ir_frames.specs.Shaped.{Keeps};
+ghost use Rattle.py_typed.specs.Sorts.{sort};
+ghost use Rattle.py_typed.specs.Expressions.{typed_expr};
+ghost use Rattle.ir_frames.specs.Settings.{rtype_of};
+ghost use Rattle.ir_expressions.specs.Compiled.{is_built, literal_in};
+ghost use Rattle.ir_expressions.specs.Operating.{Negates, Inverts, Numbers, Operates, primitive_of, literal_of_truth, FitsIfLiteral};
+
+use c_core::{BoolPrim, Int64Prim, Prim};
+use ir_core::{Lit, PArg, RType, Reg};
+use ir_frames::Emitter;
+use py_syntax::BinOp;
+use py_typed::{TExpr, TKind, Ty};
+use std::alloc::Global;
+use value_core::{Many, Memory};
+
+// The result of a primitive on one register.
+fn emit_one(
+    b: &mut Emitter,
+    alloc: Global,
+    t: RType,
+    primitive: Prim,
+    x: Reg,
+    line: usize,
+) -> Result<Reg, Memory>
+    requires result { IsTrue (is_target_of (row_of primitive).outcome (Some record { 0 = 0 })) }
+    requires below { x.0 < length b.old.regs }
+    ensures kept { Extends b.old b.new }
+    ensures added { IfOk result (λ r. Adds b.old b.new r.0 t (Op.Prim (Some r) primitive (PArg.Var x ∷ []))) }
+    ensures shaped { Keeps b.old b.new }
+{
+    let mut args = Many::new(alloc);
+    args.push(PArg::Var(x))?;
+    b.primitive(t, primitive, args, line)
+}
+
+// The result of a primitive on two registers.
+fn emit_two(
+    b: &mut Emitter,
+    alloc: Global,
+    t: RType,
+    primitive: Prim,
+    x: Reg,
+    y: Reg,
+    line: usize,
+) -> Result<Reg, Memory>
+    requires result { IsTrue (is_target_of (row_of primitive).outcome (Some record { 0 = 0 })) }
+    requires left { x.0 < length b.old.regs }
+    requires right { y.0 < length b.old.regs }
+    ensures kept { Extends b.old b.new }
+    ensures added { IfOk result (λ r. Adds b.old b.new r.0 t (Op.Prim (Some r) primitive (PArg.Var x ∷ PArg.Var y ∷ []))) }
+    ensures shaped { Keeps b.old b.new }
+{
+    let mut args = Many::new(alloc);
+    args.push(PArg::Var(x))?;
+    args.push(PArg::Var(y))?;
+    b.primitive(t, primitive, args, line)
+}
+
+/// A native integer with the other sign.
+pub fn emit_negation(b: &mut Emitter, alloc: Global, x: Reg, line: usize) -> Result<Reg, Memory>
+    requires { HasType b.old x.0 RType.I64 }
+    ensures kept { Extends b.old b.new }
+    ensures made { IfOk result (λ r. Makes b.old b.new r.0 RType.I64 (OfOne x.0 Negates)) }
+    ensures shaped { Keeps b.old b.new }
+{
+    emit_one(
+        b,
+        alloc,
+        RType::I64,
+        Prim::Int64(Int64Prim::Negate),
+        x,
+        line,
+    )
+}
+
+/// The other truth.
+pub fn emit_inversion(b: &mut Emitter, alloc: Global, x: Reg, line: usize) -> Result<Reg, Memory>
+    requires { HasType b.old x.0 RType.Bool }
+    ensures kept { Extends b.old b.new }
+    ensures made { IfOk result (λ r. Makes b.old b.new r.0 RType.Bool (OfOne x.0 Inverts)) }
+    ensures shaped { Keeps b.old b.new }
+{
+    emit_one(b, alloc, RType::Bool, Prim::Bool(BoolPrim::Not), x, line)
+}
+
+/// A bool as a native integer.
+pub fn emit_number(b: &mut Emitter, alloc: Global, x: Reg, line: usize) -> Result<Reg, Memory>
+    requires { HasType b.old x.0 RType.Bool }
+    ensures kept { Extends b.old b.new }
+    ensures made { IfOk result (λ r. Makes b.old b.new r.0 RType.I64 (OfOne x.0 Numbers)) }
+    ensures shaped { Keeps b.old b.new }
+{
+    emit_one(
+        b,
+        alloc,
+        RType::I64,
+        Prim::Int64(Int64Prim::FromBool),
+        x,
+        line,
+    )
+}
+
+fn primitive_for(op: BinOp) -> Int64Prim
+    ensures { result ≡ primitive_of op }
+{
+    match op {
+        BinOp::Add => Int64Prim::Add,
+        BinOp::Sub => Int64Prim::Subtract,
+        _ => Int64Prim::Multiply,
+    }
+}
+
+/// A sum, a difference or a product of native integers.
+pub fn emit_arithmetic(
+    b: &mut Emitter,
+    alloc: Global,
+    op: BinOp,
+    x: Reg,
+    y: Reg,
+    line: usize,
+) -> Result<Reg, Memory>
+    requires built { is_built op ≡ true }
+    requires left { HasType b.old x.0 RType.I64 }
+    requires right { HasType b.old y.0 RType.I64 }
+    ensures kept { Extends b.old b.new }
+    ensures made { IfOk result (λ r. Makes b.old b.new r.0 RType.I64 (OfTwo x.0 y.0 (Operates op))) }
+    ensures shaped { Keeps b.old b.new }
+{
+    emit_two(
+        b,
+        alloc,
+        RType::I64,
+        Prim::Int64(primitive_for(op)),
+        x,
+        y,
+        line,
+    )
+}
+
+/// The literal of a bool.
+pub fn truth(value: bool) -> Lit
+    ensures { result ≡ literal_of_truth value }
+{
+    if value {
+        Lit::Number(1)
+    } else {
+        Lit::Number(0)
+    }
+}
+
+/// The type of the registers for values of a type.
+pub fn register_type(t: &Ty) -> RType
+    ensures { result ≡ rtype_of (sort t.now) }
+{
+    match t {
+        Ty::Int => RType::Int,
+        Ty::I64 => RType::I64,
+        Ty::Bool => RType::Bool,
+        _ => RType::Ref,
+    }
+}
+
+/// The number of an `int` literal that is a native integer.
+pub fn literal_of(e: &TExpr) -> Option<i64>
+    requires { FitsIfLiteral (literal_in (typed_expr e.now)) }
+    ensures { result ≡ literal_in (typed_expr e.now) }
+{
+    match &e.kind {
+        TKind::Int(n) => Some(*n as i64),
+        _ => None,
+    }
+}

@@ -1,0 +1,6 @@
+pub mod HeldLemmas
+pub mod PatchLemmas
+pub mod ComingLemmas
+pub mod ShapeLemmas
+pub mod MatchLemmas
+pub mod StepLemmas

@@ -1,0 +1,14 @@
+use Rattle.std.proofs.Common.{arith, refl}
+use Rattle.ir_frames.proofs.HeldLemmas.{adds}
+use Rattle.ir_frames.proofs.emitter.Emitter.literal.Goals as goal
+
+pub returns-clause-kept : goal.returns-clause-kept
+returns-clause-kept c = (adds _ _ _ _ _ _ c.in_ok-r.ensures.declared c.in_ok-push.ensures.pushed).extends
+
+pub returns-clause-added : goal.returns-clause-added
+returns-clause-added c = adds _ _ _ _ _ _ c.in_ok-r.ensures.declared c.in_ok-push.ensures.pushed
+
+pub returns-clause-shaped : goal.returns-clause-shaped
+returns-clause-shaped c n m le up s =
+    let more = c.in_ok-push.ensures.pushed.blocks in
+    c.in_ok-push.ensures.shaped n m (tt, refl) (c.in_ok-r.ensures.shaped n m le (omega arith) s)

@@ -1,0 +1,11 @@
+use Rattle.std.proofs.Common.{◌∙◌, ap, length}
+use Rattle.ir_core.specs.Building.{Building}
+use Rattle.ir_frames.proofs.PatchLemmas.{with_last_length}
+use Rattle.ir_frames.proofs.ShapeLemmas.{patch_shaped}
+use Rattle.ir_frames.proofs.emitter.Emitter.patch.Goals as goal
+
+pub returns-clause-len : goal.returns-clause-len
+returns-clause-len c = rw (← c.self.view_is) (ap (λ (v : Building). length v.blocks) c.set_last.ensures ∙ with_last_length _ _ _)
+
+pub returns-clause-shaped : goal.returns-clause-shaped
+returns-clause-shaped c = rw (← c.self.view_is) (λ n m. patch_shaped n m _ _ _ _ c.set_last.ensures)
