@@ -1,18 +1,17 @@
 -- An `if` does in its code what it means.
-use Rattle.std.proofs.Common.{◌≡◌, ℕ, zero, suc, ◌+◌, ◌<◌, ◌≤◌, List, [], ◌∷◌, ◌++◌, length, Option, Some, None, Bool, true, false, cond, refl, sym, ap, ◌∙◌, subst, arith, append-nil, le_refl}
+use Rattle.std.proofs.Common.{◌≡◌, ℕ, ◌≤◌, List, [], ◌∷◌, ◌++◌, length, Option, Some, None, Bool, refl, sym, ap, ◌∙◌, subst, arith, append-nil, le_refl}
 use Rattle.std.specs.Prelude.{if◌then◌else◌}
-use Rattle.value_core.specs.Value.{Value, BoolVal}
+use Rattle.value_core.specs.Value.{Value}
 use Rattle.py_typed.specs.Sorts as sort
 use Rattle.py_typed.specs.Sorts.{Sort}
-use Rattle.py_typed.specs.State.{State, Outcome, Gives, Raises, Stops, Does, on_to}
+use Rattle.py_typed.specs.State.{State, Gives, Does, on_to}
 use Rattle.py_typed.specs.Operations.{truth_of}
 use Rattle.py_typed.specs.WaysOut.{Flow, Goes, Breaks, Continues, Returns}
 use Rattle.ir_core.specs.declared.code.RType.TheVariants.{Bool as BoolType}
 use Rattle.ir_core.specs.declared.code.Last.TheVariants.{Goto, If, Unreachable}
-use Rattle.ir_core.specs.declared.code.Reg.{Reg}
 use Rattle.ir_core.specs.declared.code.Program.{Program}
 use Rattle.ir_core.specs.declared.code.RType.{RType}
-use Rattle.ir_core.specs.Building.{Building, with_last, held, Extends}
+use Rattle.ir_core.specs.Building.{Building, with_last, held}
 use Rattle.ir_core.specs.Items.{End}
 use Rattle.ir_core.specs.Registers.{Regs}
 use Rattle.ir_core.specs.Meaning.{Config, Waiting, item_at, registers_of}
@@ -20,7 +19,7 @@ use Rattle.ir_core.specs.Rows.{type_of_reg}
 use Rattle.ir_frames.specs.Settings.{Setting}
 use Rattle.ir_frames.specs.Placing.{Placed}
 use Rattle.ir_frames.specs.Calling.{Closes, Patches}
-use Rattle.ir_frames.specs.Coming.{world, running, Leads, Ends}
+use Rattle.ir_frames.specs.Coming.{world, running, Ends}
 use Rattle.ir_frames.specs.Matching.{HasRoom, SameIn, Stands, IsThrown, CallsWork}
 use Rattle.ir_frames.specs.Computing.{Shows, Meaning, Computes}
 use Rattle.ir_statements.specs.declared.ways.Way.{Way}
@@ -30,7 +29,7 @@ use Rattle.ir_statements.specs.declared.ways.Plan.{Plan}
 use Rattle.ir_statements.specs.Ways.{planned, number_or, left, by}
 use Rattle.ir_statements.specs.Branches.{Tried, Untaken, Taken, taken, try_next, or_else}
 use Rattle.ir_statements.specs.Runs.{JumpTo, OpenIn, Flows, Tries, Works, Tests, Patching}
-use Rattle.ir_frames.proofs.ComingLemmas.{leads_trans, ends_from, ends_on, ends_now, ends_at, ends_map}
+use Rattle.ir_frames.proofs.ComingLemmas.{ends_from, ends_on, ends_now, ends_at, ends_map}
 use Rattle.ir_frames.proofs.HeldLemmas.{extends_refl, extends_trans, has_less, type_has, within_part}
 use Rattle.ir_frames.proofs.MatchLemmas.{room_on}
 use Rattle.ir_frames.proofs.PatchLemmas.{patches}

@@ -1,8 +1,8 @@
 -- What is emitted for each kind of statement does what the statement means.
-use Rattle.std.proofs.Common.{◌≡◌, ℕ, zero, suc, ◌+◌, ◌<◌, ◌≤◌, Bool, true, false, List, [], ◌∷◌, ◌++◌, length, map, Option, Some, None, refl, sym, ap, ◌∙◌, subst, arith, append_assoc, append-nil, le_refl, get_or, take, drop, add-one}
-use Rattle.std.specs.Prelude.{◌||◌, slice_get, slice_set, nat_lt}
+use Rattle.std.proofs.Common.{◌≡◌, ℕ, ◌+◌, ◌<◌, ◌≤◌, Bool, true, false, List, [], ◌∷◌, ◌++◌, length, map, Option, Some, None, refl, sym, ap, ◌∙◌, subst, arith, append_assoc, append-nil, le_refl, get_or, take, add-one}
+use Rattle.std.specs.Prelude.{◌||◌}
 use Rattle.std.proofs.Math.Seq.{take-suc}
-use Rattle.value_core.specs.Value.{Value, NoneVal}
+use Rattle.value_core.specs.Value.{Value}
 use Rattle.py_syntax.specs.declared.expression.BinOp.{BinOp}
 use Rattle.py_typed.specs.Sorts as sort
 use Rattle.py_typed.specs.Sorts.{Sort, sort as sort_of}
@@ -14,35 +14,33 @@ use Rattle.py_typed.specs.declared.statement.TStmtKind as kind
 use Rattle.py_typed.specs.Expressions.{TypedExpr, typed_expr, type_of}
 use Rattle.py_typed.specs.Statements as tree
 use Rattle.py_typed.specs.Statements.{TypedStmt, TypedAct, on_line, Variable, typed_stmt, typed_suite, typed_arm, typed_target, suite_of, arms_of, maybe_typed}
-use Rattle.py_typed.specs.State.{State, Outcome, Gives, Raises, Stops, Does, on_to}
+use Rattle.py_typed.specs.State.{State, on_to}
 use Rattle.py_typed.specs.SourceRun.{call_of}
 use Rattle.py_typed.specs.Operations.{truth_of}
-use Rattle.py_typed.specs.StatementMeaning.{test_of, suite}
-use Rattle.py_typed.specs.WaysOut.{Flow, Goes, Breaks, Continues, Returns, flow_on, loop}
+use Rattle.py_typed.specs.StatementMeaning.{suite}
+use Rattle.py_typed.specs.WaysOut.{Flow, flow_on}
 use Rattle.py_typed.proofs.StatementLemmas.{typed_stmt_of, typed_act-Expr, typed_act-Assign, typed_act-Aug, typed_act-Return, typed_act-Break, typed_act-Continue, typed_act-Pass, typed_stmt-If, typed_stmt-While}
 use Rattle.ir_core.specs.declared.code.RType.{RType}
 use Rattle.ir_core.specs.declared.code.RType.TheVariants.{Bool as BoolType}
-use Rattle.ir_core.specs.declared.code.Last.TheVariants.{Goto, If, Return as Leave, Unreachable}
+use Rattle.ir_core.specs.declared.code.Last.TheVariants.{Goto, If, Unreachable}
 use Rattle.ir_core.specs.declared.code.Op.TheVariants.{Turn}
 use Rattle.ir_core.specs.declared.code.Reg.{Reg}
 use Rattle.ir_core.specs.Building.{Building, with_last, held, Extends}
 use Rattle.ir_core.specs.Items.{End}
 use Rattle.ir_frames.specs.Settings.{Setting, rtype_of}
 use Rattle.ir_frames.specs.Calling.{Pushes, Closes}
-use Rattle.ir_frames.specs.Coming.{Ends}
 use Rattle.ir_frames.specs.Matching.{HasRoom}
-use Rattle.ir_frames.specs.Computing.{Showing, Shows, Meaning, Computes}
+use Rattle.ir_frames.specs.Computing.{Shows, Meaning, Computes}
 use Rattle.ir_statements.specs.declared.ways.Way.{Way}
 use Rattle.ir_statements.specs.declared.ways.Way.TheVariants.{Break, Continue, Return, Join}
 use Rattle.ir_statements.specs.declared.ways.Exit.{Exit}
 use Rattle.ir_statements.specs.declared.ways.Plan.{Plan}
 use Rattle.ir_statements.specs.Ways.{uses, is_same_way, stays, planned, left}
-use Rattle.ir_statements.specs.Branches.{Tried, Branch, tried, try_next, or_else}
+use Rattle.ir_statements.specs.Branches.{Tried, Branch, tried, try_next}
 use Rattle.ir_statements.specs.Runs.{Works, Tests, LeavesNoLoop, Emitted, OpenIn, Patching}
 use Rattle.ir_statements.specs.Tested.{means_arms, Tested}
 use Rattle.ir_statements.specs.Means.{means, means_statement, means_suite, means_alone, means_assignment, means_update, means_return}
 use Rattle.ir_frames.proofs.ComingLemmas.{ends_of}
-use Rattle.ir_frames.proofs.MatchLemmas.{room_on}
 use Rattle.ir_frames.proofs.HeldLemmas.{extends_trans}
 use Rattle.ir_frames.proofs.PatchLemmas.{patches}
 use Rattle.ir_statements.specs.Plans.{PlanFits}
@@ -227,7 +225,7 @@ next_tested x result looping arms i a body b0 b1 b2 b3 b4 b5 b6 r test start nex
     let one = tests_next x result (means_arms x (take i arms)) (means x (typed_expr a.0)) (means_suite x (typed_suite a.1)) b0 b1 b2 b3 b4 b5 b6 r.0 xs p.mine room so_far.works (bool_is _ bool x _ b1 b2 r.0 cx) c3 body' c5 (rw (is_test, is_start, is_next) at e6) in
     let row : (n : ℕ) → TypedExpr × tree.TypedSuite → Branch = λ n. branch_of x.source.classes.classes (call_of x.source n) x.source.globals x.variables n in
     let named = tests_of x result (means_arms x (take i arms ++ a ∷ [])) (λ n u. on_to (means_arms x (take i arms) n u) (try_next ((λ w. on_to (means x (typed_expr a.0) n w) truth_of), means_suite x (typed_suite a.1) n))) b0 b6 (xs ++ (p.mine ++ last))
-        (λ n u. ap (λ l. tried (map (row n) l) u) (map_last typed_arm (take i arms) a) ∙ ap (λ l. tried l u) (map_last (row n) (map typed_arm (take i arms)) (typed_arm a)) ∙ tried_last (map (row n) (map typed_arm (take i arms))) (row n (typed_arm a)) u) one in
+    (λ n u. ap (λ l. tried (map (row n) l) u) (map_last typed_arm (take i arms) a) ∙ ap (λ l. tried l u) (map_last (row n) (map typed_arm (take i arms)) (typed_arm a)) ∙ tried_last (map (row n) (map typed_arm (take i arms))) (row n (typed_arm a)) u) one in
     let exits : zs ≡ xs ++ (p.mine ++ last) = noted ∙ ap (λ l. l ++ last) p.is ∙ append_assoc xs p.mine last in
     let P : List Exit → Type 0 = λ z. Tested x result looping (means_arms x (take i arms ++ a ∷ [])) b0 b6 z in
     rw (add-one, take-suc arms i a lt, ← is)

@@ -1,8 +1,7 @@
 -- How stretches of code for statements follow one another.
-use Rattle.std.proofs.Common.{◌≡◌, ◌≢◌, ℕ, zero, suc, ◌+◌, ◌<◌, ◌≤◌, List, [], ◌∷◌, ◌++◌, length, Option, Some, None, Bool, true, false, cond, refl, sym, ap, ◌∙◌, subst, arith, le_refl}
+use Rattle.std.proofs.Common.{◌≡◌, ℕ, ◌<◌, ◌≤◌, List, [], ◌++◌, length, Option, Some, None, Bool, true, false, cond, refl, sym, ap, ◌∙◌, subst, arith, le_refl}
 use Rattle.std.specs.Prelude.{if◌then◌else◌}
 use Rattle.value_core.specs.Value.{Value, BoolVal}
-use Rattle.value_core.specs.Exceptions.{Thrown}
 use Rattle.py_typed.specs.Sorts as sort
 use Rattle.py_typed.specs.Sorts.{Sort}
 use Rattle.py_typed.specs.State.{State, Outcome, Gives, Raises, Stops, Does, on_to}
@@ -13,9 +12,9 @@ use Rattle.ir_core.specs.declared.code.RType.TheVariants.{Bool as BoolType}
 use Rattle.ir_core.specs.declared.code.Last.TheVariants.{Goto, If}
 use Rattle.ir_core.specs.declared.code.Reg.{Reg}
 use Rattle.ir_core.specs.declared.code.Program.{Program}
-use Rattle.ir_core.specs.Building.{Building, Extends}
+use Rattle.ir_core.specs.Building.{Building}
 use Rattle.ir_core.specs.Items.{End}
-use Rattle.ir_core.specs.Registers.{Held, Holds, Regs}
+use Rattle.ir_core.specs.Registers.{Holds, Regs}
 use Rattle.ir_core.specs.Effects.{World}
 use Rattle.ir_core.specs.Meaning.{Config, Waiting, Strict, item_at, registers_of}
 use Rattle.ir_core.specs.Rows.{type_of_reg}
@@ -23,14 +22,13 @@ use Rattle.ir_core.proofs.StepLemmas.{goto_step, if_step}
 use Rattle.ir_frames.specs.Settings.{Setting}
 use Rattle.ir_frames.specs.Placing.{Placed}
 use Rattle.ir_frames.specs.Coming.{world, running, Leads, Ends}
-use Rattle.ir_frames.specs.Matching.{HasKind, HasRoom, Matches, SameIn, Stands, IsThrown, CallsWork}
+use Rattle.ir_frames.specs.Matching.{HasRoom, Matches, SameIn, Stands, IsThrown, CallsWork}
 use Rattle.ir_frames.specs.Computing.{Showing, Shows, Meaning, Arrives, Computes}
 use Rattle.ir_statements.specs.declared.ways.Way.{Way}
 use Rattle.ir_statements.specs.declared.ways.Way.TheVariants.{Break, Continue, Return}
 use Rattle.ir_statements.specs.declared.ways.Exit.{Exit}
-use Rattle.ir_statements.specs.Ways.{uses}
-use Rattle.ir_statements.specs.Runs.{JumpTo, OpenIn, Brings, Back, Flows, Works}
-use Rattle.ir_frames.proofs.ComingLemmas.{leads_trans, leads_step, ends_from, ends_on, ends_now, ends_at, ends_map}
+use Rattle.ir_statements.specs.Runs.{JumpTo, Back, Flows, Works}
+use Rattle.ir_frames.proofs.ComingLemmas.{leads_trans, leads_step, ends_on, ends_now, ends_at, ends_map}
 use Rattle.ir_frames.proofs.HeldLemmas.{extends_refl, extends_trans, placed_part}
 use Rattle.ir_frames.proofs.MatchLemmas.{stands_from, thrown_from, match_kept}
 use Rattle.ir_statements.proofs.ExitLemmas.{stays_by, jump_back, open_on, open_append, jump_front, jump_rest, UsesToo, uses_front, uses_rest}

@@ -1,12 +1,11 @@
 -- A loop does in its code what it means.
-use Rattle.std.proofs.Common.{◌≡◌, ℕ, zero, suc, ◌+◌, ◌<◌, ◌≤◌, List, [], ◌∷◌, ◌++◌, length, Option, Some, None, Bool, true, false, cond, refl, sym, ap, ◌∙◌, subst, arith, append-nil, le_refl}
+use Rattle.std.proofs.Common.{◌≡◌, ℕ, zero, suc, ◌<◌, ◌≤◌, List, [], ◌++◌, length, Option, Some, None, Bool, refl, sym, ap, ◌∙◌, subst, arith, append-nil, le_refl}
 use Rattle.std.specs.Prelude.{if◌then◌else◌}
 use Rattle.value_core.specs.Ending as ending
-use Rattle.value_core.specs.Value.{Value, BoolVal, Store}
-use Rattle.value_core.specs.Items.{Items}
+use Rattle.value_core.specs.Value.{Value}
 use Rattle.py_typed.specs.Sorts as sort
 use Rattle.py_typed.specs.Sorts.{Sort}
-use Rattle.py_typed.specs.State.{State, Outcome, Gives, Raises, Stops, Does, on_to, spend, spend_from}
+use Rattle.py_typed.specs.State.{State, Gives, Does, on_to, spend, spend_from}
 use Rattle.py_typed.specs.Operations.{truth_of}
 use Rattle.py_typed.specs.WaysOut.{Flow, Goes, Breaks, Continues, Returns, after_body, loop}
 use Rattle.ir_core.specs.declared.code.RType.TheVariants.{Bool as BoolType}
@@ -15,15 +14,14 @@ use Rattle.ir_core.specs.declared.code.Op.TheVariants.{Turn}
 use Rattle.ir_core.specs.declared.code.Reg.{Reg}
 use Rattle.ir_core.specs.declared.code.Program.{Program}
 use Rattle.ir_core.specs.declared.code.RType.{RType}
-use Rattle.ir_core.specs.Building.{Building, with_last, held, Extends}
+use Rattle.ir_core.specs.Building.{Building, with_last, held}
 use Rattle.ir_core.specs.Items.{Do, End}
-use Rattle.ir_core.specs.Registers.{Held, Holds, Regs}
-use Rattle.ir_core.specs.Effects.{World}
-use Rattle.ir_core.specs.Meaning.{Config, Waiting, Strict, Ended, item_at, registers_of}
+use Rattle.ir_core.specs.Registers.{Regs}
+use Rattle.ir_core.specs.Meaning.{Config, Waiting, Strict, item_at, registers_of}
 use Rattle.ir_core.specs.Rows.{type_of_reg}
 use Rattle.ir_core.proofs.StepLemmas.{op_step, turn_step}
 use Rattle.ir_frames.specs.Settings.{Setting}
-use Rattle.ir_frames.specs.Placing.{HasType, Placed}
+use Rattle.ir_frames.specs.Placing.{Placed}
 use Rattle.ir_frames.specs.Calling.{Pushes, Closes, Patches}
 use Rattle.ir_frames.specs.Coming.{world, running, Leads, Ends}
 use Rattle.ir_frames.specs.Matching.{HasRoom, Matches, SameIn, Stands, IsThrown, CallsWork}
@@ -32,11 +30,11 @@ use Rattle.ir_statements.specs.declared.ways.Way.{Way}
 use Rattle.ir_statements.specs.declared.ways.Way.TheVariants.{Break, Continue, Return}
 use Rattle.ir_statements.specs.declared.ways.Exit.{Exit}
 use Rattle.ir_statements.specs.declared.ways.Plan.{Plan}
-use Rattle.ir_statements.specs.Ways.{uses, planned, left, by}
+use Rattle.ir_statements.specs.Ways.{planned, left, by}
 use Rattle.ir_statements.specs.Runs.{JumpTo, OpenIn, Brings, Back, Flows, Works, Patching}
 use Rattle.ir_frames.proofs.ComingLemmas.{leads_trans, leads_step, ends_from, ends_on, ends_now, ends_at}
-use Rattle.ir_frames.proofs.HeldLemmas.{extends_refl, extends_trans, has_less, type_has, pushes_has, placed_part, within_part}
-use Rattle.ir_frames.proofs.MatchLemmas.{room_on, thrown_from}
+use Rattle.ir_frames.proofs.HeldLemmas.{extends_refl, extends_trans, has_less, type_has, pushes_has, within_part}
+use Rattle.ir_frames.proofs.MatchLemmas.{room_on}
 use Rattle.ir_frames.proofs.PatchLemmas.{patches}
 use Rattle.ir_statements.proofs.ExitLemmas.{close_at, within_patch, Stays, stays_by, stays_trans, stays_patch_below, jump_back, open_on, open_within, uses_left, within_patches}
 use Rattle.ir_statements.proofs.FlowLemmas.{goes_to, goes_by, branch_ends, test_then, part_from, flow_goto}

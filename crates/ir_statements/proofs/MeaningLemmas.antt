@@ -1,14 +1,13 @@
 -- What statements in a row, and the arms of an `if`, mean: one behind the others.
-use Rattle.std.proofs.Common.{◌≡◌, ℕ, zero, suc, Bool, true, false, List, [], ◌∷◌, ◌++◌, map, refl, sym, ap, ◌∙◌}
+use Rattle.std.proofs.Common.{◌≡◌, ℕ, Bool, true, false, List, [], ◌∷◌, ◌++◌, map, refl, sym, ◌∙◌}
 use Rattle.std.specs.Prelude.{if◌then◌else◌}
-use Rattle.value_core.specs.Value.{Value}
 use Rattle.py_typed.specs.Expressions.{TypedExpr}
 use Rattle.py_typed.specs.Classes.{ClassEntry}
 use Rattle.py_typed.specs.Statements.{Variable, TypedStmt, TypedSuite, suite_of, arms_of}
 use Rattle.py_typed.specs.State.{State, Outcome, Gives, Raises, Stops, Does, Calls, on_to}
-use Rattle.py_typed.specs.StatementMeaning.{value_of, test_of, statement, suite, first_arm}
+use Rattle.py_typed.specs.StatementMeaning.{test_of, statement, suite, first_arm}
 use Rattle.py_typed.specs.WaysOut.{Flow, Goes, Breaks, Continues, Returns, flow_on}
-use Rattle.ir_statements.specs.Branches.{Tried, Untaken, Taken, taken, Branch, tried, try_next, or_else}
+use Rattle.ir_statements.specs.Branches.{taken, Branch, tried, try_next, or_else}
 use Rattle.ir_statements.proofs.FlowLemmas.{on_assoc}
 
 -- the same after each result
@@ -70,7 +69,6 @@ module _ (classes : List ClassEntry) (call : Calls) (globals locals : List Varia
       each : ((w : State) → first_arm classes call globals locals n (arms_of arms) other w ≡ on_to (tried (map branch_of arms) w) (or_else other)) → (h : Bool) (w : State) → (if h then suite classes call globals locals n a.1 else first_arm classes call globals locals n (arms_of arms) other) w ≡ on_to ((if h then (λ u. on_to (suite classes call globals locals n a.1 u) taken) else tried (map branch_of arms)) w) (or_else other)
       each rest true w = sym (taken_else (suite classes call globals locals n a.1 w) other)
       each rest false w = rest w
-
 
 -- one more arm
 pub tried_last : (bs : List Branch) (b : Branch) (s : State) → tried (bs ++ b ∷ []) s ≡ on_to (tried bs s) (try_next b)

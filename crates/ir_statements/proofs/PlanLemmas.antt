@@ -1,26 +1,20 @@
 -- Exits go where they may.
-use Rattle.std.proofs.Common.{◌≡◌, ℕ, zero, suc, ◌+◌, ◌<◌, ◌≤◌, Bool, true, false, List, [], ◌∷◌, ◌++◌, length, Option, Some, None, refl, sym, ap, ◌∙◌, subst, arith, get_or, ⊎_elim}
+use Rattle.std.proofs.Common.{◌≡◌, ℕ, zero, suc, ◌<◌, ◌≤◌, Bool, true, false, List, [], ◌∷◌, ◌++◌, length, Option, Some, None, refl, sym, ap, ◌∙◌, subst, arith, get_or, ⊎_elim}
 use Rattle.std.specs.Option.{option_map_or}
-use Rattle.std.specs.Prelude.{slice_get}
 use Rattle.ir_core.specs.declared.code.Block.{Block}
 use Rattle.ir_core.specs.declared.code.Last.TheVariants.{Goto}
-use Rattle.ir_core.specs.declared.code.RType.{RType}
 use Rattle.ir_core.specs.declared.code.Op.{Op}
 use Rattle.ir_core.specs.declared.code.Op.TheVariants.{Turn}
 use Rattle.ir_core.specs.Shape.{ends_in_turn}
 use Rattle.ir_core.specs.Building.{Building, with_last, is_open_at, is_unwritten}
-use Rattle.ir_frames.specs.Settings.{Setting}
-use Rattle.ir_frames.specs.Computing.{Meaning}
 use Rattle.ir_frames.specs.Shaped.{Higher}
 use Rattle.ir_frames.proofs.PatchLemmas.{same_or_not}
-use Rattle.py_typed.specs.WaysOut.{Flow}
 use Rattle.ir_statements.specs.declared.ways.Way.{Way}
 use Rattle.ir_statements.specs.declared.ways.Way.TheVariants.{Break, Continue, Return, Join}
 use Rattle.ir_statements.specs.declared.ways.Exit.{Exit}
-use Rattle.ir_statements.specs.declared.ways.Plan.{Plan}
 use Rattle.ir_statements.specs.Ways.{planned}
 use Rattle.ir_statements.specs.Plans.{GoesTo, PlanFits}
-use Rattle.ir_statements.specs.Runs.{OpenIn, Emitted}
+use Rattle.ir_statements.specs.Runs.{OpenIn}
 
 plan_at : (m : ℕ) (plan : Way → Option ℕ) (es : List Exit) (i : ℕ) (e y : Exit) → i < length es → e ≡ get_or es i y → PlanFits m plan es → GoesTo m e.block (plan e.way)
 plan_at m plan [] i e y lt is p = absurd (omega arith)

@@ -1,14 +1,13 @@
 -- The code of `print` writes what it is to.
-use Rattle.std.proofs.Common.{◌≡◌, ℕ, zero, suc, ◌+◌, ◌<◌, ◌≤◌, Bool, true, false, cond, List, [], ◌∷◌, ◌++◌, length, map, Option, Some, None, refl, sym, ap, ◌∙◌, subst, arith, append_assoc, append-nil, le_refl, length-append, get_or, take, drop, add-one}
-use Rattle.std.specs.Prelude.{ℤ, slice_get, if◌then◌else◌}
+use Rattle.std.proofs.Common.{◌≡◌, ℕ, zero, suc, ◌+◌, ◌<◌, Bool, true, false, List, [], ◌∷◌, ◌++◌, length, Option, Some, None, refl, sym, ap, ◌∙◌, subst, arith, append_assoc, append-nil, le_refl}
+use Rattle.std.specs.Prelude.{ℤ}
 use Rattle.std.specs.List.{list_all}
 use Rattle.std.specs.Fmt.{signed_decimal}
-use Rattle.std.proofs.Math.Seq.{take-suc}
-use Rattle.value_core.specs.Value.{Value, IntVal, BoolVal, StrVal, NoneVal}
+use Rattle.value_core.specs.Value.{Value, IntVal, BoolVal, StrVal}
 use Rattle.value_core.specs.Items.{line_feed}
 use Rattle.py_typed.specs.Sorts as sort
 use Rattle.py_typed.specs.Sorts.{Sort}
-use Rattle.py_typed.specs.State.{State, Outcome, Gives, Raises, Stops, Does, on_to, needs, write}
+use Rattle.py_typed.specs.State.{State, Outcome, Gives, Does, on_to, needs, write}
 use Rattle.py_typed.specs.Operations.{text_of, line_of, has_text}
 use Rattle.py_typed.specs.WaysOut.{Flow, Goes}
 use Rattle.c_core.specs.declared.primitive.Primitive.TheVariants as prim
@@ -30,15 +29,14 @@ use Rattle.ir_core.specs.Rows.{type_of_reg}
 use Rattle.ir_core.specs.Effects.{World}
 use Rattle.ir_core.specs.Meaning.{Config, Waiting, Strict, do_op, registers_of}
 use Rattle.ir_core.proofs.StepLemmas.{op_step, put_same, put_other}
-use Rattle.ir_frames.specs.Settings.{Setting, rtype_of}
-use Rattle.ir_frames.specs.Placing.{HasType, Has, Placed}
+use Rattle.ir_frames.specs.Settings.{Setting}
+use Rattle.ir_frames.specs.Placing.{HasType, Has}
 use Rattle.ir_frames.specs.Calling.{Adds, Pushes}
 use Rattle.ir_frames.specs.Coming.{world, running, Leads, Ends}
-use Rattle.ir_frames.specs.Matching.{HasRoom, Matches, SameIn, IsThrown, CallsWork}
+use Rattle.ir_frames.specs.Matching.{HasRoom, IsThrown}
 use Rattle.ir_frames.specs.Computing.{Showing, Shows, ShowsNumber, Counts, Meaning, Computes}
 use Rattle.ir_statements.specs.Runs.{Flows, Works}
 use Rattle.ir_statements.proofs.FlowLemmas.{on_assoc, value_then}
-use Rattle.ir_statements.specs.declared.ways.Way.{Way}
 use Rattle.ir_statements.specs.declared.printing.Printed.{Printed}
 use Rattle.ir_statements.specs.declared.printing.Printed.TheVariants.{Number, Flag}
 use Rattle.ir_statements.specs.Printing.{register_of, text_primitive, IsDeclared, AreDeclared, HoldsValue, HoldValues, spaced, gap, written, WritesHeld, WritesText, Writes, ArrivesPrinted, ComputesPrinted, one_value}

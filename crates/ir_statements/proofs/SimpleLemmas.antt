@@ -1,42 +1,40 @@
 -- Simple statements do in their code what they mean.
-use Rattle.std.proofs.Common.{◌≡◌, ◌≢◌, ℕ, zero, suc, ◌+◌, ◌-◌, ◌<◌, ◌≤◌, Bool, true, false, List, [], ◌∷◌, ◌++◌, length, Option, Some, None, refl, sym, ap, ◌∙◌, subst, arith, le_refl, ⊎_elim, ◌⊎◌, inl, inr}
+use Rattle.std.proofs.Common.{◌≡◌, ◌≢◌, ℕ, zero, suc, ◌+◌, ◌-◌, ◌<◌, true, false, List, [], ◌∷◌, length, Option, Some, None, refl, sym, ap, ◌∙◌, subst, arith, le_refl, ⊎_elim}
 use Rattle.std.specs.Prelude.{slice_get, slice_set, nat_lt, if◌then◌else◌}
 use Rattle.std.proofs.lemmas.Bool.{cases_eq}
 use Rattle.std.proofs.lemmas.Bool.Decides.{nat_tests}
-use Rattle.value_core.specs.Value.{Value, BoolVal, NoneVal}
-use Rattle.py_typed.specs.Sorts as sort
+use Rattle.value_core.specs.Value.{Value, BoolVal}
 use Rattle.py_typed.specs.Sorts.{Sort}
 use Rattle.py_typed.specs.Statements.{Variable}
-use Rattle.py_typed.specs.State.{State, Outcome, Gives, Raises, Stops, Does, on_to}
+use Rattle.py_typed.specs.State.{State, Outcome, Gives, Does, on_to}
 use Rattle.py_typed.specs.WaysOut.{Flow, Goes, Breaks, Continues, Returns}
 use Rattle.ir_core.specs.declared.code.RType.{RType}
 use Rattle.ir_core.specs.declared.code.RType.TheVariants.{Int, I64, Bool as BoolType, Ref}
-use Rattle.ir_core.specs.declared.code.Last.TheVariants.{Goto, Return as Leave, Unreachable}
+use Rattle.ir_core.specs.declared.code.Last.TheVariants.{Return as Leave, Unreachable}
 use Rattle.ir_core.specs.declared.code.Op.TheVariants.{Move}
 use Rattle.ir_core.specs.declared.code.Reg.{Reg}
 use Rattle.ir_core.specs.declared.code.Func.{Func}
 use Rattle.ir_core.specs.declared.code.Program.{Program}
-use Rattle.ir_core.specs.Building.{Building, held, Extends}
-use Rattle.ir_core.specs.Items.{Item, End, blocks_of, item_in}
+use Rattle.ir_core.specs.Building.{Building}
+use Rattle.ir_core.specs.Items.{Item, blocks_of, item_in}
 use Rattle.ir_core.specs.Registers.{Held, Holds, Regs, put, look}
 use Rattle.ir_core.specs.Rows.{type_of_reg}
-use Rattle.ir_core.specs.Effects.{World}
-use Rattle.ir_core.specs.Meaning.{Config, Waiting, Strict, is_refused, item_at, registers_of, declared_of}
+use Rattle.ir_core.specs.Meaning.{Config, Waiting, Strict, is_refused, registers_of, declared_of}
 use Rattle.ir_core.proofs.StepLemmas.{move_step, return_step, put_same, put_other}
 use Rattle.ir_frames.specs.Settings.{Setting, rtype_of}
-use Rattle.ir_frames.specs.Placing.{HasType, Has, Placed}
+use Rattle.ir_frames.specs.Placing.{HasType}
 use Rattle.ir_frames.specs.Calling.{Pushes, Closes}
-use Rattle.ir_frames.specs.Coming.{world, running, returning, Leads, Ends}
-use Rattle.ir_frames.specs.Matching.{HasKind, Keeps, flag_in, HasRoom, BackBelow, Matches, IsKept, SameIn, Stands, IsThrown, CallsWork}
+use Rattle.ir_frames.specs.Coming.{world, running, returning, Ends}
+use Rattle.ir_frames.specs.Matching.{HasKind, Keeps, flag_in, HasRoom, BackBelow, Matches, IsKept, Stands, IsThrown}
 use Rattle.ir_frames.specs.Computing.{Showing, Shows, Meaning, Computes}
 use Rattle.ir_statements.specs.declared.ways.Way.{Way}
 use Rattle.ir_statements.specs.declared.ways.Way.TheVariants.{Break, Continue, Return}
 use Rattle.ir_statements.specs.declared.ways.Exit.{Exit}
-use Rattle.ir_statements.specs.Runs.{JumpTo, OpenIn, HasResult, Brings, Back, Flows, Works}
+use Rattle.ir_statements.specs.Runs.{Back, Flows, Works}
 use Rattle.ir_statements.specs.Simple.{Sets, Leaves}
 use Rattle.ir_frames.proofs.ComingLemmas.{leads_trans, leads_step, ends_from, ends_now}
 use Rattle.ir_frames.proofs.HeldLemmas.{extends_refl, extends_trans, has_less, type_has, pushes_has, placed_part}
-use Rattle.ir_frames.proofs.MatchLemmas.{room_on, match_kept}
+use Rattle.ir_frames.proofs.MatchLemmas.{match_kept}
 use Rattle.ir_statements.proofs.ExitLemmas.{close_at, stays_by, open_on}
 use Rattle.ir_statements.proofs.FlowLemmas.{goes_to, value_then, flows_from}
 

@@ -1,8 +1,7 @@
 -- What the code of `print` writes.
-use Rattle.std.specs.Prelude.{◌≡◌, ℕ, zero, suc, ◌<◌, ◌≤◌, Bool, ℤ, List, [], ◌∷◌, ◌++◌, length, take, Option, Some, None, codes}
+use Rattle.std.specs.Prelude.{◌≡◌, ℕ, zero, suc, ◌<◌, ◌≤◌, Bool, ℤ, List, [], ◌∷◌, ◌++◌, length, Option, None}
 use Rattle.std.specs.List.{list_all}
 use Rattle.value_core.specs.Value.{Value, IntVal, BoolVal, StrVal}
-use Rattle.value_core.specs.Items.{line_feed}
 use Rattle.py_typed.specs.State.{State, ◌>>=◌, ◌>>◌, give, needs, write}
 use Rattle.py_typed.specs.WaysOut.{Flow, Goes}
 use Rattle.py_typed.specs.Operations.{text_of, line_of, has_text}

@@ -10,7 +10,7 @@ use Rattle.ir_core.specs.Building.{Building}
 use Rattle.ir_frames.specs.Settings.{Setting}
 use Rattle.ir_frames.specs.Computing.{Meaning}
 use Rattle.ir_statements.specs.declared.ways.Exit.{Exit}
-use Rattle.ir_statements.specs.Branches.{Tried, Branch, tried}
+use Rattle.ir_statements.specs.Branches.{Tried, tried}
 use Rattle.ir_statements.specs.Runs.{Tests, LeavesNoLoop}
 
 -- the arms of an `if`
