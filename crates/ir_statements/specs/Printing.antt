@@ -1,0 +1,107 @@
+-- What the code of `print` writes.
+use Rattle.std.specs.Prelude.{◌≡◌, ℕ, zero, suc, ◌<◌, ◌≤◌, Bool, ℤ, List, [], ◌∷◌, ◌++◌, length, Option, None}
+use Rattle.std.specs.List.{list_all}
+use Rattle.value_core.specs.Value.{Value, IntVal, BoolVal, StrVal}
+use Rattle.py_typed.specs.State.{State, ◌>>=◌, ◌>>◌, give, needs, write}
+use Rattle.py_typed.specs.WaysOut.{Flow, Goes}
+use Rattle.py_typed.specs.Operations.{text_of, line_of, has_text}
+use Rattle.c_core.specs.declared.primitive.Primitive.{Primitive}
+use Rattle.c_core.specs.declared.primitive.Primitive.TheVariants as prim
+use Rattle.c_core.specs.declared.primitive.Int64Prim.TheVariants as int64
+use Rattle.c_core.specs.declared.primitive.BoolPrim.TheVariants as bool
+use Rattle.ir_core.specs.declared.code.Reg.{Reg}
+use Rattle.ir_core.specs.declared.code.Program.{Program}
+use Rattle.ir_core.specs.declared.code.RType.TheVariants.{I64, Bool as BoolType}
+use Rattle.ir_core.specs.Building.{Building, Extends}
+use Rattle.ir_core.specs.Registers.{Holds, Regs}
+use Rattle.ir_core.specs.Meaning.{Config, Waiting}
+use Rattle.ir_frames.specs.Settings.{Setting}
+use Rattle.ir_frames.specs.Placing.{HasType, Has, Placed}
+use Rattle.ir_frames.specs.Coming.{world, running, Leads, Ends}
+use Rattle.ir_frames.specs.Matching.{Matches, IsThrown, CallsWork}
+use Rattle.ir_frames.specs.Computing.{Meaning}
+use Rattle.ir_statements.specs.declared.printing.Printed.{Printed}
+use Rattle.ir_statements.specs.declared.printing.Printed.TheVariants.{Number, Flag}
+
+abbrev pub register_of : Printed → Reg
+register_of (Number r) = r
+register_of (Flag r) = r
+
+-- the primitive that makes its text
+abbrev pub text_primitive : Printed → Primitive
+text_primitive (Number r) = prim.Int64 int64.Str
+text_primitive (Flag r) = prim.Bool bool.Str
+
+-- a register that is printed is there, with its type
+abbrev pub IsDeclared : Building → Printed → Type 0
+IsDeclared b (Number r) = HasType b r.0 I64
+IsDeclared b (Flag r) = HasType b r.0 BoolType
+
+abbrev pub AreDeclared : Building → List Printed → Type 0
+AreDeclared b [] = Unit {0}
+AreDeclared b (q ∷ qs) = IsDeclared b q × AreDeclared b qs
+
+-- it holds a value
+abbrev pub HoldsValue : Regs → Printed → Value → Type 0
+HoldsValue regs (Number r) v = (a : ℤ) × (v ≡ IntVal a) × (regs r.0 ≡ Holds v)
+HoldsValue regs (Flag r) v = (t : Bool) × (v ≡ BoolVal t) × (regs r.0 ≡ Holds v)
+
+abbrev pub HoldValues : Regs → List Printed → List Value → Type 0
+HoldValues regs [] [] = Unit {0}
+HoldValues regs (q ∷ qs) (v ∷ vs) = HoldsValue regs q v × HoldValues regs qs vs
+HoldValues regs _ _ = ⊥
+
+-- the texts of values, with one space between
+abbrev pub spaced : List Value → List ℕ
+spaced [] = []
+spaced (v ∷ []) = text_of v
+spaced (v ∷ w ∷ vs) = text_of v ++ 32 ∷ spaced (w ∷ vs)
+
+-- what stands behind so many values, before the next
+abbrev pub gap : ℕ → List ℕ
+gap zero = []
+gap (suc n) = 32 ∷ []
+
+abbrev pub written : State → List ℕ → State
+written s text = record s { output = s.output ++ text }
+
+-- code in one block that writes the text in a register, and gives it up
+pub record WritesHeld (old new : Building) (r : ℕ) : Type 0 where
+  pub extends : Extends old new
+  pub blocks : length new.blocks ≡ length old.blocks
+  pub runs : (p : Program) (fn : ℕ) → Has p fn new → (regs : Regs) (below : List Waiting) (s : State) (text : List ℕ) → regs r ≡ Holds (StrVal text) → Leads p (running fn (length old.blocks) (length old.ops) regs below (world None s)) (running fn (length new.blocks) (length new.ops) regs below (world None (written s text)))
+
+-- code in one block that writes a text
+pub record WritesText (old new : Building) (text : List ℕ) : Type 0 where
+  pub extends : Extends old new
+  pub blocks : length new.blocks ≡ length old.blocks
+  pub runs : (p : Program) (fn : ℕ) → Has p fn new → (regs : Regs) (below : List Waiting) (s : State) → (now : Regs) × Leads p (running fn (length old.blocks) (length old.ops) regs below (world None s)) (running fn (length new.blocks) (length new.ops) now below (world None (written s text))) × ((j : ℕ) → j < length old.regs → now j ≡ regs j)
+
+-- code in one block that writes what is made of the values in registers
+pub record Writes (old new : Building) (qs : List Printed) (text : List Value → List ℕ) : Type 0 where
+  pub extends : Extends old new
+  pub blocks : length new.blocks ≡ length old.blocks
+  pub runs : (p : Program) (fn : ℕ) → Has p fn new → (regs : Regs) (below : List Waiting) (s : State) (vs : List Value) → HoldValues regs qs vs → (now : Regs) × Leads p (running fn (length old.blocks) (length old.ops) regs below (world None s)) (running fn (length new.blocks) (length new.ops) now below (world None (written s (text vs)))) × ((j : ℕ) → j < length old.regs → now j ≡ regs j)
+
+-- ---- the values of arguments
+
+-- the machine is at a place, with the values in registers
+pub record ArrivesPrinted (fn k i : ℕ) (below : List Waiting) (keep : ℕ) (regs : Regs) (ls : List (Option Value)) (qs : List Printed) (vs : List Value) (s : State) (d : Config) : Type 0 where
+  pub now : Regs
+  pub is : d ≡ running fn k i now below (world None s)
+  pub shows : HoldValues now qs vs
+  pub kept : (j : ℕ) → j < keep → now j ≡ regs j
+  pub locals : s.locals ≡ ls
+
+-- the code from the first builder's place to the second's leaves values in registers that are printed
+pub record ComputesPrinted (x : Setting) (m : Meaning (List Value)) (old new : Building) (qs : List Printed) : Type 0 where
+  pub extends : Extends old new
+  pub declared : AreDeclared new qs
+  pub runs : (p : Program) (fn : ℕ) (h : Option ℕ) → Placed p fn old new h → (n : ℕ) → CallsWork p x.source n → (regs : Regs) (below : List Waiting) (s : State) → Matches x regs s.locals → s.turns ≤ n → Ends p s.turns (running fn (length old.blocks) (length old.ops) regs below (world None s)) (m n s) (ArrivesPrinted fn (length new.blocks) (length new.ops) below (length old.regs) regs s.locals qs) (IsThrown fn h below x (length old.regs) regs)
+
+-- the value of one argument, and what `print` does with values
+abbrev pub one_value : Meaning Value → Meaning (List Value)
+one_value m n = m n >>= λ v. give (v ∷ [])
+
+abbrev pub printed : Meaning (List Value) → Meaning Flow
+printed m n = m n >>= (λ vs. needs (list_all has_text vs) (write (line_of vs))) >> give Goes
