@@ -1,0 +1,9 @@
+//! Laws of the typing of expressions that no code needs.
+//!
+//! `specs/Laws.antt` states them over the definition `typing` of `py_typing`, and `laws` has a function for each, which does
+//! nothing.
+#![tactic(auto)]
+
+mod laws;
+
+pub use laws::what_is_not_typed_has_said_why;
