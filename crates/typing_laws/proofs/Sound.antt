@@ -1,12 +1,12 @@
 -- What is typed is well typed, of each kind of expression.
-use Rattle.std.proofs.Common.{◌≡◌, ℕ, zero, suc, Bool, true, false, not, ◌&&◌, ◌||◌, List, [], ◌∷◌, ◌++◌, length, slice_get, Option, Some, None, Result, Ok, Err, refl, ap, sym, ◌∙◌, subst, if◌then◌else◌}
+use Rattle.std.proofs.Common.{◌≡◌, ℕ, zero, suc, Bool, true, false, not, ◌&&◌, ◌||◌, ◌==◌, nat_lt, List, [], ◌∷◌, ◌++◌, length, slice_get, Option, Some, None, Result, Ok, Err, refl, ap, sym, ◌∙◌, subst, if◌then◌else◌, arith}
 use Rattle.std.proofs.lemmas.Bool.{and_from}
 use Rattle.py_syntax.specs.declared.token.Span.{Span}
 use Rattle.py_syntax.specs.declared.expression.CmpOp.{CmpOp}
 use Rattle.py_syntax.specs.Expressions as tree
 use Rattle.py_syntax.specs.Expressions.{ExprTree, ExprNode, at, ExprTrees, no_exprs, expr_then, Comparisons, no_comparisons, comparison_then, Arguments, no_arguments, argument_then, keyed_then}
 use Rattle.py_typed.specs.Sorts as sort
-use Rattle.py_typed.specs.Sorts.{Sort}
+use Rattle.py_typed.specs.Sorts.{Sort, listed_sorts}
 use Rattle.py_typed.specs.Classes.{ClassEntry, Signature}
 use Rattle.py_typed.specs.Laws.{IsClassTree}
 use Rattle.py_typed.specs.Expressions as node
@@ -14,9 +14,10 @@ use Rattle.py_typed.specs.Expressions.{TypedExpr, TypedNode, typed, type_of, com
 use Rattle.py_typed.specs.Statements.{Variable, TypedModule}
 use Rattle.py_typed.specs.Narrowing as telling
 use Rattle.py_typed.specs.Narrowing.{is_in}
-use Rattle.py_typed.specs.WellTypedExpr.{is_literal, is_result_type, is_type, reads_as, declared}
+use Rattle.py_typed.specs.WellTypedExpr.{are_value_types, is_literal, is_result_type, is_type, reads_as, declared}
 use Rattle.py_typed.proofs.FitLemmas.{type_is_itself, and_left, and_right}
-use Rattle.std.specs.Str.{is_utf8}
+use Rattle.std.specs.Str.{is_utf8, IsAscii}
+use Rattle.std.proofs.lemmas.Str.{is_utf8-from_IsUtf8, IsUtf8-from_ascii}
 use Rattle.std.specs.Prelude.{codes}
 use Rattle.py_scope.specs.declared.scope.Meaning.{Meaning}
 use Rattle.py_scope.specs.declared.scope.Meaning.TheVariants as meaning
@@ -47,6 +48,21 @@ use Rattle.typing_laws.proofs.Telling.{told_typing}
 use Rattle.typing_laws.proofs.Rows.{RowSound, RowAsked, Sound}
 use Rattle.typing_laws.proofs.Nodes.{value_sound, reads_fit, negation_sound, affirmation_sound, inversion_sound, arithmetic_sound, ChainSound, chain_sound, junction_sound, choice_sound, list_sound, tuple_sound, along_asked, indexing_sound}
 use Rattle.typing_laws.proofs.Called.{CalleeKnown, called_sound, row_asked}
+
+-- the text that a module's name is
+module_name_is_ascii : IsAscii (codes "__main__")
+module_name_is_ascii zero = omega arith
+module_name_is_ascii (suc zero) = omega arith
+module_name_is_ascii (suc (suc zero)) = omega arith
+module_name_is_ascii (suc (suc (suc zero))) = omega arith
+module_name_is_ascii (suc (suc (suc (suc zero)))) = omega arith
+module_name_is_ascii (suc (suc (suc (suc (suc zero))))) = omega arith
+module_name_is_ascii (suc (suc (suc (suc (suc (suc zero)))))) = omega arith
+module_name_is_ascii (suc (suc (suc (suc (suc (suc (suc zero))))))) = omega arith
+module_name_is_ascii (suc (suc (suc (suc (suc (suc (suc (suc i)))))))) = omega arith
+
+module_name_text : is_utf8 (codes "__main__") ≡ true
+module_name_text = is_utf8-from_IsUtf8 (codes "__main__") (IsUtf8-from_ascii (codes "__main__") module_name_is_ascii)
 
 three_parts : (a b c : Bool) → (a && b && c) ≡ true → (a ≡ true) × (b ≡ true) × (c ≡ true)
 three_parts true true true h = (refl, refl, refl)
@@ -84,7 +100,7 @@ module _ (means : List ℕ → Meaning) (signatures : List (Option Signature)) (
     named_sound w known span x (meaning.Local i) = local_sound w known span x i (var_at V.locals i) refl
     named_sound w known span x (meaning.Global i) = global_sound w known span x i (var_at V.globals i) refl
     named_sound w known span x meaning.ModuleName =
-        gives_is (S w known) (typed (node.Str (codes "__main__")) sort.Str span) (value_sound m locals init w known (typed (node.Str (codes "__main__")) sort.Str span) (λ others wi. stands_made m locals init false others (node.Str (codes "__main__")) sort.Str span refl refl refl refl refl))
+        gives_is (S w known) (typed (node.Str (codes "__main__")) sort.Str span) (value_sound m locals init w known (typed (node.Str (codes "__main__")) sort.Str span) (λ others wi. stands_made m locals init false others (node.Str (codes "__main__")) sort.Str span refl (and_from (is_utf8 (codes "__main__")) true module_name_text refl) refl refl refl))
     named_sound w known span x meaning.Untyped = gives_silent (S w known)
     named_sound w known span x meaning.Unknown = gives_fails (S w known) span _
     named_sound w known span x (meaning.Function i) = gives_fails (S w known) span _
@@ -167,12 +183,12 @@ module _ (means : List ℕ → Meaning) (signatures : List (Option Signature)) (
     items_asked w h i = refl
 
     parts_asked : (w : Wanted) (n : ℕ) → is_asked (length m.classes.classes) w ≡ true → RowAsked m locals init (parts_row w n)
-    parts_asked (wants (sort.TupleOf ts)) n h = by (Rattle.std.specs.Prelude.nat_eq (length (Rattle.py_typed.specs.Sorts.listed_sorts ts)) n)
+    parts_asked (wants (sort.TupleOf ts)) n h = by (length (listed_sorts ts) == n)
       where
-        by : (b : Bool) → RowAsked m locals init (if b then along (Rattle.py_typed.specs.Sorts.listed_sorts ts) else along [])
-        by true = along_asked m locals init ts (three_parts _ _ _ h).2
+        by : (b : Bool) → RowAsked m locals init (if b then along (listed_sorts ts) else along [])
+        by true = along_asked m locals init ts (three_parts (nat_lt 0 (length (listed_sorts ts))) (nat_lt (length (listed_sorts ts)) 17) (are_value_types (length m.classes.classes) ts) h).2
         by false i = refl
-    parts_asked w n h i = refl
+    parts_asked w n h = λ i. refl
 
     filled : (known : List ℕ) (cs : Comparisons) → is_chain cs ≡ true → Gives (operands here V known cs) (λ ps. ps ≡ [] → ⊥)
     filled known no_comparisons h = absurd (cc)
