@@ -119,3 +119,10 @@ Within names others = (x : ℕ) → is_in names x ≡ true → is_in others x �
 abbrev pub TypedTellsAsMuch : Type 0
 TypedTellsAsMuch =
     (c : Context) (vars : VarSorts) (w : Wanted) (known : List ℕ) (e : ExprTree) (t : TypedExpr) → (typing c vars w known e).got ≡ Some t → (outcome : Bool) → Within (facts c outcome e) (typed.facts outcome t)
+
+-- what is typed is well typed, where its place takes it, whatever more is known of names than typing knew
+abbrev pub TypedIsWellTyped : Type 0
+TypedIsWellTyped =
+    (c : Context) (vars : VarSorts) (m : TypedModule) (locals : List Variable) (init : Option ℕ) → Describes c vars m locals
+    → (w : Wanted) (known others : List ℕ) (e : ExprTree) (t : TypedExpr) → is_written e ≡ true → is_asked (length c.classes) w ≡ true → Within known others
+    → (typing c vars w known e).got ≡ Some t → is_taken c.classes w (type_of t) ≡ true → is_good m locals init w others t ≡ true
