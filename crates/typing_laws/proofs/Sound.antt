@@ -187,7 +187,7 @@ module _ (means : List ℕ → Meaning) (signatures : List (Option Signature)) (
       where
         by : (b : Bool) → RowAsked m locals init (if b then along (listed_sorts ts) else along [])
         by true = along_asked m locals init ts (three_parts (nat_lt 0 (length (listed_sorts ts))) (nat_lt (length (listed_sorts ts)) 17) (are_value_types (length m.classes.classes) ts) h).2
-        by false i = refl
+        by false = λ i. refl
     parts_asked w n h = λ i. refl
 
     filled : (known : List ℕ) (cs : Comparisons) → is_chain cs ≡ true → Gives (operands here V known cs) (λ ps. ps ≡ [] → ⊥)
