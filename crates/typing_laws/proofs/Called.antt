@@ -1,5 +1,5 @@
 -- What typing gives for calls stands well typed.
-use Rattle.std.proofs.Common.{◌≡◌, ℕ, zero, suc, Bool, true, false, not, ◌&&◌, ◌||◌, ◌==◌, List, [], ◌∷◌, length, map, slice_get, Option, Some, None, Result, Ok, Err, refl, ap, sym, ◌∙◌, subst, if◌then◌else◌}
+use Rattle.std.proofs.Common.{◌≡◌, ℕ, zero, suc, Bool, true, false, not, ◌&&◌, ◌||◌, ◌==◌, List, [], ◌∷◌, length, slice_get, Option, Some, None, Ok, Err, refl, ap, sym, ◌∙◌, subst, if◌then◌else◌}
 use Rattle.std.proofs.lemmas.Bool.{and_from, eqb-true}
 use Rattle.std.proofs.lemmas.Option.{same_Some}
 use Rattle.std.specs.List.{list_all}
@@ -8,30 +8,29 @@ use Rattle.std.specs.Prelude.{codes}
 use Rattle.py_syntax.specs.declared.token.Span.{Span}
 use Rattle.py_typed.specs.Sorts as sort
 use Rattle.py_typed.specs.Sorts.{Sort, sorts_of}
-use Rattle.py_typed.specs.Classes.{ClassEntry, Signature}
+use Rattle.py_typed.specs.Classes.{Signature}
 use Rattle.py_typed.specs.Fits.{is_same_type, are_same_types, is_number, is_nothing, fits}
 use Rattle.py_typed.specs.Expressions as node
 use Rattle.py_typed.specs.Expressions.{TypedExpr, TypedNode, typed, type_of, exprs_of}
 use Rattle.py_typed.specs.Statements.{Variable, TypedModule}
 use Rattle.py_typed.specs.WellTypedExpr.{stands, rule, parts_typed, are_values, types_of, is_value_type, is_result_type, is_printable, is_sized, is_function, is_typed, call_fits}
 use Rattle.py_typed.proofs.FitLemmas.{type_is_itself, and_left, and_right}
-use Rattle.py_scope.specs.Context.{Wanted, free, test, wants, dropped, WantedRow, along, wants_some, wanted_in}
-use Rattle.py_messages.specs.Seen.{Seen, Message, silent, fails, behind, rule as ruled_by}
-use Rattle.py_rules.specs.Several.{with_part}
+use Rattle.py_scope.specs.Context.{Wanted, free, test, wants, dropped, along, wants_some, wanted_in}
+use Rattle.py_messages.specs.Seen.{Message}
 use Rattle.py_rules.specs.Values.{coerced}
 use Rattle.py_rules.specs.Rows.{Misfit, unfit, changed_row}
 use Rattle.py_calls.specs.declared.callees.Single.{Single}
 use Rattle.py_calls.specs.declared.callees.Single.TheVariants as one
 use Rattle.py_calls.specs.Callees.{Callee, function, print, input, range, single, method, unknown, voiceless, uncalled, value}
 use Rattle.py_calls.specs.Builtins.{gives_value, as_value, unprintable, printed, print_call, input_call, the_only, single_takes, single_made, single_given, single_call}
-use Rattle.py_calls.specs.Methods.{item_of, method_row, pop_call, append_given, append_call, list_call, value_call, method_call}
-use Rattle.py_calls.specs.Calls.{arguments_row, no_keys, positional, refused, call_made, function_given, function_call, called}
-use Rattle.typing_laws.specs.WellTyped.{is_asked, is_taken, is_good, Within, IsSigned}
-use Rattle.typing_laws.proofs.Given.{Gives, gives_silent, gives_fails, gives_rule, gives_behind, gives_judged, gives_after}
-use Rattle.typing_laws.proofs.Types.{clash, result_of_value}
+use Rattle.py_calls.specs.Methods.{item_of, method_row, pop_call, append_given, append_call, value_call, method_call}
+use Rattle.py_calls.specs.Calls.{arguments_row, no_keys, positional, refused, function_given, function_call, called}
+use Rattle.typing_laws.specs.WellTyped.{is_asked, is_good, Within, IsSigned}
+use Rattle.typing_laws.proofs.Given.{Gives, gives_silent, gives_fails, gives_rule, gives_judged}
+use Rattle.typing_laws.proofs.Types.{result_of_value}
 use Rattle.typing_laws.proofs.Stands.{stands_made, value_type, coerced_stands, value_good}
 use Rattle.typing_laws.proofs.Telling.{ok_same}
-use Rattle.typing_laws.proofs.Rows.{type_coerced, free_fits, types_changed, types_listed, AllStand, RowSound, RowAsked, Sound, row_stands, stand_values, changed_all}
+use Rattle.typing_laws.proofs.Rows.{type_coerced, free_fits, types_changed, AllStand, RowSound, RowAsked, Sound, row_stands, stand_values, changed_all}
 use Rattle.typing_laws.proofs.Nodes.{if_ok, value_sound}
 
 -- a length that is another

@@ -17,7 +17,7 @@ use Rattle.py_scope.specs.declared.scope.Imported.TheVariants as imported
 use Rattle.py_scope.specs.Context.{Context, VarSort, unset, untyped, has, VarSorts, var_at, Wanted, free, test, WantedRow, wanted_in, some_signature}
 use Rattle.py_messages.specs.Seen.{Seen, Message, is, silent, fails, both, judged, behind, rule, made, ruled}
 use Rattle.py_messages.specs.Rows.{row_then}
-use Rattle.py_rules.specs.Several.{told, ruled_all, with_part}
+use Rattle.py_rules.specs.Several.{told, ruled_all}
 use Rattle.py_rules.specs.Facts.{facts}
 use Rattle.py_rules.specs.Names.{variable, named}
 use Rattle.py_rules.specs.Chains.{faults_of, chain}
@@ -26,7 +26,7 @@ use Rattle.py_displays.specs.Displays.{item_sort, items_row, parts_row}
 use Rattle.py_calls.specs.Callees.{Callee, function, print, input, range, single, method, unknown, voiceless, uncalled, value, callee, has_key, is_variable, function_called, builtin_called, import_called, name_called}
 use Rattle.py_calls.specs.Calls.{arguments_row, positional, no_keys, refused, called}
 use Rattle.py_messages.specs.Messages.{range_outside_for, not_callable}
-use Rattle.py_typing.specs.Typing.{typing, node_typing, items, operands, arguments, part, receiver, count}
+use Rattle.py_typing.specs.Typing.{typing, node_typing, items, operands, arguments, part, count}
 use Rattle.typing_laws.specs.Laws.{is_voiceless, is_untyped, AllHaveTypes}
 
 pub record IsLoud {A : Type 0} (s : Seen A) : Type 0 where

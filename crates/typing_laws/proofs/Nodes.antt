@@ -1,9 +1,8 @@
 -- The rules of typing give what stands well typed, by their parts.
-use Rattle.std.proofs.Common.{◌≡◌, ℕ, ℤ, zero, suc, Bool, true, false, not, ◌&&◌, ◌||◌, ◌==◌, List, [], ◌∷◌, ◌++◌, length, map, drop, slice_get, is_none, Option, Some, None, Result, Ok, Err, refl, ap, sym, ◌∙◌, subst, if◌then◌else◌, nat_lt}
-use Rattle.std.proofs.lemmas.Bool.{and_from, or_parts, or_left, or_right}
+use Rattle.std.proofs.Common.{◌≡◌, ℕ, Bool, true, false, not, ◌&&◌, ◌||◌, ◌==◌, List, [], ◌∷◌, ◌++◌, length, map, slice_get, is_none, Option, Some, None, Ok, Err, refl, ap, sym, ◌∙◌, subst, if◌then◌else◌, nat_lt}
+use Rattle.std.proofs.lemmas.Bool.{and_from, or_left, or_right}
 use Rattle.std.proofs.lemmas.Option.{same_Some}
 use Rattle.std.specs.Option.{option_map}
-use Rattle.std.specs.List.{list_any, list_all}
 use Rattle.py_syntax.specs.declared.token.Span.{Span}
 use Rattle.py_syntax.specs.declared.expression.BinOp.{BinOp}
 use Rattle.py_syntax.specs.declared.expression.BinOp.TheVariants as op
@@ -11,7 +10,6 @@ use Rattle.py_syntax.specs.declared.expression.CmpOp.{CmpOp}
 use Rattle.py_syntax.specs.declared.expression.CmpOp.TheVariants as compare
 use Rattle.py_typed.specs.Sorts as sort
 use Rattle.py_typed.specs.Sorts.{Sort, Sorts, no_sorts, sort_then, sorts_of, listed_sorts}
-use Rattle.py_typed.specs.Classes.{ClassEntry}
 use Rattle.py_typed.specs.Fits.{is_same_type, is_number, is_nothing, number_join, all_same, fits, join}
 use Rattle.py_typed.specs.Laws.{IsClassTree}
 use Rattle.py_typed.specs.Expressions as node
@@ -19,21 +17,21 @@ use Rattle.py_typed.specs.Expressions.{TypedExpr, TypedNode, typed, type_of, exp
 use Rattle.py_typed.specs.Statements.{Variable, TypedModule}
 use Rattle.py_typed.specs.Narrowing as telling
 use Rattle.py_typed.specs.WellTypedExpr.{stands, chain_typed, pair_fits, is_value_type, are_value_types, is_result_type, is_type, reads_as, are_texts, are_numbers, is_bar, operation_sort, indexed, tuple_sort, is_none_literal}
-use Rattle.py_typed.proofs.FitLemmas.{type_is_itself, and_left, and_right, join_holds, nothing_is}
+use Rattle.py_typed.proofs.FitLemmas.{type_is_itself, and_left, and_right, join_holds}
 use Rattle.py_scope.specs.Context.{Wanted, free, test, wants, dropped, WantedRow, each, along, wanted_in}
 use Rattle.py_messages.specs.Seen.{Message}
 use Rattle.py_rules.specs.Several.{fault_unless, unless}
-use Rattle.py_rules.specs.Values.{place_of, coerced, truth}
+use Rattle.py_rules.specs.Values.{coerced, truth}
 use Rattle.py_rules.specs.Rows.{Misfit, unfit, changed_row}
 use Rattle.py_rules.specs.Operators.{signed, negation, affirmation, inversion, is_sum, is_concat, is_numeric, op_text, arithmetic}
-use Rattle.py_rules.specs.Chains.{is_identity, is_membership, are_ordered, is_key_for, are_comparable, pair_faults, chain_faults}
-use Rattle.py_rules.specs.Choices.{joined, word_text, word_node, is_test, junction, operand, choice_type, choice}
+use Rattle.py_rules.specs.Chains.{are_ordered, is_key_for, pair_faults, chain_faults}
+use Rattle.py_rules.specs.Choices.{joined, word_text, word_node, junction, operand, choice_type, choice}
 use Rattle.py_displays.specs.Displays.{item_sort, items_row, list_of, expected_list, common, joined_list, inferred_list, list_display, parts_row, is_tuple_size, kept_row, tuple_of, is_invalid_tuple, has_bare_none, tuple_display}
-use Rattle.py_displays.specs.Indexing.{Literal, keyed_by, item_at, item_of, parts_of, with_place, at_place, place_in, part_at, part_made, part_of, is_tuple, indexing}
-use Rattle.typing_laws.specs.WellTyped.{is_asked, is_taken, is_good, Within}
+use Rattle.py_displays.specs.Indexing.{Literal, item_at, item_of, with_place, at_place, place_in, part_at, part_made, part_of, is_tuple, indexing}
+use Rattle.typing_laws.specs.WellTyped.{is_asked, Within}
 use Rattle.typing_laws.proofs.Inside.{within_append}
 use Rattle.typing_laws.proofs.Types.{clash, result_of_value, value_not_nothing, number_result, join_result, part_value, signed_fits}
-use Rattle.typing_laws.proofs.Stands.{stands_made, value_type, coerced_stands, truth_stands, truth_is_bool, value_good}
+use Rattle.typing_laws.proofs.Stands.{stands_made, value_type, coerced_stands, truth_is_bool, value_good}
 use Rattle.typing_laws.proofs.Telling.{done, ok_same, truth_tells, coerced_tells, within_same, joined_made}
 use Rattle.typing_laws.proofs.Rows.{type_coerced, free_fits, free_unchanged, changed_length, all_fit, AllStand, RowSound, RowAsked, RowValued, Sound, row_stands, changed_all, common_holds, list_stands, tuple_stands, none_bare}
 

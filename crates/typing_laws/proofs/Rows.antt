@@ -1,8 +1,8 @@
 -- Typed expressions in a row: all of them are values, and so they are once they are changed to what is asked for.
-use Rattle.std.proofs.Common.{◌≡◌, ℕ, zero, suc, Bool, true, false, not, ◌&&◌, ◌||◌, List, [], ◌∷◌, length, map, drop, slice_get, is_none, Option, Some, None, refl, ap, sym, ◌∙◌, subst, if◌then◌else◌, nat_lt}
+use Rattle.std.proofs.Common.{◌≡◌, ℕ, suc, Bool, true, false, not, ◌&&◌, ◌||◌, List, [], ◌∷◌, length, map, drop, slice_get, Option, Some, None, refl, ap, sym, ◌∙◌, subst, if◌then◌else◌, nat_lt}
 use Rattle.std.proofs.lemmas.Bool.{and_from, or_parts}
 use Rattle.std.proofs.lemmas.Option.{same_Some}
-use Rattle.std.specs.List.{list_any, list_all}
+use Rattle.std.specs.List.{list_any}
 use Rattle.py_syntax.specs.declared.token.Span.{Span}
 use Rattle.py_typed.specs.Sorts as sort
 use Rattle.py_typed.specs.Sorts.{Sort, Sorts, no_sorts, sort_then, sorts_of, listed_sorts}
@@ -18,9 +18,9 @@ use Rattle.py_typed.proofs.OnwardLemmas.{fits_on}
 use Rattle.py_scope.specs.Context.{Wanted, free, test, wants, dropped, WantedRow, each, along, wants_some, wanted_in}
 use Rattle.py_rules.specs.Values.{place_of, coerced, changed}
 use Rattle.py_rules.specs.Rows.{Misfit, first_of, unfit_at, unfit, changed_row}
-use Rattle.py_displays.specs.Displays.{common, is_bare_none, is_optional, has_bare_none, is_tuple_size, list_of, tuple_of}
+use Rattle.py_displays.specs.Displays.{common, is_bare_none, has_bare_none, is_tuple_size, list_of, tuple_of}
 use Rattle.typing_laws.specs.WellTyped.{is_asked, is_taken, is_good, Within}
-use Rattle.typing_laws.proofs.Types.{clash, result_of_value, value_of_result, value_not_nothing, join_result, drop_get, listed}
+use Rattle.typing_laws.proofs.Types.{result_of_value, value_of_result, value_not_nothing, join_result, drop_get, listed}
 use Rattle.typing_laws.proofs.Stands.{stands_made, value_type, coerced_stands}
 
 pub type_coerced : (t : Sort) (e : TypedExpr) → type_of (coerced t e) ≡ t

@@ -1,5 +1,5 @@
 -- What is typed is well typed, of each kind of expression.
-use Rattle.std.proofs.Common.{◌≡◌, ℕ, zero, suc, Bool, true, false, not, ◌&&◌, ◌||◌, ◌==◌, nat_lt, List, [], ◌∷◌, ◌++◌, length, slice_get, Option, Some, None, Result, Ok, Err, refl, ap, sym, ◌∙◌, subst, if◌then◌else◌, arith}
+use Rattle.std.proofs.Common.{◌≡◌, ℕ, zero, suc, Bool, true, false, not, ◌&&◌, ◌==◌, nat_lt, List, [], ◌∷◌, ◌++◌, length, slice_get, Option, Some, None, Ok, Err, refl, ap, ◌∙◌, subst, if◌then◌else◌, arith}
 use Rattle.std.proofs.lemmas.Bool.{and_from}
 use Rattle.py_syntax.specs.declared.token.Span.{Span}
 use Rattle.py_syntax.specs.declared.expression.CmpOp.{CmpOp}
@@ -8,13 +8,12 @@ use Rattle.py_syntax.specs.Expressions.{ExprTree, ExprNode, at, ExprTrees, no_ex
 use Rattle.py_typed.specs.Sorts as sort
 use Rattle.py_typed.specs.Sorts.{Sort, listed_sorts}
 use Rattle.py_typed.specs.Classes.{ClassEntry, Signature}
-use Rattle.py_typed.specs.Laws.{IsClassTree}
 use Rattle.py_typed.specs.Expressions as node
 use Rattle.py_typed.specs.Expressions.{TypedExpr, TypedNode, typed, type_of, comparisons_of}
 use Rattle.py_typed.specs.Statements.{Variable, TypedModule}
 use Rattle.py_typed.specs.Narrowing as telling
 use Rattle.py_typed.specs.Narrowing.{is_in}
-use Rattle.py_typed.specs.WellTypedExpr.{are_value_types, is_literal, is_result_type, is_type, reads_as, declared}
+use Rattle.py_typed.specs.WellTypedExpr.{are_value_types, is_literal, is_type, reads_as, declared}
 use Rattle.py_typed.proofs.FitLemmas.{type_is_itself, and_left, and_right}
 use Rattle.std.specs.Str.{is_utf8, IsAscii}
 use Rattle.std.proofs.lemmas.Str.{is_utf8-from_IsUtf8, IsUtf8-from_ascii}
@@ -25,10 +24,8 @@ use Rattle.py_scope.specs.declared.scope.Builtin.{Builtin}
 use Rattle.py_scope.specs.declared.scope.Builtin.TheVariants as builtin
 use Rattle.py_scope.specs.declared.scope.Imported.{Imported}
 use Rattle.py_scope.specs.declared.scope.Imported.TheVariants as imported
-use Rattle.py_scope.specs.Context.{Context, VarSort, unset, untyped, has, VarSorts, var_at, Wanted, free, test, wants, dropped, WantedRow, each, along, wanted_in, some_signature}
-use Rattle.py_messages.specs.Seen.{Seen, Message, is, silent, fails, both, behind, rule, made}
-use Rattle.py_messages.specs.Rows.{row_then}
-use Rattle.py_rules.specs.Several.{ruled_all}
+use Rattle.py_scope.specs.Context.{Context, VarSort, unset, untyped, has, VarSorts, var_at, Wanted, free, test, wants, dropped, WantedRow, along, wanted_in, some_signature}
+use Rattle.py_messages.specs.Seen.{silent, both, behind, made}
 use Rattle.py_rules.specs.Facts.{facts}
 use Rattle.py_rules.specs.Names.{variable, named}
 use Rattle.py_rules.specs.Operators.{negation, affirmation, inversion, arithmetic}
@@ -36,11 +33,11 @@ use Rattle.py_rules.specs.Chains.{faults_of, chain}
 use Rattle.py_rules.specs.Choices.{junction, operand, choice}
 use Rattle.py_displays.specs.Displays.{item_sort, items_row, list_display, parts_row, tuple_display}
 use Rattle.py_displays.specs.Indexing.{literal, indexing}
-use Rattle.py_calls.specs.Callees.{Callee, function, callee, is_named, is_variable, has_key, function_called, builtin_called, import_called, name_called}
+use Rattle.py_calls.specs.Callees.{callee, is_variable, has_key, function_called, builtin_called, import_called, name_called}
 use Rattle.py_calls.specs.Methods.{attribute, is_list_method}
 use Rattle.py_calls.specs.Calls.{arguments_row, called}
-use Rattle.py_typing.specs.Typing.{typing, node_typing, items, operands, arguments, part, receiver, count}
-use Rattle.typing_laws.specs.WellTyped.{is_written, is_written_node, are_written, are_operands, are_arguments, is_chain, is_asked, is_taken, is_good, Within, IsDeclared, IsSigned, Describes}
+use Rattle.py_typing.specs.Typing.{typing, node_typing, items, operands, arguments, part, count}
+use Rattle.typing_laws.specs.WellTyped.{is_written, is_written_node, are_written, are_operands, are_arguments, is_chain, is_asked, is_taken, is_good, Within, IsSigned, Describes}
 use Rattle.typing_laws.proofs.Given.{Gives, gives_is, gives_silent, gives_fails, gives_any, gives_also, gives_both, gives_made, gives_rule, gives_ruled_all, gives_row, gives_after}
 use Rattle.typing_laws.proofs.Types.{result_of_value, reads_value}
 use Rattle.typing_laws.proofs.Stands.{stands_made, value_type}

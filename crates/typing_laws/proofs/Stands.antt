@@ -1,5 +1,5 @@
 -- What stands well typed: values as values of another type, as truth values, and alone.
-use Rattle.std.proofs.Common.{◌≡◌, ℕ, Bool, true, false, not, ◌&&◌, ◌||◌, List, [], ◌∷◌, ◌++◌, length, Option, refl, ap, sym, ◌∙◌, subst, if◌then◌else◌}
+use Rattle.std.proofs.Common.{◌≡◌, ℕ, Bool, true, false, not, ◌&&◌, List, ◌++◌, length, Option, refl, ap, sym, ◌∙◌, subst, if◌then◌else◌}
 use Rattle.std.proofs.lemmas.Bool.{and_from}
 use Rattle.py_syntax.specs.declared.token.Span.{Span}
 use Rattle.py_typed.specs.Sorts as sort
@@ -10,7 +10,7 @@ use Rattle.py_typed.specs.Expressions.{TypedExpr, TypedNode, typed, type_of}
 use Rattle.py_typed.specs.Statements.{Variable, TypedModule}
 use Rattle.py_typed.specs.Narrowing.{facts}
 use Rattle.py_typed.specs.WellTypedExpr.{stands, parts_typed, rule, suits, is_result_type, is_empty_call, is_typed}
-use Rattle.py_typed.proofs.FitLemmas.{one_type, type_is_itself, and_left, and_right}
+use Rattle.py_typed.proofs.FitLemmas.{one_type, and_left, and_right}
 use Rattle.py_rules.specs.Values.{place_of, coerced, truth}
 use Rattle.py_scope.specs.Context.{Wanted, free, test, wants, dropped}
 use Rattle.typing_laws.specs.WellTyped.{is_good}

@@ -1,5 +1,5 @@
 -- What a test tells as it is written, its typed form tells.
-use Rattle.std.proofs.Common.{◌≡◌, ℕ, Bool, true, false, not, ◌&&◌, List, [], ◌∷◌, ◌++◌, Option, Some, None, Result, Ok, Err, refl, ap, sym, ◌∙◌, subst, if◌then◌else◌}
+use Rattle.std.proofs.Common.{◌≡◌, ℕ, Bool, true, false, not, ◌&&◌, List, [], ◌∷◌, ◌++◌, Option, Some, None, Result, Ok, refl, ap, sym, ◌∙◌, subst, if◌then◌else◌}
 use Rattle.py_syntax.specs.declared.token.Span.{Span}
 use Rattle.py_syntax.specs.declared.expression.CmpOp.{CmpOp}
 use Rattle.py_syntax.specs.declared.expression.CmpOp.TheVariants as compare
@@ -15,16 +15,16 @@ use Rattle.py_typed.specs.Narrowing as telling
 use Rattle.py_typed.specs.Narrowing.{is_in, shared, node_of}
 use Rattle.py_scope.specs.declared.scope.Meaning.{Meaning}
 use Rattle.py_scope.specs.declared.scope.Meaning.TheVariants as meaning
-use Rattle.py_scope.specs.Context.{Context, VarSort, unset, untyped, has, VarSorts, var_at, Wanted, free, test, wants, dropped}
-use Rattle.py_messages.specs.Seen.{Seen, Message, both, made, is, rule, behind}
+use Rattle.py_scope.specs.Context.{Context, VarSort, unset, untyped, has, VarSorts, var_at, Wanted, free, test}
+use Rattle.py_messages.specs.Seen.{Seen, Message, both, made, behind}
 use Rattle.py_rules.specs.Several.{ruled_all}
 use Rattle.py_rules.specs.Values.{place_of, coerced, truth}
 use Rattle.py_rules.specs.Names.{variable, named}
 use Rattle.py_rules.specs.Operators.{inversion}
 use Rattle.py_rules.specs.Chains.{faults_of, chain}
 use Rattle.py_rules.specs.Choices.{joined, word_text, word_node, is_test, junction, operand}
-use Rattle.py_rules.specs.Facts.{facts, subject, local_of, tells, is_none_tree, none_test, compared, joined_facts}
-use Rattle.py_typing.specs.Typing.{typing, node_typing, operands}
+use Rattle.py_rules.specs.Facts.{facts, subject, local_of, tells, is_none_tree, none_test, joined_facts}
+use Rattle.py_typing.specs.Typing.{typing, operands}
 use Rattle.typing_laws.specs.WellTyped.{Within}
 use Rattle.typing_laws.proofs.Given.{Gives, gives_is, gives_silent, gives_fails, gives_any, gives_both, gives_made, gives_rule, gives_ruled_all, gives_row}
 use Rattle.typing_laws.proofs.Inside.{within_none, within_append, within_shared}

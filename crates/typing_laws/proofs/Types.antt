@@ -1,13 +1,13 @@
 -- Types of the table: of what is read, of joins, of the parts of others.
-use Rattle.std.proofs.Common.{◌≡◌, ℕ, zero, suc, Bool, true, false, not, ◌&&◌, ◌||◌, List, [], ◌∷◌, drop, slice_get, Option, Some, None, refl, ap, sym, ◌∙◌, subst, if◌then◌else◌}
+use Rattle.std.proofs.Common.{◌≡◌, ℕ, zero, suc, Bool, true, false, ◌||◌, List, [], ◌∷◌, drop, slice_get, Some, refl, ap, sym, ◌∙◌, subst}
 use Rattle.std.proofs.lemmas.Bool.{or_right}
 use Rattle.std.proofs.lemmas.Option.{same_Some}
 use Rattle.py_typed.specs.Sorts as sort
 use Rattle.py_typed.specs.Sorts.{Sort, Sorts, no_sorts, sort_then, sorts_of, listed_sorts}
 use Rattle.py_typed.specs.Classes.{ClassEntry}
-use Rattle.py_typed.specs.Fits.{is_same_type, is_number, is_nothing, number_join, optional, same, fits, join}
+use Rattle.py_typed.specs.Fits.{is_same_type, is_number, is_nothing, number_join, optional, fits, join}
 use Rattle.py_typed.specs.WellTypedExpr.{is_value_type, are_value_types, is_result_type, reads_as}
-use Rattle.py_typed.proofs.FitLemmas.{and_left, and_right, nothing_is, by_tests, type_is_itself}
+use Rattle.py_typed.proofs.FitLemmas.{and_left, and_right, nothing_is, by_tests}
 
 pub clash : {A : Type 0} (b : Bool) → b ≡ true → b ≡ false → A
 clash true p q = absurd (cc)

@@ -15,7 +15,7 @@ use Rattle.py_typed.specs.Narrowing.{is_in}
 use Rattle.py_typed.specs.WellTypedExpr as expr
 use Rattle.py_typed.specs.WellTypedExpr.{is_literal, is_value_type, is_result_type, declared, is_function}
 use Rattle.py_scope.specs.declared.scope.Meaning.TheVariants as meaning
-use Rattle.py_scope.specs.Context.{Context, has, VarSorts, var_at, Wanted, free, test, wants, dropped, some_signature}
+use Rattle.py_scope.specs.Context.{Context, has, VarSorts, var_at, Wanted, test, wants, dropped, some_signature}
 use Rattle.py_rules.specs.Values.{truth}
 use Rattle.py_rules.specs.Facts.{facts}
 use Rattle.py_typing.specs.Typing.{typing}
