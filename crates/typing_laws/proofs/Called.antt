@@ -86,13 +86,16 @@ module _ (m : TypedModule) (locals : List Variable) (init : Option ℕ) where
   params_asked i s signed j = param_asked s.params j (slice_get s.params j) refl signed.params
 
   function_is_call : (others : List ℕ) (i : ℕ) (s : Signature) (es : List TypedExpr) → IsSigned m i s → length es ≡ length s.params → AllStand m locals init others es → unfit m.classes.classes (along s.params) 0 es ≡ None → IsCall others (node.Call i (exprs_of (changed_row (along s.params) 0 es))) s.ret
-  function_is_call others i s es signed l h u =
-      (stand_values m locals init others (changed_row (along s.params) 0 es) (changed_all m locals init others (along s.params) 0 es (params_asked i s signed) h u),
-        and_from (is_function (slice_get m.funcs i)) (call_fits m locals init (slice_get m.classes.signatures i) (types_of m locals init (exprs_of (changed_row (along s.params) 0 es))) s.ret) signed.function
+  function_is_call others i s es signed l h u = (
+    stand_values m locals init others (changed_row (along s.params) 0 es) (changed_all m locals init others (along s.params) 0 es (params_asked i s signed) h u),
+    and_from (is_function (slice_get m.funcs i)) (call_fits m locals init (slice_get m.classes.signatures i) (types_of m locals init (exprs_of (changed_row (along s.params) 0 es))) s.ret) signed.function
         (ap (λ o. call_fits m locals init o (types_of m locals init (exprs_of (changed_row (along s.params) 0 es))) s.ret) signed.is
-          ∙ ap (λ ts. are_same_types (sorts_of ts) (sorts_of s.params) && is_same_type s.ret s.ret) (types_changed m locals init s.params 0 es s.params refl l)
-          ∙ and_from (are_same_types (sorts_of s.params) (sorts_of s.params)) (is_same_type s.ret s.ret) (type_is_itself (sort.TupleOf (sorts_of s.params))) (type_is_itself s.ret)),
-        refl, signed.ret, λ q. q)
+        ∙ ap (λ ts. are_same_types (sorts_of ts) (sorts_of s.params) && is_same_type s.ret s.ret) (types_changed m locals init s.params 0 es s.params refl l)
+        ∙ and_from (are_same_types (sorts_of s.params) (sorts_of s.params)) (is_same_type s.ret s.ret) (type_is_itself (sort.TupleOf (sorts_of s.params))) (type_is_itself s.ret)),
+    refl,
+    signed.ret,
+    λ q. q,
+  )
 
   function_sound : (w : Wanted) (known : List ℕ) (span : Span) (f : List ℕ) (i : ℕ) (s : Signature) (es : List TypedExpr) (e : TypedExpr) → IsSigned m i s → RowSound m locals init (along s.params) 0 known es → function_call m.classes.classes w span f i s es ≡ Ok e → Sound m locals init w known e
   function_sound w known span f i s es e signed h g =
@@ -128,9 +131,13 @@ module _ (m : TypedModule) (locals : List Variable) (init : Option ℕ) where
       by : (o : Option (ℕ × Sort)) → unprintable 1 es ≡ o → printed m.classes.classes w span es o ≡ Ok e → Sound m locals init w known e
       by (Some p) u q = absurd (cc)
       by None u q =
-          as_value_sound w known (codes "print") (node.Print (exprs_of es)) sort.Nothing span e (λ others wi.
-            (stand_values m locals init others es (row_stands m locals init (along []) 0 known others es h wi (free_fits m.classes.classes 0 es)),
-              and_from (list_all is_printable (types_of m locals init (exprs_of es))) true (printable_all 1 es u) refl, refl, refl, λ r. absurd (is_one r))) q
+          as_value_sound w known (codes "print") (node.Print (exprs_of es)) sort.Nothing span e (λ others wi. (
+            stand_values m locals init others es (row_stands m locals init (along []) 0 known others es h wi (free_fits m.classes.classes 0 es)),
+            and_from (list_all is_printable (types_of m locals init (exprs_of es))) true (printable_all 1 es u) refl,
+            refl,
+            refl,
+            λ r. absurd (is_one r),
+          )) q
 
   input_sound : (w : Wanted) (known : List ℕ) (span : Span) (es : List TypedExpr) (e : TypedExpr) → input_call span es ≡ Ok e → Sound m locals init w known e
   input_sound w known span [] e g =
@@ -186,17 +193,21 @@ module _ (m : TypedModule) (locals : List Variable) (init : Option ℕ) where
           given false f k = absurd (cc)
           given true f k =
               as_value_sound w known (codes "append") (node.Append a (coerced t x)) sort.Nothing span e (λ others wi.
-                let va = sa others wi refl in
-                let vx = first_taken x others (subst (RowSound m locals init (along (t ∷ [])) 0 known) (only_is es x p) h) wi f in
-                (and_from (stands m locals init false others a) (stands m locals init false others (coerced t x)) va (coerced_stands m locals init others t x vx f (result_of_value (length m.classes.classes) t (subst (λ s. is_result_type (length m.classes.classes) s ≡ true) is (value_type m locals init false others a va)))).0,
-                  and_from (is_same_type (type_of a) (sort.ListOf (type_of (coerced t x)))) true (ap (λ s. is_same_type s (sort.ListOf (type_of (coerced t x)))) is ∙ ap (λ s. is_same_type t s) (type_coerced t x) ∙ type_is_itself t) refl, refl, refl, λ r. absurd (is_one r))) k
+              let va = sa others wi refl in
+              let vx = first_taken x others (subst (RowSound m locals init (along (t ∷ [])) 0 known) (only_is es x p) h) wi f in (
+                and_from (stands m locals init false others a) (stands m locals init false others (coerced t x)) va (coerced_stands m locals init others t x vx f (result_of_value (length m.classes.classes) t (subst (λ s. is_result_type (length m.classes.classes) s ≡ true) is (value_type m locals init false others a va)))).0,
+                and_from (is_same_type (type_of a) (sort.ListOf (type_of (coerced t x)))) true (ap (λ s. is_same_type s (sort.ListOf (type_of (coerced t x)))) is ∙ ap (λ s. is_same_type t s) (type_coerced t x) ∙ type_is_itself t) refl,
+                refl,
+                refl,
+                λ r. absurd (is_one r),
+              )) k
 
   pop_sound : (w : Wanted) (known : List ℕ) (span : Span) (a : TypedExpr) (t : Sort) (es : List TypedExpr) (e : TypedExpr) → type_of a ≡ sort.ListOf t → Sound m locals init free known a → pop_call span a t es ≡ Ok e → Sound m locals init w known e
   pop_sound w known span a t [] e is sa g =
       subst (Sound m locals init w known) (ok_same (typed (node.Pop a) t span) e g) (value_sound m locals init w known (typed (node.Pop a) t span) (λ others wi.
-        let va = sa others wi refl in
-        stands_made m locals init false others (node.Pop a) t span va (ap (λ s. is_same_type s (sort.ListOf t)) is ∙ type_is_itself t) refl
-        (result_of_value (length m.classes.classes) t (subst (λ s. is_result_type (length m.classes.classes) s ≡ true) is (value_type m locals init false others a va))) refl))
+      let va = sa others wi refl in
+      stands_made m locals init false others (node.Pop a) t span va (ap (λ s. is_same_type s (sort.ListOf t)) is ∙ type_is_itself t) refl
+      (result_of_value (length m.classes.classes) t (subst (λ s. is_result_type (length m.classes.classes) s ≡ true) is (value_type m locals init false others a va))) refl))
   pop_sound w known span a t (x ∷ es) e is sa g = absurd (cc)
 
   item_type : (s : Sort) (t : Sort) → item_of s ≡ Some t → s ≡ sort.ListOf t

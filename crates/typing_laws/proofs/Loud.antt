@@ -284,4 +284,3 @@ module _ (C : Context) (V : VarSorts) (all : AllHaveTypes C V) where
     callee_case w span known (at (tree.Name x) place) args l = on_right (name_case known place x (C.meaning x) (all.names x)) (λ h. call_loud w span known (at (tree.Name x) place) None args h (l (arguments_row (callee C (at (tree.Name x) place)) None)))
     callee_case w span known (at (tree.Attr e m) place) args l = inl (loud_typing free known e)
     callee_case w span known (at n place) args l = inl (loud_node free known place n)
-

@@ -66,20 +66,20 @@ module _ (m : TypedModule) (locals : List Variable) (init : Option ℕ) where
   negation_sound w known span a e s h =
       let r = if_ok (is_number (type_of a)) (typed (node.Neg a) (signed (type_of a)) span) e _ h in
       subst (Sound m locals init w known) r.1 (value_sound w known (typed (node.Neg a) (signed (type_of a)) span) (λ others wi.
-        stands_made m locals init false others (node.Neg a) (signed (type_of a)) span (s others wi refl)
-        (and_from (is_number (type_of a)) (is_same_type (signed (type_of a)) (signed (type_of a))) r.0 (type_is_itself (signed (type_of a)))) refl (number_result (length m.classes.classes) (type_of a) sort.Int) refl))
+      stands_made m locals init false others (node.Neg a) (signed (type_of a)) span (s others wi refl)
+      (and_from (is_number (type_of a)) (is_same_type (signed (type_of a)) (signed (type_of a))) r.0 (type_is_itself (signed (type_of a)))) refl (number_result (length m.classes.classes) (type_of a) sort.Int) refl))
 
   pub affirmation_sound : (w : Wanted) (known : List ℕ) (a e : TypedExpr) → Sound m locals init free known a → affirmation m.classes.classes a ≡ Ok e → Sound m locals init w known e
   affirmation_sound w known a e s h =
       let r = if_ok (is_number (type_of a)) (coerced (signed (type_of a)) a) e _ h in
       subst (Sound m locals init w known) r.1 (value_sound w known (coerced (signed (type_of a)) a) (λ others wi.
-        (coerced_stands m locals init others (signed (type_of a)) a (s others wi refl) (signed_fits m.classes.classes (type_of a) r.0) (number_result (length m.classes.classes) (type_of a) sort.Int)).0))
+      (coerced_stands m locals init others (signed (type_of a)) a (s others wi refl) (signed_fits m.classes.classes (type_of a) r.0) (number_result (length m.classes.classes) (type_of a) sort.Int)).0))
 
   pub inversion_sound : (w : Wanted) (known : List ℕ) (span : Span) (a : TypedExpr) → Sound m locals init test known a → Sound m locals init w known (inversion span a)
   inversion_sound w known span a s =
       value_sound w known (inversion span a) (λ others wi.
-        stands_made m locals init false others (node.Not (truth a)) sort.Bool span (s others wi refl)
-        (and_from (is_same_type (type_of (truth a)) sort.Bool) true (ap (λ x. is_same_type x sort.Bool) (truth_is_bool m locals init a)) refl) refl refl refl)
+      stands_made m locals init false others (node.Not (truth a)) sort.Bool span (s others wi refl)
+      (and_from (is_same_type (type_of (truth a)) sort.Bool) true (ap (λ x. is_same_type x sort.Bool) (truth_is_bool m locals init a)) refl) refl refl refl)
 
   -- what an operation on numbers gives
   operation_is : (o : BinOp) (s t : Sort) → is_concat o s t ≡ false → is_numeric o s t ≡ true → (are_numbers s t ≡ true) × (operation_sort o s t ≡ Some (number_join s t))
@@ -103,20 +103,20 @@ module _ (m : TypedModule) (locals : List Variable) (init : Option ℕ) where
       numbers q r =
           let k = operation_is o (type_of p.0) (type_of p.1) q r.0 in
           subst (Sound m locals init w known) r.1 (value_sound w known (typed (node.Arith o p.0 p.1) (number_join (type_of p.0) (type_of p.1)) span) (λ others wi.
-            stands_made m locals init false others (node.Arith o p.0 p.1) (number_join (type_of p.0) (type_of p.1)) span
-            (and_from (stands m locals init false others p.0) (stands m locals init false others p.1) (sa others wi refl) (sb others wi refl))
-            (and_from (are_numbers (type_of p.0) (type_of p.1)) (is_type (operation_sort o (type_of p.0) (type_of p.1)) (number_join (type_of p.0) (type_of p.1))) k.0
-              (ap (λ x. is_type x (number_join (type_of p.0) (type_of p.1))) k.1 ∙ type_is_itself (number_join (type_of p.0) (type_of p.1))))
-            refl (number_result (length m.classes.classes) (type_of p.0) (type_of p.1)) refl))
+          stands_made m locals init false others (node.Arith o p.0 p.1) (number_join (type_of p.0) (type_of p.1)) span
+          (and_from (stands m locals init false others p.0) (stands m locals init false others p.1) (sa others wi refl) (sb others wi refl))
+          (and_from (are_numbers (type_of p.0) (type_of p.1)) (is_type (operation_sort o (type_of p.0) (type_of p.1)) (number_join (type_of p.0) (type_of p.1))) k.0
+          (ap (λ x. is_type x (number_join (type_of p.0) (type_of p.1))) k.1 ∙ type_is_itself (number_join (type_of p.0) (type_of p.1))))
+          refl (number_result (length m.classes.classes) (type_of p.0) (type_of p.1)) refl))
 
       by : (c : Bool) → is_concat o (type_of p.0) (type_of p.1) ≡ c
           → (if c then done (typed (node.Concat p.0 p.1) sort.Str span)
-            else (if is_numeric o (type_of p.0) (type_of p.1) then Ok (typed (node.Arith o p.0 p.1) (number_join (type_of p.0) (type_of p.1)) span) else Err (Rattle.py_messages.specs.Messages.unsupported_operands m.classes.classes (op_text o) (type_of p.0) (type_of p.1)))) ≡ Ok e → Sound m locals init w known e
+          else (if is_numeric o (type_of p.0) (type_of p.1) then Ok (typed (node.Arith o p.0 p.1) (number_join (type_of p.0) (type_of p.1)) span) else Err (Rattle.py_messages.specs.Messages.unsupported_operands m.classes.classes (op_text o) (type_of p.0) (type_of p.1)))) ≡ Ok e → Sound m locals init w known e
       by true q g =
           subst (Sound m locals init w known) (ok_same (typed (node.Concat p.0 p.1) sort.Str span) e g) (value_sound w known (typed (node.Concat p.0 p.1) sort.Str span) (λ others wi.
-            stands_made m locals init false others (node.Concat p.0 p.1) sort.Str span
-            (and_from (stands m locals init false others p.0) (stands m locals init false others p.1) (sa others wi refl) (sb others wi refl))
-            (and_from (are_texts (type_of p.0) (type_of p.1)) true (concat_texts o (type_of p.0) (type_of p.1) q) refl) refl refl refl))
+          stands_made m locals init false others (node.Concat p.0 p.1) sort.Str span
+          (and_from (stands m locals init false others p.0) (stands m locals init false others p.1) (sa others wi refl) (sb others wi refl))
+          (and_from (are_texts (type_of p.0) (type_of p.1)) true (concat_texts o (type_of p.0) (type_of p.1) q) refl) refl refl refl))
       by false q g = numbers q (if_ok (is_numeric o (type_of p.0) (type_of p.1)) (typed (node.Arith o p.0 p.1) (number_join (type_of p.0) (type_of p.1)) span) e _ g)
 
   -- ---- chains
@@ -173,9 +173,9 @@ module _ (m : TypedModule) (locals : List Variable) (init : Option ℕ) where
   chain_sound w known span a [] s h filled e = absurd (filled refl)
   chain_sound w known span a (p ∷ ps) s h filled e =
       value_sound w known (typed (node.Compare a (comparisons_of (p ∷ ps))) sort.Bool span) (λ others wi.
-        stands_made m locals init false others (node.Compare a (comparisons_of (p ∷ ps))) sort.Bool span
-        (and_from (stands m locals init false others a) (chain_typed m locals init others a (comparisons_of (p ∷ ps))) (s others wi refl) (chain_holds known others a (p ∷ ps) h wi e))
-        refl refl refl refl)
+      stands_made m locals init false others (node.Compare a (comparisons_of (p ∷ ps))) sort.Bool span
+      (and_from (stands m locals init false others a) (chain_typed m locals init others a (comparisons_of (p ∷ ps))) (s others wi refl) (chain_holds known others a (p ∷ ps) h wi e))
+      refl refl refl refl)
 
   -- ---- `and`, `or`, conditionals
 
@@ -212,11 +212,11 @@ module _ (m : TypedModule) (locals : List Variable) (init : Option ℕ) where
       let r = joined_made m.classes.classes (word_text conjoined) (word_node conjoined) span a b e (join m.classes.classes (type_of a) (type_of b)) h in
       let f = join_holds m.classes.classes (type_of a) (type_of b) r.0 r.1 in
       subst (Sound m locals init w known) r.2 (value_sound w known (typed (word_node conjoined (coerced r.0 a) (coerced r.0 b)) r.0 span) (λ others wi.
-        let va = sa others wi refl in
-        let vb = sb (telling.facts conjoined (coerced r.0 a) ++ others) (more_known names known others (telling.facts conjoined (coerced r.0 a)) (telling.facts conjoined a) told (coerced_tells conjoined r.0 a) wi) refl in
-        let rt = join_result (length m.classes.classes) m.classes.classes (type_of a) (type_of b) r.0 (value_type m locals init false others a va) (value_type m locals init false (telling.facts conjoined (coerced r.0 a) ++ others) b vb) r.1 in
-        word_stands conjoined false others (coerced r.0 a) (coerced r.0 b) r.0 span (coerced_stands m locals init others r.0 a va f.0 rt).0
-        (coerced_stands m locals init (telling.facts conjoined (coerced r.0 a) ++ others) r.0 b vb f.1 rt).0 (type_coerced r.0 a) (type_coerced r.0 b) no_test rt))
+      let va = sa others wi refl in
+      let vb = sb (telling.facts conjoined (coerced r.0 a) ++ others) (more_known names known others (telling.facts conjoined (coerced r.0 a)) (telling.facts conjoined a) told (coerced_tells conjoined r.0 a) wi) refl in
+      let rt = join_result (length m.classes.classes) m.classes.classes (type_of a) (type_of b) r.0 (value_type m locals init false others a va) (value_type m locals init false (telling.facts conjoined (coerced r.0 a) ++ others) b vb) r.1 in
+      word_stands conjoined false others (coerced r.0 a) (coerced r.0 b) r.0 span (coerced_stands m locals init others r.0 a va f.0 rt).0
+      (coerced_stands m locals init (telling.facts conjoined (coerced r.0 a) ++ others) r.0 b vb f.1 rt).0 (type_coerced r.0 a) (type_coerced r.0 b) no_test rt))
 
   pub junction_sound : (w : Wanted) (conjoined : Bool) (known names : List ℕ) (span : Span) (p : TypedExpr × TypedExpr) (e : TypedExpr) → Sound m locals init (operand w) known p.0 → Sound m locals init (operand w) (names ++ known) p.1 → Within names (telling.facts conjoined p.0) → junction m.classes.classes w conjoined span p ≡ Ok e → Sound m locals init w known e
   junction_sound test conjoined known names span p e sa sb told h =
@@ -243,17 +243,17 @@ module _ (m : TypedModule) (locals : List Variable) (init : Option ℕ) where
   choice_sound w known first_names last_names span p e asked sa st sb told_yes told_no h =
       let r = joined_made m.classes.classes _ (λ a b. node.Cond a (truth p.0.1) b) span p.0.0 p.1 e (choice_type m.classes.classes w (type_of p.0.0) (type_of p.1)) h in
       subst (Sound m locals init w known) r.2 (value_sound w known (typed (node.Cond (coerced r.0 p.0.0) (truth p.0.1) (coerced r.0 p.1)) r.0 span) (λ others wi.
-        let first : List ℕ = telling.facts true (truth p.0.1) ++ others in
-        let last : List ℕ = telling.facts false (truth p.0.1) ++ others in
-        let va : stands m locals init false first p.0.0 ≡ true = sa first (more_known first_names known others (telling.facts true (truth p.0.1)) (telling.facts true p.0.1) told_yes (truth_tells true p.0.1) wi) refl in
-        let vb : stands m locals init false last p.1 ≡ true = sb last (more_known last_names known others (telling.facts false (truth p.0.1)) (telling.facts false p.0.1) told_no (truth_tells false p.0.1) wi) refl in
-        let f = choice_fits w (type_of p.0.0) (type_of p.1) r.0 asked (value_type m locals init false first p.0.0 va) (value_type m locals init false last p.1 vb) r.1 in
-        stands_made m locals init false others (node.Cond (coerced r.0 p.0.0) (truth p.0.1) (coerced r.0 p.1)) r.0 span
-        (three_hold (stands m locals init true others (truth p.0.1)) (stands m locals init false first (coerced r.0 p.0.0)) (stands m locals init false last (coerced r.0 p.1)) (st others wi refl)
-          (coerced_stands m locals init first r.0 p.0.0 va f.0 f.2).0 (coerced_stands m locals init last r.0 p.1 vb f.1 f.2).0)
-        (three_hold (is_same_type (type_of (truth p.0.1)) sort.Bool) (is_same_type (type_of (coerced r.0 p.0.0)) r.0) (is_same_type (type_of (coerced r.0 p.1)) r.0) (ap (λ x. is_same_type x sort.Bool) (truth_is_bool m locals init p.0.1))
-          (ap (λ x. is_same_type x r.0) (type_coerced r.0 p.0.0) ∙ type_is_itself r.0) (ap (λ x. is_same_type x r.0) (type_coerced r.0 p.1) ∙ type_is_itself r.0))
-        refl f.2 refl))
+      let first : List ℕ = telling.facts true (truth p.0.1) ++ others in
+      let last : List ℕ = telling.facts false (truth p.0.1) ++ others in
+      let va : stands m locals init false first p.0.0 ≡ true = sa first (more_known first_names known others (telling.facts true (truth p.0.1)) (telling.facts true p.0.1) told_yes (truth_tells true p.0.1) wi) refl in
+      let vb : stands m locals init false last p.1 ≡ true = sb last (more_known last_names known others (telling.facts false (truth p.0.1)) (telling.facts false p.0.1) told_no (truth_tells false p.0.1) wi) refl in
+      let f = choice_fits w (type_of p.0.0) (type_of p.1) r.0 asked (value_type m locals init false first p.0.0 va) (value_type m locals init false last p.1 vb) r.1 in
+      stands_made m locals init false others (node.Cond (coerced r.0 p.0.0) (truth p.0.1) (coerced r.0 p.1)) r.0 span
+      (three_hold (stands m locals init true others (truth p.0.1)) (stands m locals init false first (coerced r.0 p.0.0)) (stands m locals init false last (coerced r.0 p.1)) (st others wi refl)
+      (coerced_stands m locals init first r.0 p.0.0 va f.0 f.2).0 (coerced_stands m locals init last r.0 p.1 vb f.1 f.2).0)
+      (three_hold (is_same_type (type_of (truth p.0.1)) sort.Bool) (is_same_type (type_of (coerced r.0 p.0.0)) r.0) (is_same_type (type_of (coerced r.0 p.1)) r.0) (ap (λ x. is_same_type x sort.Bool) (truth_is_bool m locals init p.0.1))
+      (ap (λ x. is_same_type x r.0) (type_coerced r.0 p.0.0) ∙ type_is_itself r.0) (ap (λ x. is_same_type x r.0) (type_coerced r.0 p.1) ∙ type_is_itself r.0))
+      refl f.2 refl))
 
   -- ---- displays
 
@@ -268,10 +268,10 @@ module _ (m : TypedModule) (locals : List Variable) (init : Option ℕ) where
       made : (t : Sort) → common m.classes.classes (Some (type_of x)) es ≡ Some t → is_nothing t ≡ false → Sound m locals init w known (list_of span t (x ∷ es))
       made t c q =
           value_sound w known (list_of span t (x ∷ es)) (λ others wi.
-            let all = row_stands m locals init (along []) 0 known others (x ∷ es) h wi (free_fits m.classes.classes 0 (x ∷ es)) in
-            let r = common_holds m locals init tree others es (type_of x) t 1 (value_type m locals init false others x all.first) all.rest c in
-            list_stands m locals init others t span (x ∷ es) (Rattle.typing_laws.proofs.Types.value_of_result (length m.classes.classes) t r.2 q) all
-            (Rattle.typing_laws.proofs.Rows.unfit_none m.classes.classes (each t) 0 x es (Rattle.typing_laws.proofs.Rows.fit_of_taken m.classes.classes 0 (wants t) x r.0) r.1))
+          let all = row_stands m locals init (along []) 0 known others (x ∷ es) h wi (free_fits m.classes.classes 0 (x ∷ es)) in
+          let r = common_holds m locals init tree others es (type_of x) t 1 (value_type m locals init false others x all.first) all.rest c in
+          list_stands m locals init others t span (x ∷ es) (Rattle.typing_laws.proofs.Types.value_of_result (length m.classes.classes) t r.2 q) all
+          (Rattle.typing_laws.proofs.Rows.unfit_none m.classes.classes (each t) 0 x es (Rattle.typing_laws.proofs.Rows.fit_of_taken m.classes.classes 0 (wants t) x r.0) r.1))
 
       known_type : (t : Sort) (b : Bool) → common m.classes.classes (Some (type_of x)) es ≡ Some t → is_nothing t ≡ b → (if b then Err Rattle.py_messages.specs.Messages.no_common_item else Ok (list_of span t (x ∷ es))) ≡ Ok e → Sound m locals init w known e
       known_type t true c q k = absurd (cc)
@@ -295,7 +295,7 @@ module _ (m : TypedModule) (locals : List Variable) (init : Option ℕ) where
   kept_sound : (w : Wanted) (known : List ℕ) (span : Span) (row : WantedRow) (es : List TypedExpr) → RowAsked m locals init row → RowValued m locals init row → RowSound m locals init row 0 known es → is_tuple_size (length es) ≡ true → has_bare_none row 0 es ≡ false → unfit m.classes.classes row 0 es ≡ None → Sound m locals init w known (tuple_of span (changed_row row 0 es))
   kept_sound w known span row es asked valued h size bare u =
       value_sound w known (tuple_of span (changed_row row 0 es)) (λ others wi.
-        tuple_stands m locals init others span (changed_row row 0 es) (changed_all m locals init others row 0 es asked (row_stands m locals init row 0 known others es h wi u) u) (none_bare m locals init row 0 es valued bare) (ap is_tuple_size (changed_length row 0 es) ∙ size))
+      tuple_stands m locals init others span (changed_row row 0 es) (changed_all m locals init others row 0 es asked (row_stands m locals init row 0 known others es h wi u) u) (none_bare m locals init row 0 es valued bare) (ap is_tuple_size (changed_length row 0 es) ∙ size))
 
   tuple_ok : (row : WantedRow) (span : Span) (es : List TypedExpr) (e : TypedExpr) → tuple_display m.classes.classes row span es ≡ Ok e → (is_tuple_size (length es) ≡ true) × (has_bare_none row 0 es ≡ false) × (tuple_of span (changed_row (kept_row m.classes.classes row es) 0 es) ≡ e)
   tuple_ok row span es e h = by (is_tuple_size (length es)) (has_bare_none row 0 es) refl refl h
@@ -384,9 +384,9 @@ module _ (m : TypedModule) (locals : List Variable) (init : Option ℕ) where
       by (Some p) q g =
           let f = part_is l (listed_sorts ts) p q in
           subst (Sound m locals init w known) (ok_same (typed (node.TupleAt (typed n (sort.TupleOf ts) place) p.0) p.1 span) e g) (value_sound w known (typed (node.TupleAt (typed n (sort.TupleOf ts) place) p.0) p.1 span) (λ others wi.
-            let v = s others wi refl in
-            stands_made m locals init false others (node.TupleAt (typed n (sort.TupleOf ts) place) p.0) p.1 span v (ap (λ o. is_type o p.1) f ∙ type_is_itself p.1) refl
-            (result_of_value (length m.classes.classes) p.1 (part_value (length m.classes.classes) ts p.0 p.1 (value_parts (nat_lt 0 (length (listed_sorts ts))) (nat_lt (length (listed_sorts ts)) 17) (are_value_types (length m.classes.classes) ts) (value_type m locals init false others (typed n (sort.TupleOf ts) place) v)) f)) refl))
+          let v = s others wi refl in
+          stands_made m locals init false others (node.TupleAt (typed n (sort.TupleOf ts) place) p.0) p.1 span v (ap (λ o. is_type o p.1) f ∙ type_is_itself p.1) refl
+          (result_of_value (length m.classes.classes) p.1 (part_value (length m.classes.classes) ts p.0 p.1 (value_parts (nat_lt 0 (length (listed_sorts ts))) (nat_lt (length (listed_sorts ts)) 17) (are_value_types (length m.classes.classes) ts) (value_type m locals init false others (typed n (sort.TupleOf ts) place) v)) f)) refl))
 
   -- of what is indexed by a type
   keyed_sound : (w : Wanted) (known : List ℕ) (span : Span) (a i e : TypedExpr) (k t : Sort) → Sound m locals init free known a → Sound m locals init free known i → is_result_type (length m.classes.classes) k ≡ true → (is_result_type (length m.classes.classes) (type_of a) ≡ true → is_result_type (length m.classes.classes) t ≡ true) → is_type (indexed (type_of a) k) t ≡ true
@@ -394,9 +394,9 @@ module _ (m : TypedModule) (locals : List Variable) (init : Option ℕ) where
   keyed_sound w known span a i e k t sa si rk rt at h =
       let r = if_ok (fits m.classes.classes (type_of i) k) (typed (node.At a (coerced k i)) t span) e _ h in
       subst (Sound m locals init w known) r.1 (value_sound w known (typed (node.At a (coerced k i)) t span) (λ others wi.
-        stands_made m locals init false others (node.At a (coerced k i)) t span
-        (and_from (stands m locals init false others a) (stands m locals init false others (coerced k i)) (sa others wi refl) (coerced_stands m locals init others k i (si others wi refl) r.0 rk).0)
-        (ap (λ x. is_type (indexed (type_of a) x) t) (type_coerced k i) ∙ at) refl (rt (value_type m locals init false others a (sa others wi refl))) refl))
+      stands_made m locals init false others (node.At a (coerced k i)) t span
+      (and_from (stands m locals init false others a) (stands m locals init false others (coerced k i)) (sa others wi refl) (coerced_stands m locals init others k i (si others wi refl) r.0 rk).0)
+      (ap (λ x. is_type (indexed (type_of a) x) t) (type_coerced k i) ∙ at) refl (rt (value_type m locals init false others a (sa others wi refl))) refl))
 
   key_result : (k : Sort) → Rattle.py_typed.specs.WellTypedExpr.is_key_type k ≡ true → is_result_type (length m.classes.classes) k ≡ true
   key_result sort.Str h = refl

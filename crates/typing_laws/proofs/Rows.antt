@@ -215,13 +215,13 @@ module _ (m : TypedModule) (locals : List Variable) (init : Option ℕ) where
       let back : listed_sorts (sorts_of (map type_of es)) ≡ map type_of es = listed (map type_of es) in
       stands_made m locals init false known (node.TupleOf (exprs_of es)) (sort.TupleOf (sorts_of (map type_of es))) span (stand_values known es h)
       (subst (λ (l : List Sort). (are_same_types (sorts_of l) (sorts_of (listed_sorts (sorts_of (map type_of es)))) && nat_lt 0 (length l) && nat_lt (length l) 17 && not (list_any is_nothing l)) ≡ true) (sym types)
-        (subst (λ (l : List Sort). (are_same_types (sorts_of (map type_of es)) (sorts_of l) && nat_lt 0 (length (map type_of es)) && nat_lt (length (map type_of es)) 17 && not (list_any is_nothing (map type_of es))) ≡ true) (sym back)
-          (four (are_same_types (sorts_of (map type_of es)) (sorts_of (map type_of es))) (nat_lt 0 (length (map type_of es))) (nat_lt (length (map type_of es)) 17) (not (list_any is_nothing (map type_of es)))
-            (type_is_itself (sort.TupleOf (sorts_of (map type_of es)))) (ap (λ k. nat_lt 0 k) (map_length es) ∙ lower) (ap (λ k. nat_lt k 17) (map_length es) ∙ upper) (ap not q))))
+      (subst (λ (l : List Sort). (are_same_types (sorts_of (map type_of es)) (sorts_of l) && nat_lt 0 (length (map type_of es)) && nat_lt (length (map type_of es)) 17 && not (list_any is_nothing (map type_of es))) ≡ true) (sym back)
+      (four (are_same_types (sorts_of (map type_of es)) (sorts_of (map type_of es))) (nat_lt 0 (length (map type_of es))) (nat_lt (length (map type_of es)) 17) (not (list_any is_nothing (map type_of es)))
+      (type_is_itself (sort.TupleOf (sorts_of (map type_of es)))) (ap (λ k. nat_lt 0 k) (map_length es) ∙ lower) (ap (λ k. nat_lt k 17) (map_length es) ∙ upper) (ap not q))))
       refl
       (subst (λ (l : List Sort). (nat_lt 0 (length l) && nat_lt (length l) 17 && are_value_types (length m.classes.classes) (sorts_of (map type_of es))) ≡ true) (sym back)
-        (three (nat_lt 0 (length (map type_of es))) (nat_lt (length (map type_of es)) 17) (are_value_types (length m.classes.classes) (sorts_of (map type_of es)))
-          (ap (λ k. nat_lt 0 k) (map_length es) ∙ lower) (ap (λ k. nat_lt k 17) (map_length es) ∙ upper) (values_of known es h q)))
+      (three (nat_lt 0 (length (map type_of es))) (nat_lt (length (map type_of es)) 17) (are_value_types (length m.classes.classes) (sorts_of (map type_of es)))
+      (ap (λ k. nat_lt 0 k) (map_length es) ∙ lower) (ap (λ k. nat_lt k 17) (map_length es) ∙ upper) (values_of known es h q)))
       refl
 
   -- each type that is asked for in a row is one that an item may have

@@ -82,8 +82,8 @@ module _ (means : List ℕ → Meaning) (signatures : List (Option Signature)) (
     local_sound w known span x i (has t) e =
         let d = D.locals_are i t e in
         gives_is (S w known) (typed (node.Local i) (reads_as (is_in known i) t) span) (value_sound m locals init w known (typed (node.Local i) (reads_as (is_in known i) t) span) (λ others wi.
-          stands_made m locals init false others (node.Local i) (reads_as (is_in known i) t) span refl (reads_fit m locals init (is_in known i) (is_in others i) t (declared locals i) d.is (wi i)) refl
-          (result_of_value (length m.classes.classes) (reads_as (is_in known i) t) (reads_value (length m.classes.classes) (is_in known i) t d.type)) refl))
+        stands_made m locals init false others (node.Local i) (reads_as (is_in known i) t) span refl (reads_fit m locals init (is_in known i) (is_in others i) t (declared locals i) d.is (wi i)) refl
+        (result_of_value (length m.classes.classes) (reads_as (is_in known i) t) (reads_value (length m.classes.classes) (is_in known i) t d.type)) refl))
 
     global_sound : (w : Wanted) (known : List ℕ) (span : Span) (x : List ℕ) (i : ℕ) (v : VarSort) → var_at V.globals i ≡ v → Gives (variable span x (node.Global i) false v) (S w known)
     global_sound w known span x i unset e = gives_fails (S w known) span _
@@ -91,7 +91,7 @@ module _ (means : List ℕ → Meaning) (signatures : List (Option Signature)) (
     global_sound w known span x i (has t) e =
         let d = D.globals_are i t e in
         gives_is (S w known) (typed (node.Global i) t span) (value_sound m locals init w known (typed (node.Global i) t span) (λ others wi.
-          stands_made m locals init false others (node.Global i) t span refl (ap (λ o. is_type o t) d.is ∙ type_is_itself t) refl (result_of_value (length m.classes.classes) t d.type) refl))
+        stands_made m locals init false others (node.Global i) t span refl (ap (λ o. is_type o t) d.is ∙ type_is_itself t) refl (result_of_value (length m.classes.classes) t d.type) refl))
 
     named_sound : (w : Wanted) (known : List ℕ) (span : Span) (x : List ℕ) (n : Meaning) → Gives (named V known span x n) (S w known)
     named_sound w known span x (meaning.Local i) = local_sound w known span x i (var_at V.locals i) refl
@@ -148,10 +148,10 @@ module _ (means : List ℕ → Meaning) (signatures : List (Option Signature)) (
     call_sound : (w : Wanted) (known : List ℕ) (span : Span) (f : ExprTree) (args : Arguments) → Gives (part here V known f) (S free known) → ((row : WantedRow) → RowAsked m locals init row → Gives (arguments here V row 0 known args) (RowSound m locals init row 0 known)) → Gives (typing here V w known (at (tree.Call f args) span)) (S w known)
     call_sound w known span f args p a =
         gives_after (S w known) (part here V known f) (λ o. behind (arguments here V (arguments_row (callee here f) o) 0 known args) (called m.classes.classes w span (has_key args) (callee here f) o)) (λ o eo.
-          let part_sound : (t : TypedExpr) → o ≡ Some t → S free known t = λ t q. p.each t (eo ∙ q) in
-          let asked : RowAsked m locals init (arguments_row (callee here f) o) = row_asked m locals init known (callee here f) o (callee_known f) (λ t q. value_type m locals init false known t (part_sound t q known (λ x h. h) refl)) in
-          gives_after (S w known) (arguments here V (arguments_row (callee here f) o) 0 known args) (called m.classes.classes w span (has_key args) (callee here f) o) (λ es ees.
-            called_sound m locals init w known span (has_key args) (callee here f) o es (callee_known f) part_sound (λ l q. (a (arguments_row (callee here f) o) asked).each l (ees ∙ q))))
+        let part_sound : (t : TypedExpr) → o ≡ Some t → S free known t = λ t q. p.each t (eo ∙ q) in
+        let asked : RowAsked m locals init (arguments_row (callee here f) o) = row_asked m locals init known (callee here f) o (callee_known f) (λ t q. value_type m locals init false known t (part_sound t q known (λ x h. h) refl)) in
+        gives_after (S w known) (arguments here V (arguments_row (callee here f) o) 0 known args) (called m.classes.classes w span (has_key args) (callee here f) o) (λ es ees.
+        called_sound m locals init w known span (has_key args) (callee here f) o es (callee_known f) part_sound (λ l q. (a (arguments_row (callee here f) o) asked).each l (ees ∙ q))))
 
     attribute_never : (a : List ℕ) (e t : TypedExpr) → attribute m.classes.classes a e ≡ Ok t → ⊥
     attribute_never a e t h = by (is_list_method (type_of e) a) h
@@ -231,23 +231,23 @@ module _ (means : List ℕ → Meaning) (signatures : List (Option Signature)) (
           let r = three_parts (is_written e) (is_chain cs) (are_operands cs) h in
           gives_ruled_all (λ (p : TypedExpr × List (CmpOp × TypedExpr)). S free known p.0 × (ChainSound m locals init known p.1 × (p.1 ≡ [] → ⊥))) (S w known) span (faults_of m.classes.classes) (chain span) (both (typing here V free known e) (operands here V known cs))
           (gives_both (S free known) (λ (ps : List (CmpOp × TypedExpr)). ChainSound m locals init known ps × (ps ≡ [] → ⊥)) (typing here V free known e) (operands here V known cs) (sound_typing free known e r.0 refl)
-            (gives_also (ChainSound m locals init known) (λ ps. ps ≡ [] → ⊥) (operands here V known cs) (sound_operands known cs r.2) (filled known cs r.1)))
+          (gives_also (ChainSound m locals init known) (λ ps. ps ≡ [] → ⊥) (operands here V known cs) (sound_operands known cs r.2) (filled known cs r.1)))
           (λ p s q. chain_sound m locals init w known span p.0 p.1 s.0 s.1.0 s.1.1 q)
       sound_node w known span (tree.And x y) h a =
           let sx = typing here V (operand w) known x in
           let sy = typing here V (operand w) (facts here true x ++ known) y in
           gives_rule (λ (p : TypedExpr × TypedExpr). (S (operand w) known p.0 × Told x p.0) × S (operand w) (facts here true x ++ known) p.1) (S w known) span (junction m.classes.classes w true span) (both sx sy)
           (gives_both (λ t. S (operand w) known t × Told x t) (S (operand w) (facts here true x ++ known)) sx sy
-            (gives_also (S (operand w) known) (Told x) sx (sound_typing (operand w) known x (and_left (is_written x) (is_written y) h) (operand_asked w)) (told_typing here V (operand w) known x))
-            (sound_typing (operand w) (facts here true x ++ known) y (and_right (is_written x) (is_written y) h) (operand_asked w)))
+          (gives_also (S (operand w) known) (Told x) sx (sound_typing (operand w) known x (and_left (is_written x) (is_written y) h) (operand_asked w)) (told_typing here V (operand w) known x))
+          (sound_typing (operand w) (facts here true x ++ known) y (and_right (is_written x) (is_written y) h) (operand_asked w)))
           (λ p r u q. junction_sound m locals init w true known (facts here true x) span p u r.0.0 r.1 (r.0.1 true) q)
       sound_node w known span (tree.Or x y) h a =
           let sx = typing here V (operand w) known x in
           let sy = typing here V (operand w) (facts here false x ++ known) y in
           gives_rule (λ (p : TypedExpr × TypedExpr). (S (operand w) known p.0 × Told x p.0) × S (operand w) (facts here false x ++ known) p.1) (S w known) span (junction m.classes.classes w false span) (both sx sy)
           (gives_both (λ t. S (operand w) known t × Told x t) (S (operand w) (facts here false x ++ known)) sx sy
-            (gives_also (S (operand w) known) (Told x) sx (sound_typing (operand w) known x (and_left (is_written x) (is_written y) h) (operand_asked w)) (told_typing here V (operand w) known x))
-            (sound_typing (operand w) (facts here false x ++ known) y (and_right (is_written x) (is_written y) h) (operand_asked w)))
+          (gives_also (S (operand w) known) (Told x) sx (sound_typing (operand w) known x (and_left (is_written x) (is_written y) h) (operand_asked w)) (told_typing here V (operand w) known x))
+          (sound_typing (operand w) (facts here false x ++ known) y (and_right (is_written x) (is_written y) h) (operand_asked w)))
           (λ p r u q. junction_sound m locals init w false known (facts here false x) span p u r.0.0 r.1 (r.0.1 false) q)
       sound_node w known span (tree.Cond x c y) h a =
           let r = three_parts (is_written x) (is_written c) (is_written y) h in
@@ -256,9 +256,9 @@ module _ (means : List ℕ → Meaning) (signatures : List (Option Signature)) (
           let sy = typing here V free (facts here false c ++ known) y in
           gives_rule (λ (p : (TypedExpr × TypedExpr) × TypedExpr). (S free (facts here true c ++ known) p.0.0 × (S test known p.0.1 × Told c p.0.1)) × S free (facts here false c ++ known) p.1) (S w known) span (choice m.classes.classes w span) (both (both sx sc) sy)
           (gives_both (λ (p : TypedExpr × TypedExpr). S free (facts here true c ++ known) p.0 × (S test known p.1 × Told c p.1)) (S free (facts here false c ++ known)) (both sx sc) sy
-            (gives_both (S free (facts here true c ++ known)) (λ t. S test known t × Told c t) sx sc (sound_typing free (facts here true c ++ known) x r.0 refl)
-              (gives_also (S test known) (Told c) sc (sound_typing test known c r.1 refl) (told_typing here V test known c)))
-            (sound_typing free (facts here false c ++ known) y r.2 refl))
+          (gives_both (S free (facts here true c ++ known)) (λ t. S test known t × Told c t) sx sc (sound_typing free (facts here true c ++ known) x r.0 refl)
+          (gives_also (S test known) (Told c) sc (sound_typing test known c r.1 refl) (told_typing here V test known c)))
+          (sound_typing free (facts here false c ++ known) y r.2 refl))
           (λ p s u q. choice_sound m locals init w known (facts here true c) (facts here false c) span p u a s.0.0 s.0.1.0 s.1 (s.0.1.1 true) (s.0.1.1 false) q)
       sound_node w known span (tree.ListOf es) h a =
           gives_rule (RowSound m locals init (items_row (item_sort w)) 0 known) (S w known) span (list_display m.classes.classes (item_sort w) span) (items here V (items_row (item_sort w)) 0 known es) (sound_items (items_row (item_sort w)) 0 known es h (items_asked w a))
@@ -311,5 +311,5 @@ pub sound : (C : Context) (V : VarSorts) (m : TypedModule) (locals : List Variab
     → (others : List ℕ) → Within known others → is_taken C.classes w (type_of t) ≡ true → is_good m locals init w others t ≡ true
 sound C V m locals init D w known x h a t e =
     subst (λ k. Describes (at_classes C k) V m locals → is_written x ≡ true → is_asked (length k) w ≡ true → (typing (at_classes C k) V w known x).got ≡ Some t
-      → (others : List ℕ) → Within known others → is_taken k w (type_of t) ≡ true → is_good m locals init w others t ≡ true) D.classes
+    → (others : List ℕ) → Within known others → is_taken k w (type_of t) ≡ true → is_good m locals init w others t ≡ true) D.classes
     (λ d written asked got others wi taken. (sound_typing C.meaning C.signatures V m locals init d w known x written asked).each t got others wi taken) D h a e

@@ -159,17 +159,17 @@ module _ (C : Context) (V : VarSorts) where
       gives_ruled_all (λ (p : TypedExpr × List (CmpOp × TypedExpr)). ((typing C V free known e).got ≡ Some p.0) × ((q : TypedExpr) × ((typing C V free known f).got ≡ Some q) × (p.1 ≡ (o, q) ∷ []))) (Told (at (tree.Compare e (comparison_then o f no_comparisons)) span))
       span (faults_of C.classes) (chain span) (both (typing C V free known e) (operands C V known (comparison_then o f no_comparisons)))
       (gives_both (λ p. (typing C V free known e).got ≡ Some p) (λ (l : List (CmpOp × TypedExpr)). (q : TypedExpr) × ((typing C V free known f).got ≡ Some q) × (l ≡ (o, q) ∷ [])) (typing C V free known e) (operands C V known (comparison_then o f no_comparisons))
-        (record { each = λ p h. h })
-        (gives_row (λ (x : CmpOp × TypedExpr). (q : TypedExpr) × ((typing C V free known f).got ≡ Some q) × (x ≡ (o, q))) (λ l. l ≡ []) (λ (l : List (CmpOp × TypedExpr)). (q : TypedExpr) × ((typing C V free known f).got ≡ Some q) × (l ≡ (o, q) ∷ []))
-          (made (λ t. (o, t)) (typing C V free known f)) (operands C V known no_comparisons)
-          (gives_made (λ q. (typing C V free known f).got ≡ Some q) (λ (x : CmpOp × TypedExpr). (q : TypedExpr) × ((typing C V free known f).got ≡ Some q) × (x ≡ (o, q))) (λ t. (o, t)) (typing C V free known f) (record { each = λ q h. h }) (λ q h. (q, h, refl)))
-          (gives_is (λ (l : List (CmpOp × TypedExpr)). l ≡ []) [] refl)
-          (λ x l r s. (r.0, r.1, ap (λ (y : CmpOp × TypedExpr). y ∷ l) r.2 ∙ ap (λ (z : List (CmpOp × TypedExpr)). (o, r.0) ∷ z) s))))
+      (record { each = λ p h. h })
+      (gives_row (λ (x : CmpOp × TypedExpr). (q : TypedExpr) × ((typing C V free known f).got ≡ Some q) × (x ≡ (o, q))) (λ l. l ≡ []) (λ (l : List (CmpOp × TypedExpr)). (q : TypedExpr) × ((typing C V free known f).got ≡ Some q) × (l ≡ (o, q) ∷ []))
+      (made (λ t. (o, t)) (typing C V free known f)) (operands C V known no_comparisons)
+      (gives_made (λ q. (typing C V free known f).got ≡ Some q) (λ (x : CmpOp × TypedExpr). (q : TypedExpr) × ((typing C V free known f).got ≡ Some q) × (x ≡ (o, q))) (λ t. (o, t)) (typing C V free known f) (record { each = λ q h. h }) (λ q h. (q, h, refl)))
+      (gives_is (λ (l : List (CmpOp × TypedExpr)). l ≡ []) [] refl)
+      (λ x l r s. (r.0, r.1, ap (λ (y : CmpOp × TypedExpr). y ∷ l) r.2 ∙ ap (λ (z : List (CmpOp × TypedExpr)). (o, r.0) ∷ z) s))))
       (λ p r none b.
-        subst (λ (l : List (CmpOp × TypedExpr)). Within (none_test b o f (subject C e)) (telling.facts b (chain span (p.0, l)))) (sym r.1.2)
-        (none_told b o f (subject C e) (telling.facts b (chain_of span o p.0 r.1.0)) (λ nothing told.
-          subject_within free known e (subject C e) refl p.0 r.0 (telling.facts b (chain_of span o p.0 r.1.0))
-          (λ i local. pair_tells b span o p.0 r.1.0 ∙ typed_test b o i (node_of p.0) (node_of r.1.0) told local ((none_node free known f nothing).each r.1.0 r.1.1)))))
+      subst (λ (l : List (CmpOp × TypedExpr)). Within (none_test b o f (subject C e)) (telling.facts b (chain span (p.0, l)))) (sym r.1.2)
+      (none_told b o f (subject C e) (telling.facts b (chain_of span o p.0 r.1.0)) (λ nothing told.
+      subject_within free known e (subject C e) refl p.0 r.0 (telling.facts b (chain_of span o p.0 r.1.0))
+      (λ i local. pair_tells b span o p.0 r.1.0 ∙ typed_test b o i (node_of p.0) (node_of r.1.0) told local ((none_node free known f nothing).each r.1.0 r.1.1)))))
 
   not_told : (b : Bool) (span : Span) (e : ExprTree) (t : TypedExpr) → Told e t → Within (facts C b (at (tree.Not e) span)) (telling.facts b (inversion span t))
   not_told true span e t told = within_same (facts C false e) (telling.facts true (inversion span t)) (telling.facts false t) (truth_tells false t) (told false)

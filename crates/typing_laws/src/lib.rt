@@ -6,4 +6,6 @@
 
 mod laws;
 
-pub use laws::{typed_tests_tell_as_much, what_is_not_typed_has_said_why, what_is_typed_is_well_typed};
+pub use laws::{
+    typed_tests_tell_as_much, what_is_not_typed_has_said_why, what_is_typed_is_well_typed,
+};
