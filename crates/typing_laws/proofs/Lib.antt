@@ -1,0 +1,10 @@
+mod Loud
+mod Given
+mod Inside
+mod Types
+mod Stands
+mod Telling
+mod Rows
+mod Nodes
+mod Called
+mod Sound
