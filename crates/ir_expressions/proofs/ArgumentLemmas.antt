@@ -1,5 +1,5 @@
 -- Arguments one after another.
-use Rattle.std.proofs.Common.{◌≡◌, refl, sym, ◌∙◌, ap, subst, ℕ, zero, suc, ◌+◌, ◌<◌, ◌≤◌, arith, le_refl, List, [], ◌∷◌, ◌++◌, length, map, Option, Some, None, take, drop, get_or, add-one}
+use Rattle.std.proofs.Common.{◌≡◌, refl, sym, ◌∙◌, ap, subst, ℕ, ◌+◌, ◌<◌, arith, le_refl, List, [], ◌∷◌, ◌++◌, length, map, Some, take, drop, get_or, add-one}
 use Rattle.std.proofs.Math.Seq.{take-suc}
 use Rattle.std.proofs.lemmas.List.{drop_more}
 use Rattle.value_core.specs.Value.{Value}
@@ -7,14 +7,12 @@ use Rattle.py_typed.specs.declared.expression.TExpr.{TExpr}
 use Rattle.py_typed.specs.Sorts.{Sort}
 use Rattle.py_typed.specs.Statements.{TypedModule, Variable}
 use Rattle.py_typed.specs.Expressions.{TypedExpr, type_of, exprs_of, typed_expr}
-use Rattle.py_typed.specs.State.{State, Outcome, Gives, Does, on_to}
-use Rattle.ir_core.specs.declared.code.RType.{RType}
+use Rattle.py_typed.specs.State.{State, Gives, on_to}
 use Rattle.ir_core.specs.declared.code.Reg.{Reg}
 use Rattle.ir_core.specs.Rows.{Declared, type_of_reg}
 use Rattle.ir_core.specs.Registers.{Regs}
 use Rattle.ir_core.specs.Building.{Building, Extends}
 use Rattle.ir_frames.specs.Settings.{Setting, rtype_of}
-use Rattle.ir_frames.specs.Coming.{world, running}
 use Rattle.ir_frames.specs.Matching.{HasRoom, IsThrown}
 use Rattle.ir_frames.specs.Computing.{Shows, ShowAll, HaveTypes, ArrivesAll, ComputesAll}
 use Rattle.ir_frames.proofs.HeldLemmas.{extends_refl, extends_trans, type_kept, type_below, placed_part}

@@ -1,25 +1,19 @@
 -- What is asked of an expression is asked of its parts, and what its parts promise it promises.
-use Rattle.std.proofs.Common.{◌≡◌, refl, sym, ◌∙◌, ap, subst, ℕ, ◌<◌, Bool, true, false, List, map, Option, Some, None}
+use Rattle.std.proofs.Common.{◌≡◌, sym, ◌∙◌, ap, subst, ℕ, Bool, List, map}
 use Rattle.std.specs.declared.boxed.Box.{Box}
 use Rattle.std.specs.declared.alloc.Global.{Global}
-use Rattle.std.specs.Prelude.{slice_get}
-use Rattle.py_syntax.specs.declared.token.Span.{Span}
 use Rattle.py_syntax.specs.declared.expression.BinOp.{BinOp}
 use Rattle.py_syntax.specs.declared.expression.CmpOp.{CmpOp}
 use Rattle.py_typed.specs.declared.expression.TExpr.{TExpr}
 use Rattle.py_typed.specs.declared.expression.TKind as kind
-use Rattle.py_typed.specs.Sorts as sort
 use Rattle.py_typed.specs.Sorts.{Sort, sort as sort_of}
 use Rattle.py_typed.specs.Expressions as tree
 use Rattle.py_typed.specs.Expressions.{TypedExpr, TypedNode, typed, type_of, typed_expr, typed_node, exprs_of, comparisons_of, typed_comparison}
-use Rattle.py_typed.specs.Statements.{TypedModule, TypedFunc, Variable}
-use Rattle.py_typed.proofs.ExpressionLemmas.{typed_expr_at, type_at, typed_expr_of, typed_node-Bool, typed_node-Local, typed_node-Neg, typed_node-Not, typed_node-Truth, typed_node-Arith, typed_expr-Compare, typed_node-And, typed_node-Or, typed_node-Cond, typed_node-Call, typed_node-Coerce}
-use Rattle.ir_core.specs.declared.code.Reg.{Reg}
+use Rattle.py_typed.specs.Statements.{TypedModule, Variable}
+use Rattle.py_typed.proofs.ExpressionLemmas.{typed_expr_of, typed_node-Bool, typed_node-Local, typed_node-Neg, typed_node-Not, typed_node-Truth, typed_node-Arith, typed_expr-Compare, typed_node-And, typed_node-Or, typed_node-Cond, typed_node-Call, typed_node-Coerce}
 use Rattle.ir_core.specs.Building.{Building}
 use Rattle.ir_frames.specs.Settings.{Setting}
-use Rattle.ir_frames.specs.Matching.{parameter_sorts}
-use Rattle.ir_expressions.specs.Compiled.{is_scalar, is_result, is_built, literal_in}
-use Rattle.ir_expressions.specs.Suiting.{Suits, NodeSuits, Operand, OperandSuits, ArgumentsSuit, ComparisonsSuit}
+use Rattle.ir_expressions.specs.Suiting.{Suits, NodeSuits, Operand}
 use Rattle.ir_expressions.specs.Emitting.{Emits}
 
 abbrev Part : Type 0

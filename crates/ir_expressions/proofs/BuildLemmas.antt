@@ -1,14 +1,12 @@
 -- The calls that build a choice.
-use Rattle.std.proofs.Common.{◌≡◌, ◌≢◌, refl, sym, ◌∙◌, ap, subst, ℕ, ◌+◌, ◌<◌, ◌≤◌, arith, length, Some}
+use Rattle.std.proofs.Common.{◌≡◌, ◌≢◌, sym, ◌∙◌, ap, ℕ, ◌+◌, ◌<◌, arith, length, Some}
 use Rattle.ir_core.specs.declared.code.RType.{RType}
 use Rattle.ir_core.specs.declared.code.Op.TheVariants.{Move}
-use Rattle.ir_core.specs.declared.code.Last.{Last}
 use Rattle.ir_core.specs.declared.code.Last.TheVariants.{Goto, If, Unreachable}
-use Rattle.ir_core.specs.Items.{Item, Do, End}
-use Rattle.ir_core.specs.Building.{Building, with_last, held, Extends}
+use Rattle.ir_core.specs.Items.{End}
+use Rattle.ir_core.specs.Building.{Building, with_last, held}
 use Rattle.ir_core.specs.Meaning.{item_at}
-use Rattle.ir_frames.specs.Placing.{HasType, Has}
-use Rattle.ir_frames.specs.Calling.{Declares, Pushes, Closes, Open, Patches}
+use Rattle.ir_frames.specs.Calling.{Declares, Pushes, Closes, Open}
 use Rattle.ir_frames.proofs.HeldLemmas.{extends_trans, has_less, does_at, type_kept, type_same}
 use Rattle.ir_frames.proofs.PatchLemmas.{patches}
 use Rattle.ir_expressions.specs.Choices.{Opens, Brings, Meets}

@@ -1,44 +1,42 @@
 -- Calls, and their arguments from the left.
-use Rattle.std.proofs.Common.{◌≡◌, ◌≢◌, refl, sym, ◌∙◌, ap, subst, ℕ, zero, suc, ◌+◌, ◌<◌, ◌≤◌, arith, le_refl, Bool, true, false, cond, List, [], ◌∷◌, ◌++◌, length, map, Option, Some, None, take, add-one}
-use Rattle.std.proofs.Math.Seq.{take-suc}
-use Rattle.std.specs.Prelude.{slice_get, nat_eq, ◌&&◌}
+use Rattle.std.proofs.Common.{◌≡◌, refl, sym, ◌∙◌, ap, subst, ℕ, suc, ◌+◌, ◌<◌, arith, le_refl, true, false, cond, List, [], ◌∷◌, length, map, Option, Some, None}
+use Rattle.std.specs.Prelude.{slice_get, ◌&&◌}
 use Rattle.std.specs.Option.{option_map, option_and_then}
 use Rattle.std.proofs.lemmas.Bool.{eq-eqb}
 use Rattle.value_core.specs.Exceptions.{Thrown}
-use Rattle.value_core.specs.Value.{Value, ExcVal}
+use Rattle.value_core.specs.Value.{Value}
 use Rattle.py_syntax.specs.declared.token.Span.{Span}
 use Rattle.py_typed.specs.Sorts.{Sort}
-use Rattle.py_typed.specs.Statements.{TypedFunc, TypedModule}
-use Rattle.py_typed.specs.Expressions.{TypedExpr, typed, type_of, Call, TypedExprs, no_exprs, expr_then, exprs_of}
-use Rattle.py_typed.specs.State.{State, Outcome, Gives, Raises, Stops, Does, on_to}
+use Rattle.py_typed.specs.Statements.{TypedFunc}
+use Rattle.py_typed.specs.Expressions.{typed, Call, TypedExprs}
+use Rattle.py_typed.specs.State.{State}
 use Rattle.py_typed.specs.SourceRun.{call_of}
 use Rattle.ir_core.specs.declared.code.RType.{RType}
 use Rattle.ir_core.specs.declared.code.RType.TheVariants.{Int, I64, Bool as BoolType, Ref}
 use Rattle.ir_core.specs.declared.code.Reg.{Reg}
 use Rattle.ir_core.specs.declared.code.Op.TheVariants as op
-use Rattle.ir_core.specs.declared.code.Last.{Last}
 use Rattle.ir_core.specs.declared.code.Last.TheVariants as last
 use Rattle.ir_core.specs.declared.code.Func.{Func}
 use Rattle.ir_core.specs.declared.code.Program.{Program}
 use Rattle.ir_core.specs.declared.kind.Edge.TheVariants.{Tests, TestsTwice}
 use Rattle.ir_core.specs.Items.{Item, Do, End}
-use Rattle.ir_core.specs.Rows.{Declared, type_of_reg, edge_of_kind, kind_by_result, edge_of_call}
+use Rattle.ir_core.specs.Rows.{Declared, type_of_reg, edge_of_kind, kind_by_result}
 use Rattle.ir_core.specs.Registers.{Held, Holds, error_of, is_error, Regs, put, first_regs}
 use Rattle.ir_core.specs.Effects.{World}
-use Rattle.ir_core.specs.Building.{Building, Extends}
-use Rattle.ir_core.specs.Meaning.{Frame, Waiting, Config, Runs, Leaves, Strict, read, read_all, is_type, are_types, is_fit, is_edge, away, next, registers_of, item_at, handler_at, failed, leave, step}
+use Rattle.ir_core.specs.Building.{Building}
+use Rattle.ir_core.specs.Meaning.{Frame, Waiting, Runs, Leaves, Strict, read_all, is_type, are_types, is_fit, is_edge, away, registers_of, item_at, handler_at, failed, step}
 use Rattle.ir_core.proofs.StepLemmas.{put_same, put_other, call_step}
 use Rattle.ir_frames.specs.Settings.{Setting, rtype_of}
-use Rattle.ir_frames.specs.Placing.{HasType, NoEdges, Has, Placed}
+use Rattle.ir_frames.specs.Placing.{Has}
 use Rattle.ir_frames.specs.Calling.{Adds}
-use Rattle.ir_frames.specs.Coming.{world, running, returning, Leads, Ends}
-use Rattle.ir_frames.specs.Matching.{HasKind, HaveKinds, Matches, HasRoom, SameIn, IsThrown, parameter_sorts, BeginWith, HasHead, CallGives, CallRaises, CallsWork}
-use Rattle.ir_frames.specs.Computing.{Shows, Arrives, Computes, ShowAll, HaveTypes, ArrivesAll, ComputesAll}
-use Rattle.ir_frames.proofs.HeldLemmas.{extends_refl, extends_trans, type_below, type_kept, type_has, has_less, adds_has, placed_part, guard_at}
-use Rattle.ir_frames.proofs.ComingLemmas.{leads_refl, leads_step, ends_both, leads_trans, leads_as, ends_from, ends_map, ends_more, ends_now, ends_of, ends_on, on_assoc}
+use Rattle.ir_frames.specs.Coming.{world, running, returning}
+use Rattle.ir_frames.specs.Matching.{HaveKinds, HasRoom, IsThrown, parameter_sorts, BeginWith, HasHead}
+use Rattle.ir_frames.specs.Computing.{Shows, Arrives, ShowAll, HaveTypes}
+use Rattle.ir_frames.proofs.HeldLemmas.{extends_refl, extends_trans, type_has, has_less, adds_has, placed_part, guard_at}
+use Rattle.ir_frames.proofs.ComingLemmas.{leads_refl, leads_step, ends_both, ends_from}
 use Rattle.ir_frames.proofs.StepLemmas.{read_is}
-use Rattle.ir_frames.proofs.MatchLemmas.{room_on, match_kept, thrown_from, thrown_now, computes_then, computes_all_then}
-use Rattle.ir_expressions.specs.Emitting.{means, means_all, Emits, EmitsAll}
+use Rattle.ir_frames.proofs.MatchLemmas.{room_on, match_kept, thrown_now, computes_all_then}
+use Rattle.ir_expressions.specs.Emitting.{means_all, Emits, EmitsAll}
 
 -- ---- what a call needs
 

@@ -1,11 +1,9 @@
 -- What single operations make of registers.
-use Rattle.std.proofs.Common.{◌≡◌, ◌≢◌, refl, sym, ◌∙◌, ap, subst, ℕ, ◌<◌, arith, Bool, true, false, List, [], ◌∷◌, length, Some, None}
+use Rattle.std.proofs.Common.{◌≡◌, refl, sym, ◌∙◌, ap, ℕ, Bool, true, false, [], ◌∷◌, length, Some}
 use Rattle.std.specs.Prelude.{ℤ, pos, not}
 use Rattle.std.specs.Ordering.{int_eq}
-use Rattle.value_core.specs.Value.{Value, IntVal, BoolVal}
-use Rattle.c_core.specs.declared.primitive.Primitive.{Primitive}
+use Rattle.value_core.specs.Value.{IntVal, BoolVal}
 use Rattle.c_core.specs.declared.primitive.Primitive.TheVariants as prim
-use Rattle.c_core.specs.declared.primitive.Int64Prim.{Int64Prim}
 use Rattle.c_core.specs.declared.primitive.Int64Prim.TheVariants as int64
 use Rattle.c_core.specs.declared.primitive.BoolPrim.TheVariants as bool
 use Rattle.py_syntax.specs.declared.expression.BinOp.{BinOp}
@@ -18,7 +16,7 @@ use Rattle.ir_core.specs.declared.code.PArg.TheVariants.{Var}
 use Rattle.ir_core.specs.declared.code.Program.{Program}
 use Rattle.ir_core.specs.declared.code.RType.TheVariants as rtype
 use Rattle.ir_core.specs.Rows.{failing, NeverFails}
-use Rattle.ir_core.specs.Registers.{Held, Holds, Regs}
+use Rattle.ir_core.specs.Registers.{Holds}
 use Rattle.ir_core.specs.Effects.{World, Given, Gives, effect}
 use Rattle.ir_core.specs.Building.{Building}
 use Rattle.ir_frames.specs.Placing.{HasType}

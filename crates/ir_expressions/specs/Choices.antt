@@ -1,5 +1,5 @@
 -- A choice between two values by a condition: two arms bring their values into one register and then meet.
-use Rattle.std.specs.Prelude.{◌≡◌, ℕ, ◌+◌, ◌<◌, ◌≤◌, length, Some}
+use Rattle.std.specs.Prelude.{◌≡◌, ℕ, ◌+◌, ◌≤◌, length, Some}
 use Rattle.ir_core.specs.declared.code.RType.{RType}
 use Rattle.ir_core.specs.declared.code.Op.TheVariants.{Move}
 use Rattle.ir_core.specs.declared.code.Last.TheVariants.{Goto, If, Unreachable}

@@ -6,7 +6,7 @@ use Rattle.value_core.specs.Value.{Value, IntVal, BoolVal}
 use Rattle.c_core.specs.declared.primitive.Int64Prim.{Int64Prim}
 use Rattle.c_core.specs.declared.primitive.Int64Prim.TheVariants.{Add as AddPrim, Subtract, Multiply, Eq as EqPrim, Lt as LtPrim, Le as LePrim}
 use Rattle.py_syntax.specs.declared.expression.BinOp.{BinOp}
-use Rattle.py_syntax.specs.declared.expression.BinOp.TheVariants.{Add, Sub, Mul}
+use Rattle.py_syntax.specs.declared.expression.BinOp.TheVariants.{Add, Sub}
 use Rattle.py_syntax.specs.declared.expression.CmpOp.{CmpOp}
 use Rattle.py_syntax.specs.declared.expression.CmpOp.TheVariants.{Eq, Ne, Lt, Le, Gt, Ge}
 use Rattle.py_typed.specs.Sorts.{Sort}
@@ -21,7 +21,7 @@ use Rattle.ir_core.specs.Meaning.{Waiting}
 use Rattle.ir_frames.specs.Placing.{HasType, Has}
 use Rattle.ir_frames.specs.Coming.{world, running, Leads}
 use Rattle.ir_frames.specs.Computing.{Shows}
-use Rattle.ir_core.specs.Registers.{Held, Holds, Regs}
+use Rattle.ir_core.specs.Registers.{Holds, Regs}
 use Rattle.ir_core.specs.Effects.{truth_number}
 
 abbrev pub Negates : Value → Value → Type 0

@@ -1,11 +1,11 @@
 -- What is asked of an expression that is built: its form is one of those that are compiled, and its parts have the types of a
 -- well-typed one, in a module whose variables are the parameters of the function.
-use Rattle.std.specs.Prelude.{◌≡◌, ℕ, ℤ, true, List, [], ◌∷◌, Option, Some, None, slice_get}
+use Rattle.std.specs.Prelude.{◌≡◌, ℤ, true, List, [], ◌∷◌, Option, Some, None, slice_get}
 use Rattle.value_core.specs.Arithmetic.{lies_within}
 use Rattle.py_typed.specs.Sorts as sort
 use Rattle.py_typed.specs.Sorts.{Sort}
 use Rattle.py_typed.specs.Statements.{Variable, TypedFunc, TypedModule}
-use Rattle.py_typed.specs.Expressions.{TypedExpr, typed, TypedNode, Int, Flag, Local, Neg, Not, Truth, Arith, Compare, And, Or, Cond, Call, Coerce, TypedExprs, no_exprs, expr_then, Comparisons, no_comparisons, comparison_then, type_of}
+use Rattle.py_typed.specs.Expressions.{TypedExpr, typed, TypedNode, Flag, Local, Neg, Not, Truth, Arith, Compare, And, Or, Cond, Call, Coerce, TypedExprs, no_exprs, expr_then, Comparisons, no_comparisons, comparison_then, type_of}
 use Rattle.ir_frames.specs.Matching.{parameter_sorts}
 use Rattle.ir_expressions.specs.Compiled.{is_scalar, is_result, is_built, is_ordering, literal_in, is_pair}
 

@@ -1,11 +1,10 @@
 -- What stays of a frame while a part runs, and what comes behind the code of a value.
-use Rattle.std.proofs.Common.{◌≡◌, ◌≢◌, ℕ, zero, suc, ◌+◌, ◌-◌, ◌<◌, ◌≤◌, Bool, true, false, List, [], ◌∷◌, length, Option, Some, None, refl, sym, ap, ◌∙◌, subst, arith, le_refl}
+use Rattle.std.proofs.Common.{◌≡◌, ℕ, ◌+◌, ◌-◌, ◌<◌, ◌≤◌, Bool, true, false, List, length, Option, Some, None, refl, sym, ◌∙◌, subst, arith, le_refl}
 use Rattle.std.proofs.lemmas.Bool.Decides.{nat_tests}
-use Rattle.std.specs.Prelude.{slice_get, nat_lt, if◌then◌else◌}
+use Rattle.std.specs.Prelude.{nat_lt, if◌then◌else◌}
 use Rattle.value_core.specs.Exceptions.{Thrown}
 use Rattle.value_core.specs.Value.{Value, BoolVal, ExcVal}
 use Rattle.py_typed.specs.Sorts.{Sort}
-use Rattle.py_typed.specs.Statements.{Variable}
 use Rattle.py_typed.specs.State.{State, Outcome, Gives, Does, on_to}
 use Rattle.ir_core.specs.declared.code.Program.{Program}
 use Rattle.ir_core.specs.declared.code.RType.{RType}
@@ -13,16 +12,14 @@ use Rattle.ir_core.specs.declared.code.RType.TheVariants as rtype
 use Rattle.ir_core.specs.declared.code.Reg.{Reg}
 use Rattle.ir_core.specs.Registers.{Held, Holds, Regs}
 use Rattle.ir_core.specs.Building.{Building, Extends}
-use Rattle.ir_core.specs.Meaning.{Waiting, Config, Leaves, Strict, handler_at, away}
-use Rattle.ir_frames.specs.declared.frame.Frame.{Frame}
-use Rattle.ir_frames.specs.declared.frame.Vars.{Vars}
+use Rattle.ir_core.specs.Meaning.{Waiting, Config, handler_at, away}
 use Rattle.ir_frames.specs.Settings.{Setting, rtype_of}
-use Rattle.ir_frames.specs.Placing.{HasType, Has, Placed}
-use Rattle.ir_frames.specs.Coming.{world, running, Escapes, Leads, Ends}
-use Rattle.ir_frames.specs.Matching.{HasKind, Keeps, flag_in, Matches, BackBelow, HasRoom, SameIn, IsKept, Stands, IsThrown, CallsWork}
+use Rattle.ir_frames.specs.Placing.{Has, Placed}
+use Rattle.ir_frames.specs.Coming.{world, running, Ends}
+use Rattle.ir_frames.specs.Matching.{Keeps, flag_in, Matches, BackBelow, HasRoom, SameIn, Stands, IsThrown, CallsWork}
 use Rattle.ir_frames.specs.Computing.{Showing, Meaning, Arrives, Computes, ArrivesAll, ComputesAll, Makes}
-use Rattle.ir_frames.proofs.HeldLemmas.{extends_refl, extends_trans, type_kept, type_below, get_below, has_less, placed_part}
-use Rattle.ir_frames.proofs.ComingLemmas.{ends_on, ends_at, ends_of, ends_lead, ends_map, on_assoc}
+use Rattle.ir_frames.proofs.HeldLemmas.{extends_trans, type_kept, type_below, get_below, placed_part}
+use Rattle.ir_frames.proofs.ComingLemmas.{ends_on, ends_at, ends_of, ends_lead, ends_map}
 
 -- ---- room
 

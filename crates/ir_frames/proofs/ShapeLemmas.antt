@@ -1,5 +1,5 @@
 -- Each call of a builder keeps the shape.
-use Rattle.std.proofs.Common.{◌≡◌, ℕ, zero, suc, ◌+◌, ◌<◌, ◌≤◌, List, [], ◌∷◌, ◌++◌, length, Option, Some, None, refl, sym, ap, ◌∙◌, subst, arith, Result, Ok, Err, OnOk, OnErr, inl}
+use Rattle.std.proofs.Common.{◌≡◌, ℕ, zero, suc, ◌+◌, ◌<◌, ◌≤◌, List, [], ◌∷◌, ◌++◌, length, Some, refl, sym, ap, ◌∙◌, subst, arith, Result, Ok, Err, OnOk, OnErr, inl}
 use Rattle.ir_core.specs.declared.code.Block.{Block}
 use Rattle.ir_core.specs.declared.code.Op.{Op}
 use Rattle.ir_core.specs.declared.code.Last.{Last}
@@ -20,7 +20,7 @@ use Rattle.ir_core.specs.Shape.{is_target_of, is_register, is_argument}
 use Rattle.ir_core.specs.Building.{Building, with_last}
 use Rattle.ir_core.specs.Laws.{added, pushed, closed}
 use Rattle.ir_frames.specs.Placing.{where_it_may}
-use Rattle.ir_frames.specs.Shaped.{Above, AreBelow, AllBelow, OpFits, OpsFit, Higher, GoesOn, EndFits, AllFit, Shaped, KeepsIf, Keeps}
+use Rattle.ir_frames.specs.Shaped.{Above, AreBelow, AllBelow, OpFits, OpsFit, GoesOn, EndFits, AllFit, Shaped, KeepsIf, Keeps}
 
 on_fits : (n m k : ℕ) (ops : List (Op × ℕ)) (l : Last) → GoesOn n m k l → EndFits n m k ops l
 on_fits n m k ops (Goto t) g = (inl g.0, g.1)

@@ -1,36 +1,29 @@
 -- Single operations, and what they leave in registers.
-use Rattle.std.proofs.Common.{◌≡◌, ◌≢◌, ℕ, zero, suc, ◌+◌, ◌<◌, ◌≤◌, Bool, true, false, List, [], ◌∷◌, length, Option, Some, None, refl, sym, ap, ◌∙◌, subst, arith}
-use Rattle.std.specs.Prelude.{slice_get}
+use Rattle.std.proofs.Common.{◌≡◌, ℕ, ◌+◌, ◌<◌, List, [], ◌∷◌, length, Some, None, refl, sym, ap, ◌∙◌, arith}
 use Rattle.std.specs.Option.{option_map, option_and_then}
 use Rattle.value_core.specs.Value.{Value}
-use Rattle.value_core.specs.Exceptions.{Thrown}
 use Rattle.c_core.specs.declared.primitive.Primitive.{Primitive}
 use Rattle.py_typed.specs.State.{State}
 use Rattle.ir_core.specs.declared.code.RType.{RType}
-use Rattle.ir_core.specs.declared.code.RType.TheVariants.{Int, I64, Bool as BoolType, Ref}
-use Rattle.ir_core.specs.declared.code.Reg.{Reg}
 use Rattle.ir_core.specs.declared.code.PArg.{PArg}
 use Rattle.ir_core.specs.declared.code.PArg.TheVariants.{Var}
 use Rattle.ir_core.specs.declared.code.Lit.{Lit as Literal}
 use Rattle.ir_core.specs.declared.code.Op.{Op}
-use Rattle.ir_core.specs.declared.code.Op.TheVariants.{Move, Lit, Prim}
-use Rattle.ir_core.specs.declared.code.Last.TheVariants.{Goto, If}
+use Rattle.ir_core.specs.declared.code.Op.TheVariants.{Lit, Prim}
 use Rattle.ir_core.specs.declared.code.Program.{Program}
-use Rattle.ir_core.specs.declared.kind.Edge.{Edge}
-use Rattle.ir_core.specs.declared.kind.Edge.TheVariants.{NoEdge}
-use Rattle.ir_core.specs.Items.{Do, End}
-use Rattle.ir_core.specs.Rows.{Failing, NeverFails, failing, kind_by, edge_of_kind, edge_of_prim, Declared, type_of_reg}
+use Rattle.ir_core.specs.Items.{Do}
+use Rattle.ir_core.specs.Rows.{NeverFails, failing, Declared, type_of_reg}
 use Rattle.ir_core.specs.Registers.{Held, Holds, Regs, put, literal_of, look}
 use Rattle.ir_core.specs.Effects.{World, Argument, Given, Gives, effect}
-use Rattle.ir_core.specs.Meaning.{Waiting, Runs, Strict, value_of, read, argument, arguments, may_stand, registers_of, item_at, applied, do_op, step}
-use Rattle.ir_core.specs.Building.{Building, Extends}
-use Rattle.ir_core.proofs.StepLemmas.{put_same, put_other, op_step, lit_step, move_step}
+use Rattle.ir_core.specs.Meaning.{Waiting, Strict, value_of, read, arguments, registers_of, item_at, step}
+use Rattle.ir_core.specs.Building.{Building}
+use Rattle.ir_core.proofs.StepLemmas.{put_same, put_other, op_step, lit_step}
 use Rattle.ir_frames.specs.Placing.{HasType, Has}
-use Rattle.ir_frames.specs.Calling.{Adds, Pushes}
-use Rattle.ir_frames.specs.Coming.{world, running, Leads}
+use Rattle.ir_frames.specs.Calling.{Adds}
+use Rattle.ir_frames.specs.Coming.{world, running}
 use Rattle.ir_frames.specs.Computing.{Makes, OfOne, OfTwo}
-use Rattle.ir_frames.proofs.HeldLemmas.{extends_trans, has_less, type_has, type_below, type_kept, adds_has, pushes_has}
-use Rattle.ir_frames.proofs.ComingLemmas.{leads_step, leads_trans, leads_as}
+use Rattle.ir_frames.proofs.HeldLemmas.{extends_trans, has_less, type_has, adds_has}
+use Rattle.ir_frames.proofs.ComingLemmas.{leads_step, leads_trans}
 
 pub look_is : (declared : Declared) (regs : Regs) (x : ℕ) (t : RType) → type_of_reg declared (record { 0 = x }) ≡ Some t → look declared regs (record { 0 = x }) ≡ Some (regs x)
 look_is declared regs x t e = ap (option_map (λ (u : RType). regs x)) e

@@ -1,5 +1,5 @@
 -- Code that computes a value into a register.
-use Rattle.std.specs.Prelude.{◌≡◌, ℕ, ◌+◌, ◌<◌, ◌≤◌, Bool, true, false, ℤ, pos, if◌then◌else◌, List, [], ◌∷◌, length, map, Option, Some, None}
+use Rattle.std.specs.Prelude.{◌≡◌, ℕ, ◌<◌, ◌≤◌, Bool, true, ℤ, pos, if◌then◌else◌, List, [], ◌∷◌, length, Option, Some, None}
 use Rattle.value_core.specs.Arithmetic.{lies_within}
 use Rattle.value_core.specs.Value.{Value, IntVal, BoolVal}
 use Rattle.py_typed.specs.Sorts as sort
@@ -10,7 +10,6 @@ use Rattle.ir_core.specs.declared.code.RType.{RType}
 use Rattle.ir_core.specs.declared.code.Reg.{Reg}
 use Rattle.ir_core.specs.Rows.{Declared, type_of_reg}
 use Rattle.ir_core.specs.Registers.{Held, Holds, Regs}
-use Rattle.ir_core.specs.Effects.{World}
 use Rattle.ir_core.specs.Building.{Building, Extends}
 use Rattle.ir_core.specs.Meaning.{Waiting, Config}
 use Rattle.ir_frames.specs.Settings.{Setting, rtype_of}

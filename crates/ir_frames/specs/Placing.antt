@@ -1,6 +1,6 @@
 -- How what a builder holds stands in the code of the whole function. An end that is still to be written is `Unreachable`, and the
 -- code may have another one there.
-use Rattle.std.specs.Prelude.{◌≡◌, ◌≢◌, ℕ, ◌+◌, ◌≤◌, Bool, false, List, length, Option, Some, None, slice_get}
+use Rattle.std.specs.Prelude.{◌≡◌, ◌≢◌, ℕ, ◌+◌, ◌≤◌, false, List, length, Option, Some, None, slice_get}
 use Rattle.ir_core.specs.declared.code.Op.{Op}
 use Rattle.ir_core.specs.declared.code.Op.TheVariants.{Prim, Call, Virtual, TraitCall}
 use Rattle.ir_core.specs.declared.code.Last.TheVariants.{Unreachable}

@@ -1,4 +1,3 @@
-use Rattle.std.proofs.Common.{OnOk}
 use Rattle.ir_frames.proofs.HeldLemmas.{ok_join}
 use Rattle.ir_expressions.proofs.BuildLemmas.{brings_by}
 use Rattle.ir_expressions.proofs.choice.turn.Goals as goal

@@ -1,4 +1,3 @@
-use Rattle.std.proofs.Common.{ap}
 use Rattle.ir_core.specs.declared.code.Reg.{Reg}
 use Rattle.ir_frames.proofs.HeldLemmas.{ok_map}
 use Rattle.ir_expressions.proofs.OperationLemmas.{arithmetic_makes}
