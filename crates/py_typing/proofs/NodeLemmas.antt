@@ -1,7 +1,7 @@
 -- What a node says, from what its parts and its rule said.
-use Rattle.std.proofs.Common.{◌≡◌, ◌++◌, ℕ, true, false, if◌then◌else◌, List, Option, Some, None, Result, Ok, Err, IfOk, refl, ap, sym, ◌∙◌, subst}
-use Rattle.std.proofs.lemmas.List.{append-nil, append_assoc}
-use Rattle.std.specs.Option.{option_map, option_zip}
+use Rattle.std.proofs.Common.{◌≡◌, ℕ, true, false, if◌then◌else◌, List, Option, Some, Result, Ok, Err, IfOk, ap, sym, ◌∙◌, subst}
+use Rattle.std.proofs.lemmas.List.{append-nil}
+use Rattle.std.specs.Option.{option_map}
 use Rattle.value_core.specs.declared.memory.Memory.{Memory}
 use Rattle.std.specs.declared.boxed.Box.{Box}
 use Rattle.std.specs.declared.alloc.Global.{Global}
@@ -11,7 +11,7 @@ use Rattle.py_syntax.proofs.ExpressionLemmas.{expr_tree_at}
 use Rattle.py_binder.specs.declared.scope.Diag.{Diag}
 use Rattle.py_typed.specs.declared.expression.TExpr.{TExpr}
 use Rattle.py_scope.specs.Context.{Context, VarSorts, Wanted, free}
-use Rattle.py_messages.specs.Seen.{Seen, Tells, is, both, behind, made}
+use Rattle.py_messages.specs.Seen.{Seen, Tells, is, behind}
 use Rattle.py_messages.proofs.RowLemmas.{behind_parts}
 use Rattle.py_rules.specs.Boxes.{boxed}
 use Rattle.py_calls.specs.Callees.{is_named_tree}
@@ -26,35 +26,8 @@ if_ok (Err e) P Q f h = tt
 pub leaf_says : {A X : Type 0} (v : X → A) (a : A) (r : Result (Option X) Memory) (o : List Diag) → IfOk r (λ x. option_map v x ≡ Some a) → IfOk r (λ x. Tells v x o o (is a))
 leaf_says v a r o = if_ok r (λ x. option_map v x ≡ Some a) (λ x. Tells v x o o (is a)) (λ x h. (h, sym (append-nil o)))
 
-pub made_says : {A B X Y : Type 0} (f : A → B) (va : X → A) (vb : Y → B) (s : Seen A) (a : Option X) (r : Result (Option Y) Memory) (o0 o1 : List Diag) → Tells va a o0 o1 s → IfOk r (λ x. option_map vb x ≡ option_map f (option_map va a)) → IfOk r (λ x. Tells vb x o0 o1 (made f s))
-made_says f va vb s a r o0 o1 ta = if_ok r (λ x. option_map vb x ≡ option_map f (option_map va a)) (λ x. Tells vb x o0 o1 (made f s)) (λ x h. (h ∙ ap (option_map f) ta.0, ta.1))
-
 pub one_says : {A B X Y : Type 0} (f : Option A → Seen B) (va : X → A) (vb : Y → B) (s : Seen A) (a : Option X) (r : Result (Option Y) Memory) (o0 o1 o2 : List Diag) → Tells va a o0 o1 s → IfOk r (λ x. Tells vb x o1 o2 (f (option_map va a))) → IfOk r (λ x. Tells vb x o0 o2 (behind s f))
 one_says f va vb s a r o0 o1 o2 ta = if_ok r (λ x. Tells vb x o1 o2 (f (option_map va a))) (λ x. Tells vb x o0 o2 (behind s f)) (λ x h. behind_parts f va vb s a x o0 o1 o2 ta h)
-
-abbrev pair_of : {A B X Y : Type 0} → (X → A) → (Y → B) → X × Y → A × B
-pair_of va vb p = (va p.0, vb p.1)
-
-zipped : {A B X Y : Type 0} (va : X → A) (vb : Y → B) (a : Option X) (b : Option Y) → option_map (pair_of va vb) (option_zip a b) ≡ option_zip (option_map va a) (option_map vb b)
-zipped va vb None b = refl
-zipped va vb (Some a) None = refl
-zipped va vb (Some a) (Some b) = refl
-
-both_say : {A B X Y : Type 0} (va : X → A) (vb : Y → B) (s : Seen A) (t : Seen B) (a : Option X) (b : Option Y) (o0 o1 o2 : List Diag) → Tells va a o0 o1 s → Tells vb b o1 o2 t → Tells (pair_of va vb) (option_zip a b) o0 o2 (both s t)
-both_say va vb s t a b o0 o1 o2 ta tb = (
-  zipped va vb a b ∙ ap (λ x. option_zip x (option_map vb b)) ta.0 ∙ ap (λ y. option_zip s.got y) tb.0,
-  tb.1 ∙ ap (λ l. l ++ t.said) ta.1 ∙ append_assoc o0 s.said t.said,
-)
-
-pub two_say : {A B C X Y Z : Type 0} (f : Option (A × B) → Seen C) (va : X → A) (vb : Y → B) (vc : Z → C) (s : Seen A) (t : Seen B) (a : Option X) (b : Option Y) (r : Result (Option Z) Memory) (o0 o1 o2 o3 : List Diag) → Tells va a o0 o1 s → Tells vb b o1 o2 t → IfOk r (λ x. Tells vc x o2 o3 (f (option_zip (option_map va a) (option_map vb b)))) → IfOk r (λ x. Tells vc x o0 o3 (behind (both s t) f))
-two_say f va vb vc s t a b r o0 o1 o2 o3 ta tb h =
-    let P : Option (_ × _) → Type 0 = λ q. IfOk r (λ x. Tells vc x o2 o3 (f q)) in
-    one_says f (pair_of va vb) vc (both s t) (option_zip a b) r o0 o2 o3 (both_say va vb s t a b o0 o1 o2 ta tb) (subst P (sym (zipped va vb a b)) h)
-
-pub three_say : {A B C D X Y Z W : Type 0} (f : Option ((A × B) × C) → Seen D) (va : X → A) (vb : Y → B) (vc : Z → C) (vd : W → D) (s : Seen A) (t : Seen B) (u : Seen C) (a : Option X) (b : Option Y) (c : Option Z) (r : Result (Option W) Memory) (o0 o1 o2 o3 o4 : List Diag) → Tells va a o0 o1 s → Tells vb b o1 o2 t → Tells vc c o2 o3 u → IfOk r (λ x. Tells vd x o3 o4 (f (option_zip (option_zip (option_map va a) (option_map vb b)) (option_map vc c)))) → IfOk r (λ x. Tells vd x o0 o4 (behind (both (both s t) u) f))
-three_say f va vb vc vd s t u a b c r o0 o1 o2 o3 o4 ta tb tc h =
-    let P : Option (_ × _) → Type 0 = λ q. IfOk r (λ x. Tells vd x o3 o4 (f (option_zip q (option_map vc c)))) in
-    two_say f (pair_of va vb) vc vd (both s t) u (option_zip a b) c r o0 o2 o3 o4 (both_say va vb s t a b o0 o1 o2 ta tb) tc (subst P (sym (zipped va vb a b)) h)
 
 -- ---- an expression by its node
 

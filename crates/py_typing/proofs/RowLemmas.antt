@@ -1,12 +1,12 @@
 -- Expressions, operands and arguments in rows, from a place on.
-use Rattle.std.proofs.Common.{◌≡◌, ◌<◌, ◌≤◌, ℕ, ◌+◌, zero, suc, List, [], ◌∷◌, Option, Some, None, length, map, drop, get_or, refl, ap, sym, ◌∙◌, arith, drop-cons, add-one}
+use Rattle.std.proofs.Common.{◌≡◌, ◌<◌, ℕ, ◌+◌, suc, List, [], ◌∷◌, Option, Some, None, length, map, drop, get_or, refl, ap, sym, ◌∙◌, drop-cons, add-one}
 use Rattle.py_syntax.specs.declared.expression.CmpOp.{CmpOp}
 use Rattle.py_syntax.specs.declared.expression.Expr.{Expr}
 use Rattle.py_syntax.specs.declared.expression.Arg.{Arg, out-Arg}
 use Rattle.py_syntax.specs.Expressions.{ExprTree, ArgTree, Arguments, expr_tree, exprs_of, arg_tree, comparison_tree, comparisons_of, arguments_of, with_key}
 use Rattle.py_syntax.proofs.ExpressionLemmas.{arg_tree_at}
 use Rattle.py_scope.specs.Context.{Context, VarSorts, free, WantedRow, wanted_in}
-use Rattle.py_messages.specs.Seen.{is, made}
+use Rattle.py_messages.specs.Seen.{made}
 use Rattle.py_messages.specs.Rows.{row_then}
 use Rattle.py_typing.specs.Typing.{typing, items, operands, arguments, count}
 
@@ -23,12 +23,6 @@ module _ (C : Context) (V : VarSorts) (K : List ℕ) where
       ∙ ap (λ (x : Expr). row_then (typing C V (wanted_in row i) K (expr_tree x)) (items C V row (suc i) K (exprs_of (map expr_tree (drop (suc i) es))))) (sym is)
       ∙ ap (λ k. row_then (typing C V (wanted_in row i) K (expr_tree e)) (items C V row k K (exprs_of (map expr_tree (drop k es))))) (sym (add-one i))
 
-  pub items_end : (row : WantedRow) (es : List Expr) (i k : ℕ) → length es ≤ i → items C V row k K (exprs_of (map expr_tree (drop i es))) ≡ is []
-  items_end row [] zero k h = refl
-  items_end row [] (suc i) k h = refl
-  items_end row (e ∷ es) zero k h = absurd (omega arith)
-  items_end row (e ∷ es) (suc i) k h = items_end row es i k (omega arith)
-
   -- ---- operands
 
   pub operands_at : (cs : List (CmpOp × Expr)) (i : ℕ) (p : CmpOp × Expr) → i < length cs → p ≡ get_or cs i p → operands C V K (comparisons_of (map comparison_tree (drop i cs))) ≡ row_then (made (λ t. (p.0, t)) (typing C V free K (expr_tree p.1))) (operands C V K (comparisons_of (map comparison_tree (drop (i + 1) cs))))
@@ -36,12 +30,6 @@ module _ (C : Context) (V : VarSorts) (K : List ℕ) where
       ap (λ l. operands C V K (comparisons_of (map comparison_tree l))) (drop-cons cs i p h)
       ∙ ap (λ (q : CmpOp × Expr). row_then (made (λ t. (q.0, t)) (typing C V free K (expr_tree q.1))) (operands C V K (comparisons_of (map comparison_tree (drop (suc i) cs))))) (sym is)
       ∙ ap (λ k. row_then (made (λ t. (p.0, t)) (typing C V free K (expr_tree p.1))) (operands C V K (comparisons_of (map comparison_tree (drop k cs))))) (sym (add-one i))
-
-  pub operands_end : (cs : List (CmpOp × Expr)) (i : ℕ) → length cs ≤ i → operands C V K (comparisons_of (map comparison_tree (drop i cs))) ≡ is []
-  operands_end [] zero h = refl
-  operands_end [] (suc i) h = refl
-  operands_end (p ∷ cs) zero h = absurd (omega arith)
-  operands_end (p ∷ cs) (suc i) h = operands_end cs i (omega arith)
 
   -- ---- arguments
 
@@ -57,9 +45,3 @@ module _ (C : Context) (V : VarSorts) (K : List ℕ) where
       ∙ keyed row i (arg_tree a).key (arg_tree a).value (rest (suc i))
       ∙ ap (λ (x : ArgTree). row_then (typing C V (wanted_in row i) K x.value) (arguments C V row (suc i) K (rest (suc i)))) (arg_tree_at a)
       ∙ ap (λ k. row_then (typing C V (wanted_in row i) K (expr_tree (out-Arg a).value)) (arguments C V row k K (rest k))) (sym (add-one i))
-
-  pub arguments_end : (row : WantedRow) (args : List Arg) (i k : ℕ) → length args ≤ i → arguments C V row k K (arguments_of (map arg_tree (drop i args))) ≡ is []
-  arguments_end row [] zero k h = refl
-  arguments_end row [] (suc i) k h = refl
-  arguments_end row (a ∷ args) zero k h = absurd (omega arith)
-  arguments_end row (a ∷ args) (suc i) k h = arguments_end row args i k (omega arith)

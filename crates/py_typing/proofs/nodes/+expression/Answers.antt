@@ -1,4 +1,4 @@
-use Rattle.std.proofs.Common.{◌≡◌, ◌∙◌, ◌+◌, true, false, rules, sym, ap, map, drop, length, Option, List, subst, IfOk}
+use Rattle.std.proofs.Common.{◌≡◌, ◌∙◌, ◌+◌, rules, sym, ap, map, drop, length, Option, List, subst, IfOk}
 use Rattle.std.specs.Option.{option_map}
 use Rattle.py_syntax.specs.declared.expression.CmpOp.{CmpOp}
 use Rattle.py_syntax.specs.declared.expression.Arg.{out-Arg}
@@ -13,7 +13,7 @@ use Rattle.py_messages.proofs.RowLemmas.{Remains, row_step}
 use Rattle.py_rules.specs.Boxes.{boxed, operand_pair}
 use Rattle.py_rules.proofs.FactLemmas.{tree_of}
 use Rattle.py_displays.specs.Displays as displays
-use Rattle.py_typing.specs.Typing.{typing, node_typing, operands, items, arguments, receiver, count}
+use Rattle.py_typing.specs.Typing.{typing, node_typing, operands, items, arguments, count}
 use Rattle.py_typing.proofs.NodeLemmas.{leaf_says, one_says, node_says, named_part, value_part}
 use Rattle.py_typing.proofs.RowLemmas.{counted, items_at, operands_at, arguments_at}
 use Rattle.py_typing.proofs.nodes.+expression.Goals as goal
