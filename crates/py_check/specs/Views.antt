@@ -1,0 +1,54 @@
+-- What the program's functions stand for, and what its walk over definitions says.
+use Rattle.std.specs.Prelude.{ℕ, Bool, false, List, [], ◌∷◌, ◌++◌, length, map, drop, Option}
+use Rattle.std.specs.List.{zip}
+use Rattle.std.specs.Option.{option_map}
+use denote.Ref.{Bor}
+use Rattle.py_syntax.specs.declared.expression.Expr.{Expr}
+use Rattle.py_syntax.specs.Expressions.{ExprTree, expr_tree}
+use Rattle.py_syntax.specs.declared.token.Span.{Span}
+use Rattle.py_syntax.specs.Statements.{StmtTree, at, Def, ClassDef, Import, From, FuncTree, func_tree}
+use Rattle.py_binder.specs.declared.scope.Diag.{Diag}
+use Rattle.py_binder.specs.declared.scope.Scope.{Scope}
+use Rattle.py_scope.specs.declared.scope.Meaning.{Meaning}
+use Rattle.py_messages.specs.Seen.{diag}
+use Rattle.py_messages.specs.Messages as message
+use Rattle.py_names.specs.Outline.{may_import_all, held_by}
+use Rattle.py_headers.specs.Headers.{header}
+use Rattle.py_headers.specs.Definitions.{is_new}
+use Rattle.py_headers.specs.Views.{header_sorts, parts}
+use Rattle.py_check.specs.declared.functions.Function.{Function}
+use Rattle.py_check.specs.Definitions.{Headed, function_said, import_said, names_given}
+
+abbrev pub headed_of : Function → Headed
+headed_of f = record { tree = func_tree f.tree.now; inside = f.inside.now; header = header_sorts f.header }
+
+abbrev pub headed_parts : Function → Headed
+headed_parts f = record { tree = parts f.tree.now; inside = f.inside.now; header = header_sorts f.header }
+
+-- functions with their scopes, one to one
+abbrev pub headed_with : (List ℕ → Meaning) → FuncTree × Scope → Headed
+headed_with meanings p = record { tree = p.0; inside = p.1; header = header meanings p.0 }
+
+abbrev pub headed_all : (List ℕ → Meaning) → List FuncTree → List Scope → List Headed
+headed_all meanings fs scopes = map (headed_with meanings) (zip fs scopes)
+
+-- of a definition, by the functions of which the first is the one that it holds
+abbrev pub first_said : Span → Bool → List Headed → List Diag
+first_said span fresh [] = []
+first_said span fresh (f ∷ more) = function_said span fresh f
+
+abbrev pub said_at : List (List ℕ) → List Headed → StmtTree → List Diag
+said_at earlier fs (at (Def name params ret body marks) span) = first_said span (is_new earlier name) fs
+said_at earlier fs (at (ClassDef name bases body marks) span) = diag span (message.outside_profile name) ∷ []
+said_at earlier fs (at (Import name other) span) = import_said false span
+said_at earlier fs (at (From name names) span) = import_said (may_import_all name names) span
+said_at earlier fs _ = []
+
+-- along definitions, each of which takes its functions off the row
+abbrev pub said_along : List (List ℕ) → List Headed → List StmtTree → List Diag
+said_along earlier fs [] = []
+said_along earlier fs (s ∷ more) = said_at earlier fs s ++ said_along (earlier ++ names_given s) (drop (length (held_by s)) fs) more
+
+-- an annotation, if there is one
+abbrev pub mark_tree : Option (Bor Expr) → Option ExprTree
+mark_tree = option_map (λ e. expr_tree e.now)
