@@ -22,7 +22,7 @@ use std::alloc::Global;
 use value_core::{Many, Memory, Name};
 
 /// Adds what is wrong with definitions and imports, which hold these functions in their order.
-pub(crate) fn add_definition_faults(
+pub fn add_definition_faults(
     alloc: Global,
     definitions: &[&Stmt],
     functions: &[Function<'_>],
@@ -111,7 +111,7 @@ fn add_first_fault(
 }
 
 /// Adds what is wrong with definitions and imports in the bodies of functions.
-pub(crate) fn add_inner_faults(
+pub fn add_inner_faults(
     alloc: Global,
     functions: &[&Func],
     faults: &mut Many<Diag>,

@@ -17,14 +17,14 @@ use value_core::{Many, Memory};
 
 /// A function with the names that are seen in it and with what its annotations give.
 #[derive(Drop)]
-pub(crate) struct Function<'a> {
+pub struct Function<'a> {
     pub tree: &'a Func,
     pub inside: &'a Scope,
     pub header: Header,
 }
 
 /// Functions with their scopes, one to one; their annotations are seen in the module's scope.
-pub(crate) fn functions_of<'a>(
+pub fn functions_of<'a>(
     alloc: Global,
     scope: &py_scope::Scope<'_>,
     found: &[&'a Func],
@@ -50,7 +50,7 @@ pub(crate) fn functions_of<'a>(
 }
 
 /// The signatures of functions, by their numbers: some have none.
-pub(crate) fn signatures_of(
+pub fn signatures_of(
     alloc: Global,
     functions: &[Function<'_>],
 ) -> Result<Vec<Option<Sig>>, Memory>

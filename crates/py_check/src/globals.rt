@@ -16,7 +16,7 @@ use value_core::{Many, Memory, Name};
 
 /// Adds what is wrong with the `global` statements of a module and of its functions, where these are the module's variables
 /// and these are the entries that binding found.
-pub(crate) fn add_global_faults<'a>(
+pub fn add_global_faults<'a>(
     alloc: Global,
     variables: &IndexSet<Name>,
     body: &'a [Stmt],

@@ -10,3 +10,9 @@ mod functions;
 mod globals;
 mod starts;
 mod variables;
+
+pub use definitions::{add_definition_faults, add_inner_faults};
+pub use functions::{Function, functions_of, signatures_of};
+pub use globals::add_global_faults;
+pub use starts::{own_types, start_types};
+pub use variables::{numbers_of, own_names, param_numbers, type_or_none, typed_variables};

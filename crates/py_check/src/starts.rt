@@ -22,7 +22,7 @@ use std::alloc::Global;
 use value_core::{Many, Memory, Name};
 
 /// The types of variables that these statements bind, before the first of them.
-pub(crate) fn start_types(
+pub fn start_types(
     alloc: Global,
     scope: &Scope<'_>,
     body: &[Stmt],
@@ -39,7 +39,7 @@ pub(crate) fn start_types(
 }
 
 /// The types of a function's own variables before its first statement, where its parameters have these names and types.
-pub(crate) fn own_types(
+pub fn own_types(
     alloc: Global,
     scope: &Scope<'_>,
     body: &[Stmt],

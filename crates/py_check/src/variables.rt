@@ -19,7 +19,7 @@ use std::alloc::Global;
 use value_core::{Many, Memory, Name};
 
 /// A function's own variables, by their numbers.
-pub(crate) fn own_names(alloc: Global, inside: &Scope) -> Result<IndexSet<Name>, Memory>
+pub fn own_names(alloc: Global, inside: &Scope) -> Result<IndexSet<Name>, Memory>
     ensures { IfOk result (λ own. own.keys ≡ meanings.own_names inside.now) }
 {
     let mut names = Vec::new(alloc);
@@ -50,7 +50,7 @@ fn name_set(alloc: Global, names: &[Name]) -> Result<IndexSet<Name>, Memory>
 }
 
 /// The numbers of names.
-pub(crate) fn numbers_of(alloc: Global, names: &[Name]) -> Result<Vec<usize>, Memory>
+pub fn numbers_of(alloc: Global, names: &[Name]) -> Result<Vec<usize>, Memory>
     ensures { IfOk result (λ numbers. numbers.items ≡ spec.numbers_from 0 names.now) }
 {
     let mut numbers = Vec::new(alloc);
@@ -61,7 +61,7 @@ pub(crate) fn numbers_of(alloc: Global, names: &[Name]) -> Result<Vec<usize>, Me
 }
 
 /// The numbers of parameters among a function's own variables.
-pub(crate) fn param_numbers(
+pub fn param_numbers(
     alloc: Global,
     own: &IndexSet<Name>,
     params: &[(Name, Option<Expr>)],
@@ -86,7 +86,7 @@ fn number(names: &IndexSet<Name>, name: &Name) -> usize
 }
 
 /// Variables by their numbers, with their types.
-pub(crate) fn typed_variables(
+pub fn typed_variables(
     alloc: Global,
     names: &[Name],
     types: &Many<VarType>,
@@ -122,7 +122,7 @@ fn type_of(alloc: Global, t: Option<&VarType>) -> Result<Ty, Memory>
 }
 
 /// A type, or that of `None` where there is none.
-pub(crate) fn type_or_none(alloc: Global, t: &Option<Ty>) -> Result<Ty, Memory>
+pub fn type_or_none(alloc: Global, t: &Option<Ty>) -> Result<Ty, Memory>
     ensures { IfOk result (λ copy. sorts.sort copy ≡ unwrap_or (option_map sorts.sort t.now) sorts.Nothing) }
 {
     match t {
