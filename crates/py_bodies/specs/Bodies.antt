@@ -4,7 +4,7 @@
 -- A statement is typed where its parts are and its own rule holds; the statements of a body are no parts of what holds it. Code
 -- that no run comes to is typed like all other. A `global` statement says nothing here: its names are the binder's. Imports,
 -- definitions of functions and classes have no typed form, and what is wrong with them is not said here.
-use Rattle.std.specs.Prelude.{ℕ, Bool, true, false, List, [], ◌∷◌, ◌++◌, codes, map, length, Option, Some, None, is_some, if◌then◌else◌}
+use Rattle.std.specs.Prelude.{ℕ, Bool, true, false, List, [], codes, length, Option, Some, None, is_some, if◌then◌else◌}
 use Rattle.std.specs.Option.{option_map}
 use Rattle.py_syntax.specs.declared.token.Span.{Span}
 use Rattle.py_syntax.specs.declared.expression.BinOp.{BinOp}
@@ -15,18 +15,17 @@ use Rattle.py_typed.specs.Sorts.{Sort}
 use Rattle.py_typed.specs.Expressions.{TypedExpr, type_of}
 use Rattle.py_typed.specs.Statements as act
 use Rattle.py_typed.specs.Statements.{TypedStmt, TypedAct, TypedSuite, on_line, suite_of, arms_of}
-use Rattle.py_scope.specs.Context.{Context, VarSort, VarSorts, unset, untyped, has, var_at, Wanted, free, test, wants, dropped}
+use Rattle.py_scope.specs.Context.{Context, VarSort, has, Wanted, free, test, wants, dropped}
 use Rattle.py_flow.specs.Bindings.{name_in}
 use Rattle.py_flow.specs.Closed.{is_closed, breaks_suite}
-use Rattle.py_messages.specs.Seen.{Seen, Message, is, silent, fails, both, behind, rule, made}
+use Rattle.py_messages.specs.Seen.{Seen, is, fails, both, behind, rule, made}
 use Rattle.py_messages.specs.Rows.{row_then}
 use Rattle.py_messages.specs.Messages.{no_target, outside_loop, only_entries, no_exception}
 use Rattle.py_annotations.specs.Annotations.{annotation}
 use Rattle.py_rules.specs.Values.{truth}
 use Rattle.py_rules.specs.Several.{with_part}
-use Rattle.py_rules.specs.Facts.{facts}
-use Rattle.py_binding.specs.Returns.{ReturnSort, outside, gives, bare_return, value_return}
-use Rattle.py_bodies.specs.Places.{Known, with_names, variable_at, is_bound, bind_names, where_test, entering, Way, setting_out, met, meeting, behind_arm}
+use Rattle.py_binding.specs.Returns.{ReturnSort, gives, bare_return, value_return}
+use Rattle.py_bodies.specs.Places.{Known, with_names, variable_at, is_bound, bind_names, where_test, entering, Way, setting_out, meeting, behind_arm}
 use Rattle.py_bodies.specs.Targets.{Aim, aims, leaves, target_names, is_row, is_flat, is_item, asked_by, parts_of, assigned, declared, given, updated, name_aim, read_aim, seen_aim, typed_at, targets_of}
 use Rattle.py_bodies.specs.Loops.{Course, course, course_items, head, loop_of}
 
@@ -171,19 +170,16 @@ module _ (c : Context) where
     arms_after w (arm_then e body more) =
         arms_after (behind_arm c w e (is_closed body) (block_after (where_test c w.at true e) body)) more
 
-module _ (c : Context) (ret : ReturnSort) where
-  -- what a `return` asks of its value
-  abbrev pub returns_wanted : Wanted
-  returns_wanted = wanted_of ret
-    where
-      wanted_of : ReturnSort → Wanted
-      wanted_of (gives t) = wants t
-      wanted_of r = free
+-- what a `return` asks of its value
+abbrev pub return_wanted : ReturnSort → Wanted
+return_wanted (gives t) = wants t
+return_wanted r = free
 
+module _ (c : Context) (ret : ReturnSort) where
   abbrev pub returns : Known → Span → Option ExprTree → Seen TypedAct
   returns k span None = made (λ u. act.Return None) (bare_return span ret)
   returns k span (Some e) =
-      made (λ v. act.Return (Some v)) (behind (typed_at c k returns_wanted e) (λ p. with_part p (value_return c.classes span ret)))
+      made (λ v. act.Return (Some v)) (behind (typed_at c k (return_wanted ret) e) (λ p. with_part p (value_return c.classes span ret)))
 
   -- only a loop is left and begun again
   abbrev pub in_loop : Bool → Span → List ℕ → TypedAct → Seen TypedAct

@@ -2,11 +2,11 @@
 --
 -- A call of `range` takes one bound or two, which are numbers; its items are i64 where a bound is, else int, and both bounds are
 -- of their type. The items of a list are its items, and those of a dict its keys.
-use Rattle.std.specs.Prelude.{ℕ, suc, Bool, true, false, List, [], ◌∷◌, codes, Option, Some, None, Result, Ok, Err, if◌then◌else◌}
+use Rattle.std.specs.Prelude.{ℕ, suc, Bool, true, false, ◌&&◌, List, [], ◌∷◌, codes, Option, Some, None, Result, Ok, Err, if◌then◌else◌}
 use Rattle.std.specs.List.{list_all}
 use Rattle.py_syntax.specs.declared.token.Span.{Span}
 use Rattle.py_syntax.specs.Expressions as tree
-use Rattle.py_syntax.specs.Expressions.{ExprTree, at, Arguments, no_arguments}
+use Rattle.py_syntax.specs.Expressions.{ExprTree, at, Arguments}
 use Rattle.py_typed.specs.Sorts.{Sort}
 use Rattle.py_typed.specs.Sorts as sort
 use Rattle.py_typed.specs.Classes.{ClassEntry}
@@ -14,10 +14,11 @@ use Rattle.py_typed.specs.Fits.{is_number, number_join}
 use Rattle.py_typed.specs.Expressions.{TypedExpr, type_of}
 use Rattle.py_typed.specs.Statements as act
 use Rattle.py_typed.specs.Statements.{TypedTarget, TypedSuite, TypedAct}
-use Rattle.py_scope.specs.Context.{Context, along}
+use Rattle.py_scope.specs.Context.{Context, free, along}
 use Rattle.py_scope.specs.declared.scope.Meaning.{Meaning}
 use Rattle.py_scope.specs.declared.scope.Meaning.TheVariants as meaning
 use Rattle.py_scope.specs.declared.scope.Builtin.TheVariants as builtin
+use Rattle.py_flow.specs.Bindings.{name_in}
 use Rattle.py_messages.specs.Seen.{Seen, Message, behind, rule, made}
 use Rattle.py_messages.specs.Messages.{no_target, not_iterable, wrong_number, wrong_argument}
 use Rattle.py_rules.specs.Values.{coerced}
@@ -25,11 +26,9 @@ use Rattle.py_rules.specs.Several.{unless}
 use Rattle.py_calls.specs.Callees.{has_key}
 use Rattle.py_calls.specs.Calls.{positional}
 use Rattle.py_typing.specs.Typing.{arguments}
-use Rattle.py_binding.specs.Assignments.{first_of, binding_fault, unpacking_fault}
-use Rattle.py_scope.specs.Context.{free}
+use Rattle.py_binding.specs.Assignments.{binding_fault}
 use Rattle.py_bodies.specs.Places.{Known}
-use Rattle.py_bodies.specs.Targets.{Aim, slot_of, is_name_aim, typed_at}
-use Rattle.std.specs.Prelude.{map, ◌&&◌}
+use Rattle.py_bodies.specs.Targets.{Aim, slot_of, is_name_aim, several_fault, typed_at}
 
 -- the bounds of a range, or a value
 pub data Course : Type 0 where
@@ -81,9 +80,13 @@ abbrev pub is_range : Meaning → Bool
 is_range (meaning.Builtin builtin.Range) = true
 is_range m = false
 
--- the arguments of a call of `range`
+-- the name of `range`, and the arguments of a call of it
+abbrev pub is_range_name : Context → Option (List ℕ) → Bool
+is_range_name c None = false
+is_range_name c (Some x) = is_range (c.meaning x)
+
 abbrev pub range_arguments : Context → ExprTree → Option Arguments
-range_arguments c (at (tree.Call (at (tree.Name x) place) args) span) = if is_range (c.meaning x) then Some args else None
+range_arguments c (at (tree.Call f args) span) = if is_range_name c (name_in f) then Some args else None
 range_arguments c e = None
 
 abbrev pub span_of : ExprTree → Span
@@ -103,7 +106,7 @@ module _ (c : Context) where
 
 -- what is wrong where items of a type are bound to targets
 abbrev pub items_fault : List ClassEntry → Bool → List Aim → Sort → Option Message
-items_fault classes true aims t = unpacking_fault classes (map slot_of aims) t
+items_fault classes true aims t = several_fault classes aims t
 items_fault classes false (a ∷ []) t = binding_fault classes (slot_of a) t
 items_fault classes false aims t = Some no_target
 

@@ -4,7 +4,7 @@
 -- An annotated variable has the type of its annotation from the start. Any other has none before its first assignment, which
 -- fixes it; where that one is refused, or its value has no type, the variable has none for good. A name that is bound is known
 -- not to be None where its value is never None, and a value without a type counts as such.
-use Rattle.std.specs.Prelude.{ℕ, Bool, true, false, not, ◌&&◌, if◌then◌else◌, List, [], ◌∷◌, ◌++◌, Option, Some, None, slice_set}
+use Rattle.std.specs.Prelude.{ℕ, Bool, true, false, not, if◌then◌else◌, List, [], ◌∷◌, ◌++◌, Option, Some, None, slice_set}
 use Rattle.std.specs.List.{flat_map}
 use Rattle.py_syntax.specs.Expressions.{ExprTree}
 use Rattle.py_syntax.specs.Statements.{StmtTree}
@@ -13,7 +13,7 @@ use Rattle.py_typed.specs.Narrowing.{is_in, shared, without, may_be_none}
 use Rattle.py_scope.specs.declared.scope.Meaning.{Meaning}
 use Rattle.py_scope.specs.declared.scope.Meaning.TheVariants as meaning
 use Rattle.py_scope.specs.Context.{Context, VarSort, unset, untyped, has, VarSorts, var_at}
-use Rattle.py_flow.specs.Bindings.{bound_names, stmt_bindings}
+use Rattle.py_flow.specs.Bindings.{Binding, stmt_bindings}
 use Rattle.py_rules.specs.Facts.{facts, local_of}
 
 pub record Known : Type 0 where
@@ -96,9 +96,12 @@ module _ (c : Context) where
   abbrev pub where_test : Known → Bool → ExprTree → Known
   where_test k outcome e = with_names k (facts c outcome e ++ k.names)
 
-  -- the function's own variables that a statement binds
+  -- the function's own variables among bindings, and those that a statement binds
+  abbrev pub locals_among : List Binding → List ℕ
+  locals_among bindings = flat_map (λ b. local_of (c.meaning b.name)) bindings
+
   abbrev pub locals_in : StmtTree → List ℕ
-  locals_in s = flat_map (λ x. local_of (c.meaning x)) (bound_names (stmt_bindings s))
+  locals_in s = locals_among (stmt_bindings s)
 
   -- a loop drops the names that it binds
   abbrev pub entering : Known → StmtTree → Known

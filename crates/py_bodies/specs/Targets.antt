@@ -4,31 +4,33 @@
 -- of a target are no reads. Where a target is a variable without a type nothing is said of what holds it.
 use Rattle.std.specs.Prelude.{ℕ, Bool, true, false, not, ◌&&◌, if◌then◌else◌, List, [], ◌∷◌, ◌++◌, map, length, Option, Some, None, unwrap_or, Result, Ok, Err}
 use Rattle.std.specs.List.{list_all, flat_map}
-use Rattle.std.specs.Option.{option_map, option_zip}
+use Rattle.std.specs.Option.{option_map}
+use Rattle.std.specs.Map.{lookup}
+use Rattle.std.specs.Str.{bytes_eq}
 use Rattle.py_syntax.specs.declared.token.Span.{Span}
 use Rattle.py_syntax.specs.declared.expression.BinOp.{BinOp}
 use Rattle.py_syntax.specs.Expressions as tree
 use Rattle.py_syntax.specs.Expressions.{ExprTree, ExprNode, at, ExprTrees, no_exprs, expr_then}
-use Rattle.py_typed.specs.Sorts.{Sort, sorts_of, listed_sorts}
+use Rattle.py_typed.specs.Sorts.{Sort, sorts_of}
 use Rattle.py_typed.specs.Sorts as sort
 use Rattle.py_typed.specs.Classes.{ClassEntry}
+use Rattle.py_typed.specs.Fits.{fits}
 use Rattle.py_typed.specs.Expressions as node
 use Rattle.py_typed.specs.Expressions.{TypedExpr, typed, type_of}
 use Rattle.py_typed.specs.Statements as act
 use Rattle.py_typed.specs.Statements.{TypedTarget, LocalTarget, GlobalTarget, ItemTarget, TypedAct}
 use Rattle.py_scope.specs.declared.scope.Meaning.{Meaning}
 use Rattle.py_scope.specs.declared.scope.Meaning.TheVariants as meaning
-use Rattle.py_scope.specs.Context.{Context, VarSort, unset, untyped, has, var_at, Wanted, free, wants, wants_some}
+use Rattle.py_scope.specs.Context.{Context, VarSort, unset, untyped, has, var_at, Wanted, free, wants_some}
 use Rattle.py_flow.specs.Bindings.{name_in}
-use Rattle.py_messages.specs.Seen.{Seen, Message, is, silent, fails, both, rule, made}
+use Rattle.py_messages.specs.Seen.{Seen, Message, is, made}
 use Rattle.py_messages.specs.Rows.{row_then}
-use Rattle.py_messages.specs.Messages.{no_target, cannot_assign, already_defined}
-use Rattle.py_annotations.specs.Annotations.{annotation}
+use Rattle.py_messages.specs.Messages.{no_target, cannot_assign, already_defined, wrong_assignment}
 use Rattle.py_rules.specs.Several.{unless}
 use Rattle.py_rules.specs.Operators.{arithmetic}
 use Rattle.py_typing.specs.Typing.{typing}
 use Rattle.py_binding.specs.Slots.{SlotSort, known, fresh, refused, itemless}
-use Rattle.py_binding.specs.Assignments.{assignment, unpacking, binding_fault, unpacking_fault, items_for}
+use Rattle.py_binding.specs.Assignments.{first_of, assignment, binding_fault, unpacking_fault, items_for}
 use Rattle.py_bodies.specs.Places.{Known}
 
 -- ---- single targets
@@ -63,8 +65,11 @@ is_written (sort.ListOf t) = true
 is_written (sort.DictOf k t) = true
 is_written t = false
 
+abbrev pub part_aim : TypedExpr → TypedExpr → Sort → Aim
+part_aim e i t = if is_written (type_of e) then held (ItemTarget e i) t else unwritten (type_of e)
+
 abbrev pub item_aim : TypedExpr → Aim
-item_aim (typed (node.At e i) t place) = if is_written (type_of e) then held (ItemTarget e i) t else unwritten (type_of e)
+item_aim (typed (node.At e i) t place) = part_aim e i t
 item_aim (typed (node.TupleAt e i) t place) = unwritten (type_of e)
 item_aim e = misplaced (type_of e)
 
@@ -148,16 +153,19 @@ abbrev pub tuple_sort : List Sort → Sort
 tuple_sort ts = sort.TupleOf (sorts_of ts)
 
 -- what targets ask of the value: that of a single one, or their tuple
-abbrev pub aim_wants : List Aim → Wanted
-aim_wants (held target t ∷ more) = wants t
-aim_wants aims = free
+abbrev pub single_sort : List Aim → Option Sort
+single_sort (held target t ∷ []) = Some t
+single_sort aims = None
 
-abbrev pub wanted_by : Bool → List Aim → Wanted
-wanted_by several aims = if several then wants_some (option_map tuple_sort (held_sorts aims)) else aim_wants aims
+abbrev pub sort_for : Bool → List Aim → Option Sort
+sort_for several aims = if several then option_map tuple_sort (held_sorts aims) else single_sort aims
+
+abbrev pub asked_sort : Bool → Option (List Aim) → Option Sort
+asked_sort several None = None
+asked_sort several (Some aims) = sort_for several aims
 
 abbrev pub asked_by : Bool → Option (List Aim) → Wanted
-asked_by several None = free
-asked_by several (Some aims) = wanted_by several aims
+asked_by several aims = wants_some (asked_sort several aims)
 
 -- the types of the parts of a value for so many targets, as far as there are such
 abbrev pub some_parts : Option (List Sort) → List Sort
@@ -180,12 +188,28 @@ targets_of aims = flat_map target_of aims
 abbrev pub are_placed : Bool → List Aim → Bool
 are_placed flat aims = flat && list_all is_placed aims
 
+-- a new name that stands twice has the type of its first part
+abbrev pub again_fault : List ClassEntry → Option Sort → Sort → Option Message
+again_fault classes None s = None
+again_fault classes (Some t) s = if fits classes s t then None else Some (wrong_assignment classes s t)
+
+abbrev pub twice_fault : List ClassEntry → List (List ℕ × Sort) → List Aim → List Sort → Option Message
+twice_fault classes seen (first target x ∷ more) (s ∷ ss) =
+    first_of (again_fault classes (lookup (bytes_eq x) seen) s) (twice_fault classes (seen ++ (x, s) ∷ []) more ss)
+twice_fault classes seen (a ∷ more) (s ∷ ss) = twice_fault classes seen more ss
+twice_fault classes seen aims ss = None
+
+-- what is wrong where a value of a type is bound to several targets
+abbrev pub several_fault : List ClassEntry → List Aim → Sort → Option Message
+several_fault classes aims t =
+    first_of (unpacking_fault classes (map slot_of aims) t) (twice_fault classes [] aims (some_parts (items_for t (length aims))))
+
 abbrev pub one_assigned : List ClassEntry → List Aim → TypedExpr → Result TypedExpr Message
 one_assigned classes (a ∷ []) e = assignment classes (slot_of a) e
 one_assigned classes aims e = Err no_target
 
 abbrev pub value_assigned : List ClassEntry → Bool → List Aim → TypedExpr → Result TypedExpr Message
-value_assigned classes several aims e = if several then unpacking classes (map slot_of aims) e else one_assigned classes aims e
+value_assigned classes several aims e = if several then unless (several_fault classes aims (type_of e)) e else one_assigned classes aims e
 
 abbrev pub act_of : List TypedTarget → Result TypedExpr Message → Result TypedAct Message
 act_of ts (Ok e) = Ok (act.Assign ts e)
@@ -208,23 +232,24 @@ annotation_fault x bound a = if bound then Some (already_defined x) else None
 abbrev pub declared : List ℕ → Bool → Aim × Sort → Result TypedAct Message
 declared x bound p = unless (annotation_fault x bound p.0) act.Pass
 
+abbrev pub given_after : List ClassEntry → Option Message → Aim → TypedExpr → Result TypedAct Message
+given_after classes (Some m) a e = Err m
+given_after classes None a e = act_of (target_of a) (assignment classes (slot_of a) e)
+
 abbrev pub given : List ClassEntry → List ℕ → Bool → (Aim × Sort) × TypedExpr → Result TypedAct Message
-given classes x bound p = some_fault (annotation_fault x bound p.0.0)
-  where
-    some_fault : Option Message → Result TypedAct Message
-    some_fault (Some m) = Err m
-    some_fault None = act_of (target_of p.0.0) (assignment classes (slot_of p.0.0) p.1)
+given classes x bound p = given_after classes (annotation_fault x bound p.0.0) p.0.0 p.1
 
 -- ---- an operation with assignment
 
--- to what has the aim a, of the value b, from the operation's value
+-- to this target, of this operand, from the type of the operation's value
+abbrev pub written_back : BinOp → TypedExpr → Sort → Option Message → List TypedTarget → Result TypedAct Message
+written_back o b s (Some m) ts = Err m
+written_back o b s None (target ∷ ts) = Ok (act.Aug target o b s)
+written_back o b s None [] = Err no_target
+
 abbrev pub updated_to : List ClassEntry → Aim → BinOp → TypedExpr → Sort → Result TypedAct Message
-updated_to classes a o b s = if is_placed a then written (binding_fault classes (slot_of a) s) (target_of a) else Err no_target
-  where
-    written : Option Message → List TypedTarget → Result TypedAct Message
-    written (Some m) ts = Err m
-    written None (target ∷ ts) = Ok (act.Aug target o b s)
-    written None [] = Err no_target
+updated_to classes a o b s =
+    if is_placed a then written_back o b s (binding_fault classes (slot_of a) s) (target_of a) else Err no_target
 
 abbrev pub of_operation : List ClassEntry → Aim → BinOp → TypedExpr → Result TypedExpr Message → Result TypedAct Message
 of_operation classes a o b (Ok r) = updated_to classes a o b (type_of r)

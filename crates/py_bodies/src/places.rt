@@ -6,12 +6,15 @@ ghost use Rattle.py_syntax.specs.Statements.{stmt_tree};
 ghost use Rattle.py_typed.specs.Sorts.{sort};
 ghost use Rattle.py_typed.specs.Narrowing as narrowing;
 ghost use Rattle.py_scope.specs.Context.{context, var_sort, var_at};
+ghost use Rattle.py_flow.specs.Bindings.{bindings_of};
+ghost use Rattle.py_rules.specs.Facts.{local_of};
 ghost use Rattle.py_bodies.specs.Places as rule_of;
 ghost use Rattle.py_bodies.specs.Views.{known_at};
 
+use py_flow::{Binding, statement_bindings};
 use py_rules::{shared, with_facts};
 use py_scope::{Meaning, Scope, VarType, Variables, meaning_of};
-use py_syntax::Expr;
+use py_syntax::{Expr, Stmt};
 use py_typed::{Ty, copy_of};
 use std::alloc::Global;
 use value_core::{Many, Memory, Name};
@@ -27,7 +30,7 @@ pub struct Place {
 }
 
 /// What a test tells is known from here on.
-pub(crate) fn learn(
+pub fn learn(
     alloc: Global,
     scope: &Scope<'_>,
     place: &mut Place,
@@ -40,8 +43,42 @@ pub(crate) fn learn(
     Ok(())
 }
 
+/// A loop drops the names that it binds.
+pub fn enter(alloc: Global, scope: &Scope<'_>, place: &mut Place, s: &Stmt) -> Result<(), Memory>
+    ensures { IfOk result (λ done. known_at place.new ≡ rule_of.entering (context scope.now) (known_at place.old) (stmt_tree s.now)) }
+{
+    let bound = statement_bindings(alloc, s)?;
+    let gone = locals_among(alloc, scope, bound.as_slice())?;
+    place.names = without(alloc, gone.as_slice(), place.names.as_slice())?;
+    Ok(())
+}
+
+// The function's own variables among bindings.
+fn locals_among(
+    alloc: Global,
+    scope: &Scope<'_>,
+    bound: &[Binding<'_>],
+) -> Result<Vec<usize>, Memory>
+    ensures { IfOk result (λ v. v.items ≡ rule_of.locals_among (context scope.now) (bindings_of bound.now)) }
+{
+    let mut found = Vec::new(alloc);
+    for b in bound {
+        put_local(&mut found, meaning_of(scope, b.name))?;
+    }
+    Ok(found)
+}
+
+fn put_local(found: &mut Vec<usize>, meaning: Meaning) -> Result<(), Memory>
+    ensures { IfOk result (λ done. found.new.items ≡ found.old.items ++ local_of meaning) }
+{
+    if let Meaning::Local(i) = meaning {
+        found.push(i)?;
+    }
+    Ok(())
+}
+
 /// The names that are known at all ends, with one more end.
-pub(crate) fn meet(
+pub fn meet(
     alloc: Global,
     ends: Option<Vec<usize>>,
     closed: bool,
@@ -60,7 +97,7 @@ pub(crate) fn meet(
 }
 
 /// The names that are known behind all ends.
-pub(crate) fn all_known(alloc: Global, ends: Option<Vec<usize>>) -> Vec<usize>
+pub fn all_known(alloc: Global, ends: Option<Vec<usize>>) -> Vec<usize>
     ensures { result.items ≡ rule_of.common (option_map (λ v. v.items) ends) }
 {
     match ends {
@@ -70,7 +107,7 @@ pub(crate) fn all_known(alloc: Global, ends: Option<Vec<usize>>) -> Vec<usize>
 }
 
 /// A name of a target is bound to a value of this type, if it has one.
-pub(crate) fn bind_name(
+pub fn bind_name(
     alloc: Global,
     scope: &Scope<'_>,
     place: &mut Place,
@@ -126,6 +163,7 @@ fn fix(
     Ok(())
 }
 
+#[tactic(auto, using(crate::proofs::PlaceLemmas::var_found))]
 fn is_unset(types: &[VarType], i: usize) -> bool
     ensures { result ≡ rule_of.is_unset (var_at (map var_sort types.now) i) }
 {
@@ -159,12 +197,7 @@ fn put(types: &mut Many<VarType>, i: usize, t: VarType)
 }
 
 // The names that are known behind a binding.
-fn rebound(
-    alloc: Global,
-    i: usize,
-    t: Option<&Ty>,
-    names: &[usize],
-) -> Result<Vec<usize>, Memory>
+fn rebound(alloc: Global, i: usize, t: Option<&Ty>, names: &[usize]) -> Result<Vec<usize>, Memory>
     ensures { IfOk result (λ v. v.items ≡ rule_of.rebound i (option_map sort (option_copied t.entry)) names.now) }
 {
     let mut one = Vec::new(alloc);
@@ -177,11 +210,7 @@ fn rebound(
 }
 
 /// The names that are not among these.
-pub(crate) fn without(
-    alloc: Global,
-    gone: &[usize],
-    names: &[usize],
-) -> Result<Vec<usize>, Memory>
+pub fn without(alloc: Global, gone: &[usize], names: &[usize]) -> Result<Vec<usize>, Memory>
     ensures { IfOk result (λ v. v.items ≡ narrowing.without gone.now names.now) }
 {
     let found = names

@@ -1,5 +1,5 @@
 -- Small functions, typed by computing: what is said of each.
-use Rattle.std.proofs.Common.{◌≡◌, refl, ℕ, ℤ, pos, Bool, false, List, [], ◌∷◌, codes, Some, None, Option}
+use Rattle.std.proofs.Common.{◌≡◌, refl, ℕ, pos, false, List, [], ◌∷◌, codes, Some, None, Option}
 use Rattle.std.specs.Prelude.{unwrap_or}
 use Rattle.std.specs.Map.{lookup}
 use Rattle.std.specs.Str.{bytes_eq}
@@ -12,16 +12,16 @@ use Rattle.py_syntax.specs.Statements as node
 use Rattle.py_syntax.specs.Statements.{StmtTree, StmtNode, Suite, no_stmts, stmt_then, no_arms, arm_then}
 use Rattle.py_binder.specs.declared.scope.Diag.{Diag}
 use Rattle.py_typed.specs.Sorts as sort
-use Rattle.py_typed.specs.Sorts.{Sort, no_sorts, sort_then}
+use Rattle.py_typed.specs.Sorts.{no_sorts, sort_then}
 use Rattle.py_scope.specs.declared.scope.Meaning.{Meaning}
 use Rattle.py_scope.specs.declared.scope.Meaning.TheVariants as meaning
 use Rattle.py_scope.specs.declared.scope.Builtin.TheVariants as builtin
-use Rattle.py_scope.specs.Context.{Context, VarSort, unset, untyped, has}
-use Rattle.py_messages.specs.Seen.{diag, Message}
-use Rattle.py_messages.specs.Messages.{unsupported_operands, no_type_yet, no_target, cannot_assign, already_defined, needs_annotation, wrong_assignment, cannot_unpack, not_iterable, outside_loop, wrong_number, wrong_argument, wrong_return}
-use Rattle.py_binding.specs.Returns.{ReturnSort, gives, outside}
+use Rattle.py_scope.specs.Context.{Context, unset, has}
+use Rattle.py_messages.specs.Seen.{diag}
+use Rattle.py_messages.specs.Messages.{unsupported_operands, no_type_yet, cannot_assign, already_defined, needs_annotation, wrong_assignment, cannot_unpack, not_iterable, outside_loop, wrong_argument, wrong_return}
+use Rattle.py_binding.specs.Returns.{gives}
 use Rattle.py_bodies.specs.Places.{Known}
-use Rattle.py_bodies.specs.Bodies.{block, block_after}
+use Rattle.py_bodies.specs.Bodies.{block}
 
 abbrev p : ℕ → ℕ → Span
 p line col = record { line = line; col = col }
@@ -80,8 +80,10 @@ nothing line = e line tree.Nothing
 abbrev plus_one : ℕ → StmtTree
 plus_one line = s line (node.Return (Some (e line (tree.Bin bin.Add (name line (codes "x")) (number line 1)))))
 
-abbrev is_none is_some : ℕ → ExprTree
+abbrev is_none : ℕ → ExprTree
 is_none line = e line (tree.Compare (name line (codes "x")) (comparison_then op.Is (nothing line) no_comparisons))
+
+abbrev is_some : ℕ → ExprTree
 is_some line = e line (tree.Compare (name line (codes "x")) (comparison_then op.IsNot (nothing line) no_comparisons))
 
 abbrev assign : ℕ → List ℕ → ExprTree → StmtTree
