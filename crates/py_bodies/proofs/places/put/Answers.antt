@@ -1,4 +1,4 @@
-use Rattle.std.proofs.Common.{rules, ◌≡◌}
+use Rattle.std.proofs.Common.{rules}
 use Rattle.std.proofs.lemmas.List.{map-set}
 use Rattle.py_scope.specs.Context.{var_sort}
 use Rattle.py_bodies.proofs.places.put.Goals as goal
