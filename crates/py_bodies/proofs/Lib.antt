@@ -1,0 +1,2 @@
+mod Samples
+pub mod PlaceLemmas

@@ -1,0 +1,5 @@
+pub mod Places
+pub mod Targets
+pub mod Loops
+pub mod Bodies
+pub mod Views

@@ -1,0 +1,128 @@
+//! Simple statements, and rows of statements.
+ghost use Rattle.std.specs.Prelude.{◌≡◌, map, IfOk, Some, None};
+ghost use Rattle.std.specs.Option.{option_map};
+ghost use Rattle.py_syntax.specs.Expressions.{expr_tree};
+ghost use Rattle.py_syntax.specs.Statements.{maybe_expr};
+ghost use Rattle.py_typed.specs.Statements.{typed_stmt, on_line};
+ghost use Rattle.py_typed.specs.Statements as acts;
+ghost use Rattle.py_scope.specs.Context.{context, dropped};
+ghost use Rattle.py_messages.specs.Seen.{Tells, made};
+ghost use Rattle.py_messages.specs.Rows.{kept};
+ghost use Rattle.py_rules.specs.Boxes.{boxed};
+ghost use Rattle.py_binding.specs.Returns.{return_sort};
+ghost use Rattle.py_bodies.specs.Targets as targets;
+ghost use Rattle.py_bodies.specs.Bodies as rules_of;
+ghost use Rattle.py_bodies.specs.Views.{known_at, boxed_act, boxed_stmt};
+
+use crate::bodies::return_wanted;
+use crate::places::Place;
+use crate::targets::typed_at;
+use py_binder::Diag;
+use py_binding::{Returns, returned, returned_nothing};
+use py_scope::{Scope, Want};
+use py_syntax::{Expr, Span};
+use py_typed::{TExpr, TStmt, TStmtKind};
+use std::alloc::Global;
+use value_core::{Many, Memory};
+
+/// An expression that stands alone (Python Language Reference, "Expression statements").
+pub fn alone(
+    alloc: Global,
+    scope: &Scope<'_>,
+    place: &Place,
+    e: &Expr,
+    faults: &mut Many<Diag>,
+) -> Result<Option<Box<TStmtKind>>, Memory>
+    ensures { IfOk result (λ t. Tells boxed_act t faults.old faults.new (made acts.Do (targets.typed_at (context scope.now) (known_at place.now) dropped (expr_tree e.now)))) }
+{
+    let e = typed_at(alloc, scope, place, Want::Dropped, e, faults)?;
+    of_value(alloc, e)
+}
+
+fn of_value(alloc: Global, e: Option<Box<TExpr>>) -> Result<Option<Box<TStmtKind>>, Memory>
+    ensures { IfOk result (λ t. option_map boxed_act t ≡ option_map acts.Do (option_map boxed e)) }
+{
+    let Some(e) = e else {
+        return Ok(None);
+    };
+    let kind = Box::new(alloc, TStmtKind::Expr(Box::into_inner(e)))?;
+    Ok(Some(kind))
+}
+
+/// A `return`, with or without a value (Python Language Reference, "The return statement").
+pub fn returns(
+    alloc: Global,
+    scope: &Scope<'_>,
+    place: &Place,
+    span: Span,
+    ret: Returns<'_>,
+    e: &Option<Expr>,
+    faults: &mut Many<Diag>,
+) -> Result<Option<Box<TStmtKind>>, Memory>
+    ensures { IfOk result (λ t. Tells boxed_act t faults.old faults.new (rules_of.returns (context scope.now) (return_sort ret.entry) (known_at place.now) span (maybe_expr e.now))) }
+{
+    match e {
+        None => {
+            let right = returned_nothing(alloc, span, ret, faults)?;
+            nothing_given(alloc, right)
+        }
+        Some(e) => {
+            let e = typed_at(alloc, scope, place, return_wanted(ret), e, faults)?;
+            let e = returned(alloc, scope.classes, span, ret, e, faults)?;
+            given(alloc, e)
+        }
+    }
+}
+
+fn nothing_given(alloc: Global, right: Option<()>) -> Result<Option<Box<TStmtKind>>, Memory>
+    ensures { IfOk result (λ t. option_map boxed_act t ≡ option_map (λ u. acts.Return None) right) }
+{
+    let Some(_) = right else {
+        return Ok(None);
+    };
+    let kind = Box::new(alloc, TStmtKind::Return(None))?;
+    Ok(Some(kind))
+}
+
+fn given(alloc: Global, e: Option<Box<TExpr>>) -> Result<Option<Box<TStmtKind>>, Memory>
+    ensures { IfOk result (λ t. option_map boxed_act t ≡ option_map (λ v. acts.Return (Some v)) (option_map boxed e)) }
+{
+    let Some(e) = e else {
+        return Ok(None);
+    };
+    let kind = Box::new(alloc, TStmtKind::Return(Some(Box::into_inner(e))))?;
+    Ok(Some(kind))
+}
+
+/// A statement on its line.
+pub fn placed(
+    alloc: Global,
+    line: usize,
+    kind: Option<Box<TStmtKind>>,
+) -> Result<Option<Box<TStmt>>, Memory>
+    ensures { IfOk result (λ s. option_map boxed_stmt s ≡ option_map (λ a. on_line a line) (option_map boxed_act kind)) }
+{
+    let Some(kind) = kind else {
+        return Ok(None);
+    };
+    let kind = Box::into_inner(kind);
+    let s = Box::new(alloc, TStmt { kind, line })?;
+    Ok(Some(s))
+}
+
+/// One more statement of a row.
+pub fn with_statement(
+    found: Option<Many<TStmt>>,
+    s: Option<Box<TStmt>>,
+) -> Result<Option<Many<TStmt>>, Memory>
+    ensures { IfOk result (λ r. option_map (map typed_stmt) r ≡ kept (option_map (map typed_stmt) found) (option_map boxed_stmt s)) }
+{
+    let Some(mut found) = found else {
+        return Ok(None);
+    };
+    let Some(s) = s else {
+        return Ok(None);
+    };
+    found.push(Box::into_inner(s))?;
+    Ok(Some(found))
+}
