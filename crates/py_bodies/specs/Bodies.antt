@@ -1,8 +1,8 @@
 -- The typing of statements, and what is known behind each (Python Language Reference, "Simple statements" and "Compound
 -- statements"; PEP 484).
 --
--- A statement is typed where its parts are and its own rule holds; the statements of a body are no parts of what holds it. Code
--- that no run comes to is typed like all other. A `global` statement says nothing here: its names are the binder's. Imports,
+-- A statement has a typed form where all its parts have one and its own rule holds; what is wrong in a body silences nothing around
+-- it. Code that no run comes to has the same rules. A `global` statement says nothing here: its names are the binder's. Imports,
 -- definitions of functions and classes have no typed form, and what is wrong with them is not said here.
 use Rattle.std.specs.Prelude.{ℕ, Bool, true, false, List, [], codes, length, Option, Some, None, is_some, if◌then◌else◌}
 use Rattle.std.specs.Option.{option_map}

@@ -1,7 +1,7 @@
 -- What is assigned to (Python Language Reference, "Assignment statements"; PEP 484).
 --
--- A target is a name, an item, or a flat tuple of these. An item is an expression, and is typed by its own rule first. The names
--- of a target are no reads. Where a target is a variable without a type nothing is said of what holds it.
+-- A target is a name, an item, or a flat tuple of these. The rule of an item, which is an expression, is asked before that of the
+-- assignment. No name of a target is read by it. Where a target is a variable without a type nothing is said of what holds it.
 use Rattle.std.specs.Prelude.{ℕ, Bool, true, false, not, ◌&&◌, if◌then◌else◌, List, [], ◌∷◌, ◌++◌, map, length, Option, Some, None, unwrap_or, Result, Ok, Err}
 use Rattle.std.specs.List.{list_all, flat_map}
 use Rattle.std.specs.Option.{option_map}
