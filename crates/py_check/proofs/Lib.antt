@@ -1,3 +1,4 @@
+mod Samples
 pub mod HeldLemmas
 pub mod WalkLemmas
 pub mod DefinitionLemmas

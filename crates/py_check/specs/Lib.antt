@@ -3,3 +3,4 @@ pub mod Globals
 pub mod Starts
 pub mod Variables
 pub mod Views
+pub mod Module

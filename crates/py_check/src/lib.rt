@@ -2,7 +2,8 @@
 //! imports and `global` statements by themselves, and the types of variables where a module or a function begins.
 //!
 //! `specs/Definitions.antt`, `specs/Globals.antt`, `specs/Starts.antt` and `specs/Variables.antt` have these as definitions over
-//! the tree. Nothing puts them together yet.
+//! the tree, and `specs/Module.antt` the typing of a module, which puts them together with that of statements. No code computes
+//! that yet.
 #![tactic(auto)]
 
 mod definitions;

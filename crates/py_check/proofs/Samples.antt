@@ -1,0 +1,30 @@
+-- Small modules and all that is wrong with them.
+use Rattle.std.proofs.Common.{◌≡◌, refl, ℕ, List, [], ◌∷◌, codes, pos}
+use Rattle.py_syntax.specs.declared.token.Span.{Span}
+use Rattle.py_syntax.specs.Expressions as e
+use Rattle.py_syntax.specs.Expressions.{ExprTree}
+use Rattle.py_syntax.specs.Statements as s
+use Rattle.py_syntax.specs.Statements.{StmtTree, suite_of}
+use Rattle.py_messages.specs.Seen.{diag}
+use Rattle.py_messages.specs.Messages.{not_defined}
+use Rattle.py_check.specs.Module.{diagnostics}
+
+abbrev on : ℕ → Span
+on n = record { line = n; col = 1 }
+
+abbrev name : ℕ → List ℕ → ExprTree
+name n x = e.at (e.Name x) (on n)
+
+abbrev printing : ℕ → ExprTree → StmtTree
+printing n a = s.at (s.Do (e.at (e.Call (name n (codes "print")) (e.argument_then a e.no_arguments)) (on n))) (on n)
+
+nothing_there : diagnostics s.no_stmts ≡ []
+nothing_there = refl
+
+-- x = 1 and print(x)
+right : diagnostics (suite_of (s.at (s.Assign (name 1 (codes "x")) (e.at (e.Int (pos 1)) (on 1))) (on 1) ∷ printing 2 (name 2 (codes "x")) ∷ [])) ≡ []
+right = refl
+
+-- print(y)
+unknown_name : diagnostics (suite_of (printing 1 (name 1 (codes "y")) ∷ [])) ≡ diag (on 1) (not_defined (codes "y")) ∷ []
+unknown_name = refl

@@ -1,0 +1,160 @@
+-- THE TYPING OF A MODULE: its diagnostics, and its typed tree (Python Language Reference, "Top-level components"; PEP 484).
+--
+-- First come all signatures, so that functions are called from anywhere; then the module's own statements, which fix the types of
+-- its variables; and then the bodies of functions by their numbers, which know these. Functions and variables are known by their
+-- numbers.
+--
+-- The typed tree has every function and variable at its number. Where something is wrong there is no answer with a tree, and what
+-- has no type stands in it as what says nothing: a body without statements, a signature without parameters, a variable that is None.
+use Rattle.std.specs.Prelude.{ℕ, false, List, [], ◌∷◌, ◌++◌, map, length, Option, Some, None, unwrap_or}
+use Rattle.py_syntax.specs.Statements.{Suite}
+use Rattle.py_binder.specs.declared.scope.Diag.{Diag}
+use Rattle.py_binder.specs.declared.scope.Scope.{Scope}
+use Rattle.py_binder.specs.Scope.{param_names, module_scope}
+use Rattle.py_order.specs.Order.{by_place}
+use Rattle.py_typed.specs.Sorts as sort
+use Rattle.py_typed.specs.Sorts.{Sort}
+use Rattle.py_typed.specs.Classes.{ClassEntry, Signature}
+use Rattle.py_typed.specs.Statements.{TypedStmt, TypedFunc, TypedModule, TypedSuite, suite_of}
+use Rattle.py_scope.specs.declared.scope.Meaning.{Meaning}
+use Rattle.py_scope.specs.Context.{Context, VarSort}
+use Rattle.py_flow.specs.Bindings.{suite_bindings}
+use Rattle.py_messages.specs.Seen.{Seen}
+use Rattle.py_headers.specs.Headers.{signature_of}
+use Rattle.py_names.specs.Meanings.{variables, own_names, number, meaning_in, said_in}
+use Rattle.py_binding.specs.Returns as ret
+use Rattle.py_binding.specs.Returns.{ReturnSort}
+use Rattle.py_bodies.specs.Places.{Known}
+use Rattle.py_bodies.specs.Bodies.{block, block_after}
+use Rattle.py_check.specs.Definitions.{Headed, headed_functions, signatures, headers_said}
+use Rattle.py_check.specs.Globals.{globals_said}
+use Rattle.py_check.specs.Starts.{start_sort, own_sort}
+use Rattle.py_check.specs.Variables.{typed_variables, numbers_from}
+
+-- ---- what stands in the typed tree
+
+abbrev pub statements_of : Option (List TypedStmt) → TypedSuite
+statements_of typed = suite_of (unwrap_or typed [])
+
+abbrev pub plain_signature : Option Signature → Signature
+plain_signature s = unwrap_or s (record { params = []; ret = sort.Nothing })
+
+-- ---- contexts
+
+-- what all scopes of a module share: what its definitions say of names, its variables, the signatures of its functions, and its
+-- classes
+pub record Environment : Type 0 where
+  pub said : List ℕ → Option Meaning
+  pub variables : List (List ℕ)
+  pub signatures : List (Option Signature)
+  pub classes : List ClassEntry
+
+abbrev pub context_in : Environment → Scope → Context
+context_in e inside = record { meaning = meaning_in e.said e.variables inside; signatures = e.signatures; classes = e.classes }
+
+-- ---- the module's own statements
+
+module _ (c : Context) (names : List (List ℕ)) (m : Suite) where
+  abbrev pub module_start : Known
+  module_start = record {
+    types = record { locals = []; globals = map (start_sort c.meaning (suite_bindings m)) names };
+    locals_bound = [];
+    globals_bound = [];
+    names = [];
+  }
+
+  abbrev pub own_statements : Seen (List TypedStmt)
+  own_statements = block c ret.outside false module_start m
+
+  -- the types of the module's variables behind them
+  abbrev pub fixed_sorts : List VarSort
+  fixed_sorts = (block_after c module_start m).types.globals
+
+-- ---- a function's body
+
+abbrev pub return_of : Option Sort → ReturnSort
+return_of None = ret.untyped
+return_of (Some t) = ret.gives t
+
+-- where the module's variables have these names and types
+module _ (c : Context) (names : List (List ℕ)) (sorts : List VarSort) (f : Headed) where
+  -- the parameters are bound, and so are the variables of the module
+  abbrev pub function_start : Known
+  function_start = record {
+    types = record {
+      locals = map (own_sort c.meaning (suite_bindings f.tree.body) (param_names f.tree) f.header.params) (own_names f.inside);
+      globals = sorts;
+    };
+    locals_bound = map (number (own_names f.inside)) (param_names f.tree);
+    globals_bound = numbers_from 0 names;
+    names = [];
+  }
+
+  abbrev pub body : Seen (List TypedStmt)
+  body = block c (return_of f.header.ret) false function_start f.tree.body
+
+  abbrev pub body_after : Known
+  body_after = block_after c function_start f.tree.body
+
+  abbrev pub typed_function : TypedFunc
+  typed_function = record {
+    name = f.tree.name;
+    class = None;
+    params = length f.tree.params;
+    locals = typed_variables body_after.types.locals (own_names f.inside);
+    ret = unwrap_or f.header.ret sort.Nothing;
+    body = statements_of body.got;
+  }
+
+-- ---- all bodies, by the numbers of functions
+
+module _ (e : Environment) where
+  abbrev pub sorts_behind : List VarSort → Headed → List VarSort
+  sorts_behind sorts f = (body_after (context_in e f.inside) e.variables sorts f).types.globals
+
+  abbrev pub bodies_said : List VarSort → List Headed → List Diag
+  bodies_said sorts [] = []
+  bodies_said sorts (f ∷ more) = (body (context_in e f.inside) e.variables sorts f).said ++ bodies_said (sorts_behind sorts f) more
+
+  abbrev pub typed_functions : List VarSort → List Headed → List TypedFunc
+  typed_functions sorts [] = []
+  typed_functions sorts (f ∷ more) = typed_function (context_in e f.inside) e.variables sorts f ∷ typed_functions (sorts_behind sorts f) more
+
+  abbrev pub sorts_behind_all : List VarSort → List Headed → List VarSort
+  sorts_behind_all sorts [] = sorts
+  sorts_behind_all sorts (f ∷ more) = sorts_behind_all (sorts_behind sorts f) more
+
+-- ---- the whole
+
+-- of these functions and statements, where these names are seen in the module
+module _ (e : Environment) (top : Scope) (fs : List Headed) (m : Suite) where
+  -- the types of the module's variables behind its own statements
+  abbrev pub global_sorts : List VarSort
+  global_sorts = fixed_sorts (context_in e top) e.variables m
+
+  abbrev pub statements_said : List Diag
+  statements_said = (own_statements (context_in e top) e.variables m).said ++ bodies_said e global_sorts fs
+
+  abbrev pub typed_parts : TypedModule
+  typed_parts = record {
+    classes = record { classes = []; signatures = map (λ f. plain_signature (signature_of f.header)) fs };
+    globals = typed_variables (sorts_behind_all e global_sorts fs) e.variables;
+    funcs = typed_functions e global_sorts fs;
+    top = statements_of (own_statements (context_in e top) e.variables m).got;
+  }
+
+module _ (m : Suite) where
+  abbrev pub environment : Environment
+  environment = record { said = said_in m; variables = variables (module_scope m); signatures = signatures m; classes = [] }
+
+  -- all that is said, in the order of the walk
+  abbrev pub said : List Diag
+  said = headers_said m ++ statements_said environment (module_scope m) (headed_functions m) m ++ globals_said m
+
+  -- THE DIAGNOSTICS of a module, by their places
+  abbrev pub diagnostics : List Diag
+  diagnostics = by_place said
+
+  -- THE TYPED MODULE
+  abbrev pub typed : TypedModule
+  typed = typed_parts environment (module_scope m) (headed_functions m) m
