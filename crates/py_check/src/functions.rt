@@ -50,10 +50,7 @@ pub fn functions_of<'a>(
 }
 
 /// The signatures of functions, by their numbers: some have none.
-pub fn signatures_of(
-    alloc: Global,
-    functions: &[Function<'_>],
-) -> Result<Vec<Option<Sig>>, Memory>
+pub fn signatures_of(alloc: Global, functions: &[Function<'_>]) -> Result<Vec<Option<Sig>>, Memory>
     ensures { IfOk result (λ all. map (option_map signature) all.items ≡ map (λ f. headers.signature_of f.header) (map headed_of functions.now)) }
 {
     let mut signatures = Vec::new(alloc);
