@@ -20,7 +20,7 @@ use Rattle.py_scope.specs.Context.{Context, unset, has}
 use Rattle.py_messages.specs.Seen.{diag}
 use Rattle.py_messages.specs.Messages.{unsupported_operands, no_type_yet, cannot_assign, already_defined, needs_annotation, wrong_assignment, cannot_unpack, not_iterable, outside_loop, wrong_argument, wrong_return}
 use Rattle.py_binding.specs.Returns.{gives}
-use Rattle.py_bodies.specs.Places.{Known}
+use Rattle.py_targets.specs.Places.{Known}
 use Rattle.py_bodies.specs.Bodies.{block}
 
 abbrev p : ℕ → ℕ → Span

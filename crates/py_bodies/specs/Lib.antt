@@ -1,5 +1,2 @@
-pub mod Places
-pub mod Targets
-pub mod Loops
 pub mod Bodies
 pub mod Views

@@ -7,15 +7,14 @@ ghost use Rattle.py_messages.specs.Seen.{Tells};
 ghost use Rattle.py_rules.specs.Boxes.{boxed};
 ghost use Rattle.py_binding.specs.Returns.{return_sort};
 ghost use Rattle.py_bodies.specs.Bodies as rules_of;
-ghost use Rattle.py_bodies.specs.Views.{known_at};
+ghost use Rattle.py_targets.specs.Views.{known_at};
 
-use crate::places::Place;
-use crate::targets::typed_at;
 use py_binder::Diag;
 use py_binding::Returns;
 use py_rules::truth;
 use py_scope::{Scope, Want};
 use py_syntax::{Expr, Stmt, StmtKind};
+use py_targets::{Place, typed_at};
 use py_typed::TExpr;
 use std::alloc::Global;
 use value_core::{Many, Memory};

@@ -4,3 +4,4 @@ pub mod Starts
 pub mod Variables
 pub mod Views
 pub mod Module
+pub mod Outcome

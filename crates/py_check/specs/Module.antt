@@ -24,7 +24,7 @@ use Rattle.py_headers.specs.Headers.{signature_of}
 use Rattle.py_names.specs.Meanings.{variables, own_names, number, meaning_in, said_in}
 use Rattle.py_binding.specs.Returns as ret
 use Rattle.py_binding.specs.Returns.{ReturnSort}
-use Rattle.py_bodies.specs.Places.{Known}
+use Rattle.py_targets.specs.Places.{Known}
 use Rattle.py_bodies.specs.Bodies.{block, block_after}
 use Rattle.py_check.specs.Definitions.{Headed, headed_functions, signatures, headers_said}
 use Rattle.py_check.specs.Globals.{globals_said}

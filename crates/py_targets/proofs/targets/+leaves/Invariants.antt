@@ -1,8 +1,8 @@
 use Rattle.std.proofs.Common.{◌≡◌, ◌++◌, map, drop}
 use Rattle.py_syntax.specs.Expressions.{expr_tree, exprs_of}
-use Rattle.py_bodies.specs.Targets.{row_leaves}
-use Rattle.py_bodies.specs.Views.{trees}
-use Rattle.py_bodies.proofs.targets.+leaves.Given as goal
+use Rattle.py_targets.specs.Targets.{row_leaves}
+use Rattle.py_targets.specs.Views.{trees}
+use Rattle.py_targets.proofs.targets.+leaves.Given as goal
 
 abbrev pub invariant-put_row-loop-item : goal.invariant-put_row-loop-item
 invariant-put_row-loop-item l =

@@ -1,8 +1,8 @@
 use Rattle.std.proofs.Common.{◌≡◌, ◌++◌, drop}
 use Rattle.py_scope.specs.Context.{context}
 use Rattle.py_flow.specs.Bindings.{bindings_of}
-use Rattle.py_bodies.specs.Places.{locals_among}
-use Rattle.py_bodies.proofs.places.locals_among.Given as goal
+use Rattle.py_targets.specs.Places.{locals_among}
+use Rattle.py_targets.proofs.places.locals_among.Given as goal
 
 abbrev pub invariant-loop-b : goal.invariant-loop-b
 invariant-loop-b l =

@@ -31,7 +31,7 @@ use Rattle.py_rules.specs.Operators.{arithmetic}
 use Rattle.py_typing.specs.Typing.{typing}
 use Rattle.py_binding.specs.Slots.{SlotSort, known, fresh, refused, itemless}
 use Rattle.py_binding.specs.Assignments.{first_of, assignment, binding_fault, unpacking_fault, items_for}
-use Rattle.py_bodies.specs.Places.{Known}
+use Rattle.py_targets.specs.Places.{Known}
 
 -- ---- single targets
 

@@ -27,8 +27,8 @@ use Rattle.py_calls.specs.Callees.{has_key}
 use Rattle.py_calls.specs.Calls.{positional}
 use Rattle.py_typing.specs.Typing.{arguments}
 use Rattle.py_binding.specs.Assignments.{binding_fault}
-use Rattle.py_bodies.specs.Places.{Known}
-use Rattle.py_bodies.specs.Targets.{Aim, slot_of, is_name_aim, several_fault, typed_at}
+use Rattle.py_targets.specs.Places.{Known}
+use Rattle.py_targets.specs.Targets.{Aim, slot_of, is_name_aim, several_fault, typed_at}
 
 -- the bounds of a range, or a value
 pub data Course : Type 0 where

@@ -2,9 +2,9 @@ use Rattle.std.proofs.Common.{map, drop}
 use Rattle.std.specs.Option.{option_map}
 use Rattle.py_scope.specs.Context.{context}
 use Rattle.py_messages.proofs.RowLemmas.{Remains}
-use Rattle.py_bodies.specs.Targets.{aims}
-use Rattle.py_bodies.specs.Views.{known_at, aim_seen, trees}
-use Rattle.py_bodies.proofs.targets.aims.Given as goal
+use Rattle.py_targets.specs.Targets.{aims}
+use Rattle.py_targets.specs.Views.{known_at, aim_seen, trees}
+use Rattle.py_targets.proofs.targets.aims.Given as goal
 
 abbrev pub invariant-loop-e : goal.invariant-loop-e
 invariant-loop-e l =

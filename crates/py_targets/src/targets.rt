@@ -10,8 +10,8 @@ ghost use Rattle.py_messages.specs.Seen.{Tells};
 ghost use Rattle.py_messages.specs.Rows.{kept};
 ghost use Rattle.py_rules.specs.Boxes.{boxed};
 ghost use Rattle.py_binding.specs.Slots.{slot_sort};
-ghost use Rattle.py_bodies.specs.Targets as rule_of;
-ghost use Rattle.py_bodies.specs.Views.{known_at, aim_seen, boxed_aim, trees};
+ghost use Rattle.py_targets.specs.Targets as rule_of;
+ghost use Rattle.py_targets.specs.Views.{known_at, aim_seen, boxed_aim, trees};
 
 use crate::places::Place;
 use py_binder::Diag;

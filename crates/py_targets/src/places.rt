@@ -8,8 +8,8 @@ ghost use Rattle.py_typed.specs.Narrowing as narrowing;
 ghost use Rattle.py_scope.specs.Context.{context, var_sort, var_at};
 ghost use Rattle.py_flow.specs.Bindings.{bindings_of};
 ghost use Rattle.py_rules.specs.Facts.{local_of};
-ghost use Rattle.py_bodies.specs.Places as rule_of;
-ghost use Rattle.py_bodies.specs.Views.{known_at};
+ghost use Rattle.py_targets.specs.Places as rule_of;
+ghost use Rattle.py_targets.specs.Views.{known_at};
 
 use py_flow::{Binding, statement_bindings};
 use py_rules::{shared, with_facts};
