@@ -25,7 +25,7 @@ pub enum Course {
 }
 
 /// What a `for` over this expression goes over (Python Language Reference, "The for statement").
-pub fn course(
+pub fn course_of(
     alloc: Global,
     scope: &Scope<'_>,
     place: &Place,

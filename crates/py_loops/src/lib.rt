@@ -6,5 +6,5 @@
 mod course;
 mod head;
 
-pub use course::{Course, course};
+pub use course::{Course, course_of};
 pub use head::{Begun, Head, begin_for, looped};
