@@ -6,8 +6,8 @@ use Rattle.py_binder.specs.Scope.{module_scope, module_role, function_scope, fun
 use Rattle.py_binder.specs.Faults.{faults}
 use Rattle.py_typed.specs.declared.checked.Checked.{Checked}
 use Rattle.py_typed.specs.Statements.{typed_module}
-use Rattle.py_check.specs.declared.check.CheckError.{CheckError}
-use Rattle.py_check.specs.declared.check.CheckError.TheVariants.{Diags, Memory}
+use Rattle.py_check.specs.declared.checking.CheckError.{CheckError}
+use Rattle.py_check.specs.declared.checking.CheckError.TheVariants.{Diags, Memory}
 use Rattle.py_check.specs.Module.{diagnostics, typed}
 
 -- these are the scopes of a module, and its faults of names

@@ -6,14 +6,14 @@
 //! that yet.
 #![tactic(auto)]
 
-mod check;
+mod checking;
 mod definitions;
 mod functions;
 mod globals;
 mod starts;
 mod variables;
 
-pub use check::{CheckError, check};
+pub use checking::{CheckError, check};
 pub use definitions::{add_definition_faults, add_inner_faults};
 pub use functions::{Function, functions_of, signatures_of};
 pub use globals::add_global_faults;
