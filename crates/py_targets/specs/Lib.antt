@@ -1,4 +1,5 @@
 pub mod Places
 pub mod Targets
+pub mod NewNames
 pub mod Assignments
 pub mod Views

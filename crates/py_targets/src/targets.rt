@@ -255,7 +255,8 @@ fn aim_of<'a>(written: bool, e: Option<Box<TExpr>>) -> Option<Aim<'a>>
     Some(value_aim(written, e))
 }
 
-fn in_box<'a>(alloc: Global, a: Option<Aim<'a>>) -> Result<Option<Box<Aim<'a>>>, Memory>
+/// One that is kept on the heap.
+pub(crate) fn in_box<'a>(alloc: Global, a: Option<Aim<'a>>) -> Result<Option<Box<Aim<'a>>>, Memory>
     ensures { IfOk result (λ r. option_map boxed_aim r ≡ option_map aim_seen a.entry) }
 {
     let Some(a) = a else {
