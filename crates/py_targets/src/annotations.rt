@@ -101,7 +101,15 @@ fn declares(
     let meaning = meaning_of(scope, x);
     let aim = named_aim(alloc, place, x, meaning)?;
     let t = annotation(alloc, scope, mark, faults)?;
-    declared(alloc, span, x, is_bound(place, meaning), aim, t, faults)
+    declared(
+        alloc,
+        span,
+        x,
+        is_bound(place, meaning),
+        aim,
+        t.as_ref(),
+        faults,
+    )
 }
 
 fn gives_value(
@@ -123,7 +131,17 @@ fn gives_value(
     let e = typed_at(alloc, scope, place, asked_by(place, meaning), e, faults)?;
     let value = value_type(alloc, &e)?;
     let bound = is_bound(place, meaning);
-    let kind = given(alloc, scope.classes, span, x, bound, aim, t, e, faults)?;
+    let kind = given(
+        alloc,
+        scope.classes,
+        span,
+        x,
+        bound,
+        aim,
+        t.as_ref(),
+        e,
+        faults,
+    )?;
     Ok(Assignment { kind, value })
 }
 
@@ -180,10 +198,10 @@ fn declared(
     x: &Name,
     bound: bool,
     aim: Option<Box<Aim<'_>>>,
-    t: Option<Ty>,
+    t: Option<&Ty>,
     faults: &mut Many<Diag>,
 ) -> Result<Option<Box<TStmtKind>>, Memory>
-    ensures { IfOk result (λ r. Tells boxed_act r faults.old faults.new (ruled span (rule_of.declared x.now bound) (option_zip (option_map boxed_aim aim.entry) (option_map sort t)))) }
+    ensures { IfOk result (λ r. Tells boxed_act r faults.old faults.new (ruled span (rule_of.declared x.now bound) (option_zip (option_map boxed_aim aim.entry) (option_map sort (option_copied t.entry))))) }
 {
     let Some(aim) = aim else {
         return Ok(None);
@@ -206,11 +224,11 @@ fn given(
     x: &Name,
     bound: bool,
     aim: Option<Box<Aim<'_>>>,
-    t: Option<Ty>,
+    t: Option<&Ty>,
     e: Option<Box<TExpr>>,
     faults: &mut Many<Diag>,
 ) -> Result<Option<Box<TStmtKind>>, Memory>
-    ensures { IfOk result (λ r. Tells boxed_act r faults.old faults.new (ruled span (rule_of.given (map class_entry classes.now.list) x.now bound) (option_zip (option_zip (option_map boxed_aim aim.entry) (option_map sort t)) (option_map boxed e)))) }
+    ensures { IfOk result (λ r. Tells boxed_act r faults.old faults.new (ruled span (rule_of.given (map class_entry classes.now.list) x.now bound) (option_zip (option_zip (option_map boxed_aim aim.entry) (option_map sort (option_copied t.entry))) (option_map boxed e)))) }
 {
     let Some(aim) = aim else {
         return Ok(None);

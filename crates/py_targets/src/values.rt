@@ -70,7 +70,6 @@ fn type_for(alloc: Global, several: bool, aims: &[Aim<'_>]) -> Result<Option<Ty>
 }
 
 // The type of the one target.
-#[tactic(auto, using(crate::proofs::ValueLemmas::no_single))]
 fn single_type(alloc: Global, aims: &[Aim<'_>]) -> Result<Option<Ty>, Memory>
     ensures { IfOk result (λ t. option_map sort t ≡ rule_of.single_sort (map aim_seen aims.now)) }
 {

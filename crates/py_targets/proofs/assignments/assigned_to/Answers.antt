@@ -1,13 +1,12 @@
-use Rattle.std.proofs.Common.{rules, ◌≡◌, true, map, Option, Some, IfOk, ap}
+use Rattle.std.proofs.Common.{rules, ◌≡◌, true, map, ap}
 use Rattle.std.specs.Option.{option_map}
 use Rattle.py_syntax.specs.Expressions.{expr_tree}
 use Rattle.py_typed.specs.Classes.{class_entry}
-use Rattle.py_typed.specs.Statements as acts
 use Rattle.py_typed.specs.Statements.{typed_target}
 use Rattle.py_messages.specs.Seen.{Tells, judged}
 use Rattle.py_rules.specs.Boxes.{boxed}
 use Rattle.py_targets.specs.Targets as rule_of
-use Rattle.py_targets.specs.Views.{aim_seen, boxed_act}
+use Rattle.py_targets.specs.Views.{aim_seen}
 use Rattle.py_targets.proofs.AssignmentLemmas.{assigned_says}
 use Rattle.py_targets.proofs.assignments.assigned_to.Goals as goal
 
