@@ -6,14 +6,18 @@
 //! that yet.
 #![tactic(auto)]
 
-mod check;
+mod bodies;
+mod checking;
 mod definitions;
+mod environments;
 mod functions;
 mod globals;
+mod modules;
+mod outlines;
 mod starts;
 mod variables;
 
-pub use check::{CheckError, check};
+pub use checking::{CheckError, check};
 pub use definitions::{add_definition_faults, add_inner_faults};
 pub use functions::{Function, functions_of, signatures_of};
 pub use globals::add_global_faults;
