@@ -59,15 +59,15 @@ environment_at k fs signatures classes signed none =
 
 -- ---- lists that are told one behind the other
 
-pub three_told : (d0 d1 d2 d3 a b c a2 b2 c2 : List Diag) → d1 ≡ d0 ++ a → d2 ≡ d1 ++ b → d3 ≡ d2 ++ c → a ≡ a2 → b ≡ b2 → c ≡ c2 → d3 ≡ d0 ++ (a2 ++ (b2 ++ c2))
-three_told d0 d1 d2 d3 a b c a2 b2 c2 first second third x y z =
+three_told : (d0 d1 d2 d3 a b c e a2 b2 g2 : List Diag) → d1 ≡ d0 ++ a → d2 ≡ d1 ++ b → d3 ≡ (d2 ++ c) ++ e → a ≡ a2 → b ≡ b2 → c ++ e ≡ g2 → d3 ≡ d0 ++ ((a2 ++ b2) ++ g2)
+three_told d0 d1 d2 d3 a b c e a2 b2 g2 first second third x y z =
     third
-    ∙ ap (λ l. l ++ c) (second ∙ ap (λ l. l ++ b) first)
-    ∙ append_assoc (d0 ++ a) b c
-    ∙ append_assoc d0 a (b ++ c)
-    ∙ ap (λ l. d0 ++ (l ++ (b ++ c))) x
-    ∙ ap (λ l. d0 ++ (a2 ++ (l ++ c))) y
-    ∙ ap (λ l. d0 ++ (a2 ++ (b2 ++ l))) z
+    ∙ append_assoc d2 c e
+    ∙ ap (λ l. d2 ++ l) z
+    ∙ ap (λ l. l ++ g2) (second ∙ ap (λ l. l ++ b) first ∙ append_assoc d0 a b)
+    ∙ append_assoc d0 (a ++ b) g2
+    ∙ ap (λ l. d0 ++ ((l ++ b) ++ g2)) x
+    ∙ ap (λ l. d0 ++ ((a2 ++ l) ++ g2)) y
 
 -- ---- what is known of a module's names
 
@@ -97,7 +97,7 @@ module _ (m : Suite) (s : Scopes) (bound : IsBound m s) (k : Known) (found : (na
       ∙ ap (λ (l : List FuncTree). headers_said_by (module_meaning m) l fs ds) held
       ∙ ap (λ (l : List Headed). headers_said_by (module_meaning m) (functions m) l ds) whole
       ∙ ap (λ (l : List StmtTree). headers_said_by (module_meaning m) (functions m) (headed_functions m) l) defined
-      ∙ ap (λ (l : List Diag). flat_map (header_said (module_meaning m)) (functions m) ++ (l ++ flat_map inner_definitions_said (functions m)))
+      ∙ ap (λ (l : List Diag). (flat_map (header_said (module_meaning m)) (functions m) ++ l) ++ flat_map inner_definitions_said (functions m))
       (ap (λ (l : List FuncTree). said_along [] (map (headed (module_role m) (module_meaning m)) l) (suite_definitions m)) (functions_defined m)
       ∙ walk_says (module_role m) (module_meaning m) [] (suite_definitions m))
 
@@ -131,10 +131,10 @@ module _ (m : Suite) (s : Scopes) (bound : IsBound m s) (k : Known) (found : (na
       ∙ ap (λ (l : List Headed). typed_parts (environment m) (module_scope m) l m) whole
 
   -- ALL THAT IS SAID
-  pub all_told : (trees : List FuncTree) → trees ≡ functions m → (fs : List Headed) → fs ≡ headed_all (meanings_by k s.top) trees s.funcs → (ds : List StmtTree) → ds ≡ suite_definitions m → (d0 d1 d2 d3 : List Diag) → d1 ≡ d0 ++ headers_said_by (meanings_by k s.top) trees fs ds → d2 ≡ d1 ++ statements_said (environment_by k fs) s.top fs m → d3 ≡ d2 ++ (flat_map (global_said k.variables.keys) (all_globals m trees) ++ filter is_refusal s.faults) → d3 ≡ d0 ++ said m
+  pub all_told : (trees : List FuncTree) → trees ≡ functions m → (fs : List Headed) → fs ≡ headed_all (meanings_by k s.top) trees s.funcs → (ds : List StmtTree) → ds ≡ suite_definitions m → (d0 d1 d2 d3 : List Diag) → d1 ≡ d0 ++ headers_said_by (meanings_by k s.top) trees fs ds → d2 ≡ d1 ++ statements_said (environment_by k fs) s.top fs m → d3 ≡ (d2 ++ flat_map (global_said k.variables.keys) (all_globals m trees)) ++ filter is_refusal s.faults → d3 ≡ d0 ++ said m
   all_told trees held fs with_headers ds defined d0 d1 d2 d3 first second third =
       let whole : fs ≡ headed_functions m = same_functions trees held fs with_headers in
-      three_told d0 d1 d2 d3 _ _ _ (headers_said m) (statements_said (environment m) (module_scope m) (headed_functions m) m) (globals_said m) first second third
+      three_told d0 d1 d2 d3 _ _ _ _ (headers_said m) (statements_said (environment m) (module_scope m) (headed_functions m) m) (globals_said m) first second third
       (same_headers trees held fs whole ds defined) (same_statements fs whole) (same_globals trees held)
 
 -- as many scopes as functions

@@ -24,6 +24,6 @@ Outcome m (Err Memory) = Unit {0}
 
 -- the same by a list of what is wrong and a tree
 abbrev pub Decided : List Diag → TypedModule → Result Checked CheckError → Type 0
-Decided said typed (Ok c) = (said ≡ []) × (typed_module c ≡ typed)
-Decided said typed (Err (Diags ds)) = (ds ≡ said) × ¬ (said ≡ [])
-Decided said typed (Err Memory) = Unit {0}
+Decided said tree (Ok c) = (said ≡ []) × (typed_module c ≡ tree)
+Decided said tree (Err (Diags ds)) = (ds ≡ said) × ¬ (said ≡ [])
+Decided said tree (Err Memory) = Unit {0}

@@ -65,7 +65,14 @@ fn typed_function(
         sigs: environment.signatures,
         classes: environment.classes,
     };
-    function_in(alloc, &scope, &environment.known.variables, f, place, faults)
+    function_in(
+        alloc,
+        &scope,
+        &environment.known.variables,
+        f,
+        place,
+        faults,
+    )
 }
 
 /// The same in its scope.

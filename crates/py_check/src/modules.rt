@@ -54,7 +54,14 @@ pub(crate) fn typed_module(
 {
     let found = definitions_of(alloc, body, &scopes.top)?;
     let functions = add_header_faults(alloc, &found, scopes, faults)?;
-    let typed = typed_parts(alloc, &found.known, functions.as_slice(), &scopes.top, body, faults)?;
+    let typed = typed_parts(
+        alloc,
+        &found.known,
+        functions.as_slice(),
+        &scopes.top,
+        body,
+        faults,
+    )?;
     add_global_faults(
         alloc,
         &found.known.variables,
@@ -145,7 +152,15 @@ fn statements_in(
     ensures known { IfOk result (λ o. (known_at o.place).types.globals ≡ spec.fixed_sorts (context scope.now) variables.now.keys (body_tree body.now)) }
 {
     let mut place = start(alloc, scope, variables, body)?;
-    let typed = block(alloc, scope, body, Returns::Outside, false, &mut place, faults)?;
+    let typed = block(
+        alloc,
+        scope,
+        body,
+        Returns::Outside,
+        false,
+        &mut place,
+        faults,
+    )?;
     Ok(Own { typed, place })
 }
 
