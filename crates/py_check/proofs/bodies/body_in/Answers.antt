@@ -1,4 +1,4 @@
-use Rattle.std.proofs.Common.{◌≡◌, false, map, IfOk, ap, subst, subst₂}
+use Rattle.std.proofs.Common.{false, map, IfOk, ap, subst, subst₂}
 use Rattle.py_syntax.specs.Statements.{Suite, body_tree}
 use Rattle.py_typed.specs.Statements.{typed_stmt}
 use Rattle.py_scope.specs.Context.{context}
