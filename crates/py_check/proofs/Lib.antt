@@ -6,3 +6,5 @@ pub mod FunctionLemmas
 pub mod StartLemmas
 pub mod VariableLemmas
 pub mod GlobalLemmas
+pub mod WholeLemmas
+pub mod BodyLemmas

@@ -5,3 +5,4 @@ pub mod Variables
 pub mod Views
 pub mod Module
 pub mod Outcome
+pub mod Parts

@@ -5,7 +5,8 @@ use Rattle.py_binder.specs.declared.scope.Scopes.{Scopes}
 use Rattle.py_binder.specs.Scope.{module_scope, module_role, function_scope, functions}
 use Rattle.py_binder.specs.Faults.{faults}
 use Rattle.py_typed.specs.declared.checked.Checked.{Checked}
-use Rattle.py_typed.specs.Statements.{typed_module}
+use Rattle.py_binder.specs.declared.scope.Diag.{Diag}
+use Rattle.py_typed.specs.Statements.{TypedModule, typed_module}
 use Rattle.py_check.specs.declared.checking.CheckError.{CheckError}
 use Rattle.py_check.specs.declared.checking.CheckError.TheVariants.{Diags, Memory}
 use Rattle.py_check.specs.Module.{diagnostics, typed}
@@ -20,3 +21,9 @@ abbrev pub Outcome : Suite → Result Checked CheckError → Type 0
 Outcome m (Ok c) = (diagnostics m ≡ []) × (typed_module c ≡ typed m)
 Outcome m (Err (Diags ds)) = (ds ≡ diagnostics m) × ¬ (diagnostics m ≡ [])
 Outcome m (Err Memory) = Unit {0}
+
+-- the same by a list of what is wrong and a tree
+abbrev pub Decided : List Diag → TypedModule → Result Checked CheckError → Type 0
+Decided said tree (Ok c) = (said ≡ []) × (typed_module c ≡ tree)
+Decided said tree (Err (Diags ds)) = (ds ≡ said) × ¬ (said ≡ [])
+Decided said tree (Err Memory) = Unit {0}

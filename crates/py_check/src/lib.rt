@@ -1,15 +1,19 @@
-//! What the typing of a whole module is made of: its functions with their scopes and headers, what is wrong with definitions,
-//! imports and `global` statements by themselves, and the types of variables where a module or a function begins.
+//! The typing of a whole module: its typed tree, or all that is wrong with it.
 //!
-//! `specs/Definitions.antt`, `specs/Globals.antt`, `specs/Starts.antt` and `specs/Variables.antt` have these as definitions over
-//! the tree, and `specs/Module.antt` the typing of a module, which puts them together with that of statements. No code computes
-//! that yet.
+//! `specs/Module.antt` has the typing of a module as a definition over the tree. It puts together `specs/Definitions.antt`, what is
+//! wrong with definitions and imports by themselves; `specs/Globals.antt`, the same of `global` statements; `specs/Starts.antt` and
+//! `specs/Variables.antt`, the types of variables where a module or a function begins and in the typed tree; and the typing of
+//! statements. `specs/Outcome.antt` says what `check` answers by it.
 #![tactic(auto)]
 
+mod bodies;
 mod checking;
 mod definitions;
+mod environments;
 mod functions;
 mod globals;
+mod modules;
+mod outlines;
 mod starts;
 mod variables;
 

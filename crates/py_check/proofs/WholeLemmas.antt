@@ -1,0 +1,156 @@
+-- The parts of a module, put together.
+use Rattle.std.proofs.Common.{◌≡◌, ◌∙◌, ℕ, List, [], ◌∷◌, ◌++◌, map, filter, length, Option, Result, Ok, Err, refl, ap, sym, Bor}
+use Rattle.std.proofs.Math.Path.{fun_ext}
+use Rattle.std.proofs.lemmas.List.{append_assoc, length-map}
+use Rattle.std.specs.List.{flat_map}
+use Rattle.std.specs.Str.{bytes_eq}
+use Rattle.indexmap.specs.IndexMap.{get}
+use Rattle.py_syntax.specs.declared.statement.Func.{Func}
+use Rattle.py_syntax.specs.Statements.{Suite, StmtTree, FuncTree, func_tree}
+use Rattle.py_binder.specs.declared.scope.Diag.{Diag}
+use Rattle.py_binder.specs.declared.scope.Scope.{Scope}
+use Rattle.py_binder.specs.declared.scope.Scopes.{Scopes}
+use Rattle.py_binder.specs.Scope.{Roles, module_scope, module_role, function_scope, functions}
+use Rattle.py_order.specs.Order.{by_place}
+use Rattle.py_typed.specs.declared.checked.Checked.{Checked}
+use Rattle.py_typed.specs.Classes.{ClassEntry, Signature}
+use Rattle.py_typed.specs.Statements.{TypedModule}
+use Rattle.py_scope.specs.declared.scope.Meaning.{Meaning}
+use Rattle.py_names.specs.declared.meanings.Known.{Known}
+use Rattle.py_names.specs.Walked.{func_trees}
+use Rattle.py_names.specs.Outline.{suite_definitions}
+use Rattle.py_names.specs.Meanings.{variables, meaning_in, said_in, module_meaning}
+use Rattle.py_headers.specs.Headers.{header, header_said, signature_of}
+use Rattle.py_check.specs.declared.checking.CheckError.{CheckError}
+use Rattle.py_check.specs.declared.checking.CheckError.TheVariants as reason
+use Rattle.py_check.specs.Definitions.{Headed, headed, headed_functions, inner_definitions_said, headers_said}
+use Rattle.py_check.specs.Globals.{global_said, all_globals, is_refusal, globals_said}
+use Rattle.py_check.specs.Views.{headed_all, said_along}
+use Rattle.py_check.specs.Module.{Environment, environment, context_in, statements_said, typed_parts, said, diagnostics, typed}
+use Rattle.py_check.specs.Parts.{environment_by, meanings_by, context_by, headers_said_by}
+use Rattle.py_check.specs.Outcome.{IsBound, Outcome, Decided}
+use Rattle.py_check.proofs.HeldLemmas.{functions_defined}
+use Rattle.py_check.proofs.DefinitionLemmas.{walk_says}
+use Rattle.py_check.proofs.FunctionLemmas.{all_headed}
+
+-- ---- contexts
+
+-- where names mean what they mean in a scope
+pub same_context : (meanings : List ℕ → Meaning) (e : Environment) (inside : Scope) → ((name : List ℕ) → meanings name ≡ meaning_in e.said e.variables inside name) → context_by meanings e ≡ context_in e inside
+same_context meanings e inside same = ap (λ m. context_by m e) (fun_ext same)
+
+-- ---- signatures
+
+signatures_with : (roles : Roles) (meanings : List ℕ → Meaning) (fs : List FuncTree) → map (λ f. signature_of f.header) (map (headed roles meanings) fs) ≡ map (λ f. signature_of (header meanings f)) fs
+signatures_with roles meanings [] = refl
+signatures_with roles meanings (f ∷ more) = ap (λ l. signature_of (header meanings f) ∷ l) (signatures_with roles meanings more)
+
+abbrev environment_full : (List ℕ → Option Meaning) → List (List ℕ) → List (Option Signature) → List ClassEntry → Environment
+environment_full said names signatures classes = record { said = said; variables = names; signatures = signatures; classes = classes }
+
+abbrev environment_with : (List ℕ → Option Meaning) → List (List ℕ) → List (Option Signature) → Environment
+environment_with said names signatures = environment_full said names signatures []
+
+-- from the signatures and the classes
+pub environment_at : (k : Known) (fs : List Headed) (signatures : List (Option Signature)) (classes : List ClassEntry) → signatures ≡ map (λ f. signature_of f.header) fs → classes ≡ [] → environment_full (get bytes_eq k.said) k.variables.keys signatures classes ≡ environment_by k fs
+environment_at k fs signatures classes signed none =
+    ap (λ (l : List (Option Signature)). environment_full (get bytes_eq k.said) k.variables.keys l classes) signed
+    ∙ ap (λ (l : List ClassEntry). environment_full (get bytes_eq k.said) k.variables.keys (map (λ f. signature_of f.header) fs) l) none
+
+-- ---- lists that are told one behind the other
+
+three_told : (d0 d1 d2 d3 a b c e a2 b2 g2 : List Diag) → d1 ≡ d0 ++ a → d2 ≡ d1 ++ b → d3 ≡ (d2 ++ c) ++ e → a ≡ a2 → b ≡ b2 → c ++ e ≡ g2 → d3 ≡ d0 ++ ((a2 ++ b2) ++ g2)
+three_told d0 d1 d2 d3 a b c e a2 b2 g2 first second third x y z =
+    third
+    ∙ append_assoc d2 c e
+    ∙ ap (λ l. d2 ++ l) z
+    ∙ ap (λ l. l ++ g2) (second ∙ ap (λ l. l ++ b) first ∙ append_assoc d0 a b)
+    ∙ append_assoc d0 (a ++ b) g2
+    ∙ ap (λ l. d0 ++ ((l ++ b) ++ g2)) x
+    ∙ ap (λ l. d0 ++ ((a2 ++ l) ++ g2)) y
+
+-- ---- what is known of a module's names
+
+module _ (m : Suite) (s : Scopes) (bound : IsBound m s) (k : Known) (found : (name : List ℕ) → get bytes_eq k.said name ≡ said_in m name) (names : k.variables.keys ≡ variables s.top) where
+  same_names : k.variables.keys ≡ variables (module_scope m)
+  same_names = names ∙ ap variables bound.top
+
+  same_meanings : meanings_by k s.top ≡ module_meaning m
+  same_meanings =
+      ap (λ (f : List ℕ → Option Meaning). meaning_in f k.variables.keys s.top) (fun_ext found)
+      ∙ ap (λ (v : List (List ℕ)). meaning_in (said_in m) v s.top) same_names
+      ∙ ap (λ (t : Scope). meaning_in (said_in m) (variables (module_scope m)) t) bound.top
+
+  -- its functions with their headers
+  pub same_functions : (trees : List FuncTree) → trees ≡ functions m → (fs : List Headed) → fs ≡ headed_all (meanings_by k s.top) trees s.funcs → fs ≡ headed_functions m
+  same_functions trees held fs with_headers =
+      with_headers
+      ∙ ap (λ (w : List ℕ → Meaning). headed_all w trees s.funcs) same_meanings
+      ∙ ap (λ (l : List FuncTree). headed_all (module_meaning m) l s.funcs) held
+      ∙ ap (headed_all (module_meaning m) (functions m)) bound.funcs
+      ∙ all_headed (module_meaning m) (module_role m) (functions m)
+
+  -- what is said of headers
+  pub same_headers : (trees : List FuncTree) → trees ≡ functions m → (fs : List Headed) → fs ≡ headed_functions m → (ds : List StmtTree) → ds ≡ suite_definitions m → headers_said_by (meanings_by k s.top) trees fs ds ≡ headers_said m
+  same_headers trees held fs whole ds defined =
+      ap (λ (w : List ℕ → Meaning). headers_said_by w trees fs ds) same_meanings
+      ∙ ap (λ (l : List FuncTree). headers_said_by (module_meaning m) l fs ds) held
+      ∙ ap (λ (l : List Headed). headers_said_by (module_meaning m) (functions m) l ds) whole
+      ∙ ap (λ (l : List StmtTree). headers_said_by (module_meaning m) (functions m) (headed_functions m) l) defined
+      ∙ ap (λ (l : List Diag). (flat_map (header_said (module_meaning m)) (functions m) ++ l) ++ flat_map inner_definitions_said (functions m))
+      (ap (λ (l : List FuncTree). said_along [] (map (headed (module_role m) (module_meaning m)) l) (suite_definitions m)) (functions_defined m)
+      ∙ walk_says (module_role m) (module_meaning m) [] (suite_definitions m))
+
+  -- what all scopes share
+  pub same_environment : (fs : List Headed) → fs ≡ headed_functions m → environment_by k fs ≡ environment m
+  same_environment fs whole =
+      ap (λ (f : List ℕ → Option Meaning). environment_with f k.variables.keys (map (λ g. signature_of g.header) fs)) (fun_ext found)
+      ∙ ap (λ (v : List (List ℕ)). environment_with (said_in m) v (map (λ g. signature_of g.header) fs)) same_names
+      ∙ ap (λ (l : List Headed). environment_with (said_in m) (variables (module_scope m)) (map (λ g. signature_of g.header) l)) whole
+      ∙ ap (environment_with (said_in m) (variables (module_scope m))) (signatures_with (module_role m) (module_meaning m) (functions m))
+
+  -- what is said of `global` statements
+  pub same_globals : (trees : List FuncTree) → trees ≡ functions m → flat_map (global_said k.variables.keys) (all_globals m trees) ++ filter is_refusal s.faults ≡ globals_said m
+  same_globals trees held =
+      ap (λ (v : List (List ℕ)). flat_map (global_said v) (all_globals m trees) ++ filter is_refusal s.faults) same_names
+      ∙ ap (λ (l : List FuncTree). flat_map (global_said (variables (module_scope m))) (all_globals m l) ++ filter is_refusal s.faults) held
+      ∙ ap (λ (l : List Diag). flat_map (global_said (variables (module_scope m))) (all_globals m (functions m)) ++ filter is_refusal l) bound.faults
+
+  -- what is said of statements
+  pub same_statements : (fs : List Headed) → fs ≡ headed_functions m → statements_said (environment_by k fs) s.top fs m ≡ statements_said (environment m) (module_scope m) (headed_functions m) m
+  same_statements fs whole =
+      ap (λ (e : Environment). statements_said e s.top fs m) (same_environment fs whole)
+      ∙ ap (λ (t : Scope). statements_said (environment m) t fs m) bound.top
+      ∙ ap (λ (l : List Headed). statements_said (environment m) (module_scope m) l m) whole
+
+  -- the typed tree
+  pub same_tree : (fs : List Headed) → fs ≡ headed_functions m → typed_parts (environment_by k fs) s.top fs m ≡ typed m
+  same_tree fs whole =
+      ap (λ (e : Environment). typed_parts e s.top fs m) (same_environment fs whole)
+      ∙ ap (λ (t : Scope). typed_parts (environment m) t fs m) bound.top
+      ∙ ap (λ (l : List Headed). typed_parts (environment m) (module_scope m) l m) whole
+
+  -- ALL THAT IS SAID
+  pub all_told : (trees : List FuncTree) → trees ≡ functions m → (fs : List Headed) → fs ≡ headed_all (meanings_by k s.top) trees s.funcs → (ds : List StmtTree) → ds ≡ suite_definitions m → (d0 d1 d2 d3 : List Diag) → d1 ≡ d0 ++ headers_said_by (meanings_by k s.top) trees fs ds → d2 ≡ d1 ++ statements_said (environment_by k fs) s.top fs m → d3 ≡ (d2 ++ flat_map (global_said k.variables.keys) (all_globals m trees)) ++ filter is_refusal s.faults → d3 ≡ d0 ++ said m
+  all_told trees held fs with_headers ds defined d0 d1 d2 d3 first second third =
+      let whole : fs ≡ headed_functions m = same_functions trees held fs with_headers in
+      three_told d0 d1 d2 d3 _ _ _ _ (headers_said m) (statements_said (environment m) (module_scope m) (headed_functions m) m) (globals_said m) first second third
+      (same_headers trees held fs whole ds defined) (same_statements fs whole) (same_globals trees held)
+
+-- as many scopes as functions
+pub one_to_one : (m : Suite) (s : Scopes) → IsBound m s → (found : List (Bor Func)) → func_trees found ≡ functions m → length found ≡ length s.funcs
+one_to_one m s bound found held =
+    sym (length-map found (λ (f : Bor Func). func_tree f.now))
+    ∙ ap length held
+    ∙ sym (length-map (functions m) (function_scope (module_role m)))
+    ∙ sym (ap length bound.funcs)
+
+-- ---- the answer
+
+answer_at : (m : Suite) (all : List Diag) (tree : TypedModule) → all ≡ diagnostics m → tree ≡ typed m → (r : Result Checked CheckError) → Decided all tree r → Outcome m r
+answer_at m all tree same made (Ok c) h = (sym same ∙ h.0, h.1 ∙ made)
+answer_at m all tree same made (Err (reason.Diags ds)) h = (h.0 ∙ same, λ none. h.1 (same ∙ none))
+answer_at m all tree same made (Err reason.Memory) h = tt
+
+pub answer : (m m2 : Suite) → m2 ≡ m → (all : List Diag) → all ≡ [] ++ said m2 → (tree : TypedModule) → tree ≡ typed m2 → (r : Result Checked CheckError) → Decided (by_place all) tree r → Outcome m r
+answer m m2 same all told tree made r h = answer_at m (by_place all) tree (ap by_place told ∙ ap diagnostics same) (made ∙ ap typed same) r h

@@ -1,0 +1,40 @@
+use Rattle.std.proofs.Common.{◌≡◌, ◌++◌, ◌∙◌, List, map, filter, Bor, ap, ap₂}
+use Rattle.std.specs.List.{flat_map}
+use Rattle.py_syntax.specs.declared.statement.Func.{Func}
+use Rattle.py_syntax.specs.Statements.{body_tree}
+use Rattle.py_binder.specs.declared.scope.Diag.{Diag}
+use Rattle.py_names.specs.Walked.{trees, func_trees}
+use Rattle.py_check.specs.declared.functions.Function.{Function}
+use Rattle.py_check.specs.Views.{headed_of}
+use Rattle.py_check.specs.Definitions.{headed_functions}
+use Rattle.py_check.specs.Globals.{global_said, all_globals, is_refusal}
+use Rattle.py_check.specs.Module.{typed_parts, statements_said}
+use Rattle.py_check.specs.Parts.{environment_by}
+use Rattle.py_check.proofs.WholeLemmas.{one_to_one, same_functions, same_tree, all_told}
+use Rattle.py_check.proofs.modules.typed_module.Goals as goal
+
+pub add_header_faults-requires : goal.add_header_faults-requires
+add_header_faults-requires c = one_to_one (body_tree c.args.body.now) c.args.scopes.now c.requires c.in_ok-found.found.functions.items c.in_ok-found.ensures.functions
+
+pub returns-clause-typed : goal.returns-clause-typed
+returns-clause-typed c =
+    let m = body_tree c.args.body.now in
+    let s = c.args.scopes.now in
+    let o = c.in_ok-found.found in
+    let fs = map headed_of c.in_ok-functions.functions.items in
+    let whole : fs ≡ headed_functions m = same_functions m s c.requires o.known c.in_ok-found.ensures.said c.in_ok-found.ensures.variables (func_trees o.functions.items) c.in_ok-found.ensures.functions fs c.in_ok-functions.ensures.functions in
+    c.in_ok-typed.ensures.typed
+    ∙ ap (λ (l : List Function). typed_parts (environment_by o.known (map headed_of l)) s.top (map headed_of l) m) c.as_slice.ensures.value
+    ∙ same_tree m s c.requires o.known c.in_ok-found.ensures.said c.in_ok-found.ensures.variables fs whole
+
+pub returns-clause-told : goal.returns-clause-told
+returns-clause-told c =
+    let m = body_tree c.args.body.now in
+    let s = c.args.scopes.now in
+    let o = c.in_ok-found.found in
+    let d1 = c.add_header_faults.new.faults in
+    let d2 = c.typed_parts.new.faults in
+    all_told m s c.requires o.known c.in_ok-found.ensures.said c.in_ok-found.ensures.variables (func_trees o.functions.items) c.in_ok-found.ensures.functions (map headed_of c.in_ok-functions.functions.items) c.in_ok-functions.ensures.functions (trees o.definitions.items) c.in_ok-found.ensures.definitions c.args.faults.now d1 d2 c.add_global_faults.new.faults
+    c.in_ok-functions.ensures.told
+    (c.in_ok-typed.ensures.told ∙ ap (λ (l : List Function). d1 ++ statements_said (environment_by o.known (map headed_of l)) s.top (map headed_of l) m) c.as_slice.ensures.value)
+    (c.in_ok-add_global_faults.ensures ∙ ap₂ (λ (l : List (Bor Func)) (ds : List Diag). (d2 ++ flat_map (global_said o.known.variables.keys) (all_globals m (func_trees l))) ++ filter is_refusal ds) c.as_slice-2.ensures.value c.as_slice-3.ensures)

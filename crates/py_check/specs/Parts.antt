@@ -1,0 +1,78 @@
+-- A module and its functions by their parts, and what the program's environments stand for.
+use Rattle.std.specs.Prelude.{ℕ, List, [], ◌++◌, map, length, Option, None, unwrap_or}
+use Rattle.std.specs.List.{flat_map}
+use Rattle.std.specs.Option.{option_map}
+use Rattle.std.specs.Str.{bytes_eq}
+use Rattle.indexmap.specs.IndexMap.{get}
+use Rattle.py_syntax.specs.Statements.{StmtTree, FuncTree}
+use Rattle.py_binder.specs.declared.scope.Diag.{Diag}
+use Rattle.py_binder.specs.declared.scope.Scope.{Scope}
+use Rattle.py_typed.specs.Sorts as sort
+use Rattle.py_typed.specs.Classes.{class_entry, signature}
+use Rattle.py_typed.specs.Statements.{TypedStmt, TypedFunc, TypedModule}
+use Rattle.py_scope.specs.declared.scope.Meaning.{Meaning}
+use Rattle.py_scope.specs.Context.{Context, VarSort}
+use Rattle.py_names.specs.declared.meanings.Known.{Known}
+use Rattle.py_names.specs.Meanings.{meaning_in, own_names}
+use Rattle.py_headers.specs.Headers.{header_said, signature_of}
+use Rattle.py_check.specs.declared.environments.Environment as declared
+use Rattle.py_check.specs.Definitions.{Headed, inner_definitions_said}
+use Rattle.py_check.specs.Variables.{typed_variables}
+use Rattle.py_check.specs.Views.{said_along}
+use Rattle.py_check.specs.Module.{Environment, plain_signature, statements_of}
+
+-- ---- environments
+
+abbrev pub environment_of : declared.Environment → Environment
+environment_of e = record {
+  said = get bytes_eq e.known.now.said;
+  variables = e.known.now.variables.keys;
+  signatures = map (option_map signature) e.signatures.now;
+  classes = map class_entry e.classes.now.list;
+}
+
+-- from what is known of names and from the functions: no class has a type yet
+abbrev pub environment_by : Known → List Headed → Environment
+environment_by k fs = record {
+  said = get bytes_eq k.said;
+  variables = k.variables.keys;
+  signatures = map (λ f. signature_of f.header) fs;
+  classes = [];
+}
+
+-- what names mean in a scope
+abbrev pub meanings_by : Known → Scope → List ℕ → Meaning
+meanings_by k inside = meaning_in (get bytes_eq k.said) k.variables.keys inside
+
+-- where names mean this
+abbrev pub context_by : (List ℕ → Meaning) → Environment → Context
+context_by meanings e = record { meaning = meanings; signatures = e.signatures; classes = e.classes }
+
+-- ---- what is said of headers
+
+-- in the annotations of functions, of definitions and imports, and of those in the bodies of functions
+abbrev pub headers_said_by : (List ℕ → Meaning) → List FuncTree → List Headed → List StmtTree → List Diag
+headers_said_by meanings trees fs definitions =
+    flat_map (header_said meanings) trees ++ said_along [] fs definitions ++ flat_map inner_definitions_said trees
+
+-- ---- typed parts
+
+-- a function with the types of its own variables and its statements, if they are typed
+abbrev pub function_by : Headed → List VarSort → Option (List TypedStmt) → TypedFunc
+function_by f locals typed = record {
+  name = f.tree.name;
+  class = None;
+  params = length f.tree.params;
+  locals = typed_variables locals (own_names f.inside);
+  ret = unwrap_or f.header.ret sort.Nothing;
+  body = statements_of typed;
+}
+
+-- a module with the names and types of its variables, its functions, and its own statements, if they are typed
+abbrev pub module_by : List Headed → List (List ℕ) → List VarSort → List TypedFunc → Option (List TypedStmt) → TypedModule
+module_by fs names sorts funcs typed = record {
+  classes = record { classes = []; signatures = map (λ f. plain_signature (signature_of f.header)) fs };
+  globals = typed_variables sorts names;
+  funcs = funcs;
+  top = statements_of typed;
+}

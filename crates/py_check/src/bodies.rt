@@ -1,0 +1,189 @@
+//! Functions with their bodies.
+ghost use Rattle.std.specs.Prelude.{◌≡◌, ◌++◌, map, IfOk};
+ghost use Rattle.std.specs.Option.{option_map};
+ghost use Rattle.py_typed.specs.Sorts.{sort};
+ghost use Rattle.py_typed.specs.Statements.{typed_func, typed_stmt, typed_suite};
+ghost use Rattle.py_names.specs.Meanings as meanings;
+ghost use Rattle.py_scope.specs.Context.{context, var_sort};
+ghost use Rattle.py_messages.specs.Seen.{Tells};
+ghost use Rattle.py_binding.specs.Returns.{return_sort};
+ghost use Rattle.py_targets.specs.Views.{known_at};
+ghost use Rattle.py_check.specs.Views.{headed_of, headed_parts};
+ghost use Rattle.py_check.specs.Module as spec;
+ghost use Rattle.py_check.specs.Parts as views;
+
+use crate::environments::Environment;
+use crate::functions::Function;
+use crate::starts::own_types;
+use crate::variables::{numbers_of, own_names, param_numbers, type_or_none, typed_variables};
+use indexmap::IndexSet;
+use py_binder::Diag;
+use py_binding::Returns;
+use py_bodies::block;
+use py_names::names_in;
+use py_scope::{Scope, VarType};
+use py_targets::Place;
+use py_typed::{TFunc, TStmt, Ty};
+use std::alloc::Global;
+use value_core::{Many, Memory, Name};
+
+/// The functions of a module with their bodies, in their order: each finds the types of the module's variables as the ones before
+/// it left them.
+pub(crate) fn typed_functions(
+    alloc: Global,
+    environment: &Environment<'_>,
+    functions: &[Function<'_>],
+    place: &mut Place,
+    faults: &mut Many<Diag>,
+) -> Result<Many<TFunc>, Memory>
+    ensures typed { IfOk result (λ fs. map typed_func fs ≡ spec.typed_functions (views.environment_of environment.now) (known_at place.old).types.globals (map headed_of functions.now)) }
+    ensures told { IfOk result (λ fs. faults.new ≡ faults.old ++ spec.bodies_said (views.environment_of environment.now) (known_at place.old).types.globals (map headed_of functions.now)) }
+    ensures known { IfOk result (λ fs. (known_at place.new).types.globals ≡ spec.sorts_behind_all (views.environment_of environment.now) (known_at place.old).types.globals (map headed_of functions.now)) }
+{
+    let mut typed = Many::new(alloc);
+    for f in functions {
+        typed.push(typed_function(alloc, environment, f, place, faults)?)?;
+    }
+    Ok(typed)
+}
+
+/// A function with its body.
+fn typed_function(
+    alloc: Global,
+    environment: &Environment<'_>,
+    f: &Function<'_>,
+    place: &mut Place,
+    faults: &mut Many<Diag>,
+) -> Result<TFunc, Memory>
+    ensures typed { IfOk result (λ t. typed_func t ≡ spec.typed_function (spec.context_in (views.environment_of environment.now) f.now.inside.now) environment.now.known.now.variables.keys (known_at place.old).types.globals (headed_of f.now)) }
+    ensures told { IfOk result (λ t. faults.new ≡ faults.old ++ (spec.body (spec.context_in (views.environment_of environment.now) f.now.inside.now) environment.now.known.now.variables.keys (known_at place.old).types.globals (headed_of f.now)).said) }
+    ensures known { IfOk result (λ t. (known_at place.new).types.globals ≡ spec.sorts_behind (views.environment_of environment.now) (known_at place.old).types.globals (headed_of f.now)) }
+{
+    let names = names_in(alloc, environment.known, f.inside)?;
+    let scope = Scope {
+        names: &names,
+        sigs: environment.signatures,
+        classes: environment.classes,
+    };
+    function_in(
+        alloc,
+        &scope,
+        &environment.known.variables,
+        f,
+        place,
+        faults,
+    )
+}
+
+/// The same in its scope.
+fn function_in(
+    alloc: Global,
+    scope: &Scope<'_>,
+    variables: &IndexSet<Name>,
+    f: &Function<'_>,
+    place: &mut Place,
+    faults: &mut Many<Diag>,
+) -> Result<TFunc, Memory>
+    ensures typed { IfOk result (λ t. typed_func t ≡ spec.typed_function (context scope.now) variables.now.keys (known_at place.old).types.globals (headed_parts f.now)) }
+    ensures told { IfOk result (λ t. faults.new ≡ faults.old ++ (spec.body (context scope.now) variables.now.keys (known_at place.old).types.globals (headed_parts f.now)).said) }
+    ensures known { IfOk result (λ t. (known_at place.new).types.globals ≡ (spec.body_after (context scope.now) variables.now.keys (known_at place.old).types.globals (headed_parts f.now)).types.globals) }
+{
+    let own = own_names(alloc, f.inside)?;
+    let body = body_in(alloc, scope, variables, &own, f, place, faults)?;
+    with_body(alloc, f, &own, &place.types.locals, body)
+}
+
+/// The statements of a function that has these variables of its own.
+fn body_in(
+    alloc: Global,
+    scope: &Scope<'_>,
+    variables: &IndexSet<Name>,
+    own: &IndexSet<Name>,
+    f: &Function<'_>,
+    place: &mut Place,
+    faults: &mut Many<Diag>,
+) -> Result<Option<Many<TStmt>>, Memory>
+    requires { own.now.keys ≡ meanings.own_names f.now.inside.now }
+    ensures told { IfOk result (λ t. Tells (map typed_stmt) t faults.old faults.new (spec.body (context scope.now) variables.now.keys (known_at place.old).types.globals (headed_parts f.now))) }
+    ensures known { IfOk result (λ t. known_at place.new ≡ spec.body_after (context scope.now) variables.now.keys (known_at place.old).types.globals (headed_parts f.now)) }
+{
+    begin(alloc, scope, variables, own, f, place)?;
+    block(
+        alloc,
+        scope,
+        f.tree.body.as_slice(),
+        returns_of(&f.header.ret),
+        false,
+        place,
+        faults,
+    )
+}
+
+/// Where a function begins, its parameters are bound, and so are the module's variables, which keep their types.
+fn begin(
+    alloc: Global,
+    scope: &Scope<'_>,
+    variables: &IndexSet<Name>,
+    own: &IndexSet<Name>,
+    f: &Function<'_>,
+    place: &mut Place,
+) -> Result<(), Memory>
+    requires { own.now.keys ≡ meanings.own_names f.now.inside.now }
+    ensures { IfOk result (λ done. known_at place.new ≡ spec.function_start (context scope.now) variables.now.keys (known_at place.old).types.globals (headed_parts f.now)) }
+{
+    place.types.locals = own_types(
+        alloc,
+        scope,
+        f.tree.body.as_slice(),
+        f.tree.params.as_slice(),
+        &f.header.params,
+        own.as_slice(),
+    )?;
+    place.locals_bound = param_numbers(alloc, own, f.tree.params.as_slice())?;
+    place.globals_bound = numbers_of(alloc, variables.as_slice())?;
+    place.names = Vec::new(alloc);
+    Ok(())
+}
+
+fn returns_of(ret: &Option<Ty>) -> Returns<'_>
+    ensures { return_sort result ≡ spec.return_of (option_map sort ret.now) }
+{
+    match ret {
+        Some(t) => Returns::Gives(t),
+        None => Returns::Untyped,
+    }
+}
+
+/// A function with this body, behind which its own variables have these types.
+fn with_body(
+    alloc: Global,
+    f: &Function<'_>,
+    own: &IndexSet<Name>,
+    locals: &Many<VarType>,
+    body: Option<Many<TStmt>>,
+) -> Result<TFunc, Memory>
+    requires { own.now.keys ≡ meanings.own_names f.now.inside.now }
+    ensures { IfOk result (λ t. typed_func t ≡ views.function_by (headed_parts f.now) (map var_sort locals.now) (option_map (map typed_stmt) body)) }
+{
+    let name = f.tree.name.clone()?;
+    let locals = typed_variables(alloc, own.as_slice(), locals)?;
+    let ret = type_or_none(alloc, &f.header.ret)?;
+    Ok(TFunc {
+        name,
+        class: None,
+        params: f.tree.params.len(),
+        locals,
+        ret,
+        body: statements_or_none(alloc, body),
+    })
+}
+
+/// Statements in a row, or none where they are not typed.
+pub(crate) fn statements_or_none(alloc: Global, typed: Option<Many<TStmt>>) -> Many<TStmt>
+    ensures { typed_suite result ≡ spec.statements_of (option_map (map typed_stmt) typed) }
+{
+    match typed {
+        Some(statements) => statements,
+        None => Many::new(alloc),
+    }
+}

@@ -1,0 +1,233 @@
+//! A module with its own statements and its functions.
+ghost use Rattle.std.specs.Prelude.{◌≡◌, ◌++◌, map, IfOk};
+ghost use Rattle.std.specs.Option.{option_map};
+ghost use Rattle.py_syntax.specs.Statements.{body_tree};
+ghost use Rattle.py_typed.specs.Classes.{signature};
+ghost use Rattle.py_typed.specs.Statements.{typed_func, typed_module, typed_stmt};
+ghost use Rattle.py_scope.specs.Context.{context, var_sort};
+ghost use Rattle.py_messages.specs.Seen.{Tells};
+ghost use Rattle.py_headers.specs.Headers as headers;
+ghost use Rattle.py_targets.specs.Views.{known_at};
+ghost use Rattle.py_check.specs.Views.{headed_of};
+ghost use Rattle.py_check.specs.Outcome.{IsBound};
+ghost use Rattle.py_check.specs.Module as spec;
+ghost use Rattle.py_check.specs.Parts as views;
+
+use crate::bodies::{statements_or_none, typed_functions};
+use crate::environments::{Environment, no_classes};
+use crate::functions::{Function, signatures_of};
+use crate::globals::add_global_faults;
+use crate::outlines::{add_header_faults, definitions_of};
+use crate::starts::start_types;
+use crate::variables::typed_variables;
+use indexmap::IndexSet;
+use py_binder::{Diag, Scope, Scopes};
+use py_binding::Returns;
+use py_bodies::block;
+use py_headers::signature_of;
+use py_names::{Known, names_in};
+use py_scope::{VarType, Variables};
+use py_syntax::Stmt;
+use py_targets::Place;
+use py_typed::{Checked, Classes, Sig, TFunc, TStmt, Ty};
+use std::alloc::Global;
+use value_core::{Many, Memory, Name};
+
+/// A module's own statements, if they are typed, and what is known behind them.
+#[derive(Drop)]
+struct Own {
+    typed: Option<Many<TStmt>>,
+    place: Place,
+}
+
+/// The typed tree of a module of these scopes; and adds all that is wrong with it, in the order of the walk. The tree is of use only
+/// where nothing is.
+pub(crate) fn typed_module(
+    alloc: Global,
+    body: &[Stmt],
+    scopes: &Scopes,
+    faults: &mut Many<Diag>,
+) -> Result<Checked, Memory>
+    requires { IsBound (body_tree body.now) scopes.now }
+    ensures typed { IfOk result (λ c. typed_module c ≡ spec.typed (body_tree body.now)) }
+    ensures told { IfOk result (λ c. faults.new ≡ faults.old ++ spec.said (body_tree body.now)) }
+{
+    let found = definitions_of(alloc, body, &scopes.top)?;
+    let functions = add_header_faults(alloc, &found, scopes, faults)?;
+    let typed = typed_parts(
+        alloc,
+        &found.known,
+        functions.as_slice(),
+        &scopes.top,
+        body,
+        faults,
+    )?;
+    add_global_faults(
+        alloc,
+        &found.known.variables,
+        body,
+        found.functions.as_slice(),
+        scopes.faults.as_slice(),
+        faults,
+    )?;
+    Ok(typed)
+}
+
+/// The typed tree of a module of these functions and statements, where these names are seen in it.
+fn typed_parts(
+    alloc: Global,
+    known: &Known,
+    functions: &[Function<'_>],
+    top: &Scope,
+    body: &[Stmt],
+    faults: &mut Many<Diag>,
+) -> Result<Checked, Memory>
+    ensures typed { IfOk result (λ c. typed_module c ≡ spec.typed_parts (views.environment_by known.now (map headed_of functions.now)) top.now (map headed_of functions.now) (body_tree body.now)) }
+    ensures told { IfOk result (λ c. faults.new ≡ faults.old ++ spec.statements_said (views.environment_by known.now (map headed_of functions.now)) top.now (map headed_of functions.now) (body_tree body.now)) }
+{
+    let signatures = signatures_of(alloc, functions)?;
+    let classes = no_classes(alloc);
+    let environment = Environment {
+        known,
+        signatures: signatures.as_slice(),
+        classes: &classes,
+    };
+    typed_in(alloc, &environment, functions, top, body, faults)
+}
+
+/// The same in its environment: the module's own statements first, then the bodies of functions.
+fn typed_in(
+    alloc: Global,
+    environment: &Environment<'_>,
+    functions: &[Function<'_>],
+    top: &Scope,
+    body: &[Stmt],
+    faults: &mut Many<Diag>,
+) -> Result<Checked, Memory>
+    ensures typed { IfOk result (λ c. typed_module c ≡ spec.typed_parts (views.environment_of environment.now) top.now (map headed_of functions.now) (body_tree body.now)) }
+    ensures told { IfOk result (λ c. faults.new ≡ faults.old ++ spec.statements_said (views.environment_of environment.now) top.now (map headed_of functions.now) (body_tree body.now)) }
+{
+    let own = own_statements(alloc, environment, top, body, faults)?;
+    let Own { typed, mut place } = own;
+    let funcs = typed_functions(alloc, environment, functions, &mut place, faults)?;
+    with_functions(
+        alloc,
+        &environment.known.variables,
+        functions,
+        &place.types.globals,
+        typed,
+        funcs,
+    )
+}
+
+/// A module's own statements, which fix the types of its variables.
+fn own_statements(
+    alloc: Global,
+    environment: &Environment<'_>,
+    top: &Scope,
+    body: &[Stmt],
+    faults: &mut Many<Diag>,
+) -> Result<Own, Memory>
+    ensures told { IfOk result (λ o. Tells (map typed_stmt) o.typed faults.old faults.new (spec.own_statements (spec.context_in (views.environment_of environment.now) top.now) environment.now.known.now.variables.keys (body_tree body.now))) }
+    ensures known { IfOk result (λ o. (known_at o.place).types.globals ≡ spec.fixed_sorts (spec.context_in (views.environment_of environment.now) top.now) environment.now.known.now.variables.keys (body_tree body.now)) }
+{
+    let names = names_in(alloc, environment.known, top)?;
+    let scope = py_scope::Scope {
+        names: &names,
+        sigs: environment.signatures,
+        classes: environment.classes,
+    };
+    statements_in(alloc, &scope, &environment.known.variables, body, faults)
+}
+
+/// The same in their scope.
+fn statements_in(
+    alloc: Global,
+    scope: &py_scope::Scope<'_>,
+    variables: &IndexSet<Name>,
+    body: &[Stmt],
+    faults: &mut Many<Diag>,
+) -> Result<Own, Memory>
+    ensures told { IfOk result (λ o. Tells (map typed_stmt) o.typed faults.old faults.new (spec.own_statements (context scope.now) variables.now.keys (body_tree body.now))) }
+    ensures known { IfOk result (λ o. (known_at o.place).types.globals ≡ spec.fixed_sorts (context scope.now) variables.now.keys (body_tree body.now)) }
+{
+    let mut place = start(alloc, scope, variables, body)?;
+    let typed = block(
+        alloc,
+        scope,
+        body,
+        Returns::Outside,
+        false,
+        &mut place,
+        faults,
+    )?;
+    Ok(Own { typed, place })
+}
+
+/// What is known where a module begins.
+fn start(
+    alloc: Global,
+    scope: &py_scope::Scope<'_>,
+    variables: &IndexSet<Name>,
+    body: &[Stmt],
+) -> Result<Place, Memory>
+    ensures { IfOk result (λ p. known_at p ≡ spec.module_start (context scope.now) variables.now.keys (body_tree body.now)) }
+{
+    let globals = start_types(alloc, scope, body, variables.as_slice())?;
+    Ok(Place {
+        types: Variables {
+            locals: Many::new(alloc),
+            globals,
+        },
+        locals_bound: Vec::new(alloc),
+        globals_bound: Vec::new(alloc),
+        names: Vec::new(alloc),
+    })
+}
+
+/// A module of these statements and functions, behind which its variables have these types.
+fn with_functions(
+    alloc: Global,
+    variables: &IndexSet<Name>,
+    functions: &[Function<'_>],
+    globals: &Many<VarType>,
+    own: Option<Many<TStmt>>,
+    funcs: Many<TFunc>,
+) -> Result<Checked, Memory>
+    ensures { IfOk result (λ c. typed_module c ≡ views.module_by (map headed_of functions.now) variables.now.keys (map var_sort globals.now) (map typed_func funcs) (option_map (map typed_stmt) own)) }
+{
+    let sigs = plain_signatures(alloc, functions)?;
+    let globals = typed_variables(alloc, variables.as_slice(), globals)?;
+    Ok(Checked {
+        classes: Classes {
+            list: Many::new(alloc),
+            sigs,
+        },
+        globals,
+        funcs,
+        top: statements_or_none(alloc, own),
+    })
+}
+
+/// The signatures of functions, each of which has one: where it is not known, one that says nothing.
+fn plain_signatures(alloc: Global, functions: &[Function<'_>]) -> Result<Many<Sig>, Memory>
+    ensures { IfOk result (λ all. map signature all ≡ map (λ f. spec.plain_signature (headers.signature_of f.header)) (map headed_of functions.now)) }
+{
+    let mut all = Many::new(alloc);
+    for f in functions {
+        all.push(plain_signature(alloc, signature_of(alloc, &f.header)?))?;
+    }
+    Ok(all)
+}
+
+fn plain_signature(alloc: Global, known: Option<Sig>) -> Sig
+    ensures { signature result ≡ spec.plain_signature (option_map signature known) }
+{
+    match known {
+        Some(sig) => sig,
+        None => Sig {
+            params: Many::new(alloc),
+            ret: Ty::Nothing,
+        },
+    }
+}
