@@ -1,0 +1,13 @@
+mod Given
+mod Kept
+mod Assigned
+mod Annotated
+mod Whole
+mod Names
+mod Aims
+mod Literals
+mod Shapes
+mod Values
+mod Closed
+mod Courses
+mod Settled
