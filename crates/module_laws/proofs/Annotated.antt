@@ -13,8 +13,6 @@ use Rattle.py_messages.specs.Seen.{Seen, is, silent, fails, made, rule}
 use Rattle.py_messages.specs.Rows.{row_then}
 use Rattle.py_messages.specs.Messages as message
 use Rattle.py_annotations.specs.declared.names.Former.{Former}
-use Rattle.py_annotations.specs.declared.annotations.Head.{Head}
-use Rattle.py_annotations.specs.declared.annotations.Head.TheVariants.{Form, Untyped, NoForm}
 use Rattle.py_annotations.specs.Names.{plain_type, former_of, is_unknown, is_untyped, valid, named, unknown_names, or_invalid}
 use Rattle.py_annotations.specs.Annotations.{annotation, type_by_form, items, row, no_type, quoted, formed, application, form_or, head_named, name_of, is_tuple, is_or_none, return_annotation, is_none}
 use Rattle.typing_laws.proofs.Loud.{IsLoud, loud_is, loud_fails, loud_made, loud_rule, loud_row}
@@ -44,19 +42,14 @@ module _ (meanings : List ℕ → Meaning) (all : (x : List ℕ) → is_untyped 
   loud_quoted None span = loud_fails span _
   loud_quoted (Some x) span = loud_named (meanings x) x span (all x)
 
-  head_form : (o : Option Former) (b : Bool) → b ≡ false → (h : Head) → form_or o b ≡ h → h ≡ Untyped → ⊥
-  head_form (Some f) b q h e u = let clash : Form f ≡ Untyped = e ∙ u in cc
-  head_form None true q h e u = absurd (cc)
-  head_form None false q h e u = let clash : NoForm ≡ Untyped = e ∙ u in cc
+  loud_formed : (o : Option Former) (b : Bool) (whole : ExprTree) (span : Span) (parts : Seen (List Sort)) → b ≡ false → IsLoud parts → IsLoud (formed meanings (form_or o b) whole span parts)
+  loud_formed (Some f) b whole span parts h l = loud_rule span (application f) parts l
+  loud_formed None true whole span parts h l = absurd (cc)
+  loud_formed None false whole span parts h l = loud_none whole span
 
-  head_known : (o : Option (List ℕ)) → head_named meanings o ≡ Untyped → ⊥
-  head_known None u = cc
-  head_known (Some x) u = head_form (former_of (meanings x)) (is_untyped (meanings x)) (all x) (head_named meanings (Some x)) refl u
-
-  loud_formed : (h : Head) (whole : ExprTree) (span : Span) (parts : Seen (List Sort)) → (h ≡ Untyped → ⊥) → IsLoud parts → IsLoud (formed meanings h whole span parts)
-  loud_formed (Form f) whole span parts n l = loud_rule span (application f) parts l
-  loud_formed Untyped whole span parts n l = absurd (n refl)
-  loud_formed NoForm whole span parts n l = loud_none whole span
+  loud_headed : (o : Option (List ℕ)) (whole : ExprTree) (span : Span) (parts : Seen (List Sort)) → IsLoud parts → IsLoud (formed meanings (head_named meanings o) whole span parts)
+  loud_headed None whole span parts l = loud_none whole span
+  loud_headed (Some x) whole span parts l = loud_formed (former_of (meanings x)) (is_untyped (meanings x)) whole span parts (all x) l
 
   mutual
     pub loud_annotation : (mark : ExprTree) → IsLoud (annotation meanings mark)
@@ -69,7 +62,7 @@ module _ (meanings : List ℕ → Meaning) (all : (x : List ℕ) → is_untyped 
         loud_if (is_or_none op b) (made optional (annotation meanings a)) (if is_or_none op a then made optional (annotation meanings b) else no_type meanings (e.at (e.Bin op a b) span) span) (loud_made optional (annotation meanings a) (loud_annotation a))
         (loud_if (is_or_none op a) (made optional (annotation meanings b)) (no_type meanings (e.at (e.Bin op a b) span) span) (loud_made optional (annotation meanings b) (loud_annotation b)) (loud_none (e.at (e.Bin op a b) span) span))
     loud_mark (e.Index head inside) span =
-        loud_formed (head_named meanings (name_of head)) (e.at (e.Index head inside) span) span (if is_tuple inside then items meanings inside else row_then (annotation meanings inside) (is [])) (head_known (name_of head))
+        loud_headed (name_of head) (e.at (e.Index head inside) span) span (if is_tuple inside then items meanings inside else row_then (annotation meanings inside) (is []))
         (loud_if (is_tuple inside) (items meanings inside) (row_then (annotation meanings inside) (is [])) (loud_items inside) (loud_row (annotation meanings inside) (is []) (loud_annotation inside) (loud_is [])))
     loud_mark node span = loud_none (e.at node span) span
 

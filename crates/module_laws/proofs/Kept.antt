@@ -57,7 +57,7 @@ set_there (x ∷ xs) (suc i) v h = set_there xs i v (omega arith)
 -- ---- a binding
 
 abbrev fixed : Bool → List VarSort → ℕ → VarSort → List VarSort
-fixed open types i v = if open then slice_set types i v else types
+fixed b types i v = if b then slice_set types i v else types
 
 pub fix_set : (types : List VarSort) (i : ℕ) (v : VarSort) → is_unset (var_at types i) ≡ false → fix types i v ≡ types
 fix_set types i v e = ap (λ b. fixed b types i v) e

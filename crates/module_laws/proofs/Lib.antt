@@ -11,3 +11,5 @@ mod Values
 mod Closed
 mod Courses
 mod Settled
+mod Towers
+mod Targets

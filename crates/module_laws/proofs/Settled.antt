@@ -94,7 +94,7 @@ set_by t u x unset s h = absurd (cc)
 set_by t u x untyped s h = absurd (cc)
 set_by t u x (has r) s h = refl
 
-aim_set : (k : Known) (x : List ℕ) (m : Meaning) (u : TypedTarget) (s : Sort) → name_aim k x m ≡ Some (held u s) → is_open k.types m ≡ false
+pub aim_set : (k : Known) (x : List ℕ) (m : Meaning) (u : TypedTarget) (s : Sort) → name_aim k x m ≡ Some (held u s) → is_open k.types m ≡ false
 aim_set k x (meaning.Local i) u s h = set_by (act.LocalTarget i) u x (var_at k.types.locals i) s h
 aim_set k x (meaning.Global i) u s h = set_by (act.GlobalTarget i) u x (var_at k.types.globals i) s h
 aim_set k x _ u s h = refl
@@ -102,7 +102,7 @@ aim_set k x _ u s h = refl
 first_value : (n : ℕ) (t s : Sort) → (is_nothing t ≡ false → is_value_type n t ≡ true) → is_nothing t ≡ false → first_type true (Some t) ≡ has s → is_value_type n s ≡ true
 first_value n t s v q h = subst (λ x. is_value_type n x ≡ true) (sort_of_has t s h) (v q)
 
-not_none : (t : Sort) (x : List ℕ) → (if is_nothing t then Some (needs_annotation x) else None) ≡ None → is_nothing t ≡ false
+pub not_none : (t : Sort) (x : List ℕ) → (if is_nothing t then Some (needs_annotation x) else None) ≡ None → is_nothing t ≡ false
 not_none t x h = by (is_nothing t) h
   where
     by : (b : Bool) → (if b then Some (needs_annotation x) else None) ≡ None → b ≡ false
@@ -233,7 +233,7 @@ module _ (means : List ℕ → Meaning) (signatures : List (Option Signature)) (
       let v : is_value_type size d.0.item ≡ true = item_type means signatures m locals init None k.names g.0.1 d.0.item c d.0.items in
       record {
         valued = subst (λ (z : Known). Valued size z.types) (sym (bound_same here l target (is_some (for_head here k span target e).got) (some_items (course here k e).got) d.0.item (some_is (for_head here k span target e).got p h) (ap some_items b.1 ∙ d.0.items)))
-          (target_valued here size l k refl (valued_here k.types D) target g.0.0 b.0 d.0.item d.0.bound (λ z. v) (λ ts z. Rattle.module_laws.proofs.Values.third _ _ (are_value_types size ts) (subst (λ x. is_value_type size x ≡ true) z v)));
+          (target_valued here size l k refl (valued_here k.types D) target g.0.0 b.0 d.0.item d.0.bound (λ z. v) (λ ts z. Rattle.module_laws.proofs.Values.third (Rattle.std.specs.Prelude.nat_lt 0 (length (listed_sorts ts))) (Rattle.std.specs.Prelude.nat_lt (length (listed_sorts ts)) 17) (are_value_types size ts) (subst (λ x. is_value_type size x ≡ true) z v)));
         closed = target_closed here (is_some (for_head here k span target e).got) l sc target (some_items (course here k e).got);
       }
 

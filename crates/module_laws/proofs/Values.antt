@@ -85,12 +85,12 @@ declared_there l i t h = lt-ltb i (length l) (by l i h)
 
 -- ---- parts that fit
 
-pub fits_known : (classes : List ClassEntry) (s t : Sort) (b : Bool) → fits classes s t ≡ b → (if b then None else Some (s, t)) ≡ None → b ≡ true
-fits_known classes s t true q h = refl
-fits_known classes s t false q h = absurd (cc)
+fits_known : (b : Bool) (p : Sort × Sort) → (if b then None else Some p) ≡ None → b ≡ true
+fits_known true p h = refl
+fits_known false p h = absurd (cc)
 
 pub misfit_none : (classes : List ClassEntry) (s t : Sort) → misfit classes (known t) s ≡ None → fits classes s t ≡ true
-misfit_none classes s t h = fits_known classes s t (fits classes s t) refl h
+misfit_none classes s t h = fits_known (fits classes s t) (s, t) h
 
 module _ (means : List ℕ → Meaning) (signatures : List (Option Signature)) (m : TypedModule) (locals : List Variable) (init : Option ℕ) where
   -- the context, with the classes of the module
@@ -172,7 +172,7 @@ module _ (means : List ℕ → Meaning) (signatures : List (Option Signature)) (
       stands_parts k D e w (sorts_of ts) i.0 (sorts_sought k D es we l a ts q) v g i.1
       (subst (λ z. all_fits m.classes.classes z (sorts_of ts) ≡ true) (ap sorts_of (sym i.2) ∙ sorts_again i.0) (sorts_fit l ts r.parts q i.3 r.misfit)) others wi
 
-  fault_fits : (t s : Sort) → binding_fault m.classes.classes (known t) s ≡ None → fits m.classes.classes s t ≡ true
+  pub fault_fits : (t s : Sort) → binding_fault m.classes.classes (known t) s ≡ None → fits m.classes.classes s t ≡ true
   fault_fits t s h = by (fits m.classes.classes s t) h
     where
       by : (b : Bool) → (if b then None else Some (Rattle.py_messages.specs.Messages.wrong_assignment m.classes.classes s t)) ≡ None → b ≡ true

@@ -67,7 +67,7 @@ typed_variable k all _ t = all
 
 -- what is said of nothing is typed
 pub quiet_got : {A : Type 0} (s : Seen A) → IsLoud s → s.said ≡ [] → (a : A) × (s.got ≡ Some a)
-quiet_got s l h = by s.got refl
+quiet_got {A = A} s l h = by s.got refl
   where
     by : (o : Option A) → s.got ≡ o → (a : A) × (s.got ≡ Some a)
     by None q = absurd (l.says q h)
@@ -118,8 +118,8 @@ variable_set span x e b untyped t h = refl
 variable_set span x e b (has s) t h = refl
 
 named_set : (k : Known) (span : Span) (x : List ℕ) (m : Meaning) (t : TypedExpr) → (named k.types k.names span x m).got ≡ Some t → is_open k.types m ≡ false
-named_set k span x (meaning.Local i) t h = variable_set span x _ _ (var_at k.types.locals i) t h
-named_set k span x (meaning.Global i) t h = variable_set span x _ _ (var_at k.types.globals i) t h
+named_set k span x (meaning.Local i) t h = variable_set span x (Rattle.py_typed.specs.Expressions.Local i) (Rattle.py_typed.specs.Narrowing.is_in k.names i) (var_at k.types.locals i) t h
+named_set k span x (meaning.Global i) t h = variable_set span x (Rattle.py_typed.specs.Expressions.Global i) false (var_at k.types.globals i) t h
 named_set k span x _ t h = refl
 
 module _ (C : Context) where
@@ -415,6 +415,6 @@ module _ (C : Context) where
             let l = where_test C w.at true e in
             let t = block C r loops l body in
             let next = behind_arm C w e (is_closed body) (block_after C l body) in
-            let one = made (λ p. (p.0, suite_of p.1)) (both s t) in
+            let one : Seen (TypedExpr × TypedSuite) = made (λ p. (p.0, suite_of p.1)) (both s t) in
             let rest = branches C r loops next more in
             quiet_arms loops next (quiet_block loops l all body (none_behind s.said t.said (none_before one.said rest.said h))) more (none_behind one.said rest.said h)
