@@ -13,3 +13,5 @@ mod Courses
 mod Settled
 mod Towers
 mod Targets
+mod Bound
+mod Updated
