@@ -15,3 +15,5 @@ mod Towers
 mod Targets
 mod Bound
 mod Updated
+mod Loops
+mod Stand

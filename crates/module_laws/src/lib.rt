@@ -6,4 +6,4 @@
 
 mod laws;
 
-pub use laws::{what_is_not_typed_in_a_block_has_said_why};
+pub use laws::{what_is_not_typed_in_a_block_has_said_why, what_is_typed_in_a_block_is_well_typed};
