@@ -1,6 +1,6 @@
 -- What typing gives for calls stands well typed.
 use Rattle.std.proofs.Common.{◌≡◌, ℕ, zero, suc, Bool, true, false, not, ◌&&◌, ◌||◌, ◌==◌, List, [], ◌∷◌, length, slice_get, Option, Some, None, Ok, Err, refl, ap, sym, ◌∙◌, subst, if◌then◌else◌}
-use Rattle.std.proofs.lemmas.Bool.{and_from, eqb-true}
+use Rattle.std.proofs.lemmas.Bool.{and_from, or_left, eqb-true}
 use Rattle.std.proofs.lemmas.Option.{same_Some}
 use Rattle.std.specs.List.{list_all}
 use Rattle.std.specs.Str.{bytes_eq}
@@ -30,7 +30,7 @@ use Rattle.typing_laws.proofs.Given.{Gives, gives_silent, gives_fails, gives_rul
 use Rattle.typing_laws.proofs.Types.{result_of_value}
 use Rattle.typing_laws.proofs.Stands.{stands_made, value_type, coerced_stands, value_good}
 use Rattle.typing_laws.proofs.Telling.{ok_same}
-use Rattle.typing_laws.proofs.Rows.{type_coerced, free_fits, types_changed, AllStand, RowSound, RowAsked, Sound, row_stands, stand_values, changed_all}
+use Rattle.typing_laws.proofs.Rows.{parts_taken, type_coerced, free_fits, types_changed, AllStand, RowSound, RowAsked, Sound, row_stands, stand_values, changed_all}
 use Rattle.typing_laws.proofs.Nodes.{if_ok, value_sound}
 
 -- a length that is another
@@ -145,7 +145,7 @@ module _ (m : TypedModule) (locals : List Variable) (init : Option ℕ) where
   input_sound w known span (x ∷ es) e g = absurd (cc)
 
   -- an only argument
-  only_is : (es : List TypedExpr) (x : TypedExpr) → the_only es ≡ Some x → es ≡ x ∷ []
+  pub only_is : (es : List TypedExpr) (x : TypedExpr) → the_only es ≡ Some x → es ≡ x ∷ []
   only_is [] x h = absurd (cc)
   only_is (y ∷ []) x h = ap (λ z. z ∷ []) (same_Some y x h)
   only_is (y ∷ z ∷ es) x h = absurd (cc)
@@ -182,7 +182,7 @@ module _ (m : TypedModule) (locals : List Variable) (init : Option ℕ) where
   append_sound w known span a t es e is sa h g = by (the_only es) refl g
     where
       first_taken : (x : TypedExpr) (others : List ℕ) → RowSound m locals init (along (t ∷ [])) 0 known (x ∷ []) → Within known others → fits m.classes.classes (type_of x) t ≡ true → stands m locals init false others x ≡ true
-      first_taken x others a wi f = a.first others wi f
+      first_taken x others a wi f = a.first others wi (or_left (fits m.classes.classes (type_of x) t) (parts_taken m.classes.classes (wants t) (type_of x)) f)
 
       by : (o : Option TypedExpr) → the_only es ≡ o → append_given m.classes.classes w span a t o ≡ Ok e → Sound m locals init w known e
       by None p q = absurd (cc)
@@ -239,7 +239,7 @@ module _ (m : TypedModule) (locals : List Variable) (init : Option ℕ) where
   CalleeKnown (function x i s) = IsSigned m i s
   CalleeKnown f = Unit {0}
 
-  keyless : (P : List TypedExpr → Type 0) (span : Span) (keyed : Bool) (args : Option (List TypedExpr)) → ((es : List TypedExpr) → args ≡ Some es → P es) → Gives (positional span keyed args) P
+  pub keyless : (P : List TypedExpr → Type 0) (span : Span) (keyed : Bool) (args : Option (List TypedExpr)) → ((es : List TypedExpr) → args ≡ Some es → P es) → Gives (positional span keyed args) P
   keyless P span keyed None h = gives_silent P
   keyless P span keyed (Some es) h = gives_judged P span (no_keys keyed es) (λ fs q. by keyed q)
     where

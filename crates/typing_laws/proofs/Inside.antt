@@ -17,7 +17,7 @@ in_right xs ys x e = in_append xs ys x ∙ or_right (is_in xs x) (is_in ys x) e
 pub within_none : (ys : List ℕ) → Within [] ys
 within_none ys x e = absurd (cc)
 
-either : {A B D : Type 0} → A ⊎ B → (A → D) → (B → D) → D
+pub either : {A B D : Type 0} → A ⊎ B → (A → D) → (B → D) → D
 either (inl a) f g = f a
 either (inr b) f g = g b
 
@@ -25,10 +25,10 @@ pub within_append : (xs ys us vs : List ℕ) → Within xs us → Within ys vs �
 within_append xs ys us vs w v x e = either (or_cases (is_in xs x) (is_in ys x) (sym (in_append xs ys x) ∙ e)) (λ p. in_left us vs x (w x p)) (λ p. in_right us vs x (v x p))
 
 -- what a name is found by, a name has
-same_name : (f : ℕ → Bool) (x y : ℕ) → (y == x) ≡ true → f y ≡ f x
+pub same_name : (f : ℕ → Bool) (x y : ℕ) → (y == x) ≡ true → f y ≡ f x
 same_name f x y e = ap f (eqb-true y x e)
 
-clash : {A : Type 0} (b : Bool) → b ≡ true → b ≡ false → A
+pub clash : {A : Type 0} (b : Bool) → b ≡ true → b ≡ false → A
 clash true p q = absurd (cc)
 clash false p q = absurd (cc)
 
@@ -41,7 +41,7 @@ found_in f y xs rest x true true p q next h = (or_left (y == x) (is_in xs x) q, 
 found_in f y xs rest x true false p q next h = let r = next (sym (ap (λ z. z || is_in rest x) q) ∙ h) in (or_right (y == x) (is_in xs x) r.0, r.1)
 found_in f y xs rest x false d p q next h = let r = next h in (or_right (y == x) (is_in xs x) r.0, r.1)
 
-filter_found : (f : ℕ → Bool) (xs : List ℕ) (x : ℕ) → is_in (filter f xs) x ≡ true → (is_in xs x ≡ true) × (f x ≡ true)
+pub filter_found : (f : ℕ → Bool) (xs : List ℕ) (x : ℕ) → is_in (filter f xs) x ≡ true → (is_in xs x ≡ true) × (f x ≡ true)
 filter_found f [] x e = absurd (cc)
 filter_found f (y ∷ xs) x e = found_in f y xs (filter f xs) x (f y) (y == x) refl refl (λ h. filter_found f xs x h) e
 
@@ -51,7 +51,7 @@ finds_in f y xs rest x true false p q g next h = or_right (y == x) (is_in rest x
 finds_in f y xs rest x false true p q g next h = clash (f x) g (sym (same_name f x y q) ∙ p)
 finds_in f y xs rest x false false p q g next h = next (sym (ap (λ z. z || is_in xs x) q) ∙ h)
 
-filter_finds : (f : ℕ → Bool) (xs : List ℕ) (x : ℕ) → is_in xs x ≡ true → f x ≡ true → is_in (filter f xs) x ≡ true
+pub filter_finds : (f : ℕ → Bool) (xs : List ℕ) (x : ℕ) → is_in xs x ≡ true → f x ≡ true → is_in (filter f xs) x ≡ true
 filter_finds f [] x e g = absurd (cc)
 filter_finds f (y ∷ xs) x e g = finds_in f y xs (filter f xs) x (f y) (y == x) refl refl g (λ h. filter_finds f xs x h g) e
 

@@ -1,10 +1,10 @@
-mod Loud
-mod Given
-mod Inside
-mod Types
-mod Stands
-mod Telling
-mod Rows
-mod Nodes
-mod Called
-mod Sound
+pub mod Loud
+pub mod Given
+pub mod Inside
+pub mod Types
+pub mod Stands
+pub mod Telling
+pub mod Rows
+pub mod Nodes
+pub mod Called
+pub mod Sound

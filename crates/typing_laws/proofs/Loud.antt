@@ -32,59 +32,59 @@ use Rattle.typing_laws.specs.Laws.{is_voiceless, is_untyped, AllHaveTypes}
 pub record IsLoud {A : Type 0} (s : Seen A) : Type 0 where
   pub says : s.got ≡ None → s.said ≡ [] → ⊥
 
-loud_is : {A : Type 0} (a : A) → IsLoud (is a)
+pub loud_is : {A : Type 0} (a : A) → IsLoud (is a)
 loud_is a = record { says = λ e f. absurd (cc) }
 
-loud_fails : {A : Type 0} (span : Span) (m : Message) → IsLoud (fails {A = A} span m)
+pub loud_fails : {A : Type 0} (span : Span) (m : Message) → IsLoud (fails {A = A} span m)
 loud_fails span m = record { says = λ e f. absurd (cc) }
 
-none_before : {A : Type 0} (xs ys : List A) → xs ++ ys ≡ [] → xs ≡ []
+pub none_before : {A : Type 0} (xs ys : List A) → xs ++ ys ≡ [] → xs ≡ []
 none_before [] ys e = refl
 none_before (x ∷ xs) ys e = absurd (cc)
 
-none_behind : {A : Type 0} (xs ys : List A) → xs ++ ys ≡ [] → ys ≡ []
+pub none_behind : {A : Type 0} (xs ys : List A) → xs ++ ys ≡ [] → ys ≡ []
 none_behind [] ys e = e
 none_behind (x ∷ xs) ys e = absurd (cc)
 
-both_say : {A B : Type 0} (s : Seen A) (t : Seen B) → IsLoud s → IsLoud t → (a : Option A) (b : Option B) → s.got ≡ a → t.got ≡ b → option_zip a b ≡ None → s.said ++ t.said ≡ [] → ⊥
+pub both_say : {A B : Type 0} (s : Seen A) (t : Seen B) → IsLoud s → IsLoud t → (a : Option A) (b : Option B) → s.got ≡ a → t.got ≡ b → option_zip a b ≡ None → s.said ++ t.said ≡ [] → ⊥
 both_say s t ls lt None b ea eb e f = ls.says ea (none_before s.said t.said f)
 both_say s t ls lt (Some a) None ea eb e f = lt.says eb (none_behind s.said t.said f)
 both_say s t ls lt (Some a) (Some b) ea eb e f = absurd (cc)
 
-loud_both : {A B : Type 0} (s : Seen A) (t : Seen B) → IsLoud s → IsLoud t → IsLoud (both s t)
+pub loud_both : {A B : Type 0} (s : Seen A) (t : Seen B) → IsLoud s → IsLoud t → IsLoud (both s t)
 loud_both s t ls lt = record { says = λ e f. both_say s t ls lt s.got t.got refl refl e f }
 
-made_says : {A B : Type 0} (f : A → B) (s : Seen A) → IsLoud s → (a : Option A) → s.got ≡ a → option_map f a ≡ None → s.said ≡ [] → ⊥
+pub made_says : {A B : Type 0} (f : A → B) (s : Seen A) → IsLoud s → (a : Option A) → s.got ≡ a → option_map f a ≡ None → s.said ≡ [] → ⊥
 made_says f s l None ea e g = l.says ea g
 made_says f s l (Some a) ea e g = absurd (cc)
 
-loud_made : {A B : Type 0} (f : A → B) (s : Seen A) → IsLoud s → IsLoud (made f s)
+pub loud_made : {A B : Type 0} (f : A → B) (s : Seen A) → IsLoud s → IsLoud (made f s)
 loud_made f s l = record { says = λ e g. made_says f s l s.got refl e g }
 
 -- the parts have said why, or what stands behind them does without them
-behind_says : {A B : Type 0} (s : Seen A) (f : Option A → Seen B) → IsLoud s ⊎ IsLoud (f None) → ((a : A) → IsLoud (f (Some a))) → (o : Option A) → s.got ≡ o → (f s.got).got ≡ None → s.said ++ (f s.got).said ≡ [] → ⊥
+pub behind_says : {A B : Type 0} (s : Seen A) (f : Option A → Seen B) → IsLoud s ⊎ IsLoud (f None) → ((a : A) → IsLoud (f (Some a))) → (o : Option A) → s.got ≡ o → (f s.got).got ≡ None → s.said ++ (f s.got).said ≡ [] → ⊥
 behind_says s f (inl l) each None eo e g = l.says eo (none_before s.said (f s.got).said g)
 behind_says s f (inr l) each None eo e g = l.says (sym (ap (λ o. (f o).got) eo) ∙ e) (sym (ap (λ o. (f o).said) eo) ∙ none_behind s.said (f s.got).said g)
 behind_says s f l each (Some a) eo e g = (each a).says (sym (ap (λ o. (f o).got) eo) ∙ e) (sym (ap (λ o. (f o).said) eo) ∙ none_behind s.said (f s.got).said g)
 
-loud_either : {A B : Type 0} (s : Seen A) (f : Option A → Seen B) → IsLoud s ⊎ IsLoud (f None) → ((a : A) → IsLoud (f (Some a))) → IsLoud (behind s f)
+pub loud_either : {A B : Type 0} (s : Seen A) (f : Option A → Seen B) → IsLoud s ⊎ IsLoud (f None) → ((a : A) → IsLoud (f (Some a))) → IsLoud (behind s f)
 loud_either s f l each = record { says = λ e g. behind_says s f l each s.got refl e g }
 
-loud_behind : {A B : Type 0} (s : Seen A) (f : Option A → Seen B) → IsLoud s → ((a : A) → IsLoud (f (Some a))) → IsLoud (behind s f)
+pub loud_behind : {A B : Type 0} (s : Seen A) (f : Option A → Seen B) → IsLoud s → ((a : A) → IsLoud (f (Some a))) → IsLoud (behind s f)
 loud_behind s f l each = loud_either s f (inl l) each
 
-loud_judged : {A : Type 0} (span : Span) (r : Result A Message) → IsLoud (judged span r)
+pub loud_judged : {A : Type 0} (span : Span) (r : Result A Message) → IsLoud (judged span r)
 loud_judged span (Ok a) = loud_is a
 loud_judged span (Err m) = loud_fails span m
 
-loud_rule : {A B : Type 0} (span : Span) (f : A → Result B Message) (s : Seen A) → IsLoud s → IsLoud (rule span f s)
+pub loud_rule : {A B : Type 0} (span : Span) (f : A → Result B Message) (s : Seen A) → IsLoud s → IsLoud (rule span f s)
 loud_rule span f s l = loud_behind s (ruled span f) l (λ a. loud_judged span (f a))
 
-loud_told : {A : Type 0} (span : Span) (ms : List Message) (a : A) → IsLoud (told span ms a)
+pub loud_told : {A : Type 0} (span : Span) (ms : List Message) (a : A) → IsLoud (told span ms a)
 loud_told span [] a = loud_is a
 loud_told span (m ∷ ms) a = record { says = λ e f. absurd (cc) }
 
-loud_row : {A : Type 0} (one : Seen A) (rest : Seen (List A)) → IsLoud one → IsLoud rest → IsLoud (row_then one rest)
+pub loud_row : {A : Type 0} (one : Seen A) (rest : Seen (List A)) → IsLoud one → IsLoud rest → IsLoud (row_then one rest)
 loud_row one rest l r = loud_made (λ p. p.0 ∷ p.1) (both one rest) (loud_both one rest l r)
 
 on_right : {A B D : Type 0} → A ⊎ B → (B → D) → A ⊎ D
@@ -100,7 +100,7 @@ loud_variable span x e known (has t) u = loud_is _
 
 -- ---- calls
 
-loud_positional : (span : Span) (keyed : Bool) (es : List TypedExpr) → IsLoud (positional span keyed (Some es))
+pub loud_positional : (span : Span) (keyed : Bool) (es : List TypedExpr) → IsLoud (positional span keyed (Some es))
 loud_positional span keyed es = loud_judged span (no_keys keyed es)
 
 -- whether what is called says something where all that is typed of the call is
@@ -233,7 +233,7 @@ module _ (C : Context) (V : VarSorts) (all : AllHaveTypes C V) where
     pub loud_typing : (w : Wanted) (known : List ℕ) (x : ExprTree) → IsLoud (typing C V w known x)
     loud_typing w known (at n span) = loud_node w known span n
 
-    loud_node : (w : Wanted) (known : List ℕ) (span : Span) (n : ExprNode) → IsLoud (node_typing C V w known span n)
+    pub loud_node : (w : Wanted) (known : List ℕ) (span : Span) (n : ExprNode) → IsLoud (node_typing C V w known span n)
     loud_node w known span (tree.Int n) = loud_is _
     loud_node w known span (tree.Str n) = loud_is _
     loud_node w known span tree.True = loud_is _
@@ -265,16 +265,16 @@ module _ (C : Context) (V : VarSorts) (all : AllHaveTypes C V) where
     loud_node w known span (tree.Attr e a) = loud_rule span _ (typing C V free known e) (loud_typing free known e)
     loud_node w known span (tree.DictOf es) = loud_fails span _
 
-    loud_items : (row : WantedRow) (i : ℕ) (known : List ℕ) (es : ExprTrees) → IsLoud (items C V row i known es)
+    pub loud_items : (row : WantedRow) (i : ℕ) (known : List ℕ) (es : ExprTrees) → IsLoud (items C V row i known es)
     loud_items row i known no_exprs = loud_is []
     loud_items row i known (expr_then e more) = loud_row (typing C V (wanted_in row i) known e) (items C V row (suc i) known more) (loud_typing (wanted_in row i) known e) (loud_items row (suc i) known more)
 
-    loud_operands : (known : List ℕ) (cs : Comparisons) → IsLoud (operands C V known cs)
+    pub loud_operands : (known : List ℕ) (cs : Comparisons) → IsLoud (operands C V known cs)
     loud_operands known no_comparisons = loud_is []
     loud_operands known (comparison_then o e more) =
         loud_row (made (λ t. (o, t)) (typing C V free known e)) (operands C V known more) (loud_made (λ t. (o, t)) (typing C V free known e) (loud_typing free known e)) (loud_operands known more)
 
-    loud_arguments : (row : WantedRow) (i : ℕ) (known : List ℕ) (args : Arguments) → IsLoud (arguments C V row i known args)
+    pub loud_arguments : (row : WantedRow) (i : ℕ) (known : List ℕ) (args : Arguments) → IsLoud (arguments C V row i known args)
     loud_arguments row i known no_arguments = loud_is []
     loud_arguments row i known (argument_then e more) = loud_row (typing C V (wanted_in row i) known e) (arguments C V row (suc i) known more) (loud_typing (wanted_in row i) known e) (loud_arguments row (suc i) known more)
     loud_arguments row i known (keyed_then k e more) = loud_row (typing C V (wanted_in row i) known e) (arguments C V row (suc i) known more) (loud_typing (wanted_in row i) known e) (loud_arguments row (suc i) known more)

@@ -1,6 +1,6 @@
 -- The rules of typing give what stands well typed, by their parts.
 use Rattle.std.proofs.Common.{◌≡◌, ℕ, Bool, true, false, not, ◌&&◌, ◌||◌, ◌==◌, List, [], ◌∷◌, ◌++◌, length, map, slice_get, is_none, Option, Some, None, Ok, Err, refl, ap, sym, ◌∙◌, subst, if◌then◌else◌, nat_lt}
-use Rattle.std.proofs.lemmas.Bool.{and_from, or_left, or_right}
+use Rattle.std.proofs.lemmas.Bool.{and_from, or_left, or_right, or_cases}
 use Rattle.std.proofs.lemmas.Option.{same_Some}
 use Rattle.std.specs.Option.{option_map}
 use Rattle.py_syntax.specs.declared.token.Span.{Span}
@@ -29,11 +29,11 @@ use Rattle.py_rules.specs.Choices.{joined, word_text, word_node, junction, opera
 use Rattle.py_displays.specs.Displays.{item_sort, items_row, list_of, expected_list, common, joined_list, inferred_list, list_display, parts_row, is_tuple_size, kept_row, tuple_of, is_invalid_tuple, has_bare_none, tuple_display}
 use Rattle.py_displays.specs.Indexing.{Literal, item_at, item_of, with_place, at_place, place_in, part_at, part_made, part_of, is_tuple, indexing}
 use Rattle.typing_laws.specs.WellTyped.{is_asked, Within}
-use Rattle.typing_laws.proofs.Inside.{within_append}
+use Rattle.typing_laws.proofs.Inside.{either, within_append}
 use Rattle.typing_laws.proofs.Types.{clash, result_of_value, value_not_nothing, number_result, join_result, part_value, signed_fits}
 use Rattle.typing_laws.proofs.Stands.{stands_made, value_type, coerced_stands, truth_is_bool, value_good}
 use Rattle.typing_laws.proofs.Telling.{done, ok_same, truth_tells, coerced_tells, within_same, joined_made}
-use Rattle.typing_laws.proofs.Rows.{type_coerced, free_fits, free_unchanged, changed_length, all_fit, AllStand, RowSound, RowAsked, RowValued, Sound, row_stands, changed_all, common_holds, list_stands, tuple_stands, none_bare}
+use Rattle.typing_laws.proofs.Rows.{all_fits, is_sought, sought_type, each_fits, type_coerced, free_fits, free_unchanged, changed_length, all_fit, AllStand, RowSound, RowAsked, RowValued, Sound, row_stands, changed_all, common_holds, list_stands, tuple_stands, none_bare}
 
 -- a test before a result
 pub if_ok : {A : Type 0} (c : Bool) (x b : A) (m : Message) → (if c then Ok x else Err m) ≡ Ok b → (c ≡ true) × (x ≡ b)
@@ -82,7 +82,7 @@ module _ (m : TypedModule) (locals : List Variable) (init : Option ℕ) where
       (and_from (is_same_type (type_of (truth a)) sort.Bool) true (ap (λ x. is_same_type x sort.Bool) (truth_is_bool m locals init a)) refl) refl refl refl)
 
   -- what an operation on numbers gives
-  operation_is : (o : BinOp) (s t : Sort) → is_concat o s t ≡ false → is_numeric o s t ≡ true → (are_numbers s t ≡ true) × (operation_sort o s t ≡ Some (number_join s t))
+  pub operation_is : (o : BinOp) (s t : Sort) → is_concat o s t ≡ false → is_numeric o s t ≡ true → (are_numbers s t ≡ true) × (operation_sort o s t ≡ Some (number_join s t))
   operation_is op.Bar s t p q = absurd (cc)
   operation_is op.Add s t p q =
       (q, ap (λ (b : Bool). if b then Some sort.Str else (if are_numbers s t then Some (number_join s t) else None)) p ∙ ap (λ (b : Bool). if b then Some (number_join s t) else None) q)
@@ -93,7 +93,7 @@ module _ (m : TypedModule) (locals : List Variable) (init : Option ℕ) where
   operation_is op.Shl s t p q = (q, ap (λ (b : Bool). if b && true then Some (number_join s t) else None) q)
   operation_is op.Shr s t p q = (q, ap (λ (b : Bool). if b && true then Some (number_join s t) else None) q)
 
-  concat_texts : (o : BinOp) (s t : Sort) → is_concat o s t ≡ true → are_texts s t ≡ true
+  pub concat_texts : (o : BinOp) (s t : Sort) → is_concat o s t ≡ true → are_texts s t ≡ true
   concat_texts o s t h = and_right (is_sum o) (are_texts s t) h
 
   pub arithmetic_sound : (w : Wanted) (known : List ℕ) (span : Span) (o : BinOp) (p : TypedExpr × TypedExpr) (e : TypedExpr) → Sound m locals init free known p.0 → Sound m locals init free known p.1 → arithmetic m.classes.classes span o p ≡ Ok e → Sound m locals init w known e
@@ -226,20 +226,20 @@ module _ (m : TypedModule) (locals : List Variable) (init : Option ℕ) where
   junction_sound dropped conjoined known names span p e sa sb told h = joined_sound dropped conjoined known names span p.0 p.1 e sa sb told h
 
   -- both arms fit the type of a conditional, which is a type of the table
-  choice_fits : (w : Wanted) (r s u : Sort) → is_asked (length m.classes.classes) w ≡ true → is_result_type (length m.classes.classes) r ≡ true → is_result_type (length m.classes.classes) s ≡ true → choice_type m.classes.classes w r s ≡ Some u
+  choice_fits : (w : Wanted) (r s u : Sort) → is_sought (length m.classes.classes) w ≡ true → is_result_type (length m.classes.classes) r ≡ true → is_result_type (length m.classes.classes) s ≡ true → choice_type m.classes.classes w r s ≡ Some u
       → (fits m.classes.classes r u ≡ true) × (fits m.classes.classes s u ≡ true) × (is_result_type (length m.classes.classes) u ≡ true)
   choice_fits (wants t) r s u a p q h = by (fits m.classes.classes r t && fits m.classes.classes s t) refl h
     where
       by : (b : Bool) → (fits m.classes.classes r t && fits m.classes.classes s t) ≡ b → (if b then Some t else join m.classes.classes r s) ≡ Some u → (fits m.classes.classes r u ≡ true) × (fits m.classes.classes s u ≡ true) × (is_result_type (length m.classes.classes) u ≡ true)
       by true e g =
           subst (λ x. (fits m.classes.classes r x ≡ true) × (fits m.classes.classes s x ≡ true) × (is_result_type (length m.classes.classes) x ≡ true)) (same_Some t u g)
-          (and_left (fits m.classes.classes r t) (fits m.classes.classes s t) e, and_right (fits m.classes.classes r t) (fits m.classes.classes s t) e, a)
+          (and_left (fits m.classes.classes r t) (fits m.classes.classes s t) e, and_right (fits m.classes.classes r t) (fits m.classes.classes s t) e, sought_type (length m.classes.classes) m.classes.classes t r a p (and_left (fits m.classes.classes r t) (fits m.classes.classes s t) e))
       by false e g = let j = join_holds m.classes.classes r s u g in (j.0, j.1, join_result (length m.classes.classes) m.classes.classes r s u p q g)
   choice_fits free r s u a p q h = let j = join_holds m.classes.classes r s u h in (j.0, j.1, join_result (length m.classes.classes) m.classes.classes r s u p q h)
   choice_fits test r s u a p q h = let j = join_holds m.classes.classes r s u h in (j.0, j.1, join_result (length m.classes.classes) m.classes.classes r s u p q h)
   choice_fits dropped r s u a p q h = let j = join_holds m.classes.classes r s u h in (j.0, j.1, join_result (length m.classes.classes) m.classes.classes r s u p q h)
 
-  pub choice_sound : (w : Wanted) (known first_names last_names : List ℕ) (span : Span) (p : (TypedExpr × TypedExpr) × TypedExpr) (e : TypedExpr) → is_asked (length m.classes.classes) w ≡ true → Sound m locals init free (first_names ++ known) p.0.0 → Sound m locals init test known p.0.1 → Sound m locals init free (last_names ++ known) p.1 → Within first_names (telling.facts true p.0.1) → Within last_names (telling.facts false p.0.1) → choice m.classes.classes w span p ≡ Ok e → Sound m locals init w known e
+  pub choice_sound : (w : Wanted) (known first_names last_names : List ℕ) (span : Span) (p : (TypedExpr × TypedExpr) × TypedExpr) (e : TypedExpr) → is_sought (length m.classes.classes) w ≡ true → Sound m locals init free (first_names ++ known) p.0.0 → Sound m locals init test known p.0.1 → Sound m locals init free (last_names ++ known) p.1 → Within first_names (telling.facts true p.0.1) → Within last_names (telling.facts false p.0.1) → choice m.classes.classes w span p ≡ Ok e → Sound m locals init w known e
   choice_sound w known first_names last_names span p e asked sa st sb told_yes told_no h =
       let r = joined_made m.classes.classes _ (λ a b. node.Cond a (truth p.0.1) b) span p.0.0 p.1 e (choice_type m.classes.classes w (type_of p.0.0) (type_of p.1)) h in
       subst (Sound m locals init w known) r.2 (value_sound w known (typed (node.Cond (coerced r.0 p.0.0) (truth p.0.1) (coerced r.0 p.1)) r.0 span) (λ others wi.
@@ -287,7 +287,7 @@ module _ (m : TypedModule) (locals : List Variable) (init : Option ℕ) where
       let u = option_none (unfit m.classes.classes (each t) 0 es) (Rattle.py_displays.specs.Displays.item_fault m.classes.classes) r.0 in
       subst (Sound m locals init w known) r.1 (value_sound w known (list_of span t es) (λ others wi. list_stands m locals init others t span es v (row_stands m locals init (each t) 0 known others es h wi u) u))
 
-  pub list_sound : IsClassTree m.classes.classes → (w : Wanted) (known : List ℕ) (span : Span) (es : List TypedExpr) (e : TypedExpr) → is_asked (length m.classes.classes) w ≡ true → RowSound m locals init (items_row (item_sort w)) 0 known es → list_display m.classes.classes (item_sort w) span es ≡ Ok e → Sound m locals init w known e
+  pub list_sound : IsClassTree m.classes.classes → (w : Wanted) (known : List ℕ) (span : Span) (es : List TypedExpr) (e : TypedExpr) → is_sought (length m.classes.classes) w ≡ true → RowSound m locals init (items_row (item_sort w)) 0 known es → list_display m.classes.classes (item_sort w) span es ≡ Ok e → Sound m locals init w known e
   list_sound tree (wants (sort.ListOf t)) known span es e asked h g = expected_sound (wants (sort.ListOf t)) known span t es e asked h g
   list_sound tree w known span es e asked h g = inferred_sound tree w known span es e h g
 
@@ -344,17 +344,16 @@ module _ (m : TypedModule) (locals : List Variable) (init : Option ℕ) where
       by (Some f) u r =
           let k : kept_row m.classes.classes (along (listed_sorts ts)) es ≡ along [] = ap (λ o. if is_none o then along (listed_sorts ts) else along []) u in
           subst (Sound m locals init (wants (sort.TupleOf ts)) known) (ap (λ (row : WantedRow). tuple_of span (changed_row row 0 es)) (sym k) ∙ r.2)
-          (λ others wi taken. absurd (some_not_none f (sym u ∙ all_fit m.classes.classes (listed_sorts ts) 0 es ts refl (sym (ap (λ l. all_same m.classes.classes (sorts_of (map type_of l)) ts) (free_unchanged 0 es)) ∙ taken))))
+          (λ others wi taken. absurd (some_not_none f (sym u ∙ either
+          (or_cases (all_same m.classes.classes (sorts_of (map type_of (changed_row (along []) 0 es))) ts) (all_fits m.classes.classes (sorts_of (map type_of (changed_row (along []) 0 es))) ts) taken)
+          (λ h. all_fit m.classes.classes (listed_sorts ts) 0 es ts refl (sym (ap (λ l. all_same m.classes.classes (sorts_of (map type_of l)) ts) (free_unchanged 0 es)) ∙ h))
+          (λ h. each_fits m.classes.classes (listed_sorts ts) 0 es ts refl (sym (ap (λ l. all_fits m.classes.classes (sorts_of (map type_of l)) ts) (free_unchanged 0 es)) ∙ h)))))
 
-  pub tuple_sound : (w : Wanted) (known : List ℕ) (span : Span) (count : ℕ) (es : List TypedExpr) (e : TypedExpr) → is_asked (length m.classes.classes) w ≡ true → RowSound m locals init (parts_row w count) 0 known es → tuple_display m.classes.classes (parts_row w count) span es ≡ Ok e → Sound m locals init w known e
+  pub tuple_sound : (w : Wanted) (known : List ℕ) (span : Span) (count : ℕ) (es : List TypedExpr) (e : TypedExpr) → is_sought (length m.classes.classes) w ≡ true → RowSound m locals init (parts_row w count) 0 known es → tuple_display m.classes.classes (parts_row w count) span es ≡ Ok e → Sound m locals init w known e
   tuple_sound (wants (sort.TupleOf ts)) known span count es e asked h g = by (length (listed_sorts ts) == count) h g
     where
-      value_parts : (a b c : Bool) → (a && b && c) ≡ true → c ≡ true
-      value_parts true true true q = refl
-      value_parts _ _ _ q = absurd (cc)
-
       by : (b : Bool) → RowSound m locals init (if b then along (listed_sorts ts) else along []) 0 known es → tuple_display m.classes.classes (if b then along (listed_sorts ts) else along []) span es ≡ Ok e → Sound m locals init (wants (sort.TupleOf ts)) known e
-      by true k q = expected_tuple known span ts es e (value_parts (nat_lt 0 (length (listed_sorts ts))) (nat_lt (length (listed_sorts ts)) 17) (are_value_types (length m.classes.classes) ts) asked) k q
+      by true k q = expected_tuple known span ts es e asked k q
       by false k q = free_tuple (wants (sort.TupleOf ts)) known span es e k q
   tuple_sound w known span count es e asked h g = free_tuple w known span es e h g
 

@@ -1,6 +1,6 @@
 -- Typed expressions in a row: all of them are values, and so they are once they are changed to what is asked for.
 use Rattle.std.proofs.Common.{◌≡◌, ℕ, suc, Bool, true, false, not, ◌&&◌, ◌||◌, List, [], ◌∷◌, length, map, drop, slice_get, Option, Some, None, refl, ap, sym, ◌∙◌, subst, if◌then◌else◌, nat_lt}
-use Rattle.std.proofs.lemmas.Bool.{and_from, or_parts}
+use Rattle.std.proofs.lemmas.Bool.{and_from, or_parts, or_left}
 use Rattle.std.proofs.lemmas.Option.{same_Some}
 use Rattle.std.specs.List.{list_any}
 use Rattle.py_syntax.specs.declared.token.Span.{Span}
@@ -81,6 +81,63 @@ all_fit classes ss i (e ∷ es) (sort_then t ts) d h =
     (fit_of_taken classes i (wants_some (slice_get ss i)) e (ap (λ o. is_taken classes (wants_some o) (type_of e)) r.0 ∙ same_fits classes (type_of e) t (and_left (same classes (type_of e) t) (all_same classes (sorts_of (map type_of es)) ts) h)))
     (all_fit classes ss (suc i) es ts r.1 (and_right (same classes (type_of e) t) (all_same classes (sorts_of (map type_of es)) ts) h))
 
+-- ---- what is taken, and asked for, part by part
+
+-- each part of the first row fits its own of the second
+abbrev pub all_fits : List ClassEntry → Sorts → Sorts → Bool
+all_fits classes no_sorts no_sorts = true
+all_fits classes (sort_then s ss) (sort_then t ts) = fits classes s t && all_fits classes ss ts
+all_fits classes ss ts = false
+
+-- several targets take a tuple whose parts fit, though the tuple as it stands is of another type
+abbrev pub parts_taken : List ClassEntry → Wanted → Sort → Bool
+parts_taken classes (wants (sort.TupleOf ts)) (sort.TupleOf ss) = all_fits classes ss ts
+parts_taken classes w s = false
+
+abbrev pub is_held : List ClassEntry → Wanted → Sort → Bool
+is_held classes w s = is_taken classes w s || parts_taken classes w s
+
+-- and they may be more than a tuple has parts
+abbrev pub is_sought : ℕ → Wanted → Bool
+is_sought n (wants (sort.TupleOf ts)) = are_value_types n ts
+is_sought n w = is_asked n w
+
+of_three : (a b c : Bool) → (a && b && c) ≡ true → (a ≡ true) × (b ≡ true) × (c ≡ true)
+of_three true true true h = (refl, refl, refl)
+of_three _ _ _ h = absurd (cc)
+
+pub sought_of_asked : (n : ℕ) (w : Wanted) → is_asked n w ≡ true → is_sought n w ≡ true
+sought_of_asked n (wants (sort.TupleOf ts)) h = (of_three (nat_lt 0 (length (listed_sorts ts))) (nat_lt (length (listed_sorts ts)) 17) (are_value_types n ts) h).2
+sought_of_asked n w h = h
+
+same_size : (classes : List ClassEntry) (ss ts : Sorts) → all_same classes ss ts ≡ true → length (listed_sorts ss) ≡ length (listed_sorts ts)
+same_size classes no_sorts no_sorts h = refl
+same_size classes (sort_then s ss) (sort_then t ts) h = ap suc (same_size classes ss ts (and_right (same classes s t) (all_same classes ss ts) h))
+same_size classes no_sorts (sort_then t ts) h = absurd (cc)
+same_size classes (sort_then s ss) no_sorts h = absurd (cc)
+
+all_hold : (a b c : Bool) → a ≡ true → b ≡ true → c ≡ true → (a && b && c) ≡ true
+all_hold a b c p q r = cc
+
+-- a type that a value of the table fits is one
+pub sought_type : (n : ℕ) (classes : List ClassEntry) (t r : Sort) → is_sought n (wants t) ≡ true → is_result_type n r ≡ true → fits classes r t ≡ true → is_result_type n t ≡ true
+sought_type n classes (sort.TupleOf ts) (sort.TupleOf rs) h p f =
+    let size = same_size classes rs ts f in
+    let r = of_three (nat_lt 0 (length (listed_sorts rs))) (nat_lt (length (listed_sorts rs)) 17) (are_value_types n rs) p in
+    all_hold (nat_lt 0 (length (listed_sorts ts))) (nat_lt (length (listed_sorts ts)) 17) (are_value_types n ts) (ap (λ k. nat_lt 0 k) (sym size) ∙ r.0) (ap (λ k. nat_lt k 17) (sym size) ∙ r.1) h
+sought_type n classes (sort.TupleOf ts) _ h p f = absurd (cc)
+sought_type n classes t r h p f = h
+
+-- a tuple whose parts fit fits part by part
+pub each_fits : (classes : List ClassEntry) (ss : List Sort) (i : ℕ) (es : List TypedExpr) (ts : Sorts) → drop i ss ≡ listed_sorts ts → all_fits classes (sorts_of (map type_of es)) ts ≡ true → unfit classes (along ss) i es ≡ None
+each_fits classes ss i [] ts d h = refl
+each_fits classes ss i (e ∷ es) no_sorts d h = absurd (cc)
+each_fits classes ss i (e ∷ es) (sort_then t ts) d h =
+    let r = drop_get ss i t (listed_sorts ts) d in
+    unfit_none classes (along ss) i e es
+    (fit_of_taken classes i (wants_some (slice_get ss i)) e (ap (λ o. is_taken classes (wants_some o) (type_of e)) r.0 ∙ and_left (fits classes (type_of e) t) (all_fits classes (sorts_of (map type_of es)) ts) h))
+    (each_fits classes ss (suc i) es ts r.1 (and_right (fits classes (type_of e) t) (all_fits classes (sorts_of (map type_of es)) ts) h))
+
 -- ---- types of rows
 
 module _ (m : TypedModule) (locals : List Variable) (init : Option ℕ) where
@@ -138,7 +195,7 @@ module _ (m : TypedModule) (locals : List Variable) (init : Option ℕ) where
   -- ---- sound rows: what typing gives for them
 
   abbrev pub Sound : Wanted → List ℕ → TypedExpr → Type 0
-  Sound w known t = (others : List ℕ) → Within known others → is_taken m.classes.classes w (type_of t) ≡ true → is_good m locals init w others t ≡ true
+  Sound w known t = (others : List ℕ) → Within known others → is_held m.classes.classes w (type_of t) ≡ true → is_good m locals init w others t ≡ true
 
   pub record RowHas (w : Wanted) (known : List ℕ) (e : TypedExpr) (Rest : Type 0) : Type 0 where
     pub first : Sound w known e
@@ -160,7 +217,7 @@ module _ (m : TypedModule) (locals : List Variable) (init : Option ℕ) where
   row_stands row i known others [] h w u = tt
   row_stands row i known others (e ∷ es) h w u =
       let r = unfit_here m.classes.classes row i e es u in
-      record { first = good_in_row row i others e (h.first others w (taken_of_fit m.classes.classes i (wanted_in row i) e r.0)); rest = row_stands row (suc i) known others es h.rest w r.1 }
+      record { first = good_in_row row i others e (h.first others w (or_left (is_taken m.classes.classes (wanted_in row i) (type_of e)) (parts_taken m.classes.classes (wanted_in row i) (type_of e)) (taken_of_fit m.classes.classes i (wanted_in row i) e r.0))); rest = row_stands row (suc i) known others es h.rest w r.1 }
 
   -- ---- lists
 

@@ -1,6 +1,6 @@
 -- What is typed is well typed, of each kind of expression.
 use Rattle.std.proofs.Common.{◌≡◌, ℕ, zero, suc, Bool, true, false, not, ◌&&◌, ◌==◌, nat_lt, List, [], ◌∷◌, ◌++◌, length, slice_get, Option, Some, None, Ok, Err, refl, ap, ◌∙◌, subst, if◌then◌else◌, arith}
-use Rattle.std.proofs.lemmas.Bool.{and_from}
+use Rattle.std.proofs.lemmas.Bool.{and_from, or_left}
 use Rattle.py_syntax.specs.declared.token.Span.{Span}
 use Rattle.py_syntax.specs.declared.expression.CmpOp.{CmpOp}
 use Rattle.py_syntax.specs.Expressions as tree
@@ -42,7 +42,7 @@ use Rattle.typing_laws.proofs.Given.{Gives, gives_is, gives_silent, gives_fails,
 use Rattle.typing_laws.proofs.Types.{result_of_value, reads_value}
 use Rattle.typing_laws.proofs.Stands.{stands_made, value_type}
 use Rattle.typing_laws.proofs.Telling.{told_typing}
-use Rattle.typing_laws.proofs.Rows.{RowSound, RowAsked, Sound}
+use Rattle.typing_laws.proofs.Rows.{parts_taken, is_sought, sought_of_asked, RowSound, RowAsked, Sound}
 use Rattle.typing_laws.proofs.Nodes.{value_sound, reads_fit, negation_sound, affirmation_sound, inversion_sound, arithmetic_sound, ChainSound, chain_sound, junction_sound, choice_sound, list_sound, tuple_sound, along_asked, indexing_sound}
 use Rattle.typing_laws.proofs.Called.{CalleeKnown, called_sound, row_asked}
 
@@ -160,7 +160,7 @@ module _ (means : List ℕ → Meaning) (signatures : List (Option Signature)) (
         by true q = cc
         by false q = cc
 
-    operand_asked : (w : Wanted) → is_asked (length m.classes.classes) (operand w) ≡ true
+    operand_asked : (w : Wanted) → is_sought (length m.classes.classes) (operand w) ≡ true
     operand_asked free = refl
     operand_asked test = refl
     operand_asked (wants t) = refl
@@ -175,15 +175,15 @@ module _ (means : List ℕ → Meaning) (signatures : List (Option Signature)) (
 
     -- ---- rows
 
-    items_asked : (w : Wanted) → is_asked (length m.classes.classes) w ≡ true → RowAsked m locals init (items_row (item_sort w))
+    items_asked : (w : Wanted) → is_sought (length m.classes.classes) w ≡ true → RowAsked m locals init (items_row (item_sort w))
     items_asked (wants (sort.ListOf t)) h i = result_of_value (length m.classes.classes) t h
     items_asked w h i = refl
 
-    parts_asked : (w : Wanted) (n : ℕ) → is_asked (length m.classes.classes) w ≡ true → RowAsked m locals init (parts_row w n)
+    parts_asked : (w : Wanted) (n : ℕ) → is_sought (length m.classes.classes) w ≡ true → RowAsked m locals init (parts_row w n)
     parts_asked (wants (sort.TupleOf ts)) n h = by (length (listed_sorts ts) == n)
       where
         by : (b : Bool) → RowAsked m locals init (if b then along (listed_sorts ts) else along [])
-        by true = along_asked m locals init ts (three_parts (nat_lt 0 (length (listed_sorts ts))) (nat_lt (length (listed_sorts ts)) 17) (are_value_types (length m.classes.classes) ts) h).2
+        by true = along_asked m locals init ts h
         by false = λ i. refl
     parts_asked w n h = λ i. refl
 
@@ -202,10 +202,10 @@ module _ (means : List ℕ → Meaning) (signatures : List (Option Signature)) (
     Told e t = (b : Bool) → Within (facts here b e) (telling.facts b t)
 
     mutual
-      pub sound_typing : (w : Wanted) (known : List ℕ) (x : ExprTree) → is_written x ≡ true → is_asked (length m.classes.classes) w ≡ true → Gives (typing here V w known x) (S w known)
+      pub sound_typing : (w : Wanted) (known : List ℕ) (x : ExprTree) → is_written x ≡ true → is_sought (length m.classes.classes) w ≡ true → Gives (typing here V w known x) (S w known)
       sound_typing w known (at n span) h a = sound_node w known span n h a
 
-      sound_node : (w : Wanted) (known : List ℕ) (span : Span) (n : ExprNode) → is_written_node n ≡ true → is_asked (length m.classes.classes) w ≡ true → Gives (node_typing here V w known span n) (S w known)
+      sound_node : (w : Wanted) (known : List ℕ) (span : Span) (n : ExprNode) → is_written_node n ≡ true → is_sought (length m.classes.classes) w ≡ true → Gives (node_typing here V w known span n) (S w known)
       sound_node w known span (tree.Int n) h a =
           gives_is (S w known) (typed (node.Int n) sort.Int span) (value_sound m locals init w known (typed (node.Int n) sort.Int span) (λ others wi. stands_made m locals init false others (node.Int n) sort.Int span refl (and_from (is_literal n) true h refl) refl refl refl))
       sound_node w known span (tree.Str text) h a =
@@ -280,7 +280,7 @@ module _ (means : List ℕ → Meaning) (signatures : List (Option Signature)) (
       sound_items row i known no_exprs h asked = gives_is (RowSound m locals init row i known) [] tt
       sound_items row i known (expr_then e more) h asked =
           gives_row (S (wanted_in row i) known) (RowSound m locals init row (suc i) known) (RowSound m locals init row i known) (typing here V (wanted_in row i) known e) (items here V row (suc i) known more)
-          (sound_typing (wanted_in row i) known e (and_left (is_written e) (are_written more) h) (asked i)) (sound_items row (suc i) known more (and_right (is_written e) (are_written more) h) asked) (λ t ts s r. record { first = s; rest = r })
+          (sound_typing (wanted_in row i) known e (and_left (is_written e) (are_written more) h) (sought_of_asked (length m.classes.classes) (wanted_in row i) (asked i))) (sound_items row (suc i) known more (and_right (is_written e) (are_written more) h) asked) (λ t ts s r. record { first = s; rest = r })
 
       sound_operands : (known : List ℕ) (cs : Comparisons) → are_operands cs ≡ true → Gives (operands here V known cs) (ChainSound m locals init known)
       sound_operands known no_comparisons h = gives_is (ChainSound m locals init known) [] tt
@@ -289,14 +289,14 @@ module _ (means : List ℕ → Meaning) (signatures : List (Option Signature)) (
           (gives_made (S free known) (λ (p : CmpOp × TypedExpr). S free known p.1) (λ t. (o, t)) (typing here V free known e) (sound_typing free known e (and_left (is_written e) (are_operands more) h) refl) (λ t s. s))
           (sound_operands known more (and_right (is_written e) (are_operands more) h)) (λ p ps s r. record { first = s; rest = r })
 
-      sound_arguments : (row : WantedRow) (i : ℕ) (known : List ℕ) (args : Arguments) → are_arguments args ≡ true → RowAsked m locals init row → Gives (arguments here V row i known args) (RowSound m locals init row i known)
+      pub sound_arguments : (row : WantedRow) (i : ℕ) (known : List ℕ) (args : Arguments) → are_arguments args ≡ true → RowAsked m locals init row → Gives (arguments here V row i known args) (RowSound m locals init row i known)
       sound_arguments row i known no_arguments h asked = gives_is (RowSound m locals init row i known) [] tt
       sound_arguments row i known (argument_then e more) h asked =
           gives_row (S (wanted_in row i) known) (RowSound m locals init row (suc i) known) (RowSound m locals init row i known) (typing here V (wanted_in row i) known e) (arguments here V row (suc i) known more)
-          (sound_typing (wanted_in row i) known e (and_left (is_written e) (are_arguments more) h) (asked i)) (sound_arguments row (suc i) known more (and_right (is_written e) (are_arguments more) h) asked) (λ t ts s r. record { first = s; rest = r })
+          (sound_typing (wanted_in row i) known e (and_left (is_written e) (are_arguments more) h) (sought_of_asked (length m.classes.classes) (wanted_in row i) (asked i))) (sound_arguments row (suc i) known more (and_right (is_written e) (are_arguments more) h) asked) (λ t ts s r. record { first = s; rest = r })
       sound_arguments row i known (keyed_then k e more) h asked =
           gives_row (S (wanted_in row i) known) (RowSound m locals init row (suc i) known) (RowSound m locals init row i known) (typing here V (wanted_in row i) known e) (arguments here V row (suc i) known more)
-          (sound_typing (wanted_in row i) known e (and_left (is_written e) (are_arguments more) h) (asked i)) (sound_arguments row (suc i) known more (and_right (is_written e) (are_arguments more) h) asked) (λ t ts s r. record { first = s; rest = r })
+          (sound_typing (wanted_in row i) known e (and_left (is_written e) (are_arguments more) h) (sought_of_asked (length m.classes.classes) (wanted_in row i) (asked i))) (sound_arguments row (suc i) known more (and_right (is_written e) (are_arguments more) h) asked) (λ t ts s r. record { first = s; rest = r })
 
       sound_part : (known : List ℕ) (f : ExprTree) → is_written f ≡ true → Gives (part here V known f) (S free known)
       sound_part known (at (tree.Name x) span) h = name_part known span x (means x)
@@ -312,4 +312,4 @@ pub sound : (C : Context) (V : VarSorts) (m : TypedModule) (locals : List Variab
 sound C V m locals init D w known x h a t e =
     subst (λ k. Describes (at_classes C k) V m locals → is_written x ≡ true → is_asked (length k) w ≡ true → (typing (at_classes C k) V w known x).got ≡ Some t
     → (others : List ℕ) → Within known others → is_taken k w (type_of t) ≡ true → is_good m locals init w others t ≡ true) D.classes
-    (λ d written asked got others wi taken. (sound_typing C.meaning C.signatures V m locals init d w known x written asked).each t got others wi taken) D h a e
+    (λ d written asked got others wi taken. (sound_typing C.meaning C.signatures V m locals init d w known x written (sought_of_asked (length m.classes.classes) w asked)).each t got others wi (or_left (is_taken m.classes.classes w (type_of t)) (parts_taken m.classes.classes w (type_of t)) taken)) D h a e

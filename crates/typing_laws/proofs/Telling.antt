@@ -78,7 +78,7 @@ joined_made classes word make span a b e None h = absurd (cc)
 joined_made classes word make span a b e (Some t) h = (t, refl, ok_same (typed (make (coerced t a) (coerced t b)) t span) e h)
 
 -- what is true of both forms is true of what is made
-junction_is : (P : TypedExpr → Type 0) (classes : List ClassEntry) (w : Wanted) (conjoined : Bool) (span : Span) (p : TypedExpr × TypedExpr) (e : TypedExpr) → P (typed (word_node conjoined (truth p.0) (truth p.1)) sort.Bool span) → ((t : Sort) → P (typed (word_node conjoined (coerced t p.0) (coerced t p.1)) t span)) → junction classes w conjoined span p ≡ Ok e → P e
+pub junction_is : (P : TypedExpr → Type 0) (classes : List ClassEntry) (w : Wanted) (conjoined : Bool) (span : Span) (p : TypedExpr × TypedExpr) (e : TypedExpr) → P (typed (word_node conjoined (truth p.0) (truth p.1)) sort.Bool span) → ((t : Sort) → P (typed (word_node conjoined (coerced t p.0) (coerced t p.1)) t span)) → junction classes w conjoined span p ≡ Ok e → P e
 junction_is P classes w conjoined span p e tested each h = by (is_test w) h
   where
     by : (d : Bool) → (if d then done (typed (word_node conjoined (truth p.0) (truth p.1)) sort.Bool span) else joined classes (word_text conjoined) (word_node conjoined) span p.0 p.1 (join classes (type_of p.0) (type_of p.1))) ≡ Ok e → P e
