@@ -3,6 +3,8 @@ use Rattle.std.specs.Prelude.{List, map}
 use Rattle.std.specs.Option.{option_map}
 use Rattle.std.specs.declared.boxed.Box.{Box}
 use Rattle.std.specs.declared.alloc.Global.{Global}
+use Rattle.py_typed.specs.declared.types.Ty.{Ty}
+use Rattle.py_typed.specs.Sorts.{Sort, sort}
 use Rattle.py_typed.specs.Statements.{TypedTarget, typed_target}
 use Rattle.py_rules.specs.Boxes.{boxed}
 use Rattle.py_loops.specs.declared.course.Course as declared
@@ -19,3 +21,6 @@ head_seen h = (map typed_target h.targets, course_seen h.course)
 
 abbrev pub boxed_head : Box Head Global → List TypedTarget × Course
 boxed_head h = head_seen h.value
+
+abbrev pub boxed_sort : Box Ty Global → Sort
+boxed_sort t = sort t.value

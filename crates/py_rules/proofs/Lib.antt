@@ -3,3 +3,4 @@ pub mod NameLemmas
 pub mod FactLemmas
 pub mod RowLemmas
 pub mod ChainLemmas
+pub mod OperatorLemmas

@@ -61,3 +61,9 @@ arithmetic classes span o p =
     if is_concat o (type_of p.0) (type_of p.1) then Ok (typed (node.Concat p.0 p.1) sort.Str span)
     else (if is_numeric o (type_of p.0) (type_of p.1) then Ok (typed (node.Arith o p.0 p.1) (number_join (type_of p.0) (type_of p.1)) span)
     else Err (unsupported_operands classes (op_text o) (type_of p.0) (type_of p.1)))
+
+-- its type, from those of a and b
+abbrev pub arithmetic_type : List ClassEntry → BinOp → Sort → Sort → Result Sort Message
+arithmetic_type classes o s t =
+    if is_concat o s t then Ok sort.Str
+    else (if is_numeric o s t then Ok (number_join s t) else Err (unsupported_operands classes (op_text o) s t))

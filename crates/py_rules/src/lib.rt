@@ -18,6 +18,6 @@ pub use chains::chain;
 pub use choices::{choice, junction, operand};
 pub use names::named;
 pub use narrowing::{facts, shared, with_facts};
-pub use operators::{affirmation, arithmetic, inversion, negation};
+pub use operators::{affirmation, arithmetic, arithmetic_type, inversion, negation};
 pub use rows::{Misfit, changed_row, unfit, with_item, with_operand};
 pub use values::{changed, coerced, kept, truth};

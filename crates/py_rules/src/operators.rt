@@ -4,7 +4,7 @@ ghost use Rattle.std.specs.Option.{option_map, option_zip};
 ghost use Rattle.py_typed.specs.Sorts.{sort};
 ghost use Rattle.py_typed.specs.Classes.{class_entry};
 ghost use Rattle.py_typed.specs.WellTypedExpr as typing;
-ghost use Rattle.py_messages.specs.Seen.{Tells, ruled};
+ghost use Rattle.py_messages.specs.Seen.{Tells, judged, ruled};
 ghost use Rattle.py_rules.specs.Boxes.{boxed};
 ghost use Rattle.py_rules.specs.Operators as rule_of;
 
@@ -104,6 +104,28 @@ pub fn arithmetic(
         return Ok(Some(e));
     }
     unsupported_operands(alloc, classes, span, op_text(op), &a.ty, &b.ty, faults)?;
+    Ok(None)
+}
+
+/// The type of `a op b`, from those of a and b.
+pub fn arithmetic_type(
+    alloc: Global,
+    classes: &Classes,
+    span: Span,
+    op: BinOp,
+    s: &Ty,
+    t: &Ty,
+    faults: &mut Many<Diag>,
+) -> Result<Option<Ty>, Memory>
+    ensures { IfOk result (λ r. Tells sort r faults.old faults.new (judged span (rule_of.arithmetic_type (map class_entry classes.now.list) op (sort s.now) (sort t.now)))) }
+{
+    if is_concat(op, s, t) {
+        return Ok(Some(Ty::Str));
+    }
+    if is_numeric(op, s, t) {
+        return Ok(Some(number_join(s, t)));
+    }
+    unsupported_operands(alloc, classes, span, op_text(op), s, t, faults)?;
     Ok(None)
 }
 
