@@ -43,9 +43,9 @@ within_kept xs ys w x e = filter_finds (λ y. not (is_in [] y)) ys x (w x e) ref
 abbrev bound_names : Bool → ℕ → List ℕ → List ℕ
 bound_names loose i names = if loose then without (i ∷ []) names else i ∷ names
 
-bound_by_test : (plain loose : Bool) (i : ℕ) (names others : List ℕ) → Within names others → (plain ≡ true → loose ≡ false) → Within (if plain then i ∷ names else without (i ∷ []) names) (bound_names loose i others)
+bound_by_test : (plain loose : Bool) (i : ℕ) (names others : List ℕ) → Within names others → (plain ≡ true → loose ≡ false) → Within (if plain then i ∷ without (i ∷ []) names else without (i ∷ []) names) (bound_names loose i others)
 bound_by_test true true i names others w h = clash true (refl) (h refl)
-bound_by_test true false i names others w h = within_cons i names others w
+bound_by_test true false i names others w h = within_cons i (without (i ∷ []) names) others (within_less (i ∷ []) names others w)
 bound_by_test false true i names others w h = within_without (i ∷ []) (i ∷ []) names others (within_itself (i ∷ [])) w
 bound_by_test false false i names others w h = within_more i (without (i ∷ []) names) others (within_less (i ∷ []) names others w)
 

@@ -46,8 +46,9 @@ abbrev pub is_plain : Option Sort → Bool
 is_plain None = true
 is_plain (Some t) = not (may_be_none t)
 
+-- what was known of the name is forgotten, and known again is that it is not None, where its value never is
 abbrev pub rebound : ℕ → Option Sort → List ℕ → List ℕ
-rebound i t names = if is_plain t then i ∷ names else without (i ∷ []) names
+rebound i t names = if is_plain t then i ∷ without (i ∷ []) names else without (i ∷ []) names
 
 -- to a value of this type, if it has one
 abbrev pub bind_variable : Bool → Known → Meaning → Option Sort → Known

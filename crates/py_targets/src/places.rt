@@ -202,11 +202,12 @@ fn rebound(alloc: Global, i: usize, t: Option<&Ty>, names: &[usize]) -> Result<V
 {
     let mut one = Vec::new(alloc);
     one.push(i)?;
+    let others = without(alloc, one.as_slice(), names)?;
     if is_plain(t) {
-        one.extend_from_slice(names)?;
+        one.extend_from_slice(others.as_slice())?;
         return Ok(one);
     }
-    without(alloc, one.as_slice(), names)
+    Ok(others)
 }
 
 /// The names that are not among these.
