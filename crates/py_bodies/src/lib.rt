@@ -6,6 +6,7 @@
 
 mod blocks;
 mod bodies;
+mod parts;
 mod statements;
 
 pub use blocks::block;
