@@ -1,1 +1,4 @@
+pub mod BodyLemmas
+pub mod PartLemmas
+pub mod SizeLemmas
 mod Samples

@@ -39,6 +39,11 @@ is_definition s = false
 abbrev pub behind_loop : List ℕ → Known → Known
 behind_loop names end = with_names end names
 
+-- only a loop is left and begun again
+abbrev pub in_loop : Bool → Span → List ℕ → TypedAct → Seen TypedAct
+in_loop true span word a = is a
+in_loop false span word a = fails span (outside_loop word)
+
 module _ (c : Context) where
   -- ---- tests and loops
 
@@ -47,9 +52,11 @@ module _ (c : Context) where
   condition k e = made truth (typed_at c k test e)
 
   -- behind a `while` its test is false, unless the loop was left before
+  abbrev pub left_while : Known → ExprTree → Suite → List ℕ
+  left_while entered e body = if breaks_suite body then entered.names else (where_test c entered false e).names
+
   abbrev pub behind_while : Known → ExprTree → Suite → Known → Known
-  behind_while entered e body end =
-      behind_loop (if breaks_suite body then entered.names else (where_test c entered false e).names) end
+  behind_while entered e body end = behind_loop (left_while entered e body) end
 
   abbrev mutual
     -- WHAT IS KNOWN behind a statement
@@ -89,11 +96,6 @@ module _ (c : Context) (ret : ReturnSort) where
   returns k span None = made (λ u. act.Return None) (bare_return span ret)
   returns k span (Some e) =
       made (λ v. act.Return (Some v)) (behind (typed_at c k (return_wanted ret) e) (λ p. with_part p (value_return c.classes span ret)))
-
-  -- only a loop is left and begun again
-  abbrev pub in_loop : Bool → Span → List ℕ → TypedAct → Seen TypedAct
-  in_loop true span word a = is a
-  in_loop false span word a = fails span (outside_loop word)
 
   abbrev mutual
     -- A TYPED STATEMENT, in a loop or not
@@ -135,3 +137,7 @@ module _ (c : Context) (ret : ReturnSort) where
     branches loops w (arm_then e body more) =
         row_then (made (λ p. (p.0, suite_of p.1)) (both (condition c w.at e) (block loops (where_test c w.at true e) body)))
         (branches loops (behind_arm c w e (is_closed body) (block_after c (where_test c w.at true e) body)) more)
+
+  -- a test, and a body that runs where it holds
+  abbrev pub guarded : Bool → Known → ExprTree → Suite → Seen (TypedExpr × List TypedStmt)
+  guarded loops k e body = both (condition c k e) (block loops (where_test c k true e) body)

@@ -1,11 +1,13 @@
 //! The typing of statements and of blocks, and what is known behind each.
 //!
 //! `specs/Bodies.antt` has the rules: the typed form of each statement or what is wrong with it, and what is known behind it of the
-//! types of variables and of names that are not None. `statements` has those that stand alone, and `blocks` walks over whole blocks.
+//! types of variables and of names that are not None. `statements` has those that stand alone, `parts` makes those with bodies of
+//! their typed parts, and `blocks` walks over whole blocks.
 #![tactic(auto)]
 
 mod blocks;
 mod bodies;
+mod parts;
 mod statements;
 
 pub use blocks::block;

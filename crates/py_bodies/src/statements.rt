@@ -1,12 +1,13 @@
 //! Simple statements, and rows of statements.
-ghost use Rattle.std.specs.Prelude.{◌≡◌, map, IfOk, Some, None};
+ghost use Rattle.std.specs.Prelude.{◌≡◌, map, codes, IfOk, Some, None};
 ghost use Rattle.std.specs.Option.{option_map};
 ghost use Rattle.py_syntax.specs.Expressions.{expr_tree};
 ghost use Rattle.py_syntax.specs.Statements.{maybe_expr};
-ghost use Rattle.py_typed.specs.Statements.{typed_stmt, on_line};
+ghost use Rattle.py_typed.specs.Statements.{TypedAct, typed_stmt, on_line};
 ghost use Rattle.py_typed.specs.Statements as acts;
 ghost use Rattle.py_scope.specs.Context.{context, dropped};
-ghost use Rattle.py_messages.specs.Seen.{Tells, made};
+ghost use Rattle.py_messages.specs.Seen.{Tells, is, fails, made};
+ghost use Rattle.py_messages.specs.Messages as message;
 ghost use Rattle.py_messages.specs.Rows.{kept};
 ghost use Rattle.py_rules.specs.Boxes.{boxed};
 ghost use Rattle.py_binding.specs.Returns.{return_sort};
@@ -18,6 +19,7 @@ ghost use Rattle.py_bodies.specs.Views.{boxed_stmt};
 use crate::bodies::return_wanted;
 use py_binder::Diag;
 use py_binding::{Returns, returned, returned_nothing};
+use py_messages::{no_exception, only_entries, outside_loop};
 use py_scope::{Scope, Want};
 use py_syntax::{Expr, Span};
 use py_targets::{Place, typed_at};
@@ -92,6 +94,72 @@ fn given(alloc: Global, e: Option<Box<TExpr>>) -> Result<Option<Box<TStmtKind>>,
     };
     let kind = Box::new(alloc, TStmtKind::Return(Some(Box::into_inner(e))))?;
     Ok(Some(kind))
+}
+
+/// A statement that does nothing (Python Language Reference, "The pass statement" and "The global statement").
+pub(crate) fn passed(alloc: Global) -> Result<Option<Box<TStmtKind>>, Memory>
+    ensures { IfOk result (λ t. option_map boxed_act t ≡ Some acts.Pass) }
+{
+    let kind = Box::new(alloc, TStmtKind::Pass)?;
+    Ok(Some(kind))
+}
+
+/// A `break`, in a loop or not (Python Language Reference, "The break statement").
+pub(crate) fn leaves(
+    alloc: Global,
+    loops: bool,
+    span: Span,
+    faults: &mut Many<Diag>,
+) -> Result<Option<Box<TStmtKind>>, Memory>
+    ensures { IfOk result (λ t. Tells boxed_act t faults.old faults.new (rules_of.in_loop loops span (codes "break") acts.Break)) }
+{
+    if !loops {
+        outside_loop(alloc, span, "break", faults)?;
+        return Ok(None);
+    }
+    let kind = Box::new(alloc, TStmtKind::Break)?;
+    Ok(Some(kind))
+}
+
+/// A `continue`, in a loop or not (Python Language Reference, "The continue statement").
+pub(crate) fn begins_again(
+    alloc: Global,
+    loops: bool,
+    span: Span,
+    faults: &mut Many<Diag>,
+) -> Result<Option<Box<TStmtKind>>, Memory>
+    ensures { IfOk result (λ t. Tells boxed_act t faults.old faults.new (rules_of.in_loop loops span (codes "continue") acts.Continue)) }
+{
+    if !loops {
+        outside_loop(alloc, span, "continue", faults)?;
+        return Ok(None);
+    }
+    let kind = Box::new(alloc, TStmtKind::Continue)?;
+    Ok(Some(kind))
+}
+
+/// A deletion, which has no typed form yet (Python Language Reference, "The del statement").
+pub(crate) fn deleted(
+    alloc: Global,
+    span: Span,
+    faults: &mut Many<Diag>,
+) -> Result<Option<Box<TStmtKind>>, Memory>
+    ensures { IfOk result (λ t. Tells boxed_act t faults.old faults.new (fails {A = TypedAct} span message.only_entries)) }
+{
+    only_entries(alloc, span, faults)?;
+    Ok(None)
+}
+
+/// Any other statement, which has no typed form yet: those that raise or handle exceptions.
+pub(crate) fn untyped(
+    alloc: Global,
+    span: Span,
+    faults: &mut Many<Diag>,
+) -> Result<Option<Box<TStmtKind>>, Memory>
+    ensures { IfOk result (λ t. Tells boxed_act t faults.old faults.new (fails {A = TypedAct} span message.no_exception)) }
+{
+    no_exception(alloc, span, faults)?;
+    Ok(None)
 }
 
 /// A statement on its line.
