@@ -1,6 +1,8 @@
+pub mod TypeLemmas
+pub mod LineLemmas
 pub mod FaultLemmas
-pub mod Bodies
 pub mod Numbers
+pub mod MeaningLemmas
 pub mod PrintedFaithful
 pub mod PrintedForm
 pub mod PrintedRun

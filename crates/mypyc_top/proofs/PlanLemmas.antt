@@ -4,7 +4,8 @@ use Rattle.std.proofs.lemmas.Bool.Decides.{nat_tests}
 use Rattle.std.specs.Option.{option_and_then}
 use Rattle.value_core.specs.Items.{Items}
 use Rattle.outside_core.specs.Counts.{count_end, has_risen}
-use Rattle.py_syntax.specs.Statements.{Suite}
+use Rattle.py_typed.specs.Statements.{TypedModule}
+use Rattle.py_source.specs.Entries.{Entry}
 use Rattle.mypyc_top.specs.declared.status.Status.{Status}
 use Rattle.mypyc_top.specs.declared.status.Status.TheVariants as status
 use Rattle.mypyc_top.specs.declared.words.Emit.{Emit}
@@ -13,25 +14,31 @@ use Rattle.mypyc_top.specs.declared.words.Words.{Words}
 use Rattle.mypyc_top.specs.declared.words.Words.TheVariants.{Go}
 use Rattle.mypyc_top.specs.declared.plan.Plan.{Plan}
 use Rattle.mypyc_top.specs.declared.reply.Reply.{Reply}
-use Rattle.mypyc_top.specs.declared.diagnostic.Diagnostic.{Diagnostic}
+use Rattle.mypyc_top.specs.declared.faults.Faults.{Faults}
 use Rattle.mypyc_top.specs.Forms.{numbers_of}
-use Rattle.mypyc_top.specs.Source.{IsModule}
-use Rattle.mypyc_top.specs.Diagnostics.{diagnostics_text}
+use Rattle.mypyc_top.specs.Source.{IsTyped}
+use Rattle.mypyc_top.specs.Diagnostics.{entries_text}
 use Rattle.mypyc_top.specs.Faults.{AreFaults}
+use Rattle.mypyc_top.specs.Found.{entries_of}
 use Rattle.mypyc_top.specs.Output.{output_text}
 use Rattle.mypyc_top.specs.ErrorLines.{large_line}
-use Rattle.mypyc_top.specs.Answer.{FileMeaning, file_meaning, Bytes, named_file, most_bytes, ModuleAnswer, ModeAnswer, SizedAnswer, RequestAnswer, WordsAnswer}
+use Rattle.mypyc_top.specs.Answer.{FileMeaning, file_meaning, Bytes, named_file, most_bytes, FaultsAnswer, ModuleAnswer, ModeAnswer, SizedAnswer, RequestAnswer, WordsAnswer}
 use Rattle.mypyc_top.specs.Plans.{Answering, Plans}
 
 -- ---- modules
 
--- a module without faults gives what is asked for, and one with faults gives them
-pub good_module : (mode : Emit) (file bytes : List ℕ) (suite : Suite) (Good : List ℕ → Type 0) (out err : List ℕ) (s : Status) → AreFaults mode bytes [] → IsModule bytes suite → Good (numbers_of suite) → ModuleAnswer mode file bytes Good out err s
-good_module mode file bytes suite Good out err s none is good =
-    ([], none, (numbers_of suite, record { suite = suite; is_module = is; are_printed = refl }, good))
+-- a file without faults gives what is asked for, and one with faults gives them
+pub good_module : (mode : Emit) (file bytes : List ℕ) (m : TypedModule) (Good : List ℕ → Type 0) (out err : List ℕ) (s : Status) → AreFaults mode bytes [] → IsTyped bytes m → Good (numbers_of m) → ModuleAnswer mode file bytes Good out err s
+good_module mode file bytes m Good out err s none is good =
+    ([], none, (numbers_of m, record { typed = m; is_typed = is; are_printed = refl }, good))
 
-pub faulty_module : (mode : Emit) (file bytes : List ℕ) (Good : List ℕ → Type 0) (d : Diagnostic) (reply : Reply) → AreFaults mode bytes (d ∷ []) → (output_text reply.out ≡ diagnostics_text file (d ∷ [])) × (reply.err.items ≡ []) × (reply.status ≡ status.Diagnosed) → ModuleAnswer mode file bytes Good (output_text reply.out) reply.err.items reply.status
-faulty_module mode file bytes Good d reply are sent = (d ∷ [], are, sent)
+by_entries : (file bytes : List ℕ) (Good : List ℕ → Type 0) (es : List Entry) (out err : List ℕ) (s : Status) → ¬ (es ≡ []) → (out ≡ entries_text file es) × (err ≡ []) × (s ≡ status.Diagnosed) → FaultsAnswer file bytes Good es out err s
+by_entries file bytes Good [] out err s some sent = absurd (some refl)
+by_entries file bytes Good (e ∷ es) out err s some sent = sent
+
+pub faulty_module : (mode : Emit) (file bytes : List ℕ) (Good : List ℕ → Type 0) (faults : Faults) (reply : Reply) → AreFaults mode bytes (entries_of faults) × ¬ (entries_of faults ≡ []) → (output_text reply.out ≡ entries_text file (entries_of faults)) × (reply.err.items ≡ []) × (reply.status ≡ status.Diagnosed) → ModuleAnswer mode file bytes Good (output_text reply.out) reply.err.items reply.status
+faulty_module mode file bytes Good faults reply judged sent =
+    (entries_of faults, judged.0, by_entries file bytes Good (entries_of faults) (output_text reply.out) reply.err.items reply.status judged.1 sent)
 
 -- ---- by what came of the file
 

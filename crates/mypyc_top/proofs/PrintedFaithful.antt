@@ -2,7 +2,7 @@
 use Rattle.std.proofs.Common.{◌≡◌, refl, sym, ◌∙◌, ap, subst, ℕ, ◌<◌, ◌^◌, List, []}
 use Rattle.std.specs.List.{All}
 use Rattle.value_core.specs.Items.{Items, input_items}
-use Rattle.py_syntax.specs.Statements.{Suite}
+use Rattle.py_typed.specs.Statements.{TypedModule}
 use Rattle.c_core.specs.declared.code.Code.{Code}
 use Rattle.c_core.specs.Machine.{MachineState}
 use Rattle.c_core.specs.Stands.{MatchesStore, MatchSet, Stands}
@@ -39,7 +39,7 @@ printed_faithful ns small = record {
 }
 
 -- the code that is built for a module
-pub built_faithful : (suite : Suite) (ns found : List ℕ) (code : Code) → code ≡ printed_code ns → ns ≡ found → found ≡ numbers_of suite → Faithful (numbers_of suite) code
-built_faithful suite ns found code c n f =
-    let P : Code → Type 0 = λ x. Faithful (numbers_of suite) x in
-    subst P (sym (c ∙ ap printed_code (n ∙ f))) (printed_faithful (numbers_of suite) (small_numbers suite))
+pub built_faithful : (m : TypedModule) (ns found : List ℕ) (code : Code) → code ≡ printed_code ns → ns ≡ found → found ≡ numbers_of m → Faithful (numbers_of m) code
+built_faithful m ns found code c n f =
+    let P : Code → Type 0 = λ x. Faithful (numbers_of m) x in
+    subst P (sym (c ∙ ap printed_code (n ∙ f))) (printed_faithful (numbers_of m) (small_numbers m))

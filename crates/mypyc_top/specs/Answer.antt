@@ -13,10 +13,10 @@ use Rattle.mypyc_top.specs.declared.words.Request.{Request}
 use Rattle.mypyc_top.specs.declared.words.Words.{Words}
 use Rattle.mypyc_top.specs.declared.words.Words.TheVariants.{Usage, Go}
 use Rattle.mypyc_top.specs.Words.{words_of}
-use Rattle.mypyc_top.specs.declared.diagnostic.Diagnostic.{Diagnostic}
+use Rattle.py_source.specs.Entries.{Entry}
 use Rattle.mypyc_top.specs.Source.{AreNumbers}
 use Rattle.mypyc_top.specs.Faithful.{Faithful}
-use Rattle.mypyc_top.specs.Diagnostics.{diagnostics_text}
+use Rattle.mypyc_top.specs.Diagnostics.{entries_text}
 use Rattle.mypyc_top.specs.Faults.{AreFaults}
 use Rattle.mypyc_top.specs.ErrorLines.{usage_line, open_line, read_line, large_line}
 use Rattle.mypyc_top.specs.Running.{ModuleRun, TextRun}
@@ -57,7 +57,7 @@ named_most (Go r) = most_bytes r.emit
 abbrev pub success_text : List ℕ
 success_text = codes "Success: no issues found in 1 source file\n"
 
--- a module that has no diagnostics is said to have none
+-- a module without faults is said to have none
 abbrev pub Checked : List ℕ → List ℕ → Status → Type 0
 Checked out err s = (out ≡ success_text) × (err ≡ []) × (s ≡ status.Done)
 
@@ -65,14 +65,14 @@ Checked out err s = (out ≡ success_text) × (err ≡ []) × (s ≡ status.Done
 abbrev pub Compiled : List ℕ → List ℕ → List ℕ → Status → Type 0
 Compiled numbers out err s = ((code : Code) × Faithful numbers code × (out ≡ code_text code)) × (err ≡ []) × (s ≡ status.Done)
 
--- a module with these faults is answered by them, and one without any by what is asked for of its numbers
-abbrev pub FaultsAnswer : List ℕ → List ℕ → (List ℕ → Type 0) → List Diagnostic → List ℕ → List ℕ → Status → Type 0
-FaultsAnswer file bytes Good (d ∷ ds) out err s = (out ≡ diagnostics_text file (d ∷ ds)) × (err ≡ []) × (s ≡ status.Diagnosed)
+-- a file with these faults is answered by them, and one without any by what is asked for of its numbers
+abbrev pub FaultsAnswer : List ℕ → List ℕ → (List ℕ → Type 0) → List Entry → List ℕ → List ℕ → Status → Type 0
+FaultsAnswer file bytes Good (e ∷ es) out err s = (out ≡ entries_text file (e ∷ es)) × (err ≡ []) × (s ≡ status.Diagnosed)
 FaultsAnswer file bytes Good [] out err s = (numbers : List ℕ) × AreNumbers bytes numbers × Good numbers
 
--- a module is answered by its faults in the mode
+-- a file that is to be a module is answered by its faults in the mode
 abbrev pub ModuleAnswer : Emit → List ℕ → List ℕ → (List ℕ → Type 0) → List ℕ → List ℕ → Status → Type 0
-ModuleAnswer mode file bytes Good out err s = (ds : List Diagnostic) × AreFaults mode bytes ds × FaultsAnswer file bytes Good ds out err s
+ModuleAnswer mode file bytes Good out err s = (es : List Entry) × AreFaults mode bytes es × FaultsAnswer file bytes Good es out err s
 
 abbrev pub ModeAnswer : Emit → Request → List ℕ → Items → List ℕ → List ℕ → Status → Type 0
 ModeAnswer Check r bytes items out err s = ModuleAnswer Check r.file bytes (λ numbers. Checked out err s) out err s

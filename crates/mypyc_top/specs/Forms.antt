@@ -1,12 +1,13 @@
--- The forms that are built: which statements of a module have typing rules, and which can be compiled. So far both are
--- `print(N)`, N an integer literal from 0 to 2 ^ 62 - 1.
-use Rattle.std.specs.Prelude.{ℕ, nat_le, Bool, false, not, if◌then◌else◌, List, filter_map, find, Option, Some, None, is_some, ℤ, pos, negsuc, codes}
-use Rattle.std.specs.Option.{option_and_then, option_map}
-use Rattle.std.specs.Str.{bytes_eq}
-use Rattle.py_syntax.specs.Expressions as expr
-use Rattle.py_syntax.specs.Expressions.{ExprTree, Arguments, Name, Int, Call, no_arguments, argument_then}
-use Rattle.py_syntax.specs.Statements as stmt
-use Rattle.py_syntax.specs.Statements.{StmtTree, Do, Suite, listed_suite}
+-- The forms that are compiled. A statement is where it is `print(N)`, and N is an integer of 0 to 2 ^ 62 - 1 that stands in the
+-- typed tree as it is written; a function is not.
+use Rattle.std.specs.Prelude.{ℕ, nat_le, Bool, true, false, if◌then◌else◌, List, [], ◌∷◌, ◌++◌, Option, Some, None, is_some, ℤ, pos, negsuc}
+use Rattle.std.specs.List.{flat_map, cons_option}
+use Rattle.std.specs.Option.{option_and_then}
+use Rattle.py_syntax.specs.Statements.{StmtTree, at, Def, Suite}
+use Rattle.py_typed.specs.Expressions.{TypedExpr, typed, Int, Print, TypedExprs, no_exprs, expr_then}
+use Rattle.py_typed.specs.Statements.{TypedStmt, on_line, Do, TypedSuite, no_stmts, stmt_then, TypedModule}
+use Rattle.py_names.specs.Outline.{suite_definitions}
+use Rattle.py_forms.specs.Later.{least}
 
 -- 2 ^ 62 - 1, the greatest number that needs no object of its own
 abbrev pub greatest_number : ℕ
@@ -17,56 +18,60 @@ abbrev pub built : ℤ → Option ℕ
 built (pos n) = if nat_le n greatest_number then Some n else None
 built (negsuc n) = None
 
-abbrev pub literal : ExprTree → Option ℕ
-literal (expr.at (Int n) span) = built n
+abbrev pub literal : TypedExpr → Option ℕ
+literal (typed (Int n) t place) = built n
 literal _ = None
 
--- the name `print`
-abbrev pub is_print : ExprTree → Bool
-is_print (expr.at (Name name) span) = bytes_eq name (codes "print")
-is_print _ = false
-
--- the one argument, which has no key
-abbrev pub only_argument : Arguments → Option ExprTree
-only_argument (argument_then value no_arguments) = Some value
-only_argument _ = None
+-- the one value in a row
+abbrev pub only_value : TypedExprs → Option TypedExpr
+only_value (expr_then e no_exprs) = Some e
+only_value _ = None
 
 -- the number that a call prints, and that a statement prints: it is `print(N)`
-abbrev pub printed_by : ExprTree → Option ℕ
-printed_by (expr.at (Call callee arguments) span) =
-    if is_print callee then option_and_then literal (only_argument arguments) else None
+abbrev pub printed_by : TypedExpr → Option ℕ
+printed_by (typed (Print es) t place) = option_and_then literal (only_value es)
 printed_by _ = None
 
-abbrev pub printed : StmtTree → Option ℕ
-printed (stmt.at (Do e) span) = printed_by e
+abbrev pub printed : TypedStmt → Option ℕ
+printed (on_line (Do e) line) = printed_by e
 printed _ = None
 
--- ---- the two sets of forms
+-- ---- lines
 
-abbrev pub is_typed : StmtTree → Bool
-is_typed s = is_some (printed s)
-
-abbrev pub is_compiled : StmtTree → Bool
+abbrev pub is_compiled : TypedStmt → Bool
 is_compiled s = is_some (printed s)
 
-abbrev pub line_of : StmtTree → ℕ
-line_of (stmt.at node span) = span.line
+abbrev pub line_of : TypedStmt → ℕ
+line_of (on_line a line) = line
 
--- the line of the first statement that is none of some forms
-abbrev pub line_outside : (StmtTree → Bool) → List StmtTree → Option ℕ
-line_outside is_form statements = option_map line_of (find (λ s. not (is_form s)) statements)
+abbrev pub line_unless : Bool → ℕ → List ℕ
+line_unless true line = []
+line_unless false line = line ∷ []
 
-abbrev pub untyped_line : Suite → Option ℕ
-untyped_line suite = line_outside is_typed (listed_suite suite)
+-- the lines of the statements that are not compiled. What stands inside of one stands on no line before it
+abbrev pub statement_lines : TypedSuite → List ℕ
+statement_lines no_stmts = []
+statement_lines (stmt_then s more) = line_unless (is_compiled s) (line_of s) ++ statement_lines more
 
-abbrev pub uncompiled_line : Suite → Option ℕ
-uncompiled_line suite = line_outside is_compiled (listed_suite suite)
+-- a function stands on the line of its definition, and nothing inside it on a line before
+abbrev pub function_line : StmtTree → List ℕ
+function_line (at (Def name params ret body marks) span) = span.line ∷ []
+function_line _ = []
+
+abbrev pub function_lines : Suite → List ℕ
+function_lines m = flat_map function_line (suite_definitions m)
+
+-- THE LINE on which a statement or a function of a module stands first that is not compiled, where there is one. The module has
+-- this tree and is this typed one
+abbrev pub uncompiled_line : Suite → TypedModule → Option ℕ
+uncompiled_line m t = least None (statement_lines t.top ++ function_lines m)
 
 -- ---- what a module prints
 
 -- the numbers of the statements that print one, in order
-abbrev pub numbers_in : List StmtTree → List ℕ
-numbers_in statements = filter_map printed statements
+abbrev pub numbers_in : TypedSuite → List ℕ
+numbers_in no_stmts = []
+numbers_in (stmt_then s more) = cons_option (printed s) (numbers_in more)
 
-abbrev pub numbers_of : Suite → List ℕ
-numbers_of suite = numbers_in (listed_suite suite)
+abbrev pub numbers_of : TypedModule → List ℕ
+numbers_of m = numbers_in m.top

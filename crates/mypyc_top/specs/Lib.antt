@@ -1,13 +1,15 @@
 pub mod Words
 pub mod WordsStep
 pub mod Statuses
+pub mod Types
 pub mod Forms
 pub mod Source
 pub mod SourceRun
+pub mod Meaning
 pub mod Diagnostics
 pub mod Faults
 pub mod FaultLaws
-pub mod SourceFaults
+pub mod Found
 pub mod Printed
 pub mod Faithful
 pub mod ErrorLines

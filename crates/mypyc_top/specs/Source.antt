@@ -1,24 +1,17 @@
--- The module that a file is, and the numbers that it prints.
-use Rattle.std.specs.Prelude.{◌≡◌, ℕ, true, List, Ok}
-use Rattle.std.specs.Str.{chars, is_utf8}
-use Rattle.py_syntax.specs.declared.token.Token.{Token}
+-- The typed module that a file is, and the numbers that it prints.
+use Rattle.std.specs.Prelude.{◌≡◌, ℕ, List}
 use Rattle.py_syntax.specs.Statements.{Suite}
-use Rattle.py_lexer.specs.Tokens.{tokens_of}
-use Rattle.py_grammar.specs.Faults.{IsTree}
+use Rattle.py_typed.specs.Statements.{TypedModule}
+use Rattle.py_source.specs.Modules.{IsModule}
+use Rattle.mypyc_top.specs.Types.{typed_tree}
 use Rattle.mypyc_top.specs.Forms.{numbers_of}
 
--- a text has tokens, and this is their tree
-pub record HasTree (text : List ℕ) (suite : Suite) : Type 0 where
-  pub tokens : List Token
-  pub has_tokens : tokens_of text ≡ Ok tokens
-  pub derived : IsTree tokens suite
+-- a file is a module whose tree has this typed module
+abbrev pub IsTyped : List ℕ → TypedModule → Type 0
+IsTyped bytes m = (suite : Suite) × IsModule bytes suite × (m ≡ typed_tree suite)
 
--- a file is a text that has this tree
-abbrev pub IsModule : List ℕ → Suite → Type 0
-IsModule bytes suite = (is_utf8 bytes ≡ true) × HasTree (chars bytes) suite
-
--- the numbers of a file are those of its tree
+-- the numbers of a file are those of its typed module
 pub record AreNumbers (bytes numbers : List ℕ) : Type 0 where
-  pub suite : Suite
-  pub is_module : IsModule bytes suite
-  pub are_printed : numbers ≡ numbers_of suite
+  pub typed : TypedModule
+  pub is_typed : IsTyped bytes typed
+  pub are_printed : numbers ≡ numbers_of typed

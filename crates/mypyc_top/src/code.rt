@@ -1,7 +1,7 @@
 //! The code that is built for a module.
 ghost use Rattle.std.specs.Prelude.{◌≡◌, ◌∷◌, [], ◌++◌, IfOk, OnOk};
 ghost use Rattle.std.specs.List.{flat_map};
-ghost use Rattle.py_syntax.specs.Statements.{module_tree};
+ghost use Rattle.py_typed.specs.Statements.{typed_module};
 ghost use Rattle.mypyc_top.specs.Forms.{numbers_of};
 ghost use Rattle.mypyc_top.specs.Faithful.{Faithful};
 ghost use Rattle.mypyc_top.specs.SourceRun.{printed_text};
@@ -9,7 +9,7 @@ ghost use Rattle.mypyc_top.specs.Printed.{print_lines, last_lines, module_vars, 
 
 use crate::forms::module_numbers;
 use c_core::{CArg, CFunc, CLit, Code, Kind, Line};
-use py_syntax::Module;
+use py_typed::Checked;
 use std::alloc::Global;
 use value_core::{Many, Memory, Name, Text};
 
@@ -19,10 +19,10 @@ const PRINTED: usize = 0;
 const RESULT: usize = 1;
 
 /// The code of a module. Statements that cannot be compiled have no part in it.
-pub(crate) fn code_of(alloc: Global, parsed: &Module) -> Result<Code, Memory>
-    ensures { IfOk result (Faithful (numbers_of (module_tree parsed.now))) }
+pub(crate) fn code_of(alloc: Global, checked: &Checked) -> Result<Code, Memory>
+    ensures { IfOk result (Faithful (numbers_of (typed_module checked.now))) }
 {
-    let numbers = module_numbers(alloc, parsed)?;
+    let numbers = module_numbers(alloc, checked)?;
     code_of_numbers(alloc, &numbers)
 }
 

@@ -1,99 +1,80 @@
-//! The forms that are built: whether a module has one that is not, and what its statements print.
-ghost use Rattle.std.specs.Prelude.{◌≡◌, [], ◌∷◌, if◌then◌else◌, map, option_to_list, IfOk};
+//! The forms that are compiled: the first line of a typed module that is not, and what its statements print.
+ghost use Rattle.std.specs.Prelude.{◌≡◌, [], ◌∷◌, if◌then◌else◌, map, None, IfOk};
+ghost use Rattle.std.specs.List.{flat_map};
 ghost use Rattle.std.specs.Option.{option_and_then};
-ghost use Rattle.py_syntax.specs.Expressions.{expr_tree, arguments_of, arg_tree};
 ghost use Rattle.py_syntax.specs.Statements.{stmt_tree, module_tree};
-ghost use Rattle.mypyc_top.specs.Forms.{built, literal, is_print, only_argument, printed_by, printed, is_typed, is_compiled, line_outside, numbers_in, numbers_of};
-ghost use Rattle.mypyc_top.specs.Faults.{compiles, unbuilt_at, of_tree};
+ghost use Rattle.py_names.specs.Walked.{trees};
+ghost use Rattle.py_forms.specs.Later.{least};
+ghost use Rattle.py_typed.specs.Expressions.{typed_expr, exprs_of};
+ghost use Rattle.py_typed.specs.Statements.{typed_stmt, typed_suite, typed_module};
+ghost use Rattle.mypyc_top.specs.Forms.{built, literal, only_value, printed_by, printed, statement_lines, function_line, uncompiled_line, numbers_in, numbers_of};
 
-use crate::diagnostic::{Diagnostic, DiagnosticKind};
-use crate::words::Emit;
-use py_syntax::{Arg, Expr, ExprKind, Module, Stmt, StmtKind};
+use py_forms::lesser;
+use py_names::definitions_in;
+use py_syntax::{Module, Stmt, StmtKind};
+use py_typed::{Checked, TExpr, TKind, TStmt, TStmtKind};
 use std::alloc::Global;
 use value_core::Memory;
 
-/// The greatest number that is built, 2^62 - 1.
+/// The greatest number that is compiled, 2^62 - 1.
 const GREATEST: i128 = 4_611_686_018_427_387_903;
 
-/// What is wrong with the forms of a module in this mode: the first one that has no typing rule, or else, where the
-/// module is to be compiled, the first one that cannot be.
-pub(crate) fn fault_of_forms(mode: Emit, parsed: &Module) -> Option<Diagnostic>
-    ensures { of_tree mode (module_tree parsed.now) ≡ option_to_list result }
+/// The least line on which a statement or a function of a module stands that is not compiled, where there is one. The
+/// functions are those of its tree.
+#[tactic(auto, using(crate::proofs::LineLemmas::least_of_both))]
+pub(crate) fn uncompiled_line(
+    alloc: Global,
+    module: &Module,
+    checked: &Checked,
+) -> Result<Option<usize>, Memory>
+    ensures { IfOk result (λ line. line ≡ uncompiled_line (module_tree module.now) (typed_module checked.now)) }
 {
-    let body = parsed.body.as_slice();
-    match unbuilt(untyped_line(body)) {
-        Some(diagnostic) => Some(diagnostic),
-        None => fault_of_compiling(mode, body),
-    }
+    let definitions = definitions_in(alloc, module.body.as_slice())?;
+    let found = among_statements(checked.top.as_slice());
+    Ok(among_functions(&definitions, found))
 }
 
-fn fault_of_compiling(mode: Emit, body: &[Stmt]) -> Option<Diagnostic>
-    ensures { option_to_list result ≡
-        (if compiles mode then unbuilt_at (line_outside is_compiled (map stmt_tree body.now)) else []) }
+/// The least line of a statement that is not compiled.
+fn among_statements(body: &[TStmt]) -> Option<usize>
+    ensures { result ≡ least None (statement_lines (typed_suite body.now)) }
 {
-    if compiles(mode) {
-        unbuilt(uncompiled_line(body))
-    } else {
-        None
-    }
-}
-
-/// The entry for the line of a form that is not built, where there is one.
-fn unbuilt(line: Option<usize>) -> Option<Diagnostic>
-    ensures { option_to_list result ≡ unbuilt_at line }
-{
-    match line {
-        None => None,
-        Some(line) => Some(Diagnostic {
-            line,
-            kind: DiagnosticKind::Unbuilt,
-        }),
-    }
-}
-
-/// Whether a module is compiled in this mode.
-fn compiles(mode: Emit) -> bool
-    ensures { result ≡ compiles mode }
-{
-    match mode {
-        Emit::C | Emit::Run => true,
-        Emit::Check | Emit::Runc => false,
-    }
-}
-
-/// The line of the first statement that has no typing rule.
-fn untyped_line(body: &[Stmt]) -> Option<usize>
-    ensures { result ≡ line_outside is_typed (map stmt_tree body.now) }
-{
+    let mut found = None;
     for stmt in body {
         if number_printed(stmt).is_none() {
-            return Some(stmt.span.line);
+            found = Some(lesser(stmt.line, found));
         }
     }
-    None
+    found
 }
 
-/// The line of the first statement that cannot be compiled.
-fn uncompiled_line(body: &[Stmt]) -> Option<usize>
-    ensures { result ≡ line_outside is_compiled (map stmt_tree body.now) }
+/// The least line of a function among definitions, and of one found before.
+fn among_functions(definitions: &[&Stmt], found: Option<usize>) -> Option<usize>
+    ensures { result ≡ least found (flat_map function_line (trees definitions.now)) }
 {
-    for stmt in body {
-        if number_printed(stmt).is_none() {
-            return Some(stmt.span.line);
+    let mut found = found;
+    for stmt in definitions {
+        if is_function(stmt) {
+            found = Some(lesser(stmt.span.line, found));
         }
     }
-    None
+    found
+}
+
+fn is_function(stmt: &Stmt) -> bool
+    ensures { function_line (stmt_tree stmt.now) ≡ (if result then stmt.now.span.line ∷ [] else []) }
+{
+    matches!(stmt.kind, StmtKind::Def(_))
 }
 
 /// The numbers that the statements of a module print, in order.
-pub(crate) fn module_numbers(alloc: Global, parsed: &Module) -> Result<Vec<u64>, Memory>
-    ensures { IfOk result (λ found. found.items ≡ numbers_of (module_tree parsed.now)) }
+pub(crate) fn module_numbers(alloc: Global, checked: &Checked) -> Result<Vec<u64>, Memory>
+    ensures { IfOk result (λ found. found.items ≡ numbers_of (typed_module checked.now)) }
 {
-    numbers_among(alloc, parsed.body.as_slice())
+    numbers_among(alloc, checked.top.as_slice())
 }
 
-fn numbers_among(alloc: Global, body: &[Stmt]) -> Result<Vec<u64>, Memory>
-    ensures { IfOk result (λ found. found.items ≡ numbers_in (map stmt_tree body.now)) }
+fn numbers_among(alloc: Global, body: &[TStmt]) -> Result<Vec<u64>, Memory>
+    ensures { IfOk result (λ found. found.items ≡ numbers_in (typed_suite body.now)) }
 {
     let mut found = Vec::new(alloc);
     for stmt in body {
@@ -105,63 +86,39 @@ fn numbers_among(alloc: Global, body: &[Stmt]) -> Result<Vec<u64>, Memory>
 }
 
 /// The number that a statement prints, where it is `print(N)`.
-fn number_printed(stmt: &Stmt) -> Option<u64>
-    ensures { result ≡ printed (stmt_tree stmt.now) }
+fn number_printed(stmt: &TStmt) -> Option<u64>
+    ensures { result ≡ printed (typed_stmt stmt.now) }
 {
     match &stmt.kind {
-        StmtKind::Expr(expr) => number_of_call(expr),
+        TStmtKind::Expr(expr) => number_of_call(expr),
         _ => None,
     }
 }
 
-fn number_of_call(expr: &Expr) -> Option<u64>
-    ensures { result ≡ printed_by (expr_tree expr.now) }
+fn number_of_call(expr: &TExpr) -> Option<u64>
+    ensures { result ≡ printed_by (typed_expr expr.now) }
 {
     match &expr.kind {
-        ExprKind::Call(callee, arguments) => {
-            if names_print(callee) {
-                number_of(arguments.as_slice())
-            } else {
-                None
-            }
-        }
+        TKind::Print(values) => number_of(values.as_slice()),
         _ => None,
     }
 }
 
-fn names_print(expr: &Expr) -> bool
-    ensures { result ≡ is_print (expr_tree expr.now) }
+/// The number of printed values, where there is one alone.
+fn number_of(values: &[TExpr]) -> Option<u64>
+    ensures { result ≡ option_and_then literal (only_value (exprs_of (map typed_expr values.now))) }
 {
-    match &expr.kind {
-        ExprKind::Name(name) => name.as_str() == "print",
-        _ => false,
-    }
-}
-
-/// The number of a call's arguments, where there is one alone, without a key.
-fn number_of(arguments: &[Arg]) -> Option<u64>
-    ensures { result ≡ option_and_then literal (only_argument (arguments_of (map arg_tree arguments.now))) }
-{
-    match arguments {
-        [argument] => number_given(argument),
+    match values {
+        [value] => number_written(value),
         _ => None,
     }
 }
 
-fn number_given(argument: &Arg) -> Option<u64>
-    ensures { result ≡ option_and_then literal (only_argument (arguments_of (arg_tree argument.now ∷ []))) }
-{
-    match argument.key {
-        Some(_) => None,
-        None => number_written(&argument.value),
-    }
-}
-
-fn number_written(expr: &Expr) -> Option<u64>
-    ensures { result ≡ literal (expr_tree expr.now) }
+fn number_written(expr: &TExpr) -> Option<u64>
+    ensures { result ≡ literal (typed_expr expr.now) }
 {
     match &expr.kind {
-        ExprKind::Int(number) => number_built(*number),
+        TKind::Int(number) => number_built(*number),
         _ => None,
     }
 }

@@ -1,8 +1,8 @@
-//! Laws of what is wrong with a file. Each function is its clause, and does nothing when it runs.
+//! Laws of what is wrong with a file, and of what a module prints. Each function is its clause, and does nothing when it runs.
 ghost use Rattle.mypyc_top.specs.FaultLaws.{FaultsAreOne, NumbersAreOne};
+ghost use Rattle.mypyc_top.specs.Meaning.{NumbersAreMeant};
 
 /// Each file has exactly one list of faults in a mode.
-#[tactic(auto, using(crate::proofs::FaultLemmas::faults_are_one))]
 pub fn faults_are_one()
     ensures { FaultsAreOne }
 {}
@@ -10,4 +10,9 @@ pub fn faults_are_one()
 /// The numbers of a file are the only ones.
 pub fn numbers_are_one()
     ensures { NumbersAreOne }
+{}
+
+/// The typed module of a file that is compiled does what its numbers stand for: it prints them and is done.
+pub fn numbers_are_meant()
+    ensures { NumbersAreMeant }
 {}

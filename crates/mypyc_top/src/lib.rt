@@ -10,23 +10,22 @@
 #![tactic(auto)]
 
 mod code;
-mod diagnostic;
 mod ending;
+mod faults;
 mod forms;
 mod laws;
-mod place;
 mod plan;
 mod reading;
 mod reply;
 mod running;
 mod sending;
-mod source;
 mod status;
 mod summary;
 mod top;
+mod typing;
 mod words;
 
-pub use laws::{faults_are_one, numbers_are_one};
+pub use laws::{faults_are_one, numbers_are_meant, numbers_are_one};
 pub use status::{Status, status_number};
 pub use top::mypyc;
 pub use words::{Emit, Request, Stage, Words, read_words};

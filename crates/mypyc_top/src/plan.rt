@@ -15,8 +15,8 @@ use crate::reply::{
     Output, Reply, diagnosed_reply, file_reply, output_reply, refused_reply, usage_reply,
 };
 use crate::running::Program;
-use crate::source::{SourceError, read_module};
 use crate::status::Status;
+use crate::typing::{ModuleError, read_typed};
 use crate::words::{Emit, Request, Words, read_words};
 use c_core::check_well_formed;
 use c_text::{TextError, read};
@@ -134,15 +134,15 @@ fn check_plan(alloc: Global, file: &str, bytes: &[u8]) -> Result<Plan, Memory>
     ensures answer { IfOk result (Plans (λ _ out err s.
         ModuleAnswer Emit.Check file.now bytes.now (λ _. Checked out err s) out err s)) }
 {
-    match read_module(alloc, Emit::Check, bytes) {
-        Ok(_parsed) => {
+    match read_typed(alloc, Emit::Check, bytes) {
+        Ok(_checked) => {
             let text = Vec::from_slice(alloc, SUCCESS)?;
             Ok(Plan::Send(output_reply(alloc, Status::Done, Output::Bytes(text))))
         }
-        Err(SourceError::Faulty(diagnostic)) => {
-            Ok(Plan::Send(diagnosed_reply(alloc, file, &[diagnostic])?))
+        Err(ModuleError::Faulty(faults)) => {
+            Ok(Plan::Send(diagnosed_reply(alloc, file, &faults)?))
         }
-        Err(SourceError::Memory) => Err(Memory),
+        Err(ModuleError::Memory) => Err(Memory),
     }
 }
 
@@ -152,15 +152,15 @@ fn compile_plan(alloc: Global, file: &str, bytes: &[u8]) -> Result<Plan, Memory>
     ensures answer { IfOk result (Plans (λ _ out err s.
         ModuleAnswer Emit.C file.now bytes.now (λ numbers. Compiled numbers out err s) out err s)) }
 {
-    match read_module(alloc, Emit::C, bytes) {
-        Ok(parsed) => {
-            let code = code_of(alloc, &parsed)?;
+    match read_typed(alloc, Emit::C, bytes) {
+        Ok(checked) => {
+            let code = code_of(alloc, &checked)?;
             Ok(Plan::Send(output_reply(alloc, Status::Done, Output::Text(code))))
         }
-        Err(SourceError::Faulty(diagnostic)) => {
-            Ok(Plan::Send(diagnosed_reply(alloc, file, &[diagnostic])?))
+        Err(ModuleError::Faulty(faults)) => {
+            Ok(Plan::Send(diagnosed_reply(alloc, file, &faults)?))
         }
-        Err(SourceError::Memory) => Err(Memory),
+        Err(ModuleError::Memory) => Err(Memory),
     }
 }
 
@@ -172,19 +172,19 @@ fn run_plan(alloc: Global, file: &str, turns: u64, bytes: &[u8]) -> Result<Plan,
     ensures answer { IfOk result (Plans (λ items out err s.
         ModuleAnswer Emit.Run file.now bytes.now (λ numbers. ModuleRun numbers turns items out err s) out err s)) }
 {
-    match read_module(alloc, Emit::Run, bytes) {
-        Ok(parsed) => {
-            let code = code_of(alloc, &parsed)?;
+    match read_typed(alloc, Emit::Run, bytes) {
+        Ok(checked) => {
+            let code = code_of(alloc, &checked)?;
             Ok(Plan::Run(Program {
                 code,
                 turns,
                 has_summary: false,
             }))
         }
-        Err(SourceError::Faulty(diagnostic)) => {
-            Ok(Plan::Send(diagnosed_reply(alloc, file, &[diagnostic])?))
+        Err(ModuleError::Faulty(faults)) => {
+            Ok(Plan::Send(diagnosed_reply(alloc, file, &faults)?))
         }
-        Err(SourceError::Memory) => Err(Memory),
+        Err(ModuleError::Memory) => Err(Memory),
     }
 }
 

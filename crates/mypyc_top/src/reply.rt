@@ -1,9 +1,10 @@
 ghost use Rattle.std.specs.Prelude.{◌≡◌, ◌++◌, ◌∷◌, [], codes, decimal, IfOk};
 ghost use Rattle.mypyc_top.specs.Output.{output_text};
-ghost use Rattle.mypyc_top.specs.Diagnostics.{diagnostics_text};
+ghost use Rattle.mypyc_top.specs.Diagnostics.{entries_text};
+ghost use Rattle.mypyc_top.specs.Found.{entries_of};
 ghost use Rattle.mypyc_top.specs.ErrorLines.{usage_line, refused_line};
 
-use crate::diagnostic::{Diagnostic, lines_of};
+use crate::faults::{Faults, lines_of};
 use crate::status::Status;
 use c_core::Code;
 use itoa::Buffer;
@@ -98,16 +99,12 @@ pub(crate) fn output_reply(alloc: Global, status: Status, out: Output) -> Reply
     }
 }
 
-/// The answer to a module with diagnostics.
-pub(crate) fn diagnosed_reply(
-    alloc: Global,
-    file: &str,
-    diagnostics: &[Diagnostic],
-) -> Result<Reply, Memory>
+/// The answer to a file with diagnostics.
+pub(crate) fn diagnosed_reply(alloc: Global, file: &str, faults: &Faults) -> Result<Reply, Memory>
     ensures { IfOk result (λ reply.
-        (output_text reply.out ≡ diagnostics_text file.now diagnostics.now) × (reply.err.items ≡ [])
+        (output_text reply.out ≡ entries_text file.now (entries_of faults.now)) × (reply.err.items ≡ [])
         × (reply.status ≡ Status.Diagnosed)) }
 {
-    let text = lines_of(alloc, file, diagnostics)?;
+    let text = lines_of(alloc, file, faults)?;
     Ok(output_reply(alloc, Status::Diagnosed, Output::Bytes(text)))
 }

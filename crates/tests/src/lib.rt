@@ -30,4 +30,6 @@ mod mypyc_top_source_tests;
 #[cfg(test)]
 mod mypyc_top_tests;
 #[cfg(test)]
+mod mypyc_top_typing_tests;
+#[cfg(test)]
 mod mypyc_top_words_tests;

@@ -612,7 +612,8 @@ const MODULES: &[(&[u8], &str, u8)] = &[
         0,
     ),
     (b"", "", 0),
-    (b"print(3)\nx\n", UNBUILT, 1),
+    (b"from mypy_extensions import i64\nprint(+3)\n", "3\n", 0),
+    (b"print(3)\nprint(3 + 4)\n", UNBUILT, 1),
 ];
 
 #[test]

@@ -32,6 +32,15 @@ const BUILT: &[(&[u8], &str)] = &[
         b"\xef\xbd\x90\xef\xbd\x92\xef\xbd\x89\xef\xbd\x8e\xef\xbd\x94(3) # \xc3\x9f\n",
         "3\n",
     ),
+    (
+        b"print(+3); print(++4); print(int(5)); print(int(+6))",
+        "3\n4\n5\n6\n",
+    ),
+    (b"from typing import Optional, List\nprint(3)\n", "3\n"),
+    (
+        b"from __future__ import annotations\nprint(3)\nfrom mypy_extensions import i64\n",
+        "3\n",
+    ),
 ];
 
 const NO_TEXT: &str = "File is not UTF-8  [syntax]";
@@ -53,6 +62,8 @@ const DEEP: &str = "Nested too deeply  [syntax]";
 const SYNTAX: &str = "Invalid syntax, or syntax outside the profile  [syntax]";
 
 const UNBUILT: &str = "Form is not built yet  [unbuilt]";
+
+const UNKNOWN: &str = "Name \"x\" is not defined  [name-defined]";
 
 /// Files that are no text, with the line of the first byte that belongs to no character.
 const NO_TEXTS: &[(&[u8], usize)] = &[
@@ -136,8 +147,8 @@ const NO_TREES: &[(&[u8], usize)] = &[
     (b"def f():\n\n# none\n", 4),
     (b"while x:\n    def f(): pass\n", 2),
     (b"@d\nx = 1\n", 2),
-    // A statement before it that is not built is not said.
-    (b"x = 1\nprint(1 2)\n", 2),
+    // What is wrong with types before it is not said.
+    (b"x\nprint(1 2)\n", 2),
     (b"print(1 2)\nwith x: pass\n", 1),
 ];
 
@@ -153,53 +164,63 @@ const LEFT_OUT: &[(&[u8], usize, &str)] = &[
     (b"a.yield", 1, "yield"),
 ];
 
-/// Modules with a statement that is not built, and the line of the first one.
-const NOT_BUILT: &[(&[u8], usize)] = &[
+/// Modules with a form that has no typing rules, and the line of the first one.
+const NOT_TYPED: &[(&[u8], usize)] = &[
+    (b"class C: pass", 1),
+    (b"\n@d\n\ndef f(): pass\n", 2),
+    (b"x.print(3)", 1),
+    (b"print(\n(print).x(3))", 2),
+    (b"print(3).x", 1),
+    (b"super", 1),
+    (b"x = 1\nx = {}\n", 2),
+    (b"print(1)\nprint(1 in x)", 2),
+    (b"print(1 == (2 not in x))", 1),
+    (b"if x:\n    del x[0]\n", 2),
+    (b"x: dict\n", 1),
+    (b"from typing import Dict", 1),
+    (b"from mypy_extensions import trait", 1),
+    (b"raise ValueError", 1),
+    (b"print(\nValueError)", 2),
+    (b"while x:\n    try: pass\n    finally: pass\n", 2),
+    (b"def f():\n\n    assert True\n", 3),
+    // What is wrong with types before it is not said.
+    (b"x\nprint()\nclass C: x\n", 3),
+];
+
+/// Modules that are right, and of which some form is not compiled, with the line of the first one.
+const NOT_COMPILED: &[(&[u8], usize)] = &[
     (b"x = 1", 1),
     (b"print()", 1),
     (b"print(1, 2)", 1),
     (b"print(-1)", 1),
-    (b"print(+1)", 1),
     (b"print(4611686018427387904)", 1),
     (b"print(170141183460469231731687303715884105727)", 1),
     (b"print('3')", 1),
     (b"print(True)", 1),
-    (b"print(x)", 1),
-    (b"print((3,))", 1),
     (b"print(1 + 2)", 1),
-    (b"print(end=3)", 1),
-    (b"print(3, end=4)", 1),
-    (b"Print(3)", 1),
-    (b"printed(3)", 1),
-    (b"x.print(3)", 1),
-    (b"print.x(3)", 1),
-    (b"print(3).x", 1),
-    (b"print(3)(4)", 1),
-    (b"print[3]", 1),
-    (b"'print'(3)", 1),
-    (b"print", 1),
+    (b"print(1 if True else 2)", 1),
+    (b"from mypy_extensions import i64\nprint(i64(3))", 2),
     (b"3", 1),
-    (b"print(3),", 1),
-    (b"not print(3)", 1),
     (b"pass", 1),
+    (b"print(3)\nx: int\n", 2),
     (b"if True: print(3)", 1),
-    (b"def f(): pass", 1),
-    (b"class C: pass", 1),
-    (b"print(1)\n\nprint(2); x\nprint()\n", 3),
+    (b"def f() -> None: pass", 1),
+    (b"print(1)\n\ndef f() -> int:\n    return 3\n\nx = f()\n", 3),
+    (b"print(1)\nx = f()\ndef f() -> int:\n    return 3\n", 3),
+    (b"print(1)\n\nprint(2); 3\nprint()\n", 3),
     (b"print(1)\nprint(\n-1)\n", 2),
-    (b"print(1)\\\n; x\n", 2),
-    (b"\r\n\r(\nx)", 3),
-    (b"\n@d\n\ndef f(): pass\n", 2),
+    (b"print(1)\\\n; 3\n", 2),
+    (b"\r\n\r(\n3)", 3),
 ];
 
 /// Modules with a part that is repeated: what stands before it, the part, how often it stands there, and what stands
 /// behind it.
 const DEEP_ONES: &[((&str, &str, usize, &str), usize, &str)] = &[
-    (("", "not ", 99, "x"), 1, UNBUILT),
+    (("", "not ", 99, "x"), 1, UNKNOWN),
     (("", "not ", 100, "x"), 1, DEEP),
     (("(", "not ", 100, "\nx)"), 2, DEEP),
     (("(", "not ", 100, "\nx\ny)"), 3, SYNTAX),
-    (("print(", "-", 98, "3\n)"), 1, UNBUILT),
+    (("print(", "-", 98, "x\n)"), 1, UNKNOWN),
     (("print(", "-", 99, "3\n)"), 2, DEEP),
     (("", "(\n", 100, ""), 100, UNENDED),
     (("", "(\n", 101, ""), 101, DEEP),
@@ -260,9 +281,23 @@ fn faults_of_the_grammar(rt: HostRuntime) -> Result<(), Fail> {
 }
 
 #[test]
-fn forms_that_are_not_built(rt: HostRuntime) -> Result<(), Fail> {
-    for (bytes, line) in NOT_BUILT {
+fn forms_without_typing_rules(rt: HostRuntime) -> Result<(), Fail> {
+    for (bytes, line) in NOT_TYPED {
         check_faulty(&rt, rt.alloc(), bytes, *line, UNBUILT)?;
+    }
+    Ok(())
+}
+
+#[test]
+fn forms_that_are_not_compiled(rt: HostRuntime) -> Result<(), Fail> {
+    for (bytes, line) in NOT_COMPILED {
+        let given = command(rt.alloc(), &["--emit=check", "t.py"], bytes, CALM)?;
+        check_given(&rt, &given, SUCCESS, "", 0);
+        let out = format!(in rt.alloc(); "t.py:{line}: error: {UNBUILT}\n{FOUND}")?;
+        let given = command(rt.alloc(), &["--emit=c", "t.py"], bytes, CALM)?;
+        check_given(&rt, &given, out.as_str(), "", 1);
+        let given = command(rt.alloc(), &["t.py"], bytes, CALM)?;
+        check_given(&rt, &given, out.as_str(), "", 1);
     }
     Ok(())
 }
@@ -301,7 +336,14 @@ fn levels_of_brackets_and_blocks(rt: HostRuntime) -> Result<(), Fail> {
         space.push(' ')?;
     }
     let most = format!(in rt.alloc(); "{blocks}{space}pass\n")?;
-    check_faulty(&rt, rt.alloc(), most.as_bytes(), 1, UNBUILT)?;
+    let mut out = String::new(rt.alloc());
+    for line in 1..101usize {
+        let line = format!(in rt.alloc(); "t.py:{line}: error: {UNKNOWN}\n")?;
+        out.push_str(line.as_str())?;
+    }
+    out.push_str("Found 100 errors in 1 file (checked 1 source file)\n")?;
+    let given = command(rt.alloc(), &["--emit=check", "t.py"], most.as_bytes(), CALM)?;
+    check_given(&rt, &given, out.as_str(), "", 1);
     let more = format!(in rt.alloc(); "{blocks}{space}if x:\n {space}pass\n")?;
     check_faulty(&rt, rt.alloc(), more.as_bytes(), 102, DEEP)?;
     Ok(())

@@ -109,6 +109,8 @@ const SECOND: &str = "t.py:2: error: Form is not built yet  [unbuilt]\n";
 
 const FIRST: &str = "t.py:1: error: Form is not built yet  [unbuilt]\n";
 
+const UNKNOWN: &str = "t.py:2: error: Name \"x\" is not defined  [name-defined]\n";
+
 const SYNTAX: &str = "t.py:1: error: Invalid syntax, or syntax outside the profile  [syntax]\n";
 
 const NO_TEXT: &str = "t.py:1: error: File is not UTF-8  [syntax]\n";
@@ -120,9 +122,11 @@ const MODULES: &[(&[u8], &str, &str, u8)] = &[
     (b"", NONE, "", 0),
     (b"print(0)\nprint(4611686018427387903)\n", TWO, "", 0),
     (b"print(0x3)\r\n\n# three\n", THREE, "", 0),
-    (b"print(3)\nx\nprint()\n", SECOND, FOUND, 1),
+    (b"print(+3)", THREE, "", 0),
+    (b"from typing import Optional\nprint(int(3))", THREE, "", 0),
+    (b"print(3)\npass\nprint()\n", SECOND, FOUND, 1),
     (b"print(4611686018427387904)\n", FIRST, FOUND, 1),
-    (b"print(+3)", FIRST, FOUND, 1),
+    (b"print(3)\nprint(x)\npass\n", UNKNOWN, FOUND, 1),
     (b"print(\xff)", NO_TEXT, FOUND, 1),
     (b" print(3)", SYNTAX, FOUND, 1),
 ];
