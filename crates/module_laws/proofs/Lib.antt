@@ -17,3 +17,4 @@ mod Bound
 mod Updated
 mod Loops
 mod Stand
+mod Sights
