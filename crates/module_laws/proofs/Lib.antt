@@ -18,3 +18,5 @@ mod Updated
 mod Loops
 mod Stand
 mod Sights
+mod NameRows
+mod Meant

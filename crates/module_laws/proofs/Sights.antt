@@ -21,7 +21,6 @@ use Rattle.py_binder.specs.Sights.{Use, Reads, Binds, Defines, Declares, Holds, 
 use Rattle.py_binder.specs.Scope.{contains, all_there, bound_there, said_there}
 use Rattle.py_flow.specs.Bindings.{Binding, target_bindings, node_bindings, targets_bindings, name_in, marked, caught, stmt_bindings, act_bindings, suite_bindings, arms_bindings, handlers_bindings, last_bindings}
 use Rattle.py_names.specs.Outline.{may_import_all, imported_as, said_by, said_from, held_by, stmt_definitions, node_definitions, suite_definitions, arms_definitions, handlers_definitions, last_definitions}
-use Rattle.py_check.specs.Definitions.{names_given}
 
 -- ---- expressions: nothing but reads
 
@@ -276,25 +275,30 @@ mutual
 
 -- ---- what is defined
 
-abbrev given_there : Use → List (List ℕ)
-given_there u = map (λ (p : List ℕ × Role). p.0) (said_there u)
+-- what a definition or an import says that names are
+abbrev pub roles_given : StmtTree → List (List ℕ × Role)
+roles_given (s.at (s.Def name params ret body marks) span) = (name, Function) ∷ []
+roles_given (s.at (s.ClassDef name bases body marks) span) = (name, Class) ∷ []
+roles_given (s.at (s.Import name other) span) = (bound_as (first_part name) other, Import) ∷ []
+roles_given (s.at (s.From name names) span) = map (λ a. (bound_as a.0 a.1, Import)) names
+roles_given _ = []
 
-abbrev given_in : List Sight → List (List ℕ)
-given_in = all_there given_there
+abbrev given_in : List Sight → List (List ℕ × Role)
+given_in = all_there said_there
 
-abbrev given_by : List StmtTree → List (List ℕ)
-given_by = flat_map names_given
+abbrev given_by : List StmtTree → List (List ℕ × Role)
+given_by = flat_map roles_given
 
-no_given : (x : List ℕ) → given_there (Reads x) ≡ []
+no_given : (x : List ℕ) → said_there (Reads x) ≡ []
 no_given x = refl
 
-none_given : (f : FuncTree) → given_there (Holds f) ≡ []
+none_given : (f : FuncTree) → said_there (Holds f) ≡ []
 none_given f = refl
 
-abbrev none_bound : List ℕ → List (List ℕ)
+abbrev none_bound : List ℕ → List (List ℕ × Role)
 none_bound x = []
 
-bound_no : (x : List ℕ) → given_there (Binds x) ≡ none_bound x
+bound_no : (x : List ℕ) → said_there (Binds x) ≡ none_bound x
 bound_no x = refl
 
 empty_bindings : (bs : List Binding) → flat_map (λ (b : Binding). none_bound b.name) bs ≡ []
@@ -302,27 +306,30 @@ empty_bindings [] = refl
 empty_bindings (b ∷ bs) = empty_bindings bs
 
 target_gives : (a : ExprTree) → given_in (target_sights a) ≡ []
-target_gives a = target_binds given_there no_given none_bound bound_no a ∙ empty_bindings (target_bindings a)
+target_gives a = target_binds said_there no_given none_bound bound_no a ∙ empty_bindings (target_bindings a)
 
 two_give : (a b : List Sight) (xs ys : List StmtTree) → given_in a ≡ given_by xs → given_in b ≡ given_by ys → given_in (a ++ b) ≡ given_by (xs ++ ys)
-two_give a b xs ys p q = found_two given_there no_given a b ∙ ap₂ (λ (x y : List (List ℕ)). x ++ y) p q ∙ sym (flat_map-append names_given xs ys)
+two_give a b xs ys p q = found_two said_there no_given a b ∙ ap₂ (λ (x y : List (List ℕ × Role)). x ++ y) p q ∙ sym (flat_map-append roles_given xs ys)
 
-read_gives : (a b : List Sight) (l : List (List ℕ)) → given_in a ≡ [] → given_in b ≡ l → given_in (a ++ b) ≡ l
-read_gives a b l p q = none_front given_there no_given a b l p q
+read_gives : (a b : List Sight) (l : List (List ℕ × Role)) → given_in a ≡ [] → given_in b ≡ l → given_in (a ++ b) ≡ l
+read_gives a b l p q = none_front said_there no_given a b l p q
 
-alias_names : (b : Bool) (from : List ℕ) (names : List (List ℕ × Option (List ℕ))) (span : Span) → given_in (aliases_sights names span) ≡ map (λ (p : List ℕ × Rattle.py_scope.specs.declared.scope.Meaning.Meaning). p.0) (map (imported_as b from) names)
-alias_names b from [] span = refl
-alias_names b from (a ∷ more) span = ap (λ l. bound_as a.0 a.1 ∷ l) (alias_names b from more span)
+abbrev import_of : List ℕ × Option (List ℕ) → List ℕ × Role
+import_of a = (bound_as a.0 a.1, Import)
+
+alias_names : (names : List (List ℕ × Option (List ℕ))) (span : Span) → given_in (aliases_sights names span) ≡ map import_of names
+alias_names [] span = refl
+alias_names (a ∷ more) span = ap (λ l. import_of a ∷ l) (alias_names more span)
 
 caught_gives : (o : Option (List ℕ)) (span : Span) → given_in (caught_sights o span) ≡ []
 caught_gives None span = refl
 caught_gives (Some x) span = refl
 
 abbrev read_no : (a : ExprTree) → given_in (reads Value a) ≡ []
-read_no a = reads_none given_there no_given Value a
+read_no a = reads_none said_there no_given Value a
 
-one_by_one : (x : StmtTree) → names_given x ≡ given_by (x ∷ [])
-one_by_one x = sym (Rattle.std.proofs.Common.append-nil (names_given x))
+one_by_one : (x : StmtTree) → roles_given x ≡ given_by (x ∷ [])
+one_by_one x = sym (Rattle.std.proofs.Common.append-nil (roles_given x))
 
 mutual
   stmt_gives : (x : StmtTree) → given_in (stmt_sights InModule x) ≡ given_by (stmt_definitions x)
@@ -330,20 +337,20 @@ mutual
 
   act_gives : (node : StmtNode) (span : Span) → given_in (stmt_node_sights InModule node span) ≡ given_by (node_definitions node span)
   act_gives (s.Do a) span = read_no a
-  act_gives (s.Assign target a) span = none_two given_there no_given (target_sights target) (reads Value a) (target_gives target) (read_no a)
+  act_gives (s.Assign target a) span = none_two said_there no_given (target_sights target) (reads Value a) (target_gives target) (read_no a)
   act_gives (s.Annot target mark a) span =
-      none_two given_there no_given (target_sights target) (reads Annotation mark ++ maybe_reads Value a) (target_gives target) (none_two given_there no_given (reads Annotation mark) (maybe_reads Value a) (reads_none given_there no_given Annotation mark) (maybe_reads_none given_there no_given Value a))
-  act_gives (s.Aug target op a) span = none_two given_there no_given (target_sights target) (reads Value a) (target_gives target) (read_no a)
+      none_two said_there no_given (target_sights target) (reads Annotation mark ++ maybe_reads Value a) (target_gives target) (none_two said_there no_given (reads Annotation mark) (maybe_reads Value a) (reads_none said_there no_given Annotation mark) (maybe_reads_none said_there no_given Value a))
+  act_gives (s.Aug target op a) span = none_two said_there no_given (target_sights target) (reads Value a) (target_gives target) (read_no a)
   act_gives (s.Del a) span = read_no a
   act_gives s.Pass span = refl
   act_gives s.Break span = refl
   act_gives s.Continue span = refl
-  act_gives (s.Return a) span = maybe_reads_none given_there no_given Value a
-  act_gives (s.Raise a) span = maybe_reads_none given_there no_given Value a
+  act_gives (s.Return a) span = maybe_reads_none said_there no_given Value a
+  act_gives (s.Raise a) span = maybe_reads_none said_there no_given Value a
   act_gives (s.Global names) span = refl
-  act_gives (s.Assert a message) span = none_two given_there no_given (reads Value a) (maybe_reads Value message) (read_no a) (maybe_reads_none given_there no_given Value message)
+  act_gives (s.Assert a message) span = none_two said_there no_given (reads Value a) (maybe_reads Value message) (read_no a) (maybe_reads_none said_there no_given Value message)
   act_gives (s.Import name other) span = refl
-  act_gives (s.From name names) span = alias_names (may_import_all name names) name names span ∙ one_by_one (s.at (s.From name names) span)
+  act_gives (s.From name names) span = alias_names names span ∙ one_by_one (s.at (s.From name names) span)
   act_gives (s.If arms other) span = two_give (arms_sights InModule arms) (suite_sights InModule other) (arms_definitions arms) (suite_definitions other) (arms_give arms) (suite_gives other)
   act_gives (s.While test body) span = read_gives (reads Value test) (suite_sights InModule body) (given_by (suite_definitions body)) (read_no test) (suite_gives body)
   act_gives (s.For target a body) span =
@@ -353,10 +360,10 @@ mutual
       (two_give (handlers_sights InModule handlers) (maybe_suite_sights InModule last) (handlers_definitions handlers) (last_definitions last) (handlers_give handlers) (last_gives last))
   act_gives (s.Def name params ret body marks) span =
       let f : FuncTree = record { name = name; params = params; ret = ret; body = body; marks = marks } in
-      read_gives (list_reads Value marks) (sight (Defines Function name) span ∷ header_sights f span) (name ∷ []) (list_none given_there no_given Value marks) (ap (λ l. name ∷ l) (header_none given_there no_given none_given f span))
+      read_gives (list_reads Value marks) (sight (Defines Function name) span ∷ header_sights f span) ((name, Function) ∷ []) (list_none said_there no_given Value marks) (ap (λ (l : List (List ℕ × Role)). (name, Function) ∷ l) (header_none said_there no_given none_given f span))
   act_gives (s.ClassDef name bases body marks) span =
-      read_gives (list_reads Value marks) (sight (Defines Class name) span ∷ (list_reads Value bases ++ members_sights body)) (name ∷ []) (list_none given_there no_given Value marks)
-      (ap (λ l. name ∷ l) (none_two given_there no_given (list_reads Value bases) (members_sights body) (list_none given_there no_given Value bases) (members_none given_there no_given none_given body)))
+      read_gives (list_reads Value marks) (sight (Defines Class name) span ∷ (list_reads Value bases ++ members_sights body)) ((name, Class) ∷ []) (list_none said_there no_given Value marks)
+      (ap (λ (l : List (List ℕ × Role)). (name, Class) ∷ l) (none_two said_there no_given (list_reads Value bases) (members_sights body) (list_none said_there no_given Value bases) (members_none said_there no_given none_given body)))
 
   -- THE NAMES that definitions and imports give
   pub suite_gives : (body : Suite) → given_in (suite_sights InModule body) ≡ given_by (suite_definitions body)
@@ -371,7 +378,7 @@ mutual
   handlers_give : (handlers : Handlers) → given_in (handlers_sights InModule handlers) ≡ given_by (handlers_definitions handlers)
   handlers_give s.no_handlers = refl
   handlers_give (s.handler_then class name body span more) =
-      read_gives (maybe_reads Value class) (caught_sights name span ++ (suite_sights InModule body ++ handlers_sights InModule more)) (given_by (suite_definitions body ++ handlers_definitions more)) (maybe_reads_none given_there no_given Value class)
+      read_gives (maybe_reads Value class) (caught_sights name span ++ (suite_sights InModule body ++ handlers_sights InModule more)) (given_by (suite_definitions body ++ handlers_definitions more)) (maybe_reads_none said_there no_given Value class)
       (read_gives (caught_sights name span) (suite_sights InModule body ++ handlers_sights InModule more) (given_by (suite_definitions body ++ handlers_definitions more)) (caught_gives name span)
       (two_give (suite_sights InModule body) (handlers_sights InModule more) (suite_definitions body) (handlers_definitions more) (suite_gives body) (handlers_give more)))
 
