@@ -17,3 +17,6 @@ mod Bound
 mod Updated
 mod Loops
 mod Stand
+mod Sights
+mod NameRows
+mod Meant
