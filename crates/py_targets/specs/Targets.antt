@@ -2,6 +2,7 @@
 --
 -- A target is a name, an item, or a flat tuple of these. The rule of an item, which is an expression, is asked before that of the
 -- assignment. No name of a target is read by it. Where a target is a variable without a type nothing is said of what holds it.
+-- Targets are bound one behind the other, so an item is looked at with what is known once the names before it are bound.
 use Rattle.std.specs.Prelude.{ℕ, Bool, true, false, not, ◌&&◌, if◌then◌else◌, List, [], ◌∷◌, ◌++◌, map, length, Option, Some, None, unwrap_or, Result, Ok, Err}
 use Rattle.std.specs.List.{list_all, flat_map}
 use Rattle.std.specs.Option.{option_map}
@@ -15,6 +16,7 @@ use Rattle.py_typed.specs.Sorts.{Sort, sorts_of}
 use Rattle.py_typed.specs.Sorts as sort
 use Rattle.py_typed.specs.Classes.{ClassEntry}
 use Rattle.py_typed.specs.Fits.{fits}
+use Rattle.py_typed.specs.Narrowing.{without}
 use Rattle.py_typed.specs.Expressions as node
 use Rattle.py_typed.specs.Expressions.{TypedExpr, typed, type_of}
 use Rattle.py_typed.specs.Statements as act
@@ -26,12 +28,13 @@ use Rattle.py_flow.specs.Bindings.{name_in}
 use Rattle.py_messages.specs.Seen.{Seen, Message, is, made}
 use Rattle.py_messages.specs.Rows.{row_then}
 use Rattle.py_messages.specs.Messages.{no_target, cannot_assign, already_defined, wrong_assignment}
+use Rattle.py_rules.specs.Facts.{local_of}
 use Rattle.py_rules.specs.Several.{unless}
 use Rattle.py_rules.specs.Operators.{arithmetic}
 use Rattle.py_typing.specs.Typing.{typing}
 use Rattle.py_binding.specs.Slots.{SlotSort, known, fresh, refused, itemless}
 use Rattle.py_binding.specs.Assignments.{first_of, assignment, binding_fault, unpacking_fault, items_for}
-use Rattle.py_targets.specs.Places.{Known}
+use Rattle.py_targets.specs.Places.{Known, with_names}
 
 -- ---- single targets
 
@@ -268,9 +271,14 @@ module _ (c : Context) where
   single_aim k (Some x) e = seen_aim (name_aim k x (c.meaning x))
   single_aim k None e = made (value_aim (is_item e)) (typed_at k free e)
 
+  -- a name is bound before the targets behind it are reached: what was known of it is forgotten there
+  abbrev pub forgotten : Option (List ℕ) → List ℕ → List ℕ
+  forgotten None names = names
+  forgotten (Some x) names = without (local_of (c.meaning x)) names
+
   abbrev pub aims : Known → List ExprTree → Seen (List Aim)
   aims k [] = is []
-  aims k (e ∷ more) = row_then (single_aim k (name_in e) e) (aims k more)
+  aims k (e ∷ more) = row_then (single_aim k (name_in e) e) (aims (with_names k (forgotten (name_in e) k.names)) more)
 
   -- one that was read
   abbrev pub read_aim : Known → Option (List ℕ) → Bool → TypedExpr → Aim

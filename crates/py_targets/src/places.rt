@@ -68,7 +68,8 @@ fn locals_among(
     Ok(found)
 }
 
-fn put_local(found: &mut Vec<usize>, meaning: Meaning) -> Result<(), Memory>
+/// Puts a variable of the function's own, if it is one, behind those that there are.
+pub(crate) fn put_local(found: &mut Vec<usize>, meaning: Meaning) -> Result<(), Memory>
     ensures { IfOk result (λ done. found.new.items ≡ found.old.items ++ local_of meaning) }
 {
     if let Meaning::Local(i) = meaning {

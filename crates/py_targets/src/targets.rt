@@ -3,17 +3,20 @@ ghost use Rattle.std.specs.Prelude.{◌≡◌, ◌++◌, ◌∷◌, [], map, IfO
 ghost use Rattle.std.specs.Option.{option_map, option_copied};
 ghost use Rattle.py_syntax.specs.Expressions.{expr_tree, exprs_of};
 ghost use Rattle.py_typed.specs.Sorts.{sort};
+ghost use Rattle.py_typed.specs.Narrowing as narrowing;
 ghost use Rattle.py_typed.specs.Statements.{typed_target};
 ghost use Rattle.py_scope.specs.Context.{context, var_sort, var_of, wanted};
 ghost use Rattle.py_flow.specs.Bindings as bindings;
 ghost use Rattle.py_messages.specs.Seen.{Tells};
 ghost use Rattle.py_messages.specs.Rows.{kept};
 ghost use Rattle.py_rules.specs.Boxes.{boxed};
+ghost use Rattle.py_rules.specs.Facts.{local_of};
 ghost use Rattle.py_binding.specs.Slots.{slot_sort};
+ghost use Rattle.py_targets.specs.Places.{with_names};
 ghost use Rattle.py_targets.specs.Targets as rule_of;
 ghost use Rattle.py_targets.specs.Views.{known_at, aim_seen, boxed_aim, trees};
 
-use crate::places::Place;
+use crate::places::{Place, put_local, without};
 use py_binder::Diag;
 use py_binding::Slot;
 use py_scope::{Meaning, Scope, VarType, Want, meaning_of};
@@ -225,15 +228,17 @@ fn is_written(t: &Ty) -> bool
     }
 }
 
-// A single target.
+// A single target, where these of the function's own variables are known to be not None.
+#[tactic(auto, using(crate::proofs::PlaceLemmas::name_aim_kept))]
 fn single_aim<'a>(
     alloc: Global,
     scope: &Scope<'_>,
     place: &Place,
+    names: &[usize],
     e: &'a Expr,
     faults: &mut Many<Diag>,
 ) -> Result<Option<Box<Aim<'a>>>, Memory>
-    ensures { IfOk result (λ a. Tells boxed_aim a faults.old faults.new (rule_of.single_aim (context scope.now) (known_at place.now) (bindings.name_in (expr_tree e.now)) (expr_tree e.now))) }
+    ensures { IfOk result (λ a. Tells boxed_aim a faults.old faults.new (rule_of.single_aim (context scope.now) (with_names (known_at place.now) names.now) (bindings.name_in (expr_tree e.now)) (expr_tree e.now))) }
 {
     match name_in(e) {
         Some(x) => {
@@ -241,7 +246,7 @@ fn single_aim<'a>(
             in_box(alloc, a)
         }
         None => {
-            let t = typed_at(alloc, scope, place, Want::Free, e, faults)?;
+            let t = expression(alloc, scope, &place.types, Want::Free, names, e, faults)?;
             let a = aim_of(is_item(e), t);
             in_box(alloc, a)
         }
@@ -276,11 +281,36 @@ pub fn aims<'a>(
     ensures { IfOk result (λ found. Tells (map aim_seen) found faults.old faults.new (rule_of.aims (context scope.now) (known_at place.now) (trees leaves.now))) }
 {
     let mut found = Some(Many::new(alloc));
+    let mut names = Vec::from_slice(alloc, place.names.as_slice())?;
     for e in leaves {
-        let one = single_aim(alloc, scope, place, *e, faults)?;
+        let one = single_aim(alloc, scope, place, names.as_slice(), *e, faults)?;
         found = with_aim(found, one)?;
+        names = forgotten(alloc, scope, names.as_slice(), *e)?;
     }
     Ok(found)
+}
+
+// The names that are known behind a target, once it is bound.
+fn forgotten(
+    alloc: Global,
+    scope: &Scope<'_>,
+    names: &[usize],
+    e: &Expr,
+) -> Result<Vec<usize>, Memory>
+    ensures { IfOk result (λ v. v.items ≡ rule_of.forgotten (context scope.now) (bindings.name_in (expr_tree e.now)) names.now) }
+{
+    match name_in(e) {
+        Some(x) => without_own(alloc, meaning_of(scope, x), names),
+        None => Ok(Vec::from_slice(alloc, names)?),
+    }
+}
+
+fn without_own(alloc: Global, meaning: Meaning, names: &[usize]) -> Result<Vec<usize>, Memory>
+    ensures { IfOk result (λ v. v.items ≡ narrowing.without (local_of meaning) names.now) }
+{
+    let mut own = Vec::new(alloc);
+    put_local(&mut own, meaning)?;
+    without(alloc, own.as_slice(), names)
 }
 
 fn with_aim<'a>(
