@@ -1,6 +1,5 @@
-use Rattle.std.proofs.Common.{◌≡◌, ◌∙◌, map, List, Option, ℕ, true, false, sym, ap, subst}
+use Rattle.std.proofs.Common.{◌≡◌, ◌∙◌, map, List, Option, ℕ, true, sym, subst}
 use Rattle.std.specs.Option.{option_map}
-use Rattle.py_syntax.specs.declared.statement.Stmt.{Stmt}
 use Rattle.py_syntax.specs.Expressions.{expr_tree}
 use Rattle.py_syntax.specs.Statements as tree
 use Rattle.py_syntax.specs.Statements.{stmt_tree, body_tree, arms_of, arm_tree}
