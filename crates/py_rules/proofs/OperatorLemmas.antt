@@ -1,5 +1,5 @@
 -- The type of an operation's value.
-use Rattle.std.proofs.Common.{◌≡◌, Bool, true, false, List, Result, Ok, Err, refl, if◌then◌else◌}
+use Rattle.std.proofs.Common.{◌≡◌, Bool, true, false, List, Ok, Err, refl, if◌then◌else◌}
 use Rattle.std.specs.Result.{result_map_both}
 use Rattle.py_syntax.specs.declared.token.Span.{Span}
 use Rattle.py_syntax.specs.declared.expression.BinOp.{BinOp}

@@ -1,5 +1,5 @@
 -- An operation with assignment, by the type of the operation's value.
-use Rattle.std.proofs.Common.{◌≡◌, ◌++◌, List, Option, Some, None, Result, Ok, Err, IfOk, refl, ap, sym, ◌∙◌, subst}
+use Rattle.std.proofs.Common.{◌≡◌, List, Option, Some, None, Result, Ok, Err, IfOk, refl, ap, sym, ◌∙◌, subst}
 use Rattle.std.proofs.lemmas.List.{append-nil}
 use Rattle.std.specs.Result.{result_map_both}
 use Rattle.std.specs.declared.boxed.Box.{Box}

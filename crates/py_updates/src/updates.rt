@@ -180,7 +180,7 @@ fn read_aim<'a>(
 {
     match name_in(target) {
         Some(x) => read_name(alloc, place, x, meaning_of(scope, x), read),
-        None => Ok(Box::new(alloc, value_aim(is_item(target), read))?),
+        None => in_box(alloc, value_aim(is_item(target), read)),
     }
 }
 
@@ -193,10 +193,15 @@ fn read_name<'a>(
 ) -> Result<Box<Aim<'a>>, Memory>
     ensures { IfOk result (λ a. boxed_aim a ≡ unwrap_or (targets.name_aim (known_at place.now) x.now meaning) (targets.misplaced (type_of (boxed read)))) }
 {
-    let aim = match name_aim(alloc, place, x, meaning)? {
-        Some(aim) => aim,
-        None => Aim::Misplaced(Box::into_inner(read).ty),
-    };
+    match name_aim(alloc, place, x, meaning)? {
+        Some(aim) => in_box(alloc, aim),
+        None => in_box(alloc, value_aim(false, read)),
+    }
+}
+
+fn in_box<'a>(alloc: Global, aim: Aim<'a>) -> Result<Box<Aim<'a>>, Memory>
+    ensures { IfOk result (λ a. boxed_aim a ≡ aim_seen aim.entry) }
+{
     Ok(Box::new(alloc, aim)?)
 }
 

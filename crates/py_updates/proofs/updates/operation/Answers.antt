@@ -1,9 +1,6 @@
-use Rattle.std.proofs.Common.{◌≡◌, rules, map, Option, Some, None}
+use Rattle.std.proofs.Common.{◌≡◌, rules, map, Some, None}
 use Rattle.std.specs.Option.{option_map, option_zip}
-use Rattle.std.specs.declared.boxed.Box.{Box}
-use Rattle.std.specs.declared.alloc.Global.{Global}
 use Rattle.py_syntax.specs.Expressions.{expr_tree}
-use Rattle.py_typed.specs.declared.expression.TExpr.{TExpr}
 use Rattle.py_typed.specs.Sorts.{sort}
 use Rattle.py_typed.specs.Classes.{class_entry}
 use Rattle.py_typed.specs.Expressions.{TypedExpr, typed_expr}
