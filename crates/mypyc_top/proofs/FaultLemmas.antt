@@ -19,7 +19,7 @@ use Rattle.mypyc_top.specs.Forms.{uncompiled_line, numbers_of}
 use Rattle.mypyc_top.specs.Source.{IsTyped}
 use Rattle.mypyc_top.specs.Faults.{unbuilt_entry, unbuilt_at, or_else, of_compiling, of_typed, told, AreFaults}
 use Rattle.mypyc_top.specs.FaultLaws.{FaultsAreOne, NumbersAreOne}
-use Rattle.mypyc_top.specs.Found.{entries_of, Tells, Judges}
+use Rattle.mypyc_top.specs.Found.{Tells, Judges}
 
 no_entry : (e : Entry) (es : List Entry) → e ∷ es ≡ [] → ⊥
 no_entry e es is = cc
@@ -27,8 +27,8 @@ no_entry e es is = cc
 -- ---- trees
 
 -- a form without typing rules
-pub later_tells : {T : Type 0} (mode : Emit) (m : Suite) (line : ℕ) → later_line m ≡ Some line → Tells {T} (told mode m) (Err (Faulty (Unbuilt line)))
-later_tells mode m line is =
+pub later_tells : (T : Type 0) (mode : Emit) (m : Suite) (line : ℕ) → later_line m ≡ Some line → Tells {T = T} (told mode m) (Err (Faulty (Unbuilt line)))
+later_tells T mode m line is =
     let same : told mode m ≡ unbuilt_entry line ∷ [] = ap (λ o. or_else (unbuilt_at o) (of_typed mode m)) is in
     (same, λ none. no_entry (unbuilt_entry line) [] (sym same ∙ none))
 
@@ -43,11 +43,11 @@ first_of : (es others : List Entry) → ¬ (es ≡ []) → or_else es others ≡
 first_of [] others some = absurd (some refl)
 first_of (e ∷ es) others some = refl
 
-pub types_tell : {T U : Type 0} (mode : Emit) (m : Suite) (e : ModuleError) → Tells {T} (types_said m) (Err e) → Tells {U} (of_typed mode m) (Err e)
-types_tell mode m (Faulty faults) tells =
+pub types_tell : (T U : Type 0) (mode : Emit) (m : Suite) (e : ModuleError) → Tells {T = T} (types_said m) (Err e) → Tells {T = U} (of_typed mode m) (Err e)
+types_tell T U mode m (Faulty faults) tells =
     let same : of_typed mode m ≡ types_said m = first_of (types_said m) (of_compiling mode (uncompiled_line m (typed_tree m))) tells.1 in
     (same ∙ tells.0, λ none. tells.1 (sym same ∙ none))
-types_tell mode m Memory tells = tt
+types_tell T U mode m Memory tells = tt
 
 -- what is not compiled
 of_line : (mode : Emit) (m : Suite) (t : TypedModule) (line : Option ℕ) → types_said m ≡ [] → t ≡ typed_tree m → unbuilt_at line ≡ of_compiling mode (uncompiled_line m t) → of_typed mode m ≡ unbuilt_at line
@@ -59,16 +59,16 @@ of_line mode m t line none same is =
 pub all_compiled : (mode : Emit) (m : Suite) (t : TypedModule) (line : Option ℕ) → types_said m ≡ [] → t ≡ typed_tree m → unbuilt_at line ≡ of_compiling mode (uncompiled_line m t) → line ≡ None → of_typed mode m ≡ []
 all_compiled mode m t line none same is all = of_line mode m t line none same is ∙ ap unbuilt_at all
 
-pub uncompiled_tells : {T : Type 0} (mode : Emit) (m : Suite) (t : TypedModule) (line : Option ℕ) (n : ℕ) → types_said m ≡ [] → t ≡ typed_tree m → unbuilt_at line ≡ of_compiling mode (uncompiled_line m t) → line ≡ Some n → Tells {T} (of_typed mode m) (Err (Faulty (Unbuilt n)))
-uncompiled_tells mode m t line n none same is there =
+pub uncompiled_tells : (T : Type 0) (mode : Emit) (m : Suite) (t : TypedModule) (line : Option ℕ) (n : ℕ) → types_said m ≡ [] → t ≡ typed_tree m → unbuilt_at line ≡ of_compiling mode (uncompiled_line m t) → line ≡ Some n → Tells {T = T} (of_typed mode m) (Err (Faulty (Unbuilt n)))
+uncompiled_tells T mode m t line n none same is there =
     let all : of_typed mode m ≡ unbuilt_entry n ∷ [] = of_line mode m t line none same is ∙ ap unbuilt_at there in
     (all, λ nothing. no_entry (unbuilt_entry n) [] (sym all ∙ nothing))
 
 -- ---- files
 
 -- a file that is no module
-pub source_judged : {T : Type 0} (mode : Emit) (bytes : List ℕ) (fault : SourceFault) → SaysOfFile bytes (source.Faulty fault) → Judges {T} (AreFaults mode bytes) (Err (Faulty (OfSource fault)))
-source_judged mode bytes fault says = (says (told mode), λ none. no_entry _ [] none)
+pub source_judged : (T : Type 0) (mode : Emit) (bytes : List ℕ) (fault : SourceFault) → SaysOfFile bytes (source.Faulty fault) → Judges {T = T} (AreFaults mode bytes) (Err (Faulty (OfSource fault)))
+source_judged T mode bytes fault says = (says (told mode), λ none. no_entry _ [] none)
 
 -- and one that is
 pub file_judged : {T : Type 0} (mode : Emit) (bytes : List ℕ) (m : Suite) (r : Result T ModuleError) → IsModule bytes m → Tells (told mode m) r → Judges (AreFaults mode bytes) r

@@ -1,5 +1,5 @@
 -- The typed module of a file that is compiled prints its numbers.
-use Rattle.std.proofs.Common.{◌≡◌, refl, sym, ◌∙◌, ap, subst, ℕ, List, [], ◌∷◌, ◌++◌, append_assoc, append-nil, Option, Some, None}
+use Rattle.std.proofs.Common.{◌≡◌, refl, sym, ◌∙◌, ap, ℕ, List, [], ◌∷◌, ◌++◌, append_assoc, append-nil, arith, Option, Some, None}
 use Rattle.std.specs.Prelude.{ℤ, pos, negsuc, is_some, if◌then◌else◌}
 use Rattle.std.specs.Option.{option_and_then}
 use Rattle.std.specs.List.{flat_map, cons_option, list_all}
@@ -9,10 +9,10 @@ use Rattle.py_typed.specs.Sorts.{Sort}
 use Rattle.py_typed.specs.Classes.{ClassEntry}
 use Rattle.py_typed.specs.Expressions.{TypedExpr, typed, Int, Print, TypedExprs, no_exprs, expr_then}
 use Rattle.py_typed.specs.Statements.{TypedStmt, on_line, Do, TypedSuite, no_stmts, stmt_then, TypedModule, Variable}
-use Rattle.py_typed.specs.State.{State, Outcome, Gives, Calls, on_to, ◌>>=◌, ◌>>◌, give, needs, write}
+use Rattle.py_typed.specs.State.{State, Outcome, Gives, Calls, on_to, ◌>>=◌, give, needs, write}
 use Rattle.py_typed.specs.Operations as values
 use Rattle.py_typed.specs.ExpressionMeaning.{expression, expressions, node}
-use Rattle.py_typed.specs.WaysOut.{Flow, Goes, flow_on}
+use Rattle.py_typed.specs.WaysOut.{Goes, flow_on}
 use Rattle.py_typed.specs.StatementMeaning as meaning
 use Rattle.py_typed.specs.SourceRun.{source_run, call_of, start, stop_of}
 use Rattle.mypyc_top.specs.SourceRun.{printed_text}
@@ -42,7 +42,7 @@ only_is (expr_then a (expr_then b more)) e is = not_there e _ is
 only_is no_exprs e is = not_there e _ is
 
 -- a state with more output
-adds : State → List ℕ → State
+abbrev adds : State → List ℕ → State
 adds s text = record s { output = s.output ++ text }
 
 adds_nothing : (s : State) → adds s [] ≡ s
@@ -64,7 +64,7 @@ module _ (classes : List ClassEntry) (call : Calls) (globals locals : List Varia
       ap (λ o. on_to o rest) (literal_gives e n s is)
 
   -- what `print` does of values
-  prints : List Value → State → Outcome Value
+  abbrev prints : List Value → State → Outcome Value
   prints vs = needs (list_all values.has_text vs) (write (values.line_of vs))
 
   print_gives : (es : TypedExprs) (o : Option TypedExpr) (t : Sort) (n : ℕ) (s : State) → only_value es ≡ o → option_and_then literal o ≡ Some n → node classes call globals locals (Print es) t s ≡ Gives NoneVal (adds s (printed_text n))
@@ -82,19 +82,24 @@ module _ (classes : List ClassEntry) (call : Calls) (globals locals : List Varia
     statement_goes (on_line (Do e) line) n s is = ap (λ o. on_to o (λ _. give Goes)) (call_gives e n s is)
     statement_goes _ n s is = not_there n _ is
 
-    suite_goes : (ss : TypedSuite) (s : State) → statement_lines ss ≡ [] → meaning.suite classes call globals locals k ss s ≡ Gives Goes (adds s (flat_map printed_text (numbers_in ss)))
+    -- the rest of a suite behind a statement that is compiled
+    abbrev Rest : TypedSuite → State → Type 0
+    Rest more s = statement_lines more ≡ [] → meaning.suite classes call globals locals k more s ≡ Gives Goes (adds s (flat_map printed_text (numbers_in more)))
+
+    one_goes : (x : TypedStmt) (more : TypedSuite) (s : State) (o : Option ℕ) → printed x ≡ o → ((n : ℕ) → Rest more (adds s (printed_text n))) → Rest (stmt_then x more) s
+    one_goes x more s None is rest all =
+        let some : line_of x ∷ statement_lines more ≡ [] = sym (ap (λ o. line_unless (is_some o) (line_of x) ++ statement_lines more) is) ∙ all in
+        absurd (cc)
+    one_goes x more s (Some n) is rest all =
+        let none : statement_lines more ≡ [] = sym (ap (λ o. line_unless (is_some o) (line_of x) ++ statement_lines more) is) ∙ all in
+        ap (λ o. on_to o (flow_on (meaning.suite classes call globals locals k more))) (statement_goes x n s is)
+        ∙ rest n none
+        ∙ ap (λ t. Gives Goes t) (adds_both s (printed_text n) (flat_map printed_text (numbers_in more)))
+        ∙ ap (λ o. Gives Goes (adds s (flat_map printed_text (cons_option o (numbers_in more))))) (sym is)
+
+    suite_goes : (ss : TypedSuite) (s : State) → Rest ss s
     suite_goes no_stmts s all = ap (λ t. Gives Goes t) (sym (adds_nothing s))
-    suite_goes (stmt_then x more) s all = by_first (printed x) refl where
-      by_first : (o : Option ℕ) → printed x ≡ o → meaning.suite classes call globals locals k (stmt_then x more) s ≡ Gives Goes (adds s (flat_map printed_text (numbers_in (stmt_then x more))))
-      by_first None is =
-          let some : line_of x ∷ statement_lines more ≡ [] = sym (ap (λ o. line_unless (is_some o) (line_of x) ++ statement_lines more) is) ∙ all in
-          absurd (cc)
-      by_first (Some n) is =
-          let none : statement_lines more ≡ [] = sym (ap (λ o. line_unless (is_some o) (line_of x) ++ statement_lines more) is) ∙ all in
-          ap (λ o. on_to o (flow_on (meaning.suite classes call globals locals k more))) (statement_goes x n s is)
-          ∙ suite_goes more (adds s (printed_text n)) none
-          ∙ ap (λ t. Gives Goes t) (adds_both s (printed_text n) (flat_map printed_text (numbers_in more)))
-          ∙ ap (λ o. Gives Goes (adds s (flat_map printed_text (cons_option o (numbers_in more))))) (sym is)
+    suite_goes (stmt_then x more) s all = one_goes x more s (printed x) refl (λ n. suite_goes more (adds s (printed_text n))) all
 
 -- ---- modules
 

@@ -1,10 +1,10 @@
 -- The numbers of a module are small.
-use Rattle.std.proofs.Common.{◌≡◌, refl, get_or, ℕ, zero, suc, ◌<◌, ◌≤◌, ◌^◌, List, [], ◌∷◌, length, Option, Some, None, arith}
+use Rattle.std.proofs.Common.{◌≡◌, refl, get_or, ℕ, zero, suc, ◌<◌, ◌≤◌, ◌^◌, List, ◌∷◌, length, Option, Some, None, arith}
 use Rattle.std.specs.Prelude.{ℤ, pos, negsuc}
 use Rattle.std.specs.List.{All, cons_option}
 use Rattle.std.specs.Option.{option_and_then}
 use Rattle.std.proofs.lemmas.Bool.Decides.{nat_tests}
-use Rattle.py_typed.specs.Expressions.{TypedExpr, typed, Int, Print, TypedExprs, expr_then, no_exprs}
+use Rattle.py_typed.specs.Expressions.{TypedExpr, typed, Int, Print}
 use Rattle.py_typed.specs.Statements.{TypedStmt, on_line, Do, TypedSuite, no_stmts, stmt_then, TypedModule}
 use Rattle.mypyc_top.specs.Forms.{greatest_number, built, literal, only_value, printed_by, printed, numbers_in, numbers_of}
 

@@ -1,13 +1,12 @@
 -- What the typing of a module tells.
-use Rattle.std.proofs.Common.{◌≡◌, refl, sym, ◌∙◌, ap, subst, List, [], ◌∷◌, map, Result, Ok, Err, IfOk}
+use Rattle.std.proofs.Common.{◌≡◌, refl, sym, ap, List, [], ◌∷◌, map, Ok, Err}
 use Rattle.py_syntax.specs.Statements.{Suite}
 use Rattle.py_binder.specs.declared.scope.Diag.{Diag}
 use Rattle.py_typed.specs.declared.checked.Checked.{Checked}
 use Rattle.py_typed.specs.Statements.{typed_module}
 use Rattle.py_check.specs.Module.{diagnostics}
 use Rattle.py_check.specs.Outcome.{Outcome}
-use Rattle.py_check.specs.declared.check.CheckError.TheVariants.{Diags}
-use Rattle.py_source.specs.Entries.{Entry}
+use Rattle.py_check.specs.declared.checking.CheckError.TheVariants.{Diags}
 use Rattle.mypyc_top.specs.Types.{entry_at, types_said, typed_tree}
 
 -- no entries come of no diagnostics alone

@@ -2,7 +2,7 @@
 use Rattle.std.specs.Prelude.{◌≡◌, ℕ, true, List, [], length, replicate, Some, None}
 use Rattle.value_core.specs.Items.{Items}
 use Rattle.py_typed.specs.Statements.{TypedModule}
-use Rattle.py_typed.specs.SourceRun.{ModuleStop, source_run}
+use Rattle.py_typed.specs.SourceRun.{source_run}
 use Rattle.mypyc_top.specs.declared.words.Emit.{Emit}
 use Rattle.mypyc_top.specs.Forms.{numbers_of}
 use Rattle.mypyc_top.specs.Source.{IsTyped}

@@ -24,12 +24,12 @@ const GREATEST: i128 = 4_611_686_018_427_387_903;
 #[tactic(auto, using(crate::proofs::LineLemmas::least_of_both))]
 pub(crate) fn uncompiled_line(
     alloc: Global,
-    module: &Module,
+    parsed: &Module,
     checked: &Checked,
 ) -> Result<Option<usize>, Memory>
-    ensures { IfOk result (λ line. line ≡ uncompiled_line (module_tree module.now) (typed_module checked.now)) }
+    ensures { IfOk result (λ line. line ≡ uncompiled_line (module_tree parsed.now) (typed_module checked.now)) }
 {
-    let definitions = definitions_in(alloc, module.body.as_slice())?;
+    let definitions = definitions_in(alloc, parsed.body.as_slice())?;
     let found = among_statements(checked.top.as_slice());
     Ok(among_functions(&definitions, found))
 }

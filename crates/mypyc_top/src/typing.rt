@@ -47,7 +47,7 @@ pub(crate) fn read_typed(alloc: Global, mode: Emit, bytes: &[u8]) -> Result<Chec
     ensures judged { Judges (AreFaults mode bytes.now) result }
 {
     match read_module(alloc, bytes) {
-        Ok(module) => typed_of(alloc, mode, &module),
+        Ok(parsed) => typed_of(alloc, mode, &parsed),
         Err(SourceError::Faulty(fault)) => Err(ModuleError::Faulty(Faults::OfSource(fault))),
         Err(SourceError::Memory) => Err(ModuleError::Memory),
     }
@@ -56,24 +56,24 @@ pub(crate) fn read_typed(alloc: Global, mode: Emit, bytes: &[u8]) -> Result<Chec
 /// The typed module of a tree, or all that is wrong with it: a form that has no typing rules, or else its types, or else what
 /// cannot be compiled.
 #[tactic(auto, using(crate::proofs::FaultLemmas::later_tells, crate::proofs::FaultLemmas::typed_tells))]
-fn typed_of(alloc: Global, mode: Emit, module: &Module) -> Result<Checked, ModuleError>
-    ensures typed { IfOk result (λ checked. typed_module checked ≡ typed_tree (module_tree module.now)) }
-    ensures tells { Tells (told mode (module_tree module.now)) result }
+fn typed_of(alloc: Global, mode: Emit, parsed: &Module) -> Result<Checked, ModuleError>
+    ensures typed { IfOk result (λ checked. typed_module checked ≡ typed_tree (module_tree parsed.now)) }
+    ensures tells { Tells (told mode (module_tree parsed.now)) result }
 {
-    match later_line(module) {
+    match later_line(parsed) {
         Some(line) => Err(ModuleError::Faulty(Faults::Unbuilt(line))),
-        None => compiled_of(alloc, mode, module),
+        None => compiled_of(alloc, mode, parsed),
     }
 }
 
 /// The typed module of a tree whose forms all have typing rules.
 #[tactic(auto, using(crate::proofs::FaultLemmas::types_tell, crate::proofs::FaultLemmas::all_compiled, crate::proofs::FaultLemmas::uncompiled_tells))]
-fn compiled_of(alloc: Global, mode: Emit, module: &Module) -> Result<Checked, ModuleError>
-    ensures typed { IfOk result (λ checked. typed_module checked ≡ typed_tree (module_tree module.now)) }
-    ensures tells { Tells (of_typed mode (module_tree module.now)) result }
+fn compiled_of(alloc: Global, mode: Emit, parsed: &Module) -> Result<Checked, ModuleError>
+    ensures typed { IfOk result (λ checked. typed_module checked ≡ typed_tree (module_tree parsed.now)) }
+    ensures tells { Tells (of_typed mode (module_tree parsed.now)) result }
 {
-    let checked = types_of(alloc, module)?;
-    match line_not_compiled(alloc, mode, module, &checked)? {
+    let checked = types_of(alloc, parsed)?;
+    match line_not_compiled(alloc, mode, parsed, &checked)? {
         None => Ok(checked),
         Some(line) => Err(ModuleError::Faulty(Faults::Unbuilt(line))),
     }
@@ -83,14 +83,14 @@ fn compiled_of(alloc: Global, mode: Emit, module: &Module) -> Result<Checked, Mo
 fn line_not_compiled(
     alloc: Global,
     mode: Emit,
-    module: &Module,
+    parsed: &Module,
     checked: &Checked,
 ) -> Result<Option<usize>, Memory>
     ensures { IfOk result (λ line. unbuilt_at line
-        ≡ of_compiling mode (uncompiled_line (module_tree module.now) (typed_module checked.now))) }
+        ≡ of_compiling mode (uncompiled_line (module_tree parsed.now) (typed_module checked.now))) }
 {
     if compiles(mode) {
-        uncompiled_line(alloc, module, checked)
+        uncompiled_line(alloc, parsed, checked)
     } else {
         Ok(None)
     }
@@ -108,12 +108,12 @@ fn compiles(mode: Emit) -> bool
 
 /// The typed module of a tree, or what is wrong with its names and types.
 #[tactic(auto, using(crate::proofs::TypeLemmas::checked_typed, crate::proofs::TypeLemmas::checked_tells, crate::proofs::TypeLemmas::diags_told, crate::proofs::TypeLemmas::diags_are_some))]
-fn types_of(alloc: Global, module: &Module) -> Result<Checked, ModuleError>
-    ensures typed { IfOk result (λ checked. typed_module checked ≡ typed_tree (module_tree module.now)) }
-    ensures tells { Tells (types_said (module_tree module.now)) result }
+fn types_of(alloc: Global, parsed: &Module) -> Result<Checked, ModuleError>
+    ensures typed { IfOk result (λ checked. typed_module checked ≡ typed_tree (module_tree parsed.now)) }
+    ensures tells { Tells (types_said (module_tree parsed.now)) result }
 {
-    let scopes = bind(alloc, module)?;
-    match check(alloc, module, &scopes) {
+    let scopes = bind(alloc, parsed)?;
+    match check(alloc, parsed, &scopes) {
         Ok(checked) => Ok(checked),
         Err(CheckError::Diags(diags)) => Err(ModuleError::Faulty(Faults::OfTypes(diags))),
         Err(CheckError::Memory) => Err(ModuleError::Memory),

@@ -13,9 +13,9 @@ use Rattle.py_source.specs.declared.fault.FaultKind.TheVariants.{NoText, NoTree,
 use Rattle.py_source.specs.declared.fault.SourceFault.{SourceFault}
 use Rattle.py_source.specs.declared.source.SourceError.{SourceError}
 use Rattle.py_source.specs.declared.source.SourceError.TheVariants.{Faulty, Memory}
-use Rattle.py_source.specs.Entries.{Entry, Telling}
+use Rattle.py_source.specs.Entries.{Entry}
 use Rattle.py_source.specs.Modules.{HasTree, IsModule}
-use Rattle.py_source.specs.Faults.{at_line, bad_line, line_at, key_at, AreOfTokens, AreOfBytes, AreFaults}
+use Rattle.py_source.specs.Faults.{at_line, bad_line, line_at, key_at, AreOfTokens, AreOfBytes}
 use Rattle.py_source.specs.Sayings.{fault_on, entry_of, SaysOfTokens, SaysOfText, SaysOfFile}
 
 -- ---- faults of tokens

@@ -1,6 +1,5 @@
 -- What reading a module says where there is none: its one fault is all that is told of the file, whatever is told of trees.
-use Rattle.std.specs.Prelude.{List, [], ◌∷◌, ℕ, Result, Ok}
-use Rattle.std.specs.Str.{is_utf8}
+use Rattle.std.specs.Prelude.{List, [], ◌∷◌, ℕ, Ok}
 use Rattle.py_syntax.specs.declared.token.Token.{Token}
 use Rattle.py_lexer.specs.Tokens.{tokens_of}
 use Rattle.py_source.specs.declared.fault.FaultKind.{FaultKind}

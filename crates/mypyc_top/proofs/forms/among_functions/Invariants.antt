@@ -7,4 +7,4 @@ use Rattle.mypyc_top.proofs.forms.among_functions.Given as goal
 
 abbrev pub invariant-loop-stmt : goal.invariant-loop-stmt
 invariant-loop-stmt l =
-    least l.found (flat_map function_line (trees l.definitions)) ≡ least l.found-2 (flat_map function_line (trees (drop l.stmt-index l.definitions)))
+    least l.fn.found (flat_map function_line (trees l.definitions)) ≡ least l.found (flat_map function_line (trees (drop l.stmt-index l.definitions)))
