@@ -24,7 +24,7 @@ use crate::parts::{
 };
 use crate::statements;
 use crate::statements::{
-    alone, begins_again, deleted, leaves, passed, placed, untyped, with_statement,
+    alone, broken, continued, deleted, passed, placed, untyped, with_statement,
 };
 use py_binder::Diag;
 use py_binding::Returns;
@@ -104,8 +104,8 @@ fn act(
         StmtKind::Aug(target, op, e) => update(alloc, scope, place, span, target, *op, e, faults),
         StmtKind::Del(_) => deleted(alloc, span, faults),
         StmtKind::Pass => passed(alloc),
-        StmtKind::Break => leaves(alloc, loops, span, faults),
-        StmtKind::Continue => begins_again(alloc, loops, span, faults),
+        StmtKind::Break => broken(alloc, loops, span, faults),
+        StmtKind::Continue => continued(alloc, loops, span, faults),
         StmtKind::Return(e) => statements::returns(alloc, scope, place, span, returns, e, faults),
         StmtKind::Raise(_) => untyped(alloc, span, faults),
         StmtKind::Global(_) => passed(alloc),

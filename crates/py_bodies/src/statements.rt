@@ -105,7 +105,7 @@ pub(crate) fn passed(alloc: Global) -> Result<Option<Box<TStmtKind>>, Memory>
 }
 
 /// A `break`, in a loop or not (Python Language Reference, "The break statement").
-pub(crate) fn leaves(
+pub(crate) fn broken(
     alloc: Global,
     loops: bool,
     span: Span,
@@ -122,7 +122,7 @@ pub(crate) fn leaves(
 }
 
 /// A `continue`, in a loop or not (Python Language Reference, "The continue statement").
-pub(crate) fn begins_again(
+pub(crate) fn continued(
     alloc: Global,
     loops: bool,
     span: Span,
@@ -150,7 +150,7 @@ pub(crate) fn deleted(
     Ok(None)
 }
 
-/// Any other statement, which has no typed form yet: those that raise or handle exceptions.
+/// A statement that has no typed form: `raise`, `assert` and `try`, which have none yet, and an import or a definition.
 pub(crate) fn untyped(
     alloc: Global,
     span: Span,
