@@ -25,6 +25,7 @@ use Rattle.py_targets.specs.Targets.{Aim, slot_of, is_placed, is_row, is_flat, l
 use Rattle.py_targets.specs.Assignments.{bind_target}
 use Rattle.py_loops.specs.Loops.{Course, course_type, course_items, are_names, head_fault, head}
 use Rattle.py_loops.specs.Loops as loops
+use Rattle.module_laws.proofs.Aims.{beyond}
 use Rattle.module_laws.proofs.Given.{done, ok_same, if_then, unless_ok, mapped_none, row_given}
 
 -- ---- targets
@@ -56,8 +57,8 @@ module _ (C : Context) where
   pub aims_length : (k : Known) (es : List ExprTree) (l : List Aim) → (aims C k es).got ≡ Some l → length l ≡ length es
   aims_length k [] l e = ap length (sym (same_Some [] l e))
   aims_length k (x ∷ es) l e =
-      let r = row_given (single_aim C k (name_in x) x) (aims C k es) l e in
-      ap length (sym r.4) ∙ ap suc (aims_length k es r.1 r.3)
+      let r = row_given (single_aim C k (name_in x) x) (aims C (beyond C k x) es) l e in
+      ap length (sym r.4) ∙ ap suc (aims_length (beyond C k x) es r.1 r.3)
 
 -- ---- a value's type for targets
 

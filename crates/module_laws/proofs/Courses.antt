@@ -121,7 +121,7 @@ module _ (means : List ℕ → Meaning) (signatures : List (Option Signature)) (
         bound = (coerced_number others b t sb hb w).0;
         whole = whole_coerced t b w;
         start = and_from (stands m locals init false others (coerced t a)) (is_same_type (type_of (coerced t a)) (type_of (coerced t b))) (coerced_number others a t sa ha w).0
-        (ap (λ x. is_same_type x (type_of (coerced t b))) (type_coerced t a) ∙ ap (λ x. is_same_type t x) (type_coerced t b) ∙ type_is_itself t);
+            (ap (λ x. is_same_type x (type_of (coerced t b))) (type_coerced t a) ∙ ap (λ x. is_same_type t x) (type_coerced t b) ∙ type_is_itself t);
       }
 
   range_stands : (others : List ℕ) (es : List TypedExpr) (w : Course) → AllStand m locals init others es → bounds_of_numbers m.classes.classes es (no_number 1 es) ≡ Ok w → CourseStands others w

@@ -41,7 +41,7 @@ use Rattle.typing_laws.specs.WellTyped as law
 use Rattle.typing_laws.specs.WellTyped.{IsDeclared, Describes, Within}
 use Rattle.typing_laws.proofs.Types.{clash}
 use Rattle.typing_laws.proofs.Inside.{either}
-use Rattle.module_laws.specs.WellTyped.{is_filled, maybe_written, are_targets, items_first, is_stmt_written, is_act_written, is_suite_written, are_arms_written, IsScope}
+use Rattle.module_laws.specs.WellTyped.{is_filled, maybe_written, are_targets, is_stmt_written, is_act_written, is_suite_written, are_arms_written, IsScope}
 use Rattle.module_laws.proofs.Given.{some_is, made_given, both_given, rule_given, row_given}
 use Rattle.module_laws.proofs.Kept.{fix_cases, Follows, follows_itself, follows_on, follows_name, follows_target, follows_stmt, follows_block, follows_arms, is_open, bind_set}
 use Rattle.module_laws.proofs.Assigned.{single_bound, row_bound, name_no_row, aims_length, items_are, RowBound, BoundTo, assigned_is, head_is}
@@ -190,10 +190,10 @@ module _ (means : List ℕ → Meaning) (signatures : List (Option Signature)) (
       let b = both_given (target_aims here k target) (value_for here k target e) r.0 r.1 in
       let d = assigned_is m.classes.classes target r.0 a r.2 in
       let v = value_stands means signatures m locals init k D (leaves target) wt (is_row target) r.0.0 (aims_are here k (leaves target) r.0.0 b.0) e we r.0.1 d.bound
-        (ap (λ o. (typed_at here k (asked_by (is_row target) o) e).got) (sym b.0) ∙ b.1) k.names (λ x q. q) in
+      (ap (λ o. (typed_at here k (asked_by (is_row target) o) e).got) (sym b.0) ∙ b.1) k.names (λ x q. q) in
       record {
         valued = subst (λ (l : Known). Valued size l.types) (sym (bound_same here k target (is_some (assigns here k span target e).got) (option_map type_of (value_for here k target e).got) (type_of r.0.1) (some_is (assigns here k span target e).got a h) (ap (option_map type_of) b.1)))
-          (target_valued here size k k refl (valued_here k.types D) target r.0.0 b.0 (type_of r.0.1) d.bound (stands_type means signatures m locals init k.names r.0.1 v) (λ ts q. parts_type means signatures m locals init k.names r.0.1 ts v q));
+            (target_valued here size k k refl (valued_here k.types D) target r.0.0 b.0 (type_of r.0.1) d.bound (stands_type means signatures m locals init k.names r.0.1 v) (λ ts q. parts_type means signatures m locals init k.names r.0.1 ts v q));
         closed = target_closed here (is_some (assigns here k span target e).got) k s target (option_map type_of (value_for here k target e).got);
       }
 
@@ -206,7 +206,7 @@ module _ (means : List ℕ → Meaning) (signatures : List (Option Signature)) (
   settled_name : (k : Known) → Describes here k.types m locals → IsScope here k.types → (ok : Bool) (target mark : ExprTree) (x : List ℕ) (t : Option Sort) → name_in target ≡ Some x → IsMarked here k.types (bound x (Some mark)) → Settled (bind_target here ok k target t).types (marked (name_in target) target mark)
   settled_name k D s ok target mark x t n h =
       let kept : (bind_target here ok k target t).types ≡ k.types =
-        ap (λ (l : Known). l.types) (single_bound here ok k target t (name_no_row target x n) ∙ ap (λ o. bind_name here ok k o t) n) ∙ bind_set ok k (means x) t (h x mark (mark_found x mark)) in
+      ap (λ (l : Known). l.types) (single_bound here ok k target t (name_no_row target x n) ∙ ap (λ o. bind_name here ok k o t) n) ∙ bind_set ok k (means x) t (h x mark (mark_found x mark)) in
       record {
         valued = subst (Valued size) (sym kept) (valued_here k.types D);
         closed = subst (λ o. AllClosed here (bind_target here ok k target t).types (marked o target mark)) (sym n) (record { here = name_closed here ok k s target t x n; rest = tt });
@@ -233,7 +233,7 @@ module _ (means : List ℕ → Meaning) (signatures : List (Option Signature)) (
       let v : is_value_type size d.0.item ≡ true = item_type means signatures m locals init None k.names g.0.1 d.0.item c d.0.items in
       record {
         valued = subst (λ (z : Known). Valued size z.types) (sym (bound_same here l target (is_some (for_head here k span target e).got) (some_items (course here k e).got) d.0.item (some_is (for_head here k span target e).got p h) (ap some_items b.1 ∙ d.0.items)))
-          (target_valued here size l k refl (valued_here k.types D) target g.0.0 b.0 d.0.item d.0.bound (λ z. v) (λ ts z. Rattle.module_laws.proofs.Values.third (Rattle.std.specs.Prelude.nat_lt 0 (length (listed_sorts ts))) (Rattle.std.specs.Prelude.nat_lt (length (listed_sorts ts)) 17) (are_value_types size ts) (subst (λ x. is_value_type size x ≡ true) z v)));
+            (target_valued here size l k refl (valued_here k.types D) target g.0.0 b.0 d.0.item d.0.bound (λ z. v) (λ ts z. Rattle.module_laws.proofs.Values.third (Rattle.std.specs.Prelude.nat_lt 0 (length (listed_sorts ts))) (Rattle.std.specs.Prelude.nat_lt (length (listed_sorts ts)) 17) (are_value_types size ts) (subst (λ x. is_value_type size x ≡ true) z v)));
         closed = target_closed here (is_some (for_head here k span target e).got) l sc target (some_items (course here k e).got);
       }
 
@@ -284,7 +284,7 @@ module _ (means : List ℕ → Meaning) (signatures : List (Option Signature)) (
       settled_act : (loops : Bool) (k : Known) (span : Span) (n : StmtNode) (end : VarSorts) → Setting k.types (act_bindings n) end → Follows (node_after here k span n).types end → is_act_written n ≡ true → (a : TypedAct) → (node_statement here r loops k span n).got ≡ Some a → Settled (node_after here k span n).types (act_bindings n)
       settled_act loops k span (node.Assign target e) end g f w a h =
           let wt = and_left (are_targets (leaves target)) (law.is_written e) w in
-          settled_assign k g.describes g.scope span target e (and_left (list_all law.is_written (leaves target)) (items_first false (leaves target)) wt) (and_right (are_targets (leaves target)) (law.is_written e) w) a h
+          settled_assign k g.describes g.scope span target e wt (and_right (are_targets (leaves target)) (law.is_written e) w) a h
       settled_act loops k span (node.Annot target mark e) end g f w a h = settled_annotated k g.describes g.scope span target mark e (name_in target) refl g.marked a h
       settled_act loops k span (node.Aug target op e) end g f w a h = settled_update k g.describes g.scope target
       settled_act loops k span (node.If arms other) end g f w a h =
@@ -330,7 +330,7 @@ module _ (means : List ℕ → Meaning) (signatures : List (Option Signature)) (
           let fe = follows_on l.types (block_after here l more).types end fl f in
           let front = setting_front k.types end (stmt_bindings s) (suite_bindings more) g in
           let q = stmt_and_rest loops k s more ts (is_definition s) refl (λ d. settled_definition k end (stmt_bindings s) front s d)
-            (λ t e. settled_stmt loops k s end front fe (and_left (is_stmt_written s) (is_suite_written more) w) t e) h in
+          (λ t e. settled_stmt loops k s end front fe (and_left (is_stmt_written s) (is_suite_written more) w) t e) h in
           let next = setting_on k.types l.types end (stmt_bindings s) (suite_bindings more) g (follows_stmt here k s) fe q.0 in
           settled_both l.types (block_after here l more).types (stmt_bindings s) (suite_bindings more) fl q.0 (settled_block loops l more end next f (and_right (is_stmt_written s) (is_suite_written more) w) q.1 q.2)
 

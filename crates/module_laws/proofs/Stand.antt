@@ -160,7 +160,7 @@ module _ (means : List ℕ → Meaning) (signatures : List (Option Signature)) (
       subst (Fine loops handling others k.names) q.2 (record { typed = (sound_typing means signatures k.types m locals init D dropped k.names e we refl).each q.0 q.1 others w refl; names = w })
 
   jump : (r : ReturnSort) (loops handling : Bool) (k : Known) (span : Span) (word : List ℕ) (b a : TypedAct) → (stmt.act_typed m locals init result [] loops handling b ≡ true → (others : List ℕ) → stmt.act_typed m locals init result others loops handling b ≡ true) → (loops ≡ true → stmt.act_typed m locals init result [] loops handling b ≡ true)
-      → ((others : List ℕ) → telling.after_act one_takes others b ≡ others) → (in_loop here r loops span word b).got ≡ Some a → (others : List ℕ) → Within k.names others → Fine loops handling others k.names a
+      → ((others : List ℕ) → telling.after_act one_takes others b ≡ others) → (in_loop loops span word b).got ≡ Some a → (others : List ℕ) → Within k.names others → Fine loops handling others k.names a
   jump r true handling k span word b a all typed same h others w =
       subst (Fine true handling others k.names) (same_Some b a h) (record { typed = all (typed refl) others; names = subst (Within k.names) (sym (same others)) w })
   jump r false handling k span word b a all typed same h others w = absurd (cc)
@@ -240,12 +240,12 @@ module _ (means : List ℕ → Meaning) (signatures : List (Option Signature)) (
           let scw = scope_on here k.types way.at.types (follows_arms here (setting_out k) arms) sc in
           let shape = shape_block here r loops way.at other q.0.1 b.1 in
           let last : (known : List ℕ) → Within way.at.names known → SuiteGood loops handling known end.names (suite_of q.0.1) =
-            λ known wk. good_block loops way.at other scw E wr.2 (λ z. none_behind (arms_definitions arms) (suite_definitions other) (pl z)) q.0.1 b.1 known wk in
+          λ known wk. good_block loops way.at other scw E wr.2 (λ z. none_behind (arms_definitions arms) (suite_definitions other) (pl z)) q.0.1 b.1 known wk in
           let all = good_arms loops (setting_out k) arms sc (described_before here way.at.types end.types m locals (follows_block here way.at other) E) wr.1 (λ z. none_before (arms_definitions arms) (suite_definitions other) (pl z)) q.0.0 b.0 others w
-            (λ there. stmt.suite_typed m locals init result there loops handling (suite_of q.0.1)) (λ there ends. if telling.is_closed (suite_of q.0.1) then ends else or_shared ends (telling.after_suite one_takes there (suite_of q.0.1)))
-            (common (met way.ends (flow.is_closed other) end.names)) None tt (λ known wk. (last known wk).typed)
-            (λ known ends wk eo. all_ends (met way.ends (flow.is_closed other) end.names) (if telling.is_closed (suite_of q.0.1) then ends else or_shared ends (telling.after_suite one_takes known (suite_of q.0.1)))
-            (closed_end way.ends ends (flow.is_closed other) (telling.is_closed (suite_of q.0.1)) end.names (telling.after_suite one_takes known (suite_of q.0.1)) shape.closed eo (last known wk).names)) in
+          (λ there. stmt.suite_typed m locals init result there loops handling (suite_of q.0.1)) (λ there ends. if telling.is_closed (suite_of q.0.1) then ends else or_shared ends (telling.after_suite one_takes there (suite_of q.0.1)))
+          (common (met way.ends (flow.is_closed other) end.names)) None tt (λ known wk. (last known wk).typed)
+          (λ known ends wk eo. all_ends (met way.ends (flow.is_closed other) end.names) (if telling.is_closed (suite_of q.0.1) then ends else or_shared ends (telling.after_suite one_takes known (suite_of q.0.1)))
+          (closed_end way.ends ends (flow.is_closed other) (telling.is_closed (suite_of q.0.1)) end.names (telling.after_suite one_takes known (suite_of q.0.1)) shape.closed eo (last known wk).names)) in
           subst (Fine loops handling others (common (met way.ends (flow.is_closed other) end.names))) q.2
           (record { typed = and_from (stmt.has_arm m locals init result (arms_of q.0.0)) (stmt.arms_typed m locals init result others loops handling (arms_of q.0.0) (λ there. stmt.suite_typed m locals init result there loops handling (suite_of q.0.1))) (arms_there r loops (setting_out k) arms wr.0 q.0.0 b.0) all.0; names = all.1 })
       good_act loops k span (node.While e body) sc E ws pl a h others w =
@@ -285,8 +285,8 @@ module _ (means : List ℕ → Meaning) (signatures : List (Option Signature)) (
           let ts = suite_of q.0.1 in
           let gone = bound_by_all q.0.0.0 ++ telling.bound_suite ts in
           let bound : Within gone (locals_in here here_stmt) =
-            subst (Within gone) (sym (locals_two here (target_bindings target) (suite_bindings body)))
-            (within_append (bound_by_all q.0.0.0) (telling.bound_suite ts) (locals_among here (target_bindings target)) (locals_among here (suite_bindings body)) (subst (λ z. Within (bound_by_all z) (locals_among here (target_bindings target))) hp.targets (targets_within here k target hp.aims hp.seen)) shape.bound) in
+          subst (Within gone) (sym (locals_two here (target_bindings target) (suite_bindings body)))
+          (within_append (bound_by_all q.0.0.0) (telling.bound_suite ts) (locals_among here (target_bindings target)) (locals_among here (suite_bindings body)) (subst (λ z. Within (bound_by_all z) (locals_among here (target_bindings target))) hp.targets (targets_within here k target hp.aims hp.seen)) shape.bound) in
           let wl = within_without (locals_in here here_stmt) gone k.names others bound w in
           let hd = good_head means signatures m locals init result k D sc here_stmt span target e wr.0 q.0.0 b.0 hp El ts others wl in
           let g = good_block true l body (scope_on here k.types l.types fh sc) E wr.2 pl q.0.1 b.1 (stmt.in_loop_from m locals init result others q.0.0.0 hp.headed.item ts) hd.start in
@@ -338,12 +338,14 @@ module _ (means : List ℕ → Meaning) (signatures : List (Option Signature)) (
           let shape = shape_block here r loops inner body v.0.1 b.1 in
           let ts = suite_of v.0.1 in
           let rest = good_arms loops then_on more (scope_on here w.at.types end.types fb sc) E wr.3 (λ z. none_behind (suite_definitions body) (arms_definitions more) (pa z)) q.1 q.3 (telling.facts false v.0.0 ++ others) (st.tells false) other last final
-            (if telling.is_closed ts then ends else or_shared ends (telling.after_suite one_takes (telling.facts true v.0.0 ++ others) ts))
-            (closed_end w.ends ends (flow.is_closed body) (telling.is_closed ts) end.names (telling.after_suite one_takes (telling.facts true v.0.0 ++ others) ts) shape.closed eo g.names) typed next in
+          (if telling.is_closed ts then ends else or_shared ends (telling.after_suite one_takes (telling.facts true v.0.0 ++ others) ts))
+          (closed_end w.ends ends (flow.is_closed body) (telling.is_closed ts) end.names (telling.after_suite one_takes (telling.facts true v.0.0 ++ others) ts) shape.closed eo g.names) typed next in
           subst (λ z. (stmt.arms_typed m locals init result others loops handling (arms_of z) other ≡ true) × Within final (known_at_end (telling.after_arms one_takes others ends (arms_of z) last))) q.4
-          (subst (λ (z : TypedExpr × TypedSuite). (stmt.arms_typed m locals init result others loops handling (arms_of (z ∷ q.1)) other ≡ true) × Within final (known_at_end (telling.after_arms one_takes others ends (arms_of (z ∷ q.1)) last))) v.2
-          (four (stmt.is_test m locals init result others v.0.0) (stmt.is_body m locals init result ts) (stmt.suite_typed m locals init result (telling.facts true v.0.0 ++ others) loops handling ts) (stmt.arms_typed m locals init result (telling.facts false v.0.0 ++ others) loops handling (arms_of q.1) other)
-          st.stands (body_there r loops inner body wr.1 pb v.0.1 b.1) g.typed rest.0, rest.1))
+          (subst (λ (z : TypedExpr × TypedSuite). (stmt.arms_typed m locals init result others loops handling (arms_of (z ∷ q.1)) other ≡ true) × Within final (known_at_end (telling.after_arms one_takes others ends (arms_of (z ∷ q.1)) last))) v.2 (
+            four (stmt.is_test m locals init result others v.0.0) (stmt.is_body m locals init result ts) (stmt.suite_typed m locals init result (telling.facts true v.0.0 ++ others) loops handling ts) (stmt.arms_typed m locals init result (telling.facts false v.0.0 ++ others) loops handling (arms_of q.1) other)
+                st.stands (body_there r loops inner body wr.1 pb v.0.1 b.1) g.typed rest.0,
+            rest.1,
+          ))
 
 abbrev at_classes : Context → List Rattle.py_typed.specs.Classes.ClassEntry → Context
 at_classes C k = record { meaning = C.meaning; signatures = C.signatures; classes = k }

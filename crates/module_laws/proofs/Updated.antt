@@ -193,7 +193,7 @@ module _ (means : List ℕ → Meaning) (signatures : List (Option Signature)) (
       let at_name : AimAt here k (name_in target) target aim = subst (λ o. AimAt here k o target aim) (sym n) c.0 in
       let wt = name_written target x n in
       let sv = value_stands means signatures m locals init k D (target ∷ []) (and_from (law.is_written target) true wt refl) false (aim ∷ []) (record { here = at_name; rest = tt }) e we v (aim, refl, g.right)
-        (ap (λ z. (typed_at here k z e).got) (sym (asked_same k x (means x) aim c.0)) ∙ b.1) others w in
+      (ap (λ z. (typed_at here k z e).got) (sym (asked_same k x (means x) aim c.0)) ∙ b.1) others w in
       subst (Fine loops handling others (bind_target here (is_some s.got) k target (option_map type_of (annotated_value here k x e).got)).names) g.is
       (subst (λ (z : Known). Fine loops handling others z.names (act.Assign (target_of aim) (as_bound (slot_of aim) v))) (sym p)
       (good_one means signatures m locals init result loops handling k target wt sc aim at_name v g.right (subst (λ (z : Known). Describes here z.types m locals) p E) others w sv))
@@ -240,9 +240,9 @@ module _ (means : List ℕ → Meaning) (signatures : List (Option Signature)) (
       let st = held_stands means signatures m locals init result k D target (λ q. wt) t s h others (λ q. w) in
       subst (λ z. Fine loops handling others (bind_name here false k (name_in target) None).names (act.Aug z o p.1 (type_of r))) (only_target t u more is) (record {
         typed = three (stands m locals init false others p.1) (stmt.target_typed m locals init result others t) (stmt.update_fits m locals init result others t o (type_of p.1) (type_of r)) sv st.there
-          (and_from (is_type (operation_sort o (stmt.read_type m locals init result others t) (type_of p.1)) (type_of r)) (fits m.classes.classes (type_of r) (stmt.target_type m locals init result t))
-          (ap (λ z. is_type (operation_sort o z (type_of p.1)) (type_of r)) (held_read k D target wt t s h p.0 g ops.reads others w) ∙ ops.type)
-          (ap (fits m.classes.classes (type_of r)) st.type ∙ fault_fits means signatures m locals init s (type_of r) f));
+            (and_from (is_type (operation_sort o (stmt.read_type m locals init result others t) (type_of p.1)) (type_of r)) (fits m.classes.classes (type_of r) (stmt.target_type m locals init result t))
+            (ap (λ z. is_type (operation_sort o z (type_of p.1)) (type_of r)) (held_read k D target wt t s h p.0 g ops.reads others w) ∙ ops.type)
+            (ap (fits m.classes.classes (type_of r)) st.type ∙ fault_fits means signatures m locals init s (type_of r) f));
         names = aimed_bound here target t (held_aimed here k target t s h) false k None (type_of r) others w (λ q. ops.plain);
       })
   update_by loops handling k target o (first t x) a wt D p g r ops f u more is others w sv =

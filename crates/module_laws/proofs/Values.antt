@@ -32,7 +32,7 @@ use Rattle.typing_laws.proofs.Rows.{all_fits, is_sought, sought_of_asked}
 use Rattle.typing_laws.proofs.Sound.{sound_typing}
 use Rattle.module_laws.proofs.Given.{mapped_none}
 use Rattle.module_laws.proofs.Assigned.{items_are, RowBound, BoundTo, first_none}
-use Rattle.module_laws.proofs.Aims.{AimAt, AimsOf, Held, held_local, held_global, held_item, aim_held}
+use Rattle.module_laws.proofs.Aims.{AimAt, beyond, AimsOf, Held, held_local, held_global, held_item, aim_held}
 
 pub of_three : (a b c : Bool) → (a && b && c) ≡ true → (a ≡ true) × (b ≡ true) × (c ≡ true)
 of_three true true true h = (refl, refl, refl)
@@ -141,7 +141,7 @@ module _ (means : List ℕ → Meaning) (signatures : List (Option Signature)) (
       let r = some_sorts s (held_sorts l) ts h in
       subst (λ z. are_value_types (length m.classes.classes) (sorts_of z) ≡ true) r.2
       (and_from (is_value_type (length m.classes.classes) s) (are_value_types (length m.classes.classes) (sorts_of r.0)) (held_value k D e (and_left (law.is_written e) (list_all law.is_written es) w) t s (aim_held scene k e t s a.here))
-      (sorts_sought k D es (and_right (law.is_written e) (list_all law.is_written es) w) l a.rest r.0 r.1))
+      (sorts_sought (beyond scene k e) D es (and_right (law.is_written e) (list_all law.is_written es) w) l a.rest r.0 r.1))
   sorts_sought k D (e ∷ es) w (first t x ∷ l) a ts h = absurd (cc)
   sorts_sought k D (e ∷ es) w (barred x ∷ l) a ts h = absurd (cc)
   sorts_sought k D (e ∷ es) w (unwritten s ∷ l) a ts h = absurd (cc)

@@ -46,6 +46,7 @@ use Rattle.module_laws.specs.Statements.{is_judged}
 use Rattle.module_laws.proofs.Given.{some_is, rule_given, both_given, made_given}
 use Rattle.module_laws.proofs.Kept.{fix_cases, is_open, bind_set}
 use Rattle.module_laws.proofs.Assigned.{single_bound, row_bound, name_no_row, aims_length, items_are, BoundTo, assigned_is, head_is}
+use Rattle.module_laws.proofs.Aims.{beyond}
 use Rattle.module_laws.proofs.Annotated.{loud_if, loud_annotation}
 
 -- ---- variables
@@ -97,7 +98,7 @@ aim_there k all x (meaning.Local i) e = variable_there (act.LocalTarget i) x (va
 aim_there k all x (meaning.Global i) e = variable_there (act.GlobalTarget i) x (var_at k.types.globals i) (all.globals i) e
 aim_there k all x _ e = cc
 
-loud_in_loop : (r : ReturnSort) (C : Context) (loops : Bool) (span : Span) (word : List ℕ) (a : TypedAct) → IsLoud (in_loop C r loops span word a)
+loud_in_loop : (r : ReturnSort) (C : Context) (loops : Bool) (span : Span) (word : List ℕ) (a : TypedAct) → IsLoud (in_loop loops span word a)
 loud_in_loop r C true span word a = loud_is a
 loud_in_loop r C false span word a = loud_fails span _
 
@@ -182,7 +183,7 @@ module _ (C : Context) where
 
     loud_aims : (k : Known) → AllTyped k.types → (es : List ExprTree) → IsLoud (aims C k es)
     loud_aims k all [] = loud_is []
-    loud_aims k all (e ∷ more) = loud_row (single_aim C k (name_in e) e) (aims C k more) (loud_single k all (name_in e) e) (loud_aims k all more)
+    loud_aims k all (e ∷ more) = loud_row (single_aim C k (name_in e) e) (aims C (beyond C k e) more) (loud_single k all (name_in e) e) (loud_aims (beyond C k e) all more)
 
     loud_assigns : (k : Known) → AllTyped k.types → (span : Span) (target e : ExprTree) → IsLoud (assigns C k span target e)
     loud_assigns k all span target e =
