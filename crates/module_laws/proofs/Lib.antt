@@ -20,3 +20,9 @@ mod Stand
 mod Sights
 mod NameRows
 mod Meant
+mod Marks
+mod Signed
+mod Modules
+mod Fixed
+mod Owned
+mod Varied
