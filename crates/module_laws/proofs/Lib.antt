@@ -26,3 +26,6 @@ mod Modules
 mod Fixed
 mod Owned
 mod Varied
+mod Marked
+mod Inner
+mod Described

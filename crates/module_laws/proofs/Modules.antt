@@ -150,6 +150,9 @@ module _ (m : Suite) (nothing : said m ≡ []) where
   definitions : defined ≡ []
   definitions = none_behind (flat_map (header_said meant) (functions m)) defined (none_before (flat_map (header_said meant) (functions m) ++ defined) (flat_map inner_definitions_said (functions m)) headers)
 
+  pub inner_quiet : flat_map inner_definitions_said (functions m) ≡ []
+  inner_quiet = none_behind (flat_map (header_said meant) (functions m) ++ defined) (flat_map inner_definitions_said (functions m)) headers
+
   pub right : list_all is_right (suite_definitions m) ≡ true
   right = all_right (module_role m) meant [] (suite_definitions m) definitions
 

@@ -319,7 +319,7 @@ module _ (means : List ℕ → Meaning) (signatures : List (Option Signature)) (
           let fh = follows_target here (is_some s.got) (entering here k st) target (some_items (course here k e).got) in
           let next = setting_on k.types l.types end (target_bindings target) (suite_bindings body) g fh (follows_on l.types (block_after here l body).types end fl f) first in
           settled_both l.types (block_after here l body).types (target_bindings target) (suite_bindings body) fl first (settled_block true l body end next f written.2 q.0.1 b.1)
-      settled_act loops k span (node.Try body handlers last) end g f w a h = absurd (cc)
+      settled_act loops k span (node.Try _ _ _) end g f w a h = absurd (cc)
       settled_act loops k span n end g f w a h = nothing_bound k.types end (act_bindings n) g
 
       pub settled_block : (loops : Bool) (k : Known) (body : Suite) (end : VarSorts) → Setting k.types (suite_bindings body) end → Follows (block_after here k body).types end → is_suite_written body ≡ true → (ts : List TypedStmt) → (block here r loops k body).got ≡ Some ts → Settled (block_after here k body).types (suite_bindings body)

@@ -52,7 +52,7 @@ has_by unset h g = absurd (cc)
 has_by untyped h g = absurd (cc)
 has_by (has t) h g = refl
 
-set_by : (v : VarSort) → has_type v ≡ true → is_unset v ≡ false
+pub set_by : (v : VarSort) → has_type v ≡ true → is_unset v ≡ false
 set_by (has t) h = refl
 set_by _ h = absurd (cc)
 
@@ -70,13 +70,13 @@ all_have_by types i (x ∷ names) h = and_from (has_type (var_at types i)) (all_
     less_on : (j i n : ℕ) → j < suc i + n → j < i + suc n
     less_on j i n g = omega arith
 
-mapped_at : (g : List ℕ → VarSort) (l : List (List ℕ)) (i : ℕ) (x : List ℕ) → slice_get l i ≡ Some x → var_at (map g l) i ≡ g x
+pub mapped_at : (g : List ℕ → VarSort) (l : List (List ℕ)) (i : ℕ) (x : List ℕ) → slice_get l i ≡ Some x → var_at (map g l) i ≡ g x
 mapped_at g [] i x h = absurd (cc)
 mapped_at g (y ∷ l) zero x h = ap g (same_Some y x h)
 mapped_at g (y ∷ l) (suc i) x h = mapped_at g l i x h
 
 -- a variable that has a type keeps it
-kept_has : (xs ys : List VarSort) → Kept xs ys → (i : ℕ) → has_type (var_at xs i) ≡ true → has_type (var_at ys i) ≡ true
+pub kept_has : (xs ys : List VarSort) → Kept xs ys → (i : ℕ) → has_type (var_at xs i) ≡ true → has_type (var_at ys i) ≡ true
 kept_has xs ys k i h = ap has_type (k.stays i (set_by (var_at xs i) h)) ∙ h
 
 -- ---- functions
@@ -181,19 +181,19 @@ module _ (m : Suite) (nothing : said m ≡ []) where
   abbrev size : ℕ
   size = whole.n m nothing
 
-  none_own : own_names (module_scope m) ≡ []
+  pub none_own : own_names (module_scope m) ≡ []
   none_own = scope_names is_own roles sights ∙ filter_none (λ y. is_own (roles y)) (module_own m size (whole.right m nothing) (whole.count m nothing)) (first_sights sights)
 
-  top_scope : IsScope here first.types
+  pub top_scope : IsScope here first.types
   top_scope = scope_is (said_in m) e.variables size roles (whole.fine m nothing) sights (signatures m) [] first.types (sym (ap length none_own)) (length-map e.variables (start_sort (module_meaning m) (suite_bindings m)))
 
   top_fixed : AllClosed here last.types (suite_bindings m)
   top_fixed = suite_fixed here ret.outside false first top_scope m (whole.own_quiet m nothing)
 
-  top_typed : (i : ℕ) → law.is_untyped (var_at last.types.globals i) ≡ false
+  pub top_typed : (i : ℕ) → law.is_untyped (var_at last.types.globals i) ≡ false
   top_typed = (quiet_block here (whole.top_voiced m nothing) ret.outside refl false first (whole.start_all m nothing) m (whole.own_quiet m nothing)).globals
 
-  top_size : length last.types.globals ≡ length e.variables
+  pub top_size : length last.types.globals ≡ length e.variables
   top_size = (follows_block here first m).globals.size ∙ length-map e.variables (start_sort (module_meaning m) (suite_bindings m))
 
   variables_differ : all_differ e.variables ≡ true
@@ -202,7 +202,7 @@ module _ (m : Suite) (nothing : said m ≡ []) where
   open_has_type : (i : ℕ) → is_open last.types (meaning.Global i) ≡ false → has_type (var_at last.types.globals i) ≡ true
   open_has_type i h = has_by (var_at last.types.globals i) h (top_typed i)
 
-  global_has : (i : ℕ) → i < length e.variables → has_type (var_at last.types.globals i) ≡ true
+  pub global_has : (i : ℕ) → i < length e.variables → has_type (var_at last.types.globals i) ≡ true
   global_has i h =
       let x = there e.variables i h in
       let r = filtered (λ y. is_variable (roles y)) (first_sights sights) x.0 (sym (ap (λ l. contains l x.0) (scope_names is_variable roles sights)) ∙ at_place e.variables i x.0 x.1) in

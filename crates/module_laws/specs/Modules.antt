@@ -1,12 +1,17 @@
 -- What holds of the typing of every module.
-use Rattle.std.specs.Prelude.{◌≡◌, ℕ, suc, Bool, true, false, ◌&&◌, List, [], ◌∷◌, is_some}
+use Rattle.std.specs.Prelude.{◌≡◌, ℕ, suc, Bool, true, false, ◌&&◌, List, [], ◌∷◌, Some, None, is_some}
+use Rattle.std.specs.List.{list_all}
 use Rattle.py_syntax.specs.Statements.{Suite}
-use Rattle.py_binder.specs.Scope.{module_scope}
+use Rattle.py_binder.specs.Scope.{module_scope, functions}
+use Rattle.py_typed.specs.Statements.{TypedFunc, TypedModule}
+use Rattle.py_typed.specs.WellTyped.{suite_typed}
+use Rattle.py_typed.specs.WellTypedExpr.{init_class}
 use Rattle.py_scope.specs.Context.{VarSort, has, var_at}
 use Rattle.py_names.specs.Meanings.{own_names}
 use Rattle.py_headers.specs.Headers.{signature_of}
 use Rattle.py_check.specs.Definitions.{Headed, headed_functions}
-use Rattle.py_check.specs.Module.{Environment, context_in, own_statements, body, body_after, sorts_behind, sorts_behind_all, global_sorts, environment, diagnostics}
+use Rattle.py_check.specs.Module.{Environment, context_in, own_statements, body, body_after, sorts_behind, sorts_behind_all, global_sorts, environment, diagnostics, typed}
+use Rattle.module_laws.specs.WellTyped.{is_suite_written}
 
 -- the signature of each function, what it returns and its body have a typed form
 abbrev pub are_typed : Environment → List VarSort → List Headed → Bool
@@ -51,3 +56,19 @@ are_variables_typed m =
 -- where nothing is said of a module, each of its variables has a type, and each variable of its functions has one
 abbrev pub QuietModuleTypesVariables : Type 0
 QuietModuleTypesVariables = (m : Suite) → diagnostics m ≡ [] → are_variables_typed m ≡ true
+
+-- ---- what is typed is well typed
+
+-- statements that a text can write, in the module and in its functions
+abbrev pub is_module_written : Suite → Bool
+is_module_written m = is_suite_written m && list_all (λ f. is_suite_written f.body) (functions m)
+
+abbrev pub body_stands : TypedModule → TypedFunc → Bool
+body_stands m f = suite_typed m f.locals (init_class f) (Some f.ret) [] false false f.body
+
+abbrev pub statements_stand : TypedModule → Bool
+statements_stand m = suite_typed m [] None None [] false false m.top && list_all (body_stands m) m.funcs
+
+-- where nothing is said of a module, its own statements and the bodies of its functions are well typed in its typed tree
+abbrev pub QuietModuleStands : Type 0
+QuietModuleStands = (m : Suite) → diagnostics m ≡ [] → is_module_written m ≡ true → statements_stand (typed m) ≡ true
