@@ -1,5 +1,5 @@
 -- What targets are: names of variables, and items.
-use Rattle.std.proofs.Common.{◌≡◌, ℕ, Bool, true, false, List, [], ◌∷◌, ◌++◌, map, Option, Some, None, refl, ap, sym, ◌∙◌, subst, if◌then◌else◌}
+use Rattle.std.proofs.Common.{◌≡◌, ℕ, Bool, true, false, List, [], ◌∷◌, Option, Some, None, refl, ap, sym, ◌∙◌, subst, if◌then◌else◌}
 use Rattle.std.proofs.lemmas.Option.{same_Some}
 use Rattle.py_syntax.specs.declared.token.Span.{Span}
 use Rattle.py_syntax.specs.Expressions.{ExprTree}
@@ -14,7 +14,7 @@ use Rattle.py_flow.specs.Bindings.{name_in}
 use Rattle.py_typed.specs.Narrowing.{without, may_be_none, after_target}
 use Rattle.py_rules.specs.Facts.{local_of}
 use Rattle.py_targets.specs.Places.{Known, with_names, is_unset, is_plain, rebound, bind_variable, bind_name}
-use Rattle.py_targets.specs.Targets.{Aim, held, first, barred, unwritten, misplaced, variable_aim, name_aim, is_written, part_aim, item_aim, is_item, value_aim, target_of, typed_at, single_aim, forgotten, aims}
+use Rattle.py_targets.specs.Targets.{Aim, held, first, unwritten, variable_aim, name_aim, is_written, item_aim, is_item, value_aim, typed_at, single_aim, forgotten, aims}
 use Rattle.typing_laws.specs.WellTyped.{Within}
 use Rattle.module_laws.proofs.Given.{made_given, row_given}
 use Rattle.module_laws.proofs.Names.{within_less, bound_local, forgotten_local, bound_other}

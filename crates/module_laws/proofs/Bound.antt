@@ -1,30 +1,28 @@
 -- Assignments, returns and operations with assignment that are typed stand well typed.
-use Rattle.std.proofs.Common.{◌≡◌, ℕ, zero, suc, Bool, true, false, not, ◌&&◌, ◌||◌, List, [], ◌∷◌, ◌++◌, length, map, Option, Some, None, Result, Ok, Err, refl, ap, ap₂, sym, ◌∙◌, subst, if◌then◌else◌, inl}
+use Rattle.std.proofs.Common.{◌≡◌, ℕ, Bool, true, false, not, ◌&&◌, List, [], ◌∷◌, length, Option, Some, None, refl, ap, ap₂, sym, ◌∙◌, subst, if◌then◌else◌, inl}
 use Rattle.std.proofs.lemmas.Bool.{and_from, or_left, or_right}
 use Rattle.std.proofs.lemmas.Option.{same_Some}
 use Rattle.std.specs.List.{list_all}
 use Rattle.std.specs.Option.{option_map}
 use Rattle.std.specs.Prelude.{is_some}
 use Rattle.py_syntax.specs.declared.token.Span.{Span}
-use Rattle.py_syntax.specs.declared.expression.BinOp.{BinOp}
-use Rattle.py_syntax.specs.declared.expression.BinOp.TheVariants as op
 use Rattle.py_syntax.specs.Expressions.{ExprTree}
 use Rattle.py_typed.specs.Sorts as sort
 use Rattle.py_typed.specs.Sorts.{Sort, Sorts, no_sorts, sort_then, listed_sorts}
 use Rattle.py_typed.specs.Classes.{Signature}
-use Rattle.py_typed.specs.Fits.{is_same_type, is_nothing, is_number, fits}
+use Rattle.py_typed.specs.Fits.{is_same_type, is_nothing, fits}
 use Rattle.py_typed.specs.Expressions.{TypedExpr, type_of}
 use Rattle.py_typed.specs.Statements as act
 use Rattle.py_typed.specs.Statements.{Variable, TypedModule, TypedTarget, TypedAct}
 use Rattle.py_typed.specs.Narrowing as telling
 use Rattle.py_typed.specs.Narrowing.{may_be_none, own_sort, after_target, after_parts, part_sorts}
-use Rattle.py_typed.specs.WellTypedExpr.{stands, is_value_type, are_value_types, is_result_type, is_none_literal}
+use Rattle.py_typed.specs.WellTypedExpr.{stands, is_value_type, are_value_types}
 use Rattle.py_typed.specs.WellTyped as stmt
 use Rattle.py_typed.proofs.FitLemmas.{type_is_itself, fits_itself, and_left, and_right}
 use Rattle.py_scope.specs.declared.scope.Meaning.{Meaning}
 use Rattle.py_scope.specs.Context.{Context, VarSorts, free}
 use Rattle.py_flow.specs.Bindings.{name_in}
-use Rattle.py_messages.specs.Seen.{Seen, both, rule}
+use Rattle.py_messages.specs.Seen.{both}
 use Rattle.py_rules.specs.Values.{coerced}
 use Rattle.py_binding.specs.Assignments.{binding_fault, as_bound, items_for}
 use Rattle.py_targets.specs.Places.{Known, is_plain, bind_name, bind_names}
@@ -33,19 +31,17 @@ use Rattle.py_targets.specs.Assignments.{target_aims, value_for, assigns, bind_t
 use Rattle.typing_laws.specs.WellTyped as law
 use Rattle.typing_laws.specs.WellTyped.{Describes, Within}
 use Rattle.typing_laws.proofs.Stands.{coerced_stands}
-use Rattle.typing_laws.proofs.Rows.{type_coerced}
 use Rattle.module_laws.specs.WellTyped.{are_targets, IsScope}
 use Rattle.module_laws.proofs.Given.{some_is, both_given, rule_given}
 use Rattle.module_laws.proofs.Kept.{Follows, follows_itself, follows_name, follows_target, is_open}
-use Rattle.module_laws.proofs.Assigned.{leaves_one, single_bound, row_bound, aims_length, items_are, RowBound, BoundTo, as_value, assigned_is}
+use Rattle.module_laws.proofs.Assigned.{leaves_one, single_bound, row_bound, aims_length, items_are, BoundTo, as_value, assigned_is}
 use Rattle.module_laws.proofs.Whole.{bound_same}
 use Rattle.module_laws.proofs.Names.{within_kept}
-use Rattle.module_laws.proofs.Aims.{AimAt, AimsOf, aims_are, aim_held, aim_first, first_name, Aimed, held_aimed, first_aimed, aimed_bound}
-use Rattle.module_laws.proofs.Values.{scene, sorts_again, value_stands, held_value, fault_fits, stands_type, parts_type}
+use Rattle.module_laws.proofs.Aims.{AimAt, AimsOf, aims_are, aim_held, aim_first, first_name, held_aimed, first_aimed, aimed_bound}
+use Rattle.module_laws.proofs.Values.{scene, value_stands, held_value, fault_fits, stands_type, parts_type}
 use Rattle.module_laws.proofs.Towers.{no_tower}
 use Rattle.module_laws.proofs.Targets.{not_true, own_plain, own_coerced, given_start, TargetStands, held_stands, variable_stands, sort_in, bind_first, open_unset, open_variable, first_open, RowStands, rows}
 use Rattle.module_laws.proofs.Closed.{scope_there}
-use Rattle.module_laws.proofs.Settled.{not_none}
 use Rattle.typing_laws.proofs.Types.{result_of_value}
 
 four : (a b c d : Bool) → a ≡ true → b ≡ true → c ≡ true → d ≡ true → (a && b && c && d) ≡ true

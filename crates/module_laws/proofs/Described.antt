@@ -1,5 +1,5 @@
 -- The statements of a module of which nothing is said are well typed.
-use Rattle.std.proofs.Common.{◌≡◌, ℕ, zero, suc, ◌+◌, ◌<◌, Bool, true, false, ◌&&◌, cond, List, [], ◌∷◌, ◌++◌, length, map, slice_get, Option, Some, None, refl, ap, sym, ◌∙◌, subst, if◌then◌else◌, unwrap_or, arith}
+use Rattle.std.proofs.Common.{◌≡◌, ℕ, zero, suc, ◌+◌, ◌<◌, Bool, true, false, cond, List, [], ◌∷◌, ◌++◌, length, map, slice_get, Option, Some, None, refl, ap, sym, ◌∙◌, subst, if◌then◌else◌, unwrap_or, arith}
 use Rattle.std.proofs.lemmas.Bool.{and_from}
 use Rattle.std.proofs.lemmas.List.{length-map}
 use Rattle.std.proofs.lemmas.Option.{same_Some}
@@ -21,16 +21,16 @@ use Rattle.py_typed.specs.WellTyped.{suite_typed}
 use Rattle.py_typed.proofs.FitLemmas.{and_left, and_right}
 use Rattle.py_scope.specs.declared.scope.Meaning.{Meaning}
 use Rattle.py_scope.specs.declared.scope.Meaning.TheVariants as meaning
-use Rattle.py_scope.specs.Context.{Context, VarSort, unset, untyped, has, VarSorts, var_at, some_signature}
+use Rattle.py_scope.specs.Context.{Context, VarSort, has, VarSorts, var_at, some_signature}
 use Rattle.py_flow.specs.Bindings.{Binding, suite_bindings}
 use Rattle.py_annotations.specs.Annotations.{annotation}
-use Rattle.py_names.specs.Meanings.{variables, own_names, said_in, module_meaning}
+use Rattle.py_names.specs.Meanings.{own_names, said_in, module_meaning}
 use Rattle.py_names.specs.Outline.{suite_definitions}
 use Rattle.py_headers.specs.Headers.{marked, returned, param_types, header, all_of, signature_of}
 use Rattle.py_binding.specs.Returns as ret
 use Rattle.py_targets.specs.Places.{Known, is_unset}
 use Rattle.py_bodies.specs.Bodies.{block_after}
-use Rattle.py_check.specs.Definitions.{Headed, headed, inner_definitions_said, definitions_said, headed_functions, signatures}
+use Rattle.py_check.specs.Definitions.{Headed, headed, inner_definitions_said, headed_functions, signatures}
 use Rattle.py_check.specs.Starts.{given_sort, first_mark, by_mark, start_sort, or_param, param_sort, own_sort}
 use Rattle.py_check.specs.Variables.{sort_or_none, variables_from, typed_variables}
 use Rattle.py_check.specs.Module.{Environment, context_in, plain_signature, statements_of, return_of, module_start, own_statements, function_start, body, body_after, typed_function, sorts_behind, sorts_behind_all, bodies_said, typed_functions, global_sorts, environment, said, diagnostics, typed}
@@ -40,12 +40,12 @@ use Rattle.typing_laws.proofs.Loud.{none_before, none_behind}
 use Rattle.module_laws.specs.WellTyped.{is_suite_written, IsScope, IsResult}
 use Rattle.module_laws.specs.Modules.{has_type, is_module_written, body_stands, statements_stand}
 use Rattle.module_laws.proofs.Given.{some_of}
-use Rattle.module_laws.proofs.Kept.{Follows, follows_itself, follows_block, is_open}
+use Rattle.module_laws.proofs.Kept.{follows_itself, follows_block, is_open}
 use Rattle.module_laws.proofs.Closed.{IsMarked}
 use Rattle.module_laws.proofs.Settled.{Valued, AreDeclared, declared_before, Setting, settled_block}
 use Rattle.module_laws.proofs.Stand.{stands_in}
 use Rattle.module_laws.proofs.Whole.{quiet_got, loud_block}
-use Rattle.module_laws.proofs.Meant.{is_heard, Fine, function_fine, local_place, global_place, module_own}
+use Rattle.module_laws.proofs.Meant.{is_heard, Fine, function_fine, local_place, global_place}
 use Rattle.module_laws.proofs.Owned.{there}
 use Rattle.module_laws.proofs.Signed.{HasTypes, AllSigned, voiced, heard_typed}
 use Rattle.module_laws.proofs.Marked.{mark_valued, result_valued}

@@ -1,5 +1,5 @@
 -- Behind statements of which nothing is said no variable that they bind is open.
-use Rattle.std.proofs.Common.{◌≡◌, ℕ, Bool, true, false, List, [], ◌∷◌, ◌++◌, Option, Some, None, refl, ap, sym, ◌∙◌, subst, if◌then◌else◌}
+use Rattle.std.proofs.Common.{◌≡◌, ℕ, Bool, true, false, List, [], ◌++◌, Option, Some, None, refl, sym, subst, if◌then◌else◌}
 use Rattle.std.specs.Prelude.{is_some}
 use Rattle.std.specs.Option.{option_map}
 use Rattle.py_syntax.specs.declared.token.Span.{Span}
@@ -9,7 +9,7 @@ use Rattle.py_syntax.specs.Statements.{StmtTree, StmtNode, Suite, no_stmts, stmt
 use Rattle.py_typed.specs.Expressions.{TypedExpr, type_of}
 use Rattle.py_typed.specs.Statements.{TypedSuite, suite_of}
 use Rattle.py_scope.specs.Context.{Context}
-use Rattle.py_flow.specs.Bindings.{Binding, target_bindings, name_in, marked, stmt_bindings, act_bindings, suite_bindings, arms_bindings}
+use Rattle.py_flow.specs.Bindings.{target_bindings, name_in, marked, stmt_bindings, act_bindings, suite_bindings, arms_bindings}
 use Rattle.py_flow.specs.Closed.{is_closed}
 use Rattle.py_messages.specs.Seen.{Seen, both, made}
 use Rattle.py_messages.specs.Rows.{row_then}
@@ -21,7 +21,7 @@ use Rattle.py_loops.specs.Heads.{some_items, for_head, in_for}
 use Rattle.py_bodies.specs.Bodies.{is_definition, condition, after, node_after, block_after, arms_after, statement, node_statement, block, branches}
 use Rattle.typing_laws.proofs.Loud.{none_before, none_behind}
 use Rattle.module_laws.specs.WellTyped.{IsScope}
-use Rattle.module_laws.proofs.Kept.{Follows, follows_target, follows_stmt, follows_block, follows_arms}
+use Rattle.module_laws.proofs.Kept.{follows_target, follows_stmt, follows_block, follows_arms}
 use Rattle.module_laws.proofs.Whole.{definition_after}
 use Rattle.module_laws.proofs.Shapes.{definition_shape}
 use Rattle.module_laws.proofs.Closed.{scope_on, AllClosed, closed_both, closed_on, target_closed, name_closed}

@@ -1,5 +1,5 @@
 -- The heads of loops that are typed stand well typed, and so do the loops.
-use Rattle.std.proofs.Common.{◌≡◌, ℕ, Bool, true, false, not, ◌&&◌, ◌||◌, List, [], ◌∷◌, ◌++◌, length, map, Option, Some, None, Result, Ok, Err, refl, ap, ap₂, sym, ◌∙◌, subst, if◌then◌else◌, ◌⊎◌, inl, inr}
+use Rattle.std.proofs.Common.{◌≡◌, ℕ, Bool, true, false, not, ◌&&◌, List, [], ◌∷◌, ◌++◌, length, map, Option, Some, None, refl, ap, sym, ◌∙◌, subst, ◌⊎◌, inl, inr}
 use Rattle.std.proofs.lemmas.Bool.{and_from, or_left, or_right}
 use Rattle.std.proofs.lemmas.Option.{same_Some}
 use Rattle.std.specs.List.{list_all}
@@ -7,44 +7,41 @@ use Rattle.std.specs.Prelude.{is_some}
 use Rattle.py_syntax.specs.declared.token.Span.{Span}
 use Rattle.py_syntax.specs.Expressions as tree
 use Rattle.py_syntax.specs.Expressions.{ExprTree, at}
-use Rattle.py_syntax.specs.Statements as node
-use Rattle.py_syntax.specs.Statements.{StmtTree, Suite}
+use Rattle.py_syntax.specs.Statements.{StmtTree}
 use Rattle.py_typed.specs.Sorts as sort
 use Rattle.py_typed.specs.Sorts.{Sort, Sorts, listed_sorts}
 use Rattle.py_typed.specs.Classes.{Signature}
-use Rattle.py_typed.specs.Fits.{is_same_type, fits}
+use Rattle.py_typed.specs.Fits.{fits}
 use Rattle.py_typed.specs.Expressions.{TypedExpr, TypedNode, typed, type_of}
-use Rattle.py_typed.specs.Statements as act
-use Rattle.py_typed.specs.Statements.{Variable, TypedModule, TypedTarget, LocalTarget, GlobalTarget, ItemTarget, TypedAct, TypedSuite}
+use Rattle.py_typed.specs.Statements.{Variable, TypedModule, TypedTarget, LocalTarget, GlobalTarget, ItemTarget, TypedSuite}
 use Rattle.py_typed.specs.Narrowing as telling
 use Rattle.py_typed.specs.Narrowing.{without, may_be_none, bound_by_all, bound_suite, after_target, after_parts, part_sorts}
 use Rattle.py_typed.specs.WellTypedExpr.{stands, is_value_type, are_value_types}
 use Rattle.py_typed.specs.WellTyped as stmt
-use Rattle.py_typed.proofs.FitLemmas.{type_is_itself, fits_itself, and_left, and_right}
+use Rattle.py_typed.proofs.FitLemmas.{fits_itself, and_left, and_right}
 use Rattle.py_scope.specs.declared.scope.Meaning.{Meaning}
 use Rattle.py_scope.specs.Context.{Context, VarSorts}
-use Rattle.py_flow.specs.Bindings.{name_in, target_bindings, suite_bindings}
-use Rattle.py_messages.specs.Seen.{Seen, both, rule, made}
+use Rattle.py_flow.specs.Bindings.{name_in}
+use Rattle.py_messages.specs.Seen.{both, rule}
 use Rattle.py_binding.specs.Assignments.{binding_fault, first_refused, first_itemless, items_for}
-use Rattle.py_targets.specs.Places.{Known, is_plain, locals_among, entering, bind_name, bind_names}
+use Rattle.py_targets.specs.Places.{Known, entering, bind_name, bind_names}
 use Rattle.py_targets.specs.Targets.{Aim, held, first, barred, unwritten, misplaced, slot_of, target_of, targets_of, is_name_aim, is_item, is_row, is_flat, leaves, target_names, value_aim, item_aim}
 use Rattle.py_targets.specs.Assignments.{target_aims, bind_target}
 use Rattle.py_loops.specs.Loops.{Course, numbers, value, items_of, course_items, course, are_names, head, loop_over, loop_of}
 use Rattle.py_loops.specs.Heads.{some_items, for_head, in_for}
 use Rattle.typing_laws.specs.WellTyped as law
 use Rattle.typing_laws.specs.WellTyped.{Describes, Within}
-use Rattle.typing_laws.proofs.Types.{clash}
 use Rattle.module_laws.specs.WellTyped.{IsScope}
 use Rattle.module_laws.proofs.Given.{some_is, made_given, both_given, rule_given}
-use Rattle.module_laws.proofs.Kept.{Follows, follows_itself, follows_name, follows_target, is_open}
-use Rattle.module_laws.proofs.Assigned.{leaves_one, single_bound, row_bound, aims_length, items_are, RowBound, BoundTo, Headed, head_is}
+use Rattle.module_laws.proofs.Kept.{Follows, follows_itself, is_open}
+use Rattle.module_laws.proofs.Assigned.{leaves_one, single_bound, row_bound, aims_length, items_are, BoundTo, Headed, head_is}
 use Rattle.module_laws.proofs.Whole.{bound_same}
-use Rattle.module_laws.proofs.Names.{within_kept, within_without}
-use Rattle.module_laws.proofs.Aims.{AimAt, beyond, AimsOf, aims_are, Held, held_local, held_global, held_item, aim_held, First, first_local, first_global, aim_first, first_name, Aimed, aimed_local, aimed_global, aimed_item, held_aimed, first_aimed, aimed_bound}
+use Rattle.module_laws.proofs.Names.{within_kept}
+use Rattle.module_laws.proofs.Aims.{AimAt, beyond, AimsOf, aims_are, Held, held_local, held_global, held_item, aim_held, aim_first, first_name, Aimed, aimed_local, aimed_global, aimed_item, held_aimed, first_aimed, aimed_bound}
 use Rattle.module_laws.proofs.Values.{scene, fault_fits, third}
-use Rattle.module_laws.proofs.Courses.{BoundsStand, CourseStands, course_stands, item_type}
+use Rattle.module_laws.proofs.Courses.{CourseStands, course_stands, item_type}
 use Rattle.module_laws.proofs.Targets.{not_true, is_named, given_start, TargetStands, held_stands, variable_stands, sort_in, first_open, RowStands, rows}
-use Rattle.module_laws.proofs.Bound.{described_before, Good, single, first_type_there, only_valued, not_single, single_aim_of, filled_targets, parts_there}
+use Rattle.module_laws.proofs.Bound.{single, first_type_there, only_valued, not_single, single_aim_of, filled_targets, parts_there}
 
 name_is_written : (e : ExprTree) (x : List ℕ) → name_in e ≡ Some x → law.is_written e ≡ true
 name_is_written (at (tree.Name y) span) x h = refl

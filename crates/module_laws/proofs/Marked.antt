@@ -1,11 +1,10 @@
 -- The type of an annotation is one that a variable may have, where no name means a class.
-use Rattle.std.proofs.Common.{◌≡◌, ℕ, Bool, true, false, not, ◌&&◌, ◌||◌, List, [], ◌∷◌, length, nat_lt, Option, Some, None, Result, Ok, Err, refl, ap, sym, ◌∙◌, subst, if◌then◌else◌}
-use Rattle.std.proofs.lemmas.Bool.{and_from, or_left, or_right}
+use Rattle.std.proofs.Common.{◌≡◌, ℕ, Bool, true, false, ◌&&◌, List, [], ◌∷◌, length, nat_lt, Option, Some, None, refl, ap, sym, ◌∙◌, subst, if◌then◌else◌}
+use Rattle.std.proofs.lemmas.Bool.{and_from, or_right}
 use Rattle.std.proofs.lemmas.Option.{same_Some}
 use Rattle.std.specs.List.{list_all}
-use Rattle.std.specs.Option.{option_map, ok_or}
+use Rattle.std.specs.Option.{ok_or}
 use Rattle.py_syntax.specs.declared.token.Span.{Span}
-use Rattle.py_syntax.specs.declared.expression.BinOp.{BinOp}
 use Rattle.py_syntax.specs.Expressions as e
 use Rattle.py_syntax.specs.Expressions.{ExprTree, ExprNode, ExprTrees}
 use Rattle.py_lexer.specs.Words.{name_in_quotes}
@@ -18,7 +17,7 @@ use Rattle.py_scope.specs.declared.scope.Meaning.{Meaning}
 use Rattle.py_scope.specs.declared.scope.Meaning.TheVariants as meaning
 use Rattle.py_scope.specs.declared.scope.Imported.TheVariants as imported
 use Rattle.py_scope.specs.declared.scope.Builtin.TheVariants as builtin
-use Rattle.py_messages.specs.Seen.{Seen, Message, is, silent, fails, made, rule}
+use Rattle.py_messages.specs.Seen.{Seen, Message, is, silent, fails, made}
 use Rattle.py_messages.specs.Rows.{row_then}
 use Rattle.py_messages.specs.Messages as message
 use Rattle.py_annotations.specs.declared.names.Former.{Former}

@@ -1,9 +1,8 @@
 -- Where statements say nothing, the annotations of what they bind say nothing.
-use Rattle.std.proofs.Common.{◌≡◌, ℕ, Bool, true, false, cond, List, [], ◌∷◌, ◌++◌, map, slice_get, Option, Some, None, refl, ap, ap₂, sym, ◌∙◌, subst, if◌then◌else◌}
+use Rattle.std.proofs.Common.{◌≡◌, ℕ, Bool, true, false, cond, List, [], ◌∷◌, ◌++◌, Option, Some, None, refl, ap, ap₂, sym, ◌∙◌, if◌then◌else◌}
 use Rattle.std.proofs.lemmas.Grind.{flat_map-append}
 use Rattle.std.proofs.lemmas.Option.{same_Some}
 use Rattle.std.specs.List.{flat_map}
-use Rattle.std.specs.Map.{lookup}
 use Rattle.std.specs.Str.{bytes_eq}
 use Rattle.py_syntax.specs.declared.token.Span.{Span}
 use Rattle.py_syntax.specs.Expressions as e
@@ -12,10 +11,10 @@ use Rattle.py_syntax.specs.Statements as node
 use Rattle.py_syntax.specs.Statements.{StmtTree, StmtNode, Suite, no_stmts, stmt_then, Arms, no_arms, arm_then}
 use Rattle.py_binder.specs.declared.scope.Diag.{Diag}
 use Rattle.py_typed.specs.Expressions.{TypedExpr}
-use Rattle.py_typed.specs.Statements.{TypedStmt, TypedSuite, suite_of}
+use Rattle.py_typed.specs.Statements.{TypedSuite, suite_of}
 use Rattle.py_scope.specs.declared.scope.Meaning.{Meaning}
-use Rattle.py_scope.specs.Context.{Context, VarSort, var_at}
-use Rattle.py_flow.specs.Bindings.{Binding, bound, target_bindings, node_bindings, targets_bindings, name_in, marked, stmt_bindings, act_bindings, suite_bindings, arms_bindings}
+use Rattle.py_scope.specs.Context.{Context}
+use Rattle.py_flow.specs.Bindings.{Binding, target_bindings, node_bindings, targets_bindings, name_in, marked, stmt_bindings, act_bindings, suite_bindings, arms_bindings}
 use Rattle.py_flow.specs.Closed.{is_closed}
 use Rattle.py_messages.specs.Seen.{Seen, both, made, ruled}
 use Rattle.py_messages.specs.Rows.{row_then}

@@ -1,7 +1,7 @@
 -- What names mean in a module and in a function of it, where nothing is wrong with definitions and imports.
-use Rattle.std.proofs.Common.{◌≡◌, ℕ, zero, suc, ◌+◌, ◌<◌, Bool, true, false, not, ◌&&◌, ◌||◌, cond, List, [], ◌∷◌, ◌++◌, length, map, filter, slice_get, nat_lt, Option, Some, None, refl, ap, ap₂, sym, ◌∙◌, subst, if◌then◌else◌, unwrap_or, length-append, lt-ltb, arith, ◌⊎◌, inl, inr}
+use Rattle.std.proofs.Common.{◌≡◌, ℕ, suc, ◌+◌, ◌<◌, Bool, true, false, ◌&&◌, ◌||◌, cond, List, [], ◌∷◌, ◌++◌, length, map, filter, slice_get, nat_lt, Option, Some, None, refl, ap, sym, ◌∙◌, subst, if◌then◌else◌, unwrap_or, length-append, lt-ltb, arith, ◌⊎◌, inl, inr}
 use Rattle.std.proofs.lemmas.Bool.{or_left, or_right, or_cases}
-use Rattle.std.proofs.lemmas.Option.{same_Some, slice_get_within}
+use Rattle.std.proofs.lemmas.Option.{same_Some}
 use Rattle.std.proofs.lemmas.List.Folds.{list_any-append}
 use Rattle.std.specs.Prelude.{is_some, is_none, codes}
 use Rattle.std.specs.List.{list_all, flat_map}
@@ -9,23 +9,20 @@ use Rattle.std.specs.Map.{lookup}
 use Rattle.std.specs.Str.{bytes_eq}
 use Rattle.value_core.specs.declared.exception.ExcClass.{ExcClass}
 use Rattle.value_core.specs.Exceptions.{class_named}
-use Rattle.py_syntax.specs.declared.token.Span.{Span}
 use Rattle.py_syntax.specs.Statements as s
 use Rattle.py_syntax.specs.Statements.{StmtTree, Suite, FuncTree}
 use Rattle.py_binder.specs.declared.scope.Role.{Role}
 use Rattle.py_binder.specs.declared.scope.Role.TheVariants as role
 use Rattle.py_binder.specs.declared.scope.Scope.{Scope}
 use Rattle.py_binder.specs.Sights.{Use, Reads, Binds, Defines, Declares, Holds, Sight, bound_as, module_sights, body_sights}
-use Rattle.py_binder.specs.Scope.{contains, is_builtin, bound_there, listed_there, seen_there, said_there, all_there, Roles, said_or_variable, role_among, module_role, is_variable, inner_role, param_names, function_role, first_sights, scope_of, module_scope, function_scope}
+use Rattle.py_binder.specs.Scope.{contains, is_builtin, bound_there, listed_there, seen_there, said_there, all_there, Roles, said_or_variable, module_role, is_variable, param_names, function_role, first_sights, scope_of, module_scope}
 use Rattle.py_scope.specs.declared.scope.Meaning.{Meaning}
 use Rattle.py_scope.specs.declared.scope.Meaning.TheVariants as meaning
 use Rattle.py_names.specs.Builtins.{plain_builtins, exception_meaning, or_else, builtin_meaning, of_typing, of_extensions, of_future, import_meaning}
-use Rattle.py_names.specs.Outline.{may_import, may_import_all, what_is_imported, imported_as, said_by, said_from, held_by, suite_definitions}
+use Rattle.py_names.specs.Outline.{may_import, may_import_all, imported_as, said_by, said_from, held_by, suite_definitions}
 use Rattle.py_names.specs.Meanings.{is_own, names_of, variables, own_names, number, by_role, meaning_in, said_in}
 use Rattle.py_typed.proofs.FitLemmas.{and_left, and_right}
-use Rattle.py_typed.specs.WellTyped.{all_differ}
 use Rattle.typing_laws.proofs.Types.{clash}
-use Rattle.typing_laws.proofs.Inside.{either}
 use Rattle.module_laws.proofs.Sights.{roles_given, suite_gives}
 use Rattle.module_laws.proofs.NameRows.{same_text, filter_keeps, sights_have, sights_differ, kind_names, place_of}
 

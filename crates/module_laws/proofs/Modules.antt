@@ -15,15 +15,14 @@ use Rattle.py_order.specs.Order.{is_before, put_in, by_place}
 use Rattle.py_typed.specs.Sorts.{Sort}
 use Rattle.py_typed.proofs.FitLemmas.{and_left, and_right}
 use Rattle.py_scope.specs.declared.scope.Meaning.{Meaning}
-use Rattle.py_scope.specs.Context.{Context, VarSort, has, var_at}
+use Rattle.py_scope.specs.Context.{Context, VarSort, var_at}
 use Rattle.py_flow.specs.Bindings.{suite_bindings}
 use Rattle.py_annotations.specs.Names.{is_untyped}
 use Rattle.py_names.specs.Outline.{held_by, suite_definitions}
 use Rattle.py_names.specs.Meanings.{variables, own_names, said_in, module_meaning}
-use Rattle.py_headers.specs.Headers.{HeaderSorts, header, header_said, signature_of}
+use Rattle.py_headers.specs.Headers.{header, header_said, signature_of}
 use Rattle.py_binding.specs.Returns as ret
 use Rattle.py_targets.specs.Places.{Known}
-use Rattle.py_bodies.specs.Bodies.{block, block_after}
 use Rattle.py_check.specs.Definitions.{Headed, headed, definitions_said, inner_definitions_said, headed_functions, signatures, headers_said}
 use Rattle.py_check.specs.Globals.{globals_said}
 use Rattle.py_check.specs.Starts.{given_sort, start_sort, or_param, param_sort, own_sort}
@@ -36,9 +35,9 @@ use Rattle.module_laws.specs.Statements.{is_judged}
 use Rattle.module_laws.specs.Modules.{are_typed, is_typed_whole}
 use Rattle.module_laws.proofs.Given.{some_is}
 use Rattle.module_laws.proofs.Whole.{AllTyped, quiet_got, loud_block, quiet_block}
-use Rattle.module_laws.proofs.Marks.{marks_said, start_typed, suite_marks}
+use Rattle.module_laws.proofs.Marks.{start_typed, suite_marks}
 use Rattle.module_laws.proofs.Meant.{is_heard, is_right, Fine, module_fine, function_fine, meant_heard}
-use Rattle.module_laws.proofs.Signed.{AllQuiet, all_right, all_quiet, HasTypes, signed, IsSigned, AllSigned, all_signed, signatures_there, voiced, heard_typed}
+use Rattle.module_laws.proofs.Signed.{AllQuiet, all_right, all_quiet, HasTypes, signed, AllSigned, all_signed, signatures_there, voiced, heard_typed}
 
 -- ---- in order
 

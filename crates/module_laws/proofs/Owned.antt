@@ -1,9 +1,8 @@
 -- The variables of a scope: what they mean, and that each of them is a parameter or is bound.
-use Rattle.std.proofs.Common.{◌≡◌, ℕ, zero, suc, ◌<◌, Bool, true, false, not, ◌&&◌, ◌||◌, cond, List, [], ◌∷◌, ◌++◌, length, map, filter, slice_get, nat_lt, Option, Some, None, refl, ap, sym, ◌∙◌, subst, if◌then◌else◌, lt-ltb, ltb-true, arith, ◌⊎◌, inl, inr}
+use Rattle.std.proofs.Common.{◌≡◌, ℕ, zero, suc, ◌<◌, Bool, true, false, ◌&&◌, ◌||◌, cond, List, [], ◌∷◌, length, map, filter, slice_get, Option, Some, refl, ap, sym, ◌∙◌, subst, if◌then◌else◌, lt-ltb, arith, ◌⊎◌, inl, inr}
 use Rattle.std.proofs.lemmas.Bool.{or_cases}
 use Rattle.std.proofs.lemmas.Option.{same_Some, slice_get_within}
-use Rattle.std.proofs.lemmas.List.{length-map}
-use Rattle.std.specs.List.{list_all, zip}
+use Rattle.std.specs.List.{zip}
 use Rattle.std.specs.Map.{lookup}
 use Rattle.std.specs.Str.{bytes_eq}
 use Rattle.py_syntax.specs.Expressions.{ExprTree}
@@ -11,13 +10,12 @@ use Rattle.py_syntax.specs.Statements.{FuncTree}
 use Rattle.py_binder.specs.declared.scope.Role.{Role}
 use Rattle.py_binder.specs.declared.scope.Role.TheVariants as role
 use Rattle.py_binder.specs.Sights.{body_sights}
-use Rattle.py_binder.specs.Scope.{contains, is_builtin, bound_there, listed_there, all_there, Roles, is_variable, inner_role, param_names, function_role, first_sights, scope_of}
+use Rattle.py_binder.specs.Scope.{contains, is_builtin, bound_there, listed_there, all_there, Roles, is_variable, param_names, function_role, first_sights, scope_of}
 use Rattle.py_typed.specs.WellTyped.{all_differ}
 use Rattle.py_typed.specs.Classes.{ClassEntry, Signature}
-use Rattle.py_typed.proofs.FitLemmas.{and_left, and_right}
 use Rattle.py_scope.specs.declared.scope.Meaning.{Meaning}
 use Rattle.py_scope.specs.declared.scope.Meaning.TheVariants as meaning
-use Rattle.py_scope.specs.Context.{Context, VarSort, VarSorts, var_at}
+use Rattle.py_scope.specs.Context.{Context, VarSorts}
 use Rattle.py_calls.specs.Callees as callee
 use Rattle.py_flow.specs.Bindings.{Binding}
 use Rattle.py_names.specs.Meanings.{is_own, own_names, number, by_role, meaning_in}

@@ -1,12 +1,11 @@
 -- Behind statements that are typed each variable has a type that a variable may have, or none yet.
-use Rattle.std.proofs.Common.{◌≡◌, ℕ, suc, Bool, true, false, not, ◌&&◌, List, [], ◌∷◌, ◌++◌, length, map, cond, Option, Some, None, refl, ap, sym, ◌∙◌, subst, if◌then◌else◌, ◌⊎◌, inl, inr}
+use Rattle.std.proofs.Common.{◌≡◌, ℕ, Bool, true, false, List, [], ◌∷◌, ◌++◌, length, cond, Option, Some, None, refl, ap, sym, ◌∙◌, subst, if◌then◌else◌}
 use Rattle.std.proofs.lemmas.Slice.Eq.{bytes_eq-Decides}
 use Rattle.std.specs.List.{list_all}
 use Rattle.std.specs.Prelude.{is_some}
 use Rattle.std.specs.Option.{option_map}
 use Rattle.std.specs.Str.{bytes_eq}
 use Rattle.py_syntax.specs.declared.token.Span.{Span}
-use Rattle.py_syntax.specs.declared.expression.BinOp.{BinOp}
 use Rattle.py_syntax.specs.Expressions.{ExprTree}
 use Rattle.py_syntax.specs.Statements as node
 use Rattle.py_syntax.specs.Statements.{StmtTree, StmtNode, Suite, no_stmts, stmt_then, Arms, no_arms, arm_then}
@@ -17,23 +16,22 @@ use Rattle.py_typed.specs.Fits.{is_nothing}
 use Rattle.py_typed.specs.Expressions.{TypedExpr, type_of}
 use Rattle.py_typed.specs.Statements as act
 use Rattle.py_typed.specs.Statements.{Variable, TypedModule, TypedTarget, TypedStmt, TypedAct, TypedSuite, on_line, suite_of, arms_of}
-use Rattle.py_typed.specs.WellTypedExpr.{stands, is_value_type, are_value_types, is_result_type, declared}
+use Rattle.py_typed.specs.WellTypedExpr.{is_value_type, are_value_types, declared}
 use Rattle.py_typed.proofs.FitLemmas.{and_left, and_right}
 use Rattle.py_scope.specs.declared.scope.Meaning.{Meaning}
 use Rattle.py_scope.specs.declared.scope.Meaning.TheVariants as meaning
 use Rattle.py_scope.specs.Context.{Context, VarSort, unset, untyped, has, VarSorts, var_at, free}
 use Rattle.py_flow.specs.Bindings.{Binding, bound, target_bindings, name_in, marked, stmt_bindings, act_bindings, suite_bindings, arms_bindings}
 use Rattle.py_flow.specs.Closed.{is_closed}
-use Rattle.py_messages.specs.Seen.{Seen, both, rule, made}
+use Rattle.py_messages.specs.Seen.{both, rule, made}
 use Rattle.py_messages.specs.Messages.{no_target, needs_annotation}
 use Rattle.py_messages.specs.Rows.{row_then}
 use Rattle.py_annotations.specs.Annotations.{annotation}
-use Rattle.py_rules.specs.Values.{truth}
 use Rattle.py_binding.specs.Returns.{ReturnSort}
 use Rattle.py_binding.specs.Assignments.{binding_fault, items_for}
 use Rattle.py_targets.specs.Places.{Known, is_unset, fix, first_type, bind_variable, bind_name, bind_names, where_test, entering, Way, setting_out, behind_arm}
 use Rattle.py_targets.specs.Targets.{Aim, held, first, barred, unwritten, misplaced, slot_of, is_row, is_flat, leaves, target_names, variable_aim, name_aim, targets_of, asked_by, assigned, typed_at}
-use Rattle.py_targets.specs.Assignments.{target_aims, value_for, assigns, bind_target, binds, annotates_name, annotates, value_sort, binds_annotated, updates_row, updates_one, updates}
+use Rattle.py_targets.specs.Assignments.{target_aims, value_for, assigns, bind_target, binds, annotates_name, annotates, value_sort, binds_annotated}
 use Rattle.py_loops.specs.Loops.{Course, course, head, loop_of}
 use Rattle.py_loops.specs.Heads.{some_items, for_head, in_for}
 use Rattle.py_bodies.specs.Bodies.{is_definition, condition, after, node_after, block_after, arms_after, statement, node_statement, block, branches}
@@ -43,13 +41,13 @@ use Rattle.typing_laws.proofs.Types.{clash}
 use Rattle.typing_laws.proofs.Inside.{either}
 use Rattle.module_laws.specs.WellTyped.{is_filled, maybe_written, are_targets, is_stmt_written, is_act_written, is_suite_written, are_arms_written, IsScope}
 use Rattle.module_laws.proofs.Given.{some_is, made_given, both_given, rule_given, row_given}
-use Rattle.module_laws.proofs.Kept.{fix_cases, Follows, follows_itself, follows_on, follows_name, follows_target, follows_stmt, follows_block, follows_arms, is_open, bind_set}
+use Rattle.module_laws.proofs.Kept.{fix_cases, Follows, follows_on, follows_target, follows_stmt, follows_block, follows_arms, is_open, bind_set}
 use Rattle.module_laws.proofs.Assigned.{single_bound, row_bound, name_no_row, aims_length, items_are, RowBound, BoundTo, assigned_is, head_is}
 use Rattle.module_laws.proofs.Whole.{definition_after, bound_same}
 use Rattle.module_laws.proofs.Aims.{AimAt, AimsOf, aims_are}
 use Rattle.module_laws.proofs.Shapes.{definition_shape, no_part_given}
 use Rattle.module_laws.proofs.Values.{scene, values_listed, value_stands, stands_type, parts_type}
-use Rattle.module_laws.proofs.Closed.{scope_on, AllClosed, closed_both, closed_on, target_closed, name_closed, IsMarked, marked_on, marked_front, marked_behind}
+use Rattle.module_laws.proofs.Closed.{scope_on, AllClosed, closed_both, closed_on, target_closed, name_closed, IsMarked, marked_front, marked_behind}
 use Rattle.module_laws.proofs.Courses.{course_stands, item_type}
 
 -- ---- variables

@@ -1,5 +1,5 @@
 -- Where nothing is said of definitions, imports and annotations, each function has a signature.
-use Rattle.std.proofs.Common.{◌≡◌, ℕ, zero, suc, ◌<◌, Bool, true, false, not, ◌&&◌, List, [], ◌∷◌, ◌++◌, length, map, slice_get, nat_lt, Option, Some, None, refl, ap, ap₂, sym, ◌∙◌, subst, if◌then◌else◌, ltb-true, arith}
+use Rattle.std.proofs.Common.{◌≡◌, ℕ, zero, suc, ◌<◌, Bool, true, false, not, ◌&&◌, List, [], ◌∷◌, ◌++◌, length, map, slice_get, nat_lt, Option, Some, None, refl, ap, if◌then◌else◌, ltb-true, arith}
 use Rattle.std.proofs.lemmas.Bool.{and_from}
 use Rattle.std.specs.Prelude.{is_some, is_none}
 use Rattle.std.specs.List.{list_all, flat_map}
@@ -8,7 +8,6 @@ use Rattle.py_syntax.specs.declared.token.Span.{Span}
 use Rattle.py_syntax.specs.Expressions.{ExprTree}
 use Rattle.py_syntax.specs.Statements as s
 use Rattle.py_syntax.specs.Statements.{StmtTree, Suite, FuncTree}
-use Rattle.py_binder.specs.declared.scope.Diag.{Diag}
 use Rattle.py_binder.specs.Scope.{Roles, param_names}
 use Rattle.py_typed.specs.Sorts.{Sort}
 use Rattle.py_typed.specs.Classes.{Signature}
@@ -16,14 +15,13 @@ use Rattle.py_typed.proofs.FitLemmas.{and_left, and_right}
 use Rattle.py_scope.specs.declared.scope.Meaning.{Meaning}
 use Rattle.py_scope.specs.declared.scope.Meaning.TheVariants as meaning
 use Rattle.py_scope.specs.Context.{some_signature}
-use Rattle.py_messages.specs.Seen.{Message, diag}
+use Rattle.py_messages.specs.Seen.{Message}
 use Rattle.py_annotations.specs.Annotations.{annotation, return_annotation}
 use Rattle.py_annotations.specs.Names.{is_untyped}
 use Rattle.py_names.specs.Outline.{held_by, may_import_all}
 use Rattle.py_headers.specs.Headers.{HeaderSorts, has_type, marked, returned, param_types, params_said, params_typed, header, header_said, all_of, signature_of}
-use Rattle.py_headers.specs.Definitions.{own_count, repeated, are_marked, all_marked, body_fault, def_fault, no_marks, told, def_said, or_else, is_new, is_builtin_name, gives_value}
-use Rattle.py_headers.specs.Definitions as fault
-use Rattle.py_check.specs.Definitions.{Headed, headed, marks_said, function_said, import_said, names_given, definition_said, definitions_said}
+use Rattle.py_headers.specs.Definitions.{own_count, repeated, are_marked, all_marked, body_fault, def_fault, no_marks, told, or_else, is_new, is_builtin_name, gives_value}
+use Rattle.py_check.specs.Definitions.{headed, marks_said, function_said, import_said, names_given, definition_said, definitions_said}
 use Rattle.typing_laws.specs.Laws.{is_voiceless}
 use Rattle.typing_laws.proofs.Loud.{none_before, none_behind}
 use Rattle.module_laws.proofs.Given.{some_is}

@@ -1,9 +1,7 @@
 -- Statements that are typed stand well typed, whatever more is known of names than typing knew.
-use Rattle.std.proofs.Common.{◌≡◌, ℕ, Bool, true, false, not, ◌&&◌, ◌||◌, List, [], ◌∷◌, ◌++◌, length, Option, Some, None, refl, ap, ap₂, sym, ◌∙◌, subst, if◌then◌else◌}
-use Rattle.std.proofs.lemmas.Bool.{and_from, or_left, or_right}
+use Rattle.std.proofs.Common.{◌≡◌, ℕ, Bool, true, false, not, ◌&&◌, ◌||◌, List, [], ◌∷◌, ◌++◌, length, Option, Some, None, refl, sym, subst, if◌then◌else◌}
+use Rattle.std.proofs.lemmas.Bool.{and_from}
 use Rattle.std.proofs.lemmas.Option.{same_Some}
-use Rattle.std.specs.List.{list_all}
-use Rattle.std.specs.Option.{option_map}
 use Rattle.std.specs.Prelude.{is_some}
 use Rattle.py_syntax.specs.declared.token.Span.{Span}
 use Rattle.py_syntax.specs.Expressions.{ExprTree}
@@ -11,17 +9,16 @@ use Rattle.py_syntax.specs.Statements as node
 use Rattle.py_syntax.specs.Statements.{StmtTree, StmtNode, Suite, no_stmts, stmt_then, Arms, no_arms, arm_then}
 use Rattle.py_typed.specs.Sorts.{Sort}
 use Rattle.py_typed.specs.Classes.{Signature}
-use Rattle.py_typed.specs.Expressions.{TypedExpr, type_of}
+use Rattle.py_typed.specs.Expressions.{TypedExpr}
 use Rattle.py_typed.specs.Statements as act
 use Rattle.py_typed.specs.Statements.{Variable, TypedModule, TypedTarget, TypedStmt, TypedAct, TypedSuite, on_line, suite_of, arms_of}
 use Rattle.py_typed.specs.Narrowing as telling
 use Rattle.py_typed.specs.Narrowing.{without, bound_by_all, or_shared, known_at_end}
-use Rattle.py_typed.specs.WellTypedExpr as expr
 use Rattle.py_typed.specs.WellTyped as stmt
 use Rattle.py_typed.proofs.FitLemmas.{and_left, and_right}
 use Rattle.py_scope.specs.declared.scope.Meaning.{Meaning}
-use Rattle.py_scope.specs.Context.{Context, VarSorts, test, dropped}
-use Rattle.py_flow.specs.Bindings.{name_in, target_bindings, stmt_bindings, suite_bindings}
+use Rattle.py_scope.specs.Context.{Context, test, dropped}
+use Rattle.py_flow.specs.Bindings.{name_in, target_bindings, suite_bindings}
 use Rattle.py_flow.specs.Closed as flow
 use Rattle.py_messages.specs.Seen.{Seen, both, made}
 use Rattle.py_messages.specs.Rows.{row_then}
@@ -30,9 +27,8 @@ use Rattle.py_rules.specs.Facts.{facts}
 use Rattle.py_rules.specs.Values.{truth}
 use Rattle.py_binding.specs.Returns.{ReturnSort}
 use Rattle.py_targets.specs.Places.{Known, locals_in, locals_among, where_test, entering, Way, setting_out, met, common, behind_arm}
-use Rattle.py_targets.specs.Targets.{is_row, leaves, typed_at}
-use Rattle.py_targets.specs.Assignments.{value_for, assigns, bind_target}
-use Rattle.py_loops.specs.Loops.{Course, course, loop_of}
+use Rattle.py_targets.specs.Targets.{leaves, typed_at}
+use Rattle.py_loops.specs.Loops.{course, loop_of}
 use Rattle.py_loops.specs.Heads.{some_items, for_head, in_for}
 use Rattle.py_bodies.specs.Bodies.{is_definition, condition, after, node_after, block_after, arms_after, in_loop, statement, node_statement, block, branches}
 use Rattle.typing_laws.specs.WellTyped as law
@@ -41,12 +37,12 @@ use Rattle.typing_laws.proofs.Inside.{within_none, within_append, within_shared}
 use Rattle.typing_laws.proofs.Loud.{none_before, none_behind}
 use Rattle.typing_laws.proofs.Sound.{sound_typing}
 use Rattle.typing_laws.proofs.Telling.{told_typing, truth_tells, within_same}
-use Rattle.module_laws.specs.WellTyped.{is_filled, has_test, maybe_written, are_targets, is_stmt_written, is_act_written, is_suite_written, are_arms_written, IsScope, IsResult}
+use Rattle.module_laws.specs.WellTyped.{is_filled, has_test, are_targets, is_stmt_written, is_act_written, is_suite_written, are_arms_written, IsScope, IsResult}
 use Rattle.module_laws.proofs.Given.{made_given, both_given, row_given}
-use Rattle.module_laws.proofs.Kept.{Follows, follows_on, follows_target, follows_stmt, follows_block, follows_arms}
+use Rattle.module_laws.proofs.Kept.{follows_target, follows_stmt, follows_block, follows_arms}
 use Rattle.module_laws.proofs.Whole.{definition_after}
 use Rattle.module_laws.proofs.Names.{within_without}
-use Rattle.module_laws.proofs.Shapes.{locals_two, targets_within, SuiteShape, shape_block}
+use Rattle.module_laws.proofs.Shapes.{locals_two, targets_within, shape_block}
 use Rattle.module_laws.proofs.Values.{scene, of_three, of_four}
 use Rattle.module_laws.proofs.Closed.{scope_on}
 use Rattle.module_laws.proofs.Courses.{course_stands}

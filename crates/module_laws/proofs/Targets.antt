@@ -1,50 +1,46 @@
 -- Targets that are bound to a value stand well typed, one or several of them.
-use Rattle.std.proofs.Common.{◌≡◌, ℕ, zero, suc, Bool, true, false, not, ◌&&◌, ◌||◌, cond, List, [], ◌∷◌, ◌++◌, length, map, slice_get, slice_set, Option, Some, None, refl, ap, ap₂, sym, ◌∙◌, subst, if◌then◌else◌, ltb-true, ◌⊎◌, inl, inr}
-use Rattle.std.proofs.lemmas.Bool.{and_from, or_left, or_right}
+use Rattle.std.proofs.Common.{◌≡◌, ℕ, zero, suc, Bool, true, false, not, ◌&&◌, cond, List, [], ◌∷◌, ◌++◌, length, map, slice_get, slice_set, Option, Some, None, refl, ap, sym, ◌∙◌, subst, if◌then◌else◌, ltb-true, ◌⊎◌, inl, inr}
+use Rattle.std.proofs.lemmas.Bool.{and_from}
 use Rattle.std.proofs.lemmas.Option.{same_Some}
 use Rattle.std.proofs.lemmas.Slice.Eq.{bytes_eq-Decides}
 use Rattle.std.specs.List.{list_all}
 use Rattle.std.specs.Map.{lookup}
 use Rattle.std.specs.Str.{bytes_eq}
 use Rattle.std.specs.Prelude.{is_some}
-use Rattle.py_syntax.specs.declared.token.Span.{Span}
 use Rattle.py_syntax.specs.Expressions.{ExprTree}
 use Rattle.py_typed.specs.Sorts as sort
 use Rattle.py_typed.specs.Sorts.{Sort, Sorts, no_sorts, sort_then, sorts_of, listed_sorts}
 use Rattle.py_typed.specs.Classes.{ClassEntry, Signature}
-use Rattle.py_typed.specs.Fits.{is_same_type, is_nothing, is_number, same, fits}
+use Rattle.py_typed.specs.Fits.{is_same_type, fits}
 use Rattle.py_typed.specs.Expressions as node
 use Rattle.py_typed.specs.Expressions.{TypedExpr, TypedNode, typed, type_of}
-use Rattle.py_typed.specs.Statements as act
-use Rattle.py_typed.specs.Statements.{Variable, TypedModule, TypedTarget, LocalTarget, GlobalTarget, ItemTarget, TypedAct}
+use Rattle.py_typed.specs.Statements.{Variable, TypedModule, TypedTarget}
 use Rattle.py_typed.specs.StatementMeaning.{sort_at}
-use Rattle.py_typed.specs.Narrowing as telling
-use Rattle.py_typed.specs.Narrowing.{is_in, without, may_be_none, own_sort, bound_by, bound_by_all, after_target, after_parts, part_sorts}
-use Rattle.py_typed.specs.WellTypedExpr.{stands, is_value_type, is_result_type, indexed, declared}
+use Rattle.py_typed.specs.Narrowing.{may_be_none, own_sort, after_target, after_parts}
+use Rattle.py_typed.specs.WellTypedExpr.{stands, is_value_type, indexed, declared}
 use Rattle.py_typed.specs.WellTyped as stmt
-use Rattle.py_typed.proofs.FitLemmas.{type_is_itself, fits_itself, and_left, and_right}
+use Rattle.py_typed.proofs.FitLemmas.{fits_itself, and_left, and_right}
 use Rattle.py_scope.specs.declared.scope.Meaning.{Meaning}
 use Rattle.py_scope.specs.declared.scope.Meaning.TheVariants as meaning
 use Rattle.py_scope.specs.Context.{Context, VarSort, unset, untyped, has, VarSorts, var_at}
 use Rattle.py_flow.specs.Bindings.{name_in}
 use Rattle.py_rules.specs.Values.{place_of, coerced}
 use Rattle.py_calls.specs.Callees.{is_variable}
-use Rattle.py_binding.specs.Slots.{SlotSort, known, fresh, refused, itemless}
-use Rattle.py_binding.specs.Assignments.{binding_fault, as_bound, first_refused, first_itemless, misfit, first_misfit}
-use Rattle.py_targets.specs.Places.{Known, is_unset, fix, first_type, is_plain, bind_variable, bind_name, bind_names}
-use Rattle.py_targets.specs.Targets.{Aim, held, first, barred, unwritten, misplaced, slot_of, target_of, targets_of, is_written, again_fault, twice_fault}
+use Rattle.py_binding.specs.Slots.{known}
+use Rattle.py_binding.specs.Assignments.{first_refused, first_itemless, misfit, first_misfit}
+use Rattle.py_targets.specs.Places.{Known, is_unset, fix, first_type, bind_variable, bind_name, bind_names}
+use Rattle.py_targets.specs.Targets.{Aim, held, first, barred, unwritten, misplaced, slot_of, targets_of, is_written, again_fault, twice_fault}
 use Rattle.typing_laws.specs.WellTyped as law
 use Rattle.typing_laws.specs.WellTyped.{Describes, Within}
 use Rattle.typing_laws.proofs.Types.{clash}
-use Rattle.typing_laws.proofs.Stands.{parts_of_stands, coerced_stands}
+use Rattle.typing_laws.proofs.Stands.{parts_of_stands}
 use Rattle.module_laws.specs.WellTyped.{IsScope}
-use Rattle.module_laws.proofs.Kept.{set_cases, fix_set, fix_open, fix_first, Follows, follows_itself, follows_on, follows_variable, follows_name, follows_names, is_open, bind_set}
+use Rattle.module_laws.proofs.Kept.{fix_set, fix_open, fix_first, Follows, follows_on, follows_name, follows_names, is_open, bind_set}
 use Rattle.module_laws.proofs.Assigned.{first_none}
 use Rattle.module_laws.proofs.Names.{within_kept}
-use Rattle.module_laws.proofs.Aims.{AimAt, beyond, AimsOf, Held, held_local, held_global, held_item, aim_held, First, first_local, first_global, aim_first, first_name, Aimed, aimed_local, aimed_global, aimed_item, held_aimed, first_aimed, aimed_bound, aimed_behind}
-use Rattle.module_laws.proofs.Values.{scene, declared_there, misfit_none, item_at_place, held_value}
+use Rattle.module_laws.proofs.Aims.{beyond, AimsOf, Held, held_local, held_global, held_item, aim_held, First, first_local, first_global, aim_first, first_name, Aimed, held_aimed, first_aimed, aimed_bound, aimed_behind}
+use Rattle.module_laws.proofs.Values.{scene, declared_there, misfit_none, item_at_place}
 use Rattle.module_laws.proofs.Closed.{is_there, scope_there, scope_on, open_follows}
-use Rattle.module_laws.proofs.Settled.{aim_set}
 
 -- ---- names
 

@@ -1,12 +1,9 @@
 -- Where nothing is said of a module, each of its variables and of its functions' has a type.
-use Rattle.std.proofs.Common.{◌≡◌, ℕ, zero, suc, ◌+◌, ◌<◌, Bool, true, false, ◌&&◌, List, [], ◌∷◌, ◌++◌, length, map, slice_get, Option, Some, None, refl, ap, sym, ◌∙◌, subst, arith, ◌⊎◌, inl, inr}
+use Rattle.std.proofs.Common.{◌≡◌, ℕ, zero, suc, ◌+◌, ◌<◌, true, false, List, [], ◌∷◌, ◌++◌, length, map, slice_get, Option, Some, None, refl, ap, sym, ◌∙◌, arith, ◌⊎◌, inl, inr}
 use Rattle.std.proofs.lemmas.Bool.{and_from}
 use Rattle.std.proofs.lemmas.List.{length-map}
-use Rattle.std.proofs.lemmas.Option.{same_Some, slice_get-map}
+use Rattle.std.proofs.lemmas.Option.{same_Some}
 use Rattle.std.specs.Prelude.{is_some}
-use Rattle.std.specs.List.{list_all, zip}
-use Rattle.std.specs.Map.{lookup}
-use Rattle.std.specs.Option.{option_map}
 use Rattle.std.specs.Str.{bytes_eq}
 use Rattle.py_syntax.specs.Expressions.{ExprTree}
 use Rattle.py_syntax.specs.Statements.{Suite, FuncTree}
@@ -19,21 +16,21 @@ use Rattle.py_scope.specs.declared.scope.Meaning.TheVariants as meaning
 use Rattle.py_scope.specs.Context.{Context, VarSort, unset, untyped, has, var_at}
 use Rattle.py_flow.specs.Bindings.{suite_bindings}
 use Rattle.py_annotations.specs.Names.{is_untyped}
-use Rattle.py_headers.specs.Headers.{marked, header}
-use Rattle.py_names.specs.Meanings.{is_own, variables, own_names, said_in, module_meaning}
+use Rattle.py_headers.specs.Headers.{marked}
+use Rattle.py_names.specs.Meanings.{is_own, own_names, said_in, module_meaning}
 use Rattle.py_targets.specs.Places.{Known, is_unset}
 use Rattle.py_bodies.specs.Bodies.{block_after}
 use Rattle.py_binding.specs.Returns as ret
 use Rattle.py_typed.specs.WellTyped.{all_differ}
 use Rattle.py_check.specs.Definitions.{Headed, headed, headed_functions, signatures}
-use Rattle.py_check.specs.Starts.{given_sort, start_sort, or_param, param_sort, own_sort}
-use Rattle.py_check.specs.Module.{Environment, context_in, return_of, function_start, module_start, own_statements, body, body_after, sorts_behind, sorts_behind_all, bodies_said, global_sorts, environment, said, diagnostics}
+use Rattle.py_check.specs.Starts.{given_sort, start_sort, or_param, own_sort}
+use Rattle.py_check.specs.Module.{Environment, context_in, return_of, function_start, module_start, own_statements, body, body_after, sorts_behind, sorts_behind_all, bodies_said, environment, said, diagnostics}
 use Rattle.typing_laws.specs.Laws as law
 use Rattle.typing_laws.proofs.Loud.{none_before, none_behind}
 use Rattle.module_laws.specs.WellTyped.{IsScope}
 use Rattle.module_laws.specs.Modules.{has_type, all_have_types, are_own_typed, are_variables_typed}
 use Rattle.module_laws.proofs.Kept.{Kept, Follows, follows_block, is_open}
-use Rattle.module_laws.proofs.Sights.{names_of, suite_binds}
+use Rattle.module_laws.proofs.Sights.{suite_binds}
 use Rattle.module_laws.proofs.Closed.{AllClosed}
 use Rattle.module_laws.proofs.Fixed.{suite_fixed}
 use Rattle.module_laws.proofs.NameRows.{sights_differ, differ_filter, number_at, at_place}

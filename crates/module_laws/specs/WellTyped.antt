@@ -9,7 +9,7 @@ use Rattle.py_typed.specs.WellTypedExpr.{is_result_type}
 use Rattle.py_scope.specs.declared.scope.Meaning.TheVariants as meaning
 use Rattle.py_scope.specs.Context.{Context, VarSorts}
 use Rattle.py_calls.specs.Callees.{is_variable}
-use Rattle.py_binding.specs.Returns.{ReturnSort, outside, untyped, gives}
+use Rattle.py_binding.specs.Returns.{ReturnSort, gives}
 use Rattle.py_targets.specs.Targets.{leaves}
 use Rattle.typing_laws.specs.WellTyped.{is_written}
 
