@@ -1,5 +1,5 @@
 -- What targets are: names of variables, and items.
-use Rattle.std.proofs.Common.{◌≡◌, ℕ, Bool, true, false, List, [], ◌∷◌, ◌++◌, map, Option, Some, None, refl, ap, sym, ◌∙◌, subst, if◌then◌else◌}
+use Rattle.std.proofs.Common.{◌≡◌, ℕ, Bool, true, false, List, [], ◌∷◌, Option, Some, None, refl, ap, sym, ◌∙◌, subst, if◌then◌else◌}
 use Rattle.std.proofs.lemmas.Option.{same_Some}
 use Rattle.py_syntax.specs.declared.token.Span.{Span}
 use Rattle.py_syntax.specs.Expressions.{ExprTree}
@@ -11,12 +11,13 @@ use Rattle.py_scope.specs.declared.scope.Meaning.{Meaning}
 use Rattle.py_scope.specs.declared.scope.Meaning.TheVariants as meaning
 use Rattle.py_scope.specs.Context.{Context, VarSort, unset, untyped, has, var_at, free}
 use Rattle.py_flow.specs.Bindings.{name_in}
-use Rattle.py_typed.specs.Narrowing.{may_be_none, after_target}
-use Rattle.py_targets.specs.Places.{Known, is_unset, is_plain, rebound, bind_variable, bind_name}
-use Rattle.py_targets.specs.Targets.{Aim, held, first, barred, unwritten, misplaced, variable_aim, name_aim, is_written, part_aim, item_aim, is_item, value_aim, target_of, typed_at, single_aim, aims}
+use Rattle.py_typed.specs.Narrowing.{without, may_be_none, after_target}
+use Rattle.py_rules.specs.Facts.{local_of}
+use Rattle.py_targets.specs.Places.{Known, with_names, is_unset, is_plain, rebound, bind_variable, bind_name}
+use Rattle.py_targets.specs.Targets.{Aim, held, first, unwritten, variable_aim, name_aim, is_written, item_aim, is_item, value_aim, typed_at, single_aim, forgotten, aims}
 use Rattle.typing_laws.specs.WellTyped.{Within}
 use Rattle.module_laws.proofs.Given.{made_given, row_given}
-use Rattle.module_laws.proofs.Names.{bound_local, bound_other}
+use Rattle.module_laws.proofs.Names.{within_less, bound_local, forgotten_local, bound_other}
 
 -- ---- one aim and its target
 
@@ -46,12 +47,16 @@ module _ (C : Context) where
     pub here : AimAt k (name_in e) e a
     pub rest : Rest
 
+  -- behind a target: what was known of its name is forgotten
+  abbrev pub beyond : Known → ExprTree → Known
+  beyond k e = with_names k (forgotten C (name_in e) k.names)
+
   -- of a row
   abbrev pub AimsOf : Known → List ExprTree → List Aim → Type 0
   AimsOf k [] [] = Unit {0}
   AimsOf k [] (a ∷ l) = ⊥
   AimsOf k (e ∷ es) [] = ⊥
-  AimsOf k (e ∷ es) (a ∷ l) = HasAim k e a (AimsOf k es l)
+  AimsOf k (e ∷ es) (a ∷ l) = HasAim k e a (AimsOf (beyond k e) es l)
 
   single_is : (k : Known) (x : Option (List ℕ)) (e : ExprTree) (a : Aim) → (single_aim C k x e).got ≡ Some a → AimAt k x e a
   single_is k None e a h = made_given (value_aim (is_item e)) (typed_at C k free e) a h
@@ -60,8 +65,8 @@ module _ (C : Context) where
   pub aims_are : (k : Known) (es : List ExprTree) (l : List Aim) → (aims C k es).got ≡ Some l → AimsOf k es l
   aims_are k [] l h = subst (AimsOf k []) (same_Some [] l h) tt
   aims_are k (e ∷ es) l h =
-      let r = row_given (single_aim C k (name_in e) e) (aims C k es) l h in
-      subst (AimsOf k (e ∷ es)) r.4 (record { here = single_is k (name_in e) e r.0 r.2; rest = aims_are k es r.1 r.3 })
+      let r = row_given (single_aim C k (name_in e) e) (aims C (beyond k e) es) l h in
+      subst (AimsOf k (e ∷ es)) r.4 (record { here = single_is k (name_in e) e r.0 r.2; rest = aims_are (beyond k e) es r.1 r.3 })
 
   -- ---- targets that have a type
 
@@ -172,4 +177,16 @@ module _ (C : Context) where
       (subst (λ z. Within k.names (after_target others z s)) is (bound_other (GlobalTarget i) s k.names others refl w))
   aimed_bound e target (aimed_item b i n is) ok k t s others w h =
       subst (λ z. Within z (after_target others target s)) (sym (ap (λ o. (bind_name C ok k o t).names) n))
+      (subst (λ z. Within k.names (after_target others z s)) is (bound_other (ItemTarget b i) s k.names others refl w))
+
+  -- what is forgotten of a target's name is left of what is known
+  pub aimed_behind : (e : ExprTree) (target : TypedTarget) → Aimed e target → (k : Known) (s : Sort) (others : List ℕ) → Within k.names others → Within (beyond k e).names (after_target others target s)
+  aimed_behind e target (aimed_local x i n q is) k s others w =
+      subst (λ z. Within z (after_target others target s)) (sym (ap (λ o. forgotten C o k.names) n ∙ ap (λ z. without (local_of z) k.names) q))
+      (subst (λ z. Within (without (i ∷ []) k.names) (after_target others z s)) is (forgotten_local i s k.names others w))
+  aimed_behind e target (aimed_global x i n q is) k s others w =
+      subst (λ z. Within z (after_target others target s)) (sym (ap (λ o. forgotten C o k.names) n ∙ ap (λ z. without (local_of z) k.names) q))
+      (subst (λ z. Within (without [] k.names) (after_target others z s)) is (bound_other (GlobalTarget i) s (without [] k.names) others refl (within_less [] k.names others w)))
+  aimed_behind e target (aimed_item b i n is) k s others w =
+      subst (λ z. Within z (after_target others target s)) (sym (ap (λ o. forgotten C o k.names) n))
       (subst (λ z. Within k.names (after_target others z s)) is (bound_other (ItemTarget b i) s k.names others refl w))

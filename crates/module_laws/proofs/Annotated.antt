@@ -1,7 +1,6 @@
 -- An annotation that has no type has said why, where no name in it is without a type.
-use Rattle.std.proofs.Common.{◌≡◌, ℕ, Bool, true, false, List, [], ◌∷◌, ◌++◌, Option, Some, None, Result, Ok, Err, refl, ap, sym, ◌∙◌, subst, if◌then◌else◌}
+use Rattle.std.proofs.Common.{◌≡◌, ℕ, Bool, true, false, List, [], ◌∷◌, Option, Some, None, sym, subst, if◌then◌else◌}
 use Rattle.py_syntax.specs.declared.token.Span.{Span}
-use Rattle.py_syntax.specs.declared.expression.BinOp.{BinOp}
 use Rattle.py_syntax.specs.Expressions as e
 use Rattle.py_syntax.specs.Expressions.{ExprTree, ExprNode, ExprTrees}
 use Rattle.py_lexer.specs.Words.{name_in_quotes}
@@ -9,12 +8,12 @@ use Rattle.py_binder.specs.declared.scope.Diag.{Diag}
 use Rattle.py_typed.specs.Sorts.{Sort}
 use Rattle.py_typed.specs.Fits.{optional}
 use Rattle.py_scope.specs.declared.scope.Meaning.{Meaning}
-use Rattle.py_messages.specs.Seen.{Seen, is, silent, fails, made, rule}
+use Rattle.py_messages.specs.Seen.{Seen, is, silent, fails, made}
 use Rattle.py_messages.specs.Rows.{row_then}
 use Rattle.py_messages.specs.Messages as message
 use Rattle.py_annotations.specs.declared.names.Former.{Former}
 use Rattle.py_annotations.specs.Names.{plain_type, former_of, is_unknown, is_untyped, valid, named, unknown_names, or_invalid}
-use Rattle.py_annotations.specs.Annotations.{annotation, type_by_form, items, row, no_type, quoted, formed, application, form_or, head_named, name_of, is_tuple, is_or_none, return_annotation, is_none}
+use Rattle.py_annotations.specs.Annotations.{annotation, items, row, no_type, quoted, formed, application, form_or, head_named, name_of, is_tuple, is_or_none, return_annotation, is_none}
 use Rattle.typing_laws.proofs.Loud.{IsLoud, loud_is, loud_fails, loud_made, loud_rule, loud_row}
 
 loud_valid : (span : Span) (o : Option Sort) → IsLoud (valid span o)

@@ -1,5 +1,5 @@
 -- What is known of targets and of a value's type where a value is bound to them.
-use Rattle.std.proofs.Common.{◌≡◌, ℕ, suc, Bool, true, false, ◌&&◌, List, [], ◌∷◌, length, map, Option, Some, None, Result, Ok, Err, refl, ap, sym, ◌∙◌, subst, if◌then◌else◌, nat_eq, eqb-true}
+use Rattle.std.proofs.Common.{◌≡◌, ℕ, suc, Bool, true, false, List, [], ◌∷◌, length, map, Option, Some, None, Result, Ok, Err, refl, ap, sym, ◌∙◌, if◌then◌else◌, nat_eq, eqb-true}
 use Rattle.std.proofs.lemmas.Option.{same_Some}
 use Rattle.std.proofs.lemmas.List.{length-map}
 use Rattle.std.specs.Option.{option_map}
@@ -18,14 +18,14 @@ use Rattle.py_flow.specs.Bindings.{name_in}
 use Rattle.py_messages.specs.Seen.{Message}
 use Rattle.py_messages.specs.Messages.{no_target, cannot_assign, index_target}
 use Rattle.py_rules.specs.Operators.{arithmetic}
-use Rattle.py_binding.specs.Slots.{SlotSort}
 use Rattle.py_binding.specs.Assignments.{binding_fault, as_bound, assignment, first_refused, first_itemless, items_for, first_of, first_misfit, items_fault, unpacking_fault}
 use Rattle.py_targets.specs.Places.{Known, bind_name, bind_names}
 use Rattle.py_targets.specs.Targets.{Aim, slot_of, is_placed, is_row, is_flat, leaves, target_names, some_parts, parts_for, targets_of, are_placed, twice_fault, several_fault, one_assigned, value_assigned, act_of, assigned, annotation_fault, given_after, given, target_of, written_back, of_operation, updated, single_aim, aims}
 use Rattle.py_targets.specs.Assignments.{bind_target}
 use Rattle.py_loops.specs.Loops.{Course, course_type, course_items, are_names, head_fault, head}
 use Rattle.py_loops.specs.Loops as loops
-use Rattle.module_laws.proofs.Given.{done, ok_same, if_then, unless_ok, mapped_none, row_given}
+use Rattle.module_laws.proofs.Aims.{beyond}
+use Rattle.module_laws.proofs.Given.{ok_same, if_then, unless_ok, mapped_none, row_given}
 
 -- ---- targets
 
@@ -56,8 +56,8 @@ module _ (C : Context) where
   pub aims_length : (k : Known) (es : List ExprTree) (l : List Aim) → (aims C k es).got ≡ Some l → length l ≡ length es
   aims_length k [] l e = ap length (sym (same_Some [] l e))
   aims_length k (x ∷ es) l e =
-      let r = row_given (single_aim C k (name_in x) x) (aims C k es) l e in
-      ap length (sym r.4) ∙ ap suc (aims_length k es r.1 r.3)
+      let r = row_given (single_aim C k (name_in x) x) (aims C (beyond C k x) es) l e in
+      ap length (sym r.4) ∙ ap suc (aims_length (beyond C k x) es r.1 r.3)
 
 -- ---- a value's type for targets
 

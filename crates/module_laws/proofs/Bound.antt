@@ -1,30 +1,28 @@
 -- Assignments, returns and operations with assignment that are typed stand well typed.
-use Rattle.std.proofs.Common.{◌≡◌, ℕ, zero, suc, Bool, true, false, not, ◌&&◌, ◌||◌, List, [], ◌∷◌, ◌++◌, length, map, Option, Some, None, Result, Ok, Err, refl, ap, ap₂, sym, ◌∙◌, subst, if◌then◌else◌}
+use Rattle.std.proofs.Common.{◌≡◌, ℕ, Bool, true, false, not, ◌&&◌, List, [], ◌∷◌, length, Option, Some, None, refl, ap, ap₂, sym, ◌∙◌, subst, if◌then◌else◌, inl}
 use Rattle.std.proofs.lemmas.Bool.{and_from, or_left, or_right}
 use Rattle.std.proofs.lemmas.Option.{same_Some}
 use Rattle.std.specs.List.{list_all}
 use Rattle.std.specs.Option.{option_map}
 use Rattle.std.specs.Prelude.{is_some}
 use Rattle.py_syntax.specs.declared.token.Span.{Span}
-use Rattle.py_syntax.specs.declared.expression.BinOp.{BinOp}
-use Rattle.py_syntax.specs.declared.expression.BinOp.TheVariants as op
 use Rattle.py_syntax.specs.Expressions.{ExprTree}
 use Rattle.py_typed.specs.Sorts as sort
 use Rattle.py_typed.specs.Sorts.{Sort, Sorts, no_sorts, sort_then, listed_sorts}
 use Rattle.py_typed.specs.Classes.{Signature}
-use Rattle.py_typed.specs.Fits.{is_same_type, is_nothing, is_number, fits}
+use Rattle.py_typed.specs.Fits.{is_same_type, is_nothing, fits}
 use Rattle.py_typed.specs.Expressions.{TypedExpr, type_of}
 use Rattle.py_typed.specs.Statements as act
 use Rattle.py_typed.specs.Statements.{Variable, TypedModule, TypedTarget, TypedAct}
 use Rattle.py_typed.specs.Narrowing as telling
 use Rattle.py_typed.specs.Narrowing.{may_be_none, own_sort, after_target, after_parts, part_sorts}
-use Rattle.py_typed.specs.WellTypedExpr.{stands, is_value_type, are_value_types, is_result_type, is_none_literal}
+use Rattle.py_typed.specs.WellTypedExpr.{stands, is_value_type, are_value_types}
 use Rattle.py_typed.specs.WellTyped as stmt
 use Rattle.py_typed.proofs.FitLemmas.{type_is_itself, fits_itself, and_left, and_right}
 use Rattle.py_scope.specs.declared.scope.Meaning.{Meaning}
 use Rattle.py_scope.specs.Context.{Context, VarSorts, free}
 use Rattle.py_flow.specs.Bindings.{name_in}
-use Rattle.py_messages.specs.Seen.{Seen, both, rule}
+use Rattle.py_messages.specs.Seen.{both}
 use Rattle.py_rules.specs.Values.{coerced}
 use Rattle.py_binding.specs.Assignments.{binding_fault, as_bound, items_for}
 use Rattle.py_targets.specs.Places.{Known, is_plain, bind_name, bind_names}
@@ -33,19 +31,17 @@ use Rattle.py_targets.specs.Assignments.{target_aims, value_for, assigns, bind_t
 use Rattle.typing_laws.specs.WellTyped as law
 use Rattle.typing_laws.specs.WellTyped.{Describes, Within}
 use Rattle.typing_laws.proofs.Stands.{coerced_stands}
-use Rattle.typing_laws.proofs.Rows.{type_coerced}
-use Rattle.module_laws.specs.WellTyped.{are_targets, items_first, IsScope}
+use Rattle.module_laws.specs.WellTyped.{are_targets, IsScope}
 use Rattle.module_laws.proofs.Given.{some_is, both_given, rule_given}
 use Rattle.module_laws.proofs.Kept.{Follows, follows_itself, follows_name, follows_target, is_open}
-use Rattle.module_laws.proofs.Assigned.{leaves_one, single_bound, row_bound, aims_length, items_are, RowBound, BoundTo, as_value, assigned_is}
+use Rattle.module_laws.proofs.Assigned.{leaves_one, single_bound, row_bound, aims_length, items_are, BoundTo, as_value, assigned_is}
 use Rattle.module_laws.proofs.Whole.{bound_same}
 use Rattle.module_laws.proofs.Names.{within_kept}
-use Rattle.module_laws.proofs.Aims.{AimAt, AimsOf, aims_are, aim_held, aim_first, first_name, Aimed, held_aimed, first_aimed, aimed_bound}
-use Rattle.module_laws.proofs.Values.{scene, sorts_again, value_stands, held_value, fault_fits, stands_type, parts_type}
+use Rattle.module_laws.proofs.Aims.{AimAt, AimsOf, aims_are, aim_held, aim_first, first_name, held_aimed, first_aimed, aimed_bound}
+use Rattle.module_laws.proofs.Values.{scene, value_stands, held_value, fault_fits, stands_type, parts_type}
 use Rattle.module_laws.proofs.Towers.{no_tower}
 use Rattle.module_laws.proofs.Targets.{not_true, own_plain, own_coerced, given_start, TargetStands, held_stands, variable_stands, sort_in, bind_first, open_unset, open_variable, first_open, RowStands, rows}
 use Rattle.module_laws.proofs.Closed.{scope_there}
-use Rattle.module_laws.proofs.Settled.{not_none}
 use Rattle.typing_laws.proofs.Types.{result_of_value}
 
 four : (a b c d : Bool) → a ≡ true → b ≡ true → c ≡ true → d ≡ true → (a && b && c && d) ≡ true
@@ -86,11 +82,11 @@ module _ (means : List ℕ → Meaning) (signatures : List (Option Signature)) (
   bound_one : (loops handling : Bool) (others names : List ℕ) (target : TypedTarget) (t : Sort) (v : TypedExpr) → TargetStands means signatures m locals init result others target t → stands m locals init false others v ≡ true → type_of v ≡ t → Within names (after_target others target (own_sort v)) → Good loops handling others names (act.Assign (target ∷ []) v)
   bound_one loops handling others names target t v st sv q w = record {
     typed = four (stands m locals init false others v) true (stmt.targets_typed m locals init result others (target ∷ []) (part_sorts (type_of v))) (stmt.assignment_fits m locals init result (target ∷ []) (type_of v)) sv refl (one_typed others target (part_sorts (type_of v)) st.there)
-      (or_left (is_same_type (type_of v) (stmt.target_type m locals init result target)) (not (fits m.classes.classes (type_of v) (stmt.target_type m locals init result target)) && stmt.parts_fit m locals init result (target ∷ []) (part_sorts (type_of v)))
-      (ap₂ is_same_type q st.type ∙ type_is_itself t));
+        (or_left (is_same_type (type_of v) (stmt.target_type m locals init result target)) (not (fits m.classes.classes (type_of v) (stmt.target_type m locals init result target)) && stmt.parts_fit m locals init result (target ∷ []) (part_sorts (type_of v)))
+        (ap₂ is_same_type q st.type ∙ type_is_itself t));
     names = subst (λ b. Within names (chosen b (after_parts others (target ∷ []) (own_sort v ∷ [])) (after_parts others (target ∷ []) (part_sorts (type_of v)))))
-      (sym (ap₂ (fits m.classes.classes) q st.type ∙ fits_itself m.classes.classes t))
-      (within_kept names (after_target others target (own_sort v)) w);
+        (sym (ap₂ (fits m.classes.classes) q st.type ∙ fits_itself m.classes.classes t))
+        (within_kept names (after_target others target (own_sort v)) w);
   }
 
   -- the type of a variable behind its first binding
@@ -112,7 +108,7 @@ module _ (means : List ℕ → Meaning) (signatures : List (Option Signature)) (
       let o = first_open means signatures m locals init result k target u y h x in
       let e = bind_name here true k (name_in target) (Some (type_of v)) in
       let r : sort_in e.types (means y) ≡ Rattle.py_scope.specs.Context.has (type_of v) =
-        ap (λ (q : Option (List ℕ)). sort_in (bind_name here true k q (Some (type_of v))).types (means y)) x ∙ first_type_there k s y (type_of v) o in
+      ap (λ (q : Option (List ℕ)). sort_in (bind_name here true k q (Some (type_of v))).types (means y)) x ∙ first_type_there k s y (type_of v) o in
       bound_one loops handling others e.names u (type_of v) v
       (variable_stands means signatures m locals init result e.types E target u k h (type_of v) (λ z q. ap (λ n. sort_in e.types (means n)) (same_Some z y (sym q ∙ x)) ∙ r) others) sv refl
       (aimed_bound here target u (first_aimed here k target u h) true k (Some (type_of v)) (own_sort v) others w (λ q. own_plain m locals init others v sv (not_true (may_be_none (type_of v)) q)))
@@ -168,9 +164,9 @@ module _ (means : List ℕ → Meaning) (signatures : List (Option Signature)) (
       let whole = stands_type means signatures m locals init others v sv (ap is_nothing q) in
       record {
         typed = four (stands m locals init false others v) (stmt.is_filled m locals init result (targets_of l)) (stmt.targets_typed m locals init result others (targets_of l) (part_sorts (type_of v))) (stmt.assignment_fits m locals init result (targets_of l) (type_of v)) sv
-          (filled_targets (targets_of l) (listed_sorts ts) r.fit (parts_there ts (subst (λ s. is_value_type (length m.classes.classes) s ≡ true) q whole)))
-          (ap (stmt.targets_typed m locals init result others (targets_of l)) parts ∙ r.typed)
-          (row_fits (targets_of l) (type_of v) no (ap (stmt.parts_fit m locals init result (targets_of l)) parts ∙ r.fit));
+            (filled_targets (targets_of l) (listed_sorts ts) r.fit (parts_there ts (subst (λ s. is_value_type (length m.classes.classes) s ≡ true) q whole)))
+            (ap (stmt.targets_typed m locals init result others (targets_of l)) parts ∙ r.typed)
+            (row_fits (targets_of l) (type_of v) no (ap (stmt.parts_fit m locals init result (targets_of l)) parts ∙ r.fit));
         names = subst (λ b. Within names (chosen b (after_parts others (targets_of l) (own_sort v ∷ [])) (after_parts others (targets_of l) (part_sorts (type_of v))))) (sym no) (subst (λ z. Within names (after_parts others (targets_of l) z)) (sym parts) r.names);
       }
 
@@ -184,20 +180,20 @@ module _ (means : List ℕ → Meaning) (signatures : List (Option Signature)) (
   pub single_aim_of : (k : Known) (target : ExprTree) (l : List Aim) (a : Aim) → l ≡ a ∷ [] → leaves target ≡ target ∷ [] → AimsOf here k (leaves target) l → AimAt here k (name_in target) target a
   single_aim_of k target l a q p h = (subst (λ z. AimsOf here k z (a ∷ [])) p (subst (AimsOf here k (leaves target)) q h)).here
 
-  assign_by : (loops handling : Bool) (k : Known) (target : ExprTree) → IsScope here k.types → (l : List Aim) (v : TypedExpr) → AimsOf here k (leaves target) l → length l ≡ length (leaves target) → list_all law.is_written (leaves target) ≡ true → items_first false (leaves target) ≡ true → Describes here k.types m locals
+  assign_by : (loops handling : Bool) (k : Known) (target : ExprTree) → IsScope here k.types → (l : List Aim) (v : TypedExpr) → AimsOf here k (leaves target) l → length l ≡ length (leaves target) → list_all law.is_written (leaves target) ≡ true → Describes here k.types m locals
       → (end : Known) → end ≡ bind_target here true k target (Some (type_of v)) → Describes here end.types m locals → (others : List ℕ) → Within k.names others → stands m locals init false others v ≡ true → (c : Bool) → is_row target ≡ c → BoundTo m.classes.classes c l (type_of v)
       → Good loops handling others end.names (act.Assign (targets_of l) (as_value c l v))
-  assign_by loops handling k target sc l v all n written order D end same E others w sv false q r =
+  assign_by loops handling k target sc l v all n written D end same E others w sv false q r =
       let one = leaves_one target q in
       let p : end ≡ bind_name here true k (name_in target) (Some (type_of v)) = same ∙ single_bound here true k target (Some (type_of v)) q in
       subst (λ z. Good loops handling others end.names (act.Assign (targets_of z) (as_value false z v))) (sym r.1)
       (subst (λ z. Good loops handling others end.names (act.Assign z (as_bound (slot_of r.0) v))) (sym (one_target_of r.0))
       (subst (λ (z : Known). Good loops handling others z.names (act.Assign (target_of r.0) (as_bound (slot_of r.0) v))) (sym p)
       (good_one loops handling k target (and_left (law.is_written target) true (subst (λ z. list_all law.is_written z ≡ true) one written)) sc r.0 (single_aim_of k target l r.0 r.1 one all) v r.2 (subst (λ (z : Known). Describes here z.types m locals) p E) others w sv)))
-  assign_by loops handling k target sc l v all n written order D end same E others w sv true q r =
+  assign_by loops handling k target sc l v all n written D end same E others w sv true q r =
       let i = items_are (type_of v) (length l) r.parts r.items in
       let p : end ≡ bind_names here true k (target_names target) r.parts = same ∙ row_bound here true k target (type_of v) r.parts q (ap (items_for (type_of v)) (sym n) ∙ r.items) in
-      let g = rows means signatures m locals init result k D (leaves target) l r.parts [] false k others (follows_itself k.types) sc (given_start here k.types) w (λ z. w) all written order r.refused r.itemless r.misfit r.twice i.3 (subst (λ (z : Known). Describes here z.types m locals) p E) in
+      let g = rows means signatures m locals init result k D (leaves target) l r.parts [] k others (follows_itself k.types) sc (given_start here k.types) w (inl w) all written r.refused r.itemless r.misfit r.twice i.3 (subst (λ (z : Known). Describes here z.types m locals) p E) in
       subst (λ (z : Known). Good loops handling others z.names (act.Assign (targets_of l) v)) (sym p)
       (bound_row loops handling others (bind_names here true k (target_names target) r.parts).names l i.0 v sv i.1
       (subst (λ z. RowStands means signatures m locals init result others l z (bind_names here true k (target_names target) r.parts).names) (sym i.2) g))
@@ -210,10 +206,9 @@ module _ (means : List ℕ → Meaning) (signatures : List (Option Signature)) (
       let b = both_given (target_aims here k target) (value_for here k target e) r.0 r.1 in
       let d = assigned_is m.classes.classes target r.0 a r.2 in
       let ok = is_some (assigns here k span target e).got in
-      let written = and_left (list_all law.is_written (leaves target)) (items_first false (leaves target)) wt in
       let D = described_before here k.types (binds here k span target e).types m locals (follows_target here ok k target (option_map type_of (value_for here k target e).got)) E in
       let all = aims_are here k (leaves target) r.0.0 b.0 in
-      let sv = value_stands means signatures m locals init k D (leaves target) written (is_row target) r.0.0 all e we r.0.1 d.bound (ap (λ o. (typed_at here k (asked_by (is_row target) o) e).got) (sym b.0) ∙ b.1) others w in
+      let sv = value_stands means signatures m locals init k D (leaves target) wt (is_row target) r.0.0 all e we r.0.1 d.bound (ap (λ o. (typed_at here k (asked_by (is_row target) o) e).got) (sym b.0) ∙ b.1) others w in
       let same = bound_same here k target ok (option_map type_of (value_for here k target e).got) (type_of r.0.1) (some_is (assigns here k span target e).got a h) (ap (option_map type_of) b.1) in
       subst (Good loops handling others (binds here k span target e).names) d.is
-      (assign_by loops handling k target sc r.0.0 r.0.1 all (aims_length here k (leaves target) r.0.0 b.0) written (and_right (list_all law.is_written (leaves target)) (items_first false (leaves target)) wt) D (binds here k span target e) same E others w sv (is_row target) refl d.bound)
+      (assign_by loops handling k target sc r.0.0 r.0.1 all (aims_length here k (leaves target) r.0.0 b.0) wt D (binds here k span target e) same E others w sv (is_row target) refl d.bound)

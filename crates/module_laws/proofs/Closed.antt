@@ -1,21 +1,20 @@
 -- Variables behind their first bindings: each has a type, or none for good, so that an annotation further down is no first one.
-use Rattle.std.proofs.Common.{◌≡◌, ℕ, ◌<◌, Bool, true, false, cond, List, [], ◌∷◌, ◌++◌, length, map, nat_lt, Option, Some, None, refl, ap, sym, ◌∙◌, subst, ltb-true}
+use Rattle.std.proofs.Common.{◌≡◌, ℕ, Bool, true, false, cond, List, [], ◌∷◌, ◌++◌, length, map, nat_lt, Option, Some, None, refl, ap, sym, ◌∙◌, subst, ltb-true}
 use Rattle.std.proofs.lemmas.Slice.Eq.{bytes_eq-Decides}
-use Rattle.std.specs.Map.{lookup}
 use Rattle.std.specs.Str.{bytes_eq}
 use Rattle.std.specs.List.{flat_map}
 use Rattle.py_syntax.specs.Expressions.{ExprTree}
 use Rattle.py_typed.specs.Sorts.{Sort}
 use Rattle.py_scope.specs.declared.scope.Meaning.{Meaning}
 use Rattle.py_scope.specs.declared.scope.Meaning.TheVariants as meaning
-use Rattle.py_scope.specs.Context.{Context, VarSort, unset, untyped, has, VarSorts, var_at}
+use Rattle.py_scope.specs.Context.{Context, VarSort, VarSorts, var_at}
 use Rattle.py_flow.specs.Bindings.{Binding, name_in, target_bindings}
 use Rattle.py_targets.specs.Places.{Known, is_unset, fix, first_type, bind_variable, bind_name, bind_names}
 use Rattle.py_targets.specs.Targets.{is_row, leaves, parts_of}
 use Rattle.py_targets.specs.Assignments.{bind_target}
-use Rattle.py_check.specs.Starts.{first_mark, with_mark}
+use Rattle.py_check.specs.Starts.{first_mark}
 use Rattle.module_laws.specs.WellTyped.{IsScope}
-use Rattle.module_laws.proofs.Kept.{Kept, fix_set, fix_first, Follows, follows_on, follows_name, follows_names, follows_itself, is_open}
+use Rattle.module_laws.proofs.Kept.{fix_set, fix_first, Follows, follows_name, follows_names, is_open}
 use Rattle.module_laws.proofs.Assigned.{name_no_row, single_bound}
 use Rattle.module_laws.proofs.Shapes.{named, leaf_bindings, target_leaves}
 

@@ -1,8 +1,7 @@
 -- What a loop goes over stands, and its items have a type that a variable may have.
-use Rattle.std.proofs.Common.{◌≡◌, ℕ, suc, Bool, true, false, not, ◌&&◌, ◌||◌, List, [], ◌∷◌, length, Option, Some, None, Result, Ok, Err, refl, ap, sym, ◌∙◌, subst, if◌then◌else◌, ◌⊎◌, inl, inr}
-use Rattle.std.proofs.lemmas.Bool.{and_from, or_left, or_right}
+use Rattle.std.proofs.Common.{◌≡◌, ℕ, suc, Bool, true, false, List, [], ◌∷◌, length, Option, Some, None, Ok, refl, ap, sym, ◌∙◌, subst, if◌then◌else◌, ◌⊎◌, inl, inr}
+use Rattle.std.proofs.lemmas.Bool.{and_from}
 use Rattle.std.proofs.lemmas.Option.{same_Some}
-use Rattle.std.specs.Prelude.{codes}
 use Rattle.py_syntax.specs.declared.token.Span.{Span}
 use Rattle.py_syntax.specs.Expressions as tree
 use Rattle.py_syntax.specs.Expressions.{ExprTree, at, Arguments}
@@ -10,7 +9,7 @@ use Rattle.py_typed.specs.Sorts as sort
 use Rattle.py_typed.specs.Sorts.{Sort}
 use Rattle.py_typed.specs.Classes.{ClassEntry, Signature}
 use Rattle.py_typed.specs.Fits.{is_number, number_join, is_same_type, fits}
-use Rattle.py_typed.specs.Expressions.{TypedExpr, typed, type_of}
+use Rattle.py_typed.specs.Expressions.{TypedExpr, type_of}
 use Rattle.py_typed.specs.Statements.{Variable, TypedModule}
 use Rattle.py_typed.specs.WellTypedExpr.{stands, is_value_type, is_result_type, is_key_type}
 use Rattle.py_typed.specs.WellTyped as stmt
@@ -18,7 +17,7 @@ use Rattle.py_typed.proofs.FitLemmas.{type_is_itself, and_left, and_right}
 use Rattle.py_scope.specs.declared.scope.Meaning.{Meaning}
 use Rattle.py_scope.specs.Context.{Context, free, along}
 use Rattle.py_flow.specs.Bindings.{name_in}
-use Rattle.py_messages.specs.Seen.{Seen, Message, ruled, behind, rule, made}
+use Rattle.py_messages.specs.Seen.{behind}
 use Rattle.py_rules.specs.Values.{coerced}
 use Rattle.py_calls.specs.Callees.{has_key}
 use Rattle.py_calls.specs.Calls.{no_keys, positional}
@@ -121,7 +120,7 @@ module _ (means : List ℕ → Meaning) (signatures : List (Option Signature)) (
         bound = (coerced_number others b t sb hb w).0;
         whole = whole_coerced t b w;
         start = and_from (stands m locals init false others (coerced t a)) (is_same_type (type_of (coerced t a)) (type_of (coerced t b))) (coerced_number others a t sa ha w).0
-        (ap (λ x. is_same_type x (type_of (coerced t b))) (type_coerced t a) ∙ ap (λ x. is_same_type t x) (type_coerced t b) ∙ type_is_itself t);
+            (ap (λ x. is_same_type x (type_of (coerced t b))) (type_coerced t a) ∙ ap (λ x. is_same_type t x) (type_coerced t b) ∙ type_is_itself t);
       }
 
   range_stands : (others : List ℕ) (es : List TypedExpr) (w : Course) → AllStand m locals init others es → bounds_of_numbers m.classes.classes es (no_number 1 es) ≡ Ok w → CourseStands others w

@@ -1,5 +1,5 @@
 -- What statements leave of the types of variables: a variable that has one, or has none for good, stays as it is.
-use Rattle.std.proofs.Common.{◌≡◌, ℕ, zero, suc, ◌<◌, Bool, true, false, List, [], ◌∷◌, length, slice_get, slice_set, Option, Some, None, refl, ap, sym, ◌∙◌, subst, if◌then◌else◌, ◌⊎◌, inl, inr, length-set, arith}
+use Rattle.std.proofs.Common.{◌≡◌, ℕ, zero, suc, ◌<◌, Bool, true, false, List, [], ◌∷◌, length, slice_set, Option, Some, None, refl, ap, sym, ◌∙◌, subst, if◌then◌else◌, ◌⊎◌, inl, inr, length-set, arith}
 use Rattle.std.specs.Prelude.{is_some}
 use Rattle.std.specs.Option.{option_map}
 use Rattle.py_syntax.specs.declared.token.Span.{Span}
@@ -7,16 +7,15 @@ use Rattle.py_syntax.specs.Expressions.{ExprTree}
 use Rattle.py_syntax.specs.Statements as node
 use Rattle.py_syntax.specs.Statements.{StmtTree, StmtNode, Suite, no_stmts, stmt_then, Arms, no_arms, arm_then}
 use Rattle.py_typed.specs.Sorts.{Sort}
-use Rattle.py_typed.specs.Sorts as sort
 use Rattle.py_typed.specs.Expressions.{type_of}
 use Rattle.py_scope.specs.declared.scope.Meaning.{Meaning}
 use Rattle.py_scope.specs.declared.scope.Meaning.TheVariants as meaning
-use Rattle.py_scope.specs.Context.{Context, VarSort, unset, untyped, has, VarSorts, var_at}
+use Rattle.py_scope.specs.Context.{Context, VarSort, VarSorts, var_at}
 use Rattle.py_flow.specs.Bindings.{name_in}
 use Rattle.py_flow.specs.Closed.{is_closed}
 use Rattle.py_targets.specs.Places.{Known, is_unset, fix, first_type, bind_variable, bind_name, bind_names, where_test, entering, Way, setting_out, behind_arm}
 use Rattle.py_targets.specs.Targets.{is_row, leaves, target_names, parts_of}
-use Rattle.py_targets.specs.Assignments.{value_for, assigns, bind_target, binds, annotates_name, value_sort, binds_annotated}
+use Rattle.py_targets.specs.Assignments.{value_for, assigns, bind_target, annotates_name, value_sort, binds_annotated}
 use Rattle.py_loops.specs.Loops.{course}
 use Rattle.py_loops.specs.Heads.{some_items, for_head, in_for}
 use Rattle.py_bodies.specs.Bodies.{after, node_after, block_after, arms_after}

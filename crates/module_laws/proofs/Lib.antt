@@ -20,3 +20,12 @@ mod Stand
 mod Sights
 mod NameRows
 mod Meant
+mod Marks
+mod Signed
+mod Modules
+mod Fixed
+mod Owned
+mod Varied
+mod Marked
+mod Inner
+mod Described

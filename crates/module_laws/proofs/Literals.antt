@@ -1,5 +1,5 @@
 -- What is typed as a literal True or None is written so.
-use Rattle.std.proofs.Common.{◌≡◌, ℕ, suc, Bool, true, false, not, ◌==◌, List, [], ◌∷◌, ◌++◌, length, Option, Some, None, Result, Ok, Err, refl, ap, sym, ◌∙◌, subst, if◌then◌else◌}
+use Rattle.std.proofs.Common.{◌≡◌, ℕ, suc, Bool, true, false, ◌==◌, List, [], ◌∷◌, ◌++◌, length, Option, Some, None, Result, Ok, Err, refl, ap, sym, ◌∙◌, subst, if◌then◌else◌}
 use Rattle.std.proofs.lemmas.Option.{same_Some}
 use Rattle.std.specs.Str.{bytes_eq}
 use Rattle.std.specs.Prelude.{codes}
@@ -19,7 +19,7 @@ use Rattle.py_scope.specs.declared.scope.Meaning.{Meaning}
 use Rattle.py_scope.specs.declared.scope.Meaning.TheVariants as meaning
 use Rattle.py_scope.specs.Context.{Context, VarSort, unset, untyped, has, VarSorts, var_at, Wanted, free, test, WantedRow, wanted_in}
 use Rattle.py_flow.specs.Closed.{is_true}
-use Rattle.py_messages.specs.Seen.{Seen, Message, both, behind, rule, made}
+use Rattle.py_messages.specs.Seen.{Seen, Message, both, behind, rule}
 use Rattle.py_rules.specs.Several.{ruled_all}
 use Rattle.py_rules.specs.Values.{place_of, coerced, truth}
 use Rattle.py_rules.specs.Facts.{facts, is_none_tree}
@@ -35,9 +35,9 @@ use Rattle.py_calls.specs.declared.callees.Single.{Single}
 use Rattle.py_calls.specs.declared.callees.Single.TheVariants as one
 use Rattle.py_calls.specs.Callees.{Callee, function, print, input, range, single, method, unknown, voiceless, uncalled, value, callee, has_key}
 use Rattle.py_calls.specs.Builtins.{as_value, gives_value, unprintable, printed, the_only, single_takes, single_made, single_given, single_call, print_call, input_call}
-use Rattle.py_calls.specs.Methods.{attribute, is_list_method, pop_call, append_given, append_call, list_call, value_call, method_call, item_of as item_sort_of}
+use Rattle.py_calls.specs.Methods.{attribute, is_list_method, pop_call, append_given, append_call, value_call, method_call, item_of as item_sort_of}
 use Rattle.py_calls.specs.Calls.{arguments_row, call_made, function_given, function_call, positional, refused, called}
-use Rattle.py_typing.specs.Typing.{typing, node_typing, items, operands, arguments, part, count}
+use Rattle.py_typing.specs.Typing.{typing, items, operands, arguments, part, count}
 use Rattle.typing_laws.proofs.Given.{Gives, gives_is, gives_silent, gives_fails, gives_any, gives_made, gives_rule, gives_ruled_all, gives_row, gives_after, gives_judged}
 use Rattle.typing_laws.proofs.Types.{clash}
 use Rattle.typing_laws.proofs.Telling.{done, ok_same, joined_made, junction_is}

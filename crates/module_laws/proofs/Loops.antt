@@ -1,5 +1,5 @@
 -- The heads of loops that are typed stand well typed, and so do the loops.
-use Rattle.std.proofs.Common.{◌≡◌, ℕ, Bool, true, false, not, ◌&&◌, ◌||◌, List, [], ◌∷◌, ◌++◌, length, map, Option, Some, None, Result, Ok, Err, refl, ap, ap₂, sym, ◌∙◌, subst, if◌then◌else◌, ◌⊎◌, inl, inr}
+use Rattle.std.proofs.Common.{◌≡◌, ℕ, Bool, true, false, not, ◌&&◌, List, [], ◌∷◌, ◌++◌, length, map, Option, Some, None, refl, ap, sym, ◌∙◌, subst, ◌⊎◌, inl, inr}
 use Rattle.std.proofs.lemmas.Bool.{and_from, or_left, or_right}
 use Rattle.std.proofs.lemmas.Option.{same_Some}
 use Rattle.std.specs.List.{list_all}
@@ -7,44 +7,41 @@ use Rattle.std.specs.Prelude.{is_some}
 use Rattle.py_syntax.specs.declared.token.Span.{Span}
 use Rattle.py_syntax.specs.Expressions as tree
 use Rattle.py_syntax.specs.Expressions.{ExprTree, at}
-use Rattle.py_syntax.specs.Statements as node
-use Rattle.py_syntax.specs.Statements.{StmtTree, Suite}
+use Rattle.py_syntax.specs.Statements.{StmtTree}
 use Rattle.py_typed.specs.Sorts as sort
 use Rattle.py_typed.specs.Sorts.{Sort, Sorts, listed_sorts}
 use Rattle.py_typed.specs.Classes.{Signature}
-use Rattle.py_typed.specs.Fits.{is_same_type, fits}
+use Rattle.py_typed.specs.Fits.{fits}
 use Rattle.py_typed.specs.Expressions.{TypedExpr, TypedNode, typed, type_of}
-use Rattle.py_typed.specs.Statements as act
-use Rattle.py_typed.specs.Statements.{Variable, TypedModule, TypedTarget, LocalTarget, GlobalTarget, ItemTarget, TypedAct, TypedSuite}
+use Rattle.py_typed.specs.Statements.{Variable, TypedModule, TypedTarget, LocalTarget, GlobalTarget, ItemTarget, TypedSuite}
 use Rattle.py_typed.specs.Narrowing as telling
 use Rattle.py_typed.specs.Narrowing.{without, may_be_none, bound_by_all, bound_suite, after_target, after_parts, part_sorts}
 use Rattle.py_typed.specs.WellTypedExpr.{stands, is_value_type, are_value_types}
 use Rattle.py_typed.specs.WellTyped as stmt
-use Rattle.py_typed.proofs.FitLemmas.{type_is_itself, fits_itself, and_left, and_right}
+use Rattle.py_typed.proofs.FitLemmas.{fits_itself, and_left, and_right}
 use Rattle.py_scope.specs.declared.scope.Meaning.{Meaning}
 use Rattle.py_scope.specs.Context.{Context, VarSorts}
-use Rattle.py_flow.specs.Bindings.{name_in, target_bindings, suite_bindings}
-use Rattle.py_messages.specs.Seen.{Seen, both, rule, made}
+use Rattle.py_flow.specs.Bindings.{name_in}
+use Rattle.py_messages.specs.Seen.{both, rule}
 use Rattle.py_binding.specs.Assignments.{binding_fault, first_refused, first_itemless, items_for}
-use Rattle.py_targets.specs.Places.{Known, is_plain, locals_among, entering, bind_name, bind_names}
+use Rattle.py_targets.specs.Places.{Known, entering, bind_name, bind_names}
 use Rattle.py_targets.specs.Targets.{Aim, held, first, barred, unwritten, misplaced, slot_of, target_of, targets_of, is_name_aim, is_item, is_row, is_flat, leaves, target_names, value_aim, item_aim}
 use Rattle.py_targets.specs.Assignments.{target_aims, bind_target}
 use Rattle.py_loops.specs.Loops.{Course, numbers, value, items_of, course_items, course, are_names, head, loop_over, loop_of}
 use Rattle.py_loops.specs.Heads.{some_items, for_head, in_for}
 use Rattle.typing_laws.specs.WellTyped as law
 use Rattle.typing_laws.specs.WellTyped.{Describes, Within}
-use Rattle.typing_laws.proofs.Types.{clash}
-use Rattle.module_laws.specs.WellTyped.{items_first, IsScope}
+use Rattle.module_laws.specs.WellTyped.{IsScope}
 use Rattle.module_laws.proofs.Given.{some_is, made_given, both_given, rule_given}
-use Rattle.module_laws.proofs.Kept.{Follows, follows_itself, follows_name, follows_target, is_open}
-use Rattle.module_laws.proofs.Assigned.{leaves_one, single_bound, row_bound, aims_length, items_are, RowBound, BoundTo, Headed, head_is}
+use Rattle.module_laws.proofs.Kept.{Follows, follows_itself, is_open}
+use Rattle.module_laws.proofs.Assigned.{leaves_one, single_bound, row_bound, aims_length, items_are, BoundTo, Headed, head_is}
 use Rattle.module_laws.proofs.Whole.{bound_same}
-use Rattle.module_laws.proofs.Names.{within_kept, within_without}
-use Rattle.module_laws.proofs.Aims.{AimAt, AimsOf, aims_are, Held, held_local, held_global, held_item, aim_held, First, first_local, first_global, aim_first, first_name, Aimed, aimed_local, aimed_global, aimed_item, held_aimed, first_aimed, aimed_bound}
+use Rattle.module_laws.proofs.Names.{within_kept}
+use Rattle.module_laws.proofs.Aims.{AimAt, beyond, AimsOf, aims_are, Held, held_local, held_global, held_item, aim_held, aim_first, first_name, Aimed, aimed_local, aimed_global, aimed_item, held_aimed, first_aimed, aimed_bound}
 use Rattle.module_laws.proofs.Values.{scene, fault_fits, third}
-use Rattle.module_laws.proofs.Courses.{BoundsStand, CourseStands, course_stands, item_type}
-use Rattle.module_laws.proofs.Targets.{not_true, given_start, TargetStands, held_stands, variable_stands, sort_in, first_open, RowStands, rows}
-use Rattle.module_laws.proofs.Bound.{described_before, Good, single, first_type_there, only_valued, not_single, single_aim_of, filled_targets, parts_there}
+use Rattle.module_laws.proofs.Courses.{CourseStands, course_stands, item_type}
+use Rattle.module_laws.proofs.Targets.{not_true, is_named, given_start, TargetStands, held_stands, variable_stands, sort_in, first_open, RowStands, rows}
+use Rattle.module_laws.proofs.Bound.{single, first_type_there, only_valued, not_single, single_aim_of, filled_targets, parts_there}
 
 name_is_written : (e : ExprTree) (x : List ℕ) → name_in e ≡ Some x → law.is_written e ≡ true
 name_is_written (at (tree.Name y) span) x h = refl
@@ -102,29 +99,29 @@ module _ (means : List ℕ → Meaning) (signatures : List (Option Signature)) (
 
   -- a row of names
   pub record AreNames (es : List ExprTree) (l : List Aim) : Type 0 where
-    pub first : items_first true es ≡ true
+    pub named : list_all is_named es ≡ true
     pub written : list_all law.is_written es ≡ true
     pub names : list_all is_name (targets_of l) ≡ true
 
   one_name : (e : ExprTree) (x : List ℕ) (es : List ExprTree) (a : Aim) (l : List Aim) (t : TypedTarget) → name_in e ≡ Some x → target_of a ≡ t ∷ [] → is_name t ≡ true → AreNames es l → AreNames (e ∷ es) (a ∷ l)
   one_name e x es a l t n q h r = record {
-    first = and_from (is_some (name_in e)) (items_first true es) (ap is_some n) r.first;
+    named = and_from (is_named e) (list_all is_named es) (ap is_some n) r.named;
     written = and_from (law.is_written e) (list_all law.is_written es) (name_is_written e x n) r.written;
     names = subst (λ (z : List TypedTarget). list_all is_name (z ++ targets_of l) ≡ true) (sym q) (and_from (is_name t) (list_all is_name (targets_of l)) h r.names);
   }
 
   are_named : (k : Known) (es : List ExprTree) (l : List Aim) → AimsOf here k es l → list_all is_name_aim l ≡ true → first_refused (map slot_of l) ≡ None → first_itemless (map slot_of l) ≡ None → AreNames es l
-  are_named k [] [] a h p q = record { first = refl; written = refl; names = refl }
+  are_named k [] [] a h p q = record { named = refl; written = refl; names = refl }
   are_named k [] (x ∷ l) a h p q = absurd a
   are_named k (e ∷ es) [] a h p q = absurd a
   are_named k (e ∷ es) (held t s ∷ l) a h p q =
       let d = aim_held here k e t s a.here in
       let n = held_named k e t s d (and_left (is_name_aim (held t s)) (list_all is_name_aim l) h) in
-      one_name e n.0 es (held t s) l t n.1 refl (aimed_name e t (held_aimed here k e t s d) (no_none (name_in e) n.0 n.1)) (are_named k es l a.rest (and_right (is_name_aim (held t s)) (list_all is_name_aim l) h) p q)
+      one_name e n.0 es (held t s) l t n.1 refl (aimed_name e t (held_aimed here k e t s d) (no_none (name_in e) n.0 n.1)) (are_named (beyond here k e) es l a.rest (and_right (is_name_aim (held t s)) (list_all is_name_aim l) h) p q)
   are_named k (e ∷ es) (first t y ∷ l) a h p q =
       let d = aim_first here k e t y a.here in
       let n = first_name here k e t y a.here in
-      one_name e y es (first t y) l t n refl (aimed_name e t (first_aimed here k e t d) (no_none (name_in e) y n)) (are_named k es l a.rest h p q)
+      one_name e y es (first t y) l t n refl (aimed_name e t (first_aimed here k e t d) (no_none (name_in e) y n)) (are_named (beyond here k e) es l a.rest h p q)
   are_named k (e ∷ es) (barred x ∷ l) a h p q = absurd (cc)
   are_named k (e ∷ es) (unwritten s ∷ l) a h p q = absurd (cc)
   are_named k (e ∷ es) (misplaced s ∷ l) a h p q = absurd (cc)
@@ -160,7 +157,7 @@ module _ (means : List ℕ → Meaning) (signatures : List (Option Signature)) (
       let one : single means signatures m locals init result (t ∷ []) item ≡ true = f in
       record {
         fit = four true (list_all is_name (t ∷ [])) (list_all (stmt.target_typed m locals init result others) (t ∷ [])) (stmt.binding_fits m locals init result (t ∷ []) item) refl (and_from (is_name t) true n refl)
-          (and_from (stmt.target_typed m locals init result others t) true st.there refl) (or_left (stmt.is_single m locals init result (t ∷ []) item) (stmt.parts_fit m locals init result (t ∷ []) (part_sorts item)) one);
+            (and_from (stmt.target_typed m locals init result others t) true st.there refl) (or_left (stmt.is_single m locals init result (t ∷ []) item) (stmt.parts_fit m locals init result (t ∷ []) (part_sorts item)) one);
         start = rw (one, stmt.in_loop_from) (within_kept names (after_target (without (bound_by_all (t ∷ []) ++ bound_suite body) others) t item) w);
       }
 
@@ -170,10 +167,10 @@ module _ (means : List ℕ → Meaning) (signatures : List (Option Signature)) (
       let parts : part_sorts item ≡ listed_sorts ts = ap part_sorts q in
       let whole : is_value_type (length m.classes.classes) (sort.TupleOf ts) ≡ true = subst (λ s. is_value_type (length m.classes.classes) s ≡ true) q v in
       let no : stmt.is_single m locals init result l item ≡ false = ap (stmt.is_single m locals init result l) q
-        ∙ not_single means signatures m locals init result l ts (third (Rattle.std.specs.Prelude.nat_lt 0 (length (listed_sorts ts))) (Rattle.std.specs.Prelude.nat_lt (length (listed_sorts ts)) 17) (are_value_types (length m.classes.classes) ts) whole) (λ t e. only_valued means signatures m locals init result l t types e) fit in
+      ∙ not_single means signatures m locals init result l ts (third (Rattle.std.specs.Prelude.nat_lt 0 (length (listed_sorts ts))) (Rattle.std.specs.Prelude.nat_lt (length (listed_sorts ts)) 17) (are_value_types (length m.classes.classes) ts) whole) (λ t e. only_valued means signatures m locals init result l t types e) fit in
       record {
         fit = four (stmt.is_filled m locals init result l) (list_all is_name l) (list_all (stmt.target_typed m locals init result others) l) (stmt.binding_fits m locals init result l item) (filled_targets means signatures m locals init result l (listed_sorts ts) fit (parts_there means signatures m locals init result ts whole)) n
-          (names_anywhere more others l (listed_sorts ts) n fit all) (or_right (stmt.is_single m locals init result l item) (stmt.parts_fit m locals init result l (part_sorts item)) (ap (stmt.parts_fit m locals init result l) parts ∙ fit));
+            (names_anywhere more others l (listed_sorts ts) n fit all) (or_right (stmt.is_single m locals init result l item) (stmt.parts_fit m locals init result l (part_sorts item)) (ap (stmt.parts_fit m locals init result l) parts ∙ fit));
         start = rw (no, parts, stmt.in_loop_from) w;
       }
 
@@ -195,8 +192,8 @@ module _ (means : List ℕ → Meaning) (signatures : List (Option Signature)) (
       let o = first_open means signatures m locals init result k target t y d x in
       let e = bind_name here true inner (name_in target) (Some item) in
       let r : sort_in e.types (means y) ≡ Rattle.py_scope.specs.Context.has item =
-        ap (λ (q : Option (List ℕ)). sort_in (bind_name here true inner q (Some item)).types (means y)) x
-        ∙ first_type_there means signatures m locals init result inner (subst (IsScope here) (sym same) sc) y item (ap (λ V. is_open V (means y)) same ∙ o) in
+      ap (λ (q : Option (List ℕ)). sort_in (bind_name here true inner q (Some item)).types (means y)) x
+      ∙ first_type_there means signatures m locals init result inner (subst (IsScope here) (sym same) sc) y item (ap (λ V. is_open V (means y)) same ∙ o) in
       let st = variable_stands means signatures m locals init result e.types E target t k d item (λ z q. ap (λ v. sort_in e.types (means v)) (same_Some z y (sym q ∙ x)) ∙ r) others in
       let own : TargetStands means signatures m locals init result others t (stmt.target_type m locals init result t) = subst (TargetStands means signatures m locals init result others t) (sym st.type) st in
       one_head others e.names t item body (aimed_name target t (first_aimed here k target t d) (no_none (name_in target) y x)) own (ap (fits m.classes.classes item) st.type ∙ fits_itself m.classes.classes item)
@@ -220,14 +217,11 @@ module _ (means : List ℕ → Meaning) (signatures : List (Option Signature)) (
       let b : end ≡ bind_names here true inner (target_names target) r.parts = p ∙ row_bound here true inner target item r.parts q (ap (items_for item) (sym n) ∙ r.items) in
       let a = are_named k (leaves target) l all names r.refused r.itemless in
       let inside = without (bound_by_all (targets_of l) ++ bound_suite body) others in
-      let g = rows means signatures m locals init result k D (leaves target) l r.parts [] true inner inside (subst (Follows k.types) (sym same) (follows_itself k.types)) (subst (IsScope here) (sym same) sc)
-        (subst (λ V. Rattle.module_laws.proofs.Targets.Given here k.types V []) (sym same) (given_start here k.types)) w (λ z. absurd (is_not z)) all a.written a.first r.refused r.itemless r.misfit r.twice i.3 (subst (λ (z : Known). Describes here z.types m locals) b E) in
+      let g = rows means signatures m locals init result k D (leaves target) l r.parts [] inner inside (subst (Follows k.types) (sym same) (follows_itself k.types)) (subst (IsScope here) (sym same) sc)
+      (subst (λ V. Rattle.module_laws.proofs.Targets.Given here k.types V []) (sym same) (given_start here k.types)) w (inr a.named) all a.written r.refused r.itemless r.misfit r.twice i.3 (subst (λ (z : Known). Describes here z.types m locals) b E) in
       subst (λ (z : Known). HeadStands others (targets_of l) item body z.names) (sym b)
       (by i.0 i.1 r.parts i.2 a.names g)
     where
-      is_not : true ≡ false → ⊥
-      is_not h = cc
-
       by : (ts : Sorts) → item ≡ sort.TupleOf ts → (parts : List Sort) → listed_sorts ts ≡ parts → list_all is_name (targets_of l) ≡ true → RowStands means signatures m locals init result (without (bound_by_all (targets_of l) ++ bound_suite body) others) l parts (bind_names here true inner (target_names target) parts).names
           → HeadStands others (targets_of l) item body (bind_names here true inner (target_names target) parts).names
       by ts e parts p named g =

@@ -1,7 +1,7 @@
 -- What names mean in a module and in a function of it, where nothing is wrong with definitions and imports.
-use Rattle.std.proofs.Common.{◌≡◌, ℕ, zero, suc, ◌+◌, ◌<◌, Bool, true, false, not, ◌&&◌, ◌||◌, cond, List, [], ◌∷◌, ◌++◌, length, map, filter, slice_get, nat_lt, Option, Some, None, refl, ap, ap₂, sym, ◌∙◌, subst, if◌then◌else◌, unwrap_or, length-append, lt-ltb, arith, ◌⊎◌, inl, inr}
+use Rattle.std.proofs.Common.{◌≡◌, ℕ, suc, ◌+◌, ◌<◌, Bool, true, false, ◌&&◌, ◌||◌, cond, List, [], ◌∷◌, ◌++◌, length, map, filter, slice_get, nat_lt, Option, Some, None, refl, ap, sym, ◌∙◌, subst, if◌then◌else◌, unwrap_or, length-append, lt-ltb, arith, ◌⊎◌, inl, inr}
 use Rattle.std.proofs.lemmas.Bool.{or_left, or_right, or_cases}
-use Rattle.std.proofs.lemmas.Option.{same_Some, slice_get_within}
+use Rattle.std.proofs.lemmas.Option.{same_Some}
 use Rattle.std.proofs.lemmas.List.Folds.{list_any-append}
 use Rattle.std.specs.Prelude.{is_some, is_none, codes}
 use Rattle.std.specs.List.{list_all, flat_map}
@@ -9,23 +9,20 @@ use Rattle.std.specs.Map.{lookup}
 use Rattle.std.specs.Str.{bytes_eq}
 use Rattle.value_core.specs.declared.exception.ExcClass.{ExcClass}
 use Rattle.value_core.specs.Exceptions.{class_named}
-use Rattle.py_syntax.specs.declared.token.Span.{Span}
 use Rattle.py_syntax.specs.Statements as s
 use Rattle.py_syntax.specs.Statements.{StmtTree, Suite, FuncTree}
 use Rattle.py_binder.specs.declared.scope.Role.{Role}
 use Rattle.py_binder.specs.declared.scope.Role.TheVariants as role
 use Rattle.py_binder.specs.declared.scope.Scope.{Scope}
 use Rattle.py_binder.specs.Sights.{Use, Reads, Binds, Defines, Declares, Holds, Sight, bound_as, module_sights, body_sights}
-use Rattle.py_binder.specs.Scope.{contains, is_builtin, bound_there, listed_there, seen_there, said_there, all_there, Roles, said_or_variable, role_among, module_role, is_variable, inner_role, param_names, function_role, first_sights, scope_of, module_scope, function_scope}
+use Rattle.py_binder.specs.Scope.{contains, is_builtin, bound_there, listed_there, seen_there, said_there, all_there, Roles, said_or_variable, module_role, is_variable, param_names, function_role, first_sights, scope_of, module_scope}
 use Rattle.py_scope.specs.declared.scope.Meaning.{Meaning}
 use Rattle.py_scope.specs.declared.scope.Meaning.TheVariants as meaning
 use Rattle.py_names.specs.Builtins.{plain_builtins, exception_meaning, or_else, builtin_meaning, of_typing, of_extensions, of_future, import_meaning}
-use Rattle.py_names.specs.Outline.{may_import, may_import_all, what_is_imported, imported_as, said_by, said_from, held_by, suite_definitions}
+use Rattle.py_names.specs.Outline.{may_import, may_import_all, imported_as, said_by, said_from, held_by, suite_definitions}
 use Rattle.py_names.specs.Meanings.{is_own, names_of, variables, own_names, number, by_role, meaning_in, said_in}
 use Rattle.py_typed.proofs.FitLemmas.{and_left, and_right}
-use Rattle.py_typed.specs.WellTyped.{all_differ}
 use Rattle.typing_laws.proofs.Types.{clash}
-use Rattle.typing_laws.proofs.Inside.{either}
 use Rattle.module_laws.proofs.Sights.{roles_given, suite_gives}
 use Rattle.module_laws.proofs.NameRows.{same_text, filter_keeps, sights_have, sights_differ, kind_names, place_of}
 
@@ -105,6 +102,7 @@ is_right x = true
 record SamePair (n : ℕ) (a : List ℕ × Role) (b : List ℕ × Meaning) (Rest : Type 0) : Type 0 where
   key : a.0 ≡ b.0
   other : is_variable a.1 ≡ false
+  own : is_own a.1 ≡ false
   given : is_given n b.1 ≡ true
   rest : Rest
 
@@ -118,7 +116,7 @@ pairs_two : (n : ℕ) (l : List (List ℕ × Role)) (k : List (List ℕ × Meani
 pairs_two n [] [] l2 k2 p q = q
 pairs_two n [] (b ∷ k) l2 k2 p q = absurd p
 pairs_two n (a ∷ l) [] l2 k2 p q = absurd p
-pairs_two n (a ∷ l) (b ∷ k) l2 k2 p q = record { key = p.key; other = p.other; given = p.given; rest = pairs_two n l k l2 k2 p.rest q }
+pairs_two n (a ∷ l) (b ∷ k) l2 k2 p q = record { key = p.key; other = p.other; own = p.own; given = p.given; rest = pairs_two n l k l2 k2 p.rest q }
 
 -- what is found among the one is found among the other
 record FoundPair (n : ℕ) (x : List ℕ) (k : List (List ℕ × Meaning)) (r : Role) : Type 0 where
@@ -126,6 +124,7 @@ record FoundPair (n : ℕ) (x : List ℕ) (k : List (List ℕ × Meaning)) (r : 
   found : lookup (bytes_eq x) k ≡ Some means
   given : is_given n means ≡ true
   other : is_variable r ≡ false
+  own : is_own r ≡ false
 
 pairs_found : (n : ℕ) (x : List ℕ) (l : List (List ℕ × Role)) (k : List (List ℕ × Meaning)) (r : Role) → Pairs n l k → lookup (bytes_eq x) l ≡ Some r → FoundPair n x k r
 pairs_found n x [] [] r p e = absurd (cc)
@@ -142,16 +141,17 @@ pairs_found n x (a ∷ l) (b ∷ k) r p e = by (bytes_eq x a.0) refl e (pairs_fo
       found = ap (λ (z : Bool). cond z (Some b.1) (lookup (bytes_eq x) k)) (same true q);
       given = p.given;
       other = ap is_variable (sym (same_Some a.1 r g)) ∙ p.other;
+      own = ap is_own (sym (same_Some a.1 r g)) ∙ p.own;
     }
     by false q g next =
         let f = next g in
-        record { means = f.means; found = ap (λ (z : Bool). cond z (Some b.1) (lookup (bytes_eq x) k)) (same false q) ∙ f.found; given = f.given; other = f.other }
+        record { means = f.means; found = ap (λ (z : Bool). cond z (Some b.1) (lookup (bytes_eq x) k)) (same false q) ∙ f.found; given = f.given; other = f.other; own = f.own }
 
 import_pairs : (n : ℕ) (from : List ℕ) (names : List (List ℕ × Option (List ℕ))) → list_all (may_import from) names ≡ true → Pairs n (map (λ a. (bound_as a.0 a.1, role.Import)) names) (map (imported_as true from) names)
 import_pairs n from [] h = tt
 import_pairs n from (a ∷ names) h =
     let one = and_left (may_import from a) (list_all (may_import from) names) h in
-    record { key = refl; other = refl; given = by (import_meaning from a.0) refl (and_right (is_none a.1) (is_some (import_meaning from a.0)) one); rest = import_pairs n from names (and_right (may_import from a) (list_all (may_import from) names) h) }
+    record { key = refl; other = refl; own = refl; given = by (import_meaning from a.0) refl (and_right (is_none a.1) (is_some (import_meaning from a.0)) one); rest = import_pairs n from names (and_right (may_import from a) (list_all (may_import from) names) h) }
   where
     by : (o : Option Meaning) → import_meaning from a.0 ≡ o → is_some o ≡ true → is_given n (unwrap_or (import_meaning from a.0) meaning.Untyped) ≡ true
     by None q e = absurd (cc)
@@ -167,7 +167,7 @@ moved : (a b c n : ℕ) → a + (b + c) ≡ n → a + b + c ≡ n
 moved a b c n h = omega arith
 
 one_pairs : (next n : ℕ) (x : StmtTree) → is_right x ≡ true → (more : ℕ) → next + (length (held_by x) + more) ≡ n → Pairs n (roles_given x) (said_by next x)
-one_pairs next n (s.at (s.Def name params ret body marks) span) h more e = record { key = refl; other = refl; given = lt-ltb next n (less_one next more n e); rest = tt }
+one_pairs next n (s.at (s.Def name params ret body marks) span) h more e = record { key = refl; other = refl; own = refl; given = lt-ltb next n (less_one next more n e); rest = tt }
   where
     less_one : (a c n : ℕ) → a + (1 + c) ≡ n → a < n
     less_one a c n h = omega arith
@@ -243,11 +243,25 @@ module _ (m : Suite) (n : ℕ) (right : list_all is_right (suite_definitions m) 
   pub module_fine : Fine (said_in m) (variables (module_scope m)) n (module_role m)
   module_fine = record {
     globals = λ x h.
-      among_kind is_variable (module_role m) (all_there seen_there (module_sights m)) x
-      (sights_have (all_there seen_there (module_sights m)) x
-      ∙ bound_seen (module_sights m) x (role_global x (is_builtin x) (lookup (bytes_eq x) (all_there said_there (module_sights m))) (contains (all_there bound_there (module_sights m)) x) refl refl h)) h;
+        among_kind is_variable (module_role m) (all_there seen_there (module_sights m)) x
+        (sights_have (all_there seen_there (module_sights m)) x
+        ∙ bound_seen (module_sights m) x (role_global x (is_builtin x) (lookup (bytes_eq x) (all_there said_there (module_sights m))) (contains (all_there bound_there (module_sights m)) x) refl refl h)) h;
     given = λ x h. role_said x (is_builtin x) (lookup (bytes_eq x) (all_there said_there (module_sights m))) (contains (all_there bound_there (module_sights m)) x) refl h;
   }
+
+  -- a variable of the module is bound in it
+  pub module_bound : (x : List ℕ) → is_variable (module_role m x) ≡ true → contains (all_there bound_there (module_sights m)) x ≡ true
+  module_bound x h = role_global x (is_builtin x) (lookup (bytes_eq x) (all_there said_there (module_sights m))) (contains (all_there bound_there (module_sights m)) x) refl refl h
+
+  role_own : (x : List ℕ) (b : Bool) (o : Option Role) (c : Bool) → lookup (bytes_eq x) (all_there said_there (module_sights m)) ≡ o → is_own (if b then role.Builtin else said_or_variable o c) ≡ false
+  role_own x true o c q = refl
+  role_own x false (Some r) c q = (pairs_found n x (all_there said_there (module_sights m)) (said_from 0 (suite_definitions m)) r module_pairs q).own
+  role_own x false None true q = refl
+  role_own x false None false q = refl
+
+  -- no name of the module is a function's own
+  pub module_own : (x : List ℕ) → is_own (module_role m x) ≡ false
+  module_own x = role_own x (is_builtin x) (lookup (bytes_eq x) (all_there said_there (module_sights m))) (contains (all_there bound_there (module_sights m)) x) refl
 
   -- what a definition gives is no variable
   pub given_no_variable : (x : List ℕ) (r : Role) → lookup (bytes_eq x) (all_there said_there (module_sights m)) ≡ Some r → is_variable (module_role m x) ≡ false
@@ -303,7 +317,7 @@ module _ (said : List ℕ → Option Meaning) (outer : List (List ℕ)) (n : ℕ
         by true q g next = ap (λ z. Some (by_role said outer own z (roles z))) (sym (same_text x y q)) ∙ ap (λ (z : Bool). cond z (Some (by_role said outer own x (roles x))) None) g
         by false q g next = next g
 
-    seen_means : (x : List ℕ) → contains (first_sights seen) x ≡ true → meant x ≡ by_role said outer own x (roles x)
+    pub seen_means : (x : List ℕ) → contains (first_sights seen) x ≡ true → meant x ≡ by_role said outer own x (roles x)
     seen_means x h = ap (λ o. unwrap_or o meaning.Unknown) (role_found (first_sights seen) x true h)
 
     unseen_means : (x : List ℕ) → contains (first_sights seen) x ≡ false → meant x ≡ meaning.Unknown

@@ -1,9 +1,9 @@
 -- Rows of names, each once, and the places of names in them.
-use Rattle.std.proofs.Common.{◌≡◌, ℕ, zero, suc, ◌+◌, ◌≤◌, ◌<◌, Bool, true, false, not, ◌&&◌, ◌||◌, cond, List, [], ◌∷◌, ◌++◌, length, map, filter, take, slice_get, count_by, Option, Some, None, refl, ap, ap₂, sym, ◌∙◌, subst, one-add, arith}
+use Rattle.std.proofs.Common.{◌≡◌, ℕ, zero, suc, ◌+◌, Bool, true, false, not, ◌||◌, cond, List, [], ◌∷◌, ◌++◌, map, filter, slice_get, Some, refl, ap, sym, ◌∙◌, one-add}
 use Rattle.std.proofs.lemmas.Bool.{and_from, or_parts, or_left, or_right}
 use Rattle.std.proofs.lemmas.Slice.Eq.{bytes_eq-Decides}
 use Rattle.std.specs.Cmp.Lexicographic.{nat_list_eq_equiv}
-use Rattle.std.specs.List.{list_any, list_all, position_or_len}
+use Rattle.std.specs.List.{list_all}
 use Rattle.std.specs.Str.{bytes_eq}
 use Rattle.py_typed.specs.WellTyped.{is_called_in, all_differ}
 use Rattle.py_typed.proofs.FitLemmas.{and_left, and_right}
@@ -102,9 +102,10 @@ none_is (x ∷ xs) n h = let r = or_parts (bytes_eq n x) (contains xs n) h in an
 pub sights_front : (xs ys : List (List ℕ)) → all_differ xs ≡ true → (zs : List (List ℕ)) × (first_sights (xs ++ ys) ≡ xs ++ zs)
 sights_front [] ys h = (first_sights ys, refl)
 sights_front (x ∷ xs) ys h =
-    let r = sights_front xs ys (and_right (not (is_called_in xs x)) (all_differ xs) h) in
-    (filter (others x) r.0,
-    ap (λ l. x ∷ filter (others x) l) r.1 ∙ ap (λ l. x ∷ l) (filter_two (others x) xs r.0 ∙ ap (λ l. l ++ filter (others x) r.0) (filter_all (others x) xs (none_is xs x (not_not (is_called_in xs x) (and_left (not (is_called_in xs x)) (all_differ xs) h))))))
+    let r = sights_front xs ys (and_right (not (is_called_in xs x)) (all_differ xs) h) in (
+      filter (others x) r.0,
+      ap (λ l. x ∷ filter (others x) l) r.1 ∙ ap (λ l. x ∷ l) (filter_two (others x) xs r.0 ∙ ap (λ l. l ++ filter (others x) r.0) (filter_all (others x) xs (none_is xs x (not_not (is_called_in xs x) (and_left (not (is_called_in xs x)) (all_differ xs) h))))),
+    )
 
 pub sights_same : (xs : List (List ℕ)) → all_differ xs ≡ true → first_sights xs ≡ xs
 sights_same [] h = refl

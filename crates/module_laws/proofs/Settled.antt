@@ -1,12 +1,11 @@
 -- Behind statements that are typed each variable has a type that a variable may have, or none yet.
-use Rattle.std.proofs.Common.{◌≡◌, ℕ, suc, Bool, true, false, not, ◌&&◌, List, [], ◌∷◌, ◌++◌, length, map, cond, Option, Some, None, refl, ap, sym, ◌∙◌, subst, if◌then◌else◌, ◌⊎◌, inl, inr}
+use Rattle.std.proofs.Common.{◌≡◌, ℕ, Bool, true, false, List, [], ◌∷◌, ◌++◌, length, cond, Option, Some, None, refl, ap, sym, ◌∙◌, subst, if◌then◌else◌}
 use Rattle.std.proofs.lemmas.Slice.Eq.{bytes_eq-Decides}
 use Rattle.std.specs.List.{list_all}
 use Rattle.std.specs.Prelude.{is_some}
 use Rattle.std.specs.Option.{option_map}
 use Rattle.std.specs.Str.{bytes_eq}
 use Rattle.py_syntax.specs.declared.token.Span.{Span}
-use Rattle.py_syntax.specs.declared.expression.BinOp.{BinOp}
 use Rattle.py_syntax.specs.Expressions.{ExprTree}
 use Rattle.py_syntax.specs.Statements as node
 use Rattle.py_syntax.specs.Statements.{StmtTree, StmtNode, Suite, no_stmts, stmt_then, Arms, no_arms, arm_then}
@@ -17,23 +16,22 @@ use Rattle.py_typed.specs.Fits.{is_nothing}
 use Rattle.py_typed.specs.Expressions.{TypedExpr, type_of}
 use Rattle.py_typed.specs.Statements as act
 use Rattle.py_typed.specs.Statements.{Variable, TypedModule, TypedTarget, TypedStmt, TypedAct, TypedSuite, on_line, suite_of, arms_of}
-use Rattle.py_typed.specs.WellTypedExpr.{stands, is_value_type, are_value_types, is_result_type, declared}
+use Rattle.py_typed.specs.WellTypedExpr.{is_value_type, are_value_types, declared}
 use Rattle.py_typed.proofs.FitLemmas.{and_left, and_right}
 use Rattle.py_scope.specs.declared.scope.Meaning.{Meaning}
 use Rattle.py_scope.specs.declared.scope.Meaning.TheVariants as meaning
 use Rattle.py_scope.specs.Context.{Context, VarSort, unset, untyped, has, VarSorts, var_at, free}
 use Rattle.py_flow.specs.Bindings.{Binding, bound, target_bindings, name_in, marked, stmt_bindings, act_bindings, suite_bindings, arms_bindings}
 use Rattle.py_flow.specs.Closed.{is_closed}
-use Rattle.py_messages.specs.Seen.{Seen, both, rule, made}
+use Rattle.py_messages.specs.Seen.{both, rule, made}
 use Rattle.py_messages.specs.Messages.{no_target, needs_annotation}
 use Rattle.py_messages.specs.Rows.{row_then}
 use Rattle.py_annotations.specs.Annotations.{annotation}
-use Rattle.py_rules.specs.Values.{truth}
 use Rattle.py_binding.specs.Returns.{ReturnSort}
 use Rattle.py_binding.specs.Assignments.{binding_fault, items_for}
 use Rattle.py_targets.specs.Places.{Known, is_unset, fix, first_type, bind_variable, bind_name, bind_names, where_test, entering, Way, setting_out, behind_arm}
 use Rattle.py_targets.specs.Targets.{Aim, held, first, barred, unwritten, misplaced, slot_of, is_row, is_flat, leaves, target_names, variable_aim, name_aim, targets_of, asked_by, assigned, typed_at}
-use Rattle.py_targets.specs.Assignments.{target_aims, value_for, assigns, bind_target, binds, annotates_name, annotates, value_sort, binds_annotated, updates_row, updates_one, updates}
+use Rattle.py_targets.specs.Assignments.{target_aims, value_for, assigns, bind_target, binds, annotates_name, annotates, value_sort, binds_annotated}
 use Rattle.py_loops.specs.Loops.{Course, course, head, loop_of}
 use Rattle.py_loops.specs.Heads.{some_items, for_head, in_for}
 use Rattle.py_bodies.specs.Bodies.{is_definition, condition, after, node_after, block_after, arms_after, statement, node_statement, block, branches}
@@ -41,15 +39,15 @@ use Rattle.typing_laws.specs.WellTyped as law
 use Rattle.typing_laws.specs.WellTyped.{IsDeclared, Describes, Within}
 use Rattle.typing_laws.proofs.Types.{clash}
 use Rattle.typing_laws.proofs.Inside.{either}
-use Rattle.module_laws.specs.WellTyped.{is_filled, maybe_written, are_targets, items_first, is_stmt_written, is_act_written, is_suite_written, are_arms_written, IsScope}
+use Rattle.module_laws.specs.WellTyped.{is_filled, maybe_written, are_targets, is_stmt_written, is_act_written, is_suite_written, are_arms_written, IsScope}
 use Rattle.module_laws.proofs.Given.{some_is, made_given, both_given, rule_given, row_given}
-use Rattle.module_laws.proofs.Kept.{fix_cases, Follows, follows_itself, follows_on, follows_name, follows_target, follows_stmt, follows_block, follows_arms, is_open, bind_set}
+use Rattle.module_laws.proofs.Kept.{fix_cases, Follows, follows_on, follows_target, follows_stmt, follows_block, follows_arms, is_open, bind_set}
 use Rattle.module_laws.proofs.Assigned.{single_bound, row_bound, name_no_row, aims_length, items_are, RowBound, BoundTo, assigned_is, head_is}
 use Rattle.module_laws.proofs.Whole.{definition_after, bound_same}
 use Rattle.module_laws.proofs.Aims.{AimAt, AimsOf, aims_are}
 use Rattle.module_laws.proofs.Shapes.{definition_shape, no_part_given}
 use Rattle.module_laws.proofs.Values.{scene, values_listed, value_stands, stands_type, parts_type}
-use Rattle.module_laws.proofs.Closed.{scope_on, AllClosed, closed_both, closed_on, target_closed, name_closed, IsMarked, marked_on, marked_front, marked_behind}
+use Rattle.module_laws.proofs.Closed.{scope_on, AllClosed, closed_both, closed_on, target_closed, name_closed, IsMarked, marked_front, marked_behind}
 use Rattle.module_laws.proofs.Courses.{course_stands, item_type}
 
 -- ---- variables
@@ -190,10 +188,10 @@ module _ (means : List ℕ → Meaning) (signatures : List (Option Signature)) (
       let b = both_given (target_aims here k target) (value_for here k target e) r.0 r.1 in
       let d = assigned_is m.classes.classes target r.0 a r.2 in
       let v = value_stands means signatures m locals init k D (leaves target) wt (is_row target) r.0.0 (aims_are here k (leaves target) r.0.0 b.0) e we r.0.1 d.bound
-        (ap (λ o. (typed_at here k (asked_by (is_row target) o) e).got) (sym b.0) ∙ b.1) k.names (λ x q. q) in
+      (ap (λ o. (typed_at here k (asked_by (is_row target) o) e).got) (sym b.0) ∙ b.1) k.names (λ x q. q) in
       record {
         valued = subst (λ (l : Known). Valued size l.types) (sym (bound_same here k target (is_some (assigns here k span target e).got) (option_map type_of (value_for here k target e).got) (type_of r.0.1) (some_is (assigns here k span target e).got a h) (ap (option_map type_of) b.1)))
-          (target_valued here size k k refl (valued_here k.types D) target r.0.0 b.0 (type_of r.0.1) d.bound (stands_type means signatures m locals init k.names r.0.1 v) (λ ts q. parts_type means signatures m locals init k.names r.0.1 ts v q));
+            (target_valued here size k k refl (valued_here k.types D) target r.0.0 b.0 (type_of r.0.1) d.bound (stands_type means signatures m locals init k.names r.0.1 v) (λ ts q. parts_type means signatures m locals init k.names r.0.1 ts v q));
         closed = target_closed here (is_some (assigns here k span target e).got) k s target (option_map type_of (value_for here k target e).got);
       }
 
@@ -206,7 +204,7 @@ module _ (means : List ℕ → Meaning) (signatures : List (Option Signature)) (
   settled_name : (k : Known) → Describes here k.types m locals → IsScope here k.types → (ok : Bool) (target mark : ExprTree) (x : List ℕ) (t : Option Sort) → name_in target ≡ Some x → IsMarked here k.types (bound x (Some mark)) → Settled (bind_target here ok k target t).types (marked (name_in target) target mark)
   settled_name k D s ok target mark x t n h =
       let kept : (bind_target here ok k target t).types ≡ k.types =
-        ap (λ (l : Known). l.types) (single_bound here ok k target t (name_no_row target x n) ∙ ap (λ o. bind_name here ok k o t) n) ∙ bind_set ok k (means x) t (h x mark (mark_found x mark)) in
+      ap (λ (l : Known). l.types) (single_bound here ok k target t (name_no_row target x n) ∙ ap (λ o. bind_name here ok k o t) n) ∙ bind_set ok k (means x) t (h x mark (mark_found x mark)) in
       record {
         valued = subst (Valued size) (sym kept) (valued_here k.types D);
         closed = subst (λ o. AllClosed here (bind_target here ok k target t).types (marked o target mark)) (sym n) (record { here = name_closed here ok k s target t x n; rest = tt });
@@ -233,7 +231,7 @@ module _ (means : List ℕ → Meaning) (signatures : List (Option Signature)) (
       let v : is_value_type size d.0.item ≡ true = item_type means signatures m locals init None k.names g.0.1 d.0.item c d.0.items in
       record {
         valued = subst (λ (z : Known). Valued size z.types) (sym (bound_same here l target (is_some (for_head here k span target e).got) (some_items (course here k e).got) d.0.item (some_is (for_head here k span target e).got p h) (ap some_items b.1 ∙ d.0.items)))
-          (target_valued here size l k refl (valued_here k.types D) target g.0.0 b.0 d.0.item d.0.bound (λ z. v) (λ ts z. Rattle.module_laws.proofs.Values.third (Rattle.std.specs.Prelude.nat_lt 0 (length (listed_sorts ts))) (Rattle.std.specs.Prelude.nat_lt (length (listed_sorts ts)) 17) (are_value_types size ts) (subst (λ x. is_value_type size x ≡ true) z v)));
+            (target_valued here size l k refl (valued_here k.types D) target g.0.0 b.0 d.0.item d.0.bound (λ z. v) (λ ts z. Rattle.module_laws.proofs.Values.third (Rattle.std.specs.Prelude.nat_lt 0 (length (listed_sorts ts))) (Rattle.std.specs.Prelude.nat_lt (length (listed_sorts ts)) 17) (are_value_types size ts) (subst (λ x. is_value_type size x ≡ true) z v)));
         closed = target_closed here (is_some (for_head here k span target e).got) l sc target (some_items (course here k e).got);
       }
 
@@ -284,7 +282,7 @@ module _ (means : List ℕ → Meaning) (signatures : List (Option Signature)) (
       settled_act : (loops : Bool) (k : Known) (span : Span) (n : StmtNode) (end : VarSorts) → Setting k.types (act_bindings n) end → Follows (node_after here k span n).types end → is_act_written n ≡ true → (a : TypedAct) → (node_statement here r loops k span n).got ≡ Some a → Settled (node_after here k span n).types (act_bindings n)
       settled_act loops k span (node.Assign target e) end g f w a h =
           let wt = and_left (are_targets (leaves target)) (law.is_written e) w in
-          settled_assign k g.describes g.scope span target e (and_left (list_all law.is_written (leaves target)) (items_first false (leaves target)) wt) (and_right (are_targets (leaves target)) (law.is_written e) w) a h
+          settled_assign k g.describes g.scope span target e wt (and_right (are_targets (leaves target)) (law.is_written e) w) a h
       settled_act loops k span (node.Annot target mark e) end g f w a h = settled_annotated k g.describes g.scope span target mark e (name_in target) refl g.marked a h
       settled_act loops k span (node.Aug target op e) end g f w a h = settled_update k g.describes g.scope target
       settled_act loops k span (node.If arms other) end g f w a h =
@@ -319,7 +317,7 @@ module _ (means : List ℕ → Meaning) (signatures : List (Option Signature)) (
           let fh = follows_target here (is_some s.got) (entering here k st) target (some_items (course here k e).got) in
           let next = setting_on k.types l.types end (target_bindings target) (suite_bindings body) g fh (follows_on l.types (block_after here l body).types end fl f) first in
           settled_both l.types (block_after here l body).types (target_bindings target) (suite_bindings body) fl first (settled_block true l body end next f written.2 q.0.1 b.1)
-      settled_act loops k span (node.Try body handlers last) end g f w a h = absurd (cc)
+      settled_act loops k span (node.Try _ _ _) end g f w a h = absurd (cc)
       settled_act loops k span n end g f w a h = nothing_bound k.types end (act_bindings n) g
 
       pub settled_block : (loops : Bool) (k : Known) (body : Suite) (end : VarSorts) → Setting k.types (suite_bindings body) end → Follows (block_after here k body).types end → is_suite_written body ≡ true → (ts : List TypedStmt) → (block here r loops k body).got ≡ Some ts → Settled (block_after here k body).types (suite_bindings body)
@@ -330,7 +328,7 @@ module _ (means : List ℕ → Meaning) (signatures : List (Option Signature)) (
           let fe = follows_on l.types (block_after here l more).types end fl f in
           let front = setting_front k.types end (stmt_bindings s) (suite_bindings more) g in
           let q = stmt_and_rest loops k s more ts (is_definition s) refl (λ d. settled_definition k end (stmt_bindings s) front s d)
-            (λ t e. settled_stmt loops k s end front fe (and_left (is_stmt_written s) (is_suite_written more) w) t e) h in
+          (λ t e. settled_stmt loops k s end front fe (and_left (is_stmt_written s) (is_suite_written more) w) t e) h in
           let next = setting_on k.types l.types end (stmt_bindings s) (suite_bindings more) g (follows_stmt here k s) fe q.0 in
           settled_both l.types (block_after here l more).types (stmt_bindings s) (suite_bindings more) fl q.0 (settled_block loops l more end next f (and_right (is_stmt_written s) (is_suite_written more) w) q.1 q.2)
 

@@ -1,5 +1,5 @@
 -- How typed statements end, and what they bind, is how they end as they are written, and some of what they bind there.
-use Rattle.std.proofs.Common.{◌≡◌, ℕ, Bool, true, false, not, ◌&&◌, ◌||◌, List, [], ◌∷◌, ◌++◌, map, Option, Some, None, refl, ap, ap₂, sym, ◌∙◌, subst, if◌then◌else◌}
+use Rattle.std.proofs.Common.{◌≡◌, ℕ, Bool, true, false, not, ◌&&◌, ◌||◌, List, [], ◌∷◌, ◌++◌, Option, Some, None, refl, ap, ap₂, sym, ◌∙◌, subst, if◌then◌else◌}
 use Rattle.std.proofs.lemmas.Option.{same_Some}
 use Rattle.std.proofs.lemmas.Grind.{flat_map-append}
 use Rattle.std.proofs.lemmas.List.{append-nil}
@@ -32,18 +32,17 @@ use Rattle.py_rules.specs.Values.{truth}
 use Rattle.py_rules.specs.Several.{with_part}
 use Rattle.py_binding.specs.Returns.{ReturnSort, bare_return, value_return}
 use Rattle.py_targets.specs.Places.{Known, is_bound, locals_among, where_test, entering, Way, setting_out, behind_arm}
-use Rattle.py_targets.specs.Targets.{Aim, held, first, barred, unwritten, misplaced, target_of, targets_of, is_placed, is_row, is_item, is_flat, leaves, node_leaves, row_leaves, name_aim, seen_aim, value_aim, read_aim, assigned, declared, given, updated, annotation_fault, typed_at}
+use Rattle.py_targets.specs.Targets.{Aim, held, first, barred, unwritten, misplaced, target_of, targets_of, is_placed, is_row, is_item, is_flat, leaves, node_leaves, row_leaves, name_aim, seen_aim, read_aim, assigned, declared, given, updated, annotation_fault, typed_at}
 use Rattle.py_targets.specs.Assignments.{target_aims, value_for, assigns, declares, annotated_value, gives_value, annotates_other, annotates, updates_one, updates_row, updates}
 use Rattle.py_loops.specs.Loops.{Course, numbers, value, course, head, loop_over, loop_of}
 use Rattle.py_loops.specs.Heads.{for_head, in_for}
 use Rattle.py_bodies.specs.Bodies.{is_definition, condition, after, block_after, arms_after, return_wanted, returns, in_loop, statement, node_statement, block, branches}
 use Rattle.typing_laws.specs.WellTyped.{Within}
 use Rattle.typing_laws.proofs.Inside.{within_none, within_append, in_left}
-use Rattle.typing_laws.proofs.Types.{clash}
-use Rattle.module_laws.proofs.Given.{ok_same, made_given, both_given, rule_given, row_given, unless_ok}
+use Rattle.module_laws.proofs.Given.{made_given, both_given, rule_given, row_given, unless_ok}
 use Rattle.module_laws.proofs.Assigned.{leaves_one, assigned_is, given_is, updated_is, head_is}
-use Rattle.module_laws.proofs.Names.{within_itself, within_on}
-use Rattle.module_laws.proofs.Aims.{AimAt, AimsOf, aims_are, Held, held_local, held_global, held_item, aim_held, First, first_local, first_global, aim_first}
+use Rattle.module_laws.proofs.Names.{within_itself}
+use Rattle.module_laws.proofs.Aims.{AimAt, beyond, AimsOf, aims_are, Held, held_local, held_global, held_item, aim_held, First, first_local, first_global, aim_first}
 use Rattle.module_laws.proofs.Literals.{heads, truth_literal}
 
 -- ---- the names of targets
@@ -150,7 +149,7 @@ module _ (C : Context) where
   aims_within k (e ∷ es) (a ∷ l) h =
       subst (λ z. Within z (locals_among C (flat_map leaf_bindings (e ∷ es)))) (sym (flat_map-append bound_by (target_of a) (targets_of l)))
       (subst (Within (bound_by_all (target_of a) ++ bound_by_all (targets_of l))) (sym (locals_two (leaf_bindings e) (flat_map leaf_bindings es)))
-      (within_append (bound_by_all (target_of a)) (bound_by_all (targets_of l)) (locals_among C (leaf_bindings e)) (locals_among C (flat_map leaf_bindings es)) (aim_within k e a h.here) (aims_within k es l h.rest)))
+      (within_append (bound_by_all (target_of a)) (bound_by_all (targets_of l)) (locals_among C (leaf_bindings e)) (locals_among C (flat_map leaf_bindings es)) (aim_within k e a h.here) (aims_within (beyond C k e) es l h.rest)))
 
   pub targets_within : (k : Known) (target : ExprTree) (l : List Aim) → (target_aims C k target).got ≡ Some l → Within (bound_by_all (targets_of l)) (locals_among C (target_bindings target))
   targets_within k target l g = subst (λ bs. Within (bound_by_all (targets_of l)) (locals_among C bs)) (sym (target_leaves target)) (aims_within k (leaves target) l (aims_are C k (leaves target) l g))
@@ -287,7 +286,7 @@ module _ (C : Context) where
         let q = made_given (λ v. act.Return (Some v)) (behind (typed_at C k (return_wanted r) e) (λ p. with_part p (value_return C.classes span r))) a h in
         plain_shape (node.Return (Some e)) (act.Return (Some q.0)) a refl refl refl q.2
 
-    break_shape : (loops : Bool) (span : Span) (word : List ℕ) (n : StmtNode) (b a : TypedAct) → typed.closes_in b ≡ flow.closes_in n → typed.breaks_in b ≡ flow.breaks_in n → typed.bound_in b ≡ [] → (in_loop C r loops span word b).got ≡ Some a → ActShape n a
+    break_shape : (loops : Bool) (span : Span) (word : List ℕ) (n : StmtNode) (b a : TypedAct) → typed.closes_in b ≡ flow.closes_in n → typed.breaks_in b ≡ flow.breaks_in n → typed.bound_in b ≡ [] → (in_loop loops span word b).got ≡ Some a → ActShape n a
     break_shape true span word n b a c d e h = plain_shape n b a c d e (same_Some b a h)
     break_shape false span word n b a c d e h = absurd (cc)
 

@@ -1,10 +1,7 @@
 -- What the sights of statements bind and define is what their bindings and definitions list.
 use Rattle.std.proofs.Common.{◌≡◌, ◌∙◌, ℕ, Bool, true, false, cond, List, [], ◌∷◌, ◌++◌, map, Option, Some, None, refl, ap, ap₂, sym}
 use Rattle.std.proofs.lemmas.Grind.{flat_map-append}
-use Rattle.std.specs.Prelude.{is_some}
 use Rattle.std.specs.List.{flat_map}
-use Rattle.std.specs.Map.{lookup}
-use Rattle.std.specs.Str.{bytes_eq}
 use Rattle.py_syntax.specs.declared.token.Span.{Span}
 use Rattle.py_syntax.specs.Expressions as e
 use Rattle.py_syntax.specs.Expressions.{ExprTree, ExprNode, ExprTrees, Comparisons, Entries, Arguments}
@@ -17,10 +14,10 @@ use Rattle.py_binder.specs.declared.sight.Home.{Home}
 use Rattle.py_binder.specs.declared.sight.Home.TheVariants.{InModule, InFunction}
 use Rattle.py_binder.specs.declared.scope.Role.{Role}
 use Rattle.py_binder.specs.declared.scope.Role.TheVariants.{Function, Class, Import}
-use Rattle.py_binder.specs.Sights.{Use, Reads, Binds, Defines, Declares, Holds, Sight, sight, maybe_read, text_reads, reads, node_reads, exprs_reads, comparisons_reads, entries_reads, arguments_reads, maybe_reads, list_reads, target_sights, target_node_sights, targets_sights, bound_as, first_part, aliases_sights, params_reads, header_sights, is_name, attribute_sights, member_sights, members_sights, def_sights, class_sights, import_sights, from_sights, caught_sights, stmt_sights, stmt_node_sights, suite_sights, arms_sights, handlers_sights, maybe_suite_sights}
-use Rattle.py_binder.specs.Scope.{contains, all_there, bound_there, said_there}
+use Rattle.py_binder.specs.Sights.{Use, Reads, Binds, Defines, Holds, Sight, sight, maybe_read, text_reads, reads, node_reads, exprs_reads, comparisons_reads, entries_reads, arguments_reads, maybe_reads, list_reads, target_sights, target_node_sights, targets_sights, bound_as, first_part, aliases_sights, params_reads, header_sights, is_name, attribute_sights, member_sights, members_sights, def_sights, class_sights, import_sights, from_sights, caught_sights, stmt_sights, stmt_node_sights, suite_sights, arms_sights, handlers_sights, maybe_suite_sights}
+use Rattle.py_binder.specs.Scope.{all_there, bound_there, said_there}
 use Rattle.py_flow.specs.Bindings.{Binding, target_bindings, node_bindings, targets_bindings, name_in, marked, caught, stmt_bindings, act_bindings, suite_bindings, arms_bindings, handlers_bindings, last_bindings}
-use Rattle.py_names.specs.Outline.{may_import_all, imported_as, said_by, said_from, held_by, stmt_definitions, node_definitions, suite_definitions, arms_definitions, handlers_definitions, last_definitions}
+use Rattle.py_names.specs.Outline.{stmt_definitions, node_definitions, suite_definitions, arms_definitions, handlers_definitions, last_definitions}
 
 -- ---- expressions: nothing but reads
 

@@ -1,9 +1,7 @@
 -- Statements that are typed stand well typed, whatever more is known of names than typing knew.
-use Rattle.std.proofs.Common.{◌≡◌, ℕ, Bool, true, false, not, ◌&&◌, ◌||◌, List, [], ◌∷◌, ◌++◌, length, Option, Some, None, refl, ap, ap₂, sym, ◌∙◌, subst, if◌then◌else◌}
-use Rattle.std.proofs.lemmas.Bool.{and_from, or_left, or_right}
+use Rattle.std.proofs.Common.{◌≡◌, ℕ, Bool, true, false, not, ◌&&◌, ◌||◌, List, [], ◌∷◌, ◌++◌, length, Option, Some, None, refl, sym, subst, if◌then◌else◌}
+use Rattle.std.proofs.lemmas.Bool.{and_from}
 use Rattle.std.proofs.lemmas.Option.{same_Some}
-use Rattle.std.specs.List.{list_all}
-use Rattle.std.specs.Option.{option_map}
 use Rattle.std.specs.Prelude.{is_some}
 use Rattle.py_syntax.specs.declared.token.Span.{Span}
 use Rattle.py_syntax.specs.Expressions.{ExprTree}
@@ -11,17 +9,16 @@ use Rattle.py_syntax.specs.Statements as node
 use Rattle.py_syntax.specs.Statements.{StmtTree, StmtNode, Suite, no_stmts, stmt_then, Arms, no_arms, arm_then}
 use Rattle.py_typed.specs.Sorts.{Sort}
 use Rattle.py_typed.specs.Classes.{Signature}
-use Rattle.py_typed.specs.Expressions.{TypedExpr, type_of}
+use Rattle.py_typed.specs.Expressions.{TypedExpr}
 use Rattle.py_typed.specs.Statements as act
 use Rattle.py_typed.specs.Statements.{Variable, TypedModule, TypedTarget, TypedStmt, TypedAct, TypedSuite, on_line, suite_of, arms_of}
 use Rattle.py_typed.specs.Narrowing as telling
 use Rattle.py_typed.specs.Narrowing.{without, bound_by_all, or_shared, known_at_end}
-use Rattle.py_typed.specs.WellTypedExpr as expr
 use Rattle.py_typed.specs.WellTyped as stmt
 use Rattle.py_typed.proofs.FitLemmas.{and_left, and_right}
 use Rattle.py_scope.specs.declared.scope.Meaning.{Meaning}
-use Rattle.py_scope.specs.Context.{Context, VarSorts, test, dropped}
-use Rattle.py_flow.specs.Bindings.{name_in, target_bindings, stmt_bindings, suite_bindings}
+use Rattle.py_scope.specs.Context.{Context, test, dropped}
+use Rattle.py_flow.specs.Bindings.{name_in, target_bindings, suite_bindings}
 use Rattle.py_flow.specs.Closed as flow
 use Rattle.py_messages.specs.Seen.{Seen, both, made}
 use Rattle.py_messages.specs.Rows.{row_then}
@@ -30,9 +27,8 @@ use Rattle.py_rules.specs.Facts.{facts}
 use Rattle.py_rules.specs.Values.{truth}
 use Rattle.py_binding.specs.Returns.{ReturnSort}
 use Rattle.py_targets.specs.Places.{Known, locals_in, locals_among, where_test, entering, Way, setting_out, met, common, behind_arm}
-use Rattle.py_targets.specs.Targets.{is_row, leaves, typed_at}
-use Rattle.py_targets.specs.Assignments.{value_for, assigns, bind_target}
-use Rattle.py_loops.specs.Loops.{Course, course, loop_of}
+use Rattle.py_targets.specs.Targets.{leaves, typed_at}
+use Rattle.py_loops.specs.Loops.{course, loop_of}
 use Rattle.py_loops.specs.Heads.{some_items, for_head, in_for}
 use Rattle.py_bodies.specs.Bodies.{is_definition, condition, after, node_after, block_after, arms_after, in_loop, statement, node_statement, block, branches}
 use Rattle.typing_laws.specs.WellTyped as law
@@ -41,12 +37,12 @@ use Rattle.typing_laws.proofs.Inside.{within_none, within_append, within_shared}
 use Rattle.typing_laws.proofs.Loud.{none_before, none_behind}
 use Rattle.typing_laws.proofs.Sound.{sound_typing}
 use Rattle.typing_laws.proofs.Telling.{told_typing, truth_tells, within_same}
-use Rattle.module_laws.specs.WellTyped.{is_filled, has_test, maybe_written, are_targets, is_stmt_written, is_act_written, is_suite_written, are_arms_written, IsScope, IsResult}
+use Rattle.module_laws.specs.WellTyped.{is_filled, has_test, are_targets, is_stmt_written, is_act_written, is_suite_written, are_arms_written, IsScope, IsResult}
 use Rattle.module_laws.proofs.Given.{made_given, both_given, row_given}
-use Rattle.module_laws.proofs.Kept.{Follows, follows_on, follows_target, follows_stmt, follows_block, follows_arms}
+use Rattle.module_laws.proofs.Kept.{follows_target, follows_stmt, follows_block, follows_arms}
 use Rattle.module_laws.proofs.Whole.{definition_after}
 use Rattle.module_laws.proofs.Names.{within_without}
-use Rattle.module_laws.proofs.Shapes.{locals_two, targets_within, SuiteShape, shape_block}
+use Rattle.module_laws.proofs.Shapes.{locals_two, targets_within, shape_block}
 use Rattle.module_laws.proofs.Values.{scene, of_three, of_four}
 use Rattle.module_laws.proofs.Closed.{scope_on}
 use Rattle.module_laws.proofs.Courses.{course_stands}
@@ -160,7 +156,7 @@ module _ (means : List ℕ → Meaning) (signatures : List (Option Signature)) (
       subst (Fine loops handling others k.names) q.2 (record { typed = (sound_typing means signatures k.types m locals init D dropped k.names e we refl).each q.0 q.1 others w refl; names = w })
 
   jump : (r : ReturnSort) (loops handling : Bool) (k : Known) (span : Span) (word : List ℕ) (b a : TypedAct) → (stmt.act_typed m locals init result [] loops handling b ≡ true → (others : List ℕ) → stmt.act_typed m locals init result others loops handling b ≡ true) → (loops ≡ true → stmt.act_typed m locals init result [] loops handling b ≡ true)
-      → ((others : List ℕ) → telling.after_act one_takes others b ≡ others) → (in_loop here r loops span word b).got ≡ Some a → (others : List ℕ) → Within k.names others → Fine loops handling others k.names a
+      → ((others : List ℕ) → telling.after_act one_takes others b ≡ others) → (in_loop loops span word b).got ≡ Some a → (others : List ℕ) → Within k.names others → Fine loops handling others k.names a
   jump r true handling k span word b a all typed same h others w =
       subst (Fine true handling others k.names) (same_Some b a h) (record { typed = all (typed refl) others; names = subst (Within k.names) (sym (same others)) w })
   jump r false handling k span word b a all typed same h others w = absurd (cc)
@@ -240,12 +236,12 @@ module _ (means : List ℕ → Meaning) (signatures : List (Option Signature)) (
           let scw = scope_on here k.types way.at.types (follows_arms here (setting_out k) arms) sc in
           let shape = shape_block here r loops way.at other q.0.1 b.1 in
           let last : (known : List ℕ) → Within way.at.names known → SuiteGood loops handling known end.names (suite_of q.0.1) =
-            λ known wk. good_block loops way.at other scw E wr.2 (λ z. none_behind (arms_definitions arms) (suite_definitions other) (pl z)) q.0.1 b.1 known wk in
+          λ known wk. good_block loops way.at other scw E wr.2 (λ z. none_behind (arms_definitions arms) (suite_definitions other) (pl z)) q.0.1 b.1 known wk in
           let all = good_arms loops (setting_out k) arms sc (described_before here way.at.types end.types m locals (follows_block here way.at other) E) wr.1 (λ z. none_before (arms_definitions arms) (suite_definitions other) (pl z)) q.0.0 b.0 others w
-            (λ there. stmt.suite_typed m locals init result there loops handling (suite_of q.0.1)) (λ there ends. if telling.is_closed (suite_of q.0.1) then ends else or_shared ends (telling.after_suite one_takes there (suite_of q.0.1)))
-            (common (met way.ends (flow.is_closed other) end.names)) None tt (λ known wk. (last known wk).typed)
-            (λ known ends wk eo. all_ends (met way.ends (flow.is_closed other) end.names) (if telling.is_closed (suite_of q.0.1) then ends else or_shared ends (telling.after_suite one_takes known (suite_of q.0.1)))
-            (closed_end way.ends ends (flow.is_closed other) (telling.is_closed (suite_of q.0.1)) end.names (telling.after_suite one_takes known (suite_of q.0.1)) shape.closed eo (last known wk).names)) in
+          (λ there. stmt.suite_typed m locals init result there loops handling (suite_of q.0.1)) (λ there ends. if telling.is_closed (suite_of q.0.1) then ends else or_shared ends (telling.after_suite one_takes there (suite_of q.0.1)))
+          (common (met way.ends (flow.is_closed other) end.names)) None tt (λ known wk. (last known wk).typed)
+          (λ known ends wk eo. all_ends (met way.ends (flow.is_closed other) end.names) (if telling.is_closed (suite_of q.0.1) then ends else or_shared ends (telling.after_suite one_takes known (suite_of q.0.1)))
+          (closed_end way.ends ends (flow.is_closed other) (telling.is_closed (suite_of q.0.1)) end.names (telling.after_suite one_takes known (suite_of q.0.1)) shape.closed eo (last known wk).names)) in
           subst (Fine loops handling others (common (met way.ends (flow.is_closed other) end.names))) q.2
           (record { typed = and_from (stmt.has_arm m locals init result (arms_of q.0.0)) (stmt.arms_typed m locals init result others loops handling (arms_of q.0.0) (λ there. stmt.suite_typed m locals init result there loops handling (suite_of q.0.1))) (arms_there r loops (setting_out k) arms wr.0 q.0.0 b.0) all.0; names = all.1 })
       good_act loops k span (node.While e body) sc E ws pl a h others w =
@@ -285,8 +281,8 @@ module _ (means : List ℕ → Meaning) (signatures : List (Option Signature)) (
           let ts = suite_of q.0.1 in
           let gone = bound_by_all q.0.0.0 ++ telling.bound_suite ts in
           let bound : Within gone (locals_in here here_stmt) =
-            subst (Within gone) (sym (locals_two here (target_bindings target) (suite_bindings body)))
-            (within_append (bound_by_all q.0.0.0) (telling.bound_suite ts) (locals_among here (target_bindings target)) (locals_among here (suite_bindings body)) (subst (λ z. Within (bound_by_all z) (locals_among here (target_bindings target))) hp.targets (targets_within here k target hp.aims hp.seen)) shape.bound) in
+          subst (Within gone) (sym (locals_two here (target_bindings target) (suite_bindings body)))
+          (within_append (bound_by_all q.0.0.0) (telling.bound_suite ts) (locals_among here (target_bindings target)) (locals_among here (suite_bindings body)) (subst (λ z. Within (bound_by_all z) (locals_among here (target_bindings target))) hp.targets (targets_within here k target hp.aims hp.seen)) shape.bound) in
           let wl = within_without (locals_in here here_stmt) gone k.names others bound w in
           let hd = good_head means signatures m locals init result k D sc here_stmt span target e wr.0 q.0.0 b.0 hp El ts others wl in
           let g = good_block true l body (scope_on here k.types l.types fh sc) E wr.2 pl q.0.1 b.1 (stmt.in_loop_from m locals init result others q.0.0.0 hp.headed.item ts) hd.start in
@@ -338,12 +334,14 @@ module _ (means : List ℕ → Meaning) (signatures : List (Option Signature)) (
           let shape = shape_block here r loops inner body v.0.1 b.1 in
           let ts = suite_of v.0.1 in
           let rest = good_arms loops then_on more (scope_on here w.at.types end.types fb sc) E wr.3 (λ z. none_behind (suite_definitions body) (arms_definitions more) (pa z)) q.1 q.3 (telling.facts false v.0.0 ++ others) (st.tells false) other last final
-            (if telling.is_closed ts then ends else or_shared ends (telling.after_suite one_takes (telling.facts true v.0.0 ++ others) ts))
-            (closed_end w.ends ends (flow.is_closed body) (telling.is_closed ts) end.names (telling.after_suite one_takes (telling.facts true v.0.0 ++ others) ts) shape.closed eo g.names) typed next in
+          (if telling.is_closed ts then ends else or_shared ends (telling.after_suite one_takes (telling.facts true v.0.0 ++ others) ts))
+          (closed_end w.ends ends (flow.is_closed body) (telling.is_closed ts) end.names (telling.after_suite one_takes (telling.facts true v.0.0 ++ others) ts) shape.closed eo g.names) typed next in
           subst (λ z. (stmt.arms_typed m locals init result others loops handling (arms_of z) other ≡ true) × Within final (known_at_end (telling.after_arms one_takes others ends (arms_of z) last))) q.4
-          (subst (λ (z : TypedExpr × TypedSuite). (stmt.arms_typed m locals init result others loops handling (arms_of (z ∷ q.1)) other ≡ true) × Within final (known_at_end (telling.after_arms one_takes others ends (arms_of (z ∷ q.1)) last))) v.2
-          (four (stmt.is_test m locals init result others v.0.0) (stmt.is_body m locals init result ts) (stmt.suite_typed m locals init result (telling.facts true v.0.0 ++ others) loops handling ts) (stmt.arms_typed m locals init result (telling.facts false v.0.0 ++ others) loops handling (arms_of q.1) other)
-          st.stands (body_there r loops inner body wr.1 pb v.0.1 b.1) g.typed rest.0, rest.1))
+          (subst (λ (z : TypedExpr × TypedSuite). (stmt.arms_typed m locals init result others loops handling (arms_of (z ∷ q.1)) other ≡ true) × Within final (known_at_end (telling.after_arms one_takes others ends (arms_of (z ∷ q.1)) last))) v.2 (
+            four (stmt.is_test m locals init result others v.0.0) (stmt.is_body m locals init result ts) (stmt.suite_typed m locals init result (telling.facts true v.0.0 ++ others) loops handling ts) (stmt.arms_typed m locals init result (telling.facts false v.0.0 ++ others) loops handling (arms_of q.1) other)
+                st.stands (body_there r loops inner body wr.1 pb v.0.1 b.1) g.typed rest.0,
+            rest.1,
+          ))
 
 abbrev at_classes : Context → List Rattle.py_typed.specs.Classes.ClassEntry → Context
 at_classes C k = record { meaning = C.meaning; signatures = C.signatures; classes = k }

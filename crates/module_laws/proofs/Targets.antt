@@ -1,50 +1,51 @@
 -- Targets that are bound to a value stand well typed, one or several of them.
-use Rattle.std.proofs.Common.{◌≡◌, ℕ, zero, suc, Bool, true, false, not, ◌&&◌, ◌||◌, cond, List, [], ◌∷◌, ◌++◌, length, map, slice_get, slice_set, Option, Some, None, refl, ap, ap₂, sym, ◌∙◌, subst, if◌then◌else◌, ltb-true}
-use Rattle.std.proofs.lemmas.Bool.{and_from, or_left, or_right}
+use Rattle.std.proofs.Common.{◌≡◌, ℕ, zero, suc, Bool, true, false, not, ◌&&◌, cond, List, [], ◌∷◌, ◌++◌, length, map, slice_get, slice_set, Option, Some, None, refl, ap, sym, ◌∙◌, subst, if◌then◌else◌, ltb-true, ◌⊎◌, inl, inr}
+use Rattle.std.proofs.lemmas.Bool.{and_from}
 use Rattle.std.proofs.lemmas.Option.{same_Some}
 use Rattle.std.proofs.lemmas.Slice.Eq.{bytes_eq-Decides}
 use Rattle.std.specs.List.{list_all}
 use Rattle.std.specs.Map.{lookup}
 use Rattle.std.specs.Str.{bytes_eq}
 use Rattle.std.specs.Prelude.{is_some}
-use Rattle.py_syntax.specs.declared.token.Span.{Span}
 use Rattle.py_syntax.specs.Expressions.{ExprTree}
 use Rattle.py_typed.specs.Sorts as sort
 use Rattle.py_typed.specs.Sorts.{Sort, Sorts, no_sorts, sort_then, sorts_of, listed_sorts}
 use Rattle.py_typed.specs.Classes.{ClassEntry, Signature}
-use Rattle.py_typed.specs.Fits.{is_same_type, is_nothing, is_number, same, fits}
+use Rattle.py_typed.specs.Fits.{is_same_type, fits}
 use Rattle.py_typed.specs.Expressions as node
 use Rattle.py_typed.specs.Expressions.{TypedExpr, TypedNode, typed, type_of}
-use Rattle.py_typed.specs.Statements as act
-use Rattle.py_typed.specs.Statements.{Variable, TypedModule, TypedTarget, LocalTarget, GlobalTarget, ItemTarget, TypedAct}
+use Rattle.py_typed.specs.Statements.{Variable, TypedModule, TypedTarget}
 use Rattle.py_typed.specs.StatementMeaning.{sort_at}
-use Rattle.py_typed.specs.Narrowing as telling
-use Rattle.py_typed.specs.Narrowing.{is_in, without, may_be_none, own_sort, bound_by, bound_by_all, after_target, after_parts, part_sorts}
-use Rattle.py_typed.specs.WellTypedExpr.{stands, is_value_type, is_result_type, indexed, declared}
+use Rattle.py_typed.specs.Narrowing.{may_be_none, own_sort, after_target, after_parts}
+use Rattle.py_typed.specs.WellTypedExpr.{stands, is_value_type, indexed, declared}
 use Rattle.py_typed.specs.WellTyped as stmt
-use Rattle.py_typed.proofs.FitLemmas.{type_is_itself, fits_itself, and_left, and_right}
+use Rattle.py_typed.proofs.FitLemmas.{fits_itself, and_left, and_right}
 use Rattle.py_scope.specs.declared.scope.Meaning.{Meaning}
 use Rattle.py_scope.specs.declared.scope.Meaning.TheVariants as meaning
 use Rattle.py_scope.specs.Context.{Context, VarSort, unset, untyped, has, VarSorts, var_at}
 use Rattle.py_flow.specs.Bindings.{name_in}
 use Rattle.py_rules.specs.Values.{place_of, coerced}
 use Rattle.py_calls.specs.Callees.{is_variable}
-use Rattle.py_binding.specs.Slots.{SlotSort, known, fresh, refused, itemless}
-use Rattle.py_binding.specs.Assignments.{binding_fault, as_bound, first_refused, first_itemless, misfit, first_misfit}
-use Rattle.py_targets.specs.Places.{Known, is_unset, fix, first_type, is_plain, bind_variable, bind_name, bind_names}
-use Rattle.py_targets.specs.Targets.{Aim, held, first, barred, unwritten, misplaced, slot_of, target_of, targets_of, is_written, again_fault, twice_fault}
+use Rattle.py_binding.specs.Slots.{known}
+use Rattle.py_binding.specs.Assignments.{first_refused, first_itemless, misfit, first_misfit}
+use Rattle.py_targets.specs.Places.{Known, is_unset, fix, first_type, bind_variable, bind_name, bind_names}
+use Rattle.py_targets.specs.Targets.{Aim, held, first, barred, unwritten, misplaced, slot_of, targets_of, is_written, again_fault, twice_fault}
 use Rattle.typing_laws.specs.WellTyped as law
 use Rattle.typing_laws.specs.WellTyped.{Describes, Within}
 use Rattle.typing_laws.proofs.Types.{clash}
-use Rattle.typing_laws.proofs.Stands.{parts_of_stands, coerced_stands}
-use Rattle.module_laws.specs.WellTyped.{items_first, IsScope}
-use Rattle.module_laws.proofs.Kept.{set_cases, fix_set, fix_open, fix_first, Follows, follows_itself, follows_on, follows_variable, follows_name, follows_names, is_open, bind_set}
+use Rattle.typing_laws.proofs.Stands.{parts_of_stands}
+use Rattle.module_laws.specs.WellTyped.{IsScope}
+use Rattle.module_laws.proofs.Kept.{fix_set, fix_open, fix_first, Follows, follows_on, follows_name, follows_names, is_open, bind_set}
 use Rattle.module_laws.proofs.Assigned.{first_none}
-use Rattle.module_laws.proofs.Names.{within_kept, bound_other}
-use Rattle.module_laws.proofs.Aims.{AimAt, AimsOf, Held, held_local, held_global, held_item, aim_held, First, first_local, first_global, aim_first, first_name, Aimed, aimed_local, aimed_global, aimed_item, held_aimed, first_aimed, aimed_bound}
-use Rattle.module_laws.proofs.Values.{scene, declared_there, misfit_none, item_at_place, held_value}
+use Rattle.module_laws.proofs.Names.{within_kept}
+use Rattle.module_laws.proofs.Aims.{beyond, AimsOf, Held, held_local, held_global, held_item, aim_held, First, first_local, first_global, aim_first, first_name, Aimed, held_aimed, first_aimed, aimed_bound, aimed_behind}
+use Rattle.module_laws.proofs.Values.{scene, declared_there, misfit_none, item_at_place}
 use Rattle.module_laws.proofs.Closed.{is_there, scope_there, scope_on, open_follows}
-use Rattle.module_laws.proofs.Settled.{aim_set}
+
+-- ---- names
+
+abbrev pub is_named : ExprTree → Bool
+is_named e = is_some (name_in e)
 
 -- ---- declared variables
 
@@ -298,29 +299,17 @@ module _ (means : List ℕ → Meaning) (signatures : List (Option Signature)) (
   seen_type None t = (t, refl)
   seen_type (Some r) t = (r, refl)
 
-  not_named : (b c : Bool) → (not b || c) ≡ true → c ≡ false → b ≡ false
-  not_named true c h q = let r : true ≡ false = sym h ∙ q in absurd (cc)
-  not_named false c h q = refl
+  -- what an item of a row is looked at with is known, or the row has no items
+  abbrev pub Near : List ℕ → List ℕ → List ExprTree → Type 0
+  Near names others es = Within names others ⊎ (list_all is_named es ≡ true)
 
-  named_before : (b c : Bool) → (b || c) ≡ false → (b ≡ false) × (c ≡ false)
-  named_before true c h = absurd (cc)
-  named_before false c h = (refl, h)
+  near_item : (names others : List ℕ) (e : ExprTree) (es : List ExprTree) → Near names others (e ∷ es) → name_in e ≡ None → Within names others
+  near_item names others e es (inl w) n = w
+  near_item names others e es (inr h) n = clash (is_named e) (and_left (is_named e) (list_all is_named es) h) (ap is_some n)
 
-  no_name : (e : ExprTree) → is_some (name_in e) ≡ false → name_in e ≡ None
-  no_name e h = by (name_in e) refl h
-    where
-      by : (o : Option (List ℕ)) → name_in e ≡ o → is_some o ≡ false → name_in e ≡ None
-      by None q f = q
-      by (Some x) q f = absurd (cc)
-
-  -- where names in front of it are bound, an item stands only in front of them
-  item_place : (e : ExprTree) (named : Bool) → (not named || is_some (name_in e)) ≡ true → name_in e ≡ None → named ≡ false
-  item_place e named h n = not_named named (is_some (name_in e)) h (ap is_some n)
-
-  item_within : (e : ExprTree) (target : TypedTarget) → Aimed here e target → (s : Sort) (names others : List ℕ) → name_in e ≡ None → Within names others → Within names (after_target others target s)
-  item_within e target (aimed_local x i h q is) s names others n w = let bad : Some x ≡ None = sym h ∙ n in absurd (cc)
-  item_within e target (aimed_global x i h q is) s names others n w = let bad : Some x ≡ None = sym h ∙ n in absurd (cc)
-  item_within e target (aimed_item b i h is) s names others n w = subst (λ z. Within names (after_target others z s)) is (bound_other (ItemTarget b i) s names others refl w)
+  near_rest : (k : Known) (e : ExprTree) (es : List ExprTree) (target : TypedTarget) (s : Sort) (others : List ℕ) → Aimed here e target → Near k.names others (e ∷ es) → Near (beyond here k e).names (after_target others target s) es
+  near_rest k e es target s others a (inl w) = inl (aimed_behind here e target a k s others w)
+  near_rest k e es target s others a (inr h) = inr (and_right (is_named e) (list_all is_named es) h)
 
   -- a target that has a type keeps it
   held_kept : (k0 k : Known) (e : ExprTree) (target : TypedTarget) (t : Sort) (o : Option Sort) → Held here k0 e target t → Follows k0.types k.types → (bind_name here true k (name_in e) o).types ≡ k.types
@@ -342,28 +331,27 @@ module _ (means : List ℕ → Meaning) (signatures : List (Option Signature)) (
   one_less a b h = cc
 
   -- SEVERAL TARGETS that were looked at in one place, and are bound one behind the other to parts that fit them
-  pub rows : (k0 : Known) → Describes here k0.types m locals → (es : List ExprTree) (l : List Aim) (ts : List Sort) (seen : Seen) (named : Bool) (k : Known) (others : List ℕ) → Follows k0.types k.types → IsScope here k.types → Given here k0.types k.types seen → Within k.names others → (named ≡ false → Within k0.names others) → AimsOf here k0 es l
-      → list_all law.is_written es ≡ true → items_first named es ≡ true → first_refused (map slot_of l) ≡ None → first_itemless (map slot_of l) ≡ None → first_misfit m.classes.classes ts (map slot_of l) ≡ None → twice_fault m.classes.classes seen l ts ≡ None → length ts ≡ length l
+  pub rows : (k0 : Known) → Describes here k0.types m locals → (es : List ExprTree) (l : List Aim) (ts : List Sort) (seen : Seen) (k : Known) (others : List ℕ) → Follows k0.types k.types → IsScope here k.types → Given here k0.types k.types seen → Within k.names others → Near k0.names others es → AimsOf here k0 es l
+      → list_all law.is_written es ≡ true → first_refused (map slot_of l) ≡ None → first_itemless (map slot_of l) ≡ None → first_misfit m.classes.classes ts (map slot_of l) ≡ None → twice_fault m.classes.classes seen l ts ≡ None → length ts ≡ length l
       → Describes here (bind_names here true k (map name_in es) ts).types m locals → RowStands others l ts (bind_names here true k (map name_in es) ts).names
-  rows k0 D [] [] [] seen named k others f s g w near a wr it ref less mis twice n E = record { typed = refl; fit = refl; types = refl; names = within_kept k.names others w }
-  rows k0 D [] [] (t ∷ ts) seen named k others f s g w near a wr it ref less mis twice n E = absurd (cc)
-  rows k0 D [] (x ∷ l) ts seen named k others f s g w near a wr it ref less mis twice n E = absurd a
-  rows k0 D (e ∷ es) [] ts seen named k others f s g w near a wr it ref less mis twice n E = absurd a
-  rows k0 D (e ∷ es) (x ∷ l) [] seen named k others f s g w near a wr it ref less mis twice n E = absurd (cc)
-  rows k0 D (e ∷ es) (held target r ∷ l) (t ∷ ts) seen named k others f s g w near a wr it ref less mis twice n E =
+  rows k0 D [] [] [] seen k others f s g w near a wr ref less mis twice n E = record { typed = refl; fit = refl; types = refl; names = within_kept k.names others w }
+  rows k0 D [] [] (t ∷ ts) seen k others f s g w near a wr ref less mis twice n E = absurd (cc)
+  rows k0 D [] (x ∷ l) ts seen k others f s g w near a wr ref less mis twice n E = absurd a
+  rows k0 D (e ∷ es) [] ts seen k others f s g w near a wr ref less mis twice n E = absurd a
+  rows k0 D (e ∷ es) (x ∷ l) [] seen k others f s g w near a wr ref less mis twice n E = absurd (cc)
+  rows k0 D (e ∷ es) (held target r ∷ l) (t ∷ ts) seen k others f s g w near a wr ref less mis twice n E =
       let k1 = bind_name here true k (name_in e) (Some t) in
       let h = aim_held here k0 e target r a.here in
       let p = first_none (misfit m.classes.classes (known r) t) (first_misfit m.classes.classes ts (map slot_of l)) mis in
-      let front = and_left (not named || is_some (name_in e)) (items_first (named || is_some (name_in e)) es) it in
-      let st = held_stands k0 D e (λ q. and_left (law.is_written e) (list_all law.is_written es) wr) target r h others (λ q. near (item_place e named front q)) in
+      let st = held_stands k0 D e (λ q. and_left (law.is_written e) (list_all law.is_written es) wr) target r h others (near_item k0.names others e es near) in
       let w1 = aimed_bound here e target (held_aimed here k0 e target r h) true k (Some t) t others w (λ q. not_true (may_be_none t) q) in
-      let rest = rows k0 D es l ts seen (named || is_some (name_in e)) k1 (after_target others target t) (follows_on k0.types k.types k1.types f (follows_name here true k (name_in e) (Some t))) (scope_on here k.types k1.types (follows_name here true k (name_in e) (Some t)) s)
-        (given_same here k0.types k.types k1.types seen (held_kept k0 k e target r (Some t) h f) g) w1
-        (λ q. let b = named_before named (is_some (name_in e)) q in item_within e target (held_aimed here k0 e target r h) t k0.names others (no_name e b.1) (near b.0))
-        a.rest (and_right (law.is_written e) (list_all law.is_written es) wr) (and_right (not named || is_some (name_in e)) (items_first (named || is_some (name_in e)) es) it) ref less p.1 twice (one_less (length ts) (length l) n) E in
+      let rest = rows (beyond here k0 e) D es l ts seen k1 (after_target others target t) (follows_on k0.types k.types k1.types f (follows_name here true k (name_in e) (Some t))) (scope_on here k.types k1.types (follows_name here true k (name_in e) (Some t)) s)
+      (given_same here k0.types k.types k1.types seen (held_kept k0 k e target r (Some t) h f) g) w1
+      (near_rest k0 e es target t others (held_aimed here k0 e target r h) near)
+      a.rest (and_right (law.is_written e) (list_all law.is_written es) wr) ref less p.1 twice (one_less (length ts) (length l) n) E in
       let q = in_front others target (targets_of l) r t ts st (misfit_none m.classes.classes t r p.0) rest.typed rest.fit in
       record { typed = q.0; fit = q.1; types = type_in_front others target (targets_of l) r st rest.types; names = rest.names }
-  rows k0 D (e ∷ es) (first target y ∷ l) (t ∷ ts) seen named k others f s g w near a wr it ref less mis twice n E =
+  rows k0 D (e ∷ es) (first target y ∷ l) (t ∷ ts) seen k others f s g w near a wr ref less mis twice n E =
       let k1 = bind_name here true k (name_in e) (Some t) in
       let end = bind_names here true k1 (map name_in es) ts in
       let x = first_name here k0 e target y a.here in
@@ -373,14 +361,14 @@ module _ (means : List ℕ → Meaning) (signatures : List (Option Signature)) (
       let g1 = given_same here k0.types (bind_variable true k (means y) (Some t)).types k1.types (seen ++ (y, t) ∷ []) (ap (λ (z : Known). z.types) (same_bound k e y t x)) (given_on here k0.types k seen y t s o g) in
       let r = seen_type (lookup (bytes_eq y) seen) t in
       let has_type : sort_in k1.types (means y) ≡ has r.0 =
-        g1 y o ∙ ap seen_sort (found_last y seen y t) ∙ ap (λ (b : Bool). seen_sort (or_last (lookup (bytes_eq y) seen) (cond b (Some t) None))) (text_is_itself y) ∙ r.1 in
+      g1 y o ∙ ap seen_sort (found_last y seen y t) ∙ ap (λ (b : Bool). seen_sort (or_last (lookup (bytes_eq y) seen) (cond b (Some t) None))) (text_is_itself y) ∙ r.1 in
       let st = variable_stands end.types E e target k0 h r.0 (λ z q. ap (λ v. sort_in end.types (means v)) (same_Some z y (sym q ∙ x)) ∙ sort_follows k1.types end.types (means y) r.0 (follows_names here true k1 (map name_in es) ts) has_type) others in
       let w1 = aimed_bound here e target (first_aimed here k0 e target h) true k (Some t) t others w (λ q. not_true (may_be_none t) q) in
-      let rest = rows k0 D es l ts (seen ++ (y, t) ∷ []) (named || is_some (name_in e)) k1 (after_target others target t) (follows_on k0.types k.types k1.types f (follows_name here true k (name_in e) (Some t))) (scope_on here k.types k1.types (follows_name here true k (name_in e) (Some t)) s)
-        g1 w1 (λ q. clash (is_some (name_in e)) (ap is_some x) (named_before named (is_some (name_in e)) q).1)
-        a.rest (and_right (law.is_written e) (list_all law.is_written es) wr) (and_right (not named || is_some (name_in e)) (items_first (named || is_some (name_in e)) es) it) ref less mis p.1 (one_less (length ts) (length l) n) E in
+      let rest = rows (beyond here k0 e) D es l ts (seen ++ (y, t) ∷ []) k1 (after_target others target t) (follows_on k0.types k.types k1.types f (follows_name here true k (name_in e) (Some t))) (scope_on here k.types k1.types (follows_name here true k (name_in e) (Some t)) s)
+      g1 w1 (near_rest k0 e es target t others (first_aimed here k0 e target h) near)
+      a.rest (and_right (law.is_written e) (list_all law.is_written es) wr) ref less mis p.1 (one_less (length ts) (length l) n) E in
       let q = in_front others target (targets_of l) r.0 t ts st (again_fits t (lookup (bytes_eq y) seen) p.0 r.0 r.1) rest.typed rest.fit in
       record { typed = q.0; fit = q.1; types = type_in_front others target (targets_of l) r.0 st rest.types; names = rest.names }
-  rows k0 D (e ∷ es) (barred x ∷ l) (t ∷ ts) seen named k others f s g w near a wr it ref less mis twice n E = absurd (cc)
-  rows k0 D (e ∷ es) (unwritten x ∷ l) (t ∷ ts) seen named k others f s g w near a wr it ref less mis twice n E = absurd (cc)
-  rows k0 D (e ∷ es) (misplaced x ∷ l) (t ∷ ts) seen named k others f s g w near a wr it ref less mis twice n E = absurd (cc)
+  rows k0 D (e ∷ es) (barred x ∷ l) (t ∷ ts) seen k others f s g w near a wr ref less mis twice n E = absurd (cc)
+  rows k0 D (e ∷ es) (unwritten x ∷ l) (t ∷ ts) seen k others f s g w near a wr ref less mis twice n E = absurd (cc)
+  rows k0 D (e ∷ es) (misplaced x ∷ l) (t ∷ ts) seen k others f s g w near a wr ref less mis twice n E = absurd (cc)

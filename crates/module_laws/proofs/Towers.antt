@@ -1,8 +1,8 @@
 -- A tuple of one part does not fit what its part fits: what fits has tuples inside one another as often.
-use Rattle.std.proofs.Common.{◌≡◌, ℕ, suc, ◌+◌, Bool, true, false, ◌&&◌, nat_lt, List, length, refl, ap, ap₂, sym, ◌∙◌, add-zero, arith}
-use Rattle.py_typed.specs.Sorts.{Sort, Int, I64, Bool as BoolSort, Str, Nothing, ListOf, DictOf, TupleOf, Optional, Instance, Exc, Sorts, no_sorts, sort_then, listed_sorts}
+use Rattle.std.proofs.Common.{◌≡◌, ℕ, suc, ◌+◌, true, ◌&&◌, nat_lt, List, length, refl, ap, ap₂, arith}
+use Rattle.py_typed.specs.Sorts.{Sort, Nothing, TupleOf, Optional, Instance, Exc, Sorts, no_sorts, sort_then, listed_sorts}
 use Rattle.py_typed.specs.Classes.{ClassEntry}
-use Rattle.py_typed.specs.Fits.{is_same_type, same, all_same, fits}
+use Rattle.py_typed.specs.Fits.{same, all_same, fits}
 use Rattle.py_typed.specs.WellTypedExpr.{is_value_type, are_value_types}
 use Rattle.py_typed.proofs.FitLemmas.{one_type, and_left, and_right}
 use Rattle.module_laws.proofs.Values.{third}

@@ -1,6 +1,6 @@
 -- Annotated assignments, operations with assignment and returns that are typed stand well typed.
-use Rattle.std.proofs.Common.{◌≡◌, ℕ, Bool, true, false, not, ◌&&◌, ◌||◌, List, [], ◌∷◌, ◌++◌, length, Option, Some, None, Result, Ok, Err, refl, ap, ap₂, sym, ◌∙◌, subst, if◌then◌else◌}
-use Rattle.std.proofs.lemmas.Bool.{and_from, or_left, or_right}
+use Rattle.std.proofs.Common.{◌≡◌, ℕ, Bool, true, false, ◌&&◌, List, [], ◌∷◌, length, Option, Some, None, Ok, Err, refl, ap, sym, ◌∙◌, subst, if◌then◌else◌}
+use Rattle.std.proofs.lemmas.Bool.{and_from, or_left}
 use Rattle.std.proofs.lemmas.Option.{same_Some}
 use Rattle.std.specs.Option.{option_map}
 use Rattle.std.specs.Prelude.{is_some}
@@ -9,7 +9,6 @@ use Rattle.py_syntax.specs.declared.expression.BinOp.{BinOp}
 use Rattle.py_syntax.specs.declared.expression.BinOp.TheVariants as op
 use Rattle.py_syntax.specs.Expressions as tree
 use Rattle.py_syntax.specs.Expressions.{ExprTree, at}
-use Rattle.py_syntax.specs.Statements as node
 use Rattle.py_typed.specs.Sorts as sort
 use Rattle.py_typed.specs.Sorts.{Sort}
 use Rattle.py_typed.specs.Classes.{ClassEntry, Signature}
@@ -18,15 +17,13 @@ use Rattle.py_typed.specs.Expressions as expr
 use Rattle.py_typed.specs.Expressions.{TypedExpr, TypedNode, typed, type_of}
 use Rattle.py_typed.specs.Statements as act
 use Rattle.py_typed.specs.Statements.{Variable, TypedModule, TypedTarget, LocalTarget, GlobalTarget, ItemTarget, TypedAct}
-use Rattle.py_typed.specs.StatementMeaning.{sort_at}
-use Rattle.py_typed.specs.Narrowing as telling
-use Rattle.py_typed.specs.Narrowing.{is_in, without, may_be_none, after_target}
-use Rattle.py_typed.specs.WellTypedExpr.{stands, is_value_type, is_result_type, is_type, are_texts, are_numbers, operation_sort, reads_as, is_none_literal}
+use Rattle.py_typed.specs.Narrowing.{is_in, may_be_none}
+use Rattle.py_typed.specs.WellTypedExpr.{stands, is_result_type, is_type, are_texts, are_numbers, operation_sort, reads_as, is_none_literal}
 use Rattle.py_typed.specs.WellTyped as stmt
 use Rattle.py_typed.proofs.FitLemmas.{type_is_itself, one_type, fits_itself, nothing_is, and_left, and_right}
 use Rattle.py_scope.specs.declared.scope.Meaning.{Meaning}
 use Rattle.py_scope.specs.declared.scope.Meaning.TheVariants as meaning
-use Rattle.py_scope.specs.Context.{Context, VarSort, unset, untyped, has, VarSorts, var_at, free, wants}
+use Rattle.py_scope.specs.Context.{Context, VarSort, unset, untyped, has, var_at, free, wants}
 use Rattle.py_flow.specs.Bindings.{name_in}
 use Rattle.py_messages.specs.Seen.{Seen, both, judged, behind, rule, made}
 use Rattle.py_messages.specs.Messages.{no_target}
@@ -38,29 +35,29 @@ use Rattle.py_rules.specs.Operators.{is_sum, is_concat, is_numeric, op_text, ari
 use Rattle.py_binding.specs.Returns as ret
 use Rattle.py_binding.specs.Returns.{ReturnSort, gives, bare_return, value_return, due}
 use Rattle.py_binding.specs.Assignments.{binding_fault, as_bound}
-use Rattle.py_targets.specs.Places.{Known, is_plain, rebound, is_bound, variable_at, bind_variable, bind_name}
-use Rattle.py_targets.specs.Targets.{Aim, held, first, barred, unwritten, misplaced, slot_of, target_of, is_placed, is_row, is_item, variable_aim, name_aim, seen_aim, asked_by, declared, given, annotation_fault, read_aim, updated, typed_at}
-use Rattle.py_targets.specs.Assignments.{asked, target_aims, bind_target, annotated_value, declares, gives_value, annotates_name, annotates, value_sort, binds_annotated, updates_row, updates_one, updates}
+use Rattle.py_targets.specs.Places.{Known, is_bound, variable_at, bind_variable, bind_name}
+use Rattle.py_targets.specs.Targets.{Aim, held, first, barred, unwritten, misplaced, slot_of, target_of, is_row, is_item, variable_aim, name_aim, seen_aim, asked_by, declared, given, annotation_fault, read_aim, updated, typed_at}
+use Rattle.py_targets.specs.Assignments.{asked, target_aims, bind_target, annotated_value, declares, gives_value, annotates_name, annotates, binds_annotated, updates_row, updates_one, updates}
 use Rattle.py_bodies.specs.Bodies.{return_wanted, returns}
 use Rattle.typing_laws.specs.WellTyped as law
 use Rattle.typing_laws.specs.WellTyped.{Describes, Within}
-use Rattle.typing_laws.proofs.Types.{clash, result_of_value}
+use Rattle.typing_laws.proofs.Types.{clash}
 use Rattle.typing_laws.proofs.Stands.{coerced_stands}
-use Rattle.typing_laws.proofs.Nodes.{operation_is, concat_texts}
-use Rattle.typing_laws.proofs.Rows.{is_held, parts_taken, sought_of_asked, type_coerced}
+use Rattle.typing_laws.proofs.Nodes.{operation_is}
+use Rattle.typing_laws.proofs.Rows.{parts_taken, sought_of_asked}
 use Rattle.typing_laws.proofs.Sound.{sound_typing}
 use Rattle.module_laws.specs.WellTyped.{maybe_written, IsScope, IsResult}
 use Rattle.module_laws.proofs.Given.{done, ok_same, some_is, judged_given, both_given, rule_given, made_given, part_given, unless_ok}
-use Rattle.module_laws.proofs.Kept.{Follows, follows_name, follows_target, is_open}
+use Rattle.module_laws.proofs.Kept.{follows_target, is_open}
 use Rattle.module_laws.proofs.Assigned.{name_no_row, single_bound, given_is, updated_is}
 use Rattle.module_laws.proofs.Whole.{read_set, bound_same}
-use Rattle.module_laws.proofs.Names.{within_itself, within_less}
+use Rattle.module_laws.proofs.Names.{within_less}
 use Rattle.module_laws.proofs.Aims.{AimAt, Held, held_local, held_global, held_item, aim_held, aim_first, first_name, held_aimed, aimed_bound}
 use Rattle.module_laws.proofs.Literals.{heads}
 use Rattle.module_laws.proofs.Shapes.{no_part_given, read_aim_at}
 use Rattle.module_laws.proofs.Values.{scene, fault_fits, value_stands, stands_free}
 use Rattle.module_laws.proofs.Targets.{TargetStands, held_stands, first_open}
-use Rattle.module_laws.proofs.Bound.{described_before, Good, good_one, single}
+use Rattle.module_laws.proofs.Bound.{described_before, Good, good_one}
 
 -- ---- a name that is annotated
 
@@ -193,7 +190,7 @@ module _ (means : List ℕ → Meaning) (signatures : List (Option Signature)) (
       let at_name : AimAt here k (name_in target) target aim = subst (λ o. AimAt here k o target aim) (sym n) c.0 in
       let wt = name_written target x n in
       let sv = value_stands means signatures m locals init k D (target ∷ []) (and_from (law.is_written target) true wt refl) false (aim ∷ []) (record { here = at_name; rest = tt }) e we v (aim, refl, g.right)
-        (ap (λ z. (typed_at here k z e).got) (sym (asked_same k x (means x) aim c.0)) ∙ b.1) others w in
+      (ap (λ z. (typed_at here k z e).got) (sym (asked_same k x (means x) aim c.0)) ∙ b.1) others w in
       subst (Fine loops handling others (bind_target here (is_some s.got) k target (option_map type_of (annotated_value here k x e).got)).names) g.is
       (subst (λ (z : Known). Fine loops handling others z.names (act.Assign (target_of aim) (as_bound (slot_of aim) v))) (sym p)
       (good_one means signatures m locals init result loops handling k target wt sc aim at_name v g.right (subst (λ (z : Known). Describes here z.types m locals) p E) others w sv))
@@ -240,9 +237,9 @@ module _ (means : List ℕ → Meaning) (signatures : List (Option Signature)) (
       let st = held_stands means signatures m locals init result k D target (λ q. wt) t s h others (λ q. w) in
       subst (λ z. Fine loops handling others (bind_name here false k (name_in target) None).names (act.Aug z o p.1 (type_of r))) (only_target t u more is) (record {
         typed = three (stands m locals init false others p.1) (stmt.target_typed m locals init result others t) (stmt.update_fits m locals init result others t o (type_of p.1) (type_of r)) sv st.there
-          (and_from (is_type (operation_sort o (stmt.read_type m locals init result others t) (type_of p.1)) (type_of r)) (fits m.classes.classes (type_of r) (stmt.target_type m locals init result t))
-          (ap (λ z. is_type (operation_sort o z (type_of p.1)) (type_of r)) (held_read k D target wt t s h p.0 g ops.reads others w) ∙ ops.type)
-          (ap (fits m.classes.classes (type_of r)) st.type ∙ fault_fits means signatures m locals init s (type_of r) f));
+            (and_from (is_type (operation_sort o (stmt.read_type m locals init result others t) (type_of p.1)) (type_of r)) (fits m.classes.classes (type_of r) (stmt.target_type m locals init result t))
+            (ap (λ z. is_type (operation_sort o z (type_of p.1)) (type_of r)) (held_read k D target wt t s h p.0 g ops.reads others w) ∙ ops.type)
+            (ap (fits m.classes.classes (type_of r)) st.type ∙ fault_fits means signatures m locals init s (type_of r) f));
         names = aimed_bound here target t (held_aimed here k target t s h) false k None (type_of r) others w (λ q. ops.plain);
       })
   update_by loops handling k target o (first t x) a wt D p g r ops f u more is others w sv =

@@ -1,5 +1,5 @@
 -- Values that are typed at a place stand there, and so do the targets that they are bound to.
-use Rattle.std.proofs.Common.{◌≡◌, ℕ, zero, suc, ◌<◌, Bool, true, false, not, ◌&&◌, ◌||◌, nat_lt, List, [], ◌∷◌, ◌++◌, length, map, slice_get, Option, Some, None, refl, ap, sym, ◌∙◌, subst, if◌then◌else◌, ltb-true, lt-ltb, arith}
+use Rattle.std.proofs.Common.{◌≡◌, ℕ, zero, suc, ◌<◌, Bool, true, false, ◌&&◌, nat_lt, List, [], ◌∷◌, length, map, Option, Some, None, refl, ap, sym, ◌∙◌, subst, if◌then◌else◌, lt-ltb, arith}
 use Rattle.std.proofs.lemmas.Bool.{and_from, or_left, or_right}
 use Rattle.std.proofs.lemmas.Option.{same_Some}
 use Rattle.std.specs.List.{list_all}
@@ -12,27 +12,25 @@ use Rattle.py_typed.specs.Classes.{ClassEntry, Signature}
 use Rattle.py_typed.specs.Fits.{is_same_type, is_nothing, fits}
 use Rattle.py_typed.specs.Expressions as node
 use Rattle.py_typed.specs.Expressions.{TypedExpr, typed, type_of}
-use Rattle.py_typed.specs.Statements.{Variable, TypedModule, TypedTarget, LocalTarget, GlobalTarget, ItemTarget}
+use Rattle.py_typed.specs.Statements.{Variable, TypedModule, TypedTarget}
 use Rattle.py_typed.specs.Operations.{item_sort}
 use Rattle.py_typed.specs.WellTypedExpr.{stands, is_value_type, are_value_types, is_result_type, is_type, indexed, declared}
 use Rattle.py_typed.proofs.FitLemmas.{one_type, and_left, and_right}
 use Rattle.py_scope.specs.declared.scope.Meaning.{Meaning}
-use Rattle.py_scope.specs.declared.scope.Meaning.TheVariants as meaning
-use Rattle.py_scope.specs.Context.{Context, VarSort, unset, untyped, has, VarSorts, var_at, Wanted, free, wants, wants_some}
+use Rattle.py_scope.specs.Context.{Context, free, wants, wants_some}
 use Rattle.py_flow.specs.Bindings.{name_in}
-use Rattle.py_binding.specs.Slots.{SlotSort, known, fresh, refused, itemless}
-use Rattle.py_binding.specs.Assignments.{binding_fault, first_of, misfit, first_misfit, first_refused, first_itemless}
+use Rattle.py_binding.specs.Slots.{known}
+use Rattle.py_binding.specs.Assignments.{binding_fault, misfit, first_misfit}
 use Rattle.py_targets.specs.Places.{Known}
-use Rattle.py_targets.specs.Targets.{Aim, held, first, barred, unwritten, misplaced, slot_of, is_written, held_sorts, tuple_sort, single_sort, sort_for, asked_by, typed_at}
+use Rattle.py_targets.specs.Targets.{Aim, held, first, barred, unwritten, misplaced, slot_of, is_written, held_sorts, tuple_sort, single_sort, asked_by, typed_at}
 use Rattle.typing_laws.specs.WellTyped as law
 use Rattle.typing_laws.specs.WellTyped.{Describes, Within}
 use Rattle.typing_laws.proofs.Types.{result_of_value, value_of_result}
 use Rattle.typing_laws.proofs.Stands.{parts_of_stands, value_type}
 use Rattle.typing_laws.proofs.Rows.{all_fits, is_sought, sought_of_asked}
 use Rattle.typing_laws.proofs.Sound.{sound_typing}
-use Rattle.module_laws.proofs.Given.{mapped_none}
 use Rattle.module_laws.proofs.Assigned.{items_are, RowBound, BoundTo, first_none}
-use Rattle.module_laws.proofs.Aims.{AimAt, AimsOf, Held, held_local, held_global, held_item, aim_held}
+use Rattle.module_laws.proofs.Aims.{AimAt, beyond, AimsOf, Held, held_local, held_global, held_item, aim_held}
 
 pub of_three : (a b c : Bool) → (a && b && c) ≡ true → (a ≡ true) × (b ≡ true) × (c ≡ true)
 of_three true true true h = (refl, refl, refl)
@@ -141,7 +139,7 @@ module _ (means : List ℕ → Meaning) (signatures : List (Option Signature)) (
       let r = some_sorts s (held_sorts l) ts h in
       subst (λ z. are_value_types (length m.classes.classes) (sorts_of z) ≡ true) r.2
       (and_from (is_value_type (length m.classes.classes) s) (are_value_types (length m.classes.classes) (sorts_of r.0)) (held_value k D e (and_left (law.is_written e) (list_all law.is_written es) w) t s (aim_held scene k e t s a.here))
-      (sorts_sought k D es (and_right (law.is_written e) (list_all law.is_written es) w) l a.rest r.0 r.1))
+      (sorts_sought (beyond scene k e) D es (and_right (law.is_written e) (list_all law.is_written es) w) l a.rest r.0 r.1))
   sorts_sought k D (e ∷ es) w (first t x ∷ l) a ts h = absurd (cc)
   sorts_sought k D (e ∷ es) w (barred x ∷ l) a ts h = absurd (cc)
   sorts_sought k D (e ∷ es) w (unwritten s ∷ l) a ts h = absurd (cc)

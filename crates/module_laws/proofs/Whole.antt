@@ -1,5 +1,5 @@
 -- Statements of which nothing is said are typed whole, and leave no name without a type.
-use Rattle.std.proofs.Common.{◌≡◌, ℕ, suc, Bool, true, false, List, [], ◌∷◌, ◌++◌, length, map, Option, Some, None, Result, Ok, Err, refl, ap, sym, ◌∙◌, subst, if◌then◌else◌, ◌⊎◌, inl, inr}
+use Rattle.std.proofs.Common.{◌≡◌, ℕ, suc, Bool, true, false, List, [], ◌∷◌, length, Option, Some, None, refl, ap, sym, ◌∙◌, subst, if◌then◌else◌}
 use Rattle.std.proofs.lemmas.Option.{same_Some}
 use Rattle.std.proofs.lemmas.List.{length-map}
 use Rattle.std.specs.Prelude.{is_some}
@@ -33,10 +33,10 @@ use Rattle.py_calls.specs.Calls.{positional}
 use Rattle.py_typing.specs.Typing.{arguments}
 use Rattle.py_binding.specs.Returns as ret
 use Rattle.py_binding.specs.Returns.{ReturnSort, bare_return, value_return, due}
-use Rattle.py_targets.specs.Places.{Known, is_unset, fix, first_type, is_bound, bind_variable, bind_name, bind_names, where_test, entering, Way, setting_out, behind_arm}
+use Rattle.py_targets.specs.Places.{Known, is_unset, fix, is_bound, bind_variable, bind_name, bind_names, where_test, entering, Way, setting_out, behind_arm}
 use Rattle.py_targets.specs.Targets.{Aim, is_row, is_item, is_flat, leaves, target_names, name_aim, variable_aim, seen_aim, value_aim, read_aim, targets_of, assigned, declared, given, updated, typed_at, single_aim, aims}
-use Rattle.py_targets.specs.Assignments.{target_aims, value_for, assigns, bind_target, binds, declares, annotated_value, gives_value, annotates_name, annotates_other, annotates, value_sort, binds_annotated, updates_one, updates_row, updates}
-use Rattle.py_loops.specs.Loops.{Course, value, course_items, range_call, range_arguments, span_of, course_by, course, head, loop_of}
+use Rattle.py_targets.specs.Assignments.{target_aims, value_for, assigns, bind_target, binds, declares, annotated_value, gives_value, annotates_name, annotates_other, annotates, binds_annotated, updates_one, updates_row, updates}
+use Rattle.py_loops.specs.Loops.{value, range_call, range_arguments, span_of, course_by, course, head, loop_of}
 use Rattle.py_loops.specs.Heads.{some_items, for_head, in_for}
 use Rattle.py_bodies.specs.Bodies.{is_definition, condition, after, node_after, block_after, arms_after, return_wanted, returns, in_loop, statement, node_statement, block, branches}
 use Rattle.typing_laws.specs.Laws.{is_voiceless, is_untyped, AllHaveTypes}
@@ -46,6 +46,7 @@ use Rattle.module_laws.specs.Statements.{is_judged}
 use Rattle.module_laws.proofs.Given.{some_is, rule_given, both_given, made_given}
 use Rattle.module_laws.proofs.Kept.{fix_cases, is_open, bind_set}
 use Rattle.module_laws.proofs.Assigned.{single_bound, row_bound, name_no_row, aims_length, items_are, BoundTo, assigned_is, head_is}
+use Rattle.module_laws.proofs.Aims.{beyond}
 use Rattle.module_laws.proofs.Annotated.{loud_if, loud_annotation}
 
 -- ---- variables
@@ -97,7 +98,7 @@ aim_there k all x (meaning.Local i) e = variable_there (act.LocalTarget i) x (va
 aim_there k all x (meaning.Global i) e = variable_there (act.GlobalTarget i) x (var_at k.types.globals i) (all.globals i) e
 aim_there k all x _ e = cc
 
-loud_in_loop : (r : ReturnSort) (C : Context) (loops : Bool) (span : Span) (word : List ℕ) (a : TypedAct) → IsLoud (in_loop C r loops span word a)
+loud_in_loop : (r : ReturnSort) (C : Context) (loops : Bool) (span : Span) (word : List ℕ) (a : TypedAct) → IsLoud (in_loop loops span word a)
 loud_in_loop r C true span word a = loud_is a
 loud_in_loop r C false span word a = loud_fails span _
 
@@ -182,7 +183,7 @@ module _ (C : Context) where
 
     loud_aims : (k : Known) → AllTyped k.types → (es : List ExprTree) → IsLoud (aims C k es)
     loud_aims k all [] = loud_is []
-    loud_aims k all (e ∷ more) = loud_row (single_aim C k (name_in e) e) (aims C k more) (loud_single k all (name_in e) e) (loud_aims k all more)
+    loud_aims k all (e ∷ more) = loud_row (single_aim C k (name_in e) e) (aims C (beyond C k e) more) (loud_single k all (name_in e) e) (loud_aims (beyond C k e) all more)
 
     loud_assigns : (k : Known) → AllTyped k.types → (span : Span) (target e : ExprTree) → IsLoud (assigns C k span target e)
     loud_assigns k all span target e =

@@ -1,2 +1,3 @@
 pub mod Statements
 pub mod WellTyped
+pub mod Modules

@@ -1,5 +1,5 @@
 -- When statements that are typed are well typed: what is asked of the text, of the names of a function, and of what it returns.
-use Rattle.std.specs.Prelude.{◌≡◌, ℕ, Bool, true, false, not, ◌&&◌, ◌||◌, nat_lt, List, [], ◌∷◌, length, Option, Some, None, is_some}
+use Rattle.std.specs.Prelude.{◌≡◌, ℕ, Bool, true, false, ◌&&◌, nat_lt, List, length, Option, Some, None}
 use Rattle.std.specs.List.{list_all}
 use Rattle.py_syntax.specs.Expressions.{ExprTree}
 use Rattle.py_syntax.specs.Statements as node
@@ -8,9 +8,8 @@ use Rattle.py_typed.specs.Sorts.{Sort}
 use Rattle.py_typed.specs.WellTypedExpr.{is_result_type}
 use Rattle.py_scope.specs.declared.scope.Meaning.TheVariants as meaning
 use Rattle.py_scope.specs.Context.{Context, VarSorts}
-use Rattle.py_flow.specs.Bindings.{name_in}
 use Rattle.py_calls.specs.Callees.{is_variable}
-use Rattle.py_binding.specs.Returns.{ReturnSort, outside, untyped, gives}
+use Rattle.py_binding.specs.Returns.{ReturnSort, gives}
 use Rattle.py_targets.specs.Targets.{leaves}
 use Rattle.typing_laws.specs.WellTyped.{is_written}
 
@@ -28,14 +27,8 @@ abbrev pub maybe_written : Option ExprTree → Bool
 maybe_written None = true
 maybe_written (Some e) = is_written e
 
--- of several targets no item stands behind a name: typing looks at all of them with what is known in front of the statement, while
--- a name that stands in front of an item is bound before the item is reached
-abbrev pub items_first : Bool → List ExprTree → Bool
-items_first named [] = true
-items_first named (e ∷ more) = (not named || is_some (name_in e)) && items_first (named || is_some (name_in e)) more
-
 abbrev pub are_targets : List ExprTree → Bool
-are_targets es = list_all is_written es && items_first false es
+are_targets es = list_all is_written es
 
 -- a loop, a function and an arm of an `if` have a body, and an `if` has a test
 abbrev mutual

@@ -1,4 +1,3 @@
-use Rattle.std.proofs.Common.{ap}
 use Rattle.module_laws.proofs.Given.{some_is}
 use Rattle.module_laws.proofs.Whole.{AllTyped, quiet_got, loud_block, quiet_block}
 use Rattle.module_laws.proofs.laws.what_is_not_typed_in_a_block_has_said_why.Goals as goal
