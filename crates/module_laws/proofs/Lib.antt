@@ -29,3 +29,4 @@ mod Varied
 mod Marked
 mod Inner
 mod Described
+mod Differ

@@ -1,13 +1,13 @@
 -- What holds of the typing of every module.
-use Rattle.std.specs.Prelude.{◌≡◌, ℕ, suc, Bool, true, false, ◌&&◌, List, [], ◌∷◌, Some, None, is_some}
+use Rattle.std.specs.Prelude.{◌≡◌, ℕ, suc, Bool, true, false, ◌&&◌, List, [], ◌∷◌, ◌++◌, map, Some, None, is_some}
 use Rattle.std.specs.List.{list_all}
 use Rattle.py_syntax.specs.Statements.{Suite}
 use Rattle.py_binder.specs.Scope.{module_scope, functions}
 use Rattle.py_typed.specs.Statements.{TypedFunc, TypedModule}
-use Rattle.py_typed.specs.WellTyped.{suite_typed}
+use Rattle.py_typed.specs.WellTyped.{suite_typed, all_differ}
 use Rattle.py_typed.specs.WellTypedExpr.{init_class}
 use Rattle.py_scope.specs.Context.{VarSort, has, var_at}
-use Rattle.py_names.specs.Meanings.{own_names}
+use Rattle.py_names.specs.Meanings.{variables, own_names}
 use Rattle.py_headers.specs.Headers.{signature_of}
 use Rattle.py_check.specs.Definitions.{Headed, headed_functions}
 use Rattle.py_check.specs.Module.{Environment, context_in, own_statements, body, body_after, sorts_behind, sorts_behind_all, global_sorts, environment, diagnostics, typed}
@@ -72,3 +72,9 @@ statements_stand m = suite_typed m [] None None [] false false m.top && list_all
 -- where nothing is said of a module, its own statements and the bodies of its functions are well typed in its typed tree
 abbrev pub QuietModuleStands : Type 0
 QuietModuleStands = (m : Suite) → diagnostics m ≡ [] → is_module_written m ≡ true → statements_stand (typed m) ≡ true
+
+-- ---- names
+
+-- where nothing is said of a module, its variables and its functions have names that differ
+abbrev pub QuietModuleNamesDiffer : Type 0
+QuietModuleNamesDiffer = (m : Suite) → diagnostics m ≡ [] → all_differ (variables (module_scope m) ++ map (λ f. f.name) (functions m)) ≡ true
