@@ -30,3 +30,4 @@ mod Marked
 mod Inner
 mod Described
 mod Differ
+mod Formed
