@@ -57,7 +57,7 @@ use Rattle.module_laws.proofs.Varied.{mapped_at, kept_has, set_by}
 
 -- ---- rows of variables
 
-has_within : (types : List VarSort) (i : ℕ) (t : Sort) → var_at types i ≡ has t → i < length types
+pub has_within : (types : List VarSort) (i : ℕ) (t : Sort) → var_at types i ≡ has t → i < length types
 has_within [] i t h = absurd (cc)
 has_within (v ∷ types) zero t h = omega arith
 has_within (v ∷ types) (suc i) t h = let r = has_within types i t h in omega arith
@@ -80,10 +80,10 @@ declared_has types names q i t h =
     nothing_first : (i : ℕ) → 0 + i ≡ i
     nothing_first i = omega arith
 
-same_has : (s t : Sort) → has s ≡ has t → s ≡ t
+pub same_has : (s t : Sort) → has s ≡ has t → s ≡ t
 same_has s t e = cc
 
-given_set : (o : Option Sort) → is_unset (given_sort o) ≡ false
+pub given_set : (o : Option Sort) → is_unset (given_sort o) ≡ false
 given_set None = refl
 given_set (Some t) = refl
 
@@ -109,7 +109,7 @@ module _ (meanings : List ℕ → Meaning) (n : ℕ) (heard : (x : List ℕ) →
   marked_value None t q = absurd (cc)
   marked_value (Some mark) t q = mark_valued 0 meanings n heard mark t q
 
-  returned_value : (o : Option ExprTree) (t : Sort) → (returned meanings o).got ≡ Some t → is_result_type 0 t ≡ true
+  pub returned_value : (o : Option ExprTree) (t : Sort) → (returned meanings o).got ≡ Some t → is_result_type 0 t ≡ true
   returned_value None t q = absurd (cc)
   returned_value (Some mark) t q = result_valued 0 meanings n heard mark t q
 
@@ -164,7 +164,7 @@ module _ (roles : Roles) (meanings : List ℕ → Meaning) where
   function_there e sorts (f ∷ fs) (suc i) h = function_there e (sorts_behind e sorts (headed roles meanings f)) fs i (omega arith)
 
   -- what is known of the module's variables stays known behind functions
-  behind_keeps : (e : Environment) (fs : List FuncTree) (sorts : List VarSort) (i : ℕ) (t : Sort) → var_at sorts i ≡ has t → var_at (sorts_behind_all e sorts (map (headed roles meanings) fs)) i ≡ has t
+  pub behind_keeps : (e : Environment) (fs : List FuncTree) (sorts : List VarSort) (i : ℕ) (t : Sort) → var_at sorts i ≡ has t → var_at (sorts_behind_all e sorts (map (headed roles meanings) fs)) i ≡ has t
   behind_keeps e [] sorts i t h = h
   behind_keeps e (f ∷ fs) sorts i t h =
       let hd = headed roles meanings f in

@@ -31,3 +31,4 @@ mod Inner
 mod Described
 mod Differ
 mod Formed
+mod Complete

@@ -1,5 +1,5 @@
 //! The laws. The calls do nothing.
-ghost use Rattle.module_laws.specs.Modules.{QuietModuleIsTyped, QuietModuleNamesDiffer, QuietModuleStands, QuietModuleTypesVariables};
+ghost use Rattle.module_laws.specs.Modules.{QuietModuleIsTyped, QuietModuleIsWellTyped, QuietModuleNamesDiffer, QuietModuleStands, QuietModuleTypesVariables};
 ghost use Rattle.module_laws.specs.Statements.{QuietBlockIsTyped, TypedBlockIsWellTyped};
 
 /// Where no name in reach is without a type, a block of which nothing is said is typed whole, and no name is without a type behind it.
@@ -30,4 +30,9 @@ pub fn statements_of_a_quiet_module_are_well_typed()
 /// In a module of which nothing is said the variables of the module and its functions have names that differ.
 pub fn names_of_a_quiet_module_differ()
     ensures { QuietModuleNamesDiffer }
+{}
+
+/// The typed tree of a module of which nothing is said is a well typed module.
+pub fn a_quiet_module_is_well_typed()
+    ensures { QuietModuleIsWellTyped }
 {}
