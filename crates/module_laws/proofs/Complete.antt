@@ -1,5 +1,5 @@
 -- A module of which nothing is said is well typed.
-use Rattle.std.proofs.Common.{◌≡◌, ℕ, zero, suc, ◌+◌, ◌<◌, Bool, true, false, not, ◌&&◌, ◌||◌, List, [], ◌∷◌, ◌++◌, length, map, take, slice_get, nat_lt, Option, Some, None, refl, ap, ap₂, sym, ◌∙◌, subst, if◌then◌else◌, unwrap_or, arith, append-nil}
+use Rattle.std.proofs.Common.{◌≡◌, ℕ, suc, ◌+◌, ◌<◌, Bool, true, false, not, ◌&&◌, ◌||◌, List, [], ◌∷◌, ◌++◌, length, map, take, slice_get, nat_lt, Option, Some, None, refl, ap, sym, ◌∙◌, subst, if◌then◌else◌, unwrap_or, arith, append-nil}
 use Rattle.std.proofs.lemmas.Bool.{and_from, or_right, eq-eqb}
 use Rattle.std.proofs.lemmas.List.{length-map}
 use Rattle.std.proofs.lemmas.Option.{same_Some}
@@ -15,24 +15,23 @@ use Rattle.py_typed.specs.Sorts.{Sort}
 use Rattle.py_typed.specs.Classes.{Signature}
 use Rattle.py_typed.specs.Fits.{is_nothing, is_same_type}
 use Rattle.py_typed.specs.Narrowing as typed_flow
-use Rattle.py_typed.specs.Statements.{Variable, TypedModule, TypedFunc, TypedStmt, suite_of}
+use Rattle.py_typed.specs.Statements.{TypedModule, TypedFunc, TypedStmt}
 use Rattle.py_typed.specs.WellTypedExpr.{is_value_type, is_result_type, init_class}
 use Rattle.py_typed.specs.WellTyped.{all_differ, has_statement, suite_typed}
-use Rattle.py_typed.specs.WellTypedModule.{names_of, types_in, same_row, all_at, ends_well, parameter_types, signature_fits, init_gives_nothing, is_init_of_trait, variables_typed, func_typed, own_name, class_typed, is_listed, is_well_typed}
+use Rattle.py_typed.specs.WellTypedModule.{names_of, types_in, same_row, all_at, ends_well, parameter_types, signature_fits, init_gives_nothing, is_init_of_trait, variables_typed, func_typed, own_name, is_listed, is_well_typed}
 use Rattle.py_typed.proofs.FitLemmas.{type_is_itself, and_left, and_right}
 use Rattle.py_scope.specs.declared.scope.Meaning.{Meaning}
 use Rattle.py_scope.specs.Context.{Context, VarSort, has, var_at}
 use Rattle.py_flow.specs.Bindings.{suite_bindings}
 use Rattle.py_flow.specs.Closed as flow
-use Rattle.py_names.specs.Meanings.{is_own, variables, own_names, module_meaning}
+use Rattle.py_names.specs.Meanings.{is_own, own_names, module_meaning}
 use Rattle.py_names.specs.Outline.{suite_definitions}
-use Rattle.py_headers.specs.Headers.{marked, returned, param_types, header, all_of, signature_of}
+use Rattle.py_headers.specs.Headers.{marked, all_of, signature_of}
 use Rattle.py_headers.specs.Definitions.{gives_value}
 use Rattle.py_targets.specs.Places.{Known, is_unset}
-use Rattle.py_bodies.specs.Bodies.{block_after}
 use Rattle.py_check.specs.Definitions.{Headed, headed, inner_definitions_said, headed_functions}
 use Rattle.py_check.specs.Starts.{given_sort, start_sort, own_sort}
-use Rattle.py_check.specs.Variables.{typed_variables, variables_from}
+use Rattle.py_check.specs.Variables.{typed_variables}
 use Rattle.py_check.specs.Module.{Environment, context_in, plain_signature, statements_of, return_of, own_statements, function_start, body, body_after, typed_function, sorts_behind, sorts_behind_all, bodies_said, typed_functions, global_sorts, environment, said, diagnostics, typed}
 use Rattle.typing_laws.specs.Laws as law
 use Rattle.typing_laws.proofs.Loud.{none_before, none_behind}
@@ -51,7 +50,6 @@ use Rattle.module_laws.proofs.Varied as vary
 use Rattle.module_laws.proofs.Varied.{mapped_at, kept_has}
 use Rattle.module_laws.proofs.Differ as differ
 use Rattle.module_laws.proofs.Differ.{function_names}
-use Rattle.module_laws.proofs.Described as told
 use Rattle.module_laws.proofs.Described.{given_set, same_has, has_within, behind_keeps, returned_value, function_stands, final_is, final_size, inner_none, gs_values, all_stand, voices, inner_typed}
 use Rattle.module_laws.proofs.Formed.{variables_named, types_valued, variables_long, params_differ, own_front, params_few, own_few, at_front, param_start, params_same, row_is_itself, filled_block}
 

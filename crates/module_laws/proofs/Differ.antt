@@ -1,5 +1,5 @@
 -- Where nothing is said of definitions, functions and variables of a module have names that differ.
-use Rattle.std.proofs.Common.{◌≡◌, ℕ, Bool, true, false, not, ◌&&◌, ◌||◌, cond, List, [], ◌∷◌, ◌++◌, map, Option, Some, None, refl, ap, ap₂, sym, ◌∙◌, subst, ◌⊎◌, inl, inr}
+use Rattle.std.proofs.Common.{◌≡◌, ℕ, Bool, true, false, not, ◌||◌, cond, List, [], ◌∷◌, ◌++◌, map, Some, refl, ap, ap₂, sym, ◌∙◌, ◌⊎◌, inl, inr}
 use Rattle.std.proofs.lemmas.Bool.{and_from, or_parts, or_left, or_cases}
 use Rattle.std.proofs.lemmas.List.Folds.{list_any-append}
 use Rattle.std.specs.List.{list_all, flat_map}
@@ -11,7 +11,7 @@ use Rattle.py_binder.specs.declared.scope.Role.{Role}
 use Rattle.py_binder.specs.declared.scope.Role.TheVariants as role
 use Rattle.py_binder.specs.Sights.{module_sights}
 use Rattle.py_binder.specs.Scope.{contains, all_there, seen_there, Roles, is_variable, module_role, module_scope, first_sights, functions}
-use Rattle.py_typed.specs.WellTyped.{all_differ, is_called_in}
+use Rattle.py_typed.specs.WellTyped.{all_differ}
 use Rattle.py_typed.proofs.FitLemmas.{and_left, and_right}
 use Rattle.py_scope.specs.declared.scope.Meaning.{Meaning}
 use Rattle.py_annotations.specs.Names.{is_untyped}

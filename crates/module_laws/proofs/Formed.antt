@@ -1,5 +1,5 @@
 -- Functions of a module of which nothing is said have the parts that their definitions ask for.
-use Rattle.std.proofs.Common.{◌≡◌, ℕ, zero, suc, ◌+◌, ◌<◌, ◌≤◌, Bool, true, false, not, ◌&&◌, ◌||◌, cond, List, [], ◌∷◌, ◌++◌, length, map, filter, take, slice_get, nat_lt, count_by, Option, Some, None, refl, ap, ap₂, sym, ◌∙◌, subst, if◌then◌else◌, unwrap_or, length-append, lt-ltb, ltb-true, arith, ◌⊎◌, inl, inr}
+use Rattle.std.proofs.Common.{◌≡◌, ℕ, zero, suc, ◌+◌, ◌<◌, ◌≤◌, Bool, true, false, not, ◌&&◌, ◌||◌, cond, List, [], ◌∷◌, ◌++◌, length, map, filter, take, slice_get, nat_lt, Option, Some, None, refl, ap, ap₂, sym, ◌∙◌, subst, if◌then◌else◌, length-append, lt-ltb, arith, ◌⊎◌, inl, inr}
 use Rattle.std.proofs.lemmas.Bool.{and_from, or_cases, or_left, or_right, ltb-false}
 use Rattle.std.proofs.lemmas.List.{length-map}
 use Rattle.std.proofs.lemmas.List.Sums.{length-filter}
@@ -17,17 +17,16 @@ use Rattle.py_syntax.specs.Statements.{StmtTree, Suite, FuncTree}
 use Rattle.py_binder.specs.declared.scope.Role.{Role}
 use Rattle.py_binder.specs.declared.scope.Role.TheVariants as role
 use Rattle.py_binder.specs.Sights.{body_sights}
-use Rattle.py_binder.specs.Scope as binder
 use Rattle.py_binder.specs.Scope.{contains, is_builtin, bound_there, listed_there, seen_there, all_there, Roles, is_variable, param_names, function_role, function_scope, first_sights}
 use Rattle.py_typed.specs.Sorts as sort
 use Rattle.py_typed.specs.Sorts.{Sort, sorts_of}
-use Rattle.py_typed.specs.Statements.{Variable, TypedStmt, suite_of}
+use Rattle.py_typed.specs.Statements.{TypedStmt, suite_of}
 use Rattle.py_typed.specs.WellTypedExpr.{is_value_type}
 use Rattle.py_typed.specs.WellTyped.{all_differ, has_statement}
 use Rattle.py_typed.specs.WellTypedModule.{names_of, types_in, same_row}
 use Rattle.py_typed.proofs.FitLemmas.{type_is_itself, and_left, and_right}
 use Rattle.py_scope.specs.declared.scope.Meaning.{Meaning}
-use Rattle.py_scope.specs.Context.{Context, VarSort, unset, untyped, has, var_at}
+use Rattle.py_scope.specs.Context.{Context, VarSort, has, var_at}
 use Rattle.py_binding.specs.Returns.{ReturnSort}
 use Rattle.py_messages.specs.Messages as message
 use Rattle.py_messages.specs.Rows.{row_then}
@@ -40,13 +39,13 @@ use Rattle.py_names.specs.Outline.{stmt_definitions, suite_definitions}
 use Rattle.py_headers.specs.Headers.{marked, param_types, all_of}
 use Rattle.py_headers.specs.Definitions.{own_count, repeated, is_builtin_name}
 use Rattle.py_check.specs.Starts.{given_sort, or_param, param_sort}
-use Rattle.py_check.specs.Variables.{sort_or_none, variables_from, typed_variables}
+use Rattle.py_check.specs.Variables.{sort_or_none, variables_from}
 use Rattle.typing_laws.proofs.Types.{clash}
 use Rattle.typing_laws.proofs.Loud.{none_before}
 use Rattle.module_laws.specs.WellTyped.{is_filled}
 use Rattle.module_laws.specs.Modules.{has_type, all_have_types}
 use Rattle.module_laws.proofs.Given.{row_given}
-use Rattle.module_laws.proofs.NameRows.{at_place, same_text, text_is_itself, filter_two, filter_all, sights_front, sights_differ, kind_names, of_kind}
+use Rattle.module_laws.proofs.NameRows.{at_place, same_text, text_is_itself, filter_two, filter_all, sights_front, of_kind}
 use Rattle.module_laws.proofs.Meant.{scope_names}
 use Rattle.module_laws.proofs.Differ.{Fresh, one_more}
 use Rattle.module_laws.proofs.Signed.{IsSound}
