@@ -57,7 +57,7 @@ use Rattle.module_laws.proofs.Varied.{mapped_at, kept_has, set_by}
 
 -- ---- rows of variables
 
-has_within : (types : List VarSort) (i : ℕ) (t : Sort) → var_at types i ≡ has t → i < length types
+pub has_within : (types : List VarSort) (i : ℕ) (t : Sort) → var_at types i ≡ has t → i < length types
 has_within [] i t h = absurd (cc)
 has_within (v ∷ types) zero t h = omega arith
 has_within (v ∷ types) (suc i) t h = let r = has_within types i t h in omega arith
@@ -80,10 +80,10 @@ declared_has types names q i t h =
     nothing_first : (i : ℕ) → 0 + i ≡ i
     nothing_first i = omega arith
 
-same_has : (s t : Sort) → has s ≡ has t → s ≡ t
+pub same_has : (s t : Sort) → has s ≡ has t → s ≡ t
 same_has s t e = cc
 
-given_set : (o : Option Sort) → is_unset (given_sort o) ≡ false
+pub given_set : (o : Option Sort) → is_unset (given_sort o) ≡ false
 given_set None = refl
 given_set (Some t) = refl
 
@@ -109,7 +109,7 @@ module _ (meanings : List ℕ → Meaning) (n : ℕ) (heard : (x : List ℕ) →
   marked_value None t q = absurd (cc)
   marked_value (Some mark) t q = mark_valued 0 meanings n heard mark t q
 
-  returned_value : (o : Option ExprTree) (t : Sort) → (returned meanings o).got ≡ Some t → is_result_type 0 t ≡ true
+  pub returned_value : (o : Option ExprTree) (t : Sort) → (returned meanings o).got ≡ Some t → is_result_type 0 t ≡ true
   returned_value None t q = absurd (cc)
   returned_value (Some mark) t q = result_valued 0 meanings n heard mark t q
 
@@ -164,7 +164,7 @@ module _ (roles : Roles) (meanings : List ℕ → Meaning) where
   function_there e sorts (f ∷ fs) (suc i) h = function_there e (sorts_behind e sorts (headed roles meanings f)) fs i (omega arith)
 
   -- what is known of the module's variables stays known behind functions
-  behind_keeps : (e : Environment) (fs : List FuncTree) (sorts : List VarSort) (i : ℕ) (t : Sort) → var_at sorts i ≡ has t → var_at (sorts_behind_all e sorts (map (headed roles meanings) fs)) i ≡ has t
+  pub behind_keeps : (e : Environment) (fs : List FuncTree) (sorts : List VarSort) (i : ℕ) (t : Sort) → var_at sorts i ≡ has t → var_at (sorts_behind_all e sorts (map (headed roles meanings) fs)) i ≡ has t
   behind_keeps e [] sorts i t h = h
   behind_keeps e (f ∷ fs) sorts i t h =
       let hd = headed roles meanings f in
@@ -310,20 +310,21 @@ module _ (m : Suite) (nothing : said m ≡ []) where
         by (meaning.Global i) p = set_by (var_at sorts i) (gh i (Rattle.std.proofs.lemmas.Option.slice_get_within e.variables i x (global_place (said_in m) e.variables size (function_role roles f) inner_fine seen x i p)))
         by _ p = refl
 
-    first_scope : IsScope (context_in e hd.inside) first.types
+    pub first_scope : IsScope (context_in e hd.inside) first.types
     first_scope = Rattle.module_laws.proofs.Owned.scope_is (said_in m) e.variables size (function_role roles f) inner_fine seen (signatures m) [] first.types (length-map own of_own) q
 
-    last_size : length last.types.locals ≡ length own
+    pub last_size : length last.types.locals ≡ length own
     last_size = (follows_block (context_in e hd.inside) first f.body).locals.size ∙ length-map own of_own
 
     abbrev body_form : TypedFunc
     body_form = typed_function (context_in e hd.inside) e.variables sorts hd
 
-    record FunctionStands : Type 0 where
-      typed : body_stands tree body_form ≡ true
-      values : (i : ℕ) (t : Sort) → var_at last.types.globals i ≡ has t → IsValue t
+    pub record FunctionStands : Type 0 where
+      pub typed : body_stands tree body_form ≡ true
+      pub values : (i : ℕ) (t : Sort) → var_at last.types.globals i ≡ has t → IsValue t
+      pub locals : (i : ℕ) (t : Sort) → var_at last.types.locals i ≡ has t → IsValue t
 
-    function_stands : ((i : ℕ) (t : Sort) → var_at sorts i ≡ has t → IsValue t) → ((i : ℕ) → i < length e.variables → has_type (var_at sorts i) ≡ true) → ((i : ℕ) (t : Sort) → var_at last.types.globals i ≡ has t → declared tree.globals i ≡ Some t) → HasTypes hd.header → is_suite_written f.body ≡ true
+    pub function_stands : ((i : ℕ) (t : Sort) → var_at sorts i ≡ has t → IsValue t) → ((i : ℕ) → i < length e.variables → has_type (var_at sorts i) ≡ true) → ((i : ℕ) (t : Sort) → var_at last.types.globals i ≡ has t → declared tree.globals i ≡ Some t) → HasTypes hd.header → is_suite_written f.body ≡ true
         → suite_definitions f.body ≡ [] → (ts : List TypedStmt) → (body (context_in e hd.inside) e.variables sorts hd).got ≡ Some ts → FunctionStands
     function_stands gv gh final types written pure ts got =
         let locals = typed_variables last.types.locals own in
@@ -333,15 +334,16 @@ module _ (m : Suite) (nothing : said m ≡ []) where
           typed = ap (λ o. suite_typed tree locals o (Some (unwrap_or hd.header.ret sort.Nothing)) [] false false body_form.body) (no_init (bytes_eq f.name (Rattle.std.specs.Prelude.codes "__init__")))
               ∙ ap (λ o. suite_typed tree locals None (Some (unwrap_or hd.header.ret sort.Nothing)) [] false false (statements_of o)) got ∙ s.typed;
           values = s.values.globals;
+          locals = s.values.locals;
         }
 
-  abbrev voices : (f : FuncTree) → whole.Voiced (context_in e (headed roles meant f).inside)
+  abbrev pub voices : (f : FuncTree) → whole.Voiced (context_in e (headed roles meant f).inside)
   voices f x = voiced (signatures m) (whole.signs m nothing) ((whole.inside m nothing f).meaning x) (whole.inner_heard m nothing f x)
 
-  abbrev inner_typed : (f : FuncTree) (x : List ℕ) → Rattle.py_annotations.specs.Names.is_untyped ((context_in e (headed roles meant f).inside).meaning x) ≡ false
+  abbrev pub inner_typed : (f : FuncTree) (x : List ℕ) → Rattle.py_annotations.specs.Names.is_untyped ((context_in e (headed roles meant f).inside).meaning x) ≡ false
   inner_typed f x = heard_typed size ((whole.inside m nothing f).meaning x) (whole.inner_heard m nothing f x)
 
-  bodies_stand : (sorts : List VarSort) → length sorts ≡ length e.variables → ((i : ℕ) → law.is_untyped (var_at sorts i) ≡ false) → ((i : ℕ) (t : Sort) → var_at sorts i ≡ has t → IsValue t) → ((i : ℕ) → i < length e.variables → has_type (var_at sorts i) ≡ true) → (fs : List FuncTree) → AllSigned meant (whole.typed_names m nothing) roles fs
+  pub bodies_stand : (sorts : List VarSort) → length sorts ≡ length e.variables → ((i : ℕ) → law.is_untyped (var_at sorts i) ≡ false) → ((i : ℕ) (t : Sort) → var_at sorts i ≡ has t → IsValue t) → ((i : ℕ) → i < length e.variables → has_type (var_at sorts i) ≡ true) → (fs : List FuncTree) → AllSigned meant (whole.typed_names m nothing) roles fs
       → bodies_said e sorts (map (headed roles meant) fs) ≡ [] → ((i : ℕ) (t : Sort) → var_at (sorts_behind_all e sorts (map (headed roles meant) fs)) i ≡ has t → declared tree.globals i ≡ Some t) → list_all (λ f. is_suite_written f.body) fs ≡ true → flat_map inner_definitions_said fs ≡ []
       → list_all (body_stands tree) (typed_functions e sorts (map (headed roles meant) fs)) ≡ true
   bodies_stand sorts q before gv gh [] a h final written pure = refl
@@ -370,7 +372,7 @@ module _ (m : Suite) (nothing : said m ≡ []) where
   abbrev top_sort : List ℕ → VarSort
   top_sort = start_sort meant (suite_bindings m)
 
-  top_values : Valued 0 top_first.types
+  pub top_values : Valued 0 top_first.types
   top_values = record {
     locals = λ i t h. absurd (no_locals i t h);
     globals = λ i t h.
@@ -392,10 +394,10 @@ module _ (m : Suite) (nothing : said m ≡ []) where
           ap is_unset (mapped_at top_sort e.variables i x (global_place (said_in m) e.variables size roles (whole.fine m nothing) (all_there seen_there (module_sights m)) x i p)) ∙ ap (λ o. is_unset (by_mark meant o)) h ∙ given_set (annotation meant mark).got
       by _ p = refl
 
-  final_size : length (sorts_behind_all e gs (headed_functions m)) ≡ length e.variables
+  pub final_size : length (sorts_behind_all e gs (headed_functions m)) ≡ length e.variables
   final_size = behind_size roles meant e (functions m) gs ∙ vary.top_size m nothing
 
-  final_is : (i : ℕ) (t : Sort) → var_at (sorts_behind_all e gs (headed_functions m)) i ≡ has t → declared tree.globals i ≡ Some t
+  pub final_is : (i : ℕ) (t : Sort) → var_at (sorts_behind_all e gs (headed_functions m)) i ≡ has t → declared tree.globals i ≡ Some t
   final_is = declared_has (sorts_behind_all e gs (headed_functions m)) e.variables final_size
 
   top_declared : AreDeclared tree [] top_last.types
@@ -407,23 +409,35 @@ module _ (m : Suite) (nothing : said m ≡ []) where
       never : (i : ℕ) → i < 0 → ⊥
       never i h = omega arith
 
-  inner_none : flat_map inner_definitions_said (functions m) ≡ []
+  pub inner_none : flat_map inner_definitions_said (functions m) ≡ []
   inner_none = whole.inner_quiet m nothing
+
+  record TopStands : Type 0 where
+    typed : suite_typed tree [] None None [] false false tree.top ≡ true
+    values : (i : ℕ) (t : Sort) → var_at gs i ≡ has t → IsValue t
+
+  top_stands : is_suite_written m ≡ true → TopStands
+  top_stands written =
+      let one = own_statements (whole.top m nothing) e.variables m in
+      let g = quiet_got one (loud_block (whole.top m nothing) (whole.top_voiced m nothing) ret.outside refl false top_first (whole.start_all m nothing) m) (whole.own_quiet m nothing) in
+      let s = rows_stand meant ret.outside top_first m [] None (vary.top_scope m nothing) top_marked top_values top_declared tt refl written (λ z. absurd (not_there z)) g.0 g.1 in
+      record { typed = ap (λ o. suite_typed tree [] None None [] false false (statements_of o)) g.1 ∙ s.typed; values = s.values.globals }
+    where
+      not_there : false ≡ true → ⊥
+      not_there h = cc
+
+  pub gs_values : is_suite_written m ≡ true → (i : ℕ) (t : Sort) → var_at gs i ≡ has t → IsValue t
+  gs_values written = (top_stands written).values
 
   -- THE STATEMENTS of the whole module stand
   pub all_stand : is_module_written m ≡ true → statements_stand tree ≡ true
   all_stand written =
       let one = own_statements (whole.top m nothing) e.variables m in
-      let g = quiet_got one (loud_block (whole.top m nothing) (whole.top_voiced m nothing) ret.outside refl false top_first (whole.start_all m nothing) m) (whole.own_quiet m nothing) in
       let own_written = and_left (is_suite_written m) (list_all (λ f. is_suite_written f.body) (functions m)) written in
-      let s = rows_stand meant ret.outside top_first m [] None (vary.top_scope m nothing) top_marked top_values top_declared tt refl own_written (λ z. absurd (not_there z)) g.0 g.1 in
-      let first : suite_typed tree [] None None [] false false tree.top ≡ true = ap (λ o. suite_typed tree [] None None [] false false (statements_of o)) g.1 ∙ s.typed in
-      and_from (suite_typed tree [] None None [] false false tree.top) (list_all (body_stands tree) tree.funcs) first
-      (bodies_stand gs (vary.top_size m nothing) (vary.top_typed m nothing) s.values.globals (vary.global_has m nothing) (functions m) (whole.all_functions m nothing) (none_behind one.said (bodies_said e gs (headed_functions m)) (whole.statements m nothing)) final_is
+      let s = top_stands own_written in
+      and_from (suite_typed tree [] None None [] false false tree.top) (list_all (body_stands tree) tree.funcs) s.typed
+      (bodies_stand gs (vary.top_size m nothing) (vary.top_typed m nothing) s.values (vary.global_has m nothing) (functions m) (whole.all_functions m nothing) (none_behind one.said (bodies_said e gs (headed_functions m)) (whole.statements m nothing)) final_is
       (and_right (is_suite_written m) (list_all (λ f. is_suite_written f.body) (functions m)) written) inner_none)
-    where
-      not_there : false ≡ true → ⊥
-      not_there h = cc
 
 pub quiet_stands : (m : Suite) → diagnostics m ≡ [] → is_module_written m ≡ true → statements_stand (typed m) ≡ true
 quiet_stands m h w = all_stand m (nothing_placed (said m) h) w

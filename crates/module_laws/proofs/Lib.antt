@@ -29,3 +29,6 @@ mod Varied
 mod Marked
 mod Inner
 mod Described
+mod Differ
+mod Formed
+mod Complete

@@ -143,11 +143,14 @@ module _ (m : Suite) (nothing : said m ≡ []) where
   pub statements : statements_said e (module_scope m) (headed_functions m) m ≡ []
   statements = none_behind (headers_said m) (statements_said e (module_scope m) (headed_functions m) m) (none_before (headers_said m ++ statements_said e (module_scope m) (headed_functions m) m) (globals_said m) nothing)
 
-  abbrev defined : List Diag
+  abbrev pub defined : List Diag
   defined = definitions_said (module_role m) meant [] (suite_definitions m)
 
-  definitions : defined ≡ []
+  pub definitions : defined ≡ []
   definitions = none_behind (flat_map (header_said meant) (functions m)) defined (none_before (flat_map (header_said meant) (functions m) ++ defined) (flat_map inner_definitions_said (functions m)) headers)
+
+  pub annotations_quiet : flat_map (header_said meant) (functions m) ≡ []
+  annotations_quiet = none_before (flat_map (header_said meant) (functions m)) defined (none_before (flat_map (header_said meant) (functions m) ++ defined) (flat_map inner_definitions_said (functions m)) headers)
 
   pub inner_quiet : flat_map inner_definitions_said (functions m) ≡ []
   inner_quiet = none_behind (flat_map (header_said meant) (functions m) ++ defined) (flat_map inner_definitions_said (functions m)) headers

@@ -122,7 +122,7 @@ module _ (kind : Role → Bool) (role : List ℕ → Role) where
   abbrev with_role : List ℕ → List ℕ × Role
   with_role n = (n, role n)
 
-  of_kind : (ns : List (List ℕ)) → map (λ (p : List ℕ × Role). p.0) (filter (λ (p : List ℕ × Role). kind p.1) (map with_role ns)) ≡ filter is_kind ns
+  pub of_kind : (ns : List (List ℕ)) → map (λ (p : List ℕ × Role). p.0) (filter (λ (p : List ℕ × Role). kind p.1) (map with_role ns)) ≡ filter is_kind ns
   of_kind [] = refl
   of_kind (n ∷ ns) = by (kind (role n)) (of_kind ns)
     where

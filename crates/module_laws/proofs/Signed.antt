@@ -104,6 +104,7 @@ body_parts true false false m n o h = (refl, refl, refl)
 -- a definition with which nothing is wrong
 pub record IsSound (own : ℕ) (f : FuncTree) (ret : Option Sort) : Type 0 where
   pub names : option_map Rattle.py_messages.specs.Messages.duplicate_parameter (repeated [] (param_names f)) ≡ None
+  pub plain : option_map Rattle.py_messages.specs.Messages.cannot_assign (Rattle.std.specs.Prelude.find is_builtin_name (param_names f)) ≡ None
   pub marks : all_marked f ≡ true
   pub few : nat_lt 100 own ≡ false
   pub ends : (gives_value ret && not (Rattle.py_flow.specs.Closed.is_closed f.body)) ≡ false
@@ -113,7 +114,7 @@ sound_is fresh own f ret h =
     let p = fault_parts fresh (Rattle.py_messages.specs.Messages.already_defined f.name) (option_map Rattle.py_messages.specs.Messages.duplicate_parameter (repeated [] (param_names f)))
     (option_map Rattle.py_messages.specs.Messages.cannot_assign (Rattle.std.specs.Prelude.find is_builtin_name (param_names f))) (body_fault own f ret) h in
     let q = body_parts (all_marked f) (nat_lt 100 own) (gives_value ret && not (Rattle.py_flow.specs.Closed.is_closed f.body)) Rattle.py_messages.specs.Messages.missing_annotation (Rattle.py_messages.specs.Messages.too_many_names f.name) Rattle.py_messages.specs.Messages.missing_return p.3 in
-    record { names = p.1; marks = q.0; few = q.1; ends = q.2 }
+    record { names = p.1; plain = p.2; marks = q.0; few = q.1; ends = q.2 }
 
 -- ---- annotations
 
@@ -168,6 +169,18 @@ module _ (meanings : List ℕ → Meaning) (all : (x : List ℕ) → is_untyped 
   pub record IsSigned (roles : Roles) (f : FuncTree) : Type 0 where
     pub sound : IsSound (own_count (headed roles meanings f).inside) f (header meanings f).ret
     pub types : HasTypes (header meanings f)
+
+  faultless : (roles : Roles) (f : FuncTree) (q : QuietFunction roles meanings f) → header_said meanings f ≡ [] → def_fault q.1 (own_count (headed roles meanings f).inside) f (header meanings f).ret ≡ None
+  faultless roles f q h =
+      let ps = params_have f.params (none_before (params_said meanings f.params) (returned meanings f.ret).said h) in
+      let rs = result_typed f.ret (none_behind (params_said meanings f.params) (returned meanings f.ret).said h) in
+      (fault_none q.0 f.name (def_fault q.1 (own_count (headed roles meanings f).inside) f (header meanings f).ret) (header meanings f).typed f.marks (and_from (params_typed meanings f.params) (has_type f.ret (returned meanings f.ret).got) ps rs) q.2).0
+
+  -- its name is new
+  pub fresh_function : (roles : Roles) (f : FuncTree) (q : QuietFunction roles meanings f) → header_said meanings f ≡ [] → q.1 ≡ true
+  fresh_function roles f q h =
+      (fault_parts q.1 (Rattle.py_messages.specs.Messages.already_defined f.name) (option_map Rattle.py_messages.specs.Messages.duplicate_parameter (repeated [] (param_names f)))
+      (option_map Rattle.py_messages.specs.Messages.cannot_assign (Rattle.std.specs.Prelude.find is_builtin_name (param_names f))) (body_fault (own_count (headed roles meanings f).inside) f (header meanings f).ret) (faultless roles f q h)).0
 
   one_signed : (roles : Roles) (f : FuncTree) → QuietFunction roles meanings f → header_said meanings f ≡ [] → IsSigned roles f
   one_signed roles f q h =

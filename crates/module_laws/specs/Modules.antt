@@ -1,17 +1,18 @@
 -- What holds of the typing of every module.
-use Rattle.std.specs.Prelude.{◌≡◌, ℕ, suc, Bool, true, false, ◌&&◌, List, [], ◌∷◌, Some, None, is_some}
+use Rattle.std.specs.Prelude.{◌≡◌, ℕ, suc, Bool, true, false, ◌&&◌, List, [], ◌∷◌, ◌++◌, map, Some, None, is_some}
 use Rattle.std.specs.List.{list_all}
 use Rattle.py_syntax.specs.Statements.{Suite}
 use Rattle.py_binder.specs.Scope.{module_scope, functions}
 use Rattle.py_typed.specs.Statements.{TypedFunc, TypedModule}
-use Rattle.py_typed.specs.WellTyped.{suite_typed}
+use Rattle.py_typed.specs.WellTyped.{suite_typed, all_differ}
+use Rattle.py_typed.specs.WellTypedModule.{is_well_typed}
 use Rattle.py_typed.specs.WellTypedExpr.{init_class}
 use Rattle.py_scope.specs.Context.{VarSort, has, var_at}
-use Rattle.py_names.specs.Meanings.{own_names}
+use Rattle.py_names.specs.Meanings.{variables, own_names}
 use Rattle.py_headers.specs.Headers.{signature_of}
 use Rattle.py_check.specs.Definitions.{Headed, headed_functions}
 use Rattle.py_check.specs.Module.{Environment, context_in, own_statements, body, body_after, sorts_behind, sorts_behind_all, global_sorts, environment, diagnostics, typed}
-use Rattle.module_laws.specs.WellTyped.{is_suite_written}
+use Rattle.module_laws.specs.WellTyped.{is_suite_written, is_filled}
 
 -- the signature of each function, what it returns and its body have a typed form
 abbrev pub are_typed : Environment → List VarSort → List Headed → Bool
@@ -72,3 +73,21 @@ statements_stand m = suite_typed m [] None None [] false false m.top && list_all
 -- where nothing is said of a module, its own statements and the bodies of its functions are well typed in its typed tree
 abbrev pub QuietModuleStands : Type 0
 QuietModuleStands = (m : Suite) → diagnostics m ≡ [] → is_module_written m ≡ true → statements_stand (typed m) ≡ true
+
+-- ---- names
+
+-- where nothing is said of a module, its variables and its functions have names that differ
+abbrev pub QuietModuleNamesDiffer : Type 0
+QuietModuleNamesDiffer = (m : Suite) → diagnostics m ≡ [] → all_differ (variables (module_scope m) ++ map (λ f. f.name) (functions m)) ≡ true
+
+-- ---- the whole
+
+-- names that a text can write, and bodies that are not empty
+abbrev pub are_names_written : (List ℕ → Bool) → Suite → Bool
+are_names_written is_identifier m =
+    list_all is_identifier (variables (module_scope m))
+    && list_all (λ f. is_identifier f.tree.name && list_all is_identifier (own_names f.inside) && is_filled f.tree.body) (headed_functions m)
+
+-- where nothing is said of a module that a text can write, its typed tree is a well typed module
+abbrev pub QuietModuleIsWellTyped : Type 0
+QuietModuleIsWellTyped = (is_identifier : List ℕ → Bool) (m : Suite) → diagnostics m ≡ [] → is_module_written m ≡ true → are_names_written is_identifier m ≡ true → is_well_typed is_identifier (typed m) ≡ true

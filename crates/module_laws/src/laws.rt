@@ -1,5 +1,5 @@
 //! The laws. The calls do nothing.
-ghost use Rattle.module_laws.specs.Modules.{QuietModuleIsTyped, QuietModuleStands, QuietModuleTypesVariables};
+ghost use Rattle.module_laws.specs.Modules.{QuietModuleIsTyped, QuietModuleIsWellTyped, QuietModuleNamesDiffer, QuietModuleStands, QuietModuleTypesVariables};
 ghost use Rattle.module_laws.specs.Statements.{QuietBlockIsTyped, TypedBlockIsWellTyped};
 
 /// Where no name in reach is without a type, a block of which nothing is said is typed whole, and no name is without a type behind it.
@@ -25,4 +25,14 @@ pub fn variables_of_a_quiet_module_have_types()
 /// In a module of which nothing is said the module's own statements and the bodies of its functions are well typed.
 pub fn statements_of_a_quiet_module_are_well_typed()
     ensures { QuietModuleStands }
+{}
+
+/// In a module of which nothing is said the variables of the module and its functions have names that differ.
+pub fn names_of_a_quiet_module_differ()
+    ensures { QuietModuleNamesDiffer }
+{}
+
+/// The typed tree of a module of which nothing is said is a well typed module.
+pub fn a_quiet_module_is_well_typed()
+    ensures { QuietModuleIsWellTyped }
 {}
