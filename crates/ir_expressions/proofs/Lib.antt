@@ -6,3 +6,7 @@ pub mod ArmLemmas
 pub mod ValueLemmas
 pub mod ChoiceLemmas
 pub mod NodeLemmas
+pub mod ChainLemmas
+pub mod WalkLemmas
+pub mod SuitLemmas
+pub mod SizeLemmas

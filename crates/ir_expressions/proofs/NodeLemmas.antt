@@ -251,31 +251,13 @@ number_tests b c q r made = record {
       (z, ap (λ y. truth_of y s) a.1 ∙ truth_of_number a.0 s, d.0, d.1, d.2, d.3);
 }
 
-bool_sort : (t : Sort) → is_bool t ≡ true → sort.Bool ≡ t
+pub bool_sort : (t : Sort) → is_bool t ≡ true → sort.Bool ≡ t
 bool_sort sort.Bool e = refl
-bool_sort sort.I64 e = let f : false ≡ true = e in absurd (cc)
-bool_sort sort.Int e = let f : false ≡ true = e in absurd (cc)
-bool_sort sort.Str e = let f : false ≡ true = e in absurd (cc)
-bool_sort sort.Nothing e = let f : false ≡ true = e in absurd (cc)
-bool_sort (sort.ListOf t) e = let f : false ≡ true = e in absurd (cc)
-bool_sort (sort.DictOf k t) e = let f : false ≡ true = e in absurd (cc)
-bool_sort (sort.TupleOf ts) e = let f : false ≡ true = e in absurd (cc)
-bool_sort (sort.Optional t) e = let f : false ≡ true = e in absurd (cc)
-bool_sort (sort.Instance k) e = let f : false ≡ true = e in absurd (cc)
-bool_sort (sort.Exc k) e = let f : false ≡ true = e in absurd (cc)
+bool_sort _ e = absurd (cc)
 
-i64_sort : (t : Sort) → is_scalar t ≡ true → is_bool t ≡ false → sort.I64 ≡ t
+pub i64_sort : (t : Sort) → is_scalar t ≡ true → is_bool t ≡ false → sort.I64 ≡ t
 i64_sort sort.I64 e ne = refl
-i64_sort sort.Bool e ne = let f : true ≡ false = ne in absurd (cc)
-i64_sort sort.Int e ne = let f : false ≡ true = e in absurd (cc)
-i64_sort sort.Str e ne = let f : false ≡ true = e in absurd (cc)
-i64_sort sort.Nothing e ne = let f : false ≡ true = e in absurd (cc)
-i64_sort (sort.ListOf t) e ne = let f : false ≡ true = e in absurd (cc)
-i64_sort (sort.DictOf k t) e ne = let f : false ≡ true = e in absurd (cc)
-i64_sort (sort.TupleOf ts) e ne = let f : false ≡ true = e in absurd (cc)
-i64_sort (sort.Optional t) e ne = let f : false ≡ true = e in absurd (cc)
-i64_sort (sort.Instance k) e ne = let f : false ≡ true = e in absurd (cc)
-i64_sort (sort.Exc k) e ne = let f : false ≡ true = e in absurd (cc)
+i64_sort _ e ne = absurd (cc)
 
 pub flag_tested : (t : Sort) (b : Building) (q : ℕ) → is_bool t ≡ true → HasType b q (rtype_of t) → TestsValue b b q q t
 flag_tested t b q e type =
