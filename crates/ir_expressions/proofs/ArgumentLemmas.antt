@@ -18,7 +18,7 @@ use Rattle.ir_frames.specs.Computing.{Shows, ShowAll, HaveTypes, ArrivesAll, Com
 use Rattle.ir_frames.proofs.HeldLemmas.{extends_refl, extends_trans, type_kept, type_below, placed_part}
 use Rattle.ir_frames.proofs.ComingLemmas.{ends_now, ends_of, on_assoc}
 use Rattle.ir_frames.proofs.MatchLemmas.{room_on, computes_then, computes_all_then}
-use Rattle.ir_expressions.specs.Suiting.{Suits, ArgumentsSuit}
+use Rattle.ir_expressions.specs.Suiting.{Suits, ArgumentsSuit, SomeSuit}
 use Rattle.ir_expressions.specs.Emitting.{means, means_all, Emits, EmitsAll}
 
 snoc_means : (x : Setting) (n : ℕ) (es : List TypedExpr) (e : TypedExpr) (s : State) → means_all x (exprs_of (es ++ e ∷ [])) n s ≡ on_to (means_all x (exprs_of es) n s) (λ vs s1. on_to (means x e n s1) (λ v s2. Gives (vs ++ v ∷ []) s2))
@@ -94,20 +94,17 @@ argument_emitted x es i e b0 b1 b2 rs rs' r lt is room q c new =
     rw (new, add-one, take-suc es i e lt, ← is, map_snoc typed_expr (take i es) e, map_snoc type_of (map typed_expr (take i es)) (typed_expr e)) (snoc_emitted x (map type_of (map typed_expr (take i es))) (map typed_expr (take i es)) (typed_expr e) b0 b1 b2 rs r room q c)
 
 module _ (m : TypedModule) (vs : List Variable) where
-  abbrev pub SomeSuit : List TypedExpr → Type 0
-  SomeSuit es = (ts : List Sort) × ArgumentsSuit m vs ts (exprs_of es)
-
-  suit_split : (e : TypedExpr) (es : List TypedExpr) → SomeSuit (e ∷ es) → Suits m vs e × SomeSuit es
+  suit_split : (e : TypedExpr) (es : List TypedExpr) → SomeSuit m vs (e ∷ es) → Suits m vs e × SomeSuit m vs es
   suit_split e es h = split h.0 h.1
     where
-      split : (ts : List Sort) → ArgumentsSuit m vs ts (exprs_of (e ∷ es)) → Suits m vs e × SomeSuit es
+      split : (ts : List Sort) → ArgumentsSuit m vs ts (exprs_of (e ∷ es)) → Suits m vs e × SomeSuit m vs es
       split [] k = absurd k
       split (t ∷ ts) k = (k.1, (ts, k.2))
 
-  pub argument_suits : (es : List TExpr) (i : ℕ) (e : TExpr) → i < length es → e ≡ get_or es i e → SomeSuit (map typed_expr (drop i es)) → Suits m vs (typed_expr e) × SomeSuit (map typed_expr (drop (i + 1) es))
+  pub argument_suits : (es : List TExpr) (i : ℕ) (e : TExpr) → i < length es → e ≡ get_or es i e → SomeSuit m vs (map typed_expr (drop i es)) → Suits m vs (typed_expr e) × SomeSuit m vs (map typed_expr (drop (i + 1) es))
   argument_suits es i e lt is h =
       let d : drop i es ≡ get_or es i e ∷ drop (i + 1) es = drop_more es i e lt in
-      let P : List TExpr → Type 0 = λ l. SomeSuit (map typed_expr l) in
+      let P : List TExpr → Type 0 = λ l. SomeSuit m vs (map typed_expr l) in
       let both = suit_split (typed_expr (get_or es i e)) (map typed_expr (drop (i + 1) es)) (subst P d h) in
       (subst (λ z. Suits m vs (typed_expr z)) (sym is) both.0, both.1)
 

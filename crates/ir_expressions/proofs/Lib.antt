@@ -3,3 +3,10 @@ pub mod BuildLemmas
 pub mod CallLemmas
 pub mod ArgumentLemmas
 pub mod ArmLemmas
+pub mod ValueLemmas
+pub mod ChoiceLemmas
+pub mod NodeLemmas
+pub mod ChainLemmas
+pub mod WalkLemmas
+pub mod SuitLemmas
+pub mod SizeLemmas

@@ -16,6 +16,7 @@ use Rattle.ir_frames.specs.Settings.{Setting, rtype_of}
 use Rattle.ir_frames.specs.Placing.{HasType, Placed}
 use Rattle.ir_frames.specs.Coming.{world, running, Ends}
 use Rattle.ir_frames.specs.Matching.{Matches, IsThrown, CallsWork}
+use Rattle.ir_expressions.specs.Suiting.{ComparisonsSuit}
 use Rattle.ir_frames.specs.Computing.{Shows, ShowsNumber, Meaning, Arrives, Computes, ComputesAll}
 
 -- what an expression means, by the bound of calls and turns
@@ -44,3 +45,7 @@ pub record EmitsChain (x : Setting) (s : Sort) (first : ℕ) (more : Comparisons
   pub extends : Extends old new
   pub type : HasType new r rtype.Bool
   pub runs : (p : Program) (fn : ℕ) (h : Option ℕ) → Placed p fn old new h → (n : ℕ) → CallsWork p x.source n → (regs : Regs) (below : List Waiting) (st : State) (v : Value) → Matches x regs st.locals → st.turns ≤ n → ShowsNumber s v (regs first) → Ends p st.turns (running fn (length old.blocks) (length old.ops) regs below (world None st)) (means_chain x s v more n st) (Arrives (Shows Bool) fn (length new.blocks) (length new.ops) below (length old.regs) regs st.locals r) (IsThrown fn h below x (length old.regs) regs)
+
+-- whatever type the operand has that the comparisons suit
+abbrev pub EmitsAnyChain : Setting → ℕ → Comparisons → Building → Building → ℕ → Type 0
+EmitsAnyChain x first more old new r = (s : Sort) → ComparisonsSuit x.source x.variables s more → EmitsChain x s first more old new r

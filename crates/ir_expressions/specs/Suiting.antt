@@ -5,7 +5,7 @@ use Rattle.value_core.specs.Arithmetic.{lies_within}
 use Rattle.py_typed.specs.Sorts as sort
 use Rattle.py_typed.specs.Sorts.{Sort}
 use Rattle.py_typed.specs.Statements.{Variable, TypedFunc, TypedModule}
-use Rattle.py_typed.specs.Expressions.{TypedExpr, typed, TypedNode, Flag, Local, Neg, Not, Truth, Arith, Compare, And, Or, Cond, Call, Coerce, TypedExprs, no_exprs, expr_then, Comparisons, no_comparisons, comparison_then, type_of}
+use Rattle.py_typed.specs.Expressions.{TypedExpr, typed, TypedNode, Flag, Local, Neg, Not, Truth, Arith, Compare, And, Or, Cond, Call, Coerce, TypedExprs, no_exprs, expr_then, Comparisons, no_comparisons, comparison_then, type_of, exprs_of}
 use Rattle.ir_frames.specs.Matching.{parameter_sorts}
 use Rattle.ir_expressions.specs.Compiled.{is_scalar, is_result, is_built, is_ordering, literal_in, is_pair}
 
@@ -51,3 +51,11 @@ module _ (m : TypedModule) (vs : List Variable) where
 
   abbrev pub Operand : TypedExpr → Type 0
   Operand e = OperandSuits (literal_in e) (type_of e) (Suits e)
+
+  -- arguments for some parameters
+  abbrev pub SomeSuit : List TypedExpr → Type 0
+  SomeSuit es = (ts : List Sort) × ArgumentsSuit ts (exprs_of es)
+
+  -- the further operands of a chain, behind one of some type
+  abbrev pub SomeChain : Comparisons → Type 0
+  SomeChain more = (s : Sort) × ComparisonsSuit s more

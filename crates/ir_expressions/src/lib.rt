@@ -12,5 +12,6 @@ mod operations;
 
 pub use choice::{Choice, begin, meet, turn};
 pub use operations::{
-    emit_arithmetic, emit_inversion, emit_negation, emit_number, literal_of, register_type, truth,
+    emit_arithmetic, emit_comparison, emit_inversion, emit_negation, emit_number, emit_test,
+    emit_truth, is_bool, literal_of, register_type, truth,
 };

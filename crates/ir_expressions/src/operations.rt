@@ -11,13 +11,13 @@ ghost use Rattle.ir_frames.specs.Shaped.{Keeps};
 ghost use Rattle.py_typed.specs.Sorts.{sort};
 ghost use Rattle.py_typed.specs.Expressions.{typed_expr};
 ghost use Rattle.ir_frames.specs.Settings.{rtype_of};
-ghost use Rattle.ir_expressions.specs.Compiled.{is_built, literal_in};
-ghost use Rattle.ir_expressions.specs.Operating.{Negates, Inverts, Numbers, Operates, primitive_of, literal_of_truth, FitsIfLiteral};
+ghost use Rattle.ir_expressions.specs.Compiled.{is_built, is_bool as is_bool_sort, is_ordering, is_scalar, literal_in};
+ghost use Rattle.ir_expressions.specs.Operating.{Negates, Inverts, Numbers, Asks, Operates, Orders, Compares, primitive_of, test_primitive, is_swapped, is_unequal, literal_of_truth, FitsIfLiteral, TestsValue};
 
 use c_core::{BoolPrim, Int64Prim, Prim};
 use ir_core::{Lit, PArg, RType, Reg};
 use ir_frames::Emitter;
-use py_syntax::BinOp;
+use py_syntax::{BinOp, CmpOp};
 use py_typed::{TExpr, TKind, Ty};
 use std::alloc::Global;
 use value_core::{Many, Memory};
@@ -144,6 +144,135 @@ pub fn emit_arithmetic(
         y,
         line,
     )
+}
+
+// The primitive that a comparison is made of.
+fn primitive_to_compare(op: CmpOp) -> Int64Prim
+    ensures { result ≡ test_primitive op }
+{
+    match op {
+        CmpOp::Lt | CmpOp::Gt => Int64Prim::Lt,
+        CmpOp::Le | CmpOp::Ge => Int64Prim::Le,
+        _ => Int64Prim::Eq,
+    }
+}
+
+// Whether that primitive takes the operands the other way round.
+fn is_turned(op: CmpOp) -> bool
+    ensures { result ≡ is_swapped op }
+{
+    match op {
+        CmpOp::Gt | CmpOp::Ge => true,
+        _ => false,
+    }
+}
+
+// Whether the comparison is the opposite of that primitive.
+fn is_opposite(op: CmpOp) -> bool
+    ensures { result ≡ is_unequal op }
+{
+    match op {
+        CmpOp::Ne => true,
+        _ => false,
+    }
+}
+
+// The primitive of a comparison.
+fn emit_ordering(
+    b: &mut Emitter,
+    alloc: Global,
+    op: CmpOp,
+    x: Reg,
+    y: Reg,
+    line: usize,
+) -> Result<Reg, Memory>
+    requires left { HasType b.old x.0 RType.I64 }
+    requires right { HasType b.old y.0 RType.I64 }
+    ensures kept { Extends b.old b.new }
+    ensures made { IfOk result (λ r. Makes b.old b.new r.0 RType.Bool (OfTwo x.0 y.0 (Compares op))) }
+    ensures shaped { Keeps b.old b.new }
+{
+    let primitive = Prim::Int64(primitive_to_compare(op));
+    if is_turned(op) {
+        emit_two(b, alloc, RType::Bool, primitive, y, x, line)
+    } else {
+        emit_two(b, alloc, RType::Bool, primitive, x, y, line)
+    }
+}
+
+/// A comparison of native integers.
+pub fn emit_comparison(
+    b: &mut Emitter,
+    alloc: Global,
+    op: CmpOp,
+    x: Reg,
+    y: Reg,
+    line: usize,
+) -> Result<Reg, Memory>
+    requires ordering { is_ordering op ≡ true }
+    requires left { HasType b.old x.0 RType.I64 }
+    requires right { HasType b.old y.0 RType.I64 }
+    ensures kept { Extends b.old b.new }
+    ensures made { IfOk result (λ r. Makes b.old b.new r.0 RType.Bool (OfTwo x.0 y.0 (Orders op))) }
+    ensures shaped { Keeps b.old b.new }
+{
+    let r = emit_ordering(b, alloc, op, x, y, line)?;
+    if is_opposite(op) {
+        emit_inversion(b, alloc, r, line)
+    } else {
+        Ok(r)
+    }
+}
+
+/// Whether a native integer is other than 0.
+pub fn emit_truth(b: &mut Emitter, alloc: Global, x: Reg, line: usize) -> Result<Reg, Memory>
+    requires { HasType b.old x.0 RType.I64 }
+    ensures kept { Extends b.old b.new }
+    ensures made { IfOk result (λ r. Makes b.old b.new r.0 RType.Bool (OfOne x.0 Asks)) }
+    ensures shaped { Keeps b.old b.new }
+{
+    let none = b.literal(RType::I64, Lit::Number(0), line)?;
+    let same = emit_two(
+        b,
+        alloc,
+        RType::Bool,
+        Prim::Int64(Int64Prim::Eq),
+        x,
+        none,
+        line,
+    )?;
+    emit_inversion(b, alloc, same, line)
+}
+
+/// Whether values of a type are bools.
+pub fn is_bool(t: &Ty) -> bool
+    ensures { result ≡ is_bool_sort (sort t.now) }
+{
+    match t {
+        Ty::Bool => true,
+        _ => false,
+    }
+}
+
+/// The truth of a value of a type: of a bool itself, of a native integer whether it is other than 0.
+pub fn emit_test(
+    b: &mut Emitter,
+    alloc: Global,
+    x: Reg,
+    t: &Ty,
+    line: usize,
+) -> Result<Reg, Memory>
+    requires scalar { is_scalar (sort t.now) ≡ true }
+    requires value { HasType b.old x.0 (rtype_of (sort t.now)) }
+    ensures kept { Extends b.old b.new }
+    ensures tests { IfOk result (λ c. TestsValue b.old b.new x.0 c.0 (sort t.now)) }
+    ensures shaped { Keeps b.old b.new }
+{
+    if is_bool(t) {
+        Ok(x)
+    } else {
+        emit_truth(b, alloc, x, line)
+    }
 }
 
 /// The literal of a bool.

@@ -1,0 +1,227 @@
+-- What operators do with numbers and bools.
+use Rattle.std.proofs.Common.{◌≡◌, refl, sym, ◌∙◌, ap, subst, ℕ, zero, suc, arith, Bool, true, false, cond, Some, None, Ok, Err}
+use Rattle.std.proofs.lemmas.Bool.Decides.{nat_tests}
+use Rattle.std.proofs.lemmas.Int.{ints, SFits-int_wrap}
+use Rattle.std.specs.Prelude.{ℤ, pos, negsuc, not, ◌&&◌, ◌||◌, if◌then◌else◌, int_lt, FitsSigned}
+use Rattle.std.specs.Int.{int_wrap, w64}
+use Rattle.std.specs.Ordering.{int_eq}
+use Rattle.value_core.specs.declared.arith.Arith.{Arith}
+use Rattle.value_core.specs.declared.arith.Arith.TheVariants.{OutOfRange}
+use Rattle.value_core.specs.Arithmetic.{lies_within, int_to_i64, i64_neg}
+use Rattle.value_core.specs.Value.{Value, IntVal, BoolVal, NoneVal}
+use Rattle.py_syntax.specs.declared.expression.BinOp.{BinOp}
+use Rattle.py_syntax.specs.declared.expression.BinOp.TheVariants as bin
+use Rattle.py_syntax.specs.declared.expression.CmpOp.{CmpOp}
+use Rattle.py_syntax.specs.declared.expression.CmpOp.TheVariants as cmp
+use Rattle.py_typed.specs.Sorts as sort
+use Rattle.py_typed.specs.Sorts.{Sort}
+use Rattle.py_typed.specs.State.{State, Outcome, Gives, Does, on_to}
+use Rattle.py_typed.specs.Operations.{fitting, coerced, with_number, of_numbers, arithmetic, negated_as, negated, is_equal, is_less, compared_as, compared, holds, truth_of}
+use Rattle.ir_core.specs.Effects.{truth_number}
+use Rattle.ir_frames.specs.Matching.{HasKind}
+use Rattle.ir_frames.specs.Computing.{Counts}
+use Rattle.ir_expressions.specs.Compiled.{is_built, is_ordering, is_pair, is_scalar}
+use Rattle.ir_expressions.specs.Operating.{operated, ordered}
+
+-- ---- range
+
+fits_within : (z : ℤ) → FitsSigned w64 z → lies_within 63 z ≡ true
+fits_within (pos n) f = grind (arith, f.sfits)
+fits_within (negsuc n) f = grind (arith, f.sfits)
+
+pub wrap_within : (z : ℤ) → lies_within 63 (int_wrap w64 z) ≡ true
+wrap_within z = fits_within (int_wrap w64 z) (SFits-int_wrap w64 z)
+
+pub number_coerced : (n : ℤ) (s : State) → lies_within 63 n ≡ true → coerced sort.I64 (IntVal n) s ≡ Gives (IntVal n) s
+number_coerced n s e = ap (λ b. fitting (cond b (Ok n) (Err OutOfRange)) s) e
+
+pub operated_within : (op : BinOp) (a b : ℤ) → is_built op ≡ true → lies_within 63 (operated op a b) ≡ true
+operated_within bin.Add a b e = wrap_within _
+operated_within bin.Sub a b e = wrap_within _
+operated_within bin.Mul a b e = wrap_within _
+operated_within bin.FloorDiv a b e = wrap_within _
+operated_within bin.Mod a b e = wrap_within _
+operated_within bin.Shl a b e = wrap_within _
+operated_within bin.Shr a b e = wrap_within _
+operated_within bin.Bar a b e = wrap_within _
+
+-- ---- numbers
+
+pub counts_coerced : (t : Sort) (v : Value) (a : ℤ) (s : State) → Counts t v a → coerced sort.I64 v s ≡ Gives (IntVal a) s
+counts_coerced sort.I64 v a s c = ap (λ z. coerced sort.I64 z s) c.0 ∙ number_coerced a s c.1
+counts_coerced sort.Int v a s c = ap (λ z. coerced sort.I64 z s) c.0 ∙ number_coerced a s c.1
+counts_coerced sort.Bool v a s c = ap (λ z. coerced sort.I64 z s) c.1 ∙ ap (λ z. Gives (IntVal z) s) (sym c.2)
+counts_coerced sort.Str v a s c = absurd c
+counts_coerced sort.Nothing v a s c = absurd c
+counts_coerced (sort.ListOf t) v a s c = absurd c
+counts_coerced (sort.DictOf k t) v a s c = absurd c
+counts_coerced (sort.TupleOf ts) v a s c = absurd c
+counts_coerced (sort.Optional t) v a s c = absurd c
+counts_coerced (sort.Instance k) v a s c = absurd c
+counts_coerced (sort.Exc k) v a s c = absurd c
+
+bool_within : (b : Bool) → lies_within 63 (if b then pos 1 else pos 0) ≡ true
+bool_within true = refl
+bool_within false = refl
+
+pub counts_within : (t : Sort) (v : Value) (a : ℤ) → Counts t v a → lies_within 63 a ≡ true
+counts_within sort.I64 v a c = c.1
+counts_within sort.Int v a c = c.1
+counts_within sort.Bool v a c = ap (lies_within 63) c.2 ∙ bool_within c.0
+counts_within sort.Str v a c = absurd c
+counts_within sort.Nothing v a c = absurd c
+counts_within (sort.ListOf t) v a c = absurd c
+counts_within (sort.DictOf k t) v a c = absurd c
+counts_within (sort.TupleOf ts) v a c = absurd c
+counts_within (sort.Optional t) v a c = absurd c
+counts_within (sort.Instance k) v a c = absurd c
+counts_within (sort.Exc k) v a c = absurd c
+
+pub kind_counts : (v : Value) (k : HasKind sort.I64 v) → Counts sort.I64 v k.0
+kind_counts v k = (k.1, k.2)
+
+-- ---- operators
+
+pub negated_is : (a : ℤ) (s : State) → lies_within 63 a ≡ true → negated sort.I64 (IntVal a) s ≡ Gives (IntVal (i64_neg a)) s
+negated_is a s e = ap (λ o. on_to o (λ z. with_number z (negated_as sort.I64))) (number_coerced a s e)
+
+operation_is : (op : BinOp) (a b : ℤ) (s : State) → is_built op ≡ true → of_numbers sort.I64 op a b s ≡ Gives (IntVal (operated op a b)) s
+operation_is bin.Add a b s e = refl
+operation_is bin.Sub a b s e = refl
+operation_is bin.Mul a b s e = refl
+operation_is bin.FloorDiv a b s e = let f : false ≡ true = e in absurd (cc)
+operation_is bin.Mod a b s e = let f : false ≡ true = e in absurd (cc)
+operation_is bin.Shl a b s e = let f : false ≡ true = e in absurd (cc)
+operation_is bin.Shr a b s e = let f : false ≡ true = e in absurd (cc)
+operation_is bin.Bar a b s e = let f : false ≡ true = e in absurd (cc)
+
+pub arithmetic_is : (op : BinOp) (t u : Sort) (x y : Value) (a b : ℤ) (s : State) → is_built op ≡ true → Counts t x a → Counts u y b → arithmetic sort.I64 op x y s ≡ Gives (IntVal (operated op a b)) s
+arithmetic_is op t u x y a b s built c d =
+    ap (λ o. on_to o (λ m s1. on_to (coerced sort.I64 y s1) (λ n. with_number m (λ i. with_number n (λ j. of_numbers sort.I64 op i j))))) (counts_coerced t x a s c)
+    ∙ ap (λ o. on_to o (λ n. with_number n (λ j. of_numbers sort.I64 op a j))) (counts_coerced u y b s d)
+    ∙ operation_is op a b s built
+
+-- ---- comparisons
+
+same_number : (a b : ℤ) → (not (int_lt a b) && not (int_lt b a)) ≡ int_eq a b
+same_number (pos a) (pos b) = grind (arith, nat_tests)
+same_number (pos a) (negsuc b) = refl
+same_number (negsuc a) (pos b) = refl
+same_number (negsuc a) (negsuc b) = grind (arith, nat_tests)
+
+abbrev test_of : CmpOp → Value → Value → Bool
+test_of cmp.Eq a b = is_equal a b
+test_of cmp.Ne a b = not (is_equal a b)
+test_of cmp.Lt a b = is_less a b
+test_of cmp.Le a b = not (is_less b a)
+test_of cmp.Gt a b = is_less b a
+test_of cmp.Ge a b = not (is_less a b)
+test_of _ a b = false
+
+tested_numbers : (op : CmpOp) (a b : ℤ) → test_of op (IntVal a) (IntVal b) ≡ ordered op a b
+tested_numbers cmp.Eq a b = same_number a b
+tested_numbers cmp.Ne a b = ap not (same_number a b)
+tested_numbers cmp.Lt a b = refl
+tested_numbers cmp.Le a b = refl
+tested_numbers cmp.Gt a b = refl
+tested_numbers cmp.Ge a b = refl
+tested_numbers cmp.Is a b = refl
+tested_numbers cmp.IsNot a b = refl
+tested_numbers cmp.Member a b = refl
+tested_numbers cmp.NotMember a b = refl
+
+equal_bools : (x y : Bool) → is_equal (BoolVal x) (BoolVal y) ≡ int_eq (if x then pos 1 else pos 0) (if y then pos 1 else pos 0)
+equal_bools true true = refl
+equal_bools true false = refl
+equal_bools false true = refl
+equal_bools false false = refl
+
+less_bools : (x y : Bool) → is_less (BoolVal x) (BoolVal y) ≡ int_lt (if x then pos 1 else pos 0) (if y then pos 1 else pos 0)
+less_bools true true = refl
+less_bools true false = refl
+less_bools false true = refl
+less_bools false false = refl
+
+tested_bools : (op : CmpOp) (x y : Bool) → test_of op (BoolVal x) (BoolVal y) ≡ ordered op (if x then pos 1 else pos 0) (if y then pos 1 else pos 0)
+tested_bools cmp.Eq x y = equal_bools x y
+tested_bools cmp.Ne x y = ap not (equal_bools x y)
+tested_bools cmp.Lt x y = less_bools x y
+tested_bools cmp.Le x y = ap not (less_bools y x)
+tested_bools cmp.Gt x y = less_bools y x
+tested_bools cmp.Ge x y = ap not (less_bools x y)
+tested_bools cmp.Is x y = refl
+tested_bools cmp.IsNot x y = refl
+tested_bools cmp.Member x y = refl
+tested_bools cmp.NotMember x y = refl
+
+holds_is : (op : CmpOp) (s t : Sort) (x y : Value) (st : State) → is_ordering op ≡ true → holds op s t x y st ≡ compared (test_of op) s t x y st
+holds_is cmp.Eq s t x y st e = refl
+holds_is cmp.Ne s t x y st e = refl
+holds_is cmp.Lt s t x y st e = refl
+holds_is cmp.Le s t x y st e = refl
+holds_is cmp.Gt s t x y st e = refl
+holds_is cmp.Ge s t x y st e = refl
+holds_is cmp.Is s t x y st e = let f : false ≡ true = e in absurd (cc)
+holds_is cmp.IsNot s t x y st e = let f : false ≡ true = e in absurd (cc)
+holds_is cmp.Member s t x y st e = let f : false ≡ true = e in absurd (cc)
+holds_is cmp.NotMember s t x y st e = let f : false ≡ true = e in absurd (cc)
+
+-- as native integers
+as_numbers : (op : CmpOp) (s t : Sort) (x y : Value) (a b : ℤ) (st : State) → compared_as s t ≡ sort.I64 → Counts s x a → Counts t y b → compared (test_of op) s t x y st ≡ Gives (ordered op a b) st
+as_numbers op s t x y a b st is c d =
+    ap (λ u. on_to (coerced u x st) (λ m s1. on_to (coerced u y s1) (λ n. Rattle.py_typed.specs.State.needs (Rattle.py_typed.specs.Operations.are_alike m n) (Rattle.py_typed.specs.State.give (test_of op m n))))) is
+    ∙ ap (λ o. on_to o (λ m s1. on_to (coerced sort.I64 y s1) (λ n. Rattle.py_typed.specs.State.needs (Rattle.py_typed.specs.Operations.are_alike m n) (Rattle.py_typed.specs.State.give (test_of op m n))))) (counts_coerced s x a st c)
+    ∙ ap (λ o. on_to o (λ n. Rattle.py_typed.specs.State.needs (Rattle.py_typed.specs.Operations.are_alike (IntVal a) n) (Rattle.py_typed.specs.State.give (test_of op (IntVal a) n)))) (counts_coerced t y b st d)
+    ∙ ap (λ z. Gives z st) (tested_numbers op a b)
+
+as_bools : (op : CmpOp) (x y : Value) (a b : ℤ) (st : State) → Counts sort.Bool x a → Counts sort.Bool y b → compared (test_of op) sort.Bool sort.Bool x y st ≡ Gives (ordered op a b) st
+as_bools op x y a b st c d =
+    ap (λ z. compared (test_of op) sort.Bool sort.Bool z y st) c.1
+    ∙ ap (λ z. compared (test_of op) sort.Bool sort.Bool (BoolVal c.0) z st) d.1
+    ∙ ap (λ z. Gives z st) (tested_bools op c.0 d.0 ∙ ap (λ z. ordered op z (if d.0 then pos 1 else pos 0)) (sym c.2) ∙ ap (ordered op a) (sym d.2))
+
+pub pair_compared : (op : CmpOp) (s t : Sort) (x y : Value) (a b : ℤ) (st : State) → is_pair s t ≡ true → Counts s x a → Counts t y b → compared (test_of op) s t x y st ≡ Gives (ordered op a b) st
+pair_compared op sort.I64 t x y a b st e c d = as_numbers op sort.I64 t x y a b st refl c d
+pair_compared op sort.Int sort.I64 x y a b st e c d = as_numbers op sort.Int sort.I64 x y a b st refl c d
+pair_compared op sort.Int sort.Int x y a b st e c d = let f : false ≡ true = e in absurd (cc)
+pair_compared op sort.Int sort.Bool x y a b st e c d = let f : false ≡ true = e in absurd (cc)
+pair_compared op sort.Int sort.Str x y a b st e c d = absurd d
+pair_compared op sort.Int sort.Nothing x y a b st e c d = absurd d
+pair_compared op sort.Int (sort.ListOf t) x y a b st e c d = absurd d
+pair_compared op sort.Int (sort.DictOf k t) x y a b st e c d = absurd d
+pair_compared op sort.Int (sort.TupleOf t) x y a b st e c d = absurd d
+pair_compared op sort.Int (sort.Optional t) x y a b st e c d = absurd d
+pair_compared op sort.Int (sort.Instance t) x y a b st e c d = absurd d
+pair_compared op sort.Int (sort.Exc t) x y a b st e c d = absurd d
+pair_compared op sort.Bool sort.I64 x y a b st e c d = as_numbers op sort.Bool sort.I64 x y a b st refl c d
+pair_compared op sort.Bool sort.Int x y a b st e c d = let f : false ≡ true = e in absurd (cc)
+pair_compared op sort.Bool sort.Bool x y a b st e c d = as_bools op x y a b st c d
+pair_compared op sort.Bool sort.Str x y a b st e c d = absurd d
+pair_compared op sort.Bool sort.Nothing x y a b st e c d = absurd d
+pair_compared op sort.Bool (sort.ListOf t) x y a b st e c d = absurd d
+pair_compared op sort.Bool (sort.DictOf k t) x y a b st e c d = absurd d
+pair_compared op sort.Bool (sort.TupleOf t) x y a b st e c d = absurd d
+pair_compared op sort.Bool (sort.Optional t) x y a b st e c d = absurd d
+pair_compared op sort.Bool (sort.Instance t) x y a b st e c d = absurd d
+pair_compared op sort.Bool (sort.Exc t) x y a b st e c d = absurd d
+pair_compared op sort.Str t x y a b st e c d = absurd c
+pair_compared op sort.Nothing t x y a b st e c d = absurd c
+pair_compared op (sort.ListOf u) t x y a b st e c d = absurd c
+pair_compared op (sort.DictOf k u) t x y a b st e c d = absurd c
+pair_compared op (sort.TupleOf u) t x y a b st e c d = absurd c
+pair_compared op (sort.Optional u) t x y a b st e c d = absurd c
+pair_compared op (sort.Instance u) t x y a b st e c d = absurd c
+pair_compared op (sort.Exc u) t x y a b st e c d = absurd c
+
+pub pair_holds : (op : CmpOp) (s t : Sort) (x y : Value) (a b : ℤ) (st : State) → is_ordering op ≡ true → is_pair s t ≡ true → Counts s x a → Counts t y b → holds op s t x y st ≡ Gives (ordered op a b) st
+pair_holds op s t x y a b st ordering pair c d = holds_is op s t x y st ordering ∙ pair_compared op s t x y a b st pair c d
+
+-- ---- truth
+
+above_zero : (n : ℕ) → int_eq (pos (suc n)) (pos 0) ≡ false
+above_zero n = grind (arith, nat_tests)
+
+pub truth_of_number : (a : ℤ) (s : State) → truth_of (IntVal a) s ≡ Gives (not (int_eq a (pos 0))) s
+truth_of_number (pos zero) s = refl
+truth_of_number (pos (suc n)) s = ap (λ b. Gives (not b) s) (sym (above_zero n))
+truth_of_number (negsuc n) s = refl

@@ -1,0 +1,269 @@
+-- The code of a declared expression of each kind, and what its parts need.
+use Rattle.std.proofs.Common.{◌≡◌, refl, sym, ◌∙◌, ap, subst, ℕ, suc, ◌+◌, ◌<◌, ◌≤◌, arith, Bool, true, false, List, [], ◌∷◌, length, map, Option, Some, None}
+use Rattle.std.specs.Prelude.{ℤ, slice_get}
+use Rattle.std.specs.declared.boxed.Box.{Box}
+use Rattle.std.specs.declared.alloc.Global.{Global}
+use Rattle.value_core.specs.Arithmetic.{lies_within}
+use Rattle.py_syntax.specs.declared.token.Span.{Span}
+use Rattle.py_syntax.specs.declared.expression.BinOp.{BinOp}
+use Rattle.py_syntax.specs.declared.expression.CmpOp.{CmpOp}
+use Rattle.py_typed.specs.declared.expression.TExpr.{TExpr}
+use Rattle.py_typed.specs.declared.expression.TKind as kind
+use Rattle.py_typed.specs.Sorts as sort
+use Rattle.py_typed.specs.Sorts.{Sort, sort as sort_of}
+use Rattle.py_typed.specs.Expressions as tree
+use Rattle.py_typed.specs.Expressions.{TypedExpr, typed, type_of, typed_expr, exprs_of, comparisons_of, typed_comparison}
+use Rattle.py_typed.specs.Statements.{TypedModule, Variable}
+use Rattle.py_typed.proofs.ExpressionLemmas.{type_at}
+use Rattle.ir_core.specs.declared.code.RType.TheVariants as rtype
+use Rattle.ir_core.specs.declared.code.RType.{RType}
+use Rattle.ir_core.specs.declared.code.Reg.{Reg}
+use Rattle.ir_core.specs.declared.code.Lit.TheVariants.{Number}
+use Rattle.ir_core.specs.declared.code.Op.TheVariants.{Lit, Call as CallOp}
+use Rattle.ir_core.specs.declared.code.Last.TheVariants.{Unreachable}
+use Rattle.ir_core.specs.Items.{End}
+use Rattle.ir_core.specs.Rows.{Declared, type_of_reg}
+use Rattle.ir_core.specs.Building.{Building, held, Extends}
+use Rattle.ir_frames.specs.Settings.{Setting, rtype_of}
+use Rattle.ir_frames.specs.Placing.{HasType}
+use Rattle.ir_frames.specs.Calling.{Adds, Open}
+use Rattle.ir_frames.specs.Matching.{HasRoom, parameter_sorts}
+use Rattle.ir_frames.specs.Computing.{Makes, OfOne, OfTwo, HaveTypes}
+use Rattle.ir_frames.specs.Shaped.{AllBelow}
+use Rattle.ir_frames.proofs.HeldLemmas.{get_below, type_below}
+use Rattle.ir_expressions.specs.Compiled.{is_scalar, is_bool, is_built, is_ordering, literal_in}
+use Rattle.ir_expressions.specs.Suiting.{Suits, OperandSuits, Operand, ArgumentsSuit, ComparisonsSuit, SomeSuit, SomeChain}
+use Rattle.ir_expressions.specs.Operating.{Negates, Inverts, Numbers, Asks, Operates, Orders, TestsValue, FitsIfLiteral, literal_of_truth}
+use Rattle.ir_expressions.specs.Emitting.{Emits, EmitsNumber, EmitsAll, EmitsChain, EmitsAnyChain}
+use Rattle.ir_expressions.specs.Choices.{Opens, Brings, Meets}
+use Rattle.ir_expressions.proofs.ArmLemmas.{Is, asked, emits_as, is_bool as is_flag, is_local, is_neg, is_not, is_truth, is_arith, is_compare, is_and, is_or, is_cond, is_call, is_coerce}
+use Rattle.ir_expressions.proofs.NodeLemmas.{flag_emits, literal_emits, local_emits, neg_emits, not_emits, truth_emits, arith_emits, i64_number, bool_number, coerce_emits, and_emits, or_emits, cond_emits, bool_sort, i64_sort}
+use Rattle.ir_expressions.proofs.ChainLemmas.{chain_done, chain_one, chain_more, compare_emits}
+use Rattle.ir_expressions.proofs.CallLemmas.{call_emits}
+use Rattle.ir_expressions.proofs.ArgumentLemmas.{suit_types}
+
+abbrev Part : Type 0
+Part = Box TExpr Global
+
+-- a register that is not that of a bool, of a type that is known
+emits_type : (x : Setting) (e : TypedExpr) (t : Sort) (b c : Building) (r : ℕ) → type_of e ≡ t → Emits x e b c r → HasType c r (rtype_of t)
+emits_type x e t b c r is q = subst (λ z. HasType c r (rtype_of z)) is q.type
+
+module _ (x : Setting) (e : TExpr) (suits : Suits x.source x.variables (typed_expr e)) where
+  -- ---- what has no parts
+
+  pub flag_walked : (value : Bool) (b c : Building) (r : ℕ) → e.kind ≡ kind.Bool value → Adds b c r rtype.Bool (Lit record { 0 = r } (literal_of_truth value)) → Emits x (typed_expr e) b c r
+  flag_walked value b c r is a = emits_as x e (tree.Flag value) sort.Bool b c r (is_flag e value is) (asked x.source x.variables e (tree.Flag value) (is_flag e value is) suits) (flag_emits x value e.span b c r a)
+
+  pub local_walked : (i : ℕ) (b : Building) → e.kind ≡ kind.Local i → length x.variables ≤ x.frame.locals.params → HasRoom x b → Emits x (typed_expr e) b b i
+  local_walked i b is params room =
+      let n = asked x.source x.variables e (tree.Local i) (is_local e i is) suits in
+      let low = get_below x.variables i n.1 n.2 in
+      emits_as x e (tree.Local i) (sort_of e.ty) b b i (is_local e i is) refl (local_emits x i n.1 (sort_of e.ty) e.span b n.2 n.3 (omega arith) room)
+
+  -- ---- operators
+
+  module _ (a : Part) (b0 b1 b2 : Building) (q r : ℕ) where
+    pub neg_type : e.kind ≡ kind.Neg a → Emits x (typed_expr a.value) b0 b1 q → HasType b1 q rtype.I64
+    neg_type is c = emits_type x (typed_expr a.value) sort.I64 b0 b1 q (asked x.source x.variables e (tree.Neg (typed_expr a.value)) (is_neg e a is) suits).1 c
+
+    pub neg_walked : e.kind ≡ kind.Neg a → HasRoom x b0 → Emits x (typed_expr a.value) b0 b1 q → Makes b1 b2 r rtype.I64 (OfOne q Negates) → Emits x (typed_expr e) b0 b2 r
+    neg_walked is room c made =
+        let n = asked x.source x.variables e (tree.Neg (typed_expr a.value)) (is_neg e a is) suits in
+        emits_as x e (tree.Neg (typed_expr a.value)) sort.I64 b0 b2 r (is_neg e a is) n.0 (neg_emits x (typed_expr a.value) e.span b0 b1 b2 q r n.1 room c made)
+
+    pub not_type : e.kind ≡ kind.Not a → Emits x (typed_expr a.value) b0 b1 q → HasType b1 q rtype.Bool
+    not_type is c = emits_type x (typed_expr a.value) sort.Bool b0 b1 q (asked x.source x.variables e (tree.Not (typed_expr a.value)) (is_not e a is) suits).1 c
+
+    pub not_walked : e.kind ≡ kind.Not a → HasRoom x b0 → Emits x (typed_expr a.value) b0 b1 q → Makes b1 b2 r rtype.Bool (OfOne q Inverts) → Emits x (typed_expr e) b0 b2 r
+    not_walked is room c made =
+        let n = asked x.source x.variables e (tree.Not (typed_expr a.value)) (is_not e a is) suits in
+        emits_as x e (tree.Not (typed_expr a.value)) sort.Bool b0 b2 r (is_not e a is) n.0 (not_emits x (typed_expr a.value) e.span b0 b1 b2 q r n.1 room c made)
+
+    pub truth_type : e.kind ≡ kind.Truth a → Emits x (typed_expr a.value) b0 b1 q → HasType b1 q rtype.I64
+    truth_type is c = emits_type x (typed_expr a.value) sort.I64 b0 b1 q (asked x.source x.variables e (tree.Truth (typed_expr a.value)) (is_truth e a is) suits).1 c
+
+    pub truth_walked : e.kind ≡ kind.Truth a → HasRoom x b0 → Emits x (typed_expr a.value) b0 b1 q → Makes b1 b2 r rtype.Bool (OfOne q Asks) → Emits x (typed_expr e) b0 b2 r
+    truth_walked is room c made =
+        let n = asked x.source x.variables e (tree.Truth (typed_expr a.value)) (is_truth e a is) suits in
+        emits_as x e (tree.Truth (typed_expr a.value)) sort.Bool b0 b2 r (is_truth e a is) n.0 (truth_emits x (typed_expr a.value) e.span b0 b1 b2 q r n.1 room c made)
+
+  pub coerce_walked : (a : Part) (b c : Building) (r : ℕ) → e.kind ≡ kind.Coerce a → EmitsNumber x (typed_expr a.value) b c r → Emits x (typed_expr e) b c r
+  coerce_walked a b c r is q =
+      let n = asked x.source x.variables e (tree.Coerce (typed_expr a.value)) (is_coerce e a is) suits in
+      emits_as x e (tree.Coerce (typed_expr a.value)) sort.I64 b c r (is_coerce e a is) n.0 (coerce_emits x (typed_expr a.value) e.span b c r q)
+
+  pub arith_built : (op : BinOp) (a b : Part) → e.kind ≡ kind.Arith op a b → is_built op ≡ true
+  arith_built op a b is = (asked x.source x.variables e (tree.Arith op (typed_expr a.value) (typed_expr b.value)) (is_arith e op a b is) suits).1
+
+  pub arith_walked : (op : BinOp) (a b : Part) (b0 b1 b2 b3 : Building) (q q' r : ℕ) → e.kind ≡ kind.Arith op a b → HasRoom x b0 → EmitsNumber x (typed_expr a.value) b0 b1 q → EmitsNumber x (typed_expr b.value) b1 b2 q' → Makes b2 b3 r rtype.I64 (OfTwo q q' (Operates op)) → Emits x (typed_expr e) b0 b3 r
+  arith_walked op a b b0 b1 b2 b3 q q' r is room c d made =
+      let n = asked x.source x.variables e (tree.Arith op (typed_expr a.value) (typed_expr b.value)) (is_arith e op a b is) suits in
+      emits_as x e (tree.Arith op (typed_expr a.value) (typed_expr b.value)) sort.I64 b0 b3 r (is_arith e op a b is) n.0 (arith_emits x op (typed_expr a.value) (typed_expr b.value) e.span b0 b1 b2 b3 q q' r n.1 room c d made)
+
+  -- ---- comparisons
+
+  pub compare_rest : (a : Part) (cs : List (CmpOp × TExpr)) → e.kind ≡ kind.Compare a cs → SomeChain x.source x.variables (comparisons_of (map typed_comparison cs))
+  compare_rest a cs is =
+      let n = asked x.source x.variables e (tree.Compare (typed_expr a.value) (comparisons_of (map typed_comparison cs))) (is_compare e a cs is) suits in
+      (type_of (typed_expr a.value), n.2)
+
+  pub compare_walked : (a : Part) (cs : List (CmpOp × TExpr)) (b0 b1 b2 : Building) (q r : ℕ) → e.kind ≡ kind.Compare a cs → HasRoom x b0 → EmitsNumber x (typed_expr a.value) b0 b1 q → EmitsAnyChain x q (comparisons_of (map typed_comparison cs)) b1 b2 r → Emits x (typed_expr e) b0 b2 r
+  compare_walked a cs b0 b1 b2 q r is room c chain =
+      let n = asked x.source x.variables e (tree.Compare (typed_expr a.value) (comparisons_of (map typed_comparison cs))) (is_compare e a cs is) suits in
+      emits_as x e (tree.Compare (typed_expr a.value) (comparisons_of (map typed_comparison cs))) sort.Bool b0 b2 r (is_compare e a cs is) n.0 (compare_emits x (typed_expr a.value) (comparisons_of (map typed_comparison cs)) e.span b0 b1 b2 q r room c (chain (type_of (typed_expr a.value)) n.2))
+
+  -- ---- choices
+
+  module _ (a b : Part) where
+    pub and_scalar : e.kind ≡ kind.And a b → is_scalar (sort_of a.value.ty) ≡ true
+    and_scalar is =
+        let n = asked x.source x.variables e (tree.And (typed_expr a.value) (typed_expr b.value)) (is_and e a b is) suits in
+        subst (λ t. is_scalar t ≡ true) (sym n.1 ∙ type_at a.value) n.0
+
+    pub and_same : e.kind ≡ kind.And a b → sort_of b.value.ty ≡ sort_of a.value.ty
+    and_same is =
+        let n = asked x.source x.variables e (tree.And (typed_expr a.value) (typed_expr b.value)) (is_and e a b is) suits in
+        sym (type_at b.value) ∙ n.2 ∙ sym n.1 ∙ type_at a.value
+
+    pub and_walked : (b0 b1 : Building) (r : ℕ) → e.kind ≡ kind.And a b → Emits x (typed (tree.And (typed_expr a.value) (typed_expr b.value)) (sort_of a.value.ty) a.value.span) b0 b1 r → Emits x (typed_expr e) b0 b1 r
+    and_walked b0 b1 r is c =
+        let n = asked x.source x.variables e (tree.And (typed_expr a.value) (typed_expr b.value)) (is_and e a b is) suits in
+        emits_as x e (tree.And (typed_expr a.value) (typed_expr b.value)) (sort_of a.value.ty) b0 b1 r (is_and e a b is) (sym n.1 ∙ type_at a.value) c
+
+    pub or_scalar : e.kind ≡ kind.Or a b → is_scalar (sort_of a.value.ty) ≡ true
+    or_scalar is =
+        let n = asked x.source x.variables e (tree.Or (typed_expr a.value) (typed_expr b.value)) (is_or e a b is) suits in
+        subst (λ t. is_scalar t ≡ true) (sym n.1 ∙ type_at a.value) n.0
+
+    pub or_same : e.kind ≡ kind.Or a b → sort_of b.value.ty ≡ sort_of a.value.ty
+    or_same is =
+        let n = asked x.source x.variables e (tree.Or (typed_expr a.value) (typed_expr b.value)) (is_or e a b is) suits in
+        sym (type_at b.value) ∙ n.2 ∙ sym n.1 ∙ type_at a.value
+
+    pub or_walked : (b0 b1 : Building) (r : ℕ) → e.kind ≡ kind.Or a b → Emits x (typed (tree.Or (typed_expr a.value) (typed_expr b.value)) (sort_of a.value.ty) a.value.span) b0 b1 r → Emits x (typed_expr e) b0 b1 r
+    or_walked b0 b1 r is c =
+        let n = asked x.source x.variables e (tree.Or (typed_expr a.value) (typed_expr b.value)) (is_or e a b is) suits in
+        emits_as x e (tree.Or (typed_expr a.value) (typed_expr b.value)) (sort_of a.value.ty) b0 b1 r (is_or e a b is) (sym n.1 ∙ type_at a.value) c
+
+  module _ (a test b : Part) where
+    pub cond_same : e.kind ≡ kind.Cond a test b → sort_of b.value.ty ≡ sort_of a.value.ty
+    cond_same is =
+        let n = asked x.source x.variables e (tree.Cond (typed_expr a.value) (typed_expr test.value) (typed_expr b.value)) (is_cond e a test b is) suits in
+        sym (type_at b.value) ∙ n.3 ∙ sym n.1 ∙ type_at a.value
+
+    pub cond_flag : e.kind ≡ kind.Cond a test b → sort_of test.value.ty ≡ sort.Bool
+    cond_flag is =
+        let n = asked x.source x.variables e (tree.Cond (typed_expr a.value) (typed_expr test.value) (typed_expr b.value)) (is_cond e a test b is) suits in
+        sym (type_at test.value) ∙ n.2
+
+    pub cond_walked : (b0 b1 : Building) (r : ℕ) → e.kind ≡ kind.Cond a test b → Emits x (typed (tree.Cond (typed_expr a.value) (typed_expr test.value) (typed_expr b.value)) (sort_of a.value.ty) a.value.span) b0 b1 r → Emits x (typed_expr e) b0 b1 r
+    cond_walked b0 b1 r is c =
+        let n = asked x.source x.variables e (tree.Cond (typed_expr a.value) (typed_expr test.value) (typed_expr b.value)) (is_cond e a test b is) suits in
+        emits_as x e (tree.Cond (typed_expr a.value) (typed_expr test.value) (typed_expr b.value)) (sort_of a.value.ty) b0 b1 r (is_cond e a test b is) (sym n.1 ∙ type_at a.value) c
+
+  -- ---- calls
+
+  pub call_suits : (f : ℕ) (es : List TExpr) → e.kind ≡ kind.Call f es → SomeSuit x.source x.variables (map typed_expr es)
+  call_suits f es is =
+      let n = asked x.source x.variables e (tree.Call f (exprs_of (map typed_expr es))) (is_call e f es is) suits in
+      (parameter_sorts n.1, n.4)
+
+  pub call_walked : (f : ℕ) (es : List TExpr) (b0 b1 b2 : Building) (rs : List Reg) (r : ℕ) (t : RType) → e.kind ≡ kind.Call f es → t ≡ rtype_of (sort_of e.ty) → HasRoom x b0 → EmitsAll x (map type_of (map typed_expr es)) (exprs_of (map typed_expr es)) b0 b1 rs → Adds b1 b2 r t (CallOp record { 0 = r } f rs) → Emits x (typed_expr e) b0 b2 r
+  call_walked f es b0 b1 b2 rs r t is at room q a =
+      let n = asked x.source x.variables e (tree.Call f (exprs_of (map typed_expr es))) (is_call e f es is) suits in
+      let ts = suit_types x.source x.variables (parameter_sorts n.1) (map typed_expr es) n.4 in
+      let result : t ≡ rtype_of n.1.ret = at ∙ ap rtype_of (sym n.3) in
+      let all : EmitsAll x (parameter_sorts n.1) (exprs_of (map typed_expr es)) b0 b1 rs = subst (λ z. EmitsAll x z (exprs_of (map typed_expr es)) b0 b1 rs) (sym ts) q in
+      let adds : Adds b1 b2 r (rtype_of n.1.ret) (CallOp record { 0 = r } f rs) = subst (λ z. Adds b1 b2 r z (CallOp record { 0 = r } f rs)) result a in
+      emits_as x e (tree.Call f (exprs_of (map typed_expr es))) n.1.ret b0 b2 r (is_call e f es is) (sym n.3) (call_emits x f n.1 (exprs_of (map typed_expr es)) e.span b0 b1 b2 rs r n.2 room all adds)
+
+pub types_below : (b : Building) (ts : List Sort) (rs : List Reg) → HaveTypes b.regs ts rs → AllBelow (length b.regs) rs
+types_below b [] [] h = tt
+types_below b [] (r ∷ rs) h = absurd h
+types_below b (t ∷ ts) [] h = absurd h
+types_below b (t ∷ ts) (r ∷ rs) h = (type_below b r.0 (rtype_of t) h.0, types_below b ts rs h.1)
+
+-- ---- the two parts of a choice, where they are declared
+
+module _ (x : Setting) (left right : TExpr) (same : sort_of right.ty ≡ sort_of left.ty) where
+  pub and_made : (t : RType) (b0 b1 b2 b3 b4 b5 b8 : Building) (q condition target test first end second r : ℕ) → t ≡ rtype_of (sort_of left.ty) → HasRoom x b0 → Emits x (typed_expr left) b0 b1 q → TestsValue b1 b2 q condition (sort_of left.ty) → Opens b2 b3 target test first t → Emits x (typed_expr right) b3 b4 r → Brings b4 b5 target r end → second ≡ length b5.blocks → Meets b5 b8 target q condition test first end second → Emits x (typed (tree.And (typed_expr left) (typed_expr right)) (sort_of left.ty) left.span) b0 b8 target
+  and_made t b0 b1 b2 b3 b4 b5 b8 q condition target test first end second r is room ca tests opens cb brings here meets =
+      and_emits x (typed_expr left) (typed_expr right) (sort_of left.ty) left.span b0 b1 b2 b3 b4 b5 b8 q condition target test first end second r (type_at left) (type_at right ∙ same) room ca tests (subst (λ z. Opens b2 b3 target test first z) is opens) cb brings here meets
+
+  pub or_made : (t : RType) (b0 b1 b2 b3 b5 b7 b8 : Building) (q condition target test first end second r : ℕ) → t ≡ rtype_of (sort_of left.ty) → HasRoom x b0 → Emits x (typed_expr left) b0 b1 q → TestsValue b1 b2 q condition (sort_of left.ty) → Opens b2 b3 target test first t → Brings b3 b5 target q end → second ≡ length b5.blocks → Emits x (typed_expr right) b5 b7 r → Meets b7 b8 target r condition test first end second → Emits x (typed (tree.Or (typed_expr left) (typed_expr right)) (sort_of left.ty) left.span) b0 b8 target
+  or_made t b0 b1 b2 b3 b5 b7 b8 q condition target test first end second r is room ca tests opens brings here cb meets =
+      or_emits x (typed_expr left) (typed_expr right) (sort_of left.ty) left.span b0 b1 b2 b3 b5 b7 b8 q condition target test first end second r (type_at left) (type_at right ∙ same) room ca tests (subst (λ z. Opens b2 b3 target test first z) is opens) brings here cb meets
+
+  pub choice_made : (test : TExpr) (t : RType) (b0 b1 b3 b4 b5 b7 b8 : Building) (q target at first end second ra rb : ℕ) → sort_of test.ty ≡ sort.Bool → t ≡ rtype_of (sort_of left.ty) → HasRoom x b0 → Emits x (typed_expr test) b0 b1 q → Opens b1 b3 target at first t → Emits x (typed_expr left) b3 b4 ra → Brings b4 b5 target ra end → second ≡ length b5.blocks → Emits x (typed_expr right) b5 b7 rb → Meets b7 b8 target rb q at first end second → Emits x (typed (tree.Cond (typed_expr left) (typed_expr test) (typed_expr right)) (sort_of left.ty) left.span) b0 b8 target
+  choice_made test t b0 b1 b3 b4 b5 b7 b8 q target at first end second ra rb flag is room ct opens ca brings here cb meets =
+      cond_emits x (typed_expr left) (typed_expr test) (typed_expr right) (sort_of left.ty) left.span b0 b1 b3 b4 b5 b7 b8 q target at first end second ra rb (type_at left) (type_at test ∙ flag) (type_at right ∙ same) room ct (subst (λ z. Opens b1 b3 target at first z) is opens) ca brings here cb meets
+
+-- the blocks whose ends are still to be written
+pub test_open : (b c d : Building) (target test first : ℕ) (t : RType) → Opens b c target test first t → Extends c d → Open d test
+test_open b c d target test first t opens x = record { place = length b.ops; is = x.items test (length b.ops) (End Unreachable) (ap (λ k. held c k (length b.ops)) opens.test_is ∙ opens.hole) }
+
+pub end_open : (b c d : Building) (target r end : ℕ) → Brings b c target r end → Extends c d → Open d end
+end_open b c d target r end brings x = record { place = length b.ops + 1; is = x.items end (length b.ops + 1) (End Unreachable) (ap (λ k. held c k (length b.ops + 1)) brings.end_is ∙ brings.hole) }
+
+-- ---- operands
+
+fits_by : (o : Option ℤ) (t : Sort) (P : Type 0) → OperandSuits o t P → FitsIfLiteral o
+fits_by None t P h = tt
+fits_by (Some n) t P h = h.1
+
+pub operand_fits : (m : TypedModule) (vs : List Variable) (e : TypedExpr) → Operand m vs e → FitsIfLiteral (literal_in e)
+operand_fits m vs e h = fits_by (literal_in e) (type_of e) (Suits m vs e) h
+
+pub operand_part : (m : TypedModule) (vs : List Variable) (e : TypedExpr) → literal_in e ≡ None → Operand m vs e → (is_scalar (type_of e) ≡ true) × Suits m vs e
+operand_part m vs e is h = subst (λ o. OperandSuits o (type_of e) (Suits m vs e)) is h
+
+pub operand_scalar : (m : TypedModule) (vs : List Variable) (e : TExpr) → literal_in (typed_expr e) ≡ None → Operand m vs (typed_expr e) → is_scalar (sort_of e.ty) ≡ true
+operand_scalar m vs e is h = subst (λ t. is_scalar t ≡ true) (type_at e) (operand_part m vs (typed_expr e) is h).0
+
+pub flag_type : (x : Setting) (e : TExpr) (b c : Building) (r : ℕ) → is_bool (sort_of e.ty) ≡ true → Emits x (typed_expr e) b c r → HasType c r rtype.Bool
+flag_type x e b c r is q = emits_type x (typed_expr e) sort.Bool b c r (type_at e ∙ sym (bool_sort (sort_of e.ty) is)) q
+
+pub flag_number : (x : Setting) (e : TExpr) (b0 b1 b2 : Building) (q r : ℕ) → is_bool (sort_of e.ty) ≡ true → HasRoom x b0 → Emits x (typed_expr e) b0 b1 q → Makes b1 b2 r rtype.I64 (OfOne q Numbers) → EmitsNumber x (typed_expr e) b0 b2 r
+flag_number x e b0 b1 b2 q r is room c made = bool_number x (typed_expr e) b0 b1 b2 q r (type_at e ∙ sym (bool_sort (sort_of e.ty) is)) room c made
+
+pub own_number : (x : Setting) (e : TExpr) (b c : Building) (r : ℕ) → is_scalar (sort_of e.ty) ≡ true → is_bool (sort_of e.ty) ≡ false → Emits x (typed_expr e) b c r → EmitsNumber x (typed_expr e) b c r
+own_number x e b c r scalar is q = i64_number x (typed_expr e) b c r (type_at e ∙ sym (i64_sort (sort_of e.ty) scalar is)) q
+
+-- a literal is a number as it stands in the text
+literal_is : (k : tree.TypedNode) (t : Sort) (place : Span) (n : ℤ) → literal_in (typed k t place) ≡ Some n → typed (tree.Int n) t place ≡ typed k t place
+literal_is (tree.Int m) t place n e = let f : Some m ≡ Some n = e in ap (λ z. typed (tree.Int z) t place) (cc (sym f))
+literal_is _ t place n e = absurd (cc)
+
+pub literal_walked : (x : Setting) (e : TypedExpr) (n : ℤ) (b c : Building) (r : ℕ) → literal_in e ≡ Some n → Operand x.source x.variables e → Adds b c r rtype.I64 (Lit record { 0 = r } (Number n)) → EmitsNumber x e b c r
+literal_walked x (typed k t place) n b c r is h a =
+    let same = literal_is k t place n is in
+    let l : OperandSuits (Some n) t (Suits x.source x.variables (typed k t place)) = subst (λ o. OperandSuits o t (Suits x.source x.variables (typed k t place))) is h in
+    let P : TypedExpr → Type 0 = λ y. EmitsNumber x y b c r in
+    let Q : Sort → Type 0 = λ u. EmitsNumber x (typed (tree.Int n) u place) b c r in
+    subst P same (subst Q (sym l.0) (literal_emits x n place b c r l.1 a))
+
+-- ---- chains
+
+module _ (x : Setting) (first : ℕ) (rest : List (CmpOp × TExpr)) where
+  abbrev AnyOf : Building → Building → ℕ → List (CmpOp × TExpr) → Type 0
+  AnyOf b c r cs = EmitsAnyChain x first (comparisons_of (map typed_comparison cs)) b c r
+
+  pub any_done : (b c : Building) (r : ℕ) → rest ≡ [] → Adds b c r rtype.Bool (Lit record { 0 = r } (literal_of_truth true)) → EmitsAnyChain x first (comparisons_of (map typed_comparison rest)) b c r
+  any_done b c r is a = let P : List (CmpOp × TExpr) → Type 0 = AnyOf b c r in subst P (sym is) (λ s suits. chain_done x s first b c r a)
+
+  pub chain_part : (op : CmpOp) (e : TExpr) (more : List (CmpOp × TExpr)) → rest ≡ (op, e) ∷ more → SomeChain x.source x.variables (comparisons_of (map typed_comparison rest)) → (is_ordering op ≡ true) × Operand x.source x.variables (typed_expr e) × SomeChain x.source x.variables (comparisons_of (map typed_comparison more))
+  chain_part op e more is h =
+      let P : List (CmpOp × TExpr) → Type 0 = λ cs. SomeChain x.source x.variables (comparisons_of (map typed_comparison cs)) in
+      let k = subst P is h in
+      (k.1.0, k.1.2, (type_of (typed_expr e), k.1.3))
+
+  pub any_one : (op : CmpOp) (e : TExpr) (b0 b1 b2 : Building) (q r : ℕ) → rest ≡ (op, e) ∷ [] → HasRoom x b0 → HasType b0 first rtype.I64 → EmitsNumber x (typed_expr e) b0 b1 q → Makes b1 b2 r rtype.Bool (OfTwo first q (Orders op)) → EmitsAnyChain x first (comparisons_of (map typed_comparison rest)) b0 b2 r
+  any_one op e b0 b1 b2 q r is room type c made =
+      let P : List (CmpOp × TExpr) → Type 0 = AnyOf b0 b2 r in
+      subst P (sym is) (λ s suits. chain_one x s first op (typed_expr e) b0 b1 b2 q r suits.0 suits.1 room type c made)
+
+  pub any_more : (op : CmpOp) (e : TExpr) (more : List (CmpOp × TExpr)) (b0 b1 b2 b3 b4 b5 b8 : Building) (q c target test start end second r : ℕ) → rest ≡ (op, e) ∷ more → HasRoom x b0 → HasType b0 first rtype.I64 → EmitsNumber x (typed_expr e) b0 b1 q → Makes b1 b2 c rtype.Bool (OfTwo first q (Orders op)) → Opens b2 b3 target test start rtype.Bool → EmitsAnyChain x q (comparisons_of (map typed_comparison more)) b3 b4 r → Brings b4 b5 target r end → second ≡ length b5.blocks → Meets b5 b8 target c c test start end second → EmitsAnyChain x first (comparisons_of (map typed_comparison rest)) b0 b8 target
+  any_more op e more b0 b1 b2 b3 b4 b5 b8 q c target test start end second r is room type ce made opens chain brings here meets =
+      let P : List (CmpOp × TExpr) → Type 0 = AnyOf b0 b8 target in
+      subst P (sym is) (λ s suits. chain_more x s first op (typed_expr e) (comparisons_of (map typed_comparison more)) b0 b1 b2 b3 b4 b5 b8 q c target test start end second r suits.0 suits.1 room type ce made opens (chain (type_of (typed_expr e)) suits.3) brings here meets)
