@@ -216,6 +216,15 @@ def g(x: int | None, t: tuple[int, int]) -> int:
     ),
     (
         "def f(x: int | None) -> int:
+    x = 'a'
+    return x + 1
+",
+        &[
+            r#"2: error: Incompatible types in assignment (expression has type "str", variable has type "Optional[int]")  [assignment]"#,
+        ],
+    ),
+    (
+        "def f(x: int | None) -> int:
     if x is not None and y:
         return x + 1
     return x + 'a' + y
