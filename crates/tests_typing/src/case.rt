@@ -1,28 +1,26 @@
-//! A module with what is said of it, and the commands that must say it.
+//! Modules with what is said of them, and the commands that must say it.
+//!
+//! A table of modules is one text, with an empty line between two of them. A module's lines are followed by what is said
+//! of it, a line for each diagnostic, in order: `=> `, and what stands behind the name of the file. Where nothing is said,
+//! it is a module without faults. A line that begins with `-- ` is a title.
 use mypyc_top::{mypyc, status_number};
 use outside_core::{CalmSource, MemFiles, MemSink};
 use std::alloc::{AllocError, Global};
 use std::fmt::Debug;
 use std::process::Abort;
 
-/// The diagnostics in order, each from the number of its line on: with its text and its code.
-pub(crate) type Said = &'static [&'static str];
-
-/// A module, and all that is said of it.
-pub(crate) type Case = (&'static str, Said);
-
 /// Ends the test where a case does not hold, and says which one it is.
 fn check<C: Debug>(rt: &impl Abort, case: &C, holds: bool) {
     assert!(rt; holds, "{case:?}");
 }
 
-/// The whole output: the lines of the diagnostics, and the line that counts them.
-fn output(alloc: Global, said: Said) -> Result<String, AllocError> {
+/// The whole output where these diagnostics are said, one in a line.
+fn output(alloc: Global, said: &str) -> Result<String, AllocError> {
     let mut text = String::new(alloc);
-    for diagnostic in said {
+    for diagnostic in said.lines() {
         write!(text, "t.py:{diagnostic}\n")?;
     }
-    match said.len() {
+    match said.lines().count() {
         0 => text.push_str("Success: no issues found in 1 source file\n")?,
         1 => text.push_str("Found 1 error in 1 file (checked 1 source file)\n")?,
         count => write!(
@@ -85,7 +83,7 @@ pub(crate) fn check_said(
     rt: &impl Abort,
     alloc: Global,
     module: &str,
-    said: Said,
+    said: &str,
 ) -> Result<(), AllocError> {
     let wanted = output(alloc, said)?;
     let number = if said.is_empty() { 0 } else { 1 };
@@ -96,10 +94,24 @@ pub(crate) fn check_said(
     Ok(())
 }
 
+/// Checks a module of a table.
+fn check_case(rt: &impl Abort, alloc: Global, case: &str) -> Result<(), AllocError> {
+    let mut module = String::new(alloc);
+    let mut said = String::new(alloc);
+    for line in case.lines() {
+        if let Some(diagnostic) = line.strip_prefix("=> ") {
+            write!(said, "{diagnostic}\n")?;
+        } else if !line.starts_with("-- ") {
+            write!(module, "{line}\n")?;
+        }
+    }
+    check_said(rt, alloc, module.as_str(), said.as_str())
+}
+
 /// Checks a table.
-pub(crate) fn check_all(rt: &impl Abort, alloc: Global, cases: &[Case]) -> Result<(), AllocError> {
-    for (module, said) in cases {
-        check_said(rt, alloc, module, said)?;
+pub(crate) fn check_all(rt: &impl Abort, alloc: Global, table: &str) -> Result<(), AllocError> {
+    for case in table.split("\n\n") {
+        check_case(rt, alloc, case)?;
     }
     Ok(())
 }
