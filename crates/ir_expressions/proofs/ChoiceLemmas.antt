@@ -46,10 +46,11 @@ module _ (p : Program) (fn : ℕ) (below : List Waiting) (K : Showing) (set : Is
       let first = move_step Strict p (record { fn = fn; block = length b.blocks; place = length b.ops; regs = a.now }) below (world None s) (record { 0 = target }) (record { 0 = r }) t t move to_type from_type (not_refused t (a.now r) (set v (a.now r) a.shows)) in
       let second = goto_step Strict p (record { fn = fn; block = length b.blocks; place = length b.ops + 1; regs = now }) below (world None s) (length c.blocks) jump in
       let is : running fn (length c.blocks) 0 now below (world None s) ≡ running fn (length c.blocks) (length c.ops) now below (world None s) = ap (λ i. running fn (length c.blocks) i now below (world None s)) (sym ops) in
-      let start : Leads p d (running fn (length b.blocks) (length b.ops) a.now below (world None s)) = record { count = 0; is = a.is } in
-      (running fn (length c.blocks) (length c.ops) now below (world None s),
-      leads_trans p _ _ _ start (leads_trans p _ _ _ (leads_step p _ _ first) (leads_step p _ _ (second ∙ is))),
-      record { now = now; is = refl; shows = subst (K v) (sym (put_same a.now target (a.now r))) a.shows; kept = λ j lt. put_other a.now target j (a.now r) (λ e. omega arith) ∙ a.kept j lt; locals = a.locals })
+      let start : Leads p d (running fn (length b.blocks) (length b.ops) a.now below (world None s)) = record { count = 0; is = a.is } in (
+        running fn (length c.blocks) (length c.ops) now below (world None s),
+        leads_trans p _ _ _ start (leads_trans p _ _ _ (leads_step p _ _ first) (leads_step p _ _ (second ∙ is))),
+        record { now = now; is = refl; shows = subst (K v) (sym (put_same a.now target (a.now r))) a.shows; kept = λ j lt. put_other a.now target j (a.now r) (λ e. omega arith) ∙ a.kept j lt; locals = a.locals },
+      )
 
   -- the place where the test stands, the arms, and where they meet
   pub choice_ends : (hv : Bool) (b1 b2 b3 b5 b6 c : Building) (condition first second ra rb target : ℕ) (f g : Does Value) (now : Regs) (s : State) (E : Value → State → Config → Type 0) → item_at p fn (length b1.blocks) (length b1.ops) ≡ Some (End (If record { 0 = condition } first second)) → type_of_reg (registers_of p fn) (record { 0 = condition }) ≡ Some BoolType → now condition ≡ Holds (BoolVal hv) → first ≡ length b2.blocks → length b2.ops ≡ 0 → second ≡ length b5.blocks → length b5.ops ≡ 0 → length c.ops ≡ 0 → type_of_reg (registers_of p fn) (record { 0 = target }) ≡ Some t → keep ≤ target → type_of_reg (registers_of p fn) (record { 0 = ra }) ≡ Some t → item_at p fn (length b3.blocks) (length b3.ops) ≡ Some (Do (Move record { 0 = target } record { 0 = ra })) → item_at p fn (length b3.blocks) (length b3.ops + 1) ≡ Some (End (Goto (length c.blocks))) → type_of_reg (registers_of p fn) (record { 0 = rb }) ≡ Some t → item_at p fn (length b6.blocks) (length b6.ops) ≡ Some (Do (Move record { 0 = target } record { 0 = rb })) → item_at p fn (length b6.blocks) (length b6.ops + 1) ≡ Some (End (Goto (length c.blocks))) → (hv ≡ true → Ends p s.turns (running fn (length b2.blocks) (length b2.ops) now below (world None s)) (f s) (Arrives K fn (length b3.blocks) (length b3.ops) below keep old ls ra) E) → (hv ≡ false → Ends p s.turns (running fn (length b5.blocks) (length b5.ops) now below (world None s)) (g s) (Arrives K fn (length b6.blocks) (length b6.ops) below keep old ls rb) E) → Ends p s.turns (running fn (length b1.blocks) (length b1.ops) now below (world None s)) ((if hv then f else g) s) (Arrives K fn (length c.blocks) (length c.ops) below keep old ls target) E

@@ -9,4 +9,3 @@ pub mod NodeLemmas
 pub mod ChainLemmas
 pub mod WalkLemmas
 pub mod SuitLemmas
-pub mod SizeLemmas

@@ -3,8 +3,9 @@
 //! `specs/Compiled.antt` says which expressions are to be compiled, those of native integers and bools and calls that give
 //! None, `specs/Suiting.antt` what is asked of one that is built, and `specs/Emitting.antt` what its code does. The calls
 //! here add the operations on registers (`specs/Operating.antt`) and the choices between two values (`specs/Choices.antt`)
-//! that it is made of; nothing goes over a tree yet. For that, `proofs/CallLemmas.antt` and `proofs/ArgumentLemmas.antt`
-//! have that the code of a call does what the call does.
+//! that it is made of; nothing goes over a tree yet. For that, `proofs/WalkLemmas.antt` has for each kind of expression that
+//! its code does what it means where that of its parts does, and `proofs/SuitLemmas.antt` that what is well typed and
+//! compiled suits.
 #![tactic(auto)]
 
 mod choice;

@@ -255,13 +255,7 @@ pub fn is_bool(t: &Ty) -> bool
 }
 
 /// The truth of a value of a type: of a bool itself, of a native integer whether it is other than 0.
-pub fn emit_test(
-    b: &mut Emitter,
-    alloc: Global,
-    x: Reg,
-    t: &Ty,
-    line: usize,
-) -> Result<Reg, Memory>
+pub fn emit_test(b: &mut Emitter, alloc: Global, x: Reg, t: &Ty, line: usize) -> Result<Reg, Memory>
     requires scalar { is_scalar (sort t.now) ≡ true }
     requires value { HasType b.old x.0 (rtype_of (sort t.now)) }
     ensures kept { Extends b.old b.new }
