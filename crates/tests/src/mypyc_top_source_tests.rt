@@ -206,7 +206,7 @@ const NOT_COMPILED: &[(&[u8], usize)] = &[
     (b"if True: print(3)", 1),
     (b"def f() -> None: pass", 1),
     (b"print(1)\n\ndef f() -> int:\n    return 3\n\nx = f()\n", 3),
-    (b"print(1)\nx = f()\ndef f() -> int:\n    return 3\n", 3),
+    (b"print(1)\nx = f()\ndef f() -> int:\n    return 3\n", 2),
     (b"print(1)\n\nprint(2); 3\nprint()\n", 3),
     (b"print(1)\nprint(\n-1)\n", 2),
     (b"print(1)\\\n; 3\n", 2),

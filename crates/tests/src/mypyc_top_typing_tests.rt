@@ -26,7 +26,7 @@ const SINGLE: &[(&[u8], usize, &str)] = &[
     (b"print(\nx)", 2, UNKNOWN),
     (b"print((3,))", 1, NO_TUPLE),
     (b"print(end=3)", 1, NO_KEYS),
-    (b"print(3, end=x)", 1, NO_KEYS),
+    (b"print(3, end='')", 1, NO_KEYS),
     (
         b"Print(3)",
         1,
