@@ -1,5 +1,7 @@
 //! The builder of a function.
-ghost use Rattle.std.specs.Prelude.{◌≡◌, ◌<◌, ◌≤◌, [], ◌∷◌, ◌++◌, length, OnOk, OnErr, IfOk};
+ghost use Rattle.std.specs.Prelude.{◌≡◌, ◌<◌, ◌≤◌, [], ◌∷◌, ◌++◌, length, take, OnOk, OnErr, IfOk};
+ghost use Rattle.std.specs.List.{list_any};
+ghost use Rattle.std.specs.Str.{bytes_eq};
 ghost use Rattle.ir_core.specs.Building.{with_last, is_unwritten, is_open_at};
 
 use crate::code::{Block, Func, Last, Op, RType, Reg};
@@ -41,6 +43,19 @@ impl Builder {
         }
     }
 
+    /// A function of a name, with these registers and without blocks. It takes no memory.
+    pub fn with_registers(alloc: Global, name: Name, regs: Many<(Name, RType)>) -> Builder
+        ensures { result ≡ record { name = name; regs = regs; blocks = []; ops = [] } }
+    {
+        Builder {
+            alloc,
+            name,
+            regs: regs.into_vec(),
+            blocks: Vec::new(alloc),
+            ops: Vec::new(alloc),
+        }
+    }
+
     /// One more register, behind the others.
     pub fn add_reg(&mut self, name: Name, t: RType) -> Result<Reg, Memory>
         ensures number { IfOk result (λ r. r.0 ≡ length self.old.regs) }
@@ -50,6 +65,16 @@ impl Builder {
         let number = self.regs.len();
         self.regs.push((name, t))?;
         Ok(Reg(number))
+    }
+
+    /// Whether one of the first `count` registers has a name.
+    pub fn is_taken(&self, name: &Name, count: usize) -> bool
+        requires { count ≤ length self.now.regs }
+        ensures { result ≡ list_any (λ d. bytes_eq name.now d.0) (take count self.now.regs) }
+    {
+        self.regs[..count]
+            .iter()
+            .any(|register| name.as_str() == register.0.as_str())
     }
 
     /// One more operation of the block that is being filled, with its source line.

@@ -5,3 +5,5 @@ pub mod Coming
 pub mod Matching
 pub mod Computing
 pub mod Shaped
+pub mod Kinds
+pub mod Naming

@@ -58,10 +58,12 @@ BackBelow (Some r) top n = (top ≤ r.0) × (r.0 < n)
 -- the builder has the registers of a frame
 pub record HasRoom (x : Setting) (b : Building) : Type 0 where
   pub count : x.frame.locals.count ≡ length x.variables
-  pub flags : x.frame.locals.count + (x.frame.locals.count - x.frame.locals.params) ≤ x.frame.locals.top
+  pub flags : x.frame.locals.count + (x.frame.locals.count - x.frame.locals.params) ≤ x.frame.locals.text
+  pub text : x.frame.locals.text < x.frame.locals.top
   pub top : x.frame.locals.top ≤ length b.regs
   pub declared : (j : ℕ) (v : Variable) → slice_get x.variables j ≡ Some v → HasType b j (rtype_of v.1)
   pub flagged : (j : ℕ) → x.frame.locals.count ≤ j → j < x.frame.locals.count + (x.frame.locals.count - x.frame.locals.params) → HasType b j rtype.Bool
+  pub printed : HasType b x.frame.locals.text rtype.Ref
   pub back : BackBelow x.frame.ret x.frame.locals.top (length b.regs)
 
 -- ---- what stays

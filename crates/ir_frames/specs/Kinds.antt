@@ -1,0 +1,155 @@
+-- When what a builder holds fits the registers of its function: each operation and each end has registers of the types that it asks
+-- for, and the only references are printed texts, which are made in a register of their own, written and given up directly.
+use Rattle.std.specs.Prelude.{◌≡◌, ◌≢◌, ◌≤◌, ◌<◌, ℕ, Bool, true, false, List, [], ◌∷◌, ◌++◌, length, map, Option, Some, None, is_some, slice_get, codes, decimal}
+use Rattle.std.specs.Str.{is_utf8}
+use Rattle.value_core.specs.Arithmetic.{lies_within}
+use Rattle.c_core.specs.declared.code.Kind.{Kind}
+use Rattle.c_core.specs.declared.code.Kind.TheVariants.{Object}
+use Rattle.c_core.specs.declared.primitive.Primitive.{Primitive}
+use Rattle.c_core.specs.declared.primitive.Primitive.TheVariants as prim
+use Rattle.c_core.specs.declared.primitive.IoPrim.TheVariants as io
+use Rattle.c_core.specs.Primitives.{Is, Anything, Parameter, Borrows, TakesText, Owned, row_of}
+use Rattle.py_typed.specs.Statements.{TypedFunc, TypedModule}
+use Rattle.ir_core.specs.declared.code.RType.{RType}
+use Rattle.ir_core.specs.declared.code.RType.TheVariants as rtype
+use Rattle.ir_core.specs.declared.code.Lit.{Lit as Literal}
+use Rattle.ir_core.specs.declared.code.Lit.TheVariants.{Number}
+use Rattle.ir_core.specs.declared.code.Reg.{Reg}
+use Rattle.ir_core.specs.declared.code.PArg.{PArg}
+use Rattle.ir_core.specs.declared.code.PArg.TheVariants as arg
+use Rattle.ir_core.specs.declared.code.Op.{Op}
+use Rattle.ir_core.specs.declared.code.Op.TheVariants.{Move, Lit, Prim, Call, Virtual, TraitCall, Turn, Inc, Dec, XDec}
+use Rattle.ir_core.specs.declared.code.Last.{Last}
+use Rattle.ir_core.specs.declared.code.Last.TheVariants.{Goto, If, IfError, Return, Unreachable}
+use Rattle.ir_core.specs.declared.code.Block.{Block}
+use Rattle.ir_core.specs.Lower.{kind_of_type}
+use Rattle.ir_core.specs.Registers.{literal_of}
+use Rattle.ir_core.specs.Rows.{Declared, type_of_reg}
+use Rattle.ir_core.specs.Building.{Building}
+use Rattle.ir_frames.specs.Settings.{rtype_of}
+use Rattle.ir_frames.specs.Matching.{parameter_sorts}
+use Rattle.ir_frames.specs.Placing.{HasType}
+
+-- the name of a register that no variable has, by its number among these
+abbrev pub temporary_name : ℕ → List ℕ
+temporary_name k = codes "r" ++ decimal k
+
+-- what a function takes and gives
+pub record Head : Type 0 where
+  pub params : List RType
+  pub ret : RType
+
+-- what a function is built among: the functions that it may call, by their numbers; how many of its registers are variables; its
+-- register for printed texts; and the type of its result
+pub record Surrounding : Type 0 where
+  pub heads : List Head
+  pub variables : ℕ
+  pub text : ℕ
+  pub ret : RType
+
+-- values of the type are no references
+abbrev pub is_plain : RType → Bool
+is_plain rtype.I64 = true
+is_plain rtype.Bool = true
+is_plain _ = false
+
+abbrev pub ArePlain : List RType → Type 0
+ArePlain [] = Unit {0}
+ArePlain (t ∷ ts) = (is_plain t ≡ true) × ArePlain ts
+
+-- ---- operations
+
+module _ (regs : Declared) where
+  abbrev pub IsOf : Reg → RType → Type 0
+  IsOf r t = type_of_reg regs r ≡ Some t
+
+  -- arguments for the parameters of a primitive: registers without references, and texts
+  abbrev pub AreArguments : List Parameter → List PArg → Type 0
+  AreArguments [] [] = Unit {0}
+  AreArguments (Borrows (Is k) Anything ∷ ps) (arg.Var r ∷ rest) =
+      (t : RType) × IsOf r t × (is_plain t ≡ true) × (kind_of_type t ≡ k) × AreArguments ps rest
+  AreArguments (TakesText ∷ ps) (arg.Text text ∷ rest) = (is_utf8 text ≡ true) × AreArguments ps rest
+  AreArguments ps args = ⊥
+
+  -- registers with arguments of these types
+  abbrev pub Take : List RType → List Reg → Type 0
+  Take [] [] = Unit {0}
+  Take (t ∷ ts) (r ∷ rs) = IsOf r t × (is_plain t ≡ true) × Take ts rs
+  Take ts rs = ⊥
+
+  -- a primitive that makes a text of arguments
+  abbrev pub MakesText : Primitive → List PArg → Type 0
+  MakesText q args = ((row_of q).outcome ≡ Owned (Is Object)) × AreArguments (row_of q).parameters args
+
+-- what a primitive answers of arguments is no reference, and of a type
+abbrev pub Answers : RType → Declared → Primitive → List PArg → Type 0
+Answers t regs q args =
+    (is_plain t ≡ true) × ((row_of q).outcome ≡ Owned (Is (kind_of_type t))) × AreArguments regs (row_of q).parameters args
+
+-- a function that may be called takes registers and gives a result of a type
+abbrev pub Calls : Surrounding → RType → Declared → ℕ → List Reg → Type 0
+Calls g t regs n args = (h : Head) × (slice_get g.heads n ≡ Some h) × (h.ret ≡ t) × Take regs h.params args
+
+-- a literal is one of a type, and in the range of an `i64`
+abbrev pub LiteralFits : RType → Literal → Type 0
+LiteralFits t (Number n) = (is_some (literal_of t (Number n)) ≡ true) × (lies_within 63 n ≡ true)
+LiteralFits t l = is_some (literal_of t l) ≡ true
+
+module _ (g : Surrounding) (regs : Declared) where
+  -- an operation that neither makes nor needs a text
+  abbrev pub OpKinds : Op → Type 0
+  OpKinds (Move r s) = (t : RType) × (is_plain t ≡ true) × IsOf regs r t × IsOf regs s t
+  OpKinds (Lit r l) = (t : RType) × IsOf regs r t × LiteralFits t l × (r.0 ≢ g.text)
+  OpKinds (Prim None q args) = ⊥
+  OpKinds (Prim (Some r) q args) =
+      (t : RType) × IsOf regs r t × Answers t regs q args
+  OpKinds (Call r n args) = (t : RType) × IsOf regs r t × (r.0 ≢ g.text) × Calls g t regs n args
+  OpKinds (Virtual r o n args) = ⊥
+  OpKinds (TraitCall r o t n args) = ⊥
+  OpKinds Turn = Unit {0}
+  OpKinds (Inc r) = ⊥
+  OpKinds (Dec r) = ⊥
+  OpKinds (XDec r) = ⊥
+
+  -- operations in a row, with their source lines. A text is made, written and given up
+  pub data OpsKinds : List (Op × ℕ) → Type 0 where
+    no_more : OpsKinds []
+    other_then : (o : Op) (line : ℕ) (os : List (Op × ℕ)) → OpKinds o → OpsKinds os → OpsKinds ((o, line) ∷ os)
+    text_then : (q : Primitive) (args : List PArg) (i j k : ℕ) (os : List (Op × ℕ)) → MakesText regs q args → OpsKinds os → OpsKinds ((Prim (Some record { 0 = g.text }) q args, i) ∷ (Prim None (prim.Io io.Write) (arg.Var record { 0 = g.text } ∷ []), j) ∷ (Dec record { 0 = g.text }, k) ∷ os)
+
+  abbrev pub LastKinds : Last → Type 0
+  LastKinds (Goto t) = Unit {0}
+  LastKinds (If r a b) = IsOf regs r rtype.Bool
+  LastKinds (IfError r a b line) = (t : RType) × IsOf regs r t × (is_plain t ≡ true)
+  LastKinds (Return r) = IsOf regs r g.ret × (r.0 ≢ g.text)
+  LastKinds Unreachable = Unit {0}
+
+  abbrev pub BlocksKinds : List Block → Type 0
+  BlocksKinds [] = Unit {0}
+  BlocksKinds (b ∷ bs) = OpsKinds b.ops × LastKinds b.last × BlocksKinds bs
+
+-- what a builder holds fits its registers; those that no variable has are temporary ones
+pub record HasKinds (g : Surrounding) (b : Building) : Type 0 where
+  pub text : HasType b g.text rtype.Ref
+  pub variables : g.variables ≤ length b.regs
+  pub named : (i : ℕ) (d : List ℕ × RType) → g.variables ≤ i → slice_get b.regs i ≡ Some d → (k : ℕ) × (d.0 ≡ temporary_name k)
+  pub blocks : BlocksKinds g b.regs b.blocks
+  pub ops : OpsKinds g b.regs b.ops
+
+-- ---- what keeps it
+
+abbrev pub KeepsKinds : Building → Building → Type 0
+KeepsKinds b c = (g : Surrounding) → HasKinds g b → HasKinds g c
+
+-- where this holds of what the function is built among
+abbrev pub KeepsKindsIf : (Surrounding → Type 0) → Building → Building → Type 0
+KeepsKindsIf P b c = (g : Surrounding) → P g → HasKinds g b → HasKinds g c
+
+-- the head of a function
+abbrev pub head_of : TypedFunc → Head
+head_of f = record { params = map rtype_of (parameter_sorts f); ret = rtype_of f.ret }
+
+-- the functions of a module have their heads, and their parameters are no references
+pub record IsAmong (m : TypedModule) (g : Surrounding) : Type 0 where
+  pub heads : (n : ℕ) (f : TypedFunc) → slice_get m.funcs n ≡ Some f → slice_get g.heads n ≡ Some (head_of f)
+  pub plain : (n : ℕ) (h : Head) → slice_get g.heads n ≡ Some h → ArePlain h.params
