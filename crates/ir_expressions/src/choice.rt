@@ -3,6 +3,7 @@ ghost use Rattle.std.specs.Prelude.{◌≡◌, ◌<◌, ◌≤◌, length, IfOk,
 ghost use Rattle.ir_core.specs.Building.{Extends};
 ghost use Rattle.ir_frames.specs.Calling.{Open};
 ghost use Rattle.ir_frames.specs.Shaped.{Keeps};
+ghost use Rattle.ir_frames.specs.Kinds.{IsOf, AreAlike, KeepsKinds, KeepsKindsIf};
 ghost use Rattle.ir_expressions.specs.Choices.{Opens, Brings, Meets};
 
 use ir_core::{Last, Op, RType, Reg};
@@ -23,6 +24,7 @@ pub fn begin(b: &mut Emitter, t: RType) -> Result<Choice, Memory>
     ensures kept { Extends b.old b.new }
     ensures opens { IfOk result (λ c. Opens b.old b.new c.target.0 c.test c.first t) }
     ensures shaped { Keeps b.old b.new }
+    ensures kinds { KeepsKinds b.old b.new }
 {
     let target = b.temporary(t)?;
     let test = b.close(Last::Unreachable)?;
@@ -39,6 +41,7 @@ pub fn turn(b: &mut Emitter, choice: Choice, r: Reg, line: usize) -> Result<usiz
     ensures kept { Extends b.old b.new }
     ensures brings { IfOk result (λ k. Brings b.old b.new choice.target.0 r.0 k) }
     ensures shaped { Keeps b.old b.new }
+    ensures kinds { KeepsKindsIf (λ g. AreAlike b.old.regs choice.target r) b.old b.new }
 {
     b.push(Op::Move(choice.target, r), line)?;
     b.close(Last::Unreachable)
@@ -64,6 +67,7 @@ pub fn meet(
     ensures kept { OnErr result (Extends b.old b.new) }
     ensures meets { OnOk result (Meets b.old b.new choice.target.0 r.0 condition.0 choice.test choice.first end second) }
     ensures shaped { Keeps b.old b.new }
+    ensures kinds { KeepsKindsIf (λ g. AreAlike b.old.regs choice.target r × IsOf b.old.regs condition RType.Bool) b.old b.new }
 {
     b.push(Op::Move(choice.target, r), line)?;
     let join = b.step_on()?;

@@ -8,6 +8,7 @@ ghost use Rattle.ir_frames.specs.Calling.{Adds};
 ghost use Rattle.ir_frames.specs.Computing.{Makes, OfOne, OfTwo};
 ghost use Rattle.ir_frames.specs.Placing.{HasType};
 ghost use Rattle.ir_frames.specs.Shaped.{Keeps};
+ghost use Rattle.ir_frames.specs.Kinds.{Answers, KeepsKinds, KeepsKindsIf};
 ghost use Rattle.py_typed.specs.Sorts.{sort};
 ghost use Rattle.py_typed.specs.Expressions.{typed_expr};
 ghost use Rattle.ir_frames.specs.Settings.{rtype_of};
@@ -36,6 +37,7 @@ fn emit_one(
     ensures kept { Extends b.old b.new }
     ensures added { IfOk result (λ r. Adds b.old b.new r.0 t (Op.Prim (Some r) primitive (PArg.Var x ∷ []))) }
     ensures shaped { Keeps b.old b.new }
+    ensures kinds { KeepsKindsIf (λ g. Answers t b.old.regs primitive (PArg.Var x ∷ [])) b.old b.new }
 {
     let mut args = Many::new(alloc);
     args.push(PArg::Var(x))?;
@@ -58,6 +60,7 @@ fn emit_two(
     ensures kept { Extends b.old b.new }
     ensures added { IfOk result (λ r. Adds b.old b.new r.0 t (Op.Prim (Some r) primitive (PArg.Var x ∷ PArg.Var y ∷ []))) }
     ensures shaped { Keeps b.old b.new }
+    ensures kinds { KeepsKindsIf (λ g. Answers t b.old.regs primitive (PArg.Var x ∷ PArg.Var y ∷ [])) b.old b.new }
 {
     let mut args = Many::new(alloc);
     args.push(PArg::Var(x))?;
@@ -71,6 +74,7 @@ pub fn emit_negation(b: &mut Emitter, alloc: Global, x: Reg, line: usize) -> Res
     ensures kept { Extends b.old b.new }
     ensures made { IfOk result (λ r. Makes b.old b.new r.0 RType.I64 (OfOne x.0 Negates)) }
     ensures shaped { Keeps b.old b.new }
+    ensures kinds { KeepsKinds b.old b.new }
 {
     emit_one(
         b,
@@ -88,6 +92,7 @@ pub fn emit_inversion(b: &mut Emitter, alloc: Global, x: Reg, line: usize) -> Re
     ensures kept { Extends b.old b.new }
     ensures made { IfOk result (λ r. Makes b.old b.new r.0 RType.Bool (OfOne x.0 Inverts)) }
     ensures shaped { Keeps b.old b.new }
+    ensures kinds { KeepsKinds b.old b.new }
 {
     emit_one(b, alloc, RType::Bool, Prim::Bool(BoolPrim::Not), x, line)
 }
@@ -98,6 +103,7 @@ pub fn emit_number(b: &mut Emitter, alloc: Global, x: Reg, line: usize) -> Resul
     ensures kept { Extends b.old b.new }
     ensures made { IfOk result (λ r. Makes b.old b.new r.0 RType.I64 (OfOne x.0 Numbers)) }
     ensures shaped { Keeps b.old b.new }
+    ensures kinds { KeepsKinds b.old b.new }
 {
     emit_one(
         b,
@@ -134,6 +140,7 @@ pub fn emit_arithmetic(
     ensures kept { Extends b.old b.new }
     ensures made { IfOk result (λ r. Makes b.old b.new r.0 RType.I64 (OfTwo x.0 y.0 (Operates op))) }
     ensures shaped { Keeps b.old b.new }
+    ensures kinds { KeepsKinds b.old b.new }
 {
     emit_two(
         b,
@@ -191,6 +198,7 @@ fn emit_ordering(
     ensures kept { Extends b.old b.new }
     ensures made { IfOk result (λ r. Makes b.old b.new r.0 RType.Bool (OfTwo x.0 y.0 (Compares op))) }
     ensures shaped { Keeps b.old b.new }
+    ensures kinds { KeepsKinds b.old b.new }
 {
     let primitive = Prim::Int64(primitive_to_compare(op));
     if is_turned(op) {
@@ -215,6 +223,7 @@ pub fn emit_comparison(
     ensures kept { Extends b.old b.new }
     ensures made { IfOk result (λ r. Makes b.old b.new r.0 RType.Bool (OfTwo x.0 y.0 (Orders op))) }
     ensures shaped { Keeps b.old b.new }
+    ensures kinds { KeepsKinds b.old b.new }
 {
     let r = emit_ordering(b, alloc, op, x, y, line)?;
     if is_opposite(op) {
@@ -230,6 +239,7 @@ pub fn emit_truth(b: &mut Emitter, alloc: Global, x: Reg, line: usize) -> Result
     ensures kept { Extends b.old b.new }
     ensures made { IfOk result (λ r. Makes b.old b.new r.0 RType.Bool (OfOne x.0 Asks)) }
     ensures shaped { Keeps b.old b.new }
+    ensures kinds { KeepsKinds b.old b.new }
 {
     let none = b.literal(RType::I64, Lit::Number(0), line)?;
     let same = emit_two(
@@ -261,6 +271,7 @@ pub fn emit_test(b: &mut Emitter, alloc: Global, x: Reg, t: &Ty, line: usize) ->
     ensures kept { Extends b.old b.new }
     ensures tests { IfOk result (λ c. TestsValue b.old b.new x.0 c.0 (sort t.now)) }
     ensures shaped { Keeps b.old b.new }
+    ensures kinds { KeepsKinds b.old b.new }
 {
     if is_bool(t) {
         Ok(x)

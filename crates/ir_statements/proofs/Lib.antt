@@ -2,7 +2,6 @@ pub mod ExitLemmas
 pub mod FlowLemmas
 pub mod LoopLemmas
 pub mod BranchLemmas
-pub mod PrintLemmas
 pub mod SimpleLemmas
 pub mod MeaningLemmas
 pub mod EmitLemmas

@@ -1,5 +1,5 @@
 -- What the code of `print` writes.
-use Rattle.std.specs.Prelude.{◌≡◌, ℕ, zero, suc, ◌<◌, ◌≤◌, Bool, ℤ, List, [], ◌∷◌, ◌++◌, length, Option, None}
+use Rattle.std.specs.Prelude.{◌≡◌, ◌≢◌, ℕ, zero, suc, ◌<◌, ◌≤◌, Bool, ℤ, List, [], ◌∷◌, ◌++◌, length, Option, None}
 use Rattle.std.specs.List.{list_all}
 use Rattle.value_core.specs.Value.{Value, IntVal, BoolVal, StrVal}
 use Rattle.py_typed.specs.State.{State, ◌>>=◌, ◌>>◌, give, needs, write}
@@ -65,23 +65,17 @@ gap (suc n) = 32 ∷ []
 abbrev pub written : State → List ℕ → State
 written s text = record s { output = s.output ++ text }
 
--- code in one block that writes the text in a register, and gives it up
-pub record WritesHeld (old new : Building) (r : ℕ) : Type 0 where
+-- code in one block that writes a text; it changes the register for texts alone
+pub record WritesText (r : ℕ) (old new : Building) (text : List ℕ) : Type 0 where
   pub extends : Extends old new
   pub blocks : length new.blocks ≡ length old.blocks
-  pub runs : (p : Program) (fn : ℕ) → Has p fn new → (regs : Regs) (below : List Waiting) (s : State) (text : List ℕ) → regs r ≡ Holds (StrVal text) → Leads p (running fn (length old.blocks) (length old.ops) regs below (world None s)) (running fn (length new.blocks) (length new.ops) regs below (world None (written s text)))
+  pub runs : (p : Program) (fn : ℕ) → Has p fn new → (regs : Regs) (below : List Waiting) (s : State) → (now : Regs) × Leads p (running fn (length old.blocks) (length old.ops) regs below (world None s)) (running fn (length new.blocks) (length new.ops) now below (world None (written s text))) × ((j : ℕ) → j ≢ r → now j ≡ regs j)
 
--- code in one block that writes a text
-pub record WritesText (old new : Building) (text : List ℕ) : Type 0 where
+-- code in one block that writes what is made of the values in registers; it changes the register for texts alone
+pub record Writes (r : ℕ) (old new : Building) (qs : List Printed) (text : List Value → List ℕ) : Type 0 where
   pub extends : Extends old new
   pub blocks : length new.blocks ≡ length old.blocks
-  pub runs : (p : Program) (fn : ℕ) → Has p fn new → (regs : Regs) (below : List Waiting) (s : State) → (now : Regs) × Leads p (running fn (length old.blocks) (length old.ops) regs below (world None s)) (running fn (length new.blocks) (length new.ops) now below (world None (written s text))) × ((j : ℕ) → j < length old.regs → now j ≡ regs j)
-
--- code in one block that writes what is made of the values in registers
-pub record Writes (old new : Building) (qs : List Printed) (text : List Value → List ℕ) : Type 0 where
-  pub extends : Extends old new
-  pub blocks : length new.blocks ≡ length old.blocks
-  pub runs : (p : Program) (fn : ℕ) → Has p fn new → (regs : Regs) (below : List Waiting) (s : State) (vs : List Value) → HoldValues regs qs vs → (now : Regs) × Leads p (running fn (length old.blocks) (length old.ops) regs below (world None s)) (running fn (length new.blocks) (length new.ops) now below (world None (written s (text vs)))) × ((j : ℕ) → j < length old.regs → now j ≡ regs j)
+  pub runs : (p : Program) (fn : ℕ) → Has p fn new → (regs : Regs) (below : List Waiting) (s : State) (vs : List Value) → HoldValues regs qs vs → (now : Regs) × Leads p (running fn (length old.blocks) (length old.ops) regs below (world None s)) (running fn (length new.blocks) (length new.ops) now below (world None (written s (text vs)))) × ((j : ℕ) → j ≢ r → now j ≡ regs j)
 
 -- ---- the values of arguments
 

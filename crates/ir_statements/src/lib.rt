@@ -11,5 +11,5 @@
 mod printing;
 mod ways;
 
-pub use printing::Printed;
+pub use printing::{Printed, emit_print};
 pub use ways::{Exit, Plan, Way};

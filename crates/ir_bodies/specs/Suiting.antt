@@ -1,0 +1,66 @@
+-- What is asked of a statement that is built: its form is one of those that are compiled, and its parts have the types of a well
+-- typed one, in a function whose variables are its parameters.
+use Rattle.std.specs.Prelude.{◌≡◌, Bool, true, List, [], ◌∷◌, Option, Some, None, slice_get}
+use Rattle.py_typed.specs.Sorts as sort
+use Rattle.py_typed.specs.Sorts.{Sort}
+use Rattle.py_typed.specs.Expressions.{TypedExpr, typed, Print, TypedExprs, no_exprs, expr_then, type_of}
+use Rattle.py_typed.specs.Statements.{Variable, TypedFunc, TypedModule, TypedTarget, LocalTarget, TypedStmt, on_line, TypedAct, Do, Assign, Aug, If, While, Return, Break, Continue, Pass, TypedSuite, no_stmts, stmt_then, Arms, no_arms, arm_then}
+use Rattle.ir_core.specs.declared.code.RType.{RType}
+use Rattle.ir_core.specs.declared.code.RType.TheVariants.{Ref}
+use Rattle.ir_frames.specs.Settings.{rtype_of}
+use Rattle.ir_expressions.specs.Compiled.{is_scalar, is_built}
+use Rattle.ir_expressions.specs.Suiting.{Suits, Operand}
+
+-- in a function with these variables, whose result has registers of a type; a module's own statements give none
+module _ (m : TypedModule) (vs : List Variable) (gives : Option RType) where
+  -- one value that is printed
+  abbrev pub PrintSuits : TypedExprs → Type 0
+  PrintSuits (expr_then e no_exprs) = Operand m vs e
+  PrintSuits es = ⊥
+
+  -- an expression alone: `print`, or any that is built
+  abbrev pub DoSuits : TypedExpr → Type 0
+  DoSuits (typed (Print es) t place) = PrintSuits es
+  DoSuits e = Suits m vs e
+
+  -- the variable of a number has this type
+  abbrev pub IsVariable : TypedTarget → Sort → Type 0
+  IsVariable (LocalTarget i) t = (v : Variable) × (slice_get vs i ≡ Some v) × (v.1 ≡ t)
+  IsVariable target t = ⊥
+
+  abbrev pub IsOnly : List TypedTarget → Sort → Type 0
+  IsOnly (target ∷ []) t = IsVariable target t
+  IsOnly targets t = ⊥
+
+  abbrev pub ReturnSuits : Option TypedExpr → Type 0
+  ReturnSuits None = gives ≡ Some Ref
+  ReturnSuits (Some e) = (is_scalar (type_of e) ≡ true) × (gives ≡ Some (rtype_of (type_of e))) × Suits m vs e
+
+  -- a test is a bool
+  abbrev pub TestSuits : TypedExpr → Type 0
+  TestSuits e = (type_of e ≡ sort.Bool) × Suits m vs e
+
+  abbrev mutual
+    -- whether a loop is around
+    pub StatementSuits : Bool → TypedStmt → Type 0
+    StatementSuits looping (on_line a line) = ActSuits looping a
+
+    pub ActSuits : Bool → TypedAct → Type 0
+    ActSuits looping (Do e) = DoSuits e
+    ActSuits looping (Assign targets e) = (is_scalar (type_of e) ≡ true) × IsOnly targets (type_of e) × Suits m vs e
+    ActSuits looping (Aug target op e t) = (t ≡ sort.I64) × IsVariable target sort.I64 × (is_built op ≡ true) × Operand m vs e
+    ActSuits looping (If arms other) = ArmsSuit looping arms × SuiteSuits looping other
+    ActSuits looping (While test body) = TestSuits test × SuiteSuits true body
+    ActSuits looping (Return e) = ReturnSuits e
+    ActSuits looping Break = looping ≡ true
+    ActSuits looping Continue = looping ≡ true
+    ActSuits looping Pass = Unit {0}
+    ActSuits looping a = ⊥
+
+    pub SuiteSuits : Bool → TypedSuite → Type 0
+    SuiteSuits looping no_stmts = Unit {0}
+    SuiteSuits looping (stmt_then s more) = StatementSuits looping s × SuiteSuits looping more
+
+    pub ArmsSuit : Bool → Arms → Type 0
+    ArmsSuit looping no_arms = Unit {0}
+    ArmsSuit looping (arm_then test body more) = TestSuits test × SuiteSuits looping body × ArmsSuit looping more

@@ -1,0 +1,10 @@
+//! From typed statements to intermediate code.
+//!
+//! What comes in is a row of typed statements of a function whose variables are its parameters; what goes out are operations
+//! and blocks in an `Emitter` (`emit_block`), which do what the statements mean, wherever they are left: `specs/Suiting.antt`
+//! says which statements are built, and `Emitted` of `ir_statements` what their code does.
+#![tactic(auto)]
+
+mod statement;
+
+pub use statement::emit_block;

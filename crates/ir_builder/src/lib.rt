@@ -1,0 +1,10 @@
+//! From a typed module to a program of intermediate code.
+//!
+//! What comes in is a `Checked` whose forms are all compiled (`ModuleSuits` of `ir_bodies`); what goes out is its `Program`
+//! (`build`). For every number of turns and all input the program does what the module does (`specs/Meaning.antt`); no run of
+//! it is stuck; it has its shape, so that its C text is well formed; and its only references are the texts that it prints.
+#![tactic(auto)]
+
+mod build;
+
+pub use build::build;

@@ -1,0 +1,103 @@
+-- The lines on which statements, expressions and functions of a typed module stand that are not compiled. A statement stands on
+-- its own line, and what stands inside of one on no line before it.
+use Rattle.std.specs.Prelude.{ℕ, suc, ℤ, pos, negsuc, Bool, true, false, ◌&&◌, nat_le, ◌==◌, if◌then◌else◌, List, [], ◌∷◌, ◌++◌, length, map, Option, Some, None, slice_get}
+use Rattle.std.specs.List.{list_all}
+use Rattle.py_syntax.specs.Statements.{StmtTree, at, Suite}
+use Rattle.py_typed.specs.Sorts.{Sort}
+use Rattle.py_typed.specs.Expressions.{TypedExpr, typed, Print, TypedExprs, no_exprs, expr_then, type_of}
+use Rattle.py_typed.specs.Statements.{Variable, TypedFunc, TypedModule, TypedTarget, LocalTarget, TypedStmt, on_line, TypedAct, Do, Assign, Aug, If, While, Return, Break, Continue, Pass, TypedSuite, no_stmts, stmt_then, Arms, no_arms, arm_then}
+use Rattle.py_names.specs.Outline.{suite_definitions}
+use Rattle.py_forms.specs.Later.{least}
+use Rattle.ir_expressions.specs.Compiled.{is_i64, is_scalar, is_result, is_built, literal_in}
+use Rattle.ir_forms.specs.Expressions.{line_unless, or_parts, line_at, operand_lines, expression_lines}
+
+-- 2 ^ 62 - 1, the greatest integer that is printed as it stands in the text
+abbrev pub greatest_printed : ℕ
+greatest_printed = 4611686018427387903
+
+abbrev pub is_printed : ℤ → Bool
+is_printed (pos n) = nat_le n greatest_printed
+is_printed (negsuc n) = false
+
+-- a value that `print` writes on its line: a native integer, a bool, or an integer as it stands in the text
+abbrev pub value_lines : ℕ → Option ℤ → TypedExpr → List ℕ
+value_lines line (Some n) e = line_unless (is_printed n) (line_at e)
+value_lines line None e = or_parts (is_scalar (type_of e)) line (expression_lines e)
+
+-- `print` writes one value
+abbrev pub print_lines : ℕ → TypedExprs → List ℕ
+print_lines line (expr_then e no_exprs) = value_lines line (literal_in e) e
+print_lines line es = line ∷ []
+
+abbrev pub alone_lines : ℕ → TypedExpr → List ℕ
+alone_lines line (typed (Print es) t place) = print_lines line es
+alone_lines line e = expression_lines e
+
+-- one name of a function
+abbrev pub is_own : TypedTarget → Bool
+is_own (LocalTarget i) = true
+is_own t = false
+
+abbrev pub is_one : List TypedTarget → Bool
+is_one (t ∷ []) = is_own t
+is_one ts = false
+
+abbrev pub returned_lines : ℕ → Option TypedExpr → List ℕ
+returned_lines line None = []
+returned_lines line (Some e) = or_parts (is_scalar (type_of e)) (line_at e) (expression_lines e)
+
+abbrev mutual
+  pub statement_lines : TypedStmt → List ℕ
+  statement_lines (on_line a line) = act_lines line a
+
+  pub act_lines : ℕ → TypedAct → List ℕ
+  act_lines line (Do e) = alone_lines line e
+  act_lines line (Assign ts e) = or_parts (is_one ts && is_scalar (type_of e)) line (expression_lines e)
+  act_lines line (Aug t op e s) =
+      or_parts (is_own t && (is_i64 s && is_built op)) line (operand_lines (literal_in e) (line_at e) (expression_lines e))
+  act_lines line (If arms other) = arms_lines arms ++ suite_lines other
+  act_lines line (While test body) = expression_lines test ++ suite_lines body
+  act_lines line (Return e) = returned_lines line e
+  act_lines line Break = []
+  act_lines line Continue = []
+  act_lines line Pass = []
+  act_lines line a = line ∷ []
+
+  pub suite_lines : TypedSuite → List ℕ
+  suite_lines no_stmts = []
+  suite_lines (stmt_then s more) = statement_lines s ++ suite_lines more
+
+  pub arms_lines : Arms → List ℕ
+  arms_lines no_arms = []
+  arms_lines (arm_then test body more) = expression_lines test ++ (suite_lines body ++ arms_lines more)
+
+-- ---- functions
+
+abbrev pub are_scalars : List Variable → Bool
+are_scalars vs = list_all (λ (v : Variable). is_scalar v.1) vs
+
+abbrev pub is_none : {A : Type 0} → Option A → Bool
+is_none None = true
+is_none (Some a) = false
+
+-- a function whose names are its parameters, of native integers and bools, with such a result or None
+abbrev pub is_function : TypedFunc → Bool
+is_function f = is_none f.class && ((length f.locals == f.params) && (are_scalars f.locals && is_result f.ret))
+
+-- it stands on the line of its definition
+abbrev pub definition_line : Option StmtTree → ℕ
+definition_line None = 0
+definition_line (Some (at node span)) = span.line
+
+abbrev pub function_lines : Option StmtTree → TypedFunc → List ℕ
+function_lines definition f = or_parts (is_function f) (definition_line definition) (suite_lines f.body)
+
+-- functions from the one of this number on, among all definitions of a module
+abbrev pub functions_lines : List StmtTree → ℕ → List TypedFunc → List ℕ
+functions_lines definitions n [] = []
+functions_lines definitions n (f ∷ more) = function_lines (slice_get definitions n) f ++ functions_lines definitions (suc n) more
+
+-- THE LINE on which a statement, an expression or a function of a module stands first that is not compiled, where there is one. The
+-- module has this tree and is this typed one
+abbrev pub uncompiled_line : Suite → TypedModule → Option ℕ
+uncompiled_line m t = least None (suite_lines t.top ++ functions_lines (suite_definitions m) 0 t.funcs)
