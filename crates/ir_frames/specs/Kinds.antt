@@ -81,6 +81,10 @@ module _ (regs : Declared) where
   abbrev pub MakesText : Primitive → List PArg → Type 0
   MakesText q args = ((row_of q).outcome ≡ Owned (Is Object)) × AreArguments (row_of q).parameters args
 
+-- both registers have one type, and hold no references
+abbrev pub AreAlike : Declared → Reg → Reg → Type 0
+AreAlike regs r s = (t : RType) × (is_plain t ≡ true) × IsOf regs r t × IsOf regs s t
+
 -- what a primitive answers of arguments is no reference, and of a type
 abbrev pub Answers : RType → Declared → Primitive → List PArg → Type 0
 Answers t regs q args =
@@ -98,7 +102,7 @@ LiteralFits t l = is_some (literal_of t l) ≡ true
 module _ (g : Surrounding) (regs : Declared) where
   -- an operation that neither makes nor needs a text
   abbrev pub OpKinds : Op → Type 0
-  OpKinds (Move r s) = (t : RType) × (is_plain t ≡ true) × IsOf regs r t × IsOf regs s t
+  OpKinds (Move r s) = AreAlike regs r s
   OpKinds (Lit r l) = (t : RType) × IsOf regs r t × LiteralFits t l × (r.0 ≢ g.text)
   OpKinds (Prim None q args) = ⊥
   OpKinds (Prim (Some r) q args) =
