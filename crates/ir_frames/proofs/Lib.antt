@@ -4,3 +4,5 @@ pub mod ComingLemmas
 pub mod ShapeLemmas
 pub mod MatchLemmas
 pub mod StepLemmas
+pub mod KindLemmas
+pub mod NameLemmas

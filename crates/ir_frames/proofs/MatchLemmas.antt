@@ -34,9 +34,11 @@ room_on x b c e room =
     record {
       count = room.count;
       flags = room.flags;
+      text = room.text;
       top = omega arith;
       declared = λ j v at. type_kept b c j (rtype_of v.1) e (room.declared j v at);
       flagged = λ j from to. type_kept b c j rtype.Bool e (room.flagged j from to);
+      printed = type_kept b c x.frame.locals.text rtype.Ref e room.printed;
       back = back_on x.frame.ret x.frame.locals.top (length b.regs) (length c.regs) more room.back;
     }
 

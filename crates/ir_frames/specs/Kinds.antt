@@ -1,9 +1,8 @@
 -- When what a builder holds fits the registers of its function: each operation and each end has registers of the types that it asks
 -- for, and the only references are printed texts, which are made in a register of their own, written and given up directly.
-use Rattle.std.specs.Prelude.{◌≡◌, ◌≢◌, ◌≤◌, ◌<◌, ℕ, Bool, true, false, List, [], ◌∷◌, ◌++◌, length, map, Option, Some, None, is_some, slice_get, codes, decimal}
+use Rattle.std.specs.Prelude.{◌≡◌, ◌≢◌, ◌≤◌, ℕ, Bool, true, false, List, [], ◌∷◌, ◌++◌, length, map, Some, None, is_some, slice_get, codes, decimal}
 use Rattle.std.specs.Str.{is_utf8}
 use Rattle.value_core.specs.Arithmetic.{lies_within}
-use Rattle.c_core.specs.declared.code.Kind.{Kind}
 use Rattle.c_core.specs.declared.code.Kind.TheVariants.{Object}
 use Rattle.c_core.specs.declared.primitive.Primitive.{Primitive}
 use Rattle.c_core.specs.declared.primitive.Primitive.TheVariants as prim

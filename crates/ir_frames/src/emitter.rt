@@ -1,5 +1,5 @@
 //! The code of a function while it is made.
-ghost use Rattle.std.specs.Prelude.{◌≡◌, ◌<◌, ◌≤◌, [], ◌∷◌, ◌++◌, length, take, OnOk, IfOk, Some, true, false, IsTrue};
+ghost use Rattle.std.specs.Prelude.{◌≡◌, ◌<◌, ◌+◌, ◌^◌, ◌≤◌, [], ◌∷◌, ◌++◌, length, take, OnOk, IfOk, Some, true, false, IsTrue};
 ghost use Rattle.std.specs.List.{list_any};
 ghost use Rattle.std.specs.Str.{bytes_eq};
 ghost use Rattle.c_core.specs.WellFormed.{names_differ};
@@ -199,7 +199,7 @@ fn fresh_name(
     from: usize,
 ) -> Result<(Name, usize), Memory>
     requires { variables ≤ length builder.now.regs }
-    ensures number { IfOk result (λ found. (from ≤ found.1) × (found.1 < usize_max)) }
+    ensures number { IfOk result (λ found. (from ≤ found.1) × (found.1 + 1 < 2 ^ 64)) }
     ensures name { IfOk result (λ found. found.0 ≡ temporary_name found.1) }
     ensures fresh { IfOk result (λ found. list_any (λ d. bytes_eq found.0 d.0) (take variables builder.now.regs) ≡ false) }
 {

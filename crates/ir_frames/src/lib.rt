@@ -4,7 +4,8 @@
 //! `Emitter` takes operations and ends one by one, and names the registers that it adds. `specs/Calling.antt` says what
 //! each of its calls adds, `specs/Placing.antt` how that stands in the whole function, `specs/Coming.antt` and
 //! `specs/Matching.antt` where a run comes to and how registers stand for variables, `specs/Computing.antt` what code for a
-//! value does, and `specs/Shaped.antt` where its ends may go.
+//! value does, `specs/Shaped.antt` where its ends may go, `specs/Kinds.antt` when its operations fit their registers, and
+//! `specs/Naming.antt` how registers are named.
 #![tactic(auto)]
 
 mod emitter;

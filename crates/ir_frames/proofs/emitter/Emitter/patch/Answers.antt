@@ -2,6 +2,7 @@ use Rattle.std.proofs.Common.{◌∙◌, ap, length}
 use Rattle.ir_core.specs.Building.{Building}
 use Rattle.ir_frames.proofs.PatchLemmas.{with_last_length}
 use Rattle.ir_frames.proofs.ShapeLemmas.{patch_shaped}
+use Rattle.ir_frames.proofs.KindLemmas.{patch_kinds}
 use Rattle.ir_frames.proofs.emitter.Emitter.patch.Goals as goal
 
 pub returns-clause-len : goal.returns-clause-len
@@ -9,3 +10,6 @@ returns-clause-len c = rw (← c.self.view_is) (ap (λ (v : Building). length v.
 
 pub returns-clause-shaped : goal.returns-clause-shaped
 returns-clause-shaped c = rw (← c.self.view_is) (λ n m. patch_shaped n m _ _ _ _ c.set_last.ensures)
+
+pub returns-clause-kinds : goal.returns-clause-kinds
+returns-clause-kinds c = rw (← c.self.view_is) (λ g. patch_kinds g _ _ c.args.block c.args.last c.set_last.ensures)

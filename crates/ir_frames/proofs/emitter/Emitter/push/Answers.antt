@@ -1,5 +1,6 @@
 use Rattle.ir_frames.proofs.HeldLemmas.{pushed_extends, same_extends, pushes, on_ok_map, either_way}
 use Rattle.ir_frames.proofs.ShapeLemmas.{push_either}
+use Rattle.ir_frames.proofs.KindLemmas.{push_kinds_either}
 use Rattle.ir_frames.proofs.emitter.Emitter.push.Goals as goal
 
 pub returns-clause-kept : goal.returns-clause-kept
@@ -10,3 +11,6 @@ returns-clause-pushed c = rw (← c.self.view_is) (on_ok_map _ _ _ (pushes _ _ (
 
 pub returns-clause-shaped : goal.returns-clause-shaped
 returns-clause-shaped c = rw (← c.self.view_is) (push_either _ _ _ (c.args.op, c.args.line) c.push.ensures.ok c.push.ensures.err)
+
+pub returns-clause-kinds : goal.returns-clause-kinds
+returns-clause-kinds c = rw (← c.self.view_is) (push_kinds_either _ _ _ (c.args.op, c.args.line) c.push.ensures.ok c.push.ensures.err)

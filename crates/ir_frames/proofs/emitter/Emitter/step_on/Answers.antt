@@ -4,6 +4,7 @@ use Rattle.ir_core.specs.declared.code.Last.TheVariants.{Goto, Unreachable}
 use Rattle.ir_frames.proofs.HeldLemmas.{closes}
 use Rattle.ir_frames.proofs.PatchLemmas.{closes_later, with_last_length}
 use Rattle.ir_frames.proofs.ShapeLemmas.{close_shaped, patch_shaped}
+use Rattle.ir_frames.proofs.KindLemmas.{close_kinds, patch_kinds}
 use Rattle.ir_frames.proofs.emitter.Emitter.step_on.Goals as goal
 
 pub returns-clause-kept : goal.returns-clause-kept
@@ -22,3 +23,7 @@ returns-clause-shaped c =
     let more = (closes _ _ Unreachable c.in_ok-before.ensures.ok).blocks in
     let same = ap (λ (v : Building). length v.blocks) c.set_last.ensures ∙ with_last_length _ _ _ in
     patch_shaped n m _ _ _ (Goto c.here-next.result) c.set_last.ensures (omega (arith, number, more, c.here-next.ensures), omega (arith, same, c.here-next.ensures)) (close_shaped n m _ _ Unreachable c.in_ok-before.ensures.ok tt s))
+
+pub returns-clause-kinds : goal.returns-clause-kinds
+returns-clause-kinds c =
+    rw (← c.self.view_is) (λ g h. patch_kinds g _ _ _ (Goto c.here-next.result) c.set_last.ensures tt (close_kinds g _ _ Unreachable c.in_ok-before.ensures.ok tt h))
