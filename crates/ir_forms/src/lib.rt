@@ -5,8 +5,6 @@
 //! without such a line is one that is built.
 #![tactic(auto)]
 
-mod laws;
 mod lines;
 
-pub use laws::compiled_suits;
 pub use lines::uncompiled_line;
