@@ -1,9 +1,8 @@
 -- The code of `print` writes what it is to.
 use Rattle.std.proofs.Common.{◌≡◌, ℕ, zero, suc, ◌≢◌, ◌+◌, ◌-◌, ◌<◌, ◌≤◌, Bool, true, false, List, [], ◌∷◌, ◌++◌, length, Option, Some, None, refl, sym, ap, ◌∙◌, subst, arith, append_assoc, le_refl}
-use Rattle.std.proofs.lemmas.Bool.{ne_eqb}
 use Rattle.std.proofs.lemmas.Bool.Decides.{nat_tests}
-use Rattle.std.specs.Prelude.{ℤ, IsTrue, not, ◌||◌, nat_lt, if◌then◌else◌}
-use Rattle.std.specs.List.{list_all, list_any}
+use Rattle.std.specs.Prelude.{ℤ, nat_lt, if◌then◌else◌}
+use Rattle.std.specs.List.{list_all}
 use Rattle.std.specs.Fmt.{signed_decimal}
 use Rattle.std.specs.Str.{IsAscii, is_utf8}
 use Rattle.std.proofs.lemmas.Str.{IsUtf8-from_ascii, is_utf8-from_IsUtf8}
@@ -31,7 +30,6 @@ use Rattle.ir_core.specs.declared.code.Program.{Program}
 use Rattle.ir_core.specs.Building.{Building, held, Extends}
 use Rattle.ir_core.specs.Items.{Do}
 use Rattle.ir_core.specs.Laws.{pushed}
-use Rattle.ir_core.specs.Shape.{is_argument}
 use Rattle.ir_core.specs.Registers.{Held, Holds, Regs, put}
 use Rattle.ir_core.specs.Rows.{type_of_reg}
 use Rattle.ir_core.specs.Effects.{World}
@@ -43,7 +41,6 @@ use Rattle.ir_frames.specs.Calling.{Pushes}
 use Rattle.ir_frames.specs.Coming.{world, running, Leads, Ends}
 use Rattle.ir_frames.specs.Matching.{flag_in, Matches, HasRoom, IsThrown}
 use Rattle.ir_frames.specs.Computing.{Showing, Shows, ShowsNumber, Counts, Meaning, Computes}
-use Rattle.ir_frames.specs.Shaped.{OpFits}
 use Rattle.ir_frames.specs.Kinds.{Surrounding, MakesText, HasKinds, KeepsKindsIf}
 use Rattle.ir_statements.specs.Runs.{Flows, Works}
 use Rattle.ir_statements.proofs.FlowLemmas.{on_assoc, value_then}
@@ -57,7 +54,7 @@ use Rattle.ir_statements.proofs.SimpleLemmas.{keeps_as}
 
 -- ---- the operations of a text
 
-pub text_extends : (b c : Building) (r : Reg) (q : Primitive) (a : PArg) (line : ℕ) → c ≡ with_text b r q a line → Extends b c
+text_extends : (b c : Building) (r : Reg) (q : Primitive) (a : PArg) (line : ℕ) → c ≡ with_text b r q a line → Extends b c
 text_extends b c r q a line e =
     let b1 : Building = pushed b (Prim (Some r) q (a ∷ []), line) in
     let b2 : Building = pushed b1 (Prim None (prim.Io io.Write) (arg.Var r ∷ []), line) in
@@ -244,21 +241,6 @@ print_works x result m b0 b1 b2 qs room c w = record {
       ends_at p s1.turns _ d1 (go vs s1) R T a.is (subst P (sym is) ends))
       (λ v s1 d1 z. z));
 }
-
--- ---- where its operations may stand
-
-no_argument : (r s : Reg) → r.0 ≢ s.0 → IsTrue (not (list_any (is_argument r) (arg.Var s ∷ [])))
-no_argument r s ne = ap (λ b. not (b || false)) (ne_eqb r.0 s.0 ne)
-
-other_type : (b : Building) (r s : Reg) (t u : RType) → HasType b r.0 t → HasType b s.0 u → t ≢ u → r.0 ≢ s.0
-other_type b r s t u is is' ne e =
-    let same : Some t ≡ Some u = sym is ∙ ap (λ n. type_of_reg b.regs (record { 0 = n })) e ∙ is' in
-    ne (cc)
-
--- a register that is printed is another one than the register for texts
-pub printed_fits : (b : Building) (n : ℕ) (r : Reg) (q : Printed) → HasType b r.0 Ref → IsDeclared b q → OpFits n (Prim (Some r) (text_primitive q) (arg.Var (register_of q) ∷ []))
-printed_fits b n r (Number q) type declared = (tt, no_argument r q (other_type b r q Ref I64 type declared (λ e. cc)))
-printed_fits b n r (Flag q) type declared = (tt, no_argument r q (other_type b r q Ref BoolType type declared (λ e. cc)))
 
 -- ---- when its operations fit their registers
 

@@ -59,7 +59,7 @@ HoldValues regs _ _ = ⊥
 abbrev pub written : State → List ℕ → State
 written s text = record s { output = s.output ++ text }
 
--- operations that make a text in a register of what a primitive makes of an argument, write it, and give it up
+-- three operations more: a primitive makes a text of an argument in a register, and it is written and given up
 abbrev pub with_text : Building → Reg → Primitive → PArg → ℕ → Building
 with_text b r q a line =
     pushed (pushed (pushed b (Prim (Some r) q (a ∷ []), line)) (Prim None (prim.Io io.Write) (Var r ∷ []), line)) (Dec r, line)

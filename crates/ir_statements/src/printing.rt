@@ -42,7 +42,7 @@ impl Printed {
     }
 }
 
-fn only(alloc: Global, argument: PArg) -> Result<Many<PArg>, Memory>
+fn one_argument(alloc: Global, argument: PArg) -> Result<Many<PArg>, Memory>
     ensures { IfOk result (λ arguments. arguments ≡ argument ∷ []) }
 {
     let mut arguments = Many::new(alloc);
@@ -50,7 +50,7 @@ fn only(alloc: Global, argument: PArg) -> Result<Many<PArg>, Memory>
     Ok(arguments)
 }
 
-// What a primitive makes of an argument is made in a register, written, and given up.
+// A primitive makes a text of an argument in a register, and it is written and given up.
 fn emit_text(
     b: &mut Emitter,
     alloc: Global,
@@ -63,8 +63,8 @@ fn emit_text(
     ensures is { OnOk result (b.new ≡ with_text b.old text primitive argument line) }
     ensures shaped { KeepsIf (λ n m. OpFits n (Op.Prim (Some text) primitive (argument ∷ []))) b.old b.new }
 {
-    let made_of = only(alloc, argument)?;
-    let written = only(alloc, PArg::Var(text))?;
+    let made_of = one_argument(alloc, argument)?;
+    let written = one_argument(alloc, PArg::Var(text))?;
     b.push(Op::Prim(Some(text), primitive, made_of), line)?;
     b.push(Op::Prim(None, Prim::Io(IoPrim::Write), written), line)?;
     b.push(Op::Dec(text), line)
