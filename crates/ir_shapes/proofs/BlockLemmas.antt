@@ -1,0 +1,42 @@
+-- The blocks of a function whose ends are all written have their shape.
+use Rattle.std.proofs.Common.{◌≡◌, ℕ, zero, suc, ◌<◌, ◌≤◌, ◌⊎◌, arith, true, false, List, [], ◌∷◌, ◌++◌, length, Some, inl, inr, ⊎_elim}
+use Rattle.ir_core.specs.declared.code.Op.{Op}
+use Rattle.ir_core.specs.declared.code.Op.TheVariants.{Turn}
+use Rattle.ir_core.specs.declared.code.Last.{Last}
+use Rattle.ir_core.specs.declared.code.Last.TheVariants.{Goto, If, IfError, Return, Unreachable}
+use Rattle.ir_core.specs.declared.code.Block.{Block}
+use Rattle.ir_core.specs.declared.code.Func.{Func}
+use Rattle.ir_core.specs.Items.{Do, item_in}
+use Rattle.ir_core.specs.Building.{is_unwritten, is_open_at}
+use Rattle.ir_core.specs.Shape.{IsHigher, LastFits, BlockFits, BlocksFit, FuncFits, BeginsInTurn, FuncsFit}
+use Rattle.ir_core.specs.Shape as shape
+use Rattle.ir_frames.specs.Shaped.{Higher, OpsFit, EndFits, AllFit}
+
+ops_fit : (low : ℕ) (os : List (Op × ℕ)) → OpsFit low os → shape.OpsFit os
+ops_fit low [] h = tt
+ops_fit low (o ∷ os) h = (h.0.1, ops_fit low os h.1)
+
+higher : (k m t : ℕ) → Higher k m t → IsHigher (suc m) k t
+higher k m t h = (h.0, omega (arith, h.1))
+
+last_fits : (low m k : ℕ) (ops : List (Op × ℕ)) (last : Last) → is_unwritten last ≡ false → EndFits low m k ops last → LastFits (suc m) k ops last
+last_fits low m k ops (Goto t) e h =
+    let some : 0 < t = elim h.0 [ inl lt ↦ omega (arith, lt) | inr behind ↦ omega (arith, behind.0) ] in
+    let leads : (k < t) ⊎ (shape.ends_in_turn ops ≡ true) = ⊎_elim (λ lt. inl lt) (λ behind. inr behind.1) h.0 in
+    (some, omega (arith, h.1), leads)
+last_fits low m k ops (If r a b) e h = (higher k m a h.0, higher k m b h.1)
+last_fits low m k ops (IfError r a b line) e h = (higher k m a h.1, higher k m b h.2)
+last_fits low m k ops (Return r) e h = tt
+last_fits low m k ops Unreachable e h = absurd (cc)
+
+pub blocks_fit : (low m k : ℕ) (bs : List Block) → ((j : ℕ) → is_open_at bs j ≡ false) → AllFit low m k bs → BlocksFit (suc m) k bs
+blocks_fit low m k [] written h = tt
+blocks_fit low m k (b ∷ bs) written h =
+    (record { ops = ops_fit low b.ops h.1; last = last_fits low m k b.ops b.last (written 0) h.0; handler = tt },
+    blocks_fit low m (suc k) bs (λ j. written (suc j)) h.3)
+
+-- ---- functions, and the module's own behind them
+
+module _ (own : Func) where
+  pub funcs_fit : (fs : List Func) → ((f : Func) (n : ℕ) → shape.FuncFits f) → FuncFits own → FuncsFit (fs ++ own ∷ [])
+  funcs_fit fs each last = ?
