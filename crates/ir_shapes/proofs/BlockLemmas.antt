@@ -1,5 +1,6 @@
 -- The blocks of a function whose ends are all written have their shape.
-use Rattle.std.proofs.Common.{◌≡◌, ℕ, zero, suc, ◌<◌, ◌≤◌, ◌⊎◌, arith, true, false, List, [], ◌∷◌, ◌++◌, length, Some, inl, inr, ⊎_elim}
+use Rattle.std.proofs.Common.{◌≡◌, ℕ, zero, suc, ◌<◌, ◌≤◌, ◌⊎◌, refl, sym, subst, arith, true, false, List, [], ◌∷◌, ◌++◌, length, Some, inl, inr, ⊎_elim}
+use Rattle.std.specs.Prelude.{slice_get}
 use Rattle.ir_core.specs.declared.code.Op.{Op}
 use Rattle.ir_core.specs.declared.code.Op.TheVariants.{Turn}
 use Rattle.ir_core.specs.declared.code.Last.{Last}
@@ -11,6 +12,8 @@ use Rattle.ir_core.specs.Building.{is_unwritten, is_open_at}
 use Rattle.ir_core.specs.Shape.{IsHigher, LastFits, BlockFits, BlocksFit, FuncFits, BeginsInTurn, FuncsFit}
 use Rattle.ir_core.specs.Shape as shape
 use Rattle.ir_frames.specs.Shaped.{Higher, OpsFit, EndFits, AllFit}
+use Rattle.ir_frames.specs.Kinds.{Head}
+use Rattle.ir_shapes.specs.Built.{IsBuilt}
 
 ops_fit : (low : ℕ) (os : List (Op × ℕ)) → OpsFit low os → shape.OpsFit os
 ops_fit low [] h = tt
@@ -37,6 +40,16 @@ blocks_fit low m k (b ∷ bs) written h =
 
 -- ---- functions, and the module's own behind them
 
+pub built_fits : (heads : List Head) (f : Func) → IsBuilt heads f → FuncFits f
+built_fits heads f b =
+    subst (λ n. BlocksFit n 0 f.blocks) (sym b.blocks) (blocks_fit b.low b.highest 0 f.blocks b.written b.fits)
+
 module _ (own : Func) where
-  pub funcs_fit : (fs : List Func) → ((f : Func) (n : ℕ) → shape.FuncFits f) → FuncFits own → FuncsFit (fs ++ own ∷ [])
-  funcs_fit fs each last = ?
+  pub funcs_fit : (fs : List Func) → ((n : ℕ) (f : Func) → slice_get fs n ≡ Some f → FuncFits f) → FuncFits own → FuncsFit (fs ++ own ∷ [])
+  funcs_fit [] each last = (last, tt)
+  funcs_fit (f ∷ fs) each last = (each 0 f refl, funcs_fit fs (λ n g e. each (suc n) g e) last)
+
+  pub turns_begin : (fs : List Func) → ((n : ℕ) (f : Func) → slice_get fs n ≡ Some f → item_in f.blocks 0 0 ≡ Some (Do Turn)) → BeginsInTurn (fs ++ own ∷ [])
+  turns_begin [] each = tt
+  turns_begin (f ∷ []) each = (each 0 f refl, tt)
+  turns_begin (f ∷ g ∷ fs) each = (each 0 f refl, turns_begin (g ∷ fs) (λ n h e. each (suc n) h e))

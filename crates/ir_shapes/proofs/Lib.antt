@@ -1,2 +1,3 @@
 pub mod JumpLemmas
 pub mod BlockLemmas
+pub mod SpellingLemmas
