@@ -1,3 +1,4 @@
 pub mod JumpLemmas
 pub mod BlockLemmas
 pub mod SpellingLemmas
+pub mod NameLemmas
