@@ -2,3 +2,4 @@ pub mod JumpLemmas
 pub mod BlockLemmas
 pub mod SpellingLemmas
 pub mod NameLemmas
+pub mod LineLemmas

@@ -4,13 +4,20 @@ use Rattle.std.specs.Prelude.{◌&&◌, ◌||◌, not, codes, slice_get, nat_lt,
 use Rattle.std.specs.Fmt.{digits, digits_onto, digit_glyph}
 use Rattle.std.specs.List.{list_all, list_any, before_first, after_first}
 use Rattle.std.specs.Str.{bytes_eq, chars, is_utf8, IsUtf8, IsAscii, NonePass, NoCharPasses}
-use Rattle.std.proofs.lemmas.Bool.{and_from, and_parts, or_from, cases_lt, true≢false, lt-ltb, eqb-true}
+use Rattle.std.proofs.lemmas.Bool.{and_from, and_parts, or_from, cases_lt, true≢false, lt-ltb, ltb-true, eqb-true}
 use Rattle.std.proofs.lemmas.Bool.Decides.{nat_tests}
 use Rattle.std.proofs.lemmas.Str.{is_utf8-from_IsUtf8, IsUtf8-from_is_utf8, IsUtf8-append, IsUtf8-from_ascii, chars-append, chars-IsAscii, encodes-chars, NoCharPasses-byte}
 use Rattle.std.proofs.lemmas.Str.Ascii.{IsAscii-nil, IsAscii-cons}
 use Rattle.unicode_ident.specs.Ident.{is_xid_continue}
 use Rattle.unicode_ident.proofs.IdentLemmas.{is_xid_continue-ascii}
 use Rattle.unicode_ident.proofs.Computing.{unicode_ident}
+use Rattle.c_core.specs.declared.primitive.Primitive.{Primitive}
+use Rattle.c_core.specs.declared.primitive.Primitive.TheVariants as prim
+use Rattle.c_core.specs.declared.primitive.Int64Prim.TheVariants as int64
+use Rattle.c_core.specs.declared.primitive.BoolPrim.TheVariants as bool
+use Rattle.c_core.specs.declared.primitive.StrPrim.TheVariants as str
+use Rattle.c_core.specs.declared.primitive.IoPrim.TheVariants as io
+use Rattle.c_core.specs.Primitives.{row_of}
 use Rattle.c_core.specs.WellFormed.{is_identifier, is_call_name, is_some_and, other_words}
 use Rattle.ir_core.specs.Names.{is_dot, method_id, function_id, variable_id}
 use Rattle.ir_frames.specs.Kinds.{temporary_name}
@@ -172,3 +179,36 @@ def_plain = ((omega arith, refl), ((omega arith, refl), ((omega arith, refl), ((
 pub call_spelled : (name : List ℕ) → is_identifier name ≡ true → is_call_name (codes "CPyDef_" ++ name) ≡ true
 call_spelled name is =
     and_from (is_identifier (codes "Def_" ++ name)) true (behind_plain 68 (101 ∷ 102 ∷ 95 ∷ []) name def_plain is) refl
+
+-- ---- primitives
+
+is_plain : ℕ → Bool
+is_plain b = nat_lt b 128 && is_xid_continue b
+
+plain_from : (bs : List ℕ) → list_all is_plain bs ≡ true → ArePlain bs
+unfolding is_plain
+plain_from [] h = tt
+plain_from (b ∷ bs) h =
+    let parts = and_parts (is_plain b) (list_all is_plain bs) h in
+    let here = and_parts (nat_lt b 128) (is_xid_continue b) parts.0 in
+    ((ltb-true b 128 here.0, here.1), plain_from bs parts.1)
+
+word_spelled : (b : ℕ) (bs : List ℕ) → list_all is_plain (b ∷ bs) ≡ true → not (list_any (bytes_eq (codes "CPy" ++ (b ∷ bs))) other_words) ≡ true → is_call_name (codes "CPy" ++ (b ∷ bs)) ≡ true
+word_spelled b bs plain other =
+    and_from (is_identifier (b ∷ bs)) (not (list_any (bytes_eq (codes "CPy" ++ (b ∷ bs))) other_words)) (plain_identifier b bs (plain_from (b ∷ bs) plain)) other
+
+pub primitive_spelled : (q : Primitive) → is_call_name (row_of q).name ≡ true
+unfolding unicode_ident is_plain
+primitive_spelled (prim.Int64 int64.Add) = word_spelled 73 _ refl refl
+primitive_spelled (prim.Int64 int64.Subtract) = word_spelled 73 _ refl refl
+primitive_spelled (prim.Int64 int64.Multiply) = word_spelled 73 _ refl refl
+primitive_spelled (prim.Int64 int64.Negate) = word_spelled 73 _ refl refl
+primitive_spelled (prim.Int64 int64.FromBool) = word_spelled 73 _ refl refl
+primitive_spelled (prim.Int64 int64.Eq) = word_spelled 73 _ refl refl
+primitive_spelled (prim.Int64 int64.Lt) = word_spelled 73 _ refl refl
+primitive_spelled (prim.Int64 int64.Le) = word_spelled 73 _ refl refl
+primitive_spelled (prim.Int64 int64.Str) = word_spelled 73 _ refl refl
+primitive_spelled (prim.Bool bool.Not) = word_spelled 66 _ refl refl
+primitive_spelled (prim.Bool bool.Str) = word_spelled 66 _ refl refl
+primitive_spelled (prim.Str str.Literal) = word_spelled 83 _ refl refl
+primitive_spelled (prim.Io io.Write) = word_spelled 95 _ refl refl
