@@ -1,5 +1,5 @@
 -- The blocks of a function whose ends are all written have their shape.
-use Rattle.std.proofs.Common.{◌≡◌, ℕ, zero, suc, ◌<◌, ◌≤◌, ◌⊎◌, refl, sym, subst, arith, true, false, List, [], ◌∷◌, ◌++◌, length, Some, inl, inr, ⊎_elim}
+use Rattle.std.proofs.Common.{◌≡◌, ℕ, suc, ◌<◌, ◌⊎◌, refl, sym, subst, arith, true, false, List, [], ◌∷◌, ◌++◌, Some, inl, inr, ⊎_elim}
 use Rattle.std.specs.Prelude.{slice_get}
 use Rattle.ir_core.specs.declared.code.Op.{Op}
 use Rattle.ir_core.specs.declared.code.Op.TheVariants.{Turn}
@@ -34,9 +34,10 @@ last_fits low m k ops Unreachable e h = absurd (cc)
 
 pub blocks_fit : (low m k : ℕ) (bs : List Block) → ((j : ℕ) → is_open_at bs j ≡ false) → AllFit low m k bs → BlocksFit (suc m) k bs
 blocks_fit low m k [] written h = tt
-blocks_fit low m k (b ∷ bs) written h =
-    (record { ops = ops_fit low b.ops h.1; last = last_fits low m k b.ops b.last (written 0) h.0; handler = tt },
-    blocks_fit low m (suc k) bs (λ j. written (suc j)) h.3)
+blocks_fit low m k (b ∷ bs) written h = (
+  record { ops = ops_fit low b.ops h.1; last = last_fits low m k b.ops b.last (written 0) h.0; handler = tt },
+  blocks_fit low m (suc k) bs (λ j. written (suc j)) h.3,
+)
 
 -- ---- functions, and the module's own behind them
 

@@ -1,26 +1,23 @@
 -- Lines of operations and ends that fit their registers are spelled, and fit the declarations of their variables.
-use Rattle.std.proofs.Common.{◌≡◌, refl, sym, ◌∙◌, ap, subst, ℕ, zero, suc, ◌+◌, ◌-◌, ◌^◌, ◌/◌, ◌%◌, ◌<◌, ◌≤◌, arith, Bool, true, false, cond, List, [], ◌∷◌, ◌++◌, length, Option, Some, None, take, ℤ, pos, negsuc}
-use Rattle.std.specs.Prelude.{slice_get, map, ◌&&◌, is_some, nat_lt, codes, ◌==◌}
-use Rattle.std.specs.Option.{option_map, option_and_then, option_map_or}
+use Rattle.std.proofs.Common.{◌≡◌, refl, sym, ◌∙◌, ap, subst, ℕ, zero, suc, ◌+◌, ◌^◌, ◌/◌, ◌%◌, ◌<◌, arith, Bool, true, false, cond, List, [], ◌∷◌, ◌++◌, length, Option, Some, None, take, ℤ, pos, negsuc}
+use Rattle.std.specs.Prelude.{slice_get, map, ◌&&◌, is_some, codes, ◌==◌}
+use Rattle.std.specs.Option.{option_map}
 use Rattle.std.specs.List.{list_all}
-use Rattle.std.proofs.lemmas.Bool.{and_from, and_parts, lt-ltb}
+use Rattle.std.proofs.lemmas.Bool.{and_from, lt-ltb}
 use Rattle.std.proofs.lemmas.Option.{slice_get_within}
-use Rattle.value_core.specs.Arithmetic.{lies_within}
 use Rattle.value_core.specs.Value.{IntVal}
 use Rattle.c_core.specs.declared.code.Kind.{Kind}
 use Rattle.c_core.specs.declared.code.Kind.TheVariants.{Tagged, Int64, Char, Object}
 use Rattle.c_core.specs.declared.code.CArg.{CArg}
 use Rattle.c_core.specs.declared.code.Line.{Line}
-use Rattle.c_core.specs.declared.code.Line.TheVariants as line
 use Rattle.c_core.specs.declared.code.CFunc.{CFunc}
-use Rattle.c_core.specs.declared.code.Code.{Code}
 use Rattle.c_core.specs.declared.primitive.Primitive.{Primitive}
 use Rattle.c_core.specs.declared.primitive.Primitive.TheVariants as prim
 use Rattle.c_core.specs.declared.primitive.IoPrim.TheVariants as io
 use Rattle.c_core.specs.Functions.{function_named, parameter_kinds}
 use Rattle.c_core.specs.Machine.{ShortInt, TaggedError}
-use Rattle.c_core.specs.Primitives.{Is, Anything, Parameter, Borrows, TakesText, Outcome, Owned, row_of, primitive_named}
-use Rattle.c_core.specs.WellFormed.{is_identifier, is_call_name, is_declared, kind_at, is_counted_kind, spelled_arg, spelled_target, spelled_label, spelled_line, spelled_literal, same_kind, has_kind, same_kinds, literal_fits, passes, args_fit, target_fits, row_fits, function_call_fits, call_fits, line_fits}
+use Rattle.c_core.specs.Primitives.{Is, Anything, Parameter, Borrows, TakesText, Owned, row_of, primitive_named}
+use Rattle.c_core.specs.WellFormed.{is_identifier, is_call_name, is_declared, kind_at, is_counted_kind, spelled_arg, spelled_label, spelled_line, spelled_literal, same_kind, has_kind, same_kinds, literal_fits, passes, args_fit, target_fits, function_call_fits, call_fits, line_fits}
 use Rattle.ir_core.specs.declared.code.RType.{RType}
 use Rattle.ir_core.specs.declared.code.RType.TheVariants.{Int, I64, Bool as BoolType, Ref}
 use Rattle.ir_core.specs.declared.code.Lit.{Lit as Literal}
@@ -35,12 +32,11 @@ use Rattle.ir_core.specs.declared.code.Last.TheVariants.{Goto, If, IfError, Retu
 use Rattle.ir_core.specs.declared.code.Block.{Block}
 use Rattle.ir_core.specs.declared.code.Func.{Func}
 use Rattle.ir_core.specs.declared.code.Program.{Program}
-use Rattle.ir_core.specs.Lower.{kind_of_type, variable_of, literal_in, argument_in, register_in, called_as, line_of, op_lines, label_before, label_of, end_lines, block_lines, lines_from, lowered_as, name_in, lower}
-use Rattle.ir_core.specs.Names.{function_id}
+use Rattle.ir_core.specs.Lower.{kind_of_type, variable_of, literal_in, argument_in, register_in, called_as, line_of, op_lines, label_before, label_of, end_lines, block_lines, lines_from, lowered_as, lower}
 use Rattle.ir_core.specs.Registers.{Unset, Holds, literal_of}
-use Rattle.ir_core.specs.Rows.{Declared, type_of_reg}
+use Rattle.ir_core.specs.Rows.{Declared}
 use Rattle.ir_core.specs.Shape.{LastFits, BlocksFit}
-use Rattle.ir_frames.specs.Kinds.{Head, Surrounding, is_plain, IsOf, AreArguments, Take, MakesText, Answers, AreAlike, Calls, LiteralFits, OpKinds, OpsKinds, no_more, other_then, text_then, LastKinds, BlocksKinds}
+use Rattle.ir_frames.specs.Kinds.{Head, Surrounding, IsOf, AreArguments, Take, LiteralFits, OpKinds, OpsKinds, no_more, other_then, text_then, LastKinds, BlocksKinds}
 use Rattle.ir_lowering.proofs.ListLemmas.{size_map, get_map}
 use Rattle.ir_lowering.proofs.Facts.{named}
 use Rattle.ir_shapes.specs.Built.{head_of_code}
@@ -294,22 +290,22 @@ module _ (regs : Declared) where
         end_is : (k : ℕ) (ops : List (Op × ℕ)) (last : Last) → k < count → LastFits count k ops last → LastKinds g regs last → LinesAre (kind_of_type g.ret) (end_lines label_of k last)
         end_is k ops (Goto t) lt fits h = (record { spelled = label_spelled t fits.1; fits = refl }, tt)
         end_is k ops (If r a b) lt fits h = (
-            record {
-              spelled =
-                  and_from (is_declared vars r.0) (spelled_label (label_of a) && spelled_label (label_of b)) (stands r BoolType h).declared
-                  (and_from (spelled_label (label_of a)) (spelled_label (label_of b)) (label_spelled a fits.0.1) (label_spelled b fits.1.1));
-              fits = refl;
-            },
-            tt,
+          record {
+            spelled =
+                and_from (is_declared vars r.0) (spelled_label (label_of a) && spelled_label (label_of b)) (stands r BoolType h).declared
+                (and_from (spelled_label (label_of a)) (spelled_label (label_of b)) (label_spelled a fits.0.1) (label_spelled b fits.1.1));
+            fits = refl;
+          },
+          tt,
         )
         end_is k ops (IfError r a b source) lt fits h = (
-            record {
-              spelled =
-                  and_from (is_declared vars r.0) (spelled_label (label_of a) && spelled_label (label_of b)) (stands r h.0 h.1).declared
-                  (and_from (spelled_label (label_of a)) (spelled_label (label_of b)) (label_spelled a fits.0.1) (label_spelled b fits.1.1));
-              fits = refl;
-            },
-            tt,
+          record {
+            spelled =
+                and_from (is_declared vars r.0) (spelled_label (label_of a) && spelled_label (label_of b)) (stands r h.0 h.1).declared
+                (and_from (spelled_label (label_of a)) (spelled_label (label_of b)) (label_spelled a fits.0.1) (label_spelled b fits.1.1));
+            fits = refl;
+          },
+          tt,
         )
         end_is k ops (Return r) lt fits h = (record { spelled = (stands r g.ret h.0).declared; fits = has r g.ret h.0 }, tt)
         end_is k ops Unreachable lt fits h =

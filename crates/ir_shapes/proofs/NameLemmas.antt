@@ -1,9 +1,9 @@
 -- The names of what is built differ in C text, and are identifiers there.
-use Rattle.std.proofs.Common.{◌≡◌, ◌≢◌, refl, sym, ◌∙◌, ap, subst, ℕ, zero, suc, ◌+◌, ◌<◌, ◌≤◌, arith, Bool, true, false, cond, List, [], ◌∷◌, ◌++◌, length, Option, Some, None, take, inl, inr}
-use Rattle.std.specs.Prelude.{slice_get, map, ◌&&◌, ◌||◌, not, nat_eq}
+use Rattle.std.proofs.Common.{◌≡◌, ◌≢◌, refl, ◌∙◌, ap, subst, ℕ, zero, suc, ◌+◌, ◌<◌, arith, true, false, cond, List, [], ◌∷◌, ◌++◌, length, Some, None, take, inl, inr}
+use Rattle.std.specs.Prelude.{slice_get, map, ◌||◌, not}
 use Rattle.std.specs.List.{list_all, list_any}
 use Rattle.std.specs.Str.{bytes_eq}
-use Rattle.std.proofs.lemmas.Bool.{and_from, and_parts, or_from, not-true, not_from_false, cases_lt, eq-eqb, ne_eqb}
+use Rattle.std.proofs.lemmas.Bool.{and_from, and_parts, or_from, not-true, cases_lt, eq-eqb, ne_eqb}
 use Rattle.std.proofs.lemmas.List.Folds.{list_any-append}
 use Rattle.c_core.specs.declared.code.Kind.{Kind}
 use Rattle.c_core.specs.declared.code.CFunc.{CFunc}
@@ -14,10 +14,10 @@ use Rattle.ir_core.specs.declared.code.Program.{Program}
 use Rattle.ir_core.specs.Names.{function_id, variable_id}
 use Rattle.ir_core.specs.Rows.{Declared}
 use Rattle.ir_core.specs.Building.{Building}
-use Rattle.ir_core.specs.Lower.{variable_of, global_of, name_in, lowered_as, lowered_from}
-use Rattle.ir_frames.specs.Kinds.{Surrounding, HasKinds, temporary_name}
+use Rattle.ir_core.specs.Lower.{variable_of, global_of, name_in, lowered_from}
+use Rattle.ir_frames.specs.Kinds.{Surrounding, HasKinds}
 use Rattle.ir_frames.specs.Naming.{names_of}
-use Rattle.ir_shapes.proofs.SpellingLemmas.{Identifier, identifier_parts, variable_identifier, temporary_identifier, function_called_as}
+use Rattle.ir_shapes.proofs.SpellingLemmas.{identifier_parts, variable_identifier, temporary_identifier, function_called_as}
 
 -- ---- variables
 
@@ -51,8 +51,8 @@ each_spelled (d ∷ ds) h =
 pub variables_spelled : (g : Surrounding) (b : Building) → HasKinds g b → list_all is_identifier (names_of (take g.variables b.regs)) ≡ true → list_all (λ (v : List ℕ × Kind). is_identifier v.0) (map variable_of b.regs) ≡ true
 variables_spelled g b kinds all =
     each_spelled b.regs (λ i d e. elim (cases_lt i g.variables) [
-      inl lt ↦ first_spelled g.variables b.regs all i d lt e
-    | inr le ↦ (let n = kinds.named i d le e in ap is_identifier n.1 ∙ temporary_identifier n.0)
+      | inl lt ↦ first_spelled g.variables b.regs all i d lt e
+      | inr le ↦ (let n = kinds.named i d le e in ap is_identifier n.1 ∙ temporary_identifier n.0)
     ])
 
 -- ---- globals

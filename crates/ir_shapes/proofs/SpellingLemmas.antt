@@ -1,6 +1,6 @@
 -- How names are spelled: a variable's is one behind `r_`, a temporary one has digits, and an identifier has no dot.
-use Rattle.std.proofs.Common.{◌≡◌, refl, sym, ◌∙◌, ap, subst, ℕ, zero, suc, ◌+◌, ◌/◌, ◌%◌, ◌<◌, ◌≤◌, arith, Bool, true, false, cond, List, [], ◌∷◌, ◌++◌, length, Option, Some, None, get_or, inl, inr}
-use Rattle.std.specs.Prelude.{◌&&◌, ◌||◌, not, codes, slice_get, nat_lt, ◌==◌, if◌then◌else◌, decimal}
+use Rattle.std.proofs.Common.{◌≡◌, refl, sym, ◌∙◌, ap, ℕ, zero, suc, ◌+◌, ◌/◌, ◌%◌, ◌<◌, ◌≤◌, arith, Bool, true, false, cond, List, [], ◌∷◌, ◌++◌, length, get_or, inl, inr}
+use Rattle.std.specs.Prelude.{◌&&◌, not, codes, nat_lt, ◌==◌, if◌then◌else◌, decimal}
 use Rattle.std.specs.Fmt.{digits, digits_onto, digit_glyph}
 use Rattle.std.specs.List.{list_all, list_any, before_first, after_first}
 use Rattle.std.specs.Str.{bytes_eq, chars, is_utf8, IsUtf8, IsAscii, NonePass, NoCharPasses}
@@ -18,7 +18,7 @@ use Rattle.c_core.specs.declared.primitive.BoolPrim.TheVariants as bool
 use Rattle.c_core.specs.declared.primitive.StrPrim.TheVariants as str
 use Rattle.c_core.specs.declared.primitive.IoPrim.TheVariants as io
 use Rattle.c_core.specs.Primitives.{row_of}
-use Rattle.c_core.specs.WellFormed.{is_identifier, is_call_name, is_some_and, other_words}
+use Rattle.c_core.specs.WellFormed.{is_identifier, is_call_name, other_words}
 use Rattle.ir_core.specs.Names.{is_dot, method_id, function_id, variable_id}
 use Rattle.ir_frames.specs.Kinds.{temporary_name}
 
@@ -163,8 +163,8 @@ no_dots name is =
     let i = identifier_parts name is in
     let none : NoCharPasses is_dot name = (chars name, encodes-chars name i.utf8, none_pass (chars name) i.continues) in
     none_at name (λ k lt. elim (cases_lt (get_or name k 0) 128) [
-      inl small ↦ NoCharPasses-byte is_dot name k none lt small
-    | inr high ↦ high_no_dot (get_or name k 0) high
+      | inl small ↦ NoCharPasses-byte is_dot name k none lt small
+      | inr high ↦ high_no_dot (get_or name k 0) high
     ])
 
 -- a function that has an identifier for its name is called by it
