@@ -4,7 +4,7 @@ use Rattle.std.specs.Prelude.{◌&&◌, not, codes, nat_lt, ◌==◌, if◌then�
 use Rattle.std.specs.Fmt.{digits, digits_onto, digit_glyph}
 use Rattle.std.specs.List.{list_all, list_any, before_first, after_first}
 use Rattle.std.specs.Str.{bytes_eq, chars, is_utf8, IsUtf8, IsAscii, NonePass, NoCharPasses}
-use Rattle.std.proofs.lemmas.Bool.{and_from, and_parts, or_from, cases_lt, true≢false, lt-ltb, ltb-true, eqb-true}
+use Rattle.std.proofs.lemmas.Bool.{and_from, and_parts, or_from, not-true, cases_lt, true≢false, lt-ltb, ltb-true, eqb-true}
 use Rattle.std.proofs.lemmas.Bool.Decides.{nat_tests}
 use Rattle.std.proofs.lemmas.Str.{is_utf8-from_IsUtf8, IsUtf8-from_is_utf8, IsUtf8-append, IsUtf8-from_ascii, chars-append, chars-IsAscii, encodes-chars, NoCharPasses-byte}
 use Rattle.std.proofs.lemmas.Str.Ascii.{IsAscii-nil, IsAscii-cons}
@@ -31,10 +31,6 @@ abbrev pub ArePlain : List ℕ → Type 0
 ArePlain [] = Unit {0}
 ArePlain (b ∷ bs) = IsPlain b × ArePlain bs
 
-plain_append : (xs ys : List ℕ) → ArePlain xs → ArePlain ys → ArePlain (xs ++ ys)
-plain_append [] ys h k = k
-plain_append (x ∷ xs) ys h k = (h.0, plain_append xs ys h.1 k)
-
 plain_ascii : (bs : List ℕ) → ArePlain bs → IsAscii bs
 plain_ascii [] h = IsAscii-nil
 plain_ascii (b ∷ bs) h = IsAscii-cons b bs h.0.0 (plain_ascii bs h.1)
@@ -56,15 +52,11 @@ pub record Identifier (name : List ℕ) : Type 0 where
   pub some : bytes_eq name [] ≡ false
   pub continues : list_all is_xid_continue (chars name) ≡ true
 
-not_true : (b : Bool) → not b ≡ true → b ≡ false
-not_true true e = absurd (cc)
-not_true false e = refl
-
 pub identifier_parts : (name : List ℕ) → is_identifier name ≡ true → Identifier name
 identifier_parts name is =
     let parts = and_parts (is_utf8 name) (not (bytes_eq name []) && list_all is_xid_continue (chars name)) is in
     let more = and_parts (not (bytes_eq name [])) (list_all is_xid_continue (chars name)) parts.1 in
-    record { utf8 = IsUtf8-from_is_utf8 name parts.0; some = not_true (bytes_eq name []) more.0; continues = more.1 }
+    record { utf8 = IsUtf8-from_is_utf8 name parts.0; some = not-true (bytes_eq name []) more.0; continues = more.1 }
 
 pub is_made : (name : List ℕ) → IsUtf8 name → bytes_eq name [] ≡ false → list_all is_xid_continue (chars name) ≡ true → is_identifier name ≡ true
 is_made name u some all =
