@@ -5,6 +5,9 @@
 //! without such a line is one that is built.
 #![tactic(auto)]
 
+mod forms;
+mod laws;
 mod lines;
 
+pub use laws::compiled_suits;
 pub use lines::uncompiled_line;
