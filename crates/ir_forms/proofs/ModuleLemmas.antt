@@ -1,12 +1,11 @@
 -- A well typed module all of which is compiled is one that is built.
-use Rattle.std.proofs.Common.{◌≡◌, refl, sym, ◌∙◌, ap, subst, arith, ℕ, zero, suc, ◌+◌, Bool, true, false, List, [], ◌∷◌, ◌++◌, length, map, take, Option, Some, None, ◌⊎◌, inl, inr}
+use Rattle.std.proofs.Common.{◌≡◌, refl, sym, ◌∙◌, ap, subst, arith, ℕ, zero, suc, ◌+◌, Bool, true, false, List, [], ◌∷◌, ◌++◌, length, map, Option, Some, None}
 use Rattle.std.proofs.lemmas.Bool.{eqb-true}
 use Rattle.std.proofs.lemmas.List.Folds.{list_any-append}
 use Rattle.std.proofs.lemmas.Option.{same_Some}
 use Rattle.std.specs.Prelude.{not, ◌&&◌, ◌||◌, ◌==◌, slice_get}
-use Rattle.std.specs.List.{list_all, list_any, flat_map}
+use Rattle.std.specs.List.{list_any, flat_map}
 use Rattle.std.specs.Str.{bytes_eq}
-use Rattle.std.specs.Option.{option_map}
 use Rattle.c_core.specs.WellFormed.{is_identifier, names_differ}
 use Rattle.c_core.proofs.Lines.{all_at as at_each}
 use Rattle.py_syntax.specs.Statements.{StmtTree, Suite}
@@ -15,19 +14,17 @@ use Rattle.py_typed.specs.Sorts.{Sort, sorts_of}
 use Rattle.py_typed.specs.Classes.{ClassEntry, Signature}
 use Rattle.py_typed.specs.Fits.{is_same_type, are_same_types, is_nothing}
 use Rattle.py_typed.specs.Narrowing.{is_closed}
-use Rattle.py_typed.specs.Statements.{Variable, TypedFunc, TypedModule, TypedSuite}
+use Rattle.py_typed.specs.Statements.{Variable, TypedFunc, TypedModule}
 use Rattle.py_typed.specs.WellTypedExpr.{init_class}
 use Rattle.py_typed.specs.WellTyped.{is_called_in, all_differ, suite_typed}
-use Rattle.py_typed.specs.WellTypedModule.{names_of, types_in, same_row, all_at, ends_well, parameter_types, signature_fits, variables_typed, func_typed, own_name, is_well_typed}
+use Rattle.py_typed.specs.WellTypedModule.{names_of, same_row, all_at, ends_well, parameter_types, signature_fits, variables_typed, func_typed, own_name, is_well_typed}
 use Rattle.py_typed.proofs.FitLemmas.{and_left, and_right, one_type}
 use Rattle.py_forms.specs.Later.{lesser, least}
 use Rattle.ir_frames.specs.Matching.{parameter_sorts}
-use Rattle.ir_frames.specs.Settings.{rtype_of}
 use Rattle.ir_expressions.specs.Compiled.{is_scalar, is_result}
 use Rattle.ir_expressions.proofs.SuitLemmas.{AllScalar, AllSigned}
-use Rattle.ir_bodies.specs.Suiting.{SuiteSuits}
-use Rattle.ir_bodies.specs.Modules.{variable_names, FunctionSuits, ModuleSuits}
-use Rattle.ir_forms.specs.Statements.{suite_lines, is_none, are_scalars, is_function, definition_line, function_lines, functions_lines, uncompiled_line}
+use Rattle.ir_bodies.specs.Modules.{FunctionSuits, ModuleSuits}
+use Rattle.ir_forms.specs.Statements.{suite_lines, is_none, are_scalars, is_function, definition_line, function_lines, functions_lines}
 use Rattle.ir_forms.specs.Laws.{CompiledSuits}
 use Rattle.ir_forms.proofs.CompiledLemmas.{none_left, none_right, form_of, parts_of}
 use Rattle.ir_forms.proofs.SuiteLemmas.{either_of, suite_suits}

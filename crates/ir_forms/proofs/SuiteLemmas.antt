@@ -5,26 +5,23 @@ use Rattle.std.specs.Prelude.{ℤ, pos, negsuc, not, ◌&&◌, ◌||◌, ◌^◌
 use Rattle.std.specs.Option.{option_map}
 use Rattle.value_core.specs.Arithmetic.{lies_within}
 use Rattle.py_syntax.specs.declared.token.Span.{Span}
-use Rattle.py_syntax.specs.declared.expression.BinOp.{BinOp}
 use Rattle.py_typed.specs.Sorts as sort
 use Rattle.py_typed.specs.Sorts.{Sort}
 use Rattle.py_typed.specs.Fits.{is_same_type, is_nothing, fits}
 use Rattle.py_typed.specs.Expressions.{TypedExpr, typed, TypedNode, Int, Flag, Nothing, Local, Neg, Not, Truth, Arith, Compare, And, Or, Cond, Call, Print, Coerce, TypedExprs, no_exprs, expr_then, type_of}
 use Rattle.py_typed.specs.Statements.{Variable, TypedModule, TypedTarget, LocalTarget, TypedStmt, on_line, TypedAct, Do, Assign, Aug, If, While, Return, Break, Continue, Pass, TypedSuite, no_stmts, stmt_then, Arms, no_arms, arm_then}
 use Rattle.py_typed.specs.StatementMeaning.{sort_at}
-use Rattle.py_typed.specs.Narrowing.{facts, without, bound_suite, part_sorts, after}
-use Rattle.py_typed.specs.WellTypedExpr.{stands, parts_typed, are_values, rule, is_value, is_typed, is_empty_call, is_none_literal, is_type, operation_sort}
-use Rattle.py_typed.specs.WellTypedExpr as expr
-use Rattle.py_typed.specs.WellTyped.{target_type, target_typed, targets_typed, assignment_fits, parts_fit, read_type, is_single, is_body, has_arm, return_fits, stmt_typed, act_typed, suite_typed, arms_typed, classes_of}
+use Rattle.py_typed.specs.Narrowing.{facts, without, bound_suite, after}
+use Rattle.py_typed.specs.WellTypedExpr.{stands, parts_typed, are_values, rule, is_value, is_typed, is_empty_call, is_none_literal}
+use Rattle.py_typed.specs.WellTyped.{target_type, assignment_fits, is_single, return_fits, stmt_typed, act_typed, suite_typed, arms_typed}
 use Rattle.py_typed.proofs.FitLemmas.{and_left, and_right, one_type}
 use Rattle.ir_core.specs.declared.code.RType.{RType}
-use Rattle.ir_core.specs.declared.code.RType.TheVariants.{Ref}
 use Rattle.ir_frames.specs.Settings.{rtype_of}
 use Rattle.ir_expressions.specs.Compiled.{is_i64, is_bool, is_scalar, is_result, is_built, literal_in}
 use Rattle.ir_expressions.specs.Suiting.{Suits, OperandSuits, Operand}
 use Rattle.ir_expressions.proofs.SuitLemmas.{AllScalar, AllSigned, well_typed_suits, well_typed_node}
-use Rattle.ir_bodies.specs.Suiting.{PrintSuits, DoSuits, IsVariable, IsOnly, ReturnSuits, TestSuits, StatementSuits, ActSuits, SuiteSuits, ArmsSuit}
-use Rattle.ir_forms.specs.Expressions.{line_unless, or_parts, line_at, is_form, operand_lines, expression_lines, part_lines}
+use Rattle.ir_bodies.specs.Suiting.{PrintSuits, DoSuits, IsVariable, IsOnly, ReturnSuits, StatementSuits, ActSuits, SuiteSuits, ArmsSuit}
+use Rattle.ir_forms.specs.Expressions.{line_at, is_form, operand_lines, expression_lines, part_lines}
 use Rattle.ir_forms.specs.Statements.{greatest_printed, is_printed, value_lines, print_lines, alone_lines, is_own, is_one, returned_lines, statement_lines, act_lines, suite_lines, arms_lines}
 use Rattle.ir_forms.proofs.CompiledLemmas.{none_left, none_right, form_of, parts_of, unless_holds, compiled, compiled_node}
 

@@ -1,4 +1,4 @@
-use Rattle.std.proofs.Common.{◌≡◌, ◌∙◌, ap, map}
+use Rattle.std.proofs.Common.{◌∙◌, ap, map}
 use Rattle.py_syntax.specs.Statements.{module_tree, body_tree}
 use Rattle.py_names.specs.Walked.{trees}
 use Rattle.py_names.specs.Outline.{suite_definitions}
