@@ -1,9 +1,8 @@
 -- The lines on which statements, expressions and functions of a typed module stand that are not compiled. A statement stands on
 -- its own line, and what stands inside of one on no line before it.
-use Rattle.std.specs.Prelude.{ℕ, suc, ℤ, pos, negsuc, Bool, true, false, ◌&&◌, nat_le, ◌==◌, if◌then◌else◌, List, [], ◌∷◌, ◌++◌, length, map, Option, Some, None, slice_get}
+use Rattle.std.specs.Prelude.{ℕ, suc, ℤ, pos, negsuc, Bool, true, false, ◌&&◌, nat_le, ◌==◌, List, [], ◌∷◌, ◌++◌, length, Option, Some, None, slice_get}
 use Rattle.std.specs.List.{list_all}
 use Rattle.py_syntax.specs.Statements.{StmtTree, at, Suite}
-use Rattle.py_typed.specs.Sorts.{Sort}
 use Rattle.py_typed.specs.Expressions.{TypedExpr, typed, Print, TypedExprs, no_exprs, expr_then, type_of}
 use Rattle.py_typed.specs.Statements.{Variable, TypedFunc, TypedModule, TypedTarget, LocalTarget, TypedStmt, on_line, TypedAct, Do, Assign, Aug, If, While, Return, Break, Continue, Pass, TypedSuite, no_stmts, stmt_then, Arms, no_arms, arm_then}
 use Rattle.py_names.specs.Outline.{suite_definitions}
