@@ -1,6 +1,8 @@
--- What is found where the code stands in a comparison, at a definition, and at what `print` writes.
-use Rattle.std.proofs.Common.{◌≡◌, ◌∙◌, refl, sym, ap, arith, ℕ, max, Bool, true, List, [], ◌∷◌, length, map, Option, Some, None}
+-- What is found where the code stands in a comparison, at a definition, at what `print` writes, and among the definitions of
+-- functions.
+use Rattle.std.proofs.Common.{◌≡◌, ◌∙◌, refl, sym, ap, arith, ℕ, max, Bool, true, false, cond, List, [], ◌∷◌, length, map, Option, Some, None}
 use Rattle.std.specs.Prelude.{slice_get}
+use Rattle.std.specs.List.{filter}
 use Rattle.std.specs.Option.{option_map}
 use Rattle.std.proofs.lemmas.Option.{slice_get-map}
 use Rattle.std.specs.declared.boxed.Box.{Box}
@@ -24,7 +26,7 @@ use Rattle.py_typed.proofs.ExpressionLemmas.{typed_expr_at, typed_node-Compare}
 use Rattle.py_typed.proofs.StatementLemmas.{typed_stmt_at, typed_act-If}
 use Rattle.py_forms.specs.Later.{lesser}
 use Rattle.ir_forms.specs.Expressions.{is_form}
-use Rattle.ir_forms.specs.Statements.{definition_line, uncompiled_line}
+use Rattle.ir_forms.specs.Statements.{is_def, definition_line, uncompiled_line}
 use Rattle.ir_forms.specs.Least.{noted, expression_least, part_least, chain_least, part_or_literal, print_least, statement_least, act_least, suite_least, arms_least, functions_least}
 use Rattle.ir_forms.proofs.LineLemmas.{module_same}
 
@@ -46,13 +48,13 @@ if_found s arms arms2 other other2 is a o found first last one all =
     ∙ sym (ap (act_least found s.line) (ap typed_act is ∙ typed_act-If arms other))
     ∙ sym (ap (statement_least found) (typed_stmt_at s))
 
-pub module_found : (m : Suite) (t : TypedModule) (definitions : List StmtTree) (top : TypedSuite) (functions : List TypedFunc) → definitions ≡ suite_definitions m → top ≡ t.top → functions ≡ t.funcs → (found last : Option ℕ) → found ≡ suite_least None top → last ≡ functions_least definitions found 0 functions → last ≡ uncompiled_line m t
+pub module_found : (m : Suite) (t : TypedModule) (definitions : List StmtTree) (top : TypedSuite) (functions : List TypedFunc) → definitions ≡ filter is_def (suite_definitions m) → top ≡ t.top → functions ≡ t.funcs → (found last : Option ℕ) → found ≡ suite_least None top → last ≡ functions_least definitions found 0 functions → last ≡ uncompiled_line m t
 module_found m t definitions top functions d o f found last one all =
     all
     ∙ ap (λ x. functions_least definitions x 0 functions) one
     ∙ ap (λ l. functions_least l (suite_least None top) 0 functions) d
-    ∙ ap (λ l. functions_least (suite_definitions m) (suite_least None l) 0 functions) o
-    ∙ ap (functions_least (suite_definitions m) (suite_least None t.top) 0) f
+    ∙ ap (λ l. functions_least (filter is_def (suite_definitions m)) (suite_least None l) 0 functions) o
+    ∙ ap (functions_least (filter is_def (suite_definitions m)) (suite_least None t.top) 0) f
     ∙ module_same m t
 
 line_at : (s : Stmt) → s.span.line ≡ definition_line (Some (stmt_tree s))
@@ -63,6 +65,18 @@ line_found definitions n s is =
     line_at s.now
     ∙ sym (ap (λ o. definition_line (option_map (λ (d : Bor Stmt). stmt_tree d.now) o)) is)
     ∙ sym (ap definition_line (slice_get-map (λ (d : Bor Stmt). stmt_tree d.now) definitions n))
+
+-- a filter by what elements stand for keeps what the elements that it keeps stand for
+pub filter_stands : {A B : Type 0} (of : A → B) (test : B → Bool) (xs : List A) → map of (filter (λ x. test (of x)) xs) ≡ filter test (map of xs)
+filter_stands of test [] = refl
+filter_stands of test (x ∷ xs) = kept (test (of x)) (filter_stands of test xs)
+  where
+    kept : (b : Bool) → map of (filter (λ y. test (of y)) xs) ≡ filter test (map of xs) → map of (cond b (x ∷ filter (λ y. test (of y)) xs) (filter (λ y. test (of y)) xs)) ≡ cond b (of x ∷ filter test (map of xs)) (filter test (map of xs))
+    kept true e = ap (λ l. of x ∷ l) e
+    kept false e = e
+
+pub functions_kept : (before after : List (Bor Stmt)) → after ≡ filter (λ (s : Bor Stmt). is_def (stmt_tree s.now)) before → trees after ≡ filter is_def (trees before)
+functions_kept before after e = ap trees e ∙ filter_stands (λ (s : Bor Stmt). stmt_tree s.now) is_def before
 
 pub several_printed : (found : Option ℕ) (line : ℕ) (es : List TExpr) → (length es ≡ 1 → ⊥) → Some (lesser line found) ≡ print_least found line (exprs_of (map typed_expr es))
 several_printed found line [] not_one = refl

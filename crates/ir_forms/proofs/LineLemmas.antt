@@ -1,6 +1,7 @@
 -- The least line that is found along a tree is the least of the lines that stand in it.
 use Rattle.std.proofs.Common.{◌≡◌, ◌∙◌, refl, sym, ap, ℕ, suc, Bool, true, false, List, [], ◌∷◌, ◌++◌, Option, Some, None}
 use Rattle.std.specs.Prelude.{ℤ, ◌&&◌, slice_get}
+use Rattle.std.specs.List.{filter}
 use Rattle.value_core.specs.Arithmetic.{lies_within}
 use Rattle.py_syntax.specs.Statements.{StmtTree, Suite}
 use Rattle.py_names.specs.Outline.{suite_definitions}
@@ -9,7 +10,7 @@ use Rattle.py_typed.specs.Statements.{TypedFunc, TypedModule, TypedStmt, on_line
 use Rattle.py_forms.specs.Later.{lesser, least}
 use Rattle.ir_expressions.specs.Compiled.{is_i64, is_scalar, is_built, literal_in}
 use Rattle.ir_forms.specs.Expressions.{line_unless, or_parts, line_at, is_form, operand_lines, expression_lines, part_lines, row_lines, chain_lines}
-use Rattle.ir_forms.specs.Statements.{is_printed, value_lines, print_lines, alone_lines, is_own, is_one, returned_lines, statement_lines, act_lines, suite_lines, arms_lines, is_function, definition_line, function_lines, functions_lines, uncompiled_line}
+use Rattle.ir_forms.specs.Statements.{is_printed, value_lines, print_lines, alone_lines, is_own, is_one, returned_lines, statement_lines, act_lines, suite_lines, arms_lines, is_function, is_def, definition_line, function_lines, functions_lines, uncompiled_line}
 use Rattle.ir_forms.specs.Least.{noted, operand_least, expression_least, part_least, row_least, chain_least, part_or_literal, value_least, print_least, alone_least, returned_least, statement_least, act_least, suite_least, arms_least, function_least, functions_least}
 
 -- the least of two rows is found in the one and then in the other
@@ -78,7 +79,7 @@ part_or_literal_same found e = operand_same (literal_in e) (line_at e) found (ex
 -- ---- statements
 
 value_same : (found : Option ℕ) (line : ℕ) (o : Option ℤ) (e : TypedExpr) → value_least found line o e ≡ least found (value_lines line o e)
-value_same found line (Some n) e = unless_same (is_printed n) (line_at e) found
+value_same found line (Some n) e = unless_same (is_printed n) line found
 value_same found line None e = noted_same (is_scalar (type_of e)) line found (expression_least found e) (expression_lines e) (expression_same found e)
 
 print_same : (found : Option ℕ) (line : ℕ) (es : TypedExprs) → print_least found line es ≡ least found (print_lines line es)
@@ -131,6 +132,6 @@ functions_same definitions found n (f ∷ more) =
     joined found _ _ (function_lines (slice_get definitions n) f) (functions_lines definitions (suc n) more) (function_same found (slice_get definitions n) f)
     (functions_same definitions (function_least found (slice_get definitions n) f) (suc n) more)
 
-pub module_same : (m : Suite) (t : TypedModule) → functions_least (suite_definitions m) (suite_least None t.top) 0 t.funcs ≡ uncompiled_line m t
+pub module_same : (m : Suite) (t : TypedModule) → functions_least (filter is_def (suite_definitions m)) (suite_least None t.top) 0 t.funcs ≡ uncompiled_line m t
 module_same m t =
-    joined None _ _ (suite_lines t.top) (functions_lines (suite_definitions m) 0 t.funcs) (suite_same None t.top) (functions_same (suite_definitions m) (suite_least None t.top) 0 t.funcs)
+    joined None _ _ (suite_lines t.top) (functions_lines (filter is_def (suite_definitions m)) 0 t.funcs) (suite_same None t.top) (functions_same (filter is_def (suite_definitions m)) (suite_least None t.top) 0 t.funcs)

@@ -4,7 +4,7 @@ use Rattle.std.proofs.lemmas.Bool.{eqb-true}
 use Rattle.std.proofs.lemmas.List.Folds.{list_any-append}
 use Rattle.std.proofs.lemmas.Option.{same_Some}
 use Rattle.std.specs.Prelude.{not, ◌&&◌, ◌||◌, ◌==◌, slice_get}
-use Rattle.std.specs.List.{list_any, flat_map}
+use Rattle.std.specs.List.{list_any, flat_map, filter}
 use Rattle.std.specs.Str.{bytes_eq}
 use Rattle.c_core.specs.WellFormed.{is_identifier, names_differ}
 use Rattle.c_core.proofs.Lines.{all_at as at_each}
@@ -24,7 +24,7 @@ use Rattle.ir_frames.specs.Matching.{parameter_sorts}
 use Rattle.ir_expressions.specs.Compiled.{is_scalar, is_result}
 use Rattle.ir_expressions.proofs.SuitLemmas.{AllScalar, AllSigned}
 use Rattle.ir_bodies.specs.Modules.{FunctionSuits, ModuleSuits}
-use Rattle.ir_forms.specs.Statements.{suite_lines, is_none, are_scalars, is_function, definition_line, function_lines, functions_lines}
+use Rattle.ir_forms.specs.Statements.{suite_lines, is_none, are_scalars, is_function, is_def, definition_line, function_lines, functions_lines}
 use Rattle.ir_forms.specs.Laws.{CompiledSuits}
 use Rattle.ir_forms.proofs.CompiledLemmas.{none_left, none_right, form_of, parts_of}
 use Rattle.ir_forms.proofs.SuiteLemmas.{either_of, suite_suits}
@@ -137,12 +137,12 @@ module _ (m : TypedModule) where
     sym (one_type f.ret s.ret (and_right (same_row (parameter_types f) s.params) (is_same_type f.ret s.ret) h)),
   )
 
-  module _ (tree : Suite) (typed : is_well_typed is_identifier m ≡ true) (lines : functions_lines (suite_definitions tree) 0 m.funcs ≡ []) where
+  module _ (tree : Suite) (typed : is_well_typed is_identifier m ≡ true) (lines : functions_lines (filter is_def (suite_definitions tree)) 0 m.funcs ≡ []) where
     function_parts : (n : ℕ) (f : TypedFunc) → slice_get m.funcs n ≡ Some f → Parts n f
     function_parts n f is = parts n f (at_place (func_typed is_identifier m) 0 m.funcs n n f (omega arith) (and_right _ _ (and_left _ _ typed)) is)
 
     formed : (n : ℕ) (f : TypedFunc) → slice_get m.funcs n ≡ Some f → (is_function f ≡ true) × (suite_lines f.body ≡ [])
-    formed n f is = is_form_of (suite_definitions tree) 0 m.funcs n f lines is
+    formed n f is = is_form_of (filter is_def (suite_definitions tree)) 0 m.funcs n f lines is
 
     all_signed : (vs : List Variable) (init : Option ℕ) → AllSigned m vs init
     all_signed vs init n f s is function found =
@@ -178,7 +178,7 @@ module _ (m : TypedModule) where
           functions = function_suits;
           differ =
               sym (one_test (map (λ (f : TypedFunc). f.name) m.funcs))
-              ∙ subst (λ l. all_differ l ≡ true) (all_named (suite_definitions tree) 0 m.funcs lines) (differ_left functions classes (differ_right others (functions ++ classes) (and_right _ _ two)));
+              ∙ subst (λ l. all_differ l ≡ true) (all_named (filter is_def (suite_definitions tree)) 0 m.funcs lines) (differ_left functions classes (differ_right others (functions ++ classes) (and_right _ _ two)));
           identifiers = and_left _ _ (and_left _ _ globals);
           globals_differ = sym (one_test others) ∙ and_right _ _ (and_left _ _ globals);
           top = suite_suits m [] None no_variables (all_signed [] None) None [] false false m.top (and_right _ _ typed) top;
@@ -189,5 +189,5 @@ module _ (m : TypedModule) where
 
 pub compiled_suits : CompiledSuits
 compiled_suits tree m typed none =
-    let all = no_line (suite_lines m.top ++ functions_lines (suite_definitions tree) 0 m.funcs) none in
-    module_suits m tree typed (none_right (suite_lines m.top) (functions_lines (suite_definitions tree) 0 m.funcs) all) (none_left (suite_lines m.top) (functions_lines (suite_definitions tree) 0 m.funcs) all)
+    let all = no_line (suite_lines m.top ++ functions_lines (filter is_def (suite_definitions tree)) 0 m.funcs) none in
+    module_suits m tree typed (none_right (suite_lines m.top) (functions_lines (filter is_def (suite_definitions tree)) 0 m.funcs) all) (none_left (suite_lines m.top) (functions_lines (filter is_def (suite_definitions tree)) 0 m.funcs) all)

@@ -126,7 +126,7 @@ module _ (m : TypedModule) (vs : List Variable) (init : Option ℕ) (scalars : A
   printed_by : (known : List ℕ) (line : ℕ) (e : TypedExpr) (o : Option ℤ) → literal_in e ≡ o → stands m vs init false known e ≡ true → value_lines line o e ≡ [] → OperandSuits o (type_of e) (Suits m vs e)
   printed_by known line e None is h p =
       (form_of (is_scalar (type_of e)) line (expression_lines e) p, expression_suits false known e h (parts_of (is_scalar (type_of e)) line (expression_lines e) p))
-  printed_by known line e (Some n) is h p = (literal_sort known e n is h, printed_literal n (unless_holds (is_printed n) (line_at e) p))
+  printed_by known line e (Some n) is h p = (literal_sort known e n is h, printed_literal n (unless_holds (is_printed n) line p))
 
   test_sort : (known : List ℕ) (e : TypedExpr) → stands m vs init true known e ≡ true → type_of e ≡ sort.Bool
   test_sort known (typed n t place) h = one_type t sort.Bool (and_right _ _ (and_left _ _ (and_left _ _ h)))

@@ -54,7 +54,7 @@ abbrev pub scalar_least : Option ℕ → ℕ → TypedExpr → Option ℕ
 scalar_least found line e = noted (is_scalar (type_of e)) line found (expression_least found e)
 
 abbrev pub value_least : Option ℕ → ℕ → Option ℤ → TypedExpr → Option ℕ
-value_least found line (Some n) e = noted (is_printed n) (line_at e) found found
+value_least found line (Some n) e = noted (is_printed n) line found found
 value_least found line None e = scalar_least found line e
 
 -- a value that `print` writes

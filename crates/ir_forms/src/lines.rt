@@ -2,12 +2,13 @@
 //!
 //! Each function takes the least line found so far, and gives the least one with those of what it goes over.
 ghost use Rattle.std.specs.Prelude.{◌≡◌, map, slice_get, Some, IfOk};
+ghost use Rattle.std.specs.List.{filter};
 ghost use Rattle.py_forms.specs.Later.{lesser};
-ghost use Rattle.py_syntax.specs.Statements.{module_tree};
+ghost use Rattle.py_syntax.specs.Statements.{module_tree, stmt_tree};
 ghost use Rattle.py_names.specs.Walked.{trees};
 ghost use Rattle.py_typed.specs.Expressions.{typed_expr, exprs_of, comparisons_of, typed_comparison};
 ghost use Rattle.py_typed.specs.Statements.{typed_stmt, typed_suite, typed_arm, arms_of, maybe_typed, typed_func, typed_module};
-ghost use Rattle.ir_forms.specs.Statements.{uncompiled_line, is_function, definition_line};
+ghost use Rattle.ir_forms.specs.Statements.{uncompiled_line, is_function, is_def, definition_line};
 ghost use Rattle.ir_forms.specs.Least as find;
 
 use crate::forms::{
@@ -15,7 +16,7 @@ use crate::forms::{
 };
 use py_forms::lesser;
 use py_names::definitions_in;
-use py_syntax::{CmpOp, Module, Stmt};
+use py_syntax::{CmpOp, Module, Stmt, StmtKind};
 use py_typed::{Checked, TExpr, TFunc, TKind, TStmt, TStmtKind};
 use std::alloc::Global;
 use value_core::{Many, Memory};
@@ -29,7 +30,8 @@ pub fn uncompiled_line(
 ) -> Result<Option<usize>, Memory>
     ensures { IfOk result (λ line. line ≡ uncompiled_line (module_tree parsed.now) (typed_module checked.now)) }
 {
-    let definitions = definitions_in(alloc, parsed.body.as_slice())?;
+    let mut definitions = definitions_in(alloc, parsed.body.as_slice())?;
+    keep_functions(&mut definitions);
     let found = in_suite(checked.top.as_slice(), None);
     Ok(in_functions(&definitions, checked.funcs.as_slice(), found))
 }
@@ -112,7 +114,7 @@ fn in_value(e: &TExpr, line: usize, found: Option<usize>) -> Option<usize>
     ensures { result ≡ find.printed_least found line (typed_expr e.now) }
 {
     match literal_in(e) {
-        Some(n) => in_literal(is_printed(n), e.span.line, found),
+        Some(n) => in_literal(is_printed(n), line, found),
         None => in_scalar(e, line, found),
     }
 }
@@ -242,6 +244,20 @@ fn in_function(f: &TFunc, line: usize, found: Option<usize>) -> Option<usize>
     }
 }
 
+/// Keeps of definitions and imports those that define functions.
+fn keep_functions(definitions: &mut Vec<&Stmt>)
+    ensures { trees definitions.new.items ≡ filter is_def (trees definitions.old.items) }
+{
+    definitions.retain(|s| is_def(s));
+}
+
+/// Whether a statement defines a function.
+fn is_def(s: &Stmt) -> bool
+    ensures { result ≡ is_def (stmt_tree s.now) }
+{
+    matches!(s.kind, StmtKind::Def(_))
+}
+
 /// The line of the definition of a number, 0 where there is none.
 fn line_of(definitions: &[&Stmt], n: usize) -> usize
     ensures { result ≡ definition_line (slice_get (trees definitions.now) n) }
@@ -252,7 +268,7 @@ fn line_of(definitions: &[&Stmt], n: usize) -> usize
     }
 }
 
-/// In functions, of which each stands among the definitions at its number.
+/// In functions, of which each stands among the functions' definitions at its number.
 fn in_functions(definitions: &[&Stmt], functions: &[TFunc], found: Option<usize>) -> Option<usize>
     ensures { result ≡ find.functions_least (trees definitions.now) found 0 (map typed_func functions.now) }
 {
