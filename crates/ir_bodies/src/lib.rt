@@ -5,6 +5,7 @@
 //! says which statements are built, and `Emitted` of `ir_statements` what their code does.
 #![tactic(auto)]
 
+mod exits;
 mod statement;
 
 pub use statement::emit_block;
