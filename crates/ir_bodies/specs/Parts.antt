@@ -11,7 +11,7 @@ use Rattle.ir_frames.specs.Computing.{Shows, Computes}
 use Rattle.ir_statements.specs.declared.ways.Way.TheVariants.{Join}
 use Rattle.ir_statements.specs.declared.ways.Exit.{Exit}
 use Rattle.ir_statements.specs.declared.ways.Plan.{Plan}
-use Rattle.ir_statements.specs.Means.{means}
+use Rattle.ir_statements.specs.Means.{means, means_returned, returned_type}
 use Rattle.ir_statements.specs.Runs.{Patching}
 use Rattle.ir_statements.specs.Ways.{planned, left}
 use Rattle.ir_bodies.specs.declared.branch.Test.{Test}
@@ -24,6 +24,11 @@ IsLocal target = ⊥
 abbrev pub IsOneLocal : List TypedTarget → Type 0
 IsOneLocal (target ∷ []) = IsLocal target
 IsOneLocal targets = ⊥
+
+-- the value of a return, or None, was computed
+abbrev pub ComputesReturned : Setting → Option TypedExpr → Building → Building → ℕ → Type 0
+ComputesReturned x o old new r =
+    Computes x (Shows (returned_type o)) (rtype_of (returned_type o)) (means_returned x o) old new r
 
 -- a test was computed, and the block that ends with it is still to be given its jumps
 pub record Splits (x : Setting) (e : TypedExpr) (old new : Building) (t : Test) : Type 0 where

@@ -7,6 +7,7 @@
 
 mod branch;
 mod exits;
+mod simple;
 mod statement;
 
 pub use statement::emit_block;
