@@ -1,3 +1,4 @@
 pub mod PartLemmas
+pub mod AloneLemmas
 pub mod AssignLemmas
 pub mod ReturnLemmas

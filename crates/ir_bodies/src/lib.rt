@@ -5,6 +5,7 @@
 //! says which statements are built, and `Emitted` of `ir_statements` what their code does.
 #![tactic(auto)]
 
+mod alone;
 mod branch;
 mod exits;
 mod simple;
