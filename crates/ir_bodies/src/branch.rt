@@ -39,7 +39,6 @@ pub(crate) fn emit_split(
     locals: &[Var],
     frame: Frame,
     e: &TExpr,
-    line: usize,
 ) -> Result<Test, Memory>
     requires suits { Suits (typed_module checked.now) (map variable locals.now) (typed_expr e.now) }
     requires room { HasRoom (setting checked.now locals.now frame) b.old }
@@ -49,7 +48,7 @@ pub(crate) fn emit_split(
     ensures shaped { Keeps b.old b.new }
     ensures kinds { KeepsKindsIf (IsAmong (typed_module checked.now)) b.old b.new }
 {
-    let condition = emit_expression(b, alloc, checked, locals, frame, e, line)?;
+    let condition = emit_expression(b, alloc, checked, locals, frame, e, e.span.line)?;
     let block = b.close(Last::Unreachable)?;
     Ok(Test {
         condition,
