@@ -5,6 +5,10 @@
 //! says which statements are built, and `Emitted` of `ir_statements` what their code does.
 #![tactic(auto)]
 
+mod alone;
+mod branch;
+mod exits;
+mod simple;
 mod statement;
 
 pub use statement::emit_block;
