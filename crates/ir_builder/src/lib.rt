@@ -6,5 +6,6 @@
 #![tactic(auto)]
 
 mod program;
+mod registers;
 
 pub use program::build;
