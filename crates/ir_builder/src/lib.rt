@@ -5,6 +5,7 @@
 //! it is stuck; it has its shape, so that its C text is well formed; and its only references are the texts that it prints.
 #![tactic(auto)]
 
+mod body;
 mod program;
 mod registers;
 
