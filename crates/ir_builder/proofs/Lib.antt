@@ -2,3 +2,5 @@ pub mod ClosedLemmas
 pub mod RegisterLemmas
 pub mod FillLemmas
 pub mod BodyLemmas
+pub mod EdgeLemmas
+pub mod CallLemmas
