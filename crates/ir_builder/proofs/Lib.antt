@@ -4,3 +4,4 @@ pub mod FillLemmas
 pub mod BodyLemmas
 pub mod EdgeLemmas
 pub mod CallLemmas
+pub mod ArgumentLemmas
