@@ -5,3 +5,4 @@ pub mod BodyLemmas
 pub mod EdgeLemmas
 pub mod CallLemmas
 pub mod ArgumentLemmas
+pub mod FunctionLemmas

@@ -4,6 +4,7 @@ use Rattle.c_core.specs.WellFormed.{names_differ}
 use Rattle.py_typed.specs.Statements.{Variable}
 use Rattle.ir_core.specs.declared.code.RType.{RType}
 use Rattle.ir_core.specs.declared.code.RType.TheVariants.{Ref}
+use Rattle.ir_core.specs.Building.{Building}
 use Rattle.ir_core.specs.Rows.{Declared}
 use Rattle.ir_frames.specs.declared.frame.Vars.{Vars}
 use Rattle.ir_frames.specs.Settings.{rtype_of}
@@ -27,3 +28,9 @@ pub record AddsText (old new : Declared) : Type 0 where
 -- so many variables, which are all parameters, and behind them the register for texts
 abbrev pub parameters_alone : ℕ → Vars
 parameters_alone n = record { params = n; count = n; text = n; top = n + 1 }
+
+-- the code of a function whose variables have these registers, before its first operation
+pub record Begins (variables : Declared) (b : Building) : Type 0 where
+  pub regs : AddsText variables b.regs
+  pub blocks : b.blocks ≡ []
+  pub ops : b.ops ≡ []

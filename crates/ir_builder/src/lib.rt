@@ -6,6 +6,7 @@
 #![tactic(auto)]
 
 mod body;
+mod functions;
 mod program;
 mod registers;
 
