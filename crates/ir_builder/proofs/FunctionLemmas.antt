@@ -31,18 +31,19 @@ use Rattle.ir_core.proofs.BuildingLemmas.{built_is_held}
 use Rattle.ir_frames.specs.declared.frame.Vars.{Vars}
 use Rattle.ir_frames.specs.Calling.{Pushes}
 use Rattle.ir_frames.specs.Coming.{world, Escapes}
-use Rattle.ir_frames.specs.Kinds.{temporary_name, Head, head_of, Surrounding, is_plain, ArePlain, LiteralFits, OpKinds, OpsKinds, no_more, BlocksKinds, HasKinds, KeepsKindsIf, IsAmong}
+use Rattle.ir_frames.specs.Computing.{Meaning}
+use Rattle.ir_frames.specs.Kinds.{temporary_name, Head, head_of, Surrounding, is_plain, ArePlain, LiteralFits, OpKinds, OpsKinds, no_more, BlocksKinds, HasKinds, KeepsKinds, KeepsKindsIf, IsAmong}
 use Rattle.ir_frames.specs.Matching.{HasRoom, Matches, parameter_sorts, BeginWith, HasHead}
 use Rattle.ir_frames.specs.Naming.{names_of}
 use Rattle.ir_frames.specs.Placing.{HasType, NoEdges, Has}
 use Rattle.ir_frames.specs.Settings.{Setting, rtype_of}
 use Rattle.ir_frames.specs.Shaped.{OpFits, OpsFit, AllFit, Shaped, KeepsIf}
 use Rattle.ir_frames.proofs.ComingLemmas.{ends_map}
-use Rattle.ir_frames.proofs.HeldLemmas.{get_below}
+use Rattle.ir_frames.proofs.HeldLemmas.{extends_refl, extends_trans, get_below}
 use Rattle.ir_frames.proofs.KindLemmas.{get_behind}
 use Rattle.ir_expressions.specs.Compiled.{is_scalar}
 use Rattle.ir_bodies.specs.Modules.{variable_names, FunctionSuits, ModuleSuits}
-use Rattle.ir_bodies.specs.Kinds.{IsAround}
+use Rattle.ir_bodies.specs.Kinds.{GivesResult, IsAround}
 use Rattle.ir_statements.specs.Means.{means_suite}
 use Rattle.ir_shapes.specs.Built.{building_of, IsBuilt, IsFunction, IsOwn}
 use Rattle.ir_builder.specs.Registers.{register_of, variable_registers, AddsText, Begins, parameters_alone}
@@ -73,7 +74,7 @@ map_get f [] j y e = let g : None ≡ Some y = e in absurd (cc)
 map_get f (x ∷ xs) zero y e = (x, refl, let g : Some (f x) ≡ Some y = e in cc)
 map_get f (x ∷ xs) (suc j) y e = map_get f xs j y e
 
-map_length : {A B : Type 0} (f : A → B) (xs : List A) → length (map f xs) ≡ length xs
+pub map_length : {A B : Type 0} (f : A → B) (xs : List A) → length (map f xs) ≡ length xs
 map_length f [] = refl
 map_length f (x ∷ xs) = ap suc (map_length f xs)
 
@@ -217,4 +218,128 @@ is_built vs rest g b h low high size names regs kinds none highest shaped writte
       few = subst (λ bs. length bs < 2 ^ 64) (sym same_blocks) few;
       differ = ap (λ ds. names_differ (names_of ds)) same_regs ∙ differ;
       identifiers = ap (λ ds. list_all is_identifier (names_of ds)) front ∙ ap (list_all is_identifier) (names_are vs) ∙ names;
+    }
+
+-- ---- a function that was built
+
+literal_fits : (t : RType) → LiteralFits t (end_literal t)
+literal_fits rtype.Int = (refl, refl)
+literal_fits rtype.I64 = (refl, refl)
+literal_fits rtype.Bool = (refl, refl)
+literal_fits rtype.Ref = refl
+
+literal_value : (t : RType) → literal_of t (end_literal t) ≡ Some (Holds (end_value t))
+literal_value rtype.Int = refl
+literal_value rtype.I64 = refl
+literal_value rtype.Bool = refl
+literal_value rtype.Ref = refl
+
+abbrev body_setting : TypedModule → List Variable → Vars → Setting
+body_setting m vs vars = record { source = m; variables = vs; frame = body_frame vars }
+
+module _ (m : TypedModule) (suits : ModuleSuits m) (vs : List Variable) (names : list_all is_identifier (variable_names vs) ≡ true) (variables : Declared) (are : variables ≡ variable_registers vs) (count : ℕ) (size : count ≡ length vs) (vars : Vars) (vars_are : vars ≡ parameters_alone count) (gives : Option RType) (t : RType) (gives_it : (g : Surrounding) → g.ret ≡ t → GivesResult gives g) (last : Literal) (fits : LiteralFits t last) (M : Meaning Flow) (b0 b1 b2 : Building) (first : Begins variables b0) (x01 : Extends b0 b1) (start : length b1.blocks ≡ 0) (shaped01 : (low high : ℕ) → Shaped low high b0 → Shaped low high b1) (kinds01 : KeepsKinds b0 b1) (bodied : Bodied (body_setting m vs vars) gives t last M b1 b2) (shape : CompletesShape b1 b2) (kinds12 : KeepsKindsIf (BodyAround m vars gives t last) b1 b2) (few : length b2.blocks < 2 ^ 64) (differ : names_differ (names_of b2.regs) ≡ true) (h : Func) (regs : h.regs ≡ b2.regs) (blocks : h.blocks ≡ b2.blocks) (ret : h.ret ≡ t) (params : h.params ≤ count) where
+  behind : (rest : Declared) × (b2.regs ≡ variable_registers vs ++ rest)
+  behind =
+      let text : List ℕ × RType = (first.regs.name, rtype.Ref) in
+      let more = starts_with b0.regs b2.regs (extends_trans b0 b1 b2 x01 bodied.extends).regs in
+      (text ∷ more.0, more.1 ∙ ap (λ ds. ds ++ more.0) (begin_regs vs b0 variables are first count size) ∙ append_assoc (variable_registers vs) (text ∷ []) more.0)
+
+  pub made_regs : (rest : Declared) × (h.regs ≡ variable_registers vs ++ rest)
+  made_regs = let k = behind in (k.0, regs ∙ k.1)
+
+  made_kinds : HasKinds (record { heads = heads_of m; variables = count; text = count; ret = t }) b2
+  made_kinds =
+      let g : Surrounding = record { heads = heads_of m; variables = count; text = count; ret = t } in
+      let k0 = begin_kinds vs b0 variables are first count size (heads_of m) t in
+      let around : IsAround m (body_frame vars) gives g = record { among = among m suits g refl; text = sym (ap (λ (z : Vars). z.text) vars_are); ret = gives_it g refl } in
+      kinds12 g record { around = around; ret = refl; fits = fits } (kinds01 g k0)
+
+  highest : length b2.blocks ≡ suc (length b2.blocks - 1)
+  highest = let more = bodied.more in omega arith
+
+  made_shaped : Shaped 0 (length b2.blocks - 1) b2
+  made_shaped = shape 0 (length b2.blocks - 1) (omega arith) highest (shaped01 0 (length b2.blocks - 1) (begin_shaped vs b0 variables are first count size 0 (length b2.blocks - 1)))
+
+  pub made_built : IsBuilt (heads_of m) h
+  made_built =
+      let k = behind in
+      let g : Surrounding = record { heads = heads_of m; variables = count; text = count; ret = t } in
+      is_built vs k.0 g b2 h 0 (length b2.blocks - 1) size names k.1 made_kinds bodied.ops highest made_shaped (λ j. bodied.full j (omega (arith, start))) few differ params ret regs blocks
+
+  pub made_has : (p : Program) (fn : ℕ) → slice_get p.funcs fn ≡ Some h → Has p fn b2
+  made_has p fn there =
+      let s = made_shaped in
+      has_all p fn b2 h there blocks regs bodied.ops (no_edges p fn h 0 (length b2.blocks - 1) there (subst (λ bs. AllFit 0 (length b2.blocks - 1) 0 bs) (sym blocks) s.0))
+
+-- a function of the module
+pub function_is : (m : TypedModule) (suits : ModuleSuits m) (f : TypedFunc) (fits : FunctionSuits m f) (variables : Declared) (count params : ℕ) (vars : Vars) (ret : RType) (last : Literal) (b0 b1 b2 : Building) (name : List ℕ) (h0 h : Func) → variables ≡ variable_registers f.locals → count ≡ length f.locals → vars ≡ parameters_alone count → ret ≡ rtype_of f.ret → last ≡ end_literal ret → Begins variables b0 → Pushes b0 b1 Turn → KeepsIf (λ low high. OpFits low Turn) b0 b1 → KeepsKindsIf (λ g. OpKinds g b0.regs Turn) b0 b1 → Bodied (body_setting m f.locals vars) (Some ret) ret last (means_suite (body_setting m f.locals vars) f.body) b1 b2 → CompletesShape b1 b2 → KeepsKindsIf (BodyAround m vars (Some ret) ret last) b1 b2 → length b2.blocks < 2 ^ 64 → names_differ (names_of b2.regs) ≡ true → params ≡ f.params → h0 ≡ record { name = b2.name; params = params; regs = b2.regs; ret = ret; blocks = b2.blocks } → name ≡ f.name → h ≡ record h0 { name = name } → IsFunctionOf m f h
+function_is m suits f fits variables count params vars ret last b0 b1 b2 name h0 h are size vars_are ret_is last_is first turn shaped01 kinds01 bodied shape kinds12 few differ params_are is0 name_is is =
+    let none : length b1.blocks ≡ 0 = turn.blocks ∙ ap length first.blocks in
+    let one : length b1.ops ≡ 1 = turn.ops ∙ ap (λ os. length os + 1) first.ops in
+    let h_regs : h.regs ≡ b2.regs = ap (λ (z : Func). z.regs) is ∙ ap (λ (z : Func). z.regs) is0 in
+    let h_blocks : h.blocks ≡ b2.blocks = ap (λ (z : Func). z.blocks) is ∙ ap (λ (z : Func). z.blocks) is0 in
+    let h_ret : h.ret ≡ ret = ap (λ (z : Func). z.ret) is ∙ ap (λ (z : Func). z.ret) is0 in
+    let h_params : h.params ≡ f.params = ap (λ (z : Func). z.params) is ∙ ap (λ (z : Func). z.params) is0 ∙ params_are in
+    let h_name : h.name ≡ f.name = ap (λ (z : Func). z.name) is ∙ name_is in
+    let literal : LiteralFits ret last = subst (LiteralFits ret) (sym last_is) (literal_fits ret) in
+    let few_params : h.params ≤ count = omega (arith, h_params, size, fits.parameters) in
+    let sh01 : (low high : ℕ) → Shaped low high b0 → Shaped low high b1 = λ low high s. shaped01 low high (tt, refl) s in
+    let ki01 : KeepsKinds b0 b1 = λ g k. kinds01 g tt k in
+    let built = made_built m suits f.locals fits.identifiers variables are count size vars vars_are (Some ret) ret (λ g e. e) last literal (means_suite (body_setting m f.locals vars) f.body) b0 b1 b2 first turn.extends none sh01 ki01 bodied shape kinds12 few differ h h_regs h_blocks h_ret few_params in
+    let regs = made_regs m suits f.locals fits.identifiers variables are count size vars vars_are (Some ret) ret (λ g e. e) last literal (means_suite (body_setting m f.locals vars) f.body) b0 b1 b2 first turn.extends none sh01 ki01 bodied shape kinds12 few differ h h_regs h_blocks h_ret few_params in
+    let item : held b2 0 0 ≡ Some (Do Turn) =
+    ap (λ k. held b2 k 0) (sym (ap length first.blocks)) ∙ ap (λ i. held b2 (length b0.blocks) i) (sym (ap length first.ops)) ∙ bodied.extends.items (length b0.blocks) (length b0.ops) (Do Turn) turn.at in
+    let sorts = all_parameters f fits.parameters in
+    record {
+      name = h_name;
+      head = record {
+        params = h_params ∙ sym fits.parameters ∙ sym (map_length sort_of f.locals) ∙ sym (ap length sorts);
+        regs = subst (λ ts. BeginWith h.regs ts) (sym sorts) (subst (λ ds. BeginWith ds (map sort_of f.locals)) (sym regs.1) (begin_with f.locals regs.0));
+        ret = h_ret ∙ ret_is;
+      };
+      built = record {
+        built = built;
+        turn = ap (λ bs. item_in bs 0 0) h_blocks ∙ sym (built_is_held b2.blocks 0 0) ∙ sym (ap (λ os. held_in b2.blocks os 0 0) bodied.ops) ∙ item;
+        name = ap is_identifier h_name ∙ fits.name;
+      };
+      works = λ p fn there.
+          let has = made_has m suits f.locals fits.identifiers variables are count size vars vars_are (Some ret) ret (λ g e. e) last literal (means_suite (body_setting m f.locals vars) f.body) b0 b1 b2 first turn.extends none sh01 ki01 bodied shape kinds12 few differ h h_regs h_blocks h_ret few_params p fn there in
+          let value : literal_of ret last ≡ Some (Holds (end_value ret)) = ap (literal_of ret) last_is ∙ literal_value ret in
+          let body = bodied.works p fn h (end_value ret) has there value in
+          let B : RType → ℕ → ℕ → Type 0 = λ r k i. BodyWorks p (body_setting m f.locals vars) (Some r) (end_value r) (means_suite (body_setting m f.locals vars) f.body) fn k i in
+          let placed : B (rtype_of f.ret) 0 1 = subst (λ r. B r 0 1) ret_is (subst (λ i. B ret 0 i) one (subst (λ k. B ret k (length b1.ops)) none body)) in
+          let no_end : (n : ℕ) (s : State) → (is_nothing f.ret ≡ true) ⊎ Avoids is_end (suite m.classes.classes (call_of m n) m.globals f.locals n f.body s) = λ n s. ⊎_elim (λ e. inl e) (λ closed. inr (suite_closed m.classes.classes (call_of m n) m.globals f.locals n m f.locals (Some (rtype_of f.ret)) false f.body fits.body closed s)) fits.ends in
+          function_works p m f fn h vars regs.0 fits.parameters fits.result no_end (vars_are ∙ ap parameters_alone size) regs.1 placed;
+    }
+
+-- ---- the module's own statements
+
+own_flow : (p : Program) (g : Flow) (s : State) (d : Config) → LeavesWith p None (BoolVal true) [] g s d → (g ≡ Goes) × (d ≡ Ended Done (world None s))
+own_flow p Goes s d h = (refl, h)
+own_flow p Breaks s d h = absurd h
+own_flow p Continues s d h = absurd h
+own_flow p (Returns v) s d h = absurd h.0
+
+pub own_is : (m : TypedModule) (suits : ModuleSuits m) (variables : Declared) (count params : ℕ) (vars : Vars) (b0 b2 : Building) (h : Func) → variables ≡ [] → count ≡ 0 → vars ≡ parameters_alone count → Begins variables b0 → Bodied (body_setting m [] vars) None rtype.Bool (Number (pos 1)) (means_suite (body_setting m [] vars) m.top) b0 b2 → CompletesShape b0 b2 → KeepsKindsIf (BodyAround m vars None rtype.Bool (Number (pos 1))) b0 b2 → length b2.blocks < 2 ^ 64 → names_differ (names_of b2.regs) ≡ true → params ≡ 0 → h ≡ record { name = b2.name; params = params; regs = b2.regs; ret = rtype.Bool; blocks = b2.blocks } → IsOwnOf m h
+own_is m suits variables count params vars b0 b2 h are size vars_are first bodied shape kinds12 few differ params_are is =
+    let none : length b0.blocks ≡ 0 = ap length first.blocks in
+    let start : length b0.ops ≡ 0 = ap length first.ops in
+    let h_regs : h.regs ≡ b2.regs = ap (λ (z : Func). z.regs) is in
+    let h_blocks : h.blocks ≡ b2.blocks = ap (λ (z : Func). z.blocks) is in
+    let h_ret : h.ret ≡ rtype.Bool = ap (λ (z : Func). z.ret) is in
+    let h_params : h.params ≡ 0 = ap (λ (z : Func). z.params) is ∙ params_are in
+    let few_params : h.params ≤ count = omega (arith, h_params) in
+    record {
+      built = record {
+        built = made_built m suits [] refl variables are count size vars vars_are None rtype.Bool (λ g e. tt) (Number (pos 1)) (refl, refl) (means_suite (body_setting m [] vars) m.top) b0 b0 b2 first (extends_refl b0) none (λ low high s. s) (λ g k. k) bodied shape kinds12 few differ h h_regs h_blocks h_ret few_params;
+        params = h_params;
+        ret = h_ret;
+      };
+      works = λ p fn there n calls s le.
+          let has = made_has m suits [] refl variables are count size vars vars_are None rtype.Bool (λ g e. tt) (Number (pos 1)) (refl, refl) (means_suite (body_setting m [] vars) m.top) b0 b0 b2 first (extends_refl b0) none (λ low high s. s) (λ g k. k) bodied shape kinds12 few differ h h_regs h_blocks h_ret few_params p fn there in
+          let body = bodied.works p fn h (BoolVal true) has there refl in
+          let B : ℕ → ℕ → Type 0 = λ k i. BodyWorks p (body_setting m [] vars) None (BoolVal true) (means_suite (body_setting m [] vars) m.top) fn k i in
+          let placed : B 0 0 = subst (λ i. B 0 i) start (subst (λ k. B k (length b0.ops)) none body) in
+          let match : Matches (body_setting m [] vars) (first_regs h.regs []) s.locals = record { each = λ j v at. let f : None ≡ Some v = at in absurd (cc) } in
+          ends_map p s.turns _ (top_of m n s) (LeavesWith p None (BoolVal true) []) _ (Escapes fn []) (Escapes fn []) (λ g u d z. own_flow p g u d z) (λ v u d z. z) (placed n calls (first_regs h.regs []) [] s match le);
     }
