@@ -98,7 +98,7 @@ starts_with (x ∷ xs) (y ∷ ys) h =
 
 -- ---- registers
 
-names_are : (vs : List Variable) → names_of (variable_registers vs) ≡ variable_names vs
+pub names_are : (vs : List Variable) → names_of (variable_registers vs) ≡ variable_names vs
 names_are vs = map_map (λ d. d.0) register_of vs
 
 pub registers_differ : (vs : List Variable) (declared : Declared) → names_differ (variable_names vs) ≡ true → declared ≡ variable_registers vs → names_differ (names_of declared) ≡ true

@@ -6,3 +6,4 @@ pub mod EdgeLemmas
 pub mod CallLemmas
 pub mod ArgumentLemmas
 pub mod FunctionLemmas
+pub mod WholeLemmas

@@ -18,6 +18,7 @@ use Rattle.ir_frames.specs.Coming.{world, running, Escapes, Ends}
 use Rattle.ir_frames.specs.Kinds.{Head, head_of}
 use Rattle.ir_frames.specs.Matching.{HaveKinds, parameter_sorts, HasHead, CallGives, CallRaises, CallsWork}
 use Rattle.ir_shapes.specs.Built.{IsFunction, IsOwn}
+use Rattle.ir_builder.specs.Registers.{variable_registers}
 
 -- what a function gives at the end of its code. One whose result is not None does not come there
 abbrev pub end_literal : RType → Lit
@@ -58,3 +59,13 @@ AllBuilt m [] [] = Unit {0}
 AllBuilt m [] (h ∷ hs) = ⊥
 AllBuilt m (f ∷ fs) [] = ⊥
 AllBuilt m (f ∷ fs) (h ∷ hs) = IsFunctionOf m f h × AllBuilt m fs hs
+
+-- the program of a module: its functions in order, and its own statements behind them
+pub record IsBuiltOf (m : TypedModule) (p : Program) : Type 0 where
+  pub functions : List Func
+  pub own : Func
+  pub are : p.funcs ≡ functions ++ own ∷ []
+  pub each : AllBuilt m m.funcs functions
+  pub own_built : IsOwnOf m own
+  pub classes : p.classes ≡ []
+  pub globals : p.globals ≡ variable_registers m.globals
