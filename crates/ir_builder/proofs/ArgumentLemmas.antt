@@ -1,30 +1,28 @@
 -- A function that is called: its registers hold its arguments, and what its body gives is what the call gives.
-use Rattle.std.proofs.Common.{◌≡◌, ℕ, zero, suc, ◌+◌, ◌-◌, ◌<◌, ◌≤◌, Bool, true, false, List, [], ◌∷◌, ◌++◌, length, map, take, Option, Some, None, refl, sym, ap, ◌∙◌, subst, arith, ◌⊎◌, inl, inr}
-use Rattle.std.specs.Prelude.{slice_get, nat_lt, nat_eq, replicate, if◌then◌else◌}
+use Rattle.std.proofs.Common.{◌≡◌, ℕ, zero, suc, ◌-◌, ◌<◌, ◌≤◌, true, false, List, [], ◌∷◌, ◌++◌, length, map, Option, Some, None, refl, ap, ◌∙◌, subst, arith, ◌⊎◌, inl, inr}
+use Rattle.std.specs.Prelude.{slice_get, nat_eq, replicate}
 use Rattle.std.proofs.lemmas.Bool.{eq-eqb}
 use Rattle.std.proofs.lemmas.Bool.Decides.{nat_tests}
 use Rattle.value_core.specs.Value.{Value, BoolVal, NoneVal}
 use Rattle.py_typed.specs.Sorts as sort
 use Rattle.py_typed.specs.Sorts.{Sort}
 use Rattle.py_typed.specs.Fits.{is_nothing}
-use Rattle.py_typed.specs.State.{State, Outcome, Gives, Raises, Stops, Does, on_to}
+use Rattle.py_typed.specs.State.{State, Outcome, Gives, Raises, Stops, on_to}
 use Rattle.py_typed.specs.SourceRun.{call_of, enter}
 use Rattle.py_typed.specs.Statements.{Variable, TypedFunc, TypedModule}
 use Rattle.py_typed.specs.StatementMeaning.{suite}
-use Rattle.py_typed.specs.WaysOut.{Flow, Goes, Breaks, Continues, Returns, and_set, answer, inside}
+use Rattle.py_typed.specs.WaysOut.{Flow, Goes, Breaks, Continues, Returns, and_set, answer}
 use Rattle.ir_core.specs.declared.code.Func.{Func}
 use Rattle.ir_core.specs.declared.code.Program.{Program}
-use Rattle.ir_core.specs.declared.code.RType.{RType}
 use Rattle.ir_core.specs.Meaning.{Waiting, Config}
-use Rattle.ir_core.specs.Registers.{Held, Holds, Regs, first_regs}
+use Rattle.ir_core.specs.Registers.{Holds, first_regs}
 use Rattle.ir_core.specs.Rows.{Declared}
 use Rattle.ir_frames.specs.declared.frame.Vars.{Vars}
 use Rattle.ir_frames.specs.Coming.{world, running, Escapes, returning, Ends}
 use Rattle.ir_frames.specs.Matching.{HasKind, HaveKinds, flag_in, Matches, parameter_sorts, CallGives, CallRaises, CallsWork}
-use Rattle.ir_frames.specs.Settings.{Setting, rtype_of}
+use Rattle.ir_frames.specs.Settings.{rtype_of}
 use Rattle.ir_frames.proofs.HeldLemmas.{get_below}
-use Rattle.ir_expressions.specs.Compiled.{is_scalar, is_result}
-use Rattle.ir_statements.specs.Runs.{HasResult}
+use Rattle.ir_expressions.specs.Compiled.{is_result}
 use Rattle.ir_statements.specs.Means.{means_suite}
 use Rattle.ir_builder.specs.Registers.{variable_registers, parameters_alone}
 use Rattle.ir_builder.specs.Bodies.{LeavesWith, BodyWorks, body_frame}

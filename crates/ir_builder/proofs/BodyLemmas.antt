@@ -1,5 +1,5 @@
 -- The code of a function's body.
-use Rattle.std.proofs.Common.{◌≡◌, ℕ, zero, suc, ◌+◌, ◌<◌, ◌≤◌, Bool, true, false, List, [], ◌∷◌, ◌++◌, length, Option, Some, None, refl, sym, ap, ◌∙◌, subst, arith, le_refl}
+use Rattle.std.proofs.Common.{◌≡◌, ℕ, zero, suc, ◌≤◌, Bool, true, false, List, [], ◌∷◌, length, Option, Some, None, refl, sym, ap, ◌∙◌, subst, arith}
 use Rattle.std.specs.Prelude.{slice_get}
 use Rattle.std.specs.Option.{option_map}
 use Rattle.value_core.specs.Value.{Value}
@@ -16,13 +16,13 @@ use Rattle.ir_core.specs.declared.code.RType.{RType}
 use Rattle.ir_core.specs.Building.{Building, Extends}
 use Rattle.ir_core.specs.Items.{handler_in, blocks_of}
 use Rattle.ir_core.specs.Meaning.{Waiting, Config, Strict, declared_of, registers_of}
-use Rattle.ir_core.specs.Registers.{Held, Holds, Regs, literal_of, look}
+use Rattle.ir_core.specs.Registers.{Holds, Regs, literal_of, look}
 use Rattle.ir_core.specs.Rows.{type_of_reg}
 use Rattle.ir_core.proofs.StepLemmas.{return_step}
 use Rattle.ir_frames.specs.Calling.{Adds, Closes}
 use Rattle.ir_frames.specs.Coming.{world, running, returning, Leads, Escapes}
 use Rattle.ir_frames.specs.Computing.{Meaning}
-use Rattle.ir_frames.specs.Kinds.{Surrounding, IsOf, LastKinds, HasKinds}
+use Rattle.ir_frames.specs.Kinds.{Surrounding, LastKinds, HasKinds}
 use Rattle.ir_frames.specs.Placing.{Has, Placed, or_other}
 use Rattle.ir_frames.specs.Settings.{Setting}
 use Rattle.ir_frames.proofs.ComingLemmas.{leads_refl, leads_step, leads_trans, ends_more}
@@ -30,10 +30,9 @@ use Rattle.ir_frames.proofs.HeldLemmas.{extends_trans, has_less, type_has}
 use Rattle.ir_frames.proofs.KindLemmas.{new_not_text}
 use Rattle.ir_frames.proofs.StepLemmas.{literal_makes}
 use Rattle.ir_statements.specs.declared.ways.Exit.{Exit}
-use Rattle.ir_statements.specs.declared.ways.Way.{Way}
 use Rattle.ir_statements.specs.Runs.{JumpTo, OpenIn, Back, Flows, Emitted}
 use Rattle.ir_statements.proofs.ExitLemmas.{close_at}
-use Rattle.ir_builder.specs.Bodies.{Filled, LeavesWith, BodyWorks, Bodied}
+use Rattle.ir_builder.specs.Bodies.{Filled, LeavesWith, Bodied}
 use Rattle.ir_builder.proofs.FillLemmas.{all_written}
 
 -- no block has a handler

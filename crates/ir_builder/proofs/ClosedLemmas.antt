@@ -1,13 +1,13 @@
 -- A closed row of statements does not come to its end, and one without a `break` of the loop around it does not break that loop.
-use Rattle.std.proofs.Common.{◌≡◌, ℕ, zero, suc, Bool, true, false, not, List, Option, Some, None, refl, sym, subst, ◌⊎◌, inl, inr, ⊎_elim}
+use Rattle.std.proofs.Common.{◌≡◌, ℕ, zero, suc, Bool, true, false, not, List, Option, refl, sym, subst, ◌⊎◌, inl, inr, ⊎_elim}
 use Rattle.std.specs.Prelude.{◌&&◌, ◌||◌, if◌then◌else◌}
-use Rattle.value_core.specs.Value.{Value, NoneVal}
+use Rattle.value_core.specs.Value.{NoneVal}
 use Rattle.py_syntax.specs.declared.token.Span.{Span}
 use Rattle.py_typed.specs.Sorts.{Sort}
 use Rattle.py_typed.specs.Classes.{ClassEntry}
-use Rattle.py_typed.specs.Expressions.{TypedExpr, typed, TypedNode, Flag}
+use Rattle.py_typed.specs.Expressions.{TypedExpr, typed, Flag}
 use Rattle.py_typed.specs.Statements.{Variable, TypedModule, TypedStmt, on_line, TypedAct, Do, Assign, Aug, Del, If, While, ForRange, ForList, ForDict, Try, Raise, Return, Break, Continue, Assert, Pass, TypedSuite, no_stmts, stmt_then, Arms, no_arms, arm_then}
-use Rattle.py_typed.specs.State.{State, Outcome, Gives, Raises, Stops, Does, Calls, on_to, ◌>>◌, spend}
+use Rattle.py_typed.specs.State.{State, Outcome, Gives, Raises, Stops, Does, Calls, on_to, spend}
 use Rattle.py_typed.specs.WaysOut.{Flow, Goes, Breaks, Continues, Returns, flow_on, after_body, loop}
 use Rattle.py_typed.specs.Narrowing.{breaks, breaks_in, breaks_suite, breaks_arms, is_true_literal, closes, closes_in, is_closed, closed_arms}
 use Rattle.py_typed.specs.StatementMeaning.{value_of, bind, update, changed, value_or, test_of, statement, act, suite, first_arm}

@@ -1,15 +1,14 @@
 -- The code of a whole function.
-use Rattle.std.proofs.Common.{◌≡◌, ℕ, zero, suc, ◌+◌, ◌-◌, ◌^◌, ◌<◌, ◌≤◌, Bool, true, false, List, [], ◌∷◌, ◌++◌, length, map, take, Option, Some, None, refl, sym, ap, ◌∙◌, subst, arith, append_assoc, length-append, ◌⊎◌, inl, inr, ⊎_elim}
-use Rattle.std.specs.Prelude.{slice_get, pos, is_some}
+use Rattle.std.proofs.Common.{◌≡◌, ℕ, zero, suc, ◌+◌, ◌-◌, ◌^◌, ◌<◌, ◌≤◌, true, false, List, [], ◌∷◌, ◌++◌, length, map, take, Option, Some, None, refl, sym, ap, ◌∙◌, subst, arith, append_assoc, length-append, ◌⊎◌, inl, inr, ⊎_elim}
+use Rattle.std.specs.Prelude.{slice_get, pos}
 use Rattle.std.specs.List.{list_all}
 use Rattle.std.specs.Option.{option_map}
-use Rattle.value_core.specs.Value.{Value, BoolVal}
+use Rattle.value_core.specs.Value.{BoolVal}
 use Rattle.value_core.specs.Ending.{Done}
 use Rattle.c_core.specs.WellFormed.{is_identifier, names_differ}
 use Rattle.py_typed.specs.Sorts as sort
 use Rattle.py_typed.specs.Sorts.{Sort}
 use Rattle.py_typed.specs.Fits.{is_nothing}
-use Rattle.py_typed.specs.Narrowing.{is_closed}
 use Rattle.py_typed.specs.State.{State}
 use Rattle.py_typed.specs.SourceRun.{call_of, top_of}
 use Rattle.py_typed.specs.Statements.{Variable, TypedFunc, TypedModule}
@@ -32,8 +31,8 @@ use Rattle.ir_frames.specs.declared.frame.Vars.{Vars}
 use Rattle.ir_frames.specs.Calling.{Pushes}
 use Rattle.ir_frames.specs.Coming.{world, Escapes}
 use Rattle.ir_frames.specs.Computing.{Meaning}
-use Rattle.ir_frames.specs.Kinds.{temporary_name, Head, head_of, Surrounding, is_plain, ArePlain, LiteralFits, OpKinds, OpsKinds, no_more, BlocksKinds, HasKinds, KeepsKinds, KeepsKindsIf, IsAmong}
-use Rattle.ir_frames.specs.Matching.{HasRoom, Matches, parameter_sorts, BeginWith, HasHead}
+use Rattle.ir_frames.specs.Kinds.{Head, head_of, Surrounding, is_plain, ArePlain, LiteralFits, OpKinds, OpsKinds, no_more, BlocksKinds, HasKinds, KeepsKinds, KeepsKindsIf, IsAmong}
+use Rattle.ir_frames.specs.Matching.{HasRoom, Matches, parameter_sorts, BeginWith}
 use Rattle.ir_frames.specs.Naming.{names_of}
 use Rattle.ir_frames.specs.Placing.{HasType, NoEdges, Has}
 use Rattle.ir_frames.specs.Settings.{Setting, rtype_of}
@@ -45,8 +44,8 @@ use Rattle.ir_expressions.specs.Compiled.{is_scalar}
 use Rattle.ir_bodies.specs.Modules.{variable_names, FunctionSuits, ModuleSuits}
 use Rattle.ir_bodies.specs.Kinds.{GivesResult, IsAround}
 use Rattle.ir_statements.specs.Means.{means_suite}
-use Rattle.ir_shapes.specs.Built.{building_of, IsBuilt, IsFunction, IsOwn}
-use Rattle.ir_builder.specs.Registers.{register_of, variable_registers, AddsText, Begins, parameters_alone}
+use Rattle.ir_shapes.specs.Built.{building_of, IsBuilt}
+use Rattle.ir_builder.specs.Registers.{register_of, variable_registers, Begins, parameters_alone}
 use Rattle.ir_builder.specs.Bodies.{LeavesWith, Bodied, CompletesShape, BodyAround, BodyWorks, body_frame}
 use Rattle.ir_builder.specs.Functions.{end_literal, end_value, heads_of, IsFunctionOf, IsOwnOf}
 use Rattle.ir_builder.proofs.ArgumentLemmas.{sort_of, all_parameters, function_works}

@@ -1,20 +1,13 @@
 -- The registers with which a function begins.
-use Rattle.std.proofs.Common.{◌≡◌, ℕ, zero, suc, ◌+◌, ◌-◌, ◌<◌, ◌≤◌, Bool, true, false, List, [], ◌∷◌, ◌++◌, length, map, take, get_or, Option, Some, None, refl, sym, ap, ◌∙◌, subst, arith, add-one, length-append}
-use Rattle.std.proofs.Math.Seq.{take-suc}
+use Rattle.std.proofs.Common.{◌≡◌, ℕ, ◌≤◌, true, false, List, [], ◌∷◌, ◌++◌, length, take, ap, ◌∙◌, arith}
 use Rattle.std.proofs.lemmas.Grind.{common_steps}
 use Rattle.c_core.specs.WellFormed.{names_differ}
-use Rattle.py_typed.specs.Sorts.{sort}
-use Rattle.py_typed.specs.declared.checked.Var.{Var}
-use Rattle.py_typed.specs.Statements.{Variable, variable}
-use Rattle.ir_core.specs.declared.code.RType.{RType}
 use Rattle.ir_core.specs.declared.code.RType.TheVariants.{Ref}
 use Rattle.ir_core.specs.Rows.{Declared}
 use Rattle.ir_frames.specs.Kinds.{temporary_name}
 use Rattle.ir_frames.specs.Naming.{names_of}
-use Rattle.ir_frames.specs.Settings.{rtype_of}
 use Rattle.ir_frames.proofs.NameLemmas.{is_name_in, differ_behind}
-use Rattle.ir_statements.proofs.EmitLemmas.{map_last}
-use Rattle.ir_builder.specs.Registers.{register_of, variable_registers, AddsText}
+use Rattle.ir_builder.specs.Registers.{AddsText}
 
 pub text_added : (old new : Declared) (name : List ℕ) → names_differ (names_of old) ≡ true → (k : ℕ) × (name ≡ temporary_name k) → is_name_in name old ≡ false → new ≡ old ++ (name, Ref) ∷ [] → AddsText old new
 text_added old new name differ named fresh is = record {

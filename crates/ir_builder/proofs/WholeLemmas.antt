@@ -1,16 +1,15 @@
 -- A whole program does what its module does, is calm, and is built as a program is.
-use Rattle.std.proofs.Common.{◌≡◌, ◌≢◌, ℕ, zero, suc, ◌+◌, ◌-◌, ◌<◌, ◌≤◌, true, List, [], ◌∷◌, ◌++◌, length, map, take, get_or, Option, Some, None, refl, sym, ap, ◌∙◌, subst, arith, le_refl, add-one, length-append}
+use Rattle.std.proofs.Common.{◌≡◌, ◌≢◌, ℕ, zero, suc, ◌+◌, ◌-◌, ◌<◌, ◌≤◌, List, [], ◌∷◌, ◌++◌, length, map, take, get_or, Some, None, refl, sym, ap, ◌∙◌, subst, arith, le_refl, add-one, length-append}
 use Rattle.std.specs.Prelude.{slice_get, replicate}
 use Rattle.std.specs.List.{list_all}
 use Rattle.std.proofs.Math.Seq.{take-suc}
 use Rattle.value_core.specs.Ending.{Ending, Done, Raised}
 use Rattle.value_core.specs.Items.{Items}
-use Rattle.value_core.specs.Value.{Value, ExcVal}
 use Rattle.c_core.specs.WellFormed.{is_identifier, names_differ}
 use Rattle.py_typed.specs.Sorts.{Sort}
-use Rattle.py_typed.specs.State.{State, Outcome, Gives, Raises, Stops}
+use Rattle.py_typed.specs.State.{Outcome, Gives, Raises, Stops}
 use Rattle.py_typed.specs.SourceRun.{start, top_of, stopped, raised_as, stop_of, source_run}
-use Rattle.py_typed.specs.Statements.{Variable, TypedFunc, TypedModule, typed_func, typed_module}
+use Rattle.py_typed.specs.Statements.{TypedFunc, TypedModule, typed_func, typed_module}
 use Rattle.py_typed.specs.declared.checked.Checked.{Checked}
 use Rattle.py_typed.specs.declared.checked.TFunc.{TFunc}
 use Rattle.py_typed.specs.WaysOut.{Flow, Goes, Breaks, Continues, Returns}
@@ -20,7 +19,7 @@ use Rattle.ir_core.specs.declared.code.RType.{RType}
 use Rattle.ir_core.specs.declared.code.RType.TheVariants.{Bool}
 use Rattle.ir_core.specs.Items.{item_in, blocks_of}
 use Rattle.ir_core.specs.Effects.{World}
-use Rattle.ir_core.specs.Meaning.{Config, Leaves, Ended, Stuck, Strict, Plain, if_some, leave, step, steps}
+use Rattle.ir_core.specs.Meaning.{Config, Leaves, Ended, Stuck, Strict, if_some, leave, step, steps}
 use Rattle.ir_core.specs.Registers.{error_of, first_regs}
 use Rattle.ir_core.specs.Rows.{Declared}
 use Rattle.ir_core.specs.Runs as run
@@ -33,12 +32,12 @@ use Rattle.ir_frames.specs.Matching.{parameter_sorts, BeginWith, HasHead}
 use Rattle.ir_frames.specs.Naming.{names_of}
 use Rattle.ir_frames.specs.Settings.{rtype_of}
 use Rattle.ir_frames.proofs.ComingLemmas.{leads_as, leads_step, leads_trans}
-use Rattle.ir_bodies.specs.Modules.{FunctionSuits, ModuleSuits, variable_names}
+use Rattle.ir_bodies.specs.Modules.{FunctionSuits, ModuleSuits}
 use Rattle.ir_shapes.specs.Built.{head_of_code, IsFunction, IsOwn, IsProgram}
 use Rattle.ir_statements.proofs.EmitLemmas.{map_last}
-use Rattle.ir_builder.specs.Functions.{heads_of, IsFunctionOf, IsOwnOf, AllBuilt, IsBuiltOf}
-use Rattle.ir_builder.specs.Meaning.{module_stop, ComesAsModule, DoesAsModule}
-use Rattle.ir_builder.specs.Registers.{register_of, variable_registers}
+use Rattle.ir_builder.specs.Functions.{heads_of, IsFunctionOf, AllBuilt, IsBuiltOf}
+use Rattle.ir_builder.specs.Meaning.{module_stop, DoesAsModule}
+use Rattle.ir_builder.specs.Registers.{register_of}
 use Rattle.ir_builder.proofs.CallLemmas.{IsThere, calls_work}
 use Rattle.ir_builder.proofs.FunctionLemmas.{get_map, map_length, names_are}
 use Rattle.ir_builder.proofs.RegisterLemmas.{take_past}

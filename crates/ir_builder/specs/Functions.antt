@@ -11,7 +11,7 @@ use Rattle.ir_core.specs.declared.code.Lit.{Lit}
 use Rattle.ir_core.specs.declared.code.Lit.TheVariants.{Number, PyNone}
 use Rattle.ir_core.specs.declared.code.Program.{Program}
 use Rattle.ir_core.specs.declared.code.RType.{RType}
-use Rattle.ir_core.specs.declared.code.RType.TheVariants.{Int, I64, Bool, Ref}
+use Rattle.ir_core.specs.declared.code.RType.TheVariants.{Bool, Ref}
 use Rattle.ir_core.specs.Meaning.{Waiting, Ended}
 use Rattle.ir_core.specs.Registers.{Holds, first_regs}
 use Rattle.ir_frames.specs.Coming.{world, running, Escapes, Ends}

@@ -1,4 +1,4 @@
-use Rattle.std.proofs.Common.{◌∙◌, arith, refl}
+use Rattle.std.proofs.Common.{arith, refl}
 use Rattle.ir_frames.specs.Settings.{setting}
 use Rattle.ir_builder.specs.Bodies.{body_frame}
 use Rattle.ir_builder.proofs.BodyLemmas.{bodied, given_kinds}

@@ -1,5 +1,5 @@
 use Rattle.py_typed.specs.Statements.{typed_module}
-use Rattle.ir_builder.proofs.WholeLemmas.{suits_at, built_next, built_all}
+use Rattle.ir_builder.proofs.WholeLemmas.{suits_at, built_next}
 use Rattle.ir_builder.proofs.program.build_functions.Goals as goal
 
 pub build_function-requires-clause-function : goal.build_function-requires-clause-function
