@@ -38,7 +38,7 @@ sort_of v = v.1
 pub all_parameters : (f : TypedFunc) → length f.locals ≡ f.params → parameter_sorts f ≡ map sort_of f.locals
 all_parameters f e = ap (map sort_of) (take_past f.locals f.params (omega (arith, e)))
 
-map_length : {A B : Type 0} (f : A → B) (xs : List A) → length (map f xs) ≡ length xs
+pub map_length : {A B : Type 0} (f : A → B) (xs : List A) → length (map f xs) ≡ length xs
 map_length f [] = refl
 map_length f (x ∷ xs) = ap suc (map_length f xs)
 

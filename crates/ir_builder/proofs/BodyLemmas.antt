@@ -1,5 +1,5 @@
 -- The code of a function's body.
-use Rattle.std.proofs.Common.{◌≡◌, ℕ, zero, suc, ◌≤◌, Bool, true, false, List, [], ◌∷◌, length, Option, Some, None, refl, sym, ap, ◌∙◌, subst, arith}
+use Rattle.std.proofs.Common.{◌≡◌, ℕ, zero, suc, ◌≤◌, false, List, [], ◌∷◌, length, Option, Some, None, refl, sym, ap, ◌∙◌, subst, arith}
 use Rattle.std.specs.Prelude.{slice_get}
 use Rattle.std.specs.Option.{option_map}
 use Rattle.value_core.specs.Value.{Value}
@@ -33,7 +33,7 @@ use Rattle.ir_statements.specs.declared.ways.Exit.{Exit}
 use Rattle.ir_statements.specs.Runs.{JumpTo, OpenIn, Back, Flows, Emitted}
 use Rattle.ir_statements.proofs.ExitLemmas.{close_at}
 use Rattle.ir_builder.specs.Bodies.{Filled, LeavesWith, Bodied}
-use Rattle.ir_builder.proofs.FillLemmas.{all_written}
+use Rattle.ir_builder.proofs.FillLemmas.{true_false, all_written}
 
 -- no block has a handler
 pub no_handler : (blocks : List Block) (k : ℕ) → handler_in blocks k ≡ None
@@ -65,9 +65,6 @@ given p fn h b1 b2 b3 r t last end a c has there is now below s =
     let held : look h.regs first.0 r ≡ Some (Holds end) = ap (option_map (λ (u : RType). first.0 r.0)) type ∙ ap Some value in
     let step = return_step Strict p (record { fn = fn; block = length b2.blocks; place = length b2.ops; regs = first.0 }) below (world None s) r h (Holds end) (close_at p fn b2 b3 _ (λ z. cc) c has) there held in
     leads_trans p _ _ _ first.1 (leads_step p _ _ step)
-
-true_false : (x : Bool) → x ≡ true → x ≡ false → ⊥
-true_false x e f = let g : true ≡ false = sym e ∙ f in cc
 
 module _ (x : Setting) (result : Option RType) (t : RType) (last : Literal) (m : Meaning Flow) (b0 b1 b2 b3 b4 : Building) (x0 xs : List Exit) (from end : ℕ) (r : Reg) (bare : x.frame.ret ≡ None) (q : Emitted x result false m b0 b1 x0 xs) (a : Adds b1 b2 r.0 t (Lit r last)) (c : Closes b2 b3 (Leave r)) (is_from : from ≡ length b0.blocks) (is_end : end ≡ length b2.blocks) (f : Filled b3 b4 from end end) where
   x13 : Extends b1 b3

@@ -73,7 +73,7 @@ not_true : (x : Bool) → (x ≡ true → ⊥) → x ≡ false
 not_true true h = absurd (h refl)
 not_true false h = refl
 
-true_false : (x : Bool) → x ≡ true → x ≡ false → ⊥
+pub true_false : (x : Bool) → x ≡ true → x ≡ false → ⊥
 true_false x e f = let g : true ≡ false = sym e ∙ f in cc
 
 pub filled_past : (b c : Building) (from k to : ℕ) → is_open_at c.blocks k ≡ false → from ≤ k → k < length b.blocks → Filled b c from k to → Filled b c from (k + 1) to

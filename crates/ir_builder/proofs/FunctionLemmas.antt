@@ -48,7 +48,7 @@ use Rattle.ir_shapes.specs.Built.{building_of, IsBuilt}
 use Rattle.ir_builder.specs.Registers.{register_of, variable_registers, Begins, parameters_alone}
 use Rattle.ir_builder.specs.Bodies.{LeavesWith, Bodied, CompletesShape, BodyAround, BodyWorks, body_frame}
 use Rattle.ir_builder.specs.Functions.{end_literal, end_value, heads_of, IsFunctionOf, IsOwnOf}
-use Rattle.ir_builder.proofs.ArgumentLemmas.{sort_of, all_parameters, function_works}
+use Rattle.ir_builder.proofs.ArgumentLemmas.{sort_of, all_parameters, map_length, function_works}
 use Rattle.ir_builder.proofs.ClosedLemmas.{Avoids, is_end, suite_closed}
 use Rattle.ir_builder.proofs.EdgeLemmas.{no_edges}
 
@@ -72,10 +72,6 @@ map_get : {A B : Type 0} (f : A → B) (xs : List A) (j : ℕ) (y : B) → slice
 map_get f [] j y e = let g : None ≡ Some y = e in absurd (cc)
 map_get f (x ∷ xs) zero y e = (x, refl, let g : Some (f x) ≡ Some y = e in cc)
 map_get f (x ∷ xs) (suc j) y e = map_get f xs j y e
-
-pub map_length : {A B : Type 0} (f : A → B) (xs : List A) → length (map f xs) ≡ length xs
-map_length f [] = refl
-map_length f (x ∷ xs) = ap suc (map_length f xs)
 
 map_map : {A B C : Type 0} (g : B → C) (f : A → B) (xs : List A) → map g (map f xs) ≡ map (λ x. g (f x)) xs
 map_map g f [] = refl
@@ -236,39 +232,31 @@ literal_value rtype.Ref = refl
 abbrev body_setting : TypedModule → List Variable → Vars → Setting
 body_setting m vs vars = record { source = m; variables = vs; frame = body_frame vars }
 
-module _ (m : TypedModule) (suits : ModuleSuits m) (vs : List Variable) (names : list_all is_identifier (variable_names vs) ≡ true) (variables : Declared) (are : variables ≡ variable_registers vs) (count : ℕ) (size : count ≡ length vs) (vars : Vars) (vars_are : vars ≡ parameters_alone count) (gives : Option RType) (t : RType) (gives_it : (g : Surrounding) → g.ret ≡ t → GivesResult gives g) (last : Literal) (fits : LiteralFits t last) (M : Meaning Flow) (b0 b1 b2 : Building) (first : Begins variables b0) (x01 : Extends b0 b1) (start : length b1.blocks ≡ 0) (shaped01 : (low high : ℕ) → Shaped low high b0 → Shaped low high b1) (kinds01 : KeepsKinds b0 b1) (bodied : Bodied (body_setting m vs vars) gives t last M b1 b2) (shape : CompletesShape b1 b2) (kinds12 : KeepsKindsIf (BodyAround m vars gives t last) b1 b2) (few : length b2.blocks < 2 ^ 64) (differ : names_differ (names_of b2.regs) ≡ true) (h : Func) (regs : h.regs ≡ b2.regs) (blocks : h.blocks ≡ b2.blocks) (ret : h.ret ≡ t) (params : h.params ≤ count) where
-  behind : (rest : Declared) × (b2.regs ≡ variable_registers vs ++ rest)
-  behind =
-      let text : List ℕ × RType = (first.regs.name, rtype.Ref) in
-      let more = starts_with b0.regs b2.regs (extends_trans b0 b1 b2 x01 bodied.extends).regs in
-      (text ∷ more.0, more.1 ∙ ap (λ ds. ds ++ more.0) (begin_regs vs b0 variables are first count size) ∙ append_assoc (variable_registers vs) (text ∷ []) more.0)
+-- what is known of a function whose code was ended
+pub record IsMade (m : TypedModule) (vs : List Variable) (b : Building) (h : Func) : Type 0 where
+  pub rest : Declared
+  pub regs : h.regs ≡ variable_registers vs ++ rest
+  pub built : IsBuilt (heads_of m) h
+  pub has : (p : Program) (fn : ℕ) → slice_get p.funcs fn ≡ Some h → Has p fn b
 
-  pub made_regs : (rest : Declared) × (h.regs ≡ variable_registers vs ++ rest)
-  made_regs = let k = behind in (k.0, regs ∙ k.1)
-
-  made_kinds : HasKinds (record { heads = heads_of m; variables = count; text = count; ret = t }) b2
-  made_kinds =
-      let g : Surrounding = record { heads = heads_of m; variables = count; text = count; ret = t } in
-      let k0 = begin_kinds vs b0 variables are first count size (heads_of m) t in
-      let around : IsAround m (body_frame vars) gives g = record { among = among m suits g refl; text = sym (ap (λ (z : Vars). z.text) vars_are); ret = gives_it g refl } in
-      kinds12 g record { around = around; ret = refl; fits = fits } (kinds01 g k0)
-
-  highest : length b2.blocks ≡ suc (length b2.blocks - 1)
-  highest = let more = bodied.more in omega arith
-
-  made_shaped : Shaped 0 (length b2.blocks - 1) b2
-  made_shaped = shape 0 (length b2.blocks - 1) (omega arith) highest (shaped01 0 (length b2.blocks - 1) (begin_shaped vs b0 variables are first count size 0 (length b2.blocks - 1)))
-
-  pub made_built : IsBuilt (heads_of m) h
-  made_built =
-      let k = behind in
-      let g : Surrounding = record { heads = heads_of m; variables = count; text = count; ret = t } in
-      is_built vs k.0 g b2 h 0 (length b2.blocks - 1) size names k.1 made_kinds bodied.ops highest made_shaped (λ j. bodied.full j (omega (arith, start))) few differ params ret regs blocks
-
-  pub made_has : (p : Program) (fn : ℕ) → slice_get p.funcs fn ≡ Some h → Has p fn b2
-  made_has p fn there =
-      let s = made_shaped in
-      has_all p fn b2 h there blocks regs bodied.ops (no_edges p fn h 0 (length b2.blocks - 1) there (subst (λ bs. AllFit 0 (length b2.blocks - 1) 0 bs) (sym blocks) s.0))
+pub is_made : (m : TypedModule) (vs : List Variable) (variables : Declared) (count : ℕ) (vars : Vars) (gives : Option RType) (t : RType) (last : Literal) (M : Meaning Flow) (b0 b1 b2 : Building) (h : Func) → ModuleSuits m → list_all is_identifier (variable_names vs) ≡ true → variables ≡ variable_registers vs → count ≡ length vs → vars ≡ parameters_alone count → ((g : Surrounding) → g.ret ≡ t → GivesResult gives g) → LiteralFits t last → Begins variables b0 → Extends b0 b1 → length b1.blocks ≡ 0 → ((low high : ℕ) → Shaped low high b0 → Shaped low high b1) → KeepsKinds b0 b1 → Bodied (body_setting m vs vars) gives t last M b1 b2 → CompletesShape b1 b2 → KeepsKindsIf (BodyAround m vars gives t last) b1 b2 → length b2.blocks < 2 ^ 64 → names_differ (names_of b2.regs) ≡ true → h.regs ≡ b2.regs → h.blocks ≡ b2.blocks → h.ret ≡ t → h.params ≤ count → IsMade m vs b2 h
+is_made m vs variables count vars gives t last M b0 b1 b2 h suits names are size vars_are gives_it fits first x01 start shaped01 kinds01 bodied shape kinds12 few differ regs blocks ret params =
+    let text : List ℕ × RType = (first.regs.name, rtype.Ref) in
+    let more = starts_with b0.regs b2.regs (extends_trans b0 b1 b2 x01 bodied.extends).regs in
+    let behind : b2.regs ≡ variable_registers vs ++ (text ∷ more.0) = more.1 ∙ ap (λ ds. ds ++ more.0) (begin_regs vs b0 variables are first count size) ∙ append_assoc (variable_registers vs) (text ∷ []) more.0 in
+    let g : Surrounding = record { heads = heads_of m; variables = count; text = count; ret = t } in
+    let around : IsAround m (body_frame vars) gives g = record { among = among m suits g refl; text = sym (ap (λ (z : Vars). z.text) vars_are); ret = gives_it g refl } in
+    let kinds : HasKinds g b2 = kinds12 g record { around = around; ret = refl; fits = fits } (kinds01 g (begin_kinds vs b0 variables are first count size (heads_of m) t)) in
+    let high : ℕ = length b2.blocks - 1 in
+    let grown = bodied.more in
+    let highest : length b2.blocks ≡ suc high = omega arith in
+    let shaped : Shaped 0 high b2 = shape 0 high (omega arith) highest (shaped01 0 high (begin_shaped vs b0 variables are first count size 0 high)) in
+    record {
+      rest = text ∷ more.0;
+      regs = regs ∙ behind;
+      built = is_built vs (text ∷ more.0) g b2 h 0 high size names behind kinds bodied.ops highest shaped (λ k. bodied.full k (omega (arith, start))) few differ params ret regs blocks;
+      has = λ p fn there. has_all p fn b2 h there blocks regs bodied.ops (no_edges p fn h 0 high there (subst (λ bs. AllFit 0 high 0 bs) (sym blocks) shaped.0));
+    }
 
 -- a function of the module
 pub function_is : (m : TypedModule) (suits : ModuleSuits m) (f : TypedFunc) (fits : FunctionSuits m f) (variables : Declared) (count params : ℕ) (vars : Vars) (ret : RType) (last : Literal) (b0 b1 b2 : Building) (name : List ℕ) (h0 h : Func) → variables ≡ variable_registers f.locals → count ≡ length f.locals → vars ≡ parameters_alone count → ret ≡ rtype_of f.ret → last ≡ end_literal ret → Begins variables b0 → Pushes b0 b1 Turn → KeepsIf (λ low high. OpFits low Turn) b0 b1 → KeepsKindsIf (λ g. OpKinds g b0.regs Turn) b0 b1 → Bodied (body_setting m f.locals vars) (Some ret) ret last (means_suite (body_setting m f.locals vars) f.body) b1 b2 → CompletesShape b1 b2 → KeepsKindsIf (BodyAround m vars (Some ret) ret last) b1 b2 → length b2.blocks < 2 ^ 64 → names_differ (names_of b2.regs) ≡ true → params ≡ f.params → h0 ≡ record { name = b2.name; params = params; regs = b2.regs; ret = ret; blocks = b2.blocks } → name ≡ f.name → h ≡ record h0 { name = name } → IsFunctionOf m f h
@@ -282,10 +270,7 @@ function_is m suits f fits variables count params vars ret last b0 b1 b2 name h0
     let h_name : h.name ≡ f.name = ap (λ (z : Func). z.name) is ∙ name_is in
     let literal : LiteralFits ret last = subst (LiteralFits ret) (sym last_is) (literal_fits ret) in
     let few_params : h.params ≤ count = omega (arith, h_params, size, fits.parameters) in
-    let sh01 : (low high : ℕ) → Shaped low high b0 → Shaped low high b1 = λ low high s. shaped01 low high (tt, refl) s in
-    let ki01 : KeepsKinds b0 b1 = λ g k. kinds01 g tt k in
-    let built = made_built m suits f.locals fits.identifiers variables are count size vars vars_are (Some ret) ret (λ g e. e) last literal (means_suite (body_setting m f.locals vars) f.body) b0 b1 b2 first turn.extends none sh01 ki01 bodied shape kinds12 few differ h h_regs h_blocks h_ret few_params in
-    let regs = made_regs m suits f.locals fits.identifiers variables are count size vars vars_are (Some ret) ret (λ g e. e) last literal (means_suite (body_setting m f.locals vars) f.body) b0 b1 b2 first turn.extends none sh01 ki01 bodied shape kinds12 few differ h h_regs h_blocks h_ret few_params in
+    let made = is_made m f.locals variables count vars (Some ret) ret last (means_suite (body_setting m f.locals vars) f.body) b0 b1 b2 h suits fits.identifiers are size vars_are (λ g e. e) literal first turn.extends none (λ low high s. shaped01 low high (tt, refl) s) (λ g k. kinds01 g tt k) bodied shape kinds12 few differ h_regs h_blocks h_ret few_params in
     let item : held b2 0 0 ≡ Some (Do Turn) =
     ap (λ k. held b2 k 0) (sym (ap length first.blocks)) ∙ ap (λ i. held b2 (length b0.blocks) i) (sym (ap length first.ops)) ∙ bodied.extends.items (length b0.blocks) (length b0.ops) (Do Turn) turn.at in
     let sorts = all_parameters f fits.parameters in
@@ -293,22 +278,22 @@ function_is m suits f fits variables count params vars ret last b0 b1 b2 name h0
       name = h_name;
       head = record {
         params = h_params ∙ sym fits.parameters ∙ sym (map_length sort_of f.locals) ∙ sym (ap length sorts);
-        regs = subst (λ ts. BeginWith h.regs ts) (sym sorts) (subst (λ ds. BeginWith ds (map sort_of f.locals)) (sym regs.1) (begin_with f.locals regs.0));
+        regs = subst (λ ts. BeginWith h.regs ts) (sym sorts) (subst (λ ds. BeginWith ds (map sort_of f.locals)) (sym made.regs) (begin_with f.locals made.rest));
         ret = h_ret ∙ ret_is;
       };
       built = record {
-        built = built;
+        built = made.built;
         turn = ap (λ bs. item_in bs 0 0) h_blocks ∙ sym (built_is_held b2.blocks 0 0) ∙ sym (ap (λ os. held_in b2.blocks os 0 0) bodied.ops) ∙ item;
         name = ap is_identifier h_name ∙ fits.name;
       };
       works = λ p fn there.
-          let has = made_has m suits f.locals fits.identifiers variables are count size vars vars_are (Some ret) ret (λ g e. e) last literal (means_suite (body_setting m f.locals vars) f.body) b0 b1 b2 first turn.extends none sh01 ki01 bodied shape kinds12 few differ h h_regs h_blocks h_ret few_params p fn there in
+          let has = made.has p fn there in
           let value : literal_of ret last ≡ Some (Holds (end_value ret)) = ap (literal_of ret) last_is ∙ literal_value ret in
           let body = bodied.works p fn h (end_value ret) has there value in
           let B : RType → ℕ → ℕ → Type 0 = λ r k i. BodyWorks p (body_setting m f.locals vars) (Some r) (end_value r) (means_suite (body_setting m f.locals vars) f.body) fn k i in
           let placed : B (rtype_of f.ret) 0 1 = subst (λ r. B r 0 1) ret_is (subst (λ i. B ret 0 i) one (subst (λ k. B ret k (length b1.ops)) none body)) in
           let no_end : (n : ℕ) (s : State) → (is_nothing f.ret ≡ true) ⊎ Avoids is_end (suite m.classes.classes (call_of m n) m.globals f.locals n f.body s) = λ n s. ⊎_elim (λ e. inl e) (λ closed. inr (suite_closed m.classes.classes (call_of m n) m.globals f.locals n m f.locals (Some (rtype_of f.ret)) false f.body fits.body closed s)) fits.ends in
-          function_works p m f fn h vars regs.0 fits.parameters fits.result no_end (vars_are ∙ ap parameters_alone size) regs.1 placed;
+          function_works p m f fn h vars made.rest fits.parameters fits.result no_end (vars_are ∙ ap parameters_alone size) made.regs placed;
     }
 
 -- ---- the module's own statements
@@ -328,14 +313,15 @@ own_is m suits variables count params vars b0 b2 h are size vars_are first bodie
     let h_ret : h.ret ≡ rtype.Bool = ap (λ (z : Func). z.ret) is in
     let h_params : h.params ≡ 0 = ap (λ (z : Func). z.params) is ∙ params_are in
     let few_params : h.params ≤ count = omega (arith, h_params) in
+    let made = is_made m [] variables count vars None rtype.Bool (Number (pos 1)) (means_suite (body_setting m [] vars) m.top) b0 b0 b2 h suits refl are size vars_are (λ g e. tt) (refl, refl) first (extends_refl b0) none (λ low high s. s) (λ g k. k) bodied shape kinds12 few differ h_regs h_blocks h_ret few_params in
     record {
       built = record {
-        built = made_built m suits [] refl variables are count size vars vars_are None rtype.Bool (λ g e. tt) (Number (pos 1)) (refl, refl) (means_suite (body_setting m [] vars) m.top) b0 b0 b2 first (extends_refl b0) none (λ low high s. s) (λ g k. k) bodied shape kinds12 few differ h h_regs h_blocks h_ret few_params;
+        built = made.built;
         params = h_params;
         ret = h_ret;
       };
       works = λ p fn there n calls s le.
-          let has = made_has m suits [] refl variables are count size vars vars_are None rtype.Bool (λ g e. tt) (Number (pos 1)) (refl, refl) (means_suite (body_setting m [] vars) m.top) b0 b0 b2 first (extends_refl b0) none (λ low high s. s) (λ g k. k) bodied shape kinds12 few differ h h_regs h_blocks h_ret few_params p fn there in
+          let has = made.has p fn there in
           let body = bodied.works p fn h (BoolVal true) has there refl in
           let B : ℕ → ℕ → Type 0 = λ k i. BodyWorks p (body_setting m [] vars) None (BoolVal true) (means_suite (body_setting m [] vars) m.top) fn k i in
           let placed : B 0 0 = subst (λ i. B 0 i) start (subst (λ k. B k (length b0.ops)) none body) in

@@ -39,7 +39,8 @@ use Rattle.ir_builder.specs.Functions.{heads_of, IsFunctionOf, AllBuilt, IsBuilt
 use Rattle.ir_builder.specs.Meaning.{module_stop, DoesAsModule}
 use Rattle.ir_builder.specs.Registers.{register_of}
 use Rattle.ir_builder.proofs.CallLemmas.{IsThere, calls_work}
-use Rattle.ir_builder.proofs.FunctionLemmas.{get_map, map_length, names_are}
+use Rattle.ir_builder.proofs.ArgumentLemmas.{map_length}
+use Rattle.ir_builder.proofs.FunctionLemmas.{get_map, names_are}
 use Rattle.ir_builder.proofs.RegisterLemmas.{take_past}
 
 -- ---- functions in order

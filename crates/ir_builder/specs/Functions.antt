@@ -1,5 +1,5 @@
 -- What is built of a function, and of a module's own statements.
-use Rattle.std.specs.Prelude.{◌≡◌, ℕ, ◌≤◌, true, pos, List, [], ◌∷◌, ◌++◌, map, Option, Some, None, slice_get}
+use Rattle.std.specs.Prelude.{◌≡◌, ℕ, ◌≤◌, false, pos, List, [], ◌∷◌, ◌++◌, map, Some, None, slice_get}
 use Rattle.value_core.specs.Value.{Value, IntVal, BoolVal, NoneVal}
 use Rattle.value_core.specs.Ending.{Done}
 use Rattle.py_typed.specs.State.{State}
@@ -27,7 +27,7 @@ end_literal t = Number (pos 0)
 
 abbrev pub end_value : RType → Value
 end_value Ref = NoneVal
-end_value Bool = BoolVal Rattle.std.specs.Prelude.false
+end_value Bool = BoolVal false
 end_value t = IntVal (pos 0)
 
 abbrev pub heads_of : TypedModule → List Head

@@ -63,7 +63,7 @@ pub fn build_own(alloc: Global, checked: &Checked) -> Result<Func, Memory>
     Ok(b.finish(0, RType::Bool))
 }
 
-// A function whose variables have these registers, without a name and before its first operation.
+// A function whose variables have these registers, before its first operation. It gets its name when it is done.
 fn begin(alloc: Global, mut registers: Vec<(Name, RType)>) -> Result<Emitter, Memory>
     requires { names_differ (names_of registers.items) ≡ true }
     ensures { IfOk result (Begins registers.items) }

@@ -1,7 +1,8 @@
 use Rattle.std.proofs.Common.{rules, ◌≡◌, ◌∙◌, map, refl, sym}
 use Rattle.py_typed.specs.Statements.{typed_module, typed_func, variable}
 use Rattle.ir_frames.proofs.MatchLemmas.{room_on}
-use Rattle.ir_builder.proofs.FunctionLemmas.{map_length, registers_differ, begin_room, function_is}
+use Rattle.ir_builder.proofs.ArgumentLemmas.{map_length}
+use Rattle.ir_builder.proofs.FunctionLemmas.{registers_differ, begin_room, function_is}
 use Rattle.ir_builder.proofs.functions.build_function.Goals as goal
 
 pub begin-requires : goal.begin-requires
