@@ -5,6 +5,8 @@ pub mod ArgumentLemmas
 pub mod ArmLemmas
 pub mod ValueLemmas
 pub mod ChoiceLemmas
+pub mod OpenLemmas
+pub mod LinkLemmas
 pub mod NodeLemmas
 pub mod ChainLemmas
 pub mod WalkLemmas

@@ -199,13 +199,6 @@ module _ (x : Setting) (left right : TExpr) (same : sort_of right.ty ≡ sort_of
   choice_made test t b0 b1 b3 b4 b5 b7 b8 q target at first end second ra rb flag is room ct opens ca brings here cb meets =
       cond_emits x (typed_expr left) (typed_expr test) (typed_expr right) (sort_of left.ty) left.span b0 b1 b3 b4 b5 b7 b8 q target at first end second ra rb (type_at left) (type_at test ∙ flag) (type_at right ∙ same) room ct (subst (λ z. Opens b1 b3 target at first z) is opens) ca brings here cb meets
 
--- the blocks whose ends are still to be written
-pub test_open : (b c d : Building) (target test first : ℕ) (t : RType) → Opens b c target test first t → Extends c d → Open d test
-test_open b c d target test first t opens x = record { place = length b.ops; is = x.items test (length b.ops) (End Unreachable) (ap (λ k. held c k (length b.ops)) opens.test_is ∙ opens.hole) }
-
-pub end_open : (b c d : Building) (target r end : ℕ) → Brings b c target r end → Extends c d → Open d end
-end_open b c d target r end brings x = record { place = length b.ops + 1; is = x.items end (length b.ops + 1) (End Unreachable) (ap (λ k. held c k (length b.ops + 1)) brings.end_is ∙ brings.hole) }
-
 -- ---- operands
 
 fits_by : (o : Option ℤ) (t : Sort) (P : Type 0) → OperandSuits o t P → FitsIfLiteral o
