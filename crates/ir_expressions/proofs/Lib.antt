@@ -1,3 +1,5 @@
+pub mod SizeLemmas
+pub mod WalkingLemmas
 pub mod OperationLemmas
 pub mod BuildLemmas
 pub mod CallLemmas
@@ -9,5 +11,6 @@ pub mod OpenLemmas
 pub mod LinkLemmas
 pub mod NodeLemmas
 pub mod ChainLemmas
+pub mod GoingLemmas
 pub mod WalkLemmas
 pub mod SuitLemmas

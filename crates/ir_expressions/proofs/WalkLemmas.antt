@@ -38,7 +38,7 @@ use Rattle.ir_expressions.specs.Emitting.{Emits, EmitsNumber, EmitsAll, EmitsCha
 use Rattle.ir_expressions.specs.Choices.{Opens, Brings, Meets}
 use Rattle.ir_expressions.proofs.ArmLemmas.{Is, asked, emits_as, is_bool as is_flag, is_local, is_neg, is_not, is_truth, is_arith, is_compare, is_and, is_or, is_cond, is_call, is_coerce}
 use Rattle.ir_expressions.proofs.NodeLemmas.{flag_emits, literal_emits, local_emits, neg_emits, not_emits, truth_emits, arith_emits, i64_number, bool_number, coerce_emits, and_emits, or_emits, cond_emits, bool_sort, i64_sort}
-use Rattle.ir_expressions.proofs.ChainLemmas.{chain_done, chain_one, chain_more, compare_emits}
+use Rattle.ir_expressions.proofs.ChainLemmas.{chain_done, compare_emits}
 use Rattle.ir_expressions.proofs.CallLemmas.{call_emits}
 use Rattle.ir_expressions.proofs.ArgumentLemmas.{suit_types}
 
@@ -250,13 +250,3 @@ module _ (x : Setting) (first : ℕ) (rest : List (CmpOp × TExpr)) where
       let P : List (CmpOp × TExpr) → Type 0 = λ cs. SomeChain x.source x.variables (comparisons_of (map typed_comparison cs)) in
       let k = subst P is h in
       (k.1.0, k.1.2, (type_of (typed_expr e), k.1.3))
-
-  pub any_one : (op : CmpOp) (e : TExpr) (b0 b1 b2 : Building) (q r : ℕ) → rest ≡ (op, e) ∷ [] → HasRoom x b0 → HasType b0 first rtype.I64 → EmitsNumber x (typed_expr e) b0 b1 q → Makes b1 b2 r rtype.Bool (OfTwo first q (Orders op)) → EmitsAnyChain x first (comparisons_of (map typed_comparison rest)) b0 b2 r
-  any_one op e b0 b1 b2 q r is room type c made =
-      let P : List (CmpOp × TExpr) → Type 0 = AnyOf b0 b2 r in
-      subst P (sym is) (λ s suits. chain_one x s first op (typed_expr e) b0 b1 b2 q r suits.0 suits.1 room type c made)
-
-  pub any_more : (op : CmpOp) (e : TExpr) (more : List (CmpOp × TExpr)) (b0 b1 b2 b3 b4 b5 b8 : Building) (q c target test start end second r : ℕ) → rest ≡ (op, e) ∷ more → HasRoom x b0 → HasType b0 first rtype.I64 → EmitsNumber x (typed_expr e) b0 b1 q → Makes b1 b2 c rtype.Bool (OfTwo first q (Orders op)) → Opens b2 b3 target test start rtype.Bool → EmitsAnyChain x q (comparisons_of (map typed_comparison more)) b3 b4 r → Brings b4 b5 target r end → second ≡ length b5.blocks → Meets b5 b8 target c c test start end second → EmitsAnyChain x first (comparisons_of (map typed_comparison rest)) b0 b8 target
-  any_more op e more b0 b1 b2 b3 b4 b5 b8 q c target test start end second r is room type ce made opens chain brings here meets =
-      let P : List (CmpOp × TExpr) → Type 0 = AnyOf b0 b8 target in
-      subst P (sym is) (λ s suits. chain_more x s first op (typed_expr e) (comparisons_of (map typed_comparison more)) b0 b1 b2 b3 b4 b5 b8 q c target test start end second r suits.0 suits.1 room type ce made opens (chain (type_of (typed_expr e)) suits.3) brings here meets)

@@ -1,5 +1,5 @@
 //! The choices of a chain of comparisons, each by whether the one before holds.
-ghost use Rattle.std.specs.Prelude.{◌≡◌, IfOk, OnOk, OnErr};
+ghost use Rattle.std.specs.Prelude.{◌≡◌, ◌≤◌, length, IfOk, OnOk, OnErr};
 ghost use Rattle.ir_core.specs.Building.{Building, Extends};
 ghost use Rattle.ir_frames.specs.Placing.{HasType};
 ghost use Rattle.ir_frames.specs.Shaped.{Keeps};
@@ -49,6 +49,7 @@ pub fn meet_links(b: &mut Emitter, links: Many<Link>, last: Reg, line: usize) ->
     requires pending { (a : Building) × Pending a links b.old }
     requires flag { HasType b.old last.0 RType.Bool }
     ensures kept { (a : Building) → Pending a links b.old → Extends a b.new }
+    ensures grown { length b.old.blocks ≤ length b.new.blocks }
     ensures ended { IfOk result (λ q. Ended links b.old last.0 b.new q.0) }
     ensures shaped { Keeps b.old b.new }
     ensures kinds { KeepsKinds b.old b.new }

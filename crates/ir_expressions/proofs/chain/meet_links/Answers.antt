@@ -33,6 +33,7 @@ loop-link-preserved c =
     record {
       pending = λ a h. met_pending a ls l b d c.loop-link.r.0 (split a h) met;
       more = let m = c.loop-link.invariant.more in let n = grows.0 in omega arith;
+      grown = let m = c.loop-link.invariant.grown in let n = grows.1 in omega arith;
       flag = met_flag c.requires.pending.0 ls l b d c.loop-link.r.0 (split c.requires.pending.0 c.requires.pending.1) met;
       ends = λ e q h.
           let Q : List Link → Type 0 = λ z. Ended z b c.loop-link.r.0 e q in

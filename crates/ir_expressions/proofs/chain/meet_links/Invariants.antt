@@ -11,6 +11,7 @@ abbrev pub invariant-loop-link : goal.invariant-loop-link
 invariant-loop-link l = record {
   pending : (a : Building) → Pending a l.fn.links l.fn.b → Pending a l.rest l.b;
   more : length l.fn.b.regs ≤ length l.b.regs;
+  grown : length l.fn.b.blocks ≤ length l.b.blocks;
   flag : HasType l.b l.r.0 Bool;
   ends : (c : Building) (q : ℕ) → Ended l.rest l.b l.r.0 c q → Ended l.fn.links l.fn.b l.fn.last.0 c q;
   shaped : Keeps l.fn.b l.b;
