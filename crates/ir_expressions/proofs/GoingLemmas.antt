@@ -1,15 +1,17 @@
 -- A chain of comparisons while it is emitted from the left.
-use Rattle.std.proofs.Common.{◌≡◌, refl, sym, ◌∙◌, ap, subst, ℕ, ◌+◌, ◌<◌, ◌≤◌, arith, true, List, [], ◌∷◌, ◌++◌, length, map, drop, get_or}
-use Rattle.std.proofs.lemmas.List.{drop_more}
+use Rattle.std.proofs.Common.{◌≡◌, refl, sym, ◌∙◌, ap, subst, ℕ, ◌+◌, ◌-◌, ◌<◌, ◌≤◌, arith, true, List, [], ◌∷◌, ◌++◌, length, map, take, drop, get_or}
+use Rattle.std.proofs.lemmas.List.{drop_more, drop_all, take_all}
 use Rattle.py_syntax.specs.declared.expression.CmpOp.{CmpOp}
 use Rattle.py_typed.specs.declared.expression.TExpr.{TExpr}
 use Rattle.py_typed.specs.Sorts.{Sort}
 use Rattle.py_typed.specs.Expressions.{Comparisons, type_of, typed_expr, comparisons_of, typed_comparison}
 use Rattle.ir_core.specs.declared.code.RType.TheVariants as rtype
 use Rattle.ir_core.specs.declared.code.Reg.{Reg}
+use Rattle.ir_core.specs.declared.code.Op.TheVariants.{Lit}
 use Rattle.ir_core.specs.Building.{Building, Extends}
 use Rattle.ir_frames.specs.Settings.{Setting}
 use Rattle.ir_frames.specs.Placing.{HasType}
+use Rattle.ir_frames.specs.Calling.{Adds}
 use Rattle.ir_frames.specs.Matching.{HasRoom}
 use Rattle.ir_frames.specs.Computing.{Makes, OfTwo}
 use Rattle.ir_frames.specs.Shaped.{Keeps}
@@ -19,15 +21,15 @@ use Rattle.ir_frames.proofs.MatchLemmas.{room_on}
 use Rattle.ir_expressions.specs.declared.chain.Link.{Link}
 use Rattle.ir_expressions.specs.Compiled.{is_ordering}
 use Rattle.ir_expressions.specs.Suiting.{Operand, ComparisonsSuit, SomeChain}
-use Rattle.ir_expressions.specs.Operating.{Orders}
+use Rattle.ir_expressions.specs.Operating.{Orders, literal_of_truth}
 use Rattle.ir_expressions.specs.Emitting.{EmitsNumber, EmitsAnyChain}
 use Rattle.ir_expressions.specs.Walking.{Walks}
 use Rattle.ir_expressions.specs.Linking.{Begins, Linked, Pending, Ended}
 use Rattle.ir_expressions.proofs.WalkingLemmas.{walks_trans}
 use Rattle.ir_expressions.proofs.LinkLemmas.{pending_snoc, pending_more, ended_last, keeps_both}
-use Rattle.ir_expressions.proofs.ChainLemmas.{EmitsRest, rest_done, rest_more, chain_from}
+use Rattle.ir_expressions.proofs.ChainLemmas.{EmitsRest, chain_done, rest_done, rest_more, chain_from}
 
-abbrev Chain : Type 0
+abbrev pub Chain : Type 0
 Chain = List (CmpOp × TExpr)
 
 abbrev chain_of : Chain → Comparisons
@@ -105,3 +107,33 @@ pub going_at : (x : Setting) (first : ℕ) (whole cs : Chain) (i : ℕ) (p : Cmp
 going_at x first whole cs i p start b links left holds lt is g =
     let P : Chain → Type 0 = λ z. Going x first whole z start b links left holds in
     subst P (next_of cs i p lt is) g
+
+-- ---- the chain as the code goes over it
+
+pub going_start : (x : Setting) (first : Reg) (rest : Chain) (p q : CmpOp × TExpr) (start b1 b2 : Building) (links : List Link) (left holds : Reg) → 1 ≤ length rest → links ≡ [] → SomeChain x.source x.variables (chain_of rest) → HasRoom x start → HasType start first.0 rtype.I64 → Walks x.source start b1 → EmitsNumber x (typed_expr (get_or rest 0 q).1) start b1 left.0 → Walks x.source b1 b2 → Makes b1 b2 holds.0 rtype.Bool (OfTwo first.0 left.0 (Orders (get_or rest 0 p).0)) → Going x first.0 rest (take (length rest - 1) (drop 1 rest)) start b2 links left holds
+going_start x first [] p q start b1 b2 links left holds n none suits room type w1 ce w2 made = absurd (omega arith)
+going_start x first (r ∷ more) p q start b1 b2 links left holds n none suits room type w1 ce w2 made =
+    let all : take (length (r ∷ more) - 1) more ≡ more = take_all (length (r ∷ more) - 1) more (omega arith) in
+    let P : Chain → Type 0 = λ z. Going x first.0 (r ∷ more) z start b2 links left holds in
+    let Q : List Link → Type 0 = λ z. Going x first.0 (r ∷ more) more start b2 z left holds in
+    subst P (sym all) (subst Q (sym none) (going_first x first r more start b1 b2 left holds suits room type w1 ce w2 made))
+
+pub going_over : (x : Setting) (first : ℕ) (whole cs : Chain) (i : ℕ) (start b d : Building) (links : List Link) (left holds : Reg) (r : ℕ) → length cs ≤ i → Going x first whole (drop i cs) start b links left holds → Ended links b holds.0 d r → EmitsAnyChain x first (chain_of whole) start d r
+going_over x first whole cs i start b d links left holds r le g ended =
+    let P : Chain → Type 0 = λ z. Going x first whole z start b links left holds in
+    going_ends x first whole start b d links left holds r (subst P (drop_all i cs le) g) ended
+
+pub chain_empty : (x : Setting) (first : ℕ) (rest : Chain) (b c : Building) (r : ℕ) → length rest < 1 → Adds b c r rtype.Bool (Lit record { 0 = r } (literal_of_truth true)) → EmitsAnyChain x first (chain_of rest) b c r
+chain_empty x first [] b c r lt a = λ s suits. chain_done x s first b c r a
+chain_empty x first (p ∷ more) b c r lt a = absurd (omega arith)
+
+-- what is asked of the first comparison, and of the next one
+pub first_suits : (x : Setting) (rest : Chain) (p q : CmpOp × TExpr) → 1 ≤ length rest → SomeChain x.source x.variables (chain_of rest) → (is_ordering (get_or rest 0 p).0 ≡ true) × Operand x.source x.variables (typed_expr (get_or rest 0 q).1)
+first_suits x [] p q n h = absurd (omega arith)
+first_suits x (r ∷ more) p q n h = let k = next_suits x r more h in (k.0, k.1)
+
+pub item_suits : (x : Setting) (cs : Chain) (i : ℕ) (p : CmpOp × TExpr) → i < length cs → p ≡ get_or cs i p → SomeChain x.source x.variables (chain_of (drop i cs)) → (is_ordering p.0 ≡ true) × Operand x.source x.variables (typed_expr p.1)
+item_suits x cs i p lt is h =
+    let P : Chain → Type 0 = λ z. SomeChain x.source x.variables (chain_of z) in
+    let k = next_suits x p (drop (i + 1) cs) (subst P (next_of cs i p lt is) h) in
+    (k.0, k.1)

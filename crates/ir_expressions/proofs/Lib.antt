@@ -1,4 +1,3 @@
-pub mod SizeLemmas
 pub mod WalkingLemmas
 pub mod OperationLemmas
 pub mod BuildLemmas
@@ -12,5 +11,7 @@ pub mod LinkLemmas
 pub mod NodeLemmas
 pub mod ChainLemmas
 pub mod GoingLemmas
+pub mod UnsuitedLemmas
+pub mod WeightLemmas
 pub mod WalkLemmas
 pub mod SuitLemmas

@@ -20,6 +20,7 @@ use Rattle.ir_frames.specs.Kinds.{Surrounding, is_plain, ArePlain, IsOf, Take, A
 use Rattle.ir_frames.proofs.HeldLemmas.{extends_refl, extends_trans, type_kept}
 use Rattle.ir_expressions.specs.Compiled.{is_scalar}
 use Rattle.ir_expressions.specs.Operating.{literal_of_truth}
+use Rattle.ir_expressions.specs.Choices.{Opens}
 use Rattle.ir_expressions.specs.Walking.{Walks}
 
 module _ (m : TypedModule) where
@@ -42,6 +43,12 @@ module _ (m : TypedModule) where
   pub walks_if : (a b : Building) → Extends a b → Keeps a b → KeepsKindsIf (IsAmong m) a b → Walks m a b
   walks_if a b x s k = record { kept = x; shaped = s; kinds = k }
 
+  pub then_by : (a b c : Building) → Walks m a b → Extends b c → Keeps b c → KeepsKinds b c → Walks m a c
+  then_by a b c w x s k = walks_trans a b c w (walks_by b c x s k)
+
+  pub then_if : (a b c : Building) → Walks m a b → Extends b c → Keeps b c → KeepsKindsIf (IsAmong m) b c → Walks m a c
+  then_if a b c w x s k = walks_trans a b c w (walks_if b c x s k)
+
   pub walks_known : (a b : Building) (P : Surrounding → Type 0) → Extends a b → Keeps a b → KeepsKindsIf P a b → ((g : Surrounding) → IsAmong m g → P g) → Walks m a b
   walks_known a b P x s k f = record { kept = x; shaped = s; kinds = λ g among h. k g (f g among) h }
 
@@ -60,8 +67,21 @@ scalar_plain sort.I64 e = refl
 scalar_plain sort.Bool e = refl
 scalar_plain _ e = absurd (cc)
 
+pub plain_type : (t : RType) (s : Sort) → t ≡ rtype_of s → is_scalar s ≡ true → is_plain t ≡ true
+plain_type t s e h = ap is_plain e ∙ scalar_plain s h
+
 pub alike : (b c d : Building) (t : RType) (target r : Reg) → is_plain t ≡ true → HasType b target.0 t → Extends b d → HasType c r.0 t → Extends c d → AreAlike d.regs target r
 alike b c d t target r plain has x gives y = (t, plain, type_kept b d target.0 t x has, type_kept c d r.0 t y gives)
+
+-- the first value is brought
+pub turned : (m : TypedModule) (t : RType) (b0 b2 b3 b4 b5 : Building) (target r : Reg) (test first : ℕ) → is_plain t ≡ true → Walks m b0 b4 → Opens b2 b3 target.0 test first t → Extends b3 b4 → HasType b4 r.0 t → Extends b4 b5 → Keeps b4 b5 → KeepsKindsIf (λ g. AreAlike b4.regs target r) b4 b5 → Walks m b0 b5
+turned m t b0 b2 b3 b4 b5 target r test first plain w opens x34 type x45 s k =
+    walks_trans m b0 b4 b5 w (walks_known m b4 b5 (λ g. AreAlike b4.regs target r) x45 s k (λ g among. alike b3 b4 b4 t target r plain opens.type x34 type (extends_refl b4)))
+
+-- both values meet
+pub met : (m : TypedModule) (t : RType) (b0 b2 b3 b7 b8 : Building) (target r condition : Reg) (test first : ℕ) → is_plain t ≡ true → Walks m b0 b7 → Opens b2 b3 target.0 test first t → Extends b3 b7 → HasType b7 r.0 t → HasType b7 condition.0 rtype.Bool → Extends b0 b8 → length b7.blocks ≤ length b8.blocks → Keeps b7 b8 → KeepsKindsIf (λ g. AreAlike b7.regs target r × IsOf b7.regs condition rtype.Bool) b7 b8 → Walks m b0 b8
+met m t b0 b2 b3 b7 b8 target r condition test first plain w opens x37 type flag x08 grown s k =
+    walks_met m b0 b7 b8 (λ g. AreAlike b7.regs target r × IsOf b7.regs condition rtype.Bool) w x08 grown s k (λ g. (alike b3 b7 b7 t target r plain opens.type x37 type (extends_refl b7), flag))
 
 -- ---- literals
 
