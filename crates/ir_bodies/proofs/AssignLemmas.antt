@@ -1,5 +1,5 @@
 -- Assignments to a variable, and updates of one, do in their code what they mean.
-use Rattle.std.proofs.Common.{◌≡◌, ℕ, ◌<◌, ◌≤◌, Bool, true, List, [], ◌∷◌, length, Option, Some, None, refl, sym, ap, ◌∙◌, subst, arith}
+use Rattle.std.proofs.Common.{◌≡◌, ℕ, ◌<◌, ◌≤◌, true, List, [], ◌∷◌, length, Option, Some, None, refl, sym, ap, ◌∙◌, subst, arith}
 use Rattle.std.specs.Prelude.{slice_get, slice_set, nat_lt, if◌then◌else◌}
 use Rattle.std.proofs.lemmas.Bool.Decides.{nat_tests}
 use Rattle.value_core.specs.Value.{Value}
@@ -27,9 +27,8 @@ use Rattle.ir_frames.specs.Settings.{Setting, rtype_of}
 use Rattle.ir_frames.specs.Placing.{HasType}
 use Rattle.ir_frames.specs.Calling.{Pushes}
 use Rattle.ir_frames.specs.Matching.{HasKind, HasRoom}
-use Rattle.ir_frames.specs.Computing.{Shows, Makes, OfTwo}
+use Rattle.ir_frames.specs.Computing.{Makes, OfTwo}
 use Rattle.ir_frames.specs.Kinds.{is_plain, AreAlike}
-use Rattle.ir_frames.proofs.HeldLemmas.{type_kept}
 use Rattle.ir_frames.proofs.MatchLemmas.{room_on}
 use Rattle.ir_expressions.specs.Compiled.{is_scalar, is_built}
 use Rattle.ir_expressions.specs.Operating.{Operates}

@@ -1,5 +1,5 @@
 -- What the parts of statements do makes what they do.
-use Rattle.std.proofs.Common.{◌≡◌, ℕ, ◌+◌, ◌<◌, ◌≤◌, Bool, true, List, [], ◌∷◌, ◌++◌, length, map, take, get_or, Option, Some, None, refl, sym, ap, ◌∙◌, subst, arith, le_refl, Result, Ok, Err, OnOk}
+use Rattle.std.proofs.Common.{◌≡◌, ℕ, ◌+◌, ◌<◌, ◌≤◌, Bool, true, List, [], length, map, take, get_or, Option, Some, None, refl, sym, ap, ◌∙◌, subst, arith, le_refl, Result, Ok, Err, OnOk}
 use Rattle.std.proofs.lemmas.Grind.{common_steps}
 use Rattle.py_syntax.specs.declared.expression.BinOp.{BinOp}
 use Rattle.py_typed.specs.declared.types.Ty.{Ty}

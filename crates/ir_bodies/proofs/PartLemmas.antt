@@ -1,14 +1,13 @@
 -- What is open stays so, and plans fit, while the parts of `if` and `while` end.
-use Rattle.std.proofs.Common.{◌≡◌, ◌<◌, ◌≤◌, ℕ, List, length, Some, arith, le_refl}
-use Rattle.ir_core.specs.declared.code.Last.{Last}
-use Rattle.ir_core.specs.declared.code.Last.TheVariants.{If, Unreachable}
+use Rattle.std.proofs.Common.{◌≡◌, ◌<◌, ℕ, List, length, arith, le_refl}
+use Rattle.ir_core.specs.declared.code.Last.TheVariants.{If}
 use Rattle.ir_core.specs.declared.code.Reg.{Reg}
 use Rattle.ir_core.specs.Building.{Building, with_last, Extends}
 use Rattle.ir_frames.specs.Calling.{Open}
 use Rattle.ir_frames.proofs.PatchLemmas.{patches}
 use Rattle.ir_statements.specs.declared.ways.Exit.{Exit}
 use Rattle.ir_statements.specs.Runs.{OpenIn}
-use Rattle.ir_statements.proofs.ExitLemmas.{Stays, stays_by, stays_patch_below, open_on}
+use Rattle.ir_statements.proofs.ExitLemmas.{stays_by, stays_patch_below, open_on}
 
 pub open_kept : (b c : Building) (from : ℕ) (es : List Exit) → Extends b c → OpenIn b from (length b.blocks) es → OpenIn c from (length c.blocks) es
 open_kept b c from es x o = open_on b c from (length b.blocks) from (length c.blocks) es (stays_by b c from (length b.blocks) x) (le_refl from) x.blocks_grow o

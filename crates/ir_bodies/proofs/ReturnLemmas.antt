@@ -1,5 +1,5 @@
 -- A return does in its code what it means.
-use Rattle.std.proofs.Common.{◌≡◌, ◌≢◌, List, [], Option, Some, None, refl, sym, subst}
+use Rattle.std.proofs.Common.{◌≡◌, ◌≢◌, [], Option, Some, None, refl, sym, subst}
 use Rattle.value_core.specs.Value.{NoneVal}
 use Rattle.py_typed.specs.Sorts as sort
 use Rattle.py_typed.specs.Expressions.{TypedExpr}

@@ -1,23 +1,20 @@
 -- What is asked of statements is asked of their parts.
-use Rattle.std.proofs.Common.{◌≡◌, ℕ, ◌+◌, ◌<◌, Bool, true, List, [], ◌∷◌, length, map, drop, get_or, Option, Some, None, refl, sym, ap, ◌∙◌, subst}
+use Rattle.std.proofs.Common.{◌≡◌, ℕ, ◌+◌, ◌<◌, Bool, true, List, ◌∷◌, length, map, drop, get_or, Option, sym, ap, ◌∙◌, subst}
 use Rattle.std.proofs.lemmas.List.{drop_more}
 use Rattle.py_syntax.specs.declared.expression.BinOp.{BinOp}
 use Rattle.py_typed.specs.declared.types.Ty.{Ty}
 use Rattle.py_typed.specs.declared.expression.TExpr.{TExpr}
 use Rattle.py_typed.specs.declared.statement.Target.{Target}
-use Rattle.py_typed.specs.declared.statement.THandler.{THandler}
 use Rattle.py_typed.specs.declared.statement.TStmt.{TStmt}
 use Rattle.py_typed.specs.declared.statement.TStmtKind.{TStmtKind, roll-TStmtKind, out-TStmtKind, roll-out-TStmtKind, fold-roll-TStmtKind}
 use Rattle.py_typed.specs.declared.statement.TStmtKind as kind
-use Rattle.py_typed.specs.declared.statement.TStmtKind.TheVariants as variant
-use Rattle.py_typed.specs.declared.statement.TStmtKind.TheOpen.{TStmtKind-F}
 use Rattle.py_typed.specs.Sorts.{sort as sort_of}
-use Rattle.py_typed.specs.Expressions.{typed_expr, type_of}
+use Rattle.py_typed.specs.Expressions.{typed_expr}
 use Rattle.py_typed.specs.Statements as tree
 use Rattle.py_typed.specs.Statements.{Variable, TypedModule, TypedStmt, TypedAct, HandlerParts, on_line, act_step, handler_step, stmt_step, typed_stmt, typed_act, typed_handler, typed_suite, typed_arm, typed_target, maybe_typed, suite_of, arms_of}
-use Rattle.py_typed.proofs.StatementLemmas.{typed_stmt_of, typed_act-Expr, typed_act-Assign, typed_act-Aug, typed_act-If, typed_act-While, typed_act-Return, typed_act-Break, typed_act-Continue}
+use Rattle.py_typed.proofs.StatementLemmas.{typed_stmt_of, typed_act-Aug, typed_act-If, typed_act-Return, typed_act-Break, typed_act-Continue}
 use Rattle.ir_core.specs.declared.code.RType.{RType}
-use Rattle.ir_bodies.specs.Suiting.{DoSuits, TestSuits, ReturnSuits, StatementSuits, ActSuits, SuiteSuits, ArmsSuit}
+use Rattle.ir_bodies.specs.Suiting.{TestSuits, ReturnSuits, StatementSuits, ActSuits, SuiteSuits, ArmsSuit}
 
 module _ (m : TypedModule) (vs : List Variable) (gives : Option RType) (looping : Bool) where
   -- ---- rows
@@ -44,14 +41,6 @@ module _ (m : TypedModule) (vs : List Variable) (gives : Option RType) (looping 
         let P : TypedStmt → Type 0 = λ z. StatementSuits m vs gives looping z in
         subst P (typed_stmt_of s k is ∙ ap (λ z. on_line z s.line) made) suits
 
-    pub alone_suits : (e : TExpr) → s.kind ≡ kind.Expr e → ActSuits m vs gives looping (tree.Do (typed_expr e))
-    alone_suits e is = act_suits (kind.Expr e) (tree.Do (typed_expr e)) is (typed_act-Expr e)
-
-    pub assignment_suits : (ts all : List Target) (e : TExpr) → s.kind ≡ kind.Assign all e → ts ≡ all → ActSuits m vs gives looping (tree.Assign (map typed_target ts) (typed_expr e))
-    assignment_suits ts all e is same =
-        let P : List Target → Type 0 = λ z. ActSuits m vs gives looping (tree.Assign (map typed_target z) (typed_expr e)) in
-        subst P (sym same) (act_suits (kind.Assign all e) (tree.Assign (map typed_target all) (typed_expr e)) is (typed_act-Assign all e))
-
     pub update_suits : (t : Target) (op : BinOp) (e : TExpr) (ty : Ty) → s.kind ≡ kind.Aug t op e ty → ActSuits m vs gives looping (tree.Aug (typed_target t) op (typed_expr e) (sort_of ty))
     update_suits t op e ty is = act_suits (kind.Aug t op e ty) (tree.Aug (typed_target t) op (typed_expr e) (sort_of ty)) is (typed_act-Aug t op e ty)
 
@@ -62,12 +51,6 @@ module _ (m : TypedModule) (vs : List Variable) (gives : Option RType) (looping 
         let k = act_suits (kind.If all last) (tree.If (arms_of (map typed_arm all)) (typed_suite last)) is (typed_act-If all last) in
         (subst P (sym same_arms) k.0, subst Q (sym same) k.1)
 
-    pub while_suits : (e : TExpr) (body all : List TStmt) → s.kind ≡ kind.While e all → body ≡ all → TestSuits m vs gives (typed_expr e) × SuiteSuits m vs gives true (typed_suite body)
-    while_suits e body all is same =
-        let Q : List TStmt → Type 0 = λ z. SuiteSuits m vs gives true (typed_suite z) in
-        let k = act_suits (kind.While e all) (tree.While (typed_expr e) (typed_suite all)) is (typed_act-While e all) in
-        (k.0, subst Q (sym same) k.1)
-
     pub return_suits : (o : Option TExpr) → s.kind ≡ kind.Return o → ReturnSuits m vs gives (maybe_typed o)
     return_suits o is = act_suits (kind.Return o) (tree.Return (maybe_typed o)) is (typed_act-Return o)
 
@@ -76,23 +59,3 @@ module _ (m : TypedModule) (vs : List Variable) (gives : Option RType) (looping 
 
     pub continue_suits : s.kind ≡ kind.Continue → looping ≡ true
     continue_suits is = act_suits kind.Continue tree.Continue is typed_act-Continue
-
-    -- no other statement is built
-    module _ (no_alone : (e : TExpr) → s.kind ≡ kind.Expr e → ⊥) (no_assignment : (ts : List Target) (e : TExpr) → s.kind ≡ kind.Assign ts e → ⊥) (no_update : (t : Target) (op : BinOp) (e : TExpr) (ty : Ty) → s.kind ≡ kind.Aug t op e ty → ⊥) (no_if : (arms : List (TExpr × List TStmt)) (other : List TStmt) → s.kind ≡ kind.If arms other → ⊥) (no_while : (e : TExpr) (body : List TStmt) → s.kind ≡ kind.While e body → ⊥) (no_return : (o : Option TExpr) → s.kind ≡ kind.Return o → ⊥) (no_break : s.kind ≡ kind.Break → ⊥) (no_continue : s.kind ≡ kind.Continue → ⊥) (no_pass : s.kind ≡ kind.Pass → ⊥) where
-      stepped : (k : TStmtKind-F TStmtKind THandler TStmt) → roll-TStmtKind k ≡ s.kind → ActSuits m vs gives looping (act_step (kind.map-TStmtKind TStmtKind THandler TStmt TypedAct HandlerParts TypedStmt typed_act typed_handler typed_stmt k))
-      stepped k is = act_suits (roll-TStmtKind k) _ (sym is) (fold-roll-TStmtKind TypedAct HandlerParts TypedStmt act_step handler_step stmt_step k)
-
-      unsuited : (k : TStmtKind-F TStmtKind THandler TStmt) → roll-TStmtKind k ≡ s.kind → ⊥
-      unsuited (TStmtKind-F.Expr e) is = no_alone e (sym is ∙ variant.rolls-Expr e)
-      unsuited (TStmtKind-F.Assign ts e) is = no_assignment ts e (sym is ∙ variant.rolls-Assign ts e)
-      unsuited (TStmtKind-F.Aug t op e ty) is = no_update t op e ty (sym is ∙ variant.rolls-Aug t op e ty)
-      unsuited (TStmtKind-F.If arms other) is = no_if arms other (sym is ∙ variant.rolls-If arms other)
-      unsuited (TStmtKind-F.While e body) is = no_while e body (sym is ∙ variant.rolls-While e body)
-      unsuited (TStmtKind-F.Return o) is = no_return o (sym is ∙ variant.rolls-Return o)
-      unsuited TStmtKind-F.Break is = no_break (sym is ∙ variant.rolls-Break)
-      unsuited TStmtKind-F.Continue is = no_continue (sym is ∙ variant.rolls-Continue)
-      unsuited TStmtKind-F.Pass is = no_pass (sym is ∙ variant.rolls-Pass)
-      unsuited k is = stepped k is
-
-      pub none_left : ⊥
-      none_left = unsuited (out-TStmtKind s.kind) (roll-out-TStmtKind s.kind)

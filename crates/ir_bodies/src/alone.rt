@@ -1,5 +1,5 @@
 //! The code of an expression alone, of which `print` is one.
-ghost use Rattle.std.specs.Prelude.{◌≡◌, ◌≤◌, ◌∷◌, [], map, length, Option, None, IfOk, OnOk};
+ghost use Rattle.std.specs.Prelude.{◌≤◌, ◌∷◌, [], map, length, Option, None, IfOk, OnOk};
 ghost use Rattle.py_typed.specs.Expressions.{typed_expr, exprs_of};
 ghost use Rattle.py_typed.specs.Statements.{typed_module, variable};
 ghost use Rattle.ir_core.specs.declared.code.RType.{RType};

@@ -1,7 +1,6 @@
 //! What stands around the bodies of `if` and `while`.
-ghost use Rattle.std.specs.Prelude.{◌≡◌, ◌≤◌, ◌<◌, ℕ, [], ◌∷◌, map, length, IfOk, OnOk, OnErr};
-ghost use Rattle.py_typed.specs.Sorts.{Bool as BoolSort};
-ghost use Rattle.py_typed.specs.Expressions.{typed_expr, type_of};
+ghost use Rattle.std.specs.Prelude.{◌≤◌, ◌<◌, ℕ, map, length, IfOk, OnOk, OnErr};
+ghost use Rattle.py_typed.specs.Expressions.{typed_expr};
 ghost use Rattle.py_typed.specs.Statements.{typed_module, variable};
 ghost use Rattle.ir_core.specs.Building.{Extends};
 ghost use Rattle.ir_frames.specs.Calling.{Open};

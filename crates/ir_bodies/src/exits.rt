@@ -1,5 +1,5 @@
 //! The blocks that are left by ways whose places come later.
-ghost use Rattle.std.specs.Prelude.{◌≡◌, ◌++◌, [], ◌∷◌, ℕ, length, List, OnOk};
+ghost use Rattle.std.specs.Prelude.{◌≡◌, ◌++◌, [], ◌∷◌, ℕ, length, OnOk};
 ghost use Rattle.ir_core.specs.Building.{Extends};
 ghost use Rattle.ir_frames.specs.Calling.{Closes};
 ghost use Rattle.ir_frames.specs.Shaped.{Keeps, KeepsIf};

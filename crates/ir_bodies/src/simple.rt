@@ -11,10 +11,9 @@ ghost use Rattle.ir_frames.specs.Shaped.{Keeps};
 ghost use Rattle.ir_frames.specs.Kinds.{IsAmong, KeepsKindsIf, Surrounding, HasKinds};
 ghost use Rattle.ir_expressions.specs.Compiled.{is_scalar, is_built};
 ghost use Rattle.ir_expressions.specs.Suiting.{Suits, Operand};
-ghost use Rattle.ir_statements.specs.Means.{means, means_alone, means_assignment, means_update, means_return, returned_type};
-ghost use Rattle.ir_statements.specs.Printing.{ComputesPrinted, one_value};
+ghost use Rattle.ir_statements.specs.Means.{means_assignment, means_update, means_return, returned_type};
 ghost use Rattle.ir_statements.specs.Runs.{Works};
-ghost use Rattle.ir_bodies.specs.Suiting.{PrintSuits, DoSuits, IsVariable, IsOnly, ReturnSuits};
+ghost use Rattle.ir_bodies.specs.Suiting.{IsVariable, IsOnly, ReturnSuits};
 ghost use Rattle.ir_bodies.specs.Kinds.{IsAround};
 ghost use Rattle.ir_bodies.specs.Parts.{IsLocal, IsOneLocal, ComputesReturned};
 

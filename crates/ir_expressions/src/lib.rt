@@ -8,6 +8,7 @@
 //! compiled suits.
 #![tactic(auto)]
 
+mod chain;
 mod choice;
 mod expression;
 mod operations;

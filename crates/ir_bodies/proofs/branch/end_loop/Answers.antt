@@ -1,5 +1,6 @@
-use Rattle.std.proofs.Common.{length, arith, inr, refl}
-use Rattle.ir_frames.proofs.HeldLemmas.{extends_trans}
+use Rattle.std.proofs.Common.{arith, inr, refl}
+use Rattle.ir_core.specs.declared.code.RType.TheVariants.{Bool}
+use Rattle.ir_frames.proofs.HeldLemmas.{extends_trans, type_kept}
 use Rattle.ir_statements.specs.Ways.{planned}
 use Rattle.ir_statements.proofs.PlanLemmas.{plan_fits, loop_above, turn_ends}
 use Rattle.ir_bodies.proofs.PartLemmas.{open_kept, open_tested, still_open}
@@ -30,21 +31,29 @@ returns-clause-ends c = record {
 
 pub returns-clause-shaped : goal.returns-clause-shaped
 returns-clause-shaped c = λ n m low up s.
-    let b = c.args.b.now in
     let exit = c.here-exit.result in
     let next = c.in_ok-next.next in
     let is_next = c.in_ok-next.ensures.number in
     let is_exit = c.here-exit.ensures in
-    let h0 = c.requires.head.0 in let h1 = c.requires.head.1 in let st = c.requires.start in let he = c.requires.here in
-    let n1 = c.in_ok-next.ensures.closed.blocks in
-    let n2 = c.in_ok-push.ensures.pushed.blocks in
-    let n3 = c.in_ok-close.ensures.closed.blocks in
-    let n4 = c.patch.ensures.len in
-    let n5 = c.patch_all.ensures.patching.blocks in
+    let first = c.requires.head.0 in
+    let low_head = c.requires.head.1 in
+    let start = c.requires.start in
+    let here = c.requires.here in
+    let leaves = c.in_ok-next.ensures.closed in
+    let turns = c.in_ok-push.ensures.pushed in
+    let closes = c.in_ok-close.ensures.closed in
+    let same = c.patch.ensures.len in
+    let patching = c.patch_all.ensures.patching in
     let s1 = c.in_ok-next.ensures.shaped n m low (omega arith) s in
     let s2 = c.in_ok-push.ensures.shaped n m (search) s1 in
-    let s3 = c.in_ok-close.ensures.shaped n m (inr (h0, turn_ends c.step_on.new.self c.push.new.self c.args.line (rw c.in_ok-push.ensures.is refl)), omega arith) s2 in
+    let s3 = c.in_ok-close.ensures.shaped n m (inr (first, turn_ends c.step_on.new.self c.push.new.self c.args.line (rw c.in_ok-push.ensures.is refl)), omega arith) s2 in
     let s4 = c.patch.ensures.shaped n m ((omega arith, omega arith), (omega arith, omega arith)) s3 in
     c.patch_all.ensures.shaped n m
-    (plan_fits b c.args.test.start (length b.blocks) m (planned _) c.args.inner.now c.requires.opens (loop_above (length b.blocks) m exit next (omega arith, omega arith) (omega arith, omega arith)))
+    (plan_fits _ _ _ m (planned _) c.args.inner.now c.requires.opens (loop_above _ m exit next (omega arith, omega arith) (omega arith, omega arith)))
     s4
+
+pub returns-clause-kinds : goal.returns-clause-kinds
+returns-clause-kinds c = λ g is h.
+    let x = extends_trans _ _ _ c.in_ok-next.ensures.kept (extends_trans _ _ _ c.in_ok-push.ensures.kept c.in_ok-close.ensures.kept) in
+    c.patch_all.ensures.kinds g
+    (c.patch.ensures.kinds g (type_kept c.args.b.now c.close.new.self c.args.test.condition.0 Bool x is) (c.in_ok-close.ensures.kinds g tt (c.in_ok-push.ensures.kinds g tt (c.in_ok-next.ensures.kinds g h))))

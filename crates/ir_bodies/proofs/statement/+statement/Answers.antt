@@ -1,10 +1,9 @@
-use Rattle.std.proofs.Common.{◌≡◌, length, rules, arith, map, ◌∙◌, sym, refl}
+use Rattle.std.proofs.Common.{rules, map}
 use Rattle.py_typed.specs.declared.statement.TStmt.{the_lemmas}
 use Rattle.py_typed.specs.Expressions.{typed_expr}
-use Rattle.py_typed.specs.Statements.{typed_module, typed_suite, typed_arm, arms_of, variable}
+use Rattle.py_typed.specs.Statements.{typed_suite, typed_arm, arms_of}
 use Rattle.ir_frames.specs.Settings.{Setting, setting}
 use Rattle.ir_frames.specs.Matching.{HasRoom}
-use Rattle.ir_frames.specs.Shaped.{Keeps}
 use Rattle.ir_frames.proofs.HeldLemmas.{extends_refl, extends_trans, on_ok_map, either_way}
 use Rattle.ir_frames.proofs.MatchLemmas.{room_on}
 use Rattle.ir_statements.proofs.EmitLemmas.{nothing_emitted, next_emitted, nothing_tested, pass_emitted, break_emitted, continue_emitted, join_open}
