@@ -1,5 +1,5 @@
 -- The choices of a chain: what was begun, and that all are met from the last.
-use Rattle.std.proofs.Common.{◌≡◌, refl, sym, ◌∙◌, ap, subst, ℕ, zero, suc, ◌+◌, ◌<◌, ◌≤◌, arith, true, List, [], ◌∷◌, ◌++◌, length, Some}
+use Rattle.std.proofs.Common.{◌≡◌, refl, sym, ap, subst, ℕ, zero, suc, ◌<◌, ◌≤◌, arith, List, [], ◌∷◌, ◌++◌, length, Some}
 use Rattle.std.specs.Prelude.{slice_get}
 use Rattle.std.specs.Option.{option_map}
 use Rattle.ir_core.specs.declared.code.RType.{RType}
@@ -12,8 +12,8 @@ use Rattle.ir_frames.specs.Kinds.{AreAlike}
 use Rattle.ir_frames.specs.Shaped.{Keeps}
 use Rattle.ir_frames.proofs.HeldLemmas.{extends_refl, extends_trans, type_kept, type_below}
 use Rattle.ir_expressions.specs.declared.chain.Link.{Link}
-use Rattle.ir_expressions.specs.Choices.{Opens, Brings, Meets}
-use Rattle.ir_expressions.specs.Linking.{Begins, Linked, Pending, Met, Ended}
+use Rattle.ir_expressions.specs.Choices.{Brings, Meets}
+use Rattle.ir_expressions.specs.Linking.{Begins, Pending, Met, Ended}
 use Rattle.ir_expressions.proofs.OpenLemmas.{meet_ready}
 
 pub pending_extends : (b : Building) (ls : List Link) (c : Building) → Pending b ls c → Extends b c

@@ -1,5 +1,5 @@
 -- The code of a declared expression of each kind, and what its parts need.
-use Rattle.std.proofs.Common.{◌≡◌, refl, sym, ◌∙◌, ap, subst, ℕ, suc, ◌+◌, ◌<◌, ◌≤◌, arith, Bool, true, false, List, [], ◌∷◌, length, map, Option, Some, None}
+use Rattle.std.proofs.Common.{◌≡◌, refl, sym, ◌∙◌, ap, subst, ℕ, ◌≤◌, arith, Bool, true, false, List, [], ◌∷◌, length, map, Option, Some, None}
 use Rattle.std.specs.Prelude.{ℤ, slice_get}
 use Rattle.std.specs.declared.boxed.Box.{Box}
 use Rattle.std.specs.declared.alloc.Global.{Global}
@@ -20,25 +20,22 @@ use Rattle.ir_core.specs.declared.code.RType.{RType}
 use Rattle.ir_core.specs.declared.code.Reg.{Reg}
 use Rattle.ir_core.specs.declared.code.Lit.TheVariants.{Number}
 use Rattle.ir_core.specs.declared.code.Op.TheVariants.{Lit, Call as CallOp}
-use Rattle.ir_core.specs.declared.code.Last.TheVariants.{Unreachable}
-use Rattle.ir_core.specs.Items.{End}
-use Rattle.ir_core.specs.Rows.{Declared, type_of_reg}
-use Rattle.ir_core.specs.Building.{Building, held, Extends}
+use Rattle.ir_core.specs.Building.{Building, Extends}
 use Rattle.ir_frames.specs.Settings.{Setting, rtype_of}
 use Rattle.ir_frames.specs.Placing.{HasType}
-use Rattle.ir_frames.specs.Calling.{Adds, Open}
+use Rattle.ir_frames.specs.Calling.{Adds}
 use Rattle.ir_frames.specs.Matching.{HasRoom, parameter_sorts}
 use Rattle.ir_frames.specs.Computing.{Makes, OfOne, OfTwo, HaveTypes}
 use Rattle.ir_frames.specs.Shaped.{AllBelow, Keeps}
 use Rattle.ir_frames.specs.Kinds.{Surrounding, Calls, KeepsKindsIf}
 use Rattle.ir_frames.proofs.HeldLemmas.{get_below, type_below}
 use Rattle.ir_expressions.specs.Compiled.{is_scalar, is_bool, is_built, is_ordering, literal_in}
-use Rattle.ir_expressions.specs.Suiting.{Suits, OperandSuits, Operand, ArgumentsSuit, ComparisonsSuit, SomeSuit, SomeChain}
-use Rattle.ir_expressions.specs.Operating.{Negates, Inverts, Numbers, Asks, Operates, Orders, TestsValue, FitsIfLiteral, literal_of_truth}
-use Rattle.ir_expressions.specs.Emitting.{Emits, EmitsNumber, EmitsAll, EmitsChain, EmitsAnyChain}
+use Rattle.ir_expressions.specs.Suiting.{Suits, OperandSuits, Operand, SomeSuit, SomeChain}
+use Rattle.ir_expressions.specs.Operating.{Negates, Inverts, Numbers, Asks, Operates, TestsValue, FitsIfLiteral, literal_of_truth}
+use Rattle.ir_expressions.specs.Emitting.{Emits, EmitsNumber, EmitsAll, EmitsAnyChain}
 use Rattle.ir_expressions.specs.Walking.{Walks}
 use Rattle.ir_expressions.specs.Choices.{Opens, Brings, Meets}
-use Rattle.ir_expressions.proofs.ArmLemmas.{Is, asked, emits_as, is_bool as is_flag, is_local, is_neg, is_not, is_truth, is_arith, is_compare, is_and, is_or, is_cond, is_call, is_coerce}
+use Rattle.ir_expressions.proofs.ArmLemmas.{asked, emits_as, is_bool as is_flag, is_local, is_neg, is_not, is_truth, is_arith, is_compare, is_and, is_or, is_cond, is_call, is_coerce}
 use Rattle.ir_expressions.proofs.NodeLemmas.{flag_emits, literal_emits, local_emits, neg_emits, not_emits, truth_emits, arith_emits, i64_number, bool_number, coerce_emits, and_emits, or_emits, cond_emits, bool_sort, i64_sort}
 use Rattle.ir_expressions.proofs.ChainLemmas.{chain_done, compare_emits}
 use Rattle.ir_expressions.proofs.CallLemmas.{call_emits}

@@ -1,5 +1,5 @@
 -- What keeps the function around code that is added: one piece behind another, choices, literals and calls.
-use Rattle.std.proofs.Common.{◌≡◌, refl, sym, ◌∙◌, ap, subst, ℕ, ◌+◌, ◌≤◌, arith, Bool, true, List, [], ◌∷◌, length, map, Option, Some, None, is_some}
+use Rattle.std.proofs.Common.{◌≡◌, refl, ◌∙◌, ap, ℕ, ◌≤◌, arith, Bool, true, List, [], ◌∷◌, length, map, Some}
 use Rattle.std.specs.Prelude.{ℤ, slice_get}
 use Rattle.value_core.specs.Arithmetic.{lies_within}
 use Rattle.py_typed.specs.Sorts as sort

@@ -1,4 +1,4 @@
-use Rattle.std.proofs.Common.{◌+◌, ◌≤◌, arith, List, subst, sym}
+use Rattle.std.proofs.Common.{arith, List, subst, sym}
 use Rattle.ir_core.specs.Building.{Building}
 use Rattle.ir_frames.proofs.HeldLemmas.{extends_trans}
 use Rattle.ir_expressions.specs.declared.chain.Link.{Link}

@@ -1,4 +1,4 @@
-use Rattle.std.proofs.Common.{rules, ◌≡◌, refl, sym, ◌∙◌, ap, subst, ℕ, ◌+◌, ◌-◌, ◌*◌, ◌<◌, ◌≤◌, ◌∷◌, arith, max, List, length, map, drop, take, IfOk}
+use Rattle.std.proofs.Common.{rules, refl, sym, ◌∙◌, ap, ◌+◌, ◌-◌, ◌≤◌, arith, length, map, drop, take, IfOk}
 use Rattle.std.proofs.lemmas.List.{length-map}
 use Rattle.py_typed.specs.Sorts.{sort, Bool as BoolSort}
 use Rattle.py_typed.specs.Expressions.{typed, And, Or, Cond, typed_expr, exprs_of, comparisons_of, typed_comparison, type_of}
@@ -12,16 +12,15 @@ use Rattle.ir_frames.specs.Calling.{Adds}
 use Rattle.ir_frames.specs.Kinds.{LiteralFits, KeepsKindsIf}
 use Rattle.ir_frames.proofs.HeldLemmas.{ok_map, extends_refl, extends_trans, type_kept}
 use Rattle.ir_frames.proofs.MatchLemmas.{room_on}
-use Rattle.ir_expressions.specs.Suiting.{Suits, Operand}
 use Rattle.ir_expressions.specs.Emitting.{Emits, EmitsNumber, EmitsAll, EmitsAnyChain}
 use Rattle.ir_expressions.proofs.ArmLemmas.{neg_part, not_part, truth_part, arith_left, arith_right, compare_first, and_left, and_right, or_left, or_right, cond_first, cond_test, cond_second, coerce_part}
 use Rattle.ir_expressions.proofs.OpenLemmas.{meet_ready}
 use Rattle.ir_expressions.proofs.WalkingLemmas.{walks_refl, walks_trans, walks_if, walks_by, then_by, then_if, plain_type, turned, met, truth_fits, number_fits}
 use Rattle.ir_expressions.proofs.ArgumentLemmas.{argument_suits, passing_none, passing_on, passing_ends}
-use Rattle.ir_expressions.proofs.GoingLemmas.{going_start, going_at, going_on, going_over, going_walks, first_suits, item_suits, chain_empty, Chain}
+use Rattle.ir_expressions.proofs.GoingLemmas.{going_start, going_at, going_on, going_over, first_suits, item_suits, chain_empty, Chain}
 use Rattle.ir_expressions.proofs.WeightLemmas.{weight_of_all, weight_of_chain, same_weight, neg_weight, not_weight, truth_weight, coerce_weight, arith_weight, compare_weight, and_weight, or_weight, cond_weight, call_weight, member_weight, first_weight, later_weight}
 use Rattle.ir_expressions.proofs.UnsuitedLemmas.{none_left}
-use Rattle.ir_expressions.proofs.WalkLemmas.{part_type, and_made, or_made, choice_made, flag_walked, local_walked, neg_type, neg_walked, not_type, not_walked, truth_type, truth_walked, arith_built, arith_walked, compare_rest, compare_walked, and_scalar, and_same, and_walked, or_scalar, or_same, or_walked, cond_scalar, cond_same, cond_flag, cond_walked, call_suits, call_below, call_walked, call_walks, coerce_walked, operand_fits, operand_part, operand_scalar, literal_within, literal_walked, flag_type, flag_number, own_number, emits_same, number_same, suits_same, operand_same, scalar_same, sort_same, sorts_same}
+use Rattle.ir_expressions.proofs.WalkLemmas.{part_type, and_made, or_made, choice_made, flag_walked, local_walked, neg_type, neg_walked, not_type, not_walked, truth_type, truth_walked, arith_walked, compare_rest, compare_walked, and_scalar, and_same, and_walked, or_scalar, or_same, or_walked, cond_scalar, cond_same, cond_flag, cond_walked, call_suits, call_below, call_walked, call_walks, coerce_walked, operand_fits, operand_part, operand_scalar, literal_within, literal_walked, flag_type, flag_number, own_number, emits_same, number_same, suits_same, operand_same, scalar_same, sort_same, sorts_same}
 use Rattle.ir_expressions.proofs.expression.+expression.Goals as goal
 
 pub emit_expression-returns-in_err-x-in-Neg-clause-kept : goal.emit_expression-returns-in_err-x-in-Neg-clause-kept
