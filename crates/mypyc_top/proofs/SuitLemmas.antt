@@ -1,0 +1,54 @@
+-- A module without faults where it is compiled is one that is built.
+use Rattle.std.proofs.Common.{◌≡◌, refl, sym, ◌∙◌, ap, subst, ℕ, true, List, [], ◌∷◌, Option, Some, None, Result, Ok, Err}
+use Rattle.std.specs.Prelude.{if◌then◌else◌, IfOk}
+use Rattle.py_syntax.specs.Statements.{Suite}
+use Rattle.py_forms.specs.Later.{later_line}
+use Rattle.py_typed.specs.Statements.{TypedModule}
+use Rattle.py_typed.specs.WellTypedModule.{is_well_typed}
+use Rattle.py_check.specs.Module.{diagnostics, typed}
+use Rattle.py_source.specs.Entries.{Entry}
+use Rattle.c_core.specs.WellFormed.{is_identifier}
+use Rattle.ir_bodies.specs.Modules.{ModuleSuits}
+use Rattle.ir_forms.specs.Statements.{uncompiled_line}
+use Rattle.ir_forms.specs.Laws.{CompiledSuits}
+use Rattle.mypyc_top.specs.declared.words.Emit.{Emit}
+use Rattle.mypyc_top.specs.declared.typing.ModuleError.{ModuleError}
+use Rattle.mypyc_top.specs.Types.{types_said, typed_tree}
+use Rattle.mypyc_top.specs.Faults.{compiles, unbuilt_at, or_else, of_compiling, of_typed, told}
+use Rattle.mypyc_top.specs.Found.{Tells}
+use Rattle.mypyc_top.proofs.TypeLemmas.{no_diagnostics}
+
+-- ---- where nothing is told
+
+no_line : (line : Option ℕ) → unbuilt_at line ≡ [] → line ≡ None
+no_line None is = refl
+no_line (Some n) is = absurd (cc)
+
+no_first : (es others : List Entry) → or_else es others ≡ [] → es ≡ []
+no_first [] others is = refl
+no_first (e ∷ es) others is = absurd (cc)
+
+no_other : (es others : List Entry) → or_else es others ≡ [] → others ≡ []
+no_other [] others is = is
+no_other (e ∷ es) others is = absurd (cc)
+
+all_compiled : (mode : Emit) (line : Option ℕ) → compiles mode ≡ true → of_compiling mode line ≡ [] → line ≡ None
+all_compiled mode line compiled is = no_line line (sym (ap (λ b. if b then unbuilt_at line else []) compiled) ∙ is)
+
+-- ---- modules
+
+module _ (suits : CompiledSuits) (mode : Emit) (m : Suite) (well_typed : diagnostics m ≡ [] → is_well_typed is_identifier (typed m) ≡ true) where
+  tree_suits : uncompiled_line m (typed_tree m) ≡ None → types_said m ≡ [] → ModuleSuits (typed_tree m)
+  unfolding typed_tree
+  tree_suits line said = suits m (typed m) (well_typed (no_diagnostics m said)) line
+
+  told_suits : told mode m ≡ [] → compiles mode ≡ true → ModuleSuits (typed_tree m)
+  told_suits none compiled =
+      let line : Option ℕ = uncompiled_line m (typed_tree m) in
+      let compiling : List Entry = of_compiling mode line in
+      let both : of_typed mode m ≡ [] = no_other (unbuilt_at (later_line m)) (of_typed mode m) none in
+      tree_suits (all_compiled mode line compiled (no_other (types_said m) compiling both)) (no_first (types_said m) compiling both)
+
+  pub found_suits : {T : Type 0} (tree : T → TypedModule) (r : Result T ModuleError) → IfOk r (λ found. tree found ≡ typed_tree m) → Tells (told mode m) r → IfOk r (λ found. compiles mode ≡ true → ModuleSuits (tree found))
+  found_suits tree (Ok found) same tells = λ compiled. subst ModuleSuits (sym same) (told_suits tells compiled)
+  found_suits tree (Err e) same tells = tt
