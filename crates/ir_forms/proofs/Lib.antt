@@ -1,0 +1,5 @@
+pub mod LineLemmas
+pub mod CompiledLemmas
+pub mod SuiteLemmas
+pub mod ModuleLemmas
+pub mod CodeLemmas

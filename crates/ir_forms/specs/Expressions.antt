@@ -2,8 +2,6 @@
 -- inside of one that is not compiled stands on no line before it.
 use Rattle.std.specs.Prelude.{ℕ, ℤ, Bool, true, false, ◌&&◌, if◌then◌else◌, List, [], ◌∷◌, ◌++◌, Option, Some, None}
 use Rattle.value_core.specs.Arithmetic.{lies_within}
-use Rattle.py_syntax.specs.declared.token.Span.{Span}
-use Rattle.py_typed.specs.Sorts as sort
 use Rattle.py_typed.specs.Sorts.{Sort}
 use Rattle.py_typed.specs.Expressions.{TypedExpr, typed, TypedNode, Flag, Local, Neg, Not, Truth, Arith, Compare, And, Or, Cond, Call, Coerce, TypedExprs, no_exprs, expr_then, Comparisons, no_comparisons, comparison_then, type_of}
 use Rattle.ir_expressions.specs.Compiled.{is_i64, is_bool, is_scalar, is_result, is_built, is_ordering, literal_in, is_pair}

@@ -1,9 +1,8 @@
 -- The lines on which statements, expressions and functions of a typed module stand that are not compiled. A statement stands on
 -- its own line, and what stands inside of one on no line before it.
-use Rattle.std.specs.Prelude.{ℕ, suc, ℤ, pos, negsuc, Bool, true, false, ◌&&◌, nat_le, ◌==◌, if◌then◌else◌, List, [], ◌∷◌, ◌++◌, length, map, Option, Some, None, slice_get}
-use Rattle.std.specs.List.{list_all}
-use Rattle.py_syntax.specs.Statements.{StmtTree, at, Suite}
-use Rattle.py_typed.specs.Sorts.{Sort}
+use Rattle.std.specs.Prelude.{ℕ, suc, ℤ, pos, negsuc, Bool, true, false, ◌&&◌, nat_le, ◌==◌, List, [], ◌∷◌, ◌++◌, length, Option, Some, None, slice_get}
+use Rattle.std.specs.List.{list_all, filter}
+use Rattle.py_syntax.specs.Statements.{StmtTree, at, Def, Suite}
 use Rattle.py_typed.specs.Expressions.{TypedExpr, typed, Print, TypedExprs, no_exprs, expr_then, type_of}
 use Rattle.py_typed.specs.Statements.{Variable, TypedFunc, TypedModule, TypedTarget, LocalTarget, TypedStmt, on_line, TypedAct, Do, Assign, Aug, If, While, Return, Break, Continue, Pass, TypedSuite, no_stmts, stmt_then, Arms, no_arms, arm_then}
 use Rattle.py_names.specs.Outline.{suite_definitions}
@@ -21,7 +20,7 @@ is_printed (negsuc n) = false
 
 -- a value that `print` writes on its line: a native integer, a bool, or an integer as it stands in the text
 abbrev pub value_lines : ℕ → Option ℤ → TypedExpr → List ℕ
-value_lines line (Some n) e = line_unless (is_printed n) (line_at e)
+value_lines line (Some n) e = line_unless (is_printed n) line
 value_lines line None e = or_parts (is_scalar (type_of e)) line (expression_lines e)
 
 -- `print` writes one value
@@ -92,12 +91,17 @@ definition_line (Some (at node span)) = span.line
 abbrev pub function_lines : Option StmtTree → TypedFunc → List ℕ
 function_lines definition f = or_parts (is_function f) (definition_line definition) (suite_lines f.body)
 
--- functions from the one of this number on, among all definitions of a module
+-- functions from the one of this number on, among the functions' definitions
 abbrev pub functions_lines : List StmtTree → ℕ → List TypedFunc → List ℕ
 functions_lines definitions n [] = []
 functions_lines definitions n (f ∷ more) = function_lines (slice_get definitions n) f ++ functions_lines definitions (suc n) more
 
+-- a definition of a function
+abbrev pub is_def : StmtTree → Bool
+is_def (at (Def name params ret body marks) span) = true
+is_def s = false
+
 -- THE LINE on which a statement, an expression or a function of a module stands first that is not compiled, where there is one. The
 -- module has this tree and is this typed one
 abbrev pub uncompiled_line : Suite → TypedModule → Option ℕ
-uncompiled_line m t = least None (suite_lines t.top ++ functions_lines (suite_definitions m) 0 t.funcs)
+uncompiled_line m t = least None (suite_lines t.top ++ functions_lines (filter is_def (suite_definitions m)) 0 t.funcs)

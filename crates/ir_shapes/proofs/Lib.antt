@@ -1,0 +1,7 @@
+pub mod JumpLemmas
+pub mod BlockLemmas
+pub mod SpellingLemmas
+pub mod NameLemmas
+pub mod LineLemmas
+pub mod PrintLemmas
+pub mod Whole

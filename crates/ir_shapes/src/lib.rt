@@ -4,4 +4,6 @@
 //! shape, so that its C text is well formed, and that its only references are the texts that it prints. There is no code to run.
 #![tactic(auto)]
 
+mod laws;
 
+pub use laws::{built_has_shape, built_prints};

@@ -11,12 +11,14 @@ use Rattle.py_typed.specs.declared.statement.Target.{Target}
 use Rattle.py_typed.specs.declared.statement.TStmt.{TStmt}
 use Rattle.py_typed.specs.declared.types.Ty.{Ty}
 use Rattle.py_typed.specs.declared.statement.TStmtKind as kind
-use Rattle.py_typed.specs.Expressions.{TypedExpr, typed_expr, type_of}
+use Rattle.py_typed.specs.declared.expression.TKind as expression
+use Rattle.py_typed.specs.Expressions.{TypedExpr, typed, Print, no_exprs, expr_then, exprs_of, typed_expr, type_of}
+use Rattle.py_typed.proofs.ExpressionLemmas.{typed_expr_of, typed_node-Print}
 use Rattle.py_typed.specs.Statements as tree
 use Rattle.py_typed.specs.Statements.{TypedStmt, TypedAct, on_line, Variable, typed_stmt, typed_suite, typed_arm, typed_target, suite_of, arms_of, maybe_typed}
 use Rattle.py_typed.specs.State.{State, on_to}
 use Rattle.py_typed.specs.SourceRun.{call_of}
-use Rattle.py_typed.specs.Operations.{truth_of}
+use Rattle.py_typed.specs.Operations.{truth_of, line_of}
 use Rattle.py_typed.specs.StatementMeaning.{suite}
 use Rattle.py_typed.specs.WaysOut.{Flow, flow_on}
 use Rattle.py_typed.proofs.StatementLemmas.{typed_stmt_of, typed_act-Expr, typed_act-Assign, typed_act-Aug, typed_act-Return, typed_act-Break, typed_act-Continue, typed_act-Pass, typed_stmt-If, typed_stmt-While}
@@ -31,6 +33,7 @@ use Rattle.ir_frames.specs.Settings.{Setting, rtype_of}
 use Rattle.ir_frames.specs.Calling.{Pushes, Closes}
 use Rattle.ir_frames.specs.Matching.{HasRoom}
 use Rattle.ir_frames.specs.Computing.{Shows, Meaning, Computes}
+use Rattle.ir_statements.specs.declared.printing.Printed.{Printed}
 use Rattle.ir_statements.specs.declared.ways.Way.{Way}
 use Rattle.ir_statements.specs.declared.ways.Way.TheVariants.{Break, Continue, Return, Join}
 use Rattle.ir_statements.specs.declared.ways.Exit.{Exit}
@@ -39,6 +42,7 @@ use Rattle.ir_statements.specs.Ways.{uses, is_same_way, stays, planned, left}
 use Rattle.ir_statements.specs.Branches.{Tried, Branch, tried, try_next}
 use Rattle.ir_statements.specs.Runs.{Works, Tests, LeavesNoLoop, Emitted, OpenIn, Patching}
 use Rattle.ir_statements.specs.Tested.{means_arms, Tested}
+use Rattle.ir_statements.specs.Printing.{Writes, ComputesPrinted, one_value}
 use Rattle.ir_statements.specs.Means.{means, means_statement, means_suite, means_alone, means_assignment, means_update, means_return}
 use Rattle.ir_frames.proofs.ComingLemmas.{ends_of}
 use Rattle.ir_frames.proofs.HeldLemmas.{extends_trans}
@@ -50,6 +54,7 @@ use Rattle.ir_statements.proofs.FlowLemmas.{none_works, then_works}
 use Rattle.ir_statements.proofs.LoopLemmas.{while_works}
 use Rattle.ir_statements.proofs.BranchLemmas.{tests_none, tests_next, if_works}
 use Rattle.ir_statements.proofs.SimpleLemmas.{break_works, continue_works}
+use Rattle.ir_statements.proofs.PrintLemmas.{print_works}
 use Rattle.ir_statements.proofs.MeaningLemmas.{row_last, arms_are, tried_last, branch_of}
 
 -- ---- another name for a meaning
@@ -168,6 +173,22 @@ simple_emitted x result looping s k a m b0 b1 xs is is_act same w =
 
 pub alone_emitted : (x : Setting) (result : Option RType) (looping : Bool) (s : TStmt) (e : TExpr) (b0 b1 : Building) (xs : List Exit) → s.kind ≡ kind.Expr e → Works x result (means_alone x (typed_expr e)) b0 b1 [] → Emitted x result looping (means_statement x (typed_stmt s)) b0 b1 xs xs
 alone_emitted x result looping s e b0 b1 xs is w = simple_emitted x result looping s _ _ _ b0 b1 xs is (typed_act-Expr e) (λ n u. refl) w
+
+-- `print` of one value
+only_one : (es : List TExpr) (e0 : TExpr) → length es ≡ 1 → e0 ≡ get_or es 0 e0 → es ≡ e0 ∷ []
+only_one [] e0 one first = absurd (omega arith)
+only_one (e ∷ []) e0 one first = ap (λ z. z ∷ []) (sym first)
+only_one (e ∷ d ∷ es) e0 one first = absurd (omega arith)
+
+print_of : (e e0 : TExpr) (es : List TExpr) → e.kind ≡ expression.Print es → es ≡ e0 ∷ [] → typed_expr e ≡ typed (Print (expr_then (typed_expr e0) no_exprs)) (sort_of e.ty) e.span
+print_of e e0 es is one =
+    typed_expr_of e (expression.Print es) is ∙ ap (λ z. typed z (sort_of e.ty) e.span) (typed_node-Print es ∙ ap (λ l. Print (exprs_of (map typed_expr l))) one)
+
+pub print_emitted : (x : Setting) (result : Option RType) (looping : Bool) (s : TStmt) (e e0 : TExpr) (es all : List TExpr) (b0 b1 b2 : Building) (q : Printed) (xs : List Exit) → HasRoom x b0 → s.kind ≡ kind.Expr e → e.kind ≡ expression.Print all → es ≡ all → length es ≡ 1 → e0 ≡ get_or es 0 e0 → ComputesPrinted x (one_value (means x (typed_expr e0))) b0 b1 (q ∷ []) → Writes x.frame.locals.text b1 b2 (q ∷ []) line_of → Emitted x result looping (means_statement x (typed_stmt s)) b0 b2 xs xs
+print_emitted x result looping s e e0 es all b0 b1 b2 q xs room is print same one first c w =
+    let row : all ≡ e0 ∷ [] = sym same ∙ only_one es e0 one first in
+    alone_emitted x result looping s e b0 b2 xs is
+    (works_of x result (means_alone x (typed_expr e)) _ b0 b2 [] (λ n u. ap (λ t. means_alone x t n u) (print_of e e0 all print row)) (print_works x result (one_value (means x (typed_expr e0))) b0 b1 b2 (q ∷ []) room c w))
 
 pub assignment_emitted : (x : Setting) (result : Option RType) (looping : Bool) (s : TStmt) (ts all : List Target) (e : TExpr) (b0 b1 : Building) (xs : List Exit) → s.kind ≡ kind.Assign all e → ts ≡ all → Works x result (means_assignment x (map typed_target ts) (typed_expr e)) b0 b1 [] → Emitted x result looping (means_statement x (typed_stmt s)) b0 b1 xs xs
 assignment_emitted x result looping s ts all e b0 b1 xs is same w =

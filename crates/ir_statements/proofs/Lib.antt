@@ -3,6 +3,7 @@ pub mod FlowLemmas
 pub mod LoopLemmas
 pub mod BranchLemmas
 pub mod SimpleLemmas
+pub mod PrintLemmas
 pub mod MeaningLemmas
 pub mod EmitLemmas
 pub mod PlanLemmas

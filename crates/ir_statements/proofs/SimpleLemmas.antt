@@ -57,7 +57,7 @@ get_below [] k a e = let f : None ≡ Some a = e in absurd (cc)
 get_below (b ∷ ls) zero a e = omega arith
 get_below (b ∷ ls) (suc k) a e = let l = get_below ls k a e in omega arith
 
-keeps_as : (t : Sort) (h h' g g' : Held) (o : Option Value) → h' ≡ h → g' ≡ g → Keeps t h g o → Keeps t h' g' o
+pub keeps_as : (t : Sort) (h h' g g' : Held) (o : Option Value) → h' ≡ h → g' ≡ g → Keeps t h g o → Keeps t h' g' o
 keeps_as t h h' g g' o e1 e2 q = rw (e1, e2) q
 
 value_kept : (t : RType) (v : Value) → is_refused Strict t (Holds v) ≡ false

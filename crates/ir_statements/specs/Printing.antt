@@ -1,18 +1,23 @@
 -- What the code of `print` writes.
-use Rattle.std.specs.Prelude.{◌≡◌, ◌≢◌, ℕ, zero, suc, ◌<◌, ◌≤◌, Bool, ℤ, List, [], ◌∷◌, ◌++◌, length, Option, None}
+use Rattle.std.specs.Prelude.{◌≡◌, ◌≢◌, ℕ, ◌<◌, ◌≤◌, Bool, ℤ, List, [], ◌∷◌, ◌++◌, length, Option, Some, None}
 use Rattle.std.specs.List.{list_all}
-use Rattle.value_core.specs.Value.{Value, IntVal, BoolVal, StrVal}
+use Rattle.value_core.specs.Value.{Value, IntVal, BoolVal}
 use Rattle.py_typed.specs.State.{State, ◌>>=◌, ◌>>◌, give, needs, write}
 use Rattle.py_typed.specs.WaysOut.{Flow, Goes}
-use Rattle.py_typed.specs.Operations.{text_of, line_of, has_text}
+use Rattle.py_typed.specs.Operations.{line_of, has_text}
 use Rattle.c_core.specs.declared.primitive.Primitive.{Primitive}
 use Rattle.c_core.specs.declared.primitive.Primitive.TheVariants as prim
 use Rattle.c_core.specs.declared.primitive.Int64Prim.TheVariants as int64
 use Rattle.c_core.specs.declared.primitive.BoolPrim.TheVariants as bool
+use Rattle.c_core.specs.declared.primitive.IoPrim.TheVariants as io
+use Rattle.ir_core.specs.declared.code.Op.TheVariants.{Prim, Dec}
+use Rattle.ir_core.specs.declared.code.PArg.{PArg}
+use Rattle.ir_core.specs.declared.code.PArg.TheVariants.{Var}
 use Rattle.ir_core.specs.declared.code.Reg.{Reg}
 use Rattle.ir_core.specs.declared.code.Program.{Program}
 use Rattle.ir_core.specs.declared.code.RType.TheVariants.{I64, Bool as BoolType}
 use Rattle.ir_core.specs.Building.{Building, Extends}
+use Rattle.ir_core.specs.Laws.{pushed}
 use Rattle.ir_core.specs.Registers.{Holds, Regs}
 use Rattle.ir_core.specs.Meaning.{Config, Waiting}
 use Rattle.ir_frames.specs.Settings.{Setting}
@@ -51,19 +56,13 @@ HoldValues regs [] [] = Unit {0}
 HoldValues regs (q ∷ qs) (v ∷ vs) = HoldsValue regs q v × HoldValues regs qs vs
 HoldValues regs _ _ = ⊥
 
--- the texts of values, with one space between
-abbrev pub spaced : List Value → List ℕ
-spaced [] = []
-spaced (v ∷ []) = text_of v
-spaced (v ∷ w ∷ vs) = text_of v ++ 32 ∷ spaced (w ∷ vs)
-
--- what stands behind so many values, before the next
-abbrev pub gap : ℕ → List ℕ
-gap zero = []
-gap (suc n) = 32 ∷ []
-
 abbrev pub written : State → List ℕ → State
 written s text = record s { output = s.output ++ text }
+
+-- three operations more: a primitive makes a text of an argument in a register, and it is written and given up
+abbrev pub with_text : Building → Reg → Primitive → PArg → ℕ → Building
+with_text b r q a line =
+    pushed (pushed (pushed b (Prim (Some r) q (a ∷ []), line)) (Prim None (prim.Io io.Write) (Var r ∷ []), line)) (Dec r, line)
 
 -- code in one block that writes a text; it changes the register for texts alone
 pub record WritesText (r : ℕ) (old new : Building) (text : List ℕ) : Type 0 where

@@ -5,7 +5,8 @@
 //! is ended with a jump that is still to be written, and noted as an `Exit`. A loop writes the jumps of its `break` and
 //! `continue`, and hands the others on. `specs/Runs.antt` says when code works, with its exits left open; `proofs/LoopLemmas.antt`,
 //! `BranchLemmas.antt`, `SimpleLemmas.antt` and `PrintLemmas.antt` say that code works which has certain operations and ends
-//! between parts that work. No function emits such code yet.
+//! between parts that work. `emit_print` emits the code of `print`; no function of this crate
+//! emits that of the others.
 #![tactic(auto)]
 
 mod printing;
