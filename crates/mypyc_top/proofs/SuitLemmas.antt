@@ -7,10 +7,12 @@ use Rattle.py_typed.specs.Statements.{TypedModule}
 use Rattle.py_typed.specs.WellTypedModule.{is_well_typed}
 use Rattle.py_check.specs.Module.{diagnostics, typed}
 use Rattle.py_source.specs.Entries.{Entry}
+use Rattle.py_source.specs.Modules.{IsModule}
 use Rattle.c_core.specs.WellFormed.{is_identifier}
 use Rattle.ir_bodies.specs.Modules.{ModuleSuits}
 use Rattle.ir_forms.specs.Statements.{uncompiled_line}
-use Rattle.ir_forms.specs.Laws.{CompiledSuits}
+use Rattle.ir_forms.proofs.ModuleLemmas.{compiled_suits}
+use Rattle.tree_laws.proofs.Files.{quiet_file_is_well_typed}
 use Rattle.mypyc_top.specs.declared.words.Emit.{Emit}
 use Rattle.mypyc_top.specs.declared.typing.ModuleError.{ModuleError}
 use Rattle.mypyc_top.specs.Types.{types_said, typed_tree}
@@ -37,18 +39,18 @@ all_compiled mode line compiled is = no_line line (sym (ap (λ b. if b then unbu
 
 -- ---- modules
 
-module _ (suits : CompiledSuits) (mode : Emit) (m : Suite) (well_typed : diagnostics m ≡ [] → is_well_typed is_identifier (typed m) ≡ true) where
-  tree_suits : uncompiled_line m (typed_tree m) ≡ None → types_said m ≡ [] → ModuleSuits (typed_tree m)
-  unfolding typed_tree
-  tree_suits line said = suits m (typed m) (well_typed (no_diagnostics m said)) line
+tree_suits : (m : Suite) → (diagnostics m ≡ [] → is_well_typed is_identifier (typed m) ≡ true) → types_said m ≡ [] → uncompiled_line m (typed_tree m) ≡ None → ModuleSuits (typed_tree m)
+unfolding typed_tree
+tree_suits m well_typed said line = compiled_suits m (typed m) (well_typed (no_diagnostics m said)) line
 
-  told_suits : told mode m ≡ [] → compiles mode ≡ true → ModuleSuits (typed_tree m)
-  told_suits none compiled =
-      let line : Option ℕ = uncompiled_line m (typed_tree m) in
-      let compiling : List Entry = of_compiling mode line in
-      let both : of_typed mode m ≡ [] = no_other (unbuilt_at (later_line m)) (of_typed mode m) none in
-      tree_suits (all_compiled mode line compiled (no_other (types_said m) compiling both)) (no_first (types_said m) compiling both)
+told_suits : (mode : Emit) (m : Suite) → (diagnostics m ≡ [] → is_well_typed is_identifier (typed m) ≡ true) → told mode m ≡ [] → compiles mode ≡ true → ModuleSuits (typed_tree m)
+told_suits mode m well_typed none compiled =
+    let line : Option ℕ = uncompiled_line m (typed_tree m) in
+    let compiling : List Entry = of_compiling mode line in
+    let both : of_typed mode m ≡ [] = no_other (unbuilt_at (later_line m)) (of_typed mode m) none in
+    tree_suits m well_typed (no_first (types_said m) compiling both) (all_compiled mode line compiled (no_other (types_said m) compiling both))
 
-  pub found_suits : {T : Type 0} (tree : T → TypedModule) (r : Result T ModuleError) → IfOk r (λ found. tree found ≡ typed_tree m) → Tells (told mode m) r → IfOk r (λ found. compiles mode ≡ true → ModuleSuits (tree found))
-  found_suits tree (Ok found) same tells = λ compiled. subst ModuleSuits (sym same) (told_suits tells compiled)
-  found_suits tree (Err e) same tells = tt
+pub file_suits : {T : Type 0} (tree : T → TypedModule) (mode : Emit) (bytes : List ℕ) (m : Suite) (r : Result T ModuleError) → IsModule bytes m → IfOk r (λ found. tree found ≡ typed_tree m) → Tells (told mode m) r → IfOk r (λ found. compiles mode ≡ true → ModuleSuits (tree found))
+file_suits tree mode bytes m (Ok found) is same tells = λ compiled.
+    subst ModuleSuits (sym same) (told_suits mode m (quiet_file_is_well_typed bytes m is) tells compiled)
+file_suits tree mode bytes m (Err e) is same tells = tt
