@@ -12,7 +12,7 @@ use Rattle.c_core.specs.WellFormed.{is_identifier}
 use Rattle.ir_bodies.specs.Modules.{ModuleSuits}
 use Rattle.ir_forms.specs.Statements.{uncompiled_line}
 use Rattle.ir_forms.proofs.ModuleLemmas.{compiled_suits}
-use Rattle.tree_laws.proofs.Files.{quiet_file_is_well_typed}
+use Rattle.tree_laws.specs.Written.{QuietFileIsWellTyped}
 use Rattle.mypyc_top.specs.declared.words.Emit.{Emit}
 use Rattle.mypyc_top.specs.declared.typing.ModuleError.{ModuleError}
 use Rattle.mypyc_top.specs.Types.{types_said, typed_tree}
@@ -50,7 +50,7 @@ told_suits mode m well_typed none compiled =
     let both : of_typed mode m ≡ [] = no_other (unbuilt_at (later_line m)) (of_typed mode m) none in
     tree_suits m well_typed (no_first (types_said m) compiling both) (all_compiled mode line compiled (no_other (types_said m) compiling both))
 
-pub file_suits : {T : Type 0} (tree : T → TypedModule) (mode : Emit) (bytes : List ℕ) (m : Suite) (r : Result T ModuleError) → IsModule bytes m → IfOk r (λ found. tree found ≡ typed_tree m) → Tells (told mode m) r → IfOk r (λ found. compiles mode ≡ true → ModuleSuits (tree found))
-file_suits tree mode bytes m (Ok found) is same tells = λ compiled.
-    subst ModuleSuits (sym same) (told_suits mode m (quiet_file_is_well_typed bytes m is) tells compiled)
-file_suits tree mode bytes m (Err e) is same tells = tt
+pub file_suits : {T : Type 0} → QuietFileIsWellTyped → (tree : T → TypedModule) (mode : Emit) (bytes : List ℕ) (m : Suite) (r : Result T ModuleError) → IsModule bytes m → IfOk r (λ found. tree found ≡ typed_tree m) → Tells (told mode m) r → IfOk r (λ found. compiles mode ≡ true → ModuleSuits (tree found))
+file_suits well_typed tree mode bytes m (Ok found) is same tells = λ compiled.
+    subst ModuleSuits (sym same) (told_suits mode m (well_typed bytes m is) tells compiled)
+file_suits well_typed tree mode bytes m (Err e) is same tells = tt

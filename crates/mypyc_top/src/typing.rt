@@ -19,6 +19,7 @@ use py_source::{SourceError, read_module};
 use py_syntax::Module;
 use py_typed::Checked;
 use std::alloc::Global;
+use tree_laws::quiet_files_are_well_typed;
 use value_core::Memory;
 
 /// Why a file gives no typed module.
@@ -49,7 +50,10 @@ pub(crate) fn read_typed(alloc: Global, mode: Emit, bytes: &[u8]) -> Result<Chec
     ensures suits { IfOk result (λ checked. compiles mode ≡ true → ModuleSuits (typed_module checked)) }
 {
     match read_module(alloc, bytes) {
-        Ok(parsed) => typed_of(alloc, mode, &parsed),
+        Ok(parsed) => {
+            quiet_files_are_well_typed();
+            typed_of(alloc, mode, &parsed)
+        }
         Err(SourceError::Faulty(fault)) => Err(ModuleError::Faulty(Faults::OfSource(fault))),
         Err(SourceError::Memory) => Err(ModuleError::Memory),
     }

@@ -5,4 +5,4 @@ use Rattle.mypyc_top.proofs.typing.read_typed.Goals as goal
 
 pub returns-in-Ok-clause-suits : goal.returns-in-Ok-clause-suits
 returns-in-Ok-clause-suits c =
-    file_suits typed_module c.args.mode c.args.bytes.now (module_tree c.in-Ok.parsed) c.typed_of.result c.in-Ok.ensures.module c.typed_of.ensures.typed c.typed_of.ensures.tells
+    file_suits c.quiet_files_are_well_typed.ensures typed_module c.args.mode c.args.bytes.now (module_tree c.in-Ok.parsed) c.typed_of.result c.in-Ok.ensures.module c.typed_of.ensures.typed c.typed_of.ensures.tells
