@@ -31,4 +31,4 @@ mod Inner
 mod Described
 mod Differ
 mod Formed
-mod Complete
+pub mod Complete

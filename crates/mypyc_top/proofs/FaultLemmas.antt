@@ -1,9 +1,10 @@
--- What the steps of reading a module tell, and that a file has one list of faults in a mode and one list of numbers.
+-- What the steps of reading a module tell, and that a file has one list of faults in a mode and one typed module.
 use Rattle.std.proofs.Common.{◌≡◌, refl, sym, ◌∙◌, ap, subst, ℕ, List, [], ◌∷◌, Option, Some, None, Result, Ok, Err}
 use Rattle.std.specs.Prelude.{IfOk}
 use Rattle.py_syntax.specs.Statements.{Suite}
 use Rattle.py_forms.specs.Later.{later_line}
 use Rattle.py_typed.specs.Statements.{TypedModule}
+use Rattle.ir_forms.specs.Statements.{uncompiled_line}
 use Rattle.py_source.specs.declared.fault.SourceFault.{SourceFault}
 use Rattle.py_source.specs.declared.source.SourceError.TheVariants as source
 use Rattle.py_source.specs.Entries.{Entry}
@@ -15,10 +16,9 @@ use Rattle.mypyc_top.specs.declared.faults.Faults.TheVariants.{OfSource, Unbuilt
 use Rattle.mypyc_top.specs.declared.typing.ModuleError.{ModuleError}
 use Rattle.mypyc_top.specs.declared.typing.ModuleError.TheVariants.{Faulty, Memory}
 use Rattle.mypyc_top.specs.Types.{types_said, typed_tree}
-use Rattle.mypyc_top.specs.Forms.{uncompiled_line, numbers_of}
 use Rattle.mypyc_top.specs.Source.{IsTyped}
 use Rattle.mypyc_top.specs.Faults.{unbuilt_entry, unbuilt_at, or_else, of_compiling, of_typed, told, AreFaults}
-use Rattle.mypyc_top.specs.FaultLaws.{FaultsAreOne, NumbersAreOne}
+use Rattle.mypyc_top.specs.FaultLaws.{FaultsAreOne, TypedModulesAreOne}
 use Rattle.mypyc_top.specs.Found.{Tells, Judges}
 
 no_entry : (e : Entry) (es : List Entry) → e ∷ es ≡ [] → ⊥
@@ -82,19 +82,10 @@ pub file_typed : {T : Type 0} (tree : T → TypedModule) (bytes : List ℕ) (m :
 file_typed tree bytes m (Ok found) is same = (m, is, same)
 file_typed tree bytes m (Err e) is same = tt
 
--- ---- one list of faults, and one of numbers
+-- ---- one list of faults, and one typed module
 
 pub faults_are_one : FaultsAreOne
 faults_are_one mode bytes = file.faults_are_one (told mode) bytes
 
-pub one_list : (mode : Emit) (bytes : List ℕ) (a b : List Entry) → AreFaults mode bytes a → AreFaults mode bytes b → a ≡ b
-one_list mode bytes a b x y =
-    let found = file.faults_are_one (told mode) bytes in
-    found.2 a x ∙ sym (found.2 b y)
-
-one_typed : (bytes : List ℕ) (a b : TypedModule) → IsTyped bytes a → IsTyped bytes b → a ≡ b
-one_typed bytes a b x y = x.2 ∙ ap typed_tree (file.module_is_one bytes x.0 y.0 x.1 y.1) ∙ sym y.2
-
-pub numbers_are_one : NumbersAreOne
-numbers_are_one bytes a b x y =
-    x.are_printed ∙ ap numbers_of (one_typed bytes x.typed y.typed x.is_typed y.is_typed) ∙ sym y.are_printed
+pub typed_modules_are_one : TypedModulesAreOne
+typed_modules_are_one bytes a b x y = x.2 ∙ ap typed_tree (file.module_is_one bytes x.0 y.0 x.1 y.1) ∙ sym y.2

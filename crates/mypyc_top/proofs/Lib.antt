@@ -1,11 +1,7 @@
 pub mod TypeLemmas
-pub mod LineLemmas
 pub mod FaultLemmas
-pub mod Numbers
-pub mod MeaningLemmas
-pub mod PrintedFaithful
-pub mod PrintedForm
-pub mod PrintedRun
+pub mod SuitLemmas
+pub mod CodeLemmas
 pub mod Taken
 pub mod RunLemmas
 pub mod PlanLemmas

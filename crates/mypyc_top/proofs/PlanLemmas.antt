@@ -15,7 +15,6 @@ use Rattle.mypyc_top.specs.declared.words.Words.TheVariants.{Go}
 use Rattle.mypyc_top.specs.declared.plan.Plan.{Plan}
 use Rattle.mypyc_top.specs.declared.reply.Reply.{Reply}
 use Rattle.mypyc_top.specs.declared.faults.Faults.{Faults}
-use Rattle.mypyc_top.specs.Forms.{numbers_of}
 use Rattle.mypyc_top.specs.Source.{IsTyped}
 use Rattle.mypyc_top.specs.Diagnostics.{entries_text}
 use Rattle.mypyc_top.specs.Faults.{AreFaults}
@@ -28,15 +27,15 @@ use Rattle.mypyc_top.specs.Plans.{Answering, Plans}
 -- ---- modules
 
 -- a file without faults gives what is asked for, and one with faults gives them
-pub good_module : (mode : Emit) (file bytes : List ℕ) (m : TypedModule) (Good : List ℕ → Type 0) (out err : List ℕ) (s : Status) → AreFaults mode bytes [] → IsTyped bytes m → Good (numbers_of m) → ModuleAnswer mode file bytes Good out err s
+pub good_module : (mode : Emit) (file bytes : List ℕ) (m : TypedModule) (Good : TypedModule → Type 0) (out err : List ℕ) (s : Status) → AreFaults mode bytes [] → IsTyped bytes m → Good m → ModuleAnswer mode file bytes Good out err s
 good_module mode file bytes m Good out err s none is good =
-    ([], none, (numbers_of m, record { typed = m; is_typed = is; are_printed = refl }, good))
+    ([], none, (m, is, good))
 
-by_entries : (file bytes : List ℕ) (Good : List ℕ → Type 0) (es : List Entry) (out err : List ℕ) (s : Status) → ¬ (es ≡ []) → (out ≡ entries_text file es) × (err ≡ []) × (s ≡ status.Diagnosed) → FaultsAnswer file bytes Good es out err s
+by_entries : (file bytes : List ℕ) (Good : TypedModule → Type 0) (es : List Entry) (out err : List ℕ) (s : Status) → ¬ (es ≡ []) → (out ≡ entries_text file es) × (err ≡ []) × (s ≡ status.Diagnosed) → FaultsAnswer file bytes Good es out err s
 by_entries file bytes Good [] out err s some sent = absurd (some refl)
 by_entries file bytes Good (e ∷ es) out err s some sent = sent
 
-pub faulty_module : (mode : Emit) (file bytes : List ℕ) (Good : List ℕ → Type 0) (faults : Faults) (reply : Reply) → AreFaults mode bytes (entries_of faults) × ¬ (entries_of faults ≡ []) → (output_text reply.out ≡ entries_text file (entries_of faults)) × (reply.err.items ≡ []) × (reply.status ≡ status.Diagnosed) → ModuleAnswer mode file bytes Good (output_text reply.out) reply.err.items reply.status
+pub faulty_module : (mode : Emit) (file bytes : List ℕ) (Good : TypedModule → Type 0) (faults : Faults) (reply : Reply) → AreFaults mode bytes (entries_of faults) × ¬ (entries_of faults ≡ []) → (output_text reply.out ≡ entries_text file (entries_of faults)) × (reply.err.items ≡ []) × (reply.status ≡ status.Diagnosed) → ModuleAnswer mode file bytes Good (output_text reply.out) reply.err.items reply.status
 faulty_module mode file bytes Good faults reply judged sent =
     (entries_of faults, judged.0, by_entries file bytes Good (entries_of faults) (output_text reply.out) reply.err.items reply.status judged.1 sent)
 

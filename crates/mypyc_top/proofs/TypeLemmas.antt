@@ -22,6 +22,11 @@ pub checked_tells : (m : Suite) (c : Checked) → Outcome m (Ok c) → types_sai
 unfolding types_said
 checked_tells m c is = ap (map entry_at) is.0
 
+-- where no entry comes of names and types, nothing is said of them
+pub no_diagnostics : (m : Suite) → types_said m ≡ [] → diagnostics m ≡ []
+unfolding types_said
+no_diagnostics m none = none_of (diagnostics m) none
+
 pub diags_told : (m : Suite) (ds : List Diag) → Outcome m (Err (Diags ds)) → types_said m ≡ map entry_at ds
 unfolding types_said
 diags_told m ds is = ap (map entry_at) (sym is.0)

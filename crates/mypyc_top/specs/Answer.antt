@@ -3,6 +3,7 @@
 use Rattle.std.specs.Prelude.{◌≡◌, ℕ, nat_lt, Bool, true, false, List, [], ◌∷◌, length, codes, Option, Some, None}
 use Rattle.std.specs.Option.{option_and_then}
 use Rattle.value_core.specs.Items.{Items}
+use Rattle.py_typed.specs.Statements.{TypedModule}
 use Rattle.c_core.specs.declared.code.Code.{Code}
 use Rattle.c_core.specs.Text.{code_text}
 use Rattle.mypyc_top.specs.declared.status.Status.{Status}
@@ -14,7 +15,7 @@ use Rattle.mypyc_top.specs.declared.words.Words.{Words}
 use Rattle.mypyc_top.specs.declared.words.Words.TheVariants.{Usage, Go}
 use Rattle.mypyc_top.specs.Words.{words_of}
 use Rattle.py_source.specs.Entries.{Entry}
-use Rattle.mypyc_top.specs.Source.{AreNumbers}
+use Rattle.mypyc_top.specs.Source.{IsTyped}
 use Rattle.mypyc_top.specs.Faithful.{Faithful}
 use Rattle.mypyc_top.specs.Diagnostics.{entries_text}
 use Rattle.mypyc_top.specs.Faults.{AreFaults}
@@ -62,22 +63,22 @@ abbrev pub Checked : List ℕ → List ℕ → Status → Type 0
 Checked out err s = (out ≡ success_text) × (err ≡ []) × (s ≡ status.Done)
 
 -- C text is that of a code that is faithful to the module
-abbrev pub Compiled : List ℕ → List ℕ → List ℕ → Status → Type 0
-Compiled numbers out err s = ((code : Code) × Faithful numbers code × (out ≡ code_text code)) × (err ≡ []) × (s ≡ status.Done)
+abbrev pub Compiled : TypedModule → List ℕ → List ℕ → Status → Type 0
+Compiled m out err s = ((code : Code) × Faithful m code × (out ≡ code_text code)) × (err ≡ []) × (s ≡ status.Done)
 
--- a file with these faults is answered by them, and one without any by what is asked for of its numbers
-abbrev pub FaultsAnswer : List ℕ → List ℕ → (List ℕ → Type 0) → List Entry → List ℕ → List ℕ → Status → Type 0
+-- a file with these faults is answered by them, and one without any by what is asked for of its typed module
+abbrev pub FaultsAnswer : List ℕ → List ℕ → (TypedModule → Type 0) → List Entry → List ℕ → List ℕ → Status → Type 0
 FaultsAnswer file bytes Good (e ∷ es) out err s = (out ≡ entries_text file (e ∷ es)) × (err ≡ []) × (s ≡ status.Diagnosed)
-FaultsAnswer file bytes Good [] out err s = (numbers : List ℕ) × AreNumbers bytes numbers × Good numbers
+FaultsAnswer file bytes Good [] out err s = (m : TypedModule) × IsTyped bytes m × Good m
 
 -- a file that is to be a module is answered by its faults in the mode
-abbrev pub ModuleAnswer : Emit → List ℕ → List ℕ → (List ℕ → Type 0) → List ℕ → List ℕ → Status → Type 0
+abbrev pub ModuleAnswer : Emit → List ℕ → List ℕ → (TypedModule → Type 0) → List ℕ → List ℕ → Status → Type 0
 ModuleAnswer mode file bytes Good out err s = (es : List Entry) × AreFaults mode bytes es × FaultsAnswer file bytes Good es out err s
 
 abbrev pub ModeAnswer : Emit → Request → List ℕ → Items → List ℕ → List ℕ → Status → Type 0
-ModeAnswer Check r bytes items out err s = ModuleAnswer Check r.file bytes (λ numbers. Checked out err s) out err s
-ModeAnswer C r bytes items out err s = ModuleAnswer C r.file bytes (λ numbers. Compiled numbers out err s) out err s
-ModeAnswer Run r bytes items out err s = ModuleAnswer Run r.file bytes (λ numbers. ModuleRun numbers r.turns items out err s) out err s
+ModeAnswer Check r bytes items out err s = ModuleAnswer Check r.file bytes (λ m. Checked out err s) out err s
+ModeAnswer C r bytes items out err s = ModuleAnswer C r.file bytes (λ m. Compiled m out err s) out err s
+ModeAnswer Run r bytes items out err s = ModuleAnswer Run r.file bytes (λ m. ModuleRun m r.turns items out err s) out err s
 ModeAnswer Runc r bytes items out err s = TextRun r.file bytes r.turns items out err s
 
 -- whether the file is too large

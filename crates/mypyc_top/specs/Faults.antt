@@ -6,12 +6,12 @@ use Rattle.std.specs.Prelude.{ℕ, Bool, true, false, if◌then◌else◌, List,
 use Rattle.std.specs.Option.{option_map}
 use Rattle.py_syntax.specs.Statements.{Suite}
 use Rattle.py_forms.specs.Later.{later_line}
+use Rattle.ir_forms.specs.Statements.{uncompiled_line}
 use Rattle.py_source.specs.Entries.{Entry, Telling}
 use Rattle.py_source.specs.Faults as source
 use Rattle.mypyc_top.specs.declared.words.Emit.{Emit}
 use Rattle.mypyc_top.specs.declared.words.Emit.TheVariants.{Check, C, Run, Runc}
 use Rattle.mypyc_top.specs.Types.{types_said, typed_tree}
-use Rattle.mypyc_top.specs.Forms.{uncompiled_line}
 
 -- the entry for a form that is not built, where there is one
 abbrev pub unbuilt_entry : ℕ → Entry

@@ -2,15 +2,12 @@ pub mod Words
 pub mod WordsStep
 pub mod Statuses
 pub mod Types
-pub mod Forms
 pub mod Source
 pub mod SourceRun
-pub mod Meaning
 pub mod Diagnostics
 pub mod Faults
 pub mod FaultLaws
 pub mod Found
-pub mod Printed
 pub mod Faithful
 pub mod ErrorLines
 pub mod Endings

@@ -1,30 +1,32 @@
 -- What the modes that run a program answer.
 use Rattle.std.specs.Prelude.{◌≡◌, ℕ, List, [], ◌++◌, length, Some}
 use Rattle.value_core.specs.Items.{Items}
+use Rattle.py_typed.specs.Statements.{TypedModule}
 use Rattle.c_core.specs.declared.code.Code.{Code}
 use Rattle.c_core.specs.Text.{code_text}
 use Rattle.c_core.specs.WellFormed.{WellFormed}
+use Rattle.c_core.specs.Agreement.{SourceStop}
 use Rattle.value_core.specs.Ending.{Ending}
 use Rattle.c_core.specs.Run.{Stop, machine_run}
 use Rattle.c_text.specs.Reading.{HasCode, HasWellFormed, RefusedAt}
 use Rattle.mypyc_top.specs.declared.status.Status.{Status}
 use Rattle.mypyc_top.specs.declared.status.Status.TheVariants as status
-use Rattle.mypyc_top.specs.SourceRun.{source_run}
+use Rattle.mypyc_top.specs.SourceRun.{StopsAt}
 use Rattle.mypyc_top.specs.Faithful.{Faithful}
 use Rattle.mypyc_top.specs.ErrorLines.{refused_line, ill_formed_line}
 use Rattle.mypyc_top.specs.Endings.{ending_status, ending_line, machine_status, machine_line}
 use Rattle.mypyc_top.specs.Summary.{cells_left, summary}
 
 -- the line for the ending of a source: the cells that it may tell of are those of the run of a code that is faithful to it
-abbrev pub IsSourceLine : List ℕ → ℕ → Items → Ending → List ℕ → Type 0
-IsSourceLine numbers turns items ending err =
-    (code : Code) × Faithful numbers code × ((stop : Stop) × (machine_run turns items code ≡ Some stop) × (err ≡ ending_line ending (length (cells_left code stop))))
+abbrev pub IsSourceLine : TypedModule → ℕ → Items → Ending → List ℕ → Type 0
+IsSourceLine m turns items ending err =
+    (code : Code) × Faithful m code × ((stop : Stop) × (machine_run turns items code ≡ Some stop) × (err ≡ ending_line ending (length (cells_left code stop))))
 
 -- a module that is run gives the output of its source for these turns and this input, and a line and a status by the ending
-abbrev pub ModuleRun : List ℕ → ℕ → Items → List ℕ → List ℕ → Status → Type 0
-ModuleRun numbers turns items out err s =
-    let source = source_run numbers turns items in
-    (out ≡ source.output) × IsSourceLine numbers turns items source.ending err × (s ≡ ending_status source.ending)
+abbrev pub ModuleRun : TypedModule → ℕ → Items → List ℕ → List ℕ → Status → Type 0
+ModuleRun m turns items out err s =
+    (source : SourceStop) × StopsAt m turns items source × (out ≡ source.output)
+    × IsSourceLine m turns items source.ending err × (s ≡ ending_status source.ending)
 
 -- the run of a code gives its output with the summary, and a line and a status by its ending
 abbrev pub CodeRun : Code → ℕ → Items → List ℕ → List ℕ → Status → Type 0

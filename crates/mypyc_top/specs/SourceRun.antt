@@ -1,15 +1,15 @@
--- What a module does by the rules of the source (Python Language Reference, "Simple statements"): the meaning that the C
--- text is held to. A module's statements are `print(N)`, and a module is the list of its numbers.
-use Rattle.std.specs.Prelude.{ℕ, List, [], ◌∷◌, ◌++◌, decimal}
-use Rattle.std.specs.List.{flat_map}
-use Rattle.value_core.specs.Items.{line_feed}
-use Rattle.value_core.specs.Ending.{Done}
-use Rattle.c_core.specs.Agreement.{Source}
+-- Where the run of a module stops by the rules of the source (`py_typed/specs/SourceRun.antt`), in the terms in which the
+-- machine's run is held to it.
+use Rattle.std.specs.Prelude.{◌≡◌, ℕ, Some}
+use Rattle.value_core.specs.Items.{Items}
+use Rattle.py_typed.specs.Statements.{TypedModule}
+use Rattle.py_typed.specs.SourceRun.{ModuleStop, source_run}
+use Rattle.c_core.specs.Agreement.{SourceStop}
 
--- what `print` writes of a number: its decimal and a line feed
-abbrev pub printed_text : ℕ → List ℕ
-printed_text n = decimal n ++ line_feed ∷ []
+-- it has an ending: it is not stuck
+abbrev pub module_stop : SourceStop → ModuleStop
+module_stop s = record { output = s.output; ending = Some s.ending; store = s.store; variables = s.variables }
 
--- a module prints its numbers: no statement of it takes a turn or reads a line, and it makes no object
-abbrev pub source_run : List ℕ → Source
-source_run numbers n items = record { output = flat_map printed_text numbers; ending = Done; store = []; variables = [] }
+-- a module's run for n turns on these lines of input stops here
+abbrev pub StopsAt : TypedModule → ℕ → Items → SourceStop → Type 0
+StopsAt m n items s = source_run n items m ≡ module_stop s

@@ -150,7 +150,7 @@ fn check_plan(alloc: Global, file: &str, bytes: &[u8]) -> Result<Plan, Memory>
 fn compile_plan(alloc: Global, file: &str, bytes: &[u8]) -> Result<Plan, Memory>
     ensures fit { IfOk result (λ plan. MatchPlan plan (λ reply. IsTrue (is_module_status reply.status)) (λ _. ⊥)) }
     ensures answer { IfOk result (Plans (λ _ out err s.
-        ModuleAnswer Emit.C file.now bytes.now (λ numbers. Compiled numbers out err s) out err s)) }
+        ModuleAnswer Emit.C file.now bytes.now (λ m. Compiled m out err s) out err s)) }
 {
     match read_typed(alloc, Emit::C, bytes) {
         Ok(checked) => {
@@ -170,7 +170,7 @@ fn run_plan(alloc: Global, file: &str, turns: u64, bytes: &[u8]) -> Result<Plan,
     ensures fit { IfOk result (λ plan. MatchPlan plan (λ reply. IsTrue (is_module_status reply.status)) IsRunnable) }
     ensures allowed { IfOk result (CanCome Emit.Run) }
     ensures answer { IfOk result (Plans (λ items out err s.
-        ModuleAnswer Emit.Run file.now bytes.now (λ numbers. ModuleRun numbers turns items out err s) out err s)) }
+        ModuleAnswer Emit.Run file.now bytes.now (λ m. ModuleRun m turns items out err s) out err s)) }
 {
     match read_typed(alloc, Emit::Run, bytes) {
         Ok(checked) => {

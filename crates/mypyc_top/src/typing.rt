@@ -1,16 +1,17 @@
 //! The front half of a compilation: from the bytes of a file to its typed module, or to all that is wrong with it.
-ghost use Rattle.std.specs.Prelude.{◌≡◌, [], if◌then◌else◌, IfOk};
+ghost use Rattle.std.specs.Prelude.{◌≡◌, [], if◌then◌else◌, true, IfOk};
 ghost use Rattle.py_syntax.specs.Statements.{module_tree};
 ghost use Rattle.py_typed.specs.Statements.{typed_module};
+ghost use Rattle.ir_forms.specs.Statements.{uncompiled_line};
+ghost use Rattle.ir_bodies.specs.Modules.{ModuleSuits};
 ghost use Rattle.mypyc_top.specs.Types.{types_said, typed_tree};
-ghost use Rattle.mypyc_top.specs.Forms.{uncompiled_line};
 ghost use Rattle.mypyc_top.specs.Source.{IsTyped};
 ghost use Rattle.mypyc_top.specs.Faults.{compiles, unbuilt_at, of_compiling, of_typed, told, AreFaults};
 ghost use Rattle.mypyc_top.specs.Found.{Tells, Judges};
 
 use crate::faults::Faults;
-use crate::forms::uncompiled_line;
 use crate::words::Emit;
+use ir_forms::uncompiled_line;
 use py_binder::bind;
 use py_check::{CheckError, check};
 use py_forms::later_line;
@@ -18,6 +19,7 @@ use py_source::{SourceError, read_module};
 use py_syntax::Module;
 use py_typed::Checked;
 use std::alloc::Global;
+use tree_laws::quiet_files_are_well_typed;
 use value_core::Memory;
 
 /// Why a file gives no typed module.
@@ -45,9 +47,13 @@ impl From<Memory> for ModuleError {
 pub(crate) fn read_typed(alloc: Global, mode: Emit, bytes: &[u8]) -> Result<Checked, ModuleError>
     ensures typed { IfOk result (λ checked. IsTyped bytes.now (typed_module checked)) }
     ensures judged { Judges (AreFaults mode bytes.now) result }
+    ensures suits { IfOk result (λ checked. compiles mode ≡ true → ModuleSuits (typed_module checked)) }
 {
     match read_module(alloc, bytes) {
-        Ok(parsed) => typed_of(alloc, mode, &parsed),
+        Ok(parsed) => {
+            quiet_files_are_well_typed();
+            typed_of(alloc, mode, &parsed)
+        }
         Err(SourceError::Faulty(fault)) => Err(ModuleError::Faulty(Faults::OfSource(fault))),
         Err(SourceError::Memory) => Err(ModuleError::Memory),
     }

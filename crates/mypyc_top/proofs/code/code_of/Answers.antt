@@ -1,10 +1,11 @@
 use Rattle.py_typed.specs.Statements.{typed_module}
 use Rattle.mypyc_top.proofs.PlanLemmas.{if_ok}
-use Rattle.mypyc_top.proofs.PrintedFaithful.{built_faithful}
+use Rattle.mypyc_top.proofs.CodeLemmas.{built_is_faithful}
 use Rattle.mypyc_top.proofs.code.code_of.Goals as goal
 
 pub returns : goal.returns
 returns c =
-    if_ok c.code_of_numbers.result _ _
-    (λ code is. built_faithful (typed_module c.args.checked.now) c.deref.result.now c.in_ok-numbers.numbers.items code is c.deref.ensures.value c.in_ok-numbers.ensures)
-    c.code_of_numbers.ensures
+    let built = c.in_ok-program.ensures in
+    if_ok c.lower.result _ _
+    (λ code is. built_is_faithful (typed_module c.args.checked.now) c.in_ok-program.program code built.means built.calm built.shape built.prints built.globals is)
+    c.lower.ensures

@@ -10,11 +10,11 @@ returns-in-Check-clause-answer c =
 
 pub returns-in-C-clause-answer : goal.returns-in-C-clause-answer
 returns-in-C-clause-answer c =
-    mode_plan c.args.request.now C c.as_str-file.result.now c.args.bytes.now (λ file items out err s. ModuleAnswer C file c.args.bytes.now (λ numbers. Compiled numbers out err s) out err s) c.compile_plan.result c.in-C.is c.as_str-file.ensures (λ plan p. p) c.compile_plan.ensures.answer
+    mode_plan c.args.request.now C c.as_str-file.result.now c.args.bytes.now (λ file items out err s. ModuleAnswer C file c.args.bytes.now (λ m. Compiled m out err s) out err s) c.compile_plan.result c.in-C.is c.as_str-file.ensures (λ plan p. p) c.compile_plan.ensures.answer
 
 pub returns-in-Run-clause-answer : goal.returns-in-Run-clause-answer
 returns-in-Run-clause-answer c =
-    mode_plan c.args.request.now Run c.as_str-file.result.now c.args.bytes.now (λ file items out err s. ModuleAnswer Run file c.args.bytes.now (λ numbers. ModuleRun numbers c.args.request.now.turns items out err s) out err s) c.run_plan.result c.in-Run.is c.as_str-file.ensures (λ plan p. p) c.run_plan.ensures.answer
+    mode_plan c.args.request.now Run c.as_str-file.result.now c.args.bytes.now (λ file items out err s. ModuleAnswer Run file c.args.bytes.now (λ m. ModuleRun m c.args.request.now.turns items out err s) out err s) c.run_plan.result c.in-Run.is c.as_str-file.ensures (λ plan p. p) c.run_plan.ensures.answer
 
 pub returns-in-Runc-clause-answer : goal.returns-in-Runc-clause-answer
 returns-in-Runc-clause-answer c =

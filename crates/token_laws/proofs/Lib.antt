@@ -1,0 +1,4 @@
+pub mod Characters
+pub mod Words
+pub mod Texts
+pub mod Fit
