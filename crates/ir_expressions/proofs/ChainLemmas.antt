@@ -1,5 +1,5 @@
 -- The comparisons of a chain, from the left, up to the first that does not hold.
-use Rattle.std.proofs.Common.{◌≡◌, refl, sym, ◌∙◌, ap, subst, ℕ, ◌+◌, ◌<◌, ◌≤◌, arith, le_refl, Bool, true, false, List, length, Option, Some, None}
+use Rattle.std.proofs.Common.{◌≡◌, refl, ◌∙◌, ap, ℕ, ◌<◌, ◌≤◌, arith, le_refl, Bool, true, false, List, length, Option, None}
 use Rattle.std.specs.Prelude.{if◌then◌else◌}
 use Rattle.value_core.specs.Value.{Value, IntVal, BoolVal}
 use Rattle.py_syntax.specs.declared.token.Span.{Span}

@@ -1,5 +1,5 @@
 -- An expression that suits is one of the forms that are built.
-use Rattle.std.proofs.Common.{◌≡◌, sym, ◌∙◌, ap, ℕ, Bool, List, map}
+use Rattle.std.proofs.Common.{◌≡◌, sym, ◌∙◌, ap, ℕ, Bool, List}
 use Rattle.std.specs.declared.boxed.Box.{Box}
 use Rattle.std.specs.declared.alloc.Global.{Global}
 use Rattle.py_syntax.specs.declared.expression.BinOp.{BinOp}

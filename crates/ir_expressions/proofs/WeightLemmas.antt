@@ -1,14 +1,12 @@
 -- The number of nodes that a walk over an expression goes through, which falls from each node to its parts.
-use Rattle.std.proofs.Common.{◌≡◌, refl, sym, ◌∙◌, ap, subst, ℕ, ◌+◌, ◌-◌, ◌<◌, ◌≤◌, arith, List, [], ◌∷◌, length, map, take, drop, get_or}
-use Rattle.std.proofs.lemmas.List.{drop_more, take_all}
+use Rattle.std.proofs.Common.{◌≡◌, ap, ℕ, ◌+◌, ◌-◌, ◌<◌, ◌≤◌, arith, List, [], ◌∷◌, length, map, take, drop, get_or}
+use Rattle.std.proofs.lemmas.List.{take_all}
 use Rattle.std.specs.declared.boxed.Box.{Box}
 use Rattle.std.specs.declared.alloc.Global.{Global}
 use Rattle.py_syntax.specs.declared.expression.BinOp.{BinOp}
 use Rattle.py_syntax.specs.declared.expression.CmpOp.{CmpOp}
 use Rattle.py_typed.specs.declared.expression.TExpr.{TExpr}
 use Rattle.py_typed.specs.declared.expression.TKind as kind
-use Rattle.py_typed.specs.Sorts.{sort as sort_of}
-use Rattle.py_typed.specs.Expressions as tree
 use Rattle.py_typed.specs.Expressions.{TypedExpr, TypedNode, typed, Neg, Not, Truth, Arith, Compare, And, Or, Cond, Call, Coerce, TypedExprs, no_exprs, expr_then, Comparisons, no_comparisons, comparison_then, typed_expr, exprs_of, comparisons_of, typed_comparison}
 use Rattle.ir_expressions.proofs.ArmLemmas.{Is, is_neg, is_not, is_truth, is_arith, is_compare, is_and, is_or, is_cond, is_call, is_coerce}
 
