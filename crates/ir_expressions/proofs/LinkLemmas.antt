@@ -7,14 +7,11 @@ use Rattle.ir_core.specs.declared.code.RType.TheVariants as rtype
 use Rattle.ir_core.specs.declared.code.Reg.{Reg}
 use Rattle.ir_core.specs.Building.{Building, Extends}
 use Rattle.ir_frames.specs.Placing.{HasType}
-use Rattle.ir_frames.specs.Calling.{Open}
 use Rattle.ir_frames.specs.Kinds.{AreAlike}
 use Rattle.ir_frames.specs.Shaped.{Keeps}
 use Rattle.ir_frames.proofs.HeldLemmas.{extends_refl, extends_trans, type_kept, type_below}
 use Rattle.ir_expressions.specs.declared.chain.Link.{Link}
-use Rattle.ir_expressions.specs.Choices.{Brings, Meets}
 use Rattle.ir_expressions.specs.Linking.{Begins, Pending, Met, Ended}
-use Rattle.ir_expressions.proofs.OpenLemmas.{meet_ready}
 
 pub pending_extends : (b : Building) (ls : List Link) (c : Building) → Pending b ls c → Extends b c
 pending_extends b [] c h = h
@@ -60,12 +57,6 @@ begins_alike a d b l r k x h = (rtype.Bool, refl, type_kept d b l.choice.target.
 
 pub begins_flag : (a d b c : Building) (l : Link) → Begins a d l → Extends d b → Extends b c → HasType c l.holds.0 rtype.Bool
 begins_flag a d b c l k x y = type_kept a c l.holds.0 rtype.Bool (extends_trans a d c k.opens.extends (extends_trans d b c x y)) k.holds
-
-pub begins_ready : (a d b c : Building) (l : Link) (r end second : ℕ) → Begins a d l → Extends d b → Brings b c l.choice.target.0 r end → second ≡ length c.blocks → Open c l.choice.test × (Open c end × ((l.choice.test < l.choice.first) × ((l.choice.first ≤ end) × ((end < second) × (second ≤ length c.blocks)))))
-begins_ready a d b c l r end second k x brings here = meet_ready a d b c c l.choice.target.0 l.choice.target.0 l.choice.test l.choice.first r end second rtype.Bool k.opens x brings here (extends_refl c)
-
-pub meets_link : (b c d : Building) (l : Link) (r end second : ℕ) → Brings b c l.choice.target.0 r end → second ≡ length c.blocks → Meets c d l.choice.target.0 l.holds.0 l.holds.0 l.choice.test l.choice.first end second → Met b d l r
-meets_link b c d l r end second brings here meets = record { mid = c; end = end; brings = brings; meets = subst (λ z. Meets c d l.choice.target.0 l.holds.0 l.holds.0 l.choice.test l.choice.first end z) here meets }
 
 get_there : {A : Type 0} (xs : List A) (k : ℕ) → k < length xs → (x : A) × (slice_get xs k ≡ Some x)
 get_there [] k lt = absurd (omega arith)

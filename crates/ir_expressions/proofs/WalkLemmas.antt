@@ -29,7 +29,7 @@ use Rattle.ir_frames.specs.Computing.{Makes, OfOne, OfTwo, HaveTypes}
 use Rattle.ir_frames.specs.Shaped.{AllBelow, Keeps}
 use Rattle.ir_frames.specs.Kinds.{Surrounding, Calls, KeepsKindsIf}
 use Rattle.ir_frames.proofs.HeldLemmas.{get_below, type_below}
-use Rattle.ir_expressions.specs.Compiled.{is_scalar, is_bool, is_built, is_ordering, literal_in}
+use Rattle.ir_expressions.specs.Compiled.{is_scalar, is_bool, is_built, literal_in}
 use Rattle.ir_expressions.specs.Suiting.{Suits, OperandSuits, Operand, SomeSuit, SomeChain}
 use Rattle.ir_expressions.specs.Operating.{Negates, Inverts, Numbers, Asks, Operates, TestsValue, FitsIfLiteral, literal_of_truth}
 use Rattle.ir_expressions.specs.Emitting.{Emits, EmitsNumber, EmitsAll, EmitsAnyChain}
@@ -37,7 +37,7 @@ use Rattle.ir_expressions.specs.Walking.{Walks}
 use Rattle.ir_expressions.specs.Choices.{Opens, Brings, Meets}
 use Rattle.ir_expressions.proofs.ArmLemmas.{asked, emits_as, is_bool as is_flag, is_local, is_neg, is_not, is_truth, is_arith, is_compare, is_and, is_or, is_cond, is_call, is_coerce}
 use Rattle.ir_expressions.proofs.NodeLemmas.{flag_emits, literal_emits, local_emits, neg_emits, not_emits, truth_emits, arith_emits, i64_number, bool_number, coerce_emits, and_emits, or_emits, cond_emits, bool_sort, i64_sort}
-use Rattle.ir_expressions.proofs.ChainLemmas.{chain_done, compare_emits}
+use Rattle.ir_expressions.proofs.ChainLemmas.{compare_emits}
 use Rattle.ir_expressions.proofs.CallLemmas.{call_emits}
 use Rattle.ir_expressions.proofs.ArgumentLemmas.{suit_types}
 use Rattle.ir_expressions.proofs.WalkingLemmas.{walks_trans, walks_known, calls_known}
@@ -262,21 +262,6 @@ literal_walked x (typed k t place) n b c r is h a =
     let P : TypedExpr → Type 0 = λ y. EmitsNumber x y b c r in
     let Q : Sort → Type 0 = λ u. EmitsNumber x (typed (tree.Int n) u place) b c r in
     subst P same (subst Q (sym l.0) (literal_emits x n place b c r l.1 a))
-
--- ---- chains
-
-module _ (x : Setting) (first : ℕ) (rest : List (CmpOp × TExpr)) where
-  abbrev AnyOf : Building → Building → ℕ → List (CmpOp × TExpr) → Type 0
-  AnyOf b c r cs = EmitsAnyChain x first (comparisons_of (map typed_comparison cs)) b c r
-
-  pub any_done : (b c : Building) (r : ℕ) → rest ≡ [] → Adds b c r rtype.Bool (Lit record { 0 = r } (literal_of_truth true)) → EmitsAnyChain x first (comparisons_of (map typed_comparison rest)) b c r
-  any_done b c r is a = let P : List (CmpOp × TExpr) → Type 0 = AnyOf b c r in subst P (sym is) (λ s suits. chain_done x s first b c r a)
-
-  pub chain_part : (op : CmpOp) (e : TExpr) (more : List (CmpOp × TExpr)) → rest ≡ (op, e) ∷ more → SomeChain x.source x.variables (comparisons_of (map typed_comparison rest)) → (is_ordering op ≡ true) × Operand x.source x.variables (typed_expr e) × SomeChain x.source x.variables (comparisons_of (map typed_comparison more))
-  chain_part op e more is h =
-      let P : List (CmpOp × TExpr) → Type 0 = λ cs. SomeChain x.source x.variables (comparisons_of (map typed_comparison cs)) in
-      let k = subst P is h in
-      (k.1.0, k.1.2, (type_of (typed_expr e), k.1.3))
 
 -- ---- the parts of a choice
 

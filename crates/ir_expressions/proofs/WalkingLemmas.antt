@@ -20,7 +20,7 @@ use Rattle.ir_frames.specs.Kinds.{Surrounding, is_plain, ArePlain, IsOf, Take, A
 use Rattle.ir_frames.proofs.HeldLemmas.{extends_refl, extends_trans, type_kept}
 use Rattle.ir_expressions.specs.Compiled.{is_scalar}
 use Rattle.ir_expressions.specs.Operating.{literal_of_truth}
-use Rattle.ir_expressions.specs.Choices.{Opens}
+use Rattle.ir_expressions.specs.Choices.{Opens, Meets}
 use Rattle.ir_expressions.specs.Walking.{Walks}
 
 module _ (m : TypedModule) where
@@ -77,6 +77,9 @@ alike b c d t target r plain has x gives y = (t, plain, type_kept b d target.0 t
 pub turned : (m : TypedModule) (t : RType) (b0 b2 b3 b4 b5 : Building) (target r : Reg) (test first : ℕ) → is_plain t ≡ true → Walks m b0 b4 → Opens b2 b3 target.0 test first t → Extends b3 b4 → HasType b4 r.0 t → Extends b4 b5 → Keeps b4 b5 → KeepsKindsIf (λ g. AreAlike b4.regs target r) b4 b5 → Walks m b0 b5
 turned m t b0 b2 b3 b4 b5 target r test first plain w opens x34 type x45 s k =
     walks_trans m b0 b4 b5 w (walks_known m b4 b5 (λ g. AreAlike b4.regs target r) x45 s k (λ g among. alike b3 b4 b4 t target r plain opens.type x34 type (extends_refl b4)))
+
+pub meets_grow : (b c : Building) (target r condition test first end second : ℕ) → Meets b c target r condition test first end second → length b.blocks ≤ length c.blocks
+meets_grow b c target r condition test first end second m = let z = m.blocks in omega arith
 
 -- both values meet
 pub met : (m : TypedModule) (t : RType) (b0 b2 b3 b7 b8 : Building) (target r condition : Reg) (test first : ℕ) → is_plain t ≡ true → Walks m b0 b7 → Opens b2 b3 target.0 test first t → Extends b3 b7 → HasType b7 r.0 t → HasType b7 condition.0 rtype.Bool → Extends b0 b8 → length b7.blocks ≤ length b8.blocks → Keeps b7 b8 → KeepsKindsIf (λ g. AreAlike b7.regs target r × IsOf b7.regs condition rtype.Bool) b7 b8 → Walks m b0 b8

@@ -1,4 +1,4 @@
-//! From typed expressions to intermediate code: what its parts share.
+//! From typed expressions to intermediate code.
 //!
 //! `specs/Compiled.antt` says which expressions are to be compiled, those of native integers and bools and calls that give
 //! None, `specs/Suiting.antt` what is asked of one that is built, and `specs/Emitting.antt` what its code does.

@@ -28,8 +28,8 @@ loop-link-preserved c =
     let d = c.meet_link.new.b in
     let grows = met_grows b d l c.loop-link.r.0 met in
     let split : (a : Building) → Pending a c.args.links c.args.b.now → Last a ls l b = λ a h.
-        let P : List Link → Type 0 = λ z. Pending a z b in
-        pending_last a ls l b (subst P c.in-Some.ensures (c.loop-link.invariant.pending a h)) in
+    let P : List Link → Type 0 = λ z. Pending a z b in
+    pending_last a ls l b (subst P c.in-Some.ensures (c.loop-link.invariant.pending a h)) in
     record {
       pending = λ a h. met_pending a ls l b d c.loop-link.r.0 (split a h) met;
       more = let m = c.loop-link.invariant.more in let n = grows.0 in omega arith;
