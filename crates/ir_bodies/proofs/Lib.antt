@@ -1,0 +1,7 @@
+pub mod PartLemmas
+pub mod AloneLemmas
+pub mod AssignLemmas
+pub mod ReturnLemmas
+pub mod SizeLemmas
+pub mod SuiteLemmas
+pub mod BodyLemmas

@@ -1,3 +1,4 @@
 pub mod Suiting
 pub mod Modules
 pub mod Kinds
+pub mod Parts

@@ -1,6 +1,6 @@
 -- What is asked of a module that is built: each function has native integers and bools as parameters, no other variables, and a
 -- result that is one of them or None; its body and the module's own statements suit; and names are as C text wants them.
-use Rattle.std.specs.Prelude.{◌≡◌, ◌⊎◌, ℕ, true, false, List, [], length, map, Option, Some, None, slice_get}
+use Rattle.std.specs.Prelude.{◌≡◌, ◌⊎◌, ℕ, true, false, List, [], length, map, Some, None, slice_get}
 use Rattle.std.specs.List.{list_all}
 use Rattle.c_core.specs.WellFormed.{is_identifier, names_differ}
 use Rattle.py_typed.specs.Fits.{is_nothing}

@@ -2,9 +2,14 @@
 //!
 //! What comes in is a row of typed statements of a function whose variables are its parameters; what goes out are operations
 //! and blocks in an `Emitter` (`emit_block`), which do what the statements mean, wherever they are left: `specs/Suiting.antt`
-//! says which statements are built, and `Emitted` of `ir_statements` what their code does.
+//! says which statements are built, `Emitted` of `ir_statements` what their code does, and `specs/Parts.antt` what stands around the
+//! bodies of `if` and `while`.
 #![tactic(auto)]
 
+mod alone;
+mod branch;
+mod exits;
+mod simple;
 mod statement;
 
 pub use statement::emit_block;

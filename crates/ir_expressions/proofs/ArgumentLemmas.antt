@@ -1,7 +1,7 @@
 -- Arguments one after another.
-use Rattle.std.proofs.Common.{◌≡◌, refl, sym, ◌∙◌, ap, subst, ℕ, ◌+◌, ◌<◌, arith, le_refl, List, [], ◌∷◌, ◌++◌, length, map, Some, take, drop, get_or, add-one}
+use Rattle.std.proofs.Common.{◌≡◌, refl, sym, ◌∙◌, ap, subst, ℕ, ◌+◌, ◌<◌, ◌≤◌, arith, le_refl, List, [], ◌∷◌, ◌++◌, length, map, Some, take, drop, get_or, add-one}
 use Rattle.std.proofs.Math.Seq.{take-suc}
-use Rattle.std.proofs.lemmas.List.{drop_more}
+use Rattle.std.proofs.lemmas.List.{drop_more, take_all}
 use Rattle.value_core.specs.Value.{Value}
 use Rattle.py_typed.specs.declared.expression.TExpr.{TExpr}
 use Rattle.py_typed.specs.Sorts.{Sort}
@@ -20,6 +20,8 @@ use Rattle.ir_frames.proofs.ComingLemmas.{ends_now, ends_of, on_assoc}
 use Rattle.ir_frames.proofs.MatchLemmas.{room_on, computes_then, computes_all_then}
 use Rattle.ir_expressions.specs.Suiting.{Suits, ArgumentsSuit, SomeSuit}
 use Rattle.ir_expressions.specs.Emitting.{means, means_all, Emits, EmitsAll}
+use Rattle.ir_expressions.specs.Walking.{Walks}
+use Rattle.ir_expressions.proofs.WalkingLemmas.{walks_refl, walks_trans}
 
 snoc_means : (x : Setting) (n : ℕ) (es : List TypedExpr) (e : TypedExpr) (s : State) → means_all x (exprs_of (es ++ e ∷ [])) n s ≡ on_to (means_all x (exprs_of es) n s) (λ vs s1. on_to (means x e n s1) (λ v s2. Gives (vs ++ v ∷ []) s2))
 snoc_means x n [] e s = refl
@@ -113,3 +115,24 @@ module _ (m : TypedModule) (vs : List Variable) where
   suit_types [] (e ∷ es) h = absurd h
   suit_types (t ∷ ts) [] h = absurd h
   suit_types (t ∷ ts) (e ∷ es) h = ap (λ z. z ∷ ts) (sym h.0) ∙ ap (λ l. type_of e ∷ l) (suit_types ts es h.2)
+
+-- arguments that were emitted from the left
+pub record Passing (x : Setting) (es : List TExpr) (i : ℕ) (start b : Building) (rs : List Reg) : Type 0 where
+  pub walks : Walks x.source start b
+  pub emitted : EmitsAll x (map type_of (map typed_expr (take i es))) (exprs_of (map typed_expr (take i es))) start b rs
+  pub suits : SomeSuit x.source x.variables (map typed_expr (drop i es))
+
+pub passing_none : (x : Setting) (es : List TExpr) (b : Building) → SomeSuit x.source x.variables (map typed_expr es) → Passing x es 0 b b []
+passing_none x es b suits = record { walks = walks_refl x.source b; emitted = none_emitted x b; suits = suits }
+
+pub passing_on : (x : Setting) (es : List TExpr) (i : ℕ) (e : TExpr) (start b c : Building) (rs rs' : List Reg) (r : Reg) → i < length es → e ≡ get_or es i e → HasRoom x start → Passing x es i start b rs → Walks x.source b c → Emits x (typed_expr e) b c r.0 → rs' ≡ rs ++ r ∷ [] → Passing x es (i + 1) start c rs'
+passing_on x es i e start b c rs rs' r lt is room g w one new = record {
+  walks = walks_trans x.source start b c g.walks w;
+  emitted = argument_emitted x es i e start b c rs rs' r lt is room g.emitted one new;
+  suits = (argument_suits x.source x.variables es i e lt is g.suits).1;
+}
+
+pub passing_ends : (x : Setting) (es : List TExpr) (i : ℕ) (start b : Building) (rs : List Reg) → length es ≤ i → Passing x es i start b rs → EmitsAll x (map type_of (map typed_expr es)) (exprs_of (map typed_expr es)) start b rs
+passing_ends x es i start b rs le g =
+    let P : List TExpr → Type 0 = λ z. EmitsAll x (map type_of (map typed_expr z)) (exprs_of (map typed_expr z)) start b rs in
+    subst P (take_all i es le) g.emitted

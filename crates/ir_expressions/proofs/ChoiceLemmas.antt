@@ -1,9 +1,9 @@
 -- Both arms of a choice come to where they meet.
-use Rattle.std.proofs.Common.{◌≡◌, ◌≢◌, refl, sym, ◌∙◌, ap, subst, ℕ, zero, suc, ◌+◌, ◌<◌, ◌≤◌, arith, le_refl, Bool, true, false, cond, List, length, Option, Some, None}
+use Rattle.std.proofs.Common.{◌≡◌, refl, sym, ◌∙◌, ap, subst, ℕ, ◌+◌, ◌<◌, ◌≤◌, arith, le_refl, Bool, true, false, List, length, Option, Some, None}
 use Rattle.std.specs.Prelude.{if◌then◌else◌}
 use Rattle.value_core.specs.Value.{Value, BoolVal}
 use Rattle.py_typed.specs.Sorts.{Sort}
-use Rattle.py_typed.specs.State.{State, Outcome, Does}
+use Rattle.py_typed.specs.State.{State, Does}
 use Rattle.ir_core.specs.declared.code.RType.{RType}
 use Rattle.ir_core.specs.declared.code.RType.TheVariants.{Int, I64, Bool as BoolType, Ref}
 use Rattle.ir_core.specs.declared.code.Op.TheVariants.{Move}
@@ -12,16 +12,16 @@ use Rattle.ir_core.specs.declared.code.Program.{Program}
 use Rattle.ir_core.specs.Items.{Do, End}
 use Rattle.ir_core.specs.Rows.{type_of_reg}
 use Rattle.ir_core.specs.Registers.{Held, Holds, Regs, put, is_unset}
-use Rattle.ir_core.specs.Building.{Building, held, handled, Extends}
+use Rattle.ir_core.specs.Building.{Building, held, Extends}
 use Rattle.ir_core.specs.Meaning.{Waiting, Config, Strict, is_refused, registers_of, item_at}
 use Rattle.ir_core.proofs.StepLemmas.{put_same, put_other, move_step, goto_step, if_step}
 use Rattle.ir_frames.specs.Settings.{Setting}
 use Rattle.ir_frames.specs.Placing.{HasType, or_other, Has, Within, Placed}
 use Rattle.ir_frames.specs.Coming.{world, running, Leads, Ends}
-use Rattle.ir_frames.specs.Matching.{HasKind, Matches, IsThrown, CallsWork}
+use Rattle.ir_frames.specs.Matching.{Matches, IsThrown, CallsWork}
 use Rattle.ir_frames.specs.Computing.{Showing, Shows, Meaning, Arrives, Computes}
-use Rattle.ir_frames.proofs.HeldLemmas.{extends_trans, has_less, does_at, type_has, type_kept, within_part}
-use Rattle.ir_frames.proofs.ComingLemmas.{leads_step, leads_trans, leads_as, ends_from, ends_more, ends_map}
+use Rattle.ir_frames.proofs.HeldLemmas.{extends_trans, has_less, does_at, type_has, within_part}
+use Rattle.ir_frames.proofs.ComingLemmas.{leads_step, leads_trans, ends_from, ends_more, ends_map}
 use Rattle.ir_frames.proofs.MatchLemmas.{thrown_from}
 use Rattle.ir_expressions.specs.Choices.{Opens, Brings, Meets}
 

@@ -1,3 +1,4 @@
+pub mod WalkingLemmas
 pub mod OperationLemmas
 pub mod BuildLemmas
 pub mod CallLemmas
@@ -5,7 +6,12 @@ pub mod ArgumentLemmas
 pub mod ArmLemmas
 pub mod ValueLemmas
 pub mod ChoiceLemmas
+pub mod OpenLemmas
+pub mod LinkLemmas
 pub mod NodeLemmas
 pub mod ChainLemmas
+pub mod GoingLemmas
+pub mod UnsuitedLemmas
+pub mod WeightLemmas
 pub mod WalkLemmas
 pub mod SuitLemmas

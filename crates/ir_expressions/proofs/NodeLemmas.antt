@@ -1,47 +1,42 @@
 -- Each kind of expression is computed by its code.
-use Rattle.std.proofs.Common.{◌≡◌, ◌≢◌, refl, sym, ◌∙◌, ap, subst, ℕ, zero, suc, ◌+◌, ◌-◌, ◌<◌, ◌≤◌, arith, le_refl, Bool, true, false, cond, List, length, Option, Some, None}
+use Rattle.std.proofs.Common.{◌≡◌, refl, sym, ◌∙◌, ap, subst, ℕ, ◌+◌, ◌-◌, ◌<◌, ◌≤◌, arith, le_refl, Bool, true, false, List, length, Option, Some, None}
 use Rattle.std.specs.Prelude.{ℤ, pos, not, codes, ◌++◌, if◌then◌else◌, slice_get, nat_lt}
 use Rattle.std.proofs.lemmas.Bool.Decides.{nat_tests}
 use Rattle.std.specs.Ordering.{int_eq}
 use Rattle.value_core.specs.declared.exception.ExcClass.TheVariants.{UnboundLocalError}
 use Rattle.value_core.specs.Arithmetic.{lies_within, i64_neg}
 use Rattle.value_core.specs.Value.{Value, IntVal, BoolVal}
-use Rattle.c_core.specs.declared.primitive.Primitive.{Primitive}
-use Rattle.c_core.specs.declared.primitive.Primitive.TheVariants as prim
-use Rattle.c_core.specs.declared.primitive.Int64Prim.TheVariants as int64
-use Rattle.c_core.specs.declared.primitive.BoolPrim.TheVariants as bool
 use Rattle.py_syntax.specs.declared.token.Span.{Span}
 use Rattle.py_syntax.specs.declared.expression.BinOp.{BinOp}
 use Rattle.py_typed.specs.Sorts as sort
 use Rattle.py_typed.specs.Sorts.{Sort}
 use Rattle.py_typed.specs.Statements.{Variable}
-use Rattle.py_typed.specs.Expressions.{TypedExpr, typed, type_of, Int, Flag, Local, Neg, Not, Truth, Arith, And, Or, Cond, Compare, Coerce, Comparisons}
+use Rattle.py_typed.specs.Expressions.{TypedExpr, typed, type_of, Int, Flag, Local, Neg, Not, Truth, Arith, And, Or, Cond, Coerce}
 use Rattle.py_typed.specs.ExpressionMeaning.{value_in, name_at}
 use Rattle.py_typed.specs.State.{State, Outcome, Gives, Does, on_to, give, raise_new}
-use Rattle.py_typed.specs.Operations.{negated, arithmetic, coerced, truth_of, holds}
-use Rattle.ir_core.specs.declared.code.RType.{RType}
+use Rattle.py_typed.specs.Operations.{negated, arithmetic, coerced, truth_of}
 use Rattle.ir_core.specs.declared.code.RType.TheVariants as rtype
 use Rattle.ir_core.specs.declared.code.Op.TheVariants.{Lit}
 use Rattle.ir_core.specs.Registers.{Held, Unset, Holds, Regs}
-use Rattle.ir_core.specs.Building.{Building, held, Extends}
+use Rattle.ir_core.specs.Building.{Building, Extends}
 use Rattle.ir_frames.specs.declared.frame.Vars.{Vars}
 use Rattle.ir_frames.specs.Settings.{Setting, rtype_of}
-use Rattle.ir_frames.specs.Placing.{HasType, Has, Placed}
+use Rattle.ir_frames.specs.Placing.{HasType, Placed}
 use Rattle.ir_frames.specs.Calling.{Adds}
 use Rattle.ir_frames.specs.Coming.{world, running, Ends}
 use Rattle.ir_core.specs.declared.code.Program.{Program}
 use Rattle.ir_core.specs.Meaning.{Waiting}
 use Rattle.ir_frames.specs.Matching.{HasKind, Keeps, flag_in, Matches, HasRoom, IsThrown, CallsWork}
-use Rattle.ir_frames.specs.Computing.{Shows, ShowsNumber, Counts, Meaning, Arrives, Computes, Makes, OfOne, OfTwo}
-use Rattle.ir_frames.proofs.HeldLemmas.{extends_refl, extends_trans, type_below, type_kept, type_has, has_less, does_at, placed_part}
-use Rattle.ir_frames.proofs.ComingLemmas.{ends_now, ends_of, ends_on, ends_from, leads_refl, leads_trans}
+use Rattle.ir_frames.specs.Computing.{Shows, ShowsNumber, Meaning, Arrives, Computes, Makes, OfOne, OfTwo}
+use Rattle.ir_frames.proofs.HeldLemmas.{extends_refl, extends_trans, type_below, type_kept, has_less}
+use Rattle.ir_frames.proofs.ComingLemmas.{ends_now, ends_of, ends_on, ends_from, leads_refl}
 use Rattle.ir_frames.proofs.StepLemmas.{literal_makes}
-use Rattle.ir_frames.proofs.MatchLemmas.{room_on, match_kept, computes_then, computes_as, computes_of, GivesOf, GivesOfTwo, then_makes, both_make, made_computes}
+use Rattle.ir_frames.proofs.MatchLemmas.{room_on, match_kept, computes_then, computes_as, computes_of, then_makes, both_make, made_computes}
 use Rattle.ir_expressions.specs.Compiled.{is_scalar, is_bool, is_built}
 use Rattle.ir_expressions.specs.Operating.{Negates, Inverts, Numbers, Operates, Asks, TestsValue, literal_of_truth}
 use Rattle.ir_expressions.specs.Emitting.{means, Emits, EmitsNumber}
 use Rattle.ir_expressions.specs.Choices.{Opens, Brings, Meets}
-use Rattle.ir_expressions.proofs.ValueLemmas.{counts_coerced, counts_within, wrap_within, number_coerced, operated_within, negated_is, arithmetic_is, truth_of_number, kind_counts}
+use Rattle.ir_expressions.proofs.ValueLemmas.{counts_coerced, counts_within, wrap_within, operated_within, negated_is, arithmetic_is, truth_of_number, kind_counts}
 use Rattle.ir_expressions.proofs.ChoiceLemmas.{shows_set, choice_runs, meet_within, arm_ends}
 
 kind_at : (t u : Sort) (v : Value) → t ≡ u → HasKind t v → HasKind u v

@@ -1,18 +1,17 @@
 -- An expression that is well typed and compiled suits, in a function whose variables are native integers and bools, where the
 -- signature of each function is that of its definition.
 use Rattle.std.proofs.Common.{◌≡◌, refl, sym, ◌∙◌, ap, subst, ℕ, Bool, true, false, List, [], ◌∷◌, ◌++◌, Option, Some, None, ◌⊎◌, ⊎_elim, inl, inr}
-use Rattle.std.specs.Prelude.{ℤ, not, ◌&&◌, ◌||◌, slice_get}
+use Rattle.std.specs.Prelude.{ℤ, not, ◌||◌, slice_get}
 use Rattle.std.specs.Option.{option_map}
-use Rattle.value_core.specs.Arithmetic.{lies_within}
 use Rattle.py_syntax.specs.declared.token.Span.{Span}
 use Rattle.py_typed.specs.Sorts as sort
 use Rattle.py_typed.specs.Sorts.{Sort, sorts_of}
 use Rattle.py_typed.specs.Classes.{Signature}
-use Rattle.py_typed.specs.Fits.{is_same_type, are_same_types, is_number, is_nothing, number_join}
+use Rattle.py_typed.specs.Fits.{is_same_type, are_same_types, is_nothing, number_join}
 use Rattle.py_typed.specs.Expressions.{TypedExpr, typed, TypedNode, Int, Flag, Local, Neg, Not, Truth, Arith, Compare, And, Or, Cond, Call, Coerce, TypedExprs, no_exprs, expr_then, Comparisons, no_comparisons, comparison_then, type_of}
 use Rattle.py_typed.specs.Statements.{Variable, TypedFunc, TypedModule}
 use Rattle.py_typed.specs.Narrowing.{is_in, facts}
-use Rattle.py_typed.specs.WellTypedExpr.{stands, parts_typed, are_values, chain_typed, rule, types_of, is_function, is_type, reads_as, declared, signature_at, call_fits, row_fits, is_empty_call}
+use Rattle.py_typed.specs.WellTypedExpr.{stands, parts_typed, are_values, chain_typed, rule, types_of, is_function, is_type, reads_as, declared, call_fits, is_empty_call}
 use Rattle.py_typed.proofs.FitLemmas.{and_left, and_right, one_type}
 use Rattle.ir_frames.specs.Matching.{parameter_sorts}
 use Rattle.ir_expressions.specs.Compiled.{is_i64, is_bool, is_scalar, is_result, literal_in, is_operand, is_compiled, is_compiled_node, are_compiled, are_compared}

@@ -1,14 +1,13 @@
 -- What operators do with numbers and bools.
-use Rattle.std.proofs.Common.{◌≡◌, refl, sym, ◌∙◌, ap, subst, ℕ, zero, suc, arith, Bool, true, false, cond, Some, None, Ok, Err}
+use Rattle.std.proofs.Common.{◌≡◌, refl, sym, ◌∙◌, ap, ℕ, zero, suc, arith, Bool, true, false, cond, Ok, Err}
 use Rattle.std.proofs.lemmas.Bool.Decides.{nat_tests}
-use Rattle.std.proofs.lemmas.Int.{ints, SFits-int_wrap}
-use Rattle.std.specs.Prelude.{ℤ, pos, negsuc, not, ◌&&◌, ◌||◌, if◌then◌else◌, int_lt, FitsSigned}
+use Rattle.std.proofs.lemmas.Int.{SFits-int_wrap}
+use Rattle.std.specs.Prelude.{ℤ, pos, negsuc, not, ◌&&◌, if◌then◌else◌, int_lt, FitsSigned}
 use Rattle.std.specs.Int.{int_wrap, w64}
 use Rattle.std.specs.Ordering.{int_eq}
-use Rattle.value_core.specs.declared.arith.Arith.{Arith}
 use Rattle.value_core.specs.declared.arith.Arith.TheVariants.{OutOfRange}
-use Rattle.value_core.specs.Arithmetic.{lies_within, int_to_i64, i64_neg}
-use Rattle.value_core.specs.Value.{Value, IntVal, BoolVal, NoneVal}
+use Rattle.value_core.specs.Arithmetic.{lies_within, i64_neg}
+use Rattle.value_core.specs.Value.{Value, IntVal, BoolVal}
 use Rattle.py_syntax.specs.declared.expression.BinOp.{BinOp}
 use Rattle.py_syntax.specs.declared.expression.BinOp.TheVariants as bin
 use Rattle.py_syntax.specs.declared.expression.CmpOp.{CmpOp}
@@ -17,10 +16,9 @@ use Rattle.py_typed.specs.Sorts as sort
 use Rattle.py_typed.specs.Sorts.{Sort}
 use Rattle.py_typed.specs.State.{State, Outcome, Gives, Does, on_to}
 use Rattle.py_typed.specs.Operations.{fitting, coerced, with_number, of_numbers, arithmetic, negated_as, negated, is_equal, is_less, compared_as, compared, holds, truth_of}
-use Rattle.ir_core.specs.Effects.{truth_number}
 use Rattle.ir_frames.specs.Matching.{HasKind}
 use Rattle.ir_frames.specs.Computing.{Counts}
-use Rattle.ir_expressions.specs.Compiled.{is_built, is_ordering, is_pair, is_scalar}
+use Rattle.ir_expressions.specs.Compiled.{is_built, is_ordering, is_pair}
 use Rattle.ir_expressions.specs.Operating.{operated, ordered}
 
 -- ---- range

@@ -1,5 +1,5 @@
 -- The code of a declared expression of each kind, and what its parts need.
-use Rattle.std.proofs.Common.{◌≡◌, refl, sym, ◌∙◌, ap, subst, ℕ, suc, ◌+◌, ◌<◌, ◌≤◌, arith, Bool, true, false, List, [], ◌∷◌, length, map, Option, Some, None}
+use Rattle.std.proofs.Common.{◌≡◌, refl, sym, ◌∙◌, ap, subst, ℕ, ◌≤◌, arith, Bool, true, false, List, [], ◌∷◌, length, map, Option, Some, None}
 use Rattle.std.specs.Prelude.{ℤ, slice_get}
 use Rattle.std.specs.declared.boxed.Box.{Box}
 use Rattle.std.specs.declared.alloc.Global.{Global}
@@ -13,34 +13,34 @@ use Rattle.py_typed.specs.Sorts as sort
 use Rattle.py_typed.specs.Sorts.{Sort, sort as sort_of}
 use Rattle.py_typed.specs.Expressions as tree
 use Rattle.py_typed.specs.Expressions.{TypedExpr, typed, type_of, typed_expr, exprs_of, comparisons_of, typed_comparison}
-use Rattle.py_typed.specs.Statements.{TypedModule, Variable}
+use Rattle.py_typed.specs.Statements.{TypedFunc, TypedModule, Variable}
 use Rattle.py_typed.proofs.ExpressionLemmas.{type_at}
 use Rattle.ir_core.specs.declared.code.RType.TheVariants as rtype
 use Rattle.ir_core.specs.declared.code.RType.{RType}
 use Rattle.ir_core.specs.declared.code.Reg.{Reg}
 use Rattle.ir_core.specs.declared.code.Lit.TheVariants.{Number}
 use Rattle.ir_core.specs.declared.code.Op.TheVariants.{Lit, Call as CallOp}
-use Rattle.ir_core.specs.declared.code.Last.TheVariants.{Unreachable}
-use Rattle.ir_core.specs.Items.{End}
-use Rattle.ir_core.specs.Rows.{Declared, type_of_reg}
-use Rattle.ir_core.specs.Building.{Building, held, Extends}
+use Rattle.ir_core.specs.Building.{Building, Extends}
 use Rattle.ir_frames.specs.Settings.{Setting, rtype_of}
 use Rattle.ir_frames.specs.Placing.{HasType}
-use Rattle.ir_frames.specs.Calling.{Adds, Open}
+use Rattle.ir_frames.specs.Calling.{Adds}
 use Rattle.ir_frames.specs.Matching.{HasRoom, parameter_sorts}
 use Rattle.ir_frames.specs.Computing.{Makes, OfOne, OfTwo, HaveTypes}
-use Rattle.ir_frames.specs.Shaped.{AllBelow}
+use Rattle.ir_frames.specs.Shaped.{AllBelow, Keeps}
+use Rattle.ir_frames.specs.Kinds.{Surrounding, Calls, KeepsKindsIf}
 use Rattle.ir_frames.proofs.HeldLemmas.{get_below, type_below}
-use Rattle.ir_expressions.specs.Compiled.{is_scalar, is_bool, is_built, is_ordering, literal_in}
-use Rattle.ir_expressions.specs.Suiting.{Suits, OperandSuits, Operand, ArgumentsSuit, ComparisonsSuit, SomeSuit, SomeChain}
-use Rattle.ir_expressions.specs.Operating.{Negates, Inverts, Numbers, Asks, Operates, Orders, TestsValue, FitsIfLiteral, literal_of_truth}
-use Rattle.ir_expressions.specs.Emitting.{Emits, EmitsNumber, EmitsAll, EmitsChain, EmitsAnyChain}
+use Rattle.ir_expressions.specs.Compiled.{is_scalar, is_bool, is_built, literal_in}
+use Rattle.ir_expressions.specs.Suiting.{Suits, OperandSuits, Operand, SomeSuit, SomeChain}
+use Rattle.ir_expressions.specs.Operating.{Negates, Inverts, Numbers, Asks, Operates, TestsValue, FitsIfLiteral, literal_of_truth}
+use Rattle.ir_expressions.specs.Emitting.{Emits, EmitsNumber, EmitsAll, EmitsAnyChain}
+use Rattle.ir_expressions.specs.Walking.{Walks}
 use Rattle.ir_expressions.specs.Choices.{Opens, Brings, Meets}
-use Rattle.ir_expressions.proofs.ArmLemmas.{Is, asked, emits_as, is_bool as is_flag, is_local, is_neg, is_not, is_truth, is_arith, is_compare, is_and, is_or, is_cond, is_call, is_coerce}
+use Rattle.ir_expressions.proofs.ArmLemmas.{asked, emits_as, is_bool as is_flag, is_local, is_neg, is_not, is_truth, is_arith, is_compare, is_and, is_or, is_cond, is_call, is_coerce}
 use Rattle.ir_expressions.proofs.NodeLemmas.{flag_emits, literal_emits, local_emits, neg_emits, not_emits, truth_emits, arith_emits, i64_number, bool_number, coerce_emits, and_emits, or_emits, cond_emits, bool_sort, i64_sort}
-use Rattle.ir_expressions.proofs.ChainLemmas.{chain_done, chain_one, chain_more, compare_emits}
+use Rattle.ir_expressions.proofs.ChainLemmas.{compare_emits}
 use Rattle.ir_expressions.proofs.CallLemmas.{call_emits}
 use Rattle.ir_expressions.proofs.ArgumentLemmas.{suit_types}
+use Rattle.ir_expressions.proofs.WalkingLemmas.{walks_trans, walks_known, calls_known}
 
 abbrev Part : Type 0
 Part = Box TExpr Global
@@ -152,6 +152,11 @@ module _ (x : Setting) (e : TExpr) (suits : Suits x.source x.variables (typed_ex
         let n = asked x.source x.variables e (tree.Cond (typed_expr a.value) (typed_expr test.value) (typed_expr b.value)) (is_cond e a test b is) suits in
         sym (type_at b.value) ∙ n.3 ∙ sym n.1 ∙ type_at a.value
 
+    pub cond_scalar : e.kind ≡ kind.Cond a test b → is_scalar (sort_of a.value.ty) ≡ true
+    cond_scalar is =
+        let n = asked x.source x.variables e (tree.Cond (typed_expr a.value) (typed_expr test.value) (typed_expr b.value)) (is_cond e a test b is) suits in
+        subst (λ t. is_scalar t ≡ true) (sym n.1 ∙ type_at a.value) n.0
+
     pub cond_flag : e.kind ≡ kind.Cond a test b → sort_of test.value.ty ≡ sort.Bool
     cond_flag is =
         let n = asked x.source x.variables e (tree.Cond (typed_expr a.value) (typed_expr test.value) (typed_expr b.value)) (is_cond e a test b is) suits in
@@ -184,6 +189,25 @@ types_below b [] (r ∷ rs) h = absurd h
 types_below b (t ∷ ts) [] h = absurd h
 types_below b (t ∷ ts) (r ∷ rs) h = (type_below b r.0 (rtype_of t) h.0, types_below b ts rs h.1)
 
+module _ (x : Setting) (e : TExpr) (suits : Suits x.source x.variables (typed_expr e)) (f : ℕ) (es : List TExpr) (b0 b1 : Building) (rs : List Reg) where
+  -- the arguments stand in registers of the types that the function takes
+  call_types : (is : e.kind ≡ kind.Call f es) → EmitsAll x (map type_of (map typed_expr es)) (exprs_of (map typed_expr es)) b0 b1 rs → (g : TypedFunc) × (slice_get x.source.funcs f ≡ Some g) × (g.ret ≡ sort_of e.ty) × HaveTypes b1.regs (parameter_sorts g) rs
+  call_types is q =
+      let n = asked x.source x.variables e (tree.Call f (exprs_of (map typed_expr es))) (is_call e f es is) suits in
+      let ts = suit_types x.source x.variables (parameter_sorts n.1) (map typed_expr es) n.4 in
+      let P : List Sort → Type 0 = λ z. HaveTypes b1.regs z rs in
+      (n.1, n.2, n.3, subst P (sym ts) q.types)
+
+  pub call_below : e.kind ≡ kind.Call f es → EmitsAll x (map type_of (map typed_expr es)) (exprs_of (map typed_expr es)) b0 b1 rs → AllBelow (length b1.regs) rs
+  call_below is q = let n = call_types is q in types_below b1 (parameter_sorts n.0) rs n.3
+
+  pub call_walks : (b2 : Building) (t : RType) → e.kind ≡ kind.Call f es → t ≡ rtype_of (sort_of e.ty) → Walks x.source b0 b1 → EmitsAll x (map type_of (map typed_expr es)) (exprs_of (map typed_expr es)) b0 b1 rs → Extends b1 b2 → Keeps b1 b2 → KeepsKindsIf (λ g. Calls g t b1.regs f rs) b1 b2 → Walks x.source b0 b2
+  call_walks b2 t is at w q x12 s k =
+      let n = call_types is q in
+      let same : rtype_of n.0.ret ≡ t = ap rtype_of n.2 ∙ sym at in
+      let P : Surrounding → RType → Type 0 = λ g z. Calls g z b1.regs f rs in
+      walks_trans x.source b0 b1 b2 w (walks_known x.source b1 b2 (λ g. Calls g t b1.regs f rs) x12 s k (λ g among. subst (P g) same (calls_known x.source f n.0 b1 rs n.1 n.3 g among)))
+
 -- ---- the two parts of a choice, where they are declared
 
 module _ (x : Setting) (left right : TExpr) (same : sort_of right.ty ≡ sort_of left.ty) where
@@ -199,13 +223,6 @@ module _ (x : Setting) (left right : TExpr) (same : sort_of right.ty ≡ sort_of
   choice_made test t b0 b1 b3 b4 b5 b7 b8 q target at first end second ra rb flag is room ct opens ca brings here cb meets =
       cond_emits x (typed_expr left) (typed_expr test) (typed_expr right) (sort_of left.ty) left.span b0 b1 b3 b4 b5 b7 b8 q target at first end second ra rb (type_at left) (type_at test ∙ flag) (type_at right ∙ same) room ct (subst (λ z. Opens b1 b3 target at first z) is opens) ca brings here cb meets
 
--- the blocks whose ends are still to be written
-pub test_open : (b c d : Building) (target test first : ℕ) (t : RType) → Opens b c target test first t → Extends c d → Open d test
-test_open b c d target test first t opens x = record { place = length b.ops; is = x.items test (length b.ops) (End Unreachable) (ap (λ k. held c k (length b.ops)) opens.test_is ∙ opens.hole) }
-
-pub end_open : (b c d : Building) (target r end : ℕ) → Brings b c target r end → Extends c d → Open d end
-end_open b c d target r end brings x = record { place = length b.ops + 1; is = x.items end (length b.ops + 1) (End Unreachable) (ap (λ k. held c k (length b.ops + 1)) brings.end_is ∙ brings.hole) }
-
 -- ---- operands
 
 fits_by : (o : Option ℤ) (t : Sort) (P : Type 0) → OperandSuits o t P → FitsIfLiteral o
@@ -217,6 +234,9 @@ operand_fits m vs e h = fits_by (literal_in e) (type_of e) (Suits m vs e) h
 
 pub operand_part : (m : TypedModule) (vs : List Variable) (e : TypedExpr) → literal_in e ≡ None → Operand m vs e → (is_scalar (type_of e) ≡ true) × Suits m vs e
 operand_part m vs e is h = subst (λ o. OperandSuits o (type_of e) (Suits m vs e)) is h
+
+pub literal_within : (m : TypedModule) (vs : List Variable) (e : TypedExpr) (n : ℤ) → literal_in e ≡ Some n → Operand m vs e → lies_within 63 n ≡ true
+literal_within m vs e n is h = (subst (λ o. OperandSuits o (type_of e) (Suits m vs e)) is h).1
 
 pub operand_scalar : (m : TypedModule) (vs : List Variable) (e : TExpr) → literal_in (typed_expr e) ≡ None → Operand m vs (typed_expr e) → is_scalar (sort_of e.ty) ≡ true
 operand_scalar m vs e is h = subst (λ t. is_scalar t ≡ true) (type_at e) (operand_part m vs (typed_expr e) is h).0
@@ -243,27 +263,35 @@ literal_walked x (typed k t place) n b c r is h a =
     let Q : Sort → Type 0 = λ u. EmitsNumber x (typed (tree.Int n) u place) b c r in
     subst P same (subst Q (sym l.0) (literal_emits x n place b c r l.1 a))
 
--- ---- chains
+-- ---- the parts of a choice
 
-module _ (x : Setting) (first : ℕ) (rest : List (CmpOp × TExpr)) where
-  abbrev AnyOf : Building → Building → ℕ → List (CmpOp × TExpr) → Type 0
-  AnyOf b c r cs = EmitsAnyChain x first (comparisons_of (map typed_comparison cs)) b c r
+pub declared_type : (x : Setting) (e : TExpr) (b c : Building) (r : ℕ) → Emits x (typed_expr e) b c r → HasType c r (rtype_of (sort_of e.ty))
+declared_type x e b c r q = emits_type x (typed_expr e) (sort_of e.ty) b c r (type_at e) q
 
-  pub any_done : (b c : Building) (r : ℕ) → rest ≡ [] → Adds b c r rtype.Bool (Lit record { 0 = r } (literal_of_truth true)) → EmitsAnyChain x first (comparisons_of (map typed_comparison rest)) b c r
-  any_done b c r is a = let P : List (CmpOp × TExpr) → Type 0 = AnyOf b c r in subst P (sym is) (λ s suits. chain_done x s first b c r a)
+pub part_type : (x : Setting) (e : TExpr) (s : Sort) (t : RType) (b c : Building) (r : ℕ) → sort_of e.ty ≡ s → t ≡ rtype_of s → Emits x (typed_expr e) b c r → HasType c r t
+part_type x e s t b c r is at q =
+    let P : RType → Type 0 = λ z. HasType c r z in
+    subst P (ap rtype_of is ∙ sym at) (declared_type x e b c r q)
 
-  pub chain_part : (op : CmpOp) (e : TExpr) (more : List (CmpOp × TExpr)) → rest ≡ (op, e) ∷ more → SomeChain x.source x.variables (comparisons_of (map typed_comparison rest)) → (is_ordering op ≡ true) × Operand x.source x.variables (typed_expr e) × SomeChain x.source x.variables (comparisons_of (map typed_comparison more))
-  chain_part op e more is h =
-      let P : List (CmpOp × TExpr) → Type 0 = λ cs. SomeChain x.source x.variables (comparisons_of (map typed_comparison cs)) in
-      let k = subst P is h in
-      (k.1.0, k.1.2, (type_of (typed_expr e), k.1.3))
+-- ---- the same part under two names
 
-  pub any_one : (op : CmpOp) (e : TExpr) (b0 b1 b2 : Building) (q r : ℕ) → rest ≡ (op, e) ∷ [] → HasRoom x b0 → HasType b0 first rtype.I64 → EmitsNumber x (typed_expr e) b0 b1 q → Makes b1 b2 r rtype.Bool (OfTwo first q (Orders op)) → EmitsAnyChain x first (comparisons_of (map typed_comparison rest)) b0 b2 r
-  any_one op e b0 b1 b2 q r is room type c made =
-      let P : List (CmpOp × TExpr) → Type 0 = AnyOf b0 b2 r in
-      subst P (sym is) (λ s suits. chain_one x s first op (typed_expr e) b0 b1 b2 q r suits.0 suits.1 room type c made)
+pub emits_same : (x : Setting) (a e : TExpr) (b c : Building) (r : ℕ) → a ≡ e → Emits x (typed_expr a) b c r → Emits x (typed_expr e) b c r
+emits_same x a e b c r is q = let P : TExpr → Type 0 = λ z. Emits x (typed_expr z) b c r in subst P is q
 
-  pub any_more : (op : CmpOp) (e : TExpr) (more : List (CmpOp × TExpr)) (b0 b1 b2 b3 b4 b5 b8 : Building) (q c target test start end second r : ℕ) → rest ≡ (op, e) ∷ more → HasRoom x b0 → HasType b0 first rtype.I64 → EmitsNumber x (typed_expr e) b0 b1 q → Makes b1 b2 c rtype.Bool (OfTwo first q (Orders op)) → Opens b2 b3 target test start rtype.Bool → EmitsAnyChain x q (comparisons_of (map typed_comparison more)) b3 b4 r → Brings b4 b5 target r end → second ≡ length b5.blocks → Meets b5 b8 target c c test start end second → EmitsAnyChain x first (comparisons_of (map typed_comparison rest)) b0 b8 target
-  any_more op e more b0 b1 b2 b3 b4 b5 b8 q c target test start end second r is room type ce made opens chain brings here meets =
-      let P : List (CmpOp × TExpr) → Type 0 = AnyOf b0 b8 target in
-      subst P (sym is) (λ s suits. chain_more x s first op (typed_expr e) (comparisons_of (map typed_comparison more)) b0 b1 b2 b3 b4 b5 b8 q c target test start end second r suits.0 suits.1 room type ce made opens (chain (type_of (typed_expr e)) suits.3) brings here meets)
+pub number_same : (x : Setting) (a e : TExpr) (b c : Building) (r : ℕ) → a ≡ e → EmitsNumber x (typed_expr a) b c r → EmitsNumber x (typed_expr e) b c r
+number_same x a e b c r is q = let P : TExpr → Type 0 = λ z. EmitsNumber x (typed_expr z) b c r in subst P is q
+
+pub suits_same : (m : TypedModule) (vs : List Variable) (a e : TExpr) → a ≡ e → Suits m vs (typed_expr e) → Suits m vs (typed_expr a)
+suits_same m vs a e is h = let P : TExpr → Type 0 = λ z. Suits m vs (typed_expr z) in subst P (sym is) h
+
+pub operand_same : (m : TypedModule) (vs : List Variable) (a e : TExpr) → a ≡ e → Operand m vs (typed_expr e) → Operand m vs (typed_expr a)
+operand_same m vs a e is h = let P : TExpr → Type 0 = λ z. Operand m vs (typed_expr z) in subst P (sym is) h
+
+pub scalar_same : (a e : TExpr) → a ≡ e → is_scalar (sort_of e.ty) ≡ true → is_scalar (sort_of a.ty) ≡ true
+scalar_same a e is h = let P : TExpr → Type 0 = λ z. is_scalar (sort_of z.ty) ≡ true in subst P (sym is) h
+
+pub sort_same : (a e : TExpr) (t : Sort) → a ≡ e → sort_of e.ty ≡ t → sort_of a.ty ≡ t
+sort_same a e t is h = ap (λ (z : TExpr). sort_of z.ty) is ∙ h
+
+pub sorts_same : (a b e f : TExpr) → a ≡ e → b ≡ f → sort_of f.ty ≡ sort_of e.ty → sort_of b.ty ≡ sort_of a.ty
+sorts_same a b e f is is' h = ap (λ (z : TExpr). sort_of z.ty) is' ∙ h ∙ sym (ap (λ (z : TExpr). sort_of z.ty) is)

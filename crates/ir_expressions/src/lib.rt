@@ -1,13 +1,14 @@
-//! From typed expressions to intermediate code: what its parts share.
+//! From typed expressions to intermediate code.
 //!
 //! `specs/Compiled.antt` says which expressions are to be compiled, those of native integers and bools and calls that give
-//! None, `specs/Suiting.antt` what is asked of one that is built, and `specs/Emitting.antt` what its code does. The calls
-//! here add the operations on registers (`specs/Operating.antt`) and the choices between two values (`specs/Choices.antt`)
-//! that it is made of; nothing goes over a tree yet. For that, `proofs/WalkLemmas.antt` has for each kind of expression that
-//! its code does what it means where that of its parts does, and `proofs/SuitLemmas.antt` that what is well typed and
-//! compiled suits.
+//! None, `specs/Suiting.antt` what is asked of one that is built, and `specs/Emitting.antt` what its code does.
+//! `emit_expression` and `emit_operand` go over a tree and add that code: operations on registers
+//! (`specs/Operating.antt`), choices between two values (`specs/Choices.antt`), and for a chain of comparisons one choice
+//! behind the other (`specs/Linking.antt`). `proofs/WalkLemmas.antt` has for each kind of expression that its code does what
+//! it means where that of its parts does, and `proofs/SuitLemmas.antt` that what is well typed and compiled suits.
 #![tactic(auto)]
 
+mod chain;
 mod choice;
 mod expression;
 mod operations;

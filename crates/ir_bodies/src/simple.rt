@@ -1,0 +1,151 @@
+//! The code of simple statements.
+ghost use Rattle.std.specs.Prelude.{◌≡◌, ◌≢◌, ◌≤◌, ◌∷◌, [], true, map, length, Option, Some, None, IfOk, OnOk};
+ghost use Rattle.py_typed.specs.Sorts.{I64};
+ghost use Rattle.py_typed.specs.Expressions.{typed_expr, type_of};
+ghost use Rattle.py_typed.specs.Statements.{typed_module, typed_target, maybe_typed, variable, LocalTarget};
+ghost use Rattle.ir_core.specs.declared.code.RType.{RType};
+ghost use Rattle.ir_core.specs.Building.{Extends};
+ghost use Rattle.ir_frames.specs.Settings.{setting, rtype_of};
+ghost use Rattle.ir_frames.specs.Matching.{HasRoom};
+ghost use Rattle.ir_frames.specs.Shaped.{Keeps};
+ghost use Rattle.ir_frames.specs.Kinds.{IsAmong, KeepsKindsIf, Surrounding, HasKinds};
+ghost use Rattle.ir_expressions.specs.Compiled.{is_scalar, is_built};
+ghost use Rattle.ir_expressions.specs.Suiting.{Suits, Operand};
+ghost use Rattle.ir_statements.specs.Means.{means_assignment, means_update, means_return, returned_type};
+ghost use Rattle.ir_statements.specs.Runs.{Works};
+ghost use Rattle.ir_bodies.specs.Suiting.{IsVariable, IsOnly, ReturnSuits};
+ghost use Rattle.ir_bodies.specs.Kinds.{IsAround};
+ghost use Rattle.ir_bodies.specs.Parts.{IsLocal, IsOneLocal, ComputesReturned};
+
+use ir_core::{Last, Lit, Op, RType, Reg};
+use ir_expressions::{emit_arithmetic, emit_expression, emit_operand};
+use ir_frames::{Emitter, Frame};
+use py_syntax::BinOp;
+use py_typed::{Checked, TExpr, Target, Var};
+use std::alloc::Global;
+use value_core::Memory;
+
+// The number of a variable that is assigned to.
+fn variable_of(target: &Target) -> usize
+    requires { IsLocal (typed_target target.now) }
+    ensures { typed_target target.now ≡ LocalTarget result }
+{
+    match target {
+        Target::Local(k) => *k,
+        _ => unreachable!(),
+    }
+}
+
+// The number of the variable that alone is assigned to.
+fn only_variable_of(targets: &[Target]) -> usize
+    requires { IsOneLocal (map typed_target targets.now) }
+    ensures { map typed_target targets.now ≡ LocalTarget result ∷ [] }
+{
+    match targets {
+        [target] => variable_of(target),
+        _ => unreachable!(),
+    }
+}
+
+/// Assigns to a variable (Python Language Reference, "Assignment statements").
+pub(crate) fn emit_assignment(
+    b: &mut Emitter,
+    alloc: Global,
+    checked: &Checked,
+    locals: &[Var],
+    frame: Frame,
+    targets: &[Target],
+    e: &TExpr,
+    line: usize,
+) -> Result<(), Memory>
+    requires scalar { is_scalar (type_of (typed_expr e.now)) ≡ true }
+    requires target { IsOnly (typed_module checked.now) (map variable locals.now) None (map typed_target targets.now) (type_of (typed_expr e.now)) }
+    requires suits { Suits (typed_module checked.now) (map variable locals.now) (typed_expr e.now) }
+    requires room { HasRoom (setting checked.now locals.now frame) b.old }
+    requires parameters { length locals.now ≤ frame.locals.params }
+    ensures kept { Extends b.old b.new }
+    ensures works { OnOk result ((gives : Option RType) → Works (setting checked.now locals.now frame) gives (means_assignment (setting checked.now locals.now frame) (map typed_target targets.now) (typed_expr e.now)) b.old b.new []) }
+    ensures shaped { Keeps b.old b.new }
+    ensures kinds { KeepsKindsIf (IsAmong (typed_module checked.now)) b.old b.new }
+{
+    let k = only_variable_of(targets);
+    let r = emit_expression(b, alloc, checked, locals, frame, e, line)?;
+    b.push(Op::Move(Reg(k), r), line)
+}
+
+/// Changes a variable by an operation (Python Language Reference, "Augmented assignment statements").
+pub(crate) fn emit_update(
+    b: &mut Emitter,
+    alloc: Global,
+    checked: &Checked,
+    locals: &[Var],
+    frame: Frame,
+    target: &Target,
+    op: BinOp,
+    e: &TExpr,
+    line: usize,
+) -> Result<(), Memory>
+    requires target { IsVariable (typed_module checked.now) (map variable locals.now) None (typed_target target.now) I64 }
+    requires built { is_built op ≡ true }
+    requires suits { Operand (typed_module checked.now) (map variable locals.now) (typed_expr e.now) }
+    requires room { HasRoom (setting checked.now locals.now frame) b.old }
+    requires parameters { length locals.now ≤ frame.locals.params }
+    ensures kept { Extends b.old b.new }
+    ensures works { OnOk result ((gives : Option RType) → Works (setting checked.now locals.now frame) gives (means_update (setting checked.now locals.now frame) (typed_target target.now) op (typed_expr e.now)) b.old b.new []) }
+    ensures shaped { Keeps b.old b.new }
+    ensures kinds { KeepsKindsIf (IsAmong (typed_module checked.now)) b.old b.new }
+{
+    let k = variable_of(target);
+    let r = emit_operand(b, alloc, checked, locals, frame, e, line)?;
+    let changed = emit_arithmetic(b, alloc, op, Reg(k), r, line)?;
+    b.push(Op::Move(Reg(k), changed), line)
+}
+
+// The value that is returned, in a register. Without one it is None.
+fn emit_returned(
+    b: &mut Emitter,
+    alloc: Global,
+    checked: &Checked,
+    locals: &[Var],
+    frame: Frame,
+    value: &Option<TExpr>,
+    line: usize,
+) -> Result<Reg, Memory>
+    requires suits { ReturnSuits (typed_module checked.now) (map variable locals.now) (Some (rtype_of (returned_type (maybe_typed value.now)))) (maybe_typed value.now) }
+    requires room { HasRoom (setting checked.now locals.now frame) b.old }
+    requires parameters { length locals.now ≤ frame.locals.params }
+    ensures kept { Extends b.old b.new }
+    ensures computes { IfOk result (λ r. ComputesReturned (setting checked.now locals.now frame) (maybe_typed value.now) b.old b.new r.0) }
+    ensures other { IfOk result (λ r. (g : Surrounding) → HasKinds g b.old → r.0 ≢ g.text) }
+    ensures shaped { Keeps b.old b.new }
+    ensures kinds { KeepsKindsIf (IsAmong (typed_module checked.now)) b.old b.new }
+{
+    match value {
+        Some(e) => emit_expression(b, alloc, checked, locals, frame, e, line),
+        None => b.literal(RType::Ref, Lit::PyNone, line),
+    }
+}
+
+/// Returns (Python Language Reference, "The return statement").
+pub(crate) fn emit_return(
+    b: &mut Emitter,
+    alloc: Global,
+    checked: &Checked,
+    locals: &[Var],
+    frame: Frame,
+    value: &Option<TExpr>,
+    line: usize,
+) -> Result<(), Memory>
+    requires suits { ReturnSuits (typed_module checked.now) (map variable locals.now) (Some (rtype_of (returned_type (maybe_typed value.now)))) (maybe_typed value.now) }
+    requires room { HasRoom (setting checked.now locals.now frame) b.old }
+    requires parameters { length locals.now ≤ frame.locals.params }
+    requires alone { frame.ret ≡ None }
+    ensures kept { Extends b.old b.new }
+    ensures works { OnOk result (Works (setting checked.now locals.now frame) (Some (rtype_of (returned_type (maybe_typed value.now)))) (means_return (setting checked.now locals.now frame) (maybe_typed value.now)) b.old b.new []) }
+    ensures shaped { Keeps b.old b.new }
+    ensures kinds { KeepsKindsIf (IsAround (typed_module checked.now) frame (Some (rtype_of (returned_type (maybe_typed value.now))))) b.old b.new }
+{
+    let r = emit_returned(b, alloc, checked, locals, frame, value, line)?;
+    b.close(Last::Return(r))?;
+    Ok(())
+}

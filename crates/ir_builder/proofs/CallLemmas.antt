@@ -1,0 +1,62 @@
+-- Calls do what functions do, for every number of turns.
+use Rattle.std.proofs.Common.{◌≡◌, ℕ, zero, suc, ◌≤◌, List, map, Some, None, refl, sym, ap, ◌∙◌, subst, arith}
+use Rattle.std.specs.Prelude.{slice_get}
+use Rattle.value_core.specs.Ending as ending
+use Rattle.value_core.specs.Value.{Value}
+use Rattle.py_typed.specs.State.{State, on_to, spend_from}
+use Rattle.py_typed.specs.SourceRun.{body_of, call_of, enter}
+use Rattle.py_typed.specs.Statements.{TypedFunc, TypedModule}
+use Rattle.ir_core.specs.declared.code.Func.{Func}
+use Rattle.ir_core.specs.declared.code.Op.TheVariants.{Turn}
+use Rattle.ir_core.specs.declared.code.Program.{Program}
+use Rattle.ir_core.specs.Items.{Do}
+use Rattle.ir_core.specs.Meaning.{Waiting, Ended, Strict, item_at, turned, step}
+use Rattle.ir_core.specs.Registers.{Holds, Regs, first_regs}
+use Rattle.ir_core.proofs.StepLemmas.{op_step, turn_step}
+use Rattle.ir_frames.specs.Coming.{world, running, Ends}
+use Rattle.ir_frames.specs.Matching.{HaveKinds, parameter_sorts, HasHead, CallGives, CallRaises, CallsWork}
+use Rattle.ir_frames.proofs.ComingLemmas.{leads_step, ends_from, ends_of}
+use Rattle.ir_builder.specs.Functions.{FunctionWorks}
+
+-- a function of the module has its code, which begins with a turn
+pub record IsThere (p : Program) (m : TypedModule) (g : ℕ) (f : TypedFunc) : Type 0 where
+  pub code : Func
+  pub at : slice_get p.funcs g ≡ Some code
+  pub head : HasHead code f
+  pub turn : item_at p g 0 0 ≡ Some (Do Turn)
+  pub works : FunctionWorks p m f g code
+
+module _ (p : Program) (m : TypedModule) (there : (g : ℕ) (f : TypedFunc) → slice_get m.funcs g ≡ Some f → IsThere p m g f) where
+  -- where no turn is left
+  cut : (g : ℕ) (regs : Regs) (below : List Waiting) (s : State) → item_at p g 0 0 ≡ Some (Do Turn) → s.turns ≡ 0 → step Strict p (running g 0 0 regs below (world None s)) ≡ Ended ending.Cut (world None s)
+  cut g regs below s turn none =
+      op_step Strict p (record { fn = g; block = 0; place = 0; regs = regs }) below (world None s) Turn turn
+      ∙ ap (turned (record { fn = g; block = 0; place = 0; regs = regs }) below (world None s)) none
+
+  -- a call with some turns left, where calls with fewer work
+  called : (n : ℕ) → ((k : ℕ) → n ≡ suc k → CallsWork p m k) → (g : ℕ) (f : TypedFunc) (h : Func) (args : List Value) (below : List Waiting) (s : State) (t : ℕ) → s.turns ≡ t → slice_get m.funcs g ≡ Some f → slice_get p.funcs g ≡ Some h → item_at p g 0 0 ≡ Some (Do Turn) → FunctionWorks p m f g h → HaveKinds (parameter_sorts f) args → s.turns ≤ n → Ends p s.turns (running g 0 0 (first_regs h.regs (map Holds args)) below (world None s)) (on_to (spend_from t s) (λ _. body_of m n g args)) (CallGives p f below s) (CallRaises g below s)
+  called n fewer g f h args below s zero left is at turn works kinds le =
+      (ending.Cut, refl, leads_step p _ _ (cut g (first_regs h.regs (map Holds args)) below s turn left))
+  called zero fewer g f h args below s (suc t) left is at turn works kinds le = absurd (omega (arith, left, le))
+  called (suc k) fewer g f h args below s (suc t) left is at turn works kinds le =
+      let less : State = record s { turns = t } in
+      let regs = first_regs h.regs (map Holds args) in
+      let few : t ≤ k = omega (arith, left, le) in
+      let run = works k (fewer k refl) args below less kinds few in
+      let same : enter m (call_of m k) k (slice_get m.funcs g) args less ≡ enter m (call_of m k) k (Some f) args less = ap (λ o. enter m (call_of m k) k o args less) is in
+      let go = leads_step p _ _ (turn_step Strict p (record { fn = g; block = 0; place = 0; regs = regs }) below (world None s) t turn refl left) in
+      ends_from p t s.turns _ (running g 0 1 regs below (world None less)) (enter m (call_of m k) k (slice_get m.funcs g) args less) (CallGives p f below s) (CallRaises g below s) (omega (arith, left)) go
+      (ends_of p t _ _ _ (CallGives p f below s) (CallRaises g below s) same run)
+
+  with_fewer : (n : ℕ) → ((k : ℕ) → n ≡ suc k → CallsWork p m k) → CallsWork p m n
+  with_fewer n fewer = record {
+    there = λ g f is. let t = there g f is in (t.code, t.at, t.head);
+    each = λ g f h args below s is at kinds le.
+        let t = there g f is in
+        let same : t.code ≡ h = (let both : Some t.code ≡ Some h = sym t.at ∙ at in cc) in
+        called n fewer g f h args below s s.turns refl is at t.turn (subst (λ z. FunctionWorks p m f g z) same t.works) kinds le;
+  }
+
+  pub calls_work : (n : ℕ) → CallsWork p m n
+  calls_work zero = with_fewer zero (λ k e. absurd (omega (arith, e)))
+  calls_work (suc n) = with_fewer (suc n) (λ k e. subst (CallsWork p m) (let q : n ≡ k = omega (arith, e) in q) (calls_work n))

@@ -1,0 +1,147 @@
+-- The ends that are still open are written.
+use Rattle.std.proofs.Common.{◌≡◌, ◌≢◌, ℕ, zero, suc, ◌+◌, ◌<◌, ◌≤◌, Bool, true, false, List, [], ◌∷◌, length, Some, None, refl, sym, ap, ◌∙◌, subst, arith, ⊎_elim}
+use Rattle.std.proofs.lemmas.Bool.{cases_lt}
+use Rattle.ir_core.specs.declared.code.Block.{Block}
+use Rattle.ir_core.specs.declared.code.Last.{Last}
+use Rattle.ir_core.specs.declared.code.Last.TheVariants.{Goto, If, IfError, Return, Unreachable}
+use Rattle.ir_core.specs.declared.code.Op.{Op}
+use Rattle.ir_core.specs.declared.code.Reg.{Reg}
+use Rattle.ir_core.specs.Items.{End, in_block}
+use Rattle.ir_core.specs.Building.{Building, with_last, held_in, held, is_unwritten, is_open_at}
+use Rattle.ir_core.specs.Meaning.{item_at}
+use Rattle.ir_frames.specs.Calling.{Closes, Open}
+use Rattle.ir_frames.proofs.PatchLemmas.{patches, ends_same}
+use Rattle.ir_builder.specs.Bodies.{Filled}
+
+hole_end : (os : List (Op × ℕ)) (l : Last) → is_unwritten l ≡ true → in_block os l (length os) ≡ Some (End Unreachable)
+hole_end [] (Goto t) e = absurd (cc)
+hole_end [] (If r a b) e = absurd (cc)
+hole_end [] (IfError r a b line) e = absurd (cc)
+hole_end [] (Return r) e = absurd (cc)
+hole_end [] Unreachable e = refl
+hole_end (o ∷ os) l e = hole_end os l e
+
+open_at : (bs : List Block) (os : List (Op × ℕ)) (k : ℕ) → is_open_at bs k ≡ true → (i : ℕ) × (held_in bs os k i ≡ Some (End Unreachable))
+open_at [] os k e = absurd (cc)
+open_at (b ∷ bs) os zero e = (length b.ops, hole_end b.ops b.last e)
+open_at (b ∷ bs) os (suc k) e = open_at bs os k e
+
+-- an open block's end is the unwritten one
+end_open : (os : List (Op × ℕ)) (l : Last) (i : ℕ) → in_block os l i ≡ Some (End Unreachable) → is_unwritten l ≡ true
+end_open [] l zero e = let f : Some (End l) ≡ Some (End Unreachable) = e in let g : l ≡ Unreachable = cc in ap is_unwritten g
+end_open [] l (suc i) e = let f : None ≡ Some (End Unreachable) = e in absurd (cc)
+end_open (o ∷ os) l zero e = absurd (cc)
+end_open (o ∷ os) l (suc i) e = end_open os l i e
+
+open_set : (bs : List Block) (k t : ℕ) → is_open_at (with_last bs k (Goto t)) k ≡ false
+open_set [] k t = refl
+open_set (b ∷ bs) zero t = refl
+open_set (b ∷ bs) (suc k) t = open_set bs k t
+
+open_other : (bs : List Block) (k j t : ℕ) → j ≢ k → is_open_at (with_last bs k (Goto t)) j ≡ is_open_at bs j
+open_other [] k j t ne = refl
+open_other (b ∷ bs) zero zero t ne = absurd (ne refl)
+open_other (b ∷ bs) zero (suc j) t ne = refl
+open_other (b ∷ bs) (suc k) zero t ne = refl
+open_other (b ∷ bs) (suc k) (suc j) t ne = open_other bs k j t (λ e. ne (ap suc e))
+
+pub open_past : (bs : List Block) (k : ℕ) → length bs ≤ k → is_open_at bs k ≡ false
+open_past [] k le = refl
+open_past (b ∷ bs) zero le = absurd (omega arith)
+open_past (b ∷ bs) (suc k) le = open_past bs k (omega arith)
+
+-- what is held as an unwritten end below the blocks is an open block
+held_open : (bs : List Block) (os : List (Op × ℕ)) (k i : ℕ) → k < length bs → held_in bs os k i ≡ Some (End Unreachable) → is_open_at bs k ≡ true
+held_open [] os k i lt e = absurd (omega arith)
+held_open (b ∷ bs) os zero i lt e = end_open b.ops b.last i e
+held_open (b ∷ bs) os (suc k) i lt e = held_open bs os k i (omega arith) e
+
+pub filled_none : (b : Building) (from to : ℕ) → Filled b b from from to
+filled_none b from to = record {
+  has = λ p fn h. h;
+  jumps = λ p fn k i h l u e. absurd (omega arith);
+  extends = λ a x l. x;
+  later = λ k i x l e. e;
+  none = λ k l u. absurd (omega arith);
+  same = λ k l. refl;
+  same_regs = refl;
+  blocks = refl;
+  ops = refl;
+}
+
+not_true : (x : Bool) → (x ≡ true → ⊥) → x ≡ false
+not_true true h = absurd (h refl)
+not_true false h = refl
+
+pub true_false : (x : Bool) → x ≡ true → x ≡ false → ⊥
+true_false x e f = let g : true ≡ false = sym e ∙ f in cc
+
+pub filled_past : (b c : Building) (from k to : ℕ) → is_open_at c.blocks k ≡ false → from ≤ k → k < length b.blocks → Filled b c from k to → Filled b c from (k + 1) to
+filled_past b c from k to shut le below f = record {
+  has = f.has;
+  jumps = λ p fn j i h l u e. ⊎_elim
+      (λ lt. f.jumps p fn j i h l lt e)
+      (λ ge.
+      let q : j ≡ k = omega arith in
+      let is : held b k i ≡ Some (End Unreachable) = subst (λ z. held b z i ≡ Some (End Unreachable)) q e in
+      absurd (true_false (is_open_at b.blocks k) (held_open b.blocks b.ops k i below is) (sym (f.same k (omega arith)) ∙ shut)))
+      (cases_lt j k);
+  extends = f.extends;
+  later = λ j i x l e. f.later j i x (omega arith) e;
+  none = λ j l u. ⊎_elim (λ lt. f.none j l lt) (λ ge. let q : j ≡ k = omega arith in ap (λ z. is_open_at c.blocks z) q ∙ shut) (cases_lt j k);
+  same = λ j l. f.same j (omega arith);
+  same_regs = f.same_regs;
+  blocks = f.blocks;
+  ops = f.ops;
+}
+
+pub filled_set : (b c d : Building) (from k to : ℕ) → is_open_at c.blocks k ≡ true → from ≤ k → Filled b c from k to → d ≡ record c { blocks = with_last c.blocks k (Goto to) } → Filled b d from (k + 1) to
+filled_set b c d from k to is_open le f e =
+    let o = open_at c.blocks c.ops k is_open in
+    let here : Open c k = record { place = o.0; is = o.1 } in
+    let p = patches c d k (Goto to) here (λ q. cc) e in
+    let same : d.blocks ≡ with_last c.blocks k (Goto to) = ap (λ (v : Building). v.blocks) e in
+    record {
+      has = λ q fn h. f.has q fn (p.has q fn h);
+      jumps = λ q fn j i h l u held_b. ⊎_elim
+          (λ lt. f.jumps q fn j i (p.has q fn h) l lt held_b)
+          (λ ge.
+          let s : j ≡ k = omega arith in
+          let at : held b k i ≡ Some (End Unreachable) = subst (λ z. held b z i ≡ Some (End Unreachable)) s held_b in
+          let code : item_at q fn k i ≡ Some (End (Goto to)) = p.code q fn i h (f.later k i (End Unreachable) (omega arith) at) in
+          subst (λ z. item_at q fn z i ≡ Some (End (Goto to))) (sym s) code)
+          (cases_lt j k);
+      extends = λ a x l. p.extends a (f.extends a x l) (omega arith);
+      later = λ j i x l held_b. p.others j i x (λ q. omega arith) (f.later j i x (omega arith) held_b);
+      none = λ j l u. ⊎_elim
+          (λ lt. ap (λ z. is_open_at z j) same ∙ open_other c.blocks k j to (λ q. omega arith) ∙ f.none j l lt)
+          (λ ge. let q : j ≡ k = omega arith in ap (λ z. is_open_at z j) same ∙ ap (λ z. is_open_at (with_last c.blocks k (Goto to)) z) q ∙ open_set c.blocks k to)
+          (cases_lt j k);
+      same = λ j l. ap (λ z. is_open_at z j) same ∙ open_other c.blocks k j to (λ q. omega arith) ∙ f.same j (omega arith);
+      same_regs = p.same_regs ∙ f.same_regs;
+      blocks = p.blocks ∙ f.blocks;
+      ops = ap (λ (v : Building). v.ops) e ∙ f.ops;
+    }
+
+pub filled_end : (b c : Building) (from k upto to : ℕ) → upto ≤ k → k ≤ upto → Filled b c from k to → Filled b c from upto to
+filled_end b c from k upto to l u f = subst (λ z. Filled b c from z to) (let q : k ≡ upto = omega arith in q) f
+
+-- the last block returns
+closed_last : (b c : Building) (r : Reg) → Closes b c (Return r) → (k : ℕ) → k ≡ length b.blocks → is_open_at c.blocks k ≡ false
+closed_last b c r q k is = not_true (is_open_at c.blocks k) (λ is_open.
+    let o = open_at c.blocks c.ops k is_open in
+    let at : held c k (length b.ops) ≡ Some (End (Return r)) = ap (λ z. held c z (length b.ops)) is ∙ q.at in
+    let both : Unreachable ≡ Return r = ends_same c.blocks c.ops k o.0 (length b.ops) Unreachable (Return r) o.1 at in cc)
+
+-- no end is open
+pub all_written : (b3 b4 b5 : Building) (r : Reg) (from to : ℕ) → Closes b3 b4 (Return r) → Filled b4 b5 from to to → to ≡ length b3.blocks → (k : ℕ) → from ≤ k → is_open_at b5.blocks k ≡ false
+all_written b3 b4 b5 r from to c f is k le =
+    let n4 = c.blocks in
+    let n5 = f.blocks in
+    ⊎_elim
+    (λ lt. f.none k le lt)
+    (λ ge. f.same k ge ∙ ⊎_elim
+    (λ lt2. closed_last b3 b4 r c k (let q : k ≡ length b3.blocks = omega arith in q))
+    (λ ge2. open_past b4.blocks k (omega arith))
+    (cases_lt k (to + 1)))
+    (cases_lt k to)

@@ -1,0 +1,330 @@
+-- The code of a whole function.
+use Rattle.std.proofs.Common.{◌≡◌, ℕ, zero, suc, ◌+◌, ◌-◌, ◌^◌, ◌<◌, ◌≤◌, true, false, List, [], ◌∷◌, ◌++◌, length, map, take, Option, Some, None, refl, sym, ap, ◌∙◌, subst, arith, append_assoc, length-append, ◌⊎◌, inl, inr, ⊎_elim}
+use Rattle.std.specs.Prelude.{slice_get, pos}
+use Rattle.std.specs.List.{list_all}
+use Rattle.std.specs.Option.{option_map}
+use Rattle.value_core.specs.Value.{BoolVal}
+use Rattle.value_core.specs.Ending.{Done}
+use Rattle.c_core.specs.WellFormed.{is_identifier, names_differ}
+use Rattle.py_typed.specs.Sorts as sort
+use Rattle.py_typed.specs.Sorts.{Sort}
+use Rattle.py_typed.specs.Fits.{is_nothing}
+use Rattle.py_typed.specs.State.{State}
+use Rattle.py_typed.specs.SourceRun.{call_of, top_of}
+use Rattle.py_typed.specs.Statements.{Variable, TypedFunc, TypedModule}
+use Rattle.py_typed.specs.StatementMeaning.{suite}
+use Rattle.py_typed.specs.WaysOut.{Flow, Goes, Breaks, Continues, Returns}
+use Rattle.ir_core.specs.declared.code.Func.{Func}
+use Rattle.ir_core.specs.declared.code.Lit.{Lit as Literal}
+use Rattle.ir_core.specs.declared.code.Lit.TheVariants.{Number}
+use Rattle.ir_core.specs.declared.code.Op.TheVariants.{Turn}
+use Rattle.ir_core.specs.declared.code.Program.{Program}
+use Rattle.ir_core.specs.declared.code.RType.{RType}
+use Rattle.ir_core.specs.declared.code.RType.TheVariants as rtype
+use Rattle.ir_core.specs.Building.{Building, held_in, held, Extends, is_open_at}
+use Rattle.ir_core.specs.Items.{Do, item_in, blocks_of}
+use Rattle.ir_core.specs.Meaning.{Config, Ended, declared_of}
+use Rattle.ir_core.specs.Registers.{Holds, literal_of, first_regs}
+use Rattle.ir_core.specs.Rows.{Declared, type_of_reg}
+use Rattle.ir_core.proofs.BuildingLemmas.{built_is_held}
+use Rattle.ir_frames.specs.declared.frame.Vars.{Vars}
+use Rattle.ir_frames.specs.Calling.{Pushes}
+use Rattle.ir_frames.specs.Coming.{world, Escapes}
+use Rattle.ir_frames.specs.Computing.{Meaning}
+use Rattle.ir_frames.specs.Kinds.{Head, head_of, Surrounding, is_plain, ArePlain, LiteralFits, OpKinds, OpsKinds, no_more, BlocksKinds, HasKinds, KeepsKinds, KeepsKindsIf, IsAmong}
+use Rattle.ir_frames.specs.Matching.{HasRoom, Matches, parameter_sorts, BeginWith}
+use Rattle.ir_frames.specs.Naming.{names_of}
+use Rattle.ir_frames.specs.Placing.{HasType, NoEdges, Has}
+use Rattle.ir_frames.specs.Settings.{Setting, rtype_of}
+use Rattle.ir_frames.specs.Shaped.{OpFits, OpsFit, AllFit, Shaped, KeepsIf}
+use Rattle.ir_frames.proofs.ComingLemmas.{ends_map}
+use Rattle.ir_frames.proofs.HeldLemmas.{extends_refl, extends_trans, get_below}
+use Rattle.ir_frames.proofs.KindLemmas.{get_behind}
+use Rattle.ir_expressions.specs.Compiled.{is_scalar}
+use Rattle.ir_bodies.specs.Modules.{variable_names, FunctionSuits, ModuleSuits}
+use Rattle.ir_bodies.specs.Kinds.{GivesResult, IsAround}
+use Rattle.ir_statements.specs.Means.{means_suite}
+use Rattle.ir_shapes.specs.Built.{building_of, IsBuilt}
+use Rattle.ir_builder.specs.Registers.{register_of, variable_registers, Begins, parameters_alone}
+use Rattle.ir_builder.specs.Bodies.{LeavesWith, Bodied, CompletesShape, BodyAround, BodyWorks, body_frame}
+use Rattle.ir_builder.specs.Functions.{end_literal, end_value, heads_of, IsFunctionOf, IsOwnOf}
+use Rattle.ir_builder.proofs.ArgumentLemmas.{sort_of, all_parameters, map_length, function_works}
+use Rattle.ir_builder.proofs.ClosedLemmas.{Avoids, is_end, suite_closed}
+use Rattle.ir_builder.proofs.EdgeLemmas.{no_edges}
+
+-- ---- lists
+
+get_front : {A : Type 0} (xs ys : List A) (j : ℕ) (d : A) → slice_get xs j ≡ Some d → slice_get (xs ++ ys) j ≡ Some d
+get_front [] ys j d e = let f : None ≡ Some d = e in absurd (cc)
+get_front (x ∷ xs) ys zero d e = e
+get_front (x ∷ xs) ys (suc j) d e = get_front xs ys j d e
+
+get_next : {A : Type 0} (xs ys : List A) (d : A) → slice_get (xs ++ d ∷ ys) (length xs) ≡ Some d
+get_next [] ys d = refl
+get_next (x ∷ xs) ys d = get_next xs ys d
+
+pub get_map : {A B : Type 0} (f : A → B) (xs : List A) (j : ℕ) (x : A) → slice_get xs j ≡ Some x → slice_get (map f xs) j ≡ Some (f x)
+get_map f [] j x e = let g : None ≡ Some x = e in absurd (cc)
+get_map f (y ∷ xs) zero x e = let g : Some y ≡ Some x = e in let same : y ≡ x = cc in ap (λ z. Some (f z)) same
+get_map f (y ∷ xs) (suc j) x e = get_map f xs j x e
+
+map_get : {A B : Type 0} (f : A → B) (xs : List A) (j : ℕ) (y : B) → slice_get (map f xs) j ≡ Some y → (x : A) × (slice_get xs j ≡ Some x) × (f x ≡ y)
+map_get f [] j y e = let g : None ≡ Some y = e in absurd (cc)
+map_get f (x ∷ xs) zero y e = (x, refl, let g : Some (f x) ≡ Some y = e in cc)
+map_get f (x ∷ xs) (suc j) y e = map_get f xs j y e
+
+map_map : {A B C : Type 0} (g : B → C) (f : A → B) (xs : List A) → map g (map f xs) ≡ map (λ x. g (f x)) xs
+map_map g f [] = refl
+map_map g f (x ∷ xs) = ap (λ l. g (f x) ∷ l) (map_map g f xs)
+
+take_front : {A : Type 0} (xs ys : List A) → take (length xs) (xs ++ ys) ≡ xs
+take_front [] ys = refl
+take_front (x ∷ xs) ys = ap (λ l. x ∷ l) (take_front xs ys)
+
+-- what is in the first list is in the second, at its place
+starts_with : (xs ys : Declared) → ((r : ℕ) (d : List ℕ × RType) → slice_get xs r ≡ Some d → slice_get ys r ≡ Some d) → (rest : Declared) × (ys ≡ xs ++ rest)
+starts_with [] ys h = (ys, refl)
+starts_with (x ∷ xs) [] h = let f : None ≡ Some x = h 0 x refl in absurd (cc)
+starts_with (x ∷ xs) (y ∷ ys) h =
+    let f : Some y ≡ Some x = h 0 x refl in
+    let same : y ≡ x = cc in
+    let more = starts_with xs ys (λ r d e. h (suc r) d e) in
+    (more.0, ap (λ z. z ∷ ys) same ∙ ap (λ l. x ∷ l) more.1)
+
+-- ---- registers
+
+pub names_are : (vs : List Variable) → names_of (variable_registers vs) ≡ variable_names vs
+names_are vs = map_map (λ d. d.0) register_of vs
+
+pub registers_differ : (vs : List Variable) (declared : Declared) → names_differ (variable_names vs) ≡ true → declared ≡ variable_registers vs → names_differ (names_of declared) ≡ true
+registers_differ vs declared e is = ap (λ ds. names_differ (names_of ds)) is ∙ ap names_differ (names_are vs) ∙ e
+
+begin_with : (vs : List Variable) (rest : Declared) → BeginWith (variable_registers vs ++ rest) (map sort_of vs)
+begin_with [] rest = tt
+begin_with (v ∷ vs) rest = (refl, begin_with vs rest)
+
+type_front : (vs : List Variable) (rest : Declared) (j : ℕ) (v : Variable) → slice_get vs j ≡ Some v → type_of_reg (variable_registers vs ++ rest) (record { 0 = j }) ≡ Some (rtype_of v.1)
+type_front vs rest j v e = ap (option_map (λ (d : List ℕ × RType). d.1)) (get_front (variable_registers vs) rest j (register_of v) (get_map register_of vs j v e))
+
+type_next : (vs : List Variable) (rest : Declared) (d : List ℕ × RType) (n : ℕ) → n ≡ length vs → type_of_reg (variable_registers vs ++ d ∷ rest) (record { 0 = n }) ≡ Some d.1
+type_next vs rest d n e =
+    let size : n ≡ length (variable_registers vs) = e ∙ sym (map_length register_of vs) in
+    ap (λ j. type_of_reg (variable_registers vs ++ d ∷ rest) (record { 0 = j })) size
+    ∙ ap (option_map (λ (x : List ℕ × RType). x.1)) (get_next (variable_registers vs) rest d)
+
+-- what a function begins with
+module _ (vs : List Variable) (b : Building) (variables : Declared) (is : variables ≡ variable_registers vs) (first : Begins variables b) (n : ℕ) (size : n ≡ length vs) where
+  pub begin_regs : b.regs ≡ variable_registers vs ++ (first.regs.name, rtype.Ref) ∷ []
+  begin_regs = first.regs.is ∙ ap (λ ds. ds ++ (first.regs.name, rtype.Ref) ∷ []) is
+
+  begin_size : length b.regs ≡ n + 1
+  begin_size = omega (arith, ap length begin_regs, length-append (variable_registers vs) ((first.regs.name, rtype.Ref) ∷ []), map_length register_of vs, size)
+
+  begin_text : HasType b n rtype.Ref
+  begin_text = ap (λ ds. type_of_reg ds (record { 0 = n })) begin_regs ∙ type_next vs [] (first.regs.name, rtype.Ref) n size
+
+  pub begin_room : (m : TypedModule) (vars : Vars) → vars ≡ parameters_alone n → HasRoom (record { source = m; variables = vs; frame = body_frame vars }) b
+  begin_room m vars e =
+      let P : Vars → Type 0 = λ z. HasRoom (record { source = m; variables = vs; frame = body_frame z }) b in
+      subst P (sym e) record {
+        count = size;
+        flags = omega arith;
+        text = omega arith;
+        top = omega (arith, begin_size);
+        declared = λ j v at. ap (λ ds. type_of_reg ds (record { 0 = j })) begin_regs ∙ type_front vs ((first.regs.name, rtype.Ref) ∷ []) j v at;
+        flagged = λ j from to. absurd (omega arith);
+        printed = begin_text;
+        back = tt;
+      }
+
+  pub begin_kinds : (heads : List Head) (ret : RType) → HasKinds (record { heads = heads; variables = n; text = n; ret = ret }) b
+  begin_kinds heads ret =
+      let g : Surrounding = record { heads = heads; variables = n; text = n; ret = ret } in
+      record {
+        text = begin_text;
+        variables = omega (arith, begin_size);
+        named = λ i d le e.
+            let at : slice_get (variable_registers vs ++ (first.regs.name, rtype.Ref) ∷ []) i ≡ Some d = ap (λ ds. slice_get ds i) (sym begin_regs) ∙ e in
+            ⊎_elim
+            (λ there. absurd (let lt = get_below (variable_registers vs) i d there in omega (arith, map_length register_of vs, size, lt, le)))
+            (λ new. (first.regs.number, ap (λ (x : List ℕ × RType). x.0) new ∙ first.regs.temporary))
+            (get_behind (variable_registers vs) (first.regs.name, rtype.Ref) d i at);
+        blocks = subst (λ bs. BlocksKinds g b.regs bs) (sym first.blocks) tt;
+        ops = subst (λ os. OpsKinds g b.regs os) (sym first.ops) no_more;
+      }
+
+  pub begin_shaped : (low high : ℕ) → Shaped low high b
+  begin_shaped low high = (subst (λ bs. AllFit low high 0 bs) (sym first.blocks) tt, subst (λ os. OpsFit low os) (sym first.ops) tt)
+
+-- ---- what a function is built among
+
+plain_sort : (t : Sort) → is_scalar t ≡ true → is_plain (rtype_of t) ≡ true
+plain_sort sort.I64 e = refl
+plain_sort sort.Bool e = refl
+plain_sort _ e = absurd (cc)
+
+all_plain : (vs : List Variable) → ((i : ℕ) (v : Variable) → slice_get vs i ≡ Some v → is_scalar v.1 ≡ true) → ArePlain (map rtype_of (map sort_of vs))
+all_plain [] h = tt
+all_plain (v ∷ vs) h = (plain_sort v.1 (h 0 v refl), all_plain vs (λ i u e. h (suc i) u e))
+
+pub among : (m : TypedModule) → ModuleSuits m → (g : Surrounding) → g.heads ≡ heads_of m → IsAmong m g
+among m suits g is = record {
+  heads = λ n f e. ap (λ hs. slice_get hs n) is ∙ get_map head_of m.funcs n f e;
+  plain = λ n h e.
+      let k = map_get head_of m.funcs n h (ap (λ hs. slice_get hs n) (sym is) ∙ e) in
+      let f = suits.functions n k.0 k.1 in
+      let sorts : parameter_sorts k.0 ≡ map sort_of k.0.locals = all_parameters k.0 f.parameters in
+      let P : Head → Type 0 = λ z. ArePlain z.params in
+      subst P k.2 (subst (λ ts. ArePlain (map rtype_of ts)) (sym sorts) (all_plain k.0.locals f.scalars));
+}
+
+-- ---- the code of a function
+
+pub has_all : (p : Program) (fn : ℕ) (b : Building) (h : Func) → slice_get p.funcs fn ≡ Some h → h.blocks ≡ b.blocks → h.regs ≡ b.regs → b.ops ≡ [] → NoEdges p fn → Has p fn b
+has_all p fn b h there blocks regs none edges = record {
+  items = λ k i x ne e. ap (λ o. item_in (blocks_of o) k i) there ∙ ap (λ bs. item_in bs k i) blocks ∙ sym (built_is_held b.blocks k i) ∙ sym (ap (λ os. held_in b.blocks os k i) none) ∙ e;
+  regs = λ r d e. ap (λ o. slice_get (declared_of o) r) there ∙ ap (λ ds. slice_get ds r) regs ∙ e;
+  edges = edges;
+}
+
+-- all that is asked of its blocks and registers
+pub is_built : (vs : List Variable) (rest : Declared) (g : Surrounding) (b : Building) (h : Func) (low high : ℕ) → g.variables ≡ length vs → list_all is_identifier (variable_names vs) ≡ true → b.regs ≡ variable_registers vs ++ rest → HasKinds g b → b.ops ≡ [] → length b.blocks ≡ suc high → Shaped low high b → ((k : ℕ) → is_open_at b.blocks k ≡ false) → length b.blocks < 2 ^ 64 → names_differ (names_of b.regs) ≡ true → h.params ≤ g.variables → h.ret ≡ g.ret → h.regs ≡ b.regs → h.blocks ≡ b.blocks → IsBuilt g.heads h
+is_built vs rest g b h low high size names regs kinds none highest shaped written few differ params ret same_regs same_blocks =
+    let front : take g.variables h.regs ≡ variable_registers vs = ap (λ n. take n h.regs) (size ∙ sym (map_length register_of vs)) ∙ ap (take (length (variable_registers vs))) (same_regs ∙ regs) ∙ take_front (variable_registers vs) rest in
+    let P : Building → Type 0 = λ z. HasKinds g z in
+    let whole : HasKinds g (building_of h) = record {
+      text = ap (λ ds. type_of_reg ds (record { 0 = g.text })) same_regs ∙ kinds.text;
+      variables = omega (arith, ap length same_regs, kinds.variables);
+      named = λ i d le e. kinds.named i d le (ap (λ ds. slice_get ds i) (sym same_regs) ∙ e);
+      blocks = subst (λ ds. BlocksKinds g ds h.blocks) (sym same_regs) (subst (λ bs. BlocksKinds g b.regs bs) (sym same_blocks) kinds.blocks);
+      ops = no_more;
+    } in
+    record {
+      among = g;
+      heads_are = refl;
+      ret = ret;
+      params = params;
+      kinds = whole;
+      low = low;
+      highest = high;
+      blocks = ap length same_blocks ∙ highest;
+      fits = subst (λ bs. AllFit low high 0 bs) (sym same_blocks) shaped.0;
+      written = λ k. ap (λ bs. is_open_at bs k) same_blocks ∙ written k;
+      few = subst (λ bs. length bs < 2 ^ 64) (sym same_blocks) few;
+      differ = ap (λ ds. names_differ (names_of ds)) same_regs ∙ differ;
+      identifiers = ap (λ ds. list_all is_identifier (names_of ds)) front ∙ ap (list_all is_identifier) (names_are vs) ∙ names;
+    }
+
+-- ---- a function that was built
+
+literal_fits : (t : RType) → LiteralFits t (end_literal t)
+literal_fits rtype.Int = (refl, refl)
+literal_fits rtype.I64 = (refl, refl)
+literal_fits rtype.Bool = (refl, refl)
+literal_fits rtype.Ref = refl
+
+literal_value : (t : RType) → literal_of t (end_literal t) ≡ Some (Holds (end_value t))
+literal_value rtype.Int = refl
+literal_value rtype.I64 = refl
+literal_value rtype.Bool = refl
+literal_value rtype.Ref = refl
+
+abbrev body_setting : TypedModule → List Variable → Vars → Setting
+body_setting m vs vars = record { source = m; variables = vs; frame = body_frame vars }
+
+-- what is known of a function whose code was ended
+pub record IsMade (m : TypedModule) (vs : List Variable) (b : Building) (h : Func) : Type 0 where
+  pub rest : Declared
+  pub regs : h.regs ≡ variable_registers vs ++ rest
+  pub built : IsBuilt (heads_of m) h
+  pub has : (p : Program) (fn : ℕ) → slice_get p.funcs fn ≡ Some h → Has p fn b
+
+pub is_made : (m : TypedModule) (vs : List Variable) (variables : Declared) (count : ℕ) (vars : Vars) (gives : Option RType) (t : RType) (last : Literal) (M : Meaning Flow) (b0 b1 b2 : Building) (h : Func) → ModuleSuits m → list_all is_identifier (variable_names vs) ≡ true → variables ≡ variable_registers vs → count ≡ length vs → vars ≡ parameters_alone count → ((g : Surrounding) → g.ret ≡ t → GivesResult gives g) → LiteralFits t last → Begins variables b0 → Extends b0 b1 → length b1.blocks ≡ 0 → ((low high : ℕ) → Shaped low high b0 → Shaped low high b1) → KeepsKinds b0 b1 → Bodied (body_setting m vs vars) gives t last M b1 b2 → CompletesShape b1 b2 → KeepsKindsIf (BodyAround m vars gives t last) b1 b2 → length b2.blocks < 2 ^ 64 → names_differ (names_of b2.regs) ≡ true → h.regs ≡ b2.regs → h.blocks ≡ b2.blocks → h.ret ≡ t → h.params ≤ count → IsMade m vs b2 h
+is_made m vs variables count vars gives t last M b0 b1 b2 h suits names are size vars_are gives_it fits first x01 start shaped01 kinds01 bodied shape kinds12 few differ regs blocks ret params =
+    let text : List ℕ × RType = (first.regs.name, rtype.Ref) in
+    let more = starts_with b0.regs b2.regs (extends_trans b0 b1 b2 x01 bodied.extends).regs in
+    let behind : b2.regs ≡ variable_registers vs ++ (text ∷ more.0) = more.1 ∙ ap (λ ds. ds ++ more.0) (begin_regs vs b0 variables are first count size) ∙ append_assoc (variable_registers vs) (text ∷ []) more.0 in
+    let g : Surrounding = record { heads = heads_of m; variables = count; text = count; ret = t } in
+    let around : IsAround m (body_frame vars) gives g = record { among = among m suits g refl; text = sym (ap (λ (z : Vars). z.text) vars_are); ret = gives_it g refl } in
+    let kinds : HasKinds g b2 = kinds12 g record { around = around; ret = refl; fits = fits } (kinds01 g (begin_kinds vs b0 variables are first count size (heads_of m) t)) in
+    let high : ℕ = length b2.blocks - 1 in
+    let grown = bodied.more in
+    let highest : length b2.blocks ≡ suc high = omega arith in
+    let shaped : Shaped 0 high b2 = shape 0 high (omega arith) highest (shaped01 0 high (begin_shaped vs b0 variables are first count size 0 high)) in
+    record {
+      rest = text ∷ more.0;
+      regs = regs ∙ behind;
+      built = is_built vs (text ∷ more.0) g b2 h 0 high size names behind kinds bodied.ops highest shaped (λ k. bodied.full k (omega (arith, start))) few differ params ret regs blocks;
+      has = λ p fn there. has_all p fn b2 h there blocks regs bodied.ops (no_edges p fn h 0 high there (subst (λ bs. AllFit 0 high 0 bs) (sym blocks) shaped.0));
+    }
+
+-- a function of the module
+pub function_is : (m : TypedModule) (suits : ModuleSuits m) (f : TypedFunc) (fits : FunctionSuits m f) (variables : Declared) (count params : ℕ) (vars : Vars) (ret : RType) (last : Literal) (b0 b1 b2 : Building) (name : List ℕ) (h0 h : Func) → variables ≡ variable_registers f.locals → count ≡ length f.locals → vars ≡ parameters_alone count → ret ≡ rtype_of f.ret → last ≡ end_literal ret → Begins variables b0 → Pushes b0 b1 Turn → KeepsIf (λ low high. OpFits low Turn) b0 b1 → KeepsKindsIf (λ g. OpKinds g b0.regs Turn) b0 b1 → Bodied (body_setting m f.locals vars) (Some ret) ret last (means_suite (body_setting m f.locals vars) f.body) b1 b2 → CompletesShape b1 b2 → KeepsKindsIf (BodyAround m vars (Some ret) ret last) b1 b2 → length b2.blocks < 2 ^ 64 → names_differ (names_of b2.regs) ≡ true → params ≡ f.params → h0 ≡ record { name = b2.name; params = params; regs = b2.regs; ret = ret; blocks = b2.blocks } → name ≡ f.name → h ≡ record h0 { name = name } → IsFunctionOf m f h
+function_is m suits f fits variables count params vars ret last b0 b1 b2 name h0 h are size vars_are ret_is last_is first turn shaped01 kinds01 bodied shape kinds12 few differ params_are is0 name_is is =
+    let none : length b1.blocks ≡ 0 = turn.blocks ∙ ap length first.blocks in
+    let one : length b1.ops ≡ 1 = turn.ops ∙ ap (λ os. length os + 1) first.ops in
+    let h_regs : h.regs ≡ b2.regs = ap (λ (z : Func). z.regs) is ∙ ap (λ (z : Func). z.regs) is0 in
+    let h_blocks : h.blocks ≡ b2.blocks = ap (λ (z : Func). z.blocks) is ∙ ap (λ (z : Func). z.blocks) is0 in
+    let h_ret : h.ret ≡ ret = ap (λ (z : Func). z.ret) is ∙ ap (λ (z : Func). z.ret) is0 in
+    let h_params : h.params ≡ f.params = ap (λ (z : Func). z.params) is ∙ ap (λ (z : Func). z.params) is0 ∙ params_are in
+    let h_name : h.name ≡ f.name = ap (λ (z : Func). z.name) is ∙ name_is in
+    let literal : LiteralFits ret last = subst (LiteralFits ret) (sym last_is) (literal_fits ret) in
+    let few_params : h.params ≤ count = omega (arith, h_params, size, fits.parameters) in
+    let made = is_made m f.locals variables count vars (Some ret) ret last (means_suite (body_setting m f.locals vars) f.body) b0 b1 b2 h suits fits.identifiers are size vars_are (λ g e. e) literal first turn.extends none (λ low high s. shaped01 low high (tt, refl) s) (λ g k. kinds01 g tt k) bodied shape kinds12 few differ h_regs h_blocks h_ret few_params in
+    let item : held b2 0 0 ≡ Some (Do Turn) =
+    ap (λ k. held b2 k 0) (sym (ap length first.blocks)) ∙ ap (λ i. held b2 (length b0.blocks) i) (sym (ap length first.ops)) ∙ bodied.extends.items (length b0.blocks) (length b0.ops) (Do Turn) turn.at in
+    let sorts = all_parameters f fits.parameters in
+    record {
+      name = h_name;
+      head = record {
+        params = h_params ∙ sym fits.parameters ∙ sym (map_length sort_of f.locals) ∙ sym (ap length sorts);
+        regs = subst (λ ts. BeginWith h.regs ts) (sym sorts) (subst (λ ds. BeginWith ds (map sort_of f.locals)) (sym made.regs) (begin_with f.locals made.rest));
+        ret = h_ret ∙ ret_is;
+      };
+      built = record {
+        built = made.built;
+        turn = ap (λ bs. item_in bs 0 0) h_blocks ∙ sym (built_is_held b2.blocks 0 0) ∙ sym (ap (λ os. held_in b2.blocks os 0 0) bodied.ops) ∙ item;
+        name = ap is_identifier h_name ∙ fits.name;
+      };
+      works = λ p fn there.
+          let has = made.has p fn there in
+          let value : literal_of ret last ≡ Some (Holds (end_value ret)) = ap (literal_of ret) last_is ∙ literal_value ret in
+          let body = bodied.works p fn h (end_value ret) has there value in
+          let B : RType → ℕ → ℕ → Type 0 = λ r k i. BodyWorks p (body_setting m f.locals vars) (Some r) (end_value r) (means_suite (body_setting m f.locals vars) f.body) fn k i in
+          let placed : B (rtype_of f.ret) 0 1 = subst (λ r. B r 0 1) ret_is (subst (λ i. B ret 0 i) one (subst (λ k. B ret k (length b1.ops)) none body)) in
+          let no_end : (n : ℕ) (s : State) → (is_nothing f.ret ≡ true) ⊎ Avoids is_end (suite m.classes.classes (call_of m n) m.globals f.locals n f.body s) = λ n s. ⊎_elim (λ e. inl e) (λ closed. inr (suite_closed m.classes.classes (call_of m n) m.globals f.locals n m f.locals (Some (rtype_of f.ret)) false f.body fits.body closed s)) fits.ends in
+          function_works p m f fn h vars made.rest fits.parameters fits.result no_end (vars_are ∙ ap parameters_alone size) made.regs placed;
+    }
+
+-- ---- the module's own statements
+
+own_flow : (p : Program) (g : Flow) (s : State) (d : Config) → LeavesWith p None (BoolVal true) [] g s d → (g ≡ Goes) × (d ≡ Ended Done (world None s))
+own_flow p Goes s d h = (refl, h)
+own_flow p Breaks s d h = absurd h
+own_flow p Continues s d h = absurd h
+own_flow p (Returns v) s d h = absurd h.0
+
+pub own_is : (m : TypedModule) (suits : ModuleSuits m) (variables : Declared) (count params : ℕ) (vars : Vars) (b0 b2 : Building) (h : Func) → variables ≡ [] → count ≡ 0 → vars ≡ parameters_alone count → Begins variables b0 → Bodied (body_setting m [] vars) None rtype.Bool (Number (pos 1)) (means_suite (body_setting m [] vars) m.top) b0 b2 → CompletesShape b0 b2 → KeepsKindsIf (BodyAround m vars None rtype.Bool (Number (pos 1))) b0 b2 → length b2.blocks < 2 ^ 64 → names_differ (names_of b2.regs) ≡ true → params ≡ 0 → h ≡ record { name = b2.name; params = params; regs = b2.regs; ret = rtype.Bool; blocks = b2.blocks } → IsOwnOf m h
+own_is m suits variables count params vars b0 b2 h are size vars_are first bodied shape kinds12 few differ params_are is =
+    let none : length b0.blocks ≡ 0 = ap length first.blocks in
+    let start : length b0.ops ≡ 0 = ap length first.ops in
+    let h_regs : h.regs ≡ b2.regs = ap (λ (z : Func). z.regs) is in
+    let h_blocks : h.blocks ≡ b2.blocks = ap (λ (z : Func). z.blocks) is in
+    let h_ret : h.ret ≡ rtype.Bool = ap (λ (z : Func). z.ret) is in
+    let h_params : h.params ≡ 0 = ap (λ (z : Func). z.params) is ∙ params_are in
+    let few_params : h.params ≤ count = omega (arith, h_params) in
+    let made = is_made m [] variables count vars None rtype.Bool (Number (pos 1)) (means_suite (body_setting m [] vars) m.top) b0 b0 b2 h suits refl are size vars_are (λ g e. tt) (refl, refl) first (extends_refl b0) none (λ low high s. s) (λ g k. k) bodied shape kinds12 few differ h_regs h_blocks h_ret few_params in
+    record {
+      built = record {
+        built = made.built;
+        params = h_params;
+        ret = h_ret;
+      };
+      works = λ p fn there n calls s le.
+          let has = made.has p fn there in
+          let body = bodied.works p fn h (BoolVal true) has there refl in
+          let B : ℕ → ℕ → Type 0 = λ k i. BodyWorks p (body_setting m [] vars) None (BoolVal true) (means_suite (body_setting m [] vars) m.top) fn k i in
+          let placed : B 0 0 = subst (λ i. B 0 i) start (subst (λ k. B k (length b0.ops)) none body) in
+          let match : Matches (body_setting m [] vars) (first_regs h.regs []) s.locals = record { each = λ j v at. let f : None ≡ Some v = at in absurd (cc) } in
+          ends_map p s.turns _ (top_of m n s) (LeavesWith p None (BoolVal true) []) _ (Escapes fn []) (Escapes fn []) (λ g u d z. own_flow p g u d z) (λ v u d z. z) (placed n calls (first_regs h.regs []) [] s match le);
+    }

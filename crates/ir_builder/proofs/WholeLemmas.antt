@@ -1,0 +1,192 @@
+-- A whole program does what its module does, is calm, and is built as a program is.
+use Rattle.std.proofs.Common.{◌≡◌, ◌≢◌, ℕ, zero, suc, ◌+◌, ◌-◌, ◌<◌, ◌≤◌, List, [], ◌∷◌, ◌++◌, length, map, take, get_or, Some, None, refl, sym, ap, ◌∙◌, subst, arith, le_refl, add-one, length-append}
+use Rattle.std.specs.Prelude.{slice_get, replicate}
+use Rattle.std.specs.List.{list_all}
+use Rattle.std.proofs.Math.Seq.{take-suc}
+use Rattle.value_core.specs.Ending.{Ending, Done, Raised}
+use Rattle.value_core.specs.Items.{Items}
+use Rattle.c_core.specs.WellFormed.{is_identifier, names_differ}
+use Rattle.py_typed.specs.Sorts.{Sort}
+use Rattle.py_typed.specs.State.{Outcome, Gives, Raises, Stops}
+use Rattle.py_typed.specs.SourceRun.{start, top_of, stopped, raised_as, stop_of, source_run}
+use Rattle.py_typed.specs.Statements.{TypedFunc, TypedModule, typed_func, typed_module}
+use Rattle.py_typed.specs.declared.checked.Checked.{Checked}
+use Rattle.py_typed.specs.declared.checked.TFunc.{TFunc}
+use Rattle.py_typed.specs.WaysOut.{Flow, Goes, Breaks, Continues, Returns}
+use Rattle.ir_core.specs.declared.code.Func.{Func}
+use Rattle.ir_core.specs.declared.code.Program.{Program}
+use Rattle.ir_core.specs.declared.code.RType.{RType}
+use Rattle.ir_core.specs.declared.code.RType.TheVariants.{Bool}
+use Rattle.ir_core.specs.Items.{item_in, blocks_of}
+use Rattle.ir_core.specs.Effects.{World}
+use Rattle.ir_core.specs.Meaning.{Config, Leaves, Ended, Stuck, Strict, if_some, leave, step, steps}
+use Rattle.ir_core.specs.Registers.{error_of, first_regs}
+use Rattle.ir_core.specs.Rows.{Declared}
+use Rattle.ir_core.specs.Runs as run
+use Rattle.ir_core.specs.Runs.{first_world, begins, Calm}
+use Rattle.ir_core.proofs.ModeLemmas.{unstuck_is_plain}
+use Rattle.ir_core.proofs.RunLemmas.{ended_is_calm}
+use Rattle.ir_frames.specs.Coming.{world, running, Escapes, Leads, Ends}
+use Rattle.ir_frames.specs.Kinds.{Head, head_of}
+use Rattle.ir_frames.specs.Matching.{parameter_sorts, BeginWith, HasHead}
+use Rattle.ir_frames.specs.Naming.{names_of}
+use Rattle.ir_frames.specs.Settings.{rtype_of}
+use Rattle.ir_frames.proofs.ComingLemmas.{leads_as, leads_step, leads_trans}
+use Rattle.ir_bodies.specs.Modules.{FunctionSuits, ModuleSuits}
+use Rattle.ir_shapes.specs.Built.{head_of_code, IsFunction, IsOwn, IsProgram}
+use Rattle.ir_statements.proofs.EmitLemmas.{map_last}
+use Rattle.ir_builder.specs.Functions.{heads_of, IsFunctionOf, AllBuilt, IsBuiltOf}
+use Rattle.ir_builder.specs.Meaning.{module_stop, DoesAsModule}
+use Rattle.ir_builder.specs.Registers.{register_of}
+use Rattle.ir_builder.proofs.CallLemmas.{IsThere, calls_work}
+use Rattle.ir_builder.proofs.ArgumentLemmas.{map_length}
+use Rattle.ir_builder.proofs.FunctionLemmas.{get_map, names_are}
+use Rattle.ir_builder.proofs.RegisterLemmas.{take_past}
+
+-- ---- functions in order
+
+module _ (m : TypedModule) where
+  built_at : (fs : List TypedFunc) (hs : List Func) (own : Func) (i : ℕ) (f : TypedFunc) → AllBuilt m fs hs → slice_get fs i ≡ Some f → (h : Func) × (slice_get (hs ++ own ∷ []) i ≡ Some h) × IsFunctionOf m f h
+  built_at [] [] own i f all e = let g : None ≡ Some f = e in absurd (cc)
+  built_at [] (h ∷ hs) own i f all e = absurd all
+  built_at (x ∷ fs) [] own i f all e = absurd all
+  built_at (x ∷ fs) (h ∷ hs) own zero f all e = (h, refl, let g : Some x ≡ Some f = e in let same : x ≡ f = cc in subst (λ z. IsFunctionOf m z h) same all.0)
+  built_at (x ∷ fs) (h ∷ hs) own (suc i) f all e = built_at fs hs own i f all.1 e
+
+  code_at : (fs : List TypedFunc) (hs : List Func) (i : ℕ) (h : Func) → AllBuilt m fs hs → slice_get hs i ≡ Some h → (f : TypedFunc) × IsFunctionOf m f h
+  code_at [] [] i h all e = let g : None ≡ Some h = e in absurd (cc)
+  code_at [] (x ∷ hs) i h all e = absurd all
+  code_at (f ∷ fs) [] i h all e = absurd all
+  code_at (f ∷ fs) (x ∷ hs) zero h all e = (f, let g : Some x ≡ Some h = e in let same : x ≡ h = cc in subst (λ z. IsFunctionOf m f z) same all.0)
+  code_at (f ∷ fs) (x ∷ hs) (suc i) h all e = code_at fs hs i h all.1 e
+
+  built_last : (fs : List TypedFunc) (hs : List Func) (f : TypedFunc) (h : Func) → AllBuilt m fs hs → IsFunctionOf m f h → AllBuilt m (fs ++ f ∷ []) (hs ++ h ∷ [])
+  built_last [] [] f h all one = (one, tt)
+  built_last [] (x ∷ hs) f h all one = absurd all
+  built_last (g ∷ fs) [] f h all one = absurd all
+  built_last (g ∷ fs) (x ∷ hs) f h all one = (all.0, built_last fs hs f h all.1 one)
+
+  begin_params : (ds : Declared) (ts : List Sort) → BeginWith ds ts → map (λ (d : List ℕ × RType). d.1) (take (length ts) ds) ≡ map rtype_of ts
+  begin_params ds [] b = refl
+  begin_params [] (t ∷ ts) b = absurd b
+  begin_params (d ∷ ds) (t ∷ ts) b = ap (λ u. u ∷ map (λ (x : List ℕ × RType). x.1) (take (length ts) ds)) b.0 ∙ ap (λ l. rtype_of t ∷ l) (begin_params ds ts b.1)
+
+  head_same : (f : TypedFunc) (h : Func) → HasHead h f → head_of_code h ≡ head_of f
+  head_same f h e =
+      let params : map (λ (d : List ℕ × RType). d.1) (take h.params h.regs) ≡ map rtype_of (parameter_sorts f) = ap (λ n. map (λ (d : List ℕ × RType). d.1) (take n h.regs)) e.params ∙ begin_params h.regs (parameter_sorts f) e.regs in
+      let P : List RType → Head = λ ps. record { params = ps; ret = h.ret } in
+      let Q : RType → Head = λ t. record { params = map rtype_of (parameter_sorts f); ret = t } in
+      ap P params ∙ ap Q e.ret
+
+  heads_same : (fs : List TypedFunc) (hs : List Func) → AllBuilt m fs hs → map head_of_code hs ≡ map head_of fs
+  heads_same [] [] all = refl
+  heads_same [] (h ∷ hs) all = absurd all
+  heads_same (f ∷ fs) [] all = absurd all
+  heads_same (f ∷ fs) (h ∷ hs) all = ap (λ x. x ∷ map head_of_code hs) (head_same f h all.0.head) ∙ ap (λ l. head_of f ∷ l) (heads_same fs hs all.1)
+
+  names_same : (fs : List TypedFunc) (hs : List Func) → AllBuilt m fs hs → map (λ (h : Func). h.name) hs ≡ map (λ (f : TypedFunc). f.name) fs
+  names_same [] [] all = refl
+  names_same [] (h ∷ hs) all = absurd all
+  names_same (f ∷ fs) [] all = absurd all
+  names_same (f ∷ fs) (h ∷ hs) all = ap (λ x. x ∷ map (λ (z : Func). z.name) hs) all.0.name ∙ ap (λ l. f.name ∷ l) (names_same fs hs all.1)
+
+last_at : (hs : List Func) (own : Func) → slice_get (hs ++ own ∷ []) (length hs) ≡ Some own
+last_at [] own = refl
+last_at (h ∷ hs) own = last_at hs own
+
+-- ---- the loop over functions
+
+get_at : {A : Type 0} (xs : List A) (i : ℕ) (x : A) → i < length xs → x ≡ get_or xs i x → slice_get xs i ≡ Some x
+get_at [] i x lt e = absurd (omega arith)
+get_at (y ∷ xs) zero x lt e = ap Some (sym e)
+get_at (y ∷ xs) (suc i) x lt e = get_at xs i x (omega arith) e
+
+pub suits_at : (c : Checked) (xs : List TFunc) (i : ℕ) (f : TFunc) → ModuleSuits (typed_module c) → xs ≡ c.funcs → i < length xs → f ≡ get_or xs i f → FunctionSuits (typed_module c) (typed_func f)
+suits_at c xs i f suits same lt is =
+    suits.functions i (typed_func f) (ap (λ l. slice_get (map typed_func l) i) (sym same) ∙ get_map typed_func xs i f (get_at xs i f lt is))
+
+pub built_next : (m : TypedModule) (xs : List TFunc) (i : ℕ) (f : TFunc) (hs hs' : List Func) (h : Func) → i < length xs → f ≡ get_or xs i f → AllBuilt m (map typed_func (take i xs)) hs → IsFunctionOf m (typed_func f) h → hs' ≡ hs ++ h ∷ [] → AllBuilt m (map typed_func (take (i + 1) xs)) hs'
+built_next m xs i f hs hs' h lt is all one e =
+    let row : take (i + 1) xs ≡ take i xs ++ f ∷ [] = rw (add-one, take-suc xs i f lt, ← is) refl in
+    let fs : map typed_func (take (i + 1) xs) ≡ map typed_func (take i xs) ++ typed_func f ∷ [] = ap (map typed_func) row ∙ map_last typed_func (take i xs) f in
+    subst (λ l. AllBuilt m l hs') (sym fs) (subst (λ l. AllBuilt m (map typed_func (take i xs) ++ typed_func f ∷ []) l) (sym e) (built_last m (map typed_func (take i xs)) hs (typed_func f) h all one))
+
+pub built_all : (m : TypedModule) (c : Checked) (xs : List TFunc) (i : ℕ) (hs : List Func) → xs ≡ c.funcs → length xs ≤ i → AllBuilt m (map typed_func (take i xs)) hs → AllBuilt m (typed_module c).funcs hs
+built_all m c xs i hs same le all = subst (λ l. AllBuilt m (map typed_func l) hs) (take_past xs i le ∙ same) all
+
+-- ---- runs
+
+module _ (m : TypedModule) (p : Program) (b : IsBuiltOf m p) where
+  there : (g : ℕ) (f : TypedFunc) → slice_get m.funcs g ≡ Some f → IsThere p m g f
+  there g f e =
+      let k = built_at m m.funcs b.functions b.own g f b.each e in
+      let at : slice_get p.funcs g ≡ Some k.0 = ap (λ fs. slice_get fs g) b.are ∙ k.1 in
+      record { code = k.0; at = at; head = k.2.head; turn = ap (λ o. item_in (blocks_of o) 0 0) at ∙ k.2.built.turn; works = k.2.works p g at }
+
+  own_at : slice_get p.funcs (length b.functions) ≡ Some b.own
+  own_at = ap (λ fs. slice_get fs (length b.functions)) b.are ∙ last_at b.functions b.own
+
+  -- an exception that leaves the module's own code
+  leaves : (w : World) → step Strict p (Leaves (length b.functions) [] w) ≡ leave Strict p Bool (error_of Bool) [] w
+  leaves w =
+      ap (λ o. if_some o (λ g. leave Strict p g.ret (error_of g.ret) [] w)) own_at
+      ∙ ap (λ t. leave Strict p t (error_of t) [] w) b.own_built.built.ret
+
+  -- where the module's own code comes to, and where the module stops
+  finished : (t : ℕ) (c : Config) (res : Outcome Flow) → Ends p t c res (λ g u d. (g ≡ Goes) × (d ≡ Ended Done (world None u))) (Escapes (length b.functions) []) → (e : Ending) × (w : World) × Leads p c (Ended e w) × (stop_of res ≡ module_stop e w)
+  finished t c (Gives Goes u) h = (Done, world None u, leads_as p c h.1 _ h.3.1 h.2, refl)
+  finished t c (Gives Breaks u) h = let no : Breaks ≡ Goes = h.3.0 in absurd (cc)
+  finished t c (Gives Continues u) h = let no : Continues ≡ Goes = h.3.0 in absurd (cc)
+  finished t c (Gives (Returns v) u) h = let no : Returns v ≡ Goes = h.3.0 in absurd (cc)
+  finished t c (Raises v u) h =
+      let x = h.3.0 in
+      let w : World = world (Some x) u in
+      (Raised x, w, leads_trans p c _ _ (leads_as p c h.1 _ h.3.2 h.2) (leads_step p _ (Ended (Raised x) w) (leaves w)), ap (λ z. stopped u (raised_as z)) h.3.1)
+  finished t c (Stops w u) h = (h.0, world None u, h.2, ap (stopped u) h.1)
+
+  starts : (turns : ℕ) (items : Items) → run.start p turns items ≡ running (length b.functions) 0 0 (first_regs b.own.regs []) [] (world None (start m turns items))
+  starts turns items =
+      let last : length p.funcs - 1 ≡ length b.functions = omega (arith, ap length b.are, length-append b.functions (b.own ∷ [])) in
+      let globals : length p.globals ≡ length m.globals = ap length b.globals ∙ map_length register_of m.globals in
+      let W : ℕ → World = λ k. record { store = []; globals = replicate k None; pending = None; output = []; items = items; turns = turns } in
+      ap (λ n. begins n (first_world p turns items) (slice_get p.funcs n)) last
+      ∙ ap (begins (length b.functions) (first_world p turns items)) own_at
+      ∙ ap (λ k. running (length b.functions) 0 0 (first_regs b.own.regs []) [] (W k)) globals
+
+  -- the end of a strict run
+  comes : (turns : ℕ) (items : Items) → (e : Ending) × (w : World) × (n : ℕ) × (steps Strict p n (run.start p turns items) ≡ Ended e w) × (stop_of (top_of m turns (start m turns items)) ≡ module_stop e w)
+  comes turns items =
+      let calls = calls_work p m there turns in
+      let done = b.own_built.works p (length b.functions) own_at turns calls (start m turns items) (le_refl turns) in
+      let k = finished turns _ (top_of m turns (start m turns items)) done in
+      (k.0, k.1, k.2.count, ap (steps Strict p k.2.count) (starts turns items) ∙ k.2.is, k.3)
+
+  pub is_calm : Calm p
+  is_calm turns items n = let k = comes turns items in ended_is_calm Strict p k.2 n (run.start p turns items) k.0 k.1 k.3
+
+  pub does_as_module : DoesAsModule m p
+  unfolding source_run
+  does_as_module turns items =
+      let k = comes turns items in
+      let unstuck : steps Strict p k.2 (run.start p turns items) ≢ Stuck = λ e. let no : Ended k.0 k.1 ≡ Stuck = sym k.3 ∙ e in cc in
+      record {
+        ending = k.0;
+        world = k.1;
+        comes = (k.2, sym (unstuck_is_plain Strict p k.2 (run.start p turns items) unstuck) ∙ k.3);
+        same = k.4;
+      }
+
+  pub is_program : ModuleSuits m → IsProgram p
+  is_program suits =
+      let heads : map head_of_code b.functions ≡ heads_of m = heads_same m m.funcs b.functions b.each in
+      record {
+        functions = b.functions;
+        own = b.own;
+        are = b.are;
+        each = λ n h e. let k = code_at m m.funcs b.functions n h b.each e in subst (λ hs. IsFunction hs h) (sym heads) k.1.built;
+        own_built = subst (λ hs. IsOwn hs b.own) (sym heads) b.own_built.built;
+        differ = ap names_differ (names_same m m.funcs b.functions b.each) ∙ suits.differ;
+        classes = b.classes;
+        globals = ap (λ ds. list_all is_identifier (names_of ds)) b.globals ∙ ap (list_all is_identifier) (names_are m.globals) ∙ suits.identifiers;
+        globals_differ = ap (λ ds. names_differ (names_of ds)) b.globals ∙ ap names_differ (names_are m.globals) ∙ suits.globals_differ;
+      }

@@ -1,0 +1,25 @@
+use Rattle.std.proofs.Common.{◌∙◌, sym, arith}
+use Rattle.ir_builder.proofs.FillLemmas.{filled_set, filled_past, filled_end}
+use Rattle.ir_builder.proofs.body.fill.Goals.{then-is_open, else-is_open}
+use Rattle.ir_builder.proofs.body.fill.Goals as goal
+
+pub loop-k-preserved : goal.loop-k-preserved
+loop-k-preserved c =
+    let lt = c.loop-k-test.true in
+    let low = c.loop-k.auto.k in
+    let room = c.requires.room in
+    elim c.if-is_open.branch [
+      | then-is_open w ↦ record {
+        filled = rw w.b-is (filled_set _ _ _ _ _ _ (sym c.is_open.ensures ∙ w.if-is_open.true) low c.loop-k.invariant.filled w.patch.ensures.set);
+        shaped = rw w.b-is (λ n m p s. w.patch.ensures.shaped n m (lt, p) (c.loop-k.invariant.shaped n m p s));
+        kinds = rw w.b-is (λ g h. w.patch.ensures.kinds g tt (c.loop-k.invariant.kinds g h));
+      }
+      | else-is_open w ↦ record {
+        filled = rw w.b-is (filled_past _ _ _ _ _ (sym c.is_open.ensures ∙ w.if-is_open.false) low (omega arith) c.loop-k.invariant.filled);
+        shaped = rw w.b-is c.loop-k.invariant.shaped;
+        kinds = rw w.b-is c.loop-k.invariant.kinds;
+      }
+    ]
+
+pub returns-clause-filled : goal.returns-clause-filled
+returns-clause-filled c = filled_end _ _ _ _ _ _ c.loop-k-test.false (c.loop-k.auto.k-end c.requires.order) c.loop-k.invariant.filled

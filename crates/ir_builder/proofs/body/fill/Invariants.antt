@@ -1,0 +1,12 @@
+use Rattle.std.proofs.Common.{◌≤◌}
+use Rattle.ir_frames.specs.Shaped.{KeepsIf}
+use Rattle.ir_frames.specs.Kinds.{KeepsKinds}
+use Rattle.ir_builder.specs.Bodies.{Filled}
+use Rattle.ir_builder.proofs.body.fill.Given as goal
+
+abbrev pub invariant-loop-k : goal.invariant-loop-k
+invariant-loop-k l = record {
+  filled : Filled l.initial.b l.b l.from l.k l.to;
+  shaped : KeepsIf (λ n m. l.to ≤ m) l.initial.b l.b;
+  kinds : KeepsKinds l.initial.b l.b;
+}

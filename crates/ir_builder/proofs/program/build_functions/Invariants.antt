@@ -1,0 +1,7 @@
+use Rattle.std.proofs.Common.{map, take}
+use Rattle.py_typed.specs.Statements.{typed_module, typed_func}
+use Rattle.ir_builder.specs.Functions.{AllBuilt}
+use Rattle.ir_builder.proofs.program.build_functions.Given as goal
+
+abbrev pub invariant-loop-f : goal.invariant-loop-f
+invariant-loop-f l = AllBuilt (typed_module l.checked) (map typed_func (take l.f-index l.functions)) l.made.items

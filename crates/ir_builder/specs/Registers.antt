@@ -1,0 +1,36 @@
+-- The registers with which a function begins: those of its variables, and one for printed texts.
+use Rattle.std.specs.Prelude.{◌≡◌, ℕ, ◌+◌, true, List, [], ◌∷◌, ◌++◌, map}
+use Rattle.c_core.specs.WellFormed.{names_differ}
+use Rattle.py_typed.specs.Statements.{Variable}
+use Rattle.ir_core.specs.declared.code.RType.{RType}
+use Rattle.ir_core.specs.declared.code.RType.TheVariants.{Ref}
+use Rattle.ir_core.specs.Building.{Building}
+use Rattle.ir_core.specs.Rows.{Declared}
+use Rattle.ir_frames.specs.declared.frame.Vars.{Vars}
+use Rattle.ir_frames.specs.Settings.{rtype_of}
+use Rattle.ir_frames.specs.Kinds.{temporary_name}
+use Rattle.ir_frames.specs.Naming.{names_of}
+
+abbrev pub register_of : Variable → List ℕ × RType
+register_of v = (v.0, rtype_of v.1)
+
+abbrev pub variable_registers : List Variable → Declared
+variable_registers vs = map register_of vs
+
+-- one more register, for texts, under a temporary name that no other register has
+pub record AddsText (old new : Declared) : Type 0 where
+  pub name : List ℕ
+  pub number : ℕ
+  pub temporary : name ≡ temporary_name number
+  pub is : new ≡ old ++ (name, Ref) ∷ []
+  pub differ : names_differ (names_of new) ≡ true
+
+-- so many variables, which are all parameters, and behind them the register for texts
+abbrev pub parameters_alone : ℕ → Vars
+parameters_alone n = record { params = n; count = n; text = n; top = n + 1 }
+
+-- the code of a function whose variables have these registers, before its first operation
+pub record Begins (variables : Declared) (b : Building) : Type 0 where
+  pub regs : AddsText variables b.regs
+  pub blocks : b.blocks ≡ []
+  pub ops : b.ops ≡ []

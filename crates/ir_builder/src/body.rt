@@ -1,0 +1,72 @@
+//! The code of a function's body.
+ghost use Rattle.std.specs.Prelude.{◌≡◌, ◌≤◌, ◌<◌, ◌^◌, map, length, OnOk, false};
+ghost use Rattle.py_typed.specs.Statements.{typed_module, typed_suite, variable};
+ghost use Rattle.ir_frames.specs.Settings.{setting};
+ghost use Rattle.ir_frames.specs.Matching.{HasRoom};
+ghost use Rattle.ir_frames.specs.Shaped.{KeepsIf};
+ghost use Rattle.ir_frames.specs.Kinds.{KeepsKinds, KeepsKindsIf};
+ghost use Rattle.ir_statements.specs.Means.{means_suite};
+ghost use Rattle.ir_bodies.specs.Suiting.{SuiteSuits};
+ghost use Rattle.ir_builder.specs.Bodies.{Filled, Bodied, BodyAround, CompletesShape, body_frame};
+
+use ir_bodies::emit_block;
+use ir_core::{Last, Lit, RType};
+use ir_frames::{Emitter, Frame, Vars};
+use py_typed::{Checked, TStmt, Var};
+use std::alloc::Global;
+use value_core::Memory;
+
+/// The line of what no statement stands for.
+pub const NO_LINE: usize = 0;
+
+/// Emits the body of a function, which gives a literal of a type where its statements come to their end.
+pub fn emit_body(
+    b: &mut Emitter,
+    alloc: Global,
+    checked: &Checked,
+    locals: &[Var],
+    vars: Vars,
+    gives: Option<RType>,
+    t: RType,
+    last: Lit,
+    body: &[TStmt],
+) -> Result<(), Memory>
+    requires suits { SuiteSuits (typed_module checked.now) (map variable locals.now) gives false (typed_suite body.now) }
+    requires room { HasRoom (setting checked.now locals.now (body_frame vars)) b.old }
+    requires parameters { length locals.now ≤ vars.params }
+    ensures bodied { OnOk result (Bodied (setting checked.now locals.now (body_frame vars)) gives t last (means_suite (setting checked.now locals.now (body_frame vars)) (typed_suite body.now)) b.old b.new) }
+    ensures shaped { OnOk result (CompletesShape b.old b.new) }
+    ensures kinds { OnOk result (KeepsKindsIf (BodyAround (typed_module checked.now) vars gives t last) b.old b.new) }
+    ensures few { OnOk result (length b.new.blocks < 2 ^ 64) }
+{
+    let start = b.here();
+    let frame = Frame {
+        locals: vars,
+        ret: None,
+    };
+    let mut exits = Vec::new(alloc);
+    emit_block(
+        b, alloc, checked, locals, frame, gives, false, body, &mut exits,
+    )?;
+    let r = b.literal(t, last, NO_LINE)?;
+    let end = b.close(Last::Return(r))?;
+    fill(b, start, end);
+    // there are no more blocks than numbers
+    let _count = b.here();
+    Ok(())
+}
+
+// Writes the ends that are still open in a stretch, as jumps to the block behind it. No run comes to them.
+fn fill(b: &mut Emitter, from: usize, to: usize)
+    requires order { from ≤ to }
+    requires room { to ≤ length b.old.blocks }
+    ensures filled { Filled b.old b.new from to to }
+    ensures shaped { KeepsIf (λ n m. to ≤ m) b.old b.new }
+    ensures kinds { KeepsKinds b.old b.new }
+{
+    for k in from..to {
+        if b.is_open(k) {
+            b.patch(k, Last::Goto(to));
+        }
+    }
+}

@@ -1,0 +1,92 @@
+//! The functions of a program.
+ghost use Rattle.std.specs.Prelude.{◌≡◌, IfOk, true};
+ghost use Rattle.c_core.specs.WellFormed.{names_differ};
+ghost use Rattle.py_typed.specs.Statements.{typed_module, typed_func};
+ghost use Rattle.ir_frames.specs.Naming.{names_of};
+ghost use Rattle.ir_bodies.specs.Modules.{ModuleSuits, FunctionSuits};
+ghost use Rattle.ir_builder.specs.Registers.{Begins};
+ghost use Rattle.ir_builder.specs.Functions.{end_literal, IsFunctionOf, IsOwnOf};
+
+use crate::body::{NO_LINE, emit_body};
+use crate::registers::{add_text, parameters_of, registers_for};
+use ir_core::{Func, Lit, Op, RType};
+use ir_expressions::register_type;
+use ir_frames::Emitter;
+use py_typed::{Checked, TFunc};
+use std::alloc::Global;
+use value_core::{Many, Memory, Name};
+
+/// The code of a function.
+pub fn build_function(alloc: Global, checked: &Checked, f: &TFunc) -> Result<Func, Memory>
+    requires module { ModuleSuits (typed_module checked.now) }
+    requires function { FunctionSuits (typed_module checked.now) (typed_func f.now) }
+    ensures { IfOk result (IsFunctionOf (typed_module checked.now) (typed_func f.now)) }
+{
+    let variables = registers_for(alloc, f.locals.as_slice())?;
+    let mut b = begin(alloc, variables)?;
+    b.push(Op::Turn, NO_LINE)?;
+    let vars = parameters_of(f.locals.len())?;
+    let ret = register_type(&f.ret);
+    emit_body(
+        &mut b,
+        alloc,
+        checked,
+        f.locals.as_slice(),
+        vars,
+        Some(ret),
+        ret,
+        end_of(ret),
+        f.body.as_slice(),
+    )?;
+    let name = f.name.clone()?;
+    Ok(named(b.finish(f.params, ret), name))
+}
+
+/// The code of a module's own statements, which gives true at their end.
+pub fn build_own(alloc: Global, checked: &Checked) -> Result<Func, Memory>
+    requires { ModuleSuits (typed_module checked.now) }
+    ensures { IfOk result (IsOwnOf (typed_module checked.now)) }
+{
+    let mut b = begin(alloc, Vec::new(alloc))?;
+    let vars = parameters_of(0)?;
+    emit_body(
+        &mut b,
+        alloc,
+        checked,
+        &[],
+        vars,
+        None,
+        RType::Bool,
+        Lit::Number(1),
+        checked.top.as_slice(),
+    )?;
+    Ok(b.finish(0, RType::Bool))
+}
+
+// A function whose variables have these registers, before its first operation. It gets its name when it is done.
+fn begin(alloc: Global, mut registers: Vec<(Name, RType)>) -> Result<Emitter, Memory>
+    requires { names_differ (names_of registers.items) ≡ true }
+    ensures { IfOk result (Begins registers.items) }
+{
+    add_text(alloc, &mut registers)?;
+    let name = Name::from_string(String::new(alloc));
+    Ok(Emitter::new(alloc, name, Many::from_vec(registers)))
+}
+
+// A function under a name.
+fn named(mut f: Func, name: Name) -> Func
+    ensures { result ≡ record f { name = name } }
+{
+    f.name = name;
+    f
+}
+
+// What the code of a function gives at its end, where its result has registers of a type.
+fn end_of(ret: RType) -> Lit
+    ensures { result ≡ end_literal ret }
+{
+    match ret {
+        RType::Ref => Lit::PyNone,
+        _ => Lit::Number(0),
+    }
+}
