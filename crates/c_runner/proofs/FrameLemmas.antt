@@ -21,11 +21,11 @@ use Rattle.c_core.specs.Step as step
 use Rattle.c_core.specs.Step.{Next, Goes, Ends, Faulted, if_some, if_there, if_any, if_content, if_taken, if_result, if_none_left, if_in_order, if_return, if_passed, function_called, function_step, entered, returned, faulted}
 use Rattle.c_runner.specs.declared.state.Frame.{Frame}
 use Rattle.c_runner.specs.declared.state.State.{State}
-use Rattle.c_runner.specs.declared.words.Word.{Word}
 use Rattle.c_runner.specs.Ledgers.{is_none, is_only}
 use Rattle.c_runner.specs.Parts.{if_argument, is_there, unless_fault, back_in, handed_back}
 use Rattle.c_runner.specs.States.{Rest, IsSmall, frame_of, waiting, state_of, with_target}
-use Rattle.c_runner.specs.Words as words
+use Rattle.cell_heap.specs.declared.word.Word.{Word}
+use Rattle.cell_heap.specs.Contents as contents
 
 -- ---- cells that are there, and cells that are gone
 some_there : (s : MachineState) {A : Type 0} (o : Option A) (go : Next) → is_some o ≡ true → if_some true s fault.Dead o (λ a. go) ≡ go
@@ -118,10 +118,10 @@ module _ (s : MachineState) (ps : List Declared) (args : List CArg) where
       ap (λ qs. both qs (drop i args) go) (drop_all ps i le) ∙ ap (λ rest. both [] rest go) (drop_all args i lt)
 
   -- one word more before what is left
-  pub word_more : (i : ℕ) (before after : List Word) (w : Word) (go : List machine.Word → Next) → after ≡ before ++ w ∷ [] → left i (λ ws. go (map words.word_of before ++ words.word_of w ∷ ws)) ≡ left i (λ ws. go (map words.word_of after ++ ws))
+  pub word_more : (i : ℕ) (before after : List Word) (w : Word) (go : List machine.Word → Next) → after ≡ before ++ w ∷ [] → left i (λ ws. go (map contents.word_of before ++ contents.word_of w ∷ ws)) ≡ left i (λ ws. go (map contents.word_of after ++ ws))
   word_more i before after w go e =
-      passed_same s (map (λ v. v.1) (drop i ps)) (drop i args) (λ ws. go (map words.word_of before ++ words.word_of w ∷ ws)) (λ ws. go (map words.word_of after ++ ws))
-      (λ ws. ap go (sym (ap (λ us. us ++ ws) (ap (map words.word_of) e ∙ map-append words.word_of before (w ∷ [])) ∙ append_assoc (map words.word_of before) (words.word_of w ∷ []) ws)))
+      passed_same s (map (λ v. v.1) (drop i ps)) (drop i args) (λ ws. go (map contents.word_of before ++ contents.word_of w ∷ ws)) (λ ws. go (map contents.word_of after ++ ws))
+      (λ ws. ap go (sym (ap (λ us. us ++ ws) (ap (map contents.word_of) e ∙ map-append contents.word_of before (w ∷ [])) ∙ append_assoc (map contents.word_of before) (contents.word_of w ∷ []) ws)))
 
 -- ---- frames that wait
 pub waiting-push : (frames : List Frame) (f : Frame) → waiting (frames ++ f ∷ []) ≡ frame_of f ∷ waiting frames
@@ -135,31 +135,31 @@ pub none_waits : (frames : List Frame) → waiting frames ≡ [] → frames ≡ 
 none_waits frames e = no_map frames (sym (reverse-reverse (map frame_of frames)) ∙ ap reverse e)
 
 -- a function is not called where an argument may not be passed
-pub refused : (rest : Rest) (old : State) (code : Code) (g : CFunc) (f : ℕ) (target : Option ℕ) (args : List CArg) (ps : List Declared) (o : Option Fault) (why : Fault) (vars : List Word) → slice_get code.funcs f ≡ Some g → ps ≡ take g.params g.vars → ((go : List machine.Word → Next) → if_passed true (state_of rest old) (map (λ v. v.1) ps) args go ≡ unless_fault o (state_of rest old) (go (map words.word_of vars))) → o ≡ Some why → function_called true (state_of rest old) code target args (Some f) ≡ Ends (Faulted why) (state_of rest old)
+pub refused : (rest : Rest) (old : State) (code : Code) (g : CFunc) (f : ℕ) (target : Option ℕ) (args : List CArg) (ps : List Declared) (o : Option Fault) (why : Fault) (vars : List Word) → slice_get code.funcs f ≡ Some g → ps ≡ take g.params g.vars → ((go : List machine.Word → Next) → if_passed true (state_of rest old) (map (λ v. v.1) ps) args go ≡ unless_fault o (state_of rest old) (go (map contents.word_of vars))) → o ≡ Some why → function_called true (state_of rest old) code target args (Some f) ≡ Ends (Faulted why) (state_of rest old)
 refused rest old code g f target args ps o why vars e is pass failed =
     let s = state_of rest old in
     let go : List machine.Word → Next = λ ws. Goes (entered true s target f (entry_words ws g)) in
     ap (λ h. if_some true s fault.Kind h (function_step true s target args f)) e
     ∙ ap (λ qs. if_passed true s (map (λ v. v.1) qs) args go) (sym is)
     ∙ pass go
-    ∙ ap (λ h. unless_fault h s (go (map words.word_of vars))) failed
+    ∙ ap (λ h. unless_fault h s (go (map contents.word_of vars))) failed
 
 -- ---- a return
-pub target_set : (rest : Rest) (st : State) (target : Option ℕ) (w : Word) → step.with_target target (words.word_of w) (state_of rest st) ≡ state_of rest (record st { top = with_target target w st.top })
+pub target_set : (rest : Rest) (st : State) (target : Option ℕ) (w : Word) → step.with_target target (contents.word_of w) (state_of rest st) ≡ state_of rest (record st { top = with_target target w st.top })
 target_set rest st None w = refl
 target_set rest st (Some x) w =
     let with : List machine.Word → MachineState = λ v. record (state_of rest st) { top = record (frame_of st.top) { vars = v } } in
-    ap with (sym (map-set words.word_of st.top.vars x w))
+    ap with (sym (map-set contents.word_of st.top.vars x w))
 
 -- the innermost frame that waits goes on
-pub handed : (rest : Rest) (old : State) (caller callee dest owner top : Frame) (below : List Frame) (w : Word) → old.below ≡ below ++ caller ∷ [] → callee ≡ old.top → dest ≡ caller → owner ≡ record dest { ledger = more_of (refs_of (words.word_of w)) dest.ledger } → top ≡ with_target callee.into w owner → handed_back (words.word_of w) (state_of rest old) ≡ state_of rest (record old { top = top; below = below })
+pub handed : (rest : Rest) (old : State) (caller callee dest owner top : Frame) (below : List Frame) (w : Word) → old.below ≡ below ++ caller ∷ [] → callee ≡ old.top → dest ≡ caller → owner ≡ record dest { ledger = more_of (refs_of (contents.word_of w)) dest.ledger } → top ≡ with_target callee.into w owner → handed_back (contents.word_of w) (state_of rest old) ≡ state_of rest (record old { top = top; below = below })
 handed rest old caller callee dest owner top below w e callee_is dest_is owner_is top_is =
     let s = state_of rest old in
-    let owned : Frame → Frame = λ f. record f { ledger = more_of (refs_of (words.word_of w)) f.ledger } in
+    let owned : Frame → Frame = λ f. record f { ledger = more_of (refs_of (contents.word_of w)) f.ledger } in
     let last : with_target old.top.into w (owned caller) ≡ top =
     ap (λ f. with_target f.into w (owned caller)) (sym callee_is)
     ∙ ap (λ f. with_target callee.into w (owned f)) (sym dest_is) ∙ ap (with_target callee.into w) (sym owner_is) ∙ sym top_is in
-    ap (back_in (words.word_of w) s) (ap waiting e ∙ waiting-push below caller)
+    ap (back_in (contents.word_of w) s) (ap waiting e ∙ waiting-push below caller)
     ∙ target_set rest (record old { top = owned caller; below = below }) old.top.into w
     ∙ ap (λ f. state_of rest (record old { top = f; below = below })) last
 

@@ -1,4 +1,4 @@
-pub mod SlotLemmas
+pub mod LiveLemmas
 pub mod LedgerLemmas
 pub mod FrameLemmas
 pub mod StateLemmas

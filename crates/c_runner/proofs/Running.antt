@@ -125,11 +125,13 @@ module _ (tells : Bool) (before now : List ℕ) (code : Code) (turns : ℕ) (ite
         goes = ap (go_on (step code) (left - 1)) (sym (follows rest)) ∙ sym (one_taken code left (state_of rest state) more) ∙ running.goes;
       }
 
-  -- no count is greater than the number of steps so far
+  -- neither the number of cells nor a count is greater than the number of steps so far
   pub small : RunKeepsCounts → RunStaysSmall → WellFormed code → most_steps turns code < 2 ^ 128 → 1 ≤ left → IsSmall state
   small counts stays formed room more =
-      let few : (c : ℕ) → count_at state.cells c ≤ running.steps = (stays code formed turns items running.steps (state_of rest state) running.reaches).2 in
+      let stayed = stays code formed turns items running.steps (state_of rest state) running.reaches in
+      let few : (c : ℕ) → count_at state.cells c ≤ running.steps = stayed.2 in
       record {
+        made = omega (arith, stayed.1, running.all_steps, room, more);
         counts = λ c. omega (arith, few c, running.all_steps, room, more);
         ledgers = λ c.
             let counted = (counts code turns items).0 running.steps (state_of rest state) running.reaches c in

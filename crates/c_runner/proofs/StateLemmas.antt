@@ -34,11 +34,13 @@ use Rattle.c_runner.specs.declared.table.Callee.{Callee}
 use Rattle.c_runner.specs.declared.table.Callee.TheVariants as callee
 use Rattle.c_runner.specs.declared.table.Target.{Target}
 use Rattle.c_runner.specs.declared.state.State.{State}
-use Rattle.c_runner.specs.declared.words.Word.{Word}
-use Rattle.c_runner.specs.declared.words.Word.TheVariants.{Object}
 use Rattle.c_runner.specs.States.{Rest, state_of, with_target, Follows}
 use Rattle.c_runner.specs.Targets.{callee_among, callee_of, target_of}
-use Rattle.c_runner.specs.Words as words
+use Rattle.cell_heap.specs.declared.key.Key.{Key}
+use Rattle.cell_heap.specs.declared.word.Word.{Word}
+use Rattle.cell_heap.specs.declared.word.Word.TheVariants as heap
+use Rattle.cell_heap.specs.Contents as contents
+use Rattle.cell_heap.specs.Contents.{number_of}
 use Rattle.c_runner.specs.Parts.{written, callee_called, is_there}
 use Rattle.c_runner.proofs.FrameLemmas.{there, target_set}
 
@@ -47,10 +49,10 @@ module _ (rest : Rest) (old : State) where
   s = state_of rest old
 
   -- a variable is read
-  var_is : (x : ℕ) (o : Option Word) → slice_get old.top.vars x ≡ o → slice_get s.top.vars x ≡ option_map words.word_of o
-  var_is x o e = slice_get-map words.word_of old.top.vars x ∙ ap (option_map words.word_of) e
+  var_is : (x : ℕ) (o : Option Word) → slice_get old.top.vars x ≡ o → slice_get s.top.vars x ≡ option_map contents.word_of o
+  var_is x o e = slice_get-map contents.word_of old.top.vars x ∙ ap (option_map contents.word_of) e
 
-  pub word_at : (x : ℕ) (w : Word) (go : machine.Word → Next) → slice_get old.top.vars x ≡ Some w → word_of true s x go ≡ go (words.word_of w)
+  pub word_at : (x : ℕ) (w : Word) (go : machine.Word → Next) → slice_get old.top.vars x ≡ Some w → word_of true s x go ≡ go (contents.word_of w)
   word_at x w go e = ap (λ o. if_some true s fault.Kind o go) (var_is x (Some w) e)
 
   -- a frame, which goes on to the next line
@@ -58,51 +60,52 @@ module _ (rest : Rest) (old : State) where
   onwards top = record old { top = record top { place = top.place + 1 } }
 
   -- a variable is written
-  set_is : (x : ℕ) (w : Word) → next_line (with_var x (words.word_of w) s) ≡ state_of rest (onwards (record old.top { vars = slice_set old.top.vars x w }))
+  set_is : (x : ℕ) (w : Word) → next_line (with_var x (contents.word_of w) s) ≡ state_of rest (onwards (record old.top { vars = slice_set old.top.vars x w }))
   set_is x w =
       let with : List machine.Word → MachineState = λ v. record s { top = record s.top { place = s.top.place + 1; vars = v } } in
-      ap with (sym (map-set words.word_of old.top.vars x w))
+      ap with (sym (map-set contents.word_of old.top.vars x w))
 
-  pub assigned : (kind : Option Kind) (k : Kind) (literal : CLit) (x : ℕ) (w : Word) (top : Frame) → kind ≡ Some k → Some (words.word_of w) ≡ literal_word k literal → top ≡ record old.top { vars = slice_set old.top.vars x w } → if_some true s fault.Kind (option_and_then (λ j. literal_word j literal) kind) (λ v. Goes (next_line (with_var x v s))) ≡ Goes (state_of rest (onwards top))
+  pub assigned : (kind : Option Kind) (k : Kind) (literal : CLit) (x : ℕ) (w : Word) (top : Frame) → kind ≡ Some k → Some (contents.word_of w) ≡ literal_word k literal → top ≡ record old.top { vars = slice_set old.top.vars x w } → if_some true s fault.Kind (option_and_then (λ j. literal_word j literal) kind) (λ v. Goes (next_line (with_var x v s))) ≡ Goes (state_of rest (onwards top))
   assigned kind k literal x w top e f g =
       ap (λ o. if_some true s fault.Kind (option_and_then (λ j. literal_word j literal) o) (λ v. Goes (next_line (with_var x v s)))) e
       ∙ ap (λ o. if_some true s fault.Kind o (λ v. Goes (next_line (with_var x v s)))) (sym f)
       ∙ ap Goes (set_is x w ∙ ap (λ t. state_of rest (onwards t)) (sym g))
 
   -- an answer goes to its target
-  pub answered : (target : Option ℕ) (o : Option Word) (w : Word) (top : Frame) → o ≡ Some w → top ≡ with_target target w old.top → if_some true s fault.Kind (option_map words.word_of o) (λ v. Goes (next_line (step.with_target target v s))) ≡ Goes (state_of rest (onwards top))
+  pub answered : (target : Option ℕ) (o : Option Word) (w : Word) (top : Frame) → o ≡ Some w → top ≡ with_target target w old.top → if_some true s fault.Kind (option_map contents.word_of o) (λ v. Goes (next_line (step.with_target target v s))) ≡ Goes (state_of rest (onwards top))
   answered target o w top e f =
-      ap (λ p. if_some true s fault.Kind (option_map words.word_of p) (λ v. Goes (next_line (step.with_target target v s)))) e
+      ap (λ p. if_some true s fault.Kind (option_map contents.word_of p) (λ v. Goes (next_line (step.with_target target v s)))) e
       ∙ ap (λ t. Goes (next_line t)) (target_set rest old target w)
       ∙ ap (λ t. Goes (state_of rest (onwards t))) (sym f)
 
   -- the word of a variable is copied
-  pub copied : (x y : ℕ) (w : Word) (top : Frame) → slice_get old.top.vars y ≡ Some w → is_there old.cells (words.word_of w) ≡ true → top ≡ record old.top { vars = slice_set old.top.vars x w } → word_of true s y (λ v. step.if_there true s v (λ a. Goes (next_line (with_var x v s)))) ≡ Goes (state_of rest (onwards top))
+  pub copied : (x y : ℕ) (w : Word) (top : Frame) → slice_get old.top.vars y ≡ Some w → is_there old.cells (contents.word_of w) ≡ true → top ≡ record old.top { vars = slice_set old.top.vars x w } → word_of true s y (λ v. step.if_there true s v (λ a. Goes (next_line (with_var x v s)))) ≡ Goes (state_of rest (onwards top))
   copied x y w top e f g =
       word_at y w _ e
-      ∙ there s (words.word_of w) (Goes (next_line (with_var x (words.word_of w) s))) f
+      ∙ there s (contents.word_of w) (Goes (next_line (with_var x (contents.word_of w) s))) f
       ∙ ap Goes (set_is x w ∙ ap (λ t. state_of rest (onwards t)) (sym g))
 
   -- a text is written
-  pub text_written : (code : Code) (target : Option ℕ) (x c : ℕ) (text output : List ℕ) (is_alone : Bool) → slice_get old.top.vars x ≡ Some (Object c) → content_at old.cells c ≡ Some (StrCell text) → is_alone ≡ true → output ≡ old.output ++ text → written code target x is_alone s ≡ Goes (state_of rest (record (onwards old.top) { output = output }))
-  text_written code target x c text output is_alone e f g h =
-      word_at x (Object c) _ e
+  pub text_written : (code : Code) (target : Option ℕ) (x : ℕ) (key : Key) (text output : List ℕ) (is_alone : Bool) → slice_get old.top.vars x ≡ Some (heap.Cell key) → content_at old.cells (number_of key) ≡ Some (StrCell text) → is_alone ≡ true → output ≡ old.output ++ text → written code target x is_alone s ≡ Goes (state_of rest (record (onwards old.top) { output = output }))
+  text_written code target x key text output is_alone e f g h =
+      let c = number_of key in
+      word_at x (heap.Cell key) _ e
       ∙ ap (λ o. if_some true s fault.Dead o (λ content. step.if_true true s (is_holding AText (Cell c content)) (cond is_alone (applied true s target s.top.ledger [] (step.effect code s (Io Write) (Cell c content ∷ []))) (step.faulted true s fault.Kind)))) f
       ∙ ap (λ b. cond b (applied true s target s.top.ledger [] (step.Writes text)) (step.faulted true s fault.Kind)) g
       ∙ ap (λ cells. Goes (next_line (record s { cells = cells; output = s.output ++ text }))) (release-nothing refs_in s.cells)
       ∙ ap (λ out. Goes (next_line (record s { output = out }))) (append_assoc rest.handed old.output text ∙ ap (λ t. rest.handed ++ t) (sym h))
 
 -- a cell is made, which the frame owns and the target refers to
-pub cell_made : (rest : Rest) (old : State) (target : Option ℕ) (content : machine.Content) (number : ℕ) (cells : Cells machine.Content) (ledger : List ℕ) (top : Frame) → number ≡ length old.cells → cells ≡ make content old.cells → ledger ≡ more number old.top.ledger → top ≡ with_target target (Object number) (record old.top { ledger = ledger }) → applied true (state_of rest old) target old.top.ledger [] (Makes content) ≡ Goes (state_of rest (record old { cells = cells; top = record top { place = top.place + 1 } }))
-cell_made rest old None content number cells ledger top n c l t =
-    sym (ap (λ f. Goes (state_of rest (record old { cells = cells; top = record f { place = f.place + 1 } }))) t ∙ ap (λ h. Goes (state_of rest (record old { cells = h; top = record old.top { place = old.top.place + 1; ledger = ledger } }))) c ∙ ap (λ d. Goes (state_of rest (record old { cells = make content old.cells; top = record old.top { place = old.top.place + 1; ledger = d } }))) (l ∙ ap (λ m. more m old.top.ledger) n))
-cell_made rest old (Some x) content number cells ledger top n c l t =
+pub cell_made : (rest : Rest) (old : State) (target : Option ℕ) (content : machine.Content) (key : Key) (number : ℕ) (cells : Cells machine.Content) (ledger : List ℕ) (top : Frame) → number ≡ number_of key → number_of key ≡ length old.cells → cells ≡ make content old.cells → ledger ≡ more number old.top.ledger → top ≡ with_target target (heap.Cell key) (record old.top { ledger = ledger }) → applied true (state_of rest old) target old.top.ledger [] (Makes content) ≡ Goes (state_of rest (record old { cells = cells; top = record top { place = top.place + 1 } }))
+cell_made rest old None content key number cells ledger top n k c l t =
+    sym (ap (λ f. Goes (state_of rest (record old { cells = cells; top = record f { place = f.place + 1 } }))) t ∙ ap (λ h. Goes (state_of rest (record old { cells = h; top = record old.top { place = old.top.place + 1; ledger = ledger } }))) c ∙ ap (λ d. Goes (state_of rest (record old { cells = make content old.cells; top = record old.top { place = old.top.place + 1; ledger = d } }))) (l ∙ ap (λ m. more m old.top.ledger) (n ∙ k)))
+cell_made rest old (Some x) content key number cells ledger top n k c l t =
     let made : State = record old { cells = make content old.cells; top = record old.top { ledger = more (length old.cells) old.top.ledger } } in
-    ap Goes (set_is rest made x (Object (length old.cells)))
+    ap (λ m. Goes (next_line (with_var x (machine.ObjectCell m) (state_of rest made)))) (sym k)
+    ∙ ap Goes (set_is rest made x (heap.Cell key))
     ∙ sym (ap (λ f. Goes (state_of rest (record old { cells = cells; top = record f { place = f.place + 1 } }))) t
-    ∙ ap (λ h. Goes (state_of rest (record old { cells = h; top = record old.top { place = old.top.place + 1; ledger = ledger; vars = slice_set old.top.vars x (Object number) } }))) c
-    ∙ ap (λ d. Goes (state_of rest (record old { cells = make content old.cells; top = record old.top { place = old.top.place + 1; ledger = d; vars = slice_set old.top.vars x (Object number) } }))) l
-    ∙ ap (λ m. Goes (state_of rest (record old { cells = make content old.cells; top = record old.top { place = old.top.place + 1; ledger = more m old.top.ledger; vars = slice_set old.top.vars x (Object m) } }))) n)
+    ∙ ap (λ h. Goes (state_of rest (record old { cells = h; top = record old.top { place = old.top.place + 1; ledger = ledger; vars = slice_set old.top.vars x (heap.Cell key) } }))) c
+    ∙ ap (λ d. Goes (state_of rest (record old { cells = make content old.cells; top = record old.top { place = old.top.place + 1; ledger = d; vars = slice_set old.top.vars x (heap.Cell key) } }))) (l ∙ ap (λ m. more m old.top.ledger) (n ∙ k)))
 
 -- ---- the arguments of a write
 pub only_write : (p : IoPrim) → p ≡ Write

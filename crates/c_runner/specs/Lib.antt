@@ -1,8 +1,7 @@
 pub mod Handing
 pub mod Report
 pub mod Ran
-pub mod Words
-pub mod Slots
+pub mod Live
 pub mod Ledgers
 pub mod States
 pub mod Parts

@@ -25,8 +25,8 @@ use Rattle.c_runner.specs.declared.state.Frame.{Frame}
 use Rattle.c_runner.specs.declared.table.Callee.{Callee}
 use Rattle.c_runner.specs.declared.table.Callee.TheVariants as callee
 use Rattle.c_runner.specs.States.{frame_of}
-use Rattle.c_runner.specs.declared.words.Word as runner
-use Rattle.c_runner.specs.Words as words
+use Rattle.cell_heap.specs.declared.word.Word as heap
+use Rattle.cell_heap.specs.Contents as contents
 
 -- the fault of a test, or what comes behind it
 abbrev pub unless_fault : Option Fault → MachineState → Next → Next
@@ -113,8 +113,8 @@ abbrev pub if_argument : MachineState → Kind → CArg → (Word → Next) → 
 if_argument s k (arg.Var x) go = word_of true s x (λ w. if_true true s (is_value_of k w) (if_there true s w (λ a. go w)))
 if_argument s k _ go = faulted true s fault.Kind
 
-abbrev pub passed_on : Result runner.Word Fault → MachineState → (Word → Next) → Next
-passed_on (Ok w) s go = go (words.word_of w)
+abbrev pub passed_on : Result heap.Word Fault → MachineState → (Word → Next) → Next
+passed_on (Ok w) s go = go (contents.word_of w)
 passed_on (Err f) s go = Ends (Faulted f) s
 
 -- a frame runs, for which the one that ran waits at its next line

@@ -1,5 +1,5 @@
 -- The runner's state as the machine's, and what a step of it is.
-use Rattle.std.specs.Prelude.{◌≡◌, ℕ, ◌+◌, ◌^◌, ◌<◌, List, [], ◌++◌, Option, Some, None, map, reverse, slice_set}
+use Rattle.std.specs.Prelude.{◌≡◌, ℕ, ◌+◌, ◌^◌, ◌<◌, List, [], ◌++◌, length, Option, Some, None, map, reverse, slice_set}
 use Rattle.value_core.specs.Items.{Items}
 use Rattle.c_core.specs.declared.code.Code.{Code}
 use Rattle.c_core.specs.Cells.{times, count_at}
@@ -10,9 +10,9 @@ use Rattle.c_core.specs.Step.{Next, Goes, Ends}
 use Rattle.c_runner.specs.declared.report.Ending.{Ending}
 use Rattle.c_runner.specs.declared.state.Frame.{Frame}
 use Rattle.c_runner.specs.declared.state.State.{State}
-use Rattle.c_runner.specs.declared.words.Word.{Word}
 use Rattle.c_runner.specs.Report.{ending_of}
-use Rattle.c_runner.specs.Words.{word_of}
+use Rattle.cell_heap.specs.declared.word.Word.{Word}
+use Rattle.cell_heap.specs.Contents.{word_of}
 
 -- what a state of the machine has beside the runner's own: the globals, the lines of input, and the output that was
 -- handed on
@@ -60,7 +60,9 @@ next_of (Some e) s = Ends (ending_of e) s
 abbrev pub Follows : (MachineState → Next) → Option Ending → State → State → Type 0
 Follows does ending old new = (rest : Rest) → does (state_of rest old) ≡ next_of ending (state_of rest new)
 
--- no count of a cell, and no number of references that frames own, is so great that the runner could not count one more
+-- neither the number of cells that were made, nor a count of a cell, nor a number of references that frames own is so great
+-- that the runner could not count one more
 pub record IsSmall (r : State) : Type 0 where
+  pub made : length r.cells + 1 < 2 ^ 128
   pub counts : (c : ℕ) → count_at r.cells c + 1 < 2 ^ 128
   pub ledgers : (c : ℕ) → times r.top.ledger c + owned_below (waiting r.below) c < 2 ^ 128

@@ -8,13 +8,13 @@ ghost use Rattle.c_core.specs.Machine.{StrCell};
 ghost use Rattle.c_core.specs.Step.{Goes, Makes, with_target, next_line, if_some, applied, called, truth_text};
 ghost use Rattle.c_runner.specs.Parts.{written, native_at, one_native, two_natives, one_char, int64_result, int64_answer};
 ghost use Rattle.c_runner.specs.States.{Follows, IsSmall};
-ghost use Rattle.c_runner.specs.Words.{word_of};
+ghost use Rattle.cell_heap.specs.Contents.{word_of};
 
-use crate::cells::Content;
 use crate::report::Ending;
 use crate::state::State;
-use crate::words::Word;
+use crate::words::truth;
 use c_core::{BoolPrim, CArg, Fault, Int64Prim, IoPrim, Prim, StrPrim};
+use cell_heap::{Content, Word};
 use itoa::Buffer;
 use std::alloc::Global;
 use value_core::{Memory, Text, i64_add, i64_mul, i64_neg, i64_sub};
@@ -80,11 +80,11 @@ impl State {
             Int64Prim::Str => None,
             Int64Prim::Negate => match self.one_native(args) {
                 None => None,
-                Some(n) => Some(Word::Native(i64_neg(n))),
+                Some(n) => Some(Word::I64(i64_neg(n))),
             },
             Int64Prim::FromBool => match self.one_char(args) {
                 None => None,
-                Some(n) => Some(Word::Native(i64::from(n))),
+                Some(n) => Some(Word::I64(i64::from(n))),
             },
             _ => match self.two_natives(args) {
                 None => None,
@@ -110,7 +110,7 @@ impl State {
             return Ok(Some(Ending::Fault(Fault::Kind)));
         };
         match primitive {
-            BoolPrim::Not => Ok(self.answer(target, Some(Word::truth(n == 0)))),
+            BoolPrim::Not => Ok(self.answer(target, Some(truth(n == 0)))),
             BoolPrim::Str => self.make_text(target, Text::from_str(alloc, truth_text(n))?),
         }
     }
@@ -138,14 +138,14 @@ impl State {
         ensures { IfOk result (λ ending. Follows
             (λ s. applied true s target s.top.ledger [] (Makes (StrCell text))) ending self.old self.new) }
     {
-        let number = self.cells.make(Content::Str(text))?;
-        self.top.ledger.add(number)?;
-        self.top.set_target(target, Word::Object(number));
+        let key = self.cells.make(Content::Str(text))?;
+        self.top.ledger.add(key.serial())?;
+        self.top.set_target(target, Word::Cell(key));
         self.top.place += 1;
         Ok(None)
     }
 
-    /// Writes the text of an object to the output. The object is tested before the number of the arguments.
+    /// Writes the text that an object is to the output. The object is tested before the number of the arguments.
     fn write(&mut self, x: usize, is_alone: bool) -> Result<Option<Ending>, Memory>
         requires { self.old.top.place + 1 < 2 ^ 64 }
         ensures { IfOk result (λ ending. (code : Code) (target : Option ℕ) →
@@ -154,16 +154,19 @@ impl State {
         let Some(word) = self.top.vars.get(x) else {
             return Ok(Some(Ending::Fault(Fault::Kind)));
         };
-        let Word::Object(c) = *word else {
+        let Word::Cell(key) = *word else {
             return Ok(Some(Ending::Fault(Fault::Kind)));
         };
-        let Some(content) = self.cells.content(c) else {
+        let Ok(content) = self.cells.content(key) else {
             return Ok(Some(Ending::Fault(Fault::Dead)));
+        };
+        let Content::Str(text) = content else {
+            return Ok(Some(Ending::Fault(Fault::Kind)));
         };
         if !is_alone {
             return Ok(Some(Ending::Fault(Fault::Kind)));
         }
-        self.output.add(content.text())?;
+        self.output.add(text.as_str())?;
         self.top.place += 1;
         Ok(None)
     }
@@ -176,7 +179,7 @@ impl State {
             return None;
         };
         match self.top.vars.get(*x) {
-            Some(Word::Native(n)) => Some(*n),
+            Some(Word::I64(n)) => Some(*n),
             _ => None,
         }
     }
@@ -226,12 +229,12 @@ fn int64_result(primitive: Int64Prim, a: i64, b: i64) -> Option<Word>
     ensures { option_map word_of result ≡ int64_result primitive a b }
 {
     match primitive {
-        Int64Prim::Add => Some(Word::Native(i64_add(a, b))),
-        Int64Prim::Subtract => Some(Word::Native(i64_sub(a, b))),
-        Int64Prim::Multiply => Some(Word::Native(i64_mul(a, b))),
-        Int64Prim::Eq => Some(Word::truth(a == b)),
-        Int64Prim::Lt => Some(Word::truth(a < b)),
-        Int64Prim::Le => Some(Word::truth(a <= b)),
+        Int64Prim::Add => Some(Word::I64(i64_add(a, b))),
+        Int64Prim::Subtract => Some(Word::I64(i64_sub(a, b))),
+        Int64Prim::Multiply => Some(Word::I64(i64_mul(a, b))),
+        Int64Prim::Eq => Some(truth(a == b)),
+        Int64Prim::Lt => Some(truth(a < b)),
+        Int64Prim::Le => Some(truth(a <= b)),
         Int64Prim::Negate | Int64Prim::FromBool | Int64Prim::Str => None,
     }
 }

@@ -2,12 +2,13 @@
 ghost use Rattle.std.specs.Prelude.{◌≡◌, ◌+◌, ◌^◌, ◌<◌, true, IfOk};
 ghost use Rattle.c_core.specs.Step.{word_of, taken, incremented, given_up, decremented, decremented_if_set};
 ghost use Rattle.c_runner.specs.States.{Follows, IsSmall};
-ghost use Rattle.c_runner.specs.Words as words;
+ghost use Rattle.cell_heap.specs.Contents as contents;
+ghost use Rattle.cell_heap.specs.Contents.{number_of};
 
 use crate::report::Ending;
 use crate::state::State;
-use crate::words::Word;
 use c_core::Fault;
+use cell_heap::{Dead, Key, Word};
 use value_core::Memory;
 
 impl State {
@@ -22,8 +23,8 @@ impl State {
             return Ok(Some(Ending::Fault(Fault::Kind)));
         };
         match *word {
-            Word::Object(c) => self.take(c),
-            Word::Short(_) | Word::NoneObject | Word::TrueObject | Word::FalseObject => {
+            Word::Big(key) | Word::Cell(key) => self.take(key),
+            Word::Short(_) | Word::PyNone | Word::PyTrue | Word::PyFalse => {
                 self.top.place += 1;
                 Ok(None)
             }
@@ -32,18 +33,19 @@ impl State {
     }
 
     /// Takes one reference more to a cell, which the frame owns then.
-    fn take(&mut self, c: usize) -> Result<Option<Ending>, Memory>
+    fn take(&mut self, key: Key) -> Result<Option<Ending>, Memory>
         requires small { IsSmall self.old }
         requires place { self.old.top.place + 1 < 2 ^ 64 }
-        ensures { IfOk result (λ ending. Follows (λ s. taken true s c) ending self.old self.new) }
+        ensures { IfOk result (λ ending. Follows (λ s. taken true s (number_of key)) ending self.old self.new) }
     {
-        if !self.cells.is_live(c) {
-            return Ok(Some(Ending::Fault(Fault::Dead)));
+        match self.cells.take(key) {
+            Err(Dead) => Ok(Some(Ending::Fault(Fault::Dead))),
+            Ok(()) => {
+                self.top.ledger.add(key.serial())?;
+                self.top.place += 1;
+                Ok(None)
+            }
         }
-        self.top.ledger.add(c)?;
-        self.cells.take_one(c);
-        self.top.place += 1;
-        Ok(None)
     }
 
     /// Gives up the reference of a variable, if its word has a cell.
@@ -68,7 +70,7 @@ impl State {
         };
         let word = *word;
         match word {
-            Word::TaggedError | Word::NoObject => {
+            Word::TagError | Word::Null => {
                 self.top.place += 1;
                 None
             }
@@ -79,11 +81,11 @@ impl State {
     /// Gives up the reference of a word, if it has a cell.
     fn give_word_up(&mut self, word: Word) -> Option<Ending>
         requires { self.old.top.place + 1 < 2 ^ 64 }
-        ensures { Follows (λ s. decremented true s (words.word_of word)) result self.old self.new }
+        ensures { Follows (λ s. decremented true s (contents.word_of word)) result self.old self.new }
     {
         match word {
-            Word::Object(c) => self.give_up(c),
-            Word::Short(_) | Word::NoneObject | Word::TrueObject | Word::FalseObject => {
+            Word::Big(key) | Word::Cell(key) => self.give_up(key),
+            Word::Short(_) | Word::PyNone | Word::PyTrue | Word::PyFalse => {
                 self.top.place += 1;
                 None
             }
@@ -92,18 +94,23 @@ impl State {
     }
 
     /// Gives a reference to a cell up, which the frame is to own.
-    fn give_up(&mut self, c: usize) -> Option<Ending>
+    fn give_up(&mut self, key: Key) -> Option<Ending>
         requires { self.old.top.place + 1 < 2 ^ 64 }
-        ensures { Follows (λ s. given_up true s c) result self.old self.new }
+        ensures { Follows (λ s. given_up true s (number_of key)) result self.old self.new }
     {
-        if !self.cells.is_live(c) {
+        if !self.is_live(key) {
             return Some(Ending::Fault(Fault::Dead));
         }
-        if !self.top.ledger.take(c) {
+        if !self.top.ledger.take(key.serial()) {
             return Some(Ending::Fault(Fault::NotOwned));
         }
-        self.cells.give_up(c);
-        self.top.place += 1;
-        None
+        match self.cells.give(key) {
+            // The cell is there, as was tested first.
+            Err(Dead) => Some(Ending::Fault(Fault::Dead)),
+            Ok(()) => {
+                self.top.place += 1;
+                None
+            }
+        }
     }
 }

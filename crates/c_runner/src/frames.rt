@@ -6,13 +6,14 @@ ghost use Rattle.c_core.specs.Step as machine_step;
 ghost use Rattle.c_core.specs.Step.{Next, function_called, returned, if_passed, if_in_order, if_result, if_none_left, if_ended, Ends, Ended};
 ghost use Rattle.c_runner.specs.Parts.{if_argument, passed_on, unless_fault, waits_for, handed_back};
 ghost use Rattle.c_runner.specs.States.{Rest, Follows, IsSmall, state_of, next_of};
-ghost use Rattle.c_runner.specs.Words.{word_of};
+ghost use Rattle.cell_heap.specs.Contents.{number_of, word_of};
 
 use crate::ledger::Ledger;
 use crate::report::Ending;
 use crate::state::{Frame, State, push_error_values};
-use crate::words::Word;
+use crate::words::{is_error, is_value_of};
 use c_core::{CArg, CFunc, Code, Fault, Kind};
+use cell_heap::{Key, Word};
 use std::alloc::Global;
 use std::mem;
 use value_core::{Many, Memory, Name};
@@ -102,7 +103,7 @@ impl State {
             return Err(Fault::Kind);
         };
         let word = *word;
-        if !word.is_value_of(kind) {
+        if !is_value_of(kind, word) {
             return Err(Fault::Kind);
         }
         if !self.is_there(word) {
@@ -158,11 +159,11 @@ impl State {
             if_in_order true s (word_of word) s.pending (if_result true s (word_of word) (λ l. if_none_left true s l next))
             ≡ unless_fault result s next) }
     {
-        if word.is_error() {
+        if is_error(word) {
             return Some(Fault::Kind);
         }
         match word {
-            Word::Object(c) => self.cell_fault(c),
+            Word::Big(key) | Word::Cell(key) => self.cell_fault(key),
             _ => {
                 if self.top.ledger.is_empty() {
                     None
@@ -174,17 +175,17 @@ impl State {
     }
 
     /// Why a frame may not return the reference to a cell.
-    fn cell_fault(&self, c: usize) -> Option<Fault>
+    fn cell_fault(&self, key: Key) -> Option<Fault>
         ensures { (rest : Rest) (next : Next) →
             (let s = state_of rest self.now in
-            if_result true s (machine.ObjectCell c) (λ l. if_none_left true s l next)
+            if_result true s (machine.ObjectCell (number_of key)) (λ l. if_none_left true s l next)
             ≡ unless_fault result s next) }
     {
-        if !self.cells.is_live(c) {
+        if !self.is_live(key) {
             Some(Fault::Dead)
-        } else if !self.top.ledger.owns(c) {
+        } else if !self.top.ledger.owns(key.serial()) {
             Some(Fault::NotOwned)
-        } else if !self.top.ledger.owns_only(c) {
+        } else if !self.top.ledger.owns_only(key.serial()) {
             Some(Fault::Leak)
         } else {
             None

@@ -7,7 +7,7 @@ use value_core::Memory;
 /// see the list of the numbers, each as often as it is owned.
 #[derive(Drop)]
 pub(crate) struct Ledger {
-    further: BTreeMap<usize, u128>,
+    further: BTreeMap<u128, u128>,
 }
 
 impl Model for Ledger {
@@ -35,7 +35,7 @@ impl Ledger {
     }
 
     /// Adds one reference to a cell.
-    pub fn add(&mut self, c: usize) -> Result<(), Memory>
+    pub fn add(&mut self, c: u128) -> Result<(), Memory>
         requires countable { times self.old c < 2 ^ 128 }
         ensures { OnOk result (self.new ≡ more c self.old) }
     {
@@ -48,7 +48,7 @@ impl Ledger {
     }
 
     /// Takes one reference to a cell out, and says whether there was one.
-    pub fn take(&mut self, c: usize) -> bool
+    pub fn take(&mut self, c: u128) -> bool
         ensures owned { result ≡ nat_lt 0 (times self.old c) }
         ensures taken { self.new ≡ without c self.old }
         ensures kept { result ≡ false → self.new ≡ self.old }
@@ -68,7 +68,7 @@ impl Ledger {
     }
 
     /// Whether there is any reference to a cell.
-    pub fn owns(&self, c: usize) -> bool
+    pub fn owns(&self, c: u128) -> bool
         ensures { result ≡ nat_lt 0 (times self.now c) }
     {
         match self.further.get(&c) {
@@ -78,7 +78,7 @@ impl Ledger {
     }
 
     /// Whether one reference to a cell is all that is owned.
-    pub fn owns_only(&self, c: usize) -> bool
+    pub fn owns_only(&self, c: u128) -> bool
         ensures { result ≡ is_only c self.now }
     {
         match self.further.get(&c) {

@@ -6,14 +6,15 @@
 //! `specs/Report.antt` says when a report is that of a run, and `specs/Ran.antt` what a call gives.
 //!
 //! The runner keeps a state of its own and makes the machine's steps one for one: `specs/States.antt` says which state of
-//! the machine it stands for, and each step leads from that of the old state to that of the new one.
+//! the machine it stands for, and each step leads from that of the old state to that of the new one. Its cells are those of
+//! a heap (`cell_heap`), its words and contents too.
 #![tactic(auto)]
 
 mod calls;
-mod cells;
 mod counts;
 mod frames;
 mod ledger;
+mod live;
 mod output;
 mod report;
 mod runner;

@@ -49,7 +49,7 @@ pub fn run<I: Source, O: Sink>(
             None => state.output.hand_on_if_full(out)?,
             Some(ending) => {
                 state.output.hand_on(out)?;
-                return Ok(state.report(alloc, ending, has_output)?);
+                return Ok(state.report(alloc, code, ending, has_output)?);
             }
         }
     }

@@ -1,22 +1,22 @@
-ghost use Rattle.std.specs.Prelude.{◌≡◌, ℕ, ◌^◌, ◌<◌, List, ◌++◌, map, slice_set, IfOk, OnOk};
+ghost use Rattle.std.specs.Prelude.{◌≡◌, ℕ, ◌^◌, ◌<◌, ◌++◌, map, is_some, slice_set, IfOk, OnOk};
 ghost use Rattle.std.specs.Option.{option_copied};
 ghost use Rattle.value_core.specs.Items.{Items};
-ghost use Rattle.c_core.specs.declared.code.CClass.{CClass};
-ghost use Rattle.c_core.specs.Cells.{times};
+ghost use Rattle.c_core.specs.Cells.{times, content_at};
 ghost use Rattle.c_core.specs.Functions.{error_word};
 ghost use Rattle.c_core.specs.Ledgers.{more_of};
 ghost use Rattle.c_core.specs.Machine.{refs_of};
 ghost use Rattle.c_core.specs.Run.{first_words, start};
 ghost use Rattle.c_runner.specs.Report.{live_cells};
 ghost use Rattle.c_runner.specs.States.{first_rest, state_of, with_target};
-ghost use Rattle.c_runner.specs.Words.{word_of};
+ghost use Rattle.cell_heap.specs.Contents.{number_of, word_of};
 
-use crate::cells::Cells;
 use crate::ledger::Ledger;
+use crate::live::live;
 use crate::output::Output;
 use crate::report::{Ending, Report};
-use crate::words::Word;
+use crate::words::error_of;
 use c_core::{CFunc, Code, Kind};
+use cell_heap::{Heap, Key, Word};
 use std::alloc::Global;
 use value_core::{Many, Memory, Name};
 
@@ -24,7 +24,7 @@ use value_core::{Many, Memory, Name};
 /// which state of the machine it is.
 #[derive(Drop)]
 pub(crate) struct State {
-    pub cells: Cells,
+    pub cells: Heap,
     pub top: Frame,
     pub below: Many<Frame>,
     pub output: Output,
@@ -70,13 +70,20 @@ impl Frame {
         ensures { OnOk result (self.new ≡ record self.old { ledger = more_of (refs_of (word_of word)) self.old.ledger }) }
     {
         match word {
-            Word::Object(c) => self.ledger.add(c),
+            Word::Big(key) | Word::Cell(key) => self.ledger.add(key.serial()),
             _ => Ok(()),
         }
     }
 }
 
 impl State {
+    /// Whether the cell of a key is there.
+    pub fn is_live(&self, key: Key) -> bool
+        ensures { result ≡ is_some (content_at self.now.cells (number_of key)) }
+    {
+        self.cells.count(key).is_ok()
+    }
+
     /// Where the run of a code for so many turns begins: in its last function.
     pub fn start(alloc: Global, code: &Code, turns: u64) -> Result<State, Memory>
         ensures { IfOk result (λ state. (items : Items) →
@@ -92,7 +99,7 @@ impl State {
             into: None,
         };
         Ok(State {
-            cells: Cells::new(alloc),
+            cells: Heap::new(alloc),
             top,
             below: Many::new(alloc),
             output: Output::new(alloc),
@@ -100,17 +107,22 @@ impl State {
         })
     }
 
-    /// The report of a run that ends so, and wrote something or not.
-    pub fn report(&self, alloc: Global, ending: Ending, has_output: bool) -> Result<Report, Memory>
+    /// The report of a run of a code that ends so, and wrote something or not.
+    pub fn report(
+        &self,
+        alloc: Global,
+        code: &Code,
+        ending: Ending,
+        has_output: bool,
+    ) -> Result<Report, Memory>
         ensures ending { IfOk result (λ report. report.ending ≡ ending) }
-        ensures live { IfOk result (λ report. (classes : List CClass) →
-            report.live ≡ live_cells classes self.now.cells) }
+        ensures live { IfOk result (λ report. report.live ≡ live_cells code.now.classes self.now.cells) }
         ensures turns { IfOk result (λ report. report.turns_left ≡ self.now.turns) }
         ensures output { IfOk result (λ report. report.has_output ≡ has_output) }
     {
         Ok(Report {
             ending,
-            live: self.cells.live(alloc)?,
+            live: live(alloc, code.classes.as_slice(), &self.cells)?,
             turns_left: self.turns,
             has_output,
         })
@@ -133,7 +145,7 @@ pub(crate) fn push_error_values(words: &mut Many<Word>, vars: &[(Name, Kind)]) -
     ensures { OnOk result (map word_of words.new ≡ map word_of words.old ++ map (λ v. error_word v.1) vars.now) }
 {
     for var in vars {
-        words.push(Word::error_of(var.1))?;
+        words.push(error_of(var.1))?;
     }
     Ok(())
 }

@@ -6,14 +6,15 @@ ghost use Rattle.c_core.specs.Functions.{label_places};
 ghost use Rattle.c_core.specs.Step.{Goes, literal_word, with_var, next_line, if_some, if_there, word_of, jumped, chosen, turned, step, step_at};
 ghost use Rattle.c_runner.specs.Parts.{callee_called, jumped_by_error, is_there};
 ghost use Rattle.c_runner.specs.States.{Follows, IsSmall};
-ghost use Rattle.c_runner.specs.Words as words;
 ghost use Rattle.c_runner.specs.Targets.{target_of, table_of};
+ghost use Rattle.cell_heap.specs.Contents as contents;
 
 use crate::report::Ending;
 use crate::state::State;
 use crate::table::{Callee, Target, target_at};
-use crate::words::Word;
+use crate::words::{equals_error, of_literal};
 use c_core::{CArg, CFunc, CLit, Code, Fault, Kind, Line};
+use cell_heap::Word;
 use std::alloc::Global;
 use value_core::{Many, Memory};
 
@@ -132,7 +133,7 @@ impl State {
     {
         match kind {
             None => Some(Ending::Fault(Fault::Kind)),
-            Some(kind) => match Word::of_literal(kind, literal) {
+            Some(kind) => match of_literal(kind, literal) {
                 None => Some(Ending::Fault(Fault::Kind)),
                 Some(word) => {
                     self.top.set(x, word);
@@ -182,7 +183,7 @@ impl State {
         let Some(word) = self.top.vars.get(x) else {
             return Some(Ending::Fault(Fault::Kind));
         };
-        if word.equals_error() {
+        if equals_error(*word) {
             self.jump(first)
         } else {
             self.jump(second)
@@ -204,10 +205,10 @@ impl State {
 
     /// Whether the cell of a word is there, if the word has one.
     pub fn is_there(&self, word: Word) -> bool
-        ensures { result ≡ is_there self.now.cells (words.word_of word) }
+        ensures { result ≡ is_there self.now.cells (contents.word_of word) }
     {
         match word {
-            Word::Object(c) => self.cells.is_live(c),
+            Word::Big(key) | Word::Cell(key) => self.is_live(key),
             _ => true,
         }
     }

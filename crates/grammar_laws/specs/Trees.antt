@@ -1,6 +1,6 @@
--- Trees whose names, numbers and texts pass tests, and which have the parts that a text gives them: a body has a statement, an `if`
--- a test, a comparison a second operand. The key of an argument, names behind a dot, imports, decorators, annotations and bases
--- are not looked at.
+-- Trees whose names, numbers and texts pass tests, and which have the parts that a text gives them: a body has a statement, an `if` a
+-- test, a comparison a second operand. Not looked at are the keys of arguments, names behind a dot, what is imported, decorators,
+-- annotations and bases, the names in `global`, and the expressions in `del`, `raise`, `assert` and `except`.
 use Rattle.std.specs.Prelude.{◌≡◌, ℕ, ℤ, Bool, true, List, [], ◌++◌, Option, Some, None}
 use Rattle.std.specs.List.{AllByRecursion}
 use Rattle.py_syntax.specs.declared.token.TokenKind.{TokenKind}

@@ -1,5 +1,5 @@
 -- The runs of a code that is faithful to a module.
-use Rattle.std.proofs.Common.{◌≡◌, refl, sym, ◌∙◌, ap, subst, ℕ, ◌≤◌, List, [], ◌++◌, append-nil, length, Some}
+use Rattle.std.proofs.Common.{◌≡◌, refl, sym, ◌∙◌, ap, subst, ℕ, ◌≤◌, [], ◌++◌, append-nil, length, Some}
 use Rattle.value_core.specs.Ending.{Ending, Done, Raised, Cut, Over, Broken}
 use Rattle.value_core.specs.Items.{Items}
 use Rattle.py_typed.specs.Statements.{TypedModule}

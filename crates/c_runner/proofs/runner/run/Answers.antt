@@ -81,7 +81,7 @@ returns-in_err-report-in-Some-clause-ran g c =
 pub returns-in-Some-clause-ran : goal.returns-in-Some-clause-ran
 returns-in-Some-clause-ran g c =
     answers_report g.I.Source.tells (g.I.Source.faults c.args.input.now) (g.I.Source.left c.args.input.now) c.args.code.now c.args.turns g.O.Sink.tells (g.O.Sink.taken c.args.out.now) (g.O.Sink.taken c.hand_on.new.out) (c.hand_on.new.out ≡ c.args.out.now) c.run_exists.ensures c.requires.well_formed _
-    (reported _ _ _ _ _ _ _ _ _ _ c.steps.invariant.running c.step.new.self c.in-Some.ending _ (can_step _ _ _ _ _ _ _ _ _ _ c.steps.invariant.running c.run_exists.ensures c.requires.well_formed) (rw c.in-Some.is at c.in_ok-ending.ensures) c.in_ok-report-in-Some.ensures.ending (c.in_ok-report-in-Some.ensures.live c.args.code.now.classes) c.in_ok-report-in-Some.ensures.turns (c.in_ok-report-in-Some.ensures.output ∙ c.has_any-has_output.ensures))
+    (reported _ _ _ _ _ _ _ _ _ _ c.steps.invariant.running c.step.new.self c.in-Some.ending _ (can_step _ _ _ _ _ _ _ _ _ _ c.steps.invariant.running c.run_exists.ensures c.requires.well_formed) (rw c.in-Some.is at c.in_ok-ending.ensures) c.in_ok-report-in-Some.ensures.ending c.in_ok-report-in-Some.ensures.live c.in_ok-report-in-Some.ensures.turns (c.in_ok-report-in-Some.ensures.output ∙ c.has_any-has_output.ensures))
     (all_at_end _ _ _ _ _ _ _ _ _ _ c.steps.invariant.running c.step.new.self c.in-Some.ending _ (can_step _ _ _ _ _ _ _ _ _ _ c.steps.invariant.running c.run_exists.ensures c.requires.well_formed) (rw c.in-Some.is at c.in_ok-ending.ensures) c.in_ok-hand_on-in-Some.ensures.taken)
     (λ stop run none.
     let nothing = nothing_at_end _ _ _ _ _ _ _ _ _ _ c.steps.invariant.running c.step.new.self c.in-Some.ending (can_step _ _ _ _ _ _ _ _ _ _ c.steps.invariant.running c.run_exists.ensures c.requires.well_formed) (rw c.in-Some.is at c.in_ok-ending.ensures) stop run none in

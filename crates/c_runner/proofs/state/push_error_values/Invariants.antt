@@ -1,7 +1,7 @@
 use Rattle.std.proofs.Common.{◌≡◌, ◌++◌, take}
 use Rattle.std.specs.Prelude.{map}
 use Rattle.c_core.specs.Functions.{error_word}
-use Rattle.c_runner.specs.Words.{word_of}
+use Rattle.cell_heap.specs.Contents.{word_of}
 use Rattle.c_runner.proofs.state.push_error_values.Given as goal
 
 abbrev pub invariant-loop-var : goal.invariant-loop-var

@@ -2,7 +2,7 @@ use Rattle.std.proofs.Common.{◌≡◌, sym, ◌∙◌, ap, true, false}
 use Rattle.c_core.specs.Step.{Goes}
 use Rattle.c_runner.specs.Parts.{unless_fault, handed_back}
 use Rattle.c_runner.specs.States.{state_of}
-use Rattle.c_runner.specs.Words.{word_of}
+use Rattle.cell_heap.specs.Contents.{word_of}
 use Rattle.c_runner.proofs.FrameLemmas.{returns_to}
 use Rattle.c_runner.proofs.StateLemmas.{word_at}
 use Rattle.c_runner.proofs.state.State.leave.Goals as goal

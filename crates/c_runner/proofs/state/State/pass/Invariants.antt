@@ -3,7 +3,7 @@ use Rattle.std.specs.Prelude.{map}
 use Rattle.c_core.specs.Machine as machine
 use Rattle.c_core.specs.Step.{Next, if_passed}
 use Rattle.c_runner.specs.States.{Rest, state_of}
-use Rattle.c_runner.specs.Words.{word_of}
+use Rattle.cell_heap.specs.Contents.{word_of}
 use Rattle.c_runner.proofs.state.State.pass.Given as goal
 
 -- what is left to be passed comes behind the words so far

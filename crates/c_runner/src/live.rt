@@ -1,0 +1,78 @@
+//! The cells that are there, as a report has them.
+ghost use Rattle.std.specs.Prelude.{◌≡◌, IfOk};
+ghost use Rattle.std.specs.Option.{option_copied};
+ghost use Rattle.c_runner.specs.Report as report;
+ghost use Rattle.c_runner.specs.Report.{live_cells, name_of_class};
+ghost use Rattle.c_runner.specs.Live.{live_at};
+ghost use Rattle.cell_heap.specs.Contents.{number_of, content_of};
+
+use crate::report::LiveCell;
+use c_core::CClass;
+use cell_heap::{Content, Heap, Key};
+use std::alloc::Global;
+use value_core::{Many, Memory, Text};
+
+/// The cells that are there, in the order in which they were made.
+pub(crate) fn live(
+    alloc: Global,
+    classes: &[CClass],
+    cells: &Heap,
+) -> Result<Many<LiveCell>, Memory>
+    ensures { IfOk result (λ live. live ≡ live_cells classes.now cells.now) }
+{
+    let keys = cells.keys(alloc)?;
+    let mut live = Many::new(alloc);
+    for key in keys.as_slice() {
+        match live_cell(alloc, classes, cells, *key)? {
+            None => {}
+            Some(cell) => live.push(cell)?,
+        }
+    }
+    Ok(live)
+}
+
+/// How the cell of a key stands in a report, if it is there.
+fn live_cell(
+    alloc: Global,
+    classes: &[CClass],
+    cells: &Heap,
+    key: Key,
+) -> Result<Option<LiveCell>, Memory>
+    ensures { IfOk result (λ live. live ≡ live_at classes.now cells.now (number_of key)) }
+{
+    let Ok(content) = cells.content(key) else {
+        return Ok(None);
+    };
+    let Ok(count) = cells.count(key) else {
+        return Ok(None);
+    };
+    Ok(Some(LiveCell {
+        kind: Text::from_str(alloc, kind_name(classes, content))?,
+        count,
+    }))
+}
+
+/// What a cell holds, by name.
+fn kind_name<'a>(classes: &'a [CClass], content: &Content) -> &'a str
+    ensures { result.now ≡ report.kind_name classes.now (content_of content.now) }
+{
+    match content {
+        Content::Int(_) => "Int",
+        Content::Str(_) => "Str",
+        Content::List(_) => "List",
+        Content::Dict(_) => "Dict",
+        Content::Tuple(_) => "Tuple",
+        Content::Inst(class, _) => class_name(classes.get(*class)),
+        Content::Exc(class, _) => class.name(),
+    }
+}
+
+/// The name of a class, empty where there is none.
+fn class_name(class: Option<&CClass>) -> &str
+    ensures { result.now ≡ name_of_class (option_copied class.entry) }
+{
+    match class {
+        None => "",
+        Some(class) => class.name.as_str(),
+    }
+}
