@@ -24,6 +24,8 @@ mod ir_core_tests;
 #[cfg(test)]
 mod mypyc_top_changes_tests;
 #[cfg(test)]
+mod mypyc_top_functions_tests;
+#[cfg(test)]
 mod mypyc_top_running_tests;
 #[cfg(test)]
 mod mypyc_top_source_tests;

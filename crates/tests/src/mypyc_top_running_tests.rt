@@ -1,6 +1,6 @@
 //! Programs that run: modules, and C texts that were changed by hand.
 use crate::case::check;
-use crate::mypyc_top_tests::{CALM, Fails, Given, THREE, check_given, command};
+use crate::mypyc_top_tests::{CALM, Fails, Given, check_given, command};
 use std::alloc::{AllocError, Global};
 use std::process::Abort;
 use std::test::Fail;
@@ -614,6 +614,7 @@ const MODULES: &[(&[u8], &str, u8)] = &[
     (b"", "", 0),
     (b"from mypy_extensions import i64\nprint(+3)\n", "3\n", 0),
     (b"print(3)\nprint(3 + 4)\n", UNBUILT, 1),
+    (b"print(3)\npass\nprint(True)\n", "3\nTrue\n", 0),
 ];
 
 #[test]
@@ -693,14 +694,27 @@ fn calls_of_the_sinks_fail_in_turn(rt: HostRuntime) -> Result<(), Fail> {
     Ok(())
 }
 
+/// A text whose function has a literal.
+const PRINTS: &str = r#"/* mypyc subset 1 */
+char CPyModule(void) {
+    PyObject *cpy_t_0;
+    char cpy_t_1;
+    cpy_t_0 = CPyStr_Literal("3\n");
+    CPy_Write(cpy_t_0);
+    CPy_DECREF(cpy_t_0);
+    cpy_t_1 = 1;
+    return cpy_t_1;
+}
+"#;
+
 // Each front of a text is refused at its end: all of its lines can stand.
 #[test]
 fn cuts_of_a_text(rt: HostRuntime) -> Result<(), Fail> {
-    for length in 0..THREE.len() {
+    for length in 0..PRINTS.len() {
         let given = command(
             rt.alloc(),
             &["--emit=runc", "t.py"],
-            &THREE.as_bytes()[..length],
+            &PRINTS.as_bytes()[..length],
             CALM,
         )?;
         let line = format!(in rt.alloc(); "mypyc: t.py: refused at byte {length}\n")?;
@@ -777,7 +791,7 @@ fn check_changed(
     place: usize,
     other: u8,
 ) -> Result<(), AllocError> {
-    let mut text = Vec::from_slice(alloc, THREE.as_bytes())?;
+    let mut text = Vec::from_slice(alloc, PRINTS.as_bytes())?;
     if place < text.len() {
         text[place] = other;
     }
@@ -801,7 +815,7 @@ fn check_changed(
 #[test]
 fn changes_of_a_text(rt: HostRuntime) -> Result<(), Fail> {
     let mut start = 0;
-    for (place, byte) in THREE.as_bytes().iter().enumerate() {
+    for (place, byte) in PRINTS.as_bytes().iter().enumerate() {
         for other in 0..=u8::MAX {
             if other != *byte {
                 check_changed(&rt, rt.alloc(), start, place, other)?;

@@ -41,6 +41,15 @@ const BUILT: &[(&[u8], &str)] = &[
         b"from __future__ import annotations\nprint(3)\nfrom mypy_extensions import i64\n",
         "3\n",
     ),
+    (b"pass\nif True: print(True)\nprint(3)\n", "True\n3\n"),
+    (
+        b"from mypy_extensions import i64\r\nx: i64\r\nprint(i64(3))\r\n",
+        "3\n",
+    ),
+    (
+        b"def f() -> None:\n\tpass\n\n# none\n\n\tprint(4)\n\nf()",
+        "4\n",
+    ),
 ];
 
 const NO_TEXT: &str = "File is not UTF-8  [syntax]";
@@ -196,21 +205,19 @@ const NOT_COMPILED: &[(&[u8], usize)] = &[
     (b"print(4611686018427387904)", 1),
     (b"print(170141183460469231731687303715884105727)", 1),
     (b"print('3')", 1),
-    (b"print(True)", 1),
     (b"print(1 + 2)", 1),
     (b"print(1 if True else 2)", 1),
-    (b"from mypy_extensions import i64\nprint(i64(3))", 2),
+    (b"from mypy_extensions import i64\nprint(int(i64(3)))", 2),
     (b"3", 1),
-    (b"pass", 1),
-    (b"print(3)\nx: int\n", 2),
-    (b"if True: print(3)", 1),
-    (b"def f() -> None: pass", 1),
+    (b"print(3)\nx: int = 1\n", 2),
+    (b"if True: print('3')", 1),
+    (b"def f(s: str) -> None: pass", 1),
     (b"print(1)\n\ndef f() -> int:\n    return 3\n\nx = f()\n", 3),
     (b"print(1)\nx = f()\ndef f() -> int:\n    return 3\n", 2),
     (b"print(1)\n\nprint(2); 3\nprint()\n", 3),
     (b"print(1)\nprint(\n-1)\n", 2),
     (b"print(1)\\\n; 3\n", 2),
-    (b"\r\n\r(\n3)", 3),
+    (b"\r\n\r(\n3)", 4),
 ];
 
 /// Modules with a part that is repeated: what stands before it, the part, how often it stands there, and what stands

@@ -15,37 +15,65 @@ pub(crate) const FOUND: &str = "Found 1 error in 1 file (checked 1 source file)\
 
 pub(crate) const THREE: &str = r#"/* mypyc subset 1 */
 char CPyModule(void) {
-    PyObject *cpy_t_0;
-    char cpy_t_1;
-    cpy_t_0 = CPyStr_Literal("3\n");
-    CPy_Write(cpy_t_0);
-    CPy_DECREF(cpy_t_0);
-    cpy_t_1 = 1;
-    return cpy_t_1;
+    PyObject *cpy_r_r0;
+    int64_t cpy_r_r1;
+    char cpy_r_r2;
+    cpy_r_r1 = 3;
+    cpy_r_r0 = CPyInt64_Str(cpy_r_r1);
+    CPy_Write(cpy_r_r0);
+    CPy_DECREF(cpy_r_r0);
+    cpy_r_r0 = CPyStr_Literal("\n");
+    CPy_Write(cpy_r_r0);
+    CPy_DECREF(cpy_r_r0);
+    cpy_r_r2 = 1;
+    return cpy_r_r2;
 }
 "#;
 
 const NONE: &str = r#"/* mypyc subset 1 */
 char CPyModule(void) {
-    PyObject *cpy_t_0;
-    char cpy_t_1;
-    cpy_t_1 = 1;
-    return cpy_t_1;
+    PyObject *cpy_r_r0;
+    char cpy_r_r1;
+    cpy_r_r1 = 1;
+    return cpy_r_r1;
+}
+"#;
+
+const GLOBALS: &str = r#"/* mypyc subset 1 */
+CPyTagged CPyStatic_x;
+int64_t CPyStatic_y;
+char CPyStatic_z;
+PyObject *CPyStatic_u;
+char CPyModule(void) {
+    PyObject *cpy_r_r0;
+    char cpy_r_r1;
+    cpy_r_r1 = 1;
+    return cpy_r_r1;
 }
 "#;
 
 const TWO: &str = r#"/* mypyc subset 1 */
 char CPyModule(void) {
-    PyObject *cpy_t_0;
-    char cpy_t_1;
-    cpy_t_0 = CPyStr_Literal("0\n");
-    CPy_Write(cpy_t_0);
-    CPy_DECREF(cpy_t_0);
-    cpy_t_0 = CPyStr_Literal("4611686018427387903\n");
-    CPy_Write(cpy_t_0);
-    CPy_DECREF(cpy_t_0);
-    cpy_t_1 = 1;
-    return cpy_t_1;
+    PyObject *cpy_r_r0;
+    int64_t cpy_r_r1;
+    int64_t cpy_r_r2;
+    char cpy_r_r3;
+    cpy_r_r1 = 0;
+    cpy_r_r0 = CPyInt64_Str(cpy_r_r1);
+    CPy_Write(cpy_r_r0);
+    CPy_DECREF(cpy_r_r0);
+    cpy_r_r0 = CPyStr_Literal("\n");
+    CPy_Write(cpy_r_r0);
+    CPy_DECREF(cpy_r_r0);
+    cpy_r_r2 = 4611686018427387903;
+    cpy_r_r0 = CPyInt64_Str(cpy_r_r2);
+    CPy_Write(cpy_r_r0);
+    CPy_DECREF(cpy_r_r0);
+    cpy_r_r0 = CPyStr_Literal("\n");
+    CPy_Write(cpy_r_r0);
+    CPy_DECREF(cpy_r_r0);
+    cpy_r_r3 = 1;
+    return cpy_r_r3;
 }
 "#;
 
@@ -105,6 +133,13 @@ pub(crate) fn check_given(rt: &impl Abort, given: &Given, out: &str, err: &str, 
     check(rt, &(out, err, number), is_told && given.number == number);
 }
 
+const DECLARED: &[u8] = b"from mypy_extensions import i64
+x: int
+y: i64
+z: bool
+u: list[int]
+";
+
 const SECOND: &str = "t.py:2: error: Form is not built yet  [unbuilt]\n";
 
 const FIRST: &str = "t.py:1: error: Form is not built yet  [unbuilt]\n";
@@ -120,11 +155,13 @@ const MODULES: &[(&[u8], &str, &str, u8)] = &[
     (b"print(3)\n", THREE, "", 0),
     (b"print(3)", THREE, "", 0),
     (b"", NONE, "", 0),
+    (b"pass\n", NONE, "", 0),
+    (DECLARED, GLOBALS, "", 0),
     (b"print(0)\nprint(4611686018427387903)\n", TWO, "", 0),
     (b"print(0x3)\r\n\n# three\n", THREE, "", 0),
     (b"print(+3)", THREE, "", 0),
     (b"from typing import Optional\nprint(int(3))", THREE, "", 0),
-    (b"print(3)\npass\nprint()\n", SECOND, FOUND, 1),
+    (b"print(3)\nprint()\npass\n", SECOND, FOUND, 1),
     (b"print(4611686018427387904)\n", FIRST, FOUND, 1),
     (b"print(3)\nprint(x)\npass\n", UNKNOWN, FOUND, 1),
     (b"print(\xff)", NO_TEXT, FOUND, 1),
