@@ -1,15 +1,13 @@
 -- The tree of a file is one that a text can write.
-use Rattle.std.proofs.Common.{◌≡◌, ℕ, ℤ, pos, ◌^◌, Bool, true, false, not, ◌&&◌, List, [], ◌∷◌, ◌++◌, map, Some, Ok, refl, ap, sym, subst, ◌∙◌, lt-ltb, chars, bytes_eq, slice_get}
+use Rattle.std.proofs.Common.{◌≡◌, ℕ, ℤ, ◌^◌, Bool, true, not, ◌&&◌, List, [], ◌∷◌, ◌++◌, map, refl, ap, sym, subst, lt-ltb, chars, bytes_eq}
 use Rattle.std.proofs.lemmas.Bool.{and_from}
 use Rattle.std.proofs.lemmas.Str.{IsUtf8-from_is_utf8, is_utf8-from_IsUtf8, IsUtf8-append, IsUtf8-nil, scalars-chars}
 use Rattle.std.specs.List.{list_all, AllByRecursion}
 use Rattle.std.specs.Str.{is_utf8}
 use Rattle.unicode_ident.specs.Ident.{is_xid_continue}
-use Rattle.py_syntax.specs.declared.token.Token.{Token}
 use Rattle.py_syntax.specs.declared.token.TokenKind.{TokenKind}
 use Rattle.py_syntax.specs.declared.token.TokenKind.TheVariants as kind
 use Rattle.py_syntax.specs.Statements.{Suite, FuncTree}
-use Rattle.py_lexer.specs.Tokens.{tokens_of}
 use Rattle.py_binder.specs.Scope.{Roles, module_role, module_scope, functions}
 use Rattle.py_scope.specs.declared.scope.Meaning.{Meaning}
 use Rattle.py_typed.specs.WellTypedExpr.{is_literal}
@@ -22,7 +20,6 @@ use Rattle.module_laws.proofs.Complete.{quiet_is_well_typed}
 use Rattle.token_laws.specs.Laws.{IsWord, IsSmall, IsFit}
 use Rattle.token_laws.proofs.Fit.{tokens_fit}
 use Rattle.grammar_laws.specs.Trees.{JoinsTexts, KindPasses, SuitePasses}
-use Rattle.grammar_laws.specs.Laws.{TokensPass}
 use Rattle.grammar_laws.proofs.Derived.{trees_pass}
 use Rattle.name_laws.specs.Laws.{OwnNamesPass}
 use Rattle.name_laws.proofs.Names.{variables_pass, functions_pass}
