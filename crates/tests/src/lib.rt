@@ -22,11 +22,19 @@ mod codes;
 #[cfg(test)]
 mod ir_core_tests;
 #[cfg(test)]
+mod modules;
+#[cfg(test)]
 mod mypyc_top_changes_tests;
+#[cfg(test)]
+mod mypyc_top_expressions_tests;
 #[cfg(test)]
 mod mypyc_top_functions_tests;
 #[cfg(test)]
+mod mypyc_top_lines_tests;
+#[cfg(test)]
 mod mypyc_top_running_tests;
+#[cfg(test)]
+mod mypyc_top_sizes_tests;
 #[cfg(test)]
 mod mypyc_top_source_tests;
 #[cfg(test)]
