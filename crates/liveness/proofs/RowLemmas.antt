@@ -85,6 +85,13 @@ from_or_more (suc n) zero le = absurd (omega (arith, le))
 from_or_more (suc n) (suc b) le =
     ⊎_elim (λ a. inl (ap suc a)) (λ a. inr (omega (arith, a))) (from_or_more n b (omega (arith, le)))
 
+pub less_or_same : (c b : ℕ) → c < b + 1 → (c < b) ⊎ (c ≡ b)
+less_or_same zero zero lt = inr refl
+less_or_same zero (suc b) lt = inl (omega arith)
+less_or_same (suc c) zero lt = absurd (omega (arith, lt))
+less_or_same (suc c) (suc b) lt =
+    ⊎_elim (λ a. inl (omega (arith, a))) (λ a. inr (ap suc a)) (less_or_same c b (omega (arith, lt)))
+
 module _ (blocks : List Steps) (r : ℕ) where
   -- what a justified row gives has a path
   pub sound : (row : List Bool) → length row ≡ length blocks → IsJustified blocks r row → (ss : List Step) (l : Last) → live_given ss l row r ≡ true → Live blocks r ss l
@@ -186,3 +193,33 @@ take_all (suc n) (x ∷ xs) ys e = ap (λ z. x ∷ z) (take_all n xs ys (omega (
 
 pub whole : (n : ℕ) (xs ys : List Bool) → length xs ≡ n → take n (xs ++ drop (length xs) ys) ≡ xs
 whole n xs ys e = take_all n xs (drop (length xs) ys) e
+
+-- ---- rows of rows
+
+get_front : (xs ys : List (List Bool)) (i : ℕ) → i < length xs → get_or (xs ++ ys) i [] ≡ get_or xs i []
+get_front [] ys i lt = absurd (omega (arith, lt))
+get_front (x ∷ xs) ys zero lt = refl
+get_front (x ∷ xs) ys (suc i) lt = get_front xs ys i (omega (arith, lt))
+
+get_behind : (xs : List (List Bool)) (y : List Bool) → get_or (xs ++ y ∷ []) (length xs) [] ≡ y
+get_behind [] y = refl
+get_behind (x ∷ xs) y = get_behind xs y
+
+size_more : (xs : List (List Bool)) (y : List Bool) → length (xs ++ y ∷ []) ≡ length xs + 1
+size_more [] y = omega arith
+size_more (x ∷ xs) y = omega (arith, size_more xs y)
+
+pub rows_more : (P : ℕ → List Bool → Type 0) (rows new : List (List Bool)) (n : ℕ) (row : List Bool) → new ≡ rows ++ row ∷ [] → (length rows ≡ n) × ((r : ℕ) → r < n → P r (get_or rows r [])) → P n row → (length new ≡ n + 1) × ((r : ℕ) → r < n + 1 → P r (get_or new r []))
+rows_more P rows new n row e h one =
+    let size : length new ≡ n + 1 =
+        ap length e ∙ size_more rows row ∙ ap (λ z. z + 1) h.0 in
+    (size, λ r lt.
+    ⊎_elim
+    (λ below.
+      let inside : r < length rows = omega (arith, below, h.0) in
+      subst (P r) (sym (ap (λ z. get_or z r []) e ∙ get_front rows (row ∷ []) r inside)) (h.1 r below))
+    (λ same.
+      let at : get_or new r [] ≡ row =
+          ap (λ z. get_or z r []) e ∙ ap (λ z. get_or (rows ++ row ∷ []) z []) (same ∙ sym h.0) ∙ get_behind rows row in
+      subst (P r) (sym at) (subst (λ z. P z row) (sym same) one))
+    (less_or_same r n lt))

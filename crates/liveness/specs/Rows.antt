@@ -1,5 +1,5 @@
 -- Rows of bits, one for each block.
-use Rattle.std.specs.Prelude.{◌≡◌, ◌≤◌, ◌<◌, ◌+◌, ℕ, zero, suc, Bool, true, false, not, ◌&&◌, ◌||◌, List, [], ◌∷◌, length, Option, Some, None, slice_get, get_or, ◌↔◌}
+use Rattle.std.specs.Prelude.{◌≡◌, ◌≤◌, ◌<◌, ◌+◌, ℕ, zero, suc, Bool, true, false, not, ◌&&◌, ◌||◌, List, [], ◌∷◌, length, Option, Some, None, slice_get, slice_set, get_or, ◌↔◌}
 use Rattle.std.specs.List.{list_any}
 use Rattle.ir_core.specs.declared.code.Last.{Last}
 use Rattle.liveness.specs.declared.step.Step.{Step}
@@ -68,7 +68,39 @@ abbrev pub SpreadIs : List Steps → List Bool → Bool → List Bool → List B
 SpreadIs blocks seeds true old new n = 1 + missing new ≤ missing old
 SpreadIs blocks seeds false old new n = (new ≡ old) × IsSpreadBelow n blocks seeds new
 
--- a row that says exactly which blocks of so many are come to
+-- a row that says exactly which blocks are come to
 abbrev pub IsSpreadRow : List Steps → List Bool → List Bool → Type 0
 IsSpreadRow blocks seeds row =
-    (t : ℕ) → t < length blocks → (get_or row t false ≡ true) ↔ Spread blocks seeds t
+    (length row ≡ length blocks) × ((t : ℕ) → t < length blocks → (get_or row t false ≡ true) ↔ Spread blocks seeds t)
+
+-- blocks are marked
+abbrev pub mark_all : List ℕ → List Bool → List Bool
+mark_all [] row = row
+mark_all (t ∷ ts) row = mark_all ts (slice_set row t true)
+
+-- whether one of them is there and was not marked
+abbrev pub marks_new : List ℕ → List Bool → Bool
+marks_new [] row = false
+marks_new (t ∷ ts) row = not (get_or row t true) || marks_new ts (slice_set row t true)
+
+-- some path from the entry comes to the start of a block
+pub data Met (blocks : List Steps) : ℕ → Type 0 where
+  first : Met blocks 0
+  jumped : (b i t : ℕ) (k : Steps) → Met blocks b → slice_get blocks b ≡ Some k → slice_get (targets k.last) i ≡ Some t → Met blocks t
+
+abbrev pub IsMetRow : List Steps → List Bool → Type 0
+IsMetRow blocks row = (b : ℕ) → b < length blocks → (get_or row b false ≡ true) ↔ Met blocks b
+
+-- whether one of some operations writes a register
+abbrev pub is_written : List Step → ℕ → Bool
+is_written ss r = list_any (λ s. is_target s.write r) ss
+
+-- the blocks that are met and write a register
+abbrev pub AreSeeds : List Steps → List Bool → ℕ → List Bool → Type 0
+AreSeeds blocks met r seeds =
+    (b : ℕ) (k : Steps) → slice_get blocks b ≡ Some k → get_or seeds b false ≡ (get_or met b false && is_written k.steps r)
+
+-- a row that says exactly at the start of which blocks a parameter may have been written
+abbrev pub IsOwnedRow : List Steps → List Bool → ℕ → List Bool → Type 0
+IsOwnedRow blocks met r row =
+    (seeds : List Bool) × AreSeeds blocks met r seeds × IsSpreadRow blocks seeds row

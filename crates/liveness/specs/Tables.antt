@@ -4,7 +4,7 @@ use Rattle.std.specs.List.{list_any}
 use Rattle.liveness.specs.declared.step.Step.{Step}
 use Rattle.liveness.specs.declared.step.Steps.{Steps}
 use Rattle.liveness.specs.Paths.{is_target}
-use Rattle.liveness.specs.Rows.{live_given, IsLiveRow}
+use Rattle.liveness.specs.Rows.{live_given, IsLiveRow, is_written, IsOwnedRow}
 
 abbrev pub live_in : Option Steps → ℕ → List Bool → ℕ → Bool
 live_in None p row r = false
@@ -18,9 +18,10 @@ live_by blocks rows b p r = live_in (slice_get blocks b) p (get_or rows r []) r
 abbrev pub AreLiveRows : List Steps → ℕ → List (List Bool) → Type 0
 AreLiveRows blocks n rows = (length rows ≡ n) × ((r : ℕ) → r < n → IsLiveRow blocks r (get_or rows r []))
 
--- whether one of some operations writes a register
-abbrev pub is_written : List Step → ℕ → Bool
-is_written ss r = list_any (λ s. is_target s.write r) ss
+-- the rows of the first registers are exact
+abbrev pub AreOwnedRows : List Steps → List Bool → ℕ → List (List Bool) → Type 0
+AreOwnedRows blocks met n rows =
+    (length rows ≡ n) × ((r : ℕ) → r < n → IsOwnedRow blocks met r (get_or rows r []))
 
 abbrev pub owned_in : Option Steps → ℕ → List Bool → ℕ → ℕ → Bool
 owned_in None b row p r = false

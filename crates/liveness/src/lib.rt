@@ -7,8 +7,12 @@
 //! starts of blocks; what holds inside a block is found by a walk over its operations, which takes no memory.
 #![tactic(auto)]
 
+mod borrow_table;
 mod live_table;
+mod row;
+mod spread;
 mod step;
 
+pub use borrow_table::{BorrowTable, borrowed};
 pub use live_table::{LiveTable, live};
 pub use step::{Step, Steps};

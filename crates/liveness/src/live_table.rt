@@ -1,10 +1,11 @@
 //! Which register is read again, by rows of bits: one row for each register, one bit for the start of each block.
-ghost use Rattle.std.specs.Prelude.{◌≡◌, ◌≤◌, ◌<◌, ◌↔◌, ℕ, [], drop, length, get_or, IfOk, true, false};
+ghost use Rattle.std.specs.Prelude.{◌≡◌, ◌≤◌, ◌<◌, ◌↔◌, ℕ, [], drop, length, get_or, IfOk};
 ghost use Rattle.liveness.specs.Paths.{is_among, is_target, reads_of_last, targets};
 ghost use Rattle.liveness.specs.Rows.{goes_to_set, live_given, missing, IsJustified, SweepIs, IsLiveRow};
 ghost use Rattle.liveness.specs.Tables.{AreLiveRows};
 ghost use Rattle.liveness.specs.Liveness.{says_live, IsLiveTable};
 
+use crate::row::is_set;
 use crate::step::{Step, Steps, kept_blocks};
 use ir_core::{Func, Last, Reg};
 use std::alloc::Global;
@@ -21,12 +22,6 @@ fn is_in(registers: &[usize], r: usize) -> bool
     ensures { result ≡ is_among registers.now r }
 {
     registers.iter().any(|s| *s == r)
-}
-
-fn is_set(row: &[bool], b: usize) -> bool
-    ensures { result ≡ get_or row.now b false }
-{
-    row.get(b).copied().unwrap_or(false)
 }
 
 fn last_reads(last: Last, r: usize) -> bool

@@ -22,6 +22,8 @@ mod codes;
 #[cfg(test)]
 mod ir_core_tests;
 #[cfg(test)]
+mod liveness_tests;
+#[cfg(test)]
 mod mypyc_top_changes_tests;
 #[cfg(test)]
 mod mypyc_top_running_tests;
