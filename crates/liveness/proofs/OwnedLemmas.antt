@@ -1,7 +1,6 @@
 -- What is only lent: paths from the entry, and rows.
-use Rattle.std.proofs.Common.{◌≡◌, ℕ, zero, suc, ◌+◌, ◌<◌, ◌≤◌, ◌⊎◌, Bool, true, false, List, [], ◌∷◌, length, Option, Some, None, refl, sym, ap, ◌∙◌, subst, inl, inr, ⊎_elim, arith, get_or, drop, take, map}
+use Rattle.std.proofs.Common.{◌≡◌, ℕ, zero, suc, ◌<◌, ◌≤◌, ◌⊎◌, Bool, true, false, List, [], ◌∷◌, length, Some, None, refl, sym, ap, ◌∙◌, inl, inr, ⊎_elim, arith, get_or, drop, take, map}
 use Rattle.std.specs.Prelude.{slice_get, not, ◌&&◌, ◌||◌, ◌↔◌}
-use Rattle.std.specs.List.{list_any}
 use Rattle.std.proofs.lemmas.Option.{same_Some, slice_get_within}
 use Rattle.c_core.specs.Primitives.{Outcome, Nothing, Owned, row_of}
 use Rattle.ir_core.specs.declared.code.Op.{Op}
@@ -9,12 +8,12 @@ use Rattle.ir_core.specs.declared.code.Op.TheVariants as op
 use Rattle.ir_core.specs.declared.code.Last.{Last}
 use Rattle.ir_core.specs.declared.code.Block.{Block}
 use Rattle.ir_core.specs.declared.code.Func.{Func}
-use Rattle.ir_core.specs.Items.{Item, Do, End, in_block, item_of, item_in}
+use Rattle.ir_core.specs.Items.{Item, Do, End, in_block, item_in}
 use Rattle.liveness.specs.declared.step.Step.{Step}
 use Rattle.liveness.specs.declared.step.Steps.{Steps}
 use Rattle.liveness.specs.Paths.{is_target, write_of, writes, lends, gives_lent, targets, Goes, passes, fails, jumps, MetAt, entry, onward, OwnedAt, no_parameter, written, kept, BorrowedAt}
 use Rattle.liveness.specs.Steps.{step_of, steps_of}
-use Rattle.liveness.specs.Rows.{Spread, starts, goes_further, IsSpreadRow, Met, first, jumped, IsMetRow, is_written, AreSeeds, IsOwnedRow}
+use Rattle.liveness.specs.Rows.{Spread, starts, goes_further, IsSpreadRow, Met, first, jumped, IsMetRow, is_written, AreSeeds}
 use Rattle.liveness.specs.Tables.{owned_in, owned_by, borrowed_by, AreOwnedRows}
 use Rattle.liveness.proofs.RowLemmas.{or_cases, or_left, or_right, there_is}
 use Rattle.liveness.proofs.SpreadLemmas.{is_either}
@@ -185,9 +184,9 @@ module _ (f : Func) where
         ⊎_elim
         (λ w. written b n b (suc n) (Do o.0.0) (met_walk b k is m n (omega (arith, le))) item w (no_lent (Do o.0.0)) (passes b n o.0.0 item))
         (λ w.
-          let was : bit x k n ≡ true =
-              sym (ap (λ z. bit x k n || z) w ∙ or_none (bit x k n)) ∙ more in
-          kept b n b (suc n) (Do o.0.0) (owned_walk x b k is m start n (omega (arith, le)) was) item w (passes b n o.0.0 item))
+        let was : bit x k n ≡ true =
+        sym (ap (λ z. bit x k n || z) w ∙ or_none (bit x k n)) ∙ more in
+        kept b n b (suc n) (Do o.0.0) (owned_walk x b k is m start n (omega (arith, le)) was) item w (passes b n o.0.0 item))
         (is_either (is_target (write_of o.0.0) r))
 
     jump_on : (b : ℕ) (k : Block) (i t : ℕ) → slice_get f.blocks b ≡ Some k → slice_get (targets k.last) i ≡ Some t → OwnedAt f r b (length k.ops) → OwnedAt f r t 0
@@ -208,7 +207,7 @@ module _ (f : Func) where
         let both = and_true (get_or met b false) (is_written k.steps r) (sym (seeded b k is) ∙ on) in
         let m = met_path b ((met_is b (inside b k is)).0 both.0) in
         let wrote : is_written (map step_of to.0.ops) r ≡ true =
-            ap (λ (z : Steps). is_written z.steps r) to.2 ∙ both.1 in
+        ap (λ (z : Steps). is_written z.steps r) to.2 ∙ both.1 in
         let never : false ≡ true → OwnedAt f r b 0 = λ e. absurd (cc) in
         jump_on b to.0 i t to.1 (ap (λ (z : Steps). slice_get (targets z.last) i) to.2 ∙ at) (owned_walk false b to.0 to.1 m never (length to.0.ops) (omega arith) (whole_bit false to.0 wrote))
     spread_owned t (goes_further b i s k come is at) =
@@ -228,7 +227,7 @@ module _ (f : Func) where
         let there = item_get k.ops k.last y o (item_was f 0 x y k (Do o) is e2) in
         let same : i ≡ Do o = same_Some _ _ (sym e ∙ e2) in
         let wrote : is_target (write_of there.0.0) r ≡ true =
-            ap (λ z. is_target (write_of z) r) there.2 ∙ ap (λ z. writes z r) (sym same) ∙ w in
+        ap (λ z. is_target (write_of z) r) there.2 ∙ ap (λ z. writes z r) (sym same) ∙ w in
         bit_more (get_or row x false) k y there.0 there.1 ∙ or_right (bit (get_or row x false) k y) _ wrote
     owned_bit lt b p (written x y c q i m e w n (fails x2 y2 h o e2 caught at)) k is =
         absurd (no_handler (slice_get f.blocks x) h at)
@@ -250,10 +249,10 @@ module _ (f : Func) where
         let was = owned_bit lt x y on k0 there.1 in
         let met_there : get_or met x false ≡ true = (met_is x (inside x (steps_of k0) stands)).1 (path_met x y (owned_met r x y on)) in
         let come : Spread (map steps_of f.blocks) seeds t =
-            ⊎_elim
-            (λ a. goes_further x j t (steps_of k0) ((exact.1 x (inside x (steps_of k0) stands)).0 a) stands to_here)
-            (λ a. starts x j t (steps_of k0) (seeded x (steps_of k0) stands ∙ both_true (get_or met x false) _ met_there (written_all (map step_of k0.ops) y r a.1)) stands to_here)
-            (or_cases (get_or row x false) _ was) in
+        ⊎_elim
+        (λ a. goes_further x j t (steps_of k0) ((exact.1 x (inside x (steps_of k0) stands)).0 a) stands to_here)
+        (λ a. starts x j t (steps_of k0) (seeded x (steps_of k0) stands ∙ both_true (get_or met x false) _ met_there (written_all (map step_of k0.ops) y r a.1)) stands to_here)
+        (or_cases (get_or row x false) _ was) in
         or_left (get_or row t false) _ ((exact.1 t (inside t (steps_of k) (get_map steps_of f.blocks t k is))).1 come)
 
 -- ---- the table
@@ -270,21 +269,25 @@ module _ (f : Func) (met : List Bool) (rows : List (List Bool)) (n : ℕ) (met_i
       let row = get_or rows r [] in
       let given = exact.1 r lt in
       let same : owned_by (map steps_of f.blocks) (slice_get rows r) b p r ≡ (get_or row b false || is_written (take p (map step_of k.ops)) r) =
-          ap (λ z. owned_by (map steps_of f.blocks) z b p r) (get_there rows r (omega (arith, lt, exact.0))) ∙ ap (λ z. owned_in z b row p r) here in
-      (λ e.
-        let both = and_true (get_or met b false) _ e in
-        bit_owned f r met row given.0 met_is given.1 given.2 b k is p le both.0 (sym same ∙ both.1), λ o.
-        both_true (get_or met b false) _ ((met_is b within).1 (path_met f b p (owned_met f r b p o))) (same ∙ owned_bit f r met row given.0 met_is given.1 given.2 par b p o k is))
+      ap (λ z. owned_by (map steps_of f.blocks) z b p r) (get_there rows r (omega (arith, lt, exact.0))) ∙ ap (λ z. owned_in z b row p r) here in (
+        λ e.
+            let both = and_true (get_or met b false) _ e in
+            bit_owned f r met row given.0 met_is given.1 given.2 b k is p le both.0 (sym same ∙ both.1),
+        λ o.
+            both_true (get_or met b false) _ ((met_is b within).1 (path_met f b p (owned_met f r b p o))) (same ∙ owned_bit f r met row given.0 met_is given.1 given.2 par b p o k is),
+      )
 
   other_given : (b p r : ℕ) (k : Block) → slice_get f.blocks b ≡ Some k → p ≤ length k.ops → n ≤ r → f.params ≤ r → ((get_or met b false && owned_by (map steps_of f.blocks) (slice_get rows r) b p r) ≡ true) ↔ OwnedAt f r b p
   other_given b p r k is le ge par =
       let within = slice_get_within (map steps_of f.blocks) b (steps_of k) (get_map steps_of f.blocks b k is) in
       let same : owned_by (map steps_of f.blocks) (slice_get rows r) b p r ≡ true =
-          ap (λ z. owned_by (map steps_of f.blocks) z b p r) (get_none rows r (omega (arith, ge, exact.0))) in
-      (λ e.
-        let both = and_true (get_or met b false) _ e in
-        met_owned f r par b p (met_walk f b k is (met_path f b ((met_is b within).0 both.0)) p le), λ o.
-        both_true (get_or met b false) _ ((met_is b within).1 (path_met f b p (owned_met f r b p o))) same)
+      ap (λ z. owned_by (map steps_of f.blocks) z b p r) (get_none rows r (omega (arith, ge, exact.0))) in (
+        λ e.
+            let both = and_true (get_or met b false) _ e in
+            met_owned f r par b p (met_walk f b k is (met_path f b ((met_is b within).0 both.0)) p le),
+        λ o.
+            both_true (get_or met b false) _ ((met_is b within).1 (path_met f b p (owned_met f r b p o))) same,
+      )
 
   pub borrowed_is : (b p r : ℕ) (i : Item) → item_in f.blocks b p ≡ Some i → ((r < n) × (r < f.params)) ⊎ ((n ≤ r) × (f.params ≤ r)) → (borrowed_by (map steps_of f.blocks) met rows b p r ≡ true) ↔ BorrowedAt f r b p
   borrowed_is b p r i e which =

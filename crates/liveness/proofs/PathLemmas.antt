@@ -1,5 +1,5 @@
 -- Paths from place to place, and what is left of a block.
-use Rattle.std.proofs.Common.{◌≡◌, ◌≢◌, ℕ, zero, suc, ◌+◌, ◌<◌, ◌≤◌, Bool, true, false, List, [], ◌∷◌, length, Option, Some, None, refl, sym, ap, ◌∙◌, subst, arith, get_or, drop, map}
+use Rattle.std.proofs.Common.{◌≡◌, ℕ, zero, suc, ◌≤◌, Bool, true, false, List, [], ◌∷◌, length, Option, Some, None, refl, sym, ap, ◌∙◌, subst, arith, drop, map}
 use Rattle.std.specs.Prelude.{slice_get, ◌↔◌}
 use Rattle.std.specs.Option.{option_and_then}
 use Rattle.std.proofs.lemmas.Option.{same_Some}
@@ -7,7 +7,7 @@ use Rattle.ir_core.specs.declared.code.Op.{Op}
 use Rattle.ir_core.specs.declared.code.Last.{Last}
 use Rattle.ir_core.specs.declared.code.Block.{Block}
 use Rattle.ir_core.specs.declared.code.Func.{Func}
-use Rattle.ir_core.specs.Items.{Item, Do, End, in_block, item_of, item_in, handler_of, handler_in}
+use Rattle.ir_core.specs.Items.{Item, Do, End, in_block, item_of, item_in, handler_of}
 use Rattle.liveness.specs.declared.step.Step.{Step}
 use Rattle.liveness.specs.declared.step.Steps.{Steps}
 use Rattle.liveness.specs.Paths.{is_among, is_target, reads_of, write_of, reads_of_last, reads, writes, targets, Goes, passes, fails, jumps, LiveAt}

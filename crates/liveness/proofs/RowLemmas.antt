@@ -1,6 +1,6 @@
 -- Rows of what is read again.
-use Rattle.std.proofs.Common.{◌≡◌, ◌≢◌, ℕ, zero, suc, ◌+◌, ◌<◌, ◌≤◌, ◌⊎◌, Bool, true, false, cond, List, [], ◌∷◌, length, Option, Some, None, refl, sym, ap, ◌∙◌, subst, inl, inr, ⊎_elim, arith, get_or, drop, take, ◌++◌}
-use Rattle.std.specs.Prelude.{slice_get, slice_set, replicate, not, ◌&&◌, ◌||◌, map, ◌↔◌}
+use Rattle.std.proofs.Common.{◌≡◌, ℕ, zero, suc, ◌+◌, ◌<◌, ◌≤◌, ◌⊎◌, Bool, true, false, List, [], ◌∷◌, length, Some, refl, sym, ap, ◌∙◌, subst, inl, inr, ⊎_elim, arith, get_or, drop, take, ◌++◌}
+use Rattle.std.specs.Prelude.{slice_get, slice_set, replicate, not, ◌&&◌, ◌||◌, ◌↔◌}
 use Rattle.std.specs.List.{list_any}
 use Rattle.std.proofs.lemmas.Option.{same_Some, slice_get_within}
 use Rattle.ir_core.specs.declared.code.Last.{Last}
@@ -212,14 +212,16 @@ size_more (x ∷ xs) y = omega (arith, size_more xs y)
 pub rows_more : (P : ℕ → List Bool → Type 0) (rows new : List (List Bool)) (n : ℕ) (row : List Bool) → new ≡ rows ++ row ∷ [] → (length rows ≡ n) × ((r : ℕ) → r < n → P r (get_or rows r [])) → P n row → (length new ≡ n + 1) × ((r : ℕ) → r < n + 1 → P r (get_or new r []))
 rows_more P rows new n row e h one =
     let size : length new ≡ n + 1 =
-        ap length e ∙ size_more rows row ∙ ap (λ z. z + 1) h.0 in
-    (size, λ r lt.
-    ⊎_elim
-    (λ below.
-      let inside : r < length rows = omega (arith, below, h.0) in
-      subst (P r) (sym (ap (λ z. get_or z r []) e ∙ get_front rows (row ∷ []) r inside)) (h.1 r below))
-    (λ same.
-      let at : get_or new r [] ≡ row =
+    ap length e ∙ size_more rows row ∙ ap (λ z. z + 1) h.0 in (
+      size,
+      λ r lt.
+          ⊎_elim
+          (λ below.
+          let inside : r < length rows = omega (arith, below, h.0) in
+          subst (P r) (sym (ap (λ z. get_or z r []) e ∙ get_front rows (row ∷ []) r inside)) (h.1 r below))
+          (λ same.
+          let at : get_or new r [] ≡ row =
           ap (λ z. get_or z r []) e ∙ ap (λ z. get_or (rows ++ row ∷ []) z []) (same ∙ sym h.0) ∙ get_behind rows row in
-      subst (P r) (sym at) (subst (λ z. P z row) (sym same) one))
-    (less_or_same r n lt))
+          subst (P r) (sym at) (subst (λ z. P z row) (sym same) one))
+          (less_or_same r n lt),
+    )

@@ -1,5 +1,5 @@
 -- What is read again and what is only lent in a small function: a branch that writes a parameter.
-use Rattle.std.proofs.Common.{◌≡◌, ◌≤◌, refl, arith, ℕ, suc, true, false, List, [], ◌∷◌, Option, Some, None, codes}
+use Rattle.std.proofs.Common.{◌≤◌, refl, arith, ℕ, [], ◌∷◌, codes}
 use Rattle.ir_core.specs.declared.code.RType.TheVariants.{Int, Bool}
 use Rattle.ir_core.specs.declared.code.Reg.{Reg}
 use Rattle.ir_core.specs.declared.code.Lit.TheVariants.{Null}
@@ -7,7 +7,7 @@ use Rattle.ir_core.specs.declared.code.Op.TheVariants.{Move, Lit}
 use Rattle.ir_core.specs.declared.code.Last.TheVariants.{Goto, If, Return}
 use Rattle.ir_core.specs.declared.code.Func.{Func}
 use Rattle.ir_core.specs.Items.{Do, End}
-use Rattle.liveness.specs.Paths.{reads, writes, Goes, passes, jumps, LiveAt, reads_here, goes_on, MetAt, entry, onward, OwnedAt, no_parameter, written, kept}
+use Rattle.liveness.specs.Paths.{Goes, passes, jumps, LiveAt, reads_here, goes_on, entry, onward, OwnedAt, no_parameter, written, kept}
 
 abbrev reg : ℕ → Reg
 reg n = record { 0 = n }
@@ -15,16 +15,16 @@ reg n = record { 0 = n }
 -- def f(n, b): if b: n = error; return n, over a third register
 abbrev sample : Func
 sample = record {
-    name = codes "f";
-    params = 2;
-    regs = (codes "n", Int) ∷ (codes "b", Bool) ∷ (codes "r0", Int) ∷ [];
-    ret = Int;
-    blocks =
-        record { ops = []; last = If (reg 1) 1 2 }
-        ∷ record { ops = (Lit (reg 0) Null, 1) ∷ []; last = Goto 2 }
-        ∷ record { ops = (Move (reg 2) (reg 0), 2) ∷ []; last = Return (reg 2) }
-        ∷ []
-  }
+  name = codes "f";
+  params = 2;
+  regs = (codes "n", Int) ∷ (codes "b", Bool) ∷ (codes "r0", Int) ∷ [];
+  ret = Int;
+  blocks =
+      record { ops = []; last = If (reg 1) 1 2 }
+      ∷ record { ops = (Lit (reg 0) Null, 1) ∷ []; last = Goto 2 }
+      ∷ record { ops = (Move (reg 2) (reg 0), 2) ∷ []; last = Return (reg 2) }
+      ∷ [];
+}
 
 -- the entry goes to both blocks
 to_first : Goes sample 0 0 1 0

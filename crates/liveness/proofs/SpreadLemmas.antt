@@ -1,12 +1,11 @@
 -- Rows of blocks that paths come to.
 use Rattle.std.proofs.Common.{◌≡◌, ℕ, zero, suc, ◌+◌, ◌<◌, ◌≤◌, ◌⊎◌, Bool, true, false, List, [], ◌∷◌, length, Some, refl, sym, ap, ◌∙◌, subst, inl, inr, ⊎_elim, arith, get_or}
-use Rattle.std.specs.Prelude.{slice_get, slice_set, replicate, not, ◌||◌, ◌↔◌}
+use Rattle.std.specs.Prelude.{slice_get, slice_set, not, ◌||◌}
 use Rattle.std.proofs.lemmas.Option.{same_Some, slice_get_within}
-use Rattle.ir_core.specs.declared.code.Last.{Last}
 use Rattle.liveness.specs.declared.step.Steps.{Steps}
 use Rattle.liveness.specs.Paths.{targets}
 use Rattle.liveness.specs.Rows.{missing, Spread, starts, goes_further, IsSpread, IsSpreadBelow, SpreadIs, IsSpreadRow, mark_all, marks_new, Met, first, jumped, IsMetRow}
-use Rattle.liveness.proofs.RowLemmas.{missing_set, or_cases, or_left, or_right, set_true, there_is, no_true, less_or_same}
+use Rattle.liveness.proofs.RowLemmas.{missing_set, or_cases, or_left, or_right, set_true, less_or_same}
 
 -- ---- marks
 
@@ -107,9 +106,9 @@ module _ (blocks : List Steps) (seeds : List Bool) where
   pub spread_hit : (old row : List Bool) (b : ℕ) (k : Steps) (changed : Bool) (new : List Bool) → slice_get blocks b ≡ Some k → (get_or seeds b false || get_or row b false) ≡ true → marks_new (targets k.last) row ≡ true → new ≡ mark_all (targets k.last) row → Sweeps old changed row b → Sweeps old true new (b + 1)
   spread_hit old row b k changed new is on fresh e h =
       let marked : IsSpread blocks seeds row → IsSpread blocks seeds (mark_all (targets k.last) row) =
-          λ j. spread_marks (targets k.last) row j (λ i t at. ⊎_elim (λ s. starts b i t k s is at) (λ s. goes_further b i t k (j b s.1) is at) (or_cases (get_or seeds b false) (get_or row b false) on)) in
+      λ j. spread_marks (targets k.last) row j (λ i t at. ⊎_elim (λ s. starts b i t k s is at) (λ s. goes_further b i t k (j b s.1) is at) (or_cases (get_or seeds b false) (get_or row b false) on)) in
       let less : 1 + missing (mark_all (targets k.last) row) ≤ missing old =
-          omega (arith, new_marks (targets k.last) row fresh, fewer old row b changed h.1) in
+      omega (arith, new_marks (targets k.last) row fresh, fewer old row b changed h.1) in
       (λ j. subst (IsSpread blocks seeds) (sym e) (marked (h.0 j)), subst (λ z. 1 + missing z ≤ missing old) (sym e) less)
 
   closed_more : (row : List Bool) (b : ℕ) (k : Steps) → slice_get blocks b ≡ Some k → ((get_or seeds b false || get_or row b false) ≡ true → (i t : ℕ) → slice_get (targets k.last) i ≡ Some t → t < length row → get_or row t false ≡ true) → IsSpreadBelow b blocks seeds row → IsSpreadBelow (b + 1) blocks seeds row
@@ -117,8 +116,8 @@ module _ (blocks : List Steps) (seeds : List Bool) where
       ⊎_elim
       (λ below. closed c i t j below on at to within)
       (λ same.
-        let f : j ≡ k = same_Some _ _ (sym at ∙ ap (slice_get blocks) same ∙ is) in
-        h (ap (λ z. get_or seeds z false || get_or row z false) (sym same) ∙ on) i t (ap (λ (z : Steps). slice_get (targets z.last) i) (sym f) ∙ to) within)
+      let f : j ≡ k = same_Some _ _ (sym at ∙ ap (slice_get blocks) same ∙ is) in
+      h (ap (λ z. get_or seeds z false || get_or row z false) (sym same) ∙ on) i t (ap (λ (z : Steps). slice_get (targets z.last) i) (sym f) ∙ to) within)
       (less_or_same c b lt)
 
   go_on : (old row : List Bool) (b : ℕ) (k : Steps) (changed : Bool) → slice_get blocks b ≡ Some k → ((get_or seeds b false || get_or row b false) ≡ true → (i t : ℕ) → slice_get (targets k.last) i ≡ Some t → t < length row → get_or row t false ≡ true) → SpreadIs blocks seeds changed old row b → SpreadIs blocks seeds changed old row (b + 1)
@@ -169,10 +168,10 @@ module _ (blocks : List Steps) (zeros : List Bool) (none : (b : ℕ) → get_or 
   met_true row exact t (jumped b i s k m is at) lt =
       let inside : b < length blocks = slice_get_within blocks b k is in
       let come : Spread blocks seeds_first t =
-          ⊎_elim
-          (λ e. starts b i t k (seed_at b e inside) is at)
-          (λ was. goes_further b i t k ((exact.1 b inside).0 was) is at)
-          (set_true row 0 b (met_true row exact b m inside)) in
+      ⊎_elim
+      (λ e. starts b i t k (seed_at b e inside) is at)
+      (λ was. goes_further b i t k ((exact.1 b inside).0 was) is at)
+      (set_true row 0 b (met_true row exact b m inside)) in
       set_keeps row 0 t ((exact.1 t lt).1 come)
 
   pub met_exact : (row : List Bool) → IsSpreadRow blocks seeds_first row → IsMetRow blocks (slice_set row 0 true)

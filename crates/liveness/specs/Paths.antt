@@ -1,5 +1,5 @@
 -- Which register is read again, and which is only lent: by the paths of a function, from place to place.
-use Rattle.std.specs.Prelude.{◌≡◌, ◌≤◌, ℕ, zero, suc, Bool, true, false, not, ◌&&◌, nat_eq, List, [], ◌∷◌, map, Option, Some, None, slice_get}
+use Rattle.std.specs.Prelude.{◌≡◌, ◌≤◌, ℕ, suc, Bool, true, false, not, nat_eq, List, [], ◌∷◌, map, Option, Some, None, slice_get}
 use Rattle.std.specs.List.{list_any, filter_map}
 use Rattle.std.specs.Option.{option_map}
 use Rattle.c_core.specs.declared.primitive.Primitive.{Primitive}
@@ -15,7 +15,7 @@ use Rattle.ir_core.specs.declared.code.Func.{Func}
 use Rattle.ir_core.specs.declared.kind.Edge.{Edge}
 use Rattle.ir_core.specs.declared.kind.Edge.TheVariants.{NoEdge}
 use Rattle.ir_core.specs.Items.{Item, Do, End, item_in, handler_in}
-use Rattle.ir_core.specs.Rows.{Declared, edge_of_op}
+use Rattle.ir_core.specs.Rows.{edge_of_op}
 use Rattle.ir_core.specs.Meaning.{is_edge}
 
 -- ---- what is read and written

@@ -1,5 +1,5 @@
 -- What a table keeps of a function: what its operations read and write, and its ends.
-use Rattle.std.specs.Prelude.{ℕ, List, map}
+use Rattle.std.specs.Prelude.{ℕ, map}
 use Rattle.ir_core.specs.declared.code.Op.{Op}
 use Rattle.ir_core.specs.declared.code.Block.{Block}
 use Rattle.liveness.specs.declared.step.Step.{Step}

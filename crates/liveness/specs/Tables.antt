@@ -1,9 +1,6 @@
 -- What rows say of each place of a block.
-use Rattle.std.specs.Prelude.{◌≡◌, ◌<◌, ℕ, Bool, true, false, cond, not, ◌||◌, ◌&&◌, ◌==◌, List, [], ◌∷◌, length, drop, take, Option, Some, None, slice_get, get_or, ◌↔◌}
-use Rattle.std.specs.List.{list_any}
-use Rattle.liveness.specs.declared.step.Step.{Step}
+use Rattle.std.specs.Prelude.{◌≡◌, ◌<◌, ℕ, Bool, true, false, not, ◌||◌, ◌&&◌, List, [], length, drop, take, Option, Some, None, slice_get, get_or}
 use Rattle.liveness.specs.declared.step.Steps.{Steps}
-use Rattle.liveness.specs.Paths.{is_target}
 use Rattle.liveness.specs.Rows.{live_given, IsLiveRow, is_written, IsOwnedRow}
 
 abbrev pub live_in : Option Steps → ℕ → List Bool → ℕ → Bool

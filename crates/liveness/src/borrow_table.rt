@@ -39,12 +39,7 @@ fn seeds(alloc: Global, blocks: &[Steps], met: &[bool], r: usize) -> Result<Vec<
 }
 
 /// At the start of which blocks a parameter may have been written.
-fn owned_row(
-    alloc: Global,
-    blocks: &[Steps],
-    met: &[bool],
-    r: usize,
-) -> Result<Many<bool>, Memory>
+fn owned_row(alloc: Global, blocks: &[Steps], met: &[bool], r: usize) -> Result<Many<bool>, Memory>
     ensures { IfOk result (λ row. IsOwnedRow blocks.now met.now r row) }
 {
     let seeds = seeds(alloc, blocks, met, r)?;

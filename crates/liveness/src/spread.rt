@@ -47,11 +47,7 @@ fn sweep(blocks: &[Steps], seeds: &[bool], row: &mut [bool]) -> bool
 }
 
 /// To the starts of which blocks a path comes from a block with a seed, in one jump or more.
-pub(crate) fn spread(
-    alloc: Global,
-    blocks: &[Steps],
-    seeds: &[bool],
-) -> Result<Many<bool>, Memory>
+pub(crate) fn spread(alloc: Global, blocks: &[Steps], seeds: &[bool]) -> Result<Many<bool>, Memory>
     ensures { IfOk result (λ row. IsSpreadRow blocks.now seeds.now row) }
 {
     let mut row = vec![in alloc; false; blocks.len()]?;

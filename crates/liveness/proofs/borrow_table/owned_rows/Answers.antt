@@ -1,4 +1,4 @@
-use Rattle.std.proofs.Common.{◌≡◌, ◌∙◌, ◌≤◌, length, refl, sym, ap, subst, arith, List, Bool}
+use Rattle.std.proofs.Common.{◌≡◌, sym, subst, arith}
 use Rattle.liveness.specs.Rows.{IsOwnedRow}
 use Rattle.liveness.specs.Tables.{AreOwnedRows}
 use Rattle.liveness.proofs.RowLemmas.{rows_more}

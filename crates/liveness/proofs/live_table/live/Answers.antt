@@ -1,6 +1,5 @@
-use Rattle.std.proofs.Common.{◌≡◌, ◌∙◌, ◌<◌, ℕ, List, Bool, [], map, length, refl, sym, ap, subst, arith, true, get_or}
+use Rattle.std.proofs.Common.{◌≡◌, ◌∙◌, ◌<◌, [], map, length, sym, ap, subst, arith, true, get_or}
 use Rattle.std.specs.Prelude.{◌↔◌}
-use Rattle.liveness.specs.declared.step.Steps.{Steps}
 use Rattle.liveness.specs.Paths.{LiveAt}
 use Rattle.liveness.specs.Steps.{steps_of}
 use Rattle.liveness.specs.Rows.{IsLiveRow}

@@ -1,4 +1,4 @@
-use Rattle.std.proofs.Common.{◌≡◌, ◌∙◌, length, refl, sym, ap, subst, arith, List, Bool}
+use Rattle.std.proofs.Common.{◌≡◌, ◌∙◌, length, sym, subst, arith}
 use Rattle.liveness.specs.Rows.{IsLiveRow, IsJustified}
 use Rattle.liveness.proofs.RowLemmas.{row_exact, whole}
 use Rattle.liveness.proofs.live_table.live_row.Goals as goal

@@ -1,6 +1,6 @@
-use Rattle.std.proofs.Common.{◌≡◌, ◌<◌, ◌+◌, ◌-◌, ◌∙◌, ℕ, suc, List, Bool, length, true, false, refl, sym, ap, arith, subst, get_or, drop}
-use Rattle.std.proofs.lemmas.Option.{slice_get_read, same_Some}
-use Rattle.liveness.specs.Rows.{IsJustified, SweepIs, live_given}
+use Rattle.std.proofs.Common.{◌≡◌, ◌<◌, ◌-◌, ◌∙◌, suc, length, true, refl, sym, ap, arith, subst}
+use Rattle.std.proofs.lemmas.Option.{slice_get_read}
+use Rattle.liveness.specs.Rows.{SweepIs, live_given}
 use Rattle.liveness.proofs.RowLemmas.{sweep_hit, sweep_miss, given_none}
 use Rattle.liveness.proofs.live_table.sweep.Goals as goal
 use Rattle.liveness.proofs.live_table.sweep.Goals.{else-not-row-b-via-then-not-row-b+else-live_from, else-not-row-b-via-else-not-row-b}

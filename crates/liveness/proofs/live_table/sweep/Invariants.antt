@@ -1,4 +1,3 @@
-use Rattle.std.proofs.Common.{◌≡◌, length}
 use Rattle.liveness.specs.Rows.{IsJustified, SweepIs}
 use Rattle.liveness.proofs.live_table.sweep.Given as goal
 

@@ -1,4 +1,3 @@
-use Rattle.std.proofs.Common.{◌≡◌, length}
 use Rattle.liveness.specs.Rows.{IsSpread, SpreadIs}
 use Rattle.liveness.proofs.spread.sweep.Given as goal
 
