@@ -53,10 +53,7 @@ const FUNCTIONS: &[(&str, usize, usize, Blocks, Places)] = &[
         "a parameter is copied and written",
         1,
         2,
-        &[(
-            &[Made::Move(1, 0), Made::Move(0, 1)],
-            Last::Return(Reg(0)),
-        )],
+        &[(&[Made::Move(1, 0), Made::Move(0, 1)], Last::Return(Reg(0)))],
         &[(&[0], &[0]), (&[1], &[0]), (&[0], &[])],
     ),
     (
