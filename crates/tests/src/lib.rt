@@ -23,6 +23,7 @@ mod codes;
 mod ir_core_tests;
 #[cfg(test)]
 mod modules;
+mod liveness_tests;
 #[cfg(test)]
 mod mypyc_top_changes_tests;
 #[cfg(test)]

@@ -1,0 +1,26 @@
+-- What a table says, and when it says it of a function.
+use Rattle.std.specs.Prelude.{◌≡◌, ◌<◌, ℕ, Bool, true, length, Some, ◌↔◌}
+use Rattle.ir_core.specs.declared.code.Func.{Func}
+use Rattle.ir_core.specs.Items.{Item, item_in}
+use Rattle.liveness.specs.declared.live_table.LiveTable.{LiveTable}
+use Rattle.liveness.specs.declared.borrow_table.BorrowTable.{BorrowTable}
+use Rattle.liveness.specs.Paths.{LiveAt, BorrowedAt}
+use Rattle.liveness.specs.Tables.{live_by, borrowed_by}
+
+-- whether a table says that a register is read again, at a block, a place and the register's number
+abbrev pub says_live : LiveTable → ℕ → ℕ → ℕ → Bool
+says_live table = live_by table.blocks table.rows
+
+-- at each place of the function it says of each register exactly whether some path reads it before it writes it
+abbrev pub IsLiveTable : Func → LiveTable → Type 0
+IsLiveTable f table =
+    (b p r : ℕ) (i : Item) → item_in f.blocks b p ≡ Some i → r < length f.regs → (says_live table b p r ≡ true) ↔ LiveAt f r b p
+
+-- whether a table says that a register is only lent
+abbrev pub says_borrowed : BorrowTable → ℕ → ℕ → ℕ → Bool
+says_borrowed table = borrowed_by table.blocks table.met table.rows
+
+-- at each place of the function it says of each register exactly whether it is only lent there
+abbrev pub IsBorrowTable : Func → BorrowTable → Type 0
+IsBorrowTable f table =
+    (b p r : ℕ) (i : Item) → item_in f.blocks b p ≡ Some i → r < length f.regs → (says_borrowed table b p r ≡ true) ↔ BorrowedAt f r b p

@@ -1,0 +1,13 @@
+-- What a table keeps of a function: what its operations read and write, and its ends.
+use Rattle.std.specs.Prelude.{ℕ, map}
+use Rattle.ir_core.specs.declared.code.Op.{Op}
+use Rattle.ir_core.specs.declared.code.Block.{Block}
+use Rattle.liveness.specs.declared.step.Step.{Step}
+use Rattle.liveness.specs.declared.step.Steps.{Steps}
+use Rattle.liveness.specs.Paths.{reads_of, write_of}
+
+abbrev pub step_of : Op × ℕ → Step
+step_of o = record { reads = reads_of o.0; write = write_of o.0 }
+
+abbrev pub steps_of : Block → Steps
+steps_of b = record { steps = map step_of b.ops; last = b.last }
