@@ -22,8 +22,9 @@ mod codes;
 #[cfg(test)]
 mod ir_core_tests;
 #[cfg(test)]
-mod modules;
 mod liveness_tests;
+#[cfg(test)]
+mod modules;
 #[cfg(test)]
 mod mypyc_top_changes_tests;
 #[cfg(test)]
