@@ -134,7 +134,7 @@ pub data OwnedAt (f : Func) (r : ℕ) : ℕ → ℕ → Type 0 where
   written : (b p c q : ℕ) (i : Item) → MetAt f b p → item_in f.blocks b p ≡ Some i → writes i r ≡ true → gives_lent i ≡ false → Goes f b p c q → OwnedAt f r c q
   kept : (b p c q : ℕ) (i : Item) → OwnedAt f r b p → item_in f.blocks b p ≡ Some i → writes i r ≡ false → Goes f b p c q → OwnedAt f r c q
 
--- on every path from the entry to a place, the last write of the register is the entry, as a parameter, or a primitive whose
--- result is only lent. So it is everywhere where no path comes
+-- by whichever path a run came to a place, the register was written last by a primitive whose result is only lent, or is a
+-- parameter that was never written. So it is everywhere where no path comes
 abbrev pub BorrowedAt : Func → ℕ → ℕ → ℕ → Type 0
 BorrowedAt f r b p = OwnedAt f r b p → ⊥

@@ -94,8 +94,8 @@ fn is_owned(blocks: &[Steps], row: &[bool], block: usize, place: usize, r: usize
 }
 
 impl BorrowTable {
-    /// Whether on every path from the entry to a place of a block the last write of a register is the entry, as a
-    /// parameter, or a primitive whose result is only lent. A place is the number of an operation, before which it
+    /// Whether, by whichever path a run came to a place of a block, a register was written last by a primitive whose
+    /// result is only lent, or is a parameter that was never written. A place is the number of an operation, before which it
     /// stands; the number of the operations is the place before the end.
     pub fn is_borrowed(&self, block: usize, place: usize, r: Reg) -> bool
         ensures { result ≡ says_borrowed self.now block place r.0 }
