@@ -18,16 +18,19 @@ use Rattle.c_core.specs.declared.fault.Fault.TheVariants as fault
 use Rattle.c_core.specs.declared.primitive.Primitive.TheVariants as prim
 use Rattle.c_core.specs.declared.primitive.Int64Prim.TheVariants as int64
 use Rattle.c_core.specs.declared.primitive.BoolPrim.TheVariants as bool
-use Rattle.value_core.specs.Ending.{Done, Cut}
-use Rattle.c_core.specs.Step.{MachineEnding, Ended, Faulted, Says, Makes, effect}
+use Rattle.value_core.specs.Ending.{Done, Raised, Cut}
+use Rattle.value_core.specs.declared.exception.ExcClass.TheVariants.{ZeroDivisionError, ValueError, NameError, KeyError}
+use Rattle.value_core.specs.Exceptions.{Thrown, thrown}
+use Rattle.c_core.specs.Cells as cells
+use Rattle.c_core.specs.Step.{MachineEnding, Ended, Faulted, Says, Makes, Fails, effect}
 use Rattle.c_core.specs.Ledgers.{more, without}
-use Rattle.c_core.specs.Machine.{NoneObject, Native, CharWord, StrCell, InstCell, MachineState}
+use Rattle.c_core.specs.Machine.{Word, ObjectCell, NoneObject, Native, CharWord, Content, StrCell, InstCell, ExcCell, MachineState}
 use Rattle.c_core.specs.Primitives.{Is, OfGlobal, OfSlot, Anything, Borrows, Steals}
 use Rattle.c_core.specs.Arguments.{Cell, Plain, Written, kind_found, stolen}
 use Rattle.c_core.specs.Run.{Stop, machine_run, unchecked_run}
 use Rattle.c_core.specs.Functions.{label_places}
 use Rattle.c_core.specs.Text.{code_text, statement_lines, function_head}
-use Rattle.c_core.specs.WellFormed.{function_fits}
+use Rattle.c_core.specs.WellFormed.{function_fits, line_fits}
 
 abbrev module_of : List Line → CFunc
 module_of lines = record { name = []; ret = Char; params = 0; vars = (codes "t_0", Object) ∷ (codes "t_1", Char) ∷ []; lines = lines }
@@ -403,3 +406,98 @@ module _ (code : Code) (s : MachineState) where
   text_of_number : effect code s (prim.Int64 int64.Str) (Plain (Native (negsuc 112)) ∷ []) ≡ Makes (StrCell (codes "-113"))
   unfolding digits
   text_of_number = refl
+
+  divided : effect code s (prim.Int64 int64.FloorDivide) (Plain (Native (negsuc 6)) ∷ Plain (Native (pos 2)) ∷ []) ≡ Says (Native (negsuc 3))
+  divided = refl
+
+  left_over : effect code s (prim.Int64 int64.Remainder) (Plain (Native (negsuc 6)) ∷ Plain (Native (pos 2)) ∷ []) ≡ Says (Native (pos 1))
+  left_over = refl
+
+  by_zero : effect code s (prim.Int64 int64.Remainder) (Plain (Native (pos 1)) ∷ Plain (Native (pos 0)) ∷ []) ≡ Fails (Native (negsuc 112)) (thrown ZeroDivisionError (codes "integer division or modulo by zero"))
+  by_zero = refl
+
+  shifted_too_far : effect code s (prim.Int64 int64.Rshift) (Plain (Native (pos 1)) ∷ Plain (Native (pos 64)) ∷ []) ≡ Fails (Native (negsuc 112)) (thrown ValueError (codes "shift count out of range"))
+  shifted_too_far = refl
+
+-- ---- exceptions and globals
+-- lines of a module with two globals and a variable of each kind
+abbrev with_all : List Line → Code
+with_all lines = record {
+  globals = (codes "v", Int64) ∷ (codes "s", Object) ∷ [];
+  classes = [];
+  funcs = record {
+    name = [];
+    ret = Char;
+    params = 0;
+    vars = (codes "n", Int64) ∷ (codes "s", Object) ∷ (codes "e", Object) ∷ (codes "c", Char) ∷ [];
+    lines = lines;
+  } ∷ [];
+}
+
+-- how its run ends, with its output, the content and the count of each cell, and what the globals hold
+abbrev left_of : Option Stop → Option (MachineEnding × (List ℕ × (List (Option (cells.Cell Content)) × List (Option Word))))
+left_of r =
+    option_map (λ stop. (stop.ending, (stop.state.output, (stop.state.cells, stop.state.globals)))) r
+
+abbrev run_all : List Line → Option (MachineEnding × (List ℕ × (List (Option (cells.Cell Content)) × List (Option Word))))
+run_all lines = left_of (machine_run 0 Eof (with_all lines))
+
+abbrev in_error : List Line
+in_error = Lit 3 (Number (pos 2)) ∷ Return 3 ∷ []
+
+abbrev done_well : List Line
+done_well = Lit 3 (Number (pos 1)) ∷ Return 3 ∷ []
+
+abbrev new_text : List ℕ → Line
+new_text text = Call (Some 1) (codes "CPyStr_Literal") (arg.Text text ∷ [])
+
+abbrev v_is_unset : Thrown
+v_is_unset = thrown NameError (codes "name 'v' is not defined")
+
+-- a global that is unset raises, and the exception is left, held by being pending
+unset_global : run_all (Call (Some 0) (codes "CPyGlobal_Get") (arg.Global (codes "v") ∷ []) ∷ in_error) ≡ Some (Ended (Raised v_is_unset), ([], (Some (record { count = 1; content = ExcCell v_is_unset }) ∷ [], None ∷ None ∷ [])))
+unset_global = refl
+
+-- nothing else may stand until it is caught
+raised_twice : run_all (Call (Some 0) (codes "CPyGlobal_Get") (arg.Global (codes "v") ∷ []) ∷ Call None (codes "CPyErr_Unbound") (arg.Text (codes "x") ∷ []) ∷ in_error) ≡ Some (Faulted fault.Kind, ([], (Some (record { count = 1; content = ExcCell v_is_unset }) ∷ [], None ∷ None ∷ [])))
+raised_twice = refl
+
+-- it is caught, and given up
+caught_and_given : run_all (Call (Some 0) (codes "CPyGlobal_Get") (arg.Global (codes "v") ∷ []) ∷ Call (Some 2) (codes "CPyErr_Catch") [] ∷ Dec 2 ∷ done_well) ≡ Some (Ended Done, ([], (None ∷ [], None ∷ None ∷ [])))
+caught_and_given = refl
+
+-- it is a NameError, and no ValueError
+what_it_is : run_all (Call None (codes "CPyErr_Unbound") (arg.Text (codes "x") ∷ []) ∷ Call (Some 3) (codes "CPyErr_Matches") (arg.Text (codes "NameError") ∷ []) ∷ If 3 0 1 ∷ Label ∷ Call (Some 3) (codes "CPyErr_Matches") (arg.Text (codes "ValueError") ∷ []) ∷ If 3 1 2 ∷ Label ∷ Return 3 ∷ Label ∷ Call (Some 2) (codes "CPyErr_Catch") [] ∷ Dec 2 ∷ done_well) ≡ Some (Ended Done, ([], (None ∷ [], None ∷ None ∷ [])))
+what_it_is = refl
+
+-- an error value goes with a pending exception alone
+error_alone : run_all in_error ≡ Some (Faulted fault.Kind, ([], ([], None ∷ None ∷ [])))
+error_alone = refl
+
+-- a global holds what was stolen, and what it held before is given up
+written_over : run_all (new_text (codes "a") ∷ Call None (codes "CPyGlobal_Set") (arg.Global (codes "s") ∷ arg.Var 1 ∷ []) ∷ new_text (codes "b") ∷ Call None (codes "CPyGlobal_Set") (arg.Global (codes "s") ∷ arg.Var 1 ∷ []) ∷ done_well) ≡ Some (Ended Done, ([], (None ∷ Some (record { count = 1; content = StrCell (codes "b") }) ∷ [], None ∷ Some (ObjectCell 1) ∷ [])))
+written_over = refl
+
+-- a read takes a reference of its own
+read_back : run_all (new_text (codes "a") ∷ Call None (codes "CPyGlobal_Set") (arg.Global (codes "s") ∷ arg.Var 1 ∷ []) ∷ Call (Some 2) (codes "CPyGlobal_Get") (arg.Global (codes "s") ∷ []) ∷ Call None (codes "CPyGlobal_Clear") (arg.Global (codes "s") ∷ []) ∷ Call None (codes "CPy_Write") (arg.Var 2 ∷ []) ∷ Dec 2 ∷ done_well) ≡ Some (Ended Done, (codes "a", (None ∷ [], None ∷ None ∷ [])))
+read_back = refl
+
+-- an exception is made of a class and a text, and raised
+raised_by_hand : run_all (new_text (codes "no") ∷ Call (Some 2) (codes "CPyExc_New") (arg.Text (codes "KeyError") ∷ arg.Var 1 ∷ []) ∷ Dec 1 ∷ Call None (codes "CPyErr_SetObject") (arg.Var 2 ∷ []) ∷ in_error) ≡ Some (Ended (Raised (thrown KeyError (codes "no"))), ([], (None ∷ Some (record { count = 1; content = ExcCell (thrown KeyError (codes "no")) }) ∷ [], None ∷ None ∷ [])))
+raised_by_hand = refl
+
+-- the classes are those of the tree, and the globals those of the code
+abbrev fits_all : Line → Bool
+fits_all line = line_fits (with_all []) ((codes "n", Int64) ∷ (codes "s", Object) ∷ (codes "e", Object) ∷ (codes "c", Char) ∷ []) Char line
+
+no_class : fits_all (Call (Some 3) (codes "CPyErr_Matches") (arg.Text (codes "Error") ∷ [])) ≡ false
+no_class = refl
+
+no_global : fits_all (Call (Some 0) (codes "CPyGlobal_Get") (arg.Global (codes "w") ∷ [])) ≡ false
+no_global = refl
+
+other_kind : fits_all (Call None (codes "CPyGlobal_Set") (arg.Global (codes "v") ∷ arg.Var 1 ∷ [])) ≡ false
+other_kind = refl
+
+same_kind_of_global : fits_all (Call None (codes "CPyGlobal_Set") (arg.Global (codes "v") ∷ arg.Var 0 ∷ [])) ≡ true
+same_kind_of_global = refl

@@ -15,11 +15,11 @@ use Rattle.c_core.specs.declared.fault.Fault.{Fault}
 use Rattle.c_core.specs.declared.fault.Fault.TheVariants as fault
 use Rattle.c_core.specs.declared.primitive.Primitive.{Primitive}
 use Rattle.c_core.specs.Ledgers.{Ledger}
-use Rattle.c_core.specs.Machine.{Word, Frame, MachineState}
+use Rattle.c_core.specs.Machine.{Word, BigInt, ObjectCell, Frame, MachineState}
 use Rattle.c_core.specs.Functions.{is_turn, label_places, function_named, entry_words}
 use Rattle.c_core.specs.Primitives.{row_of, primitive_named}
 use Rattle.c_core.specs.Arguments.{stolen}
-use Rattle.c_core.specs.Step.{Next, Goes, Ends, Faulted, Effect, Wrong, Says, Makes, Writes, effect, with_target, next_line, at_place, literal_word, equals_error, kind_of, function_of, label_at, applied, call_step, entered, jumped, turned, if_return, if_result, if_none_left, step_at, step}
+use Rattle.c_core.specs.Step.{Next, Goes, Ends, Faulted, Effect, Wrong, Says, Shares, Makes, Writes, Stores, Fails, Pends, Catches, effect, with_target, next_line, at_place, literal_word, equals_error, kind_of, function_of, label_at, applied, call_step, entered, jumped, turned, if_return, if_result, if_none_left, step_at, step}
 use Rattle.c_core.specs.Run.{most_lines}
 use Rattle.c_core.specs.WellFormed.{goes_on, goes_down, jump_fits, is_turn_at, function_fits}
 use Rattle.c_core.proofs.StepCases.{at_some, at_calm, at_word, at_there, at_called, at_function, at_jumped, at_chosen, at_incremented, at_decremented, at_decremented_if_set, at_order, at_ended, at_result}
@@ -214,6 +214,18 @@ module _ (code : Code) (all : list_all (function_fits code) code.funcs ≡ true)
   applied_falls None l gone (Makes content) on = on
   applied_falls (Some x) l gone (Makes content) on = on
   applied_falls x l gone (Writes text) on = on
+  applied_falls None l gone (Shares (BigInt c)) on = on
+  applied_falls (Some x) l gone (Shares (BigInt c)) on = on
+  applied_falls None l gone (Shares (ObjectCell c)) on = on
+  applied_falls (Some x) l gone (Shares (ObjectCell c)) on = on
+  applied_falls None l gone (Shares w) on = on
+  applied_falls (Some x) l gone (Shares w) on = on
+  applied_falls x l gone (Stores n old new) on = on
+  applied_falls None l gone (Fails w e) on = on
+  applied_falls (Some x) l gone (Fails w e) on = on
+  applied_falls x l gone (Pends c) on = on
+  applied_falls None l gone (Catches c) on = on
+  applied_falls (Some x) l gone (Catches c) on = on
 
   -- a function begins with a turn, and its caller waits at the next line
   entered_falls : (x : Option ℕ) (f : ℕ) (h : CFunc) (vars : List Word) → slice_get code.funcs f ≡ Some h → bytes_eq h.name [] ≡ false → To (Goes (next_line s)) → To (Goes (entered true s x f vars))
@@ -227,7 +239,7 @@ module _ (code : Code) (all : list_all (function_fits code) code.funcs ≡ true)
   call_falls : (x : Option ℕ) (name : List ℕ) (args : List CArg) (o : Option Primitive) → To (Goes (next_line s)) → To (call_step true s code x name args o)
   call_falls x name args (Some p) on =
       at_called s To bad code x args p
-      (λ all l left. applied_falls x l (stolen (row_of p).parameters all) (effect code s p all) on)
+      (λ calm all l left. applied_falls x l (stolen (row_of p).parameters all) (effect code s p all) on)
   call_falls x name args None on =
       at_function s To bad code x args (function_named code.funcs name)
       (λ f h e found ws. entered_falls x f h (entry_words ws h) found (named_function code.funcs name f h e found) on)

@@ -8,14 +8,15 @@ use Rattle.c_core.specs.declared.code.Code.{Code}
 use Rattle.c_core.specs.declared.primitive.Primitive.{Primitive}
 use Rattle.c_core.specs.declared.fault.Fault.{Fault}
 use Rattle.c_core.specs.declared.fault.Fault.TheVariants as fault
-use Rattle.c_core.specs.Cells.{Cell, Cells, same, counted, count_at, content_at, one_less, change, lowered, raised, take_one}
+use Rattle.value_core.specs.Exceptions.{Thrown}
+use Rattle.c_core.specs.Cells.{Cell, Cells, same, counted, count_at, content_at, one_less, change, lowered, raised, take_one, make}
 use Rattle.c_core.specs.Ledgers.{Ledger}
 use Rattle.c_core.specs.Release.{after, freed, weight, release_some, release}
-use Rattle.c_core.specs.Machine.{Word, Content, refs_in, Frame, MachineState}
+use Rattle.c_core.specs.Machine.{Word, BigInt, ObjectCell, Content, ExcCell, set_refs, refs_in, Frame, MachineState}
 use Rattle.c_core.specs.Functions.{function_named}
 use Rattle.c_core.specs.Primitives.{row_of, primitive_named}
 use Rattle.c_core.specs.Arguments.{stolen}
-use Rattle.c_core.specs.Step.{Next, Ends, Faulted, Effect, Wrong, Says, Makes, Writes, effect, with_ledger, with_cells, with_target, next_line, own, given, literal_word, equals_error, kind_of, label_at, applied, made_cell, call_step, turned, if_return, if_result, if_none_left, step_at, line_at, step}
+use Rattle.c_core.specs.Step.{Next, Ends, Faulted, Effect, Wrong, Says, Shares, Makes, Writes, Stores, Fails, Pends, Catches, effect, shared, raise, with_ledger, with_cells, with_target, next_line, own, given, literal_word, equals_error, kind_of, label_at, applied, made_cell, call_step, turned, if_return, if_result, if_none_left, step_at, line_at, step}
 use Rattle.c_core.specs.Laws.{state_after, StepStaysSmall}
 use Rattle.c_core.proofs.CountLemmas.{count-make, count-take_one}
 use Rattle.c_core.proofs.StepCases.{at_some, at_calm, at_word, at_there, at_called, at_function, at_jumped, at_chosen, at_incremented, at_decremented, at_decremented_if_set, at_order, at_ended, at_result}
@@ -39,6 +40,17 @@ module _ {X : Type 0} where
   after_most (o ∷ h) zero (suc c) = omega arith
   after_most (o ∷ h) (suc w) zero = omega arith
   after_most (o ∷ h) (suc w) (suc c) = after_most h w c
+
+  raised_most : (o : Option (Cell X)) → counted (raised o) ≤ counted o + 1
+  raised_most None = omega arith
+  raised_most (Some cell) = omega arith
+
+  take_most : (h : Cells X) (w c : ℕ) → count_at (take_one w h) c ≤ count_at h c + same w c
+  take_most [] w c = omega arith
+  take_most (o ∷ h) zero zero = raised_most o
+  take_most (o ∷ h) zero (suc c) = omega arith
+  take_most (o ∷ h) (suc w) zero = omega arith
+  take_most (o ∷ h) (suc w) (suc c) = take_most h w c
 
   length-change : (f : Option (Cell X) → Option (Cell X)) (w : ℕ) (h : Cells X) → length (change f w h) ≡ length h
   length-change f w [] = refl
@@ -87,12 +99,46 @@ module _ (s : MachineState) where
     small_counts = λ d. omega (arith, ap (λ h. count_at h d) e, release_most refs_in (length gone + weight refs_in s.cells) s.cells gone d);
   }
 
+  -- one count more
+  taken_small : (t : MachineState) (c : ℕ) → t.cells ≡ take_one c s.cells → IsSmallStep s t
+  taken_small t c e = record {
+    few_cells = omega (arith, ap length e, length-change raised c s.cells);
+    small_counts = λ d. omega (arith, ap (λ h. count_at h d) e, take_most s.cells c d, same_most c d);
+  }
+
+  shared_small : (x : Option ℕ) (w : Word) (l : Ledger) → IsSmallStep s (next_line (with_target x w (shared w (with_ledger l s))))
+  shared_small None (BigInt c) l = taken_small _ c refl
+  shared_small (Some x) (BigInt c) l = taken_small _ c refl
+  shared_small None (ObjectCell c) l = taken_small _ c refl
+  shared_small (Some x) (ObjectCell c) l = taken_small _ c refl
+  shared_small None w l = same_cells _ refl
+  shared_small (Some x) w l = same_cells _ refl
+
+  -- one cell more behind a release
+  added_small : (t : MachineState) (gone : List ℕ) (x : Content) → t.cells ≡ make x (release refs_in s.cells gone) → IsSmallStep s t
+  added_small t gone x e =
+      let n : ℕ = length gone + weight refs_in s.cells in
+      record {
+        few_cells = omega (arith, ap length e, length-append (release refs_in s.cells gone) (Some (record { count = 1; content = x }) ∷ []), length-release refs_in n s.cells gone);
+        small_counts = λ d. omega (arith, ap (λ h. count_at h d) e, count-make (release refs_in s.cells gone) d x, same_most (length (release refs_in s.cells gone)) d, release_most refs_in n s.cells gone d);
+      }
+
+  raised_small : (x : Option ℕ) (w : Word) (gone : List ℕ) (e : Thrown) (l : Ledger) → IsSmallStep s (next_line (with_target x w (raise e (given true s gone (with_ledger l s)))))
+  raised_small None w gone e l = added_small _ gone (ExcCell e) refl
+  raised_small (Some x) w gone e l = added_small _ gone (ExcCell e) refl
+
   applied_small : (x : Option ℕ) (l : Ledger) (gone : List ℕ) (e : Effect) → To (applied true s x l gone e)
   applied_small x l gone Wrong = bad fault.Kind
   applied_small None l gone (Says w) = released_small _ gone refl
   applied_small (Some x) l gone (Says w) = released_small _ gone refl
   applied_small x l gone (Makes content) = made_small x l content
   applied_small x l gone (Writes text) = released_small _ gone refl
+  applied_small x l gone (Shares w) = shared_small x w l
+  applied_small x l gone (Stores n old new) = released_small _ (set_refs (old ∷ [])) refl
+  applied_small x l gone (Fails w e) = raised_small x w gone e l
+  applied_small x l gone (Pends c) = same_cells _ refl
+  applied_small None l gone (Catches c) = same_cells _ refl
+  applied_small (Some x) l gone (Catches c) = same_cells _ refl
 
   given_small : (c : ℕ) (l : Ledger) → IsSmallStep s (next_line (given true s (c ∷ []) (with_ledger l s)))
   given_small c l = released_small _ (c ∷ []) refl
@@ -118,7 +164,7 @@ module _ (s : MachineState) where
   call_small : (code : Code) (x : Option ℕ) (name : List ℕ) (args : List CArg) (o : Option Primitive) → To (call_step true s code x name args o)
   call_small code x name args (Some p) =
       at_called s To bad code x args p
-      (λ all l left. applied_small x l (stolen (row_of p).parameters all) (effect code s p all))
+      (λ calm all l left. applied_small x l (stolen (row_of p).parameters all) (effect code s p all))
   call_small code x name args None =
       at_function s To bad code x args (function_named code.funcs name) (λ f g e is ws. same_cells _ refl)
 

@@ -14,7 +14,7 @@ use Rattle.c_core.specs.Cells.{same, times, content_at, take_one}
 use Rattle.c_core.specs.Ledgers.{Ledger, without}
 use Rattle.c_core.specs.Machine.{Word, ShortInt, BigInt, TaggedError, CharWord, ObjectCell, NoneObject, TrueObject, FalseObject, NoObject, Content, ExcCell, refs_of, MachineState}
 use Rattle.c_core.specs.Functions.{parameter_kinds, entry_words}
-use Rattle.c_core.specs.Primitives.{KindAt, Holding, Parameter, Borrows, Steals, TakesNumber, TakesText, TakesGlobal, TakesClass, row_of}
+use Rattle.c_core.specs.Primitives.{KindAt, Holding, Parameter, Borrows, Steals, TakesNumber, TakesText, TakesException, TakesGlobal, TakesClass, row_of}
 use Rattle.c_core.specs.Arguments.{Argument, Cell, Plain, Written, is_value_of, is_holding, kind_found, stolen_from, stolen}
 use Rattle.c_core.specs.Step.{Next, Goes, Ends, Faulted, effect, if_some, if_calm, if_content, if_any, if_taken, if_true, if_there, if_variable, if_stolen, if_argument, if_arguments, if_may_stand, applied, called, if_thrown, if_ended, word_of, if_in_order, if_result, if_none_left, with_ledger, next_line, at_place, own, with_cells, given, given_up, is_error, is_both, if_passed, entered, function_step, function_called, jumped, chosen, taken, incremented, decremented, decremented_if_set}
 use Rattle.c_core.proofs.ReleaseLemmas.{times-append}
@@ -23,6 +23,10 @@ use Rattle.c_core.proofs.LedgerLemmas.{without-times}
 -- what was stolen and the ledger that is left are the ledger from before
 abbrev pub Leaves : Ledger → List ℕ → Ledger → Type 0
 Leaves l gone r = (d : ℕ) → times l d ≡ times gone d + times r d
+
+-- no exception is pending, unless a row may stand while one is
+abbrev pub IsCalm : MachineState → Bool → Type 0
+IsCalm s b = b ≡ false → s.pending ≡ None
 
 module _ (s : MachineState) (P : Next → Type 0) (bad : (f : Fault) → P (Ends (Faulted f) s)) where
   pub at_some : {A : Type 0} (f : Fault) (o : Option A) (go : A → Next) → ((a : A) → o ≡ Some a → P (go a)) → P (if_some true s f o go)
@@ -71,6 +75,7 @@ module _ (s : MachineState) (P : Next → Type 0) (bad : (f : Fault) → P (Ends
       at_some fault.Kind (kind_found code k earlier) _ (λ kind e. at_variable kind h x _ (λ a. at_stolen k h a l (go a) (is a)))
   at_argument code TakesNumber (arg.Number n) earlier l go is = is (Written (arg.Number n)) l (λ d. omega arith)
   at_argument code TakesText (arg.Text text) earlier l go is = is (Written (arg.Text text)) l (λ d. omega arith)
+  at_argument code TakesException (arg.Text text) earlier l go is = is (Written (arg.Text text)) l (λ d. omega arith)
   at_argument code TakesGlobal (arg.Global name) earlier l go is = is (Written (arg.Global name)) l (λ d. omega arith)
   at_argument code TakesClass (arg.Class name) earlier l go is = is (Written (arg.Class name)) l (λ d. omega arith)
   at_argument code _ _ earlier l go is = bad fault.Kind
@@ -83,14 +88,15 @@ module _ (s : MachineState) (P : Next → Type 0) (bad : (f : Fault) → P (Ends
       (λ xs last others. is (x ∷ xs) last (λ d. omega (arith, first d, others d, times-append (stolen_from p x) (stolen ps xs) d))))
   at_arguments code _ _ earlier l go is = bad fault.Kind
 
-  at_may_stand : (b : Bool) (go : Next) → P go → P (if_may_stand true s b go)
-  at_may_stand true go h = h
-  at_may_stand false go h = at_calm s.pending go (λ calm. h)
+  at_may_stand : (b : Bool) (go : Next) → (IsCalm s b → P go) → P (if_may_stand true s b go)
+  at_may_stand true go h = h (λ e. cc)
+  at_may_stand false go h = at_calm s.pending go (λ calm. h (λ e. calm))
 
   -- a call of a primitive
-  pub at_called : (code : Code) (x : Option ℕ) (args : List CArg) (p : Primitive) → ((all : List Argument) (l : Ledger) → Leaves s.top.ledger (stolen (row_of p).parameters all) l → P (applied true s x l (stolen (row_of p).parameters all) (effect code s p all))) → P (called true s code x args p)
+  pub at_called : (code : Code) (x : Option ℕ) (args : List CArg) (p : Primitive) → (IsCalm s (row_of p).while_pending → (all : List Argument) (l : Ledger) → Leaves s.top.ledger (stolen (row_of p).parameters all) l → P (applied true s x l (stolen (row_of p).parameters all) (effect code s p all))) → P (called true s code x args p)
   at_called code x args p is =
-      at_may_stand (row_of p).while_pending _ (at_arguments code (row_of p).parameters args [] s.top.ledger _ is)
+      at_may_stand (row_of p).while_pending _
+      (λ calm. at_arguments code (row_of p).parameters args [] s.top.ledger _ (is calm))
 
   at_passed : (ks : List Kind) (args : List CArg) (go : List Word → Next) → ((ws : List Word) → P (go ws)) → P (if_passed true s ks args go)
   at_passed [] [] go h = h []

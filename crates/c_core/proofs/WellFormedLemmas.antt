@@ -1,12 +1,15 @@
 -- What the tests of a code compute, one part after another.
-use Rattle.std.proofs.Common.{◌≡◌, refl, sym, ◌∙◌, ap, ℕ, suc, ◌+◌, ◌-◌, ◌<◌, arith, take, length-drop, Bool, false, not, List, [], ◌∷◌, length, drop, get_or, add-one, drop-cons}
+use Rattle.std.proofs.Common.{◌≡◌, refl, sym, ◌∙◌, ap, ℕ, suc, ◌+◌, ◌-◌, ◌<◌, arith, take, length-drop, Bool, true, false, not, List, [], ◌∷◌, length, drop, get_or, add-one, drop-cons}
 use Rattle.std.proofs.lemmas.List.{take_all}
 use Rattle.std.specs.Prelude.{map, ◌&&◌, ◌||◌, ◌==◌}
 use Rattle.std.specs.List.{list_all, list_any}
 use Rattle.std.specs.Str.{bytes_eq, chars, IsUtf8}
 use Rattle.std.proofs.lemmas.Str.{is_utf8-from_IsUtf8}
 use Rattle.unicode_ident.specs.Ident.{is_xid_continue}
-use Rattle.c_core.specs.WellFormed.{is_identifier, names_differ}
+use Rattle.c_core.specs.declared.code.CArg.{CArg}
+use Rattle.c_core.specs.declared.code.Code.{Code}
+use Rattle.c_core.specs.Primitives.{Parameter}
+use Rattle.c_core.specs.WellFormed.{Declared, is_identifier, names_differ, arg_fits, args_fit}
 
 pub some_identifier : (name : List ℕ) (r : Bool) → IsUtf8 name → false ≡ (length name == 0) → r ≡ list_all is_xid_continue (chars name) → r ≡ is_identifier name
 some_identifier [] r u e f = absurd (cc)
@@ -34,3 +37,16 @@ module _ {A : Type 0} (name_of : A → List ℕ) where
       let any_here : b ≡ list_any (λ y. bytes_eq (name_of x) (name_of y)) (drop (i + 1) xs) =
       any ∙ ap (list_any (λ y. bytes_eq name (name_of y))) rest ∙ ap (λ t. list_any (λ y. bytes_eq t (name_of y)) (drop (i + 1) xs)) same_name in
       sym so_far ∙ names_step xs i x l e ∙ ap (λ t. not t && names_differ (map name_of (drop (i + 1) xs))) (sym any_here)
+
+-- ---- arguments
+and_false : (b : Bool) → (b && false) ≡ false
+and_false true = refl
+and_false false = refl
+
+-- more arguments than a row has parameters do not fit it
+pub too_many : (code : Code) (vars : List Declared) (all : List CArg) (ps : List Parameter) (args : List CArg) → length ps < length args → args_fit code vars all ps args ≡ false
+too_many code vars all [] [] l = absurd (omega (arith, l))
+too_many code vars all [] (a ∷ rest) l = refl
+too_many code vars all (p ∷ ps) [] l = refl
+too_many code vars all (p ∷ ps) (a ∷ rest) l =
+    ap (λ b. arg_fits code vars all p a && b) (too_many code vars all ps rest (omega (arith, l))) ∙ and_false (arg_fits code vars all p a)

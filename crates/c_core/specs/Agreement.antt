@@ -1,18 +1,15 @@
--- When a code does what a program of the source does: on every input and for every number of turns its run has the
--- source's output and ending, and no fault; and where it ends, the machine's cells are the source's objects, each counted
--- as often as something holds it.
-use Rattle.std.specs.Prelude.{◌≡◌, ℕ, ◌≤◌, List, Option, Some, None}
+-- When a run of the machine does what a program of the source does: it has the source's output and ending, and no fault; and where it
+-- ends, the machine's cells are the source's objects, each counted as often as something holds it.
+use Rattle.std.specs.Prelude.{◌≡◌, ℕ, List, Option, Some, None}
 use Rattle.value_core.specs.Exceptions.{Thrown}
-use Rattle.value_core.specs.Items.{Items, InputEnd, input_items}
 use Rattle.value_core.specs.Value.{Value, Store}
 use Rattle.value_core.specs.Ending.{Ending, Done, Raised, Cut, Over, Broken}
-use Rattle.c_core.specs.declared.code.Code.{Code}
 use Rattle.c_core.specs.Cells.{count_at}
 use Rattle.c_core.specs.Machine.{Content, ExcCell, MachineState}
 use Rattle.c_core.specs.Holders.{holders}
 use Rattle.c_core.specs.Stands.{Stands, IsLive}
 use Rattle.c_core.specs.Step.{Ended}
-use Rattle.c_core.specs.Run.{Stop, most_turns, machine_run}
+use Rattle.c_core.specs.Run.{Stop}
 
 -- where a run of the source stops: its output and its ending, the objects that it made and the values of the module's
 -- variables, None where one is unset
@@ -21,10 +18,6 @@ pub record SourceStop : Type 0 where
   pub ending : Ending
   pub store : Store
   pub variables : List (Option Value)
-
--- what a program of the source does: where it stops, for a number of turns and the lines of input
-abbrev pub Source : Type 0
-Source = ℕ → Items → SourceStop
 
 -- the machine holds the source's objects, and each live cell is held as often as it is counted
 pub record IsWhole (source : SourceStop) (s : MachineState) : Type 0 where
@@ -49,8 +42,3 @@ pub record Agrees (source : SourceStop) (stop : Stop) : Type 0 where
   pub same_output : stop.state.output ≡ source.output
   pub same_ending : stop.ending ≡ Ended source.ending
   pub whole : EndsWhole source.ending source stop.state
-
--- each run of a code agrees with the source's, whatever the turns, the bytes of the input and how those end
-abbrev pub AgreesWith : Source → Code → Type 0
-AgreesWith source code =
-    (n : ℕ) → n ≤ most_turns → (bytes : List ℕ) (e : InputEnd) → (stop : Stop) × (machine_run n (input_items bytes e) code ≡ Some stop) × Agrees (source n (input_items bytes e)) stop

@@ -1,5 +1,6 @@
 -- The arguments of a primitive, as the machine meets them.
 use Rattle.std.specs.Prelude.{ℕ, ◌==◌, Bool, true, false, not, ℤ, pos, negsuc, List, [], ◌∷◌, ◌++◌, Option, Some, None, find, slice_get}
+use Rattle.std.specs.List.{position}
 use Rattle.std.specs.Option.{option_and_then, option_map}
 use Rattle.std.specs.Str.{bytes_eq}
 use Rattle.c_core.specs.declared.code.Kind.{Kind}
@@ -7,8 +8,8 @@ use Rattle.c_core.specs.declared.code.Kind.TheVariants.{Tagged, Int64, Char, Obj
 use Rattle.c_core.specs.declared.code.CArg.{CArg}
 use Rattle.c_core.specs.declared.code.CArg.TheVariants as arg
 use Rattle.c_core.specs.declared.code.Code.{Code}
-use Rattle.c_core.specs.Machine.{Word, ShortInt, BigInt, Native, CharWord, ObjectCell, NoneObject, TrueObject, FalseObject, Content, StrCell, InstCell}
-use Rattle.c_core.specs.Primitives.{KindAt, Is, OfGlobal, OfSlot, Holding, Anything, AText, Parameter, Steals}
+use Rattle.c_core.specs.Machine.{Word, ShortInt, BigInt, Native, CharWord, ObjectCell, NoneObject, TrueObject, FalseObject, Content, StrCell, InstCell, ExcCell}
+use Rattle.c_core.specs.Primitives.{KindAt, Is, OfGlobal, OfSlot, Holding, Anything, AText, AnException, Parameter, Steals}
 
 -- an argument that passed its tests: a cell that is there with its content, a word without a cell, or what is written
 pub data Argument : Type 0 where
@@ -33,10 +34,16 @@ abbrev pub is_holding : Holding → Argument → Bool
 is_holding Anything a = true
 is_holding AText (Cell c (StrCell text)) = true
 is_holding AText _ = false
+is_holding AnException (Cell c (ExcCell e)) = true
+is_holding AnException _ = false
 
 -- the kind of a global by its name, and of a slot by the number of its class and its own
 abbrev pub kind_of_global : Code → List ℕ → Option Kind
 kind_of_global code name = option_map (λ g. g.1) (find (λ g. bytes_eq name g.0) code.globals)
+
+-- the number of a global by its name
+abbrev pub number_of_global : Code → List ℕ → Option ℕ
+number_of_global code name = position (λ g. bytes_eq name g.0) code.globals
 
 abbrev pub kind_of_slot : Code → ℕ → ℤ → Option Kind
 kind_of_slot code class (pos n) =
@@ -49,6 +56,15 @@ kind_found code (Is k) earlier = Some k
 kind_found code OfGlobal (Written (arg.Global name) ∷ rest) = kind_of_global code name
 kind_found code OfSlot (Cell c (InstCell class attributes) ∷ Written (arg.Number n) ∷ rest) = kind_of_slot code class n
 kind_found code _ _ = None
+
+-- the word that an argument was, in a variable of a kind
+abbrev pub word_in : Kind → Argument → Option Word
+word_in Tagged (Cell c content) = Some (BigInt c)
+word_in Object (Cell c content) = Some (ObjectCell c)
+word_in k (Plain (BigInt c)) = None
+word_in k (Plain (ObjectCell c)) = None
+word_in k (Plain w) = Some w
+word_in k _ = None
 
 -- the references that arguments lose, one for each stolen cell
 abbrev pub stolen_from : Parameter → Argument → List ℕ

@@ -1,6 +1,6 @@
 -- The primitives of the runtime: each is one row with what its arguments are to be, which of them it steals, its result,
 -- and whether it may stand while an exception is pending (mypyc's developer guide, "Primitives").
-use Rattle.std.specs.Prelude.{ℕ, Bool, false, List, [], ◌∷◌, Option, codes, find, map}
+use Rattle.std.specs.Prelude.{ℕ, Bool, true, false, List, [], ◌∷◌, Option, codes, find, map}
 use Rattle.std.specs.Str.{bytes_eq}
 use Rattle.c_core.specs.declared.code.Kind.{Kind}
 use Rattle.c_core.specs.declared.code.Kind.TheVariants.{Int64, Char, Object}
@@ -9,6 +9,9 @@ use Rattle.c_core.specs.declared.primitive.Primitive.TheVariants as prim
 use Rattle.c_core.specs.declared.primitive.Int64Prim.TheVariants as int64
 use Rattle.c_core.specs.declared.primitive.BoolPrim.TheVariants as bool
 use Rattle.c_core.specs.declared.primitive.StrPrim.TheVariants as str
+use Rattle.c_core.specs.declared.primitive.GlobalPrim.TheVariants as global
+use Rattle.c_core.specs.declared.primitive.ExcPrim.TheVariants as exc
+use Rattle.c_core.specs.declared.primitive.ErrPrim.TheVariants as err
 use Rattle.c_core.specs.declared.primitive.IoPrim.TheVariants as io
 
 -- where the kind of a variable is found: in the row, at the global that the call names first, or at the slot of the
@@ -18,18 +21,20 @@ pub data KindAt : Type 0 where
   OfGlobal : KindAt
   OfSlot : KindAt
 
--- what a variable is to hold: any word of its kind that is no error value, or a cell with a text
+-- what a variable is to hold: any word of its kind that is no error value, a cell with a text, or one with an exception
 pub data Holding : Type 0 where
   Anything : Holding
   AText : Holding
+  AnException : Holding
 
--- what an argument is to be: a variable, which is borrowed or stolen, or a number, a text, a global or a class as it is
--- written
+-- what an argument is to be: a variable, which is borrowed or stolen, or a number, a text, the name of an exception class as a
+-- text, a global or a class as it is written
 pub data Parameter : Type 0 where
   Borrows : (k : KindAt) (h : Holding) → Parameter
   Steals : (k : KindAt) (h : Holding) → Parameter
   TakesNumber : Parameter
   TakesText : Parameter
+  TakesException : Parameter
   TakesGlobal : Parameter
   TakesClass : Parameter
 
@@ -48,11 +53,27 @@ pub record Row : Type 0 where
 abbrev pub simple_row : List ℕ → List Kind → Kind → Row
 simple_row name kinds k = record { name = name; parameters = map (λ k. Borrows (Is k) Anything) kinds; outcome = Owned (Is k); while_pending = false }
 
+-- a row that borrows one variable of a kind, which holds what is asked for, and answers a word of a kind
+abbrev pub one_row : List ℕ → Kind → Holding → Kind → Row
+one_row name k h answer = record { name = name; parameters = Borrows (Is k) h ∷ []; outcome = Owned (Is answer); while_pending = false }
+
+-- a row without variables that may stand while an exception is pending
+abbrev pub pending_row : List ℕ → List Parameter → Kind → Row
+pending_row name parameters k = record { name = name; parameters = parameters; outcome = Owned (Is k); while_pending = true }
+
+-- a row that answers nothing
+abbrev pub acting_row : List ℕ → List Parameter → Row
+acting_row name parameters = record { name = name; parameters = parameters; outcome = Nothing; while_pending = false }
+
 abbrev pub row_of : Primitive → Row
 row_of (prim.Int64 int64.Add) = simple_row (codes "CPyInt64_Add") (Int64 ∷ Int64 ∷ []) Int64
 row_of (prim.Int64 int64.Subtract) = simple_row (codes "CPyInt64_Subtract") (Int64 ∷ Int64 ∷ []) Int64
 row_of (prim.Int64 int64.Multiply) = simple_row (codes "CPyInt64_Multiply") (Int64 ∷ Int64 ∷ []) Int64
 row_of (prim.Int64 int64.Negate) = simple_row (codes "CPyInt64_Negate") (Int64 ∷ []) Int64
+row_of (prim.Int64 int64.FloorDivide) = simple_row (codes "CPyInt64_FloorDivide") (Int64 ∷ Int64 ∷ []) Int64
+row_of (prim.Int64 int64.Remainder) = simple_row (codes "CPyInt64_Remainder") (Int64 ∷ Int64 ∷ []) Int64
+row_of (prim.Int64 int64.Lshift) = simple_row (codes "CPyInt64_Lshift") (Int64 ∷ Int64 ∷ []) Int64
+row_of (prim.Int64 int64.Rshift) = simple_row (codes "CPyInt64_Rshift") (Int64 ∷ Int64 ∷ []) Int64
 row_of (prim.Int64 int64.FromBool) = simple_row (codes "CPyInt64_FromBool") (Char ∷ []) Int64
 row_of (prim.Int64 int64.Eq) = simple_row (codes "CPyInt64_Eq") (Int64 ∷ Int64 ∷ []) Char
 row_of (prim.Int64 int64.Lt) = simple_row (codes "CPyInt64_Lt") (Int64 ∷ Int64 ∷ []) Char
@@ -61,13 +82,27 @@ row_of (prim.Int64 int64.Str) = simple_row (codes "CPyInt64_Str") (Int64 ∷ [])
 row_of (prim.Bool bool.Not) = simple_row (codes "CPyBool_Not") (Char ∷ []) Char
 row_of (prim.Bool bool.Str) = simple_row (codes "CPyBool_Str") (Char ∷ []) Object
 row_of (prim.Str str.Literal) = record { name = codes "CPyStr_Literal"; parameters = TakesText ∷ []; outcome = Owned (Is Object); while_pending = false }
-row_of (prim.Io io.Write) = record { name = codes "CPy_Write"; parameters = Borrows (Is Object) AText ∷ []; outcome = Nothing; while_pending = false }
+row_of (prim.Global global.Get) = record { name = codes "CPyGlobal_Get"; parameters = TakesGlobal ∷ []; outcome = Owned OfGlobal; while_pending = false }
+row_of (prim.Global global.Set) = acting_row (codes "CPyGlobal_Set") (TakesGlobal ∷ Steals OfGlobal Anything ∷ [])
+row_of (prim.Global global.Clear) = acting_row (codes "CPyGlobal_Clear") (TakesGlobal ∷ [])
+row_of (prim.Exc exc.New) = record { name = codes "CPyExc_New"; parameters = TakesException ∷ Borrows (Is Object) AText ∷ []; outcome = Owned (Is Object); while_pending = false }
+row_of (prim.Exc exc.Str) = one_row (codes "CPyExc_Str") Object AnException Object
+row_of (prim.Err err.SetObject) = acting_row (codes "CPyErr_SetObject") (Steals (Is Object) AnException ∷ [])
+row_of (prim.Err err.Unbound) = acting_row (codes "CPyErr_Unbound") (TakesText ∷ [])
+row_of (prim.Err err.Occurred) = pending_row (codes "CPyErr_Occurred") [] Char
+row_of (prim.Err err.Matches) = pending_row (codes "CPyErr_Matches") (TakesException ∷ []) Char
+row_of (prim.Err err.Catch) = pending_row (codes "CPyErr_Catch") [] Object
+row_of (prim.Io io.Write) = acting_row (codes "CPy_Write") (Borrows (Is Object) AText ∷ [])
 
 abbrev pub all_primitives : List Primitive
 all_primitives =
-    prim.Int64 int64.Add ∷ prim.Int64 int64.Subtract ∷ prim.Int64 int64.Multiply ∷ prim.Int64 int64.Negate ∷ prim.Int64 int64.FromBool
-    ∷ prim.Int64 int64.Eq ∷ prim.Int64 int64.Lt ∷ prim.Int64 int64.Le ∷ prim.Int64 int64.Str
-    ∷ prim.Bool bool.Not ∷ prim.Bool bool.Str ∷ prim.Str str.Literal ∷ prim.Io io.Write ∷ []
+    prim.Int64 int64.Add ∷ prim.Int64 int64.Subtract ∷ prim.Int64 int64.Multiply ∷ prim.Int64 int64.Negate
+    ∷ prim.Int64 int64.FloorDivide ∷ prim.Int64 int64.Remainder ∷ prim.Int64 int64.Lshift ∷ prim.Int64 int64.Rshift
+    ∷ prim.Int64 int64.FromBool ∷ prim.Int64 int64.Eq ∷ prim.Int64 int64.Lt ∷ prim.Int64 int64.Le ∷ prim.Int64 int64.Str
+    ∷ prim.Bool bool.Not ∷ prim.Bool bool.Str ∷ prim.Str str.Literal
+    ∷ prim.Global global.Get ∷ prim.Global global.Set ∷ prim.Global global.Clear ∷ prim.Exc exc.New ∷ prim.Exc exc.Str
+    ∷ prim.Err err.SetObject ∷ prim.Err err.Unbound ∷ prim.Err err.Occurred ∷ prim.Err err.Matches ∷ prim.Err err.Catch
+    ∷ prim.Io io.Write ∷ []
 
 abbrev pub is_named : List ℕ → Primitive → Bool
 is_named name p = bytes_eq (row_of p).name name

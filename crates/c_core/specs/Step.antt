@@ -1,10 +1,15 @@
 -- One step of the machine: what a line of the C text does to a state. Its tests go from left to right, each on the
 -- ledger that those before it left, and a fault leaves the state as it was before the line.
-use Rattle.std.specs.Prelude.{ℕ, zero, suc, ◌+◌, ◌/◌, ◌%◌, ◌==◌, Bool, true, false, not, ◌||◌, cond, ℤ, pos, negsuc, int_lt, List, [], ◌∷◌, ◌++◌, length, Option, Some, None, codes, slice_get, slice_set}
+use Rattle.std.specs.Prelude.{ℕ, zero, suc, ◌+◌, ◌/◌, ◌%◌, ◌==◌, Bool, true, false, not, ◌||◌, cond, ℤ, pos, negsuc, int_lt, List, [], ◌∷◌, ◌++◌, length, Option, Some, None, codes, slice_get, slice_set, Result, Ok, Err, is_some}
 use Rattle.std.specs.Fmt.{signed_decimal}
 use Rattle.std.specs.Option.{option_and_then, option_map}
 use Rattle.std.specs.Ordering.{int_eq}
-use Rattle.value_core.specs.Arithmetic.{i64_add, i64_sub, i64_mul, i64_neg}
+use Rattle.value_core.specs.declared.arith.Arith.{Arith}
+use Rattle.value_core.specs.declared.arith.Arith.TheVariants.{Overflow, ZeroDivisor, NegativeShift, OutOfRange}
+use Rattle.value_core.specs.declared.exception.ExcClass.{ExcClass}
+use Rattle.value_core.specs.declared.exception.ExcClass.TheVariants.{ZeroDivisionError, OverflowError, NameError, UnboundLocalError, ValueError}
+use Rattle.value_core.specs.Arithmetic.{i64_add, i64_sub, i64_mul, i64_neg, i64_floor_div, i64_modulo, i64_shl, i64_shr}
+use Rattle.value_core.specs.Exceptions.{Thrown, thrown, class_named, is_under}
 use Rattle.value_core.specs.Ending.{Ending, Done, Raised, Cut}
 use Rattle.c_core.specs.declared.code.Kind.{Kind}
 use Rattle.c_core.specs.declared.code.Kind.TheVariants.{Tagged, Int64, Char, Object}
@@ -23,14 +28,17 @@ use Rattle.c_core.specs.declared.primitive.Primitive.TheVariants as prim
 use Rattle.c_core.specs.declared.primitive.Int64Prim.TheVariants as int64
 use Rattle.c_core.specs.declared.primitive.BoolPrim.TheVariants as bool
 use Rattle.c_core.specs.declared.primitive.StrPrim.TheVariants as str
+use Rattle.c_core.specs.declared.primitive.GlobalPrim.TheVariants as global
+use Rattle.c_core.specs.declared.primitive.ExcPrim.TheVariants as exc
+use Rattle.c_core.specs.declared.primitive.ErrPrim.TheVariants as err
 use Rattle.c_core.specs.declared.primitive.IoPrim.TheVariants as io
 use Rattle.c_core.specs.Cells.{Cells, times, content_at, take_one, make}
 use Rattle.c_core.specs.Ledgers.{Ledger, more, more_of, without}
 use Rattle.c_core.specs.Release.{release}
-use Rattle.c_core.specs.Machine.{Word, ShortInt, BigInt, TaggedError, Native, CharWord, ObjectCell, NoneObject, TrueObject, FalseObject, NoObject, Content, StrCell, ExcCell, refs_of, refs_in, Frame, MachineState}
-use Rattle.c_core.specs.Functions.{label_places, function_named, parameter_kinds, entry_words}
-use Rattle.c_core.specs.Primitives.{Holding, Parameter, Borrows, Steals, TakesNumber, TakesText, TakesGlobal, TakesClass, row_of, primitive_named}
-use Rattle.c_core.specs.Arguments.{Argument, Cell, Plain, Written, is_value_of, is_holding, kind_found, stolen}
+use Rattle.c_core.specs.Machine.{Word, ShortInt, BigInt, TaggedError, Native, CharWord, ObjectCell, NoneObject, TrueObject, FalseObject, NoObject, Content, StrCell, ExcCell, refs_of, set_refs, refs_in, Frame, MachineState}
+use Rattle.c_core.specs.Functions.{label_places, function_named, parameter_kinds, error_word, entry_words}
+use Rattle.c_core.specs.Primitives.{Holding, Parameter, Borrows, Steals, TakesNumber, TakesText, TakesException, TakesGlobal, TakesClass, row_of, primitive_named}
+use Rattle.c_core.specs.Arguments.{Argument, Cell, Plain, Written, is_value_of, is_holding, kind_of_global, number_of_global, kind_found, word_in, stolen}
 
 -- how a run of the machine ends: as a program of the source does, or by a fault
 pub data MachineEnding : Type 0 where
@@ -65,6 +73,20 @@ next_line s = at_place (s.top.place + 1) s
 -- the frame owns one reference to c more
 abbrev pub own : ℕ → MachineState → MachineState
 own c s = with_ledger (more c s.top.ledger) s
+
+-- a reference is taken, and the frame owns it
+abbrev pub took : ℕ → MachineState → MachineState
+took c s = own c (with_cells (take_one c s.cells) s)
+
+-- the reference of a word is taken, if it has one
+abbrev pub shared : Word → MachineState → MachineState
+shared (BigInt c) s = took c s
+shared (ObjectCell c) s = took c s
+shared w s = s
+
+-- a new exception is pending
+abbrev pub raise : Thrown → MachineState → MachineState
+raise e s = record s { cells = make (ExcCell e) s.cells; pending = Some (length s.cells) }
 
 -- the word of a literal in a variable of this kind; the number of a tagged `int` is twice its value, or 1
 abbrev pub halved : ℤ → Option Word
@@ -105,13 +127,20 @@ abbrev pub equals_error : Word → Bool
 equals_error w = is_error w || is_both w
 
 -- ---- primitives
--- what a primitive does: it was called wrongly, it answers a word that has no cell, it makes a cell, whose content takes over
--- what was stolen, or it writes to the output
+-- What a primitive does. It was called wrongly. It answers a word that has no cell, or one that a global holds and goes on to
+-- hold. It makes a cell, whose content takes over what was stolen. It writes to the output. A global that held one thing gets
+-- another, which is what was stolen, or nothing, and the thing that it held is given up. It fails: a new exception is pending, and the
+-- answer is an error value. The exception that was stolen is pending. The exception that was pending is answered, and none is pending.
 pub data Effect : Type 0 where
   Wrong : Effect
   Says : (w : Word) → Effect
+  Shares : (w : Word) → Effect
   Makes : (content : Content) → Effect
   Writes : (text : List ℕ) → Effect
+  Stores : (n : ℕ) (old new : Option Word) → Effect
+  Fails : (w : Word) (e : Thrown) → Effect
+  Pends : (c : ℕ) → Effect
+  Catches : (c : ℕ) → Effect
 
 -- a truth as a `char`, and as a text
 abbrev pub truth_word : Bool → Word
@@ -122,11 +151,71 @@ abbrev pub truth_text : ℕ → List ℕ
 truth_text zero = codes "False"
 truth_text (suc n) = codes "True"
 
+-- why an operation on native integers has no result (Python Library Reference, "Concrete exceptions")
+abbrev pub exception_of : Arith → Thrown
+exception_of Overflow = thrown OverflowError (codes "integer does not fit in i64")
+exception_of ZeroDivisor = thrown ZeroDivisionError (codes "integer division or modulo by zero")
+exception_of NegativeShift = thrown ValueError (codes "negative shift count")
+exception_of OutOfRange = thrown ValueError (codes "shift count out of range")
+
+abbrev pub native_or : Result ℤ Arith → Effect
+native_or (Ok n) = Says (Native n)
+native_or (Err f) = Fails (error_word Int64) (exception_of f)
+
+-- what a global holds: nothing where there is none of the name, and nothing inside where it is unset
+abbrev pub global_at : Code → MachineState → List ℕ → Option (Option Word)
+global_at code s name = option_and_then (slice_get s.globals) (number_of_global code name)
+
+abbrev pub not_defined : List ℕ → Thrown
+not_defined name = thrown NameError (codes "name '" ++ name ++ codes "' is not defined")
+
+abbrev pub unbound : List ℕ → Thrown
+unbound name = thrown UnboundLocalError (codes "local variable '" ++ name ++ codes "' referenced before assignment")
+
+-- a read of a global of a name and a kind, which holds this
+abbrev pub got : List ℕ → Option Kind → Option (Option Word) → Effect
+got name (Some k) (Some (Some w)) = Shares w
+got name (Some k) (Some None) = Fails (error_word k) (not_defined name)
+got name k o = Wrong
+
+-- a write of the global of a number, which holds this
+abbrev pub stored : Option ℕ → Option (Option Word) → Option Word → Effect
+stored (Some n) (Some old) new = Stores n old new
+stored n old new = Wrong
+
+abbrev pub set_to : Option ℕ → Option (Option Word) → Option Word → Effect
+set_to n old None = Wrong
+set_to n old (Some w) = stored n old (Some w)
+
+abbrev pub made_exception : Option ExcClass → List ℕ → Effect
+made_exception None text = Wrong
+made_exception (Some class) text = Makes (ExcCell (thrown class text))
+
+-- the exception that is pending
+abbrev pub exception_in : Content → Option Thrown
+exception_in (ExcCell e) = Some e
+exception_in _ = None
+
+abbrev pub pending_exception : MachineState → Option Thrown
+pending_exception s = option_and_then exception_in (option_and_then (content_at s.cells) s.pending)
+
+abbrev pub matched : Option ExcClass → Option Thrown → Effect
+matched (Some class) (Some e) = Says (truth_word (is_under e.class class))
+matched class e = Wrong
+
+abbrev pub caught : Option ℕ → Effect
+caught None = Wrong
+caught (Some c) = Catches c
+
 abbrev pub effect : Code → MachineState → Primitive → List Argument → Effect
 effect code s (prim.Int64 int64.Add) (Plain (Native a) ∷ Plain (Native b) ∷ []) = Says (Native (i64_add a b))
 effect code s (prim.Int64 int64.Subtract) (Plain (Native a) ∷ Plain (Native b) ∷ []) = Says (Native (i64_sub a b))
 effect code s (prim.Int64 int64.Multiply) (Plain (Native a) ∷ Plain (Native b) ∷ []) = Says (Native (i64_mul a b))
 effect code s (prim.Int64 int64.Negate) (Plain (Native a) ∷ []) = Says (Native (i64_neg a))
+effect code s (prim.Int64 int64.FloorDivide) (Plain (Native a) ∷ Plain (Native b) ∷ []) = native_or (i64_floor_div a b)
+effect code s (prim.Int64 int64.Remainder) (Plain (Native a) ∷ Plain (Native b) ∷ []) = native_or (i64_modulo a b)
+effect code s (prim.Int64 int64.Lshift) (Plain (Native a) ∷ Plain (Native b) ∷ []) = native_or (i64_shl a b)
+effect code s (prim.Int64 int64.Rshift) (Plain (Native a) ∷ Plain (Native b) ∷ []) = native_or (i64_shr a b)
 effect code s (prim.Int64 int64.FromBool) (Plain (CharWord n) ∷ []) = Says (Native (pos n))
 effect code s (prim.Int64 int64.Eq) (Plain (Native a) ∷ Plain (Native b) ∷ []) = Says (truth_word (int_eq a b))
 effect code s (prim.Int64 int64.Lt) (Plain (Native a) ∷ Plain (Native b) ∷ []) = Says (truth_word (int_lt a b))
@@ -135,6 +224,19 @@ effect code s (prim.Int64 int64.Str) (Plain (Native a) ∷ []) = Makes (StrCell 
 effect code s (prim.Bool bool.Not) (Plain (CharWord n) ∷ []) = Says (truth_word (n == 0))
 effect code s (prim.Bool bool.Str) (Plain (CharWord n) ∷ []) = Makes (StrCell (truth_text n))
 effect code s (prim.Str str.Literal) (Written (arg.Text text) ∷ []) = Makes (StrCell text)
+effect code s (prim.Global global.Get) (Written (arg.Global name) ∷ []) =
+    got name (kind_of_global code name) (global_at code s name)
+effect code s (prim.Global global.Set) (Written (arg.Global name) ∷ a ∷ []) =
+    set_to (number_of_global code name) (global_at code s name) (option_and_then (λ k. word_in k a) (kind_of_global code name))
+effect code s (prim.Global global.Clear) (Written (arg.Global name) ∷ []) =
+    stored (number_of_global code name) (global_at code s name) None
+effect code s (prim.Exc exc.New) (Written (arg.Text name) ∷ Cell c (StrCell text) ∷ []) = made_exception (class_named name) text
+effect code s (prim.Exc exc.Str) (Cell c (ExcCell e) ∷ []) = Makes (StrCell e.text)
+effect code s (prim.Err err.SetObject) (Cell c (ExcCell e) ∷ []) = Pends c
+effect code s (prim.Err err.Unbound) (Written (arg.Text name) ∷ []) = Fails NoObject (unbound name)
+effect code s (prim.Err err.Occurred) [] = Says (truth_word (is_some s.pending))
+effect code s (prim.Err err.Matches) (Written (arg.Text name) ∷ []) = matched (class_named name) (pending_exception s)
+effect code s (prim.Err err.Catch) [] = caught s.pending
 effect code s (prim.Io io.Write) (Cell c (StrCell text) ∷ []) = Writes text
 effect code s _ _ = Wrong
 
@@ -212,6 +314,7 @@ module _ (is_checked : Bool) (s : MachineState) where
       if_some fault.Kind (kind_found code k earlier) (λ kind. if_variable kind h x (λ a. if_stolen a l (go a)))
   if_argument code TakesNumber (arg.Number n) earlier l go = go (Written (arg.Number n)) l
   if_argument code TakesText (arg.Text text) earlier l go = go (Written (arg.Text text)) l
+  if_argument code TakesException (arg.Text text) earlier l go = go (Written (arg.Text text)) l
   if_argument code TakesGlobal (arg.Global name) earlier l go = go (Written (arg.Global name)) l
   if_argument code TakesClass (arg.Class name) earlier l go = go (Written (arg.Class name)) l
   if_argument code _ _ earlier l go = faulted fault.Kind
@@ -231,8 +334,14 @@ module _ (is_checked : Bool) (s : MachineState) where
   abbrev pub applied : Option ℕ → Ledger → List ℕ → Effect → Next
   applied x l gone Wrong = faulted fault.Kind
   applied x l gone (Says w) = Goes (next_line (with_target x w (given gone (with_ledger l s))))
+  applied x l gone (Shares w) = Goes (next_line (with_target x w (shared w (with_ledger l s))))
   applied x l gone (Makes content) = Goes (next_line (made_cell x content (with_ledger l s)))
   applied x l gone (Writes text) = Goes (next_line (given gone (with_ledger l (record s { output = s.output ++ text }))))
+  applied x l gone (Stores n old new) =
+      Goes (next_line (given (set_refs (old ∷ [])) (record (with_ledger l s) { globals = slice_set s.globals n new })))
+  applied x l gone (Fails w e) = Goes (next_line (with_target x w (raise e (given gone (with_ledger l s)))))
+  applied x l gone (Pends c) = Goes (next_line (record (with_ledger l s) { pending = Some c }))
+  applied x l gone (Catches c) = Goes (next_line (with_target x (ObjectCell c) (own c (record (with_ledger l s) { pending = None }))))
 
   abbrev pub primitive_step : Code → Option ℕ → List CArg → Primitive → Next
   primitive_step code x args p =
@@ -286,7 +395,7 @@ module _ (is_checked : Bool) (s : MachineState) where
 
   -- a reference is taken; nothing happens for a word without a cell
   abbrev pub taken : ℕ → Next
-  taken c = if_content c (λ content. Goes (next_line (own c (with_cells (take_one c s.cells) s))))
+  taken c = if_content c (λ content. Goes (next_line (took c s)))
 
   abbrev pub incremented : Word → Next
   incremented (ShortInt n) = Goes (next_line s)

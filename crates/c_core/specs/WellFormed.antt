@@ -5,6 +5,7 @@ use Rattle.std.specs.List.{list_all, list_any}
 use Rattle.std.specs.Str.{bytes_eq, chars, is_utf8}
 use Rattle.unicode_ident.specs.Ident.{is_xid_continue}
 use Rattle.value_core.specs.Arithmetic.{lies_within}
+use Rattle.value_core.specs.Exceptions.{class_named}
 use Rattle.c_core.specs.declared.code.Kind.{Kind}
 use Rattle.c_core.specs.declared.code.Kind.TheVariants.{Tagged, Int64, Char, Object}
 use Rattle.c_core.specs.declared.code.CArg.{CArg}
@@ -17,7 +18,7 @@ use Rattle.c_core.specs.declared.code.CFunc.{CFunc}
 use Rattle.c_core.specs.declared.code.Code.{Code}
 use Rattle.c_core.specs.declared.primitive.Primitive.{Primitive}
 use Rattle.c_core.specs.Functions.{is_turn, label_places, after_prefix, function_named, parameter_kinds}
-use Rattle.c_core.specs.Primitives.{KindAt, Is, OfGlobal, OfSlot, Parameter, Borrows, Steals, TakesNumber, TakesText, TakesGlobal, TakesClass, Outcome, Nothing, Owned, Row, row_of, primitive_named}
+use Rattle.c_core.specs.Primitives.{KindAt, Is, OfGlobal, OfSlot, Parameter, Borrows, Steals, TakesNumber, TakesText, TakesException, TakesGlobal, TakesClass, Outcome, Nothing, Owned, Row, row_of, primitive_named}
 use Rattle.c_core.specs.Arguments.{kind_of_global}
 use Rattle.c_core.specs.Step.{literal_word}
 
@@ -171,6 +172,11 @@ kind_fits code args (Is k) l = has_kind k l
 kind_fits code args OfGlobal l = kinds_agree (named_kind code args) l
 kind_fits code args OfSlot l = is_some l
 
+-- a result of a kind, if there is one, may be left without a target
+abbrev pub answers_kind : List Declared → Option Kind → Option ℕ → Bool
+answers_kind vars k None = is_some k
+answers_kind vars k (Some x) = kinds_agree k (kind_at vars x)
+
 -- an argument of each kind, all of them variables
 abbrev pub passes : List Declared → List Kind → List CArg → Bool
 passes vars [] [] = true
@@ -189,6 +195,7 @@ module _ (code : Code) (vars : List Declared) where
   arg_fits args (Steals k h) (arg.Var x) = kind_fits code args k (kind_at vars x)
   arg_fits args TakesNumber (arg.Number n) = true
   arg_fits args TakesText (arg.Text text) = true
+  arg_fits args TakesException (arg.Text text) = is_some (class_named text)
   arg_fits args TakesGlobal (arg.Global name) = is_some (kind_of_global code name)
   arg_fits args TakesClass (arg.Class name) = list_any (λ k. bytes_eq name k.name) code.classes
   arg_fits args _ _ = false

@@ -20,5 +20,7 @@ pub use laws::{
     ledgers_ascend, release_in_any_order, release_keeps_counts, run_exists, run_keeps_counts,
     run_stays_small, step_stays_small,
 };
-pub use primitive::{BoolPrim, Int64Prim, IoPrim, Primitive as Prim, StrPrim};
+pub use primitive::{
+    BoolPrim, ErrPrim, ExcPrim, GlobalPrim, Int64Prim, IoPrim, Primitive as Prim, StrPrim,
+};
 pub use well_formed::{is_call_name, is_identifier, is_spelled, is_well_formed};

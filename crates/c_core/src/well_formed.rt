@@ -1,23 +1,30 @@
 //! Whether the machine may run a code.
-ghost use Rattle.std.specs.Prelude.{◌≡◌, ◌&&◌, ℕ, ◌-◌, false, List, [], ◌∷◌, length, map, take, slice_get, Some};
+ghost use Rattle.std.specs.Prelude.{◌≡◌, ◌&&◌, ℕ, ◌-◌, false, List, [], ◌∷◌, length, map, take, slice_get, Some, is_some};
 ghost use Rattle.std.specs.List.{list_all, list_any, position};
 ghost use Rattle.std.specs.Option.{option_and_then, option_map};
 ghost use Rattle.std.specs.Str.{bytes_eq, is_utf8};
 ghost use Rattle.value_core.specs.Arithmetic.{lies_within};
+ghost use Rattle.value_core.specs.Exceptions.{class_named};
+ghost use Rattle.c_core.specs.Arguments as arguments;
 ghost use Rattle.c_core.specs.Functions as function;
 ghost use Rattle.c_core.specs.Functions.{label_places};
-ghost use Rattle.c_core.specs.Primitives.{Owned, Is, simple_row, row_of, primitive_named};
+ghost use Rattle.c_core.specs.Primitives.{Holding, Owned, Is, one_row, simple_row, pending_row, row_of, primitive_named};
 ghost use Rattle.c_core.specs.WellFormed as spec;
 ghost use Rattle.c_core.specs.declared.code.CArg.{CArg};
 ghost use Rattle.c_core.specs.declared.code.CFunc.{CFunc};
 ghost use Rattle.c_core.specs.declared.code.Code as declared;
 ghost use Rattle.c_core.specs.declared.primitive.Primitive.TheVariants as prim;
 ghost use Rattle.c_core.specs.declared.primitive.StrPrim.TheVariants as str;
+ghost use Rattle.c_core.specs.declared.primitive.GlobalPrim.TheVariants as global;
+ghost use Rattle.c_core.specs.declared.primitive.ExcPrim.TheVariants as exc;
+ghost use Rattle.c_core.specs.declared.primitive.ErrPrim.TheVariants as err;
 
 use crate::code::{CArg, CFunc, CLit, Code, Kind, Line};
-use crate::primitive::{BoolPrim, Int64Prim, IoPrim, Primitive, StrPrim};
+use crate::primitive::{
+    BoolPrim, ErrPrim, ExcPrim, GlobalPrim, Int64Prim, IoPrim, Primitive, StrPrim,
+};
 use unicode_ident::is_xid_continue;
-use value_core::Name;
+use value_core::{ExcClass, Name};
 
 /// Whether a code is well formed: it is spelled, its names differ, lines, calls and returns have the numbers and kinds that
 /// they ask for, labels and functions are there, and no way round passes no turn. It takes no memory, and a time that
@@ -421,7 +428,7 @@ pub(crate) fn line_fits(
         Line::Call(target, name, args) => {
             let args = args.as_slice();
             match Primitive::named(name.as_str()) {
-                Some(primitive) => primitive_call_fits(vars, primitive, *target, args),
+                Some(primitive) => primitive_call_fits(code, vars, primitive, *target, args),
                 None => function_call_fits(code, vars, callee, *target, args),
             }
         }
@@ -539,17 +546,23 @@ fn literal_fits(literal: CLit, kind: Option<Kind>) -> bool
 }
 
 fn primitive_call_fits(
+    code: &Code,
     vars: &[(Name, Kind)],
     primitive: Primitive,
     target: Option<usize>,
     args: &[CArg],
 ) -> bool
-    ensures { (code : declared.Code) → result ≡ spec.row_fits code vars.now target args.now (row_of primitive) }
+    ensures { result ≡ spec.row_fits code.now vars.now target args.now (row_of primitive) }
 {
     match (primitive, args) {
         (Primitive::Int64(operation), _) => int64_call_fits(vars, operation, target, args),
         (Primitive::Bool(operation), _) => bool_call_fits(vars, operation, target, args),
         (Primitive::Str(StrPrim::Literal), _) => literal_call_fits(vars, target, args),
+        (Primitive::Global(operation), _) => {
+            global_call_fits(code, vars, operation, target, args)
+        }
+        (Primitive::Exc(operation), _) => exception_call_fits(vars, operation, target, args),
+        (Primitive::Err(operation), _) => error_call_fits(vars, operation, target, args),
         (Primitive::Io(IoPrim::Write), [CArg::Var(x)]) => {
             target.is_none() && kind_at(vars, *x) == Some(Kind::Object)
         }
@@ -570,6 +583,10 @@ fn int64_call_fits(
         Int64Prim::Subtract => two_fit(vars, Kind::Int64, args, Kind::Int64, target),
         Int64Prim::Multiply => two_fit(vars, Kind::Int64, args, Kind::Int64, target),
         Int64Prim::Negate => one_fits(vars, Kind::Int64, args, Kind::Int64, target),
+        Int64Prim::FloorDivide => two_fit(vars, Kind::Int64, args, Kind::Int64, target),
+        Int64Prim::Remainder => two_fit(vars, Kind::Int64, args, Kind::Int64, target),
+        Int64Prim::Lshift => two_fit(vars, Kind::Int64, args, Kind::Int64, target),
+        Int64Prim::Rshift => two_fit(vars, Kind::Int64, args, Kind::Int64, target),
         Int64Prim::FromBool => one_fits(vars, Kind::Char, args, Kind::Int64, target),
         Int64Prim::Eq => two_fit(vars, Kind::Int64, args, Kind::Char, target),
         Int64Prim::Lt => two_fit(vars, Kind::Int64, args, Kind::Char, target),
@@ -601,6 +618,162 @@ fn literal_call_fits(vars: &[(Name, Kind)], target: Option<usize>, args: &[CArg]
     }
 }
 
+/// The kind of the global of a name, if there is one.
+fn kind_of_global(code: &Code, name: &str) -> Option<Kind>
+    ensures { result ≡ arguments.kind_of_global code.now name.now }
+{
+    code.globals
+        .as_slice()
+        .iter()
+        .find(|global| name == global.0.as_str())
+        .map(|global| global.1)
+}
+
+fn global_call_fits(
+    code: &Code,
+    vars: &[(Name, Kind)],
+    operation: GlobalPrim,
+    target: Option<usize>,
+    args: &[CArg],
+) -> bool
+    ensures { result ≡ spec.row_fits code.now vars.now target args.now (row_of (prim.Global operation)) }
+{
+    match operation {
+        GlobalPrim::Get => get_fits(code, vars, target, args),
+        GlobalPrim::Set => target.is_none() && set_fits(code, vars, args),
+        GlobalPrim::Clear => target.is_none() && clear_fits(code, args),
+    }
+}
+
+fn get_fits(code: &Code, vars: &[(Name, Kind)], target: Option<usize>, args: &[CArg]) -> bool
+    ensures { result ≡ spec.row_fits code.now vars.now target args.now (row_of (prim.Global global.Get)) }
+{
+    match args {
+        [CArg::Global(name)] => answers_kind(vars, kind_of_global(code, name.as_str()), target),
+        _ => false,
+    }
+}
+
+// A result may be left without a target, but there is to be one.
+fn answers_kind(vars: &[(Name, Kind)], kind: Option<Kind>, target: Option<usize>) -> bool
+    ensures { result ≡ spec.answers_kind vars.now kind target }
+{
+    match (kind, target) {
+        (Some(kind), Some(x)) => kind_at(vars, x) == Some(kind),
+        (Some(_), None) => true,
+        (None, _) => false,
+    }
+}
+
+fn set_fits(code: &Code, vars: &[(Name, Kind)], args: &[CArg]) -> bool
+    ensures { result ≡ spec.args_fit code.now vars.now args.now (row_of (prim.Global global.Set)).parameters args.now }
+{
+    match args {
+        [CArg::Global(name), CArg::Var(x)] => {
+            same_kinds(kind_of_global(code, name.as_str()), kind_at(vars, *x))
+        }
+        _ => false,
+    }
+}
+
+fn clear_fits(code: &Code, args: &[CArg]) -> bool
+    ensures { (vars : List spec.Declared) → result ≡ spec.args_fit code.now vars args.now (row_of (prim.Global global.Clear)).parameters args.now }
+{
+    match args {
+        [CArg::Global(name)] => kind_of_global(code, name.as_str()).is_some(),
+        _ => false,
+    }
+}
+
+fn exception_call_fits(
+    vars: &[(Name, Kind)],
+    operation: ExcPrim,
+    target: Option<usize>,
+    args: &[CArg],
+) -> bool
+    ensures { (code : declared.Code) → result ≡ spec.row_fits code vars.now target args.now (row_of (prim.Exc operation)) }
+{
+    match operation {
+        ExcPrim::New => new_fits(vars, args, target),
+        ExcPrim::Str => one_fits(vars, Kind::Object, args, Kind::Object, target),
+    }
+}
+
+fn new_fits(vars: &[(Name, Kind)], args: &[CArg], target: Option<usize>) -> bool
+    ensures { (code : declared.Code) → result ≡ spec.row_fits code vars.now target args.now (row_of (prim.Exc exc.New)) }
+{
+    match args {
+        [CArg::Text(class), CArg::Var(x)] => {
+            is_exception(class.as_str())
+                && kind_at(vars, *x) == Some(Kind::Object)
+                && answers(vars, Kind::Object, target)
+        }
+        _ => false,
+    }
+}
+
+fn error_call_fits(
+    vars: &[(Name, Kind)],
+    operation: ErrPrim,
+    target: Option<usize>,
+    args: &[CArg],
+) -> bool
+    ensures { (code : declared.Code) → result ≡ spec.row_fits code vars.now target args.now (row_of (prim.Err operation)) }
+{
+    match operation {
+        ErrPrim::SetObject => object_fits(vars, args, target),
+        ErrPrim::Unbound => text_fits(args, target),
+        ErrPrim::Occurred => nothing_fits(vars, args, Kind::Char, target),
+        ErrPrim::Matches => class_fits(vars, args, target),
+        ErrPrim::Catch => nothing_fits(vars, args, Kind::Object, target),
+    }
+}
+
+// An object is stolen, and nothing is answered.
+fn object_fits(vars: &[(Name, Kind)], args: &[CArg], target: Option<usize>) -> bool
+    ensures { (code : declared.Code) → result ≡ spec.row_fits code vars.now target args.now (row_of (prim.Err err.SetObject)) }
+{
+    match args {
+        [CArg::Var(x)] => target.is_none() && kind_at(vars, *x) == Some(Kind::Object),
+        _ => false,
+    }
+}
+
+fn text_fits(args: &[CArg], target: Option<usize>) -> bool
+    ensures { (code : declared.Code) (vars : List spec.Declared) → result ≡ spec.row_fits code vars target args.now (row_of (prim.Err err.Unbound)) }
+{
+    match args {
+        [CArg::Text(_)] => target.is_none(),
+        _ => false,
+    }
+}
+
+// Nothing is passed, and a word of a kind is answered.
+fn nothing_fits(vars: &[(Name, Kind)], args: &[CArg], answer: Kind, target: Option<usize>) -> bool
+    ensures { (code : declared.Code) (name : List ℕ) → result ≡ spec.row_fits code vars.now target args.now (pending_row name [] answer) }
+{
+    match args {
+        [] => answers(vars, answer, target),
+        _ => false,
+    }
+}
+
+fn class_fits(vars: &[(Name, Kind)], args: &[CArg], target: Option<usize>) -> bool
+    ensures { (code : declared.Code) → result ≡ spec.row_fits code vars.now target args.now (row_of (prim.Err err.Matches)) }
+{
+    match args {
+        [CArg::Text(class)] => is_exception(class.as_str()) && answers(vars, Kind::Char, target),
+        _ => false,
+    }
+}
+
+/// Whether an exception class has this name.
+fn is_exception(name: &str) -> bool
+    ensures { result ≡ is_some (class_named name.now) }
+{
+    ExcClass::named(name).is_some()
+}
+
 // One variable of a kind is borrowed, and a word of a kind is answered.
 fn one_fits(
     vars: &[(Name, Kind)],
@@ -609,7 +782,7 @@ fn one_fits(
     answer: Kind,
     target: Option<usize>,
 ) -> bool
-    ensures { (code : declared.Code) (name : List ℕ) → result ≡ spec.row_fits code vars.now target args.now (simple_row name (kind ∷ []) answer) }
+    ensures { (code : declared.Code) (name : List ℕ) (h : Holding) → result ≡ spec.row_fits code vars.now target args.now (one_row name kind h answer) }
 {
     match args {
         [CArg::Var(x)] => kind_at(vars, *x) == Some(kind) && answers(vars, answer, target),

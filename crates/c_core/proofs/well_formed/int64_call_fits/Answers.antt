@@ -1,4 +1,5 @@
 use Rattle.std.proofs.Common.{codes}
+use Rattle.c_core.specs.Primitives.{Anything}
 use Rattle.c_core.proofs.well_formed.int64_call_fits.Goals as goal
 
 pub returns-in-Add : goal.returns-in-Add
@@ -11,10 +12,10 @@ pub returns-in-Multiply : goal.returns-in-Multiply
 returns-in-Multiply c = λ code. rw c.in-Multiply.is (c.two_fit-in-Multiply.ensures code (codes "CPyInt64_Multiply"))
 
 pub returns-in-Negate : goal.returns-in-Negate
-returns-in-Negate c = λ code. rw c.in-Negate.is (c.one_fits.ensures code (codes "CPyInt64_Negate"))
+returns-in-Negate c = λ code. rw c.in-Negate.is (c.one_fits.ensures code (codes "CPyInt64_Negate") Anything)
 
 pub returns-in-FromBool : goal.returns-in-FromBool
-returns-in-FromBool c = λ code. rw c.in-FromBool.is (c.one_fits-in-FromBool.ensures code (codes "CPyInt64_FromBool"))
+returns-in-FromBool c = λ code. rw c.in-FromBool.is (c.one_fits-in-FromBool.ensures code (codes "CPyInt64_FromBool") Anything)
 
 pub returns-in-Eq : goal.returns-in-Eq
 returns-in-Eq c = λ code. rw c.in-Eq.is (c.two_fit-in-Eq.ensures code (codes "CPyInt64_Eq"))
@@ -26,4 +27,16 @@ pub returns-in-Le : goal.returns-in-Le
 returns-in-Le c = λ code. rw c.in-Le.is (c.two_fit-in-Le.ensures code (codes "CPyInt64_Le"))
 
 pub returns-in-Str : goal.returns-in-Str
-returns-in-Str c = λ code. rw c.in-Str.is (c.one_fits-in-Str.ensures code (codes "CPyInt64_Str"))
+returns-in-Str c = λ code. rw c.in-Str.is (c.one_fits-in-Str.ensures code (codes "CPyInt64_Str") Anything)
+
+pub returns-in-FloorDivide : goal.returns-in-FloorDivide
+returns-in-FloorDivide c = λ code. rw c.in-FloorDivide.is (c.two_fit-in-FloorDivide.ensures code (codes "CPyInt64_FloorDivide"))
+
+pub returns-in-Remainder : goal.returns-in-Remainder
+returns-in-Remainder c = λ code. rw c.in-Remainder.is (c.two_fit-in-Remainder.ensures code (codes "CPyInt64_Remainder"))
+
+pub returns-in-Lshift : goal.returns-in-Lshift
+returns-in-Lshift c = λ code. rw c.in-Lshift.is (c.two_fit-in-Lshift.ensures code (codes "CPyInt64_Lshift"))
+
+pub returns-in-Rshift : goal.returns-in-Rshift
+returns-in-Rshift c = λ code. rw c.in-Rshift.is (c.two_fit-in-Rshift.ensures code (codes "CPyInt64_Rshift"))
