@@ -17,11 +17,13 @@ use Rattle.c_core.specs.Arguments.{Argument, Plain, is_value_of}
 use Rattle.c_core.specs.Ledgers.{Ledger}
 use Rattle.c_core.specs.Machine.{Word, ShortInt, BigInt, TaggedError, Native, CharWord, ObjectCell, NoneObject, TrueObject, FalseObject, NoObject, StrCell, refs_in, MachineState}
 use Rattle.c_core.specs.Primitives.{Parameter, Borrows, Is, Anything}
-use Rattle.c_core.specs.Step.{Next, Goes, Says, Makes, if_some, if_true, if_there, if_argument, if_arguments, faulted, applied, called, next_line, with_target, with_cells, truth_word, truth_text}
+use Rattle.c_core.specs.Step.{Next, Goes, Effect, Says, Makes, if_some, if_true, if_there, if_argument, if_arguments, faulted, applied, primitive_step, next_line, with_target, with_cells, truth_word, truth_text}
 use Rattle.c_core.proofs.ReleaseLemmas.{release-nothing}
 use Rattle.c_runner.specs.declared.state.State.{State}
-use Rattle.c_runner.specs.Parts.{native_of, char_of, native_at, char_at, one_native, both, two_natives, one_char, int64_result, int64_answer}
+use Rattle.c_runner.specs.Parts.{native_of, char_of, native_at, char_at, one_native, both, two_natives, one_char, two_effect, int64_effect}
 use Rattle.c_runner.specs.States.{Rest, state_of}
+use Rattle.cell_heap.specs.declared.word.Word as heap
+use Rattle.cell_heap.specs.Contents as contents
 
 module _ (s : MachineState) where
   abbrev kind_fault : Next
@@ -124,46 +126,58 @@ module _ (s : MachineState) where
   said : (x : Option ℕ) (w : Word) → applied true s x s.top.ledger [] (Says w) ≡ says x w
   said x w = ap (λ cells. Goes (next_line (with_target x w (with_cells cells s)))) (release-nothing refs_in s.cells)
 
+  all_applied : {A : Type 0} (x : Option ℕ) (o : Option A) (f : A → Effect) → some o (λ a. applied true s x s.top.ledger [] (f a)) ≡ some (option_map f o) (applied true s x s.top.ledger [])
+  all_applied x None f = refl
+  all_applied x (Some a) f = refl
+
+  then_applied : {A : Type 0} (x : Option ℕ) (o : Option A) (f : A → Effect) → some o (λ a. applied true s x s.top.ledger [] (f a)) ≡ some (option_and_then (λ a. Some (f a)) o) (applied true s x s.top.ledger [])
+  then_applied x None f = refl
+  then_applied x (Some a) f = refl
+
   all_said : {A : Type 0} (x : Option ℕ) (o : Option A) (f : A → Word) → some o (λ a. applied true s x s.top.ledger [] (Says (f a))) ≡ some (option_map f o) (says x)
   all_said x None f = refl
   all_said x (Some a) f = said x (f a)
 
-  then_said : {A : Type 0} (x : Option ℕ) (o : Option A) (f : A → Word) → some (option_map f o) (says x) ≡ some (option_and_then (λ a. Some (f a)) o) (says x)
-  then_said x None f = refl
-  then_said x (Some a) f = refl
-
--- ---- calls, where no exception is pending
+-- ---- calls
 module _ (rest : Rest) (old : State) (code : Code) (x : Option ℕ) (args : List CArg) where
   abbrev t : MachineState
   t = state_of rest old
 
-  pub number_shown : called true t code x args (prim.Int64 int64.Str) ≡ if_some true t fault.Kind (one_native t.top.vars args) (λ n. applied true t x t.top.ledger [] (Makes (StrCell (signed_decimal n))))
+  pub number_shown : primitive_step true t code x args (prim.Int64 int64.Str) ≡ if_some true t fault.Kind (one_native t.top.vars args) (λ n. applied true t x t.top.ledger [] (Makes (StrCell (signed_decimal n))))
   number_shown = one_found t code args t.top.ledger _
 
-  pub not_said : called true t code x args (prim.Bool bool.Not) ≡ if_some true t fault.Kind (option_map (λ n. truth_word (n == 0)) (one_char t.top.vars args)) (says t x)
+  pub not_said : primitive_step true t code x args (prim.Bool bool.Not) ≡ if_some true t fault.Kind (option_map (λ n. truth_word (n == 0)) (one_char t.top.vars args)) (says t x)
   not_said = char_only t code args t.top.ledger _ ∙ all_said t x (one_char t.top.vars args) (λ n. truth_word (n == 0))
 
-  pub truth_shown : called true t code x args (prim.Bool bool.Str) ≡ if_some true t fault.Kind (one_char t.top.vars args) (λ n. applied true t x t.top.ledger [] (Makes (StrCell (truth_text n))))
+  pub truth_shown : primitive_step true t code x args (prim.Bool bool.Str) ≡ if_some true t fault.Kind (one_char t.top.vars args) (λ n. applied true t x t.top.ledger [] (Makes (StrCell (truth_text n))))
   truth_shown = char_only t code args t.top.ledger _
 
-  two_said : (f : ℤ × ℤ → Word) → if_some true t fault.Kind (two_natives t.top.vars args) (λ q. applied true t x t.top.ledger [] (Says (f q))) ≡ if_some true t fault.Kind (option_and_then (λ q. Some (f q)) (two_natives t.top.vars args)) (says t x)
-  two_said f = all_said t x (two_natives t.top.vars args) f ∙ then_said t x (two_natives t.top.vars args) f
+  two_applied : (f : ℤ × ℤ → Effect) → if_some true t fault.Kind (two_natives t.top.vars args) (λ q. applied true t x t.top.ledger [] (f q)) ≡ if_some true t fault.Kind (option_and_then (λ q. Some (f q)) (two_natives t.top.vars args)) (applied true t x t.top.ledger [])
+  two_applied f = then_applied t x (two_natives t.top.vars args) f
 
-  -- a primitive that answers a word
-  pub int64_called : (p : Int64Prim) → (p ≡ int64.Str → ⊥) → called true t code x args (prim.Int64 p) ≡ if_some true t fault.Kind (int64_answer p t.top.vars args) (says t x)
-  int64_called int64.Add other = two_found t code args t.top.ledger _ ∙ two_said _
-  int64_called int64.Subtract other = two_found t code args t.top.ledger _ ∙ two_said _
-  int64_called int64.Multiply other = two_found t code args t.top.ledger _ ∙ two_said _
-  int64_called int64.Negate other = one_found t code args t.top.ledger _ ∙ all_said t x (one_native t.top.vars args) (λ n. Native (i64_neg n))
-  int64_called int64.FromBool other = char_only t code args t.top.ledger _ ∙ all_said t x (one_char t.top.vars args) (λ n. Native (pos n))
-  int64_called int64.Eq other = two_found t code args t.top.ledger _ ∙ two_said _
-  int64_called int64.Lt other = two_found t code args t.top.ledger _ ∙ two_said _
-  int64_called int64.Le other = two_found t code args t.top.ledger _ ∙ two_said _
+  -- a primitive that makes no text
+  pub int64_called : (p : Int64Prim) → (p ≡ int64.Str → ⊥) → primitive_step true t code x args (prim.Int64 p) ≡ if_some true t fault.Kind (int64_effect p t.top.vars args) (applied true t x t.top.ledger [])
+  int64_called int64.Add other = two_found t code args t.top.ledger _ ∙ two_applied _
+  int64_called int64.Subtract other = two_found t code args t.top.ledger _ ∙ two_applied _
+  int64_called int64.Multiply other = two_found t code args t.top.ledger _ ∙ two_applied _
+  int64_called int64.Negate other = one_found t code args t.top.ledger _ ∙ all_applied t x (one_native t.top.vars args) (λ n. Says (Native (i64_neg n)))
+  int64_called int64.FloorDivide other = two_found t code args t.top.ledger _ ∙ two_applied _
+  int64_called int64.Remainder other = two_found t code args t.top.ledger _ ∙ two_applied _
+  int64_called int64.Lshift other = two_found t code args t.top.ledger _ ∙ two_applied _
+  int64_called int64.Rshift other = two_found t code args t.top.ledger _ ∙ two_applied _
+  int64_called int64.FromBool other = char_only t code args t.top.ledger _ ∙ all_applied t x (one_char t.top.vars args) (λ n. Says (Native (pos n)))
+  int64_called int64.Eq other = two_found t code args t.top.ledger _ ∙ two_applied _
+  int64_called int64.Lt other = two_found t code args t.top.ledger _ ∙ two_applied _
+  int64_called int64.Le other = two_found t code args t.top.ledger _ ∙ two_applied _
   int64_called int64.Str other = absurd (other refl)
 
--- the answer of a primitive on two native integers
-pub two_answer : (vars : List Word) (args : List CArg) (p : Int64Prim) → (p ≡ int64.Str → ⊥) → (p ≡ int64.Negate → ⊥) → (p ≡ int64.FromBool → ⊥) → int64_answer p vars args ≡ option_and_then (λ q. int64_result p q.0 q.1) (two_natives vars args)
-two_answer vars args int64.Negate a b c = absurd (b refl)
-two_answer vars args int64.FromBool a b c = absurd (c refl)
-two_answer vars args int64.Str a b c = absurd (a refl)
-two_answer vars args _ a b c = refl
+-- the effect of a primitive on two native integers
+pub two_are : (vars : List Word) (args : List CArg) (p : Int64Prim) → (p ≡ int64.Str → ⊥) → (p ≡ int64.Negate → ⊥) → (p ≡ int64.FromBool → ⊥) → int64_effect p vars args ≡ option_and_then (λ q. two_effect p q.0 q.1) (two_natives vars args)
+two_are vars args int64.Negate a b c = absurd (b refl)
+two_are vars args int64.FromBool a b c = absurd (c refl)
+two_are vars args int64.Str a b c = absurd (a refl)
+two_are vars args _ a b c = refl
+
+-- a word that an operation answers
+pub word_settled : (rest : Rest) (old : State) (x : Option ℕ) (w : heap.Word) (next : Next) → if_some true (state_of rest old) fault.Kind (Some (contents.word_of w)) (says (state_of rest old) x) ≡ next → applied true (state_of rest old) x old.top.ledger [] (Says (contents.word_of w)) ≡ next
+word_settled rest old x w next is = said (state_of rest old) x (contents.word_of w) ∙ is

@@ -1,6 +1,7 @@
 -- Calls of functions and returns from them, at the runner's states.
 use Rattle.std.proofs.Common.{◌≡◌, ◌≢◌, refl, sym, ap, ◌∙◌, ℕ, zero, suc, ◌+◌, ◌^◌, ◌<◌, ◌≤◌, arith, add-one, Bool, true, false, cond, List, [], ◌∷◌, ◌++◌, append_assoc, length, get_or, take, drop, drop-cons, Option, Some, None}
 use Rattle.std.specs.Prelude.{map, reverse, slice_get, nat_lt, is_some, ◌&&◌}
+use Rattle.std.specs.Option.{option_map}
 use Rattle.std.proofs.lemmas.Bool.Decides.{nat_tests}
 use Rattle.std.proofs.lemmas.List.{map-append, map-set, reverse-append, reverse-reverse}
 use Rattle.c_core.specs.declared.code.CArg.{CArg}
@@ -18,7 +19,7 @@ use Rattle.c_core.specs.Ledgers.{Ledger, more_of, without}
 use Rattle.c_core.specs.Machine as machine
 use Rattle.c_core.specs.Machine.{MachineState, refs_of}
 use Rattle.c_core.specs.Step as step
-use Rattle.c_core.specs.Step.{Next, Goes, Ends, Faulted, if_some, if_there, if_any, if_content, if_taken, if_result, if_none_left, if_in_order, if_return, if_passed, function_called, function_step, entered, returned, faulted}
+use Rattle.c_core.specs.Step.{Next, Goes, Ends, Faulted, if_calm, if_some, if_there, if_any, if_content, if_taken, if_result, if_none_left, if_in_order, if_return, if_passed, function_called, function_step, entered, returned, faulted}
 use Rattle.c_runner.specs.declared.state.Frame.{Frame}
 use Rattle.c_runner.specs.declared.state.State.{State}
 use Rattle.c_runner.specs.Ledgers.{is_none, is_only}
@@ -134,12 +135,17 @@ no_map (f ∷ frames) e = absurd (cc)
 pub none_waits : (frames : List Frame) → waiting frames ≡ [] → frames ≡ []
 none_waits frames e = no_map frames (sym (reverse-reverse (map frame_of frames)) ∙ ap reverse e)
 
+pub none_of : {A : Type 0} (o : Option A) → is_some o ≡ false → o ≡ None
+none_of None e = refl
+none_of (Some a) e = absurd (cc)
+
 -- a function is not called where an argument may not be passed
-pub refused : (rest : Rest) (old : State) (code : Code) (g : CFunc) (f : ℕ) (target : Option ℕ) (args : List CArg) (ps : List Declared) (o : Option Fault) (why : Fault) (vars : List Word) → slice_get code.funcs f ≡ Some g → ps ≡ take g.params g.vars → ((go : List machine.Word → Next) → if_passed true (state_of rest old) (map (λ v. v.1) ps) args go ≡ unless_fault o (state_of rest old) (go (map contents.word_of vars))) → o ≡ Some why → function_called true (state_of rest old) code target args (Some f) ≡ Ends (Faulted why) (state_of rest old)
-refused rest old code g f target args ps o why vars e is pass failed =
+pub refused : (rest : Rest) (old : State) (code : Code) (g : CFunc) (f : ℕ) (target : Option ℕ) (args : List CArg) (ps : List Declared) (o : Option Fault) (why : Fault) (vars : List Word) → old.pending ≡ None → slice_get code.funcs f ≡ Some g → ps ≡ take g.params g.vars → ((go : List machine.Word → Next) → if_passed true (state_of rest old) (map (λ v. v.1) ps) args go ≡ unless_fault o (state_of rest old) (go (map contents.word_of vars))) → o ≡ Some why → function_called true (state_of rest old) code target args (Some f) ≡ Ends (Faulted why) (state_of rest old)
+refused rest old code g f target args ps o why vars calm e is pass failed =
     let s = state_of rest old in
     let go : List machine.Word → Next = λ ws. Goes (entered true s target f (entry_words ws g)) in
-    ap (λ h. if_some true s fault.Kind h (function_step true s target args f)) e
+    ap (λ p. if_calm true s (option_map contents.number_of p) (if_some true s fault.Kind (slice_get code.funcs f) (function_step true s target args f))) calm
+    ∙ ap (λ h. if_some true s fault.Kind h (function_step true s target args f)) e
     ∙ ap (λ qs. if_passed true s (map (λ v. v.1) qs) args go) (sym is)
     ∙ pass go
     ∙ ap (λ h. unless_fault h s (go (map contents.word_of vars))) failed
@@ -174,10 +180,10 @@ return_at s w [] go some = absurd (some refl)
 return_at s w (f ∷ fs) go some = refl
 
 -- a frame that returns to another one
-pub returns_to : (rest : Rest) (old : State) (w : machine.Word) (next : Next) → old.below ≢ [] → if_in_order true (state_of rest old) w None (if_result true (state_of rest old) w (λ l. if_none_left true (state_of rest old) l (Goes (handed_back w (state_of rest old))))) ≡ next → returned true (state_of rest old) w ≡ next
+pub returns_to : (rest : Rest) (old : State) (w : machine.Word) (next : Next) → old.below ≢ [] → if_in_order true (state_of rest old) w (state_of rest old).pending (if_result true (state_of rest old) w (λ l. if_none_left true (state_of rest old) l (Goes (handed_back w (state_of rest old))))) ≡ next → returned true (state_of rest old) w ≡ next
 returns_to rest old w next some is =
     let s = state_of rest old in
-    ap (if_in_order true s w None) (return_at s w (waiting old.below) _ (λ e. some (none_waits old.below e))) ∙ is
+    ap (if_in_order true s w s.pending) (return_at s w (waiting old.below) _ (λ e. some (none_waits old.below e))) ∙ is
 
 -- the ledger that a returned reference leaves
 left_either : (s : MachineState) (l : Ledger) (next : Next) → if_none_left true s l next ≡ cond (is_none l) next (Ends (Faulted fault.Leak) s)

@@ -6,3 +6,5 @@ pub mod TableLemmas
 pub mod CallLemmas
 pub mod StepLemmas
 pub mod Running
+pub mod GlobalLemmas
+pub mod ExceptionLemmas

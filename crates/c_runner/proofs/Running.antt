@@ -42,8 +42,8 @@ any_longer [] old new more e = longer_held old new more e
 any_longer (h ∷ handed) old new more e = refl
 
 -- the output that was handed on of a run, and else what there was at the start
-abbrev pub rest_after : Code → Items → List ℕ → Rest
-rest_after code items handed = record (first_rest code items) { handed = handed }
+abbrev pub rest_after : Items → List ℕ → Rest
+rest_after items handed = record (first_rest items) { handed = handed }
 
 -- a run of at most so many more steps goes on from a state, the sink took what was handed on, and whether there was any
 -- output is known
@@ -54,10 +54,10 @@ pub record Running (tells : Bool) (before now : List ℕ) (code : Code) (turns :
   pub any_is : any ≡ has_bytes (handed ++ state.output)
   pub steps : ℕ
   pub all_steps : steps + left ≡ most_steps turns code
-  pub reaches : Reaches code steps (start code turns items) (state_of (rest_after code items handed) state)
-  pub goes : go_on (step code) left (Goes (state_of (rest_after code items handed) state)) ≡ machine_run turns items code
+  pub reaches : Reaches code steps (start code turns items) (state_of (rest_after items handed) state)
+  pub goes : go_on (step code) left (Goes (state_of (rest_after items handed) state)) ≡ machine_run turns items code
 
-pub at_start : (tells : Bool) (before : List ℕ) (code : Code) (turns left : ℕ) (items : Items) (Untouched : Type 0) (state : State) → Untouched → ((i : Items) → state_of (first_rest code i) state ≡ start code turns i) → left ≡ most_steps turns code → Running tells before before code turns items left false Untouched state
+pub at_start : (tells : Bool) (before : List ℕ) (code : Code) (turns left : ℕ) (items : Items) (Untouched : Type 0) (state : State) → Untouched → ((i : Items) → state_of (first_rest i) state ≡ start code turns i) → left ≡ most_steps turns code → Running tells before before code turns items left false Untouched state
 at_start tells before code turns left items Untouched state same is count = record {
   handed = [];
   taken = λ t. sym (append-nil before);
@@ -66,12 +66,12 @@ at_start tells before code turns left items Untouched state same is count = reco
   steps = 0;
   all_steps = omega (arith, count);
   reaches = subst (λ s. Reaches code 0 (start code turns items) s) (sym (is items)) (Here (start code turns items));
-  goes = ap (λ k. go_on (step code) k (Goes (state_of (first_rest code items) state))) count ∙ ap (λ s. go_on (step code) (most_steps turns code) (Goes s)) (is items);
+  goes = ap (λ k. go_on (step code) k (Goes (state_of (first_rest items) state))) count ∙ ap (λ s. go_on (step code) (most_steps turns code) (Goes s)) (is items);
 }
 
 module _ (tells : Bool) (before now : List ℕ) (code : Code) (turns : ℕ) (items : Items) (left : ℕ) (any : Bool) (Untouched : Type 0) (state : State) (running : Running tells before now code turns items left any Untouched state) where
   abbrev rest : Rest
-  rest = rest_after code items running.handed
+  rest = rest_after items running.handed
 
   pub can_step : RunExists → WellFormed code → 1 ≤ left
   can_step exists formed =

@@ -26,7 +26,7 @@ use Rattle.c_core.specs.Machine as machine
 use Rattle.c_core.specs.Machine.{MachineState, StrCell, refs_in}
 use Rattle.c_core.specs.Primitives.{AText, primitive_named}
 use Rattle.c_core.specs.Step as step
-use Rattle.c_core.specs.Step.{Next, Goes, Ends, Faulted, Makes, word_of, if_some, literal_word, with_var, next_line, applied, primitive_step, called, function_called, call_step, given_up, if_any}
+use Rattle.c_core.specs.Step.{Next, Goes, Ends, Faulted, Makes, word_of, if_some, if_calm, literal_word, with_var, next_line, applied, primitive_step, called, function_called, call_step, given_up, if_any}
 use Rattle.c_core.proofs.ReleaseLemmas.{release-nothing}
 use Rattle.c_runner.specs.declared.report.Ending.{Ending}
 use Rattle.c_runner.specs.declared.state.Frame.{Frame}
@@ -35,7 +35,7 @@ use Rattle.c_runner.specs.declared.table.Callee.TheVariants as callee
 use Rattle.c_runner.specs.declared.table.Target.{Target}
 use Rattle.c_runner.specs.declared.state.State.{State}
 use Rattle.c_runner.specs.States.{Rest, state_of, with_target, Follows}
-use Rattle.c_runner.specs.Targets.{callee_among, callee_of, target_of}
+use Rattle.c_runner.specs.Targets.{callee_among, callee_of, global_of, target_of}
 use Rattle.cell_heap.specs.declared.key.Key.{Key}
 use Rattle.cell_heap.specs.declared.word.Word.{Word}
 use Rattle.cell_heap.specs.declared.word.Word.TheVariants as heap
@@ -122,10 +122,10 @@ call_is code s target (a ∷ b ∷ more) x alone e is =
     let no : alone ≡ false = is ∙ grind (arith, nat_tests) in
     ap (λ d. primitive_step true s code target (d ∷ b ∷ more) (Io Write)) first ∙ ap (λ d. written code target x d s) (sym no)
 
-pub call_writes : {E : Type 0} (target : Option ℕ) (args : List CArg) (x : ℕ) (alone : Bool) (p : Primitive) (old new : State) (r : Result (Option Ending) E) → p ≡ Io Write → slice_get args 0 ≡ Some (arg.Var x) → alone ≡ eqb (length args) 1 → IfOk r (λ ending. (code : Code) (t : Option ℕ) → Follows (written code t x alone) ending old new) → IfOk r (λ ending. (code : Code) → Follows (λ s. called true s code target args p) ending old new)
-call_writes target args x alone p old new (Ok ending) e f g h =
-    λ code rest. ap (λ q. called true (state_of rest old) code target args q) e ∙ call_is code (state_of rest old) target args x alone f g ∙ h code target rest
-call_writes target args x alone p old new (Err failed) e f g h = tt
+pub call_writes : {E : Type 0} (code : Code) (target : Option ℕ) (args : List CArg) (x : ℕ) (alone : Bool) (p : Primitive) (old new : State) (r : Result (Option Ending) E) → p ≡ Io Write → slice_get args 0 ≡ Some (arg.Var x) → alone ≡ eqb (length args) 1 → IfOk r (λ ending. (code : Code) (t : Option ℕ) → Follows (written code t x alone) ending old new) → IfOk r (λ ending. Follows (λ s. primitive_step true s code target args p) ending old new)
+call_writes code target args x alone p old new (Ok ending) e f g h =
+    λ rest. ap (λ q. primitive_step true (state_of rest old) code target args q) e ∙ call_is code (state_of rest old) target args x alone f g ∙ h code target rest
+call_writes code target args x alone p old new (Err failed) e f g h = tt
 
 -- ---- a line that calls
 module _ (rest : Rest) (old : State) (code : Code) (x : Option ℕ) (name : List ℕ) (args : List CArg) where
@@ -135,8 +135,12 @@ module _ (rest : Rest) (old : State) (code : Code) (x : Option ℕ) (name : List
   abbrev found : Option ℕ
   found = function_named code.funcs name
 
+  calm_fault : (o : Option ℕ) → if_calm true t o (Ends (Faulted fault.Kind) t) ≡ Ends (Faulted fault.Kind) t
+  calm_fault None = refl
+  calm_fault (Some c) = refl
+
   no_function : (f : Option ℕ) → option_map callee.Function f ≡ None → function_called true t code x args f ≡ Ends (Faulted fault.Kind) t
-  no_function None e = refl
+  no_function None e = calm_fault (state_of rest old).pending
   no_function (Some f) e = absurd (cc)
 
   no_callee : (o : Option Primitive) → callee_among o found ≡ None → call_step true t code x name args o ≡ Ends (Faulted fault.Kind) t
@@ -163,9 +167,12 @@ module _ (rest : Rest) (old : State) (code : Code) (x : Option ℕ) (name : List
   callee_step o (callee.Primitive p) e = primitive_callee o p e
   callee_step o (callee.Function f) e = function_callee o f e
 
-module _ (code : Code) (g : CFunc) (line : Line) (x : Option ℕ) (name : List ℕ) (args : List CArg) (target : Target) (is : line ≡ Call x name args) (known : target ≡ target_of code.funcs (label_places g.lines) line) where
+module _ (code : Code) (g : CFunc) (line : Line) (x : Option ℕ) (name : List ℕ) (args : List CArg) (target : Target) (is : line ≡ Call x name args) (known : target ≡ target_of code (label_places g.lines) line) where
   callee_is : (o : Option Callee) → target.callee ≡ o → callee_of code.funcs name ≡ o
-  callee_is o e = sym (ap (λ u. u.callee) (known ∙ ap (target_of code.funcs (label_places g.lines)) is)) ∙ e
+  callee_is o e = sym (ap (λ u. u.callee) (known ∙ ap (target_of code (label_places g.lines)) is)) ∙ e
+
+  pub global_is : (slice : List CArg) → slice ≡ args → target.global ≡ global_of code slice
+  global_is slice same = ap (λ u. u.global) (known ∙ ap (target_of code (label_places g.lines)) is) ∙ ap (global_of code) (sym same)
 
   pub calls_nothing : (rest : Rest) (old : State) → target.callee ≡ None → step.step_at true code (state_of rest old) (Some line) ≡ Ends (Faulted fault.Kind) (state_of rest old)
   calls_nothing rest old e =

@@ -1,5 +1,6 @@
 -- What each step of the machine keeps: the output only grows.
 use Rattle.std.proofs.Common.{◌≡◌, refl, sym, ◌∙◌, ap, ℕ, zero, suc, ◌+◌, ◌-◌, ◌≤◌, arith, true, cond, List, [], ◌∷◌, ◌++◌, append_assoc, append-nil, Option, Some, None}
+use Rattle.std.specs.Prelude.{slice_set}
 use Rattle.std.specs.Option.{option_and_then}
 use Rattle.c_core.specs.declared.code.Line.{Line}
 use Rattle.c_core.specs.declared.code.Line.TheVariants.{Label, Move, Lit, Call, Goto, If, IfError, Turn, Return, Inc, Dec, XDec}
@@ -12,9 +13,9 @@ use Rattle.c_core.specs.Arguments.{stolen}
 use Rattle.c_core.specs.Functions.{function_named}
 use Rattle.c_core.specs.Ledgers.{Ledger, more_of}
 use Rattle.c_core.specs.Laws.{Reaches, Here, There}
-use Rattle.c_core.specs.Machine.{Word, Content, Frame, MachineState, refs_of}
+use Rattle.c_core.specs.Machine.{Word, BigInt, ObjectCell, Content, Frame, MachineState, refs_of, set_refs}
 use Rattle.c_core.specs.Primitives.{row_of, primitive_named}
-use Rattle.c_core.specs.Step.{Next, Goes, Ends, Faulted, Effect, Wrong, Says, Makes, Writes, effect, with_ledger, with_target, next_line, literal_word, equals_error, kind_of, label_at, applied, given, made_cell, call_step, turned, if_return, if_result, if_none_left, step_at, line_at, step}
+use Rattle.c_core.specs.Step.{Next, Goes, Ends, Faulted, Effect, Wrong, Says, Shares, Makes, Writes, Stores, Fails, Pends, Catches, shared, raise, own, effect, with_ledger, with_target, next_line, literal_word, equals_error, kind_of, label_at, applied, given, made_cell, call_step, turned, if_return, if_result, if_none_left, step_at, line_at, step}
 use Rattle.c_core.specs.Run.{Stop, go_on}
 use Rattle.c_core.proofs.StepCases.{at_some, at_calm, at_word, at_there, at_called, at_function, at_jumped, at_chosen, at_incremented, at_decremented, at_decremented_if_set, at_order, at_ended, at_result}
 
@@ -47,15 +48,26 @@ module _ (s : MachineState) where
   made_on None l content = same (next_line (made_cell true s None content (with_ledger l s))) refl
   made_on (Some x) l content = same (next_line (made_cell true s (Some x) content (with_ledger l s))) refl
 
-  said_on : (x : Option ℕ) (l : Ledger) (gone : List ℕ) (w : Word) → Keeps s (next_line (with_target x w (given true s gone (with_ledger l s))))
-  said_on None l gone w = same (next_line (given true s gone (with_ledger l s))) refl
-  said_on (Some x) l gone w = same (next_line (with_target (Some x) w (given true s gone (with_ledger l s)))) refl
+  answered_on : (x : Option ℕ) (w : Word) (t : MachineState) → t.output ≡ s.output → Keeps s (next_line (with_target x w t))
+  answered_on None w t e = same (next_line t) e
+  answered_on (Some x) w t e = same (next_line (with_target (Some x) w t)) e
+
+  shared_output : (w : Word) (t : MachineState) → (shared w t).output ≡ t.output
+  shared_output (BigInt c) t = refl
+  shared_output (ObjectCell c) t = refl
+  shared_output w t = refl
 
   applied_on : (x : Option ℕ) (l : Ledger) (gone : List ℕ) (e : Effect) → To (applied true s x l gone e)
   applied_on x l gone Wrong = refl
-  applied_on x l gone (Says w) = said_on x l gone w
+  applied_on x l gone (Says w) = answered_on x w (given true s gone (with_ledger l s)) refl
+  applied_on x l gone (Shares w) = answered_on x w (shared w (with_ledger l s)) (shared_output w (with_ledger l s))
   applied_on x l gone (Makes content) = made_on x l content
   applied_on x l gone (Writes text) = record { more = text; grown = refl }
+  applied_on x l gone (Stores n old new) =
+      same (next_line (given true s (set_refs (old ∷ [])) (record (with_ledger l s) { globals = slice_set s.globals n new }))) refl
+  applied_on x l gone (Fails w e) = answered_on x w (raise e (given true s gone (with_ledger l s))) refl
+  applied_on x l gone (Pends c) = same (next_line (record (with_ledger l s) { pending = Some c })) refl
+  applied_on x l gone (Catches c) = answered_on x (ObjectCell c) (own c (record (with_ledger l s) { pending = None })) refl
 
   on : Keeps s (next_line s)
   on = same (next_line s) refl
@@ -71,7 +83,7 @@ module _ (s : MachineState) where
 
   call_on : (code : Code) (x : Option ℕ) (name : List ℕ) (args : List CArg) (o : Option Primitive) → To (call_step true s code x name args o)
   call_on code x name args (Some p) =
-      at_called s To bad code x args p (λ all l left. applied_on x l (stolen (row_of p).parameters all) (effect code s p all))
+      at_called s To bad code x args p (λ calm all l left. applied_on x l (stolen (row_of p).parameters all) (effect code s p all))
   call_on code x name args None =
       at_function s To bad code x args (function_named code.funcs name) (λ f g e is ws. record { more = []; grown = sym (append-nil s.output) })
 

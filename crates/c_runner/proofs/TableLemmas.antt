@@ -8,15 +8,17 @@ use Rattle.std.proofs.lemmas.Bool.Decides.{same_from_decides}
 use Rattle.std.proofs.lemmas.Slice.Eq.{bytes_eq-Decides}
 use Rattle.std.proofs.lemmas.List.{take_more, length-take-le, map-append}
 use Rattle.std.proofs.lemmas.Option.{slice_get-map}
+use Rattle.c_core.specs.declared.code.CArg.{CArg}
 use Rattle.c_core.specs.declared.code.CFunc.{CFunc}
+use Rattle.c_core.specs.declared.code.Code.{Code}
 use Rattle.c_core.specs.declared.code.Line.{Line}
-use Rattle.c_core.specs.declared.code.Line.TheVariants.{Label}
+use Rattle.c_core.specs.declared.code.Line.TheVariants.{Label, Call}
 use Rattle.c_core.specs.Functions.{is_label, labels_from, label_places, function_named}
 use Rattle.c_core.specs.Primitives.{primitive_named}
 use Rattle.c_runner.specs.declared.table.Callee.{Callee}
 use Rattle.c_runner.specs.declared.table.Callee.TheVariants as callee
 use Rattle.c_runner.specs.declared.table.Target.{Target}
-use Rattle.c_runner.specs.Targets.{callee_among, callee_of, target_of, targets_of, table_of}
+use Rattle.c_runner.specs.Targets.{callee_among, callee_of, global_of, target_of, targets_of, table_of}
 
 -- ---- one element more
 next_take : {X : Type 0} (xs : List X) (i : ℕ) (x : X) → i < length xs → x ≡ get_or xs i x → take (i + 1) xs ≡ take i xs ++ x ∷ []
@@ -69,24 +71,28 @@ bytes_eq-sym xs ys =
     let other = bytes_eq-Decides ys xs in
     same_from_decides (bytes_eq xs ys) (bytes_eq ys xs) (bytes_eq-Decides xs ys) (λ e. sym (other.0 e), λ e. other.1 (sym e))
 
--- a function more, before those from the number n on
-pub first_back : (functions : List CFunc) (m n : ℕ) (g : CFunc) (name text : List ℕ) (o : Option ℕ) → m < length functions → g ≡ get_or functions m g → n ≡ m + 1 → text ≡ g.name → o ≡ position_from (λ h. bytes_eq name h.name) n (drop n functions) → cond (bytes_eq text name) (Some m) o ≡ position_from (λ h. bytes_eq name h.name) m (drop m functions)
-first_back functions m n g name text o lt is next same later =
-    let here : drop m functions ≡ g ∷ drop (suc m) functions = drop-cons functions m g lt ∙ ap (λ h. h ∷ drop (suc m) functions) (sym is) in
+-- something more that has a name, before those from the number n on
+pub first_back : {X : Type 0} (name_of : X → List ℕ) (xs : List X) (m n : ℕ) (g : X) (name text : List ℕ) (o : Option ℕ) → m < length xs → g ≡ get_or xs m g → n ≡ m + 1 → text ≡ name_of g → o ≡ position_from (λ h. bytes_eq name (name_of h)) n (drop n xs) → cond (bytes_eq text name) (Some m) o ≡ position_from (λ h. bytes_eq name (name_of h)) m (drop m xs)
+first_back name_of xs m n g name text o lt is next same later =
+    let here : drop m xs ≡ g ∷ drop (suc m) xs = drop-cons xs m g lt ∙ ap (λ h. h ∷ drop (suc m) xs) (sym is) in
     let after : n ≡ suc m = omega (arith, next) in
     ap (λ t. cond (bytes_eq t name) (Some m) o) same
-    ∙ ap (λ b. cond b (Some m) o) (bytes_eq-sym g.name name)
-    ∙ ap (cond (bytes_eq name g.name) (Some m)) (later ∙ ap (λ k. position_from (λ h. bytes_eq name h.name) k (drop n functions)) next ∙ ap (λ k. position_from (λ h. bytes_eq name h.name) (m + 1) (drop k functions)) after)
-    ∙ sym (ap (position_from (λ h. bytes_eq name h.name) m) here)
+    ∙ ap (λ b. cond b (Some m) o) (bytes_eq-sym (name_of g) name)
+    ∙ ap (cond (bytes_eq name (name_of g)) (Some m)) (later ∙ ap (λ k. position_from (λ h. bytes_eq name (name_of h)) k (drop n xs)) next ∙ ap (λ k. position_from (λ h. bytes_eq name (name_of h)) (m + 1) (drop k xs)) after)
+    ∙ sym (ap (position_from (λ h. bytes_eq name (name_of h)) m) here)
 
 -- ---- a line's entry
-abbrev pub only_callee : Option Callee → Target
-only_callee callee = record { first = None; second = None; callee = callee }
+abbrev call_target : Option Callee → Option ℕ → Target
+call_target callee global = record { first = None; second = None; callee = callee; global = global }
 
-pub row_is : (table : List (List Target)) (functions : List CFunc) (f : ℕ) (g : CFunc) → table ≡ table_of functions → slice_get functions f ≡ Some g → slice_get table f ≡ Some (targets_of functions g.lines)
-row_is table functions f g is e =
-    ap (λ t. slice_get t f) is ∙ slice_get-map (λ h. targets_of functions h.lines) functions f ∙ ap (option_map (λ h. targets_of functions h.lines)) e
+pub call_line : (code : Code) (labels : List ℕ) (l : Line) (x : Option ℕ) (name : List ℕ) (args : List CArg) (callee : Option Callee) (global : Option ℕ) → l ≡ Call x name args → callee ≡ callee_of code.funcs name → global ≡ global_of code args → record { first = None; second = None; callee = callee; global = global } ≡ target_of code labels l
+call_line code labels l x name args callee global is e f =
+    ap (λ k. call_target k global) e ∙ ap (call_target (callee_of code.funcs name)) f ∙ sym (ap (target_of code labels) is)
 
-pub target_is : (functions : List CFunc) (g : CFunc) (p : ℕ) (l : Line) → slice_get g.lines p ≡ Some l → slice_get (targets_of functions g.lines) p ≡ Some (target_of functions (label_places g.lines) l)
-target_is functions g p l e =
-    slice_get-map (target_of functions (label_places g.lines)) g.lines p ∙ ap (option_map (target_of functions (label_places g.lines))) e
+pub row_is : (table : List (List Target)) (code : Code) (f : ℕ) (g : CFunc) → table ≡ table_of code → slice_get code.funcs f ≡ Some g → slice_get table f ≡ Some (targets_of code g.lines)
+row_is table code f g is e =
+    ap (λ t. slice_get t f) is ∙ slice_get-map (λ h. targets_of code h.lines) code.funcs f ∙ ap (option_map (λ h. targets_of code h.lines)) e
+
+pub target_is : (code : Code) (g : CFunc) (p : ℕ) (l : Line) → slice_get g.lines p ≡ Some l → slice_get (targets_of code g.lines) p ≡ Some (target_of code (label_places g.lines) l)
+target_is code g p l e =
+    slice_get-map (target_of code (label_places g.lines)) g.lines p ∙ ap (option_map (target_of code (label_places g.lines))) e

@@ -1,7 +1,7 @@
 -- The runner's state as the machine's, and what a step of it is.
 use Rattle.std.specs.Prelude.{◌≡◌, ℕ, ◌+◌, ◌^◌, ◌<◌, List, [], ◌++◌, length, Option, Some, None, map, reverse, slice_set}
+use Rattle.std.specs.Option.{option_map}
 use Rattle.value_core.specs.Items.{Items}
-use Rattle.c_core.specs.declared.code.Code.{Code}
 use Rattle.c_core.specs.Cells.{times, count_at}
 use Rattle.c_core.specs.Holders.{owned_below}
 use Rattle.c_core.specs.Machine as machine
@@ -12,18 +12,16 @@ use Rattle.c_runner.specs.declared.state.Frame.{Frame}
 use Rattle.c_runner.specs.declared.state.State.{State}
 use Rattle.c_runner.specs.Report.{ending_of}
 use Rattle.cell_heap.specs.declared.word.Word.{Word}
-use Rattle.cell_heap.specs.Contents.{word_of}
+use Rattle.cell_heap.specs.Contents.{number_of, word_of}
 
--- what a state of the machine has beside the runner's own: the globals, the lines of input, and the output that was
--- handed on
+-- what a state of the machine has beside the runner's own: the lines of input, and the output that was handed on
 pub record Rest : Type 0 where
-  pub globals : List (Option machine.Word)
   pub items : Items
   pub handed : List ℕ
 
--- where a run of a code begins: no global is set, and nothing was handed on
-abbrev pub first_rest : Code → Items → Rest
-first_rest code items = record { globals = map (λ g. None) code.globals; items = items; handed = [] }
+-- where a run begins nothing was handed on
+abbrev pub first_rest : Items → Rest
+first_rest items = record { items = items; handed = [] }
 
 abbrev pub frame_of : Frame → machine.Frame
 frame_of f = record { func = f.func; place = f.place; vars = map word_of f.vars; ledger = f.ledger; into = f.into }
@@ -32,14 +30,18 @@ frame_of f = record { func = f.func; place = f.place; vars = map word_of f.vars;
 abbrev pub waiting : List Frame → List machine.Frame
 waiting frames = reverse (map frame_of frames)
 
--- no exception is pending, and no list, dict or instance was made
+-- what a global holds, nothing where it is unset
+abbrev pub held_of : Option Word → Option machine.Word
+held_of = option_map word_of
+
+-- no list, dict or instance was made
 abbrev pub state_of : Rest → State → MachineState
 state_of rest r = record {
   cells = r.cells;
   top = frame_of r.top;
   below = waiting r.below;
-  globals = rest.globals;
-  pending = None;
+  globals = map held_of r.globals;
+  pending = option_map number_of r.pending;
   output = rest.handed ++ r.output;
   items = rest.items;
   turns = r.turns;

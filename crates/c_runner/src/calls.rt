@@ -1,94 +1,92 @@
 //! Calls of primitives. Which arguments a primitive takes and what it does are its row and its effect in the machine.
-ghost use Rattle.std.specs.Prelude.{◌≡◌, ℕ, ◌+◌, ◌^◌, ◌<◌, true, List, [], Option, Some, IfOk, map};
-ghost use Rattle.std.specs.Option.{option_map, option_copied};
-ghost use Rattle.c_core.specs.declared.code.Code.{Code};
+ghost use Rattle.std.specs.Prelude.{◌≡◌, ℕ, ◌+◌, ◌^◌, ◌<◌, true, cond, [], Option, IfOk, map};
+ghost use Rattle.std.specs.Option.{option_map};
+ghost use Rattle.value_core.specs.Exceptions.{thrown};
+ghost use Rattle.c_core.specs.declared.code.Code as machine_code;
 ghost use Rattle.c_core.specs.declared.fault.Fault.TheVariants as fault;
 ghost use Rattle.c_core.specs.declared.primitive.Primitive.TheVariants as prim;
-ghost use Rattle.c_core.specs.Machine.{StrCell};
-ghost use Rattle.c_core.specs.Step.{Goes, Makes, with_target, next_line, if_some, applied, called, truth_text};
-ghost use Rattle.c_runner.specs.Parts.{written, native_at, one_native, two_natives, one_char, int64_result, int64_answer};
-ghost use Rattle.c_runner.specs.States.{Follows, IsSmall};
-ghost use Rattle.cell_heap.specs.Contents.{word_of};
+ghost use Rattle.c_core.specs.Primitives.{row_of};
+ghost use Rattle.c_core.specs.Step.{Next, Goes, Makes, Fails, with_target, next_line, if_some, if_may_stand, faulted, applied, primitive_step, called, truth_text};
+ghost use Rattle.c_runner.specs.Parts.{written, one_char};
+ghost use Rattle.c_runner.specs.States.{Rest, Follows, IsSmall, state_of};
+ghost use Rattle.c_runner.specs.Targets.{global_of};
+ghost use Rattle.cell_heap.specs.Contents.{word_of, content_of};
 
 use crate::report::Ending;
 use crate::state::State;
 use crate::words::truth;
-use c_core::{BoolPrim, CArg, Fault, Int64Prim, IoPrim, Prim, StrPrim};
+use c_core::{BoolPrim, CArg, Code, ErrPrim, Fault, IoPrim, Prim, StrPrim};
 use cell_heap::{Content, Word};
-use itoa::Buffer;
 use std::alloc::Global;
-use value_core::{Memory, Text, i64_add, i64_mul, i64_neg, i64_sub};
+use value_core::{ExcClass, Memory, Text};
 
 impl State {
-    /// Calls a primitive.
+    /// Calls a primitive, whose first argument may name the global of a number. While an exception is pending only some may
+    /// be called.
     pub fn call_primitive(
         &mut self,
         alloc: Global,
+        code: &Code,
         primitive: Prim,
+        global: Option<usize>,
         target: Option<usize>,
         args: &[CArg],
     ) -> Result<Option<Ending>, Memory>
         requires small { IsSmall self.old }
         requires place { self.old.top.place + 1 < 2 ^ 64 }
-        ensures { IfOk result (λ ending. (code : Code) → Follows
-            (λ s. called true s code target args.now primitive) ending self.old self.new) }
+        requires global { global ≡ global_of code.now args.now }
+        ensures { IfOk result (λ ending. Follows
+            (λ s. called true s code.now target args.now primitive) ending self.old self.new) }
+    {
+        if !self.may_stand(primitive) {
+            return Ok(Some(Ending::Fault(Fault::Kind)));
+        }
+        self.perform(alloc, code, primitive, global, target, args)
+    }
+
+    /// Whether a primitive may be called now.
+    fn may_stand(&self, primitive: Prim) -> bool
+        ensures { (rest : Rest) (go : Next) →
+            (let s = state_of rest self.now in
+            if_may_stand true s (row_of primitive).while_pending go ≡ cond result go (faulted true s fault.Kind)) }
+    {
+        match self.pending {
+            None => true,
+            Some(_) => stands_while_pending(primitive),
+        }
+    }
+
+    /// Does what a primitive does that may be called now.
+    fn perform(
+        &mut self,
+        alloc: Global,
+        code: &Code,
+        primitive: Prim,
+        global: Option<usize>,
+        target: Option<usize>,
+        args: &[CArg],
+    ) -> Result<Option<Ending>, Memory>
+        requires small { IsSmall self.old }
+        requires place { self.old.top.place + 1 < 2 ^ 64 }
+        requires global { global ≡ global_of code.now args.now }
+        ensures { IfOk result (λ ending. Follows
+            (λ s. primitive_step true s code.now target args.now primitive) ending self.old self.new) }
     {
         match primitive {
-            Prim::Int64(primitive) => self.call_int64(alloc, primitive, target, args),
-            Prim::Bool(primitive) => self.call_bool(alloc, primitive, target, args),
+            Prim::Int64(operation) => self.call_int64(alloc, operation, target, args),
+            Prim::Bool(operation) => self.call_bool(alloc, operation, target, args),
             Prim::Str(StrPrim::Literal) => match args {
-                [CArg::Text(text)] => self.make_text(target, text.clone()?),
+                [CArg::Text(text)] => self.make_cell(target, Content::Str(text.clone()?)),
                 _ => Ok(Some(Ending::Fault(Fault::Kind))),
             },
+            Prim::Global(operation) => {
+                self.call_global(alloc, code, operation, global, target, args)
+            }
+            Prim::Exc(operation) => self.call_exception(operation, target, args),
+            Prim::Err(operation) => self.call_error(alloc, operation, target, args),
             Prim::Io(IoPrim::Write) => match args.first() {
                 Some(CArg::Var(x)) => self.write(*x, args.len() == 1),
                 _ => Ok(Some(Ending::Fault(Fault::Kind))),
-            },
-        }
-    }
-
-    /// Calls a primitive on native integers.
-    fn call_int64(
-        &mut self,
-        alloc: Global,
-        primitive: Int64Prim,
-        target: Option<usize>,
-        args: &[CArg],
-    ) -> Result<Option<Ending>, Memory>
-        requires small { IsSmall self.old }
-        requires place { self.old.top.place + 1 < 2 ^ 64 }
-        ensures { IfOk result (λ ending. (code : Code) → Follows
-            (λ s. called true s code target args.now (prim.Int64 primitive)) ending self.old self.new) }
-    {
-        match primitive {
-            Int64Prim::Str => match self.one_native(args) {
-                None => Ok(Some(Ending::Fault(Fault::Kind))),
-                Some(n) => self.make_text(target, Text::from_str(alloc, Buffer::new().format(n))?),
-            },
-            _ => {
-                let word = self.int64_word(primitive, args);
-                Ok(self.answer(target, word))
-            }
-        }
-    }
-
-    /// The word that a primitive on native integers answers, if its arguments are right and it answers one.
-    fn int64_word(&self, primitive: Int64Prim, args: &[CArg]) -> Option<Word>
-        ensures { option_map word_of result ≡ int64_answer primitive (map word_of self.now.top.vars) args.now }
-    {
-        match primitive {
-            Int64Prim::Str => None,
-            Int64Prim::Negate => match self.one_native(args) {
-                None => None,
-                Some(n) => Some(Word::I64(i64_neg(n))),
-            },
-            Int64Prim::FromBool => match self.one_char(args) {
-                None => None,
-                Some(n) => Some(Word::I64(i64::from(n))),
-            },
-            _ => match self.two_natives(args) {
-                None => None,
-                Some((a, b)) => int64_result(primitive, a, b),
             },
         }
     }
@@ -103,20 +101,23 @@ impl State {
     ) -> Result<Option<Ending>, Memory>
         requires small { IsSmall self.old }
         requires place { self.old.top.place + 1 < 2 ^ 64 }
-        ensures { IfOk result (λ ending. (code : Code) → Follows
-            (λ s. called true s code target args.now (prim.Bool primitive)) ending self.old self.new) }
+        ensures { IfOk result (λ ending. (code : machine_code.Code) → Follows
+            (λ s. primitive_step true s code target args.now (prim.Bool primitive)) ending self.old self.new) }
     {
         let Some(n) = self.one_char(args) else {
             return Ok(Some(Ending::Fault(Fault::Kind)));
         };
         match primitive {
             BoolPrim::Not => Ok(self.answer(target, Some(truth(n == 0)))),
-            BoolPrim::Str => self.make_text(target, Text::from_str(alloc, truth_text(n))?),
+            BoolPrim::Str => {
+                let text = Text::from_str(alloc, truth_text(n))?;
+                self.make_cell(target, Content::Str(text))
+            }
         }
     }
 
     /// Writes what a primitive answers to its target. Without an answer its arguments were wrong.
-    fn answer(&mut self, target: Option<usize>, word: Option<Word>) -> Option<Ending>
+    pub fn answer(&mut self, target: Option<usize>, word: Option<Word>) -> Option<Ending>
         requires { self.old.top.place + 1 < 2 ^ 64 }
         ensures { Follows (λ s. if_some true s fault.Kind (option_map word_of word)
             (λ w. Goes (next_line (with_target target w s)))) result self.old self.new }
@@ -131,16 +132,40 @@ impl State {
         }
     }
 
-    /// Makes a cell with a text, which the frame owns, and writes it to the target.
-    fn make_text(&mut self, target: Option<usize>, text: Text) -> Result<Option<Ending>, Memory>
+    /// Makes a cell, which the frame owns, and writes it to the target.
+    pub fn make_cell(
+        &mut self,
+        target: Option<usize>,
+        content: Content,
+    ) -> Result<Option<Ending>, Memory>
         requires small { IsSmall self.old }
         requires place { self.old.top.place + 1 < 2 ^ 64 }
         ensures { IfOk result (λ ending. Follows
-            (λ s. applied true s target s.top.ledger [] (Makes (StrCell text))) ending self.old self.new) }
+            (λ s. applied true s target s.top.ledger [] (Makes (content_of content))) ending self.old self.new) }
     {
-        let key = self.cells.make(Content::Str(text))?;
+        let key = self.cells.make(content)?;
         self.top.ledger.add(key.serial())?;
         self.top.set_target(target, Word::Cell(key));
+        self.top.place += 1;
+        Ok(None)
+    }
+
+    /// Makes an exception, which is pending from then on, and writes an error value to the target.
+    pub fn fail(
+        &mut self,
+        target: Option<usize>,
+        word: Word,
+        class: ExcClass,
+        text: Text,
+    ) -> Result<Option<Ending>, Memory>
+        requires small { IsSmall self.old }
+        requires place { self.old.top.place + 1 < 2 ^ 64 }
+        ensures { IfOk result (λ ending. Follows
+            (λ s. applied true s target s.top.ledger [] (Fails (word_of word) (thrown class text))) ending self.old self.new) }
+    {
+        let key = self.cells.make(Content::Exc(class, text))?;
+        self.pending = Some(key);
+        self.top.set_target(target, word);
         self.top.place += 1;
         Ok(None)
     }
@@ -148,7 +173,7 @@ impl State {
     /// Writes the text that an object is to the output. The object is tested before the number of the arguments.
     fn write(&mut self, x: usize, is_alone: bool) -> Result<Option<Ending>, Memory>
         requires { self.old.top.place + 1 < 2 ^ 64 }
-        ensures { IfOk result (λ ending. (code : Code) (target : Option ℕ) →
+        ensures { IfOk result (λ ending. (code : machine_code.Code) (target : Option ℕ) →
             Follows (written code target x is_alone) ending self.old self.new) }
     {
         let Some(word) = self.top.vars.get(x) else {
@@ -171,47 +196,8 @@ impl State {
         Ok(None)
     }
 
-    /// The native integer that an argument is, if it is one.
-    fn native(&self, argument: &CArg) -> Option<i64>
-        ensures { result ≡ native_at (map word_of self.now.top.vars) argument.now }
-    {
-        let CArg::Var(x) = argument else {
-            return None;
-        };
-        match self.top.vars.get(*x) {
-            Some(Word::I64(n)) => Some(*n),
-            _ => None,
-        }
-    }
-
-    /// The one native integer that the arguments are.
-    fn one_native(&self, args: &[CArg]) -> Option<i64>
-        ensures { result ≡ one_native (map word_of self.now.top.vars) args.now }
-    {
-        match args {
-            [argument] => self.native(argument),
-            _ => None,
-        }
-    }
-
-    /// The two native integers that the arguments are.
-    fn two_natives(&self, args: &[CArg]) -> Option<(i64, i64)>
-        ensures { result ≡ two_natives (map word_of self.now.top.vars) args.now }
-    {
-        match args {
-            [first, second] => match self.native(first) {
-                None => None,
-                Some(a) => match self.native(second) {
-                    None => None,
-                    Some(b) => Some((a, b)),
-                },
-            },
-            _ => None,
-        }
-    }
-
     /// The one truth that the arguments are.
-    fn one_char(&self, args: &[CArg]) -> Option<u8>
+    pub fn one_char(&self, args: &[CArg]) -> Option<u8>
         ensures { result ≡ one_char (map word_of self.now.top.vars) args.now }
     {
         let [CArg::Var(x)] = args else {
@@ -224,18 +210,13 @@ impl State {
     }
 }
 
-/// What a primitive on two native integers answers.
-fn int64_result(primitive: Int64Prim, a: i64, b: i64) -> Option<Word>
-    ensures { option_map word_of result ≡ int64_result primitive a b }
+/// Whether a primitive may be called while an exception is pending.
+fn stands_while_pending(primitive: Prim) -> bool
+    ensures { result ≡ (row_of primitive).while_pending }
 {
     match primitive {
-        Int64Prim::Add => Some(Word::I64(i64_add(a, b))),
-        Int64Prim::Subtract => Some(Word::I64(i64_sub(a, b))),
-        Int64Prim::Multiply => Some(Word::I64(i64_mul(a, b))),
-        Int64Prim::Eq => Some(truth(a == b)),
-        Int64Prim::Lt => Some(truth(a < b)),
-        Int64Prim::Le => Some(truth(a <= b)),
-        Int64Prim::Negate | Int64Prim::FromBool | Int64Prim::Str => None,
+        Prim::Err(ErrPrim::Occurred | ErrPrim::Matches | ErrPrim::Catch) => true,
+        _ => false,
     }
 }
 

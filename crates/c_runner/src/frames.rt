@@ -1,25 +1,27 @@
 //! Calls of functions, and returns from them. The frames that wait stand in a list, the innermost last.
-ghost use Rattle.std.specs.Prelude.{◌≡◌, ◌≢◌, ℕ, ◌+◌, ◌^◌, ◌<◌, true, List, [], ◌++◌, Some, map, take, drop, IfOk, OnOk};
+ghost use Rattle.std.specs.Prelude.{◌≡◌, ◌≢◌, ℕ, ◌+◌, ◌^◌, ◌<◌, true, cond, List, [], ◌++◌, Some, None, map, take, drop, IfOk, OnOk};
+ghost use Rattle.c_core.specs.declared.fault.Fault.TheVariants as fault;
+ghost use Rattle.c_core.specs.Arguments as arguments;
 ghost use Rattle.c_core.specs.Functions.{error_word};
 ghost use Rattle.c_core.specs.Machine as machine;
 ghost use Rattle.c_core.specs.Step as machine_step;
-ghost use Rattle.c_core.specs.Step.{Next, function_called, returned, if_passed, if_in_order, if_result, if_none_left, if_ended, Ends, Ended};
-ghost use Rattle.c_runner.specs.Parts.{if_argument, passed_on, unless_fault, waits_for, handed_back};
+ghost use Rattle.c_core.specs.Step.{Next, function_called, returned, if_passed, if_in_order, if_result, if_none_left, if_ended, Ends, Ended, Faulted};
+ghost use Rattle.c_runner.specs.Parts.{is_there, if_argument, passed_on, unless_fault, waits_for, handed_back};
 ghost use Rattle.c_runner.specs.States.{Rest, Follows, IsSmall, state_of, next_of};
 ghost use Rattle.cell_heap.specs.Contents.{number_of, word_of};
 
 use crate::ledger::Ledger;
 use crate::report::Ending;
 use crate::state::{Frame, State, push_error_values};
-use crate::words::{is_error, is_value_of};
+use crate::words::{equals_error, is_error, is_value_of};
 use c_core::{CArg, CFunc, Code, Fault, Kind};
-use cell_heap::{Key, Word};
+use cell_heap::{Content, Key, Word};
 use std::alloc::Global;
 use std::mem;
 use value_core::{Many, Memory, Name};
 
 impl State {
-    /// Calls the function of a number. What it is passed stays with the caller, who waits at the line behind the call.
+    /// Calls the function of a number, where no exception is pending. What it is passed stays with the caller, who waits at the line behind the call.
     pub fn enter(
         &mut self,
         alloc: Global,
@@ -32,6 +34,9 @@ impl State {
         ensures { IfOk result (λ ending. Follows
             (λ s. function_called true s code.now target args.now (Some func)) ending self.old self.new) }
     {
+        if self.pending.is_some() {
+            return Ok(Some(Ending::Fault(Fault::Kind)));
+        }
         let Some(function) = code.funcs.get(func) else {
             return Ok(Some(Ending::Fault(Fault::Kind)));
         };
@@ -91,10 +96,12 @@ impl State {
     }
 
     /// The word that an argument passes to a parameter of a kind.
-    fn passed(&self, kind: Kind, argument: &CArg) -> Result<Word, Fault>
-        ensures { (rest : Rest) (go : machine.Word → Next) →
+    pub fn passed(&self, kind: Kind, argument: &CArg) -> Result<Word, Fault>
+        ensures passed { (rest : Rest) (go : machine.Word → Next) →
             if_argument (state_of rest self.now) kind argument.now go
             ≡ passed_on result (state_of rest self.now) go }
+        ensures value { IfOk result (λ word. arguments.is_value_of kind (word_of word) ≡ true) }
+        ensures there { IfOk result (λ word. is_there self.now.cells (word_of word) ≡ true) }
     {
         let CArg::Var(x) = argument else {
             return Err(Fault::Kind);
@@ -123,7 +130,7 @@ impl State {
         };
         let word = *word;
         if self.below.is_empty() {
-            return Ok(Some(self.end(word)));
+            return Ok(Some(self.end(word)?));
         }
         match self.return_fault(word) {
             Some(fault) => Ok(Some(Ending::Fault(fault))),
@@ -134,9 +141,43 @@ impl State {
         }
     }
 
-    /// How the module ends that returns a word, where no exception is pending.
-    fn end(&self, word: Word) -> Ending
+    /// How the module ends that returns a word.
+    fn end(&self, word: Word) -> Result<Ending, Memory>
         requires { self.now.below ≡ [] }
+        ensures { IfOk result (λ ending. Follows (λ s. returned true s (word_of word)) (Some ending) self.now self.now) }
+    {
+        match self.pending {
+            None => Ok(self.end_calmly(word)),
+            Some(key) => match word {
+                Word::Char(2) => self.end_raised(key),
+                _ => Ok(Ending::Fault(Fault::Kind)),
+            },
+        }
+    }
+
+    /// How the module ends that returns 2 while the exception in a cell is pending.
+    fn end_raised(&self, key: Key) -> Result<Ending, Memory>
+        requires below { self.now.below ≡ [] }
+        requires pending { self.now.pending ≡ Some key }
+        ensures { IfOk result (λ ending. Follows (λ s. returned true s (machine.CharWord 2)) (Some ending) self.now self.now) }
+    {
+        let Ok(content) = self.cells.content(key) else {
+            return Ok(Ending::Fault(Fault::Dead));
+        };
+        let Content::Exc(class, text) = content else {
+            return Ok(Ending::Fault(Fault::Kind));
+        };
+        if self.top.ledger.is_empty() {
+            Ok(Ending::Raised(*class, text.clone()?))
+        } else {
+            Ok(Ending::Fault(Fault::Leak))
+        }
+    }
+
+    /// How the module ends that returns a word while no exception is pending.
+    fn end_calmly(&self, word: Word) -> Ending
+        requires below { self.now.below ≡ [] }
+        requires pending { self.now.pending ≡ None }
         ensures { Follows (λ s. returned true s (word_of word)) (Some result) self.now self.now }
     {
         match word {
@@ -151,15 +192,15 @@ impl State {
         }
     }
 
-    /// Why a frame may not return a word, where no exception is pending: it is an error value, its cell is gone or not
-    /// owned, or something else is owned.
+    /// Why a frame may not return a word: it is an error value and no exception is pending, or the other way round, its cell
+    /// is gone or not owned, or something else is owned.
     fn return_fault(&self, word: Word) -> Option<Fault>
         ensures { (rest : Rest) (next : Next) →
             (let s = state_of rest self.now in
             if_in_order true s (word_of word) s.pending (if_result true s (word_of word) (λ l. if_none_left true s l next))
             ≡ unless_fault result s next) }
     {
-        if is_error(word) {
+        if !self.is_in_order(word) {
             return Some(Fault::Kind);
         }
         match word {
@@ -171,6 +212,18 @@ impl State {
                     Some(Fault::Leak)
                 }
             }
+        }
+    }
+
+    /// Whether a word may be returned now: an error value with a pending exception, any other with none, -113 with either.
+    fn is_in_order(&self, word: Word) -> bool
+        ensures { (rest : Rest) (next : Next) →
+            (let s = state_of rest self.now in
+            if_in_order true s (word_of word) s.pending next ≡ cond result next (Ends (Faulted fault.Kind) s)) }
+    {
+        match self.pending {
+            None => !is_error(word),
+            Some(_) => equals_error(word),
         }
     }
 

@@ -12,10 +12,14 @@
 
 mod calls;
 mod counts;
+mod exceptions;
 mod frames;
+mod globals;
+mod int64;
 mod ledger;
 mod live;
 mod output;
+mod pending;
 mod report;
 mod runner;
 mod state;

@@ -36,7 +36,7 @@ pub fn run<I: Source, O: Sink>(
     run_exists();
     run_keeps_counts();
     run_stays_small();
-    let table = table(alloc, code.funcs.as_slice())?;
+    let table = table(alloc, code)?;
     let mut state = State::start(alloc, code, turns)?;
     // A well-formed code stops before these steps are taken.
     let mut left = most_steps(code, turns);

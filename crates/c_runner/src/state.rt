@@ -1,4 +1,4 @@
-ghost use Rattle.std.specs.Prelude.{◌≡◌, ℕ, ◌^◌, ◌<◌, ◌++◌, map, is_some, slice_set, IfOk, OnOk};
+ghost use Rattle.std.specs.Prelude.{◌≡◌, ℕ, ◌^◌, ◌<◌, ◌++◌, map, None, is_some, slice_set, IfOk, OnOk};
 ghost use Rattle.std.specs.Option.{option_copied};
 ghost use Rattle.value_core.specs.Items.{Items};
 ghost use Rattle.c_core.specs.Cells.{times, content_at};
@@ -6,8 +6,9 @@ ghost use Rattle.c_core.specs.Functions.{error_word};
 ghost use Rattle.c_core.specs.Ledgers.{more_of};
 ghost use Rattle.c_core.specs.Machine.{refs_of};
 ghost use Rattle.c_core.specs.Run.{first_words, start};
+ghost use Rattle.c_runner.specs.Parts.{is_owned, left_by};
 ghost use Rattle.c_runner.specs.Report.{live_cells};
-ghost use Rattle.c_runner.specs.States.{first_rest, state_of, with_target};
+ghost use Rattle.c_runner.specs.States.{first_rest, held_of, state_of, with_target};
 ghost use Rattle.cell_heap.specs.Contents.{number_of, word_of};
 
 use crate::ledger::Ledger;
@@ -20,13 +21,17 @@ use cell_heap::{Heap, Key, Word};
 use std::alloc::Global;
 use value_core::{Many, Memory, Name};
 
-/// The state of a run, with the frame that runs and those that wait for it, the innermost last. `specs/States.antt` says
-/// which state of the machine it is.
+/// The state of a run, with the frame that runs and those that wait for it, the innermost last, what the globals hold, and
+/// the exception that is pending. `specs/States.antt` says which state of the machine it is.
 #[derive(Drop)]
 pub(crate) struct State {
     pub cells: Heap,
     pub top: Frame,
     pub below: Many<Frame>,
+    /// What each global of the code holds, nothing where it is unset.
+    pub globals: Many<Option<Word>>,
+    /// The cell of the exception that is pending, if one is.
+    pub pending: Option<Key>,
     pub output: Output,
     pub turns: u64,
 }
@@ -74,6 +79,28 @@ impl Frame {
             _ => Ok(()),
         }
     }
+
+    /// Whether the reference of a word is owned, if it has one.
+    pub fn owns(&self, word: Word) -> bool
+        ensures { result ≡ is_owned (word_of word) self.now.ledger }
+    {
+        match word {
+            Word::Big(key) | Word::Cell(key) => self.ledger.owns(key.serial()),
+            _ => true,
+        }
+    }
+
+    /// Gives the reference of a word away, if it has one that the frame owns.
+    pub fn lose(&mut self, word: Word)
+        ensures { self.new ≡ record self.old { ledger = left_by (word_of word) self.old.ledger } }
+    {
+        match word {
+            Word::Big(key) | Word::Cell(key) => {
+                self.ledger.take(key.serial());
+            }
+            _ => {}
+        }
+    }
 }
 
 impl State {
@@ -87,7 +114,7 @@ impl State {
     /// Where the run of a code for so many turns begins: in its last function.
     pub fn start(alloc: Global, code: &Code, turns: u64) -> Result<State, Memory>
         ensures { IfOk result (λ state. (items : Items) →
-            state_of (first_rest code.now items) state ≡ start code.now turns items) }
+            state_of (first_rest items) state ≡ start code.now turns items) }
     {
         let func = code.funcs.len().saturating_sub(1);
         let vars = first_vars(alloc, code.funcs.get(func))?;
@@ -102,6 +129,8 @@ impl State {
             cells: Heap::new(alloc),
             top,
             below: Many::new(alloc),
+            globals: unset(alloc, code.globals.as_slice())?,
+            pending: None,
             output: Output::new(alloc),
             turns,
         })
@@ -127,6 +156,17 @@ impl State {
             has_output,
         })
     }
+}
+
+/// As many places as there are globals, each unset.
+fn unset(alloc: Global, globals: &[(Name, Kind)]) -> Result<Many<Option<Word>>, Memory>
+    ensures { IfOk result (λ places. map held_of places ≡ map (λ g. None) globals.now) }
+{
+    let mut places = Many::new(alloc);
+    for _global in globals {
+        places.push(None)?;
+    }
+    Ok(places)
 }
 
 /// The error values with which the variables of a function begin.

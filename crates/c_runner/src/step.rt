@@ -3,10 +3,10 @@ ghost use Rattle.std.specs.Prelude.{◌≡◌, ◌+◌, ◌^◌, ◌<◌, true, 
 ghost use Rattle.std.specs.Option.{option_map, option_and_then};
 ghost use Rattle.c_core.specs.declared.fault.Fault.TheVariants as fault;
 ghost use Rattle.c_core.specs.Functions.{label_places};
-ghost use Rattle.c_core.specs.Step.{Goes, literal_word, with_var, next_line, if_some, if_there, word_of, jumped, chosen, turned, step, step_at};
+ghost use Rattle.c_core.specs.Step.{Goes, literal_word, with_var, next_line, if_calm, if_some, if_there, word_of, jumped, chosen, turned, step, step_at};
 ghost use Rattle.c_runner.specs.Parts.{callee_called, jumped_by_error, is_there};
 ghost use Rattle.c_runner.specs.States.{Follows, IsSmall};
-ghost use Rattle.c_runner.specs.Targets.{target_of, table_of};
+ghost use Rattle.c_runner.specs.Targets.{global_of, target_of, table_of};
 ghost use Rattle.cell_heap.specs.Contents as contents;
 
 use crate::report::Ending;
@@ -27,7 +27,7 @@ impl State {
         code: &Code,
         table: &Many<Many<Target>>,
     ) -> Result<Option<Ending>, Memory>
-        requires table { table.now ≡ table_of code.now.funcs }
+        requires table { table.now ≡ table_of code.now }
         requires small { IsSmall self.old }
         ensures { IfOk result (λ ending. Follows (step code.now) ending self.old self.new) }
     {
@@ -54,7 +54,7 @@ impl State {
         requires small { IsSmall self.old }
         requires place { self.old.top.place + 1 < 2 ^ 64 }
         requires function { slice_get code.now.funcs self.old.top.func ≡ Some function.now }
-        requires target { target ≡ target_of code.now.funcs (label_places function.now.lines) line.now }
+        requires target { target ≡ target_of code.now (label_places function.now.lines) line.now }
         ensures { IfOk result (λ ending. Follows
             (λ s. step_at true code.now s (Some line.now)) ending self.old self.new) }
     {
@@ -64,7 +64,9 @@ impl State {
             Line::Lit(x, literal) => Ok(self.assign(kind_of(function, *x), *x, *literal)),
             Line::Call(x, _, args) => match target.callee {
                 None => Ok(Some(Ending::Fault(Fault::Kind))),
-                Some(callee) => self.call(alloc, code, callee, *x, args.as_slice()),
+                Some(callee) => {
+                    self.call(alloc, code, callee, target.global, *x, args.as_slice())
+                }
             },
             Line::Goto(_) => Ok(self.jump(target.first)),
             Line::If(x, _, _) => Ok(self.choose(*x, target.first, target.second)),
@@ -77,22 +79,26 @@ impl State {
         }
     }
 
-    /// Calls a primitive or a function.
+    /// Calls a primitive, whose first argument may name a global, or a function.
     fn call(
         &mut self,
         alloc: Global,
         code: &Code,
         callee: Callee,
+        global: Option<usize>,
         target: Option<usize>,
         args: &[CArg],
     ) -> Result<Option<Ending>, Memory>
         requires small { IsSmall self.old }
         requires place { self.old.top.place + 1 < 2 ^ 64 }
+        requires global { global ≡ global_of code.now args.now }
         ensures { IfOk result (λ ending. Follows
             (callee_called code.now target args.now callee) ending self.old self.new) }
     {
         match callee {
-            Callee::Primitive(primitive) => self.call_primitive(alloc, primitive, target, args),
+            Callee::Primitive(primitive) => {
+                self.call_primitive(alloc, code, primitive, global, target, args)
+            }
             Callee::Function(func) => self.enter(alloc, code, func, target, args),
         }
     }
@@ -190,11 +196,14 @@ impl State {
         }
     }
 
-    /// Spends a turn. Without one the run is cut.
+    /// Spends a turn, where no exception is pending. Without one the run is cut.
     fn spend_turn(&mut self) -> Option<Ending>
         requires { self.old.top.place + 1 < 2 ^ 64 }
-        ensures { Follows (λ s. turned true s s.turns) result self.old self.new }
+        ensures { Follows (λ s. if_calm true s s.pending (turned true s s.turns)) result self.old self.new }
     {
+        if self.pending.is_some() {
+            return Some(Ending::Fault(Fault::Kind));
+        }
         if self.turns == 0 {
             return Some(Ending::Cut);
         }

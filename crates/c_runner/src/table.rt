@@ -1,23 +1,27 @@
-//! What lines name, found once before a run: the places of labels, and what is called.
+//! What lines name, found once before a run: the places of labels, what is called, and the numbers of globals.
 ghost use Rattle.std.specs.Prelude.{◌≡◌, List, IfOk, Some, None, slice_get};
 ghost use Rattle.std.specs.HashMap.{get_by};
 ghost use Rattle.std.specs.Str.{bytes_eq};
 ghost use Rattle.c_core.specs.declared.code.CFunc.{CFunc};
+ghost use Rattle.c_core.specs.declared.code.Code as machine_code;
 ghost use Rattle.c_core.specs.declared.code.Line.{Line};
+ghost use Rattle.c_core.specs.Arguments.{number_of_global};
 ghost use Rattle.c_core.specs.Functions.{label_places, number_of, function_named};
-ghost use Rattle.c_runner.specs.Targets.{AreNumbers, callee_of, target_of, targets_of, table_of};
+ghost use Rattle.c_runner.specs.Targets.{AreNumbers, AreGlobals, callee_of, global_of, target_of, targets_of, table_of};
 
-use c_core::{CFunc, Line, Prim};
+use c_core::{CArg, CFunc, Code, Kind, Line, Prim};
 use std::alloc::Global;
 use std::collections::HashMap;
-use value_core::{Many, Memory};
+use value_core::{Many, Memory, Name};
 
-/// What a line names: the places of its first label and of its second, and what it calls, each where there is one.
+/// What a line names: the places of its first label and of its second, what it calls, and the number of the global that
+/// its first argument is, each where there is one.
 #[derive(Clone, Copy, Debug, PartialEq, Eq)]
 pub(crate) struct Target {
     pub first: Option<usize>,
     pub second: Option<usize>,
     pub callee: Option<Callee>,
+    pub global: Option<usize>,
 }
 
 /// What is called: a primitive, or the function of a number.
@@ -27,14 +31,18 @@ pub(crate) enum Callee {
     Function(usize),
 }
 
-/// What the lines of each function name.
-pub(crate) fn table(alloc: Global, functions: &[CFunc]) -> Result<Many<Many<Target>>, Memory>
-    ensures { IfOk result (λ table. table ≡ table_of functions.now) }
+/// What the lines of each function of a code name.
+pub(crate) fn table(alloc: Global, code: &Code) -> Result<Many<Many<Target>>, Memory>
+    ensures { IfOk result (λ table. table ≡ table_of code.now) }
 {
+    let functions = code.funcs.as_slice();
+    let variables = code.globals.as_slice();
     let numbers = numbers_of(alloc, functions)?;
+    let globals = globals_of(alloc, variables)?;
     let mut table = Many::new(alloc);
     for function in functions {
-        table.push(targets(alloc, &numbers, function.lines.as_slice())?)?;
+        let lines = function.lines.as_slice();
+        table.push(targets(alloc, &numbers, &globals, lines)?)?;
     }
     Ok(table)
 }
@@ -52,39 +60,61 @@ fn numbers_of<'a>(alloc: Global, functions: &'a [CFunc]) -> Result<HashMap<&'a s
     Ok(numbers)
 }
 
+/// The numbers of globals by their names; of several with one name the first counts.
+fn globals_of(alloc: Global, globals: &[(Name, Kind)]) -> Result<HashMap<&str, usize>, Memory>
+    ensures { IfOk result (λ numbers. AreGlobals globals.now (λ q. get_by (λ k. bytes_eq q k.now) numbers)) }
+{
+    let mut numbers = HashMap::new(alloc);
+    let mut number = globals.len();
+    while number > 0 {
+        number -= 1;
+        numbers.insert(globals[number].0.as_str(), number)?;
+    }
+    Ok(numbers)
+}
+
 /// What the line at a place of a function names, of which a table tells.
 pub(crate) fn target_at(table: &Many<Many<Target>>, func: usize, place: usize) -> Target
-    ensures { (functions : List CFunc) (g : CFunc) (l : Line) → table.now ≡ table_of functions →
-        slice_get functions func ≡ Some g → slice_get g.lines place ≡ Some l →
-        result ≡ target_of functions (label_places g.lines) l }
+    ensures { (code : machine_code.Code) (g : CFunc) (l : Line) → table.now ≡ table_of code →
+        slice_get code.funcs func ≡ Some g → slice_get g.lines place ≡ Some l →
+        result ≡ target_of code (label_places g.lines) l }
 {
-    let nothing = Target {
-        first: None,
-        second: None,
-        callee: None,
-    };
     match table.get(func) {
-        None => nothing,
+        None => nothing(),
         Some(targets) => match targets.get(place) {
-            None => nothing,
+            None => nothing(),
             Some(target) => *target,
         },
     }
 }
 
-/// What the lines of one function name, where the functions have these numbers.
+/// A line that names nothing.
+fn nothing() -> Target
+    ensures { result ≡ record { first = None; second = None; callee = None; global = None } }
+{
+    Target {
+        first: None,
+        second: None,
+        callee: None,
+        global: None,
+    }
+}
+
+/// What the lines of one function name, where the functions and the globals have these numbers.
 fn targets(
     alloc: Global,
     numbers: &HashMap<&str, usize>,
+    globals: &HashMap<&str, usize>,
     lines: &[Line],
 ) -> Result<Many<Target>, Memory>
-    ensures { IfOk result (λ targets. (functions : List CFunc) → AreNumbers functions (λ q. get_by (λ k. bytes_eq q k.now) numbers.now) →
-        targets ≡ targets_of functions lines.now) }
+    ensures { IfOk result (λ targets. (code : machine_code.Code) → AreNumbers code.funcs (λ q. get_by (λ k. bytes_eq q k.now) numbers.now) →
+        AreGlobals code.globals (λ q. get_by (λ k. bytes_eq q k.now) globals.now) →
+        targets ≡ targets_of code lines.now) }
 {
     let labels = labels(alloc, lines)?;
     let mut targets = Many::new(alloc);
     for line in lines {
-        targets.push(line_target(numbers, labels.as_slice(), line))?;
+        targets.push(line_target(numbers, globals, labels.as_slice(), line))?;
     }
     Ok(targets)
 }
@@ -103,39 +133,63 @@ fn labels(alloc: Global, lines: &[Line]) -> Result<Many<usize>, Memory>
 }
 
 /// What one line names, in a function with these places of labels.
-fn line_target(numbers: &HashMap<&str, usize>, labels: &[usize], line: &Line) -> Target
-    ensures { (functions : List CFunc) → AreNumbers functions (λ q. get_by (λ k. bytes_eq q k.now) numbers.now) →
-        result ≡ target_of functions labels.now line.now }
+fn line_target(
+    numbers: &HashMap<&str, usize>,
+    globals: &HashMap<&str, usize>,
+    labels: &[usize],
+    line: &Line,
+) -> Target
+    ensures { (code : machine_code.Code) → AreNumbers code.funcs (λ q. get_by (λ k. bytes_eq q k.now) numbers.now) →
+        AreGlobals code.globals (λ q. get_by (λ k. bytes_eq q k.now) globals.now) →
+        result ≡ target_of code labels.now line.now }
 {
     match line {
         Line::Goto(label) => Target {
             first: labels.get(*label).copied(),
             second: None,
             callee: None,
+            global: None,
         },
         Line::If(_, label, other) => two_labels(labels, *label, *other),
         Line::IfError(_, label, other) => two_labels(labels, *label, *other),
-        Line::Call(_, name, _) => Target {
+        Line::Call(_, name, args) => Target {
             first: None,
             second: None,
             callee: callee_named(numbers, name.as_str()),
+            global: global_named(globals, args.as_slice()),
         },
-        _ => Target {
-            first: None,
-            second: None,
-            callee: None,
-        },
+        _ => nothing(),
     }
+}
+
+/// The number of the global that a call names by its first argument.
+fn global_named(globals: &HashMap<&str, usize>, args: &[CArg]) -> Option<usize>
+    ensures { (code : machine_code.Code) → AreGlobals code.globals (λ q. get_by (λ k. bytes_eq q k.now) globals.now) →
+        result ≡ global_of code args.now }
+{
+    match args.first() {
+        Some(CArg::Global(name)) => global_number(globals, name.as_str()),
+        _ => None,
+    }
+}
+
+/// The number of the first global of a name.
+fn global_number(globals: &HashMap<&str, usize>, name: &str) -> Option<usize>
+    ensures { (code : machine_code.Code) → AreGlobals code.globals (λ q. get_by (λ k. bytes_eq q k.now) globals.now) →
+        result ≡ number_of_global code name.now }
+{
+    globals.get(name).copied()
 }
 
 /// The places of two labels, and nothing that is called.
 fn two_labels(labels: &[usize], first: usize, second: usize) -> Target
-    ensures { result ≡ record { first = slice_get labels.now first; second = slice_get labels.now second; callee = None } }
+    ensures { result ≡ record { first = slice_get labels.now first; second = slice_get labels.now second; callee = None; global = None } }
 {
     Target {
         first: labels.get(first).copied(),
         second: labels.get(second).copied(),
         callee: None,
+        global: None,
     }
 }
 

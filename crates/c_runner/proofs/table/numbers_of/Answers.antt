@@ -11,7 +11,7 @@ loop-number-preserved c = record {
   within = omega (arith, c.loop-number.invariant.within);
   known = λ name.
       hash_map_updates_str c.as_str.result.now c.loop-number.numbers c.insert.new.self (Some (c.loop-number.number - 1)) c.in_ok-insert.ensures.updates name
-      ∙ first_back c.args.functions.now (c.loop-number.number - 1) c.loop-number.number c.index-functions-number.result name c.as_str.result.now _ (omega (arith, c.loop-number.invariant.within, c.loop-number-test.true)) c.index-functions-number.is (omega (arith, c.loop-number-test.true)) (c.as_str.ensures ∙ ap (λ g. g.name) (sym c.index-functions-number.is)) (c.loop-number.invariant.known name);
+      ∙ first_back (λ g. g.name) c.args.functions.now (c.loop-number.number - 1) c.loop-number.number c.index-functions-number.result name c.as_str.result.now _ (omega (arith, c.loop-number.invariant.within, c.loop-number-test.true)) c.index-functions-number.is (omega (arith, c.loop-number-test.true)) (c.as_str.ensures ∙ ap (λ g. g.name) (sym c.index-functions-number.is)) (c.loop-number.invariant.known name);
 }
 
 pub returns : goal.returns

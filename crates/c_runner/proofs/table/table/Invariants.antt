@@ -4,4 +4,4 @@ use Rattle.c_runner.specs.Targets.{targets_of}
 use Rattle.c_runner.proofs.table.table.Given as goal
 
 abbrev pub invariant-loop-function : goal.invariant-loop-function
-invariant-loop-function l = l.table ≡ map (λ g. targets_of l.functions g.lines) (take l.function-index l.functions)
+invariant-loop-function l = l.table ≡ map (λ g. targets_of l.code g.lines) (take l.function-index l.functions)

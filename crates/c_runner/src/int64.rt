@@ -1,0 +1,186 @@
+//! Calls of primitives on native integers.
+ghost use Rattle.std.specs.Prelude.{◌≡◌, ◌+◌, ◌^◌, ◌<◌, true, map, [], IfOk};
+ghost use Rattle.std.specs.Option.{option_map};
+ghost use Rattle.c_core.specs.declared.code.Code as machine_code;
+ghost use Rattle.c_core.specs.declared.fault.Fault.TheVariants as fault;
+ghost use Rattle.c_core.specs.declared.primitive.Primitive.TheVariants as prim;
+ghost use Rattle.c_core.specs.Step.{if_some, applied, primitive_step, exception_of, native_or};
+ghost use Rattle.c_runner.specs.Parts.{native_at, one_native, two_natives, effect_of, two_effect, int64_effect};
+ghost use Rattle.c_runner.specs.States.{Follows, IsSmall};
+ghost use Rattle.cell_heap.specs.Contents.{word_of};
+
+use crate::report::Ending;
+use crate::state::State;
+use crate::words::truth;
+use c_core::{CArg, Fault, Int64Prim};
+use cell_heap::{Content, Word};
+use itoa::Buffer;
+use std::alloc::Global;
+use value_core::{
+    Arith, ExcClass, Memory, Text, i64_add, i64_floor_div, i64_modulo, i64_mul, i64_neg, i64_shl,
+    i64_shr, i64_sub,
+};
+
+impl State {
+    /// Calls a primitive on native integers.
+    pub fn call_int64(
+        &mut self,
+        alloc: Global,
+        primitive: Int64Prim,
+        target: Option<usize>,
+        args: &[CArg],
+    ) -> Result<Option<Ending>, Memory>
+        requires small { IsSmall self.old }
+        requires place { self.old.top.place + 1 < 2 ^ 64 }
+        ensures { IfOk result (λ ending. (code : machine_code.Code) → Follows
+            (λ s. primitive_step true s code target args.now (prim.Int64 primitive)) ending self.old self.new) }
+    {
+        match primitive {
+            Int64Prim::Str => match self.one_native(args) {
+                None => Ok(Some(Ending::Fault(Fault::Kind))),
+                Some(n) => {
+                    let text = Text::from_str(alloc, Buffer::new().format(n))?;
+                    self.make_cell(target, Content::Str(text))
+                }
+            },
+            _ => {
+                let outcome = self.int64_outcome(primitive, args);
+                self.settle(alloc, target, outcome)
+            }
+        }
+    }
+
+    /// Writes what a primitive on native integers answers to its target, or fails. Without either its arguments were wrong.
+    fn settle(
+        &mut self,
+        alloc: Global,
+        target: Option<usize>,
+        outcome: Option<Result<Word, Arith>>,
+    ) -> Result<Option<Ending>, Memory>
+        requires small { IsSmall self.old }
+        requires place { self.old.top.place + 1 < 2 ^ 64 }
+        ensures { IfOk result (λ ending. Follows (λ s. if_some true s fault.Kind (option_map effect_of outcome)
+            (applied true s target s.top.ledger [])) ending self.old self.new) }
+    {
+        match outcome {
+            None => Ok(Some(Ending::Fault(Fault::Kind))),
+            Some(Ok(word)) => Ok(self.answer(target, Some(word))),
+            Some(Err(why)) => {
+                let text = Text::from_str(alloc, text_of(why))?;
+                self.fail(target, Word::I64(-113), class_of(why), text)
+            }
+        }
+    }
+
+    /// What comes of a primitive on native integers, if its arguments are right and it makes no cell.
+    fn int64_outcome(&self, primitive: Int64Prim, args: &[CArg]) -> Option<Result<Word, Arith>>
+        ensures { option_map effect_of result ≡ int64_effect primitive (map word_of self.now.top.vars) args.now }
+    {
+        match primitive {
+            Int64Prim::Str => None,
+            Int64Prim::Negate => match self.one_native(args) {
+                None => None,
+                Some(n) => Some(Ok(Word::I64(i64_neg(n)))),
+            },
+            Int64Prim::FromBool => match self.one_char(args) {
+                None => None,
+                Some(n) => Some(Ok(Word::I64(i64::from(n)))),
+            },
+            _ => match self.two_natives(args) {
+                None => None,
+                Some((a, b)) => two_outcome(primitive, a, b),
+            },
+        }
+    }
+
+    /// The native integer that an argument is, if it is one.
+    fn native(&self, argument: &CArg) -> Option<i64>
+        ensures { result ≡ native_at (map word_of self.now.top.vars) argument.now }
+    {
+        let CArg::Var(x) = argument else {
+            return None;
+        };
+        match self.top.vars.get(*x) {
+            Some(Word::I64(n)) => Some(*n),
+            _ => None,
+        }
+    }
+
+    /// The one native integer that the arguments are.
+    fn one_native(&self, args: &[CArg]) -> Option<i64>
+        ensures { result ≡ one_native (map word_of self.now.top.vars) args.now }
+    {
+        match args {
+            [argument] => self.native(argument),
+            _ => None,
+        }
+    }
+
+    /// The two native integers that the arguments are.
+    fn two_natives(&self, args: &[CArg]) -> Option<(i64, i64)>
+        ensures { result ≡ two_natives (map word_of self.now.top.vars) args.now }
+    {
+        match args {
+            [first, second] => match self.native(first) {
+                None => None,
+                Some(a) => match self.native(second) {
+                    None => None,
+                    Some(b) => Some((a, b)),
+                },
+            },
+            _ => None,
+        }
+    }
+}
+
+/// What comes of a primitive on two native integers.
+fn two_outcome(primitive: Int64Prim, a: i64, b: i64) -> Option<Result<Word, Arith>>
+    ensures { option_map effect_of result ≡ two_effect primitive a b }
+{
+    match primitive {
+        Int64Prim::Add => Some(Ok(Word::I64(i64_add(a, b)))),
+        Int64Prim::Subtract => Some(Ok(Word::I64(i64_sub(a, b)))),
+        Int64Prim::Multiply => Some(Ok(Word::I64(i64_mul(a, b)))),
+        Int64Prim::FloorDivide => Some(in_word(i64_floor_div(a, b))),
+        Int64Prim::Remainder => Some(in_word(i64_modulo(a, b))),
+        Int64Prim::Lshift => Some(in_word(i64_shl(a, b))),
+        Int64Prim::Rshift => Some(in_word(i64_shr(a, b))),
+        Int64Prim::Eq => Some(Ok(truth(a == b))),
+        Int64Prim::Lt => Some(Ok(truth(a < b))),
+        Int64Prim::Le => Some(Ok(truth(a <= b))),
+        Int64Prim::Negate | Int64Prim::FromBool | Int64Prim::Str => None,
+    }
+}
+
+/// A result in a word.
+fn in_word(number: Result<i64, Arith>) -> Result<Word, Arith>
+    ensures { effect_of result ≡ native_or number }
+{
+    match number {
+        Ok(n) => Ok(Word::I64(n)),
+        Err(why) => Err(why),
+    }
+}
+
+/// The class of the exception for an operation without a result.
+fn class_of(why: Arith) -> ExcClass
+    ensures { result ≡ (exception_of why).class }
+{
+    match why {
+        Arith::Overflow => ExcClass::OverflowError,
+        Arith::ZeroDivisor => ExcClass::ZeroDivisionError,
+        Arith::NegativeShift | Arith::OutOfRange => ExcClass::ValueError,
+    }
+}
+
+/// And its text.
+fn text_of(why: Arith) -> &'static str
+    ensures { result.now ≡ (exception_of why).text }
+{
+    match why {
+        Arith::Overflow => "integer does not fit in i64",
+        Arith::ZeroDivisor => "integer division or modulo by zero",
+        Arith::NegativeShift => "negative shift count",
+        Arith::OutOfRange => "shift count out of range",
+    }
+}
