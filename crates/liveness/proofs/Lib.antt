@@ -1,4 +1,10 @@
+pub mod RisingLemmas
+pub mod InverseLemmas
+pub mod FloodLemmas
+pub mod PlaceLemmas
+pub mod ExposedLemmas
 pub mod RowLemmas
+pub mod FoundLemmas
 pub mod SpreadLemmas
 pub mod PathLemmas
 pub mod OwnedLemmas

@@ -1,6 +1,6 @@
 -- What is only lent: paths from the entry, and rows.
-use Rattle.std.proofs.Common.{◌≡◌, ℕ, zero, suc, ◌<◌, ◌≤◌, ◌⊎◌, Bool, true, false, List, [], ◌∷◌, length, Some, None, refl, sym, ap, ◌∙◌, inl, inr, ⊎_elim, arith, get_or, drop, take, map}
-use Rattle.std.specs.Prelude.{slice_get, not, ◌&&◌, ◌||◌, ◌↔◌}
+use Rattle.std.proofs.Common.{◌≡◌, ℕ, zero, suc, ◌<◌, ◌≤◌, ◌⊎◌, Bool, true, false, List, [], ◌∷◌, length, Some, None, refl, sym, ap, ◌∙◌, inl, inr, ⊎_elim, arith, get_or, drop, take, map, ◌+◌, ◌-◌}
+use Rattle.std.specs.Prelude.{slice_get, nat_eq, min, not, ◌&&◌, ◌||◌, ◌↔◌}
 use Rattle.std.proofs.lemmas.Option.{same_Some, slice_get_within}
 use Rattle.c_core.specs.Primitives.{Outcome, Nothing, Owned, row_of}
 use Rattle.ir_core.specs.declared.code.Op.{Op}
@@ -11,12 +11,21 @@ use Rattle.ir_core.specs.declared.code.Func.{Func}
 use Rattle.ir_core.specs.Items.{Item, Do, End, in_block, item_in}
 use Rattle.liveness.specs.declared.step.Step.{Step}
 use Rattle.liveness.specs.declared.step.Steps.{Steps}
-use Rattle.liveness.specs.Paths.{is_target, write_of, writes, lends, gives_lent, targets, Goes, passes, fails, jumps, MetAt, entry, onward, OwnedAt, no_parameter, written, kept, BorrowedAt}
+use Rattle.liveness.specs.Paths.{is_among, is_target, write_of, writes, lends, gives_lent, targets, Goes, passes, fails, jumps, MetAt, entry, onward, OwnedAt, no_parameter, written, kept, BorrowedAt}
 use Rattle.liveness.specs.Steps.{step_of, steps_of}
-use Rattle.liveness.specs.Rows.{Spread, starts, goes_further, IsSpreadRow, Met, first, jumped, IsMetRow, is_written, AreSeeds}
-use Rattle.liveness.specs.Tables.{owned_in, owned_by, borrowed_by, AreOwnedRows}
+use Rattle.liveness.specs.Rising.{next_from, rows_with, has}
+use Rattle.liveness.specs.Places.{end_of, places_of, places, span_of, writes_in, writes_of_block, targets_of, is_below, AreTouches}
+use Rattle.liveness.specs.Rows.{Spread, starts, goes_further, Met, first, jumped, IsMetRow, is_written, AreSeeds, seeds_of}
+use Rattle.liveness.specs.Tables.{owned_in, owned_by, borrowed_by}
+use Rattle.liveness.specs.declared.places.Touches.{Touches}
 use Rattle.liveness.proofs.RowLemmas.{or_cases, or_left, or_right, there_is}
-use Rattle.liveness.proofs.SpreadLemmas.{is_either}
+use Rattle.std.specs.List.{list_any, flat_map}
+use Rattle.std.proofs.lemmas.List.Folds.{list_any-append}
+use Rattle.std.proofs.lemmas.List.{length-append, length-map, take-append-le}
+use Rattle.liveness.proofs.InverseLemmas.{either}
+use Rattle.liveness.proofs.PlaceLemmas.{span_there, written_among, written_is, row_has}
+use Rattle.liveness.proofs.FoundLemmas.{get_map_or, written_any}
+use Rattle.liveness.proofs.SpreadLemmas.{edge_block, block_edge}
 use Rattle.liveness.proofs.PathLemmas.{get_map, get_unmap, item_is, item_was, item_within, item_end, item_block, rest_end, no_handler}
 
 -- ---- lists and truth values
@@ -162,11 +171,11 @@ module _ (f : Func) where
       ⊎_elim
       (λ w. written x y c q there.0 m there.1 w (no_lent there.0) g)
       (λ w. kept x y c q there.0 (met_owned r le x y m) there.1 w g)
-      (is_either (writes there.0 r))
+      (either (writes there.0 r))
 
   -- ---- a parameter
 
-  module _ (r : ℕ) (met row seeds : List Bool) (met_is : IsMetRow (map steps_of f.blocks) met) (seeded : AreSeeds (map steps_of f.blocks) met r seeds) (exact : IsSpreadRow (map steps_of f.blocks) seeds row) where
+  module _ (r : ℕ) (met : List Bool) (marked seeds : ℕ → Bool) (met_is : IsMetRow (map steps_of f.blocks) met) (seeded : AreSeeds (map steps_of f.blocks) met r seeds) (exact : (t : ℕ) → t < length (map steps_of f.blocks) → (marked t ≡ true) ↔ Spread (map targets_of (map steps_of f.blocks)) seeds t) where
     -- it may have been written at the start of a block, or by its operations up to a place
     abbrev bit : Bool → Block → ℕ → Bool
     bit x k n = x || is_written (take n (map step_of k.ops)) r
@@ -187,7 +196,7 @@ module _ (f : Func) where
         let was : bit x k n ≡ true =
         sym (ap (λ z. bit x k n || z) w ∙ or_none (bit x k n)) ∙ more in
         kept b n b (suc n) (Do o.0.0) (owned_walk x b k is m start n (omega (arith, le)) was) item w (passes b n o.0.0 item))
-        (is_either (is_target (write_of o.0.0) r))
+        (either (is_target (write_of o.0.0) r))
 
     jump_on : (b : ℕ) (k : Block) (i t : ℕ) → slice_get f.blocks b ≡ Some k → slice_get (targets k.last) i ≡ Some t → OwnedAt f r b (length k.ops) → OwnedAt f r t 0
     jump_on b k i t is at o =
@@ -200,35 +209,37 @@ module _ (f : Func) where
     whole_bit x k e =
         or_right x (is_written (take (length k.ops) (map step_of k.ops)) r) (ap (λ z. is_written z r) (ap (λ z. take z (map step_of k.ops)) (sym (map_size step_of k.ops)) ∙ take_whole (map step_of k.ops)) ∙ e)
 
-    -- what the rows give has a path
-    spread_owned : (t : ℕ) → Spread (map steps_of f.blocks) seeds t → OwnedAt f r t 0
-    spread_owned t (starts b i s k on is at) =
-        let to = get_unmap steps_of f.blocks b k is in
-        let both = and_true (get_or met b false) (is_written k.steps r) (sym (seeded b k is) ∙ on) in
-        let m = met_path b ((met_is b (inside b k is)).0 both.0) in
+    -- what the marks give has a path
+    spread_owned : (t : ℕ) → Spread (map targets_of (map steps_of f.blocks)) seeds t → OwnedAt f r t 0
+    spread_owned t (starts b s on to_t) =
+        let edge = edge_block (map steps_of f.blocks) b t to_t in
+        let to = get_unmap steps_of f.blocks b edge.0 edge.1 in
+        let both = and_true (get_or met b false) (is_written edge.0.steps r) (sym (seeded b edge.0 edge.1) ∙ on) in
+        let m = met_path b ((met_is b (inside b edge.0 edge.1)).0 both.0) in
         let wrote : is_written (map step_of to.0.ops) r ≡ true =
         ap (λ (z : Steps). is_written z.steps r) to.2 ∙ both.1 in
         let never : false ≡ true → OwnedAt f r b 0 = λ e. absurd (cc) in
-        jump_on b to.0 i t to.1 (ap (λ (z : Steps). slice_get (targets z.last) i) to.2 ∙ at) (owned_walk false b to.0 to.1 m never (length to.0.ops) (omega arith) (whole_bit false to.0 wrote))
-    spread_owned t (goes_further b i s k come is at) =
-        let to = get_unmap steps_of f.blocks b k is in
+        jump_on b to.0 edge.2 t to.1 (ap (λ (z : Steps). slice_get (targets z.last) edge.2) to.2 ∙ edge.3) (owned_walk false b to.0 to.1 m never (length to.0.ops) (omega arith) (whole_bit false to.0 wrote))
+    spread_owned t (goes_further b s come to_t) =
+        let edge = edge_block (map steps_of f.blocks) b t to_t in
+        let to = get_unmap steps_of f.blocks b edge.0 edge.1 in
         let o = spread_owned b come in
-        jump_on b to.0 i t to.1 (ap (λ (z : Steps). slice_get (targets z.last) i) to.2 ∙ at) (owned_walk true b to.0 to.1 (owned_met r b 0 o) (λ _. o) (length to.0.ops) (omega arith) refl)
+        jump_on b to.0 edge.2 t to.1 (ap (λ (z : Steps). slice_get (targets z.last) edge.2) to.2 ∙ edge.3) (owned_walk true b to.0 to.1 (owned_met r b 0 o) (λ _. o) (length to.0.ops) (omega arith) refl)
 
-    bit_owned : (b : ℕ) (k : Block) → slice_get f.blocks b ≡ Some k → (p : ℕ) → p ≤ length k.ops → get_or met b false ≡ true → bit (get_or row b false) k p ≡ true → OwnedAt f r b p
+    bit_owned : (b : ℕ) (k : Block) → slice_get f.blocks b ≡ Some k → (p : ℕ) → p ≤ length k.ops → get_or met b false ≡ true → bit (marked b) k p ≡ true → OwnedAt f r b p
     bit_owned b k is p le m e =
         let here = inside b (steps_of k) (get_map steps_of f.blocks b k is) in
-        owned_walk (get_or row b false) b k is (met_path b ((met_is b here).0 m)) (λ on. spread_owned b ((exact.1 b here).0 on)) p le e
+        owned_walk (marked b) b k is (met_path b ((met_is b here).0 m)) (λ on. spread_owned b ((exact b here).0 on)) p le e
 
     -- and what has a path the rows give
-    owned_bit : r < f.params → (b p : ℕ) → OwnedAt f r b p → (k : Block) → slice_get f.blocks b ≡ Some k → bit (get_or row b false) k p ≡ true
+    owned_bit : r < f.params → (b p : ℕ) → OwnedAt f r b p → (k : Block) → slice_get f.blocks b ≡ Some k → bit (marked b) k p ≡ true
     owned_bit lt b p (no_parameter le) k is = absurd (omega (arith, lt, le))
     owned_bit lt b p (written x y c q i m e w n (passes x2 y2 o e2)) k is =
         let there = item_get k.ops k.last y o (item_was f 0 x y k (Do o) is e2) in
         let same : i ≡ Do o = same_Some _ _ (sym e ∙ e2) in
         let wrote : is_target (write_of there.0.0) r ≡ true =
         ap (λ z. is_target (write_of z) r) there.2 ∙ ap (λ z. writes z r) (sym same) ∙ w in
-        bit_more (get_or row x false) k y there.0 there.1 ∙ or_right (bit (get_or row x false) k y) _ wrote
+        bit_more (marked x) k y there.0 there.1 ∙ or_right (bit (marked x) k y) _ wrote
     owned_bit lt b p (written x y c q i m e w n (fails x2 y2 h o e2 caught at)) k is =
         absurd (no_handler (slice_get f.blocks x) h at)
     owned_bit lt b p (written x y c q i m e w n (jumps x2 y2 j t l e2 at)) k is =
@@ -237,7 +248,7 @@ module _ (f : Func) where
         absurd (cc)
     owned_bit lt b p (kept x y c q i on e w (passes x2 y2 o e2)) k is =
         let there = item_get k.ops k.last y o (item_was f 0 x y k (Do o) is e2) in
-        bit_more (get_or row x false) k y there.0 there.1 ∙ or_left (bit (get_or row x false) k y) _ (owned_bit lt x y on k is)
+        bit_more (marked x) k y there.0 there.1 ∙ or_left (bit (marked x) k y) _ (owned_bit lt x y on k is)
     owned_bit lt b p (kept x y c q i on e w (fails x2 y2 h o e2 caught at)) k is =
         absurd (no_handler (slice_get f.blocks x) h at)
     owned_bit lt b p (kept x y c q i on e w (jumps x2 y2 j t l e2 at)) k is =
@@ -248,12 +259,13 @@ module _ (f : Func) where
         let to_here : slice_get (targets k0.last) j ≡ Some t = ap (λ z. slice_get (targets z) j) end.1 ∙ at in
         let was = owned_bit lt x y on k0 there.1 in
         let met_there : get_or met x false ≡ true = (met_is x (inside x (steps_of k0) stands)).1 (path_met x y (owned_met r x y on)) in
-        let come : Spread (map steps_of f.blocks) seeds t =
+        let edge = block_edge (map steps_of f.blocks) x j t (steps_of k0) stands to_here in
+        let come : Spread (map targets_of (map steps_of f.blocks)) seeds t =
         ⊎_elim
-        (λ a. goes_further x j t (steps_of k0) ((exact.1 x (inside x (steps_of k0) stands)).0 a) stands to_here)
-        (λ a. starts x j t (steps_of k0) (seeded x (steps_of k0) stands ∙ both_true (get_or met x false) _ met_there (written_all (map step_of k0.ops) y r a.1)) stands to_here)
-        (or_cases (get_or row x false) _ was) in
-        or_left (get_or row t false) _ ((exact.1 t (inside t (steps_of k) (get_map steps_of f.blocks t k is))).1 come)
+        (λ a. goes_further x t ((exact x (inside x (steps_of k0) stands)).0 a) edge)
+        (λ a. starts x t (seeded x (steps_of k0) stands ∙ both_true (get_or met x false) _ met_there (written_all (map step_of k0.ops) y r a.1)) edge)
+        (or_cases (marked x) _ was) in
+        or_left (marked t) _ ((exact t (inside t (steps_of k) (get_map steps_of f.blocks t k is))).1 come)
 
 -- ---- the table
 
@@ -261,27 +273,62 @@ not_exact : {P : Type 0} (x : Bool) → ((x ≡ true) ↔ P) → (not x ≡ true
 not_exact true h = (λ e. cc, λ no_path. absurd (no_path (h.0 refl)))
 not_exact false h = (λ e p. let f : false ≡ true = h.1 p in absurd (cc), λ no_path. refl)
 
-module _ (f : Func) (met : List Bool) (rows : List (List Bool)) (n : ℕ) (met_is : IsMetRow (map steps_of f.blocks) met) (exact : AreOwnedRows (map steps_of f.blocks) met n rows) where
-  owned_given : (b p r : ℕ) (k : Block) → slice_get f.blocks b ≡ Some k → p ≤ length k.ops → r < n → r < f.params → ((get_or met b false && owned_by (map steps_of f.blocks) (slice_get rows r) b p r) ≡ true) ↔ OwnedAt f r b p
+writes_among : (ss : List Step) (r : ℕ) → is_among (flat_map writes_in ss) r ≡ is_written ss r
+writes_among [] r = refl
+writes_among (s ∷ ss) r =
+    list_any-append (λ z. nat_eq z r) (writes_in s) (flat_map writes_in ss) ∙ ap (λ z. z || is_among (flat_map writes_in ss) r) (written_is s.write r) ∙ ap (λ z. is_target s.write r || z) (writes_among ss r)
+
+seeds_are : (blocks : List Steps) (met : List Bool) (writers : List ℕ) (r : ℕ) → writers ≡ rows_with 0 (map writes_of_block blocks) r → AreSeeds blocks met r (seeds_of writers met)
+seeds_are blocks met writers r are b k is =
+    let among : is_among writers b ≡ is_written k.steps r =
+    ap (λ z. is_among z b) are ∙ row_has (map writes_of_block blocks) 0 r b b (omega arith) ∙ ap (λ z. is_among z r) (get_map_or writes_of_block blocks b k is) ∙ writes_among k.steps r in
+    ap (λ z. get_or met b false && z) among
+
+module _ (blocks : List Steps) (count : ℕ) (touches : Touches) (are : AreTouches blocks count touches) where
+  -- what is written of a block up to a place
+  owned_there : (rows : List (List ℕ)) (r b p : ℕ) (k : Steps) → r < count → slice_get blocks b ≡ Some k → p ≤ length k.steps → owned_by touches.spans (slice_get touches.writes r) rows b p r ≡ (has rows r b || is_written (take p k.steps) r)
+  owned_there rows r b p k lt is le =
+      let h = span_there blocks 0 b k is in
+      let m = h.0 in
+      let size = length-append k.steps (end_of k.last ∷ []) in
+      let within : p ≤ length (places_of k) = omega (arith, le, size) in
+      let e : 0 + m ≡ m = omega arith in
+      let up : m + min p ((m + length (places_of k)) - m) ≡ m + p = omega (arith, within) in
+      let writes = get_or touches.writes r [] in
+      let all = rows_with 0 (map writes_in (places blocks)) r in
+      let written : is_below (next_from writes m) (m + p) ≡ is_written (take p k.steps) r =
+      ap (λ z. is_below (next_from z m) (m + p)) (are.4 r (omega (arith, lt, are.3)))
+      ∙ written_among (places blocks) m p (places_of k) h.1 h.3 within (m + p) r refl
+      ∙ ap (list_any (λ s. is_among (writes_in s) r)) (take-append-le p k.steps (end_of k.last ∷ []) le)
+      ∙ written_any (take p k.steps) r in
+      ap (λ z. owned_by touches.spans z rows b p r) (get_there touches.writes r (omega (arith, lt, are.3)))
+      ∙ ap (λ z. owned_in writes (has rows r b) (slice_get z b) p) are.0
+      ∙ ap (λ z. owned_in writes (has rows r b) z p) (h.2 ∙ ap (λ z. Some (span_of z k)) e)
+      ∙ ap (λ z. has rows r b || is_below (next_from writes m) z) up
+      ∙ ap (λ z. has rows r b || z) written
+
+module _ (f : Func) (met : List Bool) (rows : List (List ℕ)) (n : ℕ) (touches : Touches) (are : AreTouches (map steps_of f.blocks) n touches) (met_is : IsMetRow (map steps_of f.blocks) met) (writers : List (List ℕ)) (writers_are : (r : ℕ) → r < n → get_or writers r [] ≡ rows_with 0 (map writes_of_block (map steps_of f.blocks)) r) (exact : (r t : ℕ) → r < n → t < length (map steps_of f.blocks) → (has rows r t ≡ true) ↔ Spread (map targets_of (map steps_of f.blocks)) (seeds_of (get_or writers r []) met) t) where
+  owned_given : (b p r : ℕ) (k : Block) → slice_get f.blocks b ≡ Some k → p ≤ length k.ops → r < n → r < f.params → ((get_or met b false && owned_by touches.spans (slice_get touches.writes r) rows b p r) ≡ true) ↔ OwnedAt f r b p
   owned_given b p r k is le lt par =
       let here = get_map steps_of f.blocks b k is in
       let within = slice_get_within (map steps_of f.blocks) b (steps_of k) here in
-      let row = get_or rows r [] in
-      let given = exact.1 r lt in
-      let same : owned_by (map steps_of f.blocks) (slice_get rows r) b p r ≡ (get_or row b false || is_written (take p (map step_of k.ops)) r) =
-      ap (λ z. owned_by (map steps_of f.blocks) z b p r) (get_there rows r (omega (arith, lt, exact.0))) ∙ ap (λ z. owned_in z b row p r) here in (
+      let seeded = seeds_are (map steps_of f.blocks) met (get_or writers r []) r (writers_are r lt) in
+      let spread : (t : ℕ) → t < length (map steps_of f.blocks) → (has rows r t ≡ true) ↔ Spread (map targets_of (map steps_of f.blocks)) (seeds_of (get_or writers r []) met) t =
+      λ t below. exact r t lt below in
+      let same : owned_by touches.spans (slice_get touches.writes r) rows b p r ≡ (has rows r b || is_written (take p (map step_of k.ops)) r) =
+      owned_there (map steps_of f.blocks) n touches are rows r b p (steps_of k) lt here (omega (arith, le, length-map k.ops step_of)) in (
         λ e.
             let both = and_true (get_or met b false) _ e in
-            bit_owned f r met row given.0 met_is given.1 given.2 b k is p le both.0 (sym same ∙ both.1),
+            bit_owned f r met (has rows r) (seeds_of (get_or writers r []) met) met_is seeded spread b k is p le both.0 (sym same ∙ both.1),
         λ o.
-            both_true (get_or met b false) _ ((met_is b within).1 (path_met f b p (owned_met f r b p o))) (same ∙ owned_bit f r met row given.0 met_is given.1 given.2 par b p o k is),
+            both_true (get_or met b false) _ ((met_is b within).1 (path_met f b p (owned_met f r b p o))) (same ∙ owned_bit f r met (has rows r) (seeds_of (get_or writers r []) met) met_is seeded spread par b p o k is),
       )
 
-  other_given : (b p r : ℕ) (k : Block) → slice_get f.blocks b ≡ Some k → p ≤ length k.ops → n ≤ r → f.params ≤ r → ((get_or met b false && owned_by (map steps_of f.blocks) (slice_get rows r) b p r) ≡ true) ↔ OwnedAt f r b p
+  other_given : (b p r : ℕ) (k : Block) → slice_get f.blocks b ≡ Some k → p ≤ length k.ops → n ≤ r → f.params ≤ r → ((get_or met b false && owned_by touches.spans (slice_get touches.writes r) rows b p r) ≡ true) ↔ OwnedAt f r b p
   other_given b p r k is le ge par =
       let within = slice_get_within (map steps_of f.blocks) b (steps_of k) (get_map steps_of f.blocks b k is) in
-      let same : owned_by (map steps_of f.blocks) (slice_get rows r) b p r ≡ true =
-      ap (λ z. owned_by (map steps_of f.blocks) z b p r) (get_none rows r (omega (arith, ge, exact.0))) in (
+      let same : owned_by touches.spans (slice_get touches.writes r) rows b p r ≡ true =
+      ap (λ z. owned_by touches.spans z rows b p r) (get_none touches.writes r (omega (arith, ge, are.3))) in (
         λ e.
             let both = and_true (get_or met b false) _ e in
             met_owned f r par b p (met_walk f b k is (met_path f b ((met_is b within).0 both.0)) p le),
@@ -289,11 +336,11 @@ module _ (f : Func) (met : List Bool) (rows : List (List Bool)) (n : ℕ) (met_i
             both_true (get_or met b false) _ ((met_is b within).1 (path_met f b p (owned_met f r b p o))) same,
       )
 
-  pub borrowed_is : (b p r : ℕ) (i : Item) → item_in f.blocks b p ≡ Some i → ((r < n) × (r < f.params)) ⊎ ((n ≤ r) × (f.params ≤ r)) → (borrowed_by (map steps_of f.blocks) met rows b p r ≡ true) ↔ BorrowedAt f r b p
+  pub borrowed_is : (b p r : ℕ) (i : Item) → item_in f.blocks b p ≡ Some i → ((r < n) × (r < f.params)) ⊎ ((n ≤ r) × (f.params ≤ r)) → (borrowed_by touches.spans touches.writes met rows b p r ≡ true) ↔ BorrowedAt f r b p
   borrowed_is b p r i e which =
       let there = item_block (slice_get f.blocks b) p i e in
       let le = item_within there.0.ops there.0.last p i (item_was f 0 b p there.0 i there.1 e) in
-      not_exact (get_or met b false && owned_by (map steps_of f.blocks) (slice_get rows r) b p r) (⊎_elim (λ a. owned_given b p r there.0 there.1 le a.0 a.1) (λ a. other_given b p r there.0 there.1 le a.0 a.1) which)
+      not_exact (get_or met b false && owned_by touches.spans (slice_get touches.writes r) rows b p r) (⊎_elim (λ a. owned_given b p r there.0 there.1 le a.0 a.1) (λ a. other_given b p r there.0 there.1 le a.0 a.1) which)
 
 pub below_or_not : (r n : ℕ) → (r < n) ⊎ (n ≤ r)
 below_or_not r zero = inr (omega arith)

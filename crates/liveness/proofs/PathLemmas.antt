@@ -1,5 +1,5 @@
 -- Paths from place to place, and what is left of a block.
-use Rattle.std.proofs.Common.{◌≡◌, ℕ, zero, suc, ◌≤◌, Bool, true, false, List, [], ◌∷◌, length, Option, Some, None, refl, sym, ap, ◌∙◌, subst, arith, drop, map}
+use Rattle.std.proofs.Common.{◌≡◌, ℕ, zero, suc, ◌<◌, ◌≤◌, Bool, true, false, List, [], ◌∷◌, length, Option, Some, None, refl, sym, ap, ◌∙◌, subst, arith, drop, map}
 use Rattle.std.specs.Prelude.{slice_get, ◌↔◌}
 use Rattle.std.specs.Option.{option_and_then}
 use Rattle.std.proofs.lemmas.Option.{same_Some}
@@ -15,7 +15,12 @@ use Rattle.liveness.specs.Paths as path
 use Rattle.liveness.specs.Steps.{step_of, steps_of}
 use Rattle.liveness.specs.Rows.{live_given, Live, IsLiveRow}
 use Rattle.liveness.specs.Rows as rows
-use Rattle.liveness.specs.Tables.{live_in}
+use Rattle.liveness.specs.declared.places.Touches.{Touches}
+use Rattle.liveness.specs.Rising.{has}
+use Rattle.liveness.specs.Places.{AreTouches}
+use Rattle.liveness.specs.Tables.{live_by}
+use Rattle.std.proofs.lemmas.List.{length-map}
+use Rattle.liveness.proofs.FoundLemmas.{table_given}
 use Rattle.liveness.proofs.RowLemmas.{given_exact}
 
 -- ---- lists
@@ -161,14 +166,20 @@ module _ (f : Func) (r : ℕ) where
       let to = live_block t 0 on in
       subst (λ z. Live (map steps_of f.blocks) r (map step_of z) k.last) (sym end.0) (rows.jumps_on n t k.last (steps_of to.0) (ap (λ y. slice_get (targets y) n) end.1 ∙ at) (get_map steps_of f.blocks t to.0 to.1) (path_live t 0 on to.0 to.1))
 
-  -- what an exact row gives at a place
-  pub live_given_is : (row : List Bool) → IsLiveRow (map steps_of f.blocks) r row → (b p : ℕ) (i : Item) → item_in f.blocks b p ≡ Some i → (live_in (slice_get (map steps_of f.blocks) b) p row r ≡ true) ↔ LiveAt f r b p
-  live_given_is row exact b p i e =
-      let there = item_block (slice_get f.blocks b) p i e in
-      let k = there.0 in
-      let is = there.1 in
-      let le : p ≤ length k.ops = item_within k.ops k.last p i (item_was b p k i is e) in
-      let kept : live_in (slice_get (map steps_of f.blocks) b) p row r ≡ live_given (map step_of (drop p k.ops)) k.last row r =
-      ap (λ z. live_in z p row r) (get_map steps_of f.blocks b k is) ∙ ap (λ z. live_given z k.last row r) (drop_map step_of p k.ops) in
-      let given = given_exact (map steps_of f.blocks) r row exact (map step_of (drop p k.ops)) k.last in
+  -- what exact marks give at a place
+  pub live_given_is : (marked : ℕ → Bool) → IsLiveRow (map steps_of f.blocks) r marked → (b p : ℕ) (k : Block) → slice_get f.blocks b ≡ Some k → p ≤ length k.ops → (live_given (drop p (map step_of k.ops)) k.last marked r ≡ true) ↔ LiveAt f r b p
+  live_given_is marked exact b p k is le =
+      let given = given_exact (map steps_of f.blocks) r marked exact (map step_of (drop p k.ops)) k.last in
+      let kept = ap (λ z. live_given z k.last marked r) (drop_map step_of p k.ops) in
       (λ h. live_path (map step_of (drop p k.ops)) k.last (given.0 (sym kept ∙ h)) b p k (drop p k.ops) is refl le refl refl, λ h. kept ∙ given.1 (path_live b p h k is))
+
+-- what a table says at a place
+pub live_table_is : (f : Func) (r : ℕ) (touches : Touches) (rows : List (List ℕ)) (count : ℕ) → AreTouches (map steps_of f.blocks) count touches → r < count → IsLiveRow (map steps_of f.blocks) r (has rows r) → (b p : ℕ) (i : Item) → item_in f.blocks b p ≡ Some i → (live_by touches rows b p r ≡ true) ↔ LiveAt f r b p
+live_table_is f r touches rows count are below exact b p i e =
+    let there = item_block (slice_get f.blocks b) p i e in
+    let k = there.0 in
+    let le : p ≤ length k.ops = item_within k.ops k.last p i (item_was f r b p k i there.1 e) in
+    let within : p ≤ length (map step_of k.ops) = omega (arith, le, length-map k.ops step_of) in
+    let given = live_given_is f r (has rows r) exact b p k there.1 le in
+    let told = table_given (map steps_of f.blocks) r count touches are below rows b p (steps_of k) (get_map steps_of f.blocks b k there.1) within in
+    (λ h. given.0 (sym told ∙ h), λ h. told ∙ given.1 h)

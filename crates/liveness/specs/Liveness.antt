@@ -9,7 +9,7 @@ use Rattle.liveness.specs.Tables.{live_by, borrowed_by}
 
 -- whether a table says that a register is read again, at a block, a place and the register's number
 abbrev pub says_live : LiveTable → ℕ → ℕ → ℕ → Bool
-says_live table = live_by table.blocks table.rows
+says_live table = live_by table.touches table.rows
 
 -- at each place of the function it says of each register exactly whether some path reads it before it writes it
 abbrev pub IsLiveTable : Func → LiveTable → Type 0
@@ -18,7 +18,7 @@ IsLiveTable f table =
 
 -- whether a table says that a register is only lent
 abbrev pub says_borrowed : BorrowTable → ℕ → ℕ → ℕ → Bool
-says_borrowed table = borrowed_by table.blocks table.met table.rows
+says_borrowed table = borrowed_by table.touches.spans table.touches.writes table.met table.rows
 
 -- at each place of the function it says of each register exactly whether it is only lent there
 abbrev pub IsBorrowTable : Func → BorrowTable → Type 0

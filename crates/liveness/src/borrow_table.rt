@@ -1,13 +1,19 @@
-//! Which register is only lent, by rows of bits: of each block whether a path comes to it, and of each parameter at the
-//! start of which blocks it may have been written. A register that is no parameter is lent only where no path comes.
-ghost use Rattle.std.specs.Prelude.{◌≡◌, ◌||◌, get_or, take, length, false, IfOk, Some};
-ghost use Rattle.liveness.specs.Rows.{is_written, AreSeeds, IsOwnedRow};
-ghost use Rattle.liveness.specs.Tables.{owned_in, owned_by, AreOwnedRows};
+//! Which register is only lent. It is told of each block whether a path comes to it, and there is a row of the parameters
+//! that may have been written when it is entered: for one parameter after the other the blocks are marked that one comes
+//! to from those that write it. A register that is no parameter is lent only where no path comes.
+ghost use Rattle.std.specs.Prelude.{◌≡◌, ◌<◌, ◌+◌, ◌↔◌, ◌∷◌, [], ℕ, true, false, length, map, get_or, Some, IfOk, OnOk};
+ghost use Rattle.liveness.specs.Paths.{is_among};
+ghost use Rattle.liveness.specs.Rising.{next_from, has};
+ghost use Rattle.liveness.specs.Places.{lets};
+ghost use Rattle.liveness.specs.Flood.{Comes};
+ghost use Rattle.liveness.specs.Rows.{AreBelow, Spread, AreSpread, seeds_of};
+ghost use Rattle.liveness.specs.Tables.{owned_in, owned_by};
 ghost use Rattle.liveness.specs.Liveness.{says_borrowed, IsBorrowTable};
 
-use crate::row::is_set;
-use crate::spread::{met, spread};
-use crate::step::{Step, Steps, kept_blocks};
+use crate::flood::{flood, is_before, numbers_of};
+use crate::places::{Span, Touches, block_targets, touches_of, writers};
+use crate::rising::{Rising, empty_rows, stands};
+use crate::step::kept_blocks;
 use ir_core::{Func, Reg};
 use std::alloc::Global;
 use value_core::{Many, Memory};
@@ -15,49 +21,110 @@ use value_core::{Many, Memory};
 /// Which registers are only lent at each place of a function.
 #[derive(Drop)]
 pub struct BorrowTable {
-    blocks: Many<Steps>,
+    touches: Touches,
     met: Many<bool>,
-    rows: Many<Many<bool>>,
+    rows: Many<Rising>,
 }
 
-fn writes(steps: &[Step], r: usize) -> bool
-    ensures { result ≡ is_written steps.now r }
+fn is_set(marks: &[bool], b: usize) -> bool
+    ensures { result ≡ get_or marks.now b false }
 {
-    steps.iter().any(|step| step.write == Some(r))
+    marks.get(b).copied().unwrap_or(false)
 }
 
-/// The blocks that are met and write a register.
-fn seeds(alloc: Global, blocks: &[Steps], met: &[bool], r: usize) -> Result<Vec<bool>, Memory>
-    ensures { IfOk result (λ seeds. AreSeeds blocks.now met.now r seeds.items) }
+/// Whether the number 0 stands in each row.
+fn marks(alloc: Global, rows: &[Rising]) -> Result<Many<bool>, Memory>
+    ensures { IfOk result (λ marks. marks ≡ map (λ row. is_among row 0) rows.now) }
 {
-    let mut seeds = Vec::new(alloc);
-    for (b, block) in blocks.iter().enumerate() {
-        let is_seed = is_set(met, b) && writes(block.steps.as_slice(), r);
-        seeds.push(is_seed)?;
+    let mut marks = Vec::new(alloc);
+    for row in rows {
+        marks.push(row.contains(0))?;
     }
-    Ok(seeds)
+    Ok(Many::from_vec(marks))
 }
 
-/// At the start of which blocks a parameter may have been written.
-fn owned_row(alloc: Global, blocks: &[Steps], met: &[bool], r: usize) -> Result<Many<bool>, Memory>
-    ensures { IfOk result (λ row. IsOwnedRow blocks.now met.now r row) }
+/// To which blocks a path comes from the entry.
+fn met(alloc: Global, spans: &[Span], edges: &[Many<usize>]) -> Result<Many<bool>, Memory>
+    ensures { IfOk result (λ met. (t : ℕ) → t < length edges.now → (get_or met t false ≡ true) ↔ Comes edges.now (lets spans.now []) (0 ∷ []) t) }
 {
-    let seeds = seeds(alloc, blocks, met, r)?;
-    spread(alloc, blocks, seeds.as_slice())
+    let mut rows = empty_rows(alloc, edges.len())?;
+    let mut work = Vec::new(alloc);
+    work.push(0)?;
+    flood(spans, &[], edges, rows.as_mut_slice(), 0, work)?;
+    marks(alloc, rows.as_slice())
+}
+
+/// The blocks that those go to which are met, among the blocks that write a parameter.
+fn behind_seeds(
+    alloc: Global,
+    writers: &[usize],
+    met: &[bool],
+    edges: &[Many<usize>],
+) -> Result<Vec<usize>, Memory>
+    ensures holds { IfOk result (λ work. (b t : ℕ) → seeds_of writers.now met.now b ≡ true → is_among (get_or edges.now b []) t ≡ true → is_among work.items t ≡ true) }
+    ensures no_other { IfOk result (λ work. (t : ℕ) → is_among work.items t ≡ true → (b : ℕ) × (seeds_of writers.now met.now b ≡ true) × (is_among (get_or edges.now b []) t ≡ true)) }
+{
+    let mut work = Vec::new(alloc);
+    for b in writers {
+        if is_set(met, *b) {
+            work.extend_from_slice(numbers_of(edges, *b))?;
+        }
+    }
+    Ok(work)
+}
+
+/// Marks the blocks at whose start a parameter may have been written.
+fn owned_row(
+    alloc: Global,
+    spans: &[Span],
+    writers: &[usize],
+    met: &[bool],
+    edges: &[Many<usize>],
+    rows: &mut [Rising],
+    r: usize,
+) -> Result<(), Memory>
+    requires size { length edges.now ≡ length rows.old }
+    requires below { AreBelow r rows.old }
+    ensures below { OnOk result (AreBelow (r + 1) rows.new) }
+    ensures others { OnOk result ((n t : ℕ) → n < r → has rows.new n t ≡ has rows.old n t) }
+    ensures spreads { OnOk result ((t : ℕ) → t < length rows.old → (has rows.new r t ≡ true) ↔ Spread edges.now (seeds_of writers.now met.now) t) }
+{
+    let work = behind_seeds(alloc, writers, met, edges)?;
+    flood(spans, &[], edges, rows, r, work)?;
+    Ok(())
 }
 
 fn owned_rows(
     alloc: Global,
-    blocks: &[Steps],
+    spans: &[Span],
+    writers: &[Many<usize>],
     met: &[bool],
-    count: usize,
-) -> Result<Many<Many<bool>>, Memory>
-    ensures { IfOk result (λ rows. AreOwnedRows blocks.now met.now count rows) }
+    edges: &[Many<usize>],
+    rows: &mut [Rising],
+) -> Result<(), Memory>
+    requires size { length edges.now ≡ length rows.old }
+    requires empty { (t : ℕ) → get_or rows.old t [] ≡ [] }
+    ensures { OnOk result (AreSpread writers.now met.now edges.now (length writers.now) rows.new) }
 {
-    let mut rows = Vec::new(alloc);
-    for r in 0..count {
-        rows.push(owned_row(alloc, blocks, met, r)?)?;
+    for (r, writers) in writers.iter().enumerate() {
+        owned_row(alloc, spans, writers.as_slice(), met, edges, rows, r)?;
     }
+    Ok(())
+}
+
+/// Of each block the parameters that may have been written at its start.
+fn marked_rows(
+    alloc: Global,
+    spans: &[Span],
+    writers: &[Many<usize>],
+    met: &[bool],
+    edges: &[Many<usize>],
+) -> Result<Many<Rising>, Memory>
+    ensures size { IfOk result (λ rows. length rows ≡ length edges.now) }
+    ensures spreads { IfOk result (λ rows. AreSpread writers.now met.now edges.now (length writers.now) rows) }
+{
+    let mut rows = empty_rows(alloc, edges.len())?;
+    owned_rows(alloc, spans, writers, met, edges, rows.as_mut_slice())?;
     Ok(Many::from_vec(rows))
 }
 
@@ -66,29 +133,42 @@ pub fn borrowed(alloc: Global, f: &Func) -> Result<BorrowTable, Memory>
     ensures { IfOk result (λ table. IsBorrowTable f.now table) }
 {
     let blocks = kept_blocks(alloc, f.blocks.as_slice())?;
-    let met = met(alloc, blocks.as_slice())?;
     let count = f.params.min(f.regs.len());
-    let rows = owned_rows(alloc, blocks.as_slice(), met.as_slice(), count)?;
-    Ok(BorrowTable { blocks, met, rows })
-}
-
-/// Operations up to a place.
-fn front(steps: &[Step], place: usize) -> &[Step]
-    ensures { result.now ≡ take place steps.now }
-{
-    if place <= steps.len() {
-        &steps[..place]
-    } else {
-        steps
-    }
+    let touches = touches_of(alloc, blocks.as_slice(), count)?;
+    let edges = block_targets(alloc, blocks.as_slice())?;
+    let writers = writers(alloc, blocks.as_slice(), count)?;
+    let spans = touches.spans.as_slice();
+    let met = met(alloc, spans, edges.as_slice())?;
+    let rows = marked_rows(
+        alloc,
+        spans,
+        writers.as_slice(),
+        met.as_slice(),
+        edges.as_slice(),
+    )?;
+    Ok(BorrowTable { touches, met, rows })
 }
 
 /// Whether a parameter may have been written before a place of a block.
-fn is_owned(blocks: &[Steps], row: &[bool], block: usize, place: usize, r: usize) -> bool
-    ensures { result ≡ owned_by blocks.now (Some row.now) block place r }
+fn is_written(writes: &Rising, at_start: bool, span: Span, place: usize) -> bool
+    ensures { result ≡ owned_in writes.now at_start (Some span) place }
 {
-    match blocks.get(block) {
-        Some(kept) => is_set(row, block) || writes(front(kept.steps.as_slice(), place), r),
+    let size = span.behind.saturating_sub(span.first);
+    at_start || is_before(writes.next_from(span.first), span.first + place.min(size))
+}
+
+fn is_owned(
+    spans: &[Span],
+    writes: &Rising,
+    rows: &[Rising],
+    b: usize,
+    place: usize,
+    r: usize,
+) -> bool
+    ensures { result ≡ owned_by spans.now (Some writes.now) rows.now b place r }
+{
+    match spans.get(b) {
+        Some(span) => is_written(writes, stands(rows, r, b), *span, place),
         None => false,
     }
 }
@@ -103,8 +183,11 @@ impl BorrowTable {
         if !is_set(self.met.as_slice(), block) {
             return true;
         }
-        match self.rows.get(r.0) {
-            Some(row) => !is_owned(self.blocks.as_slice(), row.as_slice(), block, place, r.0),
+        match self.touches.writes.get(r.0) {
+            Some(writes) => {
+                let spans = self.touches.spans.as_slice();
+                !is_owned(spans, writes, self.rows.as_slice(), block, place, r.0)
+            }
             None => false,
         }
     }

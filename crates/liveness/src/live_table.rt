@@ -1,12 +1,19 @@
-//! Which register is read again, by rows of bits: one row for each register, one bit for the start of each block.
-ghost use Rattle.std.specs.Prelude.{◌≡◌, ◌≤◌, ◌<◌, ◌↔◌, ℕ, [], drop, length, get_or, IfOk};
-ghost use Rattle.liveness.specs.Paths.{is_among, is_target, reads_of_last, targets};
-ghost use Rattle.liveness.specs.Rows.{goes_to_set, live_given, missing, IsJustified, SweepIs, IsLiveRow};
-ghost use Rattle.liveness.specs.Tables.{AreLiveRows};
+//! Which register is read again. Of each block there is a row of the registers that are read again at its start: for one
+//! register after the other the blocks are marked that read it before they write it, and then, against the jumps, those
+//! that lead to a marked one and do not write it.
+ghost use Rattle.std.specs.Prelude.{◌≡◌, ◌≤◌, ◌<◌, ◌+◌, ◌↔◌, ℕ, [], true, false, Some, length, get_or, IfOk, OnOk};
+ghost use Rattle.std.specs.List.{list_any};
+ghost use Rattle.liveness.specs.Paths.{is_among, targets};
+ghost use Rattle.liveness.specs.Rising.{AreAtMost, has};
+ghost use Rattle.liveness.specs.Places.{is_read, reads_first, touch_from, AreTouches};
+ghost use Rattle.liveness.specs.Rows.{AreBelow, IsLiveRow, Found, AreFound};
+ghost use Rattle.liveness.specs.Tables.{live_in};
 ghost use Rattle.liveness.specs.Liveness.{says_live, IsLiveTable};
 
-use crate::row::is_set;
-use crate::step::{Step, Steps, kept_blocks};
+use crate::flood::{flood, numbers_of};
+use crate::places::{Span, Touch, Touches, readers, reads_first, sources, touch_from, touches_of};
+use crate::rising::{Rising, empty_rows, mark, stands};
+use crate::step::{Steps, kept_blocks};
 use ir_core::{Func, Last, Reg};
 use std::alloc::Global;
 use value_core::{Many, Memory};
@@ -14,88 +21,102 @@ use value_core::{Many, Memory};
 /// Which registers are read again at each place of a function.
 #[derive(Drop)]
 pub struct LiveTable {
-    blocks: Many<Steps>,
-    rows: Many<Many<bool>>,
+    touches: Touches,
+    rows: Many<Rising>,
 }
 
-fn is_in(registers: &[usize], r: usize) -> bool
-    ensures { result ≡ is_among registers.now r }
+/// Marks the blocks that read a register before they write it, among those that read it, and tells where the edges of the
+/// marked ones end.
+fn exposed(
+    alloc: Global,
+    touches: &Touches,
+    readers: &[usize],
+    edges: &[Many<usize>],
+    rows: &mut [Rising],
+    r: usize,
+) -> Result<Vec<usize>, Memory>
+    requires most { AreAtMost r rows.old }
+    requires fresh { (t : ℕ) → has rows.old r t ≡ false }
+    ensures most { OnOk result (AreAtMost r rows.new) }
+    ensures others { OnOk result ((n t : ℕ) → (n ≡ r → ⊥) → has rows.new n t ≡ has rows.old n t) }
+    ensures sound { OnOk result ((t : ℕ) → has rows.new r t ≡ true → (is_among readers.now t ≡ true) × (reads_first touches.now r t ≡ true)) }
+    ensures marks { OnOk result ((t : ℕ) → is_among readers.now t ≡ true → reads_first touches.now r t ≡ true → t < length rows.old → has rows.new r t ≡ true) }
+    ensures waits { IfOk result (λ work. (b t : ℕ) → has rows.new r b ≡ true → is_among (get_or edges.now b []) t ≡ true → is_among work.items t ≡ true) }
+    ensures comes { IfOk result (λ work. (t : ℕ) → is_among work.items t ≡ true → (b : ℕ) × (has rows.new r b ≡ true) × (is_among (get_or edges.now b []) t ≡ true)) }
 {
-    registers.iter().any(|s| *s == r)
-}
-
-fn last_reads(last: Last, r: usize) -> bool
-    ensures { result ≡ is_among (reads_of_last last) r }
-{
-    match last {
-        Last::If(s, _, _) | Last::IfError(s, _, _, _) | Last::Return(s) => s.0 == r,
-        Last::Goto(_) | Last::Unreachable => false,
-    }
-}
-
-fn last_goes_to_set(last: Last, row: &[bool]) -> bool
-    ensures { result ≡ goes_to_set (targets last) row.now }
-{
-    match last {
-        Last::Goto(t) => is_set(row, t),
-        Last::If(_, a, b) | Last::IfError(_, a, b, _) => is_set(row, a) || is_set(row, b),
-        Last::Return(_) | Last::Unreachable => false,
-    }
-}
-
-/// Whether a register is read again by what is left of a block, where the row says at the start of which blocks it is.
-fn live_from(steps: &[Step], last: Last, row: &[bool], r: usize) -> bool
-    ensures { result ≡ live_given steps.now last row.now r }
-{
-    for i in 0..steps.len() {
-        let step = &steps[i];
-        if is_in(step.reads.as_slice(), r) {
-            return true;
-        }
-        if step.write == Some(r) {
-            return false;
+    let mut work = Vec::new(alloc);
+    for b in readers {
+        if reads_first(touches, r, *b) && mark(rows, r, *b)? {
+            work.extend_from_slice(numbers_of(edges, *b))?;
         }
     }
-    last_reads(last, r) || last_goes_to_set(last, row)
+    Ok(work)
 }
 
-/// Marks each block at whose start a register is read again by the row, and says whether it marked one. The last blocks
-/// come first, since most jumps go to later ones.
-fn sweep(blocks: &[Steps], row: &mut [bool], r: usize) -> bool
-    requires { length row.old ≡ length blocks.now }
-    ensures justified { IsJustified blocks.now r row.old → IsJustified blocks.now r row.new }
-    ensures sweeps { SweepIs blocks.now r result row.old row.new 0 }
+/// Marks the blocks at whose start a register is read again.
+fn live_row(
+    alloc: Global,
+    touches: &Touches,
+    readers: &[usize],
+    edges: &[Many<usize>],
+    rows: &mut [Rising],
+    r: usize,
+) -> Result<(), Memory>
+    requires size { length edges.now ≡ length rows.old }
+    requires below { AreBelow r rows.old }
+    ensures below { OnOk result (AreBelow (r + 1) rows.new) }
+    ensures others { OnOk result ((n t : ℕ) → n < r → has rows.new n t ≡ has rows.old n t) }
+    ensures finds { OnOk result ((t : ℕ) → t < length rows.old → (has rows.new r t ≡ true) ↔ Found touches.now readers.now edges.now r t) }
 {
-    let mut changed = false;
-    for b in (0..blocks.len()).rev() {
-        let block = &blocks[b];
-        if !row[b] && live_from(block.steps.as_slice(), block.last, row, r) {
-            row[b] = true;
-            changed = true;
-        }
-    }
-    changed
+    let work = exposed(alloc, touches, readers, edges, rows, r)?;
+    flood(
+        touches.spans.as_slice(),
+        touches.writes.as_slice(),
+        edges,
+        rows,
+        r,
+        work,
+    )?;
+    Ok(())
 }
 
-/// At the start of which blocks a register is read again.
-fn live_row(alloc: Global, blocks: &[Steps], r: usize) -> Result<Many<bool>, Memory>
-    ensures { IfOk result (λ row. IsLiveRow blocks.now r row) }
+fn live_rows(
+    alloc: Global,
+    touches: &Touches,
+    readers: &[Many<usize>],
+    edges: &[Many<usize>],
+    rows: &mut [Rising],
+) -> Result<(), Memory>
+    requires size { length edges.now ≡ length rows.old }
+    requires empty { (t : ℕ) → get_or rows.old t [] ≡ [] }
+    ensures { OnOk result (AreFound touches.now readers.now edges.now (length readers.now) rows.new) }
 {
-    let mut row = vec![in alloc; false; blocks.len()]?;
-    loop {
-        if !sweep(blocks, row.as_mut_slice(), r) {
-            return Ok(Many::from_vec(row));
-        }
+    for (r, readers) in readers.iter().enumerate() {
+        live_row(alloc, touches, readers.as_slice(), edges, rows, r)?;
     }
+    Ok(())
 }
 
-fn live_rows(alloc: Global, blocks: &[Steps], count: usize) -> Result<Many<Many<bool>>, Memory>
-    ensures { IfOk result (λ rows. AreLiveRows blocks.now count rows) }
+/// Of each block the registers that are read again at its start.
+fn marked_rows(
+    alloc: Global,
+    blocks: &[Steps],
+    touches: &Touches,
+    count: usize,
+) -> Result<Many<Rising>, Memory>
+    requires { AreTouches blocks.now count touches.now }
+    ensures { IfOk result (λ rows. (r : ℕ) → r < count → IsLiveRow blocks.now r (has rows r)) }
 {
-    let mut rows = Vec::new(alloc);
-    for r in 0..count {
-        rows.push(live_row(alloc, blocks, r)?)?;
-    }
+    let readers = readers(alloc, blocks, count)?;
+    let sources = sources(alloc, blocks)?;
+    let mut rows = empty_rows(alloc, blocks.len())?;
+    live_rows(
+        alloc,
+        touches,
+        readers.as_slice(),
+        sources.as_slice(),
+        rows.as_mut_slice(),
+    )?;
     Ok(Many::from_vec(rows))
 }
 
@@ -104,27 +125,33 @@ pub fn live(alloc: Global, f: &Func) -> Result<LiveTable, Memory>
     ensures { IfOk result (λ table. IsLiveTable f.now table) }
 {
     let blocks = kept_blocks(alloc, f.blocks.as_slice())?;
-    let rows = live_rows(alloc, blocks.as_slice(), f.regs.len())?;
-    Ok(LiveTable { blocks, rows })
+    let count = f.regs.len();
+    let touches = touches_of(alloc, blocks.as_slice(), count)?;
+    let rows = marked_rows(alloc, blocks.as_slice(), &touches, count)?;
+    Ok(LiveTable { touches, rows })
 }
 
-fn row_of(rows: &[Many<bool>], r: usize) -> &[bool]
-    ensures { result.now ≡ get_or rows.now r [] }
+fn goes_to_marked(rows: &[Rising], last: Last, r: usize) -> bool
+    ensures { result ≡ list_any (has rows.now r) (targets last) }
 {
-    match rows.get(r) {
-        Some(row) => row.as_slice(),
-        None => &[],
+    match last {
+        Last::Goto(t) => stands(rows, r, t),
+        Last::If(_, a, b) | Last::IfError(_, a, b, _) => stands(rows, r, a) || stands(rows, r, b),
+        Last::Return(_) | Last::Unreachable => false,
     }
 }
 
-/// What is left of operations from a place on.
-fn rest(steps: &[Step], place: usize) -> &[Step]
-    ensures { result.now ≡ drop place steps.now }
+/// Whether a register is read again from a place of a block on.
+fn live_in(touches: &Touches, rows: &[Rising], span: Span, place: usize, r: usize) -> bool
+    ensures { result ≡ live_in touches.now rows.now (Some span) place r }
 {
-    if place <= steps.len() {
-        &steps[place..]
-    } else {
-        &[]
+    if place >= span.behind.saturating_sub(span.first) {
+        return false;
+    }
+    match touch_from(touches, span, span.first + place, r) {
+        Touch::Read => true,
+        Touch::Written => false,
+        Touch::Neither => goes_to_marked(rows, span.last, r),
     }
 }
 
@@ -134,11 +161,8 @@ impl LiveTable {
     pub fn is_live(&self, block: usize, place: usize, r: Reg) -> bool
         ensures { result ≡ says_live self.now block place r.0 }
     {
-        match self.blocks.get(block) {
-            Some(kept) => {
-                let row = row_of(self.rows.as_slice(), r.0);
-                live_from(rest(kept.steps.as_slice(), place), kept.last, row, r.0)
-            }
+        match self.touches.spans.get(block) {
+            Some(span) => live_in(&self.touches, self.rows.as_slice(), *span, place, r.0),
             None => false,
         }
     }

@@ -22,7 +22,7 @@ pub struct Steps {
     pub last: Last,
 }
 
-fn one(alloc: Global, r: Reg) -> Result<Many<usize>, Memory>
+pub(crate) fn one(alloc: Global, r: Reg) -> Result<Many<usize>, Memory>
     ensures { IfOk result (λ reads. reads ≡ r.0 ∷ []) }
 {
     let mut reads = Many::new(alloc);
