@@ -1,0 +1,14 @@
+pub mod Totals
+pub mod Effects
+pub mod Entry
+pub mod Words
+pub mod Safe
+pub mod Runs
+pub mod Weaken
+pub mod Placed
+pub mod GroupRuns
+pub mod CellLemmas
+pub mod Alike
+pub mod AlikeRuns
+pub mod EndOwns
+pub mod Samples
