@@ -7,3 +7,4 @@ pub mod Samples
 pub mod BuildingLemmas
 pub mod Simulation
 pub mod StepLemmas
+pub mod JumpLemmas

@@ -73,7 +73,7 @@ module _ (p : Program) where
 
   -- ---- blocks
   -- the place of block j of blocks, and its number where the first has number k
-  abbrev place_of : ℕ → List Block → ℕ → ℕ
+  abbrev pub place_of : ℕ → List Block → ℕ → ℕ
   place_of k bs zero = 0
   place_of k [] (suc j) = 0
   place_of k (b ∷ bs) (suc j) = length (block_lines p k b) + place_of (suc k) bs j
@@ -107,7 +107,7 @@ module _ (p : Program) where
       ap (λ l. slice_get l (suc j)) (next_labels n k x (lines_from p (suc (suc k)) bs))
       ∙ (label_there (n + size) (suc k) j bs b e ∙ ap Some z)
 
-  labelled : (bs : List Block) (k : ℕ) (b : Block) → slice_get bs k ≡ Some b → IsLabelled (lines_from p 0 bs) label_of k (place_of 0 bs k)
+  pub labelled : (bs : List Block) (k : ℕ) (b : Block) → slice_get bs k ≡ Some b → IsLabelled (lines_from p 0 bs) label_of k (place_of 0 bs k)
   labelled bs zero b e = refl
   labelled [] (suc k) b e = let f : None ≡ Some b = e in absurd (cc)
   labelled (x ∷ bs) (suc k) b e =

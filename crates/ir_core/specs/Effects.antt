@@ -1,18 +1,27 @@
 -- What primitives do, each in one row.
-use Rattle.std.specs.Prelude.{ℕ, Bool, true, false, not, ℤ, pos, int_lt, List, [], ◌∷◌, ◌++◌, Option, codes}
+use Rattle.std.specs.Prelude.{ℕ, Bool, true, false, not, ℤ, pos, int_lt, List, [], ◌∷◌, ◌++◌, Option, Some, None, codes, is_some, Result, Ok, Err, slice_get, slice_set}
 use Rattle.std.specs.Fmt.{signed_decimal}
+use Rattle.std.specs.List.{position}
+use Rattle.std.specs.Option.{option_and_then}
 use Rattle.std.specs.Ordering.{int_eq}
-use Rattle.value_core.specs.Arithmetic.{i64_add, i64_sub, i64_mul, i64_neg}
+use Rattle.std.specs.Str.{bytes_eq}
+use Rattle.value_core.specs.declared.arith.Arith.{Arith}
+use Rattle.value_core.specs.declared.exception.ExcClass.{ExcClass}
+use Rattle.value_core.specs.Arithmetic.{i64_add, i64_sub, i64_mul, i64_neg, i64_floor_div, i64_modulo, i64_shl, i64_shr}
 use Rattle.value_core.specs.Ending.{Ending}
-use Rattle.value_core.specs.Exceptions.{Thrown}
+use Rattle.value_core.specs.Exceptions.{Thrown, thrown, class_named, is_under}
 use Rattle.value_core.specs.Items.{Items}
-use Rattle.value_core.specs.Value.{Value, IntVal, BoolVal, StrVal, Store}
+use Rattle.value_core.specs.Value.{Value, IntVal, BoolVal, StrVal, ExcVal, Store}
 use Rattle.c_core.specs.declared.primitive.Primitive.{Primitive}
 use Rattle.c_core.specs.declared.primitive.Primitive.TheVariants as prim
 use Rattle.c_core.specs.declared.primitive.Int64Prim.TheVariants as int64
 use Rattle.c_core.specs.declared.primitive.BoolPrim.TheVariants as bool
 use Rattle.c_core.specs.declared.primitive.StrPrim.TheVariants as str
+use Rattle.c_core.specs.declared.primitive.GlobalPrim.TheVariants as global
+use Rattle.c_core.specs.declared.primitive.ExcPrim.TheVariants as exc
+use Rattle.c_core.specs.declared.primitive.ErrPrim.TheVariants as err
 use Rattle.c_core.specs.declared.primitive.IoPrim.TheVariants as io
+use Rattle.c_core.specs.Step.{exception_of, not_defined, unbound}
 use Rattle.ir_core.specs.declared.code.PArg.{PArg}
 use Rattle.ir_core.specs.declared.code.PArg.TheVariants as arg
 use Rattle.ir_core.specs.declared.code.Program.{Program}
@@ -50,11 +59,49 @@ abbrev pub truth_text : Bool → List ℕ
 truth_text true = codes "True"
 truth_text false = codes "False"
 
+abbrev pub native_or : Result ℤ Arith → World → Effect
+native_or (Ok n) w = Gives (IntVal n) w
+native_or (Err f) w = Fails (exception_of f) w
+
+-- the number of a global by its name, and what it holds: nothing where there is none of the name, and nothing inside where it
+-- is unset
+abbrev pub number_of_global : Program → List ℕ → Option ℕ
+number_of_global p name = position (λ g. bytes_eq name g.0) p.globals
+
+abbrev pub global_at : Program → World → List ℕ → Option (Option Value)
+global_at p w name = option_and_then (slice_get w.globals) (number_of_global p name)
+
+abbrev pub got : List ℕ → Option (Option Value) → World → Effect
+got name None w = Wrong
+got name (Some None) w = Fails (not_defined name) w
+got name (Some (Some v)) w = Gives v w
+
+-- the global of a number, which holds something or is unset, holds what is new
+abbrev pub stored : Option ℕ → Option (Option Value) → Option Value → World → Effect
+stored (Some n) (Some old) new w = Acts (record w { globals = slice_set w.globals n new })
+stored _ _ new w = Wrong
+
+abbrev pub made_exception : Option ExcClass → List ℕ → World → Effect
+made_exception None text w = Wrong
+made_exception (Some class) text w = Gives (ExcVal (thrown class text)) w
+
+abbrev pub matched : Option ExcClass → Option Thrown → World → Effect
+matched (Some class) (Some e) w = Gives (BoolVal (is_under e.class class)) w
+matched _ _ w = Wrong
+
+abbrev pub caught : Option Thrown → World → Effect
+caught None w = Wrong
+caught (Some e) w = Gives (ExcVal e) (record w { pending = None })
+
 abbrev pub effect : Program → Primitive → List Argument → World → Effect
 effect p (prim.Int64 int64.Add) (Given (IntVal a) ∷ Given (IntVal b) ∷ []) w = Gives (IntVal (i64_add a b)) w
 effect p (prim.Int64 int64.Subtract) (Given (IntVal a) ∷ Given (IntVal b) ∷ []) w = Gives (IntVal (i64_sub a b)) w
 effect p (prim.Int64 int64.Multiply) (Given (IntVal a) ∷ Given (IntVal b) ∷ []) w = Gives (IntVal (i64_mul a b)) w
 effect p (prim.Int64 int64.Negate) (Given (IntVal a) ∷ []) w = Gives (IntVal (i64_neg a)) w
+effect p (prim.Int64 int64.FloorDivide) (Given (IntVal a) ∷ Given (IntVal b) ∷ []) w = native_or (i64_floor_div a b) w
+effect p (prim.Int64 int64.Remainder) (Given (IntVal a) ∷ Given (IntVal b) ∷ []) w = native_or (i64_modulo a b) w
+effect p (prim.Int64 int64.Lshift) (Given (IntVal a) ∷ Given (IntVal b) ∷ []) w = native_or (i64_shl a b) w
+effect p (prim.Int64 int64.Rshift) (Given (IntVal a) ∷ Given (IntVal b) ∷ []) w = native_or (i64_shr a b) w
 effect p (prim.Int64 int64.FromBool) (Given (BoolVal b) ∷ []) w = Gives (IntVal (truth_number b)) w
 effect p (prim.Int64 int64.Eq) (Given (IntVal a) ∷ Given (IntVal b) ∷ []) w = Gives (BoolVal (int_eq a b)) w
 effect p (prim.Int64 int64.Lt) (Given (IntVal a) ∷ Given (IntVal b) ∷ []) w = Gives (BoolVal (int_lt a b)) w
@@ -63,5 +110,17 @@ effect p (prim.Int64 int64.Str) (Given (IntVal a) ∷ []) w = Gives (StrVal (sig
 effect p (prim.Bool bool.Not) (Given (BoolVal b) ∷ []) w = Gives (BoolVal (not b)) w
 effect p (prim.Bool bool.Str) (Given (BoolVal b) ∷ []) w = Gives (StrVal (truth_text b)) w
 effect p (prim.Str str.Literal) (Written (arg.Text text) ∷ []) w = Gives (StrVal text) w
+effect p (prim.Global global.Get) (Written (arg.Global name) ∷ []) w = got name (global_at p w name) w
+effect p (prim.Global global.Set) (Written (arg.Global name) ∷ Given v ∷ []) w =
+    stored (number_of_global p name) (global_at p w name) (Some v) w
+effect p (prim.Global global.Clear) (Written (arg.Global name) ∷ []) w =
+    stored (number_of_global p name) (global_at p w name) None w
+effect p (prim.Exc exc.New) (Written (arg.Text name) ∷ Given (StrVal text) ∷ []) w = made_exception (class_named name) text w
+effect p (prim.Exc exc.Str) (Given (ExcVal e) ∷ []) w = Gives (StrVal e.text) w
+effect p (prim.Err err.SetObject) (Given (ExcVal e) ∷ []) w = Fails e w
+effect p (prim.Err err.Unbound) (Written (arg.Text name) ∷ []) w = Fails (unbound name) w
+effect p (prim.Err err.Occurred) [] w = Gives (BoolVal (is_some w.pending)) w
+effect p (prim.Err err.Matches) (Written (arg.Text name) ∷ []) w = matched (class_named name) w.pending w
+effect p (prim.Err err.Catch) [] w = caught w.pending w
 effect p (prim.Io io.Write) (Given (StrVal text) ∷ []) w = Acts (record w { output = w.output ++ text })
 effect p _ _ w = Wrong

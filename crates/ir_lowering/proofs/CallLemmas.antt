@@ -29,14 +29,16 @@ use Rattle.ir_core.specs.Names.{function_id}
 use Rattle.ir_core.specs.Registers.{Held, Unset, Holds, Regs, first_regs}
 use Rattle.ir_core.specs.Rows.{Declared, type_of_reg}
 use Rattle.ir_core.specs.Effects.{World}
-use Rattle.ir_core.specs.Meaning.{Frame, Waiting, Config, Runs, Stuck, Plain, next, value_of, read, read_all, is_fit, are_types, is_type, registers_of, do_op, step}
+use Rattle.ir_core.specs.Meaning.{Frame, Waiting, Config, Runs, Stuck, Fitting, next, value_of, read, read_all, is_fit, are_types, is_type, registers_of, do_op, step}
 use Rattle.ir_core.specs.Meaning as meaning
 use Rattle.ir_core.specs.Lower.{kind_of_type, variable_of, register_in, call_name, called_as, line_of, name_in, lowered_as, lower}
-use Rattle.ir_lowering.specs.Prints.{Prints, AreOthers}
+use Rattle.ir_lowering.specs.Prints.{AreOthers}
+use Rattle.ir_lowering.specs.PrintsOrFails.{PrintsOrFails}
 use Rattle.ir_lowering.proofs.LayoutLemmas.{function_at}
 use Rattle.ir_lowering.proofs.Fitting.{Fits, RegsFit, AllFit, entry_fit, entry_size, there_is, value_word}
 use Rattle.ir_lowering.proofs.Facts.{Facts, has_type, has_block, number_is}
-use Rattle.ir_lowering.proofs.Relation.{Gone, Free, FreeBelow, FrameAt, PrintsAt, StackAt, WorldAt, machine, Arrives, gets_stuck, arrives, moved, first_at}
+use Rattle.ir_lowering.proofs.CellLemmas.{CellsAt, Quiet}
+use Rattle.ir_lowering.proofs.Relation.{Free, FreeBelow, FrameAt, PrintsAt, StackAt, WorldAt, machine, Arrives, gets_stuck, arrives, moved, first_at}
 use Rattle.ir_lowering.proofs.Reading.{IsRead, reads}
 use Rattle.ir_lowering.proofs.OperationLemmas.{world_on, by_line, fits_here}
 
@@ -75,7 +77,7 @@ split_reads declared regs r rs xs (Some v) (Some vs) a c e =
 abbrev kinds_of : ℕ → Declared → List Kind
 kinds_of n ds = map (λ v. v.1) (take n (map variable_of ds))
 
-module _ (b : Bool) (p : Program) (prints : Prints p) (known : Facts p) (f : Frame) (s : MachineState) (ops : List (Op × ℕ)) (a : FrameAt b p prints f s.top ops) where
+module _ (b : Bool) (p : Program) (prints : PrintsOrFails p) (known : Facts p) (f : Frame) (s : MachineState) (ops : List (Op × ℕ)) (a : FrameAt b p prints f s.top ops) where
   abbrev D : Declared
   D = registers_of p f.fn
 
@@ -131,7 +133,7 @@ free_more : (b : Bool) (fr : machines.Frame) (fs : List machines.Frame) → Free
 free_more false fr fs e k = tt
 free_more true fr fs e k = (e, k)
 
-module _ (b : Bool) (p : Program) (prints : Prints p) (known : Facts p) (f : Frame) (below : List Waiting) (w : World) (s : MachineState) (at_line : ℕ) (os : List (Op × ℕ)) (printed : PrintsAt b p prints f.fn os) (stack : StackAt b p prints f.fn s.top.into below s.below) (world : WorldAt b p prints w s) (gone : Gone b s.cells) (free : Free b s.top.ledger) (free_below : FreeBelow b s.below) (r : Reg) (g : ℕ) (args : List Reg) (h : Func) (there : slice_get p.funcs g ≡ Some h) (lt : suc g < length p.funcs) (a : FrameAt b p prints f s.top ((Call r g args, at_line) ∷ os)) (off : AreOthers (prints.texts f.fn) args) where
+module _ (b : Bool) (p : Program) (prints : PrintsOrFails p) (known : Facts p) (f : Frame) (below : List Waiting) (w : World) (s : MachineState) (at_line : ℕ) (os : List (Op × ℕ)) (printed : PrintsAt b p prints f.fn os) (stack : StackAt b p prints f.fn s.top.into below s.below) (world : WorldAt b p prints w s) (cells : CellsAt b w.pending s.pending s.cells) (free : Free b s.top.ledger) (free_below : FreeBelow b s.below) (r : Reg) (g : ℕ) (args : List Reg) (h : Func) (there : slice_get p.funcs g ≡ Some h) (lt : suc g < length p.funcs) (quiet : Quiet b w.pending s.pending s.cells) (a : FrameAt b p prints f s.top ((Call r g args, at_line) ∷ os)) (off : AreOthers (prints.texts f.fn) args) where
   abbrev Ds : Declared
   Ds = registers_of p f.fn
 
@@ -152,7 +154,7 @@ module _ (b : Bool) (p : Program) (prints : Prints p) (known : Facts p) (f : Fra
 
   fit_called : call_fits (lower p) vars (Some r.0) cargs None (function_named (lower p).funcs (codes "CPyDef_" ++ name)) ≡ true
   fit_called =
-      subst (λ z. call_fits (lower p) vars (Some r.0) cargs (primitive_named z) (function_named (lower p).funcs z) ≡ true) is_called (fits_here b p prints known f below w s at_line os stack world gone free free_below (Call r g args) a)
+      subst (λ z. call_fits (lower p) vars (Some r.0) cargs (primitive_named z) (function_named (lower p).funcs z) ≡ true) is_called (fits_here b p prints known f below w s at_line os stack world cells free free_below (Call r g args) a)
 
   has_name : (c : Bool) → bytes_eq name [] ≡ c → bytes_eq name [] ≡ false
   has_name false e = e
@@ -179,7 +181,7 @@ module _ (b : Bool) (p : Program) (prints : Prints p) (known : Facts p) (f : Fra
     abbrev waits : Waiting
     waits = record { frame = f; into = r }
 
-    went : is_fit Ds r args h ≡ true → Arrives b p prints (step_at b (lower p) s (Some (line_of p (Call r g args)))) (do_op Plain p (Call r g args) f below w)
+    went : is_fit Ds r args h ≡ true → Arrives b p prints (step_at b (lower p) s (Some (line_of p (Call r g args)))) (do_op Fitting p (Call r g args) f below w)
     went fit =
         let ps = passed b p prints known f s ((Call r g args, at_line) ∷ os) a h.params h.regs args xs fits.0 off are in
         let count : length args ≡ h.params = eqb-true (length args) h.params (and_true (nat_eq (length args) h.params) (are_types Ds args h.regs && is_type h.ret (type_of_reg Ds r)) fit).0 in
@@ -197,11 +199,11 @@ module _ (b : Bool) (p : Program) (prints : Prints p) (known : Facts p) (f : Fra
         let text : step_at b (lower p) s (Some (line_of p (Call r g args))) ≡ Goes t =
         ap (λ z. call_step b s (lower p) (Some r.0) z cargs (primitive_named z)) is_called
         ∙ (ap (function_called b s (lower p) (Some r.0) cargs) number
-        ∙ (ap (λ z. if_calm b s z (steps.if_some b s fault.Kind (slice_get (lower p).funcs g) (function_step b s (Some r.0) cargs g))) world.none_pending
+        ∙ (ap (λ z. if_calm b s z (steps.if_some b s fault.Kind (slice_get (lower p).funcs g) (function_step b s (Some r.0) cargs g))) quiet.none_pending
         ∙ (ap (λ z. steps.if_some b s fault.Kind z (function_step b s (Some r.0) cargs g)) (function_at p g h there)
         ∙ ps.goes_on (λ ws. Goes (entered b s (Some r.0) g (entry_words ws gc)))))) in
-        let does : do_op Plain p (Call r g args) f below w ≡ Runs entry (waits ∷ below) w =
-        ap (λ z. meaning.if_calm z (meaning.enters p r args f below w g)) world.calm
+        let does : do_op Fitting p (Call r g args) f below w ≡ Runs entry (waits ∷ below) w =
+        ap (λ z. meaning.if_calm z (meaning.enters p r args f below w g)) quiet.calm
         ∙ (ap (λ z. meaning.if_some z (λ k. meaning.if_some (read_all Ds f.regs args) (λ ys. cond (is_fit Ds r args k) (Runs (record { fn = g; block = 0; place = 0; regs = first_regs k.regs ys }) (waits ∷ below) w) Stuck))) there
         ∙ (ap (λ z. meaning.if_some z (λ ys. cond (is_fit Ds r args h) (Runs (record { fn = g; block = 0; place = 0; regs = first_regs h.regs ys }) (waits ∷ below) w) Stuck)) are
         ∙ ap (λ c. cond c (Runs entry (waits ∷ below) w) Stuck) fit)) in
@@ -216,25 +218,25 @@ module _ (b : Bool) (p : Program) (prints : Prints p) (known : Facts p) (f : Fra
             gives = unique;
           },
           stack,
-        ) (world_on b p prints w s t refl refl refl refl refl world) gone (free_empty b) (free_more b (next_line s).top s.below free free_below))
+        ) (world_on b p prints w s t refl refl refl refl world) cells (free_empty b) (free_more b (next_line s).top s.below free free_below))
 
-    by_fit : (c : Bool) → is_fit Ds r args h ≡ c → Arrives b p prints (step_at b (lower p) s (Some (line_of p (Call r g args)))) (do_op Plain p (Call r g args) f below w)
+    by_fit : (c : Bool) → is_fit Ds r args h ≡ c → Arrives b p prints (step_at b (lower p) s (Some (line_of p (Call r g args)))) (do_op Fitting p (Call r g args) f below w)
     by_fit true fit = went fit
     by_fit false fit =
         gets_stuck (
-        ap (λ z. meaning.if_calm z (meaning.enters p r args f below w g)) world.calm
+        ap (λ z. meaning.if_calm z (meaning.enters p r args f below w g)) quiet.calm
         ∙ (ap (λ z. meaning.if_some z (λ k. meaning.if_some (read_all Ds f.regs args) (λ ys. cond (is_fit Ds r args k) (Runs (record { fn = g; block = 0; place = 0; regs = first_regs k.regs ys }) (waits ∷ below) w) Stuck))) there
         ∙ (ap (λ z. meaning.if_some z (λ ys. cond (is_fit Ds r args h) (Runs (record { fn = g; block = 0; place = 0; regs = first_regs h.regs ys }) (waits ∷ below) w) Stuck)) are
         ∙ ap (λ c. cond c (Runs entry (waits ∷ below) w) Stuck) fit)))
 
-  by_reads : (o : Option (List Held)) → read_all Ds f.regs args ≡ o → Arrives b p prints (step_at b (lower p) s (Some (line_of p (Call r g args)))) (do_op Plain p (Call r g args) f below w)
+  by_reads : (o : Option (List Held)) → read_all Ds f.regs args ≡ o → Arrives b p prints (step_at b (lower p) s (Some (line_of p (Call r g args)))) (do_op Fitting p (Call r g args) f below w)
   by_reads (Some xs) are = by_fit xs are (is_fit Ds r args h) refl
   by_reads None are =
       gets_stuck (
-      ap (λ z. meaning.if_calm z (meaning.enters p r args f below w g)) world.calm
+      ap (λ z. meaning.if_calm z (meaning.enters p r args f below w g)) quiet.calm
       ∙ (ap (λ z. meaning.if_some z (λ k. meaning.if_some (read_all Ds f.regs args) (λ ys. cond (is_fit Ds r args k) (Runs (record { fn = g; block = 0; place = 0; regs = first_regs k.regs ys }) (record { frame = f; into = r } ∷ below) w) Stuck))) there
       ∙ ap (λ z. meaning.if_some z (λ ys. cond (is_fit Ds r args h) (Runs (record { fn = g; block = 0; place = 0; regs = first_regs h.regs ys }) (record { frame = f; into = r } ∷ below) w) Stuck)) are))
 
-  pub called : Arrives b p prints (machine b p prints s) (step Plain p (Runs f below w))
+  pub called : Arrives b p prints (machine b p prints s) (step Fitting p (Runs f below w))
   called =
-      by_line b p prints known f below w s at_line os stack world gone free free_below (Call r g args) a (by_reads (read_all Ds f.regs args) refl)
+      by_line b p prints known f below w s at_line os stack world cells free free_below (Call r g args) a (by_reads (read_all Ds f.regs args) refl)

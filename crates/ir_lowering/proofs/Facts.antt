@@ -1,13 +1,14 @@
 -- What a program's shape says of its lines and of its blocks.
 use Rattle.std.proofs.Common.{◌≡◌, refl, sym, ◌∙◌, ap, subst, ℕ, zero, suc, ◌+◌, ◌-◌, arith, Bool, true, false, cond, not, ◌&&◌, ◌||◌, List, [], ◌∷◌, length, Option, Some, None}
-use Rattle.std.specs.Prelude.{slice_get, map, nat_lt, ◌==◌}
+use Rattle.std.specs.Prelude.{slice_get, map, nat_lt, ◌==◌, is_some}
 use Rattle.std.specs.List.{list_all, list_any, position, position_or_len}
 use Rattle.std.specs.Str.{bytes_eq}
 use Rattle.std.proofs.lemmas.Slice.Eq.{bytes_eq-Decides}
 use Rattle.std.proofs.lemmas.Option.{slice_get_within}
 use Rattle.std.proofs.lemmas.Bool.{lt-ltb}
-use Rattle.std.specs.Option.{option_map}
+use Rattle.std.specs.Option.{option_map, option_and_then}
 use Rattle.c_core.specs.declared.code.Kind.{Kind}
+use Rattle.c_core.specs.declared.code.CArg.{CArg}
 use Rattle.c_core.specs.declared.code.Line.{Line}
 use Rattle.c_core.specs.declared.code.CFunc.{CFunc}
 use Rattle.c_core.specs.declared.code.Code.{Code}
@@ -16,9 +17,15 @@ use Rattle.c_core.specs.declared.primitive.Primitive.TheVariants as prim
 use Rattle.c_core.specs.declared.primitive.Int64Prim.TheVariants as int64
 use Rattle.c_core.specs.declared.primitive.BoolPrim.TheVariants as bool
 use Rattle.c_core.specs.declared.primitive.StrPrim.TheVariants as str
+use Rattle.c_core.specs.declared.primitive.GlobalPrim.TheVariants as global
+use Rattle.c_core.specs.declared.primitive.ExcPrim.TheVariants as exc
+use Rattle.c_core.specs.declared.primitive.ErrPrim.TheVariants as err
 use Rattle.c_core.specs.declared.primitive.IoPrim.TheVariants as io
-use Rattle.c_core.specs.Primitives.{Is, Holding, Borrows, row_of, primitive_named}
-use Rattle.c_core.specs.WellFormed.{WellFormed, is_spelled, is_empty, spelled_globals, spelled_functions, names_differ, function_fits, line_fits, is_leaving, lines_lead_on, begins_right, kind_at, has_kind, same_kind, same_kinds, args_fit}
+use Rattle.c_core.specs.Machine.{MachineState}
+use Rattle.c_core.specs.Step.{Next, if_calm, if_may_stand}
+use Rattle.c_core.specs.Primitives.{Is, OfGlobal, Holding, Anything, Borrows, Steals, TakesText, TakesGlobal, row_of, primitive_named}
+use Rattle.c_core.specs.Arguments.{kind_of_global}
+use Rattle.c_core.specs.WellFormed.{WellFormed, is_spelled, is_empty, spelled_globals, spelled_functions, names_differ, function_fits, line_fits, is_leaving, lines_lead_on, begins_right, kind_at, has_kind, same_kind, same_kinds, kind_fits, args_fit}
 use Rattle.c_core.specs.WellFormed as wf
 use Rattle.c_core.proofs.Lines.{and_true, all_at, leads_on}
 use Rattle.ir_core.specs.declared.code.RType.{RType}
@@ -30,7 +37,7 @@ use Rattle.ir_core.specs.declared.code.Block.{Block}
 use Rattle.ir_core.specs.declared.code.Func.{Func}
 use Rattle.ir_core.specs.declared.code.Program.{Program}
 use Rattle.ir_core.specs.declared.kind.Edge.TheVariants.{NoEdge}
-use Rattle.ir_core.specs.Rows.{Declared, edge_of_prim}
+use Rattle.ir_core.specs.Rows.{Declared, NeverFails, failing, kind_by, type_of_reg, edge_of_kind, edge_of_prim}
 use Rattle.ir_core.specs.Lower.{kind_of_type, variable_of, argument_in, lines_from, lowered_as, name_in, lower}
 use Rattle.ir_core.specs.Shape.{BlockFits, BlocksFit, FuncFits, FuncsFit, Shape}
 use Rattle.ir_lowering.proofs.ListLemmas.{get_map}
@@ -130,37 +137,30 @@ named (prim.Int64 int64.Str) = refl
 named (prim.Bool bool.Not) = refl
 named (prim.Bool bool.Str) = refl
 named (prim.Str str.Literal) = refl
+named (prim.Int64 int64.FloorDivide) = refl
+named (prim.Int64 int64.Remainder) = refl
+named (prim.Int64 int64.Lshift) = refl
+named (prim.Int64 int64.Rshift) = refl
+named (prim.Global global.Get) = refl
+named (prim.Global global.Set) = refl
+named (prim.Global global.Clear) = refl
+named (prim.Exc exc.New) = refl
+named (prim.Exc exc.Str) = refl
+named (prim.Err err.SetObject) = refl
+named (prim.Err err.Unbound) = refl
+named (prim.Err err.Occurred) = refl
+named (prim.Err err.Matches) = refl
+named (prim.Err err.Catch) = refl
 named (prim.Io io.Write) = refl
 
-pub waits_not : (q : Primitive) → (row_of q).while_pending ≡ false
-waits_not (prim.Int64 int64.Add) = refl
-waits_not (prim.Int64 int64.Subtract) = refl
-waits_not (prim.Int64 int64.Multiply) = refl
-waits_not (prim.Int64 int64.Negate) = refl
-waits_not (prim.Int64 int64.FromBool) = refl
-waits_not (prim.Int64 int64.Eq) = refl
-waits_not (prim.Int64 int64.Lt) = refl
-waits_not (prim.Int64 int64.Le) = refl
-waits_not (prim.Int64 int64.Str) = refl
-waits_not (prim.Bool bool.Not) = refl
-waits_not (prim.Bool bool.Str) = refl
-waits_not (prim.Str str.Literal) = refl
-waits_not (prim.Io io.Write) = refl
+-- while no exception is pending every primitive may stand
+pub may_stand_calm : (b stands : Bool) (s : MachineState) (go : Next) → s.pending ≡ None → if_may_stand b s stands go ≡ go
+may_stand_calm b true s go calm = refl
+may_stand_calm b false s go calm = ap (λ o. if_calm b s o go) calm
 
-pub no_edge : (q : Primitive) (regs : Declared) (to : Option Reg) → edge_of_prim regs to q ≡ NoEdge
-no_edge (prim.Int64 int64.Add) regs to = refl
-no_edge (prim.Int64 int64.Subtract) regs to = refl
-no_edge (prim.Int64 int64.Multiply) regs to = refl
-no_edge (prim.Int64 int64.Negate) regs to = refl
-no_edge (prim.Int64 int64.FromBool) regs to = refl
-no_edge (prim.Int64 int64.Eq) regs to = refl
-no_edge (prim.Int64 int64.Lt) regs to = refl
-no_edge (prim.Int64 int64.Le) regs to = refl
-no_edge (prim.Int64 int64.Str) regs to = refl
-no_edge (prim.Bool bool.Not) regs to = refl
-no_edge (prim.Bool bool.Str) regs to = refl
-no_edge (prim.Str str.Literal) regs to = refl
-no_edge (prim.Io io.Write) regs to = refl
+pub no_edge : (q : Primitive) (regs : Declared) (to : Option Reg) → failing q ≡ NeverFails → edge_of_prim regs to q ≡ NoEdge
+no_edge q regs to never =
+    ap (λ z. edge_of_kind (kind_by z (option_and_then (type_of_reg regs) to)) to) never
 
 -- ---- arguments of rows
 abbrev pub HasKind : Declared → Kind → Reg → Type 0
@@ -190,6 +190,50 @@ module _ (code : Code) (regs : Declared) where
   two_variables all k l h g (arg.Text n ∷ rest) e = absurd (cc)
   two_variables all k l h g (arg.Global n ∷ rest) e = absurd (cc)
   two_variables all k l h g (arg.Class n ∷ rest) e = absurd (cc)
+
+pub one_text : (code : _) (vars : _) (all : List CArg) (args : List PArg) → args_fit code vars all (TakesText ∷ []) (map argument_in args) ≡ true → (text : List ℕ) × (args ≡ arg.Text text ∷ [])
+one_text code vars all [] e = absurd (cc)
+one_text code vars all (arg.Text t ∷ []) e = (t, refl)
+one_text code vars all (arg.Var r ∷ rest) e = absurd (cc)
+one_text code vars all (arg.Number n ∷ rest) e = absurd (cc)
+one_text code vars all (arg.Global n ∷ rest) e = absurd (cc)
+one_text code vars all (arg.Class n ∷ rest) e = absurd (cc)
+one_text code vars all (arg.Text t ∷ x ∷ xs) e = absurd (cc)
+
+pub no_arguments : (code : _) (vars : _) (all : List CArg) (args : List PArg) → args_fit code vars all [] (map argument_in args) ≡ true → args ≡ []
+no_arguments code vars all [] e = refl
+no_arguments code vars all (a ∷ rest) e = absurd (cc)
+
+pub one_global : (code : _) (vars : _) (all : List CArg) (args : List PArg) → args_fit code vars all (TakesGlobal ∷ []) (map argument_in args) ≡ true → (name : List ℕ) × (args ≡ arg.Global name ∷ []) × (is_some (kind_of_global code name) ≡ true)
+one_global code vars all [] e = absurd (cc)
+one_global code vars all (arg.Global n ∷ []) e = (n, refl, (and_true (is_some (kind_of_global code n)) true e).0)
+one_global code vars all (arg.Var r ∷ rest) e = absurd (cc)
+one_global code vars all (arg.Number n ∷ rest) e = absurd (cc)
+one_global code vars all (arg.Text n ∷ rest) e = absurd (cc)
+one_global code vars all (arg.Class n ∷ rest) e = absurd (cc)
+one_global code vars all (arg.Global n ∷ x ∷ xs) e =
+    let f = (and_true (is_some (kind_of_global code n)) false e).1 in absurd (cc)
+
+one_stolen : (code : _) (vars : _) (all : List CArg) (args : List PArg) → args_fit code vars all (Steals OfGlobal Anything ∷ []) (map argument_in args) ≡ true → (r : Reg) × (args ≡ arg.Var r ∷ []) × (kind_fits code all OfGlobal (kind_at vars r.0) ≡ true)
+one_stolen code vars all [] e = absurd (cc)
+one_stolen code vars all (arg.Var r ∷ []) e = (r, refl, (and_true (kind_fits code all OfGlobal (kind_at vars r.0)) true e).0)
+one_stolen code vars all (arg.Global n ∷ rest) e = absurd (cc)
+one_stolen code vars all (arg.Number n ∷ rest) e = absurd (cc)
+one_stolen code vars all (arg.Text n ∷ rest) e = absurd (cc)
+one_stolen code vars all (arg.Class n ∷ rest) e = absurd (cc)
+one_stolen code vars all (arg.Var r ∷ x ∷ xs) e =
+    let f = (and_true (kind_fits code all OfGlobal (kind_at vars r.0)) false e).1 in absurd (cc)
+
+pub global_and_stolen : (code : _) (vars : _) (all : List CArg) (args : List PArg) → args_fit code vars all (TakesGlobal ∷ Steals OfGlobal Anything ∷ []) (map argument_in args) ≡ true → (name : List ℕ) × (r : Reg) × (args ≡ arg.Global name ∷ arg.Var r ∷ []) × (is_some (kind_of_global code name) ≡ true) × (kind_fits code all OfGlobal (kind_at vars r.0) ≡ true)
+global_and_stolen code vars all [] e = absurd (cc)
+global_and_stolen code vars all (arg.Global n ∷ rest) e =
+    let both = and_true (is_some (kind_of_global code n)) (args_fit code vars all (Steals OfGlobal Anything ∷ []) (map argument_in rest)) e in
+    let more = one_stolen code vars all rest both.1 in
+    (n, more.0, ap (λ z. arg.Global n ∷ z) more.1, both.0, more.2)
+global_and_stolen code vars all (arg.Var r ∷ rest) e = absurd (cc)
+global_and_stolen code vars all (arg.Number n ∷ rest) e = absurd (cc)
+global_and_stolen code vars all (arg.Text n ∷ rest) e = absurd (cc)
+global_and_stolen code vars all (arg.Class n ∷ rest) e = absurd (cc)
 
 -- ---- of the blocks
 func_at : (fs : List Func) (n : ℕ) (f : Func) → FuncsFit fs → slice_get fs n ≡ Some f → FuncFits f

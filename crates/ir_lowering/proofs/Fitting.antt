@@ -1,12 +1,12 @@
 -- What registers hold, as words of the machine, where no reference is held.
-use Rattle.std.proofs.Common.{◌≡◌, ◌≢◌, refl, sym, ◌∙◌, ap, subst, ℕ, zero, suc, ◌/◌, ◌%◌, ◌<◌, arith, Bool, true, false, cond, List, [], ◌∷◌, ◌++◌, length, Some, None, drop, eqb-true, ◌⊎◌, inl, inr}
+use Rattle.std.proofs.Common.{◌≡◌, ◌≢◌, refl, sym, ◌∙◌, ap, subst, ℕ, zero, suc, ◌/◌, ◌%◌, ◌<◌, arith, Bool, true, false, cond, List, [], ◌∷◌, ◌++◌, length, Option, Some, None, drop, eqb-true, ◌⊎◌, inl, inr}
 use Rattle.std.specs.Prelude.{ℤ, pos, negsuc, ◌==◌, nat_eq, slice_get, slice_set, map}
 use Rattle.std.proofs.lemmas.Bool.{eq-eqb}
 use Rattle.value_core.specs.Value.{Value, IntVal, BoolVal, NoneVal}
 use Rattle.c_core.specs.Machine.{Word, ShortInt, TaggedError, Native, CharWord, NoneObject, TrueObject, FalseObject, NoObject, MachineState, refs_of}
 use Rattle.c_core.specs.Arguments as m
 use Rattle.c_core.specs.Functions.{error_word}
-use Rattle.c_core.specs.Step.{Next, literal_word, truth_word, equals_error, if_there}
+use Rattle.c_core.specs.Step.{Next, literal_word, shared, truth_word, equals_error, if_there}
 use Rattle.c_core.specs.Step as step
 use Rattle.ir_core.specs.declared.code.RType.{RType}
 use Rattle.ir_core.specs.declared.code.RType.TheVariants.{Int, I64, Bool as BoolType, Ref}
@@ -65,6 +65,27 @@ no_refs t h y none = refl
 no_refs t h y object_true = refl
 no_refs t h y object_false = refl
 
+pub shared_none : (t : RType) (h : Held) (y : Word) → Fits t h y → (s : MachineState) → shared y s ≡ s
+shared_none t h y tagged_error s = refl
+shared_none t h y (short n) s = refl
+shared_none t h y (native n) s = refl
+shared_none t h y char_error s = refl
+shared_none t h y char_true s = refl
+shared_none t h y char_false s = refl
+shared_none t h y no_object s = refl
+shared_none t h y none s = refl
+shared_none t h y object_true s = refl
+shared_none t h y object_false s = refl
+
+pub word_is : (t : RType) (v : Value) (y : Word) → Fits t (Holds v) y → m.word_in (kind_of_type t) (m.Plain y) ≡ Some y
+word_is t v y (short n) = refl
+word_is t v y (native n) = refl
+word_is t v y char_true = refl
+word_is t v y char_false = refl
+word_is t v y none = refl
+word_is t v y object_true = refl
+word_is t v y object_false = refl
+
 pub same_error : (t : RType) (h : Held) (y : Word) → Fits t h y → equals_error y ≡ is_error t h
 same_error t h y tagged_error = refl
 same_error t h y (short n) = refl
@@ -77,6 +98,20 @@ same_error t h y no_object = refl
 same_error t h y none = refl
 same_error t h y object_true = refl
 same_error t h y object_false = refl
+
+-- what is tested as an error value is one
+pub error_held : (t : RType) (h : Held) (y : Word) → Fits t h y → is_error t h ≡ true → h ≡ error_of t
+error_held t h y tagged_error e = refl
+error_held t h y (short n) e = absurd (cc)
+error_held t h y (native (pos n)) e = absurd (cc)
+error_held t h y (native (negsuc n)) e = ap (λ k. Holds (IntVal (negsuc k))) (eqb-true n 112 e)
+error_held t h y char_error e = refl
+error_held t h y char_true e = absurd (cc)
+error_held t h y char_false e = absurd (cc)
+error_held t h y no_object e = refl
+error_held t h y none e = absurd (cc)
+error_held t h y object_true e = absurd (cc)
+error_held t h y object_false e = absurd (cc)
 
 pub value_word : (t : RType) (v : Value) (y : Word) → Fits t (Holds v) y → m.is_value_of (kind_of_type t) y ≡ true
 value_word t v y (short n) = refl
@@ -233,3 +268,16 @@ as_bool t e h y no_object = absurd (cc)
 as_bool t e h y none = absurd (cc)
 as_bool t e h y object_true = absurd (cc)
 as_bool t e h y object_false = absurd (cc)
+
+-- ---- globals
+-- a global of a type is unset, or holds a value and its word
+abbrev pub GlobalFits : RType → Option Value → Option Word → Type 0
+GlobalFits t None None = Unit {0}
+GlobalFits t None (Some y) = ⊥
+GlobalFits t (Some v) None = ⊥
+GlobalFits t (Some v) (Some y) = Fits t (Holds v) y
+
+abbrev pub GlobalsFit : Declared → List (Option Value) → List (Option Word) → Type 0
+GlobalsFit [] [] [] = Unit {0}
+GlobalsFit (g ∷ gs) (v ∷ vs) (y ∷ ys) = GlobalFits g.1 v y × GlobalsFit gs vs ys
+GlobalsFit _ _ _ = ⊥

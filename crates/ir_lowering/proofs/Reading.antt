@@ -28,7 +28,8 @@ use Rattle.ir_core.specs.Rows.{Declared, type_of_reg}
 use Rattle.ir_core.specs.Effects.{Argument, Given}
 use Rattle.ir_core.specs.Meaning.{Frame, value_of, argument, arguments, registers_of}
 use Rattle.ir_core.specs.Lower.{kind_of_type, variable_of, argument_in, lower}
-use Rattle.ir_lowering.specs.Prints.{Prints, AreOtherArguments}
+use Rattle.ir_lowering.specs.Prints.{AreOtherArguments}
+use Rattle.ir_lowering.specs.PrintsOrFails.{PrintsOrFails}
 use Rattle.ir_lowering.proofs.Fitting.{Fits, native, char_fits, there_is, value_word, as_int, as_bool}
 use Rattle.ir_lowering.proofs.Facts.{has_type, HasKind, one_variable, two_variables}
 use Rattle.ir_lowering.proofs.Relation.{FrameAt, registers_here}
@@ -64,7 +65,7 @@ module _ (b : Bool) (s : MachineState) where
       ap (λ o. steps.if_some b s fault.Kind o (λ z. if_true b s (is_value_of k z) (if_there b s z (λ a. go a l)))) e
       ∙ (ap (λ c. if_true b s c (if_there b s y (λ a. go a l))) (value_word t v y fits) ∙ there_is t (Holds v) y fits b s (λ a. go a l))
 
-module _ (b : Bool) (p : Program) (prints : Prints p) (f : Frame) (s : MachineState) (ops : List (Op × ℕ)) (a : FrameAt b p prints f s.top ops) where
+module _ (b : Bool) (p : Program) (prints : PrintsOrFails p) (f : Frame) (s : MachineState) (ops : List (Op × ℕ)) (a : FrameAt b p prints f s.top ops) where
   abbrev D : Declared
   D = registers_of p f.fn
 

@@ -1,15 +1,15 @@
 -- How a run of a program and a run of its C text stand to each other: at each step of the first, the second stands at the line of
 -- what the first does next, and its words are what the registers hold.
-use Rattle.std.proofs.Common.{◌≡◌, refl, sym, ◌∙◌, ap, subst, ℕ, suc, ◌+◌, Bool, true, false, List, [], ◌∷◌, ◌++◌, length, replicate, Option, Some, None, drop, ◌⊎◌}
-use Rattle.std.specs.Prelude.{slice_get, map}
+use Rattle.std.proofs.Common.{◌≡◌, refl, sym, ◌∙◌, ap, subst, ℕ, suc, ◌+◌, Bool, true, false, List, [], ◌∷◌, ◌++◌, length, Option, Some, None, drop}
+use Rattle.std.specs.Prelude.{slice_get}
 use Rattle.std.specs.Option.{option_map, option_and_then}
-use Rattle.value_core.specs.Ending.{Ending, Done, Cut}
+use Rattle.value_core.specs.Ending.{Ending, Done, Raised, Cut, Over, Broken}
+use Rattle.value_core.specs.Exceptions.{Thrown}
 use Rattle.c_core.specs.declared.code.Line.{Line}
 use Rattle.c_core.specs.declared.code.Line.TheVariants.{Label}
 use Rattle.c_core.specs.declared.code.Kind.{Kind}
 use Rattle.c_core.specs.declared.code.CFunc.{CFunc}
 use Rattle.c_core.specs.declared.code.Code.{Code}
-use Rattle.c_core.specs.Cells.{Cells}
 use Rattle.c_core.specs.Ledgers.{Ledger}
 use Rattle.c_core.specs.Functions.{label_places}
 use Rattle.c_core.specs.Machine.{Word, Content, MachineState}
@@ -27,26 +27,18 @@ use Rattle.ir_core.specs.Effects.{World}
 use Rattle.ir_core.specs.Meaning.{Frame, Waiting, Config, Runs, Ended, Stuck, next, to_block, item_at, registers_of, declared_of}
 use Rattle.ir_core.specs.Lower.{op_lines, end_lines, label_of, lines_from, line_of, lowered_as, name_in, lower, variable_of, kind_of_type}
 use Rattle.ir_core.proofs.PlaceLemmas.{left_goes_on, left_ends}
-use Rattle.ir_lowering.specs.Prints.{OpsPrint, Prints}
+use Rattle.ir_lowering.specs.PrintsOrFails.{OpsPrintOrFail, PrintsOrFails}
 use Rattle.ir_lowering.proofs.ListLemmas.{get_first, drop_next, get_map}
 use Rattle.ir_lowering.proofs.LayoutLemmas.{place_of, block_at, function_at}
-use Rattle.ir_lowering.proofs.Fitting.{RegsFit}
+use Rattle.ir_lowering.proofs.CellLemmas.{CellsAt}
+use Rattle.ir_lowering.proofs.Fitting.{RegsFit, GlobalsFit}
 
--- ---- cells and ledgers
-abbrev pub AreGone : Cells Content → Type 0
-AreGone [] = Unit {0}
-AreGone (None ∷ cells) = AreGone cells
-AreGone (Some cell ∷ cells) = ⊥
-
+-- ---- ledgers
 abbrev pub NoLedgers : List machines.Frame → Type 0
 NoLedgers [] = Unit {0}
 NoLedgers (f ∷ fs) = (f.ledger ≡ []) × NoLedgers fs
 
--- between two operations a checked run has no cell, and owns none
-abbrev pub Gone : Bool → Cells Content → Type 0
-Gone false cells = Unit {0}
-Gone true cells = AreGone cells
-
+-- between two operations a checked run owns no cell
 abbrev pub Free : Bool → Ledger → Type 0
 Free false ledger = Unit {0}
 Free true ledger = ledger ≡ []
@@ -55,7 +47,16 @@ abbrev pub FreeBelow : Bool → List machines.Frame → Type 0
 FreeBelow false fs = Unit {0}
 FreeBelow true fs = NoLedgers fs
 
-module _ (b : Bool) (p : Program) (prints : Prints p) where
+-- ---- ends
+-- a run ends by itself or is cut while no exception is pending, and is left by the one that is
+abbrev pub EndsBy : Ending → Option Thrown → Type 0
+EndsBy Done o = o ≡ None
+EndsBy (Raised e) o = o ≡ Some e
+EndsBy Cut o = o ≡ None
+EndsBy Over o = ⊥
+EndsBy Broken o = ⊥
+
+module _ (b : Bool) (p : Program) (prints : PrintsOrFails p) where
   abbrev pub code : Code
   code = lower p
 
@@ -75,7 +76,7 @@ module _ (b : Bool) (p : Program) (prints : Prints p) where
     pub fits : RegsFit func.regs (prints.texts f.fn) f.regs fr.vars
 
   abbrev pub PrintsAt : ℕ → List (Op × ℕ) → Type 0
-  PrintsAt fn ops = OpsPrint (prints.texts fn) (length p.funcs) ops
+  PrintsAt fn ops = OpsPrintOrFail (prints.texts fn) (length p.funcs) ops
 
   -- a frame that waits stands behind its call
   pub record WaitsAt (callee : ℕ) (into : Option ℕ) (k : Waiting) (fr : machines.Frame) : Type 0 where
@@ -94,14 +95,11 @@ module _ (b : Bool) (p : Program) (prints : Prints p) where
   StackAt callee into (k ∷ ks) (fr ∷ frs) = WaitsAt callee into k fr × StackAt k.frame.fn fr.into ks frs
 
   pub record WorldAt (w : World) (s : MachineState) : Type 0 where
-    pub calm : w.pending ≡ None
-    pub none_pending : s.pending ≡ None
     pub output : s.output ≡ w.output
     pub turns : s.turns ≡ w.turns
     pub store : w.store ≡ []
     pub made : s.made ≡ []
-    pub globals : s.globals ≡ map (λ g. None) code.globals
-    pub variables : w.globals ≡ replicate (length p.globals) None
+    pub globals : GlobalsFit p.globals w.globals s.globals
 
   pub record At (f : Frame) (below : List Waiting) (w : World) (s : MachineState) : Type 0 where
     pub ops : List (Op × ℕ)
@@ -109,24 +107,22 @@ module _ (b : Bool) (p : Program) (prints : Prints p) where
     pub printed : PrintsAt f.fn ops
     pub stack : StackAt f.fn s.top.into below s.below
     pub world : WorldAt w s
-    pub gone : Gone b s.cells
+    pub cells : CellsAt b w.pending s.pending s.cells
     pub free : Free b s.top.ledger
     pub free_below : FreeBelow b s.below
 
   -- a state in which the run of the C text may end where the program does
   pub record EndsAt (e : Ending) (w : World) (s : MachineState) : Type 0 where
-    pub by_itself : (e ≡ Done) ⊎ (e ≡ Cut)
-    pub none_pending : s.pending ≡ None
+    pub by_pending : EndsBy e w.pending
     pub output : s.output ≡ w.output
     pub store : w.store ≡ []
     pub made : s.made ≡ []
-    pub globals : s.globals ≡ map (λ g. None) code.globals
-    pub variables : w.globals ≡ replicate (length p.globals) None
-    pub gone : Gone b s.cells
+    pub globals : GlobalsFit p.globals w.globals s.globals
+    pub cells : CellsAt b w.pending s.pending s.cells
 
-  pub ends_at : (e : Ending) (w : World) (s : MachineState) → WorldAt w s → Gone b s.cells → (e ≡ Done) ⊎ (e ≡ Cut) → EndsAt e w s
-  ends_at e w s at gone way =
-      record { by_itself = way; none_pending = at.none_pending; output = at.output; store = at.store; made = at.made; globals = at.globals; variables = at.variables; gone = gone }
+  pub ends_at : (e : Ending) (w : World) (s : MachineState) → WorldAt w s → CellsAt b w.pending s.pending s.cells → EndsBy e w.pending → EndsAt e w s
+  ends_at e w s at cells way =
+      record { by_pending = way; output = at.output; store = at.store; made = at.made; globals = at.globals; cells = cells }
 
   -- some steps of the machine, perhaps none
   pub data Leads : Next → Next → Type 0 where
@@ -216,8 +212,8 @@ module _ (b : Bool) (p : Program) (prints : Prints p) where
       record { func = func; block = block; rest = rest; same = same; there = there; here = here; left = refl; lines = lines; fits = fits }
 
   -- the start of a function
-  pub first_at : (f : Frame) (below : List Waiting) (w : World) (s : MachineState) (func : Func) (block : Block) → s.top.func ≡ f.fn → slice_get p.funcs f.fn ≡ Some func → slice_get func.blocks 0 ≡ Some block → s.top.place ≡ 0 → RegsFit func.regs (prints.texts f.fn) f.regs s.top.vars → StackAt f.fn s.top.into below s.below → WorldAt w s → Gone b s.cells → Free b s.top.ledger → FreeBelow b s.below → At (record f { block = 0; place = 0 }) below w s
-  first_at f below w s func block same there here place fits stack world gone free free_below =
+  pub first_at : (f : Frame) (below : List Waiting) (w : World) (s : MachineState) (func : Func) (block : Block) → s.top.func ≡ f.fn → slice_get p.funcs f.fn ≡ Some func → slice_get func.blocks 0 ≡ Some block → s.top.place ≡ 0 → RegsFit func.regs (prints.texts f.fn) f.regs s.top.vars → StackAt f.fn s.top.into below s.below → WorldAt w s → CellsAt b w.pending s.pending s.cells → Free b s.top.ledger → FreeBelow b s.below → At (record f { block = 0; place = 0 }) below w s
+  first_at f below w s func block same there here place fits stack world cells free free_below =
       let at = block_at p func.blocks 0 block here in
       record {
         ops = block.ops;
@@ -225,14 +221,14 @@ module _ (b : Bool) (p : Program) (prints : Prints p) where
         printed = prints.ops f.fn 0 func block there here;
         stack = stack;
         world = world;
-        gone = gone;
+        cells = cells;
         free = free;
         free_below = free_below;
       }
 
   -- the place of another block
-  pub enters : (f : Frame) (below : List Waiting) (w : World) (s : MachineState) (func : Func) (k : ℕ) (block : Block) → s.top.func ≡ f.fn → slice_get p.funcs f.fn ≡ Some func → slice_get func.blocks (suc k) ≡ Some block → s.top.place ≡ place_of p 0 func.blocks (suc k) → RegsFit func.regs (prints.texts f.fn) f.regs s.top.vars → StackAt f.fn s.top.into below s.below → WorldAt w s → Gone b s.cells → Free b s.top.ledger → FreeBelow b s.below → (c : Config) → c ≡ to_block f (suc k) below w → Arrives (Goes s) c
-  enters f below w s func k block same there here place fits stack world gone free free_below c is =
+  pub enters : (f : Frame) (below : List Waiting) (w : World) (s : MachineState) (func : Func) (k : ℕ) (block : Block) → s.top.func ≡ f.fn → slice_get p.funcs f.fn ≡ Some func → slice_get func.blocks (suc k) ≡ Some block → s.top.place ≡ place_of p 0 func.blocks (suc k) → RegsFit func.regs (prints.texts f.fn) f.regs s.top.vars → StackAt f.fn s.top.into below s.below → WorldAt w s → CellsAt b w.pending s.pending s.cells → Free b s.top.ledger → FreeBelow b s.below → (c : Config) → c ≡ to_block f (suc k) below w → Arrives (Goes s) c
+  enters f below w s func k block same there here place fits stack world cells free free_below c is =
       let at = block_at p func.blocks (suc k) block here in
       let lines : List Line = lines_from p 0 func.blocks in
       let body : List Line = op_lines p block.ops ++ (end_lines label_of (suc k) block.last ++ at.0) in
@@ -244,8 +240,8 @@ module _ (b : Bool) (p : Program) (prints : Prints p) where
         frame = inside f (next_line s) func (suc k) block at.0 same there here (drop_next s.top.place lines Label body first) fits;
         printed = prints.ops f.fn (suc k) func block there here;
         stack = stack;
-        world = record { calm = world.calm; none_pending = world.none_pending; output = world.output; turns = world.turns; store = world.store; made = world.made; globals = world.globals; variables = world.variables };
-        gone = gone;
+        world = record { output = world.output; turns = world.turns; store = world.store; made = world.made; globals = world.globals };
+        cells = cells;
         free = free;
         free_below = free_below;
       })

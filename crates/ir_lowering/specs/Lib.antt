@@ -1,2 +1,3 @@
 pub mod Prints
+pub mod PrintsOrFails
 pub mod Follows

@@ -4,8 +4,6 @@
 use Rattle.std.specs.Prelude.{◌≡◌, ◌<◌, ℕ, suc, Bool, true, false, List, [], ◌∷◌, length, Some, None, slice_get}
 use Rattle.c_core.specs.declared.primitive.Primitive.{Primitive}
 use Rattle.c_core.specs.declared.primitive.Primitive.TheVariants as prim
-use Rattle.c_core.specs.declared.primitive.Int64Prim.TheVariants as int64
-use Rattle.c_core.specs.declared.primitive.BoolPrim.TheVariants as bool
 use Rattle.c_core.specs.declared.primitive.IoPrim.TheVariants as io
 use Rattle.ir_core.specs.declared.code.Reg.{Reg}
 use Rattle.ir_core.specs.declared.code.PArg.{PArg}
@@ -17,21 +15,7 @@ use Rattle.ir_core.specs.declared.code.Last.TheVariants.{Goto, If, IfError, Retu
 use Rattle.ir_core.specs.declared.code.Block.{Block}
 use Rattle.ir_core.specs.declared.code.Func.{Func}
 use Rattle.ir_core.specs.declared.code.Program.{Program}
-
--- whether a primitive makes a text
-abbrev pub makes_text : Primitive → Bool
-makes_text (prim.Int64 int64.Str) = true
-makes_text (prim.Bool bool.Str) = true
-makes_text (prim.Str q) = true
-makes_text _ = false
-
--- whether it answers a number or a truth
-abbrev pub makes_number : Primitive → Bool
-makes_number (prim.Int64 int64.Str) = false
-makes_number (prim.Int64 q) = true
-makes_number (prim.Bool bool.Str) = false
-makes_number (prim.Bool q) = true
-makes_number _ = false
+use Rattle.ir_core.specs.Rows.{computes, makes_text}
 
 -- a function's registers for texts, by number
 module _ (texts : ℕ → Bool) where
@@ -65,7 +49,7 @@ module _ (texts : ℕ → Bool) (functions : ℕ) where
   IsApart (Move r s) = IsOther texts r × IsOther texts s
   IsApart (Lit r l) = IsOther texts r
   IsApart (Prim None q args) = ⊥
-  IsApart (Prim (Some r) q args) = (makes_number q ≡ true) × IsOther texts r × AreOtherArguments texts args
+  IsApart (Prim (Some r) q args) = (computes q ≡ true) × IsOther texts r × AreOtherArguments texts args
   IsApart (Call r g args) = (suc g < functions) × IsOther texts r × AreOthers texts args
   IsApart (Virtual r o n args) = ⊥
   IsApart (TraitCall r o t n args) = ⊥
