@@ -1,6 +1,6 @@
--- What is asked of a module that is built: each function has native integers and bools as parameters, no other variables, and a
--- result that is one of them or None; its body and the module's own statements suit; and names are as C text wants them.
-use Rattle.std.specs.Prelude.{◌≡◌, ◌⊎◌, ℕ, true, false, List, [], length, map, Some, None, slice_get}
+-- What is asked of a module that is built: each function has native integers and bools as variables, and a result that is
+-- one of them or None; its body and the module's own statements suit; and names are as C text wants them.
+use Rattle.std.specs.Prelude.{◌≡◌, ◌≤◌, ◌⊎◌, ℕ, true, false, List, [], length, map, Some, None, slice_get}
 use Rattle.std.specs.List.{list_all}
 use Rattle.c_core.specs.WellFormed.{is_identifier, names_differ}
 use Rattle.py_typed.specs.Fits.{is_nothing}
@@ -15,7 +15,7 @@ variable_names vs = map (λ v. v.0) vs
 
 pub record FunctionSuits (m : TypedModule) (f : TypedFunc) : Type 0 where
   pub name : is_identifier f.name ≡ true
-  pub parameters : length f.locals ≡ f.params
+  pub parameters : f.params ≤ length f.locals
   pub scalars : (i : ℕ) (v : Variable) → slice_get f.locals i ≡ Some v → is_scalar v.1 ≡ true
   pub identifiers : list_all is_identifier (variable_names f.locals) ≡ true
   pub differ : names_differ (variable_names f.locals) ≡ true

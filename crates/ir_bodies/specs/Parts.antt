@@ -1,17 +1,22 @@
 -- What the parts of the code of statements are, one behind another.
-use Rattle.std.specs.Prelude.{◌≡◌, ℕ, List, [], ◌∷◌, ◌++◌, length, Option, Some, None}
+use Rattle.std.specs.Prelude.{◌≡◌, ◌<◌, ◌≤◌, ℕ, List, [], ◌∷◌, ◌++◌, length, Option, Some, None, slice_get}
 use Rattle.py_typed.specs.Expressions.{TypedExpr, type_of}
-use Rattle.py_typed.specs.Statements.{TypedTarget, LocalTarget}
+use Rattle.py_typed.specs.Statements.{Variable, TypedTarget, LocalTarget}
 use Rattle.ir_core.specs.declared.code.Last.TheVariants.{Goto, If, Unreachable}
 use Rattle.ir_core.specs.declared.code.Op.TheVariants.{Turn}
 use Rattle.ir_core.specs.Building.{Building, with_last}
+use Rattle.ir_core.specs.declared.code.RType.TheVariants.{Bool}
+use Rattle.ir_frames.specs.declared.frame.Frame.{Frame}
 use Rattle.ir_frames.specs.Settings.{Setting, rtype_of}
+use Rattle.ir_frames.specs.Placing.{HasType}
+use Rattle.ir_frames.specs.Matching.{flag_of, HasRoom}
 use Rattle.ir_frames.specs.Calling.{Pushes, Closes}
 use Rattle.ir_frames.specs.Computing.{Shows, Computes}
 use Rattle.ir_statements.specs.declared.ways.Way.TheVariants.{Join}
 use Rattle.ir_statements.specs.declared.ways.Exit.{Exit}
 use Rattle.ir_statements.specs.declared.ways.Plan.{Plan}
 use Rattle.ir_statements.specs.Means.{means, means_returned, returned_type}
+use Rattle.ir_statements.specs.Simple.{Sets}
 use Rattle.ir_statements.specs.Runs.{Patching}
 use Rattle.ir_statements.specs.Ways.{planned, left}
 use Rattle.ir_bodies.specs.declared.branch.Test.{Test}
@@ -24,6 +29,16 @@ IsLocal target = ⊥
 abbrev pub IsOneLocal : List TypedTarget → Type 0
 IsOneLocal (target ∷ []) = IsLocal target
 IsOneLocal targets = ⊥
+
+-- the flag of a variable is there, where it is no parameter
+abbrev pub HasFlag : Frame → ℕ → Building → Type 0
+HasFlag frame k b =
+    frame.locals.params ≤ k → (flag_of frame.locals k < frame.locals.top) × HasType b (flag_of frame.locals k) Bool
+
+-- a value in a register is put into the variable of a number, whatever its type is
+abbrev pub SetsVariable : Frame → ℕ → ℕ → Building → Building → Type 0
+SetsVariable frame k r old new =
+    (x : Setting) (v : Variable) → x.frame ≡ frame → HasRoom x old → slice_get x.variables k ≡ Some v → HasType old r (rtype_of v.1) → Sets x k v.1 r old new
 
 -- the value of a return, or None, was computed
 abbrev pub ComputesReturned : Setting → Option TypedExpr → Building → Building → ℕ → Type 0

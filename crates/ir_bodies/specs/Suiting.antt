@@ -1,5 +1,5 @@
 -- What is asked of a statement that is built: its form is one of those that are compiled, and its parts have the types of a well
--- typed one, in a function whose variables are its parameters.
+-- typed one.
 use Rattle.std.specs.Prelude.{◌≡◌, Bool, true, List, [], ◌∷◌, Option, Some, None, slice_get}
 use Rattle.py_typed.specs.Sorts as sort
 use Rattle.py_typed.specs.Sorts.{Sort}

@@ -36,7 +36,6 @@ fn emit_printed(
 ) -> Result<Printed, Memory>
     requires suits { Operand (typed_module checked.now) (map variable locals.now) (typed_expr e.now) }
     requires room { HasRoom (setting checked.now locals.now frame) b.old }
-    requires parameters { length locals.now ≤ frame.locals.params }
     ensures kept { Extends b.old b.new }
     ensures computed { IfOk result (λ q. ComputesPrinted (setting checked.now locals.now frame) (one_value (means (setting checked.now locals.now frame) (typed_expr e.now))) b.old b.new (q ∷ [])) }
     ensures shaped { Keeps b.old b.new }
@@ -63,7 +62,6 @@ fn emit_printing(
 ) -> Result<(), Memory>
     requires suits { PrintSuits (typed_module checked.now) (map variable locals.now) None (exprs_of (map typed_expr values.now)) }
     requires room { HasRoom (setting checked.now locals.now frame) b.old }
-    requires parameters { length locals.now ≤ frame.locals.params }
     ensures kept { Extends b.old b.new }
     ensures works { OnOk result ((gives : Option RType) → Works (setting checked.now locals.now frame) gives (printed (means_all (setting checked.now locals.now frame) (exprs_of (map typed_expr values.now)))) b.old b.new []) }
     ensures shaped { Keeps b.old b.new }
@@ -85,7 +83,6 @@ pub(crate) fn emit_alone(
 ) -> Result<(), Memory>
     requires suits { DoSuits (typed_module checked.now) (map variable locals.now) None (typed_expr e.now) }
     requires room { HasRoom (setting checked.now locals.now frame) b.old }
-    requires parameters { length locals.now ≤ frame.locals.params }
     ensures kept { Extends b.old b.new }
     ensures works { OnOk result ((gives : Option RType) → Works (setting checked.now locals.now frame) gives (means_alone (setting checked.now locals.now frame) (typed_expr e.now)) b.old b.new []) }
     ensures shaped { Keeps b.old b.new }

@@ -41,7 +41,6 @@ pub(crate) fn emit_split(
 ) -> Result<Test, Memory>
     requires suits { Suits (typed_module checked.now) (map variable locals.now) (typed_expr e.now) }
     requires room { HasRoom (setting checked.now locals.now frame) b.old }
-    requires parameters { length locals.now ≤ frame.locals.params }
     ensures kept { Extends b.old b.new }
     ensures splits { IfOk result (λ t. Splits (setting checked.now locals.now frame) (typed_expr e.now) b.old b.new t) }
     ensures shaped { Keeps b.old b.new }

@@ -8,17 +8,17 @@ ghost use Rattle.ir_core.specs.Building.{Extends};
 ghost use Rattle.ir_frames.specs.Settings.{setting, rtype_of};
 ghost use Rattle.ir_frames.specs.Matching.{HasRoom};
 ghost use Rattle.ir_frames.specs.Shaped.{Keeps};
-ghost use Rattle.ir_frames.specs.Kinds.{IsAmong, KeepsKindsIf, Surrounding, HasKinds};
+ghost use Rattle.ir_frames.specs.Kinds.{IsAmong, AreAlike, KeepsKindsIf, Surrounding, HasKinds};
 ghost use Rattle.ir_expressions.specs.Compiled.{is_scalar, is_built};
 ghost use Rattle.ir_expressions.specs.Suiting.{Suits, Operand};
 ghost use Rattle.ir_statements.specs.Means.{means_assignment, means_update, means_return, returned_type};
 ghost use Rattle.ir_statements.specs.Runs.{Works};
 ghost use Rattle.ir_bodies.specs.Suiting.{IsVariable, IsOnly, ReturnSuits};
 ghost use Rattle.ir_bodies.specs.Kinds.{IsAround};
-ghost use Rattle.ir_bodies.specs.Parts.{IsLocal, IsOneLocal, ComputesReturned};
+ghost use Rattle.ir_bodies.specs.Parts.{IsLocal, IsOneLocal, HasFlag, SetsVariable, ComputesReturned};
 
 use ir_core::{Last, Lit, Op, RType, Reg};
-use ir_expressions::{emit_arithmetic, emit_expression, emit_operand};
+use ir_expressions::{emit_arithmetic, emit_expression, emit_local, emit_operand};
 use ir_frames::{Emitter, Frame};
 use py_syntax::BinOp;
 use py_typed::{Checked, TExpr, Target, Var};
@@ -47,6 +47,22 @@ fn only_variable_of(targets: &[Target]) -> usize
     }
 }
 
+// Puts a value into a variable. The flag of one that is no parameter is set behind it.
+fn emit_set(b: &mut Emitter, frame: Frame, k: usize, r: Reg, line: usize) -> Result<(), Memory>
+    requires { HasFlag frame k b.old }
+    ensures kept { Extends b.old b.new }
+    ensures sets { OnOk result (SetsVariable frame k r.0 b.old b.new) }
+    ensures shaped { Keeps b.old b.new }
+    ensures kinds { KeepsKindsIf (λ g. AreAlike b.old.regs (record { 0 = k }) r) b.old b.new }
+{
+    b.push(Op::Move(Reg(k), r), line)?;
+    if k < frame.locals.params {
+        return Ok(());
+    }
+    let flag = frame.locals.flag(k);
+    b.push(Op::Lit(flag, Lit::Number(1)), line)
+}
+
 /// Assigns to a variable (Python Language Reference, "Assignment statements").
 pub(crate) fn emit_assignment(
     b: &mut Emitter,
@@ -62,7 +78,6 @@ pub(crate) fn emit_assignment(
     requires target { IsOnly (typed_module checked.now) (map variable locals.now) None (map typed_target targets.now) (type_of (typed_expr e.now)) }
     requires suits { Suits (typed_module checked.now) (map variable locals.now) (typed_expr e.now) }
     requires room { HasRoom (setting checked.now locals.now frame) b.old }
-    requires parameters { length locals.now ≤ frame.locals.params }
     ensures kept { Extends b.old b.new }
     ensures works { OnOk result ((gives : Option RType) → Works (setting checked.now locals.now frame) gives (means_assignment (setting checked.now locals.now frame) (map typed_target targets.now) (typed_expr e.now)) b.old b.new []) }
     ensures shaped { Keeps b.old b.new }
@@ -70,7 +85,7 @@ pub(crate) fn emit_assignment(
 {
     let k = only_variable_of(targets);
     let r = emit_expression(b, alloc, checked, locals, frame, e, line)?;
-    b.push(Op::Move(Reg(k), r), line)
+    emit_set(b, frame, k, r, line)
 }
 
 /// Changes a variable by an operation (Python Language Reference, "Augmented assignment statements").
@@ -89,16 +104,16 @@ pub(crate) fn emit_update(
     requires built { is_built op ≡ true }
     requires suits { Operand (typed_module checked.now) (map variable locals.now) (typed_expr e.now) }
     requires room { HasRoom (setting checked.now locals.now frame) b.old }
-    requires parameters { length locals.now ≤ frame.locals.params }
     ensures kept { Extends b.old b.new }
     ensures works { OnOk result ((gives : Option RType) → Works (setting checked.now locals.now frame) gives (means_update (setting checked.now locals.now frame) (typed_target target.now) op (typed_expr e.now)) b.old b.new []) }
     ensures shaped { Keeps b.old b.new }
     ensures kinds { KeepsKindsIf (IsAmong (typed_module checked.now)) b.old b.new }
 {
     let k = variable_of(target);
+    let old = emit_local(b, alloc, locals, frame, k, line)?;
     let r = emit_operand(b, alloc, checked, locals, frame, e, line)?;
-    let changed = emit_arithmetic(b, alloc, op, Reg(k), r, line)?;
-    b.push(Op::Move(Reg(k), changed), line)
+    let changed = emit_arithmetic(b, alloc, op, old, r, line)?;
+    emit_set(b, frame, k, changed, line)
 }
 
 // The value that is returned, in a register. Without one it is None.
@@ -113,7 +128,6 @@ fn emit_returned(
 ) -> Result<Reg, Memory>
     requires suits { ReturnSuits (typed_module checked.now) (map variable locals.now) (Some (rtype_of (returned_type (maybe_typed value.now)))) (maybe_typed value.now) }
     requires room { HasRoom (setting checked.now locals.now frame) b.old }
-    requires parameters { length locals.now ≤ frame.locals.params }
     ensures kept { Extends b.old b.new }
     ensures computes { IfOk result (λ r. ComputesReturned (setting checked.now locals.now frame) (maybe_typed value.now) b.old b.new r.0) }
     ensures other { IfOk result (λ r. (g : Surrounding) → HasKinds g b.old → r.0 ≢ g.text) }
@@ -138,7 +152,6 @@ pub(crate) fn emit_return(
 ) -> Result<(), Memory>
     requires suits { ReturnSuits (typed_module checked.now) (map variable locals.now) (Some (rtype_of (returned_type (maybe_typed value.now)))) (maybe_typed value.now) }
     requires room { HasRoom (setting checked.now locals.now frame) b.old }
-    requires parameters { length locals.now ≤ frame.locals.params }
     requires alone { frame.ret ≡ None }
     ensures kept { Extends b.old b.new }
     ensures works { OnOk result (Works (setting checked.now locals.now frame) (Some (rtype_of (returned_type (maybe_typed value.now)))) (means_return (setting checked.now locals.now frame) (maybe_typed value.now)) b.old b.new []) }

@@ -41,7 +41,6 @@ pub fn emit_block(
 ) -> Result<(), Memory>
     requires suits { SuiteSuits (typed_module checked.now) (map variable locals.now) gives looping (typed_suite body.now) }
     requires room { HasRoom (setting checked.now locals.now frame) b.old }
-    requires parameters { length locals.now ≤ frame.locals.params }
     requires alone { frame.ret ≡ None }
     ensures kept { Extends b.old b.new }
     ensures emitted { OnOk result (Emitted (setting checked.now locals.now frame) gives looping (means_suite (setting checked.now locals.now frame) (typed_suite body.now)) b.old b.new exits.old.items exits.new.items) }
@@ -69,7 +68,6 @@ fn emit_statement(
 ) -> Result<(), Memory>
     requires suits { StatementSuits (typed_module checked.now) (map variable locals.now) gives looping (typed_stmt s.now) }
     requires room { HasRoom (setting checked.now locals.now frame) b.old }
-    requires parameters { length locals.now ≤ frame.locals.params }
     requires alone { frame.ret ≡ None }
     ensures kept { Extends b.old b.new }
     ensures emitted { OnOk result (Emitted (setting checked.now locals.now frame) gives looping (means_statement (setting checked.now locals.now frame) (typed_stmt s.now)) b.old b.new exits.old.items exits.new.items) }
@@ -126,7 +124,6 @@ fn emit_if(
     requires arms_suit { ArmsSuit (typed_module checked.now) (map variable locals.now) gives looping (arms_of (map typed_arm arms.now)) }
     requires other_suits { SuiteSuits (typed_module checked.now) (map variable locals.now) gives looping (typed_suite other.now) }
     requires room { HasRoom (setting checked.now locals.now frame) b.old }
-    requires parameters { length locals.now ≤ frame.locals.params }
     requires alone { frame.ret ≡ None }
     ensures kept { Extends b.old b.new }
     ensures emitted { OnOk result (Emitted (setting checked.now locals.now frame) gives looping (means_statement (setting checked.now locals.now frame) (typed_stmt s.now)) b.old b.new exits.old.items exits.new.items) }
@@ -159,7 +156,6 @@ fn emit_arms(
     requires none { exits.old.items ≡ [] }
     requires suits { ArmsSuit (typed_module checked.now) (map variable locals.now) gives looping (arms_of (map typed_arm arms.now)) }
     requires room { HasRoom (setting checked.now locals.now frame) b.old }
-    requires parameters { length locals.now ≤ frame.locals.params }
     requires alone { frame.ret ≡ None }
     ensures kept { Extends b.old b.new }
     ensures tested { OnOk result (Tested (setting checked.now locals.now frame) gives looping (means_arms (setting checked.now locals.now frame) arms.now) b.old b.new exits.new.items) }
@@ -196,7 +192,6 @@ fn emit_while(
     requires test { TestSuits (typed_module checked.now) (map variable locals.now) gives (typed_expr e.now) }
     requires suits { SuiteSuits (typed_module checked.now) (map variable locals.now) gives true (typed_suite body.now) }
     requires room { HasRoom (setting checked.now locals.now frame) b.old }
-    requires parameters { length locals.now ≤ frame.locals.params }
     requires alone { frame.ret ≡ None }
     ensures kept { Extends b.old b.new }
     ensures emitted { OnOk result (Emitted (setting checked.now locals.now frame) gives looping (means_statement (setting checked.now locals.now frame) (typed_stmt s.now)) b.old b.new exits.old.items exits.new.items) }

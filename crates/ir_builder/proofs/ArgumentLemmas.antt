@@ -1,6 +1,7 @@
 -- A function that is called: its registers hold its arguments, and what its body gives is what the call gives.
-use Rattle.std.proofs.Common.{◌≡◌, ℕ, zero, suc, ◌-◌, ◌<◌, ◌≤◌, true, false, List, [], ◌∷◌, ◌++◌, length, map, Option, Some, None, refl, ap, ◌∙◌, subst, arith, ◌⊎◌, inl, inr}
-use Rattle.std.specs.Prelude.{slice_get, nat_eq, replicate}
+use Rattle.std.proofs.Common.{◌≡◌, ℕ, zero, suc, ◌+◌, ◌-◌, ◌<◌, ◌≤◌, true, false, List, [], ◌∷◌, ◌++◌, length, map, take, Option, Some, None, refl, ap, ◌∙◌, subst, arith, ◌⊎◌, inl, inr, ⊎_elim}
+use Rattle.std.specs.Prelude.{slice_get, nat_eq, nat_lt, if◌then◌else◌, replicate}
+use Rattle.std.specs.Option.{option_map}
 use Rattle.std.proofs.lemmas.Bool.{eq-eqb}
 use Rattle.std.proofs.lemmas.Bool.Decides.{nat_tests}
 use Rattle.value_core.specs.Value.{Value, BoolVal, NoneVal}
@@ -15,28 +16,32 @@ use Rattle.py_typed.specs.WaysOut.{Flow, Goes, Breaks, Continues, Returns, and_s
 use Rattle.ir_core.specs.declared.code.Func.{Func}
 use Rattle.ir_core.specs.declared.code.Program.{Program}
 use Rattle.ir_core.specs.Meaning.{Waiting, Config}
-use Rattle.ir_core.specs.Registers.{Holds, first_regs}
-use Rattle.ir_core.specs.Rows.{Declared}
+use Rattle.ir_core.specs.declared.code.RType.{RType}
+use Rattle.ir_core.specs.declared.code.RType.TheVariants.{Bool as BoolType}
+use Rattle.ir_core.specs.Registers.{Held, Unset, Holds, error_of, error_at, first_regs}
+use Rattle.ir_core.specs.Rows.{Declared, type_of_reg}
 use Rattle.ir_frames.specs.declared.frame.Vars.{Vars}
 use Rattle.ir_frames.specs.Coming.{world, running, Escapes, returning, Ends}
-use Rattle.ir_frames.specs.Matching.{HasKind, HaveKinds, flag_in, Matches, parameter_sorts, CallGives, CallRaises, CallsWork}
+use Rattle.ir_frames.specs.Matching.{HasKind, HaveKinds, flag_of, flag_in, Matches, parameter_sorts, CallGives, CallRaises, CallsWork}
 use Rattle.ir_frames.specs.Settings.{rtype_of}
 use Rattle.ir_frames.proofs.HeldLemmas.{get_below}
 use Rattle.ir_expressions.specs.Compiled.{is_result}
 use Rattle.ir_statements.specs.Means.{means_suite}
-use Rattle.ir_builder.specs.Registers.{variable_registers, parameters_alone}
+use Rattle.ir_builder.specs.Registers.{variable_registers, variables_of}
 use Rattle.ir_builder.specs.Bodies.{LeavesWith, BodyWorks, body_frame}
 use Rattle.ir_builder.specs.Functions.{end_value}
 use Rattle.ir_builder.proofs.ClosedLemmas.{Avoids, is_end}
-use Rattle.ir_builder.proofs.RegisterLemmas.{take_past}
 
 -- ---- arguments
 
+pub less_or : (j n : ℕ) → (j < n) ⊎ (n ≤ j)
+less_or zero zero = inr (omega arith)
+less_or zero (suc n) = inl (omega arith)
+less_or (suc j) zero = inr (omega arith)
+less_or (suc j) (suc n) = ⊎_elim (λ lt. inl (omega arith)) (λ le. inr (omega arith)) (less_or j n)
+
 abbrev pub sort_of : Variable → Sort
 sort_of v = v.1
-
-pub all_parameters : (f : TypedFunc) → length f.locals ≡ f.params → parameter_sorts f ≡ map sort_of f.locals
-all_parameters f e = ap (map sort_of) (take_past f.locals f.params (omega (arith, e)))
 
 pub map_length : {A B : Type 0} (f : A → B) (xs : List A) → length (map f xs) ≡ length xs
 map_length f [] = refl
@@ -48,23 +53,75 @@ as_many [] (v ∷ vs) k = absurd k
 as_many (t ∷ ts) [] k = absurd k
 as_many (t ∷ ts) (v ∷ vs) k = ap suc (as_many ts vs k.1)
 
--- a variable, its argument, and its register
-args_at : (vs : List Variable) (args : List Value) (more : Declared) (rest : List (Option Value)) → HaveKinds (map sort_of vs) args → (j : ℕ) (v : Variable) → slice_get vs j ≡ Some v → (a : Value) × (slice_get (map Some args ++ rest) j ≡ Some (Some a)) × (first_regs (variable_registers vs ++ more) (map Holds args) j ≡ Holds a) × HasKind v.1 a
-args_at [] args more rest k j v e = let f : None ≡ Some v = e in absurd (cc)
-args_at (u ∷ vs) [] more rest k j v e = absurd k
-args_at (u ∷ vs) (a ∷ args) more rest k zero v e =
-    let f : Some u ≡ Some v = e in let same : u ≡ v = cc in (a, refl, refl, let P : Variable → Type 0 = λ z. HasKind z.1 a in subst P same k.0)
-args_at (u ∷ vs) (a ∷ args) more rest k (suc j) v e = args_at vs args more rest k.1 j v e
+take_size : {A : Type 0} (n : ℕ) (xs : List A) → n ≤ length xs → length (take n xs) ≡ n
+take_size zero [] le = refl
+take_size zero (x ∷ xs) le = refl
+take_size (suc n) [] le = absurd (omega arith)
+take_size (suc n) (x ∷ xs) le = ap suc (take_size n xs (omega arith))
 
-pub entered : (m : TypedModule) (vs : List Variable) (vars : Vars) (n : ℕ) (declared more : Declared) (args : List Value) (rest : List (Option Value)) → vars ≡ parameters_alone n → n ≡ length vs → declared ≡ variable_registers vs ++ more → HaveKinds (map sort_of vs) args → Matches (record { source = m; variables = vs; frame = body_frame vars }) (first_regs declared (map Holds args)) (map Some args ++ rest)
-entered m vs vars n declared more args rest is size regs kinds = record {
+pub sorts_size : (f : TypedFunc) → f.params ≤ length f.locals → length (parameter_sorts f) ≡ f.params
+sorts_size f le = map_length sort_of (take f.params f.locals) ∙ take_size f.params f.locals le
+
+-- a parameter, its argument, and its register
+args_at : (vs : List Variable) (n : ℕ) (args : List Value) (more : Declared) (rest : List (Option Value)) → HaveKinds (map sort_of (take n vs)) args → (j : ℕ) (v : Variable) → j < n → slice_get vs j ≡ Some v → (a : Value) × (slice_get (map Some args ++ rest) j ≡ Some (Some a)) × (first_regs (variable_registers vs ++ more) (map Holds args) j ≡ Holds a) × HasKind v.1 a
+args_at [] n args more rest k j v lt e = let f : None ≡ Some v = e in absurd (cc)
+args_at (u ∷ vs) zero args more rest k j v lt e = absurd (omega arith)
+args_at (u ∷ vs) (suc n) [] more rest k j v lt e = absurd k
+args_at (u ∷ vs) (suc n) (a ∷ args) more rest k zero v lt e =
+    let f : Some u ≡ Some v = e in let same : u ≡ v = cc in (a, refl, refl, let P : Variable → Type 0 = λ z. HasKind z.1 a in subst P same k.0)
+args_at (u ∷ vs) (suc n) (a ∷ args) more rest k (suc j) v lt e = args_at vs n args more rest k.1 j v (omega arith) e
+
+-- a variable that is no parameter is unset
+none_at : (k j : ℕ) → j < k → slice_get (replicate {A = Option Value} k None) j ≡ Some None
+none_at zero j lt = absurd (omega arith)
+none_at (suc k) zero lt = refl
+none_at (suc k) (suc j) lt = none_at k j (omega arith)
+
+unset_at : (args : List Value) (k j : ℕ) → length args ≤ j → j < length args + k → slice_get (map Some args ++ replicate k None) j ≡ Some None
+unset_at [] k j le lt = none_at k j (let q : j < 0 + k = lt in omega (arith, q))
+unset_at (a ∷ args) k zero le lt = absurd (omega arith)
+unset_at (a ∷ args) k (suc j) le lt = unset_at args k j (omega arith) (omega arith)
+
+-- a register behind the arguments holds the error value of its type
+error_there : (ds : Declared) (k : ℕ) (d : List ℕ × RType) → slice_get ds k ≡ Some d → error_at ds k ≡ error_of d.1
+error_there [] k d e = let f : None ≡ Some d = e in absurd (cc)
+error_there (c ∷ ds) zero d e = let f : Some c ≡ Some d = e in let same : c ≡ d = cc in ap (λ (z : List ℕ × RType). error_of z.1) same
+error_there (c ∷ ds) (suc k) d e = error_there ds k d e
+
+first_unset : (ds : Declared) (xs : List Held) (k : ℕ) (d : List ℕ × RType) → length xs ≤ k → slice_get ds k ≡ Some d → first_regs ds xs k ≡ error_of d.1
+first_unset ds [] k d le e = error_there ds k d e
+first_unset [] (x ∷ xs) k d le e = let f : None ≡ Some d = e in absurd (cc)
+first_unset (c ∷ ds) (x ∷ xs) zero d le e = absurd (omega arith)
+first_unset (c ∷ ds) (x ∷ xs) (suc k) d le e = first_unset ds xs k d (omega arith) e
+
+flag_unset : (ds : Declared) (xs : List Held) (k : ℕ) (o : Option (List ℕ × RType)) → length xs ≤ k → slice_get ds k ≡ o → option_map (λ (d : List ℕ × RType). d.1) o ≡ Some BoolType → first_regs ds xs k ≡ Unset
+flag_unset ds xs k None le e h = let f : None ≡ Some BoolType = h in absurd (cc)
+flag_unset ds xs k (Some d) le e h = first_unset ds xs k d le e ∙ ap error_of (let f : Some d.1 ≡ Some BoolType = h in let same : d.1 ≡ BoolType = cc in same)
+
+-- the flags of a function's registers
+abbrev pub HaveFlags : Vars → ℕ → Declared → Type 0
+HaveFlags vars n declared =
+    (j : ℕ) → vars.params ≤ j → j < n → type_of_reg declared (record { 0 = flag_of vars j }) ≡ Some BoolType
+
+pub entered : (m : TypedModule) (vs : List Variable) (vars : Vars) (params : ℕ) (declared more : Declared) (args : List Value) → vars ≡ variables_of params (length vs) → params ≤ length vs → declared ≡ variable_registers vs ++ more → HaveFlags vars (length vs) declared → HaveKinds (map sort_of (take params vs)) args → length args ≡ params → Matches (record { source = m; variables = vs; frame = body_frame vars }) (first_regs declared (map Holds args)) (map Some args ++ replicate (length vs - length args) None)
+entered m vs vars params declared more args is few regs flags kinds size = record {
   each = λ j v at.
-      let a = args_at vs args more rest kinds j v at in
       let low : j < length vs = get_below vs j v at in
-      let params : vars.params ≡ n = ap (λ (z : Vars). z.params) is in
-      let flag : flag_in vars (first_regs declared (map Holds args)) j ≡ Holds (BoolVal true) = (let lt : j < vars.params = omega (arith, params, size) in grind (arith, nat_tests)) in
+      let ps : vars.params ≡ params = ap (λ (z : Vars). z.params) is in
+      let text : vars.text ≡ length vs = ap (λ (z : Vars). z.text) is in
+      ⊎_elim
+      (λ (lt : j < params).
+      let a = args_at vs params args more (replicate (length vs - length args) None) kinds j v lt at in
+      let flag : flag_in vars (first_regs declared (map Holds args)) j ≡ Holds (BoolVal true) = (let l : j < vars.params = omega (arith, ps) in let e : nat_lt j vars.params ≡ true = grind (arith, nat_tests) in ap (λ b. if b then Holds (BoolVal true) else first_regs declared (map Holds args) (flag_of vars j)) e) in
       let held : first_regs declared (map Holds args) j ≡ Holds a.0 = ap (λ ds. first_regs ds (map Holds args) j) regs ∙ a.2 in
-      (Some a.0, a.1, (held, flag, a.3));
+      (Some a.0, a.1, (held, flag, a.3)))
+      (λ (le : params ≤ j).
+      let above : vars.params ≤ j = omega (arith, ps) in
+      let wide : length (map {B = Held} Holds args) ≤ flag_of vars j = omega (arith, map_length {B = Held} Holds args, size, text, few) in
+      let unset : first_regs declared (map Holds args) (flag_of vars j) ≡ Unset = flag_unset declared (map Holds args) (flag_of vars j) (slice_get declared (flag_of vars j)) wide refl (flags j above low) in
+      let flag : flag_in vars (first_regs declared (map Holds args)) j ≡ Unset = (let e : nat_lt j vars.params ≡ false = grind (arith, nat_tests) in ap (λ b. if b then Holds (BoolVal true) else first_regs declared (map Holds args) (flag_of vars j)) e ∙ unset) in
+      (None, unset_at args (length vs - length args) j (omega (arith, size)) (omega (arith, size)), flag))
+      (less_or j params);
 }
 
 -- ---- results
@@ -116,13 +173,12 @@ module _ (p : Program) (f : TypedFunc) (fn : ℕ) (below : List Waiting) (s : St
   answers c t (Stops w u) no_end h = h
 
 -- what a call of a function does once its turn is spent
-pub function_works : (p : Program) (m : TypedModule) (f : TypedFunc) (fn : ℕ) (h : Func) (vars : Vars) (more : Declared) → length f.locals ≡ f.params → is_result f.ret ≡ true → ((n : ℕ) (s : State) → (is_nothing f.ret ≡ true) ⊎ Avoids is_end (suite m.classes.classes (call_of m n) m.globals f.locals n f.body s)) → vars ≡ parameters_alone (length f.locals) → h.regs ≡ variable_registers f.locals ++ more → BodyWorks p (record { source = m; variables = f.locals; frame = body_frame vars }) (Some (rtype_of f.ret)) (end_value (rtype_of f.ret)) (means_suite (record { source = m; variables = f.locals; frame = body_frame vars }) f.body) fn 0 1 → (n : ℕ) → CallsWork p m n → (args : List Value) (below : List Waiting) (s : State) → HaveKinds (parameter_sorts f) args → s.turns ≤ n → Ends p s.turns (running fn 0 1 (first_regs h.regs (map Holds args)) below (world None s)) (enter m (call_of m n) n (Some f) args s) (CallGives p f below s) (CallRaises fn below s)
-function_works p m f fn h vars more size result no_end is regs body n calls args below s kinds le =
-    let kinds' : HaveKinds (map sort_of f.locals) args = subst (λ ts. HaveKinds ts args) (all_parameters f size) kinds in
-    let count : length args ≡ f.params = as_many (map sort_of f.locals) args kinds' ∙ map_length sort_of f.locals ∙ size in
+pub function_works : (p : Program) (m : TypedModule) (f : TypedFunc) (fn : ℕ) (h : Func) (vars : Vars) (more : Declared) → f.params ≤ length f.locals → is_result f.ret ≡ true → ((n : ℕ) (s : State) → (is_nothing f.ret ≡ true) ⊎ Avoids is_end (suite m.classes.classes (call_of m n) m.globals f.locals n f.body s)) → vars ≡ variables_of f.params (length f.locals) → h.regs ≡ variable_registers f.locals ++ more → HaveFlags vars (length f.locals) h.regs → BodyWorks p (record { source = m; variables = f.locals; frame = body_frame vars }) (Some (rtype_of f.ret)) (end_value (rtype_of f.ret)) (means_suite (record { source = m; variables = f.locals; frame = body_frame vars }) f.body) fn 0 1 → (n : ℕ) → CallsWork p m n → (args : List Value) (below : List Waiting) (s : State) → HaveKinds (parameter_sorts f) args → s.turns ≤ n → Ends p s.turns (running fn 0 1 (first_regs h.regs (map Holds args)) below (world None s)) (enter m (call_of m n) n (Some f) args s) (CallGives p f below s) (CallRaises fn below s)
+function_works p m f fn h vars more few result no_end is regs flags body n calls args below s kinds le =
+    let count : length args ≡ f.params = as_many (parameter_sorts f) args kinds ∙ sorts_size f few in
     let rest : List (Option Value) = replicate (length f.locals - length args) None in
     let first : State = record s { locals = map Some args ++ rest; handled = [] } in
-    let match = entered m f.locals vars (length f.locals) h.regs more args rest is refl regs kinds' in
+    let match = entered m f.locals vars f.params h.regs more args is few regs flags kinds count in
     let run = body n calls (first_regs h.regs (map Holds args)) below first match le in
     let done = answers p f fn below s result _ s.turns (suite m.classes.classes (call_of m n) m.globals f.locals n f.body first) (no_end n first) run in
     let fits : nat_eq (length args) f.params ≡ true = eq-eqb (length args) f.params count in

@@ -1,5 +1,5 @@
 -- Behind no operation that may fail stands a test of its result.
-use Rattle.std.proofs.Common.{◌≡◌, ℕ, zero, suc, ◌+◌, ◌<◌, ◌≤◌, false, List, [], ◌∷◌, Option, Some, None, refl, sym, ap, ◌∙◌, subst, arith}
+use Rattle.std.proofs.Common.{◌≡◌, ℕ, zero, suc, ◌+◌, ◌<◌, ◌≤◌, false, List, [], ◌∷◌, Option, Some, None, refl, sym, ap, ◌∙◌, subst, arith, ◌⊎◌, inl, inr, ⊎_elim}
 use Rattle.std.specs.Prelude.{slice_get}
 use Rattle.std.proofs.lemmas.Bool.{ne_eqb}
 use Rattle.ir_core.specs.declared.code.Block.{Block}
@@ -32,10 +32,18 @@ end_is [] l x (suc i) e = let g : None ≡ Some (End x) = e in absurd (cc)
 end_is (q ∷ os) l x zero e = let g : Some (Do q.0) ≡ Some (End x) = e in absurd (cc)
 end_is (q ∷ os) l x (suc i) e = end_is os l x i e
 
-ends_at : (n m low : ℕ) (bs : List Block) (k i : ℕ) (r : Reg) (a b line : ℕ) → AllFit n m low bs → item_in bs k i ≡ Some (End (IfError r a b line)) → r.0 < n
+alone_at : (os : List (Op × ℕ)) (l x : Last) (i : ℕ) → os ≡ [] → in_block os l i ≡ Some (End x) → i ≡ 0
+alone_at [] l x zero none e = refl
+alone_at [] l x (suc i) none e = let g : None ≡ Some (End x) = e in absurd (cc)
+alone_at (q ∷ os) l x i none e = absurd (cc)
+
+-- a test for errors is of a register below the number, or has nothing before it
+ends_at : (n m low : ℕ) (bs : List Block) (k i : ℕ) (r : Reg) (a b line : ℕ) → AllFit n m low bs → item_in bs k i ≡ Some (End (IfError r a b line)) → (r.0 < n) ⊎ (i ≡ 0)
 ends_at n m low [] k i r a b line f e = let g : None ≡ Some (End (IfError r a b line)) = e in absurd (cc)
 ends_at n m low (x ∷ bs) zero i r a b line f e =
-    (let P : Last → Type 0 = λ l. EndFits n m low x.ops l in subst P (sym (end_is x.ops x.last (IfError r a b line) i e)) f.0).0
+    let P : Last → Type 0 = λ l. EndFits n m low x.ops l in
+    let fits = subst P (sym (end_is x.ops x.last (IfError r a b line) i e)) f.0 in
+    ⊎_elim (λ lt. inl lt) (λ none. inr (alone_at x.ops x.last (IfError r a b line) i none e)) fits.0
 ends_at n m low (x ∷ bs) (suc k) i r a b line f e = ends_at n m (suc low) bs k i r a b line f.3 e
 
 untested : (n r : ℕ) (o : Option Item) → n ≤ r → ((g : Reg) (a b line : ℕ) → o ≡ Some (End (IfError g a b line)) → g.0 < n) → is_edge (Tests record { 0 = r }) o ≡ false
@@ -55,5 +63,5 @@ pub no_edges : (p : Program) (fn : ℕ) (h : Func) (n m : ℕ) → slice_get p.f
 no_edges p fn h n m there f =
     let at : (k i : ℕ) → item_at p fn k i ≡ item_in h.blocks k i = λ k i. ap (λ o. item_in (blocks_of o) k i) there in
     record {
-      each = λ k i r o is may. untested n r (item_at p fn k (i + 1)) (above_at n r (into o) may (blocks_at n m 0 h.blocks k i o f (sym (at k i) ∙ is))) (λ g a b line e. ends_at n m 0 h.blocks k (i + 1) g a b line f (sym (at k (i + 1)) ∙ e));
+      each = λ k i r o is may. untested n r (item_at p fn k (i + 1)) (above_at n r (into o) may (blocks_at n m 0 h.blocks k i o f (sym (at k i) ∙ is))) (λ g a b line e. ⊎_elim (λ lt. lt) (λ z. absurd (omega (arith, z))) (ends_at n m 0 h.blocks k (i + 1) g a b line f (sym (at k (i + 1)) ∙ e)));
     }

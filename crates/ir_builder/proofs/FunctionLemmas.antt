@@ -11,7 +11,8 @@ use Rattle.py_typed.specs.Sorts.{Sort}
 use Rattle.py_typed.specs.Fits.{is_nothing}
 use Rattle.py_typed.specs.State.{State}
 use Rattle.py_typed.specs.SourceRun.{call_of, top_of}
-use Rattle.py_typed.specs.Statements.{Variable, TypedFunc, TypedModule}
+use Rattle.py_typed.specs.declared.checked.TFunc.{TFunc}
+use Rattle.py_typed.specs.Statements.{Variable, variable, TypedFunc, typed_func, TypedModule}
 use Rattle.py_typed.specs.StatementMeaning.{suite}
 use Rattle.py_typed.specs.WaysOut.{Flow, Goes, Breaks, Continues, Returns}
 use Rattle.ir_core.specs.declared.code.Func.{Func}
@@ -32,23 +33,23 @@ use Rattle.ir_frames.specs.Calling.{Pushes}
 use Rattle.ir_frames.specs.Coming.{world, Escapes}
 use Rattle.ir_frames.specs.Computing.{Meaning}
 use Rattle.ir_frames.specs.Kinds.{Head, head_of, Surrounding, is_plain, ArePlain, LiteralFits, OpKinds, OpsKinds, no_more, BlocksKinds, HasKinds, KeepsKinds, KeepsKindsIf, IsAmong}
-use Rattle.ir_frames.specs.Matching.{HasRoom, Matches, parameter_sorts, BeginWith}
+use Rattle.ir_frames.specs.Matching.{flag_of, HasRoom, Matches, BeginWith}
 use Rattle.ir_frames.specs.Naming.{names_of}
 use Rattle.ir_frames.specs.Placing.{HasType, NoEdges, Has}
 use Rattle.ir_frames.specs.Settings.{Setting, rtype_of}
-use Rattle.ir_frames.specs.Shaped.{OpFits, OpsFit, AllFit, Shaped, KeepsIf}
+use Rattle.ir_frames.specs.Shaped.{OpFits, OpsFit, AllFit, Shaped, KeepsIf, Keeps}
 use Rattle.ir_frames.proofs.ComingLemmas.{ends_map}
-use Rattle.ir_frames.proofs.HeldLemmas.{extends_refl, extends_trans, get_below}
+use Rattle.ir_frames.proofs.HeldLemmas.{extends_refl, extends_trans, get_below, type_kept}
 use Rattle.ir_frames.proofs.KindLemmas.{get_behind}
 use Rattle.ir_expressions.specs.Compiled.{is_scalar}
 use Rattle.ir_bodies.specs.Modules.{variable_names, FunctionSuits, ModuleSuits}
 use Rattle.ir_bodies.specs.Kinds.{GivesResult, IsAround}
 use Rattle.ir_statements.specs.Means.{means_suite}
 use Rattle.ir_shapes.specs.Built.{building_of, IsBuilt}
-use Rattle.ir_builder.specs.Registers.{register_of, variable_registers, Begins, parameters_alone}
+use Rattle.ir_builder.specs.Registers.{register_of, variable_registers, Begins, variables_of, AddsFlags}
 use Rattle.ir_builder.specs.Bodies.{LeavesWith, Bodied, CompletesShape, BodyAround, BodyWorks, body_frame}
 use Rattle.ir_builder.specs.Functions.{end_literal, end_value, heads_of, IsFunctionOf, IsOwnOf}
-use Rattle.ir_builder.proofs.ArgumentLemmas.{sort_of, all_parameters, map_length, function_works}
+use Rattle.ir_builder.proofs.ArgumentLemmas.{sort_of, sorts_size, map_length, HaveFlags, function_works}
 use Rattle.ir_builder.proofs.ClosedLemmas.{Avoids, is_end, suite_closed}
 use Rattle.ir_builder.proofs.EdgeLemmas.{no_edges}
 
@@ -99,9 +100,11 @@ names_are vs = map_map (λ d. d.0) register_of vs
 pub registers_differ : (vs : List Variable) (declared : Declared) → names_differ (variable_names vs) ≡ true → declared ≡ variable_registers vs → names_differ (names_of declared) ≡ true
 registers_differ vs declared e is = ap (λ ds. names_differ (names_of ds)) is ∙ ap names_differ (names_are vs) ∙ e
 
-begin_with : (vs : List Variable) (rest : Declared) → BeginWith (variable_registers vs ++ rest) (map sort_of vs)
-begin_with [] rest = tt
-begin_with (v ∷ vs) rest = (refl, begin_with vs rest)
+begin_with : (vs : List Variable) (n : ℕ) (rest : Declared) → BeginWith (variable_registers vs ++ rest) (map sort_of (take n vs))
+begin_with [] zero rest = tt
+begin_with [] (suc n) rest = tt
+begin_with (v ∷ vs) zero rest = tt
+begin_with (v ∷ vs) (suc n) rest = (refl, begin_with vs n rest)
 
 type_front : (vs : List Variable) (rest : Declared) (j : ℕ) (v : Variable) → slice_get vs j ≡ Some v → type_of_reg (variable_registers vs ++ rest) (record { 0 = j }) ≡ Some (rtype_of v.1)
 type_front vs rest j v e = ap (option_map (λ (d : List ℕ × RType). d.1)) (get_front (variable_registers vs) rest j (register_of v) (get_map register_of vs j v e))
@@ -123,17 +126,17 @@ module _ (vs : List Variable) (b : Building) (variables : Declared) (is : variab
   begin_text : HasType b n rtype.Ref
   begin_text = ap (λ ds. type_of_reg ds (record { 0 = n })) begin_regs ∙ type_next vs [] (first.regs.name, rtype.Ref) n size
 
-  pub begin_room : (m : TypedModule) (vars : Vars) → vars ≡ parameters_alone n → HasRoom (record { source = m; variables = vs; frame = body_frame vars }) b
-  begin_room m vars e =
-      let P : Vars → Type 0 = λ z. HasRoom (record { source = m; variables = vs; frame = body_frame z }) b in
+  pub begin_room : (m : TypedModule) (vars : Vars) (params : ℕ) (c : Building) → vars ≡ variables_of params n → AddsFlags (n - params) b c → HasRoom (record { source = m; variables = vs; frame = body_frame vars }) c
+  begin_room m vars params c e flags =
+      let P : Vars → Type 0 = λ z. HasRoom (record { source = m; variables = vs; frame = body_frame z }) c in
       subst P (sym e) record {
         count = size;
-        flags = omega arith;
         text = omega arith;
-        top = omega (arith, begin_size);
-        declared = λ j v at. ap (λ ds. type_of_reg ds (record { 0 = j })) begin_regs ∙ type_front vs ((first.regs.name, rtype.Ref) ∷ []) j v at;
-        flagged = λ j from to. absurd (omega arith);
-        printed = begin_text;
+        flags = omega arith;
+        top = omega (arith, begin_size, flags.regs);
+        declared = λ j v at. type_kept b c j (rtype_of v.1) flags.extends (ap (λ ds. type_of_reg ds (record { 0 = j })) begin_regs ∙ type_front vs ((first.regs.name, rtype.Ref) ∷ []) j v at);
+        flagged = λ j from to. flags.flags (n + 1 + (j - params)) (omega (arith, begin_size)) (omega (arith, begin_size));
+        printed = type_kept b c n rtype.Ref flags.extends begin_text;
         back = tt;
       }
 
@@ -156,6 +159,10 @@ module _ (vs : List Variable) (b : Building) (variables : Declared) (is : variab
   pub begin_shaped : (low high : ℕ) → Shaped low high b
   begin_shaped low high = (subst (λ bs. AllFit low high 0 bs) (sym first.blocks) tt, subst (λ os. OpsFit low os) (sym first.ops) tt)
 
+-- it has as many variables as parameters, or more
+pub few_params : {m : TypedModule} (f : TFunc) (count : ℕ) → count ≡ length f.locals → FunctionSuits m (typed_func f) → f.params ≤ count
+few_params f count is suits = let few = suits.parameters in omega (arith, is, few, map_length variable f.locals)
+
 -- ---- what a function is built among
 
 plain_sort : (t : Sort) → is_scalar t ≡ true → is_plain (rtype_of t) ≡ true
@@ -163,9 +170,11 @@ plain_sort sort.I64 e = refl
 plain_sort sort.Bool e = refl
 plain_sort _ e = absurd (cc)
 
-all_plain : (vs : List Variable) → ((i : ℕ) (v : Variable) → slice_get vs i ≡ Some v → is_scalar v.1 ≡ true) → ArePlain (map rtype_of (map sort_of vs))
-all_plain [] h = tt
-all_plain (v ∷ vs) h = (plain_sort v.1 (h 0 v refl), all_plain vs (λ i u e. h (suc i) u e))
+all_plain : (vs : List Variable) (n : ℕ) → ((i : ℕ) (v : Variable) → slice_get vs i ≡ Some v → is_scalar v.1 ≡ true) → ArePlain (map rtype_of (map sort_of (take n vs)))
+all_plain [] zero h = tt
+all_plain [] (suc n) h = tt
+all_plain (v ∷ vs) zero h = tt
+all_plain (v ∷ vs) (suc n) h = (plain_sort v.1 (h 0 v refl), all_plain vs n (λ i u e. h (suc i) u e))
 
 pub among : (m : TypedModule) → ModuleSuits m → (g : Surrounding) → g.heads ≡ heads_of m → IsAmong m g
 among m suits g is = record {
@@ -173,9 +182,8 @@ among m suits g is = record {
   plain = λ n h e.
       let k = map_get head_of m.funcs n h (ap (λ hs. slice_get hs n) (sym is) ∙ e) in
       let f = suits.functions n k.0 k.1 in
-      let sorts : parameter_sorts k.0 ≡ map sort_of k.0.locals = all_parameters k.0 f.parameters in
       let P : Head → Type 0 = λ z. ArePlain z.params in
-      subst P k.2 (subst (λ ts. ArePlain (map rtype_of ts)) (sym sorts) (all_plain k.0.locals f.scalars));
+      subst P k.2 (all_plain k.0.locals k.0.params f.scalars);
 }
 
 -- ---- the code of a function
@@ -239,18 +247,18 @@ pub record IsMade (m : TypedModule) (vs : List Variable) (b : Building) (h : Fun
   pub built : IsBuilt (heads_of m) h
   pub has : (p : Program) (fn : ℕ) → slice_get p.funcs fn ≡ Some h → Has p fn b
 
-pub is_made : (m : TypedModule) (vs : List Variable) (variables : Declared) (count : ℕ) (vars : Vars) (gives : Option RType) (t : RType) (last : Literal) (M : Meaning Flow) (b0 b1 b2 : Building) (h : Func) → ModuleSuits m → list_all is_identifier (variable_names vs) ≡ true → variables ≡ variable_registers vs → count ≡ length vs → vars ≡ parameters_alone count → ((g : Surrounding) → g.ret ≡ t → GivesResult gives g) → LiteralFits t last → Begins variables b0 → Extends b0 b1 → length b1.blocks ≡ 0 → ((low high : ℕ) → Shaped low high b0 → Shaped low high b1) → KeepsKinds b0 b1 → Bodied (body_setting m vs vars) gives t last M b1 b2 → CompletesShape b1 b2 → KeepsKindsIf (BodyAround m vars gives t last) b1 b2 → length b2.blocks < 2 ^ 64 → names_differ (names_of b2.regs) ≡ true → h.regs ≡ b2.regs → h.blocks ≡ b2.blocks → h.ret ≡ t → h.params ≤ count → IsMade m vs b2 h
+pub is_made : (m : TypedModule) (vs : List Variable) (variables : Declared) (count : ℕ) (vars : Vars) (gives : Option RType) (t : RType) (last : Literal) (M : Meaning Flow) (b0 b1 b2 : Building) (h : Func) → ModuleSuits m → list_all is_identifier (variable_names vs) ≡ true → variables ≡ variable_registers vs → count ≡ length vs → vars.text ≡ count → ((g : Surrounding) → g.ret ≡ t → GivesResult gives g) → LiteralFits t last → Begins variables b0 → Extends b0 b1 → length b1.blocks ≡ 0 → ((high : ℕ) → Shaped 0 high b0 → Shaped 0 high b1) → KeepsKinds b0 b1 → Bodied (body_setting m vs vars) gives t last M b1 b2 → CompletesShape b1 b2 → KeepsKindsIf (BodyAround m vars gives t last) b1 b2 → length b2.blocks < 2 ^ 64 → names_differ (names_of b2.regs) ≡ true → h.regs ≡ b2.regs → h.blocks ≡ b2.blocks → h.ret ≡ t → h.params ≤ count → IsMade m vs b2 h
 is_made m vs variables count vars gives t last M b0 b1 b2 h suits names are size vars_are gives_it fits first x01 start shaped01 kinds01 bodied shape kinds12 few differ regs blocks ret params =
     let text : List ℕ × RType = (first.regs.name, rtype.Ref) in
     let more = starts_with b0.regs b2.regs (extends_trans b0 b1 b2 x01 bodied.extends).regs in
     let behind : b2.regs ≡ variable_registers vs ++ (text ∷ more.0) = more.1 ∙ ap (λ ds. ds ++ more.0) (begin_regs vs b0 variables are first count size) ∙ append_assoc (variable_registers vs) (text ∷ []) more.0 in
     let g : Surrounding = record { heads = heads_of m; variables = count; text = count; ret = t } in
-    let around : IsAround m (body_frame vars) gives g = record { among = among m suits g refl; text = sym (ap (λ (z : Vars). z.text) vars_are); ret = gives_it g refl } in
+    let around : IsAround m (body_frame vars) gives g = record { among = among m suits g refl; text = sym vars_are; ret = gives_it g refl } in
     let kinds : HasKinds g b2 = kinds12 g record { around = around; ret = refl; fits = fits } (kinds01 g (begin_kinds vs b0 variables are first count size (heads_of m) t)) in
     let high : ℕ = length b2.blocks - 1 in
     let grown = bodied.more in
     let highest : length b2.blocks ≡ suc high = omega arith in
-    let shaped : Shaped 0 high b2 = shape 0 high (omega arith) highest (shaped01 0 high (begin_shaped vs b0 variables are first count size 0 high)) in
+    let shaped : Shaped 0 high b2 = shape 0 high (omega arith) highest (shaped01 high (begin_shaped vs b0 variables are first count size 0 high)) in
     record {
       rest = text ∷ more.0;
       regs = regs ∙ behind;
@@ -259,10 +267,10 @@ is_made m vs variables count vars gives t last M b0 b1 b2 h suits names are size
     }
 
 -- a function of the module
-pub function_is : (m : TypedModule) (suits : ModuleSuits m) (f : TypedFunc) (fits : FunctionSuits m f) (variables : Declared) (count params : ℕ) (vars : Vars) (ret : RType) (last : Literal) (b0 b1 b2 : Building) (name : List ℕ) (h0 h : Func) → variables ≡ variable_registers f.locals → count ≡ length f.locals → vars ≡ parameters_alone count → ret ≡ rtype_of f.ret → last ≡ end_literal ret → Begins variables b0 → Pushes b0 b1 Turn → KeepsIf (λ low high. OpFits low Turn) b0 b1 → KeepsKindsIf (λ g. OpKinds g b0.regs Turn) b0 b1 → Bodied (body_setting m f.locals vars) (Some ret) ret last (means_suite (body_setting m f.locals vars) f.body) b1 b2 → CompletesShape b1 b2 → KeepsKindsIf (BodyAround m vars (Some ret) ret last) b1 b2 → length b2.blocks < 2 ^ 64 → names_differ (names_of b2.regs) ≡ true → params ≡ f.params → h0 ≡ record { name = b2.name; params = params; regs = b2.regs; ret = ret; blocks = b2.blocks } → name ≡ f.name → h ≡ record h0 { name = name } → IsFunctionOf m f h
-function_is m suits f fits variables count params vars ret last b0 b1 b2 name h0 h are size vars_are ret_is last_is first turn shaped01 kinds01 bodied shape kinds12 few differ params_are is0 name_is is =
-    let none : length b1.blocks ≡ 0 = turn.blocks ∙ ap length first.blocks in
-    let one : length b1.ops ≡ 1 = turn.ops ∙ ap (λ os. length os + 1) first.ops in
+pub function_is : (m : TypedModule) (suits : ModuleSuits m) (f : TypedFunc) (fits : FunctionSuits m f) (variables : Declared) (count params : ℕ) (vars : Vars) (ret : RType) (last : Literal) (b0 bf b1 b2 : Building) (name : List ℕ) (h0 h : Func) → variables ≡ variable_registers f.locals → count ≡ length f.locals → vars ≡ variables_of params count → ret ≡ rtype_of f.ret → last ≡ end_literal ret → Begins variables b0 → AddsFlags (count - params) b0 bf → Keeps b0 bf → KeepsKinds b0 bf → Pushes bf b1 Turn → KeepsIf (λ low high. OpFits low Turn) bf b1 → KeepsKindsIf (λ g. OpKinds g bf.regs Turn) bf b1 → Bodied (body_setting m f.locals vars) (Some ret) ret last (means_suite (body_setting m f.locals vars) f.body) b1 b2 → CompletesShape b1 b2 → KeepsKindsIf (BodyAround m vars (Some ret) ret last) b1 b2 → length b2.blocks < 2 ^ 64 → names_differ (names_of b2.regs) ≡ true → params ≡ f.params → h0 ≡ record { name = b2.name; params = params; regs = b2.regs; ret = ret; blocks = b2.blocks } → name ≡ f.name → h ≡ record h0 { name = name } → IsFunctionOf m f h
+function_is m suits f fits variables count params vars ret last b0 bf b1 b2 name h0 h are size vars_are ret_is last_is first flags flags_shaped flags_kinds turn shaped01 kinds01 bodied shape kinds12 few differ params_are is0 name_is is =
+    let none : length b1.blocks ≡ 0 = turn.blocks ∙ flags.blocks ∙ ap length first.blocks in
+    let one : length b1.ops ≡ 1 = turn.ops ∙ ap (λ k. k + 1) flags.ops ∙ ap (λ os. length os + 1) first.ops in
     let h_regs : h.regs ≡ b2.regs = ap (λ (z : Func). z.regs) is ∙ ap (λ (z : Func). z.regs) is0 in
     let h_blocks : h.blocks ≡ b2.blocks = ap (λ (z : Func). z.blocks) is ∙ ap (λ (z : Func). z.blocks) is0 in
     let h_ret : h.ret ≡ ret = ap (λ (z : Func). z.ret) is ∙ ap (λ (z : Func). z.ret) is0 in
@@ -270,15 +278,16 @@ function_is m suits f fits variables count params vars ret last b0 b1 b2 name h0
     let h_name : h.name ≡ f.name = ap (λ (z : Func). z.name) is ∙ name_is in
     let literal : LiteralFits ret last = subst (LiteralFits ret) (sym last_is) (literal_fits ret) in
     let few_params : h.params ≤ count = omega (arith, h_params, size, fits.parameters) in
-    let made = is_made m f.locals variables count vars (Some ret) ret last (means_suite (body_setting m f.locals vars) f.body) b0 b1 b2 h suits fits.identifiers are size vars_are (λ g e. e) literal first turn.extends none (λ low high s. shaped01 low high (tt, refl) s) (λ g k. kinds01 g tt k) bodied shape kinds12 few differ h_regs h_blocks h_ret few_params in
+    let made = is_made m f.locals variables count vars (Some ret) ret last (means_suite (body_setting m f.locals vars) f.body) b0 b1 b2 h suits fits.identifiers are size (ap (λ (z : Vars). z.text) vars_are) (λ g e. e) literal first (extends_trans b0 bf b1 flags.extends turn.extends) none (λ high s. shaped01 0 high (tt, refl) (flags_shaped 0 high (omega arith) (omega (arith, flags.blocks, ap length first.blocks)) s)) (λ g k. kinds01 g tt (flags_kinds g k)) bodied shape kinds12 few differ h_regs h_blocks h_ret few_params in
     let item : held b2 0 0 ≡ Some (Do Turn) =
-    ap (λ k. held b2 k 0) (sym (ap length first.blocks)) ∙ ap (λ i. held b2 (length b0.blocks) i) (sym (ap length first.ops)) ∙ bodied.extends.items (length b0.blocks) (length b0.ops) (Do Turn) turn.at in
-    let sorts = all_parameters f fits.parameters in
+    ap (λ k. held b2 k 0) (sym (flags.blocks ∙ ap length first.blocks)) ∙ ap (λ i. held b2 (length bf.blocks) i) (sym (flags.ops ∙ ap length first.ops)) ∙ bodied.extends.items (length bf.blocks) (length bf.ops) (Do Turn) turn.at in
+    let room = begin_room f.locals b0 variables are first count size m vars params bf vars_are flags in
+    let have : HaveFlags vars (length f.locals) h.regs = λ j above low. ap (λ ds. type_of_reg ds (record { 0 = flag_of vars j })) h_regs ∙ type_kept bf b2 (flag_of vars j) rtype.Bool (extends_trans bf b1 b2 turn.extends bodied.extends) (room.flagged j above (omega (arith, ap (λ (z : Vars). z.count) vars_are, size))) in
     record {
       name = h_name;
       head = record {
-        params = h_params ∙ sym fits.parameters ∙ sym (map_length sort_of f.locals) ∙ sym (ap length sorts);
-        regs = subst (λ ts. BeginWith h.regs ts) (sym sorts) (subst (λ ds. BeginWith ds (map sort_of f.locals)) (sym made.regs) (begin_with f.locals made.rest));
+        params = h_params ∙ sym (sorts_size f fits.parameters);
+        regs = subst (λ ds. BeginWith ds (map sort_of (take f.params f.locals))) (sym made.regs) (begin_with f.locals f.params made.rest);
         ret = h_ret ∙ ret_is;
       };
       built = record {
@@ -293,7 +302,7 @@ function_is m suits f fits variables count params vars ret last b0 b1 b2 name h0
           let B : RType → ℕ → ℕ → Type 0 = λ r k i. BodyWorks p (body_setting m f.locals vars) (Some r) (end_value r) (means_suite (body_setting m f.locals vars) f.body) fn k i in
           let placed : B (rtype_of f.ret) 0 1 = subst (λ r. B r 0 1) ret_is (subst (λ i. B ret 0 i) one (subst (λ k. B ret k (length b1.ops)) none body)) in
           let no_end : (n : ℕ) (s : State) → (is_nothing f.ret ≡ true) ⊎ Avoids is_end (suite m.classes.classes (call_of m n) m.globals f.locals n f.body s) = λ n s. ⊎_elim (λ e. inl e) (λ closed. inr (suite_closed m.classes.classes (call_of m n) m.globals f.locals n m f.locals (Some (rtype_of f.ret)) false f.body fits.body closed s)) fits.ends in
-          function_works p m f fn h vars made.rest fits.parameters fits.result no_end (vars_are ∙ ap parameters_alone size) made.regs placed;
+          function_works p m f fn h vars made.rest fits.parameters fits.result no_end (vars_are ∙ ap (λ z. variables_of z count) params_are ∙ ap (variables_of f.params) size) made.regs have placed;
     }
 
 -- ---- the module's own statements
@@ -304,7 +313,7 @@ own_flow p Breaks s d h = absurd h
 own_flow p Continues s d h = absurd h
 own_flow p (Returns v) s d h = absurd h.0
 
-pub own_is : (m : TypedModule) (suits : ModuleSuits m) (variables : Declared) (count params : ℕ) (vars : Vars) (b0 b2 : Building) (h : Func) → variables ≡ [] → count ≡ 0 → vars ≡ parameters_alone count → Begins variables b0 → Bodied (body_setting m [] vars) None rtype.Bool (Number (pos 1)) (means_suite (body_setting m [] vars) m.top) b0 b2 → CompletesShape b0 b2 → KeepsKindsIf (BodyAround m vars None rtype.Bool (Number (pos 1))) b0 b2 → length b2.blocks < 2 ^ 64 → names_differ (names_of b2.regs) ≡ true → params ≡ 0 → h ≡ record { name = b2.name; params = params; regs = b2.regs; ret = rtype.Bool; blocks = b2.blocks } → IsOwnOf m h
+pub own_is : (m : TypedModule) (suits : ModuleSuits m) (variables : Declared) (count params : ℕ) (vars : Vars) (b0 b2 : Building) (h : Func) → variables ≡ [] → count ≡ 0 → vars ≡ variables_of 0 count → Begins variables b0 → Bodied (body_setting m [] vars) None rtype.Bool (Number (pos 1)) (means_suite (body_setting m [] vars) m.top) b0 b2 → CompletesShape b0 b2 → KeepsKindsIf (BodyAround m vars None rtype.Bool (Number (pos 1))) b0 b2 → length b2.blocks < 2 ^ 64 → names_differ (names_of b2.regs) ≡ true → params ≡ 0 → h ≡ record { name = b2.name; params = params; regs = b2.regs; ret = rtype.Bool; blocks = b2.blocks } → IsOwnOf m h
 own_is m suits variables count params vars b0 b2 h are size vars_are first bodied shape kinds12 few differ params_are is =
     let none : length b0.blocks ≡ 0 = ap length first.blocks in
     let start : length b0.ops ≡ 0 = ap length first.ops in
@@ -313,7 +322,7 @@ own_is m suits variables count params vars b0 b2 h are size vars_are first bodie
     let h_ret : h.ret ≡ rtype.Bool = ap (λ (z : Func). z.ret) is in
     let h_params : h.params ≡ 0 = ap (λ (z : Func). z.params) is ∙ params_are in
     let few_params : h.params ≤ count = omega (arith, h_params) in
-    let made = is_made m [] variables count vars None rtype.Bool (Number (pos 1)) (means_suite (body_setting m [] vars) m.top) b0 b0 b2 h suits refl are size vars_are (λ g e. tt) (refl, refl) first (extends_refl b0) none (λ low high s. s) (λ g k. k) bodied shape kinds12 few differ h_regs h_blocks h_ret few_params in
+    let made = is_made m [] variables count vars None rtype.Bool (Number (pos 1)) (means_suite (body_setting m [] vars) m.top) b0 b0 b2 h suits refl are size (ap (λ (z : Vars). z.text) vars_are) (λ g e. tt) (refl, refl) first (extends_refl b0) none (λ high s. s) (λ g k. k) bodied shape kinds12 few differ h_regs h_blocks h_ret few_params in
     record {
       built = record {
         built = made.built;

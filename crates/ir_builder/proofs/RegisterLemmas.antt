@@ -1,13 +1,19 @@
 -- The registers with which a function begins.
-use Rattle.std.proofs.Common.{◌≡◌, ℕ, ◌≤◌, true, false, List, [], ◌∷◌, ◌++◌, length, take, ap, ◌∙◌, arith}
+use Rattle.std.proofs.Common.{◌≡◌, ℕ, ◌+◌, ◌<◌, ◌≤◌, true, false, List, [], ◌∷◌, ◌++◌, length, take, refl, ap, ◌∙◌, subst, arith, ⊎_elim}
 use Rattle.std.proofs.lemmas.Grind.{common_steps}
 use Rattle.c_core.specs.WellFormed.{names_differ}
-use Rattle.ir_core.specs.declared.code.RType.TheVariants.{Ref}
+use Rattle.ir_core.specs.declared.code.RType.TheVariants.{Bool as BoolType, Ref}
+use Rattle.ir_core.specs.Building.{Building, Extends}
 use Rattle.ir_core.specs.Rows.{Declared}
 use Rattle.ir_frames.specs.Kinds.{temporary_name}
+use Rattle.ir_frames.specs.Calling.{Declares}
+use Rattle.ir_frames.specs.Placing.{HasType}
+use Rattle.ir_frames.specs.Shaped.{Keeps}
 use Rattle.ir_frames.specs.Naming.{names_of}
+use Rattle.ir_frames.proofs.HeldLemmas.{extends_refl, extends_trans, type_kept}
 use Rattle.ir_frames.proofs.NameLemmas.{is_name_in, differ_behind}
-use Rattle.ir_builder.specs.Registers.{AddsText}
+use Rattle.ir_builder.specs.Registers.{AddsText, AddsFlags}
+use Rattle.ir_builder.proofs.ArgumentLemmas.{less_or}
 
 pub text_added : (old new : Declared) (name : List ℕ) → names_differ (names_of old) ≡ true → (k : ℕ) × (name ≡ temporary_name k) → is_name_in name old ≡ false → new ≡ old ++ (name, Ref) ∷ [] → AddsText old new
 text_added old new name differ named fresh is = record {
@@ -20,3 +26,42 @@ text_added old new name differ named fresh is = record {
 
 pub take_past : {A : Type 0} (xs : List A) (i : ℕ) → length xs ≤ i → take i xs ≡ xs
 take_past xs i le = grind (arith, common_steps)
+
+-- ---- flags
+
+pub flags_none : (b : Building) → AddsFlags 0 b b
+flags_none b = record {
+  extends = extends_refl b;
+  blocks = refl;
+  ops = refl;
+  regs = omega arith;
+  flags = λ j low high. absurd (omega arith);
+}
+
+pub flags_one : (b c : Building) (r : ℕ) → Declares b c r BoolType → AddsFlags 1 b c
+flags_one b c r d = record {
+  extends = d.extends;
+  blocks = d.blocks;
+  ops = d.ops;
+  regs = d.regs;
+  flags = λ j low high. subst (λ n. HasType c n BoolType) (omega (arith, d.made)) d.type;
+}
+
+pub flags_more : (a b c : Building) (n k : ℕ) → k ≡ n + 1 → AddsFlags n a b → AddsFlags 1 b c → AddsFlags k a c
+flags_more a b c n k is x y = record {
+  extends = extends_trans a b c x.extends y.extends;
+  blocks = y.blocks ∙ x.blocks;
+  ops = y.ops ∙ x.ops;
+  regs = omega (arith, x.regs, y.regs);
+  flags = λ j low high. ⊎_elim
+      (λ (lt : j < length b.regs). type_kept b c j BoolType y.extends (x.flags j low (omega (arith, x.regs))))
+      (λ (le : length b.regs ≤ j). y.flags j le (omega (arith, x.regs)))
+      (less_or j (length b.regs));
+}
+
+pub flags_as : (a b : Building) (n k : ℕ) → n ≡ k → AddsFlags n a b → AddsFlags k a b
+flags_as a b n k e x = subst (λ z. AddsFlags z a b) e x
+
+-- what is kept while one more is added
+pub keeps_more : (a b c : Building) → Extends a b → length b.blocks ≤ length c.blocks → Keeps a b → Keeps b c → Keeps a c
+keeps_more a b c x grown k l n m low up s = let g = x.regs_grow in l n m (omega arith) up (k n m low (omega arith) s)

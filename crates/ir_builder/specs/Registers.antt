@@ -1,13 +1,14 @@
--- The registers with which a function begins: those of its variables, and one for printed texts.
-use Rattle.std.specs.Prelude.{◌≡◌, ℕ, ◌+◌, true, List, [], ◌∷◌, ◌++◌, map}
+-- The registers with which a function begins: those of its variables, one for printed texts, and flags.
+use Rattle.std.specs.Prelude.{◌≡◌, ℕ, ◌+◌, ◌-◌, ◌<◌, ◌≤◌, true, List, [], ◌∷◌, ◌++◌, length, map}
 use Rattle.c_core.specs.WellFormed.{names_differ}
 use Rattle.py_typed.specs.Statements.{Variable}
 use Rattle.ir_core.specs.declared.code.RType.{RType}
-use Rattle.ir_core.specs.declared.code.RType.TheVariants.{Ref}
-use Rattle.ir_core.specs.Building.{Building}
+use Rattle.ir_core.specs.declared.code.RType.TheVariants.{Bool, Ref}
+use Rattle.ir_core.specs.Building.{Building, Extends}
 use Rattle.ir_core.specs.Rows.{Declared}
 use Rattle.ir_frames.specs.declared.frame.Vars.{Vars}
 use Rattle.ir_frames.specs.Settings.{rtype_of}
+use Rattle.ir_frames.specs.Placing.{HasType}
 use Rattle.ir_frames.specs.Kinds.{temporary_name}
 use Rattle.ir_frames.specs.Naming.{names_of}
 
@@ -25,9 +26,17 @@ pub record AddsText (old new : Declared) : Type 0 where
   pub is : new ≡ old ++ (name, Ref) ∷ []
   pub differ : names_differ (names_of new) ≡ true
 
--- so many variables, which are all parameters, and behind them the register for texts
-abbrev pub parameters_alone : ℕ → Vars
-parameters_alone n = record { params = n; count = n; text = n; top = n + 1 }
+-- so many parameters and variables in all, behind them the register for texts, and then the flags
+abbrev pub variables_of : ℕ → ℕ → Vars
+variables_of params n = record { params = params; count = n; text = n; top = n + 1 + (n - params) }
+
+-- so many flags were added
+pub record AddsFlags (n : ℕ) (old new : Building) : Type 0 where
+  pub extends : Extends old new
+  pub blocks : length new.blocks ≡ length old.blocks
+  pub ops : length new.ops ≡ length old.ops
+  pub regs : length new.regs ≡ length old.regs + n
+  pub flags : (j : ℕ) → length old.regs ≤ j → j < length old.regs + n → HasType new j Bool
 
 -- the code of a function whose variables have these registers, before its first operation
 pub record Begins (variables : Declared) (b : Building) : Type 0 where

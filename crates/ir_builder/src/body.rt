@@ -33,7 +33,6 @@ pub fn emit_body(
 ) -> Result<(), Memory>
     requires suits { SuiteSuits (typed_module checked.now) (map variable locals.now) gives false (typed_suite body.now) }
     requires room { HasRoom (setting checked.now locals.now (body_frame vars)) b.old }
-    requires parameters { length locals.now ≤ vars.params }
     ensures bodied { OnOk result (Bodied (setting checked.now locals.now (body_frame vars)) gives t last (means_suite (setting checked.now locals.now (body_frame vars)) (typed_suite body.now)) b.old b.new) }
     ensures shaped { OnOk result (CompletesShape b.old b.new) }
     ensures kinds { OnOk result (KeepsKindsIf (BodyAround (typed_module checked.now) vars gives t last) b.old b.new) }

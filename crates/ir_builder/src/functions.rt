@@ -8,7 +8,7 @@ ghost use Rattle.ir_builder.specs.Registers.{Begins};
 ghost use Rattle.ir_builder.specs.Functions.{end_literal, IsFunctionOf, IsOwnOf};
 
 use crate::body::{NO_LINE, emit_body};
-use crate::registers::{add_text, parameters_of, registers_for};
+use crate::registers::{add_flags, add_text, registers_for, vars_of};
 use ir_core::{Func, Lit, Op, RType};
 use ir_expressions::register_type;
 use ir_frames::Emitter;
@@ -24,8 +24,10 @@ pub fn build_function(alloc: Global, checked: &Checked, f: &TFunc) -> Result<Fun
 {
     let variables = registers_for(alloc, f.locals.as_slice())?;
     let mut b = begin(alloc, variables)?;
+    let count = f.locals.len();
+    let vars = vars_of(f.params, count)?;
+    add_flags(&mut b, f.params, count)?;
     b.push(Op::Turn, NO_LINE)?;
-    let vars = parameters_of(f.locals.len())?;
     let ret = register_type(&f.ret);
     emit_body(
         &mut b,
@@ -48,7 +50,7 @@ pub fn build_own(alloc: Global, checked: &Checked) -> Result<Func, Memory>
     ensures { IfOk result (IsOwnOf (typed_module checked.now)) }
 {
     let mut b = begin(alloc, Vec::new(alloc))?;
-    let vars = parameters_of(0)?;
+    let vars = vars_of(0, 0)?;
     emit_body(
         &mut b,
         alloc,

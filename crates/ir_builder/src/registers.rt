@@ -1,16 +1,17 @@
 //! The registers with which a function begins.
-ghost use Rattle.std.specs.Prelude.{◌≡◌, ◌+◌, map, IfOk, OnOk, true, false, ℕ};
+ghost use Rattle.std.specs.Prelude.{◌≡◌, ◌≤◌, ◌-◌, map, IfOk, OnOk, true, false, ℕ};
 ghost use Rattle.std.specs.List.{list_any};
 ghost use Rattle.std.specs.Str.{bytes_eq};
 ghost use Rattle.c_core.specs.WellFormed.{names_differ};
 ghost use Rattle.py_typed.specs.Statements.{variable};
-ghost use Rattle.ir_frames.specs.Kinds.{temporary_name};
+ghost use Rattle.ir_frames.specs.Shaped.{Keeps};
+ghost use Rattle.ir_frames.specs.Kinds.{temporary_name, KeepsKinds};
 ghost use Rattle.ir_frames.specs.Naming.{names_of};
-ghost use Rattle.ir_builder.specs.Registers.{variable_registers, AddsText, parameters_alone};
+ghost use Rattle.ir_builder.specs.Registers.{variable_registers, AddsText, variables_of, AddsFlags};
 
 use ir_core::RType;
 use ir_expressions::register_type;
-use ir_frames::Vars;
+use ir_frames::{Emitter, Vars};
 use py_typed::Var;
 use std::alloc::Global;
 use value_core::{Memory, Name};
@@ -60,17 +61,45 @@ fn is_taken(registers: &[(Name, RType)], name: &Name) -> bool
         .any(|register| name.as_str() == register.0.as_str())
 }
 
-/// The numbers of the registers of a function of so many parameters and no other variables.
-pub fn parameters_of(count: usize) -> Result<Vars, Memory>
-    ensures { IfOk result (λ vars. vars ≡ parameters_alone count) }
+/// The numbers of the registers of a function of so many parameters and variables in all. With more registers than there are
+/// numbers it is want of memory.
+pub fn vars_of(params: usize, count: usize) -> Result<Vars, Memory>
+    requires { params ≤ count }
+    ensures { IfOk result (λ vars. vars ≡ variables_of params count) }
 {
-    match count.checked_add(1) {
+    let Some(first) = count.checked_add(1) else {
+        return Err(Memory);
+    };
+    match first.checked_add(count - params) {
         Some(top) => Ok(Vars {
-            params: count,
+            params,
             count,
             text: count,
             top,
         }),
         None => Err(Memory),
     }
+}
+
+/// The flags of the variables that are no parameters. They are unset when the function begins.
+pub fn add_flags(b: &mut Emitter, params: usize, count: usize) -> Result<(), Memory>
+    requires { params ≤ count }
+    ensures added { OnOk result (AddsFlags (count - params) b.old b.new) }
+    ensures shaped { OnOk result (Keeps b.old b.new) }
+    ensures kinds { OnOk result (KeepsKinds b.old b.new) }
+{
+    for variable in params..count {
+        add_flag(b)?;
+    }
+    Ok(())
+}
+
+// The flag of one variable.
+fn add_flag(b: &mut Emitter) -> Result<(), Memory>
+    ensures added { OnOk result (AddsFlags 1 b.old b.new) }
+    ensures shaped { Keeps b.old b.new }
+    ensures kinds { KeepsKinds b.old b.new }
+{
+    b.temporary(RType::Bool)?;
+    Ok(())
 }

@@ -1,5 +1,5 @@
 -- Calls, and their arguments from the left.
-use Rattle.std.proofs.Common.{◌≡◌, refl, sym, ◌∙◌, ap, subst, ℕ, suc, ◌+◌, ◌<◌, arith, le_refl, true, false, cond, List, [], ◌∷◌, length, map, Option, Some, None}
+use Rattle.std.proofs.Common.{◌≡◌, refl, sym, ◌∙◌, ap, subst, ℕ, suc, ◌+◌, ◌<◌, arith, le_refl, true, false, List, [], ◌∷◌, length, map, Option, Some, None}
 use Rattle.std.specs.Prelude.{slice_get, ◌&&◌}
 use Rattle.std.specs.Option.{option_map, option_and_then}
 use Rattle.std.proofs.lemmas.Bool.{eq-eqb}
@@ -15,16 +15,13 @@ use Rattle.ir_core.specs.declared.code.RType.{RType}
 use Rattle.ir_core.specs.declared.code.RType.TheVariants.{Int, I64, Bool as BoolType, Ref}
 use Rattle.ir_core.specs.declared.code.Reg.{Reg}
 use Rattle.ir_core.specs.declared.code.Op.TheVariants as op
-use Rattle.ir_core.specs.declared.code.Last.TheVariants as last
 use Rattle.ir_core.specs.declared.code.Func.{Func}
 use Rattle.ir_core.specs.declared.code.Program.{Program}
-use Rattle.ir_core.specs.declared.kind.Edge.TheVariants.{Tests, TestsTwice}
-use Rattle.ir_core.specs.Items.{Item, Do, End}
-use Rattle.ir_core.specs.Rows.{Declared, type_of_reg, edge_of_kind, kind_by_result}
+use Rattle.ir_core.specs.declared.kind.Edge.TheVariants.{Tests}
+use Rattle.ir_core.specs.Rows.{Declared, type_of_reg}
 use Rattle.ir_core.specs.Registers.{Held, Holds, error_of, is_error, Regs, put, first_regs}
-use Rattle.ir_core.specs.Effects.{World}
 use Rattle.ir_core.specs.Building.{Building}
-use Rattle.ir_core.specs.Meaning.{Frame, Waiting, Runs, Leaves, Strict, read_all, is_type, are_types, is_fit, is_edge, away, registers_of, item_at, handler_at, failed, step}
+use Rattle.ir_core.specs.Meaning.{Waiting, Leaves, Strict, read_all, is_type, are_types, is_fit, is_edge, away, registers_of, item_at, handler_at, step}
 use Rattle.ir_core.proofs.StepLemmas.{put_same, put_other, call_step}
 use Rattle.ir_frames.specs.Settings.{Setting, rtype_of}
 use Rattle.ir_frames.specs.Placing.{Has}
@@ -36,6 +33,7 @@ use Rattle.ir_frames.proofs.HeldLemmas.{extends_refl, extends_trans, type_has, h
 use Rattle.ir_frames.proofs.ComingLemmas.{leads_refl, leads_step, ends_both, ends_from}
 use Rattle.ir_frames.proofs.StepLemmas.{read_is}
 use Rattle.ir_frames.proofs.MatchLemmas.{room_on, match_kept, thrown_now, computes_all_then}
+use Rattle.ir_frames.proofs.AttemptLemmas.{failed_off}
 use Rattle.ir_expressions.specs.Emitting.{means_all, Emits, EmitsAll}
 
 -- ---- what a call needs
@@ -101,26 +99,11 @@ error_is I64 = refl
 error_is BoolType = refl
 error_is Ref = refl
 
-twice_is : (r : Reg) (o : Option Item) → is_edge (TestsTwice r) o ≡ is_edge (Tests r) o
-twice_is r None = refl
-twice_is r (Some (Do q)) = refl
-twice_is r (Some (End (last.Goto t))) = refl
-twice_is r (Some (End (last.If s a b))) = refl
-twice_is r (Some (End (last.IfError s a b line))) = refl
-twice_is r (Some (End (last.Return s))) = refl
-twice_is r (Some (End last.Unreachable)) = refl
-
 module _ (p : Program) where
-  failed_off : (t : RType) (r : Reg) (f : Frame) (below : List Waiting) (w : World) → is_edge (Tests r) (item_at p f.fn f.block f.place) ≡ false → failed Strict p (edge_of_kind (kind_by_result (Some t)) (Some r)) f below w ≡ away (handler_at p f.fn f.block) f below w
-  failed_off Int r f below w e = ap (λ b. cond b (Runs f below w) (away (handler_at p f.fn f.block) f below w)) e
-  failed_off I64 r f below w e = ap (λ b. cond b (Runs f below w) (away (handler_at p f.fn f.block) f below w)) (twice_is r (item_at p f.fn f.block f.place) ∙ e)
-  failed_off BoolType r f below w e = ap (λ b. cond b (Runs f below w) (away (handler_at p f.fn f.block) f below w)) e
-  failed_off Ref r f below w e = ap (λ b. cond b (Runs f below w) (away (handler_at p f.fn f.block) f below w)) e
-
   -- an exception leaves a function, and comes to its caller
   leaves_step : (g : ℕ) (h : Func) (fn k i : ℕ) (regs : Regs) (into : ℕ) (t : RType) (below : List Waiting) (e : Thrown) (s : State) → slice_get p.funcs g ≡ Some h → type_of_reg (registers_of p fn) (record { 0 = into }) ≡ Some t → is_edge (Tests record { 0 = into }) (item_at p fn k (i + 1)) ≡ false → step Strict p (Leaves g (record { frame = record { fn = fn; block = k; place = i; regs = regs }; into = record { 0 = into } } ∷ below) (world (Some e) s)) ≡ away (handler_at p fn k) (record { fn = fn; block = k; place = i + 1; regs = put regs into (error_of t) }) below (world (Some e) s)
   leaves_step g h fn k i regs into t below e s there type edge =
-      rw (there, error_is h.ret, type) (failed_off t (record { 0 = into }) (record { fn = fn; block = k; place = i + 1; regs = put regs into (error_of t) }) below (world (Some e) s) edge)
+      rw (there, error_is h.ret, type) (failed_off p t (record { 0 = into }) (record { fn = fn; block = k; place = i + 1; regs = put regs into (error_of t) }) below (world (Some e) s) edge)
 
 pub call_emits : (x : Setting) (f : ℕ) (g : TypedFunc) (es : TypedExprs) (place : Span) (b0 b1 b2 : Building) (rs : List Reg) (r : ℕ) → slice_get x.source.funcs f ≡ Some g → HasRoom x b0 → EmitsAll x (parameter_sorts g) es b0 b1 rs → Adds b1 b2 r (rtype_of g.ret) (op.Call record { 0 = r } f rs) → Emits x (typed (Call f es) g.ret place) b0 b2 r
 call_emits x f g es place b0 b1 b2 rs r is room q a =

@@ -5,10 +5,12 @@ pub mod CallLemmas
 pub mod ArgumentLemmas
 pub mod ArmLemmas
 pub mod ValueLemmas
+pub mod ArithmeticLemmas
 pub mod ChoiceLemmas
 pub mod OpenLemmas
 pub mod LinkLemmas
 pub mod NodeLemmas
+pub mod ReadingLemmas
 pub mod ChainLemmas
 pub mod GoingLemmas
 pub mod UnsuitedLemmas

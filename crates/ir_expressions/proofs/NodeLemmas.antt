@@ -26,17 +26,18 @@ use Rattle.ir_frames.specs.Calling.{Adds}
 use Rattle.ir_frames.specs.Coming.{world, running, Ends}
 use Rattle.ir_core.specs.declared.code.Program.{Program}
 use Rattle.ir_core.specs.Meaning.{Waiting}
-use Rattle.ir_frames.specs.Matching.{HasKind, Keeps, flag_in, Matches, HasRoom, IsThrown, CallsWork}
-use Rattle.ir_frames.specs.Computing.{Shows, ShowsNumber, Meaning, Arrives, Computes, Makes, OfOne, OfTwo}
+use Rattle.ir_frames.specs.Matching.{HasKind, Keeps, flag_of, flag_in, Matches, HasRoom, IsThrown, CallsWork}
+use Rattle.ir_frames.specs.Computing.{Shows, ShowsNumber, Meaning, Arrives, Computes, Makes, Attempts, OfOne}
 use Rattle.ir_frames.proofs.HeldLemmas.{extends_refl, extends_trans, type_below, type_kept, has_less}
 use Rattle.ir_frames.proofs.ComingLemmas.{ends_now, ends_of, ends_on, ends_from, leads_refl}
 use Rattle.ir_frames.proofs.StepLemmas.{literal_makes}
-use Rattle.ir_frames.proofs.MatchLemmas.{room_on, match_kept, computes_then, computes_as, computes_of, then_makes, both_make, made_computes}
-use Rattle.ir_expressions.specs.Compiled.{is_scalar, is_bool, is_built}
+use Rattle.ir_frames.proofs.MatchLemmas.{room_on, match_kept, computes_then, computes_as, computes_of, then_makes, made_computes}
+use Rattle.ir_frames.proofs.AttemptLemmas.{both_attempt}
+use Rattle.ir_expressions.specs.Compiled.{is_scalar, is_bool}
 use Rattle.ir_expressions.specs.Operating.{Negates, Inverts, Numbers, Operates, Asks, TestsValue, literal_of_truth}
 use Rattle.ir_expressions.specs.Emitting.{means, Emits, EmitsNumber}
 use Rattle.ir_expressions.specs.Choices.{Opens, Brings, Meets}
-use Rattle.ir_expressions.proofs.ValueLemmas.{counts_coerced, counts_within, wrap_within, operated_within, negated_is, arithmetic_is, truth_of_number, kind_counts}
+use Rattle.ir_expressions.proofs.ValueLemmas.{counts_coerced, counts_within, wrap_within, negated_is, arithmetic_is, truth_of_number, kind_counts}
 use Rattle.ir_expressions.proofs.ChoiceLemmas.{shows_set, choice_runs, meet_within, arm_ends}
 
 kind_at : (t u : Sort) (v : Value) → t ≡ u → HasKind t v → HasKind u v
@@ -55,7 +56,7 @@ literal_emits x k place b c r within a = made_computes x (ShowsNumber sort.Int) 
 
 -- a parameter is set
 set_flag : (f : Vars) (regs : Regs) (j : ℕ) → j < f.params → flag_in f regs j ≡ Holds (BoolVal true)
-set_flag f regs j lt = let e : nat_lt j f.params ≡ true = grind (arith, nat_tests) in ap (λ b. if b then Holds (BoolVal true) else regs (f.count + (j - f.params))) e
+set_flag f regs j lt = let e : nat_lt j f.params ≡ true = grind (arith, nat_tests) in ap (λ b. if b then Holds (BoolVal true) else regs (flag_of f j)) e
 
 kept_value : (t : Sort) (h flag : Held) (o : Option Value) → flag ≡ Holds (BoolVal true) → Keeps t h flag o → (v : Value) × (o ≡ Some v) × (h ≡ Holds v) × HasKind t v
 kept_value t h flag None set k = let f : Holds (BoolVal true) ≡ Unset = sym set ∙ k in absurd (cc)
@@ -100,13 +101,18 @@ truth_emits x e place b0 b1 b2 q r is room c made =
           (BoolVal z, Holds (BoolVal z), ap (λ y. on_to (truth_of y s) (λ b. give (BoolVal b))) a.1 ∙ ap (λ o. on_to o (λ b. give (BoolVal b))) (truth_of_number a.0 s), record { v = v; is = k.0; result = BoolVal z; fits = (a.0, a.1, refl); gives = refl }, (refl, (z, refl)));
     }
 
-pub arith_emits : (x : Setting) (op : BinOp) (a b : TypedExpr) (place : Span) (b0 b1 b2 b3 : Building) (q q' r : ℕ) → is_built op ≡ true → HasRoom x b0 → EmitsNumber x a b0 b1 q → EmitsNumber x b b1 b2 q' → Makes b2 b3 r rtype.I64 (OfTwo q q' (Operates op)) → Emits x (typed (Arith op a b) sort.I64 place) b0 b3 r
-arith_emits x op a b place b0 b1 b2 b3 q q' r built room c d made =
-    both_make x (ShowsNumber (type_of a)) (ShowsNumber (type_of b)) (Shows sort.I64) rtype.I64 rtype.I64 rtype.I64 (means x a) (means x b) (arithmetic sort.I64 op) (OfTwo q q' (Operates op)) b0 b1 b2 b3 q q' r room c d made record {
-      each = λ u v s regs k l.
-          let z : Value = IntVal (Rattle.ir_expressions.specs.Operating.operated op k.0 l.0) in
-          (z, Holds z, arithmetic_is op (type_of a) (type_of b) u v k.0 l.0 s built k.2 l.2, record { u = IntVal k.0; left = k.1; v = IntVal l.0; right = l.1; result = z; fits = (k.0, l.0, refl, refl, refl); gives = refl }, (refl, (_, refl, operated_within op k.0 l.0 built)));
-    }
+pub arith_emits : (x : Setting) (op : BinOp) (a b : TypedExpr) (place : Span) (b0 b1 b2 b3 : Building) (q q' r : ℕ) → HasRoom x b0 → EmitsNumber x a b0 b1 q → EmitsNumber x b b1 b2 q' → Attempts (Shows sort.I64) b2 b3 r rtype.I64 (Operates op q q') → Emits x (typed (Arith op a b) sort.I64 place) b0 b3 r
+arith_emits x op a b place b0 b1 b2 b3 q q' r room c d made =
+    both_attempt x (ShowsNumber (type_of a)) (ShowsNumber (type_of b)) (Shows sort.I64) rtype.I64 rtype.I64 rtype.I64 (means x a) (means x b) (arithmetic sort.I64 op) (Operates op q q') b0 b1 b2 b3 q q' r room c d made
+    (λ u v s regs k l. record {
+      a = k.0;
+      left = k.1;
+      left_fits = counts_within (type_of a) u k.0 k.2;
+      b = l.0;
+      right = l.1;
+      right_fits = counts_within (type_of b) v l.0 l.2;
+      does = arithmetic_is op (type_of a) (type_of b) u v k.0 l.0 s k.2 l.2;
+    })
 
 -- the number of a native integer is its value, and that of a bool is made of it
 pub i64_number : (x : Setting) (e : TypedExpr) (b c : Building) (r : ℕ) → type_of e ≡ sort.I64 → Emits x e b c r → EmitsNumber x e b c r

@@ -6,8 +6,6 @@ use Rattle.value_core.specs.Value.{IntVal, BoolVal}
 use Rattle.c_core.specs.declared.primitive.Primitive.TheVariants as prim
 use Rattle.c_core.specs.declared.primitive.Int64Prim.TheVariants as int64
 use Rattle.c_core.specs.declared.primitive.BoolPrim.TheVariants as bool
-use Rattle.py_syntax.specs.declared.expression.BinOp.{BinOp}
-use Rattle.py_syntax.specs.declared.expression.BinOp.TheVariants as bin
 use Rattle.py_syntax.specs.declared.expression.CmpOp.{CmpOp}
 use Rattle.py_syntax.specs.declared.expression.CmpOp.TheVariants as cmp
 use Rattle.ir_core.specs.declared.code.Lit.TheVariants.{Number}
@@ -25,7 +23,7 @@ use Rattle.ir_frames.specs.Computing.{Makes, OfOne, OfTwo}
 use Rattle.ir_frames.proofs.HeldLemmas.{type_below, type_kept}
 use Rattle.ir_frames.proofs.StepLemmas.{literal_makes, one_makes, two_makes, Through, makes_then, makes_as}
 use Rattle.ir_expressions.specs.Compiled.{is_ordering}
-use Rattle.ir_expressions.specs.Operating.{Negates, Inverts, Numbers, Asks, Operates, operated, primitive_of, Orders, ordered, Compares, compares, test_primitive, is_swapped, is_unequal}
+use Rattle.ir_expressions.specs.Operating.{Negates, Inverts, Numbers, Asks, Orders, ordered, Compares, compares, test_primitive, is_swapped, is_unequal}
 
 pub negation_makes : (b c : Building) (r x : ℕ) → HasType b x rtype.I64 → Adds b c r rtype.I64 (Prim (Some record { 0 = r }) (prim.Int64 int64.Negate) (Var record { 0 = x } ∷ [])) → Makes b c r rtype.I64 (OfOne x Negates)
 negation_makes b c r x type a = one_makes b c r x rtype.I64 rtype.I64 (prim.Int64 int64.Negate) Negates a type refl (λ p w v z f. ap (λ y. effect p (prim.Int64 int64.Negate) (Given y ∷ []) w) f.1 ∙ ap (λ y. Gives y w) (sym f.2))
@@ -35,32 +33,6 @@ inversion_makes b c r x type a = one_makes b c r x rtype.Bool rtype.Bool (prim.B
 
 pub number_makes : (b c : Building) (r x : ℕ) → HasType b x rtype.Bool → Adds b c r rtype.I64 (Prim (Some record { 0 = r }) (prim.Int64 int64.FromBool) (Var record { 0 = x } ∷ [])) → Makes b c r rtype.I64 (OfOne x Numbers)
 number_makes b c r x type a = one_makes b c r x rtype.I64 rtype.Bool (prim.Int64 int64.FromBool) Numbers a type refl (λ p w v z f. ap (λ y. effect p (prim.Int64 int64.FromBool) (Given y ∷ []) w) f.1 ∙ ap (λ y. Gives y w) (sym f.2))
-
-never_operates : (op : BinOp) → failing (prim.Int64 (primitive_of op)) ≡ NeverFails
-never_operates bin.Add = refl
-never_operates bin.Sub = refl
-never_operates bin.Mul = refl
-never_operates bin.FloorDiv = refl
-never_operates bin.Mod = refl
-never_operates bin.Shl = refl
-never_operates bin.Shr = refl
-never_operates bin.Bar = refl
-
-operates : (op : BinOp) (p : Program) (w : World) (a b : ℤ) → effect p (prim.Int64 (primitive_of op)) (Given (IntVal a) ∷ Given (IntVal b) ∷ []) w ≡ Gives (IntVal (operated op a b)) w
-operates bin.Add p w a b = refl
-operates bin.Sub p w a b = refl
-operates bin.Mul p w a b = refl
-operates bin.FloorDiv p w a b = refl
-operates bin.Mod p w a b = refl
-operates bin.Shl p w a b = refl
-operates bin.Shr p w a b = refl
-operates bin.Bar p w a b = refl
-
-pub arithmetic_makes : (op : BinOp) (b c : Building) (r x y : ℕ) → HasType b x rtype.I64 → HasType b y rtype.I64 → Adds b c r rtype.I64 (Prim (Some record { 0 = r }) (prim.Int64 (primitive_of op)) (Var record { 0 = x } ∷ Var record { 0 = y } ∷ [])) → Makes b c r rtype.I64 (OfTwo x y (Operates op))
-arithmetic_makes op b c r x y type_x type_y a = two_makes b c r x y rtype.I64 rtype.I64 rtype.I64 (prim.Int64 (primitive_of op)) (Operates op) a type_x type_y (never_operates op) (λ p w u v z f.
-    ap (λ k. effect p (prim.Int64 (primitive_of op)) (Given k ∷ Given v ∷ []) w) f.2
-    ∙ ap (λ k. effect p (prim.Int64 (primitive_of op)) (Given (IntVal f.0) ∷ Given k ∷ []) w) f.3
-    ∙ operates op p w f.0 f.1 ∙ ap (λ k. Gives k w) (sym f.4))
 
 never_tests : (op : CmpOp) → failing (prim.Int64 (test_primitive op)) ≡ NeverFails
 never_tests cmp.Eq = refl

@@ -9,17 +9,16 @@ use Rattle.value_core.specs.declared.arith.Arith.TheVariants.{OutOfRange}
 use Rattle.value_core.specs.Arithmetic.{lies_within, i64_neg}
 use Rattle.value_core.specs.Value.{Value, IntVal, BoolVal}
 use Rattle.py_syntax.specs.declared.expression.BinOp.{BinOp}
-use Rattle.py_syntax.specs.declared.expression.BinOp.TheVariants as bin
 use Rattle.py_syntax.specs.declared.expression.CmpOp.{CmpOp}
 use Rattle.py_syntax.specs.declared.expression.CmpOp.TheVariants as cmp
 use Rattle.py_typed.specs.Sorts as sort
 use Rattle.py_typed.specs.Sorts.{Sort}
 use Rattle.py_typed.specs.State.{State, Outcome, Gives, Does, on_to}
-use Rattle.py_typed.specs.Operations.{fitting, coerced, with_number, of_numbers, arithmetic, negated_as, negated, is_equal, is_less, compared_as, compared, holds, truth_of}
+use Rattle.py_typed.specs.Operations.{fitting, coerced, with_number, of_i64, of_numbers, arithmetic, negated_as, negated, is_equal, is_less, compared_as, compared, holds, truth_of}
 use Rattle.ir_frames.specs.Matching.{HasKind}
 use Rattle.ir_frames.specs.Computing.{Counts}
-use Rattle.ir_expressions.specs.Compiled.{is_built, is_ordering, is_pair}
-use Rattle.ir_expressions.specs.Operating.{operated, ordered}
+use Rattle.ir_expressions.specs.Compiled.{is_ordering, is_pair}
+use Rattle.ir_expressions.specs.Operating.{ordered}
 
 -- ---- range
 
@@ -32,16 +31,6 @@ wrap_within z = fits_within (int_wrap w64 z) (SFits-int_wrap w64 z)
 
 pub number_coerced : (n : ℤ) (s : State) → lies_within 63 n ≡ true → coerced sort.I64 (IntVal n) s ≡ Gives (IntVal n) s
 number_coerced n s e = ap (λ b. fitting (cond b (Ok n) (Err OutOfRange)) s) e
-
-pub operated_within : (op : BinOp) (a b : ℤ) → is_built op ≡ true → lies_within 63 (operated op a b) ≡ true
-operated_within bin.Add a b e = wrap_within _
-operated_within bin.Sub a b e = wrap_within _
-operated_within bin.Mul a b e = wrap_within _
-operated_within bin.FloorDiv a b e = wrap_within _
-operated_within bin.Mod a b e = wrap_within _
-operated_within bin.Shl a b e = wrap_within _
-operated_within bin.Shr a b e = wrap_within _
-operated_within bin.Bar a b e = wrap_within _
 
 -- ---- numbers
 
@@ -83,21 +72,10 @@ kind_counts v k = (k.1, k.2)
 pub negated_is : (a : ℤ) (s : State) → lies_within 63 a ≡ true → negated sort.I64 (IntVal a) s ≡ Gives (IntVal (i64_neg a)) s
 negated_is a s e = ap (λ o. on_to o (λ z. with_number z (negated_as sort.I64))) (number_coerced a s e)
 
-operation_is : (op : BinOp) (a b : ℤ) (s : State) → is_built op ≡ true → of_numbers sort.I64 op a b s ≡ Gives (IntVal (operated op a b)) s
-operation_is bin.Add a b s e = refl
-operation_is bin.Sub a b s e = refl
-operation_is bin.Mul a b s e = refl
-operation_is bin.FloorDiv a b s e = let f : false ≡ true = e in absurd (cc)
-operation_is bin.Mod a b s e = let f : false ≡ true = e in absurd (cc)
-operation_is bin.Shl a b s e = let f : false ≡ true = e in absurd (cc)
-operation_is bin.Shr a b s e = let f : false ≡ true = e in absurd (cc)
-operation_is bin.Bar a b s e = let f : false ≡ true = e in absurd (cc)
-
-pub arithmetic_is : (op : BinOp) (t u : Sort) (x y : Value) (a b : ℤ) (s : State) → is_built op ≡ true → Counts t x a → Counts u y b → arithmetic sort.I64 op x y s ≡ Gives (IntVal (operated op a b)) s
-arithmetic_is op t u x y a b s built c d =
+pub arithmetic_is : (op : BinOp) (t u : Sort) (x y : Value) (a b : ℤ) (s : State) → Counts t x a → Counts u y b → arithmetic sort.I64 op x y s ≡ of_i64 op a b s
+arithmetic_is op t u x y a b s c d =
     ap (λ o. on_to o (λ m s1. on_to (coerced sort.I64 y s1) (λ n. with_number m (λ i. with_number n (λ j. of_numbers sort.I64 op i j))))) (counts_coerced t x a s c)
     ∙ ap (λ o. on_to o (λ n. with_number n (λ j. of_numbers sort.I64 op a j))) (counts_coerced u y b s d)
-    ∙ operation_is op a b s built
 
 -- ---- comparisons
 

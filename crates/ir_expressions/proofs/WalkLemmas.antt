@@ -1,5 +1,5 @@
 -- The code of a declared expression of each kind, and what its parts need.
-use Rattle.std.proofs.Common.{◌≡◌, refl, sym, ◌∙◌, ap, subst, ℕ, ◌≤◌, arith, Bool, true, false, List, [], ◌∷◌, length, map, Option, Some, None}
+use Rattle.std.proofs.Common.{◌≡◌, refl, sym, ◌∙◌, ap, subst, ℕ, ◌<◌, ◌≤◌, arith, Bool, true, false, List, [], ◌∷◌, length, map, Option, Some, None}
 use Rattle.std.specs.Prelude.{ℤ, slice_get}
 use Rattle.std.specs.declared.boxed.Box.{Box}
 use Rattle.std.specs.declared.alloc.Global.{Global}
@@ -25,13 +25,14 @@ use Rattle.ir_frames.specs.Settings.{Setting, rtype_of}
 use Rattle.ir_frames.specs.Placing.{HasType}
 use Rattle.ir_frames.specs.Calling.{Adds}
 use Rattle.ir_frames.specs.Matching.{HasRoom, parameter_sorts}
-use Rattle.ir_frames.specs.Computing.{Makes, OfOne, OfTwo, HaveTypes}
+use Rattle.ir_frames.specs.Computing.{Shows, Makes, Attempts, OfOne, HaveTypes}
 use Rattle.ir_frames.specs.Shaped.{AllBelow, Keeps}
 use Rattle.ir_frames.specs.Kinds.{Surrounding, Calls, KeepsKindsIf}
 use Rattle.ir_frames.proofs.HeldLemmas.{get_below, type_below}
 use Rattle.ir_expressions.specs.Compiled.{is_scalar, is_bool, is_built, literal_in}
 use Rattle.ir_expressions.specs.Suiting.{Suits, OperandSuits, Operand, SomeSuit, SomeChain}
 use Rattle.ir_expressions.specs.Operating.{Negates, Inverts, Numbers, Asks, Operates, TestsValue, FitsIfLiteral, literal_of_truth}
+use Rattle.ir_expressions.specs.Reading.{EmitsLocal}
 use Rattle.ir_expressions.specs.Emitting.{Emits, EmitsNumber, EmitsAll, EmitsAnyChain}
 use Rattle.ir_expressions.specs.Walking.{Walks}
 use Rattle.ir_expressions.specs.Choices.{Opens, Brings, Meets}
@@ -55,11 +56,15 @@ module _ (x : Setting) (e : TExpr) (suits : Suits x.source x.variables (typed_ex
   pub flag_walked : (value : Bool) (b c : Building) (r : ℕ) → e.kind ≡ kind.Bool value → Adds b c r rtype.Bool (Lit record { 0 = r } (literal_of_truth value)) → Emits x (typed_expr e) b c r
   flag_walked value b c r is a = emits_as x e (tree.Flag value) sort.Bool b c r (is_flag e value is) (asked x.source x.variables e (tree.Flag value) (is_flag e value is) suits) (flag_emits x value e.span b c r a)
 
-  pub local_walked : (i : ℕ) (b : Building) → e.kind ≡ kind.Local i → length x.variables ≤ x.frame.locals.params → HasRoom x b → Emits x (typed_expr e) b b i
-  local_walked i b is params room =
+  pub local_below : (i : ℕ) → e.kind ≡ kind.Local i → i < length x.variables
+  local_below i is =
       let n = asked x.source x.variables e (tree.Local i) (is_local e i is) suits in
-      let low = get_below x.variables i n.1 n.2 in
-      emits_as x e (tree.Local i) (sort_of e.ty) b b i (is_local e i is) refl (local_emits x i n.1 (sort_of e.ty) e.span b n.2 n.3 (omega arith) room)
+      get_below x.variables i n.1 n.2
+
+  pub local_walked : (i : ℕ) (b c : Building) (r : ℕ) → e.kind ≡ kind.Local i → r ≡ i → EmitsLocal x.variables x.frame i b c i → Emits x (typed_expr e) b c r
+  local_walked i b c r is own q =
+      let n = asked x.source x.variables e (tree.Local i) (is_local e i is) suits in
+      subst (λ z. Emits x (typed_expr e) b c z) (sym own) (emits_as x e (tree.Local i) (sort_of e.ty) b c i (is_local e i is) refl (q x.source (sort_of e.ty) e.span n))
 
   -- ---- operators
 
@@ -96,10 +101,10 @@ module _ (x : Setting) (e : TExpr) (suits : Suits x.source x.variables (typed_ex
   pub arith_built : (op : BinOp) (a b : Part) → e.kind ≡ kind.Arith op a b → is_built op ≡ true
   arith_built op a b is = (asked x.source x.variables e (tree.Arith op (typed_expr a.value) (typed_expr b.value)) (is_arith e op a b is) suits).1
 
-  pub arith_walked : (op : BinOp) (a b : Part) (b0 b1 b2 b3 : Building) (q q' r : ℕ) → e.kind ≡ kind.Arith op a b → HasRoom x b0 → EmitsNumber x (typed_expr a.value) b0 b1 q → EmitsNumber x (typed_expr b.value) b1 b2 q' → Makes b2 b3 r rtype.I64 (OfTwo q q' (Operates op)) → Emits x (typed_expr e) b0 b3 r
+  pub arith_walked : (op : BinOp) (a b : Part) (b0 b1 b2 b3 : Building) (q q' r : ℕ) → e.kind ≡ kind.Arith op a b → HasRoom x b0 → EmitsNumber x (typed_expr a.value) b0 b1 q → EmitsNumber x (typed_expr b.value) b1 b2 q' → Attempts (Shows sort.I64) b2 b3 r rtype.I64 (Operates op q q') → Emits x (typed_expr e) b0 b3 r
   arith_walked op a b b0 b1 b2 b3 q q' r is room c d made =
       let n = asked x.source x.variables e (tree.Arith op (typed_expr a.value) (typed_expr b.value)) (is_arith e op a b is) suits in
-      emits_as x e (tree.Arith op (typed_expr a.value) (typed_expr b.value)) sort.I64 b0 b3 r (is_arith e op a b is) n.0 (arith_emits x op (typed_expr a.value) (typed_expr b.value) e.span b0 b1 b2 b3 q q' r n.1 room c d made)
+      emits_as x e (tree.Arith op (typed_expr a.value) (typed_expr b.value)) sort.I64 b0 b3 r (is_arith e op a b is) n.0 (arith_emits x op (typed_expr a.value) (typed_expr b.value) e.span b0 b1 b2 b3 q q' r room c d made)
 
   -- ---- comparisons
 

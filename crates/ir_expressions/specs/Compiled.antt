@@ -2,7 +2,7 @@
 use Rattle.std.specs.Prelude.{ℤ, Bool, true, false, ◌&&◌, ◌||◌, Option, Some, None}
 use Rattle.value_core.specs.Arithmetic.{lies_within}
 use Rattle.py_syntax.specs.declared.expression.BinOp.{BinOp}
-use Rattle.py_syntax.specs.declared.expression.BinOp.TheVariants.{Add, Sub, Mul}
+use Rattle.py_syntax.specs.declared.expression.BinOp.TheVariants.{Add, Sub, Mul, FloorDiv, Mod, Shl, Shr}
 use Rattle.py_syntax.specs.declared.expression.CmpOp.{CmpOp}
 use Rattle.py_syntax.specs.declared.expression.CmpOp.TheVariants.{Eq, Ne, Lt, Le, Gt, Ge}
 use Rattle.py_typed.specs.Sorts as sort
@@ -27,11 +27,15 @@ abbrev pub is_result : Sort → Bool
 is_result sort.Nothing = true
 is_result t = is_scalar t
 
--- sums, differences and products
+-- all arithmetic of native integers
 abbrev pub is_built : BinOp → Bool
 is_built Add = true
 is_built Sub = true
 is_built Mul = true
+is_built FloorDiv = true
+is_built Mod = true
+is_built Shl = true
+is_built Shr = true
 is_built _ = false
 
 -- a comparison of numbers

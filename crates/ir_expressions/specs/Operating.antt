@@ -1,17 +1,17 @@
 -- What operations make of the values of registers.
 use Rattle.std.specs.Prelude.{◌≡◌, ◌<◌, ℕ, ℤ, pos, Bool, true, false, not, int_lt, List, length, Option, Some, None}
 use Rattle.std.specs.Ordering.{int_eq}
-use Rattle.value_core.specs.Arithmetic.{lies_within, i64_add, i64_sub, i64_mul, i64_neg}
+use Rattle.value_core.specs.Arithmetic.{lies_within, i64_neg}
 use Rattle.value_core.specs.Value.{Value, IntVal, BoolVal}
 use Rattle.c_core.specs.declared.primitive.Int64Prim.{Int64Prim}
-use Rattle.c_core.specs.declared.primitive.Int64Prim.TheVariants.{Add as AddPrim, Subtract, Multiply, Eq as EqPrim, Lt as LtPrim, Le as LePrim}
+use Rattle.c_core.specs.declared.primitive.Int64Prim.TheVariants.{Add as AddPrim, Subtract, Multiply, FloorDivide, Remainder, Lshift, Rshift, Eq as EqPrim, Lt as LtPrim, Le as LePrim}
 use Rattle.py_syntax.specs.declared.expression.BinOp.{BinOp}
-use Rattle.py_syntax.specs.declared.expression.BinOp.TheVariants.{Add, Sub}
+use Rattle.py_syntax.specs.declared.expression.BinOp.TheVariants.{Add, Sub, FloorDiv, Mod, Shl, Shr}
 use Rattle.py_syntax.specs.declared.expression.CmpOp.{CmpOp}
 use Rattle.py_syntax.specs.declared.expression.CmpOp.TheVariants.{Eq, Ne, Lt, Le, Gt, Ge}
 use Rattle.py_typed.specs.Sorts.{Sort}
-use Rattle.py_typed.specs.State.{State, Gives}
-use Rattle.py_typed.specs.Operations.{truth_of}
+use Rattle.py_typed.specs.State.{State, Outcome, Gives}
+use Rattle.py_typed.specs.Operations.{of_i64, truth_of}
 use Rattle.ir_core.specs.declared.code.Lit.{Lit}
 use Rattle.ir_core.specs.declared.code.Lit.TheVariants.{Number}
 use Rattle.ir_core.specs.declared.code.Program.{Program}
@@ -40,15 +40,21 @@ Asks v z = (a : ℤ) × (v ≡ IntVal a) × (z ≡ BoolVal (not (int_eq a (pos 0
 abbrev pub primitive_of : BinOp → Int64Prim
 primitive_of Add = AddPrim
 primitive_of Sub = Subtract
+primitive_of FloorDiv = FloorDivide
+primitive_of Mod = Remainder
+primitive_of Shl = Lshift
+primitive_of Shr = Rshift
 primitive_of _ = Multiply
 
-abbrev pub operated : BinOp → ℤ → ℤ → ℤ
-operated Add a b = i64_add a b
-operated Sub a b = i64_sub a b
-operated _ a b = i64_mul a b
-
-abbrev pub Operates : BinOp → Value → Value → Value → Type 0
-Operates op u v z = (a : ℤ) × (b : ℤ) × (u ≡ IntVal a) × (v ≡ IntVal b) × (z ≡ IntVal (operated op a b))
+-- an operator on two registers that hold native integers does what the source does
+pub record Operates (op : BinOp) (x y : ℕ) (regs : Regs) (s : State) (res : Outcome Value) : Type 0 where
+  pub a : ℤ
+  pub left : regs x ≡ Holds (IntVal a)
+  pub left_fits : lies_within 63 a ≡ true
+  pub b : ℤ
+  pub right : regs y ≡ Holds (IntVal b)
+  pub right_fits : lies_within 63 b ≡ true
+  pub does : res ≡ of_i64 op a b s
 
 abbrev pub ordered : CmpOp → ℤ → ℤ → Bool
 ordered Eq a b = int_eq a b

@@ -1,5 +1,5 @@
 -- What is asked of an expression that is built: its form is one of those that are compiled, and its parts have the types of a
--- well-typed one, in a module whose variables are the parameters of the function.
+-- well-typed one, in a function of a module with some variables.
 use Rattle.std.specs.Prelude.{◌≡◌, ℤ, true, List, [], ◌∷◌, Option, Some, None, slice_get}
 use Rattle.value_core.specs.Arithmetic.{lies_within}
 use Rattle.py_typed.specs.Sorts as sort

@@ -16,6 +16,7 @@ ghost use Rattle.ir_expressions.specs.Emitting.{Emits, EmitsNumber, EmitsAll, Em
 
 use crate::chain::{begin_link, meet_links};
 use crate::choice::{begin, meet, turn};
+use crate::local::emit_local;
 use crate::operations::{
     emit_arithmetic, emit_comparison, emit_inversion, emit_negation, emit_number, emit_test,
     emit_truth, is_bool, literal_of, register_type, truth,
@@ -41,7 +42,6 @@ pub fn emit_expression(
 ) -> Result<Reg, Memory>
     requires suits { Suits (typed_module checked.now) (map variable locals.now) (typed_expr e.now) }
     requires room { HasRoom (setting checked.now locals.now frame) b.old }
-    requires parameters { length locals.now ≤ frame.locals.params }
     ensures kept { Extends b.old b.new }
     ensures emitted { IfOk result (λ r. Emits (setting checked.now locals.now frame) (typed_expr e.now) b.old b.new r.0) }
     ensures shaped { Keeps b.old b.new }
@@ -49,7 +49,7 @@ pub fn emit_expression(
 {
     match &e.kind {
         TKind::Bool(value) => b.literal(RType::Bool, truth(*value), line),
-        TKind::Local(i) => Ok(Reg(*i)),
+        TKind::Local(i) => emit_local(b, alloc, locals, frame, *i, line),
         TKind::Neg(x) => {
             let x = emit_expression(b, alloc, checked, locals, frame, x, line)?;
             emit_negation(b, alloc, x, line)
@@ -96,7 +96,6 @@ pub fn emit_operand(
 ) -> Result<Reg, Memory>
     requires suits { Operand (typed_module checked.now) (map variable locals.now) (typed_expr e.now) }
     requires room { HasRoom (setting checked.now locals.now frame) b.old }
-    requires parameters { length locals.now ≤ frame.locals.params }
     ensures kept { Extends b.old b.new }
     ensures emitted { IfOk result (λ r. EmitsNumber (setting checked.now locals.now frame) (typed_expr e.now) b.old b.new r.0) }
     ensures shaped { Keeps b.old b.new }
@@ -128,7 +127,6 @@ fn emit_arguments(
 ) -> Result<Many<Reg>, Memory>
     requires suits { SomeSuit (typed_module checked.now) (map variable locals.now) (map typed_expr args.now) }
     requires room { HasRoom (setting checked.now locals.now frame) b.old }
-    requires parameters { length locals.now ≤ frame.locals.params }
     ensures walked { Walks (typed_module checked.now) b.old b.new }
     ensures emitted { IfOk result (λ rs. EmitsAll (setting checked.now locals.now frame) (map type_of (map typed_expr args.now)) (exprs_of (map typed_expr args.now)) b.old b.new rs) }
 {
@@ -157,7 +155,6 @@ fn emit_and(
     requires left { Suits (typed_module checked.now) (map variable locals.now) (typed_expr left.now) }
     requires right { Suits (typed_module checked.now) (map variable locals.now) (typed_expr right.now) }
     requires room { HasRoom (setting checked.now locals.now frame) b.old }
-    requires parameters { length locals.now ≤ frame.locals.params }
     ensures walked { Walks (typed_module checked.now) b.old b.new }
     ensures emitted { IfOk result (λ r. Emits (setting checked.now locals.now frame) (typed (And (typed_expr left.now) (typed_expr right.now)) (sort left.now.ty) left.now.span) b.old b.new r.0) }
 {
@@ -188,7 +185,6 @@ fn emit_or(
     requires left { Suits (typed_module checked.now) (map variable locals.now) (typed_expr left.now) }
     requires right { Suits (typed_module checked.now) (map variable locals.now) (typed_expr right.now) }
     requires room { HasRoom (setting checked.now locals.now frame) b.old }
-    requires parameters { length locals.now ≤ frame.locals.params }
     ensures walked { Walks (typed_module checked.now) b.old b.new }
     ensures emitted { IfOk result (λ r. Emits (setting checked.now locals.now frame) (typed (Or (typed_expr left.now) (typed_expr right.now)) (sort left.now.ty) left.now.span) b.old b.new r.0) }
 {
@@ -222,7 +218,6 @@ fn emit_choice(
     requires test { Suits (typed_module checked.now) (map variable locals.now) (typed_expr test.now) }
     requires right { Suits (typed_module checked.now) (map variable locals.now) (typed_expr right.now) }
     requires room { HasRoom (setting checked.now locals.now frame) b.old }
-    requires parameters { length locals.now ≤ frame.locals.params }
     ensures walked { Walks (typed_module checked.now) b.old b.new }
     ensures emitted { IfOk result (λ r. Emits (setting checked.now locals.now frame) (typed (Cond (typed_expr left.now) (typed_expr test.now) (typed_expr right.now)) (sort left.now.ty) left.now.span) b.old b.new r.0) }
 {
@@ -251,7 +246,6 @@ fn emit_chain(
 ) -> Result<Reg, Memory>
     requires suits { SomeChain (typed_module checked.now) (map variable locals.now) (comparisons_of (map typed_comparison rest.now)) }
     requires room { HasRoom (setting checked.now locals.now frame) b.old }
-    requires parameters { length locals.now ≤ frame.locals.params }
     requires first { HasType b.old first.0 RType.I64 }
     ensures walked { Walks (typed_module checked.now) b.old b.new }
     ensures emitted { IfOk result (λ r. EmitsAnyChain (setting checked.now locals.now frame) first.0 (comparisons_of (map typed_comparison rest.now)) b.old b.new r.0) }

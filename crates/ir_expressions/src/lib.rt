@@ -11,10 +11,12 @@
 mod chain;
 mod choice;
 mod expression;
+mod local;
 mod operations;
 
 pub use choice::{Choice, begin, meet, turn};
 pub use expression::{emit_expression, emit_operand};
+pub use local::emit_local;
 pub use operations::{
     emit_arithmetic, emit_comparison, emit_inversion, emit_negation, emit_number, emit_test,
     emit_truth, is_bool, literal_of, register_type, truth,

@@ -5,11 +5,11 @@ ghost use Rattle.ir_core.specs.declared.code.Op.{Op};
 ghost use Rattle.ir_core.specs.Building.{Extends};
 ghost use Rattle.ir_core.specs.Shape.{is_target_of};
 ghost use Rattle.ir_frames.specs.Calling.{Adds};
-ghost use Rattle.ir_frames.specs.Computing.{Makes, OfOne, OfTwo};
+ghost use Rattle.ir_frames.specs.Computing.{Shows, Makes, Attempts, OfOne, OfTwo};
 ghost use Rattle.ir_frames.specs.Placing.{HasType};
 ghost use Rattle.ir_frames.specs.Shaped.{Keeps};
 ghost use Rattle.ir_frames.specs.Kinds.{Answers, KeepsKinds, KeepsKindsIf};
-ghost use Rattle.py_typed.specs.Sorts.{sort};
+ghost use Rattle.py_typed.specs.Sorts.{sort, I64};
 ghost use Rattle.py_typed.specs.Expressions.{typed_expr};
 ghost use Rattle.ir_frames.specs.Settings.{rtype_of};
 ghost use Rattle.ir_expressions.specs.Compiled.{is_built, is_bool as is_bool_sort, is_ordering, is_scalar, literal_in};
@@ -121,11 +121,16 @@ fn primitive_for(op: BinOp) -> Int64Prim
     match op {
         BinOp::Add => Int64Prim::Add,
         BinOp::Sub => Int64Prim::Subtract,
+        BinOp::FloorDiv => Int64Prim::FloorDivide,
+        BinOp::Mod => Int64Prim::Remainder,
+        BinOp::Shl => Int64Prim::Lshift,
+        BinOp::Shr => Int64Prim::Rshift,
         _ => Int64Prim::Multiply,
     }
 }
 
-/// A sum, a difference or a product of native integers.
+/// The result of an operator on native integers. At run time a divisor of 0, a quotient past the range of an `i64` and a shift
+/// count outside 0 to 63 raise the exception of the source.
 pub fn emit_arithmetic(
     b: &mut Emitter,
     alloc: Global,
@@ -138,7 +143,7 @@ pub fn emit_arithmetic(
     requires left { HasType b.old x.0 RType.I64 }
     requires right { HasType b.old y.0 RType.I64 }
     ensures kept { Extends b.old b.new }
-    ensures made { IfOk result (λ r. Makes b.old b.new r.0 RType.I64 (OfTwo x.0 y.0 (Operates op))) }
+    ensures made { IfOk result (λ r. Attempts (Shows I64) b.old b.new r.0 RType.I64 (Operates op x.0 y.0)) }
     ensures shaped { Keeps b.old b.new }
     ensures kinds { KeepsKinds b.old b.new }
 {

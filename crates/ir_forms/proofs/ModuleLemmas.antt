@@ -1,9 +1,9 @@
 -- A well typed module all of which is compiled is one that is built.
 use Rattle.std.proofs.Common.{◌≡◌, refl, sym, ◌∙◌, ap, subst, arith, ℕ, zero, suc, ◌+◌, Bool, true, false, List, [], ◌∷◌, ◌++◌, length, map, Option, Some, None}
-use Rattle.std.proofs.lemmas.Bool.{eqb-true}
+use Rattle.std.proofs.lemmas.Bool.{leb-true}
 use Rattle.std.proofs.lemmas.List.Folds.{list_any-append}
 use Rattle.std.proofs.lemmas.Option.{same_Some}
-use Rattle.std.specs.Prelude.{not, ◌&&◌, ◌||◌, ◌==◌, slice_get}
+use Rattle.std.specs.Prelude.{not, ◌&&◌, ◌||◌, nat_le, slice_get}
 use Rattle.std.specs.List.{list_any, flat_map, filter}
 use Rattle.std.specs.Str.{bytes_eq}
 use Rattle.c_core.specs.WellFormed.{is_identifier, names_differ}
@@ -84,7 +84,7 @@ none_is None h = refl
 none_is (Some a) h = absurd (cc)
 
 no_method : (f : TypedFunc) → is_function f ≡ true → f.class ≡ None
-no_method f h = none_is f.class (and_left (is_none f.class) ((length f.locals == f.params) && (are_scalars f.locals && is_result f.ret)) h)
+no_method f h = none_is f.class (and_left (is_none f.class) (nat_le f.params (length f.locals) && (are_scalars f.locals && is_result f.ret)) h)
 
 -- the types of the parameters of a function that is no method
 own_parameters : (f : TypedFunc) → f.class ≡ None → parameter_types f ≡ parameter_sorts f
@@ -152,12 +152,12 @@ module _ (m : TypedModule) where
     function_suits n f is =
         let p = function_parts n f is in
         let form = formed n f is in
-        let row = and_right (is_none f.class) ((length f.locals == f.params) && (are_scalars f.locals && is_result f.ret)) form.0 in
-        let types = and_right (length f.locals == f.params) (are_scalars f.locals && is_result f.ret) row in
+        let row = and_right (is_none f.class) (nat_le f.params (length f.locals) && (are_scalars f.locals && is_result f.ret)) form.0 in
+        let types = and_right (nat_le f.params (length f.locals)) (are_scalars f.locals && is_result f.ret) row in
         let scalars : AllScalar m f.locals (init_class f) = λ i v there. at_each (λ (x : Variable). is_scalar x.1) f.locals i v (and_left (are_scalars f.locals) (is_result f.ret) types) there in
         record {
           name = p.name;
-          parameters = eqb-true (length f.locals) f.params (and_left (length f.locals == f.params) (are_scalars f.locals && is_result f.ret) row);
+          parameters = leb-true f.params (length f.locals) (and_left (nat_le f.params (length f.locals)) (are_scalars f.locals && is_result f.ret) row);
           scalars = scalars;
           identifiers = and_left _ _ (and_left _ _ p.variables);
           differ = sym (one_test (names_of f.locals)) ∙ and_right _ _ (and_left _ _ p.variables);

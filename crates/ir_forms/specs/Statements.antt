@@ -1,6 +1,6 @@
 -- The lines on which statements, expressions and functions of a typed module stand that are not compiled. A statement stands on
 -- its own line, and what stands inside of one on no line before it.
-use Rattle.std.specs.Prelude.{ℕ, suc, ℤ, pos, negsuc, Bool, true, false, ◌&&◌, nat_le, ◌==◌, List, [], ◌∷◌, ◌++◌, length, Option, Some, None, slice_get}
+use Rattle.std.specs.Prelude.{ℕ, suc, ℤ, pos, negsuc, Bool, true, false, ◌&&◌, nat_le, List, [], ◌∷◌, ◌++◌, length, Option, Some, None, slice_get}
 use Rattle.std.specs.List.{list_all, filter}
 use Rattle.py_syntax.specs.Statements.{StmtTree, at, Def, Suite}
 use Rattle.py_typed.specs.Expressions.{TypedExpr, typed, Print, TypedExprs, no_exprs, expr_then, type_of}
@@ -79,9 +79,9 @@ abbrev pub is_none : {A : Type 0} → Option A → Bool
 is_none None = true
 is_none (Some a) = false
 
--- a function whose names are its parameters, of native integers and bools, with such a result or None
+-- a function whose variables are native integers and bools, with such a result or None
 abbrev pub is_function : TypedFunc → Bool
-is_function f = is_none f.class && ((length f.locals == f.params) && (are_scalars f.locals && is_result f.ret))
+is_function f = is_none f.class && (nat_le f.params (length f.locals) && (are_scalars f.locals && is_result f.ret))
 
 -- it stands on the line of its definition
 abbrev pub definition_line : Option StmtTree → ℕ

@@ -43,7 +43,7 @@ fn is_result(t: &Ty) -> bool
 fn is_built(op: BinOp) -> bool
     ensures { result ≡ compiled.is_built op }
 {
-    matches!(op, BinOp::Add | BinOp::Sub | BinOp::Mul)
+    !matches!(op, BinOp::Bar)
 }
 
 fn is_ordering(op: CmpOp) -> bool
@@ -162,11 +162,10 @@ fn are_scalars(variables: &[Var]) -> bool
     true
 }
 
-/// Whether a function is no method, its names are its parameters, native integers and bools, and its result is one of them or
-/// None.
+/// Whether a function is no method, its variables are native integers and bools, and its result is one of them or None.
 pub(crate) fn is_function(f: &TFunc) -> bool
     ensures { result ≡ statement.is_function (typed_func f.now) }
 {
     f.class.is_none()
-        && (f.locals.len() == f.params && (are_scalars(f.locals.as_slice()) && is_result(&f.ret)))
+        && (f.params <= f.locals.len() && (are_scalars(f.locals.as_slice()) && is_result(&f.ret)))
 }

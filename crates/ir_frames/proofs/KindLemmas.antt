@@ -46,10 +46,10 @@ module _ (regs more : Declared) (up : HasMore regs more) where
   registers_more (t ∷ ts) [] h = absurd h
 
   pub text_more : (q : Primitive) (args : List PArg) → MakesText regs q args → MakesText more q args
-  text_more q args h = (h.0, arguments_more _ args h.1)
+  text_more q args h = (h.0, arguments_more _ args h.1, h.2)
 
   pub answers_more : (t : RType) (q : Primitive) (args : List PArg) → Answers t regs q args → Answers t more q args
-  answers_more t q args h = (h.0, h.1, arguments_more _ args h.2)
+  answers_more t q args h = (h.0, h.1, arguments_more _ args h.2, h.3)
 
   module _ (g : Surrounding) where
     pub calls_more : (t : RType) (n : ℕ) (args : List Reg) → Calls g t regs n args → Calls g t more n args
@@ -58,7 +58,7 @@ module _ (regs more : Declared) (up : HasMore regs more) where
     pub op_more : (o : Op) → OpKinds g regs o → OpKinds g more o
     op_more (Move r s) h = (h.0, h.1, up r h.0 h.2, up s h.0 h.3)
     op_more (Lit r l) h = (h.0, up r h.0 h.1, h.2, h.3)
-    op_more (Prim None q args) h = absurd h
+    op_more (Prim None q args) h = (h.0, arguments_more _ args h.1, h.2)
     op_more (Prim (Some r) q args) h = (h.0, up r h.0 h.1, answers_more h.0 q args h.2)
     op_more (Call r n args) h = (h.0, up r h.0 h.1, h.2, calls_more h.0 n args h.3)
     op_more (Virtual r o n args) h = absurd h

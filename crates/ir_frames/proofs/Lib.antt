@@ -4,5 +4,6 @@ pub mod ComingLemmas
 pub mod ShapeLemmas
 pub mod MatchLemmas
 pub mod StepLemmas
+pub mod AttemptLemmas
 pub mod KindLemmas
 pub mod NameLemmas

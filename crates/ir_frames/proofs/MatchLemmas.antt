@@ -1,5 +1,5 @@
 -- What stays of a frame while a part runs, and what comes behind the code of a value.
-use Rattle.std.proofs.Common.{◌≡◌, ℕ, ◌+◌, ◌-◌, ◌<◌, ◌≤◌, Bool, true, false, List, length, Option, Some, None, refl, sym, ◌∙◌, subst, arith, le_refl}
+use Rattle.std.proofs.Common.{◌≡◌, ℕ, ◌<◌, ◌≤◌, Bool, true, false, List, length, Option, Some, None, refl, sym, ◌∙◌, subst, arith, le_refl}
 use Rattle.std.proofs.lemmas.Bool.Decides.{nat_tests}
 use Rattle.std.specs.Prelude.{nat_lt, if◌then◌else◌}
 use Rattle.value_core.specs.Exceptions.{Thrown}
@@ -16,9 +16,9 @@ use Rattle.ir_core.specs.Meaning.{Waiting, Config, handler_at, away}
 use Rattle.ir_frames.specs.Settings.{Setting, rtype_of}
 use Rattle.ir_frames.specs.Placing.{Has, Placed}
 use Rattle.ir_frames.specs.Coming.{world, running, Ends}
-use Rattle.ir_frames.specs.Matching.{Keeps, flag_in, Matches, BackBelow, HasRoom, SameIn, Stands, IsThrown, CallsWork}
+use Rattle.ir_frames.specs.Matching.{Keeps, flag_of, flag_in, Matches, BackBelow, HasRoom, SameIn, Stands, IsThrown, CallsWork}
 use Rattle.ir_frames.specs.Computing.{Showing, Meaning, Arrives, Computes, ArrivesAll, ComputesAll, Makes}
-use Rattle.ir_frames.proofs.HeldLemmas.{extends_trans, type_kept, type_below, get_below, placed_part}
+use Rattle.ir_frames.proofs.HeldLemmas.{extends_trans, type_kept, get_below, placed_part}
 use Rattle.ir_frames.proofs.ComingLemmas.{ends_on, ends_at, ends_of, ends_lead, ends_map}
 
 -- ---- room
@@ -37,21 +37,21 @@ room_on x b c e room =
       text = room.text;
       top = omega arith;
       declared = λ j v at. type_kept b c j (rtype_of v.1) e (room.declared j v at);
-      flagged = λ j from to. type_kept b c j rtype.Bool e (room.flagged j from to);
+      flagged = λ j from to. type_kept b c (flag_of x.frame.locals j) rtype.Bool e (room.flagged j from to);
       printed = type_kept b c x.frame.locals.text rtype.Ref e room.printed;
       back = back_on x.frame.ret x.frame.locals.top (length b.regs) (length c.regs) more room.back;
     }
 
 -- ---- variables
 
-either_flag : (b : Bool) (set x y : Held) → (b ≡ false → x ≡ y) → (if b then set else x) ≡ (if b then set else y)
+pub either_flag : (b : Bool) (set x y : Held) → (b ≡ false → x ≡ y) → (if b then set else x) ≡ (if b then set else y)
 either_flag true set x y same = refl
 either_flag false set x y same = same refl
 
-not_below : (j n : ℕ) → nat_lt j n ≡ false → n ≤ j
+pub not_below : (j n : ℕ) → nat_lt j n ≡ false → n ≤ j
 not_below j n e = grind (arith, nat_tests, e)
 
-keeps_as : (t : Sort) (h h' flag flag' : Held) (o : Option Value) → h' ≡ h → flag' ≡ flag → Keeps t h flag o → Keeps t h' flag' o
+pub keeps_as : (t : Sort) (h h' flag flag' : Held) (o : Option Value) → h' ≡ h → flag' ≡ flag → Keeps t h flag o → Keeps t h' flag' o
 keeps_as t h h' flag flag' None e f k = f ∙ k
 keeps_as t h h' flag flag' (Some v) e f k = (e ∙ k.0, f ∙ k.1, k.2)
 
@@ -64,7 +64,7 @@ match_kept x b regs now ls ls' room same is m =
       each = λ j v at.
           let k = m.each j v at in
           let low : j < length x.variables = get_below x.variables j v at in
-          let flag : flag_in x.frame.locals now j ≡ flag_in x.frame.locals regs j = either_flag (nat_lt j x.frame.locals.params) (Holds (BoolVal true)) _ _ (λ e. let above = not_below j x.frame.locals.params e in same (x.frame.locals.count + (j - x.frame.locals.params)) (omega arith)) in
+          let flag : flag_in x.frame.locals now j ≡ flag_in x.frame.locals regs j = either_flag (nat_lt j x.frame.locals.params) (Holds (BoolVal true)) _ _ (λ e. let above = not_below j x.frame.locals.params e in same (flag_of x.frame.locals j) (omega arith)) in
           (k.0, k.1, keeps_as v.1 (regs j) (now j) _ _ k.0 (same j (omega arith)) flag k.2);
     }
 
@@ -149,32 +149,6 @@ then_makes x K L t u m go from b0 b1 b2 q r room c made gives =
           (λ now v s1 le1 shows kept loc match1.
           let g = gives.each v s1 now shows in
           makes_arrives p fn L from b1 b2 r u below (length b0.regs) regs now s.locals s1 g.0 g.1 (go v s1) _ made at.has l1 kept loc g.2 g.3 g.4);
-    }
-
--- a result that is made of two values
-pub record GivesOfTwo (K K' L : Showing) (go : Value → Value → Does Value) (q q' : ℕ) (from : Regs → Held → Type 0) : Type 1 where
-  pub each : (u v : Value) (s : State) (regs : Regs) → K u (regs q) → K' v (regs q') → (z : Value) × (held : Held) × (go u v s ≡ Gives z s) × from regs held × L z held
-
-pub both_make : (x : Setting) (K K' L : Showing) (t t' u : RType) (m m' : Meaning Value) (go : Value → Value → Does Value) (from : Regs → Held → Type 0) (b0 b1 b2 b3 : Building) (q q' r : ℕ) → HasRoom x b0 → Computes x K t m b0 b1 q → Computes x K' t' m' b1 b2 q' → Makes b2 b3 r u from → GivesOfTwo K K' L go q q' from → Computes x L u (λ n s. on_to (m n s) (λ a s1. on_to (m' n s1) (go a))) b0 b3 r
-both_make x K K' L t t' u m m' go from b0 b1 b2 b3 q q' r room c c' made gives =
-    let k1 = c.extends.blocks_grow in
-    let k2 = c'.extends.blocks_grow in
-    let l1 = c.extends.regs_grow in
-    let l2 = c'.extends.regs_grow in
-    let x13 = extends_trans b1 b2 b3 c'.extends made.extends in
-    let low = type_below b1 q t c.type in
-    record {
-      extends = extends_trans b0 b1 b3 c.extends x13;
-      type = made.type;
-      runs = λ p fn h at n calls regs below s match le.
-          let p1 = placed_part p fn b0 b0 b1 b3 h (le_refl _) x13 at in
-          let p2 = placed_part p fn b0 b1 b2 b3 h k1 made.extends at in
-          computes_then p fn h below x n calls K t m b0 b1 q regs s _ _ (length b0.regs) regs c p1 room (le_refl _) (λ j i z o. refl) match le
-          (λ now v s1 le1 shows kept loc match1.
-          computes_then p fn h below x n calls K' t' m' b1 b2 q' now s1 (go v) _ (length b0.regs) regs c' p2 (room_on x b0 b1 c.extends room) l1 (λ j i z o. kept j z) match1 le1
-          (λ now2 v2 s2 le2 shows2 kept2 loc2 match2.
-          let g = gives.each v v2 s2 now2 (subst (K v) (sym (kept2 q low)) shows) shows2 in
-          makes_arrives p fn L from b2 b3 r u below (length b0.regs) regs now2 s.locals s2 g.0 g.1 (go v v2 s2) _ made at.has (omega arith) (λ j lt. kept2 j (omega arith) ∙ kept j lt) (loc2 ∙ loc) g.2 g.3 g.4));
     }
 
 -- code that makes a value, where nothing comes before it

@@ -17,7 +17,8 @@ use Rattle.std.specs.Prelude.{IsTrue, not, ◌&&◌, ◌||◌}
 use Rattle.std.specs.List.{list_any}
 use Rattle.ir_core.specs.Rows.{Failing, NeverFails, MayFail, AlwaysFails, failing}
 use Rattle.ir_core.specs.Shape.{is_target_of, is_register, is_argument}
-use Rattle.ir_core.specs.Building.{Building, with_last}
+use Rattle.ir_core.specs.Items.{Do, End, in_block}
+use Rattle.ir_core.specs.Building.{Building, held_in, held, with_last}
 use Rattle.ir_core.specs.Laws.{added, pushed, closed}
 use Rattle.ir_frames.specs.Placing.{where_it_may}
 use Rattle.ir_frames.specs.Shaped.{Above, AreBelow, AllBelow, OpFits, OpsFit, GoesOn, EndFits, AllFit, Shaped, KeepsIf, Keeps}
@@ -25,7 +26,7 @@ use Rattle.ir_frames.specs.Shaped.{Above, AreBelow, AllBelow, OpFits, OpsFit, Go
 on_fits : (n m k : ℕ) (ops : List (Op × ℕ)) (l : Last) → GoesOn n m k l → EndFits n m k ops l
 on_fits n m k ops (Goto t) g = (inl g.0, g.1)
 on_fits n m k ops (If r a b) g = g
-on_fits n m k ops (IfError r a b line) g = g
+on_fits n m k ops (IfError r a b line) g = (inl g.0, g.1, g.2)
 on_fits n m k ops (Return r) g = tt
 on_fits n m k ops Unreachable g = tt
 
@@ -42,11 +43,24 @@ fit_last n m i [] k l g a = tt
 fit_last n m i (b ∷ bs) zero l g a = (on_fits n m i b.ops l (subst (λ j. GoesOn n m j l) (let q : i + 0 ≡ i = omega arith in q) g), a.1, a.2, a.3)
 fit_last n m i (b ∷ bs) (suc k) l g a = (a.0, a.1, a.2, fit_last n m (suc i) bs k l (subst (λ j. GoesOn n m j l) (let q : i + suc k ≡ suc i + k = omega arith in q) g) a.3)
 
+nothing_before : (os : List (Op × ℕ)) (a x : Last) → in_block os a 0 ≡ Some (End x) → os ≡ []
+nothing_before [] a x e = refl
+nothing_before (o ∷ os) a x e = let f : Some (Do o.0) ≡ Some (End x) = e in absurd (cc)
+
+alone_last : (n m i : ℕ) (bs : List Block) (os : List (Op × ℕ)) (k : ℕ) (l x : Last) → held_in bs os k 0 ≡ Some (End x) → EndFits n m (i + k) [] l → AllFit n m i bs → AllFit n m i (with_last bs k l)
+alone_last n m i [] os k l x e g a = tt
+alone_last n m i (b ∷ bs) os zero l x e g a = (subst (λ z. EndFits n m i z l) (sym (nothing_before b.ops b.last x e)) (subst (λ j. EndFits n m j [] l) (let q : i + 0 ≡ i = omega arith in q) g), a.1, a.2, a.3)
+alone_last n m i (b ∷ bs) os (suc k) l x e g a = (a.0, a.1, a.2, alone_last n m (suc i) bs os k l x e (subst (λ j. EndFits n m j [] l) (let q : i + suc k ≡ suc i + k = omega arith in q) g) a.3)
+
 pub close_shaped : (n m : ℕ) (b c : Building) (l : Last) → c ≡ closed b l → EndFits n m (length b.blocks) b.ops l → Shaped n m b → Shaped n m c
 close_shaped n m b c l e fit s = let P : Building → Type 0 = λ v. Shaped n m v in subst P (sym e) (fit_more n m 0 b.blocks b.ops l (subst (λ k. EndFits n m k b.ops l) (let q : length b.blocks ≡ 0 + length b.blocks = omega arith in q) fit) s.1 s.0, tt)
 
 pub patch_shaped : (n m : ℕ) (b c : Building) (k : ℕ) (l : Last) → c ≡ record b { blocks = with_last b.blocks k l } → GoesOn n m k l → Shaped n m b → Shaped n m c
 patch_shaped n m b c k l e g s = let P : Building → Type 0 = λ v. Shaped n m v in subst P (sym e) (fit_last n m 0 b.blocks k l (subst (λ z. GoesOn n m z l) (let q : k ≡ 0 + k = omega arith in q) g) s.0, s.1)
+
+-- where the block has nothing else
+pub patch_alone : (n m : ℕ) (b c : Building) (k : ℕ) (l x : Last) → c ≡ record b { blocks = with_last b.blocks k l } → held b k 0 ≡ Some (End x) → EndFits n m k [] l → Shaped n m b → Shaped n m c
+patch_alone n m b c k l x e at g s = let P : Building → Type 0 = λ v. Shaped n m v in subst P (sym e) (alone_last n m 0 b.blocks b.ops k l x at (subst (λ z. EndFits n m z [] l) (let q : k ≡ 0 + k = omega arith in q) g) s.0, s.1)
 
 pub push_shaped : (n m : ℕ) (b c : Building) (o : Op × ℕ) → c ≡ pushed b o → OpFits n o.0 → Shaped n m b → Shaped n m c
 push_shaped n m b c o e a s = let P : Building → Type 0 = λ v. Shaped n m v in subst P (sym e) (s.0, ops_more n b.ops o a s.1)

@@ -34,11 +34,11 @@ read_is declared regs x t v e is = ap (option_and_then value_of) (look_is declar
 one_argument : (declared : Declared) (regs : Regs) (x : ℕ) (v : Value) → read declared regs (record { 0 = x }) ≡ Some v → arguments declared regs (Var record { 0 = x } ∷ []) ≡ Some (Given v ∷ [])
 one_argument declared regs x v e = rw e refl
 
-two_arguments : (declared : Declared) (regs : Regs) (x y : ℕ) (u v : Value) → read declared regs (record { 0 = x }) ≡ Some u → read declared regs (record { 0 = y }) ≡ Some v → arguments declared regs (Var record { 0 = x } ∷ Var record { 0 = y } ∷ []) ≡ Some (Given u ∷ Given v ∷ [])
+pub two_arguments : (declared : Declared) (regs : Regs) (x y : ℕ) (u v : Value) → read declared regs (record { 0 = x }) ≡ Some u → read declared regs (record { 0 = y }) ≡ Some v → arguments declared regs (Var record { 0 = x } ∷ Var record { 0 = y } ∷ []) ≡ Some (Given u ∷ Given v ∷ [])
 two_arguments declared regs x y u v e f = rw (e, f) refl
 
 module _ (p : Program) (fn k i : ℕ) (regs : Regs) (below : List Waiting) (s : State) where
-  prim_step : (r : ℕ) (q : Primitive) (args : List PArg) (t : RType) (xs : List Argument) (v : Value) → item_at p fn k i ≡ Some (Do (Prim (Some record { 0 = r }) q args)) → type_of_reg (registers_of p fn) (record { 0 = r }) ≡ Some t → arguments (registers_of p fn) regs args ≡ Some xs → failing q ≡ NeverFails → effect p q xs (world None s) ≡ Gives v (world None s) → step Strict p (running fn k i regs below (world None s)) ≡ running fn k (i + 1) (put regs r (Holds v)) below (world None s)
+  pub prim_step : (r : ℕ) (q : Primitive) (args : List PArg) (t : RType) (xs : List Argument) (v : Value) → item_at p fn k i ≡ Some (Do (Prim (Some record { 0 = r }) q args)) → type_of_reg (registers_of p fn) (record { 0 = r }) ≡ Some t → arguments (registers_of p fn) regs args ≡ Some xs → failing q ≡ NeverFails → effect p q xs (world None s) ≡ Gives v (world None s) → step Strict p (running fn k i regs below (world None s)) ≡ running fn k (i + 1) (put regs r (Holds v)) below (world None s)
   prim_step r q args t xs v at type given never does =
       op_step Strict p (record { fn = fn; block = k; place = i; regs = regs }) below (world None s) (Prim (Some record { 0 = r }) q args) at
       ∙ rw (given, does, type, never) refl

@@ -4,7 +4,7 @@ use Rattle.value_core.specs.Arithmetic.{lies_within}
 use Rattle.value_core.specs.Value.{Value, IntVal, BoolVal}
 use Rattle.py_typed.specs.Sorts as sort
 use Rattle.py_typed.specs.Sorts.{Sort}
-use Rattle.py_typed.specs.State.{State, Does}
+use Rattle.py_typed.specs.State.{State, Outcome, Does}
 use Rattle.ir_core.specs.declared.code.Program.{Program}
 use Rattle.ir_core.specs.declared.code.RType.{RType}
 use Rattle.ir_core.specs.declared.code.Reg.{Reg}
@@ -15,7 +15,7 @@ use Rattle.ir_core.specs.Meaning.{Waiting, Config}
 use Rattle.ir_frames.specs.Settings.{Setting, rtype_of}
 use Rattle.ir_frames.specs.Placing.{HasType, Has, Placed}
 use Rattle.ir_frames.specs.Coming.{world, running, Leads, Ends}
-use Rattle.ir_frames.specs.Matching.{HasKind, Matches, IsThrown, CallsWork}
+use Rattle.ir_frames.specs.Matching.{HasKind, Matches, HasRoom, IsThrown, CallsWork}
 
 -- how a register stands for a value
 abbrev pub Showing : Type 1
@@ -101,3 +101,10 @@ pub record OfTwo (x y : ℕ) (P : Value → Value → Value → Type 0) (regs : 
   pub result : Value
   pub fits : P u v result
   pub gives : h ≡ Holds result
+
+-- code without a call that does what the source does with what registers hold, as the condition says: a value goes into a
+-- register, and an exception to the handler or out of the function
+pub record Attempts (K : Showing) (old new : Building) (r : ℕ) (t : RType) (from : Regs → State → Outcome Value → Type 0) : Type 0 where
+  pub extends : Extends old new
+  pub type : HasType new r t
+  pub runs : (p : Program) (fn : ℕ) (h : Option ℕ) → Placed p fn old new h → (x : Setting) → HasRoom x old → (regs : Regs) (below : List Waiting) (s : State) → Matches x regs s.locals → (res : Outcome Value) → from regs s res → Ends p s.turns (running fn (length old.blocks) (length old.ops) regs below (world None s)) res (Arrives K fn (length new.blocks) (length new.ops) below (length old.regs) regs s.locals r) (IsThrown fn h below x (length old.regs) regs)

@@ -7,7 +7,7 @@ use Rattle.c_core.specs.declared.code.Kind.TheVariants.{Object}
 use Rattle.c_core.specs.declared.primitive.Primitive.{Primitive}
 use Rattle.c_core.specs.declared.primitive.Primitive.TheVariants as prim
 use Rattle.c_core.specs.declared.primitive.IoPrim.TheVariants as io
-use Rattle.c_core.specs.Primitives.{Is, Anything, Parameter, Borrows, TakesText, Owned, row_of}
+use Rattle.c_core.specs.Primitives.{Is, Anything, Parameter, Borrows, TakesText, Nothing, Owned, row_of}
 use Rattle.py_typed.specs.Statements.{TypedFunc, TypedModule}
 use Rattle.ir_core.specs.declared.code.RType.{RType}
 use Rattle.ir_core.specs.declared.code.RType.TheVariants as rtype
@@ -23,7 +23,7 @@ use Rattle.ir_core.specs.declared.code.Last.TheVariants.{Goto, If, IfError, Retu
 use Rattle.ir_core.specs.declared.code.Block.{Block}
 use Rattle.ir_core.specs.Lower.{kind_of_type}
 use Rattle.ir_core.specs.Registers.{literal_of}
-use Rattle.ir_core.specs.Rows.{Declared, type_of_reg}
+use Rattle.ir_core.specs.Rows.{Declared, type_of_reg, answers, acts, makes_text}
 use Rattle.ir_core.specs.Building.{Building}
 use Rattle.ir_frames.specs.Settings.{rtype_of}
 use Rattle.ir_frames.specs.Matching.{parameter_sorts}
@@ -78,16 +78,21 @@ module _ (regs : Declared) where
 
   -- a primitive that makes a text of arguments
   abbrev pub MakesText : Primitive → List PArg → Type 0
-  MakesText q args = ((row_of q).outcome ≡ Owned (Is Object)) × AreArguments (row_of q).parameters args
+  MakesText q args =
+      ((row_of q).outcome ≡ Owned (Is Object)) × AreArguments (row_of q).parameters args × (makes_text q ≡ true)
 
 -- both registers have one type, and hold no references
 abbrev pub AreAlike : Declared → Reg → Reg → Type 0
 AreAlike regs r s = (t : RType) × (is_plain t ≡ true) × IsOf regs r t × IsOf regs s t
 
--- what a primitive answers of arguments is no reference, and of a type
+-- what a primitive answers of arguments is no reference, and of a type; it may fail instead
 abbrev pub Answers : RType → Declared → Primitive → List PArg → Type 0
 Answers t regs q args =
-    (is_plain t ≡ true) × ((row_of q).outcome ≡ Owned (Is (kind_of_type t))) × AreArguments regs (row_of q).parameters args
+    (is_plain t ≡ true) × ((row_of q).outcome ≡ Owned (Is (kind_of_type t))) × AreArguments regs (row_of q).parameters args × (answers q ≡ true)
+
+-- a primitive answers nothing, and neither makes nor writes a text
+abbrev pub Reports : Declared → Primitive → List PArg → Type 0
+Reports regs q args = ((row_of q).outcome ≡ Nothing) × AreArguments regs (row_of q).parameters args × (acts q ≡ true)
 
 -- a function that may be called takes registers and gives a result of a type
 abbrev pub Calls : Surrounding → RType → Declared → ℕ → List Reg → Type 0
@@ -103,7 +108,7 @@ module _ (g : Surrounding) (regs : Declared) where
   abbrev pub OpKinds : Op → Type 0
   OpKinds (Move r s) = AreAlike regs r s
   OpKinds (Lit r l) = (t : RType) × IsOf regs r t × LiteralFits t l × (r.0 ≢ g.text)
-  OpKinds (Prim None q args) = ⊥
+  OpKinds (Prim None q args) = Reports regs q args
   OpKinds (Prim (Some r) q args) =
       (t : RType) × IsOf regs r t × Answers t regs q args
   OpKinds (Call r n args) = (t : RType) × IsOf regs r t × (r.0 ≢ g.text) × Calls g t regs n args

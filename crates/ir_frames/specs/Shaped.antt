@@ -48,11 +48,11 @@ GoesOn n m k (IfError r a b line) = (r.0 < n) × Higher k m a × Higher k m b
 GoesOn n m k (Return r) = Unit {0}
 GoesOn n m k Unreachable = Unit {0}
 
--- or a jump, not to block 0, directly behind a turn
+-- or a jump, not to block 0, directly behind a turn; or a test for errors of any register, in a block that has nothing else
 abbrev pub EndFits : ℕ → ℕ → ℕ → List (Op × ℕ) → Last → Type 0
 EndFits n m k ops (Goto t) = ((k < t) ⊎ ((1 ≤ t) × (ends_in_turn ops ≡ true))) × (t ≤ m)
 EndFits n m k ops (If r a b) = Higher k m a × Higher k m b
-EndFits n m k ops (IfError r a b line) = (r.0 < n) × Higher k m a × Higher k m b
+EndFits n m k ops (IfError r a b line) = ((r.0 < n) ⊎ (ops ≡ [])) × Higher k m a × Higher k m b
 EndFits n m k ops (Return r) = Unit {0}
 EndFits n m k ops Unreachable = Unit {0}
 

@@ -4,7 +4,8 @@ ghost use Rattle.std.specs.List.{list_any};
 ghost use Rattle.std.specs.Str.{bytes_eq};
 ghost use Rattle.c_core.specs.WellFormed.{names_differ};
 ghost use Rattle.c_core.specs.Primitives.{row_of};
-ghost use Rattle.ir_core.specs.Building.{Extends, with_last, is_open_at};
+ghost use Rattle.ir_core.specs.Items.{End};
+ghost use Rattle.ir_core.specs.Building.{Extends, held, with_last, is_open_at};
 ghost use Rattle.ir_core.specs.Laws.{pushed};
 ghost use Rattle.ir_core.specs.Shape.{is_target_of};
 ghost use Rattle.ir_frames.specs.Calling.{Declares, Adds, Pushes, Closes};
@@ -109,12 +110,14 @@ impl Emitter {
         Ok(next)
     }
 
-    /// Writes the end of a block that was ended.
+    /// Writes the end of a block that was ended. A test for errors of a register that is no variable's and no flag of one is
+    /// written only where the block has nothing else.
     pub fn patch(&mut self, block: usize, last: Last)
         requires { block < length self.old.blocks }
         ensures set { self.new ≡ record self.old { blocks = with_last self.old.blocks block last } }
         ensures len { length self.new.blocks ≡ length self.old.blocks }
         ensures shaped { KeepsIf (λ n m. GoesOn n m block last) self.old self.new }
+        ensures alone { held self.old block 0 ≡ Some (End Last.Unreachable) → KeepsIf (λ n m. EndFits n m block [] last) self.old self.new }
         ensures kinds { KeepsKindsIf (λ g. LastKinds g self.old.regs last) self.old self.new }
     {
         self.builder.set_last(block, last);

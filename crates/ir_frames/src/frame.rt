@@ -1,9 +1,12 @@
 //! The registers that stand for a function's variables.
+ghost use Rattle.std.specs.Prelude.{◌≡◌, ◌≤◌, ◌<◌, ◌^◌};
+ghost use Rattle.ir_frames.specs.Matching.{flag_of};
+
 use ir_core::Reg;
 
 /// The variables of a function. The first `params` of them are its parameters, there are `count`, and each has the register
-/// of its number. Each that is no parameter has a flag besides, in the registers from `count` on, which holds the error
-/// value until the variable is set. Behind them is the register that printed texts are made in, `text`, and `top` is the first
+/// of its number. Behind them is the register that printed texts are made in, `text`. Each variable that is no parameter has
+/// a flag besides, in the registers behind `text`, which holds the error value until the variable is set. `top` is the first
 /// register that is none of these.
 #[derive(Clone, Copy, Debug)]
 pub struct Vars {
@@ -11,6 +14,17 @@ pub struct Vars {
     pub count: usize,
     pub text: usize,
     pub top: usize,
+}
+
+impl Vars {
+    /// The register of the flag of a variable that is no parameter.
+    pub fn flag(self, variable: usize) -> Reg
+        requires other { self.params ≤ variable }
+        requires few { flag_of self variable < 2 ^ 64 }
+        ensures { result.0 ≡ flag_of self variable }
+    {
+        Reg(self.text + 1 + (variable - self.params))
+    }
 }
 
 /// What a statement or an expression stands in: the variables, and the register for a returned value where a statement

@@ -1,4 +1,3 @@
-pub mod JumpLemmas
 pub mod BlockLemmas
 pub mod SpellingLemmas
 pub mod NameLemmas

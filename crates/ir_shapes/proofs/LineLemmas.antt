@@ -254,7 +254,8 @@ module _ (regs : Declared) where
             spelled = and_from (is_declared vars r.0) (spelled_literal (literal_in l)) (stands r h.0 h.1).declared is.1;
             fits = ap (literal_fits (literal_in l)) (stands r h.0 h.1).kind ∙ is.0;
           }
-      op_is ret (Prim None q args) h = absurd h
+      op_is ret (Prim None q args) h =
+          row_alone ret q args (arguments_spelled (row_of q).parameters args h.1) (arguments_fit (map argument_in args) (row_of q).parameters args h.1)
       op_is ret (Prim (Some r) q args) h = row_into ret r h.0 q args h.1 h.2.1 h.2.2
       op_is ret (Call r n args) h =
           let c = h.3 in

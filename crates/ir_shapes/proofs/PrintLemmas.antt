@@ -1,15 +1,9 @@
--- In a function whose operations fit its registers, the only references are the texts that it prints.
+-- In a function whose operations fit its registers, the only references are the texts that it prints and the exception that is
+-- pending.
 use Rattle.std.proofs.Common.{◌≡◌, ◌≢◌, refl, subst, ℕ, zero, suc, ◌<◌, Bool, true, List, [], ◌∷◌, Some, None}
 use Rattle.std.specs.Prelude.{slice_get, nat_eq}
 use Rattle.std.proofs.lemmas.Bool.{eq-eqb, ne_eqb}
-use Rattle.c_core.specs.declared.code.Kind.TheVariants.{Object}
-use Rattle.c_core.specs.declared.primitive.Primitive.{Primitive}
-use Rattle.c_core.specs.declared.primitive.Primitive.TheVariants as prim
-use Rattle.c_core.specs.declared.primitive.Int64Prim.TheVariants as int64
-use Rattle.c_core.specs.declared.primitive.BoolPrim.TheVariants as bool
-use Rattle.c_core.specs.declared.primitive.StrPrim.TheVariants as str
-use Rattle.c_core.specs.declared.primitive.IoPrim.TheVariants as io
-use Rattle.c_core.specs.Primitives.{Is, Anything, Parameter, Borrows, TakesText, Owned, row_of}
+use Rattle.c_core.specs.Primitives.{Is, Anything, Parameter, Borrows, TakesText, row_of}
 use Rattle.ir_core.specs.declared.code.RType.{RType}
 use Rattle.ir_core.specs.declared.code.RType.TheVariants as rtype
 use Rattle.ir_core.specs.declared.code.Reg.{Reg}
@@ -20,50 +14,12 @@ use Rattle.ir_core.specs.declared.code.Op.TheVariants.{Move, Lit, Prim, Call, Vi
 use Rattle.ir_core.specs.declared.code.Last.{Last}
 use Rattle.ir_core.specs.declared.code.Last.TheVariants.{Goto, If, IfError, Return, Unreachable}
 use Rattle.ir_core.specs.declared.code.Block.{Block}
-use Rattle.ir_core.specs.Lower.{kind_of_type}
 use Rattle.ir_core.specs.Building.{Building}
 use Rattle.ir_frames.specs.Kinds.{Head, Surrounding, is_plain, IsOf, AreArguments, Take, OpKinds, OpsKinds, no_more, other_then, text_then, LastKinds, BlocksKinds, HasKinds}
 use Rattle.ir_frames.proofs.KindLemmas.{plain_not_text, plain_no_ref}
-use Rattle.ir_lowering.specs.Prints.{makes_text, makes_number, IsOther, AreOthers, AreOtherArguments, LastPrints, IsApart, OpsPrint}
-use Rattle.ir_lowering.specs.Prints as prints
-
--- ---- what primitives make
-
-no_object : (t : RType) → is_plain t ≡ true → Owned (Is Object) ≡ Owned (Is (kind_of_type t)) → ⊥
-no_object rtype.Int p e = cc
-no_object rtype.I64 p e = cc
-no_object rtype.Bool p e = cc
-no_object rtype.Ref p e = cc
-
-number_made : (t : RType) (q : Primitive) → is_plain t ≡ true → (row_of q).outcome ≡ Owned (Is (kind_of_type t)) → makes_number q ≡ true
-number_made t (prim.Int64 int64.Add) p e = refl
-number_made t (prim.Int64 int64.Subtract) p e = refl
-number_made t (prim.Int64 int64.Multiply) p e = refl
-number_made t (prim.Int64 int64.Negate) p e = refl
-number_made t (prim.Int64 int64.FromBool) p e = refl
-number_made t (prim.Int64 int64.Eq) p e = refl
-number_made t (prim.Int64 int64.Lt) p e = refl
-number_made t (prim.Int64 int64.Le) p e = refl
-number_made t (prim.Int64 int64.Str) p e = absurd (no_object t p e)
-number_made t (prim.Bool bool.Not) p e = refl
-number_made t (prim.Bool bool.Str) p e = absurd (no_object t p e)
-number_made t (prim.Str str.Literal) p e = absurd (no_object t p e)
-number_made t (prim.Io io.Write) p e = absurd (cc)
-
-text_made : (q : Primitive) → (row_of q).outcome ≡ Owned (Is Object) → makes_text q ≡ true
-text_made (prim.Int64 int64.Add) e = absurd (cc)
-text_made (prim.Int64 int64.Subtract) e = absurd (cc)
-text_made (prim.Int64 int64.Multiply) e = absurd (cc)
-text_made (prim.Int64 int64.Negate) e = absurd (cc)
-text_made (prim.Int64 int64.FromBool) e = absurd (cc)
-text_made (prim.Int64 int64.Eq) e = absurd (cc)
-text_made (prim.Int64 int64.Lt) e = absurd (cc)
-text_made (prim.Int64 int64.Le) e = absurd (cc)
-text_made (prim.Int64 int64.Str) e = refl
-text_made (prim.Bool bool.Not) e = absurd (cc)
-text_made (prim.Bool bool.Str) e = refl
-text_made (prim.Str str.Literal) e = refl
-text_made (prim.Io io.Write) e = absurd (cc)
+use Rattle.ir_lowering.specs.Prints.{IsOther, AreOthers, AreOtherArguments, LastPrints}
+use Rattle.ir_lowering.specs.PrintsOrFails.{IsApartOrFails, OpsPrintOrFail, none_left, apart_then}
+use Rattle.ir_lowering.specs.PrintsOrFails as fails
 
 -- ---- operations and ends of a function, among so many
 
@@ -89,13 +45,13 @@ module _ (g : Surrounding) (b : Building) (kinds : HasKinds g b) (functions : �
   other_registers [] (r ∷ rs) h = absurd h
   other_registers (t ∷ ts) [] h = absurd h
 
-  op_apart : (o : Op) → OpKinds g b.regs o → IsApart texts functions o
+  op_apart : (o : Op) → OpKinds g b.regs o → IsApartOrFails texts functions o
   op_apart (Move r s) h = (plain_other r h.0 h.2 h.1, plain_other s h.0 h.3 h.1)
   op_apart (Lit r l) h = other r h.3
-  op_apart (Prim None q args) h = absurd h
+  op_apart (Prim None q args) h = (h.2, other_arguments (row_of q).parameters args h.1)
   op_apart (Prim (Some r) q args) h =
       let a = h.2 in
-      (number_made h.0 q a.0 a.1, plain_other r h.0 h.1 a.0, other_arguments (row_of q).parameters args a.2)
+      (a.3, plain_other r h.0 h.1 a.0, other_arguments (row_of q).parameters args a.2)
   op_apart (Call r n args) h =
       let c = h.3 in (below n c.0 c.1, other r h.2, other_registers c.0.params args c.3)
   op_apart (Virtual r o n args) h = absurd h
@@ -105,11 +61,11 @@ module _ (g : Surrounding) (b : Building) (kinds : HasKinds g b) (functions : �
   op_apart (Dec r) h = absurd h
   op_apart (XDec r) h = absurd h
 
-  ops_print : (os : List (Op × ℕ)) → OpsKinds g b.regs os → OpsPrint texts functions os
-  ops_print _ no_more = prints.no_more
-  ops_print _ (other_then o line os k h) = prints.other_then o line os (op_apart o k) (ops_print os h)
+  ops_print : (os : List (Op × ℕ)) → OpsKinds g b.regs os → OpsPrintOrFail texts functions os
+  ops_print _ no_more = none_left
+  ops_print _ (other_then o line os k h) = apart_then o line os (op_apart o k) (ops_print os h)
   ops_print _ (text_then q args i j k os m h) =
-      prints.print_then (record { 0 = g.text }) q args i j k os (text_made q m.0) (eq-eqb g.text g.text refl) (other_arguments (row_of q).parameters args m.1) (ops_print os h)
+      fails.text_then (record { 0 = g.text }) q args i j k os m.2 (eq-eqb g.text g.text refl) (other_arguments (row_of q).parameters args m.1) (ops_print os h)
 
   last_prints : (l : Last) → LastKinds g b.regs l → LastPrints texts l
   last_prints (Goto t) h = tt
@@ -118,10 +74,10 @@ module _ (g : Surrounding) (b : Building) (kinds : HasKinds g b) (functions : �
   last_prints (Return r) h = other r h.1
   last_prints Unreachable h = tt
 
-  pub blocks_print : (bs : List Block) → BlocksKinds g b.regs bs → (k : ℕ) (x : Block) → slice_get bs k ≡ Some x → OpsPrint texts functions x.ops × LastPrints texts x.last
+  pub blocks_print : (bs : List Block) → BlocksKinds g b.regs bs → (k : ℕ) (x : Block) → slice_get bs k ≡ Some x → OpsPrintOrFail texts functions x.ops × LastPrints texts x.last
   blocks_print [] h k x e = let f : None ≡ Some x = e in absurd (cc)
   blocks_print (y ∷ bs) h zero x e =
       let f : Some y ≡ Some x = e in
       let same : y ≡ x = cc in
-      subst (λ (z : Block). OpsPrint texts functions z.ops × LastPrints texts z.last) same (ops_print y.ops h.0, last_prints y.last h.1)
+      subst (λ (z : Block). OpsPrintOrFail texts functions z.ops × LastPrints texts z.last) same (ops_print y.ops h.0, last_prints y.last h.1)
   blocks_print (y ∷ bs) h (suc k) x e = blocks_print bs h.2 k x e

@@ -16,6 +16,9 @@ use Rattle.c_core.specs.declared.primitive.Primitive.TheVariants as prim
 use Rattle.c_core.specs.declared.primitive.Int64Prim.TheVariants as int64
 use Rattle.c_core.specs.declared.primitive.BoolPrim.TheVariants as bool
 use Rattle.c_core.specs.declared.primitive.StrPrim.TheVariants as str
+use Rattle.c_core.specs.declared.primitive.GlobalPrim.TheVariants as global
+use Rattle.c_core.specs.declared.primitive.ExcPrim.TheVariants as exc
+use Rattle.c_core.specs.declared.primitive.ErrPrim.TheVariants as err
 use Rattle.c_core.specs.declared.primitive.IoPrim.TheVariants as io
 use Rattle.c_core.specs.Primitives.{row_of}
 use Rattle.c_core.specs.WellFormed.{is_identifier, is_call_name, other_words}
@@ -203,4 +206,18 @@ primitive_spelled (prim.Int64 int64.Str) = word_spelled 73 _ refl refl
 primitive_spelled (prim.Bool bool.Not) = word_spelled 66 _ refl refl
 primitive_spelled (prim.Bool bool.Str) = word_spelled 66 _ refl refl
 primitive_spelled (prim.Str str.Literal) = word_spelled 83 _ refl refl
+primitive_spelled (prim.Int64 int64.FloorDivide) = word_spelled 73 _ refl refl
+primitive_spelled (prim.Int64 int64.Remainder) = word_spelled 73 _ refl refl
+primitive_spelled (prim.Int64 int64.Lshift) = word_spelled 73 _ refl refl
+primitive_spelled (prim.Int64 int64.Rshift) = word_spelled 73 _ refl refl
+primitive_spelled (prim.Global global.Get) = word_spelled 71 _ refl refl
+primitive_spelled (prim.Global global.Set) = word_spelled 71 _ refl refl
+primitive_spelled (prim.Global global.Clear) = word_spelled 71 _ refl refl
+primitive_spelled (prim.Exc exc.New) = word_spelled 69 _ refl refl
+primitive_spelled (prim.Exc exc.Str) = word_spelled 69 _ refl refl
+primitive_spelled (prim.Err err.SetObject) = word_spelled 69 _ refl refl
+primitive_spelled (prim.Err err.Unbound) = word_spelled 69 _ refl refl
+primitive_spelled (prim.Err err.Occurred) = word_spelled 69 _ refl refl
+primitive_spelled (prim.Err err.Matches) = word_spelled 69 _ refl refl
+primitive_spelled (prim.Err err.Catch) = word_spelled 69 _ refl refl
 primitive_spelled (prim.Io io.Write) = word_spelled 95 _ refl refl

@@ -25,14 +25,15 @@ use Rattle.ir_core.specs.Lower.{kind_of_type, variable_of, call_name, line_of, o
 use Rattle.ir_core.specs.Shape.{FuncsFit, BeginsInTurn, Shape}
 use Rattle.ir_frames.specs.Kinds.{Head}
 use Rattle.ir_frames.proofs.KindLemmas.{get_behind}
-use Rattle.ir_lowering.specs.Prints.{OpsPrint, LastPrints, Prints}
+use Rattle.ir_lowering.specs.Prints.{LastPrints}
+use Rattle.ir_lowering.specs.PrintsOrFails.{OpsPrintOrFail, PrintsOrFails}
 use Rattle.ir_lowering.proofs.ListLemmas.{size_map, get_map}
 use Rattle.ir_lowering.proofs.LayoutLemmas.{function_at}
 use Rattle.ir_lowering.proofs.Facts.{number_is}
 use Rattle.ir_shapes.specs.Built.{head_of_code, building_of, IsBuilt, IsFunction, IsProgram}
 use Rattle.ir_shapes.specs.Laws.{BuiltHasShape, BuiltPrints}
 use Rattle.ir_shapes.proofs.BlockLemmas.{built_fits, funcs_fit, turns_begin}
-use Rattle.ir_shapes.proofs.JumpLemmas.{jumps_go, last_leaves}
+use Rattle.ir_core.proofs.JumpLemmas.{jumps_go, last_leaves}
 use Rattle.ir_shapes.proofs.SpellingLemmas.{identifier_parts, function_called_as}
 use Rattle.ir_shapes.proofs.NameLemmas.{variables_differ, variables_spelled, global_names, globals_spelled, own_name, other_name, functions_differ}
 use Rattle.ir_shapes.proofs.LineLemmas.{LinesAre, lines_spelled, lines_fit, Callee, blocks_are}
@@ -216,7 +217,7 @@ module _ (p : Program) where
     text_at None built = 0
     text_at (Some f) built = (built f refl).among.text
 
-    prints_at : (o : Option Func) (built : (f : Func) → o ≡ Some f → IsBuilt heads f) (f : Func) (k : ℕ) (x : Block) → o ≡ Some f → slice_get f.blocks k ≡ Some x → OpsPrint (λ r. nat_eq r (text_at o built)) (length p.funcs) x.ops × LastPrints (λ r. nat_eq r (text_at o built)) x.last
+    prints_at : (o : Option Func) (built : (f : Func) → o ≡ Some f → IsBuilt heads f) (f : Func) (k : ℕ) (x : Block) → o ≡ Some f → slice_get f.blocks k ≡ Some x → OpsPrintOrFail (λ r. nat_eq r (text_at o built)) (length p.funcs) x.ops × LastPrints (λ r. nat_eq r (text_at o built)) x.last
     unfolding text_at
     prints_at None built f k x e at = absurd (cc)
     prints_at (Some g) built f k x e at =
@@ -226,7 +227,7 @@ module _ (p : Program) where
         (λ n h i. head_below n h (subst (λ hs. slice_get hs n ≡ Some h) b.heads_are i)) g.blocks b.kinds.blocks k x
         (subst (λ (z : Func). slice_get z.blocks k ≡ Some x) (sym same) at)
 
-    prints_of : Prints p
+    prints_of : PrintsOrFails p
     prints_of = record {
       texts = λ n r. nat_eq r (text_at (slice_get p.funcs n) (built_at n));
       ops = λ n k f x e at. (prints_at (slice_get p.funcs n) (built_at n) f k x e at).0;

@@ -6,7 +6,7 @@ pub fn built_has_shape()
     ensures { BuiltHasShape }
 {}
 
-/// The only references of a program that is built are the texts that it prints.
+/// The only references of a program that is built are the texts that it prints and the exception that is pending.
 pub fn built_prints()
     ensures { BuiltPrints }
 {}

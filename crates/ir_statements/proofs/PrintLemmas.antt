@@ -39,7 +39,7 @@ use Rattle.ir_frames.specs.Settings.{Setting}
 use Rattle.ir_frames.specs.Placing.{HasType, Has}
 use Rattle.ir_frames.specs.Calling.{Pushes}
 use Rattle.ir_frames.specs.Coming.{world, running, Leads, Ends}
-use Rattle.ir_frames.specs.Matching.{flag_in, Matches, HasRoom, IsThrown}
+use Rattle.ir_frames.specs.Matching.{flag_of, flag_in, Matches, HasRoom, IsThrown}
 use Rattle.ir_frames.specs.Computing.{Showing, Shows, ShowsNumber, Counts, Meaning, Computes}
 use Rattle.ir_frames.specs.Kinds.{Surrounding, MakesText, HasKinds, KeepsKindsIf}
 use Rattle.ir_statements.specs.Runs.{Flows, Works}
@@ -50,7 +50,7 @@ use Rattle.ir_statements.specs.Printing.{register_of, text_primitive, IsDeclared
 use Rattle.ir_frames.proofs.ComingLemmas.{leads_trans, leads_step, ends_from, ends_on, ends_now, ends_at}
 use Rattle.ir_frames.proofs.HeldLemmas.{extends_trans, pushed_extends, pushes, get_below, has_less, type_has, type_kept, placed_part}
 use Rattle.ir_frames.proofs.KindLemmas.{text_kinds}
-use Rattle.ir_statements.proofs.SimpleLemmas.{keeps_as}
+use Rattle.ir_frames.proofs.MatchLemmas.{either_flag, not_below, keeps_as}
 
 -- ---- the operations of a text
 
@@ -187,25 +187,19 @@ number_printed x t m b0 b1 r room number cx =
 
 -- ---- variables
 
-either_flag : (b : Bool) (set x y : Held) → (b ≡ false → x ≡ y) → (if b then set else x) ≡ (if b then set else y)
-either_flag true set x y same = refl
-either_flag false set x y same = same refl
-
-not_below : (j n : ℕ) → nat_lt j n ≡ false → n ≤ j
-not_below j n e = grind (arith, nat_tests, e)
-
 -- the register for texts is no variable's and no flag
-match_below : (x : Setting) (b : Building) (regs now : Regs) (ls ls' : List (Option Value)) → HasRoom x b → ((j : ℕ) → j < x.frame.locals.text → now j ≡ regs j) → ls' ≡ ls → Matches x regs ls → Matches x now ls'
-match_below x b regs now ls ls' room same is m =
+match_but : (x : Setting) (b : Building) (regs now : Regs) (ls ls' : List (Option Value)) → HasRoom x b → ((j : ℕ) → j < x.frame.locals.top → j ≢ x.frame.locals.text → now j ≡ regs j) → ls' ≡ ls → Matches x regs ls → Matches x now ls'
+match_but x b regs now ls ls' room same is m =
     let P : List (Option Value) → Type 0 = λ l. Matches x now l in
     let count = room.count in
+    let text = room.text in
     let flags = room.flags in
     subst P (sym is) record {
       each = λ j v at.
           let k = m.each j v at in
           let low : j < length x.variables = get_below x.variables j v at in
-          let flag : flag_in x.frame.locals now j ≡ flag_in x.frame.locals regs j = either_flag (nat_lt j x.frame.locals.params) (Holds (BoolVal true)) _ _ (λ e. let above = not_below j x.frame.locals.params e in same (x.frame.locals.count + (j - x.frame.locals.params)) (omega arith)) in
-          (k.0, k.1, keeps_as v.1 (regs j) (now j) (flag_in x.frame.locals regs j) (flag_in x.frame.locals now j) k.0 (same j (omega arith)) flag k.2);
+          let flag : flag_in x.frame.locals now j ≡ flag_in x.frame.locals regs j = either_flag (nat_lt j x.frame.locals.params) (Holds (BoolVal true)) _ _ (λ e. let above = not_below j x.frame.locals.params e in same (flag_of x.frame.locals j) (omega arith) (λ z. omega arith)) in
+          (k.0, k.1, keeps_as v.1 (regs j) (now j) (flag_in x.frame.locals regs j) (flag_in x.frame.locals now j) k.0 (same j (omega arith) (λ z. omega arith)) flag k.2);
     }
 
 -- ---- the whole
@@ -222,7 +216,7 @@ print_works x result m b0 b1 b2 qs room c w = record {
   extends = extends_trans b0 b1 b2 c.extends w.extends;
   opens = tt;
   runs = λ p fn h to at jumps n calls regs below s match le.
-      let text = room.text in
+      let flags = room.flags in
       let top = room.top in
       let at1 = placed_part p fn b0 b0 b1 b2 h (le_refl _) w.extends at in
       let R1 = ArrivesPrinted fn (length b1.blocks) (length b1.ops) below (length b0.regs) regs s.locals qs in
@@ -234,7 +228,7 @@ print_works x result m b0 b1 b2 qs room c w = record {
       let done = w.runs p fn at.has a.now below s1 vs a.shows in
       let s2 : State = written s1 (line_of vs) in
       let kept : (j : ℕ) → j < length b0.regs → j ≢ x.frame.locals.text → done.0 j ≡ regs j = λ j lt ne. done.2 j ne ∙ a.kept j lt in
-      let match2 = match_below x b0 regs done.0 s.locals s1.locals room (λ j lt. kept j (omega arith) (λ e. omega arith)) a.locals match in
+      let match2 = match_but x b0 regs done.0 s.locals s1.locals room (λ j lt ne. kept j (omega arith) ne) a.locals match in
       let is : go vs s1 ≡ Gives Goes s2 = ap (λ t. on_to (needs t (write (line_of vs)) s1) (λ v. Gives Goes)) (has_texts a.now qs vs a.shows) in
       let ends : Ends p s1.turns (running fn (length b1.blocks) (length b1.ops) a.now below (world None s1)) (Gives Goes s2) R T = ends_from p s1.turns s1.turns _ _ (Gives Goes s2) R T (le_refl _) done.1 (ends_now p Goes s2 _ R T record { now = done.0; is = refl; match = match2; kept = λ j z lt o. kept j lt (λ e. omega arith) }) in
       let P : Outcome Flow → Type 0 = λ z. Ends p s1.turns (running fn (length b1.blocks) (length b1.ops) a.now below (world None s1)) z R T in
@@ -245,8 +239,8 @@ print_works x result m b0 b1 b2 qs room c w = record {
 -- ---- when its operations fit their registers
 
 printed_makes : (b : Building) (q : Printed) → IsDeclared b q → MakesText b.regs (text_primitive q) (arg.Var (register_of q) ∷ [])
-printed_makes b (Number q) declared = (refl, (I64, declared, refl, refl, tt))
-printed_makes b (Flag q) declared = (refl, (BoolType, declared, refl, refl, tt))
+printed_makes b (Number q) declared = (refl, (I64, declared, refl, refl, tt), refl)
+printed_makes b (Flag q) declared = (refl, (BoolType, declared, refl, refl, tt), refl)
 
 with_text_kinds : (g : Surrounding) (b c : Building) (r : Reg) (q : Primitive) (a : PArg) (line : ℕ) → g.text ≡ r.0 → c ≡ with_text b r q a line → MakesText b.regs q (a ∷ []) → HasKinds g b → HasKinds g c
 with_text_kinds g b c r q a line same e makes h =
@@ -261,4 +255,4 @@ line_feed_text = is_utf8-from_IsUtf8 (line_feed ∷ []) (IsUtf8-from_ascii (line
 
 pub line_kinds : (b0 b1 b2 : Building) (r : Reg) (q : Printed) (line : ℕ) → IsDeclared b0 q → b1 ≡ with_text b0 r (text_primitive q) (arg.Var (register_of q)) line → b2 ≡ with_text b1 r (prim.Str str.Literal) (arg.Text (line_feed ∷ [])) line → KeepsKindsIf (λ g. g.text ≡ r.0) b0 b2
 line_kinds b0 b1 b2 r q line declared e1 e2 g same h =
-    with_text_kinds g b1 b2 r _ _ line same e2 (refl, (line_feed_text, tt)) (with_text_kinds g b0 b1 r _ _ line same e1 (printed_makes b0 q declared) h)
+    with_text_kinds g b1 b2 r _ _ line same e2 (refl, (line_feed_text, tt), refl) (with_text_kinds g b0 b1 r _ _ line same e1 (printed_makes b0 q declared) h)

@@ -1,6 +1,6 @@
 -- Simple statements do in their code what they mean.
-use Rattle.std.proofs.Common.{◌≡◌, ◌≢◌, ℕ, zero, suc, ◌+◌, ◌-◌, ◌<◌, true, false, List, [], ◌∷◌, length, Option, Some, None, refl, sym, ap, ◌∙◌, subst, arith, le_refl, ⊎_elim}
-use Rattle.std.specs.Prelude.{slice_get, slice_set, nat_lt, if◌then◌else◌}
+use Rattle.std.proofs.Common.{◌≡◌, ◌≢◌, ℕ, zero, suc, ◌+◌, ◌<◌, ◌≤◌, true, false, List, [], ◌∷◌, length, Option, Some, None, refl, sym, ap, ◌∙◌, subst, arith, le_refl, ⊎_elim}
+use Rattle.std.specs.Prelude.{slice_get, slice_set, pos, nat_lt, if◌then◌else◌}
 use Rattle.std.proofs.lemmas.Bool.{cases_eq}
 use Rattle.std.proofs.lemmas.Bool.Decides.{nat_tests}
 use Rattle.value_core.specs.Value.{Value, BoolVal}
@@ -11,7 +11,9 @@ use Rattle.py_typed.specs.WaysOut.{Flow, Goes, Breaks, Continues, Returns}
 use Rattle.ir_core.specs.declared.code.RType.{RType}
 use Rattle.ir_core.specs.declared.code.RType.TheVariants.{Int, I64, Bool as BoolType, Ref}
 use Rattle.ir_core.specs.declared.code.Last.TheVariants.{Return as Leave, Unreachable}
-use Rattle.ir_core.specs.declared.code.Op.TheVariants.{Move}
+use Rattle.ir_core.specs.declared.code.Op.TheVariants.{Move, Lit}
+use Rattle.ir_core.specs.declared.code.Lit.TheVariants.{Number}
+use Rattle.ir_core.specs.Effects.{World}
 use Rattle.ir_core.specs.declared.code.Reg.{Reg}
 use Rattle.ir_core.specs.declared.code.Func.{Func}
 use Rattle.ir_core.specs.declared.code.Program.{Program}
@@ -20,12 +22,12 @@ use Rattle.ir_core.specs.Items.{Item, blocks_of, item_in}
 use Rattle.ir_core.specs.Registers.{Held, Holds, Regs, put, look}
 use Rattle.ir_core.specs.Rows.{type_of_reg}
 use Rattle.ir_core.specs.Meaning.{Config, Waiting, Strict, is_refused, registers_of, declared_of}
-use Rattle.ir_core.proofs.StepLemmas.{move_step, return_step, put_same, put_other}
+use Rattle.ir_core.proofs.StepLemmas.{move_step, lit_step, return_step, put_same, put_other}
 use Rattle.ir_frames.specs.Settings.{Setting, rtype_of}
-use Rattle.ir_frames.specs.Placing.{HasType}
+use Rattle.ir_frames.specs.Placing.{HasType, Has}
 use Rattle.ir_frames.specs.Calling.{Pushes, Closes}
-use Rattle.ir_frames.specs.Coming.{world, running, returning, Ends}
-use Rattle.ir_frames.specs.Matching.{HasKind, Keeps, flag_in, HasRoom, BackBelow, Matches, IsKept, Stands, IsThrown}
+use Rattle.ir_frames.specs.Coming.{world, running, returning, Leads, Ends}
+use Rattle.ir_frames.specs.Matching.{HasKind, flag_of, flag_in, HasRoom, BackBelow, Matches, IsKept, Stands, IsThrown}
 use Rattle.ir_frames.specs.Computing.{Showing, Shows, Meaning, Computes}
 use Rattle.ir_statements.specs.declared.ways.Way.{Way}
 use Rattle.ir_statements.specs.declared.ways.Way.TheVariants.{Break, Continue, Return}
@@ -34,7 +36,7 @@ use Rattle.ir_statements.specs.Runs.{Back, Flows, Works}
 use Rattle.ir_statements.specs.Simple.{Sets, Leaves}
 use Rattle.ir_frames.proofs.ComingLemmas.{leads_trans, leads_step, ends_from, ends_now}
 use Rattle.ir_frames.proofs.HeldLemmas.{extends_refl, extends_trans, has_less, type_has, pushes_has, placed_part}
-use Rattle.ir_frames.proofs.MatchLemmas.{match_kept}
+use Rattle.ir_frames.proofs.MatchLemmas.{match_kept, either_flag, not_below, keeps_as}
 use Rattle.ir_statements.proofs.ExitLemmas.{close_at, stays_by, open_on}
 use Rattle.ir_statements.proofs.FlowLemmas.{goes_to, value_then, flows_from}
 
@@ -57,14 +59,46 @@ get_below [] k a e = let f : None ≡ Some a = e in absurd (cc)
 get_below (b ∷ ls) zero a e = omega arith
 get_below (b ∷ ls) (suc k) a e = let l = get_below ls k a e in omega arith
 
-pub keeps_as : (t : Sort) (h h' g g' : Held) (o : Option Value) → h' ≡ h → g' ≡ g → Keeps t h g o → Keeps t h' g' o
-keeps_as t h h' g g' o e1 e2 q = rw (e1, e2) q
-
 value_kept : (t : RType) (v : Value) → is_refused Strict t (Holds v) ≡ false
 value_kept Int v = refl
 value_kept I64 v = refl
 value_kept BoolType v = refl
 value_kept Ref v = refl
+
+-- a value is moved into the register of a variable
+moved : (x : Setting) (k r : ℕ) (v0 : Variable) (b0 b1 : Building) → HasRoom x b0 → slice_get x.variables k ≡ Some v0 → HasType b0 r (rtype_of v0.1) → Pushes b0 b1 (Move record { 0 = k } record { 0 = r }) → (p : Program) (fn : ℕ) → Has p fn b1 → (regs : Regs) (below : List Waiting) (w : World) (v : Value) → regs r ≡ Holds v → Leads p (running fn (length b0.blocks) (length b0.ops) regs below w) (running fn (length b1.blocks) (length b1.ops) (put regs k (Holds v)) below w)
+moved x k r v0 b0 b1 room var t q p fn has regs below w v is =
+    let has0 = has_less p fn b0 b1 q.extends has in
+    let tr = type_has p fn b0 r (rtype_of v0.1) has0 t in
+    let tk = type_has p fn b0 k (rtype_of v0.1) has0 (room.declared k v0 var) in
+    let free : is_refused Strict (rtype_of v0.1) (regs r) ≡ false = ap (is_refused Strict (rtype_of v0.1)) is ∙ value_kept (rtype_of v0.1) v in
+    let step = move_step Strict p (record { fn = fn; block = length b0.blocks; place = length b0.ops; regs = regs }) below w (record { 0 = k }) (record { 0 = r }) (rtype_of v0.1) (rtype_of v0.1) (pushes_has p fn b0 b1 _ q has) tk tr free in
+    let is1 : running fn (length b0.blocks) (length b0.ops + 1) (put regs k (regs r)) below w ≡ running fn (length b1.blocks) (length b1.ops) (put regs k (Holds v)) below w = rw (q.blocks, q.ops, is) refl in
+    leads_step p _ _ (step ∙ is1)
+
+-- the registers hold the variables again where the register of one has a value, its flag is set, and all others are as they were
+set_matches : (x : Setting) (k : ℕ) (v0 : Variable) (b : Building) (regs now : Regs) (ls : List (Option Value)) (v : Value) → HasRoom x b → slice_get x.variables k ≡ Some v0 → Matches x regs ls → HasKind v0.1 v → now k ≡ Holds v → flag_in x.frame.locals now k ≡ Holds (BoolVal true) → ((j : ℕ) → j ≢ k → (x.frame.locals.params ≤ k → j ≢ flag_of x.frame.locals k) → now j ≡ regs j) → Matches x now (slice_set ls k (Some v))
+set_matches x k v0 b regs now ls v room var match kind held flag others =
+    let count = room.count in
+    let text = room.text in
+    let low : k < length x.variables = get_below x.variables k v0 var in
+    let old = match.each k v0 var in
+    let there : k < length ls = get_below ls k old.0 old.1 in
+    record {
+      each = λ j u e. ⊎_elim
+          (λ (same : j ≡ k).
+          let same_var : u ≡ v0 = (let z : Some u ≡ Some v0 = sym e ∙ ap (slice_get x.variables) same ∙ var in cc) in
+          let got : slice_get (slice_set ls k (Some v)) j ≡ Some (Some v) = ap (slice_get (slice_set ls k (Some v))) same ∙ get_set ls k (Some v) there in
+          let kind' : HasKind u.1 v = (let P : Variable → Type 0 = λ z. HasKind z.1 v in subst P (sym same_var) kind) in
+          (Some v, got, (ap now same ∙ held, ap (flag_in x.frame.locals now) same ∙ flag, kind')))
+          (λ (ne : j ≢ k).
+          let old_j = match.each j u e in
+          let low_j : j < length x.variables = get_below x.variables j u e in
+          let held_j : now j ≡ regs j = others j ne (λ z. λ q. omega arith) in
+          let flag_j : flag_in x.frame.locals now j ≡ flag_in x.frame.locals regs j = either_flag (nat_lt j x.frame.locals.params) (Holds (BoolVal true)) _ _ (λ z. let above = not_below j x.frame.locals.params z in others (flag_of x.frame.locals j) (λ q. omega arith) (λ y. λ q. ne (omega arith))) in
+          (old_j.0, get_other ls k j (Some v) ne ∙ old_j.1, keeps_as u.1 (regs j) (now j) (flag_in x.frame.locals regs j) (flag_in x.frame.locals now j) old_j.0 held_j flag_j old_j.2))
+          (cases_eq j k);
+    }
 
 -- a parameter
 pub param_set : (x : Setting) (k r : ℕ) (v0 : Variable) (b0 b1 : Building) → HasRoom x b0 → slice_get x.variables k ≡ Some v0 → k < x.frame.locals.params → HasType b0 r (rtype_of v0.1) → Pushes b0 b1 (Move record { 0 = k } record { 0 = r }) → Sets x k v0.1 r b0 b1
@@ -73,34 +107,39 @@ param_set x k r v0 b0 b1 room var param t q = record {
   blocks = q.blocks;
   does = λ p fn has regs below w ls v match is kind.
       let now : Regs = put regs k (Holds v) in
-      let has0 = has_less p fn b0 b1 q.extends has in
-      let tr = type_has p fn b0 r (rtype_of v0.1) has0 t in
-      let tk = type_has p fn b0 k (rtype_of v0.1) has0 (room.declared k v0 var) in
-      let free : is_refused Strict (rtype_of v0.1) (regs r) ≡ false = ap (is_refused Strict (rtype_of v0.1)) is ∙ value_kept (rtype_of v0.1) v in
-      let step = move_step Strict p (record { fn = fn; block = length b0.blocks; place = length b0.ops; regs = regs }) below w (record { 0 = k }) (record { 0 = r }) (rtype_of v0.1) (rtype_of v0.1) (pushes_has p fn b0 b1 _ q has) tk tr free in
-      let is1 : running fn (length b0.blocks) (length b0.ops + 1) (put regs k (regs r)) below w ≡ running fn (length b1.blocks) (length b1.ops) now below w = rw (q.blocks, q.ops, is) refl in
-      let low : k < length x.variables = get_below x.variables k v0 var in
       let count = room.count in
+      let text = room.text in
       let flags = room.flags in
-      let old = match.each k v0 var in
-      let there : k < length ls = get_below ls k old.0 old.1 in
-      let m : Matches x now (slice_set ls k (Some v)) = record {
-        each = λ j u e. ⊎_elim
-            (λ (same : j ≡ k).
-            let same_var : u ≡ v0 = (let z : Some u ≡ Some v0 = sym e ∙ ap (slice_get x.variables) same ∙ var in cc) in
-            let got : slice_get (slice_set ls k (Some v)) j ≡ Some (Some v) = ap (slice_get (slice_set ls k (Some v))) same ∙ get_set ls k (Some v) there in
-            let held : now j ≡ Holds v = ap now same ∙ put_same regs k (Holds v) in
-            let flag : flag_in x.frame.locals now j ≡ Holds (BoolVal true) = (let l : j < x.frame.locals.params = omega arith in grind (arith, nat_tests)) in
-            let kind' : HasKind u.1 v = (let P : Variable → Type 0 = λ z. HasKind z.1 v in subst P (sym same_var) kind) in
-            (Some v, got, (held, flag, kind')))
-            (λ (ne : j ≢ k).
-            let old_j = match.each j u e in
-            let held : now j ≡ regs j = put_other regs k j (Holds v) ne in
-            let flag : flag_in x.frame.locals now j ≡ flag_in x.frame.locals regs j = ap (λ z. if nat_lt j x.frame.locals.params then Holds (BoolVal true) else z) (put_other regs k (x.frame.locals.count + (j - x.frame.locals.params)) (Holds v) (λ q. omega arith)) in
-            (old_j.0, get_other ls k j (Some v) ne ∙ old_j.1, keeps_as u.1 (regs j) (now j) (flag_in x.frame.locals regs j) (flag_in x.frame.locals now j) old_j.0 held flag old_j.2))
-            (cases_eq j k);
-      } in
-      (now, leads_step p _ _ (step ∙ is1), m, λ j le. put_other regs k j (Holds v) (λ q. omega arith));
+      let low : k < length x.variables = get_below x.variables k v0 var in
+      let flag : flag_in x.frame.locals now k ≡ Holds (BoolVal true) = (let e : nat_lt k x.frame.locals.params ≡ true = grind (arith, nat_tests) in ap (λ b. if b then Holds (BoolVal true) else now (flag_of x.frame.locals k)) e) in
+      let m : Matches x now (slice_set ls k (Some v)) = set_matches x k v0 b0 regs now ls v room var match kind (put_same regs k (Holds v)) flag (λ j ne other. put_other regs k j (Holds v) ne) in
+      (now, moved x k r v0 b0 b1 room var t q p fn has regs below w v is, m, λ j le. put_other regs k j (Holds v) (λ q. omega arith));
+}
+
+-- another variable: its flag is set behind the value
+pub other_set : (x : Setting) (k r : ℕ) (v0 : Variable) (b0 b1 b2 : Building) → HasRoom x b0 → slice_get x.variables k ≡ Some v0 → x.frame.locals.params ≤ k → HasType b0 r (rtype_of v0.1) → Pushes b0 b1 (Move record { 0 = k } record { 0 = r }) → Pushes b1 b2 (Lit record { 0 = flag_of x.frame.locals k } (Number (pos 1))) → Sets x k v0.1 r b0 b2
+other_set x k r v0 b0 b1 b2 room var other t q q' = record {
+  extends = extends_trans b0 b1 b2 q.extends q'.extends;
+  blocks = q'.blocks ∙ q.blocks;
+  does = λ p fn has regs below w ls v match is kind.
+      let at : ℕ = flag_of x.frame.locals k in
+      let set : Held = Holds (BoolVal true) in
+      let mid : Regs = put regs k (Holds v) in
+      let now : Regs = put mid at set in
+      let count = room.count in
+      let text = room.text in
+      let flags = room.flags in
+      let low : k < length x.variables = get_below x.variables k v0 var in
+      let has1 = has_less p fn b1 b2 q'.extends has in
+      let has0 = has_less p fn b0 b1 q.extends has1 in
+      let type = type_has p fn b0 at BoolType has0 (room.flagged k other (omega arith)) in
+      let first = moved x k r v0 b0 b1 room var t q p fn has1 regs below w v is in
+      let step = lit_step Strict p (record { fn = fn; block = length b1.blocks; place = length b1.ops; regs = mid }) below w (record { 0 = at }) (Number (pos 1)) BoolType set (pushes_has p fn b1 b2 _ q' has) type refl in
+      let is1 : running fn (length b1.blocks) (length b1.ops + 1) now below w ≡ running fn (length b2.blocks) (length b2.ops) now below w = rw (q'.blocks, q'.ops) refl in
+      let held : now k ≡ Holds v = put_other mid at k set (λ z. omega arith) ∙ put_same regs k (Holds v) in
+      let flag : flag_in x.frame.locals now k ≡ set = (let e : nat_lt k x.frame.locals.params ≡ false = grind (arith, nat_tests) in ap (λ b. if b then Holds (BoolVal true) else now at) e ∙ put_same mid at set) in
+      let m : Matches x now (slice_set ls k (Some v)) = set_matches x k v0 b0 regs now ls v room var match kind held flag (λ j ne o. put_other mid at j set (o other) ∙ put_other regs k j (Holds v) ne) in
+      (now, leads_trans p _ _ _ first (leads_step p _ _ (step ∙ is1)), m, λ j le. put_other mid at j set (λ z. omega arith) ∙ put_other regs k j (Holds v) (λ z. omega arith));
 }
 
 -- what is done with a value that is put into a variable

@@ -10,7 +10,7 @@ use Rattle.ir_core.specs.declared.code.Op.TheVariants.{Lit}
 use Rattle.ir_core.specs.declared.code.Lit.TheVariants.{Number}
 use Rattle.ir_frames.specs.Calling.{Adds}
 use Rattle.ir_frames.specs.Kinds.{LiteralFits, KeepsKindsIf}
-use Rattle.ir_frames.proofs.HeldLemmas.{ok_map, extends_refl, extends_trans, type_kept}
+use Rattle.ir_frames.proofs.HeldLemmas.{ok_map, ok_join, extends_refl, extends_trans, type_kept}
 use Rattle.ir_frames.proofs.MatchLemmas.{room_on}
 use Rattle.ir_expressions.specs.Emitting.{Emits, EmitsNumber, EmitsAll, EmitsAnyChain}
 use Rattle.ir_expressions.specs.Walking.{Walks}
@@ -21,7 +21,7 @@ use Rattle.ir_expressions.proofs.ArgumentLemmas.{argument_suits, passing_none, p
 use Rattle.ir_expressions.proofs.GoingLemmas.{going_walks, going_start, going_at, going_on, going_over, first_suits, item_suits, chain_empty, Chain}
 use Rattle.ir_expressions.proofs.WeightLemmas.{weight_of_all, weight_of_chain, same_weight, neg_weight, not_weight, truth_weight, coerce_weight, arith_weight, compare_weight, and_weight, or_weight, cond_weight, call_weight, member_weight, first_weight, later_weight}
 use Rattle.ir_expressions.proofs.UnsuitedLemmas.{none_left}
-use Rattle.ir_expressions.proofs.WalkLemmas.{part_type, arith_built, and_made, or_made, choice_made, flag_walked, local_walked, neg_type, neg_walked, not_type, not_walked, truth_type, truth_walked, arith_walked, compare_rest, compare_walked, and_scalar, and_same, and_walked, or_scalar, or_same, or_walked, cond_scalar, cond_same, cond_flag, cond_walked, call_suits, call_below, call_walked, call_walks, coerce_walked, operand_fits, operand_part, operand_scalar, literal_within, literal_walked, flag_type, flag_number, own_number, emits_same, number_same, suits_same, operand_same, scalar_same, sort_same, sorts_same}
+use Rattle.ir_expressions.proofs.WalkLemmas.{part_type, arith_built, and_made, or_made, choice_made, flag_walked, local_below, local_walked, neg_type, neg_walked, not_type, not_walked, truth_type, truth_walked, arith_walked, compare_rest, compare_walked, and_scalar, and_same, and_walked, or_scalar, or_same, or_walked, cond_scalar, cond_same, cond_flag, cond_walked, call_suits, call_below, call_walked, call_walks, coerce_walked, operand_fits, operand_part, operand_scalar, literal_within, literal_walked, flag_type, flag_number, own_number, emits_same, number_same, suits_same, operand_same, scalar_same, sort_same, sorts_same}
 use Rattle.ir_expressions.proofs.expression.+expression.Goals as goal
 
 pub emit_expression-returns-in-Bool : goal.emit_expression-returns-in-Bool
@@ -31,12 +31,19 @@ emit_expression-returns-in-Bool t c =
     let fits : LiteralFits rtype.Bool c.truth.result = rw c.truth.ensures (truth_fits c.in-Bool.value) in
     record { kept = e.kept; emitted = ok_map _ _ _ (λ (r : Reg) a. flag_walked x c.args.e.now c.requires.suits c.in-Bool.value _ _ r.0 c.in-Bool.is a) (rw c.truth.ensures at e.added); shaped = e.shaped; kinds = λ g among h. e.kinds g fits h }
 
+pub emit_expression-emit_local-requires-clause-there : goal.emit_expression-emit_local-requires-clause-there
+emit_expression-emit_local-requires-clause-there t c =
+    let x : Setting = setting c.args.checked.now c.args.locals.now c.args.frame in
+    rw (sym (length-map c.args.locals.now variable)) (local_below x c.args.e.now c.requires.suits c.in-Local.i c.in-Local.is)
+
+pub emit_expression-emit_local-requires-clause-room : goal.emit_expression-emit_local-requires-clause-room
+emit_expression-emit_local-requires-clause-room t c = (typed_module c.args.checked.now, c.requires.room)
+
 pub emit_expression-returns-in-Local : goal.emit_expression-returns-in-Local
 emit_expression-returns-in-Local t c =
-    let m : TypedModule = typed_module c.args.checked.now in
     let x : Setting = setting c.args.checked.now c.args.locals.now c.args.frame in
-    let w = walks_refl m c.args.b.now in
-    record { kept = w.kept; emitted = local_walked x c.args.e.now c.requires.suits c.in-Local.i _ c.in-Local.is (rw (length-map c.args.locals.now variable) c.requires.parameters) c.requires.room; shaped = w.shaped; kinds = w.kinds }
+    let e = c.emit_local.ensures in
+    record { kept = e.kept; emitted = ok_join _ _ _ _ (λ (r : Reg) is q. local_walked x c.args.e.now c.requires.suits c.in-Local.i _ _ r.0 c.in-Local.is is q) e.is e.emitted; shaped = e.shaped; kinds = λ g among h. e.kinds g h }
 
 pub emit_expression-emit_expression-requires : goal.emit_expression-emit_expression-requires
 emit_expression-emit_expression-requires t c =
@@ -44,7 +51,7 @@ emit_expression-emit_expression-requires t c =
     let vs : List Variable = map variable c.args.locals.now in
     let h0 = neg_weight c.args.e.now c.in-Neg.x c.in-Neg.is in
     let h1 = same_weight _ _ c.deref.ensures in
-    (omega arith, (suits_same m vs _ _ c.deref.ensures (neg_part m vs c.args.e.now c.in-Neg.x c.in-Neg.is c.requires.suits), (c.requires.room, c.requires.parameters)))
+    (omega arith, (suits_same m vs _ _ c.deref.ensures (neg_part m vs c.args.e.now c.in-Neg.x c.in-Neg.is c.requires.suits), c.requires.room))
 
 pub emit_expression-returns-in_err-x-in-Neg : goal.emit_expression-returns-in_err-x-in-Neg
 emit_expression-returns-in_err-x-in-Neg t c =
@@ -70,7 +77,7 @@ emit_expression-emit_expression-requires-in-Not t c =
     let vs : List Variable = map variable c.args.locals.now in
     let h0 = not_weight c.args.e.now c.in-Not.x c.in-Not.is in
     let h1 = same_weight _ _ c.deref-in-Not.ensures in
-    (omega arith, (suits_same m vs _ _ c.deref-in-Not.ensures (not_part m vs c.args.e.now c.in-Not.x c.in-Not.is c.requires.suits), (c.requires.room, c.requires.parameters)))
+    (omega arith, (suits_same m vs _ _ c.deref-in-Not.ensures (not_part m vs c.args.e.now c.in-Not.x c.in-Not.is c.requires.suits), c.requires.room))
 
 pub emit_expression-returns-in_err-x-in-Not : goal.emit_expression-returns-in_err-x-in-Not
 emit_expression-returns-in_err-x-in-Not t c =
@@ -96,7 +103,7 @@ emit_expression-emit_expression-requires-in-Truth t c =
     let vs : List Variable = map variable c.args.locals.now in
     let h0 = truth_weight c.args.e.now c.in-Truth.x c.in-Truth.is in
     let h1 = same_weight _ _ c.deref-in-Truth.ensures in
-    (omega arith, (suits_same m vs _ _ c.deref-in-Truth.ensures (truth_part m vs c.args.e.now c.in-Truth.x c.in-Truth.is c.requires.suits), (c.requires.room, c.requires.parameters)))
+    (omega arith, (suits_same m vs _ _ c.deref-in-Truth.ensures (truth_part m vs c.args.e.now c.in-Truth.x c.in-Truth.is c.requires.suits), c.requires.room))
 
 pub emit_expression-returns-in_err-x-in-Truth : goal.emit_expression-returns-in_err-x-in-Truth
 emit_expression-returns-in_err-x-in-Truth t c =
@@ -122,7 +129,7 @@ emit_expression-emit_operand-requires t c =
     let vs : List Variable = map variable c.args.locals.now in
     let h0 = arith_weight c.args.e.now c.in-Arith.op c.in-Arith.x c.in-Arith.y c.in-Arith.is in
     let h1 = same_weight _ _ c.deref-in-Arith.ensures in
-    (omega arith, (operand_same m vs _ _ c.deref-in-Arith.ensures (arith_left m vs c.args.e.now c.in-Arith.op c.in-Arith.x c.in-Arith.y c.in-Arith.is c.requires.suits), (c.requires.room, c.requires.parameters)))
+    (omega arith, (operand_same m vs _ _ c.deref-in-Arith.ensures (arith_left m vs c.args.e.now c.in-Arith.op c.in-Arith.x c.in-Arith.y c.in-Arith.is c.requires.suits), c.requires.room))
 
 pub emit_expression-emit_operand-requires-in-Arith : goal.emit_expression-emit_operand-requires-in-Arith
 emit_expression-emit_operand-requires-in-Arith t c =
@@ -130,7 +137,7 @@ emit_expression-emit_operand-requires-in-Arith t c =
     let vs : List Variable = map variable c.args.locals.now in
     let h0 = arith_weight c.args.e.now c.in-Arith.op c.in-Arith.x c.in-Arith.y c.in-Arith.is in
     let h1 = same_weight _ _ c.deref-in-Arith-2.ensures in
-    (omega arith, (operand_same m vs _ _ c.deref-in-Arith-2.ensures (arith_right m vs c.args.e.now c.in-Arith.op c.in-Arith.x c.in-Arith.y c.in-Arith.is c.requires.suits), (room_on _ _ _ c.in_ok-x-in-Arith.ensures.kept c.requires.room, c.requires.parameters)))
+    (omega arith, (operand_same m vs _ _ c.deref-in-Arith-2.ensures (arith_right m vs c.args.e.now c.in-Arith.op c.in-Arith.x c.in-Arith.y c.in-Arith.is c.requires.suits), (room_on _ _ _ c.in_ok-x-in-Arith.ensures.kept c.requires.room)))
 
 pub emit_expression-returns-in_err-x-in-Arith : goal.emit_expression-returns-in_err-x-in-Arith
 emit_expression-returns-in_err-x-in-Arith t c =
@@ -164,14 +171,14 @@ emit_expression-emit_operand-requires-in-Compare t c =
     let vs : List Variable = map variable c.args.locals.now in
     let h0 = compare_weight c.args.e.now c.in-Compare.x c.in-Compare.rest c.in-Compare.is in
     let h1 = same_weight _ _ c.deref-in-Compare.ensures in
-    (omega arith, (operand_same m vs _ _ c.deref-in-Compare.ensures (compare_first m vs c.args.e.now c.in-Compare.x c.in-Compare.rest c.in-Compare.is c.requires.suits), (c.requires.room, c.requires.parameters)))
+    (omega arith, (operand_same m vs _ _ c.deref-in-Compare.ensures (compare_first m vs c.args.e.now c.in-Compare.x c.in-Compare.rest c.in-Compare.is c.requires.suits), c.requires.room))
 
 pub emit_expression-emit_chain-requires : goal.emit_expression-emit_chain-requires
 emit_expression-emit_chain-requires t c =
     let x : Setting = setting c.args.checked.now c.args.locals.now c.args.frame in
     let h0 = compare_weight c.args.e.now c.in-Compare.x c.in-Compare.rest c.in-Compare.is in
     let h1 = ap weight_of_chain c.as_slice.ensures in
-    (omega arith, (rw c.as_slice.ensures (compare_rest x c.args.e.now c.requires.suits c.in-Compare.x c.in-Compare.rest c.in-Compare.is), (room_on _ _ _ c.in_ok-x-in-Compare.ensures.kept c.requires.room, (c.requires.parameters, c.in_ok-x-in-Compare.ensures.emitted.type))))
+    (omega arith, (rw c.as_slice.ensures (compare_rest x c.args.e.now c.requires.suits c.in-Compare.x c.in-Compare.rest c.in-Compare.is), (room_on _ _ _ c.in_ok-x-in-Compare.ensures.kept c.requires.room, c.in_ok-x-in-Compare.ensures.emitted.type)))
 
 pub emit_expression-returns-in_err-x-in-Compare : goal.emit_expression-returns-in_err-x-in-Compare
 emit_expression-returns-in_err-x-in-Compare t c =
@@ -195,7 +202,7 @@ emit_expression-emit_and-requires t c =
     let h0 = and_weight c.args.e.now c.in-And.x c.in-And.y c.in-And.is in
     let h1 = same_weight _ _ c.deref-in-And.ensures in
     let h2 = same_weight _ _ c.deref-in-And-2.ensures in
-    (omega arith, (scalar_same _ _ c.deref-in-And.ensures (and_scalar x c.args.e.now c.requires.suits c.in-And.x c.in-And.y c.in-And.is), (sorts_same _ _ _ _ c.deref-in-And.ensures c.deref-in-And-2.ensures (and_same x c.args.e.now c.requires.suits c.in-And.x c.in-And.y c.in-And.is), (suits_same m vs _ _ c.deref-in-And.ensures (and_left m vs c.args.e.now c.in-And.x c.in-And.y c.in-And.is c.requires.suits), (suits_same m vs _ _ c.deref-in-And-2.ensures (and_right m vs c.args.e.now c.in-And.x c.in-And.y c.in-And.is c.requires.suits), (c.requires.room, c.requires.parameters))))))
+    (omega arith, (scalar_same _ _ c.deref-in-And.ensures (and_scalar x c.args.e.now c.requires.suits c.in-And.x c.in-And.y c.in-And.is), (sorts_same _ _ _ _ c.deref-in-And.ensures c.deref-in-And-2.ensures (and_same x c.args.e.now c.requires.suits c.in-And.x c.in-And.y c.in-And.is), (suits_same m vs _ _ c.deref-in-And.ensures (and_left m vs c.args.e.now c.in-And.x c.in-And.y c.in-And.is c.requires.suits), (suits_same m vs _ _ c.deref-in-And-2.ensures (and_right m vs c.args.e.now c.in-And.x c.in-And.y c.in-And.is c.requires.suits), c.requires.room)))))
 
 pub emit_expression-returns-in-And : goal.emit_expression-returns-in-And
 emit_expression-returns-in-And t c =
@@ -212,7 +219,7 @@ emit_expression-emit_or-requires t c =
     let h0 = or_weight c.args.e.now c.in-Or.x c.in-Or.y c.in-Or.is in
     let h1 = same_weight _ _ c.deref-in-Or.ensures in
     let h2 = same_weight _ _ c.deref-in-Or-2.ensures in
-    (omega arith, (scalar_same _ _ c.deref-in-Or.ensures (or_scalar x c.args.e.now c.requires.suits c.in-Or.x c.in-Or.y c.in-Or.is), (sorts_same _ _ _ _ c.deref-in-Or.ensures c.deref-in-Or-2.ensures (or_same x c.args.e.now c.requires.suits c.in-Or.x c.in-Or.y c.in-Or.is), (suits_same m vs _ _ c.deref-in-Or.ensures (or_left m vs c.args.e.now c.in-Or.x c.in-Or.y c.in-Or.is c.requires.suits), (suits_same m vs _ _ c.deref-in-Or-2.ensures (or_right m vs c.args.e.now c.in-Or.x c.in-Or.y c.in-Or.is c.requires.suits), (c.requires.room, c.requires.parameters))))))
+    (omega arith, (scalar_same _ _ c.deref-in-Or.ensures (or_scalar x c.args.e.now c.requires.suits c.in-Or.x c.in-Or.y c.in-Or.is), (sorts_same _ _ _ _ c.deref-in-Or.ensures c.deref-in-Or-2.ensures (or_same x c.args.e.now c.requires.suits c.in-Or.x c.in-Or.y c.in-Or.is), (suits_same m vs _ _ c.deref-in-Or.ensures (or_left m vs c.args.e.now c.in-Or.x c.in-Or.y c.in-Or.is c.requires.suits), (suits_same m vs _ _ c.deref-in-Or-2.ensures (or_right m vs c.args.e.now c.in-Or.x c.in-Or.y c.in-Or.is c.requires.suits), c.requires.room)))))
 
 pub emit_expression-returns-in-Or : goal.emit_expression-returns-in-Or
 emit_expression-returns-in-Or t c =
@@ -230,7 +237,7 @@ emit_expression-emit_choice-requires t c =
     let h1 = same_weight _ _ c.deref-in-Cond.ensures in
     let h2 = same_weight _ _ c.deref-in-Cond-2.ensures in
     let h3 = same_weight _ _ c.deref-in-Cond-3.ensures in
-    (omega arith, (scalar_same _ _ c.deref-in-Cond.ensures (cond_scalar x c.args.e.now c.requires.suits c.in-Cond.x c.in-Cond.test c.in-Cond.y c.in-Cond.is), (sorts_same _ _ _ _ c.deref-in-Cond.ensures c.deref-in-Cond-3.ensures (cond_same x c.args.e.now c.requires.suits c.in-Cond.x c.in-Cond.test c.in-Cond.y c.in-Cond.is), (sort_same _ _ _ c.deref-in-Cond-2.ensures (cond_flag x c.args.e.now c.requires.suits c.in-Cond.x c.in-Cond.test c.in-Cond.y c.in-Cond.is), (suits_same m vs _ _ c.deref-in-Cond.ensures (cond_first m vs c.args.e.now c.in-Cond.x c.in-Cond.test c.in-Cond.y c.in-Cond.is c.requires.suits), (suits_same m vs _ _ c.deref-in-Cond-2.ensures (cond_test m vs c.args.e.now c.in-Cond.x c.in-Cond.test c.in-Cond.y c.in-Cond.is c.requires.suits), (suits_same m vs _ _ c.deref-in-Cond-3.ensures (cond_second m vs c.args.e.now c.in-Cond.x c.in-Cond.test c.in-Cond.y c.in-Cond.is c.requires.suits), (c.requires.room, c.requires.parameters))))))))
+    (omega arith, (scalar_same _ _ c.deref-in-Cond.ensures (cond_scalar x c.args.e.now c.requires.suits c.in-Cond.x c.in-Cond.test c.in-Cond.y c.in-Cond.is), (sorts_same _ _ _ _ c.deref-in-Cond.ensures c.deref-in-Cond-3.ensures (cond_same x c.args.e.now c.requires.suits c.in-Cond.x c.in-Cond.test c.in-Cond.y c.in-Cond.is), (sort_same _ _ _ c.deref-in-Cond-2.ensures (cond_flag x c.args.e.now c.requires.suits c.in-Cond.x c.in-Cond.test c.in-Cond.y c.in-Cond.is), (suits_same m vs _ _ c.deref-in-Cond.ensures (cond_first m vs c.args.e.now c.in-Cond.x c.in-Cond.test c.in-Cond.y c.in-Cond.is c.requires.suits), (suits_same m vs _ _ c.deref-in-Cond-2.ensures (cond_test m vs c.args.e.now c.in-Cond.x c.in-Cond.test c.in-Cond.y c.in-Cond.is c.requires.suits), (suits_same m vs _ _ c.deref-in-Cond-3.ensures (cond_second m vs c.args.e.now c.in-Cond.x c.in-Cond.test c.in-Cond.y c.in-Cond.is c.requires.suits), c.requires.room)))))))
 
 pub emit_expression-returns-in-Cond : goal.emit_expression-returns-in-Cond
 emit_expression-returns-in-Cond t c =
@@ -244,7 +251,7 @@ emit_expression-emit_arguments-requires t c =
     let x : Setting = setting c.args.checked.now c.args.locals.now c.args.frame in
     let h0 = call_weight c.args.e.now c.in-Call.f c.in-Call.args c.in-Call.is in
     let h1 = ap weight_of_all c.as_slice-in-Call.ensures in
-    (omega arith, (rw c.as_slice-in-Call.ensures (call_suits x c.args.e.now c.requires.suits c.in-Call.f c.in-Call.args c.in-Call.is), (c.requires.room, c.requires.parameters)))
+    (omega arith, (rw c.as_slice-in-Call.ensures (call_suits x c.args.e.now c.requires.suits c.in-Call.f c.in-Call.args c.in-Call.is), c.requires.room))
 
 pub emit_expression-returns-in_err-args-in-Call : goal.emit_expression-returns-in_err-args-in-Call
 emit_expression-returns-in_err-args-in-Call t c =
@@ -271,7 +278,7 @@ emit_expression-emit_operand-requires-in-Coerce t c =
     let vs : List Variable = map variable c.args.locals.now in
     let h0 = coerce_weight c.args.e.now c.in-Coerce.x c.in-Coerce.is in
     let h1 = same_weight _ _ c.deref-in-Coerce.ensures in
-    (omega arith, (operand_same m vs _ _ c.deref-in-Coerce.ensures (coerce_part m vs c.args.e.now c.in-Coerce.x c.in-Coerce.is c.requires.suits), (c.requires.room, c.requires.parameters)))
+    (omega arith, (operand_same m vs _ _ c.deref-in-Coerce.ensures (coerce_part m vs c.args.e.now c.in-Coerce.x c.in-Coerce.is c.requires.suits), c.requires.room))
 
 pub emit_expression-returns-in-Coerce : goal.emit_expression-returns-in-Coerce
 emit_expression-returns-in-Coerce t c =
@@ -309,7 +316,7 @@ pub emit_operand-emit_expression-requires : goal.emit_operand-emit_expression-re
 emit_operand-emit_expression-requires t c =
     let m : TypedModule = typed_module c.args.checked.now in
     let vs : List Variable = map variable c.args.locals.now in
-    (omega arith, ((operand_part m vs (typed_expr c.args.e.now) (sym c.literal_of.ensures ∙ c.in-None.is) c.requires.suits).1, (c.requires.room, c.requires.parameters)))
+    (omega arith, ((operand_part m vs (typed_expr c.args.e.now) (sym c.literal_of.ensures ∙ c.in-None.is) c.requires.suits).1, c.requires.room))
 
 pub emit_operand-returns-in_err-r-in-None : goal.emit_operand-returns-in_err-r-in-None
 emit_operand-returns-in_err-r-in-None t c =
@@ -347,7 +354,7 @@ emit_arguments-emit_expression-requires t c =
     let m : TypedModule = typed_module c.args.checked.now in
     let vs : List Variable = map variable c.args.locals.now in
     let h0 = member_weight c.args.args.now c.loop-e.e-index c.e-item.result c.loop-e-test.true c.e-item.is in
-    (omega arith, ((argument_suits m vs c.args.args.now c.loop-e.e-index c.e-item.result c.loop-e-test.true c.e-item.is c.loop-e.invariant.suits).0, (room_on _ _ _ c.loop-e.invariant.walks.kept c.requires.room, c.requires.parameters)))
+    (omega arith, ((argument_suits m vs c.args.args.now c.loop-e.e-index c.e-item.result c.loop-e-test.true c.e-item.is c.loop-e.invariant.suits).0, (room_on _ _ _ c.loop-e.invariant.walks.kept c.requires.room)))
 
 pub emit_arguments-returns-in_err-r : goal.emit_arguments-returns-in_err-r
 emit_arguments-returns-in_err-r t c =
@@ -375,11 +382,11 @@ emit_arguments-returns t c =
 
 pub emit_and-emit_expression-requires : goal.emit_and-emit_expression-requires
 emit_and-emit_expression-requires t c =
-    (omega arith, (c.requires.left, (c.requires.room, c.requires.parameters)))
+    (omega arith, (c.requires.left, c.requires.room))
 
 pub emit_and-emit_expression-requires-2 : goal.emit_and-emit_expression-requires-2
 emit_and-emit_expression-requires-2 t c =
-    (omega arith, (c.requires.right, (room_on _ _ _ (extends_trans _ _ _ c.in_ok-x.ensures.kept (extends_trans _ _ _ c.in_ok-condition.ensures.kept c.in_ok-choice.ensures.kept)) c.requires.room, c.requires.parameters)))
+    (omega arith, (c.requires.right, (room_on _ _ _ (extends_trans _ _ _ c.in_ok-x.ensures.kept (extends_trans _ _ _ c.in_ok-condition.ensures.kept c.in_ok-choice.ensures.kept)) c.requires.room)))
 
 pub emit_and-returns-in_err-x : goal.emit_and-returns-in_err-x
 emit_and-returns-in_err-x t c =
@@ -458,11 +465,11 @@ emit_and-returns t c =
 
 pub emit_or-emit_expression-requires : goal.emit_or-emit_expression-requires
 emit_or-emit_expression-requires t c =
-    (omega arith, (c.requires.left, (c.requires.room, c.requires.parameters)))
+    (omega arith, (c.requires.left, c.requires.room))
 
 pub emit_or-emit_expression-requires-2 : goal.emit_or-emit_expression-requires-2
 emit_or-emit_expression-requires-2 t c =
-    (omega arith, (c.requires.right, (room_on _ _ _ (extends_trans _ _ _ c.in_ok-x.ensures.kept (extends_trans _ _ _ c.in_ok-condition.ensures.kept (extends_trans _ _ _ c.in_ok-choice.ensures.kept c.in_ok-end.ensures.kept))) c.requires.room, c.requires.parameters)))
+    (omega arith, (c.requires.right, (room_on _ _ _ (extends_trans _ _ _ c.in_ok-x.ensures.kept (extends_trans _ _ _ c.in_ok-condition.ensures.kept (extends_trans _ _ _ c.in_ok-choice.ensures.kept c.in_ok-end.ensures.kept))) c.requires.room)))
 
 pub emit_or-returns-in_err-x : goal.emit_or-returns-in_err-x
 emit_or-returns-in_err-x t c =
@@ -543,15 +550,15 @@ emit_or-returns t c =
 
 pub emit_choice-emit_expression-requires : goal.emit_choice-emit_expression-requires
 emit_choice-emit_expression-requires t c =
-    (omega arith, (c.requires.test, (c.requires.room, c.requires.parameters)))
+    (omega arith, (c.requires.test, c.requires.room))
 
 pub emit_choice-emit_expression-requires-2 : goal.emit_choice-emit_expression-requires-2
 emit_choice-emit_expression-requires-2 t c =
-    (omega arith, (c.requires.left, (room_on _ _ _ (extends_trans _ _ _ c.in_ok-condition.ensures.kept c.in_ok-choice.ensures.kept) c.requires.room, c.requires.parameters)))
+    (omega arith, (c.requires.left, (room_on _ _ _ (extends_trans _ _ _ c.in_ok-condition.ensures.kept c.in_ok-choice.ensures.kept) c.requires.room)))
 
 pub emit_choice-emit_expression-requires-3 : goal.emit_choice-emit_expression-requires-3
 emit_choice-emit_expression-requires-3 t c =
-    (omega arith, (c.requires.right, (room_on _ _ _ (extends_trans _ _ _ c.in_ok-condition.ensures.kept (extends_trans _ _ _ c.in_ok-choice.ensures.kept (extends_trans _ _ _ c.in_ok-x.ensures.kept c.in_ok-end.ensures.kept))) c.requires.room, c.requires.parameters)))
+    (omega arith, (c.requires.right, (room_on _ _ _ (extends_trans _ _ _ c.in_ok-condition.ensures.kept (extends_trans _ _ _ c.in_ok-choice.ensures.kept (extends_trans _ _ _ c.in_ok-x.ensures.kept c.in_ok-end.ensures.kept))) c.requires.room)))
 
 pub emit_choice-returns-in_err-condition : goal.emit_choice-returns-in_err-condition
 emit_choice-returns-in_err-condition t c =
@@ -642,7 +649,7 @@ pub emit_chain-emit_operand-requires : goal.emit_chain-emit_operand-requires
 emit_chain-emit_operand-requires t c =
     let x : Setting = setting c.args.checked.now c.args.locals.now c.args.frame in
     let h0 = first_weight c.args.rest.now c.index-rest-0-2.result c.in-len1-up.len_at_least in
-    (omega arith, ((first_suits x c.args.rest.now c.index-rest-0.result c.index-rest-0-2.result c.in-len1-up.len_at_least c.requires.suits).1, (c.requires.room, c.requires.parameters)))
+    (omega arith, ((first_suits x c.args.rest.now c.index-rest-0.result c.index-rest-0-2.result c.in-len1-up.len_at_least c.requires.suits).1, c.requires.room))
 
 pub emit_chain-loop-op-init : goal.emit_chain-loop-op-init
 emit_chain-loop-op-init t c =
@@ -657,7 +664,7 @@ emit_chain-emit_operand-requires-in-loop-op t c =
     let x : Setting = setting c.args.checked.now c.args.locals.now c.args.frame in
     let more : Chain = take (length c.args.rest.now - 1) (drop 1 c.args.rest.now) in
     let h0 = later_weight c.args.rest.now c.loop-op.op-index c.loop-op-item.result c.loop-op-test.true c.loop-op-item.is in
-    (omega arith, ((item_suits x more c.loop-op.op-index c.loop-op-item.result c.loop-op-test.true c.loop-op-item.is c.loop-op.invariant.suits).1, (room_on _ _ _ (extends_trans _ _ _ c.loop-op.invariant.walks.kept c.in_ok-begin_link-in-len1-up.ensures.kept) c.requires.room, c.requires.parameters)))
+    (omega arith, ((item_suits x more c.loop-op.op-index c.loop-op-item.result c.loop-op-test.true c.loop-op-item.is c.loop-op.invariant.suits).1, (room_on _ _ _ (extends_trans _ _ _ c.loop-op.invariant.walks.kept c.in_ok-begin_link-in-len1-up.ensures.kept) c.requires.room)))
 
 pub emit_chain-loop-op-preserved : goal.emit_chain-loop-op-preserved
 emit_chain-loop-op-preserved t c =

@@ -1,7 +1,7 @@
 use Rattle.std.proofs.Common.{◌∙◌, ap, length}
 use Rattle.ir_core.specs.Building.{Building}
 use Rattle.ir_frames.proofs.PatchLemmas.{with_last_length}
-use Rattle.ir_frames.proofs.ShapeLemmas.{patch_shaped}
+use Rattle.ir_frames.proofs.ShapeLemmas.{patch_shaped, patch_alone}
 use Rattle.ir_frames.proofs.KindLemmas.{patch_kinds}
 use Rattle.ir_frames.proofs.emitter.Emitter.patch.Goals as goal
 
@@ -10,6 +10,9 @@ returns-clause-len c = rw (← c.self.view_is) (ap (λ (v : Building). length v.
 
 pub returns-clause-shaped : goal.returns-clause-shaped
 returns-clause-shaped c = rw (← c.self.view_is) (λ n m. patch_shaped n m _ _ _ _ c.set_last.ensures)
+
+pub returns-clause-alone : goal.returns-clause-alone
+returns-clause-alone c = rw (← c.self.view_is) (λ at n m. patch_alone n m _ _ _ _ _ c.set_last.ensures at)
 
 pub returns-clause-kinds : goal.returns-clause-kinds
 returns-clause-kinds c = rw (← c.self.view_is) (λ g. patch_kinds g _ _ c.args.block c.args.last c.set_last.ensures)
