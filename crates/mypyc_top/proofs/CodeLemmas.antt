@@ -9,13 +9,15 @@ use Rattle.c_core.specs.declared.code.Code.{Code}
 use Rattle.ir_core.specs.declared.code.Program.{Program}
 use Rattle.ir_core.specs.Lower.{kind_of_type, global_of, lower}
 use Rattle.ir_core.specs.Meaning.{Plain}
-use Rattle.ir_core.specs.Runs.{Calm, start}
+use Rattle.ir_core.specs.Runs.{Fit, MeansSame, start}
 use Rattle.ir_core.specs.Shape.{Shape}
 use Rattle.ir_core.proofs.RunLemmas.{ends_are_one}
 use Rattle.ir_frames.specs.Settings.{rtype_of}
-use Rattle.ir_lowering.specs.Prints.{Prints}
+use Rattle.error_edges.specs.Edged.{IsEdgedProgram}
+use Rattle.ir_lowering.specs.PrintsOrFails.{PrintsOrFails}
 use Rattle.ir_lowering.specs.Follows.{stop_of}
-use Rattle.ir_lowering.proofs.Whole.{runs_follow}
+use Rattle.ir_lowering.proofs.Whole.{fitting_runs_follow}
+use Rattle.edge_laws.proofs.Whole.{edged_prints}
 use Rattle.ir_builder.specs.Meaning as builder
 use Rattle.ir_builder.specs.Meaning.{DoesAsModule, globals_of}
 use Rattle.mypyc_top.specs.Faithful.{kind_of, RunsAs, Faithful}
@@ -38,10 +40,16 @@ same_variables (v ∷ vs) =
 
 -- ---- runs
 
-runs_as : (m : TypedModule) (p : Program) → DoesAsModule m p → Calm p → Shape p → Prints p → (n : ℕ) (items : Items) → RunsAs m (lower p) n items
-runs_as m p does calm shape prints n items =
+-- a program that comes to the same ends does what the module does too
+same_does : (m : TypedModule) (p q : Program) → DoesAsModule m p → MeansSame p q → DoesAsModule m q
+same_does m p q does same n items =
     let run = does n items in
-    let follows = runs_follow p shape calm prints n items in
+    record { ending = run.ending; world = run.world; comes = (same n items run.ending run.world).0 run.comes; same = run.same }
+
+runs_as : (m : TypedModule) (p : Program) → DoesAsModule m p → Fit p → Shape p → PrintsOrFails p → (n : ℕ) (items : Items) → RunsAs m (lower p) n items
+runs_as m p does fit shape prints n items =
+    let run = does n items in
+    let follows = fitting_runs_follow p shape fit prints n items in
     let stops = follows.stops in
     let same = ends_are_one Plain p run.comes.0 stops.comes.0 (start p n items) run.ending stops.ending run.world stops.world run.comes.1 stops.comes.1 in
     record {
@@ -54,14 +62,15 @@ runs_as m p does calm shape prints n items =
       agrees = follows.agrees;
     }
 
-lowered_is_faithful : (m : TypedModule) (p : Program) → DoesAsModule m p → Calm p → Shape p → Prints p → p.globals ≡ globals_of m → Faithful m (lower p)
-lowered_is_faithful m p does calm shape prints globals = record {
+lowered_is_faithful : (m : TypedModule) (p : Program) → DoesAsModule m p → Fit p → Shape p → PrintsOrFails p → p.globals ≡ globals_of m → Faithful m (lower p)
+lowered_is_faithful m p does fit shape prints globals = record {
   is_well_formed = shape.lowered;
   same_variables = ap (map global_of) globals ∙ same_variables m.globals;
-  runs = λ n most bytes e. runs_as m p does calm shape prints n (input_items bytes e);
+  runs = λ n most bytes e. runs_as m p does fit shape prints n (input_items bytes e);
 }
 
--- the code that is built for a module
-pub built_is_faithful : (m : TypedModule) (p : Program) (code : Code) → DoesAsModule m p → Calm p → Shape p → Prints p → p.globals ≡ globals_of m → code ≡ lower p → Faithful m code
-built_is_faithful m p code does calm shape prints globals is =
-    subst (λ c. Faithful m c) (sym is) (lowered_is_faithful m p does calm shape prints globals)
+-- the code that is built for a module, from its program with error edges
+pub edged_is_faithful : (m : TypedModule) (p q : Program) (code : Code) → DoesAsModule m p → Shape p → PrintsOrFails p → p.globals ≡ globals_of m → IsEdgedProgram p q → MeansSame p q → Fit q → Shape q → code ≡ lower q → Faithful m code
+edged_is_faithful m p q code does shape prints globals edged same fit shaped is =
+    subst (λ c. Faithful m c) (sym is)
+    (lowered_is_faithful m q (same_does m p q does same) fit shaped (edged_prints p q shape edged prints) (edged.globals ∙ globals))
