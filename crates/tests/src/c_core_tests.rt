@@ -112,7 +112,7 @@ const CALLS: &[(Option<usize>, &str, &[&str], (bool, bool))] = &[
     (Some(0), "CPyBool_Str", &["char"], (true, true)),
     (
         Some(2),
-        "CPyInt64_FloorDivide",
+        "CPyInt64_Power",
         &["int64", "int64"],
         (true, false),
     ),

@@ -24,11 +24,15 @@ mod ir_core_tests;
 #[cfg(test)]
 mod liveness_tests;
 #[cfg(test)]
+mod machine_exceptions_tests;
+#[cfg(test)]
 mod modules;
 #[cfg(test)]
 mod mypyc_top_changes_tests;
 #[cfg(test)]
 mod mypyc_top_expressions_tests;
+#[cfg(test)]
+mod mypyc_top_failures_tests;
 #[cfg(test)]
 mod mypyc_top_functions_tests;
 #[cfg(test)]

@@ -91,16 +91,17 @@ from mypy_extensions import i64
 def f(n: i64) -> i64 | None: return n
 => 2
 
--- Names of a function besides its parameters.
+-- Variables of a function that are neither native integers nor bools.
 from mypy_extensions import i64
 def f(n: i64) -> i64:
-    m = n
-    return m
+    m = 3
+    return n
 => 2
 
 from mypy_extensions import i64
 def f(n: i64) -> None:
-    m: i64
+    m: i64 = n
+    s: str
 => 2
 
 from mypy_extensions import i64
@@ -123,24 +124,24 @@ def f(n: i64) -> None:
 from mypy_extensions import i64
 def f(n: i64) -> None:
     if n > 0:
-        n //= 2
+        n += len('ab')
 => 4
 
 from mypy_extensions import i64
 def f(n: i64) -> None:
     while n > 0:
         n -= 1
-        n %= 2
+        n -= len('ab')
 => 5
 
 from mypy_extensions import i64
-def f(n: i64) -> None: n <<= 1
+def f(n: i64) -> None: n *= len('a')
 => 2
 
 from mypy_extensions import i64
 def f(n: i64) -> None:
     # none
-    n >>= 1
+    n += len('a')
 => 4
 
 from mypy_extensions import i64
@@ -167,7 +168,7 @@ from mypy_extensions import i64
 def f(n: i64) -> i64:
     if n > 0:
         return 1
-    elif n == n // 2:
+    elif n == len('ab'):
         return 2
     return 3
 => 5
@@ -177,7 +178,7 @@ def f(n: i64) -> i64:
     while n > 0:
         n -= 1
     while (n < 0 and
-           n % 2 == 0):
+           n == len('ab')):
         n += 1
     return n
 => 6
@@ -275,7 +276,7 @@ print(
 from mypy_extensions import i64
 print(
     i64(1) +
-    i64(2) // i64(3))
+    i64(len('ab')))
 => 4
 
 -- An `int` that is an operation, where a native integer is asked for.
@@ -345,21 +346,9 @@ from mypy_extensions import i64
 print(int(i64(3)))
 => 2
 
--- Other operations on native integers.
+-- A native integer made of something else.
 from mypy_extensions import i64
-print(i64(7) // 2)
-=> 2
-
-from mypy_extensions import i64
-print(i64(7) % 2)
-=> 2
-
-from mypy_extensions import i64
-print(i64(7) << 2)
-=> 2
-
-from mypy_extensions import i64
-print(i64(7) >> 2)
+print(i64(len('a')))
 => 2
 
 -- Other expressions.
@@ -421,7 +410,7 @@ else:
 -- The least of several lines.
 from mypy_extensions import i64
 def f(n: i64) -> i64:
-    return n % 2
+    return len('ab')
 def g(s: str) -> None:
     x = 1
 print()
@@ -453,11 +442,11 @@ print(1); print()
 from mypy_extensions import i64
 def f(n: i64, b: bool) -> i64:
     n += (1 if
-        n // 2 > 0 else
+        n > len('ab') else
         n)
     if b:
-        n //= 2
-    return n % 2
+        n += len('a')
+    return len('a')
 => 4
 "#;
 

@@ -649,7 +649,7 @@ fn a_text_of_too_many_bytes(rt: HostRuntime) -> Result<(), Fail> {
 }
 
 /// The calls of the output fail in turn, and then those of the lines on errors: whichever fails, the output took a front.
-fn fail_in_turn(
+pub(crate) fn fail_in_turn(
     rt: &impl Abort,
     alloc: Global,
     words: &[&str],

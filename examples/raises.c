@@ -1,0 +1,101 @@
+/* mypyc subset 1 */
+int64_t CPyStatic_failures;
+int64_t CPyDef_half(int64_t cpy_n) {
+    int64_t cpy_two;
+    int64_t cpy_rest;
+    int64_t cpy_none;
+    char cpy_even;
+    PyObject *cpy_text;
+    PyObject *cpy_odd;
+    CPyTurn();
+    cpy_two = 2;
+    cpy_none = 0;
+    cpy_rest = CPyInt64_Remainder(cpy_n, cpy_two);
+    cpy_even = CPyInt64_Eq(cpy_rest, cpy_none);
+    if (cpy_even) goto CPyL0; else goto CPyL1;
+CPyL0: ;
+    cpy_n = CPyInt64_FloorDivide(cpy_n, cpy_two);
+    return cpy_n;
+CPyL1: ;
+    cpy_text = CPyStr_Literal("an odd number");
+    cpy_odd = CPyExc_New("ValueError", cpy_text);
+    CPy_DECREF(cpy_text);
+    CPyErr_SetObject(cpy_odd);
+    cpy_n = -113;
+    return cpy_n;
+}
+char CPyDef_line(PyObject *cpy_text) {
+    PyObject *cpy_end;
+    char cpy_done;
+    CPyTurn();
+    CPy_Write(cpy_text);
+    cpy_end = CPyStr_Literal("\n");
+    CPy_Write(cpy_end);
+    CPy_DECREF(cpy_end);
+    cpy_done = 1;
+    return cpy_done;
+}
+char CPyDef_try(int64_t cpy_n) {
+    char cpy_failed;
+    char cpy_known;
+    int64_t cpy_one;
+    PyObject *cpy_caught;
+    PyObject *cpy_text;
+    CPyTurn();
+    cpy_n = CPyDef_half(cpy_n);
+    if (cpy_n == -113) goto CPyL0; else goto CPyL3;
+CPyL0: ;
+    cpy_failed = CPyErr_Occurred();
+    if (cpy_failed) goto CPyL1; else goto CPyL3;
+CPyL1: ;
+    cpy_known = CPyErr_Matches("ValueError");
+    if (cpy_known) goto CPyL2; else goto CPyL5;
+CPyL2: ;
+    cpy_caught = CPyErr_Catch();
+    cpy_n = CPyGlobal_Get(CPyStatic_failures);
+    cpy_one = 1;
+    cpy_n = CPyInt64_Add(cpy_n, cpy_one);
+    CPyGlobal_Set(CPyStatic_failures, cpy_n);
+    cpy_text = CPyExc_Str(cpy_caught);
+    CPy_DECREF(cpy_caught);
+    goto CPyL4;
+CPyL3: ;
+    cpy_text = CPyInt64_Str(cpy_n);
+CPyL4: ;
+    cpy_known = CPyDef_line(cpy_text);
+    CPy_DECREF(cpy_text);
+    return cpy_known;
+CPyL5: ;
+    cpy_known = 2;
+    return cpy_known;
+}
+char CPyModule(void) {
+    int64_t cpy_n;
+    char cpy_end;
+    PyObject *cpy_text;
+    cpy_n = 0;
+    CPyGlobal_Set(CPyStatic_failures, cpy_n);
+    cpy_n = 8;
+    cpy_end = CPyDef_try(cpy_n);
+    if (cpy_end == 2) goto CPyL1; else goto CPyL0;
+CPyL0: ;
+    cpy_n = 7;
+    cpy_end = CPyDef_try(cpy_n);
+    if (cpy_end == 2) goto CPyL1; else goto CPyL2;
+CPyL1: ;
+    cpy_end = 2;
+    return cpy_end;
+CPyL2: ;
+    cpy_n = -226;
+    cpy_end = CPyDef_try(cpy_n);
+    if (cpy_end == 2) goto CPyL3; else goto CPyL4;
+CPyL3: ;
+    cpy_end = 2;
+    return cpy_end;
+CPyL4: ;
+    cpy_n = CPyGlobal_Get(CPyStatic_failures);
+    cpy_text = CPyInt64_Str(cpy_n);
+    cpy_end = CPyDef_line(cpy_text);
+    CPy_DECREF(cpy_text);
+    return cpy_end;
+}
