@@ -21,15 +21,15 @@ use Rattle.ir_core.specs.Building.{Building}
 use Rattle.ir_core.specs.Meaning.{Frame, Waiting, Config, Runs, Stuck, Strict, arguments, is_edge, is_clear, away, registers_of, item_at, handler_at, failed, step}
 use Rattle.ir_core.proofs.StepLemmas.{put_same, put_other, op_step}
 use Rattle.ir_frames.specs.Settings.{Setting}
-use Rattle.ir_frames.specs.Placing.{HasType, Has, where_it_may}
+use Rattle.ir_frames.specs.Placing.{HasType, Has, Placed, where_it_may}
 use Rattle.ir_frames.specs.Calling.{Adds}
 use Rattle.ir_frames.specs.Coming.{world, running, Ends}
-use Rattle.ir_frames.specs.Matching.{HasRoom, IsThrown}
+use Rattle.ir_frames.specs.Matching.{Matches, HasRoom, IsThrown, CallsWork}
 use Rattle.ir_frames.specs.Computing.{Showing, Meaning, Arrives, Computes, Attempts}
 use Rattle.ir_frames.proofs.HeldLemmas.{extends_refl, extends_trans, has_less, type_below, type_has, adds_has, placed_part, guard_at}
 use Rattle.ir_frames.proofs.ComingLemmas.{leads_step, ends_of, ends_step, ends_map}
 use Rattle.ir_frames.proofs.StepLemmas.{read_is, two_arguments, prim_step}
-use Rattle.ir_frames.proofs.MatchLemmas.{room_on, match_kept, thrown_now, thrown_from, computes_then}
+use Rattle.ir_frames.proofs.MatchLemmas.{room_on, same_refl, same_trans, match_here, thrown_now, thrown_from, computes_then}
 
 -- ---- where no test stands behind
 
@@ -119,28 +119,41 @@ pub record DoesAs (K : Showing) (p : Program) (fn : ℕ) (q : Primitive) (args :
   pub shown : ShownIfGiven K result
   pub does : res ≡ outcome_of result s
 
+-- where the code of a single operation comes to
+pub prim_ends : (K : Showing) (b c : Building) (r : ℕ) (t : RType) (q : Primitive) (args : List PArg) → Adds b c r t (Prim (Some record { 0 = r }) q args) → (p : Program) (fn : ℕ) (h : Option ℕ) → Placed p fn b c h → (x : Setting) → HasRoom x b → (regs : Regs) (below : List Waiting) (s : State) → Matches x regs s → (res : Outcome Value) → DoesAs K p fn q args regs s res → Ends p s.turns (running fn (length b.blocks) (length b.ops) regs below (world None s)) res (Arrives K fn (length c.blocks) (length c.ops) below (length b.regs) regs x s r) (IsThrown fn h below x (length b.regs) regs)
+prim_ends K b c r t q args a p fn h placed x room regs below s match res d =
+    let R = Arrives K fn (length c.blocks) (length c.ops) below (length b.regs) regs x s r in
+    let T = IsThrown fn h below x (length b.regs) regs in
+    let at = adds_has p fn b c r t _ a placed.has in
+    let target = type_has p fn c r t placed.has a.type in
+    let here = guard_at p fn b c h (let z = a.blocks in omega arith) placed (length b.blocks) (sym a.blocks) in
+    let edge : failing q ≡ MayFail → is_edge (Tests record { 0 = r }) (item_at p fn (length b.blocks) (length b.ops + 1)) ≡ false = λ may. placed.has.edges.each _ _ r _ at (ap (λ f. where_it_may f r) may) in
+    let leads = comes p fn (length b.blocks) (length b.ops) regs below s r q args t d.values at target d.given (failing q) d.result refl d.allowed d.effects edge in
+    let kept : (w : Held) (j : ℕ) → j < length b.regs → put regs r w j ≡ regs j = λ w j lt. put_other regs r j w (let z = a.made in λ e. omega arith) in
+    ends_of p s.turns _ res (outcome_of d.result s) R T d.does
+    (ends_by p K (running fn (length b.blocks) (length b.ops) regs below (world None s)) s d.result R T
+    (λ v. running fn (length b.blocks) (length b.ops + 1) (put regs r (Holds v)) below (world None s))
+    (λ e. away (handler_at p fn (length b.blocks)) (record { fn = fn; block = length b.blocks; place = length b.ops + 1; regs = put regs r (error_of t) }) below (world (Some e) s))
+    leads
+    (λ v k. record { now = put regs r (Holds v); is = rw (a.blocks, a.ops) refl; shows = subst (K v) (sym (put_same regs r (Holds v))) k; kept = kept (Holds v); same = same_refl x regs s match })
+    (λ e. thrown_now p fn (length b.blocks) (length b.ops + 1) h below x (length b.regs) regs (put regs r (error_of t)) e s here (match_here x b regs (put regs r (error_of t)) s room (λ j lt. kept (error_of t) j (let z = room.top in omega arith)) match) (λ j i lt o. kept (error_of t) j lt))
+    d.shown)
+
 pub prim_attempts : (K : Showing) (b c : Building) (r : ℕ) (t : RType) (q : Primitive) (args : List PArg) (from : Regs → State → Outcome Value → Type 0) → Adds b c r t (Prim (Some record { 0 = r }) q args) → ((p : Program) (fn : ℕ) → Has p fn b → (regs : Regs) (s : State) (res : Outcome Value) → from regs s res → DoesAs K p fn q args regs s res) → Attempts K b c r t from
 prim_attempts K b c r t q args from a by = record {
   extends = a.extends;
   type = a.type;
   runs = λ p fn h placed x room regs below s match res needs.
-      let d = by p fn (has_less p fn b c a.extends placed.has) regs s res needs in
-      let R = Arrives K fn (length c.blocks) (length c.ops) below (length b.regs) regs s.locals r in
-      let T = IsThrown fn h below x (length b.regs) regs in
-      let at = adds_has p fn b c r t _ a placed.has in
-      let target = type_has p fn c r t placed.has a.type in
-      let here = guard_at p fn b c h (let z = a.blocks in omega arith) placed (length b.blocks) (sym a.blocks) in
-      let edge : failing q ≡ MayFail → is_edge (Tests record { 0 = r }) (item_at p fn (length b.blocks) (length b.ops + 1)) ≡ false = λ may. placed.has.edges.each _ _ r _ at (ap (λ f. where_it_may f r) may) in
-      let leads = comes p fn (length b.blocks) (length b.ops) regs below s r q args t d.values at target d.given (failing q) d.result refl d.allowed d.effects edge in
-      let kept : (w : Held) (j : ℕ) → j < length b.regs → put regs r w j ≡ regs j = λ w j lt. put_other regs r j w (let z = a.made in λ e. omega arith) in
-      ends_of p s.turns _ res (outcome_of d.result s) R T d.does
-      (ends_by p K (running fn (length b.blocks) (length b.ops) regs below (world None s)) s d.result R T
-      (λ v. running fn (length b.blocks) (length b.ops + 1) (put regs r (Holds v)) below (world None s))
-      (λ e. away (handler_at p fn (length b.blocks)) (record { fn = fn; block = length b.blocks; place = length b.ops + 1; regs = put regs r (error_of t) }) below (world (Some e) s))
-      leads
-      (λ v k. record { now = put regs r (Holds v); is = rw (a.blocks, a.ops) refl; shows = subst (K v) (sym (put_same regs r (Holds v))) k; kept = kept (Holds v); locals = refl })
-      (λ e. thrown_now p fn (length b.blocks) (length b.ops + 1) h below x (length b.regs) regs (put regs r (error_of t)) e s here (match_kept x b regs (put regs r (error_of t)) s.locals s.locals room (λ j lt. kept (error_of t) j (let z = room.top in omega arith)) refl match) (λ j i lt o. kept (error_of t) j lt))
-      d.shown);
+      prim_ends K b c r t q args a p fn h placed x room regs below s match res (by p fn (has_less p fn b c a.extends placed.has) regs s res needs);
+}
+
+-- with nothing before it, in a program whose calls work
+pub prim_computes : (x : Setting) (K : Showing) (m : Meaning Value) (b c : Building) (r : ℕ) (t : RType) (q : Primitive) (args : List PArg) → HasRoom x b → Adds b c r t (Prim (Some record { 0 = r }) q args) → ((p : Program) (fn : ℕ) → Has p fn b → (n : ℕ) → CallsWork p x.source n → (regs : Regs) (s : State) → Matches x regs s → DoesAs K p fn q args regs s (m n s)) → Computes x K t m b c r
+prim_computes x K m b c r t q args room a by = record {
+  extends = a.extends;
+  type = a.type;
+  runs = λ p fn h placed n calls regs below s match le.
+      prim_ends K b c r t q args a p fn h placed x room regs below s match (m n s) (by p fn (has_less p fn b c a.extends placed.has) n calls regs s match);
 }
 
 -- of two registers
@@ -191,11 +204,11 @@ both_attempt x K K' L t t' u m m' go from b0 b1 b2 b3 q q' r room c c' made give
           let p2 = placed_part p fn b0 b1 b2 b3 h k1 made.extends at in
           let p3 = placed_part p fn b0 b2 b3 b3 h (omega arith) (extends_refl b3) at in
           computes_then p fn h below x n calls K t m b0 b1 q regs s _ _ (length b0.regs) regs c p1 room (le_refl _) (λ j i z o. refl) match le
-          (λ now v s1 le1 shows kept loc match1.
+          (λ now v s1 le1 shows kept same1 match1.
           computes_then p fn h below x n calls K' t' m' b1 b2 q' now s1 (go v) _ (length b0.regs) regs c' p2 room1 l1 (λ j i z o. kept j z) match1 le1
-          (λ now2 v2 s2 le2 shows2 kept2 loc2 match2.
+          (λ now2 v2 s2 le2 shows2 kept2 same2 match2.
           ends_map p s2.turns _ (go v v2 s2) _ _ _ _
-          (λ z s3 d a. record { now = a.now; is = a.is; shows = a.shows; kept = λ j lt. a.kept j (omega arith) ∙ kept2 j (omega arith) ∙ kept j lt; locals = a.locals ∙ loc2 ∙ loc })
+          (λ z s3 d a. record { now = a.now; is = a.is; shows = a.shows; kept = λ j lt. a.kept j (omega arith) ∙ kept2 j (omega arith) ∙ kept j lt; same = same_trans x s s1 s3 same1 (same_trans x s1 s2 s3 same2 a.same) })
           (λ z s3 d e. thrown_from fn h below x (length b0.regs) (length b2.regs) regs now2 z s3 d (omega arith) (λ j i lt o. kept2 j (omega arith) ∙ kept j lt) e)
           (made.runs p fn h p3 x (room_on x b1 b2 c'.extends room1) now2 below s2 match2 (go v v2 s2) (gives v v2 s2 now2 (subst (K v) (sym (kept2 q low)) shows) shows2))));
     }

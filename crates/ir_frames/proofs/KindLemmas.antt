@@ -20,7 +20,7 @@ use Rattle.ir_core.specs.Rows.{Declared, type_of_reg}
 use Rattle.ir_core.specs.Building.{Building, with_last, Extends}
 use Rattle.ir_core.specs.Laws.{added, pushed, closed}
 use Rattle.ir_frames.specs.Calling.{Declares}
-use Rattle.ir_frames.specs.Kinds.{temporary_name, Surrounding, is_plain, IsOf, AreArguments, Take, MakesText, Answers, Calls, LiteralFits, OpKinds, OpsKinds, no_more, other_then, text_then, LastKinds, BlocksKinds, HasKinds, KeepsKinds, KeepsKindsIf}
+use Rattle.ir_frames.specs.Kinds.{temporary_name, Surrounding, is_plain, IsOf, AreArguments, Take, MakesText, Answers, Reports, ReadsGlobal, WritesGlobal, Calls, LiteralFits, OpKinds, OpsKinds, no_more, other_then, text_then, LastKinds, BlocksKinds, HasKinds, KeepsKinds, KeepsKindsIf}
 use Rattle.ir_frames.proofs.HeldLemmas.{type_below, type_kept, added_extends}
 
 -- ---- more registers
@@ -55,11 +55,22 @@ module _ (regs more : Declared) (up : HasMore regs more) where
     pub calls_more : (t : RType) (n : ℕ) (args : List Reg) → Calls g t regs n args → Calls g t more n args
     calls_more t n args h = (h.0, h.1, h.2, registers_more h.0.params args h.3)
 
+    pub writes_more : (q : Primitive) (args : List PArg) → WritesGlobal g regs q args → WritesGlobal g more q args
+    writes_more q args w = record { name = w.name; from = w.from; type = w.type; writes = w.writes; named = w.named; there = w.there; holds = up w.from w.type w.holds }
+
+    pub reads_more : (t : RType) (q : Primitive) (args : List PArg) → (Answers t regs q args ⊎ ReadsGlobal g t q args) → (Answers t more q args ⊎ ReadsGlobal g t q args)
+    reads_more t q args (inl a) = inl (answers_more t q args a)
+    reads_more t q args (inr r) = inr r
+
+    pub acts_more : (q : Primitive) (args : List PArg) → (Reports regs q args ⊎ WritesGlobal g regs q args) → (Reports more q args ⊎ WritesGlobal g more q args)
+    acts_more q args (inl a) = inl (a.0, arguments_more _ args a.1, a.2)
+    acts_more q args (inr w) = inr (writes_more q args w)
+
     pub op_more : (o : Op) → OpKinds g regs o → OpKinds g more o
     op_more (Move r s) h = (h.0, h.1, up r h.0 h.2, up s h.0 h.3)
     op_more (Lit r l) h = (h.0, up r h.0 h.1, h.2, h.3)
-    op_more (Prim None q args) h = (h.0, arguments_more _ args h.1, h.2)
-    op_more (Prim (Some r) q args) h = (h.0, up r h.0 h.1, answers_more h.0 q args h.2)
+    op_more (Prim None q args) h = acts_more q args h
+    op_more (Prim (Some r) q args) h = (h.0, up r h.0 h.1, reads_more h.0 q args h.2)
     op_more (Call r n args) h = (h.0, up r h.0 h.1, h.2, calls_more h.0 n args h.3)
     op_more (Virtual r o n args) h = absurd h
     op_more (TraitCall r o t n args) h = absurd h
@@ -186,8 +197,8 @@ text_kinds g b c q args i j k e m h =
 pub literal_kinds : (g : Surrounding) (b c : Building) (r : Reg) (t : RType) (l : Literal) → Declares b c r.0 t → LiteralFits t l → HasKinds g b → OpKinds g c.regs (Lit r l)
 literal_kinds g b c r t l d k h = (t, d.type, k, new_not_text g b r.0 h d.made)
 
-pub primitive_kinds : (g : Surrounding) (b c : Building) (r : Reg) (t : RType) (q : Primitive) (args : List PArg) → Declares b c r.0 t → Answers t b.regs q args → OpKinds g c.regs (Prim (Some r) q args)
-primitive_kinds g b c r t q args d k = (t, d.type, answers_more b.regs c.regs (extends_more b c d.extends) t q args k)
+pub primitive_kinds : (g : Surrounding) (b c : Building) (r : Reg) (t : RType) (q : Primitive) (args : List PArg) → Declares b c r.0 t → (Answers t b.regs q args ⊎ ReadsGlobal g t q args) → OpKinds g c.regs (Prim (Some r) q args)
+primitive_kinds g b c r t q args d k = (t, d.type, reads_more b.regs c.regs (extends_more b c d.extends) g t q args k)
 
 pub call_kinds : (g : Surrounding) (b c : Building) (r : Reg) (t : RType) (n : ℕ) (args : List Reg) → Declares b c r.0 t → Calls g t b.regs n args → HasKinds g b → OpKinds g c.regs (Call r n args)
 call_kinds g b c r t n args d k h = (t, d.type, new_not_text g b r.0 h d.made, calls_more b.regs c.regs (extends_more b c d.extends) g t n args k)

@@ -7,3 +7,4 @@ pub mod StepLemmas
 pub mod AttemptLemmas
 pub mod KindLemmas
 pub mod NameLemmas
+pub mod GlobalLemmas

@@ -23,7 +23,7 @@ use Rattle.ir_frames.proofs.KindLemmas.{get_behind}
 abbrev pub is_name_in : List ℕ → Declared → Bool
 is_name_in name regs = list_any (λ d. bytes_eq name d.0) regs
 
-or_false : (a b : Bool) → (a || b) ≡ false → (a ≡ false) × (b ≡ false)
+pub or_false : (a b : Bool) → (a || b) ≡ false → (a ≡ false) × (b ≡ false)
 or_false true b e = absurd (cc)
 or_false false b e = (refl, e)
 
@@ -60,11 +60,11 @@ none_in name (suc n) (d ∷ ds) f h =
 
 -- ---- names of which one more is none of the others
 
-not_false : (a : Bool) → not a ≡ true → a ≡ false
+pub not_false : (a : Bool) → not a ≡ true → a ≡ false
 not_false true e = absurd (cc)
 not_false false e = refl
 
-and_parts : (a b : Bool) → (a && b) ≡ true → (a ≡ true) × (b ≡ true)
+pub and_parts : (a b : Bool) → (a && b) ≡ true → (a ≡ true) × (b ≡ true)
 and_parts true b e = (refl, e)
 and_parts false b e = absurd (cc)
 

@@ -100,7 +100,7 @@ none_is r [] h = refl
 none_is r (Var x ∷ args) h = ap (λ b. b || list_any (is_argument r) args) (other_than r.0 x.0 h.0) ∙ none_is r args h.1
 none_is r (Number n ∷ args) h = absurd h
 none_is r (Text t ∷ args) h = absurd h
-none_is r (Global g ∷ args) h = absurd h
+none_is r (Global g ∷ args) h = none_is r args h
 none_is r (Class c ∷ args) h = absurd h
 
 none_is_reg : (r : Reg) (args : List Reg) → AllBelow r.0 args → list_any (is_register r) args ≡ false

@@ -14,7 +14,7 @@ use Rattle.ir_core.specs.declared.code.Program.{Program}
 use Rattle.ir_core.specs.Items.{Do}
 use Rattle.ir_core.specs.Rows.{NeverFails, failing, Declared, type_of_reg}
 use Rattle.ir_core.specs.Registers.{Held, Holds, Regs, put, literal_of, look}
-use Rattle.ir_core.specs.Effects.{World, Argument, Given, Gives, effect}
+use Rattle.ir_core.specs.Effects.{World, Argument, Given, Gives, Acts, effect}
 use Rattle.ir_core.specs.Meaning.{Waiting, Strict, value_of, read, arguments, registers_of, item_at, step}
 use Rattle.ir_core.specs.Building.{Building}
 use Rattle.ir_core.proofs.StepLemmas.{put_same, put_other, op_step, lit_step}
@@ -42,6 +42,12 @@ module _ (p : Program) (fn k i : ℕ) (regs : Regs) (below : List Waiting) (s : 
   prim_step r q args t xs v at type given never does =
       op_step Strict p (record { fn = fn; block = k; place = i; regs = regs }) below (world None s) (Prim (Some record { 0 = r }) q args) at
       ∙ rw (given, does, type, never) refl
+
+  -- one that gives no value, and acts on the world
+  pub acts_step : (q : Primitive) (args : List PArg) (xs : List Argument) (w : World) → item_at p fn k i ≡ Some (Do (Prim None q args)) → arguments (registers_of p fn) regs args ≡ Some xs → failing q ≡ NeverFails → effect p q xs (world None s) ≡ Acts w → step Strict p (running fn k i regs below (world None s)) ≡ running fn k (i + 1) regs below w
+  acts_step q args xs w at given never does =
+      op_step Strict p (record { fn = fn; block = k; place = i; regs = regs }) below (world None s) (Prim None q args) at
+      ∙ rw (given, does, never) refl
 
 -- a new register, by one step
 adds_makes : (b c : Building) (r : ℕ) (t : RType) (o : Op) (from : Regs → Held → Type 0) → Adds b c r t o → ((p : Program) (fn : ℕ) → Has p fn c → (regs : Regs) (below : List Waiting) (s : State) (h : Held) → from regs h → step Strict p (running fn (length b.blocks) (length b.ops) regs below (world None s)) ≡ running fn (length b.blocks) (length b.ops + 1) (put regs r h) below (world None s)) → Makes b c r t from

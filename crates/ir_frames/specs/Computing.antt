@@ -15,7 +15,7 @@ use Rattle.ir_core.specs.Meaning.{Waiting, Config}
 use Rattle.ir_frames.specs.Settings.{Setting, rtype_of}
 use Rattle.ir_frames.specs.Placing.{HasType, Has, Placed}
 use Rattle.ir_frames.specs.Coming.{world, running, Leads, Ends}
-use Rattle.ir_frames.specs.Matching.{HasKind, Matches, HasRoom, IsThrown, CallsWork}
+use Rattle.ir_frames.specs.Matching.{HasKind, Matches, SameLocals, HasRoom, IsThrown, CallsWork}
 
 -- how a register stands for a value
 abbrev pub Showing : Type 1
@@ -40,19 +40,19 @@ ShowsNumber t v h = (a : ℤ) × (h ≡ Holds (IntVal a)) × Counts t v a
 abbrev pub Meaning : Type 0 → Type 0
 Meaning A = ℕ → Does A
 
--- the machine is at a place, with the value in a register; the first registers are as before, and so are the variables
-pub record Arrives (K : Showing) (fn k i : ℕ) (below : List Waiting) (keep : ℕ) (regs : Regs) (ls : List (Option Value)) (r : ℕ) (v : Value) (s : State) (d : Config) : Type 0 where
+-- the machine is at a place, with the value in a register; the first registers are as before, and so are the function's variables
+pub record Arrives (K : Showing) (fn k i : ℕ) (below : List Waiting) (keep : ℕ) (regs : Regs) (x : Setting) (before : State) (r : ℕ) (v : Value) (s : State) (d : Config) : Type 0 where
   pub now : Regs
   pub is : d ≡ running fn k i now below (world None s)
   pub shows : K v (now r)
   pub kept : (j : ℕ) → j < keep → now j ≡ regs j
-  pub locals : s.locals ≡ ls
+  pub same : SameLocals x before s
 
 -- the code from the first builder's place to the second's does what the meaning says, and leaves the value in a register
 pub record Computes (x : Setting) (K : Showing) (t : RType) (m : Meaning Value) (old new : Building) (r : ℕ) : Type 0 where
   pub extends : Extends old new
   pub type : HasType new r t
-  pub runs : (p : Program) (fn : ℕ) (h : Option ℕ) → Placed p fn old new h → (n : ℕ) → CallsWork p x.source n → (regs : Regs) (below : List Waiting) (s : State) → Matches x regs s.locals → s.turns ≤ n → Ends p s.turns (running fn (length old.blocks) (length old.ops) regs below (world None s)) (m n s) (Arrives K fn (length new.blocks) (length new.ops) below (length old.regs) regs s.locals r) (IsThrown fn h below x (length old.regs) regs)
+  pub runs : (p : Program) (fn : ℕ) (h : Option ℕ) → Placed p fn old new h → (n : ℕ) → CallsWork p x.source n → (regs : Regs) (below : List Waiting) (s : State) → Matches x regs s → s.turns ≤ n → Ends p s.turns (running fn (length old.blocks) (length old.ops) regs below (world None s)) (m n s) (Arrives K fn (length new.blocks) (length new.ops) below (length old.regs) regs x s r) (IsThrown fn h below x (length old.regs) regs)
 
 -- the same for values in a row
 abbrev pub ShowAll : List Sort → List Value → Regs → List Reg → Type 0
@@ -65,17 +65,17 @@ HaveTypes declared [] [] = Unit {0}
 HaveTypes declared (t ∷ ts) (r ∷ rs) = (type_of_reg declared r ≡ Some (rtype_of t)) × HaveTypes declared ts rs
 HaveTypes declared _ _ = ⊥
 
-pub record ArrivesAll (ts : List Sort) (fn k i : ℕ) (below : List Waiting) (keep : ℕ) (regs : Regs) (ls : List (Option Value)) (rs : List Reg) (vs : List Value) (s : State) (d : Config) : Type 0 where
+pub record ArrivesAll (ts : List Sort) (fn k i : ℕ) (below : List Waiting) (keep : ℕ) (regs : Regs) (x : Setting) (before : State) (rs : List Reg) (vs : List Value) (s : State) (d : Config) : Type 0 where
   pub now : Regs
   pub is : d ≡ running fn k i now below (world None s)
   pub shows : ShowAll ts vs now rs
   pub kept : (j : ℕ) → j < keep → now j ≡ regs j
-  pub locals : s.locals ≡ ls
+  pub same : SameLocals x before s
 
 pub record ComputesAll (x : Setting) (ts : List Sort) (m : Meaning (List Value)) (old new : Building) (rs : List Reg) : Type 0 where
   pub extends : Extends old new
   pub types : HaveTypes new.regs ts rs
-  pub runs : (p : Program) (fn : ℕ) (h : Option ℕ) → Placed p fn old new h → (n : ℕ) → CallsWork p x.source n → (regs : Regs) (below : List Waiting) (s : State) → Matches x regs s.locals → s.turns ≤ n → Ends p s.turns (running fn (length old.blocks) (length old.ops) regs below (world None s)) (m n s) (ArrivesAll ts fn (length new.blocks) (length new.ops) below (length old.regs) regs s.locals rs) (IsThrown fn h below x (length old.regs) regs)
+  pub runs : (p : Program) (fn : ℕ) (h : Option ℕ) → Placed p fn old new h → (n : ℕ) → CallsWork p x.source n → (regs : Regs) (below : List Waiting) (s : State) → Matches x regs s → s.turns ≤ n → Ends p s.turns (running fn (length old.blocks) (length old.ops) regs below (world None s)) (m n s) (ArrivesAll ts fn (length new.blocks) (length new.ops) below (length old.regs) regs x s rs) (IsThrown fn h below x (length old.regs) regs)
 
 -- code in one block, with no call and no failure, that makes a value of what registers hold
 pub record Makes (old new : Building) (r : ℕ) (t : RType) (from : Regs → Held → Type 0) : Type 0 where
@@ -107,4 +107,4 @@ pub record OfTwo (x y : ℕ) (P : Value → Value → Value → Type 0) (regs : 
 pub record Attempts (K : Showing) (old new : Building) (r : ℕ) (t : RType) (from : Regs → State → Outcome Value → Type 0) : Type 0 where
   pub extends : Extends old new
   pub type : HasType new r t
-  pub runs : (p : Program) (fn : ℕ) (h : Option ℕ) → Placed p fn old new h → (x : Setting) → HasRoom x old → (regs : Regs) (below : List Waiting) (s : State) → Matches x regs s.locals → (res : Outcome Value) → from regs s res → Ends p s.turns (running fn (length old.blocks) (length old.ops) regs below (world None s)) res (Arrives K fn (length new.blocks) (length new.ops) below (length old.regs) regs s.locals r) (IsThrown fn h below x (length old.regs) regs)
+  pub runs : (p : Program) (fn : ℕ) (h : Option ℕ) → Placed p fn old new h → (x : Setting) → HasRoom x old → (regs : Regs) (below : List Waiting) (s : State) → Matches x regs s → (res : Outcome Value) → from regs s res → Ends p s.turns (running fn (length old.blocks) (length old.ops) regs below (world None s)) res (Arrives K fn (length new.blocks) (length new.ops) below (length old.regs) regs x s r) (IsThrown fn h below x (length old.regs) regs)

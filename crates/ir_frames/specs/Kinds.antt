@@ -1,11 +1,12 @@
 -- When what a builder holds fits the registers of its function: each operation and each end has registers of the types that it asks
 -- for, and the only references are printed texts, which are made in a register of their own, written and given up directly.
-use Rattle.std.specs.Prelude.{◌≡◌, ◌≢◌, ◌≤◌, ℕ, Bool, true, false, List, [], ◌∷◌, ◌++◌, length, map, Some, None, is_some, slice_get, codes, decimal}
+use Rattle.std.specs.Prelude.{◌≡◌, ◌≢◌, ◌≤◌, ◌⊎◌, ℕ, Bool, true, false, List, [], ◌∷◌, ◌++◌, length, map, Some, None, is_some, slice_get, codes, decimal}
 use Rattle.std.specs.Str.{is_utf8}
 use Rattle.value_core.specs.Arithmetic.{lies_within}
 use Rattle.c_core.specs.declared.code.Kind.TheVariants.{Object}
 use Rattle.c_core.specs.declared.primitive.Primitive.{Primitive}
 use Rattle.c_core.specs.declared.primitive.Primitive.TheVariants as prim
+use Rattle.c_core.specs.declared.primitive.GlobalPrim.TheVariants as global
 use Rattle.c_core.specs.declared.primitive.IoPrim.TheVariants as io
 use Rattle.c_core.specs.Primitives.{Is, Anything, Parameter, Borrows, TakesText, Nothing, Owned, row_of}
 use Rattle.py_typed.specs.Statements.{TypedFunc, TypedModule}
@@ -25,7 +26,7 @@ use Rattle.ir_core.specs.Lower.{kind_of_type}
 use Rattle.ir_core.specs.Registers.{literal_of}
 use Rattle.ir_core.specs.Rows.{Declared, type_of_reg, answers, acts, makes_text}
 use Rattle.ir_core.specs.Building.{Building}
-use Rattle.ir_frames.specs.Settings.{rtype_of}
+use Rattle.ir_frames.specs.Settings.{rtype_of, variable_registers}
 use Rattle.ir_frames.specs.Matching.{parameter_sorts}
 use Rattle.ir_frames.specs.Placing.{HasType}
 
@@ -38,10 +39,11 @@ pub record Head : Type 0 where
   pub params : List RType
   pub ret : RType
 
--- what a function is built among: the functions that it may call, by their numbers; how many of its registers are variables; its
--- register for printed texts; and the type of its result
+-- what a function is built among: the functions that it may call, by their numbers; the program's globals; how many of its registers
+-- are variables; its register for printed texts; and the type of its result
 pub record Surrounding : Type 0 where
   pub heads : List Head
+  pub globals : Declared
   pub variables : ℕ
   pub text : ℕ
   pub ret : RType
@@ -94,6 +96,26 @@ Answers t regs q args =
 abbrev pub Reports : Declared → Primitive → List PArg → Type 0
 Reports regs q args = ((row_of q).outcome ≡ Nothing) × AreArguments regs (row_of q).parameters args × (acts q ≡ true)
 
+-- a global of this name and type is there, and holds no reference
+abbrev pub IsGlobal : Surrounding → List ℕ → RType → Type 0
+IsGlobal g name t = (n : ℕ) × (slice_get g.globals n ≡ Some (name, t)) × (is_plain t ≡ true)
+
+-- a read of a global of a type, and a write of a register of its type to one
+pub record ReadsGlobal (g : Surrounding) (t : RType) (q : Primitive) (args : List PArg) : Type 0 where
+  pub name : List ℕ
+  pub reads : q ≡ prim.Global global.Get
+  pub named : args ≡ arg.Global name ∷ []
+  pub there : IsGlobal g name t
+
+pub record WritesGlobal (g : Surrounding) (regs : Declared) (q : Primitive) (args : List PArg) : Type 0 where
+  pub name : List ℕ
+  pub from : Reg
+  pub type : RType
+  pub writes : q ≡ prim.Global global.Set
+  pub named : args ≡ arg.Global name ∷ arg.Var from ∷ []
+  pub there : IsGlobal g name type
+  pub holds : IsOf regs from type
+
 -- a function that may be called takes registers and gives a result of a type
 abbrev pub Calls : Surrounding → RType → Declared → ℕ → List Reg → Type 0
 Calls g t regs n args = (h : Head) × (slice_get g.heads n ≡ Some h) × (h.ret ≡ t) × Take regs h.params args
@@ -108,9 +130,9 @@ module _ (g : Surrounding) (regs : Declared) where
   abbrev pub OpKinds : Op → Type 0
   OpKinds (Move r s) = AreAlike regs r s
   OpKinds (Lit r l) = (t : RType) × IsOf regs r t × LiteralFits t l × (r.0 ≢ g.text)
-  OpKinds (Prim None q args) = Reports regs q args
+  OpKinds (Prim None q args) = Reports regs q args ⊎ WritesGlobal g regs q args
   OpKinds (Prim (Some r) q args) =
-      (t : RType) × IsOf regs r t × Answers t regs q args
+      (t : RType) × IsOf regs r t × (Answers t regs q args ⊎ ReadsGlobal g t q args)
   OpKinds (Call r n args) = (t : RType) × IsOf regs r t × (r.0 ≢ g.text) × Calls g t regs n args
   OpKinds (Virtual r o n args) = ⊥
   OpKinds (TraitCall r o t n args) = ⊥
@@ -157,7 +179,8 @@ KeepsKindsIf P b c = (g : Surrounding) → P g → HasKinds g b → HasKinds g c
 abbrev pub head_of : TypedFunc → Head
 head_of f = record { params = map rtype_of (parameter_sorts f); ret = rtype_of f.ret }
 
--- the functions of a module have their heads, and their parameters are no references
+-- the functions of a module have their heads, and their parameters are no references; the globals are the module's variables
 pub record IsAmong (m : TypedModule) (g : Surrounding) : Type 0 where
+  pub globals : g.globals ≡ variable_registers m.globals
   pub heads : (n : ℕ) (f : TypedFunc) → slice_get m.funcs n ≡ Some f → slice_get g.heads n ≡ Some (head_of f)
   pub plain : (n : ℕ) (h : Head) → slice_get g.heads n ≡ Some h → ArePlain h.params

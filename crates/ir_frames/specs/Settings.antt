@@ -1,5 +1,5 @@
 -- What a part of a function is built for: the module, the function's variables, and the registers that stand for them.
-use Rattle.std.specs.Prelude.{List, map}
+use Rattle.std.specs.Prelude.{ℕ, List, map}
 use Rattle.py_typed.specs.declared.checked.Checked.{Checked}
 use Rattle.py_typed.specs.declared.checked.Var.{Var}
 use Rattle.py_typed.specs.Sorts as sort
@@ -23,3 +23,10 @@ rtype_of sort.Int = Int
 rtype_of sort.I64 = I64
 rtype_of sort.Bool = Bool
 rtype_of _ = Ref
+
+-- a variable as a register or a global, under its name
+abbrev pub register_of : Variable → List ℕ × RType
+register_of v = (v.0, rtype_of v.1)
+
+abbrev pub variable_registers : List Variable → List (List ℕ × RType)
+variable_registers vs = map register_of vs

@@ -4,7 +4,7 @@ use Rattle.ir_core.specs.declared.code.Block.{Block}
 use Rattle.ir_core.specs.declared.code.Op.{Op}
 use Rattle.ir_core.specs.declared.code.Reg.{Reg}
 use Rattle.ir_core.specs.declared.code.PArg.{PArg}
-use Rattle.ir_core.specs.declared.code.PArg.TheVariants.{Var}
+use Rattle.ir_core.specs.declared.code.PArg.TheVariants.{Var, Global}
 use Rattle.ir_core.specs.declared.code.Last.{Last}
 use Rattle.ir_core.specs.declared.code.Last.TheVariants.{Goto, If, IfError, Return, Unreachable}
 use Rattle.ir_core.specs.Items.{handler_of}
@@ -21,10 +21,11 @@ Above n (Some r) = n ≤ r
 abbrev pub OpFits : ℕ → Op → Type 0
 OpFits n o = Above n (into o) × IsTrue (op_fits o)
 
--- arguments that are registers below a number
+-- arguments that are registers below a number, or name a global
 abbrev pub AreBelow : ℕ → List PArg → Type 0
 AreBelow n [] = Unit {0}
 AreBelow n (Var r ∷ args) = (r.0 < n) × AreBelow n args
+AreBelow n (Global name ∷ args) = AreBelow n args
 AreBelow n (a ∷ args) = ⊥
 
 abbrev pub AllBelow : ℕ → List Reg → Type 0

@@ -1,5 +1,5 @@
 //! The code of a function while it is made.
-ghost use Rattle.std.specs.Prelude.{◌≡◌, ◌<◌, ◌+◌, ◌^◌, ◌≤◌, [], ◌∷◌, ◌++◌, length, take, OnOk, IfOk, Some, true, false, IsTrue};
+ghost use Rattle.std.specs.Prelude.{◌≡◌, ◌⊎◌, ◌<◌, ◌+◌, ◌^◌, ◌≤◌, [], ◌∷◌, ◌++◌, length, take, OnOk, IfOk, Some, true, false, IsTrue};
 ghost use Rattle.std.specs.List.{list_any};
 ghost use Rattle.std.specs.Str.{bytes_eq};
 ghost use Rattle.c_core.specs.WellFormed.{names_differ};
@@ -10,7 +10,7 @@ ghost use Rattle.ir_core.specs.Laws.{pushed};
 ghost use Rattle.ir_core.specs.Shape.{is_target_of};
 ghost use Rattle.ir_frames.specs.Calling.{Declares, Adds, Pushes, Closes};
 ghost use Rattle.ir_frames.specs.Shaped.{OpFits, EndFits, GoesOn, KeepsIf, Keeps, AreBelow, AllBelow};
-ghost use Rattle.ir_frames.specs.Kinds.{temporary_name, LiteralFits, OpKinds, LastKinds, Answers, Calls, KeepsKinds, KeepsKindsIf};
+ghost use Rattle.ir_frames.specs.Kinds.{temporary_name, LiteralFits, OpKinds, LastKinds, Answers, ReadsGlobal, Calls, KeepsKinds, KeepsKindsIf};
 ghost use Rattle.ir_frames.specs.Naming.{names_of};
 
 use c_core::Prim;
@@ -156,7 +156,7 @@ impl Emitter {
         ensures kept { Extends self.old self.new }
         ensures added { IfOk result (λ r. Adds self.old self.new r.0 t (Op.Prim (Some r) primitive args)) }
         ensures shaped { Keeps self.old self.new }
-        ensures kinds { KeepsKindsIf (λ g. Answers t self.old.regs primitive args) self.old self.new }
+        ensures kinds { KeepsKindsIf (λ g. Answers t self.old.regs primitive args ⊎ ReadsGlobal g t primitive args) self.old self.new }
     {
         let r = self.temporary(t)?;
         self.push(Op::Prim(Some(r), primitive, args), line)?;
