@@ -10,7 +10,7 @@ use Rattle.py_typed.specs.Sorts.{Sort, sort as sort_of}
 use Rattle.py_typed.specs.Expressions as tree
 use Rattle.py_typed.specs.Expressions.{TypedExpr, TypedNode, typed, type_of, typed_expr, typed_node, exprs_of, comparisons_of, typed_comparison}
 use Rattle.py_typed.specs.Statements.{TypedModule, Variable}
-use Rattle.py_typed.proofs.ExpressionLemmas.{typed_expr_of, typed_node-Bool, typed_node-Local, typed_node-Neg, typed_node-Not, typed_node-Truth, typed_node-Arith, typed_expr-Compare, typed_node-And, typed_node-Or, typed_node-Cond, typed_node-Call, typed_node-Coerce}
+use Rattle.py_typed.proofs.ExpressionLemmas.{typed_expr_of, typed_node-Bool, typed_node-Local, typed_node-Global, typed_node-Neg, typed_node-Not, typed_node-Truth, typed_node-Arith, typed_expr-Compare, typed_node-And, typed_node-Or, typed_node-Cond, typed_node-Call, typed_node-Coerce}
 use Rattle.ir_core.specs.Building.{Building}
 use Rattle.ir_frames.specs.Settings.{Setting}
 use Rattle.ir_expressions.specs.Suiting.{Suits, NodeSuits, Operand}
@@ -28,6 +28,9 @@ is_bool e b is = typed_expr_of e (kind.Bool b) is ∙ ap (λ n. typed n (sort_of
 
 pub is_local : (e : TExpr) (i : ℕ) → e.kind ≡ kind.Local i → Is e (tree.Local i)
 is_local e i is = typed_expr_of e (kind.Local i) is ∙ ap (λ n. typed n (sort_of e.ty) e.span) (typed_node-Local i)
+
+pub is_global : (e : TExpr) (i : ℕ) → e.kind ≡ kind.Global i → Is e (tree.Global i)
+is_global e i is = typed_expr_of e (kind.Global i) is ∙ ap (λ n. typed n (sort_of e.ty) e.span) (typed_node-Global i)
 
 pub is_neg : (e : TExpr) (a : Part) → e.kind ≡ kind.Neg a → Is e (tree.Neg (typed_expr a.value))
 is_neg e a is = typed_expr_of e (kind.Neg a) is ∙ ap (λ n. typed n (sort_of e.ty) e.span) (typed_node-Neg a)

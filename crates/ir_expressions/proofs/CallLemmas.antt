@@ -32,7 +32,7 @@ use Rattle.ir_frames.specs.Computing.{Shows, Arrives, ShowAll, HaveTypes}
 use Rattle.ir_frames.proofs.HeldLemmas.{extends_refl, extends_trans, type_has, has_less, adds_has, placed_part, guard_at}
 use Rattle.ir_frames.proofs.ComingLemmas.{leads_refl, leads_step, ends_both, ends_from}
 use Rattle.ir_frames.proofs.StepLemmas.{read_is}
-use Rattle.ir_frames.proofs.MatchLemmas.{room_on, match_kept, thrown_now, computes_all_then}
+use Rattle.ir_frames.proofs.MatchLemmas.{room_on, same_trans, match_kept, thrown_now, computes_all_then}
 use Rattle.ir_frames.proofs.AttemptLemmas.{failed_off}
 use Rattle.ir_expressions.specs.Emitting.{means_all, Emits, EmitsAll}
 
@@ -116,17 +116,17 @@ call_emits x f g es place b0 b1 b2 rs r is room q a =
           let has1 = has_less p fn b1 b2 a.extends at.has in
           let p1 = placed_part p fn b0 b0 b1 b2 h (le_refl _) a.extends at in
           let p2 = placed_part p fn b0 b1 b2 b2 h k1 (extends_refl b2) at in
-          let R = Arrives (Shows g.ret) fn (length b2.blocks) (length b2.ops) below (length b0.regs) regs s.locals r in
+          let R = Arrives (Shows g.ret) fn (length b2.blocks) (length b2.ops) below (length b0.regs) regs x s r in
           let T = IsThrown fn h below x (length b0.regs) regs in
           let target = type_has p fn b2 r (rtype_of g.ret) at.has a.type in
           computes_all_then p fn h below x n calls (parameter_sorts g) (means_all x es) b0 b1 rs regs s (call_of x.source n f) R (length b0.regs) regs q p1 room (le_refl _) (λ j i z o. refl) match le
-          (λ now vs s1 le1 shows kept loc match1.
+          (λ now vs s1 le1 shows kept same1 match1.
           let code = calls.there f g is in
           let waits : Waiting = record { frame = record { fn = fn; block = length b1.blocks; place = length b1.ops; regs = now }; into = record { 0 = r } } in
           let types = types_has p fn b1 (parameter_sorts g) rs has1 q.types in
           let at_call = adds_has p fn b1 b2 r (rtype_of g.ret) _ a at.has in
           let enter = call_step Strict p (record { fn = fn; block = length b1.blocks; place = length b1.ops; regs = now }) below (world None s1) (record { 0 = r }) f rs code.0 (map Holds vs) at_call refl code.1 (all_read (registers_of p fn) now (parameter_sorts g) vs rs types shows) (call_is_fit (registers_of p fn) code.0 g (record { 0 = r }) rs code.2 types target) in
-          let body = calls.each f g code.0 vs (waits ∷ below) s1 is code.1 (all_kinds (parameter_sorts g) vs now rs shows) le1 in
+          let body = calls.each f g code.0 vs (waits ∷ below) s1 is code.1 (all_kinds (parameter_sorts g) vs now rs shows) match1.globals le1 in
           let here = guard_at p fn b1 b2 h (let z = a.blocks in omega arith) p2 (length b1.blocks) (sym a.blocks) in
           let put_kept : (w : Held) (j : ℕ) → j < length b1.regs → put now r w j ≡ now j = λ w j lt. put_other now r j w (let z = a.made in λ e. omega arith) in
           let edge = at.has.edges.each _ _ r _ at_call refl in
@@ -138,19 +138,20 @@ call_emits x f g es place b0 b1 b2 rs r is room q a =
             leads_refl p d,
             record {
               now = put now r (Holds v);
-              is = c.2 ∙ back ∙ rw (a.blocks, a.ops) refl;
+              is = c.3 ∙ back ∙ rw (a.blocks, a.ops) refl;
               shows = subst (Shows g.ret v) (sym (put_same now r (Holds v))) (refl, c.0);
               kept = λ j lt. put_kept (Holds v) j (omega arith) ∙ kept j lt;
-              locals = c.1 ∙ loc;
+              same = same_trans x s s1 s2 same1 record { locals = c.1; globals = c.2 };
             },
           ))
           (λ v s2 d c.
-          let out = leaves_step p f code.0 fn (length b1.blocks) (length b1.ops) now r (rtype_of g.ret) below c.1.0 s2 code.1 target edge in
+          let gone = c.1.1 in
+          let out = leaves_step p f code.0 fn (length b1.blocks) (length b1.ops) now r (rtype_of g.ret) below gone.0 s2 code.1 target edge in
           let w : Held = error_of (rtype_of g.ret) in
-          let match2 = match_kept x b1 now (put now r w) s1.locals s2.locals (room_on x b0 b1 q.extends room) (λ j lt. put_kept w j (let z = room.top in omega arith)) c.0 match1 in (
-            away (handler_at p fn (length b1.blocks)) (record { fn = fn; block = length b1.blocks; place = length b1.ops + 1; regs = put now r w }) below (world (Some c.1.0) s2),
-            record { count = 1; is = ap (step Strict p) c.1.2 ∙ out },
-            let P : Value → Type 0 = λ y. IsThrown fn h below x (length b0.regs) regs y s2 (away (handler_at p fn (length b1.blocks)) (record { fn = fn; block = length b1.blocks; place = length b1.ops + 1; regs = put now r w }) below (world (Some c.1.0) s2)) in
-                subst P (sym c.1.1) (thrown_now p fn (length b1.blocks) (length b1.ops + 1) h below x (length b0.regs) regs (put now r w) c.1.0 s2 here match2 (λ j i lt o. put_kept w j (omega arith) ∙ kept j lt)),
+          let match2 = match_kept x b1 now (put now r w) s1 s2 (room_on x b0 b1 q.extends room) (λ j lt. put_kept w j (let z = room.top in omega arith)) record { locals = c.0; globals = c.1.0 } match1 in (
+            away (handler_at p fn (length b1.blocks)) (record { fn = fn; block = length b1.blocks; place = length b1.ops + 1; regs = put now r w }) below (world (Some gone.0) s2),
+            record { count = 1; is = ap (step Strict p) gone.2 ∙ out },
+            let P : Value → Type 0 = λ y. IsThrown fn h below x (length b0.regs) regs y s2 (away (handler_at p fn (length b1.blocks)) (record { fn = fn; block = length b1.blocks; place = length b1.ops + 1; regs = put now r w }) below (world (Some gone.0) s2)) in
+                subst P (sym gone.1) (thrown_now p fn (length b1.blocks) (length b1.ops + 1) h below x (length b0.regs) regs (put now r w) gone.0 s2 here match2 (λ j i lt o. put_kept w j (omega arith) ∙ kept j lt)),
           )) body));
     }

@@ -23,7 +23,7 @@ use Rattle.ir_frames.specs.Computing.{Shows, ShowsNumber, Arrives, Makes, OfTwo}
 use Rattle.ir_frames.proofs.HeldLemmas.{extends_refl, extends_trans, type_below, type_kept, has_less, placed_part}
 use Rattle.ir_frames.proofs.ComingLemmas.{ends_now, ends_of, ends_from, ends_map}
 use Rattle.ir_frames.proofs.StepLemmas.{literal_makes}
-use Rattle.ir_frames.proofs.MatchLemmas.{room_on, match_kept, thrown_from, computes_then, makes_arrives}
+use Rattle.ir_frames.proofs.MatchLemmas.{room_on, same_refl, same_trans, match_here, thrown_from, computes_then, makes_arrives}
 use Rattle.ir_expressions.specs.Compiled.{is_ordering, is_pair}
 use Rattle.ir_expressions.specs.Operating.{Orders, ordered, literal_of_truth}
 use Rattle.ir_expressions.specs.Emitting.{means, means_chain, Emits, EmitsNumber, EmitsChain}
@@ -39,14 +39,14 @@ chain_done x s first b c r a =
       extends = a.extends;
       type = a.type;
       runs = λ p fn h at n calls regs below st v match le shows.
-          makes_arrives p fn (Shows sort.Bool) _ b c r rtype.Bool below (length b.regs) regs regs st.locals st (BoolVal true) (Holds (BoolVal true)) (means_chain x s v no_comparisons n st) (IsThrown fn h below x (length b.regs) regs) made at.has (le_refl _) (λ j lt. refl) refl refl refl (refl, (true, refl));
+          makes_arrives p fn (Shows sort.Bool) _ b c r rtype.Bool below (length b.regs) regs regs x st st (BoolVal true) (Holds (BoolVal true)) (means_chain x s v no_comparisons n st) (IsThrown fn h below x (length b.regs) regs) made at.has (le_refl _) (λ j lt. refl) (same_refl x regs st match) refl refl (refl, (true, refl));
     }
 
 -- what comes behind a comparison whose truth is in a register: the rest of the chain where it holds
 pub record EmitsRest (x : Setting) (s : Sort) (left holds : ℕ) (more : Comparisons) (old new : Building) (r : ℕ) : Type 0 where
   pub extends : Extends old new
   pub type : HasType new r rtype.Bool
-  pub runs : (p : Program) (fn : ℕ) (h : Option ℕ) → Placed p fn old new h → (n : ℕ) → CallsWork p x.source n → (regs : Regs) (below : List Waiting) (st : State) (v : Value) (hv : Bool) → Matches x regs st.locals → st.turns ≤ n → ShowsNumber s v (regs left) → regs holds ≡ Holds (BoolVal hv) → Ends p st.turns (running fn (length old.blocks) (length old.ops) regs below (world None st)) ((if hv then (means_chain x s v more n) else (give (BoolVal false))) st) (Arrives (Shows sort.Bool) fn (length new.blocks) (length new.ops) below (length old.regs) regs st.locals r) (IsThrown fn h below x (length old.regs) regs)
+  pub runs : (p : Program) (fn : ℕ) (h : Option ℕ) → Placed p fn old new h → (n : ℕ) → CallsWork p x.source n → (regs : Regs) (below : List Waiting) (st : State) (v : Value) (hv : Bool) → Matches x regs st → st.turns ≤ n → ShowsNumber s v (regs left) → regs holds ≡ Holds (BoolVal hv) → Ends p st.turns (running fn (length old.blocks) (length old.ops) regs below (world None st)) ((if hv then (means_chain x s v more n) else (give (BoolVal false))) st) (Arrives (Shows sort.Bool) fn (length new.blocks) (length new.ops) below (length old.regs) regs x st r) (IsThrown fn h below x (length old.regs) regs)
 
 flag_back : (h : Bool) (s : State) → (if h then (give (BoolVal true)) else (give (BoolVal false))) s ≡ Gives (BoolVal h) s
 flag_back true s = refl
@@ -58,10 +58,10 @@ rest_done x s left holds b type = record {
   extends = extends_refl b;
   type = type;
   runs = λ p fn h at n calls regs below st v hv match le shows is.
-      let R = Arrives (Shows sort.Bool) fn (length b.blocks) (length b.ops) below (length b.regs) regs st.locals holds in
+      let R = Arrives (Shows sort.Bool) fn (length b.blocks) (length b.ops) below (length b.regs) regs x st holds in
       let T = IsThrown fn h below x (length b.regs) regs in
       ends_of p st.turns _ _ (Gives (BoolVal hv) st) R T (flag_back hv st)
-      (ends_now p (BoolVal hv) st _ R T record { now = regs; is = refl; shows = (is, (hv, refl)); kept = λ j lt. refl; locals = refl });
+      (ends_now p (BoolVal hv) st _ R T record { now = regs; is = refl; shows = (is, (hv, refl)); kept = λ j lt. refl; same = same_refl x regs st match });
 }
 
 -- other comparisons, in a choice by its truth
@@ -79,15 +79,15 @@ rest_more x s left holds more b0 b1 b2 b3 b4 target test first end r room left_t
           let p1 = meet_within p fn b3 b4 b1 b2 target holds holds test first end (length b3.blocks) _ _ h meets (omega arith) refl brings.extends at in
           let f : Does Value = means_chain x s v more n in
           let g : Does Value = give (BoolVal false) in
-          let A = Arrives (Shows sort.Bool) fn (length b2.blocks) (length b2.ops) below (length b0.regs) regs st.locals r in
-          let B = Arrives (Shows sort.Bool) fn (length b3.blocks) (length b3.ops) below (length b0.regs) regs st.locals holds in
+          let A = Arrives (Shows sort.Bool) fn (length b2.blocks) (length b2.ops) below (length b0.regs) regs x st r in
+          let B = Arrives (Shows sort.Bool) fn (length b3.blocks) (length b3.ops) below (length b0.regs) regs x st holds in
           let T = IsThrown fn h below x (length b0.regs) regs in
-          choice_runs p fn below (Shows sort.Bool) (shows_set sort.Bool) rtype.Bool (length b0.regs) regs st.locals hv b0 b1 b2 b3 b3 b4 holds target test first end (length b3.blocks) r holds f g regs st T opens chain.extends brings refl (extends_refl b3) meets holds_type chain.type (type_kept b0 b3 holds rtype.Bool x03 holds_type) at.has (le_refl _) is
+          choice_runs p fn below (Shows sort.Bool) (shows_set sort.Bool) rtype.Bool (length b0.regs) regs x st hv b0 b1 b2 b3 b3 b4 holds target test first end (length b3.blocks) r holds f g regs st T opens chain.extends brings refl (extends_refl b3) meets holds_type chain.type (type_kept b0 b3 holds rtype.Bool x03 holds_type) at.has (le_refl _) is
           (λ yes. ends_map p st.turns _ (f st) _ A _ T
-          (λ u s2 w a. record { now = a.now; is = a.is; shows = a.shows; kept = λ j lt. a.kept j (omega arith); locals = a.locals })
+          (λ u s2 w a. record { now = a.now; is = a.is; shows = a.shows; kept = λ j lt. a.kept j (omega arith); same = a.same })
           (λ u s2 w z. thrown_from fn h below x (length b0.regs) (length b1.regs) regs regs u s2 w (omega arith) (λ j i lt o. refl) z)
           (chain.runs p fn h p1 n calls regs below st v match le shows))
-          (λ no. ends_now p (BoolVal false) st _ B T record { now = regs; is = refl; shows = (is ∙ ap (λ z. Holds (BoolVal z)) no, (false, refl)); kept = λ j lt. refl; locals = refl });
+          (λ no. ends_now p (BoolVal false) st _ B T record { now = regs; is = refl; shows = (is ∙ ap (λ z. Holds (BoolVal z)) no, (false, refl)); kept = λ j lt. refl; same = same_refl x regs st match });
     }
 
 -- a comparison, and what comes behind it
@@ -107,21 +107,21 @@ chain_from x s x0 op e more b0 b1 b2 b3 q c r ordering pair room type ce made re
           let has2 = has_less p fn b2 b3 rest.extends at.has in
           let p1 = placed_part p fn b0 b0 b1 b3 h (le_refl _) x13 at in
           let p2 = placed_part p fn b0 b2 b3 b3 h (omega arith) (extends_refl b3) at in
-          let R = Arrives (Shows sort.Bool) fn (length b3.blocks) (length b3.ops) below (length b0.regs) regs st.locals r in
+          let R = Arrives (Shows sort.Bool) fn (length b3.blocks) (length b3.ops) below (length b0.regs) regs x st r in
           let T = IsThrown fn h below x (length b0.regs) regs in
           computes_then p fn h below x n calls (ShowsNumber (type_of e)) rtype.I64 (means x e) b0 b1 q regs st _ R (length b0.regs) regs ce p1 room (le_refl _) (λ j i z o. refl) match le
-          (λ now y s1 le1 shows1 kept loc match1.
+          (λ now y s1 le1 shows1 kept same1 match1.
           let hv : Bool = ordered op shows.0 shows1.0 in
           let f : Does Value = means_chain x (type_of e) y more n in
           let g : Does Value = give (BoolVal false) in
           let d = made.runs p fn has2 now below s1 (Holds (BoolVal hv)) record { u = IntVal shows.0; left = kept x0 low ∙ shows.1; v = IntVal shows1.0; right = shows1.1; result = BoolVal hv; fits = (shows.0, shows1.0, refl, refl, refl); gives = refl } in
-          let match2 = match_kept x b1 now d.0 s1.locals s1.locals (room_on x b0 b1 ce.extends room) (λ j lt. d.3 j (let z = room.top in omega arith)) refl match1 in
+          let match2 = match_here x b1 now d.0 s1 (room_on x b0 b1 ce.extends room) (λ j lt. d.3 j (let z = room.top in omega arith)) match1 in
           let outer : (j : ℕ) → j < length b0.regs → d.0 j ≡ regs j = λ j lt. d.3 j (omega arith) ∙ kept j lt in
           let shows2 : ShowsNumber (type_of e) y (d.0 q) = (shows1.0, d.3 q low_q ∙ shows1.1, shows1.2) in
           ends_of p s1.turns _ _ ((if hv then f else g) s1) R T (ap (λ o. on_to o (λ (z : Bool). if z then f else g)) (pair_holds op s (type_of e) v y shows.0 shows1.0 s1 ordering pair shows.2 shows1.2))
           (ends_from p s1.turns s1.turns _ _ ((if hv then f else g) s1) R T (le_refl _) d.1
           (ends_map p s1.turns _ ((if hv then f else g) s1) _ R _ T
-          (λ u s2 w a. record { now = a.now; is = a.is; shows = a.shows; kept = λ j lt. a.kept j (omega arith) ∙ outer j lt; locals = a.locals ∙ loc })
+          (λ u s2 w a. record { now = a.now; is = a.is; shows = a.shows; kept = λ j lt. a.kept j (omega arith) ∙ outer j lt; same = same_trans x st s1 s2 same1 a.same })
           (λ u s2 w z. thrown_from fn h below x (length b0.regs) (length b2.regs) regs d.0 u s2 w (omega arith) (λ j i lt o. outer j lt) z)
           (rest.runs p fn h p2 n calls d.0 below s1 y hv match2 le1 shows2 d.2))));
     }
@@ -137,12 +137,12 @@ compare_emits x e more place b0 b1 b2 q r room c chain =
       runs = λ p fn h at n calls regs below s match le.
           let p1 = placed_part p fn b0 b0 b1 b2 h (le_refl _) chain.extends at in
           let p2 = placed_part p fn b0 b1 b2 b2 h k01 (extends_refl b2) at in
-          let R = Arrives (Shows sort.Bool) fn (length b2.blocks) (length b2.ops) below (length b0.regs) regs s.locals r in
+          let R = Arrives (Shows sort.Bool) fn (length b2.blocks) (length b2.ops) below (length b0.regs) regs x s r in
           let T = IsThrown fn h below x (length b0.regs) regs in
           computes_then p fn h below x n calls (ShowsNumber (type_of e)) rtype.I64 (means x e) b0 b1 q regs s _ R (length b0.regs) regs c p1 room (le_refl _) (λ j i z o. refl) match le
-          (λ now v s1 le1 shows kept loc match1.
+          (λ now v s1 le1 shows kept same1 match1.
           ends_map p s1.turns _ (means_chain x (type_of e) v more n s1) _ R _ T
-          (λ u s2 w a. record { now = a.now; is = a.is; shows = a.shows; kept = λ j lt. a.kept j (omega arith) ∙ kept j lt; locals = a.locals ∙ loc })
+          (λ u s2 w a. record { now = a.now; is = a.is; shows = a.shows; kept = λ j lt. a.kept j (omega arith) ∙ kept j lt; same = same_trans x s s1 s2 same1 a.same })
           (λ u s2 w z. thrown_from fn h below x (length b0.regs) (length b1.regs) regs now u s2 w l01 (λ j i lt o. kept j lt) z)
           (chain.runs p fn h p2 n calls now below s1 v match1 le1 shows));
     }

@@ -1,5 +1,5 @@
 -- Each kind of expression is computed by its code.
-use Rattle.std.proofs.Common.{◌≡◌, refl, sym, ◌∙◌, ap, subst, ℕ, ◌+◌, ◌-◌, ◌<◌, ◌≤◌, arith, le_refl, Bool, true, false, List, length, Option, Some, None}
+use Rattle.std.proofs.Common.{◌≡◌, refl, sym, ◌∙◌, ap, subst, ℕ, ◌<◌, ◌≤◌, arith, le_refl, Bool, true, false, List, length, Option, Some, None}
 use Rattle.std.specs.Prelude.{ℤ, pos, not, codes, ◌++◌, if◌then◌else◌, slice_get, nat_lt}
 use Rattle.std.proofs.lemmas.Bool.Decides.{nat_tests}
 use Rattle.std.specs.Ordering.{int_eq}
@@ -26,12 +26,12 @@ use Rattle.ir_frames.specs.Calling.{Adds}
 use Rattle.ir_frames.specs.Coming.{world, running, Ends}
 use Rattle.ir_core.specs.declared.code.Program.{Program}
 use Rattle.ir_core.specs.Meaning.{Waiting}
-use Rattle.ir_frames.specs.Matching.{HasKind, Keeps, flag_of, flag_in, Matches, HasRoom, IsThrown, CallsWork}
+use Rattle.ir_frames.specs.Matching.{HasKind, Keeps, flag_of, flag_in, Matches, SameLocals, HasRoom, IsThrown, CallsWork}
 use Rattle.ir_frames.specs.Computing.{Shows, ShowsNumber, Meaning, Arrives, Computes, Makes, Attempts, OfOne}
 use Rattle.ir_frames.proofs.HeldLemmas.{extends_refl, extends_trans, type_below, type_kept, has_less}
 use Rattle.ir_frames.proofs.ComingLemmas.{ends_now, ends_of, ends_on, ends_from, leads_refl}
 use Rattle.ir_frames.proofs.StepLemmas.{literal_makes}
-use Rattle.ir_frames.proofs.MatchLemmas.{room_on, match_kept, computes_then, computes_as, computes_of, then_makes, made_computes}
+use Rattle.ir_frames.proofs.MatchLemmas.{room_on, same_refl, match_here, computes_then, computes_as, computes_of, then_makes, made_computes}
 use Rattle.ir_frames.proofs.AttemptLemmas.{both_attempt}
 use Rattle.ir_expressions.specs.Compiled.{is_scalar, is_bool}
 use Rattle.ir_expressions.specs.Operating.{Negates, Inverts, Numbers, Operates, Asks, TestsValue, literal_of_truth}
@@ -70,10 +70,10 @@ local_emits x i w t place b at is low room = record {
       let m = match.each i w at in
       let q = kept_value w.1 (regs i) (flag_in x.frame.locals regs i) m.0 (set_flag x.frame.locals regs i low) m.2 in
       let gives : means x (typed (Local i) t place) n s ≡ Gives q.0 s = ap (λ o. value_in (raise_new UnboundLocalError (codes "local variable '" ++ name_at x.variables i ++ codes "' referenced before assignment")) o s) (m.1 ∙ ap Some q.1) in
-      let R = Arrives (Shows t) fn (length b.blocks) (length b.ops) below (length b.regs) regs s.locals i in
+      let R = Arrives (Shows t) fn (length b.blocks) (length b.ops) below (length b.regs) regs x s i in
       let T = IsThrown fn h below x (length b.regs) regs in
       ends_of p s.turns _ _ (Gives q.0 s) R T gives
-      (ends_now p q.0 s _ R T record { now = regs; is = refl; shows = (q.2, kind_at w.1 t q.0 is q.3); kept = λ j lt. refl; locals = refl });
+      (ends_now p q.0 s _ R T record { now = regs; is = refl; shows = (q.2, kind_at w.1 t q.0 is q.3); kept = λ j lt. refl; same = same_refl x regs s match });
 }
 
 pub neg_emits : (x : Setting) (e : TypedExpr) (place : Span) (b0 b1 b2 : Building) (q r : ℕ) → type_of e ≡ sort.I64 → HasRoom x b0 → Emits x e b0 b1 q → Makes b1 b2 r rtype.I64 (OfOne q Negates) → Emits x (typed (Neg e) sort.I64 place) b0 b2 r
@@ -147,14 +147,14 @@ coerce_emits x e place b c r q = record {
   extends = q.extends;
   type = q.type;
   runs = λ p fn h at n calls regs below s match le.
-      let A = Arrives (ShowsNumber (type_of e)) fn (length c.blocks) (length c.ops) below (length b.regs) regs s.locals r in
-      let R = Arrives (Shows sort.I64) fn (length c.blocks) (length c.ops) below (length b.regs) regs s.locals r in
+      let A = Arrives (ShowsNumber (type_of e)) fn (length c.blocks) (length c.ops) below (length b.regs) regs x s r in
+      let R = Arrives (Shows sort.I64) fn (length c.blocks) (length c.ops) below (length b.regs) regs x s r in
       let T = IsThrown fn h below x (length b.regs) regs in
       ends_on p s.turns _ (means x e n s) A T T (coerced sort.I64) R (q.runs p fn h at n calls regs below s match le)
       (λ v s1 d le1 a.
       let k = a.shows in
       ends_of p s1.turns _ (coerced sort.I64 v s1) (Gives (IntVal k.0) s1) R T (counts_coerced (type_of e) v k.0 s1 k.2)
-      (ends_now p (IntVal k.0) s1 d R T record { now = a.now; is = a.is; shows = (k.1, (k.0, refl, counts_within (type_of e) v k.0 k.2)); kept = a.kept; locals = a.locals }))
+      (ends_now p (IntVal k.0) s1 d R T record { now = a.now; is = a.is; shows = (k.1, (k.0, refl, counts_within (type_of e) v k.0 k.2)); kept = a.kept; same = a.same }))
       (λ v s1 d t. t);
 }
 
@@ -178,7 +178,7 @@ module _ (x : Setting) (a : TypedExpr) (u t : Sort) (b0 b1 b2 b3 b4 b5 b7 b8 : B
       meets.extends b0 (extends_trans b0 b1 b7 v1.extends x17) (let z = opens.test_is in omega arith) (let z = brings.end_is in omega arith)
 
   -- the arms are what comes behind a value and its truth
-  either_emits : (m : Meaning Value) (f g : ℕ → Value → Does Value) → ((n : ℕ) (s : State) → m n s ≡ on_to (means x a n s) (λ v s1. on_to (truth_of v s1) (λ h. if h then f n v else g n v))) → ((p : Program) (fn : ℕ) (h : Option ℕ) (below : List Waiting) (n : ℕ) (v : Value) (now old : Regs) (s : State) (ls : List (Option Value)) → Placed p fn b0 b8 h → CallsWork p x.source n → Shows u v (now q) → ((j : ℕ) → j < length b0.regs → now j ≡ old j) → s.locals ≡ ls → Matches x now s.locals → s.turns ≤ n → Ends p s.turns (running fn (length b3.blocks) (length b3.ops) now below (world None s)) (f n v s) (Arrives (Shows t) fn (length b4.blocks) (length b4.ops) below (length b0.regs) old ls ra) (IsThrown fn h below x (length b0.regs) old)) → ((p : Program) (fn : ℕ) (h : Option ℕ) (below : List Waiting) (n : ℕ) (v : Value) (now old : Regs) (s : State) (ls : List (Option Value)) → Placed p fn b0 b8 h → CallsWork p x.source n → Shows u v (now q) → ((j : ℕ) → j < length b0.regs → now j ≡ old j) → s.locals ≡ ls → Matches x now s.locals → s.turns ≤ n → Ends p s.turns (running fn (length b5.blocks) (length b5.ops) now below (world None s)) (g n v s) (Arrives (Shows t) fn (length b7.blocks) (length b7.ops) below (length b0.regs) old ls rb) (IsThrown fn h below x (length b0.regs) old)) → Computes x (Shows t) (rtype_of t) m b0 b8 target
+  either_emits : (m : Meaning Value) (f g : ℕ → Value → Does Value) → ((n : ℕ) (s : State) → m n s ≡ on_to (means x a n s) (λ v s1. on_to (truth_of v s1) (λ h. if h then f n v else g n v))) → ((p : Program) (fn : ℕ) (h : Option ℕ) (below : List Waiting) (n : ℕ) (v : Value) (now old : Regs) (s before : State) → Placed p fn b0 b8 h → CallsWork p x.source n → Shows u v (now q) → ((j : ℕ) → j < length b0.regs → now j ≡ old j) → SameLocals x before s → Matches x now s → s.turns ≤ n → Ends p s.turns (running fn (length b3.blocks) (length b3.ops) now below (world None s)) (f n v s) (Arrives (Shows t) fn (length b4.blocks) (length b4.ops) below (length b0.regs) old x before ra) (IsThrown fn h below x (length b0.regs) old)) → ((p : Program) (fn : ℕ) (h : Option ℕ) (below : List Waiting) (n : ℕ) (v : Value) (now old : Regs) (s before : State) → Placed p fn b0 b8 h → CallsWork p x.source n → Shows u v (now q) → ((j : ℕ) → j < length b0.regs → now j ≡ old j) → SameLocals x before s → Matches x now s → s.turns ≤ n → Ends p s.turns (running fn (length b5.blocks) (length b5.ops) now below (world None s)) (g n v s) (Arrives (Shows t) fn (length b7.blocks) (length b7.ops) below (length b0.regs) old x before rb) (IsThrown fn h below x (length b0.regs) old)) → Computes x (Shows t) (rtype_of t) m b0 b8 target
   either_emits m f g is arm_a arm_b =
       let v1 = emits_at x a u b0 b1 q is_a ca in
       let r01 = v1.extends.regs_grow in
@@ -193,16 +193,16 @@ module _ (x : Setting) (a : TypedExpr) (u t : Sort) (b0 b1 b2 b3 b4 b5 b7 b8 : B
             let has2 = has_less p fn b2 b7 (extends_trans b2 b3 b7 opens.extends x37) has7 in
             ends_of p s.turns _ _ _ _ _ (is n s)
             (computes_then p fn h below x n calls (Shows u) (rtype_of u) (means x a) b0 b1 q regs s _ _ (length b0.regs) regs v1 p1 room (le_refl _) (λ j i z o. refl) match le
-            (λ now v s1 le1 shows kept loc match1.
+            (λ now v s1 le1 shows kept same1 match1.
             let tv = tests.runs p fn has2 now below s1 v shows in
-            let match2 = match_kept x b1 now tv.2 s1.locals s1.locals (room_on x b0 b1 v1.extends room) (λ j lt. tv.5 j (let z = room.top in omega arith)) refl match1 in
+            let match2 = match_here x b1 now tv.2 s1 (room_on x b0 b1 v1.extends room) (λ j lt. tv.5 j (let z = room.top in omega arith)) match1 in
             let shows2 : Shows u v (tv.2 q) = subst (Shows u v) (sym (tv.5 q (type_below b1 q (rtype_of u) v1.type))) shows in
             let outer : (j : ℕ) → j < length b0.regs → tv.2 j ≡ regs j = λ j lt. tv.5 j (omega arith) ∙ kept j lt in
             ends_of p s1.turns _ _ _ _ _ (truth_then v tv.0 s1 _ tv.1)
             (ends_from p s1.turns s1.turns _ _ _ _ _ (le_refl _) tv.3
-            (choice_runs p fn below (Shows t) (shows_set t) (rtype_of t) (length b0.regs) regs s.locals tv.0 b2 b3 b4 b5 b7 b8 condition target test first end second ra rb (f n v) (g n v) tv.2 s1 _ opens x34 brings here x57 meets tests.type type_a type_b at.has (omega arith) tv.4
-            (λ yes. arm_a p fn h below n v tv.2 regs s1 s.locals at calls shows2 outer loc match2 le1)
-            (λ no. arm_b p fn h below n v tv.2 regs s1 s.locals at calls shows2 outer loc match2 le1)))));
+            (choice_runs p fn below (Shows t) (shows_set t) (rtype_of t) (length b0.regs) regs x s tv.0 b2 b3 b4 b5 b7 b8 condition target test first end second ra rb (f n v) (g n v) tv.2 s1 _ opens x34 brings here x57 meets tests.type type_a type_b at.has (omega arith) tv.4
+            (λ yes. arm_a p fn h below n v tv.2 regs s1 s at calls shows2 outer same1 match2 le1)
+            (λ no. arm_b p fn h below n v tv.2 regs s1 s at calls shows2 outer same1 match2 le1)))));
       }
 
 pub and_emits : (x : Setting) (a b : TypedExpr) (t : Sort) (place : Span) (b0 b1 b2 b3 b4 b5 b8 : Building) (q condition target test first end second r : ℕ) → type_of a ≡ t → type_of b ≡ t → HasRoom x b0 → Emits x a b0 b1 q → TestsValue b1 b2 q condition t → Opens b2 b3 target test first (rtype_of t) → Emits x b b3 b4 r → Brings b4 b5 target r end → second ≡ length b5.blocks → Meets b5 b8 target q condition test first end second → Emits x (typed (And a b) t place) b0 b8 target
@@ -214,8 +214,8 @@ and_emits x a b t place b0 b1 b2 b3 b4 b5 b8 q condition target test first end s
     let r01 = v1.extends.regs_grow in
     let r13 = (extends_trans b1 b2 b3 tests.extends opens.extends).regs_grow in
     either_emits x a t t b0 b1 b2 b3 b4 b5 b5 b8 q condition target test first end second r q is_a room ca tests opens v2.extends brings here (extends_refl b5) meets v2.type (type_kept b1 b5 q (rtype_of t) x15 v1.type) (means x (typed (And a b) t place)) (λ n v. means x b n) (λ n v. give v) (λ n s. refl)
-    (λ p fn h below n v now old s ls at calls shows outer loc match le. arm_ends p fn h below x n calls (Shows t) (rtype_of t) (means x b) b3 b4 r now old s (length b0.regs) ls v2 (meet_within p fn b5 b8 b3 b4 target q condition test first end second _ _ h meets (let z = opens.blocks in let y = tests.blocks in omega arith) refl brings.extends at) (omega arith) outer loc match le)
-    (λ p fn h below n v now old s ls at calls shows outer loc match le. ends_now p v s _ (Arrives (Shows t) fn (length b5.blocks) (length b5.ops) below (length b0.regs) old ls q) (IsThrown fn h below x (length b0.regs) old) record { now = now; is = refl; shows = shows; kept = outer; locals = loc })
+    (λ p fn h below n v now old s before at calls shows outer same match le. arm_ends p fn h below x n calls (Shows t) (rtype_of t) (means x b) b3 b4 r now old s (length b0.regs) before v2 (meet_within p fn b5 b8 b3 b4 target q condition test first end second _ _ h meets (let z = opens.blocks in let y = tests.blocks in omega arith) refl brings.extends at) (omega arith) outer same match le)
+    (λ p fn h below n v now old s before at calls shows outer same match le. ends_now p v s _ (Arrives (Shows t) fn (length b5.blocks) (length b5.ops) below (length b0.regs) old x before q) (IsThrown fn h below x (length b0.regs) old) record { now = now; is = refl; shows = shows; kept = outer; same = same })
 
 pub or_emits : (x : Setting) (a b : TypedExpr) (t : Sort) (place : Span) (b0 b1 b2 b3 b5 b7 b8 : Building) (q condition target test first end second r : ℕ) → type_of a ≡ t → type_of b ≡ t → HasRoom x b0 → Emits x a b0 b1 q → TestsValue b1 b2 q condition t → Opens b2 b3 target test first (rtype_of t) → Brings b3 b5 target q end → second ≡ length b5.blocks → Emits x b b5 b7 r → Meets b7 b8 target r condition test first end second → Emits x (typed (Or a b) t place) b0 b8 target
 or_emits x a b t place b0 b1 b2 b3 b5 b7 b8 q condition target test first end second r is_a is_b room ca tests opens brings here cb meets =
@@ -227,8 +227,8 @@ or_emits x a b t place b0 b1 b2 b3 b5 b7 b8 q condition target test first end se
     let r01 = v1.extends.regs_grow in
     let r15 = (extends_trans b1 b3 b5 x13 brings.extends).regs_grow in
     either_emits x a t t b0 b1 b2 b3 b3 b5 b7 b8 q condition target test first end second q r is_a room ca tests opens (extends_refl b3) brings here v2.extends meets type_q v2.type (means x (typed (Or a b) t place)) (λ n v. give v) (λ n v. means x b n) (λ n s. refl)
-    (λ p fn h below n v now old s ls at calls shows outer loc match le. ends_now p v s _ (Arrives (Shows t) fn (length b3.blocks) (length b3.ops) below (length b0.regs) old ls q) (IsThrown fn h below x (length b0.regs) old) record { now = now; is = refl; shows = shows; kept = outer; locals = loc })
-    (λ p fn h below n v now old s ls at calls shows outer loc match le. arm_ends p fn h below x n calls (Shows t) (rtype_of t) (means x b) b5 b7 r now old s (length b0.regs) ls v2 (meet_within p fn b7 b8 b5 b7 target r condition test first end second _ _ h meets (let z = opens.blocks in let y = tests.blocks in let w = brings.blocks in omega arith) refl (extends_refl b7) at) (omega arith) outer loc match le)
+    (λ p fn h below n v now old s before at calls shows outer same match le. ends_now p v s _ (Arrives (Shows t) fn (length b3.blocks) (length b3.ops) below (length b0.regs) old x before q) (IsThrown fn h below x (length b0.regs) old) record { now = now; is = refl; shows = shows; kept = outer; same = same })
+    (λ p fn h below n v now old s before at calls shows outer same match le. arm_ends p fn h below x n calls (Shows t) (rtype_of t) (means x b) b5 b7 r now old s (length b0.regs) before v2 (meet_within p fn b7 b8 b5 b7 target r condition test first end second _ _ h meets (let z = opens.blocks in let y = tests.blocks in let w = brings.blocks in omega arith) refl (extends_refl b7) at) (omega arith) outer same match le)
 
 -- a bool is its own condition
 pub bool_tests : (b : Building) (q : ℕ) → HasType b q rtype.Bool → TestsValue b b q q sort.Bool
@@ -282,5 +282,5 @@ cond_emits x a test b t place b0 b1 b3 b4 b5 b7 b8 q target at first end second 
     let k34 = v1.extends.blocks_grow in
     let k45 = brings.blocks in
     either_emits x test sort.Bool t b0 b1 b1 b3 b4 b5 b7 b8 q q target at first end second ra rb is_test room ct (bool_tests b1 q v0.type) opens v1.extends brings here v2.extends meets v1.type v2.type (means x (typed (Cond a test b) t place)) (λ n v. means x a n) (λ n v. means x b n) (λ n s. refl)
-    (λ p fn h below n v now old s ls placed calls shows outer loc match le. arm_ends p fn h below x n calls (Shows t) (rtype_of t) (means x a) b3 b4 ra now old s (length b0.regs) ls v1 (meet_within p fn b7 b8 b3 b4 target rb q at first end second _ _ h meets (omega arith) refl (extends_trans b4 b5 b7 brings.extends v2.extends) placed) (omega arith) outer loc match le)
-    (λ p fn h below n v now old s ls placed calls shows outer loc match le. arm_ends p fn h below x n calls (Shows t) (rtype_of t) (means x b) b5 b7 rb now old s (length b0.regs) ls v2 (meet_within p fn b7 b8 b5 b7 target rb q at first end second _ _ h meets (omega arith) refl (extends_refl b7) placed) (omega arith) outer loc match le)
+    (λ p fn h below n v now old s before placed calls shows outer same match le. arm_ends p fn h below x n calls (Shows t) (rtype_of t) (means x a) b3 b4 ra now old s (length b0.regs) before v1 (meet_within p fn b7 b8 b3 b4 target rb q at first end second _ _ h meets (omega arith) refl (extends_trans b4 b5 b7 brings.extends v2.extends) placed) (omega arith) outer same match le)
+    (λ p fn h below n v now old s before placed calls shows outer same match le. arm_ends p fn h below x n calls (Shows t) (rtype_of t) (means x b) b5 b7 rb now old s (length b0.regs) before v2 (meet_within p fn b7 b8 b5 b7 target rb q at first end second _ _ h meets (omega arith) refl (extends_refl b7) placed) (omega arith) outer same match le)

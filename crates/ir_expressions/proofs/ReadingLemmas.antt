@@ -1,25 +1,29 @@
--- Reading a variable that may be unset.
-use Rattle.std.proofs.Common.{◌≡◌, ℕ, zero, suc, ◌+◌, ◌<◌, ◌≤◌, ◌++◌, true, false, List, [], ◌∷◌, length, Option, Some, None, refl, sym, ap, ◌∙◌, subst, arith, le_refl}
+-- Reading a variable that may be unset, of the function or of the module.
+use Rattle.std.proofs.Common.{◌≡◌, ◌⊎◌, inr, ℕ, zero, suc, ◌<◌, ◌≤◌, ◌++◌, true, false, List, [], ◌∷◌, length, Option, Some, None, refl, sym, ap, ◌∙◌, subst, arith, le_refl}
 use Rattle.std.specs.Prelude.{slice_get, get_or, map, pos, nat_lt, if◌then◌else◌, codes}
 use Rattle.std.proofs.lemmas.Bool.Decides.{nat_tests}
-use Rattle.value_core.specs.Exceptions.{Thrown}
+use Rattle.std.proofs.lemmas.List.{length-map}
 use Rattle.value_core.specs.Value.{Value, BoolVal}
 use Rattle.value_core.specs.declared.exception.ExcClass.TheVariants.{UnboundLocalError}
+use Rattle.c_core.specs.declared.primitive.Primitive.TheVariants as prim
+use Rattle.c_core.specs.declared.primitive.GlobalPrim.TheVariants as global
 use Rattle.c_core.specs.Step.{unbound}
 use Rattle.py_syntax.specs.declared.token.Span.{Span}
-use Rattle.py_typed.specs.Sorts.{Sort}
-use Rattle.py_typed.specs.State.{State, Outcome, Gives, Raises, raise_new}
+use Rattle.py_typed.specs.Sorts.{Sort, sort}
+use Rattle.py_typed.specs.State.{State, Gives, Raises, raise_new}
 use Rattle.py_typed.specs.declared.checked.Var.{Var}
 use Rattle.py_typed.specs.Statements.{Variable, TypedModule, variable}
 use Rattle.py_typed.specs.Expressions.{typed, Local}
-use Rattle.py_typed.specs.ExpressionMeaning.{name_at, value_in, read_local}
-use Rattle.ir_core.specs.declared.code.Op.TheVariants.{Lit}
+use Rattle.py_typed.specs.ExpressionMeaning.{name_at, value_in, read_global}
+use Rattle.ir_core.specs.declared.code.Op.TheVariants.{Lit, Prim}
+use Rattle.ir_core.specs.declared.code.PArg.{PArg}
+use Rattle.ir_core.specs.declared.code.PArg.TheVariants as arg
+use Rattle.ir_core.specs.declared.code.RType.{RType}
 use Rattle.ir_core.specs.declared.code.Lit.TheVariants.{Number}
 use Rattle.ir_core.specs.declared.code.Last.TheVariants.{Goto, IfError, Unreachable}
 use Rattle.ir_core.specs.declared.code.Program.{Program}
 use Rattle.ir_core.specs.declared.code.RType.TheVariants as rtype
-use Rattle.ir_core.specs.declared.kind.Edge.TheVariants.{Jumps}
-use Rattle.ir_core.specs.Items.{Item, Do, End}
+use Rattle.ir_core.specs.Items.{Do, End}
 use Rattle.ir_core.specs.Registers.{Held, Unset, Holds, Regs, is_error}
 use Rattle.ir_core.specs.Building.{Building, with_last, held, Extends}
 use Rattle.ir_core.specs.Meaning.{Waiting, Runs, Strict, is_edge, away, item_at, handler_at, registers_of, step}
@@ -30,16 +34,20 @@ use Rattle.ir_frames.specs.Calling.{Adds, Pushes, Closes, Patches}
 use Rattle.ir_frames.specs.Settings.{Setting, rtype_of}
 use Rattle.ir_frames.specs.Placing.{HasType, Has, Placed, or_other}
 use Rattle.ir_frames.specs.Coming.{world, running, Leads, Ends}
-use Rattle.ir_frames.specs.Computing.{Shows, Arrives}
-use Rattle.ir_frames.specs.Matching.{HasKind, Keeps, flag_of, flag_in, HasRoom, IsThrown}
+use Rattle.ir_frames.specs.Computing.{Shows, Arrives, Computes}
+use Rattle.ir_frames.specs.Kinds.{IsAmong, KeepsKindsIf, Answers, ReadsGlobal}
+use Rattle.ir_frames.specs.Matching.{HasKind, Keeps, flag_of, flag_in, Matches, HasRoom, IsThrown}
 use Rattle.ir_frames.proofs.ComingLemmas.{leads_step, leads_trans, ends_of, ends_lead}
-use Rattle.ir_frames.proofs.HeldLemmas.{extends_refl, extends_trans, has_less, type_kept, type_has, does_at, pushes_has, adds_has, placed_part, guard_at}
-use Rattle.ir_frames.proofs.MatchLemmas.{thrown_at}
+use Rattle.ir_frames.proofs.HeldLemmas.{extends_trans, get_below, has_less, type_kept, type_has, pushes_has, adds_has, placed_part, guard_at}
+use Rattle.ir_frames.proofs.MatchLemmas.{same_refl, thrown_at}
 use Rattle.ir_frames.proofs.PatchLemmas.{patches}
+use Rattle.ir_frames.proofs.GlobalLemmas.{get_map, global_computes, read_fits}
+use Rattle.ir_expressions.specs.Compiled.{is_scalar}
 use Rattle.ir_expressions.specs.Emitting.{means, Emits}
-use Rattle.ir_expressions.specs.Suiting.{Suits}
-use Rattle.ir_expressions.specs.Reading.{reports_unbound, TestsSet, setting_in, HasRegisters, EmitsLocal}
+use Rattle.ir_expressions.specs.Suiting.{IsScalarAt}
+use Rattle.ir_expressions.specs.Reading.{reports_unbound, TestsSet, setting_in, HasRegisters, EmitsLocal, EmitsGlobal}
 use Rattle.ir_expressions.proofs.NodeLemmas.{local_emits}
+use Rattle.ir_expressions.proofs.WalkingLemmas.{scalar_plain}
 
 -- ---- the test
 
@@ -134,9 +142,9 @@ other_flag f regs j le = let e : nat_lt j f.params ≡ false = grind (arith, nat
 kind_as : (t u : Sort) (v : Value) → t ≡ u → HasKind t v → HasKind u v
 kind_as t u v e k = subst (λ z. HasKind z v) e k
 
-module _ (x : Setting) (i : ℕ) (w : Variable) (t : Sort) (place : Span) (b c : Building) (at : slice_get x.variables i ≡ Some w) (is : w.1 ≡ t) (tests : TestsSet b c (flag_of x.frame.locals i) w.0) (p : Program) (fn : ℕ) (h : Option ℕ) (placed : Placed p fn b c h) (n : ℕ) (regs : Regs) (below : List Waiting) (s : State) (match : Rattle.ir_frames.specs.Matching.Matches x regs s.locals) where
+module _ (x : Setting) (i : ℕ) (w : Variable) (t : Sort) (place : Span) (b c : Building) (at : slice_get x.variables i ≡ Some w) (is : w.1 ≡ t) (tests : TestsSet b c (flag_of x.frame.locals i) w.0) (p : Program) (fn : ℕ) (h : Option ℕ) (placed : Placed p fn b c h) (n : ℕ) (regs : Regs) (below : List Waiting) (s : State) (match : Matches x regs s) where
   abbrev Good : Value → State → Rattle.ir_core.specs.Meaning.Config → Type 0
-  Good = Arrives (Shows t) fn (length c.blocks) (length c.ops) below (length b.regs) regs s.locals i
+  Good = Arrives (Shows t) fn (length c.blocks) (length c.ops) below (length b.regs) regs x s i
 
   abbrev Bad : Value → State → Rattle.ir_core.specs.Meaning.Config → Type 0
   Bad = IsThrown fn h below x (length b.regs) regs
@@ -152,7 +160,7 @@ module _ (x : Setting) (i : ℕ) (w : Variable) (t : Sort) (place : Span) (b c :
   reads (Some v) e k =
       let gives : means x (typed (Local i) t place) n s ≡ Gives v s = ap (λ o. value_in (raise_new UnboundLocalError (codes "local variable '" ++ name_at x.variables i ++ codes "' referenced before assignment")) o s) e in
       ends_of p s.turns _ _ _ Good Bad gives
-      (ends_lead p v s _ _ Good Bad (tests.set p fn placed.has regs below s (BoolVal true) k.1) record { now = regs; is = refl; shows = (k.0, kind_as w.1 t v is k.2); kept = λ j lt. refl; locals = refl })
+      (ends_lead p v s _ _ Good Bad (tests.set p fn placed.has regs below s (BoolVal true) k.1) record { now = regs; is = refl; shows = (k.0, kind_as w.1 t v is k.2); kept = λ j lt. refl; same = same_refl x regs s match })
 
 variable_emits : (x : Setting) (i : ℕ) (w : Variable) (t : Sort) (place : Span) (b c : Building) → slice_get x.variables i ≡ Some w → w.1 ≡ t → x.frame.locals.params ≤ i → HasRoom x b → TestsSet b c (flag_of x.frame.locals i) w.0 → Emits x (typed (Local i) t place) b c i
 variable_emits x i w t place b c at is other room tests = record {
@@ -170,11 +178,6 @@ get_there : {A : Type 0} (xs : List A) (i : ℕ) (d x : A) → i < length xs →
 get_there [] i d x lt e = absurd (omega arith)
 get_there (y ∷ xs) zero d x lt e = ap Some (sym e)
 get_there (y ∷ xs) (suc i) d x lt e = get_there xs i d x (omega arith) e
-
-get_map : {A B : Type 0} (f : A → B) (xs : List A) (j : ℕ) (x : A) → slice_get xs j ≡ Some x → slice_get (map f xs) j ≡ Some (f x)
-get_map f [] j x e = let g : None ≡ Some x = e in absurd (cc)
-get_map f (y ∷ xs) zero x e = let g : Some y ≡ Some x = e in let same : y ≡ x = cc in ap (λ z. Some (f z)) same
-get_map f (y ∷ xs) (suc j) x e = get_map f xs j x e
 
 room_in : (m n : TypedModule) (vs : List Variable) (frame : Frame) (b : Building) → HasRoom (setting_in m vs frame) b → HasRoom (setting_in n vs frame) b
 room_in m n vs frame b room = record {
@@ -203,3 +206,35 @@ variable_read vs frame i v b c flag name lt e other flag_is name_is has tests m 
 -- its flag is there
 pub flag_there : (vs : List Variable) (frame : Frame) (i flag : ℕ) (b : Building) → i < length vs → frame.locals.params ≤ i → HasRegisters vs frame b → flag ≡ flag_of frame.locals i → HasType b flag rtype.Bool
 flag_there vs frame i flag b lt other has is = let count = has.1.count in subst (λ z. HasType b z rtype.Bool) (sym is) (has.1.flagged i other (omega arith))
+
+-- ---- a variable of the module
+
+-- the variable of a number is there
+pub scalar_below : (vs : List Var) (i : ℕ) → IsScalarAt (map variable vs) i → i < length vs
+scalar_below vs i h = let lt = get_below (map variable vs) i h.0 h.1 in omega (arith, length-map vs variable)
+
+module _ (m : TypedModule) (vs : List Var) (are : m.globals ≡ map variable vs) (i : ℕ) (v : Var) (t : RType) (name : List ℕ) (args : List PArg) (lt : i < length vs) (is : v ≡ get_or vs i v) (type : t ≡ rtype_of (sort v.ty)) (named : name ≡ v.name) (args_are : args ≡ arg.Global name ∷ []) where
+  global_at : slice_get m.globals i ≡ Some (variable v)
+  global_at = ap (λ gs. slice_get gs i) are ∙ get_map variable vs i v (get_there vs i v v lt is)
+
+  args_name : args ≡ arg.Global v.name ∷ []
+  args_name = args_are ∙ ap (λ z. arg.Global z ∷ []) named
+
+  pub global_emits : (b c : Building) (r : ℕ) → Adds b c r t (Prim (Some record { 0 = r }) (prim.Global global.Get) args) → EmitsGlobal m i b c r
+  global_emits b c r a ws frame u place room suits =
+      let x : Setting = setting_in m ws frame in
+      let same : variable v ≡ suits.1 = (let z : Some (variable v) ≡ Some suits.1 = sym global_at ∙ suits.2 in cc) in
+      let sort_is : sort v.ty ≡ u = ap (λ (z : Variable). z.1) same ∙ suits.3 in
+      let P : Sort → Type 0 = λ z. Computes x (Shows z) (rtype_of z) (λ n. read_global m.globals i) b c r in
+      let typed_add : Adds b c r (rtype_of (sort v.ty)) (Prim (Some record { 0 = r }) (prim.Global global.Get) args) = subst (λ z. Adds b c r z (Prim (Some record { 0 = r }) (prim.Global global.Get) args)) type a in
+      let add : Adds b c r (rtype_of (sort v.ty)) (Prim (Some record { 0 = r }) (prim.Global global.Get) (arg.Global v.name ∷ [])) = subst (λ z. Adds b c r (rtype_of (sort v.ty)) (Prim (Some record { 0 = r }) (prim.Global global.Get) z)) args_name typed_add in
+      subst P sort_is (global_computes x i (variable v) b c r room global_at add)
+
+  -- its global is there, and holds no reference
+  pub global_kinds : (b c : Building) → IsScalarAt m.globals i → KeepsKindsIf (λ g. Answers t b.regs (prim.Global global.Get) args ⊎ ReadsGlobal g t (prim.Global global.Get) args) b c → KeepsKindsIf (IsAmong m) b c
+  global_kinds b c scalar kinds g among h =
+      let same : scalar.0 ≡ variable v = (let z : Some scalar.0 ≡ Some (variable v) = sym scalar.1 ∙ global_at in cc) in
+      let plain = scalar_plain (sort v.ty) (subst (λ (z : Variable). is_scalar z.1 ≡ true) same scalar.2) in
+      let reads = read_fits m g i (variable v) among global_at plain in
+      let typed_read : ReadsGlobal g t (prim.Global global.Get) (arg.Global v.name ∷ []) = subst (λ z. ReadsGlobal g z (prim.Global global.Get) (arg.Global v.name ∷ [])) (sym type) reads in
+      kinds g (inr (subst (λ z. ReadsGlobal g t (prim.Global global.Get) z) (sym args_name) typed_read)) h

@@ -8,7 +8,7 @@ use Rattle.py_typed.specs.Sorts as sort
 use Rattle.py_typed.specs.Sorts.{Sort, sorts_of}
 use Rattle.py_typed.specs.Classes.{Signature}
 use Rattle.py_typed.specs.Fits.{is_same_type, are_same_types, is_nothing, number_join}
-use Rattle.py_typed.specs.Expressions.{TypedExpr, typed, TypedNode, Int, Flag, Local, Neg, Not, Truth, Arith, Compare, And, Or, Cond, Call, Coerce, TypedExprs, no_exprs, expr_then, Comparisons, no_comparisons, comparison_then, type_of}
+use Rattle.py_typed.specs.Expressions.{TypedExpr, typed, TypedNode, Int, Flag, Local, Global, Neg, Not, Truth, Arith, Compare, And, Or, Cond, Call, Coerce, TypedExprs, no_exprs, expr_then, Comparisons, no_comparisons, comparison_then, type_of}
 use Rattle.py_typed.specs.Statements.{Variable, TypedFunc, TypedModule}
 use Rattle.py_typed.specs.Narrowing.{is_in, facts}
 use Rattle.py_typed.specs.WellTypedExpr.{stands, parts_typed, are_values, chain_typed, rule, types_of, is_function, is_type, reads_as, declared, call_fits, is_empty_call}
@@ -61,6 +61,7 @@ same_sorts (s ∷ ss) (t ∷ ts) e = ap (λ x. x ∷ ss) (one_type s t (and_left
 node_scalar : (n : TypedNode) (t : Sort) → is_compiled_node n t ≡ true → not (is_empty_call n t) ≡ true → is_scalar t ≡ true
 node_scalar (Flag b) t c k = bool_scalar t c
 node_scalar (Local i) t c k = c
+node_scalar (Global i) t c k = c
 node_scalar (Neg e) t c k = i64_scalar t (and_left _ _ c)
 node_scalar (Not e) t c k = bool_scalar t (and_left _ _ c)
 node_scalar (Truth e) t c k = bool_scalar t (and_left _ _ c)
@@ -104,11 +105,12 @@ module _ (m : TypedModule) (vs : List Variable) (init : Option ℕ) where
   operand_by : (known : List ℕ) (e : TypedExpr) → stands m vs init false known e ≡ true → is_operand (literal_in e) (is_compiled e) ≡ true → (is_compiled e ≡ true → Suits m vs e) → Operand m vs e
   operand_by known e h c part = by_literal known e (literal_in e) refl h c part
 
-  -- a local reads as its own type, since that has no None
-  declared_as : (o : Option Variable) (t : Sort) → ((v : Variable) → o ≡ Some v → is_scalar v.1 ≡ true) → is_type (option_map (λ x. x.1) o) t ≡ true → (v : Variable) × (o ≡ Some v) × (v.1 ≡ t)
-  declared_as None t all h = absurd (cc)
-  declared_as (Some v) t all h = (v, refl, one_type v.1 t h)
+  -- a variable of a type is there
+  declared_as : (o : Option Variable) (t : Sort) → is_type (option_map (λ x. x.1) o) t ≡ true → (v : Variable) × (o ≡ Some v) × (v.1 ≡ t)
+  declared_as None t h = absurd (cc)
+  declared_as (Some v) t h = (v, refl, one_type v.1 t h)
 
+  -- a local reads as its own type, since that has no None
   reads_itself : (k : Bool) (s : Sort) → is_scalar s ≡ true → reads_as k s ≡ s
   reads_itself false s h = refl
   reads_itself true sort.I64 h = refl
@@ -125,7 +127,7 @@ module _ (m : TypedModule) (vs : List Variable) (init : Option ℕ) where
 
   local_suits : AllScalar → (known : List ℕ) (i : ℕ) (t : Sort) → rule m vs init known (Local i) t ≡ true → (v : Variable) × (slice_get vs i ≡ Some v) × (v.1 ≡ t)
   local_suits scalars known i t r =
-      ⊎_elim (declared_as (slice_get vs i) t (scalars i)) (read_as (is_in known i) (slice_get vs i) t (scalars i))
+      ⊎_elim (declared_as (slice_get vs i) t) (read_as (is_in known i) (slice_get vs i) t (scalars i))
       (either_of (is_type (declared vs i) t) (is_type (option_map (reads_as (is_in known i)) (declared vs i)) t) r)
 
   signed_by : (o : Option Signature) (ss : List Sort) (t : Sort) → call_fits m vs init o ss t ≡ true → (s : Signature) × (o ≡ Some s) × (ss ≡ s.params) × (s.ret ≡ t)
@@ -151,6 +153,7 @@ module _ (m : TypedModule) (vs : List Variable) (init : Option ℕ) where
       pub well_typed_node : (testing : Bool) (known : List ℕ) (n : TypedNode) (t : Sort) → parts_typed m vs init testing known n ≡ true → rule m vs init known n t ≡ true → is_compiled_node n t ≡ true → NodeSuits m vs n t
       well_typed_node testing known (Flag b) t p r c = bool_is t c
       well_typed_node testing known (Local i) t p r c = let v = local_suits scalars known i t r in (c, v.0, v.1, v.2)
+      well_typed_node testing known (Global i) t p r c = let v = declared_as (slice_get m.globals i) t r in (c, v.0, v.1, v.2)
       well_typed_node testing known (Neg e) t p r c =
           let is = i64_is t (and_left _ _ c) in
           (is, join_is (type_of e) (sym (one_type t (number_join (type_of e) sort.Int) (and_right _ _ r)) ∙ is), well_typed_suits false known e p (and_right _ _ c))

@@ -23,12 +23,11 @@ module _ (m : TypedModule) (vs : List Variable) (e : TExpr) (suits : Suits m vs 
   suited : (k : TKind-F TKind TExpr) → roll-TKind k ≡ e.kind → NodeSuits m vs (node_step (kind.map-TKind TKind TExpr TypedNode TypedExpr typed_node typed_expr k)) (sort_of e.ty)
   suited k is = asked m vs e (node_step (kind.map-TKind TKind TExpr TypedNode TypedExpr typed_node typed_expr k)) (typed_expr_of e (roll-TKind k) (sym is) ∙ ap (λ n. typed n (sort_of e.ty) e.span) (fold-roll-TKind TypedNode TypedExpr node_step expr_step k)) suits
 
-  module _ (no_flag : (b : Bool) → e.kind ≡ kind.Bool b → ⊥) (no_local : (i : ℕ) → e.kind ≡ kind.Local i → ⊥) (no_neg : (a : Part) → e.kind ≡ kind.Neg a → ⊥) (no_inverted : (a : Part) → e.kind ≡ kind.Not a → ⊥) (no_truth : (a : Part) → e.kind ≡ kind.Truth a → ⊥) (no_arith : (o : BinOp) (a b : Part) → e.kind ≡ kind.Arith o a b → ⊥) (no_compare : (a : Part) (cs : List (CmpOp × TExpr)) → e.kind ≡ kind.Compare a cs → ⊥) (no_conj : (a b : Part) → e.kind ≡ kind.And a b → ⊥) (no_disj : (a b : Part) → e.kind ≡ kind.Or a b → ⊥) (no_choice : (a test b : Part) → e.kind ≡ kind.Cond a test b → ⊥) (no_call : (f : ℕ) (es : List TExpr) → e.kind ≡ kind.Call f es → ⊥) (no_coerce : (a : Part) → e.kind ≡ kind.Coerce a → ⊥) where
+  module _ (no_flag : (b : Bool) → e.kind ≡ kind.Bool b → ⊥) (no_local : (i : ℕ) → e.kind ≡ kind.Local i → ⊥) (no_global : (i : ℕ) → e.kind ≡ kind.Global i → ⊥) (no_neg : (a : Part) → e.kind ≡ kind.Neg a → ⊥) (no_inverted : (a : Part) → e.kind ≡ kind.Not a → ⊥) (no_truth : (a : Part) → e.kind ≡ kind.Truth a → ⊥) (no_arith : (o : BinOp) (a b : Part) → e.kind ≡ kind.Arith o a b → ⊥) (no_compare : (a : Part) (cs : List (CmpOp × TExpr)) → e.kind ≡ kind.Compare a cs → ⊥) (no_conj : (a b : Part) → e.kind ≡ kind.And a b → ⊥) (no_disj : (a b : Part) → e.kind ≡ kind.Or a b → ⊥) (no_choice : (a test b : Part) → e.kind ≡ kind.Cond a test b → ⊥) (no_call : (f : ℕ) (es : List TExpr) → e.kind ≡ kind.Call f es → ⊥) (no_coerce : (a : Part) → e.kind ≡ kind.Coerce a → ⊥) where
     unsuited : (k : TKind-F TKind TExpr) → roll-TKind k ≡ e.kind → ⊥
     unsuited (TKind-F.Int n) is = suited (TKind-F.Int n) is
     unsuited (TKind-F.Str text) is = suited (TKind-F.Str text) is
     unsuited TKind-F.Nothing is = suited TKind-F.Nothing is
-    unsuited (TKind-F.Global i) is = suited (TKind-F.Global i) is
     unsuited (TKind-F.Concat a b) is = suited (TKind-F.Concat a b) is
     unsuited (TKind-F.List es) is = suited (TKind-F.List es) is
     unsuited (TKind-F.Dict es) is = suited (TKind-F.Dict es) is
@@ -48,6 +47,7 @@ module _ (m : TypedModule) (vs : List Variable) (e : TExpr) (suits : Suits m vs 
     unsuited (TKind-F.Pop a) is = suited (TKind-F.Pop a) is
     unsuited (TKind-F.Bool b) is = no_flag b (sym is ∙ variant.rolls-Bool b)
     unsuited (TKind-F.Local i) is = no_local i (sym is ∙ variant.rolls-Local i)
+    unsuited (TKind-F.Global i) is = no_global i (sym is ∙ variant.rolls-Global i)
     unsuited (TKind-F.Neg a) is = no_neg a (sym is ∙ variant.rolls-Neg a)
     unsuited (TKind-F.Not a) is = no_inverted a (sym is ∙ variant.rolls-Not a)
     unsuited (TKind-F.Truth a) is = no_truth a (sym is ∙ variant.rolls-Truth a)

@@ -1,5 +1,5 @@
 -- The code of a declared expression of each kind, and what its parts need.
-use Rattle.std.proofs.Common.{◌≡◌, refl, sym, ◌∙◌, ap, subst, ℕ, ◌<◌, ◌≤◌, arith, Bool, true, false, List, [], ◌∷◌, length, map, Option, Some, None}
+use Rattle.std.proofs.Common.{◌≡◌, refl, sym, ◌∙◌, ap, subst, ℕ, ◌<◌, Bool, true, false, List, [], ◌∷◌, length, map, Option, Some, None}
 use Rattle.std.specs.Prelude.{ℤ, slice_get}
 use Rattle.std.specs.declared.boxed.Box.{Box}
 use Rattle.std.specs.declared.alloc.Global.{Global}
@@ -30,14 +30,14 @@ use Rattle.ir_frames.specs.Shaped.{AllBelow, Keeps}
 use Rattle.ir_frames.specs.Kinds.{Surrounding, Calls, KeepsKindsIf}
 use Rattle.ir_frames.proofs.HeldLemmas.{get_below, type_below}
 use Rattle.ir_expressions.specs.Compiled.{is_scalar, is_bool, is_built, literal_in}
-use Rattle.ir_expressions.specs.Suiting.{Suits, OperandSuits, Operand, SomeSuit, SomeChain}
+use Rattle.ir_expressions.specs.Suiting.{IsScalarAt, Suits, OperandSuits, Operand, SomeSuit, SomeChain}
 use Rattle.ir_expressions.specs.Operating.{Negates, Inverts, Numbers, Asks, Operates, TestsValue, FitsIfLiteral, literal_of_truth}
-use Rattle.ir_expressions.specs.Reading.{EmitsLocal}
+use Rattle.ir_expressions.specs.Reading.{EmitsLocal, EmitsGlobal}
 use Rattle.ir_expressions.specs.Emitting.{Emits, EmitsNumber, EmitsAll, EmitsAnyChain}
 use Rattle.ir_expressions.specs.Walking.{Walks}
 use Rattle.ir_expressions.specs.Choices.{Opens, Brings, Meets}
-use Rattle.ir_expressions.proofs.ArmLemmas.{asked, emits_as, is_bool as is_flag, is_local, is_neg, is_not, is_truth, is_arith, is_compare, is_and, is_or, is_cond, is_call, is_coerce}
-use Rattle.ir_expressions.proofs.NodeLemmas.{flag_emits, literal_emits, local_emits, neg_emits, not_emits, truth_emits, arith_emits, i64_number, bool_number, coerce_emits, and_emits, or_emits, cond_emits, bool_sort, i64_sort}
+use Rattle.ir_expressions.proofs.ArmLemmas.{asked, emits_as, is_bool as is_flag, is_local, is_global, is_neg, is_not, is_truth, is_arith, is_compare, is_and, is_or, is_cond, is_call, is_coerce}
+use Rattle.ir_expressions.proofs.NodeLemmas.{flag_emits, literal_emits, neg_emits, not_emits, truth_emits, arith_emits, i64_number, bool_number, coerce_emits, and_emits, or_emits, cond_emits, bool_sort, i64_sort}
 use Rattle.ir_expressions.proofs.ChainLemmas.{compare_emits}
 use Rattle.ir_expressions.proofs.CallLemmas.{call_emits}
 use Rattle.ir_expressions.proofs.ArgumentLemmas.{suit_types}
@@ -65,6 +65,16 @@ module _ (x : Setting) (e : TExpr) (suits : Suits x.source x.variables (typed_ex
   local_walked i b c r is own q =
       let n = asked x.source x.variables e (tree.Local i) (is_local e i is) suits in
       subst (λ z. Emits x (typed_expr e) b c z) (sym own) (emits_as x e (tree.Local i) (sort_of e.ty) b c i (is_local e i is) refl (q x.source (sort_of e.ty) e.span n))
+
+  pub global_scalar : (i : ℕ) → e.kind ≡ kind.Global i → IsScalarAt x.source.globals i
+  global_scalar i is =
+      let n = asked x.source x.variables e (tree.Global i) (is_global e i is) suits in
+      (n.1, n.2, subst (λ t. is_scalar t ≡ true) (sym n.3) n.0)
+
+  pub global_walked : (i : ℕ) (b c : Building) (r : ℕ) → e.kind ≡ kind.Global i → HasRoom x b → EmitsGlobal x.source i b c r → Emits x (typed_expr e) b c r
+  global_walked i b c r is room q =
+      let n = asked x.source x.variables e (tree.Global i) (is_global e i is) suits in
+      emits_as x e (tree.Global i) (sort_of e.ty) b c r (is_global e i is) refl (q x.variables x.frame (sort_of e.ty) e.span room n)
 
   -- ---- operators
 

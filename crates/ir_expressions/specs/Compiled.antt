@@ -7,7 +7,7 @@ use Rattle.py_syntax.specs.declared.expression.CmpOp.{CmpOp}
 use Rattle.py_syntax.specs.declared.expression.CmpOp.TheVariants.{Eq, Ne, Lt, Le, Gt, Ge}
 use Rattle.py_typed.specs.Sorts as sort
 use Rattle.py_typed.specs.Sorts.{Sort}
-use Rattle.py_typed.specs.Expressions.{TypedExpr, typed, TypedNode, Int, Flag, Local, Neg, Not, Truth, Arith, Compare, And, Or, Cond, Call, Coerce, TypedExprs, no_exprs, expr_then, Comparisons, no_comparisons, comparison_then, type_of}
+use Rattle.py_typed.specs.Expressions.{TypedExpr, typed, TypedNode, Int, Flag, Local, Global, Neg, Not, Truth, Arith, Compare, And, Or, Cond, Call, Coerce, TypedExprs, no_exprs, expr_then, Comparisons, no_comparisons, comparison_then, type_of}
 
 abbrev pub is_i64 : Sort → Bool
 is_i64 sort.I64 = true
@@ -69,6 +69,7 @@ abbrev mutual
   pub is_compiled_node : TypedNode → Sort → Bool
   is_compiled_node (Flag b) t = is_bool t
   is_compiled_node (Local i) t = is_scalar t
+  is_compiled_node (Global i) t = is_scalar t
   is_compiled_node (Neg e) t = is_i64 t && is_compiled e
   is_compiled_node (Not e) t = is_bool t && is_compiled e
   is_compiled_node (Truth e) t = is_bool t && is_compiled e

@@ -44,7 +44,7 @@ EmitsAll x ts es old new rs = ComputesAll x ts (means_all x es) old new rs
 pub record EmitsChain (x : Setting) (s : Sort) (first : ℕ) (more : Comparisons) (old new : Building) (r : ℕ) : Type 0 where
   pub extends : Extends old new
   pub type : HasType new r rtype.Bool
-  pub runs : (p : Program) (fn : ℕ) (h : Option ℕ) → Placed p fn old new h → (n : ℕ) → CallsWork p x.source n → (regs : Regs) (below : List Waiting) (st : State) (v : Value) → Matches x regs st.locals → st.turns ≤ n → ShowsNumber s v (regs first) → Ends p st.turns (running fn (length old.blocks) (length old.ops) regs below (world None st)) (means_chain x s v more n st) (Arrives (Shows Bool) fn (length new.blocks) (length new.ops) below (length old.regs) regs st.locals r) (IsThrown fn h below x (length old.regs) regs)
+  pub runs : (p : Program) (fn : ℕ) (h : Option ℕ) → Placed p fn old new h → (n : ℕ) → CallsWork p x.source n → (regs : Regs) (below : List Waiting) (st : State) (v : Value) → Matches x regs st → st.turns ≤ n → ShowsNumber s v (regs first) → Ends p st.turns (running fn (length old.blocks) (length old.ops) regs below (world None st)) (means_chain x s v more n st) (Arrives (Shows Bool) fn (length new.blocks) (length new.ops) below (length old.regs) regs x st r) (IsThrown fn h below x (length old.regs) regs)
 
 -- whatever type the operand has that the comparisons suit
 abbrev pub EmitsAnyChain : Setting → ℕ → Comparisons → Building → Building → ℕ → Type 0

@@ -1,4 +1,5 @@
--- Reading a variable. Where it may be unset its flag is tested first.
+-- Reading a variable. Where one of the function may be unset its flag is tested first; one of the module is read from its global,
+-- which fails where it is unset.
 use Rattle.std.specs.Prelude.{◌≡◌, ℕ, List, [], ◌∷◌, length, Option, Some, None}
 use Rattle.value_core.specs.Value.{Value}
 use Rattle.c_core.specs.Step.{unbound}
@@ -8,7 +9,7 @@ use Rattle.py_syntax.specs.declared.token.Span.{Span}
 use Rattle.py_typed.specs.Sorts.{Sort}
 use Rattle.py_typed.specs.State.{State}
 use Rattle.py_typed.specs.Statements.{Variable, TypedModule}
-use Rattle.py_typed.specs.Expressions.{typed, Local}
+use Rattle.py_typed.specs.Expressions.{typed, Local, Global}
 use Rattle.ir_core.specs.declared.code.Op.{Op}
 use Rattle.ir_core.specs.declared.code.Op.TheVariants.{Prim}
 use Rattle.ir_core.specs.declared.code.PArg.TheVariants.{Text}
@@ -47,3 +48,8 @@ HasRegisters vs frame b = (m : TypedModule) × HasRoom (setting_in m vs frame) b
 abbrev pub EmitsLocal : List Variable → Frame → ℕ → Building → Building → ℕ → Type 0
 EmitsLocal vs frame i old new r =
     (m : TypedModule) (t : Sort) (place : Span) → Suits m vs (typed (Local i) t place) → Emits (setting_in m vs frame) (typed (Local i) t place) old new r
+
+-- the code of the module's variable of a number, in whatever function
+abbrev pub EmitsGlobal : TypedModule → ℕ → Building → Building → ℕ → Type 0
+EmitsGlobal m i old new r =
+    (vs : List Variable) (frame : Frame) (t : Sort) (place : Span) → HasRoom (setting_in m vs frame) old → Suits m vs (typed (Global i) t place) → Emits (setting_in m vs frame) (typed (Global i) t place) old new r

@@ -1,13 +1,17 @@
 -- What is asked of an expression that is built: its form is one of those that are compiled, and its parts have the types of a
 -- well-typed one, in a function of a module with some variables.
-use Rattle.std.specs.Prelude.{◌≡◌, ℤ, true, List, [], ◌∷◌, Option, Some, None, slice_get}
+use Rattle.std.specs.Prelude.{◌≡◌, ℕ, ℤ, true, List, [], ◌∷◌, Option, Some, None, slice_get}
 use Rattle.value_core.specs.Arithmetic.{lies_within}
 use Rattle.py_typed.specs.Sorts as sort
 use Rattle.py_typed.specs.Sorts.{Sort}
 use Rattle.py_typed.specs.Statements.{Variable, TypedFunc, TypedModule}
-use Rattle.py_typed.specs.Expressions.{TypedExpr, typed, TypedNode, Flag, Local, Neg, Not, Truth, Arith, Compare, And, Or, Cond, Call, Coerce, TypedExprs, no_exprs, expr_then, Comparisons, no_comparisons, comparison_then, type_of, exprs_of}
+use Rattle.py_typed.specs.Expressions.{TypedExpr, typed, TypedNode, Flag, Local, Global, Neg, Not, Truth, Arith, Compare, And, Or, Cond, Call, Coerce, TypedExprs, no_exprs, expr_then, Comparisons, no_comparisons, comparison_then, type_of, exprs_of}
 use Rattle.ir_frames.specs.Matching.{parameter_sorts}
 use Rattle.ir_expressions.specs.Compiled.{is_scalar, is_result, is_built, is_ordering, literal_in, is_pair}
+
+-- the variable of a number is a native integer or a bool
+abbrev pub IsScalarAt : List Variable → ℕ → Type 0
+IsScalarAt vs i = (v : Variable) × (slice_get vs i ≡ Some v) × (is_scalar v.1 ≡ true)
 
 -- an operand: a literal that is an `i64`, or what suits
 abbrev pub OperandSuits : Option ℤ → Sort → Type 0 → Type 0
@@ -22,6 +26,7 @@ module _ (m : TypedModule) (vs : List Variable) where
     pub NodeSuits : TypedNode → Sort → Type 0
     NodeSuits (Flag b) t = t ≡ sort.Bool
     NodeSuits (Local i) t = (is_scalar t ≡ true) × (v : Variable) × (slice_get vs i ≡ Some v) × (v.1 ≡ t)
+    NodeSuits (Global i) t = (is_scalar t ≡ true) × (v : Variable) × (slice_get m.globals i ≡ Some v) × (v.1 ≡ t)
     NodeSuits (Neg e) t = (t ≡ sort.I64) × (type_of e ≡ sort.I64) × Suits e
     NodeSuits (Not e) t = (t ≡ sort.Bool) × (type_of e ≡ sort.Bool) × Suits e
     NodeSuits (Truth e) t = (t ≡ sort.Bool) × (type_of e ≡ sort.I64) × Suits e

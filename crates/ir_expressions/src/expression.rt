@@ -16,6 +16,7 @@ ghost use Rattle.ir_expressions.specs.Emitting.{Emits, EmitsNumber, EmitsAll, Em
 
 use crate::chain::{begin_link, meet_links};
 use crate::choice::{begin, meet, turn};
+use crate::global::emit_global;
 use crate::local::emit_local;
 use crate::operations::{
     emit_arithmetic, emit_comparison, emit_inversion, emit_negation, emit_number, emit_test,
@@ -50,6 +51,7 @@ pub fn emit_expression(
     match &e.kind {
         TKind::Bool(value) => b.literal(RType::Bool, truth(*value), line),
         TKind::Local(i) => emit_local(b, alloc, locals, frame, *i, line),
+        TKind::Global(i) => emit_global(b, alloc, checked, *i, line),
         TKind::Neg(x) => {
             let x = emit_expression(b, alloc, checked, locals, frame, x, line)?;
             emit_negation(b, alloc, x, line)

@@ -11,11 +11,13 @@
 mod chain;
 mod choice;
 mod expression;
+mod global;
 mod local;
 mod operations;
 
 pub use choice::{Choice, begin, meet, turn};
 pub use expression::{emit_expression, emit_operand};
+pub use global::emit_global;
 pub use local::emit_local;
 pub use operations::{
     emit_arithmetic, emit_comparison, emit_inversion, emit_negation, emit_number, emit_test,

@@ -16,12 +16,12 @@ use Rattle.ir_expressions.specs.Emitting.{Emits, EmitsNumber, EmitsAll, EmitsAny
 use Rattle.ir_expressions.specs.Walking.{Walks}
 use Rattle.ir_expressions.proofs.ArmLemmas.{neg_part, not_part, truth_part, arith_left, arith_right, compare_first, and_left, and_right, or_left, or_right, cond_first, cond_test, cond_second, coerce_part}
 use Rattle.ir_expressions.proofs.OpenLemmas.{meet_ready}
-use Rattle.ir_expressions.proofs.WalkingLemmas.{walks_known, meets_grow, walks_refl, walks_trans, walks_if, walks_by, then_by, then_if, plain_type, turned, met, truth_fits, number_fits}
+use Rattle.ir_expressions.proofs.WalkingLemmas.{walks_known, meets_grow, walks_trans, walks_if, walks_by, then_by, then_if, plain_type, turned, met, truth_fits, number_fits}
 use Rattle.ir_expressions.proofs.ArgumentLemmas.{argument_suits, passing_none, passing_on, passing_ends}
 use Rattle.ir_expressions.proofs.GoingLemmas.{going_walks, going_start, going_at, going_on, going_over, first_suits, item_suits, chain_empty, Chain}
 use Rattle.ir_expressions.proofs.WeightLemmas.{weight_of_all, weight_of_chain, same_weight, neg_weight, not_weight, truth_weight, coerce_weight, arith_weight, compare_weight, and_weight, or_weight, cond_weight, call_weight, member_weight, first_weight, later_weight}
 use Rattle.ir_expressions.proofs.UnsuitedLemmas.{none_left}
-use Rattle.ir_expressions.proofs.WalkLemmas.{part_type, arith_built, and_made, or_made, choice_made, flag_walked, local_below, local_walked, neg_type, neg_walked, not_type, not_walked, truth_type, truth_walked, arith_walked, compare_rest, compare_walked, and_scalar, and_same, and_walked, or_scalar, or_same, or_walked, cond_scalar, cond_same, cond_flag, cond_walked, call_suits, call_below, call_walked, call_walks, coerce_walked, operand_fits, operand_part, operand_scalar, literal_within, literal_walked, flag_type, flag_number, own_number, emits_same, number_same, suits_same, operand_same, scalar_same, sort_same, sorts_same}
+use Rattle.ir_expressions.proofs.WalkLemmas.{part_type, arith_built, and_made, or_made, choice_made, flag_walked, local_below, local_walked, global_scalar, global_walked, neg_type, neg_walked, not_type, not_walked, truth_type, truth_walked, arith_walked, compare_rest, compare_walked, and_scalar, and_same, and_walked, or_scalar, or_same, or_walked, cond_scalar, cond_same, cond_flag, cond_walked, call_suits, call_below, call_walked, call_walks, coerce_walked, operand_fits, operand_part, operand_scalar, literal_within, literal_walked, flag_type, flag_number, own_number, emits_same, number_same, suits_same, operand_same, scalar_same, sort_same, sorts_same}
 use Rattle.ir_expressions.proofs.expression.+expression.Goals as goal
 
 pub emit_expression-returns-in-Bool : goal.emit_expression-returns-in-Bool
@@ -44,6 +44,17 @@ emit_expression-returns-in-Local t c =
     let x : Setting = setting c.args.checked.now c.args.locals.now c.args.frame in
     let e = c.emit_local.ensures in
     record { kept = e.kept; emitted = ok_join _ _ _ _ (λ (r : Reg) is q. local_walked x c.args.e.now c.requires.suits c.in-Local.i _ _ r.0 c.in-Local.is is q) e.is e.emitted; shaped = e.shaped; kinds = λ g among h. e.kinds g h }
+
+pub emit_expression-emit_global-requires : goal.emit_expression-emit_global-requires
+emit_expression-emit_global-requires t c =
+    let x : Setting = setting c.args.checked.now c.args.locals.now c.args.frame in
+    record { scalar = global_scalar x c.args.e.now c.requires.suits c.in-Global.i c.in-Global.is }
+
+pub emit_expression-returns-in-Global : goal.emit_expression-returns-in-Global
+emit_expression-returns-in-Global t c =
+    let x : Setting = setting c.args.checked.now c.args.locals.now c.args.frame in
+    let e = c.emit_global.ensures in
+    record { kept = e.kept; emitted = ok_map _ _ _ (λ (r : Reg) q. global_walked x c.args.e.now c.requires.suits c.in-Global.i _ _ r.0 c.in-Global.is c.requires.room q) e.emitted; shaped = e.shaped; kinds = e.kinds }
 
 pub emit_expression-emit_expression-requires : goal.emit_expression-emit_expression-requires
 emit_expression-emit_expression-requires t c =
@@ -292,7 +303,7 @@ emit_expression-unreachable-requires t c =
     let m : TypedModule = typed_module c.args.checked.now in
     let vs : List Variable = map variable c.args.locals.now in
     let d = c.in_default in
-    none_left m vs c.args.e.now c.requires.suits d.not-Bool d.not-Local d.not-Neg d.not-Not d.not-Truth d.not-Arith d.not-Compare d.not-And d.not-Or d.not-Cond d.not-Call d.not-Coerce
+    none_left m vs c.args.e.now c.requires.suits d.not-Bool d.not-Local d.not-Global d.not-Neg d.not-Not d.not-Truth d.not-Arith d.not-Compare d.not-And d.not-Or d.not-Cond d.not-Call d.not-Coerce
 
 pub emit_operand-literal_of-requires : goal.emit_operand-literal_of-requires
 emit_operand-literal_of-requires t c =
