@@ -1,7 +1,10 @@
 -- What the parts of the code of statements are, one behind another.
-use Rattle.std.specs.Prelude.{◌≡◌, ◌<◌, ◌≤◌, ℕ, List, [], ◌∷◌, ◌++◌, length, Option, Some, None, slice_get}
-use Rattle.py_typed.specs.Expressions.{TypedExpr, type_of}
-use Rattle.py_typed.specs.Statements.{Variable, TypedTarget, LocalTarget}
+use Rattle.std.specs.Prelude.{◌≡◌, ◌<◌, ◌≤◌, ℕ, true, List, [], ◌∷◌, ◌++◌, length, Option, Some, None, slice_get}
+use Rattle.py_syntax.specs.declared.token.Span.{Span}
+use Rattle.py_typed.specs.Sorts as sort
+use Rattle.py_typed.specs.Sorts.{Sort}
+use Rattle.py_typed.specs.Expressions.{TypedExpr, typed, Local, Global, type_of}
+use Rattle.py_typed.specs.Statements.{Variable, TypedModule, TypedTarget, LocalTarget, GlobalTarget}
 use Rattle.ir_core.specs.declared.code.Last.TheVariants.{Goto, If, Unreachable}
 use Rattle.ir_core.specs.declared.code.Op.TheVariants.{Turn}
 use Rattle.ir_core.specs.Building.{Building, with_last}
@@ -12,6 +15,9 @@ use Rattle.ir_frames.specs.Placing.{HasType}
 use Rattle.ir_frames.specs.Matching.{flag_of, HasRoom}
 use Rattle.ir_frames.specs.Calling.{Pushes, Closes}
 use Rattle.ir_frames.specs.Computing.{Shows, Computes}
+use Rattle.ir_expressions.specs.Compiled.{is_scalar}
+use Rattle.ir_expressions.specs.Emitting.{Emits}
+use Rattle.ir_expressions.specs.Reading.{setting_in}
 use Rattle.ir_statements.specs.declared.ways.Way.TheVariants.{Join}
 use Rattle.ir_statements.specs.declared.ways.Exit.{Exit}
 use Rattle.ir_statements.specs.declared.ways.Plan.{Plan}
@@ -20,25 +26,47 @@ use Rattle.ir_statements.specs.Simple.{Sets}
 use Rattle.ir_statements.specs.Runs.{Patching}
 use Rattle.ir_statements.specs.Ways.{planned, left}
 use Rattle.ir_bodies.specs.declared.branch.Test.{Test}
+use Rattle.ir_bodies.specs.Suiting.{IsVariable}
 
--- a variable alone is assigned to
-abbrev pub IsLocal : TypedTarget → Type 0
-IsLocal (LocalTarget i) = Unit {0}
-IsLocal target = ⊥
-
-abbrev pub IsOneLocal : List TypedTarget → Type 0
-IsOneLocal (target ∷ []) = IsLocal target
-IsOneLocal targets = ⊥
+-- ---- variables that are read and set
 
 -- the flag of a variable is there, where it is no parameter
 abbrev pub HasFlag : Frame → ℕ → Building → Type 0
 HasFlag frame k b =
     frame.locals.params ≤ k → (flag_of frame.locals k < frame.locals.top) × HasType b (flag_of frame.locals k) Bool
 
--- a value in a register is put into the variable of a number, whatever its type is
-abbrev pub SetsVariable : Frame → ℕ → ℕ → Building → Building → Type 0
-SetsVariable frame k r old new =
-    (x : Setting) (v : Variable) → x.frame ≡ frame → HasRoom x old → slice_get x.variables k ≡ Some v → HasType old r (rtype_of v.1) → Sets x k v.1 r old new
+-- a value in a register is put into the function's variable of a number, whatever its type is
+abbrev pub SetsLocal : Frame → ℕ → ℕ → Building → Building → Type 0
+SetsLocal frame k r old new =
+    (x : Setting) (v : Variable) → x.frame ≡ frame → HasRoom x old → slice_get x.variables k ≡ Some v → HasType old r (rtype_of v.1) → Sets x (LocalTarget k) v.1 r old new
+
+-- the module's variable of a number is a native integer or a bool, and a register has its type
+abbrev pub TakesGlobal : TypedModule → ℕ → ℕ → Building → Type 0
+TakesGlobal m i r b =
+    (v : Variable) × (slice_get m.globals i ≡ Some v) × (is_scalar v.1 ≡ true) × HasType b r (rtype_of v.1)
+
+-- a value in a register is put into the module's variable of a number
+abbrev pub SetsGlobal : TypedModule → ℕ → ℕ → Building → Building → Type 0
+SetsGlobal m i r old new =
+    (x : Setting) (v : Variable) → x.source ≡ m → slice_get m.globals i ≡ Some v → HasType old r (rtype_of v.1) → Sets x (GlobalTarget i) v.1 r old new
+
+-- a target is a variable that is a native integer or a bool, and a register has its type
+abbrev pub TakesRegister : TypedModule → Frame → TypedTarget → ℕ → Building → Type 0
+TakesRegister m frame target r b =
+    (vs : List Variable) × (t : Sort) × HasRoom (setting_in m vs frame) b × IsVariable m vs None target t × (is_scalar t ≡ true) × HasType b r (rtype_of t)
+
+-- a value in a register is put into the variable that a target is, in whatever function with this frame
+abbrev pub SetsVariable : TypedModule → Frame → TypedTarget → ℕ → Building → Building → Type 0
+SetsVariable m frame target r old new =
+    (vs : List Variable) (t : Sort) → HasRoom (setting_in m vs frame) old → IsVariable m vs None target t → HasType old r (rtype_of t) → Sets (setting_in m vs frame) target t r old new
+
+-- a native integer is read from the variable that a target is
+abbrev pub ReadsVariable : Setting → TypedTarget → Building → Building → ℕ → Type 0
+ReadsVariable x (LocalTarget k) old new r = (place : Span) → Emits x (typed (Local k) sort.I64 place) old new r
+ReadsVariable x (GlobalTarget i) old new r = (place : Span) → Emits x (typed (Global i) sort.I64 place) old new r
+ReadsVariable x target old new r = ⊥
+
+-- ---- values and tests
 
 -- the value of a return, or None, was computed
 abbrev pub ComputesReturned : Setting → Option TypedExpr → Building → Building → ℕ → Type 0

@@ -4,7 +4,7 @@ use Rattle.std.specs.Prelude.{◌≡◌, Bool, true, List, [], ◌∷◌, Option
 use Rattle.py_typed.specs.Sorts as sort
 use Rattle.py_typed.specs.Sorts.{Sort}
 use Rattle.py_typed.specs.Expressions.{TypedExpr, typed, Print, TypedExprs, no_exprs, expr_then, type_of}
-use Rattle.py_typed.specs.Statements.{Variable, TypedModule, TypedTarget, LocalTarget, TypedStmt, on_line, TypedAct, Do, Assign, Aug, If, While, Return, Break, Continue, Pass, TypedSuite, no_stmts, stmt_then, Arms, no_arms, arm_then}
+use Rattle.py_typed.specs.Statements.{Variable, TypedModule, TypedTarget, LocalTarget, GlobalTarget, TypedStmt, on_line, TypedAct, Do, Assign, Aug, If, While, Return, Break, Continue, Pass, TypedSuite, no_stmts, stmt_then, Arms, no_arms, arm_then}
 use Rattle.ir_core.specs.declared.code.RType.{RType}
 use Rattle.ir_core.specs.declared.code.RType.TheVariants.{Ref}
 use Rattle.ir_frames.specs.Settings.{rtype_of}
@@ -23,9 +23,10 @@ module _ (m : TypedModule) (vs : List Variable) (gives : Option RType) where
   DoSuits (typed (Print es) t place) = PrintSuits es
   DoSuits e = Suits m vs e
 
-  -- the variable of a number has this type
+  -- the variable of a number, of the function or of the module, has this type
   abbrev pub IsVariable : TypedTarget → Sort → Type 0
   IsVariable (LocalTarget i) t = (v : Variable) × (slice_get vs i ≡ Some v) × (v.1 ≡ t)
+  IsVariable (GlobalTarget i) t = (v : Variable) × (slice_get m.globals i ≡ Some v) × (v.1 ≡ t)
   IsVariable target t = ⊥
 
   abbrev pub IsOnly : List TypedTarget → Sort → Type 0

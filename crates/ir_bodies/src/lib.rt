@@ -11,5 +11,6 @@ mod branch;
 mod exits;
 mod simple;
 mod statement;
+mod variables;
 
 pub use statement::emit_block;

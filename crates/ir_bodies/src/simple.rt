@@ -1,67 +1,30 @@
 //! The code of simple statements.
-ghost use Rattle.std.specs.Prelude.{◌≡◌, ◌≢◌, ◌≤◌, ◌∷◌, [], true, map, length, Option, Some, None, IfOk, OnOk};
+ghost use Rattle.std.specs.Prelude.{◌≡◌, ◌≢◌, ◌≤◌, [], true, map, length, Option, Some, None, IfOk, OnOk};
 ghost use Rattle.py_typed.specs.Sorts.{I64};
 ghost use Rattle.py_typed.specs.Expressions.{typed_expr, type_of};
-ghost use Rattle.py_typed.specs.Statements.{typed_module, typed_target, maybe_typed, variable, LocalTarget};
+ghost use Rattle.py_typed.specs.Statements.{typed_module, typed_target, maybe_typed, variable};
 ghost use Rattle.ir_core.specs.declared.code.RType.{RType};
 ghost use Rattle.ir_core.specs.Building.{Extends};
 ghost use Rattle.ir_frames.specs.Settings.{setting, rtype_of};
 ghost use Rattle.ir_frames.specs.Matching.{HasRoom};
 ghost use Rattle.ir_frames.specs.Shaped.{Keeps};
-ghost use Rattle.ir_frames.specs.Kinds.{IsAmong, AreAlike, KeepsKindsIf, Surrounding, HasKinds};
+ghost use Rattle.ir_frames.specs.Kinds.{IsAmong, KeepsKindsIf, Surrounding, HasKinds};
 ghost use Rattle.ir_expressions.specs.Compiled.{is_scalar, is_built};
 ghost use Rattle.ir_expressions.specs.Suiting.{Suits, Operand};
 ghost use Rattle.ir_statements.specs.Means.{means_assignment, means_update, means_return, returned_type};
 ghost use Rattle.ir_statements.specs.Runs.{Works};
 ghost use Rattle.ir_bodies.specs.Suiting.{IsVariable, IsOnly, ReturnSuits};
 ghost use Rattle.ir_bodies.specs.Kinds.{IsAround};
-ghost use Rattle.ir_bodies.specs.Parts.{IsLocal, IsOneLocal, HasFlag, SetsVariable, ComputesReturned};
+ghost use Rattle.ir_bodies.specs.Parts.{ComputesReturned};
 
-use ir_core::{Last, Lit, Op, RType, Reg};
-use ir_expressions::{emit_arithmetic, emit_expression, emit_local, emit_operand};
+use crate::variables::{emit_read, emit_set};
+use ir_core::{Last, Lit, RType, Reg};
+use ir_expressions::{emit_arithmetic, emit_expression, emit_operand};
 use ir_frames::{Emitter, Frame};
 use py_syntax::BinOp;
 use py_typed::{Checked, TExpr, Target, Var};
 use std::alloc::Global;
 use value_core::Memory;
-
-// The number of a variable that is assigned to.
-fn variable_of(target: &Target) -> usize
-    requires { IsLocal (typed_target target.now) }
-    ensures { typed_target target.now ≡ LocalTarget result }
-{
-    match target {
-        Target::Local(k) => *k,
-        _ => unreachable!(),
-    }
-}
-
-// The number of the variable that alone is assigned to.
-fn only_variable_of(targets: &[Target]) -> usize
-    requires { IsOneLocal (map typed_target targets.now) }
-    ensures { map typed_target targets.now ≡ LocalTarget result ∷ [] }
-{
-    match targets {
-        [target] => variable_of(target),
-        _ => unreachable!(),
-    }
-}
-
-// Puts a value into a variable. The flag of one that is no parameter is set behind it.
-fn emit_set(b: &mut Emitter, frame: Frame, k: usize, r: Reg, line: usize) -> Result<(), Memory>
-    requires { HasFlag frame k b.old }
-    ensures kept { Extends b.old b.new }
-    ensures sets { OnOk result (SetsVariable frame k r.0 b.old b.new) }
-    ensures shaped { Keeps b.old b.new }
-    ensures kinds { KeepsKindsIf (λ g. AreAlike b.old.regs (record { 0 = k }) r) b.old b.new }
-{
-    b.push(Op::Move(Reg(k), r), line)?;
-    if k < frame.locals.params {
-        return Ok(());
-    }
-    let flag = frame.locals.flag(k);
-    b.push(Op::Lit(flag, Lit::Number(1)), line)
-}
 
 /// Assigns to a variable (Python Language Reference, "Assignment statements").
 pub(crate) fn emit_assignment(
@@ -83,9 +46,9 @@ pub(crate) fn emit_assignment(
     ensures shaped { Keeps b.old b.new }
     ensures kinds { KeepsKindsIf (IsAmong (typed_module checked.now)) b.old b.new }
 {
-    let k = only_variable_of(targets);
+    let target = &targets[0];
     let r = emit_expression(b, alloc, checked, locals, frame, e, line)?;
-    emit_set(b, frame, k, r, line)
+    emit_set(b, alloc, checked, frame, target, r, line)
 }
 
 /// Changes a variable by an operation (Python Language Reference, "Augmented assignment statements").
@@ -109,11 +72,10 @@ pub(crate) fn emit_update(
     ensures shaped { Keeps b.old b.new }
     ensures kinds { KeepsKindsIf (IsAmong (typed_module checked.now)) b.old b.new }
 {
-    let k = variable_of(target);
-    let old = emit_local(b, alloc, locals, frame, k, line)?;
+    let old = emit_read(b, alloc, checked, locals, frame, target, line)?;
     let r = emit_operand(b, alloc, checked, locals, frame, e, line)?;
     let changed = emit_arithmetic(b, alloc, op, old, r, line)?;
-    emit_set(b, frame, k, changed, line)
+    emit_set(b, alloc, checked, frame, target, changed, line)
 }
 
 // The value that is returned, in a register. Without one it is None.

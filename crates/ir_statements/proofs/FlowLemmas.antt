@@ -22,7 +22,7 @@ use Rattle.ir_core.proofs.StepLemmas.{goto_step, if_step}
 use Rattle.ir_frames.specs.Settings.{Setting}
 use Rattle.ir_frames.specs.Placing.{Placed}
 use Rattle.ir_frames.specs.Coming.{world, running, Leads, Ends}
-use Rattle.ir_frames.specs.Matching.{HasRoom, Matches, SameIn, Stands, IsThrown, CallsWork}
+use Rattle.ir_frames.specs.Matching.{HasRoom, Matches, SameLocals, SameIn, Stands, IsThrown, CallsWork}
 use Rattle.ir_frames.specs.Computing.{Showing, Shows, Meaning, Arrives, Computes}
 use Rattle.ir_statements.specs.declared.ways.Way.{Way}
 use Rattle.ir_statements.specs.declared.ways.Way.TheVariants.{Break, Continue, Return}
@@ -67,14 +67,14 @@ module _ (p : Program) (result : Option RType) where
 
 module _ (p : Program) (result : Option RType) (fn : ℕ) (below : List Waiting) (x : Setting) (n : ℕ) (calls : CallsWork p x.source n) where
   -- what follows a value
-  pub value_then : {B : Type 0} (h : Option ℕ) (K : Showing) (t : RType) (m : Meaning Value) (b c : Building) (r : ℕ) (regs : Regs) (s : State) (go : Value → Does B) (S : B → State → Config → Type 0) (keep : ℕ) (old : Regs) → Computes x K t m b c r → Placed p fn b c h → HasRoom x b → keep ≤ length b.regs → SameIn x.frame keep regs old → Matches x regs s.locals → s.turns ≤ n → ((now : Regs) (v : Value) (s1 : State) → s1.turns ≤ s.turns → K v (now r) → ((j : ℕ) → j < length b.regs → now j ≡ regs j) → s1.locals ≡ s.locals → Matches x now s1.locals → Ends p s1.turns (running fn (length c.blocks) (length c.ops) now below (world None s1)) (go v s1) S (IsThrown fn h below x keep old)) → Ends p s.turns (running fn (length b.blocks) (length b.ops) regs below (world None s)) (on_to (m n s) go) S (IsThrown fn h below x keep old)
+  pub value_then : {B : Type 0} (h : Option ℕ) (K : Showing) (t : RType) (m : Meaning Value) (b c : Building) (r : ℕ) (regs : Regs) (s : State) (go : Value → Does B) (S : B → State → Config → Type 0) (keep : ℕ) (old : Regs) → Computes x K t m b c r → Placed p fn b c h → HasRoom x b → keep ≤ length b.regs → SameIn x.frame keep regs old → Matches x regs s → s.turns ≤ n → ((now : Regs) (v : Value) (s1 : State) → s1.turns ≤ s.turns → K v (now r) → ((j : ℕ) → j < length b.regs → now j ≡ regs j) → SameLocals x s s1 → Matches x now s1 → Ends p s1.turns (running fn (length c.blocks) (length c.ops) now below (world None s1)) (go v s1) S (IsThrown fn h below x keep old)) → Ends p s.turns (running fn (length b.blocks) (length b.ops) regs below (world None s)) (on_to (m n s) go) S (IsThrown fn h below x keep old)
   value_then h K t m b c r regs s go S keep old cx at room wide same match le next =
-      ends_on p s.turns _ (m n s) (Arrives K fn (length c.blocks) (length c.ops) below (length b.regs) regs s.locals r) (IsThrown fn h below x (length b.regs) regs) (IsThrown fn h below x keep old) go S (cx.runs p fn h at n calls regs below s match le)
-      (λ v s1 d le1 a. ends_at p s1.turns (running fn (length c.blocks) (length c.ops) a.now below (world None s1)) d (go v s1) S _ a.is (next a.now v s1 le1 a.shows a.kept a.locals (let top = room.top in match_kept x b regs a.now s.locals s1.locals room (λ j lt. a.kept j (omega arith)) a.locals match)))
+      ends_on p s.turns _ (m n s) (Arrives K fn (length c.blocks) (length c.ops) below (length b.regs) regs x s r) (IsThrown fn h below x (length b.regs) regs) (IsThrown fn h below x keep old) go S (cx.runs p fn h at n calls regs below s match le)
+      (λ v s1 d le1 a. ends_at p s1.turns (running fn (length c.blocks) (length c.ops) a.now below (world None s1)) d (go v s1) S _ a.is (next a.now v s1 le1 a.shows a.kept a.same (let top = room.top in match_kept x b regs a.now s s1 room (λ j lt. a.kept j (omega arith)) a.same match)))
       (λ v s1 d z. thrown_from fn h below x keep (length b.regs) old regs v s1 d wide same z)
 
   -- what follows a test
-  pub test_then : {B : Type 0} (h : Option ℕ) (m : Meaning Value) (b c : Building) (r : ℕ) (regs : Regs) (s : State) (go : Bool → Does B) (S : B → State → Config → Type 0) (keep : ℕ) (old : Regs) → Computes x (Shows sort.Bool) BoolType m b c r → Placed p fn b c h → HasRoom x b → keep ≤ length b.regs → SameIn x.frame keep regs old → Matches x regs s.locals → s.turns ≤ n → ((now : Regs) (t : Bool) (s1 : State) → s1.turns ≤ s.turns → now r ≡ Holds (BoolVal t) → ((j : ℕ) → j < length b.regs → now j ≡ regs j) → Matches x now s1.locals → Ends p s1.turns (running fn (length c.blocks) (length c.ops) now below (world None s1)) (go t s1) S (IsThrown fn h below x keep old)) → Ends p s.turns (running fn (length b.blocks) (length b.ops) regs below (world None s)) (on_to (on_to (m n s) truth_of) go) S (IsThrown fn h below x keep old)
+  pub test_then : {B : Type 0} (h : Option ℕ) (m : Meaning Value) (b c : Building) (r : ℕ) (regs : Regs) (s : State) (go : Bool → Does B) (S : B → State → Config → Type 0) (keep : ℕ) (old : Regs) → Computes x (Shows sort.Bool) BoolType m b c r → Placed p fn b c h → HasRoom x b → keep ≤ length b.regs → SameIn x.frame keep regs old → Matches x regs s → s.turns ≤ n → ((now : Regs) (t : Bool) (s1 : State) → s1.turns ≤ s.turns → now r ≡ Holds (BoolVal t) → ((j : ℕ) → j < length b.regs → now j ≡ regs j) → Matches x now s1 → Ends p s1.turns (running fn (length c.blocks) (length c.ops) now below (world None s1)) (go t s1) S (IsThrown fn h below x keep old)) → Ends p s.turns (running fn (length b.blocks) (length b.ops) regs below (world None s)) (on_to (on_to (m n s) truth_of) go) S (IsThrown fn h below x keep old)
   test_then h m b c r regs s go S keep old cx at room wide same match le next =
       rw on_assoc (value_then h (Shows sort.Bool) BoolType m b c r regs s (λ v s1. on_to (truth_of v s1) go) S keep old cx at room wide same match le
       (λ now v s1 le1 shows kept loc match1.
@@ -82,7 +82,7 @@ module _ (p : Program) (result : Option RType) (fn : ℕ) (below : List Waiting)
       subst P (sym shows.1.1) (next now shows.1.0 s1 le1 (shows.0 ∙ ap Holds shows.1.1) kept match1)))
 
   -- a part of a statement
-  pub part_works : (h : Option ℕ) (m : Meaning Flow) (b c : Building) (xs ys : List Exit) (to : Way → ℕ) (keep : ℕ) (old regs : Regs) (s : State) → Works x result m b c xs → UsesToo xs ys → Placed p fn b c h → JumpTo p fn c to xs → keep ≤ length b.regs → SameIn x.frame keep regs old → Matches x regs s.locals → s.turns ≤ n → Ends p s.turns (running fn (length b.blocks) (length b.ops) regs below (world None s)) (m n s) (Flows p result fn (length c.blocks) (length c.ops) to ys below x keep old) (IsThrown fn h below x keep old)
+  pub part_works : (h : Option ℕ) (m : Meaning Flow) (b c : Building) (xs ys : List Exit) (to : Way → ℕ) (keep : ℕ) (old regs : Regs) (s : State) → Works x result m b c xs → UsesToo xs ys → Placed p fn b c h → JumpTo p fn c to xs → keep ≤ length b.regs → SameIn x.frame keep regs old → Matches x regs s → s.turns ≤ n → Ends p s.turns (running fn (length b.blocks) (length b.ops) regs below (world None s)) (m n s) (Flows p result fn (length c.blocks) (length c.ops) to ys below x keep old) (IsThrown fn h below x keep old)
   part_works h m b c xs ys to keep old regs s q more at j le same match fits =
       ends_map p s.turns _ (m n s) (Flows p result fn (length c.blocks) (length c.ops) to xs below x (length b.regs) regs) (Flows p result fn (length c.blocks) (length c.ops) to ys below x keep old) (IsThrown fn h below x (length b.regs) regs) (IsThrown fn h below x keep old)
       (λ g s1 d t. flows_from p result fn _ _ to xs ys below x keep (length b.regs) old regs g s1 d more le same t)

@@ -61,19 +61,19 @@ module _ (p : Program) (result : Option RType) (fn : ℕ) (below : List Waiting)
   repeats k i = loop {X = ℕ} k (λ j. asked) (λ j. body n) (λ j. j) i
 
   abbrev Loops : ℕ → Type 0
-  Loops k = (i : ℕ) (regs : Regs) (s : State) → Matches x regs s.locals → SameIn x.frame keep regs old → s.turns < k → s.turns ≤ n → Ends p s.turns (running fn (length b1.blocks) 0 regs below (world None s)) (repeats k i s) R T
+  Loops k = (i : ℕ) (regs : Regs) (s : State) → Matches x regs s → SameIn x.frame keep regs old → s.turns < k → s.turns ≤ n → Ends p s.turns (running fn (length b1.blocks) 0 regs below (world None s)) (repeats k i s) R T
 
   abbrev with_turns : State → ℕ → State
   with_turns s t = record s { turns = t }
 
-  turn_next : (k i : ℕ) → Loops k → (t : ℕ) (s : State) (regs : Regs) → Matches x regs s.locals → SameIn x.frame keep regs old → t ≤ k → t ≤ n → Ends p t (running fn (length b5.blocks) 0 regs below (world None (with_turns s t))) (on_to (spend_from t (with_turns s t)) (λ u. repeats k i)) R T
+  turn_next : (k i : ℕ) → Loops k → (t : ℕ) (s : State) (regs : Regs) → Matches x regs s → SameIn x.frame keep regs old → t ≤ k → t ≤ n → Ends p t (running fn (length b5.blocks) 0 regs below (world None (with_turns s t))) (on_to (spend_from t (with_turns s t)) (λ u. repeats k i)) R T
   turn_next k i again zero s regs match same lt fits =
       (ending.Cut, refl, leads_step p _ _ (op_step Strict p (record { fn = fn; block = length b5.blocks; place = 0; regs = regs }) below (world None (with_turns s 0)) Turn at.turn))
   turn_next k i again (suc t) s regs match same lt fits =
       let u : State = with_turns s t in
       let spent : Leads p (running fn (length b5.blocks) 0 regs below (world None (with_turns s (suc t)))) (running fn (length b5.blocks) 1 regs below (world None u)) = leads_step p _ _ (turn_step Strict p (record { fn = fn; block = length b5.blocks; place = 0; regs = regs }) below (world None (with_turns s (suc t))) t at.turn refl refl) in
       let back = goes_to p fn below (length b5.blocks) 1 (length b1.blocks) regs (world None u) at.back in
-      ends_from p t (suc t) _ (running fn (length b1.blocks) 0 regs below (world None u)) (repeats k i u) R T (omega arith) (leads_trans p _ _ _ spent back) (again i regs u match same (omega arith) (omega arith))
+      ends_from p t (suc t) _ (running fn (length b1.blocks) 0 regs below (world None u)) (repeats k i u) R T (omega arith) (leads_trans p _ _ _ spent back) (again i regs u record { each = match.each; globals = match.globals } same (omega arith) (omega arith))
 
   next_at : (k i : ℕ) → Loops k → (s : State) (d : Config) → Stands fn (length b5.blocks) 0 below None x keep old s d → s.turns ≤ k → s.turns ≤ n → Ends p s.turns d (on_to (spend s) (λ u. repeats k i)) R T
   next_at k i again s d t lt fits = ends_at p s.turns _ d (on_to (spend s) (λ u. repeats k i)) R T t.is (turn_next k i again s.turns s t.now t.match t.kept lt fits)

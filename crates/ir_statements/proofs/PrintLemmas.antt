@@ -1,7 +1,6 @@
 -- The code of `print` writes what it is to.
-use Rattle.std.proofs.Common.{◌≡◌, ℕ, zero, suc, ◌≢◌, ◌+◌, ◌-◌, ◌<◌, ◌≤◌, Bool, true, false, List, [], ◌∷◌, ◌++◌, length, Option, Some, None, refl, sym, ap, ◌∙◌, subst, arith, append_assoc, le_refl}
-use Rattle.std.proofs.lemmas.Bool.Decides.{nat_tests}
-use Rattle.std.specs.Prelude.{ℤ, nat_lt, if◌then◌else◌}
+use Rattle.std.proofs.Common.{◌≡◌, ℕ, zero, suc, ◌≢◌, ◌+◌, ◌<◌, Bool, true, false, List, [], ◌∷◌, ◌++◌, length, Option, Some, None, refl, sym, ap, ◌∙◌, subst, arith, append_assoc, le_refl}
+use Rattle.std.specs.Prelude.{ℤ, nat_lt, slice_get}
 use Rattle.std.specs.List.{list_all}
 use Rattle.std.specs.Fmt.{signed_decimal}
 use Rattle.std.specs.Str.{IsAscii, is_utf8}
@@ -30,7 +29,7 @@ use Rattle.ir_core.specs.declared.code.Program.{Program}
 use Rattle.ir_core.specs.Building.{Building, held, Extends}
 use Rattle.ir_core.specs.Items.{Do}
 use Rattle.ir_core.specs.Laws.{pushed}
-use Rattle.ir_core.specs.Registers.{Held, Holds, Regs, put}
+use Rattle.ir_core.specs.Registers.{Holds, Regs, put}
 use Rattle.ir_core.specs.Rows.{type_of_reg}
 use Rattle.ir_core.specs.Effects.{World}
 use Rattle.ir_core.specs.Meaning.{Waiting, Strict, do_op, registers_of}
@@ -39,7 +38,7 @@ use Rattle.ir_frames.specs.Settings.{Setting}
 use Rattle.ir_frames.specs.Placing.{HasType, Has}
 use Rattle.ir_frames.specs.Calling.{Pushes}
 use Rattle.ir_frames.specs.Coming.{world, running, Leads, Ends}
-use Rattle.ir_frames.specs.Matching.{flag_of, flag_in, Matches, HasRoom, IsThrown}
+use Rattle.ir_frames.specs.Matching.{flag_of, flag_in, Matches, SameLocals, HasRoom, IsThrown}
 use Rattle.ir_frames.specs.Computing.{Showing, Shows, ShowsNumber, Counts, Meaning, Computes}
 use Rattle.ir_frames.specs.Kinds.{Surrounding, MakesText, HasKinds, KeepsKindsIf}
 use Rattle.ir_statements.specs.Runs.{Flows, Works}
@@ -170,10 +169,10 @@ one_printed x K t m b0 b1 q room cx d holds = record {
   extends = cx.extends;
   declared = (d, tt);
   runs = λ p fn h at n calls regs below s match le.
-      let R = ArrivesPrinted fn (length b1.blocks) (length b1.ops) below (length b0.regs) regs s.locals (q ∷ []) in
+      let R = ArrivesPrinted fn (length b1.blocks) (length b1.ops) below (length b0.regs) regs x s (q ∷ []) in
       let T = IsThrown fn h below x (length b0.regs) regs in
       value_then p None fn below x n calls h K t m b0 b1 (register_of q).0 regs s (λ v. Gives (v ∷ [])) R (length b0.regs) regs cx at room (le_refl _) (λ j y z o. refl) match le
-      (λ now v s1 le1 shows kept loc match1. ends_now p (v ∷ []) s1 _ R T record { now = now; is = refl; shows = (holds now v shows, tt); kept = kept; locals = loc });
+      (λ now v s1 le1 shows kept loc match1. ends_now p (v ∷ []) s1 _ R T record { now = now; is = refl; shows = (holds now v shows, tt); kept = kept; same = loc });
 }
 
 -- a bool, and a number
@@ -188,18 +187,18 @@ number_printed x t m b0 b1 r room number cx =
 -- ---- variables
 
 -- the register for texts is no variable's and no flag
-match_but : (x : Setting) (b : Building) (regs now : Regs) (ls ls' : List (Option Value)) → HasRoom x b → ((j : ℕ) → j < x.frame.locals.top → j ≢ x.frame.locals.text → now j ≡ regs j) → ls' ≡ ls → Matches x regs ls → Matches x now ls'
-match_but x b regs now ls ls' room same is m =
-    let P : List (Option Value) → Type 0 = λ l. Matches x now l in
+match_but : (x : Setting) (b : Building) (regs now : Regs) (s s1 : State) → HasRoom x b → ((j : ℕ) → j < x.frame.locals.top → j ≢ x.frame.locals.text → now j ≡ regs j) → SameLocals x s s1 → Matches x regs s → Matches x now s1
+match_but x b regs now s s1 room same is m =
     let count = room.count in
     let text = room.text in
     let flags = room.flags in
-    subst P (sym is) record {
+    record {
       each = λ j v at.
           let k = m.each j v at in
           let low : j < length x.variables = get_below x.variables j v at in
           let flag : flag_in x.frame.locals now j ≡ flag_in x.frame.locals regs j = either_flag (nat_lt j x.frame.locals.params) (Holds (BoolVal true)) _ _ (λ e. let above = not_below j x.frame.locals.params e in same (flag_of x.frame.locals j) (omega arith) (λ z. omega arith)) in
-          (k.0, k.1, keeps_as v.1 (regs j) (now j) (flag_in x.frame.locals regs j) (flag_in x.frame.locals now j) k.0 (same j (omega arith) (λ z. omega arith)) flag k.2);
+          (k.0, ap (λ ls. slice_get ls j) is.locals ∙ k.1, keeps_as v.1 (regs j) (now j) (flag_in x.frame.locals regs j) (flag_in x.frame.locals now j) k.0 (same j (omega arith) (λ z. omega arith)) flag k.2);
+      globals = is.globals;
     }
 
 -- ---- the whole
@@ -219,7 +218,7 @@ print_works x result m b0 b1 b2 qs room c w = record {
       let flags = room.flags in
       let top = room.top in
       let at1 = placed_part p fn b0 b0 b1 b2 h (le_refl _) w.extends at in
-      let R1 = ArrivesPrinted fn (length b1.blocks) (length b1.ops) below (length b0.regs) regs s.locals qs in
+      let R1 = ArrivesPrinted fn (length b1.blocks) (length b1.ops) below (length b0.regs) regs x s qs in
       let R = Flows p result fn (length b2.blocks) (length b2.ops) to [] below x (length b0.regs) regs in
       let T = IsThrown fn h below x (length b0.regs) regs in
       let go : List Value → Does Flow = λ vs u. on_to (needs (list_all has_text vs) (write (line_of vs)) u) (λ v. Gives Goes) in
@@ -228,7 +227,7 @@ print_works x result m b0 b1 b2 qs room c w = record {
       let done = w.runs p fn at.has a.now below s1 vs a.shows in
       let s2 : State = written s1 (line_of vs) in
       let kept : (j : ℕ) → j < length b0.regs → j ≢ x.frame.locals.text → done.0 j ≡ regs j = λ j lt ne. done.2 j ne ∙ a.kept j lt in
-      let match2 = match_but x b0 regs done.0 s.locals s1.locals room (λ j lt ne. kept j (omega arith) ne) a.locals match in
+      let match2 = match_but x b0 regs done.0 s s2 room (λ j lt ne. kept j (omega arith) ne) record { locals = a.same.locals; globals = a.same.globals } match in
       let is : go vs s1 ≡ Gives Goes s2 = ap (λ t. on_to (needs t (write (line_of vs)) s1) (λ v. Gives Goes)) (has_texts a.now qs vs a.shows) in
       let ends : Ends p s1.turns (running fn (length b1.blocks) (length b1.ops) a.now below (world None s1)) (Gives Goes s2) R T = ends_from p s1.turns s1.turns _ _ (Gives Goes s2) R T (le_refl _) done.1 (ends_now p Goes s2 _ R T record { now = done.0; is = refl; match = match2; kept = λ j z lt o. kept j lt (λ e. omega arith) }) in
       let P : Outcome Flow → Type 0 = λ z. Ends p s1.turns (running fn (length b1.blocks) (length b1.ops) a.now below (world None s1)) z R T in

@@ -4,14 +4,17 @@ use Rattle.std.specs.Prelude.{slice_get, slice_set, pos, nat_lt, if◌then◌els
 use Rattle.std.proofs.lemmas.Bool.{cases_eq}
 use Rattle.std.proofs.lemmas.Bool.Decides.{nat_tests}
 use Rattle.value_core.specs.Value.{Value, BoolVal}
+use Rattle.c_core.specs.declared.primitive.Primitive.TheVariants as prim
+use Rattle.c_core.specs.declared.primitive.GlobalPrim.TheVariants as global
 use Rattle.py_typed.specs.Sorts.{Sort}
-use Rattle.py_typed.specs.Statements.{Variable}
+use Rattle.py_typed.specs.Statements.{Variable, TypedTarget, LocalTarget, GlobalTarget}
 use Rattle.py_typed.specs.State.{State, Outcome, Gives, Does, on_to}
 use Rattle.py_typed.specs.WaysOut.{Flow, Goes, Breaks, Continues, Returns}
 use Rattle.ir_core.specs.declared.code.RType.{RType}
 use Rattle.ir_core.specs.declared.code.RType.TheVariants.{Int, I64, Bool as BoolType, Ref}
 use Rattle.ir_core.specs.declared.code.Last.TheVariants.{Return as Leave, Unreachable}
-use Rattle.ir_core.specs.declared.code.Op.TheVariants.{Move, Lit}
+use Rattle.ir_core.specs.declared.code.Op.TheVariants.{Move, Lit, Prim}
+use Rattle.ir_core.specs.declared.code.PArg.TheVariants as arg
 use Rattle.ir_core.specs.declared.code.Lit.TheVariants.{Number}
 use Rattle.ir_core.specs.Effects.{World}
 use Rattle.ir_core.specs.declared.code.Reg.{Reg}
@@ -33,10 +36,11 @@ use Rattle.ir_statements.specs.declared.ways.Way.{Way}
 use Rattle.ir_statements.specs.declared.ways.Way.TheVariants.{Break, Continue, Return}
 use Rattle.ir_statements.specs.declared.ways.Exit.{Exit}
 use Rattle.ir_statements.specs.Runs.{Back, Flows, Works}
-use Rattle.ir_statements.specs.Simple.{Sets, Leaves}
+use Rattle.ir_statements.specs.Simple.{with_value, Sets, Leaves}
 use Rattle.ir_frames.proofs.ComingLemmas.{leads_trans, leads_step, ends_from, ends_now}
 use Rattle.ir_frames.proofs.HeldLemmas.{extends_refl, extends_trans, has_less, type_has, pushes_has, placed_part}
-use Rattle.ir_frames.proofs.MatchLemmas.{match_kept, either_flag, not_below, keeps_as}
+use Rattle.ir_frames.proofs.GlobalLemmas.{global_matches, global_step}
+use Rattle.ir_frames.proofs.MatchLemmas.{match_here, either_flag, not_below, keeps_as}
 use Rattle.ir_statements.proofs.ExitLemmas.{close_at, stays_by, open_on}
 use Rattle.ir_statements.proofs.FlowLemmas.{goes_to, value_then, flows_from}
 
@@ -77,18 +81,18 @@ moved x k r v0 b0 b1 room var t q p fn has regs below w v is =
     leads_step p _ _ (step ∙ is1)
 
 -- the registers hold the variables again where the register of one has a value, its flag is set, and all others are as they were
-set_matches : (x : Setting) (k : ℕ) (v0 : Variable) (b : Building) (regs now : Regs) (ls : List (Option Value)) (v : Value) → HasRoom x b → slice_get x.variables k ≡ Some v0 → Matches x regs ls → HasKind v0.1 v → now k ≡ Holds v → flag_in x.frame.locals now k ≡ Holds (BoolVal true) → ((j : ℕ) → j ≢ k → (x.frame.locals.params ≤ k → j ≢ flag_of x.frame.locals k) → now j ≡ regs j) → Matches x now (slice_set ls k (Some v))
-set_matches x k v0 b regs now ls v room var match kind held flag others =
+set_matches : (x : Setting) (k : ℕ) (v0 : Variable) (b : Building) (regs now : Regs) (s : State) (v : Value) → HasRoom x b → slice_get x.variables k ≡ Some v0 → Matches x regs s → HasKind v0.1 v → now k ≡ Holds v → flag_in x.frame.locals now k ≡ Holds (BoolVal true) → ((j : ℕ) → j ≢ k → (x.frame.locals.params ≤ k → j ≢ flag_of x.frame.locals k) → now j ≡ regs j) → Matches x now (with_value (LocalTarget k) v s)
+set_matches x k v0 b regs now s v room var match kind held flag others =
     let count = room.count in
     let text = room.text in
     let low : k < length x.variables = get_below x.variables k v0 var in
     let old = match.each k v0 var in
-    let there : k < length ls = get_below ls k old.0 old.1 in
+    let there : k < length s.locals = get_below s.locals k old.0 old.1 in
     record {
       each = λ j u e. ⊎_elim
           (λ (same : j ≡ k).
           let same_var : u ≡ v0 = (let z : Some u ≡ Some v0 = sym e ∙ ap (slice_get x.variables) same ∙ var in cc) in
-          let got : slice_get (slice_set ls k (Some v)) j ≡ Some (Some v) = ap (slice_get (slice_set ls k (Some v))) same ∙ get_set ls k (Some v) there in
+          let got : slice_get (slice_set s.locals k (Some v)) j ≡ Some (Some v) = ap (slice_get (slice_set s.locals k (Some v))) same ∙ get_set s.locals k (Some v) there in
           let kind' : HasKind u.1 v = (let P : Variable → Type 0 = λ z. HasKind z.1 v in subst P (sym same_var) kind) in
           (Some v, got, (ap now same ∙ held, ap (flag_in x.frame.locals now) same ∙ flag, kind')))
           (λ (ne : j ≢ k).
@@ -96,32 +100,33 @@ set_matches x k v0 b regs now ls v room var match kind held flag others =
           let low_j : j < length x.variables = get_below x.variables j u e in
           let held_j : now j ≡ regs j = others j ne (λ z. λ q. omega arith) in
           let flag_j : flag_in x.frame.locals now j ≡ flag_in x.frame.locals regs j = either_flag (nat_lt j x.frame.locals.params) (Holds (BoolVal true)) _ _ (λ z. let above = not_below j x.frame.locals.params z in others (flag_of x.frame.locals j) (λ q. omega arith) (λ y. λ q. ne (omega arith))) in
-          (old_j.0, get_other ls k j (Some v) ne ∙ old_j.1, keeps_as u.1 (regs j) (now j) (flag_in x.frame.locals regs j) (flag_in x.frame.locals now j) old_j.0 held_j flag_j old_j.2))
+          (old_j.0, get_other s.locals k j (Some v) ne ∙ old_j.1, keeps_as u.1 (regs j) (now j) (flag_in x.frame.locals regs j) (flag_in x.frame.locals now j) old_j.0 held_j flag_j old_j.2))
           (cases_eq j k);
+      globals = match.globals;
     }
 
 -- a parameter
-pub param_set : (x : Setting) (k r : ℕ) (v0 : Variable) (b0 b1 : Building) → HasRoom x b0 → slice_get x.variables k ≡ Some v0 → k < x.frame.locals.params → HasType b0 r (rtype_of v0.1) → Pushes b0 b1 (Move record { 0 = k } record { 0 = r }) → Sets x k v0.1 r b0 b1
+pub param_set : (x : Setting) (k r : ℕ) (v0 : Variable) (b0 b1 : Building) → HasRoom x b0 → slice_get x.variables k ≡ Some v0 → k < x.frame.locals.params → HasType b0 r (rtype_of v0.1) → Pushes b0 b1 (Move record { 0 = k } record { 0 = r }) → Sets x (LocalTarget k) v0.1 r b0 b1
 param_set x k r v0 b0 b1 room var param t q = record {
   extends = q.extends;
   blocks = q.blocks;
-  does = λ p fn has regs below w ls v match is kind.
+  does = λ p fn has named regs below s v match is kind.
       let now : Regs = put regs k (Holds v) in
       let count = room.count in
       let text = room.text in
       let flags = room.flags in
       let low : k < length x.variables = get_below x.variables k v0 var in
       let flag : flag_in x.frame.locals now k ≡ Holds (BoolVal true) = (let e : nat_lt k x.frame.locals.params ≡ true = grind (arith, nat_tests) in ap (λ b. if b then Holds (BoolVal true) else now (flag_of x.frame.locals k)) e) in
-      let m : Matches x now (slice_set ls k (Some v)) = set_matches x k v0 b0 regs now ls v room var match kind (put_same regs k (Holds v)) flag (λ j ne other. put_other regs k j (Holds v) ne) in
-      (now, moved x k r v0 b0 b1 room var t q p fn has regs below w v is, m, λ j le. put_other regs k j (Holds v) (λ q. omega arith));
+      let m : Matches x now (with_value (LocalTarget k) v s) = set_matches x k v0 b0 regs now s v room var match kind (put_same regs k (Holds v)) flag (λ j ne other. put_other regs k j (Holds v) ne) in
+      (now, moved x k r v0 b0 b1 room var t q p fn has regs below (world None s) v is, m, λ j le. put_other regs k j (Holds v) (λ q. omega arith));
 }
 
 -- another variable: its flag is set behind the value
-pub other_set : (x : Setting) (k r : ℕ) (v0 : Variable) (b0 b1 b2 : Building) → HasRoom x b0 → slice_get x.variables k ≡ Some v0 → x.frame.locals.params ≤ k → HasType b0 r (rtype_of v0.1) → Pushes b0 b1 (Move record { 0 = k } record { 0 = r }) → Pushes b1 b2 (Lit record { 0 = flag_of x.frame.locals k } (Number (pos 1))) → Sets x k v0.1 r b0 b2
+pub other_set : (x : Setting) (k r : ℕ) (v0 : Variable) (b0 b1 b2 : Building) → HasRoom x b0 → slice_get x.variables k ≡ Some v0 → x.frame.locals.params ≤ k → HasType b0 r (rtype_of v0.1) → Pushes b0 b1 (Move record { 0 = k } record { 0 = r }) → Pushes b1 b2 (Lit record { 0 = flag_of x.frame.locals k } (Number (pos 1))) → Sets x (LocalTarget k) v0.1 r b0 b2
 other_set x k r v0 b0 b1 b2 room var other t q q' = record {
   extends = extends_trans b0 b1 b2 q.extends q'.extends;
   blocks = q'.blocks ∙ q.blocks;
-  does = λ p fn has regs below w ls v match is kind.
+  does = λ p fn has named regs below s v match is kind.
       let at : ℕ = flag_of x.frame.locals k in
       let set : Held = Holds (BoolVal true) in
       let mid : Regs = put regs k (Holds v) in
@@ -133,31 +138,48 @@ other_set x k r v0 b0 b1 b2 room var other t q q' = record {
       let has1 = has_less p fn b1 b2 q'.extends has in
       let has0 = has_less p fn b0 b1 q.extends has1 in
       let type = type_has p fn b0 at BoolType has0 (room.flagged k other (omega arith)) in
+      let w : World = world None s in
       let first = moved x k r v0 b0 b1 room var t q p fn has1 regs below w v is in
       let step = lit_step Strict p (record { fn = fn; block = length b1.blocks; place = length b1.ops; regs = mid }) below w (record { 0 = at }) (Number (pos 1)) BoolType set (pushes_has p fn b1 b2 _ q' has) type refl in
       let is1 : running fn (length b1.blocks) (length b1.ops + 1) now below w ≡ running fn (length b2.blocks) (length b2.ops) now below w = rw (q'.blocks, q'.ops) refl in
       let held : now k ≡ Holds v = put_other mid at k set (λ z. omega arith) ∙ put_same regs k (Holds v) in
       let flag : flag_in x.frame.locals now k ≡ set = (let e : nat_lt k x.frame.locals.params ≡ false = grind (arith, nat_tests) in ap (λ b. if b then Holds (BoolVal true) else now at) e ∙ put_same mid at set) in
-      let m : Matches x now (slice_set ls k (Some v)) = set_matches x k v0 b0 regs now ls v room var match kind held flag (λ j ne o. put_other mid at j set (o other) ∙ put_other regs k j (Holds v) ne) in
+      let m : Matches x now (with_value (LocalTarget k) v s) = set_matches x k v0 b0 regs now s v room var match kind held flag (λ j ne o. put_other mid at j set (o other) ∙ put_other regs k j (Holds v) ne) in
       (now, leads_trans p _ _ _ first (leads_step p _ _ (step ∙ is1)), m, λ j le. put_other mid at j set (λ z. omega arith) ∙ put_other regs k j (Holds v) (λ z. omega arith));
 }
 
+-- a variable of the module
+pub global_set : (x : Setting) (i r : ℕ) (v0 : Variable) (b0 b1 : Building) → slice_get x.source.globals i ≡ Some v0 → HasType b0 r (rtype_of v0.1) → Pushes b0 b1 (Prim None (prim.Global global.Set) (arg.Global v0.0 ∷ arg.Var record { 0 = r } ∷ [])) → Sets x (GlobalTarget i) v0.1 r b0 b1
+global_set x i r v0 b0 b1 var t q = record {
+  extends = q.extends;
+  blocks = q.blocks;
+  does = λ p fn has named regs below s v match is kind.
+      let new : World = world None (with_value (GlobalTarget i) v s) in
+      let type = type_has p fn b0 r (rtype_of v0.1) (has_less p fn b0 b1 q.extends has) t in
+      let step = global_step p fn (length b0.blocks) (length b0.ops) regs below s x.source i v0 r (rtype_of v0.1) v named match.globals var (pushes_has p fn b0 b1 _ q has) type is in
+      let is1 : running fn (length b0.blocks) (length b0.ops + 1) regs below new ≡ running fn (length b1.blocks) (length b1.ops) regs below new = rw (q.blocks, q.ops) refl in
+      (regs, leads_step p _ _ (step ∙ is1), global_matches x regs s i v0 v match var kind, λ j le. refl);
+}
+
+turns_same : (target : TypedTarget) (v : Value) (s : State) → (with_value target v s).turns ≤ s.turns
+turns_same (LocalTarget k) v s = le_refl s.turns
+turns_same (GlobalTarget k) v s = le_refl s.turns
+turns_same target v s = le_refl s.turns
+
 -- what is done with a value that is put into a variable
-pub set_works : (x : Setting) (result : Option RType) (m : Meaning Value) (t : Sort) (k r : ℕ) (v0 : Variable) (go : ℕ → Value → Does Flow) (b0 b1 b2 : Building) → HasRoom x b0 → slice_get x.variables k ≡ Some v0 → Computes x (Shows t) (rtype_of t) m b0 b1 r → Sets x k t r b1 b2 → ((n : ℕ) (v : Value) (s : State) → HasKind t v → k < length s.locals → go n v s ≡ Gives Goes (record s { locals = slice_set s.locals k (Some v) })) → Works x result (λ n s. on_to (m n s) (go n)) b0 b2 []
-set_works x result m t k r v0 go b0 b1 b2 room var cx q puts = record {
+pub set_works : (x : Setting) (result : Option RType) (m : Meaning Value) (t : Sort) (target : TypedTarget) (r : ℕ) (go : ℕ → Value → Does Flow) (b0 b1 b2 : Building) → HasRoom x b0 → Computes x (Shows t) (rtype_of t) m b0 b1 r → Sets x target t r b1 b2 → ((n : ℕ) (v : Value) (s : State) (regs : Regs) → Matches x regs s → HasKind t v → go n v s ≡ Gives Goes (with_value target v s)) → Works x result (λ n s. on_to (m n s) (go n)) b0 b2 []
+set_works x result m t target r go b0 b1 b2 room cx q puts = record {
   extends = extends_trans b0 b1 b2 cx.extends q.extends;
   opens = tt;
   runs = λ p fn h to at jumps n calls regs below s match le.
       let R = Flows p result fn (length b2.blocks) (length b2.ops) to [] below x (length b0.regs) regs in
       let T = IsThrown fn h below x (length b0.regs) regs in
       value_then p result fn below x n calls h (Shows t) (rtype_of t) m b0 b1 r regs s (go n) R (length b0.regs) regs cx (placed_part p fn b0 b0 b1 b2 h (le_refl _) q.extends at) room (le_refl _) (λ j a z o. refl) match le
-      (λ now v s1 le1 shows kept loc match1.
-      let done = q.does p fn at.has now below (world None s1) s1.locals v match1 shows.0 shows.1 in
-      let s2 : State = record s1 { locals = slice_set s1.locals k (Some v) } in
-      let old = match1.each k v0 var in
-      let is : go n v s1 ≡ Gives Goes s2 = puts n v s1 shows.1 (get_below s1.locals k old.0 old.1) in
+      (λ now v s1 le1 shows kept same1 match1.
+      let done = q.does p fn at.has calls.variables now below s1 v match1 shows.0 shows.1 in
+      let s2 : State = with_value target v s1 in
       let P : Outcome Flow → Type 0 = λ z. Ends p s1.turns (running fn (length b1.blocks) (length b1.ops) now below (world None s1)) z R T in
-      subst P (sym is) (ends_from p s1.turns s1.turns _ _ (Gives Goes s2) R T (le_refl _) done.1
+      subst P (sym (puts n v s1 now match1 shows.1)) (ends_from p s2.turns s1.turns _ _ (Gives Goes s2) R T (turns_same target v s1) done.1
       (ends_now p Goes s2 _ R T record { now = done.0; is = refl; match = done.2; kept = λ j a z o. done.3 j a ∙ kept j z })));
 }
 
@@ -193,7 +215,7 @@ leaves_none x r t b0 b1 none type q = record {
       let held : look g.0.regs regs (record { 0 = r }) ≡ Some (Holds v) = rw (t', is) refl in
       let step = return_step Strict p (record { fn = fn; block = length b0.blocks; place = length b0.ops; regs = regs }) below (world None s) (record { 0 = r }) g.0 (Holds v) at g.1 held in
       let P : Option Reg → Type 0 = λ o. Back p result o fn to [] below x (length b0.regs) regs v s (returning p v below (world None s)) in
-      (returning p v below (world None s), leads_step p _ _ step, (kind, subst P (sym none) refl));
+      (returning p v below (world None s), leads_step p _ _ step, (kind, subst P (sym none) (match.globals, refl)));
 }
 
 -- to the statement around that waits for the value
@@ -214,7 +236,7 @@ leaves_some x r t back b0 b1 b2 some room type type' q c = record {
       let stands : Stands fn (to Return) 0 below None x (length b0.regs) regs s (running fn (to Return) 0 new below (world None s)) = record {
         now = new;
         is = refl;
-        match = match_kept x b0 regs new s.locals s.locals room (λ j lt. put_other regs back.0 j (Holds v) (λ e. let l = room'.0 in omega arith)) refl match;
+        match = match_here x b0 regs new s room (λ j lt. put_other regs back.0 j (Holds v) (λ e. let l = room'.0 in omega arith)) match;
         kept = λ j a z o. put_other regs back.0 j (Holds v) (let Q : Option Reg → Type 0 = λ o. IsKept o j in subst Q some o);
       } in
       (running fn (to Return) 0 new below (world None s), leads_trans p _ _ _ (leads_step p _ _ (step ∙ is1)) go, (kind, subst P (sym some) (refl, record { stands = stands; value = put_same regs back.0 (Holds v) })));

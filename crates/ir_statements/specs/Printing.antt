@@ -23,7 +23,7 @@ use Rattle.ir_core.specs.Meaning.{Config, Waiting}
 use Rattle.ir_frames.specs.Settings.{Setting}
 use Rattle.ir_frames.specs.Placing.{HasType, Has, Placed}
 use Rattle.ir_frames.specs.Coming.{world, running, Leads, Ends}
-use Rattle.ir_frames.specs.Matching.{Matches, IsThrown, CallsWork}
+use Rattle.ir_frames.specs.Matching.{Matches, SameLocals, IsThrown, CallsWork}
 use Rattle.ir_frames.specs.Computing.{Meaning}
 use Rattle.ir_statements.specs.declared.printing.Printed.{Printed}
 use Rattle.ir_statements.specs.declared.printing.Printed.TheVariants.{Number, Flag}
@@ -79,18 +79,18 @@ pub record Writes (r : ℕ) (old new : Building) (qs : List Printed) (text : Lis
 -- ---- the values of arguments
 
 -- the machine is at a place, with the values in registers
-pub record ArrivesPrinted (fn k i : ℕ) (below : List Waiting) (keep : ℕ) (regs : Regs) (ls : List (Option Value)) (qs : List Printed) (vs : List Value) (s : State) (d : Config) : Type 0 where
+pub record ArrivesPrinted (fn k i : ℕ) (below : List Waiting) (keep : ℕ) (regs : Regs) (x : Setting) (before : State) (qs : List Printed) (vs : List Value) (s : State) (d : Config) : Type 0 where
   pub now : Regs
   pub is : d ≡ running fn k i now below (world None s)
   pub shows : HoldValues now qs vs
   pub kept : (j : ℕ) → j < keep → now j ≡ regs j
-  pub locals : s.locals ≡ ls
+  pub same : SameLocals x before s
 
 -- the code from the first builder's place to the second's leaves values in registers that are printed
 pub record ComputesPrinted (x : Setting) (m : Meaning (List Value)) (old new : Building) (qs : List Printed) : Type 0 where
   pub extends : Extends old new
   pub declared : AreDeclared new qs
-  pub runs : (p : Program) (fn : ℕ) (h : Option ℕ) → Placed p fn old new h → (n : ℕ) → CallsWork p x.source n → (regs : Regs) (below : List Waiting) (s : State) → Matches x regs s.locals → s.turns ≤ n → Ends p s.turns (running fn (length old.blocks) (length old.ops) regs below (world None s)) (m n s) (ArrivesPrinted fn (length new.blocks) (length new.ops) below (length old.regs) regs s.locals qs) (IsThrown fn h below x (length old.regs) regs)
+  pub runs : (p : Program) (fn : ℕ) (h : Option ℕ) → Placed p fn old new h → (n : ℕ) → CallsWork p x.source n → (regs : Regs) (below : List Waiting) (s : State) → Matches x regs s → s.turns ≤ n → Ends p s.turns (running fn (length old.blocks) (length old.ops) regs below (world None s)) (m n s) (ArrivesPrinted fn (length new.blocks) (length new.ops) below (length old.regs) regs x s qs) (IsThrown fn h below x (length old.regs) regs)
 
 -- the value of one argument, and what `print` does with values
 abbrev pub one_value : Meaning Value → Meaning (List Value)

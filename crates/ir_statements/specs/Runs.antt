@@ -16,7 +16,7 @@ use Rattle.ir_frames.specs.Settings.{Setting, rtype_of}
 use Rattle.ir_frames.specs.Placing.{Has, Placed}
 use Rattle.ir_frames.specs.Calling.{Open}
 use Rattle.ir_frames.specs.Coming.{world, running, returning, Ends}
-use Rattle.ir_frames.specs.Matching.{HasKind, Matches, Stands, IsThrown, CallsWork}
+use Rattle.ir_frames.specs.Matching.{HasKind, HaveTypes, Matches, Stands, IsThrown, CallsWork}
 use Rattle.ir_frames.specs.Computing.{Meaning}
 use Rattle.ir_statements.specs.declared.ways.Way.{Way}
 use Rattle.ir_statements.specs.declared.ways.Way.TheVariants.{Break, Continue, Return, Join}
@@ -69,7 +69,7 @@ pub record Brings (fn k : ℕ) (below : List Waiting) (x : Setting) (r keep : �
 
 module _ (p : Program) (result : Option RType) where
   abbrev pub Back : Option Reg → ℕ → (Way → ℕ) → List Exit → List Waiting → Setting → ℕ → Regs → Value → State → Config → Type 0
-  Back None fn to exits below x keep regs v s d = d ≡ returning p v below (world None s)
+  Back None fn to exits below x keep regs v s d = HaveTypes x.source.globals s.globals × (d ≡ returning p v below (world None s))
   Back (Some r) fn to exits below x keep regs v s d = (uses Return exits ≡ true) × Brings fn (to Return) below x r.0 keep regs v s d
 
   -- after a statement: at the next place, or at the place of the way that it takes, which is then one of its exits
@@ -90,13 +90,13 @@ module _ (p : Program) (result : Option RType) where
 pub record Works (x : Setting) (result : Option RType) (m : Meaning Flow) (old new : Building) (exits : List Exit) : Type 0 where
   pub extends : Extends old new
   pub opens : OpenIn new (length old.blocks) (length new.blocks) exits
-  pub runs : (p : Program) (fn : ℕ) (h : Option ℕ) (to : Way → ℕ) → Placed p fn old new h → JumpTo p fn new to exits → (n : ℕ) → CallsWork p x.source n → (regs : Regs) (below : List Waiting) (s : State) → Matches x regs s.locals → s.turns ≤ n → Ends p s.turns (running fn (length old.blocks) (length old.ops) regs below (world None s)) (m n s) (Flows p result fn (length new.blocks) (length new.ops) to exits below x (length old.regs) regs) (IsThrown fn h below x (length old.regs) regs)
+  pub runs : (p : Program) (fn : ℕ) (h : Option ℕ) (to : Way → ℕ) → Placed p fn old new h → JumpTo p fn new to exits → (n : ℕ) → CallsWork p x.source n → (regs : Regs) (below : List Waiting) (s : State) → Matches x regs s → s.turns ≤ n → Ends p s.turns (running fn (length old.blocks) (length old.ops) regs below (world None s)) (m n s) (Flows p result fn (length new.blocks) (length new.ops) to exits below x (length old.regs) regs) (IsThrown fn h below x (length old.regs) regs)
 
 -- the same of some arms of an `if`
 pub record Tests (x : Setting) (result : Option RType) (m : Meaning Tried) (old new : Building) (exits : List Exit) : Type 0 where
   pub extends : Extends old new
   pub opens : OpenIn new (length old.blocks) (length new.blocks) exits
-  pub runs : (p : Program) (fn : ℕ) (h : Option ℕ) (to : Way → ℕ) → Placed p fn old new h → JumpTo p fn new to exits → (n : ℕ) → CallsWork p x.source n → (regs : Regs) (below : List Waiting) (s : State) → Matches x regs s.locals → s.turns ≤ n → Ends p s.turns (running fn (length old.blocks) (length old.ops) regs below (world None s)) (m n s) (Tries p result fn (length new.blocks) (length new.ops) to exits below x (length old.regs) regs) (IsThrown fn h below x (length old.regs) regs)
+  pub runs : (p : Program) (fn : ℕ) (h : Option ℕ) (to : Way → ℕ) → Placed p fn old new h → JumpTo p fn new to exits → (n : ℕ) → CallsWork p x.source n → (regs : Regs) (below : List Waiting) (s : State) → Matches x regs s → s.turns ≤ n → Ends p s.turns (running fn (length old.blocks) (length old.ops) regs below (world None s)) (m n s) (Tries p result fn (length new.blocks) (length new.ops) to exits below x (length old.regs) regs) (IsThrown fn h below x (length old.regs) regs)
 
 -- no exit leaves a loop
 abbrev pub LeavesNoLoop : List Exit → Type 0
