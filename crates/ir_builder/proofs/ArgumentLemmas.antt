@@ -21,8 +21,8 @@ use Rattle.ir_core.specs.declared.code.RType.TheVariants.{Bool as BoolType}
 use Rattle.ir_core.specs.Registers.{Held, Unset, Holds, error_of, error_at, first_regs}
 use Rattle.ir_core.specs.Rows.{Declared, type_of_reg}
 use Rattle.ir_frames.specs.declared.frame.Vars.{Vars}
-use Rattle.ir_frames.specs.Coming.{world, running, Escapes, returning, Ends}
-use Rattle.ir_frames.specs.Matching.{HasKind, HaveKinds, flag_of, flag_in, Matches, parameter_sorts, CallGives, CallRaises, CallsWork}
+use Rattle.ir_frames.specs.Coming.{world, running, returning, Ends}
+use Rattle.ir_frames.specs.Matching.{HasKind, HaveKinds, HaveTypes, flag_of, flag_in, Matches, Departs, parameter_sorts, CallGives, CallRaises, CallsWork}
 use Rattle.ir_frames.specs.Settings.{rtype_of}
 use Rattle.ir_frames.proofs.HeldLemmas.{get_below}
 use Rattle.ir_expressions.specs.Compiled.{is_result}
@@ -103,8 +103,8 @@ abbrev pub HaveFlags : Vars → ℕ → Declared → Type 0
 HaveFlags vars n declared =
     (j : ℕ) → vars.params ≤ j → j < n → type_of_reg declared (record { 0 = flag_of vars j }) ≡ Some BoolType
 
-pub entered : (m : TypedModule) (vs : List Variable) (vars : Vars) (params : ℕ) (declared more : Declared) (args : List Value) → vars ≡ variables_of params (length vs) → params ≤ length vs → declared ≡ variable_registers vs ++ more → HaveFlags vars (length vs) declared → HaveKinds (map sort_of (take params vs)) args → length args ≡ params → Matches (record { source = m; variables = vs; frame = body_frame vars }) (first_regs declared (map Holds args)) (map Some args ++ replicate (length vs - length args) None)
-entered m vs vars params declared more args is few regs flags kinds size = record {
+pub entered : (m : TypedModule) (vs : List Variable) (vars : Vars) (params : ℕ) (declared more : Declared) (args : List Value) (s : State) → vars ≡ variables_of params (length vs) → params ≤ length vs → declared ≡ variable_registers vs ++ more → HaveFlags vars (length vs) declared → HaveKinds (map sort_of (take params vs)) args → length args ≡ params → HaveTypes m.globals s.globals → Matches (record { source = m; variables = vs; frame = body_frame vars }) (first_regs declared (map Holds args)) (record s { locals = map Some args ++ replicate (length vs - length args) None; handled = [] })
+entered m vs vars params declared more args s is few regs flags kinds size types = record {
   each = λ j v at.
       let low : j < length vs = get_below vs j v at in
       let ps : vars.params ≡ params = ap (λ (z : Vars). z.params) is in
@@ -122,6 +122,7 @@ entered m vs vars params declared more args is few regs flags kinds size = recor
       let flag : flag_in vars (first_regs declared (map Holds args)) j ≡ Unset = (let e : nat_lt j vars.params ≡ false = grind (arith, nat_tests) in ap (λ b. if b then Holds (BoolVal true) else first_regs declared (map Holds args) (flag_of vars j)) e ∙ unset) in
       (None, unset_at args (length vs - length args) j (omega (arith, size)) (omega (arith, size)), flag))
       (less_or j params);
+  globals = types;
 }
 
 -- ---- results
@@ -159,27 +160,27 @@ ending_kind : (t : Sort) (r : Outcome Flow) (s : State) → r ≡ Gives Goes s �
 ending_kind t r s is (inl e) = rw (is_none t e) (refl, refl)
 ending_kind t r s is (inr a) = let b : Avoids is_end (Gives Goes s) = subst (Avoids is_end) is a in absurd (let f : true ≡ false = b in cc)
 
-module _ (p : Program) (f : TypedFunc) (fn : ℕ) (below : List Waiting) (s : State) (result : is_result f.ret ≡ true) where
+module _ (p : Program) (m : TypedModule) (f : TypedFunc) (fn : ℕ) (below : List Waiting) (s : State) (result : is_result f.ret ≡ true) where
   -- what a call does behind its body
-  pub answers : (c : Config) (t : ℕ) (r : Outcome Flow) → (is_nothing f.ret ≡ true) ⊎ Avoids is_end r → Ends p t c r (LeavesWith p (Some (rtype_of f.ret)) (end_value (rtype_of f.ret)) below) (Escapes fn below) → Ends p t c (and_set (λ u. record u { locals = s.locals; handled = s.handled }) (on_to r (answer NoneVal))) (CallGives p f below s) (CallRaises fn below s)
+  pub answers : (c : Config) (t : ℕ) (r : Outcome Flow) → (is_nothing f.ret ≡ true) ⊎ Avoids is_end r → Ends p t c r (LeavesWith p m (Some (rtype_of f.ret)) (end_value (rtype_of f.ret)) below) (Departs m fn below) → Ends p t c (and_set (λ u. record u { locals = s.locals; handled = s.handled }) (on_to r (answer NoneVal))) (CallGives p m f below s) (CallRaises m fn below s)
   answers c t (Gives Goes u) no_end h =
       let k = ending_kind f.ret (Gives Goes u) u refl no_end in
-      (h.0, h.1, h.2, (k.0, refl, h.3 ∙ ap (λ v. returning p v below (world None u)) k.1))
+      (h.0, h.1, h.2, (k.0, refl, h.3.0, h.3.1 ∙ ap (λ v. returning p v below (world None u)) k.1))
   answers c t (Gives Breaks u) no_end h = absurd h.3
   answers c t (Gives Continues u) no_end h = absurd h.3
   answers c t (Gives (Returns v) u) no_end h =
-      let k = h.3.0 in (h.0, h.1, h.2, (kind_of_result f.ret k.0 v result k.1 k.2, refl, h.3.1))
+      let k = h.3.1 in (h.0, h.1, h.2, (kind_of_result f.ret k.0 v result k.1 k.2, refl, h.3.0, h.3.2))
   answers c t (Raises v u) no_end h = (h.0, h.1, h.2, (refl, h.3))
   answers c t (Stops w u) no_end h = h
 
 -- what a call of a function does once its turn is spent
-pub function_works : (p : Program) (m : TypedModule) (f : TypedFunc) (fn : ℕ) (h : Func) (vars : Vars) (more : Declared) → f.params ≤ length f.locals → is_result f.ret ≡ true → ((n : ℕ) (s : State) → (is_nothing f.ret ≡ true) ⊎ Avoids is_end (suite m.classes.classes (call_of m n) m.globals f.locals n f.body s)) → vars ≡ variables_of f.params (length f.locals) → h.regs ≡ variable_registers f.locals ++ more → HaveFlags vars (length f.locals) h.regs → BodyWorks p (record { source = m; variables = f.locals; frame = body_frame vars }) (Some (rtype_of f.ret)) (end_value (rtype_of f.ret)) (means_suite (record { source = m; variables = f.locals; frame = body_frame vars }) f.body) fn 0 1 → (n : ℕ) → CallsWork p m n → (args : List Value) (below : List Waiting) (s : State) → HaveKinds (parameter_sorts f) args → s.turns ≤ n → Ends p s.turns (running fn 0 1 (first_regs h.regs (map Holds args)) below (world None s)) (enter m (call_of m n) n (Some f) args s) (CallGives p f below s) (CallRaises fn below s)
-function_works p m f fn h vars more few result no_end is regs flags body n calls args below s kinds le =
+pub function_works : (p : Program) (m : TypedModule) (f : TypedFunc) (fn : ℕ) (h : Func) (vars : Vars) (more : Declared) → f.params ≤ length f.locals → is_result f.ret ≡ true → ((n : ℕ) (s : State) → (is_nothing f.ret ≡ true) ⊎ Avoids is_end (suite m.classes.classes (call_of m n) m.globals f.locals n f.body s)) → vars ≡ variables_of f.params (length f.locals) → h.regs ≡ variable_registers f.locals ++ more → HaveFlags vars (length f.locals) h.regs → BodyWorks p (record { source = m; variables = f.locals; frame = body_frame vars }) (Some (rtype_of f.ret)) (end_value (rtype_of f.ret)) (means_suite (record { source = m; variables = f.locals; frame = body_frame vars }) f.body) fn 0 1 → (n : ℕ) → CallsWork p m n → (args : List Value) (below : List Waiting) (s : State) → HaveKinds (parameter_sorts f) args → HaveTypes m.globals s.globals → s.turns ≤ n → Ends p s.turns (running fn 0 1 (first_regs h.regs (map Holds args)) below (world None s)) (enter m (call_of m n) n (Some f) args s) (CallGives p m f below s) (CallRaises m fn below s)
+function_works p m f fn h vars more few result no_end is regs flags body n calls args below s kinds types le =
     let count : length args ≡ f.params = as_many (parameter_sorts f) args kinds ∙ sorts_size f few in
     let rest : List (Option Value) = replicate (length f.locals - length args) None in
     let first : State = record s { locals = map Some args ++ rest; handled = [] } in
-    let match = entered m f.locals vars f.params h.regs more args is few regs flags kinds count in
+    let match = entered m f.locals vars f.params h.regs more args s is few regs flags kinds count types in
     let run = body n calls (first_regs h.regs (map Holds args)) below first match le in
-    let done = answers p f fn below s result _ s.turns (suite m.classes.classes (call_of m n) m.globals f.locals n f.body first) (no_end n first) run in
+    let done = answers p m f fn below s result _ s.turns (suite m.classes.classes (call_of m n) m.globals f.locals n f.body first) (no_end n first) run in
     let fits : nat_eq (length args) f.params ≡ true = eq-eqb (length args) f.params count in
     rw fits done

@@ -14,7 +14,7 @@ use Rattle.ir_core.specs.Meaning.{Waiting, Ended, Strict, item_at, turned, step}
 use Rattle.ir_core.specs.Registers.{Holds, Regs, first_regs}
 use Rattle.ir_core.proofs.StepLemmas.{op_step, turn_step}
 use Rattle.ir_frames.specs.Coming.{world, running, Ends}
-use Rattle.ir_frames.specs.Matching.{HaveKinds, parameter_sorts, HasHead, CallGives, CallRaises, CallsWork}
+use Rattle.ir_frames.specs.Matching.{HaveKinds, HaveTypes, HasGlobals, parameter_sorts, HasHead, CallGives, CallRaises, CallsWork}
 use Rattle.ir_frames.proofs.ComingLemmas.{leads_step, ends_from, ends_of}
 use Rattle.ir_builder.specs.Functions.{FunctionWorks}
 
@@ -26,7 +26,7 @@ pub record IsThere (p : Program) (m : TypedModule) (g : ℕ) (f : TypedFunc) : T
   pub turn : item_at p g 0 0 ≡ Some (Do Turn)
   pub works : FunctionWorks p m f g code
 
-module _ (p : Program) (m : TypedModule) (there : (g : ℕ) (f : TypedFunc) → slice_get m.funcs g ≡ Some f → IsThere p m g f) where
+module _ (p : Program) (m : TypedModule) (variables : HasGlobals p m) (there : (g : ℕ) (f : TypedFunc) → slice_get m.funcs g ≡ Some f → IsThere p m g f) where
   -- where no turn is left
   cut : (g : ℕ) (regs : Regs) (below : List Waiting) (s : State) → item_at p g 0 0 ≡ Some (Do Turn) → s.turns ≡ 0 → step Strict p (running g 0 0 regs below (world None s)) ≡ Ended ending.Cut (world None s)
   cut g regs below s turn none =
@@ -34,27 +34,28 @@ module _ (p : Program) (m : TypedModule) (there : (g : ℕ) (f : TypedFunc) → 
       ∙ ap (turned (record { fn = g; block = 0; place = 0; regs = regs }) below (world None s)) none
 
   -- a call with some turns left, where calls with fewer work
-  called : (n : ℕ) → ((k : ℕ) → n ≡ suc k → CallsWork p m k) → (g : ℕ) (f : TypedFunc) (h : Func) (args : List Value) (below : List Waiting) (s : State) (t : ℕ) → s.turns ≡ t → slice_get m.funcs g ≡ Some f → slice_get p.funcs g ≡ Some h → item_at p g 0 0 ≡ Some (Do Turn) → FunctionWorks p m f g h → HaveKinds (parameter_sorts f) args → s.turns ≤ n → Ends p s.turns (running g 0 0 (first_regs h.regs (map Holds args)) below (world None s)) (on_to (spend_from t s) (λ _. body_of m n g args)) (CallGives p f below s) (CallRaises g below s)
-  called n fewer g f h args below s zero left is at turn works kinds le =
+  called : (n : ℕ) → ((k : ℕ) → n ≡ suc k → CallsWork p m k) → (g : ℕ) (f : TypedFunc) (h : Func) (args : List Value) (below : List Waiting) (s : State) (t : ℕ) → s.turns ≡ t → slice_get m.funcs g ≡ Some f → slice_get p.funcs g ≡ Some h → item_at p g 0 0 ≡ Some (Do Turn) → FunctionWorks p m f g h → HaveKinds (parameter_sorts f) args → HaveTypes m.globals s.globals → s.turns ≤ n → Ends p s.turns (running g 0 0 (first_regs h.regs (map Holds args)) below (world None s)) (on_to (spend_from t s) (λ _. body_of m n g args)) (CallGives p m f below s) (CallRaises m g below s)
+  called n fewer g f h args below s zero left is at turn works kinds types le =
       (ending.Cut, refl, leads_step p _ _ (cut g (first_regs h.regs (map Holds args)) below s turn left))
-  called zero fewer g f h args below s (suc t) left is at turn works kinds le = absurd (omega (arith, left, le))
-  called (suc k) fewer g f h args below s (suc t) left is at turn works kinds le =
+  called zero fewer g f h args below s (suc t) left is at turn works kinds types le = absurd (omega (arith, left, le))
+  called (suc k) fewer g f h args below s (suc t) left is at turn works kinds types le =
       let less : State = record s { turns = t } in
       let regs = first_regs h.regs (map Holds args) in
       let few : t ≤ k = omega (arith, left, le) in
-      let run = works k (fewer k refl) args below less kinds few in
+      let run = works k (fewer k refl) args below less kinds types few in
       let same : enter m (call_of m k) k (slice_get m.funcs g) args less ≡ enter m (call_of m k) k (Some f) args less = ap (λ o. enter m (call_of m k) k o args less) is in
       let go = leads_step p _ _ (turn_step Strict p (record { fn = g; block = 0; place = 0; regs = regs }) below (world None s) t turn refl left) in
-      ends_from p t s.turns _ (running g 0 1 regs below (world None less)) (enter m (call_of m k) k (slice_get m.funcs g) args less) (CallGives p f below s) (CallRaises g below s) (omega (arith, left)) go
-      (ends_of p t _ _ _ (CallGives p f below s) (CallRaises g below s) same run)
+      ends_from p t s.turns _ (running g 0 1 regs below (world None less)) (enter m (call_of m k) k (slice_get m.funcs g) args less) (CallGives p m f below s) (CallRaises m g below s) (omega (arith, left)) go
+      (ends_of p t _ _ _ (CallGives p m f below s) (CallRaises m g below s) same run)
 
   with_fewer : (n : ℕ) → ((k : ℕ) → n ≡ suc k → CallsWork p m k) → CallsWork p m n
   with_fewer n fewer = record {
+    variables = variables;
     there = λ g f is. let t = there g f is in (t.code, t.at, t.head);
-    each = λ g f h args below s is at kinds le.
+    each = λ g f h args below s is at kinds types le.
         let t = there g f is in
         let same : t.code ≡ h = (let both : Some t.code ≡ Some h = sym t.at ∙ at in cc) in
-        called n fewer g f h args below s s.turns refl is at t.turn (subst (λ z. FunctionWorks p m f g z) same t.works) kinds le;
+        called n fewer g f h args below s s.turns refl is at t.turn (subst (λ z. FunctionWorks p m f g z) same t.works) kinds types le;
   }
 
   pub calls_work : (n : ℕ) → CallsWork p m n

@@ -33,7 +33,7 @@ use Rattle.ir_frames.specs.Calling.{Pushes}
 use Rattle.ir_frames.specs.Coming.{world, Escapes}
 use Rattle.ir_frames.specs.Computing.{Meaning}
 use Rattle.ir_frames.specs.Kinds.{Head, head_of, Surrounding, is_plain, ArePlain, LiteralFits, OpKinds, OpsKinds, no_more, BlocksKinds, HasKinds, KeepsKinds, KeepsKindsIf, IsAmong}
-use Rattle.ir_frames.specs.Matching.{flag_of, HasRoom, Matches, BeginWith}
+use Rattle.ir_frames.specs.Matching.{flag_of, HasRoom, Matches, Departs, BeginWith}
 use Rattle.ir_frames.specs.Naming.{names_of}
 use Rattle.ir_frames.specs.Placing.{HasType, NoEdges, Has}
 use Rattle.ir_frames.specs.Settings.{Setting, rtype_of}
@@ -140,9 +140,9 @@ module _ (vs : List Variable) (b : Building) (variables : Declared) (is : variab
         back = tt;
       }
 
-  pub begin_kinds : (heads : List Head) (ret : RType) → HasKinds (record { heads = heads; variables = n; text = n; ret = ret }) b
-  begin_kinds heads ret =
-      let g : Surrounding = record { heads = heads; variables = n; text = n; ret = ret } in
+  pub begin_kinds : (heads : List Head) (globals : Declared) (ret : RType) → HasKinds (record { heads = heads; globals = globals; variables = n; text = n; ret = ret }) b
+  begin_kinds heads globals ret =
+      let g : Surrounding = record { heads = heads; globals = globals; variables = n; text = n; ret = ret } in
       record {
         text = begin_text;
         variables = omega (arith, begin_size);
@@ -176,8 +176,9 @@ all_plain [] (suc n) h = tt
 all_plain (v ∷ vs) zero h = tt
 all_plain (v ∷ vs) (suc n) h = (plain_sort v.1 (h 0 v refl), all_plain vs n (λ i u e. h (suc i) u e))
 
-pub among : (m : TypedModule) → ModuleSuits m → (g : Surrounding) → g.heads ≡ heads_of m → IsAmong m g
-among m suits g is = record {
+pub among : (m : TypedModule) → ModuleSuits m → (g : Surrounding) → g.heads ≡ heads_of m → g.globals ≡ variable_registers m.globals → IsAmong m g
+among m suits g is globals = record {
+  globals = globals;
   heads = λ n f e. ap (λ hs. slice_get hs n) is ∙ get_map head_of m.funcs n f e;
   plain = λ n h e.
       let k = map_get head_of m.funcs n h (ap (λ hs. slice_get hs n) (sym is) ∙ e) in
@@ -196,7 +197,7 @@ has_all p fn b h there blocks regs none edges = record {
 }
 
 -- all that is asked of its blocks and registers
-pub is_built : (vs : List Variable) (rest : Declared) (g : Surrounding) (b : Building) (h : Func) (low high : ℕ) → g.variables ≡ length vs → list_all is_identifier (variable_names vs) ≡ true → b.regs ≡ variable_registers vs ++ rest → HasKinds g b → b.ops ≡ [] → length b.blocks ≡ suc high → Shaped low high b → ((k : ℕ) → is_open_at b.blocks k ≡ false) → length b.blocks < 2 ^ 64 → names_differ (names_of b.regs) ≡ true → h.params ≤ g.variables → h.ret ≡ g.ret → h.regs ≡ b.regs → h.blocks ≡ b.blocks → IsBuilt g.heads h
+pub is_built : (vs : List Variable) (rest : Declared) (g : Surrounding) (b : Building) (h : Func) (low high : ℕ) → g.variables ≡ length vs → list_all is_identifier (variable_names vs) ≡ true → b.regs ≡ variable_registers vs ++ rest → HasKinds g b → b.ops ≡ [] → length b.blocks ≡ suc high → Shaped low high b → ((k : ℕ) → is_open_at b.blocks k ≡ false) → length b.blocks < 2 ^ 64 → names_differ (names_of b.regs) ≡ true → h.params ≤ g.variables → h.ret ≡ g.ret → h.regs ≡ b.regs → h.blocks ≡ b.blocks → IsBuilt g.heads g.globals h
 is_built vs rest g b h low high size names regs kinds none highest shaped written few differ params ret same_regs same_blocks =
     let front : take g.variables h.regs ≡ variable_registers vs = ap (λ n. take n h.regs) (size ∙ sym (map_length register_of vs)) ∙ ap (take (length (variable_registers vs))) (same_regs ∙ regs) ∙ take_front (variable_registers vs) rest in
     let P : Building → Type 0 = λ z. HasKinds g z in
@@ -210,6 +211,7 @@ is_built vs rest g b h low high size names regs kinds none highest shaped writte
     record {
       among = g;
       heads_are = refl;
+      globals_are = refl;
       ret = ret;
       params = params;
       kinds = whole;
@@ -244,7 +246,7 @@ body_setting m vs vars = record { source = m; variables = vs; frame = body_frame
 pub record IsMade (m : TypedModule) (vs : List Variable) (b : Building) (h : Func) : Type 0 where
   pub rest : Declared
   pub regs : h.regs ≡ variable_registers vs ++ rest
-  pub built : IsBuilt (heads_of m) h
+  pub built : IsBuilt (heads_of m) (variable_registers m.globals) h
   pub has : (p : Program) (fn : ℕ) → slice_get p.funcs fn ≡ Some h → Has p fn b
 
 pub is_made : (m : TypedModule) (vs : List Variable) (variables : Declared) (count : ℕ) (vars : Vars) (gives : Option RType) (t : RType) (last : Literal) (M : Meaning Flow) (b0 b1 b2 : Building) (h : Func) → ModuleSuits m → list_all is_identifier (variable_names vs) ≡ true → variables ≡ variable_registers vs → count ≡ length vs → vars.text ≡ count → ((g : Surrounding) → g.ret ≡ t → GivesResult gives g) → LiteralFits t last → Begins variables b0 → Extends b0 b1 → length b1.blocks ≡ 0 → ((high : ℕ) → Shaped 0 high b0 → Shaped 0 high b1) → KeepsKinds b0 b1 → Bodied (body_setting m vs vars) gives t last M b1 b2 → CompletesShape b1 b2 → KeepsKindsIf (BodyAround m vars gives t last) b1 b2 → length b2.blocks < 2 ^ 64 → names_differ (names_of b2.regs) ≡ true → h.regs ≡ b2.regs → h.blocks ≡ b2.blocks → h.ret ≡ t → h.params ≤ count → IsMade m vs b2 h
@@ -252,9 +254,9 @@ is_made m vs variables count vars gives t last M b0 b1 b2 h suits names are size
     let text : List ℕ × RType = (first.regs.name, rtype.Ref) in
     let more = starts_with b0.regs b2.regs (extends_trans b0 b1 b2 x01 bodied.extends).regs in
     let behind : b2.regs ≡ variable_registers vs ++ (text ∷ more.0) = more.1 ∙ ap (λ ds. ds ++ more.0) (begin_regs vs b0 variables are first count size) ∙ append_assoc (variable_registers vs) (text ∷ []) more.0 in
-    let g : Surrounding = record { heads = heads_of m; variables = count; text = count; ret = t } in
-    let around : IsAround m (body_frame vars) gives g = record { among = among m suits g refl; text = sym vars_are; ret = gives_it g refl } in
-    let kinds : HasKinds g b2 = kinds12 g record { around = around; ret = refl; fits = fits } (kinds01 g (begin_kinds vs b0 variables are first count size (heads_of m) t)) in
+    let g : Surrounding = record { heads = heads_of m; globals = variable_registers m.globals; variables = count; text = count; ret = t } in
+    let around : IsAround m (body_frame vars) gives g = record { among = among m suits g refl refl; text = sym vars_are; ret = gives_it g refl } in
+    let kinds : HasKinds g b2 = kinds12 g record { around = around; ret = refl; fits = fits } (kinds01 g (begin_kinds vs b0 variables are first count size (heads_of m) (variable_registers m.globals) t)) in
     let high : ℕ = length b2.blocks - 1 in
     let grown = bodied.more in
     let highest : length b2.blocks ≡ suc high = omega arith in
@@ -307,11 +309,11 @@ function_is m suits f fits variables count params vars ret last b0 bf b1 b2 name
 
 -- ---- the module's own statements
 
-own_flow : (p : Program) (g : Flow) (s : State) (d : Config) → LeavesWith p None (BoolVal true) [] g s d → (g ≡ Goes) × (d ≡ Ended Done (world None s))
-own_flow p Goes s d h = (refl, h)
-own_flow p Breaks s d h = absurd h
-own_flow p Continues s d h = absurd h
-own_flow p (Returns v) s d h = absurd h.0
+own_flow : (p : Program) (m : TypedModule) (g : Flow) (s : State) (d : Config) → LeavesWith p m None (BoolVal true) [] g s d → (g ≡ Goes) × (d ≡ Ended Done (world None s))
+own_flow p m Goes s d h = (refl, h.1)
+own_flow p m Breaks s d h = absurd h
+own_flow p m Continues s d h = absurd h
+own_flow p m (Returns v) s d h = absurd h.1
 
 pub own_is : (m : TypedModule) (suits : ModuleSuits m) (variables : Declared) (count params : ℕ) (vars : Vars) (b0 b2 : Building) (h : Func) → variables ≡ [] → count ≡ 0 → vars ≡ variables_of 0 count → Begins variables b0 → Bodied (body_setting m [] vars) None rtype.Bool (Number (pos 1)) (means_suite (body_setting m [] vars) m.top) b0 b2 → CompletesShape b0 b2 → KeepsKindsIf (BodyAround m vars None rtype.Bool (Number (pos 1))) b0 b2 → length b2.blocks < 2 ^ 64 → names_differ (names_of b2.regs) ≡ true → params ≡ 0 → h ≡ record { name = b2.name; params = params; regs = b2.regs; ret = rtype.Bool; blocks = b2.blocks } → IsOwnOf m h
 own_is m suits variables count params vars b0 b2 h are size vars_are first bodied shape kinds12 few differ params_are is =
@@ -329,11 +331,11 @@ own_is m suits variables count params vars b0 b2 h are size vars_are first bodie
         params = h_params;
         ret = h_ret;
       };
-      works = λ p fn there n calls s le.
+      works = λ p fn there n calls s types le.
           let has = made.has p fn there in
           let body = bodied.works p fn h (BoolVal true) has there refl in
           let B : ℕ → ℕ → Type 0 = λ k i. BodyWorks p (body_setting m [] vars) None (BoolVal true) (means_suite (body_setting m [] vars) m.top) fn k i in
           let placed : B 0 0 = subst (λ i. B 0 i) start (subst (λ k. B k (length b0.ops)) none body) in
-          let match : Matches (body_setting m [] vars) (first_regs h.regs []) s.locals = record { each = λ j v at. let f : None ≡ Some v = at in absurd (cc) } in
-          ends_map p s.turns _ (top_of m n s) (LeavesWith p None (BoolVal true) []) _ (Escapes fn []) (Escapes fn []) (λ g u d z. own_flow p g u d z) (λ v u d z. z) (placed n calls (first_regs h.regs []) [] s match le);
+          let match : Matches (body_setting m [] vars) (first_regs h.regs []) s = record { each = λ j v at. let f : None ≡ Some v = at in absurd (cc); globals = types } in
+          ends_map p s.turns _ (top_of m n s) (LeavesWith p m None (BoolVal true) []) _ (Departs m fn []) (Escapes fn []) (λ g u d z. own_flow p m g u d z) (λ v u d z. z.1) (placed n calls (first_regs h.regs []) [] s match le);
     }

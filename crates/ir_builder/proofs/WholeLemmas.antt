@@ -1,5 +1,5 @@
 -- A whole program does what its module does, is calm, and is built as a program is.
-use Rattle.std.proofs.Common.{◌≡◌, ◌≢◌, ℕ, zero, suc, ◌+◌, ◌-◌, ◌<◌, ◌≤◌, List, [], ◌∷◌, ◌++◌, length, map, take, get_or, Some, None, refl, sym, ap, ◌∙◌, subst, arith, le_refl, add-one, length-append}
+use Rattle.std.proofs.Common.{◌≡◌, ◌≢◌, ℕ, zero, suc, ◌+◌, ◌-◌, ◌<◌, ◌≤◌, List, [], ◌∷◌, ◌++◌, length, map, take, get_or, Option, Some, None, ⊎_elim, refl, sym, ap, ◌∙◌, subst, arith, le_refl, add-one, length-append}
 use Rattle.std.specs.Prelude.{slice_get, replicate}
 use Rattle.std.specs.List.{list_all}
 use Rattle.std.proofs.Math.Seq.{take-suc}
@@ -17,7 +17,7 @@ use Rattle.ir_core.specs.declared.code.Func.{Func}
 use Rattle.ir_core.specs.declared.code.Program.{Program}
 use Rattle.ir_core.specs.declared.code.RType.{RType}
 use Rattle.ir_core.specs.declared.code.RType.TheVariants.{Bool}
-use Rattle.ir_core.specs.Items.{item_in, blocks_of}
+use Rattle.ir_core.specs.Items.{Do, item_in, blocks_of}
 use Rattle.ir_core.specs.Effects.{World}
 use Rattle.ir_core.specs.Meaning.{Config, Leaves, Ended, Stuck, Strict, if_some, leave, step, steps}
 use Rattle.ir_core.specs.Registers.{error_of, first_regs}
@@ -30,16 +30,20 @@ use Rattle.ir_frames.specs.Coming.{world, running, Escapes, Leads, Ends}
 use Rattle.ir_frames.specs.Kinds.{Head, head_of}
 use Rattle.ir_frames.specs.Matching.{parameter_sorts, BeginWith, HasHead}
 use Rattle.ir_frames.specs.Naming.{names_of}
+use Rattle.ir_frames.specs.Placing.{NoEdges}
 use Rattle.ir_frames.specs.Settings.{rtype_of}
 use Rattle.ir_frames.proofs.ComingLemmas.{leads_as, leads_step, leads_trans}
+use Rattle.ir_frames.proofs.GlobalLemmas.{none_have_types}
+use Rattle.ir_frames.proofs.KindLemmas.{get_behind}
 use Rattle.ir_bodies.specs.Modules.{FunctionSuits, ModuleSuits}
-use Rattle.ir_shapes.specs.Built.{head_of_code, IsFunction, IsOwn, IsProgram}
+use Rattle.ir_shapes.specs.Built.{head_of_code, IsBuilt, IsFunction, IsOwn, IsProgram}
 use Rattle.ir_statements.proofs.EmitLemmas.{map_last}
 use Rattle.ir_builder.specs.Functions.{heads_of, IsFunctionOf, AllBuilt, IsBuiltOf}
 use Rattle.ir_builder.specs.Meaning.{module_stop, DoesAsModule}
-use Rattle.ir_builder.specs.Registers.{register_of}
+use Rattle.ir_builder.specs.Registers.{register_of, variable_registers}
 use Rattle.ir_builder.proofs.CallLemmas.{IsThere, calls_work}
 use Rattle.ir_builder.proofs.ArgumentLemmas.{map_length}
+use Rattle.ir_builder.proofs.EdgeLemmas.{no_edges}
 use Rattle.ir_builder.proofs.FunctionLemmas.{get_map, names_are}
 use Rattle.ir_builder.proofs.RegisterLemmas.{take_past}
 
@@ -116,7 +120,10 @@ built_all m c xs i hs same le all = subst (λ l. AllBuilt m (map typed_func l) h
 
 -- ---- runs
 
-module _ (m : TypedModule) (p : Program) (b : IsBuiltOf m p) where
+built_edges : (heads : List Head) (globals : Declared) (p : Program) (fn : ℕ) (h : Func) → slice_get p.funcs fn ≡ Some h → IsBuilt heads globals h → NoEdges p fn
+built_edges heads globals p fn h there b = no_edges p fn h b.low b.highest there b.fits
+
+module _ (m : TypedModule) (p : Program) (b : IsBuiltOf m p) (suits : ModuleSuits m) where
   there : (g : ℕ) (f : TypedFunc) → slice_get m.funcs g ≡ Some f → IsThere p m g f
   there g f e =
       let k = built_at m m.funcs b.functions b.own g f b.each e in
@@ -125,6 +132,20 @@ module _ (m : TypedModule) (p : Program) (b : IsBuiltOf m p) where
 
   own_at : slice_get p.funcs (length b.functions) ≡ Some b.own
   own_at = ap (λ fs. slice_get fs (length b.functions)) b.are ∙ last_at b.functions b.own
+
+  -- behind no operation that may fail stands a test of its result
+  edges_at : (fn : ℕ) (o : Option Func) → slice_get p.funcs fn ≡ o → NoEdges p fn
+  edges_at fn None none = record {
+    each = λ k i r o is may. let gone : None ≡ Some (Do o) = sym (ap (λ z. item_in (blocks_of z) k i) none) ∙ is in absurd (cc);
+  }
+  edges_at fn (Some h) there =
+      ⊎_elim
+      (λ function. let k = code_at m m.funcs b.functions fn h b.each function in built_edges (heads_of m) (variable_registers m.globals) p fn h there k.1.built.built)
+      (λ last. built_edges (heads_of m) (variable_registers m.globals) p fn h there (subst (IsBuilt (heads_of m) (variable_registers m.globals)) (sym last) b.own_built.built.built))
+      (get_behind b.functions b.own h fn (ap (λ fs. slice_get fs fn) (sym b.are) ∙ there))
+
+  pub no_tests : (fn : ℕ) → NoEdges p fn
+  no_tests fn = edges_at fn (slice_get p.funcs fn) refl
 
   -- an exception that leaves the module's own code
   leaves : (w : World) → step Strict p (Leaves (length b.functions) [] w) ≡ leave Strict p Bool (error_of Bool) [] w
@@ -156,8 +177,8 @@ module _ (m : TypedModule) (p : Program) (b : IsBuiltOf m p) where
   -- the end of a strict run
   comes : (turns : ℕ) (items : Items) → (e : Ending) × (w : World) × (n : ℕ) × (steps Strict p n (run.start p turns items) ≡ Ended e w) × (stop_of (top_of m turns (start m turns items)) ≡ module_stop e w)
   comes turns items =
-      let calls = calls_work p m there turns in
-      let done = b.own_built.works p (length b.functions) own_at turns calls (start m turns items) (le_refl turns) in
+      let calls = calls_work p m record { are = b.globals; differ = suits.globals_differ } there turns in
+      let done = b.own_built.works p (length b.functions) own_at turns calls (start m turns items) (none_have_types m.globals) (le_refl turns) in
       let k = finished turns _ (top_of m turns (start m turns items)) done in
       (k.0, k.1, k.2.count, ap (steps Strict p k.2.count) (starts turns items) ∙ k.2.is, k.3)
 
@@ -176,15 +197,15 @@ module _ (m : TypedModule) (p : Program) (b : IsBuiltOf m p) where
         same = k.4;
       }
 
-  pub is_program : ModuleSuits m → IsProgram p
-  is_program suits =
+  pub is_program : IsProgram p
+  is_program =
       let heads : map head_of_code b.functions ≡ heads_of m = heads_same m m.funcs b.functions b.each in
       record {
         functions = b.functions;
         own = b.own;
         are = b.are;
-        each = λ n h e. let k = code_at m m.funcs b.functions n h b.each e in subst (λ hs. IsFunction hs h) (sym heads) k.1.built;
-        own_built = subst (λ hs. IsOwn hs b.own) (sym heads) b.own_built.built;
+        each = λ n h e. let k = code_at m m.funcs b.functions n h b.each e in subst (λ gs. IsFunction (map head_of_code b.functions) gs h) (sym b.globals) (subst (λ hs. IsFunction hs (variable_registers m.globals) h) (sym heads) k.1.built);
+        own_built = subst (λ gs. IsOwn (map head_of_code b.functions) gs b.own) (sym b.globals) (subst (λ hs. IsOwn hs (variable_registers m.globals) b.own) (sym heads) b.own_built.built);
         differ = ap names_differ (names_same m m.funcs b.functions b.each) ∙ suits.differ;
         classes = b.classes;
         globals = ap (λ ds. list_all is_identifier (names_of ds)) b.globals ∙ ap (list_all is_identifier) (names_are m.globals) ∙ suits.identifiers;

@@ -15,10 +15,10 @@ use Rattle.ir_core.specs.declared.code.RType.TheVariants.{Bool, Ref}
 use Rattle.ir_core.specs.Meaning.{Waiting, Ended}
 use Rattle.ir_core.specs.Registers.{Holds, first_regs}
 use Rattle.ir_frames.specs.Coming.{world, running, Escapes, Ends}
+use Rattle.ir_frames.specs.Settings.{variable_registers}
 use Rattle.ir_frames.specs.Kinds.{Head, head_of}
-use Rattle.ir_frames.specs.Matching.{HaveKinds, parameter_sorts, HasHead, CallGives, CallRaises, CallsWork}
+use Rattle.ir_frames.specs.Matching.{HaveKinds, HaveTypes, parameter_sorts, HasHead, CallGives, CallRaises, CallsWork}
 use Rattle.ir_shapes.specs.Built.{IsFunction, IsOwn}
-use Rattle.ir_builder.specs.Registers.{variable_registers}
 
 -- what a function gives at the end of its code. One whose result is not None does not come there
 abbrev pub end_literal : RType → Lit
@@ -33,24 +33,24 @@ end_value t = IntVal (pos 0)
 abbrev pub heads_of : TypedModule → List Head
 heads_of m = map head_of m.funcs
 
--- where calls work, the function's code does behind its turn what the function's body does on arguments
+-- where calls work and the module's variables have their types, the function's code does behind its turn what the function's body does on arguments
 abbrev pub FunctionWorks : Program → TypedModule → TypedFunc → ℕ → Func → Type 0
 FunctionWorks p m f fn h =
-    (n : ℕ) → CallsWork p m n → (args : List Value) (below : List Waiting) (s : State) → HaveKinds (parameter_sorts f) args → s.turns ≤ n → Ends p s.turns (running fn 0 1 (first_regs h.regs (map Holds args)) below (world None s)) (enter m (call_of m n) n (Some f) args s) (CallGives p f below s) (CallRaises fn below s)
+    (n : ℕ) → CallsWork p m n → (args : List Value) (below : List Waiting) (s : State) → HaveKinds (parameter_sorts f) args → HaveTypes m.globals s.globals → s.turns ≤ n → Ends p s.turns (running fn 0 1 (first_regs h.regs (map Holds args)) below (world None s)) (enter m (call_of m n) n (Some f) args s) (CallGives p m f below s) (CallRaises m fn below s)
 
 pub record IsFunctionOf (m : TypedModule) (f : TypedFunc) (h : Func) : Type 0 where
   pub name : h.name ≡ f.name
   pub head : HasHead h f
-  pub built : IsFunction (heads_of m) h
+  pub built : IsFunction (heads_of m) (variable_registers m.globals) h
   pub works : (p : Program) (fn : ℕ) → slice_get p.funcs fn ≡ Some h → FunctionWorks p m f fn h
 
--- where calls work, the code of a module's own statements does what they mean
+-- where calls work and the module's variables have their types, the code of a module's own statements does what they mean
 abbrev pub OwnWorks : Program → TypedModule → ℕ → Func → Type 0
 OwnWorks p m fn h =
-    (n : ℕ) → CallsWork p m n → (s : State) → s.turns ≤ n → Ends p s.turns (running fn 0 0 (first_regs h.regs []) [] (world None s)) (top_of m n s) (λ g u d. (g ≡ Goes) × (d ≡ Ended Done (world None u))) (Escapes fn [])
+    (n : ℕ) → CallsWork p m n → (s : State) → HaveTypes m.globals s.globals → s.turns ≤ n → Ends p s.turns (running fn 0 0 (first_regs h.regs []) [] (world None s)) (top_of m n s) (λ g u d. (g ≡ Goes) × (d ≡ Ended Done (world None u))) (Escapes fn [])
 
 pub record IsOwnOf (m : TypedModule) (h : Func) : Type 0 where
-  pub built : IsOwn (heads_of m) h
+  pub built : IsOwn (heads_of m) (variable_registers m.globals) h
   pub works : (p : Program) (fn : ℕ) → slice_get p.funcs fn ≡ Some h → OwnWorks p m fn h
 
 -- each function has its code, in order

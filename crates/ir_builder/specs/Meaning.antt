@@ -1,14 +1,14 @@
 -- When a program does what a module does.
-use Rattle.std.specs.Prelude.{◌≡◌, ℕ, List, map, Some}
+use Rattle.std.specs.Prelude.{◌≡◌, ℕ, List, Some}
 use Rattle.value_core.specs.Ending.{Ending}
 use Rattle.value_core.specs.Items.{Items}
-use Rattle.py_typed.specs.Statements.{Variable, TypedModule}
+use Rattle.py_typed.specs.Statements.{TypedModule}
 use Rattle.py_typed.specs.SourceRun.{ModuleStop, source_run}
 use Rattle.ir_core.specs.declared.code.RType.{RType}
 use Rattle.ir_core.specs.declared.code.Program.{Program}
 use Rattle.ir_core.specs.Effects.{World}
 use Rattle.ir_core.specs.Runs.{ComesTo}
-use Rattle.ir_frames.specs.Settings.{rtype_of}
+use Rattle.ir_frames.specs.Settings.{variable_registers}
 
 -- where a program stops, in the terms of a module
 abbrev pub module_stop : Ending → World → ModuleStop
@@ -26,4 +26,4 @@ DoesAsModule m p = (turns : ℕ) (items : Items) → ComesAsModule m p turns ite
 
 -- a module's variables as a program's globals
 abbrev pub globals_of : TypedModule → List (List ℕ × RType)
-globals_of m = map (λ (v : Variable). (v.0, rtype_of v.1)) m.globals
+globals_of m = variable_registers m.globals

@@ -1,22 +1,14 @@
 -- The registers with which a function begins: those of its variables, one for printed texts, and flags.
-use Rattle.std.specs.Prelude.{◌≡◌, ℕ, ◌+◌, ◌-◌, ◌<◌, ◌≤◌, true, List, [], ◌∷◌, ◌++◌, length, map}
+use Rattle.std.specs.Prelude.{◌≡◌, ℕ, ◌+◌, ◌-◌, ◌<◌, ◌≤◌, true, List, [], ◌∷◌, ◌++◌, length}
 use Rattle.c_core.specs.WellFormed.{names_differ}
-use Rattle.py_typed.specs.Statements.{Variable}
-use Rattle.ir_core.specs.declared.code.RType.{RType}
 use Rattle.ir_core.specs.declared.code.RType.TheVariants.{Bool, Ref}
 use Rattle.ir_core.specs.Building.{Building, Extends}
 use Rattle.ir_core.specs.Rows.{Declared}
 use Rattle.ir_frames.specs.declared.frame.Vars.{Vars}
-use Rattle.ir_frames.specs.Settings.{rtype_of}
+pub use Rattle.ir_frames.specs.Settings.{register_of, variable_registers}
 use Rattle.ir_frames.specs.Placing.{HasType}
 use Rattle.ir_frames.specs.Kinds.{temporary_name}
 use Rattle.ir_frames.specs.Naming.{names_of}
-
-abbrev pub register_of : Variable → List ℕ × RType
-register_of v = (v.0, rtype_of v.1)
-
-abbrev pub variable_registers : List Variable → Declared
-variable_registers vs = map register_of vs
 
 -- one more register, for texts, under a temporary name that no other register has
 pub record AddsText (old new : Declared) : Type 0 where

@@ -1,8 +1,9 @@
 //! The program of a module.
-ghost use Rattle.std.specs.Prelude.{◌≡◌, IfOk};
+ghost use Rattle.std.specs.Prelude.{◌≡◌, ℕ, IfOk};
 ghost use Rattle.py_typed.specs.Statements.{typed_module};
 ghost use Rattle.ir_core.specs.Runs.{Calm};
 ghost use Rattle.ir_core.specs.Shape.{Shape};
+ghost use Rattle.ir_frames.specs.Placing.{NoEdges};
 ghost use Rattle.ir_lowering.specs.PrintsOrFails.{PrintsOrFails};
 ghost use Rattle.ir_bodies.specs.Modules.{ModuleSuits};
 ghost use Rattle.ir_builder.specs.Functions.{AllBuilt, IsBuiltOf};
@@ -15,13 +16,15 @@ use py_typed::Checked;
 use std::alloc::Global;
 use value_core::{Many, Memory};
 
-/// The intermediate code of a module. Want of memory is the only other answer.
+/// The intermediate code of a module. Behind no operation that may fail stands a test of its result: `error_edges` puts such tests
+/// in. Want of memory is the only other answer.
 pub fn build(alloc: Global, checked: &Checked) -> Result<Program, Memory>
     requires { ModuleSuits (typed_module checked.now) }
     ensures means { IfOk result (DoesAsModule (typed_module checked.now)) }
     ensures calm { IfOk result Calm }
     ensures shape { IfOk result Shape }
     ensures prints { IfOk result PrintsOrFails }
+    ensures edges { IfOk result (λ p. (fn : ℕ) → NoEdges p fn) }
     ensures globals { IfOk result (λ p. p.globals ≡ globals_of (typed_module checked.now)) }
 {
     build_all(alloc, checked)

@@ -8,6 +8,7 @@ use Rattle.ir_core.specs.declared.code.Last.TheVariants.{Goto, If, IfError, Retu
 use Rattle.ir_core.specs.declared.code.Block.{Block}
 use Rattle.ir_core.specs.declared.code.Func.{Func}
 use Rattle.ir_core.specs.Items.{Do, item_in}
+use Rattle.ir_core.specs.Rows.{Declared}
 use Rattle.ir_core.specs.Building.{is_unwritten, is_open_at}
 use Rattle.ir_core.specs.Shape.{IsHigher, LastFits, BlockFits, BlocksFit, FuncFits, BeginsInTurn, FuncsFit}
 use Rattle.ir_core.specs.Shape as shape
@@ -41,8 +42,8 @@ blocks_fit low m k (b ∷ bs) written h = (
 
 -- ---- functions, and the module's own behind them
 
-pub built_fits : (heads : List Head) (f : Func) → IsBuilt heads f → FuncFits f
-built_fits heads f b =
+pub built_fits : (heads : List Head) (globals : Declared) (f : Func) → IsBuilt heads globals f → FuncFits f
+built_fits heads globals f b =
     subst (λ n. BlocksFit n 0 f.blocks) (sym b.blocks) (blocks_fit b.low b.highest 0 f.blocks b.written b.fits)
 
 module _ (own : Func) where

@@ -1,5 +1,5 @@
 -- Lines of operations and ends that fit their registers are spelled, and fit the declarations of their variables.
-use Rattle.std.proofs.Common.{◌≡◌, refl, sym, ◌∙◌, ap, subst, ℕ, zero, suc, ◌+◌, ◌^◌, ◌/◌, ◌%◌, ◌<◌, arith, Bool, true, false, cond, List, [], ◌∷◌, ◌++◌, length, Option, Some, None, take, ℤ, pos, negsuc}
+use Rattle.std.proofs.Common.{◌≡◌, ◌⊎◌, inl, inr, refl, sym, ◌∙◌, ap, subst, ℕ, zero, suc, ◌+◌, ◌^◌, ◌/◌, ◌%◌, ◌<◌, arith, Bool, true, false, cond, List, [], ◌∷◌, ◌++◌, length, Option, Some, None, take, ℤ, pos, negsuc}
 use Rattle.std.specs.Prelude.{slice_get, map, ◌&&◌, is_some, codes, ◌==◌}
 use Rattle.std.specs.Option.{option_map}
 use Rattle.std.specs.List.{list_all}
@@ -13,11 +13,13 @@ use Rattle.c_core.specs.declared.code.Line.{Line}
 use Rattle.c_core.specs.declared.code.CFunc.{CFunc}
 use Rattle.c_core.specs.declared.primitive.Primitive.{Primitive}
 use Rattle.c_core.specs.declared.primitive.Primitive.TheVariants as prim
+use Rattle.c_core.specs.declared.primitive.GlobalPrim.TheVariants as global
 use Rattle.c_core.specs.declared.primitive.IoPrim.TheVariants as io
+use Rattle.c_core.specs.Arguments.{kind_of_global}
 use Rattle.c_core.specs.Functions.{function_named, parameter_kinds}
 use Rattle.c_core.specs.Machine.{ShortInt, TaggedError}
 use Rattle.c_core.specs.Primitives.{Is, Anything, Parameter, Borrows, TakesText, Owned, row_of, primitive_named}
-use Rattle.c_core.specs.WellFormed.{is_identifier, is_call_name, is_declared, kind_at, is_counted_kind, spelled_arg, spelled_label, spelled_line, spelled_literal, same_kind, has_kind, same_kinds, literal_fits, passes, args_fit, target_fits, function_call_fits, call_fits, line_fits}
+use Rattle.c_core.specs.WellFormed.{is_identifier, is_call_name, is_declared, kind_at, is_counted_kind, spelled_arg, spelled_label, spelled_line, spelled_literal, same_kind, has_kind, same_kinds, kinds_agree, literal_fits, passes, args_fit, target_fits, function_call_fits, call_fits, line_fits}
 use Rattle.ir_core.specs.declared.code.RType.{RType}
 use Rattle.ir_core.specs.declared.code.RType.TheVariants.{Int, I64, Bool as BoolType, Ref}
 use Rattle.ir_core.specs.declared.code.Lit.{Lit as Literal}
@@ -36,11 +38,12 @@ use Rattle.ir_core.specs.Lower.{kind_of_type, variable_of, literal_in, argument_
 use Rattle.ir_core.specs.Registers.{Unset, Holds, literal_of}
 use Rattle.ir_core.specs.Rows.{Declared}
 use Rattle.ir_core.specs.Shape.{LastFits, BlocksFit}
-use Rattle.ir_frames.specs.Kinds.{Head, Surrounding, IsOf, AreArguments, Take, LiteralFits, OpKinds, OpsKinds, no_more, other_then, text_then, LastKinds, BlocksKinds}
+use Rattle.ir_frames.specs.Kinds.{Head, Surrounding, IsOf, AreArguments, Take, Answers, Reports, ReadsGlobal, WritesGlobal, LiteralFits, OpKinds, OpsKinds, no_more, other_then, text_then, LastKinds, BlocksKinds}
 use Rattle.ir_lowering.proofs.ListLemmas.{size_map, get_map}
 use Rattle.ir_lowering.proofs.Facts.{named}
 use Rattle.ir_shapes.specs.Built.{head_of_code}
 use Rattle.ir_shapes.proofs.SpellingLemmas.{primitive_spelled, call_spelled}
+use Rattle.ir_shapes.proofs.NameLemmas.{IsKnown}
 
 same_self : (k : Kind) → same_kind k k ≡ true
 same_self Tagged = refl
@@ -209,6 +212,32 @@ module _ (regs : Declared) where
               (ap (λ o. target_fits (lower p) vars cargs o (Some r.0)) gives ∙ has r t is);
         }
 
+    -- ---- globals
+    -- a read of a global, and a write
+    read_is : (ret : Kind) (r : Reg) (t : RType) (name : List ℕ) → IsKnown p name t → IsOf regs r t → LineIs ret (line_of p (Prim (Some r) (prim.Global global.Get) (arg.Global name ∷ [])))
+    read_is ret r t name known is =
+        let q : Primitive = prim.Global global.Get in
+        let cargs : List CArg = map argument_in (arg.Global name ∷ []) in
+        let there : is_some (kind_of_global (lower p) name) ≡ true = ap is_some known.kind in
+        let target : kinds_agree (kind_of_global (lower p) name) (kind_at vars r.0) ≡ true = ap (λ k. kinds_agree k (kind_at vars r.0)) known.kind ∙ has r t is in
+        record {
+          spelled =
+              and_from (is_declared vars r.0) (is_call_name (row_of q).name && list_all (spelled_arg vars) cargs) (stands r t is).declared
+              (and_from (is_call_name (row_of q).name) (list_all (spelled_arg vars) cargs) (primitive_spelled q) (and_from (is_identifier name) true known.identifier refl));
+          fits =
+              ap (λ o. call_fits (lower p) vars (Some r.0) cargs o (function_named (lower p).funcs (row_of q).name)) (named q)
+              ∙ and_from (args_fit (lower p) vars cargs (row_of q).parameters cargs) (target_fits (lower p) vars cargs (row_of q).outcome (Some r.0))
+              (and_from (is_some (kind_of_global (lower p) name)) true there refl) target;
+        }
+
+    write_is : (ret : Kind) (r : Reg) (t : RType) (name : List ℕ) → IsKnown p name t → IsOf regs r t → LineIs ret (line_of p (Prim None (prim.Global global.Set) (arg.Global name ∷ arg.Var r ∷ [])))
+    write_is ret r t name known is =
+        let there : is_some (kind_of_global (lower p) name) ≡ true = ap is_some known.kind in
+        let agrees : kinds_agree (kind_of_global (lower p) name) (kind_at vars r.0) ≡ true = ap (λ k. kinds_agree k (kind_at vars r.0)) known.kind ∙ has r t is in
+        row_alone ret (prim.Global global.Set) (arg.Global name ∷ arg.Var r ∷ [])
+        (and_from (is_identifier name) (is_declared vars r.0 && true) known.identifier (and_from (is_declared vars r.0) true (stands r t is).declared refl))
+        (and_from (is_some (kind_of_global (lower p) name)) (kinds_agree (kind_of_global (lower p) name) (kind_at vars r.0) && true) there (and_from (kinds_agree (kind_of_global (lower p) name) (kind_at vars r.0)) true agrees refl))
+
     -- ---- calls
     -- the function of a number has this head, and is called by its name
     pub record Callee (n : ℕ) (h : Head) : Type 0 where
@@ -242,7 +271,24 @@ module _ (regs : Declared) where
         }
 
     -- ---- operations
-    module _ (g : Surrounding) (text : IsOf regs (record { 0 = g.text }) Ref) (callee : (n : ℕ) (h : Head) → slice_get g.heads n ≡ Some h → Callee n h) where
+    module _ (g : Surrounding) (text : IsOf regs (record { 0 = g.text }) Ref) (callee : (n : ℕ) (h : Head) → slice_get g.heads n ≡ Some h → Callee n h) (known : (n : ℕ) (name : List ℕ) (t : RType) → slice_get g.globals n ≡ Some (name, t) → IsKnown p name t) where
+      answer_is : (ret : Kind) (r : Reg) (t : RType) (q : Primitive) (args : List PArg) → IsOf regs r t → Answers t regs q args ⊎ ReadsGlobal g t q args → LineIs ret (line_of p (Prim (Some r) q args))
+      answer_is ret r t q args is (inl a) = row_into ret r t q args is a.1 a.2
+      answer_is ret r t q args is (inr h) =
+          let there = h.there in
+          let P : Primitive → List PArg → Type 0 = λ z passed. LineIs ret (line_of p (Prim (Some r) z passed)) in
+          subst (λ z. P z args) (sym h.reads)
+          (subst (P (prim.Global global.Get)) (sym h.named) (read_is ret r t h.name (known there.0 h.name t there.1) is))
+
+      act_is : (ret : Kind) (q : Primitive) (args : List PArg) → Reports regs q args ⊎ WritesGlobal g regs q args → LineIs ret (line_of p (Prim None q args))
+      act_is ret q args (inl a) =
+          row_alone ret q args (arguments_spelled (row_of q).parameters args a.1) (arguments_fit (map argument_in args) (row_of q).parameters args a.1)
+      act_is ret q args (inr h) =
+          let there = h.there in
+          let P : Primitive → List PArg → Type 0 = λ z passed. LineIs ret (line_of p (Prim None z passed)) in
+          subst (λ z. P z args) (sym h.writes)
+          (subst (P (prim.Global global.Set)) (sym h.named) (write_is ret h.from h.type h.name (known there.0 h.name h.type there.1) h.holds))
+
       op_is : (ret : Kind) (o : Op) → OpKinds g regs o → LineIs ret (line_of p o)
       op_is ret (Move r s) h = record {
         spelled = and_from (is_declared vars r.0) (is_declared vars s.0) (stands r h.0 h.2).declared (stands s h.0 h.3).declared;
@@ -254,9 +300,8 @@ module _ (regs : Declared) where
             spelled = and_from (is_declared vars r.0) (spelled_literal (literal_in l)) (stands r h.0 h.1).declared is.1;
             fits = ap (literal_fits (literal_in l)) (stands r h.0 h.1).kind ∙ is.0;
           }
-      op_is ret (Prim None q args) h =
-          row_alone ret q args (arguments_spelled (row_of q).parameters args h.1) (arguments_fit (map argument_in args) (row_of q).parameters args h.1)
-      op_is ret (Prim (Some r) q args) h = row_into ret r h.0 q args h.1 h.2.1 h.2.2
+      op_is ret (Prim None q args) h = act_is ret q args h
+      op_is ret (Prim (Some r) q args) h = answer_is ret r h.0 q args h.1 h.2
       op_is ret (Call r n args) h =
           let c = h.3 in
           let is : IsOf regs r c.0.ret = subst (IsOf regs r) (sym c.2) h.1 in

@@ -1,22 +1,28 @@
 -- The names of what is built differ in C text, and are identifiers there.
 use Rattle.std.proofs.Common.{◌≡◌, ◌≢◌, refl, ◌∙◌, ap, subst, ℕ, zero, suc, ◌+◌, ◌<◌, arith, true, false, cond, List, [], ◌∷◌, ◌++◌, length, Some, None, take, inl, inr}
-use Rattle.std.specs.Prelude.{slice_get, map, ◌||◌, not}
+use Rattle.std.specs.Prelude.{slice_get, map, find, ◌||◌, not}
+use Rattle.std.specs.Option.{option_map}
 use Rattle.std.specs.List.{list_all, list_any}
 use Rattle.std.specs.Str.{bytes_eq}
-use Rattle.std.proofs.lemmas.Bool.{and_from, and_parts, or_from, not-true, cases_lt, eq-eqb, ne_eqb}
+use Rattle.std.proofs.lemmas.Bool.{and_from, and_parts, or_from, or_parts, not-true, cases_lt, eq-eqb, ne_eqb}
 use Rattle.std.proofs.lemmas.List.Folds.{list_any-append}
+use Rattle.std.proofs.lemmas.Slice.Eq.{bytes_eq-Decides}
 use Rattle.c_core.specs.declared.code.Kind.{Kind}
 use Rattle.c_core.specs.declared.code.CFunc.{CFunc}
+use Rattle.c_core.specs.Arguments.{kind_of_global}
 use Rattle.c_core.specs.WellFormed.{is_identifier, names_differ, spelled_globals}
+use Rattle.c_core.proofs.Lines.{all_at}
+use Rattle.c_core.proofs.NameLemmas.{bytes_eq-sym}
 use Rattle.ir_core.specs.declared.code.RType.{RType}
 use Rattle.ir_core.specs.declared.code.Func.{Func}
 use Rattle.ir_core.specs.declared.code.Program.{Program}
 use Rattle.ir_core.specs.Names.{function_id, variable_id}
 use Rattle.ir_core.specs.Rows.{Declared}
 use Rattle.ir_core.specs.Building.{Building}
-use Rattle.ir_core.specs.Lower.{variable_of, global_of, name_in, lowered_from}
+use Rattle.ir_core.specs.Lower.{kind_of_type, variable_of, global_of, name_in, lowered_from, lower}
 use Rattle.ir_frames.specs.Kinds.{Surrounding, HasKinds}
 use Rattle.ir_frames.specs.Naming.{names_of}
+use Rattle.ir_lowering.proofs.ListLemmas.{get_map}
 use Rattle.ir_shapes.proofs.SpellingLemmas.{identifier_parts, variable_identifier, temporary_identifier, function_called_as}
 
 -- ---- variables
@@ -66,6 +72,45 @@ globals_spelled [] h = refl
 globals_spelled (g ∷ gs) h =
     let parts = and_parts (is_identifier g.0) (list_all is_identifier (names_of gs)) h in
     and_from (is_identifier g.0) (spelled_globals (map global_of gs)) parts.0 (globals_spelled gs parts.1)
+
+-- a name that none of these has is another one than theirs
+other_at : (name : List ℕ) (gs : Declared) (n : ℕ) (d : List ℕ × RType) → list_any (bytes_eq name) (names_of gs) ≡ false → slice_get gs n ≡ Some d → bytes_eq name d.0 ≡ false
+other_at name [] n d none e = let f : None ≡ Some d = e in absurd (cc)
+other_at name (g ∷ gs) zero d none e =
+    let f : Some g ≡ Some d = e in
+    let same : g ≡ d = cc in
+    subst (λ (v : List ℕ × RType). bytes_eq name v.0 ≡ false) same (or_parts (bytes_eq name g.0) (list_any (bytes_eq name) (names_of gs)) none).0
+other_at name (g ∷ gs) (suc n) d none e =
+    other_at name gs n d (or_parts (bytes_eq name g.0) (list_any (bytes_eq name) (names_of gs)) none).1 e
+
+-- a global is found by its name
+global_found : (gs : Declared) (n : ℕ) (name : List ℕ) (t : RType) → names_differ (names_of gs) ≡ true → slice_get gs n ≡ Some (name, t) → find (λ (g : List ℕ × Kind). bytes_eq name g.0) (map global_of gs) ≡ Some (name, kind_of_type t)
+global_found [] n name t differ e =
+    let d : List ℕ × RType = (name, t) in
+    let f : None ≡ Some d = e in
+    absurd (cc)
+global_found (g ∷ gs) zero name t differ e =
+    let f : Some g ≡ Some (name, t) = e in
+    let same : g ≡ (name, t) = cc in
+    let later = find (λ (x : List ℕ × Kind). bytes_eq name x.0) (map global_of gs) in
+    ap (λ (v : List ℕ × RType). cond (bytes_eq name v.0) (Some (global_of v)) later) same
+    ∙ ap (λ c. cond c (Some (name, kind_of_type t)) later) ((bytes_eq-Decides name name).1 refl)
+global_found (g ∷ gs) (suc n) name t differ e =
+    let parts = and_parts (not (list_any (bytes_eq g.0) (names_of gs))) (names_differ (names_of gs)) differ in
+    let other : bytes_eq name g.0 ≡ false = bytes_eq-sym name g.0 ∙ other_at g.0 gs n (name, t) (not-true (list_any (bytes_eq g.0) (names_of gs)) parts.0) e in
+    ap (λ c. cond c (Some (global_of g)) (find (λ (x : List ℕ × Kind). bytes_eq name x.0) (map global_of gs))) other
+    ∙ global_found gs n name t parts.1 e
+
+-- a global of the program is named by an identifier, and has the kind of its type
+pub record IsKnown (p : Program) (name : List ℕ) (t : RType) : Type 0 where
+  pub identifier : is_identifier name ≡ true
+  pub kind : kind_of_global (lower p) name ≡ Some (kind_of_type t)
+
+pub global_known : (p : Program) → list_all is_identifier (names_of p.globals) ≡ true → names_differ (names_of p.globals) ≡ true → (n : ℕ) (name : List ℕ) (t : RType) → slice_get p.globals n ≡ Some (name, t) → IsKnown p name t
+global_known p identifiers differ n name t e = record {
+  identifier = all_at is_identifier (names_of p.globals) n name identifiers (get_map (λ (d : List ℕ × RType). d.0) p.globals n ∙ ap (option_map (λ (d : List ℕ × RType). d.0)) e);
+  kind = ap (option_map (λ (g : List ℕ × Kind). g.1)) (global_found p.globals n name t differ e);
+}
 
 -- ---- functions, and the module's own, which has no name
 

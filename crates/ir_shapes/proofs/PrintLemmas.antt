@@ -1,8 +1,11 @@
 -- In a function whose operations fit its registers, the only references are the texts that it prints and the exception that is
 -- pending.
-use Rattle.std.proofs.Common.{◌≡◌, ◌≢◌, refl, subst, ℕ, zero, suc, ◌<◌, Bool, true, List, [], ◌∷◌, Some, None}
+use Rattle.std.proofs.Common.{◌≡◌, ◌≢◌, ◌⊎◌, inl, inr, refl, sym, subst, ℕ, zero, suc, ◌<◌, Bool, true, List, [], ◌∷◌, Some, None}
 use Rattle.std.specs.Prelude.{slice_get, nat_eq}
 use Rattle.std.proofs.lemmas.Bool.{eq-eqb, ne_eqb}
+use Rattle.c_core.specs.declared.primitive.Primitive.{Primitive}
+use Rattle.c_core.specs.declared.primitive.Primitive.TheVariants as prim
+use Rattle.c_core.specs.declared.primitive.GlobalPrim.TheVariants as global
 use Rattle.c_core.specs.Primitives.{Is, Anything, Parameter, Borrows, TakesText, row_of}
 use Rattle.ir_core.specs.declared.code.RType.{RType}
 use Rattle.ir_core.specs.declared.code.RType.TheVariants as rtype
@@ -15,7 +18,8 @@ use Rattle.ir_core.specs.declared.code.Last.{Last}
 use Rattle.ir_core.specs.declared.code.Last.TheVariants.{Goto, If, IfError, Return, Unreachable}
 use Rattle.ir_core.specs.declared.code.Block.{Block}
 use Rattle.ir_core.specs.Building.{Building}
-use Rattle.ir_frames.specs.Kinds.{Head, Surrounding, is_plain, IsOf, AreArguments, Take, OpKinds, OpsKinds, no_more, other_then, text_then, LastKinds, BlocksKinds, HasKinds}
+use Rattle.ir_core.specs.Rows.{answers, acts}
+use Rattle.ir_frames.specs.Kinds.{Head, Surrounding, is_plain, IsOf, AreArguments, Take, Answers, Reports, ReadsGlobal, WritesGlobal, OpKinds, OpsKinds, no_more, other_then, text_then, LastKinds, BlocksKinds, HasKinds}
 use Rattle.ir_frames.proofs.KindLemmas.{plain_not_text, plain_no_ref}
 use Rattle.ir_lowering.specs.Prints.{IsOther, AreOthers, AreOtherArguments, LastPrints}
 use Rattle.ir_lowering.specs.PrintsOrFails.{IsApartOrFails, OpsPrintOrFail, none_left, apart_then}
@@ -45,13 +49,27 @@ module _ (g : Surrounding) (b : Building) (kinds : HasKinds g b) (functions : �
   other_registers [] (r ∷ rs) h = absurd h
   other_registers (t ∷ ts) [] h = absurd h
 
+  answers_apart : (r : Reg) (t : RType) (q : Primitive) (args : List PArg) → IsOf b.regs r t → Answers t b.regs q args ⊎ ReadsGlobal g t q args → IsApartOrFails texts functions (Prim (Some r) q args)
+  answers_apart r t q args is (inl a) = (a.3, plain_other r t is a.0, other_arguments (row_of q).parameters args a.2)
+  answers_apart r t q args is (inr h) =
+      let there = h.there in
+      let P : Primitive → List PArg → Type 0 = λ z passed. (answers z ≡ true) × IsOther texts r × AreOtherArguments texts passed in
+      subst (λ z. P z args) (sym h.reads)
+      (subst (P (prim.Global global.Get)) (sym h.named) (refl, plain_other r t is there.2, (tt, tt)))
+
+  acts_apart : (q : Primitive) (args : List PArg) → Reports b.regs q args ⊎ WritesGlobal g b.regs q args → IsApartOrFails texts functions (Prim None q args)
+  acts_apart q args (inl a) = (a.2, other_arguments (row_of q).parameters args a.1)
+  acts_apart q args (inr h) =
+      let there = h.there in
+      let P : Primitive → List PArg → Type 0 = λ z passed. (acts z ≡ true) × AreOtherArguments texts passed in
+      subst (λ z. P z args) (sym h.writes)
+      (subst (P (prim.Global global.Set)) (sym h.named) (refl, (tt, (plain_other h.from h.type h.holds there.2, tt))))
+
   op_apart : (o : Op) → OpKinds g b.regs o → IsApartOrFails texts functions o
   op_apart (Move r s) h = (plain_other r h.0 h.2 h.1, plain_other s h.0 h.3 h.1)
   op_apart (Lit r l) h = other r h.3
-  op_apart (Prim None q args) h = (h.2, other_arguments (row_of q).parameters args h.1)
-  op_apart (Prim (Some r) q args) h =
-      let a = h.2 in
-      (a.3, plain_other r h.0 h.1 a.0, other_arguments (row_of q).parameters args a.2)
+  op_apart (Prim None q args) h = acts_apart q args h
+  op_apart (Prim (Some r) q args) h = answers_apart r h.0 q args h.1 h.2
   op_apart (Call r n args) h =
       let c = h.3 in (below n c.0 c.1, other r h.2, other_registers c.0.params args c.3)
   op_apart (Virtual r o n args) h = absurd h

@@ -35,7 +35,7 @@ use Rattle.ir_shapes.specs.Laws.{BuiltHasShape, BuiltPrints}
 use Rattle.ir_shapes.proofs.BlockLemmas.{built_fits, funcs_fit, turns_begin}
 use Rattle.ir_core.proofs.JumpLemmas.{jumps_go, last_leaves}
 use Rattle.ir_shapes.proofs.SpellingLemmas.{identifier_parts, function_called_as}
-use Rattle.ir_shapes.proofs.NameLemmas.{variables_differ, variables_spelled, global_names, globals_spelled, own_name, other_name, functions_differ}
+use Rattle.ir_shapes.proofs.NameLemmas.{variables_differ, variables_spelled, global_names, globals_spelled, global_known, own_name, other_name, functions_differ}
 use Rattle.ir_shapes.proofs.LineLemmas.{LinesAre, lines_spelled, lines_fit, Callee, blocks_are}
 use Rattle.ir_shapes.proofs.PrintLemmas.{blocks_print}
 
@@ -109,11 +109,14 @@ module _ (p : Program) where
     callee regs n h e = callee_by regs n h (slice_get fs n) refl (sym (get_map head_of_code fs n) ∙ e)
 
     -- ---- each function
-    module _ (f : Func) (b : IsBuilt heads f) where
+    module _ (f : Func) (b : IsBuilt heads p.globals f) where
       lines_are : LinesAre f.regs p (kind_of_type f.ret) (lines_from p 0 f.blocks)
       lines_are =
           subst (λ t. LinesAre f.regs p (kind_of_type t) (lines_from p 0 f.blocks)) (sym b.ret)
-          (blocks_are f.regs p b.among b.kinds.text (λ n h e. callee f.regs n h (subst (λ hs. slice_get hs n ≡ Some h) b.heads_are e)) (length f.blocks) b.few 0 f.blocks (omega arith) (built_fits heads f b) b.kinds.blocks)
+          (blocks_are f.regs p b.among b.kinds.text
+          (λ n h e. callee f.regs n h (subst (λ hs. slice_get hs n ≡ Some h) b.heads_are e))
+          (λ n name t e. global_known p is.globals is.globals_differ n name t (subst (λ gs. slice_get gs n ≡ Some (name, t)) b.globals_are e))
+          (length f.blocks) b.few 0 f.blocks (omega arith) (built_fits heads p.globals f b) b.kinds.blocks)
 
       body_spelled : (name : List ℕ) → spelled_body (lowered_as p name f) ≡ true
       body_spelled name =
@@ -128,7 +131,7 @@ module _ (p : Program) where
       lead_on =
           let ls : List Line = lines_from p 0 f.blocks in
           and_from (jumps_fit (label_places ls) 0 false ls) (is_leaving (slice_get ls (length ls - 1)))
-          (jumps_go p f.blocks (built_fits heads f b)) (last_leaves p f.blocks (omega (arith, b.blocks)))
+          (jumps_go p f.blocks (built_fits heads p.globals f b)) (last_leaves p f.blocks (omega (arith, b.blocks)))
 
       fits : (name : List ℕ) → begins_right (lowered_as p name f) ≡ true → function_fits (lower p) (lowered_as p name f) ≡ true
       fits name begins =
@@ -140,14 +143,14 @@ module _ (p : Program) where
           (and_from (lines_lead_on g.lines) (begins_right g) lead_on begins))
 
     -- ---- all functions
-    spelled_one : (n : ℕ) (f : Func) → IsFunction heads f → suc n ≢ length p.funcs → spelled_function (lowered_as p (name_in p n f) f) ≡ true
+    spelled_one : (n : ℕ) (f : Func) → IsFunction heads p.globals f → suc n ≢ length p.funcs → spelled_function (lowered_as p (name_in p n f) f) ≡ true
     spelled_one n f b ne =
         let name : List ℕ = name_in p n f in
         and_from (is_identifier name) (nat_le f.params (length (map variable_of f.regs)) && spelled_body (lowered_as p name f))
         (ap is_identifier (other_name p n f ne b.name) ∙ b.name)
         (and_from (nat_le f.params (length (map variable_of f.regs))) (spelled_body (lowered_as p name f)) (params_there f b.built) (body_spelled f b.built name))
 
-    fits_one : (n : ℕ) (f : Func) → IsFunction heads f → function_fits (lower p) (lowered_as p (name_in p n f) f) ≡ true
+    fits_one : (n : ℕ) (f : Func) → IsFunction heads p.globals f → function_fits (lower p) (lowered_as p (name_in p n f) f) ≡ true
     fits_one n f b =
         let name : List ℕ = name_in p n f in
         fits f b.built name (or_right (bytes_eq name []) (is_turn_at (slice_get (lines_from p 0 f.blocks) 0)) (ap is_turn_at (turn_first f.blocks b.turn)))
@@ -166,14 +169,14 @@ module _ (p : Program) where
         let name : List ℕ = name_in p n own in
         fits own is.own_built.built name (or_left (bytes_eq name []) (is_turn_at (slice_get (lines_from p 0 own.blocks) 0)) (ap (λ x. bytes_eq x []) (own_name p n own e)))
 
-    all_spelled : (xs : List Func) (n : ℕ) → n + suc (length xs) ≡ length p.funcs → ((k : ℕ) (f : Func) → slice_get xs k ≡ Some f → IsFunction heads f) → spelled_functions (lowered_from p n (xs ++ own ∷ [])) ≡ true
+    all_spelled : (xs : List Func) (n : ℕ) → n + suc (length xs) ≡ length p.funcs → ((k : ℕ) (f : Func) → slice_get xs k ≡ Some f → IsFunction heads p.globals f) → spelled_functions (lowered_from p n (xs ++ own ∷ [])) ≡ true
     all_spelled [] n e each = spelled_own n (omega (arith, e))
     all_spelled (f ∷ xs) n e each =
         spelled_more (lowered_as p (name_in p n f) f) (lowered_from p (suc n) (xs ++ own ∷ []))
         (spelled_one n f (each 0 f refl) (omega (arith, e)))
         (all_spelled xs (suc n) (omega (arith, e)) (λ k g i. each (suc k) g i))
 
-    all_fit : (xs : List Func) (n : ℕ) → n + suc (length xs) ≡ length p.funcs → ((k : ℕ) (f : Func) → slice_get xs k ≡ Some f → IsFunction heads f) → list_all (function_fits (lower p)) (lowered_from p n (xs ++ own ∷ [])) ≡ true
+    all_fit : (xs : List Func) (n : ℕ) → n + suc (length xs) ≡ length p.funcs → ((k : ℕ) (f : Func) → slice_get xs k ≡ Some f → IsFunction heads p.globals f) → list_all (function_fits (lower p)) (lowered_from p n (xs ++ own ∷ [])) ≡ true
     all_fit [] n e each = and_from (function_fits (lower p) (lowered_as p (name_in p n own) own)) true (fits_own n (omega (arith, e))) refl
     all_fit (f ∷ xs) n e each =
         and_from (function_fits (lower p) (lowered_as p (name_in p n f) f)) (list_all (function_fits (lower p)) (lowered_from p (suc n) (xs ++ own ∷ [])))
@@ -196,28 +199,28 @@ module _ (p : Program) where
     shape_of : Shape p
     shape_of = record {
       funcs =
-          subst FuncsFit (sym is.are) (funcs_fit own fs (λ n f e. built_fits heads f (is.each n f e).built) (built_fits heads own is.own_built.built));
+          subst FuncsFit (sym is.are) (funcs_fit own fs (λ n f e. built_fits heads p.globals f (is.each n f e).built) (built_fits heads p.globals own is.own_built.built));
       turns = subst BeginsInTurn (sym is.are) (turns_begin own fs (λ n f e. (is.each n f e).turn));
       lowered = well;
     }
 
     -- ---- printed texts
-    built_at : (n : ℕ) (f : Func) → slice_get p.funcs n ≡ Some f → IsBuilt heads f
+    built_at : (n : ℕ) (f : Func) → slice_get p.funcs n ≡ Some f → IsBuilt heads p.globals f
     built_at n f e =
         elim (get_behind fs own f n (subst (λ xs. slice_get xs n ≡ Some f) is.are e)) [
           | inl there ↦ (is.each n f there).built
-          | inr last ↦ subst (IsBuilt heads) (sym last) is.own_built.built
+          | inr last ↦ subst (IsBuilt heads p.globals) (sym last) is.own_built.built
         ]
 
     head_below : (n : ℕ) (h : Head) → slice_get heads n ≡ Some h → suc n < length p.funcs
     head_below n h e = let lt : n < length heads = slice_get_within heads n h e in omega (arith, lt, count, size_map head_of_code fs)
 
     -- the register for texts of a function, if it is there
-    text_at : (o : Option Func) → ((f : Func) → o ≡ Some f → IsBuilt heads f) → ℕ
+    text_at : (o : Option Func) → ((f : Func) → o ≡ Some f → IsBuilt heads p.globals f) → ℕ
     text_at None built = 0
     text_at (Some f) built = (built f refl).among.text
 
-    prints_at : (o : Option Func) (built : (f : Func) → o ≡ Some f → IsBuilt heads f) (f : Func) (k : ℕ) (x : Block) → o ≡ Some f → slice_get f.blocks k ≡ Some x → OpsPrintOrFail (λ r. nat_eq r (text_at o built)) (length p.funcs) x.ops × LastPrints (λ r. nat_eq r (text_at o built)) x.last
+    prints_at : (o : Option Func) (built : (f : Func) → o ≡ Some f → IsBuilt heads p.globals f) (f : Func) (k : ℕ) (x : Block) → o ≡ Some f → slice_get f.blocks k ≡ Some x → OpsPrintOrFail (λ r. nat_eq r (text_at o built)) (length p.funcs) x.ops × LastPrints (λ r. nat_eq r (text_at o built)) x.last
     unfolding text_at
     prints_at None built f k x e at = absurd (cc)
     prints_at (Some g) built f k x e at =
