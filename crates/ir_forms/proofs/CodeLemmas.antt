@@ -21,7 +21,7 @@ use Rattle.py_typed.specs.declared.expression.TKind as kind
 use Rattle.py_typed.specs.declared.statement.TStmt.{TStmt, size-TStmt}
 use Rattle.py_typed.specs.declared.statement.TStmtKind as act
 use Rattle.py_typed.specs.Expressions.{typed_expr, typed_node, typed_comparison, comparisons_of, exprs_of}
-use Rattle.py_typed.specs.Statements.{TypedFunc, TypedModule, TypedSuite, typed_stmt, typed_act, typed_suite, typed_arm, arms_of}
+use Rattle.py_typed.specs.Statements.{Variable, TypedFunc, TypedModule, TypedSuite, typed_stmt, typed_act, typed_suite, typed_arm, arms_of}
 use Rattle.py_typed.proofs.ExpressionLemmas.{typed_expr_at, typed_node-Compare}
 use Rattle.py_typed.proofs.StatementLemmas.{typed_stmt_at, typed_act-If}
 use Rattle.py_forms.specs.Later.{lesser}
@@ -39,22 +39,23 @@ comparison_found e a more more2 is same b tested true_is found first last one al
     ∙ sym (ap (λ t. noted t e.span.line found (part_least found (typed_node e.kind))) (sym tested ∙ true_is))
     ∙ sym (ap (expression_least found) (typed_expr_at e))
 
-pub if_found : (s : TStmt) (arms arms2 : List (TExpr × List TStmt)) (other other2 : List TStmt) → s.kind ≡ act.If arms other → arms2 ≡ arms → other2 ≡ other → (found first last : Option ℕ) → first ≡ arms_least found (arms_of (map typed_arm arms2)) → last ≡ suite_least first (typed_suite other2) → last ≡ statement_least found (typed_stmt s)
-if_found s arms arms2 other other2 is a o found first last one all =
+pub if_found : (globals : List Variable) (s : TStmt) (arms arms2 : List (TExpr × List TStmt)) (other other2 : List TStmt) → s.kind ≡ act.If arms other → arms2 ≡ arms → other2 ≡ other → (found first last : Option ℕ) → first ≡ arms_least globals found (arms_of (map typed_arm arms2)) → last ≡ suite_least globals first (typed_suite other2) → last ≡ statement_least globals found (typed_stmt s)
+if_found globals s arms arms2 other other2 is a o found first last one all =
     all
-    ∙ ap (λ f. suite_least f (typed_suite other2)) one
-    ∙ ap (λ l. suite_least (arms_least found (arms_of (map typed_arm l))) (typed_suite other2)) a
-    ∙ ap (λ l. suite_least (arms_least found (arms_of (map typed_arm arms))) (typed_suite l)) o
-    ∙ sym (ap (act_least found s.line) (ap typed_act is ∙ typed_act-If arms other))
-    ∙ sym (ap (statement_least found) (typed_stmt_at s))
+    ∙ ap (λ f. suite_least globals f (typed_suite other2)) one
+    ∙ ap (λ l. suite_least globals (arms_least globals found (arms_of (map typed_arm l))) (typed_suite other2)) a
+    ∙ ap (λ l. suite_least globals (arms_least globals found (arms_of (map typed_arm arms))) (typed_suite l)) o
+    ∙ sym (ap (act_least globals found s.line) (ap typed_act is ∙ typed_act-If arms other))
+    ∙ sym (ap (statement_least globals found) (typed_stmt_at s))
 
-pub module_found : (m : Suite) (t : TypedModule) (definitions : List StmtTree) (top : TypedSuite) (functions : List TypedFunc) → definitions ≡ filter is_def (suite_definitions m) → top ≡ t.top → functions ≡ t.funcs → (found last : Option ℕ) → found ≡ suite_least None top → last ≡ functions_least definitions found 0 functions → last ≡ uncompiled_line m t
-module_found m t definitions top functions d o f found last one all =
+pub module_found : (m : Suite) (t : TypedModule) (definitions : List StmtTree) (globals : List Variable) (top : TypedSuite) (functions : List TypedFunc) → globals ≡ t.globals → definitions ≡ filter is_def (suite_definitions m) → top ≡ t.top → functions ≡ t.funcs → (found last : Option ℕ) → found ≡ suite_least globals None top → last ≡ functions_least globals definitions found 0 functions → last ≡ uncompiled_line m t
+module_found m t definitions globals top functions g d o f found last one all =
     all
-    ∙ ap (λ x. functions_least definitions x 0 functions) one
-    ∙ ap (λ l. functions_least l (suite_least None top) 0 functions) d
-    ∙ ap (λ l. functions_least (filter is_def (suite_definitions m)) (suite_least None l) 0 functions) o
-    ∙ ap (functions_least (filter is_def (suite_definitions m)) (suite_least None t.top) 0) f
+    ∙ ap (λ x. functions_least globals definitions x 0 functions) one
+    ∙ ap (λ l. functions_least l definitions (suite_least l None top) 0 functions) g
+    ∙ ap (λ l. functions_least t.globals l (suite_least t.globals None top) 0 functions) d
+    ∙ ap (λ l. functions_least t.globals (filter is_def (suite_definitions m)) (suite_least t.globals None l) 0 functions) o
+    ∙ ap (functions_least t.globals (filter is_def (suite_definitions m)) (suite_least t.globals None t.top) 0) f
     ∙ module_same m t
 
 line_at : (s : Stmt) → s.span.line ≡ definition_line (Some (stmt_tree s))

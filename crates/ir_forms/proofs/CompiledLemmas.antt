@@ -3,7 +3,7 @@ use Rattle.std.proofs.Common.{◌≡◌, refl, ap, ◌∙◌, ℕ, Bool, true, f
 use Rattle.std.specs.Prelude.{ℤ, ◌&&◌}
 use Rattle.value_core.specs.Arithmetic.{lies_within}
 use Rattle.py_typed.specs.Sorts.{Sort}
-use Rattle.py_typed.specs.Expressions.{TypedExpr, typed, TypedNode, Flag, Local, Neg, Not, Truth, Arith, Compare, And, Or, Cond, Call, Coerce, TypedExprs, no_exprs, expr_then, Comparisons, no_comparisons, comparison_then, type_of}
+use Rattle.py_typed.specs.Expressions.{TypedExpr, typed, TypedNode, Flag, Local, Global, Neg, Not, Truth, Arith, Compare, And, Or, Cond, Call, Coerce, TypedExprs, no_exprs, expr_then, Comparisons, no_comparisons, comparison_then, type_of}
 use Rattle.py_typed.proofs.FitLemmas.{and_left, and_right}
 use Rattle.ir_expressions.specs.Compiled.{is_i64, is_bool, is_built, is_ordering, is_pair, literal_in, is_operand, is_compiled, is_compiled_node, are_compiled, are_compared}
 use Rattle.ir_forms.specs.Expressions.{line_unless, or_parts, line_at, are_pairs, is_form, operand_lines, expression_lines, part_lines, row_lines, chain_lines}
@@ -48,6 +48,7 @@ mutual
   pub compiled_node : (n : TypedNode) (t : Sort) → is_form n t ≡ true → part_lines n ≡ [] → is_compiled_node n t ≡ true
   compiled_node (Flag b) t f p = f
   compiled_node (Local i) t f p = f
+  compiled_node (Global i) t f p = f
   compiled_node (Neg e) t f p = both_hold _ _ f (compiled e p)
   compiled_node (Not e) t f p = both_hold _ _ f (compiled e p)
   compiled_node (Truth e) t f p = both_hold _ _ f (compiled e p)

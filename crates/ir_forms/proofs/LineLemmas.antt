@@ -6,11 +6,11 @@ use Rattle.value_core.specs.Arithmetic.{lies_within}
 use Rattle.py_syntax.specs.Statements.{StmtTree, Suite}
 use Rattle.py_names.specs.Outline.{suite_definitions}
 use Rattle.py_typed.specs.Expressions.{TypedExpr, typed, TypedNode, Neg, Not, Truth, Arith, Compare, And, Or, Cond, Call, Print, Coerce, TypedExprs, no_exprs, expr_then, Comparisons, no_comparisons, comparison_then, type_of}
-use Rattle.py_typed.specs.Statements.{TypedFunc, TypedModule, TypedStmt, on_line, TypedAct, Do, Assign, Aug, If, While, Return, Break, Continue, Pass, TypedSuite, no_stmts, stmt_then, Arms, no_arms, arm_then}
+use Rattle.py_typed.specs.Statements.{Variable, TypedFunc, TypedModule, TypedStmt, on_line, TypedAct, Do, Assign, Aug, If, While, Return, Break, Continue, Pass, TypedSuite, no_stmts, stmt_then, Arms, no_arms, arm_then}
 use Rattle.py_forms.specs.Later.{lesser, least}
 use Rattle.ir_expressions.specs.Compiled.{is_i64, is_scalar, is_built, literal_in}
 use Rattle.ir_forms.specs.Expressions.{line_unless, or_parts, line_at, is_form, operand_lines, expression_lines, part_lines, row_lines, chain_lines}
-use Rattle.ir_forms.specs.Statements.{is_printed, value_lines, print_lines, alone_lines, is_own, is_one, returned_lines, statement_lines, act_lines, suite_lines, arms_lines, is_function, is_def, definition_line, function_lines, functions_lines, uncompiled_line}
+use Rattle.ir_forms.specs.Statements.{is_printed, value_lines, print_lines, alone_lines, is_one, is_native_target, returned_lines, statement_lines, act_lines, suite_lines, arms_lines, is_function, is_def, definition_line, function_lines, functions_lines, uncompiled_line}
 use Rattle.ir_forms.specs.Least.{noted, operand_least, expression_least, part_least, row_least, chain_least, part_or_literal, value_least, print_least, alone_least, returned_least, statement_least, act_least, suite_least, arms_least, function_least, functions_least}
 
 -- the least of two rows is found in the one and then in the other
@@ -95,43 +95,44 @@ returned_same : (found : Option ℕ) (e : Option TypedExpr) (line : ℕ) → ret
 returned_same found None line = refl
 returned_same found (Some e) line = noted_same (is_scalar (type_of e)) (line_at e) found (expression_least found e) (expression_lines e) (expression_same found e)
 
-mutual
-  statement_same : (found : Option ℕ) (s : TypedStmt) → statement_least found s ≡ least found (statement_lines s)
-  statement_same found (on_line a line) = act_same found line a
+module _ (globals : List Variable) where
+  mutual
+    statement_same : (found : Option ℕ) (s : TypedStmt) → statement_least globals found s ≡ least found (statement_lines globals s)
+    statement_same found (on_line a line) = act_same found line a
 
-  act_same : (found : Option ℕ) (line : ℕ) (a : TypedAct) → act_least found line a ≡ least found (act_lines line a)
-  act_same found line (Do e) = alone_same found line e
-  act_same found line (Assign ts e) = noted_same (is_one ts && is_scalar (type_of e)) line found (expression_least found e) (expression_lines e) (expression_same found e)
-  act_same found line (Aug t op e s) = noted_same (is_own t && (is_i64 s && is_built op)) line found (part_or_literal found e) (operand e) (part_or_literal_same found e)
-  act_same found line (If arms other) = joined found _ _ (arms_lines arms) (suite_lines other) (arms_same found arms) (suite_same (arms_least found arms) other)
-  act_same found line (While test body) = joined found _ _ (expression_lines test) (suite_lines body) (expression_same found test) (suite_same (expression_least found test) body)
-  act_same found line (Return e) = returned_same found e line
-  act_same found line Break = refl
-  act_same found line Continue = refl
-  act_same found line Pass = refl
-  act_same found line _ = refl
+    act_same : (found : Option ℕ) (line : ℕ) (a : TypedAct) → act_least globals found line a ≡ least found (act_lines globals line a)
+    act_same found line (Do e) = alone_same found line e
+    act_same found line (Assign ts e) = noted_same (is_one ts && is_scalar (type_of e)) line found (expression_least found e) (expression_lines e) (expression_same found e)
+    act_same found line (Aug t op e s) = noted_same (is_native_target globals t && (is_i64 s && is_built op)) line found (part_or_literal found e) (operand e) (part_or_literal_same found e)
+    act_same found line (If arms other) = joined found _ _ (arms_lines globals arms) (suite_lines globals other) (arms_same found arms) (suite_same (arms_least globals found arms) other)
+    act_same found line (While test body) = joined found _ _ (expression_lines test) (suite_lines globals body) (expression_same found test) (suite_same (expression_least found test) body)
+    act_same found line (Return e) = returned_same found e line
+    act_same found line Break = refl
+    act_same found line Continue = refl
+    act_same found line Pass = refl
+    act_same found line _ = refl
 
-  suite_same : (found : Option ℕ) (body : TypedSuite) → suite_least found body ≡ least found (suite_lines body)
-  suite_same found no_stmts = refl
-  suite_same found (stmt_then s more) = joined found _ _ (statement_lines s) (suite_lines more) (statement_same found s) (suite_same (statement_least found s) more)
+    suite_same : (found : Option ℕ) (body : TypedSuite) → suite_least globals found body ≡ least found (suite_lines globals body)
+    suite_same found no_stmts = refl
+    suite_same found (stmt_then s more) = joined found _ _ (statement_lines globals s) (suite_lines globals more) (statement_same found s) (suite_same (statement_least globals found s) more)
 
-  arms_same : (found : Option ℕ) (arms : Arms) → arms_least found arms ≡ least found (arms_lines arms)
-  arms_same found no_arms = refl
-  arms_same found (arm_then test body more) =
-      joined found _ _ (expression_lines test) (suite_lines body ++ arms_lines more) (expression_same found test)
-      (joined (expression_least found test) _ _ (suite_lines body) (arms_lines more) (suite_same (expression_least found test) body) (arms_same (suite_least (expression_least found test) body) more))
+    arms_same : (found : Option ℕ) (arms : Arms) → arms_least globals found arms ≡ least found (arms_lines globals arms)
+    arms_same found no_arms = refl
+    arms_same found (arm_then test body more) =
+        joined found _ _ (expression_lines test) (suite_lines globals body ++ arms_lines globals more) (expression_same found test)
+        (joined (expression_least found test) _ _ (suite_lines globals body) (arms_lines globals more) (suite_same (expression_least found test) body) (arms_same (suite_least globals (expression_least found test) body) more))
 
--- ---- functions
+  -- ---- functions
 
-function_same : (found : Option ℕ) (definition : Option StmtTree) (f : TypedFunc) → function_least found definition f ≡ least found (function_lines definition f)
-function_same found definition f = noted_same (is_function f) (definition_line definition) found (suite_least found f.body) (suite_lines f.body) (suite_same found f.body)
+  function_same : (found : Option ℕ) (definition : Option StmtTree) (f : TypedFunc) → function_least globals found definition f ≡ least found (function_lines globals definition f)
+  function_same found definition f = noted_same (is_function f) (definition_line definition) found (suite_least globals found f.body) (suite_lines globals f.body) (suite_same found f.body)
 
-functions_same : (definitions : List StmtTree) (found : Option ℕ) (n : ℕ) (fs : List TypedFunc) → functions_least definitions found n fs ≡ least found (functions_lines definitions n fs)
-functions_same definitions found n [] = refl
-functions_same definitions found n (f ∷ more) =
-    joined found _ _ (function_lines (slice_get definitions n) f) (functions_lines definitions (suc n) more) (function_same found (slice_get definitions n) f)
-    (functions_same definitions (function_least found (slice_get definitions n) f) (suc n) more)
+  functions_same : (definitions : List StmtTree) (found : Option ℕ) (n : ℕ) (fs : List TypedFunc) → functions_least globals definitions found n fs ≡ least found (functions_lines globals definitions n fs)
+  functions_same definitions found n [] = refl
+  functions_same definitions found n (f ∷ more) =
+      joined found _ _ (function_lines globals (slice_get definitions n) f) (functions_lines globals definitions (suc n) more) (function_same found (slice_get definitions n) f)
+      (functions_same definitions (function_least globals found (slice_get definitions n) f) (suc n) more)
 
-pub module_same : (m : Suite) (t : TypedModule) → functions_least (filter is_def (suite_definitions m)) (suite_least None t.top) 0 t.funcs ≡ uncompiled_line m t
+pub module_same : (m : Suite) (t : TypedModule) → functions_least t.globals (filter is_def (suite_definitions m)) (suite_least t.globals None t.top) 0 t.funcs ≡ uncompiled_line m t
 module_same m t =
-    joined None _ _ (suite_lines t.top) (functions_lines (filter is_def (suite_definitions m)) 0 t.funcs) (suite_same None t.top) (functions_same (filter is_def (suite_definitions m)) (suite_least None t.top) 0 t.funcs)
+    joined None _ _ (suite_lines t.globals t.top) (functions_lines t.globals (filter is_def (suite_definitions m)) 0 t.funcs) (suite_same t.globals None t.top) (functions_same t.globals (filter is_def (suite_definitions m)) (suite_least t.globals None t.top) 0 t.funcs)

@@ -70,14 +70,14 @@ at_place test i (y ∷ ys) zero n x is h e =
     subst (λ j. test j x ≡ true) (sym (omega arith)) (subst (λ z. test i z ≡ true) (same_Some y x e) (and_left (test i y) (all_at (suc i) test ys) h))
 at_place test i (y ∷ ys) (suc k) n x is h e = at_place test (suc i) ys k n x (omega arith) (and_right (test i y) (all_at (suc i) test ys) h) e
 
-is_form_of : (definitions : List StmtTree) (n : ℕ) (fs : List TypedFunc) (k : ℕ) (f : TypedFunc) → functions_lines definitions n fs ≡ [] → slice_get fs k ≡ Some f → (is_function f ≡ true) × (suite_lines f.body ≡ [])
-is_form_of definitions n [] k f p e = absurd (cc)
-is_form_of definitions n (g ∷ more) zero f p e =
-    let here : function_lines (slice_get definitions n) g ≡ [] = none_left (function_lines (slice_get definitions n) g) (functions_lines definitions (suc n) more) p in
-    subst (λ h. (is_function h ≡ true) × (suite_lines h.body ≡ [])) (same_Some g f e)
-    (form_of (is_function g) (definition_line (slice_get definitions n)) (suite_lines g.body) here, parts_of (is_function g) (definition_line (slice_get definitions n)) (suite_lines g.body) here)
-is_form_of definitions n (g ∷ more) (suc k) f p e =
-    is_form_of definitions (suc n) more k f (none_right (function_lines (slice_get definitions n) g) (functions_lines definitions (suc n) more) p) e
+is_form_of : (globals : List Variable) (definitions : List StmtTree) (n : ℕ) (fs : List TypedFunc) (k : ℕ) (f : TypedFunc) → functions_lines globals definitions n fs ≡ [] → slice_get fs k ≡ Some f → (is_function f ≡ true) × (suite_lines globals f.body ≡ [])
+is_form_of globals definitions n [] k f p e = absurd (cc)
+is_form_of globals definitions n (g ∷ more) zero f p e =
+    let here : function_lines globals (slice_get definitions n) g ≡ [] = none_left (function_lines globals (slice_get definitions n) g) (functions_lines globals definitions (suc n) more) p in
+    subst (λ h. (is_function h ≡ true) × (suite_lines globals h.body ≡ [])) (same_Some g f e)
+    (form_of (is_function g) (definition_line (slice_get definitions n)) (suite_lines globals g.body) here, parts_of (is_function g) (definition_line (slice_get definitions n)) (suite_lines globals g.body) here)
+is_form_of globals definitions n (g ∷ more) (suc k) f p e =
+    is_form_of globals definitions (suc n) more k f (none_right (function_lines globals (slice_get definitions n) g) (functions_lines globals definitions (suc n) more) p) e
 
 none_is : {A : Type 0} (o : Option A) → is_none o ≡ true → o ≡ None
 none_is None h = refl
@@ -94,13 +94,13 @@ module _ (m : TypedModule) where
   named : (f : TypedFunc) → f.class ≡ None → own_name is_identifier m f ≡ f.name ∷ []
   named f h = rw h refl
 
-  all_named : (definitions : List StmtTree) (n : ℕ) (fs : List TypedFunc) → functions_lines definitions n fs ≡ [] → flat_map (own_name is_identifier m) fs ≡ map (λ (f : TypedFunc). f.name) fs
+  all_named : (definitions : List StmtTree) (n : ℕ) (fs : List TypedFunc) → functions_lines m.globals definitions n fs ≡ [] → flat_map (own_name is_identifier m) fs ≡ map (λ (f : TypedFunc). f.name) fs
   all_named definitions n [] p = refl
   all_named definitions n (f ∷ more) p =
-      let here : function_lines (slice_get definitions n) f ≡ [] = none_left (function_lines (slice_get definitions n) f) (functions_lines definitions (suc n) more) p in
-      let own = named f (no_method f (form_of (is_function f) (definition_line (slice_get definitions n)) (suite_lines f.body) here)) in
+      let here : function_lines m.globals (slice_get definitions n) f ≡ [] = none_left (function_lines m.globals (slice_get definitions n) f) (functions_lines m.globals definitions (suc n) more) p in
+      let own = named f (no_method f (form_of (is_function f) (definition_line (slice_get definitions n)) (suite_lines m.globals f.body) here)) in
       ap (λ l. l ++ flat_map (own_name is_identifier m) more) own
-      ∙ ap (λ l. f.name ∷ l) (all_named definitions (suc n) more (none_right (function_lines (slice_get definitions n) f) (functions_lines definitions (suc n) more) p))
+      ∙ ap (λ l. f.name ∷ l) (all_named definitions (suc n) more (none_right (function_lines m.globals (slice_get definitions n) f) (functions_lines m.globals definitions (suc n) more) p))
 
   -- what a well typed function has
   record Parts (n : ℕ) (f : TypedFunc) : Type 0 where
@@ -137,12 +137,12 @@ module _ (m : TypedModule) where
     sym (one_type f.ret s.ret (and_right (same_row (parameter_types f) s.params) (is_same_type f.ret s.ret) h)),
   )
 
-  module _ (tree : Suite) (typed : is_well_typed is_identifier m ≡ true) (lines : functions_lines (filter is_def (suite_definitions tree)) 0 m.funcs ≡ []) where
+  module _ (tree : Suite) (typed : is_well_typed is_identifier m ≡ true) (lines : functions_lines m.globals (filter is_def (suite_definitions tree)) 0 m.funcs ≡ []) where
     function_parts : (n : ℕ) (f : TypedFunc) → slice_get m.funcs n ≡ Some f → Parts n f
     function_parts n f is = parts n f (at_place (func_typed is_identifier m) 0 m.funcs n n f (omega arith) (and_right _ _ (and_left _ _ typed)) is)
 
-    formed : (n : ℕ) (f : TypedFunc) → slice_get m.funcs n ≡ Some f → (is_function f ≡ true) × (suite_lines f.body ≡ [])
-    formed n f is = is_form_of (filter is_def (suite_definitions tree)) 0 m.funcs n f lines is
+    formed : (n : ℕ) (f : TypedFunc) → slice_get m.funcs n ≡ Some f → (is_function f ≡ true) × (suite_lines m.globals f.body ≡ [])
+    formed n f is = is_form_of m.globals (filter is_def (suite_definitions tree)) 0 m.funcs n f lines is
 
     all_signed : (vs : List Variable) (init : Option ℕ) → AllSigned m vs init
     all_signed vs init n f s is function found =
@@ -166,7 +166,7 @@ module _ (m : TypedModule) where
           ends = either_of (is_nothing f.ret) (is_closed f.body) p.ends;
         }
 
-    module_suits : suite_lines m.top ≡ [] → ModuleSuits m
+    module_suits : suite_lines m.globals m.top ≡ [] → ModuleSuits m
     module_suits top =
         let six = and_left _ _ typed in
         let two = and_left _ _ (and_left _ _ (and_left _ _ (and_left _ _ six))) in
@@ -189,5 +189,5 @@ module _ (m : TypedModule) where
 
 pub compiled_suits : CompiledSuits
 compiled_suits tree m typed none =
-    let all = no_line (suite_lines m.top ++ functions_lines (filter is_def (suite_definitions tree)) 0 m.funcs) none in
-    module_suits m tree typed (none_right (suite_lines m.top) (functions_lines (filter is_def (suite_definitions tree)) 0 m.funcs) all) (none_left (suite_lines m.top) (functions_lines (filter is_def (suite_definitions tree)) 0 m.funcs) all)
+    let all = no_line (suite_lines m.globals m.top ++ functions_lines m.globals (filter is_def (suite_definitions tree)) 0 m.funcs) none in
+    module_suits m tree typed (none_right (suite_lines m.globals m.top) (functions_lines m.globals (filter is_def (suite_definitions tree)) 0 m.funcs) all) (none_left (suite_lines m.globals m.top) (functions_lines m.globals (filter is_def (suite_definitions tree)) 0 m.funcs) all)

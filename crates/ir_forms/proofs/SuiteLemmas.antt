@@ -8,8 +8,8 @@ use Rattle.py_syntax.specs.declared.token.Span.{Span}
 use Rattle.py_typed.specs.Sorts as sort
 use Rattle.py_typed.specs.Sorts.{Sort}
 use Rattle.py_typed.specs.Fits.{is_same_type, is_nothing, fits}
-use Rattle.py_typed.specs.Expressions.{TypedExpr, typed, TypedNode, Int, Flag, Nothing, Local, Neg, Not, Truth, Arith, Compare, And, Or, Cond, Call, Print, Coerce, TypedExprs, no_exprs, expr_then, type_of}
-use Rattle.py_typed.specs.Statements.{Variable, TypedModule, TypedTarget, LocalTarget, TypedStmt, on_line, TypedAct, Do, Assign, Aug, If, While, Return, Break, Continue, Pass, TypedSuite, no_stmts, stmt_then, Arms, no_arms, arm_then}
+use Rattle.py_typed.specs.Expressions.{TypedExpr, typed, TypedNode, Int, Flag, Nothing, Local, Global, Neg, Not, Truth, Arith, Compare, And, Or, Cond, Call, Print, Coerce, TypedExprs, no_exprs, expr_then, type_of}
+use Rattle.py_typed.specs.Statements.{Variable, TypedModule, TypedTarget, LocalTarget, GlobalTarget, TypedStmt, on_line, TypedAct, Do, Assign, Aug, If, While, Return, Break, Continue, Pass, TypedSuite, no_stmts, stmt_then, Arms, no_arms, arm_then}
 use Rattle.py_typed.specs.StatementMeaning.{sort_at}
 use Rattle.py_typed.specs.Narrowing.{facts, without, bound_suite, after}
 use Rattle.py_typed.specs.WellTypedExpr.{stands, parts_typed, are_values, rule, is_value, is_typed, is_empty_call, is_none_literal}
@@ -22,7 +22,7 @@ use Rattle.ir_expressions.specs.Suiting.{Suits, OperandSuits, Operand}
 use Rattle.ir_expressions.proofs.SuitLemmas.{AllScalar, AllSigned, well_typed_suits, well_typed_node}
 use Rattle.ir_bodies.specs.Suiting.{PrintSuits, DoSuits, IsVariable, IsOnly, ReturnSuits, StatementSuits, ActSuits, SuiteSuits, ArmsSuit}
 use Rattle.ir_forms.specs.Expressions.{line_at, is_form, operand_lines, expression_lines, part_lines}
-use Rattle.ir_forms.specs.Statements.{greatest_printed, is_printed, value_lines, print_lines, alone_lines, is_own, is_one, returned_lines, statement_lines, act_lines, suite_lines, arms_lines}
+use Rattle.ir_forms.specs.Statements.{greatest_printed, is_printed, value_lines, print_lines, alone_lines, is_one, is_i64_in, is_native_target, returned_lines, statement_lines, act_lines, suite_lines, arms_lines}
 use Rattle.ir_forms.proofs.CompiledLemmas.{none_left, none_right, form_of, parts_of, unless_holds, compiled, compiled_node}
 
 -- ---- types
@@ -52,6 +52,7 @@ result_scalar _ h k = absurd (cc)
 form_scalar : (n : TypedNode) (t : Sort) → is_form n t ≡ true → not (is_empty_call n t) ≡ true → is_scalar t ≡ true
 form_scalar (Flag b) t f k = bool_scalar t f
 form_scalar (Local i) t f k = f
+form_scalar (Global i) t f k = f
 form_scalar (Neg e) t f k = i64_scalar t f
 form_scalar (Not e) t f k = bool_scalar t f
 form_scalar (Truth e) t f k = bool_scalar t f
@@ -98,6 +99,11 @@ not_both false h = absurd (cc)
 variable_of : (o : Option Variable) (t : Sort) → is_scalar t ≡ true → t ≡ sort_of o → (v : Variable) × (o ≡ Some v) × (v.1 ≡ t)
 variable_of None t s e = absurd (cc)
 variable_of (Some v) t s e = (v, refl, sym e)
+
+-- a variable that is a native integer
+i64_of : (o : Option Variable) → is_i64_in o ≡ true → (v : Variable) × (o ≡ Some v) × (v.1 ≡ sort.I64)
+i64_of None h = absurd (cc)
+i64_of (Some v) h = (v, refl, i64_is v.1 h)
 
 module _ (m : TypedModule) (vs : List Variable) (init : Option ℕ) (scalars : AllScalar m vs init) (signed : AllSigned m vs init) where
   empty_no_value : (testing : Bool) (known : List ℕ) (n : TypedNode) (t : Sort) (place : Span) → stands m vs init testing known (typed n t place) ≡ true → not (is_empty_call n t) ≡ true
@@ -168,6 +174,8 @@ module _ (m : TypedModule) (vs : List Variable) (init : Option ℕ) (scalars : A
 
     only_suits : (ts : List TypedTarget) (s : Sort) → is_one ts ≡ true → is_scalar s ≡ true → assignment_fits m vs init result ts s ≡ true → IsOnly m vs gives ts s
     only_suits (LocalTarget i ∷ []) s o c h = variable_of (slice_get vs i) s c (scalar_assigned (LocalTarget i) s c h ∙ sort_found vs i (slice_get vs i) refl)
+    only_suits (GlobalTarget i ∷ []) s o c h =
+        variable_of (slice_get m.globals i) s c (scalar_assigned (GlobalTarget i) s c h ∙ sort_found m.globals i (slice_get m.globals i) refl)
     only_suits [] s o c h = absurd (never o)
     only_suits (t ∷ []) s o c h = absurd (never o)
     only_suits (t ∷ u ∷ more) s o c h = absurd (never o)
@@ -180,10 +188,11 @@ module _ (m : TypedModule) (vs : List Variable) (init : Option ℕ) (scalars : A
         number_type sort.I64 c f = refl
         number_type _ c f = absurd (cc)
 
-    updated : (t : TypedTarget) (s : Sort) → is_own t ≡ true → is_i64 s ≡ true → fits m.classes.classes s (target_type m vs init result t) ≡ true → IsVariable m vs gives t sort.I64
+    updated : (t : TypedTarget) (s : Sort) → is_native_target m.globals t ≡ true → is_i64 s ≡ true → fits m.classes.classes s (target_type m vs init result t) ≡ true → IsVariable m vs gives t sort.I64
     updated (LocalTarget i) s o c h =
         number_only (slice_get vs i) (scalars i)
         (subst (λ t. fits m.classes.classes sort.I64 t ≡ true) (sort_found vs i (slice_get vs i) refl) (subst (λ r. fits m.classes.classes r (sort_at vs i) ≡ true) (i64_is s c) h))
+    updated (GlobalTarget i) s o c h = i64_of (slice_get m.globals i) o
     updated _ s o c h = absurd (never o)
 
     -- ---- what is returned
@@ -213,10 +222,10 @@ module _ (m : TypedModule) (vs : List Variable) (init : Option ℕ) (scalars : A
 
   module _ (result : Option Sort) where
     mutual
-      statement_suits : (known : List ℕ) (looping handling : Bool) (s : TypedStmt) → stmt_typed m vs init result known looping handling s ≡ true → statement_lines s ≡ [] → StatementSuits m vs (option_map rtype_of result) looping s
+      statement_suits : (known : List ℕ) (looping handling : Bool) (s : TypedStmt) → stmt_typed m vs init result known looping handling s ≡ true → statement_lines m.globals s ≡ [] → StatementSuits m vs (option_map rtype_of result) looping s
       statement_suits known looping handling (on_line a line) h p = act_suits known looping handling line a h p
 
-      act_suits : (known : List ℕ) (looping handling : Bool) (line : ℕ) (a : TypedAct) → act_typed m vs init result known looping handling a ≡ true → act_lines line a ≡ [] → ActSuits m vs (option_map rtype_of result) looping a
+      act_suits : (known : List ℕ) (looping handling : Bool) (line : ℕ) (a : TypedAct) → act_typed m vs init result known looping handling a ≡ true → act_lines m.globals line a ≡ [] → ActSuits m vs (option_map rtype_of result) looping a
       act_suits known looping handling line (Do e) h p = alone_suits result known line e h p
       act_suits known looping handling line (Assign ts e) h p =
           let form = form_of (is_one ts && is_scalar (type_of e)) line (expression_lines e) p in
@@ -227,19 +236,19 @@ module _ (m : TypedModule) (vs : List Variable) (init : Option ℕ) (scalars : A
           )
       act_suits known looping handling line (Aug t op e s) h p =
           let lines = operand_lines (literal_in e) (line_at e) (expression_lines e) in
-          let form = form_of (is_own t && (is_i64 s && is_built op)) line lines p in
-          let more = and_right (is_own t) (is_i64 s && is_built op) form in (
+          let form = form_of (is_native_target m.globals t && (is_i64 s && is_built op)) line lines p in
+          let more = and_right (is_native_target m.globals t) (is_i64 s && is_built op) form in (
             i64_is s (and_left (is_i64 s) (is_built op) more),
-            updated result t s (and_left (is_own t) (is_i64 s && is_built op) form) (and_left (is_i64 s) (is_built op) more) (and_right _ _ (and_right _ _ h)),
+            updated result t s (and_left (is_native_target m.globals t) (is_i64 s && is_built op) form) (and_left (is_i64 s) (is_built op) more) (and_right _ _ (and_right _ _ h)),
             and_right (is_i64 s) (is_built op) more,
-            operand_suits known e (and_left _ _ (and_left _ _ h)) (parts_of (is_own t && (is_i64 s && is_built op)) line lines p),
+            operand_suits known e (and_left _ _ (and_left _ _ h)) (parts_of (is_native_target m.globals t && (is_i64 s && is_built op)) line lines p),
           )
       act_suits known looping handling line (If arms other) h p =
-          let found = arms_suit known looping handling arms (λ there. suite_typed m vs init result there looping handling other) (and_right _ _ h) (none_left (arms_lines arms) (suite_lines other) p) in
-          (found.0, suite_suits found.1 looping handling other found.2 (none_right (arms_lines arms) (suite_lines other) p))
+          let found = arms_suit known looping handling arms (λ there. suite_typed m vs init result there looping handling other) (and_right _ _ h) (none_left (arms_lines m.globals arms) (suite_lines m.globals other) p) in
+          (found.0, suite_suits found.1 looping handling other found.2 (none_right (arms_lines m.globals arms) (suite_lines m.globals other) p))
       act_suits known looping handling line (While test body) h p = (
-        test_suits (without (bound_suite body) known) test (and_left _ _ (and_left _ _ h)) (none_left (expression_lines test) (suite_lines body) p),
-        suite_suits (facts true test ++ without (bound_suite body) known) true handling body (and_right _ _ h) (none_right (expression_lines test) (suite_lines body) p),
+        test_suits (without (bound_suite body) known) test (and_left _ _ (and_left _ _ h)) (none_left (expression_lines test) (suite_lines m.globals body) p),
+        suite_suits (facts true test ++ without (bound_suite body) known) true handling body (and_right _ _ h) (none_right (expression_lines test) (suite_lines m.globals body) p),
       )
       act_suits known looping handling line (Return e) h p = return_suits known line result e h p
       act_suits known looping handling line Break h p = h
@@ -247,21 +256,21 @@ module _ (m : TypedModule) (vs : List Variable) (init : Option ℕ) (scalars : A
       act_suits known looping handling line Pass h p = tt
       act_suits known looping handling line _ h p = absurd (cc)
 
-      pub suite_suits : (known : List ℕ) (looping handling : Bool) (body : TypedSuite) → suite_typed m vs init result known looping handling body ≡ true → suite_lines body ≡ [] → SuiteSuits m vs (option_map rtype_of result) looping body
+      pub suite_suits : (known : List ℕ) (looping handling : Bool) (body : TypedSuite) → suite_typed m vs init result known looping handling body ≡ true → suite_lines m.globals body ≡ [] → SuiteSuits m vs (option_map rtype_of result) looping body
       suite_suits known looping handling no_stmts h p = tt
       suite_suits known looping handling (stmt_then s more) h p = (
-        statement_suits known looping handling s (and_left _ _ h) (none_left (statement_lines s) (suite_lines more) p),
-        suite_suits (after (is_single m vs init result) known s) looping handling more (and_right _ _ h) (none_right (statement_lines s) (suite_lines more) p),
+        statement_suits known looping handling s (and_left _ _ h) (none_left (statement_lines m.globals s) (suite_lines m.globals more) p),
+        suite_suits (after (is_single m vs init result) known s) looping handling more (and_right _ _ h) (none_right (statement_lines m.globals s) (suite_lines m.globals more) p),
       )
 
-      arms_suit : (known : List ℕ) (looping handling : Bool) (arms : Arms) (other : List ℕ → Bool) → arms_typed m vs init result known looping handling arms other ≡ true → arms_lines arms ≡ [] → ArmsSuit m vs (option_map rtype_of result) looping arms × (there : List ℕ) × (other there ≡ true)
+      arms_suit : (known : List ℕ) (looping handling : Bool) (arms : Arms) (other : List ℕ → Bool) → arms_typed m vs init result known looping handling arms other ≡ true → arms_lines m.globals arms ≡ [] → ArmsSuit m vs (option_map rtype_of result) looping arms × (there : List ℕ) × (other there ≡ true)
       arms_suit known looping handling no_arms other h p = (tt, known, h)
       arms_suit known looping handling (arm_then test body more) other h p =
-          let rest : suite_lines body ++ arms_lines more ≡ [] = none_right (expression_lines test) (suite_lines body ++ arms_lines more) p in
-          let found = arms_suit (facts false test ++ known) looping handling more other (and_right _ _ h) (none_right (suite_lines body) (arms_lines more) rest) in (
+          let rest : suite_lines m.globals body ++ arms_lines m.globals more ≡ [] = none_right (expression_lines test) (suite_lines m.globals body ++ arms_lines m.globals more) p in
+          let found = arms_suit (facts false test ++ known) looping handling more other (and_right _ _ h) (none_right (suite_lines m.globals body) (arms_lines m.globals more) rest) in (
             (
-              test_suits known test (and_left _ _ (and_left _ _ (and_left _ _ h))) (none_left (expression_lines test) (suite_lines body ++ arms_lines more) p),
-              suite_suits (facts true test ++ known) looping handling body (and_right _ _ (and_left _ _ h)) (none_left (suite_lines body) (arms_lines more) rest),
+              test_suits known test (and_left _ _ (and_left _ _ (and_left _ _ h))) (none_left (expression_lines test) (suite_lines m.globals body ++ arms_lines m.globals more) p),
+              suite_suits (facts true test ++ known) looping handling body (and_right _ _ (and_left _ _ h)) (none_left (suite_lines m.globals body) (arms_lines m.globals more) rest),
               found.0,
             ),
             found.1,

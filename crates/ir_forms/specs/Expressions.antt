@@ -3,7 +3,7 @@
 use Rattle.std.specs.Prelude.{ℕ, ℤ, Bool, true, false, ◌&&◌, if◌then◌else◌, List, [], ◌∷◌, ◌++◌, Option, Some, None}
 use Rattle.value_core.specs.Arithmetic.{lies_within}
 use Rattle.py_typed.specs.Sorts.{Sort}
-use Rattle.py_typed.specs.Expressions.{TypedExpr, typed, TypedNode, Flag, Local, Neg, Not, Truth, Arith, Compare, And, Or, Cond, Call, Coerce, TypedExprs, no_exprs, expr_then, Comparisons, no_comparisons, comparison_then, type_of}
+use Rattle.py_typed.specs.Expressions.{TypedExpr, typed, TypedNode, Flag, Local, Global, Neg, Not, Truth, Arith, Compare, And, Or, Cond, Call, Coerce, TypedExprs, no_exprs, expr_then, Comparisons, no_comparisons, comparison_then, type_of}
 use Rattle.ir_expressions.specs.Compiled.{is_i64, is_bool, is_scalar, is_result, is_built, is_ordering, literal_in, is_pair}
 
 abbrev pub line_unless : Bool → ℕ → List ℕ
@@ -26,6 +26,7 @@ are_pairs s (comparison_then op e more) = is_ordering op && (is_pair s (type_of 
 abbrev pub is_form : TypedNode → Sort → Bool
 is_form (Flag b) t = is_bool t
 is_form (Local i) t = is_scalar t
+is_form (Global i) t = is_scalar t
 is_form (Neg e) t = is_i64 t
 is_form (Not e) t = is_bool t
 is_form (Truth e) t = is_bool t

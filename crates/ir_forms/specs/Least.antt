@@ -4,11 +4,11 @@ use Rattle.std.specs.Prelude.{ℕ, suc, ℤ, Bool, true, false, ◌&&◌, List, 
 use Rattle.value_core.specs.Arithmetic.{lies_within}
 use Rattle.py_syntax.specs.Statements.{StmtTree}
 use Rattle.py_typed.specs.Expressions.{TypedExpr, typed, TypedNode, Neg, Not, Truth, Arith, Compare, And, Or, Cond, Call, Print, Coerce, TypedExprs, no_exprs, expr_then, Comparisons, no_comparisons, comparison_then, type_of}
-use Rattle.py_typed.specs.Statements.{TypedFunc, TypedStmt, on_line, TypedAct, Do, Assign, Aug, If, While, Return, Break, Continue, Pass, TypedSuite, no_stmts, stmt_then, Arms, no_arms, arm_then}
+use Rattle.py_typed.specs.Statements.{Variable, TypedFunc, TypedStmt, on_line, TypedAct, Do, Assign, Aug, If, While, Return, Break, Continue, Pass, TypedSuite, no_stmts, stmt_then, Arms, no_arms, arm_then}
 use Rattle.py_forms.specs.Later.{lesser}
 use Rattle.ir_expressions.specs.Compiled.{is_i64, is_scalar, is_built, literal_in}
 use Rattle.ir_forms.specs.Expressions.{line_at, is_form}
-use Rattle.ir_forms.specs.Statements.{is_printed, is_own, is_one, is_function, definition_line}
+use Rattle.ir_forms.specs.Statements.{is_printed, is_one, is_native_target, is_function, definition_line}
 
 -- one more line, unless what stands there is compiled; what is in it has led to `rest`
 abbrev pub noted : Bool → ℕ → Option ℕ → Option ℕ → Option ℕ
@@ -73,33 +73,35 @@ abbrev pub returned_least : Option ℕ → Option TypedExpr → Option ℕ
 returned_least found None = found
 returned_least found (Some e) = scalar_least found (line_at e) e
 
-abbrev mutual
-  pub statement_least : Option ℕ → TypedStmt → Option ℕ
-  statement_least found (on_line a line) = act_least found line a
+-- in a module with these variables
+module _ (globals : List Variable) where
+  abbrev mutual
+    pub statement_least : Option ℕ → TypedStmt → Option ℕ
+    statement_least found (on_line a line) = act_least found line a
 
-  pub act_least : Option ℕ → ℕ → TypedAct → Option ℕ
-  act_least found line (Do e) = alone_least found line e
-  act_least found line (Assign ts e) = noted (is_one ts && is_scalar (type_of e)) line found (expression_least found e)
-  act_least found line (Aug t op e s) = noted (is_own t && (is_i64 s && is_built op)) line found (part_or_literal found e)
-  act_least found line (If arms other) = suite_least (arms_least found arms) other
-  act_least found line (While test body) = suite_least (expression_least found test) body
-  act_least found line (Return e) = returned_least found e
-  act_least found line Break = found
-  act_least found line Continue = found
-  act_least found line Pass = found
-  act_least found line a = Some (lesser line found)
+    pub act_least : Option ℕ → ℕ → TypedAct → Option ℕ
+    act_least found line (Do e) = alone_least found line e
+    act_least found line (Assign ts e) = noted (is_one ts && is_scalar (type_of e)) line found (expression_least found e)
+    act_least found line (Aug t op e s) = noted (is_native_target globals t && (is_i64 s && is_built op)) line found (part_or_literal found e)
+    act_least found line (If arms other) = suite_least (arms_least found arms) other
+    act_least found line (While test body) = suite_least (expression_least found test) body
+    act_least found line (Return e) = returned_least found e
+    act_least found line Break = found
+    act_least found line Continue = found
+    act_least found line Pass = found
+    act_least found line a = Some (lesser line found)
 
-  pub suite_least : Option ℕ → TypedSuite → Option ℕ
-  suite_least found no_stmts = found
-  suite_least found (stmt_then s more) = suite_least (statement_least found s) more
+    pub suite_least : Option ℕ → TypedSuite → Option ℕ
+    suite_least found no_stmts = found
+    suite_least found (stmt_then s more) = suite_least (statement_least found s) more
 
-  pub arms_least : Option ℕ → Arms → Option ℕ
-  arms_least found no_arms = found
-  arms_least found (arm_then test body more) = arms_least (suite_least (expression_least found test) body) more
+    pub arms_least : Option ℕ → Arms → Option ℕ
+    arms_least found no_arms = found
+    arms_least found (arm_then test body more) = arms_least (suite_least (expression_least found test) body) more
 
-abbrev pub function_least : Option ℕ → Option StmtTree → TypedFunc → Option ℕ
-function_least found definition f = noted (is_function f) (definition_line definition) found (suite_least found f.body)
+  abbrev pub function_least : Option ℕ → Option StmtTree → TypedFunc → Option ℕ
+  function_least found definition f = noted (is_function f) (definition_line definition) found (suite_least found f.body)
 
-abbrev pub functions_least : List StmtTree → Option ℕ → ℕ → List TypedFunc → Option ℕ
-functions_least definitions found n [] = found
-functions_least definitions found n (f ∷ more) = functions_least definitions (function_least found (slice_get definitions n) f) (suc n) more
+  abbrev pub functions_least : List StmtTree → Option ℕ → ℕ → List TypedFunc → Option ℕ
+  functions_least definitions found n [] = found
+  functions_least definitions found n (f ∷ more) = functions_least definitions (function_least found (slice_get definitions n) f) (suc n) more

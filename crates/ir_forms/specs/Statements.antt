@@ -4,7 +4,7 @@ use Rattle.std.specs.Prelude.{ℕ, suc, ℤ, pos, negsuc, Bool, true, false, ◌
 use Rattle.std.specs.List.{list_all, filter}
 use Rattle.py_syntax.specs.Statements.{StmtTree, at, Def, Suite}
 use Rattle.py_typed.specs.Expressions.{TypedExpr, typed, Print, TypedExprs, no_exprs, expr_then, type_of}
-use Rattle.py_typed.specs.Statements.{Variable, TypedFunc, TypedModule, TypedTarget, LocalTarget, TypedStmt, on_line, TypedAct, Do, Assign, Aug, If, While, Return, Break, Continue, Pass, TypedSuite, no_stmts, stmt_then, Arms, no_arms, arm_then}
+use Rattle.py_typed.specs.Statements.{Variable, TypedFunc, TypedModule, TypedTarget, LocalTarget, GlobalTarget, TypedStmt, on_line, TypedAct, Do, Assign, Aug, If, While, Return, Break, Continue, Pass, TypedSuite, no_stmts, stmt_then, Arms, no_arms, arm_then}
 use Rattle.py_names.specs.Outline.{suite_definitions}
 use Rattle.py_forms.specs.Later.{least}
 use Rattle.ir_expressions.specs.Compiled.{is_i64, is_scalar, is_result, is_built, literal_in}
@@ -32,9 +32,10 @@ abbrev pub alone_lines : ℕ → TypedExpr → List ℕ
 alone_lines line (typed (Print es) t place) = print_lines line es
 alone_lines line e = expression_lines e
 
--- one name of a function
+-- one name of the function or of the module
 abbrev pub is_own : TypedTarget → Bool
 is_own (LocalTarget i) = true
+is_own (GlobalTarget i) = true
 is_own t = false
 
 abbrev pub is_one : List TypedTarget → Bool
@@ -45,30 +46,44 @@ abbrev pub returned_lines : ℕ → Option TypedExpr → List ℕ
 returned_lines line None = []
 returned_lines line (Some e) = or_parts (is_scalar (type_of e)) (line_at e) (expression_lines e)
 
-abbrev mutual
-  pub statement_lines : TypedStmt → List ℕ
-  statement_lines (on_line a line) = act_lines line a
+-- a variable that is a native integer
+abbrev pub is_i64_in : Option Variable → Bool
+is_i64_in None = false
+is_i64_in (Some v) = is_i64 v.1
 
-  pub act_lines : ℕ → TypedAct → List ℕ
-  act_lines line (Do e) = alone_lines line e
-  act_lines line (Assign ts e) = or_parts (is_one ts && is_scalar (type_of e)) line (expression_lines e)
-  act_lines line (Aug t op e s) =
-      or_parts (is_own t && (is_i64 s && is_built op)) line (operand_lines (literal_in e) (line_at e) (expression_lines e))
-  act_lines line (If arms other) = arms_lines arms ++ suite_lines other
-  act_lines line (While test body) = expression_lines test ++ suite_lines body
-  act_lines line (Return e) = returned_lines line e
-  act_lines line Break = []
-  act_lines line Continue = []
-  act_lines line Pass = []
-  act_lines line a = line ∷ []
+-- in a module with these variables
+module _ (globals : List Variable) where
+  -- one name of the function, whose variables are native integers and bools where it is compiled, or one of the module that is a
+  -- native integer: the module's variables may have any type
+  abbrev pub is_native_target : TypedTarget → Bool
+  is_native_target (LocalTarget i) = true
+  is_native_target (GlobalTarget i) = is_i64_in (slice_get globals i)
+  is_native_target t = false
 
-  pub suite_lines : TypedSuite → List ℕ
-  suite_lines no_stmts = []
-  suite_lines (stmt_then s more) = statement_lines s ++ suite_lines more
+  abbrev mutual
+    pub statement_lines : TypedStmt → List ℕ
+    statement_lines (on_line a line) = act_lines line a
 
-  pub arms_lines : Arms → List ℕ
-  arms_lines no_arms = []
-  arms_lines (arm_then test body more) = expression_lines test ++ (suite_lines body ++ arms_lines more)
+    pub act_lines : ℕ → TypedAct → List ℕ
+    act_lines line (Do e) = alone_lines line e
+    act_lines line (Assign ts e) = or_parts (is_one ts && is_scalar (type_of e)) line (expression_lines e)
+    act_lines line (Aug t op e s) =
+        or_parts (is_native_target t && (is_i64 s && is_built op)) line (operand_lines (literal_in e) (line_at e) (expression_lines e))
+    act_lines line (If arms other) = arms_lines arms ++ suite_lines other
+    act_lines line (While test body) = expression_lines test ++ suite_lines body
+    act_lines line (Return e) = returned_lines line e
+    act_lines line Break = []
+    act_lines line Continue = []
+    act_lines line Pass = []
+    act_lines line a = line ∷ []
+
+    pub suite_lines : TypedSuite → List ℕ
+    suite_lines no_stmts = []
+    suite_lines (stmt_then s more) = statement_lines s ++ suite_lines more
+
+    pub arms_lines : Arms → List ℕ
+    arms_lines no_arms = []
+    arms_lines (arm_then test body more) = expression_lines test ++ (suite_lines body ++ arms_lines more)
 
 -- ---- functions
 
@@ -88,13 +103,14 @@ abbrev pub definition_line : Option StmtTree → ℕ
 definition_line None = 0
 definition_line (Some (at node span)) = span.line
 
-abbrev pub function_lines : Option StmtTree → TypedFunc → List ℕ
-function_lines definition f = or_parts (is_function f) (definition_line definition) (suite_lines f.body)
+module _ (globals : List Variable) where
+  abbrev pub function_lines : Option StmtTree → TypedFunc → List ℕ
+  function_lines definition f = or_parts (is_function f) (definition_line definition) (suite_lines globals f.body)
 
--- functions from the one of this number on, among the functions' definitions
-abbrev pub functions_lines : List StmtTree → ℕ → List TypedFunc → List ℕ
-functions_lines definitions n [] = []
-functions_lines definitions n (f ∷ more) = function_lines (slice_get definitions n) f ++ functions_lines definitions (suc n) more
+  -- functions from the one of this number on, among the functions' definitions
+  abbrev pub functions_lines : List StmtTree → ℕ → List TypedFunc → List ℕ
+  functions_lines definitions n [] = []
+  functions_lines definitions n (f ∷ more) = function_lines (slice_get definitions n) f ++ functions_lines definitions (suc n) more
 
 -- a definition of a function
 abbrev pub is_def : StmtTree → Bool
@@ -104,4 +120,4 @@ is_def s = false
 -- THE LINE on which a statement, an expression or a function of a module stands first that is not compiled, where there is one. The
 -- module has this tree and is this typed one
 abbrev pub uncompiled_line : Suite → TypedModule → Option ℕ
-uncompiled_line m t = least None (suite_lines t.top ++ functions_lines (filter is_def (suite_definitions m)) 0 t.funcs)
+uncompiled_line m t = least None (suite_lines t.globals t.top ++ functions_lines t.globals (filter is_def (suite_definitions m)) 0 t.funcs)

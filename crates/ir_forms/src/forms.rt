@@ -1,5 +1,5 @@
 //! Whether a type, an operation or a node is one of those that are compiled, whatever stands in it.
-ghost use Rattle.std.specs.Prelude.{◌≡◌, ◌&&◌, map};
+ghost use Rattle.std.specs.Prelude.{◌≡◌, ◌&&◌, map, slice_get};
 ghost use Rattle.value_core.specs.Arithmetic.{lies_within};
 ghost use Rattle.py_typed.specs.Sorts.{sort};
 ghost use Rattle.py_typed.specs.Expressions.{typed_expr, typed_node, typed_comparison, comparisons_of};
@@ -83,6 +83,7 @@ pub(crate) fn is_form(e: &TExpr) -> bool
     match &e.kind {
         TKind::Bool(_) => is_bool(&e.ty),
         TKind::Local(_) => is_scalar(&e.ty),
+        TKind::Global(_) => is_scalar(&e.ty),
         TKind::Neg(_) => is_i64(&e.ty),
         TKind::Not(_) => is_bool(&e.ty),
         TKind::Truth(_) => is_bool(&e.ty),
@@ -124,10 +125,10 @@ pub(crate) fn is_printed(n: i128) -> bool
 fn is_own(target: &Target) -> bool
     ensures { result ≡ statement.is_own (typed_target target.now) }
 {
-    matches!(target, Target::Local(_))
+    matches!(target, Target::Local(_) | Target::Global(_))
 }
 
-/// Whether what is assigned to is one name of a function.
+/// Whether what is assigned to is one name of the function or of the module.
 fn is_one(targets: &[Target]) -> bool
     ensures { result ≡ statement.is_one (map typed_target targets.now) }
 {
@@ -144,11 +145,33 @@ pub(crate) fn is_assigned(targets: &[Target], t: &Ty) -> bool
     is_one(targets) && is_scalar(t)
 }
 
-/// Whether this target is updated by this operation, whose result is of this type.
-pub(crate) fn is_updated(target: &Target, op: BinOp, t: &Ty) -> bool
-    ensures { result ≡ (statement.is_own (typed_target target.now) && (compiled.is_i64 (sort t.now) && compiled.is_built op)) }
+/// Whether the variable of a number is a native integer.
+fn is_i64_at(variables: &[Var], i: usize) -> bool
+    ensures { result ≡ statement.is_i64_in (slice_get (map variable variables.now) i) }
 {
-    is_own(target) && (is_i64(t) && is_built(op))
+    match variables.get(i) {
+        None => false,
+        Some(v) => is_i64(&v.ty),
+    }
+}
+
+/// Whether a target is one name of the function, or one of the module, with these variables, that is a native integer.
+fn is_native_target(globals: &[Var], target: &Target) -> bool
+    ensures { result ≡ statement.is_native_target (map variable globals.now) (typed_target target.now) }
+{
+    match target {
+        Target::Local(_) => true,
+        Target::Global(i) => is_i64_at(globals, *i),
+        Target::Attr(_, _) => false,
+        Target::At(_, _) => false,
+    }
+}
+
+/// Whether this target is updated by this operation, whose result is of this type, in a module with these variables.
+pub(crate) fn is_updated(globals: &[Var], target: &Target, op: BinOp, t: &Ty) -> bool
+    ensures { result ≡ (statement.is_native_target (map variable globals.now) (typed_target target.now) && (compiled.is_i64 (sort t.now) && compiled.is_built op)) }
+{
+    is_native_target(globals, target) && (is_i64(t) && is_built(op))
 }
 
 fn are_scalars(variables: &[Var]) -> bool

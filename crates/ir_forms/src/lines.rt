@@ -1,13 +1,14 @@
 //! The lines on which something stands that is not compiled.
 //!
-//! Each function takes the least line found so far, and gives the least one with those of what it goes over.
+//! Each function takes the least line found so far, and gives the least one with those of what it goes over. Those that go over
+//! statements take the module's variables too.
 ghost use Rattle.std.specs.Prelude.{◌≡◌, map, slice_get, Some, IfOk};
 ghost use Rattle.std.specs.List.{filter};
 ghost use Rattle.py_forms.specs.Later.{lesser};
 ghost use Rattle.py_syntax.specs.Statements.{module_tree, stmt_tree};
 ghost use Rattle.py_names.specs.Walked.{trees};
 ghost use Rattle.py_typed.specs.Expressions.{typed_expr, exprs_of, comparisons_of, typed_comparison};
-ghost use Rattle.py_typed.specs.Statements.{typed_stmt, typed_suite, typed_arm, arms_of, maybe_typed, typed_func, typed_module};
+ghost use Rattle.py_typed.specs.Statements.{typed_stmt, typed_suite, typed_arm, arms_of, maybe_typed, variable, typed_func, typed_module};
 ghost use Rattle.ir_forms.specs.Statements.{uncompiled_line, is_function, is_def, definition_line};
 ghost use Rattle.ir_forms.specs.Least as find;
 
@@ -17,7 +18,7 @@ use crate::forms::{
 use py_forms::lesser;
 use py_names::definitions_in;
 use py_syntax::{CmpOp, Module, Stmt, StmtKind};
-use py_typed::{Checked, TExpr, TFunc, TKind, TStmt, TStmtKind};
+use py_typed::{Checked, TExpr, TFunc, TKind, TStmt, TStmtKind, Var};
 use std::alloc::Global;
 use value_core::{Many, Memory};
 
@@ -32,8 +33,9 @@ pub fn uncompiled_line(
 {
     let mut definitions = definitions_in(alloc, parsed.body.as_slice())?;
     keep_functions(&mut definitions);
-    let found = in_suite(checked.top.as_slice(), None);
-    Ok(in_functions(&definitions, checked.funcs.as_slice(), found))
+    let globals = checked.globals.as_slice();
+    let found = in_suite(checked.top.as_slice(), globals, None);
+    Ok(in_functions(&definitions, checked.funcs.as_slice(), globals, found))
 }
 
 /// With a line on which something stands that is not compiled.
@@ -183,19 +185,19 @@ fn in_update(compiled: bool, e: &TExpr, line: usize, found: Option<usize>) -> Op
 }
 
 #[cycle(statement)]
-fn in_suite(body: &[TStmt], found: Option<usize>) -> Option<usize>
-    ensures { result ≡ find.suite_least found (typed_suite body.now) }
+fn in_suite(body: &[TStmt], globals: &[Var], found: Option<usize>) -> Option<usize>
+    ensures { result ≡ find.suite_least (map variable globals.now) found (typed_suite body.now) }
 {
     let mut found = found;
     for s in body {
-        found = in_statement(s, found);
+        found = in_statement(s, globals, found);
     }
     found
 }
 
 #[cycle(statement)]
-fn in_statement(s: &TStmt, found: Option<usize>) -> Option<usize>
-    ensures { result ≡ find.statement_least found (typed_stmt s.now) }
+fn in_statement(s: &TStmt, globals: &[Var], found: Option<usize>) -> Option<usize>
+    ensures { result ≡ find.statement_least (map variable globals.now) found (typed_stmt s.now) }
 {
     match &s.kind {
         TStmtKind::Expr(e) => in_alone(e, s.line, found),
@@ -205,9 +207,20 @@ fn in_statement(s: &TStmt, found: Option<usize>) -> Option<usize>
             s.line,
             found,
         ),
-        TStmtKind::Aug(target, op, e, t) => in_update(is_updated(target, *op, t), e, s.line, found),
-        TStmtKind::If(arms, other) => in_suite(other.as_slice(), in_arms(arms.as_slice(), found)),
-        TStmtKind::While(test, body) => in_suite(body.as_slice(), in_expression(test, found)),
+        TStmtKind::Aug(target, op, e, t) => in_update(
+            is_updated(globals, target, *op, t),
+            e,
+            s.line,
+            found,
+        ),
+        TStmtKind::If(arms, other) => in_suite(
+            other.as_slice(),
+            globals,
+            in_arms(arms.as_slice(), globals, found),
+        ),
+        TStmtKind::While(test, body) => {
+            in_suite(body.as_slice(), globals, in_expression(test, found))
+        }
         TStmtKind::Return(e) => in_returned(e, found),
         TStmtKind::Break => found,
         TStmtKind::Continue => found,
@@ -223,22 +236,22 @@ fn in_statement(s: &TStmt, found: Option<usize>) -> Option<usize>
 }
 
 #[cycle(statement)]
-fn in_arms(arms: &[(TExpr, Many<TStmt>)], found: Option<usize>) -> Option<usize>
-    ensures { result ≡ find.arms_least found (arms_of (map typed_arm arms.now)) }
+fn in_arms(arms: &[(TExpr, Many<TStmt>)], globals: &[Var], found: Option<usize>) -> Option<usize>
+    ensures { result ≡ find.arms_least (map variable globals.now) found (arms_of (map typed_arm arms.now)) }
 {
     let mut found = found;
     for (test, body) in arms {
-        found = in_suite(body.as_slice(), in_expression(test, found));
+        found = in_suite(body.as_slice(), globals, in_expression(test, found));
     }
     found
 }
 
 /// In the body of a function, where the function is compiled; else on the line of its definition.
-fn in_function(f: &TFunc, line: usize, found: Option<usize>) -> Option<usize>
-    ensures { result ≡ find.noted (is_function (typed_func f.now)) line found (find.suite_least found (typed_func f.now).body) }
+fn in_function(f: &TFunc, line: usize, globals: &[Var], found: Option<usize>) -> Option<usize>
+    ensures { result ≡ find.noted (is_function (typed_func f.now)) line found (find.suite_least (map variable globals.now) found (typed_func f.now).body) }
 {
     if is_function(f) {
-        in_suite(f.body.as_slice(), found)
+        in_suite(f.body.as_slice(), globals, found)
     } else {
         with(line, found)
     }
@@ -269,12 +282,17 @@ fn line_of(definitions: &[&Stmt], n: usize) -> usize
 }
 
 /// In functions, of which each stands among the functions' definitions at its number.
-fn in_functions(definitions: &[&Stmt], functions: &[TFunc], found: Option<usize>) -> Option<usize>
-    ensures { result ≡ find.functions_least (trees definitions.now) found 0 (map typed_func functions.now) }
+fn in_functions(
+    definitions: &[&Stmt],
+    functions: &[TFunc],
+    globals: &[Var],
+    found: Option<usize>,
+) -> Option<usize>
+    ensures { result ≡ find.functions_least (map variable globals.now) (trees definitions.now) found 0 (map typed_func functions.now) }
 {
     let mut found = found;
     for (n, f) in functions.iter().enumerate() {
-        found = in_function(f, line_of(definitions, n), found);
+        found = in_function(f, line_of(definitions, n), globals, found);
     }
     found
 }

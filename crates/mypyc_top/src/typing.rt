@@ -73,7 +73,7 @@ fn typed_of(alloc: Global, mode: Emit, parsed: &Module) -> Result<Checked, Modul
 }
 
 /// The typed module of a tree whose forms all have typing rules.
-#[tactic(auto, using(crate::proofs::FaultLemmas::types_tell, crate::proofs::FaultLemmas::all_compiled, crate::proofs::FaultLemmas::uncompiled_tells))]
+#[tactic(auto, using(crate::proofs::FaultLemmas::types_tell, crate::proofs::FaultLemmas::all_compiled))]
 fn compiled_of(alloc: Global, mode: Emit, parsed: &Module) -> Result<Checked, ModuleError>
     ensures typed { IfOk result (λ checked. typed_module checked ≡ typed_tree (module_tree parsed.now)) }
     ensures tells { Tells (of_typed mode (module_tree parsed.now)) result }
