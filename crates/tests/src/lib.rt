@@ -48,4 +48,6 @@ mod mypyc_top_tests;
 #[cfg(test)]
 mod mypyc_top_typing_tests;
 #[cfg(test)]
+mod mypyc_top_variables_tests;
+#[cfg(test)]
 mod mypyc_top_words_tests;

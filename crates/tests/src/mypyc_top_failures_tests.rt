@@ -9,13 +9,13 @@ use std::test::Fail;
 
 /// How a run ends: its line on errors, what the summary of its C text says, and the number of its status.
 #[derive(Clone, Copy)]
-struct End<'a> {
-    line: &'a str,
-    summary: &'a str,
-    number: u8,
+pub(crate) struct End<'a> {
+    pub line: &'a str,
+    pub summary: &'a str,
+    pub number: u8,
 }
 
-const ZERO: End<'static> = End {
+pub(crate) const ZERO: End<'static> = End {
     line: "ZeroDivisionError: integer division or modulo by zero\n",
     summary: "-- Raised ZeroDivisionError\n-- live 1\n-- ZeroDivisionError 1\n",
     number: 7,
@@ -39,14 +39,14 @@ const UNBOUND: End<'static> = End {
     number: 7,
 };
 
-const CUT: End<'static> = End {
+pub(crate) const CUT: End<'static> = End {
     line: "mypyc: out of turns, 0 live cells\n",
     summary: "-- Cut\n-- live 0\n",
     number: 8,
 };
 
 /// More turns than any module here spends.
-const ENOUGH: &str = "--turns=1000";
+pub(crate) const ENOUGH: &str = "--turns=1000";
 
 /// Operations that do not fail.
 const VALUES: &str = r#"-- Quotients are rounded down, and remainders have the divisor's sign.
@@ -1854,7 +1854,7 @@ fn check_ended(rt: &impl Abort, module: &str, given: &Given, out: &str, end: End
 }
 
 /// Checks that nothing is wrong with a module, that it prints this and then ends so, and that its C text does.
-fn check_failed(
+pub(crate) fn check_failed(
     rt: &impl Abort,
     alloc: Global,
     turns: &str,

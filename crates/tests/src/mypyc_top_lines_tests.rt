@@ -375,37 +375,67 @@ print(str(3))
 [1]
 => 1
 
--- Variables of the module.
+-- Variables of the module that are neither native integers nor bools.
 x = 1
 => 1
 
 print(1)
-x: bool = True
+x: int = 2
 => 2
 
-from mypy_extensions import i64
-x: i64
-print(2)
-print(x)
-=> 4
-
-from mypy_extensions import i64
-x: i64
-def f() -> i64:
-    return x
-=> 4
-
-x: bool
-def f() -> None:
-    global x
-    x = True
-=> 4
+b = True
+n = 2
+=> 2
 
 if True:
     pass
 else:
-    x = True
+    x = 1
 => 4
+
+x: str
+def f() -> None:
+    global x
+    x = 'a'
+=> 4
+
+from typing import Optional
+x: Optional[bool] = True
+=> 2
+
+from mypy_extensions import i64
+x: int
+print(i64(x))
+=> 3
+
+-- An `int` that is changed by a native integer.
+from mypy_extensions import i64
+x: int
+def f(n: i64) -> None:
+    global x
+    x += n
+=> 5
+
+-- Two variables at once, and a value that is not compiled.
+from mypy_extensions import i64
+x: i64
+y: i64
+x, y = 1, 2
+=> 4
+
+from mypy_extensions import i64
+x: i64 = len('ab')
+=> 2
+
+from mypy_extensions import i64
+x: i64 = 5
+x *= len('a')
+=> 3
+
+from mypy_extensions import i64
+x: i64 = 5
+print(x, x)
+=> 3
 
 -- The least of several lines.
 from mypy_extensions import i64
