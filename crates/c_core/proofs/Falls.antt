@@ -19,7 +19,7 @@ use Rattle.c_core.specs.Machine.{Word, BigInt, ObjectCell, Frame, MachineState}
 use Rattle.c_core.specs.Functions.{is_turn, label_places, function_named, entry_words}
 use Rattle.c_core.specs.Primitives.{row_of, primitive_named}
 use Rattle.c_core.specs.Arguments.{stolen}
-use Rattle.c_core.specs.Step.{Next, Goes, Ends, Faulted, Effect, Wrong, Says, Shares, Makes, Writes, Stores, Fails, Pends, Catches, effect, with_target, next_line, at_place, literal_word, equals_error, kind_of, function_of, label_at, applied, call_step, entered, jumped, turned, if_return, if_result, if_none_left, step_at, step}
+use Rattle.c_core.specs.Step.{Next, Goes, Ends, Faulted, Effect, Wrong, Says, Shares, Makes, Writes, Stores, Fails, Pends, Catches, MakesInt, Reads, Skips, Stops, effect, with_target, next_line, at_place, literal_word, equals_error, kind_of, function_of, label_at, applied, call_step, entered, jumped, turned, if_return, if_result, if_none_left, step_at, step}
 use Rattle.c_core.specs.Run.{most_lines}
 use Rattle.c_core.specs.WellFormed.{goes_on, goes_down, jump_fits, is_turn_at, function_fits}
 use Rattle.c_core.proofs.StepCases.{at_some, at_calm, at_word, at_there, at_called, at_function, at_jumped, at_chosen, at_incremented, at_decremented, at_decremented_if_set, at_order, at_ended, at_result}
@@ -226,6 +226,13 @@ module _ (code : Code) (all : list_all (function_fits code) code.funcs ≡ true)
   applied_falls x l gone (Pends c) on = on
   applied_falls None l gone (Catches c) on = on
   applied_falls (Some x) l gone (Catches c) on = on
+  applied_falls None l gone (MakesInt n) on = on
+  applied_falls (Some x) l gone (MakesInt n) on = on
+  applied_falls None l gone (Reads text next) on = on
+  applied_falls (Some x) l gone (Reads text next) on = on
+  applied_falls None l gone (Skips next w e) on = on
+  applied_falls (Some x) l gone (Skips next w e) on = on
+  applied_falls x l gone (Stops e) on = tt
 
   -- a function begins with a turn, and its caller waits at the next line
   entered_falls : (x : Option ℕ) (f : ℕ) (h : CFunc) (vars : List Word) → slice_get code.funcs f ≡ Some h → bytes_eq h.name [] ≡ false → To (Goes (next_line s)) → To (Goes (entered true s x f vars))

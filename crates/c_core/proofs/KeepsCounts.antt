@@ -1,12 +1,16 @@
 -- A step keeps every count equal to the number of places that hold the cell.
 use Rattle.std.proofs.Common.{◌≡◌, refl, sym, ap, subst, ℕ, zero, suc, ◌+◌, arith, Bool, true, false, cond, List, [], ◌∷◌, length, Option, Some, None}
-use Rattle.std.specs.Prelude.{map, not, int_lt, ◌==◌, ◌≤◌, ℤ, slice_get, slice_set, is_some, Result, Ok, Err}
+use Rattle.std.specs.Prelude.{map, not, int_lt, ◌==◌, ◌≤◌, ℤ, pos, ◌&&◌, slice_get, slice_set, is_some, Result, Ok, Err}
 use Rattle.std.specs.Ordering.{int_eq}
 use Rattle.std.specs.Option.{option_and_then}
+use Rattle.std.specs.Fmt.{signed_decimal}
+use Rattle.std.specs.Str.{bytes_eq}
+use Rattle.std.specs.Str.Parse.{signed_digits_value}
 use Rattle.value_core.specs.declared.arith.Arith.{Arith}
 use Rattle.value_core.specs.declared.exception.ExcClass.{ExcClass}
-use Rattle.value_core.specs.Arithmetic.{i64_floor_div, i64_modulo, i64_shl, i64_shr}
+use Rattle.value_core.specs.Arithmetic.{lies_within, is_short, int_add, int_sub, int_mul, int_neg, int_floor_div, int_modulo, int_shl, int_shr, int_to_i64, i64_floor_div, i64_modulo, i64_shl, i64_shr}
 use Rattle.value_core.specs.Exceptions.{Thrown, class_named, is_under}
+use Rattle.value_core.specs.Items as item
 use Rattle.value_core.specs.Items.{Items}
 use Rattle.c_core.specs.declared.code.CArg.{CArg}
 use Rattle.c_core.specs.declared.code.CArg.TheVariants as arg
@@ -20,21 +24,23 @@ use Rattle.c_core.specs.declared.fault.Fault.TheVariants as fault
 use Rattle.c_core.specs.declared.primitive.Primitive.{Primitive}
 use Rattle.c_core.specs.declared.primitive.Primitive.TheVariants as prim
 use Rattle.c_core.specs.declared.primitive.Int64Prim.TheVariants as int64
+use Rattle.c_core.specs.declared.primitive.TaggedPrim.TheVariants as tagged
 use Rattle.c_core.specs.declared.primitive.BoolPrim.TheVariants as bool
 use Rattle.c_core.specs.declared.primitive.StrPrim.TheVariants as str
 use Rattle.c_core.specs.declared.primitive.GlobalPrim.TheVariants as global
 use Rattle.c_core.specs.declared.primitive.ExcPrim.TheVariants as exc
 use Rattle.c_core.specs.declared.primitive.ErrPrim.TheVariants as err
 use Rattle.c_core.specs.declared.primitive.IoPrim.TheVariants as io
-use Rattle.c_core.specs.Cells.{same, times, count_at, content_at, take_one}
+use Rattle.c_core.specs.Cells.{same, times, count_at, content_at, make}
 use Rattle.c_core.specs.Ledgers.{Ledger}
 use Rattle.c_core.specs.Release.{uses, release}
-use Rattle.c_core.specs.Machine.{Word, BigInt, Native, CharWord, ObjectCell, Content, StrCell, ExcCell, refs_of, refs_in, set_refs, Frame, MachineState}
+use Rattle.c_core.specs.Machine.{Word, BigInt, Native, CharWord, ObjectCell, Content, IntCell, StrCell, ExcCell, refs_of, refs_in, set_refs, Frame, MachineState}
 use Rattle.c_core.specs.Holders.{pending_refs, owned_below}
 use Rattle.c_core.specs.Functions.{function_named}
 use Rattle.c_core.specs.Primitives.{OfGlobal, Anything, Steals, row_of, primitive_named}
-use Rattle.c_core.specs.Arguments.{Argument, Cell, Plain, Written, kind_of_global, number_of_global, word_in, stolen}
-use Rattle.c_core.specs.Step.{Next, Goes, Ends, Faulted, Effect, Wrong, Says, Shares, Makes, Writes, Stores, Fails, Pends, Catches, truth_word, native_or, global_at, got, stored, set_to, made_exception, pending_exception, matched, caught, took, shared, raise, effect, with_ledger, with_cells, with_target, next_line, own, literal_word, equals_error, kind_of, label_at, applied, given, made_cell, call_step, turned, if_return, if_result, if_none_left, step_at, line_at, step}
+use Rattle.c_core.specs.Arguments.{Argument, Cell, Plain, Written, int_in, kind_of_global, number_of_global, word_in, stolen}
+use Rattle.c_core.specs.Step.{Next, Goes, Ends, Faulted, Effect, Wrong, Says, Shares, Makes, Writes, Stores, Fails, Pends, Catches, MakesInt, Reads, Skips, Stops, truth_word, native_or, tagged_effect, tagged_or, fitted, written_int, of_int, of_ints, item_or, line_read, global_at, got, stored, set_to, made_exception, pending_exception, matched, caught, took, shared, raise, effect, with_ledger, with_cells, with_target, next_line, own, literal_word, equals_error, kind_of, label_at, applied, given, call_step, turned, if_return, if_result, if_none_left, step_at, line_at, step}
+use Rattle.c_core.specs.Strings.{text_less, text_length, text_item}
 use Rattle.c_core.specs.Run.{Stop, go_on, start, most_steps}
 use Rattle.c_core.specs.Laws.{IsCounted, IsCountedAfter, Reaches, Here, There, RunKeepsCounts}
 use Rattle.c_core.proofs.ReleaseLemmas.{times-append, release_keeps}
@@ -55,6 +61,10 @@ Fair s (Stores n old new) gone =
 Fair s (Fails w e) gone = s.pending ≡ None
 Fair s (Pends c) gone = (s.pending ≡ None) × ((d : ℕ) → times gone d ≡ same c d)
 Fair s (Catches c) gone = (s.pending ≡ Some c) × ((d : ℕ) → times gone d ≡ 0)
+Fair s (MakesInt n) gone = (c : ℕ) → times gone c ≡ 0
+Fair s (Reads text next) gone = (c : ℕ) → times gone c ≡ 0
+Fair s (Skips next w e) gone = s.pending ≡ None
+Fair s (Stops e) gone = Unit {0}
 
 truth_fair : (b : Bool) (c : ℕ) → times (refs_of (truth_word b)) c ≡ 0
 truth_fair true c = refl
@@ -111,6 +121,50 @@ native_fair : (s : MachineState) (r : Result ℤ Arith) → s.pending ≡ None �
 native_fair s (Ok n) calm = λ c. refl
 native_fair s (Err f) calm = calm
 
+choice_fair : (s : MachineState) (b : Bool) (e f : Effect) → Fair s e [] → Fair s f [] → Fair s (cond b e f) []
+choice_fair s true e f first second = first
+choice_fair s false e f first second = second
+
+tagged_fair : (s : MachineState) (n : ℤ) → Fair s (tagged_effect n) []
+tagged_fair s n = choice_fair s (is_short n) _ _ (λ c. refl) (λ c. refl)
+
+tagged_or_fair : (s : MachineState) (r : Result ℤ Arith) → s.pending ≡ None → Fair s (tagged_or r) []
+tagged_or_fair s (Ok n) calm = tagged_fair s n
+tagged_or_fair s (Err f) calm = calm
+
+written_fair : (s : MachineState) (text : List ℕ) (n : ℤ) → Fair s (written_int text n) []
+written_fair s text n =
+    choice_fair s (bytes_eq (signed_decimal n) text && (lies_within 127 n && not (is_short n))) (MakesInt n) Wrong (λ c. refl) tt
+
+fitted_fair : (s : MachineState) (r : Result ℤ Arith) → s.pending ≡ None → Fair s (fitted r) []
+fitted_fair s (Ok n) calm = λ c. refl
+fitted_fair s (Err f) calm = calm
+
+of_int_fair : (s : MachineState) (f : ℤ → Effect) (o : Option ℤ) → ((n : ℤ) → Fair s (f n) []) → Fair s (of_int f o) []
+of_int_fair s f None each = tt
+of_int_fair s f (Some n) each = each n
+
+of_ints_fair : (s : MachineState) (f : ℤ → ℤ → Effect) (o p : Option ℤ) → ((m n : ℤ) → Fair s (f m n) []) → Fair s (of_ints f o p) []
+of_ints_fair s f o p each = of_int_fair s _ o (λ m. of_int_fair s (f m) p (each m))
+
+-- arithmetic, and comparisons
+sum_fair : (s : MachineState) (f : ℤ → ℤ → Result ℤ Arith) (a b : Argument) → s.pending ≡ None → Fair s (of_ints (λ m n. tagged_or (f m n)) (int_in a) (int_in b)) []
+sum_fair s f a b calm = of_ints_fair s _ (int_in a) (int_in b) (λ m n. tagged_or_fair s (f m n) calm)
+
+test_fair : (s : MachineState) (f : ℤ → ℤ → Bool) (a b : Argument) → Fair s (of_ints (λ m n. Says (truth_word (f m n))) (int_in a) (int_in b)) []
+test_fair s f a b = of_ints_fair s _ (int_in a) (int_in b) (λ m n. truth_fair (f m n))
+
+item_fair : (s : MachineState) (o : Option (List ℕ)) → s.pending ≡ None → Fair s (item_or o) []
+item_fair s None calm = calm
+item_fair s (Some text) calm = λ c. refl
+
+line_fair : (s : MachineState) (items : Items) → s.pending ≡ None → Fair s (line_read items) []
+line_fair s item.Eof calm = calm
+line_fair s item.Broken calm = tt
+line_fair s item.Over calm = tt
+line_fair s (item.Line text next) calm = λ c. refl
+line_fair s (item.Bad next) calm = calm
+
 made_fair : (s : MachineState) (class : Option ExcClass) (text : List ℕ) → Fair s (made_exception class text) []
 made_fair s None text = tt
 made_fair s (Some c) text = λ d. refl
@@ -138,9 +192,32 @@ fair code s (prim.Int64 int64.Eq) (Plain (Native a) ∷ Plain (Native b) ∷ [])
 fair code s (prim.Int64 int64.Lt) (Plain (Native a) ∷ Plain (Native b) ∷ []) calm = truth_fair (int_lt a b)
 fair code s (prim.Int64 int64.Le) (Plain (Native a) ∷ Plain (Native b) ∷ []) calm = truth_fair (not (int_lt b a))
 fair code s (prim.Int64 int64.Str) (Plain (Native a) ∷ []) calm = λ c. refl
+fair code s (prim.Tagged tagged.Add) (a ∷ b ∷ []) calm = sum_fair s int_add a b (calm refl)
+fair code s (prim.Tagged tagged.Subtract) (a ∷ b ∷ []) calm = sum_fair s int_sub a b (calm refl)
+fair code s (prim.Tagged tagged.Multiply) (a ∷ b ∷ []) calm = sum_fair s int_mul a b (calm refl)
+fair code s (prim.Tagged tagged.Negate) (a ∷ []) calm = of_int_fair s _ (int_in a) (λ n. tagged_or_fair s (int_neg n) (calm refl))
+fair code s (prim.Tagged tagged.FloorDivide) (a ∷ b ∷ []) calm = sum_fair s int_floor_div a b (calm refl)
+fair code s (prim.Tagged tagged.Remainder) (a ∷ b ∷ []) calm = sum_fair s int_modulo a b (calm refl)
+fair code s (prim.Tagged tagged.Lshift) (a ∷ b ∷ []) calm = sum_fair s int_shl a b (calm refl)
+fair code s (prim.Tagged tagged.Rshift) (a ∷ b ∷ []) calm = sum_fair s int_shr a b (calm refl)
+fair code s (prim.Tagged tagged.FromText) (Written (arg.Text text) ∷ []) calm = written_fair s text (signed_digits_value 10 text)
+fair code s (prim.Tagged tagged.FromInt64) (Plain (Native n) ∷ []) calm = tagged_fair s n
+fair code s (prim.Tagged tagged.FromBool) (Plain (CharWord n) ∷ []) calm = tagged_fair s (pos n)
+fair code s (prim.Tagged tagged.AsInt64) (a ∷ []) calm = of_int_fair s _ (int_in a) (λ n. fitted_fair s (int_to_i64 n) (calm refl))
+fair code s (prim.Tagged tagged.Eq) (a ∷ b ∷ []) calm = test_fair s int_eq a b
+fair code s (prim.Tagged tagged.Lt) (a ∷ b ∷ []) calm = test_fair s int_lt a b
+fair code s (prim.Tagged tagged.Le) (a ∷ b ∷ []) calm = test_fair s (λ m n. not (int_lt n m)) a b
+fair code s (prim.Tagged tagged.Str) (a ∷ []) calm = of_int_fair s _ (int_in a) (λ n c. refl)
 fair code s (prim.Bool bool.Not) (Plain (CharWord n) ∷ []) calm = truth_fair (n == 0)
 fair code s (prim.Bool bool.Str) (Plain (CharWord n) ∷ []) calm = λ c. refl
 fair code s (prim.Str str.Literal) (Written (arg.Text text) ∷ []) calm = λ c. refl
+fair code s (prim.Str str.Concat) (Cell c (StrCell a) ∷ Cell d (StrCell b) ∷ []) calm = λ e. refl
+fair code s (prim.Str str.Eq) (Cell c (StrCell a) ∷ Cell d (StrCell b) ∷ []) calm = truth_fair (bytes_eq a b)
+fair code s (prim.Str str.Lt) (Cell c (StrCell a) ∷ Cell d (StrCell b) ∷ []) calm = truth_fair (text_less a b)
+fair code s (prim.Str str.Le) (Cell c (StrCell a) ∷ Cell d (StrCell b) ∷ []) calm = truth_fair (not (text_less b a))
+fair code s (prim.Str str.Len) (Cell c (StrCell text) ∷ []) calm = tagged_fair s (text_length text)
+fair code s (prim.Str str.GetItem) (Cell c (StrCell text) ∷ a ∷ []) calm =
+    of_int_fair s _ (int_in a) (λ i. item_fair s (text_item text i) (calm refl))
 fair code s (prim.Global global.Get) (Written (arg.Global name) ∷ []) calm =
     get_fair s name (kind_of_global code name) (number_of_global code name) (global_at code s name) refl (calm refl)
 fair code s (prim.Global global.Set) (Written (arg.Global name) ∷ a ∷ []) calm =
@@ -155,16 +232,16 @@ fair code s (prim.Err err.Occurred) [] calm = truth_fair (is_some s.pending)
 fair code s (prim.Err err.Matches) (Written (arg.Text name) ∷ []) calm = matched_fair s (class_named name) (pending_exception s)
 fair code s (prim.Err err.Catch) [] calm = caught_fair s s.pending refl
 fair code s (prim.Io io.Write) (Cell c (StrCell text) ∷ []) calm = tt
+fair code s (prim.Io io.Input) [] calm = line_fair s s.items (calm refl)
 fair code s _ _ calm = tt
 
 module _ (s : MachineState) (ok : IsCounted s) where
   bad : (f : Fault) → IsCountedAfter (Ends (Faulted f) s)
   bad f = ok
 
-  made_kept : (x : Option ℕ) (l : Ledger) (gone : List ℕ) (content : Content) → Leaves s.top.ledger gone l → ((c : ℕ) → times (refs_in content) c ≡ times gone c) → IsCounted (next_line (made_cell true s x content (with_ledger l s)))
-  made_kept None l gone content left fair c =
-      omega (arith, ok c, left c, fair c, more-times (length s.cells) l c, count-make s.cells c content, uses-make refs_in s.cells c content)
-  made_kept (Some x) l gone content left fair c =
+  -- a new cell is held by the frame, and holds what left the ledger
+  made_kept : (l : Ledger) (gone : List ℕ) (content : Content) → Leaves s.top.ledger gone l → ((c : ℕ) → times (refs_in content) c ≡ times gone c) → IsCounted (own (length s.cells) (with_cells (make content s.cells) (with_ledger l s)))
+  made_kept l gone content left fair c =
       omega (arith, ok c, left c, fair c, more-times (length s.cells) l c, count-make s.cells c content, uses-make refs_in s.cells c content)
 
   -- references that left the ledger are given up
@@ -209,7 +286,7 @@ module _ (s : MachineState) (ok : IsCounted s) where
   applied_kept x l gone Wrong left f = ok
   applied_kept x l gone (Says w) left f =
       target_kept x w _ (λ d. omega (arith, all_given l gone left d))
-  applied_kept x l gone (Makes content) left f = made_kept x l gone content left f
+  applied_kept x l gone (Makes content) left f = target_kept x (ObjectCell (length s.cells)) _ (made_kept l gone content left f)
   applied_kept x l gone (Writes text) left f = λ d. omega (arith, all_given l gone left d)
   applied_kept x l gone (Shares w) left f =
       target_kept x w _ (shared_kept w l (λ c. (f c).1) (λ d. omega (arith, left d, (f d).0)))
@@ -219,6 +296,10 @@ module _ (s : MachineState) (ok : IsCounted s) where
       λ d. omega (arith, ok d, left d, f.1 d, ap (λ o. times (pending_refs o) d) f.0)
   applied_kept x l gone (Catches c) left f =
       target_kept x (ObjectCell c) _ (λ d. omega (arith, ok d, left d, f.1 d, more-times c l d, ap (λ o. times (pending_refs o) d) f.0))
+  applied_kept x l gone (MakesInt n) left f = target_kept x (BigInt (length s.cells)) _ (made_kept l gone (IntCell n) left (λ c. sym (f c)))
+  applied_kept x l gone (Reads text next) left f = target_kept x (ObjectCell (length s.cells)) _ (made_kept l gone (StrCell text) left (λ c. sym (f c)))
+  applied_kept x l gone (Skips next w e) left f = target_kept x w _ (raised_kept e l gone left f)
+  applied_kept x l gone (Stops e) left f = ok
 
   given_kept : (c : ℕ) (l : Ledger) → ((d : ℕ) → times s.top.ledger d ≡ same c d + times l d) → IsCounted (next_line (given true s (c ∷ []) (with_ledger l s)))
   given_kept c l took d = omega (arith, all_given l (c ∷ []) (λ e. omega (arith, took e)) d)

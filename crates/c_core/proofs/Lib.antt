@@ -1,6 +1,8 @@
 pub mod CountLemmas
 pub mod LedgerLemmas
 pub mod Examples
+pub mod ValueExamples
+pub mod DecimalLemmas
 pub mod Order
 pub mod ReleaseLemmas
 pub mod StepCases

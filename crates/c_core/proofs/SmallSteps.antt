@@ -8,15 +8,14 @@ use Rattle.c_core.specs.declared.code.Code.{Code}
 use Rattle.c_core.specs.declared.primitive.Primitive.{Primitive}
 use Rattle.c_core.specs.declared.fault.Fault.{Fault}
 use Rattle.c_core.specs.declared.fault.Fault.TheVariants as fault
-use Rattle.value_core.specs.Exceptions.{Thrown}
 use Rattle.c_core.specs.Cells.{Cell, Cells, same, counted, count_at, content_at, one_less, change, lowered, raised, take_one, make}
 use Rattle.c_core.specs.Ledgers.{Ledger}
 use Rattle.c_core.specs.Release.{after, freed, weight, release_some, release}
-use Rattle.c_core.specs.Machine.{Word, BigInt, ObjectCell, Content, ExcCell, set_refs, refs_in, Frame, MachineState}
+use Rattle.c_core.specs.Machine.{Word, BigInt, ObjectCell, Content, IntCell, StrCell, ExcCell, set_refs, refs_in, Frame, MachineState}
 use Rattle.c_core.specs.Functions.{function_named}
 use Rattle.c_core.specs.Primitives.{row_of, primitive_named}
 use Rattle.c_core.specs.Arguments.{stolen}
-use Rattle.c_core.specs.Step.{Next, Ends, Faulted, Effect, Wrong, Says, Shares, Makes, Writes, Stores, Fails, Pends, Catches, effect, shared, raise, with_ledger, with_cells, with_target, next_line, own, given, literal_word, equals_error, kind_of, label_at, applied, made_cell, call_step, turned, if_return, if_result, if_none_left, step_at, line_at, step}
+use Rattle.c_core.specs.Step.{Next, Ends, Faulted, Effect, Wrong, Says, Shares, Makes, Writes, Stores, Fails, Pends, Catches, MakesInt, Reads, Skips, Stops, effect, shared, with_ledger, with_cells, with_target, next_line, own, given, literal_word, equals_error, kind_of, label_at, applied, call_step, turned, if_return, if_result, if_none_left, step_at, line_at, step}
 use Rattle.c_core.specs.Laws.{state_after, StepStaysSmall}
 use Rattle.c_core.proofs.CountLemmas.{count-make, count-take_one}
 use Rattle.c_core.proofs.StepCases.{at_some, at_calm, at_word, at_there, at_called, at_function, at_jumped, at_chosen, at_incremented, at_decremented, at_decremented_if_set, at_order, at_ended, at_result}
@@ -83,14 +82,11 @@ module _ (s : MachineState) where
   bad : (f : Fault) → To (Ends (Faulted f) s)
   bad f = same_cells s refl
 
-  made_small : (x : Option ℕ) (l : Ledger) (content : Content) → IsSmallStep s (next_line (made_cell true s x content (with_ledger l s)))
-  made_small None l content = record {
-    few_cells = omega (arith, length-append s.cells (Some (record { count = 1; content = content }) ∷ []));
-    small_counts = λ c. omega (arith, count-make s.cells c content, same_most (length s.cells) c);
-  }
-  made_small (Some x) l content = record {
-    few_cells = omega (arith, length-append s.cells (Some (record { count = 1; content = content }) ∷ []));
-    small_counts = λ c. omega (arith, count-make s.cells c content, same_most (length s.cells) c);
+  -- one cell more
+  made_small : (t : MachineState) (content : Content) → t.cells ≡ make content s.cells → IsSmallStep s t
+  made_small t content e = record {
+    few_cells = omega (arith, ap length e, length-append s.cells (Some (record { count = 1; content = content }) ∷ []));
+    small_counts = λ c. omega (arith, ap (λ h. count_at h c) e, count-make s.cells c content, same_most (length s.cells) c);
   }
 
   released_small : (t : MachineState) (gone : List ℕ) → t.cells ≡ release refs_in s.cells gone → IsSmallStep s t
@@ -123,22 +119,27 @@ module _ (s : MachineState) where
         small_counts = λ d. omega (arith, ap (λ h. count_at h d) e, count-make (release refs_in s.cells gone) d x, same_most (length (release refs_in s.cells gone)) d, release_most refs_in n s.cells gone d);
       }
 
-  raised_small : (x : Option ℕ) (w : Word) (gone : List ℕ) (e : Thrown) (l : Ledger) → IsSmallStep s (next_line (with_target x w (raise e (given true s gone (with_ledger l s)))))
-  raised_small None w gone e l = added_small _ gone (ExcCell e) refl
-  raised_small (Some x) w gone e l = added_small _ gone (ExcCell e) refl
-
   applied_small : (x : Option ℕ) (l : Ledger) (gone : List ℕ) (e : Effect) → To (applied true s x l gone e)
   applied_small x l gone Wrong = bad fault.Kind
   applied_small None l gone (Says w) = released_small _ gone refl
   applied_small (Some x) l gone (Says w) = released_small _ gone refl
-  applied_small x l gone (Makes content) = made_small x l content
+  applied_small None l gone (Makes content) = made_small _ content refl
+  applied_small (Some x) l gone (Makes content) = made_small _ content refl
   applied_small x l gone (Writes text) = released_small _ gone refl
   applied_small x l gone (Shares w) = shared_small x w l
   applied_small x l gone (Stores n old new) = released_small _ (set_refs (old ∷ [])) refl
-  applied_small x l gone (Fails w e) = raised_small x w gone e l
+  applied_small None l gone (Fails w e) = added_small _ gone (ExcCell e) refl
+  applied_small (Some x) l gone (Fails w e) = added_small _ gone (ExcCell e) refl
   applied_small x l gone (Pends c) = same_cells _ refl
   applied_small None l gone (Catches c) = same_cells _ refl
   applied_small (Some x) l gone (Catches c) = same_cells _ refl
+  applied_small None l gone (MakesInt n) = made_small _ (IntCell n) refl
+  applied_small (Some x) l gone (MakesInt n) = made_small _ (IntCell n) refl
+  applied_small None l gone (Reads text next) = made_small _ (StrCell text) refl
+  applied_small (Some x) l gone (Reads text next) = made_small _ (StrCell text) refl
+  applied_small None l gone (Skips next w e) = added_small _ gone (ExcCell e) refl
+  applied_small (Some x) l gone (Skips next w e) = added_small _ gone (ExcCell e) refl
+  applied_small x l gone (Stops e) = same_cells s refl
 
   given_small : (c : ℕ) (l : Ledger) → IsSmallStep s (next_line (given true s (c ∷ []) (with_ledger l s)))
   given_small c l = released_small _ (c ∷ []) refl

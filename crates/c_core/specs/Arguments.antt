@@ -8,8 +8,8 @@ use Rattle.c_core.specs.declared.code.Kind.TheVariants.{Tagged, Int64, Char, Obj
 use Rattle.c_core.specs.declared.code.CArg.{CArg}
 use Rattle.c_core.specs.declared.code.CArg.TheVariants as arg
 use Rattle.c_core.specs.declared.code.Code.{Code}
-use Rattle.c_core.specs.Machine.{Word, ShortInt, BigInt, Native, CharWord, ObjectCell, NoneObject, TrueObject, FalseObject, Content, StrCell, InstCell, ExcCell}
-use Rattle.c_core.specs.Primitives.{KindAt, Is, OfGlobal, OfSlot, Holding, Anything, AText, AnException, Parameter, Steals}
+use Rattle.c_core.specs.Machine.{Word, ShortInt, BigInt, Native, CharWord, ObjectCell, NoneObject, TrueObject, FalseObject, Content, IntCell, StrCell, InstCell, ExcCell}
+use Rattle.c_core.specs.Primitives.{KindAt, Is, OfGlobal, OfSlot, Holding, Anything, ANumber, AText, AnException, Parameter, Steals}
 
 -- an argument that passed its tests: a cell that is there with its content, a word without a cell, or what is written
 pub data Argument : Type 0 where
@@ -32,10 +32,19 @@ is_value_of _ _ = false
 -- whether an argument holds what is asked for
 abbrev pub is_holding : Holding → Argument → Bool
 is_holding Anything a = true
+is_holding ANumber (Plain (ShortInt n)) = true
+is_holding ANumber (Cell c (IntCell n)) = true
+is_holding ANumber _ = false
 is_holding AText (Cell c (StrCell text)) = true
 is_holding AText _ = false
 is_holding AnException (Cell c (ExcCell e)) = true
 is_holding AnException _ = false
+
+-- the number that an argument is, where it is an `int`
+abbrev pub int_in : Argument → Option ℤ
+int_in (Plain (ShortInt n)) = Some n
+int_in (Cell c (IntCell n)) = Some n
+int_in _ = None
 
 -- the kind of a global by its name, and of a slot by the number of its class and its own
 abbrev pub kind_of_global : Code → List ℕ → Option Kind

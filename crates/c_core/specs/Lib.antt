@@ -6,6 +6,7 @@ pub mod Functions
 pub mod Holders
 pub mod Primitives
 pub mod Arguments
+pub mod Strings
 pub mod Step
 pub mod Run
 pub mod Stands

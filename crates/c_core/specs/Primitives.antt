@@ -3,10 +3,11 @@
 use Rattle.std.specs.Prelude.{ℕ, Bool, true, false, List, [], ◌∷◌, Option, codes, find, map}
 use Rattle.std.specs.Str.{bytes_eq}
 use Rattle.c_core.specs.declared.code.Kind.{Kind}
-use Rattle.c_core.specs.declared.code.Kind.TheVariants.{Int64, Char, Object}
+use Rattle.c_core.specs.declared.code.Kind.TheVariants.{Tagged, Int64, Char, Object}
 use Rattle.c_core.specs.declared.primitive.Primitive.{Primitive}
 use Rattle.c_core.specs.declared.primitive.Primitive.TheVariants as prim
 use Rattle.c_core.specs.declared.primitive.Int64Prim.TheVariants as int64
+use Rattle.c_core.specs.declared.primitive.TaggedPrim.TheVariants as tagged
 use Rattle.c_core.specs.declared.primitive.BoolPrim.TheVariants as bool
 use Rattle.c_core.specs.declared.primitive.StrPrim.TheVariants as str
 use Rattle.c_core.specs.declared.primitive.GlobalPrim.TheVariants as global
@@ -21,9 +22,11 @@ pub data KindAt : Type 0 where
   OfGlobal : KindAt
   OfSlot : KindAt
 
--- what a variable is to hold: any word of its kind that is no error value, a cell with a text, or one with an exception
+-- what a variable is to hold: any word of its kind that is no error value, a number that is short or stands in a cell, a cell with a
+-- text, or one with an exception
 pub data Holding : Type 0 where
   Anything : Holding
+  ANumber : Holding
   AText : Holding
   AnException : Holding
 
@@ -57,6 +60,14 @@ simple_row name kinds k = record { name = name; parameters = map (λ k. Borrows 
 abbrev pub one_row : List ℕ → Kind → Holding → Kind → Row
 one_row name k h answer = record { name = name; parameters = Borrows (Is k) h ∷ []; outcome = Owned (Is answer); while_pending = false }
 
+-- the same of two variables of a kind
+abbrev pub two_row : List ℕ → Kind → Holding → Kind → Row
+two_row name k h answer = record { name = name; parameters = Borrows (Is k) h ∷ Borrows (Is k) h ∷ []; outcome = Owned (Is answer); while_pending = false }
+
+-- a row that answers a word of a kind
+abbrev pub answering_row : List ℕ → List Parameter → Kind → Row
+answering_row name parameters k = record { name = name; parameters = parameters; outcome = Owned (Is k); while_pending = false }
+
 -- a row without variables that may stand while an exception is pending
 abbrev pub pending_row : List ℕ → List Parameter → Kind → Row
 pending_row name parameters k = record { name = name; parameters = parameters; outcome = Owned (Is k); while_pending = true }
@@ -79,13 +90,35 @@ row_of (prim.Int64 int64.Eq) = simple_row (codes "CPyInt64_Eq") (Int64 ∷ Int64
 row_of (prim.Int64 int64.Lt) = simple_row (codes "CPyInt64_Lt") (Int64 ∷ Int64 ∷ []) Char
 row_of (prim.Int64 int64.Le) = simple_row (codes "CPyInt64_Le") (Int64 ∷ Int64 ∷ []) Char
 row_of (prim.Int64 int64.Str) = simple_row (codes "CPyInt64_Str") (Int64 ∷ []) Object
+row_of (prim.Tagged tagged.Add) = two_row (codes "CPyTagged_Add") Tagged ANumber Tagged
+row_of (prim.Tagged tagged.Subtract) = two_row (codes "CPyTagged_Subtract") Tagged ANumber Tagged
+row_of (prim.Tagged tagged.Multiply) = two_row (codes "CPyTagged_Multiply") Tagged ANumber Tagged
+row_of (prim.Tagged tagged.Negate) = one_row (codes "CPyTagged_Negate") Tagged ANumber Tagged
+row_of (prim.Tagged tagged.FloorDivide) = two_row (codes "CPyTagged_FloorDivide") Tagged ANumber Tagged
+row_of (prim.Tagged tagged.Remainder) = two_row (codes "CPyTagged_Remainder") Tagged ANumber Tagged
+row_of (prim.Tagged tagged.Lshift) = two_row (codes "CPyTagged_Lshift") Tagged ANumber Tagged
+row_of (prim.Tagged tagged.Rshift) = two_row (codes "CPyTagged_Rshift") Tagged ANumber Tagged
+row_of (prim.Tagged tagged.FromText) = answering_row (codes "CPyTagged_FromText") (TakesText ∷ []) Tagged
+row_of (prim.Tagged tagged.FromInt64) = simple_row (codes "CPyTagged_FromInt64") (Int64 ∷ []) Tagged
+row_of (prim.Tagged tagged.FromBool) = simple_row (codes "CPyTagged_FromBool") (Char ∷ []) Tagged
+row_of (prim.Tagged tagged.AsInt64) = one_row (codes "CPyTagged_AsInt64") Tagged ANumber Int64
+row_of (prim.Tagged tagged.Eq) = two_row (codes "CPyTagged_Eq") Tagged ANumber Char
+row_of (prim.Tagged tagged.Lt) = two_row (codes "CPyTagged_Lt") Tagged ANumber Char
+row_of (prim.Tagged tagged.Le) = two_row (codes "CPyTagged_Le") Tagged ANumber Char
+row_of (prim.Tagged tagged.Str) = one_row (codes "CPyTagged_Str") Tagged ANumber Object
 row_of (prim.Bool bool.Not) = simple_row (codes "CPyBool_Not") (Char ∷ []) Char
 row_of (prim.Bool bool.Str) = simple_row (codes "CPyBool_Str") (Char ∷ []) Object
-row_of (prim.Str str.Literal) = record { name = codes "CPyStr_Literal"; parameters = TakesText ∷ []; outcome = Owned (Is Object); while_pending = false }
+row_of (prim.Str str.Literal) = answering_row (codes "CPyStr_Literal") (TakesText ∷ []) Object
+row_of (prim.Str str.Concat) = two_row (codes "CPyStr_Concat") Object AText Object
+row_of (prim.Str str.Eq) = two_row (codes "CPyStr_Eq") Object AText Char
+row_of (prim.Str str.Lt) = two_row (codes "CPyStr_Lt") Object AText Char
+row_of (prim.Str str.Le) = two_row (codes "CPyStr_Le") Object AText Char
+row_of (prim.Str str.Len) = one_row (codes "CPyStr_Len") Object AText Tagged
+row_of (prim.Str str.GetItem) = answering_row (codes "CPyStr_GetItem") (Borrows (Is Object) AText ∷ Borrows (Is Tagged) ANumber ∷ []) Object
 row_of (prim.Global global.Get) = record { name = codes "CPyGlobal_Get"; parameters = TakesGlobal ∷ []; outcome = Owned OfGlobal; while_pending = false }
 row_of (prim.Global global.Set) = acting_row (codes "CPyGlobal_Set") (TakesGlobal ∷ Steals OfGlobal Anything ∷ [])
 row_of (prim.Global global.Clear) = acting_row (codes "CPyGlobal_Clear") (TakesGlobal ∷ [])
-row_of (prim.Exc exc.New) = record { name = codes "CPyExc_New"; parameters = TakesException ∷ Borrows (Is Object) AText ∷ []; outcome = Owned (Is Object); while_pending = false }
+row_of (prim.Exc exc.New) = answering_row (codes "CPyExc_New") (TakesException ∷ Borrows (Is Object) AText ∷ []) Object
 row_of (prim.Exc exc.Str) = one_row (codes "CPyExc_Str") Object AnException Object
 row_of (prim.Err err.SetObject) = acting_row (codes "CPyErr_SetObject") (Steals (Is Object) AnException ∷ [])
 row_of (prim.Err err.Unbound) = acting_row (codes "CPyErr_Unbound") (TakesText ∷ [])
@@ -93,16 +126,22 @@ row_of (prim.Err err.Occurred) = pending_row (codes "CPyErr_Occurred") [] Char
 row_of (prim.Err err.Matches) = pending_row (codes "CPyErr_Matches") (TakesException ∷ []) Char
 row_of (prim.Err err.Catch) = pending_row (codes "CPyErr_Catch") [] Object
 row_of (prim.Io io.Write) = acting_row (codes "CPy_Write") (Borrows (Is Object) AText ∷ [])
+row_of (prim.Io io.Input) = answering_row (codes "CPy_Input") [] Object
 
 abbrev pub all_primitives : List Primitive
 all_primitives =
     prim.Int64 int64.Add ∷ prim.Int64 int64.Subtract ∷ prim.Int64 int64.Multiply ∷ prim.Int64 int64.Negate
     ∷ prim.Int64 int64.FloorDivide ∷ prim.Int64 int64.Remainder ∷ prim.Int64 int64.Lshift ∷ prim.Int64 int64.Rshift
     ∷ prim.Int64 int64.FromBool ∷ prim.Int64 int64.Eq ∷ prim.Int64 int64.Lt ∷ prim.Int64 int64.Le ∷ prim.Int64 int64.Str
-    ∷ prim.Bool bool.Not ∷ prim.Bool bool.Str ∷ prim.Str str.Literal
+    ∷ prim.Tagged tagged.Add ∷ prim.Tagged tagged.Subtract ∷ prim.Tagged tagged.Multiply ∷ prim.Tagged tagged.Negate
+    ∷ prim.Tagged tagged.FloorDivide ∷ prim.Tagged tagged.Remainder ∷ prim.Tagged tagged.Lshift ∷ prim.Tagged tagged.Rshift
+    ∷ prim.Tagged tagged.FromText ∷ prim.Tagged tagged.FromInt64 ∷ prim.Tagged tagged.FromBool ∷ prim.Tagged tagged.AsInt64
+    ∷ prim.Tagged tagged.Eq ∷ prim.Tagged tagged.Lt ∷ prim.Tagged tagged.Le ∷ prim.Tagged tagged.Str
+    ∷ prim.Bool bool.Not ∷ prim.Bool bool.Str ∷ prim.Str str.Literal ∷ prim.Str str.Concat ∷ prim.Str str.Eq ∷ prim.Str str.Lt
+    ∷ prim.Str str.Le ∷ prim.Str str.Len ∷ prim.Str str.GetItem
     ∷ prim.Global global.Get ∷ prim.Global global.Set ∷ prim.Global global.Clear ∷ prim.Exc exc.New ∷ prim.Exc exc.Str
     ∷ prim.Err err.SetObject ∷ prim.Err err.Unbound ∷ prim.Err err.Occurred ∷ prim.Err err.Matches ∷ prim.Err err.Catch
-    ∷ prim.Io io.Write ∷ []
+    ∷ prim.Io io.Write ∷ prim.Io io.Input ∷ []
 
 abbrev pub is_named : List ℕ → Primitive → Bool
 is_named name p = bytes_eq (row_of p).name name

@@ -1,16 +1,20 @@
 -- One step of the machine: what a line of the C text does to a state. Its tests go from left to right, each on the
 -- ledger that those before it left, and a fault leaves the state as it was before the line.
-use Rattle.std.specs.Prelude.{ℕ, zero, suc, ◌+◌, ◌/◌, ◌%◌, ◌==◌, Bool, true, false, not, ◌||◌, cond, ℤ, pos, negsuc, int_lt, List, [], ◌∷◌, ◌++◌, length, Option, Some, None, codes, slice_get, slice_set, Result, Ok, Err, is_some}
+use Rattle.std.specs.Prelude.{ℕ, zero, suc, ◌+◌, ◌/◌, ◌%◌, ◌==◌, Bool, true, false, not, ◌&&◌, ◌||◌, cond, ℤ, pos, negsuc, int_lt, List, [], ◌∷◌, ◌++◌, length, Option, Some, None, codes, slice_get, slice_set, Result, Ok, Err, is_some}
 use Rattle.std.specs.Fmt.{signed_decimal}
 use Rattle.std.specs.Option.{option_and_then, option_map}
+use Rattle.std.specs.Str.{bytes_eq}
+use Rattle.std.specs.Str.Parse.{signed_digits_value}
 use Rattle.std.specs.Ordering.{int_eq}
 use Rattle.value_core.specs.declared.arith.Arith.{Arith}
 use Rattle.value_core.specs.declared.arith.Arith.TheVariants.{Overflow, ZeroDivisor, NegativeShift, OutOfRange}
 use Rattle.value_core.specs.declared.exception.ExcClass.{ExcClass}
-use Rattle.value_core.specs.declared.exception.ExcClass.TheVariants.{ZeroDivisionError, OverflowError, NameError, UnboundLocalError, ValueError}
-use Rattle.value_core.specs.Arithmetic.{i64_add, i64_sub, i64_mul, i64_neg, i64_floor_div, i64_modulo, i64_shl, i64_shr}
+use Rattle.value_core.specs.declared.exception.ExcClass.TheVariants.{ZeroDivisionError, OverflowError, IndexError, NameError, UnboundLocalError, ValueError, EOFError}
+use Rattle.value_core.specs.Arithmetic.{lies_within, is_short, int_add, int_sub, int_mul, int_neg, int_floor_div, int_modulo, int_shl, int_shr, int_to_i64, i64_add, i64_sub, i64_mul, i64_neg, i64_floor_div, i64_modulo, i64_shl, i64_shr}
 use Rattle.value_core.specs.Exceptions.{Thrown, thrown, class_named, is_under}
-use Rattle.value_core.specs.Ending.{Ending, Done, Raised, Cut}
+use Rattle.value_core.specs.Ending.{Ending, Done, Raised, Cut, Over, Broken}
+use Rattle.value_core.specs.Items as item
+use Rattle.value_core.specs.Items.{Items}
 use Rattle.c_core.specs.declared.code.Kind.{Kind}
 use Rattle.c_core.specs.declared.code.Kind.TheVariants.{Tagged, Int64, Char, Object}
 use Rattle.c_core.specs.declared.code.CLit.{CLit}
@@ -26,6 +30,7 @@ use Rattle.c_core.specs.declared.fault.Fault.TheVariants as fault
 use Rattle.c_core.specs.declared.primitive.Primitive.{Primitive}
 use Rattle.c_core.specs.declared.primitive.Primitive.TheVariants as prim
 use Rattle.c_core.specs.declared.primitive.Int64Prim.TheVariants as int64
+use Rattle.c_core.specs.declared.primitive.TaggedPrim.TheVariants as tagged
 use Rattle.c_core.specs.declared.primitive.BoolPrim.TheVariants as bool
 use Rattle.c_core.specs.declared.primitive.StrPrim.TheVariants as str
 use Rattle.c_core.specs.declared.primitive.GlobalPrim.TheVariants as global
@@ -35,10 +40,11 @@ use Rattle.c_core.specs.declared.primitive.IoPrim.TheVariants as io
 use Rattle.c_core.specs.Cells.{Cells, times, content_at, take_one, make}
 use Rattle.c_core.specs.Ledgers.{Ledger, more, more_of, without}
 use Rattle.c_core.specs.Release.{release}
-use Rattle.c_core.specs.Machine.{Word, ShortInt, BigInt, TaggedError, Native, CharWord, ObjectCell, NoneObject, TrueObject, FalseObject, NoObject, Content, StrCell, ExcCell, refs_of, set_refs, refs_in, Frame, MachineState}
+use Rattle.c_core.specs.Machine.{Word, ShortInt, BigInt, TaggedError, Native, CharWord, ObjectCell, NoneObject, TrueObject, FalseObject, NoObject, Content, IntCell, StrCell, ExcCell, refs_of, set_refs, refs_in, Frame, MachineState}
 use Rattle.c_core.specs.Functions.{label_places, function_named, parameter_kinds, error_word, entry_words}
 use Rattle.c_core.specs.Primitives.{Holding, Parameter, Borrows, Steals, TakesNumber, TakesText, TakesException, TakesGlobal, TakesClass, row_of, primitive_named}
-use Rattle.c_core.specs.Arguments.{Argument, Cell, Plain, Written, is_value_of, is_holding, kind_of_global, number_of_global, kind_found, word_in, stolen}
+use Rattle.c_core.specs.Arguments.{Argument, Cell, Plain, Written, is_value_of, is_holding, int_in, kind_of_global, number_of_global, kind_found, word_in, stolen}
+use Rattle.c_core.specs.Strings.{text_less, text_length, text_item}
 
 -- how a run of the machine ends: as a program of the source does, or by a fault
 pub data MachineEnding : Type 0 where
@@ -69,6 +75,9 @@ at_place p s = record s { top = record s.top { place = p } }
 
 abbrev pub next_line : MachineState → MachineState
 next_line s = at_place (s.top.place + 1) s
+
+abbrev pub with_items : Items → MachineState → MachineState
+with_items items s = record s { items = items }
 
 -- the frame owns one reference to c more
 abbrev pub own : ℕ → MachineState → MachineState
@@ -131,6 +140,8 @@ equals_error w = is_error w || is_both w
 -- hold. It makes a cell, whose content takes over what was stolen. It writes to the output. A global that held one thing gets
 -- another, which is what was stolen, or nothing, and the thing that it held is given up. It fails: a new exception is pending, and the
 -- answer is an error value. The exception that was stolen is pending. The exception that was pending is answered, and none is pending.
+-- It makes a cell of a number, which an `int` is to refer to. It reads a line of input, and makes a cell of its text. It passes over a
+-- line of input, and fails. The run ends.
 pub data Effect : Type 0 where
   Wrong : Effect
   Says : (w : Word) → Effect
@@ -141,6 +152,10 @@ pub data Effect : Type 0 where
   Fails : (w : Word) (e : Thrown) → Effect
   Pends : (c : ℕ) → Effect
   Catches : (c : ℕ) → Effect
+  MakesInt : (n : ℤ) → Effect
+  Reads : (text : List ℕ) (next : Items) → Effect
+  Skips : (next : Items) (w : Word) (e : Thrown) → Effect
+  Stops : (e : Ending) → Effect
 
 -- a truth as a `char`, and as a text
 abbrev pub truth_word : Bool → Word
@@ -151,16 +166,62 @@ abbrev pub truth_text : ℕ → List ℕ
 truth_text zero = codes "False"
 truth_text (suc n) = codes "True"
 
--- why an operation on native integers has no result (Python Library Reference, "Concrete exceptions")
-abbrev pub exception_of : Arith → Thrown
-exception_of Overflow = thrown OverflowError (codes "integer does not fit in i64")
-exception_of ZeroDivisor = thrown ZeroDivisionError (codes "integer division or modulo by zero")
-exception_of NegativeShift = thrown ValueError (codes "negative shift count")
-exception_of OutOfRange = thrown ValueError (codes "shift count out of range")
+-- why an operation has no result (Python Library Reference, "Concrete exceptions"): of an overflow it is said past which range the result
+-- lies
+abbrev pub exception_past : List ℕ → Arith → Thrown
+exception_past past Overflow = thrown OverflowError past
+exception_past past ZeroDivisor = thrown ZeroDivisionError (codes "integer division or modulo by zero")
+exception_past past NegativeShift = thrown ValueError (codes "negative shift count")
+exception_past past OutOfRange = thrown ValueError (codes "shift count out of range")
+
+abbrev pub int64_exception : Arith → Thrown
+int64_exception f = exception_past (codes "integer does not fit in i64") f
+
+abbrev pub int_exception : Arith → Thrown
+int_exception f = exception_past (codes "integer is past 128 bits") f
 
 abbrev pub native_or : Result ℤ Arith → Effect
 native_or (Ok n) = Says (Native n)
-native_or (Err f) = Fails (error_word Int64) (exception_of f)
+native_or (Err f) = Fails (error_word Int64) (int64_exception f)
+
+-- a number as an `int`: a short word where it is short, and else a new cell
+abbrev pub tagged_effect : ℤ → Effect
+tagged_effect n = cond (is_short n) (Says (ShortInt n)) (MakesInt n)
+
+abbrev pub tagged_or : Result ℤ Arith → Effect
+tagged_or (Ok n) = tagged_effect n
+tagged_or (Err f) = Fails (error_word Tagged) (int_exception f)
+
+-- an `int` as a native integer, where it fits
+abbrev pub fitted : Result ℤ Arith → Effect
+fitted (Ok n) = Says (Native n)
+fitted (Err f) = Fails (error_word Int64) (int64_exception Overflow)
+
+-- a text that writes this number as it is printed, which is no short one and has a cell
+abbrev pub written_int : List ℕ → ℤ → Effect
+written_int text n =
+    cond (bytes_eq (signed_decimal n) text && (lies_within 127 n && not (is_short n))) (MakesInt n) Wrong
+
+-- what is done with one `int`, and with two
+abbrev pub of_int : (ℤ → Effect) → Option ℤ → Effect
+of_int f None = Wrong
+of_int f (Some n) = f n
+
+abbrev pub of_ints : (ℤ → ℤ → Effect) → Option ℤ → Option ℤ → Effect
+of_ints f a b = of_int (λ m. of_int (f m) b) a
+
+-- the item of a text
+abbrev pub item_or : Option (List ℕ) → Effect
+item_or None = Fails (error_word Object) (thrown IndexError (codes "string index out of range"))
+item_or (Some text) = Makes (StrCell text)
+
+-- the next line of input; at its end there is none, and the end stays
+abbrev pub line_read : Items → Effect
+line_read item.Eof = Fails (error_word Object) (thrown EOFError (codes "EOF when reading a line"))
+line_read item.Broken = Stops Broken
+line_read item.Over = Stops Over
+line_read (item.Line text next) = Reads text next
+line_read (item.Bad next) = Skips next (error_word Object) (thrown ValueError (codes "input is not UTF-8"))
 
 -- what a global holds: nothing where there is none of the name, and nothing inside where it is unset
 abbrev pub global_at : Code → MachineState → List ℕ → Option (Option Word)
@@ -221,9 +282,31 @@ effect code s (prim.Int64 int64.Eq) (Plain (Native a) ∷ Plain (Native b) ∷ [
 effect code s (prim.Int64 int64.Lt) (Plain (Native a) ∷ Plain (Native b) ∷ []) = Says (truth_word (int_lt a b))
 effect code s (prim.Int64 int64.Le) (Plain (Native a) ∷ Plain (Native b) ∷ []) = Says (truth_word (not (int_lt b a)))
 effect code s (prim.Int64 int64.Str) (Plain (Native a) ∷ []) = Makes (StrCell (signed_decimal a))
+effect code s (prim.Tagged tagged.Add) (a ∷ b ∷ []) = of_ints (λ m n. tagged_or (int_add m n)) (int_in a) (int_in b)
+effect code s (prim.Tagged tagged.Subtract) (a ∷ b ∷ []) = of_ints (λ m n. tagged_or (int_sub m n)) (int_in a) (int_in b)
+effect code s (prim.Tagged tagged.Multiply) (a ∷ b ∷ []) = of_ints (λ m n. tagged_or (int_mul m n)) (int_in a) (int_in b)
+effect code s (prim.Tagged tagged.Negate) (a ∷ []) = of_int (λ n. tagged_or (int_neg n)) (int_in a)
+effect code s (prim.Tagged tagged.FloorDivide) (a ∷ b ∷ []) = of_ints (λ m n. tagged_or (int_floor_div m n)) (int_in a) (int_in b)
+effect code s (prim.Tagged tagged.Remainder) (a ∷ b ∷ []) = of_ints (λ m n. tagged_or (int_modulo m n)) (int_in a) (int_in b)
+effect code s (prim.Tagged tagged.Lshift) (a ∷ b ∷ []) = of_ints (λ m n. tagged_or (int_shl m n)) (int_in a) (int_in b)
+effect code s (prim.Tagged tagged.Rshift) (a ∷ b ∷ []) = of_ints (λ m n. tagged_or (int_shr m n)) (int_in a) (int_in b)
+effect code s (prim.Tagged tagged.FromText) (Written (arg.Text text) ∷ []) = written_int text (signed_digits_value 10 text)
+effect code s (prim.Tagged tagged.FromInt64) (Plain (Native n) ∷ []) = tagged_effect n
+effect code s (prim.Tagged tagged.FromBool) (Plain (CharWord n) ∷ []) = tagged_effect (pos n)
+effect code s (prim.Tagged tagged.AsInt64) (a ∷ []) = of_int (λ n. fitted (int_to_i64 n)) (int_in a)
+effect code s (prim.Tagged tagged.Eq) (a ∷ b ∷ []) = of_ints (λ m n. Says (truth_word (int_eq m n))) (int_in a) (int_in b)
+effect code s (prim.Tagged tagged.Lt) (a ∷ b ∷ []) = of_ints (λ m n. Says (truth_word (int_lt m n))) (int_in a) (int_in b)
+effect code s (prim.Tagged tagged.Le) (a ∷ b ∷ []) = of_ints (λ m n. Says (truth_word (not (int_lt n m)))) (int_in a) (int_in b)
+effect code s (prim.Tagged tagged.Str) (a ∷ []) = of_int (λ n. Makes (StrCell (signed_decimal n))) (int_in a)
 effect code s (prim.Bool bool.Not) (Plain (CharWord n) ∷ []) = Says (truth_word (n == 0))
 effect code s (prim.Bool bool.Str) (Plain (CharWord n) ∷ []) = Makes (StrCell (truth_text n))
 effect code s (prim.Str str.Literal) (Written (arg.Text text) ∷ []) = Makes (StrCell text)
+effect code s (prim.Str str.Concat) (Cell c (StrCell a) ∷ Cell d (StrCell b) ∷ []) = Makes (StrCell (a ++ b))
+effect code s (prim.Str str.Eq) (Cell c (StrCell a) ∷ Cell d (StrCell b) ∷ []) = Says (truth_word (bytes_eq a b))
+effect code s (prim.Str str.Lt) (Cell c (StrCell a) ∷ Cell d (StrCell b) ∷ []) = Says (truth_word (text_less a b))
+effect code s (prim.Str str.Le) (Cell c (StrCell a) ∷ Cell d (StrCell b) ∷ []) = Says (truth_word (not (text_less b a)))
+effect code s (prim.Str str.Len) (Cell c (StrCell text) ∷ []) = tagged_effect (text_length text)
+effect code s (prim.Str str.GetItem) (Cell c (StrCell text) ∷ a ∷ []) = of_int (λ i. item_or (text_item text i)) (int_in a)
 effect code s (prim.Global global.Get) (Written (arg.Global name) ∷ []) =
     got name (kind_of_global code name) (global_at code s name)
 effect code s (prim.Global global.Set) (Written (arg.Global name) ∷ a ∷ []) =
@@ -238,6 +321,7 @@ effect code s (prim.Err err.Occurred) [] = Says (truth_word (is_some s.pending))
 effect code s (prim.Err err.Matches) (Written (arg.Text name) ∷ []) = matched (class_named name) (pending_exception s)
 effect code s (prim.Err err.Catch) [] = caught s.pending
 effect code s (prim.Io io.Write) (Cell c (StrCell text) ∷ []) = Writes text
+effect code s (prim.Io io.Input) [] = line_read s.items
 effect code s _ _ = Wrong
 
 -- ---- what a frame runs
@@ -326,9 +410,12 @@ module _ (is_checked : Bool) (s : MachineState) where
       if_argument code p a earlier l (λ first r. if_arguments code ps rest (earlier ++ first ∷ []) r (λ others. go (first ∷ others)))
   if_arguments code _ _ earlier l go = faulted fault.Kind
 
-  -- a new cell, which the frame owns and the target refers to
+  -- a new cell, which the frame owns and the target refers to, as an object or as an `int`
   abbrev pub made_cell : Option ℕ → Content → MachineState → MachineState
   made_cell x content t = with_target x (ObjectCell (length t.cells)) (own (length t.cells) (with_cells (make content t.cells) t))
+
+  abbrev pub made_int : Option ℕ → ℤ → MachineState → MachineState
+  made_int x n t = with_target x (BigInt (length t.cells)) (own (length t.cells) (with_cells (make (IntCell n) t.cells) t))
 
   -- l is the ledger that the arguments left, and `gone` what was stolen
   abbrev pub applied : Option ℕ → Ledger → List ℕ → Effect → Next
@@ -342,6 +429,10 @@ module _ (is_checked : Bool) (s : MachineState) where
   applied x l gone (Fails w e) = Goes (next_line (with_target x w (raise e (given gone (with_ledger l s)))))
   applied x l gone (Pends c) = Goes (next_line (record (with_ledger l s) { pending = Some c }))
   applied x l gone (Catches c) = Goes (next_line (with_target x (ObjectCell c) (own c (record (with_ledger l s) { pending = None }))))
+  applied x l gone (MakesInt n) = Goes (next_line (made_int x n (with_ledger l s)))
+  applied x l gone (Reads text next) = Goes (next_line (made_cell x (StrCell text) (with_items next (with_ledger l s))))
+  applied x l gone (Skips next w e) = Goes (next_line (with_target x w (raise e (given gone (with_items next (with_ledger l s))))))
+  applied x l gone (Stops e) = Ends (Ended e) s
 
   abbrev pub primitive_step : Code → Option ℕ → List CArg → Primitive → Next
   primitive_step code x args p =

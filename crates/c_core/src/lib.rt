@@ -22,5 +22,6 @@ pub use laws::{
 };
 pub use primitive::{
     BoolPrim, ErrPrim, ExcPrim, GlobalPrim, Int64Prim, IoPrim, Primitive as Prim, StrPrim,
+    TaggedPrim,
 };
 pub use well_formed::{is_call_name, is_identifier, is_spelled, is_well_formed};

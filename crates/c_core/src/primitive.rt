@@ -5,6 +5,7 @@ ghost use Rattle.c_core.specs.Primitives.{is_named};
 #[derive(Clone, Copy, Debug, PartialEq, Eq)]
 pub enum Primitive {
     Int64(Int64Prim),
+    Tagged(TaggedPrim),
     Bool(BoolPrim),
     Str(StrPrim),
     Global(GlobalPrim),
@@ -37,6 +38,36 @@ pub enum Int64Prim {
     Str,
 }
 
+/// `CPyTagged_..`, on `int`s of 128 bits. The word of an `int` from -2^62 to 2^62 - 1 is short, that of any other has a cell. What
+/// makes an `int` of `int`s fails where the result lies past 128 bits.
+#[derive(Clone, Copy, Debug, PartialEq, Eq)]
+pub enum TaggedPrim {
+    Add,
+    Subtract,
+    Multiply,
+    Negate,
+    /// Rounded to minus infinity. Fails for a divisor of 0.
+    FloorDivide,
+    /// With the sign of the divisor. Fails for a divisor of 0.
+    Remainder,
+    /// Fails for a negative count.
+    Lshift,
+    /// Rounded to minus infinity. Fails for a negative count.
+    Rshift,
+    /// The number of a decimal, written as it is printed, of which the word has a cell.
+    FromText,
+    FromInt64,
+    /// 0 or 1.
+    FromBool,
+    /// Fails outside of 64 bits.
+    AsInt64,
+    Eq,
+    Lt,
+    Le,
+    /// The decimal.
+    Str,
+}
+
 /// `CPyBool_..`
 #[derive(Clone, Copy, Debug, PartialEq, Eq)]
 pub enum BoolPrim {
@@ -45,10 +76,20 @@ pub enum BoolPrim {
     Str,
 }
 
-/// `CPyStr_..`
+/// `CPyStr_..`, on texts, whose items are their code points.
 #[derive(Clone, Copy, Debug, PartialEq, Eq)]
 pub enum StrPrim {
     Literal,
+    /// The second behind the first.
+    Concat,
+    Eq,
+    /// By the order of the code points.
+    Lt,
+    Le,
+    /// The number of code points, or the greatest `int` where there are more.
+    Len,
+    /// The text of one code point. A negative index counts from the end. Fails for an index out of range.
+    GetItem,
 }
 
 /// `CPyGlobal_..`, on the variable of the module that they name.
@@ -89,6 +130,9 @@ pub enum ErrPrim {
 #[derive(Clone, Copy, Debug, PartialEq, Eq)]
 pub enum IoPrim {
     Write,
+    /// The next line of input, without its line feed. Fails at the end of the input, and for a line that is not UTF-8, which is passed
+    /// over. The run ends at a line that ends too far along, and where the input cannot be read.
+    Input,
 }
 
 impl Primitive {
@@ -96,7 +140,7 @@ impl Primitive {
     ghost use Rattle.c_core.specs.Primitives.{row_of, is_named, primitive_named, all_primitives};
 
     /// All primitives.
-    pub const ALL: [Primitive; 27] = [
+    pub const ALL: [Primitive; 50] = [
         Primitive::Int64(Int64Prim::Add),
         Primitive::Int64(Int64Prim::Subtract),
         Primitive::Int64(Int64Prim::Multiply),
@@ -110,9 +154,31 @@ impl Primitive {
         Primitive::Int64(Int64Prim::Lt),
         Primitive::Int64(Int64Prim::Le),
         Primitive::Int64(Int64Prim::Str),
+        Primitive::Tagged(TaggedPrim::Add),
+        Primitive::Tagged(TaggedPrim::Subtract),
+        Primitive::Tagged(TaggedPrim::Multiply),
+        Primitive::Tagged(TaggedPrim::Negate),
+        Primitive::Tagged(TaggedPrim::FloorDivide),
+        Primitive::Tagged(TaggedPrim::Remainder),
+        Primitive::Tagged(TaggedPrim::Lshift),
+        Primitive::Tagged(TaggedPrim::Rshift),
+        Primitive::Tagged(TaggedPrim::FromText),
+        Primitive::Tagged(TaggedPrim::FromInt64),
+        Primitive::Tagged(TaggedPrim::FromBool),
+        Primitive::Tagged(TaggedPrim::AsInt64),
+        Primitive::Tagged(TaggedPrim::Eq),
+        Primitive::Tagged(TaggedPrim::Lt),
+        Primitive::Tagged(TaggedPrim::Le),
+        Primitive::Tagged(TaggedPrim::Str),
         Primitive::Bool(BoolPrim::Not),
         Primitive::Bool(BoolPrim::Str),
         Primitive::Str(StrPrim::Literal),
+        Primitive::Str(StrPrim::Concat),
+        Primitive::Str(StrPrim::Eq),
+        Primitive::Str(StrPrim::Lt),
+        Primitive::Str(StrPrim::Le),
+        Primitive::Str(StrPrim::Len),
+        Primitive::Str(StrPrim::GetItem),
         Primitive::Global(GlobalPrim::Get),
         Primitive::Global(GlobalPrim::Set),
         Primitive::Global(GlobalPrim::Clear),
@@ -124,6 +190,7 @@ impl Primitive {
         Primitive::Err(ErrPrim::Matches),
         Primitive::Err(ErrPrim::Catch),
         Primitive::Io(IoPrim::Write),
+        Primitive::Io(IoPrim::Input),
     ];
 
     /// The name of a primitive, as C texts call it.
@@ -144,9 +211,31 @@ impl Primitive {
             Primitive::Int64(Int64Prim::Lt) => "CPyInt64_Lt",
             Primitive::Int64(Int64Prim::Le) => "CPyInt64_Le",
             Primitive::Int64(Int64Prim::Str) => "CPyInt64_Str",
+            Primitive::Tagged(TaggedPrim::Add) => "CPyTagged_Add",
+            Primitive::Tagged(TaggedPrim::Subtract) => "CPyTagged_Subtract",
+            Primitive::Tagged(TaggedPrim::Multiply) => "CPyTagged_Multiply",
+            Primitive::Tagged(TaggedPrim::Negate) => "CPyTagged_Negate",
+            Primitive::Tagged(TaggedPrim::FloorDivide) => "CPyTagged_FloorDivide",
+            Primitive::Tagged(TaggedPrim::Remainder) => "CPyTagged_Remainder",
+            Primitive::Tagged(TaggedPrim::Lshift) => "CPyTagged_Lshift",
+            Primitive::Tagged(TaggedPrim::Rshift) => "CPyTagged_Rshift",
+            Primitive::Tagged(TaggedPrim::FromText) => "CPyTagged_FromText",
+            Primitive::Tagged(TaggedPrim::FromInt64) => "CPyTagged_FromInt64",
+            Primitive::Tagged(TaggedPrim::FromBool) => "CPyTagged_FromBool",
+            Primitive::Tagged(TaggedPrim::AsInt64) => "CPyTagged_AsInt64",
+            Primitive::Tagged(TaggedPrim::Eq) => "CPyTagged_Eq",
+            Primitive::Tagged(TaggedPrim::Lt) => "CPyTagged_Lt",
+            Primitive::Tagged(TaggedPrim::Le) => "CPyTagged_Le",
+            Primitive::Tagged(TaggedPrim::Str) => "CPyTagged_Str",
             Primitive::Bool(BoolPrim::Not) => "CPyBool_Not",
             Primitive::Bool(BoolPrim::Str) => "CPyBool_Str",
             Primitive::Str(StrPrim::Literal) => "CPyStr_Literal",
+            Primitive::Str(StrPrim::Concat) => "CPyStr_Concat",
+            Primitive::Str(StrPrim::Eq) => "CPyStr_Eq",
+            Primitive::Str(StrPrim::Lt) => "CPyStr_Lt",
+            Primitive::Str(StrPrim::Le) => "CPyStr_Le",
+            Primitive::Str(StrPrim::Len) => "CPyStr_Len",
+            Primitive::Str(StrPrim::GetItem) => "CPyStr_GetItem",
             Primitive::Global(GlobalPrim::Get) => "CPyGlobal_Get",
             Primitive::Global(GlobalPrim::Set) => "CPyGlobal_Set",
             Primitive::Global(GlobalPrim::Clear) => "CPyGlobal_Clear",
@@ -158,6 +247,7 @@ impl Primitive {
             Primitive::Err(ErrPrim::Matches) => "CPyErr_Matches",
             Primitive::Err(ErrPrim::Catch) => "CPyErr_Catch",
             Primitive::Io(IoPrim::Write) => "CPy_Write",
+            Primitive::Io(IoPrim::Input) => "CPy_Input",
         }
     }
 

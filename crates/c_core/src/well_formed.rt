@@ -8,7 +8,7 @@ ghost use Rattle.value_core.specs.Exceptions.{class_named};
 ghost use Rattle.c_core.specs.Arguments as arguments;
 ghost use Rattle.c_core.specs.Functions as function;
 ghost use Rattle.c_core.specs.Functions.{label_places};
-ghost use Rattle.c_core.specs.Primitives.{Holding, Owned, Is, one_row, simple_row, pending_row, row_of, primitive_named};
+ghost use Rattle.c_core.specs.Primitives.{Holding, Owned, Is, TakesText, one_row, two_row, answering_row, pending_row, row_of, primitive_named};
 ghost use Rattle.c_core.specs.WellFormed as spec;
 ghost use Rattle.c_core.specs.declared.code.CArg.{CArg};
 ghost use Rattle.c_core.specs.declared.code.CFunc.{CFunc};
@@ -18,10 +18,11 @@ ghost use Rattle.c_core.specs.declared.primitive.StrPrim.TheVariants as str;
 ghost use Rattle.c_core.specs.declared.primitive.GlobalPrim.TheVariants as global;
 ghost use Rattle.c_core.specs.declared.primitive.ExcPrim.TheVariants as exc;
 ghost use Rattle.c_core.specs.declared.primitive.ErrPrim.TheVariants as err;
+ghost use Rattle.c_core.specs.declared.primitive.IoPrim.TheVariants as io;
 
 use crate::code::{CArg, CFunc, CLit, Code, Kind, Line};
 use crate::primitive::{
-    BoolPrim, ErrPrim, ExcPrim, GlobalPrim, Int64Prim, IoPrim, Primitive, StrPrim,
+    BoolPrim, ErrPrim, ExcPrim, GlobalPrim, Int64Prim, IoPrim, Primitive, StrPrim, TaggedPrim,
 };
 use unicode_ident::is_xid_continue;
 use value_core::{ExcClass, Name};
@@ -554,19 +555,15 @@ fn primitive_call_fits(
 ) -> bool
     ensures { result ≡ spec.row_fits code.now vars.now target args.now (row_of primitive) }
 {
-    match (primitive, args) {
-        (Primitive::Int64(operation), _) => int64_call_fits(vars, operation, target, args),
-        (Primitive::Bool(operation), _) => bool_call_fits(vars, operation, target, args),
-        (Primitive::Str(StrPrim::Literal), _) => literal_call_fits(vars, target, args),
-        (Primitive::Global(operation), _) => {
-            global_call_fits(code, vars, operation, target, args)
-        }
-        (Primitive::Exc(operation), _) => exception_call_fits(vars, operation, target, args),
-        (Primitive::Err(operation), _) => error_call_fits(vars, operation, target, args),
-        (Primitive::Io(IoPrim::Write), [CArg::Var(x)]) => {
-            target.is_none() && kind_at(vars, *x) == Some(Kind::Object)
-        }
-        _ => false,
+    match primitive {
+        Primitive::Int64(operation) => int64_call_fits(vars, operation, target, args),
+        Primitive::Tagged(operation) => tagged_call_fits(vars, operation, target, args),
+        Primitive::Bool(operation) => bool_call_fits(vars, operation, target, args),
+        Primitive::Str(operation) => text_call_fits(vars, operation, target, args),
+        Primitive::Global(operation) => global_call_fits(code, vars, operation, target, args),
+        Primitive::Exc(operation) => exception_call_fits(vars, operation, target, args),
+        Primitive::Err(operation) => error_call_fits(vars, operation, target, args),
+        Primitive::Io(operation) => io_call_fits(vars, operation, target, args),
     }
 }
 
@@ -595,6 +592,34 @@ fn int64_call_fits(
     }
 }
 
+fn tagged_call_fits(
+    vars: &[(Name, Kind)],
+    operation: TaggedPrim,
+    target: Option<usize>,
+    args: &[CArg],
+) -> bool
+    ensures { (code : declared.Code) → result ≡ spec.row_fits code vars.now target args.now (row_of (prim.Tagged operation)) }
+{
+    match operation {
+        TaggedPrim::Add => two_fit(vars, Kind::Tagged, args, Kind::Tagged, target),
+        TaggedPrim::Subtract => two_fit(vars, Kind::Tagged, args, Kind::Tagged, target),
+        TaggedPrim::Multiply => two_fit(vars, Kind::Tagged, args, Kind::Tagged, target),
+        TaggedPrim::Negate => one_fits(vars, Kind::Tagged, args, Kind::Tagged, target),
+        TaggedPrim::FloorDivide => two_fit(vars, Kind::Tagged, args, Kind::Tagged, target),
+        TaggedPrim::Remainder => two_fit(vars, Kind::Tagged, args, Kind::Tagged, target),
+        TaggedPrim::Lshift => two_fit(vars, Kind::Tagged, args, Kind::Tagged, target),
+        TaggedPrim::Rshift => two_fit(vars, Kind::Tagged, args, Kind::Tagged, target),
+        TaggedPrim::FromText => written_fits(vars, args, Kind::Tagged, target),
+        TaggedPrim::FromInt64 => one_fits(vars, Kind::Int64, args, Kind::Tagged, target),
+        TaggedPrim::FromBool => one_fits(vars, Kind::Char, args, Kind::Tagged, target),
+        TaggedPrim::AsInt64 => one_fits(vars, Kind::Tagged, args, Kind::Int64, target),
+        TaggedPrim::Eq => two_fit(vars, Kind::Tagged, args, Kind::Char, target),
+        TaggedPrim::Lt => two_fit(vars, Kind::Tagged, args, Kind::Char, target),
+        TaggedPrim::Le => two_fit(vars, Kind::Tagged, args, Kind::Char, target),
+        TaggedPrim::Str => one_fits(vars, Kind::Tagged, args, Kind::Object, target),
+    }
+}
+
 fn bool_call_fits(
     vars: &[(Name, Kind)],
     operation: BoolPrim,
@@ -609,11 +634,35 @@ fn bool_call_fits(
     }
 }
 
-fn literal_call_fits(vars: &[(Name, Kind)], target: Option<usize>, args: &[CArg]) -> bool
-    ensures { (code : declared.Code) → result ≡ spec.row_fits code vars.now target args.now (row_of (prim.Str str.Literal)) }
+fn text_call_fits(
+    vars: &[(Name, Kind)],
+    operation: StrPrim,
+    target: Option<usize>,
+    args: &[CArg],
+) -> bool
+    ensures { (code : declared.Code) → result ≡ spec.row_fits code vars.now target args.now (row_of (prim.Str operation)) }
+{
+    match operation {
+        StrPrim::Literal => written_fits(vars, args, Kind::Object, target),
+        StrPrim::Concat => two_fit(vars, Kind::Object, args, Kind::Object, target),
+        StrPrim::Eq => two_fit(vars, Kind::Object, args, Kind::Char, target),
+        StrPrim::Lt => two_fit(vars, Kind::Object, args, Kind::Char, target),
+        StrPrim::Le => two_fit(vars, Kind::Object, args, Kind::Char, target),
+        StrPrim::Len => one_fits(vars, Kind::Object, args, Kind::Tagged, target),
+        StrPrim::GetItem => item_fits(vars, args, target),
+    }
+}
+
+// A text and an index are borrowed, and an object is answered.
+fn item_fits(vars: &[(Name, Kind)], args: &[CArg], target: Option<usize>) -> bool
+    ensures { (code : declared.Code) → result ≡ spec.row_fits code vars.now target args.now (row_of (prim.Str str.GetItem)) }
 {
     match args {
-        [CArg::Text(_)] => answers(vars, Kind::Object, target),
+        [CArg::Var(x), CArg::Var(y)] => {
+            kind_at(vars, *x) == Some(Kind::Object)
+                && kind_at(vars, *y) == Some(Kind::Tagged)
+                && answers(vars, Kind::Object, target)
+        }
         _ => false,
     }
 }
@@ -774,6 +823,40 @@ fn is_exception(name: &str) -> bool
     ExcClass::named(name).is_some()
 }
 
+fn io_call_fits(
+    vars: &[(Name, Kind)],
+    operation: IoPrim,
+    target: Option<usize>,
+    args: &[CArg],
+) -> bool
+    ensures { (code : declared.Code) → result ≡ spec.row_fits code vars.now target args.now (row_of (prim.Io operation)) }
+{
+    match operation {
+        IoPrim::Write => write_fits(vars, args, target),
+        IoPrim::Input => nothing_fits(vars, args, Kind::Object, target),
+    }
+}
+
+// An object is borrowed, and nothing is answered.
+fn write_fits(vars: &[(Name, Kind)], args: &[CArg], target: Option<usize>) -> bool
+    ensures { (code : declared.Code) → result ≡ spec.row_fits code vars.now target args.now (row_of (prim.Io io.Write)) }
+{
+    match args {
+        [CArg::Var(x)] => target.is_none() && kind_at(vars, *x) == Some(Kind::Object),
+        _ => false,
+    }
+}
+
+// A text is written, and a word of a kind is answered.
+fn written_fits(vars: &[(Name, Kind)], args: &[CArg], answer: Kind, target: Option<usize>) -> bool
+    ensures { (code : declared.Code) (name : List ℕ) → result ≡ spec.row_fits code vars.now target args.now (answering_row name (TakesText ∷ []) answer) }
+{
+    match args {
+        [CArg::Text(_)] => answers(vars, answer, target),
+        _ => false,
+    }
+}
+
 // One variable of a kind is borrowed, and a word of a kind is answered.
 fn one_fits(
     vars: &[(Name, Kind)],
@@ -798,7 +881,7 @@ fn two_fit(
     answer: Kind,
     target: Option<usize>,
 ) -> bool
-    ensures { (code : declared.Code) (name : List ℕ) → result ≡ spec.row_fits code vars.now target args.now (simple_row name (kind ∷ kind ∷ []) answer) }
+    ensures { (code : declared.Code) (name : List ℕ) (h : Holding) → result ≡ spec.row_fits code vars.now target args.now (two_row name kind h answer) }
 {
     match args {
         [CArg::Var(x), CArg::Var(y)] => {
