@@ -1,21 +1,24 @@
 -- What small programs do.
-use Rattle.std.proofs.Common.{◌≡◌, ◌≢◌, refl, ℕ, zero, suc, ◌<◌, arith, lit<, true, false, List, [], ◌∷◌, ◌++◌, Option, Some, None, pos, negsuc, codes, inl, inr, ⊎_elim}
+use Rattle.std.proofs.Common.{◌≡◌, ◌≢◌, refl, ℕ, zero, suc, ◌<◌, arith, lit<, true, false, List, [], ◌∷◌, ◌++◌, Option, Some, None, ℤ, pos, negsuc, codes, inl, inr, ⊎_elim}
 use Rattle.std.specs.Fmt.{digits}
 use Rattle.std.specs.Int.{int_wrap}
 use Rattle.std.specs.Option.{option_map}
 use Rattle.std.specs.Str.{chars, is_utf8}
 use Rattle.std.proofs.Math.Utf8.{encode}
 use Rattle.unicode_ident.proofs.Computing.{unicode_ident}
-use Rattle.value_core.specs.declared.exception.ExcClass.TheVariants.{ValueError}
-use Rattle.value_core.specs.Ending.{Ending, Done, Raised, Cut}
+use Rattle.value_core.specs.declared.exception.ExcClass.TheVariants.{OverflowError, IndexError, ValueError}
+use Rattle.value_core.specs.Ending.{Ending, Done, Raised, Cut, Over}
 use Rattle.value_core.specs.Exceptions.{Thrown, thrown}
+use Rattle.value_core.specs.Items as item
 use Rattle.value_core.specs.Items.{Items, Eof}
-use Rattle.value_core.specs.Value.{ObjVal, InstObj}
+use Rattle.value_core.specs.Value.{IntVal, BoolVal, StrVal, ObjVal, InstObj}
 use Rattle.c_core.specs.declared.code.CArg.TheVariants as c_arg
 use Rattle.c_core.specs.declared.code.CLit.TheVariants as c_lit
 use Rattle.c_core.specs.declared.code.Line.TheVariants as line
+use Rattle.c_core.specs.declared.primitive.Primitive.{Primitive}
 use Rattle.c_core.specs.declared.primitive.Primitive.TheVariants as prim
 use Rattle.c_core.specs.declared.primitive.Int64Prim.TheVariants as int64
+use Rattle.c_core.specs.declared.primitive.TaggedPrim.TheVariants as tagged
 use Rattle.c_core.specs.declared.primitive.StrPrim.TheVariants as str
 use Rattle.c_core.specs.declared.primitive.IoPrim.TheVariants as io
 use Rattle.ir_core.specs.declared.code.RType.{RType}
@@ -32,7 +35,9 @@ use Rattle.ir_core.specs.declared.code.Func.{Func}
 use Rattle.ir_core.specs.declared.code.Program.{Program}
 use Rattle.ir_core.specs.Registers.{Unset, Holds}
 use Rattle.ir_core.specs.Names.{function_id}
-use Rattle.ir_core.specs.Effects.{World}
+use Rattle.ir_core.specs.declared.code.ErrorKind.TheVariants.{Magic, MagicOverlapping}
+use Rattle.ir_core.specs.Effects.{World, Argument, Given, Written, Effect, Wrong, Gives, Fails, Ends, effect}
+use Rattle.ir_core.specs.Rows.{error_kind}
 use Rattle.ir_core.specs.Meaning.{Waiting, Config, Runs, Leaves, Ended, Stuck, Mode, Plain, Strict, Fitting, steps}
 use Rattle.ir_core.specs.Runs.{start, Calm, Fit}
 use Rattle.c_core.specs.Step as machine
@@ -213,6 +218,86 @@ minus_113_is_a_value = refl
 
 minus_113_is_an_error : steps Plain minus_113 3 (Leaves 0 (waits 1 ∷ []) failing_world) ≡ Stuck
 minus_113_is_an_error = refl
+
+-- ---- rows on numbers, texts and the input
+abbrev reading : Items → World
+reading items = record { store = []; globals = []; pending = None; output = []; items = items; turns = 1 }
+
+abbrev does : Primitive → List Argument → Effect
+does q xs = effect (program []) q xs (reading Eof)
+
+abbrev int : ℤ → Argument
+int n = Given (IntVal n)
+
+abbrev text : List ℕ → Argument
+text t = Given (StrVal t)
+
+past_64_bits : does (prim.Tagged tagged.Add) (int (pos 9223372036854775807) ∷ int (pos 1) ∷ []) ≡ Gives (IntVal (pos 9223372036854775808)) (reading Eof)
+past_64_bits = refl
+
+past_128_bits : does (prim.Tagged tagged.Lshift) (int (pos 1) ∷ int (pos 127) ∷ []) ≡ Fails (thrown OverflowError (codes "integer is past 128 bits")) (reading Eof)
+past_128_bits = refl
+
+-- a truth is no `int` before it is made one
+truth_is_no_int : does (prim.Tagged tagged.Add) (int (pos 1) ∷ Given (BoolVal true) ∷ []) ≡ Wrong
+truth_is_no_int = refl
+
+truth_as_int : does (prim.Tagged tagged.FromBool) (Given (BoolVal true) ∷ []) ≡ Gives (IntVal (pos 1)) (reading Eof)
+truth_as_int = refl
+
+-- the text of an `int` is as it is printed, and no short one
+long_text : does (prim.Tagged tagged.FromText) (Written (arg.Text (codes "4611686018427387904")) ∷ []) ≡ Gives (IntVal (pos 4611686018427387904)) (reading Eof)
+unfolding digits
+long_text = refl
+
+short_text : does (prim.Tagged tagged.FromText) (Written (arg.Text (codes "4611686018427387903")) ∷ []) ≡ Wrong
+unfolding digits
+short_text = refl
+
+zero_before : does (prim.Tagged tagged.FromText) (Written (arg.Text (codes "04611686018427387904")) ∷ []) ≡ Wrong
+unfolding digits
+zero_before = refl
+
+-- an `int` past 64 bits is no native integer
+too_wide : does (prim.Tagged tagged.AsInt64) (int (pos 9223372036854775808) ∷ []) ≡ Fails (thrown OverflowError (codes "integer does not fit in i64")) (reading Eof)
+too_wide = refl
+
+-- "a" and an accented "e" are three bytes and two characters
+abbrev accented : List ℕ
+accented = 97 ∷ 195 ∷ 169 ∷ []
+
+characters : does (prim.Str str.Len) (text accented ∷ []) ≡ Gives (IntVal (pos 2)) (reading Eof)
+unfolding chars
+characters = refl
+
+last_character : does (prim.Str str.GetItem) (text accented ∷ int (negsuc 0) ∷ []) ≡ Gives (StrVal (195 ∷ 169 ∷ [])) (reading Eof)
+unfolding chars encode
+last_character = refl
+
+past_the_text : does (prim.Str str.GetItem) (text accented ∷ int (pos 2) ∷ []) ≡ Fails (thrown IndexError (codes "string index out of range")) (reading Eof)
+unfolding chars
+past_the_text = refl
+
+shorter_is_less : does (prim.Str str.Lt) (text (codes "a") ∷ text accented ∷ []) ≡ Gives (BoolVal true) (reading Eof)
+unfolding chars
+shorter_is_less = refl
+
+-- a line is read, one that is not UTF-8 is passed over, and past the bytes that a program may read the run ends
+line_is_read : effect (program []) (prim.Io io.Input) [] (reading (item.Line (codes "a") Eof)) ≡ Gives (StrVal (codes "a")) (reading Eof)
+line_is_read = refl
+
+bad_line : effect (program []) (prim.Io io.Input) [] (reading (item.Bad (item.Line (codes "a") Eof))) ≡ Fails (thrown ValueError (codes "input is not UTF-8")) (reading (item.Line (codes "a") Eof))
+bad_line = refl
+
+too_far : effect (program []) (prim.Io io.Input) [] (reading item.Over) ≡ Ends Over (reading item.Over)
+too_far = refl
+
+-- how they tell that they failed
+int_tells : error_kind (prim.Tagged tagged.Remainder) (Some Int) ≡ Magic
+int_tells = refl
+
+native_tells : error_kind (prim.Tagged tagged.AsInt64) (Some I64) ≡ MagicOverlapping
+native_tells = refl
 
 -- ---- stuck, each in its way: the module alone, with an object, a truth, a native integer and an `int`
 abbrev alone : List (Op × ℕ) → Last → Program

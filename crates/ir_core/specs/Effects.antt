@@ -1,27 +1,33 @@
 -- What primitives do, each in one row.
-use Rattle.std.specs.Prelude.{ℕ, Bool, true, false, not, ℤ, pos, int_lt, List, [], ◌∷◌, ◌++◌, Option, Some, None, codes, is_some, Result, Ok, Err, slice_get, slice_set}
+use Rattle.std.specs.Prelude.{ℕ, Bool, true, false, not, ◌&&◌, cond, ℤ, pos, int_lt, List, [], ◌∷◌, ◌++◌, Option, Some, None, codes, is_some, Result, Ok, Err, slice_get, slice_set}
 use Rattle.std.specs.Fmt.{signed_decimal}
 use Rattle.std.specs.List.{position}
 use Rattle.std.specs.Option.{option_and_then}
 use Rattle.std.specs.Ordering.{int_eq}
 use Rattle.std.specs.Str.{bytes_eq}
+use Rattle.std.specs.Str.Parse.{signed_digits_value}
 use Rattle.value_core.specs.declared.arith.Arith.{Arith}
+use Rattle.value_core.specs.declared.arith.Arith.TheVariants.{Overflow}
 use Rattle.value_core.specs.declared.exception.ExcClass.{ExcClass}
-use Rattle.value_core.specs.Arithmetic.{i64_add, i64_sub, i64_mul, i64_neg, i64_floor_div, i64_modulo, i64_shl, i64_shr}
-use Rattle.value_core.specs.Ending.{Ending}
+use Rattle.value_core.specs.declared.exception.ExcClass.TheVariants.{IndexError, ValueError, EOFError}
+use Rattle.value_core.specs.Arithmetic.{lies_within, is_short, int_add, int_sub, int_mul, int_neg, int_floor_div, int_modulo, int_shl, int_shr, int_to_i64, i64_add, i64_sub, i64_mul, i64_neg, i64_floor_div, i64_modulo, i64_shl, i64_shr}
+use Rattle.value_core.specs.Ending.{Ending, Over, Broken}
 use Rattle.value_core.specs.Exceptions.{Thrown, thrown, class_named, is_under}
+use Rattle.value_core.specs.Items as item
 use Rattle.value_core.specs.Items.{Items}
 use Rattle.value_core.specs.Value.{Value, IntVal, BoolVal, StrVal, ExcVal, Store}
 use Rattle.c_core.specs.declared.primitive.Primitive.{Primitive}
 use Rattle.c_core.specs.declared.primitive.Primitive.TheVariants as prim
 use Rattle.c_core.specs.declared.primitive.Int64Prim.TheVariants as int64
+use Rattle.c_core.specs.declared.primitive.TaggedPrim.TheVariants as tagged
 use Rattle.c_core.specs.declared.primitive.BoolPrim.TheVariants as bool
 use Rattle.c_core.specs.declared.primitive.StrPrim.TheVariants as str
 use Rattle.c_core.specs.declared.primitive.GlobalPrim.TheVariants as global
 use Rattle.c_core.specs.declared.primitive.ExcPrim.TheVariants as exc
 use Rattle.c_core.specs.declared.primitive.ErrPrim.TheVariants as err
 use Rattle.c_core.specs.declared.primitive.IoPrim.TheVariants as io
-use Rattle.c_core.specs.Step.{exception_of, not_defined, unbound}
+use Rattle.c_core.specs.Step.{int64_exception, int_exception, not_defined, unbound}
+use Rattle.c_core.specs.Strings.{text_less, text_length, text_item}
 use Rattle.ir_core.specs.declared.code.PArg.{PArg}
 use Rattle.ir_core.specs.declared.code.PArg.TheVariants as arg
 use Rattle.ir_core.specs.declared.code.Program.{Program}
@@ -61,7 +67,35 @@ truth_text false = codes "False"
 
 abbrev pub native_or : Result ℤ Arith → World → Effect
 native_or (Ok n) w = Gives (IntVal n) w
-native_or (Err f) w = Fails (exception_of f) w
+native_or (Err f) w = Fails (int64_exception f) w
+
+-- an `int`, or why there is none
+abbrev pub int_or : Result ℤ Arith → World → Effect
+int_or (Ok n) w = Gives (IntVal n) w
+int_or (Err f) w = Fails (int_exception f) w
+
+-- an `int` as a native integer, where it fits
+abbrev pub fitted : Result ℤ Arith → World → Effect
+fitted (Ok n) w = Gives (IntVal n) w
+fitted (Err f) w = Fails (int64_exception Overflow) w
+
+-- a text that writes this number as it is printed, which is an `int` that is not short
+abbrev pub written_int : List ℕ → ℤ → World → Effect
+written_int text n w =
+    cond (bytes_eq (signed_decimal n) text && (lies_within 127 n && not (is_short n))) (Gives (IntVal n) w) Wrong
+
+-- the item of a text
+abbrev pub item_or : Option (List ℕ) → World → Effect
+item_or None w = Fails (thrown IndexError (codes "string index out of range")) w
+item_or (Some text) w = Gives (StrVal text) w
+
+-- the next line of input; at its end there is none, and the end stays
+abbrev pub line_read : Items → World → Effect
+line_read item.Eof w = Fails (thrown EOFError (codes "EOF when reading a line")) w
+line_read item.Broken w = Ends Broken w
+line_read item.Over w = Ends Over w
+line_read (item.Line text next) w = Gives (StrVal text) (record w { items = next })
+line_read (item.Bad next) w = Fails (thrown ValueError (codes "input is not UTF-8")) (record w { items = next })
 
 -- the number of a global by its name, and what it holds: nothing where there is none of the name, and nothing inside where it
 -- is unset
@@ -107,9 +141,31 @@ effect p (prim.Int64 int64.Eq) (Given (IntVal a) ∷ Given (IntVal b) ∷ []) w 
 effect p (prim.Int64 int64.Lt) (Given (IntVal a) ∷ Given (IntVal b) ∷ []) w = Gives (BoolVal (int_lt a b)) w
 effect p (prim.Int64 int64.Le) (Given (IntVal a) ∷ Given (IntVal b) ∷ []) w = Gives (BoolVal (not (int_lt b a))) w
 effect p (prim.Int64 int64.Str) (Given (IntVal a) ∷ []) w = Gives (StrVal (signed_decimal a)) w
+effect p (prim.Tagged tagged.Add) (Given (IntVal a) ∷ Given (IntVal b) ∷ []) w = int_or (int_add a b) w
+effect p (prim.Tagged tagged.Subtract) (Given (IntVal a) ∷ Given (IntVal b) ∷ []) w = int_or (int_sub a b) w
+effect p (prim.Tagged tagged.Multiply) (Given (IntVal a) ∷ Given (IntVal b) ∷ []) w = int_or (int_mul a b) w
+effect p (prim.Tagged tagged.Negate) (Given (IntVal a) ∷ []) w = int_or (int_neg a) w
+effect p (prim.Tagged tagged.FloorDivide) (Given (IntVal a) ∷ Given (IntVal b) ∷ []) w = int_or (int_floor_div a b) w
+effect p (prim.Tagged tagged.Remainder) (Given (IntVal a) ∷ Given (IntVal b) ∷ []) w = int_or (int_modulo a b) w
+effect p (prim.Tagged tagged.Lshift) (Given (IntVal a) ∷ Given (IntVal b) ∷ []) w = int_or (int_shl a b) w
+effect p (prim.Tagged tagged.Rshift) (Given (IntVal a) ∷ Given (IntVal b) ∷ []) w = int_or (int_shr a b) w
+effect p (prim.Tagged tagged.FromText) (Written (arg.Text text) ∷ []) w = written_int text (signed_digits_value 10 text) w
+effect p (prim.Tagged tagged.FromInt64) (Given (IntVal a) ∷ []) w = Gives (IntVal a) w
+effect p (prim.Tagged tagged.FromBool) (Given (BoolVal b) ∷ []) w = Gives (IntVal (truth_number b)) w
+effect p (prim.Tagged tagged.AsInt64) (Given (IntVal a) ∷ []) w = fitted (int_to_i64 a) w
+effect p (prim.Tagged tagged.Eq) (Given (IntVal a) ∷ Given (IntVal b) ∷ []) w = Gives (BoolVal (int_eq a b)) w
+effect p (prim.Tagged tagged.Lt) (Given (IntVal a) ∷ Given (IntVal b) ∷ []) w = Gives (BoolVal (int_lt a b)) w
+effect p (prim.Tagged tagged.Le) (Given (IntVal a) ∷ Given (IntVal b) ∷ []) w = Gives (BoolVal (not (int_lt b a))) w
+effect p (prim.Tagged tagged.Str) (Given (IntVal a) ∷ []) w = Gives (StrVal (signed_decimal a)) w
 effect p (prim.Bool bool.Not) (Given (BoolVal b) ∷ []) w = Gives (BoolVal (not b)) w
 effect p (prim.Bool bool.Str) (Given (BoolVal b) ∷ []) w = Gives (StrVal (truth_text b)) w
 effect p (prim.Str str.Literal) (Written (arg.Text text) ∷ []) w = Gives (StrVal text) w
+effect p (prim.Str str.Concat) (Given (StrVal a) ∷ Given (StrVal b) ∷ []) w = Gives (StrVal (a ++ b)) w
+effect p (prim.Str str.Eq) (Given (StrVal a) ∷ Given (StrVal b) ∷ []) w = Gives (BoolVal (bytes_eq a b)) w
+effect p (prim.Str str.Lt) (Given (StrVal a) ∷ Given (StrVal b) ∷ []) w = Gives (BoolVal (text_less a b)) w
+effect p (prim.Str str.Le) (Given (StrVal a) ∷ Given (StrVal b) ∷ []) w = Gives (BoolVal (not (text_less b a))) w
+effect p (prim.Str str.Len) (Given (StrVal text) ∷ []) w = Gives (IntVal (text_length text)) w
+effect p (prim.Str str.GetItem) (Given (StrVal text) ∷ Given (IntVal a) ∷ []) w = item_or (text_item text a) w
 effect p (prim.Global global.Get) (Written (arg.Global name) ∷ []) w = got name (global_at p w name) w
 effect p (prim.Global global.Set) (Written (arg.Global name) ∷ Given v ∷ []) w =
     stored (number_of_global p name) (global_at p w name) (Some v) w
@@ -123,4 +179,5 @@ effect p (prim.Err err.Occurred) [] w = Gives (BoolVal (is_some w.pending)) w
 effect p (prim.Err err.Matches) (Written (arg.Text name) ∷ []) w = matched (class_named name) w.pending w
 effect p (prim.Err err.Catch) [] w = caught w.pending w
 effect p (prim.Io io.Write) (Given (StrVal text) ∷ []) w = Acts (record w { output = w.output ++ text })
+effect p (prim.Io io.Input) [] w = line_read w.items w
 effect p _ _ w = Wrong

@@ -5,6 +5,7 @@ use Rattle.std.specs.Option.{option_map, option_and_then}
 use Rattle.c_core.specs.declared.primitive.Primitive.{Primitive}
 use Rattle.c_core.specs.declared.primitive.Primitive.TheVariants as prim
 use Rattle.c_core.specs.declared.primitive.Int64Prim.TheVariants as int64
+use Rattle.c_core.specs.declared.primitive.TaggedPrim.TheVariants as tagged
 use Rattle.c_core.specs.declared.primitive.BoolPrim.TheVariants as bool
 use Rattle.c_core.specs.declared.primitive.StrPrim.TheVariants as str
 use Rattle.c_core.specs.declared.primitive.GlobalPrim.TheVariants as global
@@ -41,9 +42,31 @@ failing (prim.Int64 int64.Eq) = NeverFails
 failing (prim.Int64 int64.Lt) = NeverFails
 failing (prim.Int64 int64.Le) = NeverFails
 failing (prim.Int64 int64.Str) = NeverFails
+failing (prim.Tagged tagged.Add) = MayFail
+failing (prim.Tagged tagged.Subtract) = MayFail
+failing (prim.Tagged tagged.Multiply) = MayFail
+failing (prim.Tagged tagged.Negate) = MayFail
+failing (prim.Tagged tagged.FloorDivide) = MayFail
+failing (prim.Tagged tagged.Remainder) = MayFail
+failing (prim.Tagged tagged.Lshift) = MayFail
+failing (prim.Tagged tagged.Rshift) = MayFail
+failing (prim.Tagged tagged.FromText) = NeverFails
+failing (prim.Tagged tagged.FromInt64) = NeverFails
+failing (prim.Tagged tagged.FromBool) = NeverFails
+failing (prim.Tagged tagged.AsInt64) = MayFail
+failing (prim.Tagged tagged.Eq) = NeverFails
+failing (prim.Tagged tagged.Lt) = NeverFails
+failing (prim.Tagged tagged.Le) = NeverFails
+failing (prim.Tagged tagged.Str) = NeverFails
 failing (prim.Bool bool.Not) = NeverFails
 failing (prim.Bool bool.Str) = NeverFails
 failing (prim.Str str.Literal) = NeverFails
+failing (prim.Str str.Concat) = NeverFails
+failing (prim.Str str.Eq) = NeverFails
+failing (prim.Str str.Lt) = NeverFails
+failing (prim.Str str.Le) = NeverFails
+failing (prim.Str str.Len) = NeverFails
+failing (prim.Str str.GetItem) = MayFail
 failing (prim.Global global.Get) = MayFail
 failing (prim.Global global.Set) = NeverFails
 failing (prim.Global global.Clear) = NeverFails
@@ -55,6 +78,7 @@ failing (prim.Err err.Occurred) = NeverFails
 failing (prim.Err err.Matches) = NeverFails
 failing (prim.Err err.Catch) = NeverFails
 failing (prim.Io io.Write) = NeverFails
+failing (prim.Io io.Input) = MayFail
 
 -- whether a primitive answers a number or a truth, by its arguments alone and in every case
 abbrev pub computes : Primitive → Bool

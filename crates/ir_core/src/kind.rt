@@ -3,7 +3,7 @@ ghost use Rattle.std.specs.Prelude.{◌≡◌};
 ghost use Rattle.ir_core.specs.Rows.{error_kind, kind_by_result, edge_of_kind, type_of_reg, edge_of_op};
 
 use crate::code::{ErrorKind, Op, RType, Reg};
-use c_core::{ErrPrim, GlobalPrim, Int64Prim, Prim};
+use c_core::{ErrPrim, GlobalPrim, Int64Prim, IoPrim, Prim, StrPrim, TaggedPrim};
 use value_core::Name;
 
 /// What is to stand directly behind an operation, so that its failure is seen: nothing, a test of its result, that test
@@ -24,7 +24,20 @@ pub fn kind_of(p: Prim, target: Option<RType>) -> ErrorKind
         Prim::Int64(
             Int64Prim::FloorDivide | Int64Prim::Remainder | Int64Prim::Lshift | Int64Prim::Rshift,
         )
-        | Prim::Global(GlobalPrim::Get) => by_result(target),
+        | Prim::Tagged(
+            TaggedPrim::Add
+            | TaggedPrim::Subtract
+            | TaggedPrim::Multiply
+            | TaggedPrim::Negate
+            | TaggedPrim::FloorDivide
+            | TaggedPrim::Remainder
+            | TaggedPrim::Lshift
+            | TaggedPrim::Rshift
+            | TaggedPrim::AsInt64,
+        )
+        | Prim::Str(StrPrim::GetItem)
+        | Prim::Global(GlobalPrim::Get)
+        | Prim::Io(IoPrim::Input) => by_result(target),
         Prim::Err(ErrPrim::SetObject | ErrPrim::Unbound) => ErrorKind::Always,
         _ => ErrorKind::Never,
     }

@@ -12,7 +12,7 @@ use Rattle.value_core.specs.Exceptions.{Thrown}
 use Rattle.value_core.specs.Value.{Value, IntVal}
 use Rattle.value_core.proofs.RestLemmas.{rest_near}
 use Rattle.c_core.specs.declared.primitive.Primitive.TheVariants as prim
-use Rattle.c_core.specs.Step.{exception_of}
+use Rattle.c_core.specs.Step.{int64_exception}
 use Rattle.py_syntax.specs.declared.expression.BinOp.{BinOp}
 use Rattle.py_syntax.specs.declared.expression.BinOp.TheVariants as bin
 use Rattle.py_typed.specs.Sorts as sort
@@ -109,7 +109,7 @@ given_native bin.Bar a b e f = wrap_within _
 -- a number as a value, and a fault as the exception that stands for it
 abbrev with_exception : Result ℤ Arith → Result Value Thrown
 with_exception (Ok n) = Ok (IntVal n)
-with_exception (Err fault) = Err (exception_of fault)
+with_exception (Err fault) = Err (int64_exception fault)
 
 given_allowed : (op : BinOp) (a b : ℤ) → Allows (failing (prim.Int64 (primitive_of op))) (with_exception (given_by op a b))
 given_allowed bin.Add a b = tt

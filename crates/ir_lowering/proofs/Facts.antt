@@ -15,6 +15,7 @@ use Rattle.c_core.specs.declared.code.Code.{Code}
 use Rattle.c_core.specs.declared.primitive.Primitive.{Primitive}
 use Rattle.c_core.specs.declared.primitive.Primitive.TheVariants as prim
 use Rattle.c_core.specs.declared.primitive.Int64Prim.TheVariants as int64
+use Rattle.c_core.specs.declared.primitive.TaggedPrim.TheVariants as tagged
 use Rattle.c_core.specs.declared.primitive.BoolPrim.TheVariants as bool
 use Rattle.c_core.specs.declared.primitive.StrPrim.TheVariants as str
 use Rattle.c_core.specs.declared.primitive.GlobalPrim.TheVariants as global
@@ -151,7 +152,30 @@ named (prim.Err err.Unbound) = refl
 named (prim.Err err.Occurred) = refl
 named (prim.Err err.Matches) = refl
 named (prim.Err err.Catch) = refl
+named (prim.Tagged tagged.Add) = refl
+named (prim.Tagged tagged.Subtract) = refl
+named (prim.Tagged tagged.Multiply) = refl
+named (prim.Tagged tagged.Negate) = refl
+named (prim.Tagged tagged.FloorDivide) = refl
+named (prim.Tagged tagged.Remainder) = refl
+named (prim.Tagged tagged.Lshift) = refl
+named (prim.Tagged tagged.Rshift) = refl
+named (prim.Tagged tagged.FromText) = refl
+named (prim.Tagged tagged.FromInt64) = refl
+named (prim.Tagged tagged.FromBool) = refl
+named (prim.Tagged tagged.AsInt64) = refl
+named (prim.Tagged tagged.Eq) = refl
+named (prim.Tagged tagged.Lt) = refl
+named (prim.Tagged tagged.Le) = refl
+named (prim.Tagged tagged.Str) = refl
+named (prim.Str str.Concat) = refl
+named (prim.Str str.Eq) = refl
+named (prim.Str str.Lt) = refl
+named (prim.Str str.Le) = refl
+named (prim.Str str.Len) = refl
+named (prim.Str str.GetItem) = refl
 named (prim.Io io.Write) = refl
+named (prim.Io io.Input) = refl
 
 -- while no exception is pending every primitive may stand
 pub may_stand_calm : (b stands : Bool) (s : MachineState) (go : Next) → s.pending ≡ None → if_may_stand b s stands go ≡ go

@@ -22,7 +22,7 @@ use Rattle.c_core.specs.Machine.{Word, Native, NoObject, MachineState, set_refs}
 use Rattle.c_core.specs.Primitives.{Is, OfGlobal, Anything, Parameter, Steals, TakesText, TakesGlobal, Owned, row_of}
 use Rattle.c_core.specs.Arguments.{Plain as PlainWord, Written as WrittenText, is_value_of, kind_of_global, kind_found, stolen, word_in}
 use Rattle.c_core.specs.Arguments as machines
-use Rattle.c_core.specs.Step.{Next, Goes, Says, Shares, Stores, truth_word, with_var, raise, shared, given, next_line, if_true, if_there, if_arguments, step_at, not_defined, unbound, exception_of}
+use Rattle.c_core.specs.Step.{Next, Goes, Says, Shares, Stores, truth_word, with_var, raise, shared, given, next_line, if_true, if_there, if_arguments, step_at, not_defined, unbound, int64_exception}
 use Rattle.c_core.specs.Step as steps
 use Rattle.c_core.specs.WellFormed.{kind_fits, kind_at, kinds_agree}
 use Rattle.ir_core.specs.declared.code.RType.{RType}
@@ -137,7 +137,7 @@ module _ (b : Bool) (p : Program) (prints : PrintsOrFails p) (known : Facts p) (
         gives b p prints known f below w s at_line os stack world cells free free_below printed to q args a stands _ I64 xs ys (IntVal n) (Native n) is outcome read none does says (native n)
     native_by quiet xs ys is outcome read none (Err x) does says =
         let d = target_here b p prints known f below w s at_line os stack world cells free free_below to q args a I64 outcome in
-        fails_to quiet _ d.0 xs ys (exception_of x) (error_word Int64) is d.1 read none does says (subst (λ z. Fits z (error_of z) (error_word Int64)) (sym d.2) (error_fits I64))
+        fails_to quiet _ d.0 xs ys (int64_exception x) (error_word Int64) is d.1 read none does says (subst (λ z. Fits z (error_of z) (error_word Int64)) (sym d.2) (error_fits I64))
 
     native_arrives : Q → (R : ℤ → ℤ → Result ℤ Arith) → (row_of q).parameters ≡ ints_row b p prints f s (all (Prim (Some to) q args)) a → (row_of q).outcome ≡ Owned (Is Int64) → ((m n : ℤ) → program.effect p q (Given (IntVal m) ∷ Given (IntVal n) ∷ []) w ≡ program.native_or (R m n) w) → ((m n : ℤ) → steps.effect (lower p) s q (PlainWord (Native m) ∷ PlainWord (Native n) ∷ []) ≡ steps.native_or (R m n)) → AreOtherArguments (prints.texts f.fn) args → C
     native_arrives quiet R is outcome does says others =
@@ -226,6 +226,7 @@ module _ (b : Bool) (p : Program) (prints : PrintsOrFails p) (known : Facts p) (
   answer_arrives (prim.Bool q) to args a stands e others =
       number_arrives b p prints known f below w s at_line os stack world cells free free_below printed _ to args a stands e others
   answer_arrives (prim.Int64 int64.Str) to args a stands e others = absurd (cc)
+  answer_arrives (prim.Tagged q) to args a stands e others = absurd (cc)
   answer_arrives (prim.Str q) to args a stands e others = absurd (cc)
   answer_arrives (prim.Global global.Set) to args a stands e others = absurd (cc)
   answer_arrives (prim.Global global.Clear) to args a stands e others = absurd (cc)
@@ -363,6 +364,7 @@ module _ (b : Bool) (p : Program) (prints : PrintsOrFails p) (known : Facts p) (
   act_arrives (prim.Err err.Unbound) args a stands e others = unbound_arrives args a stands
   act_arrives (prim.Global global.Get) args a stands e others = absurd (cc)
   act_arrives (prim.Int64 q) args a stands e others = absurd (cc)
+  act_arrives (prim.Tagged q) args a stands e others = absurd (cc)
   act_arrives (prim.Bool q) args a stands e others = absurd (cc)
   act_arrives (prim.Str q) args a stands e others = absurd (cc)
   act_arrives (prim.Exc q) args a stands e others = absurd (cc)

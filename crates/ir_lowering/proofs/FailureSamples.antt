@@ -19,7 +19,7 @@ use Rattle.c_core.specs.declared.primitive.ErrPrim.TheVariants as err
 use Rattle.c_core.specs.declared.primitive.IoPrim.TheVariants as io
 use Rattle.c_core.specs.Cells.{Cells}
 use Rattle.c_core.specs.Machine.{Content, ExcCell}
-use Rattle.c_core.specs.Step.{MachineEnding, exception_of, not_defined}
+use Rattle.c_core.specs.Step.{MachineEnding, int64_exception, not_defined}
 use Rattle.c_core.specs.Step as machines
 use Rattle.c_core.specs.Run.{Stop, machine_run}
 use Rattle.ir_core.specs.declared.code.RType.TheVariants.{I64, Bool as BoolType, Ref}
@@ -115,7 +115,7 @@ divided : runs (sets (pos 2)) ≡ Some (Done, codes "3")
 unfolding digits
 divided = refl
 
-by_zero : runs (sets (pos 0)) ≡ Some (Raised (exception_of ZeroDivisor), [])
+by_zero : runs (sets (pos 0)) ≡ Some (Raised (int64_exception ZeroDivisor), [])
 by_zero = refl
 
 unset : runs clears ≡ Some (Raised (not_defined (codes "by")), [])
@@ -137,7 +137,7 @@ text_divided : text_runs (sets (pos 2)) ≡ Some (machines.Ended Done, (codes "3
 unfolding digits
 text_divided = refl
 
-text_by_zero : text_runs (sets (pos 0)) ≡ Some (machines.Ended (Raised (exception_of ZeroDivisor)), ([], (Some 0, Some (record { count = 1; content = ExcCell (exception_of ZeroDivisor) }) ∷ [])))
+text_by_zero : text_runs (sets (pos 0)) ≡ Some (machines.Ended (Raised (int64_exception ZeroDivisor)), ([], (Some 0, Some (record { count = 1; content = ExcCell (int64_exception ZeroDivisor) }) ∷ [])))
 text_by_zero = refl
 
 text_unset : text_runs clears ≡ Some (machines.Ended (Raised (not_defined (codes "by"))), ([], (Some 0, Some (record { count = 1; content = ExcCell (not_defined (codes "by")) }) ∷ [])))
@@ -254,7 +254,7 @@ failing_is_fit : Fit failing
 failing_is_fit zero items k =
     ended_is_calm Fitting failing 40 k (start failing 0 items) Cut (left None 0 items) refl
 failing_is_fit (suc t) items k =
-    ended_is_calm Fitting failing 40 k (start failing (suc t) items) (Raised (exception_of ZeroDivisor)) (left (Some (exception_of ZeroDivisor)) t items) refl
+    ended_is_calm Fitting failing 40 k (start failing (suc t) items) (Raised (int64_exception ZeroDivisor)) (left (Some (int64_exception ZeroDivisor)) t items) refl
 
 failing_follows : (turns : ℕ) (items : Items) → FittingRunFollows failing turns items
 failing_follows turns items =

@@ -15,8 +15,6 @@ use Rattle.c_core.specs.declared.primitive.Primitive.{Primitive}
 use Rattle.c_core.specs.declared.primitive.Primitive.TheVariants as prim
 use Rattle.c_core.specs.declared.primitive.Int64Prim.TheVariants as int64
 use Rattle.c_core.specs.declared.primitive.BoolPrim.TheVariants as bool
-use Rattle.c_core.specs.declared.primitive.StrPrim.TheVariants as str
-use Rattle.c_core.specs.declared.primitive.IoPrim.TheVariants as io
 use Rattle.c_core.specs.Ledgers.{Ledger}
 use Rattle.c_core.specs.Functions.{function_named}
 use Rattle.c_core.specs.Machine.{Word, Native, MachineState}
@@ -352,7 +350,8 @@ module _ (b : Bool) (p : Program) (prints : PrintsOrFails p) (known : Facts p) (
     number_arrives (prim.Bool bool.Not) to args a stands e others =
         one_truth to _ args a stands BoolType (λ x. BoolVal (not x)) (λ x. truth_word (not x)) refl refl (λ x. refl) same_negation (λ x. char_fits (not x)) others
     number_arrives (prim.Bool bool.Str) to args a stands e others = absurd (cc)
-    number_arrives (prim.Str str.Literal) to args a stands e others = absurd (cc)
+    number_arrives (prim.Tagged q) to args a stands e others = absurd (cc)
+    number_arrives (prim.Str q) to args a stands e others = absurd (cc)
     number_arrives (prim.Int64 int64.FloorDivide) to args a stands e others = absurd (cc)
     number_arrives (prim.Int64 int64.Remainder) to args a stands e others = absurd (cc)
     number_arrives (prim.Int64 int64.Lshift) to args a stands e others = absurd (cc)
@@ -360,4 +359,4 @@ module _ (b : Bool) (p : Program) (prints : PrintsOrFails p) (known : Facts p) (
     number_arrives (prim.Global q) to args a stands e others = absurd (cc)
     number_arrives (prim.Exc q) to args a stands e others = absurd (cc)
     number_arrives (prim.Err q) to args a stands e others = absurd (cc)
-    number_arrives (prim.Io io.Write) to args a stands e others = absurd (cc)
+    number_arrives (prim.Io q) to args a stands e others = absurd (cc)

@@ -2,7 +2,7 @@
 -- and given up in a row, in registers of their own, and what other registers and the globals hold is counted nowhere: numbers,
 -- truths, None and error values. Beside what computes it may have operations that fail, reads and writes of globals, and tests
 -- for error values and for an exception.
-use Rattle.std.specs.Prelude.{◌≡◌, ℕ, Bool, true, false, List, [], ◌∷◌, length, Some, None, slice_get}
+use Rattle.std.specs.Prelude.{◌≡◌, ℕ, Bool, true, List, [], ◌∷◌, length, Some, None, slice_get}
 use Rattle.c_core.specs.declared.primitive.Primitive.{Primitive}
 use Rattle.c_core.specs.declared.primitive.Primitive.TheVariants as prim
 use Rattle.c_core.specs.declared.primitive.IoPrim.TheVariants as io

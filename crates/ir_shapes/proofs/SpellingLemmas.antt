@@ -16,6 +16,7 @@ use Rattle.c_core.specs.declared.primitive.Primitive.TheVariants as prim
 use Rattle.c_core.specs.declared.primitive.Int64Prim.TheVariants as int64
 use Rattle.c_core.specs.declared.primitive.BoolPrim.TheVariants as bool
 use Rattle.c_core.specs.declared.primitive.StrPrim.TheVariants as str
+use Rattle.c_core.specs.declared.primitive.TaggedPrim.TheVariants as tagged
 use Rattle.c_core.specs.declared.primitive.GlobalPrim.TheVariants as global
 use Rattle.c_core.specs.declared.primitive.ExcPrim.TheVariants as exc
 use Rattle.c_core.specs.declared.primitive.ErrPrim.TheVariants as err
@@ -221,3 +222,26 @@ primitive_spelled (prim.Err err.Occurred) = word_spelled 69 _ refl refl
 primitive_spelled (prim.Err err.Matches) = word_spelled 69 _ refl refl
 primitive_spelled (prim.Err err.Catch) = word_spelled 69 _ refl refl
 primitive_spelled (prim.Io io.Write) = word_spelled 95 _ refl refl
+primitive_spelled (prim.Tagged tagged.Add) = word_spelled 84 _ refl refl
+primitive_spelled (prim.Tagged tagged.Subtract) = word_spelled 84 _ refl refl
+primitive_spelled (prim.Tagged tagged.Multiply) = word_spelled 84 _ refl refl
+primitive_spelled (prim.Tagged tagged.Negate) = word_spelled 84 _ refl refl
+primitive_spelled (prim.Tagged tagged.FloorDivide) = word_spelled 84 _ refl refl
+primitive_spelled (prim.Tagged tagged.Remainder) = word_spelled 84 _ refl refl
+primitive_spelled (prim.Tagged tagged.Lshift) = word_spelled 84 _ refl refl
+primitive_spelled (prim.Tagged tagged.Rshift) = word_spelled 84 _ refl refl
+primitive_spelled (prim.Tagged tagged.FromText) = word_spelled 84 _ refl refl
+primitive_spelled (prim.Tagged tagged.FromInt64) = word_spelled 84 _ refl refl
+primitive_spelled (prim.Tagged tagged.FromBool) = word_spelled 84 _ refl refl
+primitive_spelled (prim.Tagged tagged.AsInt64) = word_spelled 84 _ refl refl
+primitive_spelled (prim.Tagged tagged.Eq) = word_spelled 84 _ refl refl
+primitive_spelled (prim.Tagged tagged.Lt) = word_spelled 84 _ refl refl
+primitive_spelled (prim.Tagged tagged.Le) = word_spelled 84 _ refl refl
+primitive_spelled (prim.Tagged tagged.Str) = word_spelled 84 _ refl refl
+primitive_spelled (prim.Str str.Concat) = word_spelled 83 _ refl refl
+primitive_spelled (prim.Str str.Eq) = word_spelled 83 _ refl refl
+primitive_spelled (prim.Str str.Lt) = word_spelled 83 _ refl refl
+primitive_spelled (prim.Str str.Le) = word_spelled 83 _ refl refl
+primitive_spelled (prim.Str str.Len) = word_spelled 83 _ refl refl
+primitive_spelled (prim.Str str.GetItem) = word_spelled 83 _ refl refl
+primitive_spelled (prim.Io io.Input) = word_spelled 95 _ refl refl

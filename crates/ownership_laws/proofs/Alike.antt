@@ -3,7 +3,8 @@ use Rattle.std.proofs.Common.{◌≡◌, refl, sym, ap, subst, ◌∙◌, ℕ, z
 use Rattle.std.specs.Prelude.{slice_get}
 use Rattle.std.specs.Option.{option_and_then}
 use Rattle.value_core.specs.Ending.{Ending, Done, Raised}
-use Rattle.value_core.specs.Exceptions.{class_named}
+use Rattle.value_core.specs.Exceptions.{Thrown, class_named}
+use Rattle.value_core.specs.Items.{Items}
 use Rattle.c_core.specs.declared.code.Kind.{Kind}
 use Rattle.c_core.specs.declared.code.CArg.{CArg}
 use Rattle.c_core.specs.declared.code.CArg.TheVariants as arg
@@ -18,12 +19,12 @@ use Rattle.c_core.specs.declared.primitive.ErrPrim.TheVariants as err
 use Rattle.c_core.specs.Cells.{Cells, times, content_at, take_one, make}
 use Rattle.c_core.specs.Ledgers.{Ledger, more, more_of, without}
 use Rattle.c_core.specs.Release.{release}
-use Rattle.c_core.specs.Machine.{Word, ShortInt, BigInt, TaggedError, CharWord, ObjectCell, NoneObject, TrueObject, FalseObject, NoObject, Content, ExcCell, refs_of, set_refs, refs_in, Frame, MachineState}
+use Rattle.c_core.specs.Machine.{Word, ShortInt, BigInt, TaggedError, CharWord, ObjectCell, NoneObject, TrueObject, FalseObject, NoObject, Content, IntCell, StrCell, ExcCell, refs_of, set_refs, refs_in, Frame, MachineState}
 use Rattle.c_core.specs.Holders.{pending_refs}
 use Rattle.c_core.specs.Functions.{function_named, parameter_kinds}
 use Rattle.c_core.specs.Primitives.{Holding, Parameter, Borrows, Steals, TakesNumber, TakesText, TakesException, TakesGlobal, TakesClass, row_of, primitive_named}
 use Rattle.c_core.specs.Arguments.{Argument, Cell, Plain, Written, is_value_of, is_holding, kind_found, stolen}
-use Rattle.c_core.specs.Step.{Faulted, Next, Goes, Ends, Effect, Wrong, Says, Shares, Makes, Writes, Stores, Fails, Pends, Catches, exception_in, matched, effect, with_cells, with_ledger, with_var, with_target, next_line, own, shared, literal_word, equals_error, is_error, is_both, kind_of, label_at, line_at, if_some, if_calm, if_content, if_any, if_taken, given, word_of, if_true, if_there, if_variable, if_stolen, if_argument, if_arguments, made_cell, applied, if_may_stand, called, call_step, if_passed, function_called, jumped, chosen, turned, taken, incremented, given_up, decremented, decremented_if_set, if_in_order, if_result, if_none_left, if_thrown, if_ended, if_return, step_at, step, unchecked_step}
+use Rattle.c_core.specs.Step.{Faulted, Next, Goes, Ends, Effect, Wrong, Says, Shares, Makes, Writes, Stores, Fails, Pends, Catches, MakesInt, Reads, Skips, Stops, exception_in, matched, effect, with_cells, with_ledger, with_items, with_var, with_target, next_line, own, shared, raise, literal_word, equals_error, is_error, is_both, kind_of, label_at, line_at, if_some, if_calm, if_content, if_any, if_taken, given, word_of, if_true, if_there, if_variable, if_stolen, if_argument, if_arguments, applied, if_may_stand, called, call_step, if_passed, function_called, jumped, chosen, turned, taken, incremented, given_up, decremented, decremented_if_set, if_in_order, if_result, if_none_left, if_thrown, if_ended, if_return, step_at, step, unchecked_step}
 use Rattle.c_core.specs.Laws.{IsCounted}
 use Rattle.c_core.proofs.CountLemmas.{same_self, there}
 use Rattle.ownership_laws.specs.Alike.{with_ledgers, loose, HoldsMore, IsLike, Alike}
@@ -135,7 +136,7 @@ module _ (s : MachineState) (ok : IsCounted s) (h : Cells Content) (l : Ledger) 
       (λ y b d. like_arguments code ps rest (earlier ++ y ∷ []) b d (λ others. go (y ∷ others)) (λ others. other (y ∷ others)) (λ all e f. same (y ∷ all) e f))
   like_arguments code _ _ earlier r q go other same = like_fault fault.Kind
 
-  -- ---- what a primitive does hangs on the state only by its globals and its pending exception
+  -- ---- what a primitive does hangs on the state only by its globals, its pending exception and its input
   pending_at : (o : Option ℕ) → s.pending ≡ o → option_and_then exception_in (option_and_then (content_at h) o) ≡ option_and_then exception_in (option_and_then (content_at s.cells) o)
   pending_at None e = refl
   pending_at (Some c) e =
@@ -150,6 +151,7 @@ module _ (s : MachineState) (ok : IsCounted s) (h : Cells Content) (l : Ledger) 
   local code (prim.Err err.Occurred) all = refl
   local code (prim.Err err.Catch) all = refl
   local code (prim.Int64 p) all = refl
+  local code (prim.Tagged p) all = refl
   local code (prim.Bool p) all = refl
   local code (prim.Str p) all = refl
   local code (prim.Global p) all = refl
@@ -163,31 +165,40 @@ module _ (s : MachineState) (ok : IsCounted s) (h : Cells Content) (l : Ledger) 
       like_target x (ObjectCell c) _ _ (record { cells = take_one c h; ledger = more c q; ledgers = ls; is = refl; more = taken_more s.cells h m c })
   like_shared x w r q = like_target x w _ _ (with_one q _ _ refl m)
 
-  like_made : (x : Option ℕ) (content : Content) (r q : Ledger) → IsLike (next_line (made_cell true s x content (with_ledger r s))) (next_line (made_cell false u x content (with_ledger q u)))
-  like_made x content r q =
-      subst (λ n. IsLike (next_line (made_cell true s x content (with_ledger r s))) (next_line (with_target x (ObjectCell n) (own (length h) (with_cells (make content h) (with_ledger q u)))))) m.size
-      (like_target x (ObjectCell (length s.cells)) (own (length s.cells) (with_cells (make content s.cells) (with_ledger r s))) (own (length h) (with_cells (make content h) (with_ledger q u)))
+  -- a new cell, to which the target refers by its number
+  like_made : (x : Option ℕ) (word : ℕ → Word) (content : Content) (next : Items) (r q : Ledger) → IsLike (next_line (with_target x (word (length s.cells)) (own (length s.cells) (with_cells (make content s.cells) (with_items next (with_ledger r s)))))) (next_line (with_target x (word (length h)) (own (length h) (with_cells (make content h) (with_items next (with_ledger q u))))))
+  like_made x word content next r q =
+      subst (λ n. IsLike (next_line (with_target x (word (length s.cells)) (own (length s.cells) (with_cells (make content s.cells) (with_items next (with_ledger r s)))))) (next_line (with_target x (word n) (own (length h) (with_cells (make content h) (with_items next (with_ledger q u))))))) m.size
+      (like_target x (word (length s.cells)) (own (length s.cells) (with_cells (make content s.cells) (with_items next (with_ledger r s)))) (own (length h) (with_cells (make content h) (with_items next (with_ledger q u))))
       (record { cells = make content h; ledger = more (length h) q; ledgers = ls; is = refl; more = made_more s.cells h m content }))
 
-  like_applied : (x : Option ℕ) (gone : List ℕ) (r q : Ledger) (e : Effect) → Alike (applied true s x r gone e) (applied false u x q gone e)
-  like_applied x gone r q Wrong = like_fault fault.Kind
-  like_applied x gone r q (Says w) = like_target x w _ _ (with_one q _ _ refl (given_more s.cells h m gone))
-  like_applied x gone r q (Shares w) = like_shared x w r q
-  like_applied x gone r q (Makes content) = like_made x content r q
-  like_applied x gone r q (Writes text) = with_one q _ _ refl (given_more s.cells h m gone)
-  like_applied x gone r q (Stores n old new) = with_one q _ _ refl (given_more s.cells h m (set_refs (old ∷ [])))
-  like_applied x gone r q (Fails w e) =
+  -- a new exception is pending, and what was stolen is given up
+  like_failed : (x : Option ℕ) (w : Word) (e : Thrown) (gone : List ℕ) (next : Items) (r q : Ledger) → IsLike (next_line (with_target x w (raise e (given true s gone (with_items next (with_ledger r s)))))) (next_line (with_target x w (raise e (given false u gone (with_items next (with_ledger q u))))))
+  like_failed x w e gone next r q =
       let rest = given_more s.cells h m gone in
       like_target x w _ _ (record {
         cells = make (ExcCell e) h;
         ledger = q;
         ledgers = ls;
-        is = ap (λ n. record (with_cells (make (ExcCell e) h) (with_ledger q u)) { pending = Some n }) (sym rest.size);
+        is = ap (λ n. record (with_cells (make (ExcCell e) h) (with_items next (with_ledger q u))) { pending = Some n }) (sym rest.size);
         more = made_more (release refs_in s.cells gone) h rest (ExcCell e);
       })
+
+  like_applied : (x : Option ℕ) (gone : List ℕ) (r q : Ledger) (e : Effect) → Alike (applied true s x r gone e) (applied false u x q gone e)
+  like_applied x gone r q Wrong = like_fault fault.Kind
+  like_applied x gone r q (Says w) = like_target x w _ _ (with_one q _ _ refl (given_more s.cells h m gone))
+  like_applied x gone r q (Shares w) = like_shared x w r q
+  like_applied x gone r q (Makes content) = like_made x ObjectCell content s.items r q
+  like_applied x gone r q (Writes text) = with_one q _ _ refl (given_more s.cells h m gone)
+  like_applied x gone r q (Stores n old new) = with_one q _ _ refl (given_more s.cells h m (set_refs (old ∷ [])))
+  like_applied x gone r q (Fails w e) = like_failed x w e gone s.items r q
   like_applied x gone r q (Pends c) = with_one q _ _ refl m
   like_applied x gone r q (Catches c) =
       like_target x (ObjectCell c) _ _ (with_one (more c q) _ _ refl m)
+  like_applied x gone r q (MakesInt n) = like_made x BigInt (IntCell n) s.items r q
+  like_applied x gone r q (Reads text next) = like_made x ObjectCell (StrCell text) next r q
+  like_applied x gone r q (Skips next w e) = like_failed x w e gone next r q
+  like_applied x gone r q (Stops e) = inl (refl, here)
 
   like_may_stand : (b : Bool) (go other : Next) → Alike go other → Alike (if_may_stand true s b go) (if_may_stand false u b other)
   like_may_stand true go other k = k

@@ -1,15 +1,20 @@
 -- What a primitive may write into its target and into the globals.
 use Rattle.std.proofs.Common.{◌≡◌, refl, sym, ap, subst, ◌∙◌, ℕ, zero, suc, Bool, true, false, cond, List, [], ◌∷◌, length, Option, Some, None}
-use Rattle.std.specs.Prelude.{not, int_lt, nat_lt, ◌==◌, ℤ, slice_get, slice_set, is_some, find, Result, Ok, Err}
+use Rattle.std.specs.Prelude.{not, ◌&&◌, int_lt, nat_lt, ◌==◌, ℤ, pos, slice_get, slice_set, is_some, find, Result, Ok, Err}
+use Rattle.std.specs.Fmt.{signed_decimal}
 use Rattle.std.specs.List.{position, position_or_len}
 use Rattle.std.specs.Ordering.{int_eq}
 use Rattle.std.specs.Option.{option_and_then, option_map}
 use Rattle.std.specs.Str.{bytes_eq}
+use Rattle.std.specs.Str.Parse.{signed_digits_value}
 use Rattle.std.proofs.lemmas.List.Folds.{find_at}
 use Rattle.value_core.specs.declared.arith.Arith.{Arith}
 use Rattle.value_core.specs.declared.exception.ExcClass.{ExcClass}
-use Rattle.value_core.specs.Arithmetic.{i64_floor_div, i64_modulo, i64_shl, i64_shr}
+use Rattle.value_core.specs.Arithmetic.{lies_within, is_short, int_add, int_sub, int_mul, int_neg, int_floor_div, int_modulo, int_shl, int_shr, int_to_i64, i64_floor_div, i64_modulo, i64_shl, i64_shr}
+use Rattle.value_core.specs.Ending.{Ending, Done, Raised, Cut, Over, Broken}
 use Rattle.value_core.specs.Exceptions.{Thrown, class_named, is_under}
+use Rattle.value_core.specs.Items as item
+use Rattle.value_core.specs.Items.{Items}
 use Rattle.c_core.specs.declared.code.CArg.{CArg}
 use Rattle.c_core.specs.declared.code.CArg.TheVariants as arg
 use Rattle.c_core.specs.declared.code.Kind.{Kind}
@@ -18,6 +23,7 @@ use Rattle.c_core.specs.declared.code.Code.{Code}
 use Rattle.c_core.specs.declared.primitive.Primitive.{Primitive}
 use Rattle.c_core.specs.declared.primitive.Primitive.TheVariants as prim
 use Rattle.c_core.specs.declared.primitive.Int64Prim.TheVariants as int64
+use Rattle.c_core.specs.declared.primitive.TaggedPrim.TheVariants as tagged
 use Rattle.c_core.specs.declared.primitive.BoolPrim.TheVariants as bool
 use Rattle.c_core.specs.declared.primitive.StrPrim.TheVariants as str
 use Rattle.c_core.specs.declared.primitive.GlobalPrim.TheVariants as global
@@ -27,15 +33,24 @@ use Rattle.c_core.specs.declared.primitive.IoPrim.TheVariants as io
 use Rattle.c_core.specs.Machine.{Word, ShortInt, BigInt, TaggedError, Native, CharWord, ObjectCell, NoneObject, TrueObject, FalseObject, NoObject, StrCell, ExcCell, MachineState}
 use Rattle.c_core.specs.Functions.{error_word}
 use Rattle.c_core.specs.Primitives.{OfGlobal, Outcome, Nothing, Owned, row_of}
-use Rattle.c_core.specs.Arguments.{Argument, Cell, Plain, Written, kind_of_global, number_of_global, word_in}
-use Rattle.c_core.specs.Step.{Effect, Wrong, Says, Shares, Makes, Writes, Stores, Fails, Pends, Catches, truth_word, native_or, global_at, got, stored, set_to, made_exception, pending_exception, matched, caught, effect}
+use Rattle.c_core.specs.Arguments.{Argument, Cell, Plain, Written, int_in, kind_of_global, number_of_global, word_in}
+use Rattle.c_core.specs.Step.{Effect, Wrong, Says, Shares, Makes, Writes, Stores, Fails, Pends, Catches, MakesInt, Reads, Skips, Stops, truth_word, native_or, tagged_effect, tagged_or, fitted, written_int, of_int, of_ints, item_or, line_read, global_at, got, stored, set_to, made_exception, pending_exception, matched, caught, effect}
+use Rattle.c_core.specs.Strings.{text_less, text_length, text_item}
 use Rattle.c_core.specs.WellFormed.{kind_at, named_kind}
 use Rattle.ownership_laws.specs.Shares.{has_cells, may_have_cells, answers_cells}
 use Rattle.ownership_laws.specs.Frames.{IsBare, GlobalsBare}
 
+-- an ending that a primitive may bring: reading the input failed, or it would go too far along
+abbrev pub IsByInput : Ending → Type 0
+IsByInput Done = ⊥
+IsByInput (Raised e) = ⊥
+IsByInput Cut = ⊥
+IsByInput Over = Unit {0}
+IsByInput Broken = Unit {0}
+
 -- Where a row has this outcome, and b says whether what it answers may have a cell: an answer that the frame owns may have one only
 -- if b allows it, an effect that does not write the target is one of a row without an answer, and the globals of numbers keep
--- having no cell.
+-- having no cell; and what ends the run does so by the input.
 abbrev pub Tame : Code → List (Option Word) → Outcome → Bool → Effect → Type 0
 Tame code gs o b Wrong = Unit {0}
 Tame code gs o b (Says w) = IsBare w
@@ -46,6 +61,10 @@ Tame code gs o b (Stores n old new) = (o ≡ Nothing) × GlobalsBare code (slice
 Tame code gs o b (Fails w e) = IsBare w
 Tame code gs o b (Pends c) = o ≡ Nothing
 Tame code gs o b (Catches c) = b ≡ true
+Tame code gs o b (MakesInt n) = b ≡ true
+Tame code gs o b (Reads text next) = b ≡ true
+Tame code gs o b (Skips next w e) = IsBare w
+Tame code gs o b (Stops e) = IsByInput e
 
 -- what is written in a call comes to the primitive as it is
 abbrev pub IsAsWritten : CArg → Argument → Type 0
@@ -140,6 +159,53 @@ native_tame : (code : Code) (gs : List (Option Word)) (o : Outcome) (b : Bool) (
 native_tame code gs o b (Ok n) = λ c. refl
 native_tame code gs o b (Err f) = λ c. refl
 
+choice_tame : (code : Code) (gs : List (Option Word)) (o : Outcome) (b t : Bool) (e f : Effect) → Tame code gs o b e → Tame code gs o b f → Tame code gs o b (cond t e f)
+choice_tame code gs o b true e f first second = first
+choice_tame code gs o b false e f first second = second
+
+number_tame : (code : Code) (gs : List (Option Word)) (o : Outcome) (n : ℤ) → Tame code gs o true (tagged_effect n)
+number_tame code gs o n = choice_tame code gs o true (is_short n) _ _ (λ c. refl) refl
+
+tagged_tame : (code : Code) (gs : List (Option Word)) (o : Outcome) (r : Result ℤ Arith) → Tame code gs o true (tagged_or r)
+tagged_tame code gs o (Ok n) = number_tame code gs o n
+tagged_tame code gs o (Err f) = λ c. refl
+
+fitted_tame : (code : Code) (gs : List (Option Word)) (o : Outcome) (b : Bool) (r : Result ℤ Arith) → Tame code gs o b (fitted r)
+fitted_tame code gs o b (Ok n) = λ c. refl
+fitted_tame code gs o b (Err f) = λ c. refl
+
+written_tame : (code : Code) (gs : List (Option Word)) (o : Outcome) (text : List ℕ) (n : ℤ) → Tame code gs o true (written_int text n)
+written_tame code gs o text n =
+    choice_tame code gs o true (bytes_eq (signed_decimal n) text && (lies_within 127 n && not (is_short n))) (MakesInt n) Wrong refl tt
+
+of_int_tame : (code : Code) (gs : List (Option Word)) (o : Outcome) (b : Bool) (f : ℤ → Effect) (i : Option ℤ) → ((n : ℤ) → Tame code gs o b (f n)) → Tame code gs o b (of_int f i)
+of_int_tame code gs o b f None each = tt
+of_int_tame code gs o b f (Some n) each = each n
+
+of_ints_tame : (code : Code) (gs : List (Option Word)) (o : Outcome) (b : Bool) (f : ℤ → ℤ → Effect) (i j : Option ℤ) → ((m n : ℤ) → Tame code gs o b (f m n)) → Tame code gs o b (of_ints f i j)
+of_ints_tame code gs o b f i j each =
+    of_int_tame code gs o b _ i (λ m. of_int_tame code gs o b (f m) j (each m))
+
+-- arithmetic, and comparisons
+sum_tame : (code : Code) (gs : List (Option Word)) (o : Outcome) (f : ℤ → ℤ → Result ℤ Arith) (x y : Argument) → Tame code gs o true (of_ints (λ m n. tagged_or (f m n)) (int_in x) (int_in y))
+sum_tame code gs o f x y =
+    of_ints_tame code gs o true _ (int_in x) (int_in y) (λ m n. tagged_tame code gs o (f m n))
+
+test_tame : (code : Code) (gs : List (Option Word)) (o : Outcome) (b : Bool) (f : ℤ → ℤ → Bool) (x y : Argument) → Tame code gs o b (of_ints (λ m n. Says (truth_word (f m n))) (int_in x) (int_in y))
+test_tame code gs o b f x y =
+    of_ints_tame code gs o b _ (int_in x) (int_in y) (λ m n. truth_bare (f m n))
+
+item_tame : (code : Code) (gs : List (Option Word)) (o : Outcome) (i : Option (List ℕ)) → Tame code gs o true (item_or i)
+item_tame code gs o None = λ c. refl
+item_tame code gs o (Some text) = refl
+
+line_tame : (code : Code) (gs : List (Option Word)) (o : Outcome) (items : Items) → Tame code gs o true (line_read items)
+line_tame code gs o item.Eof = λ c. refl
+line_tame code gs o item.Broken = tt
+line_tame code gs o item.Over = tt
+line_tame code gs o (item.Line text next) = refl
+line_tame code gs o (item.Bad next) = λ c. refl
+
 made_tame : (code : Code) (gs : List (Option Word)) (o : Outcome) (class : Option ExcClass) (text : List ℕ) → Tame code gs o true (made_exception class text)
 made_tame code gs o None text = tt
 made_tame code gs o (Some class) text = refl
@@ -167,9 +233,32 @@ tame code s (prim.Int64 int64.Eq) args (Plain (Native a) ∷ Plain (Native b) �
 tame code s (prim.Int64 int64.Lt) args (Plain (Native a) ∷ Plain (Native b) ∷ []) bare w = truth_bare (int_lt a b)
 tame code s (prim.Int64 int64.Le) args (Plain (Native a) ∷ Plain (Native b) ∷ []) bare w = truth_bare (not (int_lt b a))
 tame code s (prim.Int64 int64.Str) args (Plain (Native a) ∷ []) bare w = refl
+tame code s (prim.Tagged tagged.Add) args (x ∷ y ∷ []) bare w = sum_tame code s.globals _ int_add x y
+tame code s (prim.Tagged tagged.Subtract) args (x ∷ y ∷ []) bare w = sum_tame code s.globals _ int_sub x y
+tame code s (prim.Tagged tagged.Multiply) args (x ∷ y ∷ []) bare w = sum_tame code s.globals _ int_mul x y
+tame code s (prim.Tagged tagged.Negate) args (x ∷ []) bare w = of_int_tame code s.globals _ _ _ (int_in x) (λ n. tagged_tame code s.globals _ (int_neg n))
+tame code s (prim.Tagged tagged.FloorDivide) args (x ∷ y ∷ []) bare w = sum_tame code s.globals _ int_floor_div x y
+tame code s (prim.Tagged tagged.Remainder) args (x ∷ y ∷ []) bare w = sum_tame code s.globals _ int_modulo x y
+tame code s (prim.Tagged tagged.Lshift) args (x ∷ y ∷ []) bare w = sum_tame code s.globals _ int_shl x y
+tame code s (prim.Tagged tagged.Rshift) args (x ∷ y ∷ []) bare w = sum_tame code s.globals _ int_shr x y
+tame code s (prim.Tagged tagged.FromText) args (Written (arg.Text text) ∷ []) bare w = written_tame code s.globals _ text (signed_digits_value 10 text)
+tame code s (prim.Tagged tagged.FromInt64) args (Plain (Native n) ∷ []) bare w = number_tame code s.globals _ n
+tame code s (prim.Tagged tagged.FromBool) args (Plain (CharWord n) ∷ []) bare w = number_tame code s.globals _ (pos n)
+tame code s (prim.Tagged tagged.AsInt64) args (x ∷ []) bare w = of_int_tame code s.globals _ _ _ (int_in x) (λ n. fitted_tame code s.globals _ _ (int_to_i64 n))
+tame code s (prim.Tagged tagged.Eq) args (x ∷ y ∷ []) bare w = test_tame code s.globals _ _ int_eq x y
+tame code s (prim.Tagged tagged.Lt) args (x ∷ y ∷ []) bare w = test_tame code s.globals _ _ int_lt x y
+tame code s (prim.Tagged tagged.Le) args (x ∷ y ∷ []) bare w = test_tame code s.globals _ _ (λ m n. not (int_lt n m)) x y
+tame code s (prim.Tagged tagged.Str) args (x ∷ []) bare w = of_int_tame code s.globals _ _ _ (int_in x) (λ n. refl)
 tame code s (prim.Bool bool.Not) args (Plain (CharWord n) ∷ []) bare w = truth_bare (n == 0)
 tame code s (prim.Bool bool.Str) args (Plain (CharWord n) ∷ []) bare w = refl
 tame code s (prim.Str str.Literal) args (Written (arg.Text text) ∷ []) bare w = refl
+tame code s (prim.Str str.Concat) args (Cell c (StrCell a) ∷ Cell d (StrCell b) ∷ []) bare w = refl
+tame code s (prim.Str str.Eq) args (Cell c (StrCell a) ∷ Cell d (StrCell b) ∷ []) bare w = truth_bare (bytes_eq a b)
+tame code s (prim.Str str.Lt) args (Cell c (StrCell a) ∷ Cell d (StrCell b) ∷ []) bare w = truth_bare (text_less a b)
+tame code s (prim.Str str.Le) args (Cell c (StrCell a) ∷ Cell d (StrCell b) ∷ []) bare w = truth_bare (not (text_less b a))
+tame code s (prim.Str str.Len) args (Cell c (StrCell text) ∷ []) bare w = number_tame code s.globals _ (text_length text)
+tame code s (prim.Str str.GetItem) args (Cell c (StrCell text) ∷ x ∷ []) bare w =
+    of_int_tame code s.globals _ _ _ (int_in x) (λ i. item_tame code s.globals _ (text_item text i))
 tame code s (prim.Global global.Get) args (Written (arg.Global name) ∷ []) bare w = get_tame code s args name bare w
 tame code s (prim.Global global.Set) args (Written (arg.Global name) ∷ a ∷ []) bare w =
     set_tame code s.globals (number_of_global code name) (global_at code s name) (kind_of_global code name) a bare (kind_found code name) _ refl
@@ -183,4 +272,51 @@ tame code s (prim.Err err.Occurred) args [] bare w = truth_bare (is_some s.pendi
 tame code s (prim.Err err.Matches) args (Written (arg.Text name) ∷ []) bare w = matched_tame code s.globals _ _ (class_named name) (pending_exception s)
 tame code s (prim.Err err.Catch) args [] bare w = caught_tame code s.globals _ s.pending
 tame code s (prim.Io io.Write) args (Cell c (StrCell text) ∷ []) bare w = refl
+tame code s (prim.Io io.Input) args [] bare w = line_tame code s.globals _ s.items
 tame code s _ args _ bare w = tt
+
+-- ---- a primitive that ends the run does so by the input, whatever the globals hold
+abbrev pub StopsByInput : Effect → Type 0
+StopsByInput (Stops e) = IsByInput e
+StopsByInput _ = Unit {0}
+
+tame_stops : (code : Code) (gs : List (Option Word)) (o : Outcome) (b : Bool) (e : Effect) → Tame code gs o b e → StopsByInput e
+tame_stops code gs o b (Stops e) t = t
+tame_stops code gs o b _ t = tt
+
+got_stops : (name : List ℕ) (k : Option Kind) (o : Option (Option Word)) → StopsByInput (got name k o)
+got_stops name (Some k) (Some (Some w)) = tt
+got_stops name (Some k) (Some None) = tt
+got_stops name _ _ = tt
+
+stored_stops : (n : Option ℕ) (o : Option (Option Word)) (new : Option Word) → StopsByInput (stored n o new)
+stored_stops (Some n) (Some old) new = tt
+stored_stops _ _ new = tt
+
+set_stops : (n : Option ℕ) (o : Option (Option Word)) (new : Option Word) → StopsByInput (set_to n o new)
+set_stops n o None = tt
+set_stops n o (Some w) = stored_stops n o (Some w)
+
+module _ (code : Code) (s : MachineState) where
+  abbrev without_globals : MachineState
+  without_globals = record s { globals = [] }
+
+  of_tame : (p : Primitive) (all : List Argument) → StopsByInput (effect code without_globals p all)
+  of_tame p all =
+      tame_stops code [] _ _ (effect code without_globals p all) (tame code without_globals p [] all (λ m w number at. cc) tt)
+
+  pub stops_by_input : (p : Primitive) (all : List Argument) → StopsByInput (effect code s p all)
+  stops_by_input (prim.Global global.Get) (Written (arg.Global name) ∷ []) =
+      got_stops name (kind_of_global code name) (global_at code s name)
+  stops_by_input (prim.Global global.Set) (Written (arg.Global name) ∷ a ∷ []) =
+      set_stops (number_of_global code name) (global_at code s name) (option_and_then (λ k. word_in k a) (kind_of_global code name))
+  stops_by_input (prim.Global global.Clear) (Written (arg.Global name) ∷ []) =
+      stored_stops (number_of_global code name) (global_at code s name) None
+  stops_by_input (prim.Global q) _ = tt
+  stops_by_input (prim.Int64 q) all = of_tame (prim.Int64 q) all
+  stops_by_input (prim.Tagged q) all = of_tame (prim.Tagged q) all
+  stops_by_input (prim.Bool q) all = of_tame (prim.Bool q) all
+  stops_by_input (prim.Str q) all = of_tame (prim.Str q) all
+  stops_by_input (prim.Exc q) all = of_tame (prim.Exc q) all
+  stops_by_input (prim.Err q) all = of_tame (prim.Err q) all
+  stops_by_input (prim.Io q) all = of_tame (prim.Io q) all

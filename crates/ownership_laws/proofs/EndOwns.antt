@@ -1,7 +1,7 @@
 -- Where a run ends as a program does, no ledger is left.
 use Rattle.std.proofs.Common.{◌≡◌, refl, ap, subst, ℕ, zero, suc, true, cond, List, [], ◌∷◌, Option, Some, None, arith}
 use Rattle.std.specs.Option.{option_and_then}
-use Rattle.value_core.specs.Ending.{Ending, Done, Raised}
+use Rattle.value_core.specs.Ending.{Ending, Done, Raised, Cut, Over, Broken}
 use Rattle.c_core.specs.declared.code.CArg.{CArg}
 use Rattle.c_core.specs.declared.code.Line.{Line}
 use Rattle.c_core.specs.declared.code.Line.TheVariants.{Label, Move, Lit, Call, Goto, If, IfError, Turn, Return, Inc, Dec, XDec}
@@ -16,11 +16,12 @@ use Rattle.c_core.specs.Holders.{owned, owned_below}
 use Rattle.c_core.specs.Functions.{function_named}
 use Rattle.c_core.specs.Primitives.{row_of, primitive_named}
 use Rattle.c_core.specs.Arguments.{stolen}
-use Rattle.c_core.specs.Step.{MachineEnding, Ended, Faulted, Next, Goes, Ends, Effect, Wrong, Says, Shares, Makes, Writes, Stores, Fails, Pends, Catches, effect, literal_word, equals_error, kind_of, label_at, applied, call_step, turned, if_return, if_result, if_none_left, if_thrown, if_ended, step_at, line_at, step}
+use Rattle.c_core.specs.Step.{MachineEnding, Ended, Faulted, Next, Goes, Ends, Effect, Stops, effect, literal_word, equals_error, kind_of, label_at, applied, call_step, turned, if_return, if_result, if_none_left, if_thrown, if_ended, step_at, line_at, step}
 use Rattle.c_core.specs.Run.{Stop, go_on, start, most_steps}
 use Rattle.c_core.proofs.KeepsCounts.{run_keeps_counts}
 use Rattle.c_core.proofs.StepCases.{at_some, at_calm, at_content, at_word, at_there, at_called, at_function, at_jumped, at_chosen, at_incremented, at_decremented, at_decremented_if_set, at_order, at_result}
 use Rattle.ownership_laws.specs.Laws.{IsFinished, EndOwnsNothing}
+use Rattle.ownership_laws.proofs.Effects.{StopsByInput, stops_by_input}
 
 -- a step that ends a run as a program ends leaves no ledger
 abbrev Left : Next → Type 0
@@ -33,16 +34,13 @@ module _ (s : MachineState) where
   bad : (f : Fault) → Left (Ends (Faulted f) s)
   bad f = tt
 
-  applied_left : (x : Option ℕ) (l : Ledger) (gone : List ℕ) (e : Effect) → Left (applied true s x l gone e)
-  applied_left x l gone Wrong = tt
-  applied_left x l gone (Says w) = tt
-  applied_left x l gone (Makes content) = tt
-  applied_left x l gone (Writes text) = tt
-  applied_left x l gone (Shares w) = tt
-  applied_left x l gone (Stores n old new) = tt
-  applied_left x l gone (Fails w e) = tt
-  applied_left x l gone (Pends c) = tt
-  applied_left x l gone (Catches c) = tt
+  applied_left : (x : Option ℕ) (l : Ledger) (gone : List ℕ) (e : Effect) → StopsByInput e → Left (applied true s x l gone e)
+  applied_left x l gone (Stops Done) h = absurd h
+  applied_left x l gone (Stops (Raised e)) h = absurd h
+  applied_left x l gone (Stops Cut) h = tt
+  applied_left x l gone (Stops Over) h = tt
+  applied_left x l gone (Stops Broken) h = tt
+  applied_left x l gone _ h = tt
 
   turned_left : (n : ℕ) → Left (turned true s n)
   turned_left zero = tt
@@ -71,7 +69,7 @@ module _ (s : MachineState) where
   call_left : (code : Code) (x : Option ℕ) (name : List ℕ) (args : List CArg) (o : Option Primitive) → Left (call_step true s code x name args o)
   call_left code x name args (Some p) =
       at_called s Left bad code x args p
-      (λ calm all l left. applied_left x l (stolen (row_of p).parameters all) (effect code s p all))
+      (λ calm all l left. applied_left x l (stolen (row_of p).parameters all) (effect code s p all) (stops_by_input code s p all))
   call_left code x name args None =
       at_function s Left bad code x args (function_named code.funcs name) (λ f g e is ws. tt)
 

@@ -3,6 +3,8 @@ use Rattle.std.proofs.Common.{◌≡◌, refl, sym, ap, subst, ◌∙◌, ℕ, z
 use Rattle.std.specs.Prelude.{drop, slice_get, slice_set}
 use Rattle.std.specs.Option.{option_and_then}
 use Rattle.value_core.specs.Ending.{Ending, Done, Raised, Cut}
+use Rattle.value_core.specs.Exceptions.{Thrown}
+use Rattle.value_core.specs.Items.{Items}
 use Rattle.c_core.specs.declared.code.Kind.{Kind}
 use Rattle.c_core.specs.declared.code.CArg.{CArg}
 use Rattle.c_core.specs.declared.code.CArg.TheVariants as arg
@@ -15,12 +17,12 @@ use Rattle.c_core.specs.declared.primitive.Primitive.{Primitive}
 use Rattle.c_core.specs.Cells.{Cells, same, times, content_at, take_one, make}
 use Rattle.c_core.specs.Ledgers.{Ledger, more, more_of, without}
 use Rattle.c_core.specs.Release.{release}
-use Rattle.c_core.specs.Machine.{Word, ShortInt, BigInt, TaggedError, CharWord, ObjectCell, NoneObject, TrueObject, FalseObject, NoObject, Content, ExcCell, refs_of, set_refs, refs_in, Frame, MachineState}
+use Rattle.c_core.specs.Machine.{Word, ShortInt, BigInt, TaggedError, CharWord, ObjectCell, NoneObject, TrueObject, FalseObject, NoObject, Content, IntCell, StrCell, ExcCell, refs_of, set_refs, refs_in, Frame, MachineState}
 use Rattle.c_core.specs.Holders.{pending_refs, owned_below}
 use Rattle.c_core.specs.Functions.{label_places, function_named, parameter_kinds, entry_words}
 use Rattle.c_core.specs.Primitives.{Holding, Parameter, Borrows, Steals, TakesNumber, TakesText, TakesException, TakesGlobal, TakesClass, Outcome, Nothing, row_of, primitive_named}
 use Rattle.c_core.specs.Arguments.{Argument, Cell, Plain, Written, is_value_of, is_holding, kind_found, stolen}
-use Rattle.c_core.specs.Step.{MachineEnding, Ended, Faulted, Next, Goes, Ends, Effect, Wrong, Says, Shares as SharesWord, Makes, Writes, Stores, Fails, Pends, Catches, effect, with_ledger, with_var, with_target, next_line, shared, literal_word, equals_error, is_error, is_both, kind_of, label_at, if_some, if_calm, if_content, if_any, if_taken, word_of, if_true, if_there, if_variable, if_stolen, if_argument, if_arguments, applied, if_may_stand, called, call_step, if_passed, entered, function_called, jumped, chosen, turned, incremented, given_up, decremented, decremented_if_set, if_in_order, if_result, if_none_left, if_thrown, if_ended, if_return, step_at}
+use Rattle.c_core.specs.Step.{MachineEnding, Ended, Faulted, Next, Goes, Ends, Effect, Wrong, Says, Shares as SharesWord, Makes, Writes, Stores, Fails, Pends, Catches, MakesInt, Reads as ReadsLine, Skips, Stops, effect, with_ledger, with_var, with_target, next_line, shared, literal_word, equals_error, is_error, is_both, kind_of, label_at, if_some, if_calm, if_content, if_any, if_taken, word_of, if_true, if_there, if_variable, if_stolen, if_argument, if_arguments, applied, if_may_stand, called, call_step, if_passed, entered, function_called, jumped, chosen, turned, incremented, given_up, decremented, decremented_if_set, if_in_order, if_result, if_none_left, if_thrown, if_ended, if_return, step_at}
 use Rattle.c_core.specs.Laws.{IsCounted}
 use Rattle.c_core.proofs.CountLemmas.{same_self, there}
 use Rattle.c_core.proofs.LedgerLemmas.{without-times, more-times, more_of-times}
@@ -168,8 +170,8 @@ module _ (code : Code) (Enters At : ℕ → ℕ → Shares → Type 0) where
     safe_arguments _ _ earlier k l go has left owned h = fine (Faulted fault.Kind) s tt
 
     -- ---- what a primitive does, where the ledger l is what variables own after the arguments
-    safe_answer : (x : Option ℕ) (b : Bool) (k : ℕ → ℕ) (w : Word) (cells : Cells Content) (l r : Ledger) (gs : List (Option Word)) (p : Option ℕ) (output : List ℕ) → Owns l k → IsTarget g.vars b x → IsFree g.vars k x → Go (with_answer g.vars x (record σ { owns = k })) → (b ≡ false → IsBare w) → ((c : ℕ) → times r c ≡ times l c + times (refs_of w) c) → GlobalsBare code gs → P (Goes (next_line (with_target x w (record s { cells = cells; top = record s.top { ledger = r }; globals = gs; pending = p; output = output }))))
-    safe_answer None b k w cells l r gs p output owned at none go sure e numbers =
+    safe_answer : (x : Option ℕ) (b : Bool) (k : ℕ → ℕ) (w : Word) (cells : Cells Content) (l r : Ledger) (gs : List (Option Word)) (p : Option ℕ) (output : List ℕ) (items : Items) → Owns l k → IsTarget g.vars b x → IsFree g.vars k x → Go (with_answer g.vars x (record σ { owns = k })) → (b ≡ false → IsBare w) → ((c : ℕ) → times r c ≡ times l c + times (refs_of w) c) → GlobalsBare code gs → P (Goes (next_line (with_target x w (record s { cells = cells; top = record s.top { ledger = r }; globals = gs; pending = p; output = output; items = items }))))
+    safe_answer None b k w cells l r gs p output items owned at none go sure e numbers =
         arr _ (record {
           σ = record σ { owns = k };
           func = refl;
@@ -181,7 +183,7 @@ module _ (code : Code) (Enters At : ℕ → ℕ → Shares → Type 0) where
           waits = waits;
           globals = numbers;
         })
-    safe_answer (Some x) b k w cells l r gs p output owned at none go sure e numbers =
+    safe_answer (Some x) b k w cells l r gs p output items owned at none go sure e numbers =
         arr _ (record {
           σ = with_answer g.vars (Some x) (record σ { owns = k });
           func = refl;
@@ -199,31 +201,43 @@ module _ (code : Code) (Enters At : ℕ → ℕ → Shares → Type 0) where
       safe_act : (cells : Cells Content) (gs : List (Option Word)) (p : Option ℕ) (output : List ℕ) → o ≡ Nothing → GlobalsBare code gs → P (Goes (next_line (record s { cells = cells; top = record s.top { ledger = l }; globals = gs; pending = p; output = output })))
       safe_act cells gs p output acts numbers =
           let missing : x ≡ None = subst (λ z. HasTarget z x) acts has in
-          safe_answer None b k NoneObject cells l l gs p output owned (subst (IsTarget g.vars b) missing at) tt (subst (λ z. Go (with_answer g.vars z (record σ { owns = k }))) missing go) (λ f c. refl) (λ c. omega arith) numbers
+          safe_answer None b k NoneObject cells l l gs p output s.items owned (subst (IsTarget g.vars b) missing at) tt (subst (λ z. Go (with_answer g.vars z (record σ { owns = k }))) missing go) (λ f c. refl) (λ c. omega arith) numbers
 
       safe_shared : (w : Word) → (b ≡ false → IsBare w) → P (Goes (next_line (with_target x w (shared w (with_ledger l s)))))
       safe_shared (BigInt c) sure =
-          safe_answer x b k (BigInt c) (take_one c s.cells) l (more c l) s.globals s.pending s.output owned at none go sure (λ d. omega (arith, more-times c l d)) bare
+          safe_answer x b k (BigInt c) (take_one c s.cells) l (more c l) s.globals s.pending s.output s.items owned at none go sure (λ d. omega (arith, more-times c l d)) bare
       safe_shared (ObjectCell c) sure =
-          safe_answer x b k (ObjectCell c) (take_one c s.cells) l (more c l) s.globals s.pending s.output owned at none go sure (λ d. omega (arith, more-times c l d)) bare
+          safe_answer x b k (ObjectCell c) (take_one c s.cells) l (more c l) s.globals s.pending s.output s.items owned at none go sure (λ d. omega (arith, more-times c l d)) bare
       safe_shared w sure =
-          safe_answer x b k w s.cells l l s.globals s.pending s.output owned at none go sure (λ d. omega arith) bare
+          safe_answer x b k w s.cells l l s.globals s.pending s.output s.items owned at none go sure (λ d. omega arith) bare
+
+      -- a new cell, which the frame owns
+      safe_made : (word : ℕ → Word) (content : Content) (items : Items) → ((c d : ℕ) → times (refs_of (word c)) d ≡ same c d) → b ≡ true → P (Goes (next_line (with_target x (word (length s.cells)) (record s { cells = make content s.cells; top = record s.top { ledger = more (length s.cells) l }; items = items }))))
+      safe_made word content items refers t =
+          safe_answer x b k (word (length s.cells)) (make content s.cells) l (more (length s.cells) l) s.globals s.pending s.output items owned at none go (λ f. cc) (λ c. omega (arith, more-times (length s.cells) l c, refers (length s.cells) c)) bare
+
+      -- a new exception is pending
+      safe_failed : (gone : List ℕ) (w : Word) (e : Thrown) (items : Items) → IsBare w → P (Goes (next_line (with_target x w (record s { cells = make (ExcCell e) (release refs_in s.cells gone); top = record s.top { ledger = l }; pending = Some (length (release refs_in s.cells gone)); items = items }))))
+      safe_failed gone w e items t =
+          safe_answer x b k w (make (ExcCell e) (release refs_in s.cells gone)) l l s.globals (Some (length (release refs_in s.cells gone))) s.output items owned at none go (λ f. t) (λ c. omega (arith, t c)) bare
 
       safe_applied : (gone : List ℕ) (e : Effect) → Tame code s.globals o b e → P (applied true s x l gone e)
       safe_applied gone Wrong t = fine (Faulted fault.Kind) s tt
       safe_applied gone (Says w) t =
-          safe_answer x b k w (release refs_in s.cells gone) l l s.globals s.pending s.output owned at none go (λ f. t) (λ c. omega (arith, t c)) bare
+          safe_answer x b k w (release refs_in s.cells gone) l l s.globals s.pending s.output s.items owned at none go (λ f. t) (λ c. omega (arith, t c)) bare
       safe_applied gone (SharesWord w) t = safe_shared w t
-      safe_applied gone (Makes content) t =
-          safe_answer x b k (ObjectCell (length s.cells)) (make content s.cells) l (more (length s.cells) l) s.globals s.pending s.output owned at none go (λ f. cc) (λ c. omega (arith, more-times (length s.cells) l c)) bare
+      safe_applied gone (Makes content) t = safe_made ObjectCell content s.items (λ c d. omega arith) t
       safe_applied gone (Writes text) t = safe_act (release refs_in s.cells gone) s.globals s.pending (s.output ++ text) t bare
       safe_applied gone (Stores n old new) t =
           safe_act (release refs_in s.cells (set_refs (old ∷ []))) (slice_set s.globals n new) s.pending s.output t.0 t.1
-      safe_applied gone (Fails w e) t =
-          safe_answer x b k w (make (ExcCell e) (release refs_in s.cells gone)) l l s.globals (Some (length (release refs_in s.cells gone))) s.output owned at none go (λ f. t) (λ c. omega (arith, t c)) bare
+      safe_applied gone (Fails w e) t = safe_failed gone w e s.items t
       safe_applied gone (Pends c) t = safe_act s.cells s.globals (Some c) s.output t bare
       safe_applied gone (Catches c) t =
-          safe_answer x b k (ObjectCell c) s.cells l (more c l) s.globals None s.output owned at none go (λ f. cc) (λ d. omega (arith, more-times c l d)) bare
+          safe_answer x b k (ObjectCell c) s.cells l (more c l) s.globals None s.output s.items owned at none go (λ f. cc) (λ d. omega (arith, more-times c l d)) bare
+      safe_applied gone (MakesInt n) t = safe_made BigInt (IntCell n) s.items (λ c d. omega arith) t
+      safe_applied gone (ReadsLine text next) t = safe_made ObjectCell (StrCell text) next (λ c d. omega arith) t
+      safe_applied gone (Skips next w e) t = safe_failed gone w e next t
+      safe_applied gone (Stops e) t = fine (Ended e) s tt
 
     safe_may_stand : (b : Bool) (go : Next) → P go → P (if_may_stand true s b go)
     safe_may_stand true go h = h
