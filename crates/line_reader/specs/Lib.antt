@@ -1,0 +1,4 @@
+pub mod ReaderState
+pub mod Held
+pub mod Reading
+pub mod Steps
