@@ -11,9 +11,8 @@ use Rattle.std.specs.BTreeMap.{BTreeMap, get, is_at}
 use Rattle.std.proofs.lemmas.Map.Keys.{below_from_sorted, sorted_tail}
 use Rattle.c_core.specs.Cells.{Cell}
 use Rattle.c_core.specs.Machine as machine
-use Rattle.cell_heap.specs.declared.cells.Slot.{Slot}
 use Rattle.cell_heap.specs.declared.key.Key.{Key}
-use Rattle.cell_heap.specs.Numbered.{listed, cell_of, slot_at, cells_of}
+use Rattle.cell_heap.specs.Numbered.{Kept, listed, cell_of, slot_at, cells_of}
 use Rattle.cell_heap.specs.Keys.{keys_from, keys_of}
 use Rattle.cell_heap.proofs.ListedLemmas.{listed-same}
 use Rattle.cell_heap.proofs.MapLemmas.{apart}
@@ -51,30 +50,30 @@ is_at-same : (k : ℕ) → is_at (nat_cmp k) k ≡ true
 is_at-same k = ap is_eq (sym (nat_cmp_is k k Equal refl))
 
 -- what entries have at a number
-abbrev look : List (ℕ × Slot) → ℕ → Option (Cell machine.Content)
+abbrev look : List (ℕ × Kept) → ℕ → Option (Cell machine.Content)
 look es q = option_map cell_of (lookup (is_at (nat_cmp q)) es)
 
-look-apart : (e : ℕ × Slot) (es : List (ℕ × Slot)) (q : ℕ) → e.0 ≢ q → look (e ∷ es) q ≡ look es q
+look-apart : (e : ℕ × Kept) (es : List (ℕ × Kept)) (q : ℕ) → e.0 ≢ q → look (e ∷ es) q ≡ look es q
 look-apart e es q ne = ap (λ b. option_map cell_of (cond b (Some e.1) (lookup (is_at (nat_cmp q)) es))) (apart q e.0 ne)
 
-look-same : (e : ℕ × Slot) (es : List (ℕ × Slot)) (q : ℕ) → e.0 ≡ q → look (e ∷ es) q ≡ Some (cell_of e.1)
+look-same : (e : ℕ × Kept) (es : List (ℕ × Kept)) (q : ℕ) → e.0 ≡ q → look (e ∷ es) q ≡ Some (cell_of e.1)
 look-same e es q is =
     ap (λ b. option_map cell_of (cond b (Some e.1) (lookup (is_at (nat_cmp q)) es))) (ap (is_at (nat_cmp q)) is ∙ is_at-same q)
 
-look-below : (es : List (ℕ × Slot)) (q b : ℕ) → Rises b (entry_keys es) → q < b → look es q ≡ None
+look-below : (es : List (ℕ × Kept)) (q b : ℕ) → Rises b (entry_keys es) → q < b → look es q ≡ None
 look-below [] q b r lt = refl
 look-below (e ∷ es) q b r lt =
     let le : b ≤ e.0 = r.0 in
     look-apart e es q (λ is. omega arith) ∙ look-below es q (suc e.0) r.1 (omega arith)
 
-abbrev Agrees : ℕ → ℕ → List (ℕ × Slot) → Type 0
+abbrev Agrees : ℕ → ℕ → List (ℕ × Kept) → Type 0
 Agrees n lo es = map key_at (entry_keys es) ≡ keys_from lo (listed (λ k. look es (lo + k)) n)
 
 shifted : (lo k : ℕ) → lo + suc k ≡ (lo + 1) + k
 shifted lo k = omega arith
 
 -- the first number has no entry
-step-none : (n lo : ℕ) (es : List (ℕ × Slot)) → look es lo ≡ None → Agrees n (lo + 1) es → Agrees (suc n) lo es
+step-none : (n lo : ℕ) (es : List (ℕ × Kept)) → look es lo ≡ None → Agrees n (lo + 1) es → Agrees (suc n) lo es
 step-none n lo es none more =
     let here : look es (lo + 0) ≡ None = ap (look es) (omega arith) ∙ none in
     let same : listed (λ k. look es (lo + suc k)) n ≡ listed (λ k. look es ((lo + 1) + k)) n =
@@ -82,7 +81,7 @@ step-none n lo es none more =
     more ∙ ap (keys_from (lo + 1)) (sym same) ∙ sym (ap (λ o. keys_from lo (o ∷ listed (λ k. look es (lo + suc k)) n)) here)
 
 -- the first number has the first entry
-step-some : (n lo : ℕ) (e : ℕ × Slot) (es : List (ℕ × Slot)) → e.0 ≡ lo → Agrees n (lo + 1) es → Agrees (suc n) lo (e ∷ es)
+step-some : (n lo : ℕ) (e : ℕ × Kept) (es : List (ℕ × Kept)) → e.0 ≡ lo → Agrees n (lo + 1) es → Agrees (suc n) lo (e ∷ es)
 step-some n lo e es is more =
     let zero_more : lo ≡ lo + 0 = omega arith in
     let here : look (e ∷ es) (lo + 0) ≡ Some (cell_of e.1) = look-same e es (lo + 0) (is ∙ zero_more) in
@@ -92,7 +91,7 @@ step-some n lo e es is more =
     ∙ ap (λ t. key_at lo ∷ t) (more ∙ ap (keys_from (lo + 1)) (sym same))
     ∙ sym (ap (λ o. keys_from lo (o ∷ listed (λ k. look (e ∷ es) (lo + suc k)) n)) here)
 
-agrees : (n lo : ℕ) (es : List (ℕ × Slot)) → Rises lo (entry_keys es) → ((k : ℕ) → lo + n ≤ k → look es k ≡ None) → Agrees n lo es
+agrees : (n lo : ℕ) (es : List (ℕ × Kept)) → Rises lo (entry_keys es) → ((k : ℕ) → lo + n ≤ k → look es k ≡ None) → Agrees n lo es
 agrees zero lo [] r none = refl
 agrees zero lo (e ∷ es) r none =
     let le : lo ≤ e.0 = r.0 in
@@ -112,7 +111,7 @@ agrees (suc n) lo (e ∷ es) r none =
     refl_le : (k : ℕ) → k ≤ k
     refl_le k = omega arith
 
-pub keys-cells : (m : BTreeMap ℕ Slot) (made : ℕ) → IsStrictlySortedBy nat_cmp (entry_keys m.entries) → ((n : ℕ) → made ≤ n → get nat_cmp m n ≡ None) → map key_at (entry_keys m.entries) ≡ keys_of (cells_of m made)
+pub keys-cells : (m : BTreeMap ℕ Kept) (made : ℕ) → IsStrictlySortedBy nat_cmp (entry_keys m.entries) → ((n : ℕ) → made ≤ n → get nat_cmp m n ≡ None) → map key_at (entry_keys m.entries) ≡ keys_of (cells_of m made)
 keys-cells m made s unmade =
     agrees made 0 m.entries (rises 0 (entry_keys m.entries) s (low_at_zero (entry_keys m.entries))) (λ k le. ap (option_map cell_of) (unmade k (omega arith)))
     ∙ ap (keys_from 0) (listed-same (λ k. look m.entries (0 + k)) (slot_at m) made (λ k. ap (look m.entries) (omega arith)))

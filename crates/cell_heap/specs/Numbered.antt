@@ -3,6 +3,8 @@ use Rattle.std.specs.Prelude.{◌≡◌, ℕ, zero, suc, ◌≤◌, [], ◌∷�
 use Rattle.std.specs.Option.{option_map}
 use Rattle.std.specs.Ordering.{nat_cmp}
 use Rattle.std.specs.BTreeMap.{BTreeMap, get}
+use Rattle.std.specs.declared.alloc.Global.{Global}
+use Rattle.std.specs.declared.boxed.Box.{Box}
 use Rattle.c_core.specs.Cells.{Cell, Cells}
 use Rattle.c_core.specs.Machine as machine
 use Rattle.cell_heap.specs.declared.cells.Slot.{Slot}
@@ -34,17 +36,21 @@ module _ {X : Type 0} where
   abbrev pub gone : ℕ → Cells X → Option X
   gone c cells = gone_of (cell_at cells c)
 
-abbrev pub cell_of : Slot → Cell machine.Content
-cell_of slot = record { count = slot.count; content = content_of slot.content }
+-- a cell as the map has it
+abbrev pub Kept : Type 0
+Kept = Box Slot Global
+
+abbrev pub cell_of : Kept → Cell machine.Content
+cell_of kept = record { count = kept.value.count; content = content_of kept.value.content }
 
 -- what the map has at a number
-abbrev pub slot_at : BTreeMap ℕ Slot → ℕ → Option (Cell machine.Content)
+abbrev pub slot_at : BTreeMap ℕ Kept → ℕ → Option (Cell machine.Content)
 slot_at there n = option_map cell_of (get nat_cmp there n)
 
 -- the machine's cells: as many as were made
-abbrev pub cells_of : BTreeMap ℕ Slot → ℕ → Cells machine.Content
+abbrev pub cells_of : BTreeMap ℕ Kept → ℕ → Cells machine.Content
 cells_of there made = listed (slot_at there) made
 
 -- nothing stands at a number that no cell has yet
-pub record IsNumbered (there : BTreeMap ℕ Slot) (made : ℕ) : Type 0 where
+pub record IsNumbered (there : BTreeMap ℕ Kept) (made : ℕ) : Type 0 where
   pub unmade : (n : ℕ) → made ≤ n → get nat_cmp there n ≡ None

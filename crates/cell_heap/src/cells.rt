@@ -5,7 +5,8 @@ use std::collections::BTreeMap;
 use std::marker::Model;
 use value_core::{Many, Memory};
 
-/// A cell that is there: how many references there are to it, and what it holds.
+/// A cell that is there: how many references there are to it, and what it holds. It stands behind a `Box`, since the map
+/// has nodes with room for twice as many cells where these come in order.
 #[derive(Drop)]
 pub(crate) struct Slot {
     pub count: u128,
@@ -15,7 +16,8 @@ pub(crate) struct Slot {
 /// The cells that are there by their serials, and how many were made. Contracts see them as the machine's cells.
 #[derive(Drop)]
 pub(crate) struct Cells {
-    there: BTreeMap<u128, Slot>,
+    alloc: Global,
+    there: BTreeMap<u128, Box<Slot>>,
     made: u128,
 }
 
@@ -46,13 +48,14 @@ impl Cells {
         ensures { result ≡ [] }
     {
         Cells {
+            alloc,
             there: BTreeMap::new(alloc),
             made: 0,
         }
     }
 
     /// The cell of a serial, if it is there.
-    pub fn get(&self, serial: u128) -> Option<&Slot>
+    pub fn get(&self, serial: u128) -> Option<&Box<Slot>>
         ensures { option_map cell_of (option_copied result) ≡ cell_at self.now serial }
     {
         self.there.get(&serial)
@@ -74,7 +77,8 @@ impl Cells {
     {
         let serial = self.made;
         let next = serial + 1;
-        self.there.insert(serial, Slot { count: 1, content })?;
+        let slot = Box::new(self.alloc, Slot { count: 1, content })?;
+        self.there.insert(serial, slot)?;
         self.made = next;
         Ok(serial)
     }
@@ -132,7 +136,7 @@ impl Cells {
     {
         match self.there.remove(&serial) {
             None => None,
-            Some(slot) => Some(slot.content),
+            Some(slot) => Some(Box::into_inner(slot).content),
         }
     }
 
