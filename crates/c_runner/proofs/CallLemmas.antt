@@ -97,12 +97,12 @@ module _ (s : MachineState) where
   paired (Some a) None go = refl
   paired (Some a) (Some b) go = refl
 
-  one_found : (code : Code) (args : List CArg) (l : Ledger) (go : List Argument → Ledger → Next) → if_arguments true s code (native ∷ []) args [] l go ≡ some (one_native s.top.vars args) (λ n. go (Plain (Native n) ∷ []) l)
+  pub one_found : (code : Code) (args : List CArg) (l : Ledger) (go : List Argument → Ledger → Next) → if_arguments true s code (native ∷ []) args [] l go ≡ some (one_native s.top.vars args) (λ n. go (Plain (Native n) ∷ []) l)
   one_found code [] l go = refl
   one_found code (a ∷ []) l go = native_found code a [] l _
   one_found code (a ∷ b ∷ more) l go = native_found code a [] l _ ∙ wrong (native_at s.top.vars a)
 
-  char_only : (code : Code) (args : List CArg) (l : Ledger) (go : List Argument → Ledger → Next) → if_arguments true s code (char ∷ []) args [] l go ≡ some (one_char s.top.vars args) (λ n. go (Plain (CharWord n) ∷ []) l)
+  pub char_only : (code : Code) (args : List CArg) (l : Ledger) (go : List Argument → Ledger → Next) → if_arguments true s code (char ∷ []) args [] l go ≡ some (one_char s.top.vars args) (λ n. go (Plain (CharWord n) ∷ []) l)
   char_only code [] l go = refl
   char_only code (a ∷ []) l go = char_found code a [] l _
   char_only code (a ∷ b ∷ more) l go = char_found code a [] l _ ∙ wrong (char_at s.top.vars a)

@@ -244,3 +244,28 @@ pub set_again : (c n : ℕ) (es : List (ℕ × ℕ)) → further c es ≡ Some n
 set_again c n [] e = refl
 set_again c n (x ∷ es) e =
     set_either (is_at (nat_cmp c) x.0) n x es (set_value (is_at (nat_cmp c)) es n) (further c es) e (set_again c n es)
+
+-- ---- one number alone
+alone_either : (b : Bool) (d c : ℕ) → nat_eq d c ≡ b → b ≡ nat_lt 0 (times (d ∷ []) c)
+alone_either true d c is =
+    let equal : d ≡ c = grind (arith, nat_tests, is) in
+    grind (arith, nat_tests, ap (λ z. same z c) equal, same_self c)
+alone_either false d c is =
+    let none = not_same (same d c) c d refl is in grind (arith, nat_tests, none)
+
+alone : (d c : ℕ) → nat_eq d c ≡ nat_lt 0 (times (d ∷ []) c)
+alone d c = alone_either (nat_eq d c) d c refl
+
+none_left : (b : Bool) (d : ℕ) → b ≡ (b && is_none (cond b [] (d ∷ [])))
+none_left true d = refl
+none_left false d = refl
+
+pub owned_once : (n d c : ℕ) (l : List ℕ) → n ≡ d → l ≡ d ∷ [] → nat_eq n c ≡ nat_lt 0 (times l c)
+owned_once n d c l number list = ap (λ k. nat_eq k c) number ∙ alone d c ∙ ap (λ k. nat_lt 0 (times k c)) (sym list)
+
+pub only_once : (n d c : ℕ) (l : List ℕ) → n ≡ d → l ≡ d ∷ [] → nat_eq n c ≡ is_only c l
+only_once n d c l number list =
+    ap (λ k. nat_eq k c) number
+    ∙ none_left (nat_eq d c) d
+    ∙ ap (λ b. b && is_none (without c (d ∷ []))) (alone d c)
+    ∙ ap (is_only c) (sym list)

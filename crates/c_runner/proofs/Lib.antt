@@ -8,3 +8,6 @@ pub mod StepLemmas
 pub mod Running
 pub mod GlobalLemmas
 pub mod ExceptionLemmas
+pub mod DeedLemmas
+pub mod Taking
+pub mod AdvanceLemmas

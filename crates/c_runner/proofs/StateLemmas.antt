@@ -1,6 +1,6 @@
 -- What the parts of a step of the machine are at the runner's states.
 use Rattle.std.proofs.Common.{◌≡◌, refl, sym, ap, ◌∙◌, ℕ, zero, suc, ◌+◌, arith, Bool, true, false, cond, eqb, List, [], ◌∷◌, ◌++◌, length, append_assoc, Option, Some, None, Ok, Err}
-use Rattle.std.specs.Prelude.{slice_get, slice_set, nat_lt, is_some, Result, IfOk}
+use Rattle.std.specs.Prelude.{slice_get, slice_set, nat_lt, is_some, Result}
 use Rattle.std.specs.Option.{option_map, option_and_then}
 use Rattle.std.proofs.lemmas.List.{map-set}
 use Rattle.std.proofs.lemmas.Option.{slice_get-map}
@@ -28,6 +28,8 @@ use Rattle.c_core.specs.Primitives.{AText, primitive_named}
 use Rattle.c_core.specs.Step as step
 use Rattle.c_core.specs.Step.{Next, Goes, Ends, Faulted, Makes, word_of, if_some, if_calm, literal_word, with_var, next_line, applied, primitive_step, called, function_called, call_step, given_up, if_any}
 use Rattle.c_core.proofs.ReleaseLemmas.{release-nothing}
+use Rattle.c_runner.specs.declared.pause.Pause.{Pause}
+use Rattle.c_runner.specs.declared.pause.Pause.TheVariants.{Waits, Memory}
 use Rattle.c_runner.specs.declared.report.Ending.{Ending}
 use Rattle.c_runner.specs.declared.state.Frame.{Frame}
 use Rattle.c_runner.specs.declared.table.Callee.{Callee}
@@ -41,6 +43,7 @@ use Rattle.cell_heap.specs.declared.word.Word.{Word}
 use Rattle.cell_heap.specs.declared.word.Word.TheVariants as heap
 use Rattle.cell_heap.specs.Contents as contents
 use Rattle.cell_heap.specs.Contents.{number_of}
+use Rattle.c_runner.specs.Waiting.{Steps}
 use Rattle.c_runner.specs.Parts.{written, callee_called, is_there}
 use Rattle.c_runner.proofs.FrameLemmas.{there, target_set}
 
@@ -108,9 +111,6 @@ cell_made rest old (Some x) content key number cells ledger top n k c l t =
     ∙ ap (λ d. Goes (state_of rest (record old { cells = make content old.cells; top = record old.top { place = old.top.place + 1; ledger = d; vars = slice_set old.top.vars x (heap.Cell key) } }))) (l ∙ ap (λ m. more m old.top.ledger) (n ∙ k)))
 
 -- ---- the arguments of a write
-pub only_write : (p : IoPrim) → p ≡ Write
-only_write Write = refl
-
 call_is : (code : Code) (s : MachineState) (target : Option ℕ) (args : List CArg) (x : ℕ) (alone : Bool) → slice_get args 0 ≡ Some (arg.Var x) → alone ≡ eqb (length args) 1 → primitive_step true s code target args (Io Write) ≡ written code target x alone s
 call_is code s target [] x alone e is = absurd (cc)
 call_is code s target (a ∷ []) x alone e is =
@@ -122,10 +122,15 @@ call_is code s target (a ∷ b ∷ more) x alone e is =
     let no : alone ≡ false = is ∙ grind (arith, nat_tests) in
     ap (λ d. primitive_step true s code target (d ∷ b ∷ more) (Io Write)) first ∙ ap (λ d. written code target x d s) (sym no)
 
-pub call_writes : {E : Type 0} (code : Code) (target : Option ℕ) (args : List CArg) (x : ℕ) (alone : Bool) (p : Primitive) (old new : State) (r : Result (Option Ending) E) → p ≡ Io Write → slice_get args 0 ≡ Some (arg.Var x) → alone ≡ eqb (length args) 1 → IfOk r (λ ending. (code : Code) (t : Option ℕ) → Follows (written code t x alone) ending old new) → IfOk r (λ ending. Follows (λ s. primitive_step true s code target args p) ending old new)
-call_writes code target args x alone p old new (Ok ending) e f g h =
-    λ rest. ap (λ q. primitive_step true (state_of rest old) code target args q) e ∙ call_is code (state_of rest old) target args x alone f g ∙ h code target rest
-call_writes code target args x alone p old new (Err failed) e f g h = tt
+pub call_writes : (target : Option ℕ) (args : List CArg) (x : ℕ) (alone : Bool) (p : IoPrim) (old new : State) (ending : Option Ending) → p ≡ Write → slice_get args 0 ≡ Some (arg.Var x) → alone ≡ eqb (length args) 1 → ((code : Code) (t : Option ℕ) → Follows (written code t x alone) ending old new) → (code : Code) → Follows (λ s. primitive_step true s code target args (Io p)) ending old new
+call_writes target args x alone p old new ending e f g h =
+    λ code rest. ap (λ q. primitive_step true (state_of rest old) code target args (Io q)) e ∙ call_is code (state_of rest old) target args x alone f g ∙ h code target rest
+
+-- ---- a step that is another one
+pub steps_as : (does to : MachineState → Next) (old new : State) (r : Result (Option Ending) Pause) → ((rest : Rest) → to (state_of rest old) ≡ does (state_of rest old)) → Steps does r old new → Steps to r old new
+steps_as does to old new (Ok ending) e h = λ rest. e rest ∙ h rest
+steps_as does to old new (Err (Waits target)) e h = record { same = h.same; place = h.place; leads = λ rest. e rest ∙ h.leads rest }
+steps_as does to old new (Err Memory) e h = tt
 
 -- ---- a line that calls
 module _ (rest : Rest) (old : State) (code : Code) (x : Option ℕ) (name : List ℕ) (args : List CArg) where
@@ -178,12 +183,13 @@ module _ (code : Code) (g : CFunc) (line : Line) (x : Option ℕ) (name : List �
   calls_nothing rest old e =
       ap (λ l. step.step_at true code (state_of rest old) (Some l)) is ∙ no_callee rest old code x name args (primitive_named name) (callee_is None e)
 
-  pub calls : {E : Type 0} (old new : State) (slice : List CArg) (k : Callee) (r : Result (Option Ending) E) → target.callee ≡ Some k → slice ≡ args → IfOk r (λ ending. Follows (callee_called code x slice k) ending old new) → IfOk r (λ ending. Follows (λ s. step.step_at true code s (Some line)) ending old new)
-  calls old new slice k (Ok ending) e same h =
-      λ rest. ap (λ l. step.step_at true code (state_of rest old) (Some l)) is
+  pub calls : (old new : State) (slice : List CArg) (k : Callee) (r : Result (Option Ending) Pause) → target.callee ≡ Some k → slice ≡ args → Steps (callee_called code x slice k) r old new → Steps (λ s. step.step_at true code s (Some line)) r old new
+  calls old new slice k r e same h =
+      steps_as (callee_called code x slice k) (λ s. step.step_at true code s (Some line)) old new r
+      (λ rest. ap (λ l. step.step_at true code (state_of rest old) (Some l)) is
       ∙ callee_step rest old code x name args (primitive_named name) k (callee_is (Some k) e)
-      ∙ ap (λ a. callee_called code x a k (state_of rest old)) (sym same) ∙ h rest
-  calls old new slice k (Err failed) e same h = tt
+      ∙ ap (λ a. callee_called code x a k (state_of rest old)) (sym same))
+      h
 
 -- ---- a reference that is given up
 none_owned : (s : MachineState) (c n : ℕ) (go : Next) → nat_lt 0 n ≡ false → if_any true s n go ≡ Ends (Faulted fault.NotOwned) s

@@ -13,9 +13,9 @@ use Rattle.c_core.specs.Arguments.{stolen}
 use Rattle.c_core.specs.Functions.{function_named}
 use Rattle.c_core.specs.Ledgers.{Ledger, more_of}
 use Rattle.c_core.specs.Laws.{Reaches, Here, There}
-use Rattle.c_core.specs.Machine.{Word, BigInt, ObjectCell, Content, Frame, MachineState, refs_of, set_refs}
+use Rattle.c_core.specs.Machine.{Word, BigInt, ObjectCell, Content, StrCell, Frame, MachineState, refs_of, set_refs}
 use Rattle.c_core.specs.Primitives.{row_of, primitive_named}
-use Rattle.c_core.specs.Step.{Next, Goes, Ends, Faulted, Effect, Wrong, Says, Shares, Makes, Writes, Stores, Fails, Pends, Catches, shared, raise, own, effect, with_ledger, with_target, next_line, literal_word, equals_error, kind_of, label_at, applied, given, made_cell, call_step, turned, if_return, if_result, if_none_left, step_at, line_at, step}
+use Rattle.c_core.specs.Step.{Next, Goes, Ends, Faulted, Effect, Wrong, Says, Shares, Makes, Writes, Stores, Fails, Pends, Catches, MakesInt, Reads, Skips, Stops, with_items, shared, raise, own, effect, with_ledger, with_target, next_line, literal_word, equals_error, kind_of, label_at, applied, given, made_cell, made_int, call_step, turned, if_return, if_result, if_none_left, step_at, line_at, step}
 use Rattle.c_core.specs.Run.{Stop, go_on}
 use Rattle.c_core.proofs.StepCases.{at_some, at_calm, at_word, at_there, at_called, at_function, at_jumped, at_chosen, at_incremented, at_decremented, at_decremented_if_set, at_order, at_ended, at_result}
 
@@ -44,9 +44,9 @@ module _ (s : MachineState) where
   target_same None w t e = same t e
   target_same (Some x) w t e = same (with_target (Some x) w t) e
 
-  made_on : (x : Option ℕ) (l : Ledger) (content : Content) → Keeps s (next_line (made_cell true s x content (with_ledger l s)))
-  made_on None l content = same (next_line (made_cell true s None content (with_ledger l s))) refl
-  made_on (Some x) l content = same (next_line (made_cell true s (Some x) content (with_ledger l s))) refl
+  made_on : (x : Option ℕ) (content : Content) (t : MachineState) → t.output ≡ s.output → Keeps s (next_line (made_cell true s x content t))
+  made_on None content t e = same (next_line (made_cell true s None content t)) e
+  made_on (Some x) content t e = same (next_line (made_cell true s (Some x) content t)) e
 
   answered_on : (x : Option ℕ) (w : Word) (t : MachineState) → t.output ≡ s.output → Keeps s (next_line (with_target x w t))
   answered_on None w t e = same (next_line t) e
@@ -61,13 +61,18 @@ module _ (s : MachineState) where
   applied_on x l gone Wrong = refl
   applied_on x l gone (Says w) = answered_on x w (given true s gone (with_ledger l s)) refl
   applied_on x l gone (Shares w) = answered_on x w (shared w (with_ledger l s)) (shared_output w (with_ledger l s))
-  applied_on x l gone (Makes content) = made_on x l content
+  applied_on x l gone (Makes content) = made_on x content (with_ledger l s) refl
   applied_on x l gone (Writes text) = record { more = text; grown = refl }
   applied_on x l gone (Stores n old new) =
       same (next_line (given true s (set_refs (old ∷ [])) (record (with_ledger l s) { globals = slice_set s.globals n new }))) refl
   applied_on x l gone (Fails w e) = answered_on x w (raise e (given true s gone (with_ledger l s))) refl
   applied_on x l gone (Pends c) = same (next_line (record (with_ledger l s) { pending = Some c })) refl
   applied_on x l gone (Catches c) = answered_on x (ObjectCell c) (own c (record (with_ledger l s) { pending = None })) refl
+  applied_on None l gone (MakesInt n) = same (next_line (made_int true s None n (with_ledger l s))) refl
+  applied_on (Some x) l gone (MakesInt n) = same (next_line (made_int true s (Some x) n (with_ledger l s))) refl
+  applied_on x l gone (Reads text next) = made_on x (StrCell text) (with_items next (with_ledger l s)) refl
+  applied_on x l gone (Skips next w e) = answered_on x w (raise e (given true s gone (with_items next (with_ledger l s)))) refl
+  applied_on x l gone (Stops e) = refl
 
   on : Keeps s (next_line s)
   on = same (next_line s) refl

@@ -3,6 +3,10 @@ pub mod Report
 pub mod Ran
 pub mod Live
 pub mod Ledgers
+pub mod Held
 pub mod States
 pub mod Parts
 pub mod Targets
+pub mod Deeds
+pub mod Waiting
+pub mod Advancing

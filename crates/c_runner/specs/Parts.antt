@@ -26,7 +26,7 @@ use Rattle.c_core.specs.Machine as machine
 use Rattle.c_core.specs.Machine.{Word, BigInt, Native, CharWord, ObjectCell, Content, MachineState, refs_of}
 use Rattle.c_core.specs.Primitives.{OfGlobal, Anything, AText, AnException, Steals, row_of}
 use Rattle.c_core.specs.Step as machine_step
-use Rattle.c_core.specs.Step.{Next, Ends, Faulted, Effect, Says, Fails, if_variable, if_stolen, if_true, if_there, word_of, jumped, equals_error, truth_word, exception_of, native_or, applied, effect, called, function_called, faulted, with_target, next_line}
+use Rattle.c_core.specs.Step.{Next, Ends, Faulted, Effect, Says, Fails, if_variable, if_stolen, if_true, if_there, word_of, jumped, equals_error, truth_word, int64_exception, native_or, applied, effect, called, function_called, faulted, with_target, next_line}
 use Rattle.c_runner.specs.declared.state.Frame.{Frame}
 use Rattle.c_runner.specs.declared.table.Callee.{Callee}
 use Rattle.c_runner.specs.declared.table.Callee.TheVariants as callee
@@ -94,7 +94,7 @@ one_char vars _ = None
 -- what an operation on native integers does, by what came of it
 abbrev pub effect_of : Result heap.Word Arith → Effect
 effect_of (Ok w) = Says (contents.word_of w)
-effect_of (Err f) = Fails (error_word Int64) (exception_of f)
+effect_of (Err f) = Fails (error_word Int64) (int64_exception f)
 
 -- the effect of a primitive on two native integers
 abbrev pub two_effect : Int64Prim → ℤ → ℤ → Option Effect

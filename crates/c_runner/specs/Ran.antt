@@ -1,12 +1,15 @@
 -- What a call that runs a code gives.
-use Rattle.std.specs.Prelude.{◌≡◌, ℕ, ◌<◌, Bool, true, false, List, ◌++◌, IsTrue, Result, Ok, Err}
-use Rattle.value_core.specs.Items.{Items, InputEnd, AtEof, AtFailure, input_items}
-use Rattle.outside_core.specs.Bytes.{TakesFront, bytes_between}
+use Rattle.std.specs.Prelude.{◌≡◌, ◌⊎◌, ℕ, ◌+◌, ◌<◌, ◌≤◌, Bool, true, false, List, [], ◌++◌, length, IsTrue, Result, Ok, Err}
+use Rattle.value_core.specs.Items.{Items, InputEnd, AtEof, AtFailure, input_items, pieces, lines_from}
+use Rattle.outside_core.specs.Bytes.{TakesFront, GivesAtMost, bytes_between}
 use Rattle.outside_core.specs.Counts.{count_end, has_risen, one_more}
 use Rattle.c_core.specs.declared.code.Code.{Code}
 use Rattle.value_core.specs.Ending as source
 use Rattle.c_core.specs.Step.{Ended}
 use Rattle.c_core.specs.Run.{Stop}
+use Rattle.line_reader.specs.Held.{most_read, piece_size}
+use Rattle.line_reader.specs.declared.read_fault.ReadFault.{ReadFault}
+use Rattle.line_reader.specs.declared.read_fault.ReadFault.TheVariants as read
 use Rattle.c_runner.specs.declared.report.Report.{Report}
 use Rattle.c_runner.specs.declared.report.RunError.{RunError}
 use Rattle.c_runner.specs.declared.report.RunError.TheVariants.{InputFault, WriteFault, Memory}
@@ -37,6 +40,31 @@ Ran code stop tells before after (Err InputFault) =
     (stop.ending ≡ Ended source.Broken) × (IsTrue tells → after ≡ before ++ stop.state.output)
 Ran code stop tells before after (Err WriteFault) = IsTrue tells → TakesFront before after stop.state.output
 Ran code stop tells before after (Err Memory) = IsTrue tells → TakesFront before after stop.state.output
+
+-- where no line ended too far along, fewer bytes were taken behind those that were used than one read gives, and none where no line was used
+pub record TookNear (items : Items) (used ahead : List ℕ) (stop : Stop) : Type 0 where
+  pub near : length ahead < piece_size
+  pub none : stop.state.items ≡ items → used ++ ahead ≡ []
+
+-- what a run took of an input that tells its bytes: those of the lines that it used, and some behind them, no more in all than one byte
+-- more than may be used. The lines that are left are those of the bytes behind the ones that were used
+pub record TookLines (items : Items) (stop : Stop) (left left' : List ℕ) : Type 0 where
+  pub used : List ℕ
+  pub ahead : List ℕ
+  pub given : left ≡ used ++ (ahead ++ left')
+  pub follows : stop.state.items ≡ lines_from (length used) AtEof (pieces (ahead ++ left'))
+  pub within : length used + length ahead ≤ most_read
+  pub usual : (stop.ending ≡ Ended source.Over) ⊎ TookNear items used ahead stop
+
+-- the same of a call; where it has no report no more than that is said of how much was taken
+abbrev pub Took : Result Report RunError → Items → Stop → List ℕ → List ℕ → Type 0
+Took (Ok report) items stop left left' = TookLines items stop left left'
+Took (Err e) items stop left left' = GivesAtMost most_read left left'
+
+-- why a run ends that could not read a line
+abbrev pub error_of_read : ReadFault → RunError
+error_of_read read.Failed = InputFault
+error_of_read read.Memory = Memory
 
 -- the sink's count of faults: a refusal is counted once, and ends the call
 abbrev pub faults_of_out : Result Report RunError → ℕ → ℕ

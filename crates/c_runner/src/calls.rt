@@ -10,12 +10,14 @@ ghost use Rattle.c_core.specs.Step.{Next, Goes, Makes, Fails, with_target, next_
 ghost use Rattle.c_runner.specs.Parts.{written, one_char};
 ghost use Rattle.c_runner.specs.States.{Rest, Follows, IsSmall, state_of};
 ghost use Rattle.c_runner.specs.Targets.{global_of};
+ghost use Rattle.c_runner.specs.Waiting.{Steps};
 ghost use Rattle.cell_heap.specs.Contents.{word_of, content_of};
 
+use crate::pause::Pause;
 use crate::report::Ending;
 use crate::state::State;
 use crate::words::truth;
-use c_core::{BoolPrim, CArg, Code, ErrPrim, Fault, IoPrim, Prim, StrPrim};
+use c_core::{BoolPrim, CArg, Code, ErrPrim, Fault, IoPrim, Prim};
 use cell_heap::{Content, Word};
 use std::alloc::Global;
 use value_core::{ExcClass, Memory, Text};
@@ -31,12 +33,11 @@ impl State {
         global: Option<usize>,
         target: Option<usize>,
         args: &[CArg],
-    ) -> Result<Option<Ending>, Memory>
+    ) -> Result<Option<Ending>, Pause>
         requires small { IsSmall self.old }
         requires place { self.old.top.place + 1 < 2 ^ 64 }
         requires global { global ≡ global_of code.now args.now }
-        ensures { IfOk result (λ ending. Follows
-            (λ s. called true s code.now target args.now primitive) ending self.old self.new) }
+        ensures { Steps (λ s. called true s code.now target args.now primitive) result self.old self.new }
     {
         if !self.may_stand(primitive) {
             return Ok(Some(Ending::Fault(Fault::Kind)));
@@ -65,29 +66,43 @@ impl State {
         global: Option<usize>,
         target: Option<usize>,
         args: &[CArg],
-    ) -> Result<Option<Ending>, Memory>
+    ) -> Result<Option<Ending>, Pause>
         requires small { IsSmall self.old }
         requires place { self.old.top.place + 1 < 2 ^ 64 }
         requires global { global ≡ global_of code.now args.now }
-        ensures { IfOk result (λ ending. Follows
-            (λ s. primitive_step true s code.now target args.now primitive) ending self.old self.new) }
+        ensures { Steps (λ s. primitive_step true s code.now target args.now primitive) result self.old self.new }
     {
         match primitive {
-            Prim::Int64(operation) => self.call_int64(alloc, operation, target, args),
-            Prim::Bool(operation) => self.call_bool(alloc, operation, target, args),
-            Prim::Str(StrPrim::Literal) => match args {
-                [CArg::Text(text)] => self.make_cell(target, Content::Str(text.clone()?)),
-                _ => Ok(Some(Ending::Fault(Fault::Kind))),
-            },
+            Prim::Int64(operation) => Ok(self.call_int64(alloc, operation, target, args)?),
+            Prim::Tagged(operation) => Ok(self.call_tagged(alloc, operation, target, args)?),
+            Prim::Bool(operation) => Ok(self.call_bool(alloc, operation, target, args)?),
+            Prim::Str(operation) => Ok(self.call_str(alloc, operation, target, args)?),
             Prim::Global(operation) => {
-                self.call_global(alloc, code, operation, global, target, args)
+                Ok(self.call_global(alloc, code, operation, global, target, args)?)
             }
-            Prim::Exc(operation) => self.call_exception(operation, target, args),
-            Prim::Err(operation) => self.call_error(alloc, operation, target, args),
-            Prim::Io(IoPrim::Write) => match args.first() {
-                Some(CArg::Var(x)) => self.write(*x, args.len() == 1),
+            Prim::Exc(operation) => Ok(self.call_exception(operation, target, args)?),
+            Prim::Err(operation) => Ok(self.call_error(alloc, operation, target, args)?),
+            Prim::Io(operation) => self.call_io(operation, target, args),
+        }
+    }
+
+    /// Calls a primitive that writes or reads.
+    fn call_io(
+        &mut self,
+        operation: IoPrim,
+        target: Option<usize>,
+        args: &[CArg],
+    ) -> Result<Option<Ending>, Pause>
+        requires place { self.old.top.place + 1 < 2 ^ 64 }
+        ensures { (code : machine_code.Code) → Steps
+            (λ s. primitive_step true s code target args.now (prim.Io operation)) result self.old self.new }
+    {
+        match operation {
+            IoPrim::Write => match args.first() {
+                Some(CArg::Var(x)) => Ok(self.write(*x, args.len() == 1)?),
                 _ => Ok(Some(Ending::Fault(Fault::Kind))),
             },
+            IoPrim::Input => self.ask_for_line(target, args),
         }
     }
 

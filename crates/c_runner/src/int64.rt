@@ -1,10 +1,10 @@
 //! Calls of primitives on native integers.
-ghost use Rattle.std.specs.Prelude.{◌≡◌, ◌+◌, ◌^◌, ◌<◌, true, map, [], IfOk};
+ghost use Rattle.std.specs.Prelude.{◌≡◌, ℕ, ◌+◌, ◌^◌, ◌<◌, true, map, List, [], IfOk};
 ghost use Rattle.std.specs.Option.{option_map};
 ghost use Rattle.c_core.specs.declared.code.Code as machine_code;
 ghost use Rattle.c_core.specs.declared.fault.Fault.TheVariants as fault;
 ghost use Rattle.c_core.specs.declared.primitive.Primitive.TheVariants as prim;
-ghost use Rattle.c_core.specs.Step.{if_some, applied, primitive_step, exception_of, native_or};
+ghost use Rattle.c_core.specs.Step.{if_some, applied, primitive_step, exception_past, native_or};
 ghost use Rattle.c_runner.specs.Parts.{native_at, one_native, two_natives, effect_of, two_effect, int64_effect};
 ghost use Rattle.c_runner.specs.States.{Follows, IsSmall};
 ghost use Rattle.cell_heap.specs.Contents.{word_of};
@@ -66,7 +66,7 @@ impl State {
             None => Ok(Some(Ending::Fault(Fault::Kind))),
             Some(Ok(word)) => Ok(self.answer(target, Some(word))),
             Some(Err(why)) => {
-                let text = Text::from_str(alloc, text_of(why))?;
+                let text = Text::from_str(alloc, text_of("integer does not fit in i64", why))?;
                 self.fail(target, Word::I64(-113), class_of(why), text)
             }
         }
@@ -107,7 +107,7 @@ impl State {
     }
 
     /// The one native integer that the arguments are.
-    fn one_native(&self, args: &[CArg]) -> Option<i64>
+    pub fn one_native(&self, args: &[CArg]) -> Option<i64>
         ensures { result ≡ one_native (map word_of self.now.top.vars) args.now }
     {
         match args {
@@ -163,8 +163,8 @@ fn in_word(number: Result<i64, Arith>) -> Result<Word, Arith>
 }
 
 /// The class of the exception for an operation without a result.
-fn class_of(why: Arith) -> ExcClass
-    ensures { result ≡ (exception_of why).class }
+pub(crate) fn class_of(why: Arith) -> ExcClass
+    ensures { (past : List ℕ) → result ≡ (exception_past past why).class }
 {
     match why {
         Arith::Overflow => ExcClass::OverflowError,
@@ -173,12 +173,12 @@ fn class_of(why: Arith) -> ExcClass
     }
 }
 
-/// And its text.
-fn text_of(why: Arith) -> &'static str
-    ensures { result.now ≡ (exception_of why).text }
+/// And its text, where an overflow is said like this.
+pub(crate) fn text_of(past: &'static str, why: Arith) -> &'static str
+    ensures { result.now ≡ (exception_past past.now why).text }
 {
     match why {
-        Arith::Overflow => "integer does not fit in i64",
+        Arith::Overflow => past,
         Arith::ZeroDivisor => "integer division or modulo by zero",
         Arith::NegativeShift => "negative shift count",
         Arith::OutOfRange => "shift count out of range",

@@ -1,22 +1,31 @@
+use crate::numbers::Numbers;
+use crate::wide::Wide;
 use std::alloc::Global;
-use std::collections::BTreeMap;
 use std::marker::Model;
 use value_core::Memory;
 
-/// The cells that a frame owns, by their numbers: for each how often the frame owns it beyond the first time. Contracts
-/// see the list of the numbers, each as often as it is owned.
+/// The cells that a frame owns, by their numbers. Contracts see the list of the numbers, each as often as it is owned.
 #[derive(Drop)]
 pub(crate) struct Ledger {
-    further: BTreeMap<u128, u128>,
+    alloc: Global,
+    held: Held,
+}
+
+/// One number, for which there is no map: many frames own one cell and no other, and a map takes a node for it.
+#[derive(Drop)]
+pub(crate) enum Held {
+    Once(Wide),
+    Several(Numbers),
 }
 
 impl Model for Ledger {
     ghost use Rattle.std.specs.Prelude.{ℕ, List};
-    ghost use Rattle.c_runner.specs.Ledgers.{numbers_of};
 
     ghost Value = { List ℕ };
 
-    ghost view = { λ ledger. numbers_of ledger.further.entries };
+    ghost use Rattle.c_runner.specs.Held.{held_numbers};
+
+    ghost view = { λ ledger. held_numbers ledger.held };
 }
 
 impl Ledger {
@@ -30,7 +39,8 @@ impl Ledger {
         ensures { result ≡ [] }
     {
         Ledger {
-            further: BTreeMap::new(alloc),
+            alloc,
+            held: Held::Several(Numbers::new(alloc)),
         }
     }
 
@@ -39,11 +49,21 @@ impl Ledger {
         requires countable { times self.old c < 2 ^ 128 }
         ensures { OnOk result (self.new ≡ more c self.old) }
     {
-        let further = match self.further.get(&c) {
-            None => 0,
-            Some(further) => *further + 1,
-        };
-        self.further.insert(c, further)?;
+        match &mut self.held {
+            Held::Once(first) => {
+                let mut numbers = Numbers::new(self.alloc);
+                numbers.add(first.number())?;
+                numbers.add(c)?;
+                self.held = Held::Several(numbers);
+            }
+            Held::Several(numbers) => {
+                if numbers.is_empty() {
+                    self.held = Held::Once(Wide::of(c));
+                } else {
+                    numbers.add(c)?;
+                }
+            }
+        }
         Ok(())
     }
 
@@ -53,27 +73,25 @@ impl Ledger {
         ensures taken { self.new ≡ without c self.old }
         ensures kept { result ≡ false → self.new ≡ self.old }
     {
-        let is_last = match self.further.get_mut(&c) {
-            None => return false,
-            Some(further) => {
-                if *further > 0 {
-                    *further -= 1;
-                    return true;
+        match &mut self.held {
+            Held::Once(first) => {
+                if first.number() != c {
+                    return false;
                 }
+                self.held = Held::Several(Numbers::new(self.alloc));
                 true
             }
-        };
-        self.further.remove(&c);
-        is_last
+            Held::Several(numbers) => numbers.take(c),
+        }
     }
 
     /// Whether there is any reference to a cell.
     pub fn owns(&self, c: u128) -> bool
         ensures { result ≡ nat_lt 0 (times self.now c) }
     {
-        match self.further.get(&c) {
-            None => false,
-            Some(_) => true,
+        match &self.held {
+            Held::Once(first) => first.number() == c,
+            Held::Several(numbers) => numbers.owns(c),
         }
     }
 
@@ -81,15 +99,9 @@ impl Ledger {
     pub fn owns_only(&self, c: u128) -> bool
         ensures { result ≡ is_only c self.now }
     {
-        match self.further.get(&c) {
-            None => false,
-            Some(further) => {
-                if *further > 0 {
-                    false
-                } else {
-                    self.further.len() == 1
-                }
-            }
+        match &self.held {
+            Held::Once(first) => first.number() == c,
+            Held::Several(numbers) => numbers.owns_only(c),
         }
     }
 
@@ -97,6 +109,9 @@ impl Ledger {
     pub fn is_empty(&self) -> bool
         ensures { IsTrue result ↔ (self.now ≡ []) }
     {
-        self.further.is_empty()
+        match &self.held {
+            Held::Once(_) => false,
+            Held::Several(numbers) => numbers.is_empty(),
+        }
     }
 }

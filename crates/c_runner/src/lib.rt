@@ -5,6 +5,9 @@
 //! left. The promise: it is exactly the run of the machine (`machine_run` of c_core), cells, counts and faults included;
 //! `specs/Report.antt` says when a report is that of a run, and `specs/Ran.antt` what a call gives.
 //!
+//! A step that asks for a line of the input makes no read: it waits, and the run reads the line (`line_reader`) and goes on with it;
+//! what is held of the output is handed on before each read.
+//!
 //! The runner keeps a state of its own and makes the machine's steps one for one: `specs/States.antt` says which state of
 //! the machine it stands for, and each step leads from that of the old state to that of the new one. Its cells are those of
 //! a heap (`cell_heap`), its words and contents too.
@@ -12,19 +15,27 @@
 
 mod calls;
 mod counts;
+mod deed;
 mod exceptions;
 mod frames;
 mod globals;
+mod input;
 mod int64;
 mod ledger;
 mod live;
+mod numbers;
 mod output;
+mod pause;
 mod pending;
+mod reading;
 mod report;
 mod runner;
 mod state;
 mod step;
+mod strings;
 mod table;
+mod tagged;
+mod wide;
 mod words;
 
 pub use c_core::Fault;

@@ -83,4 +83,20 @@ impl Output {
         }
         Ok(())
     }
+
+    /// Hands all on where it is wanted. It stops at the first refusal.
+    pub fn hand_on_if<O: Sink>(&mut self, wanted: bool, out: &mut O) -> Result<(), WriteFault>
+        ensures counted { O.faults out.new ≡ count_after result (O.faults out.old) }
+        ensures taken { OnOk result
+            (HandsOn O.tells (O.taken out.old) (O.taken out.new) self.old self.new (out.new ≡ out.old)) }
+        ensures emptied { OnOk result (IsTrue wanted → self.new ≡ []) }
+        ensures front { OnErr result (IsTrue O.tells →
+            TakesFront (O.taken out.old) (O.taken out.new) self.old) }
+        ensures alone { self.old ≡ [] → out.new ≡ out.old }
+    {
+        if wanted {
+            self.hand_on(out)?;
+        }
+        Ok(())
+    }
 }

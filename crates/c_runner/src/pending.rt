@@ -135,7 +135,7 @@ impl State {
 }
 
 /// The one text that the arguments are.
-fn only_text(args: &[CArg]) -> Option<&str>
+pub(crate) fn only_text(args: &[CArg]) -> Option<&str>
     ensures { option_copied result ≡ only_text args.now }
 {
     match args {

@@ -1,4 +1,5 @@
 use c_core::Fault;
+use line_reader::ReadFault;
 use outside_core::WriteFault;
 use thiserror::Error;
 use value_core::{ExcClass, Many, Memory as NoMemory, Text};
@@ -65,5 +66,19 @@ impl From<WriteFault> for RunError {
 
     fn from(_refused: WriteFault) -> RunError {
         RunError::WriteFault
+    }
+}
+
+impl From<ReadFault> for RunError {
+    ghost use Rattle.std.specs.Prelude.{◌≡◌};
+    ghost use Rattle.c_runner.specs.Ran.{error_of_read};
+
+    ghost from_gives = { λ refused e. e ≡ error_of_read refused };
+
+    fn from(refused: ReadFault) -> RunError {
+        match refused {
+            ReadFault::Failed => RunError::InputFault,
+            ReadFault::Memory => RunError::Memory,
+        }
     }
 }

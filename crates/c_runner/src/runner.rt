@@ -1,20 +1,22 @@
-ghost use Rattle.std.specs.Prelude.{◌≡◌, ◌≤◌, [], Some, IsErrOf};
+ghost use Rattle.std.specs.Prelude.{◌≡◌, ◌≤◌, [], Some, IsTrue, IsErrOf};
 ghost use Rattle.outside_core.specs.Counts.{Rose};
 ghost use Rattle.value_core.specs.Items.{Items};
 ghost use Rattle.c_core.specs.Run.{Stop, machine_run, most_turns, most_steps, most_lines};
 ghost use Rattle.c_core.specs.WellFormed.{WellFormed};
-ghost use Rattle.c_runner.specs.Ran.{AreGiven, Ran, faults_of_out};
+ghost use Rattle.c_runner.specs.Ran.{AreGiven, Ran, Took, faults_of_out};
 
+use crate::reading::advance;
 use crate::report::{Report, RunError};
 use crate::state::State;
 use crate::table::table;
 use c_core::{CFunc, Code, run_exists, run_keeps_counts, run_stays_small};
+use line_reader::LineReader;
 use outside_core::{Sink, Source};
 use std::alloc::Global;
 
 /// Runs a well-formed code for so many turns, on the lines of the input. What the program writes goes to `out`,
-/// whenever 65536 bytes have come together, and what is left before the answer; where it writes nothing, nothing happens to `out`. Nothing is
-/// taken from the input.
+/// whenever 65536 bytes have come together, before each read of the input, and what is left before the answer; where it writes nothing, nothing
+/// happens to `out`. The input is read only for a line that is asked for, and of the bytes behind the lines that were used at most 4095 are taken.
 pub fn run<I: Source, O: Sink>(
     alloc: Global,
     code: &Code,
@@ -28,8 +30,8 @@ pub fn run<I: Source, O: Sink>(
         × AreGiven I.tells (I.faults input.old) (I.faults input.new) (I.left input.old) (I.left input.new) items
         × ((stop : Stop) × (machine_run turns items code.now ≡ Some stop)
         × Ran code.now stop O.tells (O.taken out.old) (O.taken out.new) result
-        × (stop.state.output ≡ [] → out.new ≡ out.old)) }
-    ensures input { input.new ≡ input.old }
+        × (stop.state.output ≡ [] → out.new ≡ out.old)
+        × (IsTrue I.tells → Took result items stop (I.left input.old) (I.left input.new))) }
     ensures input_fault { IsErrOf result RunError.InputFault → Rose (I.faults input.old) (I.faults input.new) }
     ensures out_faults { O.faults out.new ≡ faults_of_out result (O.faults out.old) }
 {
@@ -41,9 +43,10 @@ pub fn run<I: Source, O: Sink>(
     // A well-formed code stops before these steps are taken.
     let mut left = most_steps(code, turns);
     let mut has_output = false;
+    let mut reader = LineReader::new(alloc);
     'steps: loop {
         left -= 1;
-        let ending = state.step(alloc, code, &table)?;
+        let ending = advance(alloc, code, &table, &mut state, &mut reader, input, out)?;
         has_output = state.output.has_any(has_output);
         match ending {
             None => state.output.hand_on_if_full(out)?,

@@ -1,5 +1,5 @@
 //! One step of a run, with the tests in the machine's order. At a fault the state is as it was before the line.
-ghost use Rattle.std.specs.Prelude.{◌≡◌, ◌+◌, ◌^◌, ◌<◌, true, Some, IfOk, slice_get};
+ghost use Rattle.std.specs.Prelude.{◌≡◌, ◌+◌, ◌^◌, ◌<◌, true, Some, slice_get};
 ghost use Rattle.std.specs.Option.{option_map, option_and_then};
 ghost use Rattle.c_core.specs.declared.fault.Fault.TheVariants as fault;
 ghost use Rattle.c_core.specs.Functions.{label_places};
@@ -7,8 +7,10 @@ ghost use Rattle.c_core.specs.Step.{Goes, literal_word, with_var, next_line, if_
 ghost use Rattle.c_runner.specs.Parts.{callee_called, jumped_by_error, is_there};
 ghost use Rattle.c_runner.specs.States.{Follows, IsSmall};
 ghost use Rattle.c_runner.specs.Targets.{global_of, target_of, table_of};
+ghost use Rattle.c_runner.specs.Waiting.{Steps};
 ghost use Rattle.cell_heap.specs.Contents as contents;
 
+use crate::pause::Pause;
 use crate::report::Ending;
 use crate::state::State;
 use crate::table::{Callee, Target, target_at};
@@ -16,20 +18,20 @@ use crate::words::{equals_error, of_literal};
 use c_core::{CArg, CFunc, CLit, Code, Fault, Kind, Line};
 use cell_heap::Word;
 use std::alloc::Global;
-use value_core::{Many, Memory};
+use value_core::Many;
 
 impl State {
     /// What the next line does, and how the run ends if it ends there. The table tells what the lines of the code name.
-    /// Without memory the state is not said.
+    /// Where a line of input is asked for nothing is done. Without memory the state is not said.
     pub fn step(
         &mut self,
         alloc: Global,
         code: &Code,
         table: &Many<Many<Target>>,
-    ) -> Result<Option<Ending>, Memory>
+    ) -> Result<Option<Ending>, Pause>
         requires table { table.now ≡ table_of code.now }
         requires small { IsSmall self.old }
-        ensures { IfOk result (λ ending. Follows (step code.now) ending self.old self.new) }
+        ensures { Steps (step code.now) result self.old self.new }
     {
         let Some(function) = code.funcs.get(self.top.func) else {
             return Ok(Some(Ending::Fault(Fault::Kind)));
@@ -50,13 +52,12 @@ impl State {
         function: &CFunc,
         line: &Line,
         target: Target,
-    ) -> Result<Option<Ending>, Memory>
+    ) -> Result<Option<Ending>, Pause>
         requires small { IsSmall self.old }
         requires place { self.old.top.place + 1 < 2 ^ 64 }
         requires function { slice_get code.now.funcs self.old.top.func ≡ Some function.now }
         requires target { target ≡ target_of code.now (label_places function.now.lines) line.now }
-        ensures { IfOk result (λ ending. Follows
-            (λ s. step_at true code.now s (Some line.now)) ending self.old self.new) }
+        ensures { Steps (λ s. step_at true code.now s (Some line.now)) result self.old self.new }
     {
         match line {
             Line::Label => Ok(self.go_on()),
@@ -72,8 +73,8 @@ impl State {
             Line::If(x, _, _) => Ok(self.choose(*x, target.first, target.second)),
             Line::IfError(x, _, _) => Ok(self.choose_by_error(*x, target.first, target.second)),
             Line::Turn => Ok(self.spend_turn()),
-            Line::Return(x) => self.leave(*x),
-            Line::Inc(x) => self.increment(*x),
+            Line::Return(x) => Ok(self.leave(*x)?),
+            Line::Inc(x) => Ok(self.increment(*x)?),
             Line::Dec(x) => Ok(self.decrement(*x)),
             Line::XDec(x) => Ok(self.decrement_if_set(*x)),
         }
@@ -88,18 +89,17 @@ impl State {
         global: Option<usize>,
         target: Option<usize>,
         args: &[CArg],
-    ) -> Result<Option<Ending>, Memory>
+    ) -> Result<Option<Ending>, Pause>
         requires small { IsSmall self.old }
         requires place { self.old.top.place + 1 < 2 ^ 64 }
         requires global { global ≡ global_of code.now args.now }
-        ensures { IfOk result (λ ending. Follows
-            (callee_called code.now target args.now callee) ending self.old self.new) }
+        ensures { Steps (callee_called code.now target args.now callee) result self.old self.new }
     {
         match callee {
             Callee::Primitive(primitive) => {
                 self.call_primitive(alloc, code, primitive, global, target, args)
             }
-            Callee::Function(func) => self.enter(alloc, code, func, target, args),
+            Callee::Function(func) => Ok(self.enter(alloc, code, func, target, args)?),
         }
     }
 

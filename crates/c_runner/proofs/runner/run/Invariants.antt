@@ -1,13 +1,13 @@
 use Rattle.std.proofs.Common.{◌≡◌}
-use Rattle.value_core.specs.Items.{AtEof, input_items}
-use Rattle.c_runner.proofs.Running.{Running}
+use Rattle.c_runner.proofs.Taking.{Going}
 use Rattle.c_runner.proofs.runner.run.Given as goal
 
 -- no call was refused, and the run goes on
 abbrev pub invariant-steps : goal.invariant-steps
 invariant-steps g l = record {
   calm : g.O.Sink.faults l.out ≡ g.O.Sink.faults l.fn.out;
-  running : Running g.O.Sink.tells (g.O.Sink.taken l.fn.out) (g.O.Sink.taken l.out) l.code l.turns (input_items (g.I.Source.left l.fn.input) AtEof) l.left l.has_output (l.out ≡ l.fn.out) l.state;
+  calm_in : g.I.Source.faults l.input ≡ g.I.Source.faults l.fn.input;
+  going : Going g.O.Sink.tells (g.O.Sink.taken l.fn.out) (g.O.Sink.taken l.out) (l.out ≡ l.fn.out) g.I.Source.tells (g.I.Source.left l.fn.input) (g.I.Source.left l.input) l.code l.turns l.left l.has_output l.state l.reader;
 }
 
 abbrev pub decreases-steps : goal.decreases-steps

@@ -1,11 +1,8 @@
-use Rattle.std.proofs.Common.{ap, sym, nat_lt}
-use Rattle.c_runner.proofs.LedgerLemmas.{absent, owned}
+use Rattle.std.proofs.Common.{sym, ap, ◌∙◌}
+use Rattle.c_runner.specs.Held.{held_numbers}
+use Rattle.c_runner.proofs.LedgerLemmas.{owned_once}
 use Rattle.c_runner.proofs.ledger.Ledger.owns.Goals as goal
 
-pub returns-in-None : goal.returns-in-None
-returns-in-None c =
-    rw (← c.self.view_is) (ap (nat_lt 0) (sym (absent c.args.c c.self.inside.further.entries (sym c.in-None.ensures.value)).0))
-
-pub returns-in-Some : goal.returns-in-Some
-returns-in-Some c =
-    rw (← c.self.view_is) (owned c.args.c c.in-Some.field-0.now c.self.inside.further.entries (sym c.in-Some.ensures.value))
+pub returns-in-Once : goal.returns-in-Once
+returns-in-Once c =
+    owned_once c.number.result c.in-Once.first c.args.c c.args.self.now c.number.ensures (sym c.self.view_is ∙ ap held_numbers c.in-Once.is)

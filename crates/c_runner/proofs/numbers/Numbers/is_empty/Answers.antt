@@ -1,5 +1,5 @@
 use Rattle.c_runner.proofs.LedgerLemmas.{none_there}
-use Rattle.c_runner.proofs.ledger.Ledger.is_empty.Goals as goal
+use Rattle.c_runner.proofs.numbers.Numbers.is_empty.Goals as goal
 
 pub returns : goal.returns
 returns c =

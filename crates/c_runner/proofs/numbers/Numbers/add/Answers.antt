@@ -1,7 +1,7 @@
 use Rattle.std.proofs.Common.{◌∙◌, ap, arith}
 use Rattle.c_runner.proofs.LedgerLemmas.{standing, stands, added}
-use Rattle.c_runner.proofs.ledger.Ledger.add.Goals as goal
-use Rattle.c_runner.proofs.ledger.Ledger.add.Goals.{in-None, in-Some}
+use Rattle.c_runner.proofs.numbers.Numbers.add.Goals as goal
+use Rattle.c_runner.proofs.numbers.Numbers.add.Goals.{in-None, in-Some}
 
 pub overflow_add-further : goal.overflow_add-further
 overflow_add-further c =

@@ -1,0 +1,102 @@
+-- A step of a run that may read a line of the input first, before which what is held of the output is handed on.
+use Rattle.std.specs.Prelude.{◌≡◌, ◌⊎◌, ◌<◌, ◌≤◌, ◌+◌, ℕ, Bool, false, List, [], ◌++◌, length, Option, Some, IsTrue, Result, Ok, Err}
+use Rattle.outside_core.specs.Bytes.{TakesFront}
+use Rattle.outside_core.specs.Counts.{one_more}
+use Rattle.value_core.specs.Ending as source
+use Rattle.value_core.specs.Items.{Items, InputEnd, Broken, Line, Bad}
+use Rattle.c_core.specs.Machine.{MachineState}
+use Rattle.c_core.specs.Step.{Next, Ends, Ended}
+use Rattle.line_reader.specs.declared.item.Item.{Item}
+use Rattle.line_reader.specs.declared.read_fault.ReadFault.TheVariants.{Failed}
+use Rattle.line_reader.specs.Held.{most_read, piece_size}
+use Rattle.line_reader.specs.ReaderState.{ReaderState, total_of}
+use Rattle.line_reader.specs.Reading.{items_left, is_ready, Suits, Refuses, Found, Takes, Uses, EndIsSeen}
+use Rattle.c_runner.specs.declared.report.Ending.{Ending}
+use Rattle.c_runner.specs.declared.report.Ending.TheVariants.{Over}
+use Rattle.c_runner.specs.declared.report.RunError.{RunError}
+use Rattle.c_runner.specs.declared.report.RunError.TheVariants.{InputFault, WriteFault, Memory}
+use Rattle.c_runner.specs.declared.state.State.{State}
+use Rattle.c_runner.specs.Handing.{HandsOn}
+use Rattle.c_runner.specs.States.{state_of, next_of}
+
+-- how many lines are left
+abbrev pub line_count : Items → ℕ
+line_count (Line text next) = line_count next + 1
+line_count (Bad next) = line_count next + 1
+line_count _ = 0
+
+-- counts of faults: a failed read, and a refused call of the sink
+abbrev pub faults_of_input : {T : Type 0} → Result T RunError → ℕ → ℕ
+faults_of_input (Err InputFault) n = one_more n
+faults_of_input _ n = n
+
+abbrev pub faults_of_output : {T : Type 0} → Result T RunError → ℕ → ℕ
+faults_of_output (Err WriteFault) n = one_more n
+faults_of_output _ n = n
+
+-- of what was held a front went to the sink, to which nothing happened where nothing was held
+pub record HandsFront (tells : Bool) (sink sink' held : List ℕ) (Untouched : Type 0) : Type 0 where
+  pub front : IsTrue tells → TakesFront sink sink' held
+  pub alone : held ≡ [] → Untouched
+
+-- all that was held went there
+pub record HandsAll (tells : Bool) (sink sink' held : List ℕ) (Untouched : Type 0) : Type 0 where
+  pub all : IsTrue tells → sink' ≡ sink ++ held
+  pub alone : held ≡ [] → Untouched
+
+-- some bytes were taken of an input, with those that were read before no more than may be read
+pub record TakesSome (reader : ReaderState) (tells : Bool) (left left' : List ℕ) : Type 0 where
+  pub taken : List ℕ
+  pub given : IsTrue tells → left ≡ taken ++ left'
+  pub within : total_of reader ≤ most_read → total_of reader + length taken ≤ most_read
+
+-- what came of the call for a line
+abbrev pub Fetches : ReaderState → ReaderState → List ℕ → List ℕ → Bool → List ℕ → List ℕ → Type 0 → Bool → List ℕ → List ℕ → Result Item RunError → Type 0
+Fetches reader reader' held held' out_tells sink sink' Untouched in_tells left left' (Ok item) =
+    HandsOn out_tells sink sink' held held' Untouched × Takes reader in_tells left left' (Found item reader reader')
+    × (IsTrue in_tells → EndIsSeen reader left → EndIsSeen reader' left')
+Fetches reader reader' held held' out_tells sink sink' Untouched in_tells left left' (Err InputFault) =
+    HandsAll out_tells sink sink' held Untouched × Takes reader in_tells left left' (Refuses Failed reader) × (is_ready reader ≡ false)
+Fetches reader reader' held held' out_tells sink sink' Untouched in_tells left left' (Err WriteFault) =
+    HandsFront out_tells sink sink' held Untouched × TakesSome reader in_tells left left'
+Fetches reader reader' held held' out_tells sink sink' Untouched in_tells left left' (Err Memory) =
+    HandsFront out_tells sink sink' held Untouched × TakesSome reader in_tells left left'
+
+-- where a step does not end the run with a line too far along: if bytes were taken a line is used, and of the bytes that were read and
+-- not used there are fewer than one read gives
+pub record UsesLines (reader reader' : ReaderState) (taken : List ℕ) : Type 0 where
+  pub near : length reader.held < piece_size → length reader'.held < piece_size
+  pub lines : ℕ
+  pub counted : (future : List ℕ) (e : InputEnd) → Suits reader' future e → line_count (items_left reader (taken ++ future) e) ≡ lines + line_count (items_left reader' future e)
+  pub quiet : lines ≡ 0 → taken ≡ []
+
+-- A step leads from the old state to the new one, whatever follows the bytes that were taken, and whatever was handed on before
+pub record Moves (does : MachineState → Next) (old new : State) (reader reader' : ReaderState) (out_tells : Bool) (sink sink' : List ℕ) (Untouched : Type 0) (in_tells : Bool) (left left' : List ℕ) (ending : Option Ending) : Type 0 where
+  pub kept : List ℕ
+  pub hands : HandsOn out_tells sink sink' old.output kept Untouched
+  pub taken : List ℕ
+  pub given : IsTrue in_tells → left ≡ taken ++ left'
+  pub uses : Uses reader reader' taken
+  pub within : total_of reader ≤ most_read → total_of reader' ≤ most_read
+  pub seen : IsTrue in_tells → EndIsSeen reader left → EndIsSeen reader' left'
+  pub ended : IsTrue reader.ended → IsTrue reader'.ended
+  pub quiet : IsTrue reader.ended → taken ≡ []
+  pub usual : (ending ≡ Some Over) ⊎ UsesLines reader reader' taken
+  pub leads : (future : List ℕ) (e : InputEnd) → Suits reader' future e → (handed : List ℕ) → does (state_of (record { items = items_left reader (taken ++ future) e; handed = handed }) old) ≡ next_of ending (state_of (record { items = items_left reader' future e; handed = handed ++ hands.0 }) new)
+
+-- a read failed, all that was held was handed on before, and the machine stops there
+pub record BreaksOff (does : MachineState → Next) (old : State) (reader : ReaderState) (out_tells : Bool) (sink sink' : List ℕ) (Untouched : Type 0) (in_tells : Bool) (left left' : List ℕ) : Type 0 where
+  pub hands : HandsAll out_tells sink sink' old.output Untouched
+  pub takes : Takes reader in_tells left left' (Refuses Failed reader)
+  pub unready : is_ready reader ≡ false
+  pub stops : (handed : List ℕ) → does (state_of (record { items = Broken; handed = handed }) old) ≡ Ends (Ended source.Broken) (state_of (record { items = Broken; handed = handed }) old)
+
+abbrev pub Advances : (MachineState → Next) → State → State → ReaderState → ReaderState → Bool → List ℕ → List ℕ → Type 0 → Bool → List ℕ → List ℕ → Result (Option Ending) RunError → Type 0
+Advances does old new reader reader' out_tells sink sink' Untouched in_tells left left' (Ok ending) =
+    Moves does old new reader reader' out_tells sink sink' Untouched in_tells left left' ending
+Advances does old new reader reader' out_tells sink sink' Untouched in_tells left left' (Err InputFault) =
+    BreaksOff does old reader out_tells sink sink' Untouched in_tells left left'
+Advances does old new reader reader' out_tells sink sink' Untouched in_tells left left' (Err WriteFault) =
+    HandsFront out_tells sink sink' old.output Untouched × TakesSome reader in_tells left left'
+Advances does old new reader reader' out_tells sink sink' Untouched in_tells left left' (Err Memory) =
+    HandsFront out_tells sink sink' old.output Untouched × TakesSome reader in_tells left left'

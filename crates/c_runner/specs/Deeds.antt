@@ -1,0 +1,169 @@
+-- What the primitives on `int`s and texts find in their arguments, and what they do.
+use Rattle.std.specs.Prelude.{ℕ, ℤ, pos, true, not, cond, int_lt, nat_lt, ◌&&◌, List, [], ◌++◌, length, Option, Some, None, Result, Ok, Err, slice_get}
+use Rattle.std.specs.Fmt.{signed_decimal}
+use Rattle.std.specs.Ordering.{int_eq}
+use Rattle.std.specs.Str.{bytes_eq}
+use Rattle.std.specs.Str.Parse.{signed_digits_value}
+use Rattle.value_core.specs.declared.arith.Arith.{Arith}
+use Rattle.value_core.specs.Arithmetic.{lies_within, is_short, int_add, int_sub, int_mul, int_neg, int_floor_div, int_modulo, int_shl, int_shr, int_to_i64}
+use Rattle.value_core.specs.Exceptions.{thrown}
+use Rattle.c_core.specs.declared.code.CArg.{CArg}
+use Rattle.c_core.specs.declared.code.CArg.TheVariants as arg
+use Rattle.c_core.specs.declared.fault.Fault.{Fault}
+use Rattle.c_core.specs.declared.fault.Fault.TheVariants as fault
+use Rattle.c_core.specs.declared.primitive.TaggedPrim.{TaggedPrim}
+use Rattle.c_core.specs.declared.primitive.TaggedPrim.TheVariants as tagged
+use Rattle.c_core.specs.declared.primitive.StrPrim.{StrPrim}
+use Rattle.c_core.specs.declared.primitive.StrPrim.TheVariants as str
+use Rattle.c_core.specs.Cells.{Cells, content_at}
+use Rattle.c_core.specs.Machine.{Word, ShortInt, BigInt, ObjectCell, Content, IntCell, StrCell, MachineState}
+use Rattle.c_core.specs.Step.{Next, Ends, Faulted, Effect, Says, Makes, MakesInt, Fails, applied, truth_word, tagged_effect, tagged_or, fitted, item_or}
+use Rattle.c_core.specs.Strings.{text_less, text_length, text_item}
+use Rattle.c_runner.specs.declared.deed.Deed.{Deed}
+use Rattle.c_runner.specs.declared.deed.Deed.TheVariants as deed
+use Rattle.c_runner.specs.Parts.{one_native, one_char, only_text}
+use Rattle.cell_heap.specs.Contents as contents
+
+-- ---- arguments
+-- the number of an `int`, where these are the cells: of a cell, of a word, and of a word that may not be there
+abbrev pub int_held : Option Content → Result ℤ Fault
+int_held None = Err fault.Dead
+int_held (Some (IntCell n)) = Ok n
+int_held (Some _) = Err fault.Kind
+
+abbrev pub int_of : Cells Content → Option Word → Result ℤ Fault
+int_of cells (Some (ShortInt n)) = Ok n
+int_of cells (Some (BigInt c)) = int_held (content_at cells c)
+int_of cells _ = Err fault.Kind
+
+-- the same of a text
+abbrev pub text_held : Option Content → Result (List ℕ) Fault
+text_held None = Err fault.Dead
+text_held (Some (StrCell text)) = Ok text
+text_held (Some _) = Err fault.Kind
+
+abbrev pub text_of : Cells Content → Option Word → Result (List ℕ) Fault
+text_of cells (Some (ObjectCell c)) = text_held (content_at cells c)
+text_of cells _ = Err fault.Kind
+
+-- the word of an argument, where these are the variables
+abbrev pub word_at : List Word → Option CArg → Option Word
+word_at vars (Some (arg.Var x)) = slice_get vars x
+word_at vars _ = None
+
+abbrev pub int_at : Cells Content → List Word → Option CArg → Result ℤ Fault
+int_at cells vars a = int_of cells (word_at vars a)
+
+abbrev pub text_at : Cells Content → List Word → Option CArg → Result (List ℕ) Fault
+text_at cells vars a = text_of cells (word_at vars a)
+
+-- what was found in one argument, or in two, of so many: each is tested before the next one, and then that there are no more
+abbrev pub alone : {A : Type 0} → Result A Fault → ℕ → Result A Fault
+alone (Ok a) n = cond (nat_lt 1 n) (Err fault.Kind) (Ok a)
+alone (Err f) n = Err f
+
+abbrev pub paired : {A B : Type 0} → Result A Fault → Result B Fault → ℕ → Result (A × B) Fault
+paired (Ok a) (Ok b) n = cond (nat_lt 2 n) (Err fault.Kind) (Ok (a, b))
+paired (Ok a) (Err f) n = Err f
+paired (Err f) second n = Err f
+
+abbrev pub one_int : Cells Content → List Word → List CArg → Result ℤ Fault
+one_int cells vars args = alone (int_at cells vars (slice_get args 0)) (length args)
+
+abbrev pub two_ints : Cells Content → List Word → List CArg → Result (ℤ × ℤ) Fault
+two_ints cells vars args = paired (int_at cells vars (slice_get args 0)) (int_at cells vars (slice_get args 1)) (length args)
+
+abbrev pub one_text : Cells Content → List Word → List CArg → Result (List ℕ) Fault
+one_text cells vars args = alone (text_at cells vars (slice_get args 0)) (length args)
+
+abbrev pub two_texts : Cells Content → List Word → List CArg → Result (List ℕ × List ℕ) Fault
+two_texts cells vars args = paired (text_at cells vars (slice_get args 0)) (text_at cells vars (slice_get args 1)) (length args)
+
+abbrev pub text_and_int : Cells Content → List Word → List CArg → Result (List ℕ × ℤ) Fault
+text_and_int cells vars args = paired (text_at cells vars (slice_get args 0)) (int_at cells vars (slice_get args 1)) (length args)
+
+-- ---- what is done
+abbrev pub effect_of : Deed → Effect
+effect_of (deed.Says w) = Says (contents.word_of w)
+effect_of (deed.MakesInt n) = MakesInt n
+effect_of (deed.MakesText text) = Makes (StrCell text)
+effect_of (deed.Fails w class text) = Fails (contents.word_of w) (thrown class text)
+
+-- what is done with what was found, if anything was
+abbrev pub then_done : {A : Type 0} → (A → Effect) → Result A Fault → Result Effect Fault
+then_done f (Ok a) = Ok (f a)
+then_done f (Err why) = Err why
+
+abbrev pub done_or : {A : Type 0} → (A → Effect) → Option A → Result Effect Fault
+done_or f (Some a) = Ok (f a)
+done_or f None = Err fault.Kind
+
+abbrev pub then_tried : {A : Type 0} → (A → Result Effect Fault) → Result A Fault → Result Effect Fault
+then_tried f (Ok a) = f a
+then_tried f (Err why) = Err why
+
+-- what is done, or why the run faults, as the runner and as the machine has it
+abbrev pub done_by : Result Deed Fault → Result Effect Fault
+done_by outcome = then_done effect_of outcome
+
+abbrev pub performed : Option ℕ → Result Effect Fault → MachineState → Next
+performed target (Ok e) s = applied true s target s.top.ledger [] e
+performed target (Err why) s = Ends (Faulted why) s
+
+-- ---- `int`s
+-- the number of a text that writes one as it is printed, which is no short one
+abbrev pub long_number : List ℕ → ℤ → Option ℤ
+long_number text n = cond (bytes_eq (signed_decimal n) text && (lies_within 127 n && not (is_short n))) (Some n) None
+
+abbrev pub number_written : Option (List ℕ) → Option ℤ
+number_written None = None
+number_written (Some text) = long_number text (signed_digits_value 10 text)
+
+-- what a primitive on one `int`, and on two, does
+abbrev pub one_done : TaggedPrim → ℤ → Result Effect Fault
+one_done tagged.Negate n = Ok (tagged_or (int_neg n))
+one_done tagged.AsInt64 n = Ok (fitted (int_to_i64 n))
+one_done tagged.Str n = Ok (Makes (StrCell (signed_decimal n)))
+one_done _ n = Err fault.Kind
+
+abbrev pub computed : TaggedPrim → ℤ → ℤ → Option (Result ℤ Arith)
+computed tagged.Add m n = Some (int_add m n)
+computed tagged.Subtract m n = Some (int_sub m n)
+computed tagged.Multiply m n = Some (int_mul m n)
+computed tagged.FloorDivide m n = Some (int_floor_div m n)
+computed tagged.Remainder m n = Some (int_modulo m n)
+computed tagged.Lshift m n = Some (int_shl m n)
+computed tagged.Rshift m n = Some (int_shr m n)
+computed _ m n = None
+
+abbrev pub two_done : TaggedPrim → ℤ → ℤ → Result Effect Fault
+two_done tagged.Eq m n = Ok (Says (truth_word (int_eq m n)))
+two_done tagged.Lt m n = Ok (Says (truth_word (int_lt m n)))
+two_done tagged.Le m n = Ok (Says (truth_word (not (int_lt n m))))
+two_done p m n = done_or tagged_or (computed p m n)
+
+-- what a primitive on `int`s does, where these are the cells, the variables and the arguments
+abbrev pub tagged_done : TaggedPrim → Cells Content → List Word → List CArg → Result Effect Fault
+tagged_done tagged.FromText cells vars args = done_or MakesInt (number_written (only_text args))
+tagged_done tagged.FromInt64 cells vars args = done_or tagged_effect (one_native vars args)
+tagged_done tagged.FromBool cells vars args = done_or (λ n. tagged_effect (pos n)) (one_char vars args)
+tagged_done tagged.Negate cells vars args = then_tried (one_done tagged.Negate) (one_int cells vars args)
+tagged_done tagged.AsInt64 cells vars args = then_tried (one_done tagged.AsInt64) (one_int cells vars args)
+tagged_done tagged.Str cells vars args = then_tried (one_done tagged.Str) (one_int cells vars args)
+tagged_done p cells vars args = then_tried (λ q. two_done p q.0 q.1) (two_ints cells vars args)
+
+-- ---- texts
+-- what a primitive on two texts does
+abbrev pub texts_done : StrPrim → List ℕ → List ℕ → Result Effect Fault
+texts_done str.Concat a b = Ok (Makes (StrCell (a ++ b)))
+texts_done str.Eq a b = Ok (Says (truth_word (bytes_eq a b)))
+texts_done str.Lt a b = Ok (Says (truth_word (text_less a b)))
+texts_done str.Le a b = Ok (Says (truth_word (not (text_less b a))))
+texts_done _ a b = Err fault.Kind
+
+-- what a primitive on texts does
+abbrev pub str_done : StrPrim → Cells Content → List Word → List CArg → Result Effect Fault
+str_done str.Literal cells vars args = done_or (λ text. Makes (StrCell text)) (only_text args)
+str_done str.Len cells vars args = then_done (λ text. tagged_effect (text_length text)) (one_text cells vars args)
+str_done str.GetItem cells vars args = then_done (λ q. item_or (text_item q.0 q.1)) (text_and_int cells vars args)
+str_done p cells vars args = then_tried (λ q. texts_done p q.0 q.1) (two_texts cells vars args)

@@ -1,0 +1,59 @@
+//! What the primitives on `int`s and texts do, once their arguments were found right.
+ghost use Rattle.std.specs.Prelude.{◌+◌, ◌^◌, ◌<◌, true, [], IfOk};
+ghost use Rattle.c_core.specs.Step.{MakesInt, applied};
+ghost use Rattle.c_runner.specs.Deeds.{done_by, performed};
+ghost use Rattle.c_runner.specs.States.{Follows, IsSmall};
+
+use crate::report::Ending;
+use crate::state::State;
+use c_core::Fault;
+use cell_heap::{Content, Word};
+use value_core::{ExcClass, Memory, Text};
+
+/// What a primitive does.
+#[derive(Drop)]
+pub(crate) enum Deed {
+    /// Answers a word without a cell.
+    Says(Word),
+    /// Answers an `int`, in a new cell.
+    MakesInt(i128),
+    /// Answers a text, in a new cell.
+    MakesText(Text),
+    /// Fails: it answers an error value, and an exception of a class and a text is pending.
+    Fails(Word, ExcClass, Text),
+}
+
+impl State {
+    /// Does what a primitive does. The run faults where its arguments were wrong.
+    pub fn perform_deed(
+        &mut self,
+        target: Option<usize>,
+        deed: Result<Deed, Fault>,
+    ) -> Result<Option<Ending>, Memory>
+        requires small { IsSmall self.old }
+        requires place { self.old.top.place + 1 < 2 ^ 64 }
+        ensures { IfOk result (λ ending. Follows (performed target (done_by deed)) ending self.old self.new) }
+    {
+        match deed {
+            Err(fault) => Ok(Some(Ending::Fault(fault))),
+            Ok(Deed::Says(word)) => Ok(self.answer(target, Some(word))),
+            Ok(Deed::MakesInt(number)) => self.make_int(target, number),
+            Ok(Deed::MakesText(text)) => self.make_cell(target, Content::Str(text)),
+            Ok(Deed::Fails(word, class, text)) => self.fail(target, word, class, text),
+        }
+    }
+
+    /// Makes a cell of a number, which the frame owns, and writes an `int` that refers to it to the target.
+    fn make_int(&mut self, target: Option<usize>, number: i128) -> Result<Option<Ending>, Memory>
+        requires small { IsSmall self.old }
+        requires place { self.old.top.place + 1 < 2 ^ 64 }
+        ensures { IfOk result (λ ending. Follows
+            (λ s. applied true s target s.top.ledger [] (MakesInt number)) ending self.old self.new) }
+    {
+        let key = self.cells.make(Content::Int(number))?;
+        self.top.ledger.add(key.serial())?;
+        self.top.set_target(target, Word::Big(key));
+        self.top.place += 1;
+        Ok(None)
+    }
+}

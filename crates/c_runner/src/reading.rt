@@ -1,0 +1,63 @@
+//! Steps of a run that may read a line of the input first.
+ghost use Rattle.std.specs.Prelude.{◌≡◌};
+ghost use Rattle.c_core.specs.Step.{step};
+ghost use Rattle.c_runner.specs.Advancing.{Fetches, Advances, faults_of_input, faults_of_output};
+ghost use Rattle.c_runner.specs.States.{IsSmall};
+ghost use Rattle.c_runner.specs.Targets.{table_of};
+
+use crate::output::Output;
+use crate::pause::Pause;
+use crate::report::{Ending, RunError};
+use crate::state::State;
+use crate::table::Target;
+use c_core::Code;
+use line_reader::{Item, LineReader};
+use outside_core::{Sink, Source};
+use std::alloc::Global;
+use value_core::Many;
+
+/// Makes the next step, and reads a line of the input where it asks for one.
+pub(crate) fn advance<I: Source, O: Sink>(
+    alloc: Global,
+    code: &Code,
+    table: &Many<Many<Target>>,
+    state: &mut State,
+    reader: &mut LineReader,
+    input: &mut I,
+    out: &mut O,
+) -> Result<Option<Ending>, RunError>
+    requires table { table.now ≡ table_of code.now }
+    requires small { IsSmall state.old }
+    ensures advances { Advances (step code.now) state.old state.new reader.old reader.new
+        O.tells (O.taken out.old) (O.taken out.new) (out.new ≡ out.old)
+        I.tells (I.left input.old) (I.left input.new) result }
+    ensures counted { I.faults input.new ≡ faults_of_input result (I.faults input.old) }
+    ensures out_counted { O.faults out.new ≡ faults_of_output result (O.faults out.old) }
+{
+    match state.step(alloc, code, table) {
+        Ok(ending) => Ok(ending),
+        Err(Pause::Memory) => Err(RunError::Memory),
+        Err(Pause::Waits(target)) => {
+            let item = next_item(reader, &mut state.output, input, out)?;
+            Ok(state.receive(alloc, target, item)?)
+        }
+    }
+}
+
+/// The next line of the input. What is held of the output is handed on before a read.
+fn next_item<I: Source, O: Sink>(
+    reader: &mut LineReader,
+    output: &mut Output,
+    input: &mut I,
+    out: &mut O,
+) -> Result<Item, RunError>
+    ensures fetches { Fetches reader.old reader.new output.old output.new
+        O.tells (O.taken out.old) (O.taken out.new) (out.new ≡ out.old)
+        I.tells (I.left input.old) (I.left input.new) result }
+    ensures counted { I.faults input.new ≡ faults_of_input result (I.faults input.old) }
+    ensures out_counted { O.faults out.new ≡ faults_of_output result (O.faults out.old) }
+{
+    let will_read = !reader.is_ready();
+    output.hand_on_if(will_read, out)?;
+    Ok(reader.next(input)?)
+}

@@ -1,0 +1,279 @@
+//! Calls of primitives on `int`s.
+ghost use Rattle.std.specs.Prelude.{◌≡◌, ◌+◌, ◌^◌, ◌<◌, true, pos, map, IfOk};
+ghost use Rattle.std.specs.Option.{option_copied};
+ghost use Rattle.std.specs.Str.Parse.{signed_digits_value};
+ghost use Rattle.c_core.specs.declared.code.Code as machine_code;
+ghost use Rattle.c_core.specs.declared.primitive.Primitive.TheVariants as prim;
+ghost use Rattle.c_core.specs.Cells.{content_at};
+ghost use Rattle.value_core.specs.Arithmetic.{int_to_i64};
+ghost use Rattle.c_core.specs.Step.{MakesInt, primitive_step, tagged_effect, tagged_or, fitted};
+ghost use Rattle.c_runner.specs.Deeds.{effect_of, done_by, done_or, then_tried, int_held, int_at, one_int, two_ints, long_number, number_written, computed, one_done, two_done, tagged_done};
+ghost use Rattle.c_runner.specs.Parts.{one_native, one_char, only_text};
+ghost use Rattle.c_runner.specs.States.{Follows, IsSmall};
+ghost use Rattle.cell_heap.specs.Contents.{number_of, word_of};
+
+use crate::deed::Deed;
+use crate::int64::{class_of, text_of};
+use crate::pending::only_text;
+use crate::report::Ending;
+use crate::state::State;
+use crate::words::truth;
+use c_core::{CArg, Fault, TaggedPrim};
+use cell_heap::{Content, Key, Word};
+use itoa::Buffer;
+use std::alloc::Global;
+use value_core::{
+    Arith, ExcClass, Memory, Text, int_add, int_floor_div, int_modulo, int_mul, int_neg, int_shl,
+    int_shr, int_sub, int_to_i64, is_short, number_text,
+};
+
+impl State {
+    /// Calls a primitive on `int`s.
+    pub fn call_tagged(
+        &mut self,
+        alloc: Global,
+        primitive: TaggedPrim,
+        target: Option<usize>,
+        args: &[CArg],
+    ) -> Result<Option<Ending>, Memory>
+        requires small { IsSmall self.old }
+        requires place { self.old.top.place + 1 < 2 ^ 64 }
+        ensures { IfOk result (λ ending. (code : machine_code.Code) → Follows
+            (λ s. primitive_step true s code target args.now (prim.Tagged primitive)) ending self.old self.new) }
+    {
+        let deed = self.tagged_deed(alloc, primitive, args)?;
+        self.perform_deed(target, deed)
+    }
+
+    /// What a primitive on `int`s does, if its arguments are right.
+    fn tagged_deed(
+        &self,
+        alloc: Global,
+        primitive: TaggedPrim,
+        args: &[CArg],
+    ) -> Result<Result<Deed, Fault>, Memory>
+        ensures { IfOk result (λ deed. done_by deed
+            ≡ tagged_done primitive self.now.cells (map word_of self.now.top.vars) args.now) }
+    {
+        match primitive {
+            TaggedPrim::FromText => Ok(from_text(args)),
+            TaggedPrim::FromInt64 => Ok(self.from_native(args)),
+            TaggedPrim::FromBool => Ok(self.from_truth(args)),
+            TaggedPrim::Negate | TaggedPrim::AsInt64 | TaggedPrim::Str => {
+                self.one_deed(alloc, primitive, args)
+            }
+            _ => self.two_deed(alloc, primitive, args),
+        }
+    }
+
+    /// Answers the `int` that the one argument, a native integer, is.
+    fn from_native(&self, args: &[CArg]) -> Result<Deed, Fault>
+        ensures { done_by result ≡ done_or tagged_effect (one_native (map word_of self.now.top.vars) args.now) }
+    {
+        match self.one_native(args) {
+            None => Err(Fault::Kind),
+            Some(n) => Ok(int_deed(i128::from(n))),
+        }
+    }
+
+    /// Answers the `int` that the one argument, a truth, is.
+    fn from_truth(&self, args: &[CArg]) -> Result<Deed, Fault>
+        ensures { done_by result
+            ≡ done_or (λ n. tagged_effect (pos n)) (one_char (map word_of self.now.top.vars) args.now) }
+    {
+        match self.one_char(args) {
+            None => Err(Fault::Kind),
+            Some(n) => Ok(int_deed(i128::from(n))),
+        }
+    }
+
+    /// What a primitive on one `int` does.
+    fn one_deed(
+        &self,
+        alloc: Global,
+        primitive: TaggedPrim,
+        args: &[CArg],
+    ) -> Result<Result<Deed, Fault>, Memory>
+        ensures { IfOk result (λ deed. done_by deed
+            ≡ then_tried (one_done primitive) (one_int self.now.cells (map word_of self.now.top.vars) args.now)) }
+    {
+        match self.one_int(args) {
+            Err(fault) => Ok(Err(fault)),
+            Ok(n) => of_one(alloc, primitive, n),
+        }
+    }
+
+    /// What a primitive on two `int`s does.
+    fn two_deed(
+        &self,
+        alloc: Global,
+        primitive: TaggedPrim,
+        args: &[CArg],
+    ) -> Result<Result<Deed, Fault>, Memory>
+        ensures { IfOk result (λ deed. done_by deed
+            ≡ then_tried (λ q. two_done primitive q.0 q.1) (two_ints self.now.cells (map word_of self.now.top.vars) args.now)) }
+    {
+        match self.two_ints(args) {
+            Err(fault) => Ok(Err(fault)),
+            Ok((a, b)) => of_two(alloc, primitive, a, b),
+        }
+    }
+
+    /// The one `int` that the arguments are.
+    fn one_int(&self, args: &[CArg]) -> Result<i128, Fault>
+        ensures { result ≡ one_int self.now.cells (map word_of self.now.top.vars) args.now }
+    {
+        let n = self.int_argument(args.first())?;
+        if args.len() > 1 {
+            return Err(Fault::Kind);
+        }
+        Ok(n)
+    }
+
+    /// The two `int`s that the arguments are.
+    fn two_ints(&self, args: &[CArg]) -> Result<(i128, i128), Fault>
+        ensures { result ≡ two_ints self.now.cells (map word_of self.now.top.vars) args.now }
+    {
+        let a = self.int_argument(args.first())?;
+        let b = self.int_argument(args.get(1))?;
+        if args.len() > 2 {
+            return Err(Fault::Kind);
+        }
+        Ok((a, b))
+    }
+
+    /// The `int` that an argument is.
+    pub fn int_argument(&self, argument: Option<&CArg>) -> Result<i128, Fault>
+        ensures { result ≡ int_at self.now.cells (map word_of self.now.top.vars) (option_copied argument.entry) }
+    {
+        let Some(CArg::Var(x)) = argument else {
+            return Err(Fault::Kind);
+        };
+        match self.top.vars.get(*x) {
+            Some(Word::Short(n)) => Ok(i128::from(*n)),
+            Some(Word::Big(key)) => self.int_in(*key),
+            _ => Err(Fault::Kind),
+        }
+    }
+
+    /// The number that a cell holds.
+    fn int_in(&self, key: Key) -> Result<i128, Fault>
+        ensures { result ≡ int_held (content_at self.now.cells (number_of key)) }
+    {
+        let Ok(content) = self.cells.content(key) else {
+            return Err(Fault::Dead);
+        };
+        match content {
+            Content::Int(n) => Ok(*n),
+            _ => Err(Fault::Kind),
+        }
+    }
+}
+
+/// What comes of a primitive on one `int`.
+fn of_one(alloc: Global, primitive: TaggedPrim, n: i128) -> Result<Result<Deed, Fault>, Memory>
+    ensures { IfOk result (λ deed. done_by deed ≡ one_done primitive n) }
+{
+    match primitive {
+        TaggedPrim::Negate => Ok(Ok(int_or_failure(alloc, int_neg(n))?)),
+        TaggedPrim::AsInt64 => Ok(Ok(native_or_failure(alloc, n)?)),
+        TaggedPrim::Str => Ok(Ok(Deed::MakesText(number_text(alloc, n)?))),
+        _ => Ok(Err(Fault::Kind)),
+    }
+}
+
+/// What comes of a primitive on two `int`s.
+fn of_two(
+    alloc: Global,
+    primitive: TaggedPrim,
+    a: i128,
+    b: i128,
+) -> Result<Result<Deed, Fault>, Memory>
+    ensures { IfOk result (λ deed. done_by deed ≡ two_done primitive a b) }
+{
+    match primitive {
+        TaggedPrim::Eq => Ok(Ok(Deed::Says(truth(a == b)))),
+        TaggedPrim::Lt => Ok(Ok(Deed::Says(truth(a < b)))),
+        TaggedPrim::Le => Ok(Ok(Deed::Says(truth(a <= b)))),
+        _ => match computed(primitive, a, b) {
+            None => Ok(Err(Fault::Kind)),
+            Some(outcome) => Ok(Ok(int_or_failure(alloc, outcome)?)),
+        },
+    }
+}
+
+/// The result of a primitive that computes an `int` from two.
+fn computed(primitive: TaggedPrim, a: i128, b: i128) -> Option<Result<i128, Arith>>
+    ensures { result ≡ computed primitive a b }
+{
+    match primitive {
+        TaggedPrim::Add => Some(int_add(a, b)),
+        TaggedPrim::Subtract => Some(int_sub(a, b)),
+        TaggedPrim::Multiply => Some(int_mul(a, b)),
+        TaggedPrim::FloorDivide => Some(int_floor_div(a, b)),
+        TaggedPrim::Remainder => Some(int_modulo(a, b)),
+        TaggedPrim::Lshift => Some(int_shl(a, b)),
+        TaggedPrim::Rshift => Some(int_shr(a, b)),
+        _ => None,
+    }
+}
+
+/// Answers an `int`, or fails.
+fn int_or_failure(alloc: Global, outcome: Result<i128, Arith>) -> Result<Deed, Memory>
+    ensures { IfOk result (λ deed. effect_of deed ≡ tagged_or outcome) }
+{
+    match outcome {
+        Ok(n) => Ok(int_deed(n)),
+        Err(why) => {
+            let text = Text::from_str(alloc, text_of("integer is past 128 bits", why))?;
+            Ok(Deed::Fails(Word::TagError, class_of(why), text))
+        }
+    }
+}
+
+/// Answers a native integer, or fails.
+fn native_or_failure(alloc: Global, n: i128) -> Result<Deed, Memory>
+    ensures { IfOk result (λ deed. effect_of deed ≡ fitted (int_to_i64 n)) }
+{
+    match int_to_i64(n) {
+        Ok(native) => Ok(Deed::Says(Word::I64(native))),
+        Err(_) => {
+            let text = Text::from_str(alloc, "integer does not fit in i64")?;
+            Ok(Deed::Fails(Word::I64(-113), ExcClass::OverflowError, text))
+        }
+    }
+}
+
+/// Answers an `int`: a short word where it is short, and else in a new cell.
+pub(crate) fn int_deed(n: i128) -> Deed
+    ensures { effect_of result ≡ tagged_effect n }
+{
+    if is_short(n) {
+        Deed::Says(Word::Short(n as i64))
+    } else {
+        Deed::MakesInt(n)
+    }
+}
+
+/// Answers the `int` that the one argument writes, which is no short one.
+fn from_text(args: &[CArg]) -> Result<Deed, Fault>
+    ensures { done_by result ≡ done_or MakesInt (number_written (only_text args.now)) }
+{
+    let Some(text) = only_text(args) else {
+        return Err(Fault::Kind);
+    };
+    match long_number(text) {
+        None => Err(Fault::Kind),
+        Some(n) => Ok(Deed::MakesInt(n)),
+    }
+}
+
+/// The number of a text that writes one as it is printed, which is no short one.
+fn long_number(text: &str) -> Option<i128>
+    ensures { result ≡ long_number text.now (signed_digits_value 10 text.now) }
+{
+    match text.parse::<i128>() {
+        Ok(n) if !is_short(n) && Buffer::new().format(n) == text => Some(n),
+        _ => None,
+    }
+}
