@@ -10,3 +10,4 @@ pub mod RunGaveLemmas
 pub mod MostTurns
 pub mod Statuses
 pub mod AllowedLemmas
+pub mod ReadsLemmas

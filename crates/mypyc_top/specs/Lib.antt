@@ -22,3 +22,4 @@ pub mod Refusals
 pub mod Output
 pub mod Replies
 pub mod Plans
+pub mod Reads

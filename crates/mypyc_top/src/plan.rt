@@ -8,6 +8,7 @@ ghost use Rattle.mypyc_top.specs.Answer.{Answer, RequestAnswer, ModeAnswer, Modu
 ghost use Rattle.mypyc_top.specs.Causes.{AbsentOpens};
 ghost use Rattle.mypyc_top.specs.Replies.{IsSent, is_file_status, is_module_status};
 ghost use Rattle.mypyc_top.specs.Plans.{MatchPlan, ForReply, IsRunnable, Plans, CanCome, Allowed};
+ghost use Rattle.mypyc_top.specs.Reads.{runs, runs_program, PlanRuns};
 
 use crate::code::code_of;
 use crate::reading::{Refusal, read_file};
@@ -44,6 +45,7 @@ pub(crate) fn plan_of<F: Files>(
 ) -> Result<Plan, Memory>
     ensures fit { IfOk result (λ plan. MatchPlan plan (λ reply. IsSent reply.status) IsRunnable) }
     ensures allowed { IfOk result (Allowed (words_of (texts words.now))) }
+    ensures runs { IfOk result (PlanRuns (runs_program (words_of (texts words.now)))) }
     ensures open_fault { IfOk result (λ plan. ForReply plan (λ reply. reply.status ≡ Status.OpenFault →
         Rose (F.faults files.old) (F.faults files.new) × (F.is_open files.new ≡ false))) }
     ensures read_fault { IfOk result (λ plan. ForReply plan (λ reply. reply.status ≡ Status.ReadFault →
@@ -69,6 +71,7 @@ fn request_plan<F: Files>(alloc: Global, request: &Request, files: &mut F) -> Re
     requires { request.now.turns ≤ most_turns }
     ensures fit { IfOk result (λ plan. MatchPlan plan (λ reply. IsSent reply.status) IsRunnable) }
     ensures allowed { IfOk result (CanCome request.now.emit) }
+    ensures runs { IfOk result (PlanRuns (runs request.now.emit)) }
     ensures open_fault { IfOk result (λ plan. ForReply plan (λ reply. reply.status ≡ Status.OpenFault →
         Rose (F.faults files.old) (F.faults files.new) × (F.is_open files.new ≡ false))) }
     ensures read_fault { IfOk result (λ plan. ForReply plan (λ reply. reply.status ≡ Status.ReadFault →
@@ -117,6 +120,7 @@ fn file_plan(alloc: Global, request: &Request, bytes: &[u8]) -> Result<Plan, Mem
     requires { request.now.turns ≤ most_turns }
     ensures fit { IfOk result (λ plan. MatchPlan plan (λ reply. IsTrue (is_file_status reply.status)) IsRunnable) }
     ensures allowed { IfOk result (CanCome request.now.emit) }
+    ensures runs { IfOk result (PlanRuns (runs request.now.emit)) }
     ensures answer { IfOk result (Plans (ModeAnswer request.now.emit request.now bytes.now)) }
 {
     let file = request.file.as_str();
@@ -131,6 +135,7 @@ fn file_plan(alloc: Global, request: &Request, bytes: &[u8]) -> Result<Plan, Mem
 /// A module is said to have no diagnostics, or has them.
 fn check_plan(alloc: Global, file: &str, bytes: &[u8]) -> Result<Plan, Memory>
     ensures fit { IfOk result (λ plan. MatchPlan plan (λ reply. IsTrue (is_module_status reply.status)) (λ _. ⊥)) }
+    ensures runs { IfOk result (PlanRuns false) }
     ensures answer { IfOk result (Plans (λ _ out err s.
         ModuleAnswer Emit.Check file.now bytes.now (λ _. Checked out err s) out err s)) }
 {
@@ -149,6 +154,7 @@ fn check_plan(alloc: Global, file: &str, bytes: &[u8]) -> Result<Plan, Memory>
 /// The C text of a module, or its diagnostics.
 fn compile_plan(alloc: Global, file: &str, bytes: &[u8]) -> Result<Plan, Memory>
     ensures fit { IfOk result (λ plan. MatchPlan plan (λ reply. IsTrue (is_module_status reply.status)) (λ _. ⊥)) }
+    ensures runs { IfOk result (PlanRuns false) }
     ensures answer { IfOk result (Plans (λ _ out err s.
         ModuleAnswer Emit.C file.now bytes.now (λ m. Compiled m out err s) out err s)) }
 {
@@ -169,6 +175,7 @@ fn run_plan(alloc: Global, file: &str, turns: u64, bytes: &[u8]) -> Result<Plan,
     requires { turns ≤ most_turns }
     ensures fit { IfOk result (λ plan. MatchPlan plan (λ reply. IsTrue (is_module_status reply.status)) IsRunnable) }
     ensures allowed { IfOk result (CanCome Emit.Run) }
+    ensures runs { IfOk result (PlanRuns true) }
     ensures answer { IfOk result (Plans (λ items out err s.
         ModuleAnswer Emit.Run file.now bytes.now (λ m. ModuleRun m turns items out err s) out err s)) }
 {
@@ -193,6 +200,7 @@ fn text_plan(alloc: Global, file: &str, turns: u64, bytes: &[u8]) -> Result<Plan
     requires { turns ≤ most_turns }
     ensures fit { IfOk result (λ plan. MatchPlan plan (λ reply. reply.status ≡ Status.TextRefused) IsRunnable) }
     ensures allowed { IfOk result (CanCome Emit.Runc) }
+    ensures runs { IfOk result (PlanRuns true) }
     ensures answer { IfOk result (Plans (TextRun file.now bytes.now turns)) }
 {
     match read(alloc, bytes) {

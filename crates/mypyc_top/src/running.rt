@@ -9,6 +9,7 @@ ghost use Rattle.mypyc_top.specs.ErrorLines.{input_line};
 ghost use Rattle.mypyc_top.specs.Replies.{is_run_status};
 ghost use Rattle.mypyc_top.specs.Sinks.{sink_call};
 ghost use Rattle.mypyc_top.specs.Plans.{IsRunnable, IsRest, Finishes, RunGave};
+ghost use Rattle.mypyc_top.specs.Reads.{TookBefore, RunTook};
 
 use crate::ending::{input_text, line_of, status_of};
 use crate::reply::{Output, Reply};
@@ -71,7 +72,9 @@ pub(crate) fn run_and_send<I: Source, O: Sink, E: Sink>(
         (sink_call E.tells (E.taken err.old) (E.taken err.new))
         (out.new ≡ out.old) (err.new ≡ err.old) result }
     ensures status { IsTrue (is_run_status result) }
-    ensures input { input.new ≡ input.old }
+    ensures reads { IsTrue I.tells → (items : Items)
+        × AreGiven I.tells (I.faults input.old) (I.faults input.new) (I.left input.old) (I.left input.new) items
+        × RunTook program.now items (I.left input.old) (I.left input.new) result }
     ensures input_fault { result ≡ Status.InputFault → Rose (I.faults input.old) (I.faults input.new) }
     ensures write_fault { result ≡ Status.WriteFault →
         Rose (O.faults out.old) (O.faults out.new) ⊎ Rose (E.faults err.old) (E.faults err.new) }
@@ -95,8 +98,8 @@ fn run_program<I: Source, O: Sink>(
         × AreGiven I.tells (I.faults input.old) (I.faults input.new) (I.left input.old) (I.left input.new) items
         × ((stop : Stop) × (machine_run program.now.turns items program.now.code ≡ Some stop)
         × Finishes program.now stop (sink_call O.tells (O.taken out.old) (O.taken out.new)) result
-        × (stop.state.output ≡ [] → out.new ≡ out.old)) }
-    ensures input { input.new ≡ input.old }
+        × (stop.state.output ≡ [] → out.new ≡ out.old)
+        × (IsTrue I.tells → TookBefore result items stop (I.left input.old) (I.left input.new))) }
     ensures input_fault { IfOk result (λ rest. rest.reply.status ≡ Status.InputFault →
         Rose (I.faults input.old) (I.faults input.new)) }
     ensures calm { OnOk result (O.faults out.new ≡ O.faults out.old) }

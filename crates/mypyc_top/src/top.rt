@@ -4,11 +4,12 @@ ghost use Rattle.outside_core.specs.Bytes.{GivesAtMost};
 ghost use Rattle.outside_core.specs.Counts.{count_end, has_risen, Rose};
 ghost use Rattle.c_runner.specs.Ran.{AreGiven};
 ghost use Rattle.mypyc_top.specs.Words.{texts, words_of};
-ghost use Rattle.mypyc_top.specs.Answer.{file_meaning, named_content, named_most, IsStatus};
+ghost use Rattle.mypyc_top.specs.Answer.{file_meaning, named_content, named_most, Answer, IsStatus};
 ghost use Rattle.mypyc_top.specs.Modes.{IsAllowed};
 ghost use Rattle.mypyc_top.specs.Causes.{AbsentOpens, Yields};
 ghost use Rattle.mypyc_top.specs.Sinks.{sink_call};
 ghost use Rattle.mypyc_top.specs.Answered.{Answered};
+ghost use Rattle.mypyc_top.specs.Reads.{runs_program, is_ended, leaves_input, most_taken, RunRead};
 
 use crate::plan::{Plan, plan_of};
 use crate::running::run_and_send;
@@ -58,7 +59,20 @@ pub fn mypyc<F: Files, I: Source, O: Sink, E: Sink>(
     ensures write_fault { result ≡ Status.WriteFault →
         Rose (O.faults out.old) (O.faults out.new) ⊎ Rose (E.faults err.old) (E.faults err.new) }
     ensures input_fault { result ≡ Status.InputFault → Rose (I.faults input.old) (I.faults input.new) }
-    ensures input { input.new ≡ input.old }
+    // The input is left as it was where no program is run.
+    ensures input { IsTrue (leaves_input (words_of (texts words.now)) result) → input.new ≡ input.old }
+    // Where the input tells its bytes, a run that ended took those of the lines that it used and at most 4095 behind
+    // them, and none where it used no line, unless a line ended too far along.
+    ensures reads { IsTrue I.tells → IsTrue (runs_program (words_of (texts words.now))) → IsTrue (is_ended result)
+        → (items : Items)
+        × AreGiven I.tells (I.faults input.old) (I.faults input.new) (I.left input.old) (I.left input.new) items
+        × RunRead items (I.left input.old) (I.left input.new)
+        (λ text lines status. IsTrue F.tells → F.faults files.old < count_end → Answer (texts words.now)
+        (file_meaning (has_risen (F.faults files.old) (F.faults files.new)) (F.is_open files.new)
+        (named_content (F.content files.old) (texts words.now)))
+        items text lines status) result }
+    // Never is more read than one byte more than a run may use, whatever comes of it.
+    ensures reads_at_most { IsTrue I.tells → GivesAtMost most_taken (I.left input.old) (I.left input.new) }
     // A file is read to its limit, and one byte further at most, whatever comes of it.
     ensures read_at_most { (bytes : List ℕ) → IsTrue F.tells → F.is_open files.old ≡ false
         → named_content (F.content files.old) (texts words.now) ≡ Some bytes → IsTrue (F.is_open files.new)
@@ -112,7 +126,16 @@ fn answer<F: Files, I: Source, O: Sink, E: Sink>(
     ensures write_fault { result ≡ Status.WriteFault →
         Rose (O.faults out.old) (O.faults out.new) ⊎ Rose (E.faults err.old) (E.faults err.new) }
     ensures input_fault { result ≡ Status.InputFault → Rose (I.faults input.old) (I.faults input.new) }
-    ensures input { input.new ≡ input.old }
+    ensures input { IsTrue (leaves_input (words_of (texts words.now)) result) → input.new ≡ input.old }
+    ensures reads { IsTrue I.tells → IsTrue (runs_program (words_of (texts words.now))) → IsTrue (is_ended result)
+        → (items : Items)
+        × AreGiven I.tells (I.faults input.old) (I.faults input.new) (I.left input.old) (I.left input.new) items
+        × RunRead items (I.left input.old) (I.left input.new)
+        (λ text lines status. IsTrue F.tells → F.faults files.old < count_end → Answer (texts words.now)
+        (file_meaning (has_risen (F.faults files.old) (F.faults files.new)) (F.is_open files.new)
+        (named_content (F.content files.old) (texts words.now)))
+        items text lines status) result }
+    ensures reads_at_most { IsTrue I.tells → GivesAtMost most_taken (I.left input.old) (I.left input.new) }
     ensures read_at_most { (bytes : List ℕ) → IsTrue F.tells → F.is_open files.old ≡ false
         → named_content (F.content files.old) (texts words.now) ≡ Some bytes → IsTrue (F.is_open files.new)
         → GivesAtMost (named_most (words_of (texts words.now)) + 1) bytes (F.left files.new) }

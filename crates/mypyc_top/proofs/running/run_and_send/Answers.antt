@@ -1,6 +1,7 @@
-use Rattle.std.proofs.Common.{subst, ℕ, ◌⊎◌}
+use Rattle.std.proofs.Common.{refl, subst, ℕ, ◌⊎◌, inl, inr}
 use Rattle.outside_core.specs.Counts.{Rose}
 use Rattle.mypyc_top.proofs.RunGaveLemmas.{rest_is_replied, rest_sent, not_written, no_memory, sent_run_status}
+use Rattle.mypyc_top.proofs.ReadsLemmas.{took_sent, took_refused, ending_sent}
 use Rattle.mypyc_top.proofs.running.run_and_send.Goals as goal
 
 pub returns-in-Ok-clause-gave : goal.returns-in-Ok-clause-gave
@@ -26,3 +27,33 @@ returns-in-Err-Memory-clause-gave g c =
 
 pub returns-in-Ok-clause-status : goal.returns-in-Ok-clause-status
 returns-in-Ok-clause-status g c = let r = c.in-Ok.ensures.ran in sent_run_status c.args.program.now r.2.0 _ c.in-Ok.rest c.send_reply.result r.2.2 c.send_reply.ensures.status
+
+pub returns-in-Ok-clause-reads : goal.returns-in-Ok-clause-reads
+returns-in-Ok-clause-reads g c = λ tells.
+    let r = c.in-Ok.ensures.ran in (
+      r.0,
+      r.1,
+      record {
+        stop = r.2.0;
+        run = r.2.1;
+        ending = ending_sent c.in-Ok.rest.reply.status c.send_reply.result _ r.2.2.1.2 c.send_reply.ensures.status;
+        took = took_sent r.0 r.2.0 _ _ c.in-Ok.rest.reply.status c.send_reply.result c.send_reply.ensures.status (r.2.4 tells);
+      },
+    )
+
+pub returns-in-Err-WriteFault-clause-reads : goal.returns-in-Err-WriteFault-clause-reads
+returns-in-Err-WriteFault-clause-reads g c = λ tells.
+    let r = c.in-Err-WriteFault.ensures.ran in (r.0, r.1, record { stop = r.2.0; run = r.2.1; ending = inr (inl refl); took = r.2.4 tells })
+
+pub returns-in-Err-Memory-clause-reads : goal.returns-in-Err-Memory-clause-reads
+returns-in-Err-Memory-clause-reads g c = λ tells.
+    let r = c.in-Err-Memory.ensures.ran in (
+      r.0,
+      r.1,
+      record {
+        stop = r.2.0;
+        run = r.2.1;
+        ending = inr (inr c.out_of_memory.ensures.status);
+        took = took_refused r.0 r.2.0 _ _ c.out_of_memory.result c.out_of_memory.ensures.status (r.2.4 tells);
+      },
+    )

@@ -1,11 +1,14 @@
 use Rattle.std.proofs.Common.{refl, sym, append-nil, inl, inr}
 use Rattle.outside_core.specs.Counts.{has_risen}
 use Rattle.c_runner.specs.Ran.{given_items}
+use Rattle.mypyc_top.specs.Words.{texts, words_of}
+use Rattle.mypyc_top.specs.Reads.{runs_program}
 use Rattle.mypyc_top.specs.Output.{output_text}
 use Rattle.mypyc_top.specs.Endings.{machine_status}
 use Rattle.mypyc_top.specs.Plans.{program_text, program_line}
 use Rattle.mypyc_top.proofs.AllowedLemmas.{sent_is_replied, sent_is_calm}
 use Rattle.mypyc_top.proofs.RunGaveLemmas.{given_lines}
+use Rattle.mypyc_top.proofs.ReadsLemmas.{none_taken, run_at_most, run_read, ran_alone, sent_not_ended}
 use Rattle.mypyc_top.proofs.top.answer.Goals as goal
 
 pub returns-in-Ok-Send-clause-answer : goal.returns-in-Ok-Send-clause-answer
@@ -70,3 +73,29 @@ returns-in-Err-clause-answer g c = λ tells below.
         out_alone = refl;
       }),
     )
+
+pub returns-in-Ok-Send-clause-reads : goal.returns-in-Ok-Send-clause-reads
+returns-in-Ok-Send-clause-reads g c = λ tells runs ended.
+    let planned = rw c.in-Ok-Send.field-0-is at c.in-Ok-Send.ensures.runs in
+    sent_not_ended _ (runs_program (words_of (texts c.args.words.now))) c.in-Ok-Send.reply c.send_reply.result planned runs c.send_reply.ensures.status ended
+
+pub returns-in-Ok-Send-clause-reads_at_most : goal.returns-in-Ok-Send-clause-reads_at_most
+returns-in-Ok-Send-clause-reads_at_most g c = λ tells. none_taken _
+
+pub returns-in-Err-clause-reads_at_most : goal.returns-in-Err-clause-reads_at_most
+returns-in-Err-clause-reads_at_most g c = λ tells. none_taken _
+
+pub returns-in-Ok-Run-clause-reads : goal.returns-in-Ok-Run-clause-reads
+returns-in-Ok-Run-clause-reads g c = λ tells runs ended.
+    let planned = rw c.in-Ok-Run.field-0-is at c.in-Ok-Run.ensures.answer in
+    let r = c.run_and_send.ensures.reads tells in
+    (r.0, r.1, run_read c.in-Ok-Run.program r.0 _ _ _ c.run_and_send.result (λ stop run file_tells below. planned file_tells below r.0 r.1.0 stop run) ended r.2)
+
+pub returns-in-Ok-Run-clause-reads_at_most : goal.returns-in-Ok-Run-clause-reads_at_most
+returns-in-Ok-Run-clause-reads_at_most g c = λ tells.
+    let r = c.run_and_send.ensures.reads tells in run_at_most c.in-Ok-Run.program r.0 _ _ c.run_and_send.result r.2
+
+pub returns-in-Ok-Run-clause-input : goal.returns-in-Ok-Run-clause-input
+returns-in-Ok-Run-clause-input g c = λ left.
+    let planned = rw c.in-Ok-Run.field-0-is at c.in-Ok-Run.ensures.runs in
+    ran_alone _ (words_of (texts c.args.words.now)) c.in-Ok-Run.program c.run_and_send.result planned c.run_and_send.ensures.status left

@@ -1,0 +1,99 @@
+-- What a call took of the input.
+use Rattle.std.specs.Prelude.{◌≡◌, ◌⊎◌, ℕ, ◌+◌, Bool, true, false, not, ◌||◌, List, ◌++◌, length, Some, IsTrue, Result, Ok, Err}
+use Rattle.value_core.specs.Items.{Items, most_input}
+use Rattle.outside_core.specs.Bytes.{GivesAtMost}
+use Rattle.c_core.specs.declared.code.Code.{Code}
+use Rattle.c_core.specs.Run.{Stop, machine_run}
+use Rattle.c_runner.specs.Ran.{TookLines}
+use Rattle.mypyc_top.specs.declared.status.Status.{Status}
+use Rattle.mypyc_top.specs.declared.status.Status.TheVariants as status
+use Rattle.mypyc_top.specs.declared.words.Emit.{Emit}
+use Rattle.mypyc_top.specs.declared.words.Emit.TheVariants as emit
+use Rattle.mypyc_top.specs.declared.words.Words.{Words}
+use Rattle.mypyc_top.specs.declared.words.Words.TheVariants.{Usage, Go}
+use Rattle.mypyc_top.specs.declared.running.Program.{Program}
+use Rattle.mypyc_top.specs.declared.running.Rest.{Rest}
+use Rattle.mypyc_top.specs.declared.running.Unfinished.{Unfinished}
+use Rattle.mypyc_top.specs.declared.plan.Plan.{Plan}
+use Rattle.mypyc_top.specs.declared.plan.Plan.TheVariants.{Send, Run}
+use Rattle.mypyc_top.specs.Endings.{machine_status, machine_line}
+use Rattle.mypyc_top.specs.Summary.{cells_left}
+use Rattle.mypyc_top.specs.Causes.{Yields}
+use Rattle.mypyc_top.specs.Plans.{behind_output}
+
+-- whether a program is run in the mode
+abbrev pub runs : Emit → Bool
+runs emit.Run = true
+runs emit.Runc = true
+runs _ = false
+
+-- whether the words can run one
+abbrev pub runs_program : Words → Bool
+runs_program Usage = false
+runs_program (Go r) = runs r.emit
+
+-- the statuses of a call that ran no program
+abbrev pub is_unrun : Status → Bool
+is_unrun status.Diagnosed = true
+is_unrun status.Usage = true
+is_unrun status.OpenFault = true
+is_unrun status.ReadFault = true
+is_unrun status.TooLarge = true
+is_unrun status.TextRefused = true
+is_unrun _ = false
+
+-- the statuses of a program that was run to an ending of its own, or to one by its turns or by a line too far along
+abbrev pub is_ended : Status → Bool
+is_ended status.Done = true
+is_ended status.Raised = true
+is_ended status.Cut = true
+is_ended status.Faulted = true
+is_ended status.InputOver = true
+is_ended _ = false
+
+-- the input is left as it was where the words run no program, and where none was run
+abbrev pub leaves_input : Words → Status → Bool
+leaves_input words s = not (runs_program words) || is_unrun s
+
+-- the most bytes that are ever read: one more than a run may use, which tells that there are too many
+abbrev pub most_taken : ℕ
+most_taken = most_input + 1
+
+-- what a run took of an input that tells its bytes, by the status: where the run ended and all was sent, what it says of
+-- its lines; and else no more bytes than are ever read
+abbrev pub TookBy : Status → Items → Stop → List ℕ → List ℕ → Type 0
+TookBy status.WriteFault items stop left left' = GivesAtMost most_taken left left'
+TookBy status.Memory items stop left left' = GivesAtMost most_taken left left'
+TookBy status.InputFault items stop left left' = GivesAtMost most_taken left left'
+TookBy _ items stop left left' = TookLines items stop left left'
+
+-- the same of a run whose rest is left to send, or which is not finished
+abbrev pub TookBefore : Result Rest Unfinished → Items → Stop → List ℕ → List ℕ → Type 0
+TookBefore (Ok rest) items stop left left' = TookBy rest.reply.status items stop left left'
+TookBefore (Err e) items stop left left' = GivesAtMost most_taken left left'
+
+-- the run of a program on these lines, and what it took
+pub record RunTook (program : Program) (items : Items) (left left' : List ℕ) (s : Status) : Type 0 where
+  pub stop : Stop
+  pub run : machine_run program.turns items program.code ≡ Some stop
+  pub ending : (s ≡ machine_status stop.ending) ⊎ Yields s
+  pub took : TookBy s items stop left left'
+
+-- The run behind an answer of this status, and what it took of an input that tells its bytes: the output, the line and the
+-- status of the run of a code on these lines are the answer, and what was taken is what that very run says of its lines.
+pub record RunRead (items : Items) (left left' : List ℕ) (IsAnswer : List ℕ → List ℕ → Status → Type 0) (s : Status) : Type 0 where
+  pub code : Code
+  pub turns : ℕ
+  pub has_summary : Bool
+  pub stop : Stop
+  pub run : machine_run turns items code ≡ Some stop
+  pub ending : s ≡ machine_status stop.ending
+  pub answer : IsAnswer (stop.state.output ++ behind_output has_summary stop.ending (cells_left code stop)) (machine_line stop.ending (length (cells_left code stop))) s
+  pub took : TookLines items stop left left'
+
+-- a program is planned only where one is run in the mode, and there each reply says that none was run
+abbrev pub PlanRuns : Bool → Plan → Type 0
+PlanRuns true (Send reply) = IsTrue (is_unrun reply.status)
+PlanRuns true (Run program) = Unit {0}
+PlanRuns false (Send reply) = Unit {0}
+PlanRuns false (Run program) = ⊥
