@@ -24,7 +24,17 @@ mod ir_core_tests;
 #[cfg(test)]
 mod liveness_tests;
 #[cfg(test)]
+mod machine_cases;
+#[cfg(test)]
+mod machine_counted_tests;
+#[cfg(test)]
 mod machine_exceptions_tests;
+#[cfg(test)]
+mod machine_input_tests;
+#[cfg(test)]
+mod machine_strings_tests;
+#[cfg(test)]
+mod machine_values_tests;
 #[cfg(test)]
 mod modules;
 #[cfg(test)]

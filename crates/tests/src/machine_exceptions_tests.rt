@@ -1,8 +1,7 @@
 //! C texts by hand that raise and catch, and that read and write globals. What is wanted was worked out by the rules of
 //! the C text, and never by the program.
-use crate::case::check;
+use crate::machine_cases::{Around, OWNERSHIP, REFUSED, TAIL, check_cases, check_each, check_text};
 use crate::mypyc_top_running_tests::fail_in_turn;
-use crate::mypyc_top_tests::{CALM, command};
 use std::alloc::{AllocError, Global};
 use std::process::Abort;
 use std::test::Fail;
@@ -132,66 +131,6 @@ char CPyModule(void) {
     PyObject *cpy_p;
     PyObject *cpy_e;
 "#;
-
-const TAIL: &str = "    cpy_c = 1;\n    return cpy_c;\n}\n";
-
-const REFUSED: &str = "mypyc: t.py: not well formed\n";
-
-const OWNERSHIP: &str = "mypyc: ownership fault\n";
-
-/// The status of a run by its line on errors.
-fn number_of(line: &str) -> u8 {
-    match line {
-        "" => 0,
-        REFUSED => 9,
-        OWNERSHIP => 10,
-        _ if line.starts_with("mypyc: out of turns") => 8,
-        _ => 7,
-    }
-}
-
-/// Checks what comes of a text: its output, its line on errors, and the status.
-fn check_text(
-    rt: &impl Abort,
-    alloc: Global,
-    text: &str,
-    out: &str,
-    line: &str,
-) -> Result<(), AllocError> {
-    let words = ["--emit=runc", "--turns=20", "t.py"];
-    let given = command(alloc, &words, text.as_bytes(), CALM)?;
-    let is_told = given.out.bytes() == out.as_bytes() && given.err.bytes() == line.as_bytes();
-    let told = str::from_utf8(given.out.bytes()).unwrap_or("");
-    let body = text.strip_prefix(HEAD).unwrap_or(text);
-    check(
-        rt,
-        &(body, told, out),
-        is_told && given.number == number_of(line),
-    );
-    Ok(())
-}
-
-/// Checks the cases of a table, with an empty line between two of them. A case has lines of the module, its output
-/// behind `=> `, and its line on errors behind `=! `. A line that begins with `-- ` is a title.
-fn check_cases(rt: &impl Abort, alloc: Global, table: &str) -> Result<(), AllocError> {
-    for case in table.split("\n\n") {
-        let mut text = String::from_str(alloc, HEAD)?;
-        let mut out = String::new(alloc);
-        let mut line_told = String::new(alloc);
-        for line in case.lines() {
-            if let Some(told) = line.strip_prefix("=> ") {
-                write!(out, "{told}\n")?;
-            } else if let Some(told) = line.strip_prefix("=! ") {
-                write!(line_told, "{told}\n")?;
-            } else if !line.starts_with("-- ") {
-                write!(text, "{line}\n")?;
-            }
-        }
-        text.push_str(TAIL)?;
-        check_text(rt, alloc, text.as_str(), out.as_str(), line_told.as_str())?;
-    }
-    Ok(())
-}
 
 /// Exceptions that are made, raised, matched and caught.
 const EXCEPTIONS: &str = r#"-- An exception has a text.
@@ -583,7 +522,7 @@ CPyL2: ;
 
 #[test]
 fn exceptions_are_raised_and_caught(rt: HostRuntime) -> Result<(), Fail> {
-    check_cases(&rt, rt.alloc(), EXCEPTIONS)?;
+    check_cases(&rt, rt.alloc(), HEAD, EXCEPTIONS)?;
     Ok(())
 }
 
@@ -761,7 +700,7 @@ CPyL1: ;
 
 #[test]
 fn returns_with_and_without_an_exception(rt: HostRuntime) -> Result<(), Fail> {
-    check_cases(&rt, rt.alloc(), RETURNS)?;
+    check_cases(&rt, rt.alloc(), HEAD, RETURNS)?;
     Ok(())
 }
 
@@ -1076,7 +1015,7 @@ CPyL0: ;
 
 #[test]
 fn globals_are_read_and_written(rt: HostRuntime) -> Result<(), Fail> {
-    check_cases(&rt, rt.alloc(), GLOBALS)?;
+    check_cases(&rt, rt.alloc(), HEAD, GLOBALS)?;
     Ok(())
 }
 
@@ -1122,10 +1061,12 @@ const WRONG_LINES: &str = r#"    cpy_n = CPyInt64_FloorDivide(cpy_n);
 
 #[test]
 fn lines_that_break_a_rule(rt: HostRuntime) -> Result<(), Fail> {
-    for line in WRONG_LINES.lines() {
-        let text = format!(in rt.alloc(); "{HEAD}{line}\n{TAIL}")?;
-        check_text(&rt, rt.alloc(), text.as_str(), "", REFUSED)?;
-    }
+    let around = Around {
+        head: HEAD,
+        before: "",
+        behind: TAIL,
+    };
+    check_each(&rt, rt.alloc(), around, WRONG_LINES, "", REFUSED)?;
     Ok(())
 }
 
@@ -1168,15 +1109,20 @@ const CAUGHT: &str = r#"    CPy_DECREF(cpy_o);
     CPy_DECREF(cpy_e);
     cpy_e = CPyErr_Catch();
     CPy_DECREF(cpy_e);
+    cpy_c = 1;
+    return cpy_c;
+}
 "#;
 
 #[test]
 fn lines_behind_an_exception(rt: HostRuntime) -> Result<(), Fail> {
     let out = "-- Fault Kind\n-- live 3\n-- Str 1\n-- ValueError 1\n-- UnboundLocalError 1\n";
-    for line in NOT_WHILE_PENDING.lines() {
-        let text = format!(in rt.alloc(); "{HEAD}{PENDING}{line}\n{CAUGHT}{TAIL}")?;
-        check_text(&rt, rt.alloc(), text.as_str(), out, OWNERSHIP)?;
-    }
+    let around = Around {
+        head: HEAD,
+        before: PENDING,
+        behind: CAUGHT,
+    };
+    check_each(&rt, rt.alloc(), around, NOT_WHILE_PENDING, out, OWNERSHIP)?;
     Ok(())
 }
 
@@ -1214,10 +1160,10 @@ fn check_matched(
     answer: &str,
 ) -> Result<(), AllocError> {
     let text = format!(in alloc;
-        "{HEAD}{raised}    cpy_d = CPyErr_Matches(\"{asked}\");\n{CATCHES}{TAIL}"
+        "{raised}    cpy_d = CPyErr_Matches(\"{asked}\");\n{CATCHES}{TAIL}"
     )?;
     let out = format!(in alloc; "{answer}\n-- Done\n-- live 0\n")?;
-    check_text(rt, alloc, text.as_str(), out.as_str(), "")
+    check_text(rt, alloc, HEAD, text.as_str(), out.as_str(), "")
 }
 
 // Each class is raised, and asked for each.
@@ -1228,10 +1174,10 @@ fn classes_are_matched(rt: HostRuntime) -> Result<(), Fail> {
         let raised = format!(in alloc;
             "    cpy_o = CPyStr_Literal(\"t\");\n    cpy_e = CPyExc_New(\"{class}\", cpy_o);\n    CPy_DECREF(cpy_o);\n    CPyErr_SetObject(cpy_e);\n"
         )?;
-        let text = format!(in alloc; "{HEAD}{raised}    cpy_c = 2;\n    return cpy_c;\n}}\n")?;
+        let text = format!(in alloc; "{raised}    cpy_c = 2;\n    return cpy_c;\n}}\n")?;
         let out = format!(in alloc; "-- Raised {class}\n-- live 1\n-- {class} 1\n")?;
         let line = format!(in alloc; "{class}: t\n")?;
-        check_text(&rt, alloc, text.as_str(), out.as_str(), line.as_str())?;
+        check_text(&rt, alloc, HEAD, text.as_str(), out.as_str(), line.as_str())?;
         for (asked, _) in CLASSES {
             let is_under = class == asked || above.contains(*asked);
             let answer = if is_under { "True" } else { "False" };
@@ -1337,10 +1283,10 @@ CPyL2: ;
 }
 "#;
 
-/// A text that does one operation.
+/// The lines of a module that does one operation.
 fn operation(alloc: Global, name: &str, a: i64, b: i64) -> Result<String, AllocError> {
     format!(in alloc;
-        "{HEAD}    cpy_n = {a};\n    cpy_m = {b};\n    cpy_n = CPyInt64_{name}(cpy_n, cpy_m);\n{SHOWS}"
+        "    cpy_n = {a};\n    cpy_m = {b};\n    cpy_n = CPyInt64_{name}(cpy_n, cpy_m);\n{SHOWS}"
     )
 }
 
@@ -1350,14 +1296,14 @@ fn native_integers_are_divided_and_shifted(rt: HostRuntime) -> Result<(), Fail> 
     for (name, a, b, result) in RESULTS {
         let text = operation(alloc, name, *a, *b)?;
         let out = format!(in alloc; "{result}\n-- Done\n-- live 0\n")?;
-        check_text(&rt, alloc, text.as_str(), out.as_str(), "")?;
+        check_text(&rt, alloc, HEAD, text.as_str(), out.as_str(), "")?;
     }
     for (name, a, b, told) in FAILURES {
         let text = operation(alloc, name, *a, *b)?;
         let class = told.split(':').next().unwrap_or("");
         let out = format!(in alloc; "-- Raised {class}\n-- live 1\n-- {class} 1\n")?;
         let line = format!(in alloc; "{told}\n")?;
-        check_text(&rt, alloc, text.as_str(), out.as_str(), line.as_str())?;
+        check_text(&rt, alloc, HEAD, text.as_str(), out.as_str(), line.as_str())?;
     }
     Ok(())
 }

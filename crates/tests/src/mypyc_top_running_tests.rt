@@ -84,7 +84,7 @@ fn texts_are_run(rt: HostRuntime) -> Result<(), Fail> {
     Ok(())
 }
 
-/// A function that gives a text back, with or without an exclamation mark as its own, and what calls it.
+/// A function that gives a text with an exclamation mark behind it, or itself back, and what calls it.
 const FUNCTION: &str = r#"/* mypyc subset 1 */
 PyObject *CPyDef_f(PyObject *cpy_r_s, char cpy_r_b) {
     PyObject *cpy_t_0;
@@ -94,7 +94,7 @@ PyObject *CPyDef_f(PyObject *cpy_r_s, char cpy_r_b) {
 const CHOICE: &str = r#"    if (cpy_r_b) goto CPyL0; else goto CPyL1;
 CPyL0: ;
     cpy_t_0 = CPyStr_Literal("!\n");
-    cpy_t_1 = CPyStr_Literal("a!\n");
+    cpy_t_1 = CPyStr_Concat(cpy_r_s, cpy_t_0);
 "#;
 
 const FIRST_DEC: &str = "    CPy_DECREF(cpy_t_0);\n";

@@ -1,7 +1,7 @@
 //! Whole commands over files, and sinks that refuse calls.
 use crate::case::check;
 use mypyc_top::{Status, mypyc, status_number};
-use outside_core::{CalmFiles, CalmSource, MemFiles, MemSink};
+use outside_core::{CalmFiles, CalmSource, MemFiles, MemSink, Source};
 use std::alloc::{AllocError, Global};
 use std::process::Abort;
 use std::test::Fail;
@@ -103,12 +103,24 @@ pub(crate) fn words_of(alloc: Global, words: &[&str]) -> Result<Vec<String>, All
     Ok(all)
 }
 
-/// A command over the one file `t.py`.
+/// A command over the one file `t.py`, and no input.
 pub(crate) fn command(
     alloc: Global,
     words: &[&str],
     bytes: &[u8],
     fails: Fails<'_>,
+) -> Result<Given, AllocError> {
+    let mut input = CalmSource::new(Vec::new(alloc));
+    command_with(alloc, words, bytes, fails, &mut input)
+}
+
+/// A command over the one file `t.py`, and an input.
+pub(crate) fn command_with<I: Source>(
+    alloc: Global,
+    words: &[&str],
+    bytes: &[u8],
+    fails: Fails<'_>,
+    input: &mut I,
 ) -> Result<Given, AllocError> {
     let mut all = Vec::new(alloc);
     all.push((
@@ -116,11 +128,10 @@ pub(crate) fn command(
         Vec::from_slice(alloc, bytes)?,
     ))?;
     let mut files = MemFiles::new(all, Vec::from_slice(alloc, fails.0)?);
-    let mut input = CalmSource::new(Vec::new(alloc));
     let mut out = MemSink::new(alloc, Vec::from_slice(alloc, fails.1)?);
     let mut err = MemSink::new(alloc, Vec::from_slice(alloc, fails.2)?);
     let words = words_of(alloc, words)?;
-    let status = mypyc(alloc, &words, &mut files, &mut input, &mut out, &mut err);
+    let status = mypyc(alloc, &words, &mut files, input, &mut out, &mut err);
     Ok(Given {
         out,
         err,
