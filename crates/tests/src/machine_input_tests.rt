@@ -708,36 +708,45 @@ fn long_input(alloc: Global, length: usize, rest: &[u8]) -> Result<MemSource, Al
     Ok(MemSource::new(bytes, 4096, Vec::new(alloc)))
 }
 
-/// Lengths of a first line, what stands behind it, and what comes of the lengths of the lines: one may end at the last byte
-/// that may be read, and none behind it.
-const LONG: &[(usize, &[u8], &str, &str)] = &[
-    (
-        16_777_216,
-        b"",
-        "16777216\n-- Raised EOFError\n-- live 2\n-- Str 1\n-- EOFError 1\n",
-        "EOFError: EOF when reading a line\n",
-    ),
-    (
-        16_777_215,
-        b"\nb\n",
-        "16777215\n-- Over\n-- live 1\n-- Str 1\n",
-        TOO_LONG,
-    ),
-    (16_777_216, b"\n", "-- Over\n-- live 0\n", TOO_LONG),
-];
+/// Checks what comes of the lengths of the lines of such an input.
+fn check_long(
+    rt: &impl Abort,
+    alloc: Global,
+    length: usize,
+    rest: &[u8],
+    out: &str,
+    line: &str,
+) -> Result<(), AllocError> {
+    let mut input = long_input(alloc, length, rest)?;
+    let given = run_with(alloc, LENGTHS, CALM, &mut input)?;
+    let is_told = given.out.bytes() == out.as_bytes() && given.err.bytes() == line.as_bytes();
+    check(
+        rt,
+        &(length, rest),
+        is_told && given.number == number_of(line),
+    );
+    Ok(())
+}
+
+// The last line may end at the last byte that may be read. Each of these is a test of its own, since they are slow.
+#[test]
+fn a_line_of_as_many_bytes_as_may_be_read(rt: HostRuntime) -> Result<(), Fail> {
+    let out = "16777216\n-- Raised EOFError\n-- live 2\n-- Str 1\n-- EOFError 1\n";
+    let line = "EOFError: EOF when reading a line\n";
+    check_long(&rt, rt.alloc(), 16_777_216, b"", out, line)?;
+    Ok(())
+}
 
 #[test]
-fn lines_end_too_far_along(rt: HostRuntime) -> Result<(), Fail> {
-    let alloc = rt.alloc();
-    for (length, rest, out, line) in LONG {
-        let mut input = long_input(alloc, *length, rest)?;
-        let given = run_with(alloc, LENGTHS, CALM, &mut input)?;
-        let is_told = given.out.bytes() == out.as_bytes() && given.err.bytes() == line.as_bytes();
-        check(
-            &rt,
-            &(length, rest),
-            is_told && given.number == number_of(line),
-        );
-    }
+fn a_line_behind_as_many_bytes_as_may_be_read(rt: HostRuntime) -> Result<(), Fail> {
+    let out = "16777215\n-- Over\n-- live 1\n-- Str 1\n";
+    check_long(&rt, rt.alloc(), 16_777_215, b"\nb\n", out, TOO_LONG)?;
+    Ok(())
+}
+
+#[test]
+fn a_line_that_ends_too_far_along(rt: HostRuntime) -> Result<(), Fail> {
+    let out = "-- Over\n-- live 0\n";
+    check_long(&rt, rt.alloc(), 16_777_216, b"\n", out, TOO_LONG)?;
     Ok(())
 }
