@@ -472,16 +472,35 @@ sum_fits = (
   ),
 )
 
-printing_fits : FuncFits printing_sum
-printing_fits = (record { ops = (refl, (refl, (refl, (refl, (refl, (refl, (refl, tt))))))); last = tt; handler = tt }, tt)
+-- the same without its count
+abbrev uncounted_sum : Func
+uncounted_sum =
+    top ((codes "r0", I64) ∷ (codes "r1", I64) ∷ (codes "r2", I64) ∷ (codes "r3", Ref) ∷ (codes "r4", Bool) ∷ [])
+    (block
+    ((Lit (reg 0) (Number (pos 3)), 6) ∷ (Lit (reg 1) (Number (pos 0)), 6) ∷ (Call (reg 2) 0 (reg 0 ∷ reg 1 ∷ []), 6)
+    ∷ (Prim (Some (reg 3)) (prim.Int64 int64.Str) (var 2 ∷ []), 6) ∷ (Prim None (prim.Io io.Write) (var 3 ∷ []), 6) ∷ (Lit (reg 4) (Number (pos 1)), 6)
+    ∷ []) (Return (reg 4)) ∷ [])
+
+abbrev uncounted : Program
+uncounted = program (sum ∷ uncounted_sum ∷ [])
+
+uncounted_fits : FuncFits uncounted_sum
+uncounted_fits = (record { ops = (refl, (refl, (refl, (refl, (refl, (refl, tt)))))); last = tt; handler = tt }, tt)
+
+uncounted_is_well_formed : well_formed (lower uncounted) ≡ true
+unfolding digits chars is_utf8 encode unicode_ident
+uncounted_is_well_formed = refl
+
+uncounted_has_shape : Shape uncounted
+uncounted_has_shape =
+    record { funcs = (sum_fits, (uncounted_fits, tt)); turns = (refl, tt); lowered = uncounted_is_well_formed }
+
+counting_does_not_fit : op_fits (Dec (reg 3)) ≡ false
+counting_does_not_fit = refl
 
 sum_is_well_formed : well_formed (lower summing) ≡ true
 unfolding digits chars is_utf8 encode unicode_ident
 sum_is_well_formed = refl
-
-sum_has_shape : Shape summing
-sum_has_shape =
-    record { funcs = (sum_fits, (printing_fits, tt)); turns = (refl, tt); lowered = sum_is_well_formed }
 
 -- a jump back without a turn, and one to block 0
 round_does_not_fit : FuncFits round → ⊥

@@ -61,12 +61,12 @@ number_of r = r.0
 abbrev pub register_in : Reg → CArg
 register_in r = c_arg.Var r.0
 
--- the name of a function in a call; one that is not there has none
+-- the name of a function in a call; one that is not there has none, nor has the last, which is the module's own
 abbrev pub call_name : Func → List ℕ
 call_name g = codes "CPyDef_" ++ function_id g.name
 
 abbrev pub called_as : Program → ℕ → List ℕ
-called_as p g = option_map_or call_name (slice_get p.funcs g) []
+called_as p g = cond (nat_eq (suc g) (length p.funcs)) [] (option_map_or call_name (slice_get p.funcs g) [])
 
 abbrev pub class_name : CClass → List ℕ
 class_name k = k.name

@@ -1,6 +1,6 @@
 -- How operations fail: of each primitive whether it does, one row one line, and what is to stand behind an operation so that
 -- its failure is seen (mypyc's developer guide, "Error handling").
-use Rattle.std.specs.Prelude.{ℕ, Bool, true, false, List, Option, Some, slice_get}
+use Rattle.std.specs.Prelude.{ℕ, List, Option, Some, slice_get}
 use Rattle.std.specs.Option.{option_map, option_and_then}
 use Rattle.c_core.specs.declared.primitive.Primitive.{Primitive}
 use Rattle.c_core.specs.declared.primitive.Primitive.TheVariants as prim
@@ -79,43 +79,6 @@ failing (prim.Err err.Matches) = NeverFails
 failing (prim.Err err.Catch) = NeverFails
 failing (prim.Io io.Write) = NeverFails
 failing (prim.Io io.Input) = MayFail
-
--- whether a primitive answers a number or a truth, by its arguments alone and in every case
-abbrev pub computes : Primitive → Bool
-computes (prim.Int64 int64.Add) = true
-computes (prim.Int64 int64.Subtract) = true
-computes (prim.Int64 int64.Multiply) = true
-computes (prim.Int64 int64.Negate) = true
-computes (prim.Int64 int64.FromBool) = true
-computes (prim.Int64 int64.Eq) = true
-computes (prim.Int64 int64.Lt) = true
-computes (prim.Int64 int64.Le) = true
-computes (prim.Bool bool.Not) = true
-computes _ = false
-
--- whether it answers a number or a truth, or what a global holds, or fails
-abbrev pub answers : Primitive → Bool
-answers (prim.Int64 int64.FloorDivide) = true
-answers (prim.Int64 int64.Remainder) = true
-answers (prim.Int64 int64.Lshift) = true
-answers (prim.Int64 int64.Rshift) = true
-answers (prim.Global global.Get) = true
-answers (prim.Err err.Occurred) = true
-answers q = computes q
-
--- whether it answers nothing: a global is written or cleared, or a variable is reported as unbound
-abbrev pub acts : Primitive → Bool
-acts (prim.Global global.Set) = true
-acts (prim.Global global.Clear) = true
-acts (prim.Err err.Unbound) = true
-acts _ = false
-
--- whether it makes a text of its arguments
-abbrev pub makes_text : Primitive → Bool
-makes_text (prim.Int64 int64.Str) = true
-makes_text (prim.Bool bool.Str) = true
-makes_text (prim.Str str.Literal) = true
-makes_text _ = false
 
 -- what may fail tells it by the error value of its result, which for a native integer is an ordinary value too
 abbrev pub kind_by_result : Option RType → ErrorKind

@@ -7,7 +7,7 @@ use Rattle.ir_core.specs.declared.code.Reg.{Reg}
 use Rattle.ir_core.specs.declared.code.PArg.{PArg}
 use Rattle.ir_core.specs.declared.code.PArg.TheVariants as arg
 use Rattle.ir_core.specs.declared.code.Op.{Op}
-use Rattle.ir_core.specs.declared.code.Op.TheVariants.{Prim, Call, Virtual, TraitCall, Turn}
+use Rattle.ir_core.specs.declared.code.Op.TheVariants.{Prim, Call, Virtual, TraitCall, Turn, Inc, Dec, XDec}
 use Rattle.ir_core.specs.declared.code.Last.{Last}
 use Rattle.ir_core.specs.declared.code.Last.TheVariants.{Goto, If, IfError, Return, Unreachable}
 use Rattle.ir_core.specs.declared.code.Block.{Block}
@@ -62,11 +62,15 @@ abbrev pub is_apart : Option Reg → List PArg → Bool
 is_apart None args = true
 is_apart (Some r) args = not (list_any (is_argument r) args)
 
+-- and no operation counts: counts come in later, by a pass of their own
 abbrev pub op_fits : Op → Bool
 op_fits (Prim to q args) = is_target_of (row_of q).outcome to && is_apart to args
 op_fits (Call r g args) = not (list_any (is_register r) args)
 op_fits (Virtual r o n args) = not (list_any (is_register r) (o ∷ args))
 op_fits (TraitCall r o t n args) = not (list_any (is_register r) (o ∷ args))
+op_fits (Inc r) = false
+op_fits (Dec r) = false
+op_fits (XDec r) = false
 op_fits _ = true
 
 abbrev pub OpsFit : List (Op × ℕ) → Type 0

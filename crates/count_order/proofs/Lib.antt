@@ -1,0 +1,22 @@
+mod Numbers
+mod Counts
+mod Variables
+mod NamedRows
+mod Groups
+mod Operations
+mod GroupChecks
+mod Equations
+mod MetBlocks
+mod Trails
+mod Bodies
+mod Ends
+mod Mains
+mod Blocks
+mod Starts
+mod Functions
+mod Labels
+mod OldText
+mod NewText
+mod Placing
+pub mod Whole
+mod GroupPlaces

@@ -1,0 +1,140 @@
+-- What rows and names of calls say.
+use Rattle.std.proofs.Common.{◌≡◌, refl, ℕ, suc, Bool, true, false, cond, [], length, Option, Some, None}
+use Rattle.std.specs.Prelude.{slice_get, nat_eq}
+use Rattle.std.specs.Option.{option_map_or}
+use Rattle.c_core.specs.declared.primitive.Primitive.{Primitive}
+use Rattle.c_core.specs.declared.primitive.Primitive.TheVariants as prim
+use Rattle.c_core.specs.declared.primitive.Int64Prim.TheVariants as int64
+use Rattle.c_core.specs.declared.primitive.TaggedPrim.TheVariants as tagged
+use Rattle.c_core.specs.declared.primitive.BoolPrim.TheVariants as bool
+use Rattle.c_core.specs.declared.primitive.StrPrim.TheVariants as str
+use Rattle.c_core.specs.declared.primitive.GlobalPrim.TheVariants as global
+use Rattle.c_core.specs.declared.primitive.ExcPrim.TheVariants as exc
+use Rattle.c_core.specs.declared.primitive.ErrPrim.TheVariants as err
+use Rattle.c_core.specs.declared.primitive.IoPrim.TheVariants as io
+use Rattle.c_core.specs.Primitives.{OfSlot, Outcome, Owned, row_of, primitive_named}
+use Rattle.ir_core.specs.declared.code.Func.{Func}
+use Rattle.ir_core.specs.declared.code.Program.{Program}
+use Rattle.ir_core.specs.Lower.{call_name, called_as}
+
+-- the row of a primitive is found by its name
+pub named : (q : Primitive) → primitive_named (row_of q).name ≡ Some q
+named (prim.Int64 int64.Add) = refl
+named (prim.Int64 int64.Subtract) = refl
+named (prim.Int64 int64.Multiply) = refl
+named (prim.Int64 int64.Negate) = refl
+named (prim.Int64 int64.FromBool) = refl
+named (prim.Int64 int64.Eq) = refl
+named (prim.Int64 int64.Lt) = refl
+named (prim.Int64 int64.Le) = refl
+named (prim.Int64 int64.Str) = refl
+named (prim.Bool bool.Not) = refl
+named (prim.Bool bool.Str) = refl
+named (prim.Str str.Literal) = refl
+named (prim.Int64 int64.FloorDivide) = refl
+named (prim.Int64 int64.Remainder) = refl
+named (prim.Int64 int64.Lshift) = refl
+named (prim.Int64 int64.Rshift) = refl
+named (prim.Global global.Get) = refl
+named (prim.Global global.Set) = refl
+named (prim.Global global.Clear) = refl
+named (prim.Exc exc.New) = refl
+named (prim.Exc exc.Str) = refl
+named (prim.Err err.SetObject) = refl
+named (prim.Err err.Unbound) = refl
+named (prim.Err err.Occurred) = refl
+named (prim.Err err.Matches) = refl
+named (prim.Err err.Catch) = refl
+named (prim.Tagged tagged.Add) = refl
+named (prim.Tagged tagged.Subtract) = refl
+named (prim.Tagged tagged.Multiply) = refl
+named (prim.Tagged tagged.Negate) = refl
+named (prim.Tagged tagged.FloorDivide) = refl
+named (prim.Tagged tagged.Remainder) = refl
+named (prim.Tagged tagged.Lshift) = refl
+named (prim.Tagged tagged.Rshift) = refl
+named (prim.Tagged tagged.FromText) = refl
+named (prim.Tagged tagged.FromInt64) = refl
+named (prim.Tagged tagged.FromBool) = refl
+named (prim.Tagged tagged.AsInt64) = refl
+named (prim.Tagged tagged.Eq) = refl
+named (prim.Tagged tagged.Lt) = refl
+named (prim.Tagged tagged.Le) = refl
+named (prim.Tagged tagged.Str) = refl
+named (prim.Str str.Concat) = refl
+named (prim.Str str.Eq) = refl
+named (prim.Str str.Lt) = refl
+named (prim.Str str.Le) = refl
+named (prim.Str str.Len) = refl
+named (prim.Str str.GetItem) = refl
+named (prim.Io io.Write) = refl
+named (prim.Io io.Input) = refl
+
+-- no primitive answers what an object holds
+abbrev pub HasNoSlot : Outcome → Type 0
+HasNoSlot (Owned OfSlot) = ⊥
+HasNoSlot _ = Unit {0}
+
+pub no_slot : (q : Primitive) → HasNoSlot (row_of q).outcome
+no_slot (prim.Int64 int64.Add) = tt
+no_slot (prim.Int64 int64.Subtract) = tt
+no_slot (prim.Int64 int64.Multiply) = tt
+no_slot (prim.Int64 int64.Negate) = tt
+no_slot (prim.Int64 int64.FromBool) = tt
+no_slot (prim.Int64 int64.Eq) = tt
+no_slot (prim.Int64 int64.Lt) = tt
+no_slot (prim.Int64 int64.Le) = tt
+no_slot (prim.Int64 int64.Str) = tt
+no_slot (prim.Bool bool.Not) = tt
+no_slot (prim.Bool bool.Str) = tt
+no_slot (prim.Str str.Literal) = tt
+no_slot (prim.Int64 int64.FloorDivide) = tt
+no_slot (prim.Int64 int64.Remainder) = tt
+no_slot (prim.Int64 int64.Lshift) = tt
+no_slot (prim.Int64 int64.Rshift) = tt
+no_slot (prim.Global global.Get) = tt
+no_slot (prim.Global global.Set) = tt
+no_slot (prim.Global global.Clear) = tt
+no_slot (prim.Exc exc.New) = tt
+no_slot (prim.Exc exc.Str) = tt
+no_slot (prim.Err err.SetObject) = tt
+no_slot (prim.Err err.Unbound) = tt
+no_slot (prim.Err err.Occurred) = tt
+no_slot (prim.Err err.Matches) = tt
+no_slot (prim.Err err.Catch) = tt
+no_slot (prim.Tagged tagged.Add) = tt
+no_slot (prim.Tagged tagged.Subtract) = tt
+no_slot (prim.Tagged tagged.Multiply) = tt
+no_slot (prim.Tagged tagged.Negate) = tt
+no_slot (prim.Tagged tagged.FloorDivide) = tt
+no_slot (prim.Tagged tagged.Remainder) = tt
+no_slot (prim.Tagged tagged.Lshift) = tt
+no_slot (prim.Tagged tagged.Rshift) = tt
+no_slot (prim.Tagged tagged.FromText) = tt
+no_slot (prim.Tagged tagged.FromInt64) = tt
+no_slot (prim.Tagged tagged.FromBool) = tt
+no_slot (prim.Tagged tagged.AsInt64) = tt
+no_slot (prim.Tagged tagged.Eq) = tt
+no_slot (prim.Tagged tagged.Lt) = tt
+no_slot (prim.Tagged tagged.Le) = tt
+no_slot (prim.Tagged tagged.Str) = tt
+no_slot (prim.Str str.Concat) = tt
+no_slot (prim.Str str.Eq) = tt
+no_slot (prim.Str str.Lt) = tt
+no_slot (prim.Str str.Le) = tt
+no_slot (prim.Str str.Len) = tt
+no_slot (prim.Str str.GetItem) = tt
+no_slot (prim.Io io.Write) = tt
+no_slot (prim.Io io.Input) = tt
+
+-- no function is called by the name of a primitive
+none_named : (o : Option Func) → primitive_named (option_map_or call_name o []) ≡ None
+none_named None = refl
+none_named (Some g) = refl
+
+pub none_called : (p : Program) (n : ℕ) → primitive_named (called_as p n) ≡ None
+none_called p n = by (nat_eq (suc n) (length p.funcs))
+  where
+    by : (is_last : Bool) → primitive_named (cond is_last [] (option_map_or call_name (slice_get p.funcs n) [])) ≡ None
+    by true = refl
+    by false = none_named (slice_get p.funcs n)

@@ -1,0 +1,2 @@
+pub mod Balance
+mod Samples

@@ -1,0 +1,14 @@
+pub mod ListLemmas
+pub mod Growing
+pub mod Facts
+pub mod Words
+pub mod Reading
+pub mod Agreeing
+pub mod Rows
+pub mod Refusing
+pub mod Globals
+pub mod RowFacts
+pub mod Operations
+pub mod Tests
+pub mod Returns
+pub mod Calls
