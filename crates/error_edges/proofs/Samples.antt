@@ -21,7 +21,7 @@ use Rattle.ir_core.specs.declared.code.Lit.TheVariants.{Number, Null}
 use Rattle.ir_core.specs.declared.code.PArg.{PArg}
 use Rattle.ir_core.specs.declared.code.PArg.TheVariants as arg
 use Rattle.ir_core.specs.declared.code.Op.{Op}
-use Rattle.ir_core.specs.declared.code.Op.TheVariants.{Lit, Prim, Call, Turn, Dec}
+use Rattle.ir_core.specs.declared.code.Op.TheVariants.{Lit, Prim, Call, Turn}
 use Rattle.ir_core.specs.declared.code.Last.{Last}
 use Rattle.ir_core.specs.declared.code.Last.TheVariants.{Goto, If, IfError, Return}
 use Rattle.ir_core.specs.declared.code.Block.{Block}
@@ -197,7 +197,7 @@ top numbers = record {
   blocks =
       block
       (numbers ++ (Call (reg 2) 0 (reg 0 ∷ reg 1 ∷ []), 4) ∷ (Prim (Some (reg 3)) (prim.Int64 int64.Str) (var 2 ∷ []), 4) ∷ (Prim None (prim.Io io.Write) (var 3 ∷ []), 4)
-      ∷ (Dec (reg 3), 4) ∷ (Lit (reg 4) (Number (pos 1)), 4) ∷ []) (Return (reg 4)) ∷ [];
+      ∷ (Lit (reg 4) (Number (pos 1)), 4) ∷ []) (Return (reg 4)) ∷ [];
 }
 
 abbrev edged_top : List (Op × ℕ) → Func
@@ -210,7 +210,7 @@ edged_top numbers = record {
       block (numbers ++ (Call (reg 2) 0 (reg 0 ∷ reg 1 ∷ []), 4) ∷ []) (IfError (reg 2) 1 2 4)
       ∷ block (occurred 5 4 ∷ []) (If (reg 5) 3 2)
       ∷ block
-      ((Prim (Some (reg 3)) (prim.Int64 int64.Str) (var 2 ∷ []), 4) ∷ (Prim None (prim.Io io.Write) (var 3 ∷ []), 4) ∷ (Dec (reg 3), 4) ∷ (Lit (reg 4) (Number (pos 1)), 4) ∷ []) (Return (reg 4))
+      ((Prim (Some (reg 3)) (prim.Int64 int64.Str) (var 2 ∷ []), 4) ∷ (Prim None (prim.Io io.Write) (var 3 ∷ []), 4) ∷ (Lit (reg 4) (Number (pos 1)), 4) ∷ []) (Return (reg 4))
       ∷ block ((Lit (reg 6) (Number (pos 2)), 0) ∷ []) (Return (reg 6)) ∷ [];
 }
 
@@ -275,7 +275,7 @@ unfolding digits chars is_utf8 encode unicode_ident
 before_has_shape = record {
   funcs = (
     (record { ops = (refl, (refl, tt)); last = tt; handler = tt }, tt),
-    ((record { ops = (refl, (refl, (refl, (refl, (refl, (refl, (refl, tt))))))); last = tt; handler = tt }, tt), tt),
+    ((record { ops = (refl, (refl, (refl, (refl, (refl, (refl, tt)))))); last = tt; handler = tt }, tt), tt),
   );
   turns = (refl, tt);
   lowered = refl;

@@ -110,7 +110,9 @@ module _ (p q : Program) (edged : IsEdgedProgram p q) (shape : Shape p) where
       by (Some x) = number_same x
 
   calls_same : (n : ℕ) → called_as q n ≡ called_as p n
-  calls_same n = by p.funcs q.funcs n edged.funcs
+  calls_same n =
+      ap (λ m. cond (nat_eq (suc n) m) [] (option_map_or call_name (slice_get q.funcs n) [])) count
+      ∙ ap (λ name. cond (nat_eq (suc n) (length p.funcs)) [] name) (by p.funcs q.funcs n edged.funcs)
     where
       by : (fs gs : List Func) (n : ℕ) → AreEdged fs gs → option_map_or call_name (slice_get gs n) [] ≡ option_map_or call_name (slice_get fs n) []
       by [] [] n all = refl

@@ -61,7 +61,7 @@ fn copy_class(alloc: Global, class: &CClass) -> Result<CClass, Memory>
 }
 
 /// A copy of classes.
-pub(crate) fn copy_classes(alloc: Global, classes: &[CClass]) -> Result<Many<CClass>, Memory>
+pub fn copy_classes(alloc: Global, classes: &[CClass]) -> Result<Many<CClass>, Memory>
     ensures { IfOk result (λ copy. copy ≡ classes.now) }
 {
     let mut copy = Vec::new(alloc);

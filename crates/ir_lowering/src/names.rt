@@ -1,5 +1,5 @@
 //! Names in C text.
-ghost use Rattle.std.specs.Prelude.{◌≡◌, IfOk};
+ghost use Rattle.std.specs.Prelude.{◌≡◌, suc, nat_eq, length, IfOk};
 ghost use Rattle.ir_core.specs.Names.{method_id, function_id, variable_id};
 ghost use Rattle.ir_core.specs.Lower.{called_as, class_called};
 ghost use Rattle.ir_core.specs.Lower as spec;
@@ -42,10 +42,21 @@ fn call_name(alloc: Global, function: &Func) -> Result<Name, Memory>
     Ok(Name::from_string(text))
 }
 
-/// The name by which a function of a program is called. One that is not there has none.
+// Whether a function is the last one of a program.
+fn is_last(p: &Program, g: usize) -> bool
+    ensures { result ≡ nat_eq (suc g) (length p.now.funcs) }
+{
+    p.funcs.len().checked_sub(1) == Some(g)
+}
+
+/// The name by which a function of a program is called. One that is not there has none, nor has the module's own, which is the
+/// last.
 pub(crate) fn name_in_call(alloc: Global, p: &Program, g: usize) -> Result<Name, Memory>
     ensures { IfOk result (λ name. name ≡ called_as p.now g) }
 {
+    if is_last(p, g) {
+        return Name::from_str(alloc, "");
+    }
     match p.funcs.get(g) {
         Some(function) => call_name(alloc, function),
         None => Name::from_str(alloc, ""),

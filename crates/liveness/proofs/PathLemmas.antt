@@ -40,6 +40,12 @@ drop_map g zero xs = refl
 drop_map g (suc n) [] = refl
 drop_map g (suc n) (x ∷ xs) = drop_map g n xs
 
+-- what stands at a place that a list has
+get_within : {A : Type 0} (xs : List A) (i : ℕ) → i < length xs → (x : A) × (slice_get xs i ≡ Some x)
+get_within [] i lt = absurd (omega (arith, lt))
+get_within (x ∷ xs) zero lt = (x, refl)
+get_within (x ∷ xs) (suc i) lt = get_within xs i (omega (arith, lt))
+
 -- ---- items, and what is left of operations
 
 -- the item where operations begin
@@ -183,3 +189,15 @@ live_table_is f r touches rows count are below exact b p i e =
     let given = live_given_is f r (has rows r) exact b p k there.1 le in
     let told = table_given (map steps_of f.blocks) r count touches are below rows b p (steps_of k) (get_map steps_of f.blocks b k there.1) within in
     (λ h. given.0 (sym told ∙ h), λ h. told ∙ given.1 h)
+
+-- what exact marks say at the start of a block
+pub starts_are : (f : Func) (r : ℕ) (marked : ℕ → Bool) → IsLiveRow (map steps_of f.blocks) r marked → (b : ℕ) → (marked b ≡ true) ↔ LiveAt f r b 0
+starts_are f r marked exact b = (
+  λ h.
+      let size = length-map f.blocks steps_of in
+      let there = get_within f.blocks b (omega (arith, exact.0 b h, size)) in
+      live_path f r (map step_of there.0.ops) there.0.last ((exact.1 b (steps_of there.0) (get_map steps_of f.blocks b there.0 there.1)).0 h) b 0 there.0 there.0.ops there.1 refl (omega arith) refl refl,
+  λ h.
+      let there = live_block f r b 0 h in
+      (exact.1 b (steps_of there.0) (get_map steps_of f.blocks b there.0 there.1)).1 (path_live f r b 0 h there.0 there.1),
+)

@@ -1,10 +1,10 @@
 -- What a table says, and when it says it of a function.
-use Rattle.std.specs.Prelude.{◌≡◌, ◌<◌, ℕ, Bool, true, length, Some, ◌↔◌}
+use Rattle.std.specs.Prelude.{◌≡◌, ◌<◌, ℕ, Bool, true, List, [], length, Some, get_or, ◌↔◌}
 use Rattle.ir_core.specs.declared.code.Func.{Func}
 use Rattle.ir_core.specs.Items.{Item, item_in}
 use Rattle.liveness.specs.declared.live_table.LiveTable.{LiveTable}
 use Rattle.liveness.specs.declared.borrow_table.BorrowTable.{BorrowTable}
-use Rattle.liveness.specs.Paths.{LiveAt, BorrowedAt}
+use Rattle.liveness.specs.Paths.{is_among, LiveAt, BorrowedAt}
 use Rattle.liveness.specs.Tables.{live_by, borrowed_by}
 
 -- whether a table says that a register is read again, at a block, a place and the register's number
@@ -15,6 +15,14 @@ says_live table = live_by table.touches table.rows
 abbrev pub IsLiveTable : Func → LiveTable → Type 0
 IsLiveTable f table =
     (b p r : ℕ) (i : Item) → item_in f.blocks b p ≡ Some i → r < length f.regs → (says_live table b p r ≡ true) ↔ LiveAt f r b p
+
+-- the registers that a table says to be read again at the start of a block
+abbrev pub starts_of : LiveTable → ℕ → List ℕ
+starts_of table b = get_or table.rows b []
+
+-- of each block exactly those that some path from its start reads before it writes them
+abbrev pub AreStarts : Func → LiveTable → Type 0
+AreStarts f table = (b r : ℕ) → r < length f.regs → (is_among (starts_of table b) r ≡ true) ↔ LiveAt f r b 0
 
 -- whether a table says that a register is only lent
 abbrev pub says_borrowed : BorrowTable → ℕ → ℕ → ℕ → Bool

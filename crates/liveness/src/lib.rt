@@ -19,3 +19,4 @@ mod step;
 
 pub use borrow_table::{BorrowTable, borrowed};
 pub use live_table::{LiveTable, live};
+pub use step::{register_written, registers_read};

@@ -4,11 +4,11 @@
 ghost use Rattle.std.specs.Prelude.{◌≡◌, ◌≤◌, ◌<◌, ◌+◌, ◌↔◌, ℕ, [], true, false, Some, length, get_or, IfOk, OnOk};
 ghost use Rattle.std.specs.List.{list_any};
 ghost use Rattle.liveness.specs.Paths.{is_among, targets};
-ghost use Rattle.liveness.specs.Rising.{AreAtMost, has};
+ghost use Rattle.liveness.specs.Rising.{IsRising, AreAtMost, has};
 ghost use Rattle.liveness.specs.Places.{is_read, reads_first, touch_from, AreTouches};
 ghost use Rattle.liveness.specs.Rows.{AreBelow, IsLiveRow, Found, AreFound};
 ghost use Rattle.liveness.specs.Tables.{live_in};
-ghost use Rattle.liveness.specs.Liveness.{says_live, IsLiveTable};
+ghost use Rattle.liveness.specs.Liveness.{says_live, starts_of, IsLiveTable, AreStarts};
 
 use crate::flood::{flood, numbers_of};
 use crate::places::{Span, Touch, Touches, readers, reads_first, sources, touch_from, touches_of};
@@ -122,7 +122,8 @@ fn marked_rows(
 
 /// The table of a function.
 pub fn live(alloc: Global, f: &Func) -> Result<LiveTable, Memory>
-    ensures { IfOk result (λ table. IsLiveTable f.now table) }
+    ensures exact { IfOk result (λ table. IsLiveTable f.now table) }
+    ensures starts { IfOk result (λ table. AreStarts f.now table) }
 {
     let blocks = kept_blocks(alloc, f.blocks.as_slice())?;
     let count = f.regs.len();
@@ -165,5 +166,23 @@ impl LiveTable {
             Some(span) => live_in(&self.touches, self.rows.as_slice(), *span, place, r.0),
             None => false,
         }
+    }
+
+    /// The registers that are read again at the start of a block, in the order of their numbers.
+    pub fn at_start(&self, block: usize) -> &[usize]
+        ensures numbers { result.now ≡ starts_of self.now block }
+        ensures rising { IsRising result.now }
+    {
+        match self.rows.get(block) {
+            Some(row) => row.as_slice(),
+            None => &[],
+        }
+    }
+
+    /// Whether a register is among them.
+    pub fn is_live_at_start(&self, block: usize, r: Reg) -> bool
+        ensures { result ≡ is_among (starts_of self.now block) r.0 }
+    {
+        stands(self.rows.as_slice(), r.0, block)
     }
 }

@@ -65,7 +65,8 @@ impl Rising {
 
     /// The numbers as a slice.
     pub fn as_slice(&self) -> &[usize]
-        ensures { result.now ≡ self.now }
+        ensures value { result.now ≡ self.now }
+        ensures rising { IsRising result.now }
     {
         self.numbers.as_slice()
     }

@@ -69,7 +69,8 @@ fn among(alloc: Global, arguments: &[PArg]) -> Result<Many<usize>, Memory>
     Ok(reads)
 }
 
-fn reads(alloc: Global, op: &Op) -> Result<Many<usize>, Memory>
+/// The registers that an operation reads, as often as it does.
+pub fn registers_read(alloc: Global, op: &Op) -> Result<Many<usize>, Memory>
     ensures { IfOk result (λ reads. reads ≡ reads_of op.now) }
 {
     match op {
@@ -93,7 +94,8 @@ fn number(r: Option<Reg>) -> Option<usize>
     }
 }
 
-fn write(op: &Op) -> Option<usize>
+/// The register that an operation writes.
+pub fn register_written(op: &Op) -> Option<usize>
     ensures { result ≡ write_of op.now }
 {
     match op {
@@ -109,10 +111,10 @@ fn kept_steps(alloc: Global, ops: &[(Op, usize)]) -> Result<Many<Step>, Memory>
 {
     let mut all = Vec::new(alloc);
     for (op, _) in ops {
-        let reads = reads(alloc, op)?;
+        let reads = registers_read(alloc, op)?;
         all.push(Step {
             reads,
-            write: write(op),
+            write: register_written(op),
         })?;
     }
     Ok(Many::from_vec(all))

@@ -1,5 +1,0 @@
-use Rattle.ir_lowering.proofs.Whole as proof
-use Rattle.ir_lowering.proofs.laws.unchecked_runs_follow.Goals as goal
-
-pub returns : goal.returns
-returns c = proof.unchecked_runs_follow

@@ -1,0 +1,7 @@
+mod Times
+mod Laying
+mod Steps
+mod GroupLemmas
+mod EdgeLemmas
+mod BlockLemmas
+mod Following

@@ -1,0 +1,92 @@
+//! The functions of a program, and the program.
+ghost use Rattle.std.specs.Prelude.{◌≡◌, ◌≤◌, ◌^◌, List, length, IfOk};
+ghost use Rattle.ir_core.specs.declared.code.Program.{Program as ProgramItem};
+ghost use Rattle.ir_core.specs.Lower as spec;
+ghost use Rattle.ir_core.specs.Runs.{Fit};
+ghost use Rattle.ir_core.specs.Shape.{Shape, FuncFits, FuncsFit};
+ghost use Rattle.refcount_insert.specs.declared.known.Known.{Known as KnownItem};
+ghost use Rattle.refcount_insert.specs.declared.plan.Planned.{Planned as PlannedItem};
+ghost use Rattle.refcount_insert.specs.Known.{IsKnown};
+ghost use Rattle.refcount_insert.specs.Plan.{ArePlanned};
+ghost use Rattle.refcount_insert.specs.Layout.{starts_from, number_at, all_laid};
+ghost use Rattle.line_laws.specs.Follows.{Follows};
+ghost use Rattle.count_rule.specs.Counted.{IsCountedFunc, AreCounted, IsCountedProgram};
+
+use crate::copies::copy_declared;
+use crate::known::known_of;
+use crate::layout::laid_out;
+use crate::plan::plan;
+use c_core::Code;
+use error_edges::Edged;
+use ir_core::{Block, Func, Program};
+use ir_lowering::{copy_classes, lower};
+use std::alloc::Global;
+use value_core::{Many, Memory, Name};
+
+/// The blocks of a function with their counts. They are as few as numbers of 64 bits can name.
+fn counted_blocks(alloc: Global, f: &Func) -> Result<Many<Block>, Memory>
+    ensures laid { IfOk result (λ blocks. (known : KnownItem) × (planned : List PlannedItem) × IsKnown f.now known × ArePlanned known f.now.regs 0 f.now.blocks planned × (blocks ≡ all_laid (number_at (starts_from 0 planned)) 0 planned)) }
+    ensures few { IfOk result (λ blocks. length blocks ≤ 2 ^ 64) }
+{
+    let known = known_of(alloc, f)?;
+    let planned = plan(alloc, f.regs.as_slice(), &known, f.blocks.as_slice())?;
+    let blocks = laid_out(alloc, planned)?;
+    Ok(blocks)
+}
+
+/// A function with its counts.
+fn counted_function(alloc: Global, f: &Func) -> Result<Func, Memory>
+    requires { FuncFits f.now }
+    ensures { IfOk result (λ g. IsCountedFunc f.now g) }
+{
+    let blocks = counted_blocks(alloc, f)?;
+    let name = Name::from_str(alloc, f.name.as_str())?;
+    let regs = copy_declared(alloc, f.regs.as_slice())?;
+    Ok(Func {
+        name,
+        params: f.params,
+        regs,
+        ret: f.ret,
+        blocks,
+    })
+}
+
+fn counted_functions(alloc: Global, funcs: &[Func]) -> Result<Many<Func>, Memory>
+    requires { FuncsFit funcs.now }
+    ensures { IfOk result (λ all. AreCounted funcs.now all) }
+{
+    let mut all = Vec::new(alloc);
+    for f in funcs {
+        all.push(counted_function(alloc, f)?)?;
+    }
+    Ok(Many::from_vec(all))
+}
+
+/// A program with its counts.
+pub fn with_counts(alloc: Global, e: &Edged) -> Result<Program, Memory>
+    requires shape { Shape e.now.program }
+    ensures counted { IfOk result (λ q. IsCountedProgram e.now.program q) }
+{
+    let p = &e.program;
+    let globals = copy_declared(alloc, p.globals.as_slice())?;
+    let classes = copy_classes(alloc, p.classes.as_slice())?;
+    let funcs = counted_functions(alloc, p.funcs.as_slice())?;
+    Ok(Program {
+        globals,
+        classes,
+        funcs,
+    })
+}
+
+/// The C text of a program with its counts, as data. It does what the program does, its runs never fault, and at their end each
+/// count is the number of places that hold the cell (mypyc's developer guide, "Reference counting").
+pub fn insert_counts(alloc: Global, e: &Edged) -> Result<Code, Memory>
+    requires shape { Shape e.now.program }
+    requires fits { Fit e.now.program }
+    ensures follows { IfOk result (Follows e.now.program) }
+    ensures counted { IfOk result (λ code. (q : ProgramItem) × IsCountedProgram e.now.program q × (code ≡ spec.lower q)) }
+{
+    let counted = with_counts(alloc, e)?;
+    let code = lower(alloc, &counted)?;
+    Ok(code)
+}
