@@ -8,15 +8,14 @@ use Rattle.py_typed.specs.declared.statement.Target.{Target}
 use Rattle.py_typed.specs.declared.statement.TStmt.{TStmt}
 use Rattle.py_typed.specs.declared.statement.TStmtKind.{TStmtKind, roll-TStmtKind, out-TStmtKind, roll-out-TStmtKind, fold-roll-TStmtKind}
 use Rattle.py_typed.specs.declared.statement.TStmtKind as kind
-use Rattle.py_typed.specs.Sorts.{sort as sort_of}
+use Rattle.py_typed.specs.Sorts.{Sort, sort as sort_of}
 use Rattle.py_typed.specs.Expressions.{typed_expr}
 use Rattle.py_typed.specs.Statements as tree
 use Rattle.py_typed.specs.Statements.{Variable, TypedModule, TypedStmt, TypedAct, HandlerParts, on_line, act_step, handler_step, stmt_step, typed_stmt, typed_act, typed_handler, typed_suite, typed_arm, typed_target, maybe_typed, suite_of, arms_of}
 use Rattle.py_typed.proofs.StatementLemmas.{typed_stmt_of, typed_act-Aug, typed_act-If, typed_act-Return, typed_act-Break, typed_act-Continue}
-use Rattle.ir_core.specs.declared.code.RType.{RType}
 use Rattle.ir_bodies.specs.Suiting.{TestSuits, ReturnSuits, StatementSuits, ActSuits, SuiteSuits, ArmsSuit}
 
-module _ (m : TypedModule) (vs : List Variable) (gives : Option RType) (looping : Bool) where
+module _ (m : TypedModule) (vs : List Variable) (gives : Option Sort) (looping : Bool) where
   -- ---- rows
 
   pub suite_step : (ss : List TStmt) (i : ℕ) (s : TStmt) → i < length ss → s ≡ get_or ss i s → SuiteSuits m vs gives looping (typed_suite (drop i ss)) → StatementSuits m vs gives looping (typed_stmt s) × SuiteSuits m vs gives looping (typed_suite (drop (i + 1) ss))

@@ -1,17 +1,20 @@
 -- Variables are read and set by their code.
-use Rattle.std.proofs.Common.{◌≡◌, ℕ, zero, suc, ◌<◌, ◌≤◌, true, List, [], ◌∷◌, length, map, get_or, Some, None, refl, sym, ap, ◌∙◌, subst, arith}
+use Rattle.std.proofs.Common.{◌≡◌, ℕ, zero, suc, ◌<◌, ◌≤◌, List, [], ◌∷◌, map, get_or, Some, None, refl, sym, ap, ◌∙◌, subst, arith}
 use Rattle.std.specs.Prelude.{pos, slice_get}
-use Rattle.std.proofs.lemmas.List.{length-map}
 use Rattle.c_core.specs.declared.primitive.Primitive.TheVariants as prim
 use Rattle.c_core.specs.declared.primitive.GlobalPrim.TheVariants as global
 use Rattle.py_syntax.specs.declared.token.Span.{Span}
 use Rattle.py_typed.specs.declared.checked.Var.{Var}
 use Rattle.py_typed.specs.declared.statement.Target.{Target}
 use Rattle.py_typed.specs.declared.statement.Target.TheVariants as declared
-use Rattle.py_typed.specs.Sorts as sort
-use Rattle.py_typed.specs.Sorts.{Sort}
+use Rattle.py_typed.specs.declared.expression.TExpr.{TExpr}
+use Rattle.py_typed.specs.declared.expression.TKind.{TKind}
+use Rattle.py_typed.specs.declared.expression.TKind as kind
+use Rattle.py_typed.specs.Sorts.{Sort, sort as sort_of}
+use Rattle.py_typed.specs.Expressions.{TypedNode, typed, typed_expr, typed_node, Local, Global}
+use Rattle.py_typed.proofs.ExpressionLemmas.{typed_expr_of, typed_node-Local, typed_node-Global}
 use Rattle.py_typed.specs.Statements.{Variable, TypedModule, TypedTarget, LocalTarget, GlobalTarget, typed_target, variable}
-use Rattle.ir_core.specs.declared.code.RType.TheVariants.{I64, Bool as BoolType}
+use Rattle.ir_core.specs.declared.code.RType.TheVariants.{Bool as BoolType}
 use Rattle.ir_core.specs.declared.code.Lit.TheVariants.{Number}
 use Rattle.ir_core.specs.declared.code.Op.TheVariants.{Move, Lit, Prim}
 use Rattle.ir_core.specs.declared.code.PArg.{PArg}
@@ -23,28 +26,20 @@ use Rattle.ir_frames.specs.Placing.{HasType}
 use Rattle.ir_frames.specs.Calling.{Pushes}
 use Rattle.ir_frames.specs.declared.frame.Frame.{Frame}
 use Rattle.ir_frames.specs.Matching.{flag_of, HasRoom}
-use Rattle.ir_frames.specs.Kinds.{Surrounding, is_plain, AreAlike, OpKinds, HasKinds, IsAmong, WritesGlobal}
+use Rattle.ir_frames.specs.Kinds.{Surrounding, AreAlike, OpKinds, IsAmong, WritesGlobal}
 use Rattle.ir_frames.proofs.HeldLemmas.{type_kept}
-use Rattle.ir_frames.proofs.KindLemmas.{plain_not_text}
 use Rattle.ir_frames.proofs.GlobalLemmas.{write_fits}
-use Rattle.ir_expressions.specs.Compiled.{is_scalar}
-use Rattle.ir_expressions.specs.Reading.{setting_in, EmitsLocal, EmitsGlobal}
-use Rattle.ir_expressions.specs.Suiting.{IsScalarAt}
+use Rattle.ir_expressions.specs.Parts.{is_simple}
+use Rattle.ir_expressions.specs.Reading.{setting_in}
 use Rattle.ir_statements.specs.Simple.{Sets}
 use Rattle.ir_statements.proofs.SimpleLemmas.{get_below, param_set, other_set, global_set}
-use Rattle.ir_bodies.specs.Suiting.{IsVariable}
-use Rattle.ir_bodies.specs.Parts.{HasFlag, SetsLocal, TakesGlobal, SetsGlobal, TakesRegister, SetsVariable, ReadsVariable}
+use Rattle.ir_bodies.specs.Parts.{HasFlag, SetsLocal, TakesGlobal, SetsGlobal, TakesRegister, SetsVariable, reading_of}
 
 pub type_by : (b : Building) (r : ℕ) (t u : Sort) → t ≡ u → HasType b r (rtype_of t) → HasType b r (rtype_of u)
 type_by b r t u e h = let P : Sort → Type 0 = λ z. HasType b r (rtype_of z) in subst P e h
 
 sets_by : (x : Setting) (target : TypedTarget) (r : ℕ) (t u : Sort) (b c : Building) → t ≡ u → Sets x target t r b c → Sets x target u r b c
 sets_by x target r t u b c e h = let P : Sort → Type 0 = λ z. Sets x target z r b c in subst P e h
-
-plain_scalar : (t : Sort) → is_scalar t ≡ true → is_plain (rtype_of t) ≡ true
-plain_scalar sort.I64 h = refl
-plain_scalar sort.Bool h = refl
-plain_scalar _ h = absurd (cc)
 
 -- ---- a variable of the function is set
 
@@ -57,10 +52,10 @@ variable_sets frame k r flag b c d other flag_is q q' x v is room at type =
     let here : flag.0 ≡ flag_of x.frame.locals k = flag_is ∙ ap (λ (f : Frame). flag_of f.locals k) (sym is) in
     other_set x k r.0 v b c d room at (subst (λ (f : Frame). f.locals.params ≤ k) (sym is) other) type q (subst (λ n. Pushes c d (Lit (record { 0 = n }) (Number (pos 1)))) here q')
 
-pub flag_kinds : (g : Surrounding) (b c : Building) (frame : Frame) (k : ℕ) (flag : Reg) → HasFlag frame k b → frame.locals.params ≤ k → flag.0 ≡ flag_of frame.locals k → Extends b c → HasKinds g c → OpKinds g c.regs (Lit flag (Number (pos 1)))
-flag_kinds g b c frame k flag has other is more kinds =
+pub flag_kinds : (g : Surrounding) (b c : Building) (frame : Frame) (k : ℕ) (flag : Reg) → HasFlag frame k b → frame.locals.params ≤ k → flag.0 ≡ flag_of frame.locals k → Extends b c → OpKinds g c.regs (Lit flag (Number (pos 1)))
+flag_kinds g b c frame k flag has other is more =
     let type : HasType c flag.0 BoolType = subst (λ n. HasType c n BoolType) (sym is) (type_kept b c (flag_of frame.locals k) BoolType more (has other).1) in
-    (BoolType, type, (refl, refl), plain_not_text g c flag BoolType kinds type (λ e. cc))
+    (BoolType, type, (refl, refl))
 
 -- the flag of a variable is there
 has_flag : (x : Setting) (k : ℕ) (v : Variable) (b : Building) → HasRoom x b → slice_get x.variables k ≡ Some v → HasFlag x.frame k b
@@ -96,7 +91,7 @@ global_fits m g vs i d r args b all is args_are among takes =
     let v = takes.0 in
     let at' : slice_get (map variable vs) i ≡ Some v = ap (λ l. slice_get l i) (sym all) ∙ takes.1 in
     let named : v.0 ≡ d.name = declared_name vs i d v at' is in
-    subst (WritesGlobal g b.regs (prim.Global global.Set)) (ap (λ name. stored name r) named ∙ sym args_are) (write_fits m g b.regs i v r among takes.1 (plain_scalar v.1 takes.2) takes.3)
+    subst (WritesGlobal g b.regs (prim.Global global.Set)) (ap (λ name. stored name r) named ∙ sym args_are) (write_fits m g b.regs i v r among takes.1 takes.3)
 
 -- ---- a target is set
 
@@ -114,7 +109,7 @@ module _ (m : TypedModule) (frame : Frame) (t : Target) (r : Reg) (b c : Buildin
   local_alike k is h =
       let f = local_takes k is h in
       let v = f.3 in
-      (rtype_of f.1, plain_scalar f.1 f.4, type_by b k v.0.1 f.1 v.2 (f.2.declared k v.0 v.1), f.5)
+      (rtype_of f.1, type_by b k v.0.1 f.1 v.2 (f.2.declared k v.0 v.1), f.5)
 
   pub local_set : (k : ℕ) → t ≡ declared.Local k → SetsLocal frame k r.0 b c → SetsVariable m frame (typed_target t) r.0 b c
   local_set k is q =
@@ -127,7 +122,7 @@ module _ (m : TypedModule) (frame : Frame) (t : Target) (r : Reg) (b c : Buildin
       let P : Target → Type 0 = λ z. TakesRegister m frame (typed_target z) r.0 b in
       let f : TakesRegister m frame (GlobalTarget i) r.0 b = subst P is h in
       let v = f.3 in
-      (v.0, v.1, ap is_scalar v.2 ∙ f.4, type_by b r.0 f.1 v.0.1 (sym v.2) f.5)
+      (v.0, v.1, ap is_simple v.2 ∙ f.4, type_by b r.0 f.1 v.0.1 (sym v.2) f.5)
 
   pub global_put : (i : ℕ) → t ≡ declared.Global i → SetsGlobal m i r.0 b c → SetsVariable m frame (typed_target t) r.0 b c
   global_put i is q =
@@ -137,36 +132,16 @@ module _ (m : TypedModule) (frame : Frame) (t : Target) (r : Reg) (b c : Buildin
 
 -- ---- a target is read
 
-module _ (x : Setting) (t : Target) (b c : Building) where
-  pub local_below : (vs : List Var) (k : ℕ) → x.variables ≡ map variable vs → t ≡ declared.Local k → IsVariable x.source x.variables None (typed_target t) sort.I64 → k < length vs
-  local_below vs k all is h =
-      let P : Target → Type 0 = λ z. IsVariable x.source x.variables None (typed_target z) sort.I64 in
-      let v : IsVariable x.source x.variables None (LocalTarget k) sort.I64 = subst P is h in
-      rw (sym (length-map vs variable), sym all) (get_below x.variables k v.0 v.1)
+module _ (t : Target) (s : Sort) (place : Span) (k : TKind) (e : TExpr) where
+  read_as : (n : TypedNode) → e.kind ≡ k → typed_node k ≡ n → sort_of e.ty ≡ s → e.span ≡ place → typed_expr e ≡ typed n s place
+  read_as n is made type at = typed_expr_of e k is ∙ ap (λ z. typed z (sort_of e.ty) e.span) made ∙ ap (λ z. typed n z e.span) type ∙ ap (λ z. typed n s z) at
 
-  pub local_read : (k : ℕ) (r : Reg) → t ≡ declared.Local k → IsVariable x.source x.variables None (typed_target t) sort.I64 → r.0 ≡ k → EmitsLocal x.variables x.frame k b c k → ReadsVariable x (typed_target t) b c r.0
-  local_read k r is h own q =
-      let P : Target → Type 0 = λ z. IsVariable x.source x.variables None (typed_target z) sort.I64 in
-      let v : IsVariable x.source x.variables None (LocalTarget k) sort.I64 = subst P is h in
-      let Q : Target → Type 0 = λ z. ReadsVariable x (typed_target z) b c r.0 in
-      let R : ℕ → Type 0 = λ n. ReadsVariable x (LocalTarget k) b c n in
-      subst Q (sym is) (subst R (sym own) (λ place. q x.source sort.I64 place (refl, v.0, v.1, v.2)))
+pub local_reading : (t : Target) (s : Sort) (place : Span) (i : ℕ) (e : TExpr) → t ≡ declared.Local i → e.kind ≡ kind.Local i → sort_of e.ty ≡ s → e.span ≡ place → typed_expr e ≡ reading_of (typed_target t) s place
+local_reading t s place i e is k type at =
+    let P : Target → Type 0 = λ z. typed_expr e ≡ reading_of (typed_target z) s place in
+    subst P (sym is) (read_as t s place (kind.Local i) e (Local i) k (typed_node-Local i) type at)
 
-  pub global_scalar : (i : ℕ) → t ≡ declared.Global i → IsVariable x.source x.variables None (typed_target t) sort.I64 → IsScalarAt x.source.globals i
-  global_scalar i is h =
-      let P : Target → Type 0 = λ z. IsVariable x.source x.variables None (typed_target z) sort.I64 in
-      let v : IsVariable x.source x.variables None (GlobalTarget i) sort.I64 = subst P is h in
-      (v.0, v.1, ap is_scalar v.2)
-
-  pub global_read : (i : ℕ) (r : Reg) → HasRoom x b → t ≡ declared.Global i → IsVariable x.source x.variables None (typed_target t) sort.I64 → EmitsGlobal x.source i b c r.0 → ReadsVariable x (typed_target t) b c r.0
-  global_read i r room is h q =
-      let P : Target → Type 0 = λ z. IsVariable x.source x.variables None (typed_target z) sort.I64 in
-      let v : IsVariable x.source x.variables None (GlobalTarget i) sort.I64 = subst P is h in
-      let Q : Target → Type 0 = λ z. ReadsVariable x (typed_target z) b c r.0 in
-      subst Q (sym is) (λ place. q x.variables x.frame sort.I64 place room (refl, v.0, v.1, v.2))
-
--- the register has the type of a native integer
-pub read_type : (x : Setting) (target : TypedTarget) (b c : Building) (r : ℕ) → Span → ReadsVariable x target b c r → HasType c r I64
-read_type x (LocalTarget k) b c r place q = (q place).type
-read_type x (GlobalTarget i) b c r place q = (q place).type
-read_type x target b c r place q = absurd q
+pub global_reading : (t : Target) (s : Sort) (place : Span) (i : ℕ) (e : TExpr) → t ≡ declared.Global i → e.kind ≡ kind.Global i → sort_of e.ty ≡ s → e.span ≡ place → typed_expr e ≡ reading_of (typed_target t) s place
+global_reading t s place i e is k type at =
+    let P : Target → Type 0 = λ z. typed_expr e ≡ reading_of (typed_target z) s place in
+    subst P (sym is) (read_as t s place (kind.Global i) e (Global i) k (typed_node-Global i) type at)

@@ -1,9 +1,10 @@
 -- What the parts of the code of statements are, one behind another.
 use Rattle.std.specs.Prelude.{◌≡◌, ◌<◌, ◌≤◌, ℕ, true, List, [], ◌∷◌, ◌++◌, length, Option, Some, None, slice_get}
 use Rattle.py_syntax.specs.declared.token.Span.{Span}
+use Rattle.py_syntax.specs.declared.expression.BinOp.{BinOp}
 use Rattle.py_typed.specs.Sorts as sort
 use Rattle.py_typed.specs.Sorts.{Sort}
-use Rattle.py_typed.specs.Expressions.{TypedExpr, typed, Local, Global, type_of}
+use Rattle.py_typed.specs.Expressions.{TypedExpr, typed, Local, Global, Nothing, type_of}
 use Rattle.py_typed.specs.Statements.{Variable, TypedModule, TypedTarget, LocalTarget, GlobalTarget}
 use Rattle.ir_core.specs.declared.code.Last.TheVariants.{Goto, If, Unreachable}
 use Rattle.ir_core.specs.declared.code.Op.TheVariants.{Turn}
@@ -15,8 +16,9 @@ use Rattle.ir_frames.specs.Placing.{HasType}
 use Rattle.ir_frames.specs.Matching.{flag_of, HasRoom}
 use Rattle.ir_frames.specs.Calling.{Pushes, Closes}
 use Rattle.ir_frames.specs.Computing.{Shows, Computes}
-use Rattle.ir_expressions.specs.Compiled.{is_scalar}
-use Rattle.ir_expressions.specs.Emitting.{Emits}
+use Rattle.ir_expressions.specs.declared.applying.Binary.{Binary}
+use Rattle.ir_expressions.specs.declared.applying.Binary.TheVariants.{Arithmetic, Joined}
+use Rattle.ir_expressions.specs.Parts.{is_simple}
 use Rattle.ir_expressions.specs.Reading.{setting_in}
 use Rattle.ir_statements.specs.declared.ways.Way.TheVariants.{Join}
 use Rattle.ir_statements.specs.declared.ways.Exit.{Exit}
@@ -40,31 +42,36 @@ abbrev pub SetsLocal : Frame → ℕ → ℕ → Building → Building → Type 
 SetsLocal frame k r old new =
     (x : Setting) (v : Variable) → x.frame ≡ frame → HasRoom x old → slice_get x.variables k ≡ Some v → HasType old r (rtype_of v.1) → Sets x (LocalTarget k) v.1 r old new
 
--- the module's variable of a number is a native integer or a bool, and a register has its type
+-- the module's variable of a number holds numbers, bools or texts, and a register has its type
 abbrev pub TakesGlobal : TypedModule → ℕ → ℕ → Building → Type 0
 TakesGlobal m i r b =
-    (v : Variable) × (slice_get m.globals i ≡ Some v) × (is_scalar v.1 ≡ true) × HasType b r (rtype_of v.1)
+    (v : Variable) × (slice_get m.globals i ≡ Some v) × (is_simple v.1 ≡ true) × HasType b r (rtype_of v.1)
 
 -- a value in a register is put into the module's variable of a number
 abbrev pub SetsGlobal : TypedModule → ℕ → ℕ → Building → Building → Type 0
 SetsGlobal m i r old new =
     (x : Setting) (v : Variable) → x.source ≡ m → slice_get m.globals i ≡ Some v → HasType old r (rtype_of v.1) → Sets x (GlobalTarget i) v.1 r old new
 
--- a target is a variable that is a native integer or a bool, and a register has its type
+-- a target is a variable of numbers, bools or texts, and a register has its type
 abbrev pub TakesRegister : TypedModule → Frame → TypedTarget → ℕ → Building → Type 0
 TakesRegister m frame target r b =
-    (vs : List Variable) × (t : Sort) × HasRoom (setting_in m vs frame) b × IsVariable m vs None target t × (is_scalar t ≡ true) × HasType b r (rtype_of t)
+    (vs : List Variable) × (t : Sort) × HasRoom (setting_in m vs frame) b × IsVariable m vs None target t × (is_simple t ≡ true) × HasType b r (rtype_of t)
 
 -- a value in a register is put into the variable that a target is, in whatever function with this frame
 abbrev pub SetsVariable : TypedModule → Frame → TypedTarget → ℕ → Building → Building → Type 0
 SetsVariable m frame target r old new =
     (vs : List Variable) (t : Sort) → HasRoom (setting_in m vs frame) old → IsVariable m vs None target t → HasType old r (rtype_of t) → Sets (setting_in m vs frame) target t r old new
 
--- a native integer is read from the variable that a target is
-abbrev pub ReadsVariable : Setting → TypedTarget → Building → Building → ℕ → Type 0
-ReadsVariable x (LocalTarget k) old new r = (place : Span) → Emits x (typed (Local k) sort.I64 place) old new r
-ReadsVariable x (GlobalTarget i) old new r = (place : Span) → Emits x (typed (Global i) sort.I64 place) old new r
-ReadsVariable x target old new r = ⊥
+-- the expression of a type that reads the variable that a target is
+abbrev pub reading_of : TypedTarget → Sort → Span → TypedExpr
+reading_of (LocalTarget k) t place = typed (Local k) t place
+reading_of (GlobalTarget i) t place = typed (Global i) t place
+reading_of target t place = typed Nothing t place
+
+-- the operation of an update in a type
+abbrev pub update_binary : BinOp → Sort → Binary
+update_binary op sort.Str = Joined
+update_binary op t = Arithmetic op
 
 -- ---- values and tests
 

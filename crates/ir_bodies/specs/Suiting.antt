@@ -1,22 +1,23 @@
 -- What is asked of a statement that is built: its form is one of those that are compiled, and its parts have the types of a well
 -- typed one.
-use Rattle.std.specs.Prelude.{◌≡◌, Bool, true, List, [], ◌∷◌, Option, Some, None, slice_get}
+use Rattle.std.specs.Prelude.{◌≡◌, ◌⊎◌, Bool, true, List, [], ◌∷◌, Option, Some, None, slice_get}
+use Rattle.py_syntax.specs.declared.expression.BinOp.{BinOp}
+use Rattle.py_syntax.specs.declared.expression.BinOp.TheVariants.{Add}
 use Rattle.py_typed.specs.Sorts as sort
 use Rattle.py_typed.specs.Sorts.{Sort}
 use Rattle.py_typed.specs.Expressions.{TypedExpr, typed, Print, TypedExprs, no_exprs, expr_then, type_of}
 use Rattle.py_typed.specs.Statements.{Variable, TypedModule, TypedTarget, LocalTarget, GlobalTarget, TypedStmt, on_line, TypedAct, Do, Assign, Aug, If, While, Return, Break, Continue, Pass, TypedSuite, no_stmts, stmt_then, Arms, no_arms, arm_then}
-use Rattle.ir_core.specs.declared.code.RType.{RType}
-use Rattle.ir_core.specs.declared.code.RType.TheVariants.{Ref}
-use Rattle.ir_frames.specs.Settings.{rtype_of}
-use Rattle.ir_expressions.specs.Compiled.{is_scalar, is_built}
-use Rattle.ir_expressions.specs.Suiting.{Suits, Operand}
+use Rattle.ir_expressions.specs.declared.applying.Binary.TheVariants.{Arithmetic, Joined}
+use Rattle.ir_expressions.specs.Parts.{is_simple}
+use Rattle.ir_expressions.specs.Applying.{BinarySuits}
+use Rattle.ir_expressions.specs.Suiting.{Suits}
 
--- in a function with these variables, whose result has registers of a type; a module's own statements give none
-module _ (m : TypedModule) (vs : List Variable) (gives : Option RType) where
-  -- one value that is printed
+-- in a function with these variables, whose result is of a type; a module's own statements give none
+module _ (m : TypedModule) (vs : List Variable) (gives : Option Sort) where
+  -- values that are printed
   abbrev pub PrintSuits : TypedExprs → Type 0
-  PrintSuits (expr_then e no_exprs) = Operand m vs e
-  PrintSuits es = ⊥
+  PrintSuits no_exprs = Unit {0}
+  PrintSuits (expr_then e more) = (is_simple (type_of e) ≡ true) × Suits m vs e × PrintSuits more
 
   -- an expression alone: `print`, or any that is built
   abbrev pub DoSuits : TypedExpr → Type 0
@@ -33,9 +34,13 @@ module _ (m : TypedModule) (vs : List Variable) (gives : Option RType) where
   IsOnly (target ∷ []) t = IsVariable target t
   IsOnly targets t = ⊥
 
+  -- the operator of an update of a variable of a type by a value of another one: arithmetic of numbers, or two texts that are joined
+  abbrev pub UpdateSuits : BinOp → Sort → Sort → Type 0
+  UpdateSuits op t s = BinarySuits (Arithmetic op) t t s ⊎ ((op ≡ Add) × BinarySuits Joined t t s)
+
   abbrev pub ReturnSuits : Option TypedExpr → Type 0
-  ReturnSuits None = gives ≡ Some Ref
-  ReturnSuits (Some e) = (is_scalar (type_of e) ≡ true) × (gives ≡ Some (rtype_of (type_of e))) × Suits m vs e
+  ReturnSuits None = gives ≡ Some sort.Nothing
+  ReturnSuits (Some e) = (is_simple (type_of e) ≡ true) × (gives ≡ Some (type_of e)) × Suits m vs e
 
   -- a test is a bool
   abbrev pub TestSuits : TypedExpr → Type 0
@@ -48,8 +53,8 @@ module _ (m : TypedModule) (vs : List Variable) (gives : Option RType) where
 
     pub ActSuits : Bool → TypedAct → Type 0
     ActSuits looping (Do e) = DoSuits e
-    ActSuits looping (Assign targets e) = (is_scalar (type_of e) ≡ true) × IsOnly targets (type_of e) × Suits m vs e
-    ActSuits looping (Aug target op e t) = (t ≡ sort.I64) × IsVariable target sort.I64 × (is_built op ≡ true) × Operand m vs e
+    ActSuits looping (Assign targets e) = (is_simple (type_of e) ≡ true) × IsOnly targets (type_of e) × Suits m vs e
+    ActSuits looping (Aug target op e t) = IsVariable target t × UpdateSuits op t (type_of e) × Suits m vs e
     ActSuits looping (If arms other) = ArmsSuit looping arms × SuiteSuits looping other
     ActSuits looping (While test body) = TestSuits test × SuiteSuits true body
     ActSuits looping (Return e) = ReturnSuits e

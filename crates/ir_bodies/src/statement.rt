@@ -1,5 +1,7 @@
 //! The code of statements.
 ghost use Rattle.std.specs.Prelude.{◌≡◌, ◌≤◌, [], true, map, length, None, OnOk};
+ghost use Rattle.std.specs.Option.{option_map, option_copied};
+ghost use Rattle.py_typed.specs.Sorts.{sort};
 ghost use Rattle.py_typed.specs.Expressions.{typed_expr};
 ghost use Rattle.py_typed.specs.Statements.{typed_module, typed_stmt, typed_suite, typed_arm, arms_of, variable};
 ghost use Rattle.ir_core.specs.Building.{Extends};
@@ -17,15 +19,14 @@ use crate::alone::emit_alone;
 use crate::branch::{emit_split, end_arm, end_loop, join};
 use crate::exits::leave_by;
 use crate::simple::{emit_assignment, emit_return, emit_update};
-use ir_core::RType;
 use ir_frames::{Emitter, Frame};
 use ir_statements::{Exit, Way};
-use py_typed::{Checked, TExpr, TStmt, TStmtKind, Var};
+use py_typed::{Checked, TExpr, TStmt, TStmtKind, Ty, Var};
 use std::alloc::Global;
 use value_core::{Many, Memory};
 
 /// Emits statements one after another. The exits by which they are left are added to a list. `gives` is the type of the
-/// registers for the function's result, and none in the module's own code; `looping` says whether a loop is around. It fails for
+/// function's result, and none in the module's own code; `looping` says whether a loop is around. It fails for
 /// want of memory.
 #[cycle(statement)]
 pub fn emit_block(
@@ -34,18 +35,18 @@ pub fn emit_block(
     checked: &Checked,
     locals: &[Var],
     frame: Frame,
-    gives: Option<RType>,
+    gives: Option<&Ty>,
     looping: bool,
     body: &[TStmt],
     exits: &mut Vec<Exit>,
 ) -> Result<(), Memory>
-    requires suits { SuiteSuits (typed_module checked.now) (map variable locals.now) gives looping (typed_suite body.now) }
+    requires suits { SuiteSuits (typed_module checked.now) (map variable locals.now) (option_map sort (option_copied gives)) looping (typed_suite body.now) }
     requires room { HasRoom (setting checked.now locals.now frame) b.old }
     requires alone { frame.ret ≡ None }
     ensures kept { Extends b.old b.new }
-    ensures emitted { OnOk result (Emitted (setting checked.now locals.now frame) gives looping (means_suite (setting checked.now locals.now frame) (typed_suite body.now)) b.old b.new exits.old.items exits.new.items) }
+    ensures emitted { OnOk result (Emitted (setting checked.now locals.now frame) (option_map sort (option_copied gives.entry)) looping (means_suite (setting checked.now locals.now frame) (typed_suite body.now)) b.old b.new exits.old.items exits.new.items) }
     ensures shaped { OnOk result (Keeps b.old b.new) }
-    ensures kinds { OnOk result (KeepsKindsIf (IsAround (typed_module checked.now) frame gives) b.old b.new) }
+    ensures kinds { OnOk result (KeepsKindsIf (IsAround (typed_module checked.now) (option_map sort (option_copied gives.entry))) b.old b.new) }
 {
     for s in body {
         emit_statement(b, alloc, checked, locals, frame, gives, looping, s, exits)?;
@@ -61,18 +62,18 @@ fn emit_statement(
     checked: &Checked,
     locals: &[Var],
     frame: Frame,
-    gives: Option<RType>,
+    gives: Option<&Ty>,
     looping: bool,
     s: &TStmt,
     exits: &mut Vec<Exit>,
 ) -> Result<(), Memory>
-    requires suits { StatementSuits (typed_module checked.now) (map variable locals.now) gives looping (typed_stmt s.now) }
+    requires suits { StatementSuits (typed_module checked.now) (map variable locals.now) (option_map sort (option_copied gives)) looping (typed_stmt s.now) }
     requires room { HasRoom (setting checked.now locals.now frame) b.old }
     requires alone { frame.ret ≡ None }
     ensures kept { Extends b.old b.new }
-    ensures emitted { OnOk result (Emitted (setting checked.now locals.now frame) gives looping (means_statement (setting checked.now locals.now frame) (typed_stmt s.now)) b.old b.new exits.old.items exits.new.items) }
+    ensures emitted { OnOk result (Emitted (setting checked.now locals.now frame) (option_map sort (option_copied gives.entry)) looping (means_statement (setting checked.now locals.now frame) (typed_stmt s.now)) b.old b.new exits.old.items exits.new.items) }
     ensures shaped { OnOk result (Keeps b.old b.new) }
-    ensures kinds { OnOk result (KeepsKindsIf (IsAround (typed_module checked.now) frame gives) b.old b.new) }
+    ensures kinds { OnOk result (KeepsKindsIf (IsAround (typed_module checked.now) (option_map sort (option_copied gives.entry))) b.old b.new) }
 {
     let line = s.line;
     match &s.kind {
@@ -81,8 +82,8 @@ fn emit_statement(
             let targets = targets.as_slice();
             emit_assignment(b, alloc, checked, locals, frame, targets, e, line)
         }
-        TStmtKind::Aug(target, op, e, _) => {
-            emit_update(b, alloc, checked, locals, frame, target, *op, e, line)
+        TStmtKind::Aug(target, op, e, t) => {
+            emit_update(b, alloc, checked, locals, frame, target, *op, e, t, line)
         }
         TStmtKind::If(arms, other) => {
             let arms = arms.as_slice();
@@ -113,7 +114,7 @@ fn emit_if(
     checked: &Checked,
     locals: &[Var],
     frame: Frame,
-    gives: Option<RType>,
+    gives: Option<&Ty>,
     looping: bool,
     s: &TStmt,
     arms: &[(TExpr, Many<TStmt>)],
@@ -121,14 +122,14 @@ fn emit_if(
     exits: &mut Vec<Exit>,
 ) -> Result<(), Memory>
     requires is { s.now.kind ≡ TStmtKind.If arms.now other.now }
-    requires arms_suit { ArmsSuit (typed_module checked.now) (map variable locals.now) gives looping (arms_of (map typed_arm arms.now)) }
-    requires other_suits { SuiteSuits (typed_module checked.now) (map variable locals.now) gives looping (typed_suite other.now) }
+    requires arms_suit { ArmsSuit (typed_module checked.now) (map variable locals.now) (option_map sort (option_copied gives)) looping (arms_of (map typed_arm arms.now)) }
+    requires other_suits { SuiteSuits (typed_module checked.now) (map variable locals.now) (option_map sort (option_copied gives)) looping (typed_suite other.now) }
     requires room { HasRoom (setting checked.now locals.now frame) b.old }
     requires alone { frame.ret ≡ None }
     ensures kept { Extends b.old b.new }
-    ensures emitted { OnOk result (Emitted (setting checked.now locals.now frame) gives looping (means_statement (setting checked.now locals.now frame) (typed_stmt s.now)) b.old b.new exits.old.items exits.new.items) }
+    ensures emitted { OnOk result (Emitted (setting checked.now locals.now frame) (option_map sort (option_copied gives.entry)) looping (means_statement (setting checked.now locals.now frame) (typed_stmt s.now)) b.old b.new exits.old.items exits.new.items) }
     ensures shaped { OnOk result (Keeps b.old b.new) }
-    ensures kinds { OnOk result (KeepsKindsIf (IsAround (typed_module checked.now) frame gives) b.old b.new) }
+    ensures kinds { OnOk result (KeepsKindsIf (IsAround (typed_module checked.now) (option_map sort (option_copied gives.entry))) b.old b.new) }
 {
     let mut inner = Vec::new(alloc);
     emit_arms(
@@ -148,19 +149,19 @@ fn emit_arms(
     checked: &Checked,
     locals: &[Var],
     frame: Frame,
-    gives: Option<RType>,
+    gives: Option<&Ty>,
     looping: bool,
     arms: &[(TExpr, Many<TStmt>)],
     exits: &mut Vec<Exit>,
 ) -> Result<(), Memory>
     requires none { exits.old.items ≡ [] }
-    requires suits { ArmsSuit (typed_module checked.now) (map variable locals.now) gives looping (arms_of (map typed_arm arms.now)) }
+    requires suits { ArmsSuit (typed_module checked.now) (map variable locals.now) (option_map sort (option_copied gives)) looping (arms_of (map typed_arm arms.now)) }
     requires room { HasRoom (setting checked.now locals.now frame) b.old }
     requires alone { frame.ret ≡ None }
     ensures kept { Extends b.old b.new }
-    ensures tested { OnOk result (Tested (setting checked.now locals.now frame) gives looping (means_arms (setting checked.now locals.now frame) arms.now) b.old b.new exits.new.items) }
+    ensures tested { OnOk result (Tested (setting checked.now locals.now frame) (option_map sort (option_copied gives.entry)) looping (means_arms (setting checked.now locals.now frame) arms.now) b.old b.new exits.new.items) }
     ensures shaped { OnOk result (Keeps b.old b.new) }
-    ensures kinds { OnOk result (KeepsKindsIf (IsAround (typed_module checked.now) frame gives) b.old b.new) }
+    ensures kinds { OnOk result (KeepsKindsIf (IsAround (typed_module checked.now) (option_map sort (option_copied gives.entry))) b.old b.new) }
 {
     for (e, body) in arms {
         let test = emit_split(b, alloc, checked, locals, frame, e)?;
@@ -181,7 +182,7 @@ fn emit_while(
     checked: &Checked,
     locals: &[Var],
     frame: Frame,
-    gives: Option<RType>,
+    gives: Option<&Ty>,
     looping: bool,
     s: &TStmt,
     e: &TExpr,
@@ -189,14 +190,14 @@ fn emit_while(
     exits: &mut Vec<Exit>,
 ) -> Result<(), Memory>
     requires is { s.now.kind ≡ TStmtKind.While e.now body.now }
-    requires test { TestSuits (typed_module checked.now) (map variable locals.now) gives (typed_expr e.now) }
-    requires suits { SuiteSuits (typed_module checked.now) (map variable locals.now) gives true (typed_suite body.now) }
+    requires test { TestSuits (typed_module checked.now) (map variable locals.now) (option_map sort (option_copied gives)) (typed_expr e.now) }
+    requires suits { SuiteSuits (typed_module checked.now) (map variable locals.now) (option_map sort (option_copied gives)) true (typed_suite body.now) }
     requires room { HasRoom (setting checked.now locals.now frame) b.old }
     requires alone { frame.ret ≡ None }
     ensures kept { Extends b.old b.new }
-    ensures emitted { OnOk result (Emitted (setting checked.now locals.now frame) gives looping (means_statement (setting checked.now locals.now frame) (typed_stmt s.now)) b.old b.new exits.old.items exits.new.items) }
+    ensures emitted { OnOk result (Emitted (setting checked.now locals.now frame) (option_map sort (option_copied gives.entry)) looping (means_statement (setting checked.now locals.now frame) (typed_stmt s.now)) b.old b.new exits.old.items exits.new.items) }
     ensures shaped { OnOk result (Keeps b.old b.new) }
-    ensures kinds { OnOk result (KeepsKindsIf (IsAround (typed_module checked.now) frame gives) b.old b.new) }
+    ensures kinds { OnOk result (KeepsKindsIf (IsAround (typed_module checked.now) (option_map sort (option_copied gives.entry))) b.old b.new) }
 {
     let mut inner = Vec::new(alloc);
     let head = b.step_on()?;

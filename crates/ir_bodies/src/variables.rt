@@ -1,45 +1,51 @@
 //! Variables that statements read and set.
-ghost use Rattle.std.specs.Prelude.{◌≡◌, ◌<◌, map, length, None, IfOk, OnOk};
-ghost use Rattle.py_typed.specs.Sorts.{I64};
-ghost use Rattle.py_typed.specs.Statements.{typed_module, typed_target, variable};
+ghost use Rattle.std.specs.Prelude.{◌≡◌, true, List, None, OnOk};
+ghost use Rattle.py_typed.specs.Sorts.{sort};
+ghost use Rattle.py_typed.specs.Expressions.{typed_expr};
+ghost use Rattle.py_typed.specs.Statements.{TypedModule, Variable, typed_module, typed_target};
 ghost use Rattle.ir_core.specs.Building.{Extends};
-ghost use Rattle.ir_frames.specs.Settings.{setting};
-ghost use Rattle.ir_frames.specs.Matching.{HasRoom};
 ghost use Rattle.ir_frames.specs.Shaped.{Keeps};
 ghost use Rattle.ir_frames.specs.Kinds.{IsAmong, AreAlike, KeepsKindsIf};
+ghost use Rattle.ir_expressions.specs.Parts.{is_simple};
 ghost use Rattle.ir_bodies.specs.Suiting.{IsVariable};
-ghost use Rattle.ir_bodies.specs.Parts.{HasFlag, SetsLocal, SetsGlobal, TakesGlobal, TakesRegister, SetsVariable, ReadsVariable};
+ghost use Rattle.ir_bodies.specs.Parts.{HasFlag, SetsLocal, SetsGlobal, TakesGlobal, TakesRegister, SetsVariable, reading_of};
 
 use c_core::{GlobalPrim, Prim};
 use ir_core::{Lit, Op, PArg, Reg};
-use ir_expressions::{emit_global, emit_local};
 use ir_frames::{Emitter, Frame};
-use py_typed::{Checked, Target, Var};
+use py_syntax::Span;
+use py_typed::{Checked, TExpr, TKind, Target, Ty};
 use std::alloc::Global;
 use value_core::{Many, Memory};
 
-/// The register that has the value of a variable.
-pub(crate) fn emit_read(
-    b: &mut Emitter,
-    alloc: Global,
-    checked: &Checked,
-    locals: &[Var],
-    frame: Frame,
-    target: &Target,
-    line: usize,
-) -> Result<Reg, Memory>
-    requires target { IsVariable (typed_module checked.now) (map variable locals.now) None (typed_target target.now) I64 }
-    requires room { HasRoom (setting checked.now locals.now frame) b.old }
-    ensures kept { Extends b.old b.new }
-    ensures reads { IfOk result (λ r. ReadsVariable (setting checked.now locals.now frame) (typed_target target.now) b.old b.new r.0) }
-    ensures shaped { Keeps b.old b.new }
-    ensures kinds { KeepsKindsIf (IsAmong (typed_module checked.now)) b.old b.new }
+// A type of numbers, bools or texts.
+fn simple_type(t: &Ty) -> Ty
+    requires { is_simple (sort t.now) ≡ true }
+    ensures { sort result ≡ sort t.now }
 {
-    match target {
-        Target::Local(k) => emit_local(b, alloc, locals, frame, *k, line),
-        Target::Global(i) => emit_global(b, alloc, checked, *i, line),
+    match t {
+        Ty::Int => Ty::Int,
+        Ty::I64 => Ty::I64,
+        Ty::Bool => Ty::Bool,
+        Ty::Str => Ty::Str,
         _ => unreachable!(),
     }
+}
+
+/// The expression that reads a variable of a type.
+pub(crate) fn reading(target: &Target, t: &Ty, span: Span) -> TExpr
+    requires simple { is_simple (sort t.now) ≡ true }
+    requires variable { (m : TypedModule) × (vs : List Variable) × IsVariable m vs None (typed_target target.now) (sort t.now) }
+    ensures same { sort result.ty ≡ sort t.now }
+    ensures reads { typed_expr result ≡ reading_of (typed_target target.now) (sort t.now) span }
+{
+    let ty = simple_type(t);
+    let kind = match target {
+        Target::Local(k) => TKind::Local(*k),
+        Target::Global(i) => TKind::Global(*i),
+        _ => unreachable!(),
+    };
+    TExpr { kind, ty, span }
 }
 
 // Puts a value into a variable of the function. The flag of one that is no parameter is set behind it.

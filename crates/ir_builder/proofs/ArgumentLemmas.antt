@@ -25,7 +25,6 @@ use Rattle.ir_frames.specs.Coming.{world, running, returning, Ends}
 use Rattle.ir_frames.specs.Matching.{HasKind, HaveKinds, HaveTypes, flag_of, flag_in, Matches, Departs, parameter_sorts, CallGives, CallRaises, CallsWork}
 use Rattle.ir_frames.specs.Settings.{rtype_of}
 use Rattle.ir_frames.proofs.HeldLemmas.{get_below}
-use Rattle.ir_expressions.specs.Compiled.{is_result}
 use Rattle.ir_statements.specs.Means.{means_suite}
 use Rattle.ir_builder.specs.Registers.{variable_registers, variables_of}
 use Rattle.ir_builder.specs.Bodies.{LeavesWith, BodyWorks, body_frame}
@@ -131,56 +130,32 @@ is_none : (t : Sort) → is_nothing t ≡ true → t ≡ sort.Nothing
 is_none sort.Nothing e = refl
 is_none _ e = absurd (cc)
 
-kind_of_i64 : (u : Sort) (v : Value) → rtype_of u ≡ rtype_of sort.I64 → HasKind u v → HasKind sort.I64 v
-kind_of_i64 sort.I64 v f k = k
-kind_of_i64 sort.Bool v f k = absurd (cc)
-kind_of_i64 sort.Nothing v f k = absurd (cc)
-kind_of_i64 _ v f k = absurd k
-
-kind_of_bool : (u : Sort) (v : Value) → rtype_of u ≡ rtype_of sort.Bool → HasKind u v → HasKind sort.Bool v
-kind_of_bool sort.Bool v f k = k
-kind_of_bool sort.I64 v f k = absurd (cc)
-kind_of_bool sort.Nothing v f k = absurd (cc)
-kind_of_bool _ v f k = absurd k
-
-kind_of_nothing : (u : Sort) (v : Value) → rtype_of u ≡ rtype_of sort.Nothing → HasKind u v → HasKind sort.Nothing v
-kind_of_nothing sort.Nothing v f k = k
-kind_of_nothing sort.I64 v f k = absurd (cc)
-kind_of_nothing sort.Bool v f k = absurd (cc)
-kind_of_nothing _ v f k = absurd k
-
-kind_of_result : (t u : Sort) (v : Value) → is_result t ≡ true → rtype_of u ≡ rtype_of t → HasKind u v → HasKind t v
-kind_of_result sort.I64 u v e f k = kind_of_i64 u v f k
-kind_of_result sort.Bool u v e f k = kind_of_bool u v f k
-kind_of_result sort.Nothing u v e f k = kind_of_nothing u v f k
-kind_of_result _ u v e f k = absurd (cc)
-
 -- the end of the code of a function that gives None, and of one that does not come there
 ending_kind : (t : Sort) (r : Outcome Flow) (s : State) → r ≡ Gives Goes s → (is_nothing t ≡ true) ⊎ Avoids is_end r → HasKind t NoneVal × (end_value (rtype_of t) ≡ NoneVal)
 ending_kind t r s is (inl e) = rw (is_none t e) (refl, refl)
 ending_kind t r s is (inr a) = let b : Avoids is_end (Gives Goes s) = subst (Avoids is_end) is a in absurd (let f : true ≡ false = b in cc)
 
-module _ (p : Program) (m : TypedModule) (f : TypedFunc) (fn : ℕ) (below : List Waiting) (s : State) (result : is_result f.ret ≡ true) where
+module _ (p : Program) (m : TypedModule) (f : TypedFunc) (fn : ℕ) (below : List Waiting) (s : State) where
   -- what a call does behind its body
-  pub answers : (c : Config) (t : ℕ) (r : Outcome Flow) → (is_nothing f.ret ≡ true) ⊎ Avoids is_end r → Ends p t c r (LeavesWith p m (Some (rtype_of f.ret)) (end_value (rtype_of f.ret)) below) (Departs m fn below) → Ends p t c (and_set (λ u. record u { locals = s.locals; handled = s.handled }) (on_to r (answer NoneVal))) (CallGives p m f below s) (CallRaises m fn below s)
+  pub answers : (c : Config) (t : ℕ) (r : Outcome Flow) → (is_nothing f.ret ≡ true) ⊎ Avoids is_end r → Ends p t c r (LeavesWith p m (Some f.ret) (end_value (rtype_of f.ret)) below) (Departs m fn below) → Ends p t c (and_set (λ u. record u { locals = s.locals; handled = s.handled }) (on_to r (answer NoneVal))) (CallGives p m f below s) (CallRaises m fn below s)
   answers c t (Gives Goes u) no_end h =
       let k = ending_kind f.ret (Gives Goes u) u refl no_end in
       (h.0, h.1, h.2, (k.0, refl, h.3.0, h.3.1 ∙ ap (λ v. returning p v below (world None u)) k.1))
   answers c t (Gives Breaks u) no_end h = absurd h.3
   answers c t (Gives Continues u) no_end h = absurd h.3
   answers c t (Gives (Returns v) u) no_end h =
-      let k = h.3.1 in (h.0, h.1, h.2, (kind_of_result f.ret k.0 v result k.1 k.2, refl, h.3.0, h.3.2))
+      (h.0, h.1, h.2, (h.3.1, refl, h.3.0, h.3.2))
   answers c t (Raises v u) no_end h = (h.0, h.1, h.2, (refl, h.3))
   answers c t (Stops w u) no_end h = h
 
 -- what a call of a function does once its turn is spent
-pub function_works : (p : Program) (m : TypedModule) (f : TypedFunc) (fn : ℕ) (h : Func) (vars : Vars) (more : Declared) → f.params ≤ length f.locals → is_result f.ret ≡ true → ((n : ℕ) (s : State) → (is_nothing f.ret ≡ true) ⊎ Avoids is_end (suite m.classes.classes (call_of m n) m.globals f.locals n f.body s)) → vars ≡ variables_of f.params (length f.locals) → h.regs ≡ variable_registers f.locals ++ more → HaveFlags vars (length f.locals) h.regs → BodyWorks p (record { source = m; variables = f.locals; frame = body_frame vars }) (Some (rtype_of f.ret)) (end_value (rtype_of f.ret)) (means_suite (record { source = m; variables = f.locals; frame = body_frame vars }) f.body) fn 0 1 → (n : ℕ) → CallsWork p m n → (args : List Value) (below : List Waiting) (s : State) → HaveKinds (parameter_sorts f) args → HaveTypes m.globals s.globals → s.turns ≤ n → Ends p s.turns (running fn 0 1 (first_regs h.regs (map Holds args)) below (world None s)) (enter m (call_of m n) n (Some f) args s) (CallGives p m f below s) (CallRaises m fn below s)
-function_works p m f fn h vars more few result no_end is regs flags body n calls args below s kinds types le =
+pub function_works : (p : Program) (m : TypedModule) (f : TypedFunc) (fn : ℕ) (h : Func) (vars : Vars) (more : Declared) → f.params ≤ length f.locals → ((n : ℕ) (s : State) → (is_nothing f.ret ≡ true) ⊎ Avoids is_end (suite m.classes.classes (call_of m n) m.globals f.locals n f.body s)) → vars ≡ variables_of f.params (length f.locals) → h.regs ≡ variable_registers f.locals ++ more → HaveFlags vars (length f.locals) h.regs → BodyWorks p (record { source = m; variables = f.locals; frame = body_frame vars }) (Some f.ret) (end_value (rtype_of f.ret)) (means_suite (record { source = m; variables = f.locals; frame = body_frame vars }) f.body) fn 0 1 → (n : ℕ) → CallsWork p m n → (args : List Value) (below : List Waiting) (s : State) → HaveKinds (parameter_sorts f) args → HaveTypes m.globals s.globals → s.turns ≤ n → Ends p s.turns (running fn 0 1 (first_regs h.regs (map Holds args)) below (world None s)) (enter m (call_of m n) n (Some f) args s) (CallGives p m f below s) (CallRaises m fn below s)
+function_works p m f fn h vars more few no_end is regs flags body n calls args below s kinds types le =
     let count : length args ≡ f.params = as_many (parameter_sorts f) args kinds ∙ sorts_size f few in
     let rest : List (Option Value) = replicate (length f.locals - length args) None in
     let first : State = record s { locals = map Some args ++ rest; handled = [] } in
     let match = entered m f.locals vars f.params h.regs more args s is few regs flags kinds count types in
     let run = body n calls (first_regs h.regs (map Holds args)) below first match le in
-    let done = answers p m f fn below s result _ s.turns (suite m.classes.classes (call_of m n) m.globals f.locals n f.body first) (no_end n first) run in
+    let done = answers p m f fn below s _ s.turns (suite m.classes.classes (call_of m n) m.globals f.locals n f.body first) (no_end n first) run in
     let fits : nat_eq (length args) f.params ≡ true = eq-eqb (length args) f.params count in
     rw fits done

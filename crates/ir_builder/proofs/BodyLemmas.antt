@@ -5,6 +5,7 @@ use Rattle.std.specs.Option.{option_map}
 use Rattle.value_core.specs.Value.{Value}
 use Rattle.py_typed.specs.State.{State}
 use Rattle.py_typed.specs.WaysOut.{Flow, Goes, Breaks, Continues, Returns}
+use Rattle.py_typed.specs.Sorts.{Sort}
 use Rattle.ir_core.specs.declared.code.Block.{Block}
 use Rattle.ir_core.specs.declared.code.Func.{Func}
 use Rattle.ir_core.specs.declared.code.Last.TheVariants.{Return as Leave}
@@ -22,13 +23,12 @@ use Rattle.ir_core.proofs.StepLemmas.{return_step}
 use Rattle.ir_frames.specs.Calling.{Adds, Closes}
 use Rattle.ir_frames.specs.Coming.{world, running, returning, Leads}
 use Rattle.ir_frames.specs.Computing.{Meaning}
-use Rattle.ir_frames.specs.Kinds.{Surrounding, LastKinds, HasKinds}
+use Rattle.ir_frames.specs.Kinds.{Surrounding, LastKinds}
 use Rattle.ir_frames.specs.Matching.{Departs}
 use Rattle.ir_frames.specs.Placing.{Has, Placed, or_other}
 use Rattle.ir_frames.specs.Settings.{Setting}
 use Rattle.ir_frames.proofs.ComingLemmas.{leads_refl, leads_step, leads_trans, ends_more}
 use Rattle.ir_frames.proofs.HeldLemmas.{extends_trans, has_less, type_has}
-use Rattle.ir_frames.proofs.KindLemmas.{new_not_text}
 use Rattle.ir_frames.proofs.StepLemmas.{literal_makes}
 use Rattle.ir_statements.specs.declared.ways.Exit.{Exit}
 use Rattle.ir_statements.specs.Runs.{JumpTo, OpenIn, Back, Flows, Emitted}
@@ -67,7 +67,7 @@ given p fn h b1 b2 b3 r t last end a c has there is now below s =
     let step = return_step Strict p (record { fn = fn; block = length b2.blocks; place = length b2.ops; regs = first.0 }) below (world None s) r h (Holds end) (close_at p fn b2 b3 _ (λ z. cc) c has) there held in
     leads_trans p _ _ _ first.1 (leads_step p _ _ step)
 
-module _ (x : Setting) (result : Option RType) (t : RType) (last : Literal) (m : Meaning Flow) (b0 b1 b2 b3 b4 : Building) (x0 xs : List Exit) (from end : ℕ) (r : Reg) (bare : x.frame.ret ≡ None) (q : Emitted x result false m b0 b1 x0 xs) (a : Adds b1 b2 r.0 t (Lit r last)) (c : Closes b2 b3 (Leave r)) (is_from : from ≡ length b0.blocks) (is_end : end ≡ length b2.blocks) (f : Filled b3 b4 from end end) where
+module _ (x : Setting) (result : Option Sort) (t : RType) (last : Literal) (m : Meaning Flow) (b0 b1 b2 b3 b4 : Building) (x0 xs : List Exit) (from end : ℕ) (r : Reg) (bare : x.frame.ret ≡ None) (q : Emitted x result false m b0 b1 x0 xs) (a : Adds b1 b2 r.0 t (Lit r last)) (c : Closes b2 b3 (Leave r)) (is_from : from ≡ length b0.blocks) (is_end : end ≡ length b2.blocks) (f : Filled b3 b4 from end end) where
   x13 : Extends b1 b3
   x13 = extends_trans b1 b2 b3 a.extends c.extends
 
@@ -102,6 +102,6 @@ module _ (x : Setting) (result : Option RType) (t : RType) (last : Literal) (m :
             ends_more p s.turns _ (m n s) _ (LeavesWith p x.source result value below) _ (Departs x.source fn below) (λ g u d z. flow_out p fn h value has3 there is regs below g u d z) (λ v u d z. z) run;
       }
 
--- the register that is given is one that may be
-pub given_kinds : (g : Surrounding) (b1 b2 : Building) (r : Reg) (t : RType) (last : Literal) → Adds b1 b2 r.0 t (Lit r last) → g.ret ≡ t → HasKinds g b1 → LastKinds g b2.regs (Leave r)
-given_kinds g b1 b2 r t last a is h = (a.type ∙ ap Some (sym is), new_not_text g b1 r.0 h a.made)
+-- the register that is given has the type of the result
+pub given_kinds : (g : Surrounding) (b1 b2 : Building) (r : Reg) (t : RType) (last : Literal) → Adds b1 b2 r.0 t (Lit r last) → g.ret ≡ t → LastKinds g b2.regs (Leave r)
+given_kinds g b1 b2 r t last a is = a.type ∙ ap Some (sym is)

@@ -11,7 +11,6 @@ use Rattle.py_typed.specs.State.{State, Outcome, Gives, Raises, Stops, Does, Cal
 use Rattle.py_typed.specs.WaysOut.{Flow, Goes, Breaks, Continues, Returns, flow_on, after_body, loop}
 use Rattle.py_typed.specs.Narrowing.{breaks, breaks_in, breaks_suite, breaks_arms, is_true_literal, closes, closes_in, is_closed, closed_arms}
 use Rattle.py_typed.specs.StatementMeaning.{value_of, bind, update, changed, value_or, test_of, statement, act, suite, first_arm}
-use Rattle.ir_core.specs.declared.code.RType.{RType}
 use Rattle.ir_bodies.specs.Suiting.{StatementSuits, ActSuits, SuiteSuits, ArmsSuit}
 
 -- ---- ways to end that do not come
@@ -118,7 +117,7 @@ row_closed next h Breaks t = refl
 row_closed next h Continues t = refl
 row_closed next h (Returns v) t = refl
 
-module _ (classes : List ClassEntry) (call : Calls) (globals locals : List Variable) (n : ℕ) (m : TypedModule) (vs : List Variable) (gives : Option RType) where
+module _ (classes : List ClassEntry) (call : Calls) (globals locals : List Variable) (n : ℕ) (m : TypedModule) (vs : List Variable) (gives : Option Sort) where
   mutual
     stmt_unbroken : (looping : Bool) (a : TypedStmt) → StatementSuits m vs gives looping a → breaks a ≡ false → (s : State) → Avoids is_break (statement classes call globals locals n a s)
     stmt_unbroken looping (on_line a line) suits e s = act_unbroken looping a suits e s

@@ -6,8 +6,6 @@ use Rattle.std.specs.Option.{option_map}
 use Rattle.value_core.specs.Value.{BoolVal}
 use Rattle.value_core.specs.Ending.{Done}
 use Rattle.c_core.specs.WellFormed.{is_identifier, names_differ}
-use Rattle.py_typed.specs.Sorts as sort
-use Rattle.py_typed.specs.Sorts.{Sort}
 use Rattle.py_typed.specs.Fits.{is_nothing}
 use Rattle.py_typed.specs.State.{State}
 use Rattle.py_typed.specs.SourceRun.{call_of, top_of}
@@ -15,6 +13,7 @@ use Rattle.py_typed.specs.declared.checked.TFunc.{TFunc}
 use Rattle.py_typed.specs.Statements.{Variable, variable, TypedFunc, typed_func, TypedModule}
 use Rattle.py_typed.specs.StatementMeaning.{suite}
 use Rattle.py_typed.specs.WaysOut.{Flow, Goes, Breaks, Continues, Returns}
+use Rattle.py_typed.specs.Sorts.{Sort}
 use Rattle.ir_core.specs.declared.code.Func.{Func}
 use Rattle.ir_core.specs.declared.code.Lit.{Lit as Literal}
 use Rattle.ir_core.specs.declared.code.Lit.TheVariants.{Number}
@@ -32,7 +31,7 @@ use Rattle.ir_frames.specs.declared.frame.Vars.{Vars}
 use Rattle.ir_frames.specs.Calling.{Pushes}
 use Rattle.ir_frames.specs.Coming.{world, Escapes}
 use Rattle.ir_frames.specs.Computing.{Meaning}
-use Rattle.ir_frames.specs.Kinds.{Head, head_of, Surrounding, is_plain, ArePlain, LiteralFits, OpKinds, OpsKinds, no_more, BlocksKinds, HasKinds, KeepsKinds, KeepsKindsIf, IsAmong}
+use Rattle.ir_frames.specs.Kinds.{Head, head_of, Surrounding, LiteralFits, OpKinds, OpsKinds, BlocksKinds, HasKinds, KeepsKinds, KeepsKindsIf, IsAmong}
 use Rattle.ir_frames.specs.Matching.{flag_of, HasRoom, Matches, Departs, BeginWith}
 use Rattle.ir_frames.specs.Naming.{names_of}
 use Rattle.ir_frames.specs.Placing.{HasType, NoEdges, Has}
@@ -41,8 +40,7 @@ use Rattle.ir_frames.specs.Shaped.{OpFits, OpsFit, AllFit, Shaped, KeepsIf, Keep
 use Rattle.ir_frames.proofs.ComingLemmas.{ends_map}
 use Rattle.ir_frames.proofs.HeldLemmas.{extends_refl, extends_trans, get_below, type_kept}
 use Rattle.ir_frames.proofs.KindLemmas.{get_behind}
-use Rattle.ir_expressions.specs.Compiled.{is_scalar}
-use Rattle.ir_bodies.specs.Modules.{variable_names, FunctionSuits, ModuleSuits}
+use Rattle.ir_bodies.specs.Modules.{variable_names, FunctionSuits}
 use Rattle.ir_bodies.specs.Kinds.{GivesResult, IsAround}
 use Rattle.ir_statements.specs.Means.{means_suite}
 use Rattle.ir_shapes.specs.Built.{building_of, IsBuilt}
@@ -68,11 +66,6 @@ pub get_map : {A B : Type 0} (f : A → B) (xs : List A) (j : ℕ) (x : A) → s
 get_map f [] j x e = let g : None ≡ Some x = e in absurd (cc)
 get_map f (y ∷ xs) zero x e = let g : Some y ≡ Some x = e in let same : y ≡ x = cc in ap (λ z. Some (f z)) same
 get_map f (y ∷ xs) (suc j) x e = get_map f xs j x e
-
-map_get : {A B : Type 0} (f : A → B) (xs : List A) (j : ℕ) (y : B) → slice_get (map f xs) j ≡ Some y → (x : A) × (slice_get xs j ≡ Some x) × (f x ≡ y)
-map_get f [] j y e = let g : None ≡ Some y = e in absurd (cc)
-map_get f (x ∷ xs) zero y e = (x, refl, let g : Some (f x) ≡ Some y = e in cc)
-map_get f (x ∷ xs) (suc j) y e = map_get f xs j y e
 
 map_map : {A B C : Type 0} (g : B → C) (f : A → B) (xs : List A) → map g (map f xs) ≡ map (λ x. g (f x)) xs
 map_map g f [] = refl
@@ -140,11 +133,10 @@ module _ (vs : List Variable) (b : Building) (variables : Declared) (is : variab
         back = tt;
       }
 
-  pub begin_kinds : (heads : List Head) (globals : Declared) (ret : RType) → HasKinds (record { heads = heads; globals = globals; variables = n; text = n; ret = ret }) b
+  pub begin_kinds : (heads : List Head) (globals : Declared) (ret : RType) → HasKinds (record { heads = heads; globals = globals; variables = n; ret = ret }) b
   begin_kinds heads globals ret =
-      let g : Surrounding = record { heads = heads; globals = globals; variables = n; text = n; ret = ret } in
+      let g : Surrounding = record { heads = heads; globals = globals; variables = n; ret = ret } in
       record {
-        text = begin_text;
         variables = omega (arith, begin_size);
         named = λ i d le e.
             let at : slice_get (variable_registers vs ++ (first.regs.name, rtype.Ref) ∷ []) i ≡ Some d = ap (λ ds. slice_get ds i) (sym begin_regs) ∙ e in
@@ -153,7 +145,7 @@ module _ (vs : List Variable) (b : Building) (variables : Declared) (is : variab
             (λ new. (first.regs.number, ap (λ (x : List ℕ × RType). x.0) new ∙ first.regs.temporary))
             (get_behind (variable_registers vs) (first.regs.name, rtype.Ref) d i at);
         blocks = subst (λ bs. BlocksKinds g b.regs bs) (sym first.blocks) tt;
-        ops = subst (λ os. OpsKinds g b.regs os) (sym first.ops) no_more;
+        ops = subst (λ os. OpsKinds g b.regs os) (sym first.ops) tt;
       }
 
   pub begin_shaped : (low high : ℕ) → Shaped low high b
@@ -165,26 +157,10 @@ few_params f count is suits = let few = suits.parameters in omega (arith, is, fe
 
 -- ---- what a function is built among
 
-plain_sort : (t : Sort) → is_scalar t ≡ true → is_plain (rtype_of t) ≡ true
-plain_sort sort.I64 e = refl
-plain_sort sort.Bool e = refl
-plain_sort _ e = absurd (cc)
-
-all_plain : (vs : List Variable) (n : ℕ) → ((i : ℕ) (v : Variable) → slice_get vs i ≡ Some v → is_scalar v.1 ≡ true) → ArePlain (map rtype_of (map sort_of (take n vs)))
-all_plain [] zero h = tt
-all_plain [] (suc n) h = tt
-all_plain (v ∷ vs) zero h = tt
-all_plain (v ∷ vs) (suc n) h = (plain_sort v.1 (h 0 v refl), all_plain vs n (λ i u e. h (suc i) u e))
-
-pub among : (m : TypedModule) → ModuleSuits m → (g : Surrounding) → g.heads ≡ heads_of m → g.globals ≡ variable_registers m.globals → IsAmong m g
-among m suits g is globals = record {
+pub among : (m : TypedModule) (g : Surrounding) → g.heads ≡ heads_of m → g.globals ≡ variable_registers m.globals → IsAmong m g
+among m g is globals = record {
   globals = globals;
   heads = λ n f e. ap (λ hs. slice_get hs n) is ∙ get_map head_of m.funcs n f e;
-  plain = λ n h e.
-      let k = map_get head_of m.funcs n h (ap (λ hs. slice_get hs n) (sym is) ∙ e) in
-      let f = suits.functions n k.0 k.1 in
-      let P : Head → Type 0 = λ z. ArePlain z.params in
-      subst P k.2 (all_plain k.0.locals k.0.params f.scalars);
 }
 
 -- ---- the code of a function
@@ -202,11 +178,10 @@ is_built vs rest g b h low high size names regs kinds none highest shaped writte
     let front : take g.variables h.regs ≡ variable_registers vs = ap (λ n. take n h.regs) (size ∙ sym (map_length register_of vs)) ∙ ap (take (length (variable_registers vs))) (same_regs ∙ regs) ∙ take_front (variable_registers vs) rest in
     let P : Building → Type 0 = λ z. HasKinds g z in
     let whole : HasKinds g (building_of h) = record {
-      text = ap (λ ds. type_of_reg ds (record { 0 = g.text })) same_regs ∙ kinds.text;
       variables = omega (arith, ap length same_regs, kinds.variables);
       named = λ i d le e. kinds.named i d le (ap (λ ds. slice_get ds i) (sym same_regs) ∙ e);
       blocks = subst (λ ds. BlocksKinds g ds h.blocks) (sym same_regs) (subst (λ bs. BlocksKinds g b.regs bs) (sym same_blocks) kinds.blocks);
-      ops = no_more;
+      ops = tt;
     } in
     record {
       among = g;
@@ -249,13 +224,13 @@ pub record IsMade (m : TypedModule) (vs : List Variable) (b : Building) (h : Fun
   pub built : IsBuilt (heads_of m) (variable_registers m.globals) h
   pub has : (p : Program) (fn : ℕ) → slice_get p.funcs fn ≡ Some h → Has p fn b
 
-pub is_made : (m : TypedModule) (vs : List Variable) (variables : Declared) (count : ℕ) (vars : Vars) (gives : Option RType) (t : RType) (last : Literal) (M : Meaning Flow) (b0 b1 b2 : Building) (h : Func) → ModuleSuits m → list_all is_identifier (variable_names vs) ≡ true → variables ≡ variable_registers vs → count ≡ length vs → vars.text ≡ count → ((g : Surrounding) → g.ret ≡ t → GivesResult gives g) → LiteralFits t last → Begins variables b0 → Extends b0 b1 → length b1.blocks ≡ 0 → ((high : ℕ) → Shaped 0 high b0 → Shaped 0 high b1) → KeepsKinds b0 b1 → Bodied (body_setting m vs vars) gives t last M b1 b2 → CompletesShape b1 b2 → KeepsKindsIf (BodyAround m vars gives t last) b1 b2 → length b2.blocks < 2 ^ 64 → names_differ (names_of b2.regs) ≡ true → h.regs ≡ b2.regs → h.blocks ≡ b2.blocks → h.ret ≡ t → h.params ≤ count → IsMade m vs b2 h
-is_made m vs variables count vars gives t last M b0 b1 b2 h suits names are size vars_are gives_it fits first x01 start shaped01 kinds01 bodied shape kinds12 few differ regs blocks ret params =
+pub is_made : (m : TypedModule) (vs : List Variable) (variables : Declared) (count : ℕ) (vars : Vars) (gives : Option Sort) (t : RType) (last : Literal) (M : Meaning Flow) (b0 b1 b2 : Building) (h : Func) → list_all is_identifier (variable_names vs) ≡ true → variables ≡ variable_registers vs → count ≡ length vs → ((g : Surrounding) → g.ret ≡ t → GivesResult gives g) → LiteralFits t last → Begins variables b0 → Extends b0 b1 → length b1.blocks ≡ 0 → ((high : ℕ) → Shaped 0 high b0 → Shaped 0 high b1) → KeepsKinds b0 b1 → Bodied (body_setting m vs vars) gives t last M b1 b2 → CompletesShape b1 b2 → KeepsKindsIf (BodyAround m gives t last) b1 b2 → length b2.blocks < 2 ^ 64 → names_differ (names_of b2.regs) ≡ true → h.regs ≡ b2.regs → h.blocks ≡ b2.blocks → h.ret ≡ t → h.params ≤ count → IsMade m vs b2 h
+is_made m vs variables count vars gives t last M b0 b1 b2 h names are size gives_it fits first x01 start shaped01 kinds01 bodied shape kinds12 few differ regs blocks ret params =
     let text : List ℕ × RType = (first.regs.name, rtype.Ref) in
     let more = starts_with b0.regs b2.regs (extends_trans b0 b1 b2 x01 bodied.extends).regs in
     let behind : b2.regs ≡ variable_registers vs ++ (text ∷ more.0) = more.1 ∙ ap (λ ds. ds ++ more.0) (begin_regs vs b0 variables are first count size) ∙ append_assoc (variable_registers vs) (text ∷ []) more.0 in
-    let g : Surrounding = record { heads = heads_of m; globals = variable_registers m.globals; variables = count; text = count; ret = t } in
-    let around : IsAround m (body_frame vars) gives g = record { among = among m suits g refl refl; text = sym vars_are; ret = gives_it g refl } in
+    let g : Surrounding = record { heads = heads_of m; globals = variable_registers m.globals; variables = count; ret = t } in
+    let around : IsAround m gives g = record { among = among m g refl refl; ret = gives_it g refl } in
     let kinds : HasKinds g b2 = kinds12 g record { around = around; ret = refl; fits = fits } (kinds01 g (begin_kinds vs b0 variables are first count size (heads_of m) (variable_registers m.globals) t)) in
     let high : ℕ = length b2.blocks - 1 in
     let grown = bodied.more in
@@ -269,8 +244,8 @@ is_made m vs variables count vars gives t last M b0 b1 b2 h suits names are size
     }
 
 -- a function of the module
-pub function_is : (m : TypedModule) (suits : ModuleSuits m) (f : TypedFunc) (fits : FunctionSuits m f) (variables : Declared) (count params : ℕ) (vars : Vars) (ret : RType) (last : Literal) (b0 bf b1 b2 : Building) (name : List ℕ) (h0 h : Func) → variables ≡ variable_registers f.locals → count ≡ length f.locals → vars ≡ variables_of params count → ret ≡ rtype_of f.ret → last ≡ end_literal ret → Begins variables b0 → AddsFlags (count - params) b0 bf → Keeps b0 bf → KeepsKinds b0 bf → Pushes bf b1 Turn → KeepsIf (λ low high. OpFits low Turn) bf b1 → KeepsKindsIf (λ g. OpKinds g bf.regs Turn) bf b1 → Bodied (body_setting m f.locals vars) (Some ret) ret last (means_suite (body_setting m f.locals vars) f.body) b1 b2 → CompletesShape b1 b2 → KeepsKindsIf (BodyAround m vars (Some ret) ret last) b1 b2 → length b2.blocks < 2 ^ 64 → names_differ (names_of b2.regs) ≡ true → params ≡ f.params → h0 ≡ record { name = b2.name; params = params; regs = b2.regs; ret = ret; blocks = b2.blocks } → name ≡ f.name → h ≡ record h0 { name = name } → IsFunctionOf m f h
-function_is m suits f fits variables count params vars ret last b0 bf b1 b2 name h0 h are size vars_are ret_is last_is first flags flags_shaped flags_kinds turn shaped01 kinds01 bodied shape kinds12 few differ params_are is0 name_is is =
+pub function_is : (m : TypedModule) (f : TypedFunc) (fits : FunctionSuits m f) (variables : Declared) (count params : ℕ) (vars : Vars) (ret : RType) (last : Literal) (b0 bf b1 b2 : Building) (name : List ℕ) (h0 h : Func) → variables ≡ variable_registers f.locals → count ≡ length f.locals → vars ≡ variables_of params count → ret ≡ rtype_of f.ret → last ≡ end_literal ret → Begins variables b0 → AddsFlags (count - params) b0 bf → Keeps b0 bf → KeepsKinds b0 bf → Pushes bf b1 Turn → KeepsIf (λ low high. OpFits low Turn) bf b1 → KeepsKindsIf (λ g. OpKinds g bf.regs Turn) bf b1 → Bodied (body_setting m f.locals vars) (Some f.ret) ret last (means_suite (body_setting m f.locals vars) f.body) b1 b2 → CompletesShape b1 b2 → KeepsKindsIf (BodyAround m (Some f.ret) ret last) b1 b2 → length b2.blocks < 2 ^ 64 → names_differ (names_of b2.regs) ≡ true → params ≡ f.params → h0 ≡ record { name = b2.name; params = params; regs = b2.regs; ret = ret; blocks = b2.blocks } → name ≡ f.name → h ≡ record h0 { name = name } → IsFunctionOf m f h
+function_is m f fits variables count params vars ret last b0 bf b1 b2 name h0 h are size vars_are ret_is last_is first flags flags_shaped flags_kinds turn shaped01 kinds01 bodied shape kinds12 few differ params_are is0 name_is is =
     let none : length b1.blocks ≡ 0 = turn.blocks ∙ flags.blocks ∙ ap length first.blocks in
     let one : length b1.ops ≡ 1 = turn.ops ∙ ap (λ k. k + 1) flags.ops ∙ ap (λ os. length os + 1) first.ops in
     let h_regs : h.regs ≡ b2.regs = ap (λ (z : Func). z.regs) is ∙ ap (λ (z : Func). z.regs) is0 in
@@ -280,7 +255,7 @@ function_is m suits f fits variables count params vars ret last b0 bf b1 b2 name
     let h_name : h.name ≡ f.name = ap (λ (z : Func). z.name) is ∙ name_is in
     let literal : LiteralFits ret last = subst (LiteralFits ret) (sym last_is) (literal_fits ret) in
     let few_params : h.params ≤ count = omega (arith, h_params, size, fits.parameters) in
-    let made = is_made m f.locals variables count vars (Some ret) ret last (means_suite (body_setting m f.locals vars) f.body) b0 b1 b2 h suits fits.identifiers are size (ap (λ (z : Vars). z.text) vars_are) (λ g e. e) literal first (extends_trans b0 bf b1 flags.extends turn.extends) none (λ high s. shaped01 0 high (tt, refl) (flags_shaped 0 high (omega arith) (omega (arith, flags.blocks, ap length first.blocks)) s)) (λ g k. kinds01 g tt (flags_kinds g k)) bodied shape kinds12 few differ h_regs h_blocks h_ret few_params in
+    let made = is_made m f.locals variables count vars (Some f.ret) ret last (means_suite (body_setting m f.locals vars) f.body) b0 b1 b2 h fits.identifiers are size (λ g e. e ∙ ret_is) literal first (extends_trans b0 bf b1 flags.extends turn.extends) none (λ high s. shaped01 0 high (tt, refl) (flags_shaped 0 high (omega arith) (omega (arith, flags.blocks, ap length first.blocks)) s)) (λ g k. kinds01 g tt (flags_kinds g k)) bodied shape kinds12 few differ h_regs h_blocks h_ret few_params in
     let item : held b2 0 0 ≡ Some (Do Turn) =
     ap (λ k. held b2 k 0) (sym (flags.blocks ∙ ap length first.blocks)) ∙ ap (λ i. held b2 (length bf.blocks) i) (sym (flags.ops ∙ ap length first.ops)) ∙ bodied.extends.items (length bf.blocks) (length bf.ops) (Do Turn) turn.at in
     let room = begin_room f.locals b0 variables are first count size m vars params bf vars_are flags in
@@ -301,10 +276,10 @@ function_is m suits f fits variables count params vars ret last b0 bf b1 b2 name
           let has = made.has p fn there in
           let value : literal_of ret last ≡ Some (Holds (end_value ret)) = ap (literal_of ret) last_is ∙ literal_value ret in
           let body = bodied.works p fn h (end_value ret) has there value in
-          let B : RType → ℕ → ℕ → Type 0 = λ r k i. BodyWorks p (body_setting m f.locals vars) (Some r) (end_value r) (means_suite (body_setting m f.locals vars) f.body) fn k i in
+          let B : RType → ℕ → ℕ → Type 0 = λ r k i. BodyWorks p (body_setting m f.locals vars) (Some f.ret) (end_value r) (means_suite (body_setting m f.locals vars) f.body) fn k i in
           let placed : B (rtype_of f.ret) 0 1 = subst (λ r. B r 0 1) ret_is (subst (λ i. B ret 0 i) one (subst (λ k. B ret k (length b1.ops)) none body)) in
-          let no_end : (n : ℕ) (s : State) → (is_nothing f.ret ≡ true) ⊎ Avoids is_end (suite m.classes.classes (call_of m n) m.globals f.locals n f.body s) = λ n s. ⊎_elim (λ e. inl e) (λ closed. inr (suite_closed m.classes.classes (call_of m n) m.globals f.locals n m f.locals (Some (rtype_of f.ret)) false f.body fits.body closed s)) fits.ends in
-          function_works p m f fn h vars made.rest fits.parameters fits.result no_end (vars_are ∙ ap (λ z. variables_of z count) params_are ∙ ap (variables_of f.params) size) made.regs have placed;
+          let no_end : (n : ℕ) (s : State) → (is_nothing f.ret ≡ true) ⊎ Avoids is_end (suite m.classes.classes (call_of m n) m.globals f.locals n f.body s) = λ n s. ⊎_elim (λ e. inl e) (λ closed. inr (suite_closed m.classes.classes (call_of m n) m.globals f.locals n m f.locals (Some f.ret) false f.body fits.body closed s)) fits.ends in
+          function_works p m f fn h vars made.rest fits.parameters no_end (vars_are ∙ ap (λ z. variables_of z count) params_are ∙ ap (variables_of f.params) size) made.regs have placed;
     }
 
 -- ---- the module's own statements
@@ -315,8 +290,8 @@ own_flow p m Breaks s d h = absurd h
 own_flow p m Continues s d h = absurd h
 own_flow p m (Returns v) s d h = absurd h.1
 
-pub own_is : (m : TypedModule) (suits : ModuleSuits m) (variables : Declared) (count params : ℕ) (vars : Vars) (b0 b2 : Building) (h : Func) → variables ≡ [] → count ≡ 0 → vars ≡ variables_of 0 count → Begins variables b0 → Bodied (body_setting m [] vars) None rtype.Bool (Number (pos 1)) (means_suite (body_setting m [] vars) m.top) b0 b2 → CompletesShape b0 b2 → KeepsKindsIf (BodyAround m vars None rtype.Bool (Number (pos 1))) b0 b2 → length b2.blocks < 2 ^ 64 → names_differ (names_of b2.regs) ≡ true → params ≡ 0 → h ≡ record { name = b2.name; params = params; regs = b2.regs; ret = rtype.Bool; blocks = b2.blocks } → IsOwnOf m h
-own_is m suits variables count params vars b0 b2 h are size vars_are first bodied shape kinds12 few differ params_are is =
+pub own_is : (m : TypedModule) (variables : Declared) (count params : ℕ) (vars : Vars) (b0 b2 : Building) (h : Func) → variables ≡ [] → count ≡ 0 → vars ≡ variables_of 0 count → Begins variables b0 → Bodied (body_setting m [] vars) None rtype.Bool (Number (pos 1)) (means_suite (body_setting m [] vars) m.top) b0 b2 → CompletesShape b0 b2 → KeepsKindsIf (BodyAround m None rtype.Bool (Number (pos 1))) b0 b2 → length b2.blocks < 2 ^ 64 → names_differ (names_of b2.regs) ≡ true → params ≡ 0 → h ≡ record { name = b2.name; params = params; regs = b2.regs; ret = rtype.Bool; blocks = b2.blocks } → IsOwnOf m h
+own_is m variables count params vars b0 b2 h are size vars_are first bodied shape kinds12 few differ params_are is =
     let none : length b0.blocks ≡ 0 = ap length first.blocks in
     let start : length b0.ops ≡ 0 = ap length first.ops in
     let h_regs : h.regs ≡ b2.regs = ap (λ (z : Func). z.regs) is in
@@ -324,7 +299,7 @@ own_is m suits variables count params vars b0 b2 h are size vars_are first bodie
     let h_ret : h.ret ≡ rtype.Bool = ap (λ (z : Func). z.ret) is in
     let h_params : h.params ≡ 0 = ap (λ (z : Func). z.params) is ∙ params_are in
     let few_params : h.params ≤ count = omega (arith, h_params) in
-    let made = is_made m [] variables count vars None rtype.Bool (Number (pos 1)) (means_suite (body_setting m [] vars) m.top) b0 b0 b2 h suits refl are size (ap (λ (z : Vars). z.text) vars_are) (λ g e. tt) (refl, refl) first (extends_refl b0) none (λ high s. s) (λ g k. k) bodied shape kinds12 few differ h_regs h_blocks h_ret few_params in
+    let made = is_made m [] variables count vars None rtype.Bool (Number (pos 1)) (means_suite (body_setting m [] vars) m.top) b0 b0 b2 h refl are size (λ g e. tt) (refl, refl) first (extends_refl b0) none (λ high s. s) (λ g k. k) bodied shape kinds12 few differ h_regs h_blocks h_ret few_params in
     record {
       built = record {
         built = made.built;

@@ -4,6 +4,7 @@ use Rattle.value_core.specs.Value.{Value}
 use Rattle.py_typed.specs.State.{State}
 use Rattle.py_typed.specs.Statements.{TypedModule}
 use Rattle.py_typed.specs.WaysOut.{Flow, Goes, Returns}
+use Rattle.py_typed.specs.Sorts.{Sort}
 use Rattle.ir_core.specs.declared.code.Func.{Func}
 use Rattle.ir_core.specs.declared.code.Last.TheVariants.{Goto, Unreachable}
 use Rattle.ir_core.specs.declared.code.Lit.{Lit}
@@ -45,19 +46,19 @@ abbrev pub body_frame : Vars → Frame
 body_frame vars = record { locals = vars; ret = None }
 
 -- how statements leave their function: at their end with a value, or by a return
-abbrev pub LeavesWith : Program → TypedModule → Option RType → Value → List Waiting → Flow → State → Config → Type 0
+abbrev pub LeavesWith : Program → TypedModule → Option Sort → Value → List Waiting → Flow → State → Config → Type 0
 LeavesWith p m result end below Goes s d = HaveTypes m.globals s.globals × (d ≡ returning p end below (world None s))
 LeavesWith p m result end below (Returns v) s d =
     HaveTypes m.globals s.globals × HasResult result v × (d ≡ returning p v below (world None s))
 LeavesWith p m result end below f s d = ⊥
 
 -- from a place on the code does what statements mean, and leaves the function
-abbrev pub BodyWorks : Program → Setting → Option RType → Value → Meaning Flow → ℕ → ℕ → ℕ → Type 0
+abbrev pub BodyWorks : Program → Setting → Option Sort → Value → Meaning Flow → ℕ → ℕ → ℕ → Type 0
 BodyWorks p x result end m fn k i =
     (n : ℕ) → CallsWork p x.source n → (regs : Regs) (below : List Waiting) (s : State) → Matches x regs s → s.turns ≤ n → Ends p s.turns (running fn k i regs below (world None s)) (m n s) (LeavesWith p x.source result end below) (Departs x.source fn below)
 
 -- the code from the first builder's place on is that of a body, and no block is left to be filled. At its end it gives a literal
-pub record Bodied (x : Setting) (result : Option RType) (t : RType) (last : Lit) (m : Meaning Flow) (old new : Building) : Type 0 where
+pub record Bodied (x : Setting) (result : Option Sort) (t : RType) (last : Lit) (m : Meaning Flow) (old new : Building) : Type 0 where
   pub extends : Extends old new
   pub ops : new.ops ≡ []
   pub more : length old.blocks < length new.blocks
@@ -69,7 +70,7 @@ abbrev pub CompletesShape : Building → Building → Type 0
 CompletesShape b c = (n m : ℕ) → n ≤ length b.regs → length c.blocks ≡ suc m → Shaped n m b → Shaped n m c
 
 -- what a body is built among that gives a literal of this type at its end
-pub record BodyAround (m : TypedModule) (vars : Vars) (gives : Option RType) (t : RType) (last : Lit) (g : Surrounding) : Type 0 where
-  pub around : IsAround m (body_frame vars) gives g
+pub record BodyAround (m : TypedModule) (gives : Option Sort) (t : RType) (last : Lit) (g : Surrounding) : Type 0 where
+  pub around : IsAround m gives g
   pub ret : g.ret ≡ t
   pub fits : LiteralFits t last

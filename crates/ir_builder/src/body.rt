@@ -1,5 +1,7 @@
 //! The code of a function's body.
 ghost use Rattle.std.specs.Prelude.{◌≡◌, ◌≤◌, ◌<◌, ◌^◌, map, length, OnOk, false};
+ghost use Rattle.std.specs.Option.{option_map, option_copied};
+ghost use Rattle.py_typed.specs.Sorts.{sort};
 ghost use Rattle.py_typed.specs.Statements.{typed_module, typed_suite, variable};
 ghost use Rattle.ir_frames.specs.Settings.{setting};
 ghost use Rattle.ir_frames.specs.Matching.{HasRoom};
@@ -12,7 +14,7 @@ ghost use Rattle.ir_builder.specs.Bodies.{Filled, Bodied, BodyAround, CompletesS
 use ir_bodies::emit_block;
 use ir_core::{Last, Lit, RType};
 use ir_frames::{Emitter, Frame, Vars};
-use py_typed::{Checked, TStmt, Var};
+use py_typed::{Checked, TStmt, Ty, Var};
 use std::alloc::Global;
 use value_core::Memory;
 
@@ -26,16 +28,16 @@ pub fn emit_body(
     checked: &Checked,
     locals: &[Var],
     vars: Vars,
-    gives: Option<RType>,
+    gives: Option<&Ty>,
     t: RType,
     last: Lit,
     body: &[TStmt],
 ) -> Result<(), Memory>
-    requires suits { SuiteSuits (typed_module checked.now) (map variable locals.now) gives false (typed_suite body.now) }
+    requires suits { SuiteSuits (typed_module checked.now) (map variable locals.now) (option_map sort (option_copied gives)) false (typed_suite body.now) }
     requires room { HasRoom (setting checked.now locals.now (body_frame vars)) b.old }
-    ensures bodied { OnOk result (Bodied (setting checked.now locals.now (body_frame vars)) gives t last (means_suite (setting checked.now locals.now (body_frame vars)) (typed_suite body.now)) b.old b.new) }
+    ensures bodied { OnOk result (Bodied (setting checked.now locals.now (body_frame vars)) (option_map sort (option_copied gives.entry)) t last (means_suite (setting checked.now locals.now (body_frame vars)) (typed_suite body.now)) b.old b.new) }
     ensures shaped { OnOk result (CompletesShape b.old b.new) }
-    ensures kinds { OnOk result (KeepsKindsIf (BodyAround (typed_module checked.now) vars gives t last) b.old b.new) }
+    ensures kinds { OnOk result (KeepsKindsIf (BodyAround (typed_module checked.now) (option_map sort (option_copied gives.entry)) t last) b.old b.new) }
     ensures few { OnOk result (length b.new.blocks < 2 ^ 64) }
 {
     let start = b.here();

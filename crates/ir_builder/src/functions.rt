@@ -35,7 +35,7 @@ pub fn build_function(alloc: Global, checked: &Checked, f: &TFunc) -> Result<Fun
         checked,
         f.locals.as_slice(),
         vars,
-        Some(ret),
+        Some(&f.ret),
         ret,
         end_of(ret),
         f.body.as_slice(),

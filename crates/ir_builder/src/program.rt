@@ -4,7 +4,6 @@ ghost use Rattle.py_typed.specs.Statements.{typed_module};
 ghost use Rattle.ir_core.specs.Runs.{Calm};
 ghost use Rattle.ir_core.specs.Shape.{Shape};
 ghost use Rattle.ir_frames.specs.Placing.{NoEdges};
-ghost use Rattle.ir_lowering.specs.PrintsOrFails.{PrintsOrFails};
 ghost use Rattle.ir_bodies.specs.Modules.{ModuleSuits};
 ghost use Rattle.ir_builder.specs.Functions.{AllBuilt, IsBuiltOf};
 ghost use Rattle.ir_builder.specs.Meaning.{DoesAsModule, globals_of};
@@ -23,7 +22,6 @@ pub fn build(alloc: Global, checked: &Checked) -> Result<Program, Memory>
     ensures means { IfOk result (DoesAsModule (typed_module checked.now)) }
     ensures calm { IfOk result Calm }
     ensures shape { IfOk result Shape }
-    ensures prints { IfOk result PrintsOrFails }
     ensures edges { IfOk result (λ p. (fn : ℕ) → NoEdges p fn) }
     ensures globals { IfOk result (λ p. p.globals ≡ globals_of (typed_module checked.now)) }
 {

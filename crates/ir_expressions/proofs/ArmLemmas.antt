@@ -1,5 +1,6 @@
 -- What is asked of an expression is asked of its parts, and what its parts promise it promises.
 use Rattle.std.proofs.Common.{◌≡◌, sym, ◌∙◌, ap, subst, ℕ, Bool, List, map}
+use Rattle.std.specs.Prelude.{ℤ}
 use Rattle.std.specs.declared.boxed.Box.{Box}
 use Rattle.std.specs.declared.alloc.Global.{Global}
 use Rattle.py_syntax.specs.declared.expression.BinOp.{BinOp}
@@ -10,10 +11,10 @@ use Rattle.py_typed.specs.Sorts.{Sort, sort as sort_of}
 use Rattle.py_typed.specs.Expressions as tree
 use Rattle.py_typed.specs.Expressions.{TypedExpr, TypedNode, typed, type_of, typed_expr, typed_node, exprs_of, comparisons_of, typed_comparison}
 use Rattle.py_typed.specs.Statements.{TypedModule, Variable}
-use Rattle.py_typed.proofs.ExpressionLemmas.{typed_expr_of, typed_node-Bool, typed_node-Local, typed_node-Global, typed_node-Neg, typed_node-Not, typed_node-Truth, typed_node-Arith, typed_expr-Compare, typed_node-And, typed_node-Or, typed_node-Cond, typed_node-Call, typed_node-Coerce}
+use Rattle.py_typed.proofs.ExpressionLemmas.{typed_expr_of, typed_node-Bool, typed_node-Local, typed_node-Global, typed_node-Neg, typed_node-Not, typed_node-Truth, typed_node-Arith, typed_expr-Compare, typed_node-And, typed_node-Or, typed_node-Cond, typed_node-Call, typed_node-Coerce, typed_node-Int, typed_node-Str, typed_node-Concat, typed_node-At, typed_node-Input, typed_node-Len, typed_node-ToStr}
 use Rattle.ir_core.specs.Building.{Building}
 use Rattle.ir_frames.specs.Settings.{Setting}
-use Rattle.ir_expressions.specs.Suiting.{Suits, NodeSuits, Operand}
+use Rattle.ir_expressions.specs.Suiting.{Suits, NodeSuits}
 use Rattle.ir_expressions.specs.Emitting.{Emits}
 
 abbrev Part : Type 0
@@ -62,28 +63,31 @@ is_call e f es is = typed_expr_of e (kind.Call f es) is ∙ ap (λ n. typed n (s
 pub is_coerce : (e : TExpr) (a : Part) → e.kind ≡ kind.Coerce a → Is e (tree.Coerce (typed_expr a.value))
 is_coerce e a is = typed_expr_of e (kind.Coerce a) is ∙ ap (λ n. typed n (sort_of e.ty) e.span) (typed_node-Coerce a)
 
+pub is_int : (e : TExpr) (n : ℤ) → e.kind ≡ kind.Int n → Is e (tree.Int n)
+is_int e n is = typed_expr_of e (kind.Int n) is ∙ ap (λ k. typed k (sort_of e.ty) e.span) (typed_node-Int n)
+
+pub is_text : (e : TExpr) (text : List ℕ) → e.kind ≡ kind.Str text → Is e (tree.Str text)
+is_text e text is = typed_expr_of e (kind.Str text) is ∙ ap (λ k. typed k (sort_of e.ty) e.span) (typed_node-Str text)
+
+pub is_input : (e : TExpr) → e.kind ≡ kind.Input → Is e tree.Input
+is_input e is = typed_expr_of e kind.Input is ∙ ap (λ k. typed k (sort_of e.ty) e.span) typed_node-Input
+
+pub is_concat : (e : TExpr) (a b : Part) → e.kind ≡ kind.Concat a b → Is e (tree.Concat (typed_expr a.value) (typed_expr b.value))
+is_concat e a b is = typed_expr_of e (kind.Concat a b) is ∙ ap (λ n. typed n (sort_of e.ty) e.span) (typed_node-Concat a b)
+
+pub is_at : (e : TExpr) (a b : Part) → e.kind ≡ kind.At a b → Is e (tree.At (typed_expr a.value) (typed_expr b.value))
+is_at e a b is = typed_expr_of e (kind.At a b) is ∙ ap (λ n. typed n (sort_of e.ty) e.span) (typed_node-At a b)
+
+pub is_len : (e : TExpr) (a : Part) → e.kind ≡ kind.Len a → Is e (tree.Len (typed_expr a.value))
+is_len e a is = typed_expr_of e (kind.Len a) is ∙ ap (λ n. typed n (sort_of e.ty) e.span) (typed_node-Len a)
+
+pub is_to_str : (e : TExpr) (a : Part) → e.kind ≡ kind.ToStr a → Is e (tree.ToStr (typed_expr a.value))
+is_to_str e a is = typed_expr_of e (kind.ToStr a) is ∙ ap (λ n. typed n (sort_of e.ty) e.span) (typed_node-ToStr a)
+
 -- what is asked of it
 module _ (m : TypedModule) (vs : List Variable) where
   pub asked : (e : TExpr) (n : TypedNode) → Is e n → Suits m vs (typed_expr e) → NodeSuits m vs n (sort_of e.ty)
   asked e n is s = subst (Suits m vs) is s
-
-  pub neg_part : (e : TExpr) (a : Part) → e.kind ≡ kind.Neg a → Suits m vs (typed_expr e) → Suits m vs (typed_expr a.value)
-  neg_part e a is s = (asked e _ (is_neg e a is) s).2
-
-  pub not_part : (e : TExpr) (a : Part) → e.kind ≡ kind.Not a → Suits m vs (typed_expr e) → Suits m vs (typed_expr a.value)
-  not_part e a is s = (asked e _ (is_not e a is) s).2
-
-  pub truth_part : (e : TExpr) (a : Part) → e.kind ≡ kind.Truth a → Suits m vs (typed_expr e) → Suits m vs (typed_expr a.value)
-  truth_part e a is s = (asked e _ (is_truth e a is) s).2
-
-  pub arith_left : (e : TExpr) (op : BinOp) (a b : Part) → e.kind ≡ kind.Arith op a b → Suits m vs (typed_expr e) → Operand m vs (typed_expr a.value)
-  arith_left e op a b is s = (asked e _ (is_arith e op a b is) s).2
-
-  pub arith_right : (e : TExpr) (op : BinOp) (a b : Part) → e.kind ≡ kind.Arith op a b → Suits m vs (typed_expr e) → Operand m vs (typed_expr b.value)
-  arith_right e op a b is s = (asked e _ (is_arith e op a b is) s).3
-
-  pub compare_first : (e : TExpr) (a : Part) (cs : List (CmpOp × TExpr)) → e.kind ≡ kind.Compare a cs → Suits m vs (typed_expr e) → Operand m vs (typed_expr a.value)
-  compare_first e a cs is s = (asked e _ (is_compare e a cs is) s).1
 
   pub and_left : (e : TExpr) (a b : Part) → e.kind ≡ kind.And a b → Suits m vs (typed_expr e) → Suits m vs (typed_expr a.value)
   and_left e a b is s = (asked e _ (is_and e a b is) s).3
@@ -105,9 +109,6 @@ module _ (m : TypedModule) (vs : List Variable) where
 
   pub cond_second : (e : TExpr) (a test b : Part) → e.kind ≡ kind.Cond a test b → Suits m vs (typed_expr e) → Suits m vs (typed_expr b.value)
   cond_second e a test b is s = (asked e _ (is_cond e a test b is) s).6
-
-  pub coerce_part : (e : TExpr) (a : Part) → e.kind ≡ kind.Coerce a → Suits m vs (typed_expr e) → Operand m vs (typed_expr a.value)
-  coerce_part e a is s = (asked e _ (is_coerce e a is) s).1
 
 -- what it promises
 pub emits_as : (x : Setting) (e : TExpr) (n : TypedNode) (t : Sort) (b c : Building) (r : ℕ) → Is e n → sort_of e.ty ≡ t → Emits x (typed n t e.span) b c r → Emits x (typed_expr e) b c r

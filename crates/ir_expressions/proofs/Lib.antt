@@ -6,6 +6,13 @@ pub mod ArgumentLemmas
 pub mod ArmLemmas
 pub mod ValueLemmas
 pub mod ArithmeticLemmas
+pub mod FollowLemmas
+pub mod NumberLemmas
+pub mod TestLemmas
+pub mod PieceLemmas
+pub mod PairLemmas
+pub mod SideLemmas
+pub mod ApplyLemmas
 pub mod ChoiceLemmas
 pub mod OpenLemmas
 pub mod LinkLemmas

@@ -53,7 +53,7 @@ met_flag b ls l c d r k m = m.meets.types l.choice.target.0 rtype.Bool (type_kep
 
 -- what the calls that meet it need
 pub begins_alike : (a d b : Building) (l : Link) (r : Reg) → Begins a d l → Extends d b → HasType b r.0 rtype.Bool → AreAlike b.regs l.choice.target r
-begins_alike a d b l r k x h = (rtype.Bool, refl, type_kept d b l.choice.target.0 rtype.Bool x k.opens.type, h)
+begins_alike a d b l r k x h = (rtype.Bool, type_kept d b l.choice.target.0 rtype.Bool x k.opens.type, h)
 
 pub begins_flag : (a d b c : Building) (l : Link) → Begins a d l → Extends d b → Extends b c → HasType c l.holds.0 rtype.Bool
 begins_flag a d b c l k x y = type_kept a c l.holds.0 rtype.Bool (extends_trans a d c k.opens.extends (extends_trans d b c x y)) k.holds

@@ -1,20 +1,19 @@
 -- Each kind of expression is computed by its code.
 use Rattle.std.proofs.Common.{◌≡◌, refl, sym, ◌∙◌, ap, subst, ℕ, ◌<◌, ◌≤◌, arith, le_refl, Bool, true, false, List, length, Option, Some, None}
-use Rattle.std.specs.Prelude.{ℤ, pos, not, codes, ◌++◌, if◌then◌else◌, slice_get, nat_lt}
+use Rattle.std.specs.Prelude.{ℤ, pos, codes, ◌++◌, if◌then◌else◌, slice_get, nat_lt}
 use Rattle.std.proofs.lemmas.Bool.Decides.{nat_tests}
-use Rattle.std.specs.Ordering.{int_eq}
 use Rattle.value_core.specs.declared.exception.ExcClass.TheVariants.{UnboundLocalError}
-use Rattle.value_core.specs.Arithmetic.{lies_within, i64_neg}
+use Rattle.value_core.specs.Arithmetic.{lies_within}
 use Rattle.value_core.specs.Value.{Value, IntVal, BoolVal}
 use Rattle.py_syntax.specs.declared.token.Span.{Span}
 use Rattle.py_syntax.specs.declared.expression.BinOp.{BinOp}
 use Rattle.py_typed.specs.Sorts as sort
 use Rattle.py_typed.specs.Sorts.{Sort}
 use Rattle.py_typed.specs.Statements.{Variable}
-use Rattle.py_typed.specs.Expressions.{TypedExpr, typed, type_of, Int, Flag, Local, Neg, Not, Truth, Arith, And, Or, Cond, Coerce}
+use Rattle.py_typed.specs.Expressions.{TypedExpr, typed, type_of, Int, Flag, Local, Arith, And, Or, Cond}
 use Rattle.py_typed.specs.ExpressionMeaning.{value_in, name_at}
 use Rattle.py_typed.specs.State.{State, Outcome, Gives, Does, on_to, give, raise_new}
-use Rattle.py_typed.specs.Operations.{negated, arithmetic, coerced, truth_of}
+use Rattle.py_typed.specs.Operations.{arithmetic, truth_of}
 use Rattle.ir_core.specs.declared.code.RType.TheVariants as rtype
 use Rattle.ir_core.specs.declared.code.Op.TheVariants.{Lit}
 use Rattle.ir_core.specs.Registers.{Held, Unset, Holds, Regs}
@@ -29,15 +28,15 @@ use Rattle.ir_core.specs.Meaning.{Waiting}
 use Rattle.ir_frames.specs.Matching.{HasKind, Keeps, flag_of, flag_in, Matches, SameLocals, HasRoom, IsThrown, CallsWork}
 use Rattle.ir_frames.specs.Computing.{Shows, ShowsNumber, Meaning, Arrives, Computes, Makes, Attempts, OfOne}
 use Rattle.ir_frames.proofs.HeldLemmas.{extends_refl, extends_trans, type_below, type_kept, has_less}
-use Rattle.ir_frames.proofs.ComingLemmas.{ends_now, ends_of, ends_on, ends_from, leads_refl}
+use Rattle.ir_frames.proofs.ComingLemmas.{ends_now, ends_of, ends_from}
 use Rattle.ir_frames.proofs.StepLemmas.{literal_makes}
 use Rattle.ir_frames.proofs.MatchLemmas.{room_on, same_refl, match_here, computes_then, computes_as, computes_of, then_makes, made_computes}
 use Rattle.ir_frames.proofs.AttemptLemmas.{both_attempt}
-use Rattle.ir_expressions.specs.Compiled.{is_scalar, is_bool}
-use Rattle.ir_expressions.specs.Operating.{Negates, Inverts, Numbers, Operates, Asks, TestsValue, literal_of_truth}
+use Rattle.ir_expressions.specs.Operating.{Numbers, Operates, TestsValue, literal_of_truth}
 use Rattle.ir_expressions.specs.Emitting.{means, Emits, EmitsNumber}
 use Rattle.ir_expressions.specs.Choices.{Opens, Brings, Meets}
-use Rattle.ir_expressions.proofs.ValueLemmas.{counts_coerced, counts_within, wrap_within, negated_is, arithmetic_is, truth_of_number, kind_counts}
+use Rattle.ir_expressions.proofs.ValueLemmas.{counts_within, arithmetic_is, kind_counts}
+use Rattle.ir_expressions.proofs.TestLemmas.{bool_tests}
 use Rattle.ir_expressions.proofs.ChoiceLemmas.{shows_set, choice_runs, meet_within, arm_ends}
 
 kind_at : (t u : Sort) (v : Value) → t ≡ u → HasKind t v → HasKind u v
@@ -75,31 +74,6 @@ local_emits x i w t place b at is low room = record {
       ends_of p s.turns _ _ (Gives q.0 s) R T gives
       (ends_now p q.0 s _ R T record { now = regs; is = refl; shows = (q.2, kind_at w.1 t q.0 is q.3); kept = λ j lt. refl; same = same_refl x regs s match });
 }
-
-pub neg_emits : (x : Setting) (e : TypedExpr) (place : Span) (b0 b1 b2 : Building) (q r : ℕ) → type_of e ≡ sort.I64 → HasRoom x b0 → Emits x e b0 b1 q → Makes b1 b2 r rtype.I64 (OfOne q Negates) → Emits x (typed (Neg e) sort.I64 place) b0 b2 r
-neg_emits x e place b0 b1 b2 q r is room c made =
-    then_makes x (Shows sort.I64) (Shows sort.I64) rtype.I64 rtype.I64 (means x e) (negated sort.I64) (OfOne q Negates) b0 b1 b2 q r room (emits_at x e sort.I64 b0 b1 q is c) made record {
-      each = λ v s regs k.
-          let a = k.1 in
-          (IntVal (i64_neg a.0), Holds (IntVal (i64_neg a.0)), ap (λ z. negated sort.I64 z s) a.1 ∙ negated_is a.0 s a.2, record { v = v; is = k.0; result = IntVal (i64_neg a.0); fits = (a.0, a.1, refl); gives = refl }, (refl, (i64_neg a.0, refl, wrap_within _)));
-    }
-
-pub not_emits : (x : Setting) (e : TypedExpr) (place : Span) (b0 b1 b2 : Building) (q r : ℕ) → type_of e ≡ sort.Bool → HasRoom x b0 → Emits x e b0 b1 q → Makes b1 b2 r rtype.Bool (OfOne q Inverts) → Emits x (typed (Not e) sort.Bool place) b0 b2 r
-not_emits x e place b0 b1 b2 q r is room c made =
-    then_makes x (Shows sort.Bool) (Shows sort.Bool) rtype.Bool rtype.Bool (means x e) (λ v s. on_to (truth_of v s) (λ b. give (BoolVal (not b)))) (OfOne q Inverts) b0 b1 b2 q r room (emits_at x e sort.Bool b0 b1 q is c) made record {
-      each = λ v s regs k.
-          let a = k.1 in
-          (BoolVal (not a.0), Holds (BoolVal (not a.0)), ap (λ z. on_to (truth_of z s) (λ b. give (BoolVal (not b)))) a.1, record { v = v; is = k.0; result = BoolVal (not a.0); fits = (a.0, a.1, refl); gives = refl }, (refl, (not a.0, refl)));
-    }
-
-pub truth_emits : (x : Setting) (e : TypedExpr) (place : Span) (b0 b1 b2 : Building) (q r : ℕ) → type_of e ≡ sort.I64 → HasRoom x b0 → Emits x e b0 b1 q → Makes b1 b2 r rtype.Bool (OfOne q Asks) → Emits x (typed (Truth e) sort.Bool place) b0 b2 r
-truth_emits x e place b0 b1 b2 q r is room c made =
-    then_makes x (Shows sort.I64) (Shows sort.Bool) rtype.I64 rtype.Bool (means x e) (λ v s. on_to (truth_of v s) (λ b. give (BoolVal b))) (OfOne q Asks) b0 b1 b2 q r room (emits_at x e sort.I64 b0 b1 q is c) made record {
-      each = λ v s regs k.
-          let a = k.1 in
-          let z : Bool = not (int_eq a.0 (pos 0)) in
-          (BoolVal z, Holds (BoolVal z), ap (λ y. on_to (truth_of y s) (λ b. give (BoolVal b))) a.1 ∙ ap (λ o. on_to o (λ b. give (BoolVal b))) (truth_of_number a.0 s), record { v = v; is = k.0; result = BoolVal z; fits = (a.0, a.1, refl); gives = refl }, (refl, (z, refl)));
-    }
 
 pub arith_emits : (x : Setting) (op : BinOp) (a b : TypedExpr) (place : Span) (b0 b1 b2 b3 : Building) (q q' r : ℕ) → HasRoom x b0 → EmitsNumber x a b0 b1 q → EmitsNumber x b b1 b2 q' → Attempts (Shows sort.I64) b2 b3 r rtype.I64 (Operates op q q') → Emits x (typed (Arith op a b) sort.I64 place) b0 b3 r
 arith_emits x op a b place b0 b1 b2 b3 q q' r room c d made =
@@ -140,23 +114,6 @@ bool_number x e b0 b1 b2 q r is room c made =
     number_of_bool : (b : Bool) → Rattle.ir_core.specs.Effects.truth_number b ≡ (if b then pos 1 else pos 0)
     number_of_bool true = refl
     number_of_bool false = refl
-
--- a number as a native integer
-pub coerce_emits : (x : Setting) (e : TypedExpr) (place : Span) (b c : Building) (r : ℕ) → EmitsNumber x e b c r → Emits x (typed (Coerce e) sort.I64 place) b c r
-coerce_emits x e place b c r q = record {
-  extends = q.extends;
-  type = q.type;
-  runs = λ p fn h at n calls regs below s match le.
-      let A = Arrives (ShowsNumber (type_of e)) fn (length c.blocks) (length c.ops) below (length b.regs) regs x s r in
-      let R = Arrives (Shows sort.I64) fn (length c.blocks) (length c.ops) below (length b.regs) regs x s r in
-      let T = IsThrown fn h below x (length b.regs) regs in
-      ends_on p s.turns _ (means x e n s) A T T (coerced sort.I64) R (q.runs p fn h at n calls regs below s match le)
-      (λ v s1 d le1 a.
-      let k = a.shows in
-      ends_of p s1.turns _ (coerced sort.I64 v s1) (Gives (IntVal k.0) s1) R T (counts_coerced (type_of e) v k.0 s1 k.2)
-      (ends_now p (IntVal k.0) s1 d R T record { now = a.now; is = a.is; shows = (k.1, (k.0, refl, counts_within (type_of e) v k.0 k.2)); kept = a.kept; same = a.same }))
-      (λ v s1 d t. t);
-}
 
 -- ---- choices
 
@@ -229,44 +186,6 @@ or_emits x a b t place b0 b1 b2 b3 b5 b7 b8 q condition target test first end se
     either_emits x a t t b0 b1 b2 b3 b3 b5 b7 b8 q condition target test first end second q r is_a room ca tests opens (extends_refl b3) brings here v2.extends meets type_q v2.type (means x (typed (Or a b) t place)) (λ n v. give v) (λ n v. means x b n) (λ n s. refl)
     (λ p fn h below n v now old s before at calls shows outer same match le. ends_now p v s _ (Arrives (Shows t) fn (length b3.blocks) (length b3.ops) below (length b0.regs) old x before q) (IsThrown fn h below x (length b0.regs) old) record { now = now; is = refl; shows = shows; kept = outer; same = same })
     (λ p fn h below n v now old s before at calls shows outer same match le. arm_ends p fn h below x n calls (Shows t) (rtype_of t) (means x b) b5 b7 r now old s (length b0.regs) before v2 (meet_within p fn b7 b8 b5 b7 target r condition test first end second _ _ h meets (let z = opens.blocks in let y = tests.blocks in let w = brings.blocks in omega arith) refl (extends_refl b7) at) (omega arith) outer same match le)
-
--- a bool is its own condition
-pub bool_tests : (b : Building) (q : ℕ) → HasType b q rtype.Bool → TestsValue b b q q sort.Bool
-bool_tests b q type = record {
-  extends = extends_refl b;
-  type = type;
-  blocks = refl;
-  runs = λ p fn has regs below s v shows. (shows.1.0, ap (λ z. truth_of z s) shows.1.1, regs, leads_refl p _, shows.0 ∙ ap Holds shows.1.1, λ j lt. refl);
-}
-
--- that of a native integer is made of it
-pub number_tests : (b c : Building) (q r : ℕ) → Makes b c r rtype.Bool (OfOne q Asks) → TestsValue b c q r sort.I64
-number_tests b c q r made = record {
-  extends = made.extends;
-  type = made.type;
-  blocks = made.blocks;
-  runs = λ p fn has regs below s v shows.
-      let a = shows.1 in
-      let z : Bool = not (int_eq a.0 (pos 0)) in
-      let d = made.runs p fn has regs below s (Holds (BoolVal z)) record { v = v; is = shows.0; result = BoolVal z; fits = (a.0, a.1, refl); gives = refl } in
-      (z, ap (λ y. truth_of y s) a.1 ∙ truth_of_number a.0 s, d.0, d.1, d.2, d.3);
-}
-
-pub bool_sort : (t : Sort) → is_bool t ≡ true → sort.Bool ≡ t
-bool_sort sort.Bool e = refl
-bool_sort _ e = absurd (cc)
-
-pub i64_sort : (t : Sort) → is_scalar t ≡ true → is_bool t ≡ false → sort.I64 ≡ t
-i64_sort sort.I64 e ne = refl
-i64_sort _ e ne = absurd (cc)
-
-pub flag_tested : (t : Sort) (b : Building) (q : ℕ) → is_bool t ≡ true → HasType b q (rtype_of t) → TestsValue b b q q t
-flag_tested t b q e type =
-    let is = bool_sort t e in
-    subst (λ z. TestsValue b b q q z) is (bool_tests b q (subst (λ z. HasType b q (rtype_of z)) (sym is) type))
-
-pub number_tested : (t : Sort) (b c : Building) (q r : ℕ) → is_scalar t ≡ true → is_bool t ≡ false → Makes b c r rtype.Bool (OfOne q Asks) → TestsValue b c q r t
-number_tested t b c q r e ne made = subst (λ z. TestsValue b c q r z) (i64_sort t e ne) (number_tests b c q r made)
 
 pub cond_emits : (x : Setting) (a test b : TypedExpr) (t : Sort) (place : Span) (b0 b1 b3 b4 b5 b7 b8 : Building) (q target at first end second ra rb : ℕ) → type_of a ≡ t → type_of test ≡ sort.Bool → type_of b ≡ t → HasRoom x b0 → Emits x test b0 b1 q → Opens b1 b3 target at first (rtype_of t) → Emits x a b3 b4 ra → Brings b4 b5 target ra end → second ≡ length b5.blocks → Emits x b b5 b7 rb → Meets b7 b8 target rb q at first end second → Emits x (typed (Cond a test b) t place) b0 b8 target
 cond_emits x a test b t place b0 b1 b3 b4 b5 b7 b8 q target at first end second ra rb is_a is_test is_b room ct opens ca brings here cb meets =

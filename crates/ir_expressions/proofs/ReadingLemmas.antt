@@ -42,12 +42,10 @@ use Rattle.ir_frames.proofs.HeldLemmas.{extends_trans, get_below, has_less, type
 use Rattle.ir_frames.proofs.MatchLemmas.{same_refl, thrown_at}
 use Rattle.ir_frames.proofs.PatchLemmas.{patches}
 use Rattle.ir_frames.proofs.GlobalLemmas.{get_map, global_computes, read_fits}
-use Rattle.ir_expressions.specs.Compiled.{is_scalar}
 use Rattle.ir_expressions.specs.Emitting.{means, Emits}
-use Rattle.ir_expressions.specs.Suiting.{IsScalarAt}
+use Rattle.ir_expressions.specs.Suiting.{IsSimpleAt}
 use Rattle.ir_expressions.specs.Reading.{reports_unbound, TestsSet, setting_in, HasRegisters, EmitsLocal, EmitsGlobal}
 use Rattle.ir_expressions.proofs.NodeLemmas.{local_emits}
-use Rattle.ir_expressions.proofs.WalkingLemmas.{scalar_plain}
 
 -- ---- the test
 
@@ -210,8 +208,8 @@ flag_there vs frame i flag b lt other has is = let count = has.1.count in subst 
 -- ---- a variable of the module
 
 -- the variable of a number is there
-pub scalar_below : (vs : List Var) (i : ℕ) → IsScalarAt (map variable vs) i → i < length vs
-scalar_below vs i h = let lt = get_below (map variable vs) i h.0 h.1 in omega (arith, length-map vs variable)
+pub simple_below : (vs : List Var) (i : ℕ) → IsSimpleAt (map variable vs) i → i < length vs
+simple_below vs i h = let lt = get_below (map variable vs) i h.0 h.1 in omega (arith, length-map vs variable)
 
 module _ (m : TypedModule) (vs : List Var) (are : m.globals ≡ map variable vs) (i : ℕ) (v : Var) (t : RType) (name : List ℕ) (args : List PArg) (lt : i < length vs) (is : v ≡ get_or vs i v) (type : t ≡ rtype_of (sort v.ty)) (named : name ≡ v.name) (args_are : args ≡ arg.Global name ∷ []) where
   global_at : slice_get m.globals i ≡ Some (variable v)
@@ -230,11 +228,9 @@ module _ (m : TypedModule) (vs : List Var) (are : m.globals ≡ map variable vs)
       let add : Adds b c r (rtype_of (sort v.ty)) (Prim (Some record { 0 = r }) (prim.Global global.Get) (arg.Global v.name ∷ [])) = subst (λ z. Adds b c r (rtype_of (sort v.ty)) (Prim (Some record { 0 = r }) (prim.Global global.Get) z)) args_name typed_add in
       subst P sort_is (global_computes x i (variable v) b c r room global_at add)
 
-  -- its global is there, and holds no reference
-  pub global_kinds : (b c : Building) → IsScalarAt m.globals i → KeepsKindsIf (λ g. Answers t b.regs (prim.Global global.Get) args ⊎ ReadsGlobal g t (prim.Global global.Get) args) b c → KeepsKindsIf (IsAmong m) b c
-  global_kinds b c scalar kinds g among h =
-      let same : scalar.0 ≡ variable v = (let z : Some scalar.0 ≡ Some (variable v) = sym scalar.1 ∙ global_at in cc) in
-      let plain = scalar_plain (sort v.ty) (subst (λ (z : Variable). is_scalar z.1 ≡ true) same scalar.2) in
-      let reads = read_fits m g i (variable v) among global_at plain in
+  -- its global is there
+  pub global_kinds : (b c : Building) → KeepsKindsIf (λ g. Answers t b.regs (prim.Global global.Get) args ⊎ ReadsGlobal g t (prim.Global global.Get) args) b c → KeepsKindsIf (IsAmong m) b c
+  global_kinds b c kinds g among h =
+      let reads = read_fits m g i (variable v) among global_at in
       let typed_read : ReadsGlobal g t (prim.Global global.Get) (arg.Global v.name ∷ []) = subst (λ z. ReadsGlobal g z (prim.Global global.Get) (arg.Global v.name ∷ [])) (sym type) reads in
       kinds g (inr (subst (λ z. ReadsGlobal g t (prim.Global global.Get) z) (sym args_name) typed_read)) h

@@ -1,5 +1,6 @@
 -- An expression that suits is one of the forms that are built.
 use Rattle.std.proofs.Common.{◌≡◌, sym, ◌∙◌, ap, ℕ, Bool, List}
+use Rattle.std.specs.Prelude.{ℤ}
 use Rattle.std.specs.declared.boxed.Box.{Box}
 use Rattle.std.specs.declared.alloc.Global.{Global}
 use Rattle.py_syntax.specs.declared.expression.BinOp.{BinOp}
@@ -23,26 +24,26 @@ module _ (m : TypedModule) (vs : List Variable) (e : TExpr) (suits : Suits m vs 
   suited : (k : TKind-F TKind TExpr) → roll-TKind k ≡ e.kind → NodeSuits m vs (node_step (kind.map-TKind TKind TExpr TypedNode TypedExpr typed_node typed_expr k)) (sort_of e.ty)
   suited k is = asked m vs e (node_step (kind.map-TKind TKind TExpr TypedNode TypedExpr typed_node typed_expr k)) (typed_expr_of e (roll-TKind k) (sym is) ∙ ap (λ n. typed n (sort_of e.ty) e.span) (fold-roll-TKind TypedNode TypedExpr node_step expr_step k)) suits
 
-  module _ (no_flag : (b : Bool) → e.kind ≡ kind.Bool b → ⊥) (no_local : (i : ℕ) → e.kind ≡ kind.Local i → ⊥) (no_global : (i : ℕ) → e.kind ≡ kind.Global i → ⊥) (no_neg : (a : Part) → e.kind ≡ kind.Neg a → ⊥) (no_inverted : (a : Part) → e.kind ≡ kind.Not a → ⊥) (no_truth : (a : Part) → e.kind ≡ kind.Truth a → ⊥) (no_arith : (o : BinOp) (a b : Part) → e.kind ≡ kind.Arith o a b → ⊥) (no_compare : (a : Part) (cs : List (CmpOp × TExpr)) → e.kind ≡ kind.Compare a cs → ⊥) (no_conj : (a b : Part) → e.kind ≡ kind.And a b → ⊥) (no_disj : (a b : Part) → e.kind ≡ kind.Or a b → ⊥) (no_choice : (a test b : Part) → e.kind ≡ kind.Cond a test b → ⊥) (no_call : (f : ℕ) (es : List TExpr) → e.kind ≡ kind.Call f es → ⊥) (no_coerce : (a : Part) → e.kind ≡ kind.Coerce a → ⊥) where
+  module _ (no_int : (n : ℤ) → e.kind ≡ kind.Int n → ⊥) (no_text : (text : List ℕ) → e.kind ≡ kind.Str text → ⊥) (no_flag : (b : Bool) → e.kind ≡ kind.Bool b → ⊥) (no_local : (i : ℕ) → e.kind ≡ kind.Local i → ⊥) (no_global : (i : ℕ) → e.kind ≡ kind.Global i → ⊥) (no_neg : (a : Part) → e.kind ≡ kind.Neg a → ⊥) (no_inverted : (a : Part) → e.kind ≡ kind.Not a → ⊥) (no_truth : (a : Part) → e.kind ≡ kind.Truth a → ⊥) (no_arith : (o : BinOp) (a b : Part) → e.kind ≡ kind.Arith o a b → ⊥) (no_concat : (a b : Part) → e.kind ≡ kind.Concat a b → ⊥) (no_at : (a b : Part) → e.kind ≡ kind.At a b → ⊥) (no_len : (a : Part) → e.kind ≡ kind.Len a → ⊥) (no_written : (a : Part) → e.kind ≡ kind.ToStr a → ⊥) (no_coerce : (a : Part) → e.kind ≡ kind.Coerce a → ⊥) (no_compare : (a : Part) (cs : List (CmpOp × TExpr)) → e.kind ≡ kind.Compare a cs → ⊥) (no_conj : (a b : Part) → e.kind ≡ kind.And a b → ⊥) (no_disj : (a b : Part) → e.kind ≡ kind.Or a b → ⊥) (no_choice : (a test b : Part) → e.kind ≡ kind.Cond a test b → ⊥) (no_call : (f : ℕ) (es : List TExpr) → e.kind ≡ kind.Call f es → ⊥) (no_input : e.kind ≡ kind.Input → ⊥) where
     unsuited : (k : TKind-F TKind TExpr) → roll-TKind k ≡ e.kind → ⊥
-    unsuited (TKind-F.Int n) is = suited (TKind-F.Int n) is
-    unsuited (TKind-F.Str text) is = suited (TKind-F.Str text) is
+    unsuited (TKind-F.Int n) is = no_int n (sym is ∙ variant.rolls-Int n)
+    unsuited (TKind-F.Str text) is = no_text text (sym is ∙ variant.rolls-Str text)
     unsuited TKind-F.Nothing is = suited TKind-F.Nothing is
-    unsuited (TKind-F.Concat a b) is = suited (TKind-F.Concat a b) is
+    unsuited (TKind-F.Concat a b) is = no_concat a b (sym is ∙ variant.rolls-Concat a b)
     unsuited (TKind-F.List es) is = suited (TKind-F.List es) is
     unsuited (TKind-F.Dict es) is = suited (TKind-F.Dict es) is
     unsuited (TKind-F.Tuple es) is = suited (TKind-F.Tuple es) is
     unsuited (TKind-F.Attr a name) is = suited (TKind-F.Attr a name) is
-    unsuited (TKind-F.At a i) is = suited (TKind-F.At a i) is
+    unsuited (TKind-F.At a i) is = no_at a i (sym is ∙ variant.rolls-At a i)
     unsuited (TKind-F.TupleAt a i) is = suited (TKind-F.TupleAt a i) is
     unsuited (TKind-F.Make f es) is = suited (TKind-F.Make f es) is
     unsuited (TKind-F.MakeExc k a) is = suited (TKind-F.MakeExc k a) is
     unsuited (TKind-F.Method a name es) is = suited (TKind-F.Method a name es) is
     unsuited (TKind-F.SuperInit f es) is = suited (TKind-F.SuperInit f es) is
     unsuited (TKind-F.Print es) is = suited (TKind-F.Print es) is
-    unsuited TKind-F.Input is = suited TKind-F.Input is
-    unsuited (TKind-F.Len a) is = suited (TKind-F.Len a) is
-    unsuited (TKind-F.ToStr a) is = suited (TKind-F.ToStr a) is
+    unsuited TKind-F.Input is = no_input (sym is ∙ variant.rolls-Input)
+    unsuited (TKind-F.Len a) is = no_len a (sym is ∙ variant.rolls-Len a)
+    unsuited (TKind-F.ToStr a) is = no_written a (sym is ∙ variant.rolls-ToStr a)
     unsuited (TKind-F.Append a b) is = suited (TKind-F.Append a b) is
     unsuited (TKind-F.Pop a) is = suited (TKind-F.Pop a) is
     unsuited (TKind-F.Bool b) is = no_flag b (sym is ∙ variant.rolls-Bool b)

@@ -13,11 +13,12 @@ use Rattle.py_syntax.specs.declared.expression.CmpOp.{CmpOp}
 use Rattle.py_syntax.specs.declared.expression.CmpOp.TheVariants as cmp
 use Rattle.py_typed.specs.Sorts as sort
 use Rattle.py_typed.specs.Sorts.{Sort}
-use Rattle.py_typed.specs.State.{State, Outcome, Gives, Does, on_to}
-use Rattle.py_typed.specs.Operations.{fitting, coerced, with_number, of_i64, of_numbers, arithmetic, negated_as, negated, is_equal, is_less, compared_as, compared, holds, truth_of}
+use Rattle.py_typed.specs.State.{State, Gives, on_to}
+use Rattle.py_typed.specs.Operations.{fitting, coerced, with_number, of_i64, of_numbers, arithmetic, negated_as, negated, is_equal, is_less, compared, holds, truth_of}
 use Rattle.ir_frames.specs.Matching.{HasKind}
 use Rattle.ir_frames.specs.Computing.{Counts}
-use Rattle.ir_expressions.specs.Compiled.{is_ordering, is_pair}
+use Rattle.ir_expressions.specs.Compiled.{is_ordering}
+use Rattle.ir_expressions.specs.Comparing.{test_of}
 use Rattle.ir_expressions.specs.Operating.{ordered}
 
 -- ---- range
@@ -85,16 +86,7 @@ same_number (pos a) (negsuc b) = refl
 same_number (negsuc a) (pos b) = refl
 same_number (negsuc a) (negsuc b) = grind (arith, nat_tests)
 
-abbrev test_of : CmpOp → Value → Value → Bool
-test_of cmp.Eq a b = is_equal a b
-test_of cmp.Ne a b = not (is_equal a b)
-test_of cmp.Lt a b = is_less a b
-test_of cmp.Le a b = not (is_less b a)
-test_of cmp.Gt a b = is_less b a
-test_of cmp.Ge a b = not (is_less a b)
-test_of _ a b = false
-
-tested_numbers : (op : CmpOp) (a b : ℤ) → test_of op (IntVal a) (IntVal b) ≡ ordered op a b
+pub tested_numbers : (op : CmpOp) (a b : ℤ) → test_of op (IntVal a) (IntVal b) ≡ ordered op a b
 tested_numbers cmp.Eq a b = same_number a b
 tested_numbers cmp.Ne a b = ap not (same_number a b)
 tested_numbers cmp.Lt a b = refl
@@ -118,7 +110,7 @@ less_bools true false = refl
 less_bools false true = refl
 less_bools false false = refl
 
-tested_bools : (op : CmpOp) (x y : Bool) → test_of op (BoolVal x) (BoolVal y) ≡ ordered op (if x then pos 1 else pos 0) (if y then pos 1 else pos 0)
+pub tested_bools : (op : CmpOp) (x y : Bool) → test_of op (BoolVal x) (BoolVal y) ≡ ordered op (if x then pos 1 else pos 0) (if y then pos 1 else pos 0)
 tested_bools cmp.Eq x y = equal_bools x y
 tested_bools cmp.Ne x y = ap not (equal_bools x y)
 tested_bools cmp.Lt x y = less_bools x y
@@ -130,7 +122,7 @@ tested_bools cmp.IsNot x y = refl
 tested_bools cmp.Member x y = refl
 tested_bools cmp.NotMember x y = refl
 
-holds_is : (op : CmpOp) (s t : Sort) (x y : Value) (st : State) → is_ordering op ≡ true → holds op s t x y st ≡ compared (test_of op) s t x y st
+pub holds_is : (op : CmpOp) (s t : Sort) (x y : Value) (st : State) → is_ordering op ≡ true → holds op s t x y st ≡ compared (test_of op) s t x y st
 holds_is cmp.Eq s t x y st e = refl
 holds_is cmp.Ne s t x y st e = refl
 holds_is cmp.Lt s t x y st e = refl
@@ -141,56 +133,6 @@ holds_is cmp.Is s t x y st e = let f : false ≡ true = e in absurd (cc)
 holds_is cmp.IsNot s t x y st e = let f : false ≡ true = e in absurd (cc)
 holds_is cmp.Member s t x y st e = let f : false ≡ true = e in absurd (cc)
 holds_is cmp.NotMember s t x y st e = let f : false ≡ true = e in absurd (cc)
-
--- as native integers
-as_numbers : (op : CmpOp) (s t : Sort) (x y : Value) (a b : ℤ) (st : State) → compared_as s t ≡ sort.I64 → Counts s x a → Counts t y b → compared (test_of op) s t x y st ≡ Gives (ordered op a b) st
-as_numbers op s t x y a b st is c d =
-    ap (λ u. on_to (coerced u x st) (λ m s1. on_to (coerced u y s1) (λ n. Rattle.py_typed.specs.State.needs (Rattle.py_typed.specs.Operations.are_alike m n) (Rattle.py_typed.specs.State.give (test_of op m n))))) is
-    ∙ ap (λ o. on_to o (λ m s1. on_to (coerced sort.I64 y s1) (λ n. Rattle.py_typed.specs.State.needs (Rattle.py_typed.specs.Operations.are_alike m n) (Rattle.py_typed.specs.State.give (test_of op m n))))) (counts_coerced s x a st c)
-    ∙ ap (λ o. on_to o (λ n. Rattle.py_typed.specs.State.needs (Rattle.py_typed.specs.Operations.are_alike (IntVal a) n) (Rattle.py_typed.specs.State.give (test_of op (IntVal a) n)))) (counts_coerced t y b st d)
-    ∙ ap (λ z. Gives z st) (tested_numbers op a b)
-
-as_bools : (op : CmpOp) (x y : Value) (a b : ℤ) (st : State) → Counts sort.Bool x a → Counts sort.Bool y b → compared (test_of op) sort.Bool sort.Bool x y st ≡ Gives (ordered op a b) st
-as_bools op x y a b st c d =
-    ap (λ z. compared (test_of op) sort.Bool sort.Bool z y st) c.1
-    ∙ ap (λ z. compared (test_of op) sort.Bool sort.Bool (BoolVal c.0) z st) d.1
-    ∙ ap (λ z. Gives z st) (tested_bools op c.0 d.0 ∙ ap (λ z. ordered op z (if d.0 then pos 1 else pos 0)) (sym c.2) ∙ ap (ordered op a) (sym d.2))
-
-pub pair_compared : (op : CmpOp) (s t : Sort) (x y : Value) (a b : ℤ) (st : State) → is_pair s t ≡ true → Counts s x a → Counts t y b → compared (test_of op) s t x y st ≡ Gives (ordered op a b) st
-pair_compared op sort.I64 t x y a b st e c d = as_numbers op sort.I64 t x y a b st refl c d
-pair_compared op sort.Int sort.I64 x y a b st e c d = as_numbers op sort.Int sort.I64 x y a b st refl c d
-pair_compared op sort.Int sort.Int x y a b st e c d = let f : false ≡ true = e in absurd (cc)
-pair_compared op sort.Int sort.Bool x y a b st e c d = let f : false ≡ true = e in absurd (cc)
-pair_compared op sort.Int sort.Str x y a b st e c d = absurd d
-pair_compared op sort.Int sort.Nothing x y a b st e c d = absurd d
-pair_compared op sort.Int (sort.ListOf t) x y a b st e c d = absurd d
-pair_compared op sort.Int (sort.DictOf k t) x y a b st e c d = absurd d
-pair_compared op sort.Int (sort.TupleOf t) x y a b st e c d = absurd d
-pair_compared op sort.Int (sort.Optional t) x y a b st e c d = absurd d
-pair_compared op sort.Int (sort.Instance t) x y a b st e c d = absurd d
-pair_compared op sort.Int (sort.Exc t) x y a b st e c d = absurd d
-pair_compared op sort.Bool sort.I64 x y a b st e c d = as_numbers op sort.Bool sort.I64 x y a b st refl c d
-pair_compared op sort.Bool sort.Int x y a b st e c d = let f : false ≡ true = e in absurd (cc)
-pair_compared op sort.Bool sort.Bool x y a b st e c d = as_bools op x y a b st c d
-pair_compared op sort.Bool sort.Str x y a b st e c d = absurd d
-pair_compared op sort.Bool sort.Nothing x y a b st e c d = absurd d
-pair_compared op sort.Bool (sort.ListOf t) x y a b st e c d = absurd d
-pair_compared op sort.Bool (sort.DictOf k t) x y a b st e c d = absurd d
-pair_compared op sort.Bool (sort.TupleOf t) x y a b st e c d = absurd d
-pair_compared op sort.Bool (sort.Optional t) x y a b st e c d = absurd d
-pair_compared op sort.Bool (sort.Instance t) x y a b st e c d = absurd d
-pair_compared op sort.Bool (sort.Exc t) x y a b st e c d = absurd d
-pair_compared op sort.Str t x y a b st e c d = absurd c
-pair_compared op sort.Nothing t x y a b st e c d = absurd c
-pair_compared op (sort.ListOf u) t x y a b st e c d = absurd c
-pair_compared op (sort.DictOf k u) t x y a b st e c d = absurd c
-pair_compared op (sort.TupleOf u) t x y a b st e c d = absurd c
-pair_compared op (sort.Optional u) t x y a b st e c d = absurd c
-pair_compared op (sort.Instance u) t x y a b st e c d = absurd c
-pair_compared op (sort.Exc u) t x y a b st e c d = absurd c
-
-pub pair_holds : (op : CmpOp) (s t : Sort) (x y : Value) (a b : ℤ) (st : State) → is_ordering op ≡ true → is_pair s t ≡ true → Counts s x a → Counts t y b → holds op s t x y st ≡ Gives (ordered op a b) st
-pair_holds op s t x y a b st ordering pair c d = holds_is op s t x y st ordering ∙ pair_compared op s t x y a b st pair c d
 
 -- ---- truth
 

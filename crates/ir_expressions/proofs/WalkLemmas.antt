@@ -4,7 +4,7 @@ use Rattle.std.specs.Prelude.{ℤ, slice_get}
 use Rattle.std.specs.declared.boxed.Box.{Box}
 use Rattle.std.specs.declared.alloc.Global.{Global}
 use Rattle.value_core.specs.Arithmetic.{lies_within}
-use Rattle.py_syntax.specs.declared.token.Span.{Span}
+use Rattle.value_core.specs.Value.{IntVal, StrVal}
 use Rattle.py_syntax.specs.declared.expression.BinOp.{BinOp}
 use Rattle.py_syntax.specs.declared.expression.CmpOp.{CmpOp}
 use Rattle.py_typed.specs.declared.expression.TExpr.{TExpr}
@@ -12,32 +12,47 @@ use Rattle.py_typed.specs.declared.expression.TKind as kind
 use Rattle.py_typed.specs.Sorts as sort
 use Rattle.py_typed.specs.Sorts.{Sort, sort as sort_of}
 use Rattle.py_typed.specs.Expressions as tree
-use Rattle.py_typed.specs.Expressions.{TypedExpr, typed, type_of, typed_expr, exprs_of, comparisons_of, typed_comparison}
+use Rattle.py_typed.specs.Expressions.{TypedExpr, TypedNode, typed, type_of, typed_expr, exprs_of, comparisons_of, typed_comparison}
 use Rattle.py_typed.specs.Statements.{TypedFunc, TypedModule, Variable}
+use Rattle.py_typed.specs.State.{look}
+use Rattle.py_typed.specs.Operations.{next_line}
 use Rattle.py_typed.proofs.ExpressionLemmas.{type_at}
 use Rattle.ir_core.specs.declared.code.RType.TheVariants as rtype
 use Rattle.ir_core.specs.declared.code.RType.{RType}
 use Rattle.ir_core.specs.declared.code.Reg.{Reg}
 use Rattle.ir_core.specs.declared.code.Lit.TheVariants.{Number}
 use Rattle.ir_core.specs.declared.code.Op.TheVariants.{Lit, Call as CallOp}
+use Rattle.ir_core.specs.Registers.{Holds}
 use Rattle.ir_core.specs.Building.{Building, Extends}
 use Rattle.ir_frames.specs.Settings.{Setting, rtype_of}
 use Rattle.ir_frames.specs.Placing.{HasType}
 use Rattle.ir_frames.specs.Calling.{Adds}
 use Rattle.ir_frames.specs.Matching.{HasRoom, parameter_sorts}
-use Rattle.ir_frames.specs.Computing.{Shows, Makes, Attempts, OfOne, HaveTypes}
+use Rattle.ir_frames.specs.Computing.{Shows, Computes, Makes, Attempts, OfOne, HaveTypes}
 use Rattle.ir_frames.specs.Shaped.{AllBelow, Keeps}
 use Rattle.ir_frames.specs.Kinds.{Surrounding, Calls, KeepsKindsIf}
 use Rattle.ir_frames.proofs.HeldLemmas.{get_below, type_below}
-use Rattle.ir_expressions.specs.Compiled.{is_scalar, is_bool, is_built, literal_in}
-use Rattle.ir_expressions.specs.Suiting.{IsScalarAt, Suits, OperandSuits, Operand, SomeSuit, SomeChain}
-use Rattle.ir_expressions.specs.Operating.{Negates, Inverts, Numbers, Asks, Operates, TestsValue, FitsIfLiteral, literal_of_truth}
+use Rattle.ir_operators.specs.Operating.{Acts}
+use Rattle.ir_expressions.specs.Compiled.{is_native, is_bool, literal_in}
+use Rattle.ir_expressions.specs.declared.applying.Unary.{Unary}
+use Rattle.ir_expressions.specs.declared.applying.Unary.TheVariants as unary
+use Rattle.ir_expressions.specs.declared.applying.Binary.{Binary}
+use Rattle.ir_expressions.specs.declared.applying.Binary.TheVariants as binary
+use Rattle.ir_expressions.specs.Parts.{is_simple}
+use Rattle.ir_expressions.specs.Applying.{UnarySuits, BinarySuits}
+use Rattle.ir_expressions.specs.declared.comparing.Side.{Side}
+use Rattle.ir_expressions.specs.Comparing.{kind_sort}
+use Rattle.ir_expressions.specs.Suiting.{IsSimpleAt, Suits, OperandSuits, Operand, SomeSuit, ComparisonsSuit}
+use Rattle.ir_expressions.specs.Operating.{Numbers, TestsValue, FitsIfLiteral, literal_of_truth}
 use Rattle.ir_expressions.specs.Reading.{EmitsLocal, EmitsGlobal}
-use Rattle.ir_expressions.specs.Emitting.{Emits, EmitsNumber, EmitsAll, EmitsAnyChain}
+use Rattle.ir_expressions.specs.Emitting.{means, Emits, EmitsOne, EmitsTwo, EmitsNumber, EmitsAll, EmitsSide, EmitsChain}
 use Rattle.ir_expressions.specs.Walking.{Walks}
 use Rattle.ir_expressions.specs.Choices.{Opens, Brings, Meets}
-use Rattle.ir_expressions.proofs.ArmLemmas.{asked, emits_as, is_bool as is_flag, is_local, is_global, is_neg, is_not, is_truth, is_arith, is_compare, is_and, is_or, is_cond, is_call, is_coerce}
-use Rattle.ir_expressions.proofs.NodeLemmas.{flag_emits, literal_emits, neg_emits, not_emits, truth_emits, arith_emits, i64_number, bool_number, coerce_emits, and_emits, or_emits, cond_emits, bool_sort, i64_sort}
+use Rattle.ir_expressions.proofs.ArmLemmas.{Is, asked, emits_as, is_int, is_text, is_input, is_concat, is_at, is_len, is_to_str, is_bool as is_flag, is_local, is_global, is_neg, is_not, is_truth, is_arith, is_compare, is_and, is_or, is_cond, is_call, is_coerce}
+use Rattle.ir_expressions.proofs.TestLemmas.{bool_sort, i64_sort}
+use Rattle.ir_expressions.proofs.FollowLemmas.{acts_computes}
+use Rattle.ir_expressions.proofs.PieceLemmas.{literal_is, int_emits, text_emits, item_emits}
+use Rattle.ir_expressions.proofs.NodeLemmas.{flag_emits, literal_emits, i64_number, bool_number, and_emits, or_emits, cond_emits}
 use Rattle.ir_expressions.proofs.ChainLemmas.{compare_emits}
 use Rattle.ir_expressions.proofs.CallLemmas.{call_emits}
 use Rattle.ir_expressions.proofs.ArgumentLemmas.{suit_types}
@@ -56,6 +71,20 @@ module _ (x : Setting) (e : TExpr) (suits : Suits x.source x.variables (typed_ex
   pub flag_walked : (value : Bool) (b c : Building) (r : ℕ) → e.kind ≡ kind.Bool value → Adds b c r rtype.Bool (Lit record { 0 = r } (literal_of_truth value)) → Emits x (typed_expr e) b c r
   flag_walked value b c r is a = emits_as x e (tree.Flag value) sort.Bool b c r (is_flag e value is) (asked x.source x.variables e (tree.Flag value) (is_flag e value is) suits) (flag_emits x value e.span b c r a)
 
+  pub int_within : (n : ℤ) → e.kind ≡ kind.Int n → lies_within 127 n ≡ true
+  int_within n is = (asked x.source x.variables e (tree.Int n) (is_int e n is) suits).1
+
+  pub int_walked : (n : ℤ) (b c : Building) (r : ℕ) → e.kind ≡ kind.Int n → Makes b c r rtype.Int (λ regs h. h ≡ Holds (IntVal n)) → Emits x (typed_expr e) b c r
+  int_walked n b c r is made =
+      let h = asked x.source x.variables e (tree.Int n) (is_int e n is) suits in
+      emits_as x e (tree.Int n) sort.Int b c r (is_int e n is) h.0 (int_emits x n e.span b c r h.1 made)
+
+  pub text_walked : (text : List ℕ) (b c : Building) (r : ℕ) → e.kind ≡ kind.Str text → Makes b c r rtype.Ref (λ regs h. h ≡ Holds (StrVal text)) → Emits x (typed_expr e) b c r
+  text_walked text b c r is made = emits_as x e (tree.Str text) sort.Str b c r (is_text e text is) (asked x.source x.variables e (tree.Str text) (is_text e text is) suits) (text_emits x text e.span b c r made)
+
+  pub input_walked : (b c : Building) (r : ℕ) → e.kind ≡ kind.Input → HasRoom x b → Attempts (Shows sort.Str) b c r rtype.Ref (Acts (look (λ s. s.items) next_line)) → Emits x (typed_expr e) b c r
+  input_walked b c r is room a = emits_as x e tree.Input sort.Str b c r (is_input e is) (asked x.source x.variables e tree.Input (is_input e is) suits) (acts_computes x (Shows sort.Str) rtype.Ref (look (λ s. s.items) next_line) b c r room a)
+
   pub local_below : (i : ℕ) → e.kind ≡ kind.Local i → i < length x.variables
   local_below i is =
       let n = asked x.source x.variables e (tree.Local i) (is_local e i is) suits in
@@ -66,75 +95,126 @@ module _ (x : Setting) (e : TExpr) (suits : Suits x.source x.variables (typed_ex
       let n = asked x.source x.variables e (tree.Local i) (is_local e i is) suits in
       subst (λ z. Emits x (typed_expr e) b c z) (sym own) (emits_as x e (tree.Local i) (sort_of e.ty) b c i (is_local e i is) refl (q x.source (sort_of e.ty) e.span n))
 
-  pub global_scalar : (i : ℕ) → e.kind ≡ kind.Global i → IsScalarAt x.source.globals i
-  global_scalar i is =
+  pub global_simple : (i : ℕ) → e.kind ≡ kind.Global i → IsSimpleAt x.source.globals i
+  global_simple i is =
       let n = asked x.source x.variables e (tree.Global i) (is_global e i is) suits in
-      (n.1, n.2, subst (λ t. is_scalar t ≡ true) (sym n.3) n.0)
+      (n.1, n.2, subst (λ t. is_simple t ≡ true) (sym n.3) n.0)
 
   pub global_walked : (i : ℕ) (b c : Building) (r : ℕ) → e.kind ≡ kind.Global i → HasRoom x b → EmitsGlobal x.source i b c r → Emits x (typed_expr e) b c r
   global_walked i b c r is room q =
       let n = asked x.source x.variables e (tree.Global i) (is_global e i is) suits in
       emits_as x e (tree.Global i) (sort_of e.ty) b c r (is_global e i is) refl (q x.variables x.frame (sort_of e.ty) e.span room n)
 
-  -- ---- operators
+  -- ---- operations on parts
 
-  module _ (a : Part) (b0 b1 b2 : Building) (q r : ℕ) where
-    pub neg_type : e.kind ≡ kind.Neg a → Emits x (typed_expr a.value) b0 b1 q → HasType b1 q rtype.I64
-    neg_type is c = emits_type x (typed_expr a.value) sort.I64 b0 b1 q (asked x.source x.variables e (tree.Neg (typed_expr a.value)) (is_neg e a is) suits).1 c
+  one_part : (op : Unary) (a p : TExpr) → p ≡ a → UnarySuits op (sort_of e.ty) (type_of (typed_expr a)) × Suits x.source x.variables (typed_expr a) → UnarySuits op (sort_of e.ty) (sort_of p.ty) × Suits x.source x.variables (typed_expr p)
+  one_part op a p is h =
+      let P : TExpr → Type 0 = λ z. UnarySuits op (sort_of e.ty) (sort_of z.ty) × Suits x.source x.variables (typed_expr z) in
+      subst P (sym is) (subst (λ s. UnarySuits op (sort_of e.ty) s) (type_at a) h.0, h.1)
 
-    pub neg_walked : e.kind ≡ kind.Neg a → HasRoom x b0 → Emits x (typed_expr a.value) b0 b1 q → Makes b1 b2 r rtype.I64 (OfOne q Negates) → Emits x (typed_expr e) b0 b2 r
-    neg_walked is room c made =
-        let n = asked x.source x.variables e (tree.Neg (typed_expr a.value)) (is_neg e a is) suits in
-        emits_as x e (tree.Neg (typed_expr a.value)) sort.I64 b0 b2 r (is_neg e a is) n.0 (neg_emits x (typed_expr a.value) e.span b0 b1 b2 q r n.1 room c made)
+  one_walked : (op : Unary) (n : TypedNode) (a p : TExpr) (b c : Building) (r : ℕ) → Is e n → p ≡ a → (EmitsOne x op (sort_of e.ty) (typed_expr a) b c r → Emits x (typed n (sort_of e.ty) e.span) b c r) → EmitsOne x op (sort_of e.ty) (typed_expr p) b c r → Emits x (typed_expr e) b c r
+  one_walked op n a p b c r is same f q =
+      let P : TExpr → Type 0 = λ z. EmitsOne x op (sort_of e.ty) (typed_expr z) b c r in
+      emits_as x e n (sort_of e.ty) b c r is refl (f (subst P same q))
 
-    pub not_type : e.kind ≡ kind.Not a → Emits x (typed_expr a.value) b0 b1 q → HasType b1 q rtype.Bool
-    not_type is c = emits_type x (typed_expr a.value) sort.Bool b0 b1 q (asked x.source x.variables e (tree.Not (typed_expr a.value)) (is_not e a is) suits).1 c
+  two_parts : (op : Binary) (a b p q : TExpr) → p ≡ a → q ≡ b → BinarySuits op (sort_of e.ty) (type_of (typed_expr a)) (type_of (typed_expr b)) × Suits x.source x.variables (typed_expr a) × Suits x.source x.variables (typed_expr b) → BinarySuits op (sort_of e.ty) (sort_of p.ty) (sort_of q.ty) × Suits x.source x.variables (typed_expr p) × Suits x.source x.variables (typed_expr q)
+  two_parts op a b p q is is' h =
+      let P : TExpr → Type 0 = λ z. BinarySuits op (sort_of e.ty) (sort_of z.ty) (sort_of b.ty) × Suits x.source x.variables (typed_expr z) × Suits x.source x.variables (typed_expr b) in
+      let Q : TExpr → Type 0 = λ z. BinarySuits op (sort_of e.ty) (sort_of p.ty) (sort_of z.ty) × Suits x.source x.variables (typed_expr p) × Suits x.source x.variables (typed_expr z) in
+      let left : BinarySuits op (sort_of e.ty) (sort_of a.ty) (type_of (typed_expr b)) = subst (λ s. BinarySuits op (sort_of e.ty) s (type_of (typed_expr b))) (type_at a) h.0 in
+      subst Q (sym is') (subst P (sym is) (subst (λ s. BinarySuits op (sort_of e.ty) (sort_of a.ty) s) (type_at b) left, h.1, h.2))
 
-    pub not_walked : e.kind ≡ kind.Not a → HasRoom x b0 → Emits x (typed_expr a.value) b0 b1 q → Makes b1 b2 r rtype.Bool (OfOne q Inverts) → Emits x (typed_expr e) b0 b2 r
-    not_walked is room c made =
-        let n = asked x.source x.variables e (tree.Not (typed_expr a.value)) (is_not e a is) suits in
-        emits_as x e (tree.Not (typed_expr a.value)) sort.Bool b0 b2 r (is_not e a is) n.0 (not_emits x (typed_expr a.value) e.span b0 b1 b2 q r n.1 room c made)
+  two_walked : (op : Binary) (n : TypedNode) (a b p q : TExpr) (b0 b1 : Building) (r : ℕ) → Is e n → p ≡ a → q ≡ b → (EmitsTwo x op (sort_of e.ty) (typed_expr a) (typed_expr b) b0 b1 r → Emits x (typed n (sort_of e.ty) e.span) b0 b1 r) → EmitsTwo x op (sort_of e.ty) (typed_expr p) (typed_expr q) b0 b1 r → Emits x (typed_expr e) b0 b1 r
+  two_walked op n a b p q b0 b1 r is same same' f c =
+      let P : TExpr → Type 0 = λ z. EmitsTwo x op (sort_of e.ty) (typed_expr z) (typed_expr q) b0 b1 r in
+      let Q : TExpr → Type 0 = λ z. EmitsTwo x op (sort_of e.ty) (typed_expr a) (typed_expr z) b0 b1 r in
+      emits_as x e n (sort_of e.ty) b0 b1 r is refl (f (subst Q same' (subst P same c)))
 
-    pub truth_type : e.kind ≡ kind.Truth a → Emits x (typed_expr a.value) b0 b1 q → HasType b1 q rtype.I64
-    truth_type is c = emits_type x (typed_expr a.value) sort.I64 b0 b1 q (asked x.source x.variables e (tree.Truth (typed_expr a.value)) (is_truth e a is) suits).1 c
+  pub neg_part : (a : Part) (p : TExpr) → e.kind ≡ kind.Neg a → p ≡ a.value → UnarySuits unary.Negated (sort_of e.ty) (sort_of p.ty) × Suits x.source x.variables (typed_expr p)
+  neg_part a p is same = one_part unary.Negated a.value p same (asked x.source x.variables e (tree.Neg (typed_expr a.value)) (is_neg e a is) suits)
 
-    pub truth_walked : e.kind ≡ kind.Truth a → HasRoom x b0 → Emits x (typed_expr a.value) b0 b1 q → Makes b1 b2 r rtype.Bool (OfOne q Asks) → Emits x (typed_expr e) b0 b2 r
-    truth_walked is room c made =
-        let n = asked x.source x.variables e (tree.Truth (typed_expr a.value)) (is_truth e a is) suits in
-        emits_as x e (tree.Truth (typed_expr a.value)) sort.Bool b0 b2 r (is_truth e a is) n.0 (truth_emits x (typed_expr a.value) e.span b0 b1 b2 q r n.1 room c made)
+  pub neg_walked : (a : Part) (p : TExpr) (b c : Building) (r : ℕ) → e.kind ≡ kind.Neg a → p ≡ a.value → EmitsOne x unary.Negated (sort_of e.ty) (typed_expr p) b c r → Emits x (typed_expr e) b c r
+  neg_walked a p b c r is same q = one_walked unary.Negated (tree.Neg (typed_expr a.value)) a.value p b c r (is_neg e a is) same (λ z. z) q
 
-  pub coerce_walked : (a : Part) (b c : Building) (r : ℕ) → e.kind ≡ kind.Coerce a → EmitsNumber x (typed_expr a.value) b c r → Emits x (typed_expr e) b c r
-  coerce_walked a b c r is q =
-      let n = asked x.source x.variables e (tree.Coerce (typed_expr a.value)) (is_coerce e a is) suits in
-      emits_as x e (tree.Coerce (typed_expr a.value)) sort.I64 b c r (is_coerce e a is) n.0 (coerce_emits x (typed_expr a.value) e.span b c r q)
+  pub not_part : (a : Part) (p : TExpr) → e.kind ≡ kind.Not a → p ≡ a.value → UnarySuits unary.Inverted (sort_of e.ty) (sort_of p.ty) × Suits x.source x.variables (typed_expr p)
+  not_part a p is same = one_part unary.Inverted a.value p same (asked x.source x.variables e (tree.Not (typed_expr a.value)) (is_not e a is) suits)
 
-  pub arith_built : (op : BinOp) (a b : Part) → e.kind ≡ kind.Arith op a b → is_built op ≡ true
-  arith_built op a b is = (asked x.source x.variables e (tree.Arith op (typed_expr a.value) (typed_expr b.value)) (is_arith e op a b is) suits).1
+  pub not_walked : (a : Part) (p : TExpr) (b c : Building) (r : ℕ) → e.kind ≡ kind.Not a → p ≡ a.value → EmitsOne x unary.Inverted (sort_of e.ty) (typed_expr p) b c r → Emits x (typed_expr e) b c r
+  not_walked a p b c r is same q = one_walked unary.Inverted (tree.Not (typed_expr a.value)) a.value p b c r (is_not e a is) same (λ z. z) q
 
-  pub arith_walked : (op : BinOp) (a b : Part) (b0 b1 b2 b3 : Building) (q q' r : ℕ) → e.kind ≡ kind.Arith op a b → HasRoom x b0 → EmitsNumber x (typed_expr a.value) b0 b1 q → EmitsNumber x (typed_expr b.value) b1 b2 q' → Attempts (Shows sort.I64) b2 b3 r rtype.I64 (Operates op q q') → Emits x (typed_expr e) b0 b3 r
-  arith_walked op a b b0 b1 b2 b3 q q' r is room c d made =
-      let n = asked x.source x.variables e (tree.Arith op (typed_expr a.value) (typed_expr b.value)) (is_arith e op a b is) suits in
-      emits_as x e (tree.Arith op (typed_expr a.value) (typed_expr b.value)) sort.I64 b0 b3 r (is_arith e op a b is) n.0 (arith_emits x op (typed_expr a.value) (typed_expr b.value) e.span b0 b1 b2 b3 q q' r room c d made)
+  pub truth_part : (a : Part) (p : TExpr) → e.kind ≡ kind.Truth a → p ≡ a.value → UnarySuits unary.Tested (sort_of e.ty) (sort_of p.ty) × Suits x.source x.variables (typed_expr p)
+  truth_part a p is same = one_part unary.Tested a.value p same (asked x.source x.variables e (tree.Truth (typed_expr a.value)) (is_truth e a is) suits)
+
+  pub truth_walked : (a : Part) (p : TExpr) (b c : Building) (r : ℕ) → e.kind ≡ kind.Truth a → p ≡ a.value → EmitsOne x unary.Tested (sort_of e.ty) (typed_expr p) b c r → Emits x (typed_expr e) b c r
+  truth_walked a p b c r is same q = one_walked unary.Tested (tree.Truth (typed_expr a.value)) a.value p b c r (is_truth e a is) same (λ z. z) q
+
+  pub len_part : (a : Part) (p : TExpr) → e.kind ≡ kind.Len a → p ≡ a.value → UnarySuits unary.Counted (sort_of e.ty) (sort_of p.ty) × Suits x.source x.variables (typed_expr p)
+  len_part a p is same = one_part unary.Counted a.value p same (asked x.source x.variables e (tree.Len (typed_expr a.value)) (is_len e a is) suits)
+
+  pub len_walked : (a : Part) (p : TExpr) (b c : Building) (r : ℕ) → e.kind ≡ kind.Len a → p ≡ a.value → EmitsOne x unary.Counted (sort_of e.ty) (typed_expr p) b c r → Emits x (typed_expr e) b c r
+  len_walked a p b c r is same q = one_walked unary.Counted (tree.Len (typed_expr a.value)) a.value p b c r (is_len e a is) same (λ z. z) q
+
+  pub to_str_part : (a : Part) (p : TExpr) → e.kind ≡ kind.ToStr a → p ≡ a.value → UnarySuits unary.Written (sort_of e.ty) (sort_of p.ty) × Suits x.source x.variables (typed_expr p)
+  to_str_part a p is same = one_part unary.Written a.value p same (asked x.source x.variables e (tree.ToStr (typed_expr a.value)) (is_to_str e a is) suits)
+
+  pub to_str_walked : (a : Part) (p : TExpr) (b c : Building) (r : ℕ) → e.kind ≡ kind.ToStr a → p ≡ a.value → EmitsOne x unary.Written (sort_of e.ty) (typed_expr p) b c r → Emits x (typed_expr e) b c r
+  to_str_walked a p b c r is same q = one_walked unary.Written (tree.ToStr (typed_expr a.value)) a.value p b c r (is_to_str e a is) same (λ z. z) q
+
+  pub coerce_part : (a : Part) (p : TExpr) → e.kind ≡ kind.Coerce a → p ≡ a.value → UnarySuits unary.Coerced (sort_of e.ty) (sort_of p.ty) × Suits x.source x.variables (typed_expr p)
+  coerce_part a p is same = one_part unary.Coerced a.value p same (asked x.source x.variables e (tree.Coerce (typed_expr a.value)) (is_coerce e a is) suits)
+
+  pub coerce_walked : (a : Part) (p : TExpr) (b c : Building) (r : ℕ) → e.kind ≡ kind.Coerce a → p ≡ a.value → EmitsOne x unary.Coerced (sort_of e.ty) (typed_expr p) b c r → Emits x (typed_expr e) b c r
+  coerce_walked a p b c r is same q = one_walked unary.Coerced (tree.Coerce (typed_expr a.value)) a.value p b c r (is_coerce e a is) same (λ z. z) q
+
+  pub arith_parts : (op : BinOp) (a b : Part) (p q : TExpr) → e.kind ≡ kind.Arith op a b → p ≡ a.value → q ≡ b.value → BinarySuits (binary.Arithmetic op) (sort_of e.ty) (sort_of p.ty) (sort_of q.ty) × Suits x.source x.variables (typed_expr p) × Suits x.source x.variables (typed_expr q)
+  arith_parts op a b p q is same same' = two_parts (binary.Arithmetic op) a.value b.value p q same same' (asked x.source x.variables e (tree.Arith op (typed_expr a.value) (typed_expr b.value)) (is_arith e op a b is) suits)
+
+  pub arith_walked : (op : BinOp) (a b : Part) (p q : TExpr) (b0 b1 : Building) (r : ℕ) → e.kind ≡ kind.Arith op a b → p ≡ a.value → q ≡ b.value → EmitsTwo x (binary.Arithmetic op) (sort_of e.ty) (typed_expr p) (typed_expr q) b0 b1 r → Emits x (typed_expr e) b0 b1 r
+  arith_walked op a b p q b0 b1 r is same same' c = two_walked (binary.Arithmetic op) (tree.Arith op (typed_expr a.value) (typed_expr b.value)) a.value b.value p q b0 b1 r (is_arith e op a b is) same same' (λ z. z) c
+
+  pub concat_parts : (a b : Part) (p q : TExpr) → e.kind ≡ kind.Concat a b → p ≡ a.value → q ≡ b.value → BinarySuits binary.Joined (sort_of e.ty) (sort_of p.ty) (sort_of q.ty) × Suits x.source x.variables (typed_expr p) × Suits x.source x.variables (typed_expr q)
+  concat_parts a b p q is same same' = two_parts binary.Joined a.value b.value p q same same' (asked x.source x.variables e (tree.Concat (typed_expr a.value) (typed_expr b.value)) (is_concat e a b is) suits)
+
+  pub concat_walked : (a b : Part) (p q : TExpr) (b0 b1 : Building) (r : ℕ) → e.kind ≡ kind.Concat a b → p ≡ a.value → q ≡ b.value → EmitsTwo x binary.Joined (sort_of e.ty) (typed_expr p) (typed_expr q) b0 b1 r → Emits x (typed_expr e) b0 b1 r
+  concat_walked a b p q b0 b1 r is same same' c = two_walked binary.Joined (tree.Concat (typed_expr a.value) (typed_expr b.value)) a.value b.value p q b0 b1 r (is_concat e a b is) same same' (λ z. z) c
+
+  pub at_parts : (a b : Part) (p q : TExpr) → e.kind ≡ kind.At a b → p ≡ a.value → q ≡ b.value → BinarySuits binary.Indexed (sort_of e.ty) (sort_of p.ty) (sort_of q.ty) × Suits x.source x.variables (typed_expr p) × Suits x.source x.variables (typed_expr q)
+  at_parts a b p q is same same' = two_parts binary.Indexed a.value b.value p q same same' (asked x.source x.variables e (tree.At (typed_expr a.value) (typed_expr b.value)) (is_at e a b is) suits)
+
+  pub at_walked : (a b : Part) (p q : TExpr) (b0 b1 : Building) (r : ℕ) → e.kind ≡ kind.At a b → p ≡ a.value → q ≡ b.value → EmitsTwo x binary.Indexed (sort_of e.ty) (typed_expr p) (typed_expr q) b0 b1 r → Emits x (typed_expr e) b0 b1 r
+  at_walked a b p q b0 b1 r is same same' c = two_walked binary.Indexed (tree.At (typed_expr a.value) (typed_expr b.value)) a.value b.value p q b0 b1 r (is_at e a b is) same same' (item_emits x (typed_expr a.value) (typed_expr b.value) (sort_of e.ty) e.span b0 b1 r (asked x.source x.variables e (tree.At (typed_expr a.value) (typed_expr b.value)) (is_at e a b is) suits).0.1) c
 
   -- ---- comparisons
 
-  pub compare_rest : (a : Part) (cs : List (CmpOp × TExpr)) → e.kind ≡ kind.Compare a cs → SomeChain x.source x.variables (comparisons_of (map typed_comparison cs))
-  compare_rest a cs is =
+  pub compare_part : (a : Part) (p : TExpr) (cs : List (CmpOp × TExpr)) → e.kind ≡ kind.Compare a cs → p ≡ a.value → (is_simple (sort_of p.ty) ≡ true) × Suits x.source x.variables (typed_expr p)
+  compare_part a p cs is same =
       let n = asked x.source x.variables e (tree.Compare (typed_expr a.value) (comparisons_of (map typed_comparison cs))) (is_compare e a cs is) suits in
-      (type_of (typed_expr a.value), n.2)
+      let P : TExpr → Type 0 = λ z. (is_simple (sort_of z.ty) ≡ true) × Suits x.source x.variables (typed_expr z) in
+      subst P (sym same) (subst (λ t. is_simple t ≡ true) (type_at a.value) n.1, n.2)
 
-  pub compare_walked : (a : Part) (cs : List (CmpOp × TExpr)) (b0 b1 b2 : Building) (q r : ℕ) → e.kind ≡ kind.Compare a cs → HasRoom x b0 → EmitsNumber x (typed_expr a.value) b0 b1 q → EmitsAnyChain x q (comparisons_of (map typed_comparison cs)) b1 b2 r → Emits x (typed_expr e) b0 b2 r
-  compare_walked a cs b0 b1 b2 q r is room c chain =
+  -- the operand has the type of the part
+  side_type : (a : Part) (p : TExpr) (q : Side) (b c : Building) → p ≡ a.value → EmitsSide x (typed_expr p) q b c → kind_sort q.own ≡ type_of (typed_expr a.value)
+  side_type a p q b c same side = side.own ∙ ap (λ (z : TExpr). type_of (typed_expr z)) same
+
+  pub compare_rest : (a : Part) (p : TExpr) (cs : List (CmpOp × TExpr)) (q : Side) (b c : Building) → e.kind ≡ kind.Compare a cs → p ≡ a.value → EmitsSide x (typed_expr p) q b c → ComparisonsSuit x.source x.variables (kind_sort q.own) (comparisons_of (map typed_comparison cs))
+  compare_rest a p cs q b c is same side =
       let n = asked x.source x.variables e (tree.Compare (typed_expr a.value) (comparisons_of (map typed_comparison cs))) (is_compare e a cs is) suits in
-      emits_as x e (tree.Compare (typed_expr a.value) (comparisons_of (map typed_comparison cs))) sort.Bool b0 b2 r (is_compare e a cs is) n.0 (compare_emits x (typed_expr a.value) (comparisons_of (map typed_comparison cs)) e.span b0 b1 b2 q r room c (chain (type_of (typed_expr a.value)) n.2))
+      subst (λ t. ComparisonsSuit x.source x.variables t (comparisons_of (map typed_comparison cs))) (sym (side_type a p q b c same side)) n.3
+
+  pub compare_walked : (a : Part) (p : TExpr) (cs : List (CmpOp × TExpr)) (b0 b1 b2 : Building) (q : Side) (r : ℕ) → e.kind ≡ kind.Compare a cs → p ≡ a.value → HasRoom x b0 → EmitsSide x (typed_expr p) q b0 b1 → EmitsChain x (kind_sort q.own) (kind_sort q.shown) q.reg.0 (comparisons_of (map typed_comparison cs)) b1 b2 r → Emits x (typed_expr e) b0 b2 r
+  compare_walked a p cs b0 b1 b2 q r is same room side chain =
+      let n = asked x.source x.variables e (tree.Compare (typed_expr a.value) (comparisons_of (map typed_comparison cs))) (is_compare e a cs is) suits in
+      let P : TExpr → Type 0 = λ z. Computes x (Shows (kind_sort q.shown)) (rtype_of (kind_sort q.shown)) (means x (typed_expr z)) b0 b1 q.reg.0 in
+      let Q : Sort → Type 0 = λ t. EmitsChain x t (kind_sort q.shown) q.reg.0 (comparisons_of (map typed_comparison cs)) b1 b2 r in
+      emits_as x e (tree.Compare (typed_expr a.value) (comparisons_of (map typed_comparison cs))) sort.Bool b0 b2 r (is_compare e a cs is) n.0 (compare_emits x (kind_sort q.shown) (typed_expr a.value) (comparisons_of (map typed_comparison cs)) e.span b0 b1 b2 q.reg.0 r room (subst P same side.emits) (subst Q (side_type a p q b0 b1 same side) chain))
 
   -- ---- choices
 
   module _ (a b : Part) where
-    pub and_scalar : e.kind ≡ kind.And a b → is_scalar (sort_of a.value.ty) ≡ true
-    and_scalar is =
+    pub and_simple : e.kind ≡ kind.And a b → is_simple (sort_of a.value.ty) ≡ true
+    and_simple is =
         let n = asked x.source x.variables e (tree.And (typed_expr a.value) (typed_expr b.value)) (is_and e a b is) suits in
-        subst (λ t. is_scalar t ≡ true) (sym n.1 ∙ type_at a.value) n.0
+        subst (λ t. is_simple t ≡ true) (sym n.1 ∙ type_at a.value) n.0
 
     pub and_same : e.kind ≡ kind.And a b → sort_of b.value.ty ≡ sort_of a.value.ty
     and_same is =
@@ -146,10 +226,10 @@ module _ (x : Setting) (e : TExpr) (suits : Suits x.source x.variables (typed_ex
         let n = asked x.source x.variables e (tree.And (typed_expr a.value) (typed_expr b.value)) (is_and e a b is) suits in
         emits_as x e (tree.And (typed_expr a.value) (typed_expr b.value)) (sort_of a.value.ty) b0 b1 r (is_and e a b is) (sym n.1 ∙ type_at a.value) c
 
-    pub or_scalar : e.kind ≡ kind.Or a b → is_scalar (sort_of a.value.ty) ≡ true
-    or_scalar is =
+    pub or_simple : e.kind ≡ kind.Or a b → is_simple (sort_of a.value.ty) ≡ true
+    or_simple is =
         let n = asked x.source x.variables e (tree.Or (typed_expr a.value) (typed_expr b.value)) (is_or e a b is) suits in
-        subst (λ t. is_scalar t ≡ true) (sym n.1 ∙ type_at a.value) n.0
+        subst (λ t. is_simple t ≡ true) (sym n.1 ∙ type_at a.value) n.0
 
     pub or_same : e.kind ≡ kind.Or a b → sort_of b.value.ty ≡ sort_of a.value.ty
     or_same is =
@@ -167,10 +247,10 @@ module _ (x : Setting) (e : TExpr) (suits : Suits x.source x.variables (typed_ex
         let n = asked x.source x.variables e (tree.Cond (typed_expr a.value) (typed_expr test.value) (typed_expr b.value)) (is_cond e a test b is) suits in
         sym (type_at b.value) ∙ n.3 ∙ sym n.1 ∙ type_at a.value
 
-    pub cond_scalar : e.kind ≡ kind.Cond a test b → is_scalar (sort_of a.value.ty) ≡ true
-    cond_scalar is =
+    pub cond_simple : e.kind ≡ kind.Cond a test b → is_simple (sort_of a.value.ty) ≡ true
+    cond_simple is =
         let n = asked x.source x.variables e (tree.Cond (typed_expr a.value) (typed_expr test.value) (typed_expr b.value)) (is_cond e a test b is) suits in
-        subst (λ t. is_scalar t ≡ true) (sym n.1 ∙ type_at a.value) n.0
+        subst (λ t. is_simple t ≡ true) (sym n.1 ∙ type_at a.value) n.0
 
     pub cond_flag : e.kind ≡ kind.Cond a test b → sort_of test.value.ty ≡ sort.Bool
     cond_flag is =
@@ -247,14 +327,14 @@ fits_by (Some n) t P h = h.1
 pub operand_fits : (m : TypedModule) (vs : List Variable) (e : TypedExpr) → Operand m vs e → FitsIfLiteral (literal_in e)
 operand_fits m vs e h = fits_by (literal_in e) (type_of e) (Suits m vs e) h
 
-pub operand_part : (m : TypedModule) (vs : List Variable) (e : TypedExpr) → literal_in e ≡ None → Operand m vs e → (is_scalar (type_of e) ≡ true) × Suits m vs e
+pub operand_part : (m : TypedModule) (vs : List Variable) (e : TypedExpr) → literal_in e ≡ None → Operand m vs e → (is_native (type_of e) ≡ true) × Suits m vs e
 operand_part m vs e is h = subst (λ o. OperandSuits o (type_of e) (Suits m vs e)) is h
 
 pub literal_within : (m : TypedModule) (vs : List Variable) (e : TypedExpr) (n : ℤ) → literal_in e ≡ Some n → Operand m vs e → lies_within 63 n ≡ true
 literal_within m vs e n is h = (subst (λ o. OperandSuits o (type_of e) (Suits m vs e)) is h).1
 
-pub operand_scalar : (m : TypedModule) (vs : List Variable) (e : TExpr) → literal_in (typed_expr e) ≡ None → Operand m vs (typed_expr e) → is_scalar (sort_of e.ty) ≡ true
-operand_scalar m vs e is h = subst (λ t. is_scalar t ≡ true) (type_at e) (operand_part m vs (typed_expr e) is h).0
+pub operand_scalar : (m : TypedModule) (vs : List Variable) (e : TExpr) → literal_in (typed_expr e) ≡ None → Operand m vs (typed_expr e) → is_native (sort_of e.ty) ≡ true
+operand_scalar m vs e is h = subst (λ t. is_native t ≡ true) (type_at e) (operand_part m vs (typed_expr e) is h).0
 
 pub flag_type : (x : Setting) (e : TExpr) (b c : Building) (r : ℕ) → is_bool (sort_of e.ty) ≡ true → Emits x (typed_expr e) b c r → HasType c r rtype.Bool
 flag_type x e b c r is q = emits_type x (typed_expr e) sort.Bool b c r (type_at e ∙ sym (bool_sort (sort_of e.ty) is)) q
@@ -262,13 +342,8 @@ flag_type x e b c r is q = emits_type x (typed_expr e) sort.Bool b c r (type_at 
 pub flag_number : (x : Setting) (e : TExpr) (b0 b1 b2 : Building) (q r : ℕ) → is_bool (sort_of e.ty) ≡ true → HasRoom x b0 → Emits x (typed_expr e) b0 b1 q → Makes b1 b2 r rtype.I64 (OfOne q Numbers) → EmitsNumber x (typed_expr e) b0 b2 r
 flag_number x e b0 b1 b2 q r is room c made = bool_number x (typed_expr e) b0 b1 b2 q r (type_at e ∙ sym (bool_sort (sort_of e.ty) is)) room c made
 
-pub own_number : (x : Setting) (e : TExpr) (b c : Building) (r : ℕ) → is_scalar (sort_of e.ty) ≡ true → is_bool (sort_of e.ty) ≡ false → Emits x (typed_expr e) b c r → EmitsNumber x (typed_expr e) b c r
+pub own_number : (x : Setting) (e : TExpr) (b c : Building) (r : ℕ) → is_native (sort_of e.ty) ≡ true → is_bool (sort_of e.ty) ≡ false → Emits x (typed_expr e) b c r → EmitsNumber x (typed_expr e) b c r
 own_number x e b c r scalar is q = i64_number x (typed_expr e) b c r (type_at e ∙ sym (i64_sort (sort_of e.ty) scalar is)) q
-
--- a literal is a number as it stands in the text
-literal_is : (k : tree.TypedNode) (t : Sort) (place : Span) (n : ℤ) → literal_in (typed k t place) ≡ Some n → typed (tree.Int n) t place ≡ typed k t place
-literal_is (tree.Int m) t place n e = let f : Some m ≡ Some n = e in ap (λ z. typed (tree.Int z) t place) (cc (sym f))
-literal_is _ t place n e = absurd (cc)
 
 pub literal_walked : (x : Setting) (e : TypedExpr) (n : ℤ) (b c : Building) (r : ℕ) → literal_in e ≡ Some n → Operand x.source x.variables e → Adds b c r rtype.I64 (Lit record { 0 = r } (Number n)) → EmitsNumber x e b c r
 literal_walked x (typed k t place) n b c r is h a =
@@ -290,20 +365,11 @@ part_type x e s t b c r is at q =
 
 -- ---- the same part under two names
 
-pub emits_same : (x : Setting) (a e : TExpr) (b c : Building) (r : ℕ) → a ≡ e → Emits x (typed_expr a) b c r → Emits x (typed_expr e) b c r
-emits_same x a e b c r is q = let P : TExpr → Type 0 = λ z. Emits x (typed_expr z) b c r in subst P is q
-
-pub number_same : (x : Setting) (a e : TExpr) (b c : Building) (r : ℕ) → a ≡ e → EmitsNumber x (typed_expr a) b c r → EmitsNumber x (typed_expr e) b c r
-number_same x a e b c r is q = let P : TExpr → Type 0 = λ z. EmitsNumber x (typed_expr z) b c r in subst P is q
-
 pub suits_same : (m : TypedModule) (vs : List Variable) (a e : TExpr) → a ≡ e → Suits m vs (typed_expr e) → Suits m vs (typed_expr a)
 suits_same m vs a e is h = let P : TExpr → Type 0 = λ z. Suits m vs (typed_expr z) in subst P (sym is) h
 
-pub operand_same : (m : TypedModule) (vs : List Variable) (a e : TExpr) → a ≡ e → Operand m vs (typed_expr e) → Operand m vs (typed_expr a)
-operand_same m vs a e is h = let P : TExpr → Type 0 = λ z. Operand m vs (typed_expr z) in subst P (sym is) h
-
-pub scalar_same : (a e : TExpr) → a ≡ e → is_scalar (sort_of e.ty) ≡ true → is_scalar (sort_of a.ty) ≡ true
-scalar_same a e is h = let P : TExpr → Type 0 = λ z. is_scalar (sort_of z.ty) ≡ true in subst P (sym is) h
+pub simple_same : (a e : TExpr) → a ≡ e → is_simple (sort_of e.ty) ≡ true → is_simple (sort_of a.ty) ≡ true
+simple_same a e is h = let P : TExpr → Type 0 = λ z. is_simple (sort_of z.ty) ≡ true in subst P (sym is) h
 
 pub sort_same : (a e : TExpr) (t : Sort) → a ≡ e → sort_of e.ty ≡ t → sort_of a.ty ≡ t
 sort_same a e t is h = ap (λ (z : TExpr). sort_of z.ty) is ∙ h

@@ -1,8 +1,7 @@
 -- What keeps the function around code that is added: one piece behind another, choices, literals and calls.
-use Rattle.std.proofs.Common.{◌≡◌, refl, ◌∙◌, ap, ℕ, ◌≤◌, arith, Bool, true, List, [], ◌∷◌, length, map, Some}
+use Rattle.std.proofs.Common.{◌≡◌, refl, ℕ, ◌≤◌, arith, Bool, true, List, [], ◌∷◌, length, map, Some}
 use Rattle.std.specs.Prelude.{ℤ, slice_get}
 use Rattle.value_core.specs.Arithmetic.{lies_within}
-use Rattle.py_typed.specs.Sorts as sort
 use Rattle.py_typed.specs.Sorts.{Sort}
 use Rattle.py_typed.specs.Statements.{TypedFunc, TypedModule}
 use Rattle.ir_core.specs.declared.code.RType.{RType}
@@ -16,9 +15,8 @@ use Rattle.ir_frames.specs.Placing.{HasType}
 use Rattle.ir_frames.specs.Matching.{parameter_sorts}
 use Rattle.ir_frames.specs.Shaped.{Keeps}
 use Rattle.ir_frames.specs.Computing.{HaveTypes}
-use Rattle.ir_frames.specs.Kinds.{Surrounding, is_plain, ArePlain, IsOf, Take, AreAlike, Calls, LiteralFits, head_of, IsAmong, KeepsKinds, KeepsKindsIf}
+use Rattle.ir_frames.specs.Kinds.{Surrounding, IsOf, Take, AreAlike, Calls, LiteralFits, head_of, IsAmong, KeepsKinds, KeepsKindsIf}
 use Rattle.ir_frames.proofs.HeldLemmas.{extends_refl, extends_trans, type_kept}
-use Rattle.ir_expressions.specs.Compiled.{is_scalar}
 use Rattle.ir_expressions.specs.Operating.{literal_of_truth}
 use Rattle.ir_expressions.specs.Choices.{Opens, Meets}
 use Rattle.ir_expressions.specs.Walking.{Walks}
@@ -62,29 +60,21 @@ module _ (m : TypedModule) where
 
 -- ---- choices
 
-pub scalar_plain : (t : Sort) → is_scalar t ≡ true → is_plain (rtype_of t) ≡ true
-scalar_plain sort.I64 e = refl
-scalar_plain sort.Bool e = refl
-scalar_plain _ e = absurd (cc)
-
-pub plain_type : (t : RType) (s : Sort) → t ≡ rtype_of s → is_scalar s ≡ true → is_plain t ≡ true
-plain_type t s e h = ap is_plain e ∙ scalar_plain s h
-
-pub alike : (b c d : Building) (t : RType) (target r : Reg) → is_plain t ≡ true → HasType b target.0 t → Extends b d → HasType c r.0 t → Extends c d → AreAlike d.regs target r
-alike b c d t target r plain has x gives y = (t, plain, type_kept b d target.0 t x has, type_kept c d r.0 t y gives)
+pub alike : (b c d : Building) (t : RType) (target r : Reg) → HasType b target.0 t → Extends b d → HasType c r.0 t → Extends c d → AreAlike d.regs target r
+alike b c d t target r has x gives y = (t, type_kept b d target.0 t x has, type_kept c d r.0 t y gives)
 
 -- the first value is brought
-pub turned : (m : TypedModule) (t : RType) (b0 b2 b3 b4 b5 : Building) (target r : Reg) (test first : ℕ) → is_plain t ≡ true → Walks m b0 b4 → Opens b2 b3 target.0 test first t → Extends b3 b4 → HasType b4 r.0 t → Extends b4 b5 → Keeps b4 b5 → KeepsKindsIf (λ g. AreAlike b4.regs target r) b4 b5 → Walks m b0 b5
-turned m t b0 b2 b3 b4 b5 target r test first plain w opens x34 type x45 s k =
-    walks_trans m b0 b4 b5 w (walks_known m b4 b5 (λ g. AreAlike b4.regs target r) x45 s k (λ g among. alike b3 b4 b4 t target r plain opens.type x34 type (extends_refl b4)))
+pub turned : (m : TypedModule) (t : RType) (b0 b2 b3 b4 b5 : Building) (target r : Reg) (test first : ℕ) → Walks m b0 b4 → Opens b2 b3 target.0 test first t → Extends b3 b4 → HasType b4 r.0 t → Extends b4 b5 → Keeps b4 b5 → KeepsKindsIf (λ g. AreAlike b4.regs target r) b4 b5 → Walks m b0 b5
+turned m t b0 b2 b3 b4 b5 target r test first w opens x34 type x45 s k =
+    walks_trans m b0 b4 b5 w (walks_known m b4 b5 (λ g. AreAlike b4.regs target r) x45 s k (λ g among. alike b3 b4 b4 t target r opens.type x34 type (extends_refl b4)))
 
 pub meets_grow : (b c : Building) (target r condition test first end second : ℕ) → Meets b c target r condition test first end second → length b.blocks ≤ length c.blocks
 meets_grow b c target r condition test first end second m = let z = m.blocks in omega arith
 
 -- both values meet
-pub met : (m : TypedModule) (t : RType) (b0 b2 b3 b7 b8 : Building) (target r condition : Reg) (test first : ℕ) → is_plain t ≡ true → Walks m b0 b7 → Opens b2 b3 target.0 test first t → Extends b3 b7 → HasType b7 r.0 t → HasType b7 condition.0 rtype.Bool → Extends b0 b8 → length b7.blocks ≤ length b8.blocks → Keeps b7 b8 → KeepsKindsIf (λ g. AreAlike b7.regs target r × IsOf b7.regs condition rtype.Bool) b7 b8 → Walks m b0 b8
-met m t b0 b2 b3 b7 b8 target r condition test first plain w opens x37 type flag x08 grown s k =
-    walks_met m b0 b7 b8 (λ g. AreAlike b7.regs target r × IsOf b7.regs condition rtype.Bool) w x08 grown s k (λ g. (alike b3 b7 b7 t target r plain opens.type x37 type (extends_refl b7), flag))
+pub met : (m : TypedModule) (t : RType) (b0 b2 b3 b7 b8 : Building) (target r condition : Reg) (test first : ℕ) → Walks m b0 b7 → Opens b2 b3 target.0 test first t → Extends b3 b7 → HasType b7 r.0 t → HasType b7 condition.0 rtype.Bool → Extends b0 b8 → length b7.blocks ≤ length b8.blocks → Keeps b7 b8 → KeepsKindsIf (λ g. AreAlike b7.regs target r × IsOf b7.regs condition rtype.Bool) b7 b8 → Walks m b0 b8
+met m t b0 b2 b3 b7 b8 target r condition test first w opens x37 type flag x08 grown s k =
+    walks_met m b0 b7 b8 (λ g. AreAlike b7.regs target r × IsOf b7.regs condition rtype.Bool) w x08 grown s k (λ g. (alike b3 b7 b7 t target r opens.type x37 type (extends_refl b7), flag))
 
 -- ---- literals
 
@@ -97,13 +87,13 @@ number_fits n e = (refl, e)
 
 -- ---- calls
 
-take_types : (declared : Declared) (ts : List Sort) (rs : List Reg) → ArePlain (map rtype_of ts) → HaveTypes declared ts rs → Take declared (map rtype_of ts) rs
-take_types declared [] [] p h = tt
-take_types declared [] (r ∷ rs) p h = absurd h
-take_types declared (t ∷ ts) [] p h = absurd h
-take_types declared (t ∷ ts) (r ∷ rs) p h = (h.0, p.0, take_types declared ts rs p.1 h.1)
+take_types : (declared : Declared) (ts : List Sort) (rs : List Reg) → HaveTypes declared ts rs → Take declared (map rtype_of ts) rs
+take_types declared [] [] h = tt
+take_types declared [] (r ∷ rs) h = absurd h
+take_types declared (t ∷ ts) [] h = absurd h
+take_types declared (t ∷ ts) (r ∷ rs) h = (h.0, take_types declared ts rs h.1)
 
 pub calls_known : (m : TypedModule) (n : ℕ) (f : TypedFunc) (b : Building) (rs : List Reg) → slice_get m.funcs n ≡ Some f → HaveTypes b.regs (parameter_sorts f) rs → (g : Surrounding) → IsAmong m g → Calls g (rtype_of f.ret) b.regs n rs
 calls_known m n f b rs is types g among =
     let head = among.heads n f is in
-    (head_of f, head, refl, take_types b.regs (parameter_sorts f) rs (among.plain n (head_of f) head) types)
+    (head_of f, head, refl, take_types b.regs (parameter_sorts f) rs types)

@@ -7,8 +7,8 @@ use Rattle.py_syntax.specs.declared.expression.BinOp.{BinOp}
 use Rattle.py_syntax.specs.declared.expression.CmpOp.{CmpOp}
 use Rattle.py_typed.specs.declared.expression.TExpr.{TExpr}
 use Rattle.py_typed.specs.declared.expression.TKind as kind
-use Rattle.py_typed.specs.Expressions.{TypedExpr, TypedNode, typed, Neg, Not, Truth, Arith, Compare, And, Or, Cond, Call, Coerce, TypedExprs, no_exprs, expr_then, Comparisons, no_comparisons, comparison_then, typed_expr, exprs_of, comparisons_of, typed_comparison}
-use Rattle.ir_expressions.proofs.ArmLemmas.{Is, is_neg, is_not, is_truth, is_arith, is_compare, is_and, is_or, is_cond, is_call, is_coerce}
+use Rattle.py_typed.specs.Expressions.{TypedExpr, TypedNode, typed, Neg, Not, Truth, Arith, Concat, Compare, And, Or, Cond, At, Call, Len, ToStr, Coerce, TypedExprs, no_exprs, expr_then, Comparisons, no_comparisons, comparison_then, typed_expr, exprs_of, comparisons_of, typed_comparison}
+use Rattle.ir_expressions.proofs.ArmLemmas.{Is, is_neg, is_not, is_truth, is_arith, is_compare, is_and, is_or, is_cond, is_call, is_coerce, is_concat, is_at, is_len, is_to_str}
 
 abbrev Part : Type 0
 Part = Box TExpr Global
@@ -22,6 +22,10 @@ abbrev mutual
   node_weight (Not e) = weight e + 1
   node_weight (Truth e) = weight e + 1
   node_weight (Coerce e) = weight e + 1
+  node_weight (Len e) = weight e + 1
+  node_weight (ToStr e) = weight e + 1
+  node_weight (Concat a b) = weight a + weight b + 1
+  node_weight (At a b) = weight a + weight b + 1
   node_weight (Arith op a b) = weight a + weight b + 1
   node_weight (Compare e more) = weight e + chain_weight more + 1
   node_weight (And a b) = weight a + weight b + 1
@@ -68,6 +72,18 @@ coerce_weight e a is = weight_as e (Coerce (typed_expr a.value)) (is_coerce e a 
 
 pub arith_weight : (e : TExpr) (op : BinOp) (a b : Part) → e.kind ≡ kind.Arith op a b → weight_of e ≡ weight_of a.value + weight_of b.value + 1
 arith_weight e op a b is = weight_as e (Arith op (typed_expr a.value) (typed_expr b.value)) (is_arith e op a b is)
+
+pub len_weight : (e : TExpr) (a : Part) → e.kind ≡ kind.Len a → weight_of e ≡ weight_of a.value + 1
+len_weight e a is = weight_as e (Len (typed_expr a.value)) (is_len e a is)
+
+pub to_str_weight : (e : TExpr) (a : Part) → e.kind ≡ kind.ToStr a → weight_of e ≡ weight_of a.value + 1
+to_str_weight e a is = weight_as e (ToStr (typed_expr a.value)) (is_to_str e a is)
+
+pub concat_weight : (e : TExpr) (a b : Part) → e.kind ≡ kind.Concat a b → weight_of e ≡ weight_of a.value + weight_of b.value + 1
+concat_weight e a b is = weight_as e (Concat (typed_expr a.value) (typed_expr b.value)) (is_concat e a b is)
+
+pub at_weight : (e : TExpr) (a b : Part) → e.kind ≡ kind.At a b → weight_of e ≡ weight_of a.value + weight_of b.value + 1
+at_weight e a b is = weight_as e (At (typed_expr a.value) (typed_expr b.value)) (is_at e a b is)
 
 pub compare_weight : (e : TExpr) (a : Part) (cs : List (CmpOp × TExpr)) → e.kind ≡ kind.Compare a cs → weight_of e ≡ weight_of a.value + weight_of_chain cs + 1
 compare_weight e a cs is = weight_as e (Compare (typed_expr a.value) (comparisons_of (map typed_comparison cs))) (is_compare e a cs is)

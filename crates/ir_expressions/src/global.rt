@@ -4,7 +4,7 @@ ghost use Rattle.py_typed.specs.Statements.{typed_module};
 ghost use Rattle.ir_core.specs.Building.{Extends};
 ghost use Rattle.ir_frames.specs.Shaped.{Keeps};
 ghost use Rattle.ir_frames.specs.Kinds.{IsAmong, KeepsKindsIf};
-ghost use Rattle.ir_expressions.specs.Suiting.{IsScalarAt};
+ghost use Rattle.ir_expressions.specs.Suiting.{IsScalarAt, IsSimpleAt};
 ghost use Rattle.ir_expressions.specs.Reading.{EmitsGlobal};
 
 use crate::operations::register_type;
@@ -17,14 +17,14 @@ use value_core::{Many, Memory};
 
 /// The register that has the value of a variable of the module (Python Language Reference, "Naming and binding"). Where the
 /// variable is unset the read fails.
-pub fn emit_global(
+pub fn emit_global_value(
     b: &mut Emitter,
     alloc: Global,
     checked: &Checked,
     i: usize,
     line: usize,
 ) -> Result<Reg, Memory>
-    requires scalar { IsScalarAt (typed_module checked.now).globals i }
+    requires simple { IsSimpleAt (typed_module checked.now).globals i }
     ensures kept { Extends b.old b.new }
     ensures emitted { IfOk result (λ r. EmitsGlobal (typed_module checked.now) i b.old b.new r.0) }
     ensures shaped { Keeps b.old b.new }
@@ -39,4 +39,21 @@ pub fn emit_global(
         args,
         line,
     )
+}
+
+/// The same.
+pub fn emit_global(
+    b: &mut Emitter,
+    alloc: Global,
+    checked: &Checked,
+    i: usize,
+    line: usize,
+) -> Result<Reg, Memory>
+    requires scalar { IsScalarAt (typed_module checked.now).globals i }
+    ensures kept { Extends b.old b.new }
+    ensures emitted { IfOk result (λ r. EmitsGlobal (typed_module checked.now) i b.old b.new r.0) }
+    ensures shaped { Keeps b.old b.new }
+    ensures kinds { KeepsKindsIf (IsAmong (typed_module checked.now)) b.old b.new }
+{
+    emit_global_value(b, alloc, checked, i, line)
 }

@@ -12,12 +12,14 @@ ghost use Rattle.ir_frames.specs.Kinds.{Answers, KeepsKinds, KeepsKindsIf};
 ghost use Rattle.py_typed.specs.Sorts.{sort, I64};
 ghost use Rattle.py_typed.specs.Expressions.{typed_expr};
 ghost use Rattle.ir_frames.specs.Settings.{rtype_of};
-ghost use Rattle.ir_expressions.specs.Compiled.{is_built, is_bool as is_bool_sort, is_ordering, is_scalar, literal_in};
+ghost use Rattle.ir_expressions.specs.Compiled.{is_built, is_bool as is_bool_sort, is_i64, is_int, is_ordering, literal_in};
+ghost use Rattle.ir_expressions.specs.Parts.{is_simple};
 ghost use Rattle.ir_expressions.specs.Operating.{Negates, Inverts, Numbers, Asks, Operates, Orders, Compares, primitive_of, test_primitive, is_swapped, is_unequal, literal_of_truth, FitsIfLiteral, TestsValue};
 
 use c_core::{BoolPrim, Int64Prim, Prim};
 use ir_core::{Lit, PArg, RType, Reg};
 use ir_frames::Emitter;
+use ir_operands::{emit_int_truth, emit_text_truth};
 use py_syntax::{BinOp, CmpOp};
 use py_typed::{TExpr, TKind, Ty};
 use std::alloc::Global;
@@ -269,9 +271,29 @@ pub fn is_bool(t: &Ty) -> bool
     }
 }
 
-/// The truth of a value of a type: of a bool itself, of a native integer whether it is other than 0.
+/// Whether values of a type are native integers.
+pub fn is_native(t: &Ty) -> bool
+    ensures { result ≡ is_i64 (sort t.now) }
+{
+    match t {
+        Ty::I64 => true,
+        _ => false,
+    }
+}
+
+// Whether they are numbers of 128 bits.
+fn is_wide(t: &Ty) -> bool
+    ensures { result ≡ is_int (sort t.now) }
+{
+    match t {
+        Ty::Int => true,
+        _ => false,
+    }
+}
+
+/// The truth of a value of a type: of a bool itself, of a number whether it is other than 0, of a text whether it is not empty.
 pub fn emit_test(b: &mut Emitter, alloc: Global, x: Reg, t: &Ty, line: usize) -> Result<Reg, Memory>
-    requires scalar { is_scalar (sort t.now) ≡ true }
+    requires simple { is_simple (sort t.now) ≡ true }
     requires value { HasType b.old x.0 (rtype_of (sort t.now)) }
     ensures kept { Extends b.old b.new }
     ensures tests { IfOk result (λ c. TestsValue b.old b.new x.0 c.0 (sort t.now)) }
@@ -280,8 +302,12 @@ pub fn emit_test(b: &mut Emitter, alloc: Global, x: Reg, t: &Ty, line: usize) ->
 {
     if is_bool(t) {
         Ok(x)
-    } else {
+    } else if is_native(t) {
         emit_truth(b, alloc, x, line)
+    } else if is_wide(t) {
+        emit_int_truth(b, alloc, x, line)
+    } else {
+        emit_text_truth(b, alloc, x, line)
     }
 }
 

@@ -70,12 +70,12 @@ at_place test i (y ∷ ys) zero n x is h e =
     subst (λ j. test j x ≡ true) (sym (omega arith)) (subst (λ z. test i z ≡ true) (same_Some y x e) (and_left (test i y) (all_at (suc i) test ys) h))
 at_place test i (y ∷ ys) (suc k) n x is h e = at_place test (suc i) ys k n x (omega arith) (and_right (test i y) (all_at (suc i) test ys) h) e
 
-is_form_of : (globals : List Variable) (definitions : List StmtTree) (n : ℕ) (fs : List TypedFunc) (k : ℕ) (f : TypedFunc) → functions_lines globals definitions n fs ≡ [] → slice_get fs k ≡ Some f → (is_function f ≡ true) × (suite_lines globals f.body ≡ [])
+is_form_of : (globals : List Variable) (definitions : List StmtTree) (n : ℕ) (fs : List TypedFunc) (k : ℕ) (f : TypedFunc) → functions_lines globals definitions n fs ≡ [] → slice_get fs k ≡ Some f → (is_function f ≡ true) × (suite_lines f.locals globals f.body ≡ [])
 is_form_of globals definitions n [] k f p e = absurd (cc)
 is_form_of globals definitions n (g ∷ more) zero f p e =
     let here : function_lines globals (slice_get definitions n) g ≡ [] = none_left (function_lines globals (slice_get definitions n) g) (functions_lines globals definitions (suc n) more) p in
-    subst (λ h. (is_function h ≡ true) × (suite_lines globals h.body ≡ [])) (same_Some g f e)
-    (form_of (is_function g) (definition_line (slice_get definitions n)) (suite_lines globals g.body) here, parts_of (is_function g) (definition_line (slice_get definitions n)) (suite_lines globals g.body) here)
+    subst (λ h. (is_function h ≡ true) × (suite_lines h.locals globals h.body ≡ [])) (same_Some g f e)
+    (form_of (is_function g) (definition_line (slice_get definitions n)) (suite_lines g.locals globals g.body) here, parts_of (is_function g) (definition_line (slice_get definitions n)) (suite_lines g.locals globals g.body) here)
 is_form_of globals definitions n (g ∷ more) (suc k) f p e =
     is_form_of globals definitions (suc n) more k f (none_right (function_lines globals (slice_get definitions n) g) (functions_lines globals definitions (suc n) more) p) e
 
@@ -98,7 +98,7 @@ module _ (m : TypedModule) where
   all_named definitions n [] p = refl
   all_named definitions n (f ∷ more) p =
       let here : function_lines m.globals (slice_get definitions n) f ≡ [] = none_left (function_lines m.globals (slice_get definitions n) f) (functions_lines m.globals definitions (suc n) more) p in
-      let own = named f (no_method f (form_of (is_function f) (definition_line (slice_get definitions n)) (suite_lines m.globals f.body) here)) in
+      let own = named f (no_method f (form_of (is_function f) (definition_line (slice_get definitions n)) (suite_lines f.locals m.globals f.body) here)) in
       ap (λ l. l ++ flat_map (own_name is_identifier m) more) own
       ∙ ap (λ l. f.name ∷ l) (all_named definitions (suc n) more (none_right (function_lines m.globals (slice_get definitions n) f) (functions_lines m.globals definitions (suc n) more) p))
 
@@ -141,7 +141,7 @@ module _ (m : TypedModule) where
     function_parts : (n : ℕ) (f : TypedFunc) → slice_get m.funcs n ≡ Some f → Parts n f
     function_parts n f is = parts n f (at_place (func_typed is_identifier m) 0 m.funcs n n f (omega arith) (and_right _ _ (and_left _ _ typed)) is)
 
-    formed : (n : ℕ) (f : TypedFunc) → slice_get m.funcs n ≡ Some f → (is_function f ≡ true) × (suite_lines m.globals f.body ≡ [])
+    formed : (n : ℕ) (f : TypedFunc) → slice_get m.funcs n ≡ Some f → (is_function f ≡ true) × (suite_lines f.locals m.globals f.body ≡ [])
     formed n f is = is_form_of m.globals (filter is_def (suite_definitions tree)) 0 m.funcs n f lines is
 
     all_signed : (vs : List Variable) (init : Option ℕ) → AllSigned m vs init
@@ -166,7 +166,7 @@ module _ (m : TypedModule) where
           ends = either_of (is_nothing f.ret) (is_closed f.body) p.ends;
         }
 
-    module_suits : suite_lines m.globals m.top ≡ [] → ModuleSuits m
+    module_suits : suite_lines [] m.globals m.top ≡ [] → ModuleSuits m
     module_suits top =
         let six = and_left _ _ typed in
         let two = and_left _ _ (and_left _ _ (and_left _ _ (and_left _ _ six))) in
@@ -189,5 +189,5 @@ module _ (m : TypedModule) where
 
 pub compiled_suits : CompiledSuits
 compiled_suits tree m typed none =
-    let all = no_line (suite_lines m.globals m.top ++ functions_lines m.globals (filter is_def (suite_definitions tree)) 0 m.funcs) none in
-    module_suits m tree typed (none_right (suite_lines m.globals m.top) (functions_lines m.globals (filter is_def (suite_definitions tree)) 0 m.funcs) all) (none_left (suite_lines m.globals m.top) (functions_lines m.globals (filter is_def (suite_definitions tree)) 0 m.funcs) all)
+    let all = no_line (suite_lines [] m.globals m.top ++ functions_lines m.globals (filter is_def (suite_definitions tree)) 0 m.funcs) none in
+    module_suits m tree typed (none_right (suite_lines [] m.globals m.top) (functions_lines m.globals (filter is_def (suite_definitions tree)) 0 m.funcs) all) (none_left (suite_lines [] m.globals m.top) (functions_lines m.globals (filter is_def (suite_definitions tree)) 0 m.funcs) all)

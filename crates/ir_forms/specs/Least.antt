@@ -1,23 +1,18 @@
 -- How the least line is found: along the tree, with the least line found so far. `LineLemmas` shows that it is the least of the
 -- lines that `Statements` lists.
-use Rattle.std.specs.Prelude.{ℕ, suc, ℤ, Bool, true, false, ◌&&◌, List, [], ◌∷◌, Option, Some, None, slice_get}
-use Rattle.value_core.specs.Arithmetic.{lies_within}
+use Rattle.std.specs.Prelude.{ℕ, suc, Bool, true, false, ◌&&◌, List, [], ◌∷◌, Option, Some, None, slice_get}
 use Rattle.py_syntax.specs.Statements.{StmtTree}
-use Rattle.py_typed.specs.Expressions.{TypedExpr, typed, TypedNode, Neg, Not, Truth, Arith, Compare, And, Or, Cond, Call, Print, Coerce, TypedExprs, no_exprs, expr_then, Comparisons, no_comparisons, comparison_then, type_of}
+use Rattle.py_typed.specs.Expressions.{TypedExpr, typed, TypedNode, Neg, Not, Truth, Arith, Concat, Compare, And, Or, Cond, At, Call, Print, Len, ToStr, Coerce, TypedExprs, no_exprs, expr_then, Comparisons, no_comparisons, comparison_then, type_of}
 use Rattle.py_typed.specs.Statements.{Variable, TypedFunc, TypedStmt, on_line, TypedAct, Do, Assign, Aug, If, While, Return, Break, Continue, Pass, TypedSuite, no_stmts, stmt_then, Arms, no_arms, arm_then}
 use Rattle.py_forms.specs.Later.{lesser}
-use Rattle.ir_expressions.specs.Compiled.{is_i64, is_scalar, is_built, literal_in}
+use Rattle.ir_expressions.specs.Compiled.{is_scalar, is_built}
 use Rattle.ir_forms.specs.Expressions.{line_at, is_form}
-use Rattle.ir_forms.specs.Statements.{is_printed, is_one, is_native_target, is_function, definition_line}
+use Rattle.ir_forms.specs.Statements.{is_one, is_updated, is_function, definition_line}
 
 -- one more line, unless what stands there is compiled; what is in it has led to `rest`
 abbrev pub noted : Bool → ℕ → Option ℕ → Option ℕ → Option ℕ
 noted true line found rest = rest
 noted false line found rest = Some (lesser line found)
-
-abbrev pub operand_least : Option ℤ → ℕ → Option ℕ → Option ℕ → Option ℕ
-operand_least (Some n) line found rest = noted (lies_within 63 n) line found found
-operand_least None line found rest = rest
 
 abbrev mutual
   pub expression_least : Option ℕ → TypedExpr → Option ℕ
@@ -27,14 +22,17 @@ abbrev mutual
   part_least found (Neg e) = expression_least found e
   part_least found (Not e) = expression_least found e
   part_least found (Truth e) = expression_least found e
-  part_least found (Arith op a b) =
-      operand_least (literal_in b) (line_at b) (operand_least (literal_in a) (line_at a) found (expression_least found a)) (expression_least (operand_least (literal_in a) (line_at a) found (expression_least found a)) b)
-  part_least found (Compare e more) = chain_least (operand_least (literal_in e) (line_at e) found (expression_least found e)) more
+  part_least found (Arith op a b) = expression_least (expression_least found a) b
+  part_least found (Concat a b) = expression_least (expression_least found a) b
+  part_least found (Compare e more) = chain_least (expression_least found e) more
   part_least found (And a b) = expression_least (expression_least found a) b
   part_least found (Or a b) = expression_least (expression_least found a) b
   part_least found (Cond a test b) = expression_least (expression_least (expression_least found a) test) b
+  part_least found (At a b) = expression_least (expression_least found a) b
   part_least found (Call f es) = row_least found es
-  part_least found (Coerce e) = operand_least (literal_in e) (line_at e) found (expression_least found e)
+  part_least found (Len e) = expression_least found e
+  part_least found (ToStr e) = expression_least found e
+  part_least found (Coerce e) = expression_least found e
   part_least found e = found
 
   pub row_least : Option ℕ → TypedExprs → Option ℕ
@@ -43,46 +41,26 @@ abbrev mutual
 
   pub chain_least : Option ℕ → Comparisons → Option ℕ
   chain_least found no_comparisons = found
-  chain_least found (comparison_then op e more) = chain_least (operand_least (literal_in e) (line_at e) found (expression_least found e)) more
+  chain_least found (comparison_then op e more) = chain_least (expression_least found e) more
 
--- an operand
-abbrev pub part_or_literal : Option ℕ → TypedExpr → Option ℕ
-part_or_literal found e = operand_least (literal_in e) (line_at e) found (expression_least found e)
-
--- a value on a line, which is a native integer or a bool
-abbrev pub scalar_least : Option ℕ → ℕ → TypedExpr → Option ℕ
-scalar_least found line e = noted (is_scalar (type_of e)) line found (expression_least found e)
-
-abbrev pub value_least : Option ℕ → ℕ → Option ℤ → TypedExpr → Option ℕ
-value_least found line (Some n) e = noted (is_printed n) line found found
-value_least found line None e = scalar_least found line e
-
--- a value that `print` writes
-abbrev pub printed_least : Option ℕ → ℕ → TypedExpr → Option ℕ
-printed_least found line e = value_least found line (literal_in e) e
-
-abbrev pub print_least : Option ℕ → ℕ → TypedExprs → Option ℕ
-print_least found line (expr_then e no_exprs) = printed_least found line e
-print_least found line es = Some (lesser line found)
-
-abbrev pub alone_least : Option ℕ → ℕ → TypedExpr → Option ℕ
-alone_least found line (typed (Print es) t place) = print_least found line es
-alone_least found line e = expression_least found e
+abbrev pub alone_least : Option ℕ → TypedExpr → Option ℕ
+alone_least found (typed (Print es) t place) = row_least found es
+alone_least found e = expression_least found e
 
 abbrev pub returned_least : Option ℕ → Option TypedExpr → Option ℕ
 returned_least found None = found
-returned_least found (Some e) = scalar_least found (line_at e) e
+returned_least found (Some e) = noted (is_scalar (type_of e)) (line_at e) found (expression_least found e)
 
--- in a module with these variables
-module _ (globals : List Variable) where
+-- in a function with these variables, of a module with these
+module _ (locals globals : List Variable) where
   abbrev mutual
     pub statement_least : Option ℕ → TypedStmt → Option ℕ
     statement_least found (on_line a line) = act_least found line a
 
     pub act_least : Option ℕ → ℕ → TypedAct → Option ℕ
-    act_least found line (Do e) = alone_least found line e
+    act_least found line (Do e) = alone_least found e
     act_least found line (Assign ts e) = noted (is_one ts && is_scalar (type_of e)) line found (expression_least found e)
-    act_least found line (Aug t op e s) = noted (is_native_target globals t && (is_i64 s && is_built op)) line found (part_or_literal found e)
+    act_least found line (Aug t op e s) = noted (is_updated locals globals t s && (is_scalar s && is_built op)) line found (expression_least found e)
     act_least found line (If arms other) = suite_least (arms_least found arms) other
     act_least found line (While test body) = suite_least (expression_least found test) body
     act_least found line (Return e) = returned_least found e
@@ -99,8 +77,9 @@ module _ (globals : List Variable) where
     arms_least found no_arms = found
     arms_least found (arm_then test body more) = arms_least (suite_least (expression_least found test) body) more
 
+module _ (globals : List Variable) where
   abbrev pub function_least : Option ℕ → Option StmtTree → TypedFunc → Option ℕ
-  function_least found definition f = noted (is_function f) (definition_line definition) found (suite_least found f.body)
+  function_least found definition f = noted (is_function f) (definition_line definition) found (suite_least f.locals globals found f.body)
 
   abbrev pub functions_least : List StmtTree → Option ℕ → ℕ → List TypedFunc → Option ℕ
   functions_least definitions found n [] = found

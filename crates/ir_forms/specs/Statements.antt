@@ -1,36 +1,21 @@
 -- The lines on which statements, expressions and functions of a typed module stand that are not compiled. A statement stands on
 -- its own line, and what stands inside of one on no line before it.
-use Rattle.std.specs.Prelude.{ℕ, suc, ℤ, pos, negsuc, Bool, true, false, ◌&&◌, nat_le, List, [], ◌∷◌, ◌++◌, length, Option, Some, None, slice_get}
+use Rattle.std.specs.Prelude.{ℕ, suc, Bool, true, false, ◌&&◌, nat_le, List, [], ◌∷◌, ◌++◌, length, Option, Some, None, slice_get}
 use Rattle.std.specs.List.{list_all, filter}
 use Rattle.py_syntax.specs.Statements.{StmtTree, at, Def, Suite}
-use Rattle.py_typed.specs.Expressions.{TypedExpr, typed, Print, TypedExprs, no_exprs, expr_then, type_of}
+use Rattle.py_typed.specs.Sorts.{Sort}
+use Rattle.py_typed.specs.Fits.{is_same_type}
+use Rattle.py_typed.specs.Expressions.{TypedExpr, typed, Print, type_of}
 use Rattle.py_typed.specs.Statements.{Variable, TypedFunc, TypedModule, TypedTarget, LocalTarget, GlobalTarget, TypedStmt, on_line, TypedAct, Do, Assign, Aug, If, While, Return, Break, Continue, Pass, TypedSuite, no_stmts, stmt_then, Arms, no_arms, arm_then}
 use Rattle.py_names.specs.Outline.{suite_definitions}
 use Rattle.py_forms.specs.Later.{least}
-use Rattle.ir_expressions.specs.Compiled.{is_i64, is_scalar, is_result, is_built, literal_in}
-use Rattle.ir_forms.specs.Expressions.{line_unless, or_parts, line_at, operand_lines, expression_lines}
+use Rattle.ir_expressions.specs.Compiled.{is_scalar, is_result, is_built}
+use Rattle.ir_forms.specs.Expressions.{or_parts, line_at, expression_lines, row_lines}
 
--- 2 ^ 62 - 1, the greatest integer that is printed as it stands in the text
-abbrev pub greatest_printed : ℕ
-greatest_printed = 4611686018427387903
-
-abbrev pub is_printed : ℤ → Bool
-is_printed (pos n) = nat_le n greatest_printed
-is_printed (negsuc n) = false
-
--- a value that `print` writes on its line: a native integer, a bool, or an integer as it stands in the text
-abbrev pub value_lines : ℕ → Option ℤ → TypedExpr → List ℕ
-value_lines line (Some n) e = line_unless (is_printed n) line
-value_lines line None e = or_parts (is_scalar (type_of e)) line (expression_lines e)
-
--- `print` writes one value
-abbrev pub print_lines : ℕ → TypedExprs → List ℕ
-print_lines line (expr_then e no_exprs) = value_lines line (literal_in e) e
-print_lines line es = line ∷ []
-
-abbrev pub alone_lines : ℕ → TypedExpr → List ℕ
-alone_lines line (typed (Print es) t place) = print_lines line es
-alone_lines line e = expression_lines e
+-- `print` writes any number of values
+abbrev pub alone_lines : TypedExpr → List ℕ
+alone_lines (typed (Print es) t place) = row_lines es
+alone_lines e = expression_lines e
 
 -- one name of the function or of the module
 abbrev pub is_own : TypedTarget → Bool
@@ -42,36 +27,35 @@ abbrev pub is_one : List TypedTarget → Bool
 is_one (t ∷ []) = is_own t
 is_one ts = false
 
-abbrev pub returned_lines : ℕ → Option TypedExpr → List ℕ
-returned_lines line None = []
-returned_lines line (Some e) = or_parts (is_scalar (type_of e)) (line_at e) (expression_lines e)
+abbrev pub returned_lines : Option TypedExpr → List ℕ
+returned_lines None = []
+returned_lines (Some e) = or_parts (is_scalar (type_of e)) (line_at e) (expression_lines e)
 
--- a variable that is a native integer
-abbrev pub is_i64_in : Option Variable → Bool
-is_i64_in None = false
-is_i64_in (Some v) = is_i64 v.1
+-- a variable of a type
+abbrev pub is_variable_of : Sort → Option Variable → Bool
+is_variable_of t None = false
+is_variable_of t (Some v) = is_same_type v.1 t
 
--- in a module with these variables
-module _ (globals : List Variable) where
-  -- one name of the function, whose variables are native integers and bools where it is compiled, or one of the module that is a
-  -- native integer: the module's variables may have any type
-  abbrev pub is_native_target : TypedTarget → Bool
-  is_native_target (LocalTarget i) = true
-  is_native_target (GlobalTarget i) = is_i64_in (slice_get globals i)
-  is_native_target t = false
+-- in a function with these variables, of a module with these
+module _ (locals globals : List Variable) where
+  -- one name of the function or of the module, of the type that an operation gives: an `int` to which a native integer is added
+  -- has another one
+  abbrev pub is_updated : TypedTarget → Sort → Bool
+  is_updated (LocalTarget i) t = is_variable_of t (slice_get locals i)
+  is_updated (GlobalTarget i) t = is_variable_of t (slice_get globals i)
+  is_updated target t = false
 
   abbrev mutual
     pub statement_lines : TypedStmt → List ℕ
     statement_lines (on_line a line) = act_lines line a
 
     pub act_lines : ℕ → TypedAct → List ℕ
-    act_lines line (Do e) = alone_lines line e
+    act_lines line (Do e) = alone_lines e
     act_lines line (Assign ts e) = or_parts (is_one ts && is_scalar (type_of e)) line (expression_lines e)
-    act_lines line (Aug t op e s) =
-        or_parts (is_native_target t && (is_i64 s && is_built op)) line (operand_lines (literal_in e) (line_at e) (expression_lines e))
+    act_lines line (Aug t op e s) = or_parts (is_updated t s && (is_scalar s && is_built op)) line (expression_lines e)
     act_lines line (If arms other) = arms_lines arms ++ suite_lines other
     act_lines line (While test body) = expression_lines test ++ suite_lines body
-    act_lines line (Return e) = returned_lines line e
+    act_lines line (Return e) = returned_lines e
     act_lines line Break = []
     act_lines line Continue = []
     act_lines line Pass = []
@@ -94,7 +78,7 @@ abbrev pub is_none : {A : Type 0} → Option A → Bool
 is_none None = true
 is_none (Some a) = false
 
--- a function whose variables are native integers and bools, with such a result or None
+-- a function whose variables are numbers, bools and texts, with such a result or None
 abbrev pub is_function : TypedFunc → Bool
 is_function f = is_none f.class && (nat_le f.params (length f.locals) && (are_scalars f.locals && is_result f.ret))
 
@@ -105,7 +89,7 @@ definition_line (Some (at node span)) = span.line
 
 module _ (globals : List Variable) where
   abbrev pub function_lines : Option StmtTree → TypedFunc → List ℕ
-  function_lines definition f = or_parts (is_function f) (definition_line definition) (suite_lines globals f.body)
+  function_lines definition f = or_parts (is_function f) (definition_line definition) (suite_lines f.locals globals f.body)
 
   -- functions from the one of this number on, among the functions' definitions
   abbrev pub functions_lines : List StmtTree → ℕ → List TypedFunc → List ℕ
@@ -120,4 +104,4 @@ is_def s = false
 -- THE LINE on which a statement, an expression or a function of a module stands first that is not compiled, where there is one. The
 -- module has this tree and is this typed one
 abbrev pub uncompiled_line : Suite → TypedModule → Option ℕ
-uncompiled_line m t = least None (suite_lines t.globals t.top ++ functions_lines t.globals (filter is_def (suite_definitions m)) 0 t.funcs)
+uncompiled_line m t = least None (suite_lines [] t.globals t.top ++ functions_lines t.globals (filter is_def (suite_definitions m)) 0 t.funcs)

@@ -1,23 +1,26 @@
 //! Whether a type, an operation or a node is one of those that are compiled, whatever stands in it.
 ghost use Rattle.std.specs.Prelude.{◌≡◌, ◌&&◌, map, slice_get};
-ghost use Rattle.value_core.specs.Arithmetic.{lies_within};
 ghost use Rattle.py_typed.specs.Sorts.{sort};
 ghost use Rattle.py_typed.specs.Expressions.{typed_expr, typed_node, typed_comparison, comparisons_of};
 ghost use Rattle.py_typed.specs.Statements.{typed_target, typed_func, variable};
+ghost use Rattle.ir_operators.specs.Operating as operating;
 ghost use Rattle.ir_expressions.specs.Compiled as compiled;
 ghost use Rattle.ir_forms.specs.Expressions as form;
 ghost use Rattle.ir_forms.specs.Statements as statement;
 
 use py_syntax::{BinOp, CmpOp};
-use py_typed::{TExpr, TFunc, TKind, Target, Ty, Var};
+use py_typed::{TExpr, TFunc, TKind, Target, Ty, Var, is_same_type};
 
-/// The greatest integer that is printed as it stands in the text, 2^62 - 1.
-const GREATEST: i128 = 4_611_686_018_427_387_903;
-
-fn is_i64(t: &Ty) -> bool
-    ensures { result ≡ compiled.is_i64 (sort t.now) }
+fn is_int(t: &Ty) -> bool
+    ensures { result ≡ compiled.is_int (sort t.now) }
 {
-    matches!(t, Ty::I64)
+    matches!(t, Ty::Int)
+}
+
+fn is_text(t: &Ty) -> bool
+    ensures { result ≡ compiled.is_text (sort t.now) }
+{
+    matches!(t, Ty::Str)
 }
 
 fn is_bool(t: &Ty) -> bool
@@ -26,18 +29,32 @@ fn is_bool(t: &Ty) -> bool
     matches!(t, Ty::Bool)
 }
 
-/// Whether a type is one of variables: native integers and bools.
+/// Whether a type is one of whole numbers.
+fn is_whole(t: &Ty) -> bool
+    ensures { result ≡ operating.is_whole (sort t.now) }
+{
+    matches!(t, Ty::Int | Ty::I64)
+}
+
+/// Whether a type is one of numbers and bools.
+fn is_numeric(t: &Ty) -> bool
+    ensures { result ≡ operating.is_numeric (sort t.now) }
+{
+    matches!(t, Ty::Int | Ty::I64 | Ty::Bool)
+}
+
+/// Whether a type is one of variables: numbers, bools and texts.
 pub(crate) fn is_scalar(t: &Ty) -> bool
     ensures { result ≡ compiled.is_scalar (sort t.now) }
 {
-    matches!(t, Ty::I64 | Ty::Bool)
+    matches!(t, Ty::Int | Ty::I64 | Ty::Bool | Ty::Str)
 }
 
 /// Whether a type is one of results, which may be None.
 fn is_result(t: &Ty) -> bool
     ensures { result ≡ compiled.is_result (sort t.now) }
 {
-    matches!(t, Ty::I64 | Ty::Bool | Ty::Nothing)
+    matches!(t, Ty::Int | Ty::I64 | Ty::Bool | Ty::Str | Ty::Nothing)
 }
 
 fn is_built(op: BinOp) -> bool
@@ -55,11 +72,11 @@ fn is_ordering(op: CmpOp) -> bool
     )
 }
 
-/// Whether operands of two types are compared as native integers or as bools.
+/// Whether operands of two types are compared as numbers or as texts.
 fn is_pair(left: &Ty, right: &Ty) -> bool
     ensures { result ≡ compiled.is_pair (sort left.now) (sort right.now) }
 {
-    is_i64(left) || (is_i64(right) || (is_bool(left) && is_bool(right)))
+    (is_numeric(left) && is_numeric(right)) || (is_text(left) && is_text(right))
 }
 
 /// Whether each pair of a chain is compared so, behind an operand of a type.
@@ -81,45 +98,42 @@ pub(crate) fn is_form(e: &TExpr) -> bool
     ensures { result ≡ form.is_form (typed_node e.now.kind) (sort e.now.ty) }
 {
     match &e.kind {
+        TKind::Int(_) => is_int(&e.ty),
+        TKind::Str(_) => is_text(&e.ty),
         TKind::Bool(_) => is_bool(&e.ty),
         TKind::Local(_) => is_scalar(&e.ty),
         TKind::Global(_) => is_scalar(&e.ty),
-        TKind::Neg(_) => is_i64(&e.ty),
+        TKind::Neg(_) => is_whole(&e.ty),
         TKind::Not(_) => is_bool(&e.ty),
-        TKind::Truth(_) => is_bool(&e.ty),
-        TKind::Arith(op, _, _) => is_i64(&e.ty) && is_built(*op),
-        TKind::Compare(first, more) => is_bool(&e.ty) && are_pairs(&first.ty, more.as_slice()),
+        TKind::Truth(a) => is_bool(&e.ty) && is_scalar(&a.ty),
+        TKind::Arith(op, _, _) => is_whole(&e.ty) && is_built(*op),
+        TKind::Concat(_, _) => is_text(&e.ty),
+        TKind::Compare(first, more) => {
+            is_bool(&e.ty) && (is_scalar(&first.ty) && are_pairs(&first.ty, more.as_slice()))
+        }
         TKind::And(_, _) => is_scalar(&e.ty),
         TKind::Or(_, _) => is_scalar(&e.ty),
         TKind::Cond(_, _, _) => is_scalar(&e.ty),
+        TKind::At(a, _) => is_text(&a.ty),
         TKind::Call(_, _) => is_result(&e.ty),
-        TKind::Coerce(_) => is_i64(&e.ty),
-        _ => false,
+        TKind::Input => is_text(&e.ty),
+        TKind::Len(a) => is_text(&a.ty),
+        TKind::ToStr(a) => is_scalar(&a.ty),
+        TKind::Coerce(a) => is_whole(&e.ty) && is_numeric(&a.ty),
+        TKind::Nothing => false,
+        TKind::List(_) => false,
+        TKind::Dict(_) => false,
+        TKind::Tuple(_) => false,
+        TKind::Attr(_, _) => false,
+        TKind::TupleAt(_, _) => false,
+        TKind::Make(_, _) => false,
+        TKind::MakeExc(_, _) => false,
+        TKind::Method(_, _, _) => false,
+        TKind::SuperInit(_, _) => false,
+        TKind::Print(_) => false,
+        TKind::Append(_, _) => false,
+        TKind::Pop(_) => false,
     }
-}
-
-/// The integer that stands in the text.
-pub(crate) fn literal_in(e: &TExpr) -> Option<i128>
-    ensures { result ≡ compiled.literal_in (typed_expr e.now) }
-{
-    match &e.kind {
-        TKind::Int(n) => Some(*n),
-        _ => None,
-    }
-}
-
-/// Whether an integer is a native one.
-pub(crate) fn is_native(n: i128) -> bool
-    ensures { result ≡ lies_within 63 n }
-{
-    -9_223_372_036_854_775_808 <= n && n <= 9_223_372_036_854_775_807
-}
-
-/// Whether an integer is printed as it stands in the text.
-pub(crate) fn is_printed(n: i128) -> bool
-    ensures { result ≡ statement.is_printed n }
-{
-    0 <= n && n <= GREATEST
 }
 
 fn is_own(target: &Target) -> bool
@@ -145,33 +159,39 @@ pub(crate) fn is_assigned(targets: &[Target], t: &Ty) -> bool
     is_one(targets) && is_scalar(t)
 }
 
-/// Whether the variable of a number is a native integer.
-fn is_i64_at(variables: &[Var], i: usize) -> bool
-    ensures { result ≡ statement.is_i64_in (slice_get (map variable variables.now) i) }
+/// Whether the variable of a number is of a type.
+fn is_variable_of(variables: &[Var], i: usize, t: &Ty) -> bool
+    ensures { result ≡ statement.is_variable_of (sort t.now) (slice_get (map variable variables.now) i) }
 {
     match variables.get(i) {
         None => false,
-        Some(v) => is_i64(&v.ty),
+        Some(v) => is_same_type(&v.ty, t),
     }
 }
 
-/// Whether a target is one name of the function, or one of the module, with these variables, that is a native integer.
-fn is_native_target(globals: &[Var], target: &Target) -> bool
-    ensures { result ≡ statement.is_native_target (map variable globals.now) (typed_target target.now) }
+/// Whether a target is one name, of a function or of a module with these variables, of this type.
+fn is_name_of(locals: &[Var], globals: &[Var], target: &Target, t: &Ty) -> bool
+    ensures { result ≡ statement.is_updated (map variable locals.now) (map variable globals.now) (typed_target target.now) (sort t.now) }
 {
     match target {
-        Target::Local(_) => true,
-        Target::Global(i) => is_i64_at(globals, *i),
+        Target::Local(i) => is_variable_of(locals, *i, t),
+        Target::Global(i) => is_variable_of(globals, *i, t),
         Target::Attr(_, _) => false,
         Target::At(_, _) => false,
     }
 }
 
-/// Whether this target is updated by this operation, whose result is of this type, in a module with these variables.
-pub(crate) fn is_updated(globals: &[Var], target: &Target, op: BinOp, t: &Ty) -> bool
-    ensures { result ≡ (statement.is_native_target (map variable globals.now) (typed_target target.now) && (compiled.is_i64 (sort t.now) && compiled.is_built op)) }
+/// Whether this target is updated by this operation, whose result is of this type.
+pub(crate) fn is_updated(
+    locals: &[Var],
+    globals: &[Var],
+    target: &Target,
+    op: BinOp,
+    t: &Ty,
+) -> bool
+    ensures { result ≡ (statement.is_updated (map variable locals.now) (map variable globals.now) (typed_target target.now) (sort t.now) && (compiled.is_scalar (sort t.now) && compiled.is_built op)) }
 {
-    is_native_target(globals, target) && (is_i64(t) && is_built(op))
+    is_name_of(locals, globals, target, t) && (is_scalar(t) && is_built(op))
 }
 
 fn are_scalars(variables: &[Var]) -> bool
@@ -185,7 +205,7 @@ fn are_scalars(variables: &[Var]) -> bool
     true
 }
 
-/// Whether a function is no method, its variables are native integers and bools, and its result is one of them or None.
+/// Whether a function is no method, its variables are numbers, bools and texts, and its result is one of them or None.
 pub(crate) fn is_function(f: &TFunc) -> bool
     ensures { result ≡ statement.is_function (typed_func f.now) }
 {

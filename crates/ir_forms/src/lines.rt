@@ -1,7 +1,7 @@
 //! The lines on which something stands that is not compiled.
 //!
 //! Each function takes the least line found so far, and gives the least one with those of what it goes over. Those that go over
-//! statements take the module's variables too.
+//! statements take the variables of the function and of the module too.
 ghost use Rattle.std.specs.Prelude.{◌≡◌, map, slice_get, Some, IfOk};
 ghost use Rattle.std.specs.List.{filter};
 ghost use Rattle.py_forms.specs.Later.{lesser};
@@ -12,9 +12,7 @@ ghost use Rattle.py_typed.specs.Statements.{typed_stmt, typed_suite, typed_arm, 
 ghost use Rattle.ir_forms.specs.Statements.{uncompiled_line, is_function, is_def, definition_line};
 ghost use Rattle.ir_forms.specs.Least as find;
 
-use crate::forms::{
-    is_assigned, is_form, is_function, is_native, is_printed, is_scalar, is_updated, literal_in,
-};
+use crate::forms::{is_assigned, is_form, is_function, is_scalar, is_updated};
 use py_forms::lesser;
 use py_names::definitions_in;
 use py_syntax::{CmpOp, Module, Stmt, StmtKind};
@@ -34,7 +32,7 @@ pub fn uncompiled_line(
     let mut definitions = definitions_in(alloc, parsed.body.as_slice())?;
     keep_functions(&mut definitions);
     let globals = checked.globals.as_slice();
-    let found = in_suite(checked.top.as_slice(), globals, None);
+    let found = in_suite(checked.top.as_slice(), &[], globals, None);
     Ok(in_functions(&definitions, checked.funcs.as_slice(), globals, found))
 }
 
@@ -57,28 +55,21 @@ fn in_expression(e: &TExpr, found: Option<usize>) -> Option<usize>
         TKind::Neg(a) => in_expression(a, found),
         TKind::Not(a) => in_expression(a, found),
         TKind::Truth(a) => in_expression(a, found),
-        TKind::Arith(_, a, b) => in_operand(b, in_operand(a, found)),
-        TKind::Compare(a, more) => in_chain(more.as_slice(), in_operand(a, found)),
+        TKind::Arith(_, a, b) => in_expression(b, in_expression(a, found)),
+        TKind::Concat(a, b) => in_expression(b, in_expression(a, found)),
+        TKind::Compare(a, more) => in_chain(more.as_slice(), in_expression(a, found)),
         TKind::And(a, b) => in_expression(b, in_expression(a, found)),
         TKind::Or(a, b) => in_expression(b, in_expression(a, found)),
         TKind::Cond(a, test, b) => {
             let found = in_expression(test, in_expression(a, found));
             in_expression(b, found)
         }
+        TKind::At(a, b) => in_expression(b, in_expression(a, found)),
         TKind::Call(_, arguments) => in_row(arguments.as_slice(), found),
-        TKind::Coerce(a) => in_operand(a, found),
+        TKind::Len(a) => in_expression(a, found),
+        TKind::ToStr(a) => in_expression(a, found),
+        TKind::Coerce(a) => in_expression(a, found),
         _ => found,
-    }
-}
-
-/// In an operand, which may be an integer as it stands in the text.
-#[cycle(expression)]
-fn in_operand(e: &TExpr, found: Option<usize>) -> Option<usize>
-    ensures { result ≡ find.part_or_literal found (typed_expr e.now) }
-{
-    match literal_in(e) {
-        Some(n) => in_literal(is_native(n), e.span.line, found),
-        None => in_expression(e, found),
     }
 }
 
@@ -99,56 +90,17 @@ fn in_chain(more: &[(CmpOp, TExpr)], found: Option<usize>) -> Option<usize>
 {
     let mut found = found;
     for (_, operand) in more {
-        found = in_operand(operand, found);
+        found = in_expression(operand, found);
     }
     found
 }
 
-/// Where an integer stands in the text that is compiled or is not.
-fn in_literal(compiled: bool, line: usize, found: Option<usize>) -> Option<usize>
-    ensures { result ≡ find.noted compiled line found found }
-{
-    if compiled { found } else { with(line, found) }
-}
-
-/// In the value that `print` writes, on a line.
-fn in_value(e: &TExpr, line: usize, found: Option<usize>) -> Option<usize>
-    ensures { result ≡ find.printed_least found line (typed_expr e.now) }
-{
-    match literal_in(e) {
-        Some(n) => in_literal(is_printed(n), line, found),
-        None => in_scalar(e, line, found),
-    }
-}
-
-/// In a value that is a native integer or a bool, else on a line.
-fn in_scalar(e: &TExpr, line: usize, found: Option<usize>) -> Option<usize>
-    ensures { result ≡ find.scalar_least found line (typed_expr e.now) }
-{
-    if is_scalar(&e.ty) {
-        in_expression(e, found)
-    } else {
-        with(line, found)
-    }
-}
-
-/// In what `print` writes, on a line.
-fn in_printed(values: &[TExpr], line: usize, found: Option<usize>) -> Option<usize>
-    ensures { result ≡ find.print_least found line (exprs_of (map typed_expr values.now)) }
-{
-    match values {
-        [] => with(line, found),
-        [value] => in_value(value, line, found),
-        [_, _, ..] => with(line, found),
-    }
-}
-
-/// In an expression that stands alone on a line.
-fn in_alone(e: &TExpr, line: usize, found: Option<usize>) -> Option<usize>
-    ensures { result ≡ find.alone_least found line (typed_expr e.now) }
+/// In an expression that stands alone: `print` writes any number of values.
+fn in_alone(e: &TExpr, found: Option<usize>) -> Option<usize>
+    ensures { result ≡ find.alone_least found (typed_expr e.now) }
 {
     match &e.kind {
-        TKind::Print(values) => in_printed(values.as_slice(), line, found),
+        TKind::Print(values) => in_row(values.as_slice(), found),
         _ => in_expression(e, found),
     }
 }
@@ -158,7 +110,7 @@ fn in_returned(e: &Option<TExpr>, found: Option<usize>) -> Option<usize>
 {
     match e {
         None => found,
-        Some(e) => in_scalar(e, e.span.line, found),
+        Some(e) => in_part(is_scalar(&e.ty), e, e.span.line, found),
     }
 }
 
@@ -173,53 +125,43 @@ fn in_part(compiled: bool, e: &TExpr, line: usize, found: Option<usize>) -> Opti
     }
 }
 
-/// In an operand, where what it stands in is compiled; else on a line.
-fn in_update(compiled: bool, e: &TExpr, line: usize, found: Option<usize>) -> Option<usize>
-    ensures { result ≡ find.noted compiled line found (find.part_or_literal found (typed_expr e.now)) }
-{
-    if compiled {
-        in_operand(e, found)
-    } else {
-        with(line, found)
-    }
-}
-
 #[cycle(statement)]
-fn in_suite(body: &[TStmt], globals: &[Var], found: Option<usize>) -> Option<usize>
-    ensures { result ≡ find.suite_least (map variable globals.now) found (typed_suite body.now) }
+fn in_suite(body: &[TStmt], locals: &[Var], globals: &[Var], found: Option<usize>) -> Option<usize>
+    ensures { result ≡ find.suite_least (map variable locals.now) (map variable globals.now) found (typed_suite body.now) }
 {
     let mut found = found;
     for s in body {
-        found = in_statement(s, globals, found);
+        found = in_statement(s, locals, globals, found);
     }
     found
 }
 
 #[cycle(statement)]
-fn in_statement(s: &TStmt, globals: &[Var], found: Option<usize>) -> Option<usize>
-    ensures { result ≡ find.statement_least (map variable globals.now) found (typed_stmt s.now) }
+fn in_statement(s: &TStmt, locals: &[Var], globals: &[Var], found: Option<usize>) -> Option<usize>
+    ensures { result ≡ find.statement_least (map variable locals.now) (map variable globals.now) found (typed_stmt s.now) }
 {
     match &s.kind {
-        TStmtKind::Expr(e) => in_alone(e, s.line, found),
+        TStmtKind::Expr(e) => in_alone(e, found),
         TStmtKind::Assign(targets, e) => in_part(
             is_assigned(targets.as_slice(), &e.ty),
             e,
             s.line,
             found,
         ),
-        TStmtKind::Aug(target, op, e, t) => in_update(
-            is_updated(globals, target, *op, t),
+        TStmtKind::Aug(target, op, e, t) => in_part(
+            is_updated(locals, globals, target, *op, t),
             e,
             s.line,
             found,
         ),
         TStmtKind::If(arms, other) => in_suite(
             other.as_slice(),
+            locals,
             globals,
-            in_arms(arms.as_slice(), globals, found),
+            in_arms(arms.as_slice(), locals, globals, found),
         ),
         TStmtKind::While(test, body) => {
-            in_suite(body.as_slice(), globals, in_expression(test, found))
+            in_suite(body.as_slice(), locals, globals, in_expression(test, found))
         }
         TStmtKind::Return(e) => in_returned(e, found),
         TStmtKind::Break => found,
@@ -236,22 +178,27 @@ fn in_statement(s: &TStmt, globals: &[Var], found: Option<usize>) -> Option<usiz
 }
 
 #[cycle(statement)]
-fn in_arms(arms: &[(TExpr, Many<TStmt>)], globals: &[Var], found: Option<usize>) -> Option<usize>
-    ensures { result ≡ find.arms_least (map variable globals.now) found (arms_of (map typed_arm arms.now)) }
+fn in_arms(
+    arms: &[(TExpr, Many<TStmt>)],
+    locals: &[Var],
+    globals: &[Var],
+    found: Option<usize>,
+) -> Option<usize>
+    ensures { result ≡ find.arms_least (map variable locals.now) (map variable globals.now) found (arms_of (map typed_arm arms.now)) }
 {
     let mut found = found;
     for (test, body) in arms {
-        found = in_suite(body.as_slice(), globals, in_expression(test, found));
+        found = in_suite(body.as_slice(), locals, globals, in_expression(test, found));
     }
     found
 }
 
 /// In the body of a function, where the function is compiled; else on the line of its definition.
 fn in_function(f: &TFunc, line: usize, globals: &[Var], found: Option<usize>) -> Option<usize>
-    ensures { result ≡ find.noted (is_function (typed_func f.now)) line found (find.suite_least (map variable globals.now) found (typed_func f.now).body) }
+    ensures { result ≡ find.noted (is_function (typed_func f.now)) line found (find.suite_least (typed_func f.now).locals (map variable globals.now) found (typed_func f.now).body) }
 {
     if is_function(f) {
-        in_suite(f.body.as_slice(), globals, found)
+        in_suite(f.body.as_slice(), f.locals.as_slice(), globals, found)
     } else {
         with(line, found)
     }

@@ -35,7 +35,7 @@ use Rattle.ir_frames.specs.Calling.{Adds}
 use Rattle.ir_frames.specs.Coming.{world, running}
 use Rattle.ir_frames.specs.Matching.{HasKind, MayHold, HaveTypes, HasGlobals, Matches, HasRoom}
 use Rattle.ir_frames.specs.Computing.{Shows, Computes}
-use Rattle.ir_frames.specs.Kinds.{Surrounding, is_plain, IsOf, IsGlobal, ReadsGlobal, WritesGlobal, IsAmong}
+use Rattle.ir_frames.specs.Kinds.{Surrounding, IsOf, IsGlobal, ReadsGlobal, WritesGlobal, IsAmong}
 use Rattle.ir_frames.proofs.HeldLemmas.{get_below}
 use Rattle.ir_frames.proofs.NameLemmas.{or_false, not_false, and_parts}
 use Rattle.ir_frames.proofs.StepLemmas.{read_is, acts_step}
@@ -202,12 +202,12 @@ global_step p fn k j regs below s m i v r t w has types at there type holds =
 
 -- ---- when they fit
 
-pub global_there : (m : TypedModule) (g : Surrounding) (i : ℕ) (v : Variable) → IsAmong m g → slice_get m.globals i ≡ Some v → is_plain (rtype_of v.1) ≡ true → IsGlobal g v.0 (rtype_of v.1)
-global_there m g i v among at plain =
-    (i, ap (λ gs. slice_get gs i) among.globals ∙ get_map register_of m.globals i v at, plain)
+pub global_there : (m : TypedModule) (g : Surrounding) (i : ℕ) (v : Variable) → IsAmong m g → slice_get m.globals i ≡ Some v → IsGlobal g v.0 (rtype_of v.1)
+global_there m g i v among at =
+    (i, ap (λ gs. slice_get gs i) among.globals ∙ get_map register_of m.globals i v at)
 
-pub read_fits : (m : TypedModule) (g : Surrounding) (i : ℕ) (v : Variable) → IsAmong m g → slice_get m.globals i ≡ Some v → is_plain (rtype_of v.1) ≡ true → ReadsGlobal g (rtype_of v.1) (prim.Global global.Get) (arg.Global v.0 ∷ [])
-read_fits m g i v among at plain = record { name = v.0; reads = refl; named = refl; there = global_there m g i v among at plain }
+pub read_fits : (m : TypedModule) (g : Surrounding) (i : ℕ) (v : Variable) → IsAmong m g → slice_get m.globals i ≡ Some v → ReadsGlobal g (rtype_of v.1) (prim.Global global.Get) (arg.Global v.0 ∷ [])
+read_fits m g i v among at = record { name = v.0; reads = refl; named = refl; there = global_there m g i v among at }
 
-pub write_fits : (m : TypedModule) (g : Surrounding) (regs : Declared) (i : ℕ) (v : Variable) (r : Reg) → IsAmong m g → slice_get m.globals i ≡ Some v → is_plain (rtype_of v.1) ≡ true → IsOf regs r (rtype_of v.1) → WritesGlobal g regs (prim.Global global.Set) (arg.Global v.0 ∷ arg.Var r ∷ [])
-write_fits m g regs i v r among at plain type = record { name = v.0; from = r; type = rtype_of v.1; writes = refl; named = refl; there = global_there m g i v among at plain; holds = type }
+pub write_fits : (m : TypedModule) (g : Surrounding) (regs : Declared) (i : ℕ) (v : Variable) (r : Reg) → IsAmong m g → slice_get m.globals i ≡ Some v → IsOf regs r (rtype_of v.1) → WritesGlobal g regs (prim.Global global.Set) (arg.Global v.0 ∷ arg.Var r ∷ [])
+write_fits m g regs i v r among at type = record { name = v.0; from = r; type = rtype_of v.1; writes = refl; named = refl; there = global_there m g i v among at; holds = type }

@@ -1,10 +1,8 @@
 -- What keeps that operations and ends fit their registers: more registers, and each call of a builder.
-use Rattle.std.proofs.Common.{◌≡◌, ◌≢◌, ℕ, zero, suc, true, false, List, [], ◌∷◌, ◌++◌, length, Some, None, refl, sym, ap, ◌∙◌, subst, arith, append_assoc, Result, Ok, Err, OnOk, OnErr, ◌⊎◌, inl, inr, ⊎_elim}
+use Rattle.std.proofs.Common.{◌≡◌, ℕ, zero, suc, List, [], ◌∷◌, ◌++◌, Some, None, refl, sym, ap, ◌∙◌, subst, arith, Result, Ok, Err, OnOk, OnErr, ◌⊎◌, inl, inr, ⊎_elim}
 use Rattle.std.specs.Prelude.{slice_get}
 use Rattle.c_core.specs.declared.primitive.Primitive.{Primitive}
-use Rattle.c_core.specs.declared.primitive.Primitive.TheVariants as prim
-use Rattle.c_core.specs.declared.primitive.IoPrim.TheVariants as io
-use Rattle.c_core.specs.Primitives.{Is, Anything, Parameter, Borrows, TakesText}
+use Rattle.c_core.specs.Primitives.{Is, Parameter, Borrows, TakesText}
 use Rattle.ir_core.specs.declared.code.RType.{RType}
 use Rattle.ir_core.specs.declared.code.RType.TheVariants as rtype
 use Rattle.ir_core.specs.declared.code.Lit.{Lit as Literal}
@@ -16,12 +14,12 @@ use Rattle.ir_core.specs.declared.code.Op.TheVariants.{Move, Lit, Prim, Call, Vi
 use Rattle.ir_core.specs.declared.code.Last.{Last}
 use Rattle.ir_core.specs.declared.code.Last.TheVariants.{Goto, If, IfError, Return, Unreachable}
 use Rattle.ir_core.specs.declared.code.Block.{Block}
-use Rattle.ir_core.specs.Rows.{Declared, type_of_reg}
+use Rattle.ir_core.specs.Rows.{Declared}
 use Rattle.ir_core.specs.Building.{Building, with_last, Extends}
 use Rattle.ir_core.specs.Laws.{added, pushed, closed}
 use Rattle.ir_frames.specs.Calling.{Declares}
-use Rattle.ir_frames.specs.Kinds.{temporary_name, Surrounding, is_plain, IsOf, AreArguments, Take, MakesText, Answers, Reports, ReadsGlobal, WritesGlobal, Calls, LiteralFits, OpKinds, OpsKinds, no_more, other_then, text_then, LastKinds, BlocksKinds, HasKinds, KeepsKinds, KeepsKindsIf}
-use Rattle.ir_frames.proofs.HeldLemmas.{type_below, type_kept, added_extends}
+use Rattle.ir_frames.specs.Kinds.{temporary_name, Surrounding, IsOf, AreArguments, Take, Answers, Reports, ReadsGlobal, WritesGlobal, Calls, LiteralFits, OpKinds, OpsKinds, LastKinds, BlocksKinds, HasKinds, KeepsKinds, KeepsKindsIf}
+use Rattle.ir_frames.proofs.HeldLemmas.{type_kept, added_extends}
 
 -- ---- more registers
 
@@ -35,21 +33,18 @@ extends_more b c x r t e = type_kept b c r.0 t x e
 module _ (regs more : Declared) (up : HasMore regs more) where
   pub arguments_more : (ps : List Parameter) (args : List PArg) → AreArguments regs ps args → AreArguments more ps args
   arguments_more [] [] h = tt
-  arguments_more (Borrows (Is k) Anything ∷ ps) (arg.Var r ∷ rest) h = (h.0, up r h.0 h.1, h.2, h.3, arguments_more ps rest h.4)
+  arguments_more (Borrows (Is k) holding ∷ ps) (arg.Var r ∷ rest) h = (h.0, up r h.0 h.1, h.2, arguments_more ps rest h.3)
   arguments_more (TakesText ∷ ps) (arg.Text text ∷ rest) h = (h.0, arguments_more ps rest h.1)
   arguments_more ps args h = absurd h
 
   pub registers_more : (ts : List RType) (rs : List Reg) → Take regs ts rs → Take more ts rs
   registers_more [] [] h = tt
-  registers_more (t ∷ ts) (r ∷ rs) h = (up r t h.0, h.1, registers_more ts rs h.2)
+  registers_more (t ∷ ts) (r ∷ rs) h = (up r t h.0, registers_more ts rs h.1)
   registers_more [] (r ∷ rs) h = absurd h
   registers_more (t ∷ ts) [] h = absurd h
 
-  pub text_more : (q : Primitive) (args : List PArg) → MakesText regs q args → MakesText more q args
-  text_more q args h = (h.0, arguments_more _ args h.1, h.2)
-
   pub answers_more : (t : RType) (q : Primitive) (args : List PArg) → Answers t regs q args → Answers t more q args
-  answers_more t q args h = (h.0, h.1, arguments_more _ args h.2, h.3)
+  answers_more t q args h = (h.0, arguments_more _ args h.1)
 
   module _ (g : Surrounding) where
     pub calls_more : (t : RType) (n : ℕ) (args : List Reg) → Calls g t regs n args → Calls g t more n args
@@ -63,15 +58,15 @@ module _ (regs more : Declared) (up : HasMore regs more) where
     reads_more t q args (inr r) = inr r
 
     pub acts_more : (q : Primitive) (args : List PArg) → (Reports regs q args ⊎ WritesGlobal g regs q args) → (Reports more q args ⊎ WritesGlobal g more q args)
-    acts_more q args (inl a) = inl (a.0, arguments_more _ args a.1, a.2)
+    acts_more q args (inl a) = inl (a.0, arguments_more _ args a.1)
     acts_more q args (inr w) = inr (writes_more q args w)
 
     pub op_more : (o : Op) → OpKinds g regs o → OpKinds g more o
-    op_more (Move r s) h = (h.0, h.1, up r h.0 h.2, up s h.0 h.3)
-    op_more (Lit r l) h = (h.0, up r h.0 h.1, h.2, h.3)
+    op_more (Move r s) h = (h.0, up r h.0 h.1, up s h.0 h.2)
+    op_more (Lit r l) h = (h.0, up r h.0 h.1, h.2)
     op_more (Prim None q args) h = acts_more q args h
     op_more (Prim (Some r) q args) h = (h.0, up r h.0 h.1, reads_more h.0 q args h.2)
-    op_more (Call r n args) h = (h.0, up r h.0 h.1, h.2, calls_more h.0 n args h.3)
+    op_more (Call r n args) h = (h.0, up r h.0 h.1, calls_more h.0 n args h.2)
     op_more (Virtual r o n args) h = absurd h
     op_more (TraitCall r o t n args) h = absurd h
     op_more Turn h = tt
@@ -80,15 +75,14 @@ module _ (regs more : Declared) (up : HasMore regs more) where
     op_more (XDec r) h = absurd h
 
     pub ops_more : (os : List (Op × ℕ)) → OpsKinds g regs os → OpsKinds g more os
-    ops_more _ no_more = no_more
-    ops_more _ (other_then o line os k h) = other_then o line os (op_more o k) (ops_more os h)
-    ops_more _ (text_then q args i j k os m h) = text_then q args i j k os (text_more q args m) (ops_more os h)
+    ops_more [] h = tt
+    ops_more (o ∷ os) h = (op_more o.0 h.0, ops_more os h.1)
 
     pub last_more : (l : Last) → LastKinds g regs l → LastKinds g more l
     last_more (Goto t) h = tt
     last_more (If r a b) h = up r rtype.Bool h
-    last_more (IfError r a b line) h = (h.0, up r h.0 h.1, h.2)
-    last_more (Return r) h = (up r g.ret h.0, h.1)
+    last_more (IfError r a b line) h = (h.0, up r h.0 h.1)
+    last_more (Return r) h = up r g.ret h
     last_more Unreachable h = tt
 
     pub blocks_more : (bs : List Block) → BlocksKinds g regs bs → BlocksKinds g more bs
@@ -98,16 +92,9 @@ module _ (regs more : Declared) (up : HasMore regs more) where
 -- ---- operations and blocks behind others
 
 module _ (g : Surrounding) (regs : Declared) where
-  pub ops_append : (os more : List (Op × ℕ)) → OpsKinds g regs os → OpsKinds g regs more → OpsKinds g regs (os ++ more)
-  ops_append _ more no_more m = m
-  ops_append _ more (other_then o line os k h) m = other_then o line (os ++ more) k (ops_append os more h m)
-  ops_append _ more (text_then q args i j k os t h) m = text_then q args i j k (os ++ more) t (ops_append os more h m)
-
-  pub one_op : (o : Op × ℕ) → OpKinds g regs o.0 → OpsKinds g regs (o ∷ [])
-  one_op o k = other_then o.0 o.1 [] k no_more
-
   pub ops_behind : (os : List (Op × ℕ)) (o : Op × ℕ) → OpKinds g regs o.0 → OpsKinds g regs os → OpsKinds g regs (os ++ o ∷ [])
-  ops_behind os o k h = ops_append os (o ∷ []) h (one_op o k)
+  ops_behind [] o k h = (k, tt)
+  ops_behind (x ∷ os) o k h = (h.0, ops_behind os o k h.1)
 
   pub blocks_behind : (bs : List Block) (b : Block) → OpsKinds g regs b.ops → LastKinds g regs b.last → BlocksKinds g regs bs → BlocksKinds g regs (bs ++ b ∷ [])
   blocks_behind [] b o l h = (o, l, tt)
@@ -117,22 +104,6 @@ module _ (g : Surrounding) (regs : Declared) where
   blocks_last [] k l f h = tt
   blocks_last (b ∷ bs) zero l f h = (h.0, f, h.2)
   blocks_last (b ∷ bs) (suc k) l f h = (h.0, h.1, blocks_last bs k l f h.2)
-
--- ---- the register for printed texts
-
--- a register of another type is another one
-pub plain_not_text : (g : Surrounding) (b : Building) (r : Reg) (t : RType) → HasKinds g b → IsOf b.regs r t → t ≢ rtype.Ref → r.0 ≢ g.text
-plain_not_text g b r t h is other e =
-    let same : type_of_reg b.regs r ≡ Some rtype.Ref = ap (λ n. type_of_reg b.regs (record { 0 = n })) e ∙ h.text in
-    let both : Some t ≡ Some rtype.Ref = sym is ∙ same in
-    other (cc)
-
-pub plain_no_ref : (t : RType) → is_plain t ≡ true → t ≢ rtype.Ref
-plain_no_ref t p e = let f : false ≡ true = sym (ap is_plain e) ∙ p in cc
-
--- and so is one that is new
-pub new_not_text : (g : Surrounding) (b : Building) (n : ℕ) → HasKinds g b → n ≡ length b.regs → n ≢ g.text
-new_not_text g b n h is e = let lt = type_below b g.text rtype.Ref h.text in omega arith
 
 -- ---- each call of a builder
 
@@ -154,7 +125,6 @@ module _ (g : Surrounding) (b : Building) (h : HasKinds g b) where
       let old = h.variables in
       let grow = x.regs_grow in
       record {
-        text = type_kept b c g.text rtype.Ref x h.text;
         variables = omega arith;
         named = λ i d le e. ⊎_elim (λ there. h.named i d le there) (λ new. (k, ap (λ (v : List ℕ × RType). v.0) new ∙ is)) (get_behind b.regs (name, t) d i e);
         blocks = blocks_more b.regs c.regs up g b.blocks h.blocks;
@@ -162,13 +132,13 @@ module _ (g : Surrounding) (b : Building) (h : HasKinds g b) where
       }
 
   push_here : (o : Op × ℕ) → OpKinds g b.regs o.0 → HasKinds g (pushed b o)
-  push_here o k = record { text = h.text; variables = h.variables; named = h.named; blocks = h.blocks; ops = ops_behind g b.regs b.ops o k h.ops }
+  push_here o k = record { variables = h.variables; named = h.named; blocks = h.blocks; ops = ops_behind g b.regs b.ops o k h.ops }
 
   close_here : (l : Last) → LastKinds g b.regs l → HasKinds g (closed b l)
-  close_here l k = record { text = h.text; variables = h.variables; named = h.named; blocks = blocks_behind g b.regs b.blocks (record { ops = b.ops; last = l }) h.ops k h.blocks; ops = no_more }
+  close_here l k = record { variables = h.variables; named = h.named; blocks = blocks_behind g b.regs b.blocks (record { ops = b.ops; last = l }) h.ops k h.blocks; ops = tt }
 
   last_here : (n : ℕ) (l : Last) → LastKinds g b.regs l → HasKinds g (record b { blocks = with_last b.blocks n l })
-  last_here n l k = record { text = h.text; variables = h.variables; named = h.named; blocks = blocks_last g b.regs b.blocks n l k h.blocks; ops = h.ops }
+  last_here n l k = record { variables = h.variables; named = h.named; blocks = blocks_last g b.regs b.blocks n l k h.blocks; ops = h.ops }
 
 pub add_kinds : (b c : Building) (name : List ℕ) (t : RType) (k : ℕ) → c ≡ added b name t → name ≡ temporary_name k → KeepsKinds b c
 add_kinds b c name t k e is g h = kinds_same g (added b name t) c e (add_here g b h name t k is)
@@ -182,26 +152,16 @@ close_kinds g b c l e k h = kinds_same g (closed b l) c e (close_here g b h l k)
 pub patch_kinds : (g : Surrounding) (b c : Building) (n : ℕ) (l : Last) → c ≡ record b { blocks = with_last b.blocks n l } → LastKinds g b.regs l → HasKinds g b → HasKinds g c
 patch_kinds g b c n l e k h = kinds_same g (record b { blocks = with_last b.blocks n l }) c e (last_here g b h n l k)
 
--- a text is made, written and given up
-pub text_kinds : (g : Surrounding) (b c : Building) (q : Primitive) (args : List PArg) (i j k : ℕ) → c ≡ pushed (pushed (pushed b (Prim (Some record { 0 = g.text }) q args, i)) (Prim None (prim.Io io.Write) (arg.Var record { 0 = g.text } ∷ []), j)) (Dec record { 0 = g.text }, k) → MakesText b.regs q args → HasKinds g b → HasKinds g c
-text_kinds g b c q args i j k e m h =
-    let x : Op × ℕ = (Prim (Some record { 0 = g.text }) q args, i) in
-    let y : Op × ℕ = (Prim None (prim.Io io.Write) (arg.Var record { 0 = g.text } ∷ []), j) in
-    let z : Op × ℕ = (Dec record { 0 = g.text }, k) in
-    let one : ((b.ops ++ x ∷ []) ++ y ∷ []) ++ z ∷ [] ≡ b.ops ++ x ∷ y ∷ z ∷ [] = append_assoc (b.ops ++ x ∷ []) (y ∷ []) (z ∷ []) ∙ append_assoc b.ops (x ∷ []) (y ∷ z ∷ []) in
-    let all : OpsKinds g b.regs (b.ops ++ x ∷ y ∷ z ∷ []) = ops_append g b.regs b.ops (x ∷ y ∷ z ∷ []) h.ops (text_then q args i j k [] m no_more) in
-    kinds_same g (pushed (pushed (pushed b x) y) z) c e (record { text = h.text; variables = h.variables; named = h.named; blocks = h.blocks; ops = subst (OpsKinds g b.regs) (sym one) all })
-
 -- ---- operations with a register of their own
 
-pub literal_kinds : (g : Surrounding) (b c : Building) (r : Reg) (t : RType) (l : Literal) → Declares b c r.0 t → LiteralFits t l → HasKinds g b → OpKinds g c.regs (Lit r l)
-literal_kinds g b c r t l d k h = (t, d.type, k, new_not_text g b r.0 h d.made)
+pub literal_kinds : (g : Surrounding) (b c : Building) (r : Reg) (t : RType) (l : Literal) → Declares b c r.0 t → LiteralFits t l → OpKinds g c.regs (Lit r l)
+literal_kinds g b c r t l d k = (t, d.type, k)
 
 pub primitive_kinds : (g : Surrounding) (b c : Building) (r : Reg) (t : RType) (q : Primitive) (args : List PArg) → Declares b c r.0 t → (Answers t b.regs q args ⊎ ReadsGlobal g t q args) → OpKinds g c.regs (Prim (Some r) q args)
 primitive_kinds g b c r t q args d k = (t, d.type, reads_more b.regs c.regs (extends_more b c d.extends) g t q args k)
 
-pub call_kinds : (g : Surrounding) (b c : Building) (r : Reg) (t : RType) (n : ℕ) (args : List Reg) → Declares b c r.0 t → Calls g t b.regs n args → HasKinds g b → OpKinds g c.regs (Call r n args)
-call_kinds g b c r t n args d k h = (t, d.type, new_not_text g b r.0 h d.made, calls_more b.regs c.regs (extends_more b c d.extends) g t n args k)
+pub call_kinds : (g : Surrounding) (b c : Building) (r : Reg) (t : RType) (n : ℕ) (args : List Reg) → Declares b c r.0 t → Calls g t b.regs n args → OpKinds g c.regs (Call r n args)
+call_kinds g b c r t n args d k = (t, d.type, calls_more b.regs c.regs (extends_more b c d.extends) g t n args k)
 
 -- ---- both outcomes of a call
 

@@ -1,14 +1,12 @@
 -- When what a builder holds fits the registers of its function: each operation and each end has registers of the types that it asks
--- for, and the only references are printed texts, which are made in a register of their own, written and given up directly.
-use Rattle.std.specs.Prelude.{◌≡◌, ◌≢◌, ◌≤◌, ◌⊎◌, ℕ, Bool, true, false, List, [], ◌∷◌, ◌++◌, length, map, Some, None, is_some, slice_get, codes, decimal}
+-- for. None of them counts references.
+use Rattle.std.specs.Prelude.{◌≡◌, ◌≤◌, ◌⊎◌, ℕ, true, List, [], ◌∷◌, ◌++◌, length, map, Some, None, is_some, slice_get, codes, decimal}
 use Rattle.std.specs.Str.{is_utf8}
 use Rattle.value_core.specs.Arithmetic.{lies_within}
-use Rattle.c_core.specs.declared.code.Kind.TheVariants.{Object}
 use Rattle.c_core.specs.declared.primitive.Primitive.{Primitive}
 use Rattle.c_core.specs.declared.primitive.Primitive.TheVariants as prim
 use Rattle.c_core.specs.declared.primitive.GlobalPrim.TheVariants as global
-use Rattle.c_core.specs.declared.primitive.IoPrim.TheVariants as io
-use Rattle.c_core.specs.Primitives.{Is, Anything, Parameter, Borrows, TakesText, Nothing, Owned, row_of}
+use Rattle.c_core.specs.Primitives.{Is, Parameter, Borrows, TakesText, Nothing, Owned, row_of}
 use Rattle.py_typed.specs.Statements.{TypedFunc, TypedModule}
 use Rattle.ir_core.specs.declared.code.RType.{RType}
 use Rattle.ir_core.specs.declared.code.RType.TheVariants as rtype
@@ -24,11 +22,10 @@ use Rattle.ir_core.specs.declared.code.Last.TheVariants.{Goto, If, IfError, Retu
 use Rattle.ir_core.specs.declared.code.Block.{Block}
 use Rattle.ir_core.specs.Lower.{kind_of_type}
 use Rattle.ir_core.specs.Registers.{literal_of}
-use Rattle.ir_core.specs.Rows.{Declared, type_of_reg, answers, acts, makes_text}
+use Rattle.ir_core.specs.Rows.{Declared, type_of_reg}
 use Rattle.ir_core.specs.Building.{Building}
 use Rattle.ir_frames.specs.Settings.{rtype_of, variable_registers}
 use Rattle.ir_frames.specs.Matching.{parameter_sorts}
-use Rattle.ir_frames.specs.Placing.{HasType}
 
 -- the name of a register that no variable has, by its number among these
 abbrev pub temporary_name : ℕ → List ℕ
@@ -40,23 +37,12 @@ pub record Head : Type 0 where
   pub ret : RType
 
 -- what a function is built among: the functions that it may call, by their numbers; the program's globals; how many of its registers
--- are variables; its register for printed texts; and the type of its result
+-- are variables; and the type of its result
 pub record Surrounding : Type 0 where
   pub heads : List Head
   pub globals : Declared
   pub variables : ℕ
-  pub text : ℕ
   pub ret : RType
-
--- values of the type are no references
-abbrev pub is_plain : RType → Bool
-is_plain rtype.I64 = true
-is_plain rtype.Bool = true
-is_plain _ = false
-
-abbrev pub ArePlain : List RType → Type 0
-ArePlain [] = Unit {0}
-ArePlain (t ∷ ts) = (is_plain t ≡ true) × ArePlain ts
 
 -- ---- operations
 
@@ -64,41 +50,36 @@ module _ (regs : Declared) where
   abbrev pub IsOf : Reg → RType → Type 0
   IsOf r t = type_of_reg regs r ≡ Some t
 
-  -- arguments for the parameters of a primitive: registers without references, and texts
+  -- arguments for the parameters of a primitive that borrows them: registers of its kinds, and texts
   abbrev pub AreArguments : List Parameter → List PArg → Type 0
   AreArguments [] [] = Unit {0}
-  AreArguments (Borrows (Is k) Anything ∷ ps) (arg.Var r ∷ rest) =
-      (t : RType) × IsOf r t × (is_plain t ≡ true) × (kind_of_type t ≡ k) × AreArguments ps rest
+  AreArguments (Borrows (Is k) h ∷ ps) (arg.Var r ∷ rest) =
+      (t : RType) × IsOf r t × (kind_of_type t ≡ k) × AreArguments ps rest
   AreArguments (TakesText ∷ ps) (arg.Text text ∷ rest) = (is_utf8 text ≡ true) × AreArguments ps rest
   AreArguments ps args = ⊥
 
   -- registers with arguments of these types
   abbrev pub Take : List RType → List Reg → Type 0
   Take [] [] = Unit {0}
-  Take (t ∷ ts) (r ∷ rs) = IsOf r t × (is_plain t ≡ true) × Take ts rs
+  Take (t ∷ ts) (r ∷ rs) = IsOf r t × Take ts rs
   Take ts rs = ⊥
 
-  -- a primitive that makes a text of arguments
-  abbrev pub MakesText : Primitive → List PArg → Type 0
-  MakesText q args =
-      ((row_of q).outcome ≡ Owned (Is Object)) × AreArguments (row_of q).parameters args × (makes_text q ≡ true)
-
--- both registers have one type, and hold no references
+-- both registers have one type
 abbrev pub AreAlike : Declared → Reg → Reg → Type 0
-AreAlike regs r s = (t : RType) × (is_plain t ≡ true) × IsOf regs r t × IsOf regs s t
+AreAlike regs r s = (t : RType) × IsOf regs r t × IsOf regs s t
 
--- what a primitive answers of arguments is no reference, and of a type; it may fail instead
+-- what a primitive answers of arguments is of a type
 abbrev pub Answers : RType → Declared → Primitive → List PArg → Type 0
 Answers t regs q args =
-    (is_plain t ≡ true) × ((row_of q).outcome ≡ Owned (Is (kind_of_type t))) × AreArguments regs (row_of q).parameters args × (answers q ≡ true)
+    ((row_of q).outcome ≡ Owned (Is (kind_of_type t))) × AreArguments regs (row_of q).parameters args
 
--- a primitive answers nothing, and neither makes nor writes a text
+-- a primitive answers nothing
 abbrev pub Reports : Declared → Primitive → List PArg → Type 0
-Reports regs q args = ((row_of q).outcome ≡ Nothing) × AreArguments regs (row_of q).parameters args × (acts q ≡ true)
+Reports regs q args = ((row_of q).outcome ≡ Nothing) × AreArguments regs (row_of q).parameters args
 
--- a global of this name and type is there, and holds no reference
+-- a global of this name and type is there
 abbrev pub IsGlobal : Surrounding → List ℕ → RType → Type 0
-IsGlobal g name t = (n : ℕ) × (slice_get g.globals n ≡ Some (name, t)) × (is_plain t ≡ true)
+IsGlobal g name t = (n : ℕ) × (slice_get g.globals n ≡ Some (name, t))
 
 -- a read of a global of a type, and a write of a register of its type to one
 pub record ReadsGlobal (g : Surrounding) (t : RType) (q : Primitive) (args : List PArg) : Type 0 where
@@ -126,14 +107,13 @@ LiteralFits t (Number n) = (is_some (literal_of t (Number n)) ≡ true) × (lies
 LiteralFits t l = is_some (literal_of t l) ≡ true
 
 module _ (g : Surrounding) (regs : Declared) where
-  -- an operation that neither makes nor needs a text
   abbrev pub OpKinds : Op → Type 0
   OpKinds (Move r s) = AreAlike regs r s
-  OpKinds (Lit r l) = (t : RType) × IsOf regs r t × LiteralFits t l × (r.0 ≢ g.text)
+  OpKinds (Lit r l) = (t : RType) × IsOf regs r t × LiteralFits t l
   OpKinds (Prim None q args) = Reports regs q args ⊎ WritesGlobal g regs q args
   OpKinds (Prim (Some r) q args) =
       (t : RType) × IsOf regs r t × (Answers t regs q args ⊎ ReadsGlobal g t q args)
-  OpKinds (Call r n args) = (t : RType) × IsOf regs r t × (r.0 ≢ g.text) × Calls g t regs n args
+  OpKinds (Call r n args) = (t : RType) × IsOf regs r t × Calls g t regs n args
   OpKinds (Virtual r o n args) = ⊥
   OpKinds (TraitCall r o t n args) = ⊥
   OpKinds Turn = Unit {0}
@@ -141,17 +121,15 @@ module _ (g : Surrounding) (regs : Declared) where
   OpKinds (Dec r) = ⊥
   OpKinds (XDec r) = ⊥
 
-  -- operations in a row, with their source lines. A text is made, written and given up
-  pub data OpsKinds : List (Op × ℕ) → Type 0 where
-    no_more : OpsKinds []
-    other_then : (o : Op) (line : ℕ) (os : List (Op × ℕ)) → OpKinds o → OpsKinds os → OpsKinds ((o, line) ∷ os)
-    text_then : (q : Primitive) (args : List PArg) (i j k : ℕ) (os : List (Op × ℕ)) → MakesText regs q args → OpsKinds os → OpsKinds ((Prim (Some record { 0 = g.text }) q args, i) ∷ (Prim None (prim.Io io.Write) (arg.Var record { 0 = g.text } ∷ []), j) ∷ (Dec record { 0 = g.text }, k) ∷ os)
+  abbrev pub OpsKinds : List (Op × ℕ) → Type 0
+  OpsKinds [] = Unit {0}
+  OpsKinds (o ∷ os) = OpKinds o.0 × OpsKinds os
 
   abbrev pub LastKinds : Last → Type 0
   LastKinds (Goto t) = Unit {0}
   LastKinds (If r a b) = IsOf regs r rtype.Bool
-  LastKinds (IfError r a b line) = (t : RType) × IsOf regs r t × (is_plain t ≡ true)
-  LastKinds (Return r) = IsOf regs r g.ret × (r.0 ≢ g.text)
+  LastKinds (IfError r a b line) = (t : RType) × IsOf regs r t
+  LastKinds (Return r) = IsOf regs r g.ret
   LastKinds Unreachable = Unit {0}
 
   abbrev pub BlocksKinds : List Block → Type 0
@@ -160,7 +138,6 @@ module _ (g : Surrounding) (regs : Declared) where
 
 -- what a builder holds fits its registers; those that no variable has are temporary ones
 pub record HasKinds (g : Surrounding) (b : Building) : Type 0 where
-  pub text : HasType b g.text rtype.Ref
   pub variables : g.variables ≤ length b.regs
   pub named : (i : ℕ) (d : List ℕ × RType) → g.variables ≤ i → slice_get b.regs i ≡ Some d → (k : ℕ) × (d.0 ≡ temporary_name k)
   pub blocks : BlocksKinds g b.regs b.blocks
@@ -179,8 +156,7 @@ KeepsKindsIf P b c = (g : Surrounding) → P g → HasKinds g b → HasKinds g c
 abbrev pub head_of : TypedFunc → Head
 head_of f = record { params = map rtype_of (parameter_sorts f); ret = rtype_of f.ret }
 
--- the functions of a module have their heads, and their parameters are no references; the globals are the module's variables
+-- the functions of a module have their heads; the globals are the module's variables
 pub record IsAmong (m : TypedModule) (g : Surrounding) : Type 0 where
   pub globals : g.globals ≡ variable_registers m.globals
   pub heads : (n : ℕ) (f : TypedFunc) → slice_get m.funcs n ≡ Some f → slice_get g.heads n ≡ Some (head_of f)
-  pub plain : (n : ℕ) (h : Head) → slice_get g.heads n ≡ Some h → ArePlain h.params

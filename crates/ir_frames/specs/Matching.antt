@@ -2,7 +2,7 @@
 use Rattle.std.specs.Prelude.{◌≡◌, ◌≢◌, ℕ, ◌+◌, ◌-◌, ◌<◌, ◌≤◌, nat_lt, Bool, true, if◌then◌else◌, ℤ, List, [], ◌∷◌, length, map, take, Option, Some, None, slice_get}
 use Rattle.value_core.specs.Arithmetic.{lies_within}
 use Rattle.value_core.specs.Exceptions.{Thrown}
-use Rattle.value_core.specs.Value.{Value, IntVal, BoolVal, NoneVal, ExcVal}
+use Rattle.value_core.specs.Value.{Value, IntVal, BoolVal, NoneVal, StrVal, ExcVal}
 use Rattle.c_core.specs.WellFormed.{names_differ}
 use Rattle.py_typed.specs.Sorts as sort
 use Rattle.py_typed.specs.Sorts.{Sort}
@@ -26,6 +26,8 @@ use Rattle.ir_frames.specs.Coming.{world, running, Escapes, returning, Ends}
 -- a value is one of a type that is built
 abbrev pub HasKind : Sort → Value → Type 0
 HasKind sort.I64 v = (n : ℤ) × (v ≡ IntVal n) × (lies_within 63 n ≡ true)
+HasKind sort.Int v = (n : ℤ) × (v ≡ IntVal n) × (lies_within 127 n ≡ true)
+HasKind sort.Str v = (text : List ℕ) × (v ≡ StrVal text)
 HasKind sort.Bool v = (b : Bool) × (v ≡ BoolVal b)
 HasKind sort.Nothing v = v ≡ NoneVal
 HasKind _ v = ⊥

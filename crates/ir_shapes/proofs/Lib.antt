@@ -2,5 +2,5 @@ pub mod BlockLemmas
 pub mod SpellingLemmas
 pub mod NameLemmas
 pub mod LineLemmas
-pub mod PrintLemmas
+pub mod NumberLemmas
 pub mod Whole

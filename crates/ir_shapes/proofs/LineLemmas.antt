@@ -4,7 +4,8 @@ use Rattle.std.specs.Prelude.{slice_get, map, ◌&&◌, is_some, codes, ◌==◌
 use Rattle.std.specs.Option.{option_map}
 use Rattle.std.specs.List.{list_all}
 use Rattle.std.proofs.lemmas.Bool.{and_from, lt-ltb}
-use Rattle.std.proofs.lemmas.Option.{slice_get_within}
+use Rattle.std.proofs.lemmas.List.{length-map}
+use Rattle.std.proofs.lemmas.Option.{slice_get_within, slice_get-map}
 use Rattle.value_core.specs.Value.{IntVal}
 use Rattle.c_core.specs.declared.code.Kind.{Kind}
 use Rattle.c_core.specs.declared.code.Kind.TheVariants.{Tagged, Int64, Char, Object}
@@ -14,12 +15,11 @@ use Rattle.c_core.specs.declared.code.CFunc.{CFunc}
 use Rattle.c_core.specs.declared.primitive.Primitive.{Primitive}
 use Rattle.c_core.specs.declared.primitive.Primitive.TheVariants as prim
 use Rattle.c_core.specs.declared.primitive.GlobalPrim.TheVariants as global
-use Rattle.c_core.specs.declared.primitive.IoPrim.TheVariants as io
 use Rattle.c_core.specs.Arguments.{kind_of_global}
 use Rattle.c_core.specs.Functions.{function_named, parameter_kinds}
 use Rattle.c_core.specs.Machine.{ShortInt, TaggedError}
-use Rattle.c_core.specs.Primitives.{Is, Anything, Parameter, Borrows, TakesText, Owned, row_of, primitive_named}
-use Rattle.c_core.specs.WellFormed.{is_identifier, is_call_name, is_declared, kind_at, is_counted_kind, spelled_arg, spelled_label, spelled_line, spelled_literal, same_kind, has_kind, same_kinds, kinds_agree, literal_fits, passes, args_fit, target_fits, function_call_fits, call_fits, line_fits}
+use Rattle.c_core.specs.Primitives.{Is, Parameter, Borrows, TakesText, Owned, row_of, primitive_named}
+use Rattle.c_core.specs.WellFormed.{is_identifier, is_call_name, is_declared, kind_at, spelled_arg, spelled_label, spelled_line, spelled_literal, same_kind, has_kind, same_kinds, kinds_agree, literal_fits, passes, args_fit, target_fits, function_call_fits, call_fits, line_fits}
 use Rattle.ir_core.specs.declared.code.RType.{RType}
 use Rattle.ir_core.specs.declared.code.RType.TheVariants.{Int, I64, Bool as BoolType, Ref}
 use Rattle.ir_core.specs.declared.code.Lit.{Lit as Literal}
@@ -38,12 +38,11 @@ use Rattle.ir_core.specs.Lower.{kind_of_type, variable_of, literal_in, argument_
 use Rattle.ir_core.specs.Registers.{Unset, Holds, literal_of}
 use Rattle.ir_core.specs.Rows.{Declared}
 use Rattle.ir_core.specs.Shape.{LastFits, BlocksFit}
-use Rattle.ir_frames.specs.Kinds.{Head, Surrounding, IsOf, AreArguments, Take, Answers, Reports, ReadsGlobal, WritesGlobal, LiteralFits, OpKinds, OpsKinds, no_more, other_then, text_then, LastKinds, BlocksKinds}
-use Rattle.ir_lowering.proofs.ListLemmas.{size_map, get_map}
-use Rattle.ir_lowering.proofs.Facts.{named}
+use Rattle.ir_frames.specs.Kinds.{Head, Surrounding, IsOf, AreArguments, Take, Answers, Reports, ReadsGlobal, WritesGlobal, LiteralFits, OpKinds, OpsKinds, LastKinds, BlocksKinds}
 use Rattle.ir_shapes.specs.Built.{head_of_code}
 use Rattle.ir_shapes.proofs.SpellingLemmas.{primitive_spelled, call_spelled}
 use Rattle.ir_shapes.proofs.NameLemmas.{IsKnown}
+use Rattle.ir_shapes.proofs.NumberLemmas.{primitive_found}
 
 same_self : (k : Kind) → same_kind k k ≡ true
 same_self Tagged = refl
@@ -113,9 +112,9 @@ module _ (regs : Declared) where
       let same : d.1 ≡ t = cc in
       let lt : r.0 < length regs = slice_get_within regs r.0 d e in
       record {
-        declared = lt-ltb r.0 (length vars) (omega (arith, lt, size_map variable_of regs));
+        declared = lt-ltb r.0 (length vars) (omega (arith, lt, length-map regs variable_of));
         kind =
-            ap (option_map (λ (v : List ℕ × Kind). v.1)) (get_map variable_of regs r.0 ∙ ap (option_map variable_of) e)
+            ap (option_map (λ (v : List ℕ × Kind). v.1)) (slice_get-map variable_of regs r.0 ∙ ap (option_map variable_of) e)
             ∙ ap (λ u. Some (kind_of_type u)) same;
       }
 
@@ -132,8 +131,8 @@ module _ (regs : Declared) where
   -- ---- arguments
   arguments_spelled : (ps : List Parameter) (args : List PArg) → AreArguments regs ps args → list_all (spelled_arg vars) (map argument_in args) ≡ true
   arguments_spelled [] [] h = refl
-  arguments_spelled (Borrows (Is k) Anything ∷ ps) (arg.Var r ∷ rest) h =
-      and_from (is_declared vars r.0) (list_all (spelled_arg vars) (map argument_in rest)) (stands r h.0 h.1).declared (arguments_spelled ps rest h.4)
+  arguments_spelled (Borrows (Is k) holding ∷ ps) (arg.Var r ∷ rest) h =
+      and_from (is_declared vars r.0) (list_all (spelled_arg vars) (map argument_in rest)) (stands r h.0 h.1).declared (arguments_spelled ps rest h.3)
   arguments_spelled (TakesText ∷ ps) (arg.Text text ∷ rest) h =
       and_from (spelled_arg vars (argument_in (arg.Text text))) (list_all (spelled_arg vars) (map argument_in rest)) h.0 (arguments_spelled ps rest h.1)
   arguments_spelled ps args h = absurd h
@@ -141,7 +140,7 @@ module _ (regs : Declared) where
   registers_spelled : (ts : List RType) (rs : List Reg) → Take regs ts rs → list_all (spelled_arg vars) (map register_in rs) ≡ true
   registers_spelled [] [] h = refl
   registers_spelled (t ∷ ts) (r ∷ rs) h =
-      and_from (is_declared vars r.0) (list_all (spelled_arg vars) (map register_in rs)) (stands r t h.0).declared (registers_spelled ts rs h.2)
+      and_from (is_declared vars r.0) (list_all (spelled_arg vars) (map register_in rs)) (stands r t h.0).declared (registers_spelled ts rs h.1)
   registers_spelled [] (r ∷ rs) h = absurd h
   registers_spelled (t ∷ ts) [] h = absurd h
 
@@ -154,14 +153,14 @@ module _ (regs : Declared) where
   registers_pass (suc n) (d ∷ ds) [] h = absurd h
   registers_pass (suc n) (d ∷ ds) (r ∷ rs) h =
       and_from (has_kind (kind_of_type d.1) (kind_at vars r.0)) (passes vars (map (λ (v : List ℕ × Kind). v.1) (take n (map variable_of ds))) (map register_in rs))
-      (has r d.1 h.0) (registers_pass n ds rs h.2)
+      (has r d.1 h.0) (registers_pass n ds rs h.1)
 
   module _ (p : Program) where
     arguments_fit : (all : List CArg) (ps : List Parameter) (args : List PArg) → AreArguments regs ps args → args_fit (lower p) vars all ps (map argument_in args) ≡ true
     arguments_fit all [] [] h = refl
-    arguments_fit all (Borrows (Is k) Anything ∷ ps) (arg.Var r ∷ rest) h =
+    arguments_fit all (Borrows (Is k) holding ∷ ps) (arg.Var r ∷ rest) h =
         and_from (has_kind k (kind_at vars r.0)) (args_fit (lower p) vars all ps (map argument_in rest))
-        (ap (λ x. has_kind x (kind_at vars r.0)) (sym h.3) ∙ has r h.0 h.1) (arguments_fit all ps rest h.4)
+        (ap (λ x. has_kind x (kind_at vars r.0)) (sym h.2) ∙ has r h.0 h.1) (arguments_fit all ps rest h.3)
     arguments_fit all (TakesText ∷ ps) (arg.Text text ∷ rest) h = arguments_fit all ps rest h.1
     arguments_fit all ps args h = absurd h
 
@@ -193,7 +192,7 @@ module _ (regs : Declared) where
         record {
           spelled = and_from (is_call_name (row_of q).name) (list_all (spelled_arg vars) cargs) (primitive_spelled q) spelled;
           fits =
-              ap (λ o. call_fits (lower p) vars None cargs o (function_named (lower p).funcs (row_of q).name)) (named q)
+              ap (λ o. call_fits (lower p) vars None cargs o (function_named (lower p).funcs (row_of q).name)) (primitive_found q)
               ∙ and_from (args_fit (lower p) vars cargs (row_of q).parameters cargs) true fit refl;
         }
 
@@ -206,7 +205,7 @@ module _ (regs : Declared) where
               and_from (is_declared vars r.0) (is_call_name (row_of q).name && list_all (spelled_arg vars) cargs) (stands r t is).declared
               (and_from (is_call_name (row_of q).name) (list_all (spelled_arg vars) cargs) (primitive_spelled q) (arguments_spelled (row_of q).parameters args are));
           fits =
-              ap (λ o. call_fits (lower p) vars (Some r.0) cargs o (function_named (lower p).funcs (row_of q).name)) (named q)
+              ap (λ o. call_fits (lower p) vars (Some r.0) cargs o (function_named (lower p).funcs (row_of q).name)) (primitive_found q)
               ∙ and_from (args_fit (lower p) vars cargs (row_of q).parameters cargs) (target_fits (lower p) vars cargs (row_of q).outcome (Some r.0))
               (arguments_fit cargs (row_of q).parameters args are)
               (ap (λ o. target_fits (lower p) vars cargs o (Some r.0)) gives ∙ has r t is);
@@ -225,7 +224,7 @@ module _ (regs : Declared) where
               and_from (is_declared vars r.0) (is_call_name (row_of q).name && list_all (spelled_arg vars) cargs) (stands r t is).declared
               (and_from (is_call_name (row_of q).name) (list_all (spelled_arg vars) cargs) (primitive_spelled q) (and_from (is_identifier name) true known.identifier refl));
           fits =
-              ap (λ o. call_fits (lower p) vars (Some r.0) cargs o (function_named (lower p).funcs (row_of q).name)) (named q)
+              ap (λ o. call_fits (lower p) vars (Some r.0) cargs o (function_named (lower p).funcs (row_of q).name)) (primitive_found q)
               ∙ and_from (args_fit (lower p) vars cargs (row_of q).parameters cargs) (target_fits (lower p) vars cargs (row_of q).outcome (Some r.0))
               (and_from (is_some (kind_of_global (lower p) name)) true there refl) target;
         }
@@ -271,9 +270,9 @@ module _ (regs : Declared) where
         }
 
     -- ---- operations
-    module _ (g : Surrounding) (text : IsOf regs (record { 0 = g.text }) Ref) (callee : (n : ℕ) (h : Head) → slice_get g.heads n ≡ Some h → Callee n h) (known : (n : ℕ) (name : List ℕ) (t : RType) → slice_get g.globals n ≡ Some (name, t) → IsKnown p name t) where
+    module _ (g : Surrounding) (callee : (n : ℕ) (h : Head) → slice_get g.heads n ≡ Some h → Callee n h) (known : (n : ℕ) (name : List ℕ) (t : RType) → slice_get g.globals n ≡ Some (name, t) → IsKnown p name t) where
       answer_is : (ret : Kind) (r : Reg) (t : RType) (q : Primitive) (args : List PArg) → IsOf regs r t → Answers t regs q args ⊎ ReadsGlobal g t q args → LineIs ret (line_of p (Prim (Some r) q args))
-      answer_is ret r t q args is (inl a) = row_into ret r t q args is a.1 a.2
+      answer_is ret r t q args is (inl a) = row_into ret r t q args is a.0 a.1
       answer_is ret r t q args is (inr h) =
           let there = h.there in
           let P : Primitive → List PArg → Type 0 = λ z passed. LineIs ret (line_of p (Prim (Some r) z passed)) in
@@ -291,8 +290,8 @@ module _ (regs : Declared) where
 
       op_is : (ret : Kind) (o : Op) → OpKinds g regs o → LineIs ret (line_of p o)
       op_is ret (Move r s) h = record {
-        spelled = and_from (is_declared vars r.0) (is_declared vars s.0) (stands r h.0 h.2).declared (stands s h.0 h.3).declared;
-        fits = alike r s h.0 h.2 h.3;
+        spelled = and_from (is_declared vars r.0) (is_declared vars s.0) (stands r h.0 h.1).declared (stands s h.0 h.2).declared;
+        fits = alike r s h.0 h.1 h.2;
       }
       op_is ret (Lit r l) h =
           let is = literal_is h.0 l h.2 in
@@ -303,7 +302,7 @@ module _ (regs : Declared) where
       op_is ret (Prim None q args) h = act_is ret q args h
       op_is ret (Prim (Some r) q args) h = answer_is ret r h.0 q args h.1 h.2
       op_is ret (Call r n args) h =
-          let c = h.3 in
+          let c = h.2 in
           let is : IsOf regs r c.0.ret = subst (IsOf regs r) (sym c.2) h.1 in
           call_is ret r n c.0 args (callee n c.0 c.1) is c.3
       op_is ret (Virtual r o n args) h = absurd h
@@ -313,20 +312,9 @@ module _ (regs : Declared) where
       op_is ret (Dec r) h = absurd h
       op_is ret (XDec r) h = absurd h
 
-      written : (ret : Kind) → LineIs ret (line_of p (Prim None (prim.Io io.Write) (arg.Var (record { 0 = g.text }) ∷ [])))
-      written ret =
-          row_alone ret (prim.Io io.Write) (arg.Var (record { 0 = g.text }) ∷ [])
-          (and_from (is_declared vars g.text) true (stands (record { 0 = g.text }) Ref text).declared refl)
-          (and_from (has_kind Object (kind_at vars g.text)) true (has (record { 0 = g.text }) Ref text) refl)
-
-      given_up : (ret : Kind) → LineIs ret (line_of p (Dec (record { 0 = g.text })))
-      given_up ret = record { spelled = ap (is_counted_kind vars) (stands (record { 0 = g.text }) Ref text).kind; fits = refl }
-
       ops_are : (ret : Kind) (os : List (Op × ℕ)) → OpsKinds g regs os → LinesAre ret (op_lines p os)
-      ops_are ret _ no_more = tt
-      ops_are ret _ (other_then o i os k h) = (op_is ret o k, ops_are ret os h)
-      ops_are ret _ (text_then q args i j k os m h) =
-          (row_into ret (record { 0 = g.text }) Ref q args text m.0 m.1, (written ret, (given_up ret, ops_are ret os h)))
+      ops_are ret [] h = tt
+      ops_are ret (o ∷ os) h = (op_is ret o.0 h.0, ops_are ret os h.1)
 
       -- ---- ends
       module _ (count : ℕ) (few : count < 2 ^ 64) where
@@ -353,7 +341,7 @@ module _ (regs : Declared) where
           },
           tt,
         )
-        end_is k ops (Return r) lt fits h = (record { spelled = (stands r g.ret h.0).declared; fits = has r g.ret h.0 }, tt)
+        end_is k ops (Return r) lt fits h = (record { spelled = (stands r g.ret h).declared; fits = has r g.ret h }, tt)
         end_is k ops Unreachable lt fits h =
             (record { spelled = refl; fits = refl }, (record { spelled = label_spelled k lt; fits = refl }, tt))
 

@@ -6,6 +6,7 @@ use Rattle.std.specs.List.{list_all, list_any}
 use Rattle.std.specs.Str.{bytes_eq}
 use Rattle.std.proofs.lemmas.Bool.{and_from, and_parts, or_from, or_parts, not-true, cases_lt, eq-eqb, ne_eqb}
 use Rattle.std.proofs.lemmas.List.Folds.{list_any-append}
+use Rattle.std.proofs.lemmas.Option.{slice_get-map}
 use Rattle.std.proofs.lemmas.Slice.Eq.{bytes_eq-Decides}
 use Rattle.c_core.specs.declared.code.Kind.{Kind}
 use Rattle.c_core.specs.declared.code.CFunc.{CFunc}
@@ -22,7 +23,6 @@ use Rattle.ir_core.specs.Building.{Building}
 use Rattle.ir_core.specs.Lower.{kind_of_type, variable_of, global_of, name_in, lowered_from, lower}
 use Rattle.ir_frames.specs.Kinds.{Surrounding, HasKinds}
 use Rattle.ir_frames.specs.Naming.{names_of}
-use Rattle.ir_lowering.proofs.ListLemmas.{get_map}
 use Rattle.ir_shapes.proofs.SpellingLemmas.{identifier_parts, variable_identifier, temporary_identifier, function_called_as}
 
 -- ---- variables
@@ -74,14 +74,14 @@ globals_spelled (g ∷ gs) h =
     and_from (is_identifier g.0) (spelled_globals (map global_of gs)) parts.0 (globals_spelled gs parts.1)
 
 -- a name that none of these has is another one than theirs
-other_at : (name : List ℕ) (gs : Declared) (n : ℕ) (d : List ℕ × RType) → list_any (bytes_eq name) (names_of gs) ≡ false → slice_get gs n ≡ Some d → bytes_eq name d.0 ≡ false
-other_at name [] n d none e = let f : None ≡ Some d = e in absurd (cc)
-other_at name (g ∷ gs) zero d none e =
-    let f : Some g ≡ Some d = e in
-    let same : g ≡ d = cc in
-    subst (λ (v : List ℕ × RType). bytes_eq name v.0 ≡ false) same (or_parts (bytes_eq name g.0) (list_any (bytes_eq name) (names_of gs)) none).0
-other_at name (g ∷ gs) (suc n) d none e =
-    other_at name gs n d (or_parts (bytes_eq name g.0) (list_any (bytes_eq name) (names_of gs)) none).1 e
+pub other_at : {A : Type 0} (name_of : A → List ℕ) (name : List ℕ) (xs : List A) (n : ℕ) (x : A) → list_any (bytes_eq name) (map name_of xs) ≡ false → slice_get xs n ≡ Some x → bytes_eq name (name_of x) ≡ false
+other_at name_of name [] n x none e = let f : None ≡ Some x = e in absurd (cc)
+other_at name_of name (y ∷ xs) zero x none e =
+    let f : Some y ≡ Some x = e in
+    let same : y ≡ x = cc in
+    subst (λ z. bytes_eq name (name_of z) ≡ false) same (or_parts (bytes_eq name (name_of y)) (list_any (bytes_eq name) (map name_of xs)) none).0
+other_at name_of name (y ∷ xs) (suc n) x none e =
+    other_at name_of name xs n x (or_parts (bytes_eq name (name_of y)) (list_any (bytes_eq name) (map name_of xs)) none).1 e
 
 -- a global is found by its name
 global_found : (gs : Declared) (n : ℕ) (name : List ℕ) (t : RType) → names_differ (names_of gs) ≡ true → slice_get gs n ≡ Some (name, t) → find (λ (g : List ℕ × Kind). bytes_eq name g.0) (map global_of gs) ≡ Some (name, kind_of_type t)
@@ -97,7 +97,7 @@ global_found (g ∷ gs) zero name t differ e =
     ∙ ap (λ c. cond c (Some (name, kind_of_type t)) later) ((bytes_eq-Decides name name).1 refl)
 global_found (g ∷ gs) (suc n) name t differ e =
     let parts = and_parts (not (list_any (bytes_eq g.0) (names_of gs))) (names_differ (names_of gs)) differ in
-    let other : bytes_eq name g.0 ≡ false = bytes_eq-sym name g.0 ∙ other_at g.0 gs n (name, t) (not-true (list_any (bytes_eq g.0) (names_of gs)) parts.0) e in
+    let other : bytes_eq name g.0 ≡ false = bytes_eq-sym name g.0 ∙ other_at (λ (d : List ℕ × RType). d.0) g.0 gs n (name, t) (not-true (list_any (bytes_eq g.0) (names_of gs)) parts.0) e in
     ap (λ c. cond c (Some (global_of g)) (find (λ (x : List ℕ × Kind). bytes_eq name x.0) (map global_of gs))) other
     ∙ global_found gs n name t parts.1 e
 
@@ -108,7 +108,7 @@ pub record IsKnown (p : Program) (name : List ℕ) (t : RType) : Type 0 where
 
 pub global_known : (p : Program) → list_all is_identifier (names_of p.globals) ≡ true → names_differ (names_of p.globals) ≡ true → (n : ℕ) (name : List ℕ) (t : RType) → slice_get p.globals n ≡ Some (name, t) → IsKnown p name t
 global_known p identifiers differ n name t e = record {
-  identifier = all_at is_identifier (names_of p.globals) n name identifiers (get_map (λ (d : List ℕ × RType). d.0) p.globals n ∙ ap (option_map (λ (d : List ℕ × RType). d.0)) e);
+  identifier = all_at is_identifier (names_of p.globals) n name identifiers (slice_get-map (λ (d : List ℕ × RType). d.0) p.globals n ∙ ap (option_map (λ (d : List ℕ × RType). d.0)) e);
   kind = ap (option_map (λ (g : List ℕ × Kind). g.1)) (global_found p.globals n name t differ e);
 }
 

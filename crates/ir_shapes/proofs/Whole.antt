@@ -1,11 +1,12 @@
--- A program that is built has its shape, and its only references are printed texts.
-use Rattle.std.proofs.Common.{◌≡◌, ◌≢◌, refl, sym, ◌∙◌, ap, subst, ℕ, zero, suc, ◌+◌, ◌-◌, ◌<◌, arith, Bool, true, false, cond, List, [], ◌∷◌, ◌++◌, length, length-append, Option, Some, None, inl, inr}
-use Rattle.std.specs.Prelude.{slice_get, map, nat_eq, nat_le, ◌&&◌, ◌==◌, codes}
+-- A program that is built has its shape.
+use Rattle.std.proofs.Common.{◌≡◌, ◌≢◌, refl, sym, ◌∙◌, ap, subst, ℕ, zero, suc, ◌+◌, ◌-◌, ◌<◌, arith, Bool, true, false, cond, List, [], ◌∷◌, ◌++◌, length, length-append, Option, Some, None}
+use Rattle.std.specs.Prelude.{slice_get, map, nat_le, ◌&&◌, ◌==◌, codes}
 use Rattle.std.specs.List.{list_all, position}
 use Rattle.std.specs.Option.{option_map, option_map_or}
 use Rattle.std.specs.Str.{bytes_eq}
-use Rattle.std.proofs.lemmas.Bool.{and_from, or_left, or_right, le-leb, eq-eqb}
-use Rattle.std.proofs.lemmas.Option.{slice_get_within}
+use Rattle.std.proofs.lemmas.Bool.{and_from, or_left, or_right, le-leb, eq-eqb, ne_eqb}
+use Rattle.std.proofs.lemmas.List.{length-map}
+use Rattle.std.proofs.lemmas.Option.{slice_get_within, slice_get-map}
 use Rattle.c_core.specs.declared.code.Kind.{Kind}
 use Rattle.c_core.specs.declared.code.Line.{Line}
 use Rattle.c_core.specs.declared.code.Line.TheVariants as line
@@ -24,20 +25,14 @@ use Rattle.ir_core.specs.Items.{Do, End, in_block, item_in}
 use Rattle.ir_core.specs.Lower.{kind_of_type, variable_of, call_name, line_of, op_lines, end_lines, label_of, lines_from, name_in, lowered_as, lowered_from, lower}
 use Rattle.ir_core.specs.Shape.{FuncsFit, BeginsInTurn, Shape}
 use Rattle.ir_frames.specs.Kinds.{Head}
-use Rattle.ir_frames.proofs.KindLemmas.{get_behind}
-use Rattle.ir_lowering.specs.Prints.{LastPrints}
-use Rattle.ir_lowering.specs.PrintsOrFails.{OpsPrintOrFail, PrintsOrFails}
-use Rattle.ir_lowering.proofs.ListLemmas.{size_map, get_map}
-use Rattle.ir_lowering.proofs.LayoutLemmas.{function_at}
-use Rattle.ir_lowering.proofs.Facts.{number_is}
 use Rattle.ir_shapes.specs.Built.{head_of_code, building_of, IsBuilt, IsFunction, IsProgram}
-use Rattle.ir_shapes.specs.Laws.{BuiltHasShape, BuiltPrints}
+use Rattle.ir_shapes.specs.Laws.{BuiltHasShape}
 use Rattle.ir_shapes.proofs.BlockLemmas.{built_fits, funcs_fit, turns_begin}
 use Rattle.ir_core.proofs.JumpLemmas.{jumps_go, last_leaves}
 use Rattle.ir_shapes.proofs.SpellingLemmas.{identifier_parts, function_called_as}
 use Rattle.ir_shapes.proofs.NameLemmas.{variables_differ, variables_spelled, global_names, globals_spelled, global_known, own_name, other_name, functions_differ}
+use Rattle.ir_shapes.proofs.NumberLemmas.{function_at, number_is}
 use Rattle.ir_shapes.proofs.LineLemmas.{LinesAre, lines_spelled, lines_fit, Callee, blocks_are}
-use Rattle.ir_shapes.proofs.PrintLemmas.{blocks_print}
 
 get_front : {A : Type 0} (xs ys : List A) (n : ℕ) (x : A) → slice_get xs n ≡ Some x → slice_get (xs ++ ys) n ≡ Some x
 get_front [] ys n x e = let f : None ≡ Some x = e in absurd (cc)
@@ -98,7 +93,9 @@ module _ (p : Program) where
           named_as = name_in p n f;
           head = same;
           identifier = id;
-          called = ap (λ o. option_map_or call_name o []) there ∙ ap (λ x. codes "CPyDef_" ++ x) (function_called_as f.name id);
+          called =
+              ap (λ b. cond b [] (option_map_or call_name (slice_get p.funcs n) [])) (ne_eqb (suc n) (length p.funcs) ne)
+              ∙ (ap (λ o. option_map_or call_name o []) there ∙ ap (λ x. codes "CPyDef_" ++ x) (function_called_as f.name id));
           number =
               ap (λ c. cond c None (position (λ (g : CFunc). bytes_eq f.name g.name) (lower p).funcs)) (identifier_parts f.name id).some
               ∙ number_is (lower p).funcs f.name n (lowered_as p (name_in p n f) f) names at name;
@@ -106,14 +103,14 @@ module _ (p : Program) where
         }
 
     callee : (regs : List (List ℕ × RType)) (n : ℕ) (h : Head) → slice_get heads n ≡ Some h → Callee regs p n h
-    callee regs n h e = callee_by regs n h (slice_get fs n) refl (sym (get_map head_of_code fs n) ∙ e)
+    callee regs n h e = callee_by regs n h (slice_get fs n) refl (sym (slice_get-map head_of_code fs n) ∙ e)
 
     -- ---- each function
     module _ (f : Func) (b : IsBuilt heads p.globals f) where
       lines_are : LinesAre f.regs p (kind_of_type f.ret) (lines_from p 0 f.blocks)
       lines_are =
           subst (λ t. LinesAre f.regs p (kind_of_type t) (lines_from p 0 f.blocks)) (sym b.ret)
-          (blocks_are f.regs p b.among b.kinds.text
+          (blocks_are f.regs p b.among
           (λ n h e. callee f.regs n h (subst (λ hs. slice_get hs n ≡ Some h) b.heads_are e))
           (λ n name t e. global_known p is.globals is.globals_differ n name t (subst (λ gs. slice_get gs n ≡ Some (name, t)) b.globals_are e))
           (length f.blocks) b.few 0 f.blocks (omega arith) (built_fits heads p.globals f b) b.kinds.blocks)
@@ -125,7 +122,7 @@ module _ (p : Program) where
           (lines_spelled f.regs p (kind_of_type f.ret) (lines_from p 0 f.blocks) lines_are)
 
       params_there : nat_le f.params (length (map variable_of f.regs)) ≡ true
-      params_there = le-leb f.params (length (map variable_of f.regs)) (omega (arith, size_map variable_of f.regs, b.params, b.kinds.variables))
+      params_there = le-leb f.params (length (map variable_of f.regs)) (omega (arith, length-map f.regs variable_of, b.params, b.kinds.variables))
 
       lead_on : lines_lead_on (lines_from p 0 f.blocks) ≡ true
       lead_on =
@@ -204,41 +201,5 @@ module _ (p : Program) where
       lowered = well;
     }
 
-    -- ---- printed texts
-    built_at : (n : ℕ) (f : Func) → slice_get p.funcs n ≡ Some f → IsBuilt heads p.globals f
-    built_at n f e =
-        elim (get_behind fs own f n (subst (λ xs. slice_get xs n ≡ Some f) is.are e)) [
-          | inl there ↦ (is.each n f there).built
-          | inr last ↦ subst (IsBuilt heads p.globals) (sym last) is.own_built.built
-        ]
-
-    head_below : (n : ℕ) (h : Head) → slice_get heads n ≡ Some h → suc n < length p.funcs
-    head_below n h e = let lt : n < length heads = slice_get_within heads n h e in omega (arith, lt, count, size_map head_of_code fs)
-
-    -- the register for texts of a function, if it is there
-    text_at : (o : Option Func) → ((f : Func) → o ≡ Some f → IsBuilt heads p.globals f) → ℕ
-    text_at None built = 0
-    text_at (Some f) built = (built f refl).among.text
-
-    prints_at : (o : Option Func) (built : (f : Func) → o ≡ Some f → IsBuilt heads p.globals f) (f : Func) (k : ℕ) (x : Block) → o ≡ Some f → slice_get f.blocks k ≡ Some x → OpsPrintOrFail (λ r. nat_eq r (text_at o built)) (length p.funcs) x.ops × LastPrints (λ r. nat_eq r (text_at o built)) x.last
-    unfolding text_at
-    prints_at None built f k x e at = absurd (cc)
-    prints_at (Some g) built f k x e at =
-        let same : g ≡ f = cc in
-        let b = built g refl in
-        blocks_print b.among (building_of g) b.kinds (length p.funcs)
-        (λ n h i. head_below n h (subst (λ hs. slice_get hs n ≡ Some h) b.heads_are i)) g.blocks b.kinds.blocks k x
-        (subst (λ (z : Func). slice_get z.blocks k ≡ Some x) (sym same) at)
-
-    prints_of : PrintsOrFails p
-    prints_of = record {
-      texts = λ n r. nat_eq r (text_at (slice_get p.funcs n) (built_at n));
-      ops = λ n k f x e at. (prints_at (slice_get p.funcs n) (built_at n) f k x e at).0;
-      lasts = λ n k f x e at. (prints_at (slice_get p.funcs n) (built_at n) f k x e at).1;
-    }
-
 pub built_has_shape : BuiltHasShape
 built_has_shape p is = shape_of p is
-
-pub built_prints : BuiltPrints
-built_prints p is = prints_of p is

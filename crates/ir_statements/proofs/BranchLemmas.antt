@@ -10,7 +10,6 @@ use Rattle.py_typed.specs.WaysOut.{Flow, Goes, Breaks, Continues, Returns}
 use Rattle.ir_core.specs.declared.code.RType.TheVariants.{Bool as BoolType}
 use Rattle.ir_core.specs.declared.code.Last.TheVariants.{Goto, If, Unreachable}
 use Rattle.ir_core.specs.declared.code.Program.{Program}
-use Rattle.ir_core.specs.declared.code.RType.{RType}
 use Rattle.ir_core.specs.Building.{Building, with_last, held}
 use Rattle.ir_core.specs.Items.{End}
 use Rattle.ir_core.specs.Registers.{Regs}
@@ -38,7 +37,7 @@ use Rattle.ir_statements.proofs.FlowLemmas.{goes_by, branch_ends, test_then, flo
 use Rattle.ir_statements.proofs.LoopLemmas.{returns_out}
 
 -- no arm
-pub tests_none : (x : Setting) (result : Option RType) (b : Building) → Tests x result (λ n s. Gives Untaken s) b b []
+pub tests_none : (x : Setting) (result : Option Sort) (b : Building) → Tests x result (λ n s. Gives Untaken s) b b []
 tests_none x result b = record {
   extends = extends_refl b;
   opens = tt;
@@ -46,7 +45,7 @@ tests_none x result b = record {
       ends_now p Untaken s _ (Tries p result fn (length b.blocks) (length b.ops) to [] below x (length b.regs) regs) (IsThrown fn h below x (length b.regs) regs) record { now = regs; is = refl; match = match; kept = λ j a z o. refl };
 }
 
-module _ (p : Program) (result : Option RType) (fn : ℕ) (below : List Waiting) (x : Setting) (n : ℕ) (calls : CallsWork p x.source n) (h : Option ℕ) (to : Way → ℕ) (keep : ℕ) (old : Regs) (zs : List Exit) where
+module _ (p : Program) (result : Option Sort) (fn : ℕ) (below : List Waiting) (x : Setting) (n : ℕ) (calls : CallsWork p x.source n) (h : Option ℕ) (to : Way → ℕ) (keep : ℕ) (old : Regs) (zs : List Exit) where
   abbrev T : Value → State → Config → Type 0
   T = IsThrown fn h below x keep old
 
@@ -82,7 +81,7 @@ module _ (p : Program) (result : Option RType) (fn : ℕ) (below : List Waiting)
       ends_map p s.turns d (other n s) (Flows p result fn end 0 to zs below x keep old) R T T out (λ v s1 d1 z. z) jumped
 
 -- one more arm
-pub tests_next : (x : Setting) (result : Option RType) (m : Meaning Tried) (test : Meaning Value) (body : Meaning Flow) (b0 b1 b2 b3 b4 b5 b6 : Building) (r : ℕ) (xs ys : List Exit) → HasRoom x b0 → Tests x result m b0 b1 xs → Computes x (Shows sort.Bool) BoolType test b1 b2 r → Closes b2 b3 Unreachable → Works x result body b3 b4 ys → Closes b4 b5 Unreachable → b6 ≡ record b5 { blocks = with_last b5.blocks (length b2.blocks) (If record { 0 = r } (length b3.blocks) (length b5.blocks)) } → Tests x result (λ n s. on_to (m n s) (try_next ((λ u. on_to (test n u) truth_of), body n))) b0 b6 (xs ++ (ys ++ record { way = Join; block = length b4.blocks } ∷ []))
+pub tests_next : (x : Setting) (result : Option Sort) (m : Meaning Tried) (test : Meaning Value) (body : Meaning Flow) (b0 b1 b2 b3 b4 b5 b6 : Building) (r : ℕ) (xs ys : List Exit) → HasRoom x b0 → Tests x result m b0 b1 xs → Computes x (Shows sort.Bool) BoolType test b1 b2 r → Closes b2 b3 Unreachable → Works x result body b3 b4 ys → Closes b4 b5 Unreachable → b6 ≡ record b5 { blocks = with_last b5.blocks (length b2.blocks) (If record { 0 = r } (length b3.blocks) (length b5.blocks)) } → Tests x result (λ n s. on_to (m n s) (try_next ((λ u. on_to (test n u) truth_of), body n))) b0 b6 (xs ++ (ys ++ record { way = Join; block = length b4.blocks } ∷ []))
 tests_next x result m test body b0 b1 b2 b3 b4 b5 b6 r xs ys room q0 cx c3 q c5 e6 =
     let last : List Exit = record { way = Join; block = length b4.blocks } ∷ [] in
     let zs : List Exit = xs ++ (ys ++ last) in
@@ -129,7 +128,7 @@ tests_next x result m test body b0 b1 b2 b3 b4 b5 b6 r xs ys room q0 cx c3 q c5 
     }
 
 -- from the end of an `if`, where bodies that came to their end meet, seen from behind it
-flows_out : (p : Program) (result : Option RType) (fn k i : ℕ) (x : Setting) (plan : Way → Option ℕ) (xs : List Exit) (to : Way → ℕ) (below : List Waiting) (keep : ℕ) (old : Regs) → plan Break ≡ None → plan Continue ≡ None → plan Return ≡ None → i ≡ 0 → (g : Flow) (s : State) (d : Config) → Flows p result fn k 0 (by plan to) xs below x keep old g s d → Flows p result fn k i to (left plan xs) below x keep old g s d
+flows_out : (p : Program) (result : Option Sort) (fn k i : ℕ) (x : Setting) (plan : Way → Option ℕ) (xs : List Exit) (to : Way → ℕ) (below : List Waiting) (keep : ℕ) (old : Regs) → plan Break ≡ None → plan Continue ≡ None → plan Return ≡ None → i ≡ 0 → (g : Flow) (s : State) (d : Config) → Flows p result fn k 0 (by plan to) xs below x keep old g s d → Flows p result fn k i to (left plan xs) below x keep old g s d
 flows_out p result fn k i x plan xs to below keep old no_break no_continue no_return is Goes s d t = let P : ℕ → Type 0 = λ z. Stands fn k z below None x keep old s d in subst P (sym is) t
 flows_out p result fn k i x plan xs to below keep old no_break no_continue no_return is Breaks s d t =
     let P : ℕ → Type 0 = λ z. Stands fn z 0 below None x keep old s d in (uses_left plan Break xs no_break t.0, subst P (ap (λ z. number_or z (to Break)) no_break) t.1)
@@ -139,7 +138,7 @@ flows_out p result fn k i x plan xs to below keep old no_break no_continue no_re
     (t.0, returns_out p result fn x plan xs to below keep old no_return (ap (λ z. number_or z (to Return)) no_return) x.frame.ret v s d t.1)
 
 -- the body of `else`, and the end of all
-pub if_works : (x : Setting) (result : Option RType) (m : Meaning Tried) (other : Meaning Flow) (b0 b1 b2 b3 b4 : Building) (xs ys : List Exit) (plan : Plan) → plan ≡ record { breaks = None; continues = None; returns = None; joins = Some (length b3.blocks) } → Tests x result m b0 b1 xs → Works x result other b1 b2 ys → Closes b2 b3 (Goto (length b3.blocks)) → Patching b3 b4 (xs ++ ys) [] (planned plan) → Works x result (λ n s. on_to (m n s) (or_else (other n))) b0 b4 (left (planned plan) (xs ++ ys))
+pub if_works : (x : Setting) (result : Option Sort) (m : Meaning Tried) (other : Meaning Flow) (b0 b1 b2 b3 b4 : Building) (xs ys : List Exit) (plan : Plan) → plan ≡ record { breaks = None; continues = None; returns = None; joins = Some (length b3.blocks) } → Tests x result m b0 b1 xs → Works x result other b1 b2 ys → Closes b2 b3 (Goto (length b3.blocks)) → Patching b3 b4 (xs ++ ys) [] (planned plan) → Works x result (λ n s. on_to (m n s) (or_else (other n))) b0 b4 (left (planned plan) (xs ++ ys))
 if_works x result m other b0 b1 b2 b3 b4 xs ys plan planis q0 q c3 all =
     let zs = xs ++ ys in
     let k1 = q0.extends.blocks_grow in let k2 = q.extends.blocks_grow in

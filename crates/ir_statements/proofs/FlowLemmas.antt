@@ -54,7 +54,7 @@ module _ (p : Program) (fn : ℕ) (below : List Waiting) where
 
 -- ---- seen from a whole
 
-module _ (p : Program) (result : Option RType) where
+module _ (p : Program) (result : Option Sort) where
   pub back_from : (o : Option Reg) (fn : ℕ) (to : Way → ℕ) (xs ys : List Exit) (below : List Waiting) (x : Setting) (keep keep' : ℕ) (regs regs' : Regs) (v : Value) (s : State) (d : Config) → UsesToo xs ys → keep ≤ keep' → SameIn x.frame keep regs' regs → Back p result o fn to xs below x keep' regs' v s d → Back p result o fn to ys below x keep regs v s d
   back_from None fn to xs ys below x keep keep' regs regs' v s d more le same b = b
   back_from (Some r) fn to xs ys below x keep keep' regs regs' v s d more le same b = (let t = b.1.stands in (more Return b.0, record { stands = record { now = t.now; is = t.is; match = t.match; kept = λ j a z o. t.kept j a (omega arith) o ∙ same j a z o }; value = b.1.value }))
@@ -65,7 +65,7 @@ module _ (p : Program) (result : Option RType) where
   flows_from fn k i to xs ys below x keep keep' regs regs' Continues s d more le same t = (more Continue t.0, stands_from fn (to Continue) 0 below None x keep keep' regs regs' s d le same t.1)
   flows_from fn k i to xs ys below x keep keep' regs regs' (Returns v) s d more le same t = (t.0, back_from x.frame.ret fn to xs ys below x keep keep' regs regs' v s d more le same t.1)
 
-module _ (p : Program) (result : Option RType) (fn : ℕ) (below : List Waiting) (x : Setting) (n : ℕ) (calls : CallsWork p x.source n) where
+module _ (p : Program) (result : Option Sort) (fn : ℕ) (below : List Waiting) (x : Setting) (n : ℕ) (calls : CallsWork p x.source n) where
   -- what follows a value
   pub value_then : {B : Type 0} (h : Option ℕ) (K : Showing) (t : RType) (m : Meaning Value) (b c : Building) (r : ℕ) (regs : Regs) (s : State) (go : Value → Does B) (S : B → State → Config → Type 0) (keep : ℕ) (old : Regs) → Computes x K t m b c r → Placed p fn b c h → HasRoom x b → keep ≤ length b.regs → SameIn x.frame keep regs old → Matches x regs s → s.turns ≤ n → ((now : Regs) (v : Value) (s1 : State) → s1.turns ≤ s.turns → K v (now r) → ((j : ℕ) → j < length b.regs → now j ≡ regs j) → SameLocals x s s1 → Matches x now s1 → Ends p s1.turns (running fn (length c.blocks) (length c.ops) now below (world None s1)) (go v s1) S (IsThrown fn h below x keep old)) → Ends p s.turns (running fn (length b.blocks) (length b.ops) regs below (world None s)) (on_to (m n s) go) S (IsThrown fn h below x keep old)
   value_then h K t m b c r regs s go S keep old cx at room wide same match le next =
@@ -113,7 +113,7 @@ module _ (p : Program) (result : Option RType) (fn : ℕ) (below : List Waiting)
   flow_then h m b c xs ys to keep old q more at j le (Returns v) s d fits t = ends_now p (Returns v) s d (Flows p result fn (length c.blocks) (length c.ops) to ys below x keep old) (IsThrown fn h below x keep old) t
 
 -- nothing
-pub none_works : (x : Setting) (result : Option RType) (b : Building) → Works x result (λ n s. Gives Goes s) b b []
+pub none_works : (x : Setting) (result : Option Sort) (b : Building) → Works x result (λ n s. Gives Goes s) b b []
 none_works x result b = record {
   extends = extends_refl b;
   opens = tt;
@@ -122,7 +122,7 @@ none_works x result b = record {
 }
 
 -- one statement after another
-pub then_works : (x : Setting) (result : Option RType) (m1 m2 : Meaning Flow) (b0 b1 b2 : Building) (x1 x2 : List Exit) → Works x result m1 b0 b1 x1 → Works x result m2 b1 b2 x2 → Works x result (λ n s. on_to (m1 n s) (flow_on (m2 n))) b0 b2 (x1 ++ x2)
+pub then_works : (x : Setting) (result : Option Sort) (m1 m2 : Meaning Flow) (b0 b1 b2 : Building) (x1 x2 : List Exit) → Works x result m1 b0 b1 x1 → Works x result m2 b1 b2 x2 → Works x result (λ n s. on_to (m1 n s) (flow_on (m2 n))) b0 b2 (x1 ++ x2)
 then_works x result m1 m2 b0 b1 b2 x1 x2 q r =
     let st = stays_by b1 b2 (length b0.blocks) (length b1.blocks) r.extends in
     let l1 = q.extends.blocks_grow in let l2 = r.extends.blocks_grow in let r1 = q.extends.regs_grow in

@@ -13,7 +13,6 @@ use Rattle.ir_core.specs.declared.code.Last.TheVariants.{Goto, If, Unreachable}
 use Rattle.ir_core.specs.declared.code.Op.TheVariants.{Turn}
 use Rattle.ir_core.specs.declared.code.Reg.{Reg}
 use Rattle.ir_core.specs.declared.code.Program.{Program}
-use Rattle.ir_core.specs.declared.code.RType.{RType}
 use Rattle.ir_core.specs.Building.{Building, with_last, held}
 use Rattle.ir_core.specs.Items.{Do, End}
 use Rattle.ir_core.specs.Registers.{Regs}
@@ -47,7 +46,7 @@ pub record LoopAt (p : Program) (fn : ℕ) (b1 b2 b3 b4 b5 : Building) (r out : 
   pub turn : item_at p fn (length b5.blocks) 0 ≡ Some (Do Turn)
   pub back : item_at p fn (length b5.blocks) 1 ≡ Some (End (Goto (length b1.blocks)))
 
-module _ (p : Program) (result : Option RType) (fn : ℕ) (below : List Waiting) (x : Setting) (n : ℕ) (calls : CallsWork p x.source n) (h : Option ℕ) (test : Meaning Value) (body : Meaning Flow) (b1 b2 b3 b4 b5 : Building) (r out : ℕ) (xs ys : List Exit) (to inner : Way → ℕ) (keep : ℕ) (old : Regs) (at : LoopAt p fn b1 b2 b3 b4 b5 r out) (room : HasRoom x b1) (wide : keep ≤ length b1.regs) (wider : keep ≤ length b3.regs) (cx : Computes x (Shows sort.Bool) BoolType test b1 b2 r) (at_test : Placed p fn b1 b2 h) (start1 : length b1.ops ≡ 0) (q : Works x result body b3 b4 xs) (at_body : Placed p fn b3 b4 h) (start3 : length b3.ops ≡ 0) (jumps : JumpTo p fn b4 inner xs) (breaks : inner Break ≡ out) (continues : inner Continue ≡ length b5.blocks) (returns : (o : Option Reg) (v : Value) (s : State) (d : Config) → Back p result o fn inner xs below x keep old v s d → Back p result o fn to ys below x keep old v s d) where
+module _ (p : Program) (result : Option Sort) (fn : ℕ) (below : List Waiting) (x : Setting) (n : ℕ) (calls : CallsWork p x.source n) (h : Option ℕ) (test : Meaning Value) (body : Meaning Flow) (b1 b2 b3 b4 b5 : Building) (r out : ℕ) (xs ys : List Exit) (to inner : Way → ℕ) (keep : ℕ) (old : Regs) (at : LoopAt p fn b1 b2 b3 b4 b5 r out) (room : HasRoom x b1) (wide : keep ≤ length b1.regs) (wider : keep ≤ length b3.regs) (cx : Computes x (Shows sort.Bool) BoolType test b1 b2 r) (at_test : Placed p fn b1 b2 h) (start1 : length b1.ops ≡ 0) (q : Works x result body b3 b4 xs) (at_body : Placed p fn b3 b4 h) (start3 : length b3.ops ≡ 0) (jumps : JumpTo p fn b4 inner xs) (breaks : inner Break ≡ out) (continues : inner Continue ≡ length b5.blocks) (returns : (o : Option Reg) (v : Value) (s : State) (d : Config) → Back p result o fn inner xs below x keep old v s d → Back p result o fn to ys below x keep old v s d) where
   abbrev R : Flow → State → Config → Type 0
   R = Flows p result fn out 0 to ys below x keep old
 
@@ -102,12 +101,12 @@ module _ (p : Program) (result : Option RType) (fn : ℕ) (below : List Waiting)
       ends_from p s1.turns s1.turns _ _ (go t s1) R T (le_refl _) step (branch_ends p fn below s1.turns t (length b3.blocks) out now (world None s1) (λ u. on_to (body n u) (after_body (repeats k i))) (Gives Goes) s1 R T first second)))
 
 -- a returned value passes through
-pub returns_out : (p : Program) (result : Option RType) (fn : ℕ) (x : Setting) (plan : Way → Option ℕ) (xs : List Exit) (to : Way → ℕ) (below : List Waiting) (keep : ℕ) (old : Regs) → plan Return ≡ None → by plan to Return ≡ to Return → (o : Option Reg) (v : Value) (s : State) (d : Config) → Back p result o fn (by plan to) xs below x keep old v s d → Back p result o fn to (left plan xs) below x keep old v s d
+pub returns_out : (p : Program) (result : Option Sort) (fn : ℕ) (x : Setting) (plan : Way → Option ℕ) (xs : List Exit) (to : Way → ℕ) (below : List Waiting) (keep : ℕ) (old : Regs) → plan Return ≡ None → by plan to Return ≡ to Return → (o : Option Reg) (v : Value) (s : State) (d : Config) → Back p result o fn (by plan to) xs below x keep old v s d → Back p result o fn to (left plan xs) below x keep old v s d
 returns_out p result fn x plan xs to below keep old none same None v s d b = b
 returns_out p result fn x plan xs to below keep old none same (Some r) v s d b =
     (uses_left plan Return xs none b.0, let P : ℕ → Type 0 = λ z. Brings fn z below x r.0 keep old v s d in subst P same b.1)
 
-pub while_works : (x : Setting) (result : Option RType) (test : Meaning Value) (body : Meaning Flow) (b0 b1 b2 b3 b4 b5 b6 b7 b8 b9 : Building) (r : ℕ) (xs : List Exit) (plan : Plan) → plan ≡ record { breaks = Some (length b7.blocks); continues = Some (length b5.blocks); returns = None; joins = None } → HasRoom x b0 → Closes b0 b1 (Goto (length b1.blocks)) → Computes x (Shows sort.Bool) BoolType test b1 b2 r → Closes b2 b3 Unreachable → Works x result body b3 b4 xs → Closes b4 b5 (Goto (length b5.blocks)) → Pushes b5 b6 Turn → Closes b6 b7 (Goto (length b1.blocks)) → b8 ≡ record b7 { blocks = with_last b7.blocks (length b2.blocks) (If record { 0 = r } (length b3.blocks) (length b7.blocks)) } → Patching b8 b9 xs [] (planned plan) → Works x result (λ n s. loop {X = ℕ} (suc n) (λ j u. on_to (test n u) truth_of) (λ j. body n) (λ j. j) 0 s) b0 b9 (left (planned plan) xs)
+pub while_works : (x : Setting) (result : Option Sort) (test : Meaning Value) (body : Meaning Flow) (b0 b1 b2 b3 b4 b5 b6 b7 b8 b9 : Building) (r : ℕ) (xs : List Exit) (plan : Plan) → plan ≡ record { breaks = Some (length b7.blocks); continues = Some (length b5.blocks); returns = None; joins = None } → HasRoom x b0 → Closes b0 b1 (Goto (length b1.blocks)) → Computes x (Shows sort.Bool) BoolType test b1 b2 r → Closes b2 b3 Unreachable → Works x result body b3 b4 xs → Closes b4 b5 (Goto (length b5.blocks)) → Pushes b5 b6 Turn → Closes b6 b7 (Goto (length b1.blocks)) → b8 ≡ record b7 { blocks = with_last b7.blocks (length b2.blocks) (If record { 0 = r } (length b3.blocks) (length b7.blocks)) } → Patching b8 b9 xs [] (planned plan) → Works x result (λ n s. loop {X = ℕ} (suc n) (λ j u. on_to (test n u) truth_of) (λ j. body n) (λ j. j) 0 s) b0 b9 (left (planned plan) xs)
 while_works x result test body b0 b1 b2 b3 b4 b5 b6 b7 b8 b9 r xs plan planis room c1 cx c3 q c5 t c7 e8 all =
     let k2 = cx.extends.blocks_grow in let k4 = q.extends.blocks_grow in
     let g2 = cx.extends.regs_grow in let g4 = q.extends.regs_grow in

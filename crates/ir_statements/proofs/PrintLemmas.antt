@@ -1,65 +1,46 @@
 -- The code of `print` writes what it is to.
-use Rattle.std.proofs.Common.{◌≡◌, ℕ, zero, suc, ◌≢◌, ◌+◌, ◌<◌, Bool, true, false, List, [], ◌∷◌, ◌++◌, length, Option, Some, None, refl, sym, ap, ◌∙◌, subst, arith, append_assoc, le_refl}
-use Rattle.std.specs.Prelude.{ℤ, nat_lt, slice_get}
+use Rattle.std.proofs.Common.{◌≡◌, ℕ, zero, suc, ◌+◌, ◌<◌, ◌≤◌, true, false, List, [], ◌∷◌, ◌++◌, length, map, get_or, take, Option, Some, None, refl, sym, ap, ◌∙◌, subst, arith, append_assoc, append-nil, le_refl, inl, add-one, ◌≢◌, Bool}
+use Rattle.std.specs.Prelude.{◌&&◌}
+use Rattle.std.proofs.lemmas.List.{take_all}
 use Rattle.std.specs.List.{list_all}
-use Rattle.std.specs.Fmt.{signed_decimal}
-use Rattle.std.specs.Str.{IsAscii, is_utf8}
-use Rattle.std.proofs.lemmas.Str.{IsUtf8-from_ascii, is_utf8-from_IsUtf8}
-use Rattle.value_core.specs.Value.{Value, IntVal, BoolVal, StrVal}
+use Rattle.value_core.specs.Value.{Value, StrVal}
 use Rattle.value_core.specs.Items.{line_feed}
+use Rattle.py_typed.specs.declared.expression.TExpr.{TExpr}
 use Rattle.py_typed.specs.Sorts as sort
-use Rattle.py_typed.specs.Sorts.{Sort}
-use Rattle.py_typed.specs.State.{State, Outcome, Gives, Does, on_to, needs, write}
+use Rattle.py_typed.specs.Sorts.{Sort, sort as sort_of}
+use Rattle.py_typed.specs.Expressions.{typed_expr, type_of}
+use Rattle.py_typed.specs.State.{State, Outcome, Gives, Does, on_to, give, needs, write}
 use Rattle.py_typed.specs.Operations.{text_of, line_of, has_text}
 use Rattle.py_typed.specs.WaysOut.{Flow, Goes}
-use Rattle.c_core.specs.declared.primitive.Primitive.{Primitive}
-use Rattle.c_core.specs.declared.primitive.Primitive.TheVariants as prim
-use Rattle.c_core.specs.declared.primitive.Int64Prim.TheVariants as int64
-use Rattle.c_core.specs.declared.primitive.BoolPrim.TheVariants as bool
-use Rattle.c_core.specs.declared.primitive.StrPrim.TheVariants as str
-use Rattle.c_core.specs.declared.primitive.IoPrim.TheVariants as io
+use Rattle.py_typed.proofs.ExpressionLemmas.{type_at}
 use Rattle.ir_core.specs.declared.code.Op.{Op}
-use Rattle.ir_core.specs.declared.code.Op.TheVariants.{Prim, Dec}
-use Rattle.ir_core.specs.declared.code.PArg.{PArg}
-use Rattle.ir_core.specs.declared.code.PArg.TheVariants as arg
+use Rattle.ir_core.specs.declared.code.Op.TheVariants.{Prim}
 use Rattle.ir_core.specs.declared.code.Reg.{Reg}
-use Rattle.ir_core.specs.declared.code.RType.{RType}
-use Rattle.ir_core.specs.declared.code.RType.TheVariants.{Ref, I64, Bool as BoolType}
+use Rattle.ir_core.specs.declared.code.RType.TheVariants.{Ref}
 use Rattle.ir_core.specs.declared.code.Program.{Program}
 use Rattle.ir_core.specs.Building.{Building, held, Extends}
 use Rattle.ir_core.specs.Items.{Do}
-use Rattle.ir_core.specs.Laws.{pushed}
-use Rattle.ir_core.specs.Registers.{Holds, Regs, put}
-use Rattle.ir_core.specs.Rows.{type_of_reg}
+use Rattle.ir_core.specs.Registers.{Holds, Regs}
+use Rattle.ir_core.specs.Rows.{Declared, type_of_reg}
 use Rattle.ir_core.specs.Effects.{World}
 use Rattle.ir_core.specs.Meaning.{Waiting, Strict, do_op, registers_of}
-use Rattle.ir_core.proofs.StepLemmas.{op_step, put_same, put_other}
-use Rattle.ir_frames.specs.Settings.{Setting}
+use Rattle.ir_core.proofs.StepLemmas.{op_step}
+use Rattle.ir_frames.specs.Settings.{Setting, rtype_of}
 use Rattle.ir_frames.specs.Placing.{HasType, Has}
 use Rattle.ir_frames.specs.Calling.{Pushes}
 use Rattle.ir_frames.specs.Coming.{world, running, Leads, Ends}
-use Rattle.ir_frames.specs.Matching.{flag_of, flag_in, Matches, SameLocals, HasRoom, IsThrown}
-use Rattle.ir_frames.specs.Computing.{Showing, Shows, ShowsNumber, Counts, Meaning, Computes}
-use Rattle.ir_frames.specs.Kinds.{Surrounding, MakesText, HasKinds, KeepsKindsIf}
+use Rattle.ir_frames.specs.Matching.{HasKind, Matches, HasRoom, IsThrown}
+use Rattle.ir_frames.specs.Computing.{Shows, Meaning, Makes, Attempts, ShowAll, HaveTypes, ArrivesAll, ComputesAll}
+use Rattle.ir_frames.specs.Shaped.{Keeps}
+use Rattle.ir_frames.specs.Kinds.{Surrounding, OpKinds, KeepsKinds}
+use Rattle.ir_frames.proofs.ComingLemmas.{leads_trans, leads_step, leads_refl, ends_from, ends_on, ends_now, ends_at, on_assoc}
+use Rattle.ir_frames.proofs.HeldLemmas.{extends_refl, extends_trans, has_less, type_has, type_below, placed_part}
+use Rattle.ir_frames.proofs.MatchLemmas.{room_on, match_kept}
+use Rattle.ir_operators.specs.Operating.{is_written, ActsOn}
 use Rattle.ir_statements.specs.Runs.{Flows, Works}
-use Rattle.ir_statements.proofs.FlowLemmas.{on_assoc, value_then}
-use Rattle.ir_statements.specs.declared.printing.Printed.{Printed}
-use Rattle.ir_statements.specs.declared.printing.Printed.TheVariants.{Number, Flag}
-use Rattle.ir_statements.specs.Printing.{register_of, text_primitive, IsDeclared, HoldsValue, HoldValues, written, with_text, WritesText, Writes, ArrivesPrinted, ComputesPrinted, one_value}
-use Rattle.ir_frames.proofs.ComingLemmas.{leads_trans, leads_step, ends_from, ends_on, ends_now, ends_at}
-use Rattle.ir_frames.proofs.HeldLemmas.{extends_trans, pushed_extends, pushes, get_below, has_less, type_has, type_kept, placed_part}
-use Rattle.ir_frames.proofs.KindLemmas.{text_kinds}
-use Rattle.ir_frames.proofs.MatchLemmas.{either_flag, not_below, keeps_as}
+use Rattle.ir_statements.specs.Printing.{written, writes_of, item_text, row_text, first_texts, Prints, WritesText, WritesOne, Writes}
 
--- ---- the operations of a text
-
-text_extends : (b c : Building) (r : Reg) (q : Primitive) (a : PArg) (line : ℕ) → c ≡ with_text b r q a line → Extends b c
-text_extends b c r q a line e =
-    let b1 : Building = pushed b (Prim (Some r) q (a ∷ []), line) in
-    let b2 : Building = pushed b1 (Prim None (prim.Io io.Write) (arg.Var r ∷ []), line) in
-    extends_trans b b1 c (pushed_extends b b1 _ refl) (extends_trans b1 b2 c (pushed_extends b1 b2 _ refl) (pushed_extends b2 c _ e))
-
--- ---- single operations
+-- ---- the operation that writes
 
 module _ (p : Program) (fn : ℕ) (below : List Waiting) where
   step_leads : (b c : Building) (o : Op) (regs regs' : Regs) (w w' : World) → held c (length b.blocks) (length b.ops) ≡ Some (Do o) → length c.blocks ≡ length b.blocks → length c.ops ≡ length b.ops + 1 → Has p fn c → do_op Strict p o (record { fn = fn; block = length b.blocks; place = length b.ops; regs = regs }) below w ≡ running fn (length b.blocks) (length b.ops + 1) regs' below w' → Leads p (running fn (length b.blocks) (length b.ops) regs below w) (running fn (length c.blocks) (length c.ops) regs' below w')
@@ -67,169 +48,270 @@ module _ (p : Program) (fn : ℕ) (below : List Waiting) where
       let is : running fn (length b.blocks) (length b.ops + 1) regs' below w' ≡ running fn (length c.blocks) (length c.ops) regs' below w' = rw (same_blocks, more_ops) refl in
       leads_step p _ _ (op_step Strict p (record { fn = fn; block = length b.blocks; place = length b.ops; regs = regs }) below w o (has.items _ _ (Do o) (λ z. cc) at) ∙ does ∙ is)
 
-  abbrev HasIn : ℕ → RType → Type 0
-  HasIn r t = type_of_reg (registers_of p fn) (record { 0 = r }) ≡ Some t
-
-  literal_does : (k i r : ℕ) (text : List ℕ) (regs : Regs) (s : State) → HasIn r Ref → do_op Strict p (Prim (Some record { 0 = r }) (prim.Str str.Literal) (arg.Text text ∷ [])) (record { fn = fn; block = k; place = i; regs = regs }) below (world None s) ≡ running fn k (i + 1) (put regs r (Holds (StrVal text))) below (world None s)
-  literal_does k i r text regs s t = rw t refl
-
-  number_does : (k i r q : ℕ) (a : ℤ) (regs : Regs) (s : State) → HasIn r Ref → HasIn q I64 → regs q ≡ Holds (IntVal a) → do_op Strict p (Prim (Some record { 0 = r }) (prim.Int64 int64.Str) (arg.Var record { 0 = q } ∷ [])) (record { fn = fn; block = k; place = i; regs = regs }) below (world None s) ≡ running fn k (i + 1) (put regs r (Holds (StrVal (signed_decimal a)))) below (world None s)
-  number_does k i r q a regs s t u is = rw (u, is, t) refl
-
-  flag_does : (k i r q : ℕ) (a : Bool) (regs : Regs) (s : State) → HasIn r Ref → HasIn q BoolType → regs q ≡ Holds (BoolVal a) → do_op Strict p (Prim (Some record { 0 = r }) (prim.Bool bool.Str) (arg.Var record { 0 = q } ∷ [])) (record { fn = fn; block = k; place = i; regs = regs }) below (world None s) ≡ running fn k (i + 1) (put regs r (Holds (StrVal (text_of (BoolVal a))))) below (world None s)
-  flag_does k i r q true regs s t u is = rw (u, is, t) refl
-  flag_does k i r q false regs s t u is = rw (u, is, t) refl
-
-  write_does : (k i r : ℕ) (text : List ℕ) (regs : Regs) (s : State) → HasIn r Ref → regs r ≡ Holds (StrVal text) → do_op Strict p (Prim None (prim.Io io.Write) (arg.Var record { 0 = r } ∷ [])) (record { fn = fn; block = k; place = i; regs = regs }) below (world None s) ≡ running fn k (i + 1) regs below (world None (written s text))
+  write_does : (k i r : ℕ) (text : List ℕ) (regs : Regs) (s : State) → type_of_reg (registers_of p fn) (record { 0 = r }) ≡ Some Ref → regs r ≡ Holds (StrVal text) → do_op Strict p (writes_of (record { 0 = r })) (record { fn = fn; block = k; place = i; regs = regs }) below (world None s) ≡ running fn k (i + 1) regs below (world None (written s text))
   write_does k i r text regs s t is = rw (t, is) refl
 
-  dec_does : (k i r : ℕ) (text : List ℕ) (regs : Regs) (s : State) → HasIn r Ref → regs r ≡ Holds (StrVal text) → do_op Strict p (Dec record { 0 = r }) (record { fn = fn; block = k; place = i; regs = regs }) below (world None s) ≡ running fn k (i + 1) regs below (world None s)
-  dec_does k i r text regs s t is = rw (t, is) refl
+  write_leads : (b c : Building) (r : ℕ) (text : List ℕ) (regs : Regs) (s : State) → Pushes b c (writes_of (record { 0 = r })) → HasType b r Ref → Has p fn c → regs r ≡ Holds (StrVal text) → Leads p (running fn (length b.blocks) (length b.ops) regs below (world None s)) (running fn (length c.blocks) (length c.ops) regs below (world None (written s text)))
+  write_leads b c r text regs s q type has is =
+      let t = type_has p fn b r Ref (has_less p fn b c q.extends has) type in
+      step_leads b c (writes_of (record { 0 = r })) regs regs (world None s) (world None (written s text)) q.at q.blocks q.ops has (write_does _ _ r text regs s t is)
 
--- ---- texts
+-- ---- single texts
 
-module _ (p : Program) (fn : ℕ) (below : List Waiting) (b c : Building) (r : ℕ) (line : ℕ) (type : HasType b r Ref) where
-  -- a primitive makes the text
-  text_leads : (q : Primitive) (a : PArg) → c ≡ with_text b (record { 0 = r }) q a line → Has p fn c → (regs : Regs) (s : State) (text : List ℕ) → do_op Strict p (Prim (Some record { 0 = r }) q (a ∷ [])) (record { fn = fn; block = length b.blocks; place = length b.ops; regs = regs }) below (world None s) ≡ running fn (length b.blocks) (length b.ops + 1) (put regs r (Holds (StrVal text))) below (world None s) → Leads p (running fn (length b.blocks) (length b.ops) regs below (world None s)) (running fn (length c.blocks) (length c.ops) (put regs r (Holds (StrVal text))) below (world None (written s text)))
-  text_leads q a e has regs s text does =
-      let x : Op × ℕ = (Prim (Some record { 0 = r }) q (a ∷ []), line) in
-      let y : Op × ℕ = (Prim None (prim.Io io.Write) (arg.Var record { 0 = r } ∷ []), line) in
-      let z : Op × ℕ = (Dec record { 0 = r }, line) in
-      let b1 : Building = pushed b x in
-      let b2 : Building = pushed b1 y in
-      let p1 : Pushes b b1 x.0 = pushes b b1 x refl in
-      let p2 : Pushes b1 b2 y.0 = pushes b1 b2 y refl in
-      let p3 : Pushes b2 c z.0 = pushes b2 c z e in
-      let has2 = has_less p fn b2 c p3.extends has in
-      let has1 = has_less p fn b1 b2 p2.extends has2 in
-      let t = type_has p fn b r Ref (has_less p fn b b1 p1.extends has1) type in
-      let now : Regs = put regs r (Holds (StrVal text)) in
-      let is : now r ≡ Holds (StrVal text) = put_same regs r (Holds (StrVal text)) in
-      leads_trans p _ _ _
-      (step_leads p fn below b b1 x.0 regs now (world None s) (world None s) p1.at p1.blocks p1.ops has1 does)
-      (leads_trans p _ _ _
-      (step_leads p fn below b1 b2 y.0 now now (world None s) (world None (written s text)) p2.at p2.blocks p2.ops has2 (write_does p fn below _ _ r text now s t is))
-      (step_leads p fn below b2 c z.0 now now (world None (written s text)) (world None (written s text)) p3.at p3.blocks p3.ops has (dec_does p fn below _ _ r text now (written s text) t is)))
-
-  literal_leads : (text : List ℕ) → c ≡ with_text b (record { 0 = r }) (prim.Str str.Literal) (arg.Text text) line → Has p fn c → (regs : Regs) (s : State) → Leads p (running fn (length b.blocks) (length b.ops) regs below (world None s)) (running fn (length c.blocks) (length c.ops) (put regs r (Holds (StrVal text))) below (world None (written s text)))
-  literal_leads text e has regs s =
-      let t = type_has p fn b r Ref (has_less p fn b c (text_extends b c (record { 0 = r }) _ _ line e) has) type in
-      text_leads _ _ e has regs s text (literal_does p fn below _ _ r text regs s t)
-
-  -- the text of a value
-  printed_leads : (q : Printed) → IsDeclared b q → c ≡ with_text b (record { 0 = r }) (text_primitive q) (arg.Var (register_of q)) line → Has p fn c → (regs : Regs) (s : State) (v : Value) → HoldsValue regs q v → Leads p (running fn (length b.blocks) (length b.ops) regs below (world None s)) (running fn (length c.blocks) (length c.ops) (put regs r (Holds (StrVal (text_of v)))) below (world None (written s (text_of v))))
-  printed_leads (Number q) declared e has regs s v holds =
-      let has0 = has_less p fn b c (text_extends b c (record { 0 = r }) _ _ line e) has in
-      let t = type_has p fn b r Ref has0 type in
-      let u = type_has p fn b q.0 I64 has0 declared in
-      let is : regs q.0 ≡ Holds (IntVal holds.0) = holds.2 ∙ ap Holds holds.1 in
-      text_leads _ _ e has regs s (text_of v) (number_does p fn below _ _ r q.0 holds.0 regs s t u is ∙ ap (λ z. running fn (length b.blocks) (length b.ops + 1) (put regs r (Holds (StrVal (text_of z)))) below (world None s)) (sym holds.1))
-  printed_leads (Flag q) declared e has regs s v holds =
-      let has0 = has_less p fn b c (text_extends b c (record { 0 = r }) _ _ line e) has in
-      let t = type_has p fn b r Ref has0 type in
-      let u = type_has p fn b q.0 BoolType has0 declared in
-      let is : regs q.0 ≡ Holds (BoolVal holds.0) = holds.2 ∙ ap Holds holds.1 in
-      text_leads _ _ e has regs s (text_of v) (flag_does p fn below _ _ r q.0 holds.0 regs s t u is ∙ ap (λ z. running fn (length b.blocks) (length b.ops + 1) (put regs r (Holds (StrVal (text_of z)))) below (world None s)) (sym holds.1))
-
--- a text of the program
-literal_written : (b c : Building) (r : Reg) (text : List ℕ) (line : ℕ) → HasType b r.0 Ref → c ≡ with_text b r (prim.Str str.Literal) (arg.Text text) line → WritesText r.0 b c text
-literal_written b c r text line type e = record {
-  extends = text_extends b c r _ _ line e;
-  blocks = ap (λ (v : Building). length v.blocks) e;
-  runs = λ p fn has regs below s. (put regs r.0 (Holds (StrVal text)), literal_leads p fn below b c r.0 line type text e has regs s, λ j ne. put_other regs r.0 j (Holds (StrVal text)) ne);
+pub text_written : (b c d : Building) (r : Reg) (text : List ℕ) → Makes b c r.0 Ref (λ regs h. h ≡ Holds (StrVal text)) → Pushes c d (writes_of r) → WritesText b d text
+text_written b c d r text m q = record {
+  extends = extends_trans b c d m.extends q.extends;
+  runs = λ p fn h at regs below s.
+      let has = has_less p fn c d q.extends at.has in
+      let made = m.runs p fn has regs below s (Holds (StrVal text)) refl in
+      (made.0, leads_trans p _ _ _ made.1 (write_leads p fn below c d r.0 text made.0 s q m.type at.has made.2), made.3);
 }
+
+pub value_written : (t : Sort) (b c d : Building) (x : ℕ) (r : Reg) → Attempts (Shows sort.Str) b c r.0 Ref (ActsOn t x (λ v. give (StrVal (text_of v)))) → Pushes c d (writes_of r) → WritesOne t x b d text_of
+value_written t b c d x r m q = record {
+  extends = extends_trans b c d m.extends q.extends;
+  runs = λ p fn h at y room regs below s match v shows.
+      let at1 = placed_part p fn b b c d h (le_refl _) q.extends at in
+      let made = m.runs p fn h at1 y room regs below s match (Gives (StrVal (text_of v)) s) record { v = v; shows = shows; does = refl } in
+      let a = made.3 in
+      let P : _ → Type 0 = λ z. Leads p (running fn (length b.blocks) (length b.ops) regs below (world None s)) z in
+      (a.now, leads_trans p _ _ _ (subst P a.is made.2) (write_leads p fn below c d r.0 (text_of v) a.now s q m.type at.has a.shows.0), a.kept);
+}
+
+-- ---- one behind the other
 
 written_twice : (s : State) (a b : List ℕ) → written (written s a) b ≡ written s (a ++ b)
 written_twice s a b = ap (λ z. record s { output = z }) (append_assoc s.output a b)
 
--- a value and the line feed behind it
-pub line_written : (b0 b1 b2 : Building) (r : Reg) (q : Printed) (line : ℕ) → HasType b0 r.0 Ref → IsDeclared b0 q → b1 ≡ with_text b0 r (text_primitive q) (arg.Var (register_of q)) line → b2 ≡ with_text b1 r (prim.Str str.Literal) (arg.Text (line_feed ∷ [])) line → Writes r.0 b0 b2 (q ∷ []) line_of
-line_written b0 b1 b2 r q line type declared e1 e2 =
-    let x1 : Extends b0 b1 = text_extends b0 b1 r _ _ line e1 in
-    let w : WritesText r.0 b1 b2 (line_feed ∷ []) = literal_written b1 b2 r (line_feed ∷ []) line (type_kept b0 b1 r.0 Ref x1 type) e2 in
-    record {
-      extends = extends_trans b0 b1 b2 x1 w.extends;
-      blocks = w.blocks ∙ ap (λ (v : Building). length v.blocks) e1;
-      runs = λ p fn has regs below s vs holds. one p fn x1 w has regs below s vs holds;
-    }
-  where
-    one : (p : Program) (fn : ℕ) → Extends b0 b1 → WritesText r.0 b1 b2 (line_feed ∷ []) → Has p fn b2 → (regs : Regs) (below : List Waiting) (s : State) (vs : List Value) → HoldValues regs (q ∷ []) vs → (now : Regs) × Leads p (running fn (length b0.blocks) (length b0.ops) regs below (world None s)) (running fn (length b2.blocks) (length b2.ops) now below (world None (written s (line_of vs)))) × ((j : ℕ) → j ≢ r.0 → now j ≡ regs j)
-    one p fn x1 w has regs below s [] holds = absurd holds
-    one p fn x1 w has regs below s (v ∷ []) holds =
-        let first = printed_leads p fn below b0 b1 r.0 line type q declared e1 (has_less p fn b1 b2 w.extends has) regs s v holds.0 in
-        let mid : Regs = put regs r.0 (Holds (StrVal (text_of v))) in
-        let next = w.runs p fn has mid below (written s (text_of v)) in
-        let P : State → Type 0 = λ z. Leads p (running fn (length b0.blocks) (length b0.ops) regs below (world None s)) (running fn (length b2.blocks) (length b2.ops) next.0 below (world None z)) in
-        (next.0, subst P (written_twice s (text_of v) (line_feed ∷ [])) (leads_trans p _ _ _ first next.1), λ j ne. next.2 j ne ∙ put_other regs r.0 j (Holds (StrVal (text_of v))) ne)
-    one p fn x1 w has regs below s (v ∷ u ∷ vs) holds = absurd holds.1
+written_none : (s : State) → written s [] ≡ s
+written_none s = ap (λ z. record s { output = z }) (append-nil s.output)
 
--- one argument
-one_printed : (x : Setting) (K : Showing) (t : RType) (m : Meaning Value) (b0 b1 : Building) (q : Printed) → HasRoom x b0 → Computes x K t m b0 b1 (register_of q).0 → IsDeclared b1 q → ((regs : Regs) (v : Value) → K v (regs (register_of q).0) → HoldsValue regs q v) → ComputesPrinted x (one_value m) b0 b1 (q ∷ [])
-one_printed x K t m b0 b1 q room cx d holds = record {
-  extends = cx.extends;
-  declared = (d, tt);
-  runs = λ p fn h at n calls regs below s match le.
-      let R = ArrivesPrinted fn (length b1.blocks) (length b1.ops) below (length b0.regs) regs x s (q ∷ []) in
-      let T = IsThrown fn h below x (length b0.regs) regs in
-      value_then p None fn below x n calls h K t m b0 b1 (register_of q).0 regs s (λ v. Gives (v ∷ [])) R (length b0.regs) regs cx at room (le_refl _) (λ j y z o. refl) match le
-      (λ now v s1 le1 shows kept loc match1. ends_now p (v ∷ []) s1 _ R T record { now = now; is = refl; shows = (holds now v shows, tt); kept = kept; same = loc });
+prints_then : (p : Program) (fn : ℕ) (b c d : Building) (regs : Regs) (below : List Waiting) (s : State) (first second : List ℕ) → Extends b c → (q : Prints p fn b c regs below s first) → Prints p fn c d q.0 below (written s first) second → Prints p fn b d regs below s (first ++ second)
+prints_then p fn b c d regs below s first second x q k =
+    let more = x.regs_grow in
+    let P : State → Type 0 = λ z. Leads p (running fn (length b.blocks) (length b.ops) regs below (world None s)) (running fn (length d.blocks) (length d.ops) k.0 below (world None z)) in
+    (k.0, subst P (written_twice s first second) (leads_trans p _ _ _ q.1 k.1), λ j lt. k.2 j (omega arith) ∙ q.2 j lt)
+
+-- registers for variables and flags are as before, and so are the variables of the module
+match_written : (x : Setting) (b : Building) (regs now : Regs) (s : State) (text : List ℕ) → HasRoom x b → ((j : ℕ) → j < length b.regs → now j ≡ regs j) → Matches x regs s → Matches x now (written s text)
+match_written x b regs now s text room kept m =
+    let top = room.top in
+    match_kept x b regs now s (written s text) room (λ j lt. kept j (omega arith)) record { locals = refl; globals = m.globals } m
+
+-- ---- a value in a row
+
+pub first_item : (t : Sort) (r i : ℕ) (b c : Building) → i ≡ 0 → WritesOne t r b c text_of → WritesOne t r b c (item_text i)
+first_item t r i b c is w = let P : ℕ → Type 0 = λ z. WritesOne t r b c (item_text z) in subst P (sym is) w
+
+later : (t : Sort) (r i : ℕ) (b c d : Building) → HasType b r (rtype_of t) → WritesText b c (32 ∷ []) → WritesOne t r c d text_of → WritesOne t r b d (item_text (suc i))
+later t r i b c d type space w = record {
+  extends = extends_trans b c d space.extends w.extends;
+  runs = λ p fn h at x room regs below s match v shows.
+      let k1 = space.extends.blocks_grow in
+      let at1 = placed_part p fn b b c d h (le_refl _) w.extends at in
+      let at2 = placed_part p fn b c d d h k1 (extends_refl d) at in
+      let first = space.runs p fn h at1 regs below s in
+      let shows2 : Shows t v (first.0 r) = subst (Shows t v) (sym (first.2 r (type_below b r (rtype_of t) type))) shows in
+      let second = w.runs p fn h at2 x (room_on x b c space.extends room) first.0 below (written s (32 ∷ [])) (match_written x b regs first.0 s (32 ∷ []) room first.2 match) v shows2 in
+      prints_then p fn b c d regs below s (32 ∷ []) (text_of v) space.extends first second;
 }
 
--- a bool, and a number
-pub flag_printed : (x : Setting) (m : Meaning Value) (b0 b1 : Building) (r : Reg) → HasRoom x b0 → Computes x (Shows sort.Bool) BoolType m b0 b1 r.0 → ComputesPrinted x (one_value m) b0 b1 (Flag r ∷ [])
-flag_printed x m b0 b1 r room cx = one_printed x (Shows sort.Bool) BoolType m b0 b1 (Flag r) room cx cx.type (λ regs v shows. (shows.1.0, shows.1.1, shows.0))
+pub later_item : (t : Sort) (r i : ℕ) (b c d : Building) → i ≢ 0 → HasType b r (rtype_of t) → WritesText b c (32 ∷ []) → WritesOne t r c d text_of → WritesOne t r b d (item_text i)
+later_item t r zero b c d ne type space w = absurd (ne refl)
+later_item t r (suc i) b c d ne type space w = later t r i b c d type space w
 
-pub number_printed : (x : Setting) (t : Sort) (m : Meaning Value) (b0 b1 : Building) (r : Reg) → HasRoom x b0 → ((v : Value) (a : ℤ) → Counts t v a → v ≡ IntVal a) → Computes x (ShowsNumber t) I64 m b0 b1 r.0 → ComputesPrinted x (one_value m) b0 b1 (Number r ∷ [])
-number_printed x t m b0 b1 r room number cx =
-    one_printed x (ShowsNumber t) I64 m b0 b1 (Number r) room cx cx.type
-    (λ regs v shows. let is = number v shows.0 shows.2 in (shows.0, is, shows.1 ∙ ap Holds (sym is)))
+-- ---- values in a row
 
--- ---- variables
+row_snoc : (i : ℕ) (vs : List Value) (v : Value) → row_text i (vs ++ v ∷ []) ≡ row_text i vs ++ item_text (i + length vs) v
+row_snoc i [] v = append-nil (item_text i v) ∙ ap (λ n. item_text n v) (omega arith)
+row_snoc i (u ∷ vs) v =
+    ap (λ z. item_text i u ++ z) (row_snoc (suc i) vs v)
+    ∙ ap (λ n. item_text i u ++ (row_text (suc i) vs ++ item_text n v)) (omega arith)
+    ∙ sym (append_assoc (item_text i u) (row_text (suc i) vs) (item_text (i + suc (length vs)) v))
 
--- the register for texts is no variable's and no flag
-match_but : (x : Setting) (b : Building) (regs now : Regs) (s s1 : State) → HasRoom x b → ((j : ℕ) → j < x.frame.locals.top → j ≢ x.frame.locals.text → now j ≡ regs j) → SameLocals x s s1 → Matches x regs s → Matches x now s1
-match_but x b regs now s s1 room same is m =
-    let count = room.count in
-    let text = room.text in
-    let flags = room.flags in
-    record {
-      each = λ j v at.
-          let k = m.each j v at in
-          let low : j < length x.variables = get_below x.variables j v at in
-          let flag : flag_in x.frame.locals now j ≡ flag_in x.frame.locals regs j = either_flag (nat_lt j x.frame.locals.params) (Holds (BoolVal true)) _ _ (λ e. let above = not_below j x.frame.locals.params e in same (flag_of x.frame.locals j) (omega arith) (λ z. omega arith)) in
-          (k.0, ap (λ ls. slice_get ls j) is.locals ∙ k.1, keeps_as v.1 (regs j) (now j) (flag_in x.frame.locals regs j) (flag_in x.frame.locals now j) k.0 (same j (omega arith) (λ z. omega arith)) flag k.2);
-      globals = is.globals;
-    }
+later_line : (i : ℕ) (v : Value) (vs : List Value) → row_text (suc i) (v ∷ vs) ++ line_feed ∷ [] ≡ 32 ∷ line_of (v ∷ vs)
+later_line i v [] = ap (λ z. 32 ∷ z ++ line_feed ∷ []) (append-nil (text_of v))
+later_line i v (u ∷ vs) = ap (λ z. 32 ∷ z) (append_assoc (text_of v) (row_text (suc (suc i)) (u ∷ vs)) (line_feed ∷ []) ∙ ap (λ z. text_of v ++ z) (later_line (suc i) u vs))
+
+whole_line : (vs : List Value) → row_text 0 vs ++ line_feed ∷ [] ≡ line_of vs
+whole_line [] = refl
+whole_line (v ∷ []) = ap (λ z. z ++ line_feed ∷ []) (append-nil (text_of v))
+whole_line (v ∷ u ∷ vs) = append_assoc (text_of v) (row_text 1 (u ∷ vs)) (line_feed ∷ []) ∙ ap (λ z. text_of v ++ z) (later_line 0 u vs)
+
+abbrev sorts : List TExpr → List Sort
+sorts es = map type_of (map typed_expr es)
+
+-- the value with a number
+value_at : (es : List TExpr) (vs : List Value) (regs : Regs) (rs : List Reg) (i : ℕ) (e : TExpr) (r : Reg) → ShowAll (sorts es) vs regs rs → i < length rs → e ≡ get_or es i e → r ≡ get_or rs i r → (v : Value) × (take (suc i) vs ≡ take i vs ++ v ∷ []) × Shows (sort_of e.ty) v (regs r.0) × (length (take i vs) ≡ i)
+value_at [] [] regs [] i e r h lt is same = absurd (omega arith)
+value_at [] (v ∷ vs) regs rs i e r h lt is same = absurd h
+value_at [] [] regs (q ∷ rs) i e r h lt is same = absurd h
+value_at (d ∷ es) [] regs rs i e r h lt is same = absurd h
+value_at (d ∷ es) (v ∷ vs) regs [] i e r h lt is same = absurd h
+value_at (d ∷ es) (v ∷ vs) regs (q ∷ rs) zero e r h lt is same =
+    let P : TExpr → Type 0 = λ z. Shows (sort_of z.ty) v (regs r.0) in
+    let Q : Reg → Type 0 = λ z. Shows (sort_of d.ty) v (regs z.0) in
+    let R : Sort → Type 0 = λ z. Shows z v (regs q.0) in
+    (v, refl, subst P (sym is) (subst Q (sym same) (subst R (type_at d) h.0)), refl)
+value_at (d ∷ es) (v ∷ vs) regs (q ∷ rs) (suc i) e r h lt is same =
+    let next = value_at es vs regs rs i e r h.1 (omega arith) is same in
+    (next.0, ap (λ z. v ∷ z) next.1, next.2, ap suc next.3)
+
+pub item_type : (declared : Declared) (es : List TExpr) (rs : List Reg) (i : ℕ) (e : TExpr) (r : Reg) → HaveTypes declared (sorts es) rs → i < length rs → e ≡ get_or es i e → r ≡ get_or rs i r → type_of_reg declared r ≡ Some (rtype_of (sort_of e.ty))
+item_type declared [] [] i e r h lt is same = absurd (omega arith)
+item_type declared [] (q ∷ rs) i e r h lt is same = absurd h
+item_type declared (d ∷ es) [] i e r h lt is same = absurd h
+item_type declared (d ∷ es) (q ∷ rs) zero e r h lt is same =
+    rw (is, same, ← type_at d) h.0
+item_type declared (d ∷ es) (q ∷ rs) (suc i) e r h lt is same = item_type declared es rs i e r h.1 (omega arith) is same
+
+first_holds : (a b : Bool) → (a && b) ≡ true → a ≡ true
+first_holds true b h = refl
+first_holds false b h = absurd (cc)
+
+second_holds : (a b : Bool) → (a && b) ≡ true → b ≡ true
+second_holds true b h = h
+second_holds false b h = absurd (cc)
+
+pub item_written : (es : List TExpr) (i : ℕ) (e : TExpr) → list_all is_written (sorts es) ≡ true → i < length es → e ≡ get_or es i e → is_written (sort_of e.ty) ≡ true
+item_written [] i e h lt is = absurd (omega arith)
+item_written (d ∷ es) zero e h lt is = rw (is, ← type_at d) (first_holds (is_written (type_of (typed_expr d))) (list_all is_written (sorts es)) h)
+item_written (d ∷ es) (suc i) e h lt is = item_written es i e (second_holds (is_written (type_of (typed_expr d))) (list_all is_written (sorts es)) h) (omega arith) is
+
+pub as_many : (declared : Declared) (es : List TExpr) (rs : List Reg) → HaveTypes declared (sorts es) rs → length es ≡ length rs
+as_many declared [] [] h = refl
+as_many declared [] (q ∷ rs) h = absurd h
+as_many declared (d ∷ es) [] h = absurd h
+as_many declared (d ∷ es) (q ∷ rs) h = ap suc (as_many declared es rs h.1)
+
+show_count : (ts : List Sort) (vs : List Value) (regs : Regs) (rs : List Reg) → ShowAll ts vs regs rs → length vs ≡ length rs
+show_count [] [] regs [] h = refl
+show_count [] (v ∷ vs) regs rs h = absurd h
+show_count [] [] regs (q ∷ rs) h = absurd h
+show_count (t ∷ ts) [] regs rs h = absurd h
+show_count (t ∷ ts) (v ∷ vs) regs [] h = absurd h
+show_count (t ∷ ts) (v ∷ vs) regs (q ∷ rs) h = ap suc (show_count ts vs regs rs h.1)
+
+show_kept : (b : Building) (ts : List Sort) (vs : List Value) (rs : List Reg) (old now : Regs) → HaveTypes b.regs ts rs → ((j : ℕ) → j < length b.regs → now j ≡ old j) → ShowAll ts vs old rs → ShowAll ts vs now rs
+show_kept b [] [] [] old now h same k = tt
+show_kept b [] vs (r ∷ rs) old now h same k = absurd h
+show_kept b [] (v ∷ vs) [] old now h same k = absurd k
+show_kept b (t ∷ ts) vs [] old now h same k = absurd h
+show_kept b (t ∷ ts) [] (r ∷ rs) old now h same k = absurd k
+show_kept b (t ∷ ts) (v ∷ vs) (r ∷ rs) old now h same k = (subst (Shows t v) (sym (same r.0 (type_below b r.0 (rtype_of t) h.0))) k.0, show_kept b ts vs rs old now h.1 same k.1)
+
+pub none_written : (es : List TExpr) (rs : List Reg) (b : Building) → Writes (sorts es) rs b b (first_texts 0)
+none_written es rs b = record {
+  extends = extends_refl b;
+  runs = λ p fn h at x room regs below s match vs shows.
+      let P : State → Type 0 = λ z. Leads p (running fn (length b.blocks) (length b.ops) regs below (world None s)) (running fn (length b.blocks) (length b.ops) regs below (world None z)) in
+      (regs, subst P (sym (written_none s)) (leads_refl p _), λ j lt. refl);
+}
+
+-- one value more
+pub next_written : (es : List TExpr) (rs : List Reg) (i : ℕ) (e : TExpr) (r : Reg) (b c d : Building) → HaveTypes b.regs (sorts es) rs → i < length rs → e ≡ get_or es i e → r ≡ get_or rs i r → Writes (sorts es) rs b c (first_texts i) → WritesOne (sort_of e.ty) r.0 c d (item_text i) → Writes (sorts es) rs b d (first_texts (i + 1))
+next_written es rs i e r b c d types lt is same w q = record {
+  extends = extends_trans b c d w.extends q.extends;
+  runs = λ p fn h at x room regs below s match vs shows.
+      let k1 = w.extends.blocks_grow in
+      let at1 = placed_part p fn b b c d h (le_refl _) q.extends at in
+      let at2 = placed_part p fn b c d d h k1 (extends_refl d) at in
+      let first = w.runs p fn h at1 x room regs below s match vs shows in
+      let shows2 = show_kept b (sorts es) vs rs regs first.0 types first.2 shows in
+      let v = value_at es vs first.0 rs i e r shows2 lt is same in
+      let second = q.runs p fn h at2 x (room_on x b c w.extends room) first.0 below (written s (first_texts i vs)) (match_written x b regs first.0 s (first_texts i vs) room first.2 match) v.0 v.2 in
+      let number : i ≡ 0 + length (take i vs) = omega (arith, v.3) in
+      let text : first_texts i vs ++ item_text i v.0 ≡ first_texts (i + 1) vs = ap (λ n. first_texts i vs ++ item_text n v.0) number ∙ sym (row_snoc 0 (take i vs) v.0) ∙ ap (row_text 0) (sym v.1) ∙ ap (λ n. first_texts n vs) (sym (add-one i)) in
+      subst (Prints p fn b d regs below s) text (prints_then p fn b c d regs below s (first_texts i vs) (item_text i v.0) w.extends first second);
+}
+
+-- an item is there whatever stands for one that is not
+pub item_own : {A : Type 0} (xs : List A) (i : ℕ) (x : A) → i < length xs → get_or xs i x ≡ get_or xs i (get_or xs i x)
+item_own [] i x lt = absurd (omega arith)
+item_own (y ∷ xs) zero x lt = refl
+item_own (y ∷ xs) (suc i) x lt = item_own xs i x (omega arith)
+
+-- so many values were written
+pub record Printing (es : List TExpr) (rs : List Reg) (i : ℕ) (start b : Building) : Type 0 where
+  pub kept : Extends start b
+  pub writes : Writes (sorts es) rs start b (first_texts i)
+  pub shaped : Keeps start b
+  pub kinds : KeepsKinds start b
+
+pub printing_none : (es : List TExpr) (rs : List Reg) (b : Building) → Printing es rs 0 b b
+printing_none es rs b = record { kept = extends_refl b; writes = none_written es rs b; shaped = λ n k low up s. s; kinds = λ g h. h }
+
+pub shaped_on : (b c d : Building) → Extends b c → Extends c d → Keeps b c → Keeps c d → Keeps b d
+shaped_on b c d x y k l = λ n m low up s.
+    let more = x.regs_grow in
+    let grown = y.blocks_grow in
+    l n m (omega arith) up (k n m low (omega arith) s)
+
+pub printing_on : (es : List TExpr) (rs : List Reg) (i : ℕ) (e : TExpr) (r : Reg) (start b c : Building) → HaveTypes start.regs (sorts es) rs → i < length rs → e ≡ get_or es i e → r ≡ get_or rs i r → Printing es rs i start b → Extends b c → WritesOne (sort_of e.ty) r.0 b c (item_text i) → Keeps b c → KeepsKinds b c → Printing es rs (i + 1) start c
+printing_on es rs i e r start b c types lt is same q x w shaped kinds = record {
+  kept = extends_trans start b c q.kept x;
+  writes = next_written es rs i e r start b c types lt is same q.writes w;
+  shaped = shaped_on start b c q.kept x q.shaped shaped;
+  kinds = λ g h. kinds g (q.kinds g h);
+}
+
+-- and the line feed behind all
+pub line_written : (es : List TExpr) (rs : List Reg) (i : ℕ) (b c d : Building) → length rs ≤ i → Writes (sorts es) rs b c (first_texts i) → WritesText c d (line_feed ∷ []) → Writes (sorts es) rs b d line_of
+line_written es rs i b c d past w q = record {
+  extends = extends_trans b c d w.extends q.extends;
+  runs = λ p fn h at x room regs below s match vs shows.
+      let k1 = w.extends.blocks_grow in
+      let at1 = placed_part p fn b b c d h (le_refl _) q.extends at in
+      let at2 = placed_part p fn b c d d h k1 (extends_refl d) at in
+      let first = w.runs p fn h at1 x room regs below s match vs shows in
+      let second = q.runs p fn h at2 first.0 below (written s (first_texts i vs)) in
+      let count = show_count (sorts es) vs regs rs shows in
+      let text : first_texts i vs ++ line_feed ∷ [] ≡ line_of vs = ap (λ z. row_text 0 z ++ line_feed ∷ []) (take_all i vs (omega arith)) ∙ whole_line vs in
+      subst (Prints p fn b d regs below s) text (prints_then p fn b c d regs below s (first_texts i vs) (line_feed ∷ []) w.extends first second);
+}
 
 -- ---- the whole
 
-has_texts : (regs : Regs) (qs : List Printed) (vs : List Value) → HoldValues regs qs vs → list_all has_text vs ≡ true
-has_texts regs [] [] h = refl
-has_texts regs [] (v ∷ vs) h = absurd h
-has_texts regs (q ∷ qs) [] h = absurd h
-has_texts regs (Number r ∷ qs) (v ∷ vs) h = ap (λ z. list_all has_text (z ∷ vs)) h.0.1 ∙ has_texts regs qs vs h.1
-has_texts regs (Flag r ∷ qs) (v ∷ vs) h = ap (λ z. list_all has_text (z ∷ vs)) h.0.1 ∙ has_texts regs qs vs h.1
+text_there : (t : Sort) (v : Value) → is_written t ≡ true → HasKind t v → has_text v ≡ true
+text_there sort.Int v h k = ap has_text k.1
+text_there sort.I64 v h k = ap has_text k.1
+text_there sort.Bool v h k = ap has_text k.1
+text_there sort.Str v h k = ap has_text k.1
+text_there _ v h k = absurd (cc)
 
-pub print_works : (x : Setting) (result : Option RType) (m : Meaning (List Value)) (b0 b1 b2 : Building) (qs : List Printed) → HasRoom x b0 → ComputesPrinted x m b0 b1 qs → Writes x.frame.locals.text b1 b2 qs line_of → Works x result (λ n s. on_to (on_to (m n s) (λ vs. needs (list_all has_text vs) (write (line_of vs)))) (λ v. Gives Goes)) b0 b2 []
-print_works x result m b0 b1 b2 qs room c w = record {
+has_texts : (ts : List Sort) (vs : List Value) (regs : Regs) (rs : List Reg) → list_all is_written ts ≡ true → ShowAll ts vs regs rs → list_all has_text vs ≡ true
+has_texts [] [] regs [] w h = refl
+has_texts [] (v ∷ vs) regs rs w h = absurd h
+has_texts [] [] regs (q ∷ rs) w h = absurd h
+has_texts (t ∷ ts) [] regs rs w h = absurd h
+has_texts (t ∷ ts) (v ∷ vs) regs [] w h = absurd h
+has_texts (t ∷ ts) (v ∷ vs) regs (q ∷ rs) w h =
+    let one = text_there t v (first_holds (is_written t) (list_all is_written ts) w) h.0.1 in
+    let more = has_texts ts vs regs rs (second_holds (is_written t) (list_all is_written ts) w) h.1 in
+    rw (one, more) refl
+
+pub print_works : (x : Setting) (result : Option Sort) (ts : List Sort) (m : Meaning (List Value)) (b0 b1 b2 : Building) (rs : List Reg) → HasRoom x b0 → list_all is_written ts ≡ true → ComputesAll x ts m b0 b1 rs → Writes ts rs b1 b2 line_of → Works x result (λ n s. on_to (on_to (m n s) (λ vs. needs (list_all has_text vs) (write (line_of vs)))) (λ v. Gives Goes)) b0 b2 []
+print_works x result ts m b0 b1 b2 rs room texts c w = record {
   extends = extends_trans b0 b1 b2 c.extends w.extends;
   opens = tt;
   runs = λ p fn h to at jumps n calls regs below s match le.
-      let flags = room.flags in
       let top = room.top in
+      let k1 = c.extends.blocks_grow in
+      let r1 = c.extends.regs_grow in
       let at1 = placed_part p fn b0 b0 b1 b2 h (le_refl _) w.extends at in
-      let R1 = ArrivesPrinted fn (length b1.blocks) (length b1.ops) below (length b0.regs) regs x s qs in
+      let at2 = placed_part p fn b0 b1 b2 b2 h k1 (extends_refl b2) at in
+      let R1 = ArrivesAll ts fn (length b1.blocks) (length b1.ops) below (length b0.regs) regs x s rs in
       let R = Flows p result fn (length b2.blocks) (length b2.ops) to [] below x (length b0.regs) regs in
       let T = IsThrown fn h below x (length b0.regs) regs in
       let go : List Value → Does Flow = λ vs u. on_to (needs (list_all has_text vs) (write (line_of vs)) u) (λ v. Gives Goes) in
       rw on_assoc (ends_on p s.turns _ (m n s) R1 T T go R (c.runs p fn h at1 n calls regs below s match le)
       (λ vs s1 d1 le1 a.
-      let done = w.runs p fn at.has a.now below s1 vs a.shows in
+      let match1 = match_kept x b0 regs a.now s s1 room (λ j lt. a.kept j (omega arith)) a.same match in
+      let done = w.runs p fn h at2 x (room_on x b0 b1 c.extends room) a.now below s1 match1 vs a.shows in
       let s2 : State = written s1 (line_of vs) in
-      let kept : (j : ℕ) → j < length b0.regs → j ≢ x.frame.locals.text → done.0 j ≡ regs j = λ j lt ne. done.2 j ne ∙ a.kept j lt in
-      let match2 = match_but x b0 regs done.0 s s2 room (λ j lt ne. kept j (omega arith) ne) record { locals = a.same.locals; globals = a.same.globals } match in
-      let is : go vs s1 ≡ Gives Goes s2 = ap (λ t. on_to (needs t (write (line_of vs)) s1) (λ v. Gives Goes)) (has_texts a.now qs vs a.shows) in
-      let ends : Ends p s1.turns (running fn (length b1.blocks) (length b1.ops) a.now below (world None s1)) (Gives Goes s2) R T = ends_from p s1.turns s1.turns _ _ (Gives Goes s2) R T (le_refl _) done.1 (ends_now p Goes s2 _ R T record { now = done.0; is = refl; match = match2; kept = λ j z lt o. kept j lt (λ e. omega arith) }) in
+      let match2 = match_written x b1 a.now done.0 s1 (line_of vs) (room_on x b0 b1 c.extends room) done.2 match1 in
+      let is : go vs s1 ≡ Gives Goes s2 = ap (λ t. on_to (needs t (write (line_of vs)) s1) (λ v. Gives Goes)) (has_texts ts vs a.now rs texts a.shows) in
+      let ends : Ends p s1.turns (running fn (length b1.blocks) (length b1.ops) a.now below (world None s1)) (Gives Goes s2) R T = ends_from p s1.turns s1.turns _ _ (Gives Goes s2) R T (le_refl _) done.1 (ends_now p Goes s2 _ R T record { now = done.0; is = refl; match = match2; kept = λ j z lt o. done.2 j (omega arith) ∙ a.kept j lt }) in
       let P : Outcome Flow → Type 0 = λ z. Ends p s1.turns (running fn (length b1.blocks) (length b1.ops) a.now below (world None s1)) z R T in
       ends_at p s1.turns _ d1 (go vs s1) R T a.is (subst P (sym is) ends))
       (λ v s1 d1 z. z));
@@ -237,21 +319,5 @@ print_works x result m b0 b1 b2 qs room c w = record {
 
 -- ---- when its operations fit their registers
 
-printed_makes : (b : Building) (q : Printed) → IsDeclared b q → MakesText b.regs (text_primitive q) (arg.Var (register_of q) ∷ [])
-printed_makes b (Number q) declared = (refl, (I64, declared, refl, refl, tt), refl)
-printed_makes b (Flag q) declared = (refl, (BoolType, declared, refl, refl, tt), refl)
-
-with_text_kinds : (g : Surrounding) (b c : Building) (r : Reg) (q : Primitive) (a : PArg) (line : ℕ) → g.text ≡ r.0 → c ≡ with_text b r q a line → MakesText b.regs q (a ∷ []) → HasKinds g b → HasKinds g c
-with_text_kinds g b c r q a line same e makes h =
-    text_kinds g b c q (a ∷ []) line line line (e ∙ ap (λ n. with_text b (record { 0 = n }) q a line) (sym same)) makes h
-
-line_feed_ascii : IsAscii (line_feed ∷ [])
-line_feed_ascii zero = omega arith
-line_feed_ascii (suc i) = omega arith
-
-line_feed_text : is_utf8 (line_feed ∷ []) ≡ true
-line_feed_text = is_utf8-from_IsUtf8 (line_feed ∷ []) (IsUtf8-from_ascii (line_feed ∷ []) line_feed_ascii)
-
-pub line_kinds : (b0 b1 b2 : Building) (r : Reg) (q : Printed) (line : ℕ) → IsDeclared b0 q → b1 ≡ with_text b0 r (text_primitive q) (arg.Var (register_of q)) line → b2 ≡ with_text b1 r (prim.Str str.Literal) (arg.Text (line_feed ∷ [])) line → KeepsKindsIf (λ g. g.text ≡ r.0) b0 b2
-line_kinds b0 b1 b2 r q line declared e1 e2 g same h =
-    with_text_kinds g b1 b2 r _ _ line same e2 (refl, (line_feed_text, tt), refl) (with_text_kinds g b0 b1 r _ _ line same e1 (printed_makes b0 q declared) h)
+pub write_kinds : (g : Surrounding) (b : Building) (r : Reg) → HasType b r.0 Ref → OpKinds g b.regs (writes_of r)
+write_kinds g b r type = inl (refl, (Ref, type, refl, tt))

@@ -167,7 +167,7 @@ turns_same (GlobalTarget k) v s = le_refl s.turns
 turns_same target v s = le_refl s.turns
 
 -- what is done with a value that is put into a variable
-pub set_works : (x : Setting) (result : Option RType) (m : Meaning Value) (t : Sort) (target : TypedTarget) (r : ℕ) (go : ℕ → Value → Does Flow) (b0 b1 b2 : Building) → HasRoom x b0 → Computes x (Shows t) (rtype_of t) m b0 b1 r → Sets x target t r b1 b2 → ((n : ℕ) (v : Value) (s : State) (regs : Regs) → Matches x regs s → HasKind t v → go n v s ≡ Gives Goes (with_value target v s)) → Works x result (λ n s. on_to (m n s) (go n)) b0 b2 []
+pub set_works : (x : Setting) (result : Option Sort) (m : Meaning Value) (t : Sort) (target : TypedTarget) (r : ℕ) (go : ℕ → Value → Does Flow) (b0 b1 b2 : Building) → HasRoom x b0 → Computes x (Shows t) (rtype_of t) m b0 b1 r → Sets x target t r b1 b2 → ((n : ℕ) (v : Value) (s : State) (regs : Regs) → Matches x regs s → HasKind t v → go n v s ≡ Gives Goes (with_value target v s)) → Works x result (λ n s. on_to (m n s) (go n)) b0 b2 []
 set_works x result m t target r go b0 b1 b2 room cx q puts = record {
   extends = extends_trans b0 b1 b2 cx.extends q.extends;
   opens = tt;
@@ -185,7 +185,7 @@ set_works x result m t target r go b0 b1 b2 room cx q puts = record {
 
 -- ---- an expression alone
 
-pub alone_works : (x : Setting) (result : Option RType) (K : Showing) (t : RType) (m : Meaning Value) (b0 b1 : Building) (r : ℕ) → HasRoom x b0 → Computes x K t m b0 b1 r → Works x result (λ n s. on_to (m n s) (λ v. Gives Goes)) b0 b1 []
+pub alone_works : (x : Setting) (result : Option Sort) (K : Showing) (t : RType) (m : Meaning Value) (b0 b1 : Building) (r : ℕ) → HasRoom x b0 → Computes x K t m b0 b1 r → Works x result (λ n s. on_to (m n s) (λ v. Gives Goes)) b0 b1 []
 alone_works x result K t m b0 b1 r room cx = record {
   extends = cx.extends;
   opens = tt;
@@ -242,24 +242,24 @@ leaves_some x r t back b0 b1 b2 some room type type' q c = record {
       (running fn (to Return) 0 new below (world None s), leads_trans p _ _ _ (leads_step p _ _ (step ∙ is1)) go, (kind, subst P (sym some) (refl, record { stands = stands; value = put_same regs back.0 (Holds v) })));
 }
 
-pub return_works : (x : Setting) (t : Sort) (m : Meaning Value) (b0 b1 b2 : Building) (r : ℕ) (xs : List Exit) → HasRoom x b0 → Computes x (Shows t) (rtype_of t) m b0 b1 r → Leaves x r b1 b2 xs → Works x (Some (rtype_of t)) (λ n s. on_to (m n s) (λ v. Gives (Returns v))) b0 b2 xs
+pub return_works : (x : Setting) (t : Sort) (m : Meaning Value) (b0 b1 b2 : Building) (r : ℕ) (xs : List Exit) → HasRoom x b0 → Computes x (Shows t) (rtype_of t) m b0 b1 r → Leaves x r b1 b2 xs → Works x (Some t) (λ n s. on_to (m n s) (λ v. Gives (Returns v))) b0 b2 xs
 return_works x t m b0 b1 b2 r xs room cx q =
     let k1 = cx.extends.blocks_grow in let g1 = cx.extends.regs_grow in
     record {
       extends = extends_trans b0 b1 b2 cx.extends q.extends;
       opens = open_on b2 b2 _ _ _ _ xs (stays_by b2 b2 _ _ (extends_refl b2)) k1 (le_refl _) q.opens;
       runs = λ p fn h to at jumps n calls regs below s match le.
-          let R = Flows p (Some (rtype_of t)) fn (length b2.blocks) (length b2.ops) to xs below x (length b0.regs) regs in
+          let R = Flows p (Some t) fn (length b2.blocks) (length b2.ops) to xs below x (length b0.regs) regs in
           let T = IsThrown fn h below x (length b0.regs) regs in
-          value_then p (Some (rtype_of t)) fn below x n calls h (Shows t) (rtype_of t) m b0 b1 r regs s (λ v. Gives (Returns v)) R (length b0.regs) regs cx (placed_part p fn b0 b0 b1 b2 h (le_refl _) q.extends at) room (le_refl _) (λ j a z o. refl) match le
+          value_then p (Some t) fn below x n calls h (Shows t) (rtype_of t) m b0 b1 r regs s (λ v. Gives (Returns v)) R (length b0.regs) regs cx (placed_part p fn b0 b0 b1 b2 h (le_refl _) q.extends at) room (le_refl _) (λ j a z o. refl) match le
           (λ now v s1 le1 shows kept loc match1.
-          let one = q.does p (Some (rtype_of t)) fn to at.has jumps (length b2.blocks) (length b2.ops) now below s1 v match1 shows.0 (t, refl, shows.1) in
-          (le_refl _, one.0, one.1, flows_from p (Some (rtype_of t)) fn (length b2.blocks) (length b2.ops) to xs xs below x (length b0.regs) (length b1.regs) regs now (Returns v) s1 one.0 (λ w u. u) g1 (λ j a z o. kept j z) one.2));
+          let one = q.does p (Some t) fn to at.has jumps (length b2.blocks) (length b2.ops) now below s1 v match1 shows.0 shows.1 in
+          (le_refl _, one.0, one.1, flows_from p (Some t) fn (length b2.blocks) (length b2.ops) to xs xs below x (length b0.regs) (length b1.regs) regs now (Returns v) s1 one.0 (λ w u. u) g1 (λ j a z o. kept j z) one.2));
     }
 
 -- ---- break and continue
 
-jump_works : (x : Setting) (result : Option RType) (w : Way) (g : Flow) (b0 b1 : Building) → Closes b0 b1 Unreachable → ((p : Program) (fn : ℕ) (to : Way → ℕ) (below : List Waiting) (regs : Regs) (s : State) (d : Config) → Stands fn (to w) 0 below None x (length b0.regs) regs s d → Flows p result fn (length b1.blocks) (length b1.ops) to (record { way = w; block = length b0.blocks } ∷ []) below x (length b0.regs) regs g s d) → Works x result (λ n s. Gives g s) b0 b1 (record { way = w; block = length b0.blocks } ∷ [])
+jump_works : (x : Setting) (result : Option Sort) (w : Way) (g : Flow) (b0 b1 : Building) → Closes b0 b1 Unreachable → ((p : Program) (fn : ℕ) (to : Way → ℕ) (below : List Waiting) (regs : Regs) (s : State) (d : Config) → Stands fn (to w) 0 below None x (length b0.regs) regs s d → Flows p result fn (length b1.blocks) (length b1.ops) to (record { way = w; block = length b0.blocks } ∷ []) below x (length b0.regs) regs g s d) → Works x result (λ n s. Gives g s) b0 b1 (record { way = w; block = length b0.blocks } ∷ [])
 jump_works x result w g b0 b1 q lands = record {
   extends = q.extends;
   opens = (record { place = length b0.ops; is = q.at }, le_refl _, (let n = q.blocks in omega arith), tt);
@@ -271,8 +271,8 @@ jump_works x result w g b0 b1 q lands = record {
       (ends_now p g s _ R T (lands p fn to below regs s _ record { now = regs; is = refl; match = match; kept = λ j a z o. refl }));
 }
 
-pub break_works : (x : Setting) (result : Option RType) (b0 b1 : Building) → Closes b0 b1 Unreachable → Works x result (λ n s. Gives Breaks s) b0 b1 (record { way = Break; block = length b0.blocks } ∷ [])
+pub break_works : (x : Setting) (result : Option Sort) (b0 b1 : Building) → Closes b0 b1 Unreachable → Works x result (λ n s. Gives Breaks s) b0 b1 (record { way = Break; block = length b0.blocks } ∷ [])
 break_works x result b0 b1 q = jump_works x result Break Breaks b0 b1 q (λ p fn to below regs s d t. (refl, t))
 
-pub continue_works : (x : Setting) (result : Option RType) (b0 b1 : Building) → Closes b0 b1 Unreachable → Works x result (λ n s. Gives Continues s) b0 b1 (record { way = Continue; block = length b0.blocks } ∷ [])
+pub continue_works : (x : Setting) (result : Option Sort) (b0 b1 : Building) → Closes b0 b1 Unreachable → Works x result (λ n s. Gives Continues s) b0 b1 (record { way = Continue; block = length b0.blocks } ∷ [])
 continue_works x result b0 b1 q = jump_works x result Continue Continues b0 b1 q (λ p fn to below regs s d t. (refl, t))

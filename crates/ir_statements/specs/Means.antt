@@ -36,10 +36,10 @@ module _ (x : Setting) where
   means_assignment ts e n =
       means e n >>= λ v. bind x.source.classes.classes (call_of x.source n) x.source.globals x.variables ts (type_of e) v >> give Goes
 
-  -- of a native integer
-  abbrev pub means_update : TypedTarget → BinOp → TypedExpr → Meaning Flow
-  means_update t op e n =
-      update x.source.classes.classes (call_of x.source n) x.source.globals x.variables t (changed x.source.classes.classes (call_of x.source n) x.source.globals x.variables t op e sort.I64) >> give Goes
+  -- in a type
+  abbrev pub means_update : TypedTarget → BinOp → TypedExpr → Sort → Meaning Flow
+  means_update t op e s n =
+      update x.source.classes.classes (call_of x.source n) x.source.globals x.variables t (changed x.source.classes.classes (call_of x.source n) x.source.globals x.variables t op e s) >> give Goes
 
   abbrev pub means_returned : Option TypedExpr → Meaning Value
   means_returned o n = value_or x.source.classes.classes (call_of x.source n) x.source.globals x.variables NoneVal o

@@ -1,18 +1,17 @@
 -- What the code of a statement does.
 use Rattle.std.specs.Prelude.{◌≡◌, ℕ, suc, ◌≤◌, ◌<◌, Bool, true, false, List, [], ◌∷◌, ◌++◌, length, Option, Some, None}
 use Rattle.value_core.specs.Value.{Value}
-use Rattle.py_typed.specs.Sorts.{Sort}
 use Rattle.py_typed.specs.State.{State}
 use Rattle.py_typed.specs.WaysOut.{Flow, Goes, Breaks, Continues, Returns}
+use Rattle.py_typed.specs.Sorts.{Sort}
 use Rattle.ir_core.specs.declared.code.Reg.{Reg}
 use Rattle.ir_core.specs.declared.code.Last.TheVariants.{Unreachable, Goto}
 use Rattle.ir_core.specs.declared.code.Program.{Program}
-use Rattle.ir_core.specs.declared.code.RType.{RType}
 use Rattle.ir_core.specs.Building.{Building, held, handled, Extends}
 use Rattle.ir_core.specs.Items.{Item, End}
 use Rattle.ir_core.specs.Registers.{Holds, Regs}
 use Rattle.ir_core.specs.Meaning.{Config, Waiting, item_at}
-use Rattle.ir_frames.specs.Settings.{Setting, rtype_of}
+use Rattle.ir_frames.specs.Settings.{Setting}
 use Rattle.ir_frames.specs.Placing.{Has, Placed}
 use Rattle.ir_frames.specs.Calling.{Open}
 use Rattle.ir_frames.specs.Coming.{world, running, returning, Ends}
@@ -57,17 +56,17 @@ pub record Patching (b c : Building) (es rest : List Exit) (plan : Way → Optio
 
 -- ---- what comes of a statement
 
--- a value is one of a function's result, whose registers have this type; a module's own statements have none
-abbrev pub HasResult : Option RType → Value → Type 0
+-- a value is one of a function's result; a module's own statements have none
+abbrev pub HasResult : Option Sort → Value → Type 0
 HasResult None v = ⊥
-HasResult (Some t) v = (u : Sort) × (rtype_of u ≡ t) × HasKind u v
+HasResult (Some t) v = HasKind t v
 
 -- a returned value leaves the function, or goes with its value to the statement that waits for it
 pub record Brings (fn k : ℕ) (below : List Waiting) (x : Setting) (r keep : ℕ) (regs : Regs) (v : Value) (s : State) (d : Config) : Type 0 where
   pub stands : Stands fn k 0 below None x keep regs s d
   pub value : stands.now r ≡ Holds v
 
-module _ (p : Program) (result : Option RType) where
+module _ (p : Program) (result : Option Sort) where
   abbrev pub Back : Option Reg → ℕ → (Way → ℕ) → List Exit → List Waiting → Setting → ℕ → Regs → Value → State → Config → Type 0
   Back None fn to exits below x keep regs v s d = HaveTypes x.source.globals s.globals × (d ≡ returning p v below (world None s))
   Back (Some r) fn to exits below x keep regs v s d = (uses Return exits ≡ true) × Brings fn (to Return) below x r.0 keep regs v s d
@@ -87,13 +86,13 @@ module _ (p : Program) (result : Option RType) where
   Tries fn k i to exits below x keep regs (Taken g) s d = Flows fn (to Join) 0 to exits below x keep regs g s d
 
 -- the code from the first builder's place to the second's does what the meaning says; the exits are left open
-pub record Works (x : Setting) (result : Option RType) (m : Meaning Flow) (old new : Building) (exits : List Exit) : Type 0 where
+pub record Works (x : Setting) (result : Option Sort) (m : Meaning Flow) (old new : Building) (exits : List Exit) : Type 0 where
   pub extends : Extends old new
   pub opens : OpenIn new (length old.blocks) (length new.blocks) exits
   pub runs : (p : Program) (fn : ℕ) (h : Option ℕ) (to : Way → ℕ) → Placed p fn old new h → JumpTo p fn new to exits → (n : ℕ) → CallsWork p x.source n → (regs : Regs) (below : List Waiting) (s : State) → Matches x regs s → s.turns ≤ n → Ends p s.turns (running fn (length old.blocks) (length old.ops) regs below (world None s)) (m n s) (Flows p result fn (length new.blocks) (length new.ops) to exits below x (length old.regs) regs) (IsThrown fn h below x (length old.regs) regs)
 
 -- the same of some arms of an `if`
-pub record Tests (x : Setting) (result : Option RType) (m : Meaning Tried) (old new : Building) (exits : List Exit) : Type 0 where
+pub record Tests (x : Setting) (result : Option Sort) (m : Meaning Tried) (old new : Building) (exits : List Exit) : Type 0 where
   pub extends : Extends old new
   pub opens : OpenIn new (length old.blocks) (length new.blocks) exits
   pub runs : (p : Program) (fn : ℕ) (h : Option ℕ) (to : Way → ℕ) → Placed p fn old new h → JumpTo p fn new to exits → (n : ℕ) → CallsWork p x.source n → (regs : Regs) (below : List Waiting) (s : State) → Matches x regs s → s.turns ≤ n → Ends p s.turns (running fn (length old.blocks) (length old.ops) regs below (world None s)) (m n s) (Tries p result fn (length new.blocks) (length new.ops) to exits below x (length old.regs) regs) (IsThrown fn h below x (length old.regs) regs)
@@ -103,7 +102,7 @@ abbrev pub LeavesNoLoop : List Exit → Type 0
 LeavesNoLoop exits = (uses Break exits ≡ false) × (uses Continue exits ≡ false)
 
 -- the code works, and its exits were added to a list. Where no loop is around, none of them leaves one
-pub record Emitted (x : Setting) (result : Option RType) (looping : Bool) (m : Meaning Flow) (old new : Building) (before after : List Exit) : Type 0 where
+pub record Emitted (x : Setting) (result : Option Sort) (looping : Bool) (m : Meaning Flow) (old new : Building) (before after : List Exit) : Type 0 where
   pub mine : List Exit
   pub is : after ≡ before ++ mine
   pub works : Works x result m old new mine

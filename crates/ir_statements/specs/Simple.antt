@@ -6,7 +6,6 @@ use Rattle.py_typed.specs.State.{State}
 use Rattle.py_typed.specs.Statements.{TypedTarget, LocalTarget, GlobalTarget}
 use Rattle.py_typed.specs.WaysOut.{Returns}
 use Rattle.ir_core.specs.declared.code.Program.{Program}
-use Rattle.ir_core.specs.declared.code.RType.{RType}
 use Rattle.ir_core.specs.Building.{Building, Extends}
 use Rattle.ir_core.specs.Registers.{Holds, Regs}
 use Rattle.ir_core.specs.Meaning.{Config, Waiting}
@@ -34,4 +33,4 @@ pub record Sets (x : Setting) (target : TypedTarget) (t : Sort) (r : ℕ) (old n
 pub record Leaves (x : Setting) (r : ℕ) (old new : Building) (exits : List Exit) : Type 0 where
   pub extends : Extends old new
   pub opens : OpenIn new (length old.blocks) (length new.blocks) exits
-  pub does : (p : Program) (result : Option RType) (fn : ℕ) (to : Way → ℕ) → Has p fn new → JumpTo p fn new to exits → (k i : ℕ) (regs : Regs) (below : List Waiting) (s : State) (v : Value) → Matches x regs s → regs r ≡ Holds v → HasResult result v → (d : Config) × Leads p (running fn (length old.blocks) (length old.ops) regs below (world None s)) d × Flows p result fn k i to exits below x (length old.regs) regs (Returns v) s d
+  pub does : (p : Program) (result : Option Sort) (fn : ℕ) (to : Way → ℕ) → Has p fn new → JumpTo p fn new to exits → (k i : ℕ) (regs : Regs) (below : List Waiting) (s : State) (v : Value) → Matches x regs s → regs r ≡ Holds v → HasResult result v → (d : Config) × Leads p (running fn (length old.blocks) (length old.ops) regs below (world None s)) d × Flows p result fn k i to exits below x (length old.regs) regs (Returns v) s d

@@ -5,7 +5,7 @@ use Rattle.py_typed.specs.declared.statement.TStmt.{TStmt}
 use Rattle.py_typed.specs.Statements.{typed_arm}
 use Rattle.py_typed.specs.SourceRun.{call_of}
 use Rattle.py_typed.specs.StatementMeaning.{test_of, suite}
-use Rattle.ir_core.specs.declared.code.RType.{RType}
+use Rattle.py_typed.specs.Sorts.{Sort}
 use Rattle.ir_core.specs.Building.{Building}
 use Rattle.ir_frames.specs.Settings.{Setting}
 use Rattle.ir_frames.specs.Computing.{Meaning}
@@ -17,6 +17,6 @@ use Rattle.ir_statements.specs.Runs.{Tests, LeavesNoLoop}
 abbrev pub means_arms : Setting → List (TExpr × List TStmt) → Meaning Tried
 means_arms x arms n = tried (map (λ a. (test_of x.source.classes.classes (call_of x.source n) x.source.globals x.variables a.0, suite x.source.classes.classes (call_of x.source n) x.source.globals x.variables n a.1)) (map typed_arm arms))
 
-pub record Tested (x : Setting) (result : Option RType) (looping : Bool) (m : Meaning Tried) (old new : Building) (exits : List Exit) : Type 0 where
+pub record Tested (x : Setting) (result : Option Sort) (looping : Bool) (m : Meaning Tried) (old new : Building) (exits : List Exit) : Type 0 where
   pub works : Tests x result m old new exits
   pub inside : looping ≡ false → LeavesNoLoop exits

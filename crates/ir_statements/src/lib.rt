@@ -12,5 +12,5 @@
 mod printing;
 mod ways;
 
-pub use printing::{Printed, emit_print};
+pub use printing::emit_print;
 pub use ways::{Exit, Plan, Way};

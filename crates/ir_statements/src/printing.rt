@@ -1,94 +1,105 @@
 //! What is printed.
-ghost use Rattle.std.specs.Prelude.{◌≡◌, [], ◌∷◌, IfOk, OnOk};
-ghost use Rattle.ir_core.specs.declared.code.Op.{Op};
+ghost use Rattle.std.specs.Prelude.{◌≡◌, ◌<◌, true, map, length, OnOk};
+ghost use Rattle.std.specs.List.{list_all};
 ghost use Rattle.ir_core.specs.Building.{Extends};
-ghost use Rattle.py_typed.specs.Operations.{line_of};
+ghost use Rattle.py_typed.specs.Sorts.{sort};
+ghost use Rattle.py_typed.specs.Expressions.{typed_expr, type_of};
+ghost use Rattle.py_typed.specs.Operations.{line_of, text_of};
+ghost use Rattle.ir_frames.specs.Calling.{Pushes};
+ghost use Rattle.ir_frames.specs.Computing.{HaveTypes};
 ghost use Rattle.ir_frames.specs.Placing.{HasType};
-ghost use Rattle.ir_frames.specs.Shaped.{OpFits, KeepsIf, Keeps};
-ghost use Rattle.ir_frames.specs.Kinds.{KeepsKindsIf};
-ghost use Rattle.ir_statements.specs.Printing.{register_of, text_primitive, IsDeclared, with_text, Writes};
+ghost use Rattle.ir_frames.specs.Settings.{rtype_of};
+ghost use Rattle.ir_frames.specs.Shaped.{Keeps};
+ghost use Rattle.ir_frames.specs.Kinds.{KeepsKinds};
+ghost use Rattle.ir_operators.specs.Operating.{is_written};
+ghost use Rattle.ir_statements.specs.Printing.{writes_of, item_text, WritesText, WritesOne, Writes};
 
-use c_core::{BoolPrim, Int64Prim, IoPrim, Prim, StrPrim};
+use c_core::{IoPrim, Prim};
 use ir_core::{Op, PArg, RType, Reg};
 use ir_frames::Emitter;
+use ir_operators::{emit_text, emit_text_of};
+use py_typed::{TExpr, Ty};
 use std::alloc::Global;
-use value_core::{Many, Memory, Text};
+use value_core::{Many, Memory};
 
-/// A register with a value that is printed: a native integer or a bool.
-#[derive(Clone, Copy)]
-pub enum Printed {
-    Number(Reg),
-    Flag(Reg),
-}
-
-impl Printed {
-    fn register(self) -> Reg
-        ensures { result ≡ register_of self }
-    {
-        match self {
-            Printed::Number(r) => r,
-            Printed::Flag(r) => r,
-        }
-    }
-
-    // The primitive that makes its text.
-    fn primitive(self) -> Prim
-        ensures { result ≡ text_primitive self }
-    {
-        match self {
-            Printed::Number(_) => Prim::Int64(Int64Prim::Str),
-            Printed::Flag(_) => Prim::Bool(BoolPrim::Str),
-        }
-    }
-}
-
-fn one_argument(alloc: Global, argument: PArg) -> Result<Many<PArg>, Memory>
-    ensures { IfOk result (λ arguments. arguments ≡ argument ∷ []) }
+// The text in a register is written.
+fn emit_write(b: &mut Emitter, alloc: Global, r: Reg, line: usize) -> Result<(), Memory>
+    requires { HasType b.old r.0 RType.Ref }
+    ensures kept { Extends b.old b.new }
+    ensures pushed { OnOk result (Pushes b.old b.new (writes_of r)) }
+    ensures shaped { Keeps b.old b.new }
+    ensures kinds { KeepsKinds b.old b.new }
 {
-    let mut arguments = Many::new(alloc);
-    arguments.push(argument)?;
-    Ok(arguments)
+    let mut written = Many::new(alloc);
+    written.push(PArg::Var(r))?;
+    b.push(Op::Prim(None, Prim::Io(IoPrim::Write), written), line)
 }
 
-// A primitive makes a text of an argument in a register, and it is written and given up.
-fn emit_text(
+// A text of the program is written.
+fn emit_literal(b: &mut Emitter, alloc: Global, text: &str, line: usize) -> Result<(), Memory>
+    ensures kept { Extends b.old b.new }
+    ensures writes { OnOk result (WritesText b.old b.new text.now) }
+    ensures shaped { Keeps b.old b.new }
+    ensures kinds { KeepsKinds b.old b.new }
+{
+    let r = emit_text(b, alloc, text, line)?;
+    emit_write(b, alloc, r, line)
+}
+
+// The text of a value of a type is written.
+fn emit_value(b: &mut Emitter, alloc: Global, t: &Ty, x: Reg, line: usize) -> Result<(), Memory>
+    requires text { is_written (sort t.now) ≡ true }
+    requires value { HasType b.old x.0 (rtype_of (sort t.now)) }
+    ensures kept { Extends b.old b.new }
+    ensures writes { OnOk result (WritesOne (sort t.now) x.0 b.old b.new text_of) }
+    ensures shaped { Keeps b.old b.new }
+    ensures kinds { KeepsKinds b.old b.new }
+{
+    let r = emit_text_of(b, alloc, t, x, line)?;
+    emit_write(b, alloc, r, line)
+}
+
+// The text of the value with a number in a row is written, behind a space where it is not the first.
+fn emit_item(
     b: &mut Emitter,
     alloc: Global,
-    text: Reg,
-    primitive: Prim,
-    argument: PArg,
+    i: usize,
+    t: &Ty,
+    x: Reg,
     line: usize,
 ) -> Result<(), Memory>
+    requires text { is_written (sort t.now) ≡ true }
+    requires value { HasType b.old x.0 (rtype_of (sort t.now)) }
     ensures kept { Extends b.old b.new }
-    ensures is { OnOk result (b.new ≡ with_text b.old text primitive argument line) }
-    ensures shaped { KeepsIf (λ n m. OpFits n (Op.Prim (Some text) primitive (argument ∷ []))) b.old b.new }
+    ensures writes { OnOk result (WritesOne (sort t.now) x.0 b.old b.new (item_text i)) }
+    ensures shaped { Keeps b.old b.new }
+    ensures kinds { KeepsKinds b.old b.new }
 {
-    let made_of = one_argument(alloc, argument)?;
-    let written = one_argument(alloc, PArg::Var(text))?;
-    b.push(Op::Prim(Some(text), primitive, made_of), line)?;
-    b.push(Op::Prim(None, Prim::Io(IoPrim::Write), written), line)?;
-    b.push(Op::Dec(text), line)
+    if i == 0 {
+        return emit_value(b, alloc, t, x, line);
+    }
+    emit_literal(b, alloc, " ", line)?;
+    emit_value(b, alloc, t, x, line)
 }
 
-/// Writes a value and a line feed. Both texts are made in one register, written, and given up directly (mypyc's developer guide,
-/// "Reference counting").
+/// Writes values, whose registers are given, with a space between and a line feed behind the last (Python Library Reference,
+/// "Built-in Functions", `print`). The text of each is made when it is written.
 pub fn emit_print(
     b: &mut Emitter,
     alloc: Global,
-    text: Reg,
-    printed: Printed,
+    values: &[TExpr],
+    regs: &[Reg],
     line: usize,
 ) -> Result<(), Memory>
-    requires text { HasType b.old text.0 RType.Ref }
-    requires declared { IsDeclared b.old printed }
+    requires texts { list_all is_written (map type_of (map typed_expr values.now)) ≡ true }
+    requires types { HaveTypes b.old.regs (map type_of (map typed_expr values.now)) regs.now }
     ensures kept { Extends b.old b.new }
-    ensures writes { OnOk result (Writes text.0 b.old b.new (printed ∷ []) line_of) }
+    ensures writes { OnOk result (Writes (map type_of (map typed_expr values.now)) regs.now b.old b.new line_of) }
     ensures shaped { Keeps b.old b.new }
-    ensures kinds { OnOk result (KeepsKindsIf (λ g. g.text ≡ text.0) b.old b.new) }
+    ensures kinds { KeepsKinds b.old b.new }
 {
-    let line_feed = Text::from_str(alloc, "\n")?;
-    let register = PArg::Var(printed.register());
-    emit_text(b, alloc, text, printed.primitive(), register, line)?;
-    let literal = Prim::Str(StrPrim::Literal);
-    emit_text(b, alloc, text, literal, PArg::Text(line_feed), line)
+    for i in 0..regs.len() {
+        emit_item(b, alloc, i, &values[i].ty, regs[i], line)?;
+    }
+    emit_literal(b, alloc, "\n", line)
 }

@@ -7,7 +7,7 @@ use Rattle.ir_bodies.proofs.simple.emit_assignment.Goals as goal
 pub emit_set-requires : goal.emit_set-requires
 emit_set-requires c =
     let x : Setting = setting c.args.checked.now c.args.locals.now c.args.frame in
-    assignment_takes x c.args.targets.now c.index-targets-0.result (typed_expr c.args.e.now) _ _ _ c.requires.scalar c.index-targets-0.is c.requires.target c.requires.room c.in_ok-r.ensures.emitted
+    assignment_takes x c.args.targets.now c.index-targets-0.result (typed_expr c.args.e.now) _ _ _ c.requires.simple c.index-targets-0.is c.requires.target c.requires.room c.in_ok-r.ensures.emitted
 
 pub returns-clause-works : goal.returns-clause-works
 returns-clause-works c =

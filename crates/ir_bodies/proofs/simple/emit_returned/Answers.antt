@@ -1,7 +1,7 @@
 use Rattle.ir_core.specs.declared.code.Reg.{Reg}
 use Rattle.ir_frames.specs.Settings.{Setting, setting}
 use Rattle.ir_frames.proofs.HeldLemmas.{ok_map}
-use Rattle.ir_bodies.proofs.ReturnLemmas.{none_returned, none_other, value_returned}
+use Rattle.ir_bodies.proofs.ReturnLemmas.{none_returned, value_returned}
 use Rattle.ir_bodies.proofs.simple.emit_returned.Goals as goal
 
 pub returns-in-Some-clause-computes : goal.returns-in-Some-clause-computes
@@ -13,6 +13,3 @@ pub returns-in-None-clause-computes : goal.returns-in-None-clause-computes
 returns-in-None-clause-computes c =
     let x : Setting = setting c.args.checked.now c.args.locals.now c.args.frame in
     ok_map _ _ _ (λ (r : Reg) a. none_returned x _ _ _ r c.in-None.is a) c.literal.ensures.added
-
-pub returns-in-None-clause-other : goal.returns-in-None-clause-other
-returns-in-None-clause-other c = ok_map _ _ _ (λ (r : Reg) a. none_other c.args.b.now _ r a) c.literal.ensures.added

@@ -1,3 +1,5 @@
+use Rattle.std.specs.Option.{option_map, option_copied}
+use Rattle.py_typed.specs.Sorts.{sort}
 use Rattle.std.proofs.Common.{◌+◌, ◌*◌, max, map, take, drop}
 use denote.Param.Weighed.{most}
 use Rattle.py_typed.specs.declared.statement.TStmt.{size-TStmt}
@@ -31,18 +33,18 @@ decreases-emit_if l = max (most arm_size l.arms.now) (most size-TStmt l.other.no
 
 abbrev pub invariant-emit_block-loop-s : goal.invariant-emit_block-loop-s
 invariant-emit_block-loop-s l = record {
-  so_far : Emitted (setting l.checked l.locals l.frame) l.gives l.looping (means_suite (setting l.checked l.locals l.frame) (typed_suite (take l.s-index l.body))) l.fn.b l.b l.fn.exits.items l.exits.items;
-  suits : SuiteSuits (typed_module l.checked) (map variable l.locals) l.gives l.looping (typed_suite (drop l.s-index l.body));
+  so_far : Emitted (setting l.checked l.locals l.frame) (option_map sort (option_copied l.gives)) l.looping (means_suite (setting l.checked l.locals l.frame) (typed_suite (take l.s-index l.body))) l.fn.b l.b l.fn.exits.items l.exits.items;
+  suits : SuiteSuits (typed_module l.checked) (map variable l.locals) (option_map sort (option_copied l.gives)) l.looping (typed_suite (drop l.s-index l.body));
   room : HasRoom (setting l.checked l.locals l.frame) l.b;
   shaped : Keeps l.fn.b l.b;
-  kinds : KeepsKindsIf (IsAround (typed_module l.checked) l.frame l.gives) l.fn.b l.b;
+  kinds : KeepsKindsIf (IsAround (typed_module l.checked) (option_map sort (option_copied l.gives))) l.fn.b l.b;
 }
 
 abbrev pub invariant-emit_arms-loop-e : goal.invariant-emit_arms-loop-e
 invariant-emit_arms-loop-e l = record {
-  so_far : Tested (setting l.checked l.locals l.frame) l.gives l.looping (means_arms (setting l.checked l.locals l.frame) (take l.e-index l.arms)) l.fn.b l.b l.exits.items;
-  suits : ArmsSuit (typed_module l.checked) (map variable l.locals) l.gives l.looping (arms_of (map typed_arm (drop l.e-index l.arms)));
+  so_far : Tested (setting l.checked l.locals l.frame) (option_map sort (option_copied l.gives)) l.looping (means_arms (setting l.checked l.locals l.frame) (take l.e-index l.arms)) l.fn.b l.b l.exits.items;
+  suits : ArmsSuit (typed_module l.checked) (map variable l.locals) (option_map sort (option_copied l.gives)) l.looping (arms_of (map typed_arm (drop l.e-index l.arms)));
   room : HasRoom (setting l.checked l.locals l.frame) l.b;
   shaped : Keeps l.fn.b l.b;
-  kinds : KeepsKindsIf (IsAround (typed_module l.checked) l.frame l.gives) l.fn.b l.b;
+  kinds : KeepsKindsIf (IsAround (typed_module l.checked) (option_map sort (option_copied l.gives))) l.fn.b l.b;
 }

@@ -11,4 +11,4 @@ returns-clause-sets c = on_ok_map _ _ _ (λ q. variable_sets c.args.frame c.args
 pub returns-clause-kinds : goal.returns-clause-kinds
 returns-clause-kinds c = λ g alike h.
     let k = c.in_ok-push.ensures.kinds g alike h in
-    c.push-2.ensures.kinds g (flag_kinds g _ _ c.args.frame c.args.k c.flag-flag.result c.requires c.if-k-frame.false c.flag-flag.ensures c.in_ok-push.ensures.kept k) k
+    c.push-2.ensures.kinds g (flag_kinds g _ _ c.args.frame c.args.k c.flag-flag.result c.requires c.if-k-frame.false c.flag-flag.ensures c.in_ok-push.ensures.kept) k

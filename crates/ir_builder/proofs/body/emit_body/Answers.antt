@@ -1,3 +1,5 @@
+use Rattle.std.specs.Option.{option_map, option_copied}
+use Rattle.py_typed.specs.Sorts.{sort}
 use Rattle.std.proofs.Common.{arith, refl}
 use Rattle.ir_frames.specs.Settings.{setting}
 use Rattle.ir_builder.specs.Bodies.{body_frame}
@@ -5,7 +7,7 @@ use Rattle.ir_builder.proofs.BodyLemmas.{bodied, given_kinds}
 use Rattle.ir_builder.proofs.body.emit_body.Goals as goal
 
 pub returns-clause-bodied : goal.returns-clause-bodied
-returns-clause-bodied c = bodied (setting c.args.checked.now c.args.locals.now (body_frame c.args.vars)) c.args.gives c.args.t c.args.last _ _ _ _ _ _ _ _ c.here-start.result c.in_ok-end.end c.in_ok-r.r refl c.in_ok-emit_block.ensures.emitted c.in_ok-r.ensures.added c.in_ok-end.ensures.closed c.here-start.ensures c.in_ok-end.ensures.number c.fill.ensures.filled
+returns-clause-bodied c = bodied (setting c.args.checked.now c.args.locals.now (body_frame c.args.vars)) (option_map sort (option_copied c.args.gives)) c.args.t c.args.last _ _ _ _ _ _ _ _ c.here-start.result c.in_ok-end.end c.in_ok-r.r refl c.in_ok-emit_block.ensures.emitted c.in_ok-r.ensures.added c.in_ok-end.ensures.closed c.here-start.ensures c.in_ok-end.ensures.number c.fill.ensures.filled
 
 pub returns-clause-shaped : goal.returns-clause-shaped
 returns-clause-shaped c n m low size s =
@@ -23,5 +25,5 @@ pub returns-clause-kinds : goal.returns-clause-kinds
 returns-clause-kinds c g around h =
     let k1 = c.in_ok-emit_block.ensures.kinds g around.around h in
     let k2 = c.in_ok-r.ensures.kinds g around.fits k1 in
-    let k3 = c.in_ok-end.ensures.kinds g (given_kinds g _ _ c.in_ok-r.r _ _ c.in_ok-r.ensures.added around.ret k1) k2 in
+    let k3 = c.in_ok-end.ensures.kinds g (given_kinds g _ _ c.in_ok-r.r _ _ c.in_ok-r.ensures.added around.ret) k2 in
     c.fill.ensures.kinds g k3

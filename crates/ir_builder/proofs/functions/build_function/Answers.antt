@@ -9,7 +9,7 @@ pub begin-requires : goal.begin-requires
 begin-requires c = registers_differ (map variable c.args.f.now.locals) c.in_ok-variables.variables.items c.requires.function.differ (rw c.as_slice.ensures at c.in_ok-variables.ensures)
 
 pub emit_body-requires-clause-suits : goal.emit_body-requires-clause-suits
-emit_body-requires-clause-suits c = rw (c.as_slice-2.ensures, c.as_slice-3.ensures, c.register_type-ret.ensures) c.requires.function.body
+emit_body-requires-clause-suits c = rw (c.as_slice-2.ensures, c.as_slice-3.ensures) c.requires.function.body
 
 pub vars_of-requires : goal.vars_of-requires
 vars_of-requires c = few_params c.args.f.now c.len-count.result c.len-count.ensures c.requires.function
@@ -26,7 +26,7 @@ emit_body-requires-clause-room c =
 pub returns : goal.returns
 returns c =
     let bodied = rw (c.as_slice-2.ensures, c.as_slice-3.ensures) at c.in_ok-emit_body.ensures.bodied in
-    function_is (typed_module c.args.checked.now) c.requires.module (typed_func c.args.f.now) c.requires.function c.in_ok-variables.variables.items c.len-count.result c.args.f.now.params c.in_ok-vars.vars c.register_type-ret.result c.end_of.result c.in_ok-b.b c.add_flags.new.b c.push.new.self c.emit_body.new.b c.in_ok-name.name c.finish.result c.named.result
+    function_is (typed_module c.args.checked.now) (typed_func c.args.f.now) c.requires.function c.in_ok-variables.variables.items c.len-count.result c.args.f.now.params c.in_ok-vars.vars c.register_type-ret.result c.end_of.result c.in_ok-b.b c.add_flags.new.b c.push.new.self c.emit_body.new.b c.in_ok-name.name c.finish.result c.named.result
     (rw c.as_slice.ensures at c.in_ok-variables.ensures)
     (c.len-count.ensures ∙ sym (map_length variable c.args.f.now.locals))
     c.in_ok-vars.ensures c.register_type-ret.ensures c.end_of.ensures c.in_ok-b.ensures c.in_ok-add_flags.ensures.added c.in_ok-add_flags.ensures.shaped c.in_ok-add_flags.ensures.kinds c.in_ok-push.ensures.pushed c.in_ok-push.ensures.shaped c.in_ok-push.ensures.kinds bodied c.in_ok-emit_body.ensures.shaped c.in_ok-emit_body.ensures.kinds c.in_ok-emit_body.ensures.few c.finish.ensures.names refl c.finish.ensures.is (let same : c.in_ok-name.name ≡ c.args.f.now.name = search rules in same) c.named.ensures

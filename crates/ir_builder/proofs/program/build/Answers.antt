@@ -1,6 +1,6 @@
 use Rattle.py_typed.specs.Statements.{typed_module}
 use Rattle.ir_frames.proofs.HeldLemmas.{ok_map}
-use Rattle.ir_shapes.proofs.Whole.{built_has_shape, built_prints}
+use Rattle.ir_shapes.proofs.Whole.{built_has_shape}
 use Rattle.ir_builder.proofs.WholeLemmas.{is_calm, does_as_module, is_program, no_tests}
 use Rattle.ir_builder.proofs.program.build.Goals as goal
 
@@ -12,9 +12,6 @@ returns-clause-calm c = ok_map c.build_all.result _ _ (λ p b. is_calm (typed_mo
 
 pub returns-clause-shape : goal.returns-clause-shape
 returns-clause-shape c = ok_map c.build_all.result _ _ (λ p b. built_has_shape p (is_program (typed_module c.args.checked.now) p b c.requires)) c.build_all.ensures
-
-pub returns-clause-prints : goal.returns-clause-prints
-returns-clause-prints c = ok_map c.build_all.result _ _ (λ p b. built_prints p (is_program (typed_module c.args.checked.now) p b c.requires)) c.build_all.ensures
 
 pub returns-clause-edges : goal.returns-clause-edges
 returns-clause-edges c = ok_map c.build_all.result _ _ (λ p b. no_tests (typed_module c.args.checked.now) p b c.requires) c.build_all.ensures

@@ -16,8 +16,8 @@ abbrev pub decreases-in_arms : goal.decreases-in_arms
 decreases-in_arms l = most arm_size l.arms.now * 3 + 2
 
 abbrev pub invariant-in_suite-loop-s : goal.invariant-in_suite-loop-s
-invariant-in_suite-loop-s l = suite_least (map variable l.globals) l.found (typed_suite (drop l.s-index l.body)) ≡ suite_least (map variable l.globals) l.fn.found (typed_suite l.body)
+invariant-in_suite-loop-s l = suite_least (map variable l.locals) (map variable l.globals) l.found (typed_suite (drop l.s-index l.body)) ≡ suite_least (map variable l.locals) (map variable l.globals) l.fn.found (typed_suite l.body)
 
 abbrev pub invariant-in_arms-loop-test : goal.invariant-in_arms-loop-test
 invariant-in_arms-loop-test l =
-    arms_least (map variable l.globals) l.found (arms_of (map typed_arm (drop l.test-index l.arms))) ≡ arms_least (map variable l.globals) l.fn.found (arms_of (map typed_arm l.arms))
+    arms_least (map variable l.locals) (map variable l.globals) l.found (arms_of (map typed_arm (drop l.test-index l.arms))) ≡ arms_least (map variable l.locals) (map variable l.globals) l.fn.found (arms_of (map typed_arm l.arms))

@@ -21,7 +21,7 @@ returns-in_err-push-clause-shaped c n m le up s =
     c.in_err-push.ensures.shaped n m (call_fits n _ c.args.function _ c.args.args le c.in_ok-r.ensures.declared.made c.requires.below) (c.in_ok-r.ensures.shaped n m le (omega arith) s)
 
 pub returns-clause-kinds : goal.returns-clause-kinds
-returns-clause-kinds c g k h = c.in_ok-push.ensures.kinds g (call_kinds g _ _ c.in_ok-r.r c.args.t c.args.function _ c.in_ok-r.ensures.declared k h) (c.in_ok-r.ensures.kinds g h)
+returns-clause-kinds c g k h = c.in_ok-push.ensures.kinds g (call_kinds g _ _ c.in_ok-r.r c.args.t c.args.function _ c.in_ok-r.ensures.declared k) (c.in_ok-r.ensures.kinds g h)
 
 pub returns-in_err-push-clause-kinds : goal.returns-in_err-push-clause-kinds
-returns-in_err-push-clause-kinds c g k h = c.in_err-push.ensures.kinds g (call_kinds g _ _ c.in_ok-r.r c.args.t c.args.function _ c.in_ok-r.ensures.declared k h) (c.in_ok-r.ensures.kinds g h)
+returns-in_err-push-clause-kinds c g k h = c.in_err-push.ensures.kinds g (call_kinds g _ _ c.in_ok-r.r c.args.t c.args.function _ c.in_ok-r.ensures.declared k) (c.in_ok-r.ensures.kinds g h)

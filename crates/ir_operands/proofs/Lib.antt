@@ -1,0 +1,5 @@
+pub mod ComparisonLemmas
+pub mod OrderLemmas
+pub mod OperandLemmas
+pub mod MeetLemmas
+pub mod TruthLemmas

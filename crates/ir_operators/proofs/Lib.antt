@@ -1,0 +1,11 @@
+pub mod RangeLemmas
+pub mod TextLemmas
+pub mod LiteralLemmas
+pub mod PartLemmas
+pub mod KindLemmas
+pub mod NumberLemmas
+pub mod CoercionLemmas
+pub mod WrittenLemmas
+pub mod InputLemmas
+pub mod ThenLemmas
+pub mod NativeLemmas
