@@ -1,5 +1,5 @@
 -- The C text of a program that does what a module does is faithful to the module.
-use Rattle.std.proofs.Common.{◌≡◌, refl, sym, ◌∙◌, ap, subst, ℕ, List, [], ◌∷◌, map}
+use Rattle.std.proofs.Common.{◌≡◌, refl, ◌∙◌, ap, ℕ, List, [], ◌∷◌, map}
 use Rattle.value_core.specs.Items.{Items, input_items}
 use Rattle.py_typed.specs.Sorts as sort
 use Rattle.py_typed.specs.Sorts.{Sort}
@@ -7,17 +7,13 @@ use Rattle.py_typed.specs.Statements.{Variable, TypedModule}
 use Rattle.c_core.specs.declared.code.Kind.{Kind}
 use Rattle.c_core.specs.declared.code.Code.{Code}
 use Rattle.ir_core.specs.declared.code.Program.{Program}
-use Rattle.ir_core.specs.Lower.{kind_of_type, global_of, lower}
+use Rattle.ir_core.specs.Lower.{kind_of_type, global_of}
 use Rattle.ir_core.specs.Meaning.{Plain}
-use Rattle.ir_core.specs.Runs.{Fit, MeansSame, start}
-use Rattle.ir_core.specs.Shape.{Shape}
+use Rattle.ir_core.specs.Runs.{MeansSame, start}
 use Rattle.ir_core.proofs.RunLemmas.{ends_are_one}
 use Rattle.ir_frames.specs.Settings.{rtype_of}
 use Rattle.error_edges.specs.Edged.{IsEdgedProgram}
-use Rattle.ir_lowering.specs.PrintsOrFails.{PrintsOrFails}
-use Rattle.ir_lowering.specs.Follows.{stop_of}
-use Rattle.ir_lowering.proofs.Whole.{fitting_runs_follow}
-use Rattle.edge_laws.proofs.Whole.{edged_prints}
+use Rattle.line_laws.specs.Follows.{stop_of, Follows}
 use Rattle.ir_builder.specs.Meaning as builder
 use Rattle.ir_builder.specs.Meaning.{DoesAsModule, globals_of}
 use Rattle.mypyc_top.specs.Faithful.{kind_of, RunsAs, Faithful}
@@ -46,31 +42,25 @@ same_does m p q does same n items =
     let run = does n items in
     record { ending = run.ending; world = run.world; comes = (same n items run.ending run.world).0 run.comes; same = run.same }
 
-runs_as : (m : TypedModule) (p : Program) → DoesAsModule m p → Fit p → Shape p → PrintsOrFails p → (n : ℕ) (items : Items) → RunsAs m (lower p) n items
-runs_as m p does fit shape prints n items =
+runs_as : (m : TypedModule) (p : Program) (code : Code) → DoesAsModule m p → Follows p code → (n : ℕ) (items : Items) → RunsAs m code n items
+runs_as m p code does follows n items =
     let run = does n items in
-    let follows = fitting_runs_follow p shape fit prints n items in
-    let stops = follows.stops in
-    let same = ends_are_one Plain p run.comes.0 stops.comes.0 (start p n items) run.ending stops.ending run.world stops.world run.comes.1 stops.comes.1 in
+    let there = follows.runs n items in
+    let same = ends_are_one Plain p run.comes.0 there.comes.0 (start p n items) run.ending there.ending run.world there.world run.comes.1 there.comes.1 in
     record {
-      source = stop_of stops.ending stops.world;
+      source = stop_of there.ending there.world;
       is_source =
           run.same
-          ∙ (ap (λ e. builder.module_stop e run.world) same.0 ∙ ap (λ w. builder.module_stop stops.ending w) same.1);
-      stop = follows.stop;
-      runs = follows.runs;
-      agrees = follows.agrees;
+          ∙ (ap (λ e. builder.module_stop e run.world) same.0 ∙ ap (λ w. builder.module_stop there.ending w) same.1);
+      stop = there.stop;
+      runs = there.runs;
+      agrees = there.agrees;
     }
 
-lowered_is_faithful : (m : TypedModule) (p : Program) → DoesAsModule m p → Fit p → Shape p → PrintsOrFails p → p.globals ≡ globals_of m → Faithful m (lower p)
-lowered_is_faithful m p does fit shape prints globals = record {
-  is_well_formed = shape.lowered;
-  same_variables = ap (map global_of) globals ∙ same_variables m.globals;
-  runs = λ n most bytes e. runs_as m p does fit shape prints n (input_items bytes e);
+-- a code that follows a module's program
+pub following_is_faithful : (m : TypedModule) (p q : Program) (code : Code) → DoesAsModule m p → p.globals ≡ globals_of m → IsEdgedProgram p q → MeansSame p q → Follows q code → Faithful m code
+following_is_faithful m p q code does globals edged same follows = record {
+  is_well_formed = follows.is_well_formed;
+  same_variables = follows.same_globals ∙ (ap (map global_of) (edged.globals ∙ globals) ∙ same_variables m.globals);
+  runs = λ n most bytes e. runs_as m q code (same_does m p q does same) follows n (input_items bytes e);
 }
-
--- the code that is built for a module, from its program with error edges
-pub edged_is_faithful : (m : TypedModule) (p q : Program) (code : Code) → DoesAsModule m p → Shape p → PrintsOrFails p → p.globals ≡ globals_of m → IsEdgedProgram p q → MeansSame p q → Fit q → Shape q → code ≡ lower q → Faithful m code
-edged_is_faithful m p q code does shape prints globals edged same fit shaped is =
-    subst (λ c. Faithful m c) (sym is)
-    (lowered_is_faithful m q (same_does m p q does same) fit shaped (edged_prints p q shape edged prints) (edged.globals ∙ globals))

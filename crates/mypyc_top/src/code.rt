@@ -7,17 +7,17 @@ ghost use Rattle.mypyc_top.specs.Faithful.{Faithful};
 use c_core::Code;
 use error_edges::add_error_edges;
 use ir_builder::build;
-use ir_lowering::lower;
 use py_typed::Checked;
+use refcount_insert::insert_counts;
 use std::alloc::Global;
 use value_core::Memory;
 
-/// The code of a module all of whose forms are compiled: its intermediate code, with error edges, as C text.
+/// The code of a module all of whose forms are compiled: its intermediate code, with error edges and counts, as C text.
 pub(crate) fn code_of(alloc: Global, checked: &Checked) -> Result<Code, Memory>
     requires { ModuleSuits (typed_module checked.now) }
     ensures { IfOk result (Faithful (typed_module checked.now)) }
 {
     let program = build(alloc, checked)?;
     let edged = add_error_edges(alloc, program)?;
-    lower(alloc, &edged.program)
+    insert_counts(alloc, &edged)
 }
