@@ -36,9 +36,13 @@ mod machine_strings_tests;
 #[cfg(test)]
 mod machine_values_tests;
 #[cfg(test)]
+mod module_runs;
+#[cfg(test)]
 mod modules;
 #[cfg(test)]
 mod mypyc_top_changes_tests;
+#[cfg(test)]
+mod mypyc_top_counts_tests;
 #[cfg(test)]
 mod mypyc_top_expressions_tests;
 #[cfg(test)]
@@ -48,6 +52,8 @@ mod mypyc_top_functions_tests;
 #[cfg(test)]
 mod mypyc_top_lines_tests;
 #[cfg(test)]
+mod mypyc_top_numbers_tests;
+#[cfg(test)]
 mod mypyc_top_running_tests;
 #[cfg(test)]
 mod mypyc_top_sizes_tests;
@@ -55,6 +61,8 @@ mod mypyc_top_sizes_tests;
 mod mypyc_top_source_tests;
 #[cfg(test)]
 mod mypyc_top_tests;
+#[cfg(test)]
+mod mypyc_top_texts_tests;
 #[cfg(test)]
 mod mypyc_top_typing_tests;
 #[cfg(test)]

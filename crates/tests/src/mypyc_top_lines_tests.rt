@@ -9,7 +9,7 @@ use std::test::Fail;
 /// its own first line.
 const LINES: &str = r#"-- A function behind one import.
 from mypy_extensions import i64
-def f(x: int) -> int:
+def f(x: list[int]) -> list[int]:
     return x
 => 2
 
@@ -18,16 +18,16 @@ from mypy_extensions import i64
 from typing import Optional
 def g(b: bool) -> bool:
     return b
-def f(x: int) -> i64:
-    return x
+def f(x: Optional[i64]) -> bool:
+    return x is None
 => 5
 
 -- Between imports.
 def g(b: bool) -> bool:
     return b
 from mypy_extensions import i64
-def f(x: int) -> int:
-    return x
+def f(x: list[int]) -> int:
+    return len(x)
 from typing import Optional
 def h(n: i64) -> i64:
     return n
@@ -36,7 +36,7 @@ def h(n: i64) -> i64:
 -- Behind an import inside an `if` of the module.
 if True:
     from mypy_extensions import i64
-def f(s: str) -> None:
+def f(s: list[str]) -> None:
     pass
 => 3
 
@@ -58,13 +58,13 @@ def f(x: List[int]) -> None:
 def g() -> None: pass
 def f(
         b: bool,
-        s: str
+        s: list[str]
 ) -> None:
-    print()
+    print([1][0])
 => 2
 
 -- Parameters of other types.
-def f(x: str) -> None: pass
+def f(x: list[str]) -> None: pass
 => 1
 
 from mypy_extensions import i64
@@ -73,14 +73,14 @@ def f(x: Optional[i64]) -> None: pass
 => 3
 
 from mypy_extensions import i64
-def f(n: i64, m: int) -> None: pass
+def f(n: i64, s: str, m: tuple[int]) -> None: pass
 => 2
 
 -- Results of other types.
-def f() -> int: return 1
+def f() -> list[int]: return [1]
 => 1
 
-def f() -> str: return 'a'
+def f() -> str | None: return 'a'
 => 1
 
 from mypy_extensions import i64
@@ -91,28 +91,28 @@ from mypy_extensions import i64
 def f(n: i64) -> i64 | None: return n
 => 2
 
--- Variables of a function that are neither native integers nor bools.
+-- Variables of a function that are neither numbers nor texts.
 from mypy_extensions import i64
 def f(n: i64) -> i64:
-    m = 3
+    m = [3]
     return n
 => 2
 
 from mypy_extensions import i64
 def f(n: i64) -> None:
     m: i64 = n
-    s: str
+    s: list[str]
 => 2
 
 from mypy_extensions import i64
 def f(n: i64) -> None:
-    for i in range(3): n += i
+    for i in [[3]]: n += 1
 => 2
 
 -- Statements inside of a function that is compiled.
 def f(b: bool) -> None:
     print(b)
-    print()
+    print([b][0])
 => 3
 
 from mypy_extensions import i64
@@ -121,33 +121,52 @@ def f(n: i64) -> None:
         print(n)
 => 3
 
+def f(n: int) -> None:
+    for i in [n]:
+        print(i)
+=> 2
+
+def f(s: str) -> None:
+    i = 0
+    for i in range(len(s)): pass
+=> 3
+
 from mypy_extensions import i64
 def f(n: i64) -> None:
     if n > 0:
-        n += len('ab')
+        n += len([1])
 => 4
 
 from mypy_extensions import i64
 def f(n: i64) -> None:
     while n > 0:
         n -= 1
-        n -= len('ab')
+        n -= len([1, 2])
 => 5
 
 from mypy_extensions import i64
-def f(n: i64) -> None: n *= len('a')
+def f(n: i64) -> None: n *= len([1])
 => 2
 
 from mypy_extensions import i64
 def f(n: i64) -> None:
     # none
-    n += len('a')
+    n += len([n])
 => 4
+
+def f(s: str) -> None:
+    s += s
+    s += ['a'][0]
+=> 3
 
 from mypy_extensions import i64
 def f(n: i64, m: i64) -> None:
     n, m = m, n
 => 3
+
+def f(s: str, t: str) -> None:
+    s, t = t, s
+=> 2
 
 def f() -> None:
     return None
@@ -160,7 +179,12 @@ def f() -> None:
 
 def f() -> None:
     return
-    print()
+    print([1][0])
+=> 3
+
+def f() -> str:
+    return (
+        ['a'][0])
 => 3
 
 -- Expressions in tests.
@@ -168,7 +192,7 @@ from mypy_extensions import i64
 def f(n: i64) -> i64:
     if n > 0:
         return 1
-    elif n == len('ab'):
+    elif n == len([1]):
         return 2
     return 3
 => 5
@@ -178,20 +202,20 @@ def f(n: i64) -> i64:
     while n > 0:
         n -= 1
     while (n < 0 and
-           n == len('ab')):
+           n == len([1])):
         n += 1
     return n
 => 6
 
-if 1: pass
+if [1]: pass
 => 1
 
-while 5: break
+while [5]: break
 => 1
 
 if False:
     pass
-elif not 0:
+elif not [0]:
     pass
 => 3
 
@@ -200,203 +224,225 @@ def f(n: i64) -> None:
     if n is None: pass
 => 3
 
--- A literal of more than 64 bits, on its own line.
+-- What is not compiled, on its own line.
 from mypy_extensions import i64
 def f(n: i64) -> i64:
     return (n +
-        9223372036854775808)
+        [9][0])
 => 4
 
 from mypy_extensions import i64
 def f(n: i64) -> bool:
     return (9223372036854775807 > n >
         1 + n >
-        9223372036854775808 < n)
+        [9][0] < n)
 => 5
 
 from mypy_extensions import i64
 def f(n: i64, m: i64) -> None: pass
 f(
     1,
-    9223372036854775808)
+    [9][0])
 => 5
 
 from mypy_extensions import i64
 def f(n: i64) -> None:
     n = 9223372036854775807
     n += (
-        9223372036854775808)
+        [9][0])
 => 5
 
 from mypy_extensions import i64
 print(i64(
-    9223372036854775808))
+    [9][0]))
 => 3
 
 from mypy_extensions import i64
 def f(n: i64) -> i64:
-    n = 9223372036854775808
+    n = [9][0]
     return n
 => 3
 
 -- `print` of something else, on its line.
-print()
+print([1][0])
 => 1
 
-print(1, 2)
+print(1, [2][0])
 => 1
 
 from mypy_extensions import i64
 print(i64(1),
-    True)
+    [True][0])
+=> 3
+
+print(
+    [4611686018427387904][0])
 => 2
 
 print(
-    4611686018427387904)
-=> 1
+    -[5][0])
+=> 2
 
 print(
-    -5)
-=> 1
+    ['a'][0])
+=> 2
 
 print(
-    'a')
-=> 1
-
-print(
-    1 if True else 2)
-=> 1
+    1 if True else [2][0])
+=> 2
 
 print(3)
 print(
     [1][0])
-=> 2
+=> 3
+
+print(1, 'a',
+    len('a'),
+    str([1][0]),
+    [2][0])
+=> 3
 
 -- `print` of a native integer in which something is not compiled.
 from mypy_extensions import i64
 print(
     i64(1) +
-    i64(len('ab')))
+    i64(len([1])))
 => 4
 
--- An `int` that is an operation, where a native integer is asked for.
+-- An item, where a native integer is asked for.
 from mypy_extensions import i64
 def f(n: i64) -> i64:
     return n
-print(f(-5))
+print(f([5][0]))
 => 4
 
 from mypy_extensions import i64
 def f(n: i64, m: i64) -> i64: return n
 print(f(1,
-    -5))
+    -[5][0]))
 => 4
 
 from mypy_extensions import i64
 def f(n: i64) -> i64:
     return (n +
-        -5)
+        -[5][0])
 => 4
 
 from mypy_extensions import i64
 def f(n: i64, b: bool) -> i64:
-    return n + (1 if b else 2)
+    return n + ([1][0] if b else 2)
 => 3
 
 from mypy_extensions import i64
 def f(n: i64) -> i64:
     return (
-        1 + 2)
+        1 + [2][0])
 => 4
 
--- Operations on an `int`, or on bools that give one.
-print(1 + 2)
+-- Operations on an item.
+print(1 + [2][0])
 => 1
 
-print(True + True)
+print([True][0] + True)
 => 1
 
-print(-True)
+print(-[True][0])
 => 1
 
-print(1 < 2)
+print(1 < [2][0])
 => 1
 
-print(5 < True)
+print([5][0] < True)
+=> 1
+
+print('a' + ['b'][0])
+=> 1
+
+print('a' < ['b'][0])
+=> 1
+
+print('a'[[0][0]])
+=> 1
+
+print(['ab'][0][1])
 => 1
 
 from mypy_extensions import i64
-print(i64(1) < 2 < 3)
+print(i64(1) < 2 < [3][0])
 => 2
 
-print(True and 5)
+print(True and [5][0])
 => 1
 
-print(1 or 2)
+print([1][0] or 2)
 => 1
 
-print(not 1)
+print(not [1])
 => 1
 
 from mypy_extensions import i64
-print(1 if i64(1) else 2)
+print([1][0] if i64(1) else 2)
 => 2
 
 from mypy_extensions import i64
-print(int(i64(3)))
+print(int([i64(3)][0]))
 => 2
 
 -- A native integer made of something else.
 from mypy_extensions import i64
-print(i64(len('a')))
+print(i64(len([1])))
 => 2
 
 -- Other expressions.
-3
+(3,)
 => 1
 
-'text'
+['text']
 => 1
 
 None
 => 1
 
 def f() -> None:
-    'text'
+    ['text']
     print(1)
 => 2
 
-print(len('a'))
+print(len([1]))
 => 1
 
-print(str(3))
+print(len((1, 'a')))
+=> 1
+
+print(str([3][0]))
 => 1
 
 [1]
 => 1
 
--- Variables of the module that are neither native integers nor bools.
-x = 1
+-- Variables of the module that are neither numbers nor texts.
+x = [1]
 => 1
 
 print(1)
-x: int = 2
+x: list[int] = [2]
 => 2
 
 b = True
-n = 2
-=> 2
+s = 'a'
+n = [2]
+=> 3
 
 if True:
     pass
 else:
-    x = 1
+    x = [1]
 => 4
 
-x: str
+x: list[str]
 def f() -> None:
     global x
-    x = 'a'
+    x = ['a']
 => 4
 
 from typing import Optional
@@ -404,16 +450,16 @@ x: Optional[bool] = True
 => 2
 
 from mypy_extensions import i64
-x: int
-print(i64(x))
+x: list[int]
+print(i64(x[0]))
 => 3
 
--- An `int` that is changed by a native integer.
+-- An item that is changed by a native integer.
 from mypy_extensions import i64
-x: int
+x: list[int]
 def f(n: i64) -> None:
     global x
-    x += n
+    x[0] += n
 => 5
 
 -- Two variables at once, and a value that is not compiled.
@@ -424,30 +470,30 @@ x, y = 1, 2
 => 4
 
 from mypy_extensions import i64
-x: i64 = len('ab')
+x: i64 = len([1])
 => 2
 
 from mypy_extensions import i64
 x: i64 = 5
-x *= len('a')
+x *= len([1])
 => 3
 
 from mypy_extensions import i64
 x: i64 = 5
-print(x, x)
+print(x, [x][0])
 => 3
 
 -- The least of several lines.
 from mypy_extensions import i64
 def f(n: i64) -> i64:
-    return len('ab')
-def g(s: str) -> None:
+    return len([1])
+def g(s: list[str]) -> None:
     x = 1
-print()
+print([1][0])
 => 3
 
-print()
-def f(s: str) -> None:
+print([1][0])
+def f(s: list[str]) -> None:
     x = 2
 => 1
 
@@ -455,28 +501,28 @@ def f(b: bool) -> None:
     if b:
         print(1)
     else:
-        print(1, 2)
-print()
+        print(1, [2][0])
+print([1][0])
 => 5
 
 def f(b: bool) -> bool:
     return b
 print(f(True))
-def g(s: str) -> None:
+def g(s: list[str]) -> None:
     print()
 def h(b: bool) -> None:
     print()
-print(1); print()
+print(1); print([1][0])
 => 4
 
 from mypy_extensions import i64
 def f(n: i64, b: bool) -> i64:
     n += (1 if
-        n > len('ab') else
+        n > len([1]) else
         n)
     if b:
-        n += len('a')
-    return len('a')
+        n += len([1])
+    return len([1])
 => 4
 "#;
 

@@ -613,7 +613,8 @@ const MODULES: &[(&[u8], &str, u8)] = &[
     ),
     (b"", "", 0),
     (b"from mypy_extensions import i64\nprint(+3)\n", "3\n", 0),
-    (b"print(3)\nprint(3 + 4)\n", UNBUILT, 1),
+    (b"print(3)\nprint([3][0])\n", UNBUILT, 1),
+    (b"print(3)\nprint(3 + 4, 'a')\n", "3\n7 a\n", 0),
     (b"print(3)\npass\nprint(True)\n", "3\nTrue\n", 0),
 ];
 

@@ -50,6 +50,19 @@ const BUILT: &[(&[u8], &str)] = &[
         b"def f() -> None:\n\tpass\n\n# none\n\n\tprint(4)\n\nf()",
         "4\n",
     ),
+    (b"x = 1", ""),
+    (b"print()", "\n"),
+    (b"print(1, 2)", "1 2\n"),
+    (b"print(-1)\nprint(\n-1)", "-1\n-1\n"),
+    (b"print(4611686018427387904)", "4611686018427387904\n"),
+    (
+        b"print(170141183460469231731687303715884105727)",
+        "170141183460469231731687303715884105727\n",
+    ),
+    (b"print('3'); print(\"\"\"4\r\n5\"\"\")", "3\n4\n5\n"),
+    (b"if True: print('\xc3\xa9' \\\n 'x')", "\u{e9}x\n"),
+    (b"print(1 + 2)\nprint(1 if True else 2)", "3\n1\n"),
+    (b"print(2); 3\nprint()\n'text'\\\n; 3\n(\n3)", "2\n\n"),
 ];
 
 const NO_TEXT: &str = "File is not UTF-8  [syntax]";
@@ -198,26 +211,36 @@ const NOT_TYPED: &[(&[u8], usize)] = &[
 
 /// Modules that are right, and of which some form is not compiled, with the line of the first one.
 const NOT_COMPILED: &[(&[u8], usize)] = &[
-    (b"x = 1", 1),
-    (b"print()", 1),
-    (b"print(1, 2)", 1),
-    (b"print(-1)", 1),
-    (b"print(4611686018427387904)", 1),
-    (b"print(170141183460469231731687303715884105727)", 1),
-    (b"print('3')", 1),
-    (b"print(1 + 2)", 1),
-    (b"print(1 if True else 2)", 1),
-    (b"from mypy_extensions import i64\nprint(int(i64(3)))", 2),
-    (b"3", 1),
-    (b"print(3)\nx: int = 1\n", 2),
-    (b"if True: print('3')", 1),
-    (b"def f(s: str) -> None: pass", 1),
-    (b"print(1)\n\ndef f() -> int:\n    return 3\n\nx = f()\n", 3),
-    (b"print(1)\nx = f()\ndef f() -> int:\n    return 3\n", 2),
-    (b"print(1)\n\nprint(2); 3\nprint()\n", 3),
-    (b"print(1)\nprint(\n-1)\n", 2),
-    (b"print(1)\\\n; 3\n", 2),
-    (b"\r\n\r(\n3)", 4),
+    (b"x = [1]", 1),
+    (b"print([1][0])", 1),
+    (b"print(1, [2][0])", 1),
+    (b"print(-[1][0])", 1),
+    (b"print(len([4611686018427387904]))", 1),
+    (b"print(['3'][0])", 1),
+    (b"print(1 + [2][0])", 1),
+    (b"print(1 if [True][0] else 2)", 1),
+    (
+        b"from mypy_extensions import i64\nprint(int([i64(3)][0]))",
+        2,
+    ),
+    (b"[3]", 1),
+    (b"3, 4", 1),
+    (b"print(3)\nx: list[int] = [1]\n", 2),
+    (b"if True: print(['3'][0])", 1),
+    (b"def f(s: list[str]) -> None: pass", 1),
+    (b"for i in range(3): print(i)", 1),
+    (
+        b"print(1)\n\ndef f() -> list[int]:\n    return [3]\n\nx = f()\n",
+        3,
+    ),
+    (
+        b"print(1)\nx = f()\ndef f() -> list[int]:\n    return [3]\n",
+        2,
+    ),
+    (b"print(1)\n\nprint(2); [3]\nprint([4][0])\n", 3),
+    (b"print(1)\nprint(\n-[1][0])\n", 3),
+    (b"print(1)\\\n; [3]\n", 2),
+    (b"\r\n\r(\n[3])", 4),
 ];
 
 /// Modules with a part that is repeated: what stands before it, the part, how often it stands there, and what stands

@@ -16,17 +16,20 @@ pub(crate) const FOUND: &str = "Found 1 error in 1 file (checked 1 source file)\
 pub(crate) const THREE: &str = r#"/* mypyc subset 1 */
 char CPyModule(void) {
     PyObject *cpy_r_r0;
-    int64_t cpy_r_r1;
-    char cpy_r_r2;
-    cpy_r_r1 = 3;
-    cpy_r_r0 = CPyInt64_Str(cpy_r_r1);
-    CPy_Write(cpy_r_r0);
-    CPy_DECREF(cpy_r_r0);
-    cpy_r_r0 = CPyStr_Literal("\n");
-    CPy_Write(cpy_r_r0);
-    CPy_DECREF(cpy_r_r0);
-    cpy_r_r2 = 1;
-    return cpy_r_r2;
+    CPyTagged cpy_r_r1;
+    PyObject *cpy_r_r2;
+    PyObject *cpy_r_r3;
+    char cpy_r_r4;
+    cpy_r_r1 = 6;
+    cpy_r_r2 = CPyTagged_Str(cpy_r_r1);
+    CPyTagged_DECREF(cpy_r_r1);
+    CPy_Write(cpy_r_r2);
+    CPy_DECREF(cpy_r_r2);
+    cpy_r_r3 = CPyStr_Literal("\n");
+    CPy_Write(cpy_r_r3);
+    CPy_DECREF(cpy_r_r3);
+    cpy_r_r4 = 1;
+    return cpy_r_r4;
 }
 "#;
 
@@ -55,25 +58,31 @@ char CPyModule(void) {
 const TWO: &str = r#"/* mypyc subset 1 */
 char CPyModule(void) {
     PyObject *cpy_r_r0;
-    int64_t cpy_r_r1;
-    int64_t cpy_r_r2;
-    char cpy_r_r3;
+    CPyTagged cpy_r_r1;
+    PyObject *cpy_r_r2;
+    PyObject *cpy_r_r3;
+    CPyTagged cpy_r_r4;
+    PyObject *cpy_r_r5;
+    PyObject *cpy_r_r6;
+    char cpy_r_r7;
     cpy_r_r1 = 0;
-    cpy_r_r0 = CPyInt64_Str(cpy_r_r1);
-    CPy_Write(cpy_r_r0);
-    CPy_DECREF(cpy_r_r0);
-    cpy_r_r0 = CPyStr_Literal("\n");
-    CPy_Write(cpy_r_r0);
-    CPy_DECREF(cpy_r_r0);
-    cpy_r_r2 = 4611686018427387903;
-    cpy_r_r0 = CPyInt64_Str(cpy_r_r2);
-    CPy_Write(cpy_r_r0);
-    CPy_DECREF(cpy_r_r0);
-    cpy_r_r0 = CPyStr_Literal("\n");
-    CPy_Write(cpy_r_r0);
-    CPy_DECREF(cpy_r_r0);
-    cpy_r_r3 = 1;
-    return cpy_r_r3;
+    cpy_r_r2 = CPyTagged_Str(cpy_r_r1);
+    CPyTagged_DECREF(cpy_r_r1);
+    CPy_Write(cpy_r_r2);
+    CPy_DECREF(cpy_r_r2);
+    cpy_r_r3 = CPyStr_Literal("\n");
+    CPy_Write(cpy_r_r3);
+    CPy_DECREF(cpy_r_r3);
+    cpy_r_r4 = 9223372036854775806;
+    cpy_r_r5 = CPyTagged_Str(cpy_r_r4);
+    CPyTagged_DECREF(cpy_r_r4);
+    CPy_Write(cpy_r_r5);
+    CPy_DECREF(cpy_r_r5);
+    cpy_r_r6 = CPyStr_Literal("\n");
+    CPy_Write(cpy_r_r6);
+    CPy_DECREF(cpy_r_r6);
+    cpy_r_r7 = 1;
+    return cpy_r_r7;
 }
 "#;
 
@@ -172,8 +181,8 @@ const MODULES: &[(&[u8], &str, &str, u8)] = &[
     (b"print(0x3)\r\n\n# three\n", THREE, "", 0),
     (b"print(+3)", THREE, "", 0),
     (b"from typing import Optional\nprint(int(3))", THREE, "", 0),
-    (b"print(3)\nprint()\npass\n", SECOND, FOUND, 1),
-    (b"print(4611686018427387904)\n", FIRST, FOUND, 1),
+    (b"print(3)\nprint(len([3]))\npass\n", SECOND, FOUND, 1),
+    (b"print([4611686018427387904][0])\n", FIRST, FOUND, 1),
     (b"print(3)\nprint(x)\npass\n", UNKNOWN, FOUND, 1),
     (b"print(\xff)", NO_TEXT, FOUND, 1),
     (b" print(3)", SYNTAX, FOUND, 1),
