@@ -473,17 +473,15 @@ fn run_of(alloc: Global, text: &str) -> Result<Given, AllocError> {
 /// How many counts a C text has, where each one is needed.
 fn needed(rt: &impl Abort, alloc: Global, text: &str) -> Result<usize, AllocError> {
     let given = run_of(alloc, text)?;
-    let mut found = 0;
     for (at, line) in text.lines().enumerate() {
         if counts(line) {
-            found += 1;
             let rest = without(alloc, text, at)?;
             let other = run_of(alloc, rest.as_str())?;
             let differs = other.out.bytes() != given.out.bytes();
             check(rt, &(line, at, text), differs);
         }
     }
-    Ok(found)
+    Ok(text.lines().filter(|line| counts(line)).count())
 }
 
 #[test]
