@@ -1,4 +1,1 @@
-pub mod ListLemmas
-pub mod LayoutLemmas
 pub mod NameLemmas
-pub mod Facts
