@@ -129,7 +129,84 @@ f("y", 0)
 "#;
 
 /// Modules of texts and large ints, with what is left of them.
-const KEEPING: &str = r#"-- Keeps nothing.
+const KEEPING: &str = r#"-- Two small ints.
+print(1 + 2)
+=> 3
+=> -- Done
+=> -- live 0
+
+-- The first int that is a large one.
+print(4611686018427387903 + 1)
+=> 4611686018427387904
+=> -- Done
+=> -- live 0
+
+-- The greatest int, and one more.
+x = 170141183460469231731687303715884105727
+print(x)
+print(x + 1)
+=> 170141183460469231731687303715884105727
+=> -- Raised OverflowError
+=> -- live 2
+=> -- Int 1
+=> -- OverflowError 1
+=! OverflowError: integer is past 128 bits
+
+-- A native result that looks like a failure.
+def f() -> i64:
+    return -113
+print(f())
+=> -113
+=> -- Done
+=> -- live 0
+
+-- A quotient is rounded down.
+print(-7 // 2, -7 % 2)
+=> -4 1
+=> -- Done
+=> -- live 0
+
+-- A parameter that one arm assigns and that is returned.
+def f(s: str, b: bool) -> str:
+    if b:
+        s = s + "!"
+    return s
+print(f("a", True), f("a", False))
+=> a! a
+=> -- Done
+=> -- live 0
+
+-- A variable that only one arm sets.
+def f(b: bool) -> int:
+    if b:
+        v = 1
+    return v
+print(f(True))
+print(f(False))
+=> 1
+=> -- Raised UnboundLocalError
+=> -- live 1
+=> -- UnboundLocalError 1
+=! UnboundLocalError: local variable 'v' referenced before assignment
+
+-- A name in two spellings.
+ﬁ = 1
+print(fi)
+=> 1
+=> -- Done
+=> -- live 0
+
+-- An input of one line, of which two are asked.
+print(input())
+print(input())
+=< a
+=> a
+=> -- Raised EOFError
+=> -- live 1
+=> -- EOFError 1
+=! EOFError: EOF when reading a line
+
+-- Keeps nothing.
 def f(s: str, n: int) -> str:
     return s + str(n)
 print(f("a" + "b", 4611686018427387904))
