@@ -107,7 +107,7 @@ entered m vs vars params declared more args s is few regs flags kinds size types
   each = λ j v at.
       let low : j < length vs = get_below vs j v at in
       let ps : vars.params ≡ params = ap (λ (z : Vars). z.params) is in
-      let text : vars.text ≡ length vs = ap (λ (z : Vars). z.text) is in
+      let many : vars.count ≡ length vs = ap (λ (z : Vars). z.count) is in
       ⊎_elim
       (λ (lt : j < params).
       let a = args_at vs params args more (replicate (length vs - length args) None) kinds j v lt at in
@@ -116,7 +116,7 @@ entered m vs vars params declared more args s is few regs flags kinds size types
       (Some a.0, a.1, (held, flag, a.3)))
       (λ (le : params ≤ j).
       let above : vars.params ≤ j = omega (arith, ps) in
-      let wide : length (map {B = Held} Holds args) ≤ flag_of vars j = omega (arith, map_length {B = Held} Holds args, size, text, few) in
+      let wide : length (map {B = Held} Holds args) ≤ flag_of vars j = omega (arith, map_length {B = Held} Holds args, size, many, few) in
       let unset : first_regs declared (map Holds args) (flag_of vars j) ≡ Unset = flag_unset declared (map Holds args) (flag_of vars j) (slice_get declared (flag_of vars j)) wide refl (flags j above low) in
       let flag : flag_in vars (first_regs declared (map Holds args)) j ≡ Unset = (let e : nat_lt j vars.params ≡ false = grind (arith, nat_tests) in ap (λ b. if b then Holds (BoolVal true) else first_regs declared (map Holds args) (flag_of vars j)) e ∙ unset) in
       (None, unset_at args (length vs - length args) j (omega (arith, size)) (omega (arith, size)), flag))

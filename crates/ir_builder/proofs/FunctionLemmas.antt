@@ -1,5 +1,5 @@
 -- The code of a whole function.
-use Rattle.std.proofs.Common.{◌≡◌, ℕ, zero, suc, ◌+◌, ◌-◌, ◌^◌, ◌<◌, ◌≤◌, true, false, List, [], ◌∷◌, ◌++◌, length, map, take, Option, Some, None, refl, sym, ap, ◌∙◌, subst, arith, append_assoc, length-append, ◌⊎◌, inl, inr, ⊎_elim}
+use Rattle.std.proofs.Common.{◌≡◌, ℕ, zero, suc, ◌+◌, ◌-◌, ◌^◌, ◌<◌, ◌≤◌, true, false, List, [], ◌∷◌, ◌++◌, length, map, take, Option, Some, None, refl, sym, ap, ◌∙◌, subst, arith, ◌⊎◌, inl, inr, ⊎_elim}
 use Rattle.std.specs.Prelude.{slice_get, pos}
 use Rattle.std.specs.List.{list_all}
 use Rattle.std.specs.Option.{option_map}
@@ -34,12 +34,11 @@ use Rattle.ir_frames.specs.Computing.{Meaning}
 use Rattle.ir_frames.specs.Kinds.{Head, head_of, Surrounding, LiteralFits, OpKinds, OpsKinds, BlocksKinds, HasKinds, KeepsKinds, KeepsKindsIf, IsAmong}
 use Rattle.ir_frames.specs.Matching.{flag_of, HasRoom, Matches, Departs, BeginWith}
 use Rattle.ir_frames.specs.Naming.{names_of}
-use Rattle.ir_frames.specs.Placing.{HasType, NoEdges, Has}
+use Rattle.ir_frames.specs.Placing.{NoEdges, Has}
 use Rattle.ir_frames.specs.Settings.{Setting, rtype_of}
 use Rattle.ir_frames.specs.Shaped.{OpFits, OpsFit, AllFit, Shaped, KeepsIf, Keeps}
 use Rattle.ir_frames.proofs.ComingLemmas.{ends_map}
 use Rattle.ir_frames.proofs.HeldLemmas.{extends_refl, extends_trans, get_below, type_kept}
-use Rattle.ir_frames.proofs.KindLemmas.{get_behind}
 use Rattle.ir_bodies.specs.Modules.{variable_names, FunctionSuits}
 use Rattle.ir_bodies.specs.Kinds.{GivesResult, IsAround}
 use Rattle.ir_statements.specs.Means.{means_suite}
@@ -52,15 +51,6 @@ use Rattle.ir_builder.proofs.ClosedLemmas.{Avoids, is_end, suite_closed}
 use Rattle.ir_builder.proofs.EdgeLemmas.{no_edges}
 
 -- ---- lists
-
-get_front : {A : Type 0} (xs ys : List A) (j : ℕ) (d : A) → slice_get xs j ≡ Some d → slice_get (xs ++ ys) j ≡ Some d
-get_front [] ys j d e = let f : None ≡ Some d = e in absurd (cc)
-get_front (x ∷ xs) ys zero d e = e
-get_front (x ∷ xs) ys (suc j) d e = get_front xs ys j d e
-
-get_next : {A : Type 0} (xs ys : List A) (d : A) → slice_get (xs ++ d ∷ ys) (length xs) ≡ Some d
-get_next [] ys d = refl
-get_next (x ∷ xs) ys d = get_next xs ys d
 
 pub get_map : {A B : Type 0} (f : A → B) (xs : List A) (j : ℕ) (x : A) → slice_get xs j ≡ Some x → slice_get (map f xs) j ≡ Some (f x)
 get_map f [] j x e = let g : None ≡ Some x = e in absurd (cc)
@@ -99,37 +89,26 @@ begin_with [] (suc n) rest = tt
 begin_with (v ∷ vs) zero rest = tt
 begin_with (v ∷ vs) (suc n) rest = (refl, begin_with vs n rest)
 
-type_front : (vs : List Variable) (rest : Declared) (j : ℕ) (v : Variable) → slice_get vs j ≡ Some v → type_of_reg (variable_registers vs ++ rest) (record { 0 = j }) ≡ Some (rtype_of v.1)
-type_front vs rest j v e = ap (option_map (λ (d : List ℕ × RType). d.1)) (get_front (variable_registers vs) rest j (register_of v) (get_map register_of vs j v e))
-
-type_next : (vs : List Variable) (rest : Declared) (d : List ℕ × RType) (n : ℕ) → n ≡ length vs → type_of_reg (variable_registers vs ++ d ∷ rest) (record { 0 = n }) ≡ Some d.1
-type_next vs rest d n e =
-    let size : n ≡ length (variable_registers vs) = e ∙ sym (map_length register_of vs) in
-    ap (λ j. type_of_reg (variable_registers vs ++ d ∷ rest) (record { 0 = j })) size
-    ∙ ap (option_map (λ (x : List ℕ × RType). x.1)) (get_next (variable_registers vs) rest d)
+type_own : (vs : List Variable) (j : ℕ) (v : Variable) → slice_get vs j ≡ Some v → type_of_reg (variable_registers vs) (record { 0 = j }) ≡ Some (rtype_of v.1)
+type_own vs j v e = ap (option_map (λ (d : List ℕ × RType). d.1)) (get_map register_of vs j v e)
 
 -- what a function begins with
 module _ (vs : List Variable) (b : Building) (variables : Declared) (is : variables ≡ variable_registers vs) (first : Begins variables b) (n : ℕ) (size : n ≡ length vs) where
-  pub begin_regs : b.regs ≡ variable_registers vs ++ (first.regs.name, rtype.Ref) ∷ []
-  begin_regs = first.regs.is ∙ ap (λ ds. ds ++ (first.regs.name, rtype.Ref) ∷ []) is
+  pub begin_regs : b.regs ≡ variable_registers vs
+  begin_regs = first.regs ∙ is
 
-  begin_size : length b.regs ≡ n + 1
-  begin_size = omega (arith, ap length begin_regs, length-append (variable_registers vs) ((first.regs.name, rtype.Ref) ∷ []), map_length register_of vs, size)
-
-  begin_text : HasType b n rtype.Ref
-  begin_text = ap (λ ds. type_of_reg ds (record { 0 = n })) begin_regs ∙ type_next vs [] (first.regs.name, rtype.Ref) n size
+  begin_size : length b.regs ≡ n
+  begin_size = omega (arith, ap length begin_regs, map_length register_of vs, size)
 
   pub begin_room : (m : TypedModule) (vars : Vars) (params : ℕ) (c : Building) → vars ≡ variables_of params n → AddsFlags (n - params) b c → HasRoom (record { source = m; variables = vs; frame = body_frame vars }) c
   begin_room m vars params c e flags =
       let P : Vars → Type 0 = λ z. HasRoom (record { source = m; variables = vs; frame = body_frame z }) c in
       subst P (sym e) record {
         count = size;
-        text = omega arith;
         flags = omega arith;
         top = omega (arith, begin_size, flags.regs);
-        declared = λ j v at. type_kept b c j (rtype_of v.1) flags.extends (ap (λ ds. type_of_reg ds (record { 0 = j })) begin_regs ∙ type_front vs ((first.regs.name, rtype.Ref) ∷ []) j v at);
-        flagged = λ j from to. flags.flags (n + 1 + (j - params)) (omega (arith, begin_size)) (omega (arith, begin_size));
-        printed = type_kept b c n rtype.Ref flags.extends begin_text;
+        declared = λ j v at. type_kept b c j (rtype_of v.1) flags.extends (ap (λ ds. type_of_reg ds (record { 0 = j })) begin_regs ∙ type_own vs j v at);
+        flagged = λ j from to. flags.flags (n + (j - params)) (omega (arith, begin_size)) (omega (arith, begin_size));
         back = tt;
       }
 
@@ -139,11 +118,8 @@ module _ (vs : List Variable) (b : Building) (variables : Declared) (is : variab
       record {
         variables = omega (arith, begin_size);
         named = λ i d le e.
-            let at : slice_get (variable_registers vs ++ (first.regs.name, rtype.Ref) ∷ []) i ≡ Some d = ap (λ ds. slice_get ds i) (sym begin_regs) ∙ e in
-            ⊎_elim
-            (λ there. absurd (let lt = get_below (variable_registers vs) i d there in omega (arith, map_length register_of vs, size, lt, le)))
-            (λ new. (first.regs.number, ap (λ (x : List ℕ × RType). x.0) new ∙ first.regs.temporary))
-            (get_behind (variable_registers vs) (first.regs.name, rtype.Ref) d i at);
+            let at : slice_get (variable_registers vs) i ≡ Some d = ap (λ ds. slice_get ds i) (sym begin_regs) ∙ e in
+            absurd (let lt = get_below (variable_registers vs) i d at in omega (arith, map_length register_of vs, size, lt, le));
         blocks = subst (λ bs. BlocksKinds g b.regs bs) (sym first.blocks) tt;
         ops = subst (λ os. OpsKinds g b.regs os) (sym first.ops) tt;
       }
@@ -226,9 +202,8 @@ pub record IsMade (m : TypedModule) (vs : List Variable) (b : Building) (h : Fun
 
 pub is_made : (m : TypedModule) (vs : List Variable) (variables : Declared) (count : ℕ) (vars : Vars) (gives : Option Sort) (t : RType) (last : Literal) (M : Meaning Flow) (b0 b1 b2 : Building) (h : Func) → list_all is_identifier (variable_names vs) ≡ true → variables ≡ variable_registers vs → count ≡ length vs → ((g : Surrounding) → g.ret ≡ t → GivesResult gives g) → LiteralFits t last → Begins variables b0 → Extends b0 b1 → length b1.blocks ≡ 0 → ((high : ℕ) → Shaped 0 high b0 → Shaped 0 high b1) → KeepsKinds b0 b1 → Bodied (body_setting m vs vars) gives t last M b1 b2 → CompletesShape b1 b2 → KeepsKindsIf (BodyAround m gives t last) b1 b2 → length b2.blocks < 2 ^ 64 → names_differ (names_of b2.regs) ≡ true → h.regs ≡ b2.regs → h.blocks ≡ b2.blocks → h.ret ≡ t → h.params ≤ count → IsMade m vs b2 h
 is_made m vs variables count vars gives t last M b0 b1 b2 h names are size gives_it fits first x01 start shaped01 kinds01 bodied shape kinds12 few differ regs blocks ret params =
-    let text : List ℕ × RType = (first.regs.name, rtype.Ref) in
     let more = starts_with b0.regs b2.regs (extends_trans b0 b1 b2 x01 bodied.extends).regs in
-    let behind : b2.regs ≡ variable_registers vs ++ (text ∷ more.0) = more.1 ∙ ap (λ ds. ds ++ more.0) (begin_regs vs b0 variables are first count size) ∙ append_assoc (variable_registers vs) (text ∷ []) more.0 in
+    let behind : b2.regs ≡ variable_registers vs ++ more.0 = more.1 ∙ ap (λ ds. ds ++ more.0) (begin_regs vs b0 variables are first count size) in
     let g : Surrounding = record { heads = heads_of m; globals = variable_registers m.globals; variables = count; ret = t } in
     let around : IsAround m gives g = record { among = among m g refl refl; ret = gives_it g refl } in
     let kinds : HasKinds g b2 = kinds12 g record { around = around; ret = refl; fits = fits } (kinds01 g (begin_kinds vs b0 variables are first count size (heads_of m) (variable_registers m.globals) t)) in
@@ -237,9 +212,9 @@ is_made m vs variables count vars gives t last M b0 b1 b2 h names are size gives
     let highest : length b2.blocks ≡ suc high = omega arith in
     let shaped : Shaped 0 high b2 = shape 0 high (omega arith) highest (shaped01 high (begin_shaped vs b0 variables are first count size 0 high)) in
     record {
-      rest = text ∷ more.0;
+      rest = more.0;
       regs = regs ∙ behind;
-      built = is_built vs (text ∷ more.0) g b2 h 0 high size names behind kinds bodied.ops highest shaped (λ k. bodied.full k (omega (arith, start))) few differ params ret regs blocks;
+      built = is_built vs more.0 g b2 h 0 high size names behind kinds bodied.ops highest shaped (λ k. bodied.full k (omega (arith, start))) few differ params ret regs blocks;
       has = λ p fn there. has_all p fn b2 h there blocks regs bodied.ops (no_edges p fn h 0 high there (subst (λ bs. AllFit 0 high 0 bs) (sym blocks) shaped.0));
     }
 

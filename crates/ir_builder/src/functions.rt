@@ -8,7 +8,7 @@ ghost use Rattle.ir_builder.specs.Registers.{Begins};
 ghost use Rattle.ir_builder.specs.Functions.{end_literal, IsFunctionOf, IsOwnOf};
 
 use crate::body::{NO_LINE, emit_body};
-use crate::registers::{add_flags, add_text, registers_for, vars_of};
+use crate::registers::{add_flags, registers_for, vars_of};
 use ir_core::{Func, Lit, Op, RType};
 use ir_expressions::register_type;
 use ir_frames::Emitter;
@@ -23,7 +23,7 @@ pub fn build_function(alloc: Global, checked: &Checked, f: &TFunc) -> Result<Fun
     ensures { IfOk result (IsFunctionOf (typed_module checked.now) (typed_func f.now)) }
 {
     let variables = registers_for(alloc, f.locals.as_slice())?;
-    let mut b = begin(alloc, variables)?;
+    let mut b = begin(alloc, variables);
     let count = f.locals.len();
     let vars = vars_of(f.params, count)?;
     add_flags(&mut b, f.params, count)?;
@@ -49,7 +49,7 @@ pub fn build_own(alloc: Global, checked: &Checked) -> Result<Func, Memory>
     requires { ModuleSuits (typed_module checked.now) }
     ensures { IfOk result (IsOwnOf (typed_module checked.now)) }
 {
-    let mut b = begin(alloc, Vec::new(alloc))?;
+    let mut b = begin(alloc, Vec::new(alloc));
     let vars = vars_of(0, 0)?;
     emit_body(
         &mut b,
@@ -66,13 +66,12 @@ pub fn build_own(alloc: Global, checked: &Checked) -> Result<Func, Memory>
 }
 
 // A function whose variables have these registers, before its first operation. It gets its name when it is done.
-fn begin(alloc: Global, mut registers: Vec<(Name, RType)>) -> Result<Emitter, Memory>
+fn begin(alloc: Global, registers: Vec<(Name, RType)>) -> Emitter
     requires { names_differ (names_of registers.items) ≡ true }
-    ensures { IfOk result (Begins registers.items) }
+    ensures { Begins registers.items result }
 {
-    add_text(alloc, &mut registers)?;
     let name = Name::from_string(String::new(alloc));
-    Ok(Emitter::new(alloc, name, Many::from_vec(registers)))
+    Emitter::new(alloc, name, Many::from_vec(registers))
 }
 
 // A function under a name.

@@ -25,9 +25,9 @@ use Rattle.ir_expressions.specs.declared.applying.Binary.TheVariants as binary
 use Rattle.ir_expressions.specs.Compiled.{is_i64, literal_in}
 use Rattle.ir_expressions.specs.Parts.{is_simple, native_in, sort_by, part_sort}
 use Rattle.ir_expressions.specs.Applying.{unary_goes, binary_goes, UnarySuits, BinarySuits}
-use Rattle.ir_expressions.specs.Operating.{Inverts, TestsValue}
+use Rattle.ir_operands.specs.Comparing.{FindsTruth, Inverts}
 use Rattle.ir_expressions.proofs.FollowLemmas.{makes_attempt, attempts_as}
-use Rattle.ir_expressions.proofs.TestLemmas.{tests_attempt}
+use Rattle.ir_expressions.proofs.TestLemmas.{truth_attempts}
 
 -- ---- the type of a part
 
@@ -99,10 +99,10 @@ module _ (op : Unary) (t : Sort) (e : TExpr) (b c : Building) (r x : ℕ) where
       let h = suited unary.Inverted is suits in
       moved op unary.Inverted t sort.Bool (part_sort t (typed_expr e)) sort.Bool b c r x is h.0 (own_sort t sort.Bool e h.0 refl ∙ h.1) (inverted_attempts b c r x made)
 
-  pub applies_tested : op ≡ unary.Tested → UnarySuits op t (sort_of e.ty) → TestsValue b c x r (sort_of e.ty) → Whole
+  pub applies_tested : op ≡ unary.Tested → UnarySuits op t (sort_of e.ty) → FindsTruth b c x r (sort_of e.ty) → Whole
   applies_tested is suits tests =
       let h = suited unary.Tested is suits in
-      moved op unary.Tested t sort.Bool (part_sort t (typed_expr e)) (sort_of e.ty) b c r x is h.0 (own_sort t sort.Bool e h.0 refl) (tests_attempt (sort_of e.ty) b c x r tests)
+      moved op unary.Tested t sort.Bool (part_sort t (typed_expr e)) (sort_of e.ty) b c r x is h.0 (own_sort t sort.Bool e h.0 refl) (truth_attempts (sort_of e.ty) b c x r tests)
 
   pub applies_counted : op ≡ unary.Counted → UnarySuits op t (sort_of e.ty) → Attempts (Shows sort.Int) b c r rtype.Int (ActsOn sort.Str x length_of) → Whole
   applies_counted is suits a =

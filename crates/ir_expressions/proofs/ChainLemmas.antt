@@ -27,7 +27,7 @@ use Rattle.ir_frames.proofs.StepLemmas.{literal_makes}
 use Rattle.ir_frames.proofs.MatchLemmas.{room_on, same_refl, same_trans, thrown_from, computes_then, makes_arrives}
 use Rattle.ir_operators.specs.Operating.{ActsOnTwo}
 use Rattle.ir_expressions.specs.Comparing.{holds_as}
-use Rattle.ir_expressions.specs.Operating.{literal_of_truth}
+use Rattle.ir_expressions.specs.Literals.{literal_of_truth}
 use Rattle.ir_expressions.specs.Emitting.{means, means_chain, Emits, EmitsChain}
 use Rattle.ir_expressions.specs.Choices.{Opens, Brings, Meets}
 use Rattle.ir_expressions.proofs.FollowLemmas.{attempt_then}

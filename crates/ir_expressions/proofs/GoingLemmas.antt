@@ -25,7 +25,7 @@ use Rattle.ir_expressions.specs.declared.chain.Link.{Link}
 use Rattle.ir_expressions.specs.declared.comparing.Side.{Side}
 use Rattle.ir_expressions.specs.Compiled.{is_ordering}
 use Rattle.ir_expressions.specs.Suiting.{Suits, ComparisonsSuit}
-use Rattle.ir_expressions.specs.Operating.{literal_of_truth}
+use Rattle.ir_expressions.specs.Literals.{literal_of_truth}
 use Rattle.ir_expressions.specs.Parts.{is_simple}
 use Rattle.ir_expressions.specs.Comparing.{kind_sort, is_shown_as, is_compared, holds_as}
 use Rattle.ir_expressions.specs.Emitting.{EmitsSide, EmitsChain}

@@ -1,11 +1,9 @@
 pub mod WalkingLemmas
-pub mod OperationLemmas
 pub mod BuildLemmas
 pub mod CallLemmas
 pub mod ArgumentLemmas
 pub mod ArmLemmas
 pub mod ValueLemmas
-pub mod ArithmeticLemmas
 pub mod FollowLemmas
 pub mod NumberLemmas
 pub mod TestLemmas

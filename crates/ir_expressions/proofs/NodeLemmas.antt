@@ -1,19 +1,17 @@
 -- Each kind of expression is computed by its code.
 use Rattle.std.proofs.Common.{◌≡◌, refl, sym, ◌∙◌, ap, subst, ℕ, ◌<◌, ◌≤◌, arith, le_refl, Bool, true, false, List, length, Option, Some, None}
-use Rattle.std.specs.Prelude.{ℤ, pos, codes, ◌++◌, if◌then◌else◌, slice_get, nat_lt}
+use Rattle.std.specs.Prelude.{codes, ◌++◌, if◌then◌else◌, slice_get, nat_lt}
 use Rattle.std.proofs.lemmas.Bool.Decides.{nat_tests}
 use Rattle.value_core.specs.declared.exception.ExcClass.TheVariants.{UnboundLocalError}
-use Rattle.value_core.specs.Arithmetic.{lies_within}
-use Rattle.value_core.specs.Value.{Value, IntVal, BoolVal}
+use Rattle.value_core.specs.Value.{Value, BoolVal}
 use Rattle.py_syntax.specs.declared.token.Span.{Span}
-use Rattle.py_syntax.specs.declared.expression.BinOp.{BinOp}
 use Rattle.py_typed.specs.Sorts as sort
 use Rattle.py_typed.specs.Sorts.{Sort}
 use Rattle.py_typed.specs.Statements.{Variable}
-use Rattle.py_typed.specs.Expressions.{TypedExpr, typed, type_of, Int, Flag, Local, Arith, And, Or, Cond}
+use Rattle.py_typed.specs.Expressions.{TypedExpr, typed, type_of, Flag, Local, And, Or, Cond}
 use Rattle.py_typed.specs.ExpressionMeaning.{value_in, name_at}
-use Rattle.py_typed.specs.State.{State, Outcome, Gives, Does, on_to, give, raise_new}
-use Rattle.py_typed.specs.Operations.{arithmetic, truth_of}
+use Rattle.py_typed.specs.State.{State, Gives, Does, on_to, give, raise_new}
+use Rattle.py_typed.specs.Operations.{truth_of}
 use Rattle.ir_core.specs.declared.code.RType.TheVariants as rtype
 use Rattle.ir_core.specs.declared.code.Op.TheVariants.{Lit}
 use Rattle.ir_core.specs.Registers.{Held, Unset, Holds, Regs}
@@ -26,17 +24,16 @@ use Rattle.ir_frames.specs.Coming.{world, running, Ends}
 use Rattle.ir_core.specs.declared.code.Program.{Program}
 use Rattle.ir_core.specs.Meaning.{Waiting}
 use Rattle.ir_frames.specs.Matching.{HasKind, Keeps, flag_of, flag_in, Matches, SameLocals, HasRoom, IsThrown, CallsWork}
-use Rattle.ir_frames.specs.Computing.{Shows, ShowsNumber, Meaning, Arrives, Computes, Makes, Attempts, OfOne}
+use Rattle.ir_frames.specs.Computing.{Shows, Meaning, Arrives, Computes}
 use Rattle.ir_frames.proofs.HeldLemmas.{extends_refl, extends_trans, type_below, type_kept, has_less}
 use Rattle.ir_frames.proofs.ComingLemmas.{ends_now, ends_of, ends_from}
 use Rattle.ir_frames.proofs.StepLemmas.{literal_makes}
-use Rattle.ir_frames.proofs.MatchLemmas.{room_on, same_refl, match_here, computes_then, computes_as, computes_of, then_makes, made_computes}
-use Rattle.ir_frames.proofs.AttemptLemmas.{both_attempt}
-use Rattle.ir_expressions.specs.Operating.{Numbers, Operates, TestsValue, literal_of_truth}
-use Rattle.ir_expressions.specs.Emitting.{means, Emits, EmitsNumber}
+use Rattle.ir_frames.proofs.MatchLemmas.{room_on, same_refl, match_here, computes_then, made_computes}
+use Rattle.ir_operands.specs.Comparing.{FindsTruth}
+use Rattle.ir_operands.proofs.TruthLemmas.{bool_stays}
+use Rattle.ir_expressions.specs.Literals.{literal_of_truth}
+use Rattle.ir_expressions.specs.Emitting.{means, Emits}
 use Rattle.ir_expressions.specs.Choices.{Opens, Brings, Meets}
-use Rattle.ir_expressions.proofs.ValueLemmas.{counts_within, arithmetic_is, kind_counts}
-use Rattle.ir_expressions.proofs.TestLemmas.{bool_tests}
 use Rattle.ir_expressions.proofs.ChoiceLemmas.{shows_set, choice_runs, meet_within, arm_ends}
 
 kind_at : (t u : Sort) (v : Value) → t ≡ u → HasKind t v → HasKind u v
@@ -49,9 +46,6 @@ emits_at x e t b c r is q = subst (λ z. Computes x (Shows z) (rtype_of z) (mean
 pub flag_emits : (x : Setting) (value : Bool) (place : Span) (b c : Building) (r : ℕ) → Adds b c r rtype.Bool (Lit record { 0 = r } (literal_of_truth value)) → Emits x (typed (Flag value) sort.Bool place) b c r
 flag_emits x true place b c r a = made_computes x (Shows sort.Bool) rtype.Bool _ _ b c r (literal_makes b c r rtype.Bool _ (Holds (BoolVal true)) a refl) (λ n s regs. (BoolVal true, Holds (BoolVal true), refl, refl, (refl, (true, refl))))
 flag_emits x false place b c r a = made_computes x (Shows sort.Bool) rtype.Bool _ _ b c r (literal_makes b c r rtype.Bool _ (Holds (BoolVal false)) a refl) (λ n s regs. (BoolVal false, Holds (BoolVal false), refl, refl, (refl, (false, refl))))
-
-pub literal_emits : (x : Setting) (k : ℤ) (place : Span) (b c : Building) (r : ℕ) → lies_within 63 k ≡ true → Adds b c r rtype.I64 (Lit record { 0 = r } (Rattle.ir_core.specs.declared.code.Lit.TheVariants.Number k)) → EmitsNumber x (typed (Int k) sort.Int place) b c r
-literal_emits x k place b c r within a = made_computes x (ShowsNumber sort.Int) rtype.I64 _ _ b c r (literal_makes b c r rtype.I64 _ (Holds (IntVal k)) a refl) (λ n s regs. (IntVal k, Holds (IntVal k), refl, refl, (k, refl, (refl, within))))
 
 -- a parameter is set
 set_flag : (f : Vars) (regs : Regs) (j : ℕ) → j < f.params → flag_in f regs j ≡ Holds (BoolVal true)
@@ -75,53 +69,13 @@ local_emits x i w t place b at is low room = record {
       (ends_now p q.0 s _ R T record { now = regs; is = refl; shows = (q.2, kind_at w.1 t q.0 is q.3); kept = λ j lt. refl; same = same_refl x regs s match });
 }
 
-pub arith_emits : (x : Setting) (op : BinOp) (a b : TypedExpr) (place : Span) (b0 b1 b2 b3 : Building) (q q' r : ℕ) → HasRoom x b0 → EmitsNumber x a b0 b1 q → EmitsNumber x b b1 b2 q' → Attempts (Shows sort.I64) b2 b3 r rtype.I64 (Operates op q q') → Emits x (typed (Arith op a b) sort.I64 place) b0 b3 r
-arith_emits x op a b place b0 b1 b2 b3 q q' r room c d made =
-    both_attempt x (ShowsNumber (type_of a)) (ShowsNumber (type_of b)) (Shows sort.I64) rtype.I64 rtype.I64 rtype.I64 (means x a) (means x b) (arithmetic sort.I64 op) (Operates op q q') b0 b1 b2 b3 q q' r room c d made
-    (λ u v s regs k l. record {
-      a = k.0;
-      left = k.1;
-      left_fits = counts_within (type_of a) u k.0 k.2;
-      b = l.0;
-      right = l.1;
-      right_fits = counts_within (type_of b) v l.0 l.2;
-      does = arithmetic_is op (type_of a) (type_of b) u v k.0 l.0 s k.2 l.2;
-    })
-
--- the number of a native integer is its value, and that of a bool is made of it
-pub i64_number : (x : Setting) (e : TypedExpr) (b c : Building) (r : ℕ) → type_of e ≡ sort.I64 → Emits x e b c r → EmitsNumber x e b c r
-i64_number x e b c r is q =
-    let R : Sort → Type 0 = λ t. Computes x (ShowsNumber t) rtype.I64 (means x e) b c r in
-    subst R (sym is) (computes_as x (Shows sort.I64) (ShowsNumber sort.I64) rtype.I64 (means x e) b c r (λ v h k. (k.1.0, k.0 ∙ ap Holds k.1.1, kind_counts v k.1)) (emits_at x e sort.I64 b c r is q))
-
-pub bool_number : (x : Setting) (e : TypedExpr) (b0 b1 b2 : Building) (q r : ℕ) → type_of e ≡ sort.Bool → HasRoom x b0 → Emits x e b0 b1 q → Makes b1 b2 r rtype.I64 (OfOne q Numbers) → EmitsNumber x e b0 b2 r
-bool_number x e b0 b1 b2 q r is room c made =
-    let R : Sort → Type 0 = λ t. Computes x (ShowsNumber t) rtype.I64 (means x e) b0 b2 r in
-    subst R (sym is)
-    (computes_of x (ShowsNumber sort.Bool) rtype.I64 (λ n s. on_to (means x e n s) (λ v. give v)) (means x e) b0 b2 r (λ n s. given_back (means x e n s))
-    (then_makes x (Shows sort.Bool) (ShowsNumber sort.Bool) rtype.Bool rtype.I64 (means x e) (λ v. give v) (OfOne q Numbers) b0 b1 b2 q r room (emits_at x e sort.Bool b0 b1 q is c) made record {
-      each = λ v s regs k.
-          let a = k.1 in
-          let z : ℤ = Rattle.ir_core.specs.Effects.truth_number a.0 in
-          (v, Holds (IntVal z), refl, record { v = v; is = k.0; result = IntVal z; fits = (a.0, a.1, refl); gives = refl }, (z, refl, (a.0, a.1, number_of_bool a.0)));
-    }))
-  where
-    given_back : (o : Outcome Value) → o ≡ on_to o (λ v. give v)
-    given_back (Gives v s) = refl
-    given_back (Rattle.py_typed.specs.State.Raises v s) = refl
-    given_back (Rattle.py_typed.specs.State.Stops w s) = refl
-
-    number_of_bool : (b : Bool) → Rattle.ir_core.specs.Effects.truth_number b ≡ (if b then pos 1 else pos 0)
-    number_of_bool true = refl
-    number_of_bool false = refl
-
 -- ---- choices
 
 truth_then : (v : Value) (h : Bool) (s : State) (go : Bool → Does Value) → truth_of v s ≡ Gives h s → on_to (truth_of v s) go ≡ go h s
 truth_then v h s go e = ap (λ o. on_to o go) e
 
 -- behind the value of an operand, its condition and a choice
-module _ (x : Setting) (a : TypedExpr) (u t : Sort) (b0 b1 b2 b3 b4 b5 b7 b8 : Building) (q condition target test first end second ra rb : ℕ) (is_a : type_of a ≡ u) (room : HasRoom x b0) (ca : Emits x a b0 b1 q) (tests : TestsValue b1 b2 q condition u) (opens : Opens b2 b3 target test first (rtype_of t)) (x34 : Extends b3 b4) (brings : Brings b4 b5 target ra end) (here : second ≡ length b5.blocks) (x57 : Extends b5 b7) (meets : Meets b7 b8 target rb condition test first end second) (type_a : HasType b4 ra (rtype_of t)) (type_b : HasType b7 rb (rtype_of t)) where
+module _ (x : Setting) (a : TypedExpr) (u t : Sort) (b0 b1 b2 b3 b4 b5 b7 b8 : Building) (q condition target test first end second ra rb : ℕ) (is_a : type_of a ≡ u) (room : HasRoom x b0) (ca : Emits x a b0 b1 q) (tests : FindsTruth b1 b2 q condition u) (opens : Opens b2 b3 target test first (rtype_of t)) (x34 : Extends b3 b4) (brings : Brings b4 b5 target ra end) (here : second ≡ length b5.blocks) (x57 : Extends b5 b7) (meets : Meets b7 b8 target rb condition test first end second) (type_a : HasType b4 ra (rtype_of t)) (type_b : HasType b7 rb (rtype_of t)) where
   x17 : Extends b1 b7
   x17 = extends_trans b1 b2 b7 tests.extends (extends_trans b2 b3 b7 opens.extends (extends_trans b3 b5 b7 (extends_trans b3 b4 b5 x34 brings.extends) x57))
 
@@ -162,7 +116,7 @@ module _ (x : Setting) (a : TypedExpr) (u t : Sort) (b0 b1 b2 b3 b4 b5 b7 b8 : B
             (λ no. arm_b p fn h below n v tv.2 regs s1 s at calls shows2 outer same1 match2 le1)))));
       }
 
-pub and_emits : (x : Setting) (a b : TypedExpr) (t : Sort) (place : Span) (b0 b1 b2 b3 b4 b5 b8 : Building) (q condition target test first end second r : ℕ) → type_of a ≡ t → type_of b ≡ t → HasRoom x b0 → Emits x a b0 b1 q → TestsValue b1 b2 q condition t → Opens b2 b3 target test first (rtype_of t) → Emits x b b3 b4 r → Brings b4 b5 target r end → second ≡ length b5.blocks → Meets b5 b8 target q condition test first end second → Emits x (typed (And a b) t place) b0 b8 target
+pub and_emits : (x : Setting) (a b : TypedExpr) (t : Sort) (place : Span) (b0 b1 b2 b3 b4 b5 b8 : Building) (q condition target test first end second r : ℕ) → type_of a ≡ t → type_of b ≡ t → HasRoom x b0 → Emits x a b0 b1 q → FindsTruth b1 b2 q condition t → Opens b2 b3 target test first (rtype_of t) → Emits x b b3 b4 r → Brings b4 b5 target r end → second ≡ length b5.blocks → Meets b5 b8 target q condition test first end second → Emits x (typed (And a b) t place) b0 b8 target
 and_emits x a b t place b0 b1 b2 b3 b4 b5 b8 q condition target test first end second r is_a is_b room ca tests opens cb brings here meets =
     let v1 = emits_at x a t b0 b1 q is_a ca in
     let v2 = emits_at x b t b3 b4 r is_b cb in
@@ -174,7 +128,7 @@ and_emits x a b t place b0 b1 b2 b3 b4 b5 b8 q condition target test first end s
     (λ p fn h below n v now old s before at calls shows outer same match le. arm_ends p fn h below x n calls (Shows t) (rtype_of t) (means x b) b3 b4 r now old s (length b0.regs) before v2 (meet_within p fn b5 b8 b3 b4 target q condition test first end second _ _ h meets (let z = opens.blocks in let y = tests.blocks in omega arith) refl brings.extends at) (omega arith) outer same match le)
     (λ p fn h below n v now old s before at calls shows outer same match le. ends_now p v s _ (Arrives (Shows t) fn (length b5.blocks) (length b5.ops) below (length b0.regs) old x before q) (IsThrown fn h below x (length b0.regs) old) record { now = now; is = refl; shows = shows; kept = outer; same = same })
 
-pub or_emits : (x : Setting) (a b : TypedExpr) (t : Sort) (place : Span) (b0 b1 b2 b3 b5 b7 b8 : Building) (q condition target test first end second r : ℕ) → type_of a ≡ t → type_of b ≡ t → HasRoom x b0 → Emits x a b0 b1 q → TestsValue b1 b2 q condition t → Opens b2 b3 target test first (rtype_of t) → Brings b3 b5 target q end → second ≡ length b5.blocks → Emits x b b5 b7 r → Meets b7 b8 target r condition test first end second → Emits x (typed (Or a b) t place) b0 b8 target
+pub or_emits : (x : Setting) (a b : TypedExpr) (t : Sort) (place : Span) (b0 b1 b2 b3 b5 b7 b8 : Building) (q condition target test first end second r : ℕ) → type_of a ≡ t → type_of b ≡ t → HasRoom x b0 → Emits x a b0 b1 q → FindsTruth b1 b2 q condition t → Opens b2 b3 target test first (rtype_of t) → Brings b3 b5 target q end → second ≡ length b5.blocks → Emits x b b5 b7 r → Meets b7 b8 target r condition test first end second → Emits x (typed (Or a b) t place) b0 b8 target
 or_emits x a b t place b0 b1 b2 b3 b5 b7 b8 q condition target test first end second r is_a is_b room ca tests opens brings here cb meets =
     let v1 = emits_at x a t b0 b1 q is_a ca in
     let v2 = emits_at x b t b5 b7 r is_b cb in
@@ -200,6 +154,6 @@ cond_emits x a test b t place b0 b1 b3 b4 b5 b7 b8 q target at first end second 
     let r35 = x35.regs_grow in
     let k34 = v1.extends.blocks_grow in
     let k45 = brings.blocks in
-    either_emits x test sort.Bool t b0 b1 b1 b3 b4 b5 b7 b8 q q target at first end second ra rb is_test room ct (bool_tests b1 q v0.type) opens v1.extends brings here v2.extends meets v1.type v2.type (means x (typed (Cond a test b) t place)) (λ n v. means x a n) (λ n v. means x b n) (λ n s. refl)
+    either_emits x test sort.Bool t b0 b1 b1 b3 b4 b5 b7 b8 q q target at first end second ra rb is_test room ct (bool_stays sort.Bool b1 q refl refl v0.type) opens v1.extends brings here v2.extends meets v1.type v2.type (means x (typed (Cond a test b) t place)) (λ n v. means x a n) (λ n v. means x b n) (λ n s. refl)
     (λ p fn h below n v now old s before placed calls shows outer same match le. arm_ends p fn h below x n calls (Shows t) (rtype_of t) (means x a) b3 b4 ra now old s (length b0.regs) before v1 (meet_within p fn b7 b8 b3 b4 target rb q at first end second _ _ h meets (omega arith) refl (extends_trans b4 b5 b7 brings.extends v2.extends) placed) (omega arith) outer same match le)
     (λ p fn h below n v now old s before placed calls shows outer same match le. arm_ends p fn h below x n calls (Shows t) (rtype_of t) (means x b) b5 b7 rb now old s (length b0.regs) before v2 (meet_within p fn b7 b8 b5 b7 target rb q at first end second _ _ h meets (omega arith) refl (extends_refl b7) placed) (omega arith) outer same match le)

@@ -1,46 +1,38 @@
 -- Parts that are brought to a type of numbers, and what operators make of them there.
 use Rattle.std.proofs.Common.{◌≡◌, refl, sym, ap, ◌∙◌, subst, ℕ, true, false, Option, Some, None}
 use Rattle.std.specs.Prelude.{ℤ}
-use Rattle.value_core.specs.Arithmetic.{i64_neg}
-use Rattle.value_core.specs.Value.{Value, IntVal}
+use Rattle.value_core.specs.Value.{Value}
 use Rattle.py_syntax.specs.declared.expression.BinOp.{BinOp}
-use Rattle.py_syntax.specs.declared.expression.BinOp.TheVariants as bin
 use Rattle.py_typed.specs.Sorts as sort
 use Rattle.py_typed.specs.Sorts.{Sort}
 use Rattle.py_typed.specs.Expressions.{TypedExpr, type_of}
 use Rattle.py_typed.specs.State.{State, Gives, Does, on_to}
 use Rattle.py_typed.specs.Operations.{coerced, with_number, of_numbers, arithmetic, negated_as, negated}
 use Rattle.ir_core.specs.declared.code.RType.TheVariants as rtype
-use Rattle.ir_core.specs.Registers.{Holds}
 use Rattle.ir_core.specs.Building.{Building}
 use Rattle.ir_frames.specs.Settings.{rtype_of}
 use Rattle.ir_frames.specs.Placing.{HasType}
 use Rattle.ir_frames.specs.Matching.{HasKind}
-use Rattle.ir_frames.specs.Computing.{Shows, Makes, Attempts, OfOne}
+use Rattle.ir_frames.specs.Computing.{Shows, Attempts}
 use Rattle.ir_frames.proofs.HeldLemmas.{type_below}
-use Rattle.ir_operators.specs.Operating.{is_whole, is_arithmetic, ActsOn, ActsOnTwo}
+use Rattle.ir_operators.specs.Operating.{is_numeric, is_whole, ActsOn, ActsOnTwo}
 use Rattle.ir_operators.proofs.KindLemmas.{by_int, by_i64}
 use Rattle.ir_operators.proofs.PartLemmas.{stays}
-use Rattle.ir_expressions.specs.Compiled.{is_i64, is_built, literal_in}
+use Rattle.ir_expressions.specs.Compiled.{literal_in}
 use Rattle.ir_expressions.specs.Parts.{native_in, sort_by, part_sort}
-use Rattle.ir_expressions.specs.Operating.{Negates, Operates}
-use Rattle.ir_expressions.proofs.ValueLemmas.{number_coerced, negated_is, wrap_within}
-use Rattle.ir_expressions.proofs.FollowLemmas.{makes_attempt, attempts_as, attempts_then, two_attempts}
+use Rattle.ir_expressions.proofs.ValueLemmas.{number_coerced}
+use Rattle.ir_expressions.proofs.FollowLemmas.{attempts_as, attempts_then, two_attempts}
+
+pub whole_numeric : (t : Sort) → is_whole t ≡ true → is_numeric t ≡ true
+whole_numeric sort.Int e = refl
+whole_numeric sort.I64 e = refl
+whole_numeric t e = let f : false ≡ true = e in absurd (cc)
 
 -- a number of a type is that of the type already
 pub same_number : (t : Sort) → is_whole t ≡ true → (v : Value) (s : State) → HasKind t v → coerced t v s ≡ Gives v s
 same_number sort.Int e v s k = by_int (λ z. coerced sort.Int z s ≡ Gives z s) (λ n f. refl) v k
 same_number sort.I64 e v s k = by_i64 (λ z. coerced sort.I64 z s ≡ Gives z s) (λ n f. number_coerced n s f) v k
 same_number t e v s k = let f : false ≡ true = e in absurd (cc)
-
-pub whole_native : (t : Sort) → is_i64 t ≡ true → sort.I64 ≡ t
-whole_native sort.I64 e = refl
-whole_native t e = let f : false ≡ true = e in absurd (cc)
-
-pub whole_int : (t : Sort) → is_whole t ≡ true → is_i64 t ≡ false → sort.Int ≡ t
-whole_int sort.Int e f = refl
-whole_int sort.I64 e f = absurd (cc)
-whole_int t e f = let g : false ≡ true = e in absurd (cc)
 
 -- a native number is asked for only where the operation is on native integers
 pub native_only : (t : Sort) (o : Option ℤ) (n : ℤ) → native_in t o ≡ Some n → sort.I64 ≡ t
@@ -60,26 +52,6 @@ native_stays t e n b x is type =
 
 -- ---- the other sign
 
-native_minus : (b c : Building) (r x : ℕ) → Makes b c r rtype.I64 (OfOne x Negates) → Attempts (Shows sort.I64) b c r rtype.I64 (ActsOn sort.I64 x (negated sort.I64))
-native_minus b c r x made =
-    makes_attempt (Shows sort.I64) b c r rtype.I64 (OfOne x Negates) (ActsOn sort.I64 x (negated sort.I64))
-    (λ regs s res f.
-    let k = f.shows.1 in
-    let z : Value = IntVal (i64_neg k.0) in
-    record {
-      value = z;
-      held = Holds z;
-      does = f.does ∙ ap (λ y. negated sort.I64 y s) k.1 ∙ negated_is k.0 s k.2;
-      made = record { v = f.v; is = f.shows.0; result = z; fits = (k.0, k.1, refl); gives = refl };
-      shows = (refl, (i64_neg k.0, refl, wrap_within _));
-    })
-    made
-
-pub minus_native : (t : Sort) (b c : Building) (r x : ℕ) → is_i64 t ≡ true → Makes b c r rtype.I64 (OfOne x Negates) → Attempts (Shows t) b c r (rtype_of t) (ActsOn t x (negated t))
-minus_native t b c r x is made =
-    let P : Sort → Type 0 = λ u. Attempts (Shows u) b c r (rtype_of u) (ActsOn u x (negated u)) in
-    subst P (whole_native t is) (native_minus b c r x made)
-
 pub negated_part : (t u : Sort) (b0 b1 b2 : Building) (x q r : ℕ) → is_whole t ≡ true → Attempts (Shows t) b0 b1 q (rtype_of t) (ActsOn u x (coerced t)) → Attempts (Shows t) b1 b2 r (rtype_of t) (ActsOn t q (negated t)) → Attempts (Shows t) b0 b2 r (rtype_of t) (ActsOn u x (negated t))
 negated_part t u b0 b1 b2 x q r whole a c =
     attempts_then (Shows t) (Shows t) b0 b1 b2 q r (rtype_of t) (rtype_of t) (ActsOn u x (coerced t)) (ActsOn t q (negated t)) (ActsOn u x (negated t)) a c
@@ -93,47 +65,11 @@ negated_part t u b0 b1 b2 x q r whole a c =
 
 -- ---- operators
 
-pub arithmetic_built : (op : BinOp) → is_built op ≡ true → is_arithmetic op ≡ true
-arithmetic_built bin.Add e = refl
-arithmetic_built bin.Sub e = refl
-arithmetic_built bin.Mul e = refl
-arithmetic_built bin.FloorDiv e = refl
-arithmetic_built bin.Mod e = refl
-arithmetic_built bin.Shl e = refl
-arithmetic_built bin.Shr e = refl
-arithmetic_built bin.Bar e = e
-
 taken_is : (t : Sort) (op : BinOp) (v w : Value) (s : State) → is_whole t ≡ true → HasKind t v → HasKind t w → with_number v (λ m. with_number w (λ n. of_numbers t op m n)) s ≡ arithmetic t op v w s
 taken_is t op v w s whole k l =
     sym
     (ap (λ o. on_to o (λ a s1. on_to (coerced t w s1) (λ b. with_number a (λ m. with_number b (λ n. of_numbers t op m n))))) (same_number t whole v s k)
     ∙ ap (λ o. on_to o (λ b. with_number v (λ m. with_number b (λ n. of_numbers t op m n)))) (same_number t whole w s l))
-
-native_operation : (op : BinOp) (b c : Building) (r x y : ℕ) → Attempts (Shows sort.I64) b c r rtype.I64 (Operates op x y) → Attempts (Shows sort.I64) b c r rtype.I64 (ActsOnTwo sort.I64 sort.I64 x y (arithmetic sort.I64 op))
-native_operation op b c r x y a =
-    attempts_as (Shows sort.I64) b c r rtype.I64 (Operates op x y) (ActsOnTwo sort.I64 sort.I64 x y (arithmetic sort.I64 op))
-    (λ regs s res f.
-    let k = f.left.1 in
-    let l = f.right.1 in
-    record {
-      a = k.0;
-      left = f.left.0 ∙ ap Holds k.1;
-      left_fits = k.2;
-      b = l.0;
-      right = f.right.0 ∙ ap Holds l.1;
-      right_fits = l.2;
-      does =
-          f.does
-          ∙ sym (taken_is sort.I64 op f.v f.w s refl k l)
-          ∙ ap (λ z. with_number z (λ m. with_number f.w (λ n. of_numbers sort.I64 op m n)) s) k.1
-          ∙ ap (λ z. with_number z (λ n. of_numbers sort.I64 op k.0 n) s) l.1;
-    })
-    a
-
-pub operation_native : (t : Sort) (op : BinOp) (b c : Building) (r x y : ℕ) → is_i64 t ≡ true → Attempts (Shows sort.I64) b c r rtype.I64 (Operates op x y) → Attempts (Shows t) b c r (rtype_of t) (ActsOnTwo t t x y (arithmetic t op))
-operation_native t op b c r x y is a =
-    let P : Sort → Type 0 = λ u. Attempts (Shows u) b c r (rtype_of u) (ActsOnTwo u u x y (arithmetic u op)) in
-    subst P (whole_native t is) (native_operation op b c r x y a)
 
 pub numbers_attempt : (t u w : Sort) (op : BinOp) (b0 b1 b2 b3 : Building) (x y q1 q2 r : ℕ) → is_whole t ≡ true → HasType b0 x (rtype_of u) → HasType b0 y (rtype_of w) → Attempts (Shows t) b0 b1 q1 (rtype_of t) (ActsOn u x (coerced t)) → Attempts (Shows t) b1 b2 q2 (rtype_of t) (ActsOn w y (coerced t)) → Attempts (Shows t) b2 b3 r (rtype_of t) (ActsOnTwo t t q1 q2 (arithmetic t op)) → Attempts (Shows t) b0 b3 r (rtype_of t) (ActsOnTwo u w x y (arithmetic t op))
 numbers_attempt t u w op b0 b1 b2 b3 x y q1 q2 r whole type_x type_y a1 a2 a3 =

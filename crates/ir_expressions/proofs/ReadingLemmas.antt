@@ -26,7 +26,7 @@ use Rattle.ir_core.specs.declared.code.RType.TheVariants as rtype
 use Rattle.ir_core.specs.Items.{Do, End}
 use Rattle.ir_core.specs.Registers.{Held, Unset, Holds, Regs, is_error}
 use Rattle.ir_core.specs.Building.{Building, with_last, held, Extends}
-use Rattle.ir_core.specs.Meaning.{Waiting, Runs, Strict, is_edge, away, item_at, handler_at, registers_of, step}
+use Rattle.ir_core.specs.Meaning.{Waiting, Strict, away, item_at, handler_at, registers_of, step}
 use Rattle.ir_core.proofs.StepLemmas.{op_step, goto_step, error_step}
 use Rattle.ir_frames.specs.declared.frame.Frame.{Frame}
 use Rattle.ir_frames.specs.declared.frame.Vars.{Vars}
@@ -180,12 +180,10 @@ get_there (y ∷ xs) (suc i) d x lt e = get_there xs i d x (omega arith) e
 room_in : (m n : TypedModule) (vs : List Variable) (frame : Frame) (b : Building) → HasRoom (setting_in m vs frame) b → HasRoom (setting_in n vs frame) b
 room_in m n vs frame b room = record {
   count = room.count;
-  text = room.text;
   flags = room.flags;
   top = room.top;
   declared = room.declared;
   flagged = room.flagged;
-  printed = room.printed;
   back = room.back;
 }
 
@@ -200,10 +198,6 @@ variable_read vs frame i v b c flag name lt e other flag_is name_is has tests m 
     let name_at_is : name ≡ suits.1.0 = name_is ∙ sym (ap (λ (z : Variable). z.0) same) in
     let tests' : TestsSet b c (flag_of frame.locals i) suits.1.0 = subst (λ z. TestsSet b c z suits.1.0) flag_is (subst (λ z. TestsSet b c flag z) name_at_is tests) in
     variable_emits (setting_in m (map variable vs) frame) i suits.1 t place b c suits.2 suits.3 other (room_in has.0 m (map variable vs) frame b has.1) tests'
-
--- its flag is there
-pub flag_there : (vs : List Variable) (frame : Frame) (i flag : ℕ) (b : Building) → i < length vs → frame.locals.params ≤ i → HasRegisters vs frame b → flag ≡ flag_of frame.locals i → HasType b flag rtype.Bool
-flag_there vs frame i flag b lt other has is = let count = has.1.count in subst (λ z. HasType b z rtype.Bool) (sym is) (has.1.flagged i other (omega arith))
 
 -- ---- a variable of the module
 

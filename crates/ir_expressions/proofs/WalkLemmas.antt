@@ -1,5 +1,5 @@
 -- The code of a declared expression of each kind, and what its parts need.
-use Rattle.std.proofs.Common.{◌≡◌, refl, sym, ◌∙◌, ap, subst, ℕ, ◌<◌, Bool, true, false, List, [], ◌∷◌, length, map, Option, Some, None}
+use Rattle.std.proofs.Common.{◌≡◌, refl, sym, ◌∙◌, ap, subst, ℕ, ◌<◌, Bool, true, List, [], ◌∷◌, length, map, Some}
 use Rattle.std.specs.Prelude.{ℤ, slice_get}
 use Rattle.std.specs.declared.boxed.Box.{Box}
 use Rattle.std.specs.declared.alloc.Global.{Global}
@@ -20,7 +20,6 @@ use Rattle.py_typed.proofs.ExpressionLemmas.{type_at}
 use Rattle.ir_core.specs.declared.code.RType.TheVariants as rtype
 use Rattle.ir_core.specs.declared.code.RType.{RType}
 use Rattle.ir_core.specs.declared.code.Reg.{Reg}
-use Rattle.ir_core.specs.declared.code.Lit.TheVariants.{Number}
 use Rattle.ir_core.specs.declared.code.Op.TheVariants.{Lit, Call as CallOp}
 use Rattle.ir_core.specs.Registers.{Holds}
 use Rattle.ir_core.specs.Building.{Building, Extends}
@@ -28,12 +27,11 @@ use Rattle.ir_frames.specs.Settings.{Setting, rtype_of}
 use Rattle.ir_frames.specs.Placing.{HasType}
 use Rattle.ir_frames.specs.Calling.{Adds}
 use Rattle.ir_frames.specs.Matching.{HasRoom, parameter_sorts}
-use Rattle.ir_frames.specs.Computing.{Shows, Computes, Makes, Attempts, OfOne, HaveTypes}
+use Rattle.ir_frames.specs.Computing.{Shows, Computes, Makes, Attempts, HaveTypes}
 use Rattle.ir_frames.specs.Shaped.{AllBelow, Keeps}
 use Rattle.ir_frames.specs.Kinds.{Surrounding, Calls, KeepsKindsIf}
 use Rattle.ir_frames.proofs.HeldLemmas.{get_below, type_below}
 use Rattle.ir_operators.specs.Operating.{Acts}
-use Rattle.ir_expressions.specs.Compiled.{is_native, is_bool, literal_in}
 use Rattle.ir_expressions.specs.declared.applying.Unary.{Unary}
 use Rattle.ir_expressions.specs.declared.applying.Unary.TheVariants as unary
 use Rattle.ir_expressions.specs.declared.applying.Binary.{Binary}
@@ -42,17 +40,17 @@ use Rattle.ir_expressions.specs.Parts.{is_simple}
 use Rattle.ir_expressions.specs.Applying.{UnarySuits, BinarySuits}
 use Rattle.ir_expressions.specs.declared.comparing.Side.{Side}
 use Rattle.ir_expressions.specs.Comparing.{kind_sort}
-use Rattle.ir_expressions.specs.Suiting.{IsSimpleAt, Suits, OperandSuits, Operand, SomeSuit, ComparisonsSuit}
-use Rattle.ir_expressions.specs.Operating.{Numbers, TestsValue, FitsIfLiteral, literal_of_truth}
+use Rattle.ir_expressions.specs.Suiting.{IsSimpleAt, Suits, SomeSuit, ComparisonsSuit}
+use Rattle.ir_operands.specs.Comparing.{FindsTruth}
+use Rattle.ir_expressions.specs.Literals.{literal_of_truth}
 use Rattle.ir_expressions.specs.Reading.{EmitsLocal, EmitsGlobal}
-use Rattle.ir_expressions.specs.Emitting.{means, Emits, EmitsOne, EmitsTwo, EmitsNumber, EmitsAll, EmitsSide, EmitsChain}
+use Rattle.ir_expressions.specs.Emitting.{means, Emits, EmitsOne, EmitsTwo, EmitsAll, EmitsSide, EmitsChain}
 use Rattle.ir_expressions.specs.Walking.{Walks}
 use Rattle.ir_expressions.specs.Choices.{Opens, Brings, Meets}
 use Rattle.ir_expressions.proofs.ArmLemmas.{Is, asked, emits_as, is_int, is_text, is_input, is_concat, is_at, is_len, is_to_str, is_bool as is_flag, is_local, is_global, is_neg, is_not, is_truth, is_arith, is_compare, is_and, is_or, is_cond, is_call, is_coerce}
-use Rattle.ir_expressions.proofs.TestLemmas.{bool_sort, i64_sort}
 use Rattle.ir_expressions.proofs.FollowLemmas.{acts_computes}
-use Rattle.ir_expressions.proofs.PieceLemmas.{literal_is, int_emits, text_emits, item_emits}
-use Rattle.ir_expressions.proofs.NodeLemmas.{flag_emits, literal_emits, i64_number, bool_number, and_emits, or_emits, cond_emits}
+use Rattle.ir_expressions.proofs.PieceLemmas.{int_emits, text_emits, item_emits}
+use Rattle.ir_expressions.proofs.NodeLemmas.{flag_emits, and_emits, or_emits, cond_emits}
 use Rattle.ir_expressions.proofs.ChainLemmas.{compare_emits}
 use Rattle.ir_expressions.proofs.CallLemmas.{call_emits}
 use Rattle.ir_expressions.proofs.ArgumentLemmas.{suit_types}
@@ -306,52 +304,17 @@ module _ (x : Setting) (e : TExpr) (suits : Suits x.source x.variables (typed_ex
 -- ---- the two parts of a choice, where they are declared
 
 module _ (x : Setting) (left right : TExpr) (same : sort_of right.ty ≡ sort_of left.ty) where
-  pub and_made : (t : RType) (b0 b1 b2 b3 b4 b5 b8 : Building) (q condition target test first end second r : ℕ) → t ≡ rtype_of (sort_of left.ty) → HasRoom x b0 → Emits x (typed_expr left) b0 b1 q → TestsValue b1 b2 q condition (sort_of left.ty) → Opens b2 b3 target test first t → Emits x (typed_expr right) b3 b4 r → Brings b4 b5 target r end → second ≡ length b5.blocks → Meets b5 b8 target q condition test first end second → Emits x (typed (tree.And (typed_expr left) (typed_expr right)) (sort_of left.ty) left.span) b0 b8 target
+  pub and_made : (t : RType) (b0 b1 b2 b3 b4 b5 b8 : Building) (q condition target test first end second r : ℕ) → t ≡ rtype_of (sort_of left.ty) → HasRoom x b0 → Emits x (typed_expr left) b0 b1 q → FindsTruth b1 b2 q condition (sort_of left.ty) → Opens b2 b3 target test first t → Emits x (typed_expr right) b3 b4 r → Brings b4 b5 target r end → second ≡ length b5.blocks → Meets b5 b8 target q condition test first end second → Emits x (typed (tree.And (typed_expr left) (typed_expr right)) (sort_of left.ty) left.span) b0 b8 target
   and_made t b0 b1 b2 b3 b4 b5 b8 q condition target test first end second r is room ca tests opens cb brings here meets =
       and_emits x (typed_expr left) (typed_expr right) (sort_of left.ty) left.span b0 b1 b2 b3 b4 b5 b8 q condition target test first end second r (type_at left) (type_at right ∙ same) room ca tests (subst (λ z. Opens b2 b3 target test first z) is opens) cb brings here meets
 
-  pub or_made : (t : RType) (b0 b1 b2 b3 b5 b7 b8 : Building) (q condition target test first end second r : ℕ) → t ≡ rtype_of (sort_of left.ty) → HasRoom x b0 → Emits x (typed_expr left) b0 b1 q → TestsValue b1 b2 q condition (sort_of left.ty) → Opens b2 b3 target test first t → Brings b3 b5 target q end → second ≡ length b5.blocks → Emits x (typed_expr right) b5 b7 r → Meets b7 b8 target r condition test first end second → Emits x (typed (tree.Or (typed_expr left) (typed_expr right)) (sort_of left.ty) left.span) b0 b8 target
+  pub or_made : (t : RType) (b0 b1 b2 b3 b5 b7 b8 : Building) (q condition target test first end second r : ℕ) → t ≡ rtype_of (sort_of left.ty) → HasRoom x b0 → Emits x (typed_expr left) b0 b1 q → FindsTruth b1 b2 q condition (sort_of left.ty) → Opens b2 b3 target test first t → Brings b3 b5 target q end → second ≡ length b5.blocks → Emits x (typed_expr right) b5 b7 r → Meets b7 b8 target r condition test first end second → Emits x (typed (tree.Or (typed_expr left) (typed_expr right)) (sort_of left.ty) left.span) b0 b8 target
   or_made t b0 b1 b2 b3 b5 b7 b8 q condition target test first end second r is room ca tests opens brings here cb meets =
       or_emits x (typed_expr left) (typed_expr right) (sort_of left.ty) left.span b0 b1 b2 b3 b5 b7 b8 q condition target test first end second r (type_at left) (type_at right ∙ same) room ca tests (subst (λ z. Opens b2 b3 target test first z) is opens) brings here cb meets
 
   pub choice_made : (test : TExpr) (t : RType) (b0 b1 b3 b4 b5 b7 b8 : Building) (q target at first end second ra rb : ℕ) → sort_of test.ty ≡ sort.Bool → t ≡ rtype_of (sort_of left.ty) → HasRoom x b0 → Emits x (typed_expr test) b0 b1 q → Opens b1 b3 target at first t → Emits x (typed_expr left) b3 b4 ra → Brings b4 b5 target ra end → second ≡ length b5.blocks → Emits x (typed_expr right) b5 b7 rb → Meets b7 b8 target rb q at first end second → Emits x (typed (tree.Cond (typed_expr left) (typed_expr test) (typed_expr right)) (sort_of left.ty) left.span) b0 b8 target
   choice_made test t b0 b1 b3 b4 b5 b7 b8 q target at first end second ra rb flag is room ct opens ca brings here cb meets =
       cond_emits x (typed_expr left) (typed_expr test) (typed_expr right) (sort_of left.ty) left.span b0 b1 b3 b4 b5 b7 b8 q target at first end second ra rb (type_at left) (type_at test ∙ flag) (type_at right ∙ same) room ct (subst (λ z. Opens b1 b3 target at first z) is opens) ca brings here cb meets
-
--- ---- operands
-
-fits_by : (o : Option ℤ) (t : Sort) (P : Type 0) → OperandSuits o t P → FitsIfLiteral o
-fits_by None t P h = tt
-fits_by (Some n) t P h = h.1
-
-pub operand_fits : (m : TypedModule) (vs : List Variable) (e : TypedExpr) → Operand m vs e → FitsIfLiteral (literal_in e)
-operand_fits m vs e h = fits_by (literal_in e) (type_of e) (Suits m vs e) h
-
-pub operand_part : (m : TypedModule) (vs : List Variable) (e : TypedExpr) → literal_in e ≡ None → Operand m vs e → (is_native (type_of e) ≡ true) × Suits m vs e
-operand_part m vs e is h = subst (λ o. OperandSuits o (type_of e) (Suits m vs e)) is h
-
-pub literal_within : (m : TypedModule) (vs : List Variable) (e : TypedExpr) (n : ℤ) → literal_in e ≡ Some n → Operand m vs e → lies_within 63 n ≡ true
-literal_within m vs e n is h = (subst (λ o. OperandSuits o (type_of e) (Suits m vs e)) is h).1
-
-pub operand_scalar : (m : TypedModule) (vs : List Variable) (e : TExpr) → literal_in (typed_expr e) ≡ None → Operand m vs (typed_expr e) → is_native (sort_of e.ty) ≡ true
-operand_scalar m vs e is h = subst (λ t. is_native t ≡ true) (type_at e) (operand_part m vs (typed_expr e) is h).0
-
-pub flag_type : (x : Setting) (e : TExpr) (b c : Building) (r : ℕ) → is_bool (sort_of e.ty) ≡ true → Emits x (typed_expr e) b c r → HasType c r rtype.Bool
-flag_type x e b c r is q = emits_type x (typed_expr e) sort.Bool b c r (type_at e ∙ sym (bool_sort (sort_of e.ty) is)) q
-
-pub flag_number : (x : Setting) (e : TExpr) (b0 b1 b2 : Building) (q r : ℕ) → is_bool (sort_of e.ty) ≡ true → HasRoom x b0 → Emits x (typed_expr e) b0 b1 q → Makes b1 b2 r rtype.I64 (OfOne q Numbers) → EmitsNumber x (typed_expr e) b0 b2 r
-flag_number x e b0 b1 b2 q r is room c made = bool_number x (typed_expr e) b0 b1 b2 q r (type_at e ∙ sym (bool_sort (sort_of e.ty) is)) room c made
-
-pub own_number : (x : Setting) (e : TExpr) (b c : Building) (r : ℕ) → is_native (sort_of e.ty) ≡ true → is_bool (sort_of e.ty) ≡ false → Emits x (typed_expr e) b c r → EmitsNumber x (typed_expr e) b c r
-own_number x e b c r scalar is q = i64_number x (typed_expr e) b c r (type_at e ∙ sym (i64_sort (sort_of e.ty) scalar is)) q
-
-pub literal_walked : (x : Setting) (e : TypedExpr) (n : ℤ) (b c : Building) (r : ℕ) → literal_in e ≡ Some n → Operand x.source x.variables e → Adds b c r rtype.I64 (Lit record { 0 = r } (Number n)) → EmitsNumber x e b c r
-literal_walked x (typed k t place) n b c r is h a =
-    let same = literal_is k t place n is in
-    let l : OperandSuits (Some n) t (Suits x.source x.variables (typed k t place)) = subst (λ o. OperandSuits o t (Suits x.source x.variables (typed k t place))) is h in
-    let P : TypedExpr → Type 0 = λ y. EmitsNumber x y b c r in
-    let Q : Sort → Type 0 = λ u. EmitsNumber x (typed (tree.Int n) u place) b c r in
-    subst P same (subst Q (sym l.0) (literal_emits x n place b c r l.1 a))
 
 -- ---- the parts of a choice
 

@@ -17,7 +17,7 @@ use Rattle.ir_frames.specs.Shaped.{Keeps}
 use Rattle.ir_frames.specs.Computing.{HaveTypes}
 use Rattle.ir_frames.specs.Kinds.{Surrounding, IsOf, Take, AreAlike, Calls, LiteralFits, head_of, IsAmong, KeepsKinds, KeepsKindsIf}
 use Rattle.ir_frames.proofs.HeldLemmas.{extends_refl, extends_trans, type_kept}
-use Rattle.ir_expressions.specs.Operating.{literal_of_truth}
+use Rattle.ir_expressions.specs.Literals.{literal_of_truth}
 use Rattle.ir_expressions.specs.Choices.{Opens, Meets}
 use Rattle.ir_expressions.specs.Walking.{Walks}
 

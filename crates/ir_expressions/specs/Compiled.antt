@@ -25,12 +25,6 @@ abbrev pub is_text : Sort → Bool
 is_text sort.Str = true
 is_text _ = false
 
--- native integers and bools
-abbrev pub is_native : Sort → Bool
-is_native sort.I64 = true
-is_native sort.Bool = true
-is_native _ = false
-
 -- a type of variables, and one of results
 abbrev pub is_scalar : Sort → Bool
 is_scalar sort.Int = true

@@ -22,7 +22,7 @@ use Rattle.ir_expressions.specs.Parts.{part_sort}
 use Rattle.ir_expressions.specs.Applying.{unary_goes, binary_goes}
 use Rattle.ir_expressions.specs.declared.comparing.Side.{Side}
 use Rattle.ir_expressions.specs.Comparing.{kind_sort, is_shown_as}
-use Rattle.ir_frames.specs.Computing.{Shows, ShowsNumber, Meaning, Arrives, Computes, ComputesAll}
+use Rattle.ir_frames.specs.Computing.{Shows, Meaning, Arrives, Computes, ComputesAll}
 
 -- what an expression means, by the bound of calls and turns
 abbrev pub means : Setting → TypedExpr → Meaning Value
@@ -50,10 +50,7 @@ abbrev pub EmitsTwo : Setting → Binary → Sort → TypedExpr → TypedExpr �
 EmitsTwo x op t a b old new r =
     Computes x (Shows t) (rtype_of t) (λ n s. on_to (means x a n s) (λ v s1. on_to (means x b n s1) (binary_goes op t v))) old new r
 
--- its number is
-abbrev pub EmitsNumber : Setting → TypedExpr → Building → Building → ℕ → Type 0
-EmitsNumber x e old new r = Computes x (ShowsNumber (type_of e)) rtype.I64 (means x e) old new r
-
+-- the values of several are in registers
 abbrev pub EmitsAll : Setting → List Sort → TypedExprs → Building → Building → List Reg → Type 0
 EmitsAll x ts es old new rs = ComputesAll x ts (means_all x es) old new rs
 

@@ -1,6 +1,6 @@
 -- What is asked of an expression that is built: its form is one of those that are compiled, and its parts have the types of a
 -- well-typed one, in a function of a module with some variables.
-use Rattle.std.specs.Prelude.{◌≡◌, ℕ, ℤ, true, List, [], ◌∷◌, Option, Some, None, slice_get}
+use Rattle.std.specs.Prelude.{◌≡◌, ℕ, true, List, [], ◌∷◌, Some, slice_get}
 use Rattle.value_core.specs.Arithmetic.{lies_within}
 use Rattle.py_typed.specs.Sorts as sort
 use Rattle.py_typed.specs.Sorts.{Sort}
@@ -9,22 +9,14 @@ use Rattle.py_typed.specs.Expressions.{TypedExpr, typed, TypedNode, Int, Str, Fl
 use Rattle.ir_frames.specs.Matching.{parameter_sorts}
 use Rattle.ir_expressions.specs.declared.applying.Unary.TheVariants.{Negated, Inverted, Tested, Counted, Written, Coerced}
 use Rattle.ir_expressions.specs.declared.applying.Binary.TheVariants.{Arithmetic, Joined, Indexed}
-use Rattle.ir_expressions.specs.Compiled.{is_native, is_scalar, is_ordering, literal_in}
+use Rattle.ir_expressions.specs.Compiled.{is_ordering}
 use Rattle.ir_expressions.specs.Parts.{is_simple, is_given}
 use Rattle.ir_expressions.specs.Applying.{UnarySuits, BinarySuits}
 use Rattle.ir_expressions.specs.Comparing.{is_compared}
 
 -- the variable of a number holds a number, a bool or a text
-abbrev pub IsScalarAt : List Variable → ℕ → Type 0
-IsScalarAt vs i = (v : Variable) × (slice_get vs i ≡ Some v) × (is_scalar v.1 ≡ true)
-
 abbrev pub IsSimpleAt : List Variable → ℕ → Type 0
-IsSimpleAt vs i = IsScalarAt vs i
-
--- an operand: a literal that is an `i64`, or what suits and gives a native integer or a bool
-abbrev pub OperandSuits : Option ℤ → Sort → Type 0 → Type 0
-OperandSuits (Some n) t P = (t ≡ sort.Int) × (lies_within 63 n ≡ true)
-OperandSuits None t P = (is_native t ≡ true) × P
+IsSimpleAt vs i = (v : Variable) × (slice_get vs i ≡ Some v) × (is_simple v.1 ≡ true)
 
 module _ (m : TypedModule) (vs : List Variable) where
   abbrev mutual
@@ -67,9 +59,6 @@ module _ (m : TypedModule) (vs : List Variable) where
     ComparisonsSuit s no_comparisons = Unit {0}
     ComparisonsSuit s (comparison_then op e more) =
         (is_ordering op ≡ true) × (is_compared s (type_of e) ≡ true) × (is_simple (type_of e) ≡ true) × Suits e × ComparisonsSuit (type_of e) more
-
-  abbrev pub Operand : TypedExpr → Type 0
-  Operand e = OperandSuits (literal_in e) (type_of e) (Suits e)
 
   -- arguments for some parameters
   abbrev pub SomeSuit : List TypedExpr → Type 0

@@ -14,13 +14,11 @@ ghost use Rattle.ir_expressions.specs.Compiled.{is_built, literal_in};
 ghost use Rattle.ir_expressions.specs.Parts.{fitting_in, native_in, part_sort};
 ghost use Rattle.ir_expressions.specs.Applying.{unary_goes, binary_goes, UnarySuits, BinarySuits};
 
-use crate::operations::{emit_arithmetic, emit_inversion, emit_negation, emit_test, is_native};
+use crate::types::is_native;
 use ir_core::Reg;
 use ir_frames::Emitter;
-use ir_operators::{
-    emit_coercion, emit_concat, emit_int_arithmetic, emit_int_negation, emit_item, emit_length,
-    emit_text_of,
-};
+use ir_operands::{emit_arithmetic, emit_inversion, emit_negation, emit_truth};
+use ir_operators::{emit_coercion, emit_concat, emit_item, emit_length, emit_text_of};
 use py_syntax::BinOp;
 use py_typed::{TExpr, TKind, Ty};
 use std::alloc::Global;
@@ -100,48 +98,6 @@ fn emit_coerced(
     }
 }
 
-// A number of a type with the other sign.
-fn emit_minus(b: &mut Emitter, alloc: Global, t: &Ty, x: Reg, line: usize) -> Result<Reg, Memory>
-    requires whole { is_whole (sort t.now) ≡ true }
-    requires value { HasType b.old x.0 (rtype_of (sort t.now)) }
-    ensures kept { Extends b.old b.new }
-    ensures made { IfOk result (λ r. Attempts (Shows (sort t.now)) b.old b.new r.0 (rtype_of (sort t.now)) (ActsOn (sort t.now) x.0 (negated (sort t.now)))) }
-    ensures shaped { Keeps b.old b.new }
-    ensures kinds { KeepsKinds b.old b.new }
-{
-    if is_native(t) {
-        emit_negation(b, alloc, x, line)
-    } else {
-        emit_int_negation(b, alloc, x, line)
-    }
-}
-
-// The result of an operator on two numbers of a type.
-fn emit_operation(
-    b: &mut Emitter,
-    alloc: Global,
-    op: BinOp,
-    t: &Ty,
-    x: Reg,
-    y: Reg,
-    line: usize,
-) -> Result<Reg, Memory>
-    requires built { is_built op ≡ true }
-    requires whole { is_whole (sort t.now) ≡ true }
-    requires left { HasType b.old x.0 (rtype_of (sort t.now)) }
-    requires right { HasType b.old y.0 (rtype_of (sort t.now)) }
-    ensures kept { Extends b.old b.new }
-    ensures made { IfOk result (λ r. Attempts (Shows (sort t.now)) b.old b.new r.0 (rtype_of (sort t.now)) (ActsOnTwo (sort t.now) (sort t.now) x.0 y.0 (arithmetic (sort t.now) op))) }
-    ensures shaped { Keeps b.old b.new }
-    ensures kinds { KeepsKinds b.old b.new }
-{
-    if is_native(t) {
-        emit_arithmetic(b, alloc, op, x, y, line)
-    } else {
-        emit_int_arithmetic(b, alloc, op, x, y, line)
-    }
-}
-
 // The result of an operator on two parts in a type. Both are there before the first is coerced.
 fn emit_numbers(
     b: &mut Emitter,
@@ -167,7 +123,7 @@ fn emit_numbers(
 {
     let first = emit_coerced(b, alloc, left, t, x, line)?;
     let second = emit_coerced(b, alloc, right, t, y, line)?;
-    emit_operation(b, alloc, op, t, first, second, line)
+    emit_arithmetic(b, alloc, t, op, t, first, t, second, line)
 }
 
 // The other sign of a part in a type.
@@ -188,7 +144,7 @@ fn emit_negated(
     ensures kinds { KeepsKinds b.old b.new }
 {
     let number = emit_coerced(b, alloc, e, t, x, line)?;
-    emit_minus(b, alloc, t, number, line)
+    emit_negation(b, alloc, t, t, number, line)
 }
 
 /// The result of an operation on a part, whose value is in a register.
@@ -211,7 +167,7 @@ pub fn emit_unary(
     match op {
         Unary::Negated => emit_negated(b, alloc, t, e, x, line),
         Unary::Inverted => emit_inversion(b, alloc, x, line),
-        Unary::Tested => emit_test(b, alloc, x, &e.ty, line),
+        Unary::Tested => emit_truth(b, alloc, &e.ty, x, line),
         Unary::Counted => emit_length(b, alloc, x, line),
         Unary::Written => emit_text_of(b, alloc, &e.ty, x, line),
         Unary::Coerced => emit_coerced(b, alloc, e, t, x, line),

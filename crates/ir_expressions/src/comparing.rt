@@ -15,10 +15,9 @@ ghost use Rattle.ir_expressions.specs.Parts.{is_simple, part_sort};
 ghost use Rattle.ir_expressions.specs.Comparing.{kind_sort, is_compared, is_shown_as, holds_as, taken_as};
 
 use crate::applying::native_literal;
-use crate::operations::{emit_comparison, emit_number};
 use ir_core::{RType, Reg};
 use ir_frames::Emitter;
-use ir_operands::{emit_int_comparison, emit_text_comparison};
+use ir_operands::{emit_number_comparison, emit_text_comparison};
 use ir_operators::emit_coercion;
 use py_syntax::CmpOp;
 use py_typed::{TExpr, Ty};
@@ -139,10 +138,8 @@ fn emit_alike(
     ensures shaped { Keeps b.old b.new }
     ensures kinds { KeepsKinds b.old b.new }
 {
-    match t {
-        Kind::I64 => emit_comparison(b, alloc, op, x, y, line),
-        _ => emit_int_comparison(b, alloc, op, x, y, line),
-    }
+    let number = type_of_kind(t);
+    emit_number_comparison(b, alloc, op, &number, x, &number, y, line)
 }
 
 // A comparison of two numbers in a type. Both are there before the first is coerced.
@@ -172,7 +169,7 @@ fn emit_numeric_pair(
     emit_alike(b, alloc, op, to, x, y, line)
 }
 
-// A comparison of two bools, as numbers.
+// A comparison of two bools.
 fn emit_bool_pair(
     b: &mut Emitter,
     alloc: Global,
@@ -189,9 +186,8 @@ fn emit_bool_pair(
     ensures shaped { Keeps b.old b.new }
     ensures kinds { KeepsKinds b.old b.new }
 {
-    let first = emit_number(b, alloc, x, line)?;
-    let second = emit_number(b, alloc, y, line)?;
-    emit_comparison(b, alloc, op, first, second, line)
+    let both = type_of_kind(Kind::Bool);
+    emit_number_comparison(b, alloc, op, &both, x, &both, y, line)
 }
 
 /// A comparison of two operands (Python Language Reference, "Value comparisons"): of numbers in the type of both, of bools, or of

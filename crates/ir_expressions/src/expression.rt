@@ -12,9 +12,9 @@ ghost use Rattle.ir_frames.specs.Kinds.{IsAmong, KeepsKindsIf};
 ghost use Rattle.ir_expressions.specs.Parts.{is_simple};
 ghost use Rattle.ir_expressions.specs.Applying.{UnarySuits, BinarySuits};
 ghost use Rattle.ir_expressions.specs.Comparing.{kind_sort, is_shown_as};
-ghost use Rattle.ir_expressions.specs.Suiting.{Suits, Operand, SomeSuit, ComparisonsSuit};
+ghost use Rattle.ir_expressions.specs.Suiting.{Suits, SomeSuit, ComparisonsSuit};
 ghost use Rattle.ir_expressions.specs.Walking.{Walks};
-ghost use Rattle.ir_expressions.specs.Emitting.{Emits, EmitsPart, EmitsOne, EmitsTwo, EmitsNumber, EmitsAll, EmitsSide, EmitsChain};
+ghost use Rattle.ir_expressions.specs.Emitting.{Emits, EmitsPart, EmitsOne, EmitsTwo, EmitsAll, EmitsSide, EmitsChain};
 
 use crate::applying::{Binary, Unary, emit_binary, emit_unary, native_literal};
 use crate::chain::{begin_link, meet_links};
@@ -24,9 +24,10 @@ use crate::comparing::{
 };
 use crate::global::emit_global_value;
 use crate::local::emit_local;
-use crate::operations::{emit_number, emit_test, is_bool, literal_of, register_type, truth};
+use crate::types::{register_type, truth};
 use ir_core::{Lit, RType, Reg};
 use ir_frames::{Emitter, Frame};
+use ir_operands::emit_truth;
 use ir_operators::{emit_input, emit_int, emit_text};
 use py_syntax::CmpOp;
 use py_typed::{Checked, TExpr, TKind, Ty, Var};
@@ -238,7 +239,7 @@ fn emit_and(
     ensures emitted { IfOk result (λ r. Emits (setting checked.now locals.now frame) (typed (And (typed_expr left.now) (typed_expr right.now)) (sort left.now.ty) left.now.span) b.old b.new r.0) }
 {
     let x = emit_expression(b, alloc, checked, locals, frame, left, line)?;
-    let condition = emit_test(b, alloc, x, &left.ty, line)?;
+    let condition = emit_truth(b, alloc, &left.ty, x, line)?;
     let choice = begin(b, register_type(&left.ty))?;
     let y = emit_expression(b, alloc, checked, locals, frame, right, line)?;
     let end = turn(b, choice, y, line)?;
@@ -268,7 +269,7 @@ fn emit_or(
     ensures emitted { IfOk result (λ r. Emits (setting checked.now locals.now frame) (typed (Or (typed_expr left.now) (typed_expr right.now)) (sort left.now.ty) left.now.span) b.old b.new r.0) }
 {
     let x = emit_expression(b, alloc, checked, locals, frame, left, line)?;
-    let condition = emit_test(b, alloc, x, &left.ty, line)?;
+    let condition = emit_truth(b, alloc, &left.ty, x, line)?;
     let choice = begin(b, register_type(&left.ty))?;
     let end = turn(b, choice, x, line)?;
     let second = b.here();
@@ -367,36 +368,6 @@ fn emit_chain(
                 left = right;
             }
             meet_links(b, links, holds, line)
-        }
-    }
-}
-
-/// Emits an operand, a literal or an expression, and answers the register that has its number as a native integer.
-pub fn emit_operand(
-    b: &mut Emitter,
-    alloc: Global,
-    checked: &Checked,
-    locals: &[Var],
-    frame: Frame,
-    e: &TExpr,
-    line: usize,
-) -> Result<Reg, Memory>
-    requires suits { Operand (typed_module checked.now) (map variable locals.now) (typed_expr e.now) }
-    requires room { HasRoom (setting checked.now locals.now frame) b.old }
-    ensures kept { Extends b.old b.new }
-    ensures emitted { IfOk result (λ r. EmitsNumber (setting checked.now locals.now frame) (typed_expr e.now) b.old b.new r.0) }
-    ensures shaped { Keeps b.old b.new }
-    ensures kinds { KeepsKindsIf (IsAmong (typed_module checked.now)) b.old b.new }
-{
-    match literal_of(e) {
-        Some(n) => b.literal(RType::I64, Lit::Number(n), line),
-        None => {
-            let r = emit_expression(b, alloc, checked, locals, frame, e, line)?;
-            if is_bool(&e.ty) {
-                emit_number(b, alloc, r, line)
-            } else {
-                Ok(r)
-            }
         }
     }
 }

@@ -4,10 +4,10 @@ ghost use Rattle.py_typed.specs.Statements.{typed_module};
 ghost use Rattle.ir_core.specs.Building.{Extends};
 ghost use Rattle.ir_frames.specs.Shaped.{Keeps};
 ghost use Rattle.ir_frames.specs.Kinds.{IsAmong, KeepsKindsIf};
-ghost use Rattle.ir_expressions.specs.Suiting.{IsScalarAt, IsSimpleAt};
+ghost use Rattle.ir_expressions.specs.Suiting.{IsSimpleAt};
 ghost use Rattle.ir_expressions.specs.Reading.{EmitsGlobal};
 
-use crate::operations::register_type;
+use crate::types::register_type;
 use c_core::{GlobalPrim, Prim};
 use ir_core::{PArg, Reg};
 use ir_frames::Emitter;
@@ -39,21 +39,4 @@ pub fn emit_global_value(
         args,
         line,
     )
-}
-
-/// The same.
-pub fn emit_global(
-    b: &mut Emitter,
-    alloc: Global,
-    checked: &Checked,
-    i: usize,
-    line: usize,
-) -> Result<Reg, Memory>
-    requires scalar { IsScalarAt (typed_module checked.now).globals i }
-    ensures kept { Extends b.old b.new }
-    ensures emitted { IfOk result (λ r. EmitsGlobal (typed_module checked.now) i b.old b.new r.0) }
-    ensures shaped { Keeps b.old b.new }
-    ensures kinds { KeepsKindsIf (IsAmong (typed_module checked.now)) b.old b.new }
-{
-    emit_global_value(b, alloc, checked, i, line)
 }

@@ -1,5 +1,5 @@
 -- Operations that may fail: what they leave in registers, and where their exceptions go.
-use Rattle.std.proofs.Common.{◌≡◌, ℕ, ◌+◌, ◌<◌, true, false, cond, List, [], ◌∷◌, length, Option, Some, None, Result, Ok, Err, refl, sym, ap, ◌∙◌, subst, arith, le_refl}
+use Rattle.std.proofs.Common.{◌≡◌, ℕ, ◌+◌, ◌<◌, true, false, cond, List, length, Option, Some, None, Result, Ok, Err, refl, sym, ap, ◌∙◌, subst, arith, le_refl}
 use Rattle.value_core.specs.Exceptions.{Thrown}
 use Rattle.value_core.specs.Value.{Value, ExcVal}
 use Rattle.c_core.specs.declared.primitive.Primitive.{Primitive}
@@ -8,7 +8,6 @@ use Rattle.ir_core.specs.declared.code.RType.{RType}
 use Rattle.ir_core.specs.declared.code.RType.TheVariants.{Int, I64, Bool as BoolType, Ref}
 use Rattle.ir_core.specs.declared.code.Reg.{Reg}
 use Rattle.ir_core.specs.declared.code.PArg.{PArg}
-use Rattle.ir_core.specs.declared.code.PArg.TheVariants.{Var}
 use Rattle.ir_core.specs.declared.code.Op.TheVariants.{Prim}
 use Rattle.ir_core.specs.declared.code.Last.TheVariants as last
 use Rattle.ir_core.specs.declared.code.Program.{Program}
@@ -16,19 +15,19 @@ use Rattle.ir_core.specs.declared.kind.Edge.TheVariants.{Tests, TestsTwice}
 use Rattle.ir_core.specs.Items.{Item, Do, End}
 use Rattle.ir_core.specs.Rows.{Failing, NeverFails, MayFail, AlwaysFails, failing, type_of_reg, edge_of_kind, kind_by_result}
 use Rattle.ir_core.specs.Registers.{Held, Holds, Regs, put, error_of}
-use Rattle.ir_core.specs.Effects.{World, Argument, Given, Effect, Gives as Giving, Fails, effect}
+use Rattle.ir_core.specs.Effects.{World, Argument, Effect, Gives as Giving, Fails, effect}
 use Rattle.ir_core.specs.Building.{Building}
 use Rattle.ir_core.specs.Meaning.{Frame, Waiting, Config, Runs, Stuck, Strict, arguments, is_edge, is_clear, away, registers_of, item_at, handler_at, failed, step}
 use Rattle.ir_core.proofs.StepLemmas.{put_same, put_other, op_step}
 use Rattle.ir_frames.specs.Settings.{Setting}
-use Rattle.ir_frames.specs.Placing.{HasType, Has, Placed, where_it_may}
+use Rattle.ir_frames.specs.Placing.{Has, Placed, where_it_may}
 use Rattle.ir_frames.specs.Calling.{Adds}
 use Rattle.ir_frames.specs.Coming.{world, running, Ends}
 use Rattle.ir_frames.specs.Matching.{Matches, HasRoom, IsThrown, CallsWork}
 use Rattle.ir_frames.specs.Computing.{Showing, Meaning, Arrives, Computes, Attempts}
 use Rattle.ir_frames.proofs.HeldLemmas.{extends_refl, extends_trans, has_less, type_below, type_has, adds_has, placed_part, guard_at}
 use Rattle.ir_frames.proofs.ComingLemmas.{leads_step, ends_of, ends_step, ends_map}
-use Rattle.ir_frames.proofs.StepLemmas.{read_is, two_arguments, prim_step}
+use Rattle.ir_frames.proofs.StepLemmas.{prim_step}
 use Rattle.ir_frames.proofs.MatchLemmas.{room_on, same_refl, same_trans, match_here, thrown_now, thrown_from, computes_then}
 
 -- ---- where no test stands behind
@@ -155,35 +154,6 @@ prim_computes x K m b c r t q args room a by = record {
   runs = λ p fn h placed n calls regs below s match le.
       prim_ends K b c r t q args a p fn h placed x room regs below s match (m n s) (by p fn (has_less p fn b c a.extends placed.has) n calls regs s match);
 }
-
--- of two registers
-pub record DoesTwo (K : Showing) (q : Primitive) (x y : ℕ) (regs : Regs) (s : State) (res : Outcome Value) : Type 0 where
-  pub u : Value
-  pub left : regs x ≡ Holds u
-  pub v : Value
-  pub right : regs y ≡ Holds v
-  pub result : Result Value Thrown
-  pub allowed : Allows (failing q) result
-  pub effects : (p : Program) (w : World) → effect p q (Given u ∷ Given v ∷ []) w ≡ effect_of result w
-  pub shown : ShownIfGiven K result
-  pub does : res ≡ outcome_of result s
-
-pub two_attempt : (K : Showing) (b c : Building) (r x y : ℕ) (t tx ty : RType) (q : Primitive) (from : Regs → State → Outcome Value → Type 0) → Adds b c r t (Prim (Some record { 0 = r }) q (Var record { 0 = x } ∷ Var record { 0 = y } ∷ [])) → HasType b x tx → HasType b y ty → ((regs : Regs) (s : State) (res : Outcome Value) → from regs s res → DoesTwo K q x y regs s res) → Attempts K b c r t from
-two_attempt K b c r x y t tx ty q from a type_x type_y by =
-    prim_attempts K b c r t q _ from a
-    (λ p fn has regs s res needs.
-    let d = by regs s res needs in
-    let left = read_is (registers_of p fn) regs x tx d.u (type_has p fn b x tx has type_x) d.left in
-    let right = read_is (registers_of p fn) regs y ty d.v (type_has p fn b y ty has type_y) d.right in
-    record {
-      values = Given d.u ∷ Given d.v ∷ [];
-      given = two_arguments (registers_of p fn) regs x y d.u d.v left right;
-      result = d.result;
-      allowed = d.allowed;
-      effects = d.effects p (world None s);
-      shown = d.shown;
-      does = d.does;
-    })
 
 -- ---- behind the code of two values
 

@@ -18,8 +18,8 @@ use Rattle.ir_frames.specs.Placing.{Has, Placed}
 use Rattle.ir_frames.specs.Coming.{world, running, Ends}
 use Rattle.ir_frames.specs.Matching.{Keeps, flag_of, flag_in, Matches, SameLocals, BackBelow, HasRoom, SameIn, Stands, IsThrown, CallsWork}
 use Rattle.ir_frames.specs.Computing.{Showing, Meaning, Arrives, Computes, ArrivesAll, ComputesAll, Makes}
-use Rattle.ir_frames.proofs.HeldLemmas.{extends_trans, type_kept, get_below, placed_part}
-use Rattle.ir_frames.proofs.ComingLemmas.{ends_on, ends_at, ends_of, ends_lead, ends_map}
+use Rattle.ir_frames.proofs.HeldLemmas.{type_kept, get_below}
+use Rattle.ir_frames.proofs.ComingLemmas.{ends_on, ends_at, ends_of, ends_lead}
 
 -- ---- room
 
@@ -34,11 +34,9 @@ room_on x b c e room =
     record {
       count = room.count;
       flags = room.flags;
-      text = room.text;
       top = omega arith;
       declared = λ j v at. type_kept b c j (rtype_of v.1) e (room.declared j v at);
       flagged = λ j from to. type_kept b c (flag_of x.frame.locals j) rtype.Bool e (room.flagged j from to);
-      printed = type_kept b c x.frame.locals.text rtype.Ref e room.printed;
       back = back_on x.frame.ret x.frame.locals.top (length b.regs) (length c.regs) more room.back;
     }
 
@@ -117,15 +115,7 @@ module _ (p : Program) (fn : ℕ) (h : Option ℕ) (below : List Waiting) (x : S
       (λ v s1 d le1 a. ends_at p s1.turns (running fn (length c.blocks) (length c.ops) a.now below (world None s1)) d (go v s1) S _ a.is (next a.now v s1 (omega arith) a.shows a.kept a.same (match_kept x b regs a.now s s1 room (λ j lt. a.kept j (omega arith)) a.same match)))
       (λ v s1 d t. thrown_from fn h below x keep (length b.regs) old regs v s1 d wide same t)
 
--- a value that the register shows in another way too, or of an equal meaning
-pub computes_as : (x : Setting) (K L : Showing) (t : RType) (m : Meaning Value) (b c : Building) (r : ℕ) → ((v : Value) (h : Held) → K v h → L v h) → Computes x K t m b c r → Computes x L t m b c r
-computes_as x K L t m b c r f q = record {
-  extends = q.extends;
-  type = q.type;
-  runs = λ p fn h at n calls regs below s match le.
-      ends_map p s.turns _ (m n s) _ _ _ _ (λ v s1 d a. record { now = a.now; is = a.is; shows = f v (a.now r) a.shows; kept = a.kept; same = a.same }) (λ v s1 d t. t) (q.runs p fn h at n calls regs below s match le);
-}
-
+-- a value of an equal meaning
 pub computes_of : (x : Setting) (K : Showing) (t : RType) (m m' : Meaning Value) (b c : Building) (r : ℕ) → ((n : ℕ) (s : State) → m' n s ≡ m n s) → Computes x K t m b c r → Computes x K t m' b c r
 computes_of x K t m m' b c r same q = record {
   extends = q.extends;
@@ -141,25 +131,6 @@ module _ (p : Program) (fn : ℕ) where
       ends_of p s.turns _ res (Gives v s) _ E gives
       (ends_lead p v s _ _ (Arrives K fn (length c.blocks) (length c.ops) below keep old x before r) E d.1
       record { now = d.0; is = refl; shows = subst (K v) (sym d.2) shows; kept = λ j lt. d.3 j (omega arith) ∙ same j lt; same = loc })
-
--- a result that is made of a value
-pub record GivesOf (K L : Showing) (go : Value → Does Value) (r : ℕ) (from : Regs → Held → Type 0) : Type 1 where
-  pub each : (v : Value) (s : State) (regs : Regs) → K v (regs r) → (u : Value) × (held : Held) × (go v s ≡ Gives u s) × from regs held × L u held
-
-pub then_makes : (x : Setting) (K L : Showing) (t u : RType) (m : Meaning Value) (go : Value → Does Value) (from : Regs → Held → Type 0) (b0 b1 b2 : Building) (q r : ℕ) → HasRoom x b0 → Computes x K t m b0 b1 q → Makes b1 b2 r u from → GivesOf K L go q from → Computes x L u (λ n s. on_to (m n s) go) b0 b2 r
-then_makes x K L t u m go from b0 b1 b2 q r room c made gives =
-    let k1 = c.extends.blocks_grow in
-    let l1 = c.extends.regs_grow in
-    record {
-      extends = extends_trans b0 b1 b2 c.extends made.extends;
-      type = made.type;
-      runs = λ p fn h at n calls regs below s match le.
-          let p1 = placed_part p fn b0 b0 b1 b2 h (le_refl _) made.extends at in
-          computes_then p fn h below x n calls K t m b0 b1 q regs s go _ (length b0.regs) regs c p1 room (le_refl _) (λ j i z o. refl) match le
-          (λ now v s1 le1 shows kept loc match1.
-          let g = gives.each v s1 now shows in
-          makes_arrives p fn L from b1 b2 r u below (length b0.regs) regs now x s s1 g.0 g.1 (go v s1) _ made at.has l1 kept loc g.2 g.3 g.4);
-    }
 
 -- code that makes a value, where nothing comes before it
 pub made_computes : (x : Setting) (L : Showing) (u : RType) (m : Meaning Value) (from : Regs → Held → Type 0) (b c : Building) (r : ℕ) → Makes b c r u from → ((n : ℕ) (s : State) (regs : Regs) → (z : Value) × (held : Held) × (m n s ≡ Gives z s) × from regs held × L z held) → Computes x L u m b c r

@@ -1,8 +1,6 @@
 -- Code that computes a value into a register.
-use Rattle.std.specs.Prelude.{◌≡◌, ℕ, ◌<◌, ◌≤◌, Bool, true, ℤ, pos, if◌then◌else◌, List, [], ◌∷◌, length, Option, Some, None}
-use Rattle.value_core.specs.Arithmetic.{lies_within}
-use Rattle.value_core.specs.Value.{Value, IntVal, BoolVal}
-use Rattle.py_typed.specs.Sorts as sort
+use Rattle.std.specs.Prelude.{◌≡◌, ℕ, ◌<◌, ◌≤◌, List, [], ◌∷◌, length, Option, Some, None}
+use Rattle.value_core.specs.Value.{Value}
 use Rattle.py_typed.specs.Sorts.{Sort}
 use Rattle.py_typed.specs.State.{State, Outcome, Does}
 use Rattle.ir_core.specs.declared.code.Program.{Program}
@@ -24,17 +22,6 @@ Showing = Value → Held → Type 0
 -- by the value itself, of a type
 abbrev pub Shows : Sort → Showing
 Shows t v h = (h ≡ Holds v) × HasKind t v
-
--- a value of a type is this number: a native integer, a literal that fits in one, or a bool as 0 or 1
-abbrev pub Counts : Sort → Value → ℤ → Type 0
-Counts sort.I64 v a = (v ≡ IntVal a) × (lies_within 63 a ≡ true)
-Counts sort.Int v a = (v ≡ IntVal a) × (lies_within 63 a ≡ true)
-Counts sort.Bool v a = (b : Bool) × (v ≡ BoolVal b) × (a ≡ (if b then pos 1 else pos 0))
-Counts _ v a = ⊥
-
--- by that number
-abbrev pub ShowsNumber : Sort → Showing
-ShowsNumber t v h = (a : ℤ) × (h ≡ Holds (IntVal a)) × Counts t v a
 
 -- a meaning, by the bound of the calls and turns
 abbrev pub Meaning : Type 0 → Type 0

@@ -61,9 +61,9 @@ abbrev pub Keeps : Sort → Held → Held → Option Value → Type 0
 Keeps t h flag None = flag ≡ Unset
 Keeps t h flag (Some v) = (h ≡ Holds v) × (flag ≡ Holds (BoolVal true)) × HasKind t v
 
--- the register of a variable's flag; those of the variables that are no parameters stand behind the register for texts
+-- the register of a variable's flag; those of the variables that are no parameters stand behind the variables' own registers
 abbrev pub flag_of : Vars → ℕ → ℕ
-flag_of f j = f.text + 1 + (j - f.params)
+flag_of f j = f.count + (j - f.params)
 
 -- the flag of a variable; a parameter is always set
 abbrev pub flag_in : Vars → Regs → ℕ → Held
@@ -87,12 +87,10 @@ BackBelow (Some r) top n = (top ≤ r.0) × (r.0 < n)
 -- the builder has the registers of a frame
 pub record HasRoom (x : Setting) (b : Building) : Type 0 where
   pub count : x.frame.locals.count ≡ length x.variables
-  pub text : x.frame.locals.count ≤ x.frame.locals.text
-  pub flags : x.frame.locals.text + 1 + (x.frame.locals.count - x.frame.locals.params) ≤ x.frame.locals.top
+  pub flags : x.frame.locals.count + (x.frame.locals.count - x.frame.locals.params) ≤ x.frame.locals.top
   pub top : x.frame.locals.top ≤ length b.regs
   pub declared : (j : ℕ) (v : Variable) → slice_get x.variables j ≡ Some v → HasType b j (rtype_of v.1)
   pub flagged : (j : ℕ) → x.frame.locals.params ≤ j → j < x.frame.locals.count → HasType b (flag_of x.frame.locals j) rtype.Bool
-  pub printed : HasType b x.frame.locals.text rtype.Ref
   pub back : BackBelow x.frame.ret x.frame.locals.top (length b.regs)
 
 -- ---- what stays

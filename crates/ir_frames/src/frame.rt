@@ -5,14 +5,12 @@ ghost use Rattle.ir_frames.specs.Matching.{flag_of};
 use ir_core::Reg;
 
 /// The variables of a function. The first `params` of them are its parameters, there are `count`, and each has the register
-/// of its number. Behind them is the register that printed texts are made in, `text`. Each variable that is no parameter has
-/// a flag besides, in the registers behind `text`, which holds the error value until the variable is set. `top` is the first
-/// register that is none of these.
+/// of its number. Behind them each variable that is no parameter has a flag besides, in the registers from `count` on, which
+/// holds the error value until the variable is set. `top` is the first register that is none of these.
 #[derive(Clone, Copy, Debug)]
 pub struct Vars {
     pub params: usize,
     pub count: usize,
-    pub text: usize,
     pub top: usize,
 }
 
@@ -23,7 +21,7 @@ impl Vars {
         requires few { flag_of self variable < 2 ^ 64 }
         ensures { result.0 ≡ flag_of self variable }
     {
-        Reg(self.text + 1 + (variable - self.params))
+        Reg(self.count + (variable - self.params))
     }
 }
 

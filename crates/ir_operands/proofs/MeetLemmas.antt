@@ -6,7 +6,7 @@ use Rattle.py_syntax.specs.declared.expression.CmpOp.TheVariants as cmp
 use Rattle.py_typed.specs.Sorts as sort
 use Rattle.py_typed.specs.Sorts.{Sort}
 use Rattle.py_typed.specs.State.{State, Does, Gives, on_to, needs, give}
-use Rattle.py_typed.specs.Operations.{coerced, are_alike, compared_as, holds, truth_of}
+use Rattle.py_typed.specs.Operations.{coerced, are_alike, compared_as, holds}
 use Rattle.ir_core.specs.declared.code.RType.{RType}
 use Rattle.ir_core.specs.declared.code.RType.TheVariants as rtype
 use Rattle.ir_core.specs.Registers.{Holds}
@@ -14,33 +14,20 @@ use Rattle.ir_core.specs.Building.{Building}
 use Rattle.ir_frames.specs.Settings.{rtype_of}
 use Rattle.ir_frames.specs.Placing.{HasType}
 use Rattle.ir_frames.specs.Matching.{HasKind, IsThrown}
-use Rattle.ir_frames.specs.Computing.{Shows, Makes, Attempts, OfOne, OfTwo}
+use Rattle.ir_frames.specs.Computing.{Shows, Makes, Attempts, OfTwo}
 use Rattle.ir_frames.proofs.ComingLemmas.{on_assoc}
 use Rattle.ir_frames.proofs.MatchLemmas.{same_refl, makes_arrives}
 use Rattle.ir_operands.specs.declared.comparisons.Compared.TheVariants.{Ints, Natives, Texts}
 use Rattle.ir_operands.specs.Comparing.{ordered}
-use Rattle.ir_operators.specs.Operating.{is_numeric, is_whole, is_written, ActsOn, ActsOnTwo}
-use Rattle.ir_operands.specs.Comparing.{is_ordering, as_whole, as_value, Tells, TellsOfTwo}
+use Rattle.ir_operators.specs.Operating.{is_numeric, is_whole, ActsOn, ActsOnTwo}
+use Rattle.ir_operands.specs.Comparing.{is_ordering, as_whole, as_value, TellsOfTwo}
 use Rattle.ir_operators.proofs.KindLemmas.{by_int, by_i64, by_bool}
-use Rattle.ir_operands.proofs.OrderLemmas.{holds_is, truth_exists}
+use Rattle.ir_operands.proofs.OrderLemmas.{holds_is}
 use Rattle.ir_operators.proofs.ThenLemmas.{attempts_as, both_coerced}
 
 -- ---- a truth that was found, as a value
 
--- in a value, where the source always finds one
-pub tells_attempt : (t : Sort) (go : Value → Does Bool) (b c : Building) (r x : ℕ) → ((v : Value) → HasKind t v → (h : Bool) × ((s : State) → go v s ≡ Gives h s)) → Makes b c r rtype.Bool (OfOne x (Tells t go)) → Attempts (Shows sort.Bool) b c r rtype.Bool (ActsOn t x (λ v. as_value (go v)))
-tells_attempt t go b c r x total m = record {
-  extends = m.extends;
-  type = m.type;
-  runs = λ p fn h placed z room regs below s match res f.
-      let k = total f.v f.shows.1 in
-      makes_arrives p fn (Shows sort.Bool) (OfOne x (Tells t go)) b c r rtype.Bool below (length b.regs) regs regs z s s (BoolVal k.0) (Holds (BoolVal k.0)) res (IsThrown fn h below z (length b.regs) regs) m placed.has (le_refl _) (λ j lt. refl) (same_refl z regs s match)
-      (f.does ∙ ap (λ o. on_to o (λ (q : Bool). give (BoolVal q))) (k.1 s))
-      record { v = f.v; is = f.shows.0; result = BoolVal k.0; fits = record { kind = f.shows.1; truth = k.0; gives = k.1; is = refl }; gives = refl }
-      (refl, (k.0, refl));
-}
-
--- and in two
+-- in two values, where the source always finds one
 pub two_tell_attempt : (t : Sort) (go : Value → Value → Does Bool) (b c : Building) (r x y : ℕ) → ((v w : Value) → HasKind t v → HasKind t w → (h : Bool) × ((s : State) → go v w s ≡ Gives h s)) → Makes b c r rtype.Bool (OfTwo x y (TellsOfTwo t go)) → Attempts (Shows sort.Bool) b c r rtype.Bool (ActsOnTwo t t x y (λ v w. as_value (go v w)))
 two_tell_attempt t go b c r x y total m = record {
   extends = m.extends;
@@ -151,7 +138,3 @@ mixed_comparison s s' t op b0 b1 b2 b3 q w r x y type_y o e e' whole is there m 
 -- two texts
 pub text_comparison_attempt : (op : CmpOp) (b c : Building) (r x y : ℕ) → is_ordering op ≡ true → Makes b c r rtype.Bool (OfTwo x y (TellsOfTwo sort.Str (holds op sort.Str sort.Str))) → Attempts (Shows sort.Bool) b c r rtype.Bool (ActsOnTwo sort.Str sort.Str x y (λ v w. as_value (holds op sort.Str sort.Str v w)))
 text_comparison_attempt op b c r x y o m = two_tell_attempt sort.Str (holds op sort.Str sort.Str) b c r x y (λ v w k l. (ordered op v w, λ s. holds_is Texts op v w s o k l)) m
-
--- a truth
-pub truth_attempt : (t : Sort) (b c : Building) (r x : ℕ) → is_written t ≡ true → Makes b c r rtype.Bool (OfOne x (Tells t truth_of)) → Attempts (Shows sort.Bool) b c r rtype.Bool (ActsOn t x (λ v. as_value (truth_of v)))
-truth_attempt t b c r x w m = tells_attempt t truth_of b c r x (λ v k. truth_exists t v w k) m

@@ -92,8 +92,8 @@ fn emit_ordering(
     }
 }
 
-// The other truth.
-fn emit_inversion(b: &mut Emitter, alloc: Global, x: Reg, line: usize) -> Result<Reg, Memory>
+/// The other truth (Python Language Reference, "Boolean operations"). Nothing is raised.
+pub fn emit_inversion(b: &mut Emitter, alloc: Global, x: Reg, line: usize) -> Result<Reg, Memory>
     requires { HasType b.old x.0 RType.Bool }
     ensures kept { Extends b.old b.new }
     ensures made { IfOk result (λ r. Makes b.old b.new r.0 RType.Bool (OfOne x.0 Inverts)) }

@@ -9,7 +9,7 @@ mod comparisons;
 mod operands;
 
 pub use comparisons::{
-    emit_int_comparison, emit_int_truth, emit_native_comparison, emit_native_truth,
+    emit_int_comparison, emit_int_truth, emit_inversion, emit_native_comparison, emit_native_truth,
     emit_text_comparison, emit_text_truth, emit_truth,
 };
 pub use operands::{emit_arithmetic, emit_negation, emit_number_comparison};

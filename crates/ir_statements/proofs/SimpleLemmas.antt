@@ -84,7 +84,6 @@ moved x k r v0 b0 b1 room var t q p fn has regs below w v is =
 set_matches : (x : Setting) (k : ℕ) (v0 : Variable) (b : Building) (regs now : Regs) (s : State) (v : Value) → HasRoom x b → slice_get x.variables k ≡ Some v0 → Matches x regs s → HasKind v0.1 v → now k ≡ Holds v → flag_in x.frame.locals now k ≡ Holds (BoolVal true) → ((j : ℕ) → j ≢ k → (x.frame.locals.params ≤ k → j ≢ flag_of x.frame.locals k) → now j ≡ regs j) → Matches x now (with_value (LocalTarget k) v s)
 set_matches x k v0 b regs now s v room var match kind held flag others =
     let count = room.count in
-    let text = room.text in
     let low : k < length x.variables = get_below x.variables k v0 var in
     let old = match.each k v0 var in
     let there : k < length s.locals = get_below s.locals k old.0 old.1 in
@@ -113,7 +112,6 @@ param_set x k r v0 b0 b1 room var param t q = record {
   does = λ p fn has named regs below s v match is kind.
       let now : Regs = put regs k (Holds v) in
       let count = room.count in
-      let text = room.text in
       let flags = room.flags in
       let low : k < length x.variables = get_below x.variables k v0 var in
       let flag : flag_in x.frame.locals now k ≡ Holds (BoolVal true) = (let e : nat_lt k x.frame.locals.params ≡ true = grind (arith, nat_tests) in ap (λ b. if b then Holds (BoolVal true) else now (flag_of x.frame.locals k)) e) in
@@ -132,7 +130,6 @@ other_set x k r v0 b0 b1 b2 room var other t q q' = record {
       let mid : Regs = put regs k (Holds v) in
       let now : Regs = put mid at set in
       let count = room.count in
-      let text = room.text in
       let flags = room.flags in
       let low : k < length x.variables = get_below x.variables k v0 var in
       let has1 = has_less p fn b1 b2 q'.extends has in

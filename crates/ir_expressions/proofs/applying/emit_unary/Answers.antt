@@ -13,7 +13,7 @@ pub returns-in-Inverted-clause-made : goal.returns-in-Inverted-clause-made
 returns-in-Inverted-clause-made c = ok_map _ _ _ (λ (r : Reg) a. applies_inverted c.args.op (sort c.args.t.now) c.args.e.now _ _ r.0 _ c.in-Inverted.is c.requires.fits a) c.emit_inversion.ensures.made
 
 pub returns-in-Tested-clause-made : goal.returns-in-Tested-clause-made
-returns-in-Tested-clause-made c = ok_map _ _ _ (λ (r : Reg) a. applies_tested c.args.op (sort c.args.t.now) c.args.e.now _ _ r.0 _ c.in-Tested.is c.requires.fits a) c.emit_test.ensures.tests
+returns-in-Tested-clause-made c = ok_map _ _ _ (λ (r : Reg) a. applies_tested c.args.op (sort c.args.t.now) c.args.e.now _ _ r.0 _ c.in-Tested.is c.requires.fits a) c.emit_truth.ensures.found
 
 pub returns-in-Counted-clause-made : goal.returns-in-Counted-clause-made
 returns-in-Counted-clause-made c = ok_map _ _ _ (λ (r : Reg) a. applies_counted c.args.op (sort c.args.t.now) c.args.e.now _ _ r.0 _ c.in-Counted.is c.requires.fits a) c.emit_length.ensures.made

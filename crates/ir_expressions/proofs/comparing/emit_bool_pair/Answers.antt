@@ -4,4 +4,4 @@ use Rattle.ir_expressions.proofs.PairLemmas.{bools_compared}
 use Rattle.ir_expressions.proofs.comparing.emit_bool_pair.Goals as goal
 
 pub returns-clause-made : goal.returns-clause-made
-returns-clause-made c = ok_map _ _ _ (λ (r : Reg) a. bools_compared c.args.op _ _ _ _ _ _ _ _ r.0 c.requires.ordering c.requires.left c.requires.right c.in_ok-first.ensures.made c.in_ok-second.ensures.made a) c.emit_comparison.ensures.made
+returns-clause-made c = ok_map _ _ _ (λ (r : Reg) a. bools_compared c.args.op _ _ r.0 _ _ a) (rw c.type_of_kind-both.ensures at c.emit_number_comparison.ensures.made)

@@ -426,7 +426,7 @@ emit_and-returns-in_err-meet t c =
     let w4 = then_if m _ _ _ w3 c.in_ok-y.ensures.kept c.in_ok-y.ensures.shaped c.in_ok-y.ensures.kinds in
     let w5 = turned m c.register_type.result _ _ _ _ _ c.in_ok-choice.choice.target c.in_ok-y.y _ _ w4 c.in_ok-choice.ensures.opens c.in_ok-y.ensures.kept (part_type x c.args.right.now (sort c.args.left.now.ty) c.register_type.result _ _ _ c.requires.same c.register_type.ensures c.in_ok-y.ensures.emitted) c.in_ok-end.ensures.kept c.in_ok-end.ensures.shaped c.in_ok-end.ensures.kinds in
     let e = c.in_err-meet.ensures.kept in
-    let w = met m c.register_type.result _ _ _ _ _ c.in_ok-choice.choice.target c.in_ok-x.x c.in_ok-condition.condition _ _ w5 c.in_ok-choice.ensures.opens (extends_trans _ _ _ c.in_ok-y.ensures.kept c.in_ok-end.ensures.kept) (type_kept _ _ _ _ (extends_trans _ _ _ c.in_ok-condition.ensures.kept (extends_trans _ _ _ c.in_ok-choice.ensures.kept (extends_trans _ _ _ c.in_ok-y.ensures.kept c.in_ok-end.ensures.kept))) (part_type x c.args.left.now (sort c.args.left.now.ty) c.register_type.result _ _ _ refl c.register_type.ensures c.in_ok-x.ensures.emitted)) (type_kept _ _ _ _ (extends_trans _ _ _ c.in_ok-choice.ensures.kept (extends_trans _ _ _ c.in_ok-y.ensures.kept c.in_ok-end.ensures.kept)) c.in_ok-condition.ensures.tests.type) (extends_trans _ _ _ w5.kept e) e.blocks_grow c.meet.ensures.shaped c.meet.ensures.kinds in
+    let w = met m c.register_type.result _ _ _ _ _ c.in_ok-choice.choice.target c.in_ok-x.x c.in_ok-condition.condition _ _ w5 c.in_ok-choice.ensures.opens (extends_trans _ _ _ c.in_ok-y.ensures.kept c.in_ok-end.ensures.kept) (type_kept _ _ _ _ (extends_trans _ _ _ c.in_ok-condition.ensures.kept (extends_trans _ _ _ c.in_ok-choice.ensures.kept (extends_trans _ _ _ c.in_ok-y.ensures.kept c.in_ok-end.ensures.kept))) (part_type x c.args.left.now (sort c.args.left.now.ty) c.register_type.result _ _ _ refl c.register_type.ensures c.in_ok-x.ensures.emitted)) (type_kept _ _ _ _ (extends_trans _ _ _ c.in_ok-choice.ensures.kept (extends_trans _ _ _ c.in_ok-y.ensures.kept c.in_ok-end.ensures.kept)) c.in_ok-condition.ensures.found.type) (extends_trans _ _ _ w5.kept e) e.blocks_grow c.meet.ensures.shaped c.meet.ensures.kinds in
     record { walked = w; emitted = search rules }
 
 pub emit_and-returns : goal.emit_and-returns
@@ -438,8 +438,8 @@ emit_and-returns t c =
     let w3 = then_by m _ _ _ w2 c.in_ok-choice.ensures.kept c.in_ok-choice.ensures.shaped c.in_ok-choice.ensures.kinds in
     let w4 = then_if m _ _ _ w3 c.in_ok-y.ensures.kept c.in_ok-y.ensures.shaped c.in_ok-y.ensures.kinds in
     let w5 = turned m c.register_type.result _ _ _ _ _ c.in_ok-choice.choice.target c.in_ok-y.y _ _ w4 c.in_ok-choice.ensures.opens c.in_ok-y.ensures.kept (part_type x c.args.right.now (sort c.args.left.now.ty) c.register_type.result _ _ _ c.requires.same c.register_type.ensures c.in_ok-y.ensures.emitted) c.in_ok-end.ensures.kept c.in_ok-end.ensures.shaped c.in_ok-end.ensures.kinds in
-    let all : Emits x (typed (And (typed_expr c.args.left.now) (typed_expr c.args.right.now)) (sort c.args.left.now.ty) c.args.left.now.span) c.args.b.now c.meet.new.b c.in_ok-choice.choice.target.0 = and_made x c.args.left.now c.args.right.now c.requires.same _ _ _ _ _ _ _ _ _ _ _ _ _ _ _ _ c.register_type.ensures c.requires.room c.in_ok-x.ensures.emitted c.in_ok-condition.ensures.tests c.in_ok-choice.ensures.opens c.in_ok-y.ensures.emitted c.in_ok-end.ensures.brings c.here-second.ensures c.in_ok-meet.ensures.meets in
-    let w = met m c.register_type.result _ _ _ _ _ c.in_ok-choice.choice.target c.in_ok-x.x c.in_ok-condition.condition _ _ w5 c.in_ok-choice.ensures.opens (extends_trans _ _ _ c.in_ok-y.ensures.kept c.in_ok-end.ensures.kept) (type_kept _ _ _ _ (extends_trans _ _ _ c.in_ok-condition.ensures.kept (extends_trans _ _ _ c.in_ok-choice.ensures.kept (extends_trans _ _ _ c.in_ok-y.ensures.kept c.in_ok-end.ensures.kept))) (part_type x c.args.left.now (sort c.args.left.now.ty) c.register_type.result _ _ _ refl c.register_type.ensures c.in_ok-x.ensures.emitted)) (type_kept _ _ _ _ (extends_trans _ _ _ c.in_ok-choice.ensures.kept (extends_trans _ _ _ c.in_ok-y.ensures.kept c.in_ok-end.ensures.kept)) c.in_ok-condition.ensures.tests.type) (all.extends) (meets_grow _ _ _ _ _ _ _ _ _ c.in_ok-meet.ensures.meets) c.meet.ensures.shaped c.meet.ensures.kinds in
+    let all : Emits x (typed (And (typed_expr c.args.left.now) (typed_expr c.args.right.now)) (sort c.args.left.now.ty) c.args.left.now.span) c.args.b.now c.meet.new.b c.in_ok-choice.choice.target.0 = and_made x c.args.left.now c.args.right.now c.requires.same _ _ _ _ _ _ _ _ _ _ _ _ _ _ _ _ c.register_type.ensures c.requires.room c.in_ok-x.ensures.emitted c.in_ok-condition.ensures.found c.in_ok-choice.ensures.opens c.in_ok-y.ensures.emitted c.in_ok-end.ensures.brings c.here-second.ensures c.in_ok-meet.ensures.meets in
+    let w = met m c.register_type.result _ _ _ _ _ c.in_ok-choice.choice.target c.in_ok-x.x c.in_ok-condition.condition _ _ w5 c.in_ok-choice.ensures.opens (extends_trans _ _ _ c.in_ok-y.ensures.kept c.in_ok-end.ensures.kept) (type_kept _ _ _ _ (extends_trans _ _ _ c.in_ok-condition.ensures.kept (extends_trans _ _ _ c.in_ok-choice.ensures.kept (extends_trans _ _ _ c.in_ok-y.ensures.kept c.in_ok-end.ensures.kept))) (part_type x c.args.left.now (sort c.args.left.now.ty) c.register_type.result _ _ _ refl c.register_type.ensures c.in_ok-x.ensures.emitted)) (type_kept _ _ _ _ (extends_trans _ _ _ c.in_ok-choice.ensures.kept (extends_trans _ _ _ c.in_ok-y.ensures.kept c.in_ok-end.ensures.kept)) c.in_ok-condition.ensures.found.type) (all.extends) (meets_grow _ _ _ _ _ _ _ _ _ c.in_ok-meet.ensures.meets) c.meet.ensures.shaped c.meet.ensures.kinds in
     record { walked = w; emitted = all }
 
 pub emit_or-emit_expression-requires : goal.emit_or-emit_expression-requires
@@ -507,7 +507,7 @@ emit_or-returns-in_err-meet t c =
     let w4 = turned m c.register_type.result _ _ _ _ _ c.in_ok-choice.choice.target c.in_ok-x.x _ _ w3 c.in_ok-choice.ensures.opens (extends_refl _) (type_kept _ _ _ _ (extends_trans _ _ _ c.in_ok-condition.ensures.kept c.in_ok-choice.ensures.kept) (part_type x c.args.left.now (sort c.args.left.now.ty) c.register_type.result _ _ _ refl c.register_type.ensures c.in_ok-x.ensures.emitted)) c.in_ok-end.ensures.kept c.in_ok-end.ensures.shaped c.in_ok-end.ensures.kinds in
     let w5 = then_if m _ _ _ w4 c.in_ok-y.ensures.kept c.in_ok-y.ensures.shaped c.in_ok-y.ensures.kinds in
     let e = c.in_err-meet.ensures.kept in
-    let w = met m c.register_type.result _ _ _ _ _ c.in_ok-choice.choice.target c.in_ok-y.y c.in_ok-condition.condition _ _ w5 c.in_ok-choice.ensures.opens (extends_trans _ _ _ c.in_ok-end.ensures.kept c.in_ok-y.ensures.kept) (part_type x c.args.right.now (sort c.args.left.now.ty) c.register_type.result _ _ _ c.requires.same c.register_type.ensures c.in_ok-y.ensures.emitted) (type_kept _ _ _ _ (extends_trans _ _ _ c.in_ok-choice.ensures.kept (extends_trans _ _ _ c.in_ok-end.ensures.kept c.in_ok-y.ensures.kept)) c.in_ok-condition.ensures.tests.type) (extends_trans _ _ _ w5.kept e) e.blocks_grow c.meet.ensures.shaped c.meet.ensures.kinds in
+    let w = met m c.register_type.result _ _ _ _ _ c.in_ok-choice.choice.target c.in_ok-y.y c.in_ok-condition.condition _ _ w5 c.in_ok-choice.ensures.opens (extends_trans _ _ _ c.in_ok-end.ensures.kept c.in_ok-y.ensures.kept) (part_type x c.args.right.now (sort c.args.left.now.ty) c.register_type.result _ _ _ c.requires.same c.register_type.ensures c.in_ok-y.ensures.emitted) (type_kept _ _ _ _ (extends_trans _ _ _ c.in_ok-choice.ensures.kept (extends_trans _ _ _ c.in_ok-end.ensures.kept c.in_ok-y.ensures.kept)) c.in_ok-condition.ensures.found.type) (extends_trans _ _ _ w5.kept e) e.blocks_grow c.meet.ensures.shaped c.meet.ensures.kinds in
     record { walked = w; emitted = search rules }
 
 pub emit_or-returns : goal.emit_or-returns
@@ -519,8 +519,8 @@ emit_or-returns t c =
     let w3 = then_by m _ _ _ w2 c.in_ok-choice.ensures.kept c.in_ok-choice.ensures.shaped c.in_ok-choice.ensures.kinds in
     let w4 = turned m c.register_type.result _ _ _ _ _ c.in_ok-choice.choice.target c.in_ok-x.x _ _ w3 c.in_ok-choice.ensures.opens (extends_refl _) (type_kept _ _ _ _ (extends_trans _ _ _ c.in_ok-condition.ensures.kept c.in_ok-choice.ensures.kept) (part_type x c.args.left.now (sort c.args.left.now.ty) c.register_type.result _ _ _ refl c.register_type.ensures c.in_ok-x.ensures.emitted)) c.in_ok-end.ensures.kept c.in_ok-end.ensures.shaped c.in_ok-end.ensures.kinds in
     let w5 = then_if m _ _ _ w4 c.in_ok-y.ensures.kept c.in_ok-y.ensures.shaped c.in_ok-y.ensures.kinds in
-    let all : Emits x (typed (Or (typed_expr c.args.left.now) (typed_expr c.args.right.now)) (sort c.args.left.now.ty) c.args.left.now.span) c.args.b.now c.meet.new.b c.in_ok-choice.choice.target.0 = or_made x c.args.left.now c.args.right.now c.requires.same _ _ _ _ _ _ _ _ _ _ _ _ _ _ _ _ c.register_type.ensures c.requires.room c.in_ok-x.ensures.emitted c.in_ok-condition.ensures.tests c.in_ok-choice.ensures.opens c.in_ok-end.ensures.brings c.here-second.ensures c.in_ok-y.ensures.emitted c.in_ok-meet.ensures.meets in
-    let w = met m c.register_type.result _ _ _ _ _ c.in_ok-choice.choice.target c.in_ok-y.y c.in_ok-condition.condition _ _ w5 c.in_ok-choice.ensures.opens (extends_trans _ _ _ c.in_ok-end.ensures.kept c.in_ok-y.ensures.kept) (part_type x c.args.right.now (sort c.args.left.now.ty) c.register_type.result _ _ _ c.requires.same c.register_type.ensures c.in_ok-y.ensures.emitted) (type_kept _ _ _ _ (extends_trans _ _ _ c.in_ok-choice.ensures.kept (extends_trans _ _ _ c.in_ok-end.ensures.kept c.in_ok-y.ensures.kept)) c.in_ok-condition.ensures.tests.type) (all.extends) (meets_grow _ _ _ _ _ _ _ _ _ c.in_ok-meet.ensures.meets) c.meet.ensures.shaped c.meet.ensures.kinds in
+    let all : Emits x (typed (Or (typed_expr c.args.left.now) (typed_expr c.args.right.now)) (sort c.args.left.now.ty) c.args.left.now.span) c.args.b.now c.meet.new.b c.in_ok-choice.choice.target.0 = or_made x c.args.left.now c.args.right.now c.requires.same _ _ _ _ _ _ _ _ _ _ _ _ _ _ _ _ c.register_type.ensures c.requires.room c.in_ok-x.ensures.emitted c.in_ok-condition.ensures.found c.in_ok-choice.ensures.opens c.in_ok-end.ensures.brings c.here-second.ensures c.in_ok-y.ensures.emitted c.in_ok-meet.ensures.meets in
+    let w = met m c.register_type.result _ _ _ _ _ c.in_ok-choice.choice.target c.in_ok-y.y c.in_ok-condition.condition _ _ w5 c.in_ok-choice.ensures.opens (extends_trans _ _ _ c.in_ok-end.ensures.kept c.in_ok-y.ensures.kept) (part_type x c.args.right.now (sort c.args.left.now.ty) c.register_type.result _ _ _ c.requires.same c.register_type.ensures c.in_ok-y.ensures.emitted) (type_kept _ _ _ _ (extends_trans _ _ _ c.in_ok-choice.ensures.kept (extends_trans _ _ _ c.in_ok-end.ensures.kept c.in_ok-y.ensures.kept)) c.in_ok-condition.ensures.found.type) (all.extends) (meets_grow _ _ _ _ _ _ _ _ _ c.in_ok-meet.ensures.meets) c.meet.ensures.shaped c.meet.ensures.kinds in
     record { walked = w; emitted = all }
 
 pub emit_choice-emit_expression-requires : goal.emit_choice-emit_expression-requires

@@ -1,7 +1,0 @@
-use Rattle.ir_core.specs.declared.code.Reg.{Reg}
-use Rattle.ir_frames.proofs.HeldLemmas.{ok_map}
-use Rattle.ir_expressions.proofs.OperationLemmas.{number_makes}
-use Rattle.ir_expressions.proofs.operations.emit_number.Goals as goal
-
-pub returns-clause-made : goal.returns-clause-made
-returns-clause-made c = ok_map _ _ _ (λ (r : Reg) a. number_makes _ _ r.0 _ c.requires a) c.emit_one.ensures.added
