@@ -6,8 +6,11 @@ use Rattle.value_core.specs.Value.{Value}
 use Rattle.py_syntax.specs.declared.token.Span.{Span}
 use Rattle.py_syntax.specs.declared.expression.BinOp.{BinOp}
 use Rattle.py_typed.specs.declared.statement.Target.{Target}
+use Rattle.py_typed.specs.declared.types.Ty.{Ty, fold-roll-Ty}
+use Rattle.py_typed.specs.declared.types.Ty.TheVariants as declared
+use Rattle.py_typed.specs.declared.types.Ty.TheOpen.{Ty-F}
 use Rattle.py_typed.specs.Sorts as sort
-use Rattle.py_typed.specs.Sorts.{Sort}
+use Rattle.py_typed.specs.Sorts.{Sort, sort_step, sort as sort_of}
 use Rattle.py_typed.specs.Classes.{ClassEntry}
 use Rattle.py_typed.specs.Fits.{fits}
 use Rattle.py_typed.specs.Expressions.{TypedExpr, type_of}
@@ -24,23 +27,26 @@ use Rattle.ir_core.specs.Building.{Building, Extends}
 use Rattle.ir_frames.specs.Settings.{Setting, rtype_of}
 use Rattle.ir_frames.specs.Placing.{HasType}
 use Rattle.ir_frames.specs.Matching.{HasKind, Matches, HasRoom}
-use Rattle.ir_frames.specs.Computing.{Shows}
+use Rattle.ir_frames.specs.Computing.{Shows, Meaning, Computes, Attempts}
 use Rattle.ir_frames.proofs.GlobalLemmas.{set_gives}
 use Rattle.ir_frames.proofs.MatchLemmas.{room_on, computes_of}
-use Rattle.ir_operators.specs.Operating.{is_whole}
+use Rattle.ir_operators.specs.Operating.{is_numeric, is_whole, ActsOn}
+use Rattle.ir_operators.proofs.PartLemmas.{stays}
+use Rattle.ir_expressions.specs.declared.applying.Binary.{Binary}
 use Rattle.ir_expressions.specs.declared.applying.Binary.TheVariants.{Arithmetic}
 use Rattle.ir_expressions.specs.Parts.{is_simple}
 use Rattle.ir_expressions.specs.Applying.{binary_goes, BinarySuits}
 use Rattle.ir_expressions.specs.Suiting.{Suits}
 use Rattle.ir_expressions.specs.Emitting.{Emits, EmitsTwo}
 use Rattle.ir_expressions.proofs.ValueLemmas.{number_coerced}
+use Rattle.ir_expressions.proofs.FollowLemmas.{part_attempts}
 use Rattle.ir_statements.specs.Means.{means, means_assignment, means_update}
 use Rattle.ir_statements.specs.Runs.{Works}
 use Rattle.ir_statements.specs.Simple.{with_value}
 use Rattle.ir_statements.proofs.SimpleLemmas.{get_below, set_works}
 use Rattle.ir_statements.proofs.EmitLemmas.{works_of}
-use Rattle.ir_bodies.specs.Suiting.{IsVariable, IsOnly, UpdateSuits}
-use Rattle.ir_bodies.specs.Parts.{TakesRegister, SetsVariable, reading_of, update_binary}
+use Rattle.ir_bodies.specs.Suiting.{IsVariable, IsOnly, UpdateSuits, VariableUpdates}
+use Rattle.ir_bodies.specs.Parts.{TakesRegister, SetsVariable, reading_of, update_binary, TurnsInto, ComputesAs}
 
 -- ---- what assignment means
 
@@ -132,23 +138,23 @@ assignment_takes x targets target e b0 b1 r scalar is only room cx =
 
 -- ---- updates
 
-last_two : (r : Outcome Value) (c : Value → Does Value) (g : Value → Does (Unit {0})) (h : Unit {0} → Does Flow) → on_to (on_to (on_to r c) g) h ≡ on_to r (λ v s. on_to (on_to (c v s) g) h)
-last_two (Gives v s) c g h = refl
-last_two (Raises v s) c g h = refl
-last_two (Stops w s) c g h = refl
+from_operand : (m : Outcome Value) (a : Value → Does Value) (c : Value → Does Value) (g : Value → Does (Unit {0})) (h : Unit {0} → Does Flow) → on_to (on_to (on_to m (λ y s. on_to (a y s) c)) g) h ≡ on_to (on_to (on_to m a) c) (λ v s. on_to (g v s) h)
+from_operand (Gives y s) a c g h = from_result (on_to (a y s) c) g h
+  where
+    from_result : (r : Outcome Value) (g : Value → Does (Unit {0})) (h : Unit {0} → Does Flow) → on_to (on_to r g) h ≡ on_to r (λ v s. on_to (g v s) h)
+    from_result (Gives v s) g h = refl
+    from_result (Raises v s) g h = refl
+    from_result (Stops w s) g h = refl
+from_operand (Raises v s) a c g h = refl
+from_operand (Stops w s) a c g h = refl
 
-behind_operand : (m : Outcome Value) (a : Value → Does Value) (c : Value → Does Value) (g : Value → Does (Unit {0})) (h : Unit {0} → Does Flow) → on_to (on_to (on_to m (λ y s. on_to (a y s) c)) g) h ≡ on_to (on_to m a) (λ v s. on_to (on_to (c v s) g) h)
-behind_operand (Gives y s) a c g h = last_two (a y s) c g h
-behind_operand (Raises v s) a c g h = refl
-behind_operand (Stops w s) a c g h = refl
-
-behind_read : (r : Outcome Value) (m : Does Value) (a : Value → Value → Does Value) (c : Value → Does Value) (g : Value → Does (Unit {0})) (h : Unit {0} → Does Flow) → on_to (on_to (on_to r (λ u s. on_to (m s) (λ y z. on_to (a u y z) c))) g) h ≡ on_to (on_to r (λ u s. on_to (m s) (a u))) (λ v s. on_to (on_to (c v s) g) h)
-behind_read (Gives u s) m a c g h = behind_operand (m s) (a u) c g h
-behind_read (Raises v s) m a c g h = refl
-behind_read (Stops w s) m a c g h = refl
+from_read : (r : Outcome Value) (m : Does Value) (a : Value → Value → Does Value) (c : Value → Does Value) (g : Value → Does (Unit {0})) (h : Unit {0} → Does Flow) → on_to (on_to (on_to r (λ u s. on_to (m s) (λ y z. on_to (a u y z) c))) g) h ≡ on_to (on_to (on_to r (λ u s. on_to (m s) (a u))) c) (λ v s. on_to (g v s) h)
+from_read (Gives u s) m a c g h = from_operand (m s) (a u) c g h
+from_read (Raises v s) m a c g h = refl
+from_read (Stops w s) m a c g h = refl
 
 -- what an update of a variable means, where it is read as an expression
-abbrev Reads : Setting → TypedTarget → TypedExpr → Type 0
+abbrev pub Reads : Setting → TypedTarget → TypedExpr → Type 0
 Reads x target before =
     (n : ℕ) (f : Value → Does Value) (s : State) → update x.source.classes.classes (call_of x.source n) x.source.globals x.variables target f s ≡ on_to (on_to (means x before n s) f) (assign x.source.classes.classes (call_of x.source n) x.source.globals x.variables target)
 
@@ -158,38 +164,77 @@ reads_so x (GlobalTarget i) t place v n f s = refl
 reads_so x (AttrTarget a name) t place v n f s = absurd v
 reads_so x (ItemTarget a i) t place v n f s = absurd v
 
+whole_simple : (t : Sort) → is_whole t ≡ true → is_simple t ≡ true
+whole_simple sort.Int k = refl
+whole_simple sort.I64 k = refl
+whole_simple _ k = absurd (cc)
+
+whole_numeric : (t : Sort) → is_whole t ≡ true → is_numeric t ≡ true
+whole_numeric sort.Int k = refl
+whole_numeric sort.I64 k = refl
+whole_numeric _ k = absurd (cc)
+
+declared_text : (ty : Ty) → ty ≡ declared.Str → sort_of ty ≡ sort.Str
+declared_text ty is = ap sort_of is ∙ ap sort_of (sym declared.rolls-Str) ∙ fold-roll-Ty Sort sort_step Ty-F.Str
+
+-- a text is in its register already
+stays_text : (b : Building) (r : ℕ) (t u : Sort) → u ≡ sort.Str → TurnsInto t u → HasType b r (rtype_of t) → Attempts (Shows u) b b r (rtype_of u) (ActsOn t r (coerced u))
+stays_text b r t u text (inl h) type = absurd (let f : is_whole sort.Str ≡ true = subst (λ z. is_whole z ≡ true) text h.1 in cc)
+stays_text b r t u text (inr h) type =
+    let P : Sort → Type 0 = λ z. Attempts (Shows z) b b r (rtype_of z) (ActsOn t r (coerced z)) in
+    let Q : Sort → Type 0 = λ z. HasType b r (rtype_of z) → Attempts (Shows sort.Str) b b r (rtype_of sort.Str) (ActsOn z r (coerced sort.Str)) in
+    subst P (sym h.1) (subst Q (sym h.0) (λ has. stays sort.Str (coerced sort.Str) b r (rtype_of sort.Str) has (λ v s kind. refl)) type)
+
+pub text_stays : (b : Building) (r : ℕ) (t : Sort) (own : Ty) → own ≡ declared.Str → TurnsInto t (sort_of own) → HasType b r (rtype_of t) → Attempts (Shows (sort_of own)) b b r (rtype_of (sort_of own)) (ActsOn t r (coerced (sort_of own)))
+text_stays b r t own is = stays_text b r t (sort_of own) (declared_text own is)
+
 module _ (m : TypedModule) (vs : List Variable) where
+  -- a variable has one type
+  one_found : (o : Option Variable) (t u : Sort) → (v : Variable) × (o ≡ Some v) × (v.1 ≡ t) → (v : Variable) × (o ≡ Some v) × (v.1 ≡ u) → t ≡ u
+  one_found o t u v w = let e : Some v.0 ≡ Some w.0 = sym v.1 ∙ w.1 in let same : v.0 ≡ w.0 = cc in sym v.2 ∙ ap (λ (z : Variable). z.1) same ∙ w.2
+
+  one_sort : (target : TypedTarget) (t u : Sort) → IsVariable m vs None target t → IsVariable m vs None target u → t ≡ u
+  one_sort (LocalTarget k) t u v w = one_found (slice_get vs k) t u v w
+  one_sort (GlobalTarget i) t u v w = one_found (slice_get m.globals i) t u v w
+  one_sort (AttrTarget e name) t u v w = absurd v
+  one_sort (ItemTarget e i) t u v w = absurd v
+
+  -- so an update suits the type that was found
+  pub own_suits : (target : TypedTarget) (op : BinOp) (own t w : Sort) → IsVariable m vs None target own → VariableUpdates m vs None target op t w → UpdateSuits m vs None op own t w
+  own_suits target op own t w is updates =
+      subst (λ z. UpdateSuits m vs None op z t w) (one_sort target updates.0 own updates.1 is) updates.2
+
   -- the type of what is updated
-  pub updated_simple : (op : BinOp) (t u : Sort) → UpdateSuits m vs None op t u → is_simple t ≡ true
-  updated_simple op t u (inl h) = whole_simple t h.0
-    where
-      whole_simple : (t : Sort) → is_whole t ≡ true → is_simple t ≡ true
-      whole_simple sort.Int k = refl
-      whole_simple sort.I64 k = refl
-      whole_simple _ k = absurd (cc)
-  updated_simple op t u (inr h) = ap is_simple h.1.0
+  pub updated_simple : (op : BinOp) (u t w : Sort) → UpdateSuits m vs None op u t w → is_simple u ≡ true
+  updated_simple op u t w (inl h) = whole_simple u h.0
+  updated_simple op u t w (inr h) = ap is_simple h.1.1
+
+  -- the result becomes one of it
+  pub update_turns : (op : BinOp) (u t w : Sort) → UpdateSuits m vs None op u t w → TurnsInto t u
+  update_turns op u t w (inl h) = inl (whole_numeric t h.1.0, h.0)
+  update_turns op u t w (inr h) = inr (h.1.0, h.1.1)
 
   -- its operation suits
-  pub update_fits : (op : BinOp) (t u : Sort) → UpdateSuits m vs None op t u → BinarySuits (update_binary op t) t t u
-  update_fits op t u (inl h) = by_number t h
+  pub update_fits : (op : BinOp) (u t w : Sort) → UpdateSuits m vs None op u t w → BinarySuits (update_binary op t) t u w
+  update_fits op u t w (inl h) = by_number t h.1
     where
-      by_number : (t : Sort) → BinarySuits (Arithmetic op) t t u → BinarySuits (update_binary op t) t t u
+      by_number : (t : Sort) → BinarySuits (Arithmetic op) t u w → BinarySuits (update_binary op t) t u w
       by_number sort.Int k = k
       by_number sort.I64 k = k
       by_number _ k = absurd (let f = k.0 in cc)
-  update_fits op t u (inr h) = let P : Sort → Type 0 = λ z. BinarySuits (update_binary op z) z z u in subst P (sym h.1.0) (refl, refl, h.1.2)
+  update_fits op u t w (inr h) = let P : Sort → Type 0 = λ z. BinarySuits (update_binary op z) z u w in subst P (sym h.1.0) (refl, h.1.1, h.1.2)
 
   -- and does what the update does with the two values
-  update_goes : (op : BinOp) (t u : Sort) → UpdateSuits m vs None op t u → (v w : Value) → combined t op v w ≡ binary_goes (update_binary op t) t v w
-  update_goes op t u (inl h) v w = by_number t h.0
+  update_goes : (op : BinOp) (u t w : Sort) → UpdateSuits m vs None op u t w → (v y : Value) → combined t op v y ≡ binary_goes (update_binary op t) t v y
+  update_goes op u t w (inl h) v y = by_number t h.1.0
     where
-      by_number : (t : Sort) → is_whole t ≡ true → combined t op v w ≡ binary_goes (update_binary op t) t v w
+      by_number : (t : Sort) → is_whole t ≡ true → combined t op v y ≡ binary_goes (update_binary op t) t v y
       by_number sort.Int k = refl
       by_number sort.I64 k = refl
       by_number _ k = absurd (cc)
-  update_goes op t u (inr h) v w =
-      let P : Sort → Type 0 = λ z. combined z op v w ≡ binary_goes (update_binary op z) z v w in
-      let Q : BinOp → Type 0 = λ z. combined sort.Str z v w ≡ binary_goes (update_binary z sort.Str) sort.Str v w in
+  update_goes op u t w (inr h) v y =
+      let P : Sort → Type 0 = λ z. combined z op v y ≡ binary_goes (update_binary op z) z v y in
+      let Q : BinOp → Type 0 = λ z. combined sort.Str z v y ≡ binary_goes (update_binary z sort.Str) sort.Str v y in
       subst P (sym h.1.0) (subst Q (sym h.0) refl)
 
   -- a variable that is read suits
@@ -199,22 +244,47 @@ module _ (m : TypedModule) (vs : List Variable) where
   reading_suits (AttrTarget a name) t place simple v = absurd v
   reading_suits (ItemTarget a i) t place simple v = absurd v
 
-pub update_code : (x : Setting) (target : TypedTarget) (op : BinOp) (t : Sort) (before e : TypedExpr) (place : Span) (b0 b1 b2 : Building) (r : Reg) → before ≡ reading_of target t place → IsVariable x.source x.variables None target t → UpdateSuits x.source x.variables None op t (type_of e) → HasRoom x b0 → EmitsTwo x (update_binary op t) t before e b0 b1 r.0 → SetsVariable x.source x.frame target r.0 b1 b2 → (gives : Option Sort) → Works x gives (means_update x target op e t) b0 b2 []
-update_code x target op t before e place b0 b1 b2 r is variable suits room made put_in gives =
-    let sets = put_in x.variables t (room_on x b0 b1 made.extends room) variable made.type in
-    let both : ℕ → Does Value = λ n s. on_to (means x before n s) (λ v s1. on_to (means x e n s1) (combined t op v)) in
-    let goes : (v w : Value) → combined t op v w ≡ binary_goes (update_binary op t) t v w = update_goes x.source x.variables op t (type_of e) suits in
-    let c = computes_of x (Shows t) (rtype_of t) _ both b0 b1 r.0 (λ n s i. on_to (means x before n s) (λ v s1. on_to (means x e n s1) (λ w. goes v w i))) made in
-    let go : ℕ → Value → Does Flow = λ n w s. on_to (on_to (coerced (target_type x n target) w s) (putting x n target)) (λ u. give Goes) in
-    let reads : Reads x target before = (let P : TypedExpr → Type 0 = λ z. Reads x target z in subst P (sym is) (reads_so x target t place variable)) in
-    works_of x gives (means_update x target op e t) (λ n s. on_to (both n s) (go n)) b0 b2 []
-    (λ n s.
-    ap (λ o. on_to o (λ u. give Goes)) (reads n (changed (classes x n) (call x n) x.source.globals x.variables target op e t) s)
-    ∙ behind_read (means x before n s) (means x e n) (combined t op) (coerced (target_type x n target)) (putting x n target) (λ u. give Goes))
-    (set_works x gives both t target r.0 go b0 b1 b2 room c sets
-    (λ n w s regs match kind. ap (λ o. on_to o (λ u. give Goes)) (taken x n target t regs s w variable match kind)))
+-- the result of an operation is turned into a value of another type
+pub result_turned : (x : Setting) (op : Binary) (t u : Sort) (a e : TypedExpr) (b0 b1 b2 : Building) (q r : ℕ) → HasRoom x b0 → EmitsTwo x op t a e b0 b1 q → Attempts (Shows u) b1 b2 r (rtype_of u) (ActsOn t q (coerced u)) → ComputesAs x op t u a e b0 b2 r
+result_turned x op t u a e b0 b1 b2 q r room two turned =
+    part_attempts x (Shows t) (Shows u) (rtype_of t) (rtype_of u) _ (coerced u) (ActsOn t q (coerced u)) b0 b1 b2 q r room two turned
+    (λ v s regs k. record { v = v; shows = k; does = refl })
 
--- the register of the result has the variable's type
-pub update_takes : (x : Setting) (target : TypedTarget) (op : BinOp) (t u : Sort) (b0 b1 : Building) (r : ℕ) → IsVariable x.source x.variables None target t → UpdateSuits x.source x.variables None op t u → HasRoom x b0 → Extends b0 b1 → HasType b1 r (rtype_of t) → TakesRegister x.source x.frame target r b1
-update_takes x target op t u b0 b1 r variable suits room more type =
-    (x.variables, t, room_on x b0 b1 more room, variable, updated_simple x.source x.variables op t u suits, type)
+-- a variable of a type is read, the operation is done in a second one, and its result put into the variable
+module _ (x : Setting) (target : TypedTarget) (op : BinOp) (own t : Sort) (before e : TypedExpr) (place : Span) (is : before ≡ reading_of target own place) (variable : IsVariable x.source x.variables None target own) (suits : UpdateSuits x.source x.variables None op own t (type_of e)) where
+  -- the result of the operation
+  abbrev result : Meaning Value
+  result n s = on_to (means x before n s) (λ v s1. on_to (means x e n s1) (combined t op v))
+
+  -- and it in the variable's type
+  abbrev value : Meaning Value
+  value n s = on_to (result n s) (coerced own)
+
+  value_made : (b0 b1 : Building) (r : ℕ) → ComputesAs x (update_binary op t) t own before e b0 b1 r → Computes x (Shows own) (rtype_of own) value b0 b1 r
+  value_made b0 b1 r made =
+      let goes : (v w : Value) → combined t op v w ≡ binary_goes (update_binary op t) t v w = update_goes x.source x.variables op own t (type_of e) suits in
+      computes_of x (Shows own) (rtype_of own) _ value b0 b1 r (λ n s i. on_to (on_to (means x before n s) (λ v s1. on_to (means x e n s1) (λ w. goes v w i))) (coerced own)) made
+
+  reads : Reads x target before
+  reads = let P : TypedExpr → Type 0 = λ z. Reads x target z in subst P (sym is) (reads_so x target own place variable)
+
+  abbrev go : ℕ → Value → Does Flow
+  go n w s = on_to (putting x n target w s) (λ u. give Goes)
+
+  means_so : (n : ℕ) (s : State) → means_update x target op e t n s ≡ on_to (value n s) (go n)
+  means_so n s =
+      ap (λ o. on_to o (λ u. give Goes)) (reads n (changed (classes x n) (call x n) x.source.globals x.variables target op e t) s)
+      ∙ from_read (means x before n s) (means x e n) (combined t op) (coerced (target_type x n target)) (putting x n target) (λ u. give Goes)
+      ∙ ap (λ z. on_to (on_to (result n s) (coerced z)) (go n)) (type_is x n target own variable)
+
+  pub update_code : (b0 b1 b2 : Building) (r : Reg) → HasRoom x b0 → ComputesAs x (update_binary op t) t own before e b0 b1 r.0 → SetsVariable x.source x.frame target r.0 b1 b2 → (gives : Option Sort) → Works x gives (means_update x target op e t) b0 b2 []
+  update_code b0 b1 b2 r room made put_in gives =
+      let sets = put_in x.variables own (room_on x b0 b1 made.extends room) variable made.type in
+      works_of x gives (means_update x target op e t) (λ n s. on_to (value n s) (go n)) b0 b2 [] means_so
+      (set_works x gives value own target r.0 go b0 b1 b2 room (value_made b0 b1 r.0 made) sets
+      (λ n w s regs match kind. ap (λ o. on_to o (λ u. give Goes)) (assigned x n target own regs s w variable match)))
+
+-- the register of the value has the variable's type
+pub update_takes : (x : Setting) (target : TypedTarget) (op : BinOp) (own t w : Sort) (b0 b1 : Building) (r : ℕ) → IsVariable x.source x.variables None target own → UpdateSuits x.source x.variables None op own t w → HasRoom x b0 → Extends b0 b1 → HasType b1 r (rtype_of own) → TakesRegister x.source x.frame target r b1
+update_takes x target op own t w b0 b1 r variable suits room more type =
+    (x.variables, own, room_on x b0 b1 more room, variable, updated_simple x.source x.variables op own t w suits, type)

@@ -1,5 +1,6 @@
 -- Variables are read and set by their code.
-use Rattle.std.proofs.Common.{◌≡◌, ℕ, zero, suc, ◌<◌, ◌≤◌, List, [], ◌∷◌, map, get_or, Some, None, refl, sym, ap, ◌∙◌, subst, arith}
+use Rattle.std.proofs.Common.{◌≡◌, ℕ, zero, suc, ◌<◌, ◌≤◌, List, [], ◌∷◌, length, map, get_or, Some, None, refl, sym, ap, ◌∙◌, subst, arith}
+use Rattle.std.proofs.lemmas.List.{length-map}
 use Rattle.std.specs.Prelude.{pos, slice_get}
 use Rattle.c_core.specs.declared.primitive.Primitive.TheVariants as prim
 use Rattle.c_core.specs.declared.primitive.GlobalPrim.TheVariants as global
@@ -33,6 +34,7 @@ use Rattle.ir_expressions.specs.Parts.{is_simple}
 use Rattle.ir_expressions.specs.Reading.{setting_in}
 use Rattle.ir_statements.specs.Simple.{Sets}
 use Rattle.ir_statements.proofs.SimpleLemmas.{get_below, param_set, other_set, global_set}
+use Rattle.ir_bodies.specs.Suiting.{IsVariable}
 use Rattle.ir_bodies.specs.Parts.{HasFlag, SetsLocal, TakesGlobal, SetsGlobal, TakesRegister, SetsVariable, reading_of}
 
 pub type_by : (b : Building) (r : ℕ) (t u : Sort) → t ≡ u → HasType b r (rtype_of t) → HasType b r (rtype_of u)
@@ -67,14 +69,18 @@ has_flag x k v b room at other =
 
 -- ---- a variable of the module is set
 
--- a declared variable has its name
-declared_name : (vs : List Var) (i : ℕ) (d : Var) (v : Variable) → slice_get (map variable vs) i ≡ Some v → d ≡ get_or vs i d → v.0 ≡ d.name
-declared_name [] i d v at is = let f : None ≡ Some v = at in absurd (cc)
-declared_name (e ∷ vs) zero d v at is =
+-- a declared variable is the one of its number
+declared_variable : (vs : List Var) (i : ℕ) (d : Var) (v : Variable) → slice_get (map variable vs) i ≡ Some v → d ≡ get_or vs i d → v ≡ variable d
+declared_variable [] i d v at is = let f : None ≡ Some v = at in absurd (cc)
+declared_variable (e ∷ vs) zero d v at is =
     let f : Some (variable e) ≡ Some v = at in
     let same : v ≡ variable e = cc in
-    ap (λ (z : Variable). z.0) same ∙ sym (ap (λ (z : Var). z.name) is)
-declared_name (e ∷ vs) (suc i) d v at is = declared_name vs i d v at is
+    same ∙ sym (ap variable is)
+declared_variable (e ∷ vs) (suc i) d v at is = declared_variable vs i d v at is
+
+-- and has its name
+declared_name : (vs : List Var) (i : ℕ) (d : Var) (v : Variable) → slice_get (map variable vs) i ≡ Some v → d ≡ get_or vs i d → v.0 ≡ d.name
+declared_name vs i d v at is = ap (λ (z : Variable). z.0) (declared_variable vs i d v at is)
 
 -- the arguments of a write
 abbrev pub stored : List ℕ → Reg → List PArg
@@ -129,6 +135,37 @@ module _ (m : TypedModule) (frame : Frame) (t : Target) (r : Reg) (b c : Buildin
       let P : Target → Type 0 = λ z. SetsVariable m frame (typed_target z) r.0 b c in
       subst P (sym is)
       (λ vs u room v type. sets_by (setting_in m vs frame) (GlobalTarget i) r.0 v.0.1 u b c v.2 (q (setting_in m vs frame) v.0 refl v.1 (type_by b r.0 u v.0.1 (sym v.2) type)))
+
+-- ---- the type of a target
+
+module _ (m : TypedModule) (ds : List Var) (t : Target) where
+  abbrev Typed : Sort → Type 0
+  Typed u = IsVariable m (map variable ds) None (typed_target t) u
+
+  module _ (found : (u : Sort) × Typed u) where
+    local_here : (k : ℕ) → t ≡ declared.Local k → (u : Sort) × IsVariable m (map variable ds) None (LocalTarget k) u
+    local_here k is = let P : Target → Type 0 = λ z. (u : Sort) × IsVariable m (map variable ds) None (typed_target z) u in subst P is found
+
+    global_here : (i : ℕ) → t ≡ declared.Global i → (u : Sort) × IsVariable m (map variable ds) None (GlobalTarget i) u
+    global_here i is = let P : Target → Type 0 = λ z. (u : Sort) × IsVariable m (map variable ds) None (typed_target z) u in subst P is found
+
+    pub local_within : (k : ℕ) → t ≡ declared.Local k → k < length ds
+    local_within k is = let v = (local_here k is).1 in subst (λ n. k < n) (length-map ds variable) (get_below (map variable ds) k v.0 v.1)
+
+    pub local_typed : (k : ℕ) (d : Var) → t ≡ declared.Local k → d ≡ get_or ds k d → Typed (sort_of d.ty)
+    local_typed k d is at =
+        let Q : Target → Type 0 = λ z. IsVariable m (map variable ds) None (typed_target z) (sort_of d.ty) in
+        let v = (local_here k is).1 in
+        subst Q (sym is) (v.0, v.1, ap (λ (z : Variable). z.1) (declared_variable ds k d v.0 v.1 at))
+
+    pub global_within : (i : ℕ) (gs : List Var) → t ≡ declared.Global i → m.globals ≡ map variable gs → i < length gs
+    global_within i gs is all = let v = (global_here i is).1 in subst (λ n. i < n) (ap length all ∙ length-map gs variable) (get_below m.globals i v.0 v.1)
+
+    pub global_typed : (i : ℕ) (gs : List Var) (d : Var) → t ≡ declared.Global i → m.globals ≡ map variable gs → d ≡ get_or gs i d → Typed (sort_of d.ty)
+    global_typed i gs d is all at =
+        let Q : Target → Type 0 = λ z. IsVariable m (map variable ds) None (typed_target z) (sort_of d.ty) in
+        let v = (global_here i is).1 in
+        subst Q (sym is) (v.0, v.1, ap (λ (z : Variable). z.1) (declared_variable gs i d v.0 (ap (λ l. slice_get l i) (sym all) ∙ v.1) at))
 
 -- ---- a target is read
 

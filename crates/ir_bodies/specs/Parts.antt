@@ -1,11 +1,13 @@
 -- What the parts of the code of statements are, one behind another.
-use Rattle.std.specs.Prelude.{◌≡◌, ◌<◌, ◌≤◌, ℕ, true, List, [], ◌∷◌, ◌++◌, length, Option, Some, None, slice_get}
+use Rattle.std.specs.Prelude.{◌≡◌, ◌<◌, ◌≤◌, ◌⊎◌, ℕ, true, List, [], ◌∷◌, ◌++◌, length, Option, Some, None, slice_get}
 use Rattle.py_syntax.specs.declared.token.Span.{Span}
 use Rattle.py_syntax.specs.declared.expression.BinOp.{BinOp}
 use Rattle.py_typed.specs.Sorts as sort
 use Rattle.py_typed.specs.Sorts.{Sort}
 use Rattle.py_typed.specs.Expressions.{TypedExpr, typed, Local, Global, Nothing, type_of}
 use Rattle.py_typed.specs.Statements.{Variable, TypedModule, TypedTarget, LocalTarget, GlobalTarget}
+use Rattle.py_typed.specs.State.{on_to}
+use Rattle.py_typed.specs.Operations.{coerced}
 use Rattle.ir_core.specs.declared.code.Last.TheVariants.{Goto, If, Unreachable}
 use Rattle.ir_core.specs.declared.code.Op.TheVariants.{Turn}
 use Rattle.ir_core.specs.Building.{Building, with_last}
@@ -16,9 +18,11 @@ use Rattle.ir_frames.specs.Placing.{HasType}
 use Rattle.ir_frames.specs.Matching.{flag_of, HasRoom}
 use Rattle.ir_frames.specs.Calling.{Pushes, Closes}
 use Rattle.ir_frames.specs.Computing.{Shows, Computes}
+use Rattle.ir_operators.specs.Operating.{is_numeric, is_whole}
 use Rattle.ir_expressions.specs.declared.applying.Binary.{Binary}
 use Rattle.ir_expressions.specs.declared.applying.Binary.TheVariants.{Arithmetic, Joined}
 use Rattle.ir_expressions.specs.Parts.{is_simple}
+use Rattle.ir_expressions.specs.Applying.{binary_goes}
 use Rattle.ir_expressions.specs.Reading.{setting_in}
 use Rattle.ir_statements.specs.declared.ways.Way.TheVariants.{Join}
 use Rattle.ir_statements.specs.declared.ways.Exit.{Exit}
@@ -72,6 +76,15 @@ reading_of target t place = typed Nothing t place
 abbrev pub update_binary : BinOp → Sort → Binary
 update_binary op sort.Str = Joined
 update_binary op t = Arithmetic op
+
+-- a value of the first type becomes one of the second, which a variable has: a number of a whole one, or a text as it is
+abbrev pub TurnsInto : Sort → Sort → Type 0
+TurnsInto t u = ((is_numeric t ≡ true) × (is_whole u ≡ true)) ⊎ ((t ≡ sort.Str) × (u ≡ sort.Str))
+
+-- the result of an operation on two parts in the first type was computed, as a value of the second
+abbrev pub ComputesAs : Setting → Binary → Sort → Sort → TypedExpr → TypedExpr → Building → Building → ℕ → Type 0
+ComputesAs x op t u a b old new r =
+    Computes x (Shows u) (rtype_of u) (λ n s. on_to (on_to (means x a n s) (λ v s1. on_to (means x b n s1) (binary_goes op t v))) (coerced u)) old new r
 
 -- ---- values and tests
 

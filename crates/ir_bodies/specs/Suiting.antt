@@ -7,6 +7,7 @@ use Rattle.py_typed.specs.Sorts as sort
 use Rattle.py_typed.specs.Sorts.{Sort}
 use Rattle.py_typed.specs.Expressions.{TypedExpr, typed, Print, TypedExprs, no_exprs, expr_then, type_of}
 use Rattle.py_typed.specs.Statements.{Variable, TypedModule, TypedTarget, LocalTarget, GlobalTarget, TypedStmt, on_line, TypedAct, Do, Assign, Aug, If, While, Return, Break, Continue, Pass, TypedSuite, no_stmts, stmt_then, Arms, no_arms, arm_then}
+use Rattle.ir_operators.specs.Operating.{is_whole}
 use Rattle.ir_expressions.specs.declared.applying.Binary.TheVariants.{Arithmetic, Joined}
 use Rattle.ir_expressions.specs.Parts.{is_simple}
 use Rattle.ir_expressions.specs.Applying.{BinarySuits}
@@ -34,9 +35,15 @@ module _ (m : TypedModule) (vs : List Variable) (gives : Option Sort) where
   IsOnly (target ∷ []) t = IsVariable target t
   IsOnly targets t = ⊥
 
-  -- the operator of an update of a variable of a type by a value of another one: arithmetic of numbers, or two texts that are joined
-  abbrev pub UpdateSuits : BinOp → Sort → Sort → Type 0
-  UpdateSuits op t s = BinarySuits (Arithmetic op) t t s ⊎ ((op ≡ Add) × BinarySuits Joined t t s)
+  -- the operator of an update of a variable of the first type, done in the second type, by a value of the third: arithmetic, where
+  -- the variable is a whole number, or two texts that are joined
+  abbrev pub UpdateSuits : BinOp → Sort → Sort → Sort → Type 0
+  UpdateSuits op u t s =
+      ((is_whole u ≡ true) × BinarySuits (Arithmetic op) t u s) ⊎ ((op ≡ Add) × BinarySuits Joined t u s)
+
+  -- a variable is updated so, whatever its type is
+  abbrev pub VariableUpdates : TypedTarget → BinOp → Sort → Sort → Type 0
+  VariableUpdates target op t s = (u : Sort) × IsVariable target u × UpdateSuits op u t s
 
   abbrev pub ReturnSuits : Option TypedExpr → Type 0
   ReturnSuits None = gives ≡ Some sort.Nothing
@@ -54,7 +61,7 @@ module _ (m : TypedModule) (vs : List Variable) (gives : Option Sort) where
     pub ActSuits : Bool → TypedAct → Type 0
     ActSuits looping (Do e) = DoSuits e
     ActSuits looping (Assign targets e) = (is_simple (type_of e) ≡ true) × IsOnly targets (type_of e) × Suits m vs e
-    ActSuits looping (Aug target op e t) = IsVariable target t × UpdateSuits op t (type_of e) × Suits m vs e
+    ActSuits looping (Aug target op e t) = VariableUpdates target op t (type_of e) × Suits m vs e
     ActSuits looping (If arms other) = ArmsSuit looping arms × SuiteSuits looping other
     ActSuits looping (While test body) = TestSuits test × SuiteSuits true body
     ActSuits looping (Return e) = ReturnSuits e

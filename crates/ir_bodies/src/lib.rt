@@ -1,6 +1,6 @@
 //! From typed statements to intermediate code.
 //!
-//! What comes in is a row of typed statements of a function of native integers and bools; what goes out are operations
+//! What comes in is a row of typed statements of a function of numbers, bools and texts; what goes out are operations
 //! and blocks in an `Emitter` (`emit_block`), which do what the statements mean, wherever they are left: `specs/Suiting.antt`
 //! says which statements are built, `Emitted` of `ir_statements` what their code does, and `specs/Parts.antt` what stands around the
 //! bodies of `if` and `while`.

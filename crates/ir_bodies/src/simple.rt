@@ -3,23 +3,29 @@ ghost use Rattle.std.specs.Prelude.{◌≡◌, ◌≤◌, [], true, map, length,
 ghost use Rattle.py_typed.specs.Sorts.{Sort, sort};
 ghost use Rattle.py_typed.specs.Expressions.{typed_expr, type_of};
 ghost use Rattle.py_typed.specs.Statements.{typed_module, typed_target, maybe_typed, variable};
+ghost use Rattle.py_typed.specs.Operations.{coerced};
 ghost use Rattle.ir_core.specs.Building.{Extends};
-ghost use Rattle.ir_frames.specs.Settings.{setting};
+ghost use Rattle.ir_frames.specs.Settings.{setting, rtype_of};
+ghost use Rattle.ir_frames.specs.Placing.{HasType};
 ghost use Rattle.ir_frames.specs.Matching.{HasRoom};
+ghost use Rattle.ir_frames.specs.Computing.{Shows, Attempts};
 ghost use Rattle.ir_frames.specs.Shaped.{Keeps};
-ghost use Rattle.ir_frames.specs.Kinds.{IsAmong, KeepsKindsIf};
+ghost use Rattle.ir_frames.specs.Kinds.{IsAmong, KeepsKinds, KeepsKindsIf};
+ghost use Rattle.ir_operators.specs.Operating.{ActsOn};
 ghost use Rattle.ir_expressions.specs.Parts.{is_simple};
+ghost use Rattle.ir_expressions.specs.Applying.{BinarySuits};
 ghost use Rattle.ir_expressions.specs.Suiting.{Suits};
 ghost use Rattle.ir_statements.specs.Means.{means_assignment, means_update, means_return, returned_type};
 ghost use Rattle.ir_statements.specs.Runs.{Works};
-ghost use Rattle.ir_bodies.specs.Suiting.{IsVariable, IsOnly, UpdateSuits, ReturnSuits};
+ghost use Rattle.ir_bodies.specs.Suiting.{IsOnly, VariableUpdates, ReturnSuits};
 ghost use Rattle.ir_bodies.specs.Kinds.{IsAround};
-ghost use Rattle.ir_bodies.specs.Parts.{ComputesReturned, update_binary};
+ghost use Rattle.ir_bodies.specs.Parts.{ComputesAs, ComputesReturned, update_binary, TurnsInto};
 
-use crate::variables::{emit_set, reading};
+use crate::variables::{emit_set, reading, variable_type};
 use ir_core::{Last, Lit, RType, Reg};
 use ir_expressions::{Binary, emit_expression, emit_two_parts};
 use ir_frames::{Emitter, Frame};
+use ir_operators::emit_coercion;
 use py_syntax::BinOp;
 use py_typed::{Checked, TExpr, Target, Ty, Var};
 use std::alloc::Global;
@@ -60,8 +66,58 @@ fn updating(op: BinOp, t: &Ty) -> Binary
     }
 }
 
-/// Changes a variable of a type by an operation (Python Language Reference, "Augmented assignment statements"): it is read, then
-/// the operand is evaluated.
+// The result of an operation in a type, as a value of the variable's own type.
+fn emit_own(
+    b: &mut Emitter,
+    alloc: Global,
+    t: &Ty,
+    own: &Ty,
+    x: Reg,
+    line: usize,
+) -> Result<Reg, Memory>
+    requires turns { TurnsInto (sort t.now) (sort own.now) }
+    requires value { HasType b.old x.0 (rtype_of (sort t.now)) }
+    ensures kept { Extends b.old b.new }
+    ensures made { IfOk result (λ r. Attempts (Shows (sort own.now)) b.old b.new r.0 (rtype_of (sort own.now)) (ActsOn (sort t.now) x.0 (coerced (sort own.now)))) }
+    ensures shaped { Keeps b.old b.new }
+    ensures kinds { KeepsKinds b.old b.new }
+{
+    match own {
+        Ty::Str => Ok(x),
+        _ => emit_coercion(b, alloc, t, own, x, line),
+    }
+}
+
+// The result of an operation on two parts in a type, as a value of the variable's own type.
+fn emit_changed(
+    b: &mut Emitter,
+    alloc: Global,
+    checked: &Checked,
+    locals: &[Var],
+    frame: Frame,
+    op: Binary,
+    t: &Ty,
+    own: &Ty,
+    before: &TExpr,
+    e: &TExpr,
+    line: usize,
+) -> Result<Reg, Memory>
+    requires fits { BinarySuits op (sort t.now) (sort before.now.ty) (sort e.now.ty) }
+    requires turns { TurnsInto (sort t.now) (sort own.now) }
+    requires before { Suits (typed_module checked.now) (map variable locals.now) (typed_expr before.now) }
+    requires suits { Suits (typed_module checked.now) (map variable locals.now) (typed_expr e.now) }
+    requires room { HasRoom (setting checked.now locals.now frame) b.old }
+    ensures kept { Extends b.old b.new }
+    ensures computes { IfOk result (λ r. ComputesAs (setting checked.now locals.now frame) op (sort t.now) (sort own.now) (typed_expr before.now) (typed_expr e.now) b.old b.new r.0) }
+    ensures shaped { Keeps b.old b.new }
+    ensures kinds { KeepsKindsIf (IsAmong (typed_module checked.now)) b.old b.new }
+{
+    let result = emit_two_parts(b, alloc, checked, locals, frame, op, t, before, e, line)?;
+    emit_own(b, alloc, t, own, result, line)
+}
+
+/// Changes a variable by an operation in a type (Python Language Reference, "Augmented assignment statements"): it is read, then
+/// the operand is evaluated, and the result is turned into the variable's own type.
 pub(crate) fn emit_update(
     b: &mut Emitter,
     alloc: Global,
@@ -74,8 +130,7 @@ pub(crate) fn emit_update(
     t: &Ty,
     line: usize,
 ) -> Result<(), Memory>
-    requires target { IsVariable (typed_module checked.now) (map variable locals.now) None (typed_target target.now) (sort t.now) }
-    requires fits { UpdateSuits (typed_module checked.now) (map variable locals.now) None op (sort t.now) (type_of (typed_expr e.now)) }
+    requires fits { VariableUpdates (typed_module checked.now) (map variable locals.now) None (typed_target target.now) op (sort t.now) (type_of (typed_expr e.now)) }
     requires suits { Suits (typed_module checked.now) (map variable locals.now) (typed_expr e.now) }
     requires room { HasRoom (setting checked.now locals.now frame) b.old }
     ensures kept { Extends b.old b.new }
@@ -83,10 +138,13 @@ pub(crate) fn emit_update(
     ensures shaped { Keeps b.old b.new }
     ensures kinds { KeepsKindsIf (IsAmong (typed_module checked.now)) b.old b.new }
 {
-    let before = reading(target, t, e.span);
+    let own = variable_type(checked, locals, target);
+    let before = reading(target, own, e.span);
     let op = updating(op, t);
-    let changed = emit_two_parts(b, alloc, checked, locals, frame, op, t, &before, e, line)?;
-    emit_set(b, alloc, checked, frame, target, changed, line)
+    let value = emit_changed(
+        b, alloc, checked, locals, frame, op, t, own, &before, e, line,
+    )?;
+    emit_set(b, alloc, checked, frame, target, value, line)
 }
 
 // The value that is returned, in a register. Without one it is None.

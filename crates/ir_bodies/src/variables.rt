@@ -1,8 +1,8 @@
 //! Variables that statements read and set.
-ghost use Rattle.std.specs.Prelude.{◌≡◌, true, List, None, OnOk};
-ghost use Rattle.py_typed.specs.Sorts.{sort};
+ghost use Rattle.std.specs.Prelude.{◌≡◌, true, List, map, None, OnOk};
+ghost use Rattle.py_typed.specs.Sorts.{Sort, sort};
 ghost use Rattle.py_typed.specs.Expressions.{typed_expr};
-ghost use Rattle.py_typed.specs.Statements.{TypedModule, Variable, typed_module, typed_target};
+ghost use Rattle.py_typed.specs.Statements.{TypedModule, Variable, typed_module, typed_target, variable};
 ghost use Rattle.ir_core.specs.Building.{Extends};
 ghost use Rattle.ir_frames.specs.Shaped.{Keeps};
 ghost use Rattle.ir_frames.specs.Kinds.{IsAmong, AreAlike, KeepsKindsIf};
@@ -14,7 +14,7 @@ use c_core::{GlobalPrim, Prim};
 use ir_core::{Lit, Op, PArg, Reg};
 use ir_frames::{Emitter, Frame};
 use py_syntax::Span;
-use py_typed::{Checked, TExpr, TKind, Target, Ty};
+use py_typed::{Checked, TExpr, TKind, Target, Ty, Var};
 use std::alloc::Global;
 use value_core::{Many, Memory};
 
@@ -28,6 +28,18 @@ fn simple_type(t: &Ty) -> Ty
         Ty::I64 => Ty::I64,
         Ty::Bool => Ty::Bool,
         Ty::Str => Ty::Str,
+        _ => unreachable!(),
+    }
+}
+
+/// The type of the variable that a target is.
+pub(crate) fn variable_type<'a>(checked: &'a Checked, locals: &'a [Var], target: &Target) -> &'a Ty
+    requires { (u : Sort) × IsVariable (typed_module checked.now) (map variable locals.now) None (typed_target target.now) u }
+    ensures { IsVariable (typed_module checked.now) (map variable locals.now) None (typed_target target.now) (sort result.now) }
+{
+    match target {
+        Target::Local(k) => &locals[*k].ty,
+        Target::Global(i) => &checked.globals.as_slice()[*i].ty,
         _ => unreachable!(),
     }
 }

@@ -16,13 +16,13 @@ use Rattle.py_typed.specs.WellTyped.{target_type, read_type, parts_fit, assignme
 use Rattle.py_typed.proofs.FitLemmas.{and_left, and_right, one_type}
 use Rattle.ir_operators.specs.Operating.{is_whole}
 use Rattle.ir_expressions.specs.declared.applying.Binary.TheVariants.{Arithmetic}
-use Rattle.ir_expressions.specs.Compiled.{is_scalar, is_built}
+use Rattle.ir_expressions.specs.Compiled.{is_int, is_i64, is_scalar, is_built}
 use Rattle.ir_expressions.specs.Applying.{BinarySuits}
 use Rattle.ir_expressions.specs.Suiting.{Suits}
 use Rattle.ir_expressions.proofs.SuitLemmas.{AllScalar, AllSigned, number_numeric, gives_value, reads_itself, well_typed_suits, well_typed_node}
-use Rattle.ir_bodies.specs.Suiting.{PrintSuits, DoSuits, IsVariable, IsOnly, UpdateSuits, ReturnSuits, StatementSuits, ActSuits, SuiteSuits, ArmsSuit}
+use Rattle.ir_bodies.specs.Suiting.{PrintSuits, DoSuits, IsOnly, UpdateSuits, VariableUpdates, ReturnSuits, StatementSuits, ActSuits, SuiteSuits, ArmsSuit}
 use Rattle.ir_forms.specs.Expressions.{line_at, is_form, expression_lines, part_lines, row_lines}
-use Rattle.ir_forms.specs.Statements.{alone_lines, is_one, is_variable_of, is_updated, returned_lines, statement_lines, act_lines, suite_lines, arms_lines}
+use Rattle.ir_forms.specs.Statements.{alone_lines, is_one, is_taken, takes_result, is_updated, returned_lines, statement_lines, act_lines, suite_lines, arms_lines}
 use Rattle.ir_forms.proofs.CompiledLemmas.{none_left, none_right, form_of, parts_of, compiled, compiled_node}
 
 -- ---- types
@@ -31,14 +31,10 @@ nothing_is : (t : Sort) → is_nothing t ≡ true → t ≡ sort.Nothing
 nothing_is sort.Nothing h = refl
 nothing_is _ h = absurd (cc)
 
-joined_whole : (s u : Sort) → is_number s ≡ true → is_number u ≡ true → number_join s u ≡ s → is_whole s ≡ true
-joined_whole sort.Int u p q e = refl
-joined_whole sort.I64 u p q e = refl
-joined_whole sort.Bool sort.Int p q e = absurd (cc)
-joined_whole sort.Bool sort.I64 p q e = absurd (cc)
-joined_whole sort.Bool sort.Bool p q e = absurd (cc)
-joined_whole sort.Bool _ p q e = absurd (cc)
-joined_whole _ u p q e = absurd (cc)
+join_whole : (u w : Sort) → is_whole (number_join u w) ≡ true
+join_whole sort.I64 w = refl
+join_whole _ sort.I64 = refl
+join_whole _ _ = refl
 
 no_parts : (s : Sort) → is_scalar s ≡ true → part_sorts s ≡ []
 no_parts sort.Int h = refl
@@ -72,19 +68,30 @@ variable_of : (o : Option Variable) (t : Sort) → is_scalar t ≡ true → t �
 variable_of None t s e = absurd (cc)
 variable_of (Some v) t s e = (v, refl, sym e)
 
-variable_typed : (o : Option Variable) (t : Sort) → is_variable_of t o ≡ true → (v : Variable) × (o ≡ Some v) × (v.1 ≡ t)
-variable_typed None t h = absurd (cc)
-variable_typed (Some v) t h = (v, refl, one_type v.1 t h)
+variable_taking : (o : Option Variable) (s : Sort) → takes_result s o ≡ true → (v : Variable) × (o ≡ Some v) × (is_taken v.1 s ≡ true)
+variable_taking None s h = absurd (cc)
+variable_taking (Some v) s h = (v, refl, h)
 
--- ---- operations whose result has the type of their first operand
+-- what takes a scalar is one, and so is what takes a whole number
+taking : (P : Sort → Type 0) → P sort.Int → (u s : Sort) → is_taken u s ≡ true → P s → P u
+taking P int u s h p =
+    ⊎_elim (λ e. subst P (sym (one_type u s e)) p) (λ e. subst P (sym (int_is u (and_left (is_int u) (is_i64 s) e))) int)
+    (either_of (is_same_type u s) (is_int u && is_i64 s) h)
+  where
+    int_is : (t : Sort) → is_int t ≡ true → t ≡ sort.Int
+    int_is sort.Int e = refl
+    int_is _ e = absurd (cc)
 
-numbers_update : (op : BinOp) (s u : Sort) (b : Bool) → is_built op ≡ true → (b ≡ true → are_numbers s u ≡ true) → is_type (if b then Some (number_join s u) else None) s ≡ true → BinarySuits (Arithmetic op) s s u
-numbers_update op s u true built numbers h =
+-- ---- operations whose result a variable takes that is their first operand
+
+numbers_update : (op : BinOp) (u s w : Sort) (b : Bool) → is_built op ≡ true → is_taken u s ≡ true → (b ≡ true → are_numbers u w ≡ true) → is_type (if b then Some (number_join u w) else None) s ≡ true → (is_whole u ≡ true) × BinarySuits (Arithmetic op) s u w
+numbers_update op u s w true built takes numbers h =
     let both = numbers refl in
-    let left = and_left (is_number s) (is_number u) both in
-    let right = and_right (is_number s) (is_number u) both in
-    (joined_whole s u left right (one_type (number_join s u) s h), built, number_numeric s left, number_numeric u right)
-numbers_update op s u false built numbers h = absurd (cc)
+    let whole : is_whole s ≡ true = subst (λ z. is_whole z ≡ true) (one_type (number_join u w) s h) (join_whole u w) in (
+      taking (λ z. is_whole z ≡ true) refl u s takes whole,
+      (whole, built, number_numeric u (and_left (is_number u) (is_number w) both), number_numeric w (and_right (is_number u) (is_number w) both)),
+    )
+numbers_update op u s w false built takes numbers h = absurd (cc)
 
 module _ (m : TypedModule) (vs : List Variable) (init : Option ℕ) (scalars : AllScalar m vs init) (signed : AllSigned m vs init) where
   value_scalar : (testing : Bool) (known : List ℕ) (e : TypedExpr) → stands m vs init testing known e ≡ true → expression_lines e ≡ [] → is_scalar (type_of e) ≡ true
@@ -136,37 +143,41 @@ module _ (m : TypedModule) (vs : List Variable) (init : Option ℕ) (scalars : A
 
     -- ---- updates
 
-    adds_update : (s u : Sort) (b : Bool) → are_texts s u ≡ b → is_type (if b then Some sort.Str else if are_numbers s u then Some (number_join s u) else None) s ≡ true → UpdateSuits m vs result Add s u
-    adds_update s u true is h =
-        let left = one_type s sort.Str (and_left _ _ is) in
-        inr (refl, (left, left, one_type u sort.Str (and_right _ _ is)))
-    adds_update s u false is h = inl (numbers_update Add s u (are_numbers s u) refl (λ e. e) h)
+    adds_update : (u s w : Sort) (b : Bool) → are_texts u w ≡ b → is_taken u s ≡ true → is_type (if b then Some sort.Str else if are_numbers u w then Some (number_join u w) else None) s ≡ true → UpdateSuits m vs result Add u s w
+    adds_update u s w true is takes h =
+        inr (refl, (sym (one_type sort.Str s h), one_type u sort.Str (and_left _ _ is), one_type w sort.Str (and_right _ _ is)))
+    adds_update u s w false is takes h = inl (numbers_update Add u s w (are_numbers u w) refl takes (λ e. e) h)
 
-    other_update : (op : BinOp) (s u : Sort) → is_built op ≡ true → is_type (if are_numbers s u && not (is_bar op) then Some (number_join s u) else None) s ≡ true → UpdateSuits m vs result op s u
-    other_update op s u built h = inl (numbers_update op s u (are_numbers s u && not (is_bar op)) built (λ e. and_left (are_numbers s u) (not (is_bar op)) e) h)
+    other_update : (op : BinOp) (u s w : Sort) → is_built op ≡ true → is_taken u s ≡ true → is_type (if are_numbers u w && not (is_bar op) then Some (number_join u w) else None) s ≡ true → UpdateSuits m vs result op u s w
+    other_update op u s w built takes h =
+        inl (numbers_update op u s w (are_numbers u w && not (is_bar op)) built takes (λ e. and_left (are_numbers u w) (not (is_bar op)) e) h)
 
-    update_by : (op : BinOp) (s u : Sort) → is_built op ≡ true → is_type (operation_sort op s u) s ≡ true → UpdateSuits m vs result op s u
-    update_by Add s u built h = adds_update s u (are_texts s u) refl h
-    update_by Sub s u built h = other_update Sub s u built h
-    update_by Mul s u built h = other_update Mul s u built h
-    update_by FloorDiv s u built h = other_update FloorDiv s u built h
-    update_by Mod s u built h = other_update Mod s u built h
-    update_by Shl s u built h = other_update Shl s u built h
-    update_by Shr s u built h = other_update Shr s u built h
-    update_by _ s u built h = absurd (cc)
+    operation_suits : (op : BinOp) (u s w : Sort) → is_built op ≡ true → is_taken u s ≡ true → is_type (operation_sort op u w) s ≡ true → UpdateSuits m vs result op u s w
+    operation_suits Add u s w built takes h = adds_update u s w (are_texts u w) refl takes h
+    operation_suits Sub u s w built takes h = other_update Sub u s w built takes h
+    operation_suits Mul u s w built takes h = other_update Mul u s w built takes h
+    operation_suits FloorDiv u s w built takes h = other_update FloorDiv u s w built takes h
+    operation_suits Mod u s w built takes h = other_update Mod u s w built takes h
+    operation_suits Shl u s w built takes h = other_update Shl u s w built takes h
+    operation_suits Shr u s w built takes h = other_update Shr u s w built takes h
+    operation_suits _ u s w built takes h = absurd (cc)
 
-    operation_suits : (op : BinOp) (r s u : Sort) → r ≡ s → is_built op ≡ true → is_type (operation_sort op r u) s ≡ true → UpdateSuits m vs result op s u
-    operation_suits op r s u e built h = update_by op s u built (subst (λ z. is_type (operation_sort op z u) s ≡ true) e h)
+    -- a variable that is read with a type is updated in another one
+    variable_updated : (op : BinOp) (r u s w : Sort) → r ≡ u → is_built op ≡ true → is_taken u s ≡ true → is_type (operation_sort op r w) s ≡ true → UpdateSuits m vs result op u s w
+    variable_updated op r u s w e built takes h = operation_suits op u s w built takes (subst (λ z. is_type (operation_sort op z w) s ≡ true) e h)
 
-    updated : (known : List ℕ) (t : TypedTarget) (op : BinOp) (s u : Sort) → is_updated vs m.globals t s ≡ true → is_scalar s ≡ true → is_built op ≡ true → is_type (operation_sort op (read_type m vs init result known t) u) s ≡ true → IsVariable m vs result t s × UpdateSuits m vs result op s u
-    updated known (LocalTarget i) op s u o c built h =
-        let v = variable_typed (slice_get vs i) s o in
-        let is : sort_at vs i ≡ s = sort_found vs i (slice_get vs i) refl ∙ ap sort_of v.1 ∙ v.2 in
-        (v, operation_suits op (reads_as (is_in known i) (sort_at vs i)) s u (ap (reads_as (is_in known i)) is ∙ reads_itself m vs init (is_in known i) s c) built h)
-    updated known (GlobalTarget i) op s u o c built h =
-        let v = variable_typed (slice_get m.globals i) s o in
-        (v, operation_suits op (sort_at m.globals i) s u (sort_found m.globals i (slice_get m.globals i) refl ∙ ap sort_of v.1 ∙ v.2) built h)
-    updated known _ op s u o c built h = absurd (never o)
+    updated : (known : List ℕ) (t : TypedTarget) (op : BinOp) (s w : Sort) → is_updated vs m.globals t s ≡ true → is_scalar s ≡ true → is_built op ≡ true → is_type (operation_sort op (read_type m vs init result known t) w) s ≡ true → VariableUpdates m vs result t op s w
+    updated known (LocalTarget i) op s w o c built h =
+        let v = variable_taking (slice_get vs i) s o in
+        let u : Sort = v.0.1 in
+        let is : sort_at vs i ≡ u = sort_found vs i (slice_get vs i) refl ∙ ap sort_of v.1 in
+        let scalar : is_scalar u ≡ true = taking (λ z. is_scalar z ≡ true) refl u s v.2 c in
+        (u, (v.0, v.1, refl), variable_updated op (reads_as (is_in known i) (sort_at vs i)) u s w (ap (reads_as (is_in known i)) is ∙ reads_itself m vs init (is_in known i) u scalar) built v.2 h)
+    updated known (GlobalTarget i) op s w o c built h =
+        let v = variable_taking (slice_get m.globals i) s o in
+        let u : Sort = v.0.1 in
+        (u, (v.0, v.1, refl), variable_updated op (sort_at m.globals i) u s w (sort_found m.globals i (slice_get m.globals i) refl ∙ ap sort_of v.1) built v.2 h)
+    updated known _ op s w o c built h = absurd (never o)
 
     -- ---- what is returned
 
@@ -211,7 +222,7 @@ module _ (m : TypedModule) (vs : List Variable) (init : Option ℕ) (scalars : A
           let form = form_of (is_updated vs m.globals t s && (is_scalar s && is_built op)) line (expression_lines e) p in
           let more = and_right (is_updated vs m.globals t s) (is_scalar s && is_built op) form in
           let found = updated result known t op s (type_of e) (and_left (is_updated vs m.globals t s) (is_scalar s && is_built op) form) (and_left (is_scalar s) (is_built op) more) (and_right (is_scalar s) (is_built op) more) (and_left _ _ (and_right _ _ h)) in
-          (found.0, found.1, expression_suits false known e (and_left _ _ (and_left _ _ h)) (parts_of (is_updated vs m.globals t s && (is_scalar s && is_built op)) line (expression_lines e) p))
+          (found, expression_suits false known e (and_left _ _ (and_left _ _ h)) (parts_of (is_updated vs m.globals t s && (is_scalar s && is_built op)) line (expression_lines e) p))
       act_suits known looping handling line (If arms other) h p =
           let found = arms_suit known looping handling arms (λ there. suite_typed m vs init result there looping handling other) (and_right _ _ h) (none_left (arms_lines vs m.globals arms) (suite_lines vs m.globals other) p) in
           (found.0, suite_suits found.1 looping handling other found.2 (none_right (arms_lines vs m.globals arms) (suite_lines vs m.globals other) p))

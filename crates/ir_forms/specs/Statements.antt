@@ -1,6 +1,6 @@
 -- The lines on which statements, expressions and functions of a typed module stand that are not compiled. A statement stands on
 -- its own line, and what stands inside of one on no line before it.
-use Rattle.std.specs.Prelude.{ℕ, suc, Bool, true, false, ◌&&◌, nat_le, List, [], ◌∷◌, ◌++◌, length, Option, Some, None, slice_get}
+use Rattle.std.specs.Prelude.{ℕ, suc, Bool, true, false, ◌&&◌, ◌||◌, nat_le, List, [], ◌∷◌, ◌++◌, length, Option, Some, None, slice_get}
 use Rattle.std.specs.List.{list_all, filter}
 use Rattle.py_syntax.specs.Statements.{StmtTree, at, Def, Suite}
 use Rattle.py_typed.specs.Sorts.{Sort}
@@ -9,7 +9,7 @@ use Rattle.py_typed.specs.Expressions.{TypedExpr, typed, Print, type_of}
 use Rattle.py_typed.specs.Statements.{Variable, TypedFunc, TypedModule, TypedTarget, LocalTarget, GlobalTarget, TypedStmt, on_line, TypedAct, Do, Assign, Aug, If, While, Return, Break, Continue, Pass, TypedSuite, no_stmts, stmt_then, Arms, no_arms, arm_then}
 use Rattle.py_names.specs.Outline.{suite_definitions}
 use Rattle.py_forms.specs.Later.{least}
-use Rattle.ir_expressions.specs.Compiled.{is_scalar, is_result, is_built}
+use Rattle.ir_expressions.specs.Compiled.{is_int, is_i64, is_scalar, is_result, is_built}
 use Rattle.ir_forms.specs.Expressions.{or_parts, line_at, expression_lines, row_lines}
 
 -- `print` writes any number of values
@@ -31,19 +31,22 @@ abbrev pub returned_lines : Option TypedExpr → List ℕ
 returned_lines None = []
 returned_lines (Some e) = or_parts (is_scalar (type_of e)) (line_at e) (expression_lines e)
 
--- a variable of a type
-abbrev pub is_variable_of : Sort → Option Variable → Bool
-is_variable_of t None = false
-is_variable_of t (Some v) = is_same_type v.1 t
+-- a variable of the first type takes what an operation gives that is done in the second: they are one type, or an `i64` becomes an
+-- `int`
+abbrev pub is_taken : Sort → Sort → Bool
+is_taken u s = is_same_type u s || (is_int u && is_i64 s)
+
+abbrev pub takes_result : Sort → Option Variable → Bool
+takes_result s None = false
+takes_result s (Some v) = is_taken v.1 s
 
 -- in a function with these variables, of a module with these
 module _ (locals globals : List Variable) where
-  -- one name of the function or of the module, of the type that an operation gives: an `int` to which a native integer is added
-  -- has another one
+  -- one name of the function or of the module, which takes what an operation of this type gives
   abbrev pub is_updated : TypedTarget → Sort → Bool
-  is_updated (LocalTarget i) t = is_variable_of t (slice_get locals i)
-  is_updated (GlobalTarget i) t = is_variable_of t (slice_get globals i)
-  is_updated target t = false
+  is_updated (LocalTarget i) s = takes_result s (slice_get locals i)
+  is_updated (GlobalTarget i) s = takes_result s (slice_get globals i)
+  is_updated target s = false
 
   abbrev mutual
     pub statement_lines : TypedStmt → List ℕ

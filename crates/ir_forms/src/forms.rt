@@ -17,6 +17,12 @@ fn is_int(t: &Ty) -> bool
     matches!(t, Ty::Int)
 }
 
+fn is_i64(t: &Ty) -> bool
+    ensures { result ≡ compiled.is_i64 (sort t.now) }
+{
+    matches!(t, Ty::I64)
+}
+
 fn is_text(t: &Ty) -> bool
     ensures { result ≡ compiled.is_text (sort t.now) }
 {
@@ -159,23 +165,30 @@ pub(crate) fn is_assigned(targets: &[Target], t: &Ty) -> bool
     is_one(targets) && is_scalar(t)
 }
 
-/// Whether the variable of a number is of a type.
-fn is_variable_of(variables: &[Var], i: usize, t: &Ty) -> bool
-    ensures { result ≡ statement.is_variable_of (sort t.now) (slice_get (map variable variables.now) i) }
+/// Whether a variable of a type takes what an operation gives that is done in another.
+fn is_taken(own: &Ty, t: &Ty) -> bool
+    ensures { result ≡ statement.is_taken (sort own.now) (sort t.now) }
+{
+    is_same_type(own, t) || (is_int(own) && is_i64(t))
+}
+
+/// Whether the variable of a number takes what an operation of a type gives.
+fn takes_result(variables: &[Var], i: usize, t: &Ty) -> bool
+    ensures { result ≡ statement.takes_result (sort t.now) (slice_get (map variable variables.now) i) }
 {
     match variables.get(i) {
         None => false,
-        Some(v) => is_same_type(&v.ty, t),
+        Some(v) => is_taken(&v.ty, t),
     }
 }
 
-/// Whether a target is one name, of a function or of a module with these variables, of this type.
-fn is_name_of(locals: &[Var], globals: &[Var], target: &Target, t: &Ty) -> bool
+/// Whether a target is one name, of a function or of a module with these variables, that takes what an operation of a type gives.
+fn is_updated_name(locals: &[Var], globals: &[Var], target: &Target, t: &Ty) -> bool
     ensures { result ≡ statement.is_updated (map variable locals.now) (map variable globals.now) (typed_target target.now) (sort t.now) }
 {
     match target {
-        Target::Local(i) => is_variable_of(locals, *i, t),
-        Target::Global(i) => is_variable_of(globals, *i, t),
+        Target::Local(i) => takes_result(locals, *i, t),
+        Target::Global(i) => takes_result(globals, *i, t),
         Target::Attr(_, _) => false,
         Target::At(_, _) => false,
     }
@@ -191,7 +204,7 @@ pub(crate) fn is_updated(
 ) -> bool
     ensures { result ≡ (statement.is_updated (map variable locals.now) (map variable globals.now) (typed_target target.now) (sort t.now) && (compiled.is_scalar (sort t.now) && compiled.is_built op)) }
 {
-    is_name_of(locals, globals, target, t) && (is_scalar(t) && is_built(op))
+    is_updated_name(locals, globals, target, t) && (is_scalar(t) && is_built(op))
 }
 
 fn are_scalars(variables: &[Var]) -> bool

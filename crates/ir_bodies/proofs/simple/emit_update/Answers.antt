@@ -5,30 +5,71 @@ use Rattle.py_typed.specs.Statements.{typed_target}
 use Rattle.ir_frames.specs.Settings.{Setting, setting}
 use Rattle.ir_frames.proofs.HeldLemmas.{extends_trans, on_ok_map}
 use Rattle.ir_expressions.specs.declared.applying.Binary.{Binary}
+use Rattle.ir_expressions.specs.Applying.{BinarySuits}
 use Rattle.ir_expressions.specs.Suiting.{Suits}
-use Rattle.ir_expressions.specs.Emitting.{EmitsTwo}
-use Rattle.ir_bodies.proofs.AssignLemmas.{reading_suits, updated_simple, update_code, update_takes}
+use Rattle.py_typed.proofs.ExpressionLemmas.{type_at}
+use Rattle.ir_bodies.specs.Parts.{ComputesAs, update_binary}
+use Rattle.ir_bodies.proofs.AssignLemmas.{own_suits, reading_suits, updated_simple, update_turns, update_fits, update_code, update_takes}
 use Rattle.ir_bodies.proofs.simple.emit_update.Goals as goal
 
-pub emit_two_parts-requires-clause-left : goal.emit_two_parts-requires-clause-left
-emit_two_parts-requires-clause-left c =
+pub reading-before-requires-clause-simple : goal.reading-before-requires-clause-simple
+reading-before-requires-clause-simple c =
     let x : Setting = setting c.args.checked.now c.args.locals.now c.args.frame in
-    let simple = updated_simple x.source x.variables c.args.op (sort c.args.t.now) (type_of (typed_expr c.args.e.now)) c.requires.fits in
-    subst (Suits x.source x.variables) (sym c.reading-before.ensures.reads) (reading_suits x.source x.variables (typed_target c.args.target.now) (sort c.args.t.now) c.args.e.now.span simple c.requires.target)
+    let own = sort c.variable_type-own.result.now in
+    let suits = own_suits x.source x.variables (typed_target c.args.target.now) c.args.op own (sort c.args.t.now) (type_of (typed_expr c.args.e.now)) c.variable_type-own.ensures c.requires.fits in
+    updated_simple x.source x.variables c.args.op own (sort c.args.t.now) (type_of (typed_expr c.args.e.now)) suits
+
+pub emit_changed-requires-clause-fits : goal.emit_changed-requires-clause-fits
+emit_changed-requires-clause-fits c =
+    let x : Setting = setting c.args.checked.now c.args.locals.now c.args.frame in
+    let own = sort c.variable_type-own.result.now in
+    let t = sort c.args.t.now in
+    let w = type_of (typed_expr c.args.e.now) in
+    let suits = own_suits x.source x.variables (typed_target c.args.target.now) c.args.op own t w c.variable_type-own.ensures c.requires.fits in
+    subst (λ z. BinarySuits z t (sort c.reading-before.result.ty) (sort c.args.e.now.ty)) (sym c.updating-op.ensures)
+    (subst (λ z. BinarySuits (update_binary c.args.op t) t z (sort c.args.e.now.ty)) (sym c.reading-before.ensures.same)
+    (subst (λ z. BinarySuits (update_binary c.args.op t) t own z) (type_at c.args.e.now) (update_fits x.source x.variables c.args.op own t w suits)))
+
+pub emit_changed-requires-clause-turns : goal.emit_changed-requires-clause-turns
+emit_changed-requires-clause-turns c =
+    let x : Setting = setting c.args.checked.now c.args.locals.now c.args.frame in
+    let own = sort c.variable_type-own.result.now in
+    let t = sort c.args.t.now in
+    let w = type_of (typed_expr c.args.e.now) in
+    update_turns x.source x.variables c.args.op own t w (own_suits x.source x.variables (typed_target c.args.target.now) c.args.op own t w c.variable_type-own.ensures c.requires.fits)
+
+pub emit_changed-requires-clause-before : goal.emit_changed-requires-clause-before
+emit_changed-requires-clause-before c =
+    let x : Setting = setting c.args.checked.now c.args.locals.now c.args.frame in
+    let own = sort c.variable_type-own.result.now in
+    let t = sort c.args.t.now in
+    let w = type_of (typed_expr c.args.e.now) in
+    let suits = own_suits x.source x.variables (typed_target c.args.target.now) c.args.op own t w c.variable_type-own.ensures c.requires.fits in
+    let simple = updated_simple x.source x.variables c.args.op own t w suits in
+    subst (Suits x.source x.variables) (sym c.reading-before.ensures.reads) (reading_suits x.source x.variables (typed_target c.args.target.now) own c.args.e.now.span simple c.variable_type-own.ensures)
 
 pub emit_set-requires : goal.emit_set-requires
 emit_set-requires c =
     let x : Setting = setting c.args.checked.now c.args.locals.now c.args.frame in
-    update_takes x (typed_target c.args.target.now) c.args.op (sort c.args.t.now) (type_of (typed_expr c.args.e.now)) _ _ c.in_ok-changed.changed.0 c.requires.target c.requires.fits c.requires.room c.in_ok-changed.ensures.walked.kept c.in_ok-changed.ensures.emitted.type
+    let own = sort c.variable_type-own.result.now in
+    let t = sort c.args.t.now in
+    let w = type_of (typed_expr c.args.e.now) in
+    let suits = own_suits x.source x.variables (typed_target c.args.target.now) c.args.op own t w c.variable_type-own.ensures c.requires.fits in
+    update_takes x (typed_target c.args.target.now) c.args.op own t w _ _ c.in_ok-value.value.0 c.variable_type-own.ensures suits c.requires.room c.in_ok-value.ensures.kept c.in_ok-value.ensures.computes.type
 
 pub returns-clause-kept : goal.returns-clause-kept
-returns-clause-kept c = extends_trans _ _ _ c.in_ok-changed.ensures.walked.kept c.emit_set.ensures.kept
+returns-clause-kept c = extends_trans _ _ _ c.in_ok-value.ensures.kept c.emit_set.ensures.kept
 
 pub returns-clause-works : goal.returns-clause-works
 returns-clause-works c =
     let x : Setting = setting c.args.checked.now c.args.locals.now c.args.frame in
-    let P : Binary → Type 0 = λ z. EmitsTwo x z (sort c.args.t.now) (typed_expr c.reading-before.result) (typed_expr c.args.e.now) c.args.b.now c.emit_two_parts.new.b c.in_ok-changed.changed.0 in
-    on_ok_map _ _ _ (λ q. update_code x (typed_target c.args.target.now) c.args.op (sort c.args.t.now) (typed_expr c.reading-before.result) (typed_expr c.args.e.now) c.args.e.now.span _ _ _ c.in_ok-changed.changed c.reading-before.ensures.reads c.requires.target c.requires.fits c.requires.room (subst P c.updating-op.ensures c.in_ok-changed.ensures.emitted) q) c.emit_set.ensures.sets
+    let own = sort c.variable_type-own.result.now in
+    let t = sort c.args.t.now in
+    let e = typed_expr c.args.e.now in
+    let before = typed_expr c.reading-before.result in
+    let suits = own_suits x.source x.variables (typed_target c.args.target.now) c.args.op own t (type_of e) c.variable_type-own.ensures c.requires.fits in
+    let P : Binary → Type 0 = λ z. ComputesAs x z t own before e c.args.b.now c.emit_changed.new.b c.in_ok-value.value.0 in
+    on_ok_map _ _ _ (update_code x (typed_target c.args.target.now) c.args.op own t before e c.args.e.now.span c.reading-before.ensures.reads c.variable_type-own.ensures suits _ _ _ c.in_ok-value.value c.requires.room (subst P c.updating-op.ensures c.in_ok-value.ensures.computes)) c.emit_set.ensures.sets
 
 pub returns-clause-kinds : goal.returns-clause-kinds
-returns-clause-kinds c g among h = c.emit_set.ensures.kinds g among (c.in_ok-changed.ensures.walked.kinds g among h)
+returns-clause-kinds c g among h = c.emit_set.ensures.kinds g among (c.in_ok-value.ensures.kinds g among h)
