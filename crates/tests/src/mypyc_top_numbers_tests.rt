@@ -17,6 +17,13 @@ const NO_FIT: End<'static> = End {
     number: 7,
 };
 
+// A variable of the module keeps a large int.
+const NO_FIT_KEPT: End<'static> = End {
+    line: "OverflowError: integer does not fit in i64\n",
+    summary: "-- Raised OverflowError\n-- live 2\n-- Int 1\n-- OverflowError 1\n",
+    number: 7,
+};
+
 const NEGATIVE: End<'static> = End {
     line: "ValueError: negative shift count\n",
     summary: "-- Raised ValueError\n-- live 1\n-- ValueError 1\n",
@@ -415,6 +422,127 @@ print(0x7fff_ffff_ffff_ffff_ffff_ffff_ffff_ffff)
 => 170141183460469231731687303715884105727
 "#;
 
+/// Modules in which a variable that is an int is changed by a native integer: the operation is one of native integers, and its
+/// result an int again. They keep no large int.
+const UPDATES: &str = r#"-- Each operation.
+def f(n: int, m: i64) -> int:
+    n += m
+    print(n)
+    n -= m * 3
+    print(n)
+    n *= m
+    print(n)
+    n //= m
+    print(n)
+    n %= m
+    print(n)
+    n <<= m
+    print(n)
+    n >>= m
+    return n
+print(f(7, 2))
+print(f(-7, 3))
+=> 9
+=> 3
+=> 6
+=> 3
+=> 1
+=> 4
+=> 1
+=> -4
+=> -13
+=> -39
+=> -13
+=> 2
+=> 16
+=> 2
+
+-- The result wraps around before the int takes it, and from there on nothing does.
+def f(n: int, m: i64) -> None:
+    n += m
+    print(n)
+    n -= 1
+    print(n)
+f(9223372036854775800, 7)
+f(9223372036854775807, 1)
+=> 9223372036854775807
+=> 9223372036854775806
+=> -9223372036854775808
+=> -9223372036854775809
+
+def f(n: int, m: i64) -> int:
+    n *= m
+    return n
+def g(n: int, m: i64) -> int:
+    n <<= m
+    return n
+def h(n: int, m: i64) -> int:
+    n -= m
+    return n
+print(f(4611686018427387904, 1), f(4611686018427387904, 2), f(4611686018427387904, 4), f(-3037000500, 3037000500))
+print(g(5, 0), g(1, 62), g(1, 63), g(3, 62), g(-1, 63))
+print(h(0, -9223372036854775808), h(-9223372036854775808, 1), h(-1, -9223372036854775808))
+=> 4611686018427387904 -9223372036854775808 0 9223372036709301616
+=> 5 4611686018427387904 -9223372036854775808 -4611686018427387904 -9223372036854775808
+=> -9223372036854775808 9223372036854775807 9223372036854775807
+
+-- A variable of the module, small and large in turn.
+n = 4611686018427387903
+m: i64 = 1
+def up() -> None:
+    global n
+    n += m
+def half() -> int:
+    global n
+    n //= i64(2)
+    return n
+up()
+print(n)
+up()
+print(n)
+print(half(), n, half())
+n <<= m + 1
+print(n)
+n %= i64(1000)
+print(n)
+n -= m
+print(n)
+=> 4611686018427387904
+=> 4611686018427387905
+=> 2305843009213693952 2305843009213693952 1152921504606846976
+=> 4611686018427387904
+=> 904
+=> 903
+
+-- The variable is read before the operand is evaluated.
+n = 1
+def g(k: i64) -> i64:
+    global n
+    n = 100
+    print(k, n)
+    return k
+n += g(5)
+print(n)
+n = 7
+n *= g(2) + n
+print(n)
+=> 5 100
+=> 6
+=> 2 100
+=> 714
+
+-- In a loop, by several types in turn.
+def f(n: int, m: i64, b: bool) -> int:
+    while m > 0:
+        n += m
+        n *= 2
+        n += b
+        m -= 1
+    return n
+print(f(0, 3, False), f(4611686018427387904, 1, True))
+=> 34 9223372036854775811
+"#;
+
 /// Modules that end so, each behind its output.
 const FAILURES: &[(End<'static>, &str)] = &[
     (
@@ -590,6 +718,51 @@ def f(n: i64, m: int) -> i64:
 print(f(-9223372036854775807, -1))
 print(f(-9223372036854775808, -1))
 => 9223372036854775807
+
+-- An int that a native integer changes: the operand is evaluated before it is turned into one.
+def g(m: i64) -> i64:
+    print(m)
+    return m
+def f(n: int) -> int:
+    n += g(2)
+    return n
+print(f(9223372036854775807))
+print(f(9223372036854775808))
+=> 2
+=> -9223372036854775807
+=> 2
+
+-- The least native number, divided.
+def f(n: int, m: i64) -> int:
+    n %= m
+    print(n)
+    n -= 9223372036854775808
+    n //= m
+    return n
+f(5, -1)
+=> 0
+"#,
+    ),
+    (
+        NO_FIT_KEPT,
+        r#"-- The variable is as it was.
+n = 4611686018427387904
+n += i64(1)
+print(n)
+n *= 2
+n += i64(1)
+print(n)
+=> 4611686018427387905
+
+n = 9223372036854775807
+def f(m: i64) -> None:
+    global n
+    n -= m
+    print(n)
+f(1)
+n += 2
+f(1)
+=> 9223372036854775806
 "#,
     ),
     (
@@ -628,6 +801,26 @@ def f(n: int) -> None:
 f(2)
 => 500000000000000000000
 => 500000000000000000000
+
+-- An int that a native integer changes.
+def f(n: int, m: i64) -> None:
+    while True:
+        n %= m
+        print(n)
+        m -= 1
+f(7, 2)
+=> 1
+=> 0
+
+-- In the operand, before a variable that has no place in 64 bits is turned into a native integer.
+def g(m: i64) -> i64:
+    return 5 // m
+def f(n: int, m: i64) -> int:
+    n *= g(m)
+    return n
+print(f(3, 1))
+print(f(9223372036854775808, 0))
+=> 15
 "#,
     ),
     (
@@ -675,6 +868,14 @@ def f(a: int, b: i64) -> i64:
 print(f(5, 1))
 print(f(5, -1))
 => 2
+
+-- An int is changed by a native integer.
+def f(n: int, m: i64) -> int:
+    n <<= m
+    return n
+print(f(3, 1))
+print(f(0, 64))
+=> 6
 "#,
     ),
     (
@@ -713,6 +914,20 @@ def f(n: int) -> int:
 print(f(4611686018427387904))
 print(f(1))
 => 4611686018427387905
+
+-- Changed by a native integer, which is not evaluated before.
+def g(m: i64) -> i64:
+    print(m)
+    return m
+def f(m: i64) -> int:
+    if m > 1:
+        x = 2
+    x += g(m)
+    return x
+print(f(3))
+print(f(1))
+=> 3
+=> 5
 "#,
     ),
     (
@@ -737,6 +952,12 @@ x = 4611686018427387904
 #[test]
 fn values(rt: HostRuntime) -> Result<(), Fail> {
     check_table(&rt, rt.alloc(), VALUES)?;
+    Ok(())
+}
+
+#[test]
+fn updates_by_native_integers(rt: HostRuntime) -> Result<(), Fail> {
+    check_table(&rt, rt.alloc(), UPDATES)?;
     Ok(())
 }
 

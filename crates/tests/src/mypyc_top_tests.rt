@@ -15,30 +15,28 @@ pub(crate) const FOUND: &str = "Found 1 error in 1 file (checked 1 source file)\
 
 pub(crate) const THREE: &str = r#"/* mypyc subset 1 */
 char CPyModule(void) {
-    PyObject *cpy_r_r0;
-    CPyTagged cpy_r_r1;
+    CPyTagged cpy_r_r0;
+    PyObject *cpy_r_r1;
     PyObject *cpy_r_r2;
-    PyObject *cpy_r_r3;
-    char cpy_r_r4;
-    cpy_r_r1 = 6;
-    cpy_r_r2 = CPyTagged_Str(cpy_r_r1);
-    CPyTagged_DECREF(cpy_r_r1);
+    char cpy_r_r3;
+    cpy_r_r0 = 6;
+    cpy_r_r1 = CPyTagged_Str(cpy_r_r0);
+    CPyTagged_DECREF(cpy_r_r0);
+    CPy_Write(cpy_r_r1);
+    CPy_DECREF(cpy_r_r1);
+    cpy_r_r2 = CPyStr_Literal("\n");
     CPy_Write(cpy_r_r2);
     CPy_DECREF(cpy_r_r2);
-    cpy_r_r3 = CPyStr_Literal("\n");
-    CPy_Write(cpy_r_r3);
-    CPy_DECREF(cpy_r_r3);
-    cpy_r_r4 = 1;
-    return cpy_r_r4;
+    cpy_r_r3 = 1;
+    return cpy_r_r3;
 }
 "#;
 
 const NONE: &str = r#"/* mypyc subset 1 */
 char CPyModule(void) {
-    PyObject *cpy_r_r0;
-    char cpy_r_r1;
-    cpy_r_r1 = 1;
-    return cpy_r_r1;
+    char cpy_r_r0;
+    cpy_r_r0 = 1;
+    return cpy_r_r0;
 }
 "#;
 
@@ -48,41 +46,39 @@ int64_t CPyStatic_y;
 char CPyStatic_z;
 PyObject *CPyStatic_u;
 char CPyModule(void) {
-    PyObject *cpy_r_r0;
-    char cpy_r_r1;
-    cpy_r_r1 = 1;
-    return cpy_r_r1;
+    char cpy_r_r0;
+    cpy_r_r0 = 1;
+    return cpy_r_r0;
 }
 "#;
 
 const TWO: &str = r#"/* mypyc subset 1 */
 char CPyModule(void) {
-    PyObject *cpy_r_r0;
-    CPyTagged cpy_r_r1;
+    CPyTagged cpy_r_r0;
+    PyObject *cpy_r_r1;
     PyObject *cpy_r_r2;
-    PyObject *cpy_r_r3;
-    CPyTagged cpy_r_r4;
+    CPyTagged cpy_r_r3;
+    PyObject *cpy_r_r4;
     PyObject *cpy_r_r5;
-    PyObject *cpy_r_r6;
-    char cpy_r_r7;
-    cpy_r_r1 = 0;
-    cpy_r_r2 = CPyTagged_Str(cpy_r_r1);
-    CPyTagged_DECREF(cpy_r_r1);
+    char cpy_r_r6;
+    cpy_r_r0 = 0;
+    cpy_r_r1 = CPyTagged_Str(cpy_r_r0);
+    CPyTagged_DECREF(cpy_r_r0);
+    CPy_Write(cpy_r_r1);
+    CPy_DECREF(cpy_r_r1);
+    cpy_r_r2 = CPyStr_Literal("\n");
     CPy_Write(cpy_r_r2);
     CPy_DECREF(cpy_r_r2);
-    cpy_r_r3 = CPyStr_Literal("\n");
-    CPy_Write(cpy_r_r3);
-    CPy_DECREF(cpy_r_r3);
-    cpy_r_r4 = 9223372036854775806;
-    cpy_r_r5 = CPyTagged_Str(cpy_r_r4);
-    CPyTagged_DECREF(cpy_r_r4);
+    cpy_r_r3 = 9223372036854775806;
+    cpy_r_r4 = CPyTagged_Str(cpy_r_r3);
+    CPyTagged_DECREF(cpy_r_r3);
+    CPy_Write(cpy_r_r4);
+    CPy_DECREF(cpy_r_r4);
+    cpy_r_r5 = CPyStr_Literal("\n");
     CPy_Write(cpy_r_r5);
     CPy_DECREF(cpy_r_r5);
-    cpy_r_r6 = CPyStr_Literal("\n");
-    CPy_Write(cpy_r_r6);
-    CPy_DECREF(cpy_r_r6);
-    cpy_r_r7 = 1;
-    return cpy_r_r7;
+    cpy_r_r6 = 1;
+    return cpy_r_r6;
 }
 "#;
 
