@@ -9,12 +9,12 @@ use Rattle.outside_core.specs.Bytes.{TakesFront}
 use Rattle.outside_core.proofs.Fronts.{TakesFront-all, TakesFront-before}
 use Rattle.c_core.specs.Machine.{MachineState}
 use Rattle.c_core.specs.Step.{Next, Ends, Ended}
-use Rattle.line_reader.specs.declared.item.Item.{Item}
-use Rattle.line_reader.specs.declared.item.Item.TheVariants.{Line, Bad, Eof, Over}
-use Rattle.line_reader.specs.declared.read_fault.ReadFault.{ReadFault}
-use Rattle.line_reader.specs.declared.read_fault.ReadFault.TheVariants as read
-use Rattle.line_reader.specs.ReaderState.{ReaderState, total_of}
-use Rattle.line_reader.specs.Reading.{items_left, is_ready, Suits, Answers, Refuses, Found, Takes, EndIsSeen}
+use Rattle.c_runner_lines.specs.declared.item.Item.{Item}
+use Rattle.c_runner_lines.specs.declared.item.Item.TheVariants.{Line, Bad, Eof, Over}
+use Rattle.c_runner_lines.specs.declared.read_fault.ReadFault.{ReadFault}
+use Rattle.c_runner_lines.specs.declared.read_fault.ReadFault.TheVariants as read
+use Rattle.c_runner_lines.specs.ReaderState.{ReaderState, total_of}
+use Rattle.c_runner_lines.specs.Reading.{items_left, is_ready, Suits, Answers, Refuses, Found, Takes, EndIsSeen}
 use Rattle.c_runner.specs.declared.pause.Pause.{Pause}
 use Rattle.c_runner.specs.declared.pause.Pause.TheVariants.{Waits}
 use Rattle.c_runner.specs.declared.report.Ending.{Ending}

@@ -13,10 +13,10 @@ use Rattle.c_core.specs.Step.{Next, Ended, step}
 use Rattle.c_core.specs.Run.{Stop, machine_run}
 use Rattle.c_core.specs.Laws.{RunExists}
 use Rattle.c_core.specs.WellFormed.{WellFormed}
-use Rattle.line_reader.specs.Held.{most_read, piece_size}
-use Rattle.line_reader.specs.ReaderState.{ReaderState, total_of}
-use Rattle.line_reader.specs.Reading.{items_left, is_ready, Suits, EndIsSeen}
-use Rattle.line_reader.proofs.TakeLemmas.{waits}
+use Rattle.c_runner_lines.specs.Held.{most_read, piece_size}
+use Rattle.c_runner_lines.specs.ReaderState.{ReaderState, total_of}
+use Rattle.c_runner_lines.specs.Reading.{items_left, is_ready, Suits, EndIsSeen}
+use Rattle.c_runner_lines.proofs.TakeLemmas.{waits}
 use Rattle.c_runner.specs.declared.report.Ending.{Ending}
 use Rattle.c_runner.specs.declared.report.Ending.TheVariants.{Over}
 use Rattle.c_runner.specs.declared.report.Report.{Report}

@@ -6,11 +6,11 @@ use Rattle.value_core.specs.Ending as source
 use Rattle.value_core.specs.Items.{Items, InputEnd, Broken, Line, Bad}
 use Rattle.c_core.specs.Machine.{MachineState}
 use Rattle.c_core.specs.Step.{Next, Ends, Ended}
-use Rattle.line_reader.specs.declared.item.Item.{Item}
-use Rattle.line_reader.specs.declared.read_fault.ReadFault.TheVariants.{Failed}
-use Rattle.line_reader.specs.Held.{most_read, piece_size}
-use Rattle.line_reader.specs.ReaderState.{ReaderState, total_of}
-use Rattle.line_reader.specs.Reading.{items_left, is_ready, Suits, Refuses, Found, Takes, Uses, EndIsSeen}
+use Rattle.c_runner_lines.specs.declared.item.Item.{Item}
+use Rattle.c_runner_lines.specs.declared.read_fault.ReadFault.TheVariants.{Failed}
+use Rattle.c_runner_lines.specs.Held.{most_read, piece_size}
+use Rattle.c_runner_lines.specs.ReaderState.{ReaderState, total_of}
+use Rattle.c_runner_lines.specs.Reading.{items_left, is_ready, Suits, Refuses, Found, Takes, Uses, EndIsSeen}
 use Rattle.c_runner.specs.declared.report.Ending.{Ending}
 use Rattle.c_runner.specs.declared.report.Ending.TheVariants.{Over}
 use Rattle.c_runner.specs.declared.report.RunError.{RunError}

@@ -7,9 +7,9 @@ use Rattle.c_core.specs.declared.code.Code.{Code}
 use Rattle.value_core.specs.Ending as source
 use Rattle.c_core.specs.Step.{Ended}
 use Rattle.c_core.specs.Run.{Stop}
-use Rattle.line_reader.specs.Held.{most_read, piece_size}
-use Rattle.line_reader.specs.declared.read_fault.ReadFault.{ReadFault}
-use Rattle.line_reader.specs.declared.read_fault.ReadFault.TheVariants as read
+use Rattle.c_runner_lines.specs.Held.{most_read, piece_size}
+use Rattle.c_runner_lines.specs.declared.read_fault.ReadFault.{ReadFault}
+use Rattle.c_runner_lines.specs.declared.read_fault.ReadFault.TheVariants as read
 use Rattle.c_runner.specs.declared.report.Report.{Report}
 use Rattle.c_runner.specs.declared.report.RunError.{RunError}
 use Rattle.c_runner.specs.declared.report.RunError.TheVariants.{InputFault, WriteFault, Memory}

@@ -4,8 +4,8 @@ use Rattle.value_core.specs.Items as items
 use Rattle.value_core.specs.Items.{Items}
 use Rattle.c_core.specs.Machine.{MachineState}
 use Rattle.c_core.specs.Step.{Next, applied, line_read}
-use Rattle.line_reader.specs.declared.item.Item.{Item}
-use Rattle.line_reader.specs.declared.item.Item.TheVariants.{Line, Bad, Eof, Over}
+use Rattle.c_runner_lines.specs.declared.item.Item.{Item}
+use Rattle.c_runner_lines.specs.declared.item.Item.TheVariants.{Line, Bad, Eof, Over}
 use Rattle.c_runner.specs.declared.pause.Pause.{Pause}
 use Rattle.c_runner.specs.declared.pause.Pause.TheVariants.{Memory, Waits}
 use Rattle.c_runner.specs.declared.report.Ending.{Ending}

@@ -11,8 +11,8 @@ use crate::pause::Pause;
 use crate::report::Ending;
 use crate::state::State;
 use c_core::{CArg, Fault};
+use c_runner_lines::Item;
 use cell_heap::{Content, Word};
-use line_reader::Item;
 use std::alloc::Global;
 use value_core::{ExcClass, Memory, Text};
 

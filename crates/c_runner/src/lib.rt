@@ -5,7 +5,7 @@
 //! left. The promise: it is exactly the run of the machine (`machine_run` of c_core), cells, counts and faults included;
 //! `specs/Report.antt` says when a report is that of a run, and `specs/Ran.antt` what a call gives.
 //!
-//! A step that asks for a line of the input makes no read: it waits, and the run reads the line (`line_reader`) and goes on with it;
+//! A step that asks for a line of the input makes no read: it waits, and the run reads the line (`c_runner_lines`) and goes on with it;
 //! what is held of the output is handed on before each read.
 //!
 //! The runner keeps a state of its own and makes the machine's steps one for one: `specs/States.antt` says which state of

@@ -11,7 +11,7 @@ use crate::report::{Ending, RunError};
 use crate::state::State;
 use crate::table::Target;
 use c_core::Code;
-use line_reader::{Item, LineReader};
+use c_runner_lines::{Item, LineReader};
 use outside_core::{Sink, Source};
 use std::alloc::Global;
 use value_core::Many;

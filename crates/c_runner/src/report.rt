@@ -1,5 +1,5 @@
 use c_core::Fault;
-use line_reader::ReadFault;
+use c_runner_lines::ReadFault;
 use outside_core::WriteFault;
 use thiserror::Error;
 use value_core::{ExcClass, Many, Memory as NoMemory, Text};

@@ -10,7 +10,7 @@ use crate::report::{Report, RunError};
 use crate::state::State;
 use crate::table::table;
 use c_core::{CFunc, Code, run_exists, run_keeps_counts, run_stays_small};
-use line_reader::LineReader;
+use c_runner_lines::LineReader;
 use outside_core::{Sink, Source};
 use std::alloc::Global;
 

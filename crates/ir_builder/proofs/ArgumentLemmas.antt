@@ -20,12 +20,12 @@ use Rattle.ir_core.specs.declared.code.RType.{RType}
 use Rattle.ir_core.specs.declared.code.RType.TheVariants.{Bool as BoolType}
 use Rattle.ir_core.specs.Registers.{Held, Unset, Holds, error_of, error_at, first_regs}
 use Rattle.ir_core.specs.Rows.{Declared, type_of_reg}
-use Rattle.ir_frames.specs.declared.frame.Vars.{Vars}
-use Rattle.ir_frames.specs.Coming.{world, running, returning, Ends}
-use Rattle.ir_frames.specs.Matching.{HasKind, HaveKinds, HaveTypes, flag_of, flag_in, Matches, Departs, parameter_sorts, CallGives, CallRaises, CallsWork}
-use Rattle.ir_frames.specs.Settings.{rtype_of}
-use Rattle.ir_frames.proofs.HeldLemmas.{get_below}
-use Rattle.ir_statements.specs.Means.{means_suite}
+use Rattle.ir_builder_frames.specs.declared.frame.Vars.{Vars}
+use Rattle.ir_builder_frames.specs.Coming.{world, running, returning, Ends}
+use Rattle.ir_builder_frames.specs.Matching.{HasKind, HaveKinds, HaveTypes, flag_of, flag_in, Matches, Departs, parameter_sorts, CallGives, CallRaises, CallsWork}
+use Rattle.ir_builder_frames.specs.Settings.{rtype_of}
+use Rattle.ir_builder_frames.proofs.HeldLemmas.{get_below}
+use Rattle.ir_builder_loops_and_jumps.specs.Means.{means_suite}
 use Rattle.ir_builder.specs.Registers.{variable_registers, variables_of}
 use Rattle.ir_builder.specs.Bodies.{LeavesWith, BodyWorks, body_frame}
 use Rattle.ir_builder.specs.Functions.{end_value}

@@ -20,19 +20,19 @@ use Rattle.ir_core.specs.Meaning.{Waiting, Config, Strict, declared_of, register
 use Rattle.ir_core.specs.Registers.{Holds, Regs, literal_of, look}
 use Rattle.ir_core.specs.Rows.{type_of_reg}
 use Rattle.ir_core.proofs.StepLemmas.{return_step}
-use Rattle.ir_frames.specs.Calling.{Adds, Closes}
-use Rattle.ir_frames.specs.Coming.{world, running, returning, Leads}
-use Rattle.ir_frames.specs.Computing.{Meaning}
-use Rattle.ir_frames.specs.Kinds.{Surrounding, LastKinds}
-use Rattle.ir_frames.specs.Matching.{Departs}
-use Rattle.ir_frames.specs.Placing.{Has, Placed, or_other}
-use Rattle.ir_frames.specs.Settings.{Setting}
-use Rattle.ir_frames.proofs.ComingLemmas.{leads_refl, leads_step, leads_trans, ends_more}
-use Rattle.ir_frames.proofs.HeldLemmas.{extends_trans, has_less, type_has}
-use Rattle.ir_frames.proofs.StepLemmas.{literal_makes}
-use Rattle.ir_statements.specs.declared.ways.Exit.{Exit}
-use Rattle.ir_statements.specs.Runs.{JumpTo, OpenIn, Back, Flows, Emitted}
-use Rattle.ir_statements.proofs.ExitLemmas.{close_at}
+use Rattle.ir_builder_frames.specs.Calling.{Adds, Closes}
+use Rattle.ir_builder_frames.specs.Coming.{world, running, returning, Leads}
+use Rattle.ir_builder_frames.specs.Computing.{Meaning}
+use Rattle.ir_builder_frames.specs.Kinds.{Surrounding, LastKinds}
+use Rattle.ir_builder_frames.specs.Matching.{Departs}
+use Rattle.ir_builder_frames.specs.Placing.{Has, Placed, or_other}
+use Rattle.ir_builder_frames.specs.Settings.{Setting}
+use Rattle.ir_builder_frames.proofs.ComingLemmas.{leads_refl, leads_step, leads_trans, ends_more}
+use Rattle.ir_builder_frames.proofs.HeldLemmas.{extends_trans, has_less, type_has}
+use Rattle.ir_builder_frames.proofs.StepLemmas.{literal_makes}
+use Rattle.ir_builder_loops_and_jumps.specs.declared.ways.Exit.{Exit}
+use Rattle.ir_builder_loops_and_jumps.specs.Runs.{JumpTo, OpenIn, Back, Flows, Emitted}
+use Rattle.ir_builder_loops_and_jumps.proofs.ExitLemmas.{close_at}
 use Rattle.ir_builder.specs.Bodies.{Filled, LeavesWith, Bodied}
 use Rattle.ir_builder.proofs.FillLemmas.{true_false, all_written}
 

@@ -13,9 +13,9 @@ use Rattle.ir_core.specs.Items.{Do}
 use Rattle.ir_core.specs.Meaning.{Waiting, Ended, Strict, item_at, turned, step}
 use Rattle.ir_core.specs.Registers.{Holds, Regs, first_regs}
 use Rattle.ir_core.proofs.StepLemmas.{op_step, turn_step}
-use Rattle.ir_frames.specs.Coming.{world, running, Ends}
-use Rattle.ir_frames.specs.Matching.{HaveKinds, HaveTypes, HasGlobals, parameter_sorts, HasHead, CallGives, CallRaises, CallsWork}
-use Rattle.ir_frames.proofs.ComingLemmas.{leads_step, ends_from, ends_of}
+use Rattle.ir_builder_frames.specs.Coming.{world, running, Ends}
+use Rattle.ir_builder_frames.specs.Matching.{HaveKinds, HaveTypes, HasGlobals, parameter_sorts, HasHead, CallGives, CallRaises, CallsWork}
+use Rattle.ir_builder_frames.proofs.ComingLemmas.{leads_step, ends_from, ends_of}
 use Rattle.ir_builder.specs.Functions.{FunctionWorks}
 
 -- a function of the module has its code, which begins with a turn

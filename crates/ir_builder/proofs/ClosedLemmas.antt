@@ -11,7 +11,7 @@ use Rattle.py_typed.specs.State.{State, Outcome, Gives, Raises, Stops, Does, Cal
 use Rattle.py_typed.specs.WaysOut.{Flow, Goes, Breaks, Continues, Returns, flow_on, after_body, loop}
 use Rattle.py_typed.specs.Narrowing.{breaks, breaks_in, breaks_suite, breaks_arms, is_true_literal, closes, closes_in, is_closed, closed_arms}
 use Rattle.py_typed.specs.StatementMeaning.{value_of, bind, update, changed, value_or, test_of, statement, act, suite, first_arm}
-use Rattle.ir_bodies.specs.Suiting.{StatementSuits, ActSuits, SuiteSuits, ArmsSuit}
+use Rattle.ir_builder_statements.specs.Suiting.{StatementSuits, ActSuits, SuiteSuits, ArmsSuit}
 
 -- ---- ways to end that do not come
 

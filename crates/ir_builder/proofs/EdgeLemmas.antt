@@ -12,8 +12,8 @@ use Rattle.ir_core.specs.declared.code.Reg.{Reg}
 use Rattle.ir_core.specs.declared.kind.Edge.TheVariants.{Tests}
 use Rattle.ir_core.specs.Items.{Item, Do, End, in_block, item_in, blocks_of}
 use Rattle.ir_core.specs.Meaning.{is_edge, item_at}
-use Rattle.ir_frames.specs.Placing.{into, NoEdges}
-use Rattle.ir_frames.specs.Shaped.{Above, OpsFit, EndFits, AllFit}
+use Rattle.ir_builder_frames.specs.Placing.{into, NoEdges}
+use Rattle.ir_builder_frames.specs.Shaped.{Above, OpsFit, EndFits, AllFit}
 
 ops_at : (n : ℕ) (os : List (Op × ℕ)) (l : Last) (i : ℕ) (o : Op) → OpsFit n os → in_block os l i ≡ Some (Do o) → Above n (into o)
 ops_at n [] l zero o f e = let g : Some (End l) ≡ Some (Do o) = e in absurd (cc)

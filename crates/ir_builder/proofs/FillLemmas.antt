@@ -9,8 +9,8 @@ use Rattle.ir_core.specs.declared.code.Reg.{Reg}
 use Rattle.ir_core.specs.Items.{End, in_block}
 use Rattle.ir_core.specs.Building.{Building, with_last, held_in, held, is_unwritten, is_open_at}
 use Rattle.ir_core.specs.Meaning.{item_at}
-use Rattle.ir_frames.specs.Calling.{Closes, Open}
-use Rattle.ir_frames.proofs.PatchLemmas.{patches, ends_same}
+use Rattle.ir_builder_frames.specs.Calling.{Closes, Open}
+use Rattle.ir_builder_frames.proofs.PatchLemmas.{patches, ends_same}
 use Rattle.ir_builder.specs.Bodies.{Filled}
 
 hole_end : (os : List (Op × ℕ)) (l : Last) → is_unwritten l ≡ true → in_block os l (length os) ≡ Some (End Unreachable)

@@ -27,22 +27,22 @@ use Rattle.ir_core.specs.Meaning.{Config, Ended, declared_of}
 use Rattle.ir_core.specs.Registers.{Holds, literal_of, first_regs}
 use Rattle.ir_core.specs.Rows.{Declared, type_of_reg}
 use Rattle.ir_core.proofs.BuildingLemmas.{built_is_held}
-use Rattle.ir_frames.specs.declared.frame.Vars.{Vars}
-use Rattle.ir_frames.specs.Calling.{Pushes}
-use Rattle.ir_frames.specs.Coming.{world, Escapes}
-use Rattle.ir_frames.specs.Computing.{Meaning}
-use Rattle.ir_frames.specs.Kinds.{Head, head_of, Surrounding, LiteralFits, OpKinds, OpsKinds, BlocksKinds, HasKinds, KeepsKinds, KeepsKindsIf, IsAmong}
-use Rattle.ir_frames.specs.Matching.{flag_of, HasRoom, Matches, Departs, BeginWith}
-use Rattle.ir_frames.specs.Naming.{names_of}
-use Rattle.ir_frames.specs.Placing.{NoEdges, Has}
-use Rattle.ir_frames.specs.Settings.{Setting, rtype_of}
-use Rattle.ir_frames.specs.Shaped.{OpFits, OpsFit, AllFit, Shaped, KeepsIf, Keeps}
-use Rattle.ir_frames.proofs.ComingLemmas.{ends_map}
-use Rattle.ir_frames.proofs.HeldLemmas.{extends_refl, extends_trans, get_below, type_kept}
-use Rattle.ir_bodies.specs.Modules.{variable_names, FunctionSuits}
-use Rattle.ir_bodies.specs.Kinds.{GivesResult, IsAround}
-use Rattle.ir_statements.specs.Means.{means_suite}
-use Rattle.ir_shapes.specs.Built.{building_of, IsBuilt}
+use Rattle.ir_builder_frames.specs.declared.frame.Vars.{Vars}
+use Rattle.ir_builder_frames.specs.Calling.{Pushes}
+use Rattle.ir_builder_frames.specs.Coming.{world, Escapes}
+use Rattle.ir_builder_frames.specs.Computing.{Meaning}
+use Rattle.ir_builder_frames.specs.Kinds.{Head, head_of, Surrounding, LiteralFits, OpKinds, OpsKinds, BlocksKinds, HasKinds, KeepsKinds, KeepsKindsIf, IsAmong}
+use Rattle.ir_builder_frames.specs.Matching.{flag_of, HasRoom, Matches, Departs, BeginWith}
+use Rattle.ir_builder_frames.specs.Naming.{names_of}
+use Rattle.ir_builder_frames.specs.Placing.{NoEdges, Has}
+use Rattle.ir_builder_frames.specs.Settings.{Setting, rtype_of}
+use Rattle.ir_builder_frames.specs.Shaped.{OpFits, OpsFit, AllFit, Shaped, KeepsIf, Keeps}
+use Rattle.ir_builder_frames.proofs.ComingLemmas.{ends_map}
+use Rattle.ir_builder_frames.proofs.HeldLemmas.{extends_refl, extends_trans, get_below, type_kept}
+use Rattle.ir_builder_statements.specs.Modules.{variable_names, FunctionSuits}
+use Rattle.ir_builder_statements.specs.Kinds.{GivesResult, IsAround}
+use Rattle.ir_builder_loops_and_jumps.specs.Means.{means_suite}
+use Rattle.ir_builder_shapes_laws.specs.Built.{building_of, IsBuilt}
 use Rattle.ir_builder.specs.Registers.{register_of, variable_registers, Begins, variables_of, AddsFlags}
 use Rattle.ir_builder.specs.Bodies.{LeavesWith, Bodied, CompletesShape, BodyAround, BodyWorks, body_frame}
 use Rattle.ir_builder.specs.Functions.{end_literal, end_value, heads_of, IsFunctionOf, IsOwnOf}

@@ -3,10 +3,10 @@ use Rattle.std.proofs.Common.{◌≡◌, ℕ, ◌+◌, ◌<◌, ◌≤◌, List,
 use Rattle.std.proofs.lemmas.Grind.{common_steps}
 use Rattle.ir_core.specs.declared.code.RType.TheVariants.{Bool as BoolType}
 use Rattle.ir_core.specs.Building.{Building, Extends}
-use Rattle.ir_frames.specs.Calling.{Declares}
-use Rattle.ir_frames.specs.Placing.{HasType}
-use Rattle.ir_frames.specs.Shaped.{Keeps}
-use Rattle.ir_frames.proofs.HeldLemmas.{extends_refl, extends_trans, type_kept}
+use Rattle.ir_builder_frames.specs.Calling.{Declares}
+use Rattle.ir_builder_frames.specs.Placing.{HasType}
+use Rattle.ir_builder_frames.specs.Shaped.{Keeps}
+use Rattle.ir_builder_frames.proofs.HeldLemmas.{extends_refl, extends_trans, type_kept}
 use Rattle.ir_builder.specs.Registers.{AddsFlags}
 use Rattle.ir_builder.proofs.ArgumentLemmas.{less_or}
 

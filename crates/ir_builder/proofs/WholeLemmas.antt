@@ -26,18 +26,18 @@ use Rattle.ir_core.specs.Runs as run
 use Rattle.ir_core.specs.Runs.{first_world, begins, Calm}
 use Rattle.ir_core.proofs.ModeLemmas.{unstuck_is_plain}
 use Rattle.ir_core.proofs.RunLemmas.{ended_is_calm}
-use Rattle.ir_frames.specs.Coming.{world, running, Escapes, Leads, Ends}
-use Rattle.ir_frames.specs.Kinds.{Head, head_of}
-use Rattle.ir_frames.specs.Matching.{parameter_sorts, BeginWith, HasHead}
-use Rattle.ir_frames.specs.Naming.{names_of}
-use Rattle.ir_frames.specs.Placing.{NoEdges}
-use Rattle.ir_frames.specs.Settings.{rtype_of}
-use Rattle.ir_frames.proofs.ComingLemmas.{leads_as, leads_step, leads_trans}
-use Rattle.ir_frames.proofs.GlobalLemmas.{none_have_types}
-use Rattle.ir_frames.proofs.KindLemmas.{get_behind}
-use Rattle.ir_bodies.specs.Modules.{FunctionSuits, ModuleSuits}
-use Rattle.ir_shapes.specs.Built.{head_of_code, IsBuilt, IsFunction, IsOwn, IsProgram}
-use Rattle.ir_statements.proofs.EmitLemmas.{map_last}
+use Rattle.ir_builder_frames.specs.Coming.{world, running, Escapes, Leads, Ends}
+use Rattle.ir_builder_frames.specs.Kinds.{Head, head_of}
+use Rattle.ir_builder_frames.specs.Matching.{parameter_sorts, BeginWith, HasHead}
+use Rattle.ir_builder_frames.specs.Naming.{names_of}
+use Rattle.ir_builder_frames.specs.Placing.{NoEdges}
+use Rattle.ir_builder_frames.specs.Settings.{rtype_of}
+use Rattle.ir_builder_frames.proofs.ComingLemmas.{leads_as, leads_step, leads_trans}
+use Rattle.ir_builder_frames.proofs.GlobalLemmas.{none_have_types}
+use Rattle.ir_builder_frames.proofs.KindLemmas.{get_behind}
+use Rattle.ir_builder_statements.specs.Modules.{FunctionSuits, ModuleSuits}
+use Rattle.ir_builder_shapes_laws.specs.Built.{head_of_code, IsBuilt, IsFunction, IsOwn, IsProgram}
+use Rattle.ir_builder_loops_and_jumps.proofs.EmitLemmas.{map_last}
 use Rattle.ir_builder.specs.Functions.{heads_of, IsFunctionOf, AllBuilt, IsBuiltOf}
 use Rattle.ir_builder.specs.Meaning.{module_stop, DoesAsModule}
 use Rattle.ir_builder.specs.Registers.{register_of, variable_registers}

@@ -14,17 +14,17 @@ use Rattle.ir_core.specs.Building.{Building, held, Extends, is_open_at}
 use Rattle.ir_core.specs.Items.{Item, End}
 use Rattle.ir_core.specs.Meaning.{Config, Waiting, item_at}
 use Rattle.ir_core.specs.Registers.{Holds, Regs, literal_of}
-use Rattle.ir_frames.specs.declared.frame.Frame.{Frame}
-use Rattle.ir_frames.specs.declared.frame.Vars.{Vars}
-use Rattle.ir_frames.specs.Coming.{world, running, returning, Ends}
-use Rattle.ir_frames.specs.Computing.{Meaning}
-use Rattle.ir_frames.specs.Kinds.{Surrounding, LiteralFits}
-use Rattle.ir_frames.specs.Matching.{HaveTypes, Matches, Departs, CallsWork}
-use Rattle.ir_frames.specs.Placing.{Has}
-use Rattle.ir_frames.specs.Settings.{Setting}
-use Rattle.ir_frames.specs.Shaped.{Shaped}
-use Rattle.ir_statements.specs.Runs.{HasResult}
-use Rattle.ir_bodies.specs.Kinds.{IsAround}
+use Rattle.ir_builder_frames.specs.declared.frame.Frame.{Frame}
+use Rattle.ir_builder_frames.specs.declared.frame.Vars.{Vars}
+use Rattle.ir_builder_frames.specs.Coming.{world, running, returning, Ends}
+use Rattle.ir_builder_frames.specs.Computing.{Meaning}
+use Rattle.ir_builder_frames.specs.Kinds.{Surrounding, LiteralFits}
+use Rattle.ir_builder_frames.specs.Matching.{HaveTypes, Matches, Departs, CallsWork}
+use Rattle.ir_builder_frames.specs.Placing.{Has}
+use Rattle.ir_builder_frames.specs.Settings.{Setting}
+use Rattle.ir_builder_frames.specs.Shaped.{Shaped}
+use Rattle.ir_builder_loops_and_jumps.specs.Runs.{HasResult}
+use Rattle.ir_builder_statements.specs.Kinds.{IsAround}
 
 -- ---- ends that are still open
 

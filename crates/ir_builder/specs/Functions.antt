@@ -14,11 +14,11 @@ use Rattle.ir_core.specs.declared.code.RType.{RType}
 use Rattle.ir_core.specs.declared.code.RType.TheVariants.{Bool, Ref}
 use Rattle.ir_core.specs.Meaning.{Waiting, Ended}
 use Rattle.ir_core.specs.Registers.{Holds, first_regs}
-use Rattle.ir_frames.specs.Coming.{world, running, Escapes, Ends}
-use Rattle.ir_frames.specs.Settings.{variable_registers}
-use Rattle.ir_frames.specs.Kinds.{Head, head_of}
-use Rattle.ir_frames.specs.Matching.{HaveKinds, HaveTypes, parameter_sorts, HasHead, CallGives, CallRaises, CallsWork}
-use Rattle.ir_shapes.specs.Built.{IsFunction, IsOwn}
+use Rattle.ir_builder_frames.specs.Coming.{world, running, Escapes, Ends}
+use Rattle.ir_builder_frames.specs.Settings.{variable_registers}
+use Rattle.ir_builder_frames.specs.Kinds.{Head, head_of}
+use Rattle.ir_builder_frames.specs.Matching.{HaveKinds, HaveTypes, parameter_sorts, HasHead, CallGives, CallRaises, CallsWork}
+use Rattle.ir_builder_shapes_laws.specs.Built.{IsFunction, IsOwn}
 
 -- what a function gives at the end of its code. One whose result is not None does not come there
 abbrev pub end_literal : RType → Lit

@@ -8,7 +8,7 @@ use Rattle.ir_core.specs.declared.code.RType.{RType}
 use Rattle.ir_core.specs.declared.code.Program.{Program}
 use Rattle.ir_core.specs.Effects.{World}
 use Rattle.ir_core.specs.Runs.{ComesTo}
-use Rattle.ir_frames.specs.Settings.{variable_registers}
+use Rattle.ir_builder_frames.specs.Settings.{variable_registers}
 
 -- where a program stops, in the terms of a module
 abbrev pub module_stop : Ending → World → ModuleStop

@@ -3,9 +3,9 @@ use Rattle.std.specs.Prelude.{◌≡◌, ℕ, ◌+◌, ◌-◌, ◌<◌, ◌≤�
 use Rattle.ir_core.specs.declared.code.RType.TheVariants.{Bool}
 use Rattle.ir_core.specs.Building.{Building, Extends}
 use Rattle.ir_core.specs.Rows.{Declared}
-use Rattle.ir_frames.specs.declared.frame.Vars.{Vars}
-pub use Rattle.ir_frames.specs.Settings.{register_of, variable_registers}
-use Rattle.ir_frames.specs.Placing.{HasType}
+use Rattle.ir_builder_frames.specs.declared.frame.Vars.{Vars}
+pub use Rattle.ir_builder_frames.specs.Settings.{register_of, variable_registers}
+use Rattle.ir_builder_frames.specs.Placing.{HasType}
 
 -- so many parameters and variables in all, and behind them the flags
 abbrev pub variables_of : ℕ → ℕ → Vars

@@ -3,17 +3,17 @@ ghost use Rattle.std.specs.Prelude.{◌≡◌, ◌≤◌, ◌<◌, ◌^◌, map,
 ghost use Rattle.std.specs.Option.{option_map, option_copied};
 ghost use Rattle.py_typed.specs.Sorts.{sort};
 ghost use Rattle.py_typed.specs.Statements.{typed_module, typed_suite, variable};
-ghost use Rattle.ir_frames.specs.Settings.{setting};
-ghost use Rattle.ir_frames.specs.Matching.{HasRoom};
-ghost use Rattle.ir_frames.specs.Shaped.{KeepsIf};
-ghost use Rattle.ir_frames.specs.Kinds.{KeepsKinds, KeepsKindsIf};
-ghost use Rattle.ir_statements.specs.Means.{means_suite};
-ghost use Rattle.ir_bodies.specs.Suiting.{SuiteSuits};
+ghost use Rattle.ir_builder_frames.specs.Settings.{setting};
+ghost use Rattle.ir_builder_frames.specs.Matching.{HasRoom};
+ghost use Rattle.ir_builder_frames.specs.Shaped.{KeepsIf};
+ghost use Rattle.ir_builder_frames.specs.Kinds.{KeepsKinds, KeepsKindsIf};
+ghost use Rattle.ir_builder_loops_and_jumps.specs.Means.{means_suite};
+ghost use Rattle.ir_builder_statements.specs.Suiting.{SuiteSuits};
 ghost use Rattle.ir_builder.specs.Bodies.{Filled, Bodied, BodyAround, CompletesShape, body_frame};
 
-use ir_bodies::emit_block;
+use ir_builder_frames::{Emitter, Frame, Vars};
+use ir_builder_statements::emit_block;
 use ir_core::{Last, Lit, RType};
-use ir_frames::{Emitter, Frame, Vars};
 use py_typed::{Checked, TStmt, Ty, Var};
 use std::alloc::Global;
 use value_core::Memory;

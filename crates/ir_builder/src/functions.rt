@@ -2,16 +2,16 @@
 ghost use Rattle.std.specs.Prelude.{◌≡◌, IfOk, true};
 ghost use Rattle.c_core.specs.WellFormed.{names_differ};
 ghost use Rattle.py_typed.specs.Statements.{typed_module, typed_func};
-ghost use Rattle.ir_frames.specs.Naming.{names_of};
-ghost use Rattle.ir_bodies.specs.Modules.{ModuleSuits, FunctionSuits};
+ghost use Rattle.ir_builder_frames.specs.Naming.{names_of};
+ghost use Rattle.ir_builder_statements.specs.Modules.{ModuleSuits, FunctionSuits};
 ghost use Rattle.ir_builder.specs.Registers.{Begins};
 ghost use Rattle.ir_builder.specs.Functions.{end_literal, IsFunctionOf, IsOwnOf};
 
 use crate::body::{NO_LINE, emit_body};
 use crate::registers::{add_flags, registers_for, vars_of};
+use ir_builder_expressions::register_type;
+use ir_builder_frames::Emitter;
 use ir_core::{Func, Lit, Op, RType};
-use ir_expressions::register_type;
-use ir_frames::Emitter;
 use py_typed::{Checked, TFunc};
 use std::alloc::Global;
 use value_core::{Many, Memory, Name};

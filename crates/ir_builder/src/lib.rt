@@ -1,6 +1,6 @@
 //! From a typed module to a program of intermediate code.
 //!
-//! What comes in is a `Checked` whose forms are all compiled (`ModuleSuits` of `ir_bodies`); what goes out is its `Program`
+//! What comes in is a `Checked` whose forms are all compiled (`ModuleSuits` of `ir_builder_statements`); what goes out is its `Program`
 //! (`build`). For every number of turns and all input the program does what the module does (`specs/Meaning.antt`); no run of
 //! it is stuck; it has its shape, so that its C text is well formed and none of its operations counts references; and behind
 //! no operation that may fail stands a test of its result.

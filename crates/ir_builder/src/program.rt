@@ -3,8 +3,8 @@ ghost use Rattle.std.specs.Prelude.{◌≡◌, ℕ, IfOk};
 ghost use Rattle.py_typed.specs.Statements.{typed_module};
 ghost use Rattle.ir_core.specs.Runs.{Calm};
 ghost use Rattle.ir_core.specs.Shape.{Shape};
-ghost use Rattle.ir_frames.specs.Placing.{NoEdges};
-ghost use Rattle.ir_bodies.specs.Modules.{ModuleSuits};
+ghost use Rattle.ir_builder_frames.specs.Placing.{NoEdges};
+ghost use Rattle.ir_builder_statements.specs.Modules.{ModuleSuits};
 ghost use Rattle.ir_builder.specs.Functions.{AllBuilt, IsBuiltOf};
 ghost use Rattle.ir_builder.specs.Meaning.{DoesAsModule, globals_of};
 

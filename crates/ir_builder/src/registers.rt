@@ -1,13 +1,13 @@
 //! The registers with which a function begins.
 ghost use Rattle.std.specs.Prelude.{◌≡◌, ◌≤◌, ◌-◌, map, IfOk, OnOk};
 ghost use Rattle.py_typed.specs.Statements.{variable};
-ghost use Rattle.ir_frames.specs.Shaped.{Keeps};
-ghost use Rattle.ir_frames.specs.Kinds.{KeepsKinds};
+ghost use Rattle.ir_builder_frames.specs.Shaped.{Keeps};
+ghost use Rattle.ir_builder_frames.specs.Kinds.{KeepsKinds};
 ghost use Rattle.ir_builder.specs.Registers.{variable_registers, variables_of, AddsFlags};
 
+use ir_builder_expressions::register_type;
+use ir_builder_frames::{Emitter, Vars};
 use ir_core::RType;
-use ir_expressions::register_type;
-use ir_frames::{Emitter, Vars};
 use py_typed::Var;
 use std::alloc::Global;
 use value_core::{Memory, Name};

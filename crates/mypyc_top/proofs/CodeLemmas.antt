@@ -11,9 +11,9 @@ use Rattle.ir_core.specs.Lower.{kind_of_type, global_of}
 use Rattle.ir_core.specs.Meaning.{Plain}
 use Rattle.ir_core.specs.Runs.{MeansSame, start}
 use Rattle.ir_core.proofs.RunLemmas.{ends_are_one}
-use Rattle.ir_frames.specs.Settings.{rtype_of}
+use Rattle.ir_builder_frames.specs.Settings.{rtype_of}
 use Rattle.error_edges.specs.Edged.{IsEdgedProgram}
-use Rattle.line_laws.specs.Follows.{stop_of, Follows}
+use Rattle.refcount_insert_lines_laws.specs.Follows.{stop_of, Follows}
 use Rattle.ir_builder.specs.Meaning as builder
 use Rattle.ir_builder.specs.Meaning.{DoesAsModule, globals_of}
 use Rattle.mypyc_top.specs.Faithful.{kind_of, RunsAs, Faithful}

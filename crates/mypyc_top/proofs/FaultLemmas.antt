@@ -2,15 +2,15 @@
 use Rattle.std.proofs.Common.{◌≡◌, refl, sym, ◌∙◌, ap, subst, ℕ, List, [], ◌∷◌, Option, Some, None, Result, Ok, Err}
 use Rattle.std.specs.Prelude.{IfOk}
 use Rattle.py_syntax.specs.Statements.{Suite}
-use Rattle.py_forms.specs.Later.{later_line}
+use Rattle.py_check_unbuilt.specs.Later.{later_line}
 use Rattle.py_typed.specs.Statements.{TypedModule}
-use Rattle.ir_forms.specs.Statements.{uncompiled_line}
-use Rattle.py_source.specs.declared.fault.SourceFault.{SourceFault}
-use Rattle.py_source.specs.declared.source.SourceError.TheVariants as source
-use Rattle.py_source.specs.Entries.{Entry}
-use Rattle.py_source.specs.Modules.{IsModule}
-use Rattle.py_source.specs.Sayings.{SaysOfFile}
-use Rattle.py_source.proofs.ListLemmas as file
+use Rattle.ir_builder_supported.specs.Statements.{uncompiled_line}
+use Rattle.py_parser_source.specs.declared.fault.SourceFault.{SourceFault}
+use Rattle.py_parser_source.specs.declared.source.SourceError.TheVariants as source
+use Rattle.py_parser_source.specs.Entries.{Entry}
+use Rattle.py_parser_source.specs.Modules.{IsModule}
+use Rattle.py_parser_source.specs.Sayings.{SaysOfFile}
+use Rattle.py_parser_source.proofs.ListLemmas as file
 use Rattle.mypyc_top.specs.declared.words.Emit.{Emit}
 use Rattle.mypyc_top.specs.declared.faults.Faults.TheVariants.{OfSource, Unbuilt}
 use Rattle.mypyc_top.specs.declared.typing.ModuleError.{ModuleError}

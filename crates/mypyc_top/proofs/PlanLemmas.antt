@@ -5,7 +5,7 @@ use Rattle.std.specs.Option.{option_and_then}
 use Rattle.value_core.specs.Items.{Items}
 use Rattle.outside_core.specs.Counts.{count_end, has_risen}
 use Rattle.py_typed.specs.Statements.{TypedModule}
-use Rattle.py_source.specs.Entries.{Entry}
+use Rattle.py_parser_source.specs.Entries.{Entry}
 use Rattle.mypyc_top.specs.declared.status.Status.{Status}
 use Rattle.mypyc_top.specs.declared.status.Status.TheVariants as status
 use Rattle.mypyc_top.specs.declared.words.Emit.{Emit}

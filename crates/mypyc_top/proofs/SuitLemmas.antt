@@ -2,17 +2,17 @@
 use Rattle.std.proofs.Common.{◌≡◌, refl, sym, ◌∙◌, ap, subst, ℕ, true, List, [], ◌∷◌, Option, Some, None, Result, Ok, Err}
 use Rattle.std.specs.Prelude.{if◌then◌else◌, IfOk}
 use Rattle.py_syntax.specs.Statements.{Suite}
-use Rattle.py_forms.specs.Later.{later_line}
+use Rattle.py_check_unbuilt.specs.Later.{later_line}
 use Rattle.py_typed.specs.Statements.{TypedModule}
 use Rattle.py_typed.specs.WellTypedModule.{is_well_typed}
 use Rattle.py_check.specs.Module.{diagnostics, typed}
-use Rattle.py_source.specs.Entries.{Entry}
-use Rattle.py_source.specs.Modules.{IsModule}
+use Rattle.py_parser_source.specs.Entries.{Entry}
+use Rattle.py_parser_source.specs.Modules.{IsModule}
 use Rattle.c_core.specs.WellFormed.{is_identifier}
-use Rattle.ir_bodies.specs.Modules.{ModuleSuits}
-use Rattle.ir_forms.specs.Statements.{uncompiled_line}
-use Rattle.ir_forms.proofs.ModuleLemmas.{compiled_suits}
-use Rattle.tree_laws.specs.Written.{QuietFileIsWellTyped}
+use Rattle.ir_builder_statements.specs.Modules.{ModuleSuits}
+use Rattle.ir_builder_supported.specs.Statements.{uncompiled_line}
+use Rattle.ir_builder_supported.proofs.ModuleLemmas.{compiled_suits}
+use Rattle.py_check_source_laws.specs.Written.{QuietFileIsWellTyped}
 use Rattle.mypyc_top.specs.declared.words.Emit.{Emit}
 use Rattle.mypyc_top.specs.declared.typing.ModuleError.{ModuleError}
 use Rattle.mypyc_top.specs.Types.{types_said, typed_tree}

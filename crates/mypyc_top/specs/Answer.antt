@@ -14,7 +14,7 @@ use Rattle.mypyc_top.specs.declared.words.Request.{Request}
 use Rattle.mypyc_top.specs.declared.words.Words.{Words}
 use Rattle.mypyc_top.specs.declared.words.Words.TheVariants.{Usage, Go}
 use Rattle.mypyc_top.specs.Words.{words_of}
-use Rattle.py_source.specs.Entries.{Entry}
+use Rattle.py_parser_source.specs.Entries.{Entry}
 use Rattle.mypyc_top.specs.Source.{IsTyped}
 use Rattle.mypyc_top.specs.Faithful.{Faithful}
 use Rattle.mypyc_top.specs.Diagnostics.{entries_text}

@@ -1,6 +1,6 @@
 -- How what is wrong with a file is written.
 use Rattle.std.specs.Prelude.{ℕ, ◌==◌, if◌then◌else◌, List, ◌++◌, length, codes, decimal, flat_map}
-use Rattle.py_source.specs.Entries.{Entry}
+use Rattle.py_parser_source.specs.Entries.{Entry}
 
 -- the line that is written of an entry, with the name of the file as it stands in the command
 abbrev pub entry_text : List ℕ → Entry → List ℕ

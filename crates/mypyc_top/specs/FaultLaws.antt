@@ -1,7 +1,7 @@
 -- Laws of what is wrong with a file, and of what it is.
 use Rattle.std.specs.Prelude.{◌≡◌, ℕ, List}
 use Rattle.py_typed.specs.Statements.{TypedModule}
-use Rattle.py_source.specs.Entries.{Entry}
+use Rattle.py_parser_source.specs.Entries.{Entry}
 use Rattle.mypyc_top.specs.declared.words.Emit.{Emit}
 use Rattle.mypyc_top.specs.Source.{IsTyped}
 use Rattle.mypyc_top.specs.Faults.{AreFaults}

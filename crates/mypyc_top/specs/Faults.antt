@@ -5,10 +5,10 @@
 use Rattle.std.specs.Prelude.{ℕ, Bool, true, false, if◌then◌else◌, List, [], ◌∷◌, Option, option_to_list, codes}
 use Rattle.std.specs.Option.{option_map}
 use Rattle.py_syntax.specs.Statements.{Suite}
-use Rattle.py_forms.specs.Later.{later_line}
-use Rattle.ir_forms.specs.Statements.{uncompiled_line}
-use Rattle.py_source.specs.Entries.{Entry, Telling}
-use Rattle.py_source.specs.Faults as source
+use Rattle.py_check_unbuilt.specs.Later.{later_line}
+use Rattle.ir_builder_supported.specs.Statements.{uncompiled_line}
+use Rattle.py_parser_source.specs.Entries.{Entry, Telling}
+use Rattle.py_parser_source.specs.Faults as source
 use Rattle.mypyc_top.specs.declared.words.Emit.{Emit}
 use Rattle.mypyc_top.specs.declared.words.Emit.TheVariants.{Check, C, Run, Runc}
 use Rattle.mypyc_top.specs.Types.{types_said, typed_tree}

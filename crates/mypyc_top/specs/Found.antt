@@ -1,7 +1,7 @@
 -- What the steps of reading a module say of its faults.
 use Rattle.std.specs.Prelude.{◌≡◌, List, [], ◌∷◌, map, Result, Ok, Err}
-use Rattle.py_source.specs.Entries.{Entry}
-use Rattle.py_source.specs.Sayings.{entry_of}
+use Rattle.py_parser_source.specs.Entries.{Entry}
+use Rattle.py_parser_source.specs.Sayings.{entry_of}
 use Rattle.mypyc_top.specs.declared.faults.Faults.{Faults}
 use Rattle.mypyc_top.specs.declared.faults.Faults.TheVariants.{OfSource, Unbuilt, OfTypes}
 use Rattle.mypyc_top.specs.declared.typing.ModuleError.{ModuleError}

@@ -2,7 +2,7 @@
 use Rattle.std.specs.Prelude.{◌≡◌, ℕ, List}
 use Rattle.py_syntax.specs.Statements.{Suite}
 use Rattle.py_typed.specs.Statements.{TypedModule}
-use Rattle.py_source.specs.Modules.{IsModule}
+use Rattle.py_parser_source.specs.Modules.{IsModule}
 use Rattle.mypyc_top.specs.Types.{typed_tree}
 
 -- a file is a module whose tree has this typed module

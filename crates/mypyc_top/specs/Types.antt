@@ -4,7 +4,7 @@ use Rattle.py_syntax.specs.Statements.{Suite}
 use Rattle.py_binder.specs.declared.scope.Diag.{Diag}
 use Rattle.py_typed.specs.Statements.{TypedModule}
 use Rattle.py_check.specs.Module.{diagnostics, typed}
-use Rattle.py_source.specs.Entries.{Entry}
+use Rattle.py_parser_source.specs.Entries.{Entry}
 
 -- the entry of a diagnostic
 abbrev pub entry_at : Diag → Entry

@@ -1,7 +1,7 @@
 //! The code that is built for a module.
 ghost use Rattle.std.specs.Prelude.{IfOk};
 ghost use Rattle.py_typed.specs.Statements.{typed_module};
-ghost use Rattle.ir_bodies.specs.Modules.{ModuleSuits};
+ghost use Rattle.ir_builder_statements.specs.Modules.{ModuleSuits};
 ghost use Rattle.mypyc_top.specs.Faithful.{Faithful};
 
 use c_core::Code;

@@ -1,13 +1,13 @@
 //! All that is wrong with a file, and the lines that say so.
 ghost use Rattle.std.specs.Prelude.{◌≡◌, ◌++◌, map, string_bytes, IfOk};
-ghost use Rattle.py_source.specs.Sayings.{entry_of};
+ghost use Rattle.py_parser_source.specs.Sayings.{entry_of};
 ghost use Rattle.mypyc_top.specs.Types.{entry_at};
 ghost use Rattle.mypyc_top.specs.Faults.{unbuilt_entry};
 ghost use Rattle.mypyc_top.specs.Diagnostics.{entry_text, errors_word, found_text, entries_text};
 ghost use Rattle.mypyc_top.specs.Found.{entries_of};
 
 use py_binder::Diag;
-use py_source::SourceFault;
+use py_parser_source::SourceFault;
 use std::alloc::Global;
 use value_core::{Many, Memory};
 

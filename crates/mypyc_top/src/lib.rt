@@ -6,7 +6,7 @@
 //! promise: wherever no object fails and memory lasts, it is exactly the answer of `specs/Answer.antt`, whose C text is
 //! faithful to the module (`specs/Faithful.antt`), and whose runs are those of the source and of the C text
 //! (`specs/Running.antt`). `specs/Words.antt` has the words, `specs/Source.antt` the typed modules of files,
-//! `specs/SourceRun.antt` where their runs stop. Which forms are compiled is said by `ir_forms`.
+//! `specs/SourceRun.antt` where their runs stop. Which forms are compiled is said by `ir_builder_supported`.
 #![tactic(auto)]
 
 mod code;

@@ -2,8 +2,8 @@
 ghost use Rattle.std.specs.Prelude.{◌≡◌, [], if◌then◌else◌, true, IfOk};
 ghost use Rattle.py_syntax.specs.Statements.{module_tree};
 ghost use Rattle.py_typed.specs.Statements.{typed_module};
-ghost use Rattle.ir_forms.specs.Statements.{uncompiled_line};
-ghost use Rattle.ir_bodies.specs.Modules.{ModuleSuits};
+ghost use Rattle.ir_builder_supported.specs.Statements.{uncompiled_line};
+ghost use Rattle.ir_builder_statements.specs.Modules.{ModuleSuits};
 ghost use Rattle.mypyc_top.specs.Types.{types_said, typed_tree};
 ghost use Rattle.mypyc_top.specs.Source.{IsTyped};
 ghost use Rattle.mypyc_top.specs.Faults.{compiles, unbuilt_at, of_compiling, of_typed, told, AreFaults};
@@ -11,15 +11,15 @@ ghost use Rattle.mypyc_top.specs.Found.{Tells, Judges};
 
 use crate::faults::Faults;
 use crate::words::Emit;
-use ir_forms::uncompiled_line;
+use ir_builder_supported::uncompiled_line;
 use py_binder::bind;
 use py_check::{CheckError, check};
-use py_forms::later_line;
-use py_source::{SourceError, read_module};
+use py_check_source_laws::quiet_files_are_well_typed;
+use py_check_unbuilt::later_line;
+use py_parser_source::{SourceError, read_module};
 use py_syntax::Module;
 use py_typed::Checked;
 use std::alloc::Global;
-use tree_laws::quiet_files_are_well_typed;
 use value_core::Memory;
 
 /// Why a file gives no typed module.

@@ -4,7 +4,7 @@ use Rattle.std.proofs.lemmas.List.{append_assoc}
 use Rattle.py_binder.specs.declared.scope.Diag.{Diag}
 use Rattle.py_typed.specs.declared.checked.TFunc.{TFunc}
 use Rattle.py_typed.specs.Statements.{TypedFunc, typed_func}
-use Rattle.py_scope.specs.Context.{VarSort}
+use Rattle.py_check_context.specs.Context.{VarSort}
 use Rattle.py_check.specs.declared.functions.Function.{Function}
 use Rattle.py_check.specs.Definitions.{Headed}
 use Rattle.py_check.specs.Views.{headed_of}

@@ -13,11 +13,11 @@ use Rattle.py_syntax.specs.Statements.{StmtTree, StmtNode, FuncTree, stmt_tree, 
 use Rattle.py_binder.specs.declared.scope.Diag.{Diag}
 use Rattle.py_binder.specs.Scope.{contains, Roles}
 use Rattle.py_binder.proofs.TableLemmas.{contains_all}
-use Rattle.py_scope.specs.declared.scope.Meaning.{Meaning}
-use Rattle.py_names.specs.Walked.{trees, func_trees}
-use Rattle.py_names.specs.Outline.{said_by, said_from, held_by}
-use Rattle.py_names.proofs.OutlineLemmas.{trees_at}
-use Rattle.py_headers.specs.Definitions.{is_builtin_name}
+use Rattle.py_check_context.specs.declared.scope.Meaning.{Meaning}
+use Rattle.py_check_names.specs.Walked.{trees, func_trees}
+use Rattle.py_check_names.specs.Outline.{said_by, said_from, held_by}
+use Rattle.py_check_names.proofs.OutlineLemmas.{trees_at}
+use Rattle.py_check_signatures.specs.Definitions.{is_builtin_name}
 use Rattle.py_check.specs.Definitions.{Headed, headed, names_given, definition_said, definitions_said}
 use Rattle.py_check.specs.declared.functions.Function.{Function}
 use Rattle.py_check.specs.Views.{headed_of, first_said, said_at, said_along}

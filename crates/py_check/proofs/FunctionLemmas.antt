@@ -5,11 +5,11 @@ use Rattle.py_syntax.specs.declared.statement.Func.{Func}
 use Rattle.py_syntax.specs.Statements.{FuncTree, func_tree}
 use Rattle.py_binder.specs.declared.scope.Scope.{Scope}
 use Rattle.py_binder.specs.Scope.{Roles, function_scope}
-use Rattle.py_scope.specs.declared.scope.Meaning.{Meaning}
-use Rattle.py_names.specs.Walked.{func_trees}
+use Rattle.py_check_context.specs.declared.scope.Meaning.{Meaning}
+use Rattle.py_check_names.specs.Walked.{func_trees}
 use Rattle.py_binder.proofs.DefinitionLemmas.{func_tree_at}
-use Rattle.py_headers.specs.Headers.{HeaderSorts}
-use Rattle.py_headers.specs.Views.{header_sorts}
+use Rattle.py_check_signatures.specs.Headers.{HeaderSorts}
+use Rattle.py_check_signatures.specs.Views.{header_sorts}
 use Rattle.py_check.specs.declared.functions.Function.{Function}
 use Rattle.py_check.specs.Definitions.{Headed, headed}
 use Rattle.py_check.specs.Views.{headed_of, headed_parts, headed_with, headed_all}

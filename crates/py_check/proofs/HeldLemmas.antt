@@ -15,7 +15,7 @@ use Rattle.py_binder.specs.declared.sight.Home.TheVariants.{InModule}
 use Rattle.py_binder.specs.declared.scope.Role.TheVariants.{Function, Class}
 use Rattle.py_binder.specs.Sights.{Sight, sight, Holds, Defines, maybe_read, text_reads, reads, node_reads, exprs_reads, comparisons_reads, entries_reads, arguments_reads, maybe_reads, list_reads, target_sights, target_node_sights, targets_sights, aliases_sights, params_reads, header_sights, is_name, attribute_sights, member_sights, members_sights, caught_sights, stmt_sights, stmt_node_sights, suite_sights, arms_sights, handlers_sights, maybe_suite_sights}
 use Rattle.py_binder.specs.Scope.{all_there, held_there, functions}
-use Rattle.py_names.specs.Outline.{method_in, methods_in, held_by, stmt_definitions, node_definitions, suite_definitions, arms_definitions, handlers_definitions, last_definitions}
+use Rattle.py_check_names.specs.Outline.{method_in, methods_in, held_by, stmt_definitions, node_definitions, suite_definitions, arms_definitions, handlers_definitions, last_definitions}
 
 abbrev held : List Sight → List FuncTree
 held = all_there held_there

@@ -5,8 +5,8 @@ use Rattle.py_syntax.specs.Expressions as e
 use Rattle.py_syntax.specs.Expressions.{ExprTree}
 use Rattle.py_syntax.specs.Statements as s
 use Rattle.py_syntax.specs.Statements.{StmtTree, suite_of}
-use Rattle.py_messages.specs.Seen.{diag}
-use Rattle.py_messages.specs.Messages.{not_defined}
+use Rattle.py_check_messages.specs.Seen.{diag}
+use Rattle.py_check_messages.specs.Messages.{not_defined}
 use Rattle.py_check.specs.Module.{diagnostics}
 
 abbrev on : ℕ → Span

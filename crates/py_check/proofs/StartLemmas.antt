@@ -7,11 +7,11 @@ use Rattle.std.specs.Map.{lookup}
 use Rattle.std.specs.Str.{bytes_eq}
 use Rattle.py_syntax.specs.declared.expression.Expr.{Expr}
 use Rattle.py_typed.specs.Sorts.{Sort}
-use Rattle.py_flow.specs.declared.bindings.Binding.{Binding}
-use Rattle.py_flow.specs.Bindings.{bindings_of}
-use Rattle.py_names.proofs.TableLemmas.{said_step}
+use Rattle.py_check_flow.specs.declared.bindings.Binding.{Binding}
+use Rattle.py_check_flow.specs.Bindings.{bindings_of}
+use Rattle.py_check_names.proofs.TableLemmas.{said_step}
 use Rattle.py_binder.proofs.TableLemmas.{or_else}
-use Rattle.py_headers.proofs.DefinitionLemmas.{names, names_at}
+use Rattle.py_check_signatures.proofs.DefinitionLemmas.{names, names_at}
 use Rattle.py_check.specs.Starts.{param_sort, first_mark}
 use Rattle.py_check.specs.Views.{mark_tree}
 

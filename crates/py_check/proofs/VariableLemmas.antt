@@ -6,8 +6,8 @@ use Rattle.std.specs.Option.{option_map}
 use Rattle.py_typed.specs.declared.checked.Var.{Var}
 use Rattle.py_typed.specs.Sorts.{Sort}
 use Rattle.py_typed.specs.Statements.{Variable, variable}
-use Rattle.py_scope.specs.declared.variables.VarType.{VarType}
-use Rattle.py_scope.specs.Context.{var_sort, var_of, var_at}
+use Rattle.py_check_context.specs.declared.variables.VarType.{VarType}
+use Rattle.py_check_context.specs.Context.{var_sort, var_of, var_at}
 use Rattle.py_check.specs.Variables.{numbers_from, sort_or_none, variables_from}
 
 pub numbers_on : (names : List (List ℕ)) (i : ℕ) → i < length names → (ns ns2 whole : List ℕ) → ns2 ≡ ns ++ i ∷ [] → ns ++ numbers_from i (drop i names) ≡ whole → ns2 ++ numbers_from (i + 1) (drop (i + 1) names) ≡ whole

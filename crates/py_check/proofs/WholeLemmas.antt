@@ -15,12 +15,12 @@ use Rattle.py_order.specs.Order.{by_place}
 use Rattle.py_typed.specs.declared.checked.Checked.{Checked}
 use Rattle.py_typed.specs.Classes.{ClassEntry, Signature}
 use Rattle.py_typed.specs.Statements.{TypedModule}
-use Rattle.py_scope.specs.declared.scope.Meaning.{Meaning}
-use Rattle.py_names.specs.declared.meanings.Known.{Known}
-use Rattle.py_names.specs.Walked.{func_trees}
-use Rattle.py_names.specs.Outline.{suite_definitions}
-use Rattle.py_names.specs.Meanings.{variables, meaning_in, said_in, module_meaning}
-use Rattle.py_headers.specs.Headers.{header, header_said, signature_of}
+use Rattle.py_check_context.specs.declared.scope.Meaning.{Meaning}
+use Rattle.py_check_names.specs.declared.meanings.Known.{Known}
+use Rattle.py_check_names.specs.Walked.{func_trees}
+use Rattle.py_check_names.specs.Outline.{suite_definitions}
+use Rattle.py_check_names.specs.Meanings.{variables, meaning_in, said_in, module_meaning}
+use Rattle.py_check_signatures.specs.Headers.{header, header_said, signature_of}
 use Rattle.py_check.specs.declared.checking.CheckError.{CheckError}
 use Rattle.py_check.specs.declared.checking.CheckError.TheVariants as reason
 use Rattle.py_check.specs.Definitions.{Headed, headed, headed_functions, inner_definitions_said, headers_said}

@@ -13,13 +13,13 @@ use Rattle.py_binder.specs.declared.scope.Diag.{Diag}
 use Rattle.py_binder.specs.declared.scope.Scope.{Scope}
 use Rattle.py_binder.specs.Scope.{Roles, module_role, function_scope, functions}
 use Rattle.py_typed.specs.Classes.{Signature}
-use Rattle.py_scope.specs.declared.scope.Meaning.{Meaning}
-use Rattle.py_messages.specs.Seen.{diag}
-use Rattle.py_messages.specs.Messages as message
-use Rattle.py_names.specs.Outline.{said_by, may_import_all, suite_definitions}
-use Rattle.py_names.specs.Meanings.{module_meaning}
-use Rattle.py_headers.specs.Headers.{HeaderSorts, header, header_said, signature_of}
-use Rattle.py_headers.specs.Definitions.{is_new, own_count, def_said}
+use Rattle.py_check_context.specs.declared.scope.Meaning.{Meaning}
+use Rattle.py_check_messages.specs.Seen.{diag}
+use Rattle.py_check_messages.specs.Messages as message
+use Rattle.py_check_names.specs.Outline.{said_by, may_import_all, suite_definitions}
+use Rattle.py_check_names.specs.Meanings.{module_meaning}
+use Rattle.py_check_signatures.specs.Headers.{HeaderSorts, header, header_said, signature_of}
+use Rattle.py_check_signatures.specs.Definitions.{is_new, own_count, def_said}
 
 -- a function with its scope and what its annotations give
 pub record Headed : Type 0 where

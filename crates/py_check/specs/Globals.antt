@@ -12,9 +12,9 @@ use Rattle.py_syntax.specs.Statements.{StmtTree, at, StmtNode, Global, If, While
 use Rattle.py_binder.specs.declared.scope.Diag.{Diag}
 use Rattle.py_binder.specs.Scope.{contains, module_scope, functions}
 use Rattle.py_binder.specs.Faults.{faults}
-use Rattle.py_messages.specs.Messages as message
-use Rattle.py_names.specs.Meanings.{variables}
-use Rattle.py_headers.specs.Definitions.{told}
+use Rattle.py_check_messages.specs.Messages as message
+use Rattle.py_check_names.specs.Meanings.{variables}
+use Rattle.py_check_signatures.specs.Definitions.{told}
 
 -- the `global` statements among statements, in the order of the text; those of a function are its own
 abbrev mutual

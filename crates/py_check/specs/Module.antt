@@ -16,16 +16,16 @@ use Rattle.py_typed.specs.Sorts as sort
 use Rattle.py_typed.specs.Sorts.{Sort}
 use Rattle.py_typed.specs.Classes.{ClassEntry, Signature}
 use Rattle.py_typed.specs.Statements.{TypedStmt, TypedFunc, TypedModule, TypedSuite, suite_of}
-use Rattle.py_scope.specs.declared.scope.Meaning.{Meaning}
-use Rattle.py_scope.specs.Context.{Context, VarSort}
-use Rattle.py_flow.specs.Bindings.{suite_bindings}
-use Rattle.py_messages.specs.Seen.{Seen}
-use Rattle.py_headers.specs.Headers.{signature_of}
-use Rattle.py_names.specs.Meanings.{variables, own_names, number, meaning_in, said_in}
-use Rattle.py_binding.specs.Returns as ret
-use Rattle.py_binding.specs.Returns.{ReturnSort}
-use Rattle.py_targets.specs.Places.{Known}
-use Rattle.py_bodies.specs.Bodies.{block, block_after}
+use Rattle.py_check_context.specs.declared.scope.Meaning.{Meaning}
+use Rattle.py_check_context.specs.Context.{Context, VarSort}
+use Rattle.py_check_flow.specs.Bindings.{suite_bindings}
+use Rattle.py_check_messages.specs.Seen.{Seen}
+use Rattle.py_check_signatures.specs.Headers.{signature_of}
+use Rattle.py_check_names.specs.Meanings.{variables, own_names, number, meaning_in, said_in}
+use Rattle.py_check_values.specs.Returns as ret
+use Rattle.py_check_values.specs.Returns.{ReturnSort}
+use Rattle.py_check_targets.specs.Places.{Known}
+use Rattle.py_check_statements.specs.Bodies.{block, block_after}
 use Rattle.py_check.specs.Definitions.{Headed, headed_functions, signatures, headers_said}
 use Rattle.py_check.specs.Globals.{globals_said}
 use Rattle.py_check.specs.Starts.{start_sort, own_sort}

@@ -10,11 +10,11 @@ use Rattle.py_binder.specs.declared.scope.Scope.{Scope}
 use Rattle.py_typed.specs.Sorts as sort
 use Rattle.py_typed.specs.Classes.{class_entry, signature}
 use Rattle.py_typed.specs.Statements.{TypedStmt, TypedFunc, TypedModule}
-use Rattle.py_scope.specs.declared.scope.Meaning.{Meaning}
-use Rattle.py_scope.specs.Context.{Context, VarSort}
-use Rattle.py_names.specs.declared.meanings.Known.{Known}
-use Rattle.py_names.specs.Meanings.{meaning_in, own_names}
-use Rattle.py_headers.specs.Headers.{header_said, signature_of}
+use Rattle.py_check_context.specs.declared.scope.Meaning.{Meaning}
+use Rattle.py_check_context.specs.Context.{Context, VarSort}
+use Rattle.py_check_names.specs.declared.meanings.Known.{Known}
+use Rattle.py_check_names.specs.Meanings.{meaning_in, own_names}
+use Rattle.py_check_signatures.specs.Headers.{header_said, signature_of}
 use Rattle.py_check.specs.declared.environments.Environment as declared
 use Rattle.py_check.specs.Definitions.{Headed, inner_definitions_said}
 use Rattle.py_check.specs.Variables.{typed_variables}

@@ -9,10 +9,10 @@ use Rattle.std.specs.Map.{lookup}
 use Rattle.std.specs.Str.{bytes_eq}
 use Rattle.py_syntax.specs.Expressions.{ExprTree}
 use Rattle.py_typed.specs.Sorts.{Sort}
-use Rattle.py_scope.specs.declared.scope.Meaning.{Meaning}
-use Rattle.py_scope.specs.Context.{VarSort, unset, untyped, has}
-use Rattle.py_flow.specs.Bindings.{Binding}
-use Rattle.py_annotations.specs.Annotations.{annotation}
+use Rattle.py_check_context.specs.declared.scope.Meaning.{Meaning}
+use Rattle.py_check_context.specs.Context.{VarSort, unset, untyped, has}
+use Rattle.py_check_flow.specs.Bindings.{Binding}
+use Rattle.py_check_annotations.specs.Annotations.{annotation}
 
 abbrev pub given_sort : Option Sort → VarSort
 given_sort None = untyped

@@ -3,7 +3,7 @@ use Rattle.std.specs.Prelude.{ℕ, suc, List, [], ◌∷◌}
 use Rattle.py_typed.specs.Sorts as sort
 use Rattle.py_typed.specs.Sorts.{Sort}
 use Rattle.py_typed.specs.Statements.{Variable}
-use Rattle.py_scope.specs.Context.{VarSort, has, var_at}
+use Rattle.py_check_context.specs.Context.{VarSort, has, var_at}
 
 -- the numbers of names
 abbrev pub numbers_from : ℕ → List (List ℕ) → List ℕ

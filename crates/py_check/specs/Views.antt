@@ -9,13 +9,13 @@ use Rattle.py_syntax.specs.declared.token.Span.{Span}
 use Rattle.py_syntax.specs.Statements.{StmtTree, at, Def, ClassDef, Import, From, FuncTree, func_tree}
 use Rattle.py_binder.specs.declared.scope.Diag.{Diag}
 use Rattle.py_binder.specs.declared.scope.Scope.{Scope}
-use Rattle.py_scope.specs.declared.scope.Meaning.{Meaning}
-use Rattle.py_messages.specs.Seen.{diag}
-use Rattle.py_messages.specs.Messages as message
-use Rattle.py_names.specs.Outline.{may_import_all, held_by}
-use Rattle.py_headers.specs.Headers.{header}
-use Rattle.py_headers.specs.Definitions.{is_new}
-use Rattle.py_headers.specs.Views.{header_sorts, parts}
+use Rattle.py_check_context.specs.declared.scope.Meaning.{Meaning}
+use Rattle.py_check_messages.specs.Seen.{diag}
+use Rattle.py_check_messages.specs.Messages as message
+use Rattle.py_check_names.specs.Outline.{may_import_all, held_by}
+use Rattle.py_check_signatures.specs.Headers.{header}
+use Rattle.py_check_signatures.specs.Definitions.{is_new}
+use Rattle.py_check_signatures.specs.Views.{header_sorts, parts}
 use Rattle.py_check.specs.declared.functions.Function.{Function}
 use Rattle.py_check.specs.Definitions.{Headed, function_said, import_said, names_given}
 

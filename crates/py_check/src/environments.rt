@@ -2,7 +2,7 @@
 ghost use Rattle.std.specs.Prelude.{◌≡◌, [], map};
 ghost use Rattle.py_typed.specs.Classes.{class_entry};
 
-use py_names::Known;
+use py_check_names::Known;
 use py_typed::{Classes, Sig};
 use std::alloc::Global;
 use value_core::Many;

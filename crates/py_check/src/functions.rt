@@ -3,13 +3,13 @@ ghost use Rattle.std.specs.Prelude.{◌≡◌, ◌++◌, length, map, IfOk};
 ghost use Rattle.std.specs.List.{flat_map};
 ghost use Rattle.std.specs.Option.{option_map};
 ghost use Rattle.py_typed.specs.Classes.{signature};
-ghost use Rattle.py_scope.specs.Context.{context};
-ghost use Rattle.py_names.specs.Walked.{func_trees};
-ghost use Rattle.py_headers.specs.Headers as headers;
+ghost use Rattle.py_check_context.specs.Context.{context};
+ghost use Rattle.py_check_names.specs.Walked.{func_trees};
+ghost use Rattle.py_check_signatures.specs.Headers as headers;
 ghost use Rattle.py_check.specs.Views.{headed_of, headed_all};
 
 use py_binder::{Diag, Scope};
-use py_headers::{Header, header_of, signature_of};
+use py_check_signatures::{Header, header_of, signature_of};
 use py_syntax::Func;
 use py_typed::Sig;
 use std::alloc::Global;
@@ -26,7 +26,7 @@ pub struct Function<'a> {
 /// Functions with their scopes, one to one; their annotations are seen in the module's scope.
 pub fn functions_of<'a>(
     alloc: Global,
-    scope: &py_scope::Scope<'_>,
+    scope: &py_check_context::Scope<'_>,
     found: &[&'a Func],
     insides: &'a [Scope],
     faults: &mut Many<Diag>,

@@ -3,13 +3,13 @@ ghost use Rattle.std.specs.Prelude.{◌≡◌, ◌++◌, [], ◌∷◌, filter, 
 ghost use Rattle.std.specs.List.{flat_map};
 ghost use Rattle.std.specs.Option.{option_copied};
 ghost use Rattle.py_syntax.specs.Statements.{stmt_tree, body_tree, func_tree, handler_tree, handlers_of};
-ghost use Rattle.py_names.specs.Walked.{trees, func_trees};
-ghost use Rattle.py_headers.specs.Views.{parts};
+ghost use Rattle.py_check_names.specs.Walked.{trees, func_trees};
+ghost use Rattle.py_check_signatures.specs.Views.{parts};
 ghost use Rattle.py_check.specs.Globals as spec;
 
 use indexmap::IndexSet;
 use py_binder::Diag;
-use py_messages::not_defined;
+use py_check_messages::not_defined;
 use py_syntax::{Func, Handler, Stmt, StmtKind};
 use std::alloc::Global;
 use value_core::{Many, Memory, Name};

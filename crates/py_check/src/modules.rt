@@ -4,10 +4,10 @@ ghost use Rattle.std.specs.Option.{option_map};
 ghost use Rattle.py_syntax.specs.Statements.{body_tree};
 ghost use Rattle.py_typed.specs.Classes.{signature};
 ghost use Rattle.py_typed.specs.Statements.{typed_func, typed_module, typed_stmt};
-ghost use Rattle.py_scope.specs.Context.{context, var_sort};
-ghost use Rattle.py_messages.specs.Seen.{Tells};
-ghost use Rattle.py_headers.specs.Headers as headers;
-ghost use Rattle.py_targets.specs.Views.{known_at};
+ghost use Rattle.py_check_context.specs.Context.{context, var_sort};
+ghost use Rattle.py_check_messages.specs.Seen.{Tells};
+ghost use Rattle.py_check_signatures.specs.Headers as headers;
+ghost use Rattle.py_check_targets.specs.Views.{known_at};
 ghost use Rattle.py_check.specs.Views.{headed_of};
 ghost use Rattle.py_check.specs.Outcome.{IsBound};
 ghost use Rattle.py_check.specs.Module as spec;
@@ -22,13 +22,13 @@ use crate::starts::start_types;
 use crate::variables::typed_variables;
 use indexmap::IndexSet;
 use py_binder::{Diag, Scope, Scopes};
-use py_binding::Returns;
-use py_bodies::block;
-use py_headers::signature_of;
-use py_names::{Known, names_in};
-use py_scope::{VarType, Variables};
+use py_check_context::{VarType, Variables};
+use py_check_names::{Known, names_in};
+use py_check_signatures::signature_of;
+use py_check_statements::block;
+use py_check_targets::Place;
+use py_check_values::Returns;
 use py_syntax::Stmt;
-use py_targets::Place;
 use py_typed::{Checked, Classes, Sig, TFunc, TStmt, Ty};
 use std::alloc::Global;
 use value_core::{Many, Memory, Name};
@@ -132,7 +132,7 @@ fn own_statements(
     ensures known { IfOk result (λ o. (known_at o.place).types.globals ≡ spec.fixed_sorts (spec.context_in (views.environment_of environment.now) top.now) environment.now.known.now.variables.keys (body_tree body.now)) }
 {
     let names = names_in(alloc, environment.known, top)?;
-    let scope = py_scope::Scope {
+    let scope = py_check_context::Scope {
         names: &names,
         sigs: environment.signatures,
         classes: environment.classes,
@@ -143,7 +143,7 @@ fn own_statements(
 /// The same in their scope.
 fn statements_in(
     alloc: Global,
-    scope: &py_scope::Scope<'_>,
+    scope: &py_check_context::Scope<'_>,
     variables: &IndexSet<Name>,
     body: &[Stmt],
     faults: &mut Many<Diag>,
@@ -167,7 +167,7 @@ fn statements_in(
 /// What is known where a module begins.
 fn start(
     alloc: Global,
-    scope: &py_scope::Scope<'_>,
+    scope: &py_check_context::Scope<'_>,
     variables: &IndexSet<Name>,
     body: &[Stmt],
 ) -> Result<Place, Memory>

@@ -5,10 +5,10 @@ ghost use Rattle.std.specs.Str.{bytes_eq};
 ghost use Rattle.indexmap.specs.IndexMap.{get};
 ghost use Rattle.py_syntax.specs.Statements.{body_tree};
 ghost use Rattle.py_binder.specs.Scope.{functions};
-ghost use Rattle.py_names.specs.Walked.{trees, func_trees};
-ghost use Rattle.py_names.specs.Outline.{suite_definitions};
-ghost use Rattle.py_names.specs.Meanings.{said_in, variables};
-ghost use Rattle.py_headers.specs.Headers.{header_said};
+ghost use Rattle.py_check_names.specs.Walked.{trees, func_trees};
+ghost use Rattle.py_check_names.specs.Outline.{suite_definitions};
+ghost use Rattle.py_check_names.specs.Meanings.{said_in, variables};
+ghost use Rattle.py_check_signatures.specs.Headers.{header_said};
 ghost use Rattle.py_check.specs.Views.{headed_of, headed_all};
 ghost use Rattle.py_check.specs.Parts as views;
 
@@ -16,7 +16,7 @@ use crate::definitions::{add_definition_faults, add_inner_faults};
 use crate::environments::no_classes;
 use crate::functions::{Function, functions_of};
 use py_binder::{Diag, Scope, Scopes};
-use py_names::{Known, Outline, definitions_in, known_in, names_in, outline_of};
+use py_check_names::{Known, Outline, definitions_in, known_in, names_in, outline_of};
 use py_syntax::{Func, Stmt};
 use std::alloc::Global;
 use value_core::{Many, Memory};
@@ -89,7 +89,7 @@ fn headed<'a>(
 {
     let names = names_in(alloc, &found.known, &scopes.top)?;
     let classes = no_classes(alloc);
-    let scope = py_scope::Scope {
+    let scope = py_check_context::Scope {
         names: &names,
         sigs: &[],
         classes: &classes,

@@ -5,14 +5,14 @@ ghost use Rattle.py_syntax.specs.Statements.{param_tree};
 ghost use Rattle.py_binder.specs.Scope.{first_sights};
 ghost use Rattle.py_typed.specs.Sorts as sorts;
 ghost use Rattle.py_typed.specs.Statements.{variable};
-ghost use Rattle.py_scope.specs.Context.{var_sort, var_of};
-ghost use Rattle.py_names.specs.Meanings as meanings;
+ghost use Rattle.py_check_context.specs.Context.{var_sort, var_of};
+ghost use Rattle.py_check_names.specs.Meanings as meanings;
 ghost use Rattle.py_check.specs.Variables as spec;
 
 use indexmap::IndexSet;
 use py_binder::{Role, Scope};
-use py_names::is_own;
-use py_scope::VarType;
+use py_check_context::VarType;
+use py_check_names::is_own;
 use py_syntax::Expr;
 use py_typed::{Ty, Var, copy_of};
 use std::alloc::Global;

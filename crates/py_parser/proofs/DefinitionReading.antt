@@ -6,20 +6,20 @@ use Rattle.py_syntax.specs.declared.token.Span.{Span}
 use Rattle.py_syntax.specs.declared.token.Token.{Token}
 use Rattle.py_syntax.specs.Expressions.{ExprTree}
 use Rattle.py_syntax.specs.Statements.{StmtTree, suite_of}
-use Rattle.py_grammar.specs.declared.terminal.Terminal.TheVariants as terminal
-use Rattle.py_grammar.specs.declared.place.Place.{Place}
-use Rattle.py_grammar.specs.Grammar as g
-use Rattle.py_grammar.specs.Grammar.{SIMPLE, FUNC, PARAM, CLASS, CBLOCK, MEMBER, MARK, DECORATED, TOP, MODULE}
-use Rattle.py_grammar.specs.Actions.{name_of, joined, marks_of, def_at, class_at}
-use Rattle.py_grammar.specs.Reader.{◌>>=◌, accept, sees, starts}
-use Rattle.py_grammar.specs.Readings.{reads_sym, reads_many, many_into, spread, whole}
-use Rattle.py_grammar.proofs.Opening.{bind_assoc, if_bind, if_same, bind_same}
-use Rattle.py_grammar.proofs.Loops.{spread_joined}
-use Rattle.py_grammar.proofs.CompoundEquations.{func_eq, class_eq, param_eq, member_eq, cblock_eq, members_round, mark_eq, mark_part, decorated_eq, marks_round, top_eq, module_eq, tops_round, func_of, class_of_parts}
-use Rattle.py_statements.specs.Suites.{reads_suite}
+use Rattle.py_parser_grammar.specs.declared.terminal.Terminal.TheVariants as terminal
+use Rattle.py_parser_grammar.specs.declared.place.Place.{Place}
+use Rattle.py_parser_grammar.specs.Grammar as g
+use Rattle.py_parser_grammar.specs.Grammar.{SIMPLE, FUNC, PARAM, CLASS, CBLOCK, MEMBER, MARK, DECORATED, TOP, MODULE}
+use Rattle.py_parser_grammar.specs.Actions.{name_of, joined, marks_of, def_at, class_at}
+use Rattle.py_parser_grammar.specs.Reader.{◌>>=◌, accept, sees, starts}
+use Rattle.py_parser_grammar.specs.Readings.{reads_sym, reads_many, many_into, spread, whole}
+use Rattle.py_parser_grammar.proofs.Opening.{bind_assoc, if_bind, if_same, bind_same}
+use Rattle.py_parser_grammar.proofs.Loops.{spread_joined}
+use Rattle.py_parser_grammar.proofs.CompoundEquations.{func_eq, class_eq, param_eq, member_eq, cblock_eq, members_round, mark_eq, mark_part, decorated_eq, marks_round, top_eq, module_eq, tops_round, func_of, class_of_parts}
+use Rattle.py_parser_statements.specs.Suites.{reads_suite}
 use Rattle.py_parser.specs.Definitions.{reads_params, reads_class_body, reads_bases, reads_members, reads_marks, reads_tops, reads_maybe}
-use Rattle.py_reading.proofs.Binds.{regrouped}
-use Rattle.py_expressions.proofs.RowReading.{items_row, trees_row}
+use Rattle.py_parser_cursor.proofs.Binds.{regrouped}
+use Rattle.py_parser_expressions.proofs.RowReading.{items_row, trees_row}
 
 -- ---- functions and classes
 

@@ -6,17 +6,17 @@ use Rattle.py_syntax.specs.declared.statement.Module.{Module}
 use Rattle.py_syntax.specs.declared.token.Token.{Token}
 use Rattle.py_syntax.specs.Statements.{Suite}
 use Rattle.py_syntax.specs.Tokens.{EndsOnce}
-use Rattle.py_grammar.specs.declared.place.Place.{Place}
-use Rattle.py_grammar.specs.Faults.{IsTree}
-use Rattle.py_grammar.specs.Grammar.{MODULE}
-use Rattle.py_grammar.specs.Levels.{IsShallow}
-use Rattle.py_grammar.specs.Reader.{start, syntax_at, profile_at, too_deep_at}
-use Rattle.py_grammar.specs.Readings.{reads_sym}
-use Rattle.py_grammar.proofs.Outcomes.{reading_told}
-use Rattle.py_grammar.proofs.Shallow.{trees_are_shallow}
-use Rattle.py_reading.specs.declared.fault.ParseError.{ParseError}
-use Rattle.py_reading.specs.declared.fault.ParseError.TheVariants as fault
-use Rattle.py_reading.specs.Gives.{Fails}
+use Rattle.py_parser_grammar.specs.declared.place.Place.{Place}
+use Rattle.py_parser_grammar.specs.Faults.{IsTree}
+use Rattle.py_parser_grammar.specs.Grammar.{MODULE}
+use Rattle.py_parser_grammar.specs.Levels.{IsShallow}
+use Rattle.py_parser_grammar.specs.Reader.{start, syntax_at, profile_at, too_deep_at}
+use Rattle.py_parser_grammar.specs.Readings.{reads_sym}
+use Rattle.py_parser_grammar.proofs.Outcomes.{reading_told}
+use Rattle.py_parser_grammar.proofs.Shallow.{trees_are_shallow}
+use Rattle.py_parser_cursor.specs.declared.fault.ParseError.{ParseError}
+use Rattle.py_parser_cursor.specs.declared.fault.ParseError.TheVariants as fault
+use Rattle.py_parser_cursor.specs.Gives.{Fails}
 use Rattle.py_parser.specs.Whole.{IsRight, IsRightFault}
 
 pub told_tree : (ts : List Token) → EndsOnce ts → (x : Suite × Place) → reads_sym ts MODULE start ≡ Ok x → IsTree ts x.0

@@ -10,15 +10,15 @@ use Rattle.py_syntax.specs.declared.token.Span.{Span}
 use Rattle.py_syntax.specs.declared.token.Token.{Token}
 use Rattle.py_syntax.specs.Expressions.{ExprTree, expr_tree}
 use Rattle.py_syntax.specs.Statements.{StmtTree, FuncTree, ClassTree, func_tree, class_tree, param_tree}
-use Rattle.py_grammar.specs.declared.terminal.Terminal.TheVariants as terminal
-use Rattle.py_grammar.specs.declared.place.Place.{Place}
-use Rattle.py_grammar.specs.Grammar as g
-use Rattle.py_grammar.specs.Grammar.{TEST, FUNC, PARAM, CLASS, CBLOCK, MEMBER, MARK, TOP}
-use Rattle.py_grammar.specs.Actions.{joined, marks_of, def_at, class_at}
-use Rattle.py_grammar.specs.Reader.{Outcome, ◌>>=◌, accept, sees}
-use Rattle.py_grammar.specs.Readings.{reads_expr, reads_sym, reads_many}
-use Rattle.py_expressions.specs.Rows.{reads_row, reads_trees}
-use Rattle.py_nodes.specs.Parts.{maybe_boxed, param_boxed}
+use Rattle.py_parser_grammar.specs.declared.terminal.Terminal.TheVariants as terminal
+use Rattle.py_parser_grammar.specs.declared.place.Place.{Place}
+use Rattle.py_parser_grammar.specs.Grammar as g
+use Rattle.py_parser_grammar.specs.Grammar.{TEST, FUNC, PARAM, CLASS, CBLOCK, MEMBER, MARK, TOP}
+use Rattle.py_parser_grammar.specs.Actions.{joined, marks_of, def_at, class_at}
+use Rattle.py_parser_grammar.specs.Reader.{Outcome, ◌>>=◌, accept, sees}
+use Rattle.py_parser_grammar.specs.Readings.{reads_expr, reads_sym, reads_many}
+use Rattle.py_parser_expressions.specs.Rows.{reads_row, reads_trees}
+use Rattle.py_parser_nodes.specs.Parts.{maybe_boxed, param_boxed}
 
 -- what was read, and the place behind it
 abbrev pub maybe_seen : Option (Box Expr) × Place → Option ExprTree × Place

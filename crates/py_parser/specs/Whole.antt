@@ -4,10 +4,10 @@ use Rattle.py_syntax.specs.declared.statement.Module.{Module}
 use Rattle.py_syntax.specs.declared.statement.Stmt.{Stmt}
 use Rattle.py_syntax.specs.declared.token.Token.{Token}
 use Rattle.py_syntax.specs.Statements.{Suite, body_tree, module_tree}
-use Rattle.py_grammar.specs.declared.place.Place.{Place}
-use Rattle.py_grammar.specs.Faults.{Says, tree, syntax, profile, too_deep}
-use Rattle.py_reading.specs.declared.fault.ParseError.{ParseError}
-use Rattle.py_reading.specs.declared.fault.ParseError.TheVariants as fault
+use Rattle.py_parser_grammar.specs.declared.place.Place.{Place}
+use Rattle.py_parser_grammar.specs.Faults.{Says, tree, syntax, profile, too_deep}
+use Rattle.py_parser_cursor.specs.declared.fault.ParseError.{ParseError}
+use Rattle.py_parser_cursor.specs.declared.fault.ParseError.TheVariants as fault
 
 abbrev pub body_seen : List Stmt × Place → Suite × Place
 body_seen x = (body_tree x.0, x.1)

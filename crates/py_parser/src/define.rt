@@ -2,25 +2,27 @@
 ghost use Rattle.std.specs.Prelude.{[], ◌∷◌, map, IfOk};
 ghost use Rattle.py_syntax.specs.Statements.{stmt_tree};
 ghost use Rattle.py_syntax.specs.Expressions.{expr_tree};
-ghost use Rattle.py_grammar.specs.Grammar.{FUNC, PARAM, CLASS, CBLOCK, MEMBER, MARK, DECORATED};
-ghost use Rattle.py_grammar.specs.Readings.{reads_sym};
+ghost use Rattle.py_parser_grammar.specs.Grammar.{FUNC, PARAM, CLASS, CBLOCK, MEMBER, MARK, DECORATED};
+ghost use Rattle.py_parser_grammar.specs.Readings.{reads_sym};
 ghost use Rattle.py_parser.specs.Definitions.{reads_bases, reads_members, reads_marks, maybe_seen, exprs_listed, param_seen, params_seen, func_seen, class_seen, mark_seen, reads_maybe, reads_params, reads_class_body, reads_def, reads_class};
-ghost use Rattle.py_reading.specs.Gives.{Gives};
-ghost use Rattle.py_reading.specs.Moves.{MovesTo, MovesUpTo};
-ghost use Rattle.py_expressions.specs.Rows.{reads_row};
-ghost use Rattle.py_statements.specs.Statements.{stmt_seen, stmts_seen};
+ghost use Rattle.py_parser_cursor.specs.Gives.{Gives};
+ghost use Rattle.py_parser_cursor.specs.Moves.{MovesTo, MovesUpTo};
+ghost use Rattle.py_parser_expressions.specs.Rows.{reads_row};
+ghost use Rattle.py_parser_statements.specs.Statements.{stmt_seen, stmts_seen};
 
-use py_expressions::expression::{items, test};
-use py_expressions::row::no_row;
-use py_grammar::{Place, Terminal};
-use py_nodes::append::{append, row_of};
-use py_nodes::definition::{class_defined, defined, new_class, new_func, push_mark, push_param};
-use py_reading::fault::ParseError;
-use py_reading::place::{accept, accept_key, accept_sign, sees, sees_key, sees_sign};
-use py_reading::starts::begins_member;
-use py_reading::word::name_of;
-use py_statements::block::{stmt, suite};
-use py_statements::simple::simple;
+use py_parser_cursor::fault::ParseError;
+use py_parser_cursor::place::{accept, accept_key, accept_sign, sees, sees_key, sees_sign};
+use py_parser_cursor::starts::begins_member;
+use py_parser_cursor::word::name_of;
+use py_parser_expressions::expression::{items, test};
+use py_parser_expressions::row::no_row;
+use py_parser_grammar::{Place, Terminal};
+use py_parser_nodes::append::{append, row_of};
+use py_parser_nodes::definition::{
+    class_defined, defined, new_class, new_func, push_mark, push_param,
+};
+use py_parser_statements::block::{stmt, suite};
+use py_parser_statements::simple::simple;
 use py_syntax::{Class, Expr, Func, Key, Sign, Span, Stmt, Token};
 use std::alloc::Global;
 use value_core::{Many, Name};
@@ -165,7 +167,7 @@ fn bracketed_params(
 }
 
 // Parameters between commas, or none, and a last comma.
-#[tactic(auto, using(py_expressions::proofs::RowReading::part_rows))]
+#[tactic(auto, using(py_parser_expressions::proofs::RowReading::part_rows))]
 fn params(
     alloc: Global,
     tokens: &[Token],

@@ -1,21 +1,21 @@
 //! Modules.
 ghost use Rattle.std.specs.Prelude.{[], IfOk};
-ghost use Rattle.py_grammar.specs.Grammar.{TOP, MODULE};
-ghost use Rattle.py_grammar.specs.Reader.{start};
-ghost use Rattle.py_grammar.specs.Readings.{reads_sym};
+ghost use Rattle.py_parser_grammar.specs.Grammar.{TOP, MODULE};
+ghost use Rattle.py_parser_grammar.specs.Reader.{start};
+ghost use Rattle.py_parser_grammar.specs.Readings.{reads_sym};
 ghost use Rattle.py_parser.specs.Definitions.{reads_tops};
-ghost use Rattle.py_reading.specs.Gives.{Gives};
-ghost use Rattle.py_reading.specs.Moves.{MovesTo, MovesUpTo};
-ghost use Rattle.py_statements.specs.Statements.{stmts_seen};
+ghost use Rattle.py_parser_cursor.specs.Gives.{Gives};
+ghost use Rattle.py_parser_cursor.specs.Moves.{MovesTo, MovesUpTo};
+ghost use Rattle.py_parser_statements.specs.Statements.{stmts_seen};
 ghost use Rattle.py_parser.specs.Whole.{body_seen};
 
 use crate::define::{decorated, plain_class, plain_def};
-use py_grammar::{Place, Terminal};
-use py_nodes::append::{append, row_of};
-use py_reading::fault::ParseError;
-use py_reading::place::{accept, sees_key, sees_sign};
-use py_reading::starts::begins_top;
-use py_statements::block::stmt;
+use py_parser_cursor::fault::ParseError;
+use py_parser_cursor::place::{accept, sees_key, sees_sign};
+use py_parser_cursor::starts::begins_top;
+use py_parser_grammar::{Place, Terminal};
+use py_parser_nodes::append::{append, row_of};
+use py_parser_statements::block::stmt;
 use py_syntax::{Key, Sign, Stmt, Token};
 use std::alloc::Global;
 use value_core::Many;

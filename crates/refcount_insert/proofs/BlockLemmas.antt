@@ -9,13 +9,13 @@ use Rattle.ir_core.specs.declared.code.Last.{Last}
 use Rattle.ir_core.specs.declared.code.Last.TheVariants.{Goto, If, IfError, Return, Unreachable}
 use Rattle.ir_core.specs.Items.{Item, Do, End, in_block, item_of, item_in}
 use Rattle.ir_core.specs.Shape.{ends_in_turn, LastFits, BlocksFit, FuncFits}
-use Rattle.ownership_laws.specs.Shares.{put}
+use Rattle.c_core_ownership_laws.specs.Shares.{put}
 use Rattle.liveness.specs.Paths.{is_among, targets}
 use Rattle.liveness.specs.Liveness.{says_live, says_borrowed, starts_of}
 use Rattle.liveness.proofs.RisingLemmas.{lt_test}
 use Rattle.liveness.proofs.RowLemmas.{there_is}
-use Rattle.count_rule.specs.Rule.{ups, downs, IsGroup}
-use Rattle.count_rule.specs.Counted.{counts_register, Tables, AreGroups, AreLast, AreAll, AreTurned, IsBody, IsLast, AreBlocks, IsCountedFunc}
+use Rattle.refcount_insert_rule.specs.Rule.{ups, downs, IsGroup}
+use Rattle.refcount_insert_rule.specs.Counted.{counts_register, Tables, AreGroups, AreLast, AreAll, AreTurned, IsBody, IsLast, AreBlocks, IsCountedFunc}
 use Rattle.refcount_insert.specs.declared.counts.Counts.{Counts}
 use Rattle.refcount_insert.specs.declared.known.Known.{Known}
 use Rattle.refcount_insert.specs.declared.plan.Planned.{Planned}

@@ -8,14 +8,14 @@ use Rattle.ir_core.specs.declared.code.Func.{Func}
 use Rattle.ir_core.specs.declared.code.Last.{Last}
 use Rattle.ir_core.specs.declared.code.Last.TheVariants.{Goto}
 use Rattle.ir_core.specs.Items.{Item, End, item_in}
-use Rattle.ownership_laws.specs.Shares.{put, one_if}
+use Rattle.c_core_ownership_laws.specs.Shares.{put, one_if}
 use Rattle.liveness.specs.Paths.{is_among, is_target, reads_of_last, targets, LiveAt}
 use Rattle.liveness.specs.Liveness.{says_live, says_borrowed, starts_of}
 use Rattle.liveness.proofs.OwnedLemmas.{below_or_not}
 use Rattle.liveness.proofs.RisingLemmas.{eq_tells, eq_same}
 use Rattle.liveness.proofs.RowLemmas.{or_cases, or_left, or_right}
-use Rattle.count_rule.specs.Rule.{given_up, AreUnsure, IsEdge}
-use Rattle.count_rule.specs.Counted.{counts_register, Tables, owned, IsEdgeTo, AreEdgesTo}
+use Rattle.refcount_insert_rule.specs.Rule.{given_up, AreUnsure, IsEdge}
+use Rattle.refcount_insert_rule.specs.Counted.{counts_register, Tables, owned, IsEdgeTo, AreEdgesTo}
 use Rattle.refcount_insert.specs.declared.counts.Counts.{Counts}
 use Rattle.refcount_insert.specs.declared.known.Known.{Known}
 use Rattle.refcount_insert.specs.Known.{IsKnown, owned_at, held_at, entered}

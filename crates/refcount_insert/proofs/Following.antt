@@ -6,12 +6,12 @@ use Rattle.ir_core.specs.declared.code.Program.{Program}
 use Rattle.ir_core.specs.Lower.{global_of, lower}
 use Rattle.ir_core.specs.Runs.{Fit}
 use Rattle.ir_core.specs.Shape.{Shape}
-use Rattle.line_laws.specs.Follows.{Follows}
-use Rattle.count_rule.specs.Counted.{IsCountedProgram}
-use Rattle.count_order.proofs.Whole.{counted_is_in_order}
-use Rattle.count_shapes.proofs.Whole.{counted_is_well_formed}
-use Rattle.count_runs.proofs.Whole.{counted_runs_follow}
-use Rattle.count_follows.proofs.Whole.{ordered_follows}
+use Rattle.refcount_insert_lines_laws.specs.Follows.{Follows}
+use Rattle.refcount_insert_rule.specs.Counted.{IsCountedProgram}
+use Rattle.refcount_insert_order_laws.proofs.Whole.{counted_is_in_order}
+use Rattle.refcount_insert_shapes_laws.proofs.Whole.{counted_is_well_formed}
+use Rattle.refcount_insert_runs_laws.proofs.Whole.{counted_runs_follow}
+use Rattle.refcount_insert_source_laws.proofs.Whole.{ordered_follows}
 
 lowered_follows : (p q : Program) → Shape p → Fit p → IsCountedProgram p q → Follows p (lower q)
 lowered_follows p q shape fit counted =

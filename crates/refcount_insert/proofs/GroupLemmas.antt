@@ -14,13 +14,13 @@ use Rattle.ir_core.specs.declared.code.Last.{Last}
 use Rattle.ir_core.specs.declared.code.RType.{RType}
 use Rattle.ir_core.specs.Items.{Item, Do, End, in_block, item_of, item_in}
 use Rattle.ir_core.specs.Rows.{Declared}
-use Rattle.ownership_laws.specs.Shares.{one_if}
+use Rattle.c_core_ownership_laws.specs.Shares.{one_if}
 use Rattle.liveness.specs.Paths.{is_among, is_target, reads_of, write_of, registers_in}
 use Rattle.liveness.specs.Liveness.{says_live, says_borrowed}
 use Rattle.liveness.proofs.OwnedLemmas.{below_or_not, get_none}
 use Rattle.liveness.proofs.PathLemmas.{item_block}
-use Rattle.count_rule.specs.Rule.{is_counted, is_stolen, takes_one, taken, takes, gives, need, counts_before, done, counts_after, IsGroup}
-use Rattle.count_rule.specs.Counted.{counts_register}
+use Rattle.refcount_insert_rule.specs.Rule.{is_counted, is_stolen, takes_one, taken, takes, gives, need, counts_before, done, counts_after, IsGroup}
+use Rattle.refcount_insert_rule.specs.Counted.{counts_register}
 use Rattle.refcount_insert.specs.declared.counts.Counts.{Counts}
 use Rattle.refcount_insert.specs.declared.known.Known.{Known}
 use Rattle.refcount_insert.specs.Known.{IsKnown, owned_at}

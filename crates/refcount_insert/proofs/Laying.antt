@@ -11,7 +11,7 @@ use Rattle.ir_core.specs.declared.code.Last.TheVariants.{Goto, If, IfError, Retu
 use Rattle.ir_core.specs.Rows.{Declared}
 use Rattle.ir_core.specs.Shape.{FuncFits, FuncsFit}
 use Rattle.liveness.proofs.InverseLemmas.{take_next}
-use Rattle.count_rule.specs.Counted.{IsCountedFunc, AreCounted}
+use Rattle.refcount_insert_rule.specs.Counted.{IsCountedFunc, AreCounted}
 use Rattle.refcount_insert.specs.declared.counts.Counts.{Counts}
 use Rattle.refcount_insert.specs.declared.known.Known.{Known}
 use Rattle.refcount_insert.specs.declared.plan.Planned.{Planned}

@@ -11,11 +11,11 @@ use Rattle.c_core.specs.Primitives.{Parameter}
 use Rattle.ir_core.specs.declared.code.Reg.{Reg}
 use Rattle.ir_core.specs.declared.code.PArg.{PArg}
 use Rattle.ir_core.specs.declared.code.PArg.TheVariants as arg
-use Rattle.ownership_laws.specs.Shares.{one_if}
+use Rattle.c_core_ownership_laws.specs.Shares.{one_if}
 use Rattle.liveness.specs.Paths.{is_among, is_target}
 use Rattle.liveness.specs.Rising.{IsRising}
 use Rattle.liveness.proofs.RisingLemmas.{eq_tells, eq_same}
-use Rattle.count_rule.specs.Rule.{is_stolen, takes_one, taken, given_up, AreSure, AreUnsure}
+use Rattle.refcount_insert_rule.specs.Rule.{is_stolen, takes_one, taken, given_up, AreSure, AreUnsure}
 use Rattle.refcount_insert.specs.Counts.{many, is_either, steals_at, AreOnce, AreEach, AreOf}
 
 -- ---- equal numbers

@@ -4,9 +4,9 @@ use Rattle.std.specs.Option.{option_map_or}
 use Rattle.c_core.specs.Cells.{times}
 use Rattle.c_core.specs.Primitives.{Parameter}
 use Rattle.ir_core.specs.declared.code.Op.{Op}
-use Rattle.ownership_laws.specs.Shares.{one_if}
+use Rattle.c_core_ownership_laws.specs.Shares.{one_if}
 use Rattle.liveness.specs.Paths.{is_among, is_target, reads_of, write_of}
-use Rattle.count_rule.specs.Rule.{is_stolen, given_up, counts_before, counts_after, AreSure, AreUnsure}
+use Rattle.refcount_insert_rule.specs.Rule.{is_stolen, given_up, counts_before, counts_after, AreSure, AreUnsure}
 use Rattle.refcount_insert.specs.declared.counts.Counts.{Counts}
 
 -- so many times a number

@@ -2,10 +2,10 @@
 use Rattle.std.specs.Prelude.{ℕ, not, ◌&&◌}
 use Rattle.ir_core.specs.declared.code.Func.{Func}
 use Rattle.ir_core.specs.Rows.{Declared}
-use Rattle.ownership_laws.specs.Shares.{one_if}
+use Rattle.c_core_ownership_laws.specs.Shares.{one_if}
 use Rattle.liveness.specs.Paths.{is_among}
 use Rattle.liveness.specs.Liveness.{says_live, starts_of, says_borrowed, IsLiveTable, AreStarts, IsBorrowTable}
-use Rattle.count_rule.specs.Counted.{counts_register}
+use Rattle.refcount_insert_rule.specs.Counted.{counts_register}
 use Rattle.refcount_insert.specs.declared.known.Known.{Known}
 
 -- the tables are those of the function

@@ -4,7 +4,7 @@ use Rattle.ir_core.specs.declared.code.Op.{Op}
 use Rattle.ir_core.specs.declared.code.Last.{Last}
 use Rattle.ir_core.specs.declared.code.Last.TheVariants.{Goto, If, IfError, Return, Unreachable}
 use Rattle.ir_core.specs.declared.code.Block.{Block}
-use Rattle.count_rule.specs.Rule.{ups, downs}
+use Rattle.refcount_insert_rule.specs.Rule.{ups, downs}
 use Rattle.refcount_insert.specs.declared.counts.Counts.{Counts}
 use Rattle.refcount_insert.specs.declared.plan.Planned.{Planned}
 

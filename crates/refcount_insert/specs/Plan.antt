@@ -10,8 +10,8 @@ use Rattle.ir_core.specs.Rows.{Declared}
 use Rattle.liveness.specs.declared.live_table.LiveTable.{LiveTable}
 use Rattle.liveness.specs.Paths.{is_among}
 use Rattle.liveness.specs.Liveness.{starts_of}
-use Rattle.count_rule.specs.Rule.{ups, downs}
-use Rattle.count_rule.specs.Counted.{counts_register}
+use Rattle.refcount_insert_rule.specs.Rule.{ups, downs}
+use Rattle.refcount_insert_rule.specs.Counted.{counts_register}
 use Rattle.refcount_insert.specs.declared.counts.Counts.{Counts}
 use Rattle.refcount_insert.specs.declared.known.Known.{Known}
 use Rattle.refcount_insert.specs.declared.plan.Planned.{Planned}

@@ -1,7 +1,7 @@
 //! Counts: registers that get references, and registers that are given up.
 ghost use Rattle.std.specs.Prelude.{◌≡◌, ◌<◌, ◌+◌, ◌-◌, ◌^◌, ◌++◌, [], cond, replicate, OnOk, IfOk};
-ghost use Rattle.count_rule.specs.Rule as rule;
-ghost use Rattle.count_rule.specs.Rule.{ups, downs};
+ghost use Rattle.refcount_insert_rule.specs.Rule as rule;
+ghost use Rattle.refcount_insert_rule.specs.Rule.{ups, downs};
 ghost use Rattle.refcount_insert.specs.Layout.{is_none, edge_ops};
 
 use ir_core::{Op, Reg};

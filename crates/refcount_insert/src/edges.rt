@@ -2,7 +2,7 @@
 ghost use Rattle.std.specs.Prelude.{◌≡◌, ◌-◌, ◌||◌, ℕ, List, None, cond, IfOk};
 ghost use Rattle.liveness.specs.Paths.{is_among};
 ghost use Rattle.liveness.specs.Liveness.{starts_of};
-ghost use Rattle.count_rule.specs.Counted.{counts_register};
+ghost use Rattle.refcount_insert_rule.specs.Counted.{counts_register};
 ghost use Rattle.refcount_insert.specs.Known.{owned_at, held_at, entered};
 ghost use Rattle.refcount_insert.specs.Counts.{AreOnce, short_on, over_on, AreEdgeCounts};
 ghost use Rattle.refcount_insert.specs.Plan.{is_ahead, AreEndCounts, AreTestCounts};

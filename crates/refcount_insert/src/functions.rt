@@ -9,8 +9,8 @@ ghost use Rattle.refcount_insert.specs.declared.plan.Planned.{Planned as Planned
 ghost use Rattle.refcount_insert.specs.Known.{IsKnown};
 ghost use Rattle.refcount_insert.specs.Plan.{ArePlanned};
 ghost use Rattle.refcount_insert.specs.Layout.{starts_from, number_at, all_laid};
-ghost use Rattle.line_laws.specs.Follows.{Follows};
-ghost use Rattle.count_rule.specs.Counted.{IsCountedFunc, AreCounted, IsCountedProgram};
+ghost use Rattle.refcount_insert_lines_laws.specs.Follows.{Follows};
+ghost use Rattle.refcount_insert_rule.specs.Counted.{IsCountedFunc, AreCounted, IsCountedProgram};
 
 use crate::copies::copy_declared;
 use crate::known::known_of;
@@ -19,7 +19,7 @@ use crate::plan::plan;
 use c_core::Code;
 use error_edges::Edged;
 use ir_core::{Block, Func, Program};
-use ir_lowering::{copy_classes, lower};
+use refcount_insert_lowering::{copy_classes, lower};
 use std::alloc::Global;
 use value_core::{Many, Memory, Name};
 

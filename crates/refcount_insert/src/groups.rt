@@ -2,8 +2,8 @@
 ghost use Rattle.std.specs.Prelude.{◌≡◌, ◌<◌, ◌+◌, ◌^◌, ℕ, IfOk};
 ghost use Rattle.c_core.specs.Cells.{times};
 ghost use Rattle.liveness.specs.Paths.{write_of};
-ghost use Rattle.count_rule.specs.Rule.{takes, given_up, counts_before, counts_after, AreSure};
-ghost use Rattle.count_rule.specs.Counted.{counts_register};
+ghost use Rattle.refcount_insert_rule.specs.Rule.{takes, given_up, counts_before, counts_after, AreSure};
+ghost use Rattle.refcount_insert_rule.specs.Counted.{counts_register};
 ghost use Rattle.refcount_insert.specs.Known.{owned_at};
 ghost use Rattle.refcount_insert.specs.Counts.{AreEach, AreGroupCounts};
 

@@ -1,7 +1,7 @@
 //! How many references a frame owns through a register.
 ghost use Rattle.std.specs.Prelude.{◌≡◌, ◌≤◌, IfOk};
-ghost use Rattle.count_rule.specs.Rule as rule;
-ghost use Rattle.count_rule.specs.Counted.{counts_register};
+ghost use Rattle.refcount_insert_rule.specs.Rule as rule;
+ghost use Rattle.refcount_insert_rule.specs.Counted.{counts_register};
 ghost use Rattle.refcount_insert.specs.Known.{IsKnown, owned_at, held_at, entered};
 
 use ir_core::{Func, RType, Reg};

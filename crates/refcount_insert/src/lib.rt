@@ -2,7 +2,7 @@
 //! owns is counted, and its C text.
 //!
 //! What comes in is a program with error edges; what goes out is that program with its counts by the one rule of
-//! `count_rule`, as C text. What is read again, and what is only lent, comes from `liveness`. An operation counts nothing but
+//! `refcount_insert_rule`, as C text. What is read again, and what is only lent, comes from `liveness`. An operation counts nothing but
 //! its arguments and its target, and an end nothing but what is read again there. First each block is planned: its
 //! operations with their counts, and the counts of its edges. Then it is known how many blocks each of them becomes, and all
 //! are laid out with their new numbers. `specs/Known.antt` says how many references a frame owns by the tables,

@@ -4,8 +4,8 @@ ghost use Rattle.c_core.specs.Cells.{same, times};
 ghost use Rattle.c_core.specs.Primitives.{row_of};
 ghost use Rattle.liveness.specs.Paths as path;
 ghost use Rattle.liveness.specs.Paths.{is_among};
-ghost use Rattle.count_rule.specs.Rule as rule;
-ghost use Rattle.count_rule.specs.Rule.{takes_one, taken, takes};
+ghost use Rattle.refcount_insert_rule.specs.Rule as rule;
+ghost use Rattle.refcount_insert_rule.specs.Rule.{takes_one, taken, takes};
 ghost use Rattle.refcount_insert.specs.Counts as spec;
 ghost use Rattle.refcount_insert.specs.Counts.{AreOnce, is_touched, steals_at};
 

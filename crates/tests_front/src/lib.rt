@@ -10,17 +10,17 @@ mod case;
 #[cfg(test)]
 mod outside_core_tests;
 #[cfg(test)]
-mod py_annotations_tests;
-#[cfg(test)]
 mod py_binder_tests;
 #[cfg(test)]
-mod py_flow_tests;
+mod py_check_annotations_tests;
 #[cfg(test)]
-mod py_grammar_tests;
+mod py_check_flow_tests;
+#[cfg(test)]
+mod py_check_messages_tests;
 #[cfg(test)]
 mod py_lexer_tests;
 #[cfg(test)]
-mod py_messages_tests;
+mod py_parser_grammar_tests;
 #[cfg(test)]
 mod py_parser_tables;
 #[cfg(test)]

@@ -1,7 +1,7 @@
 //! Small modules, with whether they are closed, and what they bind.
 
 use crate::case::check;
-use py_flow::{Binding, bindings_in, breaks_out, is_closed, statement_bindings};
+use py_check_flow::{Binding, bindings_in, breaks_out, is_closed, statement_bindings};
 use py_lexer::tokens;
 use py_parser::module;
 use std::alloc::{AllocError, Global};

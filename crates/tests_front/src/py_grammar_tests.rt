@@ -1,6 +1,6 @@
 //! Terminals, and the laws of the grammar.
 use crate::case::check;
-use py_grammar::{
+use py_parser_grammar::{
     Terminal, faults_are_tokens, outcome_exists, outcome_is_one, reading_is_exact, tree_is_one,
     trees_are_shallow,
 };

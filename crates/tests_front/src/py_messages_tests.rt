@@ -2,7 +2,7 @@
 
 use crate::case::check;
 use py_binder::Diag;
-use py_messages as message;
+use py_check_messages as message;
 use py_syntax::Span;
 use py_typed::{Classes, Ty};
 use std::alloc::Global;

@@ -1,6 +1,6 @@
 use Rattle.std.proofs.Common.{◌≤◌}
-use Rattle.ir_frames.specs.Shaped.{KeepsIf}
-use Rattle.ir_frames.specs.Kinds.{KeepsKinds}
+use Rattle.ir_builder_frames.specs.Shaped.{KeepsIf}
+use Rattle.ir_builder_frames.specs.Kinds.{KeepsKinds}
 use Rattle.ir_builder.specs.Bodies.{Filled}
 use Rattle.ir_builder.proofs.body.fill.Given as goal
 

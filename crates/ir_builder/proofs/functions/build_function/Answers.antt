@@ -1,6 +1,6 @@
 use Rattle.std.proofs.Common.{rules, ◌≡◌, ◌∙◌, map, refl, sym}
 use Rattle.py_typed.specs.Statements.{typed_module, typed_func, variable}
-use Rattle.ir_frames.proofs.MatchLemmas.{room_on}
+use Rattle.ir_builder_frames.proofs.MatchLemmas.{room_on}
 use Rattle.ir_builder.proofs.ArgumentLemmas.{map_length}
 use Rattle.ir_builder.proofs.FunctionLemmas.{registers_differ, begin_room, few_params, function_is}
 use Rattle.ir_builder.proofs.functions.build_function.Goals as goal

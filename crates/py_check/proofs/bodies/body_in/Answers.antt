@@ -1,12 +1,12 @@
 use Rattle.std.proofs.Common.{false, map, IfOk, ap, subst, subst₂}
 use Rattle.py_syntax.specs.Statements.{Suite, body_tree}
 use Rattle.py_typed.specs.Statements.{typed_stmt}
-use Rattle.py_scope.specs.Context.{context}
-use Rattle.py_messages.specs.Seen.{Tells}
-use Rattle.py_binding.specs.Returns.{ReturnSort}
-use Rattle.py_targets.specs.Places.{Known}
-use Rattle.py_bodies.specs.Bodies.{block}
-use Rattle.py_targets.specs.Views.{known_at}
+use Rattle.py_check_context.specs.Context.{context}
+use Rattle.py_check_messages.specs.Seen.{Tells}
+use Rattle.py_check_values.specs.Returns.{ReturnSort}
+use Rattle.py_check_targets.specs.Places.{Known}
+use Rattle.py_check_statements.specs.Bodies.{block}
+use Rattle.py_check_targets.specs.Views.{known_at}
 use Rattle.py_check.specs.Views.{headed_parts}
 use Rattle.py_check.specs.Module.{return_of, function_start}
 use Rattle.py_check.proofs.bodies.body_in.Goals as goal

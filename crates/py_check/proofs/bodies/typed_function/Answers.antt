@@ -1,7 +1,7 @@
 use Rattle.std.proofs.Common.{◌≡◌, ◌++◌, IfOk, sym, subst₂}
 use Rattle.py_typed.specs.Statements.{typed_func}
-use Rattle.py_scope.specs.Context.{Context}
-use Rattle.py_targets.specs.Views.{known_at}
+use Rattle.py_check_context.specs.Context.{Context}
+use Rattle.py_check_targets.specs.Views.{known_at}
 use Rattle.py_check.specs.Definitions.{Headed}
 use Rattle.py_check.specs.Module.{typed_function, body, body_after}
 use Rattle.py_check.specs.Parts.{environment_of}

@@ -1,5 +1,5 @@
 use Rattle.std.proofs.Common.{◌≡◌, [], ◌++◌, map, drop}
-use Rattle.py_names.specs.Walked.{trees}
+use Rattle.py_check_names.specs.Walked.{trees}
 use Rattle.py_check.specs.Views.{headed_of, said_along}
 use Rattle.py_check.proofs.definitions.add_definition_faults.Given as goal
 

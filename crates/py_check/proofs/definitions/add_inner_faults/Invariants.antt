@@ -1,6 +1,6 @@
 use Rattle.std.proofs.Common.{◌≡◌, ◌++◌, drop}
 use Rattle.std.specs.List.{flat_map}
-use Rattle.py_names.specs.Walked.{func_trees}
+use Rattle.py_check_names.specs.Walked.{func_trees}
 use Rattle.py_check.specs.Definitions.{inner_definitions_said}
 use Rattle.py_check.proofs.definitions.add_inner_faults.Given as goal
 

@@ -1,5 +1,5 @@
 use Rattle.std.proofs.Common.{◌≡◌, drop}
-use Rattle.py_names.specs.Outline.{may_import_all}
+use Rattle.py_check_names.specs.Outline.{may_import_all}
 use Rattle.py_check.proofs.definitions.may_import_all.Given as goal
 
 abbrev pub invariant-loop-name : goal.invariant-loop-name

@@ -1,8 +1,8 @@
 use Rattle.std.proofs.Common.{◌≡◌, ◌++◌, length, map, drop}
 use Rattle.std.specs.List.{flat_map}
-use Rattle.py_scope.specs.Context.{context}
-use Rattle.py_names.specs.Walked.{func_trees}
-use Rattle.py_headers.specs.Headers.{header_said}
+use Rattle.py_check_context.specs.Context.{context}
+use Rattle.py_check_names.specs.Walked.{func_trees}
+use Rattle.py_check_signatures.specs.Headers.{header_said}
 use Rattle.py_check.specs.Views.{headed_of, headed_all}
 use Rattle.py_check.proofs.functions.functions_of.Given as goal
 

@@ -1,7 +1,7 @@
 use Rattle.std.proofs.Common.{◌≡◌, ◌++◌, map, drop}
 use Rattle.std.specs.Option.{option_map}
 use Rattle.py_typed.specs.Classes.{signature}
-use Rattle.py_headers.specs.Headers.{signature_of}
+use Rattle.py_check_signatures.specs.Headers.{signature_of}
 use Rattle.py_check.specs.Views.{headed_of}
 use Rattle.py_check.proofs.functions.signatures_of.Given as goal
 

@@ -1,6 +1,6 @@
 use Rattle.std.proofs.Common.{◌≡◌, ◌++◌}
 use Rattle.py_syntax.specs.Statements.{stmt_tree, body_tree}
-use Rattle.py_names.specs.Walked.{trees}
+use Rattle.py_check_names.specs.Walked.{trees}
 use Rattle.py_check.specs.Globals.{stmt_globals, suite_globals}
 use Rattle.py_check.proofs.WalkLemmas.{if_ok, if_end, try_end, no_last, some_last}
 use Rattle.py_check.proofs.globals.+globals.Goals as goal

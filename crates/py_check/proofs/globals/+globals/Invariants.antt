@@ -1,6 +1,6 @@
 use Rattle.std.proofs.Common.{◌≡◌, ◌++◌, map, drop}
 use Rattle.py_syntax.specs.Statements.{body_tree, arms_of, arm_tree, handlers_of, handler_tree}
-use Rattle.py_names.specs.Walked.{trees}
+use Rattle.py_check_names.specs.Walked.{trees}
 use Rattle.py_check.specs.Globals.{suite_globals, arms_globals, handlers_globals}
 use Rattle.py_check.proofs.globals.+globals.Given as goal
 

@@ -1,6 +1,6 @@
 use Rattle.std.proofs.Common.{◌≡◌, ◌++◌, drop}
 use Rattle.std.specs.List.{flat_map}
-use Rattle.py_names.specs.Walked.{trees}
+use Rattle.py_check_names.specs.Walked.{trees}
 use Rattle.py_check.specs.Globals.{global_said}
 use Rattle.py_check.proofs.globals.add_faults.Given as goal
 

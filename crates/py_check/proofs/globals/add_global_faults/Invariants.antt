@@ -1,7 +1,7 @@
 use Rattle.std.proofs.Common.{◌≡◌, ◌++◌, drop}
 use Rattle.std.specs.List.{flat_map}
 use Rattle.py_syntax.specs.Statements.{body_tree}
-use Rattle.py_names.specs.Walked.{trees, func_trees}
+use Rattle.py_check_names.specs.Walked.{trees, func_trees}
 use Rattle.py_check.specs.Globals.{suite_globals, function_globals}
 use Rattle.py_check.proofs.globals.add_global_faults.Given as goal
 

@@ -1,7 +1,7 @@
 use Rattle.std.proofs.Common.{◌≡◌, ◌++◌, IfOk, sym, subst}
 use Rattle.py_syntax.specs.Statements.{FuncTree}
 use Rattle.py_binder.proofs.DefinitionLemmas.{func_tree_at}
-use Rattle.py_names.specs.Walked.{trees}
+use Rattle.py_check_names.specs.Walked.{trees}
 use Rattle.py_check.specs.Globals.{function_globals}
 use Rattle.py_check.proofs.globals.find_in_function.Goals as goal
 

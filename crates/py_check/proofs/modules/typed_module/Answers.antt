@@ -3,7 +3,7 @@ use Rattle.std.specs.List.{flat_map}
 use Rattle.py_syntax.specs.declared.statement.Func.{Func}
 use Rattle.py_syntax.specs.Statements.{body_tree}
 use Rattle.py_binder.specs.declared.scope.Diag.{Diag}
-use Rattle.py_names.specs.Walked.{trees, func_trees}
+use Rattle.py_check_names.specs.Walked.{trees, func_trees}
 use Rattle.py_check.specs.declared.functions.Function.{Function}
 use Rattle.py_check.specs.Views.{headed_of}
 use Rattle.py_check.specs.Definitions.{headed_functions}

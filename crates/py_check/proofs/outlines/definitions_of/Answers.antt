@@ -2,8 +2,8 @@ use Rattle.std.proofs.Common.{◌∙◌, List, Bor, ap, sym}
 use Rattle.std.specs.List.{flat_map}
 use Rattle.py_syntax.specs.declared.statement.Stmt.{Stmt}
 use Rattle.py_syntax.specs.Statements.{body_tree}
-use Rattle.py_names.specs.Walked.{trees}
-use Rattle.py_names.specs.Outline.{held_by}
+use Rattle.py_check_names.specs.Walked.{trees}
+use Rattle.py_check_names.specs.Outline.{held_by}
 use Rattle.py_check.proofs.HeldLemmas.{functions_defined}
 use Rattle.py_check.proofs.outlines.definitions_of.Goals as goal
 

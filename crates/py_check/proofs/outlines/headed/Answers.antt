@@ -3,9 +3,9 @@ use Rattle.std.proofs.Math.Path.{fun_ext}
 use Rattle.std.specs.List.{flat_map}
 use Rattle.py_syntax.specs.declared.statement.Func.{Func}
 use Rattle.py_binder.specs.declared.scope.Scope.{Scope}
-use Rattle.py_scope.specs.declared.scope.Meaning.{Meaning}
-use Rattle.py_names.specs.Walked.{func_trees}
-use Rattle.py_headers.specs.Headers.{header_said}
+use Rattle.py_check_context.specs.declared.scope.Meaning.{Meaning}
+use Rattle.py_check_names.specs.Walked.{func_trees}
+use Rattle.py_check_signatures.specs.Headers.{header_said}
 use Rattle.py_check.specs.Views.{headed_of, headed_all}
 use Rattle.py_check.specs.Parts.{meanings_by}
 use Rattle.py_check.proofs.outlines.headed.Goals as goal

@@ -2,8 +2,8 @@ use Rattle.std.proofs.Common.{◌≡◌, ◌++◌, map, drop}
 use Rattle.std.specs.Option.{option_map}
 use Rattle.py_syntax.specs.Statements.{body_tree, param_tree}
 use Rattle.py_typed.specs.Sorts.{sort}
-use Rattle.py_scope.specs.Context.{context, var_sort}
-use Rattle.py_flow.specs.Bindings.{suite_bindings}
+use Rattle.py_check_context.specs.Context.{context, var_sort}
+use Rattle.py_check_flow.specs.Bindings.{suite_bindings}
 use Rattle.py_check.specs.Starts.{own_sort}
 use Rattle.py_check.proofs.starts.own_types.Given as goal
 

@@ -1,7 +1,7 @@
 use Rattle.std.proofs.Common.{◌≡◌, map, drop}
 use Rattle.std.specs.Option.{option_map}
 use Rattle.py_typed.specs.Sorts.{sort}
-use Rattle.py_headers.proofs.DefinitionLemmas.{names}
+use Rattle.py_check_signatures.proofs.DefinitionLemmas.{names}
 use Rattle.py_check.specs.Starts.{param_sort}
 use Rattle.py_check.proofs.starts.param_type.Given as goal
 

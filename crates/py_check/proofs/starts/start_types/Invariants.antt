@@ -1,7 +1,7 @@
 use Rattle.std.proofs.Common.{◌≡◌, ◌++◌, map, drop}
 use Rattle.py_syntax.specs.Statements.{body_tree}
-use Rattle.py_scope.specs.Context.{context, var_sort}
-use Rattle.py_flow.specs.Bindings.{suite_bindings}
+use Rattle.py_check_context.specs.Context.{context, var_sort}
+use Rattle.py_check_flow.specs.Bindings.{suite_bindings}
 use Rattle.py_check.specs.Starts.{start_sort}
 use Rattle.py_check.proofs.starts.start_types.Given as goal
 

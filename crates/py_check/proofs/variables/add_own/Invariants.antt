@@ -1,5 +1,5 @@
 use Rattle.std.proofs.Common.{◌≡◌, ◌++◌, map, drop, filter}
-use Rattle.py_names.specs.Meanings.{is_own}
+use Rattle.py_check_names.specs.Meanings.{is_own}
 use Rattle.py_check.proofs.variables.add_own.Given as goal
 
 abbrev pub invariant-loop-name : goal.invariant-loop-name

@@ -1,6 +1,6 @@
 use Rattle.std.proofs.Common.{◌∙◌}
 use Rattle.std.proofs.lemmas.List.Sums.{prefix_len-le-length}
-use Rattle.py_names.proofs.TableLemmas.{none_at}
+use Rattle.py_check_names.proofs.TableLemmas.{none_at}
 use Rattle.py_check.proofs.variables.number.Goals as goal
 
 pub returns-in-None : goal.returns-in-None

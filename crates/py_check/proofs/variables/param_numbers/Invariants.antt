@@ -1,6 +1,6 @@
 use Rattle.std.proofs.Common.{◌≡◌, ◌++◌, map, drop}
 use Rattle.py_syntax.specs.Statements.{param_tree}
-use Rattle.py_names.specs.Meanings.{number}
+use Rattle.py_check_names.specs.Meanings.{number}
 use Rattle.py_check.proofs.variables.param_numbers.Given as goal
 
 abbrev pub invariant-loop-name : goal.invariant-loop-name

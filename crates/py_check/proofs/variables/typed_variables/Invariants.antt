@@ -1,6 +1,6 @@
 use Rattle.std.proofs.Common.{◌≡◌, ◌++◌, map, drop}
 use Rattle.py_typed.specs.Statements.{variable}
-use Rattle.py_scope.specs.Context.{var_sort}
+use Rattle.py_check_context.specs.Context.{var_sort}
 use Rattle.py_check.specs.Variables.{variables_from, typed_variables}
 use Rattle.py_check.proofs.variables.typed_variables.Given as goal
 

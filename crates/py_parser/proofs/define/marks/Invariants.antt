@@ -1,7 +1,7 @@
 use Rattle.std.proofs.Common.{◌≡◌, ◌-◌, length, [], ◌∷◌, map}
 use Rattle.py_syntax.specs.Expressions.{expr_tree}
 use Rattle.py_parser.specs.Definitions.{reads_marks}
-use Rattle.py_reading.specs.Moves.{MovesUpTo}
+use Rattle.py_parser_cursor.specs.Moves.{MovesUpTo}
 use Rattle.py_parser.proofs.define.marks.Given as goal
 
 abbrev pub invariant-marks : goal.invariant-marks

@@ -1,10 +1,10 @@
 use Rattle.std.proofs.Common.{map, Ok, ap, sym, ◌∙◌, arith}
 use Rattle.py_syntax.specs.Statements.{param_tree}
-use Rattle.py_grammar.specs.Grammar.{PARAM}
-use Rattle.py_expressions.specs.Rows.{fronted, reads_row}
+use Rattle.py_parser_grammar.specs.Grammar.{PARAM}
+use Rattle.py_parser_expressions.specs.Rows.{fronted, reads_row}
 use Rattle.py_parser.specs.Definitions.{param_seen, params_seen}
-use Rattle.py_expressions.proofs.RowReading.{row_more, row_last, comma_fails}
-use Rattle.py_reading.proofs.Faults.{exit_gives}
+use Rattle.py_parser_expressions.proofs.RowReading.{row_more, row_last, comma_fails}
+use Rattle.py_parser_cursor.proofs.Faults.{exit_gives}
 use Rattle.py_parser.proofs.define.params.Goals as goal
 
 pub params-preserved : goal.params-preserved

@@ -1,8 +1,8 @@
 use Rattle.std.proofs.Common.{◌≡◌, ◌-◌, length, map}
 use Rattle.py_syntax.specs.Statements.{param_tree}
-use Rattle.py_grammar.specs.Grammar.{PARAM}
-use Rattle.py_expressions.specs.Rows.{fronted, reads_row}
-use Rattle.py_reading.specs.Moves.{MovesUpTo}
+use Rattle.py_parser_grammar.specs.Grammar.{PARAM}
+use Rattle.py_parser_expressions.specs.Rows.{fronted, reads_row}
+use Rattle.py_parser_cursor.specs.Moves.{MovesUpTo}
 use Rattle.py_parser.proofs.define.params.Given as goal
 
 abbrev pub invariant-params : goal.invariant-params

@@ -2,7 +2,7 @@ use Rattle.std.proofs.Common.{map, ap, sym, ◌∙◌, arith}
 use Rattle.std.proofs.lemmas.List.{map-append}
 use Rattle.py_syntax.specs.Statements.{stmt_tree}
 use Rattle.py_parser.specs.Definitions.{reads_tops}
-use Rattle.py_statements.specs.Statements.{stmts_seen}
+use Rattle.py_parser_statements.specs.Statements.{stmts_seen}
 use Rattle.py_parser.proofs.DefinitionReading.{tops_more}
 use Rattle.py_parser.proofs.top.tops.Goals as goal
 

@@ -1,7 +1,7 @@
 use Rattle.std.proofs.Common.{◌≡◌, ◌-◌, length, [], map}
 use Rattle.py_syntax.specs.Statements.{stmt_tree}
 use Rattle.py_parser.specs.Definitions.{reads_tops}
-use Rattle.py_reading.specs.Moves.{MovesUpTo}
+use Rattle.py_parser_cursor.specs.Moves.{MovesUpTo}
 use Rattle.py_parser.proofs.top.tops.Given as goal
 
 abbrev pub invariant-tops : goal.invariant-tops

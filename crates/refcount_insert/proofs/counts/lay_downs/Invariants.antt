@@ -1,5 +1,5 @@
 use Rattle.std.proofs.Common.{◌≡◌, ◌++◌, take}
-use Rattle.count_rule.specs.Rule.{downs}
+use Rattle.refcount_insert_rule.specs.Rule.{downs}
 use Rattle.refcount_insert.proofs.counts.lay_downs.Given as goal
 
 abbrev pub invariant-loop-r : goal.invariant-loop-r

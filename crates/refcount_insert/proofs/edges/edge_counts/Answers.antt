@@ -1,5 +1,5 @@
 use Rattle.std.proofs.Common.{◌∙◌, ap, sym, subst, false, get_or}
-use Rattle.count_rule.specs.Rule.{given_up, AreUnsure}
+use Rattle.refcount_insert_rule.specs.Rule.{given_up, AreUnsure}
 use Rattle.refcount_insert.specs.Known.{held_at, entered}
 use Rattle.refcount_insert.specs.Counts.{short_on, over_on}
 use Rattle.refcount_insert.proofs.Times.{each_step, given_more, unsure_more}

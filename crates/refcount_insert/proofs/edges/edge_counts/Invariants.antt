@@ -1,5 +1,5 @@
 use Rattle.std.proofs.Common.{take}
-use Rattle.count_rule.specs.Rule.{given_up, AreUnsure}
+use Rattle.refcount_insert_rule.specs.Rule.{given_up, AreUnsure}
 use Rattle.refcount_insert.specs.Known.{held_at, entered}
 use Rattle.refcount_insert.specs.Counts.{AreEach, short_on, over_on}
 use Rattle.refcount_insert.proofs.edges.edge_counts.Given as goal

@@ -1,6 +1,6 @@
 use Rattle.std.proofs.Common.{◌∙◌, ◌++◌, ap}
 use Rattle.std.specs.Prelude.{replicate}
-use Rattle.count_rule.specs.Counted.{counts_register}
+use Rattle.refcount_insert_rule.specs.Counted.{counts_register}
 use Rattle.refcount_insert.specs.Known.{owned_at}
 use Rattle.refcount_insert.proofs.Times.{returned_is}
 use Rattle.refcount_insert.proofs.edges.return_counts.Goals as goal

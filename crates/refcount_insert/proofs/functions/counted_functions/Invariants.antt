@@ -1,5 +1,5 @@
 use Rattle.std.proofs.Common.{take}
-use Rattle.count_rule.specs.Counted.{AreCounted}
+use Rattle.refcount_insert_rule.specs.Counted.{AreCounted}
 use Rattle.refcount_insert.proofs.functions.counted_functions.Given as goal
 
 abbrev pub invariant-loop-f : goal.invariant-loop-f

@@ -1,6 +1,6 @@
 use Rattle.std.proofs.Common.{◌+◌, subst}
-use Rattle.count_rule.specs.Rule.{counts_before, counts_after, given_up}
-use Rattle.count_rule.specs.Counted.{counts_register}
+use Rattle.refcount_insert_rule.specs.Rule.{counts_before, counts_after, given_up}
+use Rattle.refcount_insert_rule.specs.Counted.{counts_register}
 use Rattle.refcount_insert.specs.Known.{owned_at}
 use Rattle.refcount_insert.specs.Counts.{AreEach, is_touched}
 use Rattle.refcount_insert.proofs.Times.{each_of}

@@ -1,7 +1,7 @@
 use Rattle.std.proofs.Common.{◌≡◌, ◌∙◌, ◌+◌, ap, sym, subst, not, get_or}
 use Rattle.liveness.specs.Paths.{write_of, is_target}
-use Rattle.count_rule.specs.Rule.{counts_after, given_up, AreSure}
-use Rattle.count_rule.specs.Counted.{counts_register}
+use Rattle.refcount_insert_rule.specs.Rule.{counts_after, given_up, AreSure}
+use Rattle.refcount_insert_rule.specs.Counted.{counts_register}
 use Rattle.refcount_insert.specs.Known.{owned_at}
 use Rattle.refcount_insert.proofs.Times.{each_step, given_more, sure_more}
 use Rattle.refcount_insert.proofs.groups.group_downs.Goals as goal

@@ -1,6 +1,6 @@
 use Rattle.std.proofs.Common.{◌+◌, take}
-use Rattle.count_rule.specs.Rule.{counts_before}
-use Rattle.count_rule.specs.Counted.{counts_register}
+use Rattle.refcount_insert_rule.specs.Rule.{counts_before}
+use Rattle.refcount_insert_rule.specs.Counted.{counts_register}
 use Rattle.refcount_insert.specs.Known.{owned_at}
 use Rattle.refcount_insert.specs.Counts.{AreEach}
 use Rattle.refcount_insert.proofs.groups.group_ups.Given as goal

@@ -1,7 +1,7 @@
 use Rattle.std.proofs.Common.{◌≡◌, ℕ, take}
 use Rattle.c_core.specs.Cells.{times}
 use Rattle.c_core.specs.Primitives.{row_of}
-use Rattle.count_rule.specs.Rule.{taken}
+use Rattle.refcount_insert_rule.specs.Rule.{taken}
 use Rattle.refcount_insert.proofs.operands.stolen.Given as goal
 
 abbrev pub invariant-loop-place : goal.invariant-loop-place

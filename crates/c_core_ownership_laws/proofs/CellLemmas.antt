@@ -1,0 +1,77 @@
+-- What changes of cells leave of the contents that two lists of cells have in common.
+use Rattle.std.proofs.Common.{◌≡◌, refl, sym, ◌∙◌, ℕ, zero, suc, ◌+◌, List, [], ◌∷◌, ◌++◌, length, length-append, Option, Some, None, ap, arith}
+use Rattle.c_core.specs.Cells.{Cell, Cells, content_of, content_at, one_less, change, lowered, raised, take_one, make}
+use Rattle.c_core.specs.Release.{after, freed, weight, release_some, release}
+use Rattle.c_core.specs.Machine.{Content, refs_in}
+use Rattle.c_core_ownership_laws.specs.Alike.{HoldsMore}
+
+module _ {X : Type 0} where
+  change-length : (f : Option (Cell X) → Option (Cell X)) (c : ℕ) (h : Cells X) → length (change f c h) ≡ length h
+  change-length f c [] = refl
+  change-length f zero (o ∷ h) = refl
+  change-length f (suc c) (o ∷ h) = ap suc (change-length f c h)
+
+  take-content : (h : Cells X) (c d : ℕ) → content_at (take_one c h) d ≡ content_at h d
+  take-content [] c d = refl
+  take-content (None ∷ h) zero zero = refl
+  take-content (Some cell ∷ h) zero zero = refl
+  take-content (o ∷ h) zero (suc d) = refl
+  take-content (o ∷ h) (suc c) zero = refl
+  take-content (o ∷ h) (suc c) (suc d) = take-content h c d
+
+  less-content : (n : ℕ) (x v : X) → content_of (one_less n x) ≡ Some v → Some x ≡ Some v
+  less-content zero x v e = cc
+  less-content (suc zero) x v e = cc
+  less-content (suc (suc n)) x v e = e
+
+  after-content : (h : Cells X) (c d : ℕ) (v : X) → content_at (after c h) d ≡ Some v → content_at h d ≡ Some v
+  after-content [] c d v e = e
+  after-content (None ∷ h) zero zero v e = e
+  after-content (Some cell ∷ h) zero zero v e = less-content cell.count cell.content v e
+  after-content (o ∷ h) zero (suc d) v e = e
+  after-content (o ∷ h) (suc c) zero v e = e
+  after-content (o ∷ h) (suc c) (suc d) v e = after-content h c d v e
+
+  module _ (words : X → List ℕ) where
+    release-content : (n : ℕ) (h : Cells X) (refs : List ℕ) (d : ℕ) (v : X) → content_at (release_some words n h refs) d ≡ Some v → content_at h d ≡ Some v
+    release-content zero h refs d v e = e
+    release-content (suc n) h [] d v e = e
+    release-content (suc n) h (w ∷ refs) d v e =
+        after-content h w d v (release-content n (after w h) (freed words w h ++ refs) d v e)
+
+    release-length : (n : ℕ) (h : Cells X) (refs : List ℕ) → length (release_some words n h refs) ≡ length h
+    release-length zero h refs = refl
+    release-length (suc n) h [] = refl
+    release-length (suc n) h (w ∷ refs) =
+        release-length n (after w h) (freed words w h ++ refs) ∙ change-length lowered w h
+
+  make-content : (g h : Cells X) (x : X) → length g ≡ length h → ((d : ℕ) (v : X) → content_at g d ≡ Some v → content_at h d ≡ Some v) → (d : ℕ) (v : X) → content_at (make x g) d ≡ Some v → content_at (make x h) d ≡ Some v
+  make-content [] [] x l m d v e = e
+  make-content [] (p ∷ h) x l m d v e = absurd (omega (arith, l))
+  make-content (o ∷ g) [] x l m d v e = absurd (omega (arith, l))
+  make-content (o ∷ g) (p ∷ h) x l m zero v e = m 0 v e
+  make-content (o ∷ g) (p ∷ h) x l m (suc d) v e =
+      make-content g h x (omega (arith, l)) (λ i. m (suc i)) d v e
+
+module _ (g h : Cells Content) (m : HoldsMore g h) where
+  pub taken_more : (c : ℕ) → HoldsMore (take_one c g) (take_one c h)
+  taken_more c =
+      record {
+        size = change-length raised c g ∙ m.size ∙ sym (change-length raised c h);
+        more = λ d v e. take-content h c d ∙ m.more d v (sym (take-content g c d) ∙ e);
+      }
+
+  -- the first gives references up, and the second does not
+  pub given_more : (refs : List ℕ) → HoldsMore (release refs_in g refs) h
+  given_more refs =
+      record {
+        size = release-length refs_in (length refs + weight refs_in g) g refs ∙ m.size;
+        more = λ d v e. m.more d v (release-content refs_in (length refs + weight refs_in g) g refs d v e);
+      }
+
+  pub made_more : (x : Content) → HoldsMore (make x g) (make x h)
+  made_more x =
+      record {
+        size = omega (arith, m.size, length-append g (Some (record { count = 1; content = x }) ∷ []), length-append h (Some (record { count = 1; content = x }) ∷ []));
+        more = make-content g h x m.size m.more;
+      }

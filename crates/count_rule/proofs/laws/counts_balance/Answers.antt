@@ -1,5 +1,0 @@
-use Rattle.count_rule.proofs.Balance as proof
-use Rattle.count_rule.proofs.laws.counts_balance.Goals as goal
-
-pub returns : goal.returns
-returns c = proof.counts_balance

@@ -1,6 +1,0 @@
-use Rattle.std.proofs.Common.{◌≡◌, ◌++◌, drop}
-use Rattle.ir_statements.specs.Ways.{left, planned}
-use Rattle.ir_bodies.proofs.exits.pass_on.Given as goal
-
-abbrev pub invariant-loop-exit : goal.invariant-loop-exit
-invariant-loop-exit l = l.exits.items ++ left (planned l.plan) (drop l.exit-index l.inner) ≡ l.initial.exits.items ++ left (planned l.plan) l.inner

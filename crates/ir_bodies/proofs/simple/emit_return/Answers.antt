@@ -1,9 +1,0 @@
-use Rattle.py_typed.specs.Statements.{maybe_typed}
-use Rattle.ir_frames.specs.Settings.{Setting, setting}
-use Rattle.ir_bodies.proofs.ReturnLemmas.{return_code}
-use Rattle.ir_bodies.proofs.simple.emit_return.Goals as goal
-
-pub returns-clause-works : goal.returns-clause-works
-returns-clause-works c =
-    let x : Setting = setting c.args.checked.now c.args.locals.now c.args.frame in
-    return_code x (maybe_typed c.args.value.now) _ _ _ c.in_ok-r.r c.requires.alone c.requires.room c.in_ok-r.ensures.computes c.in_ok-close.ensures.closed

@@ -1,0 +1,15 @@
+use Rattle.std.proofs.Common.{sym, ◌∙◌}
+use Rattle.py_typed.specs.Sorts.{sort}
+use Rattle.ir_core.specs.declared.code.Reg.{Reg}
+use Rattle.ir_builder_frames.proofs.HeldLemmas.{ok_map}
+use Rattle.ir_builder_comparisons.proofs.TruthLemmas.{compared_has, compared_finds, bool_stays}
+use Rattle.ir_builder_comparisons.proofs.comparisons.emit_truth.Goals as goal
+
+pub emit_compared_truth-requires : goal.emit_compared_truth-requires
+emit_compared_truth-requires c = compared_has (sort c.args.t.now) c.in-Some.compared c.args.b.now c.args.x.0 (sym c.compared_by.ensures ∙ c.in-Some.is) c.requires.value
+
+pub returns-in-Some-clause-found : goal.returns-in-Some-clause-found
+returns-in-Some-clause-found c = ok_map _ _ _ (λ (r : Reg) a. compared_finds (sort c.args.t.now) c.in-Some.compared _ _ r.0 _ c.requires.written (sym c.compared_by.ensures ∙ c.in-Some.is) a) c.emit_compared_truth.ensures.made
+
+pub returns-in-None-clause-found : goal.returns-in-None-clause-found
+returns-in-None-clause-found c = bool_stays (sort c.args.t.now) _ _ c.requires.written (sym c.compared_by.ensures ∙ c.in-None.is) c.requires.value

@@ -1,0 +1,138 @@
+-- Arguments one after another.
+use Rattle.std.proofs.Common.{◌≡◌, refl, sym, ◌∙◌, ap, subst, ℕ, ◌+◌, ◌<◌, ◌≤◌, arith, le_refl, List, [], ◌∷◌, ◌++◌, length, map, Some, take, drop, get_or, add-one}
+use Rattle.std.proofs.Math.Seq.{take-suc}
+use Rattle.std.proofs.lemmas.List.{drop_more, take_all}
+use Rattle.value_core.specs.Value.{Value}
+use Rattle.py_typed.specs.declared.expression.TExpr.{TExpr}
+use Rattle.py_typed.specs.Sorts.{Sort}
+use Rattle.py_typed.specs.Statements.{TypedModule, Variable}
+use Rattle.py_typed.specs.Expressions.{TypedExpr, type_of, exprs_of, typed_expr}
+use Rattle.py_typed.specs.State.{State, Gives, on_to}
+use Rattle.ir_core.specs.declared.code.Reg.{Reg}
+use Rattle.ir_core.specs.Rows.{Declared, type_of_reg}
+use Rattle.ir_core.specs.Registers.{Regs}
+use Rattle.ir_core.specs.Building.{Building, Extends}
+use Rattle.ir_builder_frames.specs.Settings.{Setting, rtype_of}
+use Rattle.ir_builder_frames.specs.Matching.{HasRoom, IsThrown}
+use Rattle.ir_builder_frames.specs.Computing.{Shows, ShowAll, HaveTypes, ArrivesAll, ComputesAll}
+use Rattle.ir_builder_frames.proofs.HeldLemmas.{extends_refl, extends_trans, type_kept, type_below, placed_part}
+use Rattle.ir_builder_frames.proofs.ComingLemmas.{ends_now, ends_of, on_assoc}
+use Rattle.ir_builder_frames.proofs.MatchLemmas.{room_on, same_refl, same_trans, computes_then, computes_all_then}
+use Rattle.ir_builder_expressions.specs.Suiting.{Suits, ArgumentsSuit, SomeSuit}
+use Rattle.ir_builder_expressions.specs.Emitting.{means, means_all, Emits, EmitsAll}
+use Rattle.ir_builder_expressions.specs.Walking.{Walks}
+use Rattle.ir_builder_expressions.proofs.WalkingLemmas.{walks_refl, walks_trans}
+
+snoc_means : (x : Setting) (n : ℕ) (es : List TypedExpr) (e : TypedExpr) (s : State) → means_all x (exprs_of (es ++ e ∷ [])) n s ≡ on_to (means_all x (exprs_of es) n s) (λ vs s1. on_to (means x e n s1) (λ v s2. Gives (vs ++ v ∷ []) s2))
+snoc_means x n [] e s = refl
+snoc_means x n (a ∷ es) e s =
+    (λ i. on_to (means x a n s) (λ v s1. on_to (snoc_means x n es e s1 i) (λ vs s2. Gives (v ∷ vs) s2)))
+    ∙ (λ i. on_to (means x a n s) (λ v s1. on_assoc (means_all x (exprs_of es) n s1) (λ vs s2. on_to (means x e n s2) (λ u s3. Gives (vs ++ u ∷ []) s3)) (λ vs s2. Gives (v ∷ vs) s2) i))
+    ∙ (λ i. on_to (means x a n s) (λ v s1. on_to (means_all x (exprs_of es) n s1) (λ vs s2. on_assoc (means x e n s2) (λ u s3. Gives (vs ++ u ∷ []) s3) (λ us s4. Gives (v ∷ us) s4) i)))
+    ∙ (λ i. on_to (means x a n s) (λ v s1. sym (on_assoc (means_all x (exprs_of es) n s1) (λ vs s2. Gives (v ∷ vs) s2) (λ vs s2. on_to (means x e n s2) (λ u s3. Gives (vs ++ u ∷ []) s3))) i))
+    ∙ sym (on_assoc (means x a n s) (λ v s1. on_to (means_all x (exprs_of es) n s1) (λ vs s2. Gives (v ∷ vs) s2)) (λ vs s2. on_to (means x e n s2) (λ u s3. Gives (vs ++ u ∷ []) s3)))
+
+show_snoc : (ts : List Sort) (t : Sort) (vs : List Value) (v : Value) (regs : Regs) (rs : List Reg) (r : Reg) → ShowAll ts vs regs rs → Shows t v (regs r.0) → ShowAll (ts ++ t ∷ []) (vs ++ v ∷ []) regs (rs ++ r ∷ [])
+show_snoc [] t [] v regs [] r h k = (k, tt)
+show_snoc [] t [] v regs (q ∷ rs) r h k = absurd h
+show_snoc [] t (u ∷ vs) v regs rs r h k = absurd h
+show_snoc (w ∷ ts) t [] v regs rs r h k = absurd h
+show_snoc (w ∷ ts) t (u ∷ vs) v regs [] r h k = absurd h
+show_snoc (w ∷ ts) t (u ∷ vs) v regs (q ∷ rs) r h k = (h.0, show_snoc ts t vs v regs rs r h.1 k)
+
+types_snoc : (declared : Declared) (ts : List Sort) (t : Sort) (rs : List Reg) (r : Reg) → HaveTypes declared ts rs → type_of_reg declared r ≡ Some (rtype_of t) → HaveTypes declared (ts ++ t ∷ []) (rs ++ r ∷ [])
+types_snoc declared [] t [] r h k = (k, tt)
+types_snoc declared [] t (q ∷ rs) r h k = absurd h
+types_snoc declared (w ∷ ts) t [] r h k = absurd h
+types_snoc declared (w ∷ ts) t (q ∷ rs) r h k = (h.0, types_snoc declared ts t rs r h.1 k)
+
+types_kept : (b c : Building) (ts : List Sort) (rs : List Reg) → Extends b c → HaveTypes b.regs ts rs → HaveTypes c.regs ts rs
+types_kept b c [] [] x h = tt
+types_kept b c [] (r ∷ rs) x h = absurd h
+types_kept b c (t ∷ ts) [] x h = absurd h
+types_kept b c (t ∷ ts) (r ∷ rs) x h = (type_kept b c r.0 (rtype_of t) x h.0, types_kept b c ts rs x h.1)
+
+show_kept : (b : Building) (ts : List Sort) (vs : List Value) (rs : List Reg) (old now : Regs) → HaveTypes b.regs ts rs → ((j : ℕ) → j < length b.regs → now j ≡ old j) → ShowAll ts vs old rs → ShowAll ts vs now rs
+show_kept b [] [] [] old now h same k = tt
+show_kept b [] vs (r ∷ rs) old now h same k = absurd h
+show_kept b [] (v ∷ vs) [] old now h same k = absurd k
+show_kept b (t ∷ ts) vs [] old now h same k = absurd h
+show_kept b (t ∷ ts) [] (r ∷ rs) old now h same k = absurd k
+show_kept b (t ∷ ts) (v ∷ vs) (r ∷ rs) old now h same k = (subst (Shows t v) (sym (same r.0 (type_below b r.0 (rtype_of t) h.0))) k.0, show_kept b ts vs rs old now h.1 same k.1)
+
+pub none_emitted : (x : Setting) (b : Building) → ComputesAll x [] (means_all x (exprs_of [])) b b []
+none_emitted x b = record {
+  extends = extends_refl b;
+  types = tt;
+  runs = λ p fn h at n calls regs below s match le. ends_now p [] s _ (ArrivesAll [] fn (length b.blocks) (length b.ops) below (length b.regs) regs x s []) (IsThrown fn h below x (length b.regs) regs) record { now = regs; is = refl; shows = tt; kept = λ j lt. refl; same = same_refl x regs s match };
+}
+
+pub snoc_emitted : (x : Setting) (ts : List Sort) (es : List TypedExpr) (e : TypedExpr) (b0 b1 b2 : Building) (rs : List Reg) (r : Reg) → HasRoom x b0 → EmitsAll x ts (exprs_of es) b0 b1 rs → Emits x e b1 b2 r.0 → EmitsAll x (ts ++ type_of e ∷ []) (exprs_of (es ++ e ∷ [])) b0 b2 (rs ++ r ∷ [])
+snoc_emitted x ts es e b0 b1 b2 rs r room q c =
+    let k1 = q.extends.blocks_grow in
+    let l1 = q.extends.regs_grow in
+    let l2 = c.extends.regs_grow in
+    record {
+      extends = extends_trans b0 b1 b2 q.extends c.extends;
+      types = types_snoc b2.regs ts (type_of e) rs r (types_kept b1 b2 ts rs c.extends q.types) c.type;
+      runs = λ p fn h at n calls regs below s match le.
+          let p1 = placed_part p fn b0 b0 b1 b2 h (le_refl _) c.extends at in
+          let p2 = placed_part p fn b0 b1 b2 b2 h k1 (extends_refl b2) at in
+          let R = ArrivesAll (ts ++ type_of e ∷ []) fn (length b2.blocks) (length b2.ops) below (length b0.regs) regs x s (rs ++ r ∷ []) in
+          ends_of p s.turns _ _ _ R (IsThrown fn h below x (length b0.regs) regs) (snoc_means x n es e s)
+          (computes_all_then p fn h below x n calls ts (means_all x (exprs_of es)) b0 b1 rs regs s _ R (length b0.regs) regs q p1 room (le_refl _) (λ j i z o. refl) match le
+          (λ now vs s1 le1 shows kept same1 match1. computes_then p fn h below x n calls (Shows (type_of e)) (rtype_of (type_of e)) (means x e) b1 b2 r.0 now s1 _ R (length b0.regs) regs c p2 (room_on x b0 b1 q.extends room) l1 (λ j i z o. kept j z) match1 le1
+          (λ now2 v s2 le2 shows2 kept2 same2 match2.
+          ends_now p (vs ++ v ∷ []) s2 _ R (IsThrown fn h below x (length b0.regs) regs) record { now = now2; is = refl; shows = show_snoc ts (type_of e) vs v now2 rs r (show_kept b1 ts vs rs now now2 q.types kept2 shows) shows2; kept = λ j lt. kept2 j (omega arith) ∙ kept j lt; same = same_trans x s s1 s2 same1 same2 })));
+    }
+
+map_snoc : {A B : Type 0} (f : A → B) (xs : List A) (x : A) → map f (xs ++ x ∷ []) ≡ map f xs ++ f x ∷ []
+map_snoc f [] x = refl
+map_snoc f (y ∷ xs) x = ap (λ l. f y ∷ l) (map_snoc f xs x)
+
+-- one turn of the loop over the arguments
+pub argument_emitted : (x : Setting) (es : List TExpr) (i : ℕ) (e : TExpr) (b0 b1 b2 : Building) (rs rs' : List Reg) (r : Reg) → i < length es → e ≡ get_or es i e → HasRoom x b0 → EmitsAll x (map type_of (map typed_expr (take i es))) (exprs_of (map typed_expr (take i es))) b0 b1 rs → Emits x (typed_expr e) b1 b2 r.0 → rs' ≡ rs ++ r ∷ [] → EmitsAll x (map type_of (map typed_expr (take (i + 1) es))) (exprs_of (map typed_expr (take (i + 1) es))) b0 b2 rs'
+argument_emitted x es i e b0 b1 b2 rs rs' r lt is room q c new =
+    rw (new, add-one, take-suc es i e lt, ← is, map_snoc typed_expr (take i es) e, map_snoc type_of (map typed_expr (take i es)) (typed_expr e)) (snoc_emitted x (map type_of (map typed_expr (take i es))) (map typed_expr (take i es)) (typed_expr e) b0 b1 b2 rs r room q c)
+
+module _ (m : TypedModule) (vs : List Variable) where
+  suit_split : (e : TypedExpr) (es : List TypedExpr) → SomeSuit m vs (e ∷ es) → Suits m vs e × SomeSuit m vs es
+  suit_split e es h = split h.0 h.1
+    where
+      split : (ts : List Sort) → ArgumentsSuit m vs ts (exprs_of (e ∷ es)) → Suits m vs e × SomeSuit m vs es
+      split [] k = absurd k
+      split (t ∷ ts) k = (k.1, (ts, k.2))
+
+  pub argument_suits : (es : List TExpr) (i : ℕ) (e : TExpr) → i < length es → e ≡ get_or es i e → SomeSuit m vs (map typed_expr (drop i es)) → Suits m vs (typed_expr e) × SomeSuit m vs (map typed_expr (drop (i + 1) es))
+  argument_suits es i e lt is h =
+      let d : drop i es ≡ get_or es i e ∷ drop (i + 1) es = drop_more es i e lt in
+      let P : List TExpr → Type 0 = λ l. SomeSuit m vs (map typed_expr l) in
+      let both = suit_split (typed_expr (get_or es i e)) (map typed_expr (drop (i + 1) es)) (subst P d h) in
+      (subst (λ z. Suits m vs (typed_expr z)) (sym is) both.0, both.1)
+
+  pub suit_types : (ts : List Sort) (es : List TypedExpr) → ArgumentsSuit m vs ts (exprs_of es) → ts ≡ map type_of es
+  suit_types [] [] h = refl
+  suit_types [] (e ∷ es) h = absurd h
+  suit_types (t ∷ ts) [] h = absurd h
+  suit_types (t ∷ ts) (e ∷ es) h = ap (λ z. z ∷ ts) (sym h.0) ∙ ap (λ l. type_of e ∷ l) (suit_types ts es h.2)
+
+-- arguments that were emitted from the left
+pub record Passing (x : Setting) (es : List TExpr) (i : ℕ) (start b : Building) (rs : List Reg) : Type 0 where
+  pub walks : Walks x.source start b
+  pub emitted : EmitsAll x (map type_of (map typed_expr (take i es))) (exprs_of (map typed_expr (take i es))) start b rs
+  pub suits : SomeSuit x.source x.variables (map typed_expr (drop i es))
+
+pub passing_none : (x : Setting) (es : List TExpr) (b : Building) → SomeSuit x.source x.variables (map typed_expr es) → Passing x es 0 b b []
+passing_none x es b suits = record { walks = walks_refl x.source b; emitted = none_emitted x b; suits = suits }
+
+pub passing_on : (x : Setting) (es : List TExpr) (i : ℕ) (e : TExpr) (start b c : Building) (rs rs' : List Reg) (r : Reg) → i < length es → e ≡ get_or es i e → HasRoom x start → Passing x es i start b rs → Walks x.source b c → Emits x (typed_expr e) b c r.0 → rs' ≡ rs ++ r ∷ [] → Passing x es (i + 1) start c rs'
+passing_on x es i e start b c rs rs' r lt is room g w one new = record {
+  walks = walks_trans x.source start b c g.walks w;
+  emitted = argument_emitted x es i e start b c rs rs' r lt is room g.emitted one new;
+  suits = (argument_suits x.source x.variables es i e lt is g.suits).1;
+}
+
+pub passing_ends : (x : Setting) (es : List TExpr) (i : ℕ) (start b : Building) (rs : List Reg) → length es ≤ i → Passing x es i start b rs → EmitsAll x (map type_of (map typed_expr es)) (exprs_of (map typed_expr es)) start b rs
+passing_ends x es i start b rs le g =
+    let P : List TExpr → Type 0 = λ z. EmitsAll x (map type_of (map typed_expr z)) (exprs_of (map typed_expr z)) start b rs in
+    subst P (take_all i es le) g.emitted

@@ -1,0 +1,103 @@
+-- The code of literals, of a part of an operation, and of an operation on its parts.
+use Rattle.std.proofs.Common.{◌≡◌, refl, sym, ap, subst, ℕ, arith, Bool, true, false, List, Option, Some, None}
+use Rattle.std.proofs.lemmas.Bool.Decides.{nat_tests}
+use Rattle.std.specs.Prelude.{ℤ, pos, negsuc, FitsSigned, if◌then◌else◌}
+use Rattle.std.specs.Int.{w128}
+use Rattle.value_core.specs.Arithmetic.{lies_within}
+use Rattle.value_core.specs.Value.{IntVal, StrVal}
+use Rattle.py_syntax.specs.declared.token.Span.{Span}
+use Rattle.py_typed.specs.Sorts as sort
+use Rattle.py_typed.specs.Sorts.{Sort}
+use Rattle.py_typed.specs.Expressions as tree
+use Rattle.py_typed.specs.Expressions.{TypedExpr, typed, type_of}
+use Rattle.py_typed.specs.State.{on_to, State, Gives}
+use Rattle.py_typed.specs.Operations.{item_at}
+use Rattle.ir_core.specs.declared.code.RType.TheVariants as rtype
+use Rattle.ir_core.specs.declared.code.Lit.TheVariants.{Number}
+use Rattle.ir_core.specs.declared.code.Op.TheVariants.{Lit}
+use Rattle.ir_core.specs.Registers.{Holds}
+use Rattle.ir_core.specs.Building.{Building}
+use Rattle.ir_builder_frames.specs.Settings.{Setting, rtype_of}
+use Rattle.ir_builder_frames.specs.Calling.{Adds}
+use Rattle.ir_builder_frames.specs.Matching.{HasRoom}
+use Rattle.ir_builder_frames.specs.Computing.{Shows, Computes, Makes, Attempts}
+use Rattle.ir_builder_frames.proofs.StepLemmas.{literal_makes}
+use Rattle.ir_builder_frames.proofs.MatchLemmas.{computes_of, made_computes}
+use Rattle.ir_builder_frames.proofs.AttemptLemmas.{both_attempt}
+use Rattle.ir_builder_operations.specs.Operating.{ActsOn, ActsOnTwo}
+use Rattle.ir_builder_expressions.specs.declared.applying.Unary.{Unary}
+use Rattle.ir_builder_expressions.specs.declared.applying.Binary.{Binary}
+use Rattle.ir_builder_expressions.specs.declared.applying.Binary.TheVariants as binary
+use Rattle.ir_builder_expressions.specs.Compiled.{literal_in}
+use Rattle.ir_builder_expressions.specs.Parts.{fitting_in, native_in, sort_by, part_sort}
+use Rattle.ir_builder_expressions.specs.Applying.{unary_goes, binary_goes}
+use Rattle.ir_builder_expressions.specs.Emitting.{means, Emits, EmitsPart, EmitsOne, EmitsTwo}
+use Rattle.ir_builder_expressions.proofs.FollowLemmas.{part_attempts}
+
+-- ---- literals
+
+pub int_fits : (n : ℤ) → lies_within 127 n ≡ true → FitsSigned w128 n
+int_fits (pos n) e = record { sfits = grind (arith, nat_tests, e) }
+int_fits (negsuc n) e = record { sfits = grind (arith, nat_tests, e) }
+
+pub int_emits : (x : Setting) (n : ℤ) (place : Span) (b c : Building) (r : ℕ) → lies_within 127 n ≡ true → Makes b c r rtype.Int (λ regs h. h ≡ Holds (IntVal n)) → Emits x (typed (tree.Int n) sort.Int place) b c r
+int_emits x n place b c r within made = made_computes x (Shows sort.Int) rtype.Int _ _ b c r made (λ k s regs. (IntVal n, Holds (IntVal n), refl, refl, (refl, (n, refl, within))))
+
+pub text_emits : (x : Setting) (text : List ℕ) (place : Span) (b c : Building) (r : ℕ) → Makes b c r rtype.Ref (λ regs h. h ≡ Holds (StrVal text)) → Emits x (typed (tree.Str text) sort.Str place) b c r
+text_emits x text place b c r made = made_computes x (Shows sort.Str) rtype.Ref _ _ b c r made (λ k s regs. (StrVal text, Holds (StrVal text), refl, refl, (refl, (text, refl))))
+
+-- ---- a part
+
+fitting_by : (m n : ℤ) (b : Bool) → lies_within 63 m ≡ b → (if b then (Some m) else None) ≡ Some n → (Some m ≡ Some n) × (lies_within 63 n ≡ true)
+fitting_by m n true is e =
+    let f : Some m ≡ Some n = e in
+    let same : m ≡ n = cc in
+    (f, subst (λ z. lies_within 63 z ≡ true) same is)
+fitting_by m n false is e = absurd (cc)
+
+fitting_is : (o : Option ℤ) (n : ℤ) → fitting_in o ≡ Some n → (o ≡ Some n) × (lies_within 63 n ≡ true)
+fitting_is None n e = absurd (cc)
+fitting_is (Some m) n e = fitting_by m n (lies_within 63 m) refl e
+
+pub native_is : (t : Sort) (o : Option ℤ) (n : ℤ) → native_in t o ≡ Some n → (o ≡ Some n) × (lies_within 63 n ≡ true)
+native_is sort.I64 o n e = fitting_is o n e
+native_is t o n e = let f : None ≡ Some n = e in absurd (cc)
+
+-- a literal is a number as it stands in the text
+pub literal_is : (k : tree.TypedNode) (t : Sort) (place : Span) (n : ℤ) → literal_in (typed k t place) ≡ Some n → typed (tree.Int n) t place ≡ typed k t place
+literal_is (tree.Int m) t place n e = let f : Some m ≡ Some n = e in ap (λ z. typed (tree.Int z) t place) (cc (sym f))
+literal_is _ t place n e = absurd (cc)
+
+literal_means : (x : Setting) (e : TypedExpr) (k : ℕ) (i : ℤ) (s : State) → literal_in e ≡ Some i → means x e k s ≡ Gives (IntVal i) s
+literal_means x (typed node t place) k i s e = ap (λ y. means x y k s) (sym (literal_is node t place i e))
+
+pub native_part : (x : Setting) (t : Sort) (e : TypedExpr) (n : ℤ) (b c : Building) (r : ℕ) → native_in t (literal_in e) ≡ Some n → Adds b c r rtype.I64 (Lit record { 0 = r } (Number n)) → EmitsPart x t e b c r
+native_part x t e n b c r is a =
+    let h = native_is t (literal_in e) n is in
+    let part : sort.I64 ≡ part_sort t e = ap (λ o. sort_by o (type_of e)) (sym is) in
+    let P : Sort → Type 0 = λ u. Computes x (Shows u) (rtype_of u) (means x e) b c r in
+    subst P part (made_computes x (Shows sort.I64) rtype.I64 (means x e) _ b c r (literal_makes b c r rtype.I64 _ (Holds (IntVal n)) a refl) (λ k s regs. (IntVal n, Holds (IntVal n), literal_means x e k n s h.0, refl, (refl, (n, refl, h.1)))))
+
+pub own_part : (x : Setting) (t : Sort) (e : TypedExpr) (b c : Building) (r : ℕ) → native_in t (literal_in e) ≡ None → Emits x e b c r → EmitsPart x t e b c r
+own_part x t e b c r is q =
+    let part : type_of e ≡ part_sort t e = ap (λ o. sort_by o (type_of e)) (sym is) in
+    let P : Sort → Type 0 = λ u. Computes x (Shows u) (rtype_of u) (means x e) b c r in
+    subst P part q
+
+-- ---- an operation on parts
+
+pub one_emits : (x : Setting) (op : Unary) (t : Sort) (e : TypedExpr) (b0 b1 b2 : Building) (q r : ℕ) → HasRoom x b0 → EmitsPart x t e b0 b1 q → Attempts (Shows t) b1 b2 r (rtype_of t) (ActsOn (part_sort t e) q (unary_goes op t)) → EmitsOne x op t e b0 b2 r
+one_emits x op t e b0 b1 b2 q r room c made =
+    part_attempts x (Shows (part_sort t e)) (Shows t) (rtype_of (part_sort t e)) (rtype_of t) (means x e) (unary_goes op t) (ActsOn (part_sort t e) q (unary_goes op t)) b0 b1 b2 q r room c made
+    (λ v s regs k. record { v = v; shows = k; does = refl })
+
+pub two_emit : (x : Setting) (op : Binary) (t : Sort) (a b : TypedExpr) (b0 b1 b2 b3 : Building) (q q' r : ℕ) → HasRoom x b0 → EmitsPart x t a b0 b1 q → EmitsPart x t b b1 b2 q' → Attempts (Shows t) b2 b3 r (rtype_of t) (ActsOnTwo (part_sort t a) (part_sort t b) q q' (binary_goes op t)) → EmitsTwo x op t a b b0 b3 r
+two_emit x op t a b b0 b1 b2 b3 q q' r room c d made =
+    both_attempt x (Shows (part_sort t a)) (Shows (part_sort t b)) (Shows t) (rtype_of (part_sort t a)) (rtype_of (part_sort t b)) (rtype_of t) (means x a) (means x b) (binary_goes op t) (ActsOnTwo (part_sort t a) (part_sort t b) q q' (binary_goes op t)) b0 b1 b2 b3 q q' r room c d made
+    (λ v w s regs k l. record { v = v; left = k; w = w; right = l; does = refl })
+
+-- a letter of a text
+pub item_emits : (x : Setting) (a b : TypedExpr) (t : Sort) (place : Span) (b0 b1 : Building) (r : ℕ) → type_of a ≡ sort.Str → EmitsTwo x binary.Indexed t a b b0 b1 r → Emits x (typed (tree.At a b) t place) b0 b1 r
+item_emits x a b t place b0 b1 r is q =
+    computes_of x (Shows t) (rtype_of t) (λ n s. on_to (means x a n s) (λ v s1. on_to (means x b n s1) (binary_goes binary.Indexed t v))) (means x (typed (tree.At a b) t place)) b0 b1 r
+    (λ n s. ap (λ u. on_to (means x a n s) (λ v s1. on_to (means x b n s1) (item_at u v))) is) q

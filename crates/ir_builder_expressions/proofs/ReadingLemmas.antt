@@ -1,0 +1,230 @@
+-- Reading a variable that may be unset, of the function or of the module.
+use Rattle.std.proofs.Common.{◌≡◌, ◌⊎◌, inr, ℕ, zero, suc, ◌<◌, ◌≤◌, ◌++◌, true, false, List, [], ◌∷◌, length, Option, Some, None, refl, sym, ap, ◌∙◌, subst, arith, le_refl}
+use Rattle.std.specs.Prelude.{slice_get, get_or, map, pos, nat_lt, if◌then◌else◌, codes}
+use Rattle.std.proofs.lemmas.Bool.Decides.{nat_tests}
+use Rattle.std.proofs.lemmas.List.{length-map}
+use Rattle.value_core.specs.Value.{Value, BoolVal}
+use Rattle.value_core.specs.declared.exception.ExcClass.TheVariants.{UnboundLocalError}
+use Rattle.c_core.specs.declared.primitive.Primitive.TheVariants as prim
+use Rattle.c_core.specs.declared.primitive.GlobalPrim.TheVariants as global
+use Rattle.c_core.specs.Step.{unbound}
+use Rattle.py_syntax.specs.declared.token.Span.{Span}
+use Rattle.py_typed.specs.Sorts.{Sort, sort}
+use Rattle.py_typed.specs.State.{State, Gives, Raises, raise_new}
+use Rattle.py_typed.specs.declared.checked.Var.{Var}
+use Rattle.py_typed.specs.Statements.{Variable, TypedModule, variable}
+use Rattle.py_typed.specs.Expressions.{typed, Local}
+use Rattle.py_typed.specs.ExpressionMeaning.{name_at, value_in, read_global}
+use Rattle.ir_core.specs.declared.code.Op.TheVariants.{Lit, Prim}
+use Rattle.ir_core.specs.declared.code.PArg.{PArg}
+use Rattle.ir_core.specs.declared.code.PArg.TheVariants as arg
+use Rattle.ir_core.specs.declared.code.RType.{RType}
+use Rattle.ir_core.specs.declared.code.Lit.TheVariants.{Number}
+use Rattle.ir_core.specs.declared.code.Last.TheVariants.{Goto, IfError, Unreachable}
+use Rattle.ir_core.specs.declared.code.Program.{Program}
+use Rattle.ir_core.specs.declared.code.RType.TheVariants as rtype
+use Rattle.ir_core.specs.Items.{Do, End}
+use Rattle.ir_core.specs.Registers.{Held, Unset, Holds, Regs, is_error}
+use Rattle.ir_core.specs.Building.{Building, with_last, held, Extends}
+use Rattle.ir_core.specs.Meaning.{Waiting, Strict, away, item_at, handler_at, registers_of, step}
+use Rattle.ir_core.proofs.StepLemmas.{op_step, goto_step, error_step}
+use Rattle.ir_builder_frames.specs.declared.frame.Frame.{Frame}
+use Rattle.ir_builder_frames.specs.declared.frame.Vars.{Vars}
+use Rattle.ir_builder_frames.specs.Calling.{Adds, Pushes, Closes, Patches}
+use Rattle.ir_builder_frames.specs.Settings.{Setting, rtype_of}
+use Rattle.ir_builder_frames.specs.Placing.{HasType, Has, Placed, or_other}
+use Rattle.ir_builder_frames.specs.Coming.{world, running, Leads, Ends}
+use Rattle.ir_builder_frames.specs.Computing.{Shows, Arrives, Computes}
+use Rattle.ir_builder_frames.specs.Kinds.{IsAmong, KeepsKindsIf, Answers, ReadsGlobal}
+use Rattle.ir_builder_frames.specs.Matching.{HasKind, Keeps, flag_of, flag_in, Matches, HasRoom, IsThrown}
+use Rattle.ir_builder_frames.proofs.ComingLemmas.{leads_step, leads_trans, ends_of, ends_lead}
+use Rattle.ir_builder_frames.proofs.HeldLemmas.{extends_trans, get_below, has_less, type_kept, type_has, pushes_has, adds_has, placed_part, guard_at}
+use Rattle.ir_builder_frames.proofs.MatchLemmas.{same_refl, thrown_at}
+use Rattle.ir_builder_frames.proofs.PatchLemmas.{patches}
+use Rattle.ir_builder_frames.proofs.GlobalLemmas.{get_map, global_computes, read_fits}
+use Rattle.ir_builder_expressions.specs.Emitting.{means, Emits}
+use Rattle.ir_builder_expressions.specs.Suiting.{IsSimpleAt}
+use Rattle.ir_builder_expressions.specs.Reading.{reports_unbound, TestsSet, setting_in, HasRegisters, EmitsLocal, EmitsGlobal}
+use Rattle.ir_builder_expressions.proofs.NodeLemmas.{local_emits}
+
+-- ---- the test
+
+module _ (b0 b1 b2 b3 b4 b5 b6 : Building) (test bad good flag r line : ℕ) (name : List ℕ) (type : HasType b0 flag rtype.Bool) (c01 : Closes b0 b1 (Goto test)) (test_is : test ≡ length b1.blocks) (c12 : Closes b1 b2 Unreachable) (bad_is : bad ≡ length b2.blocks) (q23 : Pushes b2 b3 (reports_unbound name)) (a34 : Adds b3 b4 r rtype.Bool (Lit record { 0 = r } (Number (pos 0)))) (c45 : Closes b4 b5 (Goto good)) (good_is : good ≡ length b5.blocks) (set : b6 ≡ record b5 { blocks = with_last b5.blocks test (IfError (record { 0 = flag }) bad good line) }) where
+  x35 : Extends b3 b5
+  x35 = extends_trans b3 b4 b5 a34.extends c45.extends
+
+  x25 : Extends b2 b5
+  x25 = extends_trans b2 b3 b5 q23.extends x35
+
+  x05 : Extends b0 b5
+  x05 = extends_trans b0 b1 b5 c01.extends (extends_trans b1 b2 b5 c12.extends x25)
+
+  hole : held b5 test 0 ≡ Some (End Unreachable)
+  hole =
+      ap (held b5 test) (sym c01.ops) ∙ ap (λ k. held b5 k (length b1.ops)) test_is
+      ∙ x25.items (length b1.blocks) (length b1.ops) (End Unreachable) c12.at
+
+  written : Patches b5 b6 test (IfError (record { 0 = flag }) bad good line)
+  written = patches b5 b6 test (IfError (record { 0 = flag }) bad good line) record { place = 0; is = hole } (λ z. cc) set
+
+  x06 : Extends b0 b6
+  x06 = written.extends b0 x05 (let z = c01.blocks in omega (arith, test_is))
+
+  module _ (p : Program) (fn : ℕ) (has : Has p fn b6) (regs : Regs) (below : List Waiting) (s : State) where
+    has5 : Has p fn b5
+    has5 = written.has p fn has
+
+    -- to the test
+    to_test : Leads p (running fn (length b0.blocks) (length b0.ops) regs below (world None s)) (running fn test 0 regs below (world None s))
+    to_test =
+        leads_step p _ _ (goto_step Strict p (record { fn = fn; block = length b0.blocks; place = length b0.ops; regs = regs }) below (world None s) test
+        (has5.items (length b0.blocks) (length b0.ops) (End (Goto test)) (λ z. cc) ((extends_trans b1 b2 b5 c12.extends x25).items (length b0.blocks) (length b0.ops) (End (Goto test)) c01.at)))
+
+    type_here : Rattle.ir_core.specs.Rows.type_of_reg (registers_of p fn) (record { 0 = flag }) ≡ Some rtype.Bool
+    type_here = type_has p fn b0 flag rtype.Bool (has_less p fn b0 b5 x05 has5) type
+
+    tested : (v : Held) (b : Rattle.std.specs.Prelude.Bool) → regs flag ≡ v → is_error rtype.Bool v ≡ b → step Strict p (running fn test 0 regs below (world None s)) ≡ Rattle.ir_core.specs.Meaning.to_block (record { fn = fn; block = test; place = 0; regs = regs }) (Rattle.std.specs.Prelude.cond b bad good) below (world None s)
+    tested v b is e =
+        error_step Strict p (record { fn = fn; block = test; place = 0; regs = regs }) below (world None s) (record { 0 = flag }) bad good line rtype.Bool b
+        (written.code p fn 0 has hole) type_here (ap (is_error rtype.Bool) is ∙ e)
+
+    on_set : (v : Value) → regs flag ≡ Holds v → Leads p (running fn (length b0.blocks) (length b0.ops) regs below (world None s)) (running fn (length b6.blocks) (length b6.ops) regs below (world None s))
+    on_set v is =
+        let first = leads_step p _ _ (tested (Holds v) false is refl) in
+        let there : running fn good 0 regs below (world None s) ≡ running fn (length b6.blocks) (length b6.ops) regs below (world None s) = ap (λ k. running fn k 0 regs below (world None s)) (good_is ∙ sym written.blocks) ∙ ap (λ i. running fn (length b6.blocks) i regs below (world None s)) (sym (written.ops ∙ c45.ops)) in
+        subst (λ d. Leads p (running fn (length b0.blocks) (length b0.ops) regs below (world None s)) d) there (leads_trans p _ _ _ to_test first)
+
+    behind : item_at p fn bad 1 ≡ Some (Do (Lit (record { 0 = r }) (Number (pos 0))))
+    behind =
+        let one : length b3.ops ≡ 1 = (let z = q23.ops in let y = c12.ops in omega arith) in
+        ap (λ k. item_at p fn k 1) (bad_is ∙ sym q23.blocks) ∙ ap (item_at p fn (length b3.blocks)) (sym one)
+        ∙ adds_has p fn b3 b4 r rtype.Bool _ a34 (has_less p fn b4 b5 c45.extends has5)
+
+    reported : item_at p fn bad 0 ≡ Some (Do (reports_unbound name))
+    reported =
+        ap (λ k. item_at p fn k 0) bad_is ∙ ap (item_at p fn (length b2.blocks)) (sym c12.ops)
+        ∙ pushes_has p fn b2 b3 _ q23 (has_less p fn b3 b5 x35 has5)
+
+    raises : step Strict p (running fn bad 0 regs below (world None s)) ≡ away (handler_at p fn bad) (record { fn = fn; block = bad; place = 1; regs = regs }) below (world (Some (unbound name)) s)
+    raises =
+        op_step Strict p (record { fn = fn; block = bad; place = 0; regs = regs }) below (world None s) (reports_unbound name) reported
+        ∙ rw behind refl
+
+    on_unset : (h : Option ℕ) → Placed p fn b0 b6 h → regs flag ≡ Unset → Leads p (running fn (length b0.blocks) (length b0.ops) regs below (world None s)) (away h (record { fn = fn; block = bad; place = 1; regs = regs }) below (world (Some (unbound name)) s))
+    on_unset h placed is =
+        let first = leads_step p _ _ (tested Unset true is refl) in
+        let within : Placed p fn b0 b5 h = record { has = has5; guards = λ k l u. placed.guards k l (let z = written.blocks in omega arith) ∙ ap (λ y. or_other y h) (written.handlers k) } in
+        let le : length b0.blocks ≤ length b2.blocks = (let z = c01.blocks in let y = c12.blocks in omega arith) in
+        let here = guard_at p fn b0 b2 h le (placed_part p fn b0 b0 b2 b5 h (le_refl _) x25 within) bad bad_is in
+        let last = leads_step p _ _ (raises ∙ ap (λ o. away o (record { fn = fn; block = bad; place = 1; regs = regs }) below (world (Some (unbound name)) s)) here) in
+        leads_trans p _ _ _ to_test (leads_trans p _ _ _ first last)
+
+  pub tests_set : TestsSet b0 b6 flag name
+  tests_set = record {
+    extends = x06;
+    set = λ p fn has regs below s v is. on_set p fn has regs below s v is;
+    unset = λ p fn h placed regs below s is. (bad, 1, on_unset p fn placed.has regs below s h placed is);
+  }
+
+-- ---- the variable
+
+pub name_is : (vs : List Variable) (i : ℕ) (w : Variable) → slice_get vs i ≡ Some w → name_at vs i ≡ w.0
+name_is [] i w e = let f : None ≡ Some w = e in absurd (cc)
+name_is (v ∷ vs) zero w e = let f : Some v ≡ Some w = e in let same : v ≡ w = cc in ap (λ (z : Variable). z.0) same
+name_is (v ∷ vs) (suc i) w e = name_is vs i w e
+
+-- the flag of one that is no parameter
+other_flag : (f : Vars) (regs : Regs) (j : ℕ) → f.params ≤ j → flag_in f regs j ≡ regs (flag_of f j)
+other_flag f regs j le = let e : nat_lt j f.params ≡ false = grind (arith, nat_tests) in ap (λ b. if b then Holds (BoolVal true) else regs (flag_of f j)) e
+
+kind_as : (t u : Sort) (v : Value) → t ≡ u → HasKind t v → HasKind u v
+kind_as t u v e k = subst (λ z. HasKind z v) e k
+
+module _ (x : Setting) (i : ℕ) (w : Variable) (t : Sort) (place : Span) (b c : Building) (at : slice_get x.variables i ≡ Some w) (is : w.1 ≡ t) (tests : TestsSet b c (flag_of x.frame.locals i) w.0) (p : Program) (fn : ℕ) (h : Option ℕ) (placed : Placed p fn b c h) (n : ℕ) (regs : Regs) (below : List Waiting) (s : State) (match : Matches x regs s) where
+  abbrev Good : Value → State → Rattle.ir_core.specs.Meaning.Config → Type 0
+  Good = Arrives (Shows t) fn (length c.blocks) (length c.ops) below (length b.regs) regs x s i
+
+  abbrev Bad : Value → State → Rattle.ir_core.specs.Meaning.Config → Type 0
+  Bad = IsThrown fn h below x (length b.regs) regs
+
+  reads : (o : Option Value) → slice_get s.locals i ≡ Some o → Keeps w.1 (regs i) (regs (flag_of x.frame.locals i)) o → Ends p s.turns (running fn (length b.blocks) (length b.ops) regs below (world None s)) (means x (typed (Local i) t place) n s) Good Bad
+  reads None e k =
+      let d = tests.unset p fn h placed regs below s k in
+      let name : means x (typed (Local i) t place) n s ≡ Raises (Rattle.value_core.specs.Value.ExcVal (unbound w.0)) s =
+      ap (λ o. value_in (raise_new UnboundLocalError (codes "local variable '" ++ name_at x.variables i ++ codes "' referenced before assignment")) o s) e
+      ∙ ap (λ z. Raises (Rattle.value_core.specs.Value.ExcVal (unbound z)) s) (name_is x.variables i w at) in
+      ends_of p s.turns _ _ _ Good Bad name
+      (le_refl s.turns, _, d.2, thrown_at p fn d.0 d.1 h below x (length b.regs) regs regs (unbound w.0) s match (λ j l u o. refl))
+  reads (Some v) e k =
+      let gives : means x (typed (Local i) t place) n s ≡ Gives v s = ap (λ o. value_in (raise_new UnboundLocalError (codes "local variable '" ++ name_at x.variables i ++ codes "' referenced before assignment")) o s) e in
+      ends_of p s.turns _ _ _ Good Bad gives
+      (ends_lead p v s _ _ Good Bad (tests.set p fn placed.has regs below s (BoolVal true) k.1) record { now = regs; is = refl; shows = (k.0, kind_as w.1 t v is k.2); kept = λ j lt. refl; same = same_refl x regs s match })
+
+variable_emits : (x : Setting) (i : ℕ) (w : Variable) (t : Sort) (place : Span) (b c : Building) → slice_get x.variables i ≡ Some w → w.1 ≡ t → x.frame.locals.params ≤ i → HasRoom x b → TestsSet b c (flag_of x.frame.locals i) w.0 → Emits x (typed (Local i) t place) b c i
+variable_emits x i w t place b c at is other room tests = record {
+  extends = tests.extends;
+  type = type_kept b c i (rtype_of t) tests.extends (subst (λ z. HasType b i (rtype_of z)) is (room.declared i w at));
+  runs = λ p fn h placed n calls regs below s match le.
+      let m = match.each i w at in
+      let flag = other_flag x.frame.locals regs i other in
+      reads x i w t place b c at is tests p fn h placed n regs below s match m.0 m.1 (subst (λ z. Keeps w.1 (regs i) z m.0) flag m.2);
+}
+
+-- ---- of a declared variable, in whatever module
+
+get_there : {A : Type 0} (xs : List A) (i : ℕ) (d x : A) → i < length xs → x ≡ get_or xs i d → slice_get xs i ≡ Some x
+get_there [] i d x lt e = absurd (omega arith)
+get_there (y ∷ xs) zero d x lt e = ap Some (sym e)
+get_there (y ∷ xs) (suc i) d x lt e = get_there xs i d x (omega arith) e
+
+room_in : (m n : TypedModule) (vs : List Variable) (frame : Frame) (b : Building) → HasRoom (setting_in m vs frame) b → HasRoom (setting_in n vs frame) b
+room_in m n vs frame b room = record {
+  count = room.count;
+  flags = room.flags;
+  top = room.top;
+  declared = room.declared;
+  flagged = room.flagged;
+  back = room.back;
+}
+
+pub parameter_read : (vs : List Variable) (frame : Frame) (i : ℕ) (b : Building) → i < frame.locals.params → HasRegisters vs frame b → EmitsLocal vs frame i b b i
+parameter_read vs frame i b low has m t place suits =
+    local_emits (setting_in m vs frame) i suits.1 t place b suits.2 suits.3 low (room_in has.0 m vs frame b has.1)
+
+pub variable_read : (vs : List Var) (frame : Frame) (i : ℕ) (v : Var) (b c : Building) (flag : ℕ) (name : List ℕ) → i < length vs → v ≡ get_or vs i v → frame.locals.params ≤ i → flag ≡ flag_of frame.locals i → name ≡ v.name → HasRegisters (map variable vs) frame b → TestsSet b c flag name → EmitsLocal (map variable vs) frame i b c i
+variable_read vs frame i v b c flag name lt e other flag_is name_is has tests m t place suits =
+    let at : slice_get (map variable vs) i ≡ Some (variable v) = get_map variable vs i v (get_there vs i v v lt e) in
+    let same : suits.1 ≡ variable v = (let z : Some suits.1 ≡ Some (variable v) = sym suits.2 ∙ at in cc) in
+    let name_at_is : name ≡ suits.1.0 = name_is ∙ sym (ap (λ (z : Variable). z.0) same) in
+    let tests' : TestsSet b c (flag_of frame.locals i) suits.1.0 = subst (λ z. TestsSet b c z suits.1.0) flag_is (subst (λ z. TestsSet b c flag z) name_at_is tests) in
+    variable_emits (setting_in m (map variable vs) frame) i suits.1 t place b c suits.2 suits.3 other (room_in has.0 m (map variable vs) frame b has.1) tests'
+
+-- ---- a variable of the module
+
+-- the variable of a number is there
+pub simple_below : (vs : List Var) (i : ℕ) → IsSimpleAt (map variable vs) i → i < length vs
+simple_below vs i h = let lt = get_below (map variable vs) i h.0 h.1 in omega (arith, length-map vs variable)
+
+module _ (m : TypedModule) (vs : List Var) (are : m.globals ≡ map variable vs) (i : ℕ) (v : Var) (t : RType) (name : List ℕ) (args : List PArg) (lt : i < length vs) (is : v ≡ get_or vs i v) (type : t ≡ rtype_of (sort v.ty)) (named : name ≡ v.name) (args_are : args ≡ arg.Global name ∷ []) where
+  global_at : slice_get m.globals i ≡ Some (variable v)
+  global_at = ap (λ gs. slice_get gs i) are ∙ get_map variable vs i v (get_there vs i v v lt is)
+
+  args_name : args ≡ arg.Global v.name ∷ []
+  args_name = args_are ∙ ap (λ z. arg.Global z ∷ []) named
+
+  pub global_emits : (b c : Building) (r : ℕ) → Adds b c r t (Prim (Some record { 0 = r }) (prim.Global global.Get) args) → EmitsGlobal m i b c r
+  global_emits b c r a ws frame u place room suits =
+      let x : Setting = setting_in m ws frame in
+      let same : variable v ≡ suits.1 = (let z : Some (variable v) ≡ Some suits.1 = sym global_at ∙ suits.2 in cc) in
+      let sort_is : sort v.ty ≡ u = ap (λ (z : Variable). z.1) same ∙ suits.3 in
+      let P : Sort → Type 0 = λ z. Computes x (Shows z) (rtype_of z) (λ n. read_global m.globals i) b c r in
+      let typed_add : Adds b c r (rtype_of (sort v.ty)) (Prim (Some record { 0 = r }) (prim.Global global.Get) args) = subst (λ z. Adds b c r z (Prim (Some record { 0 = r }) (prim.Global global.Get) args)) type a in
+      let add : Adds b c r (rtype_of (sort v.ty)) (Prim (Some record { 0 = r }) (prim.Global global.Get) (arg.Global v.name ∷ [])) = subst (λ z. Adds b c r (rtype_of (sort v.ty)) (Prim (Some record { 0 = r }) (prim.Global global.Get) z)) args_name typed_add in
+      subst P sort_is (global_computes x i (variable v) b c r room global_at add)
+
+  -- its global is there
+  pub global_kinds : (b c : Building) → KeepsKindsIf (λ g. Answers t b.regs (prim.Global global.Get) args ⊎ ReadsGlobal g t (prim.Global global.Get) args) b c → KeepsKindsIf (IsAmong m) b c
+  global_kinds b c kinds g among h =
+      let reads = read_fits m g i (variable v) among global_at in
+      let typed_read : ReadsGlobal g t (prim.Global global.Get) (arg.Global v.name ∷ []) = subst (λ z. ReadsGlobal g z (prim.Global global.Get) (arg.Global v.name ∷ [])) (sym type) reads in
+      kinds g (inr (subst (λ z. ReadsGlobal g t (prim.Global global.Get) z) (sym args_name) typed_read)) h

@@ -1,0 +1,241 @@
+-- An expression that is well typed and compiled suits, in a function whose variables are numbers, bools and texts, where the
+-- signature of each function is that of its definition.
+use Rattle.std.proofs.Common.{◌≡◌, refl, sym, ◌∙◌, ap, subst, ℕ, Bool, true, false, List, [], ◌∷◌, ◌++◌, Option, Some, None, ◌⊎◌, ⊎_elim, inl, inr}
+use Rattle.std.specs.Prelude.{ℤ, pos, negsuc, not, ◌||◌, if◌then◌else◌, slice_get}
+use Rattle.std.specs.Option.{option_map}
+use Rattle.value_core.specs.Arithmetic.{lies_within}
+use Rattle.py_syntax.specs.declared.token.Span.{Span}
+use Rattle.py_typed.specs.Sorts as sort
+use Rattle.py_typed.specs.Sorts.{Sort, sorts_of}
+use Rattle.py_typed.specs.Classes.{Signature}
+use Rattle.py_typed.specs.Fits.{is_same_type, are_same_types, is_number, is_nothing}
+use Rattle.py_typed.specs.Expressions.{TypedExpr, typed, TypedNode, Int, Str, Flag, Local, Global, Neg, Not, Truth, Arith, Concat, Compare, And, Or, Cond, At, Call, Input, Len, ToStr, Coerce, TypedExprs, no_exprs, expr_then, Comparisons, no_comparisons, comparison_then, type_of}
+use Rattle.py_typed.specs.Statements.{Variable, TypedFunc, TypedModule}
+use Rattle.py_typed.specs.Narrowing.{is_in, facts}
+use Rattle.py_typed.specs.WellTypedExpr.{stands, parts_typed, are_values, chain_typed, rule, types_of, is_function, is_type, indexed, is_literal, reads_as, declared, call_fits, is_empty_call}
+use Rattle.py_typed.proofs.FitLemmas.{and_left, and_right, one_type}
+use Rattle.ir_builder_frames.specs.Matching.{parameter_sorts}
+use Rattle.ir_builder_expressions.specs.Compiled.{is_bool, is_int, is_text, is_scalar, is_result, is_compiled, is_compiled_node, are_compiled, are_compared}
+use Rattle.ir_builder_operations.specs.Operating.{is_numeric, is_whole}
+use Rattle.ir_builder_expressions.specs.Suiting.{Suits, NodeSuits, ArgumentsSuit, ComparisonsSuit}
+
+-- ---- types
+
+bool_is : (t : Sort) → is_bool t ≡ true → t ≡ sort.Bool
+bool_is sort.Bool h = refl
+bool_is _ h = absurd (cc)
+
+int_is : (t : Sort) → is_int t ≡ true → t ≡ sort.Int
+int_is sort.Int h = refl
+int_is _ h = absurd (cc)
+
+text_is : (t : Sort) → is_text t ≡ true → t ≡ sort.Str
+text_is sort.Str h = refl
+text_is _ h = absurd (cc)
+
+is_scalar_at : (t s : Sort) → t ≡ s → is_scalar s ≡ true → is_scalar t ≡ true
+is_scalar_at t s e h = ap is_scalar e ∙ h
+
+whole_scalar : (t : Sort) → is_whole t ≡ true → is_scalar t ≡ true
+whole_scalar sort.Int h = refl
+whole_scalar sort.I64 h = refl
+whole_scalar _ h = absurd (cc)
+
+result_scalar : (t : Sort) → is_result t ≡ true → not (is_nothing t) ≡ true → is_scalar t ≡ true
+result_scalar sort.Int h k = refl
+result_scalar sort.I64 h k = refl
+result_scalar sort.Bool h k = refl
+result_scalar sort.Str h k = refl
+result_scalar _ h k = absurd (cc)
+
+pub number_numeric : (t : Sort) → is_number t ≡ true → is_numeric t ≡ true
+number_numeric sort.Int h = refl
+number_numeric sort.I64 h = refl
+number_numeric sort.Bool h = refl
+number_numeric _ h = absurd (cc)
+
+literal_within : (n : ℤ) → is_literal n ≡ true → lies_within 127 n ≡ true
+literal_within (pos n) h = h
+literal_within (negsuc n) h = absurd (cc)
+
+same_sorts : (ss ts : List Sort) → are_same_types (sorts_of ss) (sorts_of ts) ≡ true → ss ≡ ts
+same_sorts [] [] e = refl
+same_sorts [] (t ∷ ts) e = absurd (cc)
+same_sorts (s ∷ ss) [] e = absurd (cc)
+same_sorts (s ∷ ss) (t ∷ ts) e = ap (λ x. x ∷ ss) (one_type s t (and_left _ _ e)) ∙ ap (λ l. t ∷ l) (same_sorts ss ts (and_right _ _ e))
+
+-- the character of a text at a place is a text, and the place an `int`
+letter_by : (b : Bool) (t : Sort) → is_type (if b then Some sort.Str else None) t ≡ true → (b ≡ true) × (t ≡ sort.Str)
+letter_by true t h = (refl, sym (one_type sort.Str t h))
+letter_by false t h = absurd (cc)
+
+letter_sorts : (s i t : Sort) → is_text s ≡ true → is_type (indexed s i) t ≡ true → (t ≡ sort.Str) × (s ≡ sort.Str) × (i ≡ sort.Int)
+letter_sorts s i t h k =
+    let is = text_is s h in
+    let found = letter_by (is_same_type i sort.Int) t (subst (λ z. is_type (indexed z i) t ≡ true) is k) in
+    (found.1, is, one_type i sort.Int found.0)
+
+-- ---- expressions
+
+module _ (m : TypedModule) (vs : List Variable) (init : Option ℕ) where
+  -- what each variable is
+  abbrev pub AllScalar : Type 0
+  AllScalar = (i : ℕ) (v : Variable) → slice_get vs i ≡ Some v → is_scalar v.1 ≡ true
+
+  -- the signature of each function that is no method
+  abbrev pub AllSigned : Type 0
+  AllSigned = (f : ℕ) (g : TypedFunc) (s : Signature) → slice_get m.funcs f ≡ Some g → is_function (Some g) ≡ true → slice_get m.classes.signatures f ≡ Some s → (s.params ≡ parameter_sorts g) × (s.ret ≡ g.ret)
+
+  parts_of : (testing : Bool) (known : List ℕ) (n : TypedNode) (t : Sort) (place : Span) → stands m vs init testing known (typed n t place) ≡ true → parts_typed m vs init testing known n ≡ true
+  parts_of testing known n t place h = and_left _ _ (and_left _ _ (and_left _ _ (and_left _ _ h)))
+
+  rule_of : (testing : Bool) (known : List ℕ) (n : TypedNode) (t : Sort) (place : Span) → stands m vs init testing known (typed n t place) ≡ true → rule m vs init known n t ≡ true
+  rule_of testing known n t place h = and_right _ _ (and_left _ _ (and_left _ _ (and_left _ _ h)))
+
+  -- what is compiled and gives a value gives a number, a bool or a text
+  node_scalar : (known : List ℕ) (n : TypedNode) (t : Sort) → rule m vs init known n t ≡ true → is_compiled_node n t ≡ true → not (is_empty_call n t) ≡ true → is_scalar t ≡ true
+  node_scalar known (Int n) t r c k = is_scalar_at t sort.Int (int_is t c) refl
+  node_scalar known (Str text) t r c k = is_scalar_at t sort.Str (text_is t c) refl
+  node_scalar known (Flag b) t r c k = is_scalar_at t sort.Bool (bool_is t c) refl
+  node_scalar known (Local i) t r c k = c
+  node_scalar known (Global i) t r c k = c
+  node_scalar known (Neg e) t r c k = whole_scalar t (and_left _ _ c)
+  node_scalar known (Not e) t r c k = is_scalar_at t sort.Bool (bool_is t (and_left _ _ c)) refl
+  node_scalar known (Truth e) t r c k = is_scalar_at t sort.Bool (bool_is t (and_left _ _ c)) refl
+  node_scalar known (Arith op a b) t r c k = whole_scalar t (and_left _ _ c)
+  node_scalar known (Concat a b) t r c k = is_scalar_at t sort.Str (text_is t (and_left _ _ c)) refl
+  node_scalar known (Compare e more) t r c k = is_scalar_at t sort.Bool (bool_is t (and_left _ _ c)) refl
+  node_scalar known (And a b) t r c k = and_left _ _ c
+  node_scalar known (Or a b) t r c k = and_left _ _ c
+  node_scalar known (Cond a test b) t r c k = and_left _ _ c
+  node_scalar known (At a b) t r c k = is_scalar_at t sort.Str (letter_sorts (type_of a) (type_of b) t (and_left _ _ c) r).0 refl
+  node_scalar known (Call f es) t r c k = result_scalar t (and_left _ _ c) k
+  node_scalar known Input t r c k = is_scalar_at t sort.Str (text_is t c) refl
+  node_scalar known (Len e) t r c k = is_scalar_at t sort.Int (one_type t sort.Int (and_right _ _ r)) refl
+  node_scalar known (ToStr e) t r c k = is_scalar_at t sort.Str (one_type t sort.Str (and_right _ _ r)) refl
+  node_scalar known (Coerce e) t r c k = whole_scalar t (and_left _ _ c)
+  node_scalar known _ t r c k = absurd (cc)
+
+  pub gives_value : (testing : Bool) (known : List ℕ) (e : TypedExpr) → stands m vs init testing known e ≡ true → is_compiled e ≡ true → is_scalar (type_of e) ≡ true
+  gives_value testing known (typed n t place) h c = node_scalar known n t (rule_of testing known n t place h) c (and_right _ _ h)
+
+  -- a variable of a type is there
+  declared_as : (o : Option Variable) (t : Sort) → is_type (option_map (λ x. x.1) o) t ≡ true → (v : Variable) × (o ≡ Some v) × (v.1 ≡ t)
+  declared_as None t h = absurd (cc)
+  declared_as (Some v) t h = (v, refl, one_type v.1 t h)
+
+  -- a local reads as its own type, since that has no None
+  pub reads_itself : (k : Bool) (s : Sort) → is_scalar s ≡ true → reads_as k s ≡ s
+  reads_itself false s h = refl
+  reads_itself true sort.Int h = refl
+  reads_itself true sort.Str h = refl
+  reads_itself true sort.I64 h = refl
+  reads_itself true sort.Bool h = refl
+  reads_itself true _ h = absurd (cc)
+
+  read_as : (k : Bool) (o : Option Variable) (t : Sort) → ((v : Variable) → o ≡ Some v → is_scalar v.1 ≡ true) → is_type (option_map (reads_as k) (option_map (λ x. x.1) o)) t ≡ true → (v : Variable) × (o ≡ Some v) × (v.1 ≡ t)
+  read_as k None t all h = absurd (cc)
+  read_as k (Some v) t all h = (v, refl, sym (reads_itself k v.1 (all v refl)) ∙ one_type (reads_as k v.1) t h)
+
+  either_of : (a b : Bool) → (a || b) ≡ true → (a ≡ true) ⊎ (b ≡ true)
+  either_of true b h = inl refl
+  either_of false b h = inr h
+
+  local_suits : AllScalar → (known : List ℕ) (i : ℕ) (t : Sort) → rule m vs init known (Local i) t ≡ true → (v : Variable) × (slice_get vs i ≡ Some v) × (v.1 ≡ t)
+  local_suits scalars known i t r =
+      ⊎_elim (declared_as (slice_get vs i) t) (read_as (is_in known i) (slice_get vs i) t (scalars i))
+      (either_of (is_type (declared vs i) t) (is_type (option_map (reads_as (is_in known i)) (declared vs i)) t) r)
+
+  signed_by : (o : Option Signature) (ss : List Sort) (t : Sort) → call_fits m vs init o ss t ≡ true → (s : Signature) × (o ≡ Some s) × (ss ≡ s.params) × (s.ret ≡ t)
+  signed_by None ss t h = absurd (cc)
+  signed_by (Some s) ss t h = (s, refl, same_sorts ss s.params (and_left _ _ h), one_type s.ret t (and_right _ _ h))
+
+  function_by : (o : Option TypedFunc) → is_function o ≡ true → (g : TypedFunc) × (o ≡ Some g)
+  function_by None h = absurd (cc)
+  function_by (Some g) h = (g, refl)
+
+  call_suits : AllSigned → (f : ℕ) (ss : List Sort) (t : Sort) → is_function (slice_get m.funcs f) ≡ true → call_fits m vs init (slice_get m.classes.signatures f) ss t ≡ true → (g : TypedFunc) × (slice_get m.funcs f ≡ Some g) × (g.ret ≡ t) × (ss ≡ parameter_sorts g)
+  call_suits signed f ss t h k =
+      let g = function_by (slice_get m.funcs f) h in
+      let s = signed_by (slice_get m.classes.signatures f) ss t k in
+      let same = signed f g.0 s.0 g.1 (subst (λ o. is_function o ≡ true) g.1 h) s.1 in
+      (g.0, g.1, sym same.1 ∙ s.3, s.2 ∙ same.0)
+
+  module _ (scalars : AllScalar) (signed : AllSigned) where
+    mutual
+      pub well_typed_suits : (testing : Bool) (known : List ℕ) (e : TypedExpr) → stands m vs init testing known e ≡ true → is_compiled e ≡ true → Suits m vs e
+      well_typed_suits testing known (typed n t place) h c = well_typed_node testing known n t (parts_of testing known n t place h) (rule_of testing known n t place h) c
+
+      pub well_typed_node : (testing : Bool) (known : List ℕ) (n : TypedNode) (t : Sort) → parts_typed m vs init testing known n ≡ true → rule m vs init known n t ≡ true → is_compiled_node n t ≡ true → NodeSuits m vs n t
+      well_typed_node testing known (Int n) t p r c = (int_is t c, literal_within n (and_left _ _ r))
+      well_typed_node testing known (Str text) t p r c = text_is t c
+      well_typed_node testing known (Flag b) t p r c = bool_is t c
+      well_typed_node testing known (Local i) t p r c = let v = local_suits scalars known i t r in (c, v.0, v.1, v.2)
+      well_typed_node testing known (Global i) t p r c = let v = declared_as (slice_get m.globals i) t r in (c, v.0, v.1, v.2)
+      well_typed_node testing known (Neg e) t p r c = ((and_left _ _ c, number_numeric (type_of e) (and_left _ _ r)), well_typed_suits false known e p (and_right _ _ c))
+      well_typed_node testing known (Not e) t p r c = ((bool_is t (and_left _ _ c), one_type (type_of e) sort.Bool (and_left _ _ r)), well_typed_suits true known e p (and_right _ _ c))
+      well_typed_node testing known (Truth e) t p r c =
+          let more = and_right _ _ c in
+          ((bool_is t (and_left _ _ c), and_left _ _ more), well_typed_suits false known e p (and_right _ _ more))
+      well_typed_node testing known (Arith op a b) t p r c =
+          let more = and_right _ _ c in
+          let both = and_right _ _ more in
+          let numbers = and_left _ _ r in (
+            (and_left _ _ c, and_left _ _ more, number_numeric (type_of a) (and_left _ _ numbers), number_numeric (type_of b) (and_right _ _ numbers)),
+            well_typed_suits false known a (and_left _ _ p) (and_left _ _ both),
+            well_typed_suits false known b (and_right _ _ p) (and_right _ _ both),
+          )
+      well_typed_node testing known (Concat a b) t p r c =
+          let both = and_right _ _ c in
+          let texts = and_left _ _ r in (
+            (text_is t (and_left _ _ c), one_type (type_of a) sort.Str (and_left _ _ texts), one_type (type_of b) sort.Str (and_right _ _ texts)),
+            well_typed_suits false known a (and_left _ _ p) (and_left _ _ both),
+            well_typed_suits false known b (and_right _ _ p) (and_right _ _ both),
+          )
+      well_typed_node testing known (Compare e more) t p r c =
+          let first = and_right _ _ c in
+          let both = and_right _ _ first in
+          (bool_is t (and_left _ _ c), and_left _ _ first, well_typed_suits false known e (and_left _ _ p) (and_left _ _ both), well_typed_chain known e more (and_right _ _ p) (and_right _ _ both))
+      well_typed_node testing known (And a b) t p r c =
+          let both = and_right _ _ c in
+          (and_left _ _ c, one_type (type_of a) t (and_left _ _ r), one_type (type_of b) t (and_right _ _ r), well_typed_suits testing known a (and_left _ _ p) (and_left _ _ both), well_typed_suits testing (facts true a ++ known) b (and_right _ _ p) (and_right _ _ both))
+      well_typed_node testing known (Or a b) t p r c =
+          let both = and_right _ _ c in
+          (and_left _ _ c, one_type (type_of a) t (and_left _ _ r), one_type (type_of b) t (and_right _ _ r), well_typed_suits testing known a (and_left _ _ p) (and_left _ _ both), well_typed_suits testing (facts false a ++ known) b (and_right _ _ p) (and_right _ _ both))
+      well_typed_node testing known (Cond a test b) t p r c =
+          let all = and_right _ _ c in (
+            and_left _ _ c,
+            one_type (type_of a) t (and_right _ _ (and_left _ _ r)),
+            one_type (type_of test) sort.Bool (and_left _ _ (and_left _ _ r)),
+            one_type (type_of b) t (and_right _ _ r),
+            well_typed_suits false (facts true test ++ known) a (and_right _ _ (and_left _ _ p)) (and_left _ _ all),
+            well_typed_suits true known test (and_left _ _ (and_left _ _ p)) (and_left _ _ (and_right _ _ all)),
+            well_typed_suits false (facts false test ++ known) b (and_right _ _ p) (and_right _ _ (and_right _ _ all)),
+          )
+      well_typed_node testing known (At a b) t p r c =
+          let both = and_right _ _ c in
+          let is = letter_sorts (type_of a) (type_of b) t (and_left _ _ c) r in
+          ((is.0, is.1, is.2), well_typed_suits false known a (and_left _ _ p) (and_left _ _ both), well_typed_suits false known b (and_right _ _ p) (and_right _ _ both))
+      well_typed_node testing known (Call f es) t p r c =
+          let g = call_suits signed f (types_of m vs init es) t (and_left _ _ r) (and_right _ _ r) in
+          (and_left _ _ c, g.0, g.1, g.2, subst (λ ts. ArgumentsSuit m vs ts es) g.3 (well_typed_arguments known es p (and_right _ _ c)))
+      well_typed_node testing known Input t p r c = text_is t c
+      well_typed_node testing known (Len e) t p r c = ((one_type t sort.Int (and_right _ _ r), text_is (type_of e) (and_left _ _ c)), well_typed_suits false known e p (and_right _ _ c))
+      well_typed_node testing known (ToStr e) t p r c = ((one_type t sort.Str (and_right _ _ r), and_left _ _ c), well_typed_suits false known e p (and_right _ _ c))
+      well_typed_node testing known (Coerce e) t p r c =
+          let more = and_right _ _ c in
+          ((and_left _ _ c, and_left _ _ more), well_typed_suits false known e p (and_right _ _ more))
+      well_typed_node testing known _ t p r c = absurd (cc)
+
+      well_typed_arguments : (known : List ℕ) (es : TypedExprs) → are_values m vs init known es ≡ true → are_compiled es ≡ true → ArgumentsSuit m vs (types_of m vs init es) es
+      well_typed_arguments known no_exprs p c = tt
+      well_typed_arguments known (expr_then e more) p c = (refl, well_typed_suits false known e (and_left _ _ p) (and_left _ _ c), well_typed_arguments known more (and_right _ _ p) (and_right _ _ c))
+
+      well_typed_chain : (known : List ℕ) (a : TypedExpr) (more : Comparisons) → chain_typed m vs init known a more ≡ true → are_compared (type_of a) more ≡ true → ComparisonsSuit m vs (type_of a) more
+      well_typed_chain known a no_comparisons p c = tt
+      well_typed_chain known a (comparison_then op e more) p c =
+          let h = and_left _ _ (and_left _ _ p) in
+          let pair = and_right _ _ c in
+          let both = and_right _ _ pair in
+          let part = and_left _ _ both in
+          (and_left _ _ c, and_left _ _ pair, gives_value false known e h part, well_typed_suits false known e h part, well_typed_chain known e more (and_right _ _ p) (and_right _ _ both))

@@ -1,0 +1,126 @@
+-- The number of nodes that a walk over an expression goes through, which falls from each node to its parts.
+use Rattle.std.proofs.Common.{◌≡◌, ap, ℕ, ◌+◌, ◌-◌, ◌<◌, ◌≤◌, arith, List, [], ◌∷◌, length, map, take, drop, get_or}
+use Rattle.std.proofs.lemmas.List.{take_all}
+use Rattle.std.specs.declared.boxed.Box.{Box}
+use Rattle.std.specs.declared.alloc.Global.{Global}
+use Rattle.py_syntax.specs.declared.expression.BinOp.{BinOp}
+use Rattle.py_syntax.specs.declared.expression.CmpOp.{CmpOp}
+use Rattle.py_typed.specs.declared.expression.TExpr.{TExpr}
+use Rattle.py_typed.specs.declared.expression.TKind as kind
+use Rattle.py_typed.specs.Expressions.{TypedExpr, TypedNode, typed, Neg, Not, Truth, Arith, Concat, Compare, And, Or, Cond, At, Call, Len, ToStr, Coerce, TypedExprs, no_exprs, expr_then, Comparisons, no_comparisons, comparison_then, typed_expr, exprs_of, comparisons_of, typed_comparison}
+use Rattle.ir_builder_expressions.proofs.ArmLemmas.{Is, is_neg, is_not, is_truth, is_arith, is_compare, is_and, is_or, is_cond, is_call, is_coerce, is_concat, is_at, is_len, is_to_str}
+
+abbrev Part : Type 0
+Part = Box TExpr Global
+
+abbrev mutual
+  pub weight : TypedExpr → ℕ
+  weight (typed e t place) = node_weight e
+
+  pub node_weight : TypedNode → ℕ
+  node_weight (Neg e) = weight e + 1
+  node_weight (Not e) = weight e + 1
+  node_weight (Truth e) = weight e + 1
+  node_weight (Coerce e) = weight e + 1
+  node_weight (Len e) = weight e + 1
+  node_weight (ToStr e) = weight e + 1
+  node_weight (Concat a b) = weight a + weight b + 1
+  node_weight (At a b) = weight a + weight b + 1
+  node_weight (Arith op a b) = weight a + weight b + 1
+  node_weight (Compare e more) = weight e + chain_weight more + 1
+  node_weight (And a b) = weight a + weight b + 1
+  node_weight (Or a b) = weight a + weight b + 1
+  node_weight (Cond a test b) = weight a + weight test + weight b + 1
+  node_weight (Call f es) = row_weight es + 1
+  node_weight _ = 0
+
+  pub row_weight : TypedExprs → ℕ
+  row_weight no_exprs = 0
+  row_weight (expr_then e more) = weight e + row_weight more
+
+  pub chain_weight : Comparisons → ℕ
+  chain_weight no_comparisons = 0
+  chain_weight (comparison_then op e more) = weight e + chain_weight more
+
+abbrev pub weight_of : TExpr → ℕ
+weight_of e = weight (typed_expr e)
+
+abbrev pub weight_of_all : List TExpr → ℕ
+weight_of_all es = row_weight (exprs_of (map typed_expr es))
+
+abbrev pub weight_of_chain : List (CmpOp × TExpr) → ℕ
+weight_of_chain cs = chain_weight (comparisons_of (map typed_comparison cs))
+
+weight_as : (e : TExpr) (n : TypedNode) → Is e n → weight_of e ≡ node_weight n
+weight_as e n is = ap weight is
+
+-- a part by another name
+pub same_weight : (a e : TExpr) → a ≡ e → weight_of a ≡ weight_of e
+same_weight a e is = ap weight_of is
+
+pub neg_weight : (e : TExpr) (a : Part) → e.kind ≡ kind.Neg a → weight_of e ≡ weight_of a.value + 1
+neg_weight e a is = weight_as e (Neg (typed_expr a.value)) (is_neg e a is)
+
+pub not_weight : (e : TExpr) (a : Part) → e.kind ≡ kind.Not a → weight_of e ≡ weight_of a.value + 1
+not_weight e a is = weight_as e (Not (typed_expr a.value)) (is_not e a is)
+
+pub truth_weight : (e : TExpr) (a : Part) → e.kind ≡ kind.Truth a → weight_of e ≡ weight_of a.value + 1
+truth_weight e a is = weight_as e (Truth (typed_expr a.value)) (is_truth e a is)
+
+pub coerce_weight : (e : TExpr) (a : Part) → e.kind ≡ kind.Coerce a → weight_of e ≡ weight_of a.value + 1
+coerce_weight e a is = weight_as e (Coerce (typed_expr a.value)) (is_coerce e a is)
+
+pub arith_weight : (e : TExpr) (op : BinOp) (a b : Part) → e.kind ≡ kind.Arith op a b → weight_of e ≡ weight_of a.value + weight_of b.value + 1
+arith_weight e op a b is = weight_as e (Arith op (typed_expr a.value) (typed_expr b.value)) (is_arith e op a b is)
+
+pub len_weight : (e : TExpr) (a : Part) → e.kind ≡ kind.Len a → weight_of e ≡ weight_of a.value + 1
+len_weight e a is = weight_as e (Len (typed_expr a.value)) (is_len e a is)
+
+pub to_str_weight : (e : TExpr) (a : Part) → e.kind ≡ kind.ToStr a → weight_of e ≡ weight_of a.value + 1
+to_str_weight e a is = weight_as e (ToStr (typed_expr a.value)) (is_to_str e a is)
+
+pub concat_weight : (e : TExpr) (a b : Part) → e.kind ≡ kind.Concat a b → weight_of e ≡ weight_of a.value + weight_of b.value + 1
+concat_weight e a b is = weight_as e (Concat (typed_expr a.value) (typed_expr b.value)) (is_concat e a b is)
+
+pub at_weight : (e : TExpr) (a b : Part) → e.kind ≡ kind.At a b → weight_of e ≡ weight_of a.value + weight_of b.value + 1
+at_weight e a b is = weight_as e (At (typed_expr a.value) (typed_expr b.value)) (is_at e a b is)
+
+pub compare_weight : (e : TExpr) (a : Part) (cs : List (CmpOp × TExpr)) → e.kind ≡ kind.Compare a cs → weight_of e ≡ weight_of a.value + weight_of_chain cs + 1
+compare_weight e a cs is = weight_as e (Compare (typed_expr a.value) (comparisons_of (map typed_comparison cs))) (is_compare e a cs is)
+
+pub and_weight : (e : TExpr) (a b : Part) → e.kind ≡ kind.And a b → weight_of e ≡ weight_of a.value + weight_of b.value + 1
+and_weight e a b is = weight_as e (And (typed_expr a.value) (typed_expr b.value)) (is_and e a b is)
+
+pub or_weight : (e : TExpr) (a b : Part) → e.kind ≡ kind.Or a b → weight_of e ≡ weight_of a.value + weight_of b.value + 1
+or_weight e a b is = weight_as e (Or (typed_expr a.value) (typed_expr b.value)) (is_or e a b is)
+
+pub cond_weight : (e : TExpr) (a test b : Part) → e.kind ≡ kind.Cond a test b → weight_of e ≡ weight_of a.value + weight_of test.value + weight_of b.value + 1
+cond_weight e a test b is = weight_as e (Cond (typed_expr a.value) (typed_expr test.value) (typed_expr b.value)) (is_cond e a test b is)
+
+pub call_weight : (e : TExpr) (f : ℕ) (es : List TExpr) → e.kind ≡ kind.Call f es → weight_of e ≡ weight_of_all es + 1
+call_weight e f es is = weight_as e (Call f (exprs_of (map typed_expr es))) (is_call e f es is)
+
+-- ---- members of a row and of a chain
+
+pub member_weight : (es : List TExpr) (i : ℕ) (e : TExpr) → i < length es → e ≡ get_or es i e → weight_of e ≤ weight_of_all es
+member_weight [] i e lt is = absurd (omega arith)
+member_weight (a ∷ es) ℕ.zero e lt is = omega (arith, ap weight_of is)
+member_weight (a ∷ es) (ℕ.suc i) e lt is = omega (arith, member_weight es i e (omega arith) is)
+
+pub link_weight : (cs : List (CmpOp × TExpr)) (i : ℕ) (p : CmpOp × TExpr) → i < length cs → p ≡ get_or cs i p → weight_of p.1 ≤ weight_of_chain cs
+link_weight [] i p lt is = absurd (omega arith)
+link_weight (a ∷ cs) ℕ.zero p lt is = omega (arith, ap (λ (z : CmpOp × TExpr). weight_of z.1) is)
+link_weight (a ∷ cs) (ℕ.suc i) p lt is = omega (arith, link_weight cs i p (omega arith) is)
+
+rest_weight : (cs : List (CmpOp × TExpr)) → weight_of_chain (take (length cs - 1) (drop 1 cs)) ≤ weight_of_chain cs
+rest_weight [] = omega arith
+rest_weight (a ∷ cs) =
+    let all : take (length (a ∷ cs) - 1) cs ≡ cs = take_all (length (a ∷ cs) - 1) cs (omega arith) in
+    omega (arith, ap weight_of_chain all)
+
+pub first_weight : (cs : List (CmpOp × TExpr)) (p : CmpOp × TExpr) → 1 ≤ length cs → weight_of (get_or cs 0 p).1 ≤ weight_of_chain cs
+first_weight [] p n = absurd (omega arith)
+first_weight (a ∷ cs) p n = omega arith
+
+pub later_weight : (cs : List (CmpOp × TExpr)) (i : ℕ) (p : CmpOp × TExpr) → i < length (take (length cs - 1) (drop 1 cs)) → p ≡ get_or (take (length cs - 1) (drop 1 cs)) i p → weight_of p.1 ≤ weight_of_chain cs
+later_weight cs i p lt is = omega (arith, link_weight (take (length cs - 1) (drop 1 cs)) i p lt is, rest_weight cs)

@@ -1,0 +1,8 @@
+use Rattle.std.proofs.Common.{sym, ◌∙◌}
+use Rattle.py_typed.specs.Sorts.{sort}
+use Rattle.py_typed.specs.Expressions.{typed_expr}
+use Rattle.ir_builder_expressions.proofs.NumberLemmas.{native_stays}
+use Rattle.ir_builder_expressions.proofs.applying.emit_coerced.Goals as goal
+
+pub returns-in-Some-clause-made : goal.returns-in-Some-clause-made
+returns-in-Some-clause-made c = native_stays (sort c.args.to.now) (typed_expr c.args.e.now) _ _ _ (sym c.native_literal.ensures ∙ c.in-Some.is) c.requires.value

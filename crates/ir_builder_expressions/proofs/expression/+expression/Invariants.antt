@@ -1,0 +1,42 @@
+use Rattle.std.proofs.Common.{◌+◌, ◌*◌, drop}
+use Rattle.ir_builder_frames.specs.Settings.{setting}
+use Rattle.ir_builder_expressions.proofs.WeightLemmas.{weight_of, weight_of_all, weight_of_chain}
+use Rattle.ir_builder_expressions.proofs.ArgumentLemmas.{Passing}
+use Rattle.ir_builder_expressions.proofs.GoingLemmas.{Going}
+use Rattle.ir_builder_expressions.proofs.expression.+expression.Given as goal
+
+abbrev pub decreases-emit_expression : goal.decreases-emit_expression
+decreases-emit_expression l = weight_of l.e.now * 4
+
+abbrev pub decreases-emit_part : goal.decreases-emit_part
+decreases-emit_part l = weight_of l.e.now * 4 + 1
+
+abbrev pub decreases-emit_one_part : goal.decreases-emit_one_part
+decreases-emit_one_part l = weight_of l.e.now * 4 + 2
+
+abbrev pub decreases-emit_two_parts : goal.decreases-emit_two_parts
+decreases-emit_two_parts l = (weight_of l.left.now + weight_of l.right.now) * 4 + 2
+
+abbrev pub decreases-emit_side : goal.decreases-emit_side
+decreases-emit_side l = weight_of l.e.now * 4 + 2
+
+abbrev pub decreases-emit_arguments : goal.decreases-emit_arguments
+decreases-emit_arguments l = weight_of_all l.args.now * 4 + 1
+
+abbrev pub decreases-emit_and : goal.decreases-emit_and
+decreases-emit_and l = (weight_of l.left.now + weight_of l.right.now) * 4 + 1
+
+abbrev pub decreases-emit_or : goal.decreases-emit_or
+decreases-emit_or l = (weight_of l.left.now + weight_of l.right.now) * 4 + 1
+
+abbrev pub decreases-emit_choice : goal.decreases-emit_choice
+decreases-emit_choice l = (weight_of l.left.now + weight_of l.test.now + weight_of l.right.now) * 4 + 1
+
+abbrev pub decreases-emit_chain : goal.decreases-emit_chain
+decreases-emit_chain l = weight_of_chain l.rest.now * 4 + 3
+
+abbrev pub invariant-emit_arguments-loop-e : goal.invariant-emit_arguments-loop-e
+invariant-emit_arguments-loop-e l = Passing (setting l.checked l.locals l.frame) l.args l.e-index l.fn.b l.b l.regs
+
+abbrev pub invariant-emit_chain-loop-op : goal.invariant-emit_chain-loop-op
+invariant-emit_chain-loop-op l = Going (setting l.checked l.locals l.frame) l.fn.first l.rest (drop l.op-index l.more) l.fn.b l.b l.links l.left l.holds

@@ -1,0 +1,67 @@
+-- What the code of an expression does.
+use Rattle.std.specs.Prelude.{◌≡◌, ℕ, ◌≤◌, true, List, length, Option, None}
+use Rattle.value_core.specs.Value.{Value}
+use Rattle.py_typed.specs.Sorts.{Sort, Bool}
+use Rattle.py_typed.specs.Expressions.{TypedExpr, TypedExprs, Comparisons, type_of}
+use Rattle.py_typed.specs.ExpressionMeaning.{expression, expressions, chain}
+use Rattle.py_typed.specs.State.{State, on_to}
+use Rattle.py_typed.specs.SourceRun.{call_of}
+use Rattle.ir_core.specs.declared.code.Program.{Program}
+use Rattle.ir_core.specs.declared.code.RType.TheVariants as rtype
+use Rattle.ir_core.specs.declared.code.Reg.{Reg}
+use Rattle.ir_core.specs.Registers.{Regs}
+use Rattle.ir_core.specs.Building.{Building, Extends}
+use Rattle.ir_core.specs.Meaning.{Waiting}
+use Rattle.ir_builder_frames.specs.Settings.{Setting, rtype_of}
+use Rattle.ir_builder_frames.specs.Placing.{HasType, Placed}
+use Rattle.ir_builder_frames.specs.Coming.{world, running, Ends}
+use Rattle.ir_builder_frames.specs.Matching.{Matches, IsThrown, CallsWork}
+use Rattle.ir_builder_expressions.specs.declared.applying.Unary.{Unary}
+use Rattle.ir_builder_expressions.specs.declared.applying.Binary.{Binary}
+use Rattle.ir_builder_expressions.specs.Parts.{part_sort}
+use Rattle.ir_builder_expressions.specs.Applying.{unary_goes, binary_goes}
+use Rattle.ir_builder_expressions.specs.declared.comparing.Side.{Side}
+use Rattle.ir_builder_expressions.specs.Comparing.{kind_sort, is_shown_as}
+use Rattle.ir_builder_frames.specs.Computing.{Shows, Meaning, Arrives, Computes, ComputesAll}
+
+-- what an expression means, by the bound of calls and turns
+abbrev pub means : Setting → TypedExpr → Meaning Value
+means x e n = expression x.source.classes.classes (call_of x.source n) x.source.globals x.variables e
+
+abbrev pub means_all : Setting → TypedExprs → Meaning (List Value)
+means_all x es n = expressions x.source.classes.classes (call_of x.source n) x.source.globals x.variables es
+
+abbrev pub means_chain : Setting → Sort → Value → Comparisons → Meaning Value
+means_chain x s v more n = chain x.source.classes.classes (call_of x.source n) x.source.globals x.variables s v more
+
+-- its value is in a register
+abbrev pub Emits : Setting → TypedExpr → Building → Building → ℕ → Type 0
+Emits x e old new r = Computes x (Shows (type_of e)) (rtype_of (type_of e)) (means x e) old new r
+
+-- it is, as a part of an operation whose result is of a type
+abbrev pub EmitsPart : Setting → Sort → TypedExpr → Building → Building → ℕ → Type 0
+EmitsPart x t e old new r = Computes x (Shows (part_sort t e)) (rtype_of (part_sort t e)) (means x e) old new r
+
+-- the result of an operation on one part, and of one on two
+abbrev pub EmitsOne : Setting → Unary → Sort → TypedExpr → Building → Building → ℕ → Type 0
+EmitsOne x op t e old new r = Computes x (Shows t) (rtype_of t) (λ n s. on_to (means x e n s) (unary_goes op t)) old new r
+
+abbrev pub EmitsTwo : Setting → Binary → Sort → TypedExpr → TypedExpr → Building → Building → ℕ → Type 0
+EmitsTwo x op t a b old new r =
+    Computes x (Shows t) (rtype_of t) (λ n s. on_to (means x a n s) (λ v s1. on_to (means x b n s1) (binary_goes op t v))) old new r
+
+-- the values of several are in registers
+abbrev pub EmitsAll : Setting → List Sort → TypedExprs → Building → Building → List Reg → Type 0
+EmitsAll x ts es old new rs = ComputesAll x ts (means_all x es) old new rs
+
+-- an operand of a comparison, whose value is in a register
+pub record EmitsSide (x : Setting) (e : TypedExpr) (q : Side) (old new : Building) : Type 0 where
+  pub own : kind_sort q.own ≡ type_of e
+  pub shown : is_shown_as (kind_sort q.own) (kind_sort q.shown) ≡ true
+  pub emits : Computes x (Shows (kind_sort q.shown)) (rtype_of (kind_sort q.shown)) (means x e) old new q.reg.0
+
+-- the comparisons of a chain behind an operand of a type, whose value is in a register of a type
+pub record EmitsChain (x : Setting) (s u : Sort) (first : ℕ) (more : Comparisons) (old new : Building) (r : ℕ) : Type 0 where
+  pub extends : Extends old new
+  pub type : HasType new r rtype.Bool
+  pub runs : (p : Program) (fn : ℕ) (h : Option ℕ) → Placed p fn old new h → (n : ℕ) → CallsWork p x.source n → (regs : Regs) (below : List Waiting) (st : State) (v : Value) → Matches x regs st → st.turns ≤ n → Shows u v (regs first) → Ends p st.turns (running fn (length old.blocks) (length old.ops) regs below (world None st)) (means_chain x s v more n st) (Arrives (Shows Bool) fn (length new.blocks) (length new.ops) below (length old.regs) regs x st r) (IsThrown fn h below x (length old.regs) regs)

@@ -1,0 +1,65 @@
+-- What is asked of an expression that is built: its form is one of those that are compiled, and its parts have the types of a
+-- well-typed one, in a function of a module with some variables.
+use Rattle.std.specs.Prelude.{◌≡◌, ℕ, true, List, [], ◌∷◌, Some, slice_get}
+use Rattle.value_core.specs.Arithmetic.{lies_within}
+use Rattle.py_typed.specs.Sorts as sort
+use Rattle.py_typed.specs.Sorts.{Sort}
+use Rattle.py_typed.specs.Statements.{Variable, TypedFunc, TypedModule}
+use Rattle.py_typed.specs.Expressions.{TypedExpr, typed, TypedNode, Int, Str, Flag, Local, Global, Neg, Not, Truth, Arith, Concat, Compare, And, Or, Cond, At, Call, Input, Len, ToStr, Coerce, TypedExprs, no_exprs, expr_then, Comparisons, no_comparisons, comparison_then, type_of, exprs_of}
+use Rattle.ir_builder_frames.specs.Matching.{parameter_sorts}
+use Rattle.ir_builder_expressions.specs.declared.applying.Unary.TheVariants.{Negated, Inverted, Tested, Counted, Written, Coerced}
+use Rattle.ir_builder_expressions.specs.declared.applying.Binary.TheVariants.{Arithmetic, Joined, Indexed}
+use Rattle.ir_builder_expressions.specs.Compiled.{is_ordering}
+use Rattle.ir_builder_expressions.specs.Parts.{is_simple, is_given}
+use Rattle.ir_builder_expressions.specs.Applying.{UnarySuits, BinarySuits}
+use Rattle.ir_builder_expressions.specs.Comparing.{is_compared}
+
+-- the variable of a number holds a number, a bool or a text
+abbrev pub IsSimpleAt : List Variable → ℕ → Type 0
+IsSimpleAt vs i = (v : Variable) × (slice_get vs i ≡ Some v) × (is_simple v.1 ≡ true)
+
+module _ (m : TypedModule) (vs : List Variable) where
+  abbrev mutual
+    pub Suits : TypedExpr → Type 0
+    Suits (typed e t place) = NodeSuits e t
+
+    pub NodeSuits : TypedNode → Sort → Type 0
+    NodeSuits (Int n) t = (t ≡ sort.Int) × (lies_within 127 n ≡ true)
+    NodeSuits (Str text) t = t ≡ sort.Str
+    NodeSuits (Flag b) t = t ≡ sort.Bool
+    NodeSuits (Local i) t = (is_simple t ≡ true) × (v : Variable) × (slice_get vs i ≡ Some v) × (v.1 ≡ t)
+    NodeSuits (Global i) t = (is_simple t ≡ true) × (v : Variable) × (slice_get m.globals i ≡ Some v) × (v.1 ≡ t)
+    NodeSuits (Neg e) t = UnarySuits Negated t (type_of e) × Suits e
+    NodeSuits (Not e) t = UnarySuits Inverted t (type_of e) × Suits e
+    NodeSuits (Truth e) t = UnarySuits Tested t (type_of e) × Suits e
+    NodeSuits (Arith op a b) t = BinarySuits (Arithmetic op) t (type_of a) (type_of b) × Suits a × Suits b
+    NodeSuits (Concat a b) t = BinarySuits Joined t (type_of a) (type_of b) × Suits a × Suits b
+    NodeSuits (Compare e more) t =
+        (t ≡ sort.Bool) × (is_simple (type_of e) ≡ true) × Suits e × ComparisonsSuit (type_of e) more
+    NodeSuits (And a b) t = (is_simple t ≡ true) × (type_of a ≡ t) × (type_of b ≡ t) × Suits a × Suits b
+    NodeSuits (Or a b) t = (is_simple t ≡ true) × (type_of a ≡ t) × (type_of b ≡ t) × Suits a × Suits b
+    NodeSuits (Cond a test b) t =
+        (is_simple t ≡ true) × (type_of a ≡ t) × (type_of test ≡ sort.Bool) × (type_of b ≡ t) × Suits a × Suits test × Suits b
+    NodeSuits (At a b) t = BinarySuits Indexed t (type_of a) (type_of b) × Suits a × Suits b
+    NodeSuits (Call f es) t = (is_given t ≡ true) × (g : TypedFunc) × (slice_get m.funcs f ≡ Some g) × (g.ret ≡ t) × ArgumentsSuit (parameter_sorts g) es
+    NodeSuits Input t = t ≡ sort.Str
+    NodeSuits (Len e) t = UnarySuits Counted t (type_of e) × Suits e
+    NodeSuits (ToStr e) t = UnarySuits Written t (type_of e) × Suits e
+    NodeSuits (Coerce e) t = UnarySuits Coerced t (type_of e) × Suits e
+    NodeSuits _ t = ⊥
+
+    -- arguments for parameters of these types
+    pub ArgumentsSuit : List Sort → TypedExprs → Type 0
+    ArgumentsSuit [] no_exprs = Unit {0}
+    ArgumentsSuit (t ∷ ts) (expr_then e more) = (type_of e ≡ t) × Suits e × ArgumentsSuit ts more
+    ArgumentsSuit _ _ = ⊥
+
+    -- the further operands of a chain, behind one of a type
+    pub ComparisonsSuit : Sort → Comparisons → Type 0
+    ComparisonsSuit s no_comparisons = Unit {0}
+    ComparisonsSuit s (comparison_then op e more) =
+        (is_ordering op ≡ true) × (is_compared s (type_of e) ≡ true) × (is_simple (type_of e) ≡ true) × Suits e × ComparisonsSuit (type_of e) more
+
+  -- arguments for some parameters
+  abbrev pub SomeSuit : List TypedExpr → Type 0
+  SomeSuit es = (ts : List Sort) × ArgumentsSuit ts (exprs_of es)

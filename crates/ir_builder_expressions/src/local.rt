@@ -1,0 +1,89 @@
+//! Variables that are read.
+ghost use Rattle.std.specs.Prelude.{◌≡◌, ◌<◌, ◌+◌, length, map, true, IfOk, OnOk};
+ghost use Rattle.std.specs.Str.{is_utf8};
+ghost use Rattle.py_typed.specs.Statements.{variable};
+ghost use Rattle.ir_core.specs.Building.{Extends};
+ghost use Rattle.ir_builder_frames.specs.Calling.{Pushes};
+ghost use Rattle.ir_builder_frames.specs.Placing.{HasType};
+ghost use Rattle.ir_builder_frames.specs.Shaped.{Keeps};
+ghost use Rattle.ir_builder_frames.specs.Kinds.{KeepsKinds};
+ghost use Rattle.ir_builder_expressions.specs.Reading.{reports_unbound, TestsSet, HasRegisters, EmitsLocal};
+
+use c_core::{ErrPrim, Prim};
+use ir_builder_frames::{Emitter, Frame};
+use ir_core::{Last, Lit, Op, PArg, RType, Reg};
+use py_typed::Var;
+use std::alloc::Global;
+use value_core::{Many, Memory, Text};
+
+// A copy of a text. Each `str` is UTF-8.
+fn text_of(alloc: Global, text: &str) -> Result<Text, Memory>
+    ensures copy { IfOk result (λ copy. copy ≡ text.now) }
+    ensures utf8 { is_utf8 text.now ≡ true }
+{
+    Text::from_str(alloc, text)
+}
+
+// The exception of a variable that is read before it is set.
+fn emit_unbound(b: &mut Emitter, alloc: Global, name: &str, line: usize) -> Result<(), Memory>
+    ensures kept { Extends b.old b.new }
+    ensures pushed { OnOk result (Pushes b.old b.new (reports_unbound name.now)) }
+    ensures shaped { Keeps b.old b.new }
+    ensures kinds { KeepsKinds b.old b.new }
+{
+    let name = text_of(alloc, name)?;
+    let mut args = Many::new(alloc);
+    args.push(PArg::Text(name))?;
+    b.push(Op::Prim(None, Prim::Err(ErrPrim::Unbound), args), line)
+}
+
+// Tests a flag, and raises the exception of the variable's name where it is unset. What raises always has no jump directly
+// behind it, so a literal that no run comes to stands between.
+fn emit_flag_test(
+    b: &mut Emitter,
+    alloc: Global,
+    flag: Reg,
+    name: &str,
+    line: usize,
+) -> Result<(), Memory>
+    requires { HasType b.old flag.0 RType.Bool }
+    ensures kept { Extends b.old b.new }
+    ensures tests { OnOk result (TestsSet b.old b.new flag.0 name.now) }
+    ensures shaped { Keeps b.old b.new }
+    ensures kinds { KeepsKinds b.old b.new }
+{
+    let test = b.step_on()?;
+    b.close(Last::Unreachable)?;
+    let unset = b.here();
+    emit_unbound(b, alloc, name, line)?;
+    b.literal(RType::Bool, Lit::Number(0), line)?;
+    let set = b.step_on()?;
+    b.patch(test, Last::IfError(flag, unset, set, line));
+    Ok(())
+}
+
+/// The register of a variable that is read (Python Language Reference, "Naming and binding"). One that is no parameter may be
+/// unset, and its flag is tested first.
+pub fn emit_local(
+    b: &mut Emitter,
+    alloc: Global,
+    locals: &[Var],
+    frame: Frame,
+    i: usize,
+    line: usize,
+) -> Result<Reg, Memory>
+    requires there { i < length locals.now }
+    requires room { HasRegisters (map variable locals.now) frame b.old }
+    ensures kept { Extends b.old b.new }
+    ensures is { IfOk result (λ r. r.0 ≡ i) }
+    ensures emitted { OnOk result (EmitsLocal (map variable locals.now) frame i b.old b.new i) }
+    ensures shaped { Keeps b.old b.new }
+    ensures kinds { KeepsKinds b.old b.new }
+{
+    if i < frame.locals.params {
+        return Ok(Reg(i));
+    }
+    let flag = frame.locals.flag(i);
+    emit_flag_test(b, alloc, flag, locals[i].name.as_str(), line)?;
+    Ok(Reg(i))
+}

@@ -1,0 +1,213 @@
+-- Reads and writes of the module's variables, which are a program's globals, and the types that they keep.
+use Rattle.std.proofs.Common.{◌≡◌, ◌≢◌, ℕ, zero, suc, ◌+◌, ◌<◌, true, false, not, cond, List, [], ◌∷◌, length, Option, Some, None, Result, Ok, Err, refl, sym, ap, ◌∙◌, subst, arith, ⊎_elim}
+use Rattle.std.specs.Prelude.{map, replicate, slice_get, slice_set, nat_lt, ◌++◌, codes}
+use Rattle.std.specs.List.{list_any, position_or_len}
+use Rattle.std.specs.Option.{option_and_then}
+use Rattle.std.specs.Str.{bytes_eq}
+use Rattle.std.proofs.lemmas.Bool.{cases_eq, lt-ltb}
+use Rattle.std.proofs.lemmas.List.{length-map}
+use Rattle.std.proofs.lemmas.Slice.Eq.{bytes_eq-Decides}
+use Rattle.value_core.specs.declared.exception.ExcClass.TheVariants.{NameError}
+use Rattle.value_core.specs.Exceptions.{Thrown}
+use Rattle.value_core.specs.Value.{Value}
+use Rattle.c_core.specs.declared.primitive.Primitive.TheVariants as prim
+use Rattle.c_core.specs.declared.primitive.GlobalPrim.TheVariants as global
+use Rattle.c_core.specs.Step.{not_defined}
+use Rattle.c_core.specs.WellFormed.{names_differ}
+use Rattle.c_core.proofs.NameLemmas.{bytes_eq-sym}
+use Rattle.py_typed.specs.Sorts.{Sort}
+use Rattle.py_typed.specs.Statements.{Variable, TypedModule}
+use Rattle.py_typed.specs.State.{State, Gives, raise_new, needs, put_global, set_global}
+use Rattle.py_typed.specs.ExpressionMeaning.{name_at, value_in, read_global}
+use Rattle.ir_core.specs.declared.code.RType.{RType}
+use Rattle.ir_core.specs.declared.code.Reg.{Reg}
+use Rattle.ir_core.specs.declared.code.PArg.TheVariants as arg
+use Rattle.ir_core.specs.declared.code.Op.TheVariants.{Prim}
+use Rattle.ir_core.specs.declared.code.Program.{Program}
+use Rattle.ir_core.specs.Items.{Do}
+use Rattle.ir_core.specs.Rows.{Declared, type_of_reg}
+use Rattle.ir_core.specs.Registers.{Holds, Regs}
+use Rattle.ir_core.specs.Effects.{Given, Written, Acts, number_of_global, global_at, got, stored, effect}
+use Rattle.ir_core.specs.Building.{Building}
+use Rattle.ir_core.specs.Meaning.{Waiting, Strict, read, arguments, registers_of, item_at, step}
+use Rattle.ir_builder_frames.specs.Settings.{Setting, rtype_of, register_of, variable_registers}
+use Rattle.ir_builder_frames.specs.Calling.{Adds}
+use Rattle.ir_builder_frames.specs.Coming.{world, running}
+use Rattle.ir_builder_frames.specs.Matching.{HasKind, MayHold, HaveTypes, HasGlobals, Matches, HasRoom}
+use Rattle.ir_builder_frames.specs.Computing.{Shows, Computes}
+use Rattle.ir_builder_frames.specs.Kinds.{Surrounding, IsOf, IsGlobal, ReadsGlobal, WritesGlobal, IsAmong}
+use Rattle.ir_builder_frames.proofs.HeldLemmas.{get_below}
+use Rattle.ir_builder_frames.proofs.NameLemmas.{or_false, not_false, and_parts}
+use Rattle.ir_builder_frames.proofs.StepLemmas.{read_is, acts_step}
+use Rattle.ir_builder_frames.proofs.AttemptLemmas.{effect_of, outcome_of, ShownIfGiven, prim_computes}
+
+-- ---- lists
+
+get_set_same : {A : Type 0} (xs : List A) (n : ℕ) (y : A) → n < length xs → slice_get (slice_set xs n y) n ≡ Some y
+get_set_same [] n y lt = absurd (omega arith)
+get_set_same (x ∷ xs) zero y lt = refl
+get_set_same (x ∷ xs) (suc n) y lt = get_set_same xs n y (omega arith)
+
+get_set_other : {A : Type 0} (xs : List A) (n k : ℕ) (y : A) → k ≢ n → slice_get (slice_set xs n y) k ≡ slice_get xs k
+get_set_other [] n k y ne = refl
+get_set_other (x ∷ xs) zero zero y ne = absurd (ne refl)
+get_set_other (x ∷ xs) zero (suc k) y ne = refl
+get_set_other (x ∷ xs) (suc n) zero y ne = refl
+get_set_other (x ∷ xs) (suc n) (suc k) y ne = get_set_other xs n k y (λ e. ne (ap suc e))
+
+pub get_map : {A B : Type 0} (f : A → B) (xs : List A) (i : ℕ) (x : A) → slice_get xs i ≡ Some x → slice_get (map f xs) i ≡ Some (f x)
+get_map f [] i x e = let g : None ≡ Some x = e in absurd (cc)
+get_map f (y ∷ xs) zero x e = let g : Some y ≡ Some x = e in let same : y ≡ x = cc in ap (λ z. Some (f z)) same
+get_map f (y ∷ xs) (suc i) x e = get_map f xs i x e
+
+-- ---- the types of the module's variables
+
+pub types_set : (vs : List Variable) (gs : List (Option Value)) (i : ℕ) (v : Variable) (w : Value) → HaveTypes vs gs → slice_get vs i ≡ Some v → HasKind v.1 w → HaveTypes vs (slice_set gs i (Some w))
+types_set vs gs i v w types at kind = record {
+  each = λ j u there.
+      let old = types.each j u there in
+      ⊎_elim
+      (λ same.
+      let within : i < length gs = (let o = types.each i v at in get_below gs i o.0 o.1) in
+      let one : v ≡ u = (let g : Some v ≡ Some u = sym at ∙ ap (slice_get vs) (sym same) ∙ there in cc) in
+      (Some w, ap (slice_get (slice_set gs i (Some w))) same ∙ get_set_same gs i (Some w) within, subst (λ (z : Variable). HasKind z.1 w) one kind))
+      (λ other. (old.0, get_set_other gs i j (Some w) other ∙ old.1, old.2))
+      (cases_eq j i);
+}
+
+abbrev nothing : Option Value
+nothing = None
+
+none_at : (vs : List Variable) (j : ℕ) (v : Variable) → slice_get vs j ≡ Some v → slice_get (replicate (length vs) nothing) j ≡ Some nothing
+none_at [] j v e = let g : None ≡ Some v = e in absurd (cc)
+none_at (u ∷ vs) zero v e = refl
+none_at (u ∷ vs) (suc j) v e = none_at vs j v e
+
+pub none_have_types : (vs : List Variable) → HaveTypes vs (replicate (length vs) None)
+none_have_types vs = record { each = λ j v at. (None, none_at vs j v at, tt) }
+
+-- a variable that is written leaves the others, and those of the function
+pub global_matches : (x : Setting) (regs : Regs) (s : State) (i : ℕ) (v : Variable) (w : Value) → Matches x regs s → slice_get x.source.globals i ≡ Some v → HasKind v.1 w → Matches x regs (record s { globals = slice_set s.globals i (Some w) })
+global_matches x regs s i v w match at kind = record { each = match.each; globals = types_set x.source.globals s.globals i v w match.globals at kind }
+
+-- ---- the number of a global by its name
+
+abbrev names_in : List Variable → List (List ℕ)
+names_in vs = map (λ (v : Variable). v.0) vs
+
+not_named : (name : List ℕ) (vs : List Variable) (i : ℕ) (v : Variable) → slice_get vs i ≡ Some v → list_any (bytes_eq name) (names_in vs) ≡ false → bytes_eq v.0 name ≡ false
+not_named name [] i v e none = let g : None ≡ Some v = e in absurd (cc)
+not_named name (u ∷ vs) zero v e none =
+    let g : Some u ≡ Some v = e in
+    let same : v ≡ u = cc in
+    bytes_eq-sym v.0 name ∙ ap (λ (z : Variable). bytes_eq name z.0) same ∙ (or_false (bytes_eq name u.0) (list_any (bytes_eq name) (names_in vs)) none).0
+not_named name (u ∷ vs) (suc i) v e none =
+    not_named name vs i v e (or_false (bytes_eq name u.0) (list_any (bytes_eq name) (names_in vs)) none).1
+
+place_of : (vs : List Variable) (i : ℕ) (v : Variable) → slice_get vs i ≡ Some v → names_differ (names_in vs) ≡ true → position_or_len (λ (g : List ℕ × RType). bytes_eq v.0 g.0) (variable_registers vs) ≡ i
+place_of [] i v e differ = let g : None ≡ Some v = e in absurd (cc)
+place_of (u ∷ vs) zero v e differ =
+    let g : Some u ≡ Some v = e in
+    let same : v ≡ u = cc in
+    let named : bytes_eq v.0 u.0 ≡ true = (bytes_eq-Decides v.0 u.0).1 (ap (λ (z : Variable). z.0) same) in
+    ap (λ c. cond (not c) (1 + position_or_len (λ (g : List ℕ × RType). bytes_eq v.0 g.0) (variable_registers vs)) 0) named
+place_of (u ∷ vs) (suc i) v e differ =
+    let parts = and_parts (not (list_any (bytes_eq u.0) (names_in vs))) (names_differ (names_in vs)) differ in
+    let other : bytes_eq v.0 u.0 ≡ false = not_named u.0 vs i v e (not_false (list_any (bytes_eq u.0) (names_in vs)) parts.0) in
+    ap (λ c. cond (not c) (1 + position_or_len (λ (g : List ℕ × RType). bytes_eq v.0 g.0) (variable_registers vs)) 0) other
+    ∙ (ap (λ z. 1 + z) (place_of vs i v e parts.1) ∙ omega arith)
+
+by_place : (k i size : ℕ) → k ≡ i → i < size → cond (nat_lt k size) (Some k) None ≡ Some i
+by_place k i size same within =
+    ap (λ z. cond (nat_lt z size) (Some z) None) same ∙ ap (λ c. cond c (Some i) None) (lt-ltb i size within)
+
+pub number_of_variable : (p : Program) (m : TypedModule) (i : ℕ) (v : Variable) → HasGlobals p m → slice_get m.globals i ≡ Some v → number_of_global p v.0 ≡ Some i
+number_of_variable p m i v has at =
+    let within : i < length (variable_registers m.globals) = (let lt = get_below m.globals i v at in omega (arith, length-map m.globals register_of)) in
+    ap (λ gs. cond (nat_lt (position_or_len (λ (g : List ℕ × RType). bytes_eq v.0 g.0) gs) (length gs)) (Some (position_or_len (λ (g : List ℕ × RType). bytes_eq v.0 g.0) gs)) None) has.are
+    ∙ by_place (position_or_len (λ (g : List ℕ × RType). bytes_eq v.0 g.0) (variable_registers m.globals)) i (length (variable_registers m.globals)) (place_of m.globals i v at has.differ) within
+
+-- ---- what a read and a write do
+
+-- what a variable of the module gives: its value, or the exception that it is unset
+abbrev pub value_or_unset : List ℕ → Option Value → Result Value Thrown
+value_or_unset name None = Err (not_defined name)
+value_or_unset name (Some v) = Ok v
+
+module _ (p : Program) (m : TypedModule) (i : ℕ) (v : Variable) (s : State) (o : Option Value) (has : HasGlobals p m) (at : slice_get m.globals i ≡ Some v) (held : slice_get s.globals i ≡ Some o) where
+  pub global_held : global_at p (world None s) v.0 ≡ Some o
+  global_held = ap (option_and_then (slice_get s.globals)) (number_of_variable p m i v has at) ∙ held
+
+  got_as : (u : Option Value) → got v.0 (Some u) (world None s) ≡ effect_of (value_or_unset v.0 u) (world None s)
+  got_as None = refl
+  got_as (Some w) = refl
+
+  pub global_read : effect p (prim.Global global.Get) (Written (arg.Global v.0) ∷ []) (world None s) ≡ effect_of (value_or_unset v.0 o) (world None s)
+  global_read = ap (λ z. got v.0 z (world None s)) global_held ∙ got_as o
+
+  pub global_write : (w : Value) → effect p (prim.Global global.Set) (Written (arg.Global v.0) ∷ Given w ∷ []) (world None s) ≡ Acts (world None (record s { globals = slice_set s.globals i (Some w) }))
+  global_write w =
+      ap (λ n. stored n (global_at p (world None s) v.0) (Some w) (world None s)) (number_of_variable p m i v has at)
+      ∙ ap (λ z. stored (Some i) z (Some w) (world None s)) global_held
+
+-- ---- the same in the source
+
+name_is : (vs : List Variable) (i : ℕ) (v : Variable) → slice_get vs i ≡ Some v → name_at vs i ≡ v.0
+name_is [] i v e = let g : None ≡ Some v = e in absurd (cc)
+name_is (u ∷ vs) zero v e = let g : Some u ≡ Some v = e in let same : u ≡ v = cc in ap (λ (z : Variable). z.0) same
+name_is (u ∷ vs) (suc i) v e = name_is vs i v e
+
+value_as : (name : List ℕ) (s : State) (o : Option Value) → value_in (raise_new NameError (codes "name '" ++ name ++ codes "' is not defined")) (Some o) s ≡ outcome_of (value_or_unset name o) s
+value_as name s None = refl
+value_as name s (Some v) = refl
+
+pub read_gives : (vs : List Variable) (i : ℕ) (v : Variable) (s : State) (o : Option Value) → slice_get vs i ≡ Some v → slice_get s.globals i ≡ Some o → read_global vs i s ≡ outcome_of (value_or_unset v.0 o) s
+read_gives vs i v s o at held =
+    ap (λ z. value_in (raise_new NameError (codes "name '" ++ name_at vs i ++ codes "' is not defined")) z s) held
+    ∙ ap (λ name. value_in (raise_new NameError (codes "name '" ++ name ++ codes "' is not defined")) (Some o) s) (name_is vs i v at)
+    ∙ value_as v.0 s o
+
+pub set_gives : (i : ℕ) (w : Value) (s : State) (o : Option Value) → slice_get s.globals i ≡ Some o → set_global i (Some w) s ≡ Gives tt (record s { globals = slice_set s.globals i (Some w) })
+set_gives i w s o held = ap (λ c. needs c (put_global i (Some w)) s) (lt-ltb i (length s.globals) (get_below s.globals i o held))
+
+-- ---- the code of a read, and of a write
+
+shown_if : (t : Sort) (name : List ℕ) (o : Option Value) → MayHold t o → ShownIfGiven (Shows t) (value_or_unset name o)
+shown_if t name None k = tt
+shown_if t name (Some v) k = (refl, k)
+
+pub global_computes : (x : Setting) (i : ℕ) (v : Variable) (b c : Building) (r : ℕ) → HasRoom x b → slice_get x.source.globals i ≡ Some v → Adds b c r (rtype_of v.1) (Prim (Some record { 0 = r }) (prim.Global global.Get) (arg.Global v.0 ∷ [])) → Computes x (Shows v.1) (rtype_of v.1) (λ n. read_global x.source.globals i) b c r
+global_computes x i v b c r room at a =
+    prim_computes x (Shows v.1) _ b c r (rtype_of v.1) (prim.Global global.Get) _ room a
+    (λ p fn has n calls regs s match.
+    let k = match.globals.each i v at in
+    record {
+      values = Written (arg.Global v.0) ∷ [];
+      given = refl;
+      result = value_or_unset v.0 k.0;
+      allowed = tt;
+      effects = global_read p x.source i v s k.0 calls.variables at k.1;
+      shown = shown_if v.1 v.0 k.0 k.2;
+      does = read_gives x.source.globals i v s k.0 at k.1;
+    })
+
+write_arguments : (declared : Declared) (regs : Regs) (name : List ℕ) (r : ℕ) (w : Value) → read declared regs (record { 0 = r }) ≡ Some w → arguments declared regs (arg.Global name ∷ arg.Var record { 0 = r } ∷ []) ≡ Some (Written (arg.Global name) ∷ Given w ∷ [])
+write_arguments declared regs name r w e = rw e refl
+
+pub global_step : (p : Program) (fn k j : ℕ) (regs : Regs) (below : List Waiting) (s : State) (m : TypedModule) (i : ℕ) (v : Variable) (r : ℕ) (t : RType) (w : Value) → HasGlobals p m → HaveTypes m.globals s.globals → slice_get m.globals i ≡ Some v → item_at p fn k j ≡ Some (Do (Prim None (prim.Global global.Set) (arg.Global v.0 ∷ arg.Var record { 0 = r } ∷ []))) → type_of_reg (registers_of p fn) (record { 0 = r }) ≡ Some t → regs r ≡ Holds w → step Strict p (running fn k j regs below (world None s)) ≡ running fn k (j + 1) regs below (world None (record s { globals = slice_set s.globals i (Some w) }))
+global_step p fn k j regs below s m i v r t w has types at there type holds =
+    let o = types.each i v at in
+    let given = write_arguments (registers_of p fn) regs v.0 r w (read_is (registers_of p fn) regs r t w type holds) in
+    acts_step p fn k j regs below s (prim.Global global.Set) _ _ _ there given refl (global_write p m i v s o.0 has at o.1 w)
+
+-- ---- when they fit
+
+pub global_there : (m : TypedModule) (g : Surrounding) (i : ℕ) (v : Variable) → IsAmong m g → slice_get m.globals i ≡ Some v → IsGlobal g v.0 (rtype_of v.1)
+global_there m g i v among at =
+    (i, ap (λ gs. slice_get gs i) among.globals ∙ get_map register_of m.globals i v at)
+
+pub read_fits : (m : TypedModule) (g : Surrounding) (i : ℕ) (v : Variable) → IsAmong m g → slice_get m.globals i ≡ Some v → ReadsGlobal g (rtype_of v.1) (prim.Global global.Get) (arg.Global v.0 ∷ [])
+read_fits m g i v among at = record { name = v.0; reads = refl; named = refl; there = global_there m g i v among at }
+
+pub write_fits : (m : TypedModule) (g : Surrounding) (regs : Declared) (i : ℕ) (v : Variable) (r : Reg) → IsAmong m g → slice_get m.globals i ≡ Some v → IsOf regs r (rtype_of v.1) → WritesGlobal g regs (prim.Global global.Set) (arg.Global v.0 ∷ arg.Var r ∷ [])
+write_fits m g regs i v r among at type = record { name = v.0; from = r; type = rtype_of v.1; writes = refl; named = refl; there = global_there m g i v among at; holds = type }

@@ -1,0 +1,5 @@
+use Rattle.ir_builder_loops_and_jumps.proofs.PrintLemmas.{Printing}
+use Rattle.ir_builder_loops_and_jumps.proofs.printing.emit_print.Given as goal
+
+abbrev pub invariant-loop-i : goal.invariant-loop-i
+invariant-loop-i l = Printing l.values l.regs l.i l.fn.b l.b

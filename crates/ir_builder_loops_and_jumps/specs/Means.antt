@@ -1,0 +1,48 @@
+-- What statements mean, by the bound of the calls and turns.
+use Rattle.std.specs.Prelude.{List, Option, Some, None}
+use Rattle.value_core.specs.Value.{Value, NoneVal}
+use Rattle.py_syntax.specs.declared.expression.BinOp.{BinOp}
+use Rattle.py_typed.specs.Sorts as sort
+use Rattle.py_typed.specs.Sorts.{Sort}
+use Rattle.py_typed.specs.Expressions.{TypedExpr, type_of}
+use Rattle.py_typed.specs.Statements.{TypedTarget, TypedStmt, TypedSuite}
+use Rattle.py_typed.specs.State.{◌>>=◌, ◌>>◌, give}
+use Rattle.py_typed.specs.SourceRun.{call_of}
+use Rattle.py_typed.specs.StatementMeaning.{bind, update, changed, value_or, statement, suite}
+use Rattle.py_typed.specs.WaysOut.{Flow, Goes, Returns}
+use Rattle.ir_builder_frames.specs.Settings.{Setting}
+use Rattle.ir_builder_frames.specs.Computing.{Meaning}
+use Rattle.py_typed.specs.ExpressionMeaning.{expression}
+
+-- the type of what a return gives
+abbrev pub returned_type : Option TypedExpr → Sort
+returned_type None = sort.Nothing
+returned_type (Some e) = type_of e
+
+module _ (x : Setting) where
+  abbrev pub means : TypedExpr → Meaning Value
+  means e n = expression x.source.classes.classes (call_of x.source n) x.source.globals x.variables e
+
+  abbrev pub means_statement : TypedStmt → Meaning Flow
+  means_statement t n = statement x.source.classes.classes (call_of x.source n) x.source.globals x.variables n t
+
+  abbrev pub means_suite : TypedSuite → Meaning Flow
+  means_suite ts n = suite x.source.classes.classes (call_of x.source n) x.source.globals x.variables n ts
+
+  abbrev pub means_alone : TypedExpr → Meaning Flow
+  means_alone e n = means e n >> give Goes
+
+  abbrev pub means_assignment : List TypedTarget → TypedExpr → Meaning Flow
+  means_assignment ts e n =
+      means e n >>= λ v. bind x.source.classes.classes (call_of x.source n) x.source.globals x.variables ts (type_of e) v >> give Goes
+
+  -- in a type
+  abbrev pub means_update : TypedTarget → BinOp → TypedExpr → Sort → Meaning Flow
+  means_update t op e s n =
+      update x.source.classes.classes (call_of x.source n) x.source.globals x.variables t (changed x.source.classes.classes (call_of x.source n) x.source.globals x.variables t op e s) >> give Goes
+
+  abbrev pub means_returned : Option TypedExpr → Meaning Value
+  means_returned o n = value_or x.source.classes.classes (call_of x.source n) x.source.globals x.variables NoneVal o
+
+  abbrev pub means_return : Option TypedExpr → Meaning Flow
+  means_return o n = means_returned o n >>= λ v. give (Returns v)

@@ -1,0 +1,109 @@
+-- What the code of a statement does.
+use Rattle.std.specs.Prelude.{◌≡◌, ℕ, suc, ◌≤◌, ◌<◌, Bool, true, false, List, [], ◌∷◌, ◌++◌, length, Option, Some, None}
+use Rattle.value_core.specs.Value.{Value}
+use Rattle.py_typed.specs.State.{State}
+use Rattle.py_typed.specs.WaysOut.{Flow, Goes, Breaks, Continues, Returns}
+use Rattle.py_typed.specs.Sorts.{Sort}
+use Rattle.ir_core.specs.declared.code.Reg.{Reg}
+use Rattle.ir_core.specs.declared.code.Last.TheVariants.{Unreachable, Goto}
+use Rattle.ir_core.specs.declared.code.Program.{Program}
+use Rattle.ir_core.specs.Building.{Building, held, handled, Extends}
+use Rattle.ir_core.specs.Items.{Item, End}
+use Rattle.ir_core.specs.Registers.{Holds, Regs}
+use Rattle.ir_core.specs.Meaning.{Config, Waiting, item_at}
+use Rattle.ir_builder_frames.specs.Settings.{Setting}
+use Rattle.ir_builder_frames.specs.Placing.{Has, Placed}
+use Rattle.ir_builder_frames.specs.Calling.{Open}
+use Rattle.ir_builder_frames.specs.Coming.{world, running, returning, Ends}
+use Rattle.ir_builder_frames.specs.Matching.{HasKind, HaveTypes, Matches, Stands, IsThrown, CallsWork}
+use Rattle.ir_builder_frames.specs.Computing.{Meaning}
+use Rattle.ir_builder_loops_and_jumps.specs.declared.ways.Way.{Way}
+use Rattle.ir_builder_loops_and_jumps.specs.declared.ways.Way.TheVariants.{Break, Continue, Return, Join}
+use Rattle.ir_builder_loops_and_jumps.specs.declared.ways.Exit.{Exit}
+use Rattle.ir_builder_loops_and_jumps.specs.Ways.{uses, left, by}
+use Rattle.ir_builder_loops_and_jumps.specs.Branches.{Tried, Untaken, Taken}
+
+-- ---- exits
+
+-- in the program the open end of each exit is a jump to the place of its way
+abbrev pub JumpTo : Program → ℕ → Building → (Way → ℕ) → List Exit → Type 0
+JumpTo p fn b to [] = Unit {0}
+JumpTo p fn b to (e ∷ es) =
+    ((i : ℕ) → held b e.block i ≡ Some (End Unreachable) → item_at p fn e.block i ≡ Some (End (Goto (to e.way)))) × JumpTo p fn b to es
+
+-- each of these blocks is open, they rise, and they lie between the numbers
+abbrev pub OpenIn : Building → ℕ → ℕ → List Exit → Type 0
+OpenIn b from to [] = Unit {0}
+OpenIn b from to (e ∷ es) = Open b e.block × (from ≤ e.block) × (e.block < to) × OpenIn b (suc e.block) to es
+
+-- the ends of open blocks were written as jumps, but for those whose way has no place yet
+pub record PatchesAll (b c : Building) (from next : ℕ) (es : List Exit) (plan : Way → Option ℕ) : Type 0 where
+  pub has : (p : Program) (fn : ℕ) → Has p fn c → Has p fn b
+  pub jumps : (p : Program) (fn : ℕ) (to : Way → ℕ) → Has p fn c → JumpTo p fn c to (left plan es) → JumpTo p fn b (by plan to) es
+  pub opens : OpenIn c from next (left plan es)
+  pub extends : (a : Building) → Extends a b → length a.blocks ≤ from → Extends a c
+  pub earlier : (j i : ℕ) (x : Item) → j < from → held b j i ≡ Some x → held c j i ≡ Some x
+  pub later : (j i : ℕ) (x : Item) → next ≤ j → held b j i ≡ Some x → held c j i ≡ Some x
+  pub handlers : (j : ℕ) → handled c j ≡ handled b j
+  pub same_regs : c.regs ≡ b.regs
+  pub blocks : length c.blocks ≡ length b.blocks
+  pub ops : length c.ops ≡ length b.ops
+
+-- the first jumps of a list were written
+pub record Patching (b c : Building) (es rest : List Exit) (plan : Way → Option ℕ) : Type 0 where
+  pub blocks : length c.blocks ≡ length b.blocks
+  pub go : (from to : ℕ) → OpenIn b from to (es ++ rest) → (next : ℕ) × (from ≤ next) × PatchesAll b c from next es plan × OpenIn b next to rest
+
+-- ---- what comes of a statement
+
+-- a value is one of a function's result; a module's own statements have none
+abbrev pub HasResult : Option Sort → Value → Type 0
+HasResult None v = ⊥
+HasResult (Some t) v = HasKind t v
+
+-- a returned value leaves the function, or goes with its value to the statement that waits for it
+pub record Brings (fn k : ℕ) (below : List Waiting) (x : Setting) (r keep : ℕ) (regs : Regs) (v : Value) (s : State) (d : Config) : Type 0 where
+  pub stands : Stands fn k 0 below None x keep regs s d
+  pub value : stands.now r ≡ Holds v
+
+module _ (p : Program) (result : Option Sort) where
+  abbrev pub Back : Option Reg → ℕ → (Way → ℕ) → List Exit → List Waiting → Setting → ℕ → Regs → Value → State → Config → Type 0
+  Back None fn to exits below x keep regs v s d = HaveTypes x.source.globals s.globals × (d ≡ returning p v below (world None s))
+  Back (Some r) fn to exits below x keep regs v s d = (uses Return exits ≡ true) × Brings fn (to Return) below x r.0 keep regs v s d
+
+  -- after a statement: at the next place, or at the place of the way that it takes, which is then one of its exits
+  abbrev pub Flows : ℕ → ℕ → ℕ → (Way → ℕ) → List Exit → List Waiting → Setting → ℕ → Regs → Flow → State → Config → Type 0
+  Flows fn k i to exits below x keep regs Goes s d = Stands fn k i below None x keep regs s d
+  Flows fn k i to exits below x keep regs Breaks s d = (uses Break exits ≡ true) × Stands fn (to Break) 0 below None x keep regs s d
+  Flows fn k i to exits below x keep regs Continues s d =
+      (uses Continue exits ≡ true) × Stands fn (to Continue) 0 below None x keep regs s d
+  Flows fn k i to exits below x keep regs (Returns v) s d =
+      HasResult result v × Back x.frame.ret fn to exits below x keep regs v s d
+
+  -- after some arms of an `if`: at the next place where no test held, and behind the `if` where a body came to its end
+  abbrev pub Tries : ℕ → ℕ → ℕ → (Way → ℕ) → List Exit → List Waiting → Setting → ℕ → Regs → Tried → State → Config → Type 0
+  Tries fn k i to exits below x keep regs Untaken s d = Stands fn k i below None x keep regs s d
+  Tries fn k i to exits below x keep regs (Taken g) s d = Flows fn (to Join) 0 to exits below x keep regs g s d
+
+-- the code from the first builder's place to the second's does what the meaning says; the exits are left open
+pub record Works (x : Setting) (result : Option Sort) (m : Meaning Flow) (old new : Building) (exits : List Exit) : Type 0 where
+  pub extends : Extends old new
+  pub opens : OpenIn new (length old.blocks) (length new.blocks) exits
+  pub runs : (p : Program) (fn : ℕ) (h : Option ℕ) (to : Way → ℕ) → Placed p fn old new h → JumpTo p fn new to exits → (n : ℕ) → CallsWork p x.source n → (regs : Regs) (below : List Waiting) (s : State) → Matches x regs s → s.turns ≤ n → Ends p s.turns (running fn (length old.blocks) (length old.ops) regs below (world None s)) (m n s) (Flows p result fn (length new.blocks) (length new.ops) to exits below x (length old.regs) regs) (IsThrown fn h below x (length old.regs) regs)
+
+-- the same of some arms of an `if`
+pub record Tests (x : Setting) (result : Option Sort) (m : Meaning Tried) (old new : Building) (exits : List Exit) : Type 0 where
+  pub extends : Extends old new
+  pub opens : OpenIn new (length old.blocks) (length new.blocks) exits
+  pub runs : (p : Program) (fn : ℕ) (h : Option ℕ) (to : Way → ℕ) → Placed p fn old new h → JumpTo p fn new to exits → (n : ℕ) → CallsWork p x.source n → (regs : Regs) (below : List Waiting) (s : State) → Matches x regs s → s.turns ≤ n → Ends p s.turns (running fn (length old.blocks) (length old.ops) regs below (world None s)) (m n s) (Tries p result fn (length new.blocks) (length new.ops) to exits below x (length old.regs) regs) (IsThrown fn h below x (length old.regs) regs)
+
+-- no exit leaves a loop
+abbrev pub LeavesNoLoop : List Exit → Type 0
+LeavesNoLoop exits = (uses Break exits ≡ false) × (uses Continue exits ≡ false)
+
+-- the code works, and its exits were added to a list. Where no loop is around, none of them leaves one
+pub record Emitted (x : Setting) (result : Option Sort) (looping : Bool) (m : Meaning Flow) (old new : Building) (before after : List Exit) : Type 0 where
+  pub mine : List Exit
+  pub is : after ≡ before ++ mine
+  pub works : Works x result m old new mine
+  pub inside : looping ≡ false → LeavesNoLoop mine

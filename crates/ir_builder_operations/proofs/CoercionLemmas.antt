@@ -1,0 +1,157 @@
+-- What primitives make of a number or a bool of one type is what the source makes of it at the other type.
+use Rattle.std.proofs.Common.{◌≡◌, refl, sym, ap, subst, ℕ, arith, Bool, true, false, cond, [], ◌∷◌, Some, None, Result, Ok, Err}
+use Rattle.std.proofs.lemmas.Bool.Decides.{nat_tests}
+use Rattle.std.specs.Prelude.{ℤ, pos, negsuc, if◌then◌else◌}
+use Rattle.value_core.specs.declared.arith.Arith.{Arith}
+use Rattle.value_core.specs.declared.arith.Arith.TheVariants.{Overflow, OutOfRange}
+use Rattle.value_core.specs.Arithmetic.{lies_within, int_to_i64}
+use Rattle.value_core.specs.Exceptions.{Thrown}
+use Rattle.value_core.specs.Value.{Value, IntVal, BoolVal}
+use Rattle.c_core.specs.declared.primitive.Primitive.{Primitive}
+use Rattle.c_core.specs.declared.primitive.Primitive.TheVariants as prim
+use Rattle.c_core.specs.declared.primitive.Int64Prim.TheVariants as int64
+use Rattle.c_core.specs.declared.primitive.TaggedPrim.TheVariants as tagged
+use Rattle.c_core.specs.Step.{int64_exception}
+use Rattle.py_typed.specs.Sorts as sort
+use Rattle.py_typed.specs.Sorts.{Sort}
+use Rattle.py_typed.specs.State.{State, Gives}
+use Rattle.py_typed.specs.Operations.{fitting, coerced}
+use Rattle.ir_core.specs.declared.code.Reg.{Reg}
+use Rattle.ir_core.specs.declared.code.Op.TheVariants.{Prim}
+use Rattle.ir_core.specs.declared.code.PArg.TheVariants.{Var}
+use Rattle.ir_core.specs.Effects.{World, Given, truth_number, fitted}
+use Rattle.ir_core.specs.Rows.{Declared, type_of_reg}
+use Rattle.ir_core.specs.Building.{Building}
+use Rattle.ir_builder_frames.specs.Settings.{rtype_of}
+use Rattle.ir_builder_frames.specs.Placing.{HasType}
+use Rattle.ir_builder_frames.specs.Calling.{Adds}
+use Rattle.ir_builder_frames.specs.Kinds.{Answers}
+use Rattle.ir_builder_frames.specs.Matching.{HasKind}
+use Rattle.ir_builder_frames.specs.Computing.{Shows, Attempts}
+use Rattle.ir_builder_frames.proofs.AttemptLemmas.{effect_of, outcome_of, ShownIfGiven}
+use Rattle.ir_builder_operations.specs.Operating.{is_numeric, is_whole, ActsOn}
+use Rattle.ir_builder_operations.specs.Selecting.{coercion}
+use Rattle.ir_builder_operations.proofs.KindLemmas.{by_int, by_i64, by_bool}
+use Rattle.ir_builder_operations.proofs.PartLemmas.{Performs, one_performs, stays}
+
+-- ---- each coercion
+
+wider : (n : ℤ) → lies_within 63 n ≡ true → lies_within 127 n ≡ true
+wider (pos n) e = grind (arith, nat_tests, e)
+wider (negsuc n) e = grind (arith, nat_tests, e)
+
+truth_kind : (b : Bool) → HasKind sort.Int (IntVal (truth_number b))
+truth_kind true = (pos 1, refl, refl)
+truth_kind false = (pos 0, refl, refl)
+
+truth_native : (b : Bool) → HasKind sort.I64 (IntVal (truth_number b))
+truth_native true = (pos 1, refl, refl)
+truth_native false = (pos 0, refl, refl)
+
+truth_is : (b : Bool) → (if b then pos 1 else pos 0) ≡ truth_number b
+truth_is true = refl
+truth_is false = refl
+
+int_of_bool : (b : Bool) → Performs (Shows sort.Int) (prim.Tagged tagged.FromBool) (Given (BoolVal b) ∷ []) (coerced sort.Int (BoolVal b))
+int_of_bool b = record {
+  result = Ok (IntVal (truth_number b));
+  allowed = tt;
+  effects = λ p w. refl;
+  shown = (refl, truth_kind b);
+  does = λ s. ap (λ n. Gives (IntVal n) s) (truth_is b);
+}
+
+native_of_bool : (b : Bool) → Performs (Shows sort.I64) (prim.Int64 int64.FromBool) (Given (BoolVal b) ∷ []) (coerced sort.I64 (BoolVal b))
+native_of_bool b = record {
+  result = Ok (IntVal (truth_number b));
+  allowed = tt;
+  effects = λ p w. refl;
+  shown = (refl, truth_native b);
+  does = λ s. ap (λ n. Gives (IntVal n) s) (truth_is b);
+}
+
+int_of_native : (n : ℤ) → lies_within 63 n ≡ true → Performs (Shows sort.Int) (prim.Tagged tagged.FromInt64) (Given (IntVal n) ∷ []) (coerced sort.Int (IntVal n))
+int_of_native n e = record {
+  result = Ok (IntVal n);
+  allowed = tt;
+  effects = λ p w. refl;
+  shown = (refl, (n, refl, wider n e));
+  does = λ s. refl;
+}
+
+-- an `int` as a native integer, or the exception
+abbrev as_native : Result ℤ Arith → Result Value Thrown
+as_native (Ok n) = Ok (IntVal n)
+as_native (Err fault) = Err (int64_exception Overflow)
+
+native_effect : (o : Result ℤ Arith) (w : World) → fitted o w ≡ effect_of (as_native o) w
+native_effect (Ok n) w = refl
+native_effect (Err fault) w = refl
+
+native_outcome : (o : Result ℤ Arith) (s : State) → fitting o s ≡ outcome_of (as_native o) s
+native_outcome (Ok n) s = refl
+native_outcome (Err fault) s = refl
+
+native_by : (b : Bool) (n : ℤ) → lies_within 63 n ≡ b → ShownIfGiven (Shows sort.I64) (as_native (cond b (Ok n) (Err OutOfRange)))
+native_by true n e = (refl, (n, refl, e))
+native_by false n e = tt
+
+native_of_int : (n : ℤ) → Performs (Shows sort.I64) (prim.Tagged tagged.AsInt64) (Given (IntVal n) ∷ []) (coerced sort.I64 (IntVal n))
+native_of_int n = record {
+  result = as_native (int_to_i64 n);
+  allowed = tt;
+  effects = λ p w. native_effect (int_to_i64 n) w;
+  shown = native_by (lies_within 63 n) n refl;
+  does = λ s. native_outcome (int_to_i64 n) s;
+}
+
+-- ---- all coercions
+
+-- what holds of each coercion
+by_coercion : (P : Sort → Sort → Primitive → Type 0) → P sort.Bool sort.Int (prim.Tagged tagged.FromBool) → P sort.Bool sort.I64 (prim.Int64 int64.FromBool) → P sort.I64 sort.Int (prim.Tagged tagged.FromInt64) → P sort.Int sort.I64 (prim.Tagged tagged.AsInt64) → (s t : Sort) (q : Primitive) → coercion s t ≡ Some q → P s t q
+by_coercion P f g h i sort.Bool sort.Int q e = let k : Some (prim.Tagged tagged.FromBool) ≡ Some q = e in subst (P sort.Bool sort.Int) (cc) f
+by_coercion P f g h i sort.Bool sort.I64 q e = let k : Some (prim.Int64 int64.FromBool) ≡ Some q = e in subst (P sort.Bool sort.I64) (cc) g
+by_coercion P f g h i sort.I64 sort.Int q e = let k : Some (prim.Tagged tagged.FromInt64) ≡ Some q = e in subst (P sort.I64 sort.Int) (cc) h
+by_coercion P f g h i sort.Int sort.I64 q e = let k : Some (prim.Tagged tagged.AsInt64) ≡ Some q = e in subst (P sort.Int sort.I64) (cc) i
+by_coercion P f g h i s t q e = let k : None ≡ Some q = e in absurd (cc)
+
+coerces : (s t : Sort) (q : Primitive) → coercion s t ≡ Some q → (v : Value) → HasKind s v → Performs (Shows t) q (Given v ∷ []) (coerced t v)
+coerces =
+    by_coercion (λ s t q. (v : Value) → HasKind s v → Performs (Shows t) q (Given v ∷ []) (coerced t v))
+    (by_bool (λ v. Performs (Shows sort.Int) (prim.Tagged tagged.FromBool) (Given v ∷ []) (coerced sort.Int v)) int_of_bool)
+    (by_bool (λ v. Performs (Shows sort.I64) (prim.Int64 int64.FromBool) (Given v ∷ []) (coerced sort.I64 v)) native_of_bool)
+    (by_i64 (λ v. Performs (Shows sort.Int) (prim.Tagged tagged.FromInt64) (Given v ∷ []) (coerced sort.Int v)) int_of_native)
+    (by_int (λ v. Performs (Shows sort.I64) (prim.Tagged tagged.AsInt64) (Given v ∷ []) (coerced sort.I64 v)) (λ n e. native_of_int n))
+
+pub coercion_attempts : (s t : Sort) (q : Primitive) (b c : Building) (r x : ℕ) → coercion s t ≡ Some q → HasType b x (rtype_of s) → Adds b c r (rtype_of t) (Prim (Some record { 0 = r }) q (Var record { 0 = x } ∷ [])) → Attempts (Shows t) b c r (rtype_of t) (ActsOn s x (coerced t))
+coercion_attempts s t q b c r x is type a = one_performs s t (coerced t) b c r x (rtype_of t) (rtype_of s) q type a (coerces s t q is)
+
+pub coercion_answers : (s t : Sort) (q : Primitive) → coercion s t ≡ Some q → (regs : Declared) (x : Reg) → type_of_reg regs x ≡ Some (rtype_of s) → Answers (rtype_of t) regs q (Var x ∷ [])
+coercion_answers =
+    by_coercion (λ s t q. (regs : Declared) (x : Reg) → type_of_reg regs x ≡ Some (rtype_of s) → Answers (rtype_of t) regs q (Var x ∷ []))
+    (λ regs x is. (refl, (rtype_of sort.Bool, is, refl, tt)))
+    (λ regs x is. (refl, (rtype_of sort.Bool, is, refl, tt)))
+    (λ regs x is. (refl, (rtype_of sort.I64, is, refl, tt)))
+    (λ regs x is. (refl, (rtype_of sort.Int, is, refl, tt)))
+
+-- ---- where there is nothing to do
+
+same_type : (s t : Sort) → is_numeric s ≡ true → is_whole t ≡ true → coercion s t ≡ None → s ≡ t
+same_type sort.Int sort.Int e f g = refl
+same_type sort.I64 sort.I64 e f g = refl
+same_type sort.Bool sort.Int e f g = absurd (cc)
+same_type s t e f g = absurd (cc)
+
+native_kept : (n : ℤ) (s : State) → lies_within 63 n ≡ true → coerced sort.I64 (IntVal n) s ≡ Gives (IntVal n) s
+native_kept n s e = ap (λ b. fitting (cond b (Ok n) (Err OutOfRange)) s) e
+
+kept_as : (t : Sort) → is_whole t ≡ true → (v : Value) (s : State) → HasKind t v → coerced t v s ≡ Gives v s
+kept_as sort.Int e v s k = by_int (λ v. coerced sort.Int v s ≡ Gives v s) (λ n f. refl) v k
+kept_as sort.I64 e v s k = by_i64 (λ v. coerced sort.I64 v s ≡ Gives v s) (λ n f. native_kept n s f) v k
+kept_as t e v s k = let f : false ≡ true = e in absurd (cc)
+
+pub coercion_stays : (s t : Sort) (b : Building) (x : ℕ) → is_numeric s ≡ true → is_whole t ≡ true → coercion s t ≡ None → HasType b x (rtype_of s) → Attempts (Shows t) b b x (rtype_of t) (ActsOn s x (coerced t))
+coercion_stays s t b x e f g type =
+    let is = same_type s t e f g in
+    let P : Sort → Type 0 = λ u. HasType b x (rtype_of u) → Attempts (Shows t) b b x (rtype_of t) (ActsOn u x (coerced t)) in
+    subst P (sym is) (λ there. stays t (coerced t) b x (rtype_of t) there (kept_as t f)) type

@@ -1,0 +1,210 @@
+-- What primitives make of native integers is what the source makes of them, or the exception that it raises.
+use Rattle.std.proofs.Common.{◌≡◌, refl, ap, ◌∙◌, ℕ, zero, suc, ◌^◌, arith, Bool, true, false, cond, [], ◌∷◌, Some, Result, Ok, Err}
+use Rattle.std.proofs.lemmas.Bool.Decides.{nat_tests}
+use Rattle.std.proofs.lemmas.Int.{ints, SFits-int_wrap}
+use Rattle.std.proofs.Math.Nat.{div-le_self}
+use Rattle.std.specs.Int.{int_wrap, w64}
+use Rattle.std.specs.Prelude.{ℤ, pos, negsuc, neg_ℤ, ◌*ℤ◌, ◌≤ℤ◌, ◌<ℤ◌, nat_lt, FitsSigned}
+use Rattle.value_core.specs.declared.arith.Arith.{Arith}
+use Rattle.value_core.specs.declared.arith.Arith.TheVariants.{Overflow, ZeroDivisor, NegativeShift, OutOfRange}
+use Rattle.value_core.specs.Arithmetic.{lies_within, floor_div, modulo, i64_add, i64_sub, i64_mul, i64_neg, i64_floor_div, i64_modulo, i64_shl, i64_shr}
+use Rattle.value_core.specs.Exceptions.{Thrown}
+use Rattle.value_core.specs.Value.{Value, IntVal}
+use Rattle.value_core.proofs.RestLemmas.{rest_near}
+use Rattle.c_core.specs.declared.primitive.Primitive.TheVariants as prim
+use Rattle.c_core.specs.declared.primitive.Int64Prim.TheVariants as int64
+use Rattle.c_core.specs.Step.{int64_exception}
+use Rattle.py_syntax.specs.declared.expression.BinOp.{BinOp}
+use Rattle.py_syntax.specs.declared.expression.BinOp.TheVariants as bin
+use Rattle.py_typed.specs.Sorts as sort
+use Rattle.py_typed.specs.State.{State, Gives, on_to}
+use Rattle.py_typed.specs.Operations.{fitting, coerced, with_number, number_of, no_i64, of_i64, of_numbers, arithmetic, negated_as, negated}
+use Rattle.ir_core.specs.declared.code.Op.TheVariants.{Prim}
+use Rattle.ir_core.specs.declared.code.PArg.TheVariants.{Var}
+use Rattle.ir_core.specs.declared.code.Program.{Program}
+use Rattle.ir_core.specs.declared.code.RType.TheVariants as rtype
+use Rattle.ir_core.specs.Rows.{failing}
+use Rattle.ir_core.specs.Effects.{World, Given, native_or, effect}
+use Rattle.ir_core.specs.Building.{Building}
+use Rattle.ir_builder_frames.specs.Placing.{HasType}
+use Rattle.ir_builder_frames.specs.Calling.{Adds}
+use Rattle.ir_builder_frames.specs.Computing.{Shows, Attempts}
+use Rattle.ir_builder_frames.proofs.AttemptLemmas.{effect_of, outcome_of, Allows, ShownIfGiven}
+use Rattle.ir_builder_operations.specs.Operating.{is_arithmetic, ActsOn, ActsOnTwo}
+use Rattle.ir_builder_operations.specs.Selecting.{native_primitive}
+use Rattle.ir_builder_operations.proofs.KindLemmas.{by_i64}
+use Rattle.ir_builder_operations.proofs.PartLemmas.{Performs, one_performs, two_perform}
+
+-- ---- range
+
+fits_within : (z : ℤ) → FitsSigned w64 z → lies_within 63 z ≡ true
+fits_within (pos n) f = grind (arith, f.sfits)
+fits_within (negsuc n) f = grind (arith, f.sfits)
+
+wrap_within : (z : ℤ) → lies_within 63 (int_wrap w64 z) ≡ true
+wrap_within z = fits_within (int_wrap w64 z) (SFits-int_wrap w64 z)
+
+-- a number is a native integer, where there is one
+abbrev IsNative : Result ℤ Arith → Type 0
+IsNative (Ok n) = lies_within 63 n ≡ true
+IsNative (Err fault) = Unit {0}
+
+native_by : (b : Bool) (n : ℤ) → lies_within 63 n ≡ b → IsNative (cond b (Ok n) (Err Overflow))
+native_by true n e = e
+native_by false n e = tt
+
+quotient_native : (a b : ℤ) → IsNative (i64_floor_div a b)
+quotient_native a (pos zero) = tt
+quotient_native a (pos (suc b)) = native_by _ (floor_div a (pos (suc b))) refl
+quotient_native a (negsuc b) = native_by _ (floor_div a (negsuc b)) refl
+
+-- a number between 0 and a native integer is one
+between_up : (z : ℤ) (b : ℕ) → lies_within 63 (pos b) ≡ true → pos 0 ≤ℤ z → z <ℤ pos b → lies_within 63 z ≡ true
+between_up (pos n) b e low high = grind (arith, nat_tests, ints, e, high)
+between_up (negsuc n) b e low high = absurd (omega (arith, ints, low))
+
+between_down : (z : ℤ) (b : ℕ) → lies_within 63 (negsuc b) ≡ true → negsuc b <ℤ z → z ≤ℤ pos 0 → lies_within 63 z ≡ true
+between_down (pos zero) b e low high = refl
+between_down (pos (suc n)) b e low high = absurd (omega (arith, ints, high))
+between_down (negsuc n) b e low high = grind (arith, nat_tests, ints, e, low)
+
+rest_native : (a b : ℤ) → lies_within 63 b ≡ true → IsNative (i64_modulo a b)
+rest_native a (pos zero) e = tt
+rest_native a (pos (suc b)) e = let near = (rest_near a (pos (suc b))).0 (omega (arith, ints)) in between_up (modulo a (pos (suc b))) (suc b) e near.0 near.1
+rest_native a (negsuc b) e = let near = (rest_near a (negsuc b)).1 (omega (arith, ints)) in between_down (modulo a (negsuc b)) b e near.0 near.1
+
+left_by : (b : Bool) (z : ℤ) → IsNative (cond b (Ok (int_wrap w64 z)) (Err OutOfRange))
+left_by true z = wrap_within z
+left_by false z = tt
+
+left_native : (a n : ℤ) → IsNative (i64_shl a n)
+left_native a (pos n) = left_by (nat_lt n 64) (a *ℤ pos (2 ^ n))
+left_native a (negsuc n) = tt
+
+-- a quotient by a natural number is as near to 0
+divided : (a : ℤ) (d : ℕ) → lies_within 63 a ≡ true → lies_within 63 (floor_div a (pos d)) ≡ true
+divided (pos a) d e = let le = div-le_self a d in grind (arith, nat_tests, e, le)
+divided (negsuc a) d e = let le = div-le_self a d in grind (arith, nat_tests, e, le)
+
+right_by : (b : Bool) (z : ℤ) → lies_within 63 z ≡ true → IsNative (cond b (Ok z) (Err OutOfRange))
+right_by true z e = e
+right_by false z e = tt
+
+right_native : (a n : ℤ) → lies_within 63 a ≡ true → IsNative (i64_shr a n)
+right_native a (pos n) e = right_by (nat_lt n 64) (floor_div a (pos (2 ^ n))) (divided a (2 ^ n) e)
+right_native a (negsuc n) e = tt
+
+-- ---- what an operator gives
+
+abbrev given_by : BinOp → ℤ → ℤ → Result ℤ Arith
+given_by bin.Add a b = Ok (i64_add a b)
+given_by bin.Sub a b = Ok (i64_sub a b)
+given_by bin.FloorDiv a b = i64_floor_div a b
+given_by bin.Mod a b = i64_modulo a b
+given_by bin.Shl a b = i64_shl a b
+given_by bin.Shr a b = i64_shr a b
+given_by _ a b = Ok (i64_mul a b)
+
+given_native : (op : BinOp) (a b : ℤ) → lies_within 63 a ≡ true → lies_within 63 b ≡ true → IsNative (given_by op a b)
+given_native bin.Add a b e f = wrap_within _
+given_native bin.Sub a b e f = wrap_within _
+given_native bin.Mul a b e f = wrap_within _
+given_native bin.FloorDiv a b e f = quotient_native a b
+given_native bin.Mod a b e f = rest_native a b f
+given_native bin.Shl a b e f = left_native a b
+given_native bin.Shr a b e f = right_native a b e
+given_native bin.Bar a b e f = wrap_within _
+
+abbrev with_exception : Result ℤ Arith → Result Value Thrown
+with_exception (Ok n) = Ok (IntVal n)
+with_exception (Err fault) = Err (int64_exception fault)
+
+given_allowed : (op : BinOp) (a b : ℤ) → Allows (failing (prim.Int64 (native_primitive op))) (with_exception (given_by op a b))
+given_allowed bin.Add a b = tt
+given_allowed bin.Sub a b = tt
+given_allowed bin.Mul a b = tt
+given_allowed bin.FloorDiv a b = tt
+given_allowed bin.Mod a b = tt
+given_allowed bin.Shl a b = tt
+given_allowed bin.Shr a b = tt
+given_allowed bin.Bar a b = tt
+
+native_effect : (o : Result ℤ Arith) (w : World) → native_or o w ≡ effect_of (with_exception o) w
+native_effect (Ok n) w = refl
+native_effect (Err fault) w = refl
+
+given_effect : (op : BinOp) (a b : ℤ) (p : Program) (w : World) → effect p (prim.Int64 (native_primitive op)) (Given (IntVal a) ∷ Given (IntVal b) ∷ []) w ≡ effect_of (with_exception (given_by op a b)) w
+given_effect bin.Add a b p w = refl
+given_effect bin.Sub a b p w = refl
+given_effect bin.Mul a b p w = refl
+given_effect bin.FloorDiv a b p w = native_effect (i64_floor_div a b) w
+given_effect bin.Mod a b p w = native_effect (i64_modulo a b) w
+given_effect bin.Shl a b p w = native_effect (i64_shl a b) w
+given_effect bin.Shr a b p w = native_effect (i64_shr a b) w
+given_effect bin.Bar a b p w = refl
+
+number_outcome : (o : Result ℤ Arith) (s : State) → number_of no_i64 o s ≡ outcome_of (with_exception o) s
+number_outcome (Ok n) s = refl
+number_outcome (Err Overflow) s = refl
+number_outcome (Err ZeroDivisor) s = refl
+number_outcome (Err NegativeShift) s = refl
+number_outcome (Err OutOfRange) s = refl
+
+given_outcome : (op : BinOp) (a b : ℤ) (s : State) → is_arithmetic op ≡ true → of_i64 op a b s ≡ outcome_of (with_exception (given_by op a b)) s
+given_outcome bin.Add a b s e = refl
+given_outcome bin.Sub a b s e = refl
+given_outcome bin.Mul a b s e = refl
+given_outcome bin.FloorDiv a b s e = number_outcome (i64_floor_div a b) s
+given_outcome bin.Mod a b s e = number_outcome (i64_modulo a b) s
+given_outcome bin.Shl a b s e = number_outcome (i64_shl a b) s
+given_outcome bin.Shr a b s e = number_outcome (i64_shr a b) s
+given_outcome bin.Bar a b s e = let f : false ≡ true = e in absurd (cc)
+
+native_shown : (o : Result ℤ Arith) → IsNative o → ShownIfGiven (Shows sort.I64) (with_exception o)
+native_shown (Ok n) e = (refl, (n, refl, e))
+native_shown (Err fault) e = tt
+
+-- ---- the source
+
+pub native_kept : (n : ℤ) (s : State) → lies_within 63 n ≡ true → coerced sort.I64 (IntVal n) s ≡ Gives (IntVal n) s
+native_kept n s e = ap (λ b. fitting (cond b (Ok n) (Err OutOfRange)) s) e
+
+pub arithmetic_is : (op : BinOp) (a b : ℤ) (s : State) → lies_within 63 a ≡ true → lies_within 63 b ≡ true → arithmetic sort.I64 op (IntVal a) (IntVal b) s ≡ of_i64 op a b s
+arithmetic_is op a b s e f =
+    ap (λ o. on_to o (λ m s1. on_to (coerced sort.I64 (IntVal b) s1) (λ n. with_number m (λ i. with_number n (λ j. of_numbers sort.I64 op i j))))) (native_kept a s e)
+    ∙ ap (λ o. on_to o (λ n. with_number n (λ j. of_numbers sort.I64 op a j))) (native_kept b s f)
+
+numbers_perform : (op : BinOp) (a b : ℤ) → is_arithmetic op ≡ true → lies_within 63 a ≡ true → lies_within 63 b ≡ true → Performs (Shows sort.I64) (prim.Int64 (native_primitive op)) (Given (IntVal a) ∷ Given (IntVal b) ∷ []) (arithmetic sort.I64 op (IntVal a) (IntVal b))
+numbers_perform op a b is e f = record {
+  result = with_exception (given_by op a b);
+  allowed = given_allowed op a b;
+  effects = λ p w. given_effect op a b p w;
+  shown = native_shown (given_by op a b) (given_native op a b e f);
+  does = λ s. arithmetic_is op a b s e f ∙ given_outcome op a b s is;
+}
+
+pub native_attempts : (op : BinOp) (b c : Building) (r x y : ℕ) → is_arithmetic op ≡ true → HasType b x rtype.I64 → HasType b y rtype.I64 → Adds b c r rtype.I64 (Prim (Some record { 0 = r }) (prim.Int64 (native_primitive op)) (Var record { 0 = x } ∷ Var record { 0 = y } ∷ [])) → Attempts (Shows sort.I64) b c r rtype.I64 (ActsOnTwo sort.I64 sort.I64 x y (arithmetic sort.I64 op))
+native_attempts op b c r x y is type_x type_y a =
+    two_perform sort.I64 sort.I64 sort.I64 (arithmetic sort.I64 op) b c r x y rtype.I64 rtype.I64 rtype.I64 (prim.Int64 (native_primitive op)) type_x type_y a
+    (λ v w k l.
+    by_i64 (λ v. Performs (Shows sort.I64) (prim.Int64 (native_primitive op)) (Given v ∷ Given w ∷ []) (arithmetic sort.I64 op v w))
+    (λ m e. by_i64 (λ w. Performs (Shows sort.I64) (prim.Int64 (native_primitive op)) (Given (IntVal m) ∷ Given w ∷ []) (arithmetic sort.I64 op (IntVal m) w)) (λ n f. numbers_perform op m n is e f) w l) v k)
+
+-- ---- the other sign
+
+pub negated_is : (a : ℤ) (s : State) → lies_within 63 a ≡ true → negated sort.I64 (IntVal a) s ≡ Gives (IntVal (i64_neg a)) s
+negated_is a s e = ap (λ o. on_to o (λ z. with_number z (negated_as sort.I64))) (native_kept a s e)
+
+negation_performs : (a : ℤ) → lies_within 63 a ≡ true → Performs (Shows sort.I64) (prim.Int64 int64.Negate) (Given (IntVal a) ∷ []) (negated sort.I64 (IntVal a))
+negation_performs a e = record {
+  result = Ok (IntVal (i64_neg a));
+  allowed = tt;
+  effects = λ p w. refl;
+  shown = (refl, (i64_neg a, refl, wrap_within (neg_ℤ a)));
+  does = λ s. negated_is a s e;
+}
+
+pub native_negation_attempts : (b c : Building) (r x : ℕ) → HasType b x rtype.I64 → Adds b c r rtype.I64 (Prim (Some record { 0 = r }) (prim.Int64 int64.Negate) (Var record { 0 = x } ∷ [])) → Attempts (Shows sort.I64) b c r rtype.I64 (ActsOn sort.I64 x (negated sort.I64))
+native_negation_attempts b c r x type a =
+    one_performs sort.I64 sort.I64 (negated sort.I64) b c r x rtype.I64 rtype.I64 (prim.Int64 int64.Negate) type a
+    (λ v k. by_i64 (λ v. Performs (Shows sort.I64) (prim.Int64 int64.Negate) (Given v ∷ []) (negated sort.I64 v)) (λ n e. negation_performs n e) v k)

@@ -1,0 +1,57 @@
+-- The blocks of a function whose ends are all written have their shape.
+use Rattle.std.proofs.Common.{◌≡◌, ℕ, suc, ◌<◌, ◌⊎◌, refl, sym, subst, arith, true, false, List, [], ◌∷◌, ◌++◌, Some, inl, inr, ⊎_elim}
+use Rattle.std.specs.Prelude.{slice_get}
+use Rattle.ir_core.specs.declared.code.Op.{Op}
+use Rattle.ir_core.specs.declared.code.Op.TheVariants.{Turn}
+use Rattle.ir_core.specs.declared.code.Last.{Last}
+use Rattle.ir_core.specs.declared.code.Last.TheVariants.{Goto, If, IfError, Return, Unreachable}
+use Rattle.ir_core.specs.declared.code.Block.{Block}
+use Rattle.ir_core.specs.declared.code.Func.{Func}
+use Rattle.ir_core.specs.Items.{Do, item_in}
+use Rattle.ir_core.specs.Rows.{Declared}
+use Rattle.ir_core.specs.Building.{is_unwritten, is_open_at}
+use Rattle.ir_core.specs.Shape.{IsHigher, LastFits, BlockFits, BlocksFit, FuncFits, BeginsInTurn, FuncsFit}
+use Rattle.ir_core.specs.Shape as shape
+use Rattle.ir_builder_frames.specs.Shaped.{Higher, OpsFit, EndFits, AllFit}
+use Rattle.ir_builder_frames.specs.Kinds.{Head}
+use Rattle.ir_builder_shapes_laws.specs.Built.{IsBuilt}
+
+ops_fit : (low : ℕ) (os : List (Op × ℕ)) → OpsFit low os → shape.OpsFit os
+ops_fit low [] h = tt
+ops_fit low (o ∷ os) h = (h.0.1, ops_fit low os h.1)
+
+higher : (k m t : ℕ) → Higher k m t → IsHigher (suc m) k t
+higher k m t h = (h.0, omega (arith, h.1))
+
+last_fits : (low m k : ℕ) (ops : List (Op × ℕ)) (last : Last) → is_unwritten last ≡ false → EndFits low m k ops last → LastFits (suc m) k ops last
+last_fits low m k ops (Goto t) e h =
+    let some : 0 < t = elim h.0 [ inl lt ↦ omega (arith, lt) | inr behind ↦ omega (arith, behind.0) ] in
+    let leads : (k < t) ⊎ (shape.ends_in_turn ops ≡ true) = ⊎_elim (λ lt. inl lt) (λ behind. inr behind.1) h.0 in
+    (some, omega (arith, h.1), leads)
+last_fits low m k ops (If r a b) e h = (higher k m a h.0, higher k m b h.1)
+last_fits low m k ops (IfError r a b line) e h = (higher k m a h.1, higher k m b h.2)
+last_fits low m k ops (Return r) e h = tt
+last_fits low m k ops Unreachable e h = absurd (cc)
+
+pub blocks_fit : (low m k : ℕ) (bs : List Block) → ((j : ℕ) → is_open_at bs j ≡ false) → AllFit low m k bs → BlocksFit (suc m) k bs
+blocks_fit low m k [] written h = tt
+blocks_fit low m k (b ∷ bs) written h = (
+  record { ops = ops_fit low b.ops h.1; last = last_fits low m k b.ops b.last (written 0) h.0; handler = tt },
+  blocks_fit low m (suc k) bs (λ j. written (suc j)) h.3,
+)
+
+-- ---- functions, and the module's own behind them
+
+pub built_fits : (heads : List Head) (globals : Declared) (f : Func) → IsBuilt heads globals f → FuncFits f
+built_fits heads globals f b =
+    subst (λ n. BlocksFit n 0 f.blocks) (sym b.blocks) (blocks_fit b.low b.highest 0 f.blocks b.written b.fits)
+
+module _ (own : Func) where
+  pub funcs_fit : (fs : List Func) → ((n : ℕ) (f : Func) → slice_get fs n ≡ Some f → FuncFits f) → FuncFits own → FuncsFit (fs ++ own ∷ [])
+  funcs_fit [] each last = (last, tt)
+  funcs_fit (f ∷ fs) each last = (each 0 f refl, funcs_fit fs (λ n g e. each (suc n) g e) last)
+
+  pub turns_begin : (fs : List Func) → ((n : ℕ) (f : Func) → slice_get fs n ≡ Some f → item_in f.blocks 0 0 ≡ Some (Do Turn)) → BeginsInTurn (fs ++ own ∷ [])
+  turns_begin [] each = tt
+  turns_begin (f ∷ []) each = (each 0 f refl, tt)
+  turns_begin (f ∷ g ∷ fs) each = (each 0 f refl, turns_begin (g ∷ fs) (λ n h e. each (suc n) h e))

@@ -1,0 +1,124 @@
+-- Calls find what they name: primitives by the names of their rows, and functions by theirs.
+use Rattle.std.proofs.Common.{◌≡◌, refl, ◌∙◌, ap, subst, ℕ, zero, suc, ◌+◌, arith, true, false, cond, not, List, [], ◌∷◌, length, Some, None}
+use Rattle.std.specs.Prelude.{slice_get, map, nat_lt}
+use Rattle.std.specs.List.{list_any, position, position_or_len}
+use Rattle.std.specs.Str.{bytes_eq}
+use Rattle.std.proofs.lemmas.Bool.{and_parts, not-true, lt-ltb}
+use Rattle.std.proofs.lemmas.Option.{slice_get_within}
+use Rattle.std.proofs.lemmas.Slice.Eq.{bytes_eq-Decides}
+use Rattle.c_core.specs.declared.code.CFunc.{CFunc}
+use Rattle.c_core.specs.declared.primitive.Primitive.{Primitive}
+use Rattle.c_core.specs.declared.primitive.Primitive.TheVariants as prim
+use Rattle.c_core.specs.declared.primitive.Int64Prim.TheVariants as int64
+use Rattle.c_core.specs.declared.primitive.TaggedPrim.TheVariants as tagged
+use Rattle.c_core.specs.declared.primitive.BoolPrim.TheVariants as bool
+use Rattle.c_core.specs.declared.primitive.StrPrim.TheVariants as str
+use Rattle.c_core.specs.declared.primitive.GlobalPrim.TheVariants as global
+use Rattle.c_core.specs.declared.primitive.ExcPrim.TheVariants as exc
+use Rattle.c_core.specs.declared.primitive.ErrPrim.TheVariants as err
+use Rattle.c_core.specs.declared.primitive.IoPrim.TheVariants as io
+use Rattle.c_core.specs.Primitives.{row_of, primitive_named}
+use Rattle.c_core.specs.WellFormed.{names_differ}
+use Rattle.c_core.proofs.NameLemmas.{bytes_eq-sym}
+use Rattle.ir_core.specs.declared.code.Func.{Func}
+use Rattle.ir_core.specs.declared.code.Program.{Program}
+use Rattle.ir_core.specs.Lower.{name_in, lowered_as, lowered_from, lower}
+use Rattle.ir_builder_shapes_laws.proofs.NameLemmas.{other_at}
+
+-- ---- primitives
+
+pub primitive_found : (q : Primitive) → primitive_named (row_of q).name ≡ Some q
+primitive_found (prim.Int64 int64.Add) = refl
+primitive_found (prim.Int64 int64.Subtract) = refl
+primitive_found (prim.Int64 int64.Multiply) = refl
+primitive_found (prim.Int64 int64.Negate) = refl
+primitive_found (prim.Int64 int64.FromBool) = refl
+primitive_found (prim.Int64 int64.Eq) = refl
+primitive_found (prim.Int64 int64.Lt) = refl
+primitive_found (prim.Int64 int64.Le) = refl
+primitive_found (prim.Int64 int64.Str) = refl
+primitive_found (prim.Bool bool.Not) = refl
+primitive_found (prim.Bool bool.Str) = refl
+primitive_found (prim.Str str.Literal) = refl
+primitive_found (prim.Int64 int64.FloorDivide) = refl
+primitive_found (prim.Int64 int64.Remainder) = refl
+primitive_found (prim.Int64 int64.Lshift) = refl
+primitive_found (prim.Int64 int64.Rshift) = refl
+primitive_found (prim.Global global.Get) = refl
+primitive_found (prim.Global global.Set) = refl
+primitive_found (prim.Global global.Clear) = refl
+primitive_found (prim.Exc exc.New) = refl
+primitive_found (prim.Exc exc.Str) = refl
+primitive_found (prim.Err err.SetObject) = refl
+primitive_found (prim.Err err.Unbound) = refl
+primitive_found (prim.Err err.Occurred) = refl
+primitive_found (prim.Err err.Matches) = refl
+primitive_found (prim.Err err.Catch) = refl
+primitive_found (prim.Io io.Write) = refl
+primitive_found (prim.Tagged tagged.Add) = refl
+primitive_found (prim.Tagged tagged.Subtract) = refl
+primitive_found (prim.Tagged tagged.Multiply) = refl
+primitive_found (prim.Tagged tagged.Negate) = refl
+primitive_found (prim.Tagged tagged.FloorDivide) = refl
+primitive_found (prim.Tagged tagged.Remainder) = refl
+primitive_found (prim.Tagged tagged.Lshift) = refl
+primitive_found (prim.Tagged tagged.Rshift) = refl
+primitive_found (prim.Tagged tagged.FromText) = refl
+primitive_found (prim.Tagged tagged.FromInt64) = refl
+primitive_found (prim.Tagged tagged.FromBool) = refl
+primitive_found (prim.Tagged tagged.AsInt64) = refl
+primitive_found (prim.Tagged tagged.Eq) = refl
+primitive_found (prim.Tagged tagged.Lt) = refl
+primitive_found (prim.Tagged tagged.Le) = refl
+primitive_found (prim.Tagged tagged.Str) = refl
+primitive_found (prim.Str str.Concat) = refl
+primitive_found (prim.Str str.Eq) = refl
+primitive_found (prim.Str str.Lt) = refl
+primitive_found (prim.Str str.Le) = refl
+primitive_found (prim.Str str.Len) = refl
+primitive_found (prim.Str str.GetItem) = refl
+primitive_found (prim.Io io.Input) = refl
+
+-- ---- functions
+
+-- the place of the first function of a name
+place_is : (fs : List CFunc) (n : ℕ) (g : CFunc) → names_differ (map (λ (k : CFunc). k.name) fs) ≡ true → slice_get fs n ≡ Some g → position_or_len (λ (k : CFunc). bytes_eq g.name k.name) fs ≡ n
+place_is [] n g differ e = let f : None ≡ Some g = e in absurd (cc)
+place_is (x ∷ fs) zero g differ e =
+    let f : Some x ≡ Some g = e in
+    let same : g ≡ x = cc in
+    let found : bytes_eq g.name x.name ≡ true = (bytes_eq-Decides g.name x.name).1 (ap (λ (k : CFunc). k.name) same) in
+    ap (λ c. cond (not c) (1 + position_or_len (λ (k : CFunc). bytes_eq g.name k.name) fs) 0) found
+place_is (x ∷ fs) (suc n) g differ e =
+    let parts = and_parts (not (list_any (bytes_eq x.name) (map (λ (k : CFunc). k.name) fs))) (names_differ (map (λ (k : CFunc). k.name) fs)) differ in
+    let other : bytes_eq g.name x.name ≡ false = bytes_eq-sym g.name x.name ∙ other_at (λ (k : CFunc). k.name) x.name fs n g (not-true (list_any (bytes_eq x.name) (map (λ (k : CFunc). k.name) fs)) parts.0) e in
+    ap (λ c. cond (not c) (1 + position_or_len (λ (k : CFunc). bytes_eq g.name k.name) fs) 0) other
+    ∙ (ap (λ z. 1 + z) (place_is fs n g parts.1 e) ∙ omega arith)
+
+number_of_own : (fs : List CFunc) (n : ℕ) (g : CFunc) → names_differ (map (λ (k : CFunc). k.name) fs) ≡ true → slice_get fs n ≡ Some g → position (λ (k : CFunc). bytes_eq g.name k.name) fs ≡ Some n
+number_of_own fs n g differ e =
+    ap (λ i. cond (nat_lt i (length fs)) (Some i) None) (place_is fs n g differ e)
+    ∙ ap (λ c. cond c (Some n) None) (lt-ltb n (length fs) (slice_get_within fs n g e))
+
+-- a function is found by its name, since no other one has it
+pub number_is : (fs : List CFunc) (name : List ℕ) (n : ℕ) (g : CFunc) → names_differ (map (λ (k : CFunc). k.name) fs) ≡ true → slice_get fs n ≡ Some g → g.name ≡ name → position (λ (k : CFunc). bytes_eq name k.name) fs ≡ Some n
+number_is fs name n g differ e named =
+    subst (λ z. position (λ (k : CFunc). bytes_eq z k.name) fs ≡ Some n) named (number_of_own fs n g differ e)
+
+module _ (p : Program) where
+  function_behind : (i n : ℕ) (fs : List Func) (f : Func) → slice_get fs n ≡ Some f → slice_get (lowered_from p i fs) n ≡ Some (lowered_as p (name_in p (i + n) f) f)
+  function_behind i n [] f e = let g : None ≡ Some f = e in absurd (cc)
+  function_behind i zero (x ∷ fs) f e =
+      let g : Some x ≡ Some f = e in
+      let same : x ≡ f = cc in
+      let here : i ≡ i + 0 = omega arith in
+      ap (λ (y : Func). Some (lowered_as p (name_in p i y) y)) same ∙ ap (λ k. Some (lowered_as p (name_in p k f) f)) here
+  function_behind i (suc n) (x ∷ fs) f e =
+      let next : suc i + n ≡ i + suc n = omega arith in
+      function_behind (suc i) n fs f e ∙ ap (λ k. Some (lowered_as p (name_in p k f) f)) next
+
+  -- the code of a function has its number
+  pub function_at : (n : ℕ) (f : Func) → slice_get p.funcs n ≡ Some f → slice_get (lower p).funcs n ≡ Some (lowered_as p (name_in p n f) f)
+  function_at n f e =
+      let same : 0 + n ≡ n = omega arith in
+      function_behind 0 n p.funcs f e ∙ ap (λ k. Some (lowered_as p (name_in p k f) f)) same

@@ -1,0 +1,61 @@
+-- A program as it is built: its functions are made among one another, and the module's own comes last.
+use Rattle.std.specs.Prelude.{◌≡◌, ℕ, suc, ◌^◌, ◌<◌, ◌≤◌, true, false, List, [], ◌∷◌, ◌++◌, length, map, take, Some, slice_get}
+use Rattle.std.specs.List.{list_all}
+use Rattle.c_core.specs.WellFormed.{is_identifier, names_differ}
+use Rattle.ir_core.specs.declared.code.RType.TheVariants.{Bool}
+use Rattle.ir_core.specs.declared.code.Op.TheVariants.{Turn}
+use Rattle.ir_core.specs.declared.code.Func.{Func}
+use Rattle.ir_core.specs.declared.code.Program.{Program}
+use Rattle.ir_core.specs.Items.{Do, item_in}
+use Rattle.ir_core.specs.Rows.{Declared}
+use Rattle.ir_core.specs.Building.{Building, is_open_at}
+use Rattle.ir_builder_frames.specs.Shaped.{AllFit}
+use Rattle.ir_builder_frames.specs.Kinds.{Head, Surrounding, HasKinds}
+use Rattle.ir_builder_frames.specs.Naming.{names_of}
+
+-- what a function takes and gives
+abbrev pub head_of_code : Func → Head
+head_of_code f = record { params = map (λ d. d.1) (take f.params f.regs); ret = f.ret }
+
+-- the function as its builder left it
+abbrev pub building_of : Func → Building
+building_of f = record { name = f.name; regs = f.regs; blocks = f.blocks; ops = [] }
+
+pub record IsBuilt (heads : List Head) (globals : Declared) (f : Func) : Type 0 where
+  pub among : Surrounding
+  pub heads_are : among.heads ≡ heads
+  pub globals_are : among.globals ≡ globals
+  pub ret : f.ret ≡ among.ret
+  pub params : f.params ≤ among.variables
+  pub kinds : HasKinds among (building_of f)
+  -- the highest block; the registers below `low` are variables and flags
+  pub low : ℕ
+  pub highest : ℕ
+  pub blocks : length f.blocks ≡ suc highest
+  pub fits : AllFit low highest 0 f.blocks
+  pub written : (k : ℕ) → is_open_at f.blocks k ≡ false
+  pub few : length f.blocks < 2 ^ 64
+  pub differ : names_differ (names_of f.regs) ≡ true
+  pub identifiers : list_all is_identifier (names_of (take among.variables f.regs)) ≡ true
+
+-- a function of the module begins with a turn
+pub record IsFunction (heads : List Head) (globals : Declared) (f : Func) : Type 0 where
+  pub built : IsBuilt heads globals f
+  pub turn : item_in f.blocks 0 0 ≡ Some (Do Turn)
+  pub name : is_identifier f.name ≡ true
+
+pub record IsOwn (heads : List Head) (globals : Declared) (f : Func) : Type 0 where
+  pub built : IsBuilt heads globals f
+  pub params : f.params ≡ 0
+  pub ret : f.ret ≡ Bool
+
+pub record IsProgram (p : Program) : Type 0 where
+  pub functions : List Func
+  pub own : Func
+  pub are : p.funcs ≡ functions ++ own ∷ []
+  pub each : (n : ℕ) (f : Func) → slice_get functions n ≡ Some f → IsFunction (map head_of_code functions) p.globals f
+  pub own_built : IsOwn (map head_of_code functions) p.globals own
+  pub differ : names_differ (map (λ (f : Func). f.name) functions) ≡ true
+  pub classes : p.classes ≡ []
+  pub globals : list_all is_identifier (names_of p.globals) ≡ true
+  pub globals_differ : names_differ (names_of p.globals) ≡ true

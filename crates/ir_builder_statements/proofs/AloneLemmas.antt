@@ -1,0 +1,67 @@
+-- Expressions alone, and `print`, do in their code what they mean.
+use Rattle.std.proofs.Common.{◌≡◌, ℕ, true, List, [], ◌∷◌, map, Option, None, refl, sym, ap, ◌∙◌}
+use Rattle.std.specs.List.{list_all}
+use Rattle.py_typed.specs.declared.expression.TExpr.{TExpr}
+use Rattle.py_typed.specs.declared.expression.TKind as kind
+use Rattle.py_typed.specs.Sorts as sort
+use Rattle.py_typed.specs.Sorts.{Sort, sort as sort_of}
+use Rattle.py_typed.specs.Expressions as tree
+use Rattle.py_typed.specs.Expressions.{TypedExpr, typed, typed_expr, type_of, exprs_of}
+use Rattle.py_typed.specs.Statements.{Variable, TypedModule}
+use Rattle.py_typed.specs.Operations.{line_of}
+use Rattle.py_typed.proofs.ExpressionLemmas.{typed_expr_of, typed_node-Print}
+use Rattle.ir_core.specs.declared.code.Reg.{Reg}
+use Rattle.ir_core.specs.Building.{Building}
+use Rattle.ir_builder_frames.specs.Settings.{Setting, rtype_of}
+use Rattle.ir_builder_frames.specs.Matching.{HasRoom}
+use Rattle.ir_builder_frames.specs.Computing.{Shows}
+use Rattle.ir_builder_operations.specs.Operating.{is_written}
+use Rattle.ir_builder_expressions.specs.Parts.{is_simple}
+use Rattle.ir_builder_expressions.specs.Suiting.{ArgumentsSuit, SomeSuit}
+use Rattle.ir_builder_expressions.specs.Emitting.{Emits, EmitsAll, means_all}
+use Rattle.ir_builder_loops_and_jumps.specs.Means.{means, means_alone}
+use Rattle.ir_builder_loops_and_jumps.specs.Printing.{Writes, printed}
+use Rattle.ir_builder_loops_and_jumps.specs.Runs.{Works}
+use Rattle.ir_builder_loops_and_jumps.proofs.SimpleLemmas.{alone_works}
+use Rattle.ir_builder_loops_and_jumps.proofs.PrintLemmas.{print_works}
+use Rattle.ir_builder_loops_and_jumps.proofs.EmitLemmas.{works_of}
+use Rattle.ir_builder_statements.specs.Suiting.{PrintSuits}
+
+-- ---- `print`
+
+simple_written : (t : Sort) → is_simple t ≡ true → is_written t ≡ true
+simple_written sort.Int h = refl
+simple_written sort.I64 h = refl
+simple_written sort.Bool h = refl
+simple_written sort.Str h = refl
+simple_written _ h = absurd (cc)
+
+module _ (m : TypedModule) (vs : List Variable) where
+  -- each value is an argument of its own type
+  values_suit : (es : List TypedExpr) → PrintSuits m vs None (exprs_of es) → ArgumentsSuit m vs (map type_of es) (exprs_of es)
+  values_suit [] h = tt
+  values_suit (e ∷ es) h = (refl, h.1, values_suit es h.2)
+
+  pub printed_suit : (es : List TypedExpr) → PrintSuits m vs None (exprs_of es) → SomeSuit m vs es
+  printed_suit es h = (map type_of es, values_suit es h)
+
+  pub printed_texts : (es : List TypedExpr) → PrintSuits m vs None (exprs_of es) → list_all is_written (map type_of es) ≡ true
+  printed_texts [] h = refl
+  printed_texts (e ∷ es) h =
+      let one = simple_written (type_of e) h.0 in
+      let more = printed_texts es h.2 in
+      rw (one, more) refl
+
+pub printing_code : (x : Setting) (es : List TExpr) (b0 b1 b2 : Building) (rs : List Reg) → PrintSuits x.source x.variables None (exprs_of (map typed_expr es)) → HasRoom x b0 → EmitsAll x (map type_of (map typed_expr es)) (exprs_of (map typed_expr es)) b0 b1 rs → Writes (map type_of (map typed_expr es)) rs b1 b2 line_of → (gives : Option Sort) → Works x gives (printed (means_all x (exprs_of (map typed_expr es)))) b0 b2 []
+printing_code x es b0 b1 b2 rs suits room c w gives =
+    print_works x gives (map type_of (map typed_expr es)) (means_all x (exprs_of (map typed_expr es))) b0 b1 b2 rs room (printed_texts x.source x.variables (map typed_expr es) suits) c w
+
+-- ---- an expression alone
+
+pub print_alone : (x : Setting) (e : TExpr) (es all : List TExpr) (b0 b1 : Building) → e.kind ≡ kind.Print all → es ≡ all → ((gives : Option Sort) → Works x gives (printed (means_all x (exprs_of (map typed_expr es)))) b0 b1 []) → (gives : Option Sort) → Works x gives (means_alone x (typed_expr e)) b0 b1 []
+print_alone x e es all b0 b1 is same w gives =
+    let print_is : typed_expr e ≡ typed (tree.Print (exprs_of (map typed_expr es))) (sort_of e.ty) e.span = typed_expr_of e (kind.Print all) is ∙ ap (λ z. typed z (sort_of e.ty) e.span) (typed_node-Print all ∙ ap (λ l. tree.Print (exprs_of (map typed_expr l))) (sym same)) in
+    works_of x gives (means_alone x (typed_expr e)) (printed (means_all x (exprs_of (map typed_expr es)))) b0 b1 [] (λ n s. ap (λ t. means_alone x t n s) print_is) (w gives)
+
+pub value_alone : (x : Setting) (e : TypedExpr) (b0 b1 : Building) (r : ℕ) → HasRoom x b0 → Emits x e b0 b1 r → (gives : Option Sort) → Works x gives (means_alone x e) b0 b1 []
+value_alone x e b0 b1 r room q gives = alone_works x gives (Shows (type_of e)) (rtype_of (type_of e)) (means x e) b0 b1 r room q

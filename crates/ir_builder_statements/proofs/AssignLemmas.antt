@@ -1,0 +1,290 @@
+-- Assignments to a variable, and updates of one, do in their code what they mean.
+use Rattle.std.proofs.Common.{◌≡◌, ℕ, ◌<◌, true, List, [], ◌∷◌, length, map, get_or, Option, Some, None, refl, sym, ap, ◌∙◌, subst, arith, inl, inr}
+use Rattle.std.specs.Prelude.{slice_get, slice_set, nat_lt, if◌then◌else◌}
+use Rattle.std.proofs.lemmas.Bool.Decides.{nat_tests}
+use Rattle.value_core.specs.Value.{Value}
+use Rattle.py_syntax.specs.declared.token.Span.{Span}
+use Rattle.py_syntax.specs.declared.expression.BinOp.{BinOp}
+use Rattle.py_typed.specs.declared.statement.Target.{Target}
+use Rattle.py_typed.specs.declared.types.Ty.{Ty, fold-roll-Ty}
+use Rattle.py_typed.specs.declared.types.Ty.TheVariants as declared
+use Rattle.py_typed.specs.declared.types.Ty.TheOpen.{Ty-F}
+use Rattle.py_typed.specs.Sorts as sort
+use Rattle.py_typed.specs.Sorts.{Sort, sort_step, sort as sort_of}
+use Rattle.py_typed.specs.Classes.{ClassEntry}
+use Rattle.py_typed.specs.Fits.{fits}
+use Rattle.py_typed.specs.Expressions.{TypedExpr, type_of}
+use Rattle.py_typed.specs.Statements.{Variable, TypedModule, TypedTarget, LocalTarget, GlobalTarget, AttrTarget, ItemTarget, typed_target}
+use Rattle.py_typed.specs.State.{State, Outcome, Gives, Raises, Stops, Does, Calls, on_to, needs, put_local, set_local, give}
+use Rattle.py_typed.specs.Operations.{coerced, combined}
+use Rattle.py_typed.specs.StatementMeaning.{sort_at, target_sort, bind, assign, unpack, update, changed}
+use Rattle.py_typed.specs.SourceRun.{call_of}
+use Rattle.py_typed.specs.WaysOut.{Flow, Goes}
+use Rattle.py_typed.proofs.FitLemmas.{fits_itself}
+use Rattle.ir_core.specs.declared.code.Reg.{Reg}
+use Rattle.ir_core.specs.Registers.{Regs}
+use Rattle.ir_core.specs.Building.{Building, Extends}
+use Rattle.ir_builder_frames.specs.Settings.{Setting, rtype_of}
+use Rattle.ir_builder_frames.specs.Placing.{HasType}
+use Rattle.ir_builder_frames.specs.Matching.{HasKind, Matches, HasRoom}
+use Rattle.ir_builder_frames.specs.Computing.{Shows, Meaning, Computes, Attempts}
+use Rattle.ir_builder_frames.proofs.GlobalLemmas.{set_gives}
+use Rattle.ir_builder_frames.proofs.MatchLemmas.{room_on, computes_of}
+use Rattle.ir_builder_operations.specs.Operating.{is_numeric, is_whole, ActsOn}
+use Rattle.ir_builder_operations.proofs.PartLemmas.{stays}
+use Rattle.ir_builder_expressions.specs.declared.applying.Binary.{Binary}
+use Rattle.ir_builder_expressions.specs.declared.applying.Binary.TheVariants.{Arithmetic}
+use Rattle.ir_builder_expressions.specs.Parts.{is_simple}
+use Rattle.ir_builder_expressions.specs.Applying.{binary_goes, BinarySuits}
+use Rattle.ir_builder_expressions.specs.Suiting.{Suits}
+use Rattle.ir_builder_expressions.specs.Emitting.{Emits, EmitsTwo}
+use Rattle.ir_builder_expressions.proofs.ValueLemmas.{number_coerced}
+use Rattle.ir_builder_expressions.proofs.FollowLemmas.{part_attempts}
+use Rattle.ir_builder_loops_and_jumps.specs.Means.{means, means_assignment, means_update}
+use Rattle.ir_builder_loops_and_jumps.specs.Runs.{Works}
+use Rattle.ir_builder_loops_and_jumps.specs.Simple.{with_value}
+use Rattle.ir_builder_loops_and_jumps.proofs.SimpleLemmas.{get_below, set_works}
+use Rattle.ir_builder_loops_and_jumps.proofs.EmitLemmas.{works_of}
+use Rattle.ir_builder_statements.specs.Suiting.{IsVariable, IsOnly, UpdateSuits, VariableUpdates}
+use Rattle.ir_builder_statements.specs.Parts.{TakesRegister, SetsVariable, reading_of, update_binary, TurnsInto, ComputesAs}
+
+-- ---- what assignment means
+
+coerced_itself : (t : Sort) (v : Value) (s : State) → HasKind t v → coerced t v s ≡ Gives v s
+coerced_itself sort.I64 v s k =
+    ap (λ z. coerced sort.I64 z s) k.1 ∙ number_coerced k.0 s k.2 ∙ ap (λ z. Gives z s) (sym k.1)
+coerced_itself sort.Int v s k = ap (λ z. coerced sort.Int z s) k.1 ∙ ap (λ z. Gives z s) (sym k.1)
+coerced_itself sort.Str v s k = refl
+coerced_itself sort.Bool v s k = refl
+coerced_itself sort.Nothing v s k = refl
+coerced_itself _ v s k = absurd k
+
+put_there : (s : State) (k : ℕ) (v : Value) → k < length s.locals → set_local k (Some v) s ≡ Gives tt (record s { locals = slice_set s.locals k (Some v) })
+put_there s k v lt =
+    let e : nat_lt k (length s.locals) ≡ true = grind (arith, nat_tests) in ap (λ b. needs b (put_local k (Some v)) s) e
+
+sort_is : (locals : List Variable) (k : ℕ) (v0 : Variable) (t : Sort) → slice_get locals k ≡ Some v0 → v0.1 ≡ t → sort_at locals k ≡ t
+sort_is locals k v0 t var same = rw var same
+
+module _ (x : Setting) (n : ℕ) where
+  abbrev classes : List ClassEntry
+  classes = x.source.classes.classes
+
+  abbrev call : Calls
+  call = call_of x.source n
+
+  -- a value is put into a variable
+  abbrev putting : TypedTarget → Value → Does (Unit {0})
+  putting = assign classes call x.source.globals x.variables
+
+  abbrev target_type : TypedTarget → Sort
+  target_type = target_sort classes call x.source.globals x.variables
+
+  abbrev Is : TypedTarget → Sort → Type 0
+  Is = IsVariable x.source x.variables None
+
+  type_is : (target : TypedTarget) (t : Sort) → Is target t → target_type target ≡ t
+  type_is (LocalTarget k) t v = sort_is x.variables k v.0 t v.1 v.2
+  type_is (GlobalTarget i) t v = sort_is x.source.globals i v.0 t v.1 v.2
+  type_is (AttrTarget e name) t v = absurd v
+  type_is (ItemTarget e i) t v = absurd v
+
+  assigned : (target : TypedTarget) (t : Sort) (regs : Regs) (s : State) (w : Value) → Is target t → Matches x regs s → putting target w s ≡ Gives tt (with_value target w s)
+  assigned (LocalTarget k) t regs s w v m = let o = m.each k v.0 v.1 in put_there s k w (get_below s.locals k o.0 o.1)
+  assigned (GlobalTarget i) t regs s w v m = let o = m.globals.each i v.0 v.1 in set_gives i w s o.0 o.1
+  assigned (AttrTarget e name) t regs s w v m = absurd v
+  assigned (ItemTarget e i) t regs s w v m = absurd v
+
+  -- as one of the variable's type, which it is
+  taken : (target : TypedTarget) (t : Sort) (regs : Regs) (s : State) (w : Value) → Is target t → Matches x regs s → HasKind t w → on_to (coerced (target_type target) w s) (putting target) ≡ Gives tt (with_value target w s)
+  taken target t regs s w v m kind =
+      ap (λ z. on_to (coerced z w s) (putting target)) (type_is target t v)
+      ∙ ap (λ o. on_to o (putting target)) (coerced_itself t w s kind)
+      ∙ assigned target t regs s w v m
+
+  bound : (target : TypedTarget) (t : Sort) (regs : Regs) (s : State) (w : Value) → Is target t → Matches x regs s → HasKind t w → bind classes call x.source.globals x.variables (target ∷ []) t w s ≡ Gives tt (with_value target w s)
+  bound target t regs s w v m kind =
+      let one : Does (Unit {0}) = λ u. on_to (coerced (target_type target) w u) (putting target) in
+      let other : Does (Unit {0}) = unpack classes call x.source.globals x.variables (target ∷ []) w in
+      ap (λ z. (if fits classes t z then one else other) s) (type_is target t v)
+      ∙ ap (λ b. (if b then one else other) s) (fits_itself classes t)
+      ∙ taken target t regs s w v m kind
+
+-- ---- assignment
+
+-- the target that stands alone
+pub only_target : (x : Setting) (targets : List Target) (target : Target) (t : Sort) → target ≡ get_or targets 0 target → IsOnly x.source x.variables None (map typed_target targets) t → (map typed_target targets ≡ typed_target target ∷ []) × IsVariable x.source x.variables None (typed_target target) t
+only_target x [] target t is only = absurd only
+only_target x (u ∷ []) target t is only =
+    let P : Target → Type 0 = λ z. IsVariable x.source x.variables None (typed_target z) t in
+    (ap (λ z. typed_target z ∷ []) (sym is), subst P (sym is) only)
+only_target x (u ∷ w ∷ targets) target t is only = absurd only
+
+pub assignment_code : (x : Setting) (targets : List Target) (target : Target) (e : TypedExpr) (b0 b1 b2 : Building) (r : Reg) → target ≡ get_or targets 0 target → IsOnly x.source x.variables None (map typed_target targets) (type_of e) → HasRoom x b0 → Emits x e b0 b1 r.0 → SetsVariable x.source x.frame (typed_target target) r.0 b1 b2 → (gives : Option Sort) → Works x gives (means_assignment x (map typed_target targets) e) b0 b2 []
+assignment_code x targets target e b0 b1 b2 r is only room cx q gives =
+    let t = type_of e in
+    let one = only_target x targets target t is only in
+    let sets = q x.variables t (room_on x b0 b1 cx.extends room) one.1 cx.type in
+    let P : List TypedTarget → Type 0 = λ z. Works x gives (means_assignment x z e) b0 b2 [] in
+    let go : ℕ → Value → Does Flow = λ n w s. on_to (bind (classes x n) (call x n) x.source.globals x.variables (typed_target target ∷ []) t w s) (λ u. give Goes) in
+    subst P (sym one.0)
+    (set_works x gives (means x e) t (typed_target target) r.0 go b0 b1 b2 room cx sets
+    (λ n w s regs match kind. ap (λ o. on_to o (λ u. give Goes)) (bound x n (typed_target target) t regs s w one.1 match kind)))
+
+-- the register of the value has the variable's type
+pub assignment_takes : (x : Setting) (targets : List Target) (target : Target) (e : TypedExpr) (b0 b1 : Building) (r : ℕ) → is_simple (type_of e) ≡ true → target ≡ get_or targets 0 target → IsOnly x.source x.variables None (map typed_target targets) (type_of e) → HasRoom x b0 → Emits x e b0 b1 r → TakesRegister x.source x.frame (typed_target target) r b1
+assignment_takes x targets target e b0 b1 r scalar is only room cx =
+    (x.variables, type_of e, room_on x b0 b1 cx.extends room, (only_target x targets target (type_of e) is only).1, scalar, cx.type)
+
+-- ---- updates
+
+from_operand : (m : Outcome Value) (a : Value → Does Value) (c : Value → Does Value) (g : Value → Does (Unit {0})) (h : Unit {0} → Does Flow) → on_to (on_to (on_to m (λ y s. on_to (a y s) c)) g) h ≡ on_to (on_to (on_to m a) c) (λ v s. on_to (g v s) h)
+from_operand (Gives y s) a c g h = from_result (on_to (a y s) c) g h
+  where
+    from_result : (r : Outcome Value) (g : Value → Does (Unit {0})) (h : Unit {0} → Does Flow) → on_to (on_to r g) h ≡ on_to r (λ v s. on_to (g v s) h)
+    from_result (Gives v s) g h = refl
+    from_result (Raises v s) g h = refl
+    from_result (Stops w s) g h = refl
+from_operand (Raises v s) a c g h = refl
+from_operand (Stops w s) a c g h = refl
+
+from_read : (r : Outcome Value) (m : Does Value) (a : Value → Value → Does Value) (c : Value → Does Value) (g : Value → Does (Unit {0})) (h : Unit {0} → Does Flow) → on_to (on_to (on_to r (λ u s. on_to (m s) (λ y z. on_to (a u y z) c))) g) h ≡ on_to (on_to (on_to r (λ u s. on_to (m s) (a u))) c) (λ v s. on_to (g v s) h)
+from_read (Gives u s) m a c g h = from_operand (m s) (a u) c g h
+from_read (Raises v s) m a c g h = refl
+from_read (Stops w s) m a c g h = refl
+
+-- what an update of a variable means, where it is read as an expression
+abbrev pub Reads : Setting → TypedTarget → TypedExpr → Type 0
+Reads x target before =
+    (n : ℕ) (f : Value → Does Value) (s : State) → update x.source.classes.classes (call_of x.source n) x.source.globals x.variables target f s ≡ on_to (on_to (means x before n s) f) (assign x.source.classes.classes (call_of x.source n) x.source.globals x.variables target)
+
+reads_so : (x : Setting) (target : TypedTarget) (t : Sort) (place : Span) → IsVariable x.source x.variables None target t → Reads x target (reading_of target t place)
+reads_so x (LocalTarget k) t place v n f s = refl
+reads_so x (GlobalTarget i) t place v n f s = refl
+reads_so x (AttrTarget a name) t place v n f s = absurd v
+reads_so x (ItemTarget a i) t place v n f s = absurd v
+
+whole_simple : (t : Sort) → is_whole t ≡ true → is_simple t ≡ true
+whole_simple sort.Int k = refl
+whole_simple sort.I64 k = refl
+whole_simple _ k = absurd (cc)
+
+whole_numeric : (t : Sort) → is_whole t ≡ true → is_numeric t ≡ true
+whole_numeric sort.Int k = refl
+whole_numeric sort.I64 k = refl
+whole_numeric _ k = absurd (cc)
+
+declared_text : (ty : Ty) → ty ≡ declared.Str → sort_of ty ≡ sort.Str
+declared_text ty is = ap sort_of is ∙ ap sort_of (sym declared.rolls-Str) ∙ fold-roll-Ty Sort sort_step Ty-F.Str
+
+-- a text is in its register already
+stays_text : (b : Building) (r : ℕ) (t u : Sort) → u ≡ sort.Str → TurnsInto t u → HasType b r (rtype_of t) → Attempts (Shows u) b b r (rtype_of u) (ActsOn t r (coerced u))
+stays_text b r t u text (inl h) type = absurd (let f : is_whole sort.Str ≡ true = subst (λ z. is_whole z ≡ true) text h.1 in cc)
+stays_text b r t u text (inr h) type =
+    let P : Sort → Type 0 = λ z. Attempts (Shows z) b b r (rtype_of z) (ActsOn t r (coerced z)) in
+    let Q : Sort → Type 0 = λ z. HasType b r (rtype_of z) → Attempts (Shows sort.Str) b b r (rtype_of sort.Str) (ActsOn z r (coerced sort.Str)) in
+    subst P (sym h.1) (subst Q (sym h.0) (λ has. stays sort.Str (coerced sort.Str) b r (rtype_of sort.Str) has (λ v s kind. refl)) type)
+
+pub text_stays : (b : Building) (r : ℕ) (t : Sort) (own : Ty) → own ≡ declared.Str → TurnsInto t (sort_of own) → HasType b r (rtype_of t) → Attempts (Shows (sort_of own)) b b r (rtype_of (sort_of own)) (ActsOn t r (coerced (sort_of own)))
+text_stays b r t own is = stays_text b r t (sort_of own) (declared_text own is)
+
+module _ (m : TypedModule) (vs : List Variable) where
+  -- a variable has one type
+  one_found : (o : Option Variable) (t u : Sort) → (v : Variable) × (o ≡ Some v) × (v.1 ≡ t) → (v : Variable) × (o ≡ Some v) × (v.1 ≡ u) → t ≡ u
+  one_found o t u v w = let e : Some v.0 ≡ Some w.0 = sym v.1 ∙ w.1 in let same : v.0 ≡ w.0 = cc in sym v.2 ∙ ap (λ (z : Variable). z.1) same ∙ w.2
+
+  one_sort : (target : TypedTarget) (t u : Sort) → IsVariable m vs None target t → IsVariable m vs None target u → t ≡ u
+  one_sort (LocalTarget k) t u v w = one_found (slice_get vs k) t u v w
+  one_sort (GlobalTarget i) t u v w = one_found (slice_get m.globals i) t u v w
+  one_sort (AttrTarget e name) t u v w = absurd v
+  one_sort (ItemTarget e i) t u v w = absurd v
+
+  -- so an update suits the type that was found
+  pub own_suits : (target : TypedTarget) (op : BinOp) (own t w : Sort) → IsVariable m vs None target own → VariableUpdates m vs None target op t w → UpdateSuits m vs None op own t w
+  own_suits target op own t w is updates =
+      subst (λ z. UpdateSuits m vs None op z t w) (one_sort target updates.0 own updates.1 is) updates.2
+
+  -- the type of what is updated
+  pub updated_simple : (op : BinOp) (u t w : Sort) → UpdateSuits m vs None op u t w → is_simple u ≡ true
+  updated_simple op u t w (inl h) = whole_simple u h.0
+  updated_simple op u t w (inr h) = ap is_simple h.1.1
+
+  -- the result becomes one of it
+  pub update_turns : (op : BinOp) (u t w : Sort) → UpdateSuits m vs None op u t w → TurnsInto t u
+  update_turns op u t w (inl h) = inl (whole_numeric t h.1.0, h.0)
+  update_turns op u t w (inr h) = inr (h.1.0, h.1.1)
+
+  -- its operation suits
+  pub update_fits : (op : BinOp) (u t w : Sort) → UpdateSuits m vs None op u t w → BinarySuits (update_binary op t) t u w
+  update_fits op u t w (inl h) = by_number t h.1
+    where
+      by_number : (t : Sort) → BinarySuits (Arithmetic op) t u w → BinarySuits (update_binary op t) t u w
+      by_number sort.Int k = k
+      by_number sort.I64 k = k
+      by_number _ k = absurd (let f = k.0 in cc)
+  update_fits op u t w (inr h) = let P : Sort → Type 0 = λ z. BinarySuits (update_binary op z) z u w in subst P (sym h.1.0) (refl, h.1.1, h.1.2)
+
+  -- and does what the update does with the two values
+  update_goes : (op : BinOp) (u t w : Sort) → UpdateSuits m vs None op u t w → (v y : Value) → combined t op v y ≡ binary_goes (update_binary op t) t v y
+  update_goes op u t w (inl h) v y = by_number t h.1.0
+    where
+      by_number : (t : Sort) → is_whole t ≡ true → combined t op v y ≡ binary_goes (update_binary op t) t v y
+      by_number sort.Int k = refl
+      by_number sort.I64 k = refl
+      by_number _ k = absurd (cc)
+  update_goes op u t w (inr h) v y =
+      let P : Sort → Type 0 = λ z. combined z op v y ≡ binary_goes (update_binary op z) z v y in
+      let Q : BinOp → Type 0 = λ z. combined sort.Str z v y ≡ binary_goes (update_binary z sort.Str) sort.Str v y in
+      subst P (sym h.1.0) (subst Q (sym h.0) refl)
+
+  -- a variable that is read suits
+  pub reading_suits : (target : TypedTarget) (t : Sort) (place : Span) → is_simple t ≡ true → IsVariable m vs None target t → Suits m vs (reading_of target t place)
+  reading_suits (LocalTarget k) t place simple v = (simple, v.0, v.1, v.2)
+  reading_suits (GlobalTarget i) t place simple v = (simple, v.0, v.1, v.2)
+  reading_suits (AttrTarget a name) t place simple v = absurd v
+  reading_suits (ItemTarget a i) t place simple v = absurd v
+
+-- the result of an operation is turned into a value of another type
+pub result_turned : (x : Setting) (op : Binary) (t u : Sort) (a e : TypedExpr) (b0 b1 b2 : Building) (q r : ℕ) → HasRoom x b0 → EmitsTwo x op t a e b0 b1 q → Attempts (Shows u) b1 b2 r (rtype_of u) (ActsOn t q (coerced u)) → ComputesAs x op t u a e b0 b2 r
+result_turned x op t u a e b0 b1 b2 q r room two turned =
+    part_attempts x (Shows t) (Shows u) (rtype_of t) (rtype_of u) _ (coerced u) (ActsOn t q (coerced u)) b0 b1 b2 q r room two turned
+    (λ v s regs k. record { v = v; shows = k; does = refl })
+
+-- a variable of a type is read, the operation is done in a second one, and its result put into the variable
+module _ (x : Setting) (target : TypedTarget) (op : BinOp) (own t : Sort) (before e : TypedExpr) (place : Span) (is : before ≡ reading_of target own place) (variable : IsVariable x.source x.variables None target own) (suits : UpdateSuits x.source x.variables None op own t (type_of e)) where
+  -- the result of the operation
+  abbrev result : Meaning Value
+  result n s = on_to (means x before n s) (λ v s1. on_to (means x e n s1) (combined t op v))
+
+  -- and it in the variable's type
+  abbrev value : Meaning Value
+  value n s = on_to (result n s) (coerced own)
+
+  value_made : (b0 b1 : Building) (r : ℕ) → ComputesAs x (update_binary op t) t own before e b0 b1 r → Computes x (Shows own) (rtype_of own) value b0 b1 r
+  value_made b0 b1 r made =
+      let goes : (v w : Value) → combined t op v w ≡ binary_goes (update_binary op t) t v w = update_goes x.source x.variables op own t (type_of e) suits in
+      computes_of x (Shows own) (rtype_of own) _ value b0 b1 r (λ n s i. on_to (on_to (means x before n s) (λ v s1. on_to (means x e n s1) (λ w. goes v w i))) (coerced own)) made
+
+  reads : Reads x target before
+  reads = let P : TypedExpr → Type 0 = λ z. Reads x target z in subst P (sym is) (reads_so x target own place variable)
+
+  abbrev go : ℕ → Value → Does Flow
+  go n w s = on_to (putting x n target w s) (λ u. give Goes)
+
+  means_so : (n : ℕ) (s : State) → means_update x target op e t n s ≡ on_to (value n s) (go n)
+  means_so n s =
+      ap (λ o. on_to o (λ u. give Goes)) (reads n (changed (classes x n) (call x n) x.source.globals x.variables target op e t) s)
+      ∙ from_read (means x before n s) (means x e n) (combined t op) (coerced (target_type x n target)) (putting x n target) (λ u. give Goes)
+      ∙ ap (λ z. on_to (on_to (result n s) (coerced z)) (go n)) (type_is x n target own variable)
+
+  pub update_code : (b0 b1 b2 : Building) (r : Reg) → HasRoom x b0 → ComputesAs x (update_binary op t) t own before e b0 b1 r.0 → SetsVariable x.source x.frame target r.0 b1 b2 → (gives : Option Sort) → Works x gives (means_update x target op e t) b0 b2 []
+  update_code b0 b1 b2 r room made put_in gives =
+      let sets = put_in x.variables own (room_on x b0 b1 made.extends room) variable made.type in
+      works_of x gives (means_update x target op e t) (λ n s. on_to (value n s) (go n)) b0 b2 [] means_so
+      (set_works x gives value own target r.0 go b0 b1 b2 room (value_made b0 b1 r.0 made) sets
+      (λ n w s regs match kind. ap (λ o. on_to o (λ u. give Goes)) (assigned x n target own regs s w variable match)))
+
+-- the register of the value has the variable's type
+pub update_takes : (x : Setting) (target : TypedTarget) (op : BinOp) (own t w : Sort) (b0 b1 : Building) (r : ℕ) → IsVariable x.source x.variables None target own → UpdateSuits x.source x.variables None op own t w → HasRoom x b0 → Extends b0 b1 → HasType b1 r (rtype_of own) → TakesRegister x.source x.frame target r b1
+update_takes x target op own t w b0 b1 r variable suits room more type =
+    (x.variables, own, room_on x b0 b1 more room, variable, updated_simple x.source x.variables op own t w suits, type)

@@ -1,0 +1,184 @@
+-- Variables are read and set by their code.
+use Rattle.std.proofs.Common.{◌≡◌, ℕ, zero, suc, ◌<◌, ◌≤◌, List, [], ◌∷◌, length, map, get_or, Some, None, refl, sym, ap, ◌∙◌, subst, arith}
+use Rattle.std.proofs.lemmas.List.{length-map}
+use Rattle.std.specs.Prelude.{pos, slice_get}
+use Rattle.c_core.specs.declared.primitive.Primitive.TheVariants as prim
+use Rattle.c_core.specs.declared.primitive.GlobalPrim.TheVariants as global
+use Rattle.py_syntax.specs.declared.token.Span.{Span}
+use Rattle.py_typed.specs.declared.checked.Var.{Var}
+use Rattle.py_typed.specs.declared.statement.Target.{Target}
+use Rattle.py_typed.specs.declared.statement.Target.TheVariants as declared
+use Rattle.py_typed.specs.declared.expression.TExpr.{TExpr}
+use Rattle.py_typed.specs.declared.expression.TKind.{TKind}
+use Rattle.py_typed.specs.declared.expression.TKind as kind
+use Rattle.py_typed.specs.Sorts.{Sort, sort as sort_of}
+use Rattle.py_typed.specs.Expressions.{TypedNode, typed, typed_expr, typed_node, Local, Global}
+use Rattle.py_typed.proofs.ExpressionLemmas.{typed_expr_of, typed_node-Local, typed_node-Global}
+use Rattle.py_typed.specs.Statements.{Variable, TypedModule, TypedTarget, LocalTarget, GlobalTarget, typed_target, variable}
+use Rattle.ir_core.specs.declared.code.RType.TheVariants.{Bool as BoolType}
+use Rattle.ir_core.specs.declared.code.Lit.TheVariants.{Number}
+use Rattle.ir_core.specs.declared.code.Op.TheVariants.{Move, Lit, Prim}
+use Rattle.ir_core.specs.declared.code.PArg.{PArg}
+use Rattle.ir_core.specs.declared.code.PArg.TheVariants as arg
+use Rattle.ir_core.specs.declared.code.Reg.{Reg}
+use Rattle.ir_core.specs.Building.{Building, Extends}
+use Rattle.ir_builder_frames.specs.Settings.{Setting, rtype_of}
+use Rattle.ir_builder_frames.specs.Placing.{HasType}
+use Rattle.ir_builder_frames.specs.Calling.{Pushes}
+use Rattle.ir_builder_frames.specs.declared.frame.Frame.{Frame}
+use Rattle.ir_builder_frames.specs.Matching.{flag_of, HasRoom}
+use Rattle.ir_builder_frames.specs.Kinds.{Surrounding, AreAlike, OpKinds, IsAmong, WritesGlobal}
+use Rattle.ir_builder_frames.proofs.HeldLemmas.{type_kept}
+use Rattle.ir_builder_frames.proofs.GlobalLemmas.{write_fits}
+use Rattle.ir_builder_expressions.specs.Parts.{is_simple}
+use Rattle.ir_builder_expressions.specs.Reading.{setting_in}
+use Rattle.ir_builder_loops_and_jumps.specs.Simple.{Sets}
+use Rattle.ir_builder_loops_and_jumps.proofs.SimpleLemmas.{get_below, param_set, other_set, global_set}
+use Rattle.ir_builder_statements.specs.Suiting.{IsVariable}
+use Rattle.ir_builder_statements.specs.Parts.{HasFlag, SetsLocal, TakesGlobal, SetsGlobal, TakesRegister, SetsVariable, reading_of}
+
+pub type_by : (b : Building) (r : ℕ) (t u : Sort) → t ≡ u → HasType b r (rtype_of t) → HasType b r (rtype_of u)
+type_by b r t u e h = let P : Sort → Type 0 = λ z. HasType b r (rtype_of z) in subst P e h
+
+sets_by : (x : Setting) (target : TypedTarget) (r : ℕ) (t u : Sort) (b c : Building) → t ≡ u → Sets x target t r b c → Sets x target u r b c
+sets_by x target r t u b c e h = let P : Sort → Type 0 = λ z. Sets x target z r b c in subst P e h
+
+-- ---- a variable of the function is set
+
+pub parameter_sets : (frame : Frame) (k : ℕ) (r : Reg) (b c : Building) → k < frame.locals.params → Pushes b c (Move record { 0 = k } r) → SetsLocal frame k r.0 b c
+parameter_sets frame k r b c low q x v is room at type =
+    param_set x k r.0 v b c room at (subst (λ (f : Frame). k < f.locals.params) (sym is) low) type q
+
+pub variable_sets : (frame : Frame) (k : ℕ) (r flag : Reg) (b c d : Building) → frame.locals.params ≤ k → flag.0 ≡ flag_of frame.locals k → Pushes b c (Move record { 0 = k } r) → Pushes c d (Lit flag (Number (pos 1))) → SetsLocal frame k r.0 b d
+variable_sets frame k r flag b c d other flag_is q q' x v is room at type =
+    let here : flag.0 ≡ flag_of x.frame.locals k = flag_is ∙ ap (λ (f : Frame). flag_of f.locals k) (sym is) in
+    other_set x k r.0 v b c d room at (subst (λ (f : Frame). f.locals.params ≤ k) (sym is) other) type q (subst (λ n. Pushes c d (Lit (record { 0 = n }) (Number (pos 1)))) here q')
+
+pub flag_kinds : (g : Surrounding) (b c : Building) (frame : Frame) (k : ℕ) (flag : Reg) → HasFlag frame k b → frame.locals.params ≤ k → flag.0 ≡ flag_of frame.locals k → Extends b c → OpKinds g c.regs (Lit flag (Number (pos 1)))
+flag_kinds g b c frame k flag has other is more =
+    let type : HasType c flag.0 BoolType = subst (λ n. HasType c n BoolType) (sym is) (type_kept b c (flag_of frame.locals k) BoolType more (has other).1) in
+    (BoolType, type, (refl, refl))
+
+-- the flag of a variable is there
+has_flag : (x : Setting) (k : ℕ) (v : Variable) (b : Building) → HasRoom x b → slice_get x.variables k ≡ Some v → HasFlag x.frame k b
+has_flag x k v b room at other =
+    let low = get_below x.variables k v at in
+    let count = room.count in
+    let flags = room.flags in
+    (omega arith, room.flagged k other (omega arith))
+
+-- ---- a variable of the module is set
+
+-- a declared variable is the one of its number
+declared_variable : (vs : List Var) (i : ℕ) (d : Var) (v : Variable) → slice_get (map variable vs) i ≡ Some v → d ≡ get_or vs i d → v ≡ variable d
+declared_variable [] i d v at is = let f : None ≡ Some v = at in absurd (cc)
+declared_variable (e ∷ vs) zero d v at is =
+    let f : Some (variable e) ≡ Some v = at in
+    let same : v ≡ variable e = cc in
+    same ∙ sym (ap variable is)
+declared_variable (e ∷ vs) (suc i) d v at is = declared_variable vs i d v at is
+
+-- and has its name
+declared_name : (vs : List Var) (i : ℕ) (d : Var) (v : Variable) → slice_get (map variable vs) i ≡ Some v → d ≡ get_or vs i d → v.0 ≡ d.name
+declared_name vs i d v at is = ap (λ (z : Variable). z.0) (declared_variable vs i d v at is)
+
+-- the arguments of a write
+abbrev pub stored : List ℕ → Reg → List PArg
+stored name r = arg.Global name ∷ arg.Var r ∷ []
+
+pub global_sets : (m : TypedModule) (vs : List Var) (i : ℕ) (d : Var) (r : Reg) (args : List PArg) (b c : Building) → m.globals ≡ map variable vs → d ≡ get_or vs i d → args ≡ stored d.name r → Pushes b c (Prim None (prim.Global global.Set) args) → SetsGlobal m i r.0 b c
+global_sets m vs i d r args b c all is args_are q x v same at type =
+    let at' : slice_get (map variable vs) i ≡ Some v = ap (λ l. slice_get l i) (sym all) ∙ at in
+    let named : v.0 ≡ d.name = declared_name vs i d v at' is in
+    global_set x i r.0 v b c (ap (λ (z : TypedModule). slice_get z.globals i) same ∙ at) type (subst (λ l. Pushes b c (Prim None (prim.Global global.Set) l)) (args_are ∙ ap (λ name. stored name r) (sym named)) q)
+
+pub global_fits : (m : TypedModule) (g : Surrounding) (vs : List Var) (i : ℕ) (d : Var) (r : Reg) (args : List PArg) (b : Building) → m.globals ≡ map variable vs → d ≡ get_or vs i d → args ≡ stored d.name r → IsAmong m g → TakesGlobal m i r.0 b → WritesGlobal g b.regs (prim.Global global.Set) args
+global_fits m g vs i d r args b all is args_are among takes =
+    let v = takes.0 in
+    let at' : slice_get (map variable vs) i ≡ Some v = ap (λ l. slice_get l i) (sym all) ∙ takes.1 in
+    let named : v.0 ≡ d.name = declared_name vs i d v at' is in
+    subst (WritesGlobal g b.regs (prim.Global global.Set)) (ap (λ name. stored name r) named ∙ sym args_are) (write_fits m g b.regs i v r among takes.1 takes.3)
+
+-- ---- a target is set
+
+module _ (m : TypedModule) (frame : Frame) (t : Target) (r : Reg) (b c : Building) where
+  local_takes : (k : ℕ) → t ≡ declared.Local k → TakesRegister m frame (typed_target t) r.0 b → TakesRegister m frame (LocalTarget k) r.0 b
+  local_takes k is h = let P : Target → Type 0 = λ z. TakesRegister m frame (typed_target z) r.0 b in subst P is h
+
+  pub local_flag : (k : ℕ) → t ≡ declared.Local k → TakesRegister m frame (typed_target t) r.0 b → HasFlag frame k b
+  local_flag k is h =
+      let f = local_takes k is h in
+      let v = f.3 in
+      has_flag (setting_in m f.0 frame) k v.0 b f.2 v.1
+
+  pub local_alike : (k : ℕ) → t ≡ declared.Local k → TakesRegister m frame (typed_target t) r.0 b → AreAlike b.regs (record { 0 = k }) r
+  local_alike k is h =
+      let f = local_takes k is h in
+      let v = f.3 in
+      (rtype_of f.1, type_by b k v.0.1 f.1 v.2 (f.2.declared k v.0 v.1), f.5)
+
+  pub local_set : (k : ℕ) → t ≡ declared.Local k → SetsLocal frame k r.0 b c → SetsVariable m frame (typed_target t) r.0 b c
+  local_set k is q =
+      let P : Target → Type 0 = λ z. SetsVariable m frame (typed_target z) r.0 b c in
+      subst P (sym is)
+      (λ vs u room v type. sets_by (setting_in m vs frame) (LocalTarget k) r.0 v.0.1 u b c v.2 (q (setting_in m vs frame) v.0 refl room v.1 (type_by b r.0 u v.0.1 (sym v.2) type)))
+
+  pub global_takes : (i : ℕ) → t ≡ declared.Global i → TakesRegister m frame (typed_target t) r.0 b → TakesGlobal m i r.0 b
+  global_takes i is h =
+      let P : Target → Type 0 = λ z. TakesRegister m frame (typed_target z) r.0 b in
+      let f : TakesRegister m frame (GlobalTarget i) r.0 b = subst P is h in
+      let v = f.3 in
+      (v.0, v.1, ap is_simple v.2 ∙ f.4, type_by b r.0 f.1 v.0.1 (sym v.2) f.5)
+
+  pub global_put : (i : ℕ) → t ≡ declared.Global i → SetsGlobal m i r.0 b c → SetsVariable m frame (typed_target t) r.0 b c
+  global_put i is q =
+      let P : Target → Type 0 = λ z. SetsVariable m frame (typed_target z) r.0 b c in
+      subst P (sym is)
+      (λ vs u room v type. sets_by (setting_in m vs frame) (GlobalTarget i) r.0 v.0.1 u b c v.2 (q (setting_in m vs frame) v.0 refl v.1 (type_by b r.0 u v.0.1 (sym v.2) type)))
+
+-- ---- the type of a target
+
+module _ (m : TypedModule) (ds : List Var) (t : Target) where
+  abbrev Typed : Sort → Type 0
+  Typed u = IsVariable m (map variable ds) None (typed_target t) u
+
+  module _ (found : (u : Sort) × Typed u) where
+    local_here : (k : ℕ) → t ≡ declared.Local k → (u : Sort) × IsVariable m (map variable ds) None (LocalTarget k) u
+    local_here k is = let P : Target → Type 0 = λ z. (u : Sort) × IsVariable m (map variable ds) None (typed_target z) u in subst P is found
+
+    global_here : (i : ℕ) → t ≡ declared.Global i → (u : Sort) × IsVariable m (map variable ds) None (GlobalTarget i) u
+    global_here i is = let P : Target → Type 0 = λ z. (u : Sort) × IsVariable m (map variable ds) None (typed_target z) u in subst P is found
+
+    pub local_within : (k : ℕ) → t ≡ declared.Local k → k < length ds
+    local_within k is = let v = (local_here k is).1 in subst (λ n. k < n) (length-map ds variable) (get_below (map variable ds) k v.0 v.1)
+
+    pub local_typed : (k : ℕ) (d : Var) → t ≡ declared.Local k → d ≡ get_or ds k d → Typed (sort_of d.ty)
+    local_typed k d is at =
+        let Q : Target → Type 0 = λ z. IsVariable m (map variable ds) None (typed_target z) (sort_of d.ty) in
+        let v = (local_here k is).1 in
+        subst Q (sym is) (v.0, v.1, ap (λ (z : Variable). z.1) (declared_variable ds k d v.0 v.1 at))
+
+    pub global_within : (i : ℕ) (gs : List Var) → t ≡ declared.Global i → m.globals ≡ map variable gs → i < length gs
+    global_within i gs is all = let v = (global_here i is).1 in subst (λ n. i < n) (ap length all ∙ length-map gs variable) (get_below m.globals i v.0 v.1)
+
+    pub global_typed : (i : ℕ) (gs : List Var) (d : Var) → t ≡ declared.Global i → m.globals ≡ map variable gs → d ≡ get_or gs i d → Typed (sort_of d.ty)
+    global_typed i gs d is all at =
+        let Q : Target → Type 0 = λ z. IsVariable m (map variable ds) None (typed_target z) (sort_of d.ty) in
+        let v = (global_here i is).1 in
+        subst Q (sym is) (v.0, v.1, ap (λ (z : Variable). z.1) (declared_variable gs i d v.0 (ap (λ l. slice_get l i) (sym all) ∙ v.1) at))
+
+-- ---- a target is read
+
+module _ (t : Target) (s : Sort) (place : Span) (k : TKind) (e : TExpr) where
+  read_as : (n : TypedNode) → e.kind ≡ k → typed_node k ≡ n → sort_of e.ty ≡ s → e.span ≡ place → typed_expr e ≡ typed n s place
+  read_as n is made type at = typed_expr_of e k is ∙ ap (λ z. typed z (sort_of e.ty) e.span) made ∙ ap (λ z. typed n z e.span) type ∙ ap (λ z. typed n s z) at
+
+pub local_reading : (t : Target) (s : Sort) (place : Span) (i : ℕ) (e : TExpr) → t ≡ declared.Local i → e.kind ≡ kind.Local i → sort_of e.ty ≡ s → e.span ≡ place → typed_expr e ≡ reading_of (typed_target t) s place
+local_reading t s place i e is k type at =
+    let P : Target → Type 0 = λ z. typed_expr e ≡ reading_of (typed_target z) s place in
+    subst P (sym is) (read_as t s place (kind.Local i) e (Local i) k (typed_node-Local i) type at)
+
+pub global_reading : (t : Target) (s : Sort) (place : Span) (i : ℕ) (e : TExpr) → t ≡ declared.Global i → e.kind ≡ kind.Global i → sort_of e.ty ≡ s → e.span ≡ place → typed_expr e ≡ reading_of (typed_target t) s place
+global_reading t s place i e is k type at =
+    let P : Target → Type 0 = λ z. typed_expr e ≡ reading_of (typed_target z) s place in
+    subst P (sym is) (read_as t s place (kind.Global i) e (Global i) k (typed_node-Global i) type at)

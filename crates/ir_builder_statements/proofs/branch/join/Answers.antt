@@ -1,0 +1,18 @@
+use Rattle.std.proofs.Common.{arith}
+use Rattle.ir_builder_loops_and_jumps.specs.Ways.{planned}
+use Rattle.ir_builder_loops_and_jumps.proofs.PlanLemmas.{plan_fits, join_above}
+use Rattle.ir_builder_statements.proofs.PartLemmas.{open_kept}
+use Rattle.ir_builder_statements.proofs.branch.join.Goals as goal
+
+pub patch_all-requires : goal.patch_all-requires
+patch_all-requires c = record { opens = (c.requires.opens.0, open_kept _ _ _ _ c.in_ok-end.ensures.kept c.requires.opens.1) }
+
+pub returns-clause-shaped : goal.returns-clause-shaped
+returns-clause-shaped c = λ n m low up s.
+    let end = c.in_ok-end.end in
+    let is = c.in_ok-end.ensures.number in
+    let one = c.in_ok-end.ensures.closed.blocks in
+    let all = c.patch_all.ensures.patching.blocks in
+    c.patch_all.ensures.shaped n m
+    (plan_fits _ _ _ m (planned _) c.args.inner.now c.requires.opens.1 (join_above _ m end (omega arith, omega arith)))
+    (c.in_ok-end.ensures.shaped n m low (omega arith) s)

@@ -1,0 +1,15 @@
+use Rattle.py_typed.specs.Expressions.{typed_expr}
+use Rattle.ir_builder_frames.specs.Settings.{Setting, setting}
+use Rattle.ir_builder_frames.proofs.HeldLemmas.{on_ok_map}
+use Rattle.ir_builder_statements.proofs.AssignLemmas.{assignment_code, assignment_takes}
+use Rattle.ir_builder_statements.proofs.simple.emit_assignment.Goals as goal
+
+pub emit_set-requires : goal.emit_set-requires
+emit_set-requires c =
+    let x : Setting = setting c.args.checked.now c.args.locals.now c.args.frame in
+    assignment_takes x c.args.targets.now c.index-targets-0.result (typed_expr c.args.e.now) _ _ _ c.requires.simple c.index-targets-0.is c.requires.target c.requires.room c.in_ok-r.ensures.emitted
+
+pub returns-clause-works : goal.returns-clause-works
+returns-clause-works c =
+    let x : Setting = setting c.args.checked.now c.args.locals.now c.args.frame in
+    on_ok_map _ _ _ (λ q. assignment_code x c.args.targets.now c.index-targets-0.result (typed_expr c.args.e.now) _ _ _ c.in_ok-r.r c.index-targets-0.is c.requires.target c.requires.room c.in_ok-r.ensures.emitted q) c.emit_set.ensures.sets

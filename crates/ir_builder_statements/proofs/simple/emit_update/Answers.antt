@@ -1,0 +1,75 @@
+use Rattle.std.proofs.Common.{subst, sym}
+use Rattle.py_typed.specs.Sorts.{sort}
+use Rattle.py_typed.specs.Expressions.{type_of, typed_expr}
+use Rattle.py_typed.specs.Statements.{typed_target}
+use Rattle.ir_builder_frames.specs.Settings.{Setting, setting}
+use Rattle.ir_builder_frames.proofs.HeldLemmas.{extends_trans, on_ok_map}
+use Rattle.ir_builder_expressions.specs.declared.applying.Binary.{Binary}
+use Rattle.ir_builder_expressions.specs.Applying.{BinarySuits}
+use Rattle.ir_builder_expressions.specs.Suiting.{Suits}
+use Rattle.py_typed.proofs.ExpressionLemmas.{type_at}
+use Rattle.ir_builder_statements.specs.Parts.{ComputesAs, update_binary}
+use Rattle.ir_builder_statements.proofs.AssignLemmas.{own_suits, reading_suits, updated_simple, update_turns, update_fits, update_code, update_takes}
+use Rattle.ir_builder_statements.proofs.simple.emit_update.Goals as goal
+
+pub reading-before-requires-clause-simple : goal.reading-before-requires-clause-simple
+reading-before-requires-clause-simple c =
+    let x : Setting = setting c.args.checked.now c.args.locals.now c.args.frame in
+    let own = sort c.variable_type-own.result.now in
+    let suits = own_suits x.source x.variables (typed_target c.args.target.now) c.args.op own (sort c.args.t.now) (type_of (typed_expr c.args.e.now)) c.variable_type-own.ensures c.requires.fits in
+    updated_simple x.source x.variables c.args.op own (sort c.args.t.now) (type_of (typed_expr c.args.e.now)) suits
+
+pub emit_changed-requires-clause-fits : goal.emit_changed-requires-clause-fits
+emit_changed-requires-clause-fits c =
+    let x : Setting = setting c.args.checked.now c.args.locals.now c.args.frame in
+    let own = sort c.variable_type-own.result.now in
+    let t = sort c.args.t.now in
+    let w = type_of (typed_expr c.args.e.now) in
+    let suits = own_suits x.source x.variables (typed_target c.args.target.now) c.args.op own t w c.variable_type-own.ensures c.requires.fits in
+    subst (λ z. BinarySuits z t (sort c.reading-before.result.ty) (sort c.args.e.now.ty)) (sym c.updating-op.ensures)
+    (subst (λ z. BinarySuits (update_binary c.args.op t) t z (sort c.args.e.now.ty)) (sym c.reading-before.ensures.same)
+    (subst (λ z. BinarySuits (update_binary c.args.op t) t own z) (type_at c.args.e.now) (update_fits x.source x.variables c.args.op own t w suits)))
+
+pub emit_changed-requires-clause-turns : goal.emit_changed-requires-clause-turns
+emit_changed-requires-clause-turns c =
+    let x : Setting = setting c.args.checked.now c.args.locals.now c.args.frame in
+    let own = sort c.variable_type-own.result.now in
+    let t = sort c.args.t.now in
+    let w = type_of (typed_expr c.args.e.now) in
+    update_turns x.source x.variables c.args.op own t w (own_suits x.source x.variables (typed_target c.args.target.now) c.args.op own t w c.variable_type-own.ensures c.requires.fits)
+
+pub emit_changed-requires-clause-before : goal.emit_changed-requires-clause-before
+emit_changed-requires-clause-before c =
+    let x : Setting = setting c.args.checked.now c.args.locals.now c.args.frame in
+    let own = sort c.variable_type-own.result.now in
+    let t = sort c.args.t.now in
+    let w = type_of (typed_expr c.args.e.now) in
+    let suits = own_suits x.source x.variables (typed_target c.args.target.now) c.args.op own t w c.variable_type-own.ensures c.requires.fits in
+    let simple = updated_simple x.source x.variables c.args.op own t w suits in
+    subst (Suits x.source x.variables) (sym c.reading-before.ensures.reads) (reading_suits x.source x.variables (typed_target c.args.target.now) own c.args.e.now.span simple c.variable_type-own.ensures)
+
+pub emit_set-requires : goal.emit_set-requires
+emit_set-requires c =
+    let x : Setting = setting c.args.checked.now c.args.locals.now c.args.frame in
+    let own = sort c.variable_type-own.result.now in
+    let t = sort c.args.t.now in
+    let w = type_of (typed_expr c.args.e.now) in
+    let suits = own_suits x.source x.variables (typed_target c.args.target.now) c.args.op own t w c.variable_type-own.ensures c.requires.fits in
+    update_takes x (typed_target c.args.target.now) c.args.op own t w _ _ c.in_ok-value.value.0 c.variable_type-own.ensures suits c.requires.room c.in_ok-value.ensures.kept c.in_ok-value.ensures.computes.type
+
+pub returns-clause-kept : goal.returns-clause-kept
+returns-clause-kept c = extends_trans _ _ _ c.in_ok-value.ensures.kept c.emit_set.ensures.kept
+
+pub returns-clause-works : goal.returns-clause-works
+returns-clause-works c =
+    let x : Setting = setting c.args.checked.now c.args.locals.now c.args.frame in
+    let own = sort c.variable_type-own.result.now in
+    let t = sort c.args.t.now in
+    let e = typed_expr c.args.e.now in
+    let before = typed_expr c.reading-before.result in
+    let suits = own_suits x.source x.variables (typed_target c.args.target.now) c.args.op own t (type_of e) c.variable_type-own.ensures c.requires.fits in
+    let P : Binary → Type 0 = λ z. ComputesAs x z t own before e c.args.b.now c.emit_changed.new.b c.in_ok-value.value.0 in
+    on_ok_map _ _ _ (update_code x (typed_target c.args.target.now) c.args.op own t before e c.args.e.now.span c.reading-before.ensures.reads c.variable_type-own.ensures suits _ _ _ c.in_ok-value.value c.requires.room (subst P c.updating-op.ensures c.in_ok-value.ensures.computes)) c.emit_set.ensures.sets
+
+pub returns-clause-kinds : goal.returns-clause-kinds
+returns-clause-kinds c g among h = c.emit_set.ensures.kinds g among (c.in_ok-value.ensures.kinds g among h)

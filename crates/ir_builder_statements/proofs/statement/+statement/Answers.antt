@@ -1,0 +1,229 @@
+use Rattle.std.specs.Option.{option_map, option_copied}
+use Rattle.py_typed.specs.Sorts.{sort}
+use Rattle.std.proofs.Common.{rules, map}
+use Rattle.py_typed.specs.declared.statement.TStmt.{the_lemmas}
+use Rattle.py_typed.specs.Expressions.{typed_expr}
+use Rattle.py_typed.specs.Statements.{typed_module, maybe_typed, typed_suite, typed_arm, arms_of}
+use Rattle.ir_builder_frames.specs.Settings.{Setting, setting}
+use Rattle.ir_builder_frames.specs.Matching.{HasRoom}
+use Rattle.ir_builder_frames.proofs.HeldLemmas.{extends_refl, extends_trans, on_ok_map, either_way}
+use Rattle.ir_builder_frames.proofs.MatchLemmas.{room_on}
+use Rattle.ir_builder_loops_and_jumps.proofs.EmitLemmas.{nothing_emitted, next_emitted, nothing_tested, pass_emitted, break_emitted, continue_emitted, join_open}
+use Rattle.ir_builder_statements.specs.Suiting.{SuiteSuits, ArmsSuit}
+use Rattle.ir_builder_statements.proofs.SuiteLemmas.{suite_step, arms_step, if_suits, return_suits, break_suits, continue_suits}
+use Rattle.ir_builder_statements.proofs.BodyLemmas.{on_ok_both, alone_made, assignment_made, update_made, return_made, condition_type, arm_tested, if_made, while_made, keeps_then, four_keep, arm_blocks, loop_blocks, kinds_among, kinds_always, kinds_returned, if_kinds, loop_kinds}
+use Rattle.ir_builder_statements.proofs.statement.+statement.Goals as goal
+
+-- ---- rows
+
+pub emit_block-loop-s-init : goal.emit_block-loop-s-init
+emit_block-loop-s-init t c =
+    let x : Setting = setting c.args.checked.now c.args.locals.now c.args.frame in
+    record {
+      so_far = nothing_emitted x (option_map sort (option_copied c.args.gives)) c.args.looping c.args.b.now c.args.exits.now.items;
+      suits = c.requires.suits;
+      room = c.requires.room;
+      shaped = λ n m low up s. s;
+      kinds = λ g around h. h;
+    }
+
+pub emit_block-loop-s-preserved : goal.emit_block-loop-s-preserved
+emit_block-loop-s-preserved t c =
+    let x : Setting = setting c.args.checked.now c.args.locals.now c.args.frame in
+    let i = c.loop-s.invariant in
+    let k = c.in_ok-emit_statement.ensures in
+    record {
+      so_far = next_emitted x (option_map sort (option_copied c.args.gives)) c.args.looping c.args.body.now c.loop-s.s-index c.s-item.result _ _ _ _ _ _ c.loop-s-test.true c.s-item.is i.so_far k.emitted;
+      suits = (suite_step x.source x.variables (option_map sort (option_copied c.args.gives)) c.args.looping c.args.body.now c.loop-s.s-index c.s-item.result c.loop-s-test.true c.s-item.is i.suits).1;
+      room = room_on x _ _ k.kept i.room;
+      shaped = keeps_then c.args.b.now c.loop-s.b c.emit_statement.new.b i.so_far.works.extends.regs_grow k.kept.blocks_grow i.shaped k.shaped;
+      kinds = λ g around h. k.kinds g around (i.kinds g around h);
+    }
+
+-- ---- statements
+
+pub emit_statement-emit_if-requires : goal.emit_statement-emit_if-requires
+emit_statement-emit_if-requires t c =
+    let x : Setting = setting c.args.checked.now c.args.locals.now c.args.frame in
+    let k = if_suits x.source x.variables (option_map sort (option_copied c.args.gives)) c.args.looping c.args.s.now c.requires.suits c.as_slice-arms.result.now c.in-If.arms c.as_slice-other.result.now c.in-If.other c.in-If.is c.as_slice-arms.ensures c.as_slice-other.ensures in
+    let arms_suit : ArmsSuit x.source x.variables (option_map sort (option_copied c.args.gives)) c.args.looping (arms_of (map typed_arm c.as_slice-arms.result.now)) = k.0 in
+    let other_suits : SuiteSuits x.source x.variables (option_map sort (option_copied c.args.gives)) c.args.looping (typed_suite c.as_slice-other.result.now) = k.1 in
+    search (rules, the_lemmas)
+
+pub emit_statement-returns-in-Expr-clause-emitted : goal.emit_statement-returns-in-Expr-clause-emitted
+emit_statement-returns-in-Expr-clause-emitted t c =
+    let x : Setting = setting c.args.checked.now c.args.locals.now c.args.frame in
+    on_ok_map _ _ _ (alone_made x (option_map sort (option_copied c.args.gives)) c.args.looping c.args.s.now c.in-Expr.e _ _ _ c.in-Expr.is) c.emit_alone.ensures.works
+
+pub emit_statement-returns-in-Assign-clause-emitted : goal.emit_statement-returns-in-Assign-clause-emitted
+emit_statement-returns-in-Assign-clause-emitted t c =
+    let x : Setting = setting c.args.checked.now c.args.locals.now c.args.frame in
+    on_ok_map _ _ _ (assignment_made x (option_map sort (option_copied c.args.gives)) c.args.looping c.args.s.now c.as_slice-targets.result.now c.in-Assign.targets c.in-Assign.e _ _ _ c.in-Assign.is c.as_slice-targets.ensures) c.emit_assignment.ensures.works
+
+pub emit_statement-returns-in-Aug-clause-emitted : goal.emit_statement-returns-in-Aug-clause-emitted
+emit_statement-returns-in-Aug-clause-emitted t c =
+    let x : Setting = setting c.args.checked.now c.args.locals.now c.args.frame in
+    on_ok_map _ _ _ (update_made x (option_map sort (option_copied c.args.gives)) c.args.looping c.args.s.now c.in-Aug.target c.in-Aug.op c.in-Aug.e _ _ _ _ c.in-Aug.is) c.emit_update.ensures.works
+
+pub emit_statement-returns-in-Return-clause-emitted : goal.emit_statement-returns-in-Return-clause-emitted
+emit_statement-returns-in-Return-clause-emitted t c =
+    let x : Setting = setting c.args.checked.now c.args.locals.now c.args.frame in
+    on_ok_map _ _ _ (return_made x (option_map sort (option_copied c.args.gives)) c.args.looping c.args.s.now c.in-Return.value _ _ _ c.in-Return.is (return_suits x.source x.variables (option_map sort (option_copied c.args.gives)) c.args.looping c.args.s.now c.requires.suits c.in-Return.value c.in-Return.is)) c.emit_return.ensures.works
+
+pub emit_statement-returns-in-Break-clause-emitted : goal.emit_statement-returns-in-Break-clause-emitted
+emit_statement-returns-in-Break-clause-emitted t c =
+    let x : Setting = setting c.args.checked.now c.args.locals.now c.args.frame in
+    on_ok_both _ _ _ _ (break_emitted x (option_map sort (option_copied c.args.gives)) c.args.looping c.args.s.now _ _ _ _ (break_suits x.source x.variables (option_map sort (option_copied c.args.gives)) c.args.looping c.args.s.now c.requires.suits c.in-Break.is) c.in-Break.is) c.leave_by.ensures.noted c.leave_by.ensures.closed
+
+pub emit_statement-returns-in-Continue-clause-emitted : goal.emit_statement-returns-in-Continue-clause-emitted
+emit_statement-returns-in-Continue-clause-emitted t c =
+    let x : Setting = setting c.args.checked.now c.args.locals.now c.args.frame in
+    on_ok_both _ _ _ _ (continue_emitted x (option_map sort (option_copied c.args.gives)) c.args.looping c.args.s.now _ _ _ _ (continue_suits x.source x.variables (option_map sort (option_copied c.args.gives)) c.args.looping c.args.s.now c.requires.suits c.in-Continue.is) c.in-Continue.is) c.leave_by-in-Continue.ensures.noted c.leave_by-in-Continue.ensures.closed
+
+pub emit_statement-returns-in-Pass-clause-emitted : goal.emit_statement-returns-in-Pass-clause-emitted
+emit_statement-returns-in-Pass-clause-emitted t c =
+    let x : Setting = setting c.args.checked.now c.args.locals.now c.args.frame in
+    pass_emitted x (option_map sort (option_copied c.args.gives)) c.args.looping c.args.s.now c.args.b.now c.args.exits.now.items c.in-Pass.is
+
+-- ---- what keeps that operations fit their registers
+
+pub emit_statement-returns-in-Expr-clause-kinds : goal.emit_statement-returns-in-Expr-clause-kinds
+emit_statement-returns-in-Expr-clause-kinds t c =
+    kinds_among _ (typed_module c.args.checked.now) (option_map sort (option_copied c.args.gives)) _ _ c.emit_alone.ensures.kinds
+
+pub emit_statement-returns-in-Assign-clause-kinds : goal.emit_statement-returns-in-Assign-clause-kinds
+emit_statement-returns-in-Assign-clause-kinds t c =
+    kinds_among _ (typed_module c.args.checked.now) (option_map sort (option_copied c.args.gives)) _ _ c.emit_assignment.ensures.kinds
+
+pub emit_statement-returns-in-Aug-clause-kinds : goal.emit_statement-returns-in-Aug-clause-kinds
+emit_statement-returns-in-Aug-clause-kinds t c =
+    kinds_among _ (typed_module c.args.checked.now) (option_map sort (option_copied c.args.gives)) _ _ c.emit_update.ensures.kinds
+
+pub emit_statement-returns-in-Return-clause-kinds : goal.emit_statement-returns-in-Return-clause-kinds
+emit_statement-returns-in-Return-clause-kinds t c =
+    let x : Setting = setting c.args.checked.now c.args.locals.now c.args.frame in
+    kinds_returned _ x.source x.variables (option_map sort (option_copied c.args.gives)) (maybe_typed c.in-Return.value) _ _ (return_suits x.source x.variables (option_map sort (option_copied c.args.gives)) c.args.looping c.args.s.now c.requires.suits c.in-Return.value c.in-Return.is) c.emit_return.ensures.kinds
+
+pub emit_statement-returns-in-Break-clause-kinds : goal.emit_statement-returns-in-Break-clause-kinds
+emit_statement-returns-in-Break-clause-kinds t c =
+    kinds_always _ (typed_module c.args.checked.now) (option_map sort (option_copied c.args.gives)) _ _ c.leave_by.ensures.kinds
+
+pub emit_statement-returns-in-Continue-clause-kinds : goal.emit_statement-returns-in-Continue-clause-kinds
+emit_statement-returns-in-Continue-clause-kinds t c =
+    kinds_always _ (typed_module c.args.checked.now) (option_map sort (option_copied c.args.gives)) _ _ c.leave_by-in-Continue.ensures.kinds
+
+-- ---- `if`
+
+pub emit_arms-loop-e-init : goal.emit_arms-loop-e-init
+emit_arms-loop-e-init t c =
+    let x : Setting = setting c.args.checked.now c.args.locals.now c.args.frame in
+    record {
+      so_far = nothing_tested x (option_map sort (option_copied c.args.gives)) c.args.looping c.args.b.now c.args.exits.now.items c.requires.none;
+      suits = c.requires.suits;
+      room = c.requires.room;
+      shaped = λ n m low up s. s;
+      kinds = λ g around h. h;
+    }
+
+pub emit_arms-emit_block-requires : goal.emit_arms-emit_block-requires
+emit_arms-emit_block-requires t c =
+    let x : Setting = setting c.args.checked.now c.args.locals.now c.args.frame in
+    let k = arms_step x.source x.variables (option_map sort (option_copied c.args.gives)) c.args.looping c.args.arms.now c.loop-e.e-index c.loop-e-item.result c.as_slice-body.result.now c.loop-e-test.true c.loop-e-item.is c.as_slice-body.ensures c.loop-e.invariant.suits in
+    let suits : SuiteSuits x.source x.variables (option_map sort (option_copied c.args.gives)) c.args.looping (typed_suite c.as_slice-body.result.now) = k.1 in
+    let room : HasRoom x c.emit_split.new.b = room_on x _ _ c.in_ok-test.ensures.kept c.loop-e.invariant.room in
+    search (rules, the_lemmas)
+
+pub emit_arms-returns-in_err-emit_block-clause-kept : goal.emit_arms-returns-in_err-emit_block-clause-kept
+emit_arms-returns-in_err-emit_block-clause-kept t c =
+    extends_trans _ _ _ c.loop-e.invariant.so_far.works.extends (extends_trans _ _ _ c.in_ok-test.ensures.kept c.in_err-emit_block.ensures.kept)
+
+pub emit_arms-returns-in_err-end_arm-clause-kept : goal.emit_arms-returns-in_err-end_arm-clause-kept
+emit_arms-returns-in_err-end_arm-clause-kept t c =
+    extends_trans _ _ _ c.loop-e.invariant.so_far.works.extends (extends_trans _ _ _ c.in_ok-test.ensures.kept (extends_trans _ _ _ c.in_ok-emit_block.ensures.kept c.in_err-end_arm.ensures.kept))
+
+pub emit_arms-loop-e-preserved : goal.emit_arms-loop-e-preserved
+emit_arms-loop-e-preserved t c =
+    let x : Setting = setting c.args.checked.now c.args.locals.now c.args.frame in
+    let i = c.loop-e.invariant in
+    let a = c.loop-e-item.result in
+    let step = arms_step x.source x.variables (option_map sort (option_copied c.args.gives)) c.args.looping c.args.arms.now c.loop-e.e-index a c.as_slice-body.result.now c.loop-e-test.true c.loop-e-item.is c.as_slice-body.ensures i.suits in
+    let p = c.in_ok-test.ensures in
+    let q = c.in_ok-emit_block.ensures in
+    let e = c.in_ok-end_arm.ensures in
+    let all = arm_tested x (option_map sort (option_copied c.args.gives)) c.args.looping c.args.arms.now c.loop-e.e-index a c.as_slice-body.result.now c.args.b.now c.loop-e.b c.emit_split.new.b c.emit_block.new.b c.end_arm.new.b c.in_ok-test.test _ _ _ c.loop-e-test.true c.loop-e-item.is c.as_slice-body.ensures c.requires.room step.0 i.so_far p.splits q.emitted e.ends in
+    record {
+      so_far = all;
+      suits = step.2;
+      room = room_on x _ _ all.works.extends c.requires.room;
+      shaped = four_keep c.args.b.now c.loop-e.b c.emit_split.new.b c.emit_block.new.b c.end_arm.new.b i.so_far.works.extends p.kept q.kept (arm_blocks _ _ _ _ _ e.ends) i.shaped p.shaped q.shaped e.shaped;
+      kinds = λ g around h. e.kinds g (condition_type x (option_map sort (option_copied c.args.gives)) (typed_expr a.0) c.loop-e.b c.emit_split.new.b c.emit_block.new.b c.in_ok-test.test step.0 p.splits q.kept) (q.kinds g around (p.kinds g around.among (i.kinds g around h)));
+    }
+
+pub emit_if-emit_block-requires : goal.emit_if-emit_block-requires
+emit_if-emit_block-requires t c =
+    let x : Setting = setting c.args.checked.now c.args.locals.now c.args.frame in
+    let room : HasRoom x c.emit_arms.new.b = room_on x _ _ c.in_ok-emit_arms.ensures.kept c.requires.room in
+    search (rules, the_lemmas)
+
+pub emit_if-join-requires : goal.emit_if-join-requires
+emit_if-join-requires t c =
+    let x : Setting = setting c.args.checked.now c.args.locals.now c.args.frame in
+    record { opens = join_open x (option_map sort (option_copied c.args.gives)) c.args.looping _ _ _ _ _ c.emit_block.new.b _ _ c.deref.result.now c.in_ok-emit_arms.ensures.tested c.in_ok-emit_block.ensures.emitted (extends_refl c.emit_block.new.b) c.deref.ensures.value }
+
+pub emit_if-returns-clause-emitted : goal.emit_if-returns-clause-emitted
+emit_if-returns-clause-emitted t c =
+    let x : Setting = setting c.args.checked.now c.args.locals.now c.args.frame in
+    on_ok_map _ _ _ (if_made x (option_map sort (option_copied c.args.gives)) c.args.looping c.args.s.now c.args.arms.now c.args.other.now _ _ _ _ _ _ c.deref.result.now _ _ c.requires.is c.in_ok-emit_arms.ensures.tested c.in_ok-emit_block.ensures.emitted c.deref.ensures.value) c.join.ensures.joins
+
+pub emit_if-returns-clause-kept : goal.emit_if-returns-clause-kept
+emit_if-returns-clause-kept t c =
+    let x : Setting = setting c.args.checked.now c.args.locals.now c.args.frame in
+    either_way c.join.result _ _ _
+    (λ j. (if_made x (option_map sort (option_copied c.args.gives)) c.args.looping c.args.s.now c.args.arms.now c.args.other.now c.args.b.now c.emit_arms.new.b c.emit_block.new.b c.join.new.b _ _ c.deref.result.now c.args.exits.now.items c.join.new.exits.items c.requires.is c.in_ok-emit_arms.ensures.tested c.in_ok-emit_block.ensures.emitted c.deref.ensures.value j).works.extends)
+    (λ k. extends_trans _ _ _ c.in_ok-emit_arms.ensures.kept (extends_trans _ _ _ c.in_ok-emit_block.ensures.kept k))
+    c.join.ensures.joins c.join.ensures.kept
+
+pub emit_if-returns-clause-kinds : goal.emit_if-returns-clause-kinds
+emit_if-returns-clause-kinds t c =
+    on_ok_map _ _ _
+    (if_kinds (typed_module c.args.checked.now) (option_map sort (option_copied c.args.gives)) c.args.b.now c.emit_arms.new.b c.emit_block.new.b c.join.new.b c.in_ok-emit_arms.ensures.kinds c.in_ok-emit_block.ensures.kinds)
+    c.join.ensures.kinds
+
+-- ---- `while`
+
+pub emit_while-emit_split-requires-clause-room : goal.emit_while-emit_split-requires-clause-room
+emit_while-emit_split-requires-clause-room t c =
+    let x : Setting = setting c.args.checked.now c.args.locals.now c.args.frame in
+    room_on x _ _ c.in_ok-head.ensures.kept c.requires.room
+
+pub emit_while-emit_block-requires : goal.emit_while-emit_block-requires
+emit_while-emit_block-requires t c =
+    let x : Setting = setting c.args.checked.now c.args.locals.now c.args.frame in
+    let room : HasRoom x c.emit_split.new.b = room_on x _ _ (extends_trans _ _ _ c.in_ok-head.ensures.kept c.in_ok-test.ensures.kept) c.requires.room in
+    search (rules, the_lemmas)
+
+pub emit_while-returns-clause-emitted : goal.emit_while-returns-clause-emitted
+emit_while-returns-clause-emitted t c =
+    let x : Setting = setting c.args.checked.now c.args.locals.now c.args.frame in
+    on_ok_map _ _ _ (while_made x (option_map sort (option_copied c.args.gives)) c.args.looping c.args.s.now c.args.e.now c.args.body.now _ _ _ _ _ c.in_ok-head.head c.in_ok-test.test _ _ _ _ c.deref.result.now c.requires.room c.requires.is c.requires.test c.in_ok-head.ensures.number c.in_ok-head.ensures.closed c.in_ok-test.ensures.splits c.new-inner.ensures.items c.in_ok-emit_block.ensures.emitted c.deref.ensures.value) c.end_loop.ensures.ends
+
+pub emit_while-returns-clause-kept : goal.emit_while-returns-clause-kept
+emit_while-returns-clause-kept t c =
+    let x : Setting = setting c.args.checked.now c.args.locals.now c.args.frame in
+    either_way c.end_loop.result _ _ _
+    (λ l. (while_made x (option_map sort (option_copied c.args.gives)) c.args.looping c.args.s.now c.args.e.now c.args.body.now c.args.b.now c.step_on.new.self c.emit_split.new.b c.emit_block.new.b c.end_loop.new.b c.in_ok-head.head c.in_ok-test.test c.args.exits.now.items c.end_loop.new.exits.items _ _ c.deref.result.now c.requires.room c.requires.is c.requires.test c.in_ok-head.ensures.number c.in_ok-head.ensures.closed c.in_ok-test.ensures.splits c.new-inner.ensures.items c.in_ok-emit_block.ensures.emitted c.deref.ensures.value l).works.extends)
+    (λ k. extends_trans _ _ _ c.in_ok-head.ensures.kept (extends_trans _ _ _ c.in_ok-test.ensures.kept (extends_trans _ _ _ c.in_ok-emit_block.ensures.kept k)))
+    c.end_loop.ensures.ends c.end_loop.ensures.kept
+
+pub emit_while-returns-clause-shaped : goal.emit_while-returns-clause-shaped
+emit_while-returns-clause-shaped t c =
+    on_ok_both _ _ _ _
+    (λ l. four_keep c.args.b.now c.step_on.new.self c.emit_split.new.b c.emit_block.new.b c.end_loop.new.b c.in_ok-head.ensures.kept c.in_ok-test.ensures.kept c.in_ok-emit_block.ensures.kept (loop_blocks c.emit_block.new.b c.end_loop.new.b c.in_ok-head.head c.in_ok-test.test c.deref.result.now c.args.exits.now.items c.end_loop.new.exits.items l) c.in_ok-head.ensures.shaped c.in_ok-test.ensures.shaped c.in_ok-emit_block.ensures.shaped)
+    c.end_loop.ensures.ends c.end_loop.ensures.shaped
+
+pub emit_while-returns-clause-kinds : goal.emit_while-returns-clause-kinds
+emit_while-returns-clause-kinds t c =
+    let x : Setting = setting c.args.checked.now c.args.locals.now c.args.frame in
+    on_ok_map _ _ _
+    (loop_kinds x.source (option_map sort (option_copied c.args.gives)) c.args.b.now c.step_on.new.self c.emit_split.new.b c.emit_block.new.b c.end_loop.new.b c.in_ok-test.test.condition c.in_ok-head.ensures.kinds c.in_ok-test.ensures.kinds c.in_ok-emit_block.ensures.kinds (condition_type x (option_map sort (option_copied c.args.gives)) (typed_expr c.args.e.now) c.step_on.new.self c.emit_split.new.b c.emit_block.new.b c.in_ok-test.test c.requires.test c.in_ok-test.ensures.splits c.in_ok-emit_block.ensures.kept))
+    c.end_loop.ensures.kinds

@@ -1,0 +1,127 @@
+//! What stands around the bodies of `if` and `while`.
+ghost use Rattle.std.specs.Prelude.{◌≤◌, ◌<◌, ℕ, map, length, IfOk, OnOk, OnErr};
+ghost use Rattle.py_typed.specs.Expressions.{typed_expr};
+ghost use Rattle.py_typed.specs.Statements.{typed_module, variable};
+ghost use Rattle.ir_core.specs.Building.{Extends};
+ghost use Rattle.ir_builder_frames.specs.Calling.{Open};
+ghost use Rattle.ir_builder_frames.specs.Settings.{setting};
+ghost use Rattle.ir_builder_frames.specs.Matching.{HasRoom};
+ghost use Rattle.ir_builder_frames.specs.Shaped.{Keeps};
+ghost use Rattle.ir_builder_frames.specs.Kinds.{IsAmong, IsOf, KeepsKinds, KeepsKindsIf};
+ghost use Rattle.ir_builder_expressions.specs.Suiting.{Suits};
+ghost use Rattle.ir_builder_loops_and_jumps.specs.Runs.{OpenIn};
+ghost use Rattle.ir_builder_statements.specs.Parts.{Splits, EndsArm, Joins, EndsLoop};
+
+use crate::exits::{leave_by, pass_on, patch_all};
+use ir_builder_expressions::emit_expression;
+use ir_builder_frames::{Emitter, Frame};
+use ir_builder_loops_and_jumps::{Exit, Plan, Way};
+use ir_core::{Last, Op, RType, Reg};
+use py_typed::{Checked, TExpr, Var};
+use std::alloc::Global;
+use value_core::Memory;
+
+/// A test before a body: its register, the block that ends with it, whose jumps are still to be written, and the block that the
+/// body begins with.
+#[derive(Clone, Copy)]
+pub struct Test {
+    pub condition: Reg,
+    pub block: usize,
+    pub start: usize,
+}
+
+/// Emits a test, and ends the block.
+pub(crate) fn emit_split(
+    b: &mut Emitter,
+    alloc: Global,
+    checked: &Checked,
+    locals: &[Var],
+    frame: Frame,
+    e: &TExpr,
+) -> Result<Test, Memory>
+    requires suits { Suits (typed_module checked.now) (map variable locals.now) (typed_expr e.now) }
+    requires room { HasRoom (setting checked.now locals.now frame) b.old }
+    ensures kept { Extends b.old b.new }
+    ensures splits { IfOk result (λ t. Splits (setting checked.now locals.now frame) (typed_expr e.now) b.old b.new t) }
+    ensures shaped { Keeps b.old b.new }
+    ensures kinds { KeepsKindsIf (IsAmong (typed_module checked.now)) b.old b.new }
+{
+    let condition = emit_expression(b, alloc, checked, locals, frame, e, e.span.line)?;
+    let block = b.close(Last::Unreachable)?;
+    Ok(Test {
+        condition,
+        block,
+        start: b.here(),
+    })
+}
+
+/// Ends the body of an arm of an `if`, and writes the jumps of its test.
+pub(crate) fn end_arm(b: &mut Emitter, test: Test, exits: &mut Vec<Exit>) -> Result<(), Memory>
+    requires start { test.block < test.start }
+    requires here { test.start ≤ length b.old.blocks }
+    ensures kept { OnErr result (Extends b.old b.new) }
+    ensures ends { OnOk result (EndsArm b.old b.new test exits.old.items exits.new.items) }
+    ensures shaped { OnOk result (Keeps b.old b.new) }
+    ensures kinds { OnOk result (KeepsKindsIf (λ g. IsOf b.old.regs test.condition RType.Bool) b.old b.new) }
+{
+    leave_by(b, Way::Join, exits)?;
+    let next = b.here();
+    b.patch(test.block, Last::If(test.condition, test.start, next));
+    Ok(())
+}
+
+/// Ends the last body of an `if`, and writes the jumps of the others to what comes next.
+pub(crate) fn join(b: &mut Emitter, inner: &[Exit], exits: &mut Vec<Exit>) -> Result<(), Memory>
+    requires opens { (from : ℕ) × OpenIn b.old from (length b.old.blocks) inner.now }
+    ensures kept { OnErr result (Extends b.old b.new) }
+    ensures joins { OnOk result (Joins b.old b.new inner.now exits.old.items exits.new.items) }
+    ensures shaped { OnOk result (Keeps b.old b.new) }
+    ensures kinds { OnOk result (KeepsKinds b.old b.new) }
+{
+    let end = b.step_on()?;
+    let plan = Plan {
+        breaks: None,
+        continues: None,
+        returns: None,
+        joins: Some(end),
+    };
+    pass_on(exits, inner, plan)?;
+    patch_all(b, inner, plan);
+    Ok(())
+}
+
+/// Ends the body of a `while`: it spends a turn and goes to the block of its number `head`, where the test begins. The test goes
+/// to the body or to what comes next.
+pub(crate) fn end_loop(
+    b: &mut Emitter,
+    head: usize,
+    test: Test,
+    inner: &[Exit],
+    exits: &mut Vec<Exit>,
+    line: usize,
+) -> Result<(), Memory>
+    requires head { (1 ≤ head) × (head ≤ length b.old.blocks) }
+    requires open { Open b.old test.block }
+    requires start { test.block < test.start }
+    requires here { test.start ≤ length b.old.blocks }
+    requires opens { OpenIn b.old test.start (length b.old.blocks) inner.now }
+    ensures kept { OnErr result (Extends b.old b.new) }
+    ensures ends { OnOk result (EndsLoop b.old b.new head test inner.now exits.old.items exits.new.items) }
+    ensures shaped { OnOk result (Keeps b.old b.new) }
+    ensures kinds { OnOk result (KeepsKindsIf (λ g. IsOf b.old.regs test.condition RType.Bool) b.old b.new) }
+{
+    let next = b.step_on()?;
+    b.push(Op::Turn, line)?;
+    b.close(Last::Goto(head))?;
+    let exit = b.here();
+    let plan = Plan {
+        breaks: Some(exit),
+        continues: Some(next),
+        returns: None,
+        joins: None,
+    };
+    pass_on(exits, inner, plan)?;
+    b.patch(test.block, Last::If(test.condition, test.start, exit));
+    patch_all(b, inner, plan);
+    Ok(())
+}

@@ -1,0 +1,16 @@
+//! From typed statements to intermediate code.
+//!
+//! What comes in is a row of typed statements of a function of numbers, bools and texts; what goes out are operations
+//! and blocks in an `Emitter` (`emit_block`), which do what the statements mean, wherever they are left: `specs/Suiting.antt`
+//! says which statements are built, `Emitted` of `ir_builder_loops_and_jumps` what their code does, and `specs/Parts.antt` what stands around the
+//! bodies of `if` and `while`.
+#![tactic(auto)]
+
+mod alone;
+mod branch;
+mod exits;
+mod simple;
+mod statement;
+mod variables;
+
+pub use statement::emit_block;

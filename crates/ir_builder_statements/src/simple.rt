@@ -1,0 +1,194 @@
+//! The code of simple statements.
+ghost use Rattle.std.specs.Prelude.{◌≡◌, ◌≤◌, [], true, map, length, Option, Some, None, IfOk, OnOk};
+ghost use Rattle.py_typed.specs.Sorts.{Sort, sort};
+ghost use Rattle.py_typed.specs.Expressions.{typed_expr, type_of};
+ghost use Rattle.py_typed.specs.Statements.{typed_module, typed_target, maybe_typed, variable};
+ghost use Rattle.py_typed.specs.Operations.{coerced};
+ghost use Rattle.ir_core.specs.Building.{Extends};
+ghost use Rattle.ir_builder_frames.specs.Settings.{setting, rtype_of};
+ghost use Rattle.ir_builder_frames.specs.Placing.{HasType};
+ghost use Rattle.ir_builder_frames.specs.Matching.{HasRoom};
+ghost use Rattle.ir_builder_frames.specs.Computing.{Shows, Attempts};
+ghost use Rattle.ir_builder_frames.specs.Shaped.{Keeps};
+ghost use Rattle.ir_builder_frames.specs.Kinds.{IsAmong, KeepsKinds, KeepsKindsIf};
+ghost use Rattle.ir_builder_operations.specs.Operating.{ActsOn};
+ghost use Rattle.ir_builder_expressions.specs.Parts.{is_simple};
+ghost use Rattle.ir_builder_expressions.specs.Applying.{BinarySuits};
+ghost use Rattle.ir_builder_expressions.specs.Suiting.{Suits};
+ghost use Rattle.ir_builder_loops_and_jumps.specs.Means.{means_assignment, means_update, means_return, returned_type};
+ghost use Rattle.ir_builder_loops_and_jumps.specs.Runs.{Works};
+ghost use Rattle.ir_builder_statements.specs.Suiting.{IsOnly, VariableUpdates, ReturnSuits};
+ghost use Rattle.ir_builder_statements.specs.Kinds.{IsAround};
+ghost use Rattle.ir_builder_statements.specs.Parts.{ComputesAs, ComputesReturned, update_binary, TurnsInto};
+
+use crate::variables::{emit_set, reading, variable_type};
+use ir_builder_expressions::{Binary, emit_expression, emit_two_parts};
+use ir_builder_frames::{Emitter, Frame};
+use ir_builder_operations::emit_coercion;
+use ir_core::{Last, Lit, RType, Reg};
+use py_syntax::BinOp;
+use py_typed::{Checked, TExpr, Target, Ty, Var};
+use std::alloc::Global;
+use value_core::Memory;
+
+/// Assigns to a variable (Python Language Reference, "Assignment statements").
+pub(crate) fn emit_assignment(
+    b: &mut Emitter,
+    alloc: Global,
+    checked: &Checked,
+    locals: &[Var],
+    frame: Frame,
+    targets: &[Target],
+    e: &TExpr,
+    line: usize,
+) -> Result<(), Memory>
+    requires simple { is_simple (type_of (typed_expr e.now)) ≡ true }
+    requires target { IsOnly (typed_module checked.now) (map variable locals.now) None (map typed_target targets.now) (type_of (typed_expr e.now)) }
+    requires suits { Suits (typed_module checked.now) (map variable locals.now) (typed_expr e.now) }
+    requires room { HasRoom (setting checked.now locals.now frame) b.old }
+    ensures kept { Extends b.old b.new }
+    ensures works { OnOk result ((gives : Option Sort) → Works (setting checked.now locals.now frame) gives (means_assignment (setting checked.now locals.now frame) (map typed_target targets.now) (typed_expr e.now)) b.old b.new []) }
+    ensures shaped { Keeps b.old b.new }
+    ensures kinds { KeepsKindsIf (IsAmong (typed_module checked.now)) b.old b.new }
+{
+    let target = &targets[0];
+    let r = emit_expression(b, alloc, checked, locals, frame, e, line)?;
+    emit_set(b, alloc, checked, frame, target, r, line)
+}
+
+// The operation of an update in a type.
+fn updating(op: BinOp, t: &Ty) -> Binary
+    ensures { result ≡ update_binary op (sort t.now) }
+{
+    match t {
+        Ty::Str => Binary::Joined,
+        _ => Binary::Arithmetic(op),
+    }
+}
+
+// The result of an operation in a type, as a value of the variable's own type.
+fn emit_own(
+    b: &mut Emitter,
+    alloc: Global,
+    t: &Ty,
+    own: &Ty,
+    x: Reg,
+    line: usize,
+) -> Result<Reg, Memory>
+    requires turns { TurnsInto (sort t.now) (sort own.now) }
+    requires value { HasType b.old x.0 (rtype_of (sort t.now)) }
+    ensures kept { Extends b.old b.new }
+    ensures made { IfOk result (λ r. Attempts (Shows (sort own.now)) b.old b.new r.0 (rtype_of (sort own.now)) (ActsOn (sort t.now) x.0 (coerced (sort own.now)))) }
+    ensures shaped { Keeps b.old b.new }
+    ensures kinds { KeepsKinds b.old b.new }
+{
+    match own {
+        Ty::Str => Ok(x),
+        _ => emit_coercion(b, alloc, t, own, x, line),
+    }
+}
+
+// The result of an operation on two parts in a type, as a value of the variable's own type.
+fn emit_changed(
+    b: &mut Emitter,
+    alloc: Global,
+    checked: &Checked,
+    locals: &[Var],
+    frame: Frame,
+    op: Binary,
+    t: &Ty,
+    own: &Ty,
+    before: &TExpr,
+    e: &TExpr,
+    line: usize,
+) -> Result<Reg, Memory>
+    requires fits { BinarySuits op (sort t.now) (sort before.now.ty) (sort e.now.ty) }
+    requires turns { TurnsInto (sort t.now) (sort own.now) }
+    requires before { Suits (typed_module checked.now) (map variable locals.now) (typed_expr before.now) }
+    requires suits { Suits (typed_module checked.now) (map variable locals.now) (typed_expr e.now) }
+    requires room { HasRoom (setting checked.now locals.now frame) b.old }
+    ensures kept { Extends b.old b.new }
+    ensures computes { IfOk result (λ r. ComputesAs (setting checked.now locals.now frame) op (sort t.now) (sort own.now) (typed_expr before.now) (typed_expr e.now) b.old b.new r.0) }
+    ensures shaped { Keeps b.old b.new }
+    ensures kinds { KeepsKindsIf (IsAmong (typed_module checked.now)) b.old b.new }
+{
+    let result = emit_two_parts(b, alloc, checked, locals, frame, op, t, before, e, line)?;
+    emit_own(b, alloc, t, own, result, line)
+}
+
+/// Changes a variable by an operation in a type (Python Language Reference, "Augmented assignment statements"): it is read, then
+/// the operand is evaluated, and the result is turned into the variable's own type.
+pub(crate) fn emit_update(
+    b: &mut Emitter,
+    alloc: Global,
+    checked: &Checked,
+    locals: &[Var],
+    frame: Frame,
+    target: &Target,
+    op: BinOp,
+    e: &TExpr,
+    t: &Ty,
+    line: usize,
+) -> Result<(), Memory>
+    requires fits { VariableUpdates (typed_module checked.now) (map variable locals.now) None (typed_target target.now) op (sort t.now) (type_of (typed_expr e.now)) }
+    requires suits { Suits (typed_module checked.now) (map variable locals.now) (typed_expr e.now) }
+    requires room { HasRoom (setting checked.now locals.now frame) b.old }
+    ensures kept { Extends b.old b.new }
+    ensures works { OnOk result ((gives : Option Sort) → Works (setting checked.now locals.now frame) gives (means_update (setting checked.now locals.now frame) (typed_target target.now) op (typed_expr e.now) (sort t.now)) b.old b.new []) }
+    ensures shaped { Keeps b.old b.new }
+    ensures kinds { KeepsKindsIf (IsAmong (typed_module checked.now)) b.old b.new }
+{
+    let own = variable_type(checked, locals, target);
+    let before = reading(target, own, e.span);
+    let op = updating(op, t);
+    let value = emit_changed(
+        b, alloc, checked, locals, frame, op, t, own, &before, e, line,
+    )?;
+    emit_set(b, alloc, checked, frame, target, value, line)
+}
+
+// The value that is returned, in a register. Without one it is None.
+fn emit_returned(
+    b: &mut Emitter,
+    alloc: Global,
+    checked: &Checked,
+    locals: &[Var],
+    frame: Frame,
+    value: &Option<TExpr>,
+    line: usize,
+) -> Result<Reg, Memory>
+    requires suits { ReturnSuits (typed_module checked.now) (map variable locals.now) (Some (returned_type (maybe_typed value.now))) (maybe_typed value.now) }
+    requires room { HasRoom (setting checked.now locals.now frame) b.old }
+    ensures kept { Extends b.old b.new }
+    ensures computes { IfOk result (λ r. ComputesReturned (setting checked.now locals.now frame) (maybe_typed value.now) b.old b.new r.0) }
+    ensures shaped { Keeps b.old b.new }
+    ensures kinds { KeepsKindsIf (IsAmong (typed_module checked.now)) b.old b.new }
+{
+    match value {
+        Some(e) => emit_expression(b, alloc, checked, locals, frame, e, line),
+        None => b.literal(RType::Ref, Lit::PyNone, line),
+    }
+}
+
+/// Returns (Python Language Reference, "The return statement").
+pub(crate) fn emit_return(
+    b: &mut Emitter,
+    alloc: Global,
+    checked: &Checked,
+    locals: &[Var],
+    frame: Frame,
+    value: &Option<TExpr>,
+    line: usize,
+) -> Result<(), Memory>
+    requires suits { ReturnSuits (typed_module checked.now) (map variable locals.now) (Some (returned_type (maybe_typed value.now))) (maybe_typed value.now) }
+    requires room { HasRoom (setting checked.now locals.now frame) b.old }
+    requires alone { frame.ret ≡ None }
+    ensures kept { Extends b.old b.new }
+    ensures works { OnOk result (Works (setting checked.now locals.now frame) (Some (returned_type (maybe_typed value.now))) (means_return (setting checked.now locals.now frame) (maybe_typed value.now)) b.old b.new []) }
+    ensures shaped { Keeps b.old b.new }
+    ensures kinds { KeepsKindsIf (IsAround (typed_module checked.now) (Some (returned_type (maybe_typed value.now)))) b.old b.new }
+{
+    let r = emit_returned(b, alloc, checked, locals, frame, value, line)?;
+    b.close(Last::Return(r))?;
+    Ok(())
+}

@@ -1,0 +1,209 @@
+//! The code of statements.
+ghost use Rattle.std.specs.Prelude.{◌≡◌, ◌≤◌, [], true, map, length, None, OnOk};
+ghost use Rattle.std.specs.Option.{option_map, option_copied};
+ghost use Rattle.py_typed.specs.Sorts.{sort};
+ghost use Rattle.py_typed.specs.Expressions.{typed_expr};
+ghost use Rattle.py_typed.specs.Statements.{typed_module, typed_stmt, typed_suite, typed_arm, arms_of, variable};
+ghost use Rattle.ir_core.specs.Building.{Extends};
+ghost use Rattle.ir_builder_frames.specs.Settings.{setting};
+ghost use Rattle.ir_builder_frames.specs.Matching.{HasRoom};
+ghost use Rattle.ir_builder_frames.specs.Shaped.{Keeps};
+ghost use Rattle.ir_builder_frames.specs.Kinds.{KeepsKindsIf};
+ghost use Rattle.ir_builder_loops_and_jumps.specs.Means.{means_statement, means_suite};
+ghost use Rattle.ir_builder_loops_and_jumps.specs.Runs.{Emitted};
+ghost use Rattle.ir_builder_loops_and_jumps.specs.Tested.{means_arms, Tested};
+ghost use Rattle.ir_builder_statements.specs.Suiting.{TestSuits, StatementSuits, SuiteSuits, ArmsSuit};
+ghost use Rattle.ir_builder_statements.specs.Kinds.{IsAround};
+
+use crate::alone::emit_alone;
+use crate::branch::{emit_split, end_arm, end_loop, join};
+use crate::exits::leave_by;
+use crate::simple::{emit_assignment, emit_return, emit_update};
+use ir_builder_frames::{Emitter, Frame};
+use ir_builder_loops_and_jumps::{Exit, Way};
+use py_typed::{Checked, TExpr, TStmt, TStmtKind, Ty, Var};
+use std::alloc::Global;
+use value_core::{Many, Memory};
+
+/// Emits statements one after another. The exits by which they are left are added to a list. `gives` is the type of the
+/// function's result, and none in the module's own code; `looping` says whether a loop is around. It fails for
+/// want of memory.
+#[cycle(statement)]
+pub fn emit_block(
+    b: &mut Emitter,
+    alloc: Global,
+    checked: &Checked,
+    locals: &[Var],
+    frame: Frame,
+    gives: Option<&Ty>,
+    looping: bool,
+    body: &[TStmt],
+    exits: &mut Vec<Exit>,
+) -> Result<(), Memory>
+    requires suits { SuiteSuits (typed_module checked.now) (map variable locals.now) (option_map sort (option_copied gives)) looping (typed_suite body.now) }
+    requires room { HasRoom (setting checked.now locals.now frame) b.old }
+    requires alone { frame.ret ≡ None }
+    ensures kept { Extends b.old b.new }
+    ensures emitted { OnOk result (Emitted (setting checked.now locals.now frame) (option_map sort (option_copied gives.entry)) looping (means_suite (setting checked.now locals.now frame) (typed_suite body.now)) b.old b.new exits.old.items exits.new.items) }
+    ensures shaped { OnOk result (Keeps b.old b.new) }
+    ensures kinds { OnOk result (KeepsKindsIf (IsAround (typed_module checked.now) (option_map sort (option_copied gives.entry))) b.old b.new) }
+{
+    for s in body {
+        emit_statement(b, alloc, checked, locals, frame, gives, looping, s, exits)?;
+    }
+    Ok(())
+}
+
+// A statement (Python Language Reference, "Simple statements" and "Compound statements").
+#[cycle(statement)]
+fn emit_statement(
+    b: &mut Emitter,
+    alloc: Global,
+    checked: &Checked,
+    locals: &[Var],
+    frame: Frame,
+    gives: Option<&Ty>,
+    looping: bool,
+    s: &TStmt,
+    exits: &mut Vec<Exit>,
+) -> Result<(), Memory>
+    requires suits { StatementSuits (typed_module checked.now) (map variable locals.now) (option_map sort (option_copied gives)) looping (typed_stmt s.now) }
+    requires room { HasRoom (setting checked.now locals.now frame) b.old }
+    requires alone { frame.ret ≡ None }
+    ensures kept { Extends b.old b.new }
+    ensures emitted { OnOk result (Emitted (setting checked.now locals.now frame) (option_map sort (option_copied gives.entry)) looping (means_statement (setting checked.now locals.now frame) (typed_stmt s.now)) b.old b.new exits.old.items exits.new.items) }
+    ensures shaped { OnOk result (Keeps b.old b.new) }
+    ensures kinds { OnOk result (KeepsKindsIf (IsAround (typed_module checked.now) (option_map sort (option_copied gives.entry))) b.old b.new) }
+{
+    let line = s.line;
+    match &s.kind {
+        TStmtKind::Expr(e) => emit_alone(b, alloc, checked, locals, frame, e, line),
+        TStmtKind::Assign(targets, e) => {
+            let targets = targets.as_slice();
+            emit_assignment(b, alloc, checked, locals, frame, targets, e, line)
+        }
+        TStmtKind::Aug(target, op, e, t) => {
+            emit_update(b, alloc, checked, locals, frame, target, *op, e, t, line)
+        }
+        TStmtKind::If(arms, other) => {
+            let arms = arms.as_slice();
+            let other = other.as_slice();
+            emit_if(
+                b, alloc, checked, locals, frame, gives, looping, s, arms, other, exits,
+            )
+        }
+        TStmtKind::While(e, body) => {
+            let body = body.as_slice();
+            emit_while(
+                b, alloc, checked, locals, frame, gives, looping, s, e, body, exits,
+            )
+        }
+        TStmtKind::Return(value) => emit_return(b, alloc, checked, locals, frame, value, line),
+        TStmtKind::Break => leave_by(b, Way::Break, exits),
+        TStmtKind::Continue => leave_by(b, Way::Continue, exits),
+        TStmtKind::Pass => Ok(()),
+        _ => unreachable!(),
+    }
+}
+
+// The `if` statement `s`, with its arms and the body of its `else`.
+#[cycle(statement)]
+fn emit_if(
+    b: &mut Emitter,
+    alloc: Global,
+    checked: &Checked,
+    locals: &[Var],
+    frame: Frame,
+    gives: Option<&Ty>,
+    looping: bool,
+    s: &TStmt,
+    arms: &[(TExpr, Many<TStmt>)],
+    other: &[TStmt],
+    exits: &mut Vec<Exit>,
+) -> Result<(), Memory>
+    requires is { s.now.kind ≡ TStmtKind.If arms.now other.now }
+    requires arms_suit { ArmsSuit (typed_module checked.now) (map variable locals.now) (option_map sort (option_copied gives)) looping (arms_of (map typed_arm arms.now)) }
+    requires other_suits { SuiteSuits (typed_module checked.now) (map variable locals.now) (option_map sort (option_copied gives)) looping (typed_suite other.now) }
+    requires room { HasRoom (setting checked.now locals.now frame) b.old }
+    requires alone { frame.ret ≡ None }
+    ensures kept { Extends b.old b.new }
+    ensures emitted { OnOk result (Emitted (setting checked.now locals.now frame) (option_map sort (option_copied gives.entry)) looping (means_statement (setting checked.now locals.now frame) (typed_stmt s.now)) b.old b.new exits.old.items exits.new.items) }
+    ensures shaped { OnOk result (Keeps b.old b.new) }
+    ensures kinds { OnOk result (KeepsKindsIf (IsAround (typed_module checked.now) (option_map sort (option_copied gives.entry))) b.old b.new) }
+{
+    let mut inner = Vec::new(alloc);
+    emit_arms(
+        b, alloc, checked, locals, frame, gives, looping, arms, &mut inner,
+    )?;
+    emit_block(
+        b, alloc, checked, locals, frame, gives, looping, other, &mut inner,
+    )?;
+    join(b, &inner, exits)
+}
+
+// The arms of an `if`: each body is left by an exit to behind the `if`.
+#[cycle(statement)]
+fn emit_arms(
+    b: &mut Emitter,
+    alloc: Global,
+    checked: &Checked,
+    locals: &[Var],
+    frame: Frame,
+    gives: Option<&Ty>,
+    looping: bool,
+    arms: &[(TExpr, Many<TStmt>)],
+    exits: &mut Vec<Exit>,
+) -> Result<(), Memory>
+    requires none { exits.old.items ≡ [] }
+    requires suits { ArmsSuit (typed_module checked.now) (map variable locals.now) (option_map sort (option_copied gives)) looping (arms_of (map typed_arm arms.now)) }
+    requires room { HasRoom (setting checked.now locals.now frame) b.old }
+    requires alone { frame.ret ≡ None }
+    ensures kept { Extends b.old b.new }
+    ensures tested { OnOk result (Tested (setting checked.now locals.now frame) (option_map sort (option_copied gives.entry)) looping (means_arms (setting checked.now locals.now frame) arms.now) b.old b.new exits.new.items) }
+    ensures shaped { OnOk result (Keeps b.old b.new) }
+    ensures kinds { OnOk result (KeepsKindsIf (IsAround (typed_module checked.now) (option_map sort (option_copied gives.entry))) b.old b.new) }
+{
+    for (e, body) in arms {
+        let test = emit_split(b, alloc, checked, locals, frame, e)?;
+        let body = body.as_slice();
+        emit_block(
+            b, alloc, checked, locals, frame, gives, looping, body, exits,
+        )?;
+        end_arm(b, test, exits)?;
+    }
+    Ok(())
+}
+
+// The `while` statement `s`, with its test and its body.
+#[cycle(statement)]
+fn emit_while(
+    b: &mut Emitter,
+    alloc: Global,
+    checked: &Checked,
+    locals: &[Var],
+    frame: Frame,
+    gives: Option<&Ty>,
+    looping: bool,
+    s: &TStmt,
+    e: &TExpr,
+    body: &[TStmt],
+    exits: &mut Vec<Exit>,
+) -> Result<(), Memory>
+    requires is { s.now.kind ≡ TStmtKind.While e.now body.now }
+    requires test { TestSuits (typed_module checked.now) (map variable locals.now) (option_map sort (option_copied gives)) (typed_expr e.now) }
+    requires suits { SuiteSuits (typed_module checked.now) (map variable locals.now) (option_map sort (option_copied gives)) true (typed_suite body.now) }
+    requires room { HasRoom (setting checked.now locals.now frame) b.old }
+    requires alone { frame.ret ≡ None }
+    ensures kept { Extends b.old b.new }
+    ensures emitted { OnOk result (Emitted (setting checked.now locals.now frame) (option_map sort (option_copied gives.entry)) looping (means_statement (setting checked.now locals.now frame) (typed_stmt s.now)) b.old b.new exits.old.items exits.new.items) }
+    ensures shaped { OnOk result (Keeps b.old b.new) }
+    ensures kinds { OnOk result (KeepsKindsIf (IsAround (typed_module checked.now) (option_map sort (option_copied gives.entry))) b.old b.new) }
+{
+    let mut inner = Vec::new(alloc);
+    let head = b.step_on()?;
+    let test = emit_split(b, alloc, checked, locals, frame, e)?;
+    emit_block(
+        b, alloc, checked, locals, frame, gives, true, body, &mut inner,
+    )?;
+    end_loop(b, head, test, &inner, exits, s.line)
+}

@@ -1,0 +1,95 @@
+-- What is found where the code stands in a comparison, at a definition, and among the definitions of functions.
+use Rattle.std.proofs.Common.{◌≡◌, ◌∙◌, refl, sym, ap, arith, ℕ, suc, ◌+◌, ◌<◌, max, Bool, true, false, cond, List, [], ◌∷◌, length, map, get_or, drop, Option, Some, None}
+use Rattle.std.specs.Prelude.{slice_get}
+use Rattle.std.specs.List.{filter}
+use Rattle.std.specs.Option.{option_map}
+use Rattle.std.proofs.lemmas.Option.{slice_get-map}
+use Rattle.std.proofs.lemmas.List.{drop_more}
+use Rattle.std.specs.declared.boxed.Box.{Box}
+use Rattle.std.specs.declared.alloc.Global.{Global}
+use denote.Ref.{Bor}
+use denote.Param.Weighed.{most}
+use Rattle.py_syntax.specs.declared.expression.CmpOp.{CmpOp}
+use Rattle.py_syntax.specs.declared.statement.Stmt.{Stmt}
+use Rattle.py_syntax.specs.Statements.{StmtTree, Suite, stmt_tree}
+use Rattle.py_syntax.proofs.StatementLemmas.{stmt_tree_at}
+use Rattle.py_check_names.specs.Walked.{trees}
+use Rattle.py_check_names.specs.Outline.{suite_definitions}
+use Rattle.py_typed.specs.Sorts.{sort}
+use Rattle.py_typed.specs.declared.expression.TExpr.{TExpr}
+use Rattle.py_typed.specs.declared.expression.TKind as kind
+use Rattle.py_typed.specs.declared.statement.TStmt.{TStmt, size-TStmt}
+use Rattle.py_typed.specs.declared.statement.TStmtKind as act
+use Rattle.py_typed.specs.declared.checked.TFunc.{TFunc}
+use Rattle.py_typed.specs.Expressions.{typed_expr, typed_node, typed_comparison, comparisons_of}
+use Rattle.py_typed.specs.Statements.{Variable, TypedFunc, TypedModule, TypedSuite, typed_stmt, typed_act, typed_suite, typed_arm, arms_of, typed_func}
+use Rattle.py_typed.proofs.ExpressionLemmas.{typed_expr_at, typed_node-Compare}
+use Rattle.py_typed.proofs.StatementLemmas.{typed_stmt_at, typed_act-If}
+use Rattle.ir_builder_supported.specs.Expressions.{is_form}
+use Rattle.ir_builder_supported.specs.Statements.{is_function, is_def, definition_line, uncompiled_line}
+use Rattle.ir_builder_supported.specs.Least.{noted, expression_least, part_least, chain_least, statement_least, act_least, suite_least, arms_least, functions_least}
+use Rattle.ir_builder_supported.proofs.LineLemmas.{module_same}
+
+pub comparison_found : (e : TExpr) (a : Box TExpr Global) (more more2 : List (CmpOp × TExpr)) → e.kind ≡ kind.Compare a more → more2 ≡ more → (b : Bool) → b ≡ is_form (typed_node e.kind) (sort e.ty) → b ≡ true → (found first last : Option ℕ) → first ≡ expression_least found (typed_expr a.value) → last ≡ chain_least first (comparisons_of (map typed_comparison more2)) → last ≡ expression_least found (typed_expr e)
+comparison_found e a more more2 is same b tested true_is found first last one all =
+    all
+    ∙ ap (λ f. chain_least f (comparisons_of (map typed_comparison more2))) one
+    ∙ ap (λ l. chain_least (expression_least found (typed_expr a.value)) (comparisons_of (map typed_comparison l))) same
+    ∙ sym (ap (part_least found) (ap typed_node is ∙ typed_node-Compare a more))
+    ∙ sym (ap (λ t. noted t e.span.line found (part_least found (typed_node e.kind))) (sym tested ∙ true_is))
+    ∙ sym (ap (expression_least found) (typed_expr_at e))
+
+pub if_found : (locals globals : List Variable) (s : TStmt) (arms arms2 : List (TExpr × List TStmt)) (other other2 : List TStmt) → s.kind ≡ act.If arms other → arms2 ≡ arms → other2 ≡ other → (found first last : Option ℕ) → first ≡ arms_least locals globals found (arms_of (map typed_arm arms2)) → last ≡ suite_least locals globals first (typed_suite other2) → last ≡ statement_least locals globals found (typed_stmt s)
+if_found locals globals s arms arms2 other other2 is a o found first last one all =
+    all
+    ∙ ap (λ f. suite_least locals globals f (typed_suite other2)) one
+    ∙ ap (λ l. suite_least locals globals (arms_least locals globals found (arms_of (map typed_arm l))) (typed_suite other2)) a
+    ∙ ap (λ l. suite_least locals globals (arms_least locals globals found (arms_of (map typed_arm arms))) (typed_suite l)) o
+    ∙ sym (ap (act_least locals globals found s.line) (ap typed_act is ∙ typed_act-If arms other))
+    ∙ sym (ap (statement_least locals globals found) (typed_stmt_at s))
+
+pub module_found : (m : Suite) (t : TypedModule) (definitions : List StmtTree) (globals : List Variable) (top : TypedSuite) (functions : List TypedFunc) → globals ≡ t.globals → definitions ≡ filter is_def (suite_definitions m) → top ≡ t.top → functions ≡ t.funcs → (found last : Option ℕ) → found ≡ suite_least [] globals None top → last ≡ functions_least globals definitions found 0 functions → last ≡ uncompiled_line m t
+module_found m t definitions globals top functions g d o f found last one all =
+    all
+    ∙ ap (λ x. functions_least globals definitions x 0 functions) one
+    ∙ ap (λ l. functions_least l definitions (suite_least [] l None top) 0 functions) g
+    ∙ ap (λ l. functions_least t.globals l (suite_least [] t.globals None top) 0 functions) d
+    ∙ ap (λ l. functions_least t.globals (filter is_def (suite_definitions m)) (suite_least [] t.globals None l) 0 functions) o
+    ∙ ap (functions_least t.globals (filter is_def (suite_definitions m)) (suite_least [] t.globals None t.top) 0) f
+    ∙ module_same m t
+
+-- one function more of a row
+pub function_found : (globals : List Variable) (definitions : List StmtTree) (functions : List TFunc) (n : ℕ) (f : TFunc) (line : ℕ) (found next last : Option ℕ) → n < length functions → f ≡ get_or functions n f → line ≡ definition_line (slice_get definitions n) → next ≡ noted (is_function (typed_func f)) line found (suite_least (typed_func f).locals globals found (typed_func f).body) → functions_least globals definitions found n (map typed_func (drop n functions)) ≡ last → functions_least globals definitions next (n + 1) (map typed_func (drop (n + 1) functions)) ≡ last
+function_found globals definitions functions n f line found next last low is place one all =
+    let rest : List TypedFunc = map typed_func (drop (n + 1) functions) in
+    let on : n + 1 ≡ suc n = omega arith in
+    ap (λ k. functions_least globals definitions next k rest) on
+    ∙ ap (λ o. functions_least globals definitions o (suc n) rest)
+    (one ∙ ap (λ l. noted (is_function (typed_func f)) l found (suite_least (typed_func f).locals globals found (typed_func f).body)) place)
+    ∙ sym (ap (λ l. functions_least globals definitions found n (map typed_func l)) (drop_more functions n f low ∙ ap (λ g. g ∷ drop (n + 1) functions) (sym is)))
+    ∙ all
+
+line_at : (s : Stmt) → s.span.line ≡ definition_line (Some (stmt_tree s))
+line_at s = sym (ap (λ t. definition_line (Some t)) (stmt_tree_at s))
+
+pub line_found : (definitions : List (Bor Stmt)) (n : ℕ) (s : Bor Stmt) → slice_get definitions n ≡ Some s → s.now.span.line ≡ definition_line (slice_get (trees definitions) n)
+line_found definitions n s is =
+    line_at s.now
+    ∙ sym (ap (λ o. definition_line (option_map (λ (d : Bor Stmt). stmt_tree d.now) o)) is)
+    ∙ sym (ap definition_line (slice_get-map (λ (d : Bor Stmt). stmt_tree d.now) definitions n))
+
+-- a filter by what elements stand for keeps what the elements that it keeps stand for
+pub filter_stands : {A B : Type 0} (of : A → B) (test : B → Bool) (xs : List A) → map of (filter (λ x. test (of x)) xs) ≡ filter test (map of xs)
+filter_stands of test [] = refl
+filter_stands of test (x ∷ xs) = kept (test (of x)) (filter_stands of test xs)
+  where
+    kept : (b : Bool) → map of (filter (λ y. test (of y)) xs) ≡ filter test (map of xs) → map of (cond b (x ∷ filter (λ y. test (of y)) xs) (filter (λ y. test (of y)) xs)) ≡ cond b (of x ∷ filter test (map of xs)) (filter test (map of xs))
+    kept true e = ap (λ l. of x ∷ l) e
+    kept false e = e
+
+pub functions_kept : (before after : List (Bor Stmt)) → after ≡ filter (λ (s : Bor Stmt). is_def (stmt_tree s.now)) before → trees after ≡ filter is_def (trees before)
+functions_kept before after e = ap trees e ∙ filter_stands (λ (s : Bor Stmt). stmt_tree s.now) is_def before
+
+-- the size of an arm of an `if`, which is that of its body
+abbrev pub arm_size : TExpr × List TStmt → ℕ
+arm_size a = max 0 (max (most size-TStmt a.1) 0)

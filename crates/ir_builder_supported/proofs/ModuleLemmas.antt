@@ -1,0 +1,193 @@
+-- A well typed module all of which is compiled is one that is built.
+use Rattle.std.proofs.Common.{◌≡◌, refl, sym, ◌∙◌, ap, subst, arith, ℕ, zero, suc, ◌+◌, Bool, true, false, List, [], ◌∷◌, ◌++◌, length, map, Option, Some, None}
+use Rattle.std.proofs.lemmas.Bool.{leb-true}
+use Rattle.std.proofs.lemmas.List.Folds.{list_any-append}
+use Rattle.std.proofs.lemmas.Option.{same_Some}
+use Rattle.std.specs.Prelude.{not, ◌&&◌, ◌||◌, nat_le, slice_get}
+use Rattle.std.specs.List.{list_any, flat_map, filter}
+use Rattle.std.specs.Str.{bytes_eq}
+use Rattle.c_core.specs.WellFormed.{is_identifier, names_differ}
+use Rattle.c_core.proofs.Lines.{all_at as at_each}
+use Rattle.py_syntax.specs.Statements.{StmtTree, Suite}
+use Rattle.py_check_names.specs.Outline.{suite_definitions}
+use Rattle.py_typed.specs.Sorts.{Sort, sorts_of}
+use Rattle.py_typed.specs.Classes.{ClassEntry, Signature}
+use Rattle.py_typed.specs.Fits.{is_same_type, are_same_types, is_nothing}
+use Rattle.py_typed.specs.Narrowing.{is_closed}
+use Rattle.py_typed.specs.Statements.{Variable, TypedFunc, TypedModule}
+use Rattle.py_typed.specs.WellTypedExpr.{init_class}
+use Rattle.py_typed.specs.WellTyped.{is_called_in, all_differ, suite_typed}
+use Rattle.py_typed.specs.WellTypedModule.{names_of, same_row, all_at, ends_well, parameter_types, signature_fits, variables_typed, func_typed, own_name, is_well_typed}
+use Rattle.py_typed.proofs.FitLemmas.{and_left, and_right, one_type}
+use Rattle.py_check_unbuilt.specs.Later.{lesser, least}
+use Rattle.ir_builder_frames.specs.Matching.{parameter_sorts}
+use Rattle.ir_builder_expressions.specs.Compiled.{is_scalar, is_result}
+use Rattle.ir_builder_expressions.proofs.SuitLemmas.{AllScalar, AllSigned}
+use Rattle.ir_builder_statements.specs.Modules.{FunctionSuits, ModuleSuits}
+use Rattle.ir_builder_supported.specs.Statements.{suite_lines, is_none, are_scalars, is_function, is_def, definition_line, function_lines, functions_lines}
+use Rattle.ir_builder_supported.specs.Laws.{CompiledSuits}
+use Rattle.ir_builder_supported.proofs.CompiledLemmas.{none_left, none_right, form_of, parts_of}
+use Rattle.ir_builder_supported.proofs.SuiteLemmas.{either_of, suite_suits}
+
+-- ---- lines
+
+still_some : (n : ℕ) (xs : List ℕ) → least (Some n) xs ≡ None → ⊥
+still_some n [] e = absurd (cc)
+still_some n (x ∷ xs) e = still_some (lesser x (Some n)) xs e
+
+no_line : (xs : List ℕ) → least None xs ≡ None → xs ≡ []
+no_line [] e = refl
+no_line (x ∷ xs) e = absurd (still_some (lesser x None) xs e)
+
+-- ---- names
+
+one_test : (xs : List (List ℕ)) → all_differ xs ≡ names_differ xs
+one_test [] = refl
+one_test (x ∷ xs) = ap (λ b. not (list_any (bytes_eq x) xs) && b) (one_test xs)
+
+neither_left : (a b : Bool) → not (a || b) ≡ true → not a ≡ true
+neither_left false b e = refl
+neither_left true b e = e
+
+not_among : (x : List ℕ) (xs ys : List (List ℕ)) → not (is_called_in (xs ++ ys) x) ≡ true → not (is_called_in xs x) ≡ true
+not_among x xs ys e = neither_left (is_called_in xs x) (is_called_in ys x) (subst (λ b. not b ≡ true) (list_any-append (bytes_eq x) xs ys) e)
+
+differ_left : (xs ys : List (List ℕ)) → all_differ (xs ++ ys) ≡ true → all_differ xs ≡ true
+differ_left [] ys e = refl
+differ_left (x ∷ xs) ys e =
+    ap (λ b. b && all_differ xs) (not_among x xs ys (and_left (not (is_called_in (xs ++ ys) x)) (all_differ (xs ++ ys)) e))
+    ∙ differ_left xs ys (and_right (not (is_called_in (xs ++ ys) x)) (all_differ (xs ++ ys)) e)
+
+differ_right : (xs ys : List (List ℕ)) → all_differ (xs ++ ys) ≡ true → all_differ ys ≡ true
+differ_right [] ys e = e
+differ_right (x ∷ xs) ys e = differ_right xs ys (and_right (not (is_called_in (xs ++ ys) x)) (all_differ (xs ++ ys)) e)
+
+-- ---- functions
+
+at_place : {A : Type 0} (test : ℕ → A → Bool) (i : ℕ) (xs : List A) (k n : ℕ) (x : A) → n ≡ i + k → all_at i test xs ≡ true → slice_get xs k ≡ Some x → test n x ≡ true
+at_place test i [] k n x is h e = absurd (cc)
+at_place test i (y ∷ ys) zero n x is h e =
+    subst (λ j. test j x ≡ true) (sym (omega arith)) (subst (λ z. test i z ≡ true) (same_Some y x e) (and_left (test i y) (all_at (suc i) test ys) h))
+at_place test i (y ∷ ys) (suc k) n x is h e = at_place test (suc i) ys k n x (omega arith) (and_right (test i y) (all_at (suc i) test ys) h) e
+
+is_form_of : (globals : List Variable) (definitions : List StmtTree) (n : ℕ) (fs : List TypedFunc) (k : ℕ) (f : TypedFunc) → functions_lines globals definitions n fs ≡ [] → slice_get fs k ≡ Some f → (is_function f ≡ true) × (suite_lines f.locals globals f.body ≡ [])
+is_form_of globals definitions n [] k f p e = absurd (cc)
+is_form_of globals definitions n (g ∷ more) zero f p e =
+    let here : function_lines globals (slice_get definitions n) g ≡ [] = none_left (function_lines globals (slice_get definitions n) g) (functions_lines globals definitions (suc n) more) p in
+    subst (λ h. (is_function h ≡ true) × (suite_lines h.locals globals h.body ≡ [])) (same_Some g f e)
+    (form_of (is_function g) (definition_line (slice_get definitions n)) (suite_lines g.locals globals g.body) here, parts_of (is_function g) (definition_line (slice_get definitions n)) (suite_lines g.locals globals g.body) here)
+is_form_of globals definitions n (g ∷ more) (suc k) f p e =
+    is_form_of globals definitions (suc n) more k f (none_right (function_lines globals (slice_get definitions n) g) (functions_lines globals definitions (suc n) more) p) e
+
+none_is : {A : Type 0} (o : Option A) → is_none o ≡ true → o ≡ None
+none_is None h = refl
+none_is (Some a) h = absurd (cc)
+
+no_method : (f : TypedFunc) → is_function f ≡ true → f.class ≡ None
+no_method f h = none_is f.class (and_left (is_none f.class) (nat_le f.params (length f.locals) && (are_scalars f.locals && is_result f.ret)) h)
+
+-- the types of the parameters of a function that is no method
+own_parameters : (f : TypedFunc) → f.class ≡ None → parameter_types f ≡ parameter_sorts f
+own_parameters f h = rw h refl
+
+module _ (m : TypedModule) where
+  named : (f : TypedFunc) → f.class ≡ None → own_name is_identifier m f ≡ f.name ∷ []
+  named f h = rw h refl
+
+  all_named : (definitions : List StmtTree) (n : ℕ) (fs : List TypedFunc) → functions_lines m.globals definitions n fs ≡ [] → flat_map (own_name is_identifier m) fs ≡ map (λ (f : TypedFunc). f.name) fs
+  all_named definitions n [] p = refl
+  all_named definitions n (f ∷ more) p =
+      let here : function_lines m.globals (slice_get definitions n) f ≡ [] = none_left (function_lines m.globals (slice_get definitions n) f) (functions_lines m.globals definitions (suc n) more) p in
+      let own = named f (no_method f (form_of (is_function f) (definition_line (slice_get definitions n)) (suite_lines f.locals m.globals f.body) here)) in
+      ap (λ l. l ++ flat_map (own_name is_identifier m) more) own
+      ∙ ap (λ l. f.name ∷ l) (all_named definitions (suc n) more (none_right (function_lines m.globals (slice_get definitions n) f) (functions_lines m.globals definitions (suc n) more) p))
+
+  -- what a well typed function has
+  record Parts (n : ℕ) (f : TypedFunc) : Type 0 where
+    pub name : is_identifier f.name ≡ true
+    pub variables : variables_typed is_identifier m f.locals ≡ true
+    pub signature : signature_fits (slice_get m.classes.signatures n) f ≡ true
+    pub ends : ends_well f ≡ true
+    pub body : suite_typed m f.locals (init_class f) (Some f.ret) [] false false f.body ≡ true
+
+  parts : (n : ℕ) (f : TypedFunc) → func_typed is_identifier m n f ≡ true → Parts n f
+  parts n f h =
+      let twelve = and_left _ _ h in
+      let eight = and_left _ _ (and_left _ _ (and_left _ _ (and_left _ _ twelve))) in
+      let five = and_left _ _ (and_left _ _ (and_left _ _ eight)) in
+      record {
+        name = and_left _ _ (and_left _ _ (and_left _ _ (and_left _ _ five)));
+        variables = and_right _ _ five;
+        signature = and_right _ _ eight;
+        ends = and_right _ _ twelve;
+        body = and_right _ _ h;
+      }
+
+  -- ---- signatures
+
+  same_sorts : (ss ts : List Sort) → are_same_types (sorts_of ss) (sorts_of ts) ≡ true → ss ≡ ts
+  same_sorts [] [] e = refl
+  same_sorts [] (t ∷ ts) e = absurd (cc)
+  same_sorts (s ∷ ss) [] e = absurd (cc)
+  same_sorts (s ∷ ss) (t ∷ ts) e = ap (λ x. x ∷ ss) (one_type s t (and_left _ _ e)) ∙ ap (λ l. t ∷ l) (same_sorts ss ts (and_right _ _ e))
+
+  signed_as : (f : TypedFunc) (s : Signature) → f.class ≡ None → signature_fits (Some s) f ≡ true → (s.params ≡ parameter_sorts f) × (s.ret ≡ f.ret)
+  signed_as f s own h = (
+    sym (same_sorts (parameter_types f) s.params (and_left (same_row (parameter_types f) s.params) (is_same_type f.ret s.ret) h)) ∙ own_parameters f own,
+    sym (one_type f.ret s.ret (and_right (same_row (parameter_types f) s.params) (is_same_type f.ret s.ret) h)),
+  )
+
+  module _ (tree : Suite) (typed : is_well_typed is_identifier m ≡ true) (lines : functions_lines m.globals (filter is_def (suite_definitions tree)) 0 m.funcs ≡ []) where
+    function_parts : (n : ℕ) (f : TypedFunc) → slice_get m.funcs n ≡ Some f → Parts n f
+    function_parts n f is = parts n f (at_place (func_typed is_identifier m) 0 m.funcs n n f (omega arith) (and_right _ _ (and_left _ _ typed)) is)
+
+    formed : (n : ℕ) (f : TypedFunc) → slice_get m.funcs n ≡ Some f → (is_function f ≡ true) × (suite_lines f.locals m.globals f.body ≡ [])
+    formed n f is = is_form_of m.globals (filter is_def (suite_definitions tree)) 0 m.funcs n f lines is
+
+    all_signed : (vs : List Variable) (init : Option ℕ) → AllSigned m vs init
+    all_signed vs init n f s is function found =
+        signed_as f s (no_method f (formed n f is).0) (subst (λ o. signature_fits o f ≡ true) found (function_parts n f is).signature)
+
+    function_suits : (n : ℕ) (f : TypedFunc) → slice_get m.funcs n ≡ Some f → FunctionSuits m f
+    function_suits n f is =
+        let p = function_parts n f is in
+        let form = formed n f is in
+        let row = and_right (is_none f.class) (nat_le f.params (length f.locals) && (are_scalars f.locals && is_result f.ret)) form.0 in
+        let types = and_right (nat_le f.params (length f.locals)) (are_scalars f.locals && is_result f.ret) row in
+        let scalars : AllScalar m f.locals (init_class f) = λ i v there. at_each (λ (x : Variable). is_scalar x.1) f.locals i v (and_left (are_scalars f.locals) (is_result f.ret) types) there in
+        record {
+          name = p.name;
+          parameters = leb-true f.params (length f.locals) (and_left (nat_le f.params (length f.locals)) (are_scalars f.locals && is_result f.ret) row);
+          scalars = scalars;
+          identifiers = and_left _ _ (and_left _ _ p.variables);
+          differ = sym (one_test (names_of f.locals)) ∙ and_right _ _ (and_left _ _ p.variables);
+          result = and_right (are_scalars f.locals) (is_result f.ret) types;
+          body = suite_suits m f.locals (init_class f) scalars (all_signed f.locals (init_class f)) (Some f.ret) [] false false f.body p.body form.1;
+          ends = either_of (is_nothing f.ret) (is_closed f.body) p.ends;
+        }
+
+    module_suits : suite_lines [] m.globals m.top ≡ [] → ModuleSuits m
+    module_suits top =
+        let six = and_left _ _ typed in
+        let two = and_left _ _ (and_left _ _ (and_left _ _ (and_left _ _ six))) in
+        let globals = and_left _ _ two in
+        let others = names_of m.globals in
+        let functions = flat_map (own_name is_identifier m) m.funcs in
+        let classes = map (λ (c : ClassEntry). c.name) m.classes.classes in
+        record {
+          functions = function_suits;
+          differ =
+              sym (one_test (map (λ (f : TypedFunc). f.name) m.funcs))
+              ∙ subst (λ l. all_differ l ≡ true) (all_named (filter is_def (suite_definitions tree)) 0 m.funcs lines) (differ_left functions classes (differ_right others (functions ++ classes) (and_right _ _ two)));
+          identifiers = and_left _ _ (and_left _ _ globals);
+          globals_differ = sym (one_test others) ∙ and_right _ _ (and_left _ _ globals);
+          top = suite_suits m [] None no_variables (all_signed [] None) None [] false false m.top (and_right _ _ typed) top;
+        }
+      where
+        no_variables : AllScalar m [] None
+        no_variables i v e = absurd (cc)
+
+pub compiled_suits : CompiledSuits
+compiled_suits tree m typed none =
+    let all = no_line (suite_lines [] m.globals m.top ++ functions_lines m.globals (filter is_def (suite_definitions tree)) 0 m.funcs) none in
+    module_suits m tree typed (none_right (suite_lines [] m.globals m.top) (functions_lines m.globals (filter is_def (suite_definitions tree)) 0 m.funcs) all) (none_left (suite_lines [] m.globals m.top) (functions_lines m.globals (filter is_def (suite_definitions tree)) 0 m.funcs) all)

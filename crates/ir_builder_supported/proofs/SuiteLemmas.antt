@@ -1,0 +1,258 @@
+-- A well typed statement in which all is compiled suits, in a function whose variables are numbers, bools and texts.
+use Rattle.std.proofs.Common.{◌≡◌, refl, sym, ◌∙◌, ap, subst, ℕ, Bool, true, false, List, [], ◌∷◌, ◌++◌, Option, Some, None, ◌⊎◌, ⊎_elim, inl, inr}
+use Rattle.std.specs.Prelude.{not, ◌&&◌, ◌||◌, if◌then◌else◌, slice_get}
+use Rattle.py_syntax.specs.declared.expression.BinOp.{BinOp}
+use Rattle.py_syntax.specs.declared.expression.BinOp.TheVariants.{Add, Sub, Mul, FloorDiv, Mod, Shl, Shr}
+use Rattle.py_syntax.specs.declared.token.Span.{Span}
+use Rattle.py_typed.specs.Sorts as sort
+use Rattle.py_typed.specs.Sorts.{Sort}
+use Rattle.py_typed.specs.Fits.{is_same_type, is_number, is_nothing, number_join, fits}
+use Rattle.py_typed.specs.Expressions.{TypedExpr, typed, TypedNode, Nothing, Print, TypedExprs, no_exprs, expr_then, type_of}
+use Rattle.py_typed.specs.Statements.{Variable, TypedModule, TypedTarget, LocalTarget, GlobalTarget, TypedStmt, on_line, TypedAct, Do, Assign, Aug, If, While, Return, Break, Continue, Pass, TypedSuite, no_stmts, stmt_then, Arms, no_arms, arm_then}
+use Rattle.py_typed.specs.StatementMeaning.{sort_at}
+use Rattle.py_typed.specs.Narrowing.{is_in, facts, without, bound_suite, part_sorts, after}
+use Rattle.py_typed.specs.WellTypedExpr.{stands, parts_typed, are_values, rule, is_type, are_texts, are_numbers, is_bar, operation_sort, reads_as, is_value, is_typed, is_none_literal}
+use Rattle.py_typed.specs.WellTyped.{target_type, read_type, parts_fit, assignment_fits, is_single, return_fits, stmt_typed, act_typed, suite_typed, arms_typed}
+use Rattle.py_typed.proofs.FitLemmas.{and_left, and_right, one_type}
+use Rattle.ir_builder_operations.specs.Operating.{is_whole}
+use Rattle.ir_builder_expressions.specs.declared.applying.Binary.TheVariants.{Arithmetic}
+use Rattle.ir_builder_expressions.specs.Compiled.{is_int, is_i64, is_scalar, is_built}
+use Rattle.ir_builder_expressions.specs.Applying.{BinarySuits}
+use Rattle.ir_builder_expressions.specs.Suiting.{Suits}
+use Rattle.ir_builder_expressions.proofs.SuitLemmas.{AllScalar, AllSigned, number_numeric, gives_value, reads_itself, well_typed_suits, well_typed_node}
+use Rattle.ir_builder_statements.specs.Suiting.{PrintSuits, DoSuits, IsOnly, UpdateSuits, VariableUpdates, ReturnSuits, StatementSuits, ActSuits, SuiteSuits, ArmsSuit}
+use Rattle.ir_builder_supported.specs.Expressions.{line_at, is_form, expression_lines, part_lines, row_lines}
+use Rattle.ir_builder_supported.specs.Statements.{alone_lines, is_one, is_taken, takes_result, is_updated, returned_lines, statement_lines, act_lines, suite_lines, arms_lines}
+use Rattle.ir_builder_supported.proofs.CompiledLemmas.{none_left, none_right, form_of, parts_of, compiled, compiled_node}
+
+-- ---- types
+
+nothing_is : (t : Sort) → is_nothing t ≡ true → t ≡ sort.Nothing
+nothing_is sort.Nothing h = refl
+nothing_is _ h = absurd (cc)
+
+join_whole : (u w : Sort) → is_whole (number_join u w) ≡ true
+join_whole sort.I64 w = refl
+join_whole _ sort.I64 = refl
+join_whole _ _ = refl
+
+no_parts : (s : Sort) → is_scalar s ≡ true → part_sorts s ≡ []
+no_parts sort.Int h = refl
+no_parts sort.I64 h = refl
+no_parts sort.Bool h = refl
+no_parts sort.Str h = refl
+no_parts _ h = absurd (cc)
+
+-- the type of a variable that may be there
+abbrev sort_of : Option Variable → Sort
+sort_of None = sort.Nothing
+sort_of (Some v) = v.1
+
+sort_found : (vs : List Variable) (i : ℕ) (o : Option Variable) → slice_get vs i ≡ o → sort_at vs i ≡ sort_of o
+sort_found vs i None e = rw (e, sort_at) refl
+sort_found vs i (Some v) e = rw (e, sort_at) refl
+
+pub either_of : (a b : Bool) → (a || b) ≡ true → (a ≡ true) ⊎ (b ≡ true)
+either_of true b h = inl refl
+either_of false b h = inr h
+
+never : false ≡ true → ⊥
+never e = absurd (cc)
+
+not_both : (a : Bool) → (a && false) ≡ true → ⊥
+not_both true h = absurd (cc)
+not_both false h = absurd (cc)
+
+-- a variable that has this type
+variable_of : (o : Option Variable) (t : Sort) → is_scalar t ≡ true → t ≡ sort_of o → (v : Variable) × (o ≡ Some v) × (v.1 ≡ t)
+variable_of None t s e = absurd (cc)
+variable_of (Some v) t s e = (v, refl, sym e)
+
+variable_taking : (o : Option Variable) (s : Sort) → takes_result s o ≡ true → (v : Variable) × (o ≡ Some v) × (is_taken v.1 s ≡ true)
+variable_taking None s h = absurd (cc)
+variable_taking (Some v) s h = (v, refl, h)
+
+-- what takes a scalar is one, and so is what takes a whole number
+taking : (P : Sort → Type 0) → P sort.Int → (u s : Sort) → is_taken u s ≡ true → P s → P u
+taking P int u s h p =
+    ⊎_elim (λ e. subst P (sym (one_type u s e)) p) (λ e. subst P (sym (int_is u (and_left (is_int u) (is_i64 s) e))) int)
+    (either_of (is_same_type u s) (is_int u && is_i64 s) h)
+  where
+    int_is : (t : Sort) → is_int t ≡ true → t ≡ sort.Int
+    int_is sort.Int e = refl
+    int_is _ e = absurd (cc)
+
+-- ---- operations whose result a variable takes that is their first operand
+
+numbers_update : (op : BinOp) (u s w : Sort) (b : Bool) → is_built op ≡ true → is_taken u s ≡ true → (b ≡ true → are_numbers u w ≡ true) → is_type (if b then Some (number_join u w) else None) s ≡ true → (is_whole u ≡ true) × BinarySuits (Arithmetic op) s u w
+numbers_update op u s w true built takes numbers h =
+    let both = numbers refl in
+    let whole : is_whole s ≡ true = subst (λ z. is_whole z ≡ true) (one_type (number_join u w) s h) (join_whole u w) in (
+      taking (λ z. is_whole z ≡ true) refl u s takes whole,
+      (whole, built, number_numeric u (and_left (is_number u) (is_number w) both), number_numeric w (and_right (is_number u) (is_number w) both)),
+    )
+numbers_update op u s w false built takes numbers h = absurd (cc)
+
+module _ (m : TypedModule) (vs : List Variable) (init : Option ℕ) (scalars : AllScalar m vs init) (signed : AllSigned m vs init) where
+  value_scalar : (testing : Bool) (known : List ℕ) (e : TypedExpr) → stands m vs init testing known e ≡ true → expression_lines e ≡ [] → is_scalar (type_of e) ≡ true
+  value_scalar testing known e h p = gives_value m vs init testing known e h (compiled e p)
+
+  expression_suits : (testing : Bool) (known : List ℕ) (e : TypedExpr) → stands m vs init testing known e ≡ true → expression_lines e ≡ [] → Suits m vs e
+  expression_suits testing known e h p = well_typed_suits m vs init scalars signed testing known e h (compiled e p)
+
+  test_sort : (known : List ℕ) (e : TypedExpr) → stands m vs init true known e ≡ true → type_of e ≡ sort.Bool
+  test_sort known (typed n t place) h = one_type t sort.Bool (and_right _ _ (and_left _ _ (and_left _ _ h)))
+
+  test_suits : (known : List ℕ) (e : TypedExpr) → stands m vs init true known e ≡ true → expression_lines e ≡ [] → (type_of e ≡ sort.Bool) × Suits m vs e
+  test_suits known e h p = (test_sort known e h, expression_suits true known e h p)
+
+  module _ (result : Option Sort) where
+    print_suits : (known : List ℕ) (es : TypedExprs) → are_values m vs init known es ≡ true → row_lines es ≡ [] → PrintSuits m vs result es
+    print_suits known no_exprs h p = tt
+    print_suits known (expr_then e more) h p =
+        let here = none_left (expression_lines e) (row_lines more) p in
+        (value_scalar false known e (and_left _ _ h) here, expression_suits false known e (and_left _ _ h) here, print_suits known more (and_right _ _ h) (none_right (expression_lines e) (row_lines more) p))
+
+    node_parts : (known : List ℕ) (n : TypedNode) (t : Sort) (place : Span) → is_typed m vs init known (typed n t place) ≡ true → parts_typed m vs init false known n ≡ true
+    node_parts known n t place h = and_left _ _ (and_left _ _ (and_left _ _ h))
+
+    node_rule : (known : List ℕ) (n : TypedNode) (t : Sort) (place : Span) → is_typed m vs init known (typed n t place) ≡ true → rule m vs init known n t ≡ true
+    node_rule known n t place h = and_right _ _ (and_left _ _ (and_left _ _ h))
+
+    alone_suits : (known : List ℕ) (e : TypedExpr) → is_typed m vs init known e ≡ true → alone_lines e ≡ [] → DoSuits m vs result e
+    alone_suits known (typed (Print es) t place) h p = print_suits known es (node_parts known (Print es) t place h) p
+    alone_suits known (typed n t place) h p =
+        well_typed_node m vs init scalars signed false known n t (node_parts known n t place h) (node_rule known n t place h)
+        (compiled_node n t (form_of (is_form n t) place.line (part_lines n) p) (parts_of (is_form n t) place.line (part_lines n) p))
+
+    -- ---- assignments
+
+    scalar_assigned : (t : TypedTarget) (s : Sort) → is_scalar s ≡ true → assignment_fits m vs init result (t ∷ []) s ≡ true → s ≡ target_type m vs init result t
+    scalar_assigned t s c h =
+        let fails : Bool = not (fits m.classes.classes s (target_type m vs init result t)) in
+        ⊎_elim (λ e. one_type s (target_type m vs init result t) e) (λ e. absurd (not_both fails (subst (λ l. (fails && parts_fit m vs init result (t ∷ []) l) ≡ true) (no_parts s c) e)))
+        (either_of (is_same_type s (target_type m vs init result t)) _ h)
+
+    only_suits : (ts : List TypedTarget) (s : Sort) → is_one ts ≡ true → is_scalar s ≡ true → assignment_fits m vs init result ts s ≡ true → IsOnly m vs result ts s
+    only_suits (LocalTarget i ∷ []) s o c h = variable_of (slice_get vs i) s c (scalar_assigned (LocalTarget i) s c h ∙ sort_found vs i (slice_get vs i) refl)
+    only_suits (GlobalTarget i ∷ []) s o c h =
+        variable_of (slice_get m.globals i) s c (scalar_assigned (GlobalTarget i) s c h ∙ sort_found m.globals i (slice_get m.globals i) refl)
+    only_suits [] s o c h = absurd (never o)
+    only_suits (t ∷ []) s o c h = absurd (never o)
+    only_suits (t ∷ u ∷ more) s o c h = absurd (never o)
+
+    -- ---- updates
+
+    adds_update : (u s w : Sort) (b : Bool) → are_texts u w ≡ b → is_taken u s ≡ true → is_type (if b then Some sort.Str else if are_numbers u w then Some (number_join u w) else None) s ≡ true → UpdateSuits m vs result Add u s w
+    adds_update u s w true is takes h =
+        inr (refl, (sym (one_type sort.Str s h), one_type u sort.Str (and_left _ _ is), one_type w sort.Str (and_right _ _ is)))
+    adds_update u s w false is takes h = inl (numbers_update Add u s w (are_numbers u w) refl takes (λ e. e) h)
+
+    other_update : (op : BinOp) (u s w : Sort) → is_built op ≡ true → is_taken u s ≡ true → is_type (if are_numbers u w && not (is_bar op) then Some (number_join u w) else None) s ≡ true → UpdateSuits m vs result op u s w
+    other_update op u s w built takes h =
+        inl (numbers_update op u s w (are_numbers u w && not (is_bar op)) built takes (λ e. and_left (are_numbers u w) (not (is_bar op)) e) h)
+
+    operation_suits : (op : BinOp) (u s w : Sort) → is_built op ≡ true → is_taken u s ≡ true → is_type (operation_sort op u w) s ≡ true → UpdateSuits m vs result op u s w
+    operation_suits Add u s w built takes h = adds_update u s w (are_texts u w) refl takes h
+    operation_suits Sub u s w built takes h = other_update Sub u s w built takes h
+    operation_suits Mul u s w built takes h = other_update Mul u s w built takes h
+    operation_suits FloorDiv u s w built takes h = other_update FloorDiv u s w built takes h
+    operation_suits Mod u s w built takes h = other_update Mod u s w built takes h
+    operation_suits Shl u s w built takes h = other_update Shl u s w built takes h
+    operation_suits Shr u s w built takes h = other_update Shr u s w built takes h
+    operation_suits _ u s w built takes h = absurd (cc)
+
+    -- a variable that is read with a type is updated in another one
+    variable_updated : (op : BinOp) (r u s w : Sort) → r ≡ u → is_built op ≡ true → is_taken u s ≡ true → is_type (operation_sort op r w) s ≡ true → UpdateSuits m vs result op u s w
+    variable_updated op r u s w e built takes h = operation_suits op u s w built takes (subst (λ z. is_type (operation_sort op z w) s ≡ true) e h)
+
+    updated : (known : List ℕ) (t : TypedTarget) (op : BinOp) (s w : Sort) → is_updated vs m.globals t s ≡ true → is_scalar s ≡ true → is_built op ≡ true → is_type (operation_sort op (read_type m vs init result known t) w) s ≡ true → VariableUpdates m vs result t op s w
+    updated known (LocalTarget i) op s w o c built h =
+        let v = variable_taking (slice_get vs i) s o in
+        let u : Sort = v.0.1 in
+        let is : sort_at vs i ≡ u = sort_found vs i (slice_get vs i) refl ∙ ap sort_of v.1 in
+        let scalar : is_scalar u ≡ true = taking (λ z. is_scalar z ≡ true) refl u s v.2 c in
+        (u, (v.0, v.1, refl), variable_updated op (reads_as (is_in known i) (sort_at vs i)) u s w (ap (reads_as (is_in known i)) is ∙ reads_itself m vs init (is_in known i) u scalar) built v.2 h)
+    updated known (GlobalTarget i) op s w o c built h =
+        let v = variable_taking (slice_get m.globals i) s o in
+        let u : Sort = v.0.1 in
+        (u, (v.0, v.1, refl), variable_updated op (sort_at m.globals i) u s w (sort_found m.globals i (slice_get m.globals i) refl ∙ ap sort_of v.1) built v.2 h)
+    updated known _ op s w o c built h = absurd (never o)
+
+    -- ---- what is returned
+
+    none_not_compiled : (e : TypedExpr) → is_none_literal e ≡ true → expression_lines e ≡ [] → ⊥
+    none_not_compiled (typed n t place) h p = node_other n t h (form_of (is_form n t) place.line (part_lines n) p)
+      where
+        node_other : (n : TypedNode) (t : Sort) → is_none_literal (typed n t place) ≡ true → is_form n t ≡ true → ⊥
+        node_other Nothing t h f = absurd (cc)
+        node_other _ t h f = absurd (cc)
+
+    value_returned : (known : List ℕ) (t : Sort) (e : TypedExpr) → (is_value m vs init known e && is_same_type (type_of e) t) ≡ true → is_scalar (type_of e) ≡ true → expression_lines e ≡ [] → (is_scalar (type_of e) ≡ true) × (Some t ≡ Some (type_of e)) × Suits m vs e
+    value_returned known t e h c p =
+        (c, ap Some (sym (one_type (type_of e) t (and_right _ _ h))), expression_suits false known e (and_left _ _ h) p)
+
+    returns_of : (known : List ℕ) (t : Sort) (e : TypedExpr) → return_fits m vs init result known (Some t) (Some e) ≡ true → is_scalar (type_of e) ≡ true → expression_lines e ≡ [] → (is_scalar (type_of e) ≡ true) × (Some t ≡ Some (type_of e)) × Suits m vs e
+    returns_of known sort.Nothing e h c p = absurd (none_not_compiled e (and_right _ _ h) p)
+    returns_of known t e h c p = value_returned known t e h c p
+
+  return_suits : (known : List ℕ) (result : Option Sort) (e : Option TypedExpr) → return_fits m vs init result known result e ≡ true → returned_lines e ≡ [] → ReturnSuits m vs result e
+  return_suits known None e h p = absurd (cc)
+  return_suits known (Some t) None h p = ap Some (nothing_is t h)
+  return_suits known (Some t) (Some e) h p =
+      returns_of (Some t) known t e h (form_of (is_scalar (type_of e)) (line_at e) (expression_lines e) p) (parts_of (is_scalar (type_of e)) (line_at e) (expression_lines e) p)
+
+  -- ---- statements
+
+  module _ (result : Option Sort) where
+    mutual
+      statement_suits : (known : List ℕ) (looping handling : Bool) (s : TypedStmt) → stmt_typed m vs init result known looping handling s ≡ true → statement_lines vs m.globals s ≡ [] → StatementSuits m vs result looping s
+      statement_suits known looping handling (on_line a line) h p = act_suits known looping handling line a h p
+
+      act_suits : (known : List ℕ) (looping handling : Bool) (line : ℕ) (a : TypedAct) → act_typed m vs init result known looping handling a ≡ true → act_lines vs m.globals line a ≡ [] → ActSuits m vs result looping a
+      act_suits known looping handling line (Do e) h p = alone_suits result known e h p
+      act_suits known looping handling line (Assign ts e) h p =
+          let form = form_of (is_one ts && is_scalar (type_of e)) line (expression_lines e) p in
+          let scalar = and_right (is_one ts) (is_scalar (type_of e)) form in (
+            scalar,
+            only_suits result ts (type_of e) (and_left (is_one ts) (is_scalar (type_of e)) form) scalar (and_right _ _ h),
+            expression_suits false known e (and_left _ _ (and_left _ _ (and_left _ _ h))) (parts_of (is_one ts && is_scalar (type_of e)) line (expression_lines e) p),
+          )
+      act_suits known looping handling line (Aug t op e s) h p =
+          let form = form_of (is_updated vs m.globals t s && (is_scalar s && is_built op)) line (expression_lines e) p in
+          let more = and_right (is_updated vs m.globals t s) (is_scalar s && is_built op) form in
+          let found = updated result known t op s (type_of e) (and_left (is_updated vs m.globals t s) (is_scalar s && is_built op) form) (and_left (is_scalar s) (is_built op) more) (and_right (is_scalar s) (is_built op) more) (and_left _ _ (and_right _ _ h)) in
+          (found, expression_suits false known e (and_left _ _ (and_left _ _ h)) (parts_of (is_updated vs m.globals t s && (is_scalar s && is_built op)) line (expression_lines e) p))
+      act_suits known looping handling line (If arms other) h p =
+          let found = arms_suit known looping handling arms (λ there. suite_typed m vs init result there looping handling other) (and_right _ _ h) (none_left (arms_lines vs m.globals arms) (suite_lines vs m.globals other) p) in
+          (found.0, suite_suits found.1 looping handling other found.2 (none_right (arms_lines vs m.globals arms) (suite_lines vs m.globals other) p))
+      act_suits known looping handling line (While test body) h p = (
+        test_suits (without (bound_suite body) known) test (and_left _ _ (and_left _ _ h)) (none_left (expression_lines test) (suite_lines vs m.globals body) p),
+        suite_suits (facts true test ++ without (bound_suite body) known) true handling body (and_right _ _ h) (none_right (expression_lines test) (suite_lines vs m.globals body) p),
+      )
+      act_suits known looping handling line (Return e) h p = return_suits known result e h p
+      act_suits known looping handling line Break h p = h
+      act_suits known looping handling line Continue h p = h
+      act_suits known looping handling line Pass h p = tt
+      act_suits known looping handling line _ h p = absurd (cc)
+
+      pub suite_suits : (known : List ℕ) (looping handling : Bool) (body : TypedSuite) → suite_typed m vs init result known looping handling body ≡ true → suite_lines vs m.globals body ≡ [] → SuiteSuits m vs result looping body
+      suite_suits known looping handling no_stmts h p = tt
+      suite_suits known looping handling (stmt_then s more) h p = (
+        statement_suits known looping handling s (and_left _ _ h) (none_left (statement_lines vs m.globals s) (suite_lines vs m.globals more) p),
+        suite_suits (after (is_single m vs init result) known s) looping handling more (and_right _ _ h) (none_right (statement_lines vs m.globals s) (suite_lines vs m.globals more) p),
+      )
+
+      arms_suit : (known : List ℕ) (looping handling : Bool) (arms : Arms) (other : List ℕ → Bool) → arms_typed m vs init result known looping handling arms other ≡ true → arms_lines vs m.globals arms ≡ [] → ArmsSuit m vs result looping arms × (there : List ℕ) × (other there ≡ true)
+      arms_suit known looping handling no_arms other h p = (tt, known, h)
+      arms_suit known looping handling (arm_then test body more) other h p =
+          let rest : suite_lines vs m.globals body ++ arms_lines vs m.globals more ≡ [] = none_right (expression_lines test) (suite_lines vs m.globals body ++ arms_lines vs m.globals more) p in
+          let found = arms_suit (facts false test ++ known) looping handling more other (and_right _ _ h) (none_right (suite_lines vs m.globals body) (arms_lines vs m.globals more) rest) in (
+            (
+              test_suits known test (and_left _ _ (and_left _ _ (and_left _ _ h))) (none_left (expression_lines test) (suite_lines vs m.globals body ++ arms_lines vs m.globals more) p),
+              suite_suits (facts true test ++ known) looping handling body (and_right _ _ (and_left _ _ h)) (none_left (suite_lines vs m.globals body) (arms_lines vs m.globals more) rest),
+              found.0,
+            ),
+            found.1,
+            found.2,
+          )

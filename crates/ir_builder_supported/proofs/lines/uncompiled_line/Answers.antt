@@ -1,0 +1,16 @@
+use Rattle.std.proofs.Common.{◌∙◌, ap, map}
+use Rattle.std.specs.List.{filter}
+use Rattle.py_syntax.specs.Statements.{module_tree, body_tree}
+use Rattle.py_check_names.specs.Walked.{trees}
+use Rattle.py_check_names.specs.Outline.{suite_definitions}
+use Rattle.py_typed.specs.Statements.{variable, typed_suite, typed_func, typed_module}
+use Rattle.ir_builder_supported.specs.Statements.{is_def}
+use Rattle.ir_builder_supported.proofs.CodeLemmas.{module_found}
+use Rattle.ir_builder_supported.proofs.lines.uncompiled_line.Goals as goal
+
+pub returns : goal.returns
+returns c =
+    module_found (module_tree c.args.parsed.now) (typed_module c.args.checked.now) (trees c.deref.result.now) (map variable c.as_slice-globals.result.now) (typed_suite c.as_slice-2.result.now) (map typed_func c.as_slice-3.result.now)
+    (ap (map variable) c.as_slice-globals.ensures)
+    (ap trees c.deref.ensures.value ∙ c.keep_functions.ensures ∙ ap (filter is_def) (c.in_ok-definitions.ensures ∙ ap (λ b. suite_definitions (body_tree b)) c.as_slice.ensures))
+    (ap typed_suite c.as_slice-2.ensures) (ap (map typed_func) c.as_slice-3.ensures) _ _ c.in_suite-found.ensures c.in_functions.ensures

@@ -1,0 +1,227 @@
+//! Whether a type, an operation or a node is one of those that are compiled, whatever stands in it.
+ghost use Rattle.std.specs.Prelude.{◌≡◌, ◌&&◌, map, slice_get};
+ghost use Rattle.py_typed.specs.Sorts.{sort};
+ghost use Rattle.py_typed.specs.Expressions.{typed_expr, typed_node, typed_comparison, comparisons_of};
+ghost use Rattle.py_typed.specs.Statements.{typed_target, typed_func, variable};
+ghost use Rattle.ir_builder_operations.specs.Operating as operating;
+ghost use Rattle.ir_builder_expressions.specs.Compiled as compiled;
+ghost use Rattle.ir_builder_supported.specs.Expressions as form;
+ghost use Rattle.ir_builder_supported.specs.Statements as statement;
+
+use py_syntax::{BinOp, CmpOp};
+use py_typed::{TExpr, TFunc, TKind, Target, Ty, Var, is_same_type};
+
+fn is_int(t: &Ty) -> bool
+    ensures { result ≡ compiled.is_int (sort t.now) }
+{
+    matches!(t, Ty::Int)
+}
+
+fn is_i64(t: &Ty) -> bool
+    ensures { result ≡ compiled.is_i64 (sort t.now) }
+{
+    matches!(t, Ty::I64)
+}
+
+fn is_text(t: &Ty) -> bool
+    ensures { result ≡ compiled.is_text (sort t.now) }
+{
+    matches!(t, Ty::Str)
+}
+
+fn is_bool(t: &Ty) -> bool
+    ensures { result ≡ compiled.is_bool (sort t.now) }
+{
+    matches!(t, Ty::Bool)
+}
+
+/// Whether a type is one of whole numbers.
+fn is_whole(t: &Ty) -> bool
+    ensures { result ≡ operating.is_whole (sort t.now) }
+{
+    matches!(t, Ty::Int | Ty::I64)
+}
+
+/// Whether a type is one of numbers and bools.
+fn is_numeric(t: &Ty) -> bool
+    ensures { result ≡ operating.is_numeric (sort t.now) }
+{
+    matches!(t, Ty::Int | Ty::I64 | Ty::Bool)
+}
+
+/// Whether a type is one of variables: numbers, bools and texts.
+pub(crate) fn is_scalar(t: &Ty) -> bool
+    ensures { result ≡ compiled.is_scalar (sort t.now) }
+{
+    matches!(t, Ty::Int | Ty::I64 | Ty::Bool | Ty::Str)
+}
+
+/// Whether a type is one of results, which may be None.
+fn is_result(t: &Ty) -> bool
+    ensures { result ≡ compiled.is_result (sort t.now) }
+{
+    matches!(t, Ty::Int | Ty::I64 | Ty::Bool | Ty::Str | Ty::Nothing)
+}
+
+fn is_built(op: BinOp) -> bool
+    ensures { result ≡ compiled.is_built op }
+{
+    !matches!(op, BinOp::Bar)
+}
+
+fn is_ordering(op: CmpOp) -> bool
+    ensures { result ≡ compiled.is_ordering op }
+{
+    matches!(
+        op,
+        CmpOp::Eq | CmpOp::Ne | CmpOp::Lt | CmpOp::Le | CmpOp::Gt | CmpOp::Ge
+    )
+}
+
+/// Whether operands of two types are compared as numbers or as texts.
+fn is_pair(left: &Ty, right: &Ty) -> bool
+    ensures { result ≡ compiled.is_pair (sort left.now) (sort right.now) }
+{
+    (is_numeric(left) && is_numeric(right)) || (is_text(left) && is_text(right))
+}
+
+/// Whether each pair of a chain is compared so, behind an operand of a type.
+fn are_pairs(first: &Ty, more: &[(CmpOp, TExpr)]) -> bool
+    ensures { result ≡ form.are_pairs (sort first.now) (comparisons_of (map typed_comparison more.now)) }
+{
+    let mut left = first;
+    for (op, e) in more {
+        if !(is_ordering(*op) && is_pair(left, &e.ty)) {
+            return false;
+        }
+        left = &e.ty;
+    }
+    true
+}
+
+/// Whether an expression is of a form that is compiled, whatever its parts are.
+pub(crate) fn is_form(e: &TExpr) -> bool
+    ensures { result ≡ form.is_form (typed_node e.now.kind) (sort e.now.ty) }
+{
+    match &e.kind {
+        TKind::Int(_) => is_int(&e.ty),
+        TKind::Str(_) => is_text(&e.ty),
+        TKind::Bool(_) => is_bool(&e.ty),
+        TKind::Local(_) => is_scalar(&e.ty),
+        TKind::Global(_) => is_scalar(&e.ty),
+        TKind::Neg(_) => is_whole(&e.ty),
+        TKind::Not(_) => is_bool(&e.ty),
+        TKind::Truth(a) => is_bool(&e.ty) && is_scalar(&a.ty),
+        TKind::Arith(op, _, _) => is_whole(&e.ty) && is_built(*op),
+        TKind::Concat(_, _) => is_text(&e.ty),
+        TKind::Compare(first, more) => {
+            is_bool(&e.ty) && (is_scalar(&first.ty) && are_pairs(&first.ty, more.as_slice()))
+        }
+        TKind::And(_, _) => is_scalar(&e.ty),
+        TKind::Or(_, _) => is_scalar(&e.ty),
+        TKind::Cond(_, _, _) => is_scalar(&e.ty),
+        TKind::At(a, _) => is_text(&a.ty),
+        TKind::Call(_, _) => is_result(&e.ty),
+        TKind::Input => is_text(&e.ty),
+        TKind::Len(a) => is_text(&a.ty),
+        TKind::ToStr(a) => is_scalar(&a.ty),
+        TKind::Coerce(a) => is_whole(&e.ty) && is_numeric(&a.ty),
+        TKind::Nothing => false,
+        TKind::List(_) => false,
+        TKind::Dict(_) => false,
+        TKind::Tuple(_) => false,
+        TKind::Attr(_, _) => false,
+        TKind::TupleAt(_, _) => false,
+        TKind::Make(_, _) => false,
+        TKind::MakeExc(_, _) => false,
+        TKind::Method(_, _, _) => false,
+        TKind::SuperInit(_, _) => false,
+        TKind::Print(_) => false,
+        TKind::Append(_, _) => false,
+        TKind::Pop(_) => false,
+    }
+}
+
+fn is_own(target: &Target) -> bool
+    ensures { result ≡ statement.is_own (typed_target target.now) }
+{
+    matches!(target, Target::Local(_) | Target::Global(_))
+}
+
+/// Whether what is assigned to is one name of the function or of the module.
+fn is_one(targets: &[Target]) -> bool
+    ensures { result ≡ statement.is_one (map typed_target targets.now) }
+{
+    match targets {
+        [target] => is_own(target),
+        _ => false,
+    }
+}
+
+/// Whether these targets are assigned a value of this type.
+pub(crate) fn is_assigned(targets: &[Target], t: &Ty) -> bool
+    ensures { result ≡ (statement.is_one (map typed_target targets.now) && compiled.is_scalar (sort t.now)) }
+{
+    is_one(targets) && is_scalar(t)
+}
+
+/// Whether a variable of a type takes what an operation gives that is done in another.
+fn is_taken(own: &Ty, t: &Ty) -> bool
+    ensures { result ≡ statement.is_taken (sort own.now) (sort t.now) }
+{
+    is_same_type(own, t) || (is_int(own) && is_i64(t))
+}
+
+/// Whether the variable of a number takes what an operation of a type gives.
+fn takes_result(variables: &[Var], i: usize, t: &Ty) -> bool
+    ensures { result ≡ statement.takes_result (sort t.now) (slice_get (map variable variables.now) i) }
+{
+    match variables.get(i) {
+        None => false,
+        Some(v) => is_taken(&v.ty, t),
+    }
+}
+
+/// Whether a target is one name, of a function or of a module with these variables, that takes what an operation of a type gives.
+fn is_updated_name(locals: &[Var], globals: &[Var], target: &Target, t: &Ty) -> bool
+    ensures { result ≡ statement.is_updated (map variable locals.now) (map variable globals.now) (typed_target target.now) (sort t.now) }
+{
+    match target {
+        Target::Local(i) => takes_result(locals, *i, t),
+        Target::Global(i) => takes_result(globals, *i, t),
+        Target::Attr(_, _) => false,
+        Target::At(_, _) => false,
+    }
+}
+
+/// Whether this target is updated by this operation, whose result is of this type.
+pub(crate) fn is_updated(
+    locals: &[Var],
+    globals: &[Var],
+    target: &Target,
+    op: BinOp,
+    t: &Ty,
+) -> bool
+    ensures { result ≡ (statement.is_updated (map variable locals.now) (map variable globals.now) (typed_target target.now) (sort t.now) && (compiled.is_scalar (sort t.now) && compiled.is_built op)) }
+{
+    is_updated_name(locals, globals, target, t) && (is_scalar(t) && is_built(op))
+}
+
+fn are_scalars(variables: &[Var]) -> bool
+    ensures { result ≡ statement.are_scalars (map variable variables.now) }
+{
+    for v in variables {
+        if !is_scalar(&v.ty) {
+            return false;
+        }
+    }
+    true
+}
+
+/// Whether a function is no method, its variables are numbers, bools and texts, and its result is one of them or None.
+pub(crate) fn is_function(f: &TFunc) -> bool
+    ensures { result ≡ statement.is_function (typed_func f.now) }
+{
+    f.class.is_none()
+        && (f.params <= f.locals.len() && (are_scalars(f.locals.as_slice()) && is_result(&f.ret)))
+}

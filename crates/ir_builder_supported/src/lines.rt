@@ -1,0 +1,245 @@
+//! The lines on which something stands that is not compiled.
+//!
+//! Each function takes the least line found so far, and gives the least one with those of what it goes over. Those that go over
+//! statements take the variables of the function and of the module too.
+ghost use Rattle.std.specs.Prelude.{◌≡◌, map, slice_get, Some, IfOk};
+ghost use Rattle.std.specs.List.{filter};
+ghost use Rattle.py_check_unbuilt.specs.Later.{lesser};
+ghost use Rattle.py_syntax.specs.Statements.{module_tree, stmt_tree};
+ghost use Rattle.py_check_names.specs.Walked.{trees};
+ghost use Rattle.py_typed.specs.Expressions.{typed_expr, exprs_of, comparisons_of, typed_comparison};
+ghost use Rattle.py_typed.specs.Statements.{typed_stmt, typed_suite, typed_arm, arms_of, maybe_typed, variable, typed_func, typed_module};
+ghost use Rattle.ir_builder_supported.specs.Statements.{uncompiled_line, is_function, is_def, definition_line};
+ghost use Rattle.ir_builder_supported.specs.Least as find;
+
+use crate::forms::{is_assigned, is_form, is_function, is_scalar, is_updated};
+use py_check_names::definitions_in;
+use py_check_unbuilt::lesser;
+use py_syntax::{CmpOp, Module, Stmt, StmtKind};
+use py_typed::{Checked, TExpr, TFunc, TKind, TStmt, TStmtKind, Var};
+use std::alloc::Global;
+use value_core::{Many, Memory};
+
+/// The least line on which a statement, an expression or a function of a module stands that is not compiled, where there is
+/// one.
+pub fn uncompiled_line(
+    alloc: Global,
+    parsed: &Module,
+    checked: &Checked,
+) -> Result<Option<usize>, Memory>
+    ensures { IfOk result (λ line. line ≡ uncompiled_line (module_tree parsed.now) (typed_module checked.now)) }
+{
+    let mut definitions = definitions_in(alloc, parsed.body.as_slice())?;
+    keep_functions(&mut definitions);
+    let globals = checked.globals.as_slice();
+    let found = in_suite(checked.top.as_slice(), &[], globals, None);
+    Ok(in_functions(&definitions, checked.funcs.as_slice(), globals, found))
+}
+
+/// With a line on which something stands that is not compiled.
+fn with(line: usize, found: Option<usize>) -> Option<usize>
+    ensures { result ≡ Some (lesser line found) }
+{
+    Some(lesser(line, found))
+}
+
+/// In an expression.
+#[cycle(expression)]
+fn in_expression(e: &TExpr, found: Option<usize>) -> Option<usize>
+    ensures { result ≡ find.expression_least found (typed_expr e.now) }
+{
+    if !is_form(e) {
+        return with(e.span.line, found);
+    }
+    match &e.kind {
+        TKind::Neg(a) => in_expression(a, found),
+        TKind::Not(a) => in_expression(a, found),
+        TKind::Truth(a) => in_expression(a, found),
+        TKind::Arith(_, a, b) => in_expression(b, in_expression(a, found)),
+        TKind::Concat(a, b) => in_expression(b, in_expression(a, found)),
+        TKind::Compare(a, more) => in_chain(more.as_slice(), in_expression(a, found)),
+        TKind::And(a, b) => in_expression(b, in_expression(a, found)),
+        TKind::Or(a, b) => in_expression(b, in_expression(a, found)),
+        TKind::Cond(a, test, b) => {
+            let found = in_expression(test, in_expression(a, found));
+            in_expression(b, found)
+        }
+        TKind::At(a, b) => in_expression(b, in_expression(a, found)),
+        TKind::Call(_, arguments) => in_row(arguments.as_slice(), found),
+        TKind::Len(a) => in_expression(a, found),
+        TKind::ToStr(a) => in_expression(a, found),
+        TKind::Coerce(a) => in_expression(a, found),
+        _ => found,
+    }
+}
+
+#[cycle(expression)]
+fn in_row(items: &[TExpr], found: Option<usize>) -> Option<usize>
+    ensures { result ≡ find.row_least found (exprs_of (map typed_expr items.now)) }
+{
+    let mut found = found;
+    for item in items {
+        found = in_expression(item, found);
+    }
+    found
+}
+
+#[cycle(expression)]
+fn in_chain(more: &[(CmpOp, TExpr)], found: Option<usize>) -> Option<usize>
+    ensures { result ≡ find.chain_least found (comparisons_of (map typed_comparison more.now)) }
+{
+    let mut found = found;
+    for (_, operand) in more {
+        found = in_expression(operand, found);
+    }
+    found
+}
+
+/// In an expression that stands alone: `print` writes any number of values.
+fn in_alone(e: &TExpr, found: Option<usize>) -> Option<usize>
+    ensures { result ≡ find.alone_least found (typed_expr e.now) }
+{
+    match &e.kind {
+        TKind::Print(values) => in_row(values.as_slice(), found),
+        _ => in_expression(e, found),
+    }
+}
+
+fn in_returned(e: &Option<TExpr>, found: Option<usize>) -> Option<usize>
+    ensures { result ≡ find.returned_least found (maybe_typed e.now) }
+{
+    match e {
+        None => found,
+        Some(e) => in_part(is_scalar(&e.ty), e, e.span.line, found),
+    }
+}
+
+/// In an expression, where what it stands in is compiled; else on a line.
+fn in_part(compiled: bool, e: &TExpr, line: usize, found: Option<usize>) -> Option<usize>
+    ensures { result ≡ find.noted compiled line found (find.expression_least found (typed_expr e.now)) }
+{
+    if compiled {
+        in_expression(e, found)
+    } else {
+        with(line, found)
+    }
+}
+
+#[cycle(statement)]
+fn in_suite(body: &[TStmt], locals: &[Var], globals: &[Var], found: Option<usize>) -> Option<usize>
+    ensures { result ≡ find.suite_least (map variable locals.now) (map variable globals.now) found (typed_suite body.now) }
+{
+    let mut found = found;
+    for s in body {
+        found = in_statement(s, locals, globals, found);
+    }
+    found
+}
+
+#[cycle(statement)]
+fn in_statement(s: &TStmt, locals: &[Var], globals: &[Var], found: Option<usize>) -> Option<usize>
+    ensures { result ≡ find.statement_least (map variable locals.now) (map variable globals.now) found (typed_stmt s.now) }
+{
+    match &s.kind {
+        TStmtKind::Expr(e) => in_alone(e, found),
+        TStmtKind::Assign(targets, e) => in_part(
+            is_assigned(targets.as_slice(), &e.ty),
+            e,
+            s.line,
+            found,
+        ),
+        TStmtKind::Aug(target, op, e, t) => in_part(
+            is_updated(locals, globals, target, *op, t),
+            e,
+            s.line,
+            found,
+        ),
+        TStmtKind::If(arms, other) => in_suite(
+            other.as_slice(),
+            locals,
+            globals,
+            in_arms(arms.as_slice(), locals, globals, found),
+        ),
+        TStmtKind::While(test, body) => {
+            in_suite(body.as_slice(), locals, globals, in_expression(test, found))
+        }
+        TStmtKind::Return(e) => in_returned(e, found),
+        TStmtKind::Break => found,
+        TStmtKind::Continue => found,
+        TStmtKind::Pass => found,
+        TStmtKind::Del(_, _) => with(s.line, found),
+        TStmtKind::ForRange(_, _, _, _) => with(s.line, found),
+        TStmtKind::ForList(_, _, _) => with(s.line, found),
+        TStmtKind::ForDict(_, _, _) => with(s.line, found),
+        TStmtKind::Try(_, _, _) => with(s.line, found),
+        TStmtKind::Raise(_) => with(s.line, found),
+        TStmtKind::Assert(_, _) => with(s.line, found),
+    }
+}
+
+#[cycle(statement)]
+fn in_arms(
+    arms: &[(TExpr, Many<TStmt>)],
+    locals: &[Var],
+    globals: &[Var],
+    found: Option<usize>,
+) -> Option<usize>
+    ensures { result ≡ find.arms_least (map variable locals.now) (map variable globals.now) found (arms_of (map typed_arm arms.now)) }
+{
+    let mut found = found;
+    for (test, body) in arms {
+        found = in_suite(body.as_slice(), locals, globals, in_expression(test, found));
+    }
+    found
+}
+
+/// In the body of a function, where the function is compiled; else on the line of its definition.
+fn in_function(f: &TFunc, line: usize, globals: &[Var], found: Option<usize>) -> Option<usize>
+    ensures { result ≡ find.noted (is_function (typed_func f.now)) line found (find.suite_least (typed_func f.now).locals (map variable globals.now) found (typed_func f.now).body) }
+{
+    if is_function(f) {
+        in_suite(f.body.as_slice(), f.locals.as_slice(), globals, found)
+    } else {
+        with(line, found)
+    }
+}
+
+/// Keeps of definitions and imports those that define functions.
+fn keep_functions(definitions: &mut Vec<&Stmt>)
+    ensures { trees definitions.new.items ≡ filter is_def (trees definitions.old.items) }
+{
+    definitions.retain(|s| is_def(s));
+}
+
+/// Whether a statement defines a function.
+fn is_def(s: &Stmt) -> bool
+    ensures { result ≡ is_def (stmt_tree s.now) }
+{
+    matches!(s.kind, StmtKind::Def(_))
+}
+
+/// The line of the definition of a number, 0 where there is none.
+fn line_of(definitions: &[&Stmt], n: usize) -> usize
+    ensures { result ≡ definition_line (slice_get (trees definitions.now) n) }
+{
+    match definitions.get(n) {
+        None => 0,
+        Some(s) => s.span.line,
+    }
+}
+
+/// In functions, of which each stands among the functions' definitions at its number.
+fn in_functions(
+    definitions: &[&Stmt],
+    functions: &[TFunc],
+    globals: &[Var],
+    found: Option<usize>,
+) -> Option<usize>
+    ensures { result ≡ find.functions_least (map variable globals.now) (trees definitions.now) found 0 (map typed_func functions.now) }
+{
+    let mut found = found;
+    for (n, f) in functions.iter().enumerate() {
+        found = in_function(f, line_of(definitions, n), globals, found);
+    }
+    found
+}

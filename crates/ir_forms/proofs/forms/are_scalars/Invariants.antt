@@ -1,7 +1,0 @@
-use Rattle.std.proofs.Common.{◌≡◌, map, drop}
-use Rattle.py_typed.specs.Statements.{variable}
-use Rattle.ir_forms.specs.Statements as statement
-use Rattle.ir_forms.proofs.forms.are_scalars.Given as goal
-
-abbrev pub invariant-loop-v : goal.invariant-loop-v
-invariant-loop-v l = statement.are_scalars (map variable (drop l.v-index l.variables)) ≡ statement.are_scalars (map variable l.variables)

@@ -1,7 +1,0 @@
-use Rattle.std.proofs.Common.{rules}
-use Rattle.std.proofs.lemmas.Fn.{filter_same}
-use Rattle.ir_forms.proofs.CodeLemmas.{functions_kept}
-use Rattle.ir_forms.proofs.lines.keep_functions.Goals as goal
-
-pub returns : goal.returns
-returns c = functions_kept _ _ (filter_same _ _ _ (λ x b f' k. search rules) _ _ c.retain.ensures.filtered)

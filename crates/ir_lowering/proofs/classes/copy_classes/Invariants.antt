@@ -1,5 +1,0 @@
-use Rattle.std.proofs.Common.{◌≡◌, take}
-use Rattle.ir_lowering.proofs.classes.copy_classes.Given as goal
-
-abbrev pub invariant-loop-class : goal.invariant-loop-class
-invariant-loop-class l = l.copy.items ≡ take l.class-index l.classes

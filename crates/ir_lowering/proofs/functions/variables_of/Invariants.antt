@@ -1,6 +1,0 @@
-use Rattle.std.proofs.Common.{◌≡◌, map, take}
-use Rattle.ir_core.specs.Lower.{variable_of}
-use Rattle.ir_lowering.proofs.functions.variables_of.Given as goal
-
-abbrev pub invariant-loop-register : goal.invariant-loop-register
-invariant-loop-register l = l.all.items ≡ map variable_of (take l.register-index l.registers)

@@ -1,9 +1,0 @@
-use Rattle.std.specs.Int.{w64}
-use Rattle.std.proofs.lemmas.Int.{to_z-of_z}
-use Rattle.ir_core.specs.declared.code.Reg.{Reg}
-use Rattle.ir_frames.proofs.HeldLemmas.{ok_map}
-use Rattle.ir_operators.proofs.LiteralLemmas.{native_makes}
-use Rattle.ir_operators.proofs.numbers.emit_native.Goals as goal
-
-pub returns-clause-made : goal.returns-clause-made
-returns-clause-made c = ok_map _ _ _ (λ (r : Reg) a. native_makes _ _ r.0 c.args.n _ (to_z-of_z w64 c.args.n c.ranges.n) a) c.literal.ensures.added

@@ -1,5 +1,0 @@
-use Rattle.ir_shapes.proofs.Whole as proof
-use Rattle.ir_shapes.proofs.laws.built_has_shape.Goals as goal
-
-pub returns : goal.returns
-returns c = proof.built_has_shape

@@ -1,5 +1,0 @@
-use Rattle.ir_statements.proofs.PrintLemmas.{Printing}
-use Rattle.ir_statements.proofs.printing.emit_print.Given as goal
-
-abbrev pub invariant-loop-i : goal.invariant-loop-i
-invariant-loop-i l = Printing l.values l.regs l.i l.fn.b l.b

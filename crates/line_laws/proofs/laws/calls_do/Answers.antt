@@ -1,5 +1,0 @@
-use Rattle.line_laws.proofs.Calls as proof
-use Rattle.line_laws.proofs.laws.calls_do.Goals as goal
-
-pub returns : goal.returns
-returns c = proof.calls_do

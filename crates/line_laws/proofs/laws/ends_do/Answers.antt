@@ -1,5 +1,0 @@
-use Rattle.line_laws.proofs.Returns as proof
-use Rattle.line_laws.proofs.laws.ends_do.Goals as goal
-
-pub returns : goal.returns
-returns c = proof.ends_do

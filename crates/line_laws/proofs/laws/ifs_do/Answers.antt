@@ -1,5 +1,0 @@
-use Rattle.line_laws.proofs.Tests as proof
-use Rattle.line_laws.proofs.laws.ifs_do.Goals as goal
-
-pub returns : goal.returns
-returns c = proof.ifs_do

@@ -1,5 +1,0 @@
-use Rattle.module_laws.proofs.Varied.{quiet_variables}
-use Rattle.module_laws.proofs.laws.variables_of_a_quiet_module_have_types.Goals as goal
-
-pub returns : goal.returns
-returns c = λ m h. quiet_variables m h

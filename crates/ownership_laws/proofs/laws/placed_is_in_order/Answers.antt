@@ -1,5 +1,0 @@
-use Rattle.ownership_laws.proofs.Placed.{placed_in_order}
-use Rattle.ownership_laws.proofs.laws.placed_is_in_order.Goals as goal
-
-pub returns : goal.returns
-returns c = placed_in_order

@@ -1,5 +1,0 @@
-use Rattle.ownership_laws.proofs.AlikeRuns as proof
-use Rattle.ownership_laws.proofs.laws.runs_agree.Goals as goal
-
-pub returns : goal.returns
-returns c = proof.runs_agree

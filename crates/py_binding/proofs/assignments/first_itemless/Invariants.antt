@@ -1,7 +1,0 @@
-use Rattle.std.proofs.Common.{◌≡◌, map, drop}
-use Rattle.py_binding.specs.Slots.{slot_sort}
-use Rattle.py_binding.specs.Assignments.{first_itemless}
-use Rattle.py_binding.proofs.assignments.first_itemless.Given as goal
-
-abbrev pub invariant-loop-slot : goal.invariant-loop-slot
-invariant-loop-slot l = first_itemless (map slot_sort (drop l.slot-index l.slots)) ≡ first_itemless (map slot_sort l.slots)

@@ -1,0 +1,270 @@
+-- What is typed has said nothing: of the words of typing, and of each kind of expression.
+use Rattle.std.proofs.Common.{◌≡◌, ℕ, suc, Bool, true, false, List, [], ◌∷◌, ◌++◌, Option, Some, None, Result, Ok, Err, refl, ap, sym, ◌∙◌, not, if◌then◌else◌}
+use Rattle.std.specs.Option.{option_map, option_zip}
+use Rattle.py_syntax.specs.declared.token.Span.{Span}
+use Rattle.py_syntax.specs.Expressions as tree
+use Rattle.py_syntax.specs.Expressions.{ExprTree, ExprNode, at, ExprTrees, no_exprs, expr_then, Comparisons, no_comparisons, comparison_then, Arguments, no_arguments, argument_then, keyed_then}
+use Rattle.py_typed.specs.Expressions.{TypedExpr, TypedNode}
+use Rattle.py_typed.specs.Classes.{ClassEntry}
+use Rattle.py_check_context.specs.declared.scope.Meaning.{Meaning}
+use Rattle.py_check_context.specs.declared.scope.Meaning.TheVariants as meaning
+use Rattle.py_check_context.specs.Context.{Context, VarSort, unset, untyped, has, VarSorts, var_at, Wanted, free, test, WantedRow, wanted_in}
+use Rattle.py_typed.specs.Narrowing.{is_in}
+use Rattle.py_check_messages.specs.Seen.{Seen, Message, is, silent, fails, both, judged, ruled, behind, rule, made}
+use Rattle.py_check_messages.specs.Rows.{row_then}
+use Rattle.py_check_operators.specs.Several.{told, ruled_all, with_part}
+use Rattle.py_check_operators.specs.Facts.{facts}
+use Rattle.py_check_operators.specs.Names.{variable, named}
+use Rattle.py_check_operators.specs.Chains.{faults_of, chain}
+use Rattle.py_check_operators.specs.Choices.{operand}
+use Rattle.py_check_displays.specs.Displays.{item_sort, items_row, parts_row}
+use Rattle.py_check_calls.specs.Callees.{Callee, function, print, input, range, single, method, unknown, voiceless, uncalled, value, callee, has_key, is_named, is_variable, name_called}
+use Rattle.py_check_messages.specs.Messages.{range_outside_for, not_callable}
+use Rattle.py_check_calls.specs.Calls.{arguments_row, positional, no_keys, refused, called}
+use Rattle.py_check_expressions.specs.Typing.{typing, node_typing, items, operands, arguments, part, receiver, count}
+
+pub record IsQuiet {A : Type 0} (s : Seen A) : Type 0 where
+  pub says : (a : A) → s.got ≡ Some a → s.said ≡ []
+
+pub quiet_is : {A : Type 0} (a : A) → IsQuiet (is a)
+quiet_is a = record { says = λ x e. refl }
+
+pub quiet_silent : {A : Type 0} → IsQuiet (silent {A = A})
+quiet_silent = record { says = λ x e. refl }
+
+pub quiet_fails : {A : Type 0} (span : Span) (m : Message) → IsQuiet (fails {A = A} span m)
+quiet_fails span m = record { says = λ x e. cc }
+
+both_said : {A B : Type 0} (s : Seen A) (t : Seen B) → IsQuiet s → IsQuiet t → (a : Option A) (b : Option B) → s.got ≡ a → t.got ≡ b → (p : A × B) → option_zip a b ≡ Some p → s.said ++ t.said ≡ []
+both_said s t qs qt None b ea eb p e = absurd (cc)
+both_said s t qs qt (Some a) None ea eb p e = absurd (cc)
+both_said s t qs qt (Some a) (Some b) ea eb p e = ap (λ l. l ++ t.said) (qs.says a ea) ∙ qt.says b eb
+
+pub quiet_both : {A B : Type 0} (s : Seen A) (t : Seen B) → IsQuiet s → IsQuiet t → IsQuiet (both s t)
+quiet_both s t qs qt = record { says = λ p e. both_said s t qs qt s.got t.got refl refl p e }
+
+made_said : {A B : Type 0} (f : A → B) (s : Seen A) → IsQuiet s → (a : Option A) → s.got ≡ a → (b : B) → option_map f a ≡ Some b → s.said ≡ []
+made_said f s q None ea b e = absurd (cc)
+made_said f s q (Some a) ea b e = q.says a ea
+
+pub quiet_made : {A B : Type 0} (f : A → B) (s : Seen A) → IsQuiet s → IsQuiet (made f s)
+quiet_made f s q = record { says = λ b e. made_said f s q s.got refl b e }
+
+behind_said : {A B : Type 0} (s : Seen A) (f : Option A → Seen B) → IsQuiet s → (f None).got ≡ None → ((a : A) → IsQuiet (f (Some a))) → (o : Option A) → s.got ≡ o → (b : B) → (f s.got).got ≡ Some b → s.said ++ (f s.got).said ≡ []
+behind_said s f q none each None ea b e = let h = sym e ∙ ap (λ o. (f o).got) ea ∙ none in absurd (cc)
+behind_said s f q none each (Some a) ea b e =
+    ap (λ l. l ++ (f s.got).said) (q.says a ea) ∙ ap (λ o. (f o).said) ea ∙ (each a).says b (sym (ap (λ o. (f o).got) ea) ∙ e)
+
+pub quiet_behind : {A B : Type 0} (s : Seen A) (f : Option A → Seen B) → IsQuiet s → (f None).got ≡ None → ((a : A) → IsQuiet (f (Some a))) → IsQuiet (behind s f)
+quiet_behind s f q none each = record { says = λ b e. behind_said s f q none each s.got refl b e }
+
+pub quiet_judged : {A : Type 0} (span : Span) (r : Result A Message) → IsQuiet (judged span r)
+quiet_judged span (Ok a) = quiet_is a
+quiet_judged span (Err m) = quiet_fails span m
+
+pub quiet_rule : {A B : Type 0} (span : Span) (f : A → Result B Message) (s : Seen A) → IsQuiet s → IsQuiet (rule span f s)
+quiet_rule span f s q = quiet_behind s (ruled span f) q refl (λ a. quiet_judged span (f a))
+
+pub quiet_told : {A : Type 0} (span : Span) (ms : List Message) (a : A) → IsQuiet (told span ms a)
+quiet_told span [] a = quiet_is a
+quiet_told span (m ∷ ms) a = record { says = λ x e. absurd (cc) }
+
+pub quiet_row : {A : Type 0} (one : Seen A) (rest : Seen (List A)) → IsQuiet one → IsQuiet rest → IsQuiet (row_then one rest)
+quiet_row one rest q r = quiet_made (λ p. p.0 ∷ p.1) (both one rest) (quiet_both one rest q r)
+
+-- ---- names and calls
+
+quiet_variable : (span : Span) (x : List ℕ) (e : TypedNode) (known : Bool) (v : VarSort) → IsQuiet (variable span x e known v)
+quiet_variable span x e known unset = quiet_fails span _
+quiet_variable span x e known untyped = quiet_silent
+quiet_variable span x e known (has t) = quiet_is _
+
+pub quiet_named : (vars : VarSorts) (known : List ℕ) (span : Span) (x : List ℕ) (m : Meaning) → IsQuiet (named vars known span x m)
+quiet_named vars known span x (meaning.Local i) = quiet_variable span x _ (is_in known i) (var_at vars.locals i)
+quiet_named vars known span x (meaning.Global i) = quiet_variable span x _ false (var_at vars.globals i)
+quiet_named vars known span x meaning.ModuleName = quiet_is _
+quiet_named vars known span x meaning.Untyped = quiet_silent
+quiet_named vars known span x meaning.Unknown = quiet_fails span _
+quiet_named vars known span x (meaning.Function i) = quiet_fails span _
+quiet_named vars known span x (meaning.Class i) = quiet_fails span _
+quiet_named vars known span x meaning.UntypedClass = quiet_fails span _
+quiet_named vars known span x (meaning.Exception k) = quiet_fails span _
+quiet_named vars known span x (meaning.Import i) = quiet_fails span _
+quiet_named vars known span x (meaning.Builtin b) = quiet_fails span _
+
+quiet_positional : (span : Span) (keyed : Bool) (args : Option (List TypedExpr)) → IsQuiet (positional span keyed args)
+quiet_positional span keyed None = quiet_silent
+quiet_positional span keyed (Some es) = quiet_judged span (no_keys keyed es)
+
+quiet_with_part : {A B : Type 0} (o : Option A) (f : A → Seen B) → ((a : A) → IsQuiet (f a)) → IsQuiet (with_part o f)
+quiet_with_part None f q = quiet_silent
+quiet_with_part (Some a) f q = q a
+
+pub quiet_called : (classes : List ClassEntry) (w : Wanted) (span : Span) (keyed : Bool) (f : Callee) (p : Option TypedExpr) (args : Option (List TypedExpr)) → IsQuiet (called classes w span keyed f p args)
+quiet_called classes w span keyed (function x i s) p args = quiet_rule span _ (positional span keyed args) (quiet_positional span keyed args)
+quiet_called classes w span keyed print p args = quiet_rule span _ (positional span keyed args) (quiet_positional span keyed args)
+quiet_called classes w span keyed input p args = quiet_rule span _ (positional span keyed args) (quiet_positional span keyed args)
+quiet_called classes w span keyed range p args = quiet_rule span (refused range_outside_for) (positional span keyed args) (quiet_positional span keyed args)
+quiet_called classes w span keyed (single f) p args = quiet_rule span _ (positional span keyed args) (quiet_positional span keyed args)
+quiet_called classes w span keyed (method m) p args = quiet_with_part p _ (λ e. quiet_rule span _ (positional span keyed args) (quiet_positional span keyed args))
+quiet_called classes w span keyed (unknown place x) p args = quiet_fails place _
+quiet_called classes w span keyed voiceless p args = quiet_silent
+quiet_called classes w span keyed uncalled p args = quiet_rule span (refused not_callable) (positional span keyed args) (quiet_positional span keyed args)
+quiet_called classes w span keyed value p args = quiet_with_part p _ (λ e. quiet_rule span (refused not_callable) (positional span keyed args) (quiet_positional span keyed args))
+
+-- ---- calls, whose callee may be a name that is not typed
+
+-- either nothing is said of what is typed of a callee, or a call without that is not typed
+pub data Lost (C : Context) (V : VarSorts) (known : List ℕ) (f : ExprTree) : Type 0 where
+  unsaid : (part C V known f).said ≡ [] → Lost C V known f
+  ungiven : ((w : Wanted) (span : Span) (keyed : Bool) (args : Option (List TypedExpr)) → (called C.classes w span keyed (callee C f) None args).got ≡ None) → Lost C V known f
+
+plain : (C : Context) (V : VarSorts) (known : List ℕ) (place : Span) (x : List ℕ) (m : Meaning) → C.meaning x ≡ m → is_variable m ≡ false → (part C V known (at (tree.Name x) place)).said ≡ []
+plain C V known place x m e v =
+    ap (λ n. (if not (is_variable n) then silent else node_typing C V free known place (tree.Name x)).said) e ∙ ap (λ b. (if not b then silent else node_typing C V free known place (tree.Name x)).said) v
+
+name_lost : (C : Context) (V : VarSorts) (known : List ℕ) (place : Span) (x : List ℕ) (m : Meaning) → C.meaning x ≡ m → Lost C V known (at (tree.Name x) place)
+name_lost C V known place x (meaning.Local i) e = ungiven (λ w span keyed args. ap (λ n. (called C.classes w span keyed (name_called C place x n) None args).got) e)
+name_lost C V known place x (meaning.Global i) e = ungiven (λ w span keyed args. ap (λ n. (called C.classes w span keyed (name_called C place x n) None args).got) e)
+name_lost C V known place x (meaning.Function i) e = unsaid (plain C V known place x (meaning.Function i) e refl)
+name_lost C V known place x (meaning.Class i) e = unsaid (plain C V known place x (meaning.Class i) e refl)
+name_lost C V known place x meaning.UntypedClass e = unsaid (plain C V known place x meaning.UntypedClass e refl)
+name_lost C V known place x (meaning.Exception k) e = unsaid (plain C V known place x (meaning.Exception k) e refl)
+name_lost C V known place x (meaning.Import i) e = unsaid (plain C V known place x (meaning.Import i) e refl)
+name_lost C V known place x (meaning.Builtin b) e = unsaid (plain C V known place x (meaning.Builtin b) e refl)
+name_lost C V known place x meaning.ModuleName e = unsaid (plain C V known place x meaning.ModuleName e refl)
+name_lost C V known place x meaning.Untyped e = unsaid (plain C V known place x meaning.Untyped e refl)
+name_lost C V known place x meaning.Unknown e = unsaid (plain C V known place x meaning.Unknown e refl)
+
+lost : (C : Context) (V : VarSorts) (known : List ℕ) (f : ExprTree) → Lost C V known f
+lost C V known (at (tree.Name x) place) = name_lost C V known place x (C.meaning x) refl
+lost C V known (at (tree.Attr e m) place) = ungiven (λ w span keyed args. refl)
+lost C V known (at (tree.Int n) place) = ungiven (λ w span keyed args. refl)
+lost C V known (at (tree.Str n) place) = ungiven (λ w span keyed args. refl)
+lost C V known (at tree.True place) = ungiven (λ w span keyed args. refl)
+lost C V known (at tree.False place) = ungiven (λ w span keyed args. refl)
+lost C V known (at tree.Nothing place) = ungiven (λ w span keyed args. refl)
+lost C V known (at (tree.Neg e) place) = ungiven (λ w span keyed args. refl)
+lost C V known (at (tree.Plus e) place) = ungiven (λ w span keyed args. refl)
+lost C V known (at (tree.Not e) place) = ungiven (λ w span keyed args. refl)
+lost C V known (at (tree.Bin o a b) place) = ungiven (λ w span keyed args. refl)
+lost C V known (at (tree.Compare a cs) place) = ungiven (λ w span keyed args. refl)
+lost C V known (at (tree.And a b) place) = ungiven (λ w span keyed args. refl)
+lost C V known (at (tree.Or a b) place) = ungiven (λ w span keyed args. refl)
+lost C V known (at (tree.Cond a t b) place) = ungiven (λ w span keyed args. refl)
+lost C V known (at (tree.ListOf es) place) = ungiven (λ w span keyed args. refl)
+lost C V known (at (tree.DictOf es) place) = ungiven (λ w span keyed args. refl)
+lost C V known (at (tree.TupleOf es) place) = ungiven (λ w span keyed args. refl)
+lost C V known (at (tree.Index e i) place) = ungiven (λ w span keyed args. refl)
+lost C V known (at (tree.Call f args) place) = ungiven (λ w span keyed args. refl)
+
+-- the parts and what is said behind them, where that is quiet whatever the parts are
+after_said : {A B : Type 0} (s : Seen A) (f : Option A → Seen B) → IsQuiet s → ((o : Option A) → IsQuiet (f o)) → (s.got ≡ None → (b : B) → (f None).got ≡ Some b → s.said ≡ []) → (o : Option A) → s.got ≡ o → (b : B) → (f s.got).got ≡ Some b → s.said ++ (f s.got).said ≡ []
+after_said s f q each none None ea b e = ap (λ l. l ++ (f s.got).said) (none ea b (sym (ap (λ o. (f o).got) ea) ∙ e)) ∙ (each s.got).says b e
+after_said s f q each none (Some a) ea b e = ap (λ l. l ++ (f s.got).said) (q.says a ea) ∙ (each s.got).says b e
+
+quiet_after : {A B : Type 0} (s : Seen A) (f : Option A → Seen B) → IsQuiet s → ((o : Option A) → IsQuiet (f o)) → (s.got ≡ None → (b : B) → (f None).got ≡ Some b → s.said ≡ []) → IsQuiet (behind s f)
+quiet_after s f q each none = record { says = λ b e. after_said s f q each none s.got refl b e }
+
+call_unsaid : (C : Context) (V : VarSorts) (known : List ℕ) (f : ExprTree) (args : Arguments) (w : Wanted) (span : Span) → Lost C V known f → (b : TypedExpr) → (behind (arguments C V (arguments_row (callee C f) None) 0 known args) (called C.classes w span (has_key args) (callee C f) None)).got ≡ Some b → (part C V known f).said ≡ []
+call_unsaid C V known f args w span (unsaid u) b e = u
+call_unsaid C V known f args w span (ungiven u) b e = let h = sym e ∙ u w span (has_key args) (arguments C V (arguments_row (callee C f) None) 0 known args).got in absurd (cc)
+
+quiet_if : {A : Type 0} (b : Bool) (s t : Seen A) → IsQuiet s → IsQuiet t → IsQuiet (if b then s else t)
+quiet_if true s t qs qt = qs
+quiet_if false s t qs qt = qt
+
+-- a call whose arguments are not typed is not typed
+called_none : (classes : List ClassEntry) (w : Wanted) (span : Span) (keyed : Bool) (f : Callee) (p : Option TypedExpr) (b : TypedExpr) → (called classes w span keyed f p None).got ≡ Some b → ⊥
+called_none classes w span keyed (function x i s) p b e = cc
+called_none classes w span keyed print p b e = cc
+called_none classes w span keyed input p b e = cc
+called_none classes w span keyed range p b e = cc
+called_none classes w span keyed (single f) p b e = cc
+called_none classes w span keyed (method m) None b e = cc
+called_none classes w span keyed (method m) (Some a) b e = cc
+called_none classes w span keyed (unknown place x) p b e = cc
+called_none classes w span keyed voiceless p b e = cc
+called_none classes w span keyed uncalled p b e = cc
+called_none classes w span keyed value None b e = cc
+called_none classes w span keyed value (Some a) b e = cc
+
+-- ---- expressions
+
+module _ (C : Context) (V : VarSorts) where
+  mutual
+    -- an expression that is typed has said nothing
+    pub quiet_typing : (w : Wanted) (known : List ℕ) (x : ExprTree) → IsQuiet (typing C V w known x)
+    quiet_typing w known (at n span) = quiet_node w known span n
+
+    quiet_node : (w : Wanted) (known : List ℕ) (span : Span) (n : ExprNode) → IsQuiet (node_typing C V w known span n)
+    quiet_node w known span (tree.Int n) = quiet_is _
+    quiet_node w known span (tree.Str n) = quiet_is _
+    quiet_node w known span tree.True = quiet_is _
+    quiet_node w known span tree.False = quiet_is _
+    quiet_node w known span tree.Nothing = quiet_is _
+    quiet_node w known span (tree.Name x) = quiet_named V known span x (C.meaning x)
+    quiet_node w known span (tree.Neg e) = quiet_rule span _ (typing C V free known e) (quiet_typing free known e)
+    quiet_node w known span (tree.Plus e) = quiet_rule span _ (typing C V free known e) (quiet_typing free known e)
+    quiet_node w known span (tree.Not e) = quiet_made _ (typing C V test known e) (quiet_typing test known e)
+    quiet_node w known span (tree.Bin o a b) = quiet_rule span _ (both (typing C V free known a) (typing C V free known b)) (quiet_both (typing C V free known a) (typing C V free known b) (quiet_typing free known a) (quiet_typing free known b))
+    quiet_node w known span (tree.Compare e cs) =
+        quiet_behind (both (typing C V free known e) (operands C V known cs)) (ruled_all span (faults_of C.classes) (chain span)) (quiet_both (typing C V free known e) (operands C V known cs) (quiet_typing free known e) (quiet_operands known cs)) refl
+        (λ q. quiet_told span (faults_of C.classes q) (chain span q))
+    quiet_node w known span (tree.And a b) =
+        quiet_rule span _ (both (typing C V (operand w) known a) (typing C V (operand w) (facts C true a ++ known) b)) (quiet_both (typing C V (operand w) known a) (typing C V (operand w) (facts C true a ++ known) b) (quiet_typing (operand w) known a) (quiet_typing (operand w) (facts C true a ++ known) b))
+    quiet_node w known span (tree.Or a b) =
+        quiet_rule span _ (both (typing C V (operand w) known a) (typing C V (operand w) (facts C false a ++ known) b)) (quiet_both (typing C V (operand w) known a) (typing C V (operand w) (facts C false a ++ known) b) (quiet_typing (operand w) known a) (quiet_typing (operand w) (facts C false a ++ known) b))
+    quiet_node w known span (tree.Cond a t b) =
+        let sa = typing C V free (facts C true t ++ known) a in
+        let st = typing C V test known t in
+        let sb = typing C V free (facts C false t ++ known) b in
+        quiet_rule span _ (both (both sa st) sb) (quiet_both (both sa st) sb (quiet_both sa st (quiet_typing free (facts C true t ++ known) a) (quiet_typing test known t)) (quiet_typing free (facts C false t ++ known) b))
+    quiet_node w known span (tree.ListOf es) = quiet_rule span _ (items C V (items_row (item_sort w)) 0 known es) (quiet_items (items_row (item_sort w)) 0 known es)
+    quiet_node w known span (tree.TupleOf es) = quiet_rule span _ (items C V (parts_row w (count es)) 0 known es) (quiet_items (parts_row w (count es)) 0 known es)
+    quiet_node w known span (tree.Index e i) = quiet_rule span _ (both (typing C V free known e) (typing C V free known i)) (quiet_both (typing C V free known e) (typing C V free known i) (quiet_typing free known e) (quiet_typing free known i))
+    quiet_node w known span (tree.Call f args) =
+        quiet_after (part C V known f) (λ p. behind (arguments C V (arguments_row (callee C f) p) 0 known args) (called C.classes w span (has_key args) (callee C f) p)) (quiet_part known f)
+        (λ p. quiet_after (arguments C V (arguments_row (callee C f) p) 0 known args) (called C.classes w span (has_key args) (callee C f) p) (quiet_arguments (arguments_row (callee C f) p) 0 known args) (λ es. quiet_called C.classes w span (has_key args) (callee C f) p es) (λ none b e. absurd (called_none C.classes w span (has_key args) (callee C f) p b e)))
+        (λ none b e. call_unsaid C V known f args w span (lost C V known f) b e)
+    quiet_node w known span (tree.Attr e a) = quiet_rule span _ (typing C V free known e) (quiet_typing free known e)
+    quiet_node w known span (tree.DictOf es) = quiet_fails span _
+
+    quiet_items : (row : WantedRow) (i : ℕ) (known : List ℕ) (es : ExprTrees) → IsQuiet (items C V row i known es)
+    quiet_items row i known no_exprs = quiet_is []
+    quiet_items row i known (expr_then e more) = quiet_row (typing C V (wanted_in row i) known e) (items C V row (suc i) known more) (quiet_typing (wanted_in row i) known e) (quiet_items row (suc i) known more)
+
+    quiet_operands : (known : List ℕ) (cs : Comparisons) → IsQuiet (operands C V known cs)
+    quiet_operands known no_comparisons = quiet_is []
+    quiet_operands known (comparison_then o e more) =
+        quiet_row (made (λ t. (o, t)) (typing C V free known e)) (operands C V known more) (quiet_made (λ t. (o, t)) (typing C V free known e) (quiet_typing free known e)) (quiet_operands known more)
+
+    quiet_arguments : (row : WantedRow) (i : ℕ) (known : List ℕ) (args : Arguments) → IsQuiet (arguments C V row i known args)
+    quiet_arguments row i known no_arguments = quiet_is []
+    quiet_arguments row i known (argument_then e more) = quiet_row (typing C V (wanted_in row i) known e) (arguments C V row (suc i) known more) (quiet_typing (wanted_in row i) known e) (quiet_arguments row (suc i) known more)
+    quiet_arguments row i known (keyed_then k e more) = quiet_row (typing C V (wanted_in row i) known e) (arguments C V row (suc i) known more) (quiet_typing (wanted_in row i) known e) (quiet_arguments row (suc i) known more)
+
+    quiet_part : (known : List ℕ) (f : ExprTree) → IsQuiet (part C V known f)
+    quiet_part known (at n span) = quiet_if (is_named C n) (receiver C V known n) (node_typing C V free known span n) (quiet_receiver known n) (quiet_node free known span n)
+
+    quiet_receiver : (known : List ℕ) (n : ExprNode) → IsQuiet (receiver C V known n)
+    quiet_receiver known (tree.Attr e m) = quiet_typing free known e
+    quiet_receiver known (tree.Int n) = quiet_silent
+    quiet_receiver known (tree.Str n) = quiet_silent
+    quiet_receiver known tree.True = quiet_silent
+    quiet_receiver known tree.False = quiet_silent
+    quiet_receiver known tree.Nothing = quiet_silent
+    quiet_receiver known (tree.Name x) = quiet_silent
+    quiet_receiver known (tree.Neg e) = quiet_silent
+    quiet_receiver known (tree.Plus e) = quiet_silent
+    quiet_receiver known (tree.Not e) = quiet_silent
+    quiet_receiver known (tree.Bin o a b) = quiet_silent
+    quiet_receiver known (tree.Compare a cs) = quiet_silent
+    quiet_receiver known (tree.And a b) = quiet_silent
+    quiet_receiver known (tree.Or a b) = quiet_silent
+    quiet_receiver known (tree.Cond a t b) = quiet_silent
+    quiet_receiver known (tree.ListOf es) = quiet_silent
+    quiet_receiver known (tree.DictOf es) = quiet_silent
+    quiet_receiver known (tree.TupleOf es) = quiet_silent
+    quiet_receiver known (tree.Index e i) = quiet_silent
+    quiet_receiver known (tree.Call f args) = quiet_silent

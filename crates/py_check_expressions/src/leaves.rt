@@ -1,0 +1,62 @@
+//! Expressions without parts.
+ghost use Rattle.std.specs.Prelude.{◌≡◌, Some, IfOk};
+ghost use Rattle.std.specs.Option.{option_map};
+ghost use Rattle.py_typed.specs.Sorts as sort;
+ghost use Rattle.py_typed.specs.Expressions as node;
+ghost use Rattle.py_typed.specs.Expressions.{TypedExpr, typed};
+ghost use Rattle.py_check_messages.specs.Seen.{Tells, fails};
+ghost use Rattle.py_check_messages.specs.Messages as message;
+ghost use Rattle.py_check_operators.specs.Boxes.{boxed};
+
+use py_binder::Diag;
+use py_check_messages::no_common_entry;
+use py_check_operators::kept;
+use py_syntax::Span;
+use py_typed::{TExpr, TKind, Ty};
+use std::alloc::Global;
+use value_core::{Many, Memory, Text};
+
+/// A number (Python Language Reference, "Integer literals").
+pub(crate) fn number(alloc: Global, span: Span, n: i128) -> Result<Option<Box<TExpr>>, Memory>
+    ensures { IfOk result (λ t. option_map boxed t ≡ Some (typed (node.Int n) sort.Int span)) }
+{
+    let e = kept(alloc, TKind::Int(n), Ty::Int, span)?;
+    Ok(Some(e))
+}
+
+/// A text (Python Language Reference, "String and Bytes literals").
+pub(crate) fn text(alloc: Global, span: Span, s: &Text) -> Result<Option<Box<TExpr>>, Memory>
+    ensures { IfOk result (λ t. option_map boxed t ≡ Some (typed (node.Str s.now) sort.Str span)) }
+{
+    let s = s.clone()?;
+    let e = kept(alloc, TKind::Str(s), Ty::Str, span)?;
+    Ok(Some(e))
+}
+
+/// `True` or `False`.
+pub(crate) fn flag(alloc: Global, span: Span, b: bool) -> Result<Option<Box<TExpr>>, Memory>
+    ensures { IfOk result (λ t. option_map boxed t ≡ Some (typed (node.Flag b) sort.Bool span)) }
+{
+    let e = kept(alloc, TKind::Bool(b), Ty::Bool, span)?;
+    Ok(Some(e))
+}
+
+/// `None`.
+pub(crate) fn nothing(alloc: Global, span: Span) -> Result<Option<Box<TExpr>>, Memory>
+    ensures { IfOk result (λ t. option_map boxed t ≡ Some (typed node.Nothing sort.Nothing span)) }
+{
+    let e = kept(alloc, TKind::Nothing, Ty::Nothing, span)?;
+    Ok(Some(e))
+}
+
+/// A dict display, which has no type yet.
+pub(crate) fn dict(
+    alloc: Global,
+    span: Span,
+    faults: &mut Many<Diag>,
+) -> Result<Option<Box<TExpr>>, Memory>
+    ensures { IfOk result (λ t. Tells boxed t faults.old faults.new (fails {A = TypedExpr} span message.no_common_entry)) }
+{
+    no_common_entry(alloc, span, faults)?;
+    Ok(None)
+}

@@ -1,0 +1,286 @@
+-- What is not typed has said why, where no name is without a type: of the words of typing, and of each kind of expression.
+use Rattle.std.proofs.Common.{◌≡◌, ℕ, suc, Bool, true, false, List, [], ◌∷◌, ◌++◌, Option, Some, None, Result, Ok, Err, refl, ap, sym, ◌∙◌, not, if◌then◌else◌, slice_get, ◌⊎◌, inl, inr}
+use Rattle.std.specs.Prelude.{is_none}
+use Rattle.std.specs.Option.{option_map, option_zip}
+use Rattle.py_syntax.specs.declared.token.Span.{Span}
+use Rattle.py_syntax.specs.Expressions as tree
+use Rattle.py_syntax.specs.Expressions.{ExprTree, ExprNode, at, ExprTrees, no_exprs, expr_then, Comparisons, no_comparisons, comparison_then, Arguments, no_arguments, argument_then, keyed_then}
+use Rattle.py_typed.specs.Classes.{ClassEntry, Signature}
+use Rattle.py_typed.specs.Expressions.{TypedExpr, TypedNode}
+use Rattle.py_typed.specs.Narrowing.{is_in}
+use Rattle.py_check_context.specs.declared.scope.Meaning.{Meaning}
+use Rattle.py_check_context.specs.declared.scope.Meaning.TheVariants as meaning
+use Rattle.py_check_context.specs.declared.scope.Builtin.{Builtin}
+use Rattle.py_check_context.specs.declared.scope.Builtin.TheVariants as builtin
+use Rattle.py_check_context.specs.declared.scope.Imported.{Imported}
+use Rattle.py_check_context.specs.declared.scope.Imported.TheVariants as imported
+use Rattle.py_check_context.specs.Context.{Context, VarSort, unset, untyped, has, VarSorts, var_at, Wanted, free, test, WantedRow, wanted_in, some_signature}
+use Rattle.py_check_messages.specs.Seen.{Seen, Message, is, silent, fails, both, judged, behind, rule, made, ruled}
+use Rattle.py_check_messages.specs.Rows.{row_then}
+use Rattle.py_check_operators.specs.Several.{told, ruled_all}
+use Rattle.py_check_operators.specs.Facts.{facts}
+use Rattle.py_check_operators.specs.Names.{variable, named}
+use Rattle.py_check_operators.specs.Chains.{faults_of, chain}
+use Rattle.py_check_operators.specs.Choices.{operand}
+use Rattle.py_check_displays.specs.Displays.{item_sort, items_row, parts_row}
+use Rattle.py_check_calls.specs.Callees.{Callee, function, print, input, range, single, method, unknown, voiceless, uncalled, value, callee, has_key, is_variable, function_called, builtin_called, import_called, name_called}
+use Rattle.py_check_calls.specs.Calls.{arguments_row, positional, no_keys, refused, called}
+use Rattle.py_check_messages.specs.Messages.{range_outside_for, not_callable}
+use Rattle.py_check_expressions.specs.Typing.{typing, node_typing, items, operands, arguments, part, count}
+use Rattle.py_check_expressions_laws.specs.Laws.{is_voiceless, is_untyped, AllHaveTypes}
+
+pub record IsLoud {A : Type 0} (s : Seen A) : Type 0 where
+  pub says : s.got ≡ None → s.said ≡ [] → ⊥
+
+pub loud_is : {A : Type 0} (a : A) → IsLoud (is a)
+loud_is a = record { says = λ e f. absurd (cc) }
+
+pub loud_fails : {A : Type 0} (span : Span) (m : Message) → IsLoud (fails {A = A} span m)
+loud_fails span m = record { says = λ e f. absurd (cc) }
+
+pub none_before : {A : Type 0} (xs ys : List A) → xs ++ ys ≡ [] → xs ≡ []
+none_before [] ys e = refl
+none_before (x ∷ xs) ys e = absurd (cc)
+
+pub none_behind : {A : Type 0} (xs ys : List A) → xs ++ ys ≡ [] → ys ≡ []
+none_behind [] ys e = e
+none_behind (x ∷ xs) ys e = absurd (cc)
+
+pub both_say : {A B : Type 0} (s : Seen A) (t : Seen B) → IsLoud s → IsLoud t → (a : Option A) (b : Option B) → s.got ≡ a → t.got ≡ b → option_zip a b ≡ None → s.said ++ t.said ≡ [] → ⊥
+both_say s t ls lt None b ea eb e f = ls.says ea (none_before s.said t.said f)
+both_say s t ls lt (Some a) None ea eb e f = lt.says eb (none_behind s.said t.said f)
+both_say s t ls lt (Some a) (Some b) ea eb e f = absurd (cc)
+
+pub loud_both : {A B : Type 0} (s : Seen A) (t : Seen B) → IsLoud s → IsLoud t → IsLoud (both s t)
+loud_both s t ls lt = record { says = λ e f. both_say s t ls lt s.got t.got refl refl e f }
+
+pub made_says : {A B : Type 0} (f : A → B) (s : Seen A) → IsLoud s → (a : Option A) → s.got ≡ a → option_map f a ≡ None → s.said ≡ [] → ⊥
+made_says f s l None ea e g = l.says ea g
+made_says f s l (Some a) ea e g = absurd (cc)
+
+pub loud_made : {A B : Type 0} (f : A → B) (s : Seen A) → IsLoud s → IsLoud (made f s)
+loud_made f s l = record { says = λ e g. made_says f s l s.got refl e g }
+
+-- the parts have said why, or what stands behind them does without them
+pub behind_says : {A B : Type 0} (s : Seen A) (f : Option A → Seen B) → IsLoud s ⊎ IsLoud (f None) → ((a : A) → IsLoud (f (Some a))) → (o : Option A) → s.got ≡ o → (f s.got).got ≡ None → s.said ++ (f s.got).said ≡ [] → ⊥
+behind_says s f (inl l) each None eo e g = l.says eo (none_before s.said (f s.got).said g)
+behind_says s f (inr l) each None eo e g = l.says (sym (ap (λ o. (f o).got) eo) ∙ e) (sym (ap (λ o. (f o).said) eo) ∙ none_behind s.said (f s.got).said g)
+behind_says s f l each (Some a) eo e g = (each a).says (sym (ap (λ o. (f o).got) eo) ∙ e) (sym (ap (λ o. (f o).said) eo) ∙ none_behind s.said (f s.got).said g)
+
+pub loud_either : {A B : Type 0} (s : Seen A) (f : Option A → Seen B) → IsLoud s ⊎ IsLoud (f None) → ((a : A) → IsLoud (f (Some a))) → IsLoud (behind s f)
+loud_either s f l each = record { says = λ e g. behind_says s f l each s.got refl e g }
+
+pub loud_behind : {A B : Type 0} (s : Seen A) (f : Option A → Seen B) → IsLoud s → ((a : A) → IsLoud (f (Some a))) → IsLoud (behind s f)
+loud_behind s f l each = loud_either s f (inl l) each
+
+pub loud_judged : {A : Type 0} (span : Span) (r : Result A Message) → IsLoud (judged span r)
+loud_judged span (Ok a) = loud_is a
+loud_judged span (Err m) = loud_fails span m
+
+pub loud_rule : {A B : Type 0} (span : Span) (f : A → Result B Message) (s : Seen A) → IsLoud s → IsLoud (rule span f s)
+loud_rule span f s l = loud_behind s (ruled span f) l (λ a. loud_judged span (f a))
+
+pub loud_told : {A : Type 0} (span : Span) (ms : List Message) (a : A) → IsLoud (told span ms a)
+loud_told span [] a = loud_is a
+loud_told span (m ∷ ms) a = record { says = λ e f. absurd (cc) }
+
+pub loud_row : {A : Type 0} (one : Seen A) (rest : Seen (List A)) → IsLoud one → IsLoud rest → IsLoud (row_then one rest)
+loud_row one rest l r = loud_made (λ p. p.0 ∷ p.1) (both one rest) (loud_both one rest l r)
+
+on_right : {A B D : Type 0} → A ⊎ B → (B → D) → A ⊎ D
+on_right (inl a) f = inl a
+on_right (inr b) f = inr (f b)
+
+-- ---- names
+
+loud_variable : (span : Span) (x : List ℕ) (e : TypedNode) (known : Bool) (v : VarSort) → is_untyped v ≡ false → IsLoud (variable span x e known v)
+loud_variable span x e known unset u = loud_fails span _
+loud_variable span x e known untyped u = absurd (cc)
+loud_variable span x e known (has t) u = loud_is _
+
+-- ---- calls
+
+pub loud_positional : (span : Span) (keyed : Bool) (es : List TypedExpr) → IsLoud (positional span keyed (Some es))
+loud_positional span keyed es = loud_judged span (no_keys keyed es)
+
+-- whether what is called says something where all that is typed of the call is
+abbrev is_heard : Callee → Option TypedExpr → Bool
+is_heard voiceless part = false
+is_heard (method m) part = not (is_none part)
+is_heard value part = not (is_none part)
+is_heard f part = true
+
+loud_called : (classes : List ClassEntry) (w : Wanted) (span : Span) (keyed : Bool) (f : Callee) (p : Option TypedExpr) (es : List TypedExpr) → is_heard f p ≡ true → IsLoud (called classes w span keyed f p (Some es))
+loud_called classes w span keyed (function x i s) p es h = loud_rule span _ (positional span keyed (Some es)) (loud_positional span keyed es)
+loud_called classes w span keyed print p es h = loud_rule span _ (positional span keyed (Some es)) (loud_positional span keyed es)
+loud_called classes w span keyed input p es h = loud_rule span _ (positional span keyed (Some es)) (loud_positional span keyed es)
+loud_called classes w span keyed range p es h = loud_rule span (refused range_outside_for) (positional span keyed (Some es)) (loud_positional span keyed es)
+loud_called classes w span keyed (single f) p es h = loud_rule span _ (positional span keyed (Some es)) (loud_positional span keyed es)
+loud_called classes w span keyed (method m) None es h = absurd (cc)
+loud_called classes w span keyed (method m) (Some e) es h = loud_rule span _ (positional span keyed (Some es)) (loud_positional span keyed es)
+loud_called classes w span keyed (unknown place x) p es h = loud_fails place _
+loud_called classes w span keyed voiceless p es h = absurd (cc)
+loud_called classes w span keyed uncalled p es h = loud_rule span (refused not_callable) (positional span keyed (Some es)) (loud_positional span keyed es)
+loud_called classes w span keyed value None es h = absurd (cc)
+loud_called classes w span keyed value (Some e) es h = loud_rule span (refused not_callable) (positional span keyed (Some es)) (loud_positional span keyed es)
+
+abbrev is_mute : Callee → Bool
+is_mute voiceless = true
+is_mute f = false
+
+heard_with : (f : Callee) (e : TypedExpr) → is_mute f ≡ false → is_heard f (Some e) ≡ true
+heard_with (function x i s) e h = refl
+heard_with print e h = refl
+heard_with input e h = refl
+heard_with range e h = refl
+heard_with (single f) e h = refl
+heard_with (method m) e h = refl
+heard_with (unknown place x) e h = refl
+heard_with voiceless e h = absurd (cc)
+heard_with uncalled e h = refl
+heard_with value e h = refl
+
+function_heard : (x : List ℕ) (i : ℕ) (s : Option Signature) → is_none s ≡ false → is_mute (function_called x i s) ≡ false
+function_heard x i None h = absurd (cc)
+function_heard x i (Some s) h = refl
+
+builtin_heard : (b : Builtin) → is_mute (builtin_called b) ≡ false
+builtin_heard builtin.Print = refl
+builtin_heard builtin.Input = refl
+builtin_heard builtin.Len = refl
+builtin_heard builtin.Range = refl
+builtin_heard builtin.Str = refl
+builtin_heard builtin.Int = refl
+builtin_heard _ = refl
+
+import_heard : (i : Imported) → is_mute (import_called i) ≡ false
+import_heard imported.I64 = refl
+import_heard _ = refl
+
+-- ---- expressions
+
+module _ (C : Context) (V : VarSorts) (all : AllHaveTypes C V) where
+  name_heard : (span : Span) (x : List ℕ) (m : Meaning) → is_voiceless C.signatures m ≡ false → is_mute (name_called C span x m) ≡ false
+  name_heard span x (meaning.Local i) h = refl
+  name_heard span x (meaning.Global i) h = refl
+  name_heard span x meaning.ModuleName h = refl
+  name_heard span x meaning.Untyped h = absurd (cc)
+  name_heard span x meaning.UntypedClass h = absurd (cc)
+  name_heard span x meaning.Unknown h = refl
+  name_heard span x (meaning.Function i) h = function_heard x i (some_signature (slice_get C.signatures i)) h
+  name_heard span x (meaning.Class i) h = refl
+  name_heard span x (meaning.Exception k) h = refl
+  name_heard span x (meaning.Import i) h = import_heard i
+  name_heard span x (meaning.Builtin b) h = builtin_heard b
+
+  loud_named : (known : List ℕ) (span : Span) (x : List ℕ) (m : Meaning) → is_voiceless C.signatures m ≡ false → IsLoud (named V known span x m)
+  loud_named known span x (meaning.Local i) h = loud_variable span x _ (is_in known i) (var_at V.locals i) (all.locals i)
+  loud_named known span x (meaning.Global i) h = loud_variable span x _ false (var_at V.globals i) (all.globals i)
+  loud_named known span x meaning.ModuleName h = loud_is _
+  loud_named known span x meaning.Untyped h = absurd (cc)
+  loud_named known span x meaning.UntypedClass h = absurd (cc)
+  loud_named known span x meaning.Unknown h = loud_fails span _
+  loud_named known span x (meaning.Function i) h = loud_fails span _
+  loud_named known span x (meaning.Class i) h = loud_fails span _
+  loud_named known span x (meaning.Exception k) h = loud_fails span _
+  loud_named known span x (meaning.Import i) h = loud_fails span _
+  loud_named known span x (meaning.Builtin b) h = loud_fails span _
+
+  -- no callee is one of which nothing is said
+  callee_heard : (f : ExprTree) → is_mute (callee C f) ≡ false
+  callee_heard (at (tree.Name x) span) = name_heard span x (C.meaning x) (all.names x)
+  callee_heard (at (tree.Attr e m) span) = refl
+  callee_heard _ = refl
+
+  -- what is typed of a name that is called, or else the name says something by itself
+  name_case : (known : List ℕ) (span : Span) (x : List ℕ) (m : Meaning) → is_voiceless C.signatures m ≡ false → IsLoud (if not (is_variable m) then silent else named V known span x m) ⊎ (is_heard (name_called C span x m) None ≡ true)
+  name_case known span x (meaning.Local i) h = inl (loud_named known span x (meaning.Local i) h)
+  name_case known span x (meaning.Global i) h = inl (loud_named known span x (meaning.Global i) h)
+  name_case known span x meaning.ModuleName h = inr refl
+  name_case known span x meaning.Untyped h = absurd (cc)
+  name_case known span x meaning.UntypedClass h = absurd (cc)
+  name_case known span x meaning.Unknown h = inr refl
+  name_case known span x (meaning.Function i) h = inr (by_function (some_signature (slice_get C.signatures i)) h)
+    where
+      by_function : (s : Option Signature) → is_none s ≡ false → is_heard (function_called x i s) None ≡ true
+      by_function None g = absurd (cc)
+      by_function (Some s) g = refl
+  name_case known span x (meaning.Class i) h = inr refl
+  name_case known span x (meaning.Exception k) h = inr refl
+  name_case known span x (meaning.Import i) h = inr (by_import i)
+    where
+      by_import : (i : Imported) → is_heard (import_called i) None ≡ true
+      by_import imported.I64 = refl
+      by_import _ = refl
+  name_case known span x (meaning.Builtin b) h = inr (by_builtin b)
+    where
+      by_builtin : (b : Builtin) → is_heard (builtin_called b) None ≡ true
+      by_builtin builtin.Print = refl
+      by_builtin builtin.Input = refl
+      by_builtin builtin.Len = refl
+      by_builtin builtin.Range = refl
+      by_builtin builtin.Str = refl
+      by_builtin builtin.Int = refl
+      by_builtin _ = refl
+
+  call_loud : (w : Wanted) (span : Span) (known : List ℕ) (f : ExprTree) (p : Option TypedExpr) (args : Arguments) → is_heard (callee C f) p ≡ true → IsLoud (arguments C V (arguments_row (callee C f) p) 0 known args) → IsLoud (behind (arguments C V (arguments_row (callee C f) p) 0 known args) (called C.classes w span (has_key args) (callee C f) p))
+  call_loud w span known f p args h l =
+      loud_behind (arguments C V (arguments_row (callee C f) p) 0 known args) (called C.classes w span (has_key args) (callee C f) p) l
+      (λ es. loud_called C.classes w span (has_key args) (callee C f) p es h)
+
+  mutual
+    -- an expression that is not typed has said why
+    pub loud_typing : (w : Wanted) (known : List ℕ) (x : ExprTree) → IsLoud (typing C V w known x)
+    loud_typing w known (at n span) = loud_node w known span n
+
+    pub loud_node : (w : Wanted) (known : List ℕ) (span : Span) (n : ExprNode) → IsLoud (node_typing C V w known span n)
+    loud_node w known span (tree.Int n) = loud_is _
+    loud_node w known span (tree.Str n) = loud_is _
+    loud_node w known span tree.True = loud_is _
+    loud_node w known span tree.False = loud_is _
+    loud_node w known span tree.Nothing = loud_is _
+    loud_node w known span (tree.Name x) = loud_named known span x (C.meaning x) (all.names x)
+    loud_node w known span (tree.Neg e) = loud_rule span _ (typing C V free known e) (loud_typing free known e)
+    loud_node w known span (tree.Plus e) = loud_rule span _ (typing C V free known e) (loud_typing free known e)
+    loud_node w known span (tree.Not e) = loud_made _ (typing C V test known e) (loud_typing test known e)
+    loud_node w known span (tree.Bin o a b) = loud_rule span _ (both (typing C V free known a) (typing C V free known b)) (loud_both (typing C V free known a) (typing C V free known b) (loud_typing free known a) (loud_typing free known b))
+    loud_node w known span (tree.Compare e cs) =
+        loud_behind (both (typing C V free known e) (operands C V known cs)) (ruled_all span (faults_of C.classes) (chain span)) (loud_both (typing C V free known e) (operands C V known cs) (loud_typing free known e) (loud_operands known cs))
+        (λ q. loud_told span (faults_of C.classes q) (chain span q))
+    loud_node w known span (tree.And a b) =
+        loud_rule span _ (both (typing C V (operand w) known a) (typing C V (operand w) (facts C true a ++ known) b)) (loud_both (typing C V (operand w) known a) (typing C V (operand w) (facts C true a ++ known) b) (loud_typing (operand w) known a) (loud_typing (operand w) (facts C true a ++ known) b))
+    loud_node w known span (tree.Or a b) =
+        loud_rule span _ (both (typing C V (operand w) known a) (typing C V (operand w) (facts C false a ++ known) b)) (loud_both (typing C V (operand w) known a) (typing C V (operand w) (facts C false a ++ known) b) (loud_typing (operand w) known a) (loud_typing (operand w) (facts C false a ++ known) b))
+    loud_node w known span (tree.Cond a t b) =
+        let sa = typing C V free (facts C true t ++ known) a in
+        let st = typing C V test known t in
+        let sb = typing C V free (facts C false t ++ known) b in
+        loud_rule span _ (both (both sa st) sb) (loud_both (both sa st) sb (loud_both sa st (loud_typing free (facts C true t ++ known) a) (loud_typing test known t)) (loud_typing free (facts C false t ++ known) b))
+    loud_node w known span (tree.ListOf es) = loud_rule span _ (items C V (items_row (item_sort w)) 0 known es) (loud_items (items_row (item_sort w)) 0 known es)
+    loud_node w known span (tree.TupleOf es) = loud_rule span _ (items C V (parts_row w (count es)) 0 known es) (loud_items (parts_row w (count es)) 0 known es)
+    loud_node w known span (tree.Index e i) = loud_rule span _ (both (typing C V free known e) (typing C V free known i)) (loud_both (typing C V free known e) (typing C V free known i) (loud_typing free known e) (loud_typing free known i))
+    loud_node w known span (tree.Call f args) =
+        loud_either (part C V known f) (λ p. behind (arguments C V (arguments_row (callee C f) p) 0 known args) (called C.classes w span (has_key args) (callee C f) p)) (callee_case w span known f args (λ row. loud_arguments row 0 known args))
+        (λ e. call_loud w span known f (Some e) args (heard_with (callee C f) e (callee_heard f)) (loud_arguments (arguments_row (callee C f) (Some e)) 0 known args))
+    loud_node w known span (tree.Attr e a) = loud_rule span _ (typing C V free known e) (loud_typing free known e)
+    loud_node w known span (tree.DictOf es) = loud_fails span _
+
+    pub loud_items : (row : WantedRow) (i : ℕ) (known : List ℕ) (es : ExprTrees) → IsLoud (items C V row i known es)
+    loud_items row i known no_exprs = loud_is []
+    loud_items row i known (expr_then e more) = loud_row (typing C V (wanted_in row i) known e) (items C V row (suc i) known more) (loud_typing (wanted_in row i) known e) (loud_items row (suc i) known more)
+
+    pub loud_operands : (known : List ℕ) (cs : Comparisons) → IsLoud (operands C V known cs)
+    loud_operands known no_comparisons = loud_is []
+    loud_operands known (comparison_then o e more) =
+        loud_row (made (λ t. (o, t)) (typing C V free known e)) (operands C V known more) (loud_made (λ t. (o, t)) (typing C V free known e) (loud_typing free known e)) (loud_operands known more)
+
+    pub loud_arguments : (row : WantedRow) (i : ℕ) (known : List ℕ) (args : Arguments) → IsLoud (arguments C V row i known args)
+    loud_arguments row i known no_arguments = loud_is []
+    loud_arguments row i known (argument_then e more) = loud_row (typing C V (wanted_in row i) known e) (arguments C V row (suc i) known more) (loud_typing (wanted_in row i) known e) (loud_arguments row (suc i) known more)
+    loud_arguments row i known (keyed_then k e more) = loud_row (typing C V (wanted_in row i) known e) (arguments C V row (suc i) known more) (loud_typing (wanted_in row i) known e) (loud_arguments row (suc i) known more)
+
+    -- either what is typed of a callee has said why it is not, or the call does
+    callee_case : (w : Wanted) (span : Span) (known : List ℕ) (f : ExprTree) (args : Arguments) → ((row : WantedRow) → IsLoud (arguments C V row 0 known args)) → IsLoud (part C V known f) ⊎ IsLoud (behind (arguments C V (arguments_row (callee C f) None) 0 known args) (called C.classes w span (has_key args) (callee C f) None))
+    callee_case w span known (at (tree.Name x) place) args l = on_right (name_case known place x (C.meaning x) (all.names x)) (λ h. call_loud w span known (at (tree.Name x) place) None args h (l (arguments_row (callee C (at (tree.Name x) place)) None)))
+    callee_case w span known (at (tree.Attr e m) place) args l = inl (loud_typing free known e)
+    callee_case w span known (at n place) args l = inl (loud_node free known place n)

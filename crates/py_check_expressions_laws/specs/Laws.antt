@@ -1,0 +1,32 @@
+-- What holds of the typing of every expression, beside that it says nothing where there is a type.
+use Rattle.std.specs.Prelude.{◌≡◌, ◌≢◌, ℕ, Bool, true, false, is_none, List, [], Option, None, slice_get}
+use Rattle.py_syntax.specs.Expressions.{ExprTree}
+use Rattle.py_typed.specs.Classes.{Signature}
+use Rattle.py_check_context.specs.declared.scope.Meaning.{Meaning}
+use Rattle.py_check_context.specs.declared.scope.Meaning.TheVariants as meaning
+use Rattle.py_check_context.specs.Context.{Context, VarSort, untyped, VarSorts, var_at, Wanted, some_signature}
+use Rattle.py_check_expressions.specs.Typing.{typing}
+
+-- ---- names without a type
+
+-- a name that has no type where it is read or called, and of which nothing is said there
+abbrev pub is_voiceless : List (Option Signature) → Meaning → Bool
+is_voiceless signatures meaning.Untyped = true
+is_voiceless signatures meaning.UntypedClass = true
+is_voiceless signatures (meaning.Function i) = is_none (some_signature (slice_get signatures i))
+is_voiceless signatures m = false
+
+abbrev pub is_untyped : VarSort → Bool
+is_untyped untyped = true
+is_untyped v = false
+
+-- no name in reach is one: each variable has a type or is not read yet, and each function a signature
+pub record AllHaveTypes (c : Context) (vars : VarSorts) : Type 0 where
+  pub names : (x : List ℕ) → is_voiceless c.signatures (c.meaning x) ≡ false
+  pub locals : (i : ℕ) → is_untyped (var_at vars.locals i) ≡ false
+  pub globals : (i : ℕ) → is_untyped (var_at vars.globals i) ≡ false
+
+-- then an expression that is not typed has said something
+abbrev pub UntypedIsLoud : Type 0
+UntypedIsLoud =
+    (c : Context) (vars : VarSorts) → AllHaveTypes c vars → (w : Wanted) (known : List ℕ) (e : ExprTree) → (typing c vars w known e).got ≡ None → (typing c vars w known e).said ≢ []

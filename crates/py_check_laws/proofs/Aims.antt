@@ -1,0 +1,192 @@
+-- What targets are: names of variables, and items.
+use Rattle.std.proofs.Common.{◌≡◌, ℕ, Bool, true, false, List, [], ◌∷◌, Option, Some, None, refl, ap, sym, ◌∙◌, subst, if◌then◌else◌}
+use Rattle.std.proofs.lemmas.Option.{same_Some}
+use Rattle.py_syntax.specs.declared.token.Span.{Span}
+use Rattle.py_syntax.specs.Expressions.{ExprTree}
+use Rattle.py_typed.specs.Sorts.{Sort}
+use Rattle.py_typed.specs.Expressions as node
+use Rattle.py_typed.specs.Expressions.{TypedExpr, typed, type_of}
+use Rattle.py_typed.specs.Statements.{TypedTarget, LocalTarget, GlobalTarget, ItemTarget}
+use Rattle.py_check_context.specs.declared.scope.Meaning.{Meaning}
+use Rattle.py_check_context.specs.declared.scope.Meaning.TheVariants as meaning
+use Rattle.py_check_context.specs.Context.{Context, VarSort, unset, untyped, has, var_at, free}
+use Rattle.py_check_flow.specs.Bindings.{name_in}
+use Rattle.py_typed.specs.Narrowing.{without, may_be_none, after_target}
+use Rattle.py_check_operators.specs.Facts.{local_of}
+use Rattle.py_check_targets.specs.Places.{Known, with_names, is_unset, is_plain, rebound, bind_variable, bind_name}
+use Rattle.py_check_targets.specs.Targets.{Aim, held, first, unwritten, variable_aim, name_aim, is_written, item_aim, is_item, value_aim, typed_at, single_aim, forgotten, aims}
+use Rattle.py_check_expressions_laws.specs.WellTyped.{Within}
+use Rattle.py_check_laws.proofs.Given.{made_given, row_given}
+use Rattle.py_check_laws.proofs.Names.{within_less, bound_local, forgotten_local, bound_other}
+
+-- ---- one aim and its target
+
+-- a variable's
+same_held : (t u : TypedTarget) (s r : Sort) → held t s ≡ held u r → (t ≡ u) × (s ≡ r)
+same_held t u s r e = (cc, cc)
+
+same_first : (t u : TypedTarget) (x y : List ℕ) → first t x ≡ first u y → (t ≡ u) × (x ≡ y)
+same_first t u x y e = (cc, cc)
+
+pub variable_held : (t u : TypedTarget) (x : List ℕ) (v : VarSort) (s : Sort) → variable_aim t x v ≡ Some (held u s) → (t ≡ u) × (v ≡ has s)
+variable_held t u x unset s e = absurd (cc)
+variable_held t u x untyped s e = absurd (cc)
+variable_held t u x (has r) s e = let q = same_held t u r s (same_Some (held t r) (held u s) e) in (q.0, ap has q.1)
+
+pub variable_first : (t u : TypedTarget) (x y : List ℕ) (v : VarSort) → variable_aim t x v ≡ Some (first u y) → (t ≡ u) × (is_unset v ≡ true)
+variable_first t u x y unset e = let q = same_first t u x y (same_Some (first t x) (first u y) e) in (q.0, refl)
+variable_first t u x y untyped e = absurd (cc)
+variable_first t u x y (has r) e = absurd (cc)
+
+module _ (C : Context) where
+  abbrev pub AimAt : Known → Option (List ℕ) → ExprTree → Aim → Type 0
+  AimAt k (Some x) e a = name_aim k x (C.meaning x) ≡ Some a
+  AimAt k None e a = (t : TypedExpr) × ((typed_at C k free e).got ≡ Some t) × (value_aim (is_item e) t ≡ a)
+
+  pub record HasAim (k : Known) (e : ExprTree) (a : Aim) (Rest : Type 0) : Type 0 where
+    pub here : AimAt k (name_in e) e a
+    pub rest : Rest
+
+  -- behind a target: what was known of its name is forgotten
+  abbrev pub beyond : Known → ExprTree → Known
+  beyond k e = with_names k (forgotten C (name_in e) k.names)
+
+  -- of a row
+  abbrev pub AimsOf : Known → List ExprTree → List Aim → Type 0
+  AimsOf k [] [] = Unit {0}
+  AimsOf k [] (a ∷ l) = ⊥
+  AimsOf k (e ∷ es) [] = ⊥
+  AimsOf k (e ∷ es) (a ∷ l) = HasAim k e a (AimsOf (beyond k e) es l)
+
+  single_is : (k : Known) (x : Option (List ℕ)) (e : ExprTree) (a : Aim) → (single_aim C k x e).got ≡ Some a → AimAt k x e a
+  single_is k None e a h = made_given (value_aim (is_item e)) (typed_at C k free e) a h
+  single_is k (Some x) e a h = h
+
+  pub aims_are : (k : Known) (es : List ExprTree) (l : List Aim) → (aims C k es).got ≡ Some l → AimsOf k es l
+  aims_are k [] l h = subst (AimsOf k []) (same_Some [] l h) tt
+  aims_are k (e ∷ es) l h =
+      let r = row_given (single_aim C k (name_in e) e) (aims C (beyond k e) es) l h in
+      subst (AimsOf k (e ∷ es)) r.4 (record { here = single_is k (name_in e) e r.0 r.2; rest = aims_are (beyond k e) es r.1 r.3 })
+
+  -- ---- targets that have a type
+
+  pub data Held (k : Known) (e : ExprTree) (target : TypedTarget) (t : Sort) : Type 0 where
+    held_local : (x : List ℕ) (i : ℕ) → name_in e ≡ Some x → C.meaning x ≡ meaning.Local i → LocalTarget i ≡ target → var_at k.types.locals i ≡ has t → Held k e target t
+    held_global : (x : List ℕ) (i : ℕ) → name_in e ≡ Some x → C.meaning x ≡ meaning.Global i → GlobalTarget i ≡ target → var_at k.types.globals i ≡ has t → Held k e target t
+    held_item : (b i : TypedExpr) (place : Span) → name_in e ≡ None → (typed_at C k free e).got ≡ Some (typed (node.At b i) t place) → is_written (type_of b) ≡ true → ItemTarget b i ≡ target → Held k e target t
+
+  name_held : (k : Known) (e : ExprTree) (x : List ℕ) (m : Meaning) (target : TypedTarget) (t : Sort) → name_in e ≡ Some x → C.meaning x ≡ m → name_aim k x m ≡ Some (held target t) → Held k e target t
+  name_held k e x (meaning.Local i) target t n q h = let r = variable_held (LocalTarget i) target x (var_at k.types.locals i) t h in held_local x i n q r.0 r.1
+  name_held k e x (meaning.Global i) target t n q h = let r = variable_held (GlobalTarget i) target x (var_at k.types.globals i) t h in held_global x i n q r.0 r.1
+  name_held k e x _ target t n q h = absurd (cc)
+
+  part_held : (k : Known) (e : ExprTree) (b i : TypedExpr) (s : Sort) (place : Span) (target : TypedTarget) (t : Sort) (c : Bool) → is_written (type_of b) ≡ c → name_in e ≡ None → (typed_at C k free e).got ≡ Some (typed (node.At b i) s place) → (if c then held (ItemTarget b i) s else unwritten (type_of b)) ≡ held target t → Held k e target t
+  part_held k e b i s place target t true w n g h =
+      let r = same_held (ItemTarget b i) target s t h in
+      held_item b i place n (g ∙ ap (λ z. Some (typed (node.At b i) z place)) r.1) w r.0
+  part_held k e b i s place target t false w n g h = absurd (cc)
+
+  item_held : (k : Known) (e : ExprTree) (v : TypedExpr) (target : TypedTarget) (t : Sort) → name_in e ≡ None → (typed_at C k free e).got ≡ Some v → item_aim v ≡ held target t → Held k e target t
+  item_held k e (typed (node.At b i) s place) target t n g h = part_held k e b i s place target t (is_written (type_of b)) refl n g h
+  item_held k e (typed (node.TupleAt b i) s place) target t n g h = absurd (cc)
+  item_held k e _ target t n g h = absurd (cc)
+
+  other_held : (k : Known) (e : ExprTree) (v : TypedExpr) (target : TypedTarget) (t : Sort) (c : Bool) → name_in e ≡ None → (typed_at C k free e).got ≡ Some v → value_aim c v ≡ held target t → Held k e target t
+  other_held k e v target t true n g h = item_held k e v target t n g h
+  other_held k e v target t false n g h = absurd (cc)
+
+  aim_held_by : (k : Known) (e : ExprTree) (x : Option (List ℕ)) (target : TypedTarget) (t : Sort) → name_in e ≡ x → AimAt k x e (held target t) → Held k e target t
+  aim_held_by k e None target t n h = other_held k e h.0 target t (is_item e) n h.1 h.2
+  aim_held_by k e (Some x) target t n h = name_held k e x (C.meaning x) target t n refl h
+
+  pub aim_held : (k : Known) (e : ExprTree) (target : TypedTarget) (t : Sort) → AimAt k (name_in e) e (held target t) → Held k e target t
+  aim_held k e target t h = aim_held_by k e (name_in e) target t refl h
+
+  -- ---- variables that have none yet
+
+  pub data First (k : Known) (e : ExprTree) (target : TypedTarget) : Type 0 where
+    first_local : (x : List ℕ) (i : ℕ) → name_in e ≡ Some x → C.meaning x ≡ meaning.Local i → LocalTarget i ≡ target → is_unset (var_at k.types.locals i) ≡ true → First k e target
+    first_global : (x : List ℕ) (i : ℕ) → name_in e ≡ Some x → C.meaning x ≡ meaning.Global i → GlobalTarget i ≡ target → is_unset (var_at k.types.globals i) ≡ true → First k e target
+
+  name_first : (k : Known) (e : ExprTree) (x y : List ℕ) (m : Meaning) (target : TypedTarget) → name_in e ≡ Some x → C.meaning x ≡ m → name_aim k x m ≡ Some (first target y) → First k e target
+  name_first k e x y (meaning.Local i) target n q h = let r = variable_first (LocalTarget i) target x y (var_at k.types.locals i) h in first_local x i n q r.0 r.1
+  name_first k e x y (meaning.Global i) target n q h = let r = variable_first (GlobalTarget i) target x y (var_at k.types.globals i) h in first_global x i n q r.0 r.1
+  name_first k e x y _ target n q h = absurd (cc)
+
+  no_first_item : (v : TypedExpr) (target : TypedTarget) (y : List ℕ) → item_aim v ≡ first target y → ⊥
+  no_first_item (typed (node.At b i) s place) target y h = by (is_written (type_of b)) h
+    where
+      by : (c : Bool) → (if c then held (ItemTarget b i) s else unwritten (type_of b)) ≡ first target y → ⊥
+      by true g = cc
+      by false g = cc
+  no_first_item (typed (node.TupleAt b i) s place) target y h = cc
+  no_first_item _ target y h = cc
+
+  no_first_value : (c : Bool) (v : TypedExpr) (target : TypedTarget) (y : List ℕ) → value_aim c v ≡ first target y → ⊥
+  no_first_value true v target y h = no_first_item v target y h
+  no_first_value false v target y h = cc
+
+  aim_first_by : (k : Known) (e : ExprTree) (x : Option (List ℕ)) (target : TypedTarget) (y : List ℕ) → name_in e ≡ x → AimAt k x e (first target y) → First k e target
+  aim_first_by k e None target y n h = absurd (no_first_value (is_item e) h.0 target y h.2)
+  aim_first_by k e (Some x) target y n h = name_first k e x y (C.meaning x) target n refl h
+
+  pub aim_first : (k : Known) (e : ExprTree) (target : TypedTarget) (y : List ℕ) → AimAt k (name_in e) e (first target y) → First k e target
+  aim_first k e target y h = aim_first_by k e (name_in e) target y refl h
+
+  -- the name of a first binding is the target's
+  variable_name : (t u : TypedTarget) (x y : List ℕ) (v : VarSort) → variable_aim t x v ≡ Some (first u y) → x ≡ y
+  variable_name t u x y unset e = (same_first t u x y (same_Some (first t x) (first u y) e)).1
+  variable_name t u x y untyped e = absurd (cc)
+  variable_name t u x y (has r) e = absurd (cc)
+
+  name_of_first : (k : Known) (x y : List ℕ) (m : Meaning) (target : TypedTarget) → name_aim k x m ≡ Some (first target y) → x ≡ y
+  name_of_first k x y (meaning.Local i) target h = variable_name (LocalTarget i) target x y (var_at k.types.locals i) h
+  name_of_first k x y (meaning.Global i) target h = variable_name (GlobalTarget i) target x y (var_at k.types.globals i) h
+  name_of_first k x y _ target h = absurd (cc)
+
+  first_name_by : (k : Known) (e : ExprTree) (x : Option (List ℕ)) (target : TypedTarget) (y : List ℕ) → name_in e ≡ x → AimAt k x e (first target y) → name_in e ≡ Some y
+  first_name_by k e None target y n h = absurd (no_first_value (is_item e) h.0 target y h.2)
+  first_name_by k e (Some x) target y n h = n ∙ ap Some (name_of_first k x y (C.meaning x) target h)
+
+  pub first_name : (k : Known) (e : ExprTree) (target : TypedTarget) (y : List ℕ) → AimAt k (name_in e) e (first target y) → name_in e ≡ Some y
+  first_name k e target y h = first_name_by k e (name_in e) target y refl h
+
+  -- ---- the names of targets
+
+  pub data Aimed (e : ExprTree) (target : TypedTarget) : Type 0 where
+    aimed_local : (x : List ℕ) (i : ℕ) → name_in e ≡ Some x → C.meaning x ≡ meaning.Local i → LocalTarget i ≡ target → Aimed e target
+    aimed_global : (x : List ℕ) (i : ℕ) → name_in e ≡ Some x → C.meaning x ≡ meaning.Global i → GlobalTarget i ≡ target → Aimed e target
+    aimed_item : (b i : TypedExpr) → name_in e ≡ None → ItemTarget b i ≡ target → Aimed e target
+
+  pub held_aimed : (k : Known) (e : ExprTree) (target : TypedTarget) (t : Sort) → Held k e target t → Aimed e target
+  held_aimed k e target t (held_local x i n q is v) = aimed_local x i n q is
+  held_aimed k e target t (held_global x i n q is v) = aimed_global x i n q is
+  held_aimed k e target t (held_item b i place n g w is) = aimed_item b i n is
+
+  pub first_aimed : (k : Known) (e : ExprTree) (target : TypedTarget) → First k e target → Aimed e target
+  first_aimed k e target (first_local x i n q is v) = aimed_local x i n q is
+  first_aimed k e target (first_global x i n q is v) = aimed_global x i n q is
+
+  -- the names that are known behind a binding
+  pub aimed_bound : (e : ExprTree) (target : TypedTarget) → Aimed e target → (ok : Bool) (k : Known) (t : Option Sort) (s : Sort) (others : List ℕ) → Within k.names others → (is_plain t ≡ true → may_be_none s ≡ false) → Within (bind_name C ok k (name_in e) t).names (after_target others target s)
+  aimed_bound e target (aimed_local x i n q is) ok k t s others w h =
+      subst (λ z. Within z (after_target others target s)) (sym (ap (λ o. (bind_name C ok k o t).names) n ∙ ap (λ z. (bind_variable ok k z t).names) q))
+      (subst (λ z. Within (rebound i t k.names) (after_target others z s)) is (bound_local i t s k.names others w h))
+  aimed_bound e target (aimed_global x i n q is) ok k t s others w h =
+      subst (λ z. Within z (after_target others target s)) (sym (ap (λ o. (bind_name C ok k o t).names) n ∙ ap (λ z. (bind_variable ok k z t).names) q))
+      (subst (λ z. Within k.names (after_target others z s)) is (bound_other (GlobalTarget i) s k.names others refl w))
+  aimed_bound e target (aimed_item b i n is) ok k t s others w h =
+      subst (λ z. Within z (after_target others target s)) (sym (ap (λ o. (bind_name C ok k o t).names) n))
+      (subst (λ z. Within k.names (after_target others z s)) is (bound_other (ItemTarget b i) s k.names others refl w))
+
+  -- what is forgotten of a target's name is left of what is known
+  pub aimed_behind : (e : ExprTree) (target : TypedTarget) → Aimed e target → (k : Known) (s : Sort) (others : List ℕ) → Within k.names others → Within (beyond k e).names (after_target others target s)
+  aimed_behind e target (aimed_local x i n q is) k s others w =
+      subst (λ z. Within z (after_target others target s)) (sym (ap (λ o. forgotten C o k.names) n ∙ ap (λ z. without (local_of z) k.names) q))
+      (subst (λ z. Within (without (i ∷ []) k.names) (after_target others z s)) is (forgotten_local i s k.names others w))
+  aimed_behind e target (aimed_global x i n q is) k s others w =
+      subst (λ z. Within z (after_target others target s)) (sym (ap (λ o. forgotten C o k.names) n ∙ ap (λ z. without (local_of z) k.names) q))
+      (subst (λ z. Within (without [] k.names) (after_target others z s)) is (bound_other (GlobalTarget i) s (without [] k.names) others refl (within_less [] k.names others w)))
+  aimed_behind e target (aimed_item b i n is) k s others w =
+      subst (λ z. Within z (after_target others target s)) (sym (ap (λ o. forgotten C o k.names) n))
+      (subst (λ z. Within k.names (after_target others z s)) is (bound_other (ItemTarget b i) s k.names others refl w))

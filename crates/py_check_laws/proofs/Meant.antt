@@ -1,0 +1,393 @@
+-- What names mean in a module and in a function of it, where nothing is wrong with definitions and imports.
+use Rattle.std.proofs.Common.{◌≡◌, ℕ, suc, ◌+◌, ◌<◌, Bool, true, false, ◌&&◌, ◌||◌, cond, List, [], ◌∷◌, ◌++◌, length, map, filter, slice_get, nat_lt, Option, Some, None, refl, ap, sym, ◌∙◌, subst, if◌then◌else◌, unwrap_or, length-append, lt-ltb, arith, ◌⊎◌, inl, inr}
+use Rattle.std.proofs.lemmas.Bool.{or_left, or_right, or_cases}
+use Rattle.std.proofs.lemmas.Option.{same_Some}
+use Rattle.std.proofs.lemmas.List.Folds.{list_any-append}
+use Rattle.std.specs.Prelude.{is_some, is_none, codes}
+use Rattle.std.specs.List.{list_all, flat_map}
+use Rattle.std.specs.Map.{lookup}
+use Rattle.std.specs.Str.{bytes_eq}
+use Rattle.value_core.specs.declared.exception.ExcClass.{ExcClass}
+use Rattle.value_core.specs.Exceptions.{class_named}
+use Rattle.py_syntax.specs.Statements as s
+use Rattle.py_syntax.specs.Statements.{StmtTree, Suite, FuncTree}
+use Rattle.py_binder.specs.declared.scope.Role.{Role}
+use Rattle.py_binder.specs.declared.scope.Role.TheVariants as role
+use Rattle.py_binder.specs.declared.scope.Scope.{Scope}
+use Rattle.py_binder.specs.Sights.{Use, Reads, Binds, Defines, Declares, Holds, Sight, bound_as, module_sights, body_sights}
+use Rattle.py_binder.specs.Scope.{contains, is_builtin, bound_there, listed_there, seen_there, said_there, all_there, Roles, said_or_variable, module_role, is_variable, param_names, function_role, first_sights, scope_of, module_scope}
+use Rattle.py_check_context.specs.declared.scope.Meaning.{Meaning}
+use Rattle.py_check_context.specs.declared.scope.Meaning.TheVariants as meaning
+use Rattle.py_check_names.specs.Builtins.{plain_builtins, exception_meaning, or_else, builtin_meaning, of_typing, of_extensions, of_future, import_meaning}
+use Rattle.py_check_names.specs.Outline.{may_import, may_import_all, imported_as, said_by, said_from, held_by, suite_definitions}
+use Rattle.py_check_names.specs.Meanings.{is_own, names_of, variables, own_names, number, by_role, meaning_in, said_in}
+use Rattle.py_typed.proofs.FitLemmas.{and_left, and_right}
+use Rattle.py_check_expressions_laws.proofs.Types.{clash}
+use Rattle.py_check_laws.proofs.Sights.{roles_given, suite_gives}
+use Rattle.py_check_laws.proofs.NameRows.{same_text, filter_keeps, sights_have, sights_differ, kind_names, place_of}
+
+-- ---- kinds of meanings
+
+-- what a definition or an import gives, where there are so many functions
+abbrev pub is_given : ℕ → Meaning → Bool
+is_given n (meaning.Function i) = nat_lt i n
+is_given n (meaning.Import i) = true
+is_given n m = false
+
+-- what a builtin name is
+abbrev is_built : Meaning → Bool
+is_built (meaning.Builtin b) = true
+is_built (meaning.Exception c) = true
+is_built meaning.ModuleName = true
+is_built meaning.Unknown = true
+is_built m = false
+
+-- something is said of it, or it has a type
+abbrev pub is_heard : ℕ → Meaning → Bool
+is_heard n meaning.Untyped = false
+is_heard n meaning.UntypedClass = false
+is_heard n (meaning.Class i) = false
+is_heard n (meaning.Function i) = nat_lt i n
+is_heard n m = true
+
+given_heard : (n : ℕ) (m : Meaning) → is_given n m ≡ true → is_heard n m ≡ true
+given_heard n (meaning.Function i) h = h
+given_heard n (meaning.Import i) h = refl
+given_heard n _ h = absurd (cc)
+
+built_heard : (n : ℕ) (m : Meaning) → is_built m ≡ true → is_heard n m ≡ true
+built_heard n (meaning.Builtin b) h = refl
+built_heard n (meaning.Exception c) h = refl
+built_heard n meaning.ModuleName h = refl
+built_heard n meaning.Unknown h = refl
+built_heard n _ h = absurd (cc)
+
+-- ---- imports and builtins
+
+found_all : {A : Type 0} (p : A → Bool) (test : List ℕ → Bool) (l : List (List ℕ × A)) → list_all (λ (x : List ℕ × A). p x.1) l ≡ true → (a : A) → lookup test l ≡ Some a → p a ≡ true
+found_all p test [] h a e = absurd (cc)
+found_all {A = A} p test (x ∷ l) h a e = by (test x.0) e (found_all p test l (and_right (p x.1) (list_all (λ (x : List ℕ × A). p x.1) l) h) a)
+  where
+    by : (b : Bool) → cond b (Some x.1) (lookup test l) ≡ Some a → (lookup test l ≡ Some a → p a ≡ true) → p a ≡ true
+    by true q next = subst (λ z. p z ≡ true) (same_Some x.1 a q) (and_left (p x.1) (list_all (λ (x : List ℕ × A). p x.1) l) h)
+    by false q next = next q
+
+import_given : (n : ℕ) (from name : List ℕ) (m : Meaning) → import_meaning from name ≡ Some m → is_given n m ≡ true
+import_given n from name m h = by (bytes_eq from (codes "typing")) (bytes_eq from (codes "mypy_extensions")) (bytes_eq from (codes "__future__")) h
+  where
+    by : (a b c : Bool) → (if a then lookup (bytes_eq name) of_typing else (if b then lookup (bytes_eq name) of_extensions else (if c then lookup (bytes_eq name) of_future else None))) ≡ Some m → is_given n m ≡ true
+    by true b c q = found_all (is_given n) (bytes_eq name) of_typing refl m q
+    by false true c q = found_all (is_given n) (bytes_eq name) of_extensions refl m q
+    by false false true q = found_all (is_given n) (bytes_eq name) of_future refl m q
+    by false false false q = absurd (cc)
+
+builtin_built : (name : List ℕ) → is_built (unwrap_or (builtin_meaning name) meaning.Unknown) ≡ true
+builtin_built name = by (lookup (bytes_eq name) plain_builtins) refl (class_named name)
+  where
+    by : (o : Option Meaning) → lookup (bytes_eq name) plain_builtins ≡ o → (c : Option ExcClass) → is_built (unwrap_or (or_else o (exception_meaning c)) meaning.Unknown) ≡ true
+    by (Some m) q c = found_all is_built (bytes_eq name) plain_builtins refl m q
+    by None q None = refl
+    by None q (Some c) = refl
+
+-- ---- definitions
+
+-- a definition, or an import that is one
+abbrev pub is_right : StmtTree → Bool
+is_right (s.at (s.ClassDef name bases body marks) span) = false
+is_right (s.at (s.Import name other) span) = false
+is_right (s.at (s.From name names) span) = may_import_all name names
+is_right x = true
+
+-- names with what the binder says that they are, and with what they mean
+record SamePair (n : ℕ) (a : List ℕ × Role) (b : List ℕ × Meaning) (Rest : Type 0) : Type 0 where
+  key : a.0 ≡ b.0
+  other : is_variable a.1 ≡ false
+  own : is_own a.1 ≡ false
+  given : is_given n b.1 ≡ true
+  rest : Rest
+
+abbrev Pairs : ℕ → List (List ℕ × Role) → List (List ℕ × Meaning) → Type 0
+Pairs n [] [] = Unit {0}
+Pairs n (a ∷ l) (b ∷ k) = SamePair n a b (Pairs n l k)
+Pairs n [] (b ∷ k) = ⊥
+Pairs n (a ∷ l) [] = ⊥
+
+pairs_two : (n : ℕ) (l : List (List ℕ × Role)) (k : List (List ℕ × Meaning)) (l2 : List (List ℕ × Role)) (k2 : List (List ℕ × Meaning)) → Pairs n l k → Pairs n l2 k2 → Pairs n (l ++ l2) (k ++ k2)
+pairs_two n [] [] l2 k2 p q = q
+pairs_two n [] (b ∷ k) l2 k2 p q = absurd p
+pairs_two n (a ∷ l) [] l2 k2 p q = absurd p
+pairs_two n (a ∷ l) (b ∷ k) l2 k2 p q = record { key = p.key; other = p.other; own = p.own; given = p.given; rest = pairs_two n l k l2 k2 p.rest q }
+
+-- what is found among the one is found among the other
+record FoundPair (n : ℕ) (x : List ℕ) (k : List (List ℕ × Meaning)) (r : Role) : Type 0 where
+  means : Meaning
+  found : lookup (bytes_eq x) k ≡ Some means
+  given : is_given n means ≡ true
+  other : is_variable r ≡ false
+  own : is_own r ≡ false
+
+pairs_found : (n : ℕ) (x : List ℕ) (l : List (List ℕ × Role)) (k : List (List ℕ × Meaning)) (r : Role) → Pairs n l k → lookup (bytes_eq x) l ≡ Some r → FoundPair n x k r
+pairs_found n x [] [] r p e = absurd (cc)
+pairs_found n x [] (b ∷ k) r p e = absurd p
+pairs_found n x (a ∷ l) [] r p e = absurd p
+pairs_found n x (a ∷ l) (b ∷ k) r p e = by (bytes_eq x a.0) refl e (pairs_found n x l k r p.rest)
+  where
+    same : (c : Bool) → bytes_eq x a.0 ≡ c → bytes_eq x b.0 ≡ c
+    same c q = ap (bytes_eq x) (sym p.key) ∙ q
+
+    by : (c : Bool) → bytes_eq x a.0 ≡ c → cond c (Some a.1) (lookup (bytes_eq x) l) ≡ Some r → (lookup (bytes_eq x) l ≡ Some r → FoundPair n x k r) → FoundPair n x (b ∷ k) r
+    by true q g next = record {
+      means = b.1;
+      found = ap (λ (z : Bool). cond z (Some b.1) (lookup (bytes_eq x) k)) (same true q);
+      given = p.given;
+      other = ap is_variable (sym (same_Some a.1 r g)) ∙ p.other;
+      own = ap is_own (sym (same_Some a.1 r g)) ∙ p.own;
+    }
+    by false q g next =
+        let f = next g in
+        record { means = f.means; found = ap (λ (z : Bool). cond z (Some b.1) (lookup (bytes_eq x) k)) (same false q) ∙ f.found; given = f.given; other = f.other; own = f.own }
+
+import_pairs : (n : ℕ) (from : List ℕ) (names : List (List ℕ × Option (List ℕ))) → list_all (may_import from) names ≡ true → Pairs n (map (λ a. (bound_as a.0 a.1, role.Import)) names) (map (imported_as true from) names)
+import_pairs n from [] h = tt
+import_pairs n from (a ∷ names) h =
+    let one = and_left (may_import from a) (list_all (may_import from) names) h in
+    record { key = refl; other = refl; own = refl; given = by (import_meaning from a.0) refl (and_right (is_none a.1) (is_some (import_meaning from a.0)) one); rest = import_pairs n from names (and_right (may_import from a) (list_all (may_import from) names) h) }
+  where
+    by : (o : Option Meaning) → import_meaning from a.0 ≡ o → is_some o ≡ true → is_given n (unwrap_or (import_meaning from a.0) meaning.Untyped) ≡ true
+    by None q e = absurd (cc)
+    by (Some m) q e = ap (λ (o : Option Meaning). is_given n (unwrap_or o meaning.Untyped)) q ∙ import_given n from a.0 m q
+
+from_pairs : (n : ℕ) (from : List ℕ) (names : List (List ℕ × Option (List ℕ))) → may_import_all from names ≡ true → Pairs n (map (λ a. (bound_as a.0 a.1, role.Import)) names) (map (imported_as (may_import_all from names) from) names)
+from_pairs n from names h = subst (λ b. Pairs n (map (λ a. (bound_as a.0 a.1, role.Import)) names) (map (imported_as b from) names)) (sym h) (import_pairs n from names h)
+
+less_by : (a b c n : ℕ) → a + suc (b + c) ≡ n → a < n
+less_by a b c n h = omega arith
+
+moved : (a b c n : ℕ) → a + (b + c) ≡ n → a + b + c ≡ n
+moved a b c n h = omega arith
+
+one_pairs : (next n : ℕ) (x : StmtTree) → is_right x ≡ true → (more : ℕ) → next + (length (held_by x) + more) ≡ n → Pairs n (roles_given x) (said_by next x)
+one_pairs next n (s.at (s.Def name params ret body marks) span) h more e = record { key = refl; other = refl; own = refl; given = lt-ltb next n (less_one next more n e); rest = tt }
+  where
+    less_one : (a c n : ℕ) → a + (1 + c) ≡ n → a < n
+    less_one a c n h = omega arith
+one_pairs next n (s.at (s.ClassDef name bases body marks) span) h more e = absurd (cc)
+one_pairs next n (s.at (s.Import name other) span) h more e = absurd (cc)
+one_pairs next n (s.at (s.From name names) span) h more e = from_pairs n name names h
+one_pairs next n _ h more e = tt
+
+all_pairs : (next n : ℕ) (ds : List StmtTree) → list_all is_right ds ≡ true → next + length (flat_map held_by ds) ≡ n → Pairs n (flat_map roles_given ds) (said_from next ds)
+all_pairs next n [] h e = tt
+all_pairs next n (x ∷ ds) h e =
+    let q : next + (length (held_by x) + length (flat_map held_by ds)) ≡ n = ap (λ z. next + z) (sym (length-append (held_by x) (flat_map held_by ds))) ∙ e in
+    pairs_two n (roles_given x) (said_by next x) (flat_map roles_given ds) (said_from (next + length (held_by x)) ds) (one_pairs next n x (and_left (is_right x) (list_all is_right ds) h) (length (flat_map held_by ds)) q)
+    (all_pairs (next + length (held_by x)) n ds (and_right (is_right x) (list_all is_right ds) h) (moved next (length (held_by x)) (length (flat_map held_by ds)) n q))
+
+-- ---- roles
+
+abbrev is_said : Role → Bool
+is_said role.Function = true
+is_said role.Class = true
+is_said role.Import = true
+is_said r = false
+
+-- variables of the module are among its variables, and what a definition says is known
+pub record Fine (said : List ℕ → Option Meaning) (outer : List (List ℕ)) (n : ℕ) (roles : Roles) : Type 0 where
+  pub globals : (x : List ℕ) → is_variable (roles x) ≡ true → contains outer x ≡ true
+  pub given : (x : List ℕ) → is_said (roles x) ≡ true → (m : Meaning) × (said x ≡ Some m) × (is_given n m ≡ true)
+
+bound_seen : (sights : List Sight) (x : List ℕ) → contains (all_there bound_there sights) x ≡ true → contains (all_there seen_there sights) x ≡ true
+bound_seen [] x h = absurd (cc)
+bound_seen (a ∷ sights) x h =
+    list_any-append (bytes_eq x) (seen_there a.does) (all_there seen_there sights)
+    ∙ by (or_cases (contains (bound_there a.does) x) (contains (all_there bound_there sights) x) (sym (list_any-append (bytes_eq x) (bound_there a.does) (all_there bound_there sights)) ∙ h)) (bound_seen sights x)
+  where
+    one : (u : Use) → contains (bound_there u) x ≡ true → contains (seen_there u) x ≡ true
+    one (Binds name) q = q
+    one (Reads name) q = absurd (cc)
+    one (Defines r name) q = absurd (cc)
+    one (Declares names) q = absurd (cc)
+    one (Holds f) q = absurd (cc)
+
+    by : (contains (bound_there a.does) x ≡ true) ⊎ (contains (all_there bound_there sights) x ≡ true) → (contains (all_there bound_there sights) x ≡ true → contains (all_there seen_there sights) x ≡ true) → (contains (seen_there a.does) x || contains (all_there seen_there sights) x) ≡ true
+    by (inl q) next = or_left (contains (seen_there a.does) x) (contains (all_there seen_there sights) x) (one a.does q)
+    by (inr q) next = or_right (contains (seen_there a.does) x) (contains (all_there seen_there sights) x) (next q)
+
+module _ (kind : Role → Bool) (roles : Roles) (seen : List (List ℕ)) where
+  -- the names of a kind in a scope
+  pub scope_names : names_of kind (scope_of roles seen).names ≡ filter (λ n. kind (roles n)) (first_sights seen)
+  scope_names = kind_names kind roles (first_sights seen) (sights_differ seen)
+
+  pub among_kind : (x : List ℕ) → contains (first_sights seen) x ≡ true → kind (roles x) ≡ true → contains (names_of kind (scope_of roles seen).names) x ≡ true
+  among_kind x h k = ap (λ l. contains l x) scope_names ∙ filter_keeps (λ n. kind (roles n)) (first_sights seen) x k ∙ h
+
+module _ (m : Suite) (n : ℕ) (right : list_all is_right (suite_definitions m) ≡ true) (count : length (flat_map held_by (suite_definitions m)) ≡ n) where
+  module_pairs : Pairs n (all_there said_there (module_sights m)) (said_from 0 (suite_definitions m))
+  module_pairs = subst (λ l. Pairs n l (said_from 0 (suite_definitions m))) (sym (suite_gives m)) (all_pairs 0 n (suite_definitions m) right (zero_first (length (flat_map held_by (suite_definitions m))) n count))
+    where
+      zero_first : (a b : ℕ) → a ≡ b → 0 + a ≡ b
+      zero_first a b h = omega arith
+
+  role_global : (x : List ℕ) (b : Bool) (o : Option Role) (c : Bool) → lookup (bytes_eq x) (all_there said_there (module_sights m)) ≡ o → contains (all_there bound_there (module_sights m)) x ≡ c → is_variable (if b then role.Builtin else said_or_variable o c) ≡ true → contains (all_there bound_there (module_sights m)) x ≡ true
+  role_global x true o c q p h = absurd (cc)
+  role_global x false (Some r) c q p h = clash (is_variable r) h (pairs_found n x (all_there said_there (module_sights m)) (said_from 0 (suite_definitions m)) r module_pairs q).other
+  role_global x false None true q p h = p
+  role_global x false None false q p h = absurd (cc)
+
+  role_said : (x : List ℕ) (b : Bool) (o : Option Role) (c : Bool) → lookup (bytes_eq x) (all_there said_there (module_sights m)) ≡ o → is_said (if b then role.Builtin else said_or_variable o c) ≡ true → (t : Meaning) × (said_in m x ≡ Some t) × (is_given n t ≡ true)
+  role_said x true o c q h = absurd (cc)
+  role_said x false (Some r) c q h = let f = pairs_found n x (all_there said_there (module_sights m)) (said_from 0 (suite_definitions m)) r module_pairs q in (f.means, f.found, f.given)
+  role_said x false None true q h = absurd (cc)
+  role_said x false None false q h = absurd (cc)
+
+  pub module_fine : Fine (said_in m) (variables (module_scope m)) n (module_role m)
+  module_fine = record {
+    globals = λ x h.
+        among_kind is_variable (module_role m) (all_there seen_there (module_sights m)) x
+        (sights_have (all_there seen_there (module_sights m)) x
+        ∙ bound_seen (module_sights m) x (role_global x (is_builtin x) (lookup (bytes_eq x) (all_there said_there (module_sights m))) (contains (all_there bound_there (module_sights m)) x) refl refl h)) h;
+    given = λ x h. role_said x (is_builtin x) (lookup (bytes_eq x) (all_there said_there (module_sights m))) (contains (all_there bound_there (module_sights m)) x) refl h;
+  }
+
+  -- a variable of the module is bound in it
+  pub module_bound : (x : List ℕ) → is_variable (module_role m x) ≡ true → contains (all_there bound_there (module_sights m)) x ≡ true
+  module_bound x h = role_global x (is_builtin x) (lookup (bytes_eq x) (all_there said_there (module_sights m))) (contains (all_there bound_there (module_sights m)) x) refl refl h
+
+  role_own : (x : List ℕ) (b : Bool) (o : Option Role) (c : Bool) → lookup (bytes_eq x) (all_there said_there (module_sights m)) ≡ o → is_own (if b then role.Builtin else said_or_variable o c) ≡ false
+  role_own x true o c q = refl
+  role_own x false (Some r) c q = (pairs_found n x (all_there said_there (module_sights m)) (said_from 0 (suite_definitions m)) r module_pairs q).own
+  role_own x false None true q = refl
+  role_own x false None false q = refl
+
+  -- no name of the module is a function's own
+  pub module_own : (x : List ℕ) → is_own (module_role m x) ≡ false
+  module_own x = role_own x (is_builtin x) (lookup (bytes_eq x) (all_there said_there (module_sights m))) (contains (all_there bound_there (module_sights m)) x) refl
+
+  -- what a definition gives is no variable
+  pub given_no_variable : (x : List ℕ) (r : Role) → lookup (bytes_eq x) (all_there said_there (module_sights m)) ≡ Some r → is_variable (module_role m x) ≡ false
+  given_no_variable x r q = by (is_builtin x)
+    where
+      by : (b : Bool) → is_variable (if b then role.Builtin else said_or_variable (lookup (bytes_eq x) (all_there said_there (module_sights m))) (contains (all_there bound_there (module_sights m)) x)) ≡ false
+      by true = refl
+      by false = ap (λ o. is_variable (said_or_variable o (contains (all_there bound_there (module_sights m)) x))) q ∙ (pairs_found n x (all_there said_there (module_sights m)) (said_from 0 (suite_definitions m)) r module_pairs q).other
+
+module _ (said : List ℕ → Option Meaning) (outer : List (List ℕ)) (n : ℕ) (roles : Roles) (fine : Fine said outer n roles) where
+  pub function_fine : (f : FuncTree) → Fine said outer n (function_role roles f)
+  function_fine f = record {
+    globals = λ x h. global_by x (is_builtin x) (contains (param_names f) x) (contains (all_there listed_there (body_sights f)) x && is_variable (roles x)) (contains (all_there bound_there (body_sights f)) x) refl h;
+    given = λ x h. given_by x (is_builtin x) (contains (param_names f) x) (contains (all_there listed_there (body_sights f)) x && is_variable (roles x)) (contains (all_there bound_there (body_sights f)) x) h;
+  }
+    where
+      inner : List ℕ → Bool → Bool → Bool → Bool → Role
+      inner x a b c d = if a then role.Builtin else (if b then role.Param else (if c then role.GlobalVar else (if d then role.Local else roles x)))
+
+      global_by : (x : List ℕ) (a b c d : Bool) → (contains (all_there listed_there (body_sights f)) x && is_variable (roles x)) ≡ c → is_variable (if a then role.Builtin else (if b then role.Param else (if c then role.GlobalVar else (if d then role.Local else roles x)))) ≡ true → contains outer x ≡ true
+      global_by x true b c d q h = absurd (cc)
+      global_by x false true c d q h = absurd (cc)
+      global_by x false false true d q h = fine.globals x (and_right (contains (all_there listed_there (body_sights f)) x) (is_variable (roles x)) q)
+      global_by x false false false true q h = absurd (cc)
+      global_by x false false false false q h = fine.globals x h
+
+      given_by : (x : List ℕ) (a b c d : Bool) → is_said (if a then role.Builtin else (if b then role.Param else (if c then role.GlobalVar else (if d then role.Local else roles x)))) ≡ true → (m : Meaning) × (said x ≡ Some m) × (is_given n m ≡ true)
+      given_by x true b c d h = absurd (cc)
+      given_by x false true c d h = absurd (cc)
+      given_by x false false true d h = absurd (cc)
+      given_by x false false false true h = absurd (cc)
+      given_by x false false false false h = fine.given x h
+
+  -- ---- meanings in a scope with these roles
+
+  module _ (seen : List (List ℕ)) where
+    abbrev inside : Scope
+    inside = scope_of roles seen
+
+    abbrev own : List (List ℕ)
+    own = own_names inside
+
+    abbrev meant : List ℕ → Meaning
+    meant = meaning_in said outer inside
+
+    role_found : (ns : List (List ℕ)) (x : List ℕ) (b : Bool) → contains ns x ≡ b → lookup (bytes_eq x) (map (λ (p : List ℕ × Role). (p.0, by_role said outer own p.0 p.1)) (map (λ (y : List ℕ). (y, roles y)) ns)) ≡ cond b (Some (by_role said outer own x (roles x))) None
+    role_found [] x true h = absurd (cc)
+    role_found [] x false h = refl
+    role_found (y ∷ ns) x b h = by (bytes_eq x y) refl h (role_found ns x b)
+      where
+        by : (c : Bool) → bytes_eq x y ≡ c → (c || contains ns x) ≡ b → (contains ns x ≡ b → lookup (bytes_eq x) (map (λ (p : List ℕ × Role). (p.0, by_role said outer own p.0 p.1)) (map (λ (y : List ℕ). (y, roles y)) ns)) ≡ cond b (Some (by_role said outer own x (roles x))) None)
+            → cond c (Some (by_role said outer own y (roles y))) (lookup (bytes_eq x) (map (λ (p : List ℕ × Role). (p.0, by_role said outer own p.0 p.1)) (map (λ (y : List ℕ). (y, roles y)) ns))) ≡ cond b (Some (by_role said outer own x (roles x))) None
+        by true q g next = ap (λ z. Some (by_role said outer own z (roles z))) (sym (same_text x y q)) ∙ ap (λ (z : Bool). cond z (Some (by_role said outer own x (roles x))) None) g
+        by false q g next = next g
+
+    pub seen_means : (x : List ℕ) → contains (first_sights seen) x ≡ true → meant x ≡ by_role said outer own x (roles x)
+    seen_means x h = ap (λ o. unwrap_or o meaning.Unknown) (role_found (first_sights seen) x true h)
+
+    unseen_means : (x : List ℕ) → contains (first_sights seen) x ≡ false → meant x ≡ meaning.Unknown
+    unseen_means x h = ap (λ o. unwrap_or o meaning.Unknown) (role_found (first_sights seen) x false h)
+
+    said_is : (x : List ℕ) → is_said (roles x) ≡ true → is_given n (unwrap_or (said x) meaning.Untyped) ≡ true
+    said_is x h = let r = fine.given x h in ap (λ o. is_given n (unwrap_or o meaning.Untyped)) r.1 ∙ r.2
+
+    heard_by : (x : List ℕ) (r : Role) → roles x ≡ r → is_heard n (by_role said outer own x r) ≡ true
+    heard_by x role.Param q = refl
+    heard_by x role.Local q = refl
+    heard_by x role.GlobalVar q = refl
+    heard_by x role.Function q = given_heard n (unwrap_or (said x) meaning.Untyped) (said_is x (ap is_said q))
+    heard_by x role.Class q = given_heard n (unwrap_or (said x) meaning.Untyped) (said_is x (ap is_said q))
+    heard_by x role.Import q = given_heard n (unwrap_or (said x) meaning.Untyped) (said_is x (ap is_said q))
+    heard_by x role.Builtin q = built_heard n (unwrap_or (builtin_meaning x) meaning.Unknown) (builtin_built x)
+    heard_by x role.Unknown q = refl
+
+    -- NOTHING is meant of which nothing is said
+    pub meant_heard : (x : List ℕ) → is_heard n (meant x) ≡ true
+    meant_heard x = by (contains (first_sights seen) x) refl
+      where
+        by : (b : Bool) → contains (first_sights seen) x ≡ b → is_heard n (meant x) ≡ true
+        by true h = ap (is_heard n) (seen_means x h) ∙ heard_by x (roles x) refl
+        by false h = ap (is_heard n) (unseen_means x h)
+
+    -- a variable of the function's own, by its number
+    local_by : (x : List ℕ) (i : ℕ) (r : Role) → roles x ≡ r → by_role said outer own x r ≡ meaning.Local i → (is_own r ≡ true) × (number own x ≡ i)
+    local_by x i role.Param q h = (refl, same (number own x) i h)
+      where
+        same : (a b : ℕ) → meaning.Local a ≡ meaning.Local b → a ≡ b
+        same a b e = cc
+    local_by x i role.Local q h = (refl, same (number own x) i h)
+      where
+        same : (a b : ℕ) → meaning.Local a ≡ meaning.Local b → a ≡ b
+        same a b e = cc
+    local_by x i role.GlobalVar q h = absurd (cc)
+    local_by x i role.Function q h = let bad : false ≡ true = ap (is_given n) (sym h) ∙ said_is x (ap is_said q) in absurd (cc)
+    local_by x i role.Class q h = let bad : false ≡ true = ap (is_given n) (sym h) ∙ said_is x (ap is_said q) in absurd (cc)
+    local_by x i role.Import q h = let bad : false ≡ true = ap (is_given n) (sym h) ∙ said_is x (ap is_said q) in absurd (cc)
+    local_by x i role.Builtin q h = let bad : false ≡ true = ap is_built (sym h) ∙ builtin_built x in absurd (cc)
+    local_by x i role.Unknown q h = absurd (cc)
+
+    global_by_role : (x : List ℕ) (i : ℕ) (r : Role) → roles x ≡ r → by_role said outer own x r ≡ meaning.Global i → (is_variable r ≡ true) × (number outer x ≡ i)
+    global_by_role x i role.GlobalVar q h = (refl, same (number outer x) i h)
+      where
+        same : (a b : ℕ) → meaning.Global a ≡ meaning.Global b → a ≡ b
+        same a b e = cc
+    global_by_role x i role.Param q h = absurd (cc)
+    global_by_role x i role.Local q h = absurd (cc)
+    global_by_role x i role.Function q h = let bad : false ≡ true = ap (is_given n) (sym h) ∙ said_is x (ap is_said q) in absurd (cc)
+    global_by_role x i role.Class q h = let bad : false ≡ true = ap (is_given n) (sym h) ∙ said_is x (ap is_said q) in absurd (cc)
+    global_by_role x i role.Import q h = let bad : false ≡ true = ap (is_given n) (sym h) ∙ said_is x (ap is_said q) in absurd (cc)
+    global_by_role x i role.Builtin q h = let bad : false ≡ true = ap is_built (sym h) ∙ builtin_built x in absurd (cc)
+    global_by_role x i role.Unknown q h = absurd (cc)
+
+    pub local_place : (x : List ℕ) (i : ℕ) → meant x ≡ meaning.Local i → slice_get own i ≡ Some x
+    local_place x i h = by (contains (first_sights seen) x) refl
+      where
+        by : (b : Bool) → contains (first_sights seen) x ≡ b → slice_get own i ≡ Some x
+        by true q =
+            let r = local_by x i (roles x) refl (sym (seen_means x q) ∙ h) in
+            ap (slice_get own) (sym r.1) ∙ place_of own x (among_kind is_own roles seen x q r.0)
+        by false q = let bad : meaning.Unknown ≡ meaning.Local i = sym (unseen_means x q) ∙ h in absurd (cc)
+
+    pub global_place : (x : List ℕ) (i : ℕ) → meant x ≡ meaning.Global i → slice_get outer i ≡ Some x
+    global_place x i h = by (contains (first_sights seen) x) refl
+      where
+        by : (b : Bool) → contains (first_sights seen) x ≡ b → slice_get outer i ≡ Some x
+        by true q =
+            let r = global_by_role x i (roles x) refl (sym (seen_means x q) ∙ h) in
+            ap (slice_get outer) (sym r.1) ∙ place_of outer x (fine.globals x r.0)
+        by false q = let bad : meaning.Unknown ≡ meaning.Global i = sym (unseen_means x q) ∙ h in absurd (cc)

@@ -1,0 +1,352 @@
+-- Behind statements that are typed each variable has a type that a variable may have, or none yet.
+use Rattle.std.proofs.Common.{◌≡◌, ℕ, Bool, true, false, List, [], ◌∷◌, ◌++◌, length, cond, Option, Some, None, refl, ap, sym, ◌∙◌, subst, if◌then◌else◌}
+use Rattle.std.proofs.lemmas.Slice.Eq.{bytes_eq-Decides}
+use Rattle.std.specs.List.{list_all}
+use Rattle.std.specs.Prelude.{is_some}
+use Rattle.std.specs.Option.{option_map}
+use Rattle.std.specs.Str.{bytes_eq}
+use Rattle.py_syntax.specs.declared.token.Span.{Span}
+use Rattle.py_syntax.specs.Expressions.{ExprTree}
+use Rattle.py_syntax.specs.Statements as node
+use Rattle.py_syntax.specs.Statements.{StmtTree, StmtNode, Suite, no_stmts, stmt_then, Arms, no_arms, arm_then}
+use Rattle.py_typed.specs.Sorts as sort
+use Rattle.py_typed.specs.Sorts.{Sort, Sorts, listed_sorts}
+use Rattle.py_typed.specs.Classes.{Signature}
+use Rattle.py_typed.specs.Fits.{is_nothing}
+use Rattle.py_typed.specs.Expressions.{TypedExpr, type_of}
+use Rattle.py_typed.specs.Statements as act
+use Rattle.py_typed.specs.Statements.{Variable, TypedModule, TypedTarget, TypedStmt, TypedAct, TypedSuite, on_line, suite_of, arms_of}
+use Rattle.py_typed.specs.WellTypedExpr.{is_value_type, are_value_types, declared}
+use Rattle.py_typed.proofs.FitLemmas.{and_left, and_right}
+use Rattle.py_check_context.specs.declared.scope.Meaning.{Meaning}
+use Rattle.py_check_context.specs.declared.scope.Meaning.TheVariants as meaning
+use Rattle.py_check_context.specs.Context.{Context, VarSort, unset, untyped, has, VarSorts, var_at, free}
+use Rattle.py_check_flow.specs.Bindings.{Binding, bound, target_bindings, name_in, marked, stmt_bindings, act_bindings, suite_bindings, arms_bindings}
+use Rattle.py_check_flow.specs.Closed.{is_closed}
+use Rattle.py_check_messages.specs.Seen.{both, rule, made}
+use Rattle.py_check_messages.specs.Messages.{no_target, needs_annotation}
+use Rattle.py_check_messages.specs.Rows.{row_then}
+use Rattle.py_check_annotations.specs.Annotations.{annotation}
+use Rattle.py_check_values.specs.Returns.{ReturnSort}
+use Rattle.py_check_values.specs.Assignments.{binding_fault, items_for}
+use Rattle.py_check_targets.specs.Places.{Known, is_unset, fix, first_type, bind_variable, bind_name, bind_names, where_test, entering, Way, setting_out, behind_arm}
+use Rattle.py_check_targets.specs.Targets.{Aim, held, first, barred, unwritten, misplaced, slot_of, is_row, is_flat, leaves, target_names, variable_aim, name_aim, targets_of, asked_by, assigned, typed_at}
+use Rattle.py_check_targets.specs.Assignments.{target_aims, value_for, assigns, bind_target, binds, annotates_name, annotates, value_sort, binds_annotated}
+use Rattle.py_check_loops.specs.Loops.{Course, course, head, loop_of}
+use Rattle.py_check_loops.specs.Heads.{some_items, for_head, in_for}
+use Rattle.py_check_statements.specs.Bodies.{is_definition, condition, after, node_after, block_after, arms_after, statement, node_statement, block, branches}
+use Rattle.py_check_expressions_laws.specs.WellTyped as law
+use Rattle.py_check_expressions_laws.specs.WellTyped.{IsDeclared, Describes, Within}
+use Rattle.py_check_expressions_laws.proofs.Types.{clash}
+use Rattle.py_check_expressions_laws.proofs.Inside.{either}
+use Rattle.py_check_laws.specs.WellTyped.{is_filled, maybe_written, are_targets, is_stmt_written, is_act_written, is_suite_written, are_arms_written, IsScope}
+use Rattle.py_check_laws.proofs.Given.{some_is, made_given, both_given, rule_given, row_given}
+use Rattle.py_check_laws.proofs.Kept.{fix_cases, Follows, follows_on, follows_target, follows_stmt, follows_block, follows_arms, is_open, bind_set}
+use Rattle.py_check_laws.proofs.Assigned.{single_bound, row_bound, name_no_row, aims_length, items_are, RowBound, BoundTo, assigned_is, head_is}
+use Rattle.py_check_laws.proofs.Whole.{definition_after, bound_same}
+use Rattle.py_check_laws.proofs.Aims.{AimAt, AimsOf, aims_are}
+use Rattle.py_check_laws.proofs.Shapes.{definition_shape, no_part_given}
+use Rattle.py_check_laws.proofs.Values.{scene, values_listed, value_stands, stands_type, parts_type}
+use Rattle.py_check_laws.proofs.Closed.{scope_on, AllClosed, closed_both, closed_on, target_closed, name_closed, IsMarked, marked_front, marked_behind}
+use Rattle.py_check_laws.proofs.Courses.{course_stands, item_type}
+
+-- ---- variables
+
+-- each variable that has a type has one that a variable may have
+pub record Valued (n : ℕ) (V : VarSorts) : Type 0 where
+  pub locals : (i : ℕ) (t : Sort) → var_at V.locals i ≡ has t → is_value_type n t ≡ true
+  pub globals : (i : ℕ) (t : Sort) → var_at V.globals i ≡ has t → is_value_type n t ≡ true
+
+-- and is declared with it
+pub record AreDeclared (m : TypedModule) (locals : List Variable) (V : VarSorts) : Type 0 where
+  pub of_function : (i : ℕ) (t : Sort) → var_at V.locals i ≡ has t → declared locals i ≡ Some t
+  pub of_module : (i : ℕ) (t : Sort) → var_at V.globals i ≡ has t → declared m.globals i ≡ Some t
+
+pub declared_before : (m : TypedModule) (locals : List Variable) (V W : VarSorts) → Follows V W → AreDeclared m locals W → AreDeclared m locals V
+declared_before m locals V W f d = record {
+  of_function = λ i t e. d.of_function i t (f.locals.stays i (ap is_unset e) ∙ e);
+  of_module = λ i t e. d.of_module i t (f.globals.stays i (ap is_unset e) ∙ e);
+}
+
+no_type : (ok : Bool) (s : Sort) → first_type ok None ≡ has s → ⊥
+no_type true s h = cc
+no_type false s h = cc
+
+untyped_first : (t : Option Sort) (s : Sort) → first_type false t ≡ has s → ⊥
+untyped_first t s h = cc
+
+sort_of_has : (s t : Sort) → has s ≡ has t → s ≡ t
+sort_of_has s t e = cc
+
+valued_fix : (n : ℕ) (types : List VarSort) (i : ℕ) (v : VarSort) → ((j : ℕ) (s : Sort) → var_at types j ≡ has s → is_value_type n s ≡ true) → (is_unset (var_at types i) ≡ true → (s : Sort) → v ≡ has s → is_value_type n s ≡ true) → (j : ℕ) (s : Sort) → var_at (fix types i v) j ≡ has s → is_value_type n s ≡ true
+valued_fix n types i v all h j s e = either (fix_cases types i j v) (λ q. all j s (sym q ∙ e)) (λ q. h q.0 s (sym q.1 ∙ e))
+
+valued_variable : (n : ℕ) (ok : Bool) (k : Known) → Valued n k.types → (m : Meaning) (t : Option Sort) → (is_open k.types m ≡ true → (s : Sort) → first_type ok t ≡ has s → is_value_type n s ≡ true) → Valued n (bind_variable ok k m t).types
+valued_variable n ok k v (meaning.Local i) t h = record { locals = valued_fix n k.types.locals i (first_type ok t) v.locals h; globals = v.globals }
+valued_variable n ok k v (meaning.Global i) t h = record { locals = v.locals; globals = valued_fix n k.types.globals i (first_type ok t) v.globals h }
+valued_variable n ok k v _ t h = v
+
+-- a variable with a type is no longer open
+set_by : (t u : TypedTarget) (x : List ℕ) (v : VarSort) (s : Sort) → variable_aim t x v ≡ Some (held u s) → is_unset v ≡ false
+set_by t u x unset s h = absurd (cc)
+set_by t u x untyped s h = absurd (cc)
+set_by t u x (has r) s h = refl
+
+pub aim_set : (k : Known) (x : List ℕ) (m : Meaning) (u : TypedTarget) (s : Sort) → name_aim k x m ≡ Some (held u s) → is_open k.types m ≡ false
+aim_set k x (meaning.Local i) u s h = set_by (act.LocalTarget i) u x (var_at k.types.locals i) s h
+aim_set k x (meaning.Global i) u s h = set_by (act.GlobalTarget i) u x (var_at k.types.globals i) s h
+aim_set k x _ u s h = refl
+
+first_value : (n : ℕ) (t s : Sort) → (is_nothing t ≡ false → is_value_type n t ≡ true) → is_nothing t ≡ false → first_type true (Some t) ≡ has s → is_value_type n s ≡ true
+first_value n t s v q h = subst (λ x. is_value_type n x ≡ true) (sort_of_has t s h) (v q)
+
+pub not_none : (t : Sort) (x : List ℕ) → (if is_nothing t then Some (needs_annotation x) else None) ≡ None → is_nothing t ≡ false
+not_none t x h = by (is_nothing t) h
+  where
+    by : (b : Bool) → (if b then Some (needs_annotation x) else None) ≡ None → b ≡ false
+    by true q = absurd (cc)
+    by false q = refl
+
+module _ (C : Context) (n : ℕ) where
+  valued_names : (ok : Bool) (k : Known) → Valued n k.types → (xs : List (Option (List ℕ))) (ts : List Sort) → list_all (is_value_type n) ts ≡ true → Valued n (bind_names C ok k xs ts).types
+  valued_names ok k v [] ts h = v
+  valued_names ok k v (x ∷ xs) [] h = valued_names ok (bind_name C ok k x None) (by x) xs [] h
+    where
+      by : (x : Option (List ℕ)) → Valued n (bind_name C ok k x None).types
+      by None = v
+      by (Some y) = valued_variable n ok k v (C.meaning y) None (λ o s e. absurd (no_type ok s e))
+  valued_names ok k v (x ∷ xs) (t ∷ ts) h =
+      valued_names ok (bind_name C ok k x (Some t)) (by x) xs ts (and_right (is_value_type n t) (list_all (is_value_type n) ts) h)
+    where
+      of_type : (b : Bool) (s : Sort) → first_type b (Some t) ≡ has s → is_value_type n s ≡ true
+      of_type true s e = subst (λ z. is_value_type n z ≡ true) (sort_of_has t s e) (and_left (is_value_type n t) (list_all (is_value_type n) ts) h)
+      of_type false s e = absurd (untyped_first (Some t) s e)
+
+      by : (x : Option (List ℕ)) → Valued n (bind_name C ok k x (Some t)).types
+      by None = v
+      by (Some y) = valued_variable n ok k v (C.meaning y) (Some t) (λ o s e. of_type ok s e)
+
+  -- a name that takes a value's type
+  name_valued : (k place : Known) → k.types ≡ place.types → Valued n k.types → (e : ExprTree) (x : Option (List ℕ)) (a : Aim) → AimAt C place x e a → (t : Sort) → binding_fault C.classes (slot_of a) t ≡ None → (is_nothing t ≡ false → is_value_type n t ≡ true) → Valued n (bind_name C true k x (Some t)).types
+  name_valued k place same v e None a h t f value = v
+  name_valued k place same v e (Some x) (held u s) h t f value =
+      valued_variable n true k v (C.meaning x) (Some t) (λ o r q. clash (is_open k.types (C.meaning x)) o (ap (λ V. is_open V (C.meaning x)) same ∙ aim_set place x (C.meaning x) u s h))
+  name_valued k place same v e (Some x) (first u y) h t f value = valued_variable n true k v (C.meaning x) (Some t) (λ o r q. first_value n t r value (not_none t y f) q)
+  name_valued k place same v e (Some x) (barred y) h t f value = absurd (cc)
+  name_valued k place same v e (Some x) (unwritten s) h t f value = absurd (cc)
+  name_valued k place same v e (Some x) (misplaced s) h t f value = absurd (cc)
+
+  same_single : (a b : Aim) → a ∷ [] ≡ b ∷ [] → a ≡ b
+  same_single a b e = cc
+
+  aims_single : (place : Known) (target : ExprTree) (l : List Aim) (a : Aim) → l ≡ a ∷ [] → leaves target ≡ target ∷ [] → AimsOf C place (leaves target) l → AimAt C place (name_in target) target a
+  aims_single place target l a q p h = (subst (λ z. AimsOf C place z (a ∷ [])) p (subst (AimsOf C place (leaves target)) q h)).here
+
+  -- THE NAMES of a target behind a value of a type, for which it was looked at with the same types
+  target_valued : (k place : Known) → k.types ≡ place.types → Valued n k.types → (target : ExprTree) (l : List Aim) → (target_aims C place target).got ≡ Some l → (t : Sort) → BoundTo C.classes (is_row target) l t → (is_nothing t ≡ false → is_value_type n t ≡ true)
+      → ((ts : Sorts) → t ≡ sort.TupleOf ts → are_value_types n ts ≡ true) → Valued n (bind_target C true k target (Some t)).types
+  target_valued k place same v target l g t r value parts = by (is_row target) refl r
+    where
+      by : (b : Bool) → is_row target ≡ b → BoundTo C.classes b l t → Valued n (bind_target C true k target (Some t)).types
+      by false q r =
+          subst (λ (z : Known). Valued n z.types) (sym (single_bound C true k target (Some t) q))
+          (name_valued k place same v target (name_in target) r.0 (aims_single place target l r.0 r.1 (Rattle.py_check_laws.proofs.Assigned.leaves_one target q) (aims_are C place (leaves target) l g)) t r.2 value)
+      by true q r =
+          let i = items_are t (length l) r.parts r.items in
+          subst (λ (z : Known). Valued n z.types) (sym (row_bound C true k target t r.parts q (ap (items_for t) (sym (aims_length C place (leaves target) l g)) ∙ r.items)))
+          (valued_names true k v (target_names target) r.parts (subst (λ z. list_all (is_value_type n) z ≡ true) i.2 (values_listed n i.0 (parts i.0 i.1))))
+
+module _ (means : List ℕ → Meaning) (signatures : List (Option Signature)) (m : TypedModule) (locals : List Variable) (init : Option ℕ) where
+  abbrev here : Context
+  here = scene means signatures m locals init
+
+  abbrev size : ℕ
+  size = length m.classes.classes
+
+  valued_here : (V : VarSorts) → Describes here V m locals → Valued size V
+  valued_here V D = record { locals = λ i t e. (D.locals_are i t e).type; globals = λ i t e. (D.globals_are i t e).type }
+
+  pub described : (V W : VarSorts) → Describes here V m locals → AreDeclared m locals W → Valued size W → Describes here W m locals
+  described V W D d v = record {
+    classes = D.classes;
+    tree = D.tree;
+    locals_are = λ i t e. record { is = d.of_function i t e; type = v.locals i t e };
+    globals_are = λ i t e. record { is = d.of_module i t e; type = v.globals i t e };
+    functions_are = D.functions_are;
+  }
+
+  -- behind statements with these bindings
+  pub record Settled (V : VarSorts) (bs : List Binding) : Type 0 where
+    pub valued : Valued size V
+    pub closed : AllClosed here V bs
+
+  -- ---- single statements
+
+  settled_assign : (k : Known) → Describes here k.types m locals → IsScope here k.types → (span : Span) (target e : ExprTree) → list_all law.is_written (leaves target) ≡ true → law.is_written e ≡ true → (a : TypedAct) → (assigns here k span target e).got ≡ Some a → Settled (binds here k span target e).types (target_bindings target)
+  settled_assign k D s span target e wt we a h =
+      let r = rule_given span (assigned m.classes.classes target) (both (target_aims here k target) (value_for here k target e)) a h in
+      let b = both_given (target_aims here k target) (value_for here k target e) r.0 r.1 in
+      let d = assigned_is m.classes.classes target r.0 a r.2 in
+      let v = value_stands means signatures m locals init k D (leaves target) wt (is_row target) r.0.0 (aims_are here k (leaves target) r.0.0 b.0) e we r.0.1 d.bound
+      (ap (λ o. (typed_at here k (asked_by (is_row target) o) e).got) (sym b.0) ∙ b.1) k.names (λ x q. q) in
+      record {
+        valued = subst (λ (l : Known). Valued size l.types) (sym (bound_same here k target (is_some (assigns here k span target e).got) (option_map type_of (value_for here k target e).got) (type_of r.0.1) (some_is (assigns here k span target e).got a h) (ap (option_map type_of) b.1)))
+            (target_valued here size k k refl (valued_here k.types D) target r.0.0 b.0 (type_of r.0.1) d.bound (stands_type means signatures m locals init k.names r.0.1 v) (λ ts q. parts_type means signatures m locals init k.names r.0.1 ts v q));
+        closed = target_closed here (is_some (assigns here k span target e).got) k s target (option_map type_of (value_for here k target e).got);
+      }
+
+  text_is_itself : (x : List ℕ) → bytes_eq x x ≡ true
+  text_is_itself x = (bytes_eq-Decides x x).1 refl
+
+  mark_found : (x : List ℕ) (mark : ExprTree) → Rattle.py_check.specs.Starts.first_mark (bound x (Some mark)) x ≡ Some (Some mark)
+  mark_found x mark = ap (λ b. cond b (Some (Some mark)) None) (text_is_itself x)
+
+  settled_name : (k : Known) → Describes here k.types m locals → IsScope here k.types → (ok : Bool) (target mark : ExprTree) (x : List ℕ) (t : Option Sort) → name_in target ≡ Some x → IsMarked here k.types (bound x (Some mark)) → Settled (bind_target here ok k target t).types (marked (name_in target) target mark)
+  settled_name k D s ok target mark x t n h =
+      let kept : (bind_target here ok k target t).types ≡ k.types =
+      ap (λ (l : Known). l.types) (single_bound here ok k target t (name_no_row target x n) ∙ ap (λ o. bind_name here ok k o t) n) ∙ bind_set ok k (means x) t (h x mark (mark_found x mark)) in
+      record {
+        valued = subst (Valued size) (sym kept) (valued_here k.types D);
+        closed = subst (λ o. AllClosed here (bind_target here ok k target t).types (marked o target mark)) (sym n) (record { here = name_closed here ok k s target t x n; rest = tt });
+      }
+
+  settled_annotated : (k : Known) → Describes here k.types m locals → IsScope here k.types → (span : Span) (target mark : ExprTree) (e : Option ExprTree) (x : Option (List ℕ)) → name_in target ≡ x → IsMarked here k.types (marked x target mark) → (a : TypedAct) → (annotates here k span x target mark e).got ≡ Some a
+      → Settled (binds_annotated here k span x target mark e).types (marked (name_in target) target mark)
+  settled_annotated k D s span target mark e (Some x) n h a g = settled_name k D s (is_some (annotates_name here k span x mark e).got) target mark x (value_sort here k x e) n h
+  settled_annotated k D s span target mark None None n h a g = absurd (no_part_given (both (target_aims here k target) (annotation means mark)).got span no_target a g)
+  settled_annotated k D s span target mark (Some e) None n h a g = absurd (no_part_given (both (both (target_aims here k target) (annotation means mark)) (typed_at here k free e)).got span no_target a g)
+
+  settled_update : (k : Known) → Describes here k.types m locals → IsScope here k.types → (target : ExprTree) → Settled (bind_target here false k target None).types (target_bindings target)
+  settled_update k D s target = record { valued = valued_names here size false k (valued_here k.types D) (target_names target) [] refl; closed = target_closed here false k s target None }
+
+  settled_head : (k : Known) → Describes here k.types m locals → IsScope here k.types → (s : StmtTree) (span : Span) (target e : ExprTree) → law.is_written e ≡ true → (p : List TypedTarget × Course) → (for_head here k span target e).got ≡ Some p → Settled (in_for here k s span target e).types (target_bindings target)
+  settled_head k D sc s span target e we p h =
+      let parts = both (target_aims here k target) (course here k e) in
+      let q = made_given (λ (z : List Aim × Course). (targets_of z.0, z.1)) (rule span (head m.classes.classes (is_flat target) (is_row target)) parts) p h in
+      let g = rule_given span (head m.classes.classes (is_flat target) (is_row target)) parts q.0 q.1 in
+      let b = both_given (target_aims here k target) (course here k e) g.0 g.1 in
+      let d = head_is m.classes.classes target g.0 q.0 g.2 in
+      let l = entering here k s in
+      let c = course_stands means signatures m locals init None k D e we g.0.1 b.1 k.names (λ x z. z) in
+      let v : is_value_type size d.0.item ≡ true = item_type means signatures m locals init None k.names g.0.1 d.0.item c d.0.items in
+      record {
+        valued = subst (λ (z : Known). Valued size z.types) (sym (bound_same here l target (is_some (for_head here k span target e).got) (some_items (course here k e).got) d.0.item (some_is (for_head here k span target e).got p h) (ap some_items b.1 ∙ d.0.items)))
+            (target_valued here size l k refl (valued_here k.types D) target g.0.0 b.0 d.0.item d.0.bound (λ z. v) (λ ts z. Rattle.py_check_laws.proofs.Values.third (Rattle.std.specs.Prelude.nat_lt 0 (length (listed_sorts ts))) (Rattle.std.specs.Prelude.nat_lt (length (listed_sorts ts)) 17) (are_value_types size ts) (subst (λ x. is_value_type size x ≡ true) z v)));
+        closed = target_closed here (is_some (for_head here k span target e).got) l sc target (some_items (course here k e).got);
+      }
+
+  -- ---- statements in a row
+
+  -- what a row of statements stands on
+  pub record Setting (V : VarSorts) (bs : List Binding) (end : VarSorts) : Type 0 where
+    pub describes : Describes here V m locals
+    pub scope : IsScope here V
+    pub marked : IsMarked here V bs
+    pub follows : Follows V end
+    pub declared : AreDeclared m locals end
+
+  -- in front of what comes next
+  setting_on : (V W end : VarSorts) (a b : List Binding) → Setting V (a ++ b) end → Follows V W → Follows W end → Settled W a → Setting W b end
+  setting_on V W end a b g f r d = record {
+    describes = described V W g.describes (declared_before m locals W end r g.declared) d.valued;
+    scope = scope_on here V W f g.scope;
+    marked = marked_behind here V W f a b g.marked d.closed;
+    follows = r;
+    declared = g.declared;
+  }
+
+  setting_front : (V end : VarSorts) (a b : List Binding) → Setting V (a ++ b) end → Setting V a end
+  setting_front V end a b g = record { describes = g.describes; scope = g.scope; marked = marked_front here V a b g.marked; follows = g.follows; declared = g.declared }
+
+  settled_both : (V W : VarSorts) (a b : List Binding) → Follows V W → Settled V a → Settled W b → Settled W (a ++ b)
+  settled_both V W a b f p q = record { valued = q.valued; closed = closed_both here W a b (closed_on here V W f a p.closed) q.closed }
+
+  nothing_bound : (V end : VarSorts) (bs : List Binding) → Setting V bs end → Settled V []
+  nothing_bound V end bs g = record { valued = valued_here V g.describes; closed = tt }
+
+  settled_definition : (k : Known) (end : VarSorts) (bs : List Binding) → Setting k.types bs end → (s : StmtTree) → is_definition s ≡ true → Settled (after here k s).types (stmt_bindings s)
+  settled_definition k end bs g s d =
+      subst (λ (l : Known). Settled l.types (stmt_bindings s)) (sym (definition_after here k s d)) (subst (Settled k.types) (sym (definition_shape s d).2) (nothing_bound k.types end bs g))
+
+  module _ (r : ReturnSort) where
+    -- a statement, and what stands behind it
+    stmt_and_rest : (loops : Bool) (k : Known) (s : StmtTree) (more : Suite) (ts : List TypedStmt) (b : Bool) → is_definition s ≡ b → (b ≡ true → Settled (after here k s).types (stmt_bindings s)) → ((t : TypedStmt) → (statement here r loops k s).got ≡ Some t → Settled (after here k s).types (stmt_bindings s))
+        → (if b then block here r loops k more else row_then (statement here r loops k s) (block here r loops (after here k s) more)).got ≡ Some ts → Settled (after here k s).types (stmt_bindings s) × (l : List TypedStmt) × ((block here r loops (after here k s) more).got ≡ Some l)
+    stmt_and_rest loops k s more ts true d f g h = (f refl, ts, ap (λ (l : Known). (block here r loops l more).got) (definition_after here k s d) ∙ h)
+    stmt_and_rest loops k s more ts false d f g h = let q = row_given (statement here r loops k s) (block here r loops (after here k s) more) ts h in (g q.0 q.2, q.1, q.3)
+
+    mutual
+      settled_stmt : (loops : Bool) (k : Known) (s : StmtTree) (end : VarSorts) → Setting k.types (stmt_bindings s) end → Follows (after here k s).types end → is_stmt_written s ≡ true → (t : TypedStmt) → (statement here r loops k s).got ≡ Some t → Settled (after here k s).types (stmt_bindings s)
+      settled_stmt loops k (node.at n span) end g f w t h = let q = made_given (λ a. on_line a span.line) (node_statement here r loops k span n) t h in settled_act loops k span n end g f w q.0 q.1
+
+      settled_act : (loops : Bool) (k : Known) (span : Span) (n : StmtNode) (end : VarSorts) → Setting k.types (act_bindings n) end → Follows (node_after here k span n).types end → is_act_written n ≡ true → (a : TypedAct) → (node_statement here r loops k span n).got ≡ Some a → Settled (node_after here k span n).types (act_bindings n)
+      settled_act loops k span (node.Assign target e) end g f w a h =
+          let wt = and_left (are_targets (leaves target)) (law.is_written e) w in
+          settled_assign k g.describes g.scope span target e wt (and_right (are_targets (leaves target)) (law.is_written e) w) a h
+      settled_act loops k span (node.Annot target mark e) end g f w a h = settled_annotated k g.describes g.scope span target mark e (name_in target) refl g.marked a h
+      settled_act loops k span (node.Aug target op e) end g f w a h = settled_update k g.describes g.scope target
+      settled_act loops k span (node.If arms other) end g f w a h =
+          let l = (arms_after here (setting_out k) arms).at in
+          let s = branches here r loops (setting_out k) arms in
+          let t = block here r loops l other in
+          let q = made_given (λ p. act.If (arms_of p.0) (suite_of p.1)) (both s t) a h in
+          let b = both_given s t q.0 q.1 in
+          let written = Rattle.py_check_laws.proofs.Values.of_three (Rattle.py_check_laws.specs.WellTyped.has_test arms) (are_arms_written arms) (is_suite_written other) w in
+          let fl = follows_block here l other in
+          let first = settled_arms loops (setting_out k) arms end (setting_front k.types end (arms_bindings arms) (suite_bindings other) g) (follows_on l.types (block_after here l other).types end fl f) written.1 q.0.0 b.0 in
+          let next = setting_on k.types l.types end (arms_bindings arms) (suite_bindings other) g (follows_arms here (setting_out k) arms) (follows_on l.types (block_after here l other).types end fl f) first in
+          settled_both l.types (block_after here l other).types (arms_bindings arms) (suite_bindings other) fl first (settled_block loops l other end next f written.2 q.0.1 b.1)
+      settled_act loops k span (node.While e body) end g f w a h =
+          let l = entering here k (node.at (node.While e body) span) in
+          let s = condition here l e in
+          let t = block here r true (where_test here l true e) body in
+          let q = made_given (λ p. act.While p.0 (suite_of p.1)) (both s t) a h in
+          let b = both_given s t q.0 q.1 in
+          let written = Rattle.py_check_laws.proofs.Values.of_three (law.is_written e) (is_filled body) (is_suite_written body) w in
+          settled_block true (where_test here l true e) body end g f written.2 q.0.1 b.1
+      settled_act loops k span (node.For target e body) end g f w a h =
+          let st = node.at (node.For target e body) span in
+          let s = for_head here k span target e in
+          let l = in_for here k st span target e in
+          let t = block here r true l body in
+          let q = made_given (λ p. loop_of p.0.0 p.0.1 (suite_of p.1)) (both s t) a h in
+          let b = both_given s t q.0 q.1 in
+          let written = Rattle.py_check_laws.proofs.Values.of_three (law.is_written e) (is_filled body) (is_suite_written body) w in
+          let fl = follows_block here l body in
+          let first = settled_head k g.describes g.scope st span target e written.0 q.0.0 b.0 in
+          let fh = follows_target here (is_some s.got) (entering here k st) target (some_items (course here k e).got) in
+          let next = setting_on k.types l.types end (target_bindings target) (suite_bindings body) g fh (follows_on l.types (block_after here l body).types end fl f) first in
+          settled_both l.types (block_after here l body).types (target_bindings target) (suite_bindings body) fl first (settled_block true l body end next f written.2 q.0.1 b.1)
+      settled_act loops k span (node.Try _ _ _) end g f w a h = absurd (cc)
+      settled_act loops k span n end g f w a h = nothing_bound k.types end (act_bindings n) g
+
+      pub settled_block : (loops : Bool) (k : Known) (body : Suite) (end : VarSorts) → Setting k.types (suite_bindings body) end → Follows (block_after here k body).types end → is_suite_written body ≡ true → (ts : List TypedStmt) → (block here r loops k body).got ≡ Some ts → Settled (block_after here k body).types (suite_bindings body)
+      settled_block loops k no_stmts end g f w ts h = nothing_bound k.types end [] g
+      settled_block loops k (stmt_then s more) end g f w ts h =
+          let l = after here k s in
+          let fl = follows_block here l more in
+          let fe = follows_on l.types (block_after here l more).types end fl f in
+          let front = setting_front k.types end (stmt_bindings s) (suite_bindings more) g in
+          let q = stmt_and_rest loops k s more ts (is_definition s) refl (λ d. settled_definition k end (stmt_bindings s) front s d)
+          (λ t e. settled_stmt loops k s end front fe (and_left (is_stmt_written s) (is_suite_written more) w) t e) h in
+          let next = setting_on k.types l.types end (stmt_bindings s) (suite_bindings more) g (follows_stmt here k s) fe q.0 in
+          settled_both l.types (block_after here l more).types (stmt_bindings s) (suite_bindings more) fl q.0 (settled_block loops l more end next f (and_right (is_stmt_written s) (is_suite_written more) w) q.1 q.2)
+
+      settled_arms : (loops : Bool) (w : Way) (arms : Arms) (end : VarSorts) → Setting w.at.types (arms_bindings arms) end → Follows (arms_after here w arms).at.types end → are_arms_written arms ≡ true → (l : List (TypedExpr × TypedSuite)) → (branches here r loops w arms).got ≡ Some l → Settled (arms_after here w arms).at.types (arms_bindings arms)
+      settled_arms loops w no_arms end g f written l h = nothing_bound w.at.types end [] g
+      settled_arms loops w (arm_then e body more) end g f written l h =
+          let s = condition here w.at e in
+          let inner = where_test here w.at true e in
+          let t = block here r loops inner body in
+          let after_body = block_after here inner body in
+          let next = behind_arm here w e (is_closed body) after_body in
+          let one = made (λ p. (p.0, suite_of p.1)) (both s t) in
+          let q = row_given one (branches here r loops next more) l h in
+          let v = made_given (λ p. (p.0, suite_of p.1)) (both s t) q.0 q.2 in
+          let b = both_given s t v.0 v.1 in
+          let ws = Rattle.py_check_laws.proofs.Values.of_four (law.is_written e) (is_filled body) (is_suite_written body) (are_arms_written more) written in
+          let fr = follows_arms here next more in
+          let fe = follows_on after_body.types (arms_after here next more).at.types end fr f in
+          let first = settled_block loops inner body end (setting_front w.at.types end (suite_bindings body) (arms_bindings more) g) fe ws.2 v.0.1 b.1 in
+          let rest = setting_on w.at.types after_body.types end (suite_bindings body) (arms_bindings more) g (follows_block here inner body) fe first in
+          settled_both after_body.types (arms_after here next more).at.types (suite_bindings body) (arms_bindings more) fr first (settled_arms loops next more end rest f ws.3 q.1 q.3)

@@ -1,0 +1,209 @@
+-- Values that are typed at a place stand there, and so do the targets that they are bound to.
+use Rattle.std.proofs.Common.{◌≡◌, ℕ, zero, suc, ◌<◌, Bool, true, false, ◌&&◌, nat_lt, List, [], ◌∷◌, length, map, Option, Some, None, refl, ap, sym, ◌∙◌, subst, if◌then◌else◌, lt-ltb, arith}
+use Rattle.std.proofs.lemmas.Bool.{and_from, or_left, or_right}
+use Rattle.std.proofs.lemmas.Option.{same_Some}
+use Rattle.std.specs.List.{list_all}
+use Rattle.std.specs.Option.{option_map}
+use Rattle.py_syntax.specs.declared.token.Span.{Span}
+use Rattle.py_syntax.specs.Expressions.{ExprTree}
+use Rattle.py_typed.specs.Sorts as sort
+use Rattle.py_typed.specs.Sorts.{Sort, Sorts, no_sorts, sort_then, sorts_of, listed_sorts}
+use Rattle.py_typed.specs.Classes.{ClassEntry, Signature}
+use Rattle.py_typed.specs.Fits.{is_same_type, is_nothing, fits}
+use Rattle.py_typed.specs.Expressions as node
+use Rattle.py_typed.specs.Expressions.{TypedExpr, typed, type_of}
+use Rattle.py_typed.specs.Statements.{Variable, TypedModule, TypedTarget}
+use Rattle.py_typed.specs.Operations.{item_sort}
+use Rattle.py_typed.specs.WellTypedExpr.{stands, is_value_type, are_value_types, is_result_type, is_type, indexed, declared}
+use Rattle.py_typed.proofs.FitLemmas.{one_type, and_left, and_right}
+use Rattle.py_check_context.specs.declared.scope.Meaning.{Meaning}
+use Rattle.py_check_context.specs.Context.{Context, free, wants, wants_some}
+use Rattle.py_check_flow.specs.Bindings.{name_in}
+use Rattle.py_check_values.specs.Slots.{known}
+use Rattle.py_check_values.specs.Assignments.{binding_fault, misfit, first_misfit}
+use Rattle.py_check_targets.specs.Places.{Known}
+use Rattle.py_check_targets.specs.Targets.{Aim, held, first, barred, unwritten, misplaced, slot_of, is_written, held_sorts, tuple_sort, single_sort, asked_by, typed_at}
+use Rattle.py_check_expressions_laws.specs.WellTyped as law
+use Rattle.py_check_expressions_laws.specs.WellTyped.{Describes, Within}
+use Rattle.py_check_expressions_laws.proofs.Types.{result_of_value, value_of_result}
+use Rattle.py_check_expressions_laws.proofs.Stands.{parts_of_stands, value_type}
+use Rattle.py_check_expressions_laws.proofs.Rows.{all_fits, is_sought, sought_of_asked}
+use Rattle.py_check_expressions_laws.proofs.Sound.{sound_typing}
+use Rattle.py_check_laws.proofs.Assigned.{items_are, RowBound, BoundTo, first_none}
+use Rattle.py_check_laws.proofs.Aims.{AimAt, beyond, AimsOf, Held, held_local, held_global, held_item, aim_held}
+
+pub of_three : (a b c : Bool) → (a && b && c) ≡ true → (a ≡ true) × (b ≡ true) × (c ≡ true)
+of_three true true true h = (refl, refl, refl)
+of_three _ _ _ h = absurd (cc)
+
+pub of_four : (a b c d : Bool) → (a && b && c && d) ≡ true → (a ≡ true) × (b ≡ true) × (c ≡ true) × (d ≡ true)
+of_four true true true true h = (refl, refl, refl, refl)
+of_four _ _ _ _ h = absurd (cc)
+
+pub third : (a b c : Bool) → (a && b && c) ≡ true → c ≡ true
+third true true true h = refl
+third _ _ _ h = absurd (cc)
+
+-- ---- rows of types
+
+pub sorts_again : (ts : Sorts) → sorts_of (listed_sorts ts) ≡ ts
+sorts_again no_sorts = refl
+sorts_again (sort_then t ts) = ap (sort_then t) (sorts_again ts)
+
+pub values_listed : (n : ℕ) (ts : Sorts) → are_value_types n ts ≡ true → list_all (is_value_type n) (listed_sorts ts) ≡ true
+values_listed n no_sorts h = refl
+values_listed n (sort_then t ts) h = and_from (is_value_type n t) (list_all (is_value_type n) (listed_sorts ts)) (and_left (is_value_type n t) (are_value_types n ts) h) (values_listed n ts (and_right (is_value_type n t) (are_value_types n ts) h))
+
+-- ---- items
+
+-- an item that is written has a type that a variable may have
+pub record IsItem (n : ℕ) (s i t : Sort) : Type 0 where
+  pub type : is_value_type n t ≡ true
+  pub of : item_sort s ≡ t
+  pub at : (u : Sort) × (indexed s i ≡ Some u)
+
+by_index : (n : ℕ) (s i u t : Sort) (b : Bool) → is_same_type i u ≡ b → is_value_type n s ≡ true → is_type (if b then Some s else None) t ≡ true → (is_value_type n t ≡ true) × (s ≡ t) × ((if b then Some s else None) ≡ Some s)
+by_index n s i u t true q v h = let e = one_type s t h in (subst (λ x. is_value_type n x ≡ true) e v, e, refl)
+by_index n s i u t false q v h = absurd (cc)
+
+pub item_is : (n : ℕ) (s i t : Sort) → is_written s ≡ true → is_result_type n s ≡ true → is_type (indexed s i) t ≡ true → IsItem n s i t
+item_is n (sort.ListOf s) i t w r h = let q = by_index n s i sort.Int t (is_same_type i sort.Int) refl r h in record { type = q.0; of = q.1; at = (s, q.2) }
+item_is n (sort.DictOf k s) i t w r h = let q = by_index n s i k t (is_same_type i k) refl (and_right (Rattle.py_typed.specs.WellTypedExpr.is_key_type k) (is_value_type n s) r) h in record { type = q.0; of = q.1; at = (s, q.2) }
+item_is n _ i t w r h = absurd (cc)
+
+-- ---- declared variables
+
+pub declared_there : (l : List Variable) (i : ℕ) (t : Sort) → declared l i ≡ Some t → nat_lt i (length l) ≡ true
+declared_there l i t h = lt-ltb i (length l) (by l i h)
+  where
+    by : (l : List Variable) (i : ℕ) → declared l i ≡ Some t → i < length l
+    by [] i e = absurd (cc)
+    by (x ∷ l) zero e = omega arith
+    by (x ∷ l) (suc i) e = let r = by l i e in omega arith
+
+-- ---- parts that fit
+
+fits_known : (b : Bool) (p : Sort × Sort) → (if b then None else Some p) ≡ None → b ≡ true
+fits_known true p h = refl
+fits_known false p h = absurd (cc)
+
+pub misfit_none : (classes : List ClassEntry) (s t : Sort) → misfit classes (known t) s ≡ None → fits classes s t ≡ true
+misfit_none classes s t h = fits_known (fits classes s t) (s, t) h
+
+module _ (means : List ℕ → Meaning) (signatures : List (Option Signature)) (m : TypedModule) (locals : List Variable) (init : Option ℕ) where
+  -- the context, with the classes of the module
+  abbrev pub scene : Context
+  scene = record { meaning = means; signatures = signatures; classes = m.classes.classes }
+
+  -- a value that is asked for nothing stands where more is known
+  pub stands_free : (k : Known) → Describes scene k.types m locals → (e : ExprTree) → law.is_written e ≡ true → (t : TypedExpr) → (typed_at scene k free e).got ≡ Some t → (others : List ℕ) → Within k.names others → stands m locals init false others t ≡ true
+  stands_free k D e w t g others wi = (sound_typing means signatures k.types m locals init D free k.names e w refl).each t g others wi refl
+
+  pub stands_wanted : (k : Known) → Describes scene k.types m locals → (e : ExprTree) → law.is_written e ≡ true → (s : Sort) → is_value_type (length m.classes.classes) s ≡ true → (t : TypedExpr) → (typed_at scene k (wants s) e).got ≡ Some t → fits m.classes.classes (type_of t) s ≡ true → (others : List ℕ) → Within k.names others → stands m locals init false others t ≡ true
+  stands_wanted k D e w s v t g f others wi =
+      (sound_typing means signatures k.types m locals init D (wants s) k.names e w (sought_of_asked (length m.classes.classes) (wants s) (result_of_value (length m.classes.classes) s v))).each t g others wi
+      (or_left (fits m.classes.classes (type_of t) s) (Rattle.py_check_expressions_laws.proofs.Rows.parts_taken m.classes.classes (wants s) (type_of t)) f)
+
+  -- a tuple for several targets, whose parts fit them
+  pub stands_parts : (k : Known) → Describes scene k.types m locals → (e : ExprTree) → law.is_written e ≡ true → (ts us : Sorts) → are_value_types (length m.classes.classes) ts ≡ true → (t : TypedExpr) → (typed_at scene k (wants (sort.TupleOf ts)) e).got ≡ Some t → type_of t ≡ sort.TupleOf us → all_fits m.classes.classes us ts ≡ true → (others : List ℕ) → Within k.names others
+      → stands m locals init false others t ≡ true
+  stands_parts k D e w ts us v t g q f others wi =
+      (sound_typing means signatures k.types m locals init D (wants (sort.TupleOf ts)) k.names e w v).each t g others wi
+      (subst (λ s. Rattle.py_check_expressions_laws.proofs.Rows.is_held m.classes.classes (wants (sort.TupleOf ts)) s ≡ true) (sym q) (or_right (fits m.classes.classes (sort.TupleOf us) (sort.TupleOf ts)) (all_fits m.classes.classes us ts) f))
+
+  -- ---- targets that have a type
+
+  pub item_at_place : (k : Known) → Describes scene k.types m locals → (e : ExprTree) → law.is_written e ≡ true → (b i : TypedExpr) (t : Sort) (place : Span) → (typed_at scene k free e).got ≡ Some (typed (node.At b i) t place) → is_written (type_of b) ≡ true → (others : List ℕ) → Within k.names others
+      → (stands m locals init false others b ≡ true) × (stands m locals init false others i ≡ true) × IsItem (length m.classes.classes) (type_of b) (type_of i) t
+  item_at_place k D e w b i t place g written others wi =
+      let r = parts_of_stands m locals init false others (node.At b i) t place (stands_free k D e w (typed (node.At b i) t place) g others wi) in
+      let sb = and_left (stands m locals init false others b) (stands m locals init false others i) r.0 in
+      (sb, and_right (stands m locals init false others b) (stands m locals init false others i) r.0, item_is (length m.classes.classes) (type_of b) (type_of i) t written (value_type m locals init false others b sb) r.1)
+
+  pub held_value : (k : Known) → Describes scene k.types m locals → (e : ExprTree) → law.is_written e ≡ true → (target : TypedTarget) (t : Sort) → Held scene k e target t → is_value_type (length m.classes.classes) t ≡ true
+  held_value k D e w target t (held_local x i n q is v) = (D.locals_are i t v).type
+  held_value k D e w target t (held_global x i n q is v) = (D.globals_are i t v).type
+  held_value k D e w target t (held_item b i place n g written is) = (item_at_place k D e w b i t place g written k.names (λ x h. h)).2.type
+
+  -- ---- what targets ask for
+
+  some_sorts : (t : Sort) (o : Option (List Sort)) (ts : List Sort) → option_map (λ (l : List Sort). t ∷ l) o ≡ Some ts → (l : List Sort) × (o ≡ Some l) × (t ∷ l ≡ ts)
+  some_sorts t None ts h = absurd (cc)
+  some_sorts t (Some l) ts h = (l, refl, same_Some (t ∷ l) ts h)
+
+  sorts_sought : (k : Known) → Describes scene k.types m locals → (es : List ExprTree) → list_all law.is_written es ≡ true → (l : List Aim) → AimsOf scene k es l → (ts : List Sort) → held_sorts l ≡ Some ts → are_value_types (length m.classes.classes) (sorts_of ts) ≡ true
+  sorts_sought k D [] w [] a ts h = subst (λ z. are_value_types (length m.classes.classes) (sorts_of z) ≡ true) (same_Some [] ts h) refl
+  sorts_sought k D [] w (x ∷ l) a ts h = absurd a
+  sorts_sought k D (e ∷ es) w [] a ts h = absurd a
+  sorts_sought k D (e ∷ es) w (held t s ∷ l) a ts h =
+      let r = some_sorts s (held_sorts l) ts h in
+      subst (λ z. are_value_types (length m.classes.classes) (sorts_of z) ≡ true) r.2
+      (and_from (is_value_type (length m.classes.classes) s) (are_value_types (length m.classes.classes) (sorts_of r.0)) (held_value k D e (and_left (law.is_written e) (list_all law.is_written es) w) t s (aim_held scene k e t s a.here))
+      (sorts_sought (beyond scene k e) D es (and_right (law.is_written e) (list_all law.is_written es) w) l a.rest r.0 r.1))
+  sorts_sought k D (e ∷ es) w (first t x ∷ l) a ts h = absurd (cc)
+  sorts_sought k D (e ∷ es) w (barred x ∷ l) a ts h = absurd (cc)
+  sorts_sought k D (e ∷ es) w (unwritten s ∷ l) a ts h = absurd (cc)
+  sorts_sought k D (e ∷ es) w (misplaced s ∷ l) a ts h = absurd (cc)
+
+  sorts_fit : (l : List Aim) (ts ss : List Sort) → held_sorts l ≡ Some ts → length ss ≡ length l → first_misfit m.classes.classes ss (map slot_of l) ≡ None → all_fits m.classes.classes (sorts_of ss) (sorts_of ts) ≡ true
+  sorts_fit [] ts [] h n f = subst (λ z. all_fits m.classes.classes no_sorts (sorts_of z) ≡ true) (same_Some [] ts h) refl
+  sorts_fit [] ts (s ∷ ss) h n f = absurd (cc)
+  sorts_fit (a ∷ l) ts [] h n f = absurd (cc)
+  sorts_fit (held t r ∷ l) ts (s ∷ ss) h n f =
+      let q = some_sorts r (held_sorts l) ts h in
+      let p = first_none (misfit m.classes.classes (known r) s) (first_misfit m.classes.classes ss (map slot_of l)) f in
+      subst (λ z. all_fits m.classes.classes (sorts_of (s ∷ ss)) (sorts_of z) ≡ true) q.2
+      (and_from (fits m.classes.classes s r) (all_fits m.classes.classes (sorts_of ss) (sorts_of q.0)) (misfit_none m.classes.classes s r p.0) (sorts_fit l q.0 ss q.1 (one_less (length ss) (length l) n) p.1))
+    where
+      one_less : (a b : ℕ) → suc a ≡ suc b → a ≡ b
+      one_less a b e = cc
+  sorts_fit (first t x ∷ l) ts (s ∷ ss) h n f = absurd (cc)
+  sorts_fit (barred x ∷ l) ts (s ∷ ss) h n f = absurd (cc)
+  sorts_fit (unwritten r ∷ l) ts (s ∷ ss) h n f = absurd (cc)
+  sorts_fit (misplaced r ∷ l) ts (s ∷ ss) h n f = absurd (cc)
+
+  row_stands : (k : Known) → Describes scene k.types m locals → (es : List ExprTree) → list_all law.is_written es ≡ true → (l : List Aim) → AimsOf scene k es l → (e : ExprTree) → law.is_written e ≡ true → (v : TypedExpr) → RowBound m.classes.classes l (type_of v) → (o : Option (List Sort)) → held_sorts l ≡ o
+      → (typed_at scene k (wants_some (option_map tuple_sort o)) e).got ≡ Some v → (others : List ℕ) → Within k.names others → stands m locals init false others v ≡ true
+  row_stands k D es we l a e w v r None q g others wi = stands_free k D e w v g others wi
+  row_stands k D es we l a e w v r (Some ts) q g others wi =
+      let i = items_are (type_of v) (length l) r.parts r.items in
+      stands_parts k D e w (sorts_of ts) i.0 (sorts_sought k D es we l a ts q) v g i.1
+      (subst (λ z. all_fits m.classes.classes z (sorts_of ts) ≡ true) (ap sorts_of (sym i.2) ∙ sorts_again i.0) (sorts_fit l ts r.parts q i.3 r.misfit)) others wi
+
+  pub fault_fits : (t s : Sort) → binding_fault m.classes.classes (known t) s ≡ None → fits m.classes.classes s t ≡ true
+  fault_fits t s h = by (fits m.classes.classes s t) h
+    where
+      by : (b : Bool) → (if b then None else Some (Rattle.py_check_messages.specs.Messages.wrong_assignment m.classes.classes s t)) ≡ None → b ≡ true
+      by true q = refl
+      by false q = absurd (cc)
+
+  one_stands : (k : Known) → Describes scene k.types m locals → (t : ExprTree) → law.is_written t ≡ true → (a : Aim) → AimAt scene k (name_in t) t a → (e : ExprTree) → law.is_written e ≡ true → (v : TypedExpr) → binding_fault m.classes.classes (slot_of a) (type_of v) ≡ None
+      → (typed_at scene k (wants_some (single_sort (a ∷ []))) e).got ≡ Some v → (others : List ℕ) → Within k.names others → stands m locals init false others v ≡ true
+  one_stands k D t wt (held u s) a e w v f g others wi = stands_wanted k D e w s (held_value k D t wt u s (aim_held scene k t u s a)) v g (fault_fits s (type_of v) f) others wi
+  one_stands k D t wt (first u x) a e w v f g others wi = stands_free k D e w v g others wi
+  one_stands k D t wt (barred x) a e w v f g others wi = absurd (cc)
+  one_stands k D t wt (unwritten s) a e w v f g others wi = absurd (cc)
+  one_stands k D t wt (misplaced s) a e w v f g others wi = absurd (cc)
+
+  -- THE VALUE of an assignment stands, where its targets take it
+  pub value_stands : (k : Known) → Describes scene k.types m locals → (es : List ExprTree) → list_all law.is_written es ≡ true → (several : Bool) (l : List Aim) → AimsOf scene k es l → (e : ExprTree) → law.is_written e ≡ true → (v : TypedExpr) → BoundTo m.classes.classes several l (type_of v)
+      → (typed_at scene k (asked_by several (Some l)) e).got ≡ Some v → (others : List ℕ) → Within k.names others → stands m locals init false others v ≡ true
+  value_stands k D es we true l a e w v r g others wi = row_stands k D es we l a e w v r (held_sorts l) refl g others wi
+  value_stands k D [] we false [] a e w v r g others wi = let clash = r.1 in absurd (cc)
+  value_stands k D [] we false (x ∷ l) a e w v r g others wi = absurd a
+  value_stands k D (t ∷ es) we false [] a e w v r g others wi = absurd a
+  value_stands k D (t ∷ es) we false (x ∷ []) a e w v r g others wi =
+      one_stands k D t (and_left (law.is_written t) (list_all law.is_written es) we) x a.here e w v (subst (λ z. binding_fault m.classes.classes (slot_of z) (type_of v) ≡ None) (sym (head_same r.1)) r.2) g others wi
+    where
+      head_same : {y : Aim} → x ∷ [] ≡ y ∷ [] → x ≡ y
+      head_same h = cc
+  value_stands k D (t ∷ es) we false (x ∷ y ∷ l) a e w v r g others wi = let clash = r.1 in absurd (cc)
+
+  -- of a type that a variable may have, where it is no None
+  pub stands_type : (others : List ℕ) (v : TypedExpr) → stands m locals init false others v ≡ true → is_nothing (type_of v) ≡ false → is_value_type (length m.classes.classes) (type_of v) ≡ true
+  stands_type others v h q = value_of_result (length m.classes.classes) (type_of v) (value_type m locals init false others v h) q
+
+  -- the parts of a tuple that stands
+  pub parts_type : (others : List ℕ) (v : TypedExpr) (ts : Sorts) → stands m locals init false others v ≡ true → type_of v ≡ sort.TupleOf ts → are_value_types (length m.classes.classes) ts ≡ true
+  parts_type others v ts h q =
+      third (nat_lt 0 (length (listed_sorts ts))) (nat_lt (length (listed_sorts ts)) 17) (are_value_types (length m.classes.classes) ts) (subst (λ s. is_result_type (length m.classes.classes) s ≡ true) q (value_type m locals init false others v h))

@@ -1,0 +1,421 @@
+-- Statements of which nothing is said are typed whole, and leave no name without a type.
+use Rattle.std.proofs.Common.{◌≡◌, ℕ, suc, Bool, true, false, List, [], ◌∷◌, length, Option, Some, None, refl, ap, sym, ◌∙◌, subst, if◌then◌else◌}
+use Rattle.std.proofs.lemmas.Option.{same_Some}
+use Rattle.std.proofs.lemmas.List.{length-map}
+use Rattle.std.specs.Prelude.{is_some}
+use Rattle.std.specs.Option.{option_map}
+use Rattle.py_syntax.specs.declared.token.Span.{Span}
+use Rattle.py_syntax.specs.declared.expression.BinOp.{BinOp}
+use Rattle.py_syntax.specs.Expressions as tree
+use Rattle.py_syntax.specs.Expressions.{ExprTree, at, Arguments}
+use Rattle.py_syntax.specs.Statements as node
+use Rattle.py_syntax.specs.Statements.{StmtTree, StmtNode, Suite, no_stmts, stmt_then, Arms, no_arms, arm_then}
+use Rattle.py_typed.specs.Sorts as sort
+use Rattle.py_typed.specs.Sorts.{Sort}
+use Rattle.py_typed.specs.Fits.{is_nothing}
+use Rattle.py_typed.specs.Expressions.{TypedExpr, TypedNode, type_of}
+use Rattle.py_typed.specs.Statements as act
+use Rattle.py_typed.specs.Statements.{TypedTarget, TypedAct, TypedStmt, TypedSuite, on_line, suite_of, arms_of}
+use Rattle.py_check_context.specs.declared.scope.Meaning.{Meaning}
+use Rattle.py_check_context.specs.declared.scope.Meaning.TheVariants as meaning
+use Rattle.py_check_context.specs.Context.{Context, VarSort, unset, untyped, has, VarSorts, var_at, Wanted, free, test, along}
+use Rattle.py_check_flow.specs.Bindings.{name_in}
+use Rattle.py_check_flow.specs.Closed.{is_closed}
+use Rattle.py_check_messages.specs.Seen.{Seen, Message, is, fails, both, behind, rule, made}
+use Rattle.py_check_messages.specs.Rows.{row_then}
+use Rattle.py_check_messages.specs.Messages.{no_target}
+use Rattle.py_check_annotations.specs.Annotations.{annotation}
+use Rattle.py_check_operators.specs.Values.{truth}
+use Rattle.py_check_operators.specs.Several.{with_part}
+use Rattle.py_check_operators.specs.Names.{variable, named}
+use Rattle.py_check_calls.specs.Callees.{has_key}
+use Rattle.py_check_calls.specs.Calls.{positional}
+use Rattle.py_check_expressions.specs.Typing.{arguments}
+use Rattle.py_check_values.specs.Returns as ret
+use Rattle.py_check_values.specs.Returns.{ReturnSort, bare_return, value_return, due}
+use Rattle.py_check_targets.specs.Places.{Known, is_unset, fix, is_bound, bind_variable, bind_name, bind_names, where_test, entering, Way, setting_out, behind_arm}
+use Rattle.py_check_targets.specs.Targets.{Aim, is_row, is_item, is_flat, leaves, target_names, name_aim, variable_aim, seen_aim, value_aim, read_aim, targets_of, assigned, declared, given, updated, typed_at, single_aim, aims}
+use Rattle.py_check_targets.specs.Assignments.{target_aims, value_for, assigns, bind_target, binds, declares, annotated_value, gives_value, annotates_name, annotates_other, annotates, binds_annotated, updates_one, updates_row, updates}
+use Rattle.py_check_loops.specs.Loops.{value, range_call, range_arguments, span_of, course_by, course, head, loop_of}
+use Rattle.py_check_loops.specs.Heads.{some_items, for_head, in_for}
+use Rattle.py_check_statements.specs.Bodies.{is_definition, condition, after, node_after, block_after, arms_after, return_wanted, returns, in_loop, statement, node_statement, block, branches}
+use Rattle.py_check_expressions_laws.specs.Laws.{is_voiceless, is_untyped, AllHaveTypes}
+use Rattle.py_check_expressions_laws.proofs.Inside.{either}
+use Rattle.py_check_expressions_laws.proofs.Loud.{IsLoud, loud_is, loud_fails, none_before, none_behind, both_say, loud_both, loud_made, loud_behind, loud_judged, loud_rule, loud_row, loud_positional, loud_typing, loud_arguments}
+use Rattle.py_check_laws.specs.Statements.{is_judged}
+use Rattle.py_check_laws.proofs.Given.{some_is, rule_given, both_given, made_given}
+use Rattle.py_check_laws.proofs.Kept.{fix_cases, is_open, bind_set}
+use Rattle.py_check_laws.proofs.Assigned.{single_bound, row_bound, name_no_row, aims_length, items_are, BoundTo, assigned_is, head_is}
+use Rattle.py_check_laws.proofs.Aims.{beyond}
+use Rattle.py_check_laws.proofs.Annotated.{loud_if, loud_annotation}
+
+-- ---- variables
+
+-- no variable is without a type for good
+pub record AllTyped (V : VarSorts) : Type 0 where
+  pub locals : (i : ℕ) → is_untyped (var_at V.locals i) ≡ false
+  pub globals : (i : ℕ) → is_untyped (var_at V.globals i) ≡ false
+
+typed_fix : (types : List VarSort) (i : ℕ) (v : VarSort) → ((j : ℕ) → is_untyped (var_at types j) ≡ false) → is_untyped v ≡ false → (j : ℕ) → is_untyped (var_at (fix types i v) j) ≡ false
+typed_fix types i v all h j = either (fix_cases types i j v) (λ e. ap is_untyped e ∙ all j) (λ e. ap is_untyped e.1 ∙ h)
+
+typed_variable : (k : Known) → AllTyped k.types → (m : Meaning) (t : Sort) → AllTyped (bind_variable true k m (Some t)).types
+typed_variable k all (meaning.Local i) t = record { locals = typed_fix k.types.locals i (has t) all.locals refl; globals = all.globals }
+typed_variable k all (meaning.Global i) t = record { locals = all.locals; globals = typed_fix k.types.globals i (has t) all.globals refl }
+typed_variable k all _ t = all
+
+-- ---- what is loud
+
+-- what is said of nothing is typed
+pub quiet_got : {A : Type 0} (s : Seen A) → IsLoud s → s.said ≡ [] → (a : A) × (s.got ≡ Some a)
+quiet_got {A = A} s l h = by s.got refl
+  where
+    by : (o : Option A) → s.got ≡ o → (a : A) × (s.got ≡ Some a)
+    by None q = absurd (l.says q h)
+    by (Some a) q = (a, q)
+
+loud_both_then : {A B : Type 0} (s : Seen A) (t : Seen B) → IsLoud s → (s.said ≡ [] → IsLoud t) → IsLoud (both s t)
+loud_both_then s t l next = record { says = λ e f. both_say s t l (next (none_before s.said t.said f)) s.got t.got refl refl e f }
+
+loud_then : {A : Type 0} (one : Seen A) (rest : Seen (List A)) → IsLoud one → (one.said ≡ [] → IsLoud rest) → IsLoud (row_then one rest)
+loud_then one rest l next = loud_made (λ p. p.0 ∷ p.1) (both one rest) (loud_both_then one rest l next)
+
+loud_seen : (o : Option Aim) → (o ≡ None → ⊥) → IsLoud (seen_aim o)
+loud_seen o n = record { says = λ e f. n e }
+
+loud_bare : (span : Span) (r : ReturnSort) → is_judged r ≡ true → IsLoud (bare_return span r)
+loud_bare span ret.outside h = loud_fails span _
+loud_bare span ret.untyped h = absurd (cc)
+loud_bare span (ret.gives t) h = loud_if (is_nothing t) (is tt) (fails span _) (loud_is tt) (loud_fails span _)
+
+variable_there : (t : TypedTarget) (x : List ℕ) (v : VarSort) → is_untyped v ≡ false → variable_aim t x v ≡ None → ⊥
+variable_there t x unset h e = cc
+variable_there t x untyped h e = absurd (cc)
+variable_there t x (has s) h e = cc
+
+aim_there : (k : Known) → AllTyped k.types → (x : List ℕ) (m : Meaning) → name_aim k x m ≡ None → ⊥
+aim_there k all x (meaning.Local i) e = variable_there (act.LocalTarget i) x (var_at k.types.locals i) (all.locals i) e
+aim_there k all x (meaning.Global i) e = variable_there (act.GlobalTarget i) x (var_at k.types.globals i) (all.globals i) e
+aim_there k all x _ e = cc
+
+loud_in_loop : (r : ReturnSort) (C : Context) (loops : Bool) (span : Span) (word : List ℕ) (a : TypedAct) → IsLoud (in_loop loops span word a)
+loud_in_loop r C true span word a = loud_is a
+loud_in_loop r C false span word a = loud_fails span _
+
+meaning_typed : (signatures : List (Option Rattle.py_typed.specs.Classes.Signature)) (m : Meaning) → is_voiceless signatures m ≡ false → Rattle.py_check_annotations.specs.Names.is_untyped m ≡ false
+meaning_typed signatures meaning.Untyped h = absurd (cc)
+meaning_typed signatures meaning.UntypedClass h = absurd (cc)
+meaning_typed signatures _ h = refl
+
+no_part : {A B : Type 0} (o : Option A) (span : Span) (m : Message) → (with_part {A = A} {B = B} o (λ q. fails span m)).got ≡ None
+no_part None span m = refl
+no_part (Some a) span m = refl
+
+-- ---- a name that is read
+
+variable_set : (span : Span) (x : List ℕ) (e : TypedNode) (b : Bool) (v : VarSort) (t : TypedExpr) → (variable span x e b v).got ≡ Some t → is_unset v ≡ false
+variable_set span x e b unset t h = absurd (cc)
+variable_set span x e b untyped t h = refl
+variable_set span x e b (has s) t h = refl
+
+named_set : (k : Known) (span : Span) (x : List ℕ) (m : Meaning) (t : TypedExpr) → (named k.types k.names span x m).got ≡ Some t → is_open k.types m ≡ false
+named_set k span x (meaning.Local i) t h = variable_set span x (Rattle.py_typed.specs.Expressions.Local i) (Rattle.py_typed.specs.Narrowing.is_in k.names i) (var_at k.types.locals i) t h
+named_set k span x (meaning.Global i) t h = variable_set span x (Rattle.py_typed.specs.Expressions.Global i) false (var_at k.types.globals i) t h
+named_set k span x _ t h = refl
+
+module _ (C : Context) where
+  pub read_set : (k : Known) (target : ExprTree) (x : List ℕ) → name_in target ≡ Some x → (t : TypedExpr) → (typed_at C k free target).got ≡ Some t → is_open k.types (C.meaning x) ≡ false
+  read_set k (at (tree.Name y) span) x h t g = ap (λ z. is_open k.types (C.meaning z)) (sym (same_Some y x h)) ∙ named_set k span y (C.meaning y) t g
+  read_set k _ x h t g = absurd (cc)
+
+  -- a binding of one target that is no tuple
+  pub definition_after : (k : Known) (s : StmtTree) → is_definition s ≡ true → after C k s ≡ k
+  definition_after k (node.at (node.Import m other) span) h = refl
+  definition_after k (node.at (node.From m names) span) h = refl
+  definition_after k (node.at (node.Def f params ret body marks) span) h = refl
+  definition_after k (node.at (node.ClassDef x bases body marks) span) h = refl
+  definition_after k _ h = absurd (cc)
+
+  pub bound_same : (k : Known) (target : ExprTree) (b : Bool) (o : Option Sort) (t : Sort) → b ≡ true → o ≡ Some t → bind_target C b k target o ≡ bind_target C true k target (Some t)
+  bound_same k target b o t p q = ap (λ (c : Bool). bind_target C c k target o) p ∙ ap (λ (s : Option Sort). bind_target C true k target s) q
+
+  -- ---- what is bound to typed parts has a type
+
+  typed_name : (k : Known) → AllTyped k.types → (x : Option (List ℕ)) (t : Sort) → AllTyped (bind_name C true k x (Some t)).types
+  typed_name k all None t = all
+  typed_name k all (Some x) t = typed_variable k all (C.meaning x) t
+
+  typed_names : (k : Known) → AllTyped k.types → (xs : List (Option (List ℕ))) (ts : List Sort) → length xs ≡ length ts → AllTyped (bind_names C true k xs ts).types
+  typed_names k all [] ts h = all
+  typed_names k all (x ∷ xs) [] h = absurd (cc)
+  typed_names k all (x ∷ xs) (t ∷ ts) h = typed_names (bind_name C true k x (Some t)) (typed_name k all x t) xs ts (one_less (length xs) (length ts) h)
+    where
+      one_less : (a b : ℕ) → suc a ≡ suc b → a ≡ b
+      one_less a b h = cc
+
+  typed_single : (k : Known) → AllTyped k.types → (target : ExprTree) (t : Sort) → is_row target ≡ false → AllTyped (bind_target C true k target (Some t)).types
+  typed_single k all target t h = subst (λ (l : Known). AllTyped l.types) (sym (single_bound C true k target (Some t) h)) (typed_name k all (name_in target) t)
+
+  typed_bound : (k : Known) → AllTyped k.types → (target : ExprTree) (l : List Aim) → length l ≡ length (leaves target) → (t : Sort) → BoundTo C.classes (is_row target) l t → AllTyped (bind_target C true k target (Some t)).types
+  typed_bound k all target l n t r = by (is_row target) refl r
+    where
+      by : (b : Bool) → is_row target ≡ b → BoundTo C.classes b l t → AllTyped (bind_target C true k target (Some t)).types
+      by false q r = typed_single k all target t q
+      by true q r =
+          let i = items_are t (length l) r.parts r.items in
+          subst (λ (l : Known). AllTyped l.types) (sym (row_bound C true k target t r.parts q (ap (Rattle.py_check_values.specs.Assignments.items_for t) (sym n) ∙ r.items))) (typed_names k all (target_names target) r.parts (length-map (leaves target) name_in ∙ sym n ∙ sym i.3))
+
+  module _ (names : (x : List ℕ) → is_voiceless C.signatures (C.meaning x) ≡ false) where
+    all_have : (V : VarSorts) → AllTyped V → AllHaveTypes C V
+    all_have V all = record { names = names; locals = all.locals; globals = all.globals }
+
+    meanings_typed : (x : List ℕ) → Rattle.py_check_annotations.specs.Names.is_untyped (C.meaning x) ≡ false
+    meanings_typed x = meaning_typed C.signatures (C.meaning x) (names x)
+
+    -- ---- parts
+
+    loud_value : (k : Known) → AllTyped k.types → (w : Wanted) (e : ExprTree) → IsLoud (typed_at C k w e)
+    loud_value k all w e = loud_typing C k.types (all_have k.types all) w k.names e
+
+    loud_single : (k : Known) → AllTyped k.types → (x : Option (List ℕ)) (e : ExprTree) → IsLoud (single_aim C k x e)
+    loud_single k all None e = loud_made (value_aim (is_item e)) (typed_at C k free e) (loud_value k all free e)
+    loud_single k all (Some x) e = loud_seen (name_aim k x (C.meaning x)) (aim_there k all x (C.meaning x))
+
+    loud_aims : (k : Known) → AllTyped k.types → (es : List ExprTree) → IsLoud (aims C k es)
+    loud_aims k all [] = loud_is []
+    loud_aims k all (e ∷ more) = loud_row (single_aim C k (name_in e) e) (aims C (beyond C k e) more) (loud_single k all (name_in e) e) (loud_aims (beyond C k e) all more)
+
+    loud_assigns : (k : Known) → AllTyped k.types → (span : Span) (target e : ExprTree) → IsLoud (assigns C k span target e)
+    loud_assigns k all span target e =
+        loud_rule span (assigned C.classes target) (both (target_aims C k target) (value_for C k target e)) (loud_both (target_aims C k target) (value_for C k target e) (loud_aims k all (leaves target)) (loud_value k all _ e))
+
+    loud_declares : (k : Known) → AllTyped k.types → (span : Span) (x : List ℕ) (mark : ExprTree) → IsLoud (declares C k span x mark)
+    loud_declares k all span x mark =
+        let a = seen_aim (name_aim k x (C.meaning x)) in
+        loud_rule span (declared x (is_bound k (C.meaning x))) (both a (annotation C.meaning mark)) (loud_both a (annotation C.meaning mark) (loud_seen (name_aim k x (C.meaning x)) (aim_there k all x (C.meaning x))) (loud_annotation C.meaning meanings_typed mark))
+
+    loud_gives : (k : Known) → AllTyped k.types → (span : Span) (x : List ℕ) (mark e : ExprTree) → IsLoud (gives_value C k span x mark e)
+    loud_gives k all span x mark e =
+        let a = seen_aim (name_aim k x (C.meaning x)) in
+        let b = both a (annotation C.meaning mark) in
+        loud_rule span (given C.classes x (is_bound k (C.meaning x))) (both b (annotated_value C k x e))
+        (loud_both b (annotated_value C k x e) (loud_both a (annotation C.meaning mark) (loud_seen (name_aim k x (C.meaning x)) (aim_there k all x (C.meaning x))) (loud_annotation C.meaning meanings_typed mark)) (loud_value k all _ e))
+
+    loud_annotates_name : (k : Known) → AllTyped k.types → (span : Span) (x : List ℕ) (mark : ExprTree) (e : Option ExprTree) → IsLoud (annotates_name C k span x mark e)
+    loud_annotates_name k all span x mark None = loud_declares k all span x mark
+    loud_annotates_name k all span x mark (Some e) = loud_gives k all span x mark e
+
+    loud_other : (k : Known) → AllTyped k.types → (span : Span) (target mark : ExprTree) (e : Option ExprTree) → IsLoud (annotates_other C k span target mark e)
+    loud_other k all span target mark None =
+        let a = both (target_aims C k target) (annotation C.meaning mark) in
+        loud_behind a (λ p. with_part p (λ q. fails span no_target)) (loud_both (target_aims C k target) (annotation C.meaning mark) (loud_aims k all (leaves target)) (loud_annotation C.meaning meanings_typed mark)) (λ q. loud_fails span no_target)
+    loud_other k all span target mark (Some e) =
+        let a = both (target_aims C k target) (annotation C.meaning mark) in
+        let b = both a (typed_at C k free e) in
+        loud_behind b (λ p. with_part p (λ q. fails span no_target))
+        (loud_both a (typed_at C k free e) (loud_both (target_aims C k target) (annotation C.meaning mark) (loud_aims k all (leaves target)) (loud_annotation C.meaning meanings_typed mark)) (loud_value k all free e)) (λ q. loud_fails span no_target)
+
+    other_never : (k : Known) (span : Span) (target mark : ExprTree) (e : Option ExprTree) → (annotates_other C k span target mark e).got ≡ None
+    other_never k span target mark None = no_part (both (target_aims C k target) (annotation C.meaning mark)).got span no_target
+    other_never k span target mark (Some e) = no_part (both (both (target_aims C k target) (annotation C.meaning mark)) (typed_at C k free e)).got span no_target
+
+    loud_annotates : (k : Known) → AllTyped k.types → (span : Span) (x : Option (List ℕ)) (target mark : ExprTree) (e : Option ExprTree) → IsLoud (annotates C k span x target mark e)
+    loud_annotates k all span None target mark e = loud_other k all span target mark e
+    loud_annotates k all span (Some x) target mark e = loud_annotates_name k all span x mark e
+
+    loud_row_update : (k : Known) → AllTyped k.types → (span : Span) (target e : ExprTree) → IsLoud (updates_row C k span target e)
+    loud_row_update k all span target e =
+        loud_behind (both (target_aims C k target) (typed_at C k free e)) (λ p. with_part p (λ q. fails span no_target)) (loud_both (target_aims C k target) (typed_at C k free e) (loud_aims k all (leaves target)) (loud_value k all free e)) (λ q. loud_fails span no_target)
+
+    loud_one_update : (k : Known) → AllTyped k.types → (span : Span) (target : ExprTree) (op : BinOp) (e : ExprTree) → IsLoud (updates_one C k span target op e)
+    loud_one_update k all span target op e =
+        loud_rule span (updated C.classes span op (read_aim C k (name_in target) (is_item target))) (both (typed_at C k free target) (typed_at C k free e)) (loud_both (typed_at C k free target) (typed_at C k free e) (loud_value k all free target) (loud_value k all free e))
+
+    loud_updates : (k : Known) → AllTyped k.types → (span : Span) (target : ExprTree) (op : BinOp) (e : ExprTree) → IsLoud (updates C k span target op e)
+    loud_updates k all span target op e = loud_if (is_row target) (updates_row C k span target e) (updates_one C k span target op e) (loud_row_update k all span target e) (loud_one_update k all span target op e)
+
+    loud_course : (k : Known) → AllTyped k.types → (o : Option Arguments) (e : ExprTree) → IsLoud (course_by C k o e)
+    loud_course k all None e = loud_made value (typed_at C k free e) (loud_value k all free e)
+    loud_course k all (Some args) e =
+        loud_rule (span_of e) (range_call C.classes) (behind (arguments C k.types (along []) 0 k.names args) (positional (span_of e) (has_key args)))
+        (loud_behind (arguments C k.types (along []) 0 k.names args) (positional (span_of e) (has_key args)) (loud_arguments C k.types (all_have k.types all) (along []) 0 k.names args) (λ es. loud_positional (span_of e) (has_key args) es))
+
+    loud_head : (k : Known) → AllTyped k.types → (span : Span) (target e : ExprTree) → IsLoud (for_head C k span target e)
+    loud_head k all span target e =
+        let parts = both (target_aims C k target) (course C k e) in
+        loud_made (λ p. (targets_of p.0, p.1)) (rule span (head C.classes (is_flat target) (is_row target)) parts)
+        (loud_rule span (head C.classes (is_flat target) (is_row target)) parts (loud_both (target_aims C k target) (course C k e) (loud_aims k all (leaves target)) (loud_course k all (range_arguments C e) e)))
+
+    loud_condition : (k : Known) → AllTyped k.types → (e : ExprTree) → IsLoud (condition C k e)
+    loud_condition k all e = loud_made truth (typed_at C k test e) (loud_value k all test e)
+
+    -- ---- what is bound where nothing is said
+
+    quiet_assign : (k : Known) → AllTyped k.types → (span : Span) (target e : ExprTree) → (assigns C k span target e).said ≡ [] → AllTyped (binds C k span target e).types
+    quiet_assign k all span target e h =
+        let g = quiet_got (assigns C k span target e) (loud_assigns k all span target e) h in
+        let r = rule_given span (assigned C.classes target) (both (target_aims C k target) (value_for C k target e)) g.0 g.1 in
+        let b = both_given (target_aims C k target) (value_for C k target e) r.0 r.1 in
+        let a = assigned_is C.classes target r.0 g.0 r.2 in
+        subst (λ (l : Known). AllTyped l.types) (sym (bound_same k target (is_some (assigns C k span target e).got) (option_map type_of (value_for C k target e).got) (type_of r.0.1) (some_is (assigns C k span target e).got g.0 g.1) (ap (option_map type_of) b.1)))
+        (typed_bound k all target r.0.0 (aims_length C k (leaves target) r.0.0 b.0) (type_of r.0.1) a.bound)
+
+    quiet_name : (k : Known) → AllTyped k.types → (span : Span) (x : List ℕ) (target mark : ExprTree) (e : Option ExprTree) → name_in target ≡ Some x → (annotates_name C k span x mark e).said ≡ [] → AllTyped (binds_annotated C k span (Some x) target mark e).types
+    quiet_name k all span x target mark None n h =
+        let g = quiet_got (declares C k span x mark) (loud_declares k all span x mark) h in
+        subst (λ (l : Known). AllTyped l.types) (sym (bound_same k target (is_some (declares C k span x mark).got) (Some sort.Nothing) sort.Nothing (some_is (declares C k span x mark).got g.0 g.1) refl)) (typed_single k all target sort.Nothing (name_no_row target x n))
+    quiet_name k all span x target mark (Some e) n h =
+        let s = gives_value C k span x mark e in
+        let g = quiet_got s (loud_gives k all span x mark e) h in
+        let parts = both (seen_aim (name_aim k x (C.meaning x))) (annotation C.meaning mark) in
+        let r = rule_given span (given C.classes x (is_bound k (C.meaning x))) (both parts (annotated_value C k x e)) g.0 g.1 in
+        let b = both_given parts (annotated_value C k x e) r.0 r.1 in
+        subst (λ (l : Known). AllTyped l.types) (sym (bound_same k target (is_some s.got) (option_map type_of (annotated_value C k x e).got) (type_of r.0.1) (some_is s.got g.0 g.1) (ap (option_map type_of) b.1))) (typed_single k all target (type_of r.0.1) (name_no_row target x n))
+
+    quiet_annotated : (k : Known) → AllTyped k.types → (span : Span) (x : Option (List ℕ)) (target mark : ExprTree) (e : Option ExprTree) → name_in target ≡ x → (annotates C k span x target mark e).said ≡ [] → AllTyped (binds_annotated C k span x target mark e).types
+    quiet_annotated k all span None target mark e n h = absurd ((loud_other k all span target mark e).says (other_never k span target mark e) h)
+    quiet_annotated k all span (Some x) target mark e n h = quiet_name k all span x target mark e n h
+
+    kept_name : (k : Known) → AllTyped k.types → (x : Option (List ℕ)) → ((y : List ℕ) → x ≡ Some y → is_open k.types (C.meaning y) ≡ false) → AllTyped (bind_name C false k x None).types
+    kept_name k all None h = all
+    kept_name k all (Some x) h = subst AllTyped (sym (bind_set false k (C.meaning x) None (h x refl))) all
+
+    quiet_one : (k : Known) → AllTyped k.types → (span : Span) (target : ExprTree) (op : BinOp) (e : ExprTree) → is_row target ≡ false → (updates_one C k span target op e).said ≡ [] → AllTyped (bind_target C false k target None).types
+    quiet_one k all span target op e n h =
+        let g = quiet_got (updates_one C k span target op e) (loud_one_update k all span target op e) h in
+        let r = rule_given span (updated C.classes span op (read_aim C k (name_in target) (is_item target))) (both (typed_at C k free target) (typed_at C k free e)) g.0 g.1 in
+        let b = both_given (typed_at C k free target) (typed_at C k free e) r.0 r.1 in
+        subst (λ (l : Known). AllTyped l.types) (sym (single_bound C false k target None n)) (kept_name k all (name_in target) (λ y q. read_set k target y q r.0.0 b.0))
+
+    quiet_update : (k : Known) → AllTyped k.types → (span : Span) (target : ExprTree) (op : BinOp) (e : ExprTree) → (updates C k span target op e).said ≡ [] → AllTyped (bind_target C false k target None).types
+    quiet_update k all span target op e h = by (is_row target) refl h
+      where
+        by : (b : Bool) → is_row target ≡ b → (if b then updates_row C k span target e else updates_one C k span target op e).said ≡ [] → AllTyped (bind_target C false k target None).types
+        by true q f = absurd ((loud_row_update k all span target e).says (no_part (both (target_aims C k target) (typed_at C k free e)).got span no_target) f)
+        by false q f = quiet_one k all span target op e q f
+
+    quiet_head : (k : Known) → AllTyped k.types → (s : StmtTree) (span : Span) (target e : ExprTree) → (for_head C k span target e).said ≡ [] → AllTyped (in_for C k s span target e).types
+    quiet_head k all s span target e h =
+        let hd = for_head C k span target e in
+        let g = quiet_got hd (loud_head k all span target e) h in
+        let parts = both (target_aims C k target) (course C k e) in
+        let m = made_given (λ p. (targets_of p.0, p.1)) (rule span (head C.classes (is_flat target) (is_row target)) parts) g.0 g.1 in
+        let r = rule_given span (head C.classes (is_flat target) (is_row target)) parts m.0 m.1 in
+        let b = both_given (target_aims C k target) (course C k e) r.0 r.1 in
+        let d = head_is C.classes target r.0 m.0 r.2 in
+        let l = entering C k s in
+        subst (λ (z : Known). AllTyped z.types) (sym (bound_same l target (is_some hd.got) (some_items (course C k e).got) d.0.item (some_is hd.got g.0 g.1) (ap some_items b.1 ∙ d.0.items)))
+        (typed_bound l all target r.0.0 (aims_length C k (leaves target) r.0.0 b.0) d.0.item d.0.bound)
+
+    -- ---- statements
+
+    quiet_step : (k : Known) (s : StmtTree) (more : Suite) (one two : Seen (List TypedStmt)) (b : Bool) → is_definition s ≡ b → (one.said ≡ [] → AllTyped (block_after C k more).types) → (two.said ≡ [] → AllTyped (block_after C (after C k s) more).types) → (if b then one else two).said ≡ []
+        → AllTyped (block_after C (after C k s) more).types
+    quiet_step k s more one two true q f g h = subst (λ (l : Known). AllTyped (block_after C l more).types) (sym (definition_after k s q)) (f h)
+    quiet_step k s more one two false q f g h = g h
+
+    module _ (r : ReturnSort) (judged : is_judged r ≡ true) where
+      loud_value_return : (span : Span) (v : TypedExpr) (s : ReturnSort) → is_judged s ≡ true → IsLoud (value_return C.classes span s v)
+      loud_value_return span v ret.outside h = loud_fails span _
+      loud_value_return span v ret.untyped h = absurd (cc)
+      loud_value_return span v (ret.gives t) h = loud_judged span (due C.classes t v)
+
+      loud_returns : (k : Known) → AllTyped k.types → (span : Span) (e : Option ExprTree) → IsLoud (returns C r k span e)
+      loud_returns k all span None = loud_made (λ u. act.Return None) (bare_return span r) (loud_bare span r judged)
+      loud_returns k all span (Some e) =
+          loud_made (λ v. act.Return (Some v)) (behind (typed_at C k (return_wanted r) e) (λ p. with_part p (value_return C.classes span r)))
+          (loud_behind (typed_at C k (return_wanted r) e) (λ p. with_part p (value_return C.classes span r)) (loud_value k all (return_wanted r) e) (λ v. loud_value_return span v r judged))
+
+      mutual
+        loud_stmt : (loops : Bool) (k : Known) → AllTyped k.types → (s : StmtTree) → IsLoud (statement C r loops k s)
+        loud_stmt loops k all (node.at n span) = loud_made (λ a. on_line a span.line) (node_statement C r loops k span n) (loud_node loops k all span n)
+
+        loud_node : (loops : Bool) (k : Known) → AllTyped k.types → (span : Span) (n : StmtNode) → IsLoud (node_statement C r loops k span n)
+        loud_node loops k all span (node.Do e) = loud_made act.Do (typed_at C k _ e) (loud_value k all _ e)
+        loud_node loops k all span (node.Assign target e) = loud_assigns k all span target e
+        loud_node loops k all span (node.Annot target mark e) = loud_annotates k all span (name_in target) target mark e
+        loud_node loops k all span (node.Aug target op e) = loud_updates k all span target op e
+        loud_node loops k all span (node.Return e) = loud_returns k all span e
+        loud_node loops k all span node.Pass = loud_is act.Pass
+        loud_node loops k all span (node.Global names) = loud_is act.Pass
+        loud_node loops k all span node.Break = loud_in_loop r C loops span _ act.Break
+        loud_node loops k all span node.Continue = loud_in_loop r C loops span _ act.Continue
+        loud_node loops k all span (node.If arms other) =
+            let w = arms_after C (setting_out k) arms in
+            let s = branches C r loops (setting_out k) arms in
+            let t = block C r loops w.at other in
+            loud_made (λ p. act.If (arms_of p.0) (suite_of p.1)) (both s t) (loud_both_then s t (loud_arms loops (setting_out k) all arms) (λ q. loud_block loops w.at (quiet_arms loops (setting_out k) all arms q) other))
+        loud_node loops k all span (node.While e body) =
+            let l = entering C k (node.at (node.While e body) span) in
+            let s = condition C l e in
+            let t = block C r true (where_test C l true e) body in
+            loud_made (λ p. act.While p.0 (suite_of p.1)) (both s t) (loud_both s t (loud_condition l all e) (loud_block true (where_test C l true e) all body))
+        loud_node loops k all span (node.For target e body) =
+            let here = node.at (node.For target e body) span in
+            let s = for_head C k span target e in
+            let l = in_for C k here span target e in
+            let t = block C r true l body in
+            loud_made (λ p. loop_of p.0.0 p.0.1 (suite_of p.1)) (both s t) (loud_both_then s t (loud_head k all span target e) (λ q. loud_block true l (quiet_head k all here span target e q) body))
+        loud_node loops k all span _ = loud_fails span _
+
+        pub loud_block : (loops : Bool) (k : Known) → AllTyped k.types → (body : Suite) → IsLoud (block C r loops k body)
+        loud_block loops k all no_stmts = loud_is []
+        loud_block loops k all (stmt_then s more) =
+            let one = statement C r loops k s in
+            let rest = block C r loops (after C k s) more in
+            loud_if (is_definition s) (block C r loops k more) (row_then one rest) (loud_block loops k all more) (loud_then one rest (loud_stmt loops k all s) (λ q. loud_block loops (after C k s) (quiet_stmt loops k all s q) more))
+
+        loud_arms : (loops : Bool) (w : Way) → AllTyped w.at.types → (arms : Arms) → IsLoud (branches C r loops w arms)
+        loud_arms loops w all no_arms = loud_is []
+        loud_arms loops w all (arm_then e body more) =
+            let s = condition C w.at e in
+            let l = where_test C w.at true e in
+            let t = block C r loops l body in
+            let next = behind_arm C w e (is_closed body) (block_after C l body) in
+            let one = made (λ p. (p.0, suite_of p.1)) (both s t) in
+            loud_then one (branches C r loops next more) (loud_made (λ p. (p.0, suite_of p.1)) (both s t) (loud_both s t (loud_condition w.at all e) (loud_block loops l all body)))
+            (λ q. loud_arms loops next (quiet_block loops l all body (none_behind s.said t.said q)) more)
+
+        quiet_stmt : (loops : Bool) (k : Known) → AllTyped k.types → (s : StmtTree) → (statement C r loops k s).said ≡ [] → AllTyped (after C k s).types
+        quiet_stmt loops k all (node.at n span) h = quiet_node loops k all span n h
+
+        quiet_node : (loops : Bool) (k : Known) → AllTyped k.types → (span : Span) (n : StmtNode) → (node_statement C r loops k span n).said ≡ [] → AllTyped (node_after C k span n).types
+        quiet_node loops k all span (node.Assign target e) h = quiet_assign k all span target e h
+        quiet_node loops k all span (node.Annot target mark e) h = quiet_annotated k all span (name_in target) target mark e refl h
+        quiet_node loops k all span (node.Aug target op e) h = quiet_update k all span target op e h
+        quiet_node loops k all span (node.If arms other) h =
+            let w = arms_after C (setting_out k) arms in
+            let s = branches C r loops (setting_out k) arms in
+            let t = block C r loops w.at other in
+            quiet_block loops w.at (quiet_arms loops (setting_out k) all arms (none_before s.said t.said h)) other (none_behind s.said t.said h)
+        quiet_node loops k all span (node.While e body) h =
+            let l = entering C k (node.at (node.While e body) span) in
+            let s = condition C l e in
+            let t = block C r true (where_test C l true e) body in
+            quiet_block true (where_test C l true e) all body (none_behind s.said t.said h)
+        quiet_node loops k all span (node.For target e body) h =
+            let here = node.at (node.For target e body) span in
+            let s = for_head C k span target e in
+            let l = in_for C k here span target e in
+            let t = block C r true l body in
+            quiet_block true l (quiet_head k all here span target e (none_before s.said t.said h)) body (none_behind s.said t.said h)
+        quiet_node loops k all span _ h = all
+
+        pub quiet_block : (loops : Bool) (k : Known) → AllTyped k.types → (body : Suite) → (block C r loops k body).said ≡ [] → AllTyped (block_after C k body).types
+        quiet_block loops k all no_stmts h = all
+        quiet_block loops k all (stmt_then s more) h =
+            let one = statement C r loops k s in
+            let rest = block C r loops (after C k s) more in
+            quiet_step k s more (block C r loops k more) (row_then one rest) (is_definition s) refl (λ q. quiet_block loops k all more q)
+            (λ q. quiet_block loops (after C k s) (quiet_stmt loops k all s (none_before one.said rest.said q)) more (none_behind one.said rest.said q)) h
+
+        quiet_arms : (loops : Bool) (w : Way) → AllTyped w.at.types → (arms : Arms) → (branches C r loops w arms).said ≡ [] → AllTyped (arms_after C w arms).at.types
+        quiet_arms loops w all no_arms h = all
+        quiet_arms loops w all (arm_then e body more) h =
+            let s = condition C w.at e in
+            let l = where_test C w.at true e in
+            let t = block C r loops l body in
+            let next = behind_arm C w e (is_closed body) (block_after C l body) in
+            let one : Seen (TypedExpr × TypedSuite) = made (λ p. (p.0, suite_of p.1)) (both s t) in
+            let rest = branches C r loops next more in
+            quiet_arms loops next (quiet_block loops l all body (none_behind s.said t.said (none_before one.said rest.said h))) more (none_behind one.said rest.said h)

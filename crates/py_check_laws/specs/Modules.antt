@@ -1,0 +1,93 @@
+-- What holds of the typing of every module.
+use Rattle.std.specs.Prelude.{◌≡◌, ℕ, suc, Bool, true, false, ◌&&◌, List, [], ◌∷◌, ◌++◌, map, Some, None, is_some}
+use Rattle.std.specs.List.{list_all}
+use Rattle.py_syntax.specs.Statements.{Suite}
+use Rattle.py_binder.specs.Scope.{module_scope, functions}
+use Rattle.py_typed.specs.Statements.{TypedFunc, TypedModule}
+use Rattle.py_typed.specs.WellTyped.{suite_typed, all_differ}
+use Rattle.py_typed.specs.WellTypedModule.{is_well_typed}
+use Rattle.py_typed.specs.WellTypedExpr.{init_class}
+use Rattle.py_check_context.specs.Context.{VarSort, has, var_at}
+use Rattle.py_check_names.specs.Meanings.{variables, own_names}
+use Rattle.py_check_signatures.specs.Headers.{signature_of}
+use Rattle.py_check.specs.Definitions.{Headed, headed_functions}
+use Rattle.py_check.specs.Module.{Environment, context_in, own_statements, body, body_after, sorts_behind, sorts_behind_all, global_sorts, environment, diagnostics, typed}
+use Rattle.py_check_laws.specs.WellTyped.{is_suite_written, is_filled}
+
+-- the signature of each function, what it returns and its body have a typed form
+abbrev pub are_typed : Environment → List VarSort → List Headed → Bool
+are_typed e sorts [] = true
+are_typed e sorts (f ∷ more) =
+    is_some (signature_of f.header) && is_some f.header.ret && is_some (body (context_in e f.inside) e.variables sorts f).got
+    && are_typed e (sorts_behind e sorts f) more
+
+-- and so have the module's own statements
+abbrev pub is_typed_whole : Suite → Bool
+is_typed_whole m =
+    is_some (own_statements (context_in (environment m) (module_scope m)) (environment m).variables m).got
+    && are_typed (environment m) (global_sorts (environment m) (module_scope m) (headed_functions m) m) (headed_functions m)
+
+-- where nothing is said of a module, no part of its typed tree stands for what has no typed form
+abbrev pub QuietModuleIsTyped : Type 0
+QuietModuleIsTyped = (m : Suite) → diagnostics m ≡ [] → is_typed_whole m ≡ true
+
+-- ---- variables
+
+abbrev pub has_type : VarSort → Bool
+has_type (has t) = true
+has_type v = false
+
+-- each of the variables from this number on
+abbrev pub all_have_types : List VarSort → ℕ → List (List ℕ) → Bool
+all_have_types types i [] = true
+all_have_types types i (name ∷ more) = has_type (var_at types i) && all_have_types types (suc i) more
+
+-- the variables of functions, behind their bodies
+abbrev pub are_own_typed : Environment → List VarSort → List Headed → Bool
+are_own_typed e sorts [] = true
+are_own_typed e sorts (f ∷ more) =
+    all_have_types (body_after (context_in e f.inside) e.variables sorts f).types.locals 0 (own_names f.inside) && are_own_typed e (sorts_behind e sorts f) more
+
+-- and those of the module, behind all
+abbrev pub are_variables_typed : Suite → Bool
+are_variables_typed m =
+    all_have_types (sorts_behind_all (environment m) (global_sorts (environment m) (module_scope m) (headed_functions m) m) (headed_functions m)) 0 (environment m).variables
+    && are_own_typed (environment m) (global_sorts (environment m) (module_scope m) (headed_functions m) m) (headed_functions m)
+
+-- where nothing is said of a module, each of its variables has a type, and each variable of its functions has one
+abbrev pub QuietModuleTypesVariables : Type 0
+QuietModuleTypesVariables = (m : Suite) → diagnostics m ≡ [] → are_variables_typed m ≡ true
+
+-- ---- what is typed is well typed
+
+-- statements that a text can write, in the module and in its functions
+abbrev pub is_module_written : Suite → Bool
+is_module_written m = is_suite_written m && list_all (λ f. is_suite_written f.body) (functions m)
+
+abbrev pub body_stands : TypedModule → TypedFunc → Bool
+body_stands m f = suite_typed m f.locals (init_class f) (Some f.ret) [] false false f.body
+
+abbrev pub statements_stand : TypedModule → Bool
+statements_stand m = suite_typed m [] None None [] false false m.top && list_all (body_stands m) m.funcs
+
+-- where nothing is said of a module, its own statements and the bodies of its functions are well typed in its typed tree
+abbrev pub QuietModuleStands : Type 0
+QuietModuleStands = (m : Suite) → diagnostics m ≡ [] → is_module_written m ≡ true → statements_stand (typed m) ≡ true
+
+-- ---- names
+
+-- where nothing is said of a module, its variables and its functions have names that differ
+abbrev pub QuietModuleNamesDiffer : Type 0
+QuietModuleNamesDiffer = (m : Suite) → diagnostics m ≡ [] → all_differ (variables (module_scope m) ++ map (λ f. f.name) (functions m)) ≡ true
+
+-- ---- the whole
+
+-- names that a text can write, and bodies that are not empty
+abbrev pub are_names_written : (List ℕ → Bool) → Suite → Bool
+are_names_written is_identifier m =
+    list_all is_identifier (variables (module_scope m))
+    && list_all (λ f. is_identifier f.tree.name && list_all is_identifier (own_names f.inside) && is_filled f.tree.body) (headed_functions m)
+
+-- where nothing is said of a module that a text can write, its typed tree is a well typed module
+abbrev pub QuietModuleIsWellTyped : Type 0
+QuietModuleIsWellTyped = (is_identifier : List ℕ → Bool) (m : Suite) → diagnostics m ≡ [] → is_module_written m ≡ true → are_names_written is_identifier m ≡ true → is_well_typed is_identifier (typed m) ≡ true

@@ -1,0 +1,8 @@
+use Rattle.std.proofs.Common.{◌∙◌, append_assoc}
+use Rattle.py_check_messages.specs.Messages.{no_common_type}
+use Rattle.py_check_messages.proofs.SayLemmas.{said}
+use Rattle.py_check_messages.proofs.expressions.no_common_type.Goals as goal
+
+pub returns : goal.returns
+unfolding no_common_type
+returns c = said _ _ _ _ _ _ _ c.say.ensures (c.in_ok-text.ensures.ok ∙ simp (append_assoc, c.in_ok-s.ensures, c.in_ok-t.ensures))

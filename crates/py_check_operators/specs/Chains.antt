@@ -1,0 +1,69 @@
+-- Chains of comparisons (Python Language Reference, "Comparisons").
+--
+-- Each operand is compared with the next one. `is` and `is not` are only for the literal `None` on the right; `in` and
+-- `not in` ask for a dict on the right whose key type the left one fits; the others take two numbers or two texts. Each pair
+-- that breaks its rule has a diagnostic of its own, and all of these stand at the chain.
+use Rattle.std.specs.Prelude.{ℕ, Bool, true, false, ◌||◌, List, [], ◌∷◌, ◌++◌, codes, if◌then◌else◌}
+use Rattle.py_syntax.specs.declared.token.Span.{Span}
+use Rattle.py_syntax.specs.declared.expression.CmpOp.{CmpOp}
+use Rattle.py_syntax.specs.declared.expression.CmpOp.TheVariants.{Eq, Ne, Lt, Le, Gt, Ge, Member, NotMember, Is, IsNot}
+use Rattle.py_typed.specs.Sorts.{Sort}
+use Rattle.py_typed.specs.Sorts as sort
+use Rattle.py_typed.specs.Classes.{ClassEntry}
+use Rattle.py_typed.specs.Fits.{fits}
+use Rattle.py_typed.specs.Expressions as node
+use Rattle.py_typed.specs.Expressions.{TypedExpr, typed, type_of, comparisons_of}
+use Rattle.py_typed.specs.WellTypedExpr.{are_texts, are_numbers, is_none_literal}
+use Rattle.py_check_messages.specs.Seen.{Message}
+use Rattle.py_check_messages.specs.Messages.{unsupported_operands, only_for_none}
+use Rattle.py_check_operators.specs.Several.{fault_unless}
+
+abbrev pub comparison_text : CmpOp → List ℕ
+comparison_text Eq = codes "=="
+comparison_text Ne = codes "!="
+comparison_text Lt = codes "<"
+comparison_text Le = codes "<="
+comparison_text Gt = codes ">"
+comparison_text Ge = codes ">="
+comparison_text Member = codes "in"
+comparison_text NotMember = codes "not in"
+comparison_text Is = codes "is"
+comparison_text IsNot = codes "is not"
+
+abbrev pub is_identity : CmpOp → Bool
+is_identity Is = true
+is_identity IsNot = true
+is_identity o = false
+
+abbrev pub is_membership : CmpOp → Bool
+is_membership Member = true
+is_membership NotMember = true
+is_membership o = false
+
+-- both numbers, or both texts
+abbrev pub are_ordered : Sort → Sort → Bool
+are_ordered s t = are_numbers s t || are_texts s t
+
+-- a value that fits the key type of a dict
+abbrev pub is_key_for : List ClassEntry → Sort → Sort → Bool
+is_key_for classes s (sort.DictOf k t) = fits classes s k
+is_key_for classes s t = false
+
+abbrev pub are_comparable : List ClassEntry → CmpOp → Sort → Sort → Bool
+are_comparable classes o s t = if is_membership o then is_key_for classes s t else are_ordered s t
+
+-- of a value of a type with the operand behind it
+abbrev pub pair_faults : List ClassEntry → Sort → CmpOp → TypedExpr → List Message
+pair_faults classes s o b =
+    if is_identity o then fault_unless (is_none_literal b) only_for_none
+    else fault_unless (are_comparable classes o s (type_of b)) (unsupported_operands classes (comparison_text o) s (type_of b))
+
+abbrev pub chain_faults : List ClassEntry → Sort → List (CmpOp × TypedExpr) → List Message
+chain_faults classes s [] = []
+chain_faults classes s (p ∷ ps) = pair_faults classes s p.0 p.1 ++ chain_faults classes (type_of p.1) ps
+
+abbrev pub faults_of : List ClassEntry → TypedExpr × List (CmpOp × TypedExpr) → List Message
+faults_of classes p = chain_faults classes (type_of p.0) p.1
+
+abbrev pub chain : Span → TypedExpr × List (CmpOp × TypedExpr) → TypedExpr
+chain span p = typed (node.Compare p.0 (comparisons_of p.1)) sort.Bool span

@@ -1,0 +1,72 @@
+-- Definitions with their signatures and faults.
+use Rattle.std.proofs.Common.{◌≡◌, ℕ, true, false, List, [], ◌∷◌, Option, Some, None, map, refl, codes}
+use Rattle.py_syntax.specs.declared.token.Span.{Span}
+use Rattle.py_syntax.specs.Expressions as e
+use Rattle.py_syntax.specs.Expressions.{ExprTree}
+use Rattle.py_syntax.specs.Statements.{FuncTree, Suite, at, Pass, Return, suite_of}
+use Rattle.py_typed.specs.Sorts as sort
+use Rattle.py_check_context.specs.declared.scope.Meaning.{Meaning}
+use Rattle.py_check_context.specs.declared.scope.Meaning.TheVariants.{Untyped}
+use Rattle.py_check_messages.specs.Messages as message
+use Rattle.py_check_signatures.specs.Headers.{header, signature_of}
+use Rattle.py_check_signatures.specs.Definitions.{def_fault, def_said}
+
+abbrev place : Span
+place = record { line = 1; col = 1 }
+
+abbrev none_mark : Option ExprTree
+none_mark = Some (e.at e.Nothing place)
+
+abbrev word : List ℕ → Option ExprTree
+word x = Some (e.at (e.Name x) place)
+
+abbrev passes : Suite
+passes = suite_of (at Pass place ∷ [])
+
+abbrev def : List (List ℕ) → Option ExprTree → Suite → FuncTree
+def names ret body = record {
+  name = codes "f";
+  params = map (λ x. (x, word (codes "t"))) names;
+  ret = ret;
+  body = body;
+  marks = [];
+}
+
+-- the name stands before what else is wrong
+defined_before : def_fault false 1 (def (codes "x" ∷ codes "x" ∷ []) None passes) None ≡ Some (message.already_defined (codes "f"))
+defined_before = refl
+
+twice : def_fault true 1 (def (codes "x" ∷ codes "y" ∷ codes "x" ∷ codes "y" ∷ []) None passes) None ≡ Some (message.duplicate_parameter (codes "x"))
+twice = refl
+
+of_a_builtin : def_fault true 1 (def (codes "x" ∷ codes "len" ∷ []) None passes) None ≡ Some (message.cannot_assign (codes "len"))
+of_a_builtin = refl
+
+unannotated : def_fault true 1 (def (codes "x" ∷ []) None passes) None ≡ Some message.missing_annotation
+unannotated = refl
+
+too_many : def_fault true 101 (def (codes "x" ∷ []) none_mark passes) (Some sort.Nothing) ≡ Some (message.too_many_names (codes "f"))
+too_many = refl
+
+hundred : def_fault true 100 (def (codes "x" ∷ []) none_mark passes) (Some sort.Nothing) ≡ None
+hundred = refl
+
+open_end : def_fault true 1 (def (codes "x" ∷ []) (word (codes "t")) passes) (Some sort.Int) ≡ Some message.missing_return
+open_end = refl
+
+closed : def_fault true 1 (def (codes "x" ∷ []) (word (codes "t")) (suite_of (at (Return None) place ∷ []))) (Some sort.Int) ≡ None
+closed = refl
+
+-- an annotation without a type: no signature, and nothing of the definition's own
+abbrev nothing_typed : List ℕ → Meaning
+nothing_typed x = Untyped
+
+no_signature : signature_of (header nothing_typed (def (codes "x" ∷ []) none_mark passes)) ≡ None
+no_signature = refl
+
+nothing_said : def_said place false 1 (def (codes "x" ∷ []) none_mark passes) (header nothing_typed (def (codes "x" ∷ []) none_mark passes)) ≡ []
+nothing_said = refl
+
+-- without parameters
+plain : signature_of (header nothing_typed (def [] none_mark passes)) ≡ Some (record { params = []; ret = sort.Nothing })
+plain = refl

@@ -1,0 +1,59 @@
+use Rattle.std.proofs.Common.{◌≡◌, ◌+◌, ◌*◌, max, map, drop}
+use Rattle.std.specs.Option.{option_map}
+use Rattle.py_syntax.specs.Statements.{arms_of, arm_tree, body_tree}
+use Rattle.py_typed.specs.Statements.{typed_stmt, typed_arm}
+use Rattle.py_check_context.specs.Context.{context}
+use Rattle.py_check_messages.proofs.RowLemmas.{Remains}
+use Rattle.py_check_values.specs.Returns.{return_sort}
+use Rattle.py_check_targets.specs.Places.{setting_out}
+use Rattle.py_check_targets.specs.Views.{known_at}
+use Rattle.py_check_statements.specs.Bodies.{block, block_after, branches, arms_after}
+use Rattle.py_check_statements.specs.Views.{way}
+use denote.Param.Weighed.{most}
+use Rattle.py_syntax.specs.declared.statement.Stmt.{size-Stmt}
+use Rattle.py_check_statements.proofs.SizeLemmas.{arm_size}
+use Rattle.py_check_statements.proofs.blocks.+statement.Given as goal
+
+abbrev pub decreases-statement : goal.decreases-statement
+decreases-statement l = size-Stmt l.s.now * 6 + 1
+
+abbrev pub decreases-act : goal.decreases-act
+decreases-act l = size-Stmt l.s.now * 6
+
+abbrev pub decreases-conditional : goal.decreases-conditional
+decreases-conditional l = max (most arm_size l.arms.now) (most size-Stmt l.other.now) * 6 + 5
+
+abbrev pub decreases-branches : goal.decreases-branches
+decreases-branches l = most arm_size l.arms.now * 6 + 4
+
+abbrev pub decreases-while_loop : goal.decreases-while_loop
+decreases-while_loop l = most size-Stmt l.body.now * 6 + 4
+
+abbrev pub decreases-for_loop : goal.decreases-for_loop
+decreases-for_loop l = most size-Stmt l.body.now * 6 + 4
+
+abbrev pub decreases-guarded : goal.decreases-guarded
+decreases-guarded l = most size-Stmt l.body.now * 6 + 3
+
+abbrev pub decreases-block : goal.decreases-block
+decreases-block l = most size-Stmt l.body.now * 6 + 2
+
+abbrev pub invariant-block-loop-s : goal.invariant-block-loop-s
+invariant-block-loop-s l = record {
+  row :
+      Remains (option_map (map typed_stmt) l.found) l.fn.faults l.faults
+      (block (context l.scope) (return_sort l.returns) l.loops (known_at l.fn.place) (body_tree l.body))
+      (block (context l.scope) (return_sort l.returns) l.loops (known_at l.place) (body_tree (drop l.s-index l.body)));
+  known : block_after (context l.scope) (known_at l.fn.place) (body_tree l.body) ≡ block_after (context l.scope) (known_at l.place) (body_tree (drop l.s-index l.body));
+}
+
+abbrev pub invariant-branches-loop-e : goal.invariant-branches-loop-e
+invariant-branches-loop-e l = record {
+  row :
+      Remains (option_map (map typed_arm) l.found) l.fn.faults l.faults
+      (branches (context l.scope) (return_sort l.returns) l.loops (setting_out (known_at l.fn.place)) (arms_of (map arm_tree l.arms)))
+      (branches (context l.scope) (return_sort l.returns) l.loops (way (known_at l.place) (option_map (λ v. v.items) l.ends)) (arms_of (map arm_tree (drop l.e-index l.arms))));
+  known :
+      arms_after (context l.scope) (setting_out (known_at l.fn.place)) (arms_of (map arm_tree l.arms))
+      ≡ arms_after (context l.scope) (way (known_at l.place) (option_map (λ v. v.items) l.ends)) (arms_of (map arm_tree (drop l.e-index l.arms)));
+}

@@ -1,0 +1,286 @@
+-- What is assigned to (Python Language Reference, "Assignment statements"; PEP 484).
+--
+-- A target is a name, an item, or a flat tuple of these. The rule of an item, which is an expression, is asked before that of the
+-- assignment. No name of a target is read by it. Where a target is a variable without a type nothing is said of what holds it.
+-- Targets are bound one behind the other, so an item is looked at with what is known once the names before it are bound.
+use Rattle.std.specs.Prelude.{ℕ, Bool, true, false, not, ◌&&◌, if◌then◌else◌, List, [], ◌∷◌, ◌++◌, map, length, Option, Some, None, unwrap_or, Result, Ok, Err}
+use Rattle.std.specs.List.{list_all, flat_map}
+use Rattle.std.specs.Option.{option_map}
+use Rattle.std.specs.Map.{lookup}
+use Rattle.std.specs.Str.{bytes_eq}
+use Rattle.py_syntax.specs.declared.token.Span.{Span}
+use Rattle.py_syntax.specs.declared.expression.BinOp.{BinOp}
+use Rattle.py_syntax.specs.Expressions as tree
+use Rattle.py_syntax.specs.Expressions.{ExprTree, ExprNode, at, ExprTrees, no_exprs, expr_then}
+use Rattle.py_typed.specs.Sorts.{Sort, sorts_of}
+use Rattle.py_typed.specs.Sorts as sort
+use Rattle.py_typed.specs.Classes.{ClassEntry}
+use Rattle.py_typed.specs.Fits.{fits}
+use Rattle.py_typed.specs.Narrowing.{without}
+use Rattle.py_typed.specs.Expressions as node
+use Rattle.py_typed.specs.Expressions.{TypedExpr, typed, type_of}
+use Rattle.py_typed.specs.Statements as act
+use Rattle.py_typed.specs.Statements.{TypedTarget, LocalTarget, GlobalTarget, ItemTarget, TypedAct}
+use Rattle.py_check_context.specs.declared.scope.Meaning.{Meaning}
+use Rattle.py_check_context.specs.declared.scope.Meaning.TheVariants as meaning
+use Rattle.py_check_context.specs.Context.{Context, VarSort, unset, untyped, has, var_at, Wanted, free, wants_some}
+use Rattle.py_check_flow.specs.Bindings.{name_in}
+use Rattle.py_check_messages.specs.Seen.{Seen, Message, is, made}
+use Rattle.py_check_messages.specs.Rows.{row_then}
+use Rattle.py_check_messages.specs.Messages.{no_target, cannot_assign, already_defined, wrong_assignment}
+use Rattle.py_check_operators.specs.Facts.{local_of}
+use Rattle.py_check_operators.specs.Several.{unless}
+use Rattle.py_check_operators.specs.Operators.{arithmetic}
+use Rattle.py_check_expressions.specs.Typing.{typing}
+use Rattle.py_check_values.specs.Slots.{SlotSort, known, fresh, refused, itemless}
+use Rattle.py_check_values.specs.Assignments.{first_of, assignment, binding_fault, unpacking_fault, items_for}
+use Rattle.py_check_targets.specs.Places.{Known, with_names}
+
+-- ---- single targets
+
+-- what a value is bound to: something of a type; a variable that has none yet; a name that nothing is assigned to; an item of what
+-- has none that is assigned; or an expression of this type, which is no target
+pub data Aim : Type 0 where
+  held : TypedTarget → Sort → Aim
+  first : TypedTarget → List ℕ → Aim
+  barred : List ℕ → Aim
+  unwritten : Sort → Aim
+  misplaced : Sort → Aim
+
+-- a variable, by its type so far; there is none where that hangs on what has no type
+abbrev pub variable_aim : TypedTarget → List ℕ → VarSort → Option Aim
+variable_aim target x (has t) = Some (held target t)
+variable_aim target x unset = Some (first target x)
+variable_aim target x untyped = None
+
+abbrev pub name_aim : Known → List ℕ → Meaning → Option Aim
+name_aim k x (meaning.Local i) = variable_aim (LocalTarget i) x (var_at k.types.locals i)
+name_aim k x (meaning.Global i) = variable_aim (GlobalTarget i) x (var_at k.types.globals i)
+name_aim k x m = Some (barred x)
+
+-- nothing is said of what holds a target without a type
+abbrev pub seen_aim : Option Aim → Seen Aim
+seen_aim a = record { got = a; said = [] }
+
+-- an item: those of lists and dicts are written
+abbrev pub is_written : Sort → Bool
+is_written (sort.ListOf t) = true
+is_written (sort.DictOf k t) = true
+is_written t = false
+
+abbrev pub part_aim : TypedExpr → TypedExpr → Sort → Aim
+part_aim e i t = if is_written (type_of e) then held (ItemTarget e i) t else unwritten (type_of e)
+
+abbrev pub item_aim : TypedExpr → Aim
+item_aim (typed (node.At e i) t place) = part_aim e i t
+item_aim (typed (node.TupleAt e i) t place) = unwritten (type_of e)
+item_aim e = misplaced (type_of e)
+
+abbrev pub is_item : ExprTree → Bool
+is_item (at (tree.Index e i) span) = true
+is_item e = false
+
+-- any other expression
+abbrev pub value_aim : Bool → TypedExpr → Aim
+value_aim written e = if written then item_aim e else misplaced (type_of e)
+
+abbrev pub slot_of : Aim → SlotSort
+slot_of (held target t) = known t
+slot_of (first target x) = fresh x
+slot_of (barred x) = refused x
+slot_of (unwritten t) = itemless t
+slot_of (misplaced t) = itemless t
+
+abbrev pub target_of : Aim → List TypedTarget
+target_of (held target t) = target ∷ []
+target_of (first target x) = target ∷ []
+target_of a = []
+
+abbrev pub is_placed : Aim → Bool
+is_placed (misplaced t) = false
+is_placed a = true
+
+-- a name, and not an item
+abbrev pub is_item_target : TypedTarget → Bool
+is_item_target (ItemTarget e i) = true
+is_item_target target = false
+
+abbrev pub is_name_aim : Aim → Bool
+is_name_aim (held target t) = not (is_item_target target)
+is_name_aim (first target x) = true
+is_name_aim (barred x) = true
+is_name_aim a = false
+
+-- ---- whole targets
+
+abbrev pub is_row : ExprTree → Bool
+is_row (at (tree.TupleOf es) span) = true
+is_row (at (tree.ListOf es) span) = true
+is_row e = false
+
+abbrev pub no_rows : ExprTrees → Bool
+no_rows no_exprs = true
+no_rows (expr_then e more) = not (is_row e) && no_rows more
+
+-- no tuple in a tuple, and no list
+abbrev pub is_flat : ExprTree → Bool
+is_flat (at (tree.TupleOf es) span) = no_rows es
+is_flat (at (tree.ListOf es) span) = false
+is_flat e = true
+
+abbrev mutual
+  -- the single targets in it, at any depth
+  pub leaves : ExprTree → List ExprTree
+  leaves (at node span) = node_leaves span node
+
+  pub node_leaves : Span → ExprNode → List ExprTree
+  node_leaves span (tree.TupleOf es) = row_leaves es
+  node_leaves span (tree.ListOf es) = row_leaves es
+  node_leaves span node = at node span ∷ []
+
+  pub row_leaves : ExprTrees → List ExprTree
+  row_leaves no_exprs = []
+  row_leaves (expr_then e more) = leaves e ++ row_leaves more
+
+-- the name of each, where it is a name
+abbrev pub target_names : ExprTree → List (Option (List ℕ))
+target_names target = map name_in (leaves target)
+
+-- the types of the targets, where each has one
+abbrev pub held_sorts : List Aim → Option (List Sort)
+held_sorts [] = Some []
+held_sorts (held target t ∷ more) = option_map (λ ts. t ∷ ts) (held_sorts more)
+held_sorts (a ∷ more) = None
+
+abbrev pub tuple_sort : List Sort → Sort
+tuple_sort ts = sort.TupleOf (sorts_of ts)
+
+-- what targets ask of the value: that of a single one, or their tuple
+abbrev pub single_sort : List Aim → Option Sort
+single_sort (held target t ∷ []) = Some t
+single_sort aims = None
+
+abbrev pub sort_for : Bool → List Aim → Option Sort
+sort_for several aims = if several then option_map tuple_sort (held_sorts aims) else single_sort aims
+
+abbrev pub asked_sort : Bool → Option (List Aim) → Option Sort
+asked_sort several None = None
+asked_sort several (Some aims) = sort_for several aims
+
+abbrev pub asked_by : Bool → Option (List Aim) → Wanted
+asked_by several aims = wants_some (asked_sort several aims)
+
+-- the types of the parts of a value for so many targets, as far as there are such
+abbrev pub some_parts : Option (List Sort) → List Sort
+some_parts None = []
+some_parts (Some ts) = ts
+
+abbrev pub parts_for : Bool → ℕ → Sort → List Sort
+parts_for several n t = if several then some_parts (items_for t n) else t ∷ []
+
+abbrev pub parts_of : Bool → ℕ → Option Sort → List Sort
+parts_of several n None = []
+parts_of several n (Some t) = parts_for several n t
+
+-- ---- a value for targets
+
+abbrev pub targets_of : List Aim → List TypedTarget
+targets_of aims = flat_map target_of aims
+
+-- they can be assigned to
+abbrev pub are_placed : Bool → List Aim → Bool
+are_placed flat aims = flat && list_all is_placed aims
+
+-- a new name that stands twice has the type of its first part
+abbrev pub again_fault : List ClassEntry → Option Sort → Sort → Option Message
+again_fault classes None s = None
+again_fault classes (Some t) s = if fits classes s t then None else Some (wrong_assignment classes s t)
+
+abbrev pub twice_fault : List ClassEntry → List (List ℕ × Sort) → List Aim → List Sort → Option Message
+twice_fault classes seen (first target x ∷ more) (s ∷ ss) =
+    first_of (again_fault classes (lookup (bytes_eq x) seen) s) (twice_fault classes (seen ++ (x, s) ∷ []) more ss)
+twice_fault classes seen (a ∷ more) (s ∷ ss) = twice_fault classes seen more ss
+twice_fault classes seen aims ss = None
+
+-- what is wrong where a value of a type is bound to several targets
+abbrev pub several_fault : List ClassEntry → List Aim → Sort → Option Message
+several_fault classes aims t =
+    first_of (unpacking_fault classes (map slot_of aims) t) (twice_fault classes [] aims (some_parts (items_for t (length aims))))
+
+abbrev pub one_assigned : List ClassEntry → List Aim → TypedExpr → Result TypedExpr Message
+one_assigned classes (a ∷ []) e = assignment classes (slot_of a) e
+one_assigned classes aims e = Err no_target
+
+abbrev pub value_assigned : List ClassEntry → Bool → List Aim → TypedExpr → Result TypedExpr Message
+value_assigned classes several aims e = if several then unless (several_fault classes aims (type_of e)) e else one_assigned classes aims e
+
+abbrev pub act_of : List TypedTarget → Result TypedExpr Message → Result TypedAct Message
+act_of ts (Ok e) = Ok (act.Assign ts e)
+act_of ts (Err m) = Err m
+
+-- of the targets and the value
+abbrev pub assigned : List ClassEntry → ExprTree → List Aim × TypedExpr → Result TypedAct Message
+assigned classes target p =
+    if are_placed (is_flat target) p.0 then act_of (targets_of p.0) (value_assigned classes (is_row target) p.0 p.1)
+    else Err no_target
+
+-- ---- an annotation
+
+-- what is wrong with an annotation of a name, which was bound before or not
+abbrev pub annotation_fault : List ℕ → Bool → Aim → Option Message
+annotation_fault x bound (barred y) = Some (cannot_assign x)
+annotation_fault x bound a = if bound then Some (already_defined x) else None
+
+-- without a value, and with one
+abbrev pub declared : List ℕ → Bool → Aim × Sort → Result TypedAct Message
+declared x bound p = unless (annotation_fault x bound p.0) act.Pass
+
+abbrev pub given_after : List ClassEntry → Option Message → Aim → TypedExpr → Result TypedAct Message
+given_after classes (Some m) a e = Err m
+given_after classes None a e = act_of (target_of a) (assignment classes (slot_of a) e)
+
+abbrev pub given : List ClassEntry → List ℕ → Bool → (Aim × Sort) × TypedExpr → Result TypedAct Message
+given classes x bound p = given_after classes (annotation_fault x bound p.0.0) p.0.0 p.1
+
+-- ---- an operation with assignment
+
+-- to this target, of this operand, from the type of the operation's value
+abbrev pub written_back : BinOp → TypedExpr → Sort → Option Message → List TypedTarget → Result TypedAct Message
+written_back o b s (Some m) ts = Err m
+written_back o b s None (target ∷ ts) = Ok (act.Aug target o b s)
+written_back o b s None [] = Err no_target
+
+abbrev pub updated_to : List ClassEntry → Aim → BinOp → TypedExpr → Sort → Result TypedAct Message
+updated_to classes a o b s =
+    if is_placed a then written_back o b s (binding_fault classes (slot_of a) s) (target_of a) else Err no_target
+
+abbrev pub of_operation : List ClassEntry → Aim → BinOp → TypedExpr → Result TypedExpr Message → Result TypedAct Message
+of_operation classes a o b (Ok r) = updated_to classes a o b (type_of r)
+of_operation classes a o b (Err m) = Err m
+
+-- of the target's value and the operand
+abbrev pub updated : List ClassEntry → Span → BinOp → (TypedExpr → Aim) → TypedExpr × TypedExpr → Result TypedAct Message
+updated classes span o aim p = of_operation classes (aim p.0) o p.1 (arithmetic classes span o p)
+
+module _ (c : Context) where
+  abbrev pub typed_at : Known → Wanted → ExprTree → Seen TypedExpr
+  typed_at k w e = typing c k.types w k.names e
+
+  -- a single target
+  abbrev pub single_aim : Known → Option (List ℕ) → ExprTree → Seen Aim
+  single_aim k (Some x) e = seen_aim (name_aim k x (c.meaning x))
+  single_aim k None e = made (value_aim (is_item e)) (typed_at k free e)
+
+  -- a name is bound before the targets behind it are reached: what was known of it is forgotten there
+  abbrev pub forgotten : Option (List ℕ) → List ℕ → List ℕ
+  forgotten None names = names
+  forgotten (Some x) names = without (local_of (c.meaning x)) names
+
+  abbrev pub aims : Known → List ExprTree → Seen (List Aim)
+  aims k [] = is []
+  aims k (e ∷ more) = row_then (single_aim k (name_in e) e) (aims (with_names k (forgotten (name_in e) k.names)) more)
+
+  -- one that was read
+  abbrev pub read_aim : Known → Option (List ℕ) → Bool → TypedExpr → Aim
+  read_aim k (Some x) item a = unwrap_or (name_aim k x (c.meaning x)) (misplaced (type_of a))
+  read_aim k None item a = value_aim item a

@@ -1,0 +1,154 @@
+//! A value that is bound to several targets.
+ghost use Rattle.std.specs.Prelude.{◌≡◌, [], map, IfOk};
+ghost use Rattle.std.specs.Option.{option_map, option_copied};
+ghost use Rattle.std.specs.Map.{lookup};
+ghost use Rattle.std.specs.Str.{bytes_eq};
+ghost use Rattle.py_typed.specs.Sorts.{sort};
+ghost use Rattle.py_typed.specs.Classes.{class_entry};
+ghost use Rattle.py_check_messages.specs.Seen.{Finds};
+ghost use Rattle.py_check_values.specs.Slots.{slot_sort};
+ghost use Rattle.py_check_targets.specs.Targets as rule_of;
+ghost use Rattle.py_check_targets.specs.NewNames as new_names;
+ghost use Rattle.py_check_targets.specs.NewNames.{part_seen};
+ghost use Rattle.py_check_targets.specs.Views.{aim_seen};
+
+use crate::parts::some_parts;
+use crate::targets::{Aim, slot_of};
+use py_binder::Diag;
+use py_check_messages::wrong_assignment;
+use py_check_values::{Slot, items_for, unpacks};
+use py_syntax::Span;
+use py_typed::{Classes, Ty, fits};
+use std::alloc::Global;
+use value_core::{Many, Memory, Name};
+
+/// Whether a value of a type may be bound to several targets; what is wrong is said.
+pub fn binds_several(
+    alloc: Global,
+    classes: &Classes,
+    span: Span,
+    aims: &[Aim<'_>],
+    t: &Ty,
+    faults: &mut Many<Diag>,
+) -> Result<bool, Memory>
+    ensures { IfOk result (λ right. Finds right faults.old faults.new span (rule_of.several_fault (map class_entry classes.now.list) (map aim_seen aims.now) (sort t.now))) }
+{
+    let slots = slots_of(alloc, aims)?;
+    if !unpacks(alloc, classes, span, slots.as_slice(), t, faults)? {
+        return Ok(false);
+    }
+    let parts = some_parts(items_for(t, aims.len()));
+    fit_first_parts(alloc, classes, span, aims, parts, faults)
+}
+
+// What targets are for values.
+fn slots_of<'a>(alloc: Global, aims: &'a [Aim<'_>]) -> Result<Vec<Slot<'a>>, Memory>
+    ensures { IfOk result (λ slots. map slot_sort slots.items ≡ map rule_of.slot_of (map aim_seen aims.now)) }
+{
+    let mut slots = Vec::new(alloc);
+    for a in aims {
+        slots.push(slot_of(a))?;
+    }
+    Ok(slots)
+}
+
+/// A new name, with the type of the part that it takes.
+#[derive(Clone, Copy)]
+pub(crate) struct NewName<'a> {
+    pub(crate) name: &'a Name,
+    pub(crate) ty: &'a Ty,
+}
+
+// Whether each new name that stands twice has the type of its first part; what is wrong is said.
+fn fit_first_parts(
+    alloc: Global,
+    classes: &Classes,
+    span: Span,
+    aims: &[Aim<'_>],
+    parts: &[Ty],
+    faults: &mut Many<Diag>,
+) -> Result<bool, Memory>
+    ensures { IfOk result (λ right. Finds right faults.old faults.new span (rule_of.twice_fault (map class_entry classes.now.list) [] (map aim_seen aims.now) (map sort parts.now))) }
+{
+    let mut seen = Vec::new(alloc);
+    for (i, a) in aims.iter().enumerate() {
+        let Some(t) = parts.get(i) else {
+            return Ok(true);
+        };
+        if !fits_first_part(alloc, classes, span, seen.as_slice(), a, t, faults)? {
+            return Ok(false);
+        }
+        put_new_name(&mut seen, a, t)?;
+    }
+    Ok(true)
+}
+
+// The same of one target, behind these new names.
+fn fits_first_part(
+    alloc: Global,
+    classes: &Classes,
+    span: Span,
+    seen: &[NewName<'_>],
+    a: &Aim<'_>,
+    s: &Ty,
+    faults: &mut Many<Diag>,
+) -> Result<bool, Memory>
+    ensures { IfOk result (λ right. Finds right faults.old faults.new span (new_names.part_fault (map class_entry classes.now.list) (map part_seen seen.now) (aim_seen a.now) (sort s.now))) }
+{
+    match a {
+        Aim::First(_, x) => fits_again(alloc, classes, span, first_part(seen, x), s, faults),
+        Aim::Held(_, _) => Ok(true),
+        Aim::Barred(_) => Ok(true),
+        Aim::Unwritten(_) => Ok(true),
+        Aim::Misplaced(_) => Ok(true),
+    }
+}
+
+// The type of the first part of a new name.
+fn first_part<'a>(seen: &[NewName<'a>], x: &Name) -> Option<&'a Ty>
+    ensures { option_map sort (option_copied result) ≡ lookup (bytes_eq x.now) (map part_seen seen.now) }
+{
+    for part in seen {
+        if *x == *part.name {
+            return Some(part.ty);
+        }
+    }
+    None
+}
+
+// A part fits the first one of its name, if there is one before it.
+fn fits_again(
+    alloc: Global,
+    classes: &Classes,
+    span: Span,
+    t: Option<&Ty>,
+    s: &Ty,
+    faults: &mut Many<Diag>,
+) -> Result<bool, Memory>
+    ensures { IfOk result (λ right. Finds right faults.old faults.new span (rule_of.again_fault (map class_entry classes.now.list) (option_map sort (option_copied t.entry)) (sort s.now))) }
+{
+    let Some(t) = t else {
+        return Ok(true);
+    };
+    if fits(s, t, classes) {
+        return Ok(true);
+    }
+    wrong_assignment(alloc, classes, span, s, t, faults)?;
+    Ok(false)
+}
+
+// The new names with that of one more target.
+fn put_new_name<'a>(seen: &mut Vec<NewName<'a>>, a: &'a Aim<'_>, ty: &'a Ty) -> Result<(), Memory>
+    ensures { IfOk result (λ done. map part_seen seen.new.items ≡ new_names.with_new_name (map part_seen seen.old.items) (aim_seen a.now) (sort ty.now)) }
+{
+    match a {
+        Aim::First(_, name) => {
+            seen.push(NewName { name, ty })?;
+            Ok(())
+        }
+        Aim::Held(_, _) => Ok(()),
+        Aim::Barred(_) => Ok(()),
+        Aim::Unwritten(_) => Ok(()),
+        Aim::Misplaced(_) => Ok(()),
+    }
+}

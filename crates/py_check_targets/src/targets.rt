@@ -1,0 +1,343 @@
+//! What is assigned to.
+ghost use Rattle.std.specs.Prelude.{◌≡◌, ◌++◌, ◌∷◌, [], map, IfOk};
+ghost use Rattle.std.specs.Option.{option_map, option_copied};
+ghost use Rattle.py_syntax.specs.Expressions.{expr_tree, exprs_of};
+ghost use Rattle.py_typed.specs.Sorts.{sort};
+ghost use Rattle.py_typed.specs.Narrowing as narrowing;
+ghost use Rattle.py_typed.specs.Statements.{typed_target};
+ghost use Rattle.py_check_context.specs.Context.{context, var_sort, var_of, wanted};
+ghost use Rattle.py_check_flow.specs.Bindings as bindings;
+ghost use Rattle.py_check_messages.specs.Seen.{Tells};
+ghost use Rattle.py_check_messages.specs.Rows.{kept};
+ghost use Rattle.py_check_operators.specs.Boxes.{boxed};
+ghost use Rattle.py_check_operators.specs.Facts.{local_of};
+ghost use Rattle.py_check_values.specs.Slots.{slot_sort};
+ghost use Rattle.py_check_targets.specs.Places.{with_names};
+ghost use Rattle.py_check_targets.specs.Targets as rule_of;
+ghost use Rattle.py_check_targets.specs.Views.{known_at, aim_seen, boxed_aim, trees};
+
+use crate::places::{Place, put_local, without};
+use py_binder::Diag;
+use py_check_context::{Meaning, Scope, VarType, Want, meaning_of};
+use py_check_expressions::expression;
+use py_check_values::Slot;
+use py_syntax::{Expr, ExprKind};
+use py_typed::{TExpr, TKind, Target, Ty, copy_of};
+use std::alloc::Global;
+use value_core::{Many, Memory, Name};
+
+/// What a value is bound to.
+#[derive(Drop)]
+pub enum Aim<'a> {
+    /// Something of this type.
+    Held(Target, Ty),
+    /// A variable that has no type yet.
+    First(Target, &'a Name),
+    /// A name that nothing is assigned to.
+    Barred(&'a Name),
+    /// An item of what has none that is assigned, by the type of that.
+    Unwritten(Ty),
+    /// An expression of this type, which is no target.
+    Misplaced(Ty),
+}
+
+/// An expression at a place.
+pub fn typed_at(
+    alloc: Global,
+    scope: &Scope<'_>,
+    place: &Place,
+    want: Want<'_>,
+    e: &Expr,
+    faults: &mut Many<Diag>,
+) -> Result<Option<Box<TExpr>>, Memory>
+    ensures { IfOk result (λ t. Tells boxed t faults.old faults.new (rule_of.typed_at (context scope.now) (known_at place.now) (wanted want.entry) (expr_tree e.now))) }
+{
+    let types = &place.types;
+    let names = place.names.as_slice();
+    expression(alloc, scope, types, want, names, e, faults)
+}
+
+/// The single targets in a target, at any depth.
+pub fn leaves<'a>(alloc: Global, target: &'a Expr) -> Result<Vec<&'a Expr>, Memory>
+    ensures { IfOk result (λ found. trees found.items ≡ rule_of.leaves (expr_tree target.now)) }
+{
+    let mut found = Vec::new(alloc);
+    put_leaves(&mut found, target)?;
+    Ok(found)
+}
+
+#[cycle(leaves)]
+fn put_leaves<'a>(found: &mut Vec<&'a Expr>, e: &'a Expr) -> Result<(), Memory>
+    ensures { IfOk result (λ done. trees found.new.items ≡ trees found.old.items ++ rule_of.leaves (expr_tree e.now)) }
+{
+    match &e.kind {
+        ExprKind::Tuple(items) => put_row(found, items.as_slice()),
+        ExprKind::List(items) => put_row(found, items.as_slice()),
+        _ => put(found, e),
+    }
+}
+
+#[cycle(leaves)]
+fn put_row<'a>(found: &mut Vec<&'a Expr>, items: &'a [Expr]) -> Result<(), Memory>
+    ensures { IfOk result (λ done. trees found.new.items ≡ trees found.old.items ++ rule_of.row_leaves (exprs_of (map expr_tree items.now))) }
+{
+    for item in items {
+        put_leaves(found, item)?;
+    }
+    Ok(())
+}
+
+fn put<'a>(found: &mut Vec<&'a Expr>, e: &'a Expr) -> Result<(), Memory>
+    ensures { IfOk result (λ done. trees found.new.items ≡ trees found.old.items ++ expr_tree e.now ∷ []) }
+{
+    found.push(e)?;
+    Ok(())
+}
+
+/// The name that an expression is.
+pub fn name_in(e: &Expr) -> Option<&Name>
+    ensures { option_copied result ≡ bindings.name_in (expr_tree e.now) }
+{
+    match &e.kind {
+        ExprKind::Name(x) => Some(x),
+        _ => None,
+    }
+}
+
+pub fn is_item(e: &Expr) -> bool
+    ensures { result ≡ rule_of.is_item (expr_tree e.now) }
+{
+    matches!(e.kind, ExprKind::Index(_, _))
+}
+
+/// Whether an expression is a tuple or a list.
+pub fn is_row(e: &Expr) -> bool
+    ensures { result ≡ rule_of.is_row (expr_tree e.now) }
+{
+    match e.kind {
+        ExprKind::Tuple(_) => true,
+        ExprKind::List(_) => true,
+        _ => false,
+    }
+}
+
+/// Whether no tuple stands in a tuple, and no list.
+pub fn is_flat(e: &Expr) -> bool
+    ensures { result ≡ rule_of.is_flat (expr_tree e.now) }
+{
+    match &e.kind {
+        ExprKind::Tuple(items) => no_rows(items.as_slice()),
+        ExprKind::List(_) => false,
+        _ => true,
+    }
+}
+
+fn no_rows(items: &[Expr]) -> bool
+    ensures { result ≡ rule_of.no_rows (exprs_of (map expr_tree items.now)) }
+{
+    for item in items {
+        if is_row(item) {
+            return false;
+        }
+    }
+    true
+}
+
+/// A name that is assigned to, unless it is a variable without a type.
+#[tactic(auto, using(crate::proofs::PlaceLemmas::var_found))]
+pub fn name_aim<'a>(
+    alloc: Global,
+    place: &Place,
+    x: &'a Name,
+    meaning: Meaning,
+) -> Result<Option<Aim<'a>>, Memory>
+    ensures { IfOk result (λ a. option_map aim_seen a ≡ rule_of.name_aim (known_at place.now) x.now meaning) }
+{
+    match meaning {
+        Meaning::Local(i) => {
+            let ty = copied(alloc, place.types.locals.get(i))?;
+            Ok(variable_aim(Target::Local(i), x, ty))
+        }
+        Meaning::Global(i) => {
+            let ty = copied(alloc, place.types.globals.get(i))?;
+            Ok(variable_aim(Target::Global(i), x, ty))
+        }
+        _ => Ok(Some(Aim::Barred(x))),
+    }
+}
+
+// The type of a variable, so far.
+fn copied(alloc: Global, ty: Option<&VarType>) -> Result<VarType, Memory>
+    ensures { IfOk result (λ v. var_sort v ≡ var_of (option_map var_sort (option_copied ty.entry))) }
+{
+    match ty {
+        Some(VarType::Has(t)) => Ok(VarType::Has(copy_of(alloc, t)?)),
+        Some(VarType::Untyped) => Ok(VarType::Untyped),
+        Some(VarType::Unset) | None => Ok(VarType::Unset),
+    }
+}
+
+fn variable_aim<'a>(target: Target, x: &'a Name, ty: VarType) -> Option<Aim<'a>>
+    ensures { option_map aim_seen result ≡ rule_of.variable_aim (typed_target target) x.now (var_sort ty) }
+{
+    match ty {
+        VarType::Has(t) => Some(Aim::Held(target, t)),
+        VarType::Unset => Some(Aim::First(target, x)),
+        VarType::Untyped => None,
+    }
+}
+
+/// An expression that stands as a target.
+pub fn value_aim<'a>(written: bool, e: Box<TExpr>) -> Aim<'a>
+    ensures { aim_seen result ≡ rule_of.value_aim written (boxed e) }
+{
+    if written {
+        return item_aim(e);
+    }
+    Aim::Misplaced(Box::into_inner(e).ty)
+}
+
+fn item_aim<'a>(e: Box<TExpr>) -> Aim<'a>
+    ensures { aim_seen result ≡ rule_of.item_aim (boxed e) }
+{
+    let TExpr { kind, ty, span: _ } = Box::into_inner(e);
+    match kind {
+        TKind::At(held, i) => part_aim(held, i, ty),
+        TKind::TupleAt(held, _) => Aim::Unwritten(Box::into_inner(held).ty),
+        _ => Aim::Misplaced(ty),
+    }
+}
+
+fn part_aim<'a>(held: Box<TExpr>, i: Box<TExpr>, ty: Ty) -> Aim<'a>
+    ensures { aim_seen result ≡ rule_of.part_aim (boxed held) (boxed i) (sort ty) }
+{
+    let held = Box::into_inner(held);
+    if is_written(&held.ty) {
+        return Aim::Held(Target::At(held, Box::into_inner(i)), ty);
+    }
+    Aim::Unwritten(held.ty)
+}
+
+fn is_written(t: &Ty) -> bool
+    ensures { result ≡ rule_of.is_written (sort t.now) }
+{
+    match t {
+        Ty::List(_) => true,
+        Ty::Dict(_, _) => true,
+        _ => false,
+    }
+}
+
+// A single target, where these of the function's own variables are known to be not None.
+#[tactic(auto, using(crate::proofs::PlaceLemmas::name_aim_kept))]
+fn single_aim<'a>(
+    alloc: Global,
+    scope: &Scope<'_>,
+    place: &Place,
+    names: &[usize],
+    e: &'a Expr,
+    faults: &mut Many<Diag>,
+) -> Result<Option<Box<Aim<'a>>>, Memory>
+    ensures { IfOk result (λ a. Tells boxed_aim a faults.old faults.new (rule_of.single_aim (context scope.now) (with_names (known_at place.now) names.now) (bindings.name_in (expr_tree e.now)) (expr_tree e.now))) }
+{
+    match name_in(e) {
+        Some(x) => {
+            let a = name_aim(alloc, place, x, meaning_of(scope, x))?;
+            in_box(alloc, a)
+        }
+        None => {
+            let t = expression(alloc, scope, &place.types, Want::Free, names, e, faults)?;
+            let a = aim_of(is_item(e), t);
+            in_box(alloc, a)
+        }
+    }
+}
+
+fn aim_of<'a>(written: bool, e: Option<Box<TExpr>>) -> Option<Aim<'a>>
+    ensures { option_map aim_seen result ≡ option_map (rule_of.value_aim written) (option_map boxed e) }
+{
+    let e = e?;
+    Some(value_aim(written, e))
+}
+
+/// One that is kept on the heap.
+pub(crate) fn in_box<'a>(alloc: Global, a: Option<Aim<'a>>) -> Result<Option<Box<Aim<'a>>>, Memory>
+    ensures { IfOk result (λ r. option_map boxed_aim r ≡ option_map aim_seen a.entry) }
+{
+    let Some(a) = a else {
+        return Ok(None);
+    };
+    Ok(Some(Box::new(alloc, a)?))
+}
+
+/// The single targets of a target, each by what it is.
+pub fn aims<'a>(
+    alloc: Global,
+    scope: &Scope<'_>,
+    place: &Place,
+    leaves: &[&'a Expr],
+    faults: &mut Many<Diag>,
+) -> Result<Option<Many<Aim<'a>>>, Memory>
+    ensures { IfOk result (λ found. Tells (map aim_seen) found faults.old faults.new (rule_of.aims (context scope.now) (known_at place.now) (trees leaves.now))) }
+{
+    let mut found = Some(Many::new(alloc));
+    let mut names = Vec::from_slice(alloc, place.names.as_slice())?;
+    for e in leaves {
+        let one = single_aim(alloc, scope, place, names.as_slice(), *e, faults)?;
+        found = with_aim(found, one)?;
+        names = forgotten(alloc, scope, names.as_slice(), *e)?;
+    }
+    Ok(found)
+}
+
+// The names that are known behind a target, once it is bound.
+fn forgotten(
+    alloc: Global,
+    scope: &Scope<'_>,
+    names: &[usize],
+    e: &Expr,
+) -> Result<Vec<usize>, Memory>
+    ensures { IfOk result (λ v. v.items ≡ rule_of.forgotten (context scope.now) (bindings.name_in (expr_tree e.now)) names.now) }
+{
+    match name_in(e) {
+        Some(x) => without_own(alloc, meaning_of(scope, x), names),
+        None => Ok(Vec::from_slice(alloc, names)?),
+    }
+}
+
+fn without_own(alloc: Global, meaning: Meaning, names: &[usize]) -> Result<Vec<usize>, Memory>
+    ensures { IfOk result (λ v. v.items ≡ narrowing.without (local_of meaning) names.now) }
+{
+    let mut own = Vec::new(alloc);
+    put_local(&mut own, meaning)?;
+    without(alloc, own.as_slice(), names)
+}
+
+fn with_aim<'a>(
+    found: Option<Many<Aim<'a>>>,
+    a: Option<Box<Aim<'a>>>,
+) -> Result<Option<Many<Aim<'a>>>, Memory>
+    ensures { IfOk result (λ r. option_map (map aim_seen) r ≡ kept (option_map (map aim_seen) found.entry) (option_map boxed_aim a.entry)) }
+{
+    let Some(mut found) = found else {
+        return Ok(None);
+    };
+    let Some(a) = a else {
+        return Ok(None);
+    };
+    found.push(Box::into_inner(a))?;
+    Ok(Some(found))
+}
+
+/// What a target is for a value.
+pub fn slot_of<'a>(a: &'a Aim<'_>) -> Slot<'a>
+    ensures { slot_sort result ≡ rule_of.slot_of (aim_seen a.now) }
+{
+    match a {
+        Aim::Held(_, t) => Slot::Known(t),
+        Aim::First(_, x) => Slot::Fresh(x),
+        Aim::Barred(x) => Slot::Refused(x),
+        Aim::Unwritten(t) => Slot::Itemless(t),
+        Aim::Misplaced(t) => Slot::Itemless(t),
+    }
+}

@@ -1,0 +1,70 @@
+-- Values that are bound and returned, and some that are not.
+use Rattle.std.proofs.Common.{◌≡◌, [], ◌∷◌, Ok, Err, refl, codes}
+use Rattle.std.specs.Prelude.{pos}
+use Rattle.py_syntax.specs.declared.token.Span.{Span}
+use Rattle.py_typed.specs.Sorts as sort
+use Rattle.py_typed.specs.Sorts.{sorts_of, TupleOf, Optional}
+use Rattle.py_typed.specs.Expressions as node
+use Rattle.py_typed.specs.Expressions.{TypedExpr, typed, exprs_of}
+use Rattle.py_check_messages.specs.Seen.{is, silent, fails}
+use Rattle.py_check_messages.specs.Messages.{wrong_assignment, needs_annotation, cannot_unpack, cannot_assign, wrong_return, no_return_expected, return_outside, return_expected}
+use Rattle.py_check_values.specs.Slots.{known, fresh, refused}
+use Rattle.py_check_values.specs.Assignments.{assignment, unpacking}
+use Rattle.py_check_values.specs.Returns.{bare_return, value_return, outside, untyped, gives}
+
+abbrev place : Span
+place = record { line = 1; col = 1 }
+
+abbrev one : TypedExpr
+one = typed (node.Int (pos 1)) sort.Int place
+
+abbrev nothing : TypedExpr
+nothing = typed node.Nothing sort.Nothing place
+
+abbrev pair : TypedExpr
+pair = typed (node.TupleOf (exprs_of (one ∷ one ∷ []))) (TupleOf (sorts_of (sort.Int ∷ sort.Int ∷ []))) place
+
+-- `x: i64 = 1`, `x: str = 1`, and `x = None`
+changed : assignment [] (known sort.I64) one ≡ Ok (typed (node.Coerce one) sort.I64 place)
+changed = refl
+
+misfit : assignment [] (known sort.Str) one ≡ Err (wrong_assignment [] sort.Int sort.Str)
+misfit = refl
+
+first_none : assignment [] (fresh (codes "x")) nothing ≡ Err (needs_annotation (codes "x"))
+first_none = refl
+
+-- `a, b = (1, 1)` keeps the tuple as it is, whatever the targets are changed to
+two_targets : unpacking [] (known (Optional sort.Int) ∷ fresh (codes "b") ∷ []) pair ≡ Ok pair
+two_targets = refl
+
+second_misfit : unpacking [] (fresh (codes "a") ∷ known sort.Str ∷ []) pair ≡ Err (wrong_assignment [] sort.Int sort.Str)
+second_misfit = refl
+
+three_targets : unpacking [] (fresh (codes "a") ∷ fresh (codes "b") ∷ fresh (codes "c") ∷ []) pair ≡ Err (cannot_unpack [] (TupleOf (sorts_of (sort.Int ∷ sort.Int ∷ []))) 3)
+three_targets = refl
+
+-- a name that cannot be assigned comes before what does not fit
+names_first : unpacking [] (known sort.Str ∷ refused (codes "len") ∷ []) one ≡ Err (cannot_assign (codes "len"))
+names_first = refl
+
+returned : value_return [] place (gives sort.I64) one ≡ is (typed (node.Coerce one) sort.I64 place)
+returned = refl
+
+wrong_value : value_return [] place (gives sort.Str) one ≡ fails place (wrong_return [] sort.Int sort.Str)
+wrong_value = refl
+
+value_for_none : value_return [] place (gives sort.Nothing) one ≡ fails place no_return_expected
+value_for_none = refl
+
+none_for_none : value_return [] place (gives sort.Nothing) nothing ≡ is nothing
+none_for_none = refl
+
+in_no_function : value_return [] place outside one ≡ fails place return_outside
+in_no_function = refl
+
+no_signature : value_return [] place untyped one ≡ silent
+no_signature = refl
+
+value_due : bare_return place (gives sort.Int) ≡ fails place return_expected
+value_due = refl

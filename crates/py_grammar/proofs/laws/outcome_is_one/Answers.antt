@@ -1,5 +1,0 @@
-use Rattle.py_grammar.proofs.Outcomes.{outcome_is_one}
-use Rattle.py_grammar.proofs.laws.outcome_is_one.Goals as goal
-
-pub returns : goal.returns
-returns c = outcome_is_one

@@ -1,5 +1,0 @@
-use Rattle.py_grammar.proofs.Outcomes.{reading_is_exact}
-use Rattle.py_grammar.proofs.laws.reading_is_exact.Goals as goal
-
-pub returns : goal.returns
-returns c = reading_is_exact

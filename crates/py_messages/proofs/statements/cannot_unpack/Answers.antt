@@ -1,8 +1,0 @@
-use Rattle.std.proofs.Common.{◌∙◌, append_assoc}
-use Rattle.py_messages.specs.Messages.{cannot_unpack}
-use Rattle.py_messages.proofs.SayLemmas.{said}
-use Rattle.py_messages.proofs.statements.cannot_unpack.Goals as goal
-
-pub returns : goal.returns
-unfolding cannot_unpack
-returns c = said _ _ _ _ _ _ _ c.say.ensures (c.in_ok-text.ensures.ok ∙ simp (append_assoc, c.in_ok-s.ensures))

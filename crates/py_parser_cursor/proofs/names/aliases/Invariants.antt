@@ -1,0 +1,13 @@
+use Rattle.std.proofs.Common.{◌≡◌, ◌-◌, length, [], ◌∷◌}
+use Rattle.py_parser_cursor.specs.Names.{reads_aliases}
+use Rattle.py_parser_cursor.specs.Moves.{MovesUpTo}
+use Rattle.py_parser_cursor.proofs.names.aliases.Given as goal
+
+abbrev pub invariant-names : goal.invariant-names
+invariant-names l = record {
+  so_far : reads_aliases l.tokens (l.fn.first ∷ []) l.fn.place ≡ reads_aliases l.tokens l.found l.place;
+  moves : MovesUpTo l.tokens l.fn.place l.place;
+}
+
+abbrev pub decreases-names : goal.decreases-names
+decreases-names l = length l.tokens - l.place.at

@@ -1,9 +1,0 @@
-use Rattle.std.proofs.Common.{rules}
-use Rattle.py_scope.specs.Context.{context}
-use Rattle.py_rules.proofs.FactLemmas.{facts_compare}
-use Rattle.py_rules.proofs.narrowing.+facts.Goals as goal
-
-pub returns-in-Compare : goal.returns-in-Compare
-returns-in-Compare t c =
-    let e = facts_compare (context c.args.scope.now) c.args.outcome c.args.e.now c.in-Compare.who c.in-Compare.cs c.in-Compare.is in
-    search (rules, e)

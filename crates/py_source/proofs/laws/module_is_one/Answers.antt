@@ -1,5 +1,0 @@
-use Rattle.py_source.proofs.ListLemmas.{module_is_one}
-use Rattle.py_source.proofs.laws.module_is_one.Goals as goal
-
-pub returns : goal.returns
-returns c = module_is_one

@@ -1,5 +1,0 @@
-use Rattle.py_typing.proofs.Quiet.{quiet_typing}
-use Rattle.py_typing.proofs.laws.what_is_typed_has_said_nothing.Goals as goal
-
-pub returns : goal.returns
-returns c = λ C V w known e t h. (quiet_typing C V w known e).says t h

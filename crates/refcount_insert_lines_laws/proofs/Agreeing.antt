@@ -1,0 +1,337 @@
+-- When what a primitive does with values is what it does with words, and that then both go on alike.
+use Rattle.std.proofs.Common.{◌≡◌, refl, sym, ◌∙◌, ap, subst, ℕ, ◌+◌, Bool, true, false, cond, List, ◌++◌, length, Option, Some, None}
+use Rattle.std.specs.Prelude.{ℤ, slice_get, slice_set}
+use Rattle.std.specs.Option.{option_map}
+use Rattle.std.proofs.lemmas.Option.{slice_get_within}
+use Rattle.value_core.specs.Ending.{Ending}
+use Rattle.value_core.specs.Exceptions.{Thrown}
+use Rattle.value_core.specs.Items.{Items}
+use Rattle.value_core.specs.Value.{Value, IntVal, StrVal, ExcVal}
+use Rattle.c_core.specs.Ledgers.{Ledger, more}
+use Rattle.c_core.specs.Machine.{Word, ShortInt, BigInt, TaggedError, Native, CharWord, ObjectCell, NoneObject, TrueObject, FalseObject, NoObject, IntCell, StrCell, ExcCell, MachineState}
+use Rattle.c_core.specs.Machine as machines
+use Rattle.c_core.specs.Stands.{IsLive}
+use Rattle.c_core.specs.Step.{Next, Goes, with_ledger, with_var, with_items, next_line, shared, raise, own, with_cells}
+use Rattle.c_core.specs.Step as steps
+use Rattle.c_core.specs.Cells.{make}
+use Rattle.ir_core.specs.declared.code.RType.{RType}
+use Rattle.ir_core.specs.declared.code.RType.TheVariants.{Int, Ref}
+use Rattle.ir_core.specs.declared.code.Reg.{Reg}
+use Rattle.ir_core.specs.declared.code.Func.{Func}
+use Rattle.ir_core.specs.declared.code.Program.{Program}
+use Rattle.ir_core.specs.declared.kind.Edge.{Edge}
+use Rattle.ir_core.specs.declared.kind.Edge.TheVariants.{NoEdge, Tests, TestsTwice, Jumps}
+use Rattle.ir_core.specs.Registers.{Held, Holds, Regs, put, error_of}
+use Rattle.ir_core.specs.Rows.{Declared}
+use Rattle.ir_core.specs.Effects.{World, Effect, Wrong, Gives, Acts, Fails, Ends}
+use Rattle.ir_core.specs.Meaning.{Frame, Waiting, Config, Runs, Stuck, Fitting, next, goes, is_edge, is_clear, item_at, failed, succeeds, applied}
+use Rattle.ir_core.specs.Meaning as meaning
+use Rattle.ir_core.specs.Lower.{number_of}
+use Rattle.refcount_insert_lines_laws.specs.Matching.{Fits, big, text, exception, RegsFit, GlobalsFit, Grows, WorldFits}
+use Rattle.refcount_insert_lines_laws.specs.Lines.{EndsBy, GoesOn, OpDoes, op_sticks, op_goes, op_ends}
+use Rattle.refcount_insert_lines_laws.proofs.ListLemmas.{made_new}
+use Rattle.refcount_insert_lines_laws.proofs.Growing.{same_grows, make_grows, take_grows, fits_grow, regs_grow, globals_grow, pending_grows, world_grows}
+use Rattle.refcount_insert_lines_laws.proofs.Words.{put_fits}
+use Rattle.refcount_insert_lines_laws.proofs.Facts.{type_here}
+
+-- ---- effects
+-- the target, where there is one, has this type; a row without a result has none
+pub data Agrees (p : Program) (w : World) (s : MachineState) : Option RType → Effect → steps.Effect → Type 0 where
+  both_wrong : (o : Option RType) (e : steps.Effect) → Agrees p w s o Wrong e
+  both_say : (t : RType) (v : Value) (y : Word) → Fits s t (Holds v) y → Agrees p w s (Some t) (Gives v w) (steps.Says y)
+  both_share : (t : RType) (v : Value) (y : Word) → Fits s t (Holds v) y → Agrees p w s (Some t) (Gives v w) (steps.Shares y)
+  both_make_text : (t : List ℕ) → Agrees p w s (Some Ref) (Gives (StrVal t) w) (steps.Makes (StrCell t))
+  both_make_exception : (e : Thrown) → Agrees p w s (Some Ref) (Gives (ExcVal e) w) (steps.Makes (ExcCell e))
+  both_make_int : (n : ℤ) → Agrees p w s (Some Int) (Gives (IntVal n) w) (steps.MakesInt n)
+  both_write : (t : List ℕ) → Agrees p w s None (Acts (record w { output = w.output ++ t })) (steps.Writes t)
+  both_store : (n : ℕ) (old y : Option Word) (v : Option Value) → GlobalsFit s p.globals (slice_set w.globals n v) (slice_set s.globals n y) → Agrees p w s None (Acts (record w { globals = slice_set w.globals n v })) (steps.Stores n old y)
+  both_fail : (o : Option RType) (e : Thrown) (y : Word) → ((t : RType) → o ≡ Some t → Fits s t (error_of t) y) → Agrees p w s o (Fails e w) (steps.Fails y e)
+  both_pend : (e : Thrown) (c : ℕ) → IsLive s c (ExcCell e) → Agrees p w s None (Fails e w) (steps.Pends c)
+  both_catch : (e : Thrown) (c : ℕ) → IsLive s c (ExcCell e) → Agrees p w s (Some Ref) (Gives (ExcVal e) (record w { pending = None })) (steps.Catches c)
+  both_read : (t : List ℕ) (rest : Items) → Agrees p w s (Some Ref) (Gives (StrVal t) (record w { items = rest })) (steps.Reads t rest)
+  both_skip : (o : Option RType) (rest : Items) (e : Thrown) (y : Word) → ((t : RType) → o ≡ Some t → Fits s t (error_of t) y) → Agrees p w s o (Fails e (record w { items = rest })) (steps.Skips rest y e)
+  both_stop : (o : Option RType) (e : Ending) → EndsBy e w.pending → Agrees p w s o (Ends e w) (steps.Stops e)
+
+-- a target has the type of the answer
+abbrev pub IsTarget : Declared → Option RType → Option Reg → Type 0
+IsTarget regs o None = Unit {0}
+IsTarget regs None (Some r) = ⊥
+IsTarget regs (Some t) (Some r) = (d : List ℕ × RType) × (slice_get regs r.0 ≡ Some d) × (d.1 ≡ t)
+
+-- a state beside this one, in the same frame with another ledger
+pub record Beside (s u : MachineState) : Type 0 where
+  pub ledger : Ledger
+  pub top : u.top ≡ record s.top { ledger = ledger }
+  pub below : u.below ≡ s.below
+  pub grows : Grows s u
+
+module _ (p : Program) (f : Frame) (below : List Waiting) (s : MachineState) (func : Func) (there : slice_get p.funcs f.fn ≡ Some func) (a : RegsFit s func.regs f.regs s.top.vars) where
+  abbrev pub Does : Next → Config → Type 0
+  Does n c = OpDoes p func.regs f below s c n
+
+  pub sticks : (n : Next) (c : Config) → c ≡ Stuck → Does n c
+  sticks n c e = subst (Does n) (sym e) (op_sticks n)
+
+  -- ---- what comes behind
+  pub succeeds_does : (e : Edge) (regs : Regs) (v : World) (t : MachineState) → GoesOn p func.regs s regs v t → Does (Goes t) (succeeds Fitting p e f below regs v)
+  succeeds_does e regs v t on = by (is_clear e v.pending)
+    where
+      by : (c : Bool) → Does (Goes t) (cond c (goes f below regs v) Stuck)
+      by true = op_goes regs v t on
+      by false = op_sticks (Goes t)
+
+  pub failed_does : (e : Edge) (regs : Regs) (v : World) (t : MachineState) → GoesOn p func.regs s regs v t → Does (Goes t) (failed Fitting p e (next f regs) below v)
+  failed_does e regs v t on = by e
+    where
+      seen : (c : Bool) → Does (Goes t) (cond c (Runs (next f regs) below v) Stuck)
+      seen true = op_goes regs v t on
+      seen false = op_sticks (Goes t)
+
+      by : (x : Edge) → Does (Goes t) (failed Fitting p x (next f regs) below v)
+      by NoEdge = op_sticks (Goes t)
+      by (Tests r) = seen (is_edge (Tests r) (item_at p f.fn f.block (f.place + 1)))
+      by (TestsTwice r) = seen (is_edge (TestsTwice r) (item_at p f.fn f.block (f.place + 1)))
+      by Jumps = seen (is_edge Jumps (item_at p f.fn f.block (f.place + 1)))
+
+  -- ---- registers
+  pub stayed : (v : World) (u : MachineState) → Beside s u → WorldFits p v u → GoesOn p func.regs s f.regs v (next_line u)
+  stayed v u b world =
+      let t : MachineState = next_line u in
+      record {
+        func = ap (λ (z : machines.Frame). z.func) b.top;
+        place = ap (λ (z : machines.Frame). z.place + 1) b.top;
+        into = ap (λ (z : machines.Frame). z.into) b.top;
+        below = b.below;
+        grows = record { keeps = b.grows.keeps };
+        registers = subst (RegsFit t func.regs f.regs) (sym (ap (λ (z : machines.Frame). z.vars) b.top)) (regs_grow s t (record { keeps = b.grows.keeps }) func.regs f.regs s.top.vars a);
+        world = world_grows u t (same_grows u t refl) p v refl refl refl refl refl refl world;
+      }
+
+  pub wrote : (r : ℕ) (d : List ℕ × RType) → slice_get func.regs r ≡ Some d → (h : Held) (y : Word) (v : World) (u : MachineState) → Beside s u → WorldFits p v u → Fits u d.1 h y → GoesOn p func.regs s (put f.regs r h) v (next_line (with_var r y u))
+  wrote r d e h y v u b world fits =
+      let t : MachineState = next_line (with_var r y u) in
+      let old : RegsFit t func.regs f.regs u.top.vars = subst (RegsFit t func.regs f.regs) (sym (ap (λ (z : machines.Frame). z.vars) b.top)) (regs_grow s t (record { keeps = b.grows.keeps }) func.regs f.regs s.top.vars a) in
+      let same : (c : List ℕ × RType) → slice_get func.regs r ≡ Some c → d ≡ c = λ c i. let j : Some d ≡ Some c = sym e ∙ i in cc in
+      record {
+        func = ap (λ (z : machines.Frame). z.func) b.top;
+        place = ap (λ (z : machines.Frame). z.place + 1) b.top;
+        into = ap (λ (z : machines.Frame). z.into) b.top;
+        below = b.below;
+        grows = record { keeps = b.grows.keeps };
+        registers = put_fits t func.regs f.regs u.top.vars old r h y (slice_get_within func.regs r d e) (λ c i. subst (λ (z : List ℕ × RType). Fits t z.1 h y) (same c i) (fits_grow u t (same_grows u t refl) d.1 h y fits));
+        world = world_grows u t (same_grows u t refl) p v refl refl refl refl refl refl world;
+      }
+
+  -- ---- states behind effects
+  module _ (w : World) (world : WorldFits p w s) where
+    -- the same world, beside other cells and another ledger
+    abbrev pub IsSame : MachineState → Type 0
+    IsSame u = Beside s u × WorldFits p w u
+
+    as_it_is : (l : Ledger) → IsSame (with_ledger l s)
+    as_it_is l =
+        (record { ledger = l; top = refl; below = refl; grows = same_grows s (with_ledger l s) refl }, world_grows s (with_ledger l s) (same_grows s (with_ledger l s) refl) p w refl refl refl refl refl refl world)
+
+    took_one : (l : Ledger) (c : ℕ) → IsSame (steps.took c (with_ledger l s))
+    took_one l c =
+        let u : MachineState = steps.took c (with_ledger l s) in
+        let g : Grows s u = take_grows s u c refl in
+        (record { ledger = more c l; top = refl; below = refl; grows = g }, world_grows s u g p w refl refl refl refl refl refl world)
+
+    is_shared : (l : Ledger) (y : Word) → IsSame (shared y (with_ledger l s))
+    is_shared l (ShortInt n) = as_it_is l
+    is_shared l (BigInt c) = took_one l c
+    is_shared l TaggedError = as_it_is l
+    is_shared l (Native n) = as_it_is l
+    is_shared l (CharWord n) = as_it_is l
+    is_shared l (ObjectCell c) = took_one l c
+    is_shared l NoneObject = as_it_is l
+    is_shared l TrueObject = as_it_is l
+    is_shared l FalseObject = as_it_is l
+    is_shared l NoObject = as_it_is l
+
+    -- a new cell, which the frame owns; what is left of the input may be another
+    abbrev made : Ledger → Items → machines.Content → MachineState
+    made l rest x =
+        own (length s.cells) (with_cells (make x s.cells) (with_items rest (with_ledger l s)))
+
+    is_made : (l : Ledger) (rest : Items) (x : machines.Content) → Beside s (made l rest x) × WorldFits p (record w { items = rest }) (made l rest x) × IsLive (made l rest x) (length s.cells) x
+    is_made l rest x =
+        let u : MachineState = made l rest x in
+        let g : Grows s u = make_grows s u x refl in (
+          record { ledger = more (length s.cells) l; top = refl; below = refl; grows = g },
+          record {
+            output = world.output;
+            turns = world.turns;
+            items = refl;
+            store = world.store;
+            made = world.made;
+            globals = globals_grow s u g p.globals w.globals s.globals world.globals;
+            pending = pending_grows s u g w.pending s.pending world.pending;
+          },
+          made_new s.cells x,
+        )
+
+    is_made_here : (l : Ledger) (x : machines.Content) → IsSame (made l s.items x)
+    is_made_here l x =
+        let m = is_made l s.items x in
+        (m.0, record { output = m.1.output; turns = m.1.turns; items = world.items; store = m.1.store; made = m.1.made; globals = m.1.globals; pending = m.1.pending })
+
+    -- an exception is raised
+    abbrev raised : Ledger → Items → Thrown → MachineState
+    raised l rest e = raise e (with_items rest (with_ledger l s))
+
+    is_raised : (l : Ledger) (rest : Items) (e : Thrown) (v : World) → v ≡ record w { items = rest } → Beside s (raised l rest e) × WorldFits p (record v { pending = Some e }) (raised l rest e)
+    is_raised l rest e v same =
+        let u : MachineState = raised l rest e in
+        let g : Grows s u = make_grows s u (ExcCell e) refl in
+        let at : WorldFits p (record w { items = rest; pending = Some e }) u = record {
+          output = world.output;
+          turns = world.turns;
+          items = refl;
+          store = world.store;
+          made = world.made;
+          globals = globals_grow s u g p.globals w.globals s.globals world.globals;
+          pending = made_new s.cells (ExcCell e);
+        } in
+        (record { ledger = l; top = refl; below = refl; grows = g }, subst (λ z. WorldFits p (record z { pending = Some e }) u) (sym same) at)
+
+    same_items : w ≡ record w { items = s.items }
+    same_items = ap (λ i. record w { items = i }) (sym world.items)
+
+    -- ---- effects without a target
+    abbrev done : Edge → Option Reg → Ledger → List ℕ → Effect → steps.Effect → Type 0
+    done e to l gone x y =
+        Does (steps.applied false s (option_map number_of to) l gone y) (applied Fitting p e to f below x)
+
+    none_does : (e : Edge) (l : Ledger) (gone : List ℕ) (o : Option RType) (x : Effect) (y : steps.Effect) → Agrees p w s o x y → done e None l gone x y
+    none_does e l gone o x y (both_wrong q z) = op_sticks _
+    none_does e l gone o x y (both_say t v z fits) = op_sticks _
+    none_does e l gone o x y (both_share t v z fits) = op_sticks _
+    none_does e l gone o x y (both_make_text t) = op_sticks _
+    none_does e l gone o x y (both_make_exception t) = op_sticks _
+    none_does e l gone o x y (both_make_int n) = op_sticks _
+    none_does e l gone o x y (both_write t) =
+        let u : MachineState = with_ledger l (record s { output = s.output ++ t }) in
+        let v : World = record w { output = w.output ++ t } in
+        let g : Grows s u = same_grows s u refl in
+        succeeds_does e f.regs v (next_line u) (stayed v u (record { ledger = l; top = refl; below = refl; grows = g }) (record {
+          output = ap (λ z. z ++ t) world.output;
+          turns = world.turns;
+          items = world.items;
+          store = world.store;
+          made = world.made;
+          globals = globals_grow s u g p.globals w.globals s.globals world.globals;
+          pending = pending_grows s u g w.pending s.pending world.pending;
+        }))
+    none_does e l gone o x y (both_store n old z v fits) =
+        let u : MachineState = record (with_ledger l s) { globals = slice_set s.globals n z } in
+        let k : World = record w { globals = slice_set w.globals n v } in
+        let g : Grows s u = same_grows s u refl in
+        succeeds_does e f.regs k (next_line u) (stayed k u (record { ledger = l; top = refl; below = refl; grows = g }) (record {
+          output = world.output;
+          turns = world.turns;
+          items = world.items;
+          store = world.store;
+          made = world.made;
+          globals = globals_grow s u g p.globals (slice_set w.globals n v) (slice_set s.globals n z) fits;
+          pending = pending_grows s u g w.pending s.pending world.pending;
+        }))
+    none_does e l gone o x y (both_fail q z n fits) =
+        let r = is_raised l s.items z w same_items in
+        failed_does e f.regs (record w { pending = Some z }) (next_line (raised l s.items z)) (stayed (record w { pending = Some z }) (raised l s.items z) r.0 r.1)
+    none_does e l gone o x y (both_pend z c live) =
+        let u : MachineState = record (with_ledger l s) { pending = Some c } in
+        let v : World = record w { pending = Some z } in
+        let g : Grows s u = same_grows s u refl in
+        failed_does e f.regs v (next_line u) (stayed v u (record { ledger = l; top = refl; below = refl; grows = g }) (record {
+          output = world.output;
+          turns = world.turns;
+          items = world.items;
+          store = world.store;
+          made = world.made;
+          globals = globals_grow s u g p.globals w.globals s.globals world.globals;
+          pending = live;
+        }))
+    none_does e l gone o x y (both_catch z c live) = op_sticks _
+    none_does e l gone o x y (both_read t rest) = op_sticks _
+    none_does e l gone o x y (both_skip q rest z n fits) =
+        let r = is_raised l rest z (record w { items = rest }) refl in
+        failed_does e f.regs (record w { items = rest; pending = Some z }) (next_line (raised l rest z)) (stayed (record w { items = rest; pending = Some z }) (raised l rest z) r.0 r.1)
+    none_does e l gone o x y (both_stop q z by) = op_ends z w s world by
+
+    -- ---- effects with a target
+    module _ (e : Edge) (r : Reg) (l : Ledger) (gone : List ℕ) (t : RType) (d : List ℕ × RType) (declared : slice_get func.regs r.0 ≡ Some d) (typed : d.1 ≡ t) where
+      -- both go on with a value in the target
+      gives : (v : Value) (k : World) (u : MachineState) (y : Word) → Beside s u → WorldFits p k u → Fits u t (Holds v) y → Does (Goes (next_line (with_var r.0 y u))) (applied Fitting p e (Some r) f below (Gives v k))
+      gives v k u y b at fits =
+          let regs : Regs = put f.regs r.0 (Holds v) in
+          let on = wrote r.0 d declared (Holds v) y k u b at (subst (λ z. Fits u z (Holds v) y) (sym typed) fits) in
+          let does : applied Fitting p e (Some r) f below (Gives v k) ≡ succeeds Fitting p e f below regs k = ap (λ z. meaning.if_some z (λ q. succeeds Fitting p e f below regs k)) (type_here p f.fn func there r d declared) in
+          subst (Does (Goes (next_line (with_var r.0 y u)))) (sym does) (succeeds_does e regs k (next_line (with_var r.0 y u)) on)
+
+      -- both go on with the error value
+      loses : (x : Thrown) (k : World) (u : MachineState) (y : Word) → Beside s u → WorldFits p (record k { pending = Some x }) u → Fits u t (error_of t) y → Does (Goes (next_line (with_var r.0 y u))) (applied Fitting p e (Some r) f below (Fails x k))
+      loses x k u y b at fits =
+          let v : World = record k { pending = Some x } in
+          let regs : Regs = put f.regs r.0 (error_of d.1) in
+          let on = wrote r.0 d declared (error_of d.1) y v u b at (subst (λ z. Fits u z (error_of z) y) (sym typed) fits) in
+          let does : applied Fitting p e (Some r) f below (Fails x k) ≡ failed Fitting p e (next f regs) below v = ap (λ z. meaning.if_some z (λ q. failed Fitting p e (next f (put f.regs r.0 (error_of q))) below v)) (type_here p f.fn func there r d declared) in
+          subst (Does (Goes (next_line (with_var r.0 y u)))) (sym does) (failed_does e regs v (next_line (with_var r.0 y u)) on)
+
+      some_does : (o : Option RType) → o ≡ Some t → (x : Effect) (y : steps.Effect) → Agrees p w s o x y → done e (Some r) l gone x y
+      some_does o is x y (both_wrong q z) = op_sticks _
+      some_does o is x y (both_say q v z fits) =
+          let same : q ≡ t = cc in
+          let u = as_it_is l in
+          gives v w (with_ledger l s) z u.0 u.1 (fits_grow s (with_ledger l s) u.0.grows t (Holds v) z (subst (λ c. Fits s c (Holds v) z) same fits))
+      some_does o is x y (both_share q v z fits) =
+          let same : q ≡ t = cc in
+          let u = is_shared l z in
+          gives v w (shared z (with_ledger l s)) z u.0 u.1 (fits_grow s (shared z (with_ledger l s)) u.0.grows t (Holds v) z (subst (λ c. Fits s c (Holds v) z) same fits))
+      some_does o is x y (both_make_text n) =
+          let same : Ref ≡ t = cc in
+          let u = is_made_here l (StrCell n) in
+          gives (StrVal n) w (made l s.items (StrCell n)) (ObjectCell (length s.cells)) u.0 u.1 (subst (λ c. Fits (made l s.items (StrCell n)) c (Holds (StrVal n)) (ObjectCell (length s.cells))) same (text n (length s.cells) (is_made l s.items (StrCell n)).2))
+      some_does o is x y (both_make_exception n) =
+          let same : Ref ≡ t = cc in
+          let u = is_made_here l (ExcCell n) in
+          gives (ExcVal n) w (made l s.items (ExcCell n)) (ObjectCell (length s.cells)) u.0 u.1 (subst (λ c. Fits (made l s.items (ExcCell n)) c (Holds (ExcVal n)) (ObjectCell (length s.cells))) same (exception n (length s.cells) (is_made l s.items (ExcCell n)).2))
+      some_does o is x y (both_make_int n) =
+          let same : Int ≡ t = cc in
+          let u = is_made_here l (IntCell n) in
+          gives (IntVal n) w (made l s.items (IntCell n)) (BigInt (length s.cells)) u.0 u.1 (subst (λ c. Fits (made l s.items (IntCell n)) c (Holds (IntVal n)) (BigInt (length s.cells))) same (big n (length s.cells) (is_made l s.items (IntCell n)).2))
+      some_does o is x y (both_write n) = op_sticks _
+      some_does o is x y (both_store n old z v fits) = op_sticks _
+      some_does o is x y (both_fail q z n fits) =
+          let u = is_raised l s.items z w same_items in
+          loses z w (raised l s.items z) n u.0 u.1 (fits_grow s (raised l s.items z) u.0.grows t (error_of t) n (fits t is))
+      some_does o is x y (both_pend z c live) = absurd (cc)
+      some_does o is x y (both_catch z c live) =
+          let same : Ref ≡ t = cc in
+          let u : MachineState = own c (record (with_ledger l s) { pending = None }) in
+          let k : World = record w { pending = None } in
+          let g : Grows s u = same_grows s u refl in
+          gives (ExcVal z) k u (ObjectCell c) (record { ledger = more c l; top = refl; below = refl; grows = g }) (record {
+            output = world.output;
+            turns = world.turns;
+            items = world.items;
+            store = world.store;
+            made = world.made;
+            globals = globals_grow s u g p.globals w.globals s.globals world.globals;
+            pending = tt;
+          }) (subst (λ q. Fits u q (Holds (ExcVal z)) (ObjectCell c)) same (exception z c live))
+      some_does o is x y (both_read n rest) =
+          let same : Ref ≡ t = cc in
+          let u = is_made l rest (StrCell n) in
+          gives (StrVal n) (record w { items = rest }) (made l rest (StrCell n)) (ObjectCell (length s.cells)) u.0 u.1 (subst (λ c. Fits (made l rest (StrCell n)) c (Holds (StrVal n)) (ObjectCell (length s.cells))) same (text n (length s.cells) u.2))
+      some_does o is x y (both_skip q rest z n fits) =
+          let u = is_raised l rest z (record w { items = rest }) refl in
+          loses z (record w { items = rest }) (raised l rest z) n u.0 u.1 (fits_grow s (raised l rest z) u.0.grows t (error_of t) n (fits t is))
+      some_does o is x y (both_stop q z by) = op_ends z w s world by
+
+    -- ---- both
+    pub effects_do : (e : Edge) (o : Option RType) (to : Option Reg) → IsTarget func.regs o to → (l : Ledger) (gone : List ℕ) (x : Effect) (y : steps.Effect) → Agrees p w s o x y → Does (steps.applied false s (option_map number_of to) l gone y) (applied Fitting p e to f below x)
+    effects_do e o None at l gone x y agrees = none_does e l gone o x y agrees
+    effects_do e None (Some r) at l gone x y agrees = absurd at
+    effects_do e (Some t) (Some r) at l gone x y agrees = some_does e r l gone t at.0 at.1 at.2 (Some t) refl x y agrees

@@ -1,0 +1,294 @@
+-- One operation that stays in its function: its line does what it does.
+use Rattle.std.proofs.Common.{◌≡◌, refl, sym, ◌∙◌, ap, subst, ℕ, zero, suc, Bool, true, false, cond, List, [], ◌∷◌, Option, Some, None}
+use Rattle.std.specs.Prelude.{slice_get, map}
+use Rattle.std.specs.Option.{option_map, option_and_then}
+use Rattle.value_core.specs.Ending.{Cut}
+use Rattle.value_core.specs.Exceptions.{Thrown}
+use Rattle.value_core.specs.Value.{Value}
+use Rattle.c_core.specs.declared.code.CArg.{CArg}
+use Rattle.c_core.specs.declared.code.CArg.TheVariants as c_arg
+use Rattle.c_core.specs.declared.code.Code.{Code}
+use Rattle.c_core.specs.declared.code.Line.TheVariants as line
+use Rattle.c_core.specs.declared.fault.Fault.TheVariants as fault
+use Rattle.c_core.specs.declared.primitive.Primitive.{Primitive}
+use Rattle.c_core.specs.declared.primitive.Primitive.TheVariants as prim
+use Rattle.c_core.specs.declared.primitive.GlobalPrim.TheVariants as global
+use Rattle.c_core.specs.Functions.{function_named}
+use Rattle.c_core.specs.Ledgers.{Ledger, without}
+use Rattle.c_core.specs.Machine.{Word, IntCell, StrCell, ExcCell, MachineState}
+use Rattle.c_core.specs.Primitives.{OfGlobal, Anything, Steals, TakesGlobal, Owned, Nothing, row_of}
+use Rattle.c_core.specs.Arguments.{Cell, Plain, is_holding, kind_of_global, stolen, word_in}
+use Rattle.c_core.specs.Arguments as machines
+use Rattle.c_core.specs.Step.{Next, Goes, Ends, with_var, next_line, if_there, if_true, if_variable, if_arguments, if_may_stand, if_calm, call_step, primitive_step, literal_word, turned, step_at, line_at, unchecked_step}
+use Rattle.c_core.specs.Step as steps
+use Rattle.c_core.specs.WellFormed.{WellFormed, kind_at, has_kind, kind_fits, kinds_agree, args_fit, target_fits, row_fits, call_fits}
+use Rattle.c_core.proofs.Lines.{and_true}
+use Rattle.ir_core.specs.declared.code.RType.{RType}
+use Rattle.ir_core.specs.declared.code.Reg.{Reg}
+use Rattle.ir_core.specs.declared.code.Lit.{Lit as Literal}
+use Rattle.ir_core.specs.declared.code.PArg.{PArg}
+use Rattle.ir_core.specs.declared.code.PArg.TheVariants as arg
+use Rattle.ir_core.specs.declared.code.Op.{Op}
+use Rattle.ir_core.specs.declared.code.Op.TheVariants.{Move, Lit, Prim, Call, Virtual, TraitCall, Turn, Inc, Dec, XDec}
+use Rattle.ir_core.specs.declared.code.Program.{Program}
+use Rattle.ir_core.specs.Registers.{Held, Holds, put, literal_of}
+use Rattle.ir_core.specs.Rows.{Declared, type_of_reg, edge_of_prim}
+use Rattle.ir_core.specs.Effects.{World, Argument, Given, Written}
+use Rattle.ir_core.specs.Effects as program
+use Rattle.ir_core.specs.Meaning.{Frame, Waiting, Config, Runs, Ended, Stuck, Fitting, next, goes, argument, arguments, is_lost, may_stand, registers_of, applied, do_op}
+use Rattle.ir_core.specs.Meaning as meaning
+use Rattle.ir_core.specs.Lower.{kind_of_type, variable_of, argument_in, number_of, literal_in, line_of}
+use Rattle.refcount_insert_lines_laws.specs.Matching.{Fits, short, big, native, char_true, char_false, none, object_true, object_false, text, exception, PendingFits, HasHeads, RunsIn}
+use Rattle.refcount_insert_lines_laws.specs.Lines.{stays, OpDoes, op_sticks, op_goes, op_ends, OpsDo}
+use Rattle.refcount_insert_lines_laws.proofs.Growing.{same_grows, globals_grow, pending_grows}
+use Rattle.refcount_insert_lines_laws.proofs.Words.{there_is, literal_fits}
+use Rattle.refcount_insert_lines_laws.proofs.Facts.{fits_here, kind_here, registers_here, type_here, same_types, literal_type, has_type}
+use Rattle.refcount_insert_lines_laws.proofs.Reading.{AllMeet, no_more, one_more, writes_global, are_read, first_then, reading, variable_reads, at_cell}
+use Rattle.refcount_insert_lines_laws.proofs.Agreeing.{Agrees, IsTarget, sticks, stayed, wrote, effects_do}
+use Rattle.refcount_insert_lines_laws.proofs.Rows.{answer_of, is_global, agree}
+use Rattle.refcount_insert_lines_laws.proofs.Refusing.{refused}
+use Rattle.refcount_insert_lines_laws.proofs.Globals.{the_global, kind_is_there, get_row, clear_row, set_row}
+use Rattle.refcount_insert_lines_laws.proofs.RowFacts.{named, read_row, has_kinds, target_is, one_global, global_and_stolen}
+
+module _ (p : Program) (code : Code) (heads : HasHeads p code) (formed : WellFormed code) (f : Frame) (below : List Waiting) (w : World) (s : MachineState) (a : RunsIn p f w s) where
+  abbrev D : Next → Config → Type 0
+  D n c = OpDoes p a.func.regs f below s c n
+
+  abbrev S : (n : Next) (c : Config) → c ≡ Stuck → D n c
+  S = sticks p f below s a.func a.there a.regs
+
+  abbrev declared : Declared
+  declared = registers_of p f.fn
+
+  abbrev regs_are : declared ≡ a.func.regs
+  regs_are = registers_here p f.fn a.func a.there
+
+  -- what the line does, and what the operation does
+  by_both : (n m : Next) (c d : Config) → n ≡ m → c ≡ d → D m d → D n c
+  by_both n m c d e g h = subst (λ x. D x c) (sym e) (subst (D m) (sym g) h)
+
+  typed : (r : Reg) (d : List ℕ × RType) → slice_get a.func.regs r.0 ≡ Some d → type_of_reg declared r ≡ Some d.1
+  typed r d e = type_here p f.fn a.func a.there r d e
+
+  -- a register is written, and nothing else changes
+  writes : (r : ℕ) (d : List ℕ × RType) → slice_get a.func.regs r ≡ Some d → (h : Held) (y : Word) → Fits s d.1 h y → D (Goes (next_line (with_var r y s))) (Runs (next f (put f.regs r h)) below w)
+  writes r d e h y fits =
+      op_goes (put f.regs r h) w (next_line (with_var r y s)) (wrote p f below s a.func a.there a.regs r d e h y w s (record { ledger = s.top.ledger; top = refl; below = refl; grows = same_grows s s refl }) a.world fits)
+
+  -- ---- moves, literals, turns
+  -- an error value of an `int` or of a reference is not moved
+  move_by : (r t : Reg) (d e : List ℕ × RType) (y : Word) → slice_get a.func.regs r.0 ≡ Some d → type_of_reg declared t ≡ Some e.1 → type_of_reg declared r ≡ Some d.1 → Fits s d.1 (f.regs t.0) y → (c : Bool) → is_lost e.1 (f.regs t.0) ≡ c → D (Goes (next_line (with_var r.0 y s))) (do_op Fitting p (Move r t) f below w)
+  move_by r t d e y there from to fits true lost = S _ _ (rw (from, lost) refl)
+  move_by r t d e y there from to fits false lost =
+      let does : do_op Fitting p (Move r t) f below w ≡ Runs (next f (put f.regs r.0 (f.regs t.0))) below w = rw (from, lost, to) refl in
+      by_both _ _ _ _ refl does (writes r.0 d there (f.regs t.0) y fits)
+
+  move_does : (r t : Reg) → line_at code s.top ≡ Some (line.Move r.0 t.0) → D (step_at false code s (Some (line.Move r.0 t.0))) (do_op Fitting p (Move r t) f below w)
+  move_does r t is =
+      let types = same_types a.func.regs r.0 t.0 (fits_here p code heads f w s a formed (line.Move r.0 t.0) is) in
+      let d : List ℕ × RType = types.0 in
+      let e : List ℕ × RType = types.1 in
+      let old = a.regs.fit t.0 e types.3 in
+      let y : Word = old.0 in
+      let text : step_at false code s (Some (line.Move r.0 t.0)) ≡ Goes (next_line (with_var r.0 y s)) =
+      ap (λ o. steps.if_some false s fault.Kind o (λ z. if_there false s z (λ q. Goes (next_line (with_var r.0 z s))))) old.1
+      ∙ there_is s e.1 (f.regs t.0) y old.2 (Goes (next_line (with_var r.0 y s))) in
+      by_both _ _ _ _ text refl (move_by r t d e y types.2 (typed t e types.3) (typed r d types.2) (subst (λ z. Fits s z (f.regs t.0) y) (sym types.4) old.2) (is_lost e.1 (f.regs t.0)) refl)
+
+  literal_by : (r : Reg) (l : Literal) (d : List ℕ × RType) → slice_get a.func.regs r.0 ≡ Some d → (o : Option Held) → literal_of d.1 l ≡ o → D (step_at false code s (Some (line.Lit r.0 (literal_in l)))) (do_op Fitting p (Lit r l) f below w)
+  literal_by r l d e None is = let into = typed r d e in S _ _ (rw (into, is) refl)
+  literal_by r l d e (Some h) is =
+      let into = typed r d e in
+      let lit = literal_fits s d.1 l h is in
+      let y : Word = lit.0 in
+      let does : do_op Fitting p (Lit r l) f below w ≡ Runs (next f (put f.regs r.0 h)) below w = rw (into, is) refl in
+      let text : step_at false code s (Some (line.Lit r.0 (literal_in l))) ≡ Goes (next_line (with_var r.0 y s)) =
+      ap (λ o. steps.if_some false s fault.Kind (option_and_then (λ k. literal_word k (literal_in l)) o) (λ z. Goes (next_line (with_var r.0 z s)))) (kind_here p code heads f w s a r.0 d e)
+      ∙ ap (λ o. steps.if_some false s fault.Kind o (λ z. Goes (next_line (with_var r.0 z s)))) lit.1 in
+      by_both _ _ _ _ text does (writes r.0 d e h y lit.2)
+
+  literal_does : (r : Reg) (l : Literal) → line_at code s.top ≡ Some (line.Lit r.0 (literal_in l)) → D (step_at false code s (Some (line.Lit r.0 (literal_in l)))) (do_op Fitting p (Lit r l) f below w)
+  literal_does r l is =
+      let d = literal_type a.func.regs r.0 (literal_in l) (fits_here p code heads f w s a formed (line.Lit r.0 (literal_in l)) is) in
+      literal_by r l d.0 d.1 (literal_of d.0.1 l) refl
+
+  turned_by : (n : ℕ) → D (turned false s n) (meaning.turned f below w n)
+  turned_by zero = op_ends Cut w s a.world tt
+  turned_by (suc n) =
+      let u : MachineState = record s { turns = n } in
+      let v : World = record w { turns = n } in
+      let g = same_grows s u refl in
+      op_goes f.regs v (next_line u) (stayed p f below s a.func a.there a.regs v u (record { ledger = s.top.ledger; top = refl; below = refl; grows = g }) (record {
+        output = a.world.output;
+        turns = refl;
+        items = a.world.items;
+        store = a.world.store;
+        made = a.world.made;
+        globals = globals_grow s u g p.globals w.globals s.globals a.world.globals;
+        pending = pending_grows s u g w.pending s.pending a.world.pending;
+      }))
+
+  -- while no exception is pending
+  calm_by : (n : Next) (c : Config) → D n c → (o : Option Thrown) (q : Option ℕ) → PendingFits s o q → D (if_calm false s q n) (meaning.if_calm o c)
+  calm_by n c h None None at = h
+  calm_by n c h None (Some k) at = absurd at
+  calm_by n c h (Some e) None at = absurd at
+  calm_by n c h (Some e) (Some k) at = op_sticks _
+
+  turn_does : D (step_at false code s (Some line.Turn)) (do_op Fitting p Turn f below w)
+  turn_does =
+      calm_by (turned false s s.turns) (meaning.turned f below w w.turns) (by_both _ (turned false s w.turns) _ _ (ap (turned false s) a.world.turns) refl (turned_by w.turns)) w.pending s.pending a.world.pending
+
+  -- ---- primitives
+  -- while an exception is pending only some rows may stand
+  stands_by : (q : Primitive) (n : Next) (c : Config) → D n c → (b : Bool) → (row_of q).while_pending ≡ b → (o : Option Thrown) → w.pending ≡ o → (k : Option ℕ) → s.pending ≡ k → PendingFits s o k → D (if_may_stand false s (row_of q).while_pending n) (cond (may_stand w.pending q) c Stuck)
+  stands_by q n c h true e None calm k is at =
+      by_both _ n _ c (ap (λ z. if_may_stand false s z n) e) (ap (λ z. cond (may_stand z q) c Stuck) calm) h
+  stands_by q n c h false e None calm None is at =
+      by_both _ n _ c (ap (λ z. if_may_stand false s z n) e ∙ ap (λ z. if_calm false s z n) is) (ap (λ z. cond (may_stand z q) c Stuck) calm) h
+  stands_by q n c h false e None calm (Some k) is at = absurd at
+  stands_by q n c h true e (Some x) calm k is at =
+      by_both _ n _ c (ap (λ z. if_may_stand false s z n) e) (ap (λ z. cond (may_stand z q) c Stuck) calm ∙ ap (λ z. cond z c Stuck) e) h
+  stands_by q n c h false e (Some x) calm k is at =
+      S _ _ (ap (λ z. cond (may_stand z q) c Stuck) calm ∙ ap (λ z. cond z c Stuck) e)
+
+  module _ (to : Option Reg) (q : Primitive) (args : List PArg) (is : line_at code s.top ≡ Some (line_of p (Prim to q args))) where
+    abbrev cargs : List CArg
+    cargs = map argument_in args
+
+    abbrev into : Option ℕ
+    into = option_map number_of to
+
+    -- the row fits
+    row_here : row_fits code (map variable_of a.func.regs) into cargs (row_of q) ≡ true
+    row_here =
+        subst (λ z. call_fits code (map variable_of a.func.regs) into cargs z (function_named code.funcs (row_of q).name) ≡ true) (named q) (fits_here p code heads f w s a formed (line_of p (Prim to q args)) is)
+
+    parts : (args_fit code (map variable_of a.func.regs) cargs (row_of q).parameters cargs ≡ true) × (target_fits code (map variable_of a.func.regs) cargs (row_of q).outcome into ≡ true)
+    parts =
+        and_true (args_fit code (map variable_of a.func.regs) cargs (row_of q).parameters cargs) (target_fits code (map variable_of a.func.regs) cargs (row_of q).outcome into) row_here
+
+    -- what comes behind the arguments
+    abbrev by_text : List machines.Argument → Ledger → Next
+    by_text ys l =
+        steps.applied false s into l (stolen (row_of q).parameters ys) (steps.effect code s q ys)
+
+    abbrev by_program : List Argument → Config
+    by_program xs =
+        applied Fitting p (edge_of_prim declared to q) to f below (program.effect p q xs w)
+
+    abbrev Called : Type 0
+    Called =
+        D (step_at false code s (Some (line_of p (Prim to q args)))) (do_op Fitting p (Prim to q args) f below w)
+
+    called : D (if_arguments false s code (row_of q).parameters cargs [] s.top.ledger by_text) (meaning.if_some (arguments declared f.regs args) by_program) → Called
+    called h =
+        by_both _ _ _ _ (ap (call_step false s code into (row_of q).name cargs) (named q)) refl (stands_by q _ _ h (row_of q).while_pending refl w.pending refl s.pending refl a.world.pending)
+
+    -- a row that is read as every other
+    by_row : (o : Option RType) → IsTarget a.func.regs o to → are_read (row_of q).parameters ≡ true → ((vs : List Argument) (ys : List machines.Argument) → AllMeet s code (row_of q).parameters vs ys → Agrees p w s o (program.effect p q vs w) (steps.effect code s q ys)) → Called
+    by_row o target read row =
+        called (reading D S code s declared a.func.regs f.regs regs_are a.regs cargs (row_of q).parameters args read parts.0 [] s.top.ledger by_text by_program (λ vs ys m meet. effects_do p f below s a.func a.there a.regs w a.world (edge_of_prim declared to q) o to target m (stolen (row_of q).parameters ys) (program.effect p q vs w) (steps.effect code s q ys) (row vs ys meet)) (λ vs r. ap (applied Fitting p (edge_of_prim declared to q) to f below) (refused p code w s q vs r)))
+
+    plain_does : is_global q ≡ false → Called
+    plain_does other =
+        let both = and_true (are_read (row_of q).parameters) (has_kinds (row_of q).outcome) (read_row q other) in
+        by_row (answer_of (row_of q).outcome) (target_is code a.func.regs cargs (row_of q).outcome to both.1 parts.1) both.0 (agree p code w s a.world q other)
+
+  -- ---- globals
+  clear_does : (to : Option Reg) (args : List PArg) → line_at code s.top ≡ Some (line_of p (Prim to (prim.Global global.Clear) args)) → D (step_at false code s (Some (line_of p (Prim to (prim.Global global.Clear) args)))) (do_op Fitting p (Prim to (prim.Global global.Clear) args) f below w)
+  clear_does to args is =
+      by_row to (prim.Global global.Clear) args is None (target_is code a.func.regs (map argument_in args) Nothing to refl (parts to (prim.Global global.Clear) args is).1) refl row
+    where
+      row : (vs : List Argument) (ys : List machines.Argument) → AllMeet s code (TakesGlobal ∷ []) vs ys → Agrees p w s None (program.effect p (prim.Global global.Clear) vs w) (steps.effect code s (prim.Global global.Clear) ys)
+      row vs ys (one_more (writes_global name known) no_more) = clear_row p code heads.globals w s a.world name known
+
+  get_does : (to : Option Reg) (args : List PArg) → line_at code s.top ≡ Some (line_of p (Prim to (prim.Global global.Get) args)) → D (step_at false code s (Some (line_of p (Prim to (prim.Global global.Get) args)))) (do_op Fitting p (Prim to (prim.Global global.Get) args) f below w)
+  get_does to args is =
+      let q : Primitive = prim.Global global.Get in
+      let fit = parts to q args is in
+      let one = one_global code (map variable_of a.func.regs) (map argument_in args) args fit.0 in
+      let name : List ℕ = one.0 in
+      let g = the_global p code heads.globals w s a.world name one.2 in
+      let kind = kind_is_there p code heads.globals w s a.world name one.2 in
+      called to q args is (
+      by_both _ (by_text to q args is (machines.Written (c_arg.Global name) ∷ []) s.top.ledger) _ (by_program to q args is (Written (arg.Global name) ∷ []))
+      (ap (λ z. if_arguments false s code (TakesGlobal ∷ []) (map argument_in z) [] s.top.ledger (by_text to q args is)) one.1)
+      (ap (λ z. meaning.if_some (arguments declared f.regs z) (by_program to q args is)) one.1)
+      (effects_do p f below s a.func a.there a.regs w a.world (edge_of_prim declared to q) (Some g.global.1) to (target g.global.1 name one.1 kind to fit.1) s.top.ledger [] _ _ (get_row p code heads.globals w s a.world name one.2)))
+    where
+      target : (t : RType) (name : List ℕ) → args ≡ arg.Global name ∷ [] → kind_of_global code name ≡ Some (kind_of_type t) → (o : Option Reg) → target_fits code (map variable_of a.func.regs) (map argument_in args) (Owned OfGlobal) (option_map number_of o) ≡ true → IsTarget a.func.regs (Some t) o
+      target t name e kind None fits = tt
+      target t name e kind (Some r) fits =
+          let here : kinds_agree (kind_of_global code name) (kind_at (map variable_of a.func.regs) r.0) ≡ true = subst (λ z. kind_fits code (map argument_in z) OfGlobal (kind_at (map variable_of a.func.regs) r.0) ≡ true) e fits in
+          has_type a.func.regs r.0 t (subst (λ z. kinds_agree z (kind_at (map variable_of a.func.regs) r.0) ≡ true) kind here)
+
+  -- any word of a value, as it is stolen
+  any_reads : (t : RType) (l : Ledger) (go : machines.Argument → Ledger → Next) (k : Argument → Config) → ((v : Value) (y : Word) (x : machines.Argument) (m : Ledger) → word_in (kind_of_type t) x ≡ Some y → Fits s t (Holds v) y → D (go x m) (k (Given v))) → (v : Value) (y : Word) → Fits s t (Holds v) y → D (if_there false s y (λ x. if_true false s (is_holding Anything x) (steps.if_stolen false s x l (go x)))) (k (Given v))
+  any_reads t l go k more v y (short n) = more _ y (Plain y) l refl (short n)
+  any_reads t l go k more v y (big n c live) =
+      at_cell D S code s declared a.func.regs f.regs regs_are a.regs c (IntCell n) live (λ x. steps.if_stolen false s (Cell c x) l (go (Cell c x))) (k (Given v)) (more _ y (Cell c (IntCell n)) (without c l) refl (big n c live))
+  any_reads t l go k more v y (native n) = more _ y (Plain y) l refl (native n)
+  any_reads t l go k more v y char_true = more _ y (Plain y) l refl char_true
+  any_reads t l go k more v y char_false = more _ y (Plain y) l refl char_false
+  any_reads t l go k more v y none = more _ y (Plain y) l refl none
+  any_reads t l go k more v y object_true = more _ y (Plain y) l refl object_true
+  any_reads t l go k more v y object_false = more _ y (Plain y) l refl object_false
+  any_reads t l go k more v y (text n c live) =
+      at_cell D S code s declared a.func.regs f.regs regs_are a.regs c (StrCell n) live (λ x. steps.if_stolen false s (Cell c x) l (go (Cell c x))) (k (Given v)) (more _ y (Cell c (StrCell n)) (without c l) refl (text n c live))
+  any_reads t l go k more v y (exception e c live) =
+      at_cell D S code s declared a.func.regs f.regs regs_are a.regs c (ExcCell e) live (λ x. steps.if_stolen false s (Cell c x) l (go (Cell c x))) (k (Given v)) (more _ y (Cell c (ExcCell e)) (without c l) refl (exception e c live))
+
+  set_does : (to : Option Reg) (args : List PArg) → line_at code s.top ≡ Some (line_of p (Prim to (prim.Global global.Set) args)) → D (step_at false code s (Some (line_of p (Prim to (prim.Global global.Set) args)))) (do_op Fitting p (Prim to (prim.Global global.Set) args) f below w)
+  set_does to args is =
+      let q : Primitive = prim.Global global.Set in
+      let fit = parts to q args is in
+      let two = global_and_stolen code (map variable_of a.func.regs) (map argument_in args) args fit.0 in
+      let name : List ℕ = two.0 in
+      let r : Reg = two.1 in
+      let g = the_global p code heads.globals w s a.world name two.3 in
+      let t : RType = g.global.1 in
+      let kind = kind_is_there p code heads.globals w s a.world name two.3 in
+      let written : machines.Argument = machines.Written (c_arg.Global name) in
+      let here : kinds_agree (kind_of_global code name) (kind_at (map variable_of a.func.regs) r.0) ≡ true = subst (λ z. kind_fits code (map argument_in z) OfGlobal (kind_at (map variable_of a.func.regs) r.0) ≡ true) two.2 two.4 in
+      let has : has_kind (kind_of_type t) (kind_at (map variable_of a.func.regs) r.0) ≡ true = subst (λ z. kinds_agree z (kind_at (map variable_of a.func.regs) r.0) ≡ true) kind here in
+      let go : machines.Argument → Ledger → Next = λ x m. by_text to q args is (written ∷ x ∷ []) m in
+      let k : Argument → Config = λ v. by_program to q args is (Written (arg.Global name) ∷ v ∷ []) in
+      let stolen_one : machines.Argument → Next = λ x. steps.if_stolen false s x s.top.ledger (go x) in
+      called to q args is (
+      by_both _ (if_variable false s (kind_of_type t) Anything r.0 stolen_one) _ (meaning.if_some (argument declared f.regs (arg.Var r)) k)
+      (ap (λ z. if_arguments false s code (TakesGlobal ∷ Steals OfGlobal Anything ∷ []) (map argument_in z) [] s.top.ledger (by_text to q args is)) two.2
+      ∙ ap (λ o. steps.if_some false s fault.Kind o (λ kind. if_variable false s kind Anything r.0 stolen_one)) kind)
+      (ap (λ z. meaning.if_some (arguments declared f.regs z) (by_program to q args is)) two.2
+      ∙ (first_then declared f.regs (Some (Written (arg.Global name))) (arguments declared f.regs (arg.Var r ∷ [])) (by_program to q args is)
+      ∙ first_then declared f.regs (argument declared f.regs (arg.Var r)) (Some []) (λ xs. by_program to q args is (Written (arg.Global name) ∷ xs))))
+      (variable_reads D S code s declared a.func.regs f.regs regs_are a.regs t Anything r has stolen_one k (any_reads t s.top.ledger go k (λ v y x m word fits. effects_do p f below s a.func a.there a.regs w a.world (edge_of_prim declared to q) None to (target_is code a.func.regs (map argument_in args) Nothing to refl fit.1) m (stolen (row_of q).parameters (written ∷ x ∷ [])) _ _ (set_row p code heads.globals w s a.world name two.3 v y x word fits)))))
+
+  -- ---- all
+  prim_does : (to : Option Reg) (q : Primitive) (args : List PArg) → line_at code s.top ≡ Some (line_of p (Prim to q args)) → D (step_at false code s (Some (line_of p (Prim to q args)))) (do_op Fitting p (Prim to q args) f below w)
+  prim_does to (prim.Global global.Get) args is = get_does to args is
+  prim_does to (prim.Global global.Set) args is = set_does to args is
+  prim_does to (prim.Global global.Clear) args is = clear_does to args is
+  prim_does to (prim.Int64 q) args is = plain_does to (prim.Int64 q) args is refl
+  prim_does to (prim.Tagged q) args is = plain_does to (prim.Tagged q) args is refl
+  prim_does to (prim.Bool q) args is = plain_does to (prim.Bool q) args is refl
+  prim_does to (prim.Str q) args is = plain_does to (prim.Str q) args is refl
+  prim_does to (prim.Exc q) args is = plain_does to (prim.Exc q) args is refl
+  prim_does to (prim.Err q) args is = plain_does to (prim.Err q) args is refl
+  prim_does to (prim.Io q) args is = plain_does to (prim.Io q) args is refl
+
+  pub op_does : (o : Op) → stays o ≡ true → line_at code s.top ≡ Some (line_of p o) → D (step_at false code s (Some (line_of p o))) (do_op Fitting p o f below w)
+  op_does (Move r t) e is = move_does r t is
+  op_does (Lit r l) e is = literal_does r l is
+  op_does (Prim to q args) e is = prim_does to q args is
+  op_does Turn e is = turn_does
+  op_does (Call r n args) e is = absurd (cc)
+  op_does (Virtual r o n args) e is = absurd (cc)
+  op_does (TraitCall r o t n args) e is = absurd (cc)
+  op_does (Inc r) e is = absurd (cc)
+  op_does (Dec r) e is = absurd (cc)
+  op_does (XDec r) e is = absurd (cc)
+
+pub ops_do : OpsDo
+ops_do p code heads formed o stay f below w s a is =
+    subst (λ l. OpDoes p a.func.regs f below s (do_op Fitting p o f below w) (step_at false code s l)) (sym is) (op_does p code heads formed f below w s a o stay is)

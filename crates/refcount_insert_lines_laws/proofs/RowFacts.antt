@@ -1,0 +1,182 @@
+-- The rows of the primitives: each is found by its name, and all but those of globals say themselves of which kinds their variables are.
+use Rattle.std.proofs.Common.{◌≡◌, refl, sym, ap, subst, Bool, true, false, ◌&&◌, List, [], ◌∷◌, Option, Some, None}
+use Rattle.std.specs.Prelude.{ℕ, map, is_some}
+use Rattle.std.specs.Option.{option_map}
+use Rattle.c_core.specs.declared.code.CArg.{CArg}
+use Rattle.c_core.specs.declared.code.Code.{Code}
+use Rattle.c_core.specs.declared.primitive.Primitive.{Primitive}
+use Rattle.c_core.specs.declared.primitive.Primitive.TheVariants as prim
+use Rattle.c_core.specs.declared.primitive.Int64Prim.TheVariants as int64
+use Rattle.c_core.specs.declared.primitive.TaggedPrim.TheVariants as tagged
+use Rattle.c_core.specs.declared.primitive.BoolPrim.TheVariants as bool
+use Rattle.c_core.specs.declared.primitive.StrPrim.TheVariants as str
+use Rattle.c_core.specs.declared.primitive.GlobalPrim.TheVariants as global
+use Rattle.c_core.specs.declared.primitive.ExcPrim.TheVariants as exc
+use Rattle.c_core.specs.declared.primitive.ErrPrim.TheVariants as err
+use Rattle.c_core.specs.declared.primitive.IoPrim.TheVariants as io
+use Rattle.c_core.specs.Primitives.{Is, OfGlobal, OfSlot, Anything, Steals, TakesGlobal, Outcome, Nothing, Owned, Row, row_of, primitive_named}
+use Rattle.c_core.specs.Arguments.{kind_of_global}
+use Rattle.c_core.specs.WellFormed.{has_kind, kind_at, kind_fits, args_fit, target_fits}
+use Rattle.c_core.proofs.Lines.{and_true}
+use Rattle.ir_core.specs.declared.code.Reg.{Reg}
+use Rattle.ir_core.specs.declared.code.PArg.{PArg}
+use Rattle.ir_core.specs.declared.code.PArg.TheVariants as arg
+use Rattle.ir_core.specs.Rows.{Declared}
+use Rattle.ir_core.specs.Lower.{variable_of, number_of, argument_in}
+use Rattle.refcount_insert_lines_laws.proofs.Facts.{has_type, type_in, kind_in_type}
+use Rattle.refcount_insert_lines_laws.proofs.Reading.{are_read}
+use Rattle.refcount_insert_lines_laws.proofs.Agreeing.{IsTarget}
+use Rattle.refcount_insert_lines_laws.proofs.Rows.{answer_of, is_global}
+
+pub named : (q : Primitive) → primitive_named (row_of q).name ≡ Some q
+named (prim.Int64 int64.Add) = refl
+named (prim.Int64 int64.Subtract) = refl
+named (prim.Int64 int64.Multiply) = refl
+named (prim.Int64 int64.Negate) = refl
+named (prim.Int64 int64.FloorDivide) = refl
+named (prim.Int64 int64.Remainder) = refl
+named (prim.Int64 int64.Lshift) = refl
+named (prim.Int64 int64.Rshift) = refl
+named (prim.Int64 int64.FromBool) = refl
+named (prim.Int64 int64.Eq) = refl
+named (prim.Int64 int64.Lt) = refl
+named (prim.Int64 int64.Le) = refl
+named (prim.Int64 int64.Str) = refl
+named (prim.Tagged tagged.Add) = refl
+named (prim.Tagged tagged.Subtract) = refl
+named (prim.Tagged tagged.Multiply) = refl
+named (prim.Tagged tagged.Negate) = refl
+named (prim.Tagged tagged.FloorDivide) = refl
+named (prim.Tagged tagged.Remainder) = refl
+named (prim.Tagged tagged.Lshift) = refl
+named (prim.Tagged tagged.Rshift) = refl
+named (prim.Tagged tagged.FromText) = refl
+named (prim.Tagged tagged.FromInt64) = refl
+named (prim.Tagged tagged.FromBool) = refl
+named (prim.Tagged tagged.AsInt64) = refl
+named (prim.Tagged tagged.Eq) = refl
+named (prim.Tagged tagged.Lt) = refl
+named (prim.Tagged tagged.Le) = refl
+named (prim.Tagged tagged.Str) = refl
+named (prim.Bool bool.Not) = refl
+named (prim.Bool bool.Str) = refl
+named (prim.Str str.Literal) = refl
+named (prim.Str str.Concat) = refl
+named (prim.Str str.Eq) = refl
+named (prim.Str str.Lt) = refl
+named (prim.Str str.Le) = refl
+named (prim.Str str.Len) = refl
+named (prim.Str str.GetItem) = refl
+named (prim.Global global.Get) = refl
+named (prim.Global global.Set) = refl
+named (prim.Global global.Clear) = refl
+named (prim.Exc exc.New) = refl
+named (prim.Exc exc.Str) = refl
+named (prim.Err err.SetObject) = refl
+named (prim.Err err.Unbound) = refl
+named (prim.Err err.Occurred) = refl
+named (prim.Err err.Matches) = refl
+named (prim.Err err.Catch) = refl
+named (prim.Io io.Write) = refl
+named (prim.Io io.Input) = refl
+
+-- a row that is read as every other
+abbrev pub has_kinds : Outcome → Bool
+has_kinds Nothing = true
+has_kinds (Owned (Is k)) = true
+has_kinds (Owned OfGlobal) = false
+has_kinds (Owned OfSlot) = false
+
+abbrev pub is_plain : Row → Bool
+is_plain r = are_read r.parameters && has_kinds r.outcome
+
+pub read_row : (q : Primitive) → is_global q ≡ false → is_plain (row_of q) ≡ true
+read_row (prim.Int64 int64.Add) g = refl
+read_row (prim.Int64 int64.Subtract) g = refl
+read_row (prim.Int64 int64.Multiply) g = refl
+read_row (prim.Int64 int64.Negate) g = refl
+read_row (prim.Int64 int64.FloorDivide) g = refl
+read_row (prim.Int64 int64.Remainder) g = refl
+read_row (prim.Int64 int64.Lshift) g = refl
+read_row (prim.Int64 int64.Rshift) g = refl
+read_row (prim.Int64 int64.FromBool) g = refl
+read_row (prim.Int64 int64.Eq) g = refl
+read_row (prim.Int64 int64.Lt) g = refl
+read_row (prim.Int64 int64.Le) g = refl
+read_row (prim.Int64 int64.Str) g = refl
+read_row (prim.Tagged tagged.Add) g = refl
+read_row (prim.Tagged tagged.Subtract) g = refl
+read_row (prim.Tagged tagged.Multiply) g = refl
+read_row (prim.Tagged tagged.Negate) g = refl
+read_row (prim.Tagged tagged.FloorDivide) g = refl
+read_row (prim.Tagged tagged.Remainder) g = refl
+read_row (prim.Tagged tagged.Lshift) g = refl
+read_row (prim.Tagged tagged.Rshift) g = refl
+read_row (prim.Tagged tagged.FromText) g = refl
+read_row (prim.Tagged tagged.FromInt64) g = refl
+read_row (prim.Tagged tagged.FromBool) g = refl
+read_row (prim.Tagged tagged.AsInt64) g = refl
+read_row (prim.Tagged tagged.Eq) g = refl
+read_row (prim.Tagged tagged.Lt) g = refl
+read_row (prim.Tagged tagged.Le) g = refl
+read_row (prim.Tagged tagged.Str) g = refl
+read_row (prim.Bool bool.Not) g = refl
+read_row (prim.Bool bool.Str) g = refl
+read_row (prim.Str str.Literal) g = refl
+read_row (prim.Str str.Concat) g = refl
+read_row (prim.Str str.Eq) g = refl
+read_row (prim.Str str.Lt) g = refl
+read_row (prim.Str str.Le) g = refl
+read_row (prim.Str str.Len) g = refl
+read_row (prim.Str str.GetItem) g = refl
+read_row (prim.Exc exc.New) g = refl
+read_row (prim.Exc exc.Str) g = refl
+read_row (prim.Err err.SetObject) g = refl
+read_row (prim.Err err.Unbound) g = refl
+read_row (prim.Err err.Occurred) g = refl
+read_row (prim.Err err.Matches) g = refl
+read_row (prim.Err err.Catch) g = refl
+read_row (prim.Io io.Write) g = refl
+read_row (prim.Io io.Input) g = refl
+read_row (prim.Global q) g = absurd (cc)
+
+-- the target of a line that fits has the type of the answer
+pub target_is : (code : Code) (regs : Declared) (args : List CArg) (o : Outcome) (to : Option Reg) → has_kinds o ≡ true → target_fits code (map variable_of regs) args o (option_map number_of to) ≡ true → IsTarget regs (answer_of o) to
+target_is code regs args o None plain fits = tt
+target_is code regs args Nothing (Some r) plain fits = absurd (cc)
+target_is code regs args (Owned (Is k)) (Some r) plain fits =
+    has_type regs r.0 (type_in k) (subst (λ z. has_kind z (kind_at (map variable_of regs) r.0) ≡ true) (sym (kind_in_type k)) fits)
+target_is code regs args (Owned OfGlobal) (Some r) plain fits = absurd (cc)
+target_is code regs args (Owned OfSlot) (Some r) plain fits = absurd (cc)
+
+-- ---- arguments that name a global
+pub one_global : (code : Code) (vars : _) (all : List CArg) (args : List PArg) → args_fit code vars all (TakesGlobal ∷ []) (map argument_in args) ≡ true → (name : List ℕ) × (args ≡ arg.Global name ∷ []) × (is_some (kind_of_global code name) ≡ true)
+one_global code vars all [] e = absurd (cc)
+one_global code vars all (arg.Global n ∷ []) e = (n, refl, (and_true (is_some (kind_of_global code n)) true e).0)
+one_global code vars all (arg.Var r ∷ rest) e = absurd (cc)
+one_global code vars all (arg.Number n ∷ rest) e = absurd (cc)
+one_global code vars all (arg.Text n ∷ rest) e = absurd (cc)
+one_global code vars all (arg.Class n ∷ rest) e = absurd (cc)
+one_global code vars all (arg.Global n ∷ x ∷ xs) e =
+    let f = (and_true (is_some (kind_of_global code n)) false e).1 in absurd (cc)
+
+one_stolen : (code : Code) (vars : _) (all : List CArg) (args : List PArg) → args_fit code vars all (Steals OfGlobal Anything ∷ []) (map argument_in args) ≡ true → (r : Reg) × (args ≡ arg.Var r ∷ []) × (kind_fits code all OfGlobal (kind_at vars r.0) ≡ true)
+one_stolen code vars all [] e = absurd (cc)
+one_stolen code vars all (arg.Var r ∷ []) e = (r, refl, (and_true (kind_fits code all OfGlobal (kind_at vars r.0)) true e).0)
+one_stolen code vars all (arg.Global n ∷ rest) e = absurd (cc)
+one_stolen code vars all (arg.Number n ∷ rest) e = absurd (cc)
+one_stolen code vars all (arg.Text n ∷ rest) e = absurd (cc)
+one_stolen code vars all (arg.Class n ∷ rest) e = absurd (cc)
+one_stolen code vars all (arg.Var r ∷ x ∷ xs) e =
+    let f = (and_true (kind_fits code all OfGlobal (kind_at vars r.0)) false e).1 in absurd (cc)
+
+pub global_and_stolen : (code : Code) (vars : _) (all : List CArg) (args : List PArg) → args_fit code vars all (TakesGlobal ∷ Steals OfGlobal Anything ∷ []) (map argument_in args) ≡ true → (name : List ℕ) × (r : Reg) × (args ≡ arg.Global name ∷ arg.Var r ∷ []) × (is_some (kind_of_global code name) ≡ true) × (kind_fits code all OfGlobal (kind_at vars r.0) ≡ true)
+global_and_stolen code vars all [] e = absurd (cc)
+global_and_stolen code vars all (arg.Global n ∷ rest) e =
+    let both = and_true (is_some (kind_of_global code n)) (args_fit code vars all (Steals OfGlobal Anything ∷ []) (map argument_in rest)) e in
+    let more = one_stolen code vars all rest both.1 in
+    (n, more.0, ap (λ z. arg.Global n ∷ z) more.1, both.0, more.2)
+global_and_stolen code vars all (arg.Var r ∷ rest) e = absurd (cc)
+global_and_stolen code vars all (arg.Number n ∷ rest) e = absurd (cc)
+global_and_stolen code vars all (arg.Text n ∷ rest) e = absurd (cc)
+global_and_stolen code vars all (arg.Class n ∷ rest) e = absurd (cc)

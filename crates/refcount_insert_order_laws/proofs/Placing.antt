@@ -1,0 +1,87 @@
+-- A function with its counts is placed, by the shares at its lines.
+use Rattle.std.proofs.Common.{◌≡◌, refl, sym, ◌∙◌, ap, ℕ, zero, suc, ◌+◌, ◌≤◌, ◌<◌, arith, true, cond, List, [], ◌∷◌, length, Option, Some, None}
+use Rattle.std.specs.Prelude.{slice_get}
+use Rattle.std.specs.Option.{option_and_then}
+use Rattle.c_core.specs.declared.code.Line.{Line}
+use Rattle.c_core.specs.declared.code.CFunc.{CFunc}
+use Rattle.c_core.specs.Functions.{label_places}
+use Rattle.ir_core.specs.declared.code.Block.{Block}
+use Rattle.ir_core.specs.declared.code.Func.{Func}
+use Rattle.ir_core.specs.declared.code.Program.{Program}
+use Rattle.ir_core.specs.Lower.{lines_from, name_in, lower}
+use Rattle.ir_core.specs.Shape.{Shape}
+use Rattle.c_core_ownership_laws.specs.Shares.{Shares, Within}
+use Rattle.c_core_ownership_laws.specs.Order.{Table, Entered, labels_of, IsPlaced}
+use Rattle.refcount_insert_rule.specs.Counted.{IsCountedFunc}
+use Rattle.refcount_insert_order_laws.proofs.Equations.{at, not_owned_first}
+use Rattle.refcount_insert_order_laws.proofs.MetBlocks.{marks}
+use Rattle.refcount_insert_order_laws.proofs.Trails.{at_place, lead_at, line_map}
+use Rattle.refcount_insert_order_laws.proofs.Bodies.{text_of}
+use Rattle.refcount_insert_order_laws.proofs.Ends.{Starts}
+use Rattle.refcount_insert_order_laws.proofs.Blocks.{place_of, Blocks}
+use Rattle.refcount_insert_order_laws.proofs.Starts.{if_met, starts, all_size, start_at, first_start}
+use Rattle.refcount_insert_order_laws.proofs.Functions.{Has, all_blocks}
+use Rattle.refcount_insert_order_laws.proofs.Labels.{at_drop, label_at}
+use Rattle.refcount_insert_order_laws.proofs.OldText.{has_block, block_facts, no_way_back}
+use Rattle.refcount_insert_order_laws.proofs.NewText.{alike}
+use Rattle.refcount_insert_rule.specs.Counted.{IsCountedProgram}
+
+at_within : (ss : List (Option Shares)) (i : ℕ) (σ : Shares) → at_place ss i ≡ Some σ → i < length ss
+at_within [] i σ e = let f : None ≡ Some σ = e in absurd (cc)
+at_within (s ∷ ss) zero σ e = omega arith
+at_within (s ∷ ss) (suc i) σ e = omega (arith, at_within ss i σ e)
+
+get_there : (bs : List Block) (j : ℕ) → j < length bs → (x : Block) × (slice_get bs j ≡ Some x)
+get_there [] j lt = absurd (omega (arith, lt))
+get_there (x ∷ bs) zero lt = (x, refl)
+get_there (x ∷ bs) (suc j) lt = get_there bs j (omega (arith, lt))
+
+module _ (p q : Program) (shape : Shape p) (counted : IsCountedProgram p q) (n : ℕ) (f g : Func) (is_old : slice_get p.funcs n ≡ Some f) (c : IsCountedFunc f g) where
+  abbrev lines : List Line
+  lines = lines_from q 0 g.blocks
+
+  abbrev text : CFunc
+  text = text_of f (name_in q n g) (lines_from q 0 g.blocks)
+
+  abbrev pub begun : List (Option Shares)
+  begun = starts f c.tables c.number (marks f) 0 0 f.blocks g.blocks c.blocks
+
+  abbrev pub start : ℕ → Option Shares
+  start i = at_place (starts f c.tables c.number (marks f) 0 0 f.blocks g.blocks c.blocks) i
+
+  pub known : (b : ℕ) (k : Block) → slice_get f.blocks b ≡ Some k → (marks f).marked b ≡ true → 0 < b → (1 ≤ c.number b) × (start (c.number b) ≡ Some (at f c.tables b 0))
+  known b k is marked higher =
+      let s = start_at f c.tables c.number (marks f) 0 0 f.blocks g.blocks c.blocks b k is in
+      let z : 0 + b ≡ b = omega arith in
+      let number : c.number b ≡ s.0 = ap c.number (sym z) ∙ (s.1 ∙ omega arith) in
+      (omega (arith, number, s.2, higher), ap start number ∙ (s.3 ∙ (ap (λ y. if_met f c.tables c.number (marks f) y (at f c.tables y 0)) z ∙ ap (λ d. cond d (Some (at f c.tables b 0)) None) marked)))
+
+  -- the shares at the places of the lines
+  pub done : Blocks q (lower q) (text_of f (name_in q n g) (lines_from q 0 g.blocks)) start f c.tables c.number 0 g.blocks (starts f c.tables c.number (marks f) 0 0 f.blocks g.blocks c.blocks) (Has p q f c.tables c.number (lower q) (lower p) (name_in q n g) (lines_from q 0 g.blocks) (alike p q counted) start (marks f) known 0 f.blocks)
+  done =
+      all_blocks p q f c.tables c.number (lower q) (lower p) (name_in q n g) (lines_from q 0 g.blocks) (alike p q counted) start (marks f) known begun [] (λ i. refl) (block_facts p shape n f is_old (name_in q n g) (lines_from q 0 g.blocks)) 0 0 f.blocks g.blocks c.blocks refl refl
+      (λ j x e. let z : 0 + j ≡ j = omega arith in ap (slice_get f.blocks) z ∙ e)
+
+  -- a table that has them is one by which the function is placed
+  module _ (t : Table) (tie : (place : ℕ) → t n place ≡ at_place done.shares place) (there : slice_get (lower q).funcs n ≡ Some text) where
+    enters : (i : ℕ) (σ : Shares) → Starts start i σ → Entered (labels_of (lower q) t) n i σ
+    enters i σ e =
+        let x = get_there g.blocks (suc i) (omega (arith, at_within begun (suc i) σ e, all_size f c.tables c.number (marks f) 0 0 f.blocks g.blocks c.blocks)) in
+        let place : ℕ = place_of q 0 g.blocks (suc i) in
+        ap (λ o. option_and_then (t n) (option_and_then (λ (k : CFunc). slice_get (label_places k.lines) i) o)) there
+        ∙ (ap (option_and_then (t n)) (label_at q g.blocks i x.0 x.1)
+        ∙ (tie place ∙ (at_drop done.shares place ∙ (done.places (suc i) x.0 x.1 ∙ e))))
+
+    pub placed : IsPlaced (lower q) t n text
+    placed =
+        let block = has_block p shape n f is_old in
+        let first = first_start f c.tables c.number (marks f) 0 0 f.blocks g.blocks c.blocks block.0 block.1 in
+        record {
+          entry = at f c.tables 0 0;
+          is_entry = λ r lt. not_owned_first f c.tables r lt block.0 block.1 (no_way_back p shape n f is_old);
+          begins = tie 0 ∙ (at_drop done.shares 0 ∙ (done.places 0 first.1 first.2 ∙ (first.0 ∙ ap (λ d. cond d (Some (at f c.tables 0 0)) None) (marks f).first)));
+          line = λ place l σ e is_line.
+              line_map (lower q) text (Starts start) (Entered (labels_of (lower q) t) n) enters σ (λ τ. at_place done.shares (suc place) ≡ Some τ) (λ τ. (ρ : Shares) × (t n (place + 1) ≡ Some ρ) × Within τ ρ)
+              (λ τ later. let z : place + 1 ≡ suc place = omega arith in (τ, ap (t n) z ∙ (tie (suc place) ∙ later), (λ r. refl, λ r lent. lent)))
+              l (lead_at (lower q) text (Starts start) lines done.shares done.leads place l σ is_line (sym (tie place) ∙ e));
+        }

@@ -1,5 +1,0 @@
-use Rattle.token_laws.proofs.Fit.{tokens_fit}
-use Rattle.token_laws.proofs.laws.tokens_are_fit.Goals as goal
-
-pub returns : goal.returns
-returns c = tokens_fit
