@@ -8,11 +8,11 @@ use Rattle.value_core.specs.Value.{Value, BoolVal, NoneVal}
 use Rattle.py_typed.specs.Sorts as sort
 use Rattle.py_typed.specs.Sorts.{Sort}
 use Rattle.py_typed.specs.Fits.{is_nothing}
-use Rattle.py_typed.specs.State.{State, Outcome, Gives, Raises, Stops, on_to}
-use Rattle.py_typed.specs.SourceRun.{call_of, enter}
+use Rattle.source_meaning.specs.State.{State, Outcome, Gives, Raises, Stops, on_to}
+use Rattle.source_meaning.specs.SourceRun.{call_of, enter}
 use Rattle.py_typed.specs.Statements.{Variable, TypedFunc, TypedModule}
-use Rattle.py_typed.specs.StatementMeaning.{suite}
-use Rattle.py_typed.specs.WaysOut.{Flow, Goes, Breaks, Continues, Returns, and_set, answer}
+use Rattle.source_meaning.specs.StatementMeaning.{suite}
+use Rattle.source_meaning.specs.WaysOut.{Flow, Goes, Breaks, Continues, Returns, and_set, answer}
 use Rattle.ir_core.specs.declared.code.Func.{Func}
 use Rattle.ir_core.specs.declared.code.Program.{Program}
 use Rattle.ir_core.specs.Meaning.{Waiting, Config}

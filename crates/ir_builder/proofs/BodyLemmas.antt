@@ -3,8 +3,8 @@ use Rattle.std.proofs.Common.{◌≡◌, ℕ, zero, suc, ◌≤◌, false, List,
 use Rattle.std.specs.Prelude.{slice_get}
 use Rattle.std.specs.Option.{option_map}
 use Rattle.value_core.specs.Value.{Value}
-use Rattle.py_typed.specs.State.{State}
-use Rattle.py_typed.specs.WaysOut.{Flow, Goes, Breaks, Continues, Returns}
+use Rattle.source_meaning.specs.State.{State}
+use Rattle.source_meaning.specs.WaysOut.{Flow, Goes, Breaks, Continues, Returns}
 use Rattle.py_typed.specs.Sorts.{Sort}
 use Rattle.ir_core.specs.declared.code.Block.{Block}
 use Rattle.ir_core.specs.declared.code.Func.{Func}

@@ -3,8 +3,8 @@ use Rattle.std.proofs.Common.{◌≡◌, ℕ, zero, suc, ◌≤◌, List, map, S
 use Rattle.std.specs.Prelude.{slice_get}
 use Rattle.value_core.specs.Ending as ending
 use Rattle.value_core.specs.Value.{Value}
-use Rattle.py_typed.specs.State.{State, on_to, spend_from}
-use Rattle.py_typed.specs.SourceRun.{body_of, call_of, enter}
+use Rattle.source_meaning.specs.State.{State, on_to, spend_from}
+use Rattle.source_meaning.specs.SourceRun.{body_of, call_of, enter}
 use Rattle.py_typed.specs.Statements.{TypedFunc, TypedModule}
 use Rattle.ir_core.specs.declared.code.Func.{Func}
 use Rattle.ir_core.specs.declared.code.Op.TheVariants.{Turn}

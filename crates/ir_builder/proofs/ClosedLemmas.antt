@@ -7,10 +7,10 @@ use Rattle.py_typed.specs.Sorts.{Sort}
 use Rattle.py_typed.specs.Classes.{ClassEntry}
 use Rattle.py_typed.specs.Expressions.{TypedExpr, typed, Flag}
 use Rattle.py_typed.specs.Statements.{Variable, TypedModule, TypedStmt, on_line, TypedAct, Do, Assign, Aug, Del, If, While, ForRange, ForList, ForDict, Try, Raise, Return, Break, Continue, Assert, Pass, TypedSuite, no_stmts, stmt_then, Arms, no_arms, arm_then}
-use Rattle.py_typed.specs.State.{State, Outcome, Gives, Raises, Stops, Does, Calls, on_to, spend}
-use Rattle.py_typed.specs.WaysOut.{Flow, Goes, Breaks, Continues, Returns, flow_on, after_body, loop}
+use Rattle.source_meaning.specs.State.{State, Outcome, Gives, Raises, Stops, Does, Calls, on_to, spend}
+use Rattle.source_meaning.specs.WaysOut.{Flow, Goes, Breaks, Continues, Returns, flow_on, after_body, loop}
 use Rattle.py_typed.specs.Narrowing.{breaks, breaks_in, breaks_suite, breaks_arms, is_true_literal, closes, closes_in, is_closed, closed_arms}
-use Rattle.py_typed.specs.StatementMeaning.{value_of, bind, update, changed, value_or, test_of, statement, act, suite, first_arm}
+use Rattle.source_meaning.specs.StatementMeaning.{value_of, bind, update, changed, value_or, test_of, statement, act, suite, first_arm}
 use Rattle.ir_builder_statements.specs.Suiting.{StatementSuits, ActSuits, SuiteSuits, ArmsSuit}
 
 -- ---- ways to end that do not come

@@ -7,12 +7,12 @@ use Rattle.value_core.specs.Value.{BoolVal}
 use Rattle.value_core.specs.Ending.{Done}
 use Rattle.c_core.specs.WellFormed.{is_identifier, names_differ}
 use Rattle.py_typed.specs.Fits.{is_nothing}
-use Rattle.py_typed.specs.State.{State}
-use Rattle.py_typed.specs.SourceRun.{call_of, top_of}
+use Rattle.source_meaning.specs.State.{State}
+use Rattle.source_meaning.specs.SourceRun.{call_of, top_of}
 use Rattle.py_typed.specs.declared.checked.TFunc.{TFunc}
 use Rattle.py_typed.specs.Statements.{Variable, variable, TypedFunc, typed_func, TypedModule}
-use Rattle.py_typed.specs.StatementMeaning.{suite}
-use Rattle.py_typed.specs.WaysOut.{Flow, Goes, Breaks, Continues, Returns}
+use Rattle.source_meaning.specs.StatementMeaning.{suite}
+use Rattle.source_meaning.specs.WaysOut.{Flow, Goes, Breaks, Continues, Returns}
 use Rattle.py_typed.specs.Sorts.{Sort}
 use Rattle.ir_core.specs.declared.code.Func.{Func}
 use Rattle.ir_core.specs.declared.code.Lit.{Lit as Literal}

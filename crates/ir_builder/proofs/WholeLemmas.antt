@@ -7,12 +7,12 @@ use Rattle.value_core.specs.Ending.{Ending, Done, Raised}
 use Rattle.value_core.specs.Items.{Items}
 use Rattle.c_core.specs.WellFormed.{is_identifier, names_differ}
 use Rattle.py_typed.specs.Sorts.{Sort}
-use Rattle.py_typed.specs.State.{Outcome, Gives, Raises, Stops}
-use Rattle.py_typed.specs.SourceRun.{start, top_of, stopped, raised_as, stop_of, source_run}
+use Rattle.source_meaning.specs.State.{Outcome, Gives, Raises, Stops}
+use Rattle.source_meaning.specs.SourceRun.{start, top_of, stopped, raised_as, stop_of, source_run}
 use Rattle.py_typed.specs.Statements.{TypedFunc, TypedModule, typed_func, typed_module}
 use Rattle.py_typed.specs.declared.checked.Checked.{Checked}
 use Rattle.py_typed.specs.declared.checked.TFunc.{TFunc}
-use Rattle.py_typed.specs.WaysOut.{Flow, Goes, Breaks, Continues, Returns}
+use Rattle.source_meaning.specs.WaysOut.{Flow, Goes, Breaks, Continues, Returns}
 use Rattle.ir_core.specs.declared.code.Func.{Func}
 use Rattle.ir_core.specs.declared.code.Program.{Program}
 use Rattle.ir_core.specs.declared.code.RType.{RType}

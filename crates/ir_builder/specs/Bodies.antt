@@ -1,9 +1,9 @@
 -- What the code of a function's body does.
 use Rattle.std.specs.Prelude.{◌≡◌, ℕ, suc, ◌<◌, ◌≤◌, false, List, [], length, Option, Some, None, slice_get}
 use Rattle.value_core.specs.Value.{Value}
-use Rattle.py_typed.specs.State.{State}
+use Rattle.source_meaning.specs.State.{State}
 use Rattle.py_typed.specs.Statements.{TypedModule}
-use Rattle.py_typed.specs.WaysOut.{Flow, Goes, Returns}
+use Rattle.source_meaning.specs.WaysOut.{Flow, Goes, Returns}
 use Rattle.py_typed.specs.Sorts.{Sort}
 use Rattle.ir_core.specs.declared.code.Func.{Func}
 use Rattle.ir_core.specs.declared.code.Last.TheVariants.{Goto, Unreachable}

@@ -2,10 +2,10 @@
 use Rattle.std.specs.Prelude.{◌≡◌, ℕ, ◌≤◌, false, pos, List, [], ◌∷◌, ◌++◌, map, Some, None, slice_get}
 use Rattle.value_core.specs.Value.{Value, IntVal, BoolVal, NoneVal}
 use Rattle.value_core.specs.Ending.{Done}
-use Rattle.py_typed.specs.State.{State}
-use Rattle.py_typed.specs.SourceRun.{call_of, enter, top_of}
+use Rattle.source_meaning.specs.State.{State}
+use Rattle.source_meaning.specs.SourceRun.{call_of, enter, top_of}
 use Rattle.py_typed.specs.Statements.{TypedFunc, TypedModule}
-use Rattle.py_typed.specs.WaysOut.{Goes}
+use Rattle.source_meaning.specs.WaysOut.{Goes}
 use Rattle.ir_core.specs.declared.code.Func.{Func}
 use Rattle.ir_core.specs.declared.code.Lit.{Lit}
 use Rattle.ir_core.specs.declared.code.Lit.TheVariants.{Number, PyNone}

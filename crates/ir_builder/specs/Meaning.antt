@@ -3,7 +3,7 @@ use Rattle.std.specs.Prelude.{◌≡◌, ℕ, List, Some}
 use Rattle.value_core.specs.Ending.{Ending}
 use Rattle.value_core.specs.Items.{Items}
 use Rattle.py_typed.specs.Statements.{TypedModule}
-use Rattle.py_typed.specs.SourceRun.{ModuleStop, source_run}
+use Rattle.source_meaning.specs.SourceRun.{ModuleStop, source_run}
 use Rattle.ir_core.specs.declared.code.RType.{RType}
 use Rattle.ir_core.specs.declared.code.Program.{Program}
 use Rattle.ir_core.specs.Effects.{World}

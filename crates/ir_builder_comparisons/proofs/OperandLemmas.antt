@@ -4,8 +4,8 @@ use Rattle.value_core.specs.Value.{Value, IntVal}
 use Rattle.py_syntax.specs.declared.expression.BinOp.{BinOp}
 use Rattle.py_typed.specs.Sorts as sort
 use Rattle.py_typed.specs.Sorts.{Sort}
-use Rattle.py_typed.specs.State.{State, Does}
-use Rattle.py_typed.specs.Operations.{coerced, with_number, of_numbers, arithmetic, negated_as, negated}
+use Rattle.source_meaning.specs.State.{State, Does}
+use Rattle.source_meaning.specs.Operations.{coerced, with_number, of_numbers, arithmetic, negated_as, negated}
 use Rattle.ir_core.specs.declared.code.RType.{RType}
 use Rattle.ir_core.specs.Building.{Building}
 use Rattle.ir_builder_frames.specs.Settings.{rtype_of}

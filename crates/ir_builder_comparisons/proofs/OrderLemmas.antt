@@ -9,8 +9,8 @@ use Rattle.py_syntax.specs.declared.expression.CmpOp.{CmpOp}
 use Rattle.py_syntax.specs.declared.expression.CmpOp.TheVariants as cmp
 use Rattle.py_typed.specs.Sorts as sort
 use Rattle.py_typed.specs.Sorts.{Sort}
-use Rattle.py_typed.specs.State.{State, Gives, on_to, needs, give}
-use Rattle.py_typed.specs.Operations.{coerced, are_alike, is_equal, compared, holds, truth_of}
+use Rattle.source_meaning.specs.State.{State, Gives, on_to, needs, give}
+use Rattle.source_meaning.specs.Operations.{coerced, are_alike, is_equal, compared, holds, truth_of}
 use Rattle.ir_core.specs.declared.code.RType.{RType}
 use Rattle.ir_core.specs.declared.code.RType.TheVariants as rtype
 use Rattle.ir_core.specs.Registers.{Holds}

@@ -3,7 +3,7 @@ use Rattle.std.proofs.Common.{◌≡◌, refl, sym, subst, ap, ◌∙◌, ℕ, t
 use Rattle.value_core.specs.Value.{BoolVal}
 use Rattle.py_typed.specs.Sorts as sort
 use Rattle.py_typed.specs.Sorts.{Sort}
-use Rattle.py_typed.specs.Operations.{truth_of}
+use Rattle.source_meaning.specs.Operations.{truth_of}
 use Rattle.ir_core.specs.declared.code.RType.TheVariants as rtype
 use Rattle.ir_core.specs.Registers.{Holds}
 use Rattle.ir_core.specs.Building.{Building}

@@ -5,8 +5,8 @@ use Rattle.py_syntax.specs.declared.expression.CmpOp.{CmpOp}
 use Rattle.py_syntax.specs.declared.expression.CmpOp.TheVariants.{Eq, Ne, Lt, Le, Gt, Ge}
 use Rattle.py_typed.specs.Sorts as sort
 use Rattle.py_typed.specs.Sorts.{Sort}
-use Rattle.py_typed.specs.State.{State, Does, Gives, ◌>>=◌, give}
-use Rattle.py_typed.specs.Operations.{is_equal, is_less, truth_of}
+use Rattle.source_meaning.specs.State.{State, Does, Gives, ◌>>=◌, give}
+use Rattle.source_meaning.specs.Operations.{is_equal, is_less, truth_of}
 use Rattle.ir_core.specs.declared.code.Program.{Program}
 use Rattle.ir_core.specs.declared.code.RType.TheVariants as rtype
 use Rattle.ir_core.specs.Building.{Building, Extends}

@@ -1,7 +1,7 @@
 //! Comparisons and truths of `int`s and of texts.
 ghost use Rattle.std.specs.Prelude.{◌≡◌, IfOk, true};
 ghost use Rattle.py_typed.specs.Sorts.{sort, Int, I64, Str};
-ghost use Rattle.py_typed.specs.Operations.{holds, truth_of};
+ghost use Rattle.source_meaning.specs.Operations.{holds, truth_of};
 ghost use Rattle.ir_core.specs.Building.{Extends};
 ghost use Rattle.ir_builder_frames.specs.Computing.{Makes, OfOne, OfTwo};
 ghost use Rattle.ir_builder_frames.specs.Placing.{HasType};

@@ -1,7 +1,7 @@
 //! Arithmetic on numbers and bools of any types, and their comparisons.
 ghost use Rattle.std.specs.Prelude.{◌≡◌, IfOk, true};
 ghost use Rattle.py_typed.specs.Sorts.{sort, Bool};
-ghost use Rattle.py_typed.specs.Operations.{arithmetic, negated, compared_as, holds};
+ghost use Rattle.source_meaning.specs.Operations.{arithmetic, negated, compared_as, holds};
 ghost use Rattle.ir_core.specs.Building.{Extends};
 ghost use Rattle.ir_builder_frames.specs.Computing.{Shows, Makes, Attempts, OfTwo};
 ghost use Rattle.ir_builder_frames.specs.Placing.{HasType};

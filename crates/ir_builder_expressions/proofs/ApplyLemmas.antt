@@ -7,8 +7,8 @@ use Rattle.py_typed.specs.declared.expression.TExpr.{TExpr}
 use Rattle.py_typed.specs.Sorts as sort
 use Rattle.py_typed.specs.Sorts.{Sort, sort as sort_of}
 use Rattle.py_typed.specs.Expressions.{typed_expr, type_of}
-use Rattle.py_typed.specs.State.{give, needs}
-use Rattle.py_typed.specs.Operations.{coerced, arithmetic, negated, joined, letter, length_of, has_text, text_of}
+use Rattle.source_meaning.specs.State.{give, needs}
+use Rattle.source_meaning.specs.Operations.{coerced, arithmetic, negated, joined, letter, length_of, has_text, text_of}
 use Rattle.py_typed.proofs.ExpressionLemmas.{type_at}
 use Rattle.ir_core.specs.declared.code.RType.TheVariants as rtype
 use Rattle.ir_core.specs.Registers.{Holds}

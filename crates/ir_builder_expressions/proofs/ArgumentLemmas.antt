@@ -7,7 +7,7 @@ use Rattle.py_typed.specs.declared.expression.TExpr.{TExpr}
 use Rattle.py_typed.specs.Sorts.{Sort}
 use Rattle.py_typed.specs.Statements.{TypedModule, Variable}
 use Rattle.py_typed.specs.Expressions.{TypedExpr, type_of, exprs_of, typed_expr}
-use Rattle.py_typed.specs.State.{State, Gives, on_to}
+use Rattle.source_meaning.specs.State.{State, Gives, on_to}
 use Rattle.ir_core.specs.declared.code.Reg.{Reg}
 use Rattle.ir_core.specs.Rows.{Declared, type_of_reg}
 use Rattle.ir_core.specs.Registers.{Regs}

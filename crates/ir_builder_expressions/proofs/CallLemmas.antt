@@ -9,8 +9,8 @@ use Rattle.py_syntax.specs.declared.token.Span.{Span}
 use Rattle.py_typed.specs.Sorts.{Sort}
 use Rattle.py_typed.specs.Statements.{TypedFunc}
 use Rattle.py_typed.specs.Expressions.{typed, Call, TypedExprs}
-use Rattle.py_typed.specs.State.{State}
-use Rattle.py_typed.specs.SourceRun.{call_of}
+use Rattle.source_meaning.specs.State.{State}
+use Rattle.source_meaning.specs.SourceRun.{call_of}
 use Rattle.ir_core.specs.declared.code.RType.{RType}
 use Rattle.ir_core.specs.declared.code.RType.TheVariants.{Int, I64, Bool as BoolType, Ref}
 use Rattle.ir_core.specs.declared.code.Reg.{Reg}

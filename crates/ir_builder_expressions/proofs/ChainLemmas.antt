@@ -7,8 +7,8 @@ use Rattle.py_syntax.specs.declared.expression.CmpOp.{CmpOp}
 use Rattle.py_typed.specs.Sorts as sort
 use Rattle.py_typed.specs.Sorts.{Sort}
 use Rattle.py_typed.specs.Expressions.{TypedExpr, typed, type_of, Compare, Comparisons, no_comparisons, comparison_then}
-use Rattle.py_typed.specs.State.{State, Outcome, Gives, Raises, Stops, Does, on_to, give}
-use Rattle.py_typed.specs.Operations.{holds}
+use Rattle.source_meaning.specs.State.{State, Outcome, Gives, Raises, Stops, Does, on_to, give}
+use Rattle.source_meaning.specs.Operations.{holds}
 use Rattle.ir_core.specs.declared.code.RType.TheVariants as rtype
 use Rattle.ir_core.specs.declared.code.Op.TheVariants.{Lit}
 use Rattle.ir_core.specs.declared.code.Program.{Program}

@@ -3,7 +3,7 @@ use Rattle.std.proofs.Common.{◌≡◌, refl, sym, ◌∙◌, ap, subst, ℕ, �
 use Rattle.std.specs.Prelude.{if◌then◌else◌}
 use Rattle.value_core.specs.Value.{Value, BoolVal}
 use Rattle.py_typed.specs.Sorts.{Sort}
-use Rattle.py_typed.specs.State.{State, Does}
+use Rattle.source_meaning.specs.State.{State, Does}
 use Rattle.ir_core.specs.declared.code.RType.{RType}
 use Rattle.ir_core.specs.declared.code.RType.TheVariants.{Int, I64, Bool as BoolType, Ref}
 use Rattle.ir_core.specs.declared.code.Op.TheVariants.{Move}

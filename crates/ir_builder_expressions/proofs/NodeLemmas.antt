@@ -9,9 +9,9 @@ use Rattle.py_typed.specs.Sorts as sort
 use Rattle.py_typed.specs.Sorts.{Sort}
 use Rattle.py_typed.specs.Statements.{Variable}
 use Rattle.py_typed.specs.Expressions.{TypedExpr, typed, type_of, Flag, Local, And, Or, Cond}
-use Rattle.py_typed.specs.ExpressionMeaning.{value_in, name_at}
-use Rattle.py_typed.specs.State.{State, Gives, Does, on_to, give, raise_new}
-use Rattle.py_typed.specs.Operations.{truth_of}
+use Rattle.source_meaning.specs.ExpressionMeaning.{value_in, name_at}
+use Rattle.source_meaning.specs.State.{State, Gives, Does, on_to, give, raise_new}
+use Rattle.source_meaning.specs.Operations.{truth_of}
 use Rattle.ir_core.specs.declared.code.RType.TheVariants as rtype
 use Rattle.ir_core.specs.declared.code.Op.TheVariants.{Lit}
 use Rattle.ir_core.specs.Registers.{Held, Unset, Holds, Regs}

@@ -6,8 +6,8 @@ use Rattle.py_syntax.specs.declared.expression.BinOp.{BinOp}
 use Rattle.py_typed.specs.Sorts as sort
 use Rattle.py_typed.specs.Sorts.{Sort}
 use Rattle.py_typed.specs.Expressions.{TypedExpr, type_of}
-use Rattle.py_typed.specs.State.{State, Gives, Does, on_to}
-use Rattle.py_typed.specs.Operations.{coerced, with_number, of_numbers, arithmetic, negated_as, negated}
+use Rattle.source_meaning.specs.State.{State, Gives, Does, on_to}
+use Rattle.source_meaning.specs.Operations.{coerced, with_number, of_numbers, arithmetic, negated_as, negated}
 use Rattle.ir_core.specs.declared.code.RType.TheVariants as rtype
 use Rattle.ir_core.specs.Building.{Building}
 use Rattle.ir_builder_frames.specs.Settings.{rtype_of}

@@ -4,8 +4,8 @@ use Rattle.value_core.specs.Value.{Value, BoolVal}
 use Rattle.py_syntax.specs.declared.expression.CmpOp.{CmpOp}
 use Rattle.py_typed.specs.Sorts as sort
 use Rattle.py_typed.specs.Sorts.{Sort}
-use Rattle.py_typed.specs.State.{State, Outcome, Gives, Raises, Stops, Does, ◌>>=◌, on_to, give, needs}
-use Rattle.py_typed.specs.Operations.{coerced, are_alike, compared_as, holds}
+use Rattle.source_meaning.specs.State.{State, Outcome, Gives, Raises, Stops, Does, ◌>>=◌, on_to, give, needs}
+use Rattle.source_meaning.specs.Operations.{coerced, are_alike, compared_as, holds}
 use Rattle.ir_core.specs.declared.code.RType.TheVariants as rtype
 use Rattle.ir_core.specs.Building.{Building}
 use Rattle.ir_builder_frames.specs.Settings.{rtype_of}

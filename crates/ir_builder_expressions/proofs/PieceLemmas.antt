@@ -10,8 +10,8 @@ use Rattle.py_typed.specs.Sorts as sort
 use Rattle.py_typed.specs.Sorts.{Sort}
 use Rattle.py_typed.specs.Expressions as tree
 use Rattle.py_typed.specs.Expressions.{TypedExpr, typed, type_of}
-use Rattle.py_typed.specs.State.{on_to, State, Gives}
-use Rattle.py_typed.specs.Operations.{item_at}
+use Rattle.source_meaning.specs.State.{on_to, State, Gives}
+use Rattle.source_meaning.specs.Operations.{item_at}
 use Rattle.ir_core.specs.declared.code.RType.TheVariants as rtype
 use Rattle.ir_core.specs.declared.code.Lit.TheVariants.{Number}
 use Rattle.ir_core.specs.declared.code.Op.TheVariants.{Lit}

@@ -10,11 +10,11 @@ use Rattle.c_core.specs.declared.primitive.GlobalPrim.TheVariants as global
 use Rattle.c_core.specs.Step.{unbound}
 use Rattle.py_syntax.specs.declared.token.Span.{Span}
 use Rattle.py_typed.specs.Sorts.{Sort, sort}
-use Rattle.py_typed.specs.State.{State, Gives, Raises, raise_new}
+use Rattle.source_meaning.specs.State.{State, Gives, Raises, raise_new}
 use Rattle.py_typed.specs.declared.checked.Var.{Var}
 use Rattle.py_typed.specs.Statements.{Variable, TypedModule, variable}
 use Rattle.py_typed.specs.Expressions.{typed, Local}
-use Rattle.py_typed.specs.ExpressionMeaning.{name_at, value_in, read_global}
+use Rattle.source_meaning.specs.ExpressionMeaning.{name_at, value_in, read_global}
 use Rattle.ir_core.specs.declared.code.Op.TheVariants.{Lit, Prim}
 use Rattle.ir_core.specs.declared.code.PArg.{PArg}
 use Rattle.ir_core.specs.declared.code.PArg.TheVariants as arg

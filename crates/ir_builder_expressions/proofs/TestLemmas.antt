@@ -3,8 +3,8 @@ use Rattle.std.proofs.Common.{refl, ap, ◌∙◌, ℕ, Bool, length}
 use Rattle.value_core.specs.Value.{BoolVal}
 use Rattle.py_typed.specs.Sorts as sort
 use Rattle.py_typed.specs.Sorts.{Sort}
-use Rattle.py_typed.specs.State.{Gives, ◌>>=◌, on_to, give}
-use Rattle.py_typed.specs.Operations.{truth_of}
+use Rattle.source_meaning.specs.State.{Gives, ◌>>=◌, on_to, give}
+use Rattle.source_meaning.specs.Operations.{truth_of}
 use Rattle.ir_core.specs.declared.code.RType.TheVariants as rtype
 use Rattle.ir_core.specs.Building.{Building}
 use Rattle.ir_builder_frames.specs.Matching.{IsThrown}

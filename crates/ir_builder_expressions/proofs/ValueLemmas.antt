@@ -8,8 +8,8 @@ use Rattle.py_syntax.specs.declared.expression.CmpOp.{CmpOp}
 use Rattle.py_syntax.specs.declared.expression.CmpOp.TheVariants as cmp
 use Rattle.py_typed.specs.Sorts as sort
 use Rattle.py_typed.specs.Sorts.{Sort}
-use Rattle.py_typed.specs.State.{State, Gives}
-use Rattle.py_typed.specs.Operations.{fitting, coerced, compared, holds}
+use Rattle.source_meaning.specs.State.{State, Gives}
+use Rattle.source_meaning.specs.Operations.{fitting, coerced, compared, holds}
 use Rattle.ir_builder_expressions.specs.Compiled.{is_ordering}
 use Rattle.ir_builder_expressions.specs.Comparing.{test_of}
 

@@ -14,8 +14,8 @@ use Rattle.py_typed.specs.Sorts.{Sort, sort as sort_of}
 use Rattle.py_typed.specs.Expressions as tree
 use Rattle.py_typed.specs.Expressions.{TypedExpr, TypedNode, typed, type_of, typed_expr, exprs_of, comparisons_of, typed_comparison}
 use Rattle.py_typed.specs.Statements.{TypedFunc, TypedModule, Variable}
-use Rattle.py_typed.specs.State.{look}
-use Rattle.py_typed.specs.Operations.{next_line}
+use Rattle.source_meaning.specs.State.{look}
+use Rattle.source_meaning.specs.Operations.{next_line}
 use Rattle.py_typed.proofs.ExpressionLemmas.{type_at}
 use Rattle.ir_core.specs.declared.code.RType.TheVariants as rtype
 use Rattle.ir_core.specs.declared.code.RType.{RType}

@@ -3,8 +3,8 @@ use Rattle.std.specs.Prelude.{◌≡◌, true, not}
 use Rattle.value_core.specs.Value.{Value, BoolVal, StrVal}
 use Rattle.py_typed.specs.Sorts as sort
 use Rattle.py_typed.specs.Sorts.{Sort}
-use Rattle.py_typed.specs.State.{Does, ◌>>=◌, give, needs}
-use Rattle.py_typed.specs.Operations.{coerced, arithmetic, negated, joined, letter, has_text, text_of, truth_of, length_of}
+use Rattle.source_meaning.specs.State.{Does, ◌>>=◌, give, needs}
+use Rattle.source_meaning.specs.Operations.{coerced, arithmetic, negated, joined, letter, has_text, text_of, truth_of, length_of}
 use Rattle.ir_builder_operations.specs.Operating.{is_numeric, is_whole}
 use Rattle.ir_builder_expressions.specs.declared.applying.Unary.{Unary}
 use Rattle.ir_builder_expressions.specs.declared.applying.Unary.TheVariants.{Negated, Inverted, Tested, Counted, Written, Coerced}

@@ -5,8 +5,8 @@ use Rattle.py_syntax.specs.declared.expression.CmpOp.{CmpOp}
 use Rattle.py_syntax.specs.declared.expression.CmpOp.TheVariants as cmp
 use Rattle.py_typed.specs.Sorts as sort
 use Rattle.py_typed.specs.Sorts.{Sort}
-use Rattle.py_typed.specs.State.{Does, ◌>>=◌, give, needs}
-use Rattle.py_typed.specs.Operations.{is_equal, is_less, are_alike, holds}
+use Rattle.source_meaning.specs.State.{Does, ◌>>=◌, give, needs}
+use Rattle.source_meaning.specs.Operations.{is_equal, is_less, are_alike, holds}
 use Rattle.ir_builder_expressions.specs.Compiled.{is_pair}
 use Rattle.ir_builder_expressions.specs.declared.comparing.Kind.{Kind}
 use Rattle.ir_builder_expressions.specs.declared.comparing.Kind.TheVariants as kind

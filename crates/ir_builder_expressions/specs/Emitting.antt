@@ -3,9 +3,9 @@ use Rattle.std.specs.Prelude.{◌≡◌, ℕ, ◌≤◌, true, List, length, Opt
 use Rattle.value_core.specs.Value.{Value}
 use Rattle.py_typed.specs.Sorts.{Sort, Bool}
 use Rattle.py_typed.specs.Expressions.{TypedExpr, TypedExprs, Comparisons, type_of}
-use Rattle.py_typed.specs.ExpressionMeaning.{expression, expressions, chain}
-use Rattle.py_typed.specs.State.{State, on_to}
-use Rattle.py_typed.specs.SourceRun.{call_of}
+use Rattle.source_meaning.specs.ExpressionMeaning.{expression, expressions, chain}
+use Rattle.source_meaning.specs.State.{State, on_to}
+use Rattle.source_meaning.specs.SourceRun.{call_of}
 use Rattle.ir_core.specs.declared.code.Program.{Program}
 use Rattle.ir_core.specs.declared.code.RType.TheVariants as rtype
 use Rattle.ir_core.specs.declared.code.Reg.{Reg}

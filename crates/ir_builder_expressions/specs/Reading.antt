@@ -7,7 +7,7 @@ use Rattle.c_core.specs.declared.primitive.Primitive.TheVariants.{Err}
 use Rattle.c_core.specs.declared.primitive.ErrPrim.TheVariants.{Unbound}
 use Rattle.py_syntax.specs.declared.token.Span.{Span}
 use Rattle.py_typed.specs.Sorts.{Sort}
-use Rattle.py_typed.specs.State.{State}
+use Rattle.source_meaning.specs.State.{State}
 use Rattle.py_typed.specs.Statements.{Variable, TypedModule}
 use Rattle.py_typed.specs.Expressions.{typed, Local, Global}
 use Rattle.ir_core.specs.declared.code.Op.{Op}

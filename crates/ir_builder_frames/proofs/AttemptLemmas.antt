@@ -3,7 +3,7 @@ use Rattle.std.proofs.Common.{◌≡◌, ℕ, ◌+◌, ◌<◌, true, false, con
 use Rattle.value_core.specs.Exceptions.{Thrown}
 use Rattle.value_core.specs.Value.{Value, ExcVal}
 use Rattle.c_core.specs.declared.primitive.Primitive.{Primitive}
-use Rattle.py_typed.specs.State.{State, Outcome, Gives, Raises, Does, on_to}
+use Rattle.source_meaning.specs.State.{State, Outcome, Gives, Raises, Does, on_to}
 use Rattle.ir_core.specs.declared.code.RType.{RType}
 use Rattle.ir_core.specs.declared.code.RType.TheVariants.{Int, I64, Bool as BoolType, Ref}
 use Rattle.ir_core.specs.declared.code.Reg.{Reg}

@@ -1,7 +1,7 @@
 -- How stretches of a run follow one another.
 use Rattle.std.proofs.Common.{◌≡◌, ℕ, ◌+◌, ◌≤◌, refl, sym, ap, ◌∙◌, subst, arith, le_refl}
 use Rattle.value_core.specs.Value.{Value}
-use Rattle.py_typed.specs.State.{State, Outcome, Gives, Raises, Stops, Does, on_to}
+use Rattle.source_meaning.specs.State.{State, Outcome, Gives, Raises, Stops, Does, on_to}
 use Rattle.ir_core.specs.declared.code.Program.{Program}
 use Rattle.ir_core.specs.Meaning.{Config, Strict, step, steps}
 use Rattle.ir_core.proofs.RunLemmas.{steps_on}

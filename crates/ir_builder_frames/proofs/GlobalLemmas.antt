@@ -17,8 +17,8 @@ use Rattle.c_core.specs.WellFormed.{names_differ}
 use Rattle.c_core.proofs.NameLemmas.{bytes_eq-sym}
 use Rattle.py_typed.specs.Sorts.{Sort}
 use Rattle.py_typed.specs.Statements.{Variable, TypedModule}
-use Rattle.py_typed.specs.State.{State, Gives, raise_new, needs, put_global, set_global}
-use Rattle.py_typed.specs.ExpressionMeaning.{name_at, value_in, read_global}
+use Rattle.source_meaning.specs.State.{State, Gives, raise_new, needs, put_global, set_global}
+use Rattle.source_meaning.specs.ExpressionMeaning.{name_at, value_in, read_global}
 use Rattle.ir_core.specs.declared.code.RType.{RType}
 use Rattle.ir_core.specs.declared.code.Reg.{Reg}
 use Rattle.ir_core.specs.declared.code.PArg.TheVariants as arg

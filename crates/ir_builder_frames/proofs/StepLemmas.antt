@@ -3,7 +3,7 @@ use Rattle.std.proofs.Common.{◌≡◌, ℕ, ◌+◌, ◌<◌, List, [], ◌∷
 use Rattle.std.specs.Option.{option_map, option_and_then}
 use Rattle.value_core.specs.Value.{Value}
 use Rattle.c_core.specs.declared.primitive.Primitive.{Primitive}
-use Rattle.py_typed.specs.State.{State}
+use Rattle.source_meaning.specs.State.{State}
 use Rattle.ir_core.specs.declared.code.RType.{RType}
 use Rattle.ir_core.specs.declared.code.PArg.{PArg}
 use Rattle.ir_core.specs.declared.code.PArg.TheVariants.{Var}

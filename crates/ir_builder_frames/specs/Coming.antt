@@ -3,8 +3,8 @@ use Rattle.std.specs.Prelude.{◌≡◌, ℕ, ◌≤◌, List, Option, Some, Non
 use Rattle.value_core.specs.Ending.{Ending}
 use Rattle.value_core.specs.Exceptions.{Thrown}
 use Rattle.value_core.specs.Value.{Value, ExcVal}
-use Rattle.py_typed.specs.State.{State, Outcome, Gives, Raises, Stops}
-use Rattle.py_typed.specs.SourceRun.{ending_by}
+use Rattle.source_meaning.specs.State.{State, Outcome, Gives, Raises, Stops}
+use Rattle.source_meaning.specs.SourceRun.{ending_by}
 use Rattle.ir_core.specs.declared.code.Program.{Program}
 use Rattle.ir_core.specs.Registers.{Holds, Regs}
 use Rattle.ir_core.specs.Effects.{World}

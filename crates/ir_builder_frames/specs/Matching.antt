@@ -7,8 +7,8 @@ use Rattle.c_core.specs.WellFormed.{names_differ}
 use Rattle.py_typed.specs.Sorts as sort
 use Rattle.py_typed.specs.Sorts.{Sort}
 use Rattle.py_typed.specs.Statements.{Variable, TypedFunc, TypedModule}
-use Rattle.py_typed.specs.State.{State}
-use Rattle.py_typed.specs.SourceRun.{call_of}
+use Rattle.source_meaning.specs.State.{State}
+use Rattle.source_meaning.specs.SourceRun.{call_of}
 use Rattle.ir_core.specs.declared.code.Func.{Func}
 use Rattle.ir_core.specs.declared.code.Program.{Program}
 use Rattle.ir_core.specs.declared.code.RType.{RType}

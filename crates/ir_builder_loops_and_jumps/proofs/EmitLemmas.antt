@@ -14,11 +14,11 @@ use Rattle.py_typed.specs.declared.statement.TStmtKind as kind
 use Rattle.py_typed.specs.Expressions.{TypedExpr, typed_expr, type_of}
 use Rattle.py_typed.specs.Statements as tree
 use Rattle.py_typed.specs.Statements.{TypedStmt, TypedAct, on_line, Variable, typed_stmt, typed_suite, typed_arm, typed_target, suite_of, arms_of, maybe_typed}
-use Rattle.py_typed.specs.State.{State, on_to}
-use Rattle.py_typed.specs.SourceRun.{call_of}
-use Rattle.py_typed.specs.Operations.{truth_of}
-use Rattle.py_typed.specs.StatementMeaning.{suite}
-use Rattle.py_typed.specs.WaysOut.{Flow, flow_on}
+use Rattle.source_meaning.specs.State.{State, on_to}
+use Rattle.source_meaning.specs.SourceRun.{call_of}
+use Rattle.source_meaning.specs.Operations.{truth_of}
+use Rattle.source_meaning.specs.StatementMeaning.{suite}
+use Rattle.source_meaning.specs.WaysOut.{Flow, flow_on}
 use Rattle.py_typed.proofs.StatementLemmas.{typed_stmt_of, typed_act-Expr, typed_act-Assign, typed_act-Aug, typed_act-Return, typed_act-Break, typed_act-Continue, typed_act-Pass, typed_stmt-If, typed_stmt-While}
 use Rattle.ir_core.specs.declared.code.RType.TheVariants.{Bool as BoolType}
 use Rattle.ir_core.specs.declared.code.Last.TheVariants.{Goto, If, Unreachable}

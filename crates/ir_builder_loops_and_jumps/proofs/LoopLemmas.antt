@@ -5,9 +5,9 @@ use Rattle.value_core.specs.Ending as ending
 use Rattle.value_core.specs.Value.{Value}
 use Rattle.py_typed.specs.Sorts as sort
 use Rattle.py_typed.specs.Sorts.{Sort}
-use Rattle.py_typed.specs.State.{State, Gives, Does, on_to, spend, spend_from}
-use Rattle.py_typed.specs.Operations.{truth_of}
-use Rattle.py_typed.specs.WaysOut.{Flow, Goes, Breaks, Continues, Returns, after_body, loop}
+use Rattle.source_meaning.specs.State.{State, Gives, Does, on_to, spend, spend_from}
+use Rattle.source_meaning.specs.Operations.{truth_of}
+use Rattle.source_meaning.specs.WaysOut.{Flow, Goes, Breaks, Continues, Returns, after_body, loop}
 use Rattle.ir_core.specs.declared.code.RType.TheVariants.{Bool as BoolType}
 use Rattle.ir_core.specs.declared.code.Last.TheVariants.{Goto, If, Unreachable}
 use Rattle.ir_core.specs.declared.code.Op.TheVariants.{Turn}

@@ -4,9 +4,9 @@ use Rattle.std.specs.Prelude.{if◌then◌else◌}
 use Rattle.py_typed.specs.Expressions.{TypedExpr}
 use Rattle.py_typed.specs.Classes.{ClassEntry}
 use Rattle.py_typed.specs.Statements.{Variable, TypedStmt, TypedSuite, suite_of, arms_of}
-use Rattle.py_typed.specs.State.{State, Outcome, Gives, Raises, Stops, Does, Calls, on_to}
-use Rattle.py_typed.specs.StatementMeaning.{test_of, statement, suite, first_arm}
-use Rattle.py_typed.specs.WaysOut.{Flow, Goes, Breaks, Continues, Returns, flow_on}
+use Rattle.source_meaning.specs.State.{State, Outcome, Gives, Raises, Stops, Does, Calls, on_to}
+use Rattle.source_meaning.specs.StatementMeaning.{test_of, statement, suite, first_arm}
+use Rattle.source_meaning.specs.WaysOut.{Flow, Goes, Breaks, Continues, Returns, flow_on}
 use Rattle.ir_builder_loops_and_jumps.specs.Branches.{taken, Branch, tried, try_next, or_else}
 use Rattle.ir_builder_loops_and_jumps.proofs.FlowLemmas.{on_assoc}
 

@@ -9,9 +9,9 @@ use Rattle.py_typed.specs.declared.expression.TExpr.{TExpr}
 use Rattle.py_typed.specs.Sorts as sort
 use Rattle.py_typed.specs.Sorts.{Sort, sort as sort_of}
 use Rattle.py_typed.specs.Expressions.{typed_expr, type_of}
-use Rattle.py_typed.specs.State.{State, Outcome, Gives, Does, on_to, give, needs, write}
-use Rattle.py_typed.specs.Operations.{text_of, line_of, has_text}
-use Rattle.py_typed.specs.WaysOut.{Flow, Goes}
+use Rattle.source_meaning.specs.State.{State, Outcome, Gives, Does, on_to, give, needs, write}
+use Rattle.source_meaning.specs.Operations.{text_of, line_of, has_text}
+use Rattle.source_meaning.specs.WaysOut.{Flow, Goes}
 use Rattle.py_typed.proofs.ExpressionLemmas.{type_at}
 use Rattle.ir_core.specs.declared.code.Op.{Op}
 use Rattle.ir_core.specs.declared.code.Op.TheVariants.{Prim}

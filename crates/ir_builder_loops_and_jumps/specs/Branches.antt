@@ -1,7 +1,7 @@
 -- The arms of an `if`, one after another (Python Language Reference, "The if statement").
 use Rattle.std.specs.Prelude.{Bool, List, [], ◌∷◌, if◌then◌else◌}
-use Rattle.py_typed.specs.State.{Does, ◌>>=◌, give}
-use Rattle.py_typed.specs.WaysOut.{Flow}
+use Rattle.source_meaning.specs.State.{Does, ◌>>=◌, give}
+use Rattle.source_meaning.specs.WaysOut.{Flow}
 
 -- what comes of some arms: no test held, or the body of one was run
 pub data Tried : Type 0 where

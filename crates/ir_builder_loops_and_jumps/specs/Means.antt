@@ -6,13 +6,13 @@ use Rattle.py_typed.specs.Sorts as sort
 use Rattle.py_typed.specs.Sorts.{Sort}
 use Rattle.py_typed.specs.Expressions.{TypedExpr, type_of}
 use Rattle.py_typed.specs.Statements.{TypedTarget, TypedStmt, TypedSuite}
-use Rattle.py_typed.specs.State.{◌>>=◌, ◌>>◌, give}
-use Rattle.py_typed.specs.SourceRun.{call_of}
-use Rattle.py_typed.specs.StatementMeaning.{bind, update, changed, value_or, statement, suite}
-use Rattle.py_typed.specs.WaysOut.{Flow, Goes, Returns}
+use Rattle.source_meaning.specs.State.{◌>>=◌, ◌>>◌, give}
+use Rattle.source_meaning.specs.SourceRun.{call_of}
+use Rattle.source_meaning.specs.StatementMeaning.{bind, update, changed, value_or, statement, suite}
+use Rattle.source_meaning.specs.WaysOut.{Flow, Goes, Returns}
 use Rattle.ir_builder_frames.specs.Settings.{Setting}
 use Rattle.ir_builder_frames.specs.Computing.{Meaning}
-use Rattle.py_typed.specs.ExpressionMeaning.{expression}
+use Rattle.source_meaning.specs.ExpressionMeaning.{expression}
 
 -- the type of what a return gives
 abbrev pub returned_type : Option TypedExpr → Sort

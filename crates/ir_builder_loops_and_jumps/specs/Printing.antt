@@ -3,9 +3,9 @@ use Rattle.std.specs.Prelude.{◌≡◌, ℕ, ◌<◌, zero, suc, List, [], ◌�
 use Rattle.std.specs.List.{list_all}
 use Rattle.value_core.specs.Value.{Value}
 use Rattle.py_typed.specs.Sorts.{Sort}
-use Rattle.py_typed.specs.State.{State, ◌>>=◌, ◌>>◌, give, needs, write}
-use Rattle.py_typed.specs.WaysOut.{Flow, Goes}
-use Rattle.py_typed.specs.Operations.{line_of, text_of, has_text}
+use Rattle.source_meaning.specs.State.{State, ◌>>=◌, ◌>>◌, give, needs, write}
+use Rattle.source_meaning.specs.WaysOut.{Flow, Goes}
+use Rattle.source_meaning.specs.Operations.{line_of, text_of, has_text}
 use Rattle.c_core.specs.declared.primitive.Primitive.TheVariants as prim
 use Rattle.c_core.specs.declared.primitive.IoPrim.TheVariants as io
 use Rattle.ir_core.specs.declared.code.Op.{Op}

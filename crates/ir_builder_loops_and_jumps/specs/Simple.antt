@@ -2,9 +2,9 @@
 use Rattle.std.specs.Prelude.{◌≡◌, ℕ, ◌≤◌, List, length, Option, Some, None, slice_set}
 use Rattle.value_core.specs.Value.{Value}
 use Rattle.py_typed.specs.Sorts.{Sort}
-use Rattle.py_typed.specs.State.{State}
+use Rattle.source_meaning.specs.State.{State}
 use Rattle.py_typed.specs.Statements.{TypedTarget, LocalTarget, GlobalTarget}
-use Rattle.py_typed.specs.WaysOut.{Returns}
+use Rattle.source_meaning.specs.WaysOut.{Returns}
 use Rattle.ir_core.specs.declared.code.Program.{Program}
 use Rattle.ir_core.specs.Building.{Building, Extends}
 use Rattle.ir_core.specs.Registers.{Holds, Regs}

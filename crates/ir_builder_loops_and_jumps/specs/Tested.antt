@@ -3,8 +3,8 @@ use Rattle.std.specs.Prelude.{◌≡◌, Bool, false, List, map, Option}
 use Rattle.py_typed.specs.declared.expression.TExpr.{TExpr}
 use Rattle.py_typed.specs.declared.statement.TStmt.{TStmt}
 use Rattle.py_typed.specs.Statements.{typed_arm}
-use Rattle.py_typed.specs.SourceRun.{call_of}
-use Rattle.py_typed.specs.StatementMeaning.{test_of, suite}
+use Rattle.source_meaning.specs.SourceRun.{call_of}
+use Rattle.source_meaning.specs.StatementMeaning.{test_of, suite}
 use Rattle.py_typed.specs.Sorts.{Sort}
 use Rattle.ir_core.specs.Building.{Building}
 use Rattle.ir_builder_frames.specs.Settings.{Setting}

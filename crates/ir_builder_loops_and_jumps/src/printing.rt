@@ -4,7 +4,7 @@ ghost use Rattle.std.specs.List.{list_all};
 ghost use Rattle.ir_core.specs.Building.{Extends};
 ghost use Rattle.py_typed.specs.Sorts.{sort};
 ghost use Rattle.py_typed.specs.Expressions.{typed_expr, type_of};
-ghost use Rattle.py_typed.specs.Operations.{line_of, text_of};
+ghost use Rattle.source_meaning.specs.Operations.{line_of, text_of};
 ghost use Rattle.ir_builder_frames.specs.Calling.{Pushes};
 ghost use Rattle.ir_builder_frames.specs.Computing.{HaveTypes};
 ghost use Rattle.ir_builder_frames.specs.Placing.{HasType};

@@ -14,8 +14,8 @@ use Rattle.c_core.specs.declared.primitive.TaggedPrim.TheVariants as tagged
 use Rattle.c_core.specs.Step.{int64_exception}
 use Rattle.py_typed.specs.Sorts as sort
 use Rattle.py_typed.specs.Sorts.{Sort}
-use Rattle.py_typed.specs.State.{State, Gives}
-use Rattle.py_typed.specs.Operations.{fitting, coerced}
+use Rattle.source_meaning.specs.State.{State, Gives}
+use Rattle.source_meaning.specs.Operations.{fitting, coerced}
 use Rattle.ir_core.specs.declared.code.Reg.{Reg}
 use Rattle.ir_core.specs.declared.code.Op.TheVariants.{Prim}
 use Rattle.ir_core.specs.declared.code.PArg.TheVariants.{Var}

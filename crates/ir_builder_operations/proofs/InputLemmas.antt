@@ -10,8 +10,8 @@ use Rattle.value_core.specs.Value.{Value, StrVal, ExcVal}
 use Rattle.c_core.specs.declared.primitive.Primitive.TheVariants as prim
 use Rattle.c_core.specs.declared.primitive.IoPrim.TheVariants as io
 use Rattle.py_typed.specs.Sorts as sort
-use Rattle.py_typed.specs.State.{State, look, set_items}
-use Rattle.py_typed.specs.Operations.{next_line}
+use Rattle.source_meaning.specs.State.{State, look, set_items}
+use Rattle.source_meaning.specs.Operations.{next_line}
 use Rattle.ir_core.specs.declared.code.RType.TheVariants as rtype
 use Rattle.ir_core.specs.declared.code.Op.TheVariants.{Prim}
 use Rattle.ir_core.specs.declared.code.Program.{Program}

@@ -17,8 +17,8 @@ use Rattle.c_core.specs.Step.{int64_exception}
 use Rattle.py_syntax.specs.declared.expression.BinOp.{BinOp}
 use Rattle.py_syntax.specs.declared.expression.BinOp.TheVariants as bin
 use Rattle.py_typed.specs.Sorts as sort
-use Rattle.py_typed.specs.State.{State, Gives, on_to}
-use Rattle.py_typed.specs.Operations.{fitting, coerced, with_number, number_of, no_i64, of_i64, of_numbers, arithmetic, negated_as, negated}
+use Rattle.source_meaning.specs.State.{State, Gives, on_to}
+use Rattle.source_meaning.specs.Operations.{fitting, coerced, with_number, number_of, no_i64, of_i64, of_numbers, arithmetic, negated_as, negated}
 use Rattle.ir_core.specs.declared.code.Op.TheVariants.{Prim}
 use Rattle.ir_core.specs.declared.code.PArg.TheVariants.{Var}
 use Rattle.ir_core.specs.declared.code.Program.{Program}

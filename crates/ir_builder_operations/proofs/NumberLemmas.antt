@@ -12,8 +12,8 @@ use Rattle.c_core.specs.Step.{int_exception}
 use Rattle.py_syntax.specs.declared.expression.BinOp.{BinOp}
 use Rattle.py_syntax.specs.declared.expression.BinOp.TheVariants as bin
 use Rattle.py_typed.specs.Sorts as sort
-use Rattle.py_typed.specs.State.{State}
-use Rattle.py_typed.specs.Operations.{number_of, past_range, arithmetic, negated}
+use Rattle.source_meaning.specs.State.{State}
+use Rattle.source_meaning.specs.Operations.{number_of, past_range, arithmetic, negated}
 use Rattle.ir_core.specs.declared.code.Op.TheVariants.{Prim}
 use Rattle.ir_core.specs.declared.code.PArg.TheVariants.{Var}
 use Rattle.ir_core.specs.declared.code.Program.{Program}

@@ -4,7 +4,7 @@ use Rattle.value_core.specs.Exceptions.{Thrown}
 use Rattle.value_core.specs.Value.{Value}
 use Rattle.c_core.specs.declared.primitive.Primitive.{Primitive}
 use Rattle.py_typed.specs.Sorts.{Sort}
-use Rattle.py_typed.specs.State.{State, Gives, Does}
+use Rattle.source_meaning.specs.State.{State, Gives, Does}
 use Rattle.ir_core.specs.declared.code.RType.{RType}
 use Rattle.ir_core.specs.declared.code.PArg.TheVariants.{Var, Text}
 use Rattle.ir_core.specs.declared.code.Op.TheVariants.{Prim}

@@ -10,7 +10,7 @@ use Rattle.std.specs.Str.{chars, encode_utf8_all, bytes_eq}
 use Rattle.value_core.specs.Characters.{char_len, place_of}
 use Rattle.value_core.specs.Value.{Value, StrVal}
 use Rattle.c_core.specs.Strings.{text_less, counted_length}
-use Rattle.py_typed.specs.Operations.{comes_before, is_filled, counted, letters}
+use Rattle.source_meaning.specs.Operations.{comes_before, is_filled, counted, letters}
 
 -- ---- order
 

@@ -2,8 +2,8 @@
 use Rattle.std.proofs.Common.{◌≡◌, ℕ, ◌<◌, length, None, refl, ◌∙◌, arith, le_refl}
 use Rattle.value_core.specs.Value.{Value}
 use Rattle.py_typed.specs.Sorts.{Sort}
-use Rattle.py_typed.specs.State.{State, Outcome, Does, on_to}
-use Rattle.py_typed.specs.Operations.{coerced}
+use Rattle.source_meaning.specs.State.{State, Outcome, Does, on_to}
+use Rattle.source_meaning.specs.Operations.{coerced}
 use Rattle.ir_core.specs.declared.code.RType.{RType}
 use Rattle.ir_core.specs.Registers.{Regs}
 use Rattle.ir_core.specs.Building.{Building}

@@ -16,8 +16,8 @@ use Rattle.c_core.specs.declared.primitive.StrPrim.TheVariants as str
 use Rattle.c_core.specs.Strings.{text_length, text_item}
 use Rattle.py_typed.specs.Sorts as sort
 use Rattle.py_typed.specs.Sorts.{Sort}
-use Rattle.py_typed.specs.State.{State, Does, Gives, give, raise_new, sure}
-use Rattle.py_typed.specs.Operations.{joined, length_of, letters, letter, with_place, text_of, flag_text}
+use Rattle.source_meaning.specs.State.{State, Does, Gives, give, raise_new, sure}
+use Rattle.source_meaning.specs.Operations.{joined, length_of, letters, letter, with_place, text_of, flag_text}
 use Rattle.ir_core.specs.declared.code.Reg.{Reg}
 use Rattle.ir_core.specs.declared.code.RType.TheVariants as rtype
 use Rattle.ir_core.specs.declared.code.Op.TheVariants.{Prim}

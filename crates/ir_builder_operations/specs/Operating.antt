@@ -5,7 +5,7 @@ use Rattle.py_syntax.specs.declared.expression.BinOp.{BinOp}
 use Rattle.py_syntax.specs.declared.expression.BinOp.TheVariants.{Add, Sub, Mul, FloorDiv, Mod, Shl, Shr}
 use Rattle.py_typed.specs.Sorts as sort
 use Rattle.py_typed.specs.Sorts.{Sort}
-use Rattle.py_typed.specs.State.{State, Outcome, Does}
+use Rattle.source_meaning.specs.State.{State, Outcome, Does}
 use Rattle.ir_core.specs.Registers.{Regs}
 use Rattle.ir_builder_frames.specs.Computing.{Shows}
 

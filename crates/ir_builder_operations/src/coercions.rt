@@ -1,7 +1,7 @@
 //! A number of one type as the equal one of another type.
 ghost use Rattle.std.specs.Prelude.{◌≡◌, IfOk, true};
 ghost use Rattle.py_typed.specs.Sorts.{sort};
-ghost use Rattle.py_typed.specs.Operations.{coerced};
+ghost use Rattle.source_meaning.specs.Operations.{coerced};
 ghost use Rattle.ir_core.specs.Building.{Extends};
 ghost use Rattle.ir_builder_frames.specs.Computing.{Shows, Attempts};
 ghost use Rattle.ir_builder_frames.specs.Placing.{HasType};

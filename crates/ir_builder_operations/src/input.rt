@@ -1,8 +1,8 @@
 //! Lines of input.
 ghost use Rattle.std.specs.Prelude.{IfOk};
 ghost use Rattle.py_typed.specs.Sorts.{Str};
-ghost use Rattle.py_typed.specs.State.{look};
-ghost use Rattle.py_typed.specs.Operations.{next_line};
+ghost use Rattle.source_meaning.specs.State.{look};
+ghost use Rattle.source_meaning.specs.Operations.{next_line};
 ghost use Rattle.ir_core.specs.Building.{Extends};
 ghost use Rattle.ir_builder_frames.specs.Computing.{Shows, Attempts};
 ghost use Rattle.ir_builder_frames.specs.Shaped.{Keeps};

@@ -3,7 +3,7 @@ ghost use Rattle.std.specs.Prelude.{◌≡◌, IfOk, true, pos, ◌*ℤ◌};
 ghost use Rattle.value_core.specs.Arithmetic as spec;
 ghost use Rattle.value_core.specs.Value.{IntVal};
 ghost use Rattle.py_typed.specs.Sorts.{Int, I64};
-ghost use Rattle.py_typed.specs.Operations.{arithmetic, negated};
+ghost use Rattle.source_meaning.specs.Operations.{arithmetic, negated};
 ghost use Rattle.ir_core.specs.Registers.{Holds};
 ghost use Rattle.ir_core.specs.Building.{Extends};
 ghost use Rattle.ir_builder_frames.specs.Computing.{Shows, Makes, Attempts};

@@ -2,8 +2,8 @@
 ghost use Rattle.std.specs.Prelude.{◌≡◌, IfOk, true};
 ghost use Rattle.value_core.specs.Value.{StrVal};
 ghost use Rattle.py_typed.specs.Sorts.{sort, Int, Str};
-ghost use Rattle.py_typed.specs.State.{give};
-ghost use Rattle.py_typed.specs.Operations.{joined, length_of, letter, text_of};
+ghost use Rattle.source_meaning.specs.State.{give};
+ghost use Rattle.source_meaning.specs.Operations.{joined, length_of, letter, text_of};
 ghost use Rattle.ir_core.specs.Registers.{Holds};
 ghost use Rattle.ir_core.specs.Building.{Extends};
 ghost use Rattle.ir_builder_frames.specs.Computing.{Shows, Makes, Attempts};

@@ -8,7 +8,7 @@ use Rattle.py_typed.specs.Sorts.{Sort, sort as sort_of}
 use Rattle.py_typed.specs.Expressions as tree
 use Rattle.py_typed.specs.Expressions.{TypedExpr, typed, typed_expr, type_of, exprs_of}
 use Rattle.py_typed.specs.Statements.{Variable, TypedModule}
-use Rattle.py_typed.specs.Operations.{line_of}
+use Rattle.source_meaning.specs.Operations.{line_of}
 use Rattle.py_typed.proofs.ExpressionLemmas.{typed_expr_of, typed_node-Print}
 use Rattle.ir_core.specs.declared.code.Reg.{Reg}
 use Rattle.ir_core.specs.Building.{Building}

@@ -15,11 +15,12 @@ use Rattle.py_typed.specs.Classes.{ClassEntry}
 use Rattle.py_typed.specs.Fits.{fits}
 use Rattle.py_typed.specs.Expressions.{TypedExpr, type_of}
 use Rattle.py_typed.specs.Statements.{Variable, TypedModule, TypedTarget, LocalTarget, GlobalTarget, AttrTarget, ItemTarget, typed_target}
-use Rattle.py_typed.specs.State.{State, Outcome, Gives, Raises, Stops, Does, Calls, on_to, needs, put_local, set_local, give}
-use Rattle.py_typed.specs.Operations.{coerced, combined}
-use Rattle.py_typed.specs.StatementMeaning.{sort_at, target_sort, bind, assign, unpack, update, changed}
-use Rattle.py_typed.specs.SourceRun.{call_of}
-use Rattle.py_typed.specs.WaysOut.{Flow, Goes}
+use Rattle.source_meaning.specs.State.{State, Outcome, Gives, Raises, Stops, Does, Calls, on_to, needs, put_local, set_local, give}
+use Rattle.source_meaning.specs.Operations.{coerced, combined}
+use Rattle.source_meaning.specs.StatementMeaning.{target_sort, bind, assign, unpack, update, changed}
+use Rattle.py_typed.specs.TargetTypes.{sort_at}
+use Rattle.source_meaning.specs.SourceRun.{call_of}
+use Rattle.source_meaning.specs.WaysOut.{Flow, Goes}
 use Rattle.py_typed.proofs.FitLemmas.{fits_itself}
 use Rattle.ir_core.specs.declared.code.Reg.{Reg}
 use Rattle.ir_core.specs.Registers.{Regs}

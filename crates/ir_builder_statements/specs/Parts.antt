@@ -6,8 +6,8 @@ use Rattle.py_typed.specs.Sorts as sort
 use Rattle.py_typed.specs.Sorts.{Sort}
 use Rattle.py_typed.specs.Expressions.{TypedExpr, typed, Local, Global, Nothing, type_of}
 use Rattle.py_typed.specs.Statements.{Variable, TypedModule, TypedTarget, LocalTarget, GlobalTarget}
-use Rattle.py_typed.specs.State.{on_to}
-use Rattle.py_typed.specs.Operations.{coerced}
+use Rattle.source_meaning.specs.State.{on_to}
+use Rattle.source_meaning.specs.Operations.{coerced}
 use Rattle.ir_core.specs.declared.code.Last.TheVariants.{Goto, If, Unreachable}
 use Rattle.ir_core.specs.declared.code.Op.TheVariants.{Turn}
 use Rattle.ir_core.specs.Building.{Building, with_last}

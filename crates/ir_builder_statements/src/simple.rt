@@ -3,7 +3,7 @@ ghost use Rattle.std.specs.Prelude.{◌≡◌, ◌≤◌, [], true, map, length,
 ghost use Rattle.py_typed.specs.Sorts.{Sort, sort};
 ghost use Rattle.py_typed.specs.Expressions.{typed_expr, type_of};
 ghost use Rattle.py_typed.specs.Statements.{typed_module, typed_target, maybe_typed, variable};
-ghost use Rattle.py_typed.specs.Operations.{coerced};
+ghost use Rattle.source_meaning.specs.Operations.{coerced};
 ghost use Rattle.ir_core.specs.Building.{Extends};
 ghost use Rattle.ir_builder_frames.specs.Settings.{setting, rtype_of};
 ghost use Rattle.ir_builder_frames.specs.Placing.{HasType};

@@ -9,7 +9,7 @@ use Rattle.py_typed.specs.Sorts.{Sort}
 use Rattle.py_typed.specs.Fits.{is_same_type, is_number, is_nothing, number_join, fits}
 use Rattle.py_typed.specs.Expressions.{TypedExpr, typed, TypedNode, Nothing, Print, TypedExprs, no_exprs, expr_then, type_of}
 use Rattle.py_typed.specs.Statements.{Variable, TypedModule, TypedTarget, LocalTarget, GlobalTarget, TypedStmt, on_line, TypedAct, Do, Assign, Aug, If, While, Return, Break, Continue, Pass, TypedSuite, no_stmts, stmt_then, Arms, no_arms, arm_then}
-use Rattle.py_typed.specs.StatementMeaning.{sort_at}
+use Rattle.py_typed.specs.TargetTypes.{sort_at}
 use Rattle.py_typed.specs.Narrowing.{is_in, facts, without, bound_suite, part_sorts, after}
 use Rattle.py_typed.specs.WellTypedExpr.{stands, parts_typed, are_values, rule, is_type, are_texts, are_numbers, is_bar, operation_sort, reads_as, is_value, is_typed, is_none_literal}
 use Rattle.py_typed.specs.WellTyped.{target_type, read_type, parts_fit, assignment_fits, is_single, return_fits, stmt_typed, act_typed, suite_typed, arms_typed}

@@ -1,7 +1,7 @@
 -- What the typing of a module tells.
 use Rattle.std.proofs.Common.{◌≡◌, refl, sym, ap, List, [], ◌∷◌, map, Ok, Err}
 use Rattle.py_syntax.specs.Statements.{Suite}
-use Rattle.py_binder.specs.declared.scope.Diag.{Diag}
+use Rattle.py_syntax_diagnostics.specs.declared.diagnostic.Diag.{Diag}
 use Rattle.py_typed.specs.declared.checked.Checked.{Checked}
 use Rattle.py_typed.specs.Statements.{typed_module}
 use Rattle.py_check.specs.Module.{diagnostics}

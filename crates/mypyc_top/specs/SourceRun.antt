@@ -3,7 +3,7 @@
 use Rattle.std.specs.Prelude.{◌≡◌, ℕ, Some}
 use Rattle.value_core.specs.Items.{Items}
 use Rattle.py_typed.specs.Statements.{TypedModule}
-use Rattle.py_typed.specs.SourceRun.{ModuleStop, source_run}
+use Rattle.source_meaning.specs.SourceRun.{ModuleStop, source_run}
 use Rattle.c_core.specs.Agreement.{SourceStop}
 
 -- it has an ending: it is not stuck

@@ -1,7 +1,7 @@
 -- The typing of a module, as the command takes it.
 use Rattle.std.specs.Prelude.{List, map}
 use Rattle.py_syntax.specs.Statements.{Suite}
-use Rattle.py_binder.specs.declared.scope.Diag.{Diag}
+use Rattle.py_syntax_diagnostics.specs.declared.diagnostic.Diag.{Diag}
 use Rattle.py_typed.specs.Statements.{TypedModule}
 use Rattle.py_check.specs.Module.{diagnostics, typed}
 use Rattle.py_parser_source.specs.Entries.{Entry}

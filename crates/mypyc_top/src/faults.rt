@@ -6,8 +6,8 @@ ghost use Rattle.mypyc_top.specs.Faults.{unbuilt_entry};
 ghost use Rattle.mypyc_top.specs.Diagnostics.{entry_text, errors_word, found_text, entries_text};
 ghost use Rattle.mypyc_top.specs.Found.{entries_of};
 
-use py_binder::Diag;
 use py_parser_source::SourceFault;
+use py_syntax_diagnostics::Diag;
 use std::alloc::Global;
 use value_core::{Many, Memory};
 

@@ -7,7 +7,7 @@ use Rattle.std.specs.Prelude.{ℕ, Bool, true, false, if◌then◌else◌, not, 
 use Rattle.std.specs.List.{flat_map}
 use Rattle.py_syntax.specs.declared.token.Span.{Span}
 use Rattle.py_syntax.specs.Statements.{Suite, FuncTree}
-use Rattle.py_binder.specs.declared.scope.Diag.{Diag}
+use Rattle.py_syntax_diagnostics.specs.declared.diagnostic.Diag.{Diag}
 use Rattle.py_binder.specs.declared.scope.Role.{Role}
 use Rattle.py_binder.specs.declared.scope.Role.TheVariants.{Unknown}
 use Rattle.py_binder.specs.Sights.{Use, Reads, Declares, Holds, Sight, module_sights, body_sights}

@@ -10,12 +10,13 @@ ghost use Rattle.py_binder.specs.Tables.{table_role, inside_role};
 use crate::faults::{add_body_faults, add_faults_at};
 use crate::inside::{Inside, in_function, scope_of};
 use crate::names::add_seen;
-use crate::scope::{Diag, Scope};
+use crate::scope::Scope;
 use crate::sight::{Home, Sight, Use};
 use crate::statements::see_all;
 use crate::table::{Table, name_set};
 use indexmap::IndexSet;
 use py_syntax::{Expr, Func};
+use py_syntax_diagnostics::Diag;
 use std::alloc::Global;
 use value_core::{Many, Memory, Name};
 

@@ -7,11 +7,12 @@ ghost use Rattle.py_binder.specs.Collected.{use_of, sights_of};
 ghost use Rattle.py_binder.specs.Tables.{table_role, inside_role};
 
 use crate::inside::{Inside, is_variable};
-use crate::scope::{Diag, Role};
+use crate::scope::Role;
 use crate::sight::{Sight, Use};
 use crate::table::Table;
 use indexmap::IndexSet;
 use py_syntax::Span;
+use py_syntax_diagnostics::Diag;
 use std::alloc::Global;
 use value_core::{Many, Memory, Name, Text};
 

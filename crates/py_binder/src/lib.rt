@@ -35,7 +35,8 @@ use crate::table::table_of;
 use indexmap::IndexSet;
 pub use laws::{first_come_first, no_name_is_lost};
 use py_syntax::Module;
-pub use scope::{Diag, Role, Scope, Scopes};
+pub use py_syntax_diagnostics::Diag;
+pub use scope::{Role, Scope, Scopes};
 use std::alloc::Global;
 use value_core::{Many, Memory};
 

@@ -6,7 +6,7 @@ ghost use Rattle.py_binder.specs.Sights as spec;
 ghost use Rattle.py_binder.specs.Collected.{sights_of};
 
 use crate::sight::{Manner, Sight, Use};
-use py_lexer::name_in_quotes;
+use py_lexer_words::name_in_quotes;
 use py_syntax::{Arg, Expr, ExprKind, Span};
 use std::alloc::Global;
 use value_core::{Memory, Name, Text};

@@ -1,6 +1,6 @@
 //! What binding names gives: what each name is, and what is wrong.
-use py_syntax::Span;
-use value_core::{Many, Name, Text};
+use py_syntax_diagnostics::Diag;
+use value_core::{Many, Name};
 
 /// What a name is.
 #[derive(Clone, Copy, PartialEq, Eq)]
@@ -20,14 +20,6 @@ pub enum Role {
 #[derive(Drop)]
 pub struct Scope {
     pub names: Many<(Name, Role)>,
-}
-
-/// A fault, with its place, its text and the code of its rule.
-#[derive(Drop)]
-pub struct Diag {
-    pub span: Span,
-    pub text: Text,
-    pub code: Text,
 }
 
 /// The scopes of a module's functions in the order of the text, methods at their class's place; that of the module; and

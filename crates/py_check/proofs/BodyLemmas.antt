@@ -1,13 +1,13 @@
 -- Functions with their bodies, one behind the other.
 use Rattle.std.proofs.Common.{◌≡◌, ◌∙◌, ℕ, suc, ◌+◌, ◌<◌, List, [], ◌∷◌, ◌++◌, length, map, drop, get_or, drop-cons, add-one, refl, ap, sym}
 use Rattle.std.proofs.lemmas.List.{append_assoc}
-use Rattle.py_binder.specs.declared.scope.Diag.{Diag}
+use Rattle.py_syntax_diagnostics.specs.declared.diagnostic.Diag.{Diag}
 use Rattle.py_typed.specs.declared.checked.TFunc.{TFunc}
 use Rattle.py_typed.specs.Statements.{TypedFunc, typed_func}
 use Rattle.py_check_context.specs.Context.{VarSort}
-use Rattle.py_check.specs.declared.functions.Function.{Function}
-use Rattle.py_check.specs.Definitions.{Headed}
-use Rattle.py_check.specs.Views.{headed_of}
+use Rattle.py_check_definitions.specs.declared.functions.Function.{Function}
+use Rattle.py_check_definitions.specs.Definitions.{Headed}
+use Rattle.py_check_definitions.specs.Views.{headed_of}
 use Rattle.py_check.specs.Module.{Environment, context_in, body, typed_function, sorts_behind, bodies_said, typed_functions, sorts_behind_all}
 
 pub functions_at : (fs : List Function) (i : ℕ) (f : Function) → i < length fs → f ≡ get_or fs i f → map headed_of (drop i fs) ≡ headed_of f ∷ map headed_of (drop (i + 1) fs)

@@ -1,10 +1,3 @@
 mod Samples
-pub mod HeldLemmas
-pub mod WalkLemmas
-pub mod DefinitionLemmas
-pub mod FunctionLemmas
-pub mod StartLemmas
-pub mod VariableLemmas
-pub mod GlobalLemmas
 pub mod WholeLemmas
 pub mod BodyLemmas

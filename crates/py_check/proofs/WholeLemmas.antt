@@ -7,11 +7,11 @@ use Rattle.std.specs.Str.{bytes_eq}
 use Rattle.indexmap.specs.IndexMap.{get}
 use Rattle.py_syntax.specs.declared.statement.Func.{Func}
 use Rattle.py_syntax.specs.Statements.{Suite, StmtTree, FuncTree, func_tree}
-use Rattle.py_binder.specs.declared.scope.Diag.{Diag}
+use Rattle.py_syntax_diagnostics.specs.declared.diagnostic.Diag.{Diag}
 use Rattle.py_binder.specs.declared.scope.Scope.{Scope}
 use Rattle.py_binder.specs.declared.scope.Scopes.{Scopes}
 use Rattle.py_binder.specs.Scope.{Roles, module_scope, module_role, function_scope, functions}
-use Rattle.py_order.specs.Order.{by_place}
+use Rattle.py_syntax_diagnostics.specs.Order.{by_place}
 use Rattle.py_typed.specs.declared.checked.Checked.{Checked}
 use Rattle.py_typed.specs.Classes.{ClassEntry, Signature}
 use Rattle.py_typed.specs.Statements.{TypedModule}
@@ -23,15 +23,16 @@ use Rattle.py_check_names.specs.Meanings.{variables, meaning_in, said_in, module
 use Rattle.py_check_signatures.specs.Headers.{header, header_said, signature_of}
 use Rattle.py_check.specs.declared.checking.CheckError.{CheckError}
 use Rattle.py_check.specs.declared.checking.CheckError.TheVariants as reason
-use Rattle.py_check.specs.Definitions.{Headed, headed, headed_functions, inner_definitions_said, headers_said}
-use Rattle.py_check.specs.Globals.{global_said, all_globals, is_refusal, globals_said}
-use Rattle.py_check.specs.Views.{headed_all, said_along}
+use Rattle.py_check_definitions.specs.Definitions.{Headed, headed, headed_functions, inner_definitions_said, headers_said}
+use Rattle.py_check_definitions.specs.Globals.{global_said, all_globals, is_refusal, globals_said}
+use Rattle.py_check_definitions.specs.Views.{headed_all, said_along}
 use Rattle.py_check.specs.Module.{Environment, environment, context_in, statements_said, typed_parts, said, diagnostics, typed}
-use Rattle.py_check.specs.Parts.{environment_by, meanings_by, context_by, headers_said_by}
+use Rattle.py_check_definitions.specs.Views.{meanings_by, headers_said_by}
+use Rattle.py_check.specs.Parts.{environment_by, context_by}
 use Rattle.py_check.specs.Outcome.{IsBound, Outcome, Decided}
-use Rattle.py_check.proofs.HeldLemmas.{functions_defined}
-use Rattle.py_check.proofs.DefinitionLemmas.{walk_says}
-use Rattle.py_check.proofs.FunctionLemmas.{all_headed}
+use Rattle.py_check_definitions.proofs.HeldLemmas.{functions_defined}
+use Rattle.py_check_definitions.proofs.DefinitionLemmas.{walk_says}
+use Rattle.py_check_definitions.proofs.FunctionLemmas.{all_headed}
 
 -- ---- contexts
 

@@ -1,8 +1,3 @@
-pub mod Definitions
-pub mod Globals
-pub mod Starts
-pub mod Variables
-pub mod Views
 pub mod Module
 pub mod Outcome
 pub mod Parts

@@ -8,10 +8,10 @@
 -- has no type stands in it as what says nothing: a body without statements, a signature without parameters, a variable that is None.
 use Rattle.std.specs.Prelude.{ℕ, false, List, [], ◌∷◌, ◌++◌, map, length, Option, Some, None, unwrap_or}
 use Rattle.py_syntax.specs.Statements.{Suite}
-use Rattle.py_binder.specs.declared.scope.Diag.{Diag}
+use Rattle.py_syntax_diagnostics.specs.declared.diagnostic.Diag.{Diag}
 use Rattle.py_binder.specs.declared.scope.Scope.{Scope}
 use Rattle.py_binder.specs.Scope.{param_names, module_scope}
-use Rattle.py_order.specs.Order.{by_place}
+use Rattle.py_syntax_diagnostics.specs.Order.{by_place}
 use Rattle.py_typed.specs.Sorts as sort
 use Rattle.py_typed.specs.Sorts.{Sort}
 use Rattle.py_typed.specs.Classes.{ClassEntry, Signature}
@@ -24,12 +24,12 @@ use Rattle.py_check_signatures.specs.Headers.{signature_of}
 use Rattle.py_check_names.specs.Meanings.{variables, own_names, number, meaning_in, said_in}
 use Rattle.py_check_values.specs.Returns as ret
 use Rattle.py_check_values.specs.Returns.{ReturnSort}
-use Rattle.py_check_targets.specs.Places.{Known}
+use Rattle.py_check_places.specs.Places.{Known}
 use Rattle.py_check_statements.specs.Bodies.{block, block_after}
-use Rattle.py_check.specs.Definitions.{Headed, headed_functions, signatures, headers_said}
-use Rattle.py_check.specs.Globals.{globals_said}
-use Rattle.py_check.specs.Starts.{start_sort, own_sort}
-use Rattle.py_check.specs.Variables.{typed_variables, numbers_from}
+use Rattle.py_check_definitions.specs.Definitions.{Headed, headed_functions, signatures, headers_said}
+use Rattle.py_check_definitions.specs.Globals.{globals_said}
+use Rattle.py_check_definitions.specs.Starts.{start_sort, own_sort}
+use Rattle.py_check_definitions.specs.Variables.{typed_variables, numbers_from}
 
 -- ---- what stands in the typed tree
 

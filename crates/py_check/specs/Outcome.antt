@@ -5,7 +5,7 @@ use Rattle.py_binder.specs.declared.scope.Scopes.{Scopes}
 use Rattle.py_binder.specs.Scope.{module_scope, module_role, function_scope, functions}
 use Rattle.py_binder.specs.Faults.{faults}
 use Rattle.py_typed.specs.declared.checked.Checked.{Checked}
-use Rattle.py_binder.specs.declared.scope.Diag.{Diag}
+use Rattle.py_syntax_diagnostics.specs.declared.diagnostic.Diag.{Diag}
 use Rattle.py_typed.specs.Statements.{TypedModule, typed_module}
 use Rattle.py_check.specs.declared.checking.CheckError.{CheckError}
 use Rattle.py_check.specs.declared.checking.CheckError.TheVariants.{Diags, Memory}

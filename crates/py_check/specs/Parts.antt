@@ -1,24 +1,19 @@
 -- A module and its functions by their parts, and what the program's environments stand for.
-use Rattle.std.specs.Prelude.{ℕ, List, [], ◌++◌, map, length, Option, None, unwrap_or}
-use Rattle.std.specs.List.{flat_map}
+use Rattle.std.specs.Prelude.{ℕ, List, [], map, length, Option, None, unwrap_or}
 use Rattle.std.specs.Option.{option_map}
 use Rattle.std.specs.Str.{bytes_eq}
 use Rattle.indexmap.specs.IndexMap.{get}
-use Rattle.py_syntax.specs.Statements.{StmtTree, FuncTree}
-use Rattle.py_binder.specs.declared.scope.Diag.{Diag}
-use Rattle.py_binder.specs.declared.scope.Scope.{Scope}
 use Rattle.py_typed.specs.Sorts as sort
 use Rattle.py_typed.specs.Classes.{class_entry, signature}
 use Rattle.py_typed.specs.Statements.{TypedStmt, TypedFunc, TypedModule}
 use Rattle.py_check_context.specs.declared.scope.Meaning.{Meaning}
 use Rattle.py_check_context.specs.Context.{Context, VarSort}
 use Rattle.py_check_names.specs.declared.meanings.Known.{Known}
-use Rattle.py_check_names.specs.Meanings.{meaning_in, own_names}
-use Rattle.py_check_signatures.specs.Headers.{header_said, signature_of}
-use Rattle.py_check.specs.declared.environments.Environment as declared
-use Rattle.py_check.specs.Definitions.{Headed, inner_definitions_said}
-use Rattle.py_check.specs.Variables.{typed_variables}
-use Rattle.py_check.specs.Views.{said_along}
+use Rattle.py_check_names.specs.Meanings.{own_names}
+use Rattle.py_check_signatures.specs.Headers.{signature_of}
+use Rattle.py_check_definitions.specs.declared.environments.Environment as declared
+use Rattle.py_check_definitions.specs.Definitions.{Headed}
+use Rattle.py_check_definitions.specs.Variables.{typed_variables}
 use Rattle.py_check.specs.Module.{Environment, plain_signature, statements_of}
 
 -- ---- environments
@@ -40,20 +35,9 @@ environment_by k fs = record {
   classes = [];
 }
 
--- what names mean in a scope
-abbrev pub meanings_by : Known → Scope → List ℕ → Meaning
-meanings_by k inside = meaning_in (get bytes_eq k.said) k.variables.keys inside
-
 -- where names mean this
 abbrev pub context_by : (List ℕ → Meaning) → Environment → Context
 context_by meanings e = record { meaning = meanings; signatures = e.signatures; classes = e.classes }
-
--- ---- what is said of headers
-
--- in the annotations of functions, of definitions and imports, and of those in the bodies of functions
-abbrev pub headers_said_by : (List ℕ → Meaning) → List FuncTree → List Headed → List StmtTree → List Diag
-headers_said_by meanings trees fs definitions =
-    flat_map (header_said meanings) trees ++ said_along [] fs definitions ++ flat_map inner_definitions_said trees
 
 -- ---- typed parts
 

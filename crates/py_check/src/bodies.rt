@@ -7,22 +7,22 @@ ghost use Rattle.py_check_names.specs.Meanings as meanings;
 ghost use Rattle.py_check_context.specs.Context.{context, var_sort};
 ghost use Rattle.py_check_messages.specs.Seen.{Tells};
 ghost use Rattle.py_check_values.specs.Returns.{return_sort};
-ghost use Rattle.py_check_targets.specs.Views.{known_at};
-ghost use Rattle.py_check.specs.Views.{headed_of, headed_parts};
+ghost use Rattle.py_check_places.specs.Views.{known_at};
+ghost use Rattle.py_check_definitions.specs.Views.{headed_of, headed_parts};
 ghost use Rattle.py_check.specs.Module as spec;
 ghost use Rattle.py_check.specs.Parts as views;
 
-use crate::environments::Environment;
-use crate::functions::Function;
-use crate::starts::own_types;
-use crate::variables::{numbers_of, own_names, param_numbers, type_or_none, typed_variables};
 use indexmap::IndexSet;
-use py_binder::Diag;
 use py_check_context::{Scope, VarType};
+use py_check_definitions::{
+    Environment, Function, numbers_of, own_names, own_types, param_numbers, type_or_none,
+    typed_variables,
+};
 use py_check_names::names_in;
+use py_check_places::Place;
 use py_check_statements::block;
-use py_check_targets::Place;
 use py_check_values::Returns;
+use py_syntax_diagnostics::Diag;
 use py_typed::{TFunc, TStmt, Ty};
 use std::alloc::Global;
 use value_core::{Many, Memory, Name};

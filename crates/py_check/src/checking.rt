@@ -1,13 +1,13 @@
 //! The typing of a whole module.
 ghost use Rattle.py_syntax.specs.Statements.{module_tree};
-ghost use Rattle.py_order.specs.Order as order;
+ghost use Rattle.py_syntax_diagnostics.specs.Order as order;
 ghost use Rattle.py_typed.specs.Statements as tree;
 ghost use Rattle.py_check.specs.Outcome.{IsBound, Outcome, Decided};
 
 use crate::modules::typed_module;
-use py_binder::{Diag, Scopes};
-use py_order::by_place;
+use py_binder::Scopes;
 use py_syntax::Module;
+use py_syntax_diagnostics::{Diag, by_place};
 use py_typed::Checked;
 use std::alloc::Global;
 use value_core::{Many, Memory};

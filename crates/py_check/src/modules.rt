@@ -7,28 +7,27 @@ ghost use Rattle.py_typed.specs.Statements.{typed_func, typed_module, typed_stmt
 ghost use Rattle.py_check_context.specs.Context.{context, var_sort};
 ghost use Rattle.py_check_messages.specs.Seen.{Tells};
 ghost use Rattle.py_check_signatures.specs.Headers as headers;
-ghost use Rattle.py_check_targets.specs.Views.{known_at};
-ghost use Rattle.py_check.specs.Views.{headed_of};
+ghost use Rattle.py_check_places.specs.Views.{known_at};
+ghost use Rattle.py_check_definitions.specs.Views.{headed_of};
 ghost use Rattle.py_check.specs.Outcome.{IsBound};
 ghost use Rattle.py_check.specs.Module as spec;
 ghost use Rattle.py_check.specs.Parts as views;
 
 use crate::bodies::{statements_or_none, typed_functions};
-use crate::environments::{Environment, no_classes};
-use crate::functions::{Function, signatures_of};
-use crate::globals::add_global_faults;
-use crate::outlines::{add_header_faults, definitions_of};
-use crate::starts::start_types;
-use crate::variables::typed_variables;
 use indexmap::IndexSet;
-use py_binder::{Diag, Scope, Scopes};
+use py_binder::{Scope, Scopes};
 use py_check_context::{VarType, Variables};
+use py_check_definitions::{
+    Environment, Function, add_global_faults, add_header_faults, definitions_of, no_classes,
+    signatures_of, start_types, typed_variables,
+};
 use py_check_names::{Known, names_in};
+use py_check_places::Place;
 use py_check_signatures::signature_of;
 use py_check_statements::block;
-use py_check_targets::Place;
 use py_check_values::Returns;
 use py_syntax::Stmt;
+use py_syntax_diagnostics::Diag;
 use py_typed::{Checked, Classes, Sig, TFunc, TStmt, Ty};
 use std::alloc::Global;
 use value_core::{Many, Memory, Name};

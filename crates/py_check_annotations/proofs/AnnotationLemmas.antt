@@ -12,7 +12,7 @@ use Rattle.py_syntax.specs.declared.expression.ExprKind.{ExprKind}
 use Rattle.py_syntax.specs.declared.expression.ExprKind as kind
 use Rattle.py_syntax.specs.Expressions.{ExprNode, at, Bin, Index, expr_tree, expr_node, exprs_of}
 use Rattle.py_syntax.proofs.ExpressionLemmas.{expr_tree_at, expr_node-Bin, expr_node-Index, expr_node-Tuple}
-use Rattle.py_binder.specs.declared.scope.Diag.{Diag}
+use Rattle.py_syntax_diagnostics.specs.declared.diagnostic.Diag.{Diag}
 use Rattle.py_typed.specs.declared.types.Ty.{Ty}
 use Rattle.py_typed.specs.Sorts.{Sort, sort}
 use Rattle.py_typed.specs.Fits.{optional}

@@ -9,7 +9,7 @@ use Rattle.py_syntax.specs.Expressions.{ExprNode, expr_tree, expr_node}
 use Rattle.py_syntax.proofs.ExpressionLemmas.{expr_tree_at}
 use Rattle.py_binder.specs.Sights.{Sight, reads, node_reads}
 use Rattle.py_binder.specs.declared.sight.Manner.TheVariants.{Annotation}
-use Rattle.py_binder.specs.declared.scope.Diag.{Diag}
+use Rattle.py_syntax_diagnostics.specs.declared.diagnostic.Diag.{Diag}
 use Rattle.py_check_context.specs.declared.scope.Meaning.{Meaning}
 use Rattle.py_check_annotations.specs.Names.{unknown_among, unknown_there}
 

@@ -7,11 +7,11 @@ ghost use Rattle.py_check_context.specs.Context.{context};
 ghost use Rattle.py_check_annotations.specs.Names as spec;
 
 use crate::names::is_unknown;
-use py_binder::Diag;
 use py_check_context::{Scope, meaning_of};
 use py_check_messages::not_defined;
-use py_lexer::name_in_quotes;
+use py_lexer_words::name_in_quotes;
 use py_syntax::{Arg, Expr, ExprKind, Span};
+use py_syntax_diagnostics::Diag;
 use std::alloc::Global;
 use value_core::{Many, Memory, Name, Text};
 

@@ -7,10 +7,10 @@ ghost use Rattle.py_typed.specs.WellTypedExpr as typed;
 ghost use Rattle.py_check_messages.specs.Seen.{Tells};
 ghost use Rattle.py_check_annotations.specs.Names as spec;
 
-use py_binder::Diag;
 use py_check_context::{Builtin, Imported, Meaning};
 use py_check_messages::{invalid_type, not_defined};
 use py_syntax::Span;
+use py_syntax_diagnostics::Diag;
 use py_typed::{Ty, is_number, optional};
 use std::alloc::Global;
 use value_core::{Many, Memory, Name};

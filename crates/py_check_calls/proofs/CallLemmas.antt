@@ -13,10 +13,10 @@ use Rattle.py_typed.specs.Sorts.{sort}
 use Rattle.py_typed.specs.Classes.{ClassEntry, signature}
 use Rattle.py_check_context.specs.Context.{Wanted, along}
 use Rattle.py_check_messages.specs.Messages.{wrong_number}
-use Rattle.py_check_operators.specs.Rows.{unfit}
+use Rattle.py_check_coercions.specs.Rows.{unfit}
 use Rattle.py_typed.specs.Expressions.{typed_expr, type_of}
 use Rattle.py_typed.specs.WellTypedExpr.{is_printable}
-use Rattle.py_check_operators.proofs.PartLemmas.{type_at}
+use Rattle.py_check_coercions.proofs.PartLemmas.{type_at}
 use Rattle.py_check_calls.specs.Callees.{has_key}
 use Rattle.py_check_calls.specs.Builtins.{the_only, unprintable}
 use Rattle.py_check_calls.specs.Calls.{function_given, function_call}

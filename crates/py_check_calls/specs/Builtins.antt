@@ -14,7 +14,7 @@ use Rattle.py_typed.specs.WellTypedExpr.{is_printable, is_sized}
 use Rattle.py_check_context.specs.Context.{Wanted, dropped}
 use Rattle.py_check_messages.specs.Seen.{Message}
 use Rattle.py_check_messages.specs.Messages.{wrong_number, wrong_argument, gives_nothing}
-use Rattle.py_check_operators.specs.Values.{coerced}
+use Rattle.py_check_coercions.specs.Values.{coerced}
 use Rattle.py_check_calls.specs.declared.callees.Single.{Single}
 use Rattle.py_check_calls.specs.declared.callees.Single.TheVariants.{Len, Str, Int, I64}
 

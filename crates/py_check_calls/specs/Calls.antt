@@ -12,8 +12,8 @@ use Rattle.py_typed.specs.Expressions.{TypedExpr, typed, type_of, exprs_of}
 use Rattle.py_check_context.specs.Context.{Wanted, WantedRow, along}
 use Rattle.py_check_messages.specs.Seen.{Seen, Message, silent, fails, ruled, rule}
 use Rattle.py_check_messages.specs.Messages.{not_defined, keyword_argument, not_callable, range_outside_for, wrong_number, wrong_argument}
-use Rattle.py_check_operators.specs.Several.{with_part}
-use Rattle.py_check_operators.specs.Rows.{Misfit, unfit, changed_row}
+use Rattle.py_check_coercions.specs.Several.{with_part}
+use Rattle.py_check_coercions.specs.Rows.{Misfit, unfit, changed_row}
 use Rattle.py_check_calls.specs.Callees.{Callee, function, print, input, range, single, method, unknown, voiceless, uncalled, value}
 use Rattle.py_check_calls.specs.Builtins.{as_value, print_call, input_call, single_call}
 use Rattle.py_check_calls.specs.Methods.{item_of, method_row, method_call}

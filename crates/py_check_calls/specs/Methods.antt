@@ -13,7 +13,7 @@ use Rattle.py_typed.specs.Expressions.{TypedExpr, typed, type_of}
 use Rattle.py_check_context.specs.Context.{Wanted, WantedRow, along}
 use Rattle.py_check_messages.specs.Seen.{Message}
 use Rattle.py_check_messages.specs.Messages.{not_a_value, not_callable, wrong_number, wrong_argument, no_attribute}
-use Rattle.py_check_operators.specs.Values.{coerced}
+use Rattle.py_check_coercions.specs.Values.{coerced}
 use Rattle.py_check_calls.specs.Builtins.{as_value, the_only}
 
 abbrev pub item_of : Sort → Option Sort

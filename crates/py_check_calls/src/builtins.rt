@@ -7,15 +7,15 @@ ghost use Rattle.py_typed.specs.Expressions.{typed_expr};
 ghost use Rattle.py_typed.specs.WellTypedExpr as typing;
 ghost use Rattle.py_check_context.specs.Context.{wanted};
 ghost use Rattle.py_check_messages.specs.Seen.{Tells, judged, ruled};
-ghost use Rattle.py_check_operators.specs.Boxes.{boxed};
+ghost use Rattle.py_check_coercions.specs.Boxes.{boxed};
 ghost use Rattle.py_check_calls.specs.Builtins as rule_of;
 
 use crate::callees::Single;
-use py_binder::Diag;
+use py_check_coercions::{coerced, kept};
 use py_check_context::Want;
 use py_check_messages::{gives_nothing, wrong_argument, wrong_number};
-use py_check_operators::{coerced, kept};
 use py_syntax::Span;
+use py_syntax_diagnostics::Diag;
 use py_typed::{Classes, TExpr, TKind, Ty, is_nothing, is_number};
 use std::alloc::Global;
 use value_core::{Many, Memory};

@@ -6,8 +6,8 @@ ghost use Rattle.py_typed.specs.Expressions.{typed_expr};
 ghost use Rattle.py_check_context.specs.Context.{wanted, along};
 ghost use Rattle.py_check_messages.specs.Seen.{Tells, judged, ruled};
 ghost use Rattle.py_check_messages.specs.Messages as message;
-ghost use Rattle.py_check_operators.specs.Boxes.{boxed};
-ghost use Rattle.py_check_operators.specs.Rows as rows;
+ghost use Rattle.py_check_coercions.specs.Boxes.{boxed};
+ghost use Rattle.py_check_coercions.specs.Rows as rows;
 ghost use Rattle.py_check_calls.specs.CalleesSeen.{callee_seen};
 ghost use Rattle.py_check_calls.specs.Calls as rule_of;
 
@@ -15,13 +15,13 @@ use crate::arguments::positional;
 use crate::builtins::{gives_value, input_call, print_call, single_call};
 use crate::callees::Callee;
 use crate::methods::method_call;
-use py_binder::Diag;
+use py_check_coercions::{changed_row, kept, unfit};
 use py_check_context::{Row, Want};
 use py_check_messages::{
     gives_nothing, not_callable, not_defined, range_outside_for, wrong_argument_type, wrong_number,
 };
-use py_check_operators::{changed_row, kept, unfit};
 use py_syntax::Span;
+use py_syntax_diagnostics::Diag;
 use py_typed::{Classes, Sig, TExpr, TKind, copy_of};
 use std::alloc::Global;
 use value_core::{Many, Memory, Name};

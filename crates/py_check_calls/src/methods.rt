@@ -6,17 +6,17 @@ ghost use Rattle.py_typed.specs.Classes.{class_entry};
 ghost use Rattle.py_typed.specs.Expressions.{typed_expr};
 ghost use Rattle.py_check_context.specs.Context.{wanted, row};
 ghost use Rattle.py_check_messages.specs.Seen.{Tells, judged, ruled};
-ghost use Rattle.py_check_operators.specs.Boxes.{boxed};
+ghost use Rattle.py_check_coercions.specs.Boxes.{boxed};
 ghost use Rattle.py_check_calls.specs.Methods as rule_of;
 
 use crate::builtins::{gives_value, the_only};
-use py_binder::Diag;
+use py_check_coercions::{coerced, kept};
 use py_check_context::{Row, Want};
 use py_check_messages::{
     gives_nothing, no_attribute, not_a_value, not_callable, wrong_argument_type, wrong_number,
 };
-use py_check_operators::{coerced, kept};
 use py_syntax::Span;
+use py_syntax_diagnostics::Diag;
 use py_typed::{Classes, TExpr, TKind, Ty, copy_of, fits};
 use std::alloc::Global;
 use value_core::{Many, Memory, Name};

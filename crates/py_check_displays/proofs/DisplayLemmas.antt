@@ -8,7 +8,7 @@ use Rattle.py_typed.specs.Classes.{ClassEntry}
 use Rattle.py_typed.specs.Fits.{join}
 use Rattle.py_typed.specs.Expressions.{typed_expr, type_of}
 use Rattle.py_check_context.specs.Context.{WantedRow, wanted_in}
-use Rattle.py_check_operators.proofs.PartLemmas.{type_at}
+use Rattle.py_check_coercions.proofs.PartLemmas.{type_at}
 use Rattle.py_check_displays.specs.Displays.{common, is_bare_none, has_bare_none}
 
 pub common_step : (classes : List ClassEntry) (s : Sort) (es : List TExpr) (i : ℕ) (e : TExpr) → i < length es → e ≡ get_or es i e → common classes (Some s) (map typed_expr (drop i es)) ≡ common classes (join classes s (sort e.ty)) (map typed_expr (drop (i + 1) es))

@@ -16,8 +16,8 @@ use Rattle.py_typed.specs.Expressions.{TypedExpr, typed, type_of, exprs_of}
 use Rattle.py_check_context.specs.Context.{Wanted, wants, WantedRow, each, along, wanted_in}
 use Rattle.py_check_messages.specs.Seen.{Message}
 use Rattle.py_check_messages.specs.Messages.{wrong_item, empty_display, no_common_item, invalid_tuple}
-use Rattle.py_check_operators.specs.Several.{unless}
-use Rattle.py_check_operators.specs.Rows.{Misfit, unfit, changed_row}
+use Rattle.py_check_coercions.specs.Several.{unless}
+use Rattle.py_check_coercions.specs.Rows.{Misfit, unfit, changed_row}
 
 -- ---- lists
 

@@ -14,7 +14,7 @@ use Rattle.py_typed.specs.Expressions as node
 use Rattle.py_typed.specs.Expressions.{TypedExpr, typed, type_of}
 use Rattle.py_check_messages.specs.Seen.{Message}
 use Rattle.py_check_messages.specs.Messages.{not_indexable, tuple_index, invalid_index}
-use Rattle.py_check_operators.specs.Values.{coerced}
+use Rattle.py_check_coercions.specs.Values.{coerced}
 
 -- an index as it is written: whether `-` stands before its number
 pub record Literal : Type 0 where

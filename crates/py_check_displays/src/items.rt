@@ -5,14 +5,14 @@ ghost use Rattle.py_syntax.specs.Expressions.{expr_tree};
 ghost use Rattle.py_typed.specs.Sorts.{sort};
 ghost use Rattle.py_typed.specs.Classes.{class_entry};
 ghost use Rattle.py_check_messages.specs.Seen.{Tells, judged, ruled};
-ghost use Rattle.py_check_operators.specs.Boxes.{boxed};
+ghost use Rattle.py_check_coercions.specs.Boxes.{boxed};
 ghost use Rattle.py_check_displays.specs.Literals.{literal_seen};
 ghost use Rattle.py_check_displays.specs.Indexing as rule_of;
 
-use py_binder::Diag;
+use py_check_coercions::{coerced, kept};
 use py_check_messages::{invalid_index, not_indexable, tuple_index};
-use py_check_operators::{coerced, kept};
 use py_syntax::{Expr, ExprKind, Span};
+use py_syntax_diagnostics::Diag;
 use py_typed::{Classes, TExpr, TKind, Ty, copy_of, fits};
 use std::alloc::Global;
 use value_core::{Many, Memory};

@@ -6,14 +6,14 @@ ghost use Rattle.py_typed.specs.Classes.{class_entry};
 ghost use Rattle.py_typed.specs.Expressions.{typed_expr, type_of};
 ghost use Rattle.py_check_context.specs.Context.{wanted, wants, row};
 ghost use Rattle.py_check_messages.specs.Seen.{Tells, ruled};
-ghost use Rattle.py_check_operators.specs.Boxes.{boxed};
+ghost use Rattle.py_check_coercions.specs.Boxes.{boxed};
 ghost use Rattle.py_check_displays.specs.Displays as rule_of;
 
-use py_binder::Diag;
+use py_check_coercions::{changed_row, kept, unfit};
 use py_check_context::{Row, Want, wanted_at};
 use py_check_messages::invalid_tuple;
-use py_check_operators::{changed_row, kept, unfit};
 use py_syntax::Span;
+use py_syntax_diagnostics::Diag;
 use py_typed::{Classes, TExpr, TKind, Ty, copy_of, is_nothing};
 use std::alloc::Global;
 use value_core::{Many, Memory};

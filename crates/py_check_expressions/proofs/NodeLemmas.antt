@@ -8,12 +8,12 @@ use Rattle.std.specs.declared.alloc.Global.{Global}
 use Rattle.py_syntax.specs.declared.expression.Expr.{Expr}
 use Rattle.py_syntax.specs.Expressions.{ExprNode, at, expr_tree, expr_node}
 use Rattle.py_syntax.proofs.ExpressionLemmas.{expr_tree_at}
-use Rattle.py_binder.specs.declared.scope.Diag.{Diag}
+use Rattle.py_syntax_diagnostics.specs.declared.diagnostic.Diag.{Diag}
 use Rattle.py_typed.specs.declared.expression.TExpr.{TExpr}
 use Rattle.py_check_context.specs.Context.{Context, VarSorts, Wanted, free}
 use Rattle.py_check_messages.specs.Seen.{Seen, Tells, is, behind}
 use Rattle.py_check_messages.proofs.RowLemmas.{behind_parts}
-use Rattle.py_check_operators.specs.Boxes.{boxed}
+use Rattle.py_check_coercions.specs.Boxes.{boxed}
 use Rattle.py_check_calls.specs.Callees.{is_named_tree}
 use Rattle.py_check_expressions.specs.Typing.{typing, node_typing, part, receiver}
 

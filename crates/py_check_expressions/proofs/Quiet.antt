@@ -12,7 +12,7 @@ use Rattle.py_check_context.specs.Context.{Context, VarSort, unset, untyped, has
 use Rattle.py_typed.specs.Narrowing.{is_in}
 use Rattle.py_check_messages.specs.Seen.{Seen, Message, is, silent, fails, both, judged, ruled, behind, rule, made}
 use Rattle.py_check_messages.specs.Rows.{row_then}
-use Rattle.py_check_operators.specs.Several.{told, ruled_all, with_part}
+use Rattle.py_check_coercions.specs.Several.{told, ruled_all, with_part}
 use Rattle.py_check_operators.specs.Facts.{facts}
 use Rattle.py_check_operators.specs.Names.{variable, named}
 use Rattle.py_check_operators.specs.Chains.{faults_of, chain}

@@ -14,7 +14,7 @@ use Rattle.py_check_context.specs.Context.{Context, VarSorts, Wanted, free, test
 use Rattle.py_check_messages.specs.Seen.{Seen, is, silent, fails, both, behind, rule, made}
 use Rattle.py_check_messages.specs.Rows.{row_then}
 use Rattle.py_check_messages.specs.Messages.{no_common_entry}
-use Rattle.py_check_operators.specs.Several.{ruled_all}
+use Rattle.py_check_coercions.specs.Several.{ruled_all}
 use Rattle.py_check_operators.specs.Facts.{facts}
 use Rattle.py_check_operators.specs.Names.{named}
 use Rattle.py_check_operators.specs.Operators.{negation, affirmation, inversion, arithmetic}

@@ -6,12 +6,12 @@ ghost use Rattle.py_typed.specs.Expressions as node;
 ghost use Rattle.py_typed.specs.Expressions.{TypedExpr, typed};
 ghost use Rattle.py_check_messages.specs.Seen.{Tells, fails};
 ghost use Rattle.py_check_messages.specs.Messages as message;
-ghost use Rattle.py_check_operators.specs.Boxes.{boxed};
+ghost use Rattle.py_check_coercions.specs.Boxes.{boxed};
 
-use py_binder::Diag;
+use py_check_coercions::kept;
 use py_check_messages::no_common_entry;
-use py_check_operators::kept;
 use py_syntax::Span;
+use py_syntax_diagnostics::Diag;
 use py_typed::{TExpr, TKind, Ty};
 use std::alloc::Global;
 use value_core::{Many, Memory, Text};

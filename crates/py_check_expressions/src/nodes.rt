@@ -4,8 +4,8 @@ ghost use Rattle.py_syntax.specs.Expressions.{expr_tree, expr_node, exprs_of, co
 ghost use Rattle.py_typed.specs.Expressions.{TypedExpr, typed_expr};
 ghost use Rattle.py_check_context.specs.Context.{context, var_sorts, wanted, free, test, row};
 ghost use Rattle.py_check_messages.specs.Seen.{Tells, both, behind, rule, made};
-ghost use Rattle.py_check_operators.specs.Boxes.{boxed, operand_pair};
-ghost use Rattle.py_check_operators.specs.Several.{ruled_all};
+ghost use Rattle.py_check_coercions.specs.Boxes.{boxed, operand_pair};
+ghost use Rattle.py_check_coercions.specs.Several.{ruled_all};
 ghost use Rattle.py_check_operators.specs.Facts.{facts};
 ghost use Rattle.py_check_operators.specs.Operators as operators;
 ghost use Rattle.py_check_operators.specs.Chains as chains;
@@ -18,17 +18,18 @@ ghost use Rattle.py_check_calls.specs.Calls as calls;
 ghost use Rattle.py_check_expressions.specs.Typing as rule_of;
 
 use crate::leaves::{dict, flag, nothing, number, text};
-use py_binder::Diag;
 use py_check_calls::{arguments_row, attribute, called, callee_of, has_key, is_named};
+use py_check_coercions::{with_item, with_operand};
 use py_check_context::{Row, Scope, Variables, Want, wanted_at};
 use py_check_displays::{
     indexing, item_type, items_row, list_display, literal_of, parts_row, tuple_display,
 };
 use py_check_operators::{
     affirmation, arithmetic, chain, choice, inversion, junction, named, negation, operand,
-    with_facts, with_item, with_operand,
+    with_facts,
 };
 use py_syntax::{Arg, BinOp, CmpOp, Expr, ExprKind, Span};
+use py_syntax_diagnostics::Diag;
 use py_typed::TExpr;
 use std::alloc::Global;
 use value_core::{Many, Memory, Name};

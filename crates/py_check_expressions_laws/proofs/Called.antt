@@ -17,8 +17,8 @@ use Rattle.py_typed.specs.WellTypedExpr.{stands, rule, parts_typed, are_values, 
 use Rattle.py_typed.proofs.FitLemmas.{type_is_itself, and_left, and_right}
 use Rattle.py_check_context.specs.Context.{Wanted, free, test, wants, dropped, along, wants_some, wanted_in}
 use Rattle.py_check_messages.specs.Seen.{Message}
-use Rattle.py_check_operators.specs.Values.{coerced}
-use Rattle.py_check_operators.specs.Rows.{Misfit, unfit, changed_row}
+use Rattle.py_check_coercions.specs.Values.{coerced}
+use Rattle.py_check_coercions.specs.Rows.{Misfit, unfit, changed_row}
 use Rattle.py_check_calls.specs.declared.callees.Single.{Single}
 use Rattle.py_check_calls.specs.declared.callees.Single.TheVariants as one
 use Rattle.py_check_calls.specs.Callees.{Callee, function, print, input, range, single, method, unknown, voiceless, uncalled, value}

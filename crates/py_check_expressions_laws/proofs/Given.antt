@@ -5,7 +5,7 @@ use Rattle.std.specs.Option.{option_map, option_zip}
 use Rattle.py_syntax.specs.declared.token.Span.{Span}
 use Rattle.py_check_messages.specs.Seen.{Seen, Message, is, silent, fails, both, judged, ruled, behind, rule, made}
 use Rattle.py_check_messages.specs.Rows.{row_then}
-use Rattle.py_check_operators.specs.Several.{told, ruled_all}
+use Rattle.py_check_coercions.specs.Several.{told, ruled_all}
 
 pub record Gives {A : Type 0} (s : Seen A) (P : A → Type 0) : Type 0 where
   pub each : (a : A) → s.got ≡ Some a → P a

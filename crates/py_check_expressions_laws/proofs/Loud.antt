@@ -17,7 +17,7 @@ use Rattle.py_check_context.specs.declared.scope.Imported.TheVariants as importe
 use Rattle.py_check_context.specs.Context.{Context, VarSort, unset, untyped, has, VarSorts, var_at, Wanted, free, test, WantedRow, wanted_in, some_signature}
 use Rattle.py_check_messages.specs.Seen.{Seen, Message, is, silent, fails, both, judged, behind, rule, made, ruled}
 use Rattle.py_check_messages.specs.Rows.{row_then}
-use Rattle.py_check_operators.specs.Several.{told, ruled_all}
+use Rattle.py_check_coercions.specs.Several.{told, ruled_all}
 use Rattle.py_check_operators.specs.Facts.{facts}
 use Rattle.py_check_operators.specs.Names.{variable, named}
 use Rattle.py_check_operators.specs.Chains.{faults_of, chain}

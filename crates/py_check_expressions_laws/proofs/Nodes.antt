@@ -20,9 +20,9 @@ use Rattle.py_typed.specs.WellTypedExpr.{stands, chain_typed, pair_fits, is_valu
 use Rattle.py_typed.proofs.FitLemmas.{type_is_itself, and_left, and_right, join_holds}
 use Rattle.py_check_context.specs.Context.{Wanted, free, test, wants, dropped, WantedRow, each, along, wanted_in}
 use Rattle.py_check_messages.specs.Seen.{Message}
-use Rattle.py_check_operators.specs.Several.{fault_unless, unless}
-use Rattle.py_check_operators.specs.Values.{coerced, truth}
-use Rattle.py_check_operators.specs.Rows.{Misfit, unfit, changed_row}
+use Rattle.py_check_coercions.specs.Several.{fault_unless, unless}
+use Rattle.py_check_coercions.specs.Values.{coerced, truth}
+use Rattle.py_check_coercions.specs.Rows.{Misfit, unfit, changed_row}
 use Rattle.py_check_operators.specs.Operators.{signed, negation, affirmation, inversion, is_sum, is_concat, is_numeric, op_text, arithmetic}
 use Rattle.py_check_operators.specs.Chains.{are_ordered, is_key_for, pair_faults, chain_faults}
 use Rattle.py_check_operators.specs.Choices.{joined, word_text, word_node, junction, operand, choice_type, choice}

@@ -16,8 +16,8 @@ use Rattle.py_typed.specs.WellTypedExpr.{stands, are_values, types_of, all_of, i
 use Rattle.py_typed.proofs.FitLemmas.{one_type, type_is_itself, and_left, and_right, same_fits, fits_itself, join_holds}
 use Rattle.py_typed.proofs.OnwardLemmas.{fits_on}
 use Rattle.py_check_context.specs.Context.{Wanted, free, test, wants, dropped, WantedRow, each, along, wants_some, wanted_in}
-use Rattle.py_check_operators.specs.Values.{place_of, coerced, changed}
-use Rattle.py_check_operators.specs.Rows.{Misfit, first_of, unfit_at, unfit, changed_row}
+use Rattle.py_check_coercions.specs.Values.{place_of, coerced, changed}
+use Rattle.py_check_coercions.specs.Rows.{Misfit, first_of, unfit_at, unfit, changed_row}
 use Rattle.py_check_displays.specs.Displays.{common, is_bare_none, has_bare_none, is_tuple_size, list_of, tuple_of}
 use Rattle.py_check_expressions_laws.specs.WellTyped.{is_asked, is_taken, is_good, Within}
 use Rattle.py_check_expressions_laws.proofs.Types.{result_of_value, value_of_result, value_not_nothing, join_result, drop_get, listed}

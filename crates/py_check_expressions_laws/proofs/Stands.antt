@@ -11,7 +11,7 @@ use Rattle.py_typed.specs.Statements.{Variable, TypedModule}
 use Rattle.py_typed.specs.Narrowing.{facts}
 use Rattle.py_typed.specs.WellTypedExpr.{stands, parts_typed, rule, suits, is_result_type, is_empty_call, is_typed}
 use Rattle.py_typed.proofs.FitLemmas.{one_type, and_left, and_right}
-use Rattle.py_check_operators.specs.Values.{place_of, coerced, truth}
+use Rattle.py_check_coercions.specs.Values.{place_of, coerced, truth}
 use Rattle.py_check_context.specs.Context.{Wanted, free, test, wants, dropped}
 use Rattle.py_check_expressions_laws.specs.WellTyped.{is_good}
 

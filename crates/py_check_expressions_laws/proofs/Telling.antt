@@ -17,8 +17,8 @@ use Rattle.py_check_context.specs.declared.scope.Meaning.{Meaning}
 use Rattle.py_check_context.specs.declared.scope.Meaning.TheVariants as meaning
 use Rattle.py_check_context.specs.Context.{Context, VarSort, unset, untyped, has, VarSorts, var_at, Wanted, free, test}
 use Rattle.py_check_messages.specs.Seen.{Seen, Message, both, made, behind}
-use Rattle.py_check_operators.specs.Several.{ruled_all}
-use Rattle.py_check_operators.specs.Values.{place_of, coerced, truth}
+use Rattle.py_check_coercions.specs.Several.{ruled_all}
+use Rattle.py_check_coercions.specs.Values.{place_of, coerced, truth}
 use Rattle.py_check_operators.specs.Names.{variable, named}
 use Rattle.py_check_operators.specs.Operators.{inversion}
 use Rattle.py_check_operators.specs.Chains.{faults_of, chain}

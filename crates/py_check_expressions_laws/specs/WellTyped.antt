@@ -16,7 +16,7 @@ use Rattle.py_typed.specs.WellTypedExpr as expr
 use Rattle.py_typed.specs.WellTypedExpr.{is_literal, is_value_type, is_result_type, declared, is_function}
 use Rattle.py_check_context.specs.declared.scope.Meaning.TheVariants as meaning
 use Rattle.py_check_context.specs.Context.{Context, has, VarSorts, var_at, Wanted, test, wants, dropped, some_signature}
-use Rattle.py_check_operators.specs.Values.{truth}
+use Rattle.py_check_coercions.specs.Values.{truth}
 use Rattle.py_check_operators.specs.Facts.{facts}
 use Rattle.py_check_expressions.specs.Typing.{typing}
 

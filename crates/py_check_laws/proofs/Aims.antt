@@ -13,8 +13,9 @@ use Rattle.py_check_context.specs.Context.{Context, VarSort, unset, untyped, has
 use Rattle.py_check_flow.specs.Bindings.{name_in}
 use Rattle.py_typed.specs.Narrowing.{without, may_be_none, after_target}
 use Rattle.py_check_operators.specs.Facts.{local_of}
-use Rattle.py_check_targets.specs.Places.{Known, with_names, is_unset, is_plain, rebound, bind_variable, bind_name}
-use Rattle.py_check_targets.specs.Targets.{Aim, held, first, unwritten, variable_aim, name_aim, is_written, item_aim, is_item, value_aim, typed_at, single_aim, forgotten, aims}
+use Rattle.py_check_places.specs.Places.{Known, with_names, is_unset, is_plain, rebound, bind_variable, bind_name}
+use Rattle.py_check_places.specs.Shapes.{is_item}
+use Rattle.py_check_targets.specs.Targets.{Aim, held, first, unwritten, variable_aim, name_aim, is_written, item_aim, value_aim, typed_at, single_aim, forgotten, aims}
 use Rattle.py_check_expressions_laws.specs.WellTyped.{Within}
 use Rattle.py_check_laws.proofs.Given.{made_given, row_given}
 use Rattle.py_check_laws.proofs.Names.{within_less, bound_local, forgotten_local, bound_other}

@@ -3,8 +3,8 @@ use Rattle.std.proofs.Common.{◌≡◌, ℕ, Bool, true, false, List, [], ◌�
 use Rattle.py_syntax.specs.declared.token.Span.{Span}
 use Rattle.py_syntax.specs.Expressions as e
 use Rattle.py_syntax.specs.Expressions.{ExprTree, ExprNode, ExprTrees}
-use Rattle.py_lexer.specs.Words.{name_in_quotes}
-use Rattle.py_binder.specs.declared.scope.Diag.{Diag}
+use Rattle.py_lexer_words.specs.Words.{name_in_quotes}
+use Rattle.py_syntax_diagnostics.specs.declared.diagnostic.Diag.{Diag}
 use Rattle.py_typed.specs.Sorts.{Sort}
 use Rattle.py_typed.specs.Fits.{optional}
 use Rattle.py_check_context.specs.declared.scope.Meaning.{Meaning}

@@ -19,9 +19,10 @@ use Rattle.py_check_messages.specs.Seen.{Message}
 use Rattle.py_check_messages.specs.Messages.{no_target, cannot_assign, index_target}
 use Rattle.py_check_operators.specs.Operators.{arithmetic}
 use Rattle.py_check_values.specs.Assignments.{binding_fault, as_bound, assignment, first_refused, first_itemless, items_for, first_of, first_misfit, items_fault, unpacking_fault}
-use Rattle.py_check_targets.specs.Places.{Known, bind_name, bind_names}
-use Rattle.py_check_targets.specs.Targets.{Aim, slot_of, is_placed, is_row, is_flat, leaves, target_names, some_parts, parts_for, targets_of, are_placed, twice_fault, several_fault, one_assigned, value_assigned, act_of, assigned, annotation_fault, given_after, given, target_of, written_back, of_operation, updated, single_aim, aims}
-use Rattle.py_check_targets.specs.Assignments.{bind_target}
+use Rattle.py_check_places.specs.Places.{Known, bind_name, bind_names}
+use Rattle.py_check_places.specs.Shapes.{is_row, is_flat, leaves, target_names, some_parts, parts_for}
+use Rattle.py_check_targets.specs.Targets.{Aim, slot_of, is_placed, targets_of, are_placed, twice_fault, several_fault, one_assigned, value_assigned, act_of, assigned, annotation_fault, given_after, given, target_of, written_back, of_operation, updated, single_aim, aims}
+use Rattle.py_check_places.specs.Shapes.{bind_target}
 use Rattle.py_check_loops.specs.Loops.{Course, course_type, course_items, are_names, head_fault, head}
 use Rattle.py_check_loops.specs.Loops as loops
 use Rattle.py_check_laws.proofs.Aims.{beyond}

@@ -23,11 +23,14 @@ use Rattle.py_check_context.specs.declared.scope.Meaning.{Meaning}
 use Rattle.py_check_context.specs.Context.{Context, VarSorts, free}
 use Rattle.py_check_flow.specs.Bindings.{name_in}
 use Rattle.py_check_messages.specs.Seen.{both}
-use Rattle.py_check_operators.specs.Values.{coerced}
+use Rattle.py_check_coercions.specs.Values.{coerced}
 use Rattle.py_check_values.specs.Assignments.{binding_fault, as_bound, items_for}
-use Rattle.py_check_targets.specs.Places.{Known, is_plain, bind_name, bind_names}
-use Rattle.py_check_targets.specs.Targets.{Aim, held, first, barred, unwritten, misplaced, slot_of, target_of, targets_of, is_row, leaves, target_names, asked_by, assigned, typed_at}
-use Rattle.py_check_targets.specs.Assignments.{target_aims, value_for, assigns, bind_target, binds}
+use Rattle.py_check_places.specs.Places.{Known, is_plain, bind_name, bind_names}
+use Rattle.py_check_places.specs.Shapes.{is_row, leaves, target_names}
+use Rattle.py_check_targets.specs.Targets.{Aim, held, first, barred, unwritten, misplaced, slot_of, target_of, targets_of, asked_by, assigned, typed_at}
+use Rattle.py_check_places.specs.Shapes.{bind_target}
+use Rattle.py_check_targets.specs.Targets.{target_aims}
+use Rattle.py_check_assignments.specs.Assignments.{value_for, assigns, binds}
 use Rattle.py_check_expressions_laws.specs.WellTyped as law
 use Rattle.py_check_expressions_laws.specs.WellTyped.{Describes, Within}
 use Rattle.py_check_expressions_laws.proofs.Stands.{coerced_stands}
@@ -52,8 +55,8 @@ pub described_before : (C : Context) (V W : VarSorts) (m : TypedModule) (locals 
 described_before C V W m locals f D = record {
   classes = D.classes;
   tree = D.tree;
-  locals_are = λ i t e. D.locals_are i t (f.locals.stays i (ap Rattle.py_check_targets.specs.Places.is_unset e) ∙ e);
-  globals_are = λ i t e. D.globals_are i t (f.globals.stays i (ap Rattle.py_check_targets.specs.Places.is_unset e) ∙ e);
+  locals_are = λ i t e. D.locals_are i t (f.locals.stays i (ap Rattle.py_check_places.specs.Places.is_unset e) ∙ e);
+  globals_are = λ i t e. D.globals_are i t (f.globals.stays i (ap Rattle.py_check_places.specs.Places.is_unset e) ∙ e);
   functions_are = D.functions_are;
 }
 
@@ -90,7 +93,7 @@ module _ (means : List ℕ → Meaning) (signatures : List (Option Signature)) (
   }
 
   -- the type of a variable behind its first binding
-  pub first_type_there : (k : Known) → IsScope here k.types → (y : List ℕ) (t : Sort) → is_open k.types (means y) ≡ true → sort_in (Rattle.py_check_targets.specs.Places.bind_variable true k (means y) (Some t)).types (means y) ≡ Rattle.py_check_context.specs.Context.has t
+  pub first_type_there : (k : Known) → IsScope here k.types → (y : List ℕ) (t : Sort) → is_open k.types (means y) ≡ true → sort_in (Rattle.py_check_places.specs.Places.bind_variable true k (means y) (Some t)).types (means y) ≡ Rattle.py_check_context.specs.Context.has t
   first_type_there k s y t o = bind_first k (means y) t (scope_there here k.types s y) (open_variable k.types (means y) o) (open_unset k.types (means y) o)
 
   -- ONE TARGET, that is looked at with the types of this place

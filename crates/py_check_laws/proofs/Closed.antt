@@ -9,10 +9,10 @@ use Rattle.py_check_context.specs.declared.scope.Meaning.{Meaning}
 use Rattle.py_check_context.specs.declared.scope.Meaning.TheVariants as meaning
 use Rattle.py_check_context.specs.Context.{Context, VarSort, VarSorts, var_at}
 use Rattle.py_check_flow.specs.Bindings.{Binding, name_in, target_bindings}
-use Rattle.py_check_targets.specs.Places.{Known, is_unset, fix, first_type, bind_variable, bind_name, bind_names}
-use Rattle.py_check_targets.specs.Targets.{is_row, leaves, parts_of}
-use Rattle.py_check_targets.specs.Assignments.{bind_target}
-use Rattle.py_check.specs.Starts.{first_mark}
+use Rattle.py_check_places.specs.Places.{Known, is_unset, fix, first_type, bind_variable, bind_name, bind_names}
+use Rattle.py_check_places.specs.Shapes.{is_row, leaves, parts_of}
+use Rattle.py_check_places.specs.Shapes.{bind_target}
+use Rattle.py_check_definitions.specs.Starts.{first_mark}
 use Rattle.py_check_laws.specs.WellTyped.{IsScope}
 use Rattle.py_check_laws.proofs.Kept.{fix_set, fix_first, Follows, follows_name, follows_names, is_open}
 use Rattle.py_check_laws.proofs.Assigned.{name_no_row, single_bound}

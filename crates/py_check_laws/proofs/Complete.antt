@@ -28,10 +28,10 @@ use Rattle.py_check_names.specs.Meanings.{is_own, own_names, module_meaning}
 use Rattle.py_check_names.specs.Outline.{suite_definitions}
 use Rattle.py_check_signatures.specs.Headers.{marked, all_of, signature_of}
 use Rattle.py_check_signatures.specs.Definitions.{gives_value}
-use Rattle.py_check_targets.specs.Places.{Known, is_unset}
-use Rattle.py_check.specs.Definitions.{Headed, headed, inner_definitions_said, headed_functions}
-use Rattle.py_check.specs.Starts.{given_sort, start_sort, own_sort}
-use Rattle.py_check.specs.Variables.{typed_variables}
+use Rattle.py_check_places.specs.Places.{Known, is_unset}
+use Rattle.py_check_definitions.specs.Definitions.{Headed, headed, inner_definitions_said, headed_functions}
+use Rattle.py_check_definitions.specs.Starts.{given_sort, start_sort, own_sort}
+use Rattle.py_check_definitions.specs.Variables.{typed_variables}
 use Rattle.py_check.specs.Module.{Environment, context_in, plain_signature, statements_of, return_of, own_statements, function_start, body, body_after, typed_function, sorts_behind, sorts_behind_all, bodies_said, typed_functions, global_sorts, environment, said, diagnostics, typed}
 use Rattle.py_check_expressions_laws.specs.Laws as law
 use Rattle.py_check_expressions_laws.proofs.Loud.{none_before, none_behind}

@@ -18,11 +18,11 @@ use Rattle.py_check_context.specs.declared.scope.Meaning.{Meaning}
 use Rattle.py_check_context.specs.Context.{Context, free, along}
 use Rattle.py_check_flow.specs.Bindings.{name_in}
 use Rattle.py_check_messages.specs.Seen.{behind}
-use Rattle.py_check_operators.specs.Values.{coerced}
+use Rattle.py_check_coercions.specs.Values.{coerced}
 use Rattle.py_check_calls.specs.Callees.{has_key}
 use Rattle.py_check_calls.specs.Calls.{no_keys, positional}
 use Rattle.py_check_expressions.specs.Typing.{arguments}
-use Rattle.py_check_targets.specs.Places.{Known}
+use Rattle.py_check_places.specs.Places.{Known}
 use Rattle.py_check_targets.specs.Targets.{typed_at}
 use Rattle.py_check_loops.specs.Loops.{Course, numbers, value, no_number, bounds, bounds_of_numbers, is_count_right, range_call, items_of, course_items, is_range_name, range_arguments, span_of, course_by, course}
 use Rattle.py_check_expressions_laws.specs.WellTyped as law

@@ -28,11 +28,11 @@ use Rattle.py_check_names.specs.Meanings.{own_names, said_in, module_meaning}
 use Rattle.py_check_names.specs.Outline.{suite_definitions}
 use Rattle.py_check_signatures.specs.Headers.{marked, returned, param_types, header, all_of, signature_of}
 use Rattle.py_check_values.specs.Returns as ret
-use Rattle.py_check_targets.specs.Places.{Known, is_unset}
+use Rattle.py_check_places.specs.Places.{Known, is_unset}
 use Rattle.py_check_statements.specs.Bodies.{block_after}
-use Rattle.py_check.specs.Definitions.{Headed, headed, inner_definitions_said, headed_functions, signatures}
-use Rattle.py_check.specs.Starts.{given_sort, first_mark, by_mark, start_sort, or_param, param_sort, own_sort}
-use Rattle.py_check.specs.Variables.{sort_or_none, variables_from, typed_variables}
+use Rattle.py_check_definitions.specs.Definitions.{Headed, headed, inner_definitions_said, headed_functions, signatures}
+use Rattle.py_check_definitions.specs.Starts.{given_sort, first_mark, by_mark, start_sort, or_param, param_sort, own_sort}
+use Rattle.py_check_definitions.specs.Variables.{sort_or_none, variables_from, typed_variables}
 use Rattle.py_check.specs.Module.{Environment, context_in, plain_signature, statements_of, return_of, module_start, own_statements, function_start, body, body_after, typed_function, sorts_behind, sorts_behind_all, bodies_said, typed_functions, global_sorts, environment, said, diagnostics, typed}
 use Rattle.py_check_expressions_laws.specs.Laws as law
 use Rattle.py_check_expressions_laws.specs.WellTyped.{Describes, IsSigned}

@@ -19,9 +19,9 @@ use Rattle.py_check_names.specs.Outline.{held_by, suite_definitions}
 use Rattle.py_check_names.specs.Meanings.{variables, module_meaning}
 use Rattle.py_check_signatures.specs.Headers.{header_said}
 use Rattle.py_check_signatures.specs.Definitions.{is_new, is_builtin_name}
-use Rattle.py_check.specs.Definitions.{names_given, definition_said, definitions_said}
+use Rattle.py_check_definitions.specs.Definitions.{names_given, definition_said, definitions_said}
 use Rattle.py_check.specs.Module.{said, diagnostics}
-use Rattle.py_check.proofs.HeldLemmas.{functions_defined}
+use Rattle.py_check_definitions.proofs.HeldLemmas.{functions_defined}
 use Rattle.py_check_expressions_laws.proofs.Types.{clash}
 use Rattle.py_check_expressions_laws.proofs.Loud.{none_before, none_behind}
 use Rattle.py_check_laws.proofs.NameRows.{same_text, text_is_itself, sights_differ, differ_filter}

@@ -14,8 +14,8 @@ use Rattle.py_check_flow.specs.Closed.{is_closed}
 use Rattle.py_check_messages.specs.Seen.{Seen, both, made}
 use Rattle.py_check_messages.specs.Rows.{row_then}
 use Rattle.py_check_values.specs.Returns.{ReturnSort}
-use Rattle.py_check_targets.specs.Places.{Known, where_test, entering, Way, setting_out, behind_arm}
-use Rattle.py_check_targets.specs.Assignments.{value_for, assigns, annotates_name, value_sort, binds_annotated}
+use Rattle.py_check_places.specs.Places.{Known, where_test, entering, Way, setting_out, behind_arm}
+use Rattle.py_check_assignments.specs.Assignments.{value_for, assigns, annotates_name, value_sort, binds_annotated}
 use Rattle.py_check_loops.specs.Loops.{course}
 use Rattle.py_check_loops.specs.Heads.{some_items, for_head, in_for}
 use Rattle.py_check_statements.specs.Bodies.{is_definition, condition, after, node_after, block_after, arms_after, statement, node_statement, block, branches}

@@ -30,7 +30,7 @@ use Rattle.py_check_context.specs.Context.{Context, VarSort, has, var_at}
 use Rattle.py_check_values.specs.Returns.{ReturnSort}
 use Rattle.py_check_messages.specs.Messages as message
 use Rattle.py_check_messages.specs.Rows.{row_then}
-use Rattle.py_check_targets.specs.Places.{Known}
+use Rattle.py_check_places.specs.Places.{Known}
 use Rattle.py_check_statements.specs.Bodies.{is_definition, after, statement, block}
 use Rattle.py_check_names.specs.Builtins as names
 use Rattle.py_check_names.specs.Builtins.{or_else, exception_meaning}
@@ -38,8 +38,8 @@ use Rattle.py_check_names.specs.Meanings.{is_own, own_names}
 use Rattle.py_check_names.specs.Outline.{stmt_definitions, suite_definitions}
 use Rattle.py_check_signatures.specs.Headers.{marked, param_types, all_of}
 use Rattle.py_check_signatures.specs.Definitions.{own_count, repeated, is_builtin_name}
-use Rattle.py_check.specs.Starts.{given_sort, or_param, param_sort}
-use Rattle.py_check.specs.Variables.{sort_or_none, variables_from}
+use Rattle.py_check_definitions.specs.Starts.{given_sort, or_param, param_sort}
+use Rattle.py_check_definitions.specs.Variables.{sort_or_none, variables_from}
 use Rattle.py_check_expressions_laws.proofs.Types.{clash}
 use Rattle.py_check_expressions_laws.proofs.Loud.{none_before}
 use Rattle.py_check_laws.specs.WellTyped.{is_filled}

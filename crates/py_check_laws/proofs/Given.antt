@@ -6,7 +6,7 @@ use Rattle.std.specs.Prelude.{is_some}
 use Rattle.py_syntax.specs.declared.token.Span.{Span}
 use Rattle.py_check_messages.specs.Seen.{Seen, Message, both, judged, behind, ruled, rule, made}
 use Rattle.py_check_messages.specs.Rows.{row_then}
-use Rattle.py_check_operators.specs.Several.{unless, with_part}
+use Rattle.py_check_coercions.specs.Several.{unless, with_part}
 
 abbrev pub done : {A : Type 0} → A → Result A Message
 done a = Ok a

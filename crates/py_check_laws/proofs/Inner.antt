@@ -5,9 +5,9 @@ use Rattle.std.specs.List.{flat_map}
 use Rattle.py_syntax.specs.Statements as s
 use Rattle.py_syntax.specs.Statements.{StmtTree, StmtNode, Suite, Arms, Handlers, MaybeSuite}
 use Rattle.py_syntax.specs.declared.token.Span.{Span}
-use Rattle.py_binder.specs.declared.scope.Diag.{Diag}
+use Rattle.py_syntax_diagnostics.specs.declared.diagnostic.Diag.{Diag}
 use Rattle.py_check_names.specs.Outline.{stmt_definitions, node_definitions, suite_definitions, arms_definitions, handlers_definitions, last_definitions}
-use Rattle.py_check.specs.Definitions.{inner_said}
+use Rattle.py_check_definitions.specs.Definitions.{inner_said}
 use Rattle.py_check_expressions_laws.proofs.Loud.{none_before, none_behind}
 
 abbrev said_of : List StmtTree → List Diag

@@ -13,9 +13,10 @@ use Rattle.py_check_context.specs.declared.scope.Meaning.TheVariants as meaning
 use Rattle.py_check_context.specs.Context.{Context, VarSort, VarSorts, var_at}
 use Rattle.py_check_flow.specs.Bindings.{name_in}
 use Rattle.py_check_flow.specs.Closed.{is_closed}
-use Rattle.py_check_targets.specs.Places.{Known, is_unset, fix, first_type, bind_variable, bind_name, bind_names, where_test, entering, Way, setting_out, behind_arm}
-use Rattle.py_check_targets.specs.Targets.{is_row, leaves, target_names, parts_of}
-use Rattle.py_check_targets.specs.Assignments.{value_for, assigns, bind_target, annotates_name, value_sort, binds_annotated}
+use Rattle.py_check_places.specs.Places.{Known, is_unset, fix, first_type, bind_variable, bind_name, bind_names, where_test, entering, Way, setting_out, behind_arm}
+use Rattle.py_check_places.specs.Shapes.{is_row, leaves, target_names, parts_of}
+use Rattle.py_check_places.specs.Shapes.{bind_target}
+use Rattle.py_check_assignments.specs.Assignments.{value_for, assigns, annotates_name, value_sort, binds_annotated}
 use Rattle.py_check_loops.specs.Loops.{course}
 use Rattle.py_check_loops.specs.Heads.{some_items, for_head, in_for}
 use Rattle.py_check_statements.specs.Bodies.{after, node_after, block_after, arms_after}

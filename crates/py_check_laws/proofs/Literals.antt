@@ -20,16 +20,16 @@ use Rattle.py_check_context.specs.declared.scope.Meaning.TheVariants as meaning
 use Rattle.py_check_context.specs.Context.{Context, VarSort, unset, untyped, has, VarSorts, var_at, Wanted, free, test, WantedRow, wanted_in}
 use Rattle.py_check_flow.specs.Closed.{is_true}
 use Rattle.py_check_messages.specs.Seen.{Seen, Message, both, behind, rule}
-use Rattle.py_check_operators.specs.Several.{ruled_all}
-use Rattle.py_check_operators.specs.Values.{place_of, coerced, truth}
+use Rattle.py_check_coercions.specs.Several.{ruled_all}
+use Rattle.py_check_coercions.specs.Values.{place_of, coerced, truth}
 use Rattle.py_check_operators.specs.Facts.{facts, is_none_tree}
 use Rattle.py_check_operators.specs.Names.{variable, named}
-use Rattle.py_check_operators.specs.Rows.{Misfit, unfit}
+use Rattle.py_check_coercions.specs.Rows.{Misfit, unfit}
 use Rattle.py_check_operators.specs.Operators.{signed, negation, affirmation, inversion, arithmetic, is_concat, is_numeric}
 use Rattle.py_check_operators.specs.Chains.{faults_of, chain}
 use Rattle.py_check_operators.specs.Choices.{word_node, junction, operand, choice, choice_type}
 use Rattle.py_check_displays.specs.Displays.{item_sort, items_row, list_of, expected_list, common, joined_list, inferred_list, list_display, parts_row, tuple_of, tuple_display, is_invalid_tuple, kept_row}
-use Rattle.py_check_operators.specs.Rows.{changed_row}
+use Rattle.py_check_coercions.specs.Rows.{changed_row}
 use Rattle.py_check_displays.specs.Indexing.{Literal, literal, indexing, is_tuple, part_of, part_made, part_at, parts_of, keyed_by, item_of, item_at}
 use Rattle.py_check_calls.specs.declared.callees.Single.{Single}
 use Rattle.py_check_calls.specs.declared.callees.Single.TheVariants as one
@@ -223,7 +223,7 @@ module _ (classes : List ClassEntry) where
       let r = joined_made classes (codes "if") (λ a b. node.Cond a (truth p.0.1) b) span p.0.0 p.1 e (choice_type classes w (type_of p.0.0) (type_of p.1)) h in
       subst IsPlain r.2 (record { flag = refl; none = refl })
 
-  unless_plain : (o : Option Message) (x e : TypedExpr) → IsPlain x → Rattle.py_check_operators.specs.Several.unless o x ≡ Ok e → IsPlain e
+  unless_plain : (o : Option Message) (x e : TypedExpr) → IsPlain x → Rattle.py_check_coercions.specs.Several.unless o x ≡ Ok e → IsPlain e
   unless_plain None x e p h = subst IsPlain (ok_same x e h) p
   unless_plain (Some m) x e p h = absurd (cc)
 

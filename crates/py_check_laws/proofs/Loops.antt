@@ -24,9 +24,11 @@ use Rattle.py_check_context.specs.Context.{Context, VarSorts}
 use Rattle.py_check_flow.specs.Bindings.{name_in}
 use Rattle.py_check_messages.specs.Seen.{both, rule}
 use Rattle.py_check_values.specs.Assignments.{binding_fault, first_refused, first_itemless, items_for}
-use Rattle.py_check_targets.specs.Places.{Known, entering, bind_name, bind_names}
-use Rattle.py_check_targets.specs.Targets.{Aim, held, first, barred, unwritten, misplaced, slot_of, target_of, targets_of, is_name_aim, is_item, is_row, is_flat, leaves, target_names, value_aim, item_aim}
-use Rattle.py_check_targets.specs.Assignments.{target_aims, bind_target}
+use Rattle.py_check_places.specs.Places.{Known, entering, bind_name, bind_names}
+use Rattle.py_check_places.specs.Shapes.{is_item, is_row, is_flat, leaves, target_names}
+use Rattle.py_check_targets.specs.Targets.{Aim, held, first, barred, unwritten, misplaced, slot_of, target_of, targets_of, is_name_aim, value_aim, item_aim}
+use Rattle.py_check_places.specs.Shapes.{bind_target}
+use Rattle.py_check_targets.specs.Targets.{target_aims}
 use Rattle.py_check_loops.specs.Loops.{Course, numbers, value, items_of, course_items, course, are_names, head, loop_over, loop_of}
 use Rattle.py_check_loops.specs.Heads.{some_items, for_head, in_for}
 use Rattle.py_check_expressions_laws.specs.WellTyped as law

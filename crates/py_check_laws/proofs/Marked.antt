@@ -7,7 +7,7 @@ use Rattle.std.specs.Option.{ok_or}
 use Rattle.py_syntax.specs.declared.token.Span.{Span}
 use Rattle.py_syntax.specs.Expressions as e
 use Rattle.py_syntax.specs.Expressions.{ExprTree, ExprNode, ExprTrees}
-use Rattle.py_lexer.specs.Words.{name_in_quotes}
+use Rattle.py_lexer_words.specs.Words.{name_in_quotes}
 use Rattle.py_typed.specs.Sorts as sort
 use Rattle.py_typed.specs.Sorts.{Sort, sorts_of, listed_sorts}
 use Rattle.py_typed.specs.Fits.{optional, is_nothing}

@@ -9,7 +9,7 @@ use Rattle.py_syntax.specs.Expressions as e
 use Rattle.py_syntax.specs.Expressions.{ExprTree, ExprNode, ExprTrees}
 use Rattle.py_syntax.specs.Statements as node
 use Rattle.py_syntax.specs.Statements.{StmtTree, StmtNode, Suite, no_stmts, stmt_then, Arms, no_arms, arm_then}
-use Rattle.py_binder.specs.declared.scope.Diag.{Diag}
+use Rattle.py_syntax_diagnostics.specs.declared.diagnostic.Diag.{Diag}
 use Rattle.py_typed.specs.Expressions.{TypedExpr}
 use Rattle.py_typed.specs.Statements.{TypedSuite, suite_of}
 use Rattle.py_check_context.specs.declared.scope.Meaning.{Meaning}
@@ -21,13 +21,13 @@ use Rattle.py_check_messages.specs.Rows.{row_then}
 use Rattle.py_check_annotations.specs.Annotations.{annotation}
 use Rattle.py_check_annotations.specs.Names.{is_untyped}
 use Rattle.py_check_values.specs.Returns.{ReturnSort}
-use Rattle.py_check_targets.specs.Places.{Known, where_test, entering, Way, setting_out, behind_arm}
+use Rattle.py_check_places.specs.Places.{Known, where_test, entering, Way, setting_out, behind_arm}
 use Rattle.py_check_targets.specs.Targets.{name_aim, seen_aim, declared, given}
-use Rattle.py_check_targets.specs.Places.{is_bound}
-use Rattle.py_check_targets.specs.Assignments.{annotated_value, annotates}
+use Rattle.py_check_places.specs.Places.{is_bound}
+use Rattle.py_check_assignments.specs.Assignments.{annotated_value, annotates}
 use Rattle.py_check_loops.specs.Heads.{for_head, in_for}
 use Rattle.py_check_statements.specs.Bodies.{is_definition, condition, after, block_after, arms_after, statement, node_statement, block, branches}
-use Rattle.py_check.specs.Starts.{given_sort, first_mark, by_mark, start_sort}
+use Rattle.py_check_definitions.specs.Starts.{given_sort, first_mark, by_mark, start_sort}
 use Rattle.py_check_expressions_laws.specs.Laws as law
 use Rattle.py_check_expressions_laws.proofs.Loud.{none_before, none_behind}
 use Rattle.py_check_laws.proofs.Whole.{quiet_got}

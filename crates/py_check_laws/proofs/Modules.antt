@@ -8,10 +8,10 @@ use Rattle.std.specs.List.{list_all, flat_map, zip}
 use Rattle.std.specs.Map.{lookup}
 use Rattle.std.specs.Str.{bytes_eq}
 use Rattle.py_syntax.specs.Statements.{Suite, FuncTree}
-use Rattle.py_binder.specs.declared.scope.Diag.{Diag}
+use Rattle.py_syntax_diagnostics.specs.declared.diagnostic.Diag.{Diag}
 use Rattle.py_binder.specs.Sights.{module_sights, body_sights}
 use Rattle.py_binder.specs.Scope.{Roles, all_there, seen_there, param_names, module_role, function_role, module_scope, functions}
-use Rattle.py_order.specs.Order.{is_before, put_in, by_place}
+use Rattle.py_syntax_diagnostics.specs.Order.{is_before, put_in, by_place}
 use Rattle.py_typed.specs.Sorts.{Sort}
 use Rattle.py_typed.proofs.FitLemmas.{and_left, and_right}
 use Rattle.py_check_context.specs.declared.scope.Meaning.{Meaning}
@@ -22,12 +22,12 @@ use Rattle.py_check_names.specs.Outline.{held_by, suite_definitions}
 use Rattle.py_check_names.specs.Meanings.{variables, own_names, said_in, module_meaning}
 use Rattle.py_check_signatures.specs.Headers.{header, header_said, signature_of}
 use Rattle.py_check_values.specs.Returns as ret
-use Rattle.py_check_targets.specs.Places.{Known}
-use Rattle.py_check.specs.Definitions.{Headed, headed, definitions_said, inner_definitions_said, headed_functions, signatures, headers_said}
-use Rattle.py_check.specs.Globals.{globals_said}
-use Rattle.py_check.specs.Starts.{given_sort, start_sort, or_param, param_sort, own_sort}
+use Rattle.py_check_places.specs.Places.{Known}
+use Rattle.py_check_definitions.specs.Definitions.{Headed, headed, definitions_said, inner_definitions_said, headed_functions, signatures, headers_said}
+use Rattle.py_check_definitions.specs.Globals.{globals_said}
+use Rattle.py_check_definitions.specs.Starts.{given_sort, start_sort, or_param, param_sort, own_sort}
 use Rattle.py_check.specs.Module.{Environment, context_in, module_start, own_statements, return_of, function_start, body, body_after, sorts_behind, bodies_said, global_sorts, statements_said, environment, said, diagnostics}
-use Rattle.py_check.proofs.HeldLemmas.{functions_defined}
+use Rattle.py_check_definitions.proofs.HeldLemmas.{functions_defined}
 use Rattle.py_check_expressions_laws.specs.Laws as law
 use Rattle.py_check_expressions_laws.specs.Laws.{is_voiceless}
 use Rattle.py_check_expressions_laws.proofs.Loud.{none_before, none_behind}

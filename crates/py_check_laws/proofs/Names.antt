@@ -4,7 +4,7 @@ use Rattle.std.proofs.lemmas.Bool.{or_left, or_right, or_cases}
 use Rattle.py_typed.specs.Sorts.{Sort}
 use Rattle.py_typed.specs.Statements.{TypedTarget, LocalTarget}
 use Rattle.py_typed.specs.Narrowing.{is_in, without, may_be_none, bound_by, after_target}
-use Rattle.py_check_targets.specs.Places.{is_plain, rebound}
+use Rattle.py_check_places.specs.Places.{is_plain, rebound}
 use Rattle.py_check_expressions_laws.specs.WellTyped.{Within}
 use Rattle.py_check_expressions_laws.proofs.Inside.{either, clash, filter_found, filter_finds}
 

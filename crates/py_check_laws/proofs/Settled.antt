@@ -29,9 +29,12 @@ use Rattle.py_check_messages.specs.Rows.{row_then}
 use Rattle.py_check_annotations.specs.Annotations.{annotation}
 use Rattle.py_check_values.specs.Returns.{ReturnSort}
 use Rattle.py_check_values.specs.Assignments.{binding_fault, items_for}
-use Rattle.py_check_targets.specs.Places.{Known, is_unset, fix, first_type, bind_variable, bind_name, bind_names, where_test, entering, Way, setting_out, behind_arm}
-use Rattle.py_check_targets.specs.Targets.{Aim, held, first, barred, unwritten, misplaced, slot_of, is_row, is_flat, leaves, target_names, variable_aim, name_aim, targets_of, asked_by, assigned, typed_at}
-use Rattle.py_check_targets.specs.Assignments.{target_aims, value_for, assigns, bind_target, binds, annotates_name, annotates, value_sort, binds_annotated}
+use Rattle.py_check_places.specs.Places.{Known, is_unset, fix, first_type, bind_variable, bind_name, bind_names, where_test, entering, Way, setting_out, behind_arm}
+use Rattle.py_check_places.specs.Shapes.{is_row, is_flat, leaves, target_names}
+use Rattle.py_check_targets.specs.Targets.{Aim, held, first, barred, unwritten, misplaced, slot_of, variable_aim, name_aim, targets_of, asked_by, assigned, typed_at}
+use Rattle.py_check_places.specs.Shapes.{bind_target}
+use Rattle.py_check_targets.specs.Targets.{target_aims}
+use Rattle.py_check_assignments.specs.Assignments.{value_for, assigns, binds, annotates_name, annotates, value_sort, binds_annotated}
 use Rattle.py_check_loops.specs.Loops.{Course, course, head, loop_of}
 use Rattle.py_check_loops.specs.Heads.{some_items, for_head, in_for}
 use Rattle.py_check_statements.specs.Bodies.{is_definition, condition, after, node_after, block_after, arms_after, statement, node_statement, block, branches}
@@ -198,7 +201,7 @@ module _ (means : List ℕ → Meaning) (signatures : List (Option Signature)) (
   text_is_itself : (x : List ℕ) → bytes_eq x x ≡ true
   text_is_itself x = (bytes_eq-Decides x x).1 refl
 
-  mark_found : (x : List ℕ) (mark : ExprTree) → Rattle.py_check.specs.Starts.first_mark (bound x (Some mark)) x ≡ Some (Some mark)
+  mark_found : (x : List ℕ) (mark : ExprTree) → Rattle.py_check_definitions.specs.Starts.first_mark (bound x (Some mark)) x ≡ Some (Some mark)
   mark_found x mark = ap (λ b. cond b (Some (Some mark)) None) (text_is_itself x)
 
   settled_name : (k : Known) → Describes here k.types m locals → IsScope here k.types → (ok : Bool) (target mark : ExprTree) (x : List ℕ) (t : Option Sort) → name_in target ≡ Some x → IsMarked here k.types (bound x (Some mark)) → Settled (bind_target here ok k target t).types (marked (name_in target) target mark)

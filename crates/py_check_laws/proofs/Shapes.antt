@@ -28,12 +28,14 @@ use Rattle.py_check_messages.specs.Messages.{no_target}
 use Rattle.py_check_messages.specs.Rows.{row_then}
 use Rattle.py_check_annotations.specs.Annotations.{annotation}
 use Rattle.py_check_operators.specs.Facts.{local_of}
-use Rattle.py_check_operators.specs.Values.{truth}
-use Rattle.py_check_operators.specs.Several.{with_part}
+use Rattle.py_check_coercions.specs.Values.{truth}
+use Rattle.py_check_coercions.specs.Several.{with_part}
 use Rattle.py_check_values.specs.Returns.{ReturnSort, bare_return, value_return}
-use Rattle.py_check_targets.specs.Places.{Known, is_bound, locals_among, where_test, entering, Way, setting_out, behind_arm}
-use Rattle.py_check_targets.specs.Targets.{Aim, held, first, barred, unwritten, misplaced, target_of, targets_of, is_placed, is_row, is_item, is_flat, leaves, node_leaves, row_leaves, name_aim, seen_aim, read_aim, assigned, declared, given, updated, annotation_fault, typed_at}
-use Rattle.py_check_targets.specs.Assignments.{target_aims, value_for, assigns, declares, annotated_value, gives_value, annotates_other, annotates, updates_one, updates_row, updates}
+use Rattle.py_check_places.specs.Places.{Known, is_bound, locals_among, where_test, entering, Way, setting_out, behind_arm}
+use Rattle.py_check_places.specs.Shapes.{is_row, is_item, is_flat, leaves, node_leaves, row_leaves}
+use Rattle.py_check_targets.specs.Targets.{Aim, held, first, barred, unwritten, misplaced, target_of, targets_of, is_placed, name_aim, seen_aim, read_aim, assigned, declared, given, updated, annotation_fault, typed_at}
+use Rattle.py_check_targets.specs.Targets.{target_aims}
+use Rattle.py_check_assignments.specs.Assignments.{value_for, assigns, declares, annotated_value, gives_value, annotates_other, annotates, updates_one, updates_row, updates}
 use Rattle.py_check_loops.specs.Loops.{Course, numbers, value, course, head, loop_over, loop_of}
 use Rattle.py_check_loops.specs.Heads.{for_head, in_for}
 use Rattle.py_check_statements.specs.Bodies.{is_definition, condition, after, block_after, arms_after, return_wanted, returns, in_loop, statement, node_statement, block, branches}
@@ -189,7 +191,7 @@ module _ (C : Context) where
   named_within : (target mark : ExprTree) (x : List ℕ) (xs : List ℕ) → name_in target ≡ Some x → Within xs (locals_among C (leaf_bindings target)) → Within xs (locals_among C (marked (name_in target) target mark))
   named_within target mark x xs n w = subst (Within xs) (ap (λ o. locals_among C (named o)) n ∙ sym (ap (λ o. locals_among C (marked o target mark)) n)) w
 
-  name_shape : (k : Known) (span : Span) (x : List ℕ) (target mark : ExprTree) (e : Option ExprTree) (a : TypedAct) → name_in target ≡ Some x → (Rattle.py_check_targets.specs.Assignments.annotates_name C k span x mark e).got ≡ Some a → ActShape (node.Annot target mark e) a
+  name_shape : (k : Known) (span : Span) (x : List ℕ) (target mark : ExprTree) (e : Option ExprTree) (a : TypedAct) → name_in target ≡ Some x → (Rattle.py_check_assignments.specs.Assignments.annotates_name C k span x mark e).got ≡ Some a → ActShape (node.Annot target mark e) a
   name_shape k span x target mark None a n h =
       let r = rule_given span (declared x (is_bound k (C.meaning x))) (both (seen_aim (name_aim k x (C.meaning x))) (annotation C.meaning mark)) a h in
       let q = unless_ok (annotation_fault x (is_bound k (C.meaning x)) r.0.0) act.Pass a r.2 in

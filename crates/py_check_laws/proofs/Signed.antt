@@ -21,7 +21,7 @@ use Rattle.py_check_annotations.specs.Names.{is_untyped}
 use Rattle.py_check_names.specs.Outline.{held_by, may_import_all}
 use Rattle.py_check_signatures.specs.Headers.{HeaderSorts, has_type, marked, returned, param_types, params_said, params_typed, header, header_said, all_of, signature_of}
 use Rattle.py_check_signatures.specs.Definitions.{own_count, repeated, are_marked, all_marked, body_fault, def_fault, no_marks, told, or_else, is_new, is_builtin_name, gives_value}
-use Rattle.py_check.specs.Definitions.{headed, marks_said, function_said, import_said, names_given, definition_said, definitions_said}
+use Rattle.py_check_definitions.specs.Definitions.{headed, marks_said, function_said, import_said, names_given, definition_said, definitions_said}
 use Rattle.py_check_expressions_laws.specs.Laws.{is_voiceless}
 use Rattle.py_check_expressions_laws.proofs.Loud.{none_before, none_behind}
 use Rattle.py_check_laws.proofs.Given.{some_is}

@@ -24,10 +24,11 @@ use Rattle.py_check_messages.specs.Seen.{Seen, both, made}
 use Rattle.py_check_messages.specs.Rows.{row_then}
 use Rattle.py_check_names.specs.Outline.{stmt_definitions, node_definitions, suite_definitions, arms_definitions}
 use Rattle.py_check_operators.specs.Facts.{facts}
-use Rattle.py_check_operators.specs.Values.{truth}
+use Rattle.py_check_coercions.specs.Values.{truth}
 use Rattle.py_check_values.specs.Returns.{ReturnSort}
-use Rattle.py_check_targets.specs.Places.{Known, locals_in, locals_among, where_test, entering, Way, setting_out, met, common, behind_arm}
-use Rattle.py_check_targets.specs.Targets.{leaves, typed_at}
+use Rattle.py_check_places.specs.Places.{Known, locals_in, locals_among, where_test, entering, Way, setting_out, met, common, behind_arm}
+use Rattle.py_check_places.specs.Shapes.{leaves}
+use Rattle.py_check_targets.specs.Targets.{typed_at}
 use Rattle.py_check_loops.specs.Loops.{course, loop_of}
 use Rattle.py_check_loops.specs.Heads.{some_items, for_head, in_for}
 use Rattle.py_check_statements.specs.Bodies.{is_definition, condition, after, node_after, block_after, arms_after, in_loop, statement, node_statement, block, branches}

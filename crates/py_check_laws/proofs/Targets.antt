@@ -15,7 +15,7 @@ use Rattle.py_typed.specs.Fits.{is_same_type, fits}
 use Rattle.py_typed.specs.Expressions as node
 use Rattle.py_typed.specs.Expressions.{TypedExpr, TypedNode, typed, type_of}
 use Rattle.py_typed.specs.Statements.{Variable, TypedModule, TypedTarget}
-use Rattle.py_typed.specs.StatementMeaning.{sort_at}
+use Rattle.py_typed.specs.TargetTypes.{sort_at}
 use Rattle.py_typed.specs.Narrowing.{may_be_none, own_sort, after_target, after_parts}
 use Rattle.py_typed.specs.WellTypedExpr.{stands, is_value_type, indexed, declared}
 use Rattle.py_typed.specs.WellTyped as stmt
@@ -24,11 +24,11 @@ use Rattle.py_check_context.specs.declared.scope.Meaning.{Meaning}
 use Rattle.py_check_context.specs.declared.scope.Meaning.TheVariants as meaning
 use Rattle.py_check_context.specs.Context.{Context, VarSort, unset, untyped, has, VarSorts, var_at}
 use Rattle.py_check_flow.specs.Bindings.{name_in}
-use Rattle.py_check_operators.specs.Values.{place_of, coerced}
+use Rattle.py_check_coercions.specs.Values.{place_of, coerced}
 use Rattle.py_check_calls.specs.Callees.{is_variable}
 use Rattle.py_check_values.specs.Slots.{known}
 use Rattle.py_check_values.specs.Assignments.{first_refused, first_itemless, misfit, first_misfit}
-use Rattle.py_check_targets.specs.Places.{Known, is_unset, fix, first_type, bind_variable, bind_name, bind_names}
+use Rattle.py_check_places.specs.Places.{Known, is_unset, fix, first_type, bind_variable, bind_name, bind_names}
 use Rattle.py_check_targets.specs.Targets.{Aim, held, first, barred, unwritten, misplaced, slot_of, targets_of, is_written, again_fault, twice_fault}
 use Rattle.py_check_expressions_laws.specs.WellTyped as law
 use Rattle.py_check_expressions_laws.specs.WellTyped.{Describes, Within}

@@ -28,16 +28,19 @@ use Rattle.py_check_flow.specs.Bindings.{name_in}
 use Rattle.py_check_messages.specs.Seen.{Seen, both, judged, behind, rule, made}
 use Rattle.py_check_messages.specs.Messages.{no_target}
 use Rattle.py_check_annotations.specs.Annotations.{annotation}
-use Rattle.py_check_operators.specs.Values.{coerced}
-use Rattle.py_check_operators.specs.Several.{with_part}
+use Rattle.py_check_coercions.specs.Values.{coerced}
+use Rattle.py_check_coercions.specs.Several.{with_part}
 use Rattle.py_check_operators.specs.Names.{variable, named}
 use Rattle.py_check_operators.specs.Operators.{is_sum, is_concat, is_numeric, op_text, arithmetic}
 use Rattle.py_check_values.specs.Returns as ret
 use Rattle.py_check_values.specs.Returns.{ReturnSort, gives, bare_return, value_return, due}
 use Rattle.py_check_values.specs.Assignments.{binding_fault, as_bound}
-use Rattle.py_check_targets.specs.Places.{Known, is_bound, variable_at, bind_variable, bind_name}
-use Rattle.py_check_targets.specs.Targets.{Aim, held, first, barred, unwritten, misplaced, slot_of, target_of, is_row, is_item, variable_aim, name_aim, seen_aim, asked_by, declared, given, annotation_fault, read_aim, updated, typed_at}
-use Rattle.py_check_targets.specs.Assignments.{asked, target_aims, bind_target, annotated_value, declares, gives_value, annotates_name, annotates, binds_annotated, updates_row, updates_one, updates}
+use Rattle.py_check_places.specs.Places.{Known, is_bound, variable_at, bind_variable, bind_name}
+use Rattle.py_check_places.specs.Shapes.{is_row, is_item}
+use Rattle.py_check_targets.specs.Targets.{Aim, held, first, barred, unwritten, misplaced, slot_of, target_of, variable_aim, name_aim, seen_aim, asked_by, declared, given, annotation_fault, read_aim, updated, typed_at}
+use Rattle.py_check_places.specs.Shapes.{bind_target}
+use Rattle.py_check_targets.specs.Targets.{target_aims}
+use Rattle.py_check_assignments.specs.Assignments.{asked, annotated_value, declares, gives_value, annotates_name, annotates, binds_annotated, updates_row, updates_one, updates}
 use Rattle.py_check_statements.specs.Bodies.{return_wanted, returns}
 use Rattle.py_check_expressions_laws.specs.WellTyped as law
 use Rattle.py_check_expressions_laws.specs.WellTyped.{Describes, Within}

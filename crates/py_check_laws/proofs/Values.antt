@@ -13,7 +13,7 @@ use Rattle.py_typed.specs.Fits.{is_same_type, is_nothing, fits}
 use Rattle.py_typed.specs.Expressions as node
 use Rattle.py_typed.specs.Expressions.{TypedExpr, typed, type_of}
 use Rattle.py_typed.specs.Statements.{Variable, TypedModule, TypedTarget}
-use Rattle.py_typed.specs.Operations.{item_sort}
+use Rattle.py_typed.specs.TargetTypes.{item_sort}
 use Rattle.py_typed.specs.WellTypedExpr.{stands, is_value_type, are_value_types, is_result_type, is_type, indexed, declared}
 use Rattle.py_typed.proofs.FitLemmas.{one_type, and_left, and_right}
 use Rattle.py_check_context.specs.declared.scope.Meaning.{Meaning}
@@ -21,7 +21,7 @@ use Rattle.py_check_context.specs.Context.{Context, free, wants, wants_some}
 use Rattle.py_check_flow.specs.Bindings.{name_in}
 use Rattle.py_check_values.specs.Slots.{known}
 use Rattle.py_check_values.specs.Assignments.{binding_fault, misfit, first_misfit}
-use Rattle.py_check_targets.specs.Places.{Known}
+use Rattle.py_check_places.specs.Places.{Known}
 use Rattle.py_check_targets.specs.Targets.{Aim, held, first, barred, unwritten, misplaced, slot_of, is_written, held_sorts, tuple_sort, single_sort, asked_by, typed_at}
 use Rattle.py_check_expressions_laws.specs.WellTyped as law
 use Rattle.py_check_expressions_laws.specs.WellTyped.{Describes, Within}

@@ -18,12 +18,12 @@ use Rattle.py_check_flow.specs.Bindings.{suite_bindings}
 use Rattle.py_check_annotations.specs.Names.{is_untyped}
 use Rattle.py_check_signatures.specs.Headers.{marked}
 use Rattle.py_check_names.specs.Meanings.{is_own, own_names, said_in, module_meaning}
-use Rattle.py_check_targets.specs.Places.{Known, is_unset}
+use Rattle.py_check_places.specs.Places.{Known, is_unset}
 use Rattle.py_check_statements.specs.Bodies.{block_after}
 use Rattle.py_check_values.specs.Returns as ret
 use Rattle.py_typed.specs.WellTyped.{all_differ}
-use Rattle.py_check.specs.Definitions.{Headed, headed, headed_functions, signatures}
-use Rattle.py_check.specs.Starts.{given_sort, start_sort, or_param, own_sort}
+use Rattle.py_check_definitions.specs.Definitions.{Headed, headed, headed_functions, signatures}
+use Rattle.py_check_definitions.specs.Starts.{given_sort, start_sort, or_param, own_sort}
 use Rattle.py_check.specs.Module.{Environment, context_in, return_of, function_start, module_start, own_statements, body, body_after, sorts_behind, sorts_behind_all, bodies_said, environment, said, diagnostics}
 use Rattle.py_check_expressions_laws.specs.Laws as law
 use Rattle.py_check_expressions_laws.proofs.Loud.{none_before, none_behind}

@@ -25,17 +25,20 @@ use Rattle.py_check_messages.specs.Seen.{Seen, Message, is, fails, both, behind,
 use Rattle.py_check_messages.specs.Rows.{row_then}
 use Rattle.py_check_messages.specs.Messages.{no_target}
 use Rattle.py_check_annotations.specs.Annotations.{annotation}
-use Rattle.py_check_operators.specs.Values.{truth}
-use Rattle.py_check_operators.specs.Several.{with_part}
+use Rattle.py_check_coercions.specs.Values.{truth}
+use Rattle.py_check_coercions.specs.Several.{with_part}
 use Rattle.py_check_operators.specs.Names.{variable, named}
 use Rattle.py_check_calls.specs.Callees.{has_key}
 use Rattle.py_check_calls.specs.Calls.{positional}
 use Rattle.py_check_expressions.specs.Typing.{arguments}
 use Rattle.py_check_values.specs.Returns as ret
 use Rattle.py_check_values.specs.Returns.{ReturnSort, bare_return, value_return, due}
-use Rattle.py_check_targets.specs.Places.{Known, is_unset, fix, is_bound, bind_variable, bind_name, bind_names, where_test, entering, Way, setting_out, behind_arm}
-use Rattle.py_check_targets.specs.Targets.{Aim, is_row, is_item, is_flat, leaves, target_names, name_aim, variable_aim, seen_aim, value_aim, read_aim, targets_of, assigned, declared, given, updated, typed_at, single_aim, aims}
-use Rattle.py_check_targets.specs.Assignments.{target_aims, value_for, assigns, bind_target, binds, declares, annotated_value, gives_value, annotates_name, annotates_other, annotates, binds_annotated, updates_one, updates_row, updates}
+use Rattle.py_check_places.specs.Places.{Known, is_unset, fix, is_bound, bind_variable, bind_name, bind_names, where_test, entering, Way, setting_out, behind_arm}
+use Rattle.py_check_places.specs.Shapes.{is_row, is_item, is_flat, leaves, target_names}
+use Rattle.py_check_targets.specs.Targets.{Aim, name_aim, variable_aim, seen_aim, value_aim, read_aim, targets_of, assigned, declared, given, updated, typed_at, single_aim, aims}
+use Rattle.py_check_places.specs.Shapes.{bind_target}
+use Rattle.py_check_targets.specs.Targets.{target_aims}
+use Rattle.py_check_assignments.specs.Assignments.{value_for, assigns, binds, declares, annotated_value, gives_value, annotates_name, annotates_other, annotates, binds_annotated, updates_one, updates_row, updates}
 use Rattle.py_check_loops.specs.Loops.{value, range_call, range_arguments, span_of, course_by, course, head, loop_of}
 use Rattle.py_check_loops.specs.Heads.{some_items, for_head, in_for}
 use Rattle.py_check_statements.specs.Bodies.{is_definition, condition, after, node_after, block_after, arms_after, return_wanted, returns, in_loop, statement, node_statement, block, branches}

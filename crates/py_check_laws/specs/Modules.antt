@@ -10,7 +10,7 @@ use Rattle.py_typed.specs.WellTypedExpr.{init_class}
 use Rattle.py_check_context.specs.Context.{VarSort, has, var_at}
 use Rattle.py_check_names.specs.Meanings.{variables, own_names}
 use Rattle.py_check_signatures.specs.Headers.{signature_of}
-use Rattle.py_check.specs.Definitions.{Headed, headed_functions}
+use Rattle.py_check_definitions.specs.Definitions.{Headed, headed_functions}
 use Rattle.py_check.specs.Module.{Environment, context_in, own_statements, body, body_after, sorts_behind, sorts_behind_all, global_sorts, environment, diagnostics, typed}
 use Rattle.py_check_laws.specs.WellTyped.{is_suite_written, is_filled}
 

@@ -8,7 +8,7 @@ use Rattle.py_typed.specs.WellTyped.{is_single, suite_typed}
 use Rattle.py_check_context.specs.Context.{Context}
 use Rattle.py_check_names.specs.Outline.{suite_definitions}
 use Rattle.py_check_values.specs.Returns.{ReturnSort, untyped}
-use Rattle.py_check_targets.specs.Places.{Known}
+use Rattle.py_check_places.specs.Places.{Known}
 use Rattle.py_check_statements.specs.Bodies.{block, block_after}
 use Rattle.py_check_expressions_laws.specs.Laws.{AllHaveTypes}
 use Rattle.py_check_expressions_laws.specs.WellTyped.{Describes, Within}

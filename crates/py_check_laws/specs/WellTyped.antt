@@ -10,7 +10,7 @@ use Rattle.py_check_context.specs.declared.scope.Meaning.TheVariants as meaning
 use Rattle.py_check_context.specs.Context.{Context, VarSorts}
 use Rattle.py_check_calls.specs.Callees.{is_variable}
 use Rattle.py_check_values.specs.Returns.{ReturnSort, gives}
-use Rattle.py_check_targets.specs.Targets.{leaves}
+use Rattle.py_check_places.specs.Shapes.{leaves}
 use Rattle.py_check_expressions_laws.specs.WellTyped.{is_written}
 
 -- ---- statements that a text can write

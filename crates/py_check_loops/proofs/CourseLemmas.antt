@@ -5,17 +5,17 @@ use Rattle.py_syntax.specs.declared.token.Span.{Span}
 use Rattle.py_syntax.specs.declared.expression.Expr.{Expr}
 use Rattle.py_syntax.specs.Expressions.{Arguments, expr_tree}
 use Rattle.py_syntax.proofs.ExpressionLemmas.{expr_tree_at}
-use Rattle.py_binder.specs.declared.scope.Diag.{Diag}
+use Rattle.py_syntax_diagnostics.specs.declared.diagnostic.Diag.{Diag}
 use Rattle.py_typed.specs.declared.expression.TExpr.{TExpr}
 use Rattle.py_typed.specs.Fits.{number_join}
 use Rattle.py_typed.specs.Expressions.{TypedExpr, typed_expr, type_of}
 use Rattle.py_check_context.specs.Context.{Context, along}
 use Rattle.py_check_messages.specs.Seen.{Tells, behind, rule}
-use Rattle.py_check_operators.specs.Values.{coerced}
+use Rattle.py_check_coercions.specs.Values.{coerced}
 use Rattle.py_check_calls.specs.Callees.{has_key}
 use Rattle.py_check_calls.specs.Calls.{positional}
 use Rattle.py_check_expressions.specs.Typing.{arguments}
-use Rattle.py_check_targets.specs.Places.{Known}
+use Rattle.py_check_places.specs.Places.{Known}
 use Rattle.py_check_loops.specs.declared.course.Course as declared
 use Rattle.py_check_loops.specs.Loops.{Course, numbers, range_arguments, span_of, range_call, course_by, course, is_count_right, bounds}
 use Rattle.py_check_loops.specs.Views.{course_seen}

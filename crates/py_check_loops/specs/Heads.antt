@@ -11,9 +11,11 @@ use Rattle.py_typed.specs.Sorts.{Sort}
 use Rattle.py_typed.specs.Statements.{TypedTarget}
 use Rattle.py_check_context.specs.Context.{Context}
 use Rattle.py_check_messages.specs.Seen.{Seen, both, rule, made}
-use Rattle.py_check_targets.specs.Places.{Known, entering}
-use Rattle.py_check_targets.specs.Targets.{is_row, is_flat, targets_of}
-use Rattle.py_check_targets.specs.Assignments.{target_aims, bind_target}
+use Rattle.py_check_places.specs.Places.{Known, entering}
+use Rattle.py_check_places.specs.Shapes.{is_row, is_flat}
+use Rattle.py_check_targets.specs.Targets.{targets_of}
+use Rattle.py_check_places.specs.Shapes.{bind_target}
+use Rattle.py_check_targets.specs.Targets.{target_aims}
 use Rattle.py_check_loops.specs.Loops.{Course, course, course_items, head}
 
 abbrev pub some_items : Option Course → Option Sort

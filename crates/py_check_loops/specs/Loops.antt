@@ -21,13 +21,13 @@ use Rattle.py_check_context.specs.declared.scope.Builtin.TheVariants as builtin
 use Rattle.py_check_flow.specs.Bindings.{name_in}
 use Rattle.py_check_messages.specs.Seen.{Seen, Message, behind, rule, made}
 use Rattle.py_check_messages.specs.Messages.{no_target, not_iterable, wrong_number, wrong_argument}
-use Rattle.py_check_operators.specs.Values.{coerced}
-use Rattle.py_check_operators.specs.Several.{unless}
+use Rattle.py_check_coercions.specs.Values.{coerced}
+use Rattle.py_check_coercions.specs.Several.{unless}
 use Rattle.py_check_calls.specs.Callees.{has_key}
 use Rattle.py_check_calls.specs.Calls.{positional}
 use Rattle.py_check_expressions.specs.Typing.{arguments}
 use Rattle.py_check_values.specs.Assignments.{binding_fault}
-use Rattle.py_check_targets.specs.Places.{Known}
+use Rattle.py_check_places.specs.Places.{Known}
 use Rattle.py_check_targets.specs.Targets.{Aim, slot_of, is_name_aim, several_fault, typed_at}
 
 -- the bounds of a range, or a value

@@ -6,7 +6,7 @@ use Rattle.std.specs.declared.alloc.Global.{Global}
 use Rattle.py_typed.specs.declared.types.Ty.{Ty}
 use Rattle.py_typed.specs.Sorts.{Sort, sort}
 use Rattle.py_typed.specs.Statements.{TypedTarget, typed_target}
-use Rattle.py_check_operators.specs.Boxes.{boxed}
+use Rattle.py_check_coercions.specs.Boxes.{boxed}
 use Rattle.py_check_loops.specs.declared.course.Course as declared
 use Rattle.py_check_loops.specs.declared.course.Course.TheVariants as case
 use Rattle.py_check_loops.specs.declared.head.Head.{Head}

@@ -9,23 +9,23 @@ ghost use Rattle.py_typed.specs.Classes.{class_entry};
 ghost use Rattle.py_typed.specs.Statements.{maybe_typed, typed_act, typed_stmt, typed_target, suite_of};
 ghost use Rattle.py_check_context.specs.Context.{context};
 ghost use Rattle.py_check_messages.specs.Seen.{Tells, Finds, made, ruled};
-ghost use Rattle.py_check_operators.specs.Boxes.{boxed};
-ghost use Rattle.py_check_targets.specs.Places as places;
+ghost use Rattle.py_check_coercions.specs.Boxes.{boxed};
+ghost use Rattle.py_check_places.specs.Places as places;
 ghost use Rattle.py_check_targets.specs.Targets as targets;
-ghost use Rattle.py_check_targets.specs.Views.{known_at, aim_seen, boxed_act};
+ghost use Rattle.py_check_places.specs.Views.{known_at};
+ghost use Rattle.py_check_targets.specs.Views.{aim_seen, boxed_act};
 ghost use Rattle.py_check_loops.specs.Loops as loops;
 ghost use Rattle.py_check_loops.specs.Heads as rule_of;
 ghost use Rattle.py_check_loops.specs.Views.{boxed_head, boxed_sort, course_seen};
 
 use crate::course::{Course, course_items, course_of, course_type};
-use py_binder::Diag;
 use py_check_context::Scope;
 use py_check_messages::{no_target, not_iterable};
-use py_check_targets::{
-    Aim, Place, bind_target, binds_several, enter, is_flat, is_row, slot_of, target_aims,
-};
+use py_check_places::{Place, bind_target, enter, is_flat, is_row};
+use py_check_targets::{Aim, binds_several, slot_of, target_aims};
 use py_check_values::binds;
 use py_syntax::{Expr, Span, Stmt};
+use py_syntax_diagnostics::Diag;
 use py_typed::{Classes, TExpr, TStmt, TStmtKind, Target, Ty, copy_of};
 use std::alloc::Global;
 use value_core::{Many, Memory};

@@ -3,7 +3,7 @@ use Rattle.std.proofs.Common.{◌≡◌, List, [], ◌∷◌, ◌++◌, Option, 
 use Rattle.std.proofs.lemmas.List.{append-nil, append_assoc}
 use Rattle.std.specs.Option.{option_map, option_zip}
 use Rattle.py_syntax.specs.declared.token.Span.{Span}
-use Rattle.py_binder.specs.declared.scope.Diag.{Diag}
+use Rattle.py_syntax_diagnostics.specs.declared.diagnostic.Diag.{Diag}
 use Rattle.py_check_messages.specs.Seen.{Seen, Message, both, is, Tells, ruled, rule, behind}
 use Rattle.py_check_messages.specs.Rows.{appended, kept, row_then}
 

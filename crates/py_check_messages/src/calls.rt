@@ -7,8 +7,8 @@ ghost use Rattle.py_check_messages.specs.Seen.{diag};
 ghost use Rattle.py_check_messages.specs.Messages as message;
 
 use crate::say::{say, say_text, say_word};
-use py_binder::Diag;
 use py_syntax::Span;
+use py_syntax_diagnostics::Diag;
 use py_typed::{Classes, Ty, type_text};
 use std::alloc::Global;
 use value_core::{Many, Memory};

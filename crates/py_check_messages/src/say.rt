@@ -6,8 +6,8 @@ ghost use Rattle.py_typed.specs.Classes.{class_entry};
 ghost use Rattle.py_typed.specs.TypeTexts as written;
 ghost use Rattle.py_check_messages.specs.Seen.{diag};
 
-use py_binder::Diag;
 use py_syntax::Span;
+use py_syntax_diagnostics::Diag;
 use py_typed::{Classes, Ty, type_text};
 use std::alloc::Global;
 use value_core::{Many, Memory, Text};

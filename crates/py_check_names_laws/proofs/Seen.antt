@@ -6,7 +6,7 @@ use Rattle.py_syntax.specs.Expressions as e
 use Rattle.py_syntax.specs.Expressions.{ExprTree, ExprNode, ExprTrees, Comparisons, Entries, Arguments}
 use Rattle.py_syntax.specs.Statements as s
 use Rattle.py_syntax.specs.Statements.{StmtTree, StmtNode, Suite, Arms, Handlers, MaybeSuite, FuncTree, ClassTree}
-use Rattle.py_lexer.specs.Words.{name_in_quotes}
+use Rattle.py_lexer_words.specs.Words.{name_in_quotes}
 use Rattle.py_binder.specs.declared.sight.Manner.{Manner}
 use Rattle.py_binder.specs.declared.sight.Manner.TheVariants.{Value, Annotation}
 use Rattle.py_binder.specs.declared.sight.Home.{Home}

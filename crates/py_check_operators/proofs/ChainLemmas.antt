@@ -3,16 +3,16 @@ use Rattle.std.proofs.Common.{◌≡◌, ◌<◌, ◌≤◌, ℕ, zero, suc, ◌
 use Rattle.std.proofs.lemmas.List.{append-nil, append_assoc, map-append}
 use Rattle.py_syntax.specs.declared.token.Span.{Span}
 use Rattle.py_syntax.specs.declared.expression.CmpOp.{CmpOp}
-use Rattle.py_binder.specs.declared.scope.Diag.{Diag}
+use Rattle.py_syntax_diagnostics.specs.declared.diagnostic.Diag.{Diag}
 use Rattle.py_typed.specs.declared.expression.TExpr.{TExpr}
 use Rattle.py_typed.specs.Sorts.{Sort, sort}
 use Rattle.py_typed.specs.Classes.{ClassEntry}
 use Rattle.py_typed.specs.Expressions.{typed_expr, type_of}
 use Rattle.py_check_messages.specs.Seen.{Message, diag}
-use Rattle.py_check_operators.specs.Boxes.{operand_pair}
-use Rattle.py_check_operators.specs.Several.{Says, is_nothing_wrong}
+use Rattle.py_check_coercions.specs.Boxes.{operand_pair}
+use Rattle.py_check_coercions.specs.Several.{Says, is_nothing_wrong}
 use Rattle.py_check_operators.specs.Chains.{pair_faults, chain_faults}
-use Rattle.py_check_operators.proofs.PartLemmas.{type_at}
+use Rattle.py_check_coercions.proofs.PartLemmas.{type_at}
 
 -- what was found and said so far, and what is left, are the whole
 pub record Stays (right : Bool) (old new : List Diag) (span : Span) (whole rest : List Message) : Type 0 where

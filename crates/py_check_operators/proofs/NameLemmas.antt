@@ -6,7 +6,7 @@ use Rattle.std.specs.declared.boxed.Box.{Box}
 use Rattle.std.specs.declared.alloc.Global.{Global}
 use Rattle.value_core.specs.declared.memory.Memory.{Memory}
 use Rattle.py_syntax.specs.declared.token.Span.{Span}
-use Rattle.py_binder.specs.declared.scope.Diag.{Diag}
+use Rattle.py_syntax_diagnostics.specs.declared.diagnostic.Diag.{Diag}
 use Rattle.py_typed.specs.declared.expression.TExpr.{TExpr}
 use Rattle.py_typed.specs.Expressions as node
 use Rattle.py_typed.specs.Expressions.{TypedNode}
@@ -16,7 +16,7 @@ use Rattle.py_check_context.specs.declared.scope.Meaning.TheVariants.{Local, Glo
 use Rattle.py_check_context.specs.declared.variables.VarType.{VarType}
 use Rattle.py_check_context.specs.Context.{VarSort, VarSorts, var_sort, var_at}
 use Rattle.py_check_messages.specs.Seen.{Tells}
-use Rattle.py_check_operators.specs.Boxes.{boxed}
+use Rattle.py_check_coercions.specs.Boxes.{boxed}
 use Rattle.py_check_operators.specs.Names.{variable, named}
 
 pub var_found : (types : List VarType) (i : ℕ) → slice_get (map var_sort types) i ≡ option_map var_sort (slice_get types i)

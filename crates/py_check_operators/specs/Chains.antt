@@ -16,7 +16,7 @@ use Rattle.py_typed.specs.Expressions.{TypedExpr, typed, type_of, comparisons_of
 use Rattle.py_typed.specs.WellTypedExpr.{are_texts, are_numbers, is_none_literal}
 use Rattle.py_check_messages.specs.Seen.{Message}
 use Rattle.py_check_messages.specs.Messages.{unsupported_operands, only_for_none}
-use Rattle.py_check_operators.specs.Several.{fault_unless}
+use Rattle.py_check_coercions.specs.Several.{fault_unless}
 
 abbrev pub comparison_text : CmpOp → List ℕ
 comparison_text Eq = codes "=="

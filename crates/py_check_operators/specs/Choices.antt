@@ -13,7 +13,7 @@ use Rattle.py_typed.specs.Expressions.{TypedExpr, TypedNode, typed, type_of}
 use Rattle.py_check_context.specs.Context.{Wanted, free, test, wants}
 use Rattle.py_check_messages.specs.Seen.{Message}
 use Rattle.py_check_messages.specs.Messages.{no_common_type}
-use Rattle.py_check_operators.specs.Values.{coerced, truth}
+use Rattle.py_check_coercions.specs.Values.{coerced, truth}
 
 -- two values of one type, if there is one for both
 abbrev pub joined : List ClassEntry → List ℕ → (TypedExpr → TypedExpr → TypedNode) → Span → TypedExpr → TypedExpr → Option Sort → Result TypedExpr Message

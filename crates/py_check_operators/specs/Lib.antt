@@ -1,10 +1,5 @@
-pub mod Boxes
-pub mod Several
 pub mod Facts
-pub mod Values
 pub mod Names
 pub mod Operators
 pub mod Chains
 pub mod Choices
-pub mod Rows
-pub mod Misfits

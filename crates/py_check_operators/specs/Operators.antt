@@ -16,7 +16,7 @@ use Rattle.py_typed.specs.Expressions.{TypedExpr, typed, type_of}
 use Rattle.py_typed.specs.WellTypedExpr.{are_texts, are_numbers, is_bar}
 use Rattle.py_check_messages.specs.Seen.{Message}
 use Rattle.py_check_messages.specs.Messages.{unsupported_operand, unsupported_operands}
-use Rattle.py_check_operators.specs.Values.{coerced, truth}
+use Rattle.py_check_coercions.specs.Values.{coerced, truth}
 
 -- the type of a number with a sign
 abbrev pub signed : Sort → Sort

@@ -6,14 +6,14 @@ ghost use Rattle.py_typed.specs.Classes.{class_entry};
 ghost use Rattle.py_typed.specs.Expressions.{typed_node};
 ghost use Rattle.py_check_context.specs.Context.{wanted};
 ghost use Rattle.py_check_messages.specs.Seen.{Tells, ruled};
-ghost use Rattle.py_check_operators.specs.Boxes.{boxed};
+ghost use Rattle.py_check_coercions.specs.Boxes.{boxed};
 ghost use Rattle.py_check_operators.specs.Choices as rule_of;
 
-use crate::values::{coerced, kept, truth};
-use py_binder::Diag;
+use py_check_coercions::{coerced, kept, truth};
 use py_check_context::Want;
 use py_check_messages::no_common_type;
 use py_syntax::Span;
+use py_syntax_diagnostics::Diag;
 use py_typed::{Classes, TExpr, TKind, Ty, copy_of, fits, join};
 use std::alloc::Global;
 use value_core::{Many, Memory};

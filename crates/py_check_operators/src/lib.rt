@@ -11,13 +11,9 @@ mod choices;
 mod names;
 mod narrowing;
 mod operators;
-mod rows;
-mod values;
 
 pub use chains::chain;
 pub use choices::{choice, junction, operand};
 pub use names::named;
 pub use narrowing::{facts, shared, with_facts};
 pub use operators::{affirmation, arithmetic, arithmetic_type, inversion, negation};
-pub use rows::{Misfit, changed_row, unfit, with_item, with_operand};
-pub use values::{changed, coerced, kept, truth};

@@ -6,14 +6,14 @@ ghost use Rattle.py_typed.specs.Expressions.{typed_node};
 ghost use Rattle.py_typed.specs.WellTypedExpr.{reads_as};
 ghost use Rattle.py_check_context.specs.Context.{context, var_sort, var_of, var_sorts};
 ghost use Rattle.py_check_messages.specs.Seen.{Tells};
-ghost use Rattle.py_check_operators.specs.Boxes.{boxed};
+ghost use Rattle.py_check_coercions.specs.Boxes.{boxed};
 ghost use Rattle.py_check_operators.specs.Names as rule_of;
 
-use crate::values::kept;
-use py_binder::Diag;
+use py_check_coercions::kept;
 use py_check_context::{Meaning, Scope, VarType, Variables, meaning_of};
 use py_check_messages::{no_type_yet, not_a_value, not_defined};
 use py_syntax::Span;
+use py_syntax_diagnostics::Diag;
 use py_typed::{TExpr, TKind, Ty, copy_of};
 use std::alloc::Global;
 use value_core::{Many, Memory, Name, Text};

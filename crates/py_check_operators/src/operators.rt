@@ -5,13 +5,13 @@ ghost use Rattle.py_typed.specs.Sorts.{sort};
 ghost use Rattle.py_typed.specs.Classes.{class_entry};
 ghost use Rattle.py_typed.specs.WellTypedExpr as typing;
 ghost use Rattle.py_check_messages.specs.Seen.{Tells, judged, ruled};
-ghost use Rattle.py_check_operators.specs.Boxes.{boxed};
+ghost use Rattle.py_check_coercions.specs.Boxes.{boxed};
 ghost use Rattle.py_check_operators.specs.Operators as rule_of;
 
-use crate::values::{coerced, kept, truth};
-use py_binder::Diag;
+use py_check_coercions::{coerced, kept, truth};
 use py_check_messages::{unsupported_operand, unsupported_operands};
 use py_syntax::{BinOp, Span};
+use py_syntax_diagnostics::Diag;
 use py_typed::{Classes, TExpr, TKind, Ty, is_number, is_same_type, number_join};
 use std::alloc::Global;
 use value_core::{Many, Memory};

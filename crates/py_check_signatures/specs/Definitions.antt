@@ -10,7 +10,7 @@ use Rattle.std.specs.Option.{option_map}
 use Rattle.py_syntax.specs.declared.token.Span.{Span}
 use Rattle.py_syntax.specs.Expressions.{ExprTree}
 use Rattle.py_syntax.specs.Statements.{FuncTree}
-use Rattle.py_binder.specs.declared.scope.Diag.{Diag}
+use Rattle.py_syntax_diagnostics.specs.declared.diagnostic.Diag.{Diag}
 use Rattle.py_binder.specs.declared.scope.Scope.{Scope}
 use Rattle.py_binder.specs.Scope.{contains, param_names}
 use Rattle.py_typed.specs.Sorts as sort

@@ -11,7 +11,7 @@ ghost use Rattle.py_check_signatures.specs.Definitions as spec;
 
 use crate::headers::Header;
 use indexmap::IndexSet;
-use py_binder::{Diag, Scope};
+use py_binder::Scope;
 use py_check_flow::is_closed;
 use py_check_messages::{
     already_defined, cannot_assign, duplicate_parameter, missing_annotation, missing_return,
@@ -19,6 +19,7 @@ use py_check_messages::{
 };
 use py_check_names::{builtin_meaning, is_own};
 use py_syntax::{Expr, Func, Span};
+use py_syntax_diagnostics::Diag;
 use py_typed::Ty;
 use std::alloc::Global;
 use value_core::{Many, Memory, Name};

@@ -9,10 +9,10 @@ ghost use Rattle.py_check_messages.specs.Seen.{Tells};
 ghost use Rattle.py_check_signatures.specs.Views.{header_sorts, parts};
 ghost use Rattle.py_check_signatures.specs.Headers as spec;
 
-use py_binder::Diag;
 use py_check_annotations::{annotation, return_annotation};
 use py_check_context::Scope;
 use py_syntax::{Expr, Func};
+use py_syntax_diagnostics::Diag;
 use py_typed::{Sig, Ty, copy_of};
 use std::alloc::Global;
 use value_core::{Many, Memory, Name};

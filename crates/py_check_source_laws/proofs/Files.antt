@@ -12,7 +12,7 @@ use Rattle.py_binder.specs.Scope.{Roles, module_role, module_scope, functions}
 use Rattle.py_check_context.specs.declared.scope.Meaning.{Meaning}
 use Rattle.py_typed.specs.WellTypedExpr.{is_literal}
 use Rattle.py_check_names.specs.Meanings.{variables, own_names, module_meaning}
-use Rattle.py_check.specs.Definitions.{Headed, headed, headed_functions}
+use Rattle.py_check_definitions.specs.Definitions.{Headed, headed, headed_functions}
 use Rattle.py_parser_source.specs.Modules.{IsModule}
 use Rattle.c_core.specs.WellFormed.{is_identifier}
 use Rattle.py_check_laws.specs.WellTyped.{is_filled, is_suite_written}

@@ -8,7 +8,7 @@ use Rattle.py_syntax.specs.Expressions.{ExprTree, ExprNode, ExprTrees, Compariso
 use Rattle.py_syntax.specs.Statements as s
 use Rattle.py_syntax.specs.Statements.{StmtTree, StmtNode, Suite, Arms}
 use Rattle.py_typed.specs.WellTypedExpr.{is_literal}
-use Rattle.py_check_targets.specs.Targets.{leaves, node_leaves, row_leaves}
+use Rattle.py_check_places.specs.Shapes.{leaves, node_leaves, row_leaves}
 use Rattle.py_check_expressions_laws.specs.WellTyped.{is_chain, is_written, is_written_node, are_written, are_operands, are_entries, are_arguments}
 use Rattle.py_check_laws.specs.WellTyped.{is_filled, has_test, maybe_written, are_targets, is_stmt_written, is_act_written, is_suite_written, are_arms_written}
 use Rattle.py_parser_laws.specs.Trees.{Tests, IsChain, IsFilled, HasTest, ExprPasses, NodePasses, ExprsPass, ComparisonsPass, EntriesPass, ArgumentsPass, MaybePasses, StmtPasses, ActPasses, SuitePasses, ArmsPass}

@@ -11,7 +11,7 @@ use Rattle.py_syntax.specs.Expressions.{ExprTree, expr_tree}
 use Rattle.py_syntax.specs.Statements as node
 use Rattle.py_syntax.specs.Statements.{StmtTree, StmtNode, Suite, stmt_tree, stmt_node, body_tree, arms_of, arm_tree}
 use Rattle.py_syntax.proofs.StatementLemmas.{stmt_tree_at}
-use Rattle.py_binder.specs.declared.scope.Diag.{Diag}
+use Rattle.py_syntax_diagnostics.specs.declared.diagnostic.Diag.{Diag}
 use Rattle.py_typed.specs.declared.statement.TStmtKind.{TStmtKind}
 use Rattle.py_typed.specs.Expressions.{TypedExpr}
 use Rattle.py_typed.specs.Statements as acts
@@ -23,7 +23,7 @@ use Rattle.py_check_messages.proofs.RowLemmas.{Remains, row_step}
 use Rattle.py_check_operators.specs.Facts.{facts}
 use Rattle.py_check_values.specs.Returns.{ReturnSort}
 use Rattle.py_check_flow.specs.Closed.{is_closed}
-use Rattle.py_check_targets.specs.Places.{Known, Way, with_names, where_test, entering, behind_arm, met, meeting}
+use Rattle.py_check_places.specs.Places.{Known, Way, with_names, where_test, entering, behind_arm, met, meeting}
 use Rattle.py_check_targets.specs.Views.{boxed_act}
 use Rattle.py_check_loops.specs.Loops.{loop_of}
 use Rattle.py_check_loops.specs.Heads.{for_head, in_for}

@@ -10,7 +10,7 @@ use Rattle.py_syntax.specs.Expressions as tree
 use Rattle.py_syntax.specs.Expressions.{ExprTree, ExprNode, at, no_exprs, expr_then, no_comparisons, comparison_then, no_arguments, argument_then}
 use Rattle.py_syntax.specs.Statements as node
 use Rattle.py_syntax.specs.Statements.{StmtTree, StmtNode, Suite, no_stmts, stmt_then, no_arms, arm_then}
-use Rattle.py_binder.specs.declared.scope.Diag.{Diag}
+use Rattle.py_syntax_diagnostics.specs.declared.diagnostic.Diag.{Diag}
 use Rattle.py_typed.specs.Sorts as sort
 use Rattle.py_typed.specs.Sorts.{no_sorts, sort_then}
 use Rattle.py_check_context.specs.declared.scope.Meaning.{Meaning}
@@ -20,7 +20,7 @@ use Rattle.py_check_context.specs.Context.{Context, unset, has}
 use Rattle.py_check_messages.specs.Seen.{diag}
 use Rattle.py_check_messages.specs.Messages.{unsupported_operands, no_type_yet, cannot_assign, already_defined, needs_annotation, wrong_assignment, cannot_unpack, not_iterable, outside_loop, wrong_argument, wrong_return}
 use Rattle.py_check_values.specs.Returns.{gives}
-use Rattle.py_check_targets.specs.Places.{Known}
+use Rattle.py_check_places.specs.Places.{Known}
 use Rattle.py_check_statements.specs.Bodies.{block}
 
 abbrev p : ℕ → ℕ → Span

@@ -18,12 +18,13 @@ use Rattle.py_check_flow.specs.Closed.{is_closed, breaks_suite}
 use Rattle.py_check_messages.specs.Seen.{Seen, is, fails, both, behind, made}
 use Rattle.py_check_messages.specs.Rows.{row_then}
 use Rattle.py_check_messages.specs.Messages.{outside_loop, only_entries, no_exception}
-use Rattle.py_check_operators.specs.Values.{truth}
-use Rattle.py_check_operators.specs.Several.{with_part}
+use Rattle.py_check_coercions.specs.Values.{truth}
+use Rattle.py_check_coercions.specs.Several.{with_part}
 use Rattle.py_check_values.specs.Returns.{ReturnSort, gives, bare_return, value_return}
-use Rattle.py_check_targets.specs.Places.{Known, with_names, where_test, entering, Way, setting_out, meeting, behind_arm}
+use Rattle.py_check_places.specs.Places.{Known, with_names, where_test, entering, Way, setting_out, meeting, behind_arm}
 use Rattle.py_check_targets.specs.Targets.{typed_at}
-use Rattle.py_check_targets.specs.Assignments.{assigns, binds, bind_target, annotates, binds_annotated, updates}
+use Rattle.py_check_places.specs.Shapes.{bind_target}
+use Rattle.py_check_assignments.specs.Assignments.{assigns, binds, annotates, binds_annotated, updates}
 use Rattle.py_check_loops.specs.Loops.{loop_of}
 use Rattle.py_check_loops.specs.Heads.{for_head, in_for}
 

@@ -5,8 +5,8 @@ use Rattle.std.specs.declared.alloc.Global.{Global}
 use Rattle.py_typed.specs.declared.statement.TStmt.{TStmt}
 use Rattle.py_typed.specs.Expressions.{TypedExpr}
 use Rattle.py_typed.specs.Statements.{TypedStmt, typed_stmt}
-use Rattle.py_check_operators.specs.Boxes.{boxed}
-use Rattle.py_check_targets.specs.Places.{Known, Way}
+use Rattle.py_check_coercions.specs.Boxes.{boxed}
+use Rattle.py_check_places.specs.Places.{Known, Way}
 use Rattle.py_check_statements.specs.declared.parts.Guarded.{Guarded}
 
 abbrev pub boxed_stmt : Box TStmt Global → TypedStmt

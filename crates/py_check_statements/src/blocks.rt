@@ -10,8 +10,9 @@ ghost use Rattle.py_check_context.specs.Context.{context};
 ghost use Rattle.py_check_flow.specs.Closed as closed;
 ghost use Rattle.py_check_messages.specs.Seen.{Tells, both, made};
 ghost use Rattle.py_check_values.specs.Returns.{return_sort};
-ghost use Rattle.py_check_targets.specs.Places as places;
-ghost use Rattle.py_check_targets.specs.Views.{known_at, boxed_act};
+ghost use Rattle.py_check_places.specs.Places as places;
+ghost use Rattle.py_check_places.specs.Views.{known_at};
+ghost use Rattle.py_check_targets.specs.Views.{boxed_act};
 ghost use Rattle.py_check_loops.specs.Loops.{loop_of};
 ghost use Rattle.py_check_loops.specs.Heads as heads;
 ghost use Rattle.py_check_statements.specs.Bodies as rules_of;
@@ -26,13 +27,13 @@ use crate::statements;
 use crate::statements::{
     alone, broken, continued, deleted, passed, placed, untyped, with_statement,
 };
-use py_binder::Diag;
+use py_check_assignments::{annotate, assign, update};
 use py_check_context::Scope;
 use py_check_loops::{Begun, begin_for, looped};
-use py_check_targets::{Place, annotate, assign, learn};
-use py_check_updates::update;
+use py_check_places::{Place, learn};
 use py_check_values::Returns;
 use py_syntax::{Expr, Stmt, StmtKind};
+use py_syntax_diagnostics::Diag;
 use py_typed::{TStmt, TStmtKind};
 use std::alloc::Global;
 use value_core::{Many, Memory};

@@ -8,17 +8,18 @@ ghost use Rattle.py_typed.specs.Statements.{typed_stmt, typed_arm, suite_of, arm
 ghost use Rattle.py_check_context.specs.Context.{context};
 ghost use Rattle.py_check_flow.specs.Closed as closed;
 ghost use Rattle.py_check_messages.specs.Rows.{kept};
-ghost use Rattle.py_check_operators.specs.Boxes.{boxed};
+ghost use Rattle.py_check_coercions.specs.Boxes.{boxed};
 ghost use Rattle.py_check_operators.specs.Facts.{facts};
-ghost use Rattle.py_check_targets.specs.Places as places;
-ghost use Rattle.py_check_targets.specs.Views.{known_at, boxed_act};
+ghost use Rattle.py_check_places.specs.Places as places;
+ghost use Rattle.py_check_places.specs.Views.{known_at};
+ghost use Rattle.py_check_targets.specs.Views.{boxed_act};
 ghost use Rattle.py_check_statements.specs.Bodies as rules_of;
 ghost use Rattle.py_check_statements.specs.Views.{guarded_seen};
 
 use py_check_context::Scope;
 use py_check_flow::{breaks_out, is_closed};
 use py_check_operators::with_facts;
-use py_check_targets::{Place, all_known, enter, meet};
+use py_check_places::{Place, all_known, enter, meet};
 use py_syntax::{Expr, Stmt};
 use py_typed::{TExpr, TStmt, TStmtKind};
 use std::alloc::Global;

@@ -6,7 +6,7 @@ use Rattle.py_check_context.specs.declared.scope.Meaning.{Meaning}
 use Rattle.py_check_context.specs.declared.scope.Meaning.TheVariants as meaning
 use Rattle.py_check_context.specs.declared.variables.VarType.{VarType}
 use Rattle.py_check_context.specs.Context.{var_sort}
-use Rattle.py_check_targets.specs.Places.{Known, with_names}
+use Rattle.py_check_places.specs.Places.{Known, with_names}
 use Rattle.py_check_targets.specs.Targets.{name_aim}
 
 pub var_found : (types : List VarType) (i : ℕ) → slice_get (map var_sort types) i ≡ option_map var_sort (slice_get types i)

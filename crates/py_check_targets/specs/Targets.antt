@@ -25,16 +25,17 @@ use Rattle.py_check_context.specs.declared.scope.Meaning.{Meaning}
 use Rattle.py_check_context.specs.declared.scope.Meaning.TheVariants as meaning
 use Rattle.py_check_context.specs.Context.{Context, VarSort, unset, untyped, has, var_at, Wanted, free, wants_some}
 use Rattle.py_check_flow.specs.Bindings.{name_in}
+use Rattle.py_check_places.specs.Shapes.{is_item, is_row, is_flat, leaves, some_parts}
 use Rattle.py_check_messages.specs.Seen.{Seen, Message, is, made}
 use Rattle.py_check_messages.specs.Rows.{row_then}
 use Rattle.py_check_messages.specs.Messages.{no_target, cannot_assign, already_defined, wrong_assignment}
 use Rattle.py_check_operators.specs.Facts.{local_of}
-use Rattle.py_check_operators.specs.Several.{unless}
+use Rattle.py_check_coercions.specs.Several.{unless}
 use Rattle.py_check_operators.specs.Operators.{arithmetic}
 use Rattle.py_check_expressions.specs.Typing.{typing}
 use Rattle.py_check_values.specs.Slots.{SlotSort, known, fresh, refused, itemless}
 use Rattle.py_check_values.specs.Assignments.{first_of, assignment, binding_fault, unpacking_fault, items_for}
-use Rattle.py_check_targets.specs.Places.{Known, with_names}
+use Rattle.py_check_places.specs.Places.{Known, with_names}
 
 -- ---- single targets
 
@@ -76,10 +77,6 @@ item_aim (typed (node.At e i) t place) = part_aim e i t
 item_aim (typed (node.TupleAt e i) t place) = unwritten (type_of e)
 item_aim e = misplaced (type_of e)
 
-abbrev pub is_item : ExprTree → Bool
-is_item (at (tree.Index e i) span) = true
-is_item e = false
-
 -- any other expression
 abbrev pub value_aim : Bool → TypedExpr → Aim
 value_aim written e = if written then item_aim e else misplaced (type_of e)
@@ -113,39 +110,6 @@ is_name_aim a = false
 
 -- ---- whole targets
 
-abbrev pub is_row : ExprTree → Bool
-is_row (at (tree.TupleOf es) span) = true
-is_row (at (tree.ListOf es) span) = true
-is_row e = false
-
-abbrev pub no_rows : ExprTrees → Bool
-no_rows no_exprs = true
-no_rows (expr_then e more) = not (is_row e) && no_rows more
-
--- no tuple in a tuple, and no list
-abbrev pub is_flat : ExprTree → Bool
-is_flat (at (tree.TupleOf es) span) = no_rows es
-is_flat (at (tree.ListOf es) span) = false
-is_flat e = true
-
-abbrev mutual
-  -- the single targets in it, at any depth
-  pub leaves : ExprTree → List ExprTree
-  leaves (at node span) = node_leaves span node
-
-  pub node_leaves : Span → ExprNode → List ExprTree
-  node_leaves span (tree.TupleOf es) = row_leaves es
-  node_leaves span (tree.ListOf es) = row_leaves es
-  node_leaves span node = at node span ∷ []
-
-  pub row_leaves : ExprTrees → List ExprTree
-  row_leaves no_exprs = []
-  row_leaves (expr_then e more) = leaves e ++ row_leaves more
-
--- the name of each, where it is a name
-abbrev pub target_names : ExprTree → List (Option (List ℕ))
-target_names target = map name_in (leaves target)
-
 -- the types of the targets, where each has one
 abbrev pub held_sorts : List Aim → Option (List Sort)
 held_sorts [] = Some []
@@ -169,18 +133,6 @@ asked_sort several (Some aims) = sort_for several aims
 
 abbrev pub asked_by : Bool → Option (List Aim) → Wanted
 asked_by several aims = wants_some (asked_sort several aims)
-
--- the types of the parts of a value for so many targets, as far as there are such
-abbrev pub some_parts : Option (List Sort) → List Sort
-some_parts None = []
-some_parts (Some ts) = ts
-
-abbrev pub parts_for : Bool → ℕ → Sort → List Sort
-parts_for several n t = if several then some_parts (items_for t n) else t ∷ []
-
-abbrev pub parts_of : Bool → ℕ → Option Sort → List Sort
-parts_of several n None = []
-parts_of several n (Some t) = parts_for several n t
 
 -- ---- a value for targets
 
@@ -279,6 +231,10 @@ module _ (c : Context) where
   abbrev pub aims : Known → List ExprTree → Seen (List Aim)
   aims k [] = is []
   aims k (e ∷ more) = row_then (single_aim k (name_in e) e) (aims (with_names k (forgotten (name_in e) k.names)) more)
+
+  -- the single targets of a target
+  abbrev pub target_aims : Known → ExprTree → Seen (List Aim)
+  target_aims k target = aims c k (leaves target)
 
   -- one that was read
   abbrev pub read_aim : Known → Option (List ℕ) → Bool → TypedExpr → Aim

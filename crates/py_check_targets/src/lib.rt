@@ -1,24 +1,13 @@
-//! What is known at a place of a body, what is assigned to there, and the rules of assignments.
+//! What is assigned to at a place of a body, and when a value may be.
 //!
-//! `specs/Places.antt` has what is known at a place of the types of variables and of names that are not None, and how it changes;
-//! `specs/Targets.antt` what is assigned to and when a value may be, with what one more new name among several does to it in
-//! `specs/NewNames.antt`; `specs/Assignments.antt` the statements that assign, each with what it binds.
+//! `specs/Targets.antt` has the targets of an assignment, each by what it is, and the rules of a value for them; what one more new
+//! name among several does to these is in `specs/NewNames.antt`.
 #![tactic(auto)]
 
-mod annotations;
-mod assignments;
-mod names;
-mod parts;
-mod places;
 mod several;
 mod targets;
 mod values;
 
-pub use annotations::annotate;
-pub use assignments::{assign, target_aims};
-pub use names::bind_target;
-pub use places::{Place, all_known, bind_name, enter, learn, meet, without};
 pub use several::binds_several;
-pub use targets::{
-    Aim, aims, is_flat, is_item, is_row, leaves, name_aim, name_in, slot_of, typed_at, value_aim,
-};
+pub use targets::{Aim, aims, in_box, name_aim, slot_of, target_aims, typed_at, value_aim};
+pub use values::{value_for, value_type};

@@ -12,12 +12,12 @@ ghost use Rattle.py_check_targets.specs.NewNames as new_names;
 ghost use Rattle.py_check_targets.specs.NewNames.{part_seen};
 ghost use Rattle.py_check_targets.specs.Views.{aim_seen};
 
-use crate::parts::some_parts;
 use crate::targets::{Aim, slot_of};
-use py_binder::Diag;
 use py_check_messages::wrong_assignment;
+use py_check_places::some_parts;
 use py_check_values::{Slot, items_for, unpacks};
 use py_syntax::Span;
+use py_syntax_diagnostics::Diag;
 use py_typed::{Classes, Ty, fits};
 use std::alloc::Global;
 use value_core::{Many, Memory, Name};

@@ -1,7 +1,7 @@
 //! What is assigned to.
-ghost use Rattle.std.specs.Prelude.{◌≡◌, ◌++◌, ◌∷◌, [], map, IfOk};
+ghost use Rattle.std.specs.Prelude.{◌≡◌, map, IfOk};
 ghost use Rattle.std.specs.Option.{option_map, option_copied};
-ghost use Rattle.py_syntax.specs.Expressions.{expr_tree, exprs_of};
+ghost use Rattle.py_syntax.specs.Expressions.{expr_tree};
 ghost use Rattle.py_typed.specs.Sorts.{sort};
 ghost use Rattle.py_typed.specs.Narrowing as narrowing;
 ghost use Rattle.py_typed.specs.Statements.{typed_target};
@@ -9,19 +9,20 @@ ghost use Rattle.py_check_context.specs.Context.{context, var_sort, var_of, want
 ghost use Rattle.py_check_flow.specs.Bindings as bindings;
 ghost use Rattle.py_check_messages.specs.Seen.{Tells};
 ghost use Rattle.py_check_messages.specs.Rows.{kept};
-ghost use Rattle.py_check_operators.specs.Boxes.{boxed};
+ghost use Rattle.py_check_coercions.specs.Boxes.{boxed};
 ghost use Rattle.py_check_operators.specs.Facts.{local_of};
 ghost use Rattle.py_check_values.specs.Slots.{slot_sort};
-ghost use Rattle.py_check_targets.specs.Places.{with_names};
+ghost use Rattle.py_check_places.specs.Places.{with_names};
 ghost use Rattle.py_check_targets.specs.Targets as rule_of;
-ghost use Rattle.py_check_targets.specs.Views.{known_at, aim_seen, boxed_aim, trees};
+ghost use Rattle.py_check_places.specs.Views.{known_at, trees};
+ghost use Rattle.py_check_targets.specs.Views.{aim_seen, boxed_aim};
 
-use crate::places::{Place, put_local, without};
-use py_binder::Diag;
 use py_check_context::{Meaning, Scope, VarType, Want, meaning_of};
 use py_check_expressions::expression;
+use py_check_places::{Place, is_item, leaves, name_in, put_local, without};
 use py_check_values::Slot;
-use py_syntax::{Expr, ExprKind};
+use py_syntax::Expr;
+use py_syntax_diagnostics::Diag;
 use py_typed::{TExpr, TKind, Target, Ty, copy_of};
 use std::alloc::Global;
 use value_core::{Many, Memory, Name};
@@ -55,92 +56,6 @@ pub fn typed_at(
     let types = &place.types;
     let names = place.names.as_slice();
     expression(alloc, scope, types, want, names, e, faults)
-}
-
-/// The single targets in a target, at any depth.
-pub fn leaves<'a>(alloc: Global, target: &'a Expr) -> Result<Vec<&'a Expr>, Memory>
-    ensures { IfOk result (λ found. trees found.items ≡ rule_of.leaves (expr_tree target.now)) }
-{
-    let mut found = Vec::new(alloc);
-    put_leaves(&mut found, target)?;
-    Ok(found)
-}
-
-#[cycle(leaves)]
-fn put_leaves<'a>(found: &mut Vec<&'a Expr>, e: &'a Expr) -> Result<(), Memory>
-    ensures { IfOk result (λ done. trees found.new.items ≡ trees found.old.items ++ rule_of.leaves (expr_tree e.now)) }
-{
-    match &e.kind {
-        ExprKind::Tuple(items) => put_row(found, items.as_slice()),
-        ExprKind::List(items) => put_row(found, items.as_slice()),
-        _ => put(found, e),
-    }
-}
-
-#[cycle(leaves)]
-fn put_row<'a>(found: &mut Vec<&'a Expr>, items: &'a [Expr]) -> Result<(), Memory>
-    ensures { IfOk result (λ done. trees found.new.items ≡ trees found.old.items ++ rule_of.row_leaves (exprs_of (map expr_tree items.now))) }
-{
-    for item in items {
-        put_leaves(found, item)?;
-    }
-    Ok(())
-}
-
-fn put<'a>(found: &mut Vec<&'a Expr>, e: &'a Expr) -> Result<(), Memory>
-    ensures { IfOk result (λ done. trees found.new.items ≡ trees found.old.items ++ expr_tree e.now ∷ []) }
-{
-    found.push(e)?;
-    Ok(())
-}
-
-/// The name that an expression is.
-pub fn name_in(e: &Expr) -> Option<&Name>
-    ensures { option_copied result ≡ bindings.name_in (expr_tree e.now) }
-{
-    match &e.kind {
-        ExprKind::Name(x) => Some(x),
-        _ => None,
-    }
-}
-
-pub fn is_item(e: &Expr) -> bool
-    ensures { result ≡ rule_of.is_item (expr_tree e.now) }
-{
-    matches!(e.kind, ExprKind::Index(_, _))
-}
-
-/// Whether an expression is a tuple or a list.
-pub fn is_row(e: &Expr) -> bool
-    ensures { result ≡ rule_of.is_row (expr_tree e.now) }
-{
-    match e.kind {
-        ExprKind::Tuple(_) => true,
-        ExprKind::List(_) => true,
-        _ => false,
-    }
-}
-
-/// Whether no tuple stands in a tuple, and no list.
-pub fn is_flat(e: &Expr) -> bool
-    ensures { result ≡ rule_of.is_flat (expr_tree e.now) }
-{
-    match &e.kind {
-        ExprKind::Tuple(items) => no_rows(items.as_slice()),
-        ExprKind::List(_) => false,
-        _ => true,
-    }
-}
-
-fn no_rows(items: &[Expr]) -> bool
-    ensures { result ≡ rule_of.no_rows (exprs_of (map expr_tree items.now)) }
-{
-    for item in items {
-        if is_row(item) {
-            return false;
-        }
-    }
-    true
 }
 
 /// A name that is assigned to, unless it is a variable without a type.
@@ -261,7 +176,7 @@ fn aim_of<'a>(written: bool, e: Option<Box<TExpr>>) -> Option<Aim<'a>>
 }
 
 /// One that is kept on the heap.
-pub(crate) fn in_box<'a>(alloc: Global, a: Option<Aim<'a>>) -> Result<Option<Box<Aim<'a>>>, Memory>
+pub fn in_box<'a>(alloc: Global, a: Option<Aim<'a>>) -> Result<Option<Box<Aim<'a>>>, Memory>
     ensures { IfOk result (λ r. option_map boxed_aim r ≡ option_map aim_seen a.entry) }
 {
     let Some(a) = a else {
@@ -288,6 +203,20 @@ pub fn aims<'a>(
         names = forgotten(alloc, scope, names.as_slice(), *e)?;
     }
     Ok(found)
+}
+
+/// The single targets of a target, each by what it is.
+pub fn target_aims<'a>(
+    alloc: Global,
+    scope: &Scope<'_>,
+    place: &Place,
+    target: &'a Expr,
+    faults: &mut Many<Diag>,
+) -> Result<Option<Many<Aim<'a>>>, Memory>
+    ensures { IfOk result (λ found. Tells (map aim_seen) found faults.old faults.new (rule_of.target_aims (context scope.now) (known_at place.now) (expr_tree target.now))) }
+{
+    let targets = leaves(alloc, target)?;
+    aims(alloc, scope, place, targets.as_slice(), faults)
 }
 
 // The names that are known behind a target, once it is bound.

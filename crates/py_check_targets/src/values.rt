@@ -6,21 +6,22 @@ ghost use Rattle.py_typed.specs.Sorts.{sort};
 ghost use Rattle.py_typed.specs.Expressions.{type_of};
 ghost use Rattle.py_check_context.specs.Context.{context, wanted, wants_some};
 ghost use Rattle.py_check_messages.specs.Seen.{Tells};
-ghost use Rattle.py_check_operators.specs.Boxes.{boxed};
+ghost use Rattle.py_check_coercions.specs.Boxes.{boxed};
 ghost use Rattle.py_check_targets.specs.Targets as rule_of;
-ghost use Rattle.py_check_targets.specs.Views.{known_at, aim_seen};
+ghost use Rattle.py_check_places.specs.Views.{known_at};
+ghost use Rattle.py_check_targets.specs.Views.{aim_seen};
 
-use crate::places::Place;
 use crate::targets::{Aim, typed_at};
-use py_binder::Diag;
 use py_check_context::{Scope, Want};
+use py_check_places::Place;
 use py_syntax::Expr;
+use py_syntax_diagnostics::Diag;
 use py_typed::{TExpr, Ty, copy_of};
 use std::alloc::Global;
 use value_core::{Many, Memory};
 
 /// A value for one target or for several, which ask it for their types.
-pub(crate) fn value_for(
+pub fn value_for(
     alloc: Global,
     scope: &Scope<'_>,
     place: &Place,
@@ -128,7 +129,7 @@ fn copied(alloc: Global, t: Option<&Ty>) -> Result<Option<Ty>, Memory>
 }
 
 /// A copy of the type of a value, if it is typed.
-pub(crate) fn value_type(alloc: Global, e: &Option<Box<TExpr>>) -> Result<Option<Ty>, Memory>
+pub fn value_type(alloc: Global, e: &Option<Box<TExpr>>) -> Result<Option<Ty>, Memory>
     ensures { IfOk result (λ t. option_map sort t ≡ option_map type_of (option_map boxed e.now)) }
 {
     match e {

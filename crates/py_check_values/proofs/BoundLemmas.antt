@@ -5,7 +5,7 @@ use Rattle.std.specs.declared.boxed.Box.{Box}
 use Rattle.std.specs.declared.alloc.Global.{Global}
 use Rattle.std.specs.Option.{option_map}
 use Rattle.py_syntax.specs.declared.token.Span.{Span}
-use Rattle.py_binder.specs.declared.scope.Diag.{Diag}
+use Rattle.py_syntax_diagnostics.specs.declared.diagnostic.Diag.{Diag}
 use Rattle.py_typed.specs.declared.expression.TExpr.{TExpr}
 use Rattle.py_typed.specs.declared.types.Ty.{Ty, fold-roll-Ty}
 use Rattle.py_typed.specs.declared.types.Ty as type
@@ -14,9 +14,9 @@ use Rattle.py_typed.specs.declared.types.Ty.TheOpen.{Ty-F}
 use Rattle.py_typed.specs.Sorts.{Sort, TupleOf, sort, sort_step, sorts_of, listed_sorts}
 use Rattle.py_typed.specs.Expressions.{TypedExpr, type_of}
 use Rattle.py_check_messages.specs.Seen.{Seen, Message, Finds, judged, ruled}
-use Rattle.py_check_operators.specs.Boxes.{boxed}
-use Rattle.py_check_operators.specs.Several.{unless}
-use Rattle.py_check_operators.proofs.PartLemmas.{type_at}
+use Rattle.py_check_coercions.specs.Boxes.{boxed}
+use Rattle.py_check_coercions.specs.Several.{unless}
+use Rattle.py_check_coercions.proofs.PartLemmas.{type_at}
 
 -- a row of types made of a list is that list
 pub listed_again : (ts : List Sort) → listed_sorts (sorts_of ts) ≡ ts

@@ -12,8 +12,8 @@ use Rattle.py_typed.specs.Fits.{fits, is_nothing}
 use Rattle.py_typed.specs.Expressions.{TypedExpr, type_of}
 use Rattle.py_check_messages.specs.Seen.{Message}
 use Rattle.py_check_messages.specs.Messages.{cannot_assign, index_target, cannot_unpack, needs_annotation, wrong_assignment}
-use Rattle.py_check_operators.specs.Values.{coerced}
-use Rattle.py_check_operators.specs.Several.{unless}
+use Rattle.py_check_coercions.specs.Values.{coerced}
+use Rattle.py_check_coercions.specs.Several.{unless}
 use Rattle.py_check_values.specs.Slots.{SlotSort, known, fresh, refused, itemless}
 
 -- ---- one target

@@ -12,7 +12,7 @@ use Rattle.py_typed.specs.Expressions.{TypedExpr, type_of}
 use Rattle.py_typed.specs.WellTypedExpr.{is_none_literal}
 use Rattle.py_check_messages.specs.Seen.{Seen, Message, is, silent, fails, judged}
 use Rattle.py_check_messages.specs.Messages.{return_outside, return_expected, no_return_expected, wrong_return}
-use Rattle.py_check_operators.specs.Values.{coerced}
+use Rattle.py_check_coercions.specs.Values.{coerced}
 use Rattle.py_check_values.specs.declared.returns.Returns.{Returns}
 use Rattle.py_check_values.specs.declared.returns.Returns.TheVariants.{Outside, Untyped, Gives}
 

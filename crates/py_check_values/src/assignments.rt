@@ -4,17 +4,17 @@ ghost use Rattle.std.specs.Option.{option_map, option_copied};
 ghost use Rattle.py_typed.specs.Sorts.{sort};
 ghost use Rattle.py_typed.specs.Classes.{class_entry};
 ghost use Rattle.py_check_messages.specs.Seen.{Tells, Finds, ruled};
-ghost use Rattle.py_check_operators.specs.Boxes.{boxed};
+ghost use Rattle.py_check_coercions.specs.Boxes.{boxed};
 ghost use Rattle.py_check_values.specs.Slots.{slot_sort};
 ghost use Rattle.py_check_values.specs.Assignments as rule_of;
 
 use crate::slots::Slot;
-use py_binder::Diag;
+use py_check_coercions::coerced;
 use py_check_messages::{
     cannot_assign, cannot_unpack, index_target, needs_annotation, wrong_assignment,
 };
-use py_check_operators::coerced;
 use py_syntax::Span;
+use py_syntax_diagnostics::Diag;
 use py_typed::{Classes, TExpr, Ty, fits, is_nothing};
 use std::alloc::Global;
 use value_core::{Many, Memory, Name};

@@ -7,7 +7,8 @@ use Rattle.py_lexer.specs.declared.gap.Gap.{Gap}
 use Rattle.py_lexer.specs.declared.gap.Gap.TheVariants.{Space, Tab, FormFeed, Comment, Join, LineEnd}
 use Rattle.py_lexer.specs.declared.placed.Placed.{Placed}
 use Rattle.py_lexer.specs.Places.{characters, character_at, line_feed_character}
-use Rattle.py_lexer.specs.Words.{begins_name, word}
+use Rattle.py_lexer_words.specs.Words.{begins_name}
+use Rattle.py_lexer.specs.Words.{word}
 use Rattle.py_lexer.specs.Numbers.{begins_number, number}
 use Rattle.py_lexer.specs.Signs.{sign_at}
 use Rattle.py_lexer.specs.Strings.{begins_string, string_at, backslash}

@@ -18,7 +18,8 @@ use Rattle.py_lexer.specs.declared.string.Prefix.TheVariants.{Plain, Raw, Other}
 use Rattle.py_lexer.specs.declared.string.Style.{Style}
 use Rattle.py_lexer.specs.Places.{character_at, characters, line_of, line_feed_character}
 use Rattle.py_lexer.specs.Reading.{Fault, Read, ◌>>=◌}
-use Rattle.py_lexer.specs.Words.{word_len, word_at, past_word, begins_name, word, keyword_or_name, is_python_identifier}
+use Rattle.py_lexer_words.specs.Words.{begins_name, is_python_identifier}
+use Rattle.py_lexer.specs.Words.{word_len, word_at, past_word, word, keyword_or_name}
 use Rattle.py_lexer.specs.Numbers.{begins_number, number, numeral, number_or_fault}
 use Rattle.py_lexer.specs.Signs.{sign_at, sign_in, or_else}
 use Rattle.py_lexer.specs.Strings.{backslash, is_quote, escape, element, body, with_front, closes, quote_len, string_at, prefixed, quoted, begins_string, hex_escape, octal_escape, octal_len, hex_len, named_or_fault, character_named, escape_or_both, simple_escape, prefix_of, style}

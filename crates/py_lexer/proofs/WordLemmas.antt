@@ -5,7 +5,8 @@ use Rattle.unicode_ident.proofs.IdentLemmas.{is_xid_start-is_xid_continue}
 use Rattle.unicode_ident.proofs.Computing.{unicode_ident}
 use Rattle.py_lexer.specs.declared.placed.Placed.{Placed}
 use Rattle.py_lexer.specs.Places.{character_at}
-use Rattle.py_lexer.specs.Words.{begins_name, word_len}
+use Rattle.py_lexer_words.specs.Words.{begins_name}
+use Rattle.py_lexer.specs.Words.{word_len}
 
 pub no_nul : begins_name 0 ≡ false
 unfolding unicode_ident

@@ -15,7 +15,8 @@ use Rattle.py_syntax.specs.Texts.{key_text, key_of, all_keys}
 use Rattle.py_lexer.specs.declared.placed.Placed.{Placed}
 use Rattle.py_lexer.specs.Places.{characters, character_at}
 use Rattle.py_lexer.specs.Reading.{Fault, ◌>>=◌}
-use Rattle.py_lexer.specs.Words.{word, word_at, word_len, past_word, begins_name, is_python_identifier, keyword_or_name}
+use Rattle.py_lexer_words.specs.Words.{begins_name, is_python_identifier}
+use Rattle.py_lexer.specs.Words.{word, word_at, word_len, past_word, keyword_or_name}
 use Rattle.py_lexer.specs.Strings.{is_quote, prefix_of, begins_string}
 use Rattle.py_lexer.specs.Digits.{NextIsNot}
 use Rattle.py_lexer.specs.Spelling.{EndsWord, IsIdentifier, IsQuote, all_prefixes}

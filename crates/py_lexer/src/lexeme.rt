@@ -8,7 +8,8 @@ use crate::number::{begins_number, number};
 use crate::placed::{Placed, character_at};
 use crate::sign::sign_at;
 use crate::string::{begins_string, string_at};
-use crate::word::{begins_name, word};
+use crate::word::word;
+use py_lexer_words::begins_name;
 use py_syntax::TokenKind;
 use std::alloc::Global;
 

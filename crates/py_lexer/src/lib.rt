@@ -21,18 +21,17 @@ mod lexeme;
 mod number;
 mod placed;
 mod plain;
-mod quoted;
 mod read;
 mod reader;
 mod sign;
 mod string;
 mod word;
 
-use crate::plain::{characters, place_all, plain};
+use crate::plain::{place_all, plain};
 use crate::read::read;
 pub use fault::{LexError, LexKind};
+use py_lexer_words::characters;
 use py_syntax::Tokens;
-pub use quoted::name_in_quotes;
 use std::alloc::Global;
 
 /// The tokens of a text (Python Language Reference, "Lexical analysis"), or its first fault. For want of memory the

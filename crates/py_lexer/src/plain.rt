@@ -1,17 +1,10 @@
 //! A text with one LF for each end of a line, and the places of its characters.
-ghost use Rattle.std.specs.Prelude.{◌≡◌, ◌<◌, ◌+◌, ◌^◌, IfOk, chars};
+ghost use Rattle.std.specs.Prelude.{◌≡◌, ◌<◌, ◌+◌, ◌^◌, IfOk};
 ghost use Rattle.py_lexer.specs.Places as spec;
 
 use crate::placed::Placed;
 use py_syntax::Span;
 use std::alloc::{AllocError, Global};
-
-/// The characters of a text.
-pub(crate) fn characters(alloc: Global, text: &str) -> Result<Vec<char>, AllocError>
-    ensures { IfOk result (λ v. v.items ≡ chars text.now) }
-{
-    text.chars().collect(alloc)
-}
 
 /// The text without a byte order mark at its beginning.
 fn without_mark(text: &[char]) -> &[char]

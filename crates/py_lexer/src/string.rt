@@ -9,7 +9,7 @@ ghost use Rattle.py_lexer.specs.Remaining.{Adds};
 
 use crate::fault::{LexError, LexKind};
 use crate::placed::{Placed, character_at, line_of, skip, word_len};
-use crate::word::text_of;
+use py_lexer_words::text_of;
 use py_syntax::TokenKind;
 use std::alloc::{AllocError, Global};
 use value_core::Text;

@@ -1,43 +1,19 @@
 //! Keywords and names.
-ghost use Rattle.std.specs.Prelude.{◌≡◌, ◌<◌, ◌++◌, length, find, true, string_bytes, encode_utf8_all, IfOk};
+ghost use Rattle.std.specs.Prelude.{◌≡◌, ◌<◌, length, find, true, IfOk};
 ghost use Rattle.std.specs.Str.{bytes_eq};
-ghost use Rattle.std.specs.List.{list_all};
-ghost use Rattle.unicode_ident.specs.Ident.{is_xid_continue};
 ghost use Rattle.py_syntax.specs.Texts.{key_text, key_of};
+ghost use Rattle.py_lexer_words.specs.Words.{begins_name};
 ghost use Rattle.py_lexer.specs.Words as spec;
 ghost use Rattle.py_lexer.specs.Places as places;
 ghost use Rattle.py_lexer.specs.Reading.{Reads, Shortens};
 
 use crate::fault::{LexError, LexKind};
 use crate::placed::{Placed, line_of, word_len};
+use py_lexer_words::{is_identifier, text_of};
 use py_syntax::{Key, TokenKind};
 use std::alloc::{AllocError, Global};
-use unicode_ident::{is_xid_continue, is_xid_start};
 use unicode_normalization::slice::extend_nfkc;
 use value_core::Name;
-
-/// Whether a name may begin with a character.
-pub(crate) fn begins_name(c: char) -> bool
-    ensures { result ≡ spec.begins_name c }
-{
-    c == '_' || is_xid_start(c)
-}
-
-fn all_continue(text: &[char]) -> bool
-    ensures { result ≡ list_all is_xid_continue text.now }
-{
-    text.iter().all(|c| is_xid_continue(*c))
-}
-
-/// Whether characters are an identifier.
-pub(crate) fn is_identifier(text: &[char]) -> bool
-    ensures { result ≡ spec.is_python_identifier text.now }
-{
-    match text {
-        [] => false,
-        [first, more @ ..] => begins_name(*first) && all_continue(more),
-    }
-}
 
 /// Whether characters are those of a text, which is ASCII.
 pub(crate) fn is_text(word: &[Placed], text: &str) -> bool
@@ -78,17 +54,10 @@ fn without_places(alloc: Global, word: &[Placed]) -> Result<Vec<char>, AllocErro
     word.iter().map(|c| c.character).collect(alloc)
 }
 
-/// The text of characters.
-pub(crate) fn text_of(alloc: Global, text: &[char]) -> Result<String, AllocError>
-    ensures { IfOk result (λ s. string_bytes s ≡ encode_utf8_all text.now) }
-{
-    text.iter().copied().collect(alloc)
-}
-
 /// A keyword as it is written, or else a name, and the rest behind it.
 #[tactic(auto, using(crate::proofs::WordLemmas::word_shorter), unfolding(crate::specs::Words::word))]
 pub(crate) fn word(alloc: Global, rest: &[Placed]) -> Result<(TokenKind, &[Placed]), LexError>
-    requires begins { spec.begins_name (places.character_at 0 rest.now) ≡ true }
+    requires begins { begins_name (places.character_at 0 rest.now) ≡ true }
     ensures value { Reads (λ k. k) result (spec.word rest.now) }
     ensures shorter { Shortens rest.now result }
 {

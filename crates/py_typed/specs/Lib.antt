@@ -5,15 +5,9 @@ pub mod TypeTexts
 pub mod Expressions
 pub mod Statements
 pub mod Order
-pub mod State
-pub mod Operations
-pub mod ExpressionMeaning
-pub mod WaysOut
-pub mod StatementMeaning
-pub mod SourceRun
+pub mod TargetTypes
 pub mod Laws
 pub mod Narrowing
 pub mod WellTypedExpr
 pub mod WellTyped
 pub mod WellTypedModule
-pub mod Soundness

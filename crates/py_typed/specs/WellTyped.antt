@@ -11,8 +11,8 @@ use Rattle.py_typed.specs.Classes.{ClassEntry}
 use Rattle.py_typed.specs.Fits.{is_same_type, is_nothing, fits}
 use Rattle.py_typed.specs.Expressions.{TypedExpr, type_of}
 use Rattle.py_typed.specs.Statements.{Variable, TypedTarget, LocalTarget, GlobalTarget, AttrTarget, ItemTarget, TypedStmt, on_line, TypedAct, Do, Assign, Aug, Del, If, While, ForRange, ForList, ForDict, Try, Raise, Return, Break, Continue, Assert, Pass, TypedSuite, no_stmts, stmt_then, Arms, no_arms, arm_then, Handlers, no_handlers, handler_then, MaybeSuite, no_suite, some_suite, TypedModule}
-use Rattle.py_typed.specs.StatementMeaning.{attribute_sort, sort_at}
-use Rattle.py_typed.specs.Operations.{item_sort, key_sort}
+use Rattle.py_typed.specs.TargetTypes.{attribute_sort, sort_at}
+use Rattle.py_typed.specs.TargetTypes.{item_sort, key_sort}
 use Rattle.py_typed.specs.Narrowing.{is_in, facts, without, bound_by_all, bound_suite, bound_handlers, bound_last, bound_by_name, after_target, after_parts, part_sorts, after}
 use Rattle.py_typed.specs.WellTypedExpr.{is_none_literal, is_exception, is_type, operation_sort, indexed, reads_as, is_typed, is_value}
 use Rattle.py_typed.specs.WellTypedExpr as expr

@@ -1,16 +1,13 @@
-//! Types, the typed tree of a module, and what a module does.
+//! Types, and the typed tree of a module.
 //!
 //! Types and trees are plain data with public parts. Computed are only what fits what, joins, copies and texts of types,
 //! each exactly its definition. All else are definitions that the crates above are proved against: `specs/Sorts.antt`,
 //! `specs/Classes.antt`, `specs/Expressions.antt` and `specs/Statements.antt` have the types, classes and trees as plain
 //! data, with what declared ones stand for; `specs/Fits.antt` and `specs/TypeTexts.antt` what fits what, joins and the
-//! texts of types; `specs/Order.antt` the orders of classes and their members. `specs/State.antt`, `specs/Operations.antt`,
-//! `specs/ExpressionMeaning.antt`, `specs/WaysOut.antt`, `specs/StatementMeaning.antt` and `specs/SourceRun.antt` are the
-//! meaning of a module, `specs/Laws.antt` what holds of it, and `specs/Narrowing.antt`, `specs/WellTypedExpr.antt`,
-//! `specs/WellTyped.antt` and `specs/WellTypedModule.antt` which modules are well typed. For proofs above,
-//! `proofs/Closed.antt` has what is asked of a relation that holds of every part of a run, and `proofs/RunAlike.antt` the
-//! induction; `proofs/ExpressionLemmas.antt` and `proofs/StatementLemmas.antt` have what each kind of a declared tree stands
-//! for, as equations for crates that make or walk trees.
+//! texts of types; `specs/Order.antt` the orders of classes and their members, `specs/TargetTypes.antt` the types of what is
+//! assigned to. `specs/Narrowing.antt`, `specs/WellTypedExpr.antt`, `specs/WellTyped.antt` and `specs/WellTypedModule.antt` say
+//! which modules are well typed, and `specs/Laws.antt` what holds of types. For proofs above, `proofs/ExpressionLemmas.antt` and
+//! `proofs/StatementLemmas.antt` have what each kind of a declared tree stands for, as equations for crates that make or walk trees.
 #![tactic(auto)]
 
 mod checked;
@@ -30,8 +27,8 @@ pub use fitting::{
     above, fits, is_nothing, is_number, is_same_type, join, number_join, optional, same,
 };
 pub use laws::{
-    above_is_made, any_bound_serves, fits_goes_on, fits_itself, join_holds_both, join_is_symmetric,
-    longer_runs_continue, runs_only_add, same_fits, same_goes_on, under_by_bases,
+    above_is_made, fits_goes_on, fits_itself, join_holds_both, join_is_symmetric, same_fits,
+    same_goes_on, under_by_bases,
 };
 pub use statement::{THandler, TStmt, TStmtKind, Target};
 pub use types::Ty;

@@ -2,12 +2,12 @@
 
 use crate::case::check;
 use indexmap::IndexMap;
-use py_binder::Diag;
 use py_check_annotations::{annotation, return_annotation};
 use py_check_context::{Builtin, Imported, Meaning, Scope};
 use py_lexer::tokens;
 use py_parser::module;
 use py_syntax::{Expr, StmtKind};
+use py_syntax_diagnostics::Diag;
 use py_typed::{ClassInfo, Classes, Ty, type_text};
 use std::alloc::{AllocError, Global};
 use std::test::Fail;

@@ -1,9 +1,9 @@
 //! The text of each diagnostic that typing gives, as it is printed.
 
 use crate::case::check;
-use py_binder::Diag;
 use py_check_messages as message;
 use py_syntax::Span;
+use py_syntax_diagnostics::Diag;
 use py_typed::{Classes, Ty};
 use std::alloc::Global;
 use std::test::Fail;

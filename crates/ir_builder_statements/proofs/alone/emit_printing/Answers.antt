@@ -1,6 +1,6 @@
 use Rattle.std.proofs.Common.{List, map, subst}
 use Rattle.py_typed.specs.Expressions.{typed_expr, type_of}
-use Rattle.py_typed.specs.Operations.{line_of}
+use Rattle.source_meaning.specs.Operations.{line_of}
 use Rattle.ir_core.specs.declared.code.Reg.{Reg}
 use Rattle.ir_builder_loops_and_jumps.specs.Printing.{Writes}
 use Rattle.ir_builder_frames.specs.Settings.{Setting, setting}

@@ -4,10 +4,10 @@ use Rattle.py_typed.specs.Statements.{typed_stmt}
 use Rattle.py_check_context.specs.Context.{context}
 use Rattle.py_check_messages.specs.Seen.{Tells}
 use Rattle.py_check_values.specs.Returns.{ReturnSort}
-use Rattle.py_check_targets.specs.Places.{Known}
+use Rattle.py_check_places.specs.Places.{Known}
 use Rattle.py_check_statements.specs.Bodies.{block}
-use Rattle.py_check_targets.specs.Views.{known_at}
-use Rattle.py_check.specs.Views.{headed_parts}
+use Rattle.py_check_places.specs.Views.{known_at}
+use Rattle.py_check_definitions.specs.Views.{headed_parts}
 use Rattle.py_check.specs.Module.{return_of, function_start}
 use Rattle.py_check.proofs.bodies.body_in.Goals as goal
 

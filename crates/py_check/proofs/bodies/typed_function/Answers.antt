@@ -1,11 +1,11 @@
 use Rattle.std.proofs.Common.{◌≡◌, ◌++◌, IfOk, sym, subst₂}
 use Rattle.py_typed.specs.Statements.{typed_func}
 use Rattle.py_check_context.specs.Context.{Context}
-use Rattle.py_check_targets.specs.Views.{known_at}
-use Rattle.py_check.specs.Definitions.{Headed}
+use Rattle.py_check_places.specs.Views.{known_at}
+use Rattle.py_check_definitions.specs.Definitions.{Headed}
 use Rattle.py_check.specs.Module.{typed_function, body, body_after}
 use Rattle.py_check.specs.Parts.{environment_of}
-use Rattle.py_check.proofs.FunctionLemmas.{headed_same}
+use Rattle.py_check_definitions.proofs.FunctionLemmas.{headed_same}
 use Rattle.py_check.proofs.WholeLemmas.{same_context}
 use Rattle.py_check.proofs.bodies.typed_function.Goals as goal
 

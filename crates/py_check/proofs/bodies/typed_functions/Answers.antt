@@ -1,4 +1,4 @@
-use Rattle.py_check_targets.specs.Views.{known_at}
+use Rattle.py_check_places.specs.Views.{known_at}
 use Rattle.py_check.specs.Parts.{environment_of}
 use Rattle.py_check.proofs.BodyLemmas.{typed_on, said_on, behind_on}
 use Rattle.py_check.proofs.bodies.typed_functions.Goals as goal

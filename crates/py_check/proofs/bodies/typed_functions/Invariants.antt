@@ -1,7 +1,7 @@
 use Rattle.std.proofs.Common.{◌≡◌, ◌++◌, map, drop}
 use Rattle.py_typed.specs.Statements.{typed_func}
-use Rattle.py_check_targets.specs.Views.{known_at}
-use Rattle.py_check.specs.Views.{headed_of}
+use Rattle.py_check_places.specs.Views.{known_at}
+use Rattle.py_check_definitions.specs.Views.{headed_of}
 use Rattle.py_check.specs.Module.{typed_functions, bodies_said, sorts_behind_all}
 use Rattle.py_check.specs.Parts.{environment_of}
 use Rattle.py_check.proofs.bodies.typed_functions.Given as goal

@@ -3,7 +3,7 @@ use Rattle.py_syntax.specs.Statements.{body_tree}
 use Rattle.py_typed.specs.Statements.{typed_stmt}
 use Rattle.py_check_context.specs.Context.{Context}
 use Rattle.py_check_messages.specs.Seen.{Tells}
-use Rattle.py_check_targets.specs.Views.{known_at}
+use Rattle.py_check_places.specs.Views.{known_at}
 use Rattle.py_check.specs.Module.{own_statements, fixed_sorts}
 use Rattle.py_check.specs.Parts.{environment_of}
 use Rattle.py_check.proofs.WholeLemmas.{same_context}

@@ -1,7 +1,7 @@
 use Rattle.std.proofs.Common.{◌≡◌, ◌++◌, map, drop}
 use Rattle.py_typed.specs.Classes.{signature}
 use Rattle.py_check_signatures.specs.Headers.{signature_of}
-use Rattle.py_check.specs.Views.{headed_of}
+use Rattle.py_check_definitions.specs.Views.{headed_of}
 use Rattle.py_check.specs.Module.{plain_signature}
 use Rattle.py_check.proofs.modules.plain_signatures.Given as goal
 

@@ -2,12 +2,12 @@ use Rattle.std.proofs.Common.{◌≡◌, ◌++◌, ◌∙◌, List, map, filter,
 use Rattle.std.specs.List.{flat_map}
 use Rattle.py_syntax.specs.declared.statement.Func.{Func}
 use Rattle.py_syntax.specs.Statements.{body_tree}
-use Rattle.py_binder.specs.declared.scope.Diag.{Diag}
+use Rattle.py_syntax_diagnostics.specs.declared.diagnostic.Diag.{Diag}
 use Rattle.py_check_names.specs.Walked.{trees, func_trees}
-use Rattle.py_check.specs.declared.functions.Function.{Function}
-use Rattle.py_check.specs.Views.{headed_of}
-use Rattle.py_check.specs.Definitions.{headed_functions}
-use Rattle.py_check.specs.Globals.{global_said, all_globals, is_refusal}
+use Rattle.py_check_definitions.specs.declared.functions.Function.{Function}
+use Rattle.py_check_definitions.specs.Views.{headed_of}
+use Rattle.py_check_definitions.specs.Definitions.{headed_functions}
+use Rattle.py_check_definitions.specs.Globals.{global_said, all_globals, is_refusal}
 use Rattle.py_check.specs.Module.{typed_parts, statements_said}
 use Rattle.py_check.specs.Parts.{environment_by}
 use Rattle.py_check.proofs.WholeLemmas.{one_to_one, same_functions, same_tree, all_told}

@@ -3,7 +3,7 @@ use Rattle.std.specs.Option.{option_map}
 use Rattle.py_syntax.specs.Statements.{body_tree}
 use Rattle.py_typed.specs.Classes.{signature}
 use Rattle.py_typed.specs.Statements.{typed_module}
-use Rattle.py_check.specs.Views.{headed_of}
+use Rattle.py_check_definitions.specs.Views.{headed_of}
 use Rattle.py_check.specs.Module.{Environment, typed_parts, statements_said}
 use Rattle.py_check.proofs.WholeLemmas.{environment_at}
 use Rattle.py_check.proofs.modules.typed_parts.Goals as goal

@@ -4,7 +4,7 @@ use Rattle.py_typed.specs.Classes.{class_entry, signature}
 use Rattle.py_typed.specs.Expressions.{TypedExpr, typed_expr}
 use Rattle.py_check_context.specs.Context.{wanted}
 use Rattle.py_check_messages.specs.Seen.{Message, Tells, judged, ruled}
-use Rattle.py_check_operators.specs.Boxes.{boxed}
+use Rattle.py_check_coercions.specs.Boxes.{boxed}
 use Rattle.py_check_calls.specs.Calls.{function_call}
 use Rattle.py_check_calls.proofs.CallLemmas.{numbers_agree}
 use Rattle.py_check_calls.proofs.calls.function_call.Goals as goal

@@ -10,7 +10,7 @@ use Rattle.py_check_context.specs.Context.{Wanted, free, context, var_sorts, wan
 use Rattle.py_check_messages.specs.Seen.{Seen, Tells, made, ruled}
 use Rattle.py_check_messages.specs.Rows.{row_then}
 use Rattle.py_check_messages.proofs.RowLemmas.{Remains, row_step}
-use Rattle.py_check_operators.specs.Boxes.{boxed, operand_pair}
+use Rattle.py_check_coercions.specs.Boxes.{boxed, operand_pair}
 use Rattle.py_check_operators.proofs.FactLemmas.{tree_of}
 use Rattle.py_check_displays.specs.Displays as displays
 use Rattle.py_check_expressions.specs.Typing.{typing, node_typing, operands, items, arguments, count}

@@ -4,7 +4,7 @@ use Rattle.py_syntax.specs.Expressions.{expr_tree, exprs_of, comparison_tree, co
 use Rattle.py_typed.specs.Expressions.{typed_expr}
 use Rattle.py_check_context.specs.Context.{context, var_sorts, row}
 use Rattle.py_check_messages.proofs.RowLemmas.{Remains}
-use Rattle.py_check_operators.specs.Boxes.{operand_pair}
+use Rattle.py_check_coercions.specs.Boxes.{operand_pair}
 use Rattle.py_check_expressions.specs.Typing.{items, operands, arguments}
 use denote.Param.Weighed.{most}
 use Rattle.py_syntax.specs.declared.expression.Expr.{size-Expr}

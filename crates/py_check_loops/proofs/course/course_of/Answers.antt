@@ -1,7 +1,7 @@
 use Rattle.std.proofs.Common.{◌≡◌, rules, map, Some}
 use Rattle.py_syntax.specs.Expressions.{expr_tree, arg_tree, arguments_of}
 use Rattle.py_check_context.specs.Context.{context}
-use Rattle.py_check_targets.specs.Views.{known_at}
+use Rattle.py_check_places.specs.Views.{known_at}
 use Rattle.py_check_loops.specs.Loops.{range_arguments}
 use Rattle.py_check_loops.proofs.CourseLemmas.{over_range}
 use Rattle.py_check_loops.proofs.course.course_of.Goals as goal

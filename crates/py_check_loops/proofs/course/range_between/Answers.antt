@@ -1,6 +1,6 @@
 use Rattle.std.proofs.Common.{◌≡◌, ◌++◌, [], ◌∷◌, rules}
 use Rattle.py_typed.specs.Expressions.{typed_expr}
-use Rattle.py_check_operators.specs.Boxes.{boxed}
+use Rattle.py_check_coercions.specs.Boxes.{boxed}
 use Rattle.py_check_loops.proofs.CourseLemmas.{two_bounds}
 use Rattle.py_check_loops.proofs.course.range_between.Goals as goal
 

@@ -3,7 +3,7 @@ use Rattle.py_typed.specs.Sorts.{sort}
 use Rattle.py_typed.specs.Classes.{class_entry}
 use Rattle.py_typed.specs.Expressions.{typed_expr}
 use Rattle.py_check_messages.specs.Seen.{Message}
-use Rattle.py_check_operators.specs.Boxes.{operand_pair}
+use Rattle.py_check_coercions.specs.Boxes.{operand_pair}
 use Rattle.py_check_operators.specs.Chains.{pair_faults, chain_faults}
 use Rattle.py_check_operators.proofs.ChainLemmas.{Stays, stays_step, pair_step}
 use Rattle.py_check_operators.proofs.chains.pairs_hold.Goals as goal

@@ -1,7 +1,7 @@
 use Rattle.std.proofs.Common.{map, drop}
 use Rattle.py_typed.specs.Sorts.{sort}
 use Rattle.py_typed.specs.Classes.{class_entry}
-use Rattle.py_check_operators.specs.Boxes.{operand_pair}
+use Rattle.py_check_coercions.specs.Boxes.{operand_pair}
 use Rattle.py_check_operators.specs.Chains as rule_of
 use Rattle.py_check_operators.proofs.ChainLemmas.{Stays}
 use Rattle.py_check_operators.proofs.chains.pairs_hold.Given as goal

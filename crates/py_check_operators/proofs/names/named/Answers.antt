@@ -3,7 +3,7 @@ use Rattle.std.specs.Option.{option_map, option_copied}
 use Rattle.py_typed.specs.declared.expression.TKind as kind
 use Rattle.py_typed.specs.Expressions.{typed_node}
 use Rattle.py_check_context.specs.Context.{context, var_sort, var_of, var_sorts}
-use Rattle.py_check_operators.proofs.PartLemmas.{typed_node-Local, typed_node-Global}
+use Rattle.py_check_coercions.proofs.PartLemmas.{typed_node-Local, typed_node-Global}
 use Rattle.py_check_operators.proofs.NameLemmas.{var_found, local_says, global_says}
 use Rattle.py_check_operators.proofs.names.named.Goals as goal
 

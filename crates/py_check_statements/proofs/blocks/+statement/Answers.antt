@@ -9,8 +9,9 @@ use Rattle.py_typed.specs.Statements.{typed_stmt, typed_arm, suite_of}
 use Rattle.py_check_context.specs.Context.{context}
 use Rattle.py_check_messages.specs.Seen.{Tells}
 use Rattle.py_check_values.specs.Returns.{return_sort}
-use Rattle.py_check_targets.specs.Places.{Known, Way, setting_out, entering, meeting}
-use Rattle.py_check_targets.specs.Views.{known_at, boxed_act}
+use Rattle.py_check_places.specs.Places.{Known, Way, setting_out, entering, meeting}
+use Rattle.py_check_places.specs.Views.{known_at}
+use Rattle.py_check_targets.specs.Views.{boxed_act}
 use Rattle.py_check_flow.specs.Closed.{is_closed}
 use Rattle.py_check_statements.specs.Bodies.{block, block_after, branches, arms_after, guarded}
 use Rattle.py_check_statements.specs.Views.{boxed_stmt, guarded_seen, way}

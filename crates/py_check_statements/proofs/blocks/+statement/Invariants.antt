@@ -5,8 +5,8 @@ use Rattle.py_typed.specs.Statements.{typed_stmt, typed_arm}
 use Rattle.py_check_context.specs.Context.{context}
 use Rattle.py_check_messages.proofs.RowLemmas.{Remains}
 use Rattle.py_check_values.specs.Returns.{return_sort}
-use Rattle.py_check_targets.specs.Places.{setting_out}
-use Rattle.py_check_targets.specs.Views.{known_at}
+use Rattle.py_check_places.specs.Places.{setting_out}
+use Rattle.py_check_places.specs.Views.{known_at}
 use Rattle.py_check_statements.specs.Bodies.{block, block_after, branches, arms_after}
 use Rattle.py_check_statements.specs.Views.{way}
 use denote.Param.Weighed.{most}

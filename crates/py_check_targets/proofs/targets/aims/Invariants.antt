@@ -2,9 +2,10 @@ use Rattle.std.proofs.Common.{map, drop}
 use Rattle.std.specs.Option.{option_map}
 use Rattle.py_check_context.specs.Context.{context}
 use Rattle.py_check_messages.proofs.RowLemmas.{Remains}
-use Rattle.py_check_targets.specs.Places.{with_names}
+use Rattle.py_check_places.specs.Places.{with_names}
 use Rattle.py_check_targets.specs.Targets.{aims}
-use Rattle.py_check_targets.specs.Views.{known_at, aim_seen, trees}
+use Rattle.py_check_places.specs.Views.{known_at, trees}
+use Rattle.py_check_targets.specs.Views.{aim_seen}
 use Rattle.py_check_targets.proofs.targets.aims.Given as goal
 
 abbrev pub invariant-loop-e : goal.invariant-loop-e

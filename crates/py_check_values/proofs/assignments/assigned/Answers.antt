@@ -2,7 +2,7 @@ use Rattle.std.proofs.Common.{rules, ◌≡◌, true, false, map}
 use Rattle.py_typed.specs.Sorts.{sort}
 use Rattle.py_typed.specs.Classes.{class_entry}
 use Rattle.py_check_messages.specs.Seen.{Finds}
-use Rattle.py_check_operators.specs.Boxes.{boxed}
+use Rattle.py_check_coercions.specs.Boxes.{boxed}
 use Rattle.py_check_values.specs.Slots.{slot_sort}
 use Rattle.py_check_values.specs.Assignments.{binding_fault, as_bound}
 use Rattle.py_check_values.proofs.BoundLemmas.{refused, given}

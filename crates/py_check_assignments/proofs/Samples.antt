@@ -1,0 +1,102 @@
+-- Assignments, typed by computing: what is said of each, and what is known behind it.
+use Rattle.std.proofs.Common.{◌≡◌, refl, ℕ, pos, List, [], ◌∷◌, codes, Some, None}
+use Rattle.std.specs.Prelude.{unwrap_or}
+use Rattle.std.specs.Map.{lookup}
+use Rattle.std.specs.Str.{bytes_eq}
+use Rattle.py_syntax.specs.declared.token.Span.{Span}
+use Rattle.py_syntax.specs.Expressions as tree
+use Rattle.py_syntax.specs.Expressions.{ExprTree, at, no_exprs, expr_then}
+use Rattle.py_syntax_diagnostics.specs.declared.diagnostic.Diag.{Diag}
+use Rattle.py_typed.specs.Sorts as sort
+use Rattle.py_typed.specs.Sorts.{no_sorts, sort_then}
+use Rattle.py_check_context.specs.declared.scope.Meaning.{Meaning}
+use Rattle.py_check_context.specs.declared.scope.Meaning.TheVariants as meaning
+use Rattle.py_check_context.specs.declared.scope.Builtin.TheVariants as builtin
+use Rattle.py_check_context.specs.Context.{Context, unset, untyped, has}
+use Rattle.py_check_messages.specs.Seen.{diag}
+use Rattle.py_check_messages.specs.Messages.{no_target, already_defined, wrong_assignment}
+use Rattle.py_check_places.specs.Places.{Known}
+use Rattle.py_check_assignments.specs.Assignments.{assigns, binds, annotates, binds_annotated}
+
+abbrev p : Span
+p = record { line = 1; col = 1 }
+
+-- in a function f(x: Optional[int], w: tuple[int, str]) with two more names of its own, of which z is of no type for good
+abbrev names : List (List ℕ × Meaning)
+names =
+    (codes "x", meaning.Local 0) ∷ (codes "w", meaning.Local 1) ∷ (codes "y", meaning.Local 2) ∷ (codes "z", meaning.Local 3)
+    ∷ (codes "int", meaning.Builtin builtin.Int) ∷ []
+
+abbrev c : Context
+c = record {
+  meaning = λ x. unwrap_or (lookup (bytes_eq x) names) meaning.Unknown;
+  signatures = [];
+  classes = [];
+}
+
+abbrev start : Known
+start = record {
+  types = record {
+    locals = has (sort.Optional sort.Int) ∷ has (sort.TupleOf (sort_then sort.Int (sort_then sort.Str no_sorts))) ∷ unset ∷ untyped ∷ [];
+    globals = [];
+  };
+  locals_bound = 0 ∷ 1 ∷ [];
+  globals_bound = [];
+  names = 0 ∷ [];
+}
+
+abbrev name : List ℕ → ExprTree
+name x = at (tree.Name x) p
+
+abbrev one : ExprTree
+one = at (tree.Int (pos 1)) p
+
+abbrev nothing : ExprTree
+nothing = at tree.Nothing p
+
+abbrev pair : ExprTree → ExprTree → ExprTree
+pair a b = at (tree.TupleOf (expr_then a (expr_then b no_exprs))) p
+
+abbrev says : ExprTree → ExprTree → List Diag
+says target e = (assigns c start p target e).said
+
+abbrev behind : ExprTree → ExprTree → Known
+behind target e = binds c start p target e
+
+-- `y, y = w`: the second part does not fit the first
+twice : says (pair (name (codes "y")) (name (codes "y"))) (name (codes "w")) ≡ diag p (wrong_assignment [] sort.Str sort.Int) ∷ []
+twice = refl
+
+-- `(x, (y, y)) = w`: no tuple in a tuple
+nested : says (pair (name (codes "x")) (pair (name (codes "y")) (name (codes "y")))) (name (codes "w")) ≡ diag p no_target ∷ []
+nested = refl
+
+-- `1 = 1`
+no_name : says one one ≡ diag p no_target ∷ []
+no_name = refl
+
+-- `z = 1`, where z has no type
+silent : says (name (codes "z")) one ≡ []
+silent = refl
+
+-- behind `x = None` it may be None
+forgotten : (behind (name (codes "x")) nothing).names ≡ []
+forgotten = refl
+
+-- behind `y = 1` it is an int; behind `y = None` it has no type for good
+typed : (behind (name (codes "y")) one).types.locals ≡ has (sort.Optional sort.Int) ∷ has (sort.TupleOf (sort_then sort.Int (sort_then sort.Str no_sorts))) ∷ has sort.Int ∷ untyped ∷ []
+typed = refl
+
+refused : (behind (name (codes "y")) nothing).types.locals ≡ has (sort.Optional sort.Int) ∷ has (sort.TupleOf (sort_then sort.Int (sort_then sort.Str no_sorts))) ∷ untyped ∷ untyped ∷ []
+refused = refl
+
+-- `x: int = 1` behind a parameter, and `1: int`
+annotated_again : (annotates c start p (Some (codes "x")) (name (codes "x")) (name (codes "int")) (Some one)).said ≡ diag p (already_defined (codes "x")) ∷ []
+annotated_again = refl
+
+annotated_number : (annotates c start p None one (name (codes "int")) None).said ≡ diag p no_target ∷ []
+annotated_number = refl
+
+-- behind `x: int` nothing is known of x
+declared_again : (binds_annotated c start p (Some (codes "x")) (name (codes "x")) (name (codes "int")) None).names ≡ []
+declared_again = refl

@@ -1,0 +1,92 @@
+-- Assignments, with an annotation or with an operation, and what they bind (Python Language Reference, "Assignment statements";
+-- PEP 526).
+--
+-- All names of a target are bound, whether the whole holds or is refused. A value is asked for what its targets ask for.
+use Rattle.std.specs.Prelude.{ℕ, Bool, false, List, length, Option, Some, None, is_some, if◌then◌else◌}
+use Rattle.std.specs.Option.{option_map}
+use Rattle.py_syntax.specs.declared.token.Span.{Span}
+use Rattle.py_syntax.specs.declared.expression.BinOp.{BinOp}
+use Rattle.py_syntax.specs.Expressions.{ExprTree}
+use Rattle.py_typed.specs.Sorts as sort
+use Rattle.py_typed.specs.Sorts.{Sort}
+use Rattle.py_typed.specs.Expressions.{TypedExpr, type_of}
+use Rattle.py_typed.specs.Statements.{TypedAct}
+use Rattle.py_check_context.specs.Context.{Context, VarSort, has, Wanted, free, wants}
+use Rattle.py_check_flow.specs.Bindings.{name_in}
+use Rattle.py_check_messages.specs.Seen.{Seen, fails, both, behind, rule}
+use Rattle.py_check_messages.specs.Messages.{no_target}
+use Rattle.py_check_annotations.specs.Annotations.{annotation}
+use Rattle.py_check_coercions.specs.Several.{with_part}
+use Rattle.py_check_places.specs.Places.{Known, variable_at, is_bound, bind_names}
+use Rattle.py_check_places.specs.Shapes.{leaves, target_names, is_row, is_item, parts_of}
+use Rattle.py_check_targets.specs.Targets.{Aim, aims, asked_by, assigned, declared, given, updated, name_aim, read_aim, seen_aim, typed_at}
+
+-- what a variable asks of its value
+abbrev pub asked : VarSort → Wanted
+asked (has t) = wants t
+asked v = free
+
+module _ (c : Context) where
+  -- ---- assignments
+
+  -- the value that is assigned
+  abbrev pub value_for : Known → ExprTree → ExprTree → Seen TypedExpr
+  value_for k target e = typed_at c k (asked_by (is_row target) (target_aims k target).got) e
+
+  abbrev pub assigns : Known → Span → ExprTree → ExprTree → Seen TypedAct
+  assigns k span target e = rule span (assigned c.classes target) (both (target_aims k target) (value_for k target e))
+
+  abbrev pub binds : Known → Span → ExprTree → ExprTree → Known
+  binds k span target e = bind_target (is_some (assigns k span target e).got) k target (option_map type_of (value_for k target e).got)
+
+  -- ---- assignments with an annotation
+
+  abbrev pub declares : Known → Span → List ℕ → ExprTree → Seen TypedAct
+  declares k span x mark =
+      rule span (declared x (is_bound k (c.meaning x))) (both (seen_aim (name_aim k x (c.meaning x))) (annotation c.meaning mark))
+
+  abbrev pub annotated_value : Known → List ℕ → ExprTree → Seen TypedExpr
+  annotated_value k x e = typed_at c k (asked (variable_at k (c.meaning x))) e
+
+  abbrev pub gives_value : Known → Span → List ℕ → ExprTree → ExprTree → Seen TypedAct
+  gives_value k span x mark e =
+      rule span (given c.classes x (is_bound k (c.meaning x)))
+      (both (both (seen_aim (name_aim k x (c.meaning x))) (annotation c.meaning mark)) (annotated_value k x e))
+
+  abbrev pub annotates_name : Known → Span → List ℕ → ExprTree → Option ExprTree → Seen TypedAct
+  annotates_name k span x mark None = declares k span x mark
+  annotates_name k span x mark (Some e) = gives_value k span x mark e
+
+  -- what is no name has no annotation
+  abbrev pub annotates_other : Known → Span → ExprTree → ExprTree → Option ExprTree → Seen TypedAct
+  annotates_other k span target mark None =
+      behind (both (target_aims k target) (annotation c.meaning mark)) (λ p. with_part p (λ q. fails span no_target))
+  annotates_other k span target mark (Some e) =
+      behind (both (both (target_aims k target) (annotation c.meaning mark)) (typed_at c k free e)) (λ p. with_part p (λ q. fails span no_target))
+
+  abbrev pub annotates : Known → Span → Option (List ℕ) → ExprTree → ExprTree → Option ExprTree → Seen TypedAct
+  annotates k span (Some x) target mark e = annotates_name k span x mark e
+  annotates k span None target mark e = annotates_other k span target mark e
+
+  -- a name that gets no value is bound as by None: nothing is known of it
+  abbrev pub value_sort : Known → List ℕ → Option ExprTree → Option Sort
+  value_sort k x None = Some sort.Nothing
+  value_sort k x (Some e) = option_map type_of (annotated_value k x e).got
+
+  abbrev pub binds_annotated : Known → Span → Option (List ℕ) → ExprTree → ExprTree → Option ExprTree → Known
+  binds_annotated k span (Some x) target mark e =
+      bind_target (is_some (annotates_name k span x mark e).got) k target (value_sort k x e)
+  binds_annotated k span None target mark e = bind_target false k target None
+
+  -- ---- operations with assignment
+
+  abbrev pub updates_one : Known → Span → ExprTree → BinOp → ExprTree → Seen TypedAct
+  updates_one k span target op e =
+      rule span (updated c.classes span op (read_aim c k (name_in target) (is_item target))) (both (typed_at c k free target) (typed_at c k free e))
+
+  -- a tuple is not updated
+  abbrev pub updates_row : Known → Span → ExprTree → ExprTree → Seen TypedAct
+  updates_row k span target e = behind (both (target_aims k target) (typed_at c k free e)) (λ p. with_part p (λ q. fails span no_target))
+
+  abbrev pub updates : Known → Span → ExprTree → BinOp → ExprTree → Seen TypedAct
+  updates k span target op e = if is_row target then updates_row k span target e else updates_one k span target op e

@@ -1,0 +1,321 @@
+//! Assignments with an annotation.
+ghost use Rattle.std.specs.Prelude.{◌≡◌, [], ◌∷◌, ◌++◌, map, if◌then◌else◌, Some, None, IfOk};
+ghost use Rattle.std.specs.Option.{option_map, option_copied, option_zip};
+ghost use Rattle.py_syntax.specs.Expressions.{expr_tree};
+ghost use Rattle.py_syntax.specs.Statements.{maybe_expr};
+ghost use Rattle.py_typed.specs.Sorts.{sort};
+ghost use Rattle.py_typed.specs.Classes.{class_entry};
+ghost use Rattle.py_typed.specs.Expressions.{type_of};
+ghost use Rattle.py_check_context.specs.Context.{context, var_sort, var_of, wanted};
+ghost use Rattle.py_check_flow.specs.Bindings.{name_in};
+ghost use Rattle.py_check_messages.specs.Seen.{Tells, Finds, diag, ruled};
+ghost use Rattle.py_check_messages.specs.Messages as message;
+ghost use Rattle.py_check_coercions.specs.Boxes.{boxed};
+ghost use Rattle.py_check_places.specs.Places as places;
+ghost use Rattle.py_check_targets.specs.Targets as rule_of;
+ghost use Rattle.py_check_assignments.specs.Assignments as rules_of;
+ghost use Rattle.py_check_places.specs.Views.{known_at};
+ghost use Rattle.py_check_targets.specs.Views.{aim_seen, boxed_aim, boxed_act};
+
+use crate::assignments::{Assignment, act_of, put_target};
+use py_check_annotations::annotation;
+use py_check_context::{Meaning, Scope, VarType, Want, meaning_of};
+use py_check_messages::{already_defined, cannot_assign, no_target};
+use py_check_places::{Place, bind_target, name_in};
+use py_check_targets::{Aim, in_box, name_aim, slot_of, target_aims, typed_at, value_type};
+use py_check_values::assigned;
+use py_syntax::{Expr, Span};
+use py_syntax_diagnostics::Diag;
+use py_typed::{Classes, TExpr, TStmtKind, Ty};
+use std::alloc::Global;
+use value_core::{Many, Memory, Name};
+
+/// `target: mark`, or `target: mark = e`, and what is known behind it (PEP 526).
+pub fn annotate(
+    alloc: Global,
+    scope: &Scope<'_>,
+    place: &mut Place,
+    span: Span,
+    target: &Expr,
+    mark: &Expr,
+    e: &Option<Expr>,
+    faults: &mut Many<Diag>,
+) -> Result<Option<Box<TStmtKind>>, Memory>
+    ensures told { IfOk result (λ t. Tells boxed_act t faults.old faults.new (rules_of.annotates (context scope.now) (known_at place.old) span (name_in (expr_tree target.now)) (expr_tree target.now) (expr_tree mark.now) (maybe_expr e.now))) }
+    ensures known { IfOk result (λ t. known_at place.new ≡ rules_of.binds_annotated (context scope.now) (known_at place.old) span (name_in (expr_tree target.now)) (expr_tree target.now) (expr_tree mark.now) (maybe_expr e.now)) }
+{
+    match name_in(target) {
+        Some(x) => {
+            let Assignment { kind, value } = annotated_name(
+                alloc, scope, place, span, x, mark, e, faults,
+            )?;
+            bind_target(alloc, scope, place, kind.is_some(), target, value.as_ref())?;
+            Ok(kind)
+        }
+        None => {
+            annotates_other(alloc, scope, place, span, target, mark, e, faults)?;
+            bind_target(alloc, scope, place, false, target, None)?;
+            Ok(None)
+        }
+    }
+}
+
+// A name with its annotation, and a value if one is given.
+fn annotated_name(
+    alloc: Global,
+    scope: &Scope<'_>,
+    place: &Place,
+    span: Span,
+    x: &Name,
+    mark: &Expr,
+    e: &Option<Expr>,
+    faults: &mut Many<Diag>,
+) -> Result<Assignment, Memory>
+    ensures told { IfOk result (λ a. Tells boxed_act a.kind faults.old faults.new (rules_of.annotates_name (context scope.now) (known_at place.now) span x.now (expr_tree mark.now) (maybe_expr e.now))) }
+    ensures value { IfOk result (λ a. option_map sort a.value ≡ rules_of.value_sort (context scope.now) (known_at place.now) x.now (maybe_expr e.now)) }
+{
+    match e {
+        None => {
+            let kind = declares(alloc, scope, place, span, x, mark, faults)?;
+            Ok(Assignment {
+                kind,
+                value: Some(Ty::Nothing),
+            })
+        }
+        Some(e) => gives_value(alloc, scope, place, span, x, mark, e, faults),
+    }
+}
+
+fn declares(
+    alloc: Global,
+    scope: &Scope<'_>,
+    place: &Place,
+    span: Span,
+    x: &Name,
+    mark: &Expr,
+    faults: &mut Many<Diag>,
+) -> Result<Option<Box<TStmtKind>>, Memory>
+    ensures { IfOk result (λ t. Tells boxed_act t faults.old faults.new (rules_of.declares (context scope.now) (known_at place.now) span x.now (expr_tree mark.now))) }
+{
+    let meaning = meaning_of(scope, x);
+    let aim = named_aim(alloc, place, x, meaning)?;
+    let t = annotation(alloc, scope, mark, faults)?;
+    declared(
+        alloc,
+        span,
+        x,
+        is_bound(place, meaning),
+        aim,
+        t.as_ref(),
+        faults,
+    )
+}
+
+fn gives_value(
+    alloc: Global,
+    scope: &Scope<'_>,
+    place: &Place,
+    span: Span,
+    x: &Name,
+    mark: &Expr,
+    e: &Expr,
+    faults: &mut Many<Diag>,
+) -> Result<Assignment, Memory>
+    ensures told { IfOk result (λ a. Tells boxed_act a.kind faults.old faults.new (rules_of.gives_value (context scope.now) (known_at place.now) span x.now (expr_tree mark.now) (expr_tree e.now))) }
+    ensures value { IfOk result (λ a. option_map sort a.value ≡ option_map type_of (rules_of.annotated_value (context scope.now) (known_at place.now) x.now (expr_tree e.now)).got) }
+{
+    let meaning = meaning_of(scope, x);
+    let aim = named_aim(alloc, place, x, meaning)?;
+    let t = annotation(alloc, scope, mark, faults)?;
+    let e = typed_at(alloc, scope, place, asked_by(place, meaning), e, faults)?;
+    let value = value_type(alloc, &e)?;
+    let bound = is_bound(place, meaning);
+    let kind = given(
+        alloc,
+        scope.classes,
+        span,
+        x,
+        bound,
+        aim,
+        t.as_ref(),
+        e,
+        faults,
+    )?;
+    Ok(Assignment { kind, value })
+}
+
+// A name that is assigned to.
+fn named_aim<'a>(
+    alloc: Global,
+    place: &Place,
+    x: &'a Name,
+    meaning: Meaning,
+) -> Result<Option<Box<Aim<'a>>>, Memory>
+    ensures { IfOk result (λ a. option_map boxed_aim a ≡ rule_of.name_aim (known_at place.now) x.now meaning) }
+{
+    let a = name_aim(alloc, place, x, meaning)?;
+    in_box(alloc, a)
+}
+
+// Whether a name was bound before.
+fn is_bound(place: &Place, meaning: Meaning) -> bool
+    ensures { result ≡ places.is_bound (known_at place.now) meaning }
+{
+    match meaning {
+        Meaning::Local(i) => place.locals_bound.contains(&i),
+        Meaning::Global(i) => place.globals_bound.contains(&i),
+        _ => false,
+    }
+}
+
+// What a name asks of its value.
+fn asked_by(place: &Place, meaning: Meaning) -> Want<'_>
+    ensures { wanted result ≡ rules_of.asked (places.variable_at (known_at place.now) meaning) }
+{
+    match meaning {
+        Meaning::Local(i) => asked(place.types.locals.get(i)),
+        Meaning::Global(i) => asked(place.types.globals.get(i)),
+        _ => Want::Free,
+    }
+}
+
+fn asked(ty: Option<&VarType>) -> Want<'_>
+    ensures { wanted result ≡ rules_of.asked (var_of (option_map var_sort (option_copied ty.entry))) }
+{
+    match ty {
+        Some(VarType::Has(t)) => Want::Wants(t),
+        Some(VarType::Untyped) => Want::Free,
+        Some(VarType::Unset) => Want::Free,
+        None => Want::Free,
+    }
+}
+
+// A name with an annotation and no value.
+fn declared(
+    alloc: Global,
+    span: Span,
+    x: &Name,
+    bound: bool,
+    aim: Option<Box<Aim<'_>>>,
+    t: Option<&Ty>,
+    faults: &mut Many<Diag>,
+) -> Result<Option<Box<TStmtKind>>, Memory>
+    ensures { IfOk result (λ r. Tells boxed_act r faults.old faults.new (ruled span (rule_of.declared x.now bound) (option_zip (option_map boxed_aim aim.entry) (option_map sort (option_copied t.entry))))) }
+{
+    let Some(aim) = aim else {
+        return Ok(None);
+    };
+    let Some(_) = t else {
+        return Ok(None);
+    };
+    if !may_be_annotated(alloc, span, x, bound, &aim, faults)? {
+        return Ok(None);
+    }
+    let kind = Box::new(alloc, TStmtKind::Pass)?;
+    Ok(Some(kind))
+}
+
+// A name with an annotation and a value.
+fn given(
+    alloc: Global,
+    classes: &Classes,
+    span: Span,
+    x: &Name,
+    bound: bool,
+    aim: Option<Box<Aim<'_>>>,
+    t: Option<&Ty>,
+    e: Option<Box<TExpr>>,
+    faults: &mut Many<Diag>,
+) -> Result<Option<Box<TStmtKind>>, Memory>
+    ensures { IfOk result (λ r. Tells boxed_act r faults.old faults.new (ruled span (rule_of.given (map class_entry classes.now.list) x.now bound) (option_zip (option_zip (option_map boxed_aim aim.entry) (option_map sort (option_copied t.entry))) (option_map boxed e)))) }
+{
+    let Some(aim) = aim else {
+        return Ok(None);
+    };
+    let Some(_) = t else {
+        return Ok(None);
+    };
+    let Some(e) = e else {
+        return Ok(None);
+    };
+    if !may_be_annotated(alloc, span, x, bound, &aim, faults)? {
+        return Ok(None);
+    }
+    let e = assigned(alloc, classes, span, slot_of(&aim), Some(e), faults)?;
+    let mut targets = Many::new(alloc);
+    put_target(&mut targets, Box::into_inner(aim))?;
+    act_of(alloc, targets, e)
+}
+
+// Whether a name, which was bound before or not, may have an annotation; what is wrong is said.
+fn may_be_annotated(
+    alloc: Global,
+    span: Span,
+    x: &Name,
+    bound: bool,
+    aim: &Aim<'_>,
+    faults: &mut Many<Diag>,
+) -> Result<bool, Memory>
+    ensures { IfOk result (λ right. Finds right faults.old faults.new span (rule_of.annotation_fault x.now bound (aim_seen aim.now))) }
+{
+    match aim {
+        Aim::Barred(_) => {
+            cannot_assign(alloc, span, x.as_str(), faults)?;
+            Ok(false)
+        }
+        Aim::Held(_, _) => is_first(alloc, span, x, bound, faults),
+        Aim::First(_, _) => is_first(alloc, span, x, bound, faults),
+        Aim::Unwritten(_) => is_first(alloc, span, x, bound, faults),
+        Aim::Misplaced(_) => is_first(alloc, span, x, bound, faults),
+    }
+}
+
+fn is_first(
+    alloc: Global,
+    span: Span,
+    x: &Name,
+    bound: bool,
+    faults: &mut Many<Diag>,
+) -> Result<bool, Memory>
+    ensures { IfOk result (λ right. Finds right faults.old faults.new span (if bound then Some (message.already_defined x.now) else None)) }
+{
+    if bound {
+        already_defined(alloc, span, x.as_str(), faults)?;
+        return Ok(false);
+    }
+    Ok(true)
+}
+
+// What is no name has no annotation.
+fn annotates_other(
+    alloc: Global,
+    scope: &Scope<'_>,
+    place: &Place,
+    span: Span,
+    target: &Expr,
+    mark: &Expr,
+    e: &Option<Expr>,
+    faults: &mut Many<Diag>,
+) -> Result<(), Memory>
+    ensures { IfOk result (λ done. Tells boxed_act None faults.old faults.new (rules_of.annotates_other (context scope.now) (known_at place.now) span (expr_tree target.now) (expr_tree mark.now) (maybe_expr e.now))) }
+{
+    let placed = target_aims(alloc, scope, place, target, faults)?.is_some();
+    let marked = annotation(alloc, scope, mark, faults)?.is_some();
+    match e {
+        None => refuse(alloc, span, placed && marked, faults),
+        Some(e) => {
+            let e = typed_at(alloc, scope, place, Want::Free, e, faults)?;
+            refuse(alloc, span, placed && marked && e.is_some(), faults)
+        }
+    }
+}
+
+// It is said where all parts are typed.
+fn refuse(alloc: Global, span: Span, typed: bool, faults: &mut Many<Diag>) -> Result<(), Memory>
+    ensures { IfOk result (λ done. faults.new ≡ faults.old ++ (if typed then diag span message.no_target ∷ [] else [])) }
+{
+    if typed {
+        no_target(alloc, span, faults)?;
+    }
+    Ok(())
+}

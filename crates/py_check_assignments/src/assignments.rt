@@ -1,0 +1,247 @@
+//! Assignments.
+ghost use Rattle.std.specs.Prelude.{◌≡◌, ◌++◌, map, IfOk};
+ghost use Rattle.std.specs.List.{list_all};
+ghost use Rattle.std.specs.Option.{option_map, option_zip};
+ghost use Rattle.py_syntax.specs.Expressions.{expr_tree};
+ghost use Rattle.py_typed.specs.Sorts.{sort};
+ghost use Rattle.py_typed.specs.Classes.{class_entry};
+ghost use Rattle.py_typed.specs.Expressions.{type_of};
+ghost use Rattle.py_typed.specs.Statements as acts;
+ghost use Rattle.py_typed.specs.Statements.{typed_target};
+ghost use Rattle.py_check_context.specs.Context.{context};
+ghost use Rattle.py_check_messages.specs.Seen.{Tells, fails, judged, ruled};
+ghost use Rattle.py_check_messages.specs.Messages as message;
+ghost use Rattle.py_check_coercions.specs.Boxes.{boxed};
+ghost use Rattle.py_check_coercions.specs.Several.{unless};
+ghost use Rattle.py_check_targets.specs.Targets as rule_of;
+ghost use Rattle.py_check_targets.specs.Targets as rule_of;
+ghost use Rattle.py_check_assignments.specs.Assignments as rules_of;
+ghost use Rattle.py_check_places.specs.Views.{known_at};
+ghost use Rattle.py_check_targets.specs.Views.{aim_seen, boxed_act};
+
+use py_check_context::Scope;
+use py_check_messages::no_target;
+use py_check_places::{Place, bind_target, is_flat, is_row, leaves};
+use py_check_targets::{Aim, aims, binds_several, slot_of, target_aims, value_for, value_type};
+use py_check_values::assigned;
+use py_syntax::{Expr, Span};
+use py_syntax_diagnostics::Diag;
+use py_typed::{Classes, TExpr, TStmtKind, Target, Ty};
+use std::alloc::Global;
+use value_core::{Many, Memory};
+
+/// `target = e`, and what is known behind it (Python Language Reference, "Assignment statements").
+pub fn assign(
+    alloc: Global,
+    scope: &Scope<'_>,
+    place: &mut Place,
+    span: Span,
+    target: &Expr,
+    e: &Expr,
+    faults: &mut Many<Diag>,
+) -> Result<Option<Box<TStmtKind>>, Memory>
+    ensures told { IfOk result (λ t. Tells boxed_act t faults.old faults.new (rules_of.assigns (context scope.now) (known_at place.old) span (expr_tree target.now) (expr_tree e.now))) }
+    ensures known { IfOk result (λ t. known_at place.new ≡ rules_of.binds (context scope.now) (known_at place.old) span (expr_tree target.now) (expr_tree e.now)) }
+{
+    let Assignment { kind, value } = typed_assignment(
+        alloc, scope, place, span, target, e, faults,
+    )?;
+    bind_target(alloc, scope, place, kind.is_some(), target, value.as_ref())?;
+    Ok(kind)
+}
+
+/// A statement that assigns, where it holds, and the type of its value, where that has one.
+#[derive(Drop)]
+pub(crate) struct Assignment {
+    pub(crate) kind: Option<Box<TStmtKind>>,
+    pub(crate) value: Option<Ty>,
+}
+
+// The statement, before its names are bound.
+fn typed_assignment(
+    alloc: Global,
+    scope: &Scope<'_>,
+    place: &Place,
+    span: Span,
+    target: &Expr,
+    e: &Expr,
+    faults: &mut Many<Diag>,
+) -> Result<Assignment, Memory>
+    ensures told { IfOk result (λ a. Tells boxed_act a.kind faults.old faults.new (rules_of.assigns (context scope.now) (known_at place.now) span (expr_tree target.now) (expr_tree e.now))) }
+    ensures value { IfOk result (λ a. option_map sort a.value ≡ option_map type_of (rules_of.value_for (context scope.now) (known_at place.now) (expr_tree target.now) (expr_tree e.now)).got) }
+{
+    let aims = target_aims(alloc, scope, place, target, faults)?;
+    let e = value_for(alloc, scope, place, is_row(target), &aims, e, faults)?;
+    let value = value_type(alloc, &e)?;
+    let kind = assigned_to(alloc, scope.classes, span, target, aims, e, faults)?;
+    Ok(Assignment { kind, value })
+}
+
+// A value that is assigned to these targets.
+fn assigned_to(
+    alloc: Global,
+    classes: &Classes,
+    span: Span,
+    target: &Expr,
+    aims: Option<Many<Aim<'_>>>,
+    e: Option<Box<TExpr>>,
+    faults: &mut Many<Diag>,
+) -> Result<Option<Box<TStmtKind>>, Memory>
+    ensures { IfOk result (λ t. Tells boxed_act t faults.old faults.new (ruled span (rule_of.assigned (map class_entry classes.now.list) (expr_tree target.now)) (option_zip (option_map (map aim_seen) aims.entry) (option_map boxed e)))) }
+{
+    let Some(aims) = aims else {
+        return Ok(None);
+    };
+    let Some(e) = e else {
+        return Ok(None);
+    };
+    if !are_placed(is_flat(target), aims.as_slice()) {
+        no_target(alloc, span, faults)?;
+        return Ok(None);
+    }
+    let e = value_assigned(
+        alloc,
+        classes,
+        span,
+        is_row(target),
+        aims.as_slice(),
+        e,
+        faults,
+    )?;
+    let targets = targets_of(alloc, aims)?;
+    act_of(alloc, targets, e)
+}
+
+// Whether targets can be assigned to.
+fn are_placed(flat: bool, aims: &[Aim<'_>]) -> bool
+    ensures { result ≡ rule_of.are_placed flat (map aim_seen aims.now) }
+{
+    flat && all_placed(aims)
+}
+
+fn all_placed(aims: &[Aim<'_>]) -> bool
+    ensures { result ≡ list_all rule_of.is_placed (map aim_seen aims.now) }
+{
+    for a in aims {
+        if !is_placed(a) {
+            return false;
+        }
+    }
+    true
+}
+
+fn is_placed(a: &Aim<'_>) -> bool
+    ensures { result ≡ rule_of.is_placed (aim_seen a.now) }
+{
+    match a {
+        Aim::Misplaced(_) => false,
+        Aim::Held(_, _) => true,
+        Aim::First(_, _) => true,
+        Aim::Barred(_) => true,
+        Aim::Unwritten(_) => true,
+    }
+}
+
+// The value as it is assigned.
+fn value_assigned(
+    alloc: Global,
+    classes: &Classes,
+    span: Span,
+    several: bool,
+    aims: &[Aim<'_>],
+    e: Box<TExpr>,
+    faults: &mut Many<Diag>,
+) -> Result<Option<Box<TExpr>>, Memory>
+    ensures { IfOk result (λ t. Tells boxed t faults.old faults.new (judged span (rule_of.value_assigned (map class_entry classes.now.list) several (map aim_seen aims.now) (boxed e)))) }
+{
+    if several {
+        unpacked(alloc, classes, span, aims, e, faults)
+    } else {
+        one_assigned(alloc, classes, span, aims, e, faults)
+    }
+}
+
+fn unpacked(
+    alloc: Global,
+    classes: &Classes,
+    span: Span,
+    aims: &[Aim<'_>],
+    e: Box<TExpr>,
+    faults: &mut Many<Diag>,
+) -> Result<Option<Box<TExpr>>, Memory>
+    ensures { IfOk result (λ t. Tells boxed t faults.old faults.new (judged span (unless (rule_of.several_fault (map class_entry classes.now.list) (map aim_seen aims.now) (type_of (boxed e))) (boxed e)))) }
+{
+    if !binds_several(alloc, classes, span, aims, &e.ty, faults)? {
+        return Ok(None);
+    }
+    Ok(Some(e))
+}
+
+fn one_assigned(
+    alloc: Global,
+    classes: &Classes,
+    span: Span,
+    aims: &[Aim<'_>],
+    e: Box<TExpr>,
+    faults: &mut Many<Diag>,
+) -> Result<Option<Box<TExpr>>, Memory>
+    ensures { IfOk result (λ t. Tells boxed t faults.old faults.new (judged span (rule_of.one_assigned (map class_entry classes.now.list) (map aim_seen aims.now) (boxed e)))) }
+{
+    match aims {
+        [a] => assigned(alloc, classes, span, slot_of(a), Some(e), faults),
+        [] => not_single(alloc, span, faults),
+        [_, _, ..] => not_single(alloc, span, faults),
+    }
+}
+
+fn not_single(
+    alloc: Global,
+    span: Span,
+    faults: &mut Many<Diag>,
+) -> Result<Option<Box<TExpr>>, Memory>
+    ensures { IfOk result (λ t. Tells boxed t faults.old faults.new (fails span message.no_target)) }
+{
+    no_target(alloc, span, faults)?;
+    Ok(None)
+}
+
+// The targets that are written.
+fn targets_of(alloc: Global, aims: Many<Aim<'_>>) -> Result<Many<Target>, Memory>
+    ensures { IfOk result (λ targets. map typed_target targets ≡ rule_of.targets_of (map aim_seen aims.entry)) }
+{
+    let mut targets = Many::new(alloc);
+    let mut rest = aims.into_vec();
+    rest.reverse();
+    while let Some(a) = rest.pop() {
+        put_target(&mut targets, a)?;
+    }
+    Ok(targets)
+}
+
+/// Puts the target that is written, if it is one, behind those that there are.
+pub(crate) fn put_target(targets: &mut Many<Target>, a: Aim<'_>) -> Result<(), Memory>
+    ensures { IfOk result (λ done. map typed_target targets.new ≡ map typed_target targets.old ++ rule_of.target_of (aim_seen a.entry)) }
+{
+    match a {
+        Aim::Held(target, _) => targets.push(target),
+        Aim::First(target, _) => targets.push(target),
+        Aim::Barred(_) => Ok(()),
+        Aim::Unwritten(_) => Ok(()),
+        Aim::Misplaced(_) => Ok(()),
+    }
+}
+
+/// The assignment of a value to these targets.
+pub(crate) fn act_of(
+    alloc: Global,
+    targets: Many<Target>,
+    e: Option<Box<TExpr>>,
+) -> Result<Option<Box<TStmtKind>>, Memory>
+    ensures { IfOk result (λ t. option_map boxed_act t ≡ option_map (acts.Assign (map typed_target targets)) (option_map boxed e)) }
+{
+    let Some(e) = e else {
+        return Ok(None);
+    };
+    let kind = Box::new(alloc, TStmtKind::Assign(targets, Box::into_inner(e)))?;
+    Ok(Some(kind))
+}

@@ -1,0 +1,281 @@
+//! Operations with assignment.
+ghost use Rattle.std.specs.Prelude.{◌≡◌, false, map, None, Some, unwrap_or, IfOk};
+ghost use Rattle.std.specs.Option.{option_copied, option_map, option_zip};
+ghost use Rattle.py_syntax.specs.Expressions.{expr_tree};
+ghost use Rattle.py_typed.specs.Sorts.{sort};
+ghost use Rattle.py_typed.specs.Classes.{class_entry};
+ghost use Rattle.py_typed.specs.Expressions.{type_of};
+ghost use Rattle.py_typed.specs.Statements as acts;
+ghost use Rattle.py_typed.specs.Statements.{TypedAct, typed_target};
+ghost use Rattle.py_check_context.specs.Context.{context};
+ghost use Rattle.py_check_flow.specs.Bindings as bindings;
+ghost use Rattle.py_check_messages.specs.Seen.{Tells, fails, judged, ruled};
+ghost use Rattle.py_check_messages.specs.Messages as message;
+ghost use Rattle.py_check_coercions.specs.Boxes.{boxed};
+ghost use Rattle.py_check_coercions.specs.Several.{with_part};
+ghost use Rattle.py_check_operators.specs.Operators as operators;
+ghost use Rattle.py_check_places.specs.Shapes as shapes;
+ghost use Rattle.py_check_targets.specs.Targets as targets;
+ghost use Rattle.py_check_places.specs.Shapes as shapes;
+ghost use Rattle.py_check_assignments.specs.Assignments as rules_of;
+ghost use Rattle.py_check_places.specs.Views.{known_at};
+ghost use Rattle.py_check_targets.specs.Views.{aim_seen, boxed_aim, boxed_act};
+ghost use Rattle.py_check_assignments.specs.Views.{boxed_sort};
+
+use py_check_context::{Meaning, Scope, Want, meaning_of};
+use py_check_messages::no_target;
+use py_check_operators::arithmetic_type;
+use py_check_places::{Place, bind_target, is_item, is_row, name_in};
+use py_check_targets::{Aim, name_aim, slot_of, target_aims, typed_at, value_aim};
+use py_check_values::binds;
+use py_syntax::{BinOp, Expr, Span};
+use py_syntax_diagnostics::Diag;
+use py_typed::{Classes, TExpr, TStmtKind, Target, Ty};
+use std::alloc::Global;
+use value_core::{Many, Memory, Name};
+
+/// `target op= e`, and what is known behind it (Python Language Reference, "Augmented assignment statements").
+pub fn update(
+    alloc: Global,
+    scope: &Scope<'_>,
+    place: &mut Place,
+    span: Span,
+    target: &Expr,
+    op: BinOp,
+    e: &Expr,
+    faults: &mut Many<Diag>,
+) -> Result<Option<Box<TStmtKind>>, Memory>
+    ensures told { IfOk result (λ t. Tells boxed_act t faults.old faults.new (rules_of.updates (context scope.now) (known_at place.old) span (expr_tree target.now) op (expr_tree e.now))) }
+    ensures known { IfOk result (λ t. known_at place.new ≡ shapes.bind_target (context scope.now) false (known_at place.old) (expr_tree target.now) None) }
+{
+    let kind = updated(alloc, scope, place, span, target, op, e, faults)?;
+    bind_target(alloc, scope, place, false, target, None)?;
+    Ok(kind)
+}
+
+// The same at a place that stays.
+fn updated(
+    alloc: Global,
+    scope: &Scope<'_>,
+    place: &Place,
+    span: Span,
+    target: &Expr,
+    op: BinOp,
+    e: &Expr,
+    faults: &mut Many<Diag>,
+) -> Result<Option<Box<TStmtKind>>, Memory>
+    ensures { IfOk result (λ t. Tells boxed_act t faults.old faults.new (rules_of.updates (context scope.now) (known_at place.now) span (expr_tree target.now) op (expr_tree e.now))) }
+{
+    if is_row(target) {
+        update_row(alloc, scope, place, span, target, e, faults)
+    } else {
+        update_one(alloc, scope, place, span, target, op, e, faults)
+    }
+}
+
+// A tuple or a list is not updated.
+fn update_row(
+    alloc: Global,
+    scope: &Scope<'_>,
+    place: &Place,
+    span: Span,
+    target: &Expr,
+    e: &Expr,
+    faults: &mut Many<Diag>,
+) -> Result<Option<Box<TStmtKind>>, Memory>
+    ensures { IfOk result (λ t. Tells boxed_act t faults.old faults.new (rules_of.updates_row (context scope.now) (known_at place.now) span (expr_tree target.now) (expr_tree e.now))) }
+{
+    let aims = target_aims(alloc, scope, place, target, faults)?;
+    let e = typed_at(alloc, scope, place, Want::Free, e, faults)?;
+    row_refused(alloc, span, aims, e, faults)
+}
+
+fn row_refused(
+    alloc: Global,
+    span: Span,
+    aims: Option<Many<Aim<'_>>>,
+    e: Option<Box<TExpr>>,
+    faults: &mut Many<Diag>,
+) -> Result<Option<Box<TStmtKind>>, Memory>
+    ensures { IfOk result (λ t. Tells boxed_act t faults.old faults.new (with_part (option_zip (option_map (map aim_seen) aims.entry) (option_map boxed e)) (λ p. fails {A = TypedAct} span message.no_target))) }
+{
+    if aims.is_some() && e.is_some() {
+        return refused(alloc, span, faults);
+    }
+    Ok(None)
+}
+
+// A single target.
+fn update_one(
+    alloc: Global,
+    scope: &Scope<'_>,
+    place: &Place,
+    span: Span,
+    target: &Expr,
+    op: BinOp,
+    e: &Expr,
+    faults: &mut Many<Diag>,
+) -> Result<Option<Box<TStmtKind>>, Memory>
+    ensures { IfOk result (λ t. Tells boxed_act t faults.old faults.new (rules_of.updates_one (context scope.now) (known_at place.now) span (expr_tree target.now) op (expr_tree e.now))) }
+{
+    let read = typed_at(alloc, scope, place, Want::Free, target, faults)?;
+    let e = typed_at(alloc, scope, place, Want::Free, e, faults)?;
+    operation(alloc, scope, place, span, target, op, read, e, faults)
+}
+
+// The operation on a target that was read, and its operand.
+fn operation(
+    alloc: Global,
+    scope: &Scope<'_>,
+    place: &Place,
+    span: Span,
+    target: &Expr,
+    op: BinOp,
+    read: Option<Box<TExpr>>,
+    e: Option<Box<TExpr>>,
+    faults: &mut Many<Diag>,
+) -> Result<Option<Box<TStmtKind>>, Memory>
+    ensures { IfOk result (λ t. Tells boxed_act t faults.old faults.new (ruled span (targets.updated (context scope.now).classes span op (targets.read_aim (context scope.now) (known_at place.now) (bindings.name_in (expr_tree target.now)) (shapes.is_item (expr_tree target.now)))) (option_zip (option_map boxed read) (option_map boxed e)))) }
+{
+    let Some(read) = read else {
+        return Ok(None);
+    };
+    let Some(e) = e else {
+        return Ok(None);
+    };
+    let classes = scope.classes;
+    let Some(ty) = result_type(alloc, classes, span, op, &read.ty, &e.ty, faults)? else {
+        return Ok(None);
+    };
+    let aim = read_aim(alloc, scope, place, target, read)?;
+    updated_to(alloc, classes, span, aim, op, e, ty, faults)
+}
+
+// The type of the operation's result.
+fn result_type(
+    alloc: Global,
+    classes: &Classes,
+    span: Span,
+    op: BinOp,
+    s: &Ty,
+    t: &Ty,
+    faults: &mut Many<Diag>,
+) -> Result<Option<Box<Ty>>, Memory>
+    ensures { IfOk result (λ r. Tells boxed_sort r faults.old faults.new (judged span (operators.arithmetic_type (map class_entry classes.now.list) op (sort s.now) (sort t.now)))) }
+{
+    let Some(ty) = arithmetic_type(alloc, classes, span, op, s, t, faults)? else {
+        return Ok(None);
+    };
+    Ok(Some(Box::new(alloc, ty)?))
+}
+
+// What a target that was read is to an assignment.
+fn read_aim<'a>(
+    alloc: Global,
+    scope: &Scope<'_>,
+    place: &Place,
+    target: &'a Expr,
+    read: Box<TExpr>,
+) -> Result<Box<Aim<'a>>, Memory>
+    ensures { IfOk result (λ a. boxed_aim a ≡ targets.read_aim (context scope.now) (known_at place.now) (bindings.name_in (expr_tree target.now)) (shapes.is_item (expr_tree target.now)) (boxed read)) }
+{
+    match name_in(target) {
+        Some(x) => read_name(alloc, place, x, meaning_of(scope, x), read),
+        None => in_box(alloc, value_aim(is_item(target), read)),
+    }
+}
+
+fn read_name<'a>(
+    alloc: Global,
+    place: &Place,
+    x: &'a Name,
+    meaning: Meaning,
+    read: Box<TExpr>,
+) -> Result<Box<Aim<'a>>, Memory>
+    ensures { IfOk result (λ a. boxed_aim a ≡ unwrap_or (targets.name_aim (known_at place.now) x.now meaning) (targets.misplaced (type_of (boxed read)))) }
+{
+    match name_aim(alloc, place, x, meaning)? {
+        Some(aim) => in_box(alloc, aim),
+        None => in_box(alloc, value_aim(false, read)),
+    }
+}
+
+fn in_box<'a>(alloc: Global, aim: Aim<'a>) -> Result<Box<Aim<'a>>, Memory>
+    ensures { IfOk result (λ a. boxed_aim a ≡ aim_seen aim.entry) }
+{
+    Ok(Box::new(alloc, aim)?)
+}
+
+// The operation's result, of this type, is assigned to a target.
+fn updated_to(
+    alloc: Global,
+    classes: &Classes,
+    span: Span,
+    aim: Box<Aim<'_>>,
+    op: BinOp,
+    e: Box<TExpr>,
+    ty: Box<Ty>,
+    faults: &mut Many<Diag>,
+) -> Result<Option<Box<TStmtKind>>, Memory>
+    ensures { IfOk result (λ t. Tells boxed_act t faults.old faults.new (judged span (targets.updated_to (map class_entry classes.now.list) (boxed_aim aim.entry) op (boxed e) (boxed_sort ty)))) }
+{
+    if !is_placed(&aim) {
+        return refused(alloc, span, faults);
+    }
+    if !binds(alloc, classes, span, slot_of(&aim), &ty, faults)? {
+        return Ok(None);
+    }
+    written_back(alloc, span, aim, op, e, ty, faults)
+}
+
+fn is_placed(a: &Aim<'_>) -> bool
+    ensures { result ≡ targets.is_placed (aim_seen a.now) }
+{
+    !matches!(a, Aim::Misplaced(_))
+}
+
+// To a target that the result may be bound to.
+fn written_back(
+    alloc: Global,
+    span: Span,
+    aim: Box<Aim<'_>>,
+    op: BinOp,
+    e: Box<TExpr>,
+    ty: Box<Ty>,
+    faults: &mut Many<Diag>,
+) -> Result<Option<Box<TStmtKind>>, Memory>
+    ensures { IfOk result (λ t. Tells boxed_act t faults.old faults.new (judged span (targets.written_back op (boxed e) (boxed_sort ty) None (targets.target_of (boxed_aim aim.entry))))) }
+{
+    match Box::into_inner(aim) {
+        Aim::Held(target, _) => augmented(alloc, target, op, e, ty),
+        Aim::First(target, _) => augmented(alloc, target, op, e, ty),
+        Aim::Barred(_) => refused(alloc, span, faults),
+        Aim::Unwritten(_) => refused(alloc, span, faults),
+        Aim::Misplaced(_) => refused(alloc, span, faults),
+    }
+}
+
+fn augmented(
+    alloc: Global,
+    target: Target,
+    op: BinOp,
+    e: Box<TExpr>,
+    ty: Box<Ty>,
+) -> Result<Option<Box<TStmtKind>>, Memory>
+    ensures { IfOk result (λ t. option_map boxed_act t ≡ Some (acts.Aug (typed_target target) op (boxed e) (boxed_sort ty))) }
+{
+    let e = Box::into_inner(e);
+    let kind = TStmtKind::Aug(target, op, e, Box::into_inner(ty));
+    Ok(Some(Box::new(alloc, kind)?))
+}
+
+fn refused(
+    alloc: Global,
+    span: Span,
+    faults: &mut Many<Diag>,
+) -> Result<Option<Box<TStmtKind>>, Memory>
+    ensures { IfOk result (λ t. Tells boxed_act t faults.old faults.new (fails {A = TypedAct} span message.no_target)) }
+{
+    no_target(alloc, span, faults)?;
+    Ok(None)
+}

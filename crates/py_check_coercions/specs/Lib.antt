@@ -1,0 +1,5 @@
+pub mod Boxes
+pub mod Several
+pub mod Values
+pub mod Rows
+pub mod Misfits

@@ -1,0 +1,5 @@
+pub mod Definitions
+pub mod Globals
+pub mod Starts
+pub mod Variables
+pub mod Views

@@ -1,0 +1,26 @@
+//! What all scopes of a module share.
+ghost use Rattle.std.specs.Prelude.{◌≡◌, [], map};
+ghost use Rattle.py_typed.specs.Classes.{class_entry};
+
+use py_check_names::Known;
+use py_typed::{Classes, Sig};
+use std::alloc::Global;
+use value_core::Many;
+
+/// What is known of names in a module, the signatures of its functions by their numbers, where they have one, and its classes.
+#[derive(Drop)]
+pub struct Environment<'a> {
+    pub known: &'a Known,
+    pub signatures: &'a [Option<Sig>],
+    pub classes: &'a Classes,
+}
+
+/// The classes that have a type: there are none yet.
+pub fn no_classes(alloc: Global) -> Classes
+    ensures { map class_entry result.list ≡ [] }
+{
+    Classes {
+        list: Many::new(alloc),
+        sigs: Many::new(alloc),
+    }
+}

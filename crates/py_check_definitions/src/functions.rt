@@ -1,0 +1,62 @@
+//! The functions of a module, each with its scope and its header.
+ghost use Rattle.std.specs.Prelude.{◌≡◌, ◌++◌, length, map, IfOk};
+ghost use Rattle.std.specs.List.{flat_map};
+ghost use Rattle.std.specs.Option.{option_map};
+ghost use Rattle.py_typed.specs.Classes.{signature};
+ghost use Rattle.py_check_context.specs.Context.{context};
+ghost use Rattle.py_check_names.specs.Walked.{func_trees};
+ghost use Rattle.py_check_signatures.specs.Headers as headers;
+ghost use Rattle.py_check_definitions.specs.Views.{headed_of, headed_all};
+
+use py_binder::Scope;
+use py_check_signatures::{Header, header_of, signature_of};
+use py_syntax::Func;
+use py_syntax_diagnostics::Diag;
+use py_typed::Sig;
+use std::alloc::Global;
+use value_core::{Many, Memory};
+
+/// A function with the names that are seen in it and with what its annotations give.
+#[derive(Drop)]
+pub struct Function<'a> {
+    pub tree: &'a Func,
+    pub inside: &'a Scope,
+    pub header: Header,
+}
+
+/// Functions with their scopes, one to one; their annotations are seen in the module's scope.
+pub fn functions_of<'a>(
+    alloc: Global,
+    scope: &py_check_context::Scope<'_>,
+    found: &[&'a Func],
+    insides: &'a [Scope],
+    faults: &mut Many<Diag>,
+) -> Result<Vec<Function<'a>>, Memory>
+    requires { length found.now ≡ length insides.now }
+    ensures functions { IfOk result (λ fs. map headed_of fs.items ≡ headed_all (context scope.now).meaning (func_trees found.now) insides.now) }
+    ensures told { IfOk result (λ fs. faults.new ≡ faults.old ++ flat_map (headers.header_said (context scope.now).meaning) (func_trees found.now)) }
+{
+    let mut functions = Vec::new(alloc);
+    for f in found {
+        let tree = *f;
+        let inside = &insides[functions.len()];
+        let header = header_of(alloc, scope, tree, faults)?;
+        functions.push(Function {
+            tree,
+            inside,
+            header,
+        })?;
+    }
+    Ok(functions)
+}
+
+/// The signatures of functions, by their numbers: some have none.
+pub fn signatures_of(alloc: Global, functions: &[Function<'_>]) -> Result<Vec<Option<Sig>>, Memory>
+    ensures { IfOk result (λ all. map (option_map signature) all.items ≡ map (λ f. headers.signature_of f.header) (map headed_of functions.now)) }
+{
+    let mut signatures = Vec::new(alloc);
+    for f in functions {
+        signatures.push(signature_of(alloc, &f.header)?)?;
+    }
+    Ok(signatures)
+}

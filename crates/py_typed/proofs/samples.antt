@@ -1,9 +1,0 @@
-pub mod Building
-mod Numbers
-mod Collections
-mod Objects
-mod Flows
-mod Inputs
-mod Stops
-mod Types
-mod Typing

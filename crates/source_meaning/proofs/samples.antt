@@ -1,0 +1,8 @@
+pub mod Building
+mod Numbers
+mod Collections
+mod Objects
+mod Flows
+mod Inputs
+mod Stops
+mod Typing
