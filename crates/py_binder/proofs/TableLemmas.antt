@@ -150,13 +150,6 @@ said_step said rest x old new all is put before k =
     ∙ ap (λ l. or_else (lookup (bytes_eq k) l) (old k)) (sym is)
     ∙ before k
 
-or_nothing : (o : Option Role) → or_else o None ≡ o
-or_nothing None = refl
-or_nothing (Some r) = refl
-
-pub said_start : (entries : List (List ℕ × Role)) → entries ≡ [] → (o : Option Role) (k : List ℕ) → or_else o (lookup (bytes_eq k) entries) ≡ o
-said_start entries none o k = ap (λ l. or_else o (lookup (bytes_eq k) l)) none ∙ or_nothing o
-
 -- a step of filling a set of names, and its end
 pub set_step : (ks ks2 xs all : List (List ℕ)) (i : ℕ) (x y : List ℕ) → i < length xs → x ≡ get_or xs i x → y ≡ x → ks2 ≡ insert_key bytes_eq ks y → insert_all bytes_eq ks (drop i xs) ≡ all → insert_all bytes_eq ks2 (drop (i + 1) xs) ≡ all
 set_step ks ks2 xs all i x y h at is put before =

@@ -41,41 +41,7 @@ keyed : (key : Option ExprTree) (e : ExprTree) (more : Arguments) → has_key (w
 keyed None e more = refl
 keyed (Some k) e more = refl
 
-same_some : {A B : Type 0} (f : A → B) (o : Option A) → is_some (option_map f o) ≡ is_some o
-same_some f None = refl
-same_some f (Some a) = refl
-
-pub key_step : (args : List Arg) (i : ℕ) (a : Arg) → i < length args → a ≡ get_or args i a → has_key (arguments_of (map arg_tree (drop i args))) ≡ (is_some (out-Arg a).key || has_key (arguments_of (map arg_tree (drop (i + 1) args))))
-key_step args i a h is =
-    let rest : ℕ → Arguments = λ k. arguments_of (map arg_tree (drop k args)) in
-    ap (λ l. has_key (arguments_of (map arg_tree l))) (drop-cons args i a h)
-    ∙ ap (λ (b : Arg). has_key (with_key (arg_tree b).key (arg_tree b).value (rest (suc i)))) (sym is)
-    ∙ keyed (arg_tree a).key (arg_tree a).value (rest (suc i))
-    ∙ ap (λ (t : ArgTree). is_some t.key || has_key (rest (suc i))) (arg_tree_at a)
-    ∙ ap (λ b. b || has_key (rest (suc i))) (same_some expr_tree (out-Arg a).key)
-    ∙ ap (λ k. is_some (out-Arg a).key || has_key (rest k)) (sym (add-one i))
-
-pub key_end : (args : List Arg) (i : ℕ) → length args ≤ i → has_key (arguments_of (map arg_tree (drop i args))) ≡ false
-key_end [] zero h = refl
-key_end [] (suc i) h = refl
-key_end (a ∷ args) zero h = absurd (omega arith)
-key_end (a ∷ args) (suc i) h = key_end args i (omega arith)
-
 -- ---- values that are not printable
-
-pub printable_step : (es : List TExpr) (i : ℕ) (e : TExpr) → i < length es → e ≡ get_or es i e → unprintable (i + 1) (map typed_expr (drop i es)) ≡ (if is_printable (sort e.ty) then unprintable (i + 1 + 1) (map typed_expr (drop (i + 1) es)) else Some (i + 1, sort e.ty))
-printable_step es i e h is =
-    ap (λ l. unprintable (i + 1) (map typed_expr l)) (drop-cons es i e h)
-    ∙ ap (λ (x : TExpr). if is_printable (type_of (typed_expr x)) then unprintable (suc (i + 1)) (map typed_expr (drop (suc i) es)) else Some (i + 1, type_of (typed_expr x))) (sym is)
-    ∙ ap (λ t. if is_printable t then unprintable (suc (i + 1)) (map typed_expr (drop (suc i) es)) else Some (i + 1, t)) (type_at e)
-    ∙ ap (λ k. if is_printable (sort e.ty) then unprintable k (map typed_expr (drop (suc i) es)) else Some (i + 1, sort e.ty)) (sym (add-one (i + 1)))
-    ∙ ap (λ k. if is_printable (sort e.ty) then unprintable (i + 1 + 1) (map typed_expr (drop k es)) else Some (i + 1, sort e.ty)) (sym (add-one i))
-
-pub printable_end : (es : List TExpr) (i k : ℕ) → length es ≤ i → unprintable k (map typed_expr (drop i es)) ≡ None
-printable_end [] zero k h = refl
-printable_end [] (suc i) k h = refl
-printable_end (e ∷ es) zero k h = absurd (omega arith)
-printable_end (e ∷ es) (suc i) k h = printable_end es i k (omega arith)
 
 -- ---- as many arguments as there are parameters
 

@@ -14,21 +14,6 @@ use Rattle.py_check_coercions.specs.Rows.{first_of, unfit_at, unfit, changed_row
 pub found_here : {A : Type 0} (x : A) (here behind whole : Option A) → Some x ≡ here → first_of here behind ≡ whole → Some x ≡ whole
 found_here x here behind whole is e = ap (λ o. first_of o behind) is ∙ e
 
-pub nothing_here : {A : Type 0} (here behind whole : Option A) → None ≡ here → first_of here behind ≡ whole → behind ≡ whole
-nothing_here here behind whole is e = ap (λ o. first_of o behind) is ∙ e
-
-pub unfit_step : (classes : List ClassEntry) (row : WantedRow) (es : List TExpr) (i : ℕ) (e : TExpr) → i < length es → e ≡ get_or es i e → first_of (unfit_at classes i (wanted_in row i) (typed_expr e)) (unfit classes row (i + 1) (map typed_expr (drop (i + 1) es))) ≡ unfit classes row i (map typed_expr (drop i es))
-unfit_step classes row es i e h is =
-    sym (ap (λ l. unfit classes row i (map typed_expr l)) (drop-cons es i e h)
-    ∙ ap (λ (x : TExpr). first_of (unfit_at classes i (wanted_in row i) (typed_expr x)) (unfit classes row (suc i) (map typed_expr (drop (suc i) es)))) (sym is)
-    ∙ ap (λ k. first_of (unfit_at classes i (wanted_in row i) (typed_expr e)) (unfit classes row k (map typed_expr (drop k es)))) (sym (add-one i)))
-
-pub unfit_end : (classes : List ClassEntry) (row : WantedRow) (es : List TExpr) (i k : ℕ) → length es ≤ i → unfit classes row k (map typed_expr (drop i es)) ≡ None
-unfit_end classes row [] zero k h = refl
-unfit_end classes row [] (suc i) k h = refl
-unfit_end classes row (e ∷ es) zero k h = absurd (omega arith)
-unfit_end classes row (e ∷ es) (suc i) k h = unfit_end classes row es i k (omega arith)
-
 -- ---- all of them changed
 
 -- the place behind so many

@@ -74,13 +74,6 @@ given_step given i p h at ks ks2 all y is put before =
     ∙ ap (insert_all bytes_eq ks) (sym (firsts_at given i p h at))
     ∙ before
 
--- what one statement gives and holds
-pub names_of_one : (x : StmtTree) (said : List (List ℕ × Meaning)) → said ≡ said_from 0 (x ∷ []) → map (λ q. q.0) said ≡ names_given x
-names_of_one x said e = ap (map (λ (q : List ℕ × Meaning). q.0)) (e ∙ append-nil (said_by 0 x))
-
-pub held_of_one : (x : StmtTree) (fs : List (Bor Func)) → func_trees fs ≡ flat_map held_by (x ∷ []) → length fs ≡ length (held_by x)
-held_of_one x fs e = sym (length-map fs (λ (f : Bor Func). func_tree f.now)) ∙ ap length (e ∙ append-nil (held_by x))
-
 -- ---- a step of the walk
 
 pub walk_step : (defs : List (Bor Stmt)) (i : ℕ) (x : Bor Stmt) → i < length defs → x ≡ get_or defs i x → (ks ks2 : List (List ℕ)) → ks2 ≡ insert_all bytes_eq ks (names_given (stmt_tree x.now)) → (fs fs2 : List Headed) → fs2 ≡ drop (length (held_by (stmt_tree x.now))) fs → (d1 d2 whole : List Diag) → d2 ≡ d1 ++ said_at ks fs (stmt_tree x.now) → d1 ++ said_along ks fs (trees (drop i defs)) ≡ whole → d2 ++ said_along ks2 fs2 (trees (drop (i + 1) defs)) ≡ whole

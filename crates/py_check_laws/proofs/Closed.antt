@@ -112,9 +112,6 @@ module _ (C : Context) where
   abbrev pub IsMarked : VarSorts → List Binding → Type 0
   IsMarked V bs = (x : List ℕ) (mark : ExprTree) → first_mark bs x ≡ Some (Some mark) → is_open V (C.meaning x) ≡ false
 
-  pub marked_on : (V W : VarSorts) → Follows V W → (bs : List Binding) → IsMarked V bs → IsMarked W bs
-  marked_on V W f bs h x mark e = open_follows V W (C.meaning x) f (h x mark e)
-
   front_found : (a b : List Binding) (x : List ℕ) (o : Option ExprTree) → first_mark a x ≡ Some o → first_mark (a ++ b) x ≡ Some o
   front_found [] b x o e = absurd (cc)
   front_found (y ∷ a) b x o e = by (bytes_eq x y.name) e (λ q. front_found a b x o q)

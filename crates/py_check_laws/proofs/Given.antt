@@ -19,10 +19,6 @@ pub some_of : {A : Type 0} (o : Option A) → is_some o ≡ true → (a : A) × 
 some_of None e = absurd (cc)
 some_of (Some a) e = (a, refl)
 
-pub is_some_of : {A : Type 0} (o : Option A) → (o ≡ None → ⊥) → is_some o ≡ true
-is_some_of None n = absurd (n refl)
-is_some_of (Some a) n = refl
-
 pub some_is : {A : Type 0} (o : Option A) (a : A) → o ≡ Some a → is_some o ≡ true
 some_is o a e = ap is_some e
 

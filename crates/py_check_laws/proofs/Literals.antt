@@ -63,13 +63,6 @@ is_whole sort.Int = true
 is_whole sort.I64 = true
 is_whole t = false
 
-literal_coerced : (s : Sort) (e : TypedExpr) → IsLiteral e → IsLiteral (coerced s e)
-literal_coerced s e h = by (is_same_type (type_of e) s) refl
-  where
-    by : (b : Bool) → is_same_type (type_of e) s ≡ b → IsLiteral (coerced s e)
-    by true q = subst (λ (b : Bool). IsLiteral (if b then e else typed (node.Coerce e) s (place_of e))) (sym q) h
-    by false q = subst (λ (b : Bool). IsLiteral (if b then e else typed (node.Coerce e) s (place_of e))) (sym q) (plain_literal (typed (node.Coerce e) s (place_of e)) (record { flag = refl; none = refl }))
-
 whole_not_bool : (s : Sort) → is_whole s ≡ true → s ≡ sort.Bool → ⊥
 whole_not_bool s h e = let clash : is_whole s ≡ false = ap is_whole e in let bad : true ≡ false = sym h ∙ clash in cc
 

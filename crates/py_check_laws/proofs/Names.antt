@@ -11,9 +11,6 @@ use Rattle.py_check_expressions_laws.proofs.Inside.{either, clash, filter_found,
 pub within_itself : (xs : List ℕ) → Within xs xs
 within_itself xs x e = e
 
-pub within_on : (xs ys zs : List ℕ) → Within xs ys → Within ys zs → Within xs zs
-within_on xs ys zs v w x e = w x (v x e)
-
 pub within_cons : (i : ℕ) (xs ys : List ℕ) → Within xs ys → Within (i ∷ xs) (i ∷ ys)
 within_cons i xs ys w x e = either (or_cases (i == x) (is_in xs x) e) (λ p. or_left (i == x) (is_in ys x) p) (λ p. or_right (i == x) (is_in ys x) (w x p))
 

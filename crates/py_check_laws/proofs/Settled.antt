@@ -139,9 +139,6 @@ module _ (C : Context) (n : ℕ) where
   name_valued k place same v e (Some x) (unwritten s) h t f value = absurd (cc)
   name_valued k place same v e (Some x) (misplaced s) h t f value = absurd (cc)
 
-  same_single : (a b : Aim) → a ∷ [] ≡ b ∷ [] → a ≡ b
-  same_single a b e = cc
-
   aims_single : (place : Known) (target : ExprTree) (l : List Aim) (a : Aim) → l ≡ a ∷ [] → leaves target ≡ target ∷ [] → AimsOf C place (leaves target) l → AimAt C place (name_in target) target a
   aims_single place target l a q p h = (subst (λ z. AimsOf C place z (a ∷ [])) p (subst (AimsOf C place (leaves target)) q h)).here
 

@@ -22,21 +22,11 @@ nothing_behind : {A : Type 0} → (front : Option (List A)) → appended front (
 nothing_behind None = refl
 nothing_behind (Some l) = ap Some (append-nil l)
 
-front_of_all : {A : Type 0} → (all : Option (List A)) → all ≡ appended (Some []) all
-front_of_all None = refl
-front_of_all (Some l) = refl
-
-pub row_start : {A : Type 0} → (old : List Diag) (whole : Seen (List A)) → Remains (Some []) old old whole whole
-row_start old whole = record { typed = front_of_all whole.got; told = refl }
-
 pub row_step : {A : Type 0} → (front : Option (List A)) (got : Option A) (old new newer : List Diag) (whole rest : Seen (List A)) (one : Seen A) → Remains front old new whole (row_then one rest) → got ≡ one.got → newer ≡ new ++ one.said → Remains (kept front got) old newer whole rest
 row_step front got old new newer whole rest one r is said = record {
   typed = r.typed ∙ step front one.got rest.got ∙ ap (λ o. appended (kept front o) rest.got) (sym is);
   told = r.told ∙ sym (append_assoc new one.said rest.said) ∙ ap (λ l. l ++ rest.said) (sym said);
 }
-
-pub row_done : {A : Type 0} → (front : Option (List A)) (old new : List Diag) (whole : Seen (List A)) → Remains front old new whole (is []) → (front ≡ whole.got) × (new ≡ old ++ whole.said)
-row_done front old new whole r = (sym (nothing_behind front) ∙ sym r.typed, sym (append-nil new) ∙ sym r.told)
 
 -- two parts and their rule, and three
 pub two_parts : {A B C X Y Z : Type 0} (span : Span) (f : A × B → Result C Message) (va : X → A) (vb : Y → B) (vc : Z → C) (s : Seen A) (t : Seen B) (a : Option X) (b : Option Y) (r : Option Z) (o0 o1 o2 o3 : List Diag) → Tells va a o0 o1 s → Tells vb b o1 o2 t → Tells vc r o2 o3 (ruled span f (option_zip (option_map va a) (option_map vb b))) → Tells vc r o0 o3 (rule span f (both s t))

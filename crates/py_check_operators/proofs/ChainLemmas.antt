@@ -19,9 +19,6 @@ pub record Stays (right : Bool) (old new : List Diag) (span : Span) (whole rest 
   pub found : (right && is_nothing_wrong rest) ≡ is_nothing_wrong whole
   pub told : old ++ map (diag span) whole ≡ new ++ map (diag span) rest
 
-pub stays_start : (old : List Diag) (span : Span) (whole : List Message) → Stays true old old span whole whole
-stays_start old span whole = record { found = refl; told = refl }
-
 both_right : (here rest : List Message) → is_nothing_wrong (here ++ rest) ≡ (is_nothing_wrong here && is_nothing_wrong rest)
 both_right [] rest = refl
 both_right (m ∷ here) rest = refl
@@ -45,10 +42,6 @@ alone : (b : Bool) → b ≡ (b && true)
 alone true = refl
 alone false = refl
 
-pub stays_done : (right : Bool) (old new : List Diag) (span : Span) (whole rest : List Message) → rest ≡ [] → Stays right old new span whole rest → Says right old new span whole
-stays_done right old new span whole rest none s = (
-  alone right ∙ ap (λ l. right && is_nothing_wrong l) (sym none) ∙ s.found,
-  sym (append-nil new) ∙ ap (λ l. new ++ map (diag span) l) (sym none) ∙ sym s.told,
 )
 
 pub pair_step : (classes : List ClassEntry) (s : Sort) (ps : List (CmpOp × TExpr)) (i : ℕ) (p : CmpOp × TExpr) → i < length ps → p ≡ get_or ps i p → chain_faults classes s (map operand_pair (drop i ps)) ≡ pair_faults classes s p.0 (typed_expr p.1) ++ chain_faults classes (sort p.1.ty) (map operand_pair (drop (i + 1) ps))
@@ -57,9 +50,3 @@ pair_step classes s ps i p h is =
     ∙ ap (λ (q : CmpOp × TExpr). pair_faults classes s q.0 (typed_expr q.1) ++ chain_faults classes (type_of (typed_expr q.1)) (map operand_pair (drop (suc i) ps))) (sym is)
     ∙ ap (λ t. pair_faults classes s p.0 (typed_expr p.1) ++ chain_faults classes t (map operand_pair (drop (suc i) ps))) (type_at p.1)
     ∙ ap (λ k. pair_faults classes s p.0 (typed_expr p.1) ++ chain_faults classes (sort p.1.ty) (map operand_pair (drop k ps))) (sym (add-one i))
-
-pub pair_end : (classes : List ClassEntry) (s : Sort) (ps : List (CmpOp × TExpr)) (i : ℕ) → length ps ≤ i → chain_faults classes s (map operand_pair (drop i ps)) ≡ []
-pair_end classes s [] zero h = refl
-pair_end classes s [] (suc i) h = refl
-pair_end classes s (p ∷ ps) zero h = absurd (omega arith)
-pair_end classes s (p ∷ ps) (suc i) h = pair_end classes s ps i (omega arith)
