@@ -38,12 +38,6 @@ stays_step right holds next old new newer span whole here rest joined s h = reco
       s.told ∙ ap (λ l. new ++ l) (map-append (diag span) here rest) ∙ sym (append_assoc new (map (diag span) here) (map (diag span) rest)) ∙ ap (λ l. l ++ map (diag span) rest) (sym h.1);
 }
 
-alone : (b : Bool) → b ≡ (b && true)
-alone true = refl
-alone false = refl
-
-)
-
 pub pair_step : (classes : List ClassEntry) (s : Sort) (ps : List (CmpOp × TExpr)) (i : ℕ) (p : CmpOp × TExpr) → i < length ps → p ≡ get_or ps i p → chain_faults classes s (map operand_pair (drop i ps)) ≡ pair_faults classes s p.0 (typed_expr p.1) ++ chain_faults classes (sort p.1.ty) (map operand_pair (drop (i + 1) ps))
 pair_step classes s ps i p h is =
     ap (λ l. chain_faults classes s (map operand_pair l)) (drop-cons ps i p h)
