@@ -1,5 +1,5 @@
 -- How far a run can go: no further than steps are left at its start.
-use Rattle.std.proofs.Common.{◌≡◌, refl, subst, ℕ, zero, suc, ◌+◌, ◌-◌, ◌*◌, ◌<◌, ◌≤◌, arith, true, List, [], ◌∷◌, length, Some}
+use Rattle.std.proofs.Common.{◌≡◌, refl, subst, ℕ, zero, suc, ◌+◌, ◌-◌, ◌*◌, ◌<◌, ◌≤◌, arith, Bool, true, false, List, [], ◌∷◌, length, Some}
 use Rattle.std.specs.Prelude.{slice_get, map, ◌&&◌}
 use Rattle.std.specs.List.{list_all}
 use Rattle.value_core.specs.Items.{Items}
@@ -8,8 +8,8 @@ use Rattle.c_core.specs.declared.code.CFunc.{CFunc}
 use Rattle.c_core.specs.declared.code.Code.{Code}
 use Rattle.c_core.specs.Cells.{count_at}
 use Rattle.c_core.specs.Machine.{MachineState}
-use Rattle.c_core.specs.Step.{Next, Goes, Ends, step}
-use Rattle.c_core.specs.Run.{Stop, go_on, start, most_lines, most_steps, module_function}
+use Rattle.c_core.specs.Step.{Next, Goes, Ends, step_at, line_at}
+use Rattle.c_core.specs.Run.{Stop, go_on, start, most_lines, most_steps, module_function, unchecked_run}
 use Rattle.c_core.specs.WellFormed.{WellFormed, is_spelled, is_empty, spelled_globals, spelled_functions, names_differ, function_fits, is_leaving}
 use Rattle.c_core.specs.Laws.{state_after, Reaches, Here, There, RunExists, RunStaysSmall}
 use Rattle.c_core.proofs.Lines.{and_true, leads_on}
@@ -45,25 +45,36 @@ bounded code wf =
     record { all = all; some_lines = most_some code code.funcs some all }
 
 -- ---- with more steps than are left a run stops
-abbrev StopsFrom : Code → ℕ → Next → Type 0
-StopsFrom code k next = (stop : Stop) × (go_on (step code) k next ≡ Some stop)
+module _ (is_checked : Bool) (code : Code) where
+  abbrev any_step : MachineState → Next
+  any_step s = step_at is_checked code s (line_at code s.top)
 
-after_step : (code : Code) (k : ℕ) (s : MachineState) (next : Next) → Falls code s next → steps_left code s < suc k → ((t : MachineState) → steps_left code t < k → StopsFrom code k (Goes t)) → StopsFrom code k next
-after_step code k s (Ends e t) falls lt later = (record { ending = e; state = t }, refl)
-after_step code k s (Goes t) falls lt later = later t (omega (arith, falls, lt))
+  abbrev StopsFrom : ℕ → Next → Type 0
+  StopsFrom k next = (stop : Stop) × (go_on any_step k next ≡ Some stop)
 
-stops : (code : Code) → Bounded code → (k : ℕ) (s : MachineState) → steps_left code s < k → StopsFrom code k (Goes s)
-stops code b zero s lt = absurd (omega (arith, lt))
-stops code b (suc k) s lt = after_step code k s (step code s) (step_falls code b.all s) lt (stops code b k)
+  after_step : (k : ℕ) (s : MachineState) (next : Next) → Falls code s next → steps_left code s < suc k → ((t : MachineState) → steps_left code t < k → StopsFrom k (Goes t)) → StopsFrom k next
+  after_step k s (Ends e t) falls lt later = (record { ending = e; state = t }, refl)
+  after_step k s (Goes t) falls lt later = later t (omega (arith, falls, lt))
+
+  stops : Bounded code → (k : ℕ) (s : MachineState) → steps_left code s < k → StopsFrom k (Goes s)
+  stops b zero s lt = absurd (omega (arith, lt))
+  stops b (suc k) s lt = after_step k s (any_step s) (step_falls is_checked code b.all s) lt (stops b k)
 
 start_left : (code : Code) → Bounded code → (n : ℕ) (items : Items) → steps_left code (start code n items) < most_steps n code
 start_left code b n items =
     let mul : (n + 2) * most code ≡ n * most code + most code + most code = omega arith in
     omega (arith, mul, first_left code b.all (module_function code), b.some_lines)
 
+run_stops : (is_checked : Bool) (code : Code) → WellFormed code → (n : ℕ) (items : Items) → StopsFrom is_checked code (most_steps n code) (Goes (start code n items))
+run_stops is_checked code wf n items =
+    let b = bounded code wf in stops is_checked code b (most_steps n code) (start code n items) (start_left code b n items)
+
 pub run_exists : RunExists
-run_exists code wf n items =
-    let b = bounded code wf in stops code b (most_steps n code) (start code n items) (start_left code b n items)
+run_exists code wf n items = run_stops true code wf n items
+
+-- and without tests of ownership
+pub unchecked_run_exists : (code : Code) → WellFormed code → (n : ℕ) (items : Items) → (stop : Stop) × (unchecked_run n items code ≡ Some stop)
+unchecked_run_exists code wf n items = run_stops false code wf n items
 
 -- ---- and no step makes much
 pub record IsNear (code : Code) (k : ℕ) (s t : MachineState) : Type 0 where
@@ -74,7 +85,7 @@ pub record IsNear (code : Code) (k : ℕ) (s t : MachineState) : Type 0 where
 near : (code : Code) → Bounded code → (k : ℕ) (s t : MachineState) → Reaches code k s t → IsNear code k s t
 near code b k s t (Here u) = record { fewer_left = omega arith; few_cells = omega arith; small_counts = λ c. omega arith }
 near code b k s t (There j a x u e r) =
-    let falls : Falls code a (Goes x) = subst (Falls code a) e (step_falls code b.all a) in
+    let falls : Falls code a (Goes x) = subst (Falls code a) e (step_falls true code b.all a) in
     let small : IsSmallStep a (state_after (Goes x)) = subst (λ next. IsSmallStep a (state_after next)) e (small_step code a) in
     let rest = near code b j x u r in record {
       fewer_left = omega (arith, falls, rest.fewer_left);

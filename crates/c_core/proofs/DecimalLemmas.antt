@@ -1,14 +1,12 @@
 -- The decimal of each number of 128 bits is read back as that number, so `CPyTagged_FromText` makes just the numbers that are not short.
-use Rattle.std.proofs.Common.{◌≡◌, refl, ◌∙◌, ap, subst, ℕ, suc, ◌<◌, ◌^◌, arith, Bool, true, false, cond, List, [], ◌∷◌, ◌==◌}
-use Rattle.std.specs.Prelude.{ℤ, pos, negsuc, neg_ℤ, not, ◌&&◌}
+use Rattle.std.proofs.Common.{◌≡◌, refl, ◌∙◌, ap, subst, ℕ, suc, ◌<◌, ◌^◌, arith, Bool, true, false, List, [], ◌∷◌, ◌==◌}
+use Rattle.std.specs.Prelude.{ℤ, pos, negsuc, neg_ℤ}
 use Rattle.std.specs.Char.{digit_value}
 use Rattle.std.specs.Fmt.{decimal, signed_decimal}
 use Rattle.std.specs.Str.Parse.{IsNumeral, digits_value, signed_digits_value}
 use Rattle.std.proofs.lemmas.Bool.{ltb-true, eqb-true}
 use Rattle.std.proofs.lemmas.Fmt.{decimal_is_IsNumeral_wide}
-use Rattle.std.proofs.lemmas.Slice.Eq.{bytes_eq-Decides}
-use Rattle.value_core.specs.Arithmetic.{lies_within, is_short}
-use Rattle.c_core.specs.Step.{MakesInt, Wrong, written_int}
+use Rattle.value_core.specs.Arithmetic.{lies_within}
 
 -- a sign is no digit
 no_sign : (c d : ℕ) (b : Bool) → (c == d) ≡ b → digit_value c < 10 → (digit_value d < 10 → ⊥) → b ≡ false
@@ -30,10 +28,3 @@ read_back (pos n) within =
 read_back (negsuc n) within =
     let is = decimal_is_IsNumeral_wide (suc n) (omega (arith, ltb-true n (2 ^ 127) within)) in
     ap (λ m. neg_ℤ (pos m)) is.1
-
-pub made_back : (n : ℤ) → lies_within 127 n ≡ true → is_short n ≡ false → written_int (signed_decimal n) (signed_digits_value 10 (signed_decimal n)) ≡ MakesInt n
-made_back n within long =
-    ap (written_int (signed_decimal n)) (read_back n within)
-    ∙ ap (λ b. cond (b && (lies_within 127 n && not (is_short n))) (MakesInt n) Wrong) ((bytes_eq-Decides (signed_decimal n) (signed_decimal n)).1 refl)
-    ∙ ap (λ b. cond (b && not (is_short n)) (MakesInt n) Wrong) within
-    ∙ ap (λ b. cond (not b) (MakesInt n) Wrong) long

@@ -1,6 +1,6 @@
--- Each step of a well-formed code that goes on leaves fewer steps before the end.
+-- Each step of a well-formed code that goes on leaves fewer steps before the end, with tests of ownership and without.
 use Rattle.std.proofs.Common.{◌≡◌, refl, sym, ◌∙◌, ap, subst, ℕ, zero, suc, ◌+◌, ◌-◌, ◌*◌, ◌<◌, ◌≤◌, arith, Bool, true, false, cond, List, [], ◌∷◌, length, Option, Some, None}
-use Rattle.std.specs.Prelude.{slice_get, nat_lt, ◌||◌}
+use Rattle.std.specs.Prelude.{slice_get, slice_set, nat_lt, ◌||◌}
 use Rattle.std.specs.List.{list_all}
 use Rattle.std.specs.Str.{bytes_eq}
 use Rattle.std.specs.Option.{option_and_then}
@@ -15,11 +15,11 @@ use Rattle.c_core.specs.declared.fault.Fault.{Fault}
 use Rattle.c_core.specs.declared.fault.Fault.TheVariants as fault
 use Rattle.c_core.specs.declared.primitive.Primitive.{Primitive}
 use Rattle.c_core.specs.Ledgers.{Ledger}
-use Rattle.c_core.specs.Machine.{Word, BigInt, ObjectCell, Frame, MachineState}
+use Rattle.c_core.specs.Machine.{Word, BigInt, ObjectCell, set_refs, Frame, MachineState}
 use Rattle.c_core.specs.Functions.{is_turn, label_places, function_named, entry_words}
 use Rattle.c_core.specs.Primitives.{row_of, primitive_named}
 use Rattle.c_core.specs.Arguments.{stolen}
-use Rattle.c_core.specs.Step.{Next, Goes, Ends, Faulted, Effect, Wrong, Says, Shares, Makes, Writes, Stores, Fails, Pends, Catches, MakesInt, Reads, Skips, Stops, effect, with_target, next_line, at_place, literal_word, equals_error, kind_of, function_of, label_at, applied, call_step, entered, jumped, turned, if_return, if_result, if_none_left, step_at, step}
+use Rattle.c_core.specs.Step.{Next, Goes, Ends, Faulted, Effect, Wrong, Says, Shares, Makes, Writes, Stores, Fails, Pends, Catches, MakesInt, Reads, Skips, Stops, effect, shared, given, with_ledger, with_target, next_line, at_place, literal_word, equals_error, kind_of, function_of, label_at, applied, call_step, entered, jumped, turned, if_return, if_result, if_none_left, step_at, line_at}
 use Rattle.c_core.specs.Run.{most_lines}
 use Rattle.c_core.specs.WellFormed.{goes_on, goes_down, jump_fits, is_turn_at, function_fits}
 use Rattle.c_core.proofs.StepCases.{at_some, at_calm, at_word, at_there, at_called, at_function, at_jumped, at_chosen, at_incremented, at_decremented, at_decremented_if_set, at_order, at_ended, at_result}
@@ -132,7 +132,12 @@ down_true p q o e is =
     ltb-true p q (subst (λ z. goes_down p z ≡ true) is e)
 
 -- ---- one step
-module _ (code : Code) (all : list_all (function_fits code) code.funcs ≡ true) (s : MachineState) (g : CFunc) (is : slice_get code.funcs s.top.func ≡ Some g) where
+-- what is given up is cells alone
+given_falls : (is_checked : Bool) (code : Code) (s : MachineState) (refs : List ℕ) (t : MachineState) → Falls code s (Goes (next_line t)) → Falls code s (Goes (next_line (given is_checked s refs t)))
+given_falls true code s refs t on = on
+given_falls false code s refs t on = on
+
+module _ (is_checked : Bool) (code : Code) (all : list_all (function_fits code) code.funcs ≡ true) (s : MachineState) (g : CFunc) (is : slice_get code.funcs s.top.func ≡ Some g) where
   abbrev m : ℕ
   m = most code
 
@@ -197,7 +202,7 @@ module _ (code : Code) (all : list_all (function_fits code) code.funcs ≡ true)
       at_is p ∙ ap (left m labels p) e ∙ ap (turn_left m) (sym z) ∙ ap (λ q. m - q) z in
       omega (arith, left_most m labels (p + 1) (slice_get lines (p + 1)), at_is (p + 1), here, mul, short, slice_get_within lines p Turn e)
 
-  turned_falls : (n : ℕ) → s.turns ≡ n → slice_get lines p ≡ Some Turn → Falls code s (turned true s n)
+  turned_falls : (n : ℕ) → s.turns ≡ n → slice_get lines p ≡ Some Turn → Falls code s (turned is_checked s n)
   turned_falls zero t e = tt
   turned_falls (suc n) t e = turn_falls n p t refl e
 
@@ -207,35 +212,37 @@ module _ (code : Code) (all : list_all (function_fits code) code.funcs ≡ true)
   bad : (f : Fault) → To (Ends (Faulted f) s)
   bad f = tt
 
-  applied_falls : (x : Option ℕ) (l : Ledger) (gone : List ℕ) (e : Effect) → To (Goes (next_line s)) → To (applied true s x l gone e)
+  target_falls : (x : Option ℕ) (w : Word) (t : MachineState) → To (Goes t) → To (Goes (with_target x w t))
+  target_falls None w t on = on
+  target_falls (Some x) w t on = on
+
+  answer_falls : (x : Option ℕ) (w : Word) (t : MachineState) → To (Goes (next_line t)) → To (Goes (next_line (with_target x w t)))
+  answer_falls None w t on = on
+  answer_falls (Some x) w t on = on
+
+  shared_falls : (w : Word) (t : MachineState) → To (Goes (next_line t)) → To (Goes (next_line (shared w t)))
+  shared_falls (BigInt c) t on = on
+  shared_falls (ObjectCell c) t on = on
+  shared_falls w t on = on
+
+  applied_falls : (x : Option ℕ) (l : Ledger) (gone : List ℕ) (e : Effect) → To (Goes (next_line s)) → To (applied is_checked s x l gone e)
   applied_falls x l gone Wrong on = tt
-  applied_falls None l gone (Says w) on = on
-  applied_falls (Some x) l gone (Says w) on = on
-  applied_falls None l gone (Makes content) on = on
-  applied_falls (Some x) l gone (Makes content) on = on
-  applied_falls x l gone (Writes text) on = on
-  applied_falls None l gone (Shares (BigInt c)) on = on
-  applied_falls (Some x) l gone (Shares (BigInt c)) on = on
-  applied_falls None l gone (Shares (ObjectCell c)) on = on
-  applied_falls (Some x) l gone (Shares (ObjectCell c)) on = on
-  applied_falls None l gone (Shares w) on = on
-  applied_falls (Some x) l gone (Shares w) on = on
-  applied_falls x l gone (Stores n old new) on = on
-  applied_falls None l gone (Fails w e) on = on
-  applied_falls (Some x) l gone (Fails w e) on = on
+  applied_falls x l gone (Says w) on = answer_falls x w _ (given_falls is_checked code s gone _ on)
+  applied_falls x l gone (Makes content) on = answer_falls x _ _ on
+  applied_falls x l gone (Writes text) on = given_falls is_checked code s gone _ on
+  applied_falls x l gone (Shares w) on = answer_falls x w _ (shared_falls w _ on)
+  applied_falls x l gone (Stores n old new) on =
+      given_falls is_checked code s (set_refs (old ∷ [])) (record (with_ledger l s) { globals = slice_set s.globals n new }) on
+  applied_falls x l gone (Fails w e) on = answer_falls x w _ (given_falls is_checked code s gone _ on)
   applied_falls x l gone (Pends c) on = on
-  applied_falls None l gone (Catches c) on = on
-  applied_falls (Some x) l gone (Catches c) on = on
-  applied_falls None l gone (MakesInt n) on = on
-  applied_falls (Some x) l gone (MakesInt n) on = on
-  applied_falls None l gone (Reads text next) on = on
-  applied_falls (Some x) l gone (Reads text next) on = on
-  applied_falls None l gone (Skips next w e) on = on
-  applied_falls (Some x) l gone (Skips next w e) on = on
+  applied_falls x l gone (Catches c) on = answer_falls x _ _ on
+  applied_falls x l gone (MakesInt n) on = answer_falls x _ _ on
+  applied_falls x l gone (Reads text next) on = answer_falls x _ _ on
+  applied_falls x l gone (Skips next w e) on = answer_falls x w _ (given_falls is_checked code s gone _ on)
   applied_falls x l gone (Stops e) on = tt
 
   -- a function begins with a turn, and its caller waits at the next line
-  entered_falls : (x : Option ℕ) (f : ℕ) (h : CFunc) (vars : List Word) → slice_get code.funcs f ≡ Some h → bytes_eq h.name [] ≡ false → To (Goes (next_line s)) → To (Goes (entered true s x f vars))
+  entered_falls : (x : Option ℕ) (f : ℕ) (h : CFunc) (vars : List Word) → slice_get code.funcs f ≡ Some h → bytes_eq h.name [] ≡ false → To (Goes (next_line s)) → To (Goes (entered is_checked s x f vars))
   entered_falls x f h vars found named on =
       let begins = (leads_on code h (all_at (function_fits code) code.funcs f h all found)).begins in
       let turn : is_turn_at (slice_get h.lines 0) ≡ true = ap (λ b. b || is_turn_at (slice_get h.lines 0)) (sym named) ∙ begins in
@@ -243,74 +250,71 @@ module _ (code : Code) (all : list_all (function_fits code) code.funcs ≡ true)
       ap (left_in m 0) found ∙ turn_zero m (label_places h.lines) (slice_get h.lines 0) turn in
       omega (arith, none, on)
 
-  call_falls : (x : Option ℕ) (name : List ℕ) (args : List CArg) (o : Option Primitive) → To (Goes (next_line s)) → To (call_step true s code x name args o)
+  call_falls : (x : Option ℕ) (name : List ℕ) (args : List CArg) (o : Option Primitive) → To (Goes (next_line s)) → To (call_step is_checked s code x name args o)
   call_falls x name args (Some p) on =
-      at_called s To bad code x args p
+      at_called is_checked s To bad code x args p
       (λ calm all l left. applied_falls x l (stolen (row_of p).parameters all) (effect code s p all) on)
   call_falls x name args None on =
-      at_function s To bad code x args (function_named code.funcs name)
+      at_function is_checked s To bad code x args (function_named code.funcs name)
       (λ f h e found ws. entered_falls x f h (entry_words ws h) found (named_function code.funcs name f h e found) on)
 
-  target_falls : (x : Option ℕ) (w : Word) (t : MachineState) → To (Goes t) → To (Goes (with_target x w t))
-  target_falls None w t on = on
-  target_falls (Some x) w t on = on
-
-  return_falls : (w : Word) (fs : List Frame) → s.below ≡ fs → left m labels p (slice_get lines p) ≡ m - p → p < length lines → To (if_return true s w fs (λ next. if_result true s w (λ l. if_none_left true s l next)))
-  return_falls w [] e here lt = at_ended s To bad w s.pending _ (λ end. at_result s To bad w _ (λ left. tt))
+  return_falls : (w : Word) (fs : List Frame) → s.below ≡ fs → left m labels p (slice_get lines p) ≡ m - p → p < length lines → To (if_return is_checked s w fs (λ next. if_result is_checked s w (λ l. if_none_left is_checked s l next)))
+  return_falls w [] e here lt = at_ended is_checked s To bad w s.pending _ (λ end. at_result is_checked s To bad w _ (λ left. tt))
   return_falls w (f ∷ fs) e here lt =
-      at_result s To bad w _ (λ left. target_falls s.top.into w _ (omega (arith, ap (below_left code) e, at_is p ∙ here, short, lt)))
+      at_result is_checked s To bad w _ (λ left. target_falls s.top.into w _ (omega (arith, ap (below_left code) e, at_is p ∙ here, short, lt)))
 
   label_of : (n q : ℕ) → label_at code s.top n ≡ Some q → slice_get labels n ≡ Some q
   label_of n q e = ap (option_and_then (λ h. slice_get (label_places h.lines) n)) (sym is) ∙ e
 
-  if_falls : (l : Line) (n : ℕ) → slice_get lines p ≡ Some l → left m labels p (Some l) ≡ m - p → goes_down p (slice_get labels n) ≡ true → To (jumped true s (label_at code s.top n))
+  if_falls : (l : Line) (n : ℕ) → slice_get lines p ≡ Some l → left m labels p (Some l) ≡ m - p → goes_down p (slice_get labels n) ≡ true → To (jumped is_checked s (label_at code s.top n))
   if_falls l n e here down =
-      at_jumped s To bad (label_at code s.top n)
+      at_jumped is_checked s To bad (label_at code s.top n)
       (λ q found. forward_falls l n q e here (label_of n q found) (down_true p q (slice_get labels n) down (label_of n q found)))
 
-  either_falls : (b : Bool) (n k : ℕ) → To (jumped true s (label_at code s.top n)) → To (jumped true s (label_at code s.top k)) → To (jumped true s (label_at code s.top (cond b n k)))
+  either_falls : (b : Bool) (n k : ℕ) → To (jumped is_checked s (label_at code s.top n)) → To (jumped is_checked s (label_at code s.top k)) → To (jumped is_checked s (label_at code s.top (cond b n k)))
   either_falls true n k first second = first
   either_falls false n k first second = second
 
-  line_falls : (o : Option Line) → slice_get lines p ≡ o → To (step_at true code s o)
+  line_falls : (o : Option Line) → slice_get lines p ≡ o → To (step_at is_checked code s o)
   line_falls None e = tt
   line_falls (Some Label) e = next_falls Label e refl refl
   line_falls (Some (Move x y)) e =
-      at_word s To bad y _ (λ w found. at_there s To bad w _ (λ a. next_falls (Move x y) e refl refl))
+      at_word is_checked s To bad y _ (λ w found. at_there is_checked s To bad w _ (λ a. next_falls (Move x y) e refl refl))
   line_falls (Some (Lit x l)) e =
-      at_some s To bad fault.Kind (option_and_then (λ k. literal_word k l) (kind_of code s.top x)) _ (λ w found. next_falls (Lit x l) e refl refl)
+      at_some is_checked s To bad fault.Kind (option_and_then (λ k. literal_word k l) (kind_of code s.top x)) _ (λ w found. next_falls (Lit x l) e refl refl)
   line_falls (Some (Call x name args)) e =
       call_falls x name args (primitive_named name) (next_falls (Call x name args) e refl refl)
   line_falls (Some (Goto n)) e =
-      at_jumped s To bad (label_at code s.top n) (λ q found. goto_falls n q e (label_of n q found))
+      at_jumped is_checked s To bad (label_at code s.top n) (λ q found. goto_falls n q e (label_of n q found))
   line_falls (Some (If x n k)) e =
       let both = and_true _ _ (fits_at p (If x n k) e) in
-      at_word s To bad x _
-      (λ w found. at_chosen s To bad (label_at code s.top n) (label_at code s.top k) w (if_falls (If x n k) n e refl both.0) (if_falls (If x n k) k e refl both.1))
+      at_word is_checked s To bad x _
+      (λ w found. at_chosen is_checked s To bad (label_at code s.top n) (label_at code s.top k) w (if_falls (If x n k) n e refl both.0) (if_falls (If x n k) k e refl both.1))
   line_falls (Some (IfError x n k)) e =
       let both = and_true _ _ (fits_at p (IfError x n k) e) in
-      at_word s To bad x _
+      at_word is_checked s To bad x _
       (λ w found. either_falls (equals_error w) n k (if_falls (IfError x n k) n e refl both.0) (if_falls (IfError x n k) k e refl both.1))
-  line_falls (Some Turn) e = at_calm s To bad s.pending _ (λ calm. turned_falls s.turns refl e)
+  line_falls (Some Turn) e = at_calm is_checked s To bad s.pending _ (λ calm. turned_falls s.turns refl e)
   line_falls (Some (Return x)) e =
-      at_word s To bad x _
-      (λ w found. at_order s To bad w s.pending _ (return_falls w s.below refl (ap (left m labels p) e) (slice_get_within lines p (Return x) e)))
+      at_word is_checked s To bad x _
+      (λ w found. at_order is_checked s To bad w s.pending _ (return_falls w s.below refl (ap (left m labels p) e) (slice_get_within lines p (Return x) e)))
   line_falls (Some (Inc x)) e =
-      at_word s To bad x _
-      (λ w found. at_incremented s To bad w (next_falls (Inc x) e refl refl) (λ c content there. next_falls (Inc x) e refl refl))
+      at_word is_checked s To bad x _
+      (λ w found. at_incremented is_checked s To bad w (next_falls (Inc x) e refl refl) (λ c content there. next_falls (Inc x) e refl refl))
   line_falls (Some (Dec x)) e =
-      at_word s To bad x _
-      (λ w found. at_decremented s To bad w (next_falls (Dec x) e refl refl) (λ c l took. next_falls (Dec x) e refl refl))
+      at_word is_checked s To bad x _
+      (λ w found. at_decremented is_checked s To bad w (next_falls (Dec x) e refl refl) (λ c l took. given_falls is_checked code s (c ∷ []) (with_ledger l s) (next_falls (Dec x) e refl refl)))
   line_falls (Some (XDec x)) e =
-      at_word s To bad x _
-      (λ w found. at_decremented_if_set s To bad w (next_falls (XDec x) e refl refl) (λ c l took. next_falls (XDec x) e refl refl))
+      at_word is_checked s To bad x _
+      (λ w found. at_decremented_if_set is_checked s To bad w (next_falls (XDec x) e refl refl) (λ c l took. given_falls is_checked code s (c ∷ []) (with_ledger l s) (next_falls (XDec x) e refl refl)))
 
-function_falls : (code : Code) → list_all (function_fits code) code.funcs ≡ true → (s : MachineState) (o : Option CFunc) → slice_get code.funcs s.top.func ≡ o → Falls code s (step_at true code s (option_and_then (λ g. slice_get g.lines s.top.place) o))
-function_falls code all s None e = tt
-function_falls code all s (Some g) e = line_falls code all s g e (slice_get g.lines s.top.place) refl
+function_falls : (is_checked : Bool) (code : Code) → list_all (function_fits code) code.funcs ≡ true → (s : MachineState) (o : Option CFunc) → slice_get code.funcs s.top.func ≡ o → Falls code s (step_at is_checked code s (option_and_then (λ g. slice_get g.lines s.top.place) o))
+function_falls is_checked code all s None e = tt
+function_falls is_checked code all s (Some g) e = line_falls is_checked code all s g e (slice_get g.lines s.top.place) refl
 
-pub step_falls : (code : Code) → list_all (function_fits code) code.funcs ≡ true → (s : MachineState) → Falls code s (step code s)
-step_falls code all s = function_falls code all s (slice_get code.funcs s.top.func) refl
+pub step_falls : (is_checked : Bool) (code : Code) → list_all (function_fits code) code.funcs ≡ true → (s : MachineState) → Falls code s (step_at is_checked code s (line_at code s.top))
+step_falls is_checked code all s =
+    function_falls is_checked code all s (slice_get code.funcs s.top.func) refl
 
 -- ---- the start
 start_below : (code : Code) → list_all (function_fits code) code.funcs ≡ true → (f : ℕ) (o : Option CFunc) → slice_get code.funcs f ≡ o → left_in (most code) 0 o ≤ most code

@@ -301,8 +301,8 @@ module _ (s : MachineState) (ok : IsCounted s) where
   applied_kept x l gone (Skips next w e) left f = target_kept x w _ (raised_kept e l gone left f)
   applied_kept x l gone (Stops e) left f = ok
 
-  given_kept : (c : ℕ) (l : Ledger) → ((d : ℕ) → times s.top.ledger d ≡ same c d + times l d) → IsCounted (next_line (given true s (c ∷ []) (with_ledger l s)))
-  given_kept c l took d = omega (arith, all_given l (c ∷ []) (λ e. omega (arith, took e)) d)
+  given_kept : (c : ℕ) (l : Ledger) → (true ≡ true → Leaves s.top.ledger (c ∷ []) l) → IsCounted (next_line (given true s (c ∷ []) (with_ledger l s)))
+  given_kept c l took d = omega (arith, all_given l (c ∷ []) (took refl) d)
 
   turned_kept : (n : ℕ) → IsCountedAfter (turned true s n)
   turned_kept zero = ok
@@ -310,44 +310,44 @@ module _ (s : MachineState) (ok : IsCounted s) where
 
   -- what the word refers to goes over to the caller's ledger
   return_kept : (w : Word) (fs : List Frame) → s.below ≡ fs → IsCountedAfter (if_return true s w fs (λ next. if_result true s w (λ l. if_none_left true s l next)))
-  return_kept w [] e = at_ended s IsCountedAfter bad w s.pending _ (λ end. at_result s IsCountedAfter bad w _ (λ all. ok))
+  return_kept w [] e = at_ended true s IsCountedAfter bad w s.pending _ (λ end. at_result true s IsCountedAfter bad w _ (λ all. ok))
   return_kept w (f ∷ fs) e =
-      at_result s IsCountedAfter bad w _ (λ all. target_kept s.top.into w _ (λ c. omega (arith, ok c, all c, ap (λ b. owned_below b c) e, more_of-times (refs_of w) f.ledger c)))
+      at_result true s IsCountedAfter bad w _ (λ all. target_kept s.top.into w _ (λ c. omega (arith, ok c, all refl c, ap (λ b. owned_below b c) e, more_of-times (refs_of w) f.ledger c)))
 
 module _ (s : MachineState) (ok : IsCounted s) (code : Code) where
   -- what is passed to a function stays with the caller
   call_kept : (x : Option ℕ) (name : List ℕ) (args : List CArg) (o : Option Primitive) → IsCountedAfter (call_step true s code x name args o)
   call_kept x name args (Some p) =
-      at_called s IsCountedAfter (bad s ok) code x args p
-      (λ calm all l left. applied_kept s ok x l (stolen (row_of p).parameters all) (effect code s p all) left (fair code s p all calm))
+      at_called true s IsCountedAfter (bad s ok) code x args p
+      (λ calm all l left. applied_kept s ok x l (stolen (row_of p).parameters all) (effect code s p all) (left refl) (fair code s p all calm))
   call_kept x name args None =
-      at_function s IsCountedAfter (bad s ok) code x args (function_named code.funcs name) (λ f g e is ws c. omega (arith, ok c))
+      at_function true s IsCountedAfter (bad s ok) code x args (function_named code.funcs name) (λ f g e is ws c. omega (arith, ok c))
 
   step_kept : (o : Option Line) → IsCountedAfter (step_at true code s o)
   step_kept None = ok
   step_kept (Some Label) = ok
   step_kept (Some (Move x y)) =
-      at_word s IsCountedAfter (bad s ok) y _ (λ w e. at_there s IsCountedAfter (bad s ok) w _ (λ a. ok))
+      at_word true s IsCountedAfter (bad s ok) y _ (λ w e. at_there true s IsCountedAfter (bad s ok) w _ (λ a. ok))
   step_kept (Some (Lit x l)) =
-      at_some s IsCountedAfter (bad s ok) fault.Kind (option_and_then (λ k. literal_word k l) (kind_of code s.top x)) _ (λ w e. ok)
+      at_some true s IsCountedAfter (bad s ok) fault.Kind (option_and_then (λ k. literal_word k l) (kind_of code s.top x)) _ (λ w e. ok)
   step_kept (Some (Call x name args)) = call_kept x name args (primitive_named name)
-  step_kept (Some (Goto n)) = at_jumped s IsCountedAfter (bad s ok) (label_at code s.top n) (λ q e. ok)
+  step_kept (Some (Goto n)) = at_jumped true s IsCountedAfter (bad s ok) (label_at code s.top n) (λ q e. ok)
   step_kept (Some (If x n m)) =
-      at_word s IsCountedAfter (bad s ok) x _
-      (λ w e. at_chosen s IsCountedAfter (bad s ok) (label_at code s.top n) (label_at code s.top m) w
-      (at_jumped s IsCountedAfter (bad s ok) (label_at code s.top n) (λ q e. ok)) (at_jumped s IsCountedAfter (bad s ok) (label_at code s.top m) (λ q e. ok)))
+      at_word true s IsCountedAfter (bad s ok) x _
+      (λ w e. at_chosen true s IsCountedAfter (bad s ok) (label_at code s.top n) (label_at code s.top m) w
+      (at_jumped true s IsCountedAfter (bad s ok) (label_at code s.top n) (λ q e. ok)) (at_jumped true s IsCountedAfter (bad s ok) (label_at code s.top m) (λ q e. ok)))
   step_kept (Some (IfError x n m)) =
-      at_word s IsCountedAfter (bad s ok) x _
-      (λ w e. at_jumped s IsCountedAfter (bad s ok) (label_at code s.top (cond (equals_error w) n m)) (λ q e. ok))
-  step_kept (Some Turn) = at_calm s IsCountedAfter (bad s ok) s.pending _ (λ calm. turned_kept s ok s.turns)
+      at_word true s IsCountedAfter (bad s ok) x _
+      (λ w e. at_jumped true s IsCountedAfter (bad s ok) (label_at code s.top (cond (equals_error w) n m)) (λ q e. ok))
+  step_kept (Some Turn) = at_calm true s IsCountedAfter (bad s ok) s.pending _ (λ calm. turned_kept s ok s.turns)
   step_kept (Some (Return x)) =
-      at_word s IsCountedAfter (bad s ok) x _ (λ w e. at_order s IsCountedAfter (bad s ok) w s.pending _ (return_kept s ok w s.below refl))
+      at_word true s IsCountedAfter (bad s ok) x _ (λ w e. at_order true s IsCountedAfter (bad s ok) w s.pending _ (return_kept s ok w s.below refl))
   step_kept (Some (Inc x)) =
-      at_word s IsCountedAfter (bad s ok) x _ (λ w e. at_incremented s IsCountedAfter (bad s ok) w ok (λ c v e. took_kept s ok c v s.top.ledger e (λ d. refl)))
+      at_word true s IsCountedAfter (bad s ok) x _ (λ w e. at_incremented true s IsCountedAfter (bad s ok) w ok (λ c v e. took_kept s ok c v s.top.ledger e (λ d. refl)))
   step_kept (Some (Dec x)) =
-      at_word s IsCountedAfter (bad s ok) x _ (λ w e. at_decremented s IsCountedAfter (bad s ok) w ok (given_kept s ok))
+      at_word true s IsCountedAfter (bad s ok) x _ (λ w e. at_decremented true s IsCountedAfter (bad s ok) w ok (given_kept s ok))
   step_kept (Some (XDec x)) =
-      at_word s IsCountedAfter (bad s ok) x _ (λ w e. at_decremented_if_set s IsCountedAfter (bad s ok) w ok (given_kept s ok))
+      at_word true s IsCountedAfter (bad s ok) x _ (λ w e. at_decremented_if_set true s IsCountedAfter (bad s ok) w ok (given_kept s ok))
 
 step_keeps : (code : Code) (s : MachineState) → IsCounted s → IsCountedAfter (step code s)
 step_keeps code s ok = step_kept s ok code (line_at code s.top)

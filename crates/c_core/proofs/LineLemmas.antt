@@ -1,6 +1,5 @@
 -- One turn of a loop over lines, or over parameters and arguments.
 use Rattle.std.proofs.Common.{◌≡◌, refl, sym, ◌∙◌, ap, ℕ, suc, ◌+◌, ◌-◌, ◌<◌, ◌≤◌, arith, Bool, true, false, cond, List, [], ◌∷◌, length, drop, get_or, add-one, drop-cons, length-drop, Some}
-use Rattle.std.proofs.lemmas.List.{drop_all}
 use Rattle.std.specs.Prelude.{slice_get, map, ◌&&◌}
 use Rattle.std.specs.List.{list_all}
 use Rattle.c_core.specs.declared.code.Kind.{Kind}
@@ -9,7 +8,7 @@ use Rattle.c_core.specs.declared.code.CArg.TheVariants as arg
 use Rattle.c_core.specs.declared.code.Line.{Line}
 use Rattle.c_core.specs.declared.code.CFunc.{CFunc}
 use Rattle.c_core.specs.Functions.{is_label, is_turn, labels_from, label_places}
-use Rattle.c_core.specs.WellFormed.{Declared, jump_fits, jumps_fit, has_kind, kind_at, passes, spelled_top, spelled_function, spelled_functions}
+use Rattle.c_core.specs.WellFormed.{Declared, jump_fits, jumps_fit, has_kind, kind_at, passes, spelled_function, spelled_functions}
 
 drop_here : {A : Type 0} (xs : List A) (i : ℕ) (x : A) → i < length xs → x ≡ get_or xs i x → drop i xs ≡ x ∷ drop (i + 1) xs
 drop_here xs i x l e =
@@ -122,14 +121,6 @@ module _ (fs : List CFunc) (i : ℕ) (x : CFunc) (is : x ≡ get_or fs i x) (so_
       ∙ not_last x (drop (i + 1) fs) (omega (arith, length-drop (i + 1) fs))
       ∙ ap (λ c. c && spelled_functions (drop (i + 1) fs)) (sym says)
 
-  pub function_stop : (b : Bool) → i + 1 < length fs → b ≡ spelled_function x → b ≡ false → false ≡ spelled_functions fs
-  function_stop b within says differs =
-      sym (function_turn b within says ∙ ap (λ c. c && spelled_functions (drop (i + 1) fs)) differs)
-
   pub function_more : (b : Bool) → i + 1 < length fs → b ≡ spelled_function x → b ≡ true → spelled_functions (drop (i + 1) fs) ≡ spelled_functions fs
   function_more b within says good =
       sym (function_turn b within says ∙ ap (λ c. c && spelled_functions (drop (i + 1) fs)) good)
-
-  pub function_last : i + 1 ≡ length fs → spelled_top x ≡ spelled_functions fs
-  function_last last =
-      sym (ap spelled_functions (drop_here fs i x (omega (arith, last)) is ∙ ap (λ rest. x ∷ rest) (drop_all (i + 1) fs (omega (arith, last))))) ∙ so_far

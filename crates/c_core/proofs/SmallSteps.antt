@@ -159,37 +159,37 @@ module _ (s : MachineState) where
   target_small (Some x) w t e = same_cells _ e
 
   return_small : (w : Word) (fs : List Frame) → To (if_return true s w fs (λ next. if_result true s w (λ l. if_none_left true s l next)))
-  return_small w [] = at_ended s To bad w s.pending _ (λ end. at_result s To bad w _ (λ all. same_cells s refl))
-  return_small w (f ∷ fs) = at_result s To bad w _ (λ all. target_small s.top.into w _ refl)
+  return_small w [] = at_ended true s To bad w s.pending _ (λ end. at_result true s To bad w _ (λ all. same_cells s refl))
+  return_small w (f ∷ fs) = at_result true s To bad w _ (λ all. target_small s.top.into w _ refl)
 
   call_small : (code : Code) (x : Option ℕ) (name : List ℕ) (args : List CArg) (o : Option Primitive) → To (call_step true s code x name args o)
   call_small code x name args (Some p) =
-      at_called s To bad code x args p
+      at_called true s To bad code x args p
       (λ calm all l left. applied_small x l (stolen (row_of p).parameters all) (effect code s p all))
   call_small code x name args None =
-      at_function s To bad code x args (function_named code.funcs name) (λ f g e is ws. same_cells _ refl)
+      at_function true s To bad code x args (function_named code.funcs name) (λ f g e is ws. same_cells _ refl)
 
   step_small : (code : Code) (o : Option Line) → To (step_at true code s o)
   step_small code None = bad fault.Kind
   step_small code (Some Label) = same_cells _ refl
-  step_small code (Some (Move x y)) = at_word s To bad y _ (λ w e. at_there s To bad w _ (λ a. same_cells _ refl))
+  step_small code (Some (Move x y)) = at_word true s To bad y _ (λ w e. at_there true s To bad w _ (λ a. same_cells _ refl))
   step_small code (Some (Lit x l)) =
-      at_some s To bad fault.Kind (option_and_then (λ k. literal_word k l) (kind_of code s.top x)) _ (λ w e. same_cells _ refl)
+      at_some true s To bad fault.Kind (option_and_then (λ k. literal_word k l) (kind_of code s.top x)) _ (λ w e. same_cells _ refl)
   step_small code (Some (Call x name args)) = call_small code x name args (primitive_named name)
-  step_small code (Some (Goto n)) = at_jumped s To bad (label_at code s.top n) (λ q e. same_cells _ refl)
+  step_small code (Some (Goto n)) = at_jumped true s To bad (label_at code s.top n) (λ q e. same_cells _ refl)
   step_small code (Some (If x n m)) =
-      at_word s To bad x _
-      (λ w e. at_chosen s To bad (label_at code s.top n) (label_at code s.top m) w
-      (at_jumped s To bad (label_at code s.top n) (λ q e. same_cells _ refl)) (at_jumped s To bad (label_at code s.top m) (λ q e. same_cells _ refl)))
+      at_word true s To bad x _
+      (λ w e. at_chosen true s To bad (label_at code s.top n) (label_at code s.top m) w
+      (at_jumped true s To bad (label_at code s.top n) (λ q e. same_cells _ refl)) (at_jumped true s To bad (label_at code s.top m) (λ q e. same_cells _ refl)))
   step_small code (Some (IfError x n m)) =
-      at_word s To bad x _ (λ w e. at_jumped s To bad (label_at code s.top (cond (equals_error w) n m)) (λ q e. same_cells _ refl))
-  step_small code (Some Turn) = at_calm s To bad s.pending _ (λ calm. turned_small s.turns)
-  step_small code (Some (Return x)) = at_word s To bad x _ (λ w e. at_order s To bad w s.pending _ (return_small w s.below))
-  step_small code (Some (Inc x)) = at_word s To bad x _ (λ w e. at_incremented s To bad w (same_cells _ refl) took_small)
+      at_word true s To bad x _ (λ w e. at_jumped true s To bad (label_at code s.top (cond (equals_error w) n m)) (λ q e. same_cells _ refl))
+  step_small code (Some Turn) = at_calm true s To bad s.pending _ (λ calm. turned_small s.turns)
+  step_small code (Some (Return x)) = at_word true s To bad x _ (λ w e. at_order true s To bad w s.pending _ (return_small w s.below))
+  step_small code (Some (Inc x)) = at_word true s To bad x _ (λ w e. at_incremented true s To bad w (same_cells _ refl) took_small)
   step_small code (Some (Dec x)) =
-      at_word s To bad x _ (λ w e. at_decremented s To bad w (same_cells _ refl) (λ c l took. given_small c l))
+      at_word true s To bad x _ (λ w e. at_decremented true s To bad w (same_cells _ refl) (λ c l took. given_small c l))
   step_small code (Some (XDec x)) =
-      at_word s To bad x _ (λ w e. at_decremented_if_set s To bad w (same_cells _ refl) (λ c l took. given_small c l))
+      at_word true s To bad x _ (λ w e. at_decremented_if_set true s To bad w (same_cells _ refl) (λ c l took. given_small c l))
 
 -- the state after a step
 pub small_step : (code : Code) (s : MachineState) → IsSmallStep s (state_after (step code s))

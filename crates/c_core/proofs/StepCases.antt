@@ -1,4 +1,4 @@
--- What holds of each end of the tests of a step, and of each fault, holds of the whole.
+-- What holds of each end of the tests of a step, and of each fault, holds of the whole, with tests of ownership and without.
 use Rattle.std.proofs.Common.{◌≡◌, refl, ap, ℕ, zero, suc, ◌+◌, ◌≤◌, arith, Bool, true, false, cond, List, [], ◌∷◌, ◌++◌, Option, Some, None}
 use Rattle.std.specs.Prelude.{slice_get}
 use Rattle.c_core.specs.declared.code.Kind.{Kind}
@@ -10,7 +10,7 @@ use Rattle.c_core.specs.declared.fault.Fault.{Fault}
 use Rattle.c_core.specs.declared.fault.Fault.TheVariants as fault
 use Rattle.c_core.specs.declared.primitive.Primitive.{Primitive}
 use Rattle.value_core.specs.Ending.{Ending, Done, Raised}
-use Rattle.c_core.specs.Cells.{same, times, content_at, take_one}
+use Rattle.c_core.specs.Cells.{times, content_at, take_one}
 use Rattle.c_core.specs.Ledgers.{Ledger, without}
 use Rattle.c_core.specs.Machine.{Word, ShortInt, BigInt, TaggedError, CharWord, ObjectCell, NoneObject, TrueObject, FalseObject, NoObject, Content, ExcCell, refs_of, MachineState}
 use Rattle.c_core.specs.Functions.{parameter_kinds, entry_words}
@@ -28,94 +28,100 @@ Leaves l gone r = (d : ℕ) → times l d ≡ times gone d + times r d
 abbrev pub IsCalm : MachineState → Bool → Type 0
 IsCalm s b = b ≡ false → s.pending ≡ None
 
-module _ (s : MachineState) (P : Next → Type 0) (bad : (f : Fault) → P (Ends (Faulted f) s)) where
-  pub at_some : {A : Type 0} (f : Fault) (o : Option A) (go : A → Next) → ((a : A) → o ≡ Some a → P (go a)) → P (if_some true s f o go)
+module _ (is_checked : Bool) (s : MachineState) (P : Next → Type 0) (bad : (f : Fault) → P (Ends (Faulted f) s)) where
+  pub at_some : {A : Type 0} (f : Fault) (o : Option A) (go : A → Next) → ((a : A) → o ≡ Some a → P (go a)) → P (if_some is_checked s f o go)
   at_some f None go h = bad f
   at_some f (Some a) go h = h a refl
 
-  pub at_calm : (o : Option ℕ) (go : Next) → (o ≡ None → P go) → P (if_calm true s o go)
+  pub at_calm : (o : Option ℕ) (go : Next) → (o ≡ None → P go) → P (if_calm is_checked s o go)
   at_calm None go h = h refl
   at_calm (Some c) go h = bad fault.Kind
 
-  pub at_content : (c : ℕ) (go : Content → Next) → ((x : Content) → content_at s.cells c ≡ Some x → P (go x)) → P (if_content true s c go)
+  pub at_content : (c : ℕ) (go : Content → Next) → ((x : Content) → content_at s.cells c ≡ Some x → P (go x)) → P (if_content is_checked s c go)
   at_content c go h = at_some fault.Dead (content_at s.cells c) go h
 
-  at_any : (n : ℕ) (go : Next) → (1 ≤ n → P go) → P (if_any true s n go)
+  at_any : (n : ℕ) (go : Next) → (1 ≤ n → P go) → P (if_any is_checked s n go)
   at_any zero go h = bad fault.NotOwned
   at_any (suc n) go h = h (omega arith)
 
-  pub at_taken : (c : ℕ) (l : Ledger) (go : Ledger → Next) → ((r : Ledger) → ((d : ℕ) → times l d ≡ same c d + times r d) → P (go r)) → P (if_taken true s c l go)
-  at_taken c l go h = at_any (times l c) _ (λ stands. h (without c l) (without-times c l stands))
+  -- without tests nothing is known of what leaves the ledger
+  taken_by : (b : Bool) (c : ℕ) (l : Ledger) (go : Ledger → Next) → ((r : Ledger) → (b ≡ true → Leaves l (c ∷ []) r) → P (go r)) → P (if_taken b s c l go)
+  taken_by true c l go h =
+      at_any (times l c) _ (λ stands. h (without c l) (λ t d. omega (arith, without-times c l stands d)))
+  taken_by false c l go h = h (without c l) (λ t. absurd (cc))
 
-  pub at_word : (x : ℕ) (go : Word → Next) → ((w : Word) → slice_get s.top.vars x ≡ Some w → P (go w)) → P (word_of true s x go)
+  at_taken : (c : ℕ) (l : Ledger) (go : Ledger → Next) → ((r : Ledger) → (is_checked ≡ true → Leaves l (c ∷ []) r) → P (go r)) → P (if_taken is_checked s c l go)
+  at_taken = taken_by is_checked
+
+  pub at_word : (x : ℕ) (go : Word → Next) → ((w : Word) → slice_get s.top.vars x ≡ Some w → P (go w)) → P (word_of is_checked s x go)
   at_word x go h = at_some fault.Kind (slice_get s.top.vars x) go h
 
-  at_true : (b : Bool) (go : Next) → P go → P (if_true true s b go)
+  at_true : (b : Bool) (go : Next) → P go → P (if_true is_checked s b go)
   at_true true go h = h
   at_true false go h = bad fault.Kind
 
-  pub at_there : (w : Word) (go : Argument → Next) → ((a : Argument) → P (go a)) → P (if_there true s w go)
+  pub at_there : (w : Word) (go : Argument → Next) → ((a : Argument) → P (go a)) → P (if_there is_checked s w go)
   at_there (BigInt c) go h = at_content c _ (λ x e. h (Cell c x))
   at_there (ObjectCell c) go h = at_content c _ (λ x e. h (Cell c x))
   at_there w go h = h (Plain w)
 
-  at_variable : (k : Kind) (h : Holding) (x : ℕ) (go : Argument → Next) → ((a : Argument) → P (go a)) → P (if_variable true s k h x go)
+  at_variable : (k : Kind) (h : Holding) (x : ℕ) (go : Argument → Next) → ((a : Argument) → P (go a)) → P (if_variable is_checked s k h x go)
   at_variable k h x go is =
       at_word x _ (λ w e. at_true (is_value_of k w) _ (at_there w _ (λ a. at_true (is_holding h a) (go a) (is a))))
 
-  at_stolen : (k : KindAt) (h : Holding) (a : Argument) (l : Ledger) (go : Ledger → Next) → ((r : Ledger) → Leaves l (stolen_from (Steals k h) a) r → P (go r)) → P (if_stolen true s a l go)
-  at_stolen k h (Cell c x) l go is = at_taken c l go (λ r took. is r (λ d. omega (arith, took d)))
-  at_stolen k h (Plain w) l go is = is l (λ d. omega arith)
-  at_stolen k h (Written a) l go is = is l (λ d. omega arith)
+  at_stolen : (k : KindAt) (h : Holding) (a : Argument) (l : Ledger) (go : Ledger → Next) → ((r : Ledger) → (is_checked ≡ true → Leaves l (stolen_from (Steals k h) a) r) → P (go r)) → P (if_stolen is_checked s a l go)
+  at_stolen k h (Cell c x) l go is = at_taken c l go (λ r took. is r took)
+  at_stolen k h (Plain w) l go is = is l (λ t d. omega arith)
+  at_stolen k h (Written a) l go is = is l (λ t d. omega arith)
 
-  at_argument : (code : Code) (p : Parameter) (a : CArg) (earlier : List Argument) (l : Ledger) (go : Argument → Ledger → Next) → ((x : Argument) (r : Ledger) → Leaves l (stolen_from p x) r → P (go x r)) → P (if_argument true s code p a earlier l go)
+  at_argument : (code : Code) (p : Parameter) (a : CArg) (earlier : List Argument) (l : Ledger) (go : Argument → Ledger → Next) → ((x : Argument) (r : Ledger) → (is_checked ≡ true → Leaves l (stolen_from p x) r) → P (go x r)) → P (if_argument is_checked s code p a earlier l go)
   at_argument code (Borrows k h) (arg.Var x) earlier l go is =
-      at_some fault.Kind (kind_found code k earlier) _ (λ kind e. at_variable kind h x _ (λ a. is a l (λ d. omega arith)))
+      at_some fault.Kind (kind_found code k earlier) _ (λ kind e. at_variable kind h x _ (λ a. is a l (λ t d. omega arith)))
   at_argument code (Steals k h) (arg.Var x) earlier l go is =
       at_some fault.Kind (kind_found code k earlier) _ (λ kind e. at_variable kind h x _ (λ a. at_stolen k h a l (go a) (is a)))
-  at_argument code TakesNumber (arg.Number n) earlier l go is = is (Written (arg.Number n)) l (λ d. omega arith)
-  at_argument code TakesText (arg.Text text) earlier l go is = is (Written (arg.Text text)) l (λ d. omega arith)
-  at_argument code TakesException (arg.Text text) earlier l go is = is (Written (arg.Text text)) l (λ d. omega arith)
-  at_argument code TakesGlobal (arg.Global name) earlier l go is = is (Written (arg.Global name)) l (λ d. omega arith)
-  at_argument code TakesClass (arg.Class name) earlier l go is = is (Written (arg.Class name)) l (λ d. omega arith)
+  at_argument code TakesNumber (arg.Number n) earlier l go is = is (Written (arg.Number n)) l (λ t d. omega arith)
+  at_argument code TakesText (arg.Text text) earlier l go is = is (Written (arg.Text text)) l (λ t d. omega arith)
+  at_argument code TakesException (arg.Text text) earlier l go is = is (Written (arg.Text text)) l (λ t d. omega arith)
+  at_argument code TakesGlobal (arg.Global name) earlier l go is = is (Written (arg.Global name)) l (λ t d. omega arith)
+  at_argument code TakesClass (arg.Class name) earlier l go is = is (Written (arg.Class name)) l (λ t d. omega arith)
   at_argument code _ _ earlier l go is = bad fault.Kind
 
-  at_arguments : (code : Code) (ps : List Parameter) (args : List CArg) (earlier : List Argument) (l : Ledger) (go : List Argument → Ledger → Next) → ((xs : List Argument) (r : Ledger) → Leaves l (stolen ps xs) r → P (go xs r)) → P (if_arguments true s code ps args earlier l go)
-  at_arguments code [] [] earlier l go is = is [] l (λ d. omega arith)
+  at_arguments : (code : Code) (ps : List Parameter) (args : List CArg) (earlier : List Argument) (l : Ledger) (go : List Argument → Ledger → Next) → ((xs : List Argument) (r : Ledger) → (is_checked ≡ true → Leaves l (stolen ps xs) r) → P (go xs r)) → P (if_arguments is_checked s code ps args earlier l go)
+  at_arguments code [] [] earlier l go is = is [] l (λ t d. omega arith)
   at_arguments code (p ∷ ps) (a ∷ rest) earlier l go is =
       at_argument code p a earlier l _
       (λ x r first. at_arguments code ps rest (earlier ++ x ∷ []) r (λ others. go (x ∷ others))
-      (λ xs last others. is (x ∷ xs) last (λ d. omega (arith, first d, others d, times-append (stolen_from p x) (stolen ps xs) d))))
+      (λ xs last others. is (x ∷ xs) last (λ t d. omega (arith, first t d, others t d, times-append (stolen_from p x) (stolen ps xs) d))))
   at_arguments code _ _ earlier l go is = bad fault.Kind
 
-  at_may_stand : (b : Bool) (go : Next) → (IsCalm s b → P go) → P (if_may_stand true s b go)
+  at_may_stand : (b : Bool) (go : Next) → (IsCalm s b → P go) → P (if_may_stand is_checked s b go)
   at_may_stand true go h = h (λ e. cc)
   at_may_stand false go h = at_calm s.pending go (λ calm. h (λ e. calm))
 
   -- a call of a primitive
-  pub at_called : (code : Code) (x : Option ℕ) (args : List CArg) (p : Primitive) → (IsCalm s (row_of p).while_pending → (all : List Argument) (l : Ledger) → Leaves s.top.ledger (stolen (row_of p).parameters all) l → P (applied true s x l (stolen (row_of p).parameters all) (effect code s p all))) → P (called true s code x args p)
+  pub at_called : (code : Code) (x : Option ℕ) (args : List CArg) (p : Primitive) → (IsCalm s (row_of p).while_pending → (all : List Argument) (l : Ledger) → (is_checked ≡ true → Leaves s.top.ledger (stolen (row_of p).parameters all) l) → P (applied is_checked s x l (stolen (row_of p).parameters all) (effect code s p all))) → P (called is_checked s code x args p)
   at_called code x args p is =
       at_may_stand (row_of p).while_pending _
       (λ calm. at_arguments code (row_of p).parameters args [] s.top.ledger _ (is calm))
 
-  at_passed : (ks : List Kind) (args : List CArg) (go : List Word → Next) → ((ws : List Word) → P (go ws)) → P (if_passed true s ks args go)
+  at_passed : (ks : List Kind) (args : List CArg) (go : List Word → Next) → ((ws : List Word) → P (go ws)) → P (if_passed is_checked s ks args go)
   at_passed [] [] go h = h []
   at_passed (k ∷ ks) (arg.Var x ∷ rest) go h =
       at_word x _ (λ w e. at_true (is_value_of k w) _ (at_there w _ (λ a. at_passed ks rest (λ ws. go (w ∷ ws)) (λ ws. h (w ∷ ws)))))
   at_passed _ _ go h = bad fault.Kind
 
   -- a call of a function
-  pub at_function : (code : Code) (x : Option ℕ) (args : List CArg) (n : Option ℕ) → ((f : ℕ) (g : CFunc) → n ≡ Some f → slice_get code.funcs f ≡ Some g → (ws : List Word) → P (Goes (entered true s x f (entry_words ws g)))) → P (function_called true s code x args n)
+  pub at_function : (code : Code) (x : Option ℕ) (args : List CArg) (n : Option ℕ) → ((f : ℕ) (g : CFunc) → n ≡ Some f → slice_get code.funcs f ≡ Some g → (ws : List Word) → P (Goes (entered is_checked s x f (entry_words ws g)))) → P (function_called is_checked s code x args n)
   at_function code x args n h =
       at_calm s.pending _
       (λ calm. at_some fault.Kind n _
-      (λ f e. at_some fault.Kind (slice_get code.funcs f) (function_step true s x args f)
+      (λ f e. at_some fault.Kind (slice_get code.funcs f) (function_step is_checked s x args f)
       (λ g is. at_passed (parameter_kinds g) args _ (h f g e is))))
 
-  pub at_jumped : (o : Option ℕ) → ((q : ℕ) → o ≡ Some q → P (Goes (at_place q s))) → P (jumped true s o)
+  pub at_jumped : (o : Option ℕ) → ((q : ℕ) → o ≡ Some q → P (Goes (at_place q s))) → P (jumped is_checked s o)
   at_jumped o h = at_some fault.Kind o _ h
 
-  pub at_chosen : (a b : Option ℕ) (w : Word) → P (jumped true s a) → P (jumped true s b) → P (chosen true s a b w)
+  pub at_chosen : (a b : Option ℕ) (w : Word) → P (jumped is_checked s a) → P (jumped is_checked s b) → P (chosen is_checked s a b w)
   at_chosen a b (CharWord zero) first second = second
   at_chosen a b (CharWord (suc zero)) first second = first
   at_chosen a b _ first second = bad fault.Kind
@@ -124,38 +130,38 @@ module _ (s : MachineState) (P : Next → Type 0) (bad : (f : Fault) → P (Ends
   at_choice true x y p q = p
   at_choice false x y p q = q
 
-  pub at_order : (w : Word) (o : Option ℕ) (go : Next) → P go → P (if_in_order true s w o go)
+  pub at_order : (w : Word) (o : Option ℕ) (go : Next) → P go → P (if_in_order is_checked s w o go)
   at_order w None go h = at_choice (is_error w) _ _ (bad fault.Kind) h
   at_order w (Some c) go h = at_choice (is_error w) _ _ h (at_choice (is_both w) _ _ h (bad fault.Kind))
 
-  pub at_none_left : (l : Ledger) (go : Next) → (l ≡ [] → P go) → P (if_none_left true s l go)
-  at_none_left [] go h = h refl
-  at_none_left (c ∷ l) go h = bad fault.Leak
+  none_left_by : (b : Bool) (l : Ledger) (go : Next) → ((b ≡ true → l ≡ []) → P go) → P (if_none_left b s l go)
+  none_left_by b [] go h = h (λ t. refl)
+  none_left_by true (c ∷ l) go h = bad fault.Leak
+  none_left_by false (c ∷ l) go h = h (λ t. absurd (cc))
 
   -- where a word leaves, the ledger is what it refers to
   abbrev pub IsLeft : Word → Type 0
-  IsLeft w = (c : ℕ) → times s.top.ledger c ≡ times (refs_of w) c
+  IsLeft w = is_checked ≡ true → (c : ℕ) → times s.top.ledger c ≡ times (refs_of w) c
 
-  at_left : (w : Word) (l : Ledger) (next : Next) → ((c : ℕ) → times s.top.ledger c ≡ times (refs_of w) c + times l c) → (IsLeft w → P next) → P (if_none_left true s l next)
-  at_left w l next all h = at_none_left l next (λ nil. h (λ c. omega (arith, all c, ap (λ r. times r c) nil)))
+  at_left : (w : Word) (l : Ledger) (next : Next) → (is_checked ≡ true → Leaves s.top.ledger (refs_of w) l) → (IsLeft w → P next) → P (if_none_left is_checked s l next)
+  at_left w l next all h =
+      none_left_by is_checked l next (λ nil. h (λ t c. omega (arith, all t c, ap (λ r. times r c) (nil t))))
 
-  at_given : (w : Word) (c : ℕ) (next : Next) → ((d : ℕ) → times (refs_of w) d ≡ same c d) → (IsLeft w → P next) → P (if_content true s c (λ x. if_taken true s c s.top.ledger (λ l. if_none_left true s l next)))
-  at_given w c next is h =
-      at_content c _ (λ x e. at_taken c s.top.ledger _ (λ l took. at_left w l next (λ d. omega (arith, is d, took d)) h))
+  pub at_result : (w : Word) (next : Next) → (IsLeft w → P next) → P (if_result is_checked s w (λ l. if_none_left is_checked s l next))
+  at_result (BigInt c) next h =
+      at_content c _ (λ x e. at_taken c s.top.ledger _ (λ l took. at_left (BigInt c) l next took h))
+  at_result (ObjectCell c) next h =
+      at_content c _ (λ x e. at_taken c s.top.ledger _ (λ l took. at_left (ObjectCell c) l next took h))
+  at_result w next h = at_left w s.top.ledger next (λ t c. omega arith) h
 
-  pub at_result : (w : Word) (next : Next) → (IsLeft w → P next) → P (if_result true s w (λ l. if_none_left true s l next))
-  at_result (BigInt c) next h = at_given (BigInt c) c next (λ d. omega arith) h
-  at_result (ObjectCell c) next h = at_given (ObjectCell c) c next (λ d. omega arith) h
-  at_result w next h = at_left w s.top.ledger next (λ c. omega arith) h
-
-  at_given_up : (c : ℕ) → ((l : Ledger) → ((d : ℕ) → times s.top.ledger d ≡ same c d + times l d) → P (Goes (next_line (given true s (c ∷ []) (with_ledger l s))))) → P (given_up true s c)
-  at_given_up c h = at_content c _ (λ x e. at_taken c s.top.ledger (λ l. Goes (next_line (given true s (c ∷ []) (with_ledger l s)))) h)
+  at_given_up : (c : ℕ) → ((l : Ledger) → (is_checked ≡ true → Leaves s.top.ledger (c ∷ []) l) → P (Goes (next_line (given is_checked s (c ∷ []) (with_ledger l s))))) → P (given_up is_checked s c)
+  at_given_up c h = at_content c _ (λ x e. at_taken c s.top.ledger (λ l. Goes (next_line (given is_checked s (c ∷ []) (with_ledger l s)))) h)
 
   -- counts
-  at_taken_more : (c : ℕ) → ((x : Content) → content_at s.cells c ≡ Some x → P (Goes (next_line (own c (with_cells (take_one c s.cells) s))))) → P (taken true s c)
+  at_taken_more : (c : ℕ) → ((x : Content) → content_at s.cells c ≡ Some x → P (Goes (next_line (own c (with_cells (take_one c s.cells) s))))) → P (taken is_checked s c)
   at_taken_more c h = at_content c _ h
 
-  pub at_incremented : (w : Word) → P (Goes (next_line s)) → ((c : ℕ) (x : Content) → content_at s.cells c ≡ Some x → P (Goes (next_line (own c (with_cells (take_one c s.cells) s))))) → P (incremented true s w)
+  pub at_incremented : (w : Word) → P (Goes (next_line s)) → ((c : ℕ) (x : Content) → content_at s.cells c ≡ Some x → P (Goes (next_line (own c (with_cells (take_one c s.cells) s))))) → P (incremented is_checked s w)
   at_incremented (ShortInt n) on h = on
   at_incremented (BigInt c) on h = at_taken_more c (h c)
   at_incremented (ObjectCell c) on h = at_taken_more c (h c)
@@ -164,7 +170,7 @@ module _ (s : MachineState) (P : Next → Type 0) (bad : (f : Fault) → P (Ends
   at_incremented FalseObject on h = on
   at_incremented _ on h = bad fault.Kind
 
-  pub at_decremented : (w : Word) → P (Goes (next_line s)) → ((c : ℕ) (l : Ledger) → ((d : ℕ) → times s.top.ledger d ≡ same c d + times l d) → P (Goes (next_line (given true s (c ∷ []) (with_ledger l s))))) → P (decremented true s w)
+  pub at_decremented : (w : Word) → P (Goes (next_line s)) → ((c : ℕ) (l : Ledger) → (is_checked ≡ true → Leaves s.top.ledger (c ∷ []) l) → P (Goes (next_line (given is_checked s (c ∷ []) (with_ledger l s))))) → P (decremented is_checked s w)
   at_decremented (ShortInt n) on h = on
   at_decremented (BigInt c) on h = at_given_up c (h c)
   at_decremented (ObjectCell c) on h = at_given_up c (h c)
@@ -173,16 +179,16 @@ module _ (s : MachineState) (P : Next → Type 0) (bad : (f : Fault) → P (Ends
   at_decremented FalseObject on h = on
   at_decremented _ on h = bad fault.Kind
 
-  pub at_decremented_if_set : (w : Word) → P (Goes (next_line s)) → ((c : ℕ) (l : Ledger) → ((d : ℕ) → times s.top.ledger d ≡ same c d + times l d) → P (Goes (next_line (given true s (c ∷ []) (with_ledger l s))))) → P (decremented_if_set true s w)
+  pub at_decremented_if_set : (w : Word) → P (Goes (next_line s)) → ((c : ℕ) (l : Ledger) → (is_checked ≡ true → Leaves s.top.ledger (c ∷ []) l) → P (Goes (next_line (given is_checked s (c ∷ []) (with_ledger l s))))) → P (decremented_if_set is_checked s w)
   at_decremented_if_set TaggedError on h = on
   at_decremented_if_set NoObject on h = on
   at_decremented_if_set w on h = at_decremented w on h
 
-  at_thrown : (x : Content) (go : Ending → Next) → ((e : Ending) → P (go e)) → P (if_thrown true s x go)
+  at_thrown : (x : Content) (go : Ending → Next) → ((e : Ending) → P (go e)) → P (if_thrown is_checked s x go)
   at_thrown (ExcCell e) go h = h (Raised e)
   at_thrown _ go h = bad fault.Kind
 
-  pub at_ended : (w : Word) (o : Option ℕ) (go : Ending → Next) → ((e : Ending) → P (go e)) → P (if_ended true s w o go)
+  pub at_ended : (w : Word) (o : Option ℕ) (go : Ending → Next) → ((e : Ending) → P (go e)) → P (if_ended is_checked s w o go)
   at_ended (CharWord (suc zero)) None go h = h Done
   at_ended (CharWord (suc (suc zero))) (Some c) go h = at_content c _ (λ x e. at_thrown x go h)
   at_ended _ _ go h = bad fault.Kind

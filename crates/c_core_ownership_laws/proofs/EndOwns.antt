@@ -48,9 +48,9 @@ module _ (s : MachineState) where
 
   -- the module returns a number, so its ledger is empty
   none_left : (w : Word) (e : Ending) → ((c : ℕ) → times (refs_of w) c ≡ 0) → s.below ≡ [] → Left (if_result true s w (λ l. if_none_left true s l (Ends (Ended e) s)))
-  none_left w Done bare alone = at_result s Left bad w _ (λ all c. omega (arith, all c, bare c, ap (λ b. owned_below b c) alone))
-  none_left w (Raised e) bare alone = at_result s Left bad w _ (λ all c. omega (arith, all c, bare c, ap (λ b. owned_below b c) alone))
-  none_left w e bare alone = at_result s Left bad w _ (λ all. tt)
+  none_left w Done bare alone = at_result true s Left bad w _ (λ all c. omega (arith, all refl c, bare c, ap (λ b. owned_below b c) alone))
+  none_left w (Raised e) bare alone = at_result true s Left bad w _ (λ all c. omega (arith, all refl c, bare c, ap (λ b. owned_below b c) alone))
+  none_left w e bare alone = at_result true s Left bad w _ (λ all. tt)
 
   thrown_left : (n : ℕ) (v : Content) → s.below ≡ [] → Left (if_thrown true s v (λ e. if_result true s (CharWord n) (λ l. if_none_left true s l (Ends (Ended e) s))))
   thrown_left n (ExcCell e) alone = none_left (CharWord n) (Raised e) (λ c. refl) alone
@@ -59,40 +59,40 @@ module _ (s : MachineState) where
   ended_left : (w : Word) (o : Option ℕ) → s.below ≡ [] → Left (if_ended true s w o (λ e. if_result true s w (λ l. if_none_left true s l (Ends (Ended e) s))))
   ended_left (CharWord (suc zero)) None alone = none_left (CharWord 1) Done (λ c. refl) alone
   ended_left (CharWord (suc (suc zero))) (Some c) alone =
-      at_content s Left bad c _ (λ v e. thrown_left 2 v alone)
+      at_content true s Left bad c _ (λ v e. thrown_left 2 v alone)
   ended_left _ _ alone = tt
 
   return_left : (w : Word) (fs : List Frame) → s.below ≡ fs → Left (if_return true s w fs (λ next. if_result true s w (λ l. if_none_left true s l next)))
   return_left w [] alone = ended_left w s.pending alone
-  return_left w (f ∷ fs) e = at_result s Left bad w _ (λ all. tt)
+  return_left w (f ∷ fs) e = at_result true s Left bad w _ (λ all. tt)
 
   call_left : (code : Code) (x : Option ℕ) (name : List ℕ) (args : List CArg) (o : Option Primitive) → Left (call_step true s code x name args o)
   call_left code x name args (Some p) =
-      at_called s Left bad code x args p
+      at_called true s Left bad code x args p
       (λ calm all l left. applied_left x l (stolen (row_of p).parameters all) (effect code s p all) (stops_by_input code s p all))
   call_left code x name args None =
-      at_function s Left bad code x args (function_named code.funcs name) (λ f g e is ws. tt)
+      at_function true s Left bad code x args (function_named code.funcs name) (λ f g e is ws. tt)
 
   line_left : (code : Code) (o : Option Line) → Left (step_at true code s o)
   line_left code None = tt
   line_left code (Some Label) = tt
-  line_left code (Some (Move x y)) = at_word s Left bad y _ (λ w e. at_there s Left bad w _ (λ a. tt))
+  line_left code (Some (Move x y)) = at_word true s Left bad y _ (λ w e. at_there true s Left bad w _ (λ a. tt))
   line_left code (Some (Lit x l)) =
-      at_some s Left bad fault.Kind (option_and_then (λ k. literal_word k l) (kind_of code s.top x)) _ (λ w e. tt)
+      at_some true s Left bad fault.Kind (option_and_then (λ k. literal_word k l) (kind_of code s.top x)) _ (λ w e. tt)
   line_left code (Some (Call x name args)) = call_left code x name args (primitive_named name)
-  line_left code (Some (Goto n)) = at_jumped s Left bad (label_at code s.top n) (λ q e. tt)
+  line_left code (Some (Goto n)) = at_jumped true s Left bad (label_at code s.top n) (λ q e. tt)
   line_left code (Some (If x n m)) =
-      at_word s Left bad x _
-      (λ w e. at_chosen s Left bad (label_at code s.top n) (label_at code s.top m) w
-      (at_jumped s Left bad (label_at code s.top n) (λ q e. tt)) (at_jumped s Left bad (label_at code s.top m) (λ q e. tt)))
+      at_word true s Left bad x _
+      (λ w e. at_chosen true s Left bad (label_at code s.top n) (label_at code s.top m) w
+      (at_jumped true s Left bad (label_at code s.top n) (λ q e. tt)) (at_jumped true s Left bad (label_at code s.top m) (λ q e. tt)))
   line_left code (Some (IfError x n m)) =
-      at_word s Left bad x _ (λ w e. at_jumped s Left bad (label_at code s.top (cond (equals_error w) n m)) (λ q e. tt))
-  line_left code (Some Turn) = at_calm s Left bad s.pending _ (λ calm. turned_left s.turns)
+      at_word true s Left bad x _ (λ w e. at_jumped true s Left bad (label_at code s.top (cond (equals_error w) n m)) (λ q e. tt))
+  line_left code (Some Turn) = at_calm true s Left bad s.pending _ (λ calm. turned_left s.turns)
   line_left code (Some (Return x)) =
-      at_word s Left bad x _ (λ w e. at_order s Left bad w s.pending _ (return_left w s.below refl))
-  line_left code (Some (Inc x)) = at_word s Left bad x _ (λ w e. at_incremented s Left bad w tt (λ c v e. tt))
-  line_left code (Some (Dec x)) = at_word s Left bad x _ (λ w e. at_decremented s Left bad w tt (λ c l took. tt))
-  line_left code (Some (XDec x)) = at_word s Left bad x _ (λ w e. at_decremented_if_set s Left bad w tt (λ c l took. tt))
+      at_word true s Left bad x _ (λ w e. at_order true s Left bad w s.pending _ (return_left w s.below refl))
+  line_left code (Some (Inc x)) = at_word true s Left bad x _ (λ w e. at_incremented true s Left bad w tt (λ c v e. tt))
+  line_left code (Some (Dec x)) = at_word true s Left bad x _ (λ w e. at_decremented true s Left bad w tt (λ c l took. tt))
+  line_left code (Some (XDec x)) = at_word true s Left bad x _ (λ w e. at_decremented_if_set true s Left bad w tt (λ c l took. tt))
 
 over_left : (e : MachineEnding) (t : MachineState) → Left (Ends e t) → IsFinished e → (c : ℕ) → owned t c ≡ 0
 over_left (Ended Done) t h o = h

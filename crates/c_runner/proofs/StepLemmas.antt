@@ -82,42 +82,42 @@ module _ (s : MachineState) where
   turned_on (suc n) = same (next_line (record s { turns = n })) refl
 
   return_on : (w : Word) (fs : List Frame) → To (if_return true s w fs (λ next. if_result true s w (λ l. if_none_left true s l next)))
-  return_on w [] = at_ended s To bad w s.pending _ (λ end. at_result s To bad w _ (λ all. refl))
+  return_on w [] = at_ended true s To bad w s.pending _ (λ end. at_result true s To bad w _ (λ all. refl))
   return_on w (f ∷ fs) =
-      at_result s To bad w _ (λ all. target_same s.top.into w (record s { top = record f { ledger = more_of (refs_of w) f.ledger }; below = fs }) refl)
+      at_result true s To bad w _ (λ all. target_same s.top.into w (record s { top = record f { ledger = more_of (refs_of w) f.ledger }; below = fs }) refl)
 
   call_on : (code : Code) (x : Option ℕ) (name : List ℕ) (args : List CArg) (o : Option Primitive) → To (call_step true s code x name args o)
   call_on code x name args (Some p) =
-      at_called s To bad code x args p (λ calm all l left. applied_on x l (stolen (row_of p).parameters all) (effect code s p all))
+      at_called true s To bad code x args p (λ calm all l left. applied_on x l (stolen (row_of p).parameters all) (effect code s p all))
   call_on code x name args None =
-      at_function s To bad code x args (function_named code.funcs name) (λ f g e is ws. record { more = []; grown = sym (append-nil s.output) })
+      at_function true s To bad code x args (function_named code.funcs name) (λ f g e is ws. record { more = []; grown = sym (append-nil s.output) })
 
   jump_on : (code : Code) (n : ℕ) → To (step_at true code s (Some (Goto n)))
-  jump_on code n = at_jumped s To bad (label_at code s.top n) (λ q e. record { more = []; grown = sym (append-nil s.output) })
+  jump_on code n = at_jumped true s To bad (label_at code s.top n) (λ q e. record { more = []; grown = sym (append-nil s.output) })
 
   step_on : (code : Code) (o : Option Line) → To (step_at true code s o)
   step_on code None = refl
   step_on code (Some Label) = on
   step_on code (Some (Move x y)) =
-      at_word s To bad y _ (λ w e. at_there s To bad w _ (λ a. record { more = []; grown = sym (append-nil s.output) }))
+      at_word true s To bad y _ (λ w e. at_there true s To bad w _ (λ a. record { more = []; grown = sym (append-nil s.output) }))
   step_on code (Some (Lit x l)) =
-      at_some s To bad fault.Kind (option_and_then (λ k. literal_word k l) (kind_of code s.top x)) _
+      at_some true s To bad fault.Kind (option_and_then (λ k. literal_word k l) (kind_of code s.top x)) _
       (λ w e. record { more = []; grown = sym (append-nil s.output) })
   step_on code (Some (Call x name args)) = call_on code x name args (primitive_named name)
   step_on code (Some (Goto n)) = jump_on code n
   step_on code (Some (If x n m)) =
-      at_word s To bad x _
-      (λ w e. at_chosen s To bad (label_at code s.top n) (label_at code s.top m) w (jump_on code n) (jump_on code m))
+      at_word true s To bad x _
+      (λ w e. at_chosen true s To bad (label_at code s.top n) (label_at code s.top m) w (jump_on code n) (jump_on code m))
   step_on code (Some (IfError x n m)) =
-      at_word s To bad x _ (λ w e. jump_on code (cond (equals_error w) n m))
-  step_on code (Some Turn) = at_calm s To bad s.pending _ (λ calm. turned_on s.turns)
-  step_on code (Some (Return x)) = at_word s To bad x _ (λ w e. at_order s To bad w s.pending _ (return_on w s.below))
+      at_word true s To bad x _ (λ w e. jump_on code (cond (equals_error w) n m))
+  step_on code (Some Turn) = at_calm true s To bad s.pending _ (λ calm. turned_on s.turns)
+  step_on code (Some (Return x)) = at_word true s To bad x _ (λ w e. at_order true s To bad w s.pending _ (return_on w s.below))
   step_on code (Some (Inc x)) =
-      at_word s To bad x _ (λ w e. at_incremented s To bad w on (λ c content is. record { more = []; grown = sym (append-nil s.output) }))
+      at_word true s To bad x _ (λ w e. at_incremented true s To bad w on (λ c content is. record { more = []; grown = sym (append-nil s.output) }))
   step_on code (Some (Dec x)) =
-      at_word s To bad x _ (λ w e. at_decremented s To bad w on (λ c l took. record { more = []; grown = sym (append-nil s.output) }))
+      at_word true s To bad x _ (λ w e. at_decremented true s To bad w on (λ c l took. record { more = []; grown = sym (append-nil s.output) }))
   step_on code (Some (XDec x)) =
-      at_word s To bad x _ (λ w e. at_decremented_if_set s To bad w on (λ c l took. record { more = []; grown = sym (append-nil s.output) }))
+      at_word true s To bad x _ (λ w e. at_decremented_if_set true s To bad w on (λ c l took. record { more = []; grown = sym (append-nil s.output) }))
 
   pub step_keeps : (code : Code) → KeepsTo s (step code s)
   step_keeps code = step_on code (line_at code s.top)

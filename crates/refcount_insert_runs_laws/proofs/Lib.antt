@@ -18,7 +18,5 @@ pub mod Entering
 pub mod Calling
 pub mod Ending
 pub mod Leaving
-pub mod FreeSteps
-pub mod Stopping
 pub mod Stepping
 pub mod Whole

@@ -12,8 +12,9 @@ use Rattle.c_core.specs.Machine.{Word, ShortInt, BigInt, Native, CharWord, Objec
 use Rattle.c_core.specs.Stands.{IsLive, Matches, MatchSet, MatchesStore, in_short, in_native, in_big, true_char, false_char, true_object, false_object, Stands}
 use Rattle.c_core.specs.Step.{Next, Goes, Ends}
 use Rattle.c_core.specs.Step as machines
-use Rattle.c_core.specs.Run.{Stop, go_on, first_words, module_function}
+use Rattle.c_core.specs.Run.{Stop, go_on, first_words, module_function, most_steps}
 use Rattle.c_core.specs.Run as text_runs
+use Rattle.c_core.proofs.Bounds.{unchecked_run_exists}
 use Rattle.ir_core.specs.declared.code.RType.{RType}
 use Rattle.ir_core.specs.declared.code.Func.{Func}
 use Rattle.ir_core.specs.declared.code.Program.{Program}
@@ -43,7 +44,6 @@ use Rattle.refcount_insert_runs_laws.proofs.Relation.{code, machine, EndsAt, At,
 use Rattle.refcount_insert_runs_laws.proofs.Entering.{begin_at}
 use Rattle.refcount_insert_runs_laws.proofs.Calling.{Moves}
 use Rattle.refcount_insert_runs_laws.proofs.Stepping.{LinesDo, one}
-use Rattle.refcount_insert_runs_laws.proofs.Stopping.{free_run_stops}
 use Rattle.refcount_insert_runs_laws.proofs.Shapes.{top_params}
 
 -- ---- the end
@@ -248,16 +248,16 @@ module _ (lines_do : LinesDo) (p q : Program) (shape : Shape p) (counted : IsCou
 
     pub follows : Fit p → UncheckedFollows p (code p q) turns items
     follows fits =
-        let stops = free_run_stops (code p q) wf turns items in
-        let r = whole_run (fits turns items) stops.0 stops.1 stops.2 in
+        let stops = unchecked_run_exists (code p q) wf turns items in
+        let r = whole_run (fits turns items) (most_steps turns (code p q)) stops.0 stops.1 in
         record {
-          bound = stops.0;
-          stop = stops.1;
-          runs = stops.2;
+          bound = most_steps turns (code p q);
+          stop = stops.0;
+          runs = stops.1;
           ending = r.ending;
           world = r.world;
           comes = (r.bound, sym (unstuck_is_plain Fitting p r.bound (start p turns items) (fits turns items r.bound)) ∙ r.is);
-          stands = record { same_output = r.at.output; same_ending = r.same; standing = standing p r.world stops.1.state r.ending r.at };
+          stands = record { same_output = r.at.output; same_ending = r.same; standing = standing p r.world stops.0.state r.ending r.at };
         }
 
 -- ---- the law
