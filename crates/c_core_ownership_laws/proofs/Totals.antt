@@ -44,13 +44,6 @@ total-one zero (v ∷ ws) w c e =
     let f : v ≡ w = cc in omega (arith, ap (λ z. times (refs_of z) c) f, total-none ws c)
 total-one (suc x) (v ∷ ws) w c e = omega (arith, total-one x ws w c e)
 
--- the shares of one variable are a part
-pub total-part : (k : ℕ → ℕ) (ws : List Word) (x : ℕ) (w : Word) (c : ℕ) → slice_get ws x ≡ Some w → many (k x) (times (refs_of w) c) ≤ total k ws c
-total-part k [] x w c e = cc
-total-part k (v ∷ ws) zero w c e =
-    let f : v ≡ w = cc in omega (arith, ap (λ z. many (k 0) (times (refs_of z) c)) f)
-total-part k (v ∷ ws) (suc x) w c e = omega (arith, total-part (λ r. k (suc r)) ws x w c e)
-
 pub total-put : (k : ℕ → ℕ) (ws : List Word) (x n : ℕ) (w : Word) (c : ℕ) → slice_get ws x ≡ Some w → total (put x n k) ws c + many (k x) (times (refs_of w) c) ≡ total k ws c + many n (times (refs_of w) c)
 total-put k [] x n w c e = cc
 total-put k (v ∷ ws) zero n w c e =

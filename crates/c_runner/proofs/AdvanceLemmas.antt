@@ -5,7 +5,6 @@ use Rattle.std.specs.List.{list_any}
 use Rattle.value_core.specs.Ending as source
 use Rattle.value_core.specs.Items as items
 use Rattle.value_core.specs.Items.{Items, InputEnd, AtEof, is_line_feed, before_pieces, pieces, lines_from, most_input}
-use Rattle.outside_core.specs.Bytes.{TakesFront}
 use Rattle.outside_core.proofs.Fronts.{TakesFront-all, TakesFront-before}
 use Rattle.c_core.specs.Machine.{MachineState}
 use Rattle.c_core.specs.Step.{Next, Ends, Ended}
@@ -51,13 +50,6 @@ hands_all tells sink sink' held kept Untouched hands none =
 -- ---- the call for a line
 takes_some : (reader : ReaderState) (tells : Bool) (left left' : List ℕ) (P : List ℕ → Type 0) → Takes reader tells left left' P → TakesSome reader tells left left'
 takes_some reader tells left left' P takes = record { taken = takes.taken; given = takes.given; within = λ h. takes.within }
-
-takes_none : (reader : ReaderState) (tells : Bool) (left : List ℕ) → TakesSome reader tells left left
-takes_none reader tells left = record { taken = []; given = λ t. refl; within = λ h. omega (arith, h) }
-
-pub fetch_refused : (reader reader' : ReaderState) (held held' : List ℕ) (out_tells : Bool) (sink sink' : List ℕ) (Untouched : Type 0) (in_tells : Bool) (left : List ℕ) → (IsTrue out_tells → TakesFront sink sink' held) → (held ≡ [] → Untouched) → Fetches reader reader' held held' out_tells sink sink' Untouched in_tells left left (Err WriteFault)
-fetch_refused reader reader' held held' out_tells sink sink' Untouched in_tells left front alone =
-    (record { front = front; alone = alone }, takes_none reader in_tells left)
 
 pub fetch_failed : (reader reader' : ReaderState) (held held' : List ℕ) (out_tells : Bool) (sink sink' : List ℕ) (Untouched : Type 0) (in_tells : Bool) (left left' : List ℕ) (will_read : Bool) (fault : ReadFault) → HandsOn out_tells sink sink' held held' Untouched → will_read ≡ not (is_ready reader) → (IsTrue will_read → held' ≡ []) → Takes reader in_tells left left' (Refuses fault reader) → (fault ≡ read.Failed → is_ready reader ≡ false) → Fetches reader reader' held held' out_tells sink sink' Untouched in_tells left left' (Err (error_of_read fault))
 fetch_failed reader reader' held held' out_tells sink sink' Untouched in_tells left left' will_read read.Failed hands will emptied takes unready =

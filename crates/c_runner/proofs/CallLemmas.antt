@@ -1,7 +1,6 @@
 -- What the calls of primitives on native integers and truths are, by the words of their arguments.
 use Rattle.std.proofs.Common.{◌≡◌, refl, ap, ◌∙◌, ℕ, Bool, true, false, cond, List, [], ◌∷◌, Option, Some, None}
 use Rattle.std.specs.Prelude.{ℤ, pos, not, ◌==◌, slice_get}
-use Rattle.std.specs.Fmt.{signed_decimal}
 use Rattle.std.specs.Option.{option_and_then, option_map}
 use Rattle.value_core.specs.Arithmetic.{i64_neg}
 use Rattle.c_core.specs.declared.code.CArg.{CArg}
@@ -15,15 +14,13 @@ use Rattle.c_core.specs.declared.primitive.Int64Prim.TheVariants as int64
 use Rattle.c_core.specs.declared.primitive.BoolPrim.TheVariants as bool
 use Rattle.c_core.specs.Arguments.{Argument, Plain, is_value_of}
 use Rattle.c_core.specs.Ledgers.{Ledger}
-use Rattle.c_core.specs.Machine.{Word, ShortInt, BigInt, TaggedError, Native, CharWord, ObjectCell, NoneObject, TrueObject, FalseObject, NoObject, StrCell, refs_in, MachineState}
+use Rattle.c_core.specs.Machine.{Word, ShortInt, BigInt, TaggedError, Native, CharWord, ObjectCell, NoneObject, TrueObject, FalseObject, NoObject, refs_in, MachineState}
 use Rattle.c_core.specs.Primitives.{Parameter, Borrows, Is, Anything}
-use Rattle.c_core.specs.Step.{Next, Goes, Effect, Says, Makes, if_some, if_true, if_there, if_argument, if_arguments, faulted, applied, primitive_step, next_line, with_target, with_cells, truth_word, truth_text}
+use Rattle.c_core.specs.Step.{Next, Goes, Effect, Says, if_some, if_true, if_there, if_argument, if_arguments, faulted, applied, primitive_step, next_line, with_target, with_cells, truth_word}
 use Rattle.c_core.proofs.ReleaseLemmas.{release-nothing}
 use Rattle.c_runner.specs.declared.state.State.{State}
-use Rattle.c_runner.specs.Parts.{native_of, char_of, native_at, char_at, one_native, both, two_natives, one_char, two_effect, int64_effect}
+use Rattle.c_runner.specs.Parts.{native_of, char_of, native_at, char_at, one_native, both, two_natives, one_char, int64_effect}
 use Rattle.c_runner.specs.States.{Rest, state_of}
-use Rattle.cell_heap.specs.declared.word.Word as heap
-use Rattle.cell_heap.specs.Contents as contents
 
 module _ (s : MachineState) where
   abbrev kind_fault : Next
@@ -143,14 +140,8 @@ module _ (rest : Rest) (old : State) (code : Code) (x : Option ℕ) (args : List
   abbrev t : MachineState
   t = state_of rest old
 
-  pub number_shown : primitive_step true t code x args (prim.Int64 int64.Str) ≡ if_some true t fault.Kind (one_native t.top.vars args) (λ n. applied true t x t.top.ledger [] (Makes (StrCell (signed_decimal n))))
-  number_shown = one_found t code args t.top.ledger _
-
   pub not_said : primitive_step true t code x args (prim.Bool bool.Not) ≡ if_some true t fault.Kind (option_map (λ n. truth_word (n == 0)) (one_char t.top.vars args)) (says t x)
   not_said = char_only t code args t.top.ledger _ ∙ all_said t x (one_char t.top.vars args) (λ n. truth_word (n == 0))
-
-  pub truth_shown : primitive_step true t code x args (prim.Bool bool.Str) ≡ if_some true t fault.Kind (one_char t.top.vars args) (λ n. applied true t x t.top.ledger [] (Makes (StrCell (truth_text n))))
-  truth_shown = char_only t code args t.top.ledger _
 
   two_applied : (f : ℤ × ℤ → Effect) → if_some true t fault.Kind (two_natives t.top.vars args) (λ q. applied true t x t.top.ledger [] (f q)) ≡ if_some true t fault.Kind (option_and_then (λ q. Some (f q)) (two_natives t.top.vars args)) (applied true t x t.top.ledger [])
   two_applied f = then_applied t x (two_natives t.top.vars args) f
@@ -170,14 +161,3 @@ module _ (rest : Rest) (old : State) (code : Code) (x : Option ℕ) (args : List
   int64_called int64.Lt other = two_found t code args t.top.ledger _ ∙ two_applied _
   int64_called int64.Le other = two_found t code args t.top.ledger _ ∙ two_applied _
   int64_called int64.Str other = absurd (other refl)
-
--- the effect of a primitive on two native integers
-pub two_are : (vars : List Word) (args : List CArg) (p : Int64Prim) → (p ≡ int64.Str → ⊥) → (p ≡ int64.Negate → ⊥) → (p ≡ int64.FromBool → ⊥) → int64_effect p vars args ≡ option_and_then (λ q. two_effect p q.0 q.1) (two_natives vars args)
-two_are vars args int64.Negate a b c = absurd (b refl)
-two_are vars args int64.FromBool a b c = absurd (c refl)
-two_are vars args int64.Str a b c = absurd (a refl)
-two_are vars args _ a b c = refl
-
--- a word that an operation answers
-pub word_settled : (rest : Rest) (old : State) (x : Option ℕ) (w : heap.Word) (next : Next) → if_some true (state_of rest old) fault.Kind (Some (contents.word_of w)) (says (state_of rest old) x) ≡ next → applied true (state_of rest old) x old.top.ledger [] (Says (contents.word_of w)) ≡ next
-word_settled rest old x w next is = said (state_of rest old) x (contents.word_of w) ∙ is

@@ -1,6 +1,6 @@
 -- Exceptions: what makes one, lets one be pending, or catches one, at the runner's states.
 use Rattle.std.proofs.Common.{◌≡◌, refl, sym, ap, ◌∙◌, ℕ, ◌+◌, Bool, true, false, cond, List, [], ◌∷◌, length, eqb, arith, Option, Some, None}
-use Rattle.std.specs.Prelude.{is_some, nat_lt, slice_get, Result, Ok, Err, IfOk}
+use Rattle.std.specs.Prelude.{is_some, slice_get, Result, Ok, Err, IfOk}
 use Rattle.std.specs.Option.{option_map}
 use Rattle.value_core.specs.declared.exception.ExcClass.{ExcClass}
 use Rattle.value_core.specs.Exceptions.{Thrown, thrown, class_named, is_under}
@@ -14,8 +14,8 @@ use Rattle.c_core.specs.declared.primitive.Primitive.TheVariants as prim
 use Rattle.c_core.specs.declared.primitive.ExcPrim.TheVariants as exc
 use Rattle.c_core.specs.declared.primitive.ErrPrim.TheVariants as err
 use Rattle.c_core.specs.Arguments.{Argument, Cell}
-use Rattle.c_core.specs.Cells.{Cells, times, make}
-use Rattle.c_core.specs.Ledgers.{Ledger, more, without}
+use Rattle.c_core.specs.Cells.{Cells, make}
+use Rattle.c_core.specs.Ledgers.{more}
 use Rattle.c_core.specs.Machine as machine
 use Rattle.c_core.specs.Machine.{Content, StrCell, ExcCell, MachineState, refs_in}
 use Rattle.c_core.specs.Primitives.{AText, AnException}
@@ -33,13 +33,8 @@ use Rattle.cell_heap.specs.declared.word.Word.TheVariants as heap
 use Rattle.cell_heap.specs.Contents as contents
 use Rattle.cell_heap.specs.Contents.{number_of}
 use Rattle.c_runner.proofs.FrameLemmas.{target_set}
-use Rattle.c_runner.proofs.GlobalLemmas.{taken_is, not_taken}
 
 -- ---- the same step in other words
-pub follows_as : {E : Type 0} (does other : MachineState → Next) (old new : State) (r : Result (Option Ending) E) → ((rest : Rest) → other (state_of rest old) ≡ does (state_of rest old)) → IfOk r (λ ending. Follows does ending old new) → IfOk r (λ ending. Follows other ending old new)
-follows_as does other old new (Ok ending) same h = λ rest. same rest ∙ h rest
-follows_as does other old new (Err e) same h = tt
-
 pub follows_all : {E : Type 0} (does other : Code → MachineState → Next) (old new : State) (r : Result (Option Ending) E) → ((code : Code) (rest : Rest) → other code (state_of rest old) ≡ does code (state_of rest old)) → IfOk r (λ ending. (code : Code) → Follows (does code) ending old new) → IfOk r (λ ending. (code : Code) → Follows (other code) ending old new)
 follows_all does other old new (Ok ending) same h = λ code rest. same code rest ∙ h code rest
 follows_all does other old new (Err e) same h = tt
@@ -97,36 +92,12 @@ made_is s code target name x is_alone c text copy class next found alone same e 
     ∙ ap (λ t. applied true s target s.top.ledger [] (Makes (ExcCell (thrown class t)))) (sym same)
     ∙ is
 
-pub none_made : (s : MachineState) (code : Code) (target : Option ℕ) (name : List ℕ) (x : ℕ) (is_alone : Bool) (c : ℕ) (text : List ℕ) → ((go : Argument → Next) → if_variable true s Object AText x go ≡ go (Cell c (StrCell text))) → is_alone ≡ true → None ≡ class_named name → exception_made code target name x is_alone s ≡ Ends (Faulted fault.Kind) s
-none_made s code target name x is_alone c text found alone e =
-    found _
-    ∙ ap (λ b. cond b (applied true s target s.top.ledger [] (made_exception (class_named name) text)) (faulted true s fault.Kind)) alone
-    ∙ ap (λ o. applied true s target s.top.ledger [] (made_exception o text)) (sym e)
-
 pub shown_is : (s : MachineState) (code : Code) (target : Option ℕ) (x : ℕ) (is_alone : Bool) (c : ℕ) (e : Thrown) (copy : List ℕ) (next : Next) → ((go : Argument → Next) → if_variable true s Object AnException x go ≡ go (Cell c (ExcCell e))) → is_alone ≡ true → copy ≡ e.text → applied true s target s.top.ledger [] (Makes (StrCell copy)) ≡ next → exception_shown code target x is_alone s ≡ next
 shown_is s code target x is_alone c e copy next found alone same is =
     found _
     ∙ ap (λ b. cond b (applied true s target s.top.ledger [] (Makes (StrCell e.text))) (faulted true s fault.Kind)) alone
     ∙ ap (λ t. applied true s target s.top.ledger [] (Makes (StrCell t))) (sym same)
     ∙ is
-
--- ---- an exception that is pending from now on
-module _ (s : MachineState) (code : Code) (target : Option ℕ) (x : ℕ) (is_alone : Bool) (c : ℕ) (e : Thrown) (found : (go : Argument → Next) → if_variable true s Object AnException x go ≡ go (Cell c (ExcCell e))) where
-  abbrev alone_or : Ledger → Next
-  alone_or l = cond is_alone (applied true s target l (c ∷ []) (step.Pends c)) (faulted true s fault.Kind)
-
-  pub set_not_owned : nat_lt 0 (times s.top.ledger c) ≡ false → object_set code target x is_alone s ≡ Ends (Faulted fault.NotOwned) s
-  set_not_owned none = found _ ∙ not_taken s c s.top.ledger alone_or none
-
-  pub set_not_alone : nat_lt 0 (times s.top.ledger c) ≡ true → is_alone ≡ false → object_set code target x is_alone s ≡ Ends (Faulted fault.Kind) s
-  set_not_alone owned more_is =
-      found _ ∙ taken_is s c s.top.ledger alone_or owned
-      ∙ ap (λ b. cond b (applied true s target (without c s.top.ledger) (c ∷ []) (step.Pends c)) (faulted true s fault.Kind)) more_is
-
-  pub set_is : nat_lt 0 (times s.top.ledger c) ≡ true → is_alone ≡ true → object_set code target x is_alone s ≡ Goes (next_line (record (step.with_ledger (without c s.top.ledger) s) { pending = Some c }))
-  set_is owned alone =
-      found _ ∙ taken_is s c s.top.ledger alone_or owned
-      ∙ ap (λ b. cond b (applied true s target (without c s.top.ledger) (c ∷ []) (step.Pends c)) (faulted true s fault.Kind)) alone
 
 -- ---- the same for what a call answers
 pub makes_exception : {E : Type 0} (old new : State) (target : Option ℕ) (name : List ℕ) (x : ℕ) (is_alone : Bool) (c : ℕ) (text copy : List ℕ) (class : ExcClass) (r : Result (Option Ending) E) → ((rest : Rest) (go : Argument → Next) → if_variable true (state_of rest old) Object AText x go ≡ go (Cell c (StrCell text))) → is_alone ≡ true → copy ≡ text → Some class ≡ class_named name → IfOk r (λ ending. Follows (λ s. applied true s target s.top.ledger [] (Makes (ExcCell (thrown class copy)))) ending old new) → IfOk r (λ ending. (code : Code) → Follows (exception_made code target name x is_alone) ending old new)
@@ -192,19 +163,6 @@ module _ (s : MachineState) (code : Code) (target : Option ℕ) where
       ap (λ t. applied true s target s.top.ledger [] (matched (class_named t) (pending_exception s))) same
   matches_step _ class e = absurd (cc)
 
-  pub matches_nothing : (args : List CArg) → None ≡ only_text args → primitive_step true s code target args (prim.Err err.Matches) ≡ Ends (Faulted fault.Kind) s
-  matches_nothing [] e = refl
-  matches_nothing (arg.Text text ∷ []) e = absurd (cc)
-  matches_nothing (arg.Var x ∷ []) e = refl
-  matches_nothing (arg.Number n ∷ []) e = refl
-  matches_nothing (arg.Global name ∷ []) e = refl
-  matches_nothing (arg.Class name ∷ []) e = refl
-  matches_nothing (arg.Text text ∷ b ∷ more) e = refl
-  matches_nothing (arg.Var x ∷ b ∷ more) e = refl
-  matches_nothing (arg.Number n ∷ b ∷ more) e = refl
-  matches_nothing (arg.Global name ∷ b ∷ more) e = refl
-  matches_nothing (arg.Class name ∷ b ∷ more) e = refl
-
   -- no argument
   none_there : (args : List CArg) → eqb (length args) 0 ≡ true → args ≡ []
   none_there [] e = refl
@@ -216,14 +174,3 @@ module _ (s : MachineState) (code : Code) (target : Option ℕ) where
       ∙ ap (λ v. applied true s target s.top.ledger [] (Says v)) (sym same)
       ∙ ap (λ cells. Goes (next_line (step.with_target target w (with_cells cells s)))) (release-nothing refs_in s.cells)
       ∙ is
-
-  pub occurred_others : (args : List CArg) → eqb (length args) 0 ≡ false → primitive_step true s code target args (prim.Err err.Occurred) ≡ Ends (Faulted fault.Kind) s
-  occurred_others [] e = absurd (grind (arith, nat_tests, e))
-  occurred_others (a ∷ args) e = refl
-
-  pub catch_others : (args : List CArg) → eqb (length args) 0 ≡ false → primitive_step true s code target args (prim.Err err.Catch) ≡ Ends (Faulted fault.Kind) s
-  catch_others [] e = absurd (grind (arith, nat_tests, e))
-  catch_others (a ∷ args) e = refl
-
-  pub catch_step : (args : List CArg) → eqb (length args) 0 ≡ true → primitive_step true s code target args (prim.Err err.Catch) ≡ applied true s target s.top.ledger [] (caught s.pending)
-  catch_step args e = ap (λ a. primitive_step true s code target a (prim.Err err.Catch)) (none_there args e)

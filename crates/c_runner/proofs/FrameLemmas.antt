@@ -1,8 +1,7 @@
 -- Calls of functions and returns from them, at the runner's states.
-use Rattle.std.proofs.Common.{◌≡◌, ◌≢◌, refl, sym, ap, ◌∙◌, ℕ, zero, suc, ◌+◌, ◌^◌, ◌<◌, ◌≤◌, arith, add-one, Bool, true, false, cond, List, [], ◌∷◌, ◌++◌, append_assoc, length, get_or, take, drop, drop-cons, Option, Some, None}
-use Rattle.std.specs.Prelude.{map, reverse, slice_get, nat_lt, is_some, ◌&&◌}
+use Rattle.std.proofs.Common.{◌≡◌, ◌≢◌, refl, sym, ap, ◌∙◌, ℕ, zero, suc, ◌+◌, ◌^◌, ◌<◌, ◌≤◌, arith, add-one, true, false, List, [], ◌∷◌, ◌++◌, append_assoc, length, get_or, take, drop, drop-cons, Option, Some, None}
+use Rattle.std.specs.Prelude.{map, reverse, slice_get, is_some}
 use Rattle.std.specs.Option.{option_map}
-use Rattle.std.proofs.lemmas.Bool.Decides.{nat_tests}
 use Rattle.std.proofs.lemmas.List.{map-append, map-set, reverse-append, reverse-reverse}
 use Rattle.c_core.specs.declared.code.CArg.{CArg}
 use Rattle.c_core.specs.declared.code.CArg.TheVariants as arg
@@ -15,14 +14,13 @@ use Rattle.c_core.specs.Arguments.{is_value_of}
 use Rattle.c_core.specs.Cells.{times, content_at}
 use Rattle.c_core.specs.Functions.{entry_words}
 use Rattle.c_core.specs.Holders.{owned_below}
-use Rattle.c_core.specs.Ledgers.{Ledger, more_of, without}
+use Rattle.c_core.specs.Ledgers.{more_of}
 use Rattle.c_core.specs.Machine as machine
 use Rattle.c_core.specs.Machine.{MachineState, refs_of}
 use Rattle.c_core.specs.Step as step
-use Rattle.c_core.specs.Step.{Next, Goes, Ends, Faulted, if_calm, if_some, if_there, if_any, if_content, if_taken, if_result, if_none_left, if_in_order, if_return, if_passed, function_called, function_step, entered, returned, faulted}
+use Rattle.c_core.specs.Step.{Next, Goes, Ends, Faulted, if_calm, if_some, if_there, if_content, if_taken, if_result, if_none_left, if_in_order, if_return, if_passed, function_called, function_step, entered, returned, faulted}
 use Rattle.c_runner.specs.declared.state.Frame.{Frame}
 use Rattle.c_runner.specs.declared.state.State.{State}
-use Rattle.c_runner.specs.Ledgers.{is_none, is_only}
 use Rattle.c_runner.specs.Parts.{if_argument, is_there, unless_fault, back_in, handed_back}
 use Rattle.c_runner.specs.States.{Rest, IsSmall, frame_of, waiting, state_of, with_target}
 use Rattle.cell_heap.specs.declared.word.Word.{Word}
@@ -32,10 +30,6 @@ use Rattle.cell_heap.specs.Contents as contents
 some_there : (s : MachineState) {A : Type 0} (o : Option A) (go : Next) → is_some o ≡ true → if_some true s fault.Dead o (λ a. go) ≡ go
 some_there s None go e = absurd (cc)
 some_there s (Some a) go e = refl
-
-none_there : (s : MachineState) {A : Type 0} (o : Option A) (go : A → Next) → is_some o ≡ false → if_some true s fault.Dead o go ≡ Ends (Faulted fault.Dead) s
-none_there s None go e = refl
-none_there s (Some a) go e = absurd (cc)
 
 pub there : (s : MachineState) (w : machine.Word) (go : Next) → is_there s.cells w ≡ true → if_there true s w (λ a. go) ≡ go
 there s (machine.BigInt c) go e = some_there s (content_at s.cells c) go e
@@ -114,10 +108,6 @@ module _ (s : MachineState) (ps : List Declared) (args : List CArg) where
       let more = drop_rest args i lt in
       ap (λ qs. both qs (drop i args) go) (drop_all ps i le) ∙ ap (λ rest. both [] rest go) more.1
 
-  pub all_passed : (i : ℕ) (go : List machine.Word → Next) → length ps ≤ i → length args ≤ i → left i go ≡ go []
-  all_passed i go le lt =
-      ap (λ qs. both qs (drop i args) go) (drop_all ps i le) ∙ ap (λ rest. both [] rest go) (drop_all args i lt)
-
   -- one word more before what is left
   pub word_more : (i : ℕ) (before after : List Word) (w : Word) (go : List machine.Word → Next) → after ≡ before ++ w ∷ [] → left i (λ ws. go (map contents.word_of before ++ contents.word_of w ∷ ws)) ≡ left i (λ ws. go (map contents.word_of after ++ ws))
   word_more i before after w go e =
@@ -184,52 +174,3 @@ pub returns_to : (rest : Rest) (old : State) (w : machine.Word) (next : Next) �
 returns_to rest old w next some is =
     let s = state_of rest old in
     ap (if_in_order true s w s.pending) (return_at s w (waiting old.below) _ (λ e. some (none_waits old.below e))) ∙ is
-
--- the ledger that a returned reference leaves
-left_either : (s : MachineState) (l : Ledger) (next : Next) → if_none_left true s l next ≡ cond (is_none l) next (Ends (Faulted fault.Leak) s)
-left_either s [] next = refl
-left_either s (c ∷ l) next = refl
-
-owned_either : (s : MachineState) (n : ℕ) (l : Ledger) (next : Next) → if_any true s n (if_none_left true s l next) ≡ cond (nat_lt 0 n) (cond (is_none l) next (Ends (Faulted fault.Leak) s)) (Ends (Faulted fault.NotOwned) s)
-owned_either s zero l next = refl
-owned_either s (suc n) l next =
-    let some : nat_lt 0 (suc n) ≡ true = grind (arith, nat_tests) in
-    left_either s l next ∙ ap (λ b. cond b (cond (is_none l) next (Ends (Faulted fault.Leak) s)) (Ends (Faulted fault.NotOwned) s)) (sym some)
-
-content_either : (s : MachineState) {A : Type 0} (o : Option A) (go : Next) → if_some true s fault.Dead o (λ a. go) ≡ cond (is_some o) go (Ends (Faulted fault.Dead) s)
-content_either s None go = refl
-content_either s (Some a) go = refl
-
--- a returned reference, by what is asked of it
-pub result_either : (s : MachineState) (c : ℕ) (next : Next) → if_result true s (machine.ObjectCell c) (λ l. if_none_left true s l next) ≡ cond (is_some (content_at s.cells c)) (cond (nat_lt 0 (times s.top.ledger c)) (cond (is_none (without c s.top.ledger)) next (Ends (Faulted fault.Leak) s)) (Ends (Faulted fault.NotOwned) s)) (Ends (Faulted fault.Dead) s)
-result_either s c next =
-    content_either s (content_at s.cells c) _
-    ∙ ap (λ n. cond (is_some (content_at s.cells c)) n (Ends (Faulted fault.Dead) s)) (owned_either s (times s.top.ledger c) (without c s.top.ledger) next)
-
-module _ (s : MachineState) (c : ℕ) (next : Next) where
-  abbrev result : Next
-  result = if_result true s (machine.ObjectCell c) (λ l. if_none_left true s l next)
-
-  abbrev choice : Bool → Bool → Bool → Next
-  choice there owns alone = cond there (cond owns (cond alone next (Ends (Faulted fault.Leak) s)) (Ends (Faulted fault.NotOwned) s)) (Ends (Faulted fault.Dead) s)
-
-  chosen : (a b d : Bool) → is_some (content_at s.cells c) ≡ a → nat_lt 0 (times s.top.ledger c) ≡ b → is_none (without c s.top.ledger) ≡ d → result ≡ choice a b d
-  chosen a b d e f g =
-      result_either s c next ∙ ap (λ x. choice x (nat_lt 0 (times s.top.ledger c)) (is_none (without c s.top.ledger))) e
-      ∙ ap (λ x. choice a x (is_none (without c s.top.ledger))) f ∙ ap (choice a b) g
-
-  pub result_dead : is_some (content_at s.cells c) ≡ false → result ≡ Ends (Faulted fault.Dead) s
-  result_dead e = chosen false _ _ e refl refl
-
-  pub result_not_owned : is_some (content_at s.cells c) ≡ true → nat_lt 0 (times s.top.ledger c) ≡ false → result ≡ Ends (Faulted fault.NotOwned) s
-  result_not_owned e f = chosen true false _ e f refl
-
-  and_is : (a b : Bool) → a ≡ true → (a && b) ≡ b
-  and_is true b e = refl
-  and_is false b e = absurd (cc)
-
-  pub result_leaks : is_some (content_at s.cells c) ≡ true → nat_lt 0 (times s.top.ledger c) ≡ true → is_only c s.top.ledger ≡ false → result ≡ Ends (Faulted fault.Leak) s
-  result_leaks e f g = chosen true true false e f (sym (and_is _ _ f) ∙ g)
-
-  pub result_given : is_some (content_at s.cells c) ≡ true → nat_lt 0 (times s.top.ledger c) ≡ true → is_only c s.top.ledger ≡ true → result ≡ next
-  result_given e f g = chosen true true true e f (sym (and_is _ _ f) ∙ g)

@@ -29,7 +29,7 @@ use Rattle.c_core.specs.Machine.{ShortInt, BigInt, TaggedError, Native, CharWord
 use Rattle.c_core.specs.Primitives.{OfGlobal, Anything, Steals, row_of}
 use Rattle.c_core.specs.Release.{after, freed, weight, release, release_some}
 use Rattle.c_core.specs.Step as step
-use Rattle.c_core.specs.Step.{Next, Goes, Ends, Faulted, Effect, Wrong, Shares, Stores, if_some, if_true, if_there, if_any, if_taken, if_stolen, word_of, faulted, global_at, got, stored, set_to, applied, primitive_step, shared, next_line}
+use Rattle.c_core.specs.Step.{Next, Goes, Ends, Faulted, Effect, Wrong, Shares, Stores, if_some, if_true, if_there, if_any, if_taken, if_stolen, word_of, faulted, global_at, got, set_to, applied, primitive_step, shared, next_line}
 use Rattle.c_runner.specs.declared.report.Ending.{Ending}
 use Rattle.c_runner.specs.declared.state.Frame.{Frame}
 use Rattle.c_runner.specs.declared.state.State.{State}
@@ -284,35 +284,6 @@ module _ (s : MachineState) (code : Code) (target : Option ℕ) where
       let other : alone ≡ false = is ∙ grind (arith, nat_tests) in
       (first, (same_global first (b ∷ c ∷ more), set_more first b c more ∙ ap (λ d. global_set code target first d false s) same ∙ ap (λ d. global_set code target first a d s) (sym other)))
 
-  clear_none : primitive_step true s code target [] (prim.Global global.Clear) ≡ Ends (Faulted fault.Kind) s
-  clear_none = refl
-
-  clear_more : (first b : CArg) (more : List CArg) → primitive_step true s code target (first ∷ b ∷ more) (prim.Global global.Clear) ≡ Ends (Faulted fault.Kind) s
-  clear_more (arg.Var x) b more = refl
-  clear_more (arg.Number n) b more = refl
-  clear_more (arg.Text text) b more = refl
-  clear_more (arg.Global name) b more = refl
-  clear_more (arg.Class name) b more = refl
-
-  pub clear_step : (args : List CArg) → eqb (length args) 1 ≡ true → (first : CArg) × (args ≡ first ∷ [])
-  clear_step [] e = absurd (grind (arith, nat_tests, e))
-  clear_step (first ∷ []) e = (first, refl)
-  clear_step (first ∷ b ∷ more) e = absurd (grind (arith, nat_tests, e))
-
-  pub clear_others : (args : List CArg) → eqb (length args) 1 ≡ false → primitive_step true s code target args (prim.Global global.Clear) ≡ Ends (Faulted fault.Kind) s
-  clear_others [] e = clear_none
-  clear_others (first ∷ []) e = absurd (grind (arith, nat_tests, e))
-  clear_others (first ∷ b ∷ more) e = clear_more first b more
-
-  pub set_nothing : (args : List CArg) → slice_get args 1 ≡ None → primitive_step true s code target args (prim.Global global.Set) ≡ Ends (Faulted fault.Kind) s
-  set_nothing [] e = refl
-  set_nothing (arg.Var x ∷ []) e = refl
-  set_nothing (arg.Number n ∷ []) e = refl
-  set_nothing (arg.Text text ∷ []) e = refl
-  set_nothing (arg.Global name ∷ []) e = refl
-  set_nothing (arg.Class name ∷ []) e = refl
-  set_nothing (first ∷ b ∷ more) e = absurd (cc)
-
   -- a write of a global that there is not
   no_kind : (name : List ℕ) (a : CArg) (alone : Bool) → kind_of_global code name ≡ None → global_set code target (arg.Global name) a alone s ≡ Ends (Faulted fault.Kind) s
   no_kind name (arg.Var x) alone e = ap (λ o. if_some true s fault.Kind o (λ kind. step.if_variable true s kind Anything x (λ a. if_stolen true s a s.top.ledger (λ l. cond alone (applied true s target l (stolen (row_of (prim.Global global.Set)).parameters (Written (arg.Global name) ∷ a ∷ [])) (step.effect code s (prim.Global global.Set) (Written (arg.Global name) ∷ a ∷ []))) (faulted true s fault.Kind))))) e
@@ -381,35 +352,3 @@ module _ (rest : Rest) (old : State) (code : Code) (target : Option ℕ) where
       ∙ ap Goes (sym last)
 
   -- ---- a global is unset
-  abbrev clears : Option ℕ → Option (Option machine.Word) → Next
-  clears m o = applied true t target t.top.ledger [] (stored m o None)
-
-  pub clear_unnamed : (first : CArg) → global_of code (first ∷ []) ≡ None → primitive_step true t code target (first ∷ []) (prim.Global global.Clear) ≡ Ends (Faulted fault.Kind) t
-  clear_unnamed (arg.Var x) e = refl
-  clear_unnamed (arg.Number n) e = refl
-  clear_unnamed (arg.Text text) e = refl
-  clear_unnamed (arg.Class name) e = refl
-  clear_unnamed (arg.Global name) e = ap (λ m. clears m (global_at code t name)) e
-
-  no_store : (m : Option ℕ) → stored m None None ≡ Wrong
-  no_store None = refl
-  no_store (Some n) = refl
-
-  pub clear_unheld : (first : CArg) (n : ℕ) → Some n ≡ global_of code (first ∷ []) → slice_get old.globals n ≡ None → primitive_step true t code target (first ∷ []) (prim.Global global.Clear) ≡ Ends (Faulted fault.Kind) t
-  clear_unheld (arg.Var x) n e none = refl
-  clear_unheld (arg.Number m) n e none = refl
-  clear_unheld (arg.Text text) n e none = refl
-  clear_unheld (arg.Class name) n e none = refl
-  clear_unheld (arg.Global name) n e none =
-      ap (clears (number_of_global code name)) (held_is rest old code name n None e (sym none))
-      ∙ ap (applied true t target t.top.ledger []) (no_store (number_of_global code name))
-
-  pub clear_held : (first : CArg) (n : ℕ) (held : Option Word) (next : Next) → Some n ≡ global_of code (first ∷ []) → Some held ≡ slice_get old.globals n → Goes (next_line (step.given true t (set_refs (held_of held ∷ [])) (record t { globals = slice_set (map held_of old.globals) n None }))) ≡ next → primitive_step true t code target (first ∷ []) (prim.Global global.Clear) ≡ next
-  clear_held (arg.Var x) n held next e is last = absurd (cc)
-  clear_held (arg.Number m) n held next e is last = absurd (cc)
-  clear_held (arg.Text text) n held next e is last = absurd (cc)
-  clear_held (arg.Class name) n held next e is last = absurd (cc)
-  clear_held (arg.Global name) n held next e is last =
-      ap (clears (number_of_global code name)) (held_is rest old code name n (Some held) e is)
-      ∙ ap (λ m. clears m (Some (held_of held))) (sym e)
-      ∙ last

@@ -37,7 +37,7 @@ use Rattle.c_runner.specs.declared.table.Callee.TheVariants as callee
 use Rattle.c_runner.specs.declared.table.Target.{Target}
 use Rattle.c_runner.specs.declared.state.State.{State}
 use Rattle.c_runner.specs.States.{Rest, state_of, with_target, Follows}
-use Rattle.c_runner.specs.Targets.{callee_among, callee_of, global_of, target_of}
+use Rattle.c_runner.specs.Targets.{callee_among, callee_of, target_of}
 use Rattle.cell_heap.specs.declared.key.Key.{Key}
 use Rattle.cell_heap.specs.declared.word.Word.{Word}
 use Rattle.cell_heap.specs.declared.word.Word.TheVariants as heap
@@ -175,9 +175,6 @@ module _ (rest : Rest) (old : State) (code : Code) (x : Option ℕ) (name : List
 module _ (code : Code) (g : CFunc) (line : Line) (x : Option ℕ) (name : List ℕ) (args : List CArg) (target : Target) (is : line ≡ Call x name args) (known : target ≡ target_of code (label_places g.lines) line) where
   callee_is : (o : Option Callee) → target.callee ≡ o → callee_of code.funcs name ≡ o
   callee_is o e = sym (ap (λ u. u.callee) (known ∙ ap (target_of code (label_places g.lines)) is)) ∙ e
-
-  pub global_is : (slice : List CArg) → slice ≡ args → target.global ≡ global_of code slice
-  global_is slice same = ap (λ u. u.global) (known ∙ ap (target_of code (label_places g.lines)) is) ∙ ap (global_of code) (sym same)
 
   pub calls_nothing : (rest : Rest) (old : State) → target.callee ≡ None → step.step_at true code (state_of rest old) (Some line) ≡ Ends (Faulted fault.Kind) (state_of rest old)
   calls_nothing rest old e =

@@ -1,13 +1,12 @@
 -- The table of what lines name.
 use Rattle.std.proofs.Common.{◌≡◌, refl, sym, ap, ◌∙◌, ℕ, suc, ◌+◌, ◌<◌, arith, Bool, true, false, cond, List, [], ◌∷◌, ◌++◌, append-nil, length, get_or, take, drop, drop-cons, Option, Some, None}
-use Rattle.std.specs.Prelude.{map, slice_get}
+use Rattle.std.specs.Prelude.{map}
 use Rattle.std.specs.List.{position_from}
 use Rattle.std.specs.Option.{option_map}
 use Rattle.std.specs.Str.{bytes_eq}
 use Rattle.std.proofs.lemmas.Bool.Decides.{same_from_decides}
 use Rattle.std.proofs.lemmas.Slice.Eq.{bytes_eq-Decides}
 use Rattle.std.proofs.lemmas.List.{take_more, length-take-le, map-append}
-use Rattle.std.proofs.lemmas.Option.{slice_get-map}
 use Rattle.c_core.specs.declared.code.CArg.{CArg}
 use Rattle.c_core.specs.declared.code.CFunc.{CFunc}
 use Rattle.c_core.specs.declared.code.Code.{Code}
@@ -18,7 +17,7 @@ use Rattle.c_core.specs.Primitives.{primitive_named}
 use Rattle.c_runner.specs.declared.table.Callee.{Callee}
 use Rattle.c_runner.specs.declared.table.Callee.TheVariants as callee
 use Rattle.c_runner.specs.declared.table.Target.{Target}
-use Rattle.c_runner.specs.Targets.{callee_among, callee_of, global_of, target_of, targets_of, table_of}
+use Rattle.c_runner.specs.Targets.{callee_among, callee_of, global_of, target_of}
 
 -- ---- one element more
 next_take : {X : Type 0} (xs : List X) (i : ℕ) (x : X) → i < length xs → x ≡ get_or xs i x → take (i + 1) xs ≡ take i xs ++ x ∷ []
@@ -88,11 +87,3 @@ call_target callee global = record { first = None; second = None; callee = calle
 pub call_line : (code : Code) (labels : List ℕ) (l : Line) (x : Option ℕ) (name : List ℕ) (args : List CArg) (callee : Option Callee) (global : Option ℕ) → l ≡ Call x name args → callee ≡ callee_of code.funcs name → global ≡ global_of code args → record { first = None; second = None; callee = callee; global = global } ≡ target_of code labels l
 call_line code labels l x name args callee global is e f =
     ap (λ k. call_target k global) e ∙ ap (call_target (callee_of code.funcs name)) f ∙ sym (ap (target_of code labels) is)
-
-pub row_is : (table : List (List Target)) (code : Code) (f : ℕ) (g : CFunc) → table ≡ table_of code → slice_get code.funcs f ≡ Some g → slice_get table f ≡ Some (targets_of code g.lines)
-row_is table code f g is e =
-    ap (λ t. slice_get t f) is ∙ slice_get-map (λ h. targets_of code h.lines) code.funcs f ∙ ap (option_map (λ h. targets_of code h.lines)) e
-
-pub target_is : (code : Code) (g : CFunc) (p : ℕ) (l : Line) → slice_get g.lines p ≡ Some l → slice_get (targets_of code g.lines) p ≡ Some (target_of code (label_places g.lines) l)
-target_is code g p l e =
-    slice_get-map (target_of code (label_places g.lines)) g.lines p ∙ ap (option_map (target_of code (label_places g.lines))) e

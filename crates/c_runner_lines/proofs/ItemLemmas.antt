@@ -3,8 +3,7 @@ use Rattle.std.proofs.Common.{◌≡◌, refl, sym, ◌∙◌, ap, ℕ, ◌+◌,
 use Rattle.std.specs.Str.{is_utf8}
 use Rattle.std.specs.List.{list_any}
 use Rattle.std.specs.Bool.{MatchBool}
-use Rattle.std.proofs.lemmas.List.{drop_at, take_all, drop_all, length-drop, nil_from_length, take-append-drop, length-take-le}
-use Rattle.std.proofs.lemmas.Bool.Decides.{nat_tests}
+use Rattle.std.proofs.lemmas.List.{drop_at, take_all, drop_all, length-drop, take-append-drop, length-take-le}
 use borrow.Author.Tests.{ltb-true, ltb-false}
 use Rattle.value_core.specs.Items.{InputEnd, AtEof, AtFailure, Items, most_input, line_feed, is_line_feed, pieces, line_before, lines_from}
 use Rattle.value_core.specs.Items as items
@@ -177,13 +176,3 @@ module _ (old : ReaderState) where
           let ended = ended_or_far (list_any is_line_feed old.held) old.ended (nat_lt most_input (old.before + length old.held)) searched.ends far ready in
           let all = take_all (length old.held) old.held (omega arith) in
           rw (h.0, h.1, all) (found_line old.held (length old.held) (first_open searched.ends some (ltb-false _ _ far) ended) (omega arith) (omega arith))
-
-  -- at the end nothing is held
-  pub found_end : IsSearched old None → IsTrue (is_ready old) → length old.held ≡ 0 → Found Eof old old []
-  found_end searched ready none =
-      let used = searched.used in
-      let near : nat_lt most_input (old.before + length old.held) ≡ false = grind (arith, nat_tests) in
-      let ended = ended_or_far (list_any is_line_feed old.held) old.ended (nat_lt most_input (old.before + length old.held)) searched.ends near ready in
-      let empty = nil_from_length old.held none in
-      let left : items_left old [] AtEof ≡ items.Eof = ap (λ c. lines_from old.before AtEof (pieces (c ++ []))) empty in
-      record { lines = (ended, left, left); near = empty; uses = uses_nothing; total = omega arith; ended = λ e. e }

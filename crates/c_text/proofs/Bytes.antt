@@ -15,7 +15,7 @@ use Rattle.unicode_ident.specs.Ident.{is_xid_continue}
 use Rattle.unicode_ident.proofs.Computing.{unicode_ident}
 use Rattle.c_core.specs.Text.{indented}
 use Rattle.c_core.specs.WellFormed.{is_identifier}
-use Rattle.c_text.specs.Words.{HasNo, EndsArgument, IsCut, IsBracketed, bracketed}
+use Rattle.c_text.specs.Words.{HasNo, EndsArgument, IsCut, bracketed}
 
 pub or_false : (a b : Bool) → (a || b) ≡ false → (a ≡ false) × (b ≡ false)
 or_false true b e = absurd (cc)
@@ -216,15 +216,9 @@ not_in stop u v rest h e = stands v (sym (ap (list_any (λ b. b == stop)) e) ∙
 
 -- ---- a word before brackets
 
-pub bracketed_is : (word rest inside text : List ℕ) → IsCut 40 word rest text → rest ≡ inside ++ codes ")" → IsBracketed word inside text
-bracketed_is word rest inside text cut e = record { plain = cut.plain; whole = ap (λ t. word ++ 40 ∷ t) (sym e) ∙ cut.whole }
-
 pub unclosed : (word rest other inside text : List ℕ) → IsCut 40 word rest text → ((front : List ℕ) → rest ≢ front ++ codes ")") → HasNo 40 other → bracketed other inside ≢ text
 unclosed word rest other inside text cut ends plain e =
     ends inside (same_front 40 word other rest (inside ++ codes ")") cut.plain plain (cut.whole ∙ sym e)).1
-
-pub unopened : (other inside text : List ℕ) → HasNo 40 text → bracketed other inside ≢ text
-unopened other inside text none e = not_in 40 text other (inside ++ codes ")") none (sym e)
 
 -- words in brackets, by their parts
 pub same_bracketed : (a b x y : List ℕ) → HasNo 40 a → HasNo 40 b → bracketed a x ≡ bracketed b y → (a ≡ b) × (x ≡ y)

@@ -1,14 +1,14 @@
 -- The heads of functions: parameters one after another, and that no head has the text of another one.
-use Rattle.std.proofs.Common.{◌≡◌, ◌≢◌, ◌∙◌, ℕ, suc, zero, true, List, [], ◌∷◌, ◌++◌, length, take, drop, IsTrue, refl, sym, ap, arith, append_assoc, append-nil}
+use Rattle.std.proofs.Common.{◌≡◌, ◌≢◌, ◌∙◌, ℕ, suc, zero, true, List, [], ◌∷◌, ◌++◌, take, drop, IsTrue, refl, sym, ap, arith, append_assoc, append-nil}
 use Rattle.std.specs.Prelude.{◌&&◌, codes, map}
 use Rattle.std.specs.List.{list_all}
-use Rattle.std.proofs.lemmas.List.{append_cancel_left, append_cancel_right, take_all}
+use Rattle.std.proofs.lemmas.List.{append_cancel_left, append_cancel_right}
 use Rattle.c_core.specs.declared.code.CFunc.{CFunc}
 use Rattle.c_core.specs.declared.code.Kind.{Kind}
 use Rattle.c_core.specs.declared.code.Kind.TheVariants.{Tagged, Int64, Char, Object}
 use Rattle.c_core.specs.Text.{comma, declaration_text, function_head, global_line, joined, kind_text, parameters_text}
 use Rattle.c_core.specs.WellFormed.{Declared, is_identifier}
-use Rattle.c_text.specs.Heads.{HasNoParameters, IsNoFunctionHead, listed}
+use Rattle.c_text.specs.Heads.{listed}
 use Rattle.c_text.specs.Words.{EndsArgument, HasNo, IsCut}
 use Rattle.c_text.specs.Statements.{AreNamed}
 use Rattle.c_text.proofs.Bytes.{HasNo-append, HasNo-identifier, and_true, bracket_stops, comma_stops, differ, line_feed_stops, not_in, same_front}
@@ -67,11 +67,6 @@ remaining (r ∷ read) v (w ∷ vars) rest n m e =
     let s = same_front 44 (declaration_text v) (declaration_text r) (32 ∷ all_text (w ∷ vars)) (32 ∷ (listed read ++ rest)) (HasNo-parameter v own.0) (HasNo-parameter r other.0) (e ∙ append_assoc (declaration_text r ++ comma) (listed read) rest ∙ append_assoc (declaration_text r) comma (listed read ++ rest)) in
     remaining read w vars rest other.1 own.1 (append_cancel_left (32 ∷ []) (all_text (w ∷ vars)) (listed read ++ rest) s.1)
 
-pub listed_push : (read : List Declared) (v : Declared) → listed (read ++ v ∷ []) ≡ listed read ++ (declaration_text v ++ comma)
-listed_push [] v = append-nil (declaration_text v ++ comma)
-listed_push (r ∷ read) v =
-    ap (λ t. (declaration_text r ++ comma) ++ t) (listed_push read v) ∙ sym (append_assoc (declaration_text r ++ comma) (listed read) (declaration_text v ++ comma))
-
 parameters_push : (read : List Declared) (v : Declared) → parameters_text (read ++ v ∷ []) ≡ listed read ++ declaration_text v
 parameters_push [] v = refl
 parameters_push (r ∷ []) v = sym (append_assoc (declaration_text r) comma (declaration_text v)) ∙ ap (λ t. t ++ declaration_text v) (sym (append-nil (declaration_text r ++ comma)))
@@ -106,15 +101,6 @@ no_comma_behind read text word after rest n whole finds more none v others m e =
 pub parameters_end : (read new : List Declared) (v : Declared) (text word after rest : List ℕ) → text ≡ listed read ++ rest → word ++ after ≡ rest → declaration_text v ≡ word → after ≡ [] → new ≡ read ++ v ∷ [] → parameters_text new ≡ text
 parameters_end read new v text word after rest whole parts is none pushed =
     ap parameters_text pushed ∙ parameters_push read v ∙ ap (λ t. listed read ++ t) (is ∙ sym (append-nil word) ∙ ap (λ t. word ++ t) (sym none) ∙ parts) ∙ sym whole
-
-pub parameters_turn : (read new : List Declared) (v : Declared) (text word after next rest : List ℕ) → text ≡ listed read ++ rest → word ++ after ≡ rest → declaration_text v ≡ word → after ≡ codes ", " ++ next → new ≡ read ++ v ∷ [] → text ≡ listed new ++ next
-parameters_turn read new v text word after next rest whole parts is behind pushed =
-    whole ∙ ap (λ t. listed read ++ t) (sym parts ∙ ap (λ t. word ++ t) behind ∙ ap (λ t. t ++ (comma ++ next)) (sym is) ∙ sym (append_assoc (declaration_text v) comma next))
-    ∙ sym (append_assoc (listed read) (declaration_text v ++ comma) next) ∙ ap (λ t. t ++ next) (sym (listed_push read v) ∙ ap listed (sym pushed))
-
-pub some_or_void : (text : List ℕ) → text ≢ codes "void" → ((v : Declared) (others : List Declared) → AreNamed (v ∷ others) → all_text (v ∷ others) ≢ text) → HasNoParameters text
-some_or_void text no_void none [] n e = no_void (sym e)
-some_or_void text no_void none (v ∷ vars) n e = none v vars n e
 
 -- no parameters are written as others
 void_is_none : (k : Kind) (rest : List ℕ) → codes "void" ≢ kind_text k ++ rest
@@ -174,21 +160,11 @@ pub cut_head : (g : CFunc) (piece front rest : List ℕ) → IsTrue (is_identifi
 cut_head g piece front rest h cut e =
     same_front 40 (head_front g) front (head_behind g) rest (HasNo-front g h) cut.plain (sym (head_parts g) ∙ e ∙ sym cut.whole)
 
-pub no_bracket : (piece : List ℕ) → HasNo 40 piece → IsNoFunctionHead piece
-no_bracket piece none g h n e = not_in 40 piece (head_front g) (head_behind g) none (sym e ∙ head_parts g)
-
 pub same_head : (f g : CFunc) → IsTrue (is_identifier f.name) → IsTrue (is_identifier g.name) → AreNamed (take f.params f.vars) → AreNamed (take g.params g.vars) → function_head f ≡ function_head g → (f.ret ≡ g.ret) × (f.name ≡ g.name) × (take f.params f.vars ≡ take g.params g.vars)
 same_head f g h k n m e =
     let s = same_front 40 (head_front f) (head_front g) (head_behind f) (head_behind g) (HasNo-front f h) (HasNo-front g k) (sym (head_parts f) ∙ e ∙ head_parts g) in
     let p = same_kind_front f.ret g.ret (codes "CPyDef_" ++ f.name) (codes "CPyDef_" ++ g.name) s.0 in
     (p.0, append_cancel_left (codes "CPyDef_") f.name g.name p.1, same_parameters (take f.params f.vars) (take g.params g.vars) n m (append_cancel_right (parameters_text (take f.params f.vars)) (parameters_text (take g.params g.vars)) (codes ") {") s.1))
-
--- the line of a head that was found by its parts
-pub head_is : (name : List ℕ) (ret : Kind) (count : ℕ) (vars : List Declared) (piece front rest text : List ℕ) → count ≡ length vars → IsCut 40 front rest piece → kind_text ret ++ (codes "CPyDef_" ++ name) ≡ front → rest ≡ text ++ codes ") {" → parameters_text vars ≡ text → function_head (record { name = name; ret = ret; params = count; vars = vars; lines = [] }) ≡ piece
-head_is name ret count vars piece front rest text all cut f r t =
-    let g : CFunc = record { name = name; ret = ret; params = count; vars = vars; lines = [] } in
-    let whole : take count vars ≡ vars = take_all count vars (omega arith) in
-    head_parts g ∙ ap (λ x. x ++ 40 ∷ head_behind g) f ∙ ap (λ x. front ++ 40 ∷ (parameters_text x ++ codes ") {")) whole ∙ ap (λ x. front ++ 40 ∷ (x ++ codes ") {")) t ∙ ap (λ x. front ++ 40 ∷ x) (sym r) ∙ cut.whole
 
 -- no line feed in a head
 parameters_plain : (v : Declared) (vars : List Declared) → AreNamed (v ∷ vars) → HasNo 10 (all_text (v ∷ vars))

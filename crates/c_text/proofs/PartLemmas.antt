@@ -13,13 +13,13 @@ use Rattle.c_core.specs.declared.code.Kind.{Kind}
 use Rattle.c_core.specs.declared.code.Line.{Line}
 use Rattle.c_core.specs.Text.{code_lines, declaration_lines, declaration_text, first_line, function_end, function_head, function_lines, global_line, global_lines, indented, kind_text, lines_from, module_head, parameters_text, statement_lines}
 use Rattle.c_core.specs.WellFormed.{Declared, Spelled, is_char, is_empty, is_identifier, spelled_body, spelled_function, spelled_functions, spelled_line, spelled_top}
-use Rattle.c_text.specs.declared.head.Head.{Head}
-use Rattle.c_text.specs.declared.head.Head.TheVariants.{Module, Function}
+use Rattle.c_text.specs.declared.head.FunctionHead.{FunctionHead}
+use Rattle.c_text.specs.declared.head.FunctionHead.TheVariants.{Module, Function}
 use Rattle.c_text.specs.declared.part.Above.{Above}
 use Rattle.c_text.specs.declared.part.Open.{Open}
 use Rattle.c_text.specs.declared.part.Part.{Part}
 use Rattle.c_text.specs.declared.part.Part.TheVariants.{Start, Between, Inside, Closed}
-use Rattle.c_text.specs.Heads.{BeginsFunction, IsHead, IsNoHead, function_of, head_line, parameters_of}
+use Rattle.c_text.specs.Heads.{IsHead, IsNoHead, function_of, head_line, parameters_of}
 use Rattle.c_text.specs.Labels.{labels_after, labels_behind, line_text}
 use Rattle.c_text.specs.Reading.{CanStand}
 use Rattle.c_text.specs.Statements.{AreNamed, IsLine, IsNoLine}
@@ -242,7 +242,7 @@ top_parts g h =
     let params = (and_true (is_char g.ret) _ ret).1 in
     body_parts g (and_true (g.params == 0) _ params).1
 
-open_functions : (o : Open) (fs : List CFunc) (tail : List (List ℕ)) (head : Head) → o.head ≡ head → IsOpen o → IsPastBehind o.lines tail → IsTrue (spelled_functions fs) → function_lines fs ≡ open_lines o ++ tail → OpenLeft o tail
+open_functions : (o : Open) (fs : List CFunc) (tail : List (List ℕ)) (head : FunctionHead) → o.head ≡ head → IsOpen o → IsPastBehind o.lines tail → IsTrue (spelled_functions fs) → function_lines fs ≡ open_lines o ++ tail → OpenLeft o tail
 open_functions o [] tail head q fine past h e = no_functions h
 open_functions o (g ∷ []) tail Module q fine past h e =
     let p = top_parts g h in
@@ -254,13 +254,13 @@ open_functions o (g ∷ k ∷ gs) tail Module q fine past h e =
 open_functions o (g ∷ k ∷ gs) tail (Function name ret params) q fine past h e =
     let f : CFunc = record { name = name; ret = ret; params = params; vars = o.vars; lines = [] } in
     let p = other_parts g (and_true (spelled_function g) _ h).0 in
-    let is_head = subst (λ (z : Head). IsHead z o.vars) q fine.head in
+    let is_head = subst (λ (z : FunctionHead). IsHead z o.vars) q fine.head in
     let line = e ∙ ap (λ z. (head_line z o.vars ∷ (declaration_lines (drop (parameters_of z) o.vars) ++ statement_lines o.vars o.lines)) ++ tail) q in
     let same = same_head g f p.name is_head.0 (named_take g.params g.vars p.named) (named_take params o.vars fine.named) (heads line) in
     inside_body o (drop g.params g.vars) (drop params o.vars) g.vars g.lines (function_lines (k ∷ gs)) tail fine (named_drop g.params g.vars p.named) (named_drop params o.vars fine.named) p.spelled past
     (λ s. sym (take-append-drop g.params g.vars) ∙ ap (λ z. z ++ drop g.params g.vars) same.2 ∙ ap (λ z. take params o.vars ++ z) s ∙ take-append-drop params o.vars) (tails line)
 
-head_is_first : (o : Open) (head : Head) (v : Declared) → o.head ≡ head → global_line v ≢ head_line o.head o.vars
+head_is_first : (o : Open) (head : FunctionHead) (v : Declared) → o.head ≡ head → global_line v ≢ head_line o.head o.vars
 head_is_first o Module v q e = global_not_module v (e ∙ ap (λ z. head_line z o.vars) q)
 head_is_first o (Function name ret params) v q e =
     global_not_head v (record { name = name; ret = ret; params = params; vars = o.vars; lines = [] }) (e ∙ ap (λ z. head_line z o.vars) q)
@@ -275,9 +275,6 @@ open_left code a o tail h fine past e =
     split (g ∷ gs) fs s f = absurd (head_is_first o o.head g refl (heads f))
 
 -- ---- a line that cannot follow
-
-pub stops_start : (piece : List ℕ) → piece ≢ first_line → ¬ (CanStand (piece ∷ []))
-stops_start piece none c = none (sym (heads c.lines))
 
 pub stops_between : (a : Above) (piece : List ℕ) → ((v : Declared) → a.functions ≡ [] → IsTrue (is_identifier v.0) → global_line v ≢ piece) → IsNoHead piece → ¬ (CanStand (above_lines a ++ piece ∷ []))
 stops_between a piece no_global no_head c =
@@ -375,10 +372,6 @@ lines_push vars n (m ∷ lines) l =
     lines_step vars n m (lines ++ l ∷ []) ∙ ap (λ ls. line_text vars n m ∷ ls) (lines_push vars (labels_after n m) lines l)
     ∙ ap (λ ls. ls ++ line_text vars (labels_behind (labels_after n m) lines) l ∷ []) (sym (lines_step vars n m lines))
 
-globals_push : (gs : List Declared) (v : Declared) → global_lines (gs ++ v ∷ []) ≡ global_lines gs ++ global_line v ∷ []
-globals_push [] v = refl
-globals_push (g ∷ gs) v = ap (λ ls. global_line g ∷ ls) (globals_push gs v)
-
 vars_push : (vars : List Declared) (v : Declared) → declaration_lines (vars ++ v ∷ []) ≡ declaration_lines vars ++ indented (declaration_text v) ∷ []
 vars_push [] v = refl
 vars_push (w ∷ vars) v = ap (λ ls. indented (declaration_text w) ∷ ls) (vars_push vars v)
@@ -414,39 +407,23 @@ functions_all_push : (fs : List CFunc) (g : CFunc) → IsTrue (list_all spelled_
 functions_all_push [] g h k = ap (λ b. b && true) k
 functions_all_push (f ∷ fs) g h k = let p = and_true (spelled_function f) _ h in both_true p.0 (functions_all_push fs g p.1 k)
 
-pub next_global : (a : Above) (globals : List Declared) (functions : List CFunc) (v : Declared) (piece : List ℕ) → IsAbove a → (a.functions ≡ []) × IsTrue (is_identifier v.0) × (global_line v ≡ piece) → functions ≡ a.functions → globals ≡ a.globals ++ v ∷ [] → IsNext (Between a) piece (Between (record { globals = globals; functions = functions }))
-next_global a globals functions v piece fine k same e = (
-  record {
-    named = subst AreNamed (sym e) (named_push a.globals v fine.named k.1);
-    functions = subst (λ (fs : List CFunc). IsTrue (list_all spelled_function fs)) (sym same) fine.functions;
-  },
-  ap (λ t. first_line ∷ t) (ap (λ gs. global_lines gs ++ other_lines functions) e ∙ ap (λ fs. global_lines (a.globals ++ v ∷ []) ++ other_lines fs) (same ∙ k.0) ∙ append-nil (global_lines (a.globals ++ v ∷ [])) ∙ globals_push a.globals v
-      ∙ ap (λ t. global_lines a.globals ++ t ∷ []) k.2 ∙ ap (λ t. t ++ piece ∷ []) (sym (append-nil (global_lines a.globals)) ∙ ap (λ fs. global_lines a.globals ++ other_lines fs) (sym k.0))),
-)
-
-pub next_head : (a : Above) (head : Head) (vars : List Declared) (piece : List ℕ) → IsAbove a → BeginsFunction head vars piece → IsNext (Between a) piece (Inside a (record { head = head; vars = vars; lines = [] }))
-next_head a head vars piece fine b = (
-  (fine, record { head = b.is_head; named = b.named; spelled = refl }),
-  ap (λ vs. above_lines a ++ (head_line head vars ∷ (declaration_lines vs ++ []))) b.all ∙ ap (λ t. above_lines a ++ t ∷ []) b.line,
-)
-
 -- a variable more leaves the parameters as they are
 few_push : (n : ℕ) (vars : List Declared) (v : Declared) → IsTrue (nat_le n (length vars)) → IsTrue (nat_le n (length (vars ++ v ∷ [])))
 few_push n vars v h =
     let l : n ≤ length vars = leb-true n (length vars) h in
     le-leb n (length (vars ++ v ∷ [])) (omega (arith, l, length-append vars (v ∷ [])))
 
-head_push : (head : Head) (vars : List Declared) (v : Declared) → IsHead head vars → IsHead head (vars ++ v ∷ [])
+head_push : (head : FunctionHead) (vars : List Declared) (v : Declared) → IsHead head vars → IsHead head (vars ++ v ∷ [])
 head_push Module vars v h = tt
 head_push (Function name ret params) vars v h = (h.0, few_push params vars v h.1)
 
-line_kept : (head : Head) (vars : List Declared) (v : Declared) → IsHead head vars → head_line head (vars ++ v ∷ []) ≡ head_line head vars
+line_kept : (head : FunctionHead) (vars : List Declared) (v : Declared) → IsHead head vars → head_line head (vars ++ v ∷ []) ≡ head_line head vars
 line_kept Module vars v h = refl
 line_kept (Function name ret params) vars v h =
     let l : params ≤ length vars = leb-true params (length vars) h.1 in
     ap (λ t. kind_text ret ++ (codes "CPyDef_" ++ (name ++ (codes "(" ++ (parameters_text t ++ codes ") {"))))) (take-append-le params vars (v ∷ []) l)
 
-drop_push : (head : Head) (vars : List Declared) (v : Declared) → IsHead head vars → drop (parameters_of head) (vars ++ v ∷ []) ≡ drop (parameters_of head) vars ++ v ∷ []
+drop_push : (head : FunctionHead) (vars : List Declared) (v : Declared) → IsHead head vars → drop (parameters_of head) (vars ++ v ∷ []) ≡ drop (parameters_of head) vars ++ v ∷ []
 drop_push Module vars v h = refl
 drop_push (Function name ret params) vars v h =
     let l : params ≤ length vars = leb-true params (length vars) h.1 in drop-append-le params vars (v ∷ []) l
@@ -489,7 +466,7 @@ pub next_other : (a : Above) (o : Open) (functions : List CFunc) (name : List �
 next_other a o functions name ret params above fine q e =
     let g = function_of (Function name ret params) o.vars o.lines in
     let own = declaration_lines (drop params o.vars) in
-    let is_head = subst (λ (z : Head). IsHead z o.vars) q fine.head in (
+    let is_head = subst (λ (z : FunctionHead). IsHead z o.vars) q fine.head in (
       record {
         named = above.named;
         functions = subst (λ (fs : List CFunc). IsTrue (list_all spelled_function fs)) (sym e) (functions_all_push a.functions g above.functions (other_spelled g (record { name = is_head.0; few = is_head.1; named = fine.named; spelled = fine.spelled })));

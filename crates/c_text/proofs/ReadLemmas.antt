@@ -10,8 +10,8 @@ use Rattle.c_core.specs.declared.code.Kind.TheVariants.{Char}
 use Rattle.c_core.specs.declared.code.Line.{Line}
 use Rattle.c_core.specs.Text.{code_lines, code_text, declaration_lines, first_line, function_end, function_lines, global_lines, lines_from, module_head, statement_lines, text_of}
 use Rattle.c_core.specs.WellFormed.{Declared, Spelled, is_identifier, spelled_function, spelled_functions, spelled_line}
-use Rattle.c_text.specs.declared.head.Head.{Head}
-use Rattle.c_text.specs.declared.head.Head.TheVariants.{Module, Function}
+use Rattle.c_text.specs.declared.head.FunctionHead.{FunctionHead}
+use Rattle.c_text.specs.declared.head.FunctionHead.TheVariants.{Module, Function}
 use Rattle.c_text.specs.declared.part.Above.{Above}
 use Rattle.c_text.specs.declared.part.Part.{Part}
 use Rattle.c_text.specs.declared.part.Part.TheVariants.{Start, Between, Inside, Closed}
@@ -128,7 +128,7 @@ closed_by Start fine =
 closed_by (Between a) fine = (module_head ∷ function_end ∷ [], closed_between a fine)
 closed_by (Inside a o) fine = split o.head refl
   where
-    split : (head : Head) → o.head ≡ head → (more : List (List ℕ)) × IsClosedBy (above_lines a ++ open_lines o) more
+    split : (head : FunctionHead) → o.head ≡ head → (more : List (List ℕ)) × IsClosedBy (above_lines a ++ open_lines o) more
     split Module q =
         let n = next_top a o (a.functions ++ function_of Module o.vars o.lines ∷ []) fine.0 fine.1 q refl in (
           function_end ∷ [],

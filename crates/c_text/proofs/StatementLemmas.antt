@@ -181,9 +181,6 @@ counter_plain Object = (refl, refl)
 pub count_plain : (count : Count) (kind : Kind) → HasNo 40 (count_word count kind)
 count_plain count kind = HasNo-append 40 (counter_text kind) (verb_text count) (counter_plain kind).0 (verb_plain count).0
 
-pub count_unspaced : (count : Count) (kind : Kind) → HasNo 32 (count_word count kind)
-count_unspaced count kind = HasNo-append 32 (counter_text kind) (verb_text count) (counter_plain kind).1 (verb_plain count).1
-
 pub count_begins : (count : Count) (kind : Kind) → (r : List ℕ) × (count_word count kind ≡ codes "CPy" ++ r)
 count_begins count Tagged = (codes "Tagged_" ++ verb_text count, refl)
 count_begins count Int64 = (codes "_" ++ verb_text count, refl)

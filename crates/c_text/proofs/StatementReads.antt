@@ -1,6 +1,6 @@
 -- What reading a statement finds, by what was found of its parts.
-use Rattle.std.proofs.Common.{◌≡◌, ◌≢◌, ◌∙◌, ℕ, List, [], ◌++◌, Option, Some, None, IsTrue, IfOk, Result, Ok, Err, refl, sym, ap, arith, append_assoc, subst, inl, inr}
-use Rattle.std.specs.Prelude.{◌&&◌, IfSome, MatchOption, codes}
+use Rattle.std.proofs.Common.{◌≡◌, ◌≢◌, ◌∙◌, ℕ, List, [], ◌++◌, Option, Some, None, IsTrue, IfOk, Result, Ok, Err, refl, sym, ap, arith, append_assoc, subst}
+use Rattle.std.specs.Prelude.{◌&&◌, IfSome, codes}
 use Rattle.std.specs.List.{list_all}
 use Rattle.std.specs.Option.{option_map}
 use Rattle.std.proofs.lemmas.List.{append_cancel_left}
@@ -10,28 +10,23 @@ use Rattle.c_core.specs.declared.code.Kind.{Kind}
 use Rattle.c_core.specs.declared.code.Kind.TheVariants.{Tagged, Int64, Char, Object}
 use Rattle.c_core.specs.declared.code.Line.{Line}
 use Rattle.c_core.specs.declared.code.Line.TheVariants.{Label, Move, Lit, Call, Goto, If, IfError, Turn, Return, Inc, Dec, XDec}
-use Rattle.c_core.specs.Text.{count_text, goto_text, indented, label_line, literal_text, statement_text, var_text}
+use Rattle.c_core.specs.Text.{count_text, goto_text, literal_text, statement_text, var_text}
 use Rattle.c_core.specs.WellFormed.{Declared, is_call_name, is_declared, kind_at, spelled_arg, spelled_label, spelled_line, spelled_literal}
 use Rattle.c_text.specs.declared.count.Count.{Count}
 use Rattle.c_text.specs.declared.count.Count.TheVariants as count
 use Rattle.c_text.specs.Counts.{FindsCount, IsCounted, count_line, count_word, counter_text}
-use Rattle.c_text.specs.Labels.{FindsLabel, line_text}
+use Rattle.c_text.specs.Labels.{FindsLabel}
 use Rattle.c_text.specs.Variables.{Finds, FindsVariable, FindsVariableOf}
 use Rattle.c_text.specs.Words.{HasNo, IsBracketed, IsCut, bracketed}
-use Rattle.c_text.specs.Statements.{AreNamed, IsIndented, IsLine, IsNoLine, IsNoStatement, IsSpelledLine, IsStatement, Reads, args_text, assignment_text, both_text, call_text, error_of, test_text}
-use Rattle.c_text.proofs.Bytes.{and_true, bracket_stops, differ, inside_same, not_in, same_bracketed, same_front, space_stops}
+use Rattle.c_text.specs.Statements.{AreNamed, IsIndented, IsSpelledLine, Reads, args_text, assignment_text, both_text, call_text, error_of, test_text}
+use Rattle.c_text.proofs.Bytes.{and_true, bracket_stops, differ, not_in, same_bracketed, same_front, space_stops}
 use Rattle.c_text.proofs.ArgumentLemmas.{HasNo-variable}
-use Rattle.c_text.proofs.LineTexts.{indented_text, label_or_statement}
 use Rattle.c_text.proofs.Forms.{Assigned, moves, takes, gets, Jumping, jumps, Returned, returns, Tested, tests, tests_error, Worded, turns, counts, calls, apart, error_test, is_assignment, is_jump, is_return, is_test, is_worded}
 use Rattle.c_text.proofs.StatementLemmas.{HasNo-call_name, IsCount, call_name_parts, count_at, count_listed, count_parts, count_plain, count_spelled, literal_front, literal_not_variable, no_other_word, same_counter, turn_is_no_count}
 use Rattle.c_text.proofs.VariableLemmas.{declared_at, kind_declared, text_at}
 
 pub reads_as : (vars : List Declared) (text other : List ℕ) (found : Option Line) → text ≡ other → Reads vars text found → Reads vars other found
 reads_as vars text other found e r = record { spelled = r.spelled; finds = λ l i h f. r.finds l i h (f ∙ sym e) }
-
-pub reads_all_as : {E : Type 0} (vars : List Declared) (text other : List ℕ) (r : Result (Option Line) E) → text ≡ other → IfOk r (Reads vars text) → IfOk r (Reads vars other)
-reads_all_as vars text other (Err f) e p = p
-reads_all_as vars text other (Ok found) e p = reads_as vars text other found e p
 
 alike_then : {A : Type 0} (text : A → List ℕ) (a b : A) (found : Option A) → text a ≡ text b → Finds text found b → Finds text found a
 alike_then text a b None p f = f
@@ -287,22 +282,3 @@ no_word vars text rest begins none = record { spelled = tt; finds = at }
     at (Call None name args) i h e = none name (args_text vars args) (HasNo-call_name 40 name (omega arith) bracket_stops refl (and_true (is_call_name name) _ h).0) e
     at (Call (Some x) name args) i h e = apart vars (Call (Some x) name args) h _ (e ∙ begins) refl
     at l i h e = apart vars l h (codes "CPy" ++ rest) (e ∙ begins) refl
-
--- ---- lines
-
-pub no_line : (vars : List Declared) (n : ℕ) (piece : List ℕ) → label_line n ≢ piece → ((text : List ℕ) → indented text ≢ piece) → IsNoLine vars n piece
-no_line vars n piece no_label none l h e =
-    elim (label_or_statement l) [
-      | inl same ↦ no_label (ap (line_text vars n) (sym same) ∙ e)
-      | inr i ↦ none (statement_text vars l) (sym (indented_text vars n l i) ∙ e)
-    ]
-
--- a line of a statement
-pub line_found : {E : Type 0} (vars : List Declared) (n : ℕ) (piece text : List ℕ) (r : Result (Option Line) E) → label_line n ≢ piece → indented text ≡ piece → IfOk r (λ found. MatchOption found (IsNoStatement vars text) (IsStatement vars text)) → IfOk r (λ found. MatchOption found (IsNoLine vars n piece) (IsLine vars n piece))
-line_found vars n piece text (Err e) no_label p h = h
-line_found vars n piece text (Ok None) no_label p h = λ l k e.
-    elim (label_or_statement l) [
-      | inl same ↦ no_label (ap (line_text vars n) (sym same) ∙ e)
-      | inr i ↦ h l i k (inside_same (statement_text vars l) text (sym (indented_text vars n l i) ∙ e ∙ sym p))
-    ]
-line_found vars n piece text (Ok (Some l)) no_label p h = (h.1, indented_text vars n l h.0 ∙ ap indented h.2 ∙ p)

@@ -15,7 +15,7 @@ use value_core::{Memory, Name};
 /// The head of a function: of the module's own, or of another one with its name, the kind of its result, and how many
 /// parameters it has.
 #[derive(Drop)]
-pub(crate) enum Head {
+pub(crate) enum FunctionHead {
     Module,
     Function(Name, Kind, usize),
 }
@@ -54,7 +54,7 @@ fn parameters(alloc: Global, text: &[u8]) -> Result<Option<Variables>, Memory>
 }
 
 /// The head of a function that is not the module's own, with its parameters.
-fn function_head(alloc: Global, piece: &[u8]) -> Result<Option<(Head, Variables)>, Memory>
+fn function_head(alloc: Global, piece: &[u8]) -> Result<Option<(FunctionHead, Variables)>, Memory>
     ensures { IfOk result (λ found. MatchOption found (IsNoFunctionHead piece.now) (λ p. BeginsFunction p.0 p.1 piece.now)) }
 {
     let Some((front, rest)) = cut(piece, b'(') else {
@@ -70,15 +70,18 @@ fn function_head(alloc: Global, piece: &[u8]) -> Result<Option<(Head, Variables)
         return Ok(None);
     };
     let count = vars.list().len();
-    Ok(Some((Head::Function(name, kind, count), vars)))
+    Ok(Some((FunctionHead::Function(name, kind, count), vars)))
 }
 
 /// The head of a function that stands on a line, with its parameters.
-pub(crate) fn line_head(alloc: Global, piece: &[u8]) -> Result<Option<(Head, Variables)>, Memory>
+pub(crate) fn line_head(
+    alloc: Global,
+    piece: &[u8],
+) -> Result<Option<(FunctionHead, Variables)>, Memory>
     ensures { IfOk result (λ found. MatchOption found (IsNoHead piece.now) (λ p. BeginsFunction p.0 p.1 piece.now)) }
 {
     if is(piece, b"char CPyModule(void) {") {
-        return Ok(Some((Head::Module, Variables::new(alloc))));
+        return Ok(Some((FunctionHead::Module, Variables::new(alloc))));
     }
     function_head(alloc, piece)
 }

@@ -6,7 +6,7 @@ ghost use Rattle.c_text.specs.declared.part.Part.TheVariants as variant;
 ghost use Rattle.c_text.specs.Parts.{IsAbove, IsFine, IsNext, IsOpen, GoesOn};
 
 use crate::declaration::{declaration, global};
-use crate::head::{Head, line_head};
+use crate::head::{FunctionHead, line_head};
 use crate::line::line;
 use crate::lines::Lines;
 use crate::variable::Variables;
@@ -25,7 +25,7 @@ pub(crate) struct Above {
 /// A function that has not ended.
 #[derive(Drop)]
 pub(crate) struct Open {
-    pub(crate) head: Head,
+    pub(crate) head: FunctionHead,
     pub(crate) vars: Variables,
     pub(crate) lines: Lines,
 }
@@ -108,7 +108,7 @@ fn behind_end(alloc: Global, above: Above, begun: Open) -> Result<Part, Memory>
     let vars = vars.into_list();
     let lines = lines.into_list();
     match head {
-        Head::Module => {
+        FunctionHead::Module => {
             functions.push(CFunc {
                 name: Name::from_string(String::new(alloc)),
                 ret: Kind::Char,
@@ -118,7 +118,7 @@ fn behind_end(alloc: Global, above: Above, begun: Open) -> Result<Part, Memory>
             })?;
             Ok(Part::Closed(Above { globals, functions }))
         }
-        Head::Function(name, ret, params) => {
+        FunctionHead::Function(name, ret, params) => {
             functions.push(CFunc {
                 name,
                 ret,

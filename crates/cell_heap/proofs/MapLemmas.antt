@@ -10,7 +10,7 @@ use Rattle.c_core.specs.Cells as cells
 use Rattle.c_core.specs.Release.{after}
 use Rattle.c_core.specs.Machine as machine
 use Rattle.cell_heap.specs.Contents.{content_of}
-use Rattle.cell_heap.specs.declared.cells.Slot.{Slot}
+use Rattle.cell_heap.specs.declared.cells.CountedCell.{CountedCell}
 use Rattle.cell_heap.specs.Numbered.{Kept, cell_at, last_of, gone_of, gone, cell_of, slot_at, cells_of}
 use Rattle.cell_heap.proofs.ListedLemmas.{listed-change, listed-new, length-listed, cell_at-listed, content_at-cell, count_at-cell}
 
@@ -63,17 +63,17 @@ less-more (suc (suc n)) x lt =
     let e : suc n ≡ suc (suc n) - 1 = omega arith in ap (λ k. Some (record { count = k; content = x })) e
 
 -- ---- what lies in a box is written
-abbrev cell_in : Slot → Cell machine.Content
+abbrev cell_in : CountedCell → Cell machine.Content
 cell_in slot = record { count = slot.count; content = content_of slot.content }
 
-pub raised-kept : (old new : Kept) (slot : Slot) → slot ≡ old.value → new.value ≡ record { count = slot.count + 1; content = slot.content } → raised (Some (cell_of old)) ≡ Some (cell_of new)
+pub raised-kept : (old new : Kept) (slot : CountedCell) → slot ≡ old.value → new.value ≡ record { count = slot.count + 1; content = slot.content } → raised (Some (cell_of old)) ≡ Some (cell_of new)
 raised-kept old new slot is written =
-    let more : Slot → Slot = λ (s : Slot). record { count = s.count + 1; content = s.content } in
+    let more : CountedCell → CountedCell = λ (s : CountedCell). record { count = s.count + 1; content = s.content } in
     sym (ap (λ s. Some (cell_in s)) (written ∙ ap more is))
 
-pub lowered-kept : (old new : Kept) (slot : Slot) → slot ≡ old.value → 1 < old.value.count → new.value ≡ record { count = slot.count - 1; content = slot.content } → lowered (Some (cell_of old)) ≡ Some (cell_of new)
+pub lowered-kept : (old new : Kept) (slot : CountedCell) → slot ≡ old.value → 1 < old.value.count → new.value ≡ record { count = slot.count - 1; content = slot.content } → lowered (Some (cell_of old)) ≡ Some (cell_of new)
 lowered-kept old new slot is lt written =
-    let less : Slot → Slot = λ (s : Slot). record { count = s.count - 1; content = s.content } in
+    let less : CountedCell → CountedCell = λ (s : CountedCell). record { count = s.count - 1; content = s.content } in
     less-more old.value.count (content_of old.value.content) lt ∙ sym (ap (λ s. Some (cell_in s)) (written ∙ ap less is))
 
 pub less-last : (o : Option Kept) → counted (option_map cell_of o) ≤ 1 → lowered (option_map cell_of o) ≡ None

@@ -7,7 +7,7 @@ use Rattle.std.specs.declared.alloc.Global.{Global}
 use Rattle.std.specs.declared.boxed.Box.{Box}
 use Rattle.c_core.specs.Cells.{Cell, Cells}
 use Rattle.c_core.specs.Machine as machine
-use Rattle.cell_heap.specs.declared.cells.Slot.{Slot}
+use Rattle.cell_heap.specs.declared.cells.CountedCell.{CountedCell}
 use Rattle.cell_heap.specs.Contents.{content_of}
 
 module _ {X : Type 0} where
@@ -38,7 +38,7 @@ module _ {X : Type 0} where
 
 -- a cell as the map has it
 abbrev pub Kept : Type 0
-Kept = Box Slot Global
+Kept = Box CountedCell Global
 
 abbrev pub cell_of : Kept → Cell machine.Content
 cell_of kept = record { count = kept.value.count; content = content_of kept.value.content }

@@ -8,7 +8,7 @@ use value_core::{Many, Memory};
 /// A cell that is there: how many references there are to it, and what it holds. It stands behind a `Box`, since the map
 /// has nodes with room for twice as many cells where these come in order.
 #[derive(Drop)]
-pub(crate) struct Slot {
+pub(crate) struct CountedCell {
     pub count: u128,
     pub content: Content,
 }
@@ -17,7 +17,7 @@ pub(crate) struct Slot {
 #[derive(Drop)]
 pub(crate) struct Cells {
     alloc: Global,
-    there: BTreeMap<u128, Box<Slot>>,
+    there: BTreeMap<u128, Box<CountedCell>>,
     made: u128,
 }
 
@@ -55,7 +55,7 @@ impl Cells {
     }
 
     /// The cell of a serial, if it is there.
-    pub fn get(&self, serial: u128) -> Option<&Box<Slot>>
+    pub fn get(&self, serial: u128) -> Option<&Box<CountedCell>>
         ensures { option_map cell_of (option_copied result) ≡ cell_at self.now serial }
     {
         self.there.get(&serial)
@@ -77,7 +77,7 @@ impl Cells {
     {
         let serial = self.made;
         let next = serial + 1;
-        let slot = Box::new(self.alloc, Slot { count: 1, content })?;
+        let slot = Box::new(self.alloc, CountedCell { count: 1, content })?;
         self.there.insert(serial, slot)?;
         self.made = next;
         Ok(serial)

@@ -9,7 +9,6 @@ use Rattle.c_core.specs.declared.code.Kind.{Kind}
 use Rattle.c_core.specs.declared.code.Kind.TheVariants.{Tagged, Int64, Char, Object}
 use Rattle.c_core.specs.declared.code.Line.{Line}
 use Rattle.c_core.specs.declared.code.Line.TheVariants as line
-use Rattle.c_core.specs.declared.code.Code.{Code}
 use Rattle.c_core.specs.Primitives.{row_of}
 use Rattle.c_core.specs.WellFormed.{Declared as Variable, is_call_name, spelled_arg, spelled_literal, spelled_label, is_declared, kind_at, spelled_line, same_kind, has_kind, literal_fits, line_fits}
 use Rattle.ir_core.specs.declared.code.RType.{RType}
@@ -27,6 +26,7 @@ use Rattle.ir_core.specs.declared.code.ErrorKind.TheVariants.{Never, Magic, Alwa
 use Rattle.ir_core.specs.Rows.{Declared, type_of_reg, kind_by_result, error_kind, edge_of_kind, edge_of_op}
 use Rattle.ir_core.specs.Lower.{kind_of_type, variable_of, argument_in, register_in, literal_in, called_as, line_of, op_lines, label_before, label_of, end_lines, block_lines, lines_from, lower}
 use Rattle.ir_core.specs.Shape.{op_fits, OpsFit, LastFits, BlocksFit, FuncFits}
+use Rattle.ir_core.proofs.TextLemmas.{LineIs, LinesAre, lines_append, lines_parts, line_same}
 use Rattle.error_edges.specs.Layout.{needs_flag, needs_exit, asking, flag_register, error_register, error_literal}
 use Rattle.error_edges.specs.Edged.{IsEdged}
 use Rattle.error_edges.proofs.Laid.{Asked}
@@ -43,38 +43,6 @@ same_self Int64 = refl
 same_self Char = refl
 same_self Object = refl
 
--- ---- lines that are spelled and fit
-module _ (code : Code) (vars : List Variable) (ret : Kind) where
-  abbrev pub LineIs : Line → Type 0
-  LineIs l = (spelled_line vars l ≡ true) × (line_fits code vars ret l ≡ true)
-
-  abbrev pub LinesAre : List Line → Type 0
-  LinesAre [] = Unit {0}
-  LinesAre (l ∷ ls) = LineIs l × LinesAre ls
-
-  pub lines_from_all : (ls : List Line) → list_all (spelled_line vars) ls ≡ true → list_all (line_fits code vars ret) ls ≡ true → LinesAre ls
-  lines_from_all [] e f = tt
-  lines_from_all (l ∷ ls) e f =
-      let spelled = and_parts (spelled_line vars l) (list_all (spelled_line vars) ls) e in
-      let fits = and_parts (line_fits code vars ret l) (list_all (line_fits code vars ret) ls) f in
-      ((spelled.0, fits.0), lines_from_all ls spelled.1 fits.1)
-
-  pub all_spelled : (ls : List Line) → LinesAre ls → list_all (spelled_line vars) ls ≡ true
-  all_spelled [] h = refl
-  all_spelled (l ∷ ls) h = and_from (spelled_line vars l) (list_all (spelled_line vars) ls) h.0.0 (all_spelled ls h.1)
-
-  pub all_fit : (ls : List Line) → LinesAre ls → list_all (line_fits code vars ret) ls ≡ true
-  all_fit [] h = refl
-  all_fit (l ∷ ls) h = and_from (line_fits code vars ret l) (list_all (line_fits code vars ret) ls) h.0.1 (all_fit ls h.1)
-
-  lines_append : (xs ys : List Line) → LinesAre xs → LinesAre ys → LinesAre (xs ++ ys)
-  lines_append [] ys h k = k
-  lines_append (x ∷ xs) ys h k = (h.0, lines_append xs ys h.1 k)
-
-  lines_parts : (xs ys : List Line) → LinesAre (xs ++ ys) → LinesAre xs × LinesAre ys
-  lines_parts [] ys h = (tt, h)
-  lines_parts (x ∷ xs) ys h = let both = lines_parts xs ys h.1 in ((h.0, both.0), both.1)
-
 -- ---- one function
 module _ (p q : Program) (kept : CodeKept (lower p) (lower q)) (classes : q.classes ≡ p.classes) (calls : (n : ℕ) → called_as q n ≡ called_as p n) (f g : Func) (edged : IsEdged f g) where
   abbrev old : List Variable
@@ -88,19 +56,6 @@ module _ (p q : Program) (kept : CodeKept (lower p) (lower q)) (classes : q.clas
 
   more_vars : vars ≡ old ++ map variable_of (more_regs f g edged).0
   more_vars = ap (map variable_of) (more_regs f g edged).1 ∙ map_append variable_of f.regs (more_regs f g edged).0
-
-  line_same : (o : Op) → line_of q o ≡ line_of p o
-  line_same (Move r s) = refl
-  line_same (Lit r l) = refl
-  line_same (Prim to c args) = refl
-  line_same (Call r n args) = ap (λ name. line.Call (Some r.0) name (map register_in args)) (calls n)
-  line_same (Virtual r o n args) = refl
-  line_same (TraitCall r o t n args) =
-      ap (λ ks. line_of (record q { classes = ks }) (TraitCall r o t n args)) classes
-  line_same Turn = refl
-  line_same (Inc r) = refl
-  line_same (Dec r) = refl
-  line_same (XDec r) = refl
 
   -- ---- registers, operations and ends
   abbrev D : Reg → Type 0
@@ -124,7 +79,7 @@ module _ (p q : Program) (kept : CodeKept (lower p) (lower q)) (classes : q.clas
   ops_kept : (ops : List (Op × ℕ)) → OpsFit ops → LinesAre (lower p) old ret (op_lines p ops) → OpsAre D R O ops
   ops_kept [] fits h = tt
   ops_kept (o ∷ os) fits h =
-      ((fits.0, subst New (sym (line_same o.0)) (line_kept (line_of p o.0) h.0)), ops_kept os fits.1 h.1)
+      ((fits.0, subst New (sym (line_same p q classes calls o.0)) (line_kept (line_of p o.0) h.0)), ops_kept os fits.1 h.1)
 
   end_kept : (k : ℕ) (last : Last) → LinesAre (lower p) old ret (end_lines label_of k last) → EndIs D R O last
   end_kept k (Goto t) h = tt

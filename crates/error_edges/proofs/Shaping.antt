@@ -23,6 +23,7 @@ use Rattle.ir_core.specs.Names.{function_id}
 use Rattle.ir_core.specs.Lower.{kind_of_type, variable_of, global_of, call_name, called_as, line_of, op_lines, end_lines, label_of, lines_from, lowered_as, name_in, lowered_from, lower}
 use Rattle.ir_core.specs.Shape.{FuncFits, FuncsFit, BeginsInTurn, Shape}
 use Rattle.ir_core.proofs.JumpLemmas.{jumps_go, last_leaves}
+use Rattle.ir_core.proofs.TextLemmas.{LinesAre, lines_from_all, all_spelled, all_fit}
 use Rattle.error_edges.specs.Layout.{needs_flag, needs_exit, number_at, exit_blocks, chains}
 use Rattle.error_edges.specs.Edged.{IsEdged, AreEdged, IsEdgedProgram}
 use Rattle.error_edges.proofs.FunctionLemmas.{each_count}
@@ -33,7 +34,7 @@ use Rattle.error_edges.proofs.Laid.{FunctionLaid, BlockStands}
 use Rattle.error_edges.proofs.Laying.{more_regs, function_laid}
 use Rattle.error_edges.proofs.LineLemmas.{CodeKept}
 use Rattle.error_edges.proofs.SpellingLemmas.{map_append, AreNamed, grown_named}
-use Rattle.error_edges.proofs.FunctionShapes.{LinesAre, lines_from_all, all_spelled, all_fit, func_fits, function_lines}
+use Rattle.error_edges.proofs.FunctionShapes.{func_fits, function_lines}
 
 -- ---- the first operation stays
 first_turn : (ops : List (Op × ℕ)) (last : Last) → in_block ops last 0 ≡ Some (Do Turn) → (o : Op × ℕ) × (rest : List (Op × ℕ)) × (ops ≡ o ∷ rest) × (o.0 ≡ Turn)

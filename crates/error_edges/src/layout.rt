@@ -7,7 +7,7 @@ ghost use Rattle.error_edges.specs.Layout as spec;
 ghost use Rattle.error_edges.specs.Layout.{flag_register, number_at, block_of, cut_at, cut, chain, chains, exit_block};
 
 use crate::missing::edges_of;
-use crate::plan::{Plan, handler};
+use crate::plan::{EdgePlan, handler};
 use c_core::{ErrPrim, Prim};
 use ir_core::{Block, Edge, Last, Lit, Op, RType, Reg};
 use std::alloc::Global;
@@ -19,7 +19,7 @@ pub(crate) fn edged_blocks(
     alloc: Global,
     regs: &[(Name, RType)],
     ret: RType,
-    plan: &Plan,
+    plan: &EdgePlan,
     blocks: Many<Block>,
 ) -> Result<Many<Block>, Memory>
     ensures { IfOk result (λ all. all ≡ chains regs.now (number_at plan.now.starts.items plan.now.exit) plan.now.exit blocks 0 ++ cond plan.now.needs_exit (exit_block (record { 0 = length regs.now + cond plan.now.needs_flag 1 0 }) ret ∷ []) []) }
@@ -65,7 +65,7 @@ fn lay_block(
     alloc: Global,
     blocks: &mut Vec<Block>,
     regs: &[(Name, RType)],
-    plan: &Plan,
+    plan: &EdgePlan,
     block: Block,
 ) -> Result<(), Memory>
     ensures { OnOk result (blocks.new.items ≡ blocks.old.items ++ chain regs.now (number_at plan.now.starts.items plan.now.exit) plan.now.exit block (length blocks.old.items)) }

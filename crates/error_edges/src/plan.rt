@@ -12,7 +12,7 @@ use value_core::{Memory, Name};
 
 /// What a function with edges is to have.
 #[derive(Drop)]
-pub(crate) struct Plan {
+pub(crate) struct EdgePlan {
     /// The first block of each chain.
     pub starts: Vec<usize>,
     /// The number behind the last chain.
@@ -28,7 +28,7 @@ pub(crate) fn plan_of(
     alloc: Global,
     regs: &[(Name, RType)],
     blocks: &[Block],
-) -> Result<Plan, Memory>
+) -> Result<EdgePlan, Memory>
     ensures starts { IfOk result (λ plan. (k : ℕ) → number_at plan.starts.items plan.exit k ≡ start_of regs.now blocks.now k) }
     ensures exit { IfOk result (λ plan. plan.exit ≡ exit_of regs.now blocks.now) }
     ensures needs_flag { IfOk result (λ plan. plan.needs_flag ≡ spec.needs_flag regs.now blocks.now) }
@@ -45,7 +45,7 @@ pub(crate) fn plan_of(
         needs_flag = needs_flag || any_second_test(&edges);
         needs_exit = needs_exit || leaves(block, &edges);
     }
-    Ok(Plan {
+    Ok(EdgePlan {
         starts,
         exit,
         needs_flag,
@@ -92,7 +92,7 @@ fn extra(edge: Edge) -> usize
     }
 }
 
-impl Plan {
+impl EdgePlan {
     /// The first block of the chain of a block.
     pub(crate) fn start(&self, block: usize) -> usize
         ensures { result ≡ number_at self.now.starts.items self.now.exit block }

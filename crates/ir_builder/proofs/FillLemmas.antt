@@ -56,19 +56,6 @@ held_open [] os k i lt e = absurd (omega arith)
 held_open (b ∷ bs) os zero i lt e = end_open b.ops b.last i e
 held_open (b ∷ bs) os (suc k) i lt e = held_open bs os k i (omega arith) e
 
-pub filled_none : (b : Building) (from to : ℕ) → Filled b b from from to
-filled_none b from to = record {
-  has = λ p fn h. h;
-  jumps = λ p fn k i h l u e. absurd (omega arith);
-  extends = λ a x l. x;
-  later = λ k i x l e. e;
-  none = λ k l u. absurd (omega arith);
-  same = λ k l. refl;
-  same_regs = refl;
-  blocks = refl;
-  ops = refl;
-}
-
 not_true : (x : Bool) → (x ≡ true → ⊥) → x ≡ false
 not_true true h = absurd (h refl)
 not_true false h = refl

@@ -31,7 +31,7 @@ use Rattle.ir_builder_frames.specs.declared.frame.Vars.{Vars}
 use Rattle.ir_builder_frames.specs.Calling.{Pushes}
 use Rattle.ir_builder_frames.specs.Coming.{world, Escapes}
 use Rattle.ir_builder_frames.specs.Computing.{Meaning}
-use Rattle.ir_builder_frames.specs.Kinds.{Head, head_of, Surrounding, LiteralFits, OpKinds, OpsKinds, BlocksKinds, HasKinds, KeepsKinds, KeepsKindsIf, IsAmong}
+use Rattle.ir_builder_frames.specs.Kinds.{FunctionType, head_of, Surrounding, LiteralFits, OpKinds, OpsKinds, BlocksKinds, HasKinds, KeepsKinds, KeepsKindsIf, IsAmong}
 use Rattle.ir_builder_frames.specs.Matching.{flag_of, HasRoom, Matches, Departs, BeginWith}
 use Rattle.ir_builder_frames.specs.Naming.{names_of}
 use Rattle.ir_builder_frames.specs.Placing.{NoEdges, Has}
@@ -112,7 +112,7 @@ module _ (vs : List Variable) (b : Building) (variables : Declared) (is : variab
         back = tt;
       }
 
-  pub begin_kinds : (heads : List Head) (globals : Declared) (ret : RType) → HasKinds (record { heads = heads; globals = globals; variables = n; ret = ret }) b
+  pub begin_kinds : (heads : List FunctionType) (globals : Declared) (ret : RType) → HasKinds (record { heads = heads; globals = globals; variables = n; ret = ret }) b
   begin_kinds heads globals ret =
       let g : Surrounding = record { heads = heads; globals = globals; variables = n; ret = ret } in
       record {

@@ -1,28 +1,15 @@
 -- The registers with which a function begins.
-use Rattle.std.proofs.Common.{◌≡◌, ℕ, ◌+◌, ◌<◌, ◌≤◌, List, length, take, refl, ◌∙◌, subst, arith, ⊎_elim}
-use Rattle.std.proofs.lemmas.Grind.{common_steps}
+use Rattle.std.proofs.Common.{◌≡◌, ℕ, ◌+◌, ◌<◌, ◌≤◌, length, ◌∙◌, subst, arith, ⊎_elim}
 use Rattle.ir_core.specs.declared.code.RType.TheVariants.{Bool as BoolType}
 use Rattle.ir_core.specs.Building.{Building, Extends}
 use Rattle.ir_builder_frames.specs.Calling.{Declares}
 use Rattle.ir_builder_frames.specs.Placing.{HasType}
 use Rattle.ir_builder_frames.specs.Shaped.{Keeps}
-use Rattle.ir_builder_frames.proofs.HeldLemmas.{extends_refl, extends_trans, type_kept}
+use Rattle.ir_builder_frames.proofs.HeldLemmas.{extends_trans, type_kept}
 use Rattle.ir_builder.specs.Registers.{AddsFlags}
 use Rattle.ir_builder.proofs.ArgumentLemmas.{less_or}
 
-pub take_past : {A : Type 0} (xs : List A) (i : ℕ) → length xs ≤ i → take i xs ≡ xs
-take_past xs i le = grind (arith, common_steps)
-
 -- ---- flags
-
-pub flags_none : (b : Building) → AddsFlags 0 b b
-flags_none b = record {
-  extends = extends_refl b;
-  blocks = refl;
-  ops = refl;
-  regs = omega arith;
-  flags = λ j low high. absurd (omega arith);
-}
 
 pub flags_one : (b c : Building) (r : ℕ) → Declares b c r BoolType → AddsFlags 1 b c
 flags_one b c r d = record {
@@ -44,9 +31,6 @@ flags_more a b c n k is x y = record {
       (λ (le : length b.regs ≤ j). y.flags j le (omega (arith, x.regs)))
       (less_or j (length b.regs));
 }
-
-pub flags_as : (a b : Building) (n k : ℕ) → n ≡ k → AddsFlags n a b → AddsFlags k a b
-flags_as a b n k e x = subst (λ z. AddsFlags z a b) e x
 
 -- what is kept while one more is added
 pub keeps_more : (a b c : Building) → Extends a b → length b.blocks ≤ length c.blocks → Keeps a b → Keeps b c → Keeps a c

@@ -1,5 +1,5 @@
 -- A whole program does what its module does, is calm, and is built as a program is.
-use Rattle.std.proofs.Common.{◌≡◌, ◌≢◌, ℕ, zero, suc, ◌+◌, ◌-◌, ◌<◌, ◌≤◌, List, [], ◌∷◌, ◌++◌, length, map, take, get_or, Option, Some, None, ⊎_elim, refl, sym, ap, ◌∙◌, subst, arith, le_refl, add-one, length-append}
+use Rattle.std.proofs.Common.{◌≡◌, ◌≢◌, ℕ, zero, suc, ◌+◌, ◌-◌, ◌<◌, List, [], ◌∷◌, ◌++◌, length, map, take, get_or, Option, Some, None, ⊎_elim, refl, sym, ap, ◌∙◌, subst, arith, le_refl, add-one, length-append}
 use Rattle.std.specs.Prelude.{slice_get, replicate}
 use Rattle.std.specs.List.{list_all}
 use Rattle.std.proofs.Math.Seq.{take-suc}
@@ -27,7 +27,7 @@ use Rattle.ir_core.specs.Runs.{first_world, begins, Calm}
 use Rattle.ir_core.proofs.ModeLemmas.{unstuck_is_plain}
 use Rattle.ir_core.proofs.RunLemmas.{ended_is_calm}
 use Rattle.ir_builder_frames.specs.Coming.{world, running, Escapes, Leads, Ends}
-use Rattle.ir_builder_frames.specs.Kinds.{Head, head_of}
+use Rattle.ir_builder_frames.specs.Kinds.{FunctionType, head_of}
 use Rattle.ir_builder_frames.specs.Matching.{parameter_sorts, BeginWith, HasHead}
 use Rattle.ir_builder_frames.specs.Naming.{names_of}
 use Rattle.ir_builder_frames.specs.Placing.{NoEdges}
@@ -45,7 +45,6 @@ use Rattle.ir_builder.proofs.CallLemmas.{IsThere, calls_work}
 use Rattle.ir_builder.proofs.ArgumentLemmas.{map_length}
 use Rattle.ir_builder.proofs.EdgeLemmas.{no_edges}
 use Rattle.ir_builder.proofs.FunctionLemmas.{get_map, names_are}
-use Rattle.ir_builder.proofs.RegisterLemmas.{take_past}
 
 -- ---- functions in order
 
@@ -78,8 +77,8 @@ module _ (m : TypedModule) where
   head_same : (f : TypedFunc) (h : Func) → HasHead h f → head_of_code h ≡ head_of f
   head_same f h e =
       let params : map (λ (d : List ℕ × RType). d.1) (take h.params h.regs) ≡ map rtype_of (parameter_sorts f) = ap (λ n. map (λ (d : List ℕ × RType). d.1) (take n h.regs)) e.params ∙ begin_params h.regs (parameter_sorts f) e.regs in
-      let P : List RType → Head = λ ps. record { params = ps; ret = h.ret } in
-      let Q : RType → Head = λ t. record { params = map rtype_of (parameter_sorts f); ret = t } in
+      let P : List RType → FunctionType = λ ps. record { params = ps; ret = h.ret } in
+      let Q : RType → FunctionType = λ t. record { params = map rtype_of (parameter_sorts f); ret = t } in
       ap P params ∙ ap Q e.ret
 
   heads_same : (fs : List TypedFunc) (hs : List Func) → AllBuilt m fs hs → map head_of_code hs ≡ map head_of fs
@@ -115,12 +114,9 @@ built_next m xs i f hs hs' h lt is all one e =
     let fs : map typed_func (take (i + 1) xs) ≡ map typed_func (take i xs) ++ typed_func f ∷ [] = ap (map typed_func) row ∙ map_last typed_func (take i xs) f in
     subst (λ l. AllBuilt m l hs') (sym fs) (subst (λ l. AllBuilt m (map typed_func (take i xs) ++ typed_func f ∷ []) l) (sym e) (built_last m (map typed_func (take i xs)) hs (typed_func f) h all one))
 
-pub built_all : (m : TypedModule) (c : Checked) (xs : List TFunc) (i : ℕ) (hs : List Func) → xs ≡ c.funcs → length xs ≤ i → AllBuilt m (map typed_func (take i xs)) hs → AllBuilt m (typed_module c).funcs hs
-built_all m c xs i hs same le all = subst (λ l. AllBuilt m (map typed_func l) hs) (take_past xs i le ∙ same) all
-
 -- ---- runs
 
-built_edges : (heads : List Head) (globals : Declared) (p : Program) (fn : ℕ) (h : Func) → slice_get p.funcs fn ≡ Some h → IsBuilt heads globals h → NoEdges p fn
+built_edges : (heads : List FunctionType) (globals : Declared) (p : Program) (fn : ℕ) (h : Func) → slice_get p.funcs fn ≡ Some h → IsBuilt heads globals h → NoEdges p fn
 built_edges heads globals p fn h there b = no_edges p fn h b.low b.highest there b.fits
 
 module _ (m : TypedModule) (p : Program) (b : IsBuiltOf m p) (suits : ModuleSuits m) where

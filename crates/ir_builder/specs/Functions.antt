@@ -16,7 +16,7 @@ use Rattle.ir_core.specs.Meaning.{Waiting, Ended}
 use Rattle.ir_core.specs.Registers.{Holds, first_regs}
 use Rattle.ir_builder_frames.specs.Coming.{world, running, Escapes, Ends}
 use Rattle.ir_builder_frames.specs.Settings.{variable_registers}
-use Rattle.ir_builder_frames.specs.Kinds.{Head, head_of}
+use Rattle.ir_builder_frames.specs.Kinds.{FunctionType, head_of}
 use Rattle.ir_builder_frames.specs.Matching.{HaveKinds, HaveTypes, parameter_sorts, HasHead, CallGives, CallRaises, CallsWork}
 use Rattle.ir_builder_shapes_laws.specs.Built.{IsFunction, IsOwn}
 
@@ -30,7 +30,7 @@ end_value Ref = NoneVal
 end_value Bool = BoolVal false
 end_value t = IntVal (pos 0)
 
-abbrev pub heads_of : TypedModule → List Head
+abbrev pub heads_of : TypedModule → List FunctionType
 heads_of m = map head_of m.funcs
 
 -- where calls work and the module's variables have their types, the function's code does behind its turn what the function's body does on arguments

@@ -3,6 +3,7 @@ use Rattle.std.proofs.Common.{◌≡◌, refl, sym, ap, ◌∙◌, ℕ, Bool, tr
 use Rattle.value_core.specs.Value.{Value, IntVal, BoolVal}
 use Rattle.py_syntax.specs.declared.expression.CmpOp.{CmpOp}
 use Rattle.py_syntax.specs.declared.expression.CmpOp.TheVariants as cmp
+use Rattle.py_typed.specs.Fits.{is_number}
 use Rattle.py_typed.specs.Sorts as sort
 use Rattle.py_typed.specs.Sorts.{Sort}
 use Rattle.source_meaning.specs.State.{State, Does, Gives, on_to, needs, give}
@@ -19,7 +20,7 @@ use Rattle.ir_builder_frames.proofs.ComingLemmas.{on_assoc}
 use Rattle.ir_builder_frames.proofs.MatchLemmas.{same_refl, makes_arrives}
 use Rattle.ir_builder_comparisons.specs.declared.comparisons.Compared.TheVariants.{Ints, Natives, Texts}
 use Rattle.ir_builder_comparisons.specs.Comparing.{ordered}
-use Rattle.ir_builder_operations.specs.Operating.{is_numeric, is_whole, ActsOn, ActsOnTwo}
+use Rattle.ir_builder_operations.specs.Operating.{is_whole, ActsOn, ActsOnTwo}
 use Rattle.ir_builder_comparisons.specs.Comparing.{is_ordering, as_whole, as_value, TellsOfTwo}
 use Rattle.ir_builder_operations.proofs.KindLemmas.{by_int, by_i64, by_bool}
 use Rattle.ir_builder_comparisons.proofs.OrderLemmas.{holds_is}
@@ -112,7 +113,7 @@ bools_meet op v w s k l =
     by_bool (λ v. coerced_both sort.Bool op v w s ≡ coerced_both sort.I64 op v w s)
     (λ p. by_bool (λ w. coerced_both sort.Bool op (BoolVal p) w s ≡ coerced_both sort.I64 op (BoolVal p) w s) (λ q. bools_ordered op p q s) w l) v k
 
-mixed_holds : (op : CmpOp) (s t : Sort) (v w : Value) (st : State) → is_ordering op ≡ true → is_numeric s ≡ true → is_numeric t ≡ true → HasKind s v → HasKind t w → as_value (holds op s t v w) st ≡ coerced_both (as_whole (compared_as s t)) op v w st
+mixed_holds : (op : CmpOp) (s t : Sort) (v w : Value) (st : State) → is_ordering op ≡ true → is_number s ≡ true → is_number t ≡ true → HasKind s v → HasKind t w → as_value (holds op s t v w) st ≡ coerced_both (as_whole (compared_as s t)) op v w st
 mixed_holds op sort.Int sort.Int v w st o e f k l = holds_then op sort.Int sort.Int v w st o
 mixed_holds op sort.Int sort.I64 v w st o e f k l = holds_then op sort.Int sort.I64 v w st o
 mixed_holds op sort.Int sort.Bool v w st o e f k l = holds_then op sort.Int sort.Bool v w st o
@@ -126,7 +127,7 @@ mixed_holds op s t v w st o e f k l = absurd (cc)
 
 -- ---- comparisons
 
-pub mixed_comparison : (s s' t : Sort) (op : CmpOp) (b0 b1 b2 b3 : Building) (q w r x y : ℕ) (type_y : RType) → is_ordering op ≡ true → is_numeric s ≡ true → is_numeric s' ≡ true → is_whole t ≡ true → t ≡ as_whole (compared_as s s') → HasType b0 y type_y → Attempts (Shows t) b0 b1 q (rtype_of t) (ActsOn s x (coerced t)) → Attempts (Shows t) b1 b2 w (rtype_of t) (ActsOn s' y (coerced t)) → Makes b2 b3 r rtype.Bool (OfTwo q w (TellsOfTwo t (holds op t t))) → Attempts (Shows sort.Bool) b0 b3 r rtype.Bool (ActsOnTwo s s' x y (λ v w. as_value (holds op s s' v w)))
+pub mixed_comparison : (s s' t : Sort) (op : CmpOp) (b0 b1 b2 b3 : Building) (q w r x y : ℕ) (type_y : RType) → is_ordering op ≡ true → is_number s ≡ true → is_number s' ≡ true → is_whole t ≡ true → t ≡ as_whole (compared_as s s') → HasType b0 y type_y → Attempts (Shows t) b0 b1 q (rtype_of t) (ActsOn s x (coerced t)) → Attempts (Shows t) b1 b2 w (rtype_of t) (ActsOn s' y (coerced t)) → Makes b2 b3 r rtype.Bool (OfTwo q w (TellsOfTwo t (holds op t t))) → Attempts (Shows sort.Bool) b0 b3 r rtype.Bool (ActsOnTwo s s' x y (λ v w. as_value (holds op s s' v w)))
 mixed_comparison s s' t op b0 b1 b2 b3 q w r x y type_y o e e' whole is there m m' n =
     let k = two_tell_attempt t (holds op t t) b2 b3 r q w (λ v z k l. (ordered op v z, λ st. whole_holds t op v z st o whole k l)) n in
     let k2 = attempts_as (Shows sort.Bool) b2 b3 r rtype.Bool (ActsOnTwo t t q w (λ v z. as_value (holds op t t v z))) (ActsOnTwo t t q w (λ v z. as_value (meet op v z)))

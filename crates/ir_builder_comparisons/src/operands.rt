@@ -1,5 +1,6 @@
 //! Arithmetic on numbers and bools of any types, and their comparisons.
 ghost use Rattle.std.specs.Prelude.{◌≡◌, IfOk, true};
+ghost use Rattle.py_typed.specs.Fits.{is_number};
 ghost use Rattle.py_typed.specs.Sorts.{sort, Bool};
 ghost use Rattle.source_meaning.specs.Operations.{arithmetic, negated, compared_as, holds};
 ghost use Rattle.ir_core.specs.Building.{Extends};
@@ -8,7 +9,7 @@ ghost use Rattle.ir_builder_frames.specs.Placing.{HasType};
 ghost use Rattle.ir_builder_frames.specs.Settings.{rtype_of};
 ghost use Rattle.ir_builder_frames.specs.Shaped.{Keeps};
 ghost use Rattle.ir_builder_frames.specs.Kinds.{KeepsKinds};
-ghost use Rattle.ir_builder_operations.specs.Operating.{is_arithmetic, is_numeric, is_whole, ActsOn, ActsOnTwo};
+ghost use Rattle.ir_builder_operations.specs.Operating.{is_arithmetic, is_whole, ActsOn, ActsOnTwo};
 ghost use Rattle.ir_builder_comparisons.specs.Comparing.{is_native as is_native_sort, is_ordering, as_whole, as_value, TellsOfTwo};
 
 use crate::comparisons::{emit_int_comparison, emit_native_comparison};
@@ -73,8 +74,8 @@ pub fn emit_arithmetic(
 ) -> Result<Reg, Memory>
     requires operator { is_arithmetic op ≡ true }
     requires whole { is_whole (sort to.now) ≡ true }
-    requires left_numeric { is_numeric (sort left.now) ≡ true }
-    requires right_numeric { is_numeric (sort right.now) ≡ true }
+    requires left_numeric { is_number (sort left.now) ≡ true }
+    requires right_numeric { is_number (sort right.now) ≡ true }
     requires left { HasType b.old x.0 (rtype_of (sort left.now)) }
     requires right { HasType b.old y.0 (rtype_of (sort right.now)) }
     ensures kept { Extends b.old b.new }
@@ -121,7 +122,7 @@ pub fn emit_negation(
     line: usize,
 ) -> Result<Reg, Memory>
     requires whole { is_whole (sort to.now) ≡ true }
-    requires numeric { is_numeric (sort from.now) ≡ true }
+    requires numeric { is_number (sort from.now) ≡ true }
     requires value { HasType b.old x.0 (rtype_of (sort from.now)) }
     ensures kept { Extends b.old b.new }
     ensures made { IfOk result (λ r. Attempts (Shows (sort to.now)) b.old b.new r.0 (rtype_of (sort to.now)) (ActsOn (sort from.now) x.0 (negated (sort to.now)))) }
@@ -134,8 +135,8 @@ pub fn emit_negation(
 
 // The type in which two numbers or bools are compared.
 fn type_between(left: &Ty, right: &Ty) -> Ty
-    requires left { is_numeric (sort left.now) ≡ true }
-    requires right { is_numeric (sort right.now) ≡ true }
+    requires left { is_number (sort left.now) ≡ true }
+    requires right { is_number (sort right.now) ≡ true }
     ensures is { sort result ≡ as_whole (compared_as (sort left.now) (sort right.now)) }
     ensures whole { is_whole (sort result) ≡ true }
 {
@@ -185,8 +186,8 @@ pub fn emit_number_comparison(
     line: usize,
 ) -> Result<Reg, Memory>
     requires ordering { is_ordering op ≡ true }
-    requires left_numeric { is_numeric (sort left.now) ≡ true }
-    requires right_numeric { is_numeric (sort right.now) ≡ true }
+    requires left_numeric { is_number (sort left.now) ≡ true }
+    requires right_numeric { is_number (sort right.now) ≡ true }
     requires left { HasType b.old x.0 (rtype_of (sort left.now)) }
     requires right { HasType b.old y.0 (rtype_of (sort right.now)) }
     ensures kept { Extends b.old b.new }

@@ -3,6 +3,7 @@ use Rattle.std.proofs.Common.{◌≡◌, refl, sym, ap, ◌∙◌, subst, ℕ, t
 use Rattle.std.specs.Prelude.{ℤ}
 use Rattle.value_core.specs.Value.{Value}
 use Rattle.py_syntax.specs.declared.expression.BinOp.{BinOp}
+use Rattle.py_typed.specs.Fits.{is_number}
 use Rattle.py_typed.specs.Sorts as sort
 use Rattle.py_typed.specs.Sorts.{Sort}
 use Rattle.py_typed.specs.Expressions.{TypedExpr, type_of}
@@ -15,7 +16,7 @@ use Rattle.ir_builder_frames.specs.Placing.{HasType}
 use Rattle.ir_builder_frames.specs.Matching.{HasKind}
 use Rattle.ir_builder_frames.specs.Computing.{Shows, Attempts}
 use Rattle.ir_builder_frames.proofs.HeldLemmas.{type_below}
-use Rattle.ir_builder_operations.specs.Operating.{is_numeric, is_whole, ActsOn, ActsOnTwo}
+use Rattle.ir_builder_operations.specs.Operating.{is_whole, ActsOn, ActsOnTwo}
 use Rattle.ir_builder_operations.proofs.KindLemmas.{by_int, by_i64}
 use Rattle.ir_builder_operations.proofs.PartLemmas.{stays}
 use Rattle.ir_builder_expressions.specs.Compiled.{literal_in}
@@ -23,7 +24,7 @@ use Rattle.ir_builder_expressions.specs.Parts.{native_in, sort_by, part_sort}
 use Rattle.ir_builder_expressions.proofs.ValueLemmas.{number_coerced}
 use Rattle.ir_builder_expressions.proofs.FollowLemmas.{attempts_as, attempts_then, two_attempts}
 
-pub whole_numeric : (t : Sort) → is_whole t ≡ true → is_numeric t ≡ true
+pub whole_numeric : (t : Sort) → is_whole t ≡ true → is_number t ≡ true
 whole_numeric sort.Int e = refl
 whole_numeric sort.I64 e = refl
 whole_numeric t e = let f : false ≡ true = e in absurd (cc)

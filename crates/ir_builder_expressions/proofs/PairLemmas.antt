@@ -2,6 +2,7 @@
 use Rattle.std.proofs.Common.{◌≡◌, refl, sym, ap, ◌∙◌, subst, ℕ, Bool, true, false}
 use Rattle.value_core.specs.Value.{Value, BoolVal}
 use Rattle.py_syntax.specs.declared.expression.CmpOp.{CmpOp}
+use Rattle.py_typed.specs.Fits.{is_number}
 use Rattle.py_typed.specs.Sorts as sort
 use Rattle.py_typed.specs.Sorts.{Sort}
 use Rattle.source_meaning.specs.State.{State, Outcome, Gives, Raises, Stops, Does, ◌>>=◌, on_to, give, needs}
@@ -12,7 +13,7 @@ use Rattle.ir_builder_frames.specs.Settings.{rtype_of}
 use Rattle.ir_builder_frames.specs.Placing.{HasType}
 use Rattle.ir_builder_frames.specs.Computing.{Shows, Makes, Attempts, OfTwo}
 use Rattle.ir_builder_frames.proofs.HeldLemmas.{type_below}
-use Rattle.ir_builder_operations.specs.Operating.{ActsOn, ActsOnTwo, is_numeric, is_whole}
+use Rattle.ir_builder_operations.specs.Operating.{ActsOn, ActsOnTwo, is_whole}
 use Rattle.ir_builder_comparisons.specs.Comparing.{as_value, TellsOfTwo}
 use Rattle.ir_builder_comparisons.proofs.MeetLemmas.{text_comparison_attempt}
 use Rattle.ir_builder_expressions.specs.Compiled.{is_ordering}
@@ -79,7 +80,7 @@ bools_compared op b c r x y a = a
 
 -- ---- the types
 
-pub shown_numeric : (s u : Sort) → is_numeric s ≡ true → is_shown_as s u ≡ true → is_numeric u ≡ true
+pub shown_numeric : (s u : Sort) → is_number s ≡ true → is_shown_as s u ≡ true → is_number u ≡ true
 shown_numeric sort.Int sort.Int e f = refl
 shown_numeric sort.Int sort.I64 e f = refl
 shown_numeric sort.I64 sort.I64 e f = refl
@@ -131,7 +132,7 @@ both_bools kind.Bool kind.Str e is = absurd (cc)
 both_bools kind.Bool kind.Int e is = absurd (cc)
 both_bools kind.Bool kind.I64 e is = absurd (cc)
 
-both_numbers : (to j k : Kind) → is_compared (kind_sort j) (kind_sort k) ≡ true → kind_sort to ≡ compared_as (kind_sort j) (kind_sort k) → (to ≡ kind.Str → ⊥) → (to ≡ kind.Bool → ⊥) → (is_whole (kind_sort to) ≡ true) × (is_numeric (kind_sort j) ≡ true) × (is_numeric (kind_sort k) ≡ true)
+both_numbers : (to j k : Kind) → is_compared (kind_sort j) (kind_sort k) ≡ true → kind_sort to ≡ compared_as (kind_sort j) (kind_sort k) → (to ≡ kind.Str → ⊥) → (to ≡ kind.Bool → ⊥) → (is_whole (kind_sort to) ≡ true) × (is_number (kind_sort j) ≡ true) × (is_number (kind_sort k) ≡ true)
 both_numbers kind.Str j k e is f g = absurd (f refl)
 both_numbers kind.Bool j k e is f g = absurd (g refl)
 both_numbers kind.Int kind.Str kind.Str e is f g = absurd (cc)
@@ -189,7 +190,7 @@ module _ (op : CmpOp) (left right : Side) (compares : is_compared (kind_sort lef
       let shown = bools_shown is in
       is_all sort.Bool (both_bools left.own right.own compares (sym (ap kind_sort is) ∙ joined)) shown.0 shown.1 b c r a
 
-  pub numbers_shown : (to ≡ kind.Str → ⊥) → (to ≡ kind.Bool → ⊥) → (is_whole (kind_sort to) ≡ true) × (is_numeric (kind_sort left.shown) ≡ true) × (is_numeric (kind_sort right.shown) ≡ true)
+  pub numbers_shown : (to ≡ kind.Str → ⊥) → (to ≡ kind.Bool → ⊥) → (is_whole (kind_sort to) ≡ true) × (is_number (kind_sort left.shown) ≡ true) × (is_number (kind_sort right.shown) ≡ true)
   numbers_shown f g =
       let n = both_numbers to left.own right.own compares joined f g in
       (n.0, shown_numeric (kind_sort left.own) (kind_sort left.shown) n.1 left_shown, shown_numeric (kind_sort right.own) (kind_sort right.shown) n.2 right_shown)

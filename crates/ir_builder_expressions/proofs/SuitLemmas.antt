@@ -8,7 +8,7 @@ use Rattle.py_syntax.specs.declared.token.Span.{Span}
 use Rattle.py_typed.specs.Sorts as sort
 use Rattle.py_typed.specs.Sorts.{Sort, sorts_of}
 use Rattle.py_typed.specs.Classes.{Signature}
-use Rattle.py_typed.specs.Fits.{is_same_type, are_same_types, is_number, is_nothing}
+use Rattle.py_typed.specs.Fits.{is_same_type, are_same_types, is_nothing}
 use Rattle.py_typed.specs.Expressions.{TypedExpr, typed, TypedNode, Int, Str, Flag, Local, Global, Neg, Not, Truth, Arith, Concat, Compare, And, Or, Cond, At, Call, Input, Len, ToStr, Coerce, TypedExprs, no_exprs, expr_then, Comparisons, no_comparisons, comparison_then, type_of}
 use Rattle.py_typed.specs.Statements.{Variable, TypedFunc, TypedModule}
 use Rattle.py_typed.specs.Narrowing.{is_in, facts}
@@ -16,7 +16,7 @@ use Rattle.py_typed.specs.WellTypedExpr.{stands, parts_typed, are_values, chain_
 use Rattle.py_typed.proofs.FitLemmas.{and_left, and_right, one_type}
 use Rattle.ir_builder_frames.specs.Matching.{parameter_sorts}
 use Rattle.ir_builder_expressions.specs.Compiled.{is_bool, is_int, is_text, is_scalar, is_result, is_compiled, is_compiled_node, are_compiled, are_compared}
-use Rattle.ir_builder_operations.specs.Operating.{is_numeric, is_whole}
+use Rattle.ir_builder_operations.specs.Operating.{is_whole}
 use Rattle.ir_builder_expressions.specs.Suiting.{Suits, NodeSuits, ArgumentsSuit, ComparisonsSuit}
 
 -- ---- types
@@ -47,12 +47,6 @@ result_scalar sort.I64 h k = refl
 result_scalar sort.Bool h k = refl
 result_scalar sort.Str h k = refl
 result_scalar _ h k = absurd (cc)
-
-pub number_numeric : (t : Sort) → is_number t ≡ true → is_numeric t ≡ true
-number_numeric sort.Int h = refl
-number_numeric sort.I64 h = refl
-number_numeric sort.Bool h = refl
-number_numeric _ h = absurd (cc)
 
 literal_within : (n : ℤ) → is_literal n ≡ true → lies_within 127 n ≡ true
 literal_within (pos n) h = h
@@ -172,7 +166,7 @@ module _ (m : TypedModule) (vs : List Variable) (init : Option ℕ) where
       well_typed_node testing known (Flag b) t p r c = bool_is t c
       well_typed_node testing known (Local i) t p r c = let v = local_suits scalars known i t r in (c, v.0, v.1, v.2)
       well_typed_node testing known (Global i) t p r c = let v = declared_as (slice_get m.globals i) t r in (c, v.0, v.1, v.2)
-      well_typed_node testing known (Neg e) t p r c = ((and_left _ _ c, number_numeric (type_of e) (and_left _ _ r)), well_typed_suits false known e p (and_right _ _ c))
+      well_typed_node testing known (Neg e) t p r c = ((and_left _ _ c, and_left _ _ r), well_typed_suits false known e p (and_right _ _ c))
       well_typed_node testing known (Not e) t p r c = ((bool_is t (and_left _ _ c), one_type (type_of e) sort.Bool (and_left _ _ r)), well_typed_suits true known e p (and_right _ _ c))
       well_typed_node testing known (Truth e) t p r c =
           let more = and_right _ _ c in
@@ -181,7 +175,7 @@ module _ (m : TypedModule) (vs : List Variable) (init : Option ℕ) where
           let more = and_right _ _ c in
           let both = and_right _ _ more in
           let numbers = and_left _ _ r in (
-            (and_left _ _ c, and_left _ _ more, number_numeric (type_of a) (and_left _ _ numbers), number_numeric (type_of b) (and_right _ _ numbers)),
+            (and_left _ _ c, and_left _ _ more, and_left _ _ numbers, and_right _ _ numbers),
             well_typed_suits false known a (and_left _ _ p) (and_left _ _ both),
             well_typed_suits false known b (and_right _ _ p) (and_right _ _ both),
           )

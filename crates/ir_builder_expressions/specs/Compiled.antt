@@ -4,9 +4,10 @@ use Rattle.py_syntax.specs.declared.expression.BinOp.{BinOp}
 use Rattle.py_syntax.specs.declared.expression.BinOp.TheVariants.{Add, Sub, Mul, FloorDiv, Mod, Shl, Shr}
 use Rattle.py_syntax.specs.declared.expression.CmpOp.{CmpOp}
 use Rattle.py_syntax.specs.declared.expression.CmpOp.TheVariants.{Eq, Ne, Lt, Le, Gt, Ge}
+use Rattle.py_typed.specs.Fits.{is_number}
 use Rattle.py_typed.specs.Sorts as sort
 use Rattle.py_typed.specs.Sorts.{Sort}
-use Rattle.ir_builder_operations.specs.Operating.{is_numeric, is_whole}
+use Rattle.ir_builder_operations.specs.Operating.{is_whole}
 use Rattle.py_typed.specs.Expressions.{TypedExpr, typed, TypedNode, Int, Str, Flag, Local, Global, Neg, Not, Truth, Arith, Concat, Compare, And, Or, Cond, At, Call, Input, Len, ToStr, Coerce, TypedExprs, no_exprs, expr_then, Comparisons, no_comparisons, comparison_then, type_of}
 
 abbrev pub is_i64 : Sort → Bool
@@ -65,7 +66,7 @@ literal_in e = None
 
 -- two numbers or bools are compared, or two texts
 abbrev pub is_pair : Sort → Sort → Bool
-is_pair s t = (is_numeric s && is_numeric t) || (is_text s && is_text t)
+is_pair s t = (is_number s && is_number t) || (is_text s && is_text t)
 
 abbrev mutual
   pub is_compiled : TypedExpr → Bool
@@ -91,7 +92,7 @@ abbrev mutual
   is_compiled_node Input t = is_text t
   is_compiled_node (Len e) t = is_text (type_of e) && is_compiled e
   is_compiled_node (ToStr e) t = is_scalar (type_of e) && is_compiled e
-  is_compiled_node (Coerce e) t = is_whole t && (is_numeric (type_of e) && is_compiled e)
+  is_compiled_node (Coerce e) t = is_whole t && (is_number (type_of e) && is_compiled e)
   is_compiled_node _ t = false
 
   pub are_compiled : TypedExprs → Bool

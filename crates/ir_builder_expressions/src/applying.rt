@@ -1,5 +1,6 @@
 //! Operations on the values of one or two parts of an expression.
 ghost use Rattle.std.specs.Prelude.{◌≡◌, IfOk, true};
+ghost use Rattle.py_typed.specs.Fits.{is_number};
 ghost use Rattle.py_typed.specs.Sorts.{sort};
 ghost use Rattle.py_typed.specs.Expressions.{typed_expr};
 ghost use Rattle.source_meaning.specs.Operations.{arithmetic, coerced, negated};
@@ -9,7 +10,7 @@ ghost use Rattle.ir_builder_frames.specs.Placing.{HasType};
 ghost use Rattle.ir_builder_frames.specs.Settings.{rtype_of};
 ghost use Rattle.ir_builder_frames.specs.Shaped.{Keeps};
 ghost use Rattle.ir_builder_frames.specs.Kinds.{KeepsKinds};
-ghost use Rattle.ir_builder_operations.specs.Operating.{is_numeric, is_whole, ActsOn, ActsOnTwo};
+ghost use Rattle.ir_builder_operations.specs.Operating.{is_whole, ActsOn, ActsOnTwo};
 ghost use Rattle.ir_builder_expressions.specs.Compiled.{is_built, literal_in};
 ghost use Rattle.ir_builder_expressions.specs.Parts.{fitting_in, native_in, part_sort};
 ghost use Rattle.ir_builder_expressions.specs.Applying.{unary_goes, binary_goes, UnarySuits, BinarySuits};
@@ -27,7 +28,7 @@ use value_core::{Memory, int_to_i64};
 /// An operation on one part: the other sign, the other truth, a truth, a length, the text of a value, and a number as one of
 /// another type.
 #[derive(Clone, Copy)]
-pub enum Unary {
+pub(crate) enum Unary {
     Negated,
     Inverted,
     Tested,
@@ -65,7 +66,7 @@ fn fitting_literal(e: &TExpr) -> Option<i64>
 }
 
 /// The number of an `int` literal that is a native integer, where one is asked for.
-pub fn native_literal(e: &TExpr, to: &Ty) -> Option<i64>
+pub(crate) fn native_literal(e: &TExpr, to: &Ty) -> Option<i64>
     ensures { result ≡ native_in (sort to.now) (literal_in (typed_expr e.now)) }
 {
     if is_native(to) {
@@ -84,7 +85,7 @@ fn emit_coerced(
     x: Reg,
     line: usize,
 ) -> Result<Reg, Memory>
-    requires numeric { is_numeric (sort e.now.ty) ≡ true }
+    requires numeric { is_number (sort e.now.ty) ≡ true }
     requires whole { is_whole (sort to.now) ≡ true }
     requires value { HasType b.old x.0 (rtype_of (part_sort (sort to.now) (typed_expr e.now))) }
     ensures kept { Extends b.old b.new }
@@ -112,8 +113,8 @@ fn emit_numbers(
 ) -> Result<Reg, Memory>
     requires built { is_built op ≡ true }
     requires whole { is_whole (sort t.now) ≡ true }
-    requires left_numeric { is_numeric (sort left.now.ty) ≡ true }
-    requires right_numeric { is_numeric (sort right.now.ty) ≡ true }
+    requires left_numeric { is_number (sort left.now.ty) ≡ true }
+    requires right_numeric { is_number (sort right.now.ty) ≡ true }
     requires left_value { HasType b.old x.0 (rtype_of (part_sort (sort t.now) (typed_expr left.now))) }
     requires right_value { HasType b.old y.0 (rtype_of (part_sort (sort t.now) (typed_expr right.now))) }
     ensures kept { Extends b.old b.new }
@@ -136,7 +137,7 @@ fn emit_negated(
     line: usize,
 ) -> Result<Reg, Memory>
     requires whole { is_whole (sort t.now) ≡ true }
-    requires numeric { is_numeric (sort e.now.ty) ≡ true }
+    requires numeric { is_number (sort e.now.ty) ≡ true }
     requires value { HasType b.old x.0 (rtype_of (part_sort (sort t.now) (typed_expr e.now))) }
     ensures kept { Extends b.old b.new }
     ensures made { IfOk result (λ r. Attempts (Shows (sort t.now)) b.old b.new r.0 (rtype_of (sort t.now)) (ActsOn (part_sort (sort t.now) (typed_expr e.now)) x.0 (negated (sort t.now)))) }
@@ -148,7 +149,7 @@ fn emit_negated(
 }
 
 /// The result of an operation on a part, whose value is in a register.
-pub fn emit_unary(
+pub(crate) fn emit_unary(
     b: &mut Emitter,
     alloc: Global,
     op: Unary,
@@ -175,7 +176,7 @@ pub fn emit_unary(
 }
 
 /// The result of an operation on two parts, whose values are in registers.
-pub fn emit_binary(
+pub(crate) fn emit_binary(
     b: &mut Emitter,
     alloc: Global,
     op: Binary,

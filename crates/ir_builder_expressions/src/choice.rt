@@ -13,14 +13,14 @@ use value_core::Memory;
 /// A choice that was begun: the register that both values are brought into, the block where the test will stand, and the
 /// block of the first value.
 #[derive(Clone, Copy)]
-pub struct Choice {
+pub(crate) struct Choice {
     pub target: Reg,
     pub test: usize,
     pub first: usize,
 }
 
 /// Begins a choice between two values of a type. Behind it comes the first value.
-pub fn begin(b: &mut Emitter, t: RType) -> Result<Choice, Memory>
+pub(crate) fn begin(b: &mut Emitter, t: RType) -> Result<Choice, Memory>
     ensures kept { Extends b.old b.new }
     ensures opens { IfOk result (λ c. Opens b.old b.new c.target.0 c.test c.first t) }
     ensures shaped { Keeps b.old b.new }
@@ -37,7 +37,7 @@ pub fn begin(b: &mut Emitter, t: RType) -> Result<Choice, Memory>
 }
 
 /// Brings the first value, and answers the block that ends with it. Behind it comes the second value.
-pub fn turn(b: &mut Emitter, choice: Choice, r: Reg, line: usize) -> Result<usize, Memory>
+pub(crate) fn turn(b: &mut Emitter, choice: Choice, r: Reg, line: usize) -> Result<usize, Memory>
     ensures kept { Extends b.old b.new }
     ensures brings { IfOk result (λ k. Brings b.old b.new choice.target.0 r.0 k) }
     ensures shaped { Keeps b.old b.new }
@@ -49,7 +49,7 @@ pub fn turn(b: &mut Emitter, choice: Choice, r: Reg, line: usize) -> Result<usiz
 
 /// Brings the second value, and writes the test of the condition and both jumps. `end` is the block that the first value
 /// ends with, and `second` the one that the second begins with.
-pub fn meet(
+pub(crate) fn meet(
     b: &mut Emitter,
     choice: Choice,
     condition: Reg,

@@ -1,5 +1,6 @@
 //! Pairs of operands that are compared.
 ghost use Rattle.std.specs.Prelude.{◌≡◌, IfOk, true};
+ghost use Rattle.py_typed.specs.Fits.{is_number};
 ghost use Rattle.py_typed.specs.Sorts.{sort, Bool as BoolSort};
 ghost use Rattle.py_typed.specs.Expressions.{typed_expr};
 ghost use Rattle.source_meaning.specs.Operations.{coerced, compared_as};
@@ -9,7 +10,7 @@ ghost use Rattle.ir_builder_frames.specs.Placing.{HasType};
 ghost use Rattle.ir_builder_frames.specs.Settings.{rtype_of};
 ghost use Rattle.ir_builder_frames.specs.Shaped.{Keeps};
 ghost use Rattle.ir_builder_frames.specs.Kinds.{KeepsKinds};
-ghost use Rattle.ir_builder_operations.specs.Operating.{is_numeric, is_whole, ActsOn, ActsOnTwo};
+ghost use Rattle.ir_builder_operations.specs.Operating.{is_whole, ActsOn, ActsOnTwo};
 ghost use Rattle.ir_builder_expressions.specs.Compiled.{is_ordering};
 ghost use Rattle.ir_builder_expressions.specs.Parts.{is_simple, part_sort};
 ghost use Rattle.ir_builder_expressions.specs.Comparing.{kind_sort, is_compared, is_shown_as, holds_as, taken_as};
@@ -106,7 +107,7 @@ fn emit_shown(
     x: Reg,
     line: usize,
 ) -> Result<Reg, Memory>
-    requires numeric { is_numeric (kind_sort from) ≡ true }
+    requires numeric { is_number (kind_sort from) ≡ true }
     requires whole { is_whole (kind_sort to) ≡ true }
     requires value { HasType b.old x.0 (rtype_of (kind_sort from)) }
     ensures kept { Extends b.old b.new }
@@ -154,8 +155,8 @@ fn emit_numeric_pair(
 ) -> Result<Reg, Memory>
     requires ordering { is_ordering op ≡ true }
     requires whole { is_whole (kind_sort to) ≡ true }
-    requires left_numeric { is_numeric (kind_sort left.shown) ≡ true }
-    requires right_numeric { is_numeric (kind_sort right.shown) ≡ true }
+    requires left_numeric { is_number (kind_sort left.shown) ≡ true }
+    requires right_numeric { is_number (kind_sort right.shown) ≡ true }
     requires left { HasType b.old left.reg.0 (rtype_of (kind_sort left.shown)) }
     requires right { HasType b.old right.reg.0 (rtype_of (kind_sort right.shown)) }
     requires joined { kind_sort to ≡ compared_as (kind_sort left.own) (kind_sort right.own) }

@@ -17,7 +17,7 @@ use value_core::{Many, Memory};
 
 /// The register that has the value of a variable of the module (Python Language Reference, "Naming and binding"). Where the
 /// variable is unset the read fails.
-pub fn emit_global_value(
+pub(crate) fn emit_global_value(
     b: &mut Emitter,
     alloc: Global,
     checked: &Checked,

@@ -18,9 +18,6 @@ mod global;
 mod local;
 mod types;
 
-pub use applying::{Binary, Unary, emit_binary, emit_unary, native_literal};
-pub use choice::{Choice, begin, meet, turn};
+pub use applying::Binary;
 pub use expression::{emit_arguments, emit_expression, emit_two_parts};
-pub use global::emit_global_value;
-pub use local::emit_local;
-pub use types::{is_native, register_type, truth};
+pub use types::register_type;

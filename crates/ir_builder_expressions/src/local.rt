@@ -64,7 +64,7 @@ fn emit_flag_test(
 
 /// The register of a variable that is read (Python Language Reference, "Naming and binding"). One that is no parameter may be
 /// unset, and its flag is tested first.
-pub fn emit_local(
+pub(crate) fn emit_local(
     b: &mut Emitter,
     alloc: Global,
     locals: &[Var],

@@ -9,7 +9,7 @@ use ir_core::{Lit, RType};
 use py_typed::Ty;
 
 /// Whether values of a type are native integers.
-pub fn is_native(t: &Ty) -> bool
+pub(crate) fn is_native(t: &Ty) -> bool
     ensures { result ≡ is_i64 (sort t.now) }
 {
     match t {
@@ -19,7 +19,7 @@ pub fn is_native(t: &Ty) -> bool
 }
 
 /// The literal of a bool.
-pub fn truth(value: bool) -> Lit
+pub(crate) fn truth(value: bool) -> Lit
     ensures { result ≡ literal_of_truth value }
 {
     if value {

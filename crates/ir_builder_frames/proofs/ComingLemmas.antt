@@ -41,9 +41,6 @@ module _ (p : Program) where
   pub ends_now : {A : Type 0} (a : A) (s : State) (d : Config) (R : A → State → Config → Type 0) (E : Value → State → Config → Type 0) → R a s d → Ends p s.turns d (Gives a s) R E
   ends_now a s d R E r = (le_refl s.turns, d, leads_refl d, r)
 
-  pub ends_raise : {A : Type 0} (v : Value) (s : State) (d : Config) (R : A → State → Config → Type 0) (E : Value → State → Config → Type 0) → E v s d → Ends p s.turns d (Raises v s) R E
-  ends_raise v s d R E r = (le_refl s.turns, d, leads_refl d, r)
-
   -- from an equal configuration
   pub ends_at : {A : Type 0} (t : ℕ) (c d : Config) (res : Outcome A) (R : A → State → Config → Type 0) (E : Value → State → Config → Type 0) → d ≡ c → Ends p t c res R E → Ends p t d res R E
   ends_at t c d res R E e h = let P : Config → Type 0 = λ x. Ends p t x res R E in subst P (sym e) h

@@ -96,10 +96,6 @@ thrown_now p fn k i h below x keep old now e s is m same =
 
 -- ---- behind the code of a value
 
--- all below is as it was
-pub IsSame : ℕ → Regs → Regs → Type 0
-IsSame n now old = (j : ℕ) → j < n → now j ≡ old j
-
 module _ (p : Program) (fn : ℕ) (h : Option ℕ) (below : List Waiting) (x : Setting) (n : ℕ) (calls : CallsWork p x.source n) where
   pub computes_then : {B : Type 0} (K : Showing) (t : RType) (m : Meaning Value) (b c : Building) (r : ℕ) (regs : Regs) (s : State) (go : Value → Does B) (S : B → State → Config → Type 0) (keep : ℕ) (old : Regs) → Computes x K t m b c r → Placed p fn b c h → HasRoom x b → keep ≤ length b.regs → SameIn x.frame keep regs old → Matches x regs s → s.turns ≤ n → ((now : Regs) (v : Value) (s1 : State) → s1.turns ≤ n → K v (now r) → ((j : ℕ) → j < length b.regs → now j ≡ regs j) → SameLocals x s s1 → Matches x now s1 → Ends p s1.turns (running fn (length c.blocks) (length c.ops) now below (world None s1)) (go v s1) S (IsThrown fn h below x keep old)) → Ends p s.turns (running fn (length b.blocks) (length b.ops) regs below (world None s)) (on_to (m n s) go) S (IsThrown fn h below x keep old)
   computes_then K t m b c r regs s go S keep old q at room wide same match le next =

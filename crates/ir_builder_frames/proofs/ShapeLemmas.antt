@@ -4,7 +4,6 @@ use Rattle.ir_core.specs.declared.code.Block.{Block}
 use Rattle.ir_core.specs.declared.code.Op.{Op}
 use Rattle.ir_core.specs.declared.code.Last.{Last}
 use Rattle.ir_core.specs.declared.code.Last.TheVariants.{Goto, If, IfError, Return, Unreachable}
-use Rattle.ir_core.specs.declared.code.RType.{RType}
 use Rattle.ir_core.specs.declared.code.Reg.{Reg}
 use Rattle.ir_core.specs.declared.code.PArg.{PArg}
 use Rattle.ir_core.specs.declared.code.PArg.TheVariants.{Var, Number, Text, Global, Class}
@@ -19,9 +18,9 @@ use Rattle.ir_core.specs.Rows.{Failing, NeverFails, MayFail, AlwaysFails, failin
 use Rattle.ir_core.specs.Shape.{is_target_of, is_register, is_argument}
 use Rattle.ir_core.specs.Items.{Do, End, in_block}
 use Rattle.ir_core.specs.Building.{Building, held_in, held, with_last}
-use Rattle.ir_core.specs.Laws.{added, pushed, closed}
+use Rattle.ir_core.specs.Laws.{pushed, closed}
 use Rattle.ir_builder_frames.specs.Placing.{where_it_may}
-use Rattle.ir_builder_frames.specs.Shaped.{Above, AreBelow, AllBelow, OpFits, OpsFit, GoesOn, EndFits, AllFit, Shaped, KeepsIf, Keeps}
+use Rattle.ir_builder_frames.specs.Shaped.{Above, AreBelow, AllBelow, OpFits, OpsFit, GoesOn, EndFits, AllFit, Shaped, KeepsIf}
 
 on_fits : (n m k : ℕ) (ops : List (Op × ℕ)) (l : Last) → GoesOn n m k l → EndFits n m k ops l
 on_fits n m k ops (Goto t) g = (inl g.0, g.1)
@@ -70,13 +69,6 @@ same_shaped n m b c e f s = (subst (AllFit n m 0) (sym e) s.0, subst (OpsFit n) 
 
 pub kept_shaped : (n m : ℕ) (b c : Building) → c ≡ b → Shaped n m b → Shaped n m c
 kept_shaped n m b c e s = same_shaped n m b c (ap (λ (v : Building). v.blocks) e) (ap (λ (v : Building). v.ops) e) s
-
-pub add_shaped : (n m : ℕ) (b c : Building) (name : List ℕ) (t : RType) → c ≡ added b name t → Shaped n m b → Shaped n m c
-add_shaped n m b c name t e s = same_shaped n m b c (ap (λ (v : Building). v.blocks) e) (ap (λ (v : Building). v.ops) e) s
-
-pub add_either : {A E : Type 0} (res : Result A E) (b c : Building) (name : List ℕ) (t : RType) → OnOk res (c ≡ added b name t) → OnErr res (c ≡ b) → Keeps b c
-add_either (Ok a) b c name t e f n m le up s = add_shaped n m b c name t e s
-add_either (Err x) b c name t e f n m le up s = kept_shaped n m b c f s
 
 pub push_either : {A E : Type 0} (res : Result A E) (b c : Building) (o : Op × ℕ) → OnOk res (c ≡ pushed b o) → OnErr res (c ≡ b) → KeepsIf (λ n m. OpFits n o.0) b c
 push_either (Ok a) b c o e f n m fit s = push_shaped n m b c o e fit s

@@ -32,14 +32,14 @@ abbrev pub temporary_name : ℕ → List ℕ
 temporary_name k = codes "r" ++ decimal k
 
 -- what a function takes and gives
-pub record Head : Type 0 where
+pub record FunctionType : Type 0 where
   pub params : List RType
   pub ret : RType
 
 -- what a function is built among: the functions that it may call, by their numbers; the program's globals; how many of its registers
 -- are variables; and the type of its result
 pub record Surrounding : Type 0 where
-  pub heads : List Head
+  pub heads : List FunctionType
   pub globals : Declared
   pub variables : ℕ
   pub ret : RType
@@ -99,7 +99,7 @@ pub record WritesGlobal (g : Surrounding) (regs : Declared) (q : Primitive) (arg
 
 -- a function that may be called takes registers and gives a result of a type
 abbrev pub Calls : Surrounding → RType → Declared → ℕ → List Reg → Type 0
-Calls g t regs n args = (h : Head) × (slice_get g.heads n ≡ Some h) × (h.ret ≡ t) × Take regs h.params args
+Calls g t regs n args = (h : FunctionType) × (slice_get g.heads n ≡ Some h) × (h.ret ≡ t) × Take regs h.params args
 
 -- a literal is one of a type, and in the range of an `i64`
 abbrev pub LiteralFits : RType → Literal → Type 0
@@ -153,7 +153,7 @@ abbrev pub KeepsKindsIf : (Surrounding → Type 0) → Building → Building →
 KeepsKindsIf P b c = (g : Surrounding) → P g → HasKinds g b → HasKinds g c
 
 -- the head of a function
-abbrev pub head_of : TypedFunc → Head
+abbrev pub head_of : TypedFunc → FunctionType
 head_of f = record { params = map rtype_of (parameter_sorts f); ret = rtype_of f.ret }
 
 -- the functions of a module have their heads; the globals are the module's variables

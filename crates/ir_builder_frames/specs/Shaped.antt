@@ -77,10 +77,3 @@ KeepsIf P b c = (n m : ℕ) → P n m → Shaped n m b → Shaped n m c
 -- code that was added keeps it, where all blocks may be named and the registers below n were there
 abbrev pub Keeps : Building → Building → Type 0
 Keeps b c = (n m : ℕ) → n ≤ length b.regs → length c.blocks ≤ m → Shaped n m b → Shaped n m c
-
-abbrev pub KeepsWith : (ℕ → ℕ → Type 0) → Building → Building → Type 0
-KeepsWith P b c = (n m : ℕ) → n ≤ length b.regs → length c.blocks ≤ m → P n m → Shaped n m b → Shaped n m c
-
--- the same where the variables and flags are known
-abbrev pub KeepsAt : ℕ → Building → Building → Type 0
-KeepsAt n b c = (m : ℕ) → length c.blocks ≤ m → Shaped n m b → Shaped n m c

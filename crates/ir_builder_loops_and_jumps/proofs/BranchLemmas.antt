@@ -24,7 +24,7 @@ use Rattle.ir_builder_frames.specs.Computing.{Shows, Meaning, Computes}
 use Rattle.ir_builder_loops_and_jumps.specs.declared.ways.Way.{Way}
 use Rattle.ir_builder_loops_and_jumps.specs.declared.ways.Way.TheVariants.{Break, Continue, Return, Join}
 use Rattle.ir_builder_loops_and_jumps.specs.declared.ways.Exit.{Exit}
-use Rattle.ir_builder_loops_and_jumps.specs.declared.ways.Plan.{Plan}
+use Rattle.ir_builder_loops_and_jumps.specs.declared.ways.ExitPlan.{ExitPlan}
 use Rattle.ir_builder_loops_and_jumps.specs.Ways.{planned, number_or, left, by}
 use Rattle.ir_builder_loops_and_jumps.specs.Branches.{Tried, Untaken, Taken, taken, try_next, or_else}
 use Rattle.ir_builder_loops_and_jumps.specs.Runs.{JumpTo, OpenIn, Flows, Tries, Works, Tests, Patching}
@@ -138,7 +138,7 @@ flows_out p result fn k i x plan xs to below keep old no_break no_continue no_re
     (t.0, returns_out p result fn x plan xs to below keep old no_return (ap (λ z. number_or z (to Return)) no_return) x.frame.ret v s d t.1)
 
 -- the body of `else`, and the end of all
-pub if_works : (x : Setting) (result : Option Sort) (m : Meaning Tried) (other : Meaning Flow) (b0 b1 b2 b3 b4 : Building) (xs ys : List Exit) (plan : Plan) → plan ≡ record { breaks = None; continues = None; returns = None; joins = Some (length b3.blocks) } → Tests x result m b0 b1 xs → Works x result other b1 b2 ys → Closes b2 b3 (Goto (length b3.blocks)) → Patching b3 b4 (xs ++ ys) [] (planned plan) → Works x result (λ n s. on_to (m n s) (or_else (other n))) b0 b4 (left (planned plan) (xs ++ ys))
+pub if_works : (x : Setting) (result : Option Sort) (m : Meaning Tried) (other : Meaning Flow) (b0 b1 b2 b3 b4 : Building) (xs ys : List Exit) (plan : ExitPlan) → plan ≡ record { breaks = None; continues = None; returns = None; joins = Some (length b3.blocks) } → Tests x result m b0 b1 xs → Works x result other b1 b2 ys → Closes b2 b3 (Goto (length b3.blocks)) → Patching b3 b4 (xs ++ ys) [] (planned plan) → Works x result (λ n s. on_to (m n s) (or_else (other n))) b0 b4 (left (planned plan) (xs ++ ys))
 if_works x result m other b0 b1 b2 b3 b4 xs ys plan planis q0 q c3 all =
     let zs = xs ++ ys in
     let k1 = q0.extends.blocks_grow in let k2 = q.extends.blocks_grow in

@@ -24,8 +24,7 @@ use Rattle.ir_core.specs.declared.code.RType.TheVariants.{Bool as BoolType}
 use Rattle.ir_core.specs.declared.code.Last.TheVariants.{Goto, If, Unreachable}
 use Rattle.ir_core.specs.declared.code.Op.TheVariants.{Turn}
 use Rattle.ir_core.specs.declared.code.Reg.{Reg}
-use Rattle.ir_core.specs.Building.{Building, with_last, held, Extends}
-use Rattle.ir_core.specs.Items.{End}
+use Rattle.ir_core.specs.Building.{Building, with_last, Extends}
 use Rattle.ir_builder_frames.specs.Settings.{Setting, rtype_of}
 use Rattle.ir_builder_frames.specs.Calling.{Pushes, Closes}
 use Rattle.ir_builder_frames.specs.Matching.{HasRoom}
@@ -33,7 +32,7 @@ use Rattle.ir_builder_frames.specs.Computing.{Shows, Meaning, Computes}
 use Rattle.ir_builder_loops_and_jumps.specs.declared.ways.Way.{Way}
 use Rattle.ir_builder_loops_and_jumps.specs.declared.ways.Way.TheVariants.{Break, Continue, Return, Join}
 use Rattle.ir_builder_loops_and_jumps.specs.declared.ways.Exit.{Exit}
-use Rattle.ir_builder_loops_and_jumps.specs.declared.ways.Plan.{Plan}
+use Rattle.ir_builder_loops_and_jumps.specs.declared.ways.ExitPlan.{ExitPlan}
 use Rattle.ir_builder_loops_and_jumps.specs.Ways.{uses, is_same_way, stays, planned, left}
 use Rattle.ir_builder_loops_and_jumps.specs.Branches.{Tried, Branch, tried, try_next}
 use Rattle.ir_builder_loops_and_jumps.specs.Runs.{Works, Tests, LeavesNoLoop, Emitted, OpenIn, Patching}
@@ -41,10 +40,7 @@ use Rattle.ir_builder_loops_and_jumps.specs.Tested.{means_arms, Tested}
 use Rattle.ir_builder_loops_and_jumps.specs.Means.{means, means_statement, means_suite, means_alone, means_assignment, means_update, means_return}
 use Rattle.ir_builder_frames.proofs.ComingLemmas.{ends_of}
 use Rattle.ir_builder_frames.proofs.HeldLemmas.{extends_trans}
-use Rattle.ir_builder_frames.proofs.PatchLemmas.{patches}
-use Rattle.ir_builder_loops_and_jumps.specs.Plans.{PlanFits}
-use Rattle.ir_builder_loops_and_jumps.proofs.PlanLemmas.{PlanAbove, plan_fits}
-use Rattle.ir_builder_loops_and_jumps.proofs.ExitLemmas.{Stays, stays_by, stays_trans, stays_patch_below, open_on, open_append}
+use Rattle.ir_builder_loops_and_jumps.proofs.ExitLemmas.{stays_by, open_on, open_append}
 use Rattle.ir_builder_loops_and_jumps.proofs.FlowLemmas.{none_works, then_works}
 use Rattle.ir_builder_loops_and_jumps.proofs.LoopLemmas.{while_works}
 use Rattle.ir_builder_loops_and_jumps.proofs.BranchLemmas.{tests_none, tests_next, if_works}
@@ -199,7 +195,7 @@ continue_emitted x result looping s b0 b1 xs ys loops is noted c =
 bool_is : (t : Sort) → t ≡ sort.Bool → (x : Setting) (m : Meaning Value) (b0 b1 : Building) (r : ℕ) → Computes x (Shows t) (rtype_of t) m b0 b1 r → Computes x (Shows sort.Bool) BoolType m b0 b1 r
 bool_is t is x m b0 b1 r cx = let P : Sort → Type 0 = λ z. Computes x (Shows z) (rtype_of z) m b0 b1 r in subst P is cx
 
-pub while_emitted : (x : Setting) (result : Option Sort) (looping : Bool) (s : TStmt) (e : TExpr) (ss body : List TStmt) (b0 b1 b2 b3 b4 b5 b6 b7 b8 b9 : Building) (r : Reg) (head test start next exit : ℕ) (x0 x1 xs0 xs ks ls : List Exit) (plan : Plan) → HasRoom x b0 → s.kind ≡ kind.While e ss → body ≡ ss → type_of (typed_expr e) ≡ sort.Bool → head ≡ length b1.blocks → Closes b0 b1 (Goto head) → Computes x (Shows (type_of (typed_expr e))) (rtype_of (type_of (typed_expr e))) (means x (typed_expr e)) b1 b2 r.0 → test ≡ length b2.blocks → Closes b2 b3 Unreachable → start ≡ length b3.blocks → xs0 ≡ [] → Emitted x result true (means_suite x (typed_suite body)) b3 b4 xs0 xs → next ≡ length b5.blocks → Closes b4 b5 (Goto next) → Pushes b5 b6 Turn → Closes b6 b7 (Goto head) → exit ≡ length b7.blocks → plan ≡ record { breaks = Some exit; continues = Some next; returns = None; joins = None } → ls ≡ xs → x1 ≡ x0 ++ left (planned plan) ls → b8 ≡ record b7 { blocks = with_last b7.blocks test (If r start exit) } → ks ≡ xs → Patching b8 b9 ks [] (planned plan) → Emitted x result looping (means_statement x (typed_stmt s)) b0 b9 x0 x1
+pub while_emitted : (x : Setting) (result : Option Sort) (looping : Bool) (s : TStmt) (e : TExpr) (ss body : List TStmt) (b0 b1 b2 b3 b4 b5 b6 b7 b8 b9 : Building) (r : Reg) (head test start next exit : ℕ) (x0 x1 xs0 xs ks ls : List Exit) (plan : ExitPlan) → HasRoom x b0 → s.kind ≡ kind.While e ss → body ≡ ss → type_of (typed_expr e) ≡ sort.Bool → head ≡ length b1.blocks → Closes b0 b1 (Goto head) → Computes x (Shows (type_of (typed_expr e))) (rtype_of (type_of (typed_expr e))) (means x (typed_expr e)) b1 b2 r.0 → test ≡ length b2.blocks → Closes b2 b3 Unreachable → start ≡ length b3.blocks → xs0 ≡ [] → Emitted x result true (means_suite x (typed_suite body)) b3 b4 xs0 xs → next ≡ length b5.blocks → Closes b4 b5 (Goto next) → Pushes b5 b6 Turn → Closes b6 b7 (Goto head) → exit ≡ length b7.blocks → plan ≡ record { breaks = Some exit; continues = Some next; returns = None; joins = None } → ls ≡ xs → x1 ≡ x0 ++ left (planned plan) ls → b8 ≡ record b7 { blocks = with_last b7.blocks test (If r start exit) } → ks ≡ xs → Patching b8 b9 ks [] (planned plan) → Emitted x result looping (means_statement x (typed_stmt s)) b0 b9 x0 x1
 while_emitted x result looping s e ss body b0 b1 b2 b3 b4 b5 b6 b7 b8 b9 r head test start next exit x0 x1 xs0 xs ks ls plan room is same bool is_head c1 cx is_test c3 is_start none p is_next c5 t c7 is_exit planis ls_is more e8 ks_is all =
     let mine : xs ≡ p.mine = p.is ∙ ap (λ z. z ++ p.mine) none in
     let planis' : plan ≡ record { breaks = Some (length b7.blocks); continues = Some (length b5.blocks); returns = None; joins = None } = planis ∙ rw (is_exit, is_next) refl in
@@ -230,7 +226,7 @@ next_tested x result looping arms i a body b0 b1 b2 b3 b4 b5 b6 r test start nex
     rw (add-one, take-suc arms i a lt, ← is)
     (subst P (sym exits) record { works = named; inside = λ z. leaves_both xs (p.mine ++ last) (so_far.inside z) (leaves_both p.mine last (p.inside z) (refl, refl)) })
 
-pub if_emitted : (x : Setting) (result : Option Sort) (looping : Bool) (s : TStmt) (arms all_arms : List (TExpr × List TStmt)) (ss other : List TStmt) (i : ℕ) (b0 b1 b2 b3 b4 : Building) (end : ℕ) (xs ys ks ls x0 x1 : List Exit) (plan : Plan) → s.kind ≡ kind.If all_arms ss → arms ≡ all_arms → length arms ≤ i → take i arms ≡ arms → other ≡ ss → Tested x result looping (means_arms x (take i arms)) b0 b1 xs → Emitted x result looping (means_suite x (typed_suite other)) b1 b2 xs ys → end ≡ length b3.blocks → Closes b2 b3 (Goto end) → plan ≡ record { breaks = None; continues = None; returns = None; joins = Some end } → ls ≡ ys → x1 ≡ x0 ++ left (planned plan) ls → ks ≡ ys → Patching b3 b4 ks [] (planned plan) → Emitted x result looping (means_statement x (typed_stmt s)) b0 b4 x0 x1
+pub if_emitted : (x : Setting) (result : Option Sort) (looping : Bool) (s : TStmt) (arms all_arms : List (TExpr × List TStmt)) (ss other : List TStmt) (i : ℕ) (b0 b1 b2 b3 b4 : Building) (end : ℕ) (xs ys ks ls x0 x1 : List Exit) (plan : ExitPlan) → s.kind ≡ kind.If all_arms ss → arms ≡ all_arms → length arms ≤ i → take i arms ≡ arms → other ≡ ss → Tested x result looping (means_arms x (take i arms)) b0 b1 xs → Emitted x result looping (means_suite x (typed_suite other)) b1 b2 xs ys → end ≡ length b3.blocks → Closes b2 b3 (Goto end) → plan ≡ record { breaks = None; continues = None; returns = None; joins = Some end } → ls ≡ ys → x1 ≡ x0 ++ left (planned plan) ls → ks ≡ ys → Patching b3 b4 ks [] (planned plan) → Emitted x result looping (means_statement x (typed_stmt s)) b0 b4 x0 x1
 if_emitted x result looping s arms all_arms ss other i b0 b1 b2 b3 b4 end xs ys ks ls x0 x1 plan is same_arms past took same t p is_end c3 planis ls_is more ks_is all =
     let t' : Tested x result looping (means_arms x all_arms) b0 b1 xs = (let P : List (TExpr × List TStmt) → Type 0 = λ z. Tested x result looping (means_arms x z) b0 b1 xs in subst P (took ∙ same_arms) t) in
     let other' : Works x result (means_suite x (typed_suite ss)) b1 b2 p.mine = (let P : List TStmt → Type 0 = λ z. Works x result (means_suite x (typed_suite z)) b1 b2 p.mine in subst P same p.works) in
@@ -244,32 +240,9 @@ if_emitted x result looping s arms all_arms ss other i b0 b1 b2 b3 b4 end xs ys 
 
 -- ---- what is open when it is written
 
-pub loop_open : (x : Setting) (result : Option Sort) (looping : Bool) (m : Meaning Flow) (b3 b4 b5 b6 b7 b8 : Building) (r : Reg) (test start exit n2 : ℕ) (x0 xs ks : List Exit) → x0 ≡ [] → test < length b3.blocks → Emitted x result looping m b3 b4 x0 xs → Extends b4 b5 → Extends b5 b6 → Extends b6 b7 → held b3 test n2 ≡ Some (End Unreachable) → b8 ≡ record b7 { blocks = with_last b7.blocks test (If r start exit) } → ks ≡ xs → (from : ℕ) × OpenIn b8 from (length b8.blocks) ks
-loop_open x result looping m b3 b4 b5 b6 b7 b8 r test start exit n2 x0 xs ks none lt p x45 x56 x67 at e8 same =
-    let x47 = extends_trans b4 b5 b7 x45 (extends_trans b5 b6 b7 x56 x67) in
-    let x37 = extends_trans b3 b4 b7 p.works.extends x47 in
-    let p8 = patches b7 b8 test (If r start exit) record { place = n2; is = x37.items _ _ _ at } (λ z. cc) e8 in
-    let s4 : Stays b4 b8 (length b3.blocks) (length b4.blocks) = stays_trans b4 b7 b8 _ _ (stays_by b4 b7 _ _ x47) (stays_patch_below b7 b8 _ _ _ _ lt p8) in
-    let k = x47.blocks_grow in let n8 = p8.blocks in
-    let mine : ks ≡ p.mine = same ∙ p.is ∙ ap (λ z. z ++ p.mine) none in
-    let P : List Exit → Type 0 = λ z. OpenIn b8 (length b3.blocks) (length b8.blocks) z in
-    (length b3.blocks, subst P (sym mine) (open_on b4 b8 _ _ _ _ p.mine s4 (le_refl _) (omega arith) p.works.opens))
-
 pub join_open : (x : Setting) (result : Option Sort) (looping : Bool) (m : Meaning Tried) (other : Meaning Flow) (b0 b1 b2 b3 : Building) (xs ys ks : List Exit) → Tested x result looping m b0 b1 xs → Emitted x result looping other b1 b2 xs ys → Extends b2 b3 → ks ≡ ys → (from : ℕ) × OpenIn b3 from (length b3.blocks) ks
 join_open x result looping m other b0 b1 b2 b3 xs ys ks t p x23 same =
     let x13 = extends_trans b1 b2 b3 p.works.extends x23 in
     let k1 = t.works.extends.blocks_grow in let k2 = p.works.extends.blocks_grow in let k3 = x23.blocks_grow in
     let P : List Exit → Type 0 = λ z. OpenIn b3 (length b0.blocks) (length b3.blocks) z in
     (length b0.blocks, subst P (sym (same ∙ p.is)) (open_append b3 (length b0.blocks) (length b1.blocks) (length b3.blocks) xs p.mine k1 (omega arith) (open_on b1 b3 _ _ _ _ xs (stays_by b1 b3 _ _ x13) (le_refl _) (le_refl _) t.works.opens) (open_on b2 b3 _ _ _ _ p.mine (stays_by b2 b3 _ _ x23) (le_refl _) k3 p.works.opens)))
-
--- exits go where they may
-pub emitted_fits : (x : Setting) (result : Option Sort) (looping : Bool) (g : Meaning Flow) (b0 b1 : Building) (x0 xs ks : List Exit) (m : ℕ) (plan : Way → Option ℕ) → x0 ≡ [] → Emitted x result looping g b0 b1 x0 xs → ks ≡ xs → PlanAbove (length b1.blocks) m plan → PlanFits m plan ks
-emitted_fits x result looping g b0 b1 x0 xs ks m plan none p same above =
-    let mine : ks ≡ p.mine = same ∙ p.is ∙ ap (λ z. z ++ p.mine) none in
-    subst (PlanFits m plan) (sym mine) (plan_fits b1 (length b0.blocks) (length b1.blocks) m plan p.mine p.works.opens above)
-
-pub joined_fits : (x : Setting) (result : Option Sort) (looping : Bool) (g : Meaning Tried) (other : Meaning Flow) (b0 b1 b2 : Building) (xs ys ks : List Exit) (m : ℕ) (plan : Way → Option ℕ) → Tested x result looping g b0 b1 xs → Emitted x result looping other b1 b2 xs ys → ks ≡ ys → PlanAbove (length b2.blocks) m plan → PlanFits m plan ks
-joined_fits x result looping g other b0 b1 b2 xs ys ks m plan t p same above =
-    let k1 = t.works.extends.blocks_grow in let k2 = p.works.extends.blocks_grow in
-    let open' : OpenIn b2 (length b0.blocks) (length b2.blocks) (xs ++ p.mine) = open_append b2 (length b0.blocks) (length b1.blocks) (length b2.blocks) xs p.mine k1 k2 (open_on b1 b2 _ _ _ _ xs (stays_by b1 b2 _ _ p.works.extends) (le_refl _) (le_refl _) t.works.opens) p.works.opens in
-    subst (PlanFits m plan) (sym (same ∙ p.is)) (plan_fits b2 (length b0.blocks) (length b2.blocks) m plan (xs ++ p.mine) open' above)

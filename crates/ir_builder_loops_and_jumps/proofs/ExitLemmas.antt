@@ -160,12 +160,6 @@ within_patches p fn b c x y es plan from to h q at = record {
 
 -- ---- the loop that writes them
 
-pub patching_none : (b : Building) (es : List Exit) (plan : Way → Option ℕ) → Patching b b [] es plan
-patching_none b es plan = record {
-  blocks = refl;
-  go = λ from to o. (from, le_refl from, record { has = λ p fn h. h; jumps = λ p fn place h j. tt; opens = tt; extends = λ a x le. x; earlier = λ j i x le e. e; later = λ j i x le e. e; handlers = λ j. refl; same_regs = refl; blocks = refl; ops = refl }, o);
-}
-
 patching_next : (b c d : Building) (es rest : List Exit) (e : Exit) (t : ℕ) (plan : Way → Option ℕ) → plan e.way ≡ Some t → Patching b c es (e ∷ rest) plan → d ≡ record c { blocks = with_last c.blocks e.block (Goto t) } → length d.blocks ≡ length c.blocks → Patching b d (es ++ e ∷ []) rest plan
 patching_next b c d es rest e t plan some q new len = record {
   blocks = len ∙ q.blocks;

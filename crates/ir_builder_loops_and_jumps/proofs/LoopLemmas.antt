@@ -28,7 +28,7 @@ use Rattle.ir_builder_frames.specs.Computing.{Shows, Meaning, Computes}
 use Rattle.ir_builder_loops_and_jumps.specs.declared.ways.Way.{Way}
 use Rattle.ir_builder_loops_and_jumps.specs.declared.ways.Way.TheVariants.{Break, Continue, Return}
 use Rattle.ir_builder_loops_and_jumps.specs.declared.ways.Exit.{Exit}
-use Rattle.ir_builder_loops_and_jumps.specs.declared.ways.Plan.{Plan}
+use Rattle.ir_builder_loops_and_jumps.specs.declared.ways.ExitPlan.{ExitPlan}
 use Rattle.ir_builder_loops_and_jumps.specs.Ways.{planned, left, by}
 use Rattle.ir_builder_loops_and_jumps.specs.Runs.{JumpTo, OpenIn, Brings, Back, Flows, Works, Patching}
 use Rattle.ir_builder_frames.proofs.ComingLemmas.{leads_trans, leads_step, ends_from, ends_on, ends_now, ends_at}
@@ -106,7 +106,7 @@ returns_out p result fn x plan xs to below keep old none same None v s d b = b
 returns_out p result fn x plan xs to below keep old none same (Some r) v s d b =
     (uses_left plan Return xs none b.0, let P : ℕ → Type 0 = λ z. Brings fn z below x r.0 keep old v s d in subst P same b.1)
 
-pub while_works : (x : Setting) (result : Option Sort) (test : Meaning Value) (body : Meaning Flow) (b0 b1 b2 b3 b4 b5 b6 b7 b8 b9 : Building) (r : ℕ) (xs : List Exit) (plan : Plan) → plan ≡ record { breaks = Some (length b7.blocks); continues = Some (length b5.blocks); returns = None; joins = None } → HasRoom x b0 → Closes b0 b1 (Goto (length b1.blocks)) → Computes x (Shows sort.Bool) BoolType test b1 b2 r → Closes b2 b3 Unreachable → Works x result body b3 b4 xs → Closes b4 b5 (Goto (length b5.blocks)) → Pushes b5 b6 Turn → Closes b6 b7 (Goto (length b1.blocks)) → b8 ≡ record b7 { blocks = with_last b7.blocks (length b2.blocks) (If record { 0 = r } (length b3.blocks) (length b7.blocks)) } → Patching b8 b9 xs [] (planned plan) → Works x result (λ n s. loop {X = ℕ} (suc n) (λ j u. on_to (test n u) truth_of) (λ j. body n) (λ j. j) 0 s) b0 b9 (left (planned plan) xs)
+pub while_works : (x : Setting) (result : Option Sort) (test : Meaning Value) (body : Meaning Flow) (b0 b1 b2 b3 b4 b5 b6 b7 b8 b9 : Building) (r : ℕ) (xs : List Exit) (plan : ExitPlan) → plan ≡ record { breaks = Some (length b7.blocks); continues = Some (length b5.blocks); returns = None; joins = None } → HasRoom x b0 → Closes b0 b1 (Goto (length b1.blocks)) → Computes x (Shows sort.Bool) BoolType test b1 b2 r → Closes b2 b3 Unreachable → Works x result body b3 b4 xs → Closes b4 b5 (Goto (length b5.blocks)) → Pushes b5 b6 Turn → Closes b6 b7 (Goto (length b1.blocks)) → b8 ≡ record b7 { blocks = with_last b7.blocks (length b2.blocks) (If record { 0 = r } (length b3.blocks) (length b7.blocks)) } → Patching b8 b9 xs [] (planned plan) → Works x result (λ n s. loop {X = ℕ} (suc n) (λ j u. on_to (test n u) truth_of) (λ j. body n) (λ j. j) 0 s) b0 b9 (left (planned plan) xs)
 while_works x result test body b0 b1 b2 b3 b4 b5 b6 b7 b8 b9 r xs plan planis room c1 cx c3 q c5 t c7 e8 all =
     let k2 = cx.extends.blocks_grow in let k4 = q.extends.blocks_grow in
     let g2 = cx.extends.regs_grow in let g4 = q.extends.regs_grow in

@@ -1,14 +1,10 @@
 -- Exits go where they may.
-use Rattle.std.proofs.Common.{◌≡◌, ℕ, zero, suc, ◌<◌, ◌≤◌, Bool, true, false, List, [], ◌∷◌, ◌++◌, length, Option, Some, None, refl, sym, ap, ◌∙◌, subst, arith, get_or, ⊎_elim}
-use Rattle.std.specs.Option.{option_map_or}
-use Rattle.ir_core.specs.declared.code.Block.{Block}
-use Rattle.ir_core.specs.declared.code.Last.TheVariants.{Goto}
+use Rattle.std.proofs.Common.{◌≡◌, ℕ, zero, suc, ◌<◌, ◌≤◌, true, List, [], ◌∷◌, ◌++◌, length, Option, Some, None, refl, sym, ap, ◌∙◌, subst, arith, get_or, ⊎_elim}
 use Rattle.ir_core.specs.declared.code.Op.{Op}
 use Rattle.ir_core.specs.declared.code.Op.TheVariants.{Turn}
 use Rattle.ir_core.specs.Shape.{ends_in_turn}
-use Rattle.ir_core.specs.Building.{Building, with_last, is_open_at, is_unwritten}
+use Rattle.ir_core.specs.Building.{Building}
 use Rattle.ir_builder_frames.specs.Shaped.{Higher}
-use Rattle.ir_builder_frames.proofs.PatchLemmas.{same_or_not}
 use Rattle.ir_builder_loops_and_jumps.specs.declared.ways.Way.{Way}
 use Rattle.ir_builder_loops_and_jumps.specs.declared.ways.Way.TheVariants.{Break, Continue, Return, Join}
 use Rattle.ir_builder_loops_and_jumps.specs.declared.ways.Exit.{Exit}
@@ -58,28 +54,3 @@ turn_last (o ∷ p ∷ os) line = turn_last (p ∷ os) line
 
 pub turn_ends : (b c : Building) (line : ℕ) → c.ops ≡ b.ops ++ (Turn, line) ∷ [] → ends_in_turn c.ops ≡ true
 turn_ends b c line e = ap ends_in_turn e ∙ turn_last b.ops line
-
--- ---- nothing is opened
-
-abbrev unwritten : Option Block → Bool
-unwritten o = option_map_or (λ (b : Block). is_unwritten b.last) o false
-
-open_set : (bs : List Block) (k t : ℕ) → is_open_at (with_last bs k (Goto t)) k ≡ false
-open_set [] k t = refl
-open_set (b ∷ bs) zero t = refl
-open_set (b ∷ bs) (suc k) t = open_set bs k t
-
-open_other : (bs : List Block) (k j t : ℕ) → (j ≡ k → ⊥) → is_open_at (with_last bs k (Goto t)) j ≡ is_open_at bs j
-open_other [] k j t ne = refl
-open_other (b ∷ bs) zero zero t ne = absurd (ne refl)
-open_other (b ∷ bs) zero (suc j) t ne = refl
-open_other (b ∷ bs) (suc k) zero t ne = refl
-open_other (b ∷ bs) (suc k) (suc j) t ne = open_other bs k j t (λ e. ne (ap suc e))
-
-pub set_open : (b c : Building) (k t : ℕ) → c ≡ record b { blocks = with_last b.blocks k (Goto t) } → (j : ℕ) → is_open_at c.blocks j ≡ true → is_open_at b.blocks j ≡ true
-set_open b c k t e j is_open =
-    let same : c.blocks ≡ with_last b.blocks k (Goto t) = ap (λ (v : Building). v.blocks) e in
-    ⊎_elim
-    (λ q. absurd (let z : true ≡ false = sym is_open ∙ ap (λ x. is_open_at x j) same ∙ ap (λ x. is_open_at (with_last b.blocks k (Goto t)) x) q ∙ open_set b.blocks k t in cc))
-    (λ ne. sym (open_other b.blocks k j t ne) ∙ sym (ap (λ x. is_open_at x j) same) ∙ is_open)
-    (same_or_not j k)

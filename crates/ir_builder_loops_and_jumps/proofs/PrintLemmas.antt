@@ -1,5 +1,5 @@
 -- The code of `print` writes what it is to.
-use Rattle.std.proofs.Common.{◌≡◌, ℕ, zero, suc, ◌+◌, ◌<◌, ◌≤◌, true, false, List, [], ◌∷◌, ◌++◌, length, map, get_or, take, Option, Some, None, refl, sym, ap, ◌∙◌, subst, arith, append_assoc, append-nil, le_refl, inl, add-one, ◌≢◌, Bool}
+use Rattle.std.proofs.Common.{◌≡◌, ℕ, zero, suc, ◌+◌, ◌<◌, ◌≤◌, true, false, List, [], ◌∷◌, ◌++◌, length, map, get_or, take, Option, Some, None, refl, sym, ap, ◌∙◌, subst, arith, append_assoc, append-nil, le_refl, add-one, ◌≢◌, Bool}
 use Rattle.std.specs.Prelude.{◌&&◌}
 use Rattle.std.proofs.lemmas.List.{take_all}
 use Rattle.std.specs.List.{list_all}
@@ -32,7 +32,7 @@ use Rattle.ir_builder_frames.specs.Coming.{world, running, Leads, Ends}
 use Rattle.ir_builder_frames.specs.Matching.{HasKind, Matches, HasRoom, IsThrown}
 use Rattle.ir_builder_frames.specs.Computing.{Shows, Meaning, Makes, Attempts, ShowAll, HaveTypes, ArrivesAll, ComputesAll}
 use Rattle.ir_builder_frames.specs.Shaped.{Keeps}
-use Rattle.ir_builder_frames.specs.Kinds.{Surrounding, OpKinds, KeepsKinds}
+use Rattle.ir_builder_frames.specs.Kinds.{KeepsKinds}
 use Rattle.ir_builder_frames.proofs.ComingLemmas.{leads_trans, leads_step, leads_refl, ends_from, ends_on, ends_now, ends_at, on_assoc}
 use Rattle.ir_builder_frames.proofs.HeldLemmas.{extends_refl, extends_trans, has_less, type_has, type_below, placed_part}
 use Rattle.ir_builder_frames.proofs.MatchLemmas.{room_on, match_kept}
@@ -316,8 +316,3 @@ print_works x result ts m b0 b1 b2 rs room texts c w = record {
       ends_at p s1.turns _ d1 (go vs s1) R T a.is (subst P (sym is) ends))
       (λ v s1 d1 z. z));
 }
-
--- ---- when its operations fit their registers
-
-pub write_kinds : (g : Surrounding) (b : Building) (r : Reg) → HasType b r.0 Ref → OpKinds g b.regs (writes_of r)
-write_kinds g b r type = inl (refl, (Ref, type, refl, tt))

@@ -30,17 +30,17 @@ use Rattle.ir_builder_frames.specs.Settings.{Setting, rtype_of}
 use Rattle.ir_builder_frames.specs.Placing.{HasType, Has}
 use Rattle.ir_builder_frames.specs.Calling.{Pushes, Closes}
 use Rattle.ir_builder_frames.specs.Coming.{world, running, returning, Leads, Ends}
-use Rattle.ir_builder_frames.specs.Matching.{HasKind, flag_of, flag_in, HasRoom, BackBelow, Matches, IsKept, Stands, IsThrown}
+use Rattle.ir_builder_frames.specs.Matching.{HasKind, flag_of, flag_in, HasRoom, Matches, Stands, IsThrown}
 use Rattle.ir_builder_frames.specs.Computing.{Showing, Shows, Meaning, Computes}
 use Rattle.ir_builder_loops_and_jumps.specs.declared.ways.Way.{Way}
-use Rattle.ir_builder_loops_and_jumps.specs.declared.ways.Way.TheVariants.{Break, Continue, Return}
+use Rattle.ir_builder_loops_and_jumps.specs.declared.ways.Way.TheVariants.{Break, Continue}
 use Rattle.ir_builder_loops_and_jumps.specs.declared.ways.Exit.{Exit}
 use Rattle.ir_builder_loops_and_jumps.specs.Runs.{Back, Flows, Works}
 use Rattle.ir_builder_loops_and_jumps.specs.Simple.{with_value, Sets, Leaves}
 use Rattle.ir_builder_frames.proofs.ComingLemmas.{leads_trans, leads_step, ends_from, ends_now}
 use Rattle.ir_builder_frames.proofs.HeldLemmas.{extends_refl, extends_trans, has_less, type_has, pushes_has, placed_part}
 use Rattle.ir_builder_frames.proofs.GlobalLemmas.{global_matches, global_step}
-use Rattle.ir_builder_frames.proofs.MatchLemmas.{match_here, either_flag, not_below, keeps_as}
+use Rattle.ir_builder_frames.proofs.MatchLemmas.{either_flag, not_below, keeps_as}
 use Rattle.ir_builder_loops_and_jumps.proofs.ExitLemmas.{close_at, stays_by, open_on}
 use Rattle.ir_builder_loops_and_jumps.proofs.FlowLemmas.{goes_to, value_then, flows_from}
 
@@ -213,30 +213,6 @@ leaves_none x r t b0 b1 none type q = record {
       let step = return_step Strict p (record { fn = fn; block = length b0.blocks; place = length b0.ops; regs = regs }) below (world None s) (record { 0 = r }) g.0 (Holds v) at g.1 held in
       let P : Option Reg → Type 0 = λ o. Back p result o fn to [] below x (length b0.regs) regs v s (returning p v below (world None s)) in
       (returning p v below (world None s), leads_step p _ _ step, (kind, subst P (sym none) (match.globals, refl)));
-}
-
--- to the statement around that waits for the value
-pub leaves_some : (x : Setting) (r : ℕ) (t : RType) (back : Reg) (b0 b1 b2 : Building) → x.frame.ret ≡ Some back → HasRoom x b0 → HasType b0 r t → HasType b0 back.0 t → Pushes b0 b1 (Move back record { 0 = r }) → Closes b1 b2 Unreachable → Leaves x r b0 b2 (record { way = Return; block = length b1.blocks } ∷ [])
-leaves_some x r t back b0 b1 b2 some room type type' q c = record {
-  extends = extends_trans b0 b1 b2 q.extends c.extends;
-  opens = (record { place = length b1.ops; is = c.at }, (let n = q.blocks in omega arith), (let n = c.blocks in omega arith), tt);
-  does = λ p result fn to has jumps k i regs below s v match is kind.
-      let room' : BackBelow (Some back) x.frame.locals.top (length b0.regs) = subst (λ o. BackBelow o x.frame.locals.top (length b0.regs)) some room.back in
-      let new : Regs = put regs back.0 (Holds v) in
-      let has1 = has_less p fn b1 b2 c.extends has in
-      let has0 = has_less p fn b0 b1 q.extends has1 in
-      let free : is_refused Strict t (regs r) ≡ false = ap (is_refused Strict t) is ∙ value_kept t v in
-      let step = move_step Strict p (record { fn = fn; block = length b0.blocks; place = length b0.ops; regs = regs }) below (world None s) back (record { 0 = r }) t t (pushes_has p fn b0 b1 _ q has1) (type_has p fn b0 back.0 t has0 type') (type_has p fn b0 r t has0 type) free in
-      let is1 : running fn (length b0.blocks) (length b0.ops + 1) (put regs back.0 (regs r)) below (world None s) ≡ running fn (length b1.blocks) (length b1.ops) new below (world None s) = rw (q.blocks, q.ops, is) refl in
-      let go = goes_to p fn below (length b1.blocks) (length b1.ops) (to Return) new (world None s) (jumps.0 (length b1.ops) c.at) in
-      let P : Option Reg → Type 0 = λ o. Back p result o fn to (record { way = Return; block = length b1.blocks } ∷ []) below x (length b0.regs) regs v s (running fn (to Return) 0 new below (world None s)) in
-      let stands : Stands fn (to Return) 0 below None x (length b0.regs) regs s (running fn (to Return) 0 new below (world None s)) = record {
-        now = new;
-        is = refl;
-        match = match_here x b0 regs new s room (λ j lt. put_other regs back.0 j (Holds v) (λ e. let l = room'.0 in omega arith)) match;
-        kept = λ j a z o. put_other regs back.0 j (Holds v) (let Q : Option Reg → Type 0 = λ o. IsKept o j in subst Q some o);
-      } in
-      (running fn (to Return) 0 new below (world None s), leads_trans p _ _ _ (leads_step p _ _ (step ∙ is1)) go, (kind, subst P (sym some) (refl, record { stands = stands; value = put_same regs back.0 (Holds v) })));
 }
 
 pub return_works : (x : Setting) (t : Sort) (m : Meaning Value) (b0 b1 b2 : Building) (r : ℕ) (xs : List Exit) → HasRoom x b0 → Computes x (Shows t) (rtype_of t) m b0 b1 r → Leaves x r b1 b2 xs → Works x (Some t) (λ n s. on_to (m n s) (λ v. Gives (Returns v))) b0 b2 xs

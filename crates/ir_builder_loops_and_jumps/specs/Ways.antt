@@ -3,7 +3,7 @@ use Rattle.std.specs.Prelude.{ℕ, List, [], ◌∷◌, Bool, true, false, ◌||
 use Rattle.ir_builder_loops_and_jumps.specs.declared.ways.Way.{Way}
 use Rattle.ir_builder_loops_and_jumps.specs.declared.ways.Way.TheVariants.{Break, Continue, Return, Join}
 use Rattle.ir_builder_loops_and_jumps.specs.declared.ways.Exit.{Exit}
-use Rattle.ir_builder_loops_and_jumps.specs.declared.ways.Plan.{Plan}
+use Rattle.ir_builder_loops_and_jumps.specs.declared.ways.ExitPlan.{ExitPlan}
 
 abbrev pub is_same_way : Way → Way → Bool
 is_same_way Break Break = true
@@ -18,7 +18,7 @@ uses w [] = false
 uses w (e ∷ es) = is_same_way w e.way || uses w es
 
 -- where a way goes, as far as it is known
-abbrev pub planned : Plan → Way → Option ℕ
+abbrev pub planned : ExitPlan → Way → Option ℕ
 planned p Break = p.breaks
 planned p Continue = p.continues
 planned p Return = p.returns

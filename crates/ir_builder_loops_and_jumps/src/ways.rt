@@ -22,7 +22,7 @@ pub struct Exit {
 
 /// The blocks to which the ways go, where they are known.
 #[derive(Clone, Copy)]
-pub struct Plan {
+pub struct ExitPlan {
     pub breaks: Option<usize>,
     pub continues: Option<usize>,
     pub returns: Option<usize>,

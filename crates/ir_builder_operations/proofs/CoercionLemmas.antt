@@ -12,6 +12,7 @@ use Rattle.c_core.specs.declared.primitive.Primitive.TheVariants as prim
 use Rattle.c_core.specs.declared.primitive.Int64Prim.TheVariants as int64
 use Rattle.c_core.specs.declared.primitive.TaggedPrim.TheVariants as tagged
 use Rattle.c_core.specs.Step.{int64_exception}
+use Rattle.py_typed.specs.Fits.{is_number}
 use Rattle.py_typed.specs.Sorts as sort
 use Rattle.py_typed.specs.Sorts.{Sort}
 use Rattle.source_meaning.specs.State.{State, Gives}
@@ -29,7 +30,7 @@ use Rattle.ir_builder_frames.specs.Kinds.{Answers}
 use Rattle.ir_builder_frames.specs.Matching.{HasKind}
 use Rattle.ir_builder_frames.specs.Computing.{Shows, Attempts}
 use Rattle.ir_builder_frames.proofs.AttemptLemmas.{effect_of, outcome_of, ShownIfGiven}
-use Rattle.ir_builder_operations.specs.Operating.{is_numeric, is_whole, ActsOn}
+use Rattle.ir_builder_operations.specs.Operating.{is_whole, ActsOn}
 use Rattle.ir_builder_operations.specs.Selecting.{coercion}
 use Rattle.ir_builder_operations.proofs.KindLemmas.{by_int, by_i64, by_bool}
 use Rattle.ir_builder_operations.proofs.PartLemmas.{Performs, one_performs, stays}
@@ -136,7 +137,7 @@ coercion_answers =
 
 -- ---- where there is nothing to do
 
-same_type : (s t : Sort) → is_numeric s ≡ true → is_whole t ≡ true → coercion s t ≡ None → s ≡ t
+same_type : (s t : Sort) → is_number s ≡ true → is_whole t ≡ true → coercion s t ≡ None → s ≡ t
 same_type sort.Int sort.Int e f g = refl
 same_type sort.I64 sort.I64 e f g = refl
 same_type sort.Bool sort.Int e f g = absurd (cc)
@@ -150,7 +151,7 @@ kept_as sort.Int e v s k = by_int (λ v. coerced sort.Int v s ≡ Gives v s) (λ
 kept_as sort.I64 e v s k = by_i64 (λ v. coerced sort.I64 v s ≡ Gives v s) (λ n f. native_kept n s f) v k
 kept_as t e v s k = let f : false ≡ true = e in absurd (cc)
 
-pub coercion_stays : (s t : Sort) (b : Building) (x : ℕ) → is_numeric s ≡ true → is_whole t ≡ true → coercion s t ≡ None → HasType b x (rtype_of s) → Attempts (Shows t) b b x (rtype_of t) (ActsOn s x (coerced t))
+pub coercion_stays : (s t : Sort) (b : Building) (x : ℕ) → is_number s ≡ true → is_whole t ≡ true → coercion s t ≡ None → HasType b x (rtype_of s) → Attempts (Shows t) b b x (rtype_of t) (ActsOn s x (coerced t))
 coercion_stays s t b x e f g type =
     let is = same_type s t e f g in
     let P : Sort → Type 0 = λ u. HasType b x (rtype_of u) → Attempts (Shows t) b b x (rtype_of t) (ActsOn u x (coerced t)) in

@@ -3,6 +3,7 @@ use Rattle.std.specs.Prelude.{◌≡◌, ℕ, Bool, true, false}
 use Rattle.value_core.specs.Value.{Value}
 use Rattle.py_syntax.specs.declared.expression.BinOp.{BinOp}
 use Rattle.py_syntax.specs.declared.expression.BinOp.TheVariants.{Add, Sub, Mul, FloorDiv, Mod, Shl, Shr}
+use Rattle.py_typed.specs.Fits.{is_number}
 use Rattle.py_typed.specs.Sorts as sort
 use Rattle.py_typed.specs.Sorts.{Sort}
 use Rattle.source_meaning.specs.State.{State, Outcome, Does}
@@ -20,13 +21,7 @@ is_arithmetic Shl = true
 is_arithmetic Shr = true
 is_arithmetic _ = false
 
--- the types of numbers and bools, those of whole numbers, and those whose values have a text
-abbrev pub is_numeric : Sort → Bool
-is_numeric sort.Int = true
-is_numeric sort.I64 = true
-is_numeric sort.Bool = true
-is_numeric _ = false
-
+-- the types of whole numbers, and those whose values have a text
 abbrev pub is_whole : Sort → Bool
 is_whole sort.Int = true
 is_whole sort.I64 = true
@@ -34,7 +29,7 @@ is_whole _ = false
 
 abbrev pub is_written : Sort → Bool
 is_written sort.Str = true
-is_written t = is_numeric t
+is_written t = is_number t
 
 -- ---- what the source does
 

@@ -1,5 +1,6 @@
 //! A number of one type as the equal one of another type.
 ghost use Rattle.std.specs.Prelude.{◌≡◌, IfOk, true};
+ghost use Rattle.py_typed.specs.Fits.{is_number};
 ghost use Rattle.py_typed.specs.Sorts.{sort};
 ghost use Rattle.source_meaning.specs.Operations.{coerced};
 ghost use Rattle.ir_core.specs.Building.{Extends};
@@ -8,7 +9,7 @@ ghost use Rattle.ir_builder_frames.specs.Placing.{HasType};
 ghost use Rattle.ir_builder_frames.specs.Settings.{rtype_of};
 ghost use Rattle.ir_builder_frames.specs.Shaped.{Keeps};
 ghost use Rattle.ir_builder_frames.specs.Kinds.{KeepsKinds};
-ghost use Rattle.ir_builder_operations.specs.Operating.{is_numeric, is_whole, ActsOn};
+ghost use Rattle.ir_builder_operations.specs.Operating.{is_whole, ActsOn};
 ghost use Rattle.ir_builder_operations.specs.Selecting.{coercion};
 
 use crate::parts::emit_one;
@@ -55,7 +56,7 @@ pub fn emit_coercion(
     x: Reg,
     line: usize,
 ) -> Result<Reg, Memory>
-    requires numeric { is_numeric (sort from.now) ≡ true }
+    requires numeric { is_number (sort from.now) ≡ true }
     requires whole { is_whole (sort to.now) ≡ true }
     requires value { HasType b.old x.0 (rtype_of (sort from.now)) }
     ensures kept { Extends b.old b.new }

@@ -13,7 +13,7 @@ use Rattle.ir_core.specs.Building.{is_unwritten, is_open_at}
 use Rattle.ir_core.specs.Shape.{IsHigher, LastFits, BlockFits, BlocksFit, FuncFits, BeginsInTurn, FuncsFit}
 use Rattle.ir_core.specs.Shape as shape
 use Rattle.ir_builder_frames.specs.Shaped.{Higher, OpsFit, EndFits, AllFit}
-use Rattle.ir_builder_frames.specs.Kinds.{Head}
+use Rattle.ir_builder_frames.specs.Kinds.{FunctionType}
 use Rattle.ir_builder_shapes_laws.specs.Built.{IsBuilt}
 
 ops_fit : (low : ℕ) (os : List (Op × ℕ)) → OpsFit low os → shape.OpsFit os
@@ -42,7 +42,7 @@ blocks_fit low m k (b ∷ bs) written h = (
 
 -- ---- functions, and the module's own behind them
 
-pub built_fits : (heads : List Head) (globals : Declared) (f : Func) → IsBuilt heads globals f → FuncFits f
+pub built_fits : (heads : List FunctionType) (globals : Declared) (f : Func) → IsBuilt heads globals f → FuncFits f
 built_fits heads globals f b =
     subst (λ n. BlocksFit n 0 f.blocks) (sym b.blocks) (blocks_fit b.low b.highest 0 f.blocks b.written b.fits)
 

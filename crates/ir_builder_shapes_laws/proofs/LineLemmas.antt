@@ -38,11 +38,11 @@ use Rattle.ir_core.specs.Lower.{kind_of_type, variable_of, literal_in, argument_
 use Rattle.ir_core.specs.Registers.{Unset, Holds, literal_of}
 use Rattle.ir_core.specs.Rows.{Declared}
 use Rattle.ir_core.specs.Shape.{LastFits, BlocksFit}
-use Rattle.ir_builder_frames.specs.Kinds.{Head, Surrounding, IsOf, AreArguments, Take, Answers, Reports, ReadsGlobal, WritesGlobal, LiteralFits, OpKinds, OpsKinds, LastKinds, BlocksKinds}
+use Rattle.ir_core.proofs.RowLemmas.{primitive_found}
+use Rattle.ir_builder_frames.specs.Kinds.{FunctionType, Surrounding, IsOf, AreArguments, Take, Answers, Reports, ReadsGlobal, WritesGlobal, LiteralFits, OpKinds, OpsKinds, LastKinds, BlocksKinds}
 use Rattle.ir_builder_shapes_laws.specs.Built.{head_of_code}
 use Rattle.ir_builder_shapes_laws.proofs.SpellingLemmas.{primitive_spelled, call_spelled}
 use Rattle.ir_builder_shapes_laws.proofs.NameLemmas.{IsKnown}
-use Rattle.ir_builder_shapes_laws.proofs.NumberLemmas.{primitive_found}
 
 same_self : (k : Kind) → same_kind k k ≡ true
 same_self Tagged = refl
@@ -239,7 +239,7 @@ module _ (regs : Declared) where
 
     -- ---- calls
     -- the function of a number has this head, and is called by its name
-    pub record Callee (n : ℕ) (h : Head) : Type 0 where
+    pub record Callee (n : ℕ) (h : FunctionType) : Type 0 where
       pub func : Func
       pub named_as : List ℕ
       pub head : head_of_code func ≡ h
@@ -248,13 +248,13 @@ module _ (regs : Declared) where
       pub number : function_named (lower p).funcs (codes "CPyDef_" ++ func.name) ≡ Some n
       pub there : slice_get (lower p).funcs n ≡ Some (lowered_as p named_as func)
 
-    call_is : (ret : Kind) (r : Reg) (n : ℕ) (h : Head) (args : List Reg) → Callee n h → IsOf regs r h.ret → Take regs h.params args → LineIs ret (line_of p (Call r n args))
+    call_is : (ret : Kind) (r : Reg) (n : ℕ) (h : FunctionType) (args : List Reg) → Callee n h → IsOf regs r h.ret → Take regs h.params args → LineIs ret (line_of p (Call r n args))
     call_is ret r n h args c is take_args =
         let cargs : List CArg = map register_in args in
         let gc : CFunc = lowered_as p c.named_as c.func in
         let name : List ℕ = codes "CPyDef_" ++ c.func.name in
-        let same : c.func.ret ≡ h.ret = ap (λ (x : Head). x.ret) c.head in
-        let params : Take regs (map (λ (d : List ℕ × RType). d.1) (take c.func.params c.func.regs)) args = subst (λ ts. Take regs ts args) (ap (λ (x : Head). x.params) (sym c.head)) take_args in
+        let same : c.func.ret ≡ h.ret = ap (λ (x : FunctionType). x.ret) c.head in
+        let params : Take regs (map (λ (d : List ℕ × RType). d.1) (take c.func.params c.func.regs)) args = subst (λ ts. Take regs ts args) (ap (λ (x : FunctionType). x.params) (sym c.head)) take_args in
         let target : has_kind (kind_of_type c.func.ret) (kind_at vars r.0) ≡ true = ap (λ t. has_kind (kind_of_type t) (kind_at vars r.0)) same ∙ has r h.ret is in
         record {
           spelled =
@@ -270,7 +270,7 @@ module _ (regs : Declared) where
         }
 
     -- ---- operations
-    module _ (g : Surrounding) (callee : (n : ℕ) (h : Head) → slice_get g.heads n ≡ Some h → Callee n h) (known : (n : ℕ) (name : List ℕ) (t : RType) → slice_get g.globals n ≡ Some (name, t) → IsKnown p name t) where
+    module _ (g : Surrounding) (callee : (n : ℕ) (h : FunctionType) → slice_get g.heads n ≡ Some h → Callee n h) (known : (n : ℕ) (name : List ℕ) (t : RType) → slice_get g.globals n ≡ Some (name, t) → IsKnown p name t) where
       answer_is : (ret : Kind) (r : Reg) (t : RType) (q : Primitive) (args : List PArg) → IsOf regs r t → Answers t regs q args ⊎ ReadsGlobal g t q args → LineIs ret (line_of p (Prim (Some r) q args))
       answer_is ret r t q args is (inl a) = row_into ret r t q args is a.0 a.1
       answer_is ret r t q args is (inr h) =

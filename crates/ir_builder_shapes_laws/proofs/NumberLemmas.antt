@@ -1,5 +1,5 @@
 -- Calls find what they name: primitives by the names of their rows, and functions by theirs.
-use Rattle.std.proofs.Common.{◌≡◌, refl, ◌∙◌, ap, subst, ℕ, zero, suc, ◌+◌, arith, true, false, cond, not, List, [], ◌∷◌, length, Some, None}
+use Rattle.std.proofs.Common.{◌≡◌, ◌∙◌, ap, subst, ℕ, zero, suc, ◌+◌, arith, true, false, cond, not, List, [], ◌∷◌, length, Some, None}
 use Rattle.std.specs.Prelude.{slice_get, map, nat_lt}
 use Rattle.std.specs.List.{list_any, position, position_or_len}
 use Rattle.std.specs.Str.{bytes_eq}
@@ -7,77 +7,12 @@ use Rattle.std.proofs.lemmas.Bool.{and_parts, not-true, lt-ltb}
 use Rattle.std.proofs.lemmas.Option.{slice_get_within}
 use Rattle.std.proofs.lemmas.Slice.Eq.{bytes_eq-Decides}
 use Rattle.c_core.specs.declared.code.CFunc.{CFunc}
-use Rattle.c_core.specs.declared.primitive.Primitive.{Primitive}
-use Rattle.c_core.specs.declared.primitive.Primitive.TheVariants as prim
-use Rattle.c_core.specs.declared.primitive.Int64Prim.TheVariants as int64
-use Rattle.c_core.specs.declared.primitive.TaggedPrim.TheVariants as tagged
-use Rattle.c_core.specs.declared.primitive.BoolPrim.TheVariants as bool
-use Rattle.c_core.specs.declared.primitive.StrPrim.TheVariants as str
-use Rattle.c_core.specs.declared.primitive.GlobalPrim.TheVariants as global
-use Rattle.c_core.specs.declared.primitive.ExcPrim.TheVariants as exc
-use Rattle.c_core.specs.declared.primitive.ErrPrim.TheVariants as err
-use Rattle.c_core.specs.declared.primitive.IoPrim.TheVariants as io
-use Rattle.c_core.specs.Primitives.{row_of, primitive_named}
 use Rattle.c_core.specs.WellFormed.{names_differ}
 use Rattle.c_core.proofs.NameLemmas.{bytes_eq-sym}
 use Rattle.ir_core.specs.declared.code.Func.{Func}
 use Rattle.ir_core.specs.declared.code.Program.{Program}
 use Rattle.ir_core.specs.Lower.{name_in, lowered_as, lowered_from, lower}
 use Rattle.ir_builder_shapes_laws.proofs.NameLemmas.{other_at}
-
--- ---- primitives
-
-pub primitive_found : (q : Primitive) → primitive_named (row_of q).name ≡ Some q
-primitive_found (prim.Int64 int64.Add) = refl
-primitive_found (prim.Int64 int64.Subtract) = refl
-primitive_found (prim.Int64 int64.Multiply) = refl
-primitive_found (prim.Int64 int64.Negate) = refl
-primitive_found (prim.Int64 int64.FromBool) = refl
-primitive_found (prim.Int64 int64.Eq) = refl
-primitive_found (prim.Int64 int64.Lt) = refl
-primitive_found (prim.Int64 int64.Le) = refl
-primitive_found (prim.Int64 int64.Str) = refl
-primitive_found (prim.Bool bool.Not) = refl
-primitive_found (prim.Bool bool.Str) = refl
-primitive_found (prim.Str str.Literal) = refl
-primitive_found (prim.Int64 int64.FloorDivide) = refl
-primitive_found (prim.Int64 int64.Remainder) = refl
-primitive_found (prim.Int64 int64.Lshift) = refl
-primitive_found (prim.Int64 int64.Rshift) = refl
-primitive_found (prim.Global global.Get) = refl
-primitive_found (prim.Global global.Set) = refl
-primitive_found (prim.Global global.Clear) = refl
-primitive_found (prim.Exc exc.New) = refl
-primitive_found (prim.Exc exc.Str) = refl
-primitive_found (prim.Err err.SetObject) = refl
-primitive_found (prim.Err err.Unbound) = refl
-primitive_found (prim.Err err.Occurred) = refl
-primitive_found (prim.Err err.Matches) = refl
-primitive_found (prim.Err err.Catch) = refl
-primitive_found (prim.Io io.Write) = refl
-primitive_found (prim.Tagged tagged.Add) = refl
-primitive_found (prim.Tagged tagged.Subtract) = refl
-primitive_found (prim.Tagged tagged.Multiply) = refl
-primitive_found (prim.Tagged tagged.Negate) = refl
-primitive_found (prim.Tagged tagged.FloorDivide) = refl
-primitive_found (prim.Tagged tagged.Remainder) = refl
-primitive_found (prim.Tagged tagged.Lshift) = refl
-primitive_found (prim.Tagged tagged.Rshift) = refl
-primitive_found (prim.Tagged tagged.FromText) = refl
-primitive_found (prim.Tagged tagged.FromInt64) = refl
-primitive_found (prim.Tagged tagged.FromBool) = refl
-primitive_found (prim.Tagged tagged.AsInt64) = refl
-primitive_found (prim.Tagged tagged.Eq) = refl
-primitive_found (prim.Tagged tagged.Lt) = refl
-primitive_found (prim.Tagged tagged.Le) = refl
-primitive_found (prim.Tagged tagged.Str) = refl
-primitive_found (prim.Str str.Concat) = refl
-primitive_found (prim.Str str.Eq) = refl
-primitive_found (prim.Str str.Lt) = refl
-primitive_found (prim.Str str.Le) = refl
-primitive_found (prim.Str str.Len) = refl
-primitive_found (prim.Str str.GetItem) = refl
-primitive_found (prim.Io io.Input) = refl
 
 -- ---- functions
 

@@ -1,15 +1,12 @@
 -- How names are spelled: a variable's is one behind `r_`, a temporary one has digits, and an identifier has no dot.
-use Rattle.std.proofs.Common.{◌≡◌, refl, sym, ◌∙◌, ap, ℕ, zero, suc, ◌+◌, ◌/◌, ◌%◌, ◌<◌, ◌≤◌, arith, Bool, true, false, cond, List, [], ◌∷◌, ◌++◌, length, get_or, inl, inr}
-use Rattle.std.specs.Prelude.{◌&&◌, not, codes, nat_lt, ◌==◌, if◌then◌else◌, decimal}
-use Rattle.std.specs.Fmt.{digits, digits_onto, digit_glyph}
+use Rattle.std.proofs.Common.{◌≡◌, refl, sym, ◌∙◌, ap, ℕ, suc, ◌+◌, ◌<◌, ◌≤◌, arith, Bool, true, false, cond, List, [], ◌∷◌, ◌++◌, length, get_or, inl, inr}
+use Rattle.std.specs.Prelude.{◌&&◌, not, codes, nat_lt, ◌==◌, decimal}
 use Rattle.std.specs.List.{list_all, list_any, before_first, after_first}
-use Rattle.std.specs.Str.{bytes_eq, chars, is_utf8, IsUtf8, IsAscii, NonePass, NoCharPasses}
-use Rattle.std.proofs.lemmas.Bool.{and_from, and_parts, or_from, not-true, cases_lt, true≢false, lt-ltb, ltb-true, eqb-true}
+use Rattle.std.specs.Str.{bytes_eq, chars, is_utf8, IsUtf8, NonePass, NoCharPasses}
+use Rattle.std.proofs.lemmas.Bool.{and_from, and_parts, or_from, not-true, cases_lt, true≢false, ltb-true, eqb-true}
 use Rattle.std.proofs.lemmas.Bool.Decides.{nat_tests}
 use Rattle.std.proofs.lemmas.Str.{is_utf8-from_IsUtf8, IsUtf8-from_is_utf8, IsUtf8-append, IsUtf8-from_ascii, chars-append, chars-IsAscii, encodes-chars, NoCharPasses-byte}
-use Rattle.std.proofs.lemmas.Str.Ascii.{IsAscii-nil, IsAscii-cons}
 use Rattle.unicode_ident.specs.Ident.{is_xid_continue}
-use Rattle.unicode_ident.proofs.IdentLemmas.{is_xid_continue-ascii}
 use Rattle.unicode_ident.proofs.Computing.{unicode_ident}
 use Rattle.c_core.specs.declared.primitive.Primitive.{Primitive}
 use Rattle.c_core.specs.declared.primitive.Primitive.TheVariants as prim
@@ -24,24 +21,8 @@ use Rattle.c_core.specs.declared.primitive.IoPrim.TheVariants as io
 use Rattle.c_core.specs.Primitives.{row_of}
 use Rattle.c_core.specs.WellFormed.{is_identifier, is_call_name, other_words}
 use Rattle.ir_core.specs.Names.{is_dot, method_id, function_id, variable_id}
+use Rattle.ir_core.proofs.SpellingLemmas.{ArePlain, plain_ascii, plain_goes_on, plain_identifier, r_plain, line_plain, decimal_plain}
 use Rattle.ir_builder_frames.specs.Kinds.{temporary_name}
-
--- ---- ASCII characters that may continue an identifier
-
-abbrev pub IsPlain : ℕ → Type 0
-IsPlain b = (b < 128) × (is_xid_continue b ≡ true)
-
-abbrev pub ArePlain : List ℕ → Type 0
-ArePlain [] = Unit {0}
-ArePlain (b ∷ bs) = IsPlain b × ArePlain bs
-
-plain_ascii : (bs : List ℕ) → ArePlain bs → IsAscii bs
-plain_ascii [] h = IsAscii-nil
-plain_ascii (b ∷ bs) h = IsAscii-cons b bs h.0.0 (plain_ascii bs h.1)
-
-plain_goes_on : (bs : List ℕ) → ArePlain bs → list_all is_xid_continue bs ≡ true
-plain_goes_on [] h = refl
-plain_goes_on (b ∷ bs) h = and_from (is_xid_continue b) (list_all is_xid_continue bs) h.0.1 (plain_goes_on bs h.1)
 
 all_append : (xs ys : List ℕ) → list_all is_xid_continue xs ≡ true → list_all is_xid_continue ys ≡ true → list_all is_xid_continue (xs ++ ys) ≡ true
 all_append [] ys h k = k
@@ -77,50 +58,10 @@ behind_plain b bs name plain is =
     is_made ((b ∷ bs) ++ name) (IsUtf8-append (b ∷ bs) name front i.utf8) refl
     (ap (list_all is_xid_continue) same ∙ all_append (b ∷ bs) (chars name) (plain_goes_on (b ∷ bs) plain) i.continues)
 
-pub plain_identifier : (b : ℕ) (bs : List ℕ) → ArePlain (b ∷ bs) → is_identifier (b ∷ bs) ≡ true
-plain_identifier b bs plain =
-    let ascii : IsAscii (b ∷ bs) = plain_ascii (b ∷ bs) plain in
-    is_made (b ∷ bs) (IsUtf8-from_ascii (b ∷ bs) ascii) refl
-    (ap (list_all is_xid_continue) (chars-IsAscii (b ∷ bs) ascii) ∙ plain_goes_on (b ∷ bs) plain)
-
 -- ---- variables
-
-r_plain : IsPlain 114
-unfolding unicode_ident
-r_plain = (omega arith, refl)
-
-line_plain : IsPlain 95
-unfolding unicode_ident
-line_plain = (omega arith, refl)
 
 pub variable_identifier : (name : List ℕ) → is_identifier name ≡ true → is_identifier (variable_id name) ≡ true
 variable_identifier name is = behind_plain 114 (95 ∷ []) name (r_plain, (line_plain, tt)) is
-
-digit_plain : (d : ℕ) → d < 10 → IsPlain (48 + d)
-digit_plain d lt =
-    let small : 48 + d < 128 = omega arith in
-    (small, is_xid_continue-ascii (48 + d) small ∙ grind (arith, nat_tests))
-
-glyph_plain : (d : ℕ) → d < 10 → IsPlain (digit_glyph false d)
-glyph_plain d lt = by (nat_lt d 10) (lt-ltb d 10 lt)
-  where
-    by : (b : Bool) → b ≡ true → IsPlain (if b then 48 + d else (if false then 55 + d else 87 + d))
-    by true e = digit_plain d lt
-    by false e = absurd (cc)
-
-digits_plain : (k n : ℕ) (acc : List ℕ) → ArePlain acc → ArePlain (digits_onto k 10 false n acc)
-digits_plain zero n acc h = h
-digits_plain (suc k) n acc h =
-    let here : IsPlain (digit_glyph false (n % 10)) = glyph_plain (n % 10) (omega arith) in
-    by (n / 10 == 0) (here, h) (digits_plain k (n / 10) (digit_glyph false (n % 10) ∷ acc) (here, h))
-  where
-    by : (b : Bool) → ArePlain (digit_glyph false (n % 10) ∷ acc) → ArePlain (digits_onto k 10 false (n / 10) (digit_glyph false (n % 10) ∷ acc)) → ArePlain (if b then digit_glyph false (n % 10) ∷ acc else digits_onto k 10 false (n / 10) (digit_glyph false (n % 10) ∷ acc))
-    by true x y = x
-    by false x y = y
-
-decimal_plain : (n : ℕ) → ArePlain (decimal n)
-unfolding digits
-decimal_plain n = digits_plain 64 n [] tt
 
 pub temporary_identifier : (k : ℕ) → is_identifier (temporary_name k) ≡ true
 temporary_identifier k = plain_identifier 114 (decimal k) (r_plain, decimal_plain k)

@@ -24,7 +24,7 @@ use Rattle.ir_core.specs.declared.code.Program.{Program}
 use Rattle.ir_core.specs.Items.{Do, End, in_block, item_in}
 use Rattle.ir_core.specs.Lower.{kind_of_type, variable_of, call_name, line_of, op_lines, end_lines, label_of, lines_from, name_in, lowered_as, lowered_from, lower}
 use Rattle.ir_core.specs.Shape.{FuncsFit, BeginsInTurn, Shape}
-use Rattle.ir_builder_frames.specs.Kinds.{Head}
+use Rattle.ir_builder_frames.specs.Kinds.{FunctionType}
 use Rattle.ir_builder_shapes_laws.specs.Built.{head_of_code, building_of, IsBuilt, IsFunction, IsProgram}
 use Rattle.ir_builder_shapes_laws.specs.Laws.{BuiltHasShape}
 use Rattle.ir_builder_shapes_laws.proofs.BlockLemmas.{built_fits, funcs_fit, turns_begin}
@@ -63,7 +63,7 @@ module _ (p : Program) where
     abbrev own : Func
     own = is.own
 
-    abbrev heads : List Head
+    abbrev heads : List FunctionType
     heads = map head_of_code fs
 
     count : suc (length fs) ≡ length p.funcs
@@ -77,7 +77,7 @@ module _ (p : Program) where
         subst (λ (xs : List Func). names_differ (map (λ (g : CFunc). g.name) (lowered_from p 0 xs)) ≡ true) (sym is.are) (functions_differ p own fs count spelled_name is.differ)
 
     -- ---- calls
-    callee_by : (regs : List (List ℕ × RType)) (n : ℕ) (h : Head) (o : Option Func) → slice_get fs n ≡ o → option_map head_of_code o ≡ Some h → Callee regs p n h
+    callee_by : (regs : List (List ℕ × RType)) (n : ℕ) (h : FunctionType) (o : Option Func) → slice_get fs n ≡ o → option_map head_of_code o ≡ Some h → Callee regs p n h
     callee_by regs n h None e f = absurd (cc)
     callee_by regs n h (Some f) e k =
         let head : Some (head_of_code f) ≡ Some h = k in
@@ -102,7 +102,7 @@ module _ (p : Program) where
           there = at;
         }
 
-    callee : (regs : List (List ℕ × RType)) (n : ℕ) (h : Head) → slice_get heads n ≡ Some h → Callee regs p n h
+    callee : (regs : List (List ℕ × RType)) (n : ℕ) (h : FunctionType) → slice_get heads n ≡ Some h → Callee regs p n h
     callee regs n h e = callee_by regs n h (slice_get fs n) refl (sym (slice_get-map head_of_code fs n) ∙ e)
 
     -- ---- each function

@@ -10,18 +10,18 @@ use Rattle.ir_core.specs.Items.{Do, item_in}
 use Rattle.ir_core.specs.Rows.{Declared}
 use Rattle.ir_core.specs.Building.{Building, is_open_at}
 use Rattle.ir_builder_frames.specs.Shaped.{AllFit}
-use Rattle.ir_builder_frames.specs.Kinds.{Head, Surrounding, HasKinds}
+use Rattle.ir_builder_frames.specs.Kinds.{FunctionType, Surrounding, HasKinds}
 use Rattle.ir_builder_frames.specs.Naming.{names_of}
 
 -- what a function takes and gives
-abbrev pub head_of_code : Func → Head
+abbrev pub head_of_code : Func → FunctionType
 head_of_code f = record { params = map (λ d. d.1) (take f.params f.regs); ret = f.ret }
 
 -- the function as its builder left it
 abbrev pub building_of : Func → Building
 building_of f = record { name = f.name; regs = f.regs; blocks = f.blocks; ops = [] }
 
-pub record IsBuilt (heads : List Head) (globals : Declared) (f : Func) : Type 0 where
+pub record IsBuilt (heads : List FunctionType) (globals : Declared) (f : Func) : Type 0 where
   pub among : Surrounding
   pub heads_are : among.heads ≡ heads
   pub globals_are : among.globals ≡ globals
@@ -39,12 +39,12 @@ pub record IsBuilt (heads : List Head) (globals : Declared) (f : Func) : Type 0 
   pub identifiers : list_all is_identifier (names_of (take among.variables f.regs)) ≡ true
 
 -- a function of the module begins with a turn
-pub record IsFunction (heads : List Head) (globals : Declared) (f : Func) : Type 0 where
+pub record IsFunction (heads : List FunctionType) (globals : Declared) (f : Func) : Type 0 where
   pub built : IsBuilt heads globals f
   pub turn : item_in f.blocks 0 0 ≡ Some (Do Turn)
   pub name : is_identifier f.name ≡ true
 
-pub record IsOwn (heads : List Head) (globals : Declared) (f : Func) : Type 0 where
+pub record IsOwn (heads : List FunctionType) (globals : Declared) (f : Func) : Type 0 where
   pub built : IsBuilt heads globals f
   pub params : f.params ≡ 0
   pub ret : f.ret ≡ Bool

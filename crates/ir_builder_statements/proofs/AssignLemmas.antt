@@ -12,7 +12,7 @@ use Rattle.py_typed.specs.declared.types.Ty.TheOpen.{Ty-F}
 use Rattle.py_typed.specs.Sorts as sort
 use Rattle.py_typed.specs.Sorts.{Sort, sort_step, sort as sort_of}
 use Rattle.py_typed.specs.Classes.{ClassEntry}
-use Rattle.py_typed.specs.Fits.{fits}
+use Rattle.py_typed.specs.Fits.{fits, is_number}
 use Rattle.py_typed.specs.Expressions.{TypedExpr, type_of}
 use Rattle.py_typed.specs.Statements.{Variable, TypedModule, TypedTarget, LocalTarget, GlobalTarget, AttrTarget, ItemTarget, typed_target}
 use Rattle.source_meaning.specs.State.{State, Outcome, Gives, Raises, Stops, Does, Calls, on_to, needs, put_local, set_local, give}
@@ -31,7 +31,7 @@ use Rattle.ir_builder_frames.specs.Matching.{HasKind, Matches, HasRoom}
 use Rattle.ir_builder_frames.specs.Computing.{Shows, Meaning, Computes, Attempts}
 use Rattle.ir_builder_frames.proofs.GlobalLemmas.{set_gives}
 use Rattle.ir_builder_frames.proofs.MatchLemmas.{room_on, computes_of}
-use Rattle.ir_builder_operations.specs.Operating.{is_numeric, is_whole, ActsOn}
+use Rattle.ir_builder_operations.specs.Operating.{is_whole, ActsOn}
 use Rattle.ir_builder_operations.proofs.PartLemmas.{stays}
 use Rattle.ir_builder_expressions.specs.declared.applying.Binary.{Binary}
 use Rattle.ir_builder_expressions.specs.declared.applying.Binary.TheVariants.{Arithmetic}
@@ -39,6 +39,7 @@ use Rattle.ir_builder_expressions.specs.Parts.{is_simple}
 use Rattle.ir_builder_expressions.specs.Applying.{binary_goes, BinarySuits}
 use Rattle.ir_builder_expressions.specs.Suiting.{Suits}
 use Rattle.ir_builder_expressions.specs.Emitting.{Emits, EmitsTwo}
+use Rattle.ir_builder_expressions.proofs.NumberLemmas.{whole_numeric}
 use Rattle.ir_builder_expressions.proofs.ValueLemmas.{number_coerced}
 use Rattle.ir_builder_expressions.proofs.FollowLemmas.{part_attempts}
 use Rattle.ir_builder_loops_and_jumps.specs.Means.{means, means_assignment, means_update}
@@ -169,11 +170,6 @@ whole_simple : (t : Sort) → is_whole t ≡ true → is_simple t ≡ true
 whole_simple sort.Int k = refl
 whole_simple sort.I64 k = refl
 whole_simple _ k = absurd (cc)
-
-whole_numeric : (t : Sort) → is_whole t ≡ true → is_numeric t ≡ true
-whole_numeric sort.Int k = refl
-whole_numeric sort.I64 k = refl
-whole_numeric _ k = absurd (cc)
 
 declared_text : (ty : Ty) → ty ≡ declared.Str → sort_of ty ≡ sort.Str
 declared_text ty is = ap sort_of is ∙ ap sort_of (sym declared.rolls-Str) ∙ fold-roll-Ty Sort sort_step Ty-F.Str

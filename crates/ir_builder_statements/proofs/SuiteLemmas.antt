@@ -1,18 +1,15 @@
 -- What is asked of statements is asked of their parts.
 use Rattle.std.proofs.Common.{◌≡◌, ℕ, ◌+◌, ◌<◌, Bool, true, List, ◌∷◌, length, map, drop, get_or, Option, sym, ap, ◌∙◌, subst}
 use Rattle.std.proofs.lemmas.List.{drop_more}
-use Rattle.py_syntax.specs.declared.expression.BinOp.{BinOp}
-use Rattle.py_typed.specs.declared.types.Ty.{Ty}
 use Rattle.py_typed.specs.declared.expression.TExpr.{TExpr}
-use Rattle.py_typed.specs.declared.statement.Target.{Target}
 use Rattle.py_typed.specs.declared.statement.TStmt.{TStmt}
 use Rattle.py_typed.specs.declared.statement.TStmtKind.{TStmtKind, roll-TStmtKind, out-TStmtKind, roll-out-TStmtKind, fold-roll-TStmtKind}
 use Rattle.py_typed.specs.declared.statement.TStmtKind as kind
-use Rattle.py_typed.specs.Sorts.{Sort, sort as sort_of}
+use Rattle.py_typed.specs.Sorts.{Sort}
 use Rattle.py_typed.specs.Expressions.{typed_expr}
 use Rattle.py_typed.specs.Statements as tree
-use Rattle.py_typed.specs.Statements.{Variable, TypedModule, TypedStmt, TypedAct, HandlerParts, on_line, act_step, handler_step, stmt_step, typed_stmt, typed_act, typed_handler, typed_suite, typed_arm, typed_target, maybe_typed, suite_of, arms_of}
-use Rattle.py_typed.proofs.StatementLemmas.{typed_stmt_of, typed_act-Aug, typed_act-If, typed_act-Return, typed_act-Break, typed_act-Continue}
+use Rattle.py_typed.specs.Statements.{Variable, TypedModule, TypedStmt, TypedAct, HandlerParts, on_line, act_step, handler_step, stmt_step, typed_stmt, typed_act, typed_handler, typed_suite, typed_arm, maybe_typed, suite_of, arms_of}
+use Rattle.py_typed.proofs.StatementLemmas.{typed_stmt_of, typed_act-If, typed_act-Return, typed_act-Break, typed_act-Continue}
 use Rattle.ir_builder_statements.specs.Suiting.{TestSuits, ReturnSuits, StatementSuits, ActSuits, SuiteSuits, ArmsSuit}
 
 module _ (m : TypedModule) (vs : List Variable) (gives : Option Sort) (looping : Bool) where
@@ -39,9 +36,6 @@ module _ (m : TypedModule) (vs : List Variable) (gives : Option Sort) (looping :
     act_suits k a is made =
         let P : TypedStmt → Type 0 = λ z. StatementSuits m vs gives looping z in
         subst P (typed_stmt_of s k is ∙ ap (λ z. on_line z s.line) made) suits
-
-    pub update_suits : (t : Target) (op : BinOp) (e : TExpr) (ty : Ty) → s.kind ≡ kind.Aug t op e ty → ActSuits m vs gives looping (tree.Aug (typed_target t) op (typed_expr e) (sort_of ty))
-    update_suits t op e ty is = act_suits (kind.Aug t op e ty) (tree.Aug (typed_target t) op (typed_expr e) (sort_of ty)) is (typed_act-Aug t op e ty)
 
     pub if_suits : (arms all : List (TExpr × List TStmt)) (other last : List TStmt) → s.kind ≡ kind.If all last → arms ≡ all → other ≡ last → ArmsSuit m vs gives looping (arms_of (map typed_arm arms)) × SuiteSuits m vs gives looping (typed_suite other)
     if_suits arms all other last is same_arms same =

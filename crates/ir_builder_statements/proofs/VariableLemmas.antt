@@ -1,19 +1,13 @@
 -- Variables are read and set by their code.
-use Rattle.std.proofs.Common.{◌≡◌, ℕ, zero, suc, ◌<◌, ◌≤◌, List, [], ◌∷◌, length, map, get_or, Some, None, refl, sym, ap, ◌∙◌, subst, arith}
-use Rattle.std.proofs.lemmas.List.{length-map}
+use Rattle.std.proofs.Common.{◌≡◌, ℕ, zero, suc, ◌<◌, ◌≤◌, List, [], ◌∷◌, map, get_or, Some, None, refl, sym, ap, ◌∙◌, subst, arith}
 use Rattle.std.specs.Prelude.{pos, slice_get}
 use Rattle.c_core.specs.declared.primitive.Primitive.TheVariants as prim
 use Rattle.c_core.specs.declared.primitive.GlobalPrim.TheVariants as global
-use Rattle.py_syntax.specs.declared.token.Span.{Span}
 use Rattle.py_typed.specs.declared.checked.Var.{Var}
 use Rattle.py_typed.specs.declared.statement.Target.{Target}
 use Rattle.py_typed.specs.declared.statement.Target.TheVariants as declared
-use Rattle.py_typed.specs.declared.expression.TExpr.{TExpr}
-use Rattle.py_typed.specs.declared.expression.TKind.{TKind}
-use Rattle.py_typed.specs.declared.expression.TKind as kind
-use Rattle.py_typed.specs.Sorts.{Sort, sort as sort_of}
-use Rattle.py_typed.specs.Expressions.{TypedNode, typed, typed_expr, typed_node, Local, Global}
-use Rattle.py_typed.proofs.ExpressionLemmas.{typed_expr_of, typed_node-Local, typed_node-Global}
+use Rattle.py_typed.specs.Sorts.{Sort}
+use Rattle.py_typed.specs.Expressions.{Local, Global}
 use Rattle.py_typed.specs.Statements.{Variable, TypedModule, TypedTarget, LocalTarget, GlobalTarget, typed_target, variable}
 use Rattle.ir_core.specs.declared.code.RType.TheVariants.{Bool as BoolType}
 use Rattle.ir_core.specs.declared.code.Lit.TheVariants.{Number}
@@ -34,8 +28,7 @@ use Rattle.ir_builder_expressions.specs.Parts.{is_simple}
 use Rattle.ir_builder_expressions.specs.Reading.{setting_in}
 use Rattle.ir_builder_loops_and_jumps.specs.Simple.{Sets}
 use Rattle.ir_builder_loops_and_jumps.proofs.SimpleLemmas.{get_below, param_set, other_set, global_set}
-use Rattle.ir_builder_statements.specs.Suiting.{IsVariable}
-use Rattle.ir_builder_statements.specs.Parts.{HasFlag, SetsLocal, TakesGlobal, SetsGlobal, TakesRegister, SetsVariable, reading_of}
+use Rattle.ir_builder_statements.specs.Parts.{HasFlag, SetsLocal, TakesGlobal, SetsGlobal, TakesRegister, SetsVariable}
 
 pub type_by : (b : Building) (r : ℕ) (t u : Sort) → t ≡ u → HasType b r (rtype_of t) → HasType b r (rtype_of u)
 type_by b r t u e h = let P : Sort → Type 0 = λ z. HasType b r (rtype_of z) in subst P e h
@@ -135,50 +128,3 @@ module _ (m : TypedModule) (frame : Frame) (t : Target) (r : Reg) (b c : Buildin
       let P : Target → Type 0 = λ z. SetsVariable m frame (typed_target z) r.0 b c in
       subst P (sym is)
       (λ vs u room v type. sets_by (setting_in m vs frame) (GlobalTarget i) r.0 v.0.1 u b c v.2 (q (setting_in m vs frame) v.0 refl v.1 (type_by b r.0 u v.0.1 (sym v.2) type)))
-
--- ---- the type of a target
-
-module _ (m : TypedModule) (ds : List Var) (t : Target) where
-  abbrev Typed : Sort → Type 0
-  Typed u = IsVariable m (map variable ds) None (typed_target t) u
-
-  module _ (found : (u : Sort) × Typed u) where
-    local_here : (k : ℕ) → t ≡ declared.Local k → (u : Sort) × IsVariable m (map variable ds) None (LocalTarget k) u
-    local_here k is = let P : Target → Type 0 = λ z. (u : Sort) × IsVariable m (map variable ds) None (typed_target z) u in subst P is found
-
-    global_here : (i : ℕ) → t ≡ declared.Global i → (u : Sort) × IsVariable m (map variable ds) None (GlobalTarget i) u
-    global_here i is = let P : Target → Type 0 = λ z. (u : Sort) × IsVariable m (map variable ds) None (typed_target z) u in subst P is found
-
-    pub local_within : (k : ℕ) → t ≡ declared.Local k → k < length ds
-    local_within k is = let v = (local_here k is).1 in subst (λ n. k < n) (length-map ds variable) (get_below (map variable ds) k v.0 v.1)
-
-    pub local_typed : (k : ℕ) (d : Var) → t ≡ declared.Local k → d ≡ get_or ds k d → Typed (sort_of d.ty)
-    local_typed k d is at =
-        let Q : Target → Type 0 = λ z. IsVariable m (map variable ds) None (typed_target z) (sort_of d.ty) in
-        let v = (local_here k is).1 in
-        subst Q (sym is) (v.0, v.1, ap (λ (z : Variable). z.1) (declared_variable ds k d v.0 v.1 at))
-
-    pub global_within : (i : ℕ) (gs : List Var) → t ≡ declared.Global i → m.globals ≡ map variable gs → i < length gs
-    global_within i gs is all = let v = (global_here i is).1 in subst (λ n. i < n) (ap length all ∙ length-map gs variable) (get_below m.globals i v.0 v.1)
-
-    pub global_typed : (i : ℕ) (gs : List Var) (d : Var) → t ≡ declared.Global i → m.globals ≡ map variable gs → d ≡ get_or gs i d → Typed (sort_of d.ty)
-    global_typed i gs d is all at =
-        let Q : Target → Type 0 = λ z. IsVariable m (map variable ds) None (typed_target z) (sort_of d.ty) in
-        let v = (global_here i is).1 in
-        subst Q (sym is) (v.0, v.1, ap (λ (z : Variable). z.1) (declared_variable gs i d v.0 (ap (λ l. slice_get l i) (sym all) ∙ v.1) at))
-
--- ---- a target is read
-
-module _ (t : Target) (s : Sort) (place : Span) (k : TKind) (e : TExpr) where
-  read_as : (n : TypedNode) → e.kind ≡ k → typed_node k ≡ n → sort_of e.ty ≡ s → e.span ≡ place → typed_expr e ≡ typed n s place
-  read_as n is made type at = typed_expr_of e k is ∙ ap (λ z. typed z (sort_of e.ty) e.span) made ∙ ap (λ z. typed n z e.span) type ∙ ap (λ z. typed n s z) at
-
-pub local_reading : (t : Target) (s : Sort) (place : Span) (i : ℕ) (e : TExpr) → t ≡ declared.Local i → e.kind ≡ kind.Local i → sort_of e.ty ≡ s → e.span ≡ place → typed_expr e ≡ reading_of (typed_target t) s place
-local_reading t s place i e is k type at =
-    let P : Target → Type 0 = λ z. typed_expr e ≡ reading_of (typed_target z) s place in
-    subst P (sym is) (read_as t s place (kind.Local i) e (Local i) k (typed_node-Local i) type at)
-
-pub global_reading : (t : Target) (s : Sort) (place : Span) (i : ℕ) (e : TExpr) → t ≡ declared.Global i → e.kind ≡ kind.Global i → sort_of e.ty ≡ s → e.span ≡ place → typed_expr e ≡ reading_of (typed_target t) s place
-global_reading t s place i e is k type at =
-    let P : Target → Type 0 = λ z. typed_expr e ≡ reading_of (typed_target z) s place in
-    subst P (sym is) (read_as t s place (kind.Global i) e (Global i) k (typed_node-Global i) type at)

@@ -2,6 +2,7 @@
 use Rattle.std.specs.Prelude.{◌≡◌, ◌<◌, ◌≤◌, ◌⊎◌, ℕ, true, List, [], ◌∷◌, ◌++◌, length, Option, Some, None, slice_get}
 use Rattle.py_syntax.specs.declared.token.Span.{Span}
 use Rattle.py_syntax.specs.declared.expression.BinOp.{BinOp}
+use Rattle.py_typed.specs.Fits.{is_number}
 use Rattle.py_typed.specs.Sorts as sort
 use Rattle.py_typed.specs.Sorts.{Sort}
 use Rattle.py_typed.specs.Expressions.{TypedExpr, typed, Local, Global, Nothing, type_of}
@@ -18,7 +19,7 @@ use Rattle.ir_builder_frames.specs.Placing.{HasType}
 use Rattle.ir_builder_frames.specs.Matching.{flag_of, HasRoom}
 use Rattle.ir_builder_frames.specs.Calling.{Pushes, Closes}
 use Rattle.ir_builder_frames.specs.Computing.{Shows, Computes}
-use Rattle.ir_builder_operations.specs.Operating.{is_numeric, is_whole}
+use Rattle.ir_builder_operations.specs.Operating.{is_whole}
 use Rattle.ir_builder_expressions.specs.declared.applying.Binary.{Binary}
 use Rattle.ir_builder_expressions.specs.declared.applying.Binary.TheVariants.{Arithmetic, Joined}
 use Rattle.ir_builder_expressions.specs.Parts.{is_simple}
@@ -26,7 +27,7 @@ use Rattle.ir_builder_expressions.specs.Applying.{binary_goes}
 use Rattle.ir_builder_expressions.specs.Reading.{setting_in}
 use Rattle.ir_builder_loops_and_jumps.specs.declared.ways.Way.TheVariants.{Join}
 use Rattle.ir_builder_loops_and_jumps.specs.declared.ways.Exit.{Exit}
-use Rattle.ir_builder_loops_and_jumps.specs.declared.ways.Plan.{Plan}
+use Rattle.ir_builder_loops_and_jumps.specs.declared.ways.ExitPlan.{ExitPlan}
 use Rattle.ir_builder_loops_and_jumps.specs.Means.{means, means_returned, returned_type}
 use Rattle.ir_builder_loops_and_jumps.specs.Simple.{Sets}
 use Rattle.ir_builder_loops_and_jumps.specs.Runs.{Patching}
@@ -79,7 +80,7 @@ update_binary op t = Arithmetic op
 
 -- a value of the first type becomes one of the second, which a variable has: a number of a whole one, or a text as it is
 abbrev pub TurnsInto : Sort → Sort → Type 0
-TurnsInto t u = ((is_numeric t ≡ true) × (is_whole u ≡ true)) ⊎ ((t ≡ sort.Str) × (u ≡ sort.Str))
+TurnsInto t u = ((is_number t ≡ true) × (is_whole u ≡ true)) ⊎ ((t ≡ sort.Str) × (u ≡ sort.Str))
 
 -- the result of an operation on two parts in the first type was computed, as a value of the second
 abbrev pub ComputesAs : Setting → Binary → Sort → Sort → TypedExpr → TypedExpr → Building → Building → ℕ → Type 0
@@ -111,7 +112,7 @@ pub record EndsArm (old new : Building) (t : Test) (before after : List Exit) : 
   pub set : new ≡ record closed { blocks = with_last closed.blocks t.block (If t.condition t.start next) }
 
 -- behind an `if`
-abbrev pub joining : ℕ → Plan
+abbrev pub joining : ℕ → ExitPlan
 joining end = record { breaks = None; continues = None; returns = None; joins = Some end }
 
 -- the last body of an `if` was left, and the others go to where it does
@@ -124,7 +125,7 @@ pub record Joins (old new : Building) (inner before after : List Exit) : Type 0 
   pub patching : Patching closed new inner [] (planned (joining end))
 
 -- behind a loop, and to its turn
-abbrev pub looping_to : ℕ → ℕ → Plan
+abbrev pub looping_to : ℕ → ℕ → ExitPlan
 looping_to exit next = record { breaks = Some exit; continues = Some next; returns = None; joins = None }
 
 -- the body of a loop was left: a turn is spent, and the test comes again

@@ -15,7 +15,7 @@ ghost use Rattle.ir_builder_statements.specs.Parts.{Splits, EndsArm, Joins, Ends
 use crate::exits::{leave_by, pass_on, patch_all};
 use ir_builder_expressions::emit_expression;
 use ir_builder_frames::{Emitter, Frame};
-use ir_builder_loops_and_jumps::{Exit, Plan, Way};
+use ir_builder_loops_and_jumps::{Exit, ExitPlan, Way};
 use ir_core::{Last, Op, RType, Reg};
 use py_typed::{Checked, TExpr, Var};
 use std::alloc::Global;
@@ -79,7 +79,7 @@ pub(crate) fn join(b: &mut Emitter, inner: &[Exit], exits: &mut Vec<Exit>) -> Re
     ensures kinds { OnOk result (KeepsKinds b.old b.new) }
 {
     let end = b.step_on()?;
-    let plan = Plan {
+    let plan = ExitPlan {
         breaks: None,
         continues: None,
         returns: None,
@@ -114,7 +114,7 @@ pub(crate) fn end_loop(
     b.push(Op::Turn, line)?;
     b.close(Last::Goto(head))?;
     let exit = b.here();
-    let plan = Plan {
+    let plan = ExitPlan {
         breaks: Some(exit),
         continues: Some(next),
         returns: None,

@@ -9,7 +9,7 @@ ghost use Rattle.ir_builder_loops_and_jumps.specs.Plans.{PlanFits};
 ghost use Rattle.ir_builder_loops_and_jumps.specs.Runs.{OpenIn, Patching};
 
 use ir_builder_frames::Emitter;
-use ir_builder_loops_and_jumps::{Exit, Plan, Way};
+use ir_builder_loops_and_jumps::{Exit, ExitPlan, Way};
 use ir_core::Last;
 use value_core::Memory;
 
@@ -27,7 +27,7 @@ pub(crate) fn leave_by(b: &mut Emitter, way: Way, exits: &mut Vec<Exit>) -> Resu
 }
 
 /// The block to which a way goes, where a plan knows it.
-fn place_of(plan: Plan, way: Way) -> Option<usize>
+fn place_of(plan: ExitPlan, way: Way) -> Option<usize>
     ensures { result ≡ planned plan way }
 {
     match way {
@@ -39,7 +39,7 @@ fn place_of(plan: Plan, way: Way) -> Option<usize>
 }
 
 /// Writes the jumps of the exits whose way is in a plan. It takes no memory.
-pub(crate) fn patch_all(b: &mut Emitter, exits: &[Exit], plan: Plan)
+pub(crate) fn patch_all(b: &mut Emitter, exits: &[Exit], plan: ExitPlan)
     requires opens { (from : ℕ) × OpenIn b.old from (length b.old.blocks) exits.now }
     ensures patching { Patching b.old b.new exits.now [] (planned plan) }
     ensures shaped { KeepsIf (λ n m. PlanFits m (planned plan) exits.now) b.old b.new }
@@ -53,7 +53,7 @@ pub(crate) fn patch_all(b: &mut Emitter, exits: &[Exit], plan: Plan)
 }
 
 /// Hands the exits on whose way is not in a plan.
-pub(crate) fn pass_on(exits: &mut Vec<Exit>, inner: &[Exit], plan: Plan) -> Result<(), Memory>
+pub(crate) fn pass_on(exits: &mut Vec<Exit>, inner: &[Exit], plan: ExitPlan) -> Result<(), Memory>
     ensures { OnOk result (exits.new.items ≡ exits.old.items ++ left (planned plan) inner.now) }
 {
     for exit in inner {

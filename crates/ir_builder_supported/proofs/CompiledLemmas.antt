@@ -1,10 +1,11 @@
 -- An expression in which no line is said to have something that is not compiled is one that is compiled.
 use Rattle.std.proofs.Common.{◌≡◌, refl, ap, ◌∙◌, ℕ, Bool, true, false, List, [], ◌∷◌, ◌++◌}
 use Rattle.std.specs.Prelude.{◌&&◌}
+use Rattle.py_typed.specs.Fits.{is_number}
 use Rattle.py_typed.specs.Sorts.{Sort}
 use Rattle.py_typed.specs.Expressions.{TypedExpr, typed, TypedNode, Int, Str, Flag, Local, Global, Neg, Not, Truth, Arith, Concat, Compare, And, Or, Cond, At, Call, Input, Len, ToStr, Coerce, TypedExprs, no_exprs, expr_then, Comparisons, no_comparisons, comparison_then, type_of}
 use Rattle.py_typed.proofs.FitLemmas.{and_left, and_right}
-use Rattle.ir_builder_operations.specs.Operating.{is_numeric, is_whole}
+use Rattle.ir_builder_operations.specs.Operating.{is_whole}
 use Rattle.ir_builder_expressions.specs.Compiled.{is_bool, is_scalar, is_built, is_ordering, is_pair, is_compiled, is_compiled_node, are_compiled, are_compared}
 use Rattle.ir_builder_supported.specs.Expressions.{or_parts, are_pairs, is_form, expression_lines, part_lines, row_lines, chain_lines}
 
@@ -62,7 +63,7 @@ mutual
   compiled_node Input t f p = f
   compiled_node (Len e) t f p = both_hold _ _ f (compiled e p)
   compiled_node (ToStr e) t f p = both_hold _ _ f (compiled e p)
-  compiled_node (Coerce e) t f p = both_hold (is_whole t) _ (and_left _ _ f) (both_hold (is_numeric (type_of e)) _ (and_right _ _ f) (compiled e p))
+  compiled_node (Coerce e) t f p = both_hold (is_whole t) _ (and_left _ _ f) (both_hold (is_number (type_of e)) _ (and_right _ _ f) (compiled e p))
   compiled_node _ t f p = absurd (cc)
 
   pub compiled_row : (es : TypedExprs) → row_lines es ≡ [] → are_compiled es ≡ true

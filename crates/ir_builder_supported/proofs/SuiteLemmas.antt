@@ -19,7 +19,7 @@ use Rattle.ir_builder_expressions.specs.declared.applying.Binary.TheVariants.{Ar
 use Rattle.ir_builder_expressions.specs.Compiled.{is_int, is_i64, is_scalar, is_built}
 use Rattle.ir_builder_expressions.specs.Applying.{BinarySuits}
 use Rattle.ir_builder_expressions.specs.Suiting.{Suits}
-use Rattle.ir_builder_expressions.proofs.SuitLemmas.{AllScalar, AllSigned, number_numeric, gives_value, reads_itself, well_typed_suits, well_typed_node}
+use Rattle.ir_builder_expressions.proofs.SuitLemmas.{AllScalar, AllSigned, gives_value, reads_itself, well_typed_suits, well_typed_node}
 use Rattle.ir_builder_statements.specs.Suiting.{PrintSuits, DoSuits, IsOnly, UpdateSuits, VariableUpdates, ReturnSuits, StatementSuits, ActSuits, SuiteSuits, ArmsSuit}
 use Rattle.ir_builder_supported.specs.Expressions.{line_at, is_form, expression_lines, part_lines, row_lines}
 use Rattle.ir_builder_supported.specs.Statements.{alone_lines, is_one, is_taken, takes_result, is_updated, returned_lines, statement_lines, act_lines, suite_lines, arms_lines}
@@ -89,7 +89,7 @@ numbers_update op u s w true built takes numbers h =
     let both = numbers refl in
     let whole : is_whole s ≡ true = subst (λ z. is_whole z ≡ true) (one_type (number_join u w) s h) (join_whole u w) in (
       taking (λ z. is_whole z ≡ true) refl u s takes whole,
-      (whole, built, number_numeric u (and_left (is_number u) (is_number w) both), number_numeric w (and_right (is_number u) (is_number w) both)),
+      (whole, built, and_left (is_number u) (is_number w) both, and_right (is_number u) (is_number w) both),
     )
 numbers_update op u s w false built takes numbers h = absurd (cc)
 

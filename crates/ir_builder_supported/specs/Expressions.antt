@@ -1,14 +1,11 @@
 -- The lines on which expressions stand that are not compiled. An expression stands on the line where it begins, so what stands
 -- inside of one that is not compiled stands on no line before it.
 use Rattle.std.specs.Prelude.{ℕ, Bool, true, false, ◌&&◌, if◌then◌else◌, List, [], ◌∷◌, ◌++◌}
+use Rattle.py_typed.specs.Fits.{is_number}
 use Rattle.py_typed.specs.Sorts.{Sort}
 use Rattle.py_typed.specs.Expressions.{TypedExpr, typed, TypedNode, Int, Str, Flag, Local, Global, Neg, Not, Truth, Arith, Concat, Compare, And, Or, Cond, At, Call, Input, Len, ToStr, Coerce, TypedExprs, no_exprs, expr_then, Comparisons, no_comparisons, comparison_then, type_of}
-use Rattle.ir_builder_operations.specs.Operating.{is_numeric, is_whole}
+use Rattle.ir_builder_operations.specs.Operating.{is_whole}
 use Rattle.ir_builder_expressions.specs.Compiled.{is_bool, is_int, is_text, is_scalar, is_result, is_built, is_ordering, is_pair}
-
-abbrev pub line_unless : Bool → ℕ → List ℕ
-line_unless true line = []
-line_unless false line = line ∷ []
 
 -- the line of an expression, unless it is of a form that is compiled; then those of its parts
 abbrev pub or_parts : Bool → ℕ → List ℕ → List ℕ
@@ -43,7 +40,7 @@ is_form (Call f es) t = is_result t
 is_form Input t = is_text t
 is_form (Len e) t = is_text (type_of e)
 is_form (ToStr e) t = is_scalar (type_of e)
-is_form (Coerce e) t = is_whole t && is_numeric (type_of e)
+is_form (Coerce e) t = is_whole t && is_number (type_of e)
 is_form e t = false
 
 abbrev mutual

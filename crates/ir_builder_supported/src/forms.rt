@@ -1,6 +1,7 @@
 //! Whether a type, an operation or a node is one of those that are compiled, whatever stands in it.
 ghost use Rattle.std.specs.Prelude.{◌≡◌, ◌&&◌, map, slice_get};
 ghost use Rattle.py_typed.specs.Sorts.{sort};
+ghost use Rattle.py_typed.specs.Fits as fits;
 ghost use Rattle.py_typed.specs.Expressions.{typed_expr, typed_node, typed_comparison, comparisons_of};
 ghost use Rattle.py_typed.specs.Statements.{typed_target, typed_func, variable};
 ghost use Rattle.ir_builder_operations.specs.Operating as operating;
@@ -43,8 +44,8 @@ fn is_whole(t: &Ty) -> bool
 }
 
 /// Whether a type is one of numbers and bools.
-fn is_numeric(t: &Ty) -> bool
-    ensures { result ≡ operating.is_numeric (sort t.now) }
+fn is_number(t: &Ty) -> bool
+    ensures { result ≡ fits.is_number (sort t.now) }
 {
     matches!(t, Ty::Int | Ty::I64 | Ty::Bool)
 }
@@ -82,7 +83,7 @@ fn is_ordering(op: CmpOp) -> bool
 fn is_pair(left: &Ty, right: &Ty) -> bool
     ensures { result ≡ compiled.is_pair (sort left.now) (sort right.now) }
 {
-    (is_numeric(left) && is_numeric(right)) || (is_text(left) && is_text(right))
+    (is_number(left) && is_number(right)) || (is_text(left) && is_text(right))
 }
 
 /// Whether each pair of a chain is compared so, behind an operand of a type.
@@ -125,7 +126,7 @@ pub(crate) fn is_form(e: &TExpr) -> bool
         TKind::Input => is_text(&e.ty),
         TKind::Len(a) => is_text(&a.ty),
         TKind::ToStr(a) => is_scalar(&a.ty),
-        TKind::Coerce(a) => is_whole(&e.ty) && is_numeric(&a.ty),
+        TKind::Coerce(a) => is_whole(&e.ty) && is_number(&a.ty),
         TKind::Nothing => false,
         TKind::List(_) => false,
         TKind::Dict(_) => false,

@@ -8,3 +8,6 @@ pub mod BuildingLemmas
 pub mod Simulation
 pub mod StepLemmas
 pub mod JumpLemmas
+pub mod RowLemmas
+pub mod SpellingLemmas
+pub mod TextLemmas

@@ -107,15 +107,18 @@ module _ (p : Program) where
       ap (λ l. slice_get l (suc j)) (next_labels n k x (lines_from p (suc (suc k)) bs))
       ∙ (label_there (n + size) (suc k) j bs b e ∙ ap Some z)
 
+  -- the label of each block but the first
+  pub label_at : (bs : List Block) (k : ℕ) (b : Block) → slice_get bs (suc k) ≡ Some b → slice_get (label_places (lines_from p 0 bs)) k ≡ Some (place_of 0 bs (suc k))
+  label_at [] k b e = let f : None ≡ Some b = e in absurd (cc)
+  label_at (x ∷ bs) k b e =
+      let size : ℕ = length (block_lines p 0 x) in
+      let z : 0 + size + place_of 1 bs k ≡ size + place_of 1 bs k = omega arith in
+      ap (λ l. slice_get l k) (first_labels 0 x (lines_from p 1 bs)) ∙ (label_there (0 + size) 0 k bs b e ∙ ap Some z)
+
   pub labelled : (bs : List Block) (k : ℕ) (b : Block) → slice_get bs k ≡ Some b → IsLabelled (lines_from p 0 bs) label_of k (place_of 0 bs k)
   labelled bs zero b e = refl
-  labelled [] (suc k) b e = let f : None ≡ Some b = e in absurd (cc)
-  labelled (x ∷ bs) (suc k) b e =
-      let size : ℕ = length (block_lines p 0 x) in
-      let number : suc k - 1 ≡ k = omega arith in
-      let z : 0 + size + place_of 1 bs k ≡ size + place_of 1 bs k = omega arith in
-      ap (slice_get (label_places (lines_from p 0 (x ∷ bs)))) number
-      ∙ (ap (λ l. slice_get l k) (first_labels 0 x (lines_from p 1 bs)) ∙ (label_there (0 + size) 0 k bs b e ∙ ap Some z))
+  labelled bs (suc k) b e =
+      let number : suc k - 1 ≡ k = omega arith in ap (slice_get (label_places (lines_from p 0 bs))) number ∙ label_at bs k b e
 
   -- ---- a function
   are_ops : (ops : List (Op × ℕ)) → AreOps p ops (op_lines p ops)

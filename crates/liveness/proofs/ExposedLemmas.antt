@@ -1,5 +1,5 @@
 -- Marks of the blocks that read a register before they write it.
-use Rattle.std.proofs.Common.{◌≡◌, ℕ, ◌+◌, ◌<◌, ◌⊎◌, Bool, true, false, List, [], ◌∷◌, ◌++◌, length, refl, sym, ap, ◌∙◌, subst, inl, inr, ⊎_elim, arith, get_or}
+use Rattle.std.proofs.Common.{◌≡◌, ℕ, ◌+◌, ◌<◌, ◌⊎◌, Bool, true, false, List, [], ◌∷◌, ◌++◌, length, sym, ap, ◌∙◌, subst, inl, inr, ⊎_elim, arith, get_or}
 use Rattle.std.specs.Prelude.{◌↔◌}
 use Rattle.std.proofs.lemmas.List.{get_or_past}
 use Rattle.liveness.specs.declared.places.Touches.{Touches}
@@ -21,16 +21,6 @@ pub record Exposing (reads : ℕ → Bool) (edges old : List (List ℕ)) (r : �
   pub comes : (t : ℕ) → is_among work t ≡ true → (b : ℕ) × (has rows r b ≡ true) × (is_among (get_or edges b []) t ≡ true)
 
 module _ (reads : ℕ → Bool) (edges old : List (List ℕ)) (r : ℕ) where
-  pub exposed_start : AreAtMost r old → ((t : ℕ) → has old r t ≡ false) → Exposing reads edges old r [] old []
-  exposed_start most fresh = record {
-    size = refl;
-    most = most;
-    others = λ n t other. refl;
-    sound = λ t e. let clash : false ≡ true = sym (fresh t) ∙ e in absurd (cc);
-    marks = λ t e reads_t lt. let clash : false ≡ true = e in absurd (cc);
-    waits = λ b t e to. let clash : false ≡ true = sym (fresh b) ∙ e in absurd (cc);
-    comes = λ t e. let clash : false ≡ true = e in absurd (cc);
-  }
 
   module _ (seen work : List ℕ) (rows : List (List ℕ)) (b : ℕ) (f : Exposing reads edges old r seen rows work) where
     pub exposed_past : (reads b ≡ true → b < length rows → has rows r b ≡ true) → Exposing reads edges old r (seen ++ b ∷ []) rows work
@@ -118,12 +108,6 @@ module _ (touches : Touches) (readers : List ℕ) (edges : List (List ℕ)) (r :
     λ found. (flooded t lt).1 (found_come t found lt),
   )
 
-pub below_most : (r : ℕ) (rows : List (List ℕ)) → AreBelow r rows → AreAtMost r rows
-below_most r rows below t i lt = let h = below t i lt in omega (arith, h)
-
 pub below_fresh : (r : ℕ) (rows : List (List ℕ)) → AreBelow r rows → (t : ℕ) → has rows r t ≡ false
 below_fresh r rows below t =
     none_among (get_or rows t []) r (λ i lt same. let h = below t i lt in absurd (omega (arith, h, same)))
-
-pub most_below : (r : ℕ) (rows : List (List ℕ)) → AreAtMost r rows → AreBelow (r + 1) rows
-most_below r rows most t i lt = let h = most t i lt in omega (arith, h)

@@ -52,13 +52,6 @@ with_has xs n = by_case (is_among xs n) refl
     by_case true e = e
     by_case false e = among_back xs (n ∷ []) n (one_among n)
 
-with_keeps : (xs : List ℕ) (n m : ℕ) → is_among xs m ≡ true → is_among (with_number xs n) m ≡ true
-with_keeps xs n m e = by_case (is_among xs n)
-  where
-    by_case : (b : Bool) → is_among (cond b xs (xs ++ n ∷ [])) m ≡ true
-    by_case true = e
-    by_case false = among_front xs (n ∷ []) m e
-
 with_other : (xs : List ℕ) (n m : ℕ) → (m ≡ n → ⊥) → is_among (with_number xs n) m ≡ is_among xs m
 with_other xs n m other = by_case (is_among xs n)
   where

@@ -1,6 +1,6 @@
 -- The rows in which a number stands.
 use Rattle.std.proofs.Common.{◌≡◌, ℕ, zero, suc, ◌+◌, ◌<◌, ◌⊎◌, Bool, true, false, List, [], ◌∷◌, ◌++◌, length, Some, refl, sym, ap, ◌∙◌, subst, inl, inr, ⊎_elim, arith, get_or, take, drop, cond}
-use Rattle.std.specs.Prelude.{slice_get, replicate}
+use Rattle.std.specs.Prelude.{slice_get}
 use Rattle.std.proofs.lemmas.Option.{slice_get_within}
 use Rattle.std.proofs.lemmas.List.{length-take-le, get_or_past}
 use Rattle.std.proofs.Math.Seq.{take-append_seam}
@@ -81,11 +81,6 @@ turned_most n i rows inverse row is size turned t j lt =
     let nothing : j < 0 = subst (λ z. j < length z) none lt in
     absurd (omega (arith, nothing)))
     (lt_tells t n)
-
-pub get_replicate : {A : Type 0} (n k : ℕ) (x : A) → get_or (replicate n x) k x ≡ x
-get_replicate zero k x = refl
-get_replicate (suc n) zero x = refl
-get_replicate (suc n) (suc k) x = get_replicate n k x
 
 pub whole : {A : Type 0} (n : ℕ) (xs ys : List A) → length xs ≡ n → take n (xs ++ drop (length xs) ys) ≡ xs
 whole n xs ys e = ap (λ z. take z (xs ++ drop (length xs) ys)) (sym e) ∙ take-append_seam xs (drop (length xs) ys)

@@ -184,15 +184,6 @@ span_there (x ∷ ks) n (suc b) k is =
     let e : (n + length (places_of x)) + h.0 ≡ n + (length (places_of x) + h.0) = omega arith in
     (length (places_of x) + h.0, h.1, h.2 ∙ ap (λ z. Some (span_of z k)) e, drop-append-add (places_of x) (places ks) h.0 ∙ h.3)
 
-pub no_span : (blocks : List Steps) (n b : ℕ) → slice_get blocks b ≡ None → slice_get (spans_from n blocks) b ≡ None
-no_span [] n b e = refl
-no_span (x ∷ ks) n zero e = let f : Some x ≡ None = e in absurd (cc)
-no_span (x ∷ ks) n (suc b) e = no_span ks (n + length (places_of x)) b e
-
-pub spans_size : (blocks : List Steps) (n : ℕ) → length (spans_from n blocks) ≡ length blocks
-spans_size [] n = refl
-spans_size (x ∷ ks) n = ap suc (spans_size ks (n + length (places_of x)))
-
 -- what is left of a block from a place on, among all places
 module _ (all : List Step) (m p : ℕ) (here rest : List Step) (at : drop m all ≡ here ++ rest) (le : p ≤ length here) where
   left : drop (m + p) all ≡ drop p here ++ rest

@@ -2,8 +2,6 @@
 use Rattle.std.proofs.Common.{◌≡◌, ℕ, zero, suc, ◌+◌, ◌<◌, ◌≤◌, ◌⊎◌, true, false, List, [], ◌∷◌, ◌++◌, length, Some, None, refl, sym, ap, ◌∙◌, ◌-◌, ⊎_elim, arith, get_or}
 use Rattle.std.specs.Prelude.{slice_get, ◌||◌, nat_lt, nat_eq}
 use Rattle.std.proofs.lemmas.Bool.Decides.{nat_tests}
-use Rattle.std.proofs.lemmas.List.{get_or_append_left}
-use Rattle.std.proofs.Math.Seq.{get_or-append_seam}
 use Rattle.std.proofs.lemmas.Option.{slice_get_within, get_or_from_slice_get}
 use Rattle.liveness.specs.Paths.{is_among}
 use Rattle.liveness.specs.Rising.{IsRising, IsAtMost, next_from}
@@ -77,26 +75,6 @@ not_there xs n p below le =
 pub size_more : (xs : List ℕ) (n : ℕ) → length (xs ++ n ∷ []) ≡ length xs + 1
 size_more [] n = omega arith
 size_more (x ∷ xs) n = omega (arith, size_more xs n)
-
-pub rising_more : (xs : List ℕ) (n : ℕ) → IsRising xs → IsAtMost n xs → is_among xs n ≡ false → IsRising (xs ++ n ∷ [])
-rising_more xs n rising most none i j lt within =
-    let inside : i < length xs = omega (arith, lt, within, size_more xs n) in
-    let front = get_or_append_left xs (n ∷ []) 0 i inside in
-    ⊎_elim
-    (λ a. let h = rising i j lt a.1 in let behind = get_or_append_left xs (n ∷ []) 0 j a.1 in omega (arith, h, front, behind))
-    (λ a.
-    let same : j ≡ length xs = omega (arith, a.1, within, size_more xs n) in
-    let last : get_or (xs ++ n ∷ []) j 0 ≡ n =
-    ap (λ z. get_or (xs ++ n ∷ []) z 0) same ∙ get_or-append_seam xs n [] 0 in
-    let le = most i inside in
-    ⊎_elim
-    (λ b. let clash : true ≡ false = sym (among_at xs i n inside b.1) ∙ none in absurd (cc))
-    (λ b. less le b.1 front last)
-    (eq_tells (get_or xs i 0) n))
-    (lt_tells j (length xs))
-  where
-    less : {a x y : ℕ} → a ≤ n → (a ≡ n → ⊥) → x ≡ a → y ≡ n → x < y
-    less le other e f = omega (arith, le, other, e, f)
 
 pub past_end : {A : Type 0} (xs : List A) (i : ℕ) → slice_get xs i ≡ None → length xs ≤ i
 past_end [] i e = omega arith

@@ -1,6 +1,6 @@
 -- Blocks that paths come to.
-use Rattle.std.proofs.Common.{◌≡◌, ℕ, zero, suc, ◌<◌, ◌⊎◌, Bool, true, false, List, [], ◌∷◌, ◌++◌, length, map, Option, Some, None, refl, sym, ap, ◌∙◌, subst, inl, inr, ⊎_elim, arith, get_or}
-use Rattle.std.specs.Prelude.{slice_get, ◌&&◌, ◌↔◌, replicate}
+use Rattle.std.proofs.Common.{◌≡◌, ℕ, ◌<◌, ◌⊎◌, Bool, true, false, List, [], ◌∷◌, ◌++◌, length, map, Option, Some, None, refl, sym, ap, ◌∙◌, subst, inl, inr, ⊎_elim, arith, get_or}
+use Rattle.std.specs.Prelude.{slice_get, ◌&&◌, ◌↔◌}
 use Rattle.liveness.specs.declared.step.Steps.{Steps}
 use Rattle.liveness.specs.declared.places.Span.{Span}
 use Rattle.liveness.specs.Paths.{is_among, targets}
@@ -119,14 +119,3 @@ module _ (seeds : ℕ → Bool) (edges : List (List ℕ)) (spans : List Span) (w
         ((comes t lt).0 e),
     λ spread. (comes t lt).1 (inr (spread_come t spread)),
   )
-
--- rows that are empty have no number
-pub none_has : (n r t : ℕ) → has (replicate n []) r t ≡ false
-none_has zero r t = refl
-none_has (suc n) r zero = refl
-none_has (suc n) r (suc t) = none_has n r t
-
-pub get_marks : (rows : List (List ℕ)) (t : ℕ) → get_or (map (λ row. is_among row 0) rows) t false ≡ has rows 0 t
-get_marks [] t = refl
-get_marks (row ∷ rows) zero = refl
-get_marks (row ∷ rows) (suc t) = get_marks rows t

@@ -1,5 +1,5 @@
 -- Marks of blocks: at whose start a register is read again, and to which ones paths come.
-use Rattle.std.specs.Prelude.{◌≡◌, ◌<◌, ℕ, Bool, true, false, not, ◌&&◌, ◌||◌, List, [], ◌∷◌, length, map, Some, slice_get, get_or, ◌↔◌}
+use Rattle.std.specs.Prelude.{◌≡◌, ◌<◌, ℕ, Bool, true, false, not, ◌&&◌, ◌||◌, List, [], ◌∷◌, length, Some, slice_get, get_or, ◌↔◌}
 use Rattle.std.specs.List.{list_any}
 use Rattle.ir_core.specs.declared.code.Last.{Last}
 use Rattle.liveness.specs.declared.step.Step.{Step}
@@ -7,7 +7,7 @@ use Rattle.liveness.specs.declared.step.Steps.{Steps}
 use Rattle.liveness.specs.declared.places.Touches.{Touches}
 use Rattle.liveness.specs.Paths.{is_among, is_target, reads_of_last, targets}
 use Rattle.liveness.specs.Rising.{has}
-use Rattle.liveness.specs.Places.{lets, reads_first, targets_of}
+use Rattle.liveness.specs.Places.{lets, reads_first}
 
 -- ---- what is read again
 
@@ -65,11 +65,6 @@ is_written ss r = list_any (λ s. is_target s.write r) ss
 abbrev pub AreSeeds : List Steps → List Bool → ℕ → (ℕ → Bool) → Type 0
 AreSeeds blocks met r seeds =
     (b : ℕ) (k : Steps) → slice_get blocks b ≡ Some k → seeds b ≡ (get_or met b false && is_written k.steps r)
-
--- marks that say exactly at the start of which blocks a parameter may have been written
-abbrev pub IsOwnedRow : List Steps → List Bool → ℕ → (ℕ → Bool) → Type 0
-IsOwnedRow blocks met r marked =
-    (seeds : ℕ → Bool) × AreSeeds blocks met r seeds × ((t : ℕ) → t < length blocks → (marked t ≡ true) ↔ Spread (map targets_of blocks) seeds t)
 
 -- whether a block is met and is one of some that write a parameter
 abbrev pub seeds_of : List ℕ → List Bool → ℕ → Bool

@@ -17,17 +17,17 @@ use Rattle.liveness.proofs.RowLemmas.{there_is}
 use Rattle.refcount_insert_rule.specs.Rule.{ups, downs, IsGroup}
 use Rattle.refcount_insert_rule.specs.Counted.{counts_register, Tables, AreGroups, AreLast, AreAll, AreTurned, IsBody, IsLast, AreBlocks, IsCountedFunc}
 use Rattle.refcount_insert.specs.declared.counts.Counts.{Counts}
-use Rattle.refcount_insert.specs.declared.known.Known.{Known}
+use Rattle.refcount_insert.specs.declared.known.KnownRegisters.{KnownRegisters}
 use Rattle.refcount_insert.specs.declared.plan.Planned.{Planned}
 use Rattle.refcount_insert.specs.Known.{IsKnown, owned_at}
-use Rattle.refcount_insert.specs.Plan.{is_ahead, AreEndCounts, AreTestCounts, IsCountedOp, AreCountedOps, IsPlannedBody, ArePlanned}
+use Rattle.refcount_insert.specs.Plan.{is_read_again, AreEndCounts, AreTestCounts, IsCountedOp, AreCountedOps, IsPlannedBody, ArePlanned}
 use Rattle.refcount_insert.specs.Layout.{edge_ops, size_of, starts_from, number_at, end_at, edge_blocks, all_laid}
 use Rattle.refcount_insert.proofs.Laying.{blocks_count}
 use Rattle.refcount_insert.proofs.GroupLemmas.{group_is}
 use Rattle.refcount_insert.proofs.EdgeLemmas.{AreExact, edge_is, one_target, two_targets, first_target, second_target, exact_edge, exact_tested, ahead_of_jump, ahead_of_test, edges_to_are}
 
 -- the tables of a function
-abbrev pub tables_of : (f : Func) (known : Known) → IsKnown f known → Tables f
+abbrev pub tables_of : (f : Func) (known : KnownRegisters) → IsKnown f known → Tables f
 tables_of f known is =
     record { live = says_live known.live; lent = says_borrowed known.lent; is_live = is.live; is_lent = is.lent }
 
@@ -86,7 +86,7 @@ block_starts blocks t lt =
 -- ---- a block
 
 -- operations with their counts, each with all its counts
-groups_are : (f : Func) (t : Tables f) (number : ℕ → ℕ) (known : Known) (at : ℕ → ℕ → ℕ) (old ops : List (Op × ℕ)) → ((p : ℕ) (o : Op × ℕ) (g : List (Op × ℕ)) → slice_get old p ≡ Some o → IsCountedOp known f.regs (at p) (at (suc p)) o g → IsGroup (counts_register f.regs) o (at p) (at (suc p)) g) → AreCountedOps known f.regs at old ops → AreGroups f t number at old ops
+groups_are : (f : Func) (t : Tables f) (number : ℕ → ℕ) (known : KnownRegisters) (at : ℕ → ℕ → ℕ) (old ops : List (Op × ℕ)) → ((p : ℕ) (o : Op × ℕ) (g : List (Op × ℕ)) → slice_get old p ≡ Some o → IsCountedOp known f.regs (at p) (at (suc p)) o g → IsGroup (counts_register f.regs) o (at p) (at (suc p)) g) → AreCountedOps known f.regs at old ops → AreGroups f t number at old ops
 groups_are f t number known at [] ops each all = all
 groups_are f t number known at (o ∷ os) ops each all =
     (all.0, all.1, all.2, each 0 o all.0 refl all.3, groups_are f t number known (λ p. at (suc p)) os all.1 (λ p o g there one. each (suc p) o g there one) all.4)
@@ -104,7 +104,7 @@ targets_within n b ops (IfError x t v line) fits u e =
 targets_within n b ops (Return x) fits u e = let f : false ≡ true = e in absurd (cc)
 targets_within n b ops Unreachable fits u e = let f : false ≡ true = e in absurd (cc)
 
-module _ (f : Func) (known : Known) (is : IsKnown f known) (number : ℕ → ℕ) (b : ℕ) (old : List (Op × ℕ)) where
+module _ (f : Func) (known : KnownRegisters) (is : IsKnown f known) (number : ℕ → ℕ) (b : ℕ) (old : List (Op × ℕ)) where
   abbrev t : Tables f
   t = tables_of f known is
 
@@ -178,20 +178,20 @@ module _ (f : Func) (known : Known) (is : IsKnown f known) (number : ℕ → ℕ
   last_is (Goto u) m first second at_end fits counts = (refl, refl)
   last_is (If x u v) m first second at_end fits counts =
       let told = ahead_of_test f known is b (length old) u v x (If x u v) refl refl at_end in
-      let one = exact_edge f known is b (length old) (If x u v) at_end (within (If x u v) at_end fits) (is_ahead known.live x u v) told counts.0 counts.1 u (first_target u (v ∷ [])) first counts.2 in
-      let other = exact_edge f known is b (length old) (If x u v) at_end (within (If x u v) at_end fits) (is_ahead known.live x u v) told counts.0 counts.1 v (second_target u v) second counts.3 in
+      let one = exact_edge f known is b (length old) (If x u v) at_end (within (If x u v) at_end fits) (is_read_again known.live x u v) told counts.0 counts.1 u (first_target u (v ∷ [])) first counts.2 in
+      let other = exact_edge f known is b (length old) (If x u v) at_end (within (If x u v) at_end fits) (is_read_again known.live x u v) told counts.0 counts.1 v (second_target u v) second counts.3 in
       (_, _, refl, edges_to_are f t number (at (length old)) (at (length old)) u v m first second one other)
   last_is (IfError x u v line) m first second at_end fits counts =
       let told = ahead_of_test f known is b (length old) u v x (IfError x u v line) refl refl at_end in
-      let one = exact_tested f known is b (length old) (IfError x u v line) at_end (within (IfError x u v line) at_end fits) (is_ahead known.live x u v) told counts.0 counts.1 u (first_target u (v ∷ [])) x.0 first counts.2 in
-      let other = exact_edge f known is b (length old) (IfError x u v line) at_end (within (IfError x u v line) at_end fits) (is_ahead known.live x u v) told counts.0 counts.1 v (second_target u v) second counts.3 in
+      let one = exact_tested f known is b (length old) (IfError x u v line) at_end (within (IfError x u v line) at_end fits) (is_read_again known.live x u v) told counts.0 counts.1 u (first_target u (v ∷ [])) x.0 first counts.2 in
+      let other = exact_edge f known is b (length old) (IfError x u v line) at_end (within (IfError x u v line) at_end fits) (is_read_again known.live x u v) told counts.0 counts.1 v (second_target u v) second counts.3 in
       (_, _, refl, edges_to_are f t number (put x.0 (owned_at known f.regs u 0 x.0) (at (length old))) (at (length old)) u v m first second one other)
   last_is (Return x) m first second at_end fits counts = (refl, refl)
   last_is Unreachable m first second at_end fits counts = (refl, refl)
 
 -- ---- all blocks
 
-module _ (f : Func) (known : Known) (is : IsKnown f known) (number : ℕ → ℕ) where
+module _ (f : Func) (known : KnownRegisters) (is : IsKnown f known) (number : ℕ → ℕ) where
   block_ops : (b : ℕ) (k : Block) → slice_get f.blocks b ≡ Some k → (p : ℕ) (o : Op × ℕ) (g : List (Op × ℕ)) → slice_get k.ops p ≡ Some o → IsCountedOp known f.regs (owned_at known f.regs b p) (owned_at known f.regs b (suc p)) o g → IsGroup (counts_register f.regs) o (owned_at known f.regs b p) (owned_at known f.regs b (suc p)) g
   block_ops b k here p o g there one =
       group_is f known is b p o g (ap (λ z. item_of z p) here ∙ op_there k.ops k.last p o there) one
@@ -222,7 +222,7 @@ module _ (f : Func) (known : Known) (is : IsKnown f known) (number : ℕ → ℕ
       )
 
 -- a function with these blocks
-pub counted_by : (f g : Func) (known : Known) (is : IsKnown f known) (planned : List Planned) → FuncFits f → ArePlanned known f.regs 0 f.blocks planned → g.name ≡ f.name → g.params ≡ f.params → g.ret ≡ f.ret → g.regs ≡ f.regs → g.blocks ≡ all_laid (number_at (starts_from 0 planned)) 0 planned → length g.blocks ≤ 2 ^ 64 → IsCountedFunc f g
+pub counted_by : (f g : Func) (known : KnownRegisters) (is : IsKnown f known) (planned : List Planned) → FuncFits f → ArePlanned known f.regs 0 f.blocks planned → g.name ≡ f.name → g.params ≡ f.params → g.ret ≡ f.ret → g.regs ≡ f.regs → g.blocks ≡ all_laid (number_at (starts_from 0 planned)) 0 planned → length g.blocks ≤ 2 ^ 64 → IsCountedFunc f g
 counted_by f g known is planned fits plan name params ret regs blocks few = record {
   name = name;
   params = params;

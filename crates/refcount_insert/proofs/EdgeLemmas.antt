@@ -17,10 +17,10 @@ use Rattle.liveness.proofs.RowLemmas.{or_cases, or_left, or_right}
 use Rattle.refcount_insert_rule.specs.Rule.{given_up, AreUnsure, IsEdge}
 use Rattle.refcount_insert_rule.specs.Counted.{counts_register, Tables, owned, IsEdgeTo, AreEdgesTo}
 use Rattle.refcount_insert.specs.declared.counts.Counts.{Counts}
-use Rattle.refcount_insert.specs.declared.known.Known.{Known}
+use Rattle.refcount_insert.specs.declared.known.KnownRegisters.{KnownRegisters}
 use Rattle.refcount_insert.specs.Known.{IsKnown, owned_at, held_at, entered}
 use Rattle.refcount_insert.specs.Counts.{many, AreOnce, AreEach, short_on, over_on, AreEdgeCounts}
-use Rattle.refcount_insert.specs.Plan.{is_ahead}
+use Rattle.refcount_insert.specs.Plan.{is_read_again}
 use Rattle.refcount_insert.specs.Layout.{are_none, is_none, room, edge_to, edge_block, edge_ops}
 use Rattle.refcount_insert.proofs.Times.{many_if}
 use Rattle.refcount_insert.proofs.Laying.{own_count}
@@ -109,7 +109,7 @@ second_target t u = or_right (nat_eq t u) (nat_eq u u || false) (ap (λ z. z || 
 
 -- ---- what is read again
 
-module _ (f : Func) (known : Known) (is : IsKnown f known) where
+module _ (f : Func) (known : KnownRegisters) (is : IsKnown f known) where
   -- what is told of a block's start
   pub enters : (t : ℕ) (i : Item) → item_in f.blocks t 0 ≡ Some i → (r : ℕ) → entered known f.regs t r ≡ owned_at known f.regs t 0 r
   enters t i there r =
@@ -167,7 +167,7 @@ module _ (f : Func) (known : Known) (is : IsKnown f known) where
     λ live. ⊎_elim (λ e. let f : false ≡ true = e in absurd (cc)) (λ h. (is.starts t r lt).1 (subst (λ z. LiveAt f r z 0) (sym (one_target t h.0 h.1)) h.2)) (live_at_end f r b p (Goto t) here live),
   )
 
-  pub ahead_of_test : (b p t u : ℕ) (x : Reg) (last : Last) → targets last ≡ t ∷ u ∷ [] → reads_of_last last ≡ x.0 ∷ [] → item_in f.blocks b p ≡ Some (End last) → (r : ℕ) → r < length f.regs → (is_ahead known.live x t u r ≡ true) ↔ LiveAt f r b p
+  pub ahead_of_test : (b p t u : ℕ) (x : Reg) (last : Last) → targets last ≡ t ∷ u ∷ [] → reads_of_last last ≡ x.0 ∷ [] → item_in f.blocks b p ≡ Some (End last) → (r : ℕ) → r < length f.regs → (is_read_again known.live x t u r ≡ true) ↔ LiveAt f r b p
   ahead_of_test b p t u x last to reads_it here r lt =
       let at_t = is_among (starts_of known.live t) r in
       let at_u = is_among (starts_of known.live u) r in

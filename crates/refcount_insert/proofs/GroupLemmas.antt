@@ -22,7 +22,7 @@ use Rattle.liveness.proofs.PathLemmas.{item_block}
 use Rattle.refcount_insert_rule.specs.Rule.{is_counted, is_stolen, takes_one, taken, takes, gives, need, counts_before, done, counts_after, IsGroup}
 use Rattle.refcount_insert_rule.specs.Counted.{counts_register}
 use Rattle.refcount_insert.specs.declared.counts.Counts.{Counts}
-use Rattle.refcount_insert.specs.declared.known.Known.{Known}
+use Rattle.refcount_insert.specs.declared.known.KnownRegisters.{KnownRegisters}
 use Rattle.refcount_insert.specs.Known.{IsKnown, owned_at}
 use Rattle.refcount_insert.specs.Counts.{AreOf, is_touched}
 use Rattle.refcount_insert.specs.Plan.{IsCountedOp}
@@ -101,7 +101,7 @@ next_item blocks b p o e =
     let next = next_in there.0.ops there.0.last p o (ap (λ z. item_of z p) (sym there.1) ∙ e) in
     (next.0, ap (λ z. item_of z (suc p)) there.1 ∙ next.1)
 
-module _ (f : Func) (known : Known) (is : IsKnown f known) where
+module _ (f : Func) (known : KnownRegisters) (is : IsKnown f known) where
   untouched : (b p : ℕ) (o : Op) (r : ℕ) → item_in f.blocks b p ≡ Some (Do o) → is_among (reads_of o) r ≡ false → is_target (write_of o) r ≡ false → owned_at known f.regs b p r ≡ owned_at known f.regs b (suc p) r
   untouched b p o r here no_read no_write =
       ⊎_elim
@@ -144,7 +144,7 @@ of_all is k rs each off r = each r ∙ which (is r) refl
     which true e = refl
     which false e = sym (off r e)
 
-pub group_is : (f : Func) (known : Known) (is : IsKnown f known) (b p : ℕ) (o : Op × ℕ) (group : List (Op × ℕ)) → item_in f.blocks b p ≡ Some (Do o.0) → IsCountedOp known f.regs (owned_at known f.regs b p) (owned_at known f.regs b (suc p)) o group → IsGroup (counts_register f.regs) o (owned_at known f.regs b p) (owned_at known f.regs b (suc p)) group
+pub group_is : (f : Func) (known : KnownRegisters) (is : IsKnown f known) (b p : ℕ) (o : Op × ℕ) (group : List (Op × ℕ)) → item_in f.blocks b p ≡ Some (Do o.0) → IsCountedOp known f.regs (owned_at known f.regs b p) (owned_at known f.regs b (suc p)) o group → IsGroup (counts_register f.regs) o (owned_at known f.regs b p) (owned_at known f.regs b (suc p)) group
 group_is f known is b p o group here counted =
     let c : Counts = counted.0 in
     let have = owned_at known f.regs b p in

@@ -13,7 +13,7 @@ use Rattle.ir_core.specs.Shape.{FuncFits, FuncsFit}
 use Rattle.liveness.proofs.InverseLemmas.{take_next}
 use Rattle.refcount_insert_rule.specs.Counted.{IsCountedFunc, AreCounted}
 use Rattle.refcount_insert.specs.declared.counts.Counts.{Counts}
-use Rattle.refcount_insert.specs.declared.known.Known.{Known}
+use Rattle.refcount_insert.specs.declared.known.KnownRegisters.{KnownRegisters}
 use Rattle.refcount_insert.specs.declared.plan.Planned.{Planned}
 use Rattle.refcount_insert.specs.Plan.{IsCountedOp, AreCountedOps, IsPlanned, ArePlanned}
 use Rattle.refcount_insert.specs.Layout.{is_none, room, rooms, size_of, edge_block, edge_blocks, edge_ops, laid, all_laid}
@@ -58,7 +58,7 @@ laid_more number p ps rest old new all is made so_far =
     ∙ ap (λ l. old ++ all_laid number (length old) l) (sym is)
     ∙ so_far
 
-module _ (known : Known) (regs : Declared) where
+module _ (known : KnownRegisters) (regs : Declared) where
   counted_more : (at : ℕ → ℕ → ℕ) (os ops g : List (Op × ℕ)) (o : Op × ℕ) → AreCountedOps known regs at os ops → IsCountedOp known regs (at (length os)) (at (suc (length os))) o g → AreCountedOps known regs at (os ++ o ∷ []) (ops ++ g)
   counted_more at [] ops g o is one = (g, [], ap (λ z. z ++ g) is ∙ sym (append-nil g), one, refl)
   counted_more at (x ∷ os) ops g o is one =

@@ -88,9 +88,6 @@ each_step k all i n rs new lt each is pushed =
     let e : suc i ≡ i + 1 = omega arith in
     subst (AreEach k (take (i + 1) all)) (sym pushed) (subst (λ z. AreEach k z (rs ++ replicate n (get_or all i 0))) (sym (take-suc all i 0 lt) ∙ ap (λ z. take z all) e) (each_more k (take i all) rs (get_or all i 0) n each is))
 
-pub each_none : (k : ℕ → ℕ) → AreEach k [] []
-each_none k r = refl
-
 -- of what stands there once, each as often as a function says
 pub each_of : (is : ℕ → Bool) (k : ℕ → ℕ) (all rs : List ℕ) → AreOnce is all → AreEach k all rs → AreOf is k rs
 each_of is k all rs once each r = each r ∙ ap (λ z. many z (k r)) (once r) ∙ many_if (is r) (k r)
@@ -155,9 +152,6 @@ once_old is now all x more on once r =
 pub once_put : (is now : ℕ → Bool) (all : List ℕ) (x : ℕ) (b : Bool) → ((r : ℕ) → now r ≡ (is r || nat_eq x r)) → is x ≡ b → AreOnce is all → AreOnce now (cond b all (all ++ x ∷ []))
 once_put is now all x true more on once = once_old is now all x more on once
 once_put is now all x false more off once = once_new is now all x more off once
-
-pub once_none : AreOnce (λ r. false) []
-once_none r = refl
 
 pub once_one : (x : ℕ) → AreOnce (nat_eq x) (x ∷ [])
 once_one x r = let h = same_is x r in omega (arith, h)

@@ -6,15 +6,15 @@ use Rattle.c_core_ownership_laws.specs.Shares.{one_if}
 use Rattle.liveness.specs.Paths.{is_among}
 use Rattle.liveness.specs.Liveness.{says_live, starts_of, says_borrowed, IsLiveTable, AreStarts, IsBorrowTable}
 use Rattle.refcount_insert_rule.specs.Counted.{counts_register}
-use Rattle.refcount_insert.specs.declared.known.Known.{Known}
+use Rattle.refcount_insert.specs.declared.known.KnownRegisters.{KnownRegisters}
 
 -- the tables are those of the function
-pub record IsKnown (f : Func) (known : Known) : Type 0 where
+pub record IsKnown (f : Func) (known : KnownRegisters) : Type 0 where
   pub live : IsLiveTable f known.live
   pub starts : AreStarts f known.live
   pub lent : IsBorrowTable f known.lent
 
-module _ (known : Known) (regs : Declared) where
+module _ (known : KnownRegisters) (regs : Declared) where
   -- one where it is counted, read again and not only lent
   abbrev pub owned_at : ℕ → ℕ → ℕ → ℕ
   owned_at b p r = one_if (counts_register regs r && (says_live known.live b p r && not (says_borrowed known.lent b p r)))

@@ -5,10 +5,10 @@ ghost use Rattle.liveness.specs.Liveness.{starts_of};
 ghost use Rattle.refcount_insert_rule.specs.Counted.{counts_register};
 ghost use Rattle.refcount_insert.specs.Known.{owned_at, held_at, entered};
 ghost use Rattle.refcount_insert.specs.Counts.{AreOnce, short_on, over_on, AreEdgeCounts};
-ghost use Rattle.refcount_insert.specs.Plan.{is_ahead, AreEndCounts, AreTestCounts};
+ghost use Rattle.refcount_insert.specs.Plan.{is_read_again, AreEndCounts, AreTestCounts};
 
 use crate::counts::{Counts, no_counts, push_downs, push_ups};
-use crate::known::{Known, counts};
+use crate::known::{KnownRegisters, counts};
 use crate::operands::{is_target, push_new};
 use ir_core::{Last, RType, Reg};
 use liveness::LiveTable;
@@ -24,7 +24,7 @@ fn is_at_either(live: &LiveTable, x: Reg, a: usize, b: usize) -> bool
 
 /// The registers that are read again at the end of a block, where it tests a register and goes to two blocks, each once.
 fn ahead(alloc: Global, live: &LiveTable, x: Reg, a: usize, b: usize) -> Result<Vec<usize>, Memory>
-    ensures { IfOk result (λ all. AreOnce (is_ahead live.now x a b) all.items) }
+    ensures { IfOk result (λ all. AreOnce (is_read_again live.now x a b) all.items) }
 {
     let mut all = Vec::from_slice(alloc, live.at_start(a))?;
     for r in live.at_start(b) {
@@ -38,7 +38,7 @@ fn ahead(alloc: Global, live: &LiveTable, x: Reg, a: usize, b: usize) -> Result<
 /// does not matter.
 fn difference(
     regs: &[(Name, RType)],
-    known: &Known,
+    known: &KnownRegisters,
     b: usize,
     p: usize,
     skip: Option<usize>,
@@ -60,7 +60,7 @@ fn difference(
 fn edge_counts(
     alloc: Global,
     regs: &[(Name, RType)],
-    known: &Known,
+    known: &KnownRegisters,
     b: usize,
     p: usize,
     all: &[usize],
@@ -83,7 +83,7 @@ fn edge_counts(
 }
 
 /// How often what is returned is short.
-fn return_short(regs: &[(Name, RType)], known: &Known, b: usize, p: usize, x: usize) -> usize
+fn return_short(regs: &[(Name, RType)], known: &KnownRegisters, b: usize, p: usize, x: usize) -> usize
     ensures { result ≡ cond (counts_register regs.now x) (1 - owned_at known.now regs.now b p x) 0 }
 {
     if counts(regs, x) {
@@ -97,7 +97,7 @@ fn return_short(regs: &[(Name, RType)], known: &Known, b: usize, p: usize, x: us
 fn return_counts(
     alloc: Global,
     regs: &[(Name, RType)],
-    known: &Known,
+    known: &KnownRegisters,
     b: usize,
     p: usize,
     x: Reg,
@@ -116,7 +116,7 @@ fn return_counts(
 fn goto_counts(
     alloc: Global,
     regs: &[(Name, RType)],
-    known: &Known,
+    known: &KnownRegisters,
     b: usize,
     p: usize,
     t: usize,
@@ -131,7 +131,7 @@ fn goto_counts(
 pub(crate) fn end_counts(
     alloc: Global,
     regs: &[(Name, RType)],
-    known: &Known,
+    known: &KnownRegisters,
     b: usize,
     p: usize,
     last: Last,
@@ -148,7 +148,7 @@ pub(crate) fn end_counts(
 fn two_edges(
     alloc: Global,
     regs: &[(Name, RType)],
-    known: &Known,
+    known: &KnownRegisters,
     b: usize,
     p: usize,
     x: Reg,
@@ -156,7 +156,7 @@ fn two_edges(
     first: usize,
     second: usize,
 ) -> Result<(Counts, Counts), Memory>
-    ensures { IfOk result (λ c. (all : List ℕ) × AreOnce (is_ahead known.now.live x first second) all × AreEdgeCounts all skip (held_at known.now regs.now b p) (entered known.now regs.now first) c.0 × AreEdgeCounts all None (held_at known.now regs.now b p) (entered known.now regs.now second) c.1) }
+    ensures { IfOk result (λ c. (all : List ℕ) × AreOnce (is_read_again known.now.live x first second) all × AreEdgeCounts all skip (held_at known.now regs.now b p) (entered known.now regs.now first) c.0 × AreEdgeCounts all None (held_at known.now regs.now b p) (entered known.now regs.now second) c.1) }
 {
     let all = ahead(alloc, &known.live, x, first, second)?;
     let one = edge_counts(alloc, regs, known, b, p, &all, skip, first)?;
@@ -168,7 +168,7 @@ fn two_edges(
 pub(crate) fn test_counts(
     alloc: Global,
     regs: &[(Name, RType)],
-    known: &Known,
+    known: &KnownRegisters,
     b: usize,
     p: usize,
     last: Last,

@@ -4,7 +4,7 @@ ghost use Rattle.ir_core.specs.declared.code.Program.{Program as ProgramItem};
 ghost use Rattle.ir_core.specs.Lower as spec;
 ghost use Rattle.ir_core.specs.Runs.{Fit};
 ghost use Rattle.ir_core.specs.Shape.{Shape, FuncFits, FuncsFit};
-ghost use Rattle.refcount_insert.specs.declared.known.Known.{Known as KnownItem};
+ghost use Rattle.refcount_insert.specs.declared.known.KnownRegisters.{KnownRegisters as KnownItem};
 ghost use Rattle.refcount_insert.specs.declared.plan.Planned.{Planned as PlannedItem};
 ghost use Rattle.refcount_insert.specs.Known.{IsKnown};
 ghost use Rattle.refcount_insert.specs.Plan.{ArePlanned};

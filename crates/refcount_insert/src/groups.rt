@@ -8,7 +8,7 @@ ghost use Rattle.refcount_insert.specs.Known.{owned_at};
 ghost use Rattle.refcount_insert.specs.Counts.{AreEach, AreGroupCounts};
 
 use crate::counts::{Counts, push_downs, push_ups};
-use crate::known::{Known, counts};
+use crate::known::{KnownRegisters, counts};
 use crate::operands::{gives, is_target, taken, times, touched};
 use ir_core::{Op, RType};
 use liveness::register_written;
@@ -19,7 +19,7 @@ use value_core::{Many, Memory, Name};
 /// the register has.
 fn count_before(
     regs: &[(Name, RType)],
-    known: &Known,
+    known: &KnownRegisters,
     b: usize,
     p: usize,
     op: &Op,
@@ -44,7 +44,7 @@ fn count_before(
 /// How often a register is given up behind an operation: what it has then, but for what is to be there.
 fn count_after(
     regs: &[(Name, RType)],
-    known: &Known,
+    known: &KnownRegisters,
     b: usize,
     p: usize,
     op: &Op,
@@ -72,7 +72,7 @@ fn count_after(
 fn group_ups(
     alloc: Global,
     regs: &[(Name, RType)],
-    known: &Known,
+    known: &KnownRegisters,
     b: usize,
     p: usize,
     op: &Op,
@@ -95,7 +95,7 @@ fn group_ups(
 fn group_downs(
     alloc: Global,
     regs: &[(Name, RType)],
-    known: &Known,
+    known: &KnownRegisters,
     b: usize,
     p: usize,
     op: &Op,
@@ -120,7 +120,7 @@ fn group_downs(
 pub(crate) fn group_counts(
     alloc: Global,
     regs: &[(Name, RType)],
-    known: &Known,
+    known: &KnownRegisters,
     b: usize,
     p: usize,
     op: &Op,

@@ -11,18 +11,18 @@ use value_core::{Memory, Name};
 
 /// What is known of the registers of a function at each place.
 #[derive(Drop)]
-pub(crate) struct Known {
+pub(crate) struct KnownRegisters {
     pub live: LiveTable,
     pub lent: BorrowTable,
 }
 
 /// What is known of a function.
-pub(crate) fn known_of(alloc: Global, f: &Func) -> Result<Known, Memory>
+pub(crate) fn known_of(alloc: Global, f: &Func) -> Result<KnownRegisters, Memory>
     ensures { IfOk result (λ known. IsKnown f.now known) }
 {
     let live = live(alloc, f)?;
     let lent = borrowed(alloc, f)?;
-    Ok(Known { live, lent })
+    Ok(KnownRegisters { live, lent })
 }
 
 fn is_counted(t: RType) -> bool
@@ -44,7 +44,7 @@ pub(crate) fn counts(regs: &[(Name, RType)], r: usize) -> bool
     }
 }
 
-impl Known {
+impl KnownRegisters {
     /// How many references a frame owns through a register at a place of a block.
     pub(crate) fn owned(&self, regs: &[(Name, RType)], b: usize, p: usize, r: usize) -> usize
         ensures value { result ≡ owned_at self.now regs.now b p r }

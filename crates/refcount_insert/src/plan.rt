@@ -9,7 +9,7 @@ use crate::copies::copy_op;
 use crate::counts::{Counts, lay_downs, lay_edge, lay_ups};
 use crate::edges::{end_counts, test_counts};
 use crate::groups::group_counts;
-use crate::known::Known;
+use crate::known::KnownRegisters;
 use ir_core::{Block, Last, Op, RType};
 use std::alloc::Global;
 use value_core::{Many, Memory, Name};
@@ -29,7 +29,7 @@ fn lay_group(
     alloc: Global,
     done: &mut Vec<(Op, usize)>,
     regs: &[(Name, RType)],
-    known: &Known,
+    known: &KnownRegisters,
     b: usize,
     p: usize,
     op: &(Op, usize),
@@ -47,7 +47,7 @@ fn lay_group(
 fn counted_ops(
     alloc: Global,
     regs: &[(Name, RType)],
-    known: &Known,
+    known: &KnownRegisters,
     b: usize,
     ops: &[(Op, usize)],
 ) -> Result<Vec<(Op, usize)>, Memory>
@@ -85,7 +85,7 @@ fn size_before(b: usize, count: usize, last: Last) -> usize
 fn planned_body(
     alloc: Global,
     regs: &[(Name, RType)],
-    known: &Known,
+    known: &KnownRegisters,
     b: usize,
     ops: &[(Op, usize)],
     last: Last,
@@ -103,7 +103,7 @@ fn planned_body(
 fn planned_block(
     alloc: Global,
     regs: &[(Name, RType)],
-    known: &Known,
+    known: &KnownRegisters,
     b: usize,
     block: &Block,
 ) -> Result<Planned, Memory>
@@ -123,7 +123,7 @@ fn planned_block(
 pub(crate) fn plan(
     alloc: Global,
     regs: &[(Name, RType)],
-    known: &Known,
+    known: &KnownRegisters,
     blocks: &[Block],
 ) -> Result<Vec<Planned>, Memory>
     ensures { IfOk result (λ all. ArePlanned known.now regs.now 0 blocks.now all.items) }

@@ -38,6 +38,7 @@ use Rattle.ir_core.specs.Effects as program
 use Rattle.ir_core.specs.Meaning.{Frame, Waiting, Config, Runs, Ended, Stuck, Fitting, next, goes, argument, arguments, is_lost, may_stand, registers_of, applied, do_op}
 use Rattle.ir_core.specs.Meaning as meaning
 use Rattle.ir_core.specs.Lower.{kind_of_type, variable_of, argument_in, number_of, literal_in, line_of}
+use Rattle.ir_core.proofs.RowLemmas.{primitive_found}
 use Rattle.refcount_insert_lines_laws.specs.Matching.{Fits, short, big, native, char_true, char_false, none, object_true, object_false, text, exception, PendingFits, HasHeads, RunsIn}
 use Rattle.refcount_insert_lines_laws.specs.Lines.{stays, OpDoes, op_sticks, op_goes, op_ends, OpsDo}
 use Rattle.refcount_insert_lines_laws.proofs.Growing.{same_grows, globals_grow, pending_grows}
@@ -48,7 +49,7 @@ use Rattle.refcount_insert_lines_laws.proofs.Agreeing.{Agrees, IsTarget, sticks,
 use Rattle.refcount_insert_lines_laws.proofs.Rows.{answer_of, is_global, agree}
 use Rattle.refcount_insert_lines_laws.proofs.Refusing.{refused}
 use Rattle.refcount_insert_lines_laws.proofs.Globals.{the_global, kind_is_there, get_row, clear_row, set_row}
-use Rattle.refcount_insert_lines_laws.proofs.RowFacts.{named, read_row, has_kinds, target_is, one_global, global_and_stolen}
+use Rattle.refcount_insert_lines_laws.proofs.RowFacts.{read_row, has_kinds, target_is, one_global, global_and_stolen}
 
 module _ (p : Program) (code : Code) (heads : HasHeads p code) (formed : WellFormed code) (f : Frame) (below : List Waiting) (w : World) (s : MachineState) (a : RunsIn p f w s) where
   abbrev D : Next → Config → Type 0
@@ -162,7 +163,7 @@ module _ (p : Program) (code : Code) (heads : HasHeads p code) (formed : WellFor
     -- the row fits
     row_here : row_fits code (map variable_of a.func.regs) into cargs (row_of q) ≡ true
     row_here =
-        subst (λ z. call_fits code (map variable_of a.func.regs) into cargs z (function_named code.funcs (row_of q).name) ≡ true) (named q) (fits_here p code heads f w s a formed (line_of p (Prim to q args)) is)
+        subst (λ z. call_fits code (map variable_of a.func.regs) into cargs z (function_named code.funcs (row_of q).name) ≡ true) (primitive_found q) (fits_here p code heads f w s a formed (line_of p (Prim to q args)) is)
 
     parts : (args_fit code (map variable_of a.func.regs) cargs (row_of q).parameters cargs ≡ true) × (target_fits code (map variable_of a.func.regs) cargs (row_of q).outcome into ≡ true)
     parts =
@@ -183,7 +184,7 @@ module _ (p : Program) (code : Code) (heads : HasHeads p code) (formed : WellFor
 
     called : D (if_arguments false s code (row_of q).parameters cargs [] s.top.ledger by_text) (meaning.if_some (arguments declared f.regs args) by_program) → Called
     called h =
-        by_both _ _ _ _ (ap (call_step false s code into (row_of q).name cargs) (named q)) refl (stands_by q _ _ h (row_of q).while_pending refl w.pending refl s.pending refl a.world.pending)
+        by_both _ _ _ _ (ap (call_step false s code into (row_of q).name cargs) (primitive_found q)) refl (stands_by q _ _ h (row_of q).while_pending refl w.pending refl s.pending refl a.world.pending)
 
     -- a row that is read as every other
     by_row : (o : Option RType) → IsTarget a.func.regs o to → are_read (row_of q).parameters ≡ true → ((vs : List Argument) (ys : List machines.Argument) → AllMeet s code (row_of q).parameters vs ys → Agrees p w s o (program.effect p q vs w) (steps.effect code s q ys)) → Called

@@ -1,4 +1,4 @@
--- The rows of the primitives: each is found by its name, and all but those of globals say themselves of which kinds their variables are.
+-- The rows of the primitives: all but those of globals say themselves of which kinds their variables are.
 use Rattle.std.proofs.Common.{◌≡◌, refl, sym, ap, subst, Bool, true, false, ◌&&◌, List, [], ◌∷◌, Option, Some, None}
 use Rattle.std.specs.Prelude.{ℕ, map, is_some}
 use Rattle.std.specs.Option.{option_map}
@@ -10,11 +10,10 @@ use Rattle.c_core.specs.declared.primitive.Int64Prim.TheVariants as int64
 use Rattle.c_core.specs.declared.primitive.TaggedPrim.TheVariants as tagged
 use Rattle.c_core.specs.declared.primitive.BoolPrim.TheVariants as bool
 use Rattle.c_core.specs.declared.primitive.StrPrim.TheVariants as str
-use Rattle.c_core.specs.declared.primitive.GlobalPrim.TheVariants as global
 use Rattle.c_core.specs.declared.primitive.ExcPrim.TheVariants as exc
 use Rattle.c_core.specs.declared.primitive.ErrPrim.TheVariants as err
 use Rattle.c_core.specs.declared.primitive.IoPrim.TheVariants as io
-use Rattle.c_core.specs.Primitives.{Is, OfGlobal, OfSlot, Anything, Steals, TakesGlobal, Outcome, Nothing, Owned, Row, row_of, primitive_named}
+use Rattle.c_core.specs.Primitives.{Is, OfGlobal, OfSlot, Anything, Steals, TakesGlobal, Outcome, Nothing, Owned, Row, row_of}
 use Rattle.c_core.specs.Arguments.{kind_of_global}
 use Rattle.c_core.specs.WellFormed.{has_kind, kind_at, kind_fits, args_fit, target_fits}
 use Rattle.c_core.proofs.Lines.{and_true}
@@ -27,58 +26,6 @@ use Rattle.refcount_insert_lines_laws.proofs.Facts.{has_type, type_in, kind_in_t
 use Rattle.refcount_insert_lines_laws.proofs.Reading.{are_read}
 use Rattle.refcount_insert_lines_laws.proofs.Agreeing.{IsTarget}
 use Rattle.refcount_insert_lines_laws.proofs.Rows.{answer_of, is_global}
-
-pub named : (q : Primitive) → primitive_named (row_of q).name ≡ Some q
-named (prim.Int64 int64.Add) = refl
-named (prim.Int64 int64.Subtract) = refl
-named (prim.Int64 int64.Multiply) = refl
-named (prim.Int64 int64.Negate) = refl
-named (prim.Int64 int64.FloorDivide) = refl
-named (prim.Int64 int64.Remainder) = refl
-named (prim.Int64 int64.Lshift) = refl
-named (prim.Int64 int64.Rshift) = refl
-named (prim.Int64 int64.FromBool) = refl
-named (prim.Int64 int64.Eq) = refl
-named (prim.Int64 int64.Lt) = refl
-named (prim.Int64 int64.Le) = refl
-named (prim.Int64 int64.Str) = refl
-named (prim.Tagged tagged.Add) = refl
-named (prim.Tagged tagged.Subtract) = refl
-named (prim.Tagged tagged.Multiply) = refl
-named (prim.Tagged tagged.Negate) = refl
-named (prim.Tagged tagged.FloorDivide) = refl
-named (prim.Tagged tagged.Remainder) = refl
-named (prim.Tagged tagged.Lshift) = refl
-named (prim.Tagged tagged.Rshift) = refl
-named (prim.Tagged tagged.FromText) = refl
-named (prim.Tagged tagged.FromInt64) = refl
-named (prim.Tagged tagged.FromBool) = refl
-named (prim.Tagged tagged.AsInt64) = refl
-named (prim.Tagged tagged.Eq) = refl
-named (prim.Tagged tagged.Lt) = refl
-named (prim.Tagged tagged.Le) = refl
-named (prim.Tagged tagged.Str) = refl
-named (prim.Bool bool.Not) = refl
-named (prim.Bool bool.Str) = refl
-named (prim.Str str.Literal) = refl
-named (prim.Str str.Concat) = refl
-named (prim.Str str.Eq) = refl
-named (prim.Str str.Lt) = refl
-named (prim.Str str.Le) = refl
-named (prim.Str str.Len) = refl
-named (prim.Str str.GetItem) = refl
-named (prim.Global global.Get) = refl
-named (prim.Global global.Set) = refl
-named (prim.Global global.Clear) = refl
-named (prim.Exc exc.New) = refl
-named (prim.Exc exc.Str) = refl
-named (prim.Err err.SetObject) = refl
-named (prim.Err err.Unbound) = refl
-named (prim.Err err.Occurred) = refl
-named (prim.Err err.Matches) = refl
-named (prim.Err err.Catch) = refl
-named (prim.Io io.Write) = refl
-named (prim.Io io.Input) = refl
 
 -- a row that is read as every other
 abbrev pub has_kinds : Outcome → Bool

@@ -12,6 +12,7 @@ use Rattle.ir_core.specs.declared.code.Block.{Block}
 use Rattle.ir_core.specs.declared.code.Func.{Func}
 use Rattle.ir_core.specs.declared.code.Program.{Program}
 use Rattle.ir_core.specs.Lower.{line_of, op_lines, label_before, label_of, end_lines, block_lines, lines_from}
+use Rattle.ir_core.proofs.LowerLemmas.{place_of}
 use Rattle.c_core_ownership_laws.specs.Shares.{Shares, Checks}
 use Rattle.refcount_insert_rule.specs.Counted.{Tables, owned, AreGroups}
 use Rattle.refcount_insert_order_laws.specs.Places.{operations_before, IsFront}
@@ -19,12 +20,6 @@ use Rattle.refcount_insert_order_laws.proofs.Equations.{at}
 use Rattle.refcount_insert_order_laws.proofs.Trails.{at_place, head, head_append, Leads, leads_append, leads_size, Trail, trail, unknown}
 use Rattle.refcount_insert_order_laws.proofs.Bodies.{drop_behind}
 use Rattle.refcount_insert_order_laws.proofs.Ends.{Starts, Never}
-
--- the place of block j of blocks, and its number where the first has number n
-abbrev pub place_of : Program → ℕ → List Block → ℕ → ℕ
-place_of q n bs zero = 0
-place_of q n [] (suc j) = 0
-place_of q n (b ∷ bs) (suc j) = length (block_lines q n b) + place_of q (suc n) bs j
 
 module _ (q : Program) (code : Code) (g : CFunc) (start : ℕ → Option Shares) where
   -- the lines of one block, which starts with these shares, if any

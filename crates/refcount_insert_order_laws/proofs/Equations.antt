@@ -12,7 +12,7 @@ use Rattle.ir_core.specs.declared.code.Reg.{Reg}
 use Rattle.ir_core.specs.declared.code.Op.{Op}
 use Rattle.ir_core.specs.declared.code.Op.TheVariants.{Move, Lit, Prim, Call, Virtual, TraitCall, Turn, Inc, Dec, XDec}
 use Rattle.ir_core.specs.declared.code.Last.{Last}
-use Rattle.ir_core.specs.declared.code.Last.TheVariants.{Return, Unreachable}
+use Rattle.ir_core.specs.declared.code.Last.TheVariants.{Return}
 use Rattle.ir_core.specs.declared.code.Block.{Block}
 use Rattle.ir_core.specs.declared.code.Func.{Func}
 use Rattle.ir_core.specs.Items.{Item, Do, End, in_block, item_of, item_in}
@@ -186,10 +186,6 @@ module _ (f : Func) where
       let none : None ≡ Some t = ap (λ z. slice_get (targets z) j) (sym same) ∙ there in
       absurd (cc)
     where
-      last_of : Item → Last
-      last_of (End l) = l
-      last_of (Do o) = Unreachable
-
       same_end : {l m : Last} → End l ≡ End m → l ≡ m
       same_end h = cc
 
@@ -204,9 +200,6 @@ module _ (f : Func) where
     -- the shares of a place
     abbrev pub at : ℕ → ℕ → Shares
     at b p = record { owns = owned f t b p; lent = lent_at b p }
-
-    within : (r : ℕ) → is_declared (map variable_of f.regs) r ≡ true → r < length f.regs
-    within r e = ltb-true r (length f.regs) (ap (nat_lt r) (sym (as_many f.regs)) ∙ e)
 
     lent_is : (b p r : ℕ) → r < length f.regs → lent_at b p r ≡ t.lent b p r
     lent_is b p r lt = ap (λ c. c && t.lent b p r) (lt-ltb r (length f.regs) lt)

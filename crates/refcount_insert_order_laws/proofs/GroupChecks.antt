@@ -23,6 +23,7 @@ use Rattle.ir_core.specs.declared.code.Op.TheVariants.{Move, Lit, Prim, Call, Vi
 use Rattle.ir_core.specs.declared.code.Program.{Program}
 use Rattle.ir_core.specs.Lower.{line_of, op_lines, argument_in, number_of, register_in, literal_in, called_as}
 use Rattle.ir_core.specs.Shape.{is_target_of, is_apart, is_argument, is_register}
+use Rattle.ir_core.proofs.RowLemmas.{primitive_found}
 use Rattle.c_core_ownership_laws.specs.Shares.{put, one_if, Shares, with_owns, with_share, may_refer, may_have_cells, IsLent, IsUsable, left_over, IsTarget, IsFree, with_answer, answers_cells, returns_cells, callee_named, HasTarget, LineChecks, PrimitiveChecks, CallChecks}
 use Rattle.liveness.specs.Paths.{is_among, reads_of, write_of, is_target, registers_in}
 use Rattle.liveness.specs.Paths as path
@@ -30,7 +31,7 @@ use Rattle.refcount_insert_rule.specs.Rule.{taken, takes, gives, counts_before, 
 use Rattle.refcount_insert_order_laws.proofs.Numbers.{same_is, put-less, either, same_self, not_true}
 use Rattle.refcount_insert_order_laws.proofs.Counts.{lines_append, Fine, ups_check}
 use Rattle.refcount_insert_order_laws.proofs.Variables.{same_kinds_are, is_within, reads_declared}
-use Rattle.refcount_insert_order_laws.proofs.NamedRows.{named, HasNoSlot, no_slot, none_called}
+use Rattle.refcount_insert_order_laws.proofs.NamedRows.{HasNoSlot, no_slot, none_called}
 use Rattle.refcount_insert_order_laws.proofs.Groups.{Suits, IsFit, Up, usable_up, short_usable, enough, none_up, written, unwritten, free, clear_least}
 use Rattle.refcount_insert_order_laws.proofs.Operations.{left-over, given, usable_all, apart_args, apart_regs, answer_fits, called_fits}
 
@@ -131,9 +132,6 @@ module _ (p q : Program) (code old : Code) (g : CFunc) (counted : ℕ → Bool) 
         let end = by (row_of k).outcome to w both.0 both.1 spelled fits (no_slot k) in
         (given g.vars counted U (row_of k).parameters args U.owns (λ r e. here_usable r (ap (λ z. is_among z r) read ∙ e)) (λ r e. agree r (there r (ap (λ z. is_among z r) read ∙ e))) (λ r is. omega (arith, here_enough r is, taken_is r)), end.0, end.1, end.2, end.3)
       where
-        left : ℕ → ℕ
-        left = left_over g.vars (row_of k).parameters (map argument_in args) U.owns
-
         left_is : (r : ℕ) → left_over g.vars (row_of k).parameters (map argument_in args) U.owns r ≡ U.owns r - takes o r
         left_is r = left-over g.vars (row_of k).parameters args U.owns r ∙ ap (λ z. U.owns r - z) (sym (taken_is r))
 
@@ -160,9 +158,9 @@ module _ (p q : Program) (code old : Code) (g : CFunc) (counted : ℕ → Bool) 
       let cargs : List CArg = map argument_in args in
       let spelled = (and_true (spelled_target g.vars (option_map number_of to)) (is_call_name (row_of k).name && list_all (spelled_arg g.vars) cargs) is.spelled).0 in
       let row : call_fits old g.vars (option_map number_of to) cargs (Some k) (function_named old.funcs (row_of k).name) ≡ true =
-      ap (λ z. call_fits old g.vars (option_map number_of to) cargs z (function_named old.funcs (row_of k).name)) (sym (named k)) ∙ is.fits in
+      ap (λ z. call_fits old g.vars (option_map number_of to) cargs z (function_named old.funcs (row_of k).name)) (sym (primitive_found k)) ∙ is.fits in
       let fits = (and_true (args_fit old g.vars cargs (row_of k).parameters cargs) (target_fits old g.vars cargs (row_of k).outcome (option_map number_of to)) row).1 in
-      subst (λ z. CallChecks code g Enters (record σ { owns = λ r. σ.owns r + times up r }) (option_map number_of to) (row_of k).name cargs z (λ ρ. Good ρ (op_lines q (downs ds n) ++ ls))) (sym (named k))
+      subst (λ z. CallChecks code g Enters (record σ { owns = λ r. σ.owns r + times up r }) (option_map number_of to) (row_of k).name cargs z (λ ρ. Good ρ (op_lines q (downs ds n) ++ ls))) (sym (primitive_found k))
       (prim_check (Prim to k args) σ τ fit up ds before after n ls rest to k args refl refl (λ r. refl) (λ w. refl) (reads_declared g.vars p (Prim to k args) is.op is.spelled) is.op spelled fits)
   op_check (Call x m args) σ τ fit up ds before after n ls rest is =
       let cargs : List CArg = map register_in args in

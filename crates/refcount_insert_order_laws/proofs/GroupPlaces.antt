@@ -11,6 +11,7 @@ use Rattle.ir_core.specs.Items.{End, item_of}
 use Rattle.ir_core.specs.Lower.{op_lines, label_before, label_of, end_lines, block_lines, lines_from, name_in, lower}
 use Rattle.ir_core.specs.Lowered.{IsLabelled}
 use Rattle.ir_core.specs.Shape.{Shape}
+use Rattle.ir_core.proofs.LowerLemmas.{place_of, label_at}
 use Rattle.c_core_ownership_laws.specs.Shares.{Shares}
 use Rattle.c_core_ownership_laws.specs.Order.{from}
 use Rattle.liveness.specs.Paths.{targets, passes, fails, jumps, MetAt, entry, onward}
@@ -21,8 +22,8 @@ use Rattle.refcount_insert_order_laws.proofs.Equations.{at}
 use Rattle.refcount_insert_order_laws.proofs.MetBlocks.{Marks, marks}
 use Rattle.refcount_insert_order_laws.proofs.Trails.{at_place, head}
 use Rattle.refcount_insert_order_laws.proofs.Bodies.{text_of}
-use Rattle.refcount_insert_order_laws.proofs.Blocks.{place_of, Marked}
-use Rattle.refcount_insert_order_laws.proofs.Labels.{at_drop, drop_twice, label_at, block_at, from_behind}
+use Rattle.refcount_insert_order_laws.proofs.Blocks.{Marked}
+use Rattle.refcount_insert_order_laws.proofs.Labels.{at_drop, drop_twice, block_at, from_behind}
 use Rattle.refcount_insert_order_laws.proofs.Placing.{done, start}
 
 -- each block that is met has a mark

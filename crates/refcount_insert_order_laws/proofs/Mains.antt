@@ -16,7 +16,7 @@ use Rattle.ir_core.specs.Items.{Do, in_block, item_of, item_in}
 use Rattle.ir_core.specs.Lower.{op_lines, label_of, end_lines}
 use Rattle.ir_core.specs.Shape.{LastFits, ends_in_turn, is_turn}
 use Rattle.c_core_ownership_laws.specs.Shares.{Shares, Checks}
-use Rattle.refcount_insert_rule.specs.Counted.{counts_register, Tables, owned, AreGroups, AreAll, AreTurned, is_ahead, IsBody, IsLast}
+use Rattle.refcount_insert_rule.specs.Counted.{counts_register, Tables, owned, AreGroups, AreAll, AreTurned, IsBody, IsLast}
 use Rattle.refcount_insert_order_laws.specs.Places.{operations_before, IsFront}
 use Rattle.refcount_insert_order_laws.proofs.Counts.{lines_append}
 use Rattle.refcount_insert_order_laws.proofs.Variables.{agrees, reads_declared}
@@ -162,9 +162,6 @@ module _ (p q : Program) (f : Func) (t : Tables f) (number : ℕ → ℕ) (code 
         suit_all p old g (counts_register f.regs) (at f t b) before (λ i o there. suit_at i o (ap (λ z. slice_get z i) body.4 ∙ get_front before (turn ∷ []) i o there)) in
         behind_groups before body.2 (body.3 ++ turn ∷ []) tail next main j (inr (turn.1, body.4 ∙ ap (λ (z : Op). before ++ (z, turn.1) ∷ []) is_a_turn)) body.5 body.6 lines_are suit
         (subst (λ σ. Checks code g (Starts start) Never σ tail) alike (turned_check p q f t number code name lines start m known b k is marked to e turn is_a_turn body.3 body.7 higher lower))
-
-    abbrev IsUp : ℕ → List (Op × ℕ) → Type 0
-    IsUp to ops = cond (is_ahead f t number b to) (AreAll f t number (owned f t b) k.ops (Goto to) ops) (AreTurned f t number (owned f t b) k.ops to ops)
 
     pub main_of : (l : Last) → k.last ≡ l → (main : Block) (own : List Block) (first : ℕ) (next : Option Shares) (j : ℕ) → IsBody f t number b (owned f t b) k.ops l main.ops → (h : IsLast f t number (owned f t b (length k.ops)) l first main.last own) → 1 ≤ first → Begins p q f t number code name lines start m known b k is marked first (starts_of f t number b (length k.ops) l first main.last own h) → j ≡ number b → Main b k main j next
     main_of (Goto to) e main own first next j body h le begins is_number =

@@ -17,59 +17,6 @@ use Rattle.ir_core.specs.declared.code.Func.{Func}
 use Rattle.ir_core.specs.declared.code.Program.{Program}
 use Rattle.ir_core.specs.Lower.{call_name, called_as}
 
--- the row of a primitive is found by its name
-pub named : (q : Primitive) → primitive_named (row_of q).name ≡ Some q
-named (prim.Int64 int64.Add) = refl
-named (prim.Int64 int64.Subtract) = refl
-named (prim.Int64 int64.Multiply) = refl
-named (prim.Int64 int64.Negate) = refl
-named (prim.Int64 int64.FromBool) = refl
-named (prim.Int64 int64.Eq) = refl
-named (prim.Int64 int64.Lt) = refl
-named (prim.Int64 int64.Le) = refl
-named (prim.Int64 int64.Str) = refl
-named (prim.Bool bool.Not) = refl
-named (prim.Bool bool.Str) = refl
-named (prim.Str str.Literal) = refl
-named (prim.Int64 int64.FloorDivide) = refl
-named (prim.Int64 int64.Remainder) = refl
-named (prim.Int64 int64.Lshift) = refl
-named (prim.Int64 int64.Rshift) = refl
-named (prim.Global global.Get) = refl
-named (prim.Global global.Set) = refl
-named (prim.Global global.Clear) = refl
-named (prim.Exc exc.New) = refl
-named (prim.Exc exc.Str) = refl
-named (prim.Err err.SetObject) = refl
-named (prim.Err err.Unbound) = refl
-named (prim.Err err.Occurred) = refl
-named (prim.Err err.Matches) = refl
-named (prim.Err err.Catch) = refl
-named (prim.Tagged tagged.Add) = refl
-named (prim.Tagged tagged.Subtract) = refl
-named (prim.Tagged tagged.Multiply) = refl
-named (prim.Tagged tagged.Negate) = refl
-named (prim.Tagged tagged.FloorDivide) = refl
-named (prim.Tagged tagged.Remainder) = refl
-named (prim.Tagged tagged.Lshift) = refl
-named (prim.Tagged tagged.Rshift) = refl
-named (prim.Tagged tagged.FromText) = refl
-named (prim.Tagged tagged.FromInt64) = refl
-named (prim.Tagged tagged.FromBool) = refl
-named (prim.Tagged tagged.AsInt64) = refl
-named (prim.Tagged tagged.Eq) = refl
-named (prim.Tagged tagged.Lt) = refl
-named (prim.Tagged tagged.Le) = refl
-named (prim.Tagged tagged.Str) = refl
-named (prim.Str str.Concat) = refl
-named (prim.Str str.Eq) = refl
-named (prim.Str str.Lt) = refl
-named (prim.Str str.Le) = refl
-named (prim.Str str.Len) = refl
-named (prim.Str str.GetItem) = refl
-named (prim.Io io.Write) = refl
-named (prim.Io io.Input) = refl
-
 -- no primitive answers what an object holds
 abbrev pub HasNoSlot : Outcome → Type 0
 HasNoSlot (Owned OfSlot) = ⊥

@@ -1,6 +1,6 @@
 -- Functions of numbers that are changed at one place, lists of numbers, and the rule's numbers over plain variables.
 use Rattle.std.proofs.Common.{◌≡◌, refl, sym, ap, ◌∙◌, ℕ, zero, suc, ◌+◌, ◌-◌, ◌≤◌, ◌⊎◌, inl, inr, ⊎_elim, Bool, true, false, cond, arith}
-use Rattle.std.specs.Prelude.{nat_eq, ◌||◌, ◌&&◌, not}
+use Rattle.std.specs.Prelude.{nat_eq, ◌||◌, not}
 use Rattle.c_core.specs.Cells.{same}
 use Rattle.c_core_ownership_laws.specs.Shares.{put, one_if}
 use Rattle.liveness.proofs.RisingLemmas.{eq_tells}
@@ -72,17 +72,9 @@ pub or_none : (a b : Bool) → (a || b) ≡ false → (a ≡ false) × (b ≡ fa
 or_none true b e = absurd (cc)
 or_none false b e = (refl, e)
 
-pub and_none : (a b : Bool) → (a && b) ≡ false → (a ≡ false) ⊎ ((a ≡ true) × (b ≡ false))
-and_none true b e = inr (refl, e)
-and_none false b e = inl refl
-
 pub not_true : (a : Bool) → not a ≡ true → a ≡ false
 not_true true e = absurd (cc)
 not_true false e = refl
-
-pub not_false : (a : Bool) → not a ≡ false → a ≡ true
-not_false true e = refl
-not_false false e = absurd (cc)
 
 pub some_of : (a b : ℕ) → 1 ≤ a + b → (1 ≤ a) ⊎ (1 ≤ b)
 some_of zero b le = inr (omega (arith, le))

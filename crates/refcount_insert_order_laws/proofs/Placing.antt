@@ -10,6 +10,7 @@ use Rattle.ir_core.specs.declared.code.Func.{Func}
 use Rattle.ir_core.specs.declared.code.Program.{Program}
 use Rattle.ir_core.specs.Lower.{lines_from, name_in, lower}
 use Rattle.ir_core.specs.Shape.{Shape}
+use Rattle.ir_core.proofs.LowerLemmas.{place_of, label_at}
 use Rattle.c_core_ownership_laws.specs.Shares.{Shares, Within}
 use Rattle.c_core_ownership_laws.specs.Order.{Table, Entered, labels_of, IsPlaced}
 use Rattle.refcount_insert_rule.specs.Counted.{IsCountedFunc}
@@ -18,10 +19,10 @@ use Rattle.refcount_insert_order_laws.proofs.MetBlocks.{marks}
 use Rattle.refcount_insert_order_laws.proofs.Trails.{at_place, lead_at, line_map}
 use Rattle.refcount_insert_order_laws.proofs.Bodies.{text_of}
 use Rattle.refcount_insert_order_laws.proofs.Ends.{Starts}
-use Rattle.refcount_insert_order_laws.proofs.Blocks.{place_of, Blocks}
+use Rattle.refcount_insert_order_laws.proofs.Blocks.{Blocks}
 use Rattle.refcount_insert_order_laws.proofs.Starts.{if_met, starts, all_size, start_at, first_start}
 use Rattle.refcount_insert_order_laws.proofs.Functions.{Has, all_blocks}
-use Rattle.refcount_insert_order_laws.proofs.Labels.{at_drop, label_at}
+use Rattle.refcount_insert_order_laws.proofs.Labels.{at_drop}
 use Rattle.refcount_insert_order_laws.proofs.OldText.{has_block, block_facts, no_way_back}
 use Rattle.refcount_insert_order_laws.proofs.NewText.{alike}
 use Rattle.refcount_insert_rule.specs.Counted.{IsCountedProgram}

@@ -1,20 +1,17 @@
 -- The C text of a program with its counts is that of the program, but for the lines of its functions.
-use Rattle.std.proofs.Common.{◌≡◌, refl, ◌∙◌, ap, ℕ, zero, suc, cond, List, [], ◌∷◌, ◌++◌, length, map, Some}
+use Rattle.std.proofs.Common.{◌≡◌, refl, ◌∙◌, ap, ℕ, zero, suc, cond, List, [], ◌∷◌, ◌++◌, length, map}
 use Rattle.std.specs.Prelude.{slice_get, nat_eq, codes}
 use Rattle.std.specs.Option.{option_map_or}
 use Rattle.c_core.specs.declared.code.Kind.{Kind}
 use Rattle.c_core.specs.declared.code.Line.{Line}
-use Rattle.c_core.specs.declared.code.Line.TheVariants as line
 use Rattle.c_core.specs.declared.code.CFunc.{CFunc}
 use Rattle.c_core.specs.declared.code.Code.{Code}
 use Rattle.c_core.specs.WellFormed.{Declared as Variable}
-use Rattle.ir_core.specs.declared.code.Op.{Op}
-use Rattle.ir_core.specs.declared.code.Op.TheVariants.{Move, Lit, Prim, Call, Virtual, TraitCall, Turn, Inc, Dec, XDec}
-use Rattle.ir_core.specs.declared.code.Block.{Block}
 use Rattle.ir_core.specs.declared.code.Func.{Func}
 use Rattle.ir_core.specs.declared.code.Program.{Program}
 use Rattle.ir_core.specs.Names.{function_id}
-use Rattle.ir_core.specs.Lower.{kind_of_type, variable_of, global_of, register_in, call_name, called_as, line_of, op_lines, label_before, label_of, end_lines, block_lines, lines_from, lowered_as, name_in, lowered_from, lower}
+use Rattle.ir_core.specs.Lower.{kind_of_type, variable_of, global_of, call_name, called_as, lines_from, lowered_as, name_in, lowered_from, lower}
+use Rattle.ir_core.proofs.TextLemmas.{lines_same}
 use Rattle.refcount_insert_rule.specs.Counted.{IsCountedFunc, AreCounted, IsCountedProgram}
 use Rattle.refcount_insert_shapes_laws.proofs.Codes.{bare}
 
@@ -53,29 +50,6 @@ module _ (p q : Program) (counted : IsCountedProgram p q) where
       by (f ∷ fs) (g ∷ gs) zero all = ap (λ name. codes "CPyDef_" ++ function_id name) all.0.name
       by (f ∷ fs) (g ∷ gs) (suc n) all = by fs gs n all.1
 
-  line_same : (o : Op) → line_of q o ≡ line_of p o
-  line_same (Move r s) = refl
-  line_same (Lit r l) = refl
-  line_same (Prim to c args) = refl
-  line_same (Call r n args) = ap (λ name. line.Call (Some r.0) name (map register_in args)) (calls_same n)
-  line_same (Virtual r o n args) = refl
-  line_same (TraitCall r o t n args) =
-      ap (λ ks. line_of (record q { classes = ks }) (TraitCall r o t n args)) counted.classes
-  line_same Turn = refl
-  line_same (Inc r) = refl
-  line_same (Dec r) = refl
-  line_same (XDec r) = refl
-
-  ops_same : (ops : List (Op × ℕ)) → op_lines q ops ≡ op_lines p ops
-  ops_same [] = refl
-  ops_same (o ∷ os) = ap (λ l. l ∷ op_lines q os) (line_same o.0) ∙ ap (λ ls. line_of p o.0 ∷ ls) (ops_same os)
-
-  lines_same : (k : ℕ) (bs : List Block) → lines_from q k bs ≡ lines_from p k bs
-  lines_same k [] = refl
-  lines_same k (b ∷ bs) =
-      ap (λ ls. (label_before k ++ (ls ++ end_lines label_of k b.last)) ++ lines_from q (suc k) bs) (ops_same b.ops)
-      ∙ ap (λ ls. block_lines p k b ++ ls) (lines_same (suc k) bs)
-
   -- ---- functions: those of the program with other lines
   abbrev pub text : ℕ → Func → CFunc
   text n f = lowered_as p (name_in p n f) f
@@ -89,7 +63,7 @@ module _ (p q : Program) (counted : IsCountedProgram p q) where
 
   text_is : (n : ℕ) (f g : Func) → IsCountedFunc f g → lowered_as q (name_in q n g) g ≡ new_text n f g
   text_is n f g c =
-      same_parts (name_in q n g) (name_in p n f) (kind_of_type g.ret) (kind_of_type f.ret) g.params f.params (map variable_of g.regs) (map variable_of f.regs) (lines_from q 0 g.blocks) (lines_from p 0 g.blocks) (name_same n f g c) (ap kind_of_type c.ret) c.params (ap (map variable_of) c.regs) (lines_same 0 g.blocks)
+      same_parts (name_in q n g) (name_in p n f) (kind_of_type g.ret) (kind_of_type f.ret) g.params f.params (map variable_of g.regs) (map variable_of f.regs) (lines_from q 0 g.blocks) (lines_from p 0 g.blocks) (name_same n f g c) (ap kind_of_type c.ret) c.params (ap (map variable_of) c.regs) (lines_same p q counted.classes calls_same 0 g.blocks)
 
   texts_are : (n : ℕ) (fs gs : List Func) → AreCounted fs gs → lowered_from q n gs ≡ new_from n fs gs
   texts_are n [] [] all = refl

@@ -1,13 +1,12 @@
 -- From lines that are spelled and fit to the operations and ends of blocks, and from those of the blocks with counts back to their lines.
 use Rattle.std.proofs.Common.{◌≡◌, refl, ℕ, zero, suc, ◌+◌, ◌^◌, ◌<◌, ◌≤◌, arith, true, List, [], ◌∷◌, ◌++◌, length, map, Some}
 use Rattle.std.specs.Prelude.{◌&&◌}
-use Rattle.std.specs.List.{list_all}
 use Rattle.std.proofs.lemmas.Bool.{and_from, and_parts, lt-ltb}
 use Rattle.c_core.specs.declared.code.Kind.{Kind}
 use Rattle.c_core.specs.declared.code.Line.{Line}
 use Rattle.c_core.specs.declared.code.Line.TheVariants as line
 use Rattle.c_core.specs.declared.code.Code.{Code}
-use Rattle.c_core.specs.WellFormed.{Declared as Variable, spelled_label, is_declared, kind_at, is_counted_kind, spelled_line, line_fits}
+use Rattle.c_core.specs.WellFormed.{Declared as Variable, spelled_label, is_declared, kind_at, is_counted_kind}
 use Rattle.ir_core.specs.declared.code.RType.{RType}
 use Rattle.ir_core.specs.declared.code.RType.TheVariants.{Int, I64, Bool as BoolType, Ref}
 use Rattle.ir_core.specs.declared.code.Op.{Op}
@@ -19,6 +18,7 @@ use Rattle.ir_core.specs.declared.code.Program.{Program}
 use Rattle.ir_core.specs.Rows.{Declared}
 use Rattle.ir_core.specs.Lower.{kind_of_type, variable_of, line_of, op_lines, label_before, label_of, end_lines, block_lines, lines_from}
 use Rattle.ir_core.specs.Shape.{LastFits, BlocksFit}
+use Rattle.ir_core.proofs.TextLemmas.{LineIs, LinesAre, lines_append, lines_parts}
 use Rattle.refcount_insert_rule.specs.Rule.{is_counted}
 use Rattle.refcount_insert_rule.specs.Counted.{counts_register}
 use Rattle.refcount_insert_shapes_laws.proofs.Bodies.{AllOps}
@@ -38,68 +38,38 @@ counted_kind vars (d ∷ ds) (suc r) e = counted_kind vars ds r e
 
 -- ---- lines of a function with these variables and this result
 module _ (code : Code) (vars : List Variable) (ret : Kind) where
-  abbrev pub LineIs : Line → Type 0
-  LineIs l = (spelled_line vars l ≡ true) × (line_fits code vars ret l ≡ true)
-
-  abbrev pub LinesAre : List Line → Type 0
-  LinesAre [] = Unit {0}
-  LinesAre (l ∷ ls) = LineIs l × LinesAre ls
-
-  pub lines_are : (ls : List Line) → list_all (spelled_line vars) ls ≡ true → list_all (line_fits code vars ret) ls ≡ true → LinesAre ls
-  lines_are [] e f = tt
-  lines_are (l ∷ ls) e f =
-      let spelled = and_parts (spelled_line vars l) (list_all (spelled_line vars) ls) e in
-      let fits = and_parts (line_fits code vars ret l) (list_all (line_fits code vars ret) ls) f in
-      ((spelled.0, fits.0), lines_are ls spelled.1 fits.1)
-
-  pub are_spelled : (ls : List Line) → LinesAre ls → list_all (spelled_line vars) ls ≡ true
-  are_spelled [] h = refl
-  are_spelled (l ∷ ls) h = and_from (spelled_line vars l) (list_all (spelled_line vars) ls) h.0.0 (are_spelled ls h.1)
-
-  pub are_fit : (ls : List Line) → LinesAre ls → list_all (line_fits code vars ret) ls ≡ true
-  are_fit [] h = refl
-  are_fit (l ∷ ls) h = and_from (line_fits code vars ret l) (list_all (line_fits code vars ret) ls) h.0.1 (are_fit ls h.1)
-
-  lines_append : (xs ys : List Line) → LinesAre xs → LinesAre ys → LinesAre (xs ++ ys)
-  lines_append [] ys h k = k
-  lines_append (x ∷ xs) ys h k = (h.0, lines_append xs ys h.1 k)
-
-  lines_parts : (xs ys : List Line) → LinesAre (xs ++ ys) → LinesAre xs × LinesAre ys
-  lines_parts [] ys h = (tt, h)
-  lines_parts (x ∷ xs) ys h = let both = lines_parts xs ys h.1 in ((h.0, both.0), both.1)
-
   module _ (p : Program) where
     abbrev pub D : ℕ → Type 0
     D r = is_declared vars r ≡ true
 
     abbrev pub R : ℕ → Type 0
-    R r = LineIs (line.Return r)
+    R r = LineIs code vars ret (line.Return r)
 
     abbrev pub O : Op → Type 0
-    O o = LineIs (line_of p o)
+    O o = LineIs code vars ret (line_of p o)
 
     -- ---- from lines to blocks
-    ops_of : (ops : List (Op × ℕ)) → LinesAre (op_lines p ops) → AllOps O ops
+    ops_of : (ops : List (Op × ℕ)) → LinesAre code vars ret (op_lines p ops) → AllOps O ops
     ops_of [] h = tt
     ops_of (o ∷ os) h = (h.0, ops_of os h.1)
 
-    end_of : (k : ℕ) (last : Last) → LinesAre (end_lines label_of k last) → EndIs D R O last
+    end_of : (k : ℕ) (last : Last) → LinesAre code vars ret (end_lines label_of k last) → EndIs D R O last
     end_of k (Goto t) h = tt
     end_of k (If r a b) h = (and_parts (is_declared vars r.0) (spelled_label (label_of a) && spelled_label (label_of b)) h.0.0).0
     end_of k (IfError r a b source) h = (and_parts (is_declared vars r.0) (spelled_label (label_of a) && spelled_label (label_of b)) h.0.0).0
     end_of k (Return r) h = h.0
     end_of k Unreachable h = tt
 
-    pub blocks_of : (size k : ℕ) (bs : List Block) → BlocksFit size k bs → LinesAre (lines_from p k bs) → BlocksAre D R O size k bs
+    pub blocks_of : (size k : ℕ) (bs : List Block) → BlocksFit size k bs → LinesAre code vars ret (lines_from p k bs) → BlocksAre D R O size k bs
     blocks_of size k [] fits h = tt
     blocks_of size k (b ∷ bs) fits h =
-        let both = lines_parts (block_lines p k b) (lines_from p (suc k) bs) h in
-        let body = (lines_parts (label_before k) (op_lines p b.ops ++ end_lines label_of k b.last) both.0).1 in
-        let parts = lines_parts (op_lines p b.ops) (end_lines label_of k b.last) body in
+        let both = lines_parts code vars ret (block_lines p k b) (lines_from p (suc k) bs) h in
+        let body = (lines_parts code vars ret (label_before k) (op_lines p b.ops ++ end_lines label_of k b.last) both.0).1 in
+        let parts = lines_parts code vars ret (op_lines p b.ops) (end_lines label_of k b.last) body in
         (record { last = fits.0.last; ops = ops_of b.ops parts.0; end = end_of k b.last parts.1 }, blocks_of size (suc k) bs fits.1 both.1)
 
     -- ---- from blocks to lines
-    of_ops : (ops : List (Op × ℕ)) → AllOps O ops → LinesAre (op_lines p ops)
+    of_ops : (ops : List (Op × ℕ)) → AllOps O ops → LinesAre code vars ret (op_lines p ops)
     of_ops [] h = tt
     of_ops (o ∷ os) h = (h.0, of_ops os h.1)
 
@@ -110,7 +80,7 @@ module _ (code : Code) (vars : List Variable) (ret : Kind) where
       labels : (a b : ℕ) → a < size → b < size → (spelled_label (label_of a) && spelled_label (label_of b)) ≡ true
       labels a b l m = and_from (spelled_label (label_of a)) (spelled_label (label_of b)) (label_spelled a l) (label_spelled b m)
 
-      of_end : (k : ℕ) (ops : List (Op × ℕ)) (last : Last) → k < size → LastFits size k ops last → EndIs D R O last → LinesAre (end_lines label_of k last)
+      of_end : (k : ℕ) (ops : List (Op × ℕ)) (last : Last) → k < size → LastFits size k ops last → EndIs D R O last → LinesAre code vars ret (end_lines label_of k last)
       of_end k ops (Goto t) lt fits h = ((label_spelled t fits.1, refl), tt)
       of_end k ops (If r a b) lt fits h =
           ((and_from (is_declared vars r.0) (spelled_label (label_of a) && spelled_label (label_of b)) h (labels a b fits.0.1 fits.1.1), refl), tt)
@@ -119,17 +89,17 @@ module _ (code : Code) (vars : List Variable) (ret : Kind) where
       of_end k ops (Return r) lt fits h = (h, tt)
       of_end k ops Unreachable lt fits h = ((refl, refl), ((label_spelled k lt, refl), tt))
 
-      of_label : (k : ℕ) → LinesAre (label_before k)
+      of_label : (k : ℕ) → LinesAre code vars ret (label_before k)
       of_label zero = tt
       of_label (suc k) = ((refl, refl), tt)
 
-      pub of_blocks : (k : ℕ) (bs : List Block) → k + length bs ≡ size → BlocksAre D R O size k bs → LinesAre (lines_from p k bs)
+      pub of_blocks : (k : ℕ) (bs : List Block) → k + length bs ≡ size → BlocksAre D R O size k bs → LinesAre code vars ret (lines_from p k bs)
       of_blocks k [] e h = tt
       of_blocks k (b ∷ bs) e h =
           let ops : List Line = op_lines p b.ops in
           let end : List Line = end_lines label_of k b.last in
-          let body : LinesAre (ops ++ end) = lines_append ops end (of_ops b.ops h.0.ops) (of_end k b.ops b.last (omega (arith, e)) h.0.last h.0.end) in
-          lines_append (block_lines p k b) (lines_from p (suc k) bs) (lines_append (label_before k) (ops ++ end) (of_label k) body)
+          let body : LinesAre code vars ret (ops ++ end) = lines_append code vars ret ops end (of_ops b.ops h.0.ops) (of_end k b.ops b.last (omega (arith, e)) h.0.last h.0.end) in
+          lines_append code vars ret (block_lines p k b) (lines_from p (suc k) bs) (lines_append code vars ret (label_before k) (ops ++ end) (of_label k) body)
           (of_blocks (suc k) bs (omega (arith, e)) h.1)
 
 -- ---- the lines of counts

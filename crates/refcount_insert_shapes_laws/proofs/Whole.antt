@@ -16,13 +16,14 @@ use Rattle.ir_core.specs.declared.code.Op.TheVariants.{Turn}
 use Rattle.ir_core.specs.Lower.{lines_from, lowered_from, lower}
 use Rattle.ir_core.specs.Shape.{FuncFits, FuncsFit, BeginsInTurn, Shape}
 use Rattle.ir_core.proofs.JumpLemmas.{last_leaves}
+use Rattle.ir_core.proofs.TextLemmas.{LinesAre, lines_from_all, all_spelled, all_fit}
 use Rattle.refcount_insert_rule.specs.Counted.{IsCountedFunc, AreCounted, IsCountedProgram}
 use Rattle.refcount_insert_shapes_laws.specs.Laws.{CountedIsWellFormed}
 use Rattle.refcount_insert_shapes_laws.proofs.Jumps.{jumps_lead}
 use Rattle.refcount_insert_shapes_laws.proofs.Codes.{function_same}
 use Rattle.refcount_insert_shapes_laws.proofs.Blocks.{BlocksAre, lasts_fit, blocks_are, some_blocks}
 use Rattle.refcount_insert_shapes_laws.proofs.Begins.{begins}
-use Rattle.refcount_insert_shapes_laws.proofs.Lines.{LinesAre, lines_are, are_spelled, are_fit, D, R, O, blocks_of, of_blocks, counts_are}
+use Rattle.refcount_insert_shapes_laws.proofs.Lines.{D, R, O, blocks_of, of_blocks, counts_are}
 use Rattle.refcount_insert_shapes_laws.proofs.Functions.{text, new_text, new_from, new_code, code_is, code_bare, code_names}
 
 has_blocks : (p : Program) (bs : List Block) → is_leaving (slice_get (lines_from p 0 bs) (length (lines_from p 0 bs) - 1)) ≡ true → 0 < length bs
@@ -45,7 +46,7 @@ module _ (p q : Program) (counted : IsCountedProgram p q) (shape : Shape p) wher
       let three = and_parts (lines_lead_on old.lines) (begins_right old) two.1 in
       let four = and_parts (jumps_fit (label_places old.lines) 0 false old.lines) (is_leaving (slice_get old.lines (length old.lines - 1))) three.0 in
       let before : BlocksAre (D (lower p) old.vars old.ret p) (R (lower p) old.vars old.ret p) (O (lower p) old.vars old.ret p) (length f.blocks) 0 f.blocks =
-      blocks_of (lower p) old.vars old.ret p (length f.blocks) 0 f.blocks blocks (lines_are (lower p) old.vars old.ret old.lines named.1 two.0) in
+      blocks_of (lower p) old.vars old.ret p (length f.blocks) 0 f.blocks blocks (lines_from_all (lower p) old.vars old.ret old.lines named.1 two.0) in
       let after : BlocksAre (D (lower p) old.vars old.ret p) (R (lower p) old.vars old.ret p) (O (lower p) old.vars old.ret p) (length g.blocks) 0 g.blocks =
       blocks_are (D (lower p) old.vars old.ret p) (R (lower p) old.vars old.ret p) (O (lower p) old.vars old.ret p) f c.tables c.number (counts_are (lower p) old.ret p f.regs) g.blocks c.blocks before in
       let none : 0 + length g.blocks ≡ length g.blocks = omega arith in
@@ -56,8 +57,8 @@ module _ (p q : Program) (counted : IsCountedProgram p q) (shape : Shape p) wher
       (jumps_lead p g.blocks (lasts_fit (D (lower p) old.vars old.ret p) (R (lower p) old.vars old.ret p) (O (lower p) old.vars old.ret p) (length g.blocks) 0 g.blocks after))
       (last_leaves p g.blocks some) in
       record {
-        body = and_from (list_all (λ (v : Variable). is_identifier v.0) new.vars) (list_all (spelled_line new.vars) new.lines) named.0 (are_spelled (lower p) old.vars old.ret new.lines lines);
-        fits = λ right. and_from (names_differ (map (λ (v : Variable). v.0) new.vars)) (list_all (line_fits (lower p) new.vars new.ret) new.lines && (lines_lead_on new.lines && begins_right new)) one.0 (and_from (list_all (line_fits (lower p) new.vars new.ret) new.lines) (lines_lead_on new.lines && begins_right new) (are_fit (lower p) old.vars old.ret new.lines lines) (and_from (lines_lead_on new.lines) (begins_right new) lead right));
+        body = and_from (list_all (λ (v : Variable). is_identifier v.0) new.vars) (list_all (spelled_line new.vars) new.lines) named.0 (all_spelled (lower p) old.vars old.ret new.lines lines);
+        fits = λ right. and_from (names_differ (map (λ (v : Variable). v.0) new.vars)) (list_all (line_fits (lower p) new.vars new.ret) new.lines && (lines_lead_on new.lines && begins_right new)) one.0 (and_from (list_all (line_fits (lower p) new.vars new.ret) new.lines) (lines_lead_on new.lines && begins_right new) (all_fit (lower p) old.vars old.ret new.lines lines) (and_from (lines_lead_on new.lines) (begins_right new) lead right));
       }
 
   -- the module's own function, which has no name

@@ -1,7 +1,7 @@
 use Rattle.std.proofs.Common.{sym, ap, ◌∙◌, arith, ◌++◌, ◌∷◌, [], Some}
 use Rattle.cell_heap.specs.Contents.{content_of}
 use Rattle.cell_heap.specs.Numbered.{cells_of}
-use Rattle.cell_heap.specs.declared.cells.Slot.{Slot}
+use Rattle.cell_heap.specs.declared.cells.CountedCell.{CountedCell}
 use Rattle.cell_heap.proofs.MapLemmas.{cells-make, length-cells}
 use Rattle.cell_heap.proofs.cells.Cells.make.Goals as goal
 
@@ -18,5 +18,5 @@ returns-clause-made c =
     let cells = cells_of c.self.inside.there c.self.inside.made in
     rw (← c.self.view_is) (
     cells-make c.self.inside.there c.insert.new.self c.self.inside.made c.in_ok-slot.slot c.in_ok-insert.ensures.updates.1 c.in_ok-insert.ensures.updates.2
-    ∙ ap (λ (slot : Slot). cells ++ Some (record { count = slot.count; content = content_of slot.content }) ∷ []) c.in_ok-slot.ensures.ok
+    ∙ ap (λ (slot : CountedCell). cells ++ Some (record { count = slot.count; content = content_of slot.content }) ∷ []) c.in_ok-slot.ensures.ok
     )

@@ -1,7 +1,7 @@
 use Rattle.std.proofs.Common.{sym, ap, ◌∙◌, Some}
 use Rattle.std.specs.Option.{option_map}
 use Rattle.c_core.specs.Machine.{Content}
-use Rattle.cell_heap.specs.declared.cells.Slot.{Slot}
+use Rattle.cell_heap.specs.declared.cells.CountedCell.{CountedCell}
 use Rattle.cell_heap.specs.Contents.{content_of}
 use Rattle.cell_heap.specs.Numbered.{Kept}
 use Rattle.cell_heap.proofs.MapLemmas.{gone-here, remove-here}
@@ -20,7 +20,7 @@ returns-clause-gone c =
       | in-None w ↦ ap (option_map content_of) w.result-is ∙ sym (ap (option_map held) w.in-None.is) ∙ is
       | in-Some w ↦
           ap (option_map content_of) w.result-is
-          ∙ ap (λ (slot : Slot). Some (content_of slot.content)) w.into_inner.ensures
+          ∙ ap (λ (slot : CountedCell). Some (content_of slot.content)) w.into_inner.ensures
           ∙ sym (ap (option_map held) w.in-Some.is)
           ∙ is
     ])

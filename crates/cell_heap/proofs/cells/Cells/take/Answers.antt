@@ -1,7 +1,7 @@
 use Rattle.std.proofs.Common.{◌≡◌, ◌+◌, refl, sym, ap, ◌∙◌, arith, rules, Some}
 use Rattle.std.specs.Option.{option_map}
 use Rattle.c_core.specs.Cells.{raised, count_at}
-use Rattle.cell_heap.specs.declared.cells.Slot.{Slot}
+use Rattle.cell_heap.specs.declared.cells.CountedCell.{CountedCell}
 use Rattle.cell_heap.specs.Numbered.{Kept, cell_of, cells_of}
 use Rattle.cell_heap.proofs.MapLemmas.{raised-kept, count-here, cells-change, cells-stay}
 use Rattle.cell_heap.proofs.cells.Cells.take.Goals as goal
@@ -12,7 +12,7 @@ overflow_add-deref_mut c =
     let is : count_at (cells_of c.self.inside.there c.self.inside.made) c.args.serial ≡ c.in-Some.slot.now.value.count =
     count-here c.self.inside.there c.self.inside.made c.args.serial c.in-Some.slot.now c.self.invariant.unmade (sym c.in-Some.ensures.value) in
     let small = rw (← c.self.view_is) at c.requires in
-    omega (arith, is, small, ap (λ (s : Slot). s.count) c.deref_mut.ensures.value)
+    omega (arith, is, small, ap (λ (s : CountedCell). s.count) c.deref_mut.ensures.value)
 
 pub returns : goal.returns
 returns c =
@@ -22,7 +22,7 @@ returns c =
           ∙ ap (λ m. cells_of m c.self.inside.made) c.get_mut.follows.holds-at-none
           ∙ cells-stay raised c.self.inside.there c.args.serial c.self.inside.made refl (sym w.in-None.ensures.value)
       | in-Some w ↦
-          let slot : Slot = record { count = w.deref_mut.result.now.count + 1; content = w.deref_mut.result.now.content } in
+          let slot : CountedCell = record { count = w.deref_mut.result.now.count + 1; content = w.deref_mut.result.now.content } in
           let kept : Kept = record w.in-Some.slot.now { value = slot } in
           let writes = (c.get_mut.follows.holds kept).3 (search rules) in
           ap (λ i. cells_of i.there i.made) w.self-inside-is

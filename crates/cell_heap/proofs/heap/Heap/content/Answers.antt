@@ -1,6 +1,6 @@
 use Rattle.std.proofs.Common.{sym, ap, ◌∙◌, Some}
 use Rattle.c_core.specs.Cells as cells
-use Rattle.cell_heap.specs.declared.cells.Slot.{Slot}
+use Rattle.cell_heap.specs.declared.cells.CountedCell.{CountedCell}
 use Rattle.cell_heap.specs.Contents.{content_of}
 use Rattle.cell_heap.proofs.ListedLemmas.{content_at-cell}
 use Rattle.cell_heap.proofs.heap.Heap.content.Goals as goal
@@ -11,4 +11,4 @@ returns-in-None c =
 
 pub returns-in-Some : goal.returns-in-Some
 returns-in-Some c =
-    rw (← c.self.view_is) (content_at-cell c.self.inside.cells c.args.key.serial ∙ ap cells.content_of (sym c.in-Some.ensures) ∙ ap (λ (s : Slot). Some (content_of s.content)) (sym c.deref.ensures))
+    rw (← c.self.view_is) (content_at-cell c.self.inside.cells c.args.key.serial ∙ ap cells.content_of (sym c.in-Some.ensures) ∙ ap (λ (s : CountedCell). Some (content_of s.content)) (sym c.deref.ensures))

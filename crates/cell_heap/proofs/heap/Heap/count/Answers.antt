@@ -1,7 +1,7 @@
 use Rattle.std.proofs.Common.{sym, ap, ◌∙◌}
 use Rattle.std.specs.Option.{is_some}
 use Rattle.c_core.specs.Cells as cells
-use Rattle.cell_heap.specs.declared.cells.Slot.{Slot}
+use Rattle.cell_heap.specs.declared.cells.CountedCell.{CountedCell}
 use Rattle.cell_heap.proofs.ListedLemmas.{content_at-cell, count_at-cell}
 use Rattle.cell_heap.proofs.heap.Heap.count.Goals as goal
 
@@ -15,4 +15,4 @@ returns-in-Some-clause-there c =
 
 pub returns-in-Some-clause-count : goal.returns-in-Some-clause-count
 returns-in-Some-clause-count c =
-    rw (← c.self.view_is) (ap (λ (s : Slot). s.count) c.deref.ensures ∙ sym (count_at-cell c.self.inside.cells c.args.key.serial ∙ ap cells.counted (sym c.in-Some.ensures)))
+    rw (← c.self.view_is) (ap (λ (s : CountedCell). s.count) c.deref.ensures ∙ sym (count_at-cell c.self.inside.cells c.args.key.serial ∙ ap cells.counted (sym c.in-Some.ensures)))

@@ -1,0 +1,65 @@
+-- The row of each primitive is found by its name.
+use Rattle.std.proofs.Common.{◌≡◌, refl, Some}
+use Rattle.c_core.specs.declared.primitive.Primitive.{Primitive}
+use Rattle.c_core.specs.declared.primitive.Primitive.TheVariants as prim
+use Rattle.c_core.specs.declared.primitive.Int64Prim.TheVariants as int64
+use Rattle.c_core.specs.declared.primitive.TaggedPrim.TheVariants as tagged
+use Rattle.c_core.specs.declared.primitive.BoolPrim.TheVariants as bool
+use Rattle.c_core.specs.declared.primitive.StrPrim.TheVariants as str
+use Rattle.c_core.specs.declared.primitive.GlobalPrim.TheVariants as global
+use Rattle.c_core.specs.declared.primitive.ExcPrim.TheVariants as exc
+use Rattle.c_core.specs.declared.primitive.ErrPrim.TheVariants as err
+use Rattle.c_core.specs.declared.primitive.IoPrim.TheVariants as io
+use Rattle.c_core.specs.Primitives.{row_of, primitive_named}
+
+pub primitive_found : (q : Primitive) → primitive_named (row_of q).name ≡ Some q
+primitive_found (prim.Int64 int64.Add) = refl
+primitive_found (prim.Int64 int64.Subtract) = refl
+primitive_found (prim.Int64 int64.Multiply) = refl
+primitive_found (prim.Int64 int64.Negate) = refl
+primitive_found (prim.Int64 int64.FromBool) = refl
+primitive_found (prim.Int64 int64.Eq) = refl
+primitive_found (prim.Int64 int64.Lt) = refl
+primitive_found (prim.Int64 int64.Le) = refl
+primitive_found (prim.Int64 int64.Str) = refl
+primitive_found (prim.Bool bool.Not) = refl
+primitive_found (prim.Bool bool.Str) = refl
+primitive_found (prim.Str str.Literal) = refl
+primitive_found (prim.Int64 int64.FloorDivide) = refl
+primitive_found (prim.Int64 int64.Remainder) = refl
+primitive_found (prim.Int64 int64.Lshift) = refl
+primitive_found (prim.Int64 int64.Rshift) = refl
+primitive_found (prim.Global global.Get) = refl
+primitive_found (prim.Global global.Set) = refl
+primitive_found (prim.Global global.Clear) = refl
+primitive_found (prim.Exc exc.New) = refl
+primitive_found (prim.Exc exc.Str) = refl
+primitive_found (prim.Err err.SetObject) = refl
+primitive_found (prim.Err err.Unbound) = refl
+primitive_found (prim.Err err.Occurred) = refl
+primitive_found (prim.Err err.Matches) = refl
+primitive_found (prim.Err err.Catch) = refl
+primitive_found (prim.Io io.Write) = refl
+primitive_found (prim.Tagged tagged.Add) = refl
+primitive_found (prim.Tagged tagged.Subtract) = refl
+primitive_found (prim.Tagged tagged.Multiply) = refl
+primitive_found (prim.Tagged tagged.Negate) = refl
+primitive_found (prim.Tagged tagged.FloorDivide) = refl
+primitive_found (prim.Tagged tagged.Remainder) = refl
+primitive_found (prim.Tagged tagged.Lshift) = refl
+primitive_found (prim.Tagged tagged.Rshift) = refl
+primitive_found (prim.Tagged tagged.FromText) = refl
+primitive_found (prim.Tagged tagged.FromInt64) = refl
+primitive_found (prim.Tagged tagged.FromBool) = refl
+primitive_found (prim.Tagged tagged.AsInt64) = refl
+primitive_found (prim.Tagged tagged.Eq) = refl
+primitive_found (prim.Tagged tagged.Lt) = refl
+primitive_found (prim.Tagged tagged.Le) = refl
+primitive_found (prim.Tagged tagged.Str) = refl
+primitive_found (prim.Str str.Concat) = refl
+primitive_found (prim.Str str.Eq) = refl
+primitive_found (prim.Str str.Lt) = refl
+primitive_found (prim.Str str.Le) = refl
+primitive_found (prim.Str str.Len) = refl
+primitive_found (prim.Str str.GetItem) = refl
+primitive_found (prim.Io io.Input) = refl
