@@ -47,7 +47,7 @@ use Rattle.ir_builder_expressions.specs.Reading.{EmitsLocal, EmitsGlobal}
 use Rattle.ir_builder_expressions.specs.Emitting.{means, Emits, EmitsOne, EmitsTwo, EmitsAll, EmitsSide, EmitsChain}
 use Rattle.ir_builder_expressions.specs.Walking.{Walks}
 use Rattle.ir_builder_expressions.specs.Choices.{Opens, Brings, Meets}
-use Rattle.ir_builder_expressions.proofs.ArmLemmas.{Is, asked, emits_as, is_int, is_text, is_input, is_concat, is_at, is_len, is_to_str, is_local, is_global, is_neg, is_not, is_truth, is_arith, is_compare, is_and, is_or, is_cond, is_call, is_coerce}
+use Rattle.ir_builder_expressions.proofs.ArmLemmas.{Is, asked, emits_as, is_int, is_text, is_input, is_concat, is_at, is_len, is_to_str, is_bool as is_flag, is_local, is_global, is_neg, is_not, is_truth, is_arith, is_compare, is_and, is_or, is_cond, is_call, is_coerce}
 use Rattle.ir_builder_expressions.proofs.FollowLemmas.{acts_computes}
 use Rattle.ir_builder_expressions.proofs.PieceLemmas.{int_emits, text_emits, item_emits}
 use Rattle.ir_builder_expressions.proofs.NodeLemmas.{flag_emits, and_emits, or_emits, cond_emits}
