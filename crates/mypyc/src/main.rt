@@ -9,6 +9,9 @@ use std::env;
 use std::io::{self, BufWriter, Input};
 use std::process::ExitCode;
 
+/// How many bytes of a C text are held back at most. It is written in pieces of a few bytes.
+const HELD: usize = 65_536;
+
 fn main(rt: HostRuntime) -> ExitCode {
     let status = match run(&rt) {
         Ok(status) => status,
@@ -25,16 +28,30 @@ fn run(rt: &HostRuntime) -> io::Result<Status> {
     let words = words(rt)?;
     let mut files = DiskFiles::new(rt);
     let mut input = StreamSource::new(rt.reader());
-    let mut out = StreamSink::new(BufWriter::new(rt.alloc(), rt.stdout())?);
+    let mut writer = BufWriter::with_capacity(rt.alloc(), held_at_most(&words), rt.stdout())?;
+    let mut out = StreamSink::new(&mut writer);
     let mut err = StreamSink::new(rt.stderr());
-    Ok(mypyc(
+    let status = mypyc(
         rt.alloc(),
         &words,
         &mut files,
         &mut input,
         &mut out,
         &mut err,
-    ))
+    );
+    // What is held still is left of a write that failed, and a writer that is let go would try it again.
+    let (_stdout, _unwritten) = writer.into_parts();
+    Ok(status)
+}
+
+/// How many bytes of the output may be held back: none but of a C text, so that what a program prints is seen before it
+/// waits for its input.
+fn held_at_most(words: &[String]) -> usize {
+    if words.iter().any(|word| word.as_str() == "--emit=c") {
+        HELD
+    } else {
+        0
+    }
 }
 
 /// The words of the command. Words that are no text are no command, as no words are.
