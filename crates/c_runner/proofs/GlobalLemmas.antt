@@ -350,5 +350,4 @@ module _ (rest : Rest) (old : State) (code : Code) (target : Option ℕ) where
       ∙ ap (λ m. written m (Some (held_of held)) (Some v)) (sym is)
       ∙ ap (λ f. Goes (next_line (step.given true (state_of rest (record old { top = f })) (set_refs (held_of held ∷ [])) (record (state_of rest (record old { top = f })) { globals = slice_set (map held_of old.globals) n (Some v) })))) (sym top_is)
       ∙ ap Goes (sym last)
-
   -- ---- a global is unset

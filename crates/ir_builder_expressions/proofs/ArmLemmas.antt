@@ -1,5 +1,5 @@
 -- What is asked of an expression is asked of its parts, and what its parts promise it promises.
-use Rattle.std.proofs.Common.{◌≡◌, sym, ◌∙◌, ap, subst, ℕ, List, map}
+use Rattle.std.proofs.Common.{◌≡◌, sym, ◌∙◌, ap, subst, ℕ, Bool, List, map}
 use Rattle.std.specs.Prelude.{ℤ}
 use Rattle.std.specs.declared.boxed.Box.{Box}
 use Rattle.std.specs.declared.alloc.Global.{Global}
@@ -11,7 +11,7 @@ use Rattle.py_typed.specs.Sorts.{Sort, sort as sort_of}
 use Rattle.py_typed.specs.Expressions as tree
 use Rattle.py_typed.specs.Expressions.{TypedExpr, TypedNode, typed, type_of, typed_expr, typed_node, exprs_of, comparisons_of, typed_comparison}
 use Rattle.py_typed.specs.Statements.{TypedModule, Variable}
-use Rattle.py_typed.proofs.ExpressionLemmas.{typed_expr_of, typed_node-Local, typed_node-Global, typed_node-Neg, typed_node-Not, typed_node-Truth, typed_node-Arith, typed_expr-Compare, typed_node-And, typed_node-Or, typed_node-Cond, typed_node-Call, typed_node-Coerce, typed_node-Int, typed_node-Str, typed_node-Concat, typed_node-At, typed_node-Input, typed_node-Len, typed_node-ToStr}
+use Rattle.py_typed.proofs.ExpressionLemmas.{typed_expr_of, typed_node-Bool, typed_node-Local, typed_node-Global, typed_node-Neg, typed_node-Not, typed_node-Truth, typed_node-Arith, typed_expr-Compare, typed_node-And, typed_node-Or, typed_node-Cond, typed_node-Call, typed_node-Coerce, typed_node-Int, typed_node-Str, typed_node-Concat, typed_node-At, typed_node-Input, typed_node-Len, typed_node-ToStr}
 use Rattle.ir_core.specs.Building.{Building}
 use Rattle.ir_builder_frames.specs.Settings.{Setting}
 use Rattle.ir_builder_expressions.specs.Suiting.{Suits, NodeSuits}
@@ -23,6 +23,9 @@ Part = Box TExpr Global
 -- an expression whose node is known
 abbrev pub Is : TExpr → TypedNode → Type 0
 Is e n = typed_expr e ≡ typed n (sort_of e.ty) e.span
+
+pub is_bool : (e : TExpr) (b : Bool) → e.kind ≡ kind.Bool b → Is e (tree.Flag b)
+is_bool e b is = typed_expr_of e (kind.Bool b) is ∙ ap (λ n. typed n (sort_of e.ty) e.span) (typed_node-Bool b)
 
 pub is_local : (e : TExpr) (i : ℕ) → e.kind ≡ kind.Local i → Is e (tree.Local i)
 is_local e i is = typed_expr_of e (kind.Local i) is ∙ ap (λ n. typed n (sort_of e.ty) e.span) (typed_node-Local i)

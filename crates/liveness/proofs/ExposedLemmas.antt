@@ -21,7 +21,6 @@ pub record Exposing (reads : ℕ → Bool) (edges old : List (List ℕ)) (r : �
   pub comes : (t : ℕ) → is_among work t ≡ true → (b : ℕ) × (has rows r b ≡ true) × (is_among (get_or edges b []) t ≡ true)
 
 module _ (reads : ℕ → Bool) (edges old : List (List ℕ)) (r : ℕ) where
-
   module _ (seen work : List ℕ) (rows : List (List ℕ)) (b : ℕ) (f : Exposing reads edges old r seen rows work) where
     pub exposed_past : (reads b ≡ true → b < length rows → has rows r b ≡ true) → Exposing reads edges old r (seen ++ b ∷ []) rows work
     exposed_past none = record {

@@ -83,7 +83,13 @@ fn edge_counts(
 }
 
 /// How often what is returned is short.
-fn return_short(regs: &[(Name, RType)], known: &KnownRegisters, b: usize, p: usize, x: usize) -> usize
+fn return_short(
+    regs: &[(Name, RType)],
+    known: &KnownRegisters,
+    b: usize,
+    p: usize,
+    x: usize,
+) -> usize
     ensures { result ≡ cond (counts_register regs.now x) (1 - owned_at known.now regs.now b p x) 0 }
 {
     if counts(regs, x) {
