@@ -6,11 +6,11 @@ use Rattle.std.specs.Option.{option_map}
 use Rattle.std.proofs.lemmas.Bool.{and_from, and_parts, lt-ltb}
 use Rattle.std.proofs.lemmas.List.{length-map}
 use Rattle.c_core.specs.declared.code.Kind.{Kind}
-use Rattle.c_core.specs.declared.code.Kind.TheVariants.{Tagged, Int64, Char, Object}
+use Rattle.c_core.specs.declared.code.Kind.TheVariants.{Char}
 use Rattle.c_core.specs.declared.code.Line.{Line}
 use Rattle.c_core.specs.declared.code.Line.TheVariants as line
 use Rattle.c_core.specs.Primitives.{row_of}
-use Rattle.c_core.specs.WellFormed.{Declared as Variable, is_call_name, spelled_arg, spelled_literal, spelled_label, is_declared, kind_at, spelled_line, same_kind, has_kind, literal_fits, line_fits}
+use Rattle.c_core.specs.WellFormed.{Declared as Variable, is_call_name, spelled_arg, spelled_literal, spelled_label, is_declared, kind_at, spelled_line, has_kind, literal_fits, line_fits}
 use Rattle.ir_core.specs.declared.code.RType.{RType}
 use Rattle.ir_core.specs.declared.code.RType.TheVariants.{Int, I64, Bool as BoolType, Ref}
 use Rattle.ir_core.specs.declared.code.Reg.{Reg}
@@ -26,7 +26,7 @@ use Rattle.ir_core.specs.declared.code.ErrorKind.TheVariants.{Never, Magic, Alwa
 use Rattle.ir_core.specs.Rows.{Declared, type_of_reg, kind_by_result, error_kind, edge_of_kind, edge_of_op}
 use Rattle.ir_core.specs.Lower.{kind_of_type, variable_of, argument_in, register_in, literal_in, called_as, line_of, op_lines, label_before, label_of, end_lines, block_lines, lines_from, lower}
 use Rattle.ir_core.specs.Shape.{op_fits, OpsFit, LastFits, BlocksFit, FuncFits}
-use Rattle.ir_core.proofs.TextLemmas.{LineIs, LinesAre, lines_append, lines_parts, line_same}
+use Rattle.ir_core.proofs.TextLemmas.{LineIs, LinesAre, lines_append, lines_parts, line_same, same_self}
 use Rattle.error_edges.specs.Layout.{needs_flag, needs_exit, asking, flag_register, error_register, error_literal}
 use Rattle.error_edges.specs.Edged.{IsEdged}
 use Rattle.error_edges.proofs.Laid.{Asked}
@@ -36,12 +36,6 @@ use Rattle.error_edges.proofs.Numbers.{laid_same}
 use Rattle.error_edges.proofs.BlockShapes.{OpsAre, EndIs, EdgeIs, BlocksAre, blocks_fit, laid_fit}
 use Rattle.error_edges.proofs.LineLemmas.{CodeKept, spelled_more, fits_more}
 use Rattle.error_edges.proofs.SpellingLemmas.{map_append, question_spelled}
-
-same_self : (k : Kind) → same_kind k k ≡ true
-same_self Tagged = refl
-same_self Int64 = refl
-same_self Char = refl
-same_self Object = refl
 
 -- ---- one function
 module _ (p q : Program) (kept : CodeKept (lower p) (lower q)) (classes : q.classes ≡ p.classes) (calls : (n : ℕ) → called_as q n ≡ called_as p n) (f g : Func) (edged : IsEdged f g) where

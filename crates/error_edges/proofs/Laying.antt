@@ -14,8 +14,9 @@ use Rattle.ir_core.specs.declared.code.Block.{Block}
 use Rattle.ir_core.specs.declared.code.Func.{Func}
 use Rattle.ir_core.specs.declared.kind.Edge.{Edge}
 use Rattle.ir_core.specs.declared.kind.Edge.TheVariants.{NoEdge, Tests, TestsTwice, Jumps}
-use Rattle.ir_core.specs.Items.{Item, Do, End, in_block, item_of, item_in, handler_of}
+use Rattle.ir_core.specs.Items.{Item, Do, in_block, item_of, item_in, handler_of}
 use Rattle.ir_core.specs.Rows.{Declared, type_of_reg, edge_of_op}
+use Rattle.ir_core.proofs.ItemLemmas.{end_item}
 use Rattle.error_edges.specs.Names.{IsGrown}
 use Rattle.error_edges.specs.Layout.{missing, edges_in, edges_of, is_some_edge, is_second_test, asks, needs_flag, out_of, leaves, needs_exit, room, number_at, moved, target_of, block_of, second_test, cut_at, cut, flag_register, error_register, chain, chains, exit_block, exit_blocks}
 use Rattle.error_edges.specs.Edged.{IsEdged}
@@ -36,10 +37,6 @@ in_ops : (ops : List (Op × ℕ)) (last : Last) (i : ℕ) (o : Op × ℕ) → sl
 in_ops [] last i o e = absurd (cc)
 in_ops (x ∷ ops) last zero o e = let same : x ≡ o = cc in ap (λ (y : Op × ℕ). Some (Do y.0)) same
 in_ops (x ∷ ops) last (suc i) o e = in_ops ops last i o e
-
-at_end : (ops : List (Op × ℕ)) (last : Last) → in_block ops last (length ops) ≡ Some (End last)
-at_end [] last = refl
-at_end (x ∷ ops) last = at_end ops last
 
 module _ (item : ℕ → ℕ → Option Item) where
   at_first : (n : ℕ) (b : Block) (bs : List Block) → At item n (b ∷ bs) → (i : ℕ) → item n i ≡ in_block b.ops b.last i
@@ -83,12 +80,12 @@ module _ (item : ℕ → ℕ → Option Item) where
     laid_at NoEdge more rest n ops line i l asked out h at = h n (i + 1) ops l at
     laid_at (Tests r) more rest n ops line i l asked out h at =
         let block : Block = block_of ops (IfError r target (n + 1) line) in
-        let end = at_first n block (more (n + 1) []) at (i + 1) ∙ ap (in_block ops block.last) (sym l) ∙ at_end ops block.last in
+        let end = at_first n block (more (n + 1) []) at (i + 1) ∙ ap (in_block ops block.last) (sym l) ∙ end_item ops block.last in
         (end, out refl, h (n + 1) 0 [] refl (at_rest n block (more (n + 1) []) at))
     laid_at (TestsTwice r) more rest n ops line i l asked out h at =
         let first : Block = block_of ops (IfError r (n + 1) (n + 2) line) in
         let test : Block = second_test target flag line (n + 2) in
-        let end = at_first n first (test ∷ more (n + 2) []) at (i + 1) ∙ ap (in_block ops first.last) (sym l) ∙ at_end ops first.last in
+        let end = at_first n first (test ∷ more (n + 2) []) at (i + 1) ∙ ap (in_block ops first.last) (sym l) ∙ end_item ops first.last in
         let second = at_rest n first (test ∷ more (n + 2) []) at in
         let two : n + 1 + 1 ≡ n + 2 = omega arith in (
           end,
@@ -100,12 +97,12 @@ module _ (item : ℕ → ℕ → Option Item) where
         )
     laid_at Jumps more rest n ops line i l asked out h at =
         let block : Block = block_of ops (Goto target) in
-        let end = at_first n block (more (n + 1) []) at (i + 1) ∙ ap (in_block ops block.last) (sym l) ∙ at_end ops block.last in
+        let end = at_first n block (more (n + 1) []) at (i + 1) ∙ ap (in_block ops block.last) (sym l) ∙ end_item ops block.last in
         (end, out refl, h (n + 1) 0 [] refl (at_rest n block (more (n + 1) []) at))
 
     cut_laid : (os : List (Op × ℕ)) (last : Last) (n i : ℕ) (done : List (Op × ℕ)) → length done ≡ i → (list_any is_second_test (edges_in regs os last) ≡ true → Asks) → (list_any is_some_edge (edges_in regs os last) ≡ true → Out) → At item n (cut target flag os (edges_in regs os last) (moved start last) n done) → Laid item start target flag Asks Out regs os last n i
     cut_laid [] last n i done l asked out at =
-        at_first n (block_of done (moved start last)) [] at i ∙ ap (in_block done (moved start last)) (sym l) ∙ at_end done (moved start last)
+        at_first n (block_of done (moved start last)) [] at i ∙ ap (in_block done (moved start last)) (sym l) ∙ end_item done (moved start last)
     cut_laid (x ∷ os) last n i done l asked out at =
         let ops : List (Op × ℕ) = done ++ x ∷ [] in
         let e : Edge = missing (edge_of_op regs x.0) (in_block os last 0) in

@@ -18,6 +18,7 @@ use Rattle.ir_builder_frames.specs.Matching.{HasKind}
 use Rattle.ir_builder_frames.specs.Computing.{Shows, Makes, Attempts, OfOne}
 use Rattle.ir_builder_operations.specs.Operating.{ActsOn, ActsOnTwo}
 use Rattle.ir_builder_operations.proofs.KindLemmas.{by_int, by_i64, by_bool, by_text}
+use Rattle.ir_builder_operations.proofs.ThenLemmas.{attempts_as}
 use Rattle.ir_builder_expressions.specs.declared.applying.Unary.{Unary}
 use Rattle.ir_builder_expressions.specs.declared.applying.Unary.TheVariants as unary
 use Rattle.ir_builder_expressions.specs.declared.applying.Binary.{Binary}
@@ -26,7 +27,7 @@ use Rattle.ir_builder_expressions.specs.Compiled.{is_i64, literal_in}
 use Rattle.ir_builder_expressions.specs.Parts.{is_simple, native_in, sort_by, part_sort}
 use Rattle.ir_builder_expressions.specs.Applying.{unary_goes, binary_goes, UnarySuits, BinarySuits}
 use Rattle.ir_builder_comparisons.specs.Comparing.{FindsTruth, Inverts}
-use Rattle.ir_builder_expressions.proofs.FollowLemmas.{makes_attempt, attempts_as}
+use Rattle.ir_builder_expressions.proofs.FollowLemmas.{makes_attempt}
 use Rattle.ir_builder_expressions.proofs.TestLemmas.{truth_attempts}
 
 -- ---- the type of a part

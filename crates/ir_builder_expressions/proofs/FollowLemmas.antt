@@ -35,14 +35,6 @@ makes_attempt K b c r t from acts find made = record {
       makes_arrives p fn K from b c r t below (length b.regs) regs regs x s s k.value k.held res (IsThrown fn h below x (length b.regs) regs) made at.has (le_refl _) (λ j lt. refl) (same_refl x regs s match) k.does k.made k.shows;
 }
 
--- what an operation does by another name
-pub attempts_as : (K : Showing) (b c : Building) (r : ℕ) (t : RType) (first second : Regs → State → Outcome Value → Type 0) → ((regs : Regs) (s : State) (res : Outcome Value) → second regs s res → first regs s res) → Attempts K b c r t first → Attempts K b c r t second
-attempts_as K b c r t first second by a = record {
-  extends = a.extends;
-  type = a.type;
-  runs = λ p fn h at x room regs below s match res f. a.runs p fn h at x room regs below s match res (by regs s res f);
-}
-
 -- ---- behind an operation
 
 module _ (p : Program) (fn : ℕ) (h : Option ℕ) (below : List Waiting) (x : Setting) where

@@ -19,10 +19,11 @@ use Rattle.ir_builder_frames.proofs.HeldLemmas.{type_below}
 use Rattle.ir_builder_operations.specs.Operating.{is_whole, ActsOn, ActsOnTwo}
 use Rattle.ir_builder_operations.proofs.KindLemmas.{by_int, by_i64}
 use Rattle.ir_builder_operations.proofs.PartLemmas.{stays}
+use Rattle.ir_builder_operations.proofs.ThenLemmas.{attempts_as}
 use Rattle.ir_builder_expressions.specs.Compiled.{literal_in}
 use Rattle.ir_builder_expressions.specs.Parts.{native_in, sort_by, part_sort}
 use Rattle.ir_builder_expressions.proofs.ValueLemmas.{number_coerced}
-use Rattle.ir_builder_expressions.proofs.FollowLemmas.{attempts_as, attempts_then, two_attempts}
+use Rattle.ir_builder_expressions.proofs.FollowLemmas.{attempts_then, two_attempts}
 
 pub whole_numeric : (t : Sort) → is_whole t ≡ true → is_number t ≡ true
 whole_numeric sort.Int e = refl

@@ -52,7 +52,11 @@ literal_within : (n : ℤ) → is_literal n ≡ true → lies_within 127 n ≡ t
 literal_within (pos n) h = h
 literal_within (negsuc n) h = absurd (cc)
 
-same_sorts : (ss ts : List Sort) → are_same_types (sorts_of ss) (sorts_of ts) ≡ true → ss ≡ ts
+pub either_of : (a b : Bool) → (a || b) ≡ true → (a ≡ true) ⊎ (b ≡ true)
+either_of true b h = inl refl
+either_of false b h = inr h
+
+pub same_sorts : (ss ts : List Sort) → are_same_types (sorts_of ss) (sorts_of ts) ≡ true → ss ≡ ts
 same_sorts [] [] e = refl
 same_sorts [] (t ∷ ts) e = absurd (cc)
 same_sorts (s ∷ ss) [] e = absurd (cc)
@@ -130,10 +134,6 @@ module _ (m : TypedModule) (vs : List Variable) (init : Option ℕ) where
   read_as : (k : Bool) (o : Option Variable) (t : Sort) → ((v : Variable) → o ≡ Some v → is_scalar v.1 ≡ true) → is_type (option_map (reads_as k) (option_map (λ x. x.1) o)) t ≡ true → (v : Variable) × (o ≡ Some v) × (v.1 ≡ t)
   read_as k None t all h = absurd (cc)
   read_as k (Some v) t all h = (v, refl, sym (reads_itself k v.1 (all v refl)) ∙ one_type (reads_as k v.1) t h)
-
-  either_of : (a b : Bool) → (a || b) ≡ true → (a ≡ true) ⊎ (b ≡ true)
-  either_of true b h = inl refl
-  either_of false b h = inr h
 
   local_suits : AllScalar → (known : List ℕ) (i : ℕ) (t : Sort) → rule m vs init known (Local i) t ≡ true → (v : Variable) × (slice_get vs i ≡ Some v) × (v.1 ≡ t)
   local_suits scalars known i t r =

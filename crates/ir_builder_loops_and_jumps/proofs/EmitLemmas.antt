@@ -40,7 +40,7 @@ use Rattle.ir_builder_loops_and_jumps.specs.Tested.{means_arms, Tested}
 use Rattle.ir_builder_loops_and_jumps.specs.Means.{means, means_statement, means_suite, means_alone, means_assignment, means_update, means_return}
 use Rattle.ir_builder_frames.proofs.ComingLemmas.{ends_of}
 use Rattle.ir_builder_frames.proofs.HeldLemmas.{extends_trans}
-use Rattle.ir_builder_loops_and_jumps.proofs.ExitLemmas.{stays_by, open_on, open_append}
+use Rattle.ir_builder_loops_and_jumps.proofs.ExitLemmas.{stays_by, open_on, open_append, same_way_is}
 use Rattle.ir_builder_loops_and_jumps.proofs.FlowLemmas.{none_works, then_works}
 use Rattle.ir_builder_loops_and_jumps.proofs.LoopLemmas.{while_works}
 use Rattle.ir_builder_loops_and_jumps.proofs.BranchLemmas.{tests_none, tests_next, if_works}
@@ -95,24 +95,6 @@ left_none plan w (x ∷ xs) e =
 
 pub leaves_left : (plan : Way → Option ℕ) (xs : List Exit) → LeavesNoLoop xs → LeavesNoLoop (left plan xs)
 leaves_left plan xs a = (left_none plan Break xs a.0, left_none plan Continue xs a.1)
-
-same_way_is : (w v : Way) → is_same_way w v ≡ true → v ≡ w
-same_way_is Break Break e = refl
-same_way_is Continue Continue e = refl
-same_way_is Return Return e = refl
-same_way_is Join Join e = refl
-same_way_is Break Continue e = let f : false ≡ true = e in absurd (cc)
-same_way_is Break Return e = let f : false ≡ true = e in absurd (cc)
-same_way_is Break Join e = let f : false ≡ true = e in absurd (cc)
-same_way_is Continue Break e = let f : false ≡ true = e in absurd (cc)
-same_way_is Continue Return e = let f : false ≡ true = e in absurd (cc)
-same_way_is Continue Join e = let f : false ≡ true = e in absurd (cc)
-same_way_is Return Break e = let f : false ≡ true = e in absurd (cc)
-same_way_is Return Continue e = let f : false ≡ true = e in absurd (cc)
-same_way_is Return Join e = let f : false ≡ true = e in absurd (cc)
-same_way_is Join Break e = let f : false ≡ true = e in absurd (cc)
-same_way_is Join Continue e = let f : false ≡ true = e in absurd (cc)
-same_way_is Join Return e = let f : false ≡ true = e in absurd (cc)
 
 planned_none : (plan : Way → Option ℕ) (w : Way) (t : ℕ) (xs : List Exit) → plan w ≡ Some t → uses w (left plan xs) ≡ false
 planned_none plan w t [] some = refl

@@ -119,23 +119,23 @@ left_append plan (x ∷ xs) ys =
     stays_append None x l m = refl
     stays_append (Some t) x l m = refl
 
-same_is : (w v : Way) → is_same_way w v ≡ true → v ≡ w
-same_is Break Break e = refl
-same_is Break Continue e = cc
-same_is Break Return e = cc
-same_is Break Join e = cc
-same_is Continue Break e = cc
-same_is Continue Continue e = refl
-same_is Continue Return e = cc
-same_is Continue Join e = cc
-same_is Return Break e = cc
-same_is Return Continue e = cc
-same_is Return Return e = refl
-same_is Return Join e = cc
-same_is Join Break e = cc
-same_is Join Continue e = cc
-same_is Join Return e = cc
-same_is Join Join e = refl
+pub same_way_is : (w v : Way) → is_same_way w v ≡ true → v ≡ w
+same_way_is Break Break e = refl
+same_way_is Break Continue e = cc
+same_way_is Break Return e = cc
+same_way_is Break Join e = cc
+same_way_is Continue Break e = cc
+same_way_is Continue Continue e = refl
+same_way_is Continue Return e = cc
+same_way_is Continue Join e = cc
+same_way_is Return Break e = cc
+same_way_is Return Continue e = cc
+same_way_is Return Return e = refl
+same_way_is Return Join e = cc
+same_way_is Join Break e = cc
+same_way_is Join Continue e = cc
+same_way_is Join Return e = cc
+same_way_is Join Join e = refl
 
 -- a way without a place is still used by what is left
 pub uses_left : (plan : Way → Option ℕ) (w : Way) (xs : List Exit) → plan w ≡ None → uses w xs ≡ true → uses w (left plan xs) ≡ true
@@ -149,7 +149,7 @@ uses_left plan w (x ∷ xs) none u = one (is_same_way w x.way) (uses w xs) refl 
     one : (a b : Bool) → is_same_way w x.way ≡ a → (a || b) ≡ true → (b ≡ true → uses w (left plan xs) ≡ true) → uses w (stays (plan x.way) x (left plan xs)) ≡ true
     one true b is e rest =
         let P : Option ℕ → Type 0 = λ o. uses w (stays o x (left plan xs)) ≡ true in
-        subst P (sym (ap plan (same_is w x.way is) ∙ none)) (ap (λ a. a || uses w (left plan xs)) is)
+        subst P (sym (ap plan (same_way_is w x.way is) ∙ none)) (ap (λ a. a || uses w (left plan xs)) is)
     one false b is e rest = dropped (plan x.way) (rest e)
 
 pub within_patches : (p : Program) (fn : ℕ) (b c : Building) (x y : ℕ) (es : List Exit) (plan : Way → Option ℕ) (from to : ℕ) (h : Option ℕ) → PatchesAll b c x y es plan → Within p fn c from to h → Within p fn b from to h

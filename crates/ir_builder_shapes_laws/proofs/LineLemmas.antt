@@ -8,7 +8,6 @@ use Rattle.std.proofs.lemmas.List.{length-map}
 use Rattle.std.proofs.lemmas.Option.{slice_get_within, slice_get-map}
 use Rattle.value_core.specs.Value.{IntVal}
 use Rattle.c_core.specs.declared.code.Kind.{Kind}
-use Rattle.c_core.specs.declared.code.Kind.TheVariants.{Tagged, Int64, Char, Object}
 use Rattle.c_core.specs.declared.code.CArg.{CArg}
 use Rattle.c_core.specs.declared.code.Line.{Line}
 use Rattle.c_core.specs.declared.code.CFunc.{CFunc}
@@ -19,7 +18,7 @@ use Rattle.c_core.specs.Arguments.{kind_of_global}
 use Rattle.c_core.specs.Functions.{function_named, parameter_kinds}
 use Rattle.c_core.specs.Machine.{ShortInt, TaggedError}
 use Rattle.c_core.specs.Primitives.{Is, Parameter, Borrows, TakesText, Owned, row_of, primitive_named}
-use Rattle.c_core.specs.WellFormed.{is_identifier, is_call_name, is_declared, kind_at, spelled_arg, spelled_label, spelled_line, spelled_literal, same_kind, has_kind, same_kinds, kinds_agree, literal_fits, passes, args_fit, target_fits, function_call_fits, call_fits, line_fits}
+use Rattle.c_core.specs.WellFormed.{is_identifier, is_call_name, is_declared, kind_at, spelled_arg, spelled_label, spelled_line, spelled_literal, has_kind, same_kinds, kinds_agree, literal_fits, passes, args_fit, target_fits, function_call_fits, call_fits, line_fits}
 use Rattle.ir_core.specs.declared.code.RType.{RType}
 use Rattle.ir_core.specs.declared.code.RType.TheVariants.{Int, I64, Bool as BoolType, Ref}
 use Rattle.ir_core.specs.declared.code.Lit.{Lit as Literal}
@@ -39,16 +38,11 @@ use Rattle.ir_core.specs.Registers.{Unset, Holds, literal_of}
 use Rattle.ir_core.specs.Rows.{Declared}
 use Rattle.ir_core.specs.Shape.{LastFits, BlocksFit}
 use Rattle.ir_core.proofs.RowLemmas.{primitive_found}
+use Rattle.ir_core.proofs.TextLemmas.{same_self}
 use Rattle.ir_builder_frames.specs.Kinds.{FunctionType, Surrounding, IsOf, AreArguments, Take, Answers, Reports, ReadsGlobal, WritesGlobal, LiteralFits, OpKinds, OpsKinds, LastKinds, BlocksKinds}
 use Rattle.ir_builder_shapes_laws.specs.Built.{head_of_code}
 use Rattle.ir_builder_shapes_laws.proofs.SpellingLemmas.{primitive_spelled, call_spelled}
 use Rattle.ir_builder_shapes_laws.proofs.NameLemmas.{IsKnown}
-
-same_self : (k : Kind) → same_kind k k ≡ true
-same_self Tagged = refl
-same_self Int64 = refl
-same_self Char = refl
-same_self Object = refl
 
 -- ---- literals
 

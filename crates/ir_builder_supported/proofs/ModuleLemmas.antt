@@ -10,9 +10,8 @@ use Rattle.c_core.specs.WellFormed.{is_identifier, names_differ}
 use Rattle.c_core.proofs.Lines.{all_at as at_each}
 use Rattle.py_syntax.specs.Statements.{StmtTree, Suite}
 use Rattle.py_check_names.specs.Outline.{suite_definitions}
-use Rattle.py_typed.specs.Sorts.{Sort, sorts_of}
 use Rattle.py_typed.specs.Classes.{ClassEntry, Signature}
-use Rattle.py_typed.specs.Fits.{is_same_type, are_same_types, is_nothing}
+use Rattle.py_typed.specs.Fits.{is_same_type, is_nothing}
 use Rattle.py_typed.specs.Narrowing.{is_closed}
 use Rattle.py_typed.specs.Statements.{Variable, TypedFunc, TypedModule}
 use Rattle.py_typed.specs.WellTypedExpr.{init_class}
@@ -22,12 +21,12 @@ use Rattle.py_typed.proofs.FitLemmas.{and_left, and_right, one_type}
 use Rattle.py_check_unbuilt.specs.Later.{lesser, least}
 use Rattle.ir_builder_frames.specs.Matching.{parameter_sorts}
 use Rattle.ir_builder_expressions.specs.Compiled.{is_scalar, is_result}
-use Rattle.ir_builder_expressions.proofs.SuitLemmas.{AllScalar, AllSigned}
+use Rattle.ir_builder_expressions.proofs.SuitLemmas.{AllScalar, AllSigned, same_sorts, either_of}
 use Rattle.ir_builder_statements.specs.Modules.{FunctionSuits, ModuleSuits}
 use Rattle.ir_builder_supported.specs.Statements.{suite_lines, is_none, are_scalars, is_function, is_def, definition_line, function_lines, functions_lines}
 use Rattle.ir_builder_supported.specs.Laws.{CompiledSuits}
 use Rattle.ir_builder_supported.proofs.CompiledLemmas.{none_left, none_right, form_of, parts_of}
-use Rattle.ir_builder_supported.proofs.SuiteLemmas.{either_of, suite_suits}
+use Rattle.ir_builder_supported.proofs.SuiteLemmas.{suite_suits}
 
 -- ---- lines
 
@@ -124,12 +123,6 @@ module _ (m : TypedModule) where
       }
 
   -- ---- signatures
-
-  same_sorts : (ss ts : List Sort) → are_same_types (sorts_of ss) (sorts_of ts) ≡ true → ss ≡ ts
-  same_sorts [] [] e = refl
-  same_sorts [] (t ∷ ts) e = absurd (cc)
-  same_sorts (s ∷ ss) [] e = absurd (cc)
-  same_sorts (s ∷ ss) (t ∷ ts) e = ap (λ x. x ∷ ss) (one_type s t (and_left _ _ e)) ∙ ap (λ l. t ∷ l) (same_sorts ss ts (and_right _ _ e))
 
   signed_as : (f : TypedFunc) (s : Signature) → f.class ≡ None → signature_fits (Some s) f ≡ true → (s.params ≡ parameter_sorts f) × (s.ret ≡ f.ret)
   signed_as f s own h = (

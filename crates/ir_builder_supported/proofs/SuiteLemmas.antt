@@ -1,6 +1,6 @@
 -- A well typed statement in which all is compiled suits, in a function whose variables are numbers, bools and texts.
 use Rattle.std.proofs.Common.{◌≡◌, refl, sym, ◌∙◌, ap, subst, ℕ, Bool, true, false, List, [], ◌∷◌, ◌++◌, Option, Some, None, ◌⊎◌, ⊎_elim, inl, inr}
-use Rattle.std.specs.Prelude.{not, ◌&&◌, ◌||◌, if◌then◌else◌, slice_get}
+use Rattle.std.specs.Prelude.{not, ◌&&◌, if◌then◌else◌, slice_get}
 use Rattle.py_syntax.specs.declared.expression.BinOp.{BinOp}
 use Rattle.py_syntax.specs.declared.expression.BinOp.TheVariants.{Add, Sub, Mul, FloorDiv, Mod, Shl, Shr}
 use Rattle.py_syntax.specs.declared.token.Span.{Span}
@@ -19,7 +19,7 @@ use Rattle.ir_builder_expressions.specs.declared.applying.Binary.TheVariants.{Ar
 use Rattle.ir_builder_expressions.specs.Compiled.{is_int, is_i64, is_scalar, is_built}
 use Rattle.ir_builder_expressions.specs.Applying.{BinarySuits}
 use Rattle.ir_builder_expressions.specs.Suiting.{Suits}
-use Rattle.ir_builder_expressions.proofs.SuitLemmas.{AllScalar, AllSigned, gives_value, reads_itself, well_typed_suits, well_typed_node}
+use Rattle.ir_builder_expressions.proofs.SuitLemmas.{AllScalar, AllSigned, gives_value, reads_itself, well_typed_suits, well_typed_node, either_of}
 use Rattle.ir_builder_statements.specs.Suiting.{PrintSuits, DoSuits, IsOnly, UpdateSuits, VariableUpdates, ReturnSuits, StatementSuits, ActSuits, SuiteSuits, ArmsSuit}
 use Rattle.ir_builder_supported.specs.Expressions.{line_at, is_form, expression_lines, part_lines, row_lines}
 use Rattle.ir_builder_supported.specs.Statements.{alone_lines, is_one, is_taken, takes_result, is_updated, returned_lines, statement_lines, act_lines, suite_lines, arms_lines}
@@ -51,10 +51,6 @@ sort_of (Some v) = v.1
 sort_found : (vs : List Variable) (i : ℕ) (o : Option Variable) → slice_get vs i ≡ o → sort_at vs i ≡ sort_of o
 sort_found vs i None e = rw (e, sort_at) refl
 sort_found vs i (Some v) e = rw (e, sort_at) refl
-
-pub either_of : (a b : Bool) → (a || b) ≡ true → (a ≡ true) ⊎ (b ≡ true)
-either_of true b h = inl refl
-either_of false b h = inr h
 
 never : false ≡ true → ⊥
 never e = absurd (cc)

@@ -11,3 +11,4 @@ pub mod JumpLemmas
 pub mod RowLemmas
 pub mod SpellingLemmas
 pub mod TextLemmas
+pub mod ItemLemmas

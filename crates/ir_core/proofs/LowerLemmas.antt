@@ -14,7 +14,7 @@ use Rattle.ir_core.specs.Lower.{line_of, op_lines, label_before, label_of, end_l
 use Rattle.ir_core.specs.Lowered.{AreOps, IsEnd, IsLabelled, IsBlockAt, IsLaid, IsLaidAt, IsLowered}
 
 -- ---- lists
-drop_all : {A : Type 0} (n : ℕ) (xs ys : List A) → drop (length xs + n) (xs ++ ys) ≡ drop n ys
+pub drop_all : {A : Type 0} (n : ℕ) (xs ys : List A) → drop (length xs + n) (xs ++ ys) ≡ drop n ys
 drop_all n [] ys = let e : 0 + n ≡ n = omega arith in ap (λ i. drop i ys) e
 drop_all n (x ∷ xs) ys =
     let e : suc (length xs) + n ≡ suc (length xs + n) = omega arith in

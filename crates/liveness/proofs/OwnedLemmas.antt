@@ -9,6 +9,7 @@ use Rattle.ir_core.specs.declared.code.Last.{Last}
 use Rattle.ir_core.specs.declared.code.Block.{Block}
 use Rattle.ir_core.specs.declared.code.Func.{Func}
 use Rattle.ir_core.specs.Items.{Item, Do, End, in_block, item_in}
+use Rattle.ir_core.proofs.ItemLemmas.{op_item}
 use Rattle.liveness.specs.declared.step.Step.{Step}
 use Rattle.liveness.specs.declared.step.Steps.{Steps}
 use Rattle.liveness.specs.Paths.{is_among, is_target, write_of, writes, lends, gives_lent, targets, Goes, passes, fails, jumps, MetAt, entry, onward, OwnedAt, no_parameter, written, kept, BorrowedAt}
@@ -68,12 +69,6 @@ get_none [] i le = refl
 get_none (x ∷ xs) zero le = absurd (omega (arith, le))
 get_none (x ∷ xs) (suc i) le = get_none xs i (omega (arith, le))
 
-get_item : (ops : List (Op × ℕ)) (last : Last) (p : ℕ) (o : Op × ℕ) → slice_get ops p ≡ Some o → in_block ops last p ≡ Some (Do o.0)
-get_item [] last p o e = cc
-get_item (q ∷ ops) last zero o e =
-    let f : q ≡ o = cc in ap (λ (z : Op × ℕ). Some (Do z.0)) f
-get_item (q ∷ ops) last (suc p) o e = get_item ops last p o e
-
 item_get : (ops : List (Op × ℕ)) (last : Last) (p : ℕ) (o : Op) → in_block ops last p ≡ Some (Do o) → (x : Op × ℕ) × (slice_get ops p ≡ Some x) × (x.0 ≡ o)
 item_get [] last zero o e = let f : Some (End last) ≡ Some (Do o) = e in absurd (cc)
 item_get [] last (suc p) o e = let f : None ≡ Some (Do o) = e in absurd (cc)
@@ -107,7 +102,7 @@ lends_none : (o : Outcome) → lends o ≡ false
 lends_none Nothing = refl
 lends_none (Owned k) = refl
 
-no_lent : (i : Item) → gives_lent i ≡ false
+pub no_lent : (i : Item) → gives_lent i ≡ false
 no_lent (Do (op.Move r s)) = refl
 no_lent (Do (op.Lit r l)) = refl
 no_lent (Do (op.Prim to p args)) = lends_none (row_of p).outcome
@@ -134,7 +129,7 @@ module _ (f : Func) where
   met_walk b k is m zero le = m
   met_walk b k is m (suc n) le =
       let o = there_is k.ops n (omega (arith, le)) in
-      onward b n b (suc n) (met_walk b k is m n (omega (arith, le))) (passes b n o.0.0 (item_here b n k (Do o.0.0) is (get_item k.ops k.last n o.0 o.1)))
+      onward b n b (suc n) (met_walk b k is m n (omega (arith, le))) (passes b n o.0.0 (item_here b n k (Do o.0.0) is (op_item k.ops k.last n o.0 o.1)))
 
   path_met : (b p : ℕ) → MetAt f b p → Met (map steps_of f.blocks) b
   path_met b p entry = first
@@ -188,7 +183,7 @@ module _ (f : Func) where
     owned_walk x b k is m start zero le e = start (sym (or_none x) ∙ e)
     owned_walk x b k is m start (suc n) le e =
         let o = there_is k.ops n (omega (arith, le)) in
-        let item = item_here b n k (Do o.0.0) is (get_item k.ops k.last n o.0 o.1) in
+        let item = item_here b n k (Do o.0.0) is (op_item k.ops k.last n o.0 o.1) in
         let more = sym (bit_more x k n o.0 o.1) ∙ e in
         ⊎_elim
         (λ w. written b n b (suc n) (Do o.0.0) (met_walk b k is m n (omega (arith, le))) item w (no_lent (Do o.0.0)) (passes b n o.0.0 item))

@@ -1,7 +1,6 @@
 -- Blocks that are planned and laid out are the blocks of the function with their counts.
 use Rattle.std.proofs.Common.{◌≡◌, ℕ, zero, suc, ◌+◌, ◌-◌, ◌<◌, ◌≤◌, ◌^◌, Bool, true, false, List, [], ◌∷◌, ◌++◌, take, drop, length, get_or, Some, refl, sym, ap, ◌∙◌, ⊎_elim, subst, arith}
 use Rattle.std.specs.Prelude.{slice_get, cond, nat_lt}
-use Rattle.std.proofs.lemmas.Option.{same_Some}
 use Rattle.ir_core.specs.declared.code.Op.{Op}
 use Rattle.ir_core.specs.declared.code.Block.{Block}
 use Rattle.ir_core.specs.declared.code.Func.{Func}
@@ -9,6 +8,7 @@ use Rattle.ir_core.specs.declared.code.Last.{Last}
 use Rattle.ir_core.specs.declared.code.Last.TheVariants.{Goto, If, IfError, Return, Unreachable}
 use Rattle.ir_core.specs.Items.{Item, Do, End, in_block, item_of, item_in}
 use Rattle.ir_core.specs.Shape.{ends_in_turn, LastFits, BlocksFit, FuncFits}
+use Rattle.ir_core.proofs.ItemLemmas.{end_item, op_item}
 use Rattle.c_core_ownership_laws.specs.Shares.{put}
 use Rattle.liveness.specs.Paths.{is_among, targets}
 use Rattle.liveness.specs.Liveness.{says_live, says_borrowed, starts_of}
@@ -62,16 +62,6 @@ take_get zero i xs x e = absurd (cc)
 take_get (suc n) i [] x e = absurd (cc)
 take_get (suc n) zero (y ∷ xs) x e = e
 take_get (suc n) (suc i) (y ∷ xs) x e = take_get n i xs x e
-
-op_there : (ops : List (Op × ℕ)) (last : Last) (p : ℕ) (o : Op × ℕ) → slice_get ops p ≡ Some o → in_block ops last p ≡ Some (Do o.0)
-op_there [] last p o e = absurd (cc)
-op_there (x ∷ ops) last zero o e =
-    let h : x ≡ o = same_Some _ _ e in ap (λ (z : Op × ℕ). Some (Do z.0)) h
-op_there (x ∷ ops) last (suc p) o e = op_there ops last p o e
-
-end_there : (ops : List (Op × ℕ)) (last : Last) → in_block ops last (length ops) ≡ Some (End last)
-end_there [] last = refl
-end_there (o ∷ ops) last = end_there ops last
 
 first_there : (ops : List (Op × ℕ)) (last : Last) → (i : Item) × (in_block ops last 0 ≡ Some i)
 first_there [] last = (End last, refl)
@@ -194,7 +184,7 @@ module _ (f : Func) (known : KnownRegisters) (is : IsKnown f known) (number : �
 module _ (f : Func) (known : KnownRegisters) (is : IsKnown f known) (number : ℕ → ℕ) where
   block_ops : (b : ℕ) (k : Block) → slice_get f.blocks b ≡ Some k → (p : ℕ) (o : Op × ℕ) (g : List (Op × ℕ)) → slice_get k.ops p ≡ Some o → IsCountedOp known f.regs (owned_at known f.regs b p) (owned_at known f.regs b (suc p)) o g → IsGroup (counts_register f.regs) o (owned_at known f.regs b p) (owned_at known f.regs b (suc p)) g
   block_ops b k here p o g there one =
-      group_is f known is b p o g (ap (λ z. item_of z p) here ∙ op_there k.ops k.last p o there) one
+      group_is f known is b p o g (ap (λ z. item_of z p) here ∙ op_item k.ops k.last p o there) one
 
   blocks_are : (k m : ℕ) (bs : List Block) (ps : List Planned) → ((i : ℕ) (b : Block) → slice_get bs i ≡ Some b → slice_get f.blocks (k + i) ≡ Some b) → BlocksFit (length f.blocks) k bs → ArePlanned known f.regs k bs ps → ((i : ℕ) → i < length ps → number (k + i) ≡ get_or (starts_from m ps) i 0) → AreBlocks f (tables_of f known is) number k m bs (all_laid number m ps)
   blocks_are k m [] [] there fits planned numbers = refl
@@ -203,7 +193,7 @@ module _ (f : Func) (known : KnownRegisters) (is : IsKnown f known) (number : �
   blocks_are k m (b ∷ bs) (p ∷ ps) there fits planned numbers =
       let e : k + 0 ≡ k = omega arith in
       let here : slice_get f.blocks k ≡ Some b = ap (slice_get f.blocks) (sym e) ∙ there 0 b refl in
-      let at_end : item_in f.blocks k (length b.ops) ≡ Some (End b.last) = ap (λ z. item_of z (length b.ops)) here ∙ end_there b.ops b.last in
+      let at_end : item_in f.blocks k (length b.ops) ≡ Some (End b.last) = ap (λ z. item_of z (length b.ops)) here ∙ end_item b.ops b.last in
       let plan = planned.0 in
       let size = blocks_count number p.first p.second p.last in
       let next : m + 1 + length (edge_blocks number p.first p.second p.last) ≡ m + size_of p = omega (arith, size) in

@@ -1,5 +1,5 @@
 -- The counts of what an operation touches are all its counts: any other register has before it what it is to have behind it.
-use Rattle.std.proofs.Common.{◌≡◌, ℕ, zero, suc, ◌+◌, ◌-◌, ◌≤◌, Bool, true, false, not, List, [], ◌∷◌, length, Some, None, refl, sym, ap, ◌∙◌, ⊎_elim, arith}
+use Rattle.std.proofs.Common.{◌≡◌, ℕ, suc, ◌+◌, ◌-◌, ◌≤◌, Bool, true, false, not, List, [], ◌∷◌, length, Some, refl, sym, ap, ◌∙◌, ⊎_elim, arith}
 use Rattle.std.specs.Prelude.{slice_get, ◌&&◌, ◌||◌, cond, nat_eq}
 use Rattle.std.specs.Option.{option_map, option_map_or}
 use Rattle.c_core.specs.Cells.{times}
@@ -10,10 +10,10 @@ use Rattle.ir_core.specs.declared.code.Op.{Op}
 use Rattle.ir_core.specs.declared.code.Op.TheVariants.{Move, Lit, Prim, Call, Virtual, TraitCall, Turn, Inc, Dec, XDec}
 use Rattle.ir_core.specs.declared.code.Func.{Func}
 use Rattle.ir_core.specs.declared.code.Block.{Block}
-use Rattle.ir_core.specs.declared.code.Last.{Last}
 use Rattle.ir_core.specs.declared.code.RType.{RType}
-use Rattle.ir_core.specs.Items.{Item, Do, End, in_block, item_of, item_in}
+use Rattle.ir_core.specs.Items.{Item, Do, item_of, item_in}
 use Rattle.ir_core.specs.Rows.{Declared}
+use Rattle.ir_core.proofs.ItemLemmas.{next_item}
 use Rattle.c_core_ownership_laws.specs.Shares.{one_if}
 use Rattle.liveness.specs.Paths.{is_among, is_target, reads_of, write_of, registers_in}
 use Rattle.liveness.specs.Liveness.{says_live, says_borrowed}
@@ -88,17 +88,10 @@ pub not_counted : (regs : Declared) (r : ℕ) → length regs ≤ r → counts_r
 not_counted regs r le =
     ap (λ z. option_map_or is_counted (option_map (λ (x : List ℕ × RType). x.1) z) false) (get_none regs r le)
 
-next_in : (ops : List (Op × ℕ)) (last : Last) (p : ℕ) (o : Op) → in_block ops last p ≡ Some (Do o) → (i : Item) × (in_block ops last (suc p) ≡ Some i)
-next_in [] last zero o e = let f : Some (End last) ≡ Some (Do o) = e in absurd (cc)
-next_in [] last (suc p) o e = let f : None ≡ Some (Do o) = e in absurd (cc)
-next_in (x ∷ []) last zero o e = (End last, refl)
-next_in (x ∷ y ∷ ops) last zero o e = (Do y.0, refl)
-next_in (x ∷ ops) last (suc p) o e = next_in ops last p o e
-
-next_item : (blocks : List Block) (b p : ℕ) (o : Op) → item_in blocks b p ≡ Some (Do o) → (i : Item) × (item_in blocks b (suc p) ≡ Some i)
-next_item blocks b p o e =
+next_there : (blocks : List Block) (b p : ℕ) (o : Op) → item_in blocks b p ≡ Some (Do o) → (i : Item) × (item_in blocks b (suc p) ≡ Some i)
+next_there blocks b p o e =
     let there = item_block (slice_get blocks b) p (Do o) e in
-    let next = next_in there.0.ops there.0.last p o (ap (λ z. item_of z p) (sym there.1) ∙ e) in
+    let next = next_item there.0.ops there.0.last p o (ap (λ z. item_of z p) (sym there.1) ∙ e) in
     (next.0, ap (λ z. item_of z (suc p)) there.1 ∙ next.1)
 
 module _ (f : Func) (known : KnownRegisters) (is : IsKnown f known) where
@@ -106,7 +99,7 @@ module _ (f : Func) (known : KnownRegisters) (is : IsKnown f known) where
   untouched b p o r here no_read no_write =
       ⊎_elim
       (λ lt.
-      let next = next_item f.blocks b p o here in
+      let next = next_there f.blocks b p o here in
       let live = same_truth (says_live known.live b p r) (says_live known.live b (suc p) r) (is.live b p r (Do o) here lt) (is.live b (suc p) r next.0 next.1 lt) (live_behind f r b p o here no_read no_write) (live_before f r b p o here no_read no_write) in
       let lent = same_truth (says_borrowed known.lent b p r) (says_borrowed known.lent b (suc p) r) (is.lent b p r (Do o) here lt) (is.lent b (suc p) r next.0 next.1 lt) (λ h owned. h (owned_before f r b p o here no_read no_write owned)) (λ h owned. h (owned_behind f r b p o here no_read no_write owned)) in
       ap (λ z. one_if (counts_register f.regs r && (z && not (says_borrowed known.lent b p r)))) live ∙ ap (λ z. one_if (counts_register f.regs r && (says_live known.live b (suc p) r && not z))) lent)

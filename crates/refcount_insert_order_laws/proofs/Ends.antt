@@ -18,6 +18,7 @@ use Rattle.ir_core.specs.declared.code.Program.{Program}
 use Rattle.ir_core.specs.Items.{Item, Do, End, in_block, item_of, item_in}
 use Rattle.ir_core.specs.Lower.{kind_of_type, variable_of, line_of, op_lines, label_of, end_lines}
 use Rattle.ir_core.specs.Shape.{LastFits}
+use Rattle.ir_core.proofs.ItemLemmas.{end_item}
 use Rattle.c_core_ownership_laws.specs.Shares.{put, Shares, with_share, has_cells, may_have_cells, may_refer, one_if, IsUsable, Jumps, Checks}
 use Rattle.liveness.specs.Paths.{targets, MetAt}
 use Rattle.refcount_insert_rule.specs.Rule.{IsEdge, IsReturned}
@@ -26,7 +27,7 @@ use Rattle.refcount_insert_order_laws.proofs.Numbers.{put_is, same_is, or_left, 
 use Rattle.refcount_insert_order_laws.proofs.Counts.{lines_append, ups_check, edge_check}
 use Rattle.refcount_insert_order_laws.proofs.Variables.{agrees, has_kind_is}
 use Rattle.refcount_insert_order_laws.proofs.Equations.{at, lent_at, end_usable, edge_usable, edge_lent, dead_returned, few_owned, off_owned}
-use Rattle.refcount_insert_order_laws.proofs.MetBlocks.{end_item, in_met, Marks}
+use Rattle.refcount_insert_order_laws.proofs.MetBlocks.{in_met, Marks}
 use Rattle.refcount_insert_order_laws.proofs.Bodies.{text_of}
 
 -- a label is entered with the shares with which its block starts

@@ -1,16 +1,15 @@
 -- What tables say of a place that is met and of the next one: an operation suits the shares of both.
-use Rattle.std.proofs.Common.{◌≡◌, refl, sym, ap, ◌∙◌, subst, ℕ, zero, suc, ◌≤◌, ◌<◌, inl, inr, ⊎_elim, Bool, true, false, cond, List, [], ◌∷◌, map, length, arith, Option, Some, None}
+use Rattle.std.proofs.Common.{◌≡◌, refl, sym, ap, ◌∙◌, subst, ℕ, suc, ◌≤◌, ◌<◌, inl, inr, ⊎_elim, Bool, true, false, cond, List, [], ◌∷◌, map, length, arith, Option, Some, None}
 use Rattle.std.specs.Prelude.{slice_get, nat_eq, nat_lt, ◌&&◌, ◌||◌, not}
 use Rattle.std.specs.Option.{option_map, option_map_or}
 use Rattle.std.proofs.lemmas.Option.{same_Some, slice_get_within}
 use Rattle.std.proofs.lemmas.Bool.{lt-ltb, ltb-true}
-use Rattle.c_core.specs.Primitives.{Outcome, Nothing, Owned, row_of}
 use Rattle.c_core.specs.WellFormed.{is_declared}
 use Rattle.c_core.proofs.Lines.{and_true}
 use Rattle.ir_core.specs.declared.code.RType.{RType}
 use Rattle.ir_core.specs.declared.code.Reg.{Reg}
 use Rattle.ir_core.specs.declared.code.Op.{Op}
-use Rattle.ir_core.specs.declared.code.Op.TheVariants.{Move, Lit, Prim, Call, Virtual, TraitCall, Turn, Inc, Dec, XDec}
+use Rattle.ir_core.specs.declared.code.Op.TheVariants.{Turn}
 use Rattle.ir_core.specs.declared.code.Last.{Last}
 use Rattle.ir_core.specs.declared.code.Last.TheVariants.{Return}
 use Rattle.ir_core.specs.declared.code.Block.{Block}
@@ -18,10 +17,12 @@ use Rattle.ir_core.specs.declared.code.Func.{Func}
 use Rattle.ir_core.specs.Items.{Item, Do, End, in_block, item_of, item_in}
 use Rattle.ir_core.specs.Rows.{Declared}
 use Rattle.ir_core.specs.Lower.{variable_of}
+use Rattle.ir_core.proofs.ItemLemmas.{next_item}
 use Rattle.c_core_ownership_laws.specs.Shares.{one_if, Shares, may_refer, IsUsable}
-use Rattle.liveness.specs.Paths.{is_among, reads_of, reads_of_last, write_of, is_target, is_lent, lends, gives_lent, targets, Goes, passes, fails, jumps, LiveAt, reads_here, goes_on, MetAt, entry, onward, OwnedAt, no_parameter, written, kept, BorrowedAt}
+use Rattle.liveness.specs.Paths.{is_among, reads_of, reads_of_last, write_of, is_target, is_lent, targets, Goes, passes, fails, jumps, LiveAt, reads_here, goes_on, MetAt, entry, onward, OwnedAt, no_parameter, written, kept, BorrowedAt}
 use Rattle.liveness.specs.Paths as path
 use Rattle.liveness.proofs.PathLemmas.{no_handler}
+use Rattle.liveness.proofs.OwnedLemmas.{no_lent}
 use Rattle.refcount_insert_rule.specs.Rule.{is_counted}
 use Rattle.refcount_insert_rule.specs.Counted.{counts_register, Tables, owned}
 use Rattle.refcount_insert_order_laws.proofs.Numbers.{either}
@@ -32,22 +33,6 @@ both_bools : (a b : Bool) → (a ≡ true → b ≡ true) → (b ≡ true → a 
 both_bools true b h g = sym (h refl)
 both_bools false true h g = g refl
 both_bools false false h g = refl
-
-no_lender : (o : Op) → gives_lent (Do o) ≡ false
-no_lender (Move r s) = refl
-no_lender (Lit r l) = refl
-no_lender (Prim to p args) = by (row_of p).outcome
-  where
-    by : (o : Outcome) → lends o ≡ false
-    by Nothing = refl
-    by (Owned k) = refl
-no_lender (Call r g args) = refl
-no_lender (Virtual r o n args) = refl
-no_lender (TraitCall r o t n args) = refl
-no_lender Turn = refl
-no_lender (Inc r) = refl
-no_lender (Dec r) = refl
-no_lender (XDec r) = refl
 
 -- a counted register is there
 abbrev by_counted : Option (List ℕ × RType) → Bool
@@ -107,13 +92,6 @@ one_none true false b e = refl
 one_none false l b e = refl
 
 -- ---- items
-next_item : (ops : List (Op × ℕ)) (last : Last) (p : ℕ) (o : Op) → in_block ops last p ≡ Some (Do o) → (i : Item) × (in_block ops last (suc p) ≡ Some i)
-next_item [] last zero o e = let f : Some (End last) ≡ Some (Do o) = e in absurd (cc)
-next_item [] last (suc p) o e = let f : None ≡ Some (Do o) = e in absurd (cc)
-next_item (x ∷ []) last zero o e = (End last, refl)
-next_item (x ∷ y ∷ ops) last zero o e = (Do y.0, refl)
-next_item (x ∷ ops) last (suc p) o e = next_item ops last p o e
-
 item_next : (b : Option Block) (p : ℕ) (o : Op) → item_of b p ≡ Some (Do o) → (i : Item) × (item_of b (suc p) ≡ Some i)
 item_next None p o e = let f : None ≡ Some (Do o) = e in absurd (cc)
 item_next (Some k) p o e = next_item k.ops k.last p o e
@@ -246,7 +224,7 @@ module _ (f : Func) where
       lent_off r lt hit = by (t.lent b (suc p) r) refl
         where
           by : (l : Bool) → t.lent b (suc p) r ≡ l → l ≡ false
-          by true e = absurd ((t.is_lent b (suc p) r behind.0 behind.1 lt).0 e (written b p b (suc p) (Do o) met is hit (no_lender o) (passes b p o is)))
+          by true e = absurd ((t.is_lent b (suc p) r behind.0 behind.1 lt).0 e (written b p b (suc p) (Do o) met is hit (no_lent (Do o)) (passes b p o is)))
           by false e = refl
 
       pub suits : ((r : ℕ) → is_among (reads_of o) r ≡ true → is_declared (map variable_of f.regs) r ≡ true) → ((r : ℕ) → is_declared (map variable_of f.regs) r ≡ true → may_refer (map variable_of f.regs) r ≡ counted r) → Suits (map variable_of f.regs) counted o (at b p) (at b (suc p))

@@ -17,6 +17,7 @@ use Rattle.ir_core.specs.Shape.{op_fits}
 use Rattle.c_core_ownership_laws.specs.Shares.{put, Shares, with_share, IsUsable}
 use Rattle.liveness.specs.Paths.{is_among, reads_of, write_of, is_target, registers_in}
 use Rattle.refcount_insert_rule.specs.Rule.{is_stolen, takes_one, taken, takes, gives, need, counts_before, done, counts_after, downs, given_up}
+use Rattle.refcount_insert_rule.proofs.Balance.{gives_least}
 use Rattle.refcount_insert_order_laws.proofs.Numbers.{put_is, eq_self, same_found, or_left, or_right, some_of, is_short, done_is, wanted_is, given_is}
 use Rattle.refcount_insert_order_laws.proofs.Counts.{Fine, usable_more, downs_check}
 
@@ -72,18 +73,6 @@ takes_read (Inc x) r le = absurd (omega (arith, le))
 takes_read (Dec x) r le = absurd (omega (arith, le))
 takes_read (XDec x) r le = absurd (omega (arith, le))
 
-gives_most : (o : Op) (w : ℕ) → w ≤ 1 → w ≤ gives o w
-gives_most (Move x y) w le = le
-gives_most (Lit x l) w le = omega arith
-gives_most (Prim to k args) w le = le
-gives_most (Call x n args) w le = le
-gives_most (Virtual x o n args) w le = le
-gives_most (TraitCall x o t n args) w le = le
-gives_most Turn w le = le
-gives_most (Inc x) w le = le
-gives_most (Dec x) w le = le
-gives_most (XDec x) w le = le
-
 cond_twice : (c : Bool) (n : ℕ) → cond c n 0 ≡ cond c (cond c n 0) 0
 cond_twice true n = refl
 cond_twice false n = refl
@@ -132,7 +121,7 @@ module _ (p q : Program) (code : Code) (g : CFunc) (counted : ℕ → Bool) (Ent
   finish ρ e l =
       let want : (r : ℕ) → counted r ≡ true → τ.owns r ≤ done counted o σ.owns τ.owns r = λ r is.
       subst (λ c. τ.owns r ≤ cond (is_target (write_of o) r) (gives o (τ.owns r)) (σ.owns r + cond c (need counted o σ.owns τ.owns r - σ.owns r) 0 - takes o r)) (sym is)
-      (wanted_is (is_target (write_of o) r) (τ.owns r) (gives o (τ.owns r)) (σ.owns r) (takes o r) (gives_most o (τ.owns r) (fit.few_after r))) in
+      (wanted_is (is_target (write_of o) r) (τ.owns r) (gives o (τ.owns r)) (σ.owns r) (takes o r) (gives_least o (τ.owns r) (fit.few_after r))) in
       let all : (r : ℕ) → (times (given_up ds) r ≤ ρ.owns r) × (τ.owns r ≡ ρ.owns r - times (given_up ds) r) = λ r.
       given_is (counted r) (done counted o σ.owns τ.owns r) (τ.owns r) (ρ.owns r) (times (given_up ds) r) (e r) (after r) (want r) (fit.off_after r) in
       let back : Fine q code g Enters End (record { owns = λ r. ρ.owns r - times (given_up ds) r; lent = τ.lent }) ls =

@@ -5,7 +5,8 @@ use Rattle.ir_core.specs.declared.code.Op.{Op}
 use Rattle.ir_core.specs.declared.code.Last.{Last}
 use Rattle.ir_core.specs.declared.code.Block.{Block}
 use Rattle.ir_core.specs.declared.code.Func.{Func}
-use Rattle.ir_core.specs.Items.{Do, End, in_block, item_of}
+use Rattle.ir_core.specs.Items.{Do, in_block, item_of}
+use Rattle.ir_core.proofs.ItemLemmas.{end_item}
 use Rattle.c_core_ownership_laws.specs.Shares.{one_if}
 use Rattle.liveness.specs.Paths.{targets, passes, jumps, MetAt, entry, onward}
 use Rattle.refcount_insert_order_laws.proofs.Numbers.{either, eq_self, or_right}
@@ -15,10 +16,6 @@ pub op_item : (ops : List (Op × ℕ)) (last : Last) (p : ℕ) → p < length op
 op_item [] last p lt = absurd (omega (arith, lt))
 op_item (x ∷ ops) last zero lt = (x.0, refl)
 op_item (x ∷ ops) last (suc p) lt = op_item ops last p (omega (arith, lt))
-
-pub end_item : (ops : List (Op × ℕ)) (last : Last) → in_block ops last (length ops) ≡ Some (End last)
-end_item [] last = refl
-end_item (x ∷ ops) last = end_item ops last
 
 pub in_met : (f : Func) (b : ℕ) (k : Block) → slice_get f.blocks b ≡ Some k → MetAt f b 0 → (p : ℕ) → p ≤ length k.ops → MetAt f b p
 in_met f b k is met zero le = met

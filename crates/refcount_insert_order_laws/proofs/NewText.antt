@@ -11,12 +11,11 @@ use Rattle.c_core.specs.declared.code.Line.TheVariants as line
 use Rattle.c_core.specs.declared.code.CFunc.{CFunc}
 use Rattle.c_core.specs.Functions.{number_of, function_named, after_prefix}
 use Rattle.c_core.specs.WellFormed.{named_kind}
-use Rattle.ir_core.specs.declared.code.Op.{Op}
-use Rattle.ir_core.specs.declared.code.Op.TheVariants.{Move, Lit, Prim, Call, Virtual, TraitCall, Turn, Inc, Dec, XDec}
 use Rattle.ir_core.specs.declared.code.Func.{Func}
 use Rattle.ir_core.specs.declared.code.Program.{Program}
 use Rattle.ir_core.specs.Names.{function_id}
-use Rattle.ir_core.specs.Lower.{kind_of_type, register_in, global_of, line_of, call_name, called_as, lowered_from, lower}
+use Rattle.ir_core.specs.Lower.{kind_of_type, global_of, call_name, called_as, lowered_from, lower}
+use Rattle.ir_core.proofs.TextLemmas.{line_same}
 use Rattle.c_core_ownership_laws.specs.Shares.{has_cells, returns_cells}
 use Rattle.refcount_insert_rule.specs.Counted.{IsCountedFunc, AreCounted, IsCountedProgram}
 use Rattle.refcount_insert_order_laws.proofs.Bodies.{AreAlike}
@@ -115,20 +114,6 @@ module _ (p q : Program) (is : IsCountedProgram p q) where
       ap (λ z. cond (nat_eq (suc n) z) [] (option_map_or call_name (slice_get q.funcs n) [])) (sym (counted_size p.funcs q.funcs is.funcs))
       ∙ ap (λ z. cond (nat_eq (suc n) (length p.funcs)) [] z) (names_same p.funcs q.funcs is.funcs n)
 
-  lines_same : (o : Op) → line_of q o ≡ line_of p o
-  lines_same (Move r s) = refl
-  lines_same (Lit r l) = refl
-  lines_same (Prim to k args) = refl
-  lines_same (Call r g args) =
-      ap (λ z. line.Call (Some r.0) z (map register_in args)) (calls_same g)
-  lines_same (Virtual r o n args) = refl
-  lines_same (TraitCall r o t n args) =
-      ap (λ cs. line_of (record p { classes = cs }) (TraitCall r o t n args)) is.classes
-  lines_same Turn = refl
-  lines_same (Inc r) = refl
-  lines_same (Dec r) = refl
-  lines_same (XDec r) = refl
-
   pub alike : AreAlike p q (lower q) (lower p)
   alike =
       record {
@@ -136,5 +121,5 @@ module _ (p q : Program) (is : IsCountedProgram p q) where
         returns = λ name.
             ap (λ o. returns_cells (option_and_then (slice_get (lower q).funcs) o)) (heads_named (lower q).funcs (lower p).funcs (heads 0 p.funcs q.funcs is.funcs) name (after_prefix (codes "CPyDef_") name))
             ∙ heads_returns (lower q).funcs (lower p).funcs (heads 0 p.funcs q.funcs is.funcs) (function_named (lower p).funcs name);
-        line = lines_same;
+        line = line_same p q is.classes calls_same;
       }

@@ -18,17 +18,17 @@ counts_balance counted o have want r is off =
     ∙ ap (λ n. have r + n - takes o r - want r) before) in
     ap (λ n. have r + n) before ∙ (numbers (have r) (takes o r) (want r) ∙ ap (λ n. takes o r + want r + n) (sym after))
 
-least : (o : Op) (w : ℕ) → w ≤ 1 → w ≤ gives o w
-least (Move x y) w le = le
-least (Lit x l) w le = omega arith
-least (Prim to q args) w le = le
-least (Call x f args) w le = le
-least (Virtual x o n args) w le = le
-least (TraitCall x o t n args) w le = le
-least Turn w le = le
-least (Inc x) w le = le
-least (Dec x) w le = le
-least (XDec x) w le = le
+pub gives_least : (o : Op) (w : ℕ) → w ≤ 1 → w ≤ gives o w
+gives_least (Move x y) w le = le
+gives_least (Lit x l) w le = omega arith
+gives_least (Prim to q args) w le = le
+gives_least (Call x f args) w le = le
+gives_least (Virtual x o n args) w le = le
+gives_least (TraitCall x o t n args) w le = le
+gives_least Turn w le = le
+gives_least (Inc x) w le = le
+gives_least (Dec x) w le = le
+gives_least (XDec x) w le = le
 
 rest : (g w : ℕ) → w ≤ g → g ≡ w + (g - w)
 rest g w le = omega (arith, le)
@@ -38,4 +38,4 @@ targets_balance counted o have want r is at few =
     let after : counts_after counted o have want r ≡ gives o (want r) - want r =
     ap (λ b. cond b (done counted o have want r - want r) 0) is
     ∙ ap (λ b. cond b (gives o (want r)) (have r + counts_before counted o have want r - takes o r) - want r) at in
-    rest (gives o (want r)) (want r) (least o (want r) few) ∙ ap (λ n. want r + n) (sym after)
+    rest (gives o (want r)) (want r) (gives_least o (want r) few) ∙ ap (λ n. want r + n) (sym after)

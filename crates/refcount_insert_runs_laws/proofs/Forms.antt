@@ -12,6 +12,7 @@ use Rattle.ir_core.specs.declared.code.Func.{Func}
 use Rattle.ir_core.specs.Items.{Item, Do, End, in_block, item_of, item_in, Left, left_from}
 use Rattle.ir_core.specs.Shape.{is_turn, ends_in_turn, LastFits}
 use Rattle.ir_core.proofs.PlaceLemmas.{left_goes_on, left_ends}
+use Rattle.ir_core.proofs.ItemLemmas.{end_item}
 use Rattle.liveness.specs.Paths.{is_among, is_target, reads_of, write_of, targets, BorrowedAt}
 use Rattle.refcount_insert_rule.specs.Rule.{ups, downs, IsGroup, IsEdge}
 use Rattle.refcount_insert_rule.specs.Counted.{counts_register, Tables, owned, AreGroups, AreLast, AreAll, AreTurned, IsBody}
@@ -28,10 +29,6 @@ left ops last = record { ops = ops; last = last }
 left_item : (b : Block) (i : ℕ) (ops : List (Op × ℕ)) (last : Last) → left_from b.ops b.last i ≡ Some (left ops last) → (x : Item) × (in_block b.ops b.last i ≡ Some x)
 left_item b i [] last e = (End last, left_ends (Some b) i last e)
 left_item b i (o ∷ os) last e = (Do o.0, (left_goes_on (Some b) i o os last e).0)
-
-pub end_item : (ops : List (Op × ℕ)) (last : Last) → in_block ops last (length ops) ≡ Some (End last)
-end_item [] last = refl
-end_item (o ∷ os) last = end_item os last
 
 pub first_item : (b : Block) → (x : Item) × (in_block b.ops b.last 0 ≡ Some x)
 first_item b = left_item b 0 b.ops b.last refl

@@ -1,16 +1,13 @@
 -- The functions of a program with its counts: each is one of the program, under its number, and has its head.
-use Rattle.std.proofs.Common.{◌≡◌, refl, ◌∙◌, ap, subst, ℕ, zero, suc, cond, pos, List, [], ◌∷◌, ◌++◌, length, Some, None}
+use Rattle.std.proofs.Common.{◌≡◌, refl, ◌∙◌, ap, subst, ℕ, zero, suc, cond, List, [], ◌∷◌, ◌++◌, length, Some, None}
 use Rattle.std.specs.Prelude.{slice_get, map, nat_eq, codes}
 use Rattle.std.specs.Option.{option_map_or}
-use Rattle.c_core.specs.declared.code.Line.TheVariants as line
-use Rattle.c_core.specs.declared.code.CClass.{CClass}
-use Rattle.c_core.specs.declared.code.CArg.TheVariants as c_arg
 use Rattle.ir_core.specs.declared.code.Op.{Op}
-use Rattle.ir_core.specs.declared.code.Op.TheVariants.{Move, Lit, Prim, Call, Virtual, TraitCall, Turn, Inc, Dec, XDec}
 use Rattle.ir_core.specs.declared.code.Func.{Func}
 use Rattle.ir_core.specs.declared.code.Program.{Program}
 use Rattle.ir_core.specs.Names.{function_id}
-use Rattle.ir_core.specs.Lower.{kind_of_type, variable_of, global_of, register_in, call_name, called_as, class_name, class_called, line_of, lowered_as, name_in, lower}
+use Rattle.ir_core.specs.Lower.{kind_of_type, variable_of, global_of, call_name, called_as, line_of, lowered_as, name_in, lower}
+use Rattle.ir_core.proofs.TextLemmas.{line_same}
 use Rattle.refcount_insert_rule.specs.Counted.{IsCountedFunc, AreCounted, IsCountedProgram}
 use Rattle.refcount_insert_lines_laws.specs.Matching.{HasHead, HasHeads}
 use Rattle.refcount_insert_runs_laws.proofs.Laid.{as_many, function_at}
@@ -57,22 +54,9 @@ module _ (p q : Program) (counted : IsCountedProgram p q) where
       ap (λ z. cond (nat_eq (suc g) z) [] (option_map_or call_name (slice_get q.funcs g) [])) same_size
       ∙ ap (λ z. cond (nat_eq (suc g) (length p.funcs)) [] z) (same_call p.funcs q.funcs counted.funcs g)
 
-  same_class : (t : ℕ) → class_called q t ≡ class_called p t
-  same_class t = ap (λ (z : List CClass). option_map_or class_name (slice_get z t) []) counted.classes
-
   -- an operation has one line in both
   pub same_line : (o : Op) → line_of q o ≡ line_of p o
-  same_line (Move r s) = refl
-  same_line (Lit r l) = refl
-  same_line (Prim to x args) = refl
-  same_line (Call r g args) = ap (λ z. line.Call (Some r.0) z (map register_in args)) (same_called g)
-  same_line (Virtual r o n args) = refl
-  same_line (TraitCall r o t n args) =
-      ap (λ z. line.Call (Some r.0) (codes "CPyTrait") (c_arg.Var o.0 ∷ c_arg.Class z ∷ c_arg.Number (pos n) ∷ map register_in args)) (same_class t)
-  same_line Turn = refl
-  same_line (Inc r) = refl
-  same_line (Dec r) = refl
-  same_line (XDec r) = refl
+  same_line = line_same p q counted.classes same_called
 
   same_name : (n : ℕ) (f g : Func) → IsCountedFunc f g → name_in q n g ≡ name_in p n f
   same_name n f g c =

@@ -6,8 +6,7 @@ use Rattle.ir_core.specs.declared.code.Block.{Block}
 use Rattle.ir_core.specs.declared.code.Func.{Func}
 use Rattle.ir_core.specs.declared.code.Program.{Program}
 use Rattle.ir_core.specs.Lower.{op_lines, label_before, label_of, end_lines, block_lines, lines_from, lowered_as, name_in, lowered_from, lower}
-use Rattle.ir_core.proofs.LowerLemmas.{place_of}
-use Rattle.refcount_insert_runs_laws.proofs.Lists.{drop_all}
+use Rattle.ir_core.proofs.LowerLemmas.{place_of, drop_all}
 
 -- the number of entry j where the first has number k
 abbrev counted : ℕ → ℕ → ℕ

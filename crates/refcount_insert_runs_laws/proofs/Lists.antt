@@ -2,12 +2,6 @@
 use Rattle.std.proofs.Common.{◌≡◌, refl, ◌∙◌, ap, ℕ, zero, suc, ◌+◌, ◌<◌, arith, List, [], ◌∷◌, ◌++◌, length, Some, None, drop}
 use Rattle.std.specs.Prelude.{slice_get}
 
-pub drop_all : {A : Type 0} (n : ℕ) (xs ys : List A) → drop (length xs + n) (xs ++ ys) ≡ drop n ys
-drop_all n [] ys = let e : 0 + n ≡ n = omega arith in ap (λ i. drop i ys) e
-drop_all n (x ∷ xs) ys =
-    let e : suc (length xs) + n ≡ suc (length xs + n) = omega arith in
-    ap (λ i. drop i (x ∷ (xs ++ ys))) e ∙ drop_all n xs ys
-
 pub get_first : {A : Type 0} (n : ℕ) (xs : List A) (y : A) (ys : List A) → drop n xs ≡ y ∷ ys → slice_get xs n ≡ Some y
 get_first zero [] y ys e = let f : [] ≡ y ∷ ys = e in absurd (cc)
 get_first (suc n) [] y ys e = let f : [] ≡ y ∷ ys = e in absurd (cc)

@@ -2,31 +2,13 @@
 use Rattle.std.proofs.Common.{◌≡◌, refl, sym, ◌∙◌, ap, subst, ℕ, suc, arith, Bool, true, false, Some}
 use Rattle.std.specs.Prelude.{slice_get}
 use Rattle.std.proofs.lemmas.Option.{same_Some}
-use Rattle.c_core.specs.Primitives.{Outcome, Nothing, Owned, row_of}
 use Rattle.ir_core.specs.declared.code.Op.{Op}
-use Rattle.ir_core.specs.declared.code.Op.TheVariants.{Move, Lit, Prim, Call, Virtual, TraitCall, Turn, Inc, Dec, XDec}
 use Rattle.ir_core.specs.declared.code.Last.{Last}
 use Rattle.ir_core.specs.declared.code.Func.{Func}
 use Rattle.ir_core.specs.Items.{Item, Do, End, item_in}
-use Rattle.liveness.specs.Paths.{is_among, is_target, reads_of, write_of, reads, writes, lends, gives_lent, targets, Goes, passes, fails, jumps, LiveAt, reads_here, goes_on, MetAt, onward, OwnedAt, no_parameter, written, kept, BorrowedAt}
+use Rattle.liveness.specs.Paths.{is_among, is_target, reads_of, write_of, reads, writes, targets, Goes, passes, fails, jumps, LiveAt, reads_here, goes_on, MetAt, onward, OwnedAt, no_parameter, written, kept, BorrowedAt}
 use Rattle.liveness.proofs.PathLemmas.{no_handler}
-
--- no row has a result that is only lent
-none_lends : (o : Outcome) → lends o ≡ false
-none_lends Nothing = refl
-none_lends (Owned k) = refl
-
-none_lent : (o : Op) → gives_lent (Do o) ≡ false
-none_lent (Move r s) = refl
-none_lent (Lit r l) = refl
-none_lent (Prim to q args) = none_lends (row_of q).outcome
-none_lent (Call r g args) = refl
-none_lent (Virtual r o n args) = refl
-none_lent (TraitCall r o t n args) = refl
-none_lent Turn = refl
-none_lent (Inc r) = refl
-none_lent (Dec r) = refl
-none_lent (XDec r) = refl
+use Rattle.liveness.proofs.OwnedLemmas.{no_lent}
 
 module _ (f : Func) where
   -- what comes to a place that is no start of a block came from the place before it
@@ -103,7 +85,7 @@ module _ (f : Func) where
         where
           by : (z : Bool) → is_target (write_of o) r ≡ z → z ≡ false
           by false e = refl
-          by true e = absurd (lent (written b p b (suc p) (Do o) met here e (none_lent o) (passes b p o here)))
+          by true e = absurd (lent (written b p b (suc p) (Do o) met here e (no_lent (Do o)) (passes b p o here)))
 
   -- over an edge
   module _ (b p i t : ℕ) (l : Last) (here : item_in f.blocks b p ≡ Some (End l)) (goes : slice_get (targets l) i ≡ Some t) where
