@@ -6,25 +6,25 @@ use Rattle.value_core.specs.Items.{Items}
 use Rattle.outside_core.specs.Counts.{count_end, has_risen}
 use Rattle.py_typed.specs.Statements.{TypedModule}
 use Rattle.py_parser_source.specs.Entries.{Entry}
-use Rattle.mypyc_top_status.specs.declared.status.Status.{Status}
-use Rattle.mypyc_top_status.specs.declared.status.Status.TheVariants as status
 use Rattle.mypyc_top_words.specs.declared.words.Emit.{Emit}
 use Rattle.mypyc_top_words.specs.declared.words.Request.{Request}
 use Rattle.mypyc_top_words.specs.declared.words.Words.{Words}
 use Rattle.mypyc_top_words.specs.declared.words.Words.TheVariants.{Go}
-use Rattle.mypyc_top.specs.declared.plan.Plan.{Plan}
+use Rattle.mypyc_top_words.specs.Limits.{named_file, most_bytes}
+use Rattle.mypyc_top_status.specs.declared.status.Status.{Status}
+use Rattle.mypyc_top_status.specs.declared.status.Status.TheVariants as status
 use Rattle.mypyc_top_status.specs.declared.reply.Reply.{Reply}
+use Rattle.mypyc_top_status.specs.Output.{output_text}
+use Rattle.mypyc_top_status.specs.ErrorLines.{large_line}
 use Rattle.mypyc_top_compiler.specs.declared.faults.Faults.{Faults}
 use Rattle.mypyc_top_compiler.specs.Source.{IsTyped}
 use Rattle.mypyc_top_compiler.specs.Diagnostics.{entries_text}
 use Rattle.mypyc_top_compiler.specs.Faults.{AreFaults}
 use Rattle.mypyc_top_compiler.specs.Found.{entries_of}
-use Rattle.mypyc_top_status.specs.Output.{output_text}
-use Rattle.mypyc_top_status.specs.ErrorLines.{large_line}
-use Rattle.mypyc_top_words.specs.Limits.{named_file, most_bytes}
+use Rattle.mypyc_top_compiler.proofs.Values.{if_ok}
+use Rattle.mypyc_top.specs.declared.plan.Plan.{Plan}
 use Rattle.mypyc_top.specs.Answer.{FileMeaning, file_meaning, Bytes, FaultsAnswer, ModuleAnswer, ModeAnswer, SizedAnswer, RequestAnswer, WordsAnswer}
 use Rattle.mypyc_top.specs.Plans.{Answering, Plans}
-use Rattle.mypyc_top_compiler.proofs.Values.{if_ok}
 
 -- ---- modules
 

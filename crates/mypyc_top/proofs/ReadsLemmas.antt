@@ -5,17 +5,17 @@ use Rattle.outside_core.specs.Bytes.{GivesAtMost}
 use Rattle.mypyc_top_running.specs.Takes.{most_taken, TookBy, RunTook}
 use Rattle.c_core.specs.Run.{Stop, machine_run}
 use Rattle.c_runner.specs.Ran.{TookLines}
+use Rattle.mypyc_top_words.specs.declared.words.Words.{Words}
 use Rattle.mypyc_top_status.specs.declared.status.Status.{Status}
 use Rattle.mypyc_top_status.specs.declared.status.Status.TheVariants as status
-use Rattle.mypyc_top_words.specs.declared.words.Words.{Words}
-use Rattle.mypyc_top_running.specs.declared.running.Program.{Program}
-use Rattle.mypyc_top.specs.declared.plan.Plan.TheVariants as plans
 use Rattle.mypyc_top_status.specs.declared.reply.Reply.{Reply}
 use Rattle.mypyc_top_status.specs.Endings.{machine_status}
 use Rattle.mypyc_top_status.specs.Causes.{Yields}
 use Rattle.mypyc_top_status.specs.Replies.{is_run_status}
+use Rattle.mypyc_top_running.specs.declared.running.Program.{Program}
 use Rattle.mypyc_top_running.proofs.TookLemmas.{at_most}
 use Rattle.mypyc_top_running.specs.Programs.{program_text, program_line}
+use Rattle.mypyc_top.specs.declared.plan.Plan.TheVariants as plans
 use Rattle.mypyc_top.specs.Reads.{runs_program, is_unrun, is_ended, leaves_input, RunRead, PlanRuns}
 
 -- nothing was taken

@@ -5,8 +5,6 @@ use Rattle.value_core.specs.Items.{Items}
 use Rattle.py_typed.specs.Statements.{TypedModule}
 use Rattle.c_core.specs.declared.code.Code.{Code}
 use Rattle.c_core.specs.Text.{code_text}
-use Rattle.mypyc_top_status.specs.declared.status.Status.{Status}
-use Rattle.mypyc_top_status.specs.declared.status.Status.TheVariants as status
 use Rattle.mypyc_top_words.specs.declared.words.Emit.{Emit}
 use Rattle.mypyc_top_words.specs.declared.words.Emit.TheVariants.{Check, C, Run, Runc}
 use Rattle.mypyc_top_words.specs.declared.words.Request.{Request}
@@ -14,12 +12,14 @@ use Rattle.mypyc_top_words.specs.declared.words.Words.{Words}
 use Rattle.mypyc_top_words.specs.declared.words.Words.TheVariants.{Usage, Go}
 use Rattle.mypyc_top_words.specs.Words.{words_of}
 use Rattle.mypyc_top_words.specs.Limits.{most_bytes}
+use Rattle.mypyc_top_status.specs.declared.status.Status.{Status}
+use Rattle.mypyc_top_status.specs.declared.status.Status.TheVariants as status
 use Rattle.py_parser_source.specs.Entries.{Entry}
+use Rattle.mypyc_top_status.specs.ErrorLines.{usage_line, open_line, read_line, large_line}
 use Rattle.mypyc_top_compiler.specs.Source.{IsTyped}
 use Rattle.mypyc_top_compiler.specs.Faithful.{Faithful}
 use Rattle.mypyc_top_compiler.specs.Diagnostics.{entries_text}
 use Rattle.mypyc_top_compiler.specs.Faults.{AreFaults}
-use Rattle.mypyc_top_status.specs.ErrorLines.{usage_line, open_line, read_line, large_line}
 use Rattle.mypyc_top.specs.Running.{TextRun, ModuleRun}
 
 -- what came of the file: it was not opened, it was not read, or it has these bytes

@@ -4,9 +4,9 @@ use Rattle.value_core.specs.Items.{Items}
 use Rattle.mypyc_top_status.specs.declared.status.Status.{Status}
 use Rattle.mypyc_top_status.specs.declared.status.Status.TheVariants as status
 use Rattle.mypyc_top_status.specs.ErrorLines.{memory_line}
-use Rattle.mypyc_top.specs.Answer.{FileMeaning, Answer}
 use Rattle.mypyc_top_status.specs.Gave.{Gave}
 use Rattle.mypyc_top_status.specs.Sinks.{SinkCall, Took, TookFront}
+use Rattle.mypyc_top.specs.Answer.{FileMeaning, Answer}
 
 -- The call answered what its words and its file ask for. A sink that is to get nothing is left alone, and not even told to
 -- pass on what it holds back; `OutAlone` and `ErrAlone` say that the sinks are as they were.

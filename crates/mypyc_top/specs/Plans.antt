@@ -3,18 +3,18 @@ use Rattle.std.specs.Prelude.{◌≡◌, ℕ, List, Some}
 use Rattle.value_core.specs.Items.{Items}
 use Rattle.c_core.specs.Run.{Stop, machine_run}
 use Rattle.c_runner.specs.Ran.{AreLines}
-use Rattle.mypyc_top_status.specs.declared.status.Status.{Status}
-use Rattle.mypyc_top_status.specs.declared.status.Status.TheVariants as status
 use Rattle.mypyc_top_words.specs.declared.words.Emit.{Emit}
 use Rattle.mypyc_top_words.specs.declared.words.Words.{Words}
 use Rattle.mypyc_top_words.specs.declared.words.Words.TheVariants.{Usage, Go}
+use Rattle.mypyc_top_status.specs.declared.status.Status.{Status}
+use Rattle.mypyc_top_status.specs.declared.status.Status.TheVariants as status
 use Rattle.mypyc_top_status.specs.declared.reply.Reply.{Reply}
-use Rattle.mypyc_top_running.specs.declared.running.Program.{Program}
-use Rattle.mypyc_top.specs.declared.plan.Plan.{Plan}
-use Rattle.mypyc_top.specs.declared.plan.Plan.TheVariants.{Send, Run}
 use Rattle.mypyc_top_status.specs.Output.{output_text}
 use Rattle.mypyc_top_status.specs.Endings.{machine_status}
+use Rattle.mypyc_top_running.specs.declared.running.Program.{Program}
 use Rattle.mypyc_top_running.specs.Programs.{program_text, program_line}
+use Rattle.mypyc_top.specs.declared.plan.Plan.{Plan}
+use Rattle.mypyc_top.specs.declared.plan.Plan.TheVariants.{Send, Run}
 use Rattle.mypyc_top.specs.Modes.{CanAnswer}
 
 abbrev pub MatchPlan : Plan → (Reply → Type 0) → (Program → Type 0) → Type 0

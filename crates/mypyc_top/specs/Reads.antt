@@ -4,17 +4,17 @@ use Rattle.value_core.specs.Items.{Items}
 use Rattle.c_core.specs.declared.code.Code.{Code}
 use Rattle.c_core.specs.Run.{Stop, machine_run}
 use Rattle.c_runner.specs.Ran.{TookLines}
-use Rattle.mypyc_top_status.specs.declared.status.Status.{Status}
-use Rattle.mypyc_top_status.specs.declared.status.Status.TheVariants as status
 use Rattle.mypyc_top_words.specs.declared.words.Emit.{Emit}
 use Rattle.mypyc_top_words.specs.declared.words.Emit.TheVariants as emit
 use Rattle.mypyc_top_words.specs.declared.words.Words.{Words}
 use Rattle.mypyc_top_words.specs.declared.words.Words.TheVariants.{Usage, Go}
-use Rattle.mypyc_top.specs.declared.plan.Plan.{Plan}
-use Rattle.mypyc_top.specs.declared.plan.Plan.TheVariants.{Send, Run}
+use Rattle.mypyc_top_status.specs.declared.status.Status.{Status}
+use Rattle.mypyc_top_status.specs.declared.status.Status.TheVariants as status
 use Rattle.mypyc_top_status.specs.Endings.{machine_status, machine_line}
 use Rattle.mypyc_top_running.specs.Summary.{cells_left}
 use Rattle.mypyc_top_running.specs.Programs.{behind_output}
+use Rattle.mypyc_top.specs.declared.plan.Plan.{Plan}
+use Rattle.mypyc_top.specs.declared.plan.Plan.TheVariants.{Send, Run}
 
 -- whether a program is run in the mode
 abbrev pub runs : Emit → Bool

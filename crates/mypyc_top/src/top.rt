@@ -5,12 +5,12 @@ ghost use Rattle.outside_core.specs.Counts.{count_end, has_risen, Rose};
 ghost use Rattle.c_runner.specs.Ran.{AreGiven};
 ghost use Rattle.mypyc_top_words.specs.Words.{texts, words_of};
 ghost use Rattle.mypyc_top_words.specs.Limits.{named_content, named_most};
-ghost use Rattle.mypyc_top.specs.Answer.{file_meaning, Answer, IsStatus};
-ghost use Rattle.mypyc_top.specs.Modes.{IsAllowed};
 ghost use Rattle.mypyc_top_status.specs.Causes.{AbsentOpens, Yields};
 ghost use Rattle.mypyc_top_status.specs.Sinks.{sink_call};
-ghost use Rattle.mypyc_top.specs.Answered.{Answered};
 ghost use Rattle.mypyc_top_running.specs.Takes.{most_taken};
+ghost use Rattle.mypyc_top.specs.Answer.{file_meaning, Answer, IsStatus};
+ghost use Rattle.mypyc_top.specs.Modes.{IsAllowed};
+ghost use Rattle.mypyc_top.specs.Answered.{Answered};
 ghost use Rattle.mypyc_top.specs.Reads.{runs_program, is_ended, leaves_input, RunRead};
 
 use crate::plan::{Plan, plan_of};

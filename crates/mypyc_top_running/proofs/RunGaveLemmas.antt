@@ -10,16 +10,16 @@ use Rattle.c_runner.specs.Handing.{has_bytes}
 use Rattle.c_runner.specs.Ran.{AreLines, given_items}
 use Rattle.mypyc_top_status.specs.declared.status.Status.{Status}
 use Rattle.mypyc_top_status.specs.declared.status.Status.TheVariants as status
-use Rattle.mypyc_top_running.specs.declared.running.Program.{Program}
-use Rattle.mypyc_top_running.specs.declared.running.Rest.{Rest}
-use Rattle.mypyc_top_running.specs.declared.running.Unfinished.{Unfinished}
 use Rattle.mypyc_top_status.specs.Output.{output_text}
 use Rattle.mypyc_top_status.specs.ErrorLines.{memory_line, input_line}
 use Rattle.mypyc_top_status.specs.Endings.{machine_status}
-use Rattle.mypyc_top_running.specs.Summary.{cells_left}
 use Rattle.mypyc_top_status.specs.Replies.{IsReplied, is_run_status}
 use Rattle.mypyc_top_status.specs.Sinks.{SinkCall, sink_call, Took, TookFront}
 use Rattle.mypyc_top_status.specs.Gave.{Gave}
+use Rattle.mypyc_top_running.specs.declared.running.Program.{Program}
+use Rattle.mypyc_top_running.specs.declared.running.Rest.{Rest}
+use Rattle.mypyc_top_running.specs.declared.running.Unfinished.{Unfinished}
+use Rattle.mypyc_top_running.specs.Summary.{cells_left}
 use Rattle.mypyc_top_running.specs.Programs.{behind_output, behind, program_text, program_line, IsRest, Finishes, RunGave}
 use Rattle.outside_core.proofs.Fronts.{TakesFront-none, TakesFront-all, TakesFront-before, TakesFront-after}
 

@@ -7,11 +7,11 @@ use Rattle.c_core.specs.Run.{Stop}
 use Rattle.c_runner.specs.Ran.{TookLines}
 use Rattle.mypyc_top_status.specs.declared.status.Status.{Status}
 use Rattle.mypyc_top_status.specs.declared.status.Status.TheVariants as status
-use Rattle.mypyc_top_running.specs.declared.running.Rest.{Rest}
-use Rattle.mypyc_top_running.specs.declared.running.Unfinished.{Unfinished}
 use Rattle.mypyc_top_status.specs.Output.{output_text}
 use Rattle.mypyc_top_status.specs.ErrorLines.{input_line}
 use Rattle.mypyc_top_status.specs.Causes.{Yields}
+use Rattle.mypyc_top_running.specs.declared.running.Rest.{Rest}
+use Rattle.mypyc_top_running.specs.declared.running.Unfinished.{Unfinished}
 
 module _ (items : Items) (stop : Stop) (left left' : List ℕ) where
   -- what is said of lines says how much was taken

@@ -8,14 +8,14 @@ use Rattle.c_runner.specs.declared.report.LiveCell.{LiveCell}
 use Rattle.mypyc_top_status.specs.declared.status.Status.{Status}
 use Rattle.mypyc_top_status.specs.declared.status.Status.TheVariants as status
 use Rattle.mypyc_top_status.specs.declared.reply.Reply.{Reply}
+use Rattle.mypyc_top_status.specs.Output.{output_text}
+use Rattle.mypyc_top_status.specs.Endings.{machine_status, machine_line}
+use Rattle.mypyc_top_status.specs.Sinks.{SinkCall, Took, TookFront}
+use Rattle.mypyc_top_status.specs.Gave.{Gave}
 use Rattle.mypyc_top_running.specs.declared.running.Program.{Program}
 use Rattle.mypyc_top_running.specs.declared.running.Rest.{Rest}
 use Rattle.mypyc_top_running.specs.declared.running.Unfinished.{Unfinished}
-use Rattle.mypyc_top_status.specs.Output.{output_text}
-use Rattle.mypyc_top_status.specs.Endings.{machine_status, machine_line}
 use Rattle.mypyc_top_running.specs.Summary.{cells_left, summary_at}
-use Rattle.mypyc_top_status.specs.Sinks.{SinkCall, Took, TookFront}
-use Rattle.mypyc_top_status.specs.Gave.{Gave}
 
 -- what stands behind the output of a program that ended so and left these cells: its summary, if it is to have one
 abbrev pub behind_output : Bool → MachineEnding → List LiveCell → List ℕ

@@ -6,11 +6,11 @@ use Rattle.c_core.specs.Run.{Stop, machine_run}
 use Rattle.c_runner.specs.Ran.{TookLines}
 use Rattle.mypyc_top_status.specs.declared.status.Status.{Status}
 use Rattle.mypyc_top_status.specs.declared.status.Status.TheVariants as status
+use Rattle.mypyc_top_status.specs.Endings.{machine_status}
+use Rattle.mypyc_top_status.specs.Causes.{Yields}
 use Rattle.mypyc_top_running.specs.declared.running.Program.{Program}
 use Rattle.mypyc_top_running.specs.declared.running.Rest.{Rest}
 use Rattle.mypyc_top_running.specs.declared.running.Unfinished.{Unfinished}
-use Rattle.mypyc_top_status.specs.Endings.{machine_status}
-use Rattle.mypyc_top_status.specs.Causes.{Yields}
 
 -- the most bytes that are ever read: one more than a run may use, which tells that there are too many
 abbrev pub most_taken : ℕ

@@ -6,7 +6,7 @@ ghost use Rattle.c_runner.specs.Report.{ending_of};
 ghost use Rattle.c_runner.specs.Ran.{AreGiven};
 ghost use Rattle.mypyc_top_status.specs.Output.{output_text};
 ghost use Rattle.mypyc_top_status.specs.ErrorLines.{input_line};
-ghost use Rattle.mypyc_top_status.specs.Ends.{ending_of_end};
+ghost use Rattle.mypyc_top_status.specs.Ends.{machine_ending};
 ghost use Rattle.mypyc_top_status.specs.Replies.{is_run_status};
 ghost use Rattle.mypyc_top_status.specs.Sinks.{sink_call};
 ghost use Rattle.mypyc_top_running.specs.Programs.{IsRunnable, IsRest, Finishes, RunGave};
@@ -124,7 +124,7 @@ fn rest_of(alloc: Global, has_summary: bool, report: &Report) -> Result<Rest, Un
         Vec::new(alloc)
     };
     let end = end_of(&report.ending);
-    let reply = ending_reply(alloc, end, report.live.len(), Output::Bytes(text))?;
+    let reply = ending_reply(alloc, &end, report.live.len(), Output::Bytes(text))?;
     Ok(Rest {
         reply,
         has_output: report.has_output,
@@ -138,7 +138,7 @@ fn broken_off(alloc: Global) -> Result<Rest, Unfinished>
     ensures output { IfOk result (λ rest. rest.has_output ≡ false) }
     ensures err { IfErr result (λ reason. reason ≡ Unfinished.Memory) }
 {
-    let reply = ending_reply(alloc, ProgramEnd::Broken, 0, Output::Nothing)?;
+    let reply = ending_reply(alloc, &ProgramEnd::Broken, 0, Output::Nothing)?;
     Ok(Rest {
         reply,
         has_output: false,
@@ -147,7 +147,7 @@ fn broken_off(alloc: Global) -> Result<Rest, Unfinished>
 
 /// How the program of a report ended.
 fn end_of(ending: &Ending) -> ProgramEnd<'_>
-    ensures { ending_of_end result ≡ ending_of ending.now }
+    ensures { machine_ending result ≡ ending_of ending.now }
 {
     match ending {
         Ending::Done => ProgramEnd::Done,

@@ -2,7 +2,7 @@ ghost use Rattle.std.specs.Prelude.{◌≡◌, IfOk};
 ghost use Rattle.value_core.specs.Exceptions.{thrown};
 ghost use Rattle.mypyc_top_status.specs.ErrorLines.{raised_line, turns_line};
 ghost use Rattle.mypyc_top_status.specs.Endings.{machine_status, machine_line};
-ghost use Rattle.mypyc_top_status.specs.Ends.{ending_of_end};
+ghost use Rattle.mypyc_top_status.specs.Ends.{machine_ending};
 ghost use Rattle.mypyc_top_status.specs.Output.{output_text};
 
 use crate::reply::{Output, Reply};
@@ -32,13 +32,13 @@ pub enum ProgramEnd<'a> {
 /// The answer to a program that ended so and left so many cells, with what is left for the output.
 pub fn ending_reply(
     alloc: Global,
-    end: ProgramEnd<'_>,
+    end: &ProgramEnd<'_>,
     live: usize,
     out: Output,
 ) -> Result<Reply, Memory>
     ensures { IfOk result (λ reply. (output_text reply.out ≡ output_text out)
-        × (reply.err.items ≡ machine_line (ending_of_end end) live)
-        × (reply.status ≡ machine_status (ending_of_end end))) }
+        × (reply.err.items ≡ machine_line (machine_ending end.now) live)
+        × (reply.status ≡ machine_status (machine_ending end.now))) }
 {
     Ok(Reply {
         out,
@@ -48,8 +48,8 @@ pub fn ending_reply(
 }
 
 /// The status of a program that ended so.
-fn status_of(end: ProgramEnd<'_>) -> Status
-    ensures { result ≡ machine_status (ending_of_end end) }
+fn status_of(end: &ProgramEnd<'_>) -> Status
+    ensures { result ≡ machine_status (machine_ending end.now) }
 {
     match end {
         ProgramEnd::Done => Status::Done,
@@ -62,12 +62,12 @@ fn status_of(end: ProgramEnd<'_>) -> Status
 }
 
 /// The line on errors of a program that ended so and left so many cells.
-fn line_of(alloc: Global, end: ProgramEnd<'_>, live: usize) -> Result<Vec<u8>, Memory>
-    ensures { IfOk result (λ line. line.items ≡ machine_line (ending_of_end end) live) }
+fn line_of(alloc: Global, end: &ProgramEnd<'_>, live: usize) -> Result<Vec<u8>, Memory>
+    ensures { IfOk result (λ line. line.items ≡ machine_line (machine_ending end.now) live) }
 {
     match end {
         ProgramEnd::Done => Ok(Vec::new(alloc)),
-        ProgramEnd::Raised(class, text) => raised_text(alloc, class, text),
+        ProgramEnd::Raised(class, text) => raised_text(alloc, *class, text),
         ProgramEnd::Cut => turns_text(alloc, live),
         ProgramEnd::Over => Ok(Vec::from_slice(alloc, b"mypyc: input is too long\n")?),
         ProgramEnd::Broken => Ok(Vec::from_slice(alloc, b"mypyc: cannot read input\n")?),

@@ -1,9 +1,9 @@
 use Rattle.std.proofs.Common.{sym, ◌∙◌, ap, ℕ, ◌≤◌, List, length, Some, arith}
-use Rattle.mypyc_top_status.specs.ErrorLines.{large_line}
 use Rattle.mypyc_top_words.specs.Limits.{most_bytes}
+use Rattle.mypyc_top_status.specs.ErrorLines.{large_line}
+use Rattle.mypyc_top_compiler.proofs.Values.{if_ok}
 use Rattle.mypyc_top.specs.Answer.{ModeAnswer}
 use Rattle.mypyc_top.specs.Plans.{Plans}
-use Rattle.mypyc_top_compiler.proofs.Values.{if_ok}
 use Rattle.mypyc_top.proofs.PlanLemmas.{read_plan, large_answer}
 use Rattle.mypyc_top.proofs.plan.request_plan.Goals as goal
 

@@ -2,13 +2,13 @@ use Rattle.std.proofs.Common.{refl, sym, append-nil, inl, inr}
 use Rattle.outside_core.specs.Counts.{has_risen}
 use Rattle.c_runner.specs.Ran.{given_items}
 use Rattle.mypyc_top_words.specs.Words.{texts, words_of}
-use Rattle.mypyc_top.specs.Reads.{runs_program}
 use Rattle.mypyc_top_status.specs.Output.{output_text}
 use Rattle.mypyc_top_status.specs.Endings.{machine_status}
 use Rattle.mypyc_top_running.specs.Programs.{program_text, program_line}
+use Rattle.mypyc_top_running.proofs.RunGaveLemmas.{given_lines}
+use Rattle.mypyc_top.specs.Reads.{runs_program}
 use Rattle.mypyc_top.proofs.AllowedLemmas.{sent_is_replied, sent_is_calm, yields_allowed, sent_allowed, run_allowed, usage_only, usage_comes}
 use Rattle.mypyc_top.proofs.Statuses.{by_bytes, complete}
-use Rattle.mypyc_top_running.proofs.RunGaveLemmas.{given_lines}
 use Rattle.mypyc_top.proofs.ReadsLemmas.{none_taken, run_at_most, run_read, ran_alone, sent_not_ended}
 use Rattle.mypyc_top.proofs.top.mypyc.Goals as goal
 
