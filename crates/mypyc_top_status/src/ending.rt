@@ -51,7 +51,7 @@ pub fn ending_reply(
 fn status_of(end: &ProgramEnd<'_>) -> Status
     ensures { result ≡ machine_status (machine_ending end.now) }
 {
-    match end {
+    match *end {
         ProgramEnd::Done => Status::Done,
         ProgramEnd::Raised(_, _) => Status::Raised,
         ProgramEnd::Cut => Status::Cut,
