@@ -3,7 +3,8 @@
 //! standard input, so one that came from `-` itself finds its input at its end.
 #![tactic(auto)]
 
-use mypyc_top::{Status, mypyc, status_number};
+use mypyc_top::mypyc;
+use mypyc_top_status::{Status, status_number};
 use outside_core::{DiskFiles, StreamSink, StreamSource};
 use std::env;
 use std::io::{self, BufWriter, Input};

@@ -2,20 +2,21 @@
 use Rattle.std.proofs.Common.{◌≡◌, refl, sym, ◌∙◌, subst, ℕ, IsTrue, List, ◌⊎◌, inl, inr, Option}
 use Rattle.value_core.specs.Items.{Items}
 use Rattle.c_runner.specs.Ran.{AreLines}
-use Rattle.mypyc_top.specs.declared.status.Status.{Status}
-use Rattle.mypyc_top.specs.declared.status.Status.TheVariants as status
-use Rattle.mypyc_top.specs.declared.words.Emit.{Emit}
-use Rattle.mypyc_top.specs.declared.words.Emit.TheVariants.{Check, C, Run, Runc}
-use Rattle.mypyc_top.specs.declared.words.Words.{Words}
-use Rattle.mypyc_top.specs.declared.words.Words.TheVariants.{Usage, Go}
-use Rattle.mypyc_top.specs.declared.reply.Reply.{Reply}
-use Rattle.mypyc_top.specs.declared.running.Program.{Program}
+use Rattle.mypyc_top_words.specs.declared.words.Emit.{Emit}
+use Rattle.mypyc_top_words.specs.declared.words.Emit.TheVariants.{Check, C, Run, Runc}
+use Rattle.mypyc_top_words.specs.declared.words.Words.{Words}
+use Rattle.mypyc_top_words.specs.declared.words.Words.TheVariants.{Usage, Go}
+use Rattle.mypyc_top_status.specs.declared.status.Status.{Status}
+use Rattle.mypyc_top_status.specs.declared.status.Status.TheVariants as status
+use Rattle.mypyc_top_status.specs.declared.reply.Reply.{Reply}
+use Rattle.mypyc_top_status.specs.Causes.{Yields, AbsentOpens}
+use Rattle.mypyc_top_status.specs.Replies.{IsSent, IsReplied, is_run_status}
+use Rattle.mypyc_top_status.specs.Sinks.{SinkCall}
+use Rattle.mypyc_top_running.specs.declared.running.Program.{Program}
+use Rattle.mypyc_top_running.specs.Programs.{RunGave}
 use Rattle.mypyc_top.specs.declared.plan.Plan.TheVariants as plans
 use Rattle.mypyc_top.specs.Modes.{CanAnswer, IsAllowed}
-use Rattle.mypyc_top.specs.Causes.{Yields, AbsentOpens}
-use Rattle.mypyc_top.specs.Replies.{IsSent, IsReplied, is_run_status}
-use Rattle.mypyc_top.specs.Sinks.{SinkCall}
-use Rattle.mypyc_top.specs.Plans.{Allowed, RunGave}
+use Rattle.mypyc_top.specs.Plans.{Allowed}
 use Rattle.mypyc_top.proofs.Statuses.{gave_status, either}
 
 -- a reply that stands before anything is run is one, and does not say that the input failed

@@ -1,13 +1,6 @@
-pub mod TypeLemmas
-pub mod FaultLemmas
-pub mod SuitLemmas
-pub mod CodeLemmas
-pub mod Taken
 pub mod RunLemmas
 pub mod PlanLemmas
 pub mod ReadLemmas
-pub mod RunGaveLemmas
-pub mod MostTurns
 pub mod Statuses
 pub mod AllowedLemmas
 pub mod ReadsLemmas

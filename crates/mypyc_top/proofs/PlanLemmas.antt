@@ -1,27 +1,29 @@
 -- Plans by what came of the file.
-use Rattle.std.proofs.Common.{◌≡◌, refl, sym, subst, ℕ, ◌<◌, ◌≤◌, Bool, true, false, nat_lt, List, [], ◌∷◌, length, Option, Some, Result, Ok, Err, IfOk, arith}
+use Rattle.std.proofs.Common.{◌≡◌, refl, sym, subst, ℕ, ◌<◌, ◌≤◌, Bool, true, false, nat_lt, List, [], ◌∷◌, length, Option, Some, Result, IfOk, arith}
 use Rattle.std.proofs.lemmas.Bool.Decides.{nat_tests}
 use Rattle.std.specs.Option.{option_and_then}
 use Rattle.value_core.specs.Items.{Items}
 use Rattle.outside_core.specs.Counts.{count_end, has_risen}
 use Rattle.py_typed.specs.Statements.{TypedModule}
 use Rattle.py_parser_source.specs.Entries.{Entry}
-use Rattle.mypyc_top.specs.declared.status.Status.{Status}
-use Rattle.mypyc_top.specs.declared.status.Status.TheVariants as status
-use Rattle.mypyc_top.specs.declared.words.Emit.{Emit}
-use Rattle.mypyc_top.specs.declared.words.Request.{Request}
-use Rattle.mypyc_top.specs.declared.words.Words.{Words}
-use Rattle.mypyc_top.specs.declared.words.Words.TheVariants.{Go}
+use Rattle.mypyc_top_words.specs.declared.words.Emit.{Emit}
+use Rattle.mypyc_top_words.specs.declared.words.Request.{Request}
+use Rattle.mypyc_top_words.specs.declared.words.Words.{Words}
+use Rattle.mypyc_top_words.specs.declared.words.Words.TheVariants.{Go}
+use Rattle.mypyc_top_words.specs.Limits.{named_file, most_bytes}
+use Rattle.mypyc_top_status.specs.declared.status.Status.{Status}
+use Rattle.mypyc_top_status.specs.declared.status.Status.TheVariants as status
+use Rattle.mypyc_top_status.specs.declared.reply.Reply.{Reply}
+use Rattle.mypyc_top_status.specs.Output.{output_text}
+use Rattle.mypyc_top_status.specs.ErrorLines.{large_line}
+use Rattle.mypyc_top_compiler.specs.declared.faults.Faults.{Faults}
+use Rattle.mypyc_top_compiler.specs.Source.{IsTyped}
+use Rattle.mypyc_top_compiler.specs.Diagnostics.{entries_text}
+use Rattle.mypyc_top_compiler.specs.Faults.{AreFaults}
+use Rattle.mypyc_top_compiler.specs.Found.{entries_of}
+use Rattle.mypyc_top_compiler.proofs.Values.{if_ok}
 use Rattle.mypyc_top.specs.declared.plan.Plan.{Plan}
-use Rattle.mypyc_top.specs.declared.reply.Reply.{Reply}
-use Rattle.mypyc_top.specs.declared.faults.Faults.{Faults}
-use Rattle.mypyc_top.specs.Source.{IsTyped}
-use Rattle.mypyc_top.specs.Diagnostics.{entries_text}
-use Rattle.mypyc_top.specs.Faults.{AreFaults}
-use Rattle.mypyc_top.specs.Found.{entries_of}
-use Rattle.mypyc_top.specs.Output.{output_text}
-use Rattle.mypyc_top.specs.ErrorLines.{large_line}
-use Rattle.mypyc_top.specs.Answer.{FileMeaning, file_meaning, Bytes, named_file, most_bytes, FaultsAnswer, ModuleAnswer, ModeAnswer, SizedAnswer, RequestAnswer, WordsAnswer}
+use Rattle.mypyc_top.specs.Answer.{FileMeaning, file_meaning, Bytes, FaultsAnswer, ModuleAnswer, ModeAnswer, SizedAnswer, RequestAnswer, WordsAnswer}
 use Rattle.mypyc_top.specs.Plans.{Answering, Plans}
 
 -- ---- modules
@@ -68,11 +70,6 @@ large_answer r old new is_open content bytes items out err s e l c past o er t =
 pub words_plan : (w : Words) (r : Request) (content : List ℕ → Option (List ℕ)) (rises is_open : Bool) (plan : Plan) → Go r ≡ w → Plans (RequestAnswer r (file_meaning rises is_open (content r.file))) plan → Plans (WordsAnswer w (file_meaning rises is_open (option_and_then content (named_file w)))) plan
 words_plan w r content rises is_open plan e p =
     let P : Words → Type 0 = λ x. Plans (WordsAnswer x (file_meaning rises is_open (option_and_then content (named_file x)))) plan in subst P e p
-
--- what holds of a value
-pub if_ok : {T E : Type 0} (r : Result T E) (P Q : T → Type 0) → ((x : T) → P x → Q x) → IfOk r P → IfOk r Q
-if_ok (Ok x) P Q f p = f x p
-if_ok (Err e) P Q f p = p
 
 -- the plan of a mode is one of the request that has this mode and this file
 pub mode_plan : {E : Type 0} (r : Request) (mode : Emit) (file bytes : List ℕ) (A : List ℕ → Answering) (plan : Result Plan E) → r.emit ≡ mode → file ≡ r.file → ((out : Plan) → Plans (A r.file) out → Plans (ModeAnswer mode r bytes) out) → IfOk plan (Plans (A file)) → IfOk plan (Plans (ModeAnswer r.emit r bytes))

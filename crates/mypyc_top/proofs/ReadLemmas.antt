@@ -1,22 +1,11 @@
 -- How much of a file is read.
-use Rattle.std.proofs.Common.{◌≡◌, sym, ◌∙◌, subst, ℕ, ◌+◌, List, Bool, false, IsTrue, Option, Some}
+use Rattle.std.proofs.Common.{◌≡◌, sym, subst, ℕ, ◌+◌, List, Option, Some}
 use Rattle.std.specs.Option.{option_and_then}
 use Rattle.outside_core.specs.Bytes.{GivesAtMost}
-use Rattle.mypyc_top.specs.declared.words.Request.{Request}
-use Rattle.mypyc_top.specs.declared.words.Words.{Words}
-use Rattle.mypyc_top.specs.declared.words.Words.TheVariants.{Usage, Go}
-use Rattle.mypyc_top.specs.Answer.{most_bytes, named_file, named_most}
-
-same_bytes : (a b : List ℕ) → Some a ≡ Some b → a ≡ b
-same_bytes a b e = cc
-
--- what was left of an open file are its bytes
-pub from_open : (most : ℕ) (content : Option (List ℕ)) (opened left bytes : List ℕ) → content ≡ Some opened → content ≡ Some bytes → GivesAtMost most opened left → GivesAtMost most bytes left
-from_open most content opened left bytes o b gives =
-    subst (λ x. GivesAtMost most x left) (same_bytes opened bytes (sym o ∙ b)) gives
-
-pub not_open : (A : Type 0) (is_open : Bool) → is_open ≡ false → IsTrue is_open → A
-not_open A is_open none is = absurd (cc)
+use Rattle.mypyc_top_words.specs.declared.words.Request.{Request}
+use Rattle.mypyc_top_words.specs.declared.words.Words.{Words}
+use Rattle.mypyc_top_words.specs.declared.words.Words.TheVariants.{Usage, Go}
+use Rattle.mypyc_top_words.specs.Limits.{most_bytes, named_file, named_most}
 
 -- of the file that the words name
 pub of_request : (content : List ℕ → Option (List ℕ)) (w : Words) (r : Request) (left bytes : List ℕ) → Go r ≡ w → (content r.file ≡ Some bytes → GivesAtMost (most_bytes r.emit + 1) bytes left) → option_and_then content (named_file w) ≡ Some bytes → GivesAtMost (named_most w + 1) bytes left

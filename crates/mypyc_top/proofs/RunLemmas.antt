@@ -8,10 +8,10 @@ use Rattle.c_core.specs.Agreement.{Agrees}
 use Rattle.c_core.specs.Step.{MachineEnding, Ended, Faulted}
 use Rattle.c_core.specs.Run.{Stop, most_turns, machine_run}
 use Rattle.c_runner.specs.Ran.{AreLines}
-use Rattle.mypyc_top.specs.declared.words.Emit.TheVariants as modes
-use Rattle.mypyc_top.specs.Faithful.{RunsAs, Faithful}
-use Rattle.mypyc_top.specs.Endings.{ending_status, machine_status, machine_line}
-use Rattle.mypyc_top.specs.Summary.{cells_left}
+use Rattle.mypyc_top_words.specs.declared.words.Emit.TheVariants as modes
+use Rattle.mypyc_top_status.specs.Endings.{ending_status, machine_status, machine_line}
+use Rattle.mypyc_top_running.specs.Summary.{cells_left}
+use Rattle.mypyc_top_compiler.specs.Faithful.{RunsAs, Faithful}
 use Rattle.mypyc_top.specs.Running.{ModuleRun}
 use Rattle.mypyc_top.specs.Modes.{CanAnswer}
 

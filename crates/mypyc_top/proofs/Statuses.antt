@@ -4,13 +4,15 @@ use Rattle.std.proofs.lemmas.Bool.Decides.{nat_tests}
 use Rattle.std.specs.Option.{option_and_then}
 use Rattle.value_core.specs.Items.{Items}
 use Rattle.outside_core.specs.Counts.{Rose, has_risen}
-use Rattle.mypyc_top.specs.declared.status.Status.{Status}
-use Rattle.mypyc_top.specs.declared.status.Status.TheVariants as status
-use Rattle.mypyc_top.specs.Words.{words_of}
-use Rattle.mypyc_top.specs.Answer.{FileMeaning, Bytes, file_meaning, Answer, IsStatus, named_file}
-use Rattle.mypyc_top.specs.Causes.{Yields}
-use Rattle.mypyc_top.specs.Sinks.{SinkCall}
-use Rattle.mypyc_top.specs.Answered.{Gave, Answers, Answered}
+use Rattle.mypyc_top_words.specs.Words.{words_of}
+use Rattle.mypyc_top_words.specs.Limits.{named_file}
+use Rattle.mypyc_top_status.specs.declared.status.Status.{Status}
+use Rattle.mypyc_top_status.specs.declared.status.Status.TheVariants as status
+use Rattle.mypyc_top_status.specs.Causes.{Yields}
+use Rattle.mypyc_top_status.specs.Sinks.{SinkCall}
+use Rattle.mypyc_top_status.specs.Gave.{Gave}
+use Rattle.mypyc_top.specs.Answer.{FileMeaning, Bytes, file_meaning, Answer, IsStatus}
+use Rattle.mypyc_top.specs.Answered.{Answers, Answered}
 
 pub gave_status : (out err : SinkCall) (o e : List ℕ) (s t : Status) → Gave out err o e s t → (t ≡ s) ⊎ Yields t
 gave_status out err o e s status.WriteFault g = inr (inl refl)

@@ -1,26 +1,26 @@
 -- What the command answers: what its output and its lines on errors get, and its status, by its words, by what came of
 -- its file, and by the lines of its input. The first rule that applies holds.
 use Rattle.std.specs.Prelude.{◌≡◌, ℕ, nat_lt, Bool, true, false, List, [], ◌∷◌, length, codes, Option, Some, None}
-use Rattle.std.specs.Option.{option_and_then}
 use Rattle.value_core.specs.Items.{Items}
 use Rattle.py_typed.specs.Statements.{TypedModule}
 use Rattle.c_core.specs.declared.code.Code.{Code}
 use Rattle.c_core.specs.Text.{code_text}
-use Rattle.mypyc_top.specs.declared.status.Status.{Status}
-use Rattle.mypyc_top.specs.declared.status.Status.TheVariants as status
-use Rattle.mypyc_top.specs.declared.words.Emit.{Emit}
-use Rattle.mypyc_top.specs.declared.words.Emit.TheVariants.{Check, C, Run, Runc}
-use Rattle.mypyc_top.specs.declared.words.Request.{Request}
-use Rattle.mypyc_top.specs.declared.words.Words.{Words}
-use Rattle.mypyc_top.specs.declared.words.Words.TheVariants.{Usage, Go}
-use Rattle.mypyc_top.specs.Words.{words_of}
+use Rattle.mypyc_top_words.specs.declared.words.Emit.{Emit}
+use Rattle.mypyc_top_words.specs.declared.words.Emit.TheVariants.{Check, C, Run, Runc}
+use Rattle.mypyc_top_words.specs.declared.words.Request.{Request}
+use Rattle.mypyc_top_words.specs.declared.words.Words.{Words}
+use Rattle.mypyc_top_words.specs.declared.words.Words.TheVariants.{Usage, Go}
+use Rattle.mypyc_top_words.specs.Words.{words_of}
+use Rattle.mypyc_top_words.specs.Limits.{most_bytes}
+use Rattle.mypyc_top_status.specs.declared.status.Status.{Status}
+use Rattle.mypyc_top_status.specs.declared.status.Status.TheVariants as status
 use Rattle.py_parser_source.specs.Entries.{Entry}
-use Rattle.mypyc_top.specs.Source.{IsTyped}
-use Rattle.mypyc_top.specs.Faithful.{Faithful}
-use Rattle.mypyc_top.specs.Diagnostics.{entries_text}
-use Rattle.mypyc_top.specs.Faults.{AreFaults}
-use Rattle.mypyc_top.specs.ErrorLines.{usage_line, open_line, read_line, large_line}
-use Rattle.mypyc_top.specs.Running.{ModuleRun, TextRun}
+use Rattle.mypyc_top_status.specs.ErrorLines.{usage_line, open_line, read_line, large_line}
+use Rattle.mypyc_top_compiler.specs.Source.{IsTyped}
+use Rattle.mypyc_top_compiler.specs.Faithful.{Faithful}
+use Rattle.mypyc_top_compiler.specs.Diagnostics.{entries_text}
+use Rattle.mypyc_top_compiler.specs.Faults.{AreFaults}
+use Rattle.mypyc_top.specs.Running.{TextRun, ModuleRun}
 
 -- what came of the file: it was not opened, it was not read, or it has these bytes
 pub data FileMeaning : Type 0 where
@@ -35,25 +35,6 @@ file_meaning true false content = NoOpen
 file_meaning true true content = NoRead
 file_meaning false is_open (Some bytes) = Bytes bytes
 file_meaning false is_open None = NoOpen
-
--- the file that the words name
-abbrev pub named_file : Words → Option (List ℕ)
-named_file Usage = None
-named_file (Go r) = Some r.file
-
--- its bytes, where the files tell them
-abbrev pub named_content : (List ℕ → Option (List ℕ)) → List (List ℕ) → Option (List ℕ)
-named_content content words = option_and_then content (named_file (words_of words))
-
--- the greatest number of bytes of a file: of a C text, and of a module
-abbrev pub most_bytes : Emit → ℕ
-most_bytes Runc = 16777216
-most_bytes _ = 262144
-
--- of the file that the words name
-abbrev pub named_most : Words → ℕ
-named_most Usage = 0
-named_most (Go r) = most_bytes r.emit
 
 abbrev pub success_text : List ℕ
 success_text = codes "Success: no issues found in 1 source file\n"

@@ -1,13 +1,13 @@
 -- The statuses that a mode can answer, whatever its file: a fault of ownership and a refused text come from C text alone,
 -- diagnostics from modules alone, and the endings of programs from the modes that run them.
 use Rattle.std.specs.Prelude.{◌≡◌, ◌⊎◌, Bool, true, false, ◌||◌, IsTrue}
-use Rattle.mypyc_top.specs.declared.status.Status.{Status}
-use Rattle.mypyc_top.specs.declared.status.Status.TheVariants as status
-use Rattle.mypyc_top.specs.declared.words.Emit.{Emit}
-use Rattle.mypyc_top.specs.declared.words.Emit.TheVariants.{Check, C, Run, Runc}
-use Rattle.mypyc_top.specs.declared.words.Words.{Words}
-use Rattle.mypyc_top.specs.declared.words.Words.TheVariants.{Usage, Go}
-use Rattle.mypyc_top.specs.Causes.{Yields}
+use Rattle.mypyc_top_words.specs.declared.words.Emit.{Emit}
+use Rattle.mypyc_top_words.specs.declared.words.Emit.TheVariants.{Check, C, Run, Runc}
+use Rattle.mypyc_top_words.specs.declared.words.Words.{Words}
+use Rattle.mypyc_top_words.specs.declared.words.Words.TheVariants.{Usage, Go}
+use Rattle.mypyc_top_status.specs.declared.status.Status.{Status}
+use Rattle.mypyc_top_status.specs.declared.status.Status.TheVariants as status
+use Rattle.mypyc_top_status.specs.Causes.{Yields}
 
 -- of every mode
 abbrev pub is_common : Status → Bool

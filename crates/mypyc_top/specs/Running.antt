@@ -9,13 +9,13 @@ use Rattle.c_core.specs.Agreement.{SourceStop}
 use Rattle.value_core.specs.Ending.{Ending}
 use Rattle.c_core.specs.Run.{Stop, machine_run}
 use Rattle.c_text.specs.Reading.{HasCode, HasWellFormed, RefusedAt}
-use Rattle.mypyc_top.specs.declared.status.Status.{Status}
-use Rattle.mypyc_top.specs.declared.status.Status.TheVariants as status
-use Rattle.mypyc_top.specs.SourceRun.{StopsAt}
-use Rattle.mypyc_top.specs.Faithful.{Faithful}
-use Rattle.mypyc_top.specs.ErrorLines.{refused_line, ill_formed_line}
-use Rattle.mypyc_top.specs.Endings.{ending_status, ending_line, machine_status, machine_line}
-use Rattle.mypyc_top.specs.Summary.{cells_left, summary}
+use Rattle.mypyc_top_status.specs.declared.status.Status.{Status}
+use Rattle.mypyc_top_status.specs.declared.status.Status.TheVariants as status
+use Rattle.mypyc_top_status.specs.ErrorLines.{refused_line, ill_formed_line}
+use Rattle.mypyc_top_status.specs.Endings.{ending_status, ending_line, machine_status, machine_line}
+use Rattle.mypyc_top_running.specs.Summary.{cells_left, summary}
+use Rattle.mypyc_top_compiler.specs.SourceRun.{StopsAt}
+use Rattle.mypyc_top_compiler.specs.Faithful.{Faithful}
 
 -- the line for the ending of a source: the cells that it may tell of are those of the run of a code that is faithful to it
 abbrev pub IsSourceLine : TypedModule → ℕ → Items → Ending → List ℕ → Type 0

@@ -4,27 +4,14 @@
 //! What comes in are words, the bytes of a module or of a C text, and the input of a program that runs; what goes out is
 //! the C text of the module, its diagnostics, or the output of the program, then a line on errors, and the status. The
 //! promise: wherever no object fails and memory lasts, it is exactly the answer of `specs/Answer.antt`, whose C text is
-//! faithful to the module (`specs/Faithful.antt`), and whose runs are those of the source and of the C text
-//! (`specs/Running.antt`). `specs/Words.antt` has the words, `specs/Source.antt` the typed modules of files,
-//! `specs/SourceRun.antt` where their runs stop. Which forms are compiled is said by `ir_builder_supported`.
+//! faithful to the module, and whose runs are those of the source and of the C text (`specs/Running.antt`).
+//!
+//! Its parts stand beside one another: `mypyc_top_words` has the words, `mypyc_top_reading` the bytes of files and C texts,
+//! `mypyc_top_status` the statuses and the lines on errors, `mypyc_top_running` the runs, and `mypyc_top_compiler` what is
+//! wrong with a module and when a code is faithful to it. Which forms are compiled is said by `ir_builder_supported`.
 #![tactic(auto)]
 
-mod code;
-mod ending;
-mod faults;
-mod laws;
 mod plan;
-mod reading;
-mod reply;
-mod running;
-mod sending;
-mod status;
-mod summary;
 mod top;
-mod typing;
-mod words;
 
-pub use laws::{faults_are_one, typed_modules_are_one};
-pub use status::{Status, status_number};
 pub use top::mypyc;
-pub use words::{Emit, Request, Stage, Words, read_words};

@@ -1,26 +1,28 @@
-ghost use Rattle.std.specs.Prelude.{◌≡◌, ◌+◌, ◌<◌, ◌≤◌, ℕ, List, Some, false, true, IsTrue, IfOk};
+ghost use Rattle.std.specs.Prelude.{◌≡◌, ◌+◌, ◌<◌, ◌≤◌, ℕ, List, [], Some, false, true, IsTrue, IfOk};
 ghost use Rattle.outside_core.specs.Bytes.{GivesAtMost};
 ghost use Rattle.outside_core.specs.Counts.{count_end, has_risen, Rose};
 ghost use Rattle.c_core.specs.Run.{most_turns};
-ghost use Rattle.mypyc_top.specs.Words.{texts, words_of};
-ghost use Rattle.mypyc_top.specs.Running.{ModuleRun, TextRun};
-ghost use Rattle.mypyc_top.specs.Answer.{Answer, RequestAnswer, ModeAnswer, ModuleAnswer, Checked, Compiled, file_meaning, named_content, most_bytes, named_most};
-ghost use Rattle.mypyc_top.specs.Causes.{AbsentOpens};
-ghost use Rattle.mypyc_top.specs.Replies.{IsSent, is_file_status, is_module_status};
-ghost use Rattle.mypyc_top.specs.Plans.{MatchPlan, ForReply, IsRunnable, Plans, CanCome, Allowed};
+ghost use Rattle.mypyc_top_words.specs.Words.{texts, words_of};
+ghost use Rattle.mypyc_top_words.specs.Limits.{named_content, most_bytes, named_most};
+ghost use Rattle.mypyc_top_status.specs.Output.{output_text};
+ghost use Rattle.mypyc_top_status.specs.Causes.{AbsentOpens};
+ghost use Rattle.mypyc_top_status.specs.Replies.{IsSent, is_file_status, is_module_status};
+ghost use Rattle.mypyc_top_running.specs.Programs.{IsRunnable};
+ghost use Rattle.mypyc_top_compiler.specs.Diagnostics.{entries_text};
+ghost use Rattle.mypyc_top_compiler.specs.Found.{entries_of};
+ghost use Rattle.mypyc_top.specs.Running.{TextRun, ModuleRun};
+ghost use Rattle.mypyc_top.specs.Answer.{Answer, RequestAnswer, ModeAnswer, ModuleAnswer, Checked, Compiled, file_meaning};
+ghost use Rattle.mypyc_top.specs.Plans.{MatchPlan, ForReply, Plans, CanCome, Allowed};
 ghost use Rattle.mypyc_top.specs.Reads.{runs, runs_program, PlanRuns};
 
-use crate::code::code_of;
-use crate::reading::{Refusal, read_file};
-use crate::reply::{
-    Output, Reply, diagnosed_reply, file_reply, output_reply, refused_reply, usage_reply,
+use mypyc_top_compiler::{Faults, ModuleError, code_of, lines_of, read_typed};
+use mypyc_top_reading::{Refusal, TextFault, read_file, text_code};
+use mypyc_top_running::Program;
+use mypyc_top_status::{
+    Output, Reply, Status, ill_formed_reply, large_reply, open_reply, output_reply, read_reply,
+    refused_reply, usage_reply,
 };
-use crate::running::Program;
-use crate::status::Status;
-use crate::typing::{ModuleError, read_typed};
-use crate::words::{Emit, Request, Words, read_words};
-use c_core::check_well_formed;
-use c_text::{TextError, read};
+use mypyc_top_words::{Emit, Request, Words, most_bytes_of, read_words};
 use outside_core::Files;
 use std::alloc::Global;
 use value_core::Memory;
@@ -88,29 +90,11 @@ fn request_plan<F: Files>(alloc: Global, request: &Request, files: &mut F) -> Re
         → GivesAtMost (most_bytes request.now.emit + 1) bytes (F.left files.new) }
 {
     let file = request.file.as_str();
-    match read_file(alloc, files, &request.file, request.emit) {
+    match read_file(alloc, files, &request.file, most_bytes_of(request.emit)) {
         Ok(bytes) => file_plan(alloc, request, &bytes),
-        Err(Refusal::Open) => Ok(Plan::Send(file_reply(
-            alloc,
-            Status::OpenFault,
-            b"mypyc: cannot open ",
-            file,
-            b"\n",
-        )?)),
-        Err(Refusal::Read) => Ok(Plan::Send(file_reply(
-            alloc,
-            Status::ReadFault,
-            b"mypyc: cannot read ",
-            file,
-            b"\n",
-        )?)),
-        Err(Refusal::TooLarge) => Ok(Plan::Send(file_reply(
-            alloc,
-            Status::TooLarge,
-            b"mypyc: ",
-            file,
-            b" is too large\n",
-        )?)),
+        Err(Refusal::Open) => Ok(Plan::Send(open_reply(alloc, file)?)),
+        Err(Refusal::Read) => Ok(Plan::Send(read_reply(alloc, file)?)),
+        Err(Refusal::TooLarge) => Ok(Plan::Send(large_reply(alloc, file)?)),
         Err(Refusal::Memory) => Err(Memory),
     }
 }
@@ -203,25 +187,24 @@ fn text_plan(alloc: Global, file: &str, turns: u64, bytes: &[u8]) -> Result<Plan
     ensures runs { IfOk result (PlanRuns true) }
     ensures answer { IfOk result (Plans (TextRun file.now bytes.now turns)) }
 {
-    match read(alloc, bytes) {
-        Ok(code) => {
-            let fits = check_well_formed(alloc, &code)?;
-            if fits {
-                return Ok(Plan::Run(Program {
-                    code,
-                    turns,
-                    has_summary: true,
-                }));
-            }
-            Ok(Plan::Send(file_reply(
-                alloc,
-                Status::TextRefused,
-                b"mypyc: ",
-                file,
-                b": not well formed\n",
-            )?))
-        }
-        Err(TextError::Refused(place)) => Ok(Plan::Send(refused_reply(alloc, file, place)?)),
-        Err(TextError::Memory) => Err(Memory),
+    match text_code(alloc, bytes) {
+        Ok(code) => Ok(Plan::Run(Program {
+            code,
+            turns,
+            has_summary: true,
+        })),
+        Err(TextFault::Refused(place)) => Ok(Plan::Send(refused_reply(alloc, file, place)?)),
+        Err(TextFault::IllFormed) => Ok(Plan::Send(ill_formed_reply(alloc, file)?)),
+        Err(TextFault::Memory) => Err(Memory),
     }
+}
+
+/// The answer to a file with diagnostics.
+fn diagnosed_reply(alloc: Global, file: &str, faults: &Faults) -> Result<Reply, Memory>
+    ensures { IfOk result (λ reply.
+        (output_text reply.out ≡ entries_text file.now (entries_of faults.now)) × (reply.err.items ≡ [])
+        × (reply.status ≡ Status.Diagnosed)) }
+{
+    let text = lines_of(alloc, file, faults)?;
+    Ok(output_reply(alloc, Status::Diagnosed, Output::Bytes(text)))
 }

@@ -3,19 +3,20 @@ ghost use Rattle.value_core.specs.Items.{Items};
 ghost use Rattle.outside_core.specs.Bytes.{GivesAtMost};
 ghost use Rattle.outside_core.specs.Counts.{count_end, has_risen, Rose};
 ghost use Rattle.c_runner.specs.Ran.{AreGiven};
-ghost use Rattle.mypyc_top.specs.Words.{texts, words_of};
-ghost use Rattle.mypyc_top.specs.Answer.{file_meaning, named_content, named_most, Answer, IsStatus};
+ghost use Rattle.mypyc_top_words.specs.Words.{texts, words_of};
+ghost use Rattle.mypyc_top_words.specs.Limits.{named_content, named_most};
+ghost use Rattle.mypyc_top_status.specs.Causes.{AbsentOpens, Yields};
+ghost use Rattle.mypyc_top_status.specs.Sinks.{sink_call};
+ghost use Rattle.mypyc_top_running.specs.Takes.{most_taken};
+ghost use Rattle.mypyc_top.specs.Answer.{file_meaning, Answer, IsStatus};
 ghost use Rattle.mypyc_top.specs.Modes.{IsAllowed};
-ghost use Rattle.mypyc_top.specs.Causes.{AbsentOpens, Yields};
-ghost use Rattle.mypyc_top.specs.Sinks.{sink_call};
 ghost use Rattle.mypyc_top.specs.Answered.{Answered};
-ghost use Rattle.mypyc_top.specs.Reads.{runs_program, is_ended, leaves_input, most_taken, RunRead};
+ghost use Rattle.mypyc_top.specs.Reads.{runs_program, is_ended, leaves_input, RunRead};
 
 use crate::plan::{Plan, plan_of};
-use crate::running::run_and_send;
-use crate::sending::{out_of_memory, send_reply};
-use crate::status::Status;
-use crate::words::Words;
+use mypyc_top_running::{run_and_send, send_reply};
+use mypyc_top_status::{Status, out_of_memory};
+use mypyc_top_words::Words;
 use outside_core::{Files, Sink, Source};
 use std::alloc::Global;
 use value_core::Memory;
@@ -93,52 +94,6 @@ pub fn mypyc<F: Files, I: Source, O: Sink, E: Sink>(
         → (items : Items)
         × AreGiven I.tells (I.faults input.old) (I.faults input.new) (I.left input.old) (I.left input.new) items
         × (IsStatus (texts words.now) bytes items result ⊎ (result ≡ Status.Memory)) }
-{
-    answer(alloc, words, files, input, out, err)
-}
-
-fn answer<F: Files, I: Source, O: Sink, E: Sink>(
-    alloc: Global,
-    words: &[String],
-    files: &mut F,
-    input: &mut I,
-    out: &mut O,
-    err: &mut E,
-) -> Status
-    ensures answer { IsTrue F.tells → F.faults files.old < count_end → (items : Items)
-        × AreGiven I.tells (I.faults input.old) (I.faults input.new) (I.left input.old) (I.left input.new) items
-        × Answered (texts words.now)
-        (file_meaning (has_risen (F.faults files.old) (F.faults files.new)) (F.is_open files.new)
-        (named_content (F.content files.old) (texts words.now)))
-        items
-        (sink_call O.tells (O.taken out.old) (O.taken out.new))
-        (sink_call E.tells (E.taken err.old) (E.taken err.new))
-        (out.new ≡ out.old) (err.new ≡ err.old)
-        result }
-    ensures allowed { IsAllowed (words_of (texts words.now)) result }
-    ensures open_fault { result ≡ Status.OpenFault →
-        Rose (F.faults files.old) (F.faults files.new) × (F.is_open files.new ≡ false) }
-    ensures read_fault { result ≡ Status.ReadFault →
-        Rose (F.faults files.old) (F.faults files.new) × (F.is_open files.new ≡ true) }
-    ensures absent { IsTrue F.tells → AbsentOpens result
-        (named_content (F.content files.old) (texts words.now))
-        (F.absent_opens files.old) (F.absent_opens files.new) }
-    ensures write_fault { result ≡ Status.WriteFault →
-        Rose (O.faults out.old) (O.faults out.new) ⊎ Rose (E.faults err.old) (E.faults err.new) }
-    ensures input_fault { result ≡ Status.InputFault → Rose (I.faults input.old) (I.faults input.new) }
-    ensures input { IsTrue (leaves_input (words_of (texts words.now)) result) → input.new ≡ input.old }
-    ensures reads { IsTrue I.tells → IsTrue (runs_program (words_of (texts words.now))) → IsTrue (is_ended result)
-        → (items : Items)
-        × AreGiven I.tells (I.faults input.old) (I.faults input.new) (I.left input.old) (I.left input.new) items
-        × RunRead items (I.left input.old) (I.left input.new)
-        (λ text lines status. IsTrue F.tells → F.faults files.old < count_end → Answer (texts words.now)
-        (file_meaning (has_risen (F.faults files.old) (F.faults files.new)) (F.is_open files.new)
-        (named_content (F.content files.old) (texts words.now)))
-        items text lines status) result }
-    ensures reads_at_most { IsTrue I.tells → GivesAtMost most_taken (I.left input.old) (I.left input.new) }
-    ensures read_at_most { (bytes : List ℕ) → IsTrue F.tells → F.is_open files.old ≡ false
-        → named_content (F.content files.old) (texts words.now) ≡ Some bytes → IsTrue (F.is_open files.new)
-        → GivesAtMost (named_most (words_of (texts words.now)) + 1) bytes (F.left files.new) }
 {
     match plan_of(alloc, words, files) {
         Ok(Plan::Send(reply)) => send_reply(&reply, false, out, err),

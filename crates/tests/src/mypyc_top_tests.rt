@@ -1,6 +1,7 @@
 //! Whole commands over files, and sinks that refuse calls.
 use crate::case::check;
-use mypyc_top::{Status, mypyc, status_number};
+use mypyc_top::mypyc;
+use mypyc_top_status::{Status, status_number};
 use outside_core::{CalmFiles, CalmSource, MemFiles, MemSink, Source};
 use std::alloc::{AllocError, Global};
 use std::process::Abort;

@@ -1,7 +1,7 @@
 //! Lists of words, and what they mean.
 use crate::case::check;
 use crate::mypyc_top_tests::words_of;
-use mypyc_top::{Emit, Stage, Words, read_words};
+use mypyc_top_words::{Emit, Stage, Words, read_words};
 use std::test::Fail;
 
 /// A list of words, and the options and the file of the request that it is.

@@ -3,7 +3,8 @@
 //! A table of modules is one text, with an empty line between two of them. A module's lines are followed by what is said
 //! of it, a line for each diagnostic, in order: `=> `, and what stands behind the name of the file. Where nothing is said,
 //! it is a module without faults. A line that begins with `-- ` is a title.
-use mypyc_top::{mypyc, status_number};
+use mypyc_top::mypyc;
+use mypyc_top_status::status_number;
 use outside_core::{CalmSource, MemFiles, MemSink};
 use std::alloc::{AllocError, Global};
 use std::fmt::Debug;

@@ -1,6 +1,6 @@
 use Rattle.std.proofs.Common.{◌∙◌}
 use Rattle.py_typed.specs.Statements.{typed_module}
-use Rattle.mypyc_top.specs.declared.words.Emit.TheVariants.{Check}
+use Rattle.mypyc_top_words.specs.declared.words.Emit.TheVariants.{Check}
 use Rattle.mypyc_top.proofs.PlanLemmas.{good_module}
 use Rattle.mypyc_top.proofs.plan.check_plan.Goals as goal
 

@@ -1,5 +1,5 @@
 use Rattle.py_typed.specs.Statements.{typed_module}
-use Rattle.mypyc_top.specs.declared.words.Emit.TheVariants.{C}
+use Rattle.mypyc_top_words.specs.declared.words.Emit.TheVariants.{C}
 use Rattle.mypyc_top.proofs.PlanLemmas.{good_module}
 use Rattle.mypyc_top.proofs.plan.compile_plan.Goals as goal
 

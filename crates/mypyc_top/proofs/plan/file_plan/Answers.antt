@@ -1,6 +1,6 @@
-use Rattle.mypyc_top.specs.declared.words.Emit.TheVariants.{Check, C, Run, Runc}
+use Rattle.mypyc_top_words.specs.declared.words.Emit.TheVariants.{Check, C, Run, Runc}
 use Rattle.mypyc_top.specs.Answer.{ModuleAnswer, Checked, Compiled}
-use Rattle.mypyc_top.specs.Running.{ModuleRun, TextRun}
+use Rattle.mypyc_top.specs.Running.{TextRun, ModuleRun}
 use Rattle.mypyc_top.proofs.PlanLemmas.{mode_plan}
 use Rattle.mypyc_top.proofs.plan.file_plan.Goals as goal
 

@@ -1,7 +1,8 @@
 use Rattle.std.proofs.Common.{sym, ◌∙◌}
-use Rattle.mypyc_top.specs.Words.{texts, words_of}
-use Rattle.mypyc_top.proofs.PlanLemmas.{if_ok, words_plan}
-use Rattle.mypyc_top.proofs.MostTurns.{most_asked}
+use Rattle.mypyc_top_words.specs.Words.{texts, words_of}
+use Rattle.mypyc_top_words.proofs.MostTurns.{most_asked}
+use Rattle.mypyc_top_compiler.proofs.Values.{if_ok}
+use Rattle.mypyc_top.proofs.PlanLemmas.{words_plan}
 use Rattle.mypyc_top.proofs.ReadLemmas.{of_request}
 use Rattle.mypyc_top.proofs.plan.plan_of.Goals as goal
 

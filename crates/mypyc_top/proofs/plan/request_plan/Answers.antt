@@ -1,8 +1,10 @@
 use Rattle.std.proofs.Common.{sym, ◌∙◌, ap, ℕ, ◌≤◌, List, length, Some, arith}
-use Rattle.mypyc_top.specs.ErrorLines.{large_line}
-use Rattle.mypyc_top.specs.Answer.{ModeAnswer, most_bytes}
+use Rattle.mypyc_top_words.specs.Limits.{most_bytes}
+use Rattle.mypyc_top_status.specs.ErrorLines.{large_line}
+use Rattle.mypyc_top_compiler.proofs.Values.{if_ok}
+use Rattle.mypyc_top.specs.Answer.{ModeAnswer}
 use Rattle.mypyc_top.specs.Plans.{Plans}
-use Rattle.mypyc_top.proofs.PlanLemmas.{if_ok, read_plan, large_answer}
+use Rattle.mypyc_top.proofs.PlanLemmas.{read_plan, large_answer}
 use Rattle.mypyc_top.proofs.plan.request_plan.Goals as goal
 
 pub returns-in-Ok-clause-answer : goal.returns-in-Ok-clause-answer
@@ -16,12 +18,12 @@ returns-in-Ok-clause-answer g c =
     within p)
     c.file_plan.ensures.answer
 
-pub returns-in_ok-file_reply-in-Err-TooLarge-clause-answer : goal.returns-in_ok-file_reply-in-Err-TooLarge-clause-answer
-returns-in_ok-file_reply-in-Err-TooLarge-clause-answer g c = λ tells below items.
+pub returns-in_ok-large_reply-in-Err-TooLarge-clause-answer : goal.returns-in_ok-large_reply-in-Err-TooLarge-clause-answer
+returns-in_ok-large_reply-in-Err-TooLarge-clause-answer g c = λ tells below items.
     let refused = rw c.in-Err-TooLarge.field-0-is at c.in-Err-TooLarge.ensures.refused in
     let counted = rw c.in-Err-TooLarge.field-0-is at c.in-Err-TooLarge.ensures.counted in
     let large = refused tells in
-    let sent = c.in_ok-file_reply-in-Err-TooLarge.ensures in
+    let sent = c.in_ok-large_reply-in-Err-TooLarge.ensures in
     large_answer c.args.request.now (g.F.Files.faults c.args.files.now) (g.F.Files.faults c.read_file.new.files) _ _ large.0 items _ _ _
     counted below
     large.1

@@ -1,5 +1,5 @@
 use Rattle.py_typed.specs.Statements.{typed_module}
-use Rattle.mypyc_top.specs.declared.words.Emit.TheVariants.{Run}
+use Rattle.mypyc_top_words.specs.declared.words.Emit.TheVariants.{Run}
 use Rattle.mypyc_top.proofs.PlanLemmas.{good_module}
 use Rattle.mypyc_top.proofs.RunLemmas.{module_run, run_can_come}
 use Rattle.mypyc_top.proofs.plan.run_plan.Goals as goal

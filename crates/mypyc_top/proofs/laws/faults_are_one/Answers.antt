@@ -1,5 +1,0 @@
-use Rattle.mypyc_top.proofs.FaultLemmas.{faults_are_one}
-use Rattle.mypyc_top.proofs.laws.faults_are_one.Goals as goal
-
-pub returns : goal.returns
-returns c = faults_are_one

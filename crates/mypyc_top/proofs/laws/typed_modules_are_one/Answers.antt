@@ -1,5 +1,0 @@
-use Rattle.mypyc_top.proofs.FaultLemmas.{typed_modules_are_one}
-use Rattle.mypyc_top.proofs.laws.typed_modules_are_one.Goals as goal
-
-pub returns : goal.returns
-returns c = typed_modules_are_one

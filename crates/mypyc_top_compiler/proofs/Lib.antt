@@ -1,0 +1,5 @@
+pub mod TypeLemmas
+pub mod Values
+pub mod FaultLemmas
+pub mod SuitLemmas
+pub mod CodeLemmas

@@ -1,0 +1,2 @@
+pub mod RunGaveLemmas
+pub mod TookLemmas

@@ -1,0 +1,3 @@
+pub mod Summary
+pub mod Programs
+pub mod Takes

@@ -1,0 +1,9 @@
+pub mod Statuses
+pub mod ErrorLines
+pub mod Endings
+pub mod Ends
+pub mod Causes
+pub mod Sinks
+pub mod Gave
+pub mod Output
+pub mod Replies
