@@ -1,14 +1,10 @@
-//! Tests of the public calls of the crates from the C text to its runs, of what their contracts do not say: values from
-//! outside, texts that are printed, and objects whose calls fail. What a command shows stands as a case in `test_cases`.
+//! Tests of calls inside the compiler, of what their contracts do not say: values from outside, trees and tokens as CPython
+//! has them, and objects of the system. What a command shows stands as a case in `test_cases`.
 //!
 //! They stand in a crate of their own, since a crate with tests is proved twice. Each file has the name of the crate
 //! that it tests. Like cases are rows of one table, and one `check` in a loop over it tells them.
 #![tactic(auto)]
 
-#[cfg(test)]
-mod c_core_tests;
-#[cfg(test)]
-mod c_runner_tests;
 #[cfg(test)]
 mod c_text_tests;
 #[cfg(test)]
@@ -16,10 +12,38 @@ mod case;
 #[cfg(test)]
 mod cell_heap_tests;
 #[cfg(test)]
-mod changes;
-#[cfg(test)]
 mod codes;
 #[cfg(test)]
 mod ir_core_tests;
 #[cfg(test)]
 mod liveness_tests;
+#[cfg(test)]
+mod outside_core_tests;
+#[cfg(test)]
+mod py_annotations_tests;
+#[cfg(test)]
+mod py_binder_tests;
+#[cfg(test)]
+mod py_flow_tests;
+#[cfg(test)]
+mod py_lexer_tests;
+#[cfg(test)]
+mod py_messages_tests;
+#[cfg(test)]
+mod py_parser_tables;
+#[cfg(test)]
+mod py_parser_tests;
+#[cfg(test)]
+mod py_syntax_tests;
+#[cfg(test)]
+mod py_typed_tests;
+#[cfg(test)]
+mod slot_arena_tests;
+#[cfg(test)]
+mod tree_text;
+#[cfg(test)]
+mod value_core_class_tests;
+#[cfg(test)]
+mod value_core_tests;
+#[cfg(test)]
+mod value_core_text_tests;

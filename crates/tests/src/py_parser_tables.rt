@@ -341,20 +341,3 @@ pub(crate) const LEFT_OUT: &[(&str, usize)] = &[
     ("a . yield", 2),
     ("a NEWLINE with", 2),
 ];
-
-/// What each puts around an expression has one level more: the tokens before it and behind it.
-pub(crate) const LEVELS: &[(&str, &str)] = &[
-    ("not ", ""),
-    ("- ", ""),
-    ("", "+ x "),
-    ("", "or x "),
-    ("x < ( ", ") "),
-    ("", ". a "),
-    ("f ( ", ") "),
-    ("", "( ) "),
-    ("f ( ", "= y ) "),
-    ("x [ ", "] "),
-    ("[ ", "] "),
-    ("{ x : ", "} "),
-    ("x if y else ", ""),
-];

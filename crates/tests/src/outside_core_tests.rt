@@ -1,8 +1,8 @@
-//! Files, sources and sinks: those of the tests, whose calls fail as they are told, and those of the system.
+//! Files, sources and sinks: those in memory that never fail, and those of the system.
 use crate::case::check;
 use outside_core::{
-    CalmFiles, CalmSource, CountSink, DiskFiles, Failed, Files, MemFiles, MemSink, MemSource,
-    ReadError, Sink, Source, StreamSink, StreamSource, WriteFault, read_whole, write_whole,
+    CalmFiles, CalmSource, CountSink, DiskFiles, Failed, Files, MemFiles, ReadError, Sink, Source,
+    StreamSink, StreamSource, WriteFault, read_whole, write_whole,
 };
 use std::alloc::{AllocError, Global};
 use std::io::{self, Input};
@@ -74,72 +74,6 @@ fn names_open_their_bytes(rt: HostRuntime) -> Result<(), Fail> {
         &"counts",
         (files.faults(), files.absent_opens()) == (2, 2),
     );
-    Ok(())
-}
-
-const LONG: &[u8] = &[b'x'; 5000];
-
-const LONG_READ: &[Case<'static>] = &[
-    ("long", 5000, Err(ReadError::Failed)),
-    ("long", 5000, Ok(LONG)),
-];
-
-/// The long file takes an open and three reads, the last of which finds the end.
-#[test]
-fn calls_of_files_fail_in_turn(rt: HostRuntime) -> Result<(), Fail> {
-    for failing in 0..4 {
-        let mut files = files_of(rt.alloc(), &[("long", LONG)], &[failing])?;
-        check_files(&rt, rt.alloc(), &mut files, LONG_READ);
-        let counts = (files.faults(), files.absent_opens());
-        check(&rt, &failing, counts == (1, 0));
-    }
-    Ok(())
-}
-
-// How many bytes a read gives, what stands in the room for them, and what is left.
-const READS: &[(Result<usize, Failed>, &[u8], &[u8])] = &[
-    (Ok(2), b"ab.", b"cde"),
-    (Err(Failed), b"ab.", b"cde"),
-    (Ok(2), b"cd.", b"e"),
-    (Ok(1), b"ed.", b""),
-    (Ok(0), b"ed.", b""),
-];
-
-#[test]
-fn sources_give_pieces(rt: HostRuntime) -> Result<(), Fail> {
-    let bytes = Vec::from_slice(rt.alloc(), b"abcde")?;
-    let fails = Vec::from_slice(rt.alloc(), &[1])?;
-    let mut source = MemSource::new(bytes, 2, fails);
-    let mut into = [b'.'; 3];
-    for (count, filled, left) in READS {
-        let is_right = source.read(&mut into) == *count && into.as_slice() == *filled;
-        check(&rt, left, is_right && source.left() == *left);
-    }
-    check(&rt, &"faults", source.faults() == 1);
-    Ok(())
-}
-
-// The number of the call that fails, what the sink has then, and which of four calls went well.
-const FAILING: &[(u64, &[u8], (bool, bool, bool, bool))] = &[
-    (0, b"two", (false, true, true, true)),
-    (1, b"onetwo", (true, false, true, true)),
-    (2, b"one", (true, true, false, true)),
-    (3, b"onetwo", (true, true, true, false)),
-];
-
-#[test]
-fn calls_of_a_sink_fail_in_turn(rt: HostRuntime) -> Result<(), Fail> {
-    for (failing, want, went_well) in FAILING {
-        let mut sink = MemSink::new(rt.alloc(), Vec::from_slice(rt.alloc(), &[*failing])?);
-        let answers = (
-            write_whole(&mut sink, b"one").is_ok(),
-            sink.flush().is_ok(),
-            write_whole(&mut sink, b"two").is_ok(),
-            sink.flush().is_ok(),
-        );
-        let is_right = answers == *went_well && sink.bytes() == *want;
-        check(&rt, failing, is_right && sink.faults() == 1);
-    }
     Ok(())
 }
 

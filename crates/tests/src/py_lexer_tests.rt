@@ -1,6 +1,6 @@
 //! Texts with their tokens or their faults, as CPython has them.
 use crate::case::check;
-use py_lexer::{LexError, LexKind, pieces_lie_side_by_side, tokens};
+use py_lexer::{LexError, LexKind, tokens};
 use py_syntax::TokenKind;
 use std::alloc::{AllocError, Global};
 use std::process::Abort;
@@ -193,60 +193,4 @@ fn faults_are_the_first_ones(rt: HostRuntime) {
     for (text, line, kind) in FAULTS {
         check_fault(&rt, rt.alloc(), text, Some(LexError::Fault(*line, *kind)));
     }
-}
-
-/// The text, and then the part so many times.
-fn repeated(alloc: Global, text: &str, part: &str, count: usize) -> Result<String, AllocError> {
-    let mut out = String::from_str(alloc, text)?;
-    for _ in 0..count {
-        out.push_str(part)?;
-    }
-    Ok(out)
-}
-
-/// So many lines, each of which opens a level of indentation, and one more within the last level.
-fn indented(alloc: Global, count: usize) -> Result<String, AllocError> {
-    let mut lines = String::new(alloc);
-    for level in 0..count {
-        let space = repeated(alloc, "", " ", level)?;
-        lines.push_str(space.as_str())?;
-        lines.push_str("if a:\n")?;
-    }
-    let space = repeated(alloc, "", " ", count)?;
-    lines.push_str(space.as_str())?;
-    lines.push('b')?;
-    Ok(lines)
-}
-
-/// A hundred levels may be open at once, of brackets as of indentation, and no more.
-#[test]
-fn levels_end_at_a_hundred(rt: HostRuntime) -> Result<(), Fail> {
-    for (count, want) in [
-        (100, None),
-        (101, Some(LexError::Fault(102, LexKind::TooDeep))),
-    ] {
-        let text = indented(rt.alloc(), count)?;
-        check_fault(&rt, rt.alloc(), text.as_str(), want);
-    }
-    for (count, want) in [
-        (99, LexError::Fault(2, LexKind::Unended)),
-        (100, LexError::Fault(2, LexKind::TooDeep)),
-    ] {
-        let text = repeated(rt.alloc(), "[\n", "[", count)?;
-        check_fault(&rt, rt.alloc(), text.as_str(), Some(want));
-    }
-    Ok(())
-}
-
-#[test]
-fn faults_say_their_line(rt: HostRuntime) -> Result<(), Fail> {
-    pieces_lie_side_by_side();
-    let fault = LexError::Fault(3, LexKind::Tab);
-    let said = format!(in rt.alloc(); "{fault}")?;
-    check(
-        &rt,
-        &"said",
-        said.as_str() == "line 3: Inconsistent use of tabs in indentation",
-    );
-    Ok(())
 }

@@ -5,11 +5,11 @@ ghost use Rattle.py_syntax.specs.Tokens.{EndsOnce};
 ghost use Rattle.py_syntax.specs.declared.token.TokenKind.TheVariants as k;
 
 use crate::case::check;
-use crate::py_parser_tables::{BLOCKS, EXPRESSIONS, LEFT_OUT, LEVELS, LINES, ROWS};
+use crate::py_parser_tables::{BLOCKS, EXPRESSIONS, LEFT_OUT, LINES, ROWS};
 use crate::tree_text::suite_text;
 use py_parser::{ParseError, module};
 use py_syntax::{Key, Sign, Span, Token, TokenKind, Tokens};
-use std::alloc::{AllocError, Global};
+use std::alloc::Global;
 use std::process::Abort;
 use std::test::Fail;
 use value_core::{Many, Memory, Name, Text};
@@ -111,91 +111,8 @@ fn faults_of_syntax(rt: HostRuntime) -> Result<(), Fail> {
             check_fault(&rt, rt.alloc(), text, Some(ParseError::Syntax(*at)))?;
         }
     }
-    Ok(())
-}
-
-#[test]
-fn keywords_left_out(rt: HostRuntime) -> Result<(), Fail> {
     for (text, at) in LEFT_OUT {
         check_fault(&rt, rt.alloc(), text, Some(ParseError::Profile(*at)))?;
-    }
-    Ok(())
-}
-
-/// An expression with `count` levels around a name, and tokens behind it.
-fn nested(
-    alloc: Global,
-    around: (&str, &str),
-    count: usize,
-    behind: &str,
-) -> Result<String, AllocError> {
-    let mut out = String::new(alloc);
-    for _level in 0..count {
-        out.push_str(around.0)?;
-    }
-    out.push_str("x ")?;
-    for _level in 0..count {
-        out.push_str(around.1)?;
-    }
-    out.push_str(behind)?;
-    Ok(out)
-}
-
-fn check_nested(
-    rt: &impl Abort,
-    alloc: Global,
-    around: (&str, &str),
-    count: usize,
-    behind: &str,
-    want: Option<ParseError>,
-) -> Result<(), Fail> {
-    let text = nested(alloc, around, count, behind)?;
-    check_fault(rt, alloc, text.as_str(), want)
-}
-
-fn count_words(text: &str) -> usize {
-    text.split_ascii_whitespace().count()
-}
-
-/// A hundred levels are no fault. A hundred and one are one at the last token, if the next one may stand there.
-#[test]
-fn levels_end_at_a_hundred(rt: HostRuntime) -> Result<(), Fail> {
-    for around in LEVELS.iter().copied() {
-        let count = count_words(nested(rt.alloc(), around, 100, "")?.as_str());
-        let last = count.saturating_sub(1);
-        for (levels, behind, want) in [
-            (99, "NEWLINE", None),
-            (100, "", Some(ParseError::Syntax(count))),
-            (100, "NEWLINE )", Some(ParseError::TooDeep(last))),
-        ] {
-            check_nested(&rt, rt.alloc(), around, levels, behind, want)?;
-        }
-    }
-    Ok(())
-}
-
-/// Brackets that group have no level, a comma behind the target of a `for` has one, and what comes before any level is
-/// finished may be as long as memory allows.
-#[test]
-fn levels_are_those_of_trees(rt: HostRuntime) -> Result<(), Fail> {
-    check_nested(&rt, rt.alloc(), ("( ", ") "), 100, "NEWLINE", None)?;
-    let list = nested(rt.alloc(), ("[ ", "] "), 99, "")?;
-    let text = format!(in rt.alloc(); "for {list} in x : x NEWLINE")?;
-    check_fault(&rt, rt.alloc(), text.as_str(), None)?;
-    let text = format!(in rt.alloc(); "for {list} , in x : x NEWLINE")?;
-    check_fault(
-        &rt,
-        rt.alloc(),
-        text.as_str(),
-        Some(ParseError::TooDeep(200)),
-    )?;
-    for (around, last) in [
-        (("not ", ""), 5_000),
-        (("- ", ""), 5_000),
-        (("x if x else ", ""), 20_000),
-    ] {
-        let want = Some(ParseError::TooDeep(last));
-        check_nested(&rt, rt.alloc(), around, 5_000, "NEWLINE", want)?;
     }
     Ok(())
 }

@@ -3,8 +3,7 @@ use crate::case::check;
 use Arith::{NegativeShift, OutOfRange, Overflow, ZeroDivisor};
 use value_core::{
     Arith, i64_add, i64_floor_div, i64_modulo, i64_mul, i64_neg, i64_shl, i64_shr, i64_sub,
-    int_add, int_floor_div, int_modulo, int_mul, int_neg, int_shl, int_shr, int_sub, int_to_i64,
-    is_short,
+    int_add, int_floor_div, int_modulo, int_mul, int_neg, int_shl, int_shr, int_sub,
 };
 
 type OneInt = Result<i128, Arith>;
@@ -257,28 +256,5 @@ fn words(rt: HostRuntime) {
     }
     for (a, want) in [(i64::MIN, i64::MIN), (113, -113)] {
         check(&rt, &a, i64_neg(a) == want);
-    }
-}
-
-// A number, the same as a word of 64 bits, and whether it is short.
-const CONVERSIONS: &[(i128, Result<i64, Arith>, bool)] = &[
-    (0, Ok(0), true),
-    (-1, Ok(-1), true),
-    (4611686018427387903, Ok(4611686018427387903), true),
-    (4611686018427387904, Ok(4611686018427387904), false),
-    (-4611686018427387904, Ok(-4611686018427387904), true),
-    (-4611686018427387905, Ok(-4611686018427387905), false),
-    (9223372036854775807, Ok(i64::MAX), false),
-    (9223372036854775808, Err(OutOfRange), false),
-    (-9223372036854775808, Ok(i64::MIN), false),
-    (-9223372036854775809, Err(OutOfRange), false),
-    (i128::MAX, Err(OutOfRange), false),
-    (i128::MIN, Err(OutOfRange), false),
-];
-
-#[test]
-fn conversions(rt: HostRuntime) {
-    for (a, word, short) in CONVERSIONS.iter().copied() {
-        check(&rt, &a, int_to_i64(a) == word && is_short(a) == short);
     }
 }
