@@ -1,11 +1,11 @@
-//! Heaps: cells that others hold, in each kind of content that holds any, keys that are dead, and long releases.
+//! Heaps: cells that others hold, in each kind of content that holds any, and long releases.
 ghost use Rattle.std.specs.Prelude.{◌≡◌, ◌+◌, ◌<◌, ◌≤◌, length};
 
 use crate::case::check;
 use cell_heap::{Content, Dead, Heap, Key, Word};
 use std::alloc::Global;
 use std::test::Fail;
-use value_core::{ExcClass, Many, Memory, Text};
+use value_core::{Many, Memory, Text};
 
 // The kinds of contents that hold references.
 #[derive(Clone, Copy, Debug)]
@@ -85,38 +85,6 @@ fn what_a_cell_holds_is_released_with_it(rt: HostRuntime) -> Result<(), Fail> {
     Ok(())
 }
 
-// The keys of so many cells without references.
-fn numbers(alloc: Global, heap: &mut Heap, count: u32) -> Result<Vec<Key>, Fail>
-    requires empty { length heap.old ≡ 0 }
-    requires small { count ≤ 1000000 }
-    ensures { length heap.new ≤ count }
-{
-    let mut keys = Vec::new(alloc);
-    'number: for number in 0..count {
-        keys.push(make(heap, Content::Int(number as i128))?)?;
-    }
-    Ok(keys)
-}
-
-#[test]
-fn keys_stand_in_order_of_making(rt: HostRuntime) -> Result<(), Fail> {
-    let mut heap = Heap::new(rt.alloc());
-    let keys = numbers(rt.alloc(), &mut heap, 10)?;
-    let mut kept = Vec::new(rt.alloc());
-    for (place, key) in keys.iter().enumerate() {
-        if place % 3 == 0 {
-            give(&mut heap, *key)?;
-        } else {
-            kept.push(*key)?;
-        }
-    }
-    let raised = Content::Exc(ExcClass::KeyError, Text::from_str(rt.alloc(), "1")?);
-    kept.push(make(&mut heap, raised)?)?;
-    let found = heap.keys(rt.alloc())?;
-    check(&rt, &"in order", found.as_slice() == kept.as_slice());
-    Ok(())
-}
-
 // A chain of tuples, each of which holds the one before it, and the first of which is empty: the last one's key.
 fn chain(alloc: Global, heap: &mut Heap, count: u32) -> Result<Key, Fail>
     requires empty { length heap.old ≡ 0 }
@@ -141,25 +109,5 @@ fn a_chain_of_any_length_is_released_at_once(rt: HostRuntime) -> Result<(), Fail
         &"released",
         is_given && heap.keys(rt.alloc())?.is_empty(),
     );
-    Ok(())
-}
-
-// So many cells, made and released one after the other.
-fn come_and_go(heap: &mut Heap, count: u32) -> Result<(), Fail>
-    requires empty { length heap.old ≡ 0 }
-    requires small { count ≤ 1000000 }
-{
-    'number: for number in 0..count {
-        let key = make(heap, Content::Int(number as i128))?;
-        give(heap, key)?;
-    }
-    Ok(())
-}
-
-#[test]
-fn a_million_cells_come_and_go(rt: HostRuntime) -> Result<(), Fail> {
-    let mut heap = Heap::new(rt.alloc());
-    come_and_go(&mut heap, 1_000_000)?;
-    check(&rt, &"nothing left", heap.keys(rt.alloc())?.is_empty());
     Ok(())
 }

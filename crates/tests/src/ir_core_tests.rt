@@ -1,7 +1,7 @@
 //! A function as the builder makes it, and how operations tell that they failed.
 use crate::case::check;
-use c_core::{BoolPrim, Int64Prim, IoPrim, Prim, StrPrim};
-use ir_core::{Builder, Edge, ErrorKind, Func, Last, Lit, Op, PArg, RType, Reg, edge_of, kind_of};
+use c_core::{IoPrim, Prim};
+use ir_core::{Builder, Edge, Func, Last, Lit, Op, PArg, RType, Reg, edge_of};
 use std::alloc::Global;
 use std::test::Fail;
 use value_core::{Many, Memory, Name};
@@ -57,38 +57,6 @@ fn a_function_is_built_in_order(rt: HostRuntime) -> Result<(), Fail> {
     let head_is = f.name.as_str() == "f" && f.params == 1 && f.ret == RType::I64;
     check(&rt, &"head", head_is);
     Ok(())
-}
-
-// A primitive, the type of its target, and how it fails.
-const KINDS: &[(Prim, Option<RType>, ErrorKind)] = &[
-    (
-        Prim::Int64(Int64Prim::Add),
-        Some(RType::I64),
-        ErrorKind::Never,
-    ),
-    (
-        Prim::Int64(Int64Prim::Lt),
-        Some(RType::Bool),
-        ErrorKind::Never,
-    ),
-    (
-        Prim::Bool(BoolPrim::Not),
-        Some(RType::Bool),
-        ErrorKind::Never,
-    ),
-    (
-        Prim::Str(StrPrim::Literal),
-        Some(RType::Ref),
-        ErrorKind::Never,
-    ),
-    (Prim::Io(IoPrim::Write), None, ErrorKind::Never),
-];
-
-#[test]
-fn primitives_fail_by_their_rows(rt: HostRuntime) {
-    for row in KINDS {
-        check(&rt, row, kind_of(row.0, row.1) == row.2);
-    }
 }
 
 // An operation on registers of type i64, bool and object, and what is to stand behind it.

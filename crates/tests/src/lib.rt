@@ -1,14 +1,10 @@
-//! Tests of the public calls of the crates from the C text to the command, of what their contracts do not say: values
-//! from outside, texts that are printed, and objects whose calls fail.
+//! Tests of calls inside the compiler, of what their contracts do not say: values from outside, trees and tokens as CPython
+//! has them, and objects of the system. What a command shows stands as a case in `test_cases`.
 //!
 //! They stand in a crate of their own, since a crate with tests is proved twice. Each file has the name of the crate
 //! that it tests. Like cases are rows of one table, and one `check` in a loop over it tells them.
 #![tactic(auto)]
 
-#[cfg(test)]
-mod c_core_tests;
-#[cfg(test)]
-mod c_runner_tests;
 #[cfg(test)]
 mod c_text_tests;
 #[cfg(test)]
@@ -16,56 +12,36 @@ mod case;
 #[cfg(test)]
 mod cell_heap_tests;
 #[cfg(test)]
-mod changes;
-#[cfg(test)]
 mod codes;
 #[cfg(test)]
 mod ir_core_tests;
 #[cfg(test)]
 mod liveness_tests;
 #[cfg(test)]
-mod machine_cases;
+mod outside_core_tests;
 #[cfg(test)]
-mod machine_counted_tests;
+mod py_annotations_tests;
 #[cfg(test)]
-mod machine_exceptions_tests;
+mod py_binder_tests;
 #[cfg(test)]
-mod machine_input_tests;
+mod py_flow_tests;
 #[cfg(test)]
-mod machine_strings_tests;
+mod py_lexer_tests;
 #[cfg(test)]
-mod machine_values_tests;
+mod py_messages_tests;
 #[cfg(test)]
-mod module_runs;
+mod py_parser_tables;
 #[cfg(test)]
-mod modules;
+mod py_parser_tests;
 #[cfg(test)]
-mod mypyc_top_changes_tests;
+mod py_typed_tests;
 #[cfg(test)]
-mod mypyc_top_counts_tests;
+mod slot_arena_tests;
 #[cfg(test)]
-mod mypyc_top_expressions_tests;
+mod tree_text;
 #[cfg(test)]
-mod mypyc_top_failures_tests;
+mod value_core_class_tests;
 #[cfg(test)]
-mod mypyc_top_functions_tests;
+mod value_core_tests;
 #[cfg(test)]
-mod mypyc_top_lines_tests;
-#[cfg(test)]
-mod mypyc_top_numbers_tests;
-#[cfg(test)]
-mod mypyc_top_running_tests;
-#[cfg(test)]
-mod mypyc_top_sizes_tests;
-#[cfg(test)]
-mod mypyc_top_source_tests;
-#[cfg(test)]
-mod mypyc_top_tests;
-#[cfg(test)]
-mod mypyc_top_texts_tests;
-#[cfg(test)]
-mod mypyc_top_typing_tests;
-#[cfg(test)]
-mod mypyc_top_variables_tests;
-#[cfg(test)]
-mod mypyc_top_words_tests;
+mod value_core_text_tests;

@@ -1,5 +1,4 @@
-//! Which registers are read again and which are only lent: whole tables of small functions, by hand, and some places of
-//! large ones.
+//! Which registers are read again and which are only lent: whole tables of small functions, by hand.
 use crate::case::check;
 use c_core::{Int64Prim, Prim};
 use ir_core::{Block, Func, Last, Lit, Op, PArg, RType, Reg};
@@ -220,100 +219,5 @@ fn tables_are_as_by_hand(rt: HostRuntime) -> Result<(), Fail> {
         let lent = borrowed(alloc, &f)?;
         check(&rt, name, says(&live, &lent, &f, places));
     }
-    Ok(())
-}
-
-// ---- large functions
-
-const BLOCKS: usize = 10_000;
-
-const NAMES: usize = 20;
-
-// Each block moves what the one before it added to a name, and adds two names to a register of its own.
-fn statements(alloc: Global) -> Result<Func, Memory> {
-    let mut blocks = Many::new(alloc);
-    blocks.push(block(alloc, &[], Last::Goto(1))?)?;
-    for i in 1..BLOCKS {
-        let ops = [
-            Made::Move(i * 7 % NAMES, NAMES + i - 1),
-            Made::Add(NAMES + i, i % NAMES, i * 3 % NAMES),
-        ];
-        let last = Last::IfError(Reg(NAMES + i), BLOCKS, i + 1, 1);
-        blocks.push(block(alloc, &ops, last)?)?;
-    }
-    blocks.push(block(alloc, &[], Last::If(Reg(0), 0, BLOCKS))?)?;
-    function(alloc, NAMES, NAMES + BLOCKS, blocks)
-}
-
-// A register that is added in a block is read again up to the first operation of the next one, and never lent. The end
-// goes back to the entry, so what is read from there on is read again before it.
-fn statements_hold(live: &LiveTable, lent: &BorrowTable) -> bool {
-    for i in 1..BLOCKS - 1 {
-        if i % 97 != 1 {
-            continue;
-        }
-        let added = Reg(NAMES + i);
-        if live.is_live(i, 0, added)
-            || !live.is_live(i, 2, added)
-            || !live.is_live(i + 1, 0, added)
-            || live.is_live(i + 1, 1, added)
-            || lent.is_borrowed(i, 0, added)
-        {
-            return false;
-        }
-    }
-    let never_read = Reg(NAMES + BLOCKS - 1);
-    live.is_live(0, 0, Reg(1)) && !live.is_live(BLOCKS, 0, never_read)
-}
-
-// The entry writes every other register and goes to the last block, and each block goes to the one before it. Block 1
-// reads all.
-fn backward(alloc: Global) -> Result<Func, Memory> {
-    let mut writes = Many::new(alloc);
-    let mut reads = Many::new(alloc);
-    for r in 0..NAMES {
-        if r % 2 == 0 {
-            writes.push((op_of(alloc, Made::Lit(r))?, 1))?;
-        }
-        reads.push((op_of(alloc, Made::Inc(r))?, 1))?;
-    }
-    let mut blocks = Many::new(alloc);
-    blocks.push(Block {
-        ops: writes,
-        last: Last::Goto(BLOCKS - 1),
-    })?;
-    blocks.push(Block {
-        ops: reads,
-        last: Last::Return(Reg(0)),
-    })?;
-    for b in 2..BLOCKS {
-        blocks.push(block(alloc, &[], Last::Goto(b - 1))?)?;
-    }
-    function(alloc, NAMES, NAMES, blocks)
-}
-
-fn backward_holds(live: &LiveTable, lent: &BorrowTable) -> bool {
-    for b in 1..BLOCKS {
-        if b % 97 != 1 {
-            continue;
-        }
-        for r in 0..NAMES {
-            if !live.is_live(b, 0, Reg(r)) || lent.is_borrowed(b, 0, Reg(r)) != (r % 2 == 1) {
-                return false;
-            }
-        }
-    }
-    !live.is_live(0, 0, Reg(2)) && live.is_live(0, 0, Reg(3)) && lent.is_borrowed(0, 0, Reg(2))
-}
-
-#[test]
-fn large_functions(rt: HostRuntime) -> Result<(), Fail> {
-    let alloc = rt.alloc();
-    let f = statements(alloc)?;
-    let holds = statements_hold(&live(alloc, &f)?, &borrowed(alloc, &f)?);
-    check(&rt, &"a statement for each block", holds);
-    let f = backward(alloc)?;
-    let holds = backward_holds(&live(alloc, &f)?, &borrowed(alloc, &f)?);
-    check(&rt, &"jumps to the block before", holds);
     Ok(())
 }

@@ -1,5 +1,0 @@
-use Rattle.std.proofs.Common.{◌≤◌, length}
-use Rattle.tests.proofs.cell_heap_tests.come_and_go.Given as goal
-
-abbrev pub invariant-number : goal.invariant-number
-invariant-number l = length l.heap ≤ l.number
