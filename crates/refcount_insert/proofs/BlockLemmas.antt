@@ -16,12 +16,14 @@ use Rattle.liveness.proofs.RisingLemmas.{lt_test}
 use Rattle.liveness.proofs.RowLemmas.{there_is}
 use Rattle.refcount_insert_rule.specs.Rule.{ups, downs, IsGroup}
 use Rattle.refcount_insert_rule.specs.Counted.{counts_register, Tables, AreGroups, AreLast, AreAll, AreTurned, IsBody, IsLast, AreBlocks, IsCountedFunc}
-use Rattle.refcount_insert.specs.declared.counts.Counts.{Counts}
-use Rattle.refcount_insert.specs.declared.known.KnownRegisters.{KnownRegisters}
+use Rattle.refcount_insert_counts.specs.declared.counts.Counts.{Counts}
+use Rattle.refcount_insert_counts.specs.declared.known.KnownRegisters.{KnownRegisters}
 use Rattle.refcount_insert.specs.declared.plan.Planned.{Planned}
-use Rattle.refcount_insert.specs.Known.{IsKnown, owned_at}
-use Rattle.refcount_insert.specs.Plan.{is_read_again, AreEndCounts, AreTestCounts, IsCountedOp, AreCountedOps, IsPlannedBody, ArePlanned}
-use Rattle.refcount_insert.specs.Layout.{edge_ops, size_of, starts_from, number_at, end_at, edge_blocks, all_laid}
+use Rattle.refcount_insert_counts.specs.Known.{IsKnown, owned_at}
+use Rattle.refcount_insert_counts.specs.Ends.{is_read_again, AreEndCounts, AreTestCounts}
+use Rattle.refcount_insert.specs.Plan.{IsCountedOp, AreCountedOps, IsPlannedBody, ArePlanned}
+use Rattle.refcount_insert_counts.specs.Edges.{edge_ops}
+use Rattle.refcount_insert.specs.Layout.{size_of, starts_from, number_at, end_at, edge_blocks, all_laid}
 use Rattle.refcount_insert.proofs.Laying.{blocks_count}
 use Rattle.refcount_insert.proofs.GroupLemmas.{group_is}
 use Rattle.refcount_insert.proofs.EdgeLemmas.{AreExact, edge_is, one_target, two_targets, first_target, second_target, exact_edge, exact_tested, ahead_of_jump, ahead_of_test, edges_to_are}

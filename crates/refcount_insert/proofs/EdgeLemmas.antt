@@ -16,13 +16,14 @@ use Rattle.liveness.proofs.RisingLemmas.{eq_tells, eq_same}
 use Rattle.liveness.proofs.RowLemmas.{or_cases, or_left, or_right}
 use Rattle.refcount_insert_rule.specs.Rule.{given_up, AreUnsure, IsEdge}
 use Rattle.refcount_insert_rule.specs.Counted.{counts_register, Tables, owned, IsEdgeTo, AreEdgesTo}
-use Rattle.refcount_insert.specs.declared.counts.Counts.{Counts}
-use Rattle.refcount_insert.specs.declared.known.KnownRegisters.{KnownRegisters}
-use Rattle.refcount_insert.specs.Known.{IsKnown, owned_at, held_at, entered}
-use Rattle.refcount_insert.specs.Counts.{many, AreOnce, AreEach, short_on, over_on, AreEdgeCounts}
-use Rattle.refcount_insert.specs.Plan.{is_read_again}
-use Rattle.refcount_insert.specs.Layout.{are_none, is_none, room, edge_to, edge_block, edge_ops}
-use Rattle.refcount_insert.proofs.Times.{many_if}
+use Rattle.refcount_insert_counts.specs.declared.counts.Counts.{Counts}
+use Rattle.refcount_insert_counts.specs.declared.known.KnownRegisters.{KnownRegisters}
+use Rattle.refcount_insert_counts.specs.Known.{IsKnown, owned_at, held_at, entered}
+use Rattle.refcount_insert_counts.specs.Counts.{many, AreOnce, AreEach, short_on, over_on, AreEdgeCounts}
+use Rattle.refcount_insert_counts.specs.Ends.{is_read_again}
+use Rattle.refcount_insert_counts.specs.Edges.{are_none, is_none, edge_ops}
+use Rattle.refcount_insert.specs.Layout.{room, edge_to, edge_block}
+use Rattle.refcount_insert_counts.proofs.Times.{many_if}
 use Rattle.refcount_insert.proofs.Laying.{own_count}
 use Rattle.refcount_insert.proofs.Steps.{same_truth, live_at_end, read_at_end, live_at_target}
 use Rattle.refcount_insert.proofs.GroupLemmas.{not_counted}

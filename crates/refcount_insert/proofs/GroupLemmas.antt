@@ -21,12 +21,12 @@ use Rattle.liveness.proofs.OwnedLemmas.{below_or_not, get_none}
 use Rattle.liveness.proofs.PathLemmas.{item_block}
 use Rattle.refcount_insert_rule.specs.Rule.{is_counted, is_stolen, takes_one, taken, takes, gives, need, counts_before, done, counts_after, IsGroup}
 use Rattle.refcount_insert_rule.specs.Counted.{counts_register}
-use Rattle.refcount_insert.specs.declared.counts.Counts.{Counts}
-use Rattle.refcount_insert.specs.declared.known.KnownRegisters.{KnownRegisters}
-use Rattle.refcount_insert.specs.Known.{IsKnown, owned_at}
-use Rattle.refcount_insert.specs.Counts.{AreOf, is_touched}
+use Rattle.refcount_insert_counts.specs.declared.counts.Counts.{Counts}
+use Rattle.refcount_insert_counts.specs.declared.known.KnownRegisters.{KnownRegisters}
+use Rattle.refcount_insert_counts.specs.Known.{IsKnown, owned_at}
+use Rattle.refcount_insert_counts.specs.Counts.{AreOf, is_touched}
 use Rattle.refcount_insert.specs.Plan.{IsCountedOp}
-use Rattle.refcount_insert.proofs.Times.{same_cases}
+use Rattle.refcount_insert_counts.proofs.Times.{same_cases}
 use Rattle.refcount_insert.proofs.Steps.{same_truth, live_behind, live_before, owned_behind, owned_before}
 
 or_none : (a b : Bool) → (a || b) ≡ false → (a ≡ false) × (b ≡ false)

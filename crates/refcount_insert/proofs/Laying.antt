@@ -12,11 +12,12 @@ use Rattle.ir_core.specs.Rows.{Declared}
 use Rattle.ir_core.specs.Shape.{FuncFits, FuncsFit}
 use Rattle.liveness.proofs.InverseLemmas.{take_next}
 use Rattle.refcount_insert_rule.specs.Counted.{IsCountedFunc, AreCounted}
-use Rattle.refcount_insert.specs.declared.counts.Counts.{Counts}
-use Rattle.refcount_insert.specs.declared.known.KnownRegisters.{KnownRegisters}
+use Rattle.refcount_insert_counts.specs.declared.counts.Counts.{Counts}
+use Rattle.refcount_insert_counts.specs.declared.known.KnownRegisters.{KnownRegisters}
 use Rattle.refcount_insert.specs.declared.plan.Planned.{Planned}
 use Rattle.refcount_insert.specs.Plan.{IsCountedOp, AreCountedOps, IsPlanned, ArePlanned}
-use Rattle.refcount_insert.specs.Layout.{is_none, room, rooms, size_of, edge_block, edge_blocks, edge_ops, laid, all_laid}
+use Rattle.refcount_insert_counts.specs.Edges.{is_none, edge_ops}
+use Rattle.refcount_insert.specs.Layout.{room, rooms, size_of, edge_block, edge_blocks, laid, all_laid}
 
 -- ---- how long blocks are
 

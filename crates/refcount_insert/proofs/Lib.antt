@@ -1,4 +1,3 @@
-mod Times
 mod Laying
 mod Steps
 mod GroupLemmas

@@ -1,24 +1,12 @@
 -- The blocks with their counts, from what is planned of them.
-use Rattle.std.specs.Prelude.{ℕ, ◌+◌, Bool, true, false, cond, List, [], ◌∷◌, ◌++◌, get_or}
+use Rattle.std.specs.Prelude.{ℕ, ◌+◌, cond, List, [], ◌∷◌, ◌++◌, get_or}
 use Rattle.ir_core.specs.declared.code.Op.{Op}
 use Rattle.ir_core.specs.declared.code.Last.{Last}
 use Rattle.ir_core.specs.declared.code.Last.TheVariants.{Goto, If, IfError, Return, Unreachable}
 use Rattle.ir_core.specs.declared.code.Block.{Block}
-use Rattle.refcount_insert_rule.specs.Rule.{ups, downs}
-use Rattle.refcount_insert.specs.declared.counts.Counts.{Counts}
+use Rattle.refcount_insert_counts.specs.declared.counts.Counts.{Counts}
+use Rattle.refcount_insert_counts.specs.Edges.{is_none, edge_ops}
 use Rattle.refcount_insert.specs.declared.plan.Planned.{Planned}
-
--- the counts of an edge as operations, which stand for no source line
-abbrev pub edge_ops : Counts → List (Op × ℕ)
-edge_ops c = ups c.ups 0 ++ downs c.downs 0
-
-abbrev pub are_none : List ℕ → List (ℕ × Bool) → Bool
-are_none [] [] = true
-are_none [] (d ∷ ds) = false
-are_none (r ∷ rs) ds = false
-
-abbrev pub is_none : Counts → Bool
-is_none c = are_none c.ups c.downs
 
 -- how many blocks the counts of an edge take
 abbrev pub room : Counts → ℕ

@@ -1,4 +1,2 @@
-pub mod Known
-pub mod Counts
 pub mod Plan
 pub mod Layout

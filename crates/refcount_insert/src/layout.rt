@@ -3,9 +3,9 @@ ghost use Rattle.std.specs.Prelude.{◌≡◌, ◌≤◌, ◌+◌, ◌++◌, ◌
 ghost use Rattle.refcount_insert.specs.Layout as spec;
 ghost use Rattle.refcount_insert.specs.Layout.{room, rooms, starts_from, number_at, edge_block, edge_blocks, end_at, laid, all_laid};
 
-use crate::counts::{Counts, lay_edge};
 use crate::plan::Planned;
 use ir_core::{Block, Last};
+use refcount_insert_counts::{Counts, lay_edge};
 use std::alloc::Global;
 use value_core::{Many, Memory};
 

@@ -1,16 +1,13 @@
 //! What is planned of the blocks of a function.
 ghost use Rattle.std.specs.Prelude.{◌≡◌, ◌<◌, ◌≤◌, ◌+◌, ◌^◌, ◌++◌, ℕ, List, IfOk, OnOk};
 ghost use Rattle.ir_core.specs.declared.code.Op.{Op as OpItem};
-ghost use Rattle.refcount_insert.specs.Known.{owned_at};
+ghost use Rattle.refcount_insert_counts.specs.Known.{owned_at};
 ghost use Rattle.refcount_insert.specs.Plan.{IsCountedOp, AreCountedOps, IsPlannedBody, IsPlanned, ArePlanned};
 ghost use Rattle.refcount_insert.specs.Plan as spec;
 
 use crate::copies::copy_op;
-use crate::counts::{Counts, lay_downs, lay_edge, lay_ups};
-use crate::edges::{end_counts, test_counts};
-use crate::groups::group_counts;
-use crate::known::KnownRegisters;
 use ir_core::{Block, Last, Op, RType};
+use refcount_insert_counts::{Counts, KnownRegisters, end_counts, group_counts, lay_downs, lay_edge, lay_ups, test_counts};
 use std::alloc::Global;
 use value_core::{Many, Memory, Name};
 

@@ -1,6 +1,6 @@
 use Rattle.std.proofs.Common.{refl, length}
 use Rattle.std.proofs.lemmas.Option.{slice_get_read}
-use Rattle.refcount_insert.specs.Known.{owned_at}
+use Rattle.refcount_insert_counts.specs.Known.{owned_at}
 use Rattle.refcount_insert.proofs.Laying.{counted_step}
 use Rattle.refcount_insert.proofs.plan.counted_ops.Goals as goal
 

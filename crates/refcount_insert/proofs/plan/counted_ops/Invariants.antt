@@ -1,5 +1,5 @@
 use Rattle.std.proofs.Common.{take}
-use Rattle.refcount_insert.specs.Known.{owned_at}
+use Rattle.refcount_insert_counts.specs.Known.{owned_at}
 use Rattle.refcount_insert.specs.Plan.{AreCountedOps}
 use Rattle.refcount_insert.proofs.plan.counted_ops.Given as goal
 

@@ -1,0 +1,10 @@
+use Rattle.std.proofs.Common.{◌+◌, take}
+use Rattle.refcount_insert_rule.specs.Rule.{counts_before}
+use Rattle.refcount_insert_rule.specs.Counted.{counts_register}
+use Rattle.refcount_insert_counts.specs.Known.{owned_at}
+use Rattle.refcount_insert_counts.specs.Counts.{AreEach}
+use Rattle.refcount_insert_counts.proofs.groups.group_ups.Given as goal
+
+abbrev pub invariant-loop-r : goal.invariant-loop-r
+invariant-loop-r l =
+    AreEach (counts_before (counts_register l.regs) l.op (owned_at l.known l.regs l.b l.p) (owned_at l.known l.regs l.b (l.p + 1))) (take l.r-index l.touched) l.ups.items
