@@ -234,7 +234,7 @@ module _ (c : Context) where
 
   -- the single targets of a target
   abbrev pub target_aims : Known → ExprTree → Seen (List Aim)
-  target_aims k target = aims c k (leaves target)
+  target_aims k target = aims k (leaves target)
 
   -- one that was read
   abbrev pub read_aim : Known → Option (List ℕ) → Bool → TypedExpr → Aim
