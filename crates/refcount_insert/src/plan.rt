@@ -7,7 +7,9 @@ ghost use Rattle.refcount_insert.specs.Plan as spec;
 
 use crate::copies::copy_op;
 use ir_core::{Block, Last, Op, RType};
-use refcount_insert_counts::{Counts, KnownRegisters, end_counts, group_counts, lay_downs, lay_edge, lay_ups, test_counts};
+use refcount_insert_counts::{
+    Counts, KnownRegisters, end_counts, group_counts, lay_downs, lay_edge, lay_ups, test_counts,
+};
 use std::alloc::Global;
 use value_core::{Many, Memory, Name};
 
