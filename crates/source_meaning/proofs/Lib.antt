@@ -1,4 +1,5 @@
 pub mod Closed
+pub mod RangeLemmas
 pub mod OperationsAlike
 pub mod ExpressionAlike
 pub mod StatementAlike
