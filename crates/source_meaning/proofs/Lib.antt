@@ -7,4 +7,4 @@ pub mod RunAlike
 pub mod AnyBound
 pub mod OnlyAdds
 pub mod Longer
-mod samples
+pub mod samples
