@@ -28,7 +28,8 @@ use Rattle.ir_builder_frames.proofs.AttemptLemmas.{effect_of, outcome_of, Allows
 use Rattle.ir_builder_operations.specs.Operating.{is_arithmetic, ActsOn, ActsOnTwo}
 use Rattle.ir_builder_operations.specs.Selecting.{int_primitive}
 use Rattle.ir_builder_operations.proofs.KindLemmas.{by_int}
-use Rattle.ir_builder_operations.proofs.RangeLemmas.{IsInt, checked_int, given_by, given_int}
+use Rattle.source_meaning.proofs.RangeLemmas.{IsInt, checked_int}
+use Rattle.ir_builder_operations.proofs.RangeLemmas.{given_by, given_int}
 use Rattle.ir_builder_operations.proofs.PartLemmas.{Performs, one_performs, two_perform}
 
 -- a number as a value, and a fault as the exception that stands for it

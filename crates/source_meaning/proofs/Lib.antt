@@ -1,4 +1,5 @@
 pub mod Closed
+pub mod RangeLemmas
 pub mod OperationsAlike
 pub mod ExpressionAlike
 pub mod StatementAlike
@@ -6,4 +7,4 @@ pub mod RunAlike
 pub mod AnyBound
 pub mod OnlyAdds
 pub mod Longer
-mod samples
+pub mod samples

@@ -6,3 +6,4 @@ mod Flows
 mod Inputs
 mod Stops
 mod Typing
+mod Orders

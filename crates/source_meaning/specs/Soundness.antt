@@ -5,6 +5,6 @@ use Rattle.py_typed.specs.Statements.{TypedModule}
 use Rattle.source_meaning.specs.SourceRun.{source_run}
 use Rattle.py_typed.specs.WellTypedModule.{is_well_typed}
 
--- no well-typed module is ever stuck. No function claims it yet: it is proved where the forms are compiled
+-- no well-typed module is ever stuck. The function `never_stuck` of `source_soundness` claims it
 abbrev pub NeverStuck : (List ℕ → Bool) → Type 0
 NeverStuck is_identifier = (m : TypedModule) → is_well_typed is_identifier m ≡ true → (n : ℕ) (items : Items) → IsSome (source_run n items m).ending

@@ -1,0 +1,20 @@
+pub mod Worlds
+pub mod Fine
+pub mod FitValues
+pub mod Operators
+pub mod Names
+pub mod Facts
+pub mod Expressions
+pub mod Nodes
+pub mod Targets
+pub mod Updates
+pub mod Flows
+pub mod Statements
+pub mod Shaped
+pub mod Runs
+pub mod Linear
+pub mod Members
+pub mod Whole
+pub mod Inverse
+mod Samples
+pub mod Places

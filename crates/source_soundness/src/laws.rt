@@ -1,0 +1,17 @@
+//! The laws. Each function is its clause, and does nothing when it runs.
+ghost use Rattle.source_soundness.specs.Laws.{AttributesKeepPlaces, NoneIsStuck, TypesAreSound};
+
+/// No well-typed module is ever stuck, for any number of turns on any input.
+pub fn never_stuck()
+    ensures { NoneIsStuck }
+{}
+
+/// Each value that is read or made in a run of a well-typed module has its type's shape.
+pub fn types_are_sound()
+    ensures { TypesAreSound }
+{}
+
+/// In a well-typed module an attribute of a class has its place in each class under it.
+pub fn attributes_keep_places()
+    ensures { AttributesKeepPlaces }
+{}
