@@ -73,20 +73,3 @@ usage_only (Go r) s a e = let P : Status → Type 0 = λ x. CanAnswer r.emit x i
 
 pub usage_comes : (w : Words) (s : Status) → IsAllowed w s → w ≡ Usage → (s ≡ status.Usage) ⊎ Yields s
 usage_comes w s a e = let P : Words → Type 0 = λ x. IsAllowed x s in subst P e a
-
--- nothing is said of opens where a program was run
-pub no_opens : (s : Status) (content : Option (List ℕ)) (before after : ℕ) → IsTrue (is_run_status s) → AbsentOpens s content before after
-no_opens status.OpenFault content before after e = absurd (cc)
-no_opens status.ReadFault content before after e = absurd (cc)
-no_opens status.Done content before after e = tt
-no_opens status.Diagnosed content before after e = tt
-no_opens status.Usage content before after e = tt
-no_opens status.WriteFault content before after e = tt
-no_opens status.TooLarge content before after e = tt
-no_opens status.Raised content before after e = tt
-no_opens status.Cut content before after e = tt
-no_opens status.TextRefused content before after e = tt
-no_opens status.Faulted content before after e = tt
-no_opens status.InputOver content before after e = tt
-no_opens status.Memory content before after e = tt
-no_opens status.InputFault content before after e = tt

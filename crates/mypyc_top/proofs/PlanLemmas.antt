@@ -37,10 +37,6 @@ by_entries : (file bytes : List ℕ) (Good : TypedModule → Type 0) (es : List 
 by_entries file bytes Good [] out err s some sent = absurd (some refl)
 by_entries file bytes Good (e ∷ es) out err s some sent = sent
 
-pub faulty_module : (mode : Emit) (file bytes : List ℕ) (Good : TypedModule → Type 0) (faults : Faults) (reply : Reply) → AreFaults mode bytes (entries_of faults) × ¬ (entries_of faults ≡ []) → (output_text reply.out ≡ entries_text file (entries_of faults)) × (reply.err.items ≡ []) × (reply.status ≡ status.Diagnosed) → ModuleAnswer mode file bytes Good (output_text reply.out) reply.err.items reply.status
-faulty_module mode file bytes Good faults reply judged sent =
-    (entries_of faults, judged.0, by_entries file bytes Good (entries_of faults) (output_text reply.out) reply.err.items reply.status judged.1 sent)
-
 -- ---- by what came of the file
 
 calm_count : (old new : ℕ) → new ≡ old → old < count_end → has_risen old new ≡ false

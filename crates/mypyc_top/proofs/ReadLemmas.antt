@@ -12,9 +12,3 @@ pub of_request : (content : List ℕ → Option (List ℕ)) (w : Words) (r : Req
 of_request content w r left bytes is gives =
     let P : Words → Type 0 = λ x. option_and_then content (named_file x) ≡ Some bytes → GivesAtMost (named_most x + 1) bytes left in
     subst P is gives
-
-pub of_usage : (A : Type 0) (content : List ℕ → Option (List ℕ)) (w : Words) (bytes : List ℕ) → Usage ≡ w → option_and_then content (named_file w) ≡ Some bytes → A
-of_usage A content w bytes is named =
-    let P : Words → Type 0 = λ x. option_and_then content (named_file x) ≡ Some bytes in
-    let none = subst P (sym is) named in
-    absurd (cc)

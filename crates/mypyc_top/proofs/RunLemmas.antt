@@ -59,7 +59,3 @@ ended_can_come (Raised e) = refl
 ended_can_come Cut = refl
 ended_can_come Over = refl
 ended_can_come Broken = refl
-
-pub text_can_come : (e : MachineEnding) → CanAnswer modes.Runc (machine_status e)
-text_can_come (Ended e) = ended_can_come e
-text_can_come (Faulted f) = refl
