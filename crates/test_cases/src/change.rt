@@ -1,6 +1,4 @@
 //! Modules that are changed at one place.
-ghost use Rattle.std.specs.Prelude.{◌≡◌, ◌++◌};
-
 use bstr::ByteSlice;
 use std::alloc::{AllocError, Global};
 
@@ -23,9 +21,7 @@ pub fn changed(alloc: Global, text: &[u8], change: &str) -> Result<Vec<u8>, Allo
 }
 
 /// A text's first lines, so many, and what stands behind them.
-fn split_lines(text: &[u8], count: usize) -> (&[u8], &[u8])
-    ensures { result.0.now ++ result.1.now ≡ text.now }
-{
+fn split_lines(text: &[u8], count: usize) -> (&[u8], &[u8]) {
     let mut length = 0usize;
     for line in text.lines_with_terminator().take(count) {
         length = length.saturating_add(line.len());

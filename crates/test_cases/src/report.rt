@@ -65,9 +65,7 @@ impl Report {
         name: &str,
         wanted: &[u8],
         given: &[u8],
-    ) -> Done
-        ensures same { wanted.now ≡ given.now → self.new ≡ self.old }
-    {
+    ) -> Done {
         let Some(difference) = first_difference(wanted, given) else {
             return Ok(());
         };
