@@ -17,9 +17,9 @@ use Rattle.py_check_messages.specs.Seen.{Seen, fails, both, behind, rule}
 use Rattle.py_check_messages.specs.Messages.{no_target}
 use Rattle.py_check_annotations.specs.Annotations.{annotation}
 use Rattle.py_check_coercions.specs.Several.{with_part}
-use Rattle.py_check_places.specs.Places.{Known, variable_at, is_bound, bind_names}
-use Rattle.py_check_places.specs.Shapes.{leaves, target_names, is_row, is_item, parts_of}
-use Rattle.py_check_targets.specs.Targets.{Aim, aims, asked_by, assigned, declared, given, updated, name_aim, read_aim, seen_aim, typed_at}
+use Rattle.py_check_places.specs.Places.{Known, variable_at, is_bound}
+use Rattle.py_check_places.specs.Shapes.{is_row, is_item, bind_target}
+use Rattle.py_check_targets.specs.Targets.{target_aims, asked_by, assigned, declared, given, updated, name_aim, read_aim, seen_aim, typed_at}
 
 -- what a variable asks of its value
 abbrev pub asked : VarSort → Wanted
@@ -31,13 +31,13 @@ module _ (c : Context) where
 
   -- the value that is assigned
   abbrev pub value_for : Known → ExprTree → ExprTree → Seen TypedExpr
-  value_for k target e = typed_at c k (asked_by (is_row target) (target_aims k target).got) e
+  value_for k target e = typed_at c k (asked_by (is_row target) (target_aims c k target).got) e
 
   abbrev pub assigns : Known → Span → ExprTree → ExprTree → Seen TypedAct
-  assigns k span target e = rule span (assigned c.classes target) (both (target_aims k target) (value_for k target e))
+  assigns k span target e = rule span (assigned c.classes target) (both (target_aims c k target) (value_for k target e))
 
   abbrev pub binds : Known → Span → ExprTree → ExprTree → Known
-  binds k span target e = bind_target (is_some (assigns k span target e).got) k target (option_map type_of (value_for k target e).got)
+  binds k span target e = bind_target c (is_some (assigns k span target e).got) k target (option_map type_of (value_for k target e).got)
 
   -- ---- assignments with an annotation
 
@@ -60,9 +60,9 @@ module _ (c : Context) where
   -- what is no name has no annotation
   abbrev pub annotates_other : Known → Span → ExprTree → ExprTree → Option ExprTree → Seen TypedAct
   annotates_other k span target mark None =
-      behind (both (target_aims k target) (annotation c.meaning mark)) (λ p. with_part p (λ q. fails span no_target))
+      behind (both (target_aims c k target) (annotation c.meaning mark)) (λ p. with_part p (λ q. fails span no_target))
   annotates_other k span target mark (Some e) =
-      behind (both (both (target_aims k target) (annotation c.meaning mark)) (typed_at c k free e)) (λ p. with_part p (λ q. fails span no_target))
+      behind (both (both (target_aims c k target) (annotation c.meaning mark)) (typed_at c k free e)) (λ p. with_part p (λ q. fails span no_target))
 
   abbrev pub annotates : Known → Span → Option (List ℕ) → ExprTree → ExprTree → Option ExprTree → Seen TypedAct
   annotates k span (Some x) target mark e = annotates_name k span x mark e
@@ -75,8 +75,8 @@ module _ (c : Context) where
 
   abbrev pub binds_annotated : Known → Span → Option (List ℕ) → ExprTree → ExprTree → Option ExprTree → Known
   binds_annotated k span (Some x) target mark e =
-      bind_target (is_some (annotates_name k span x mark e).got) k target (value_sort k x e)
-  binds_annotated k span None target mark e = bind_target false k target None
+      bind_target c (is_some (annotates_name k span x mark e).got) k target (value_sort k x e)
+  binds_annotated k span None target mark e = bind_target c false k target None
 
   -- ---- operations with assignment
 
@@ -86,7 +86,7 @@ module _ (c : Context) where
 
   -- a tuple is not updated
   abbrev pub updates_row : Known → Span → ExprTree → ExprTree → Seen TypedAct
-  updates_row k span target e = behind (both (target_aims k target) (typed_at c k free e)) (λ p. with_part p (λ q. fails span no_target))
+  updates_row k span target e = behind (both (target_aims c k target) (typed_at c k free e)) (λ p. with_part p (λ q. fails span no_target))
 
   abbrev pub updates : Known → Span → ExprTree → BinOp → ExprTree → Seen TypedAct
   updates k span target op e = if is_row target then updates_row k span target e else updates_one k span target op e

@@ -39,12 +39,12 @@ module _ (known : KnownRegisters) (regs : Declared) where
   abbrev pub IsPlannedBody : ℕ → List (Op × ℕ) → Last → List (Op × ℕ) → Type 0
   IsPlannedBody b old last ops =
       let n : ℕ = size_before b (length old) last in
-      (groups : List (Op × ℕ)) × (c : Counts) × (ops ≡ groups ++ (edge_ops c ++ drop n old)) × AreCountedOps (owned_at known regs b) (take n old) groups × AreEndCounts b (length old) last c
+      (groups : List (Op × ℕ)) × (c : Counts) × (ops ≡ groups ++ (edge_ops c ++ drop n old)) × AreCountedOps (owned_at known regs b) (take n old) groups × AreEndCounts known regs b (length old) last c
 
   pub record IsPlanned (b : ℕ) (k : Block) (p : Planned) : Type 0 where
     pub body : IsPlannedBody b k.ops k.last p.ops
     pub last : p.last ≡ k.last
-    pub edges : AreTestCounts b (length k.ops) k.last (p.first, p.second)
+    pub edges : AreTestCounts known regs b (length k.ops) k.last (p.first, p.second)
 
   -- blocks from number b on
   abbrev pub ArePlanned : ℕ → List Block → List Planned → Type 0
