@@ -19,7 +19,9 @@ use Rattle.py_typed.specs.Narrowing.{may_be_none, own_sort, is_in, facts, node_f
 use Rattle.source_meaning.specs.ExpressionMeaning.{value_in, read_local, read_global, name_at, attribute, unset_attribute}
 use Rattle.py_typed.specs.WellTypedExpr.{is_key_type, is_value_type, is_result_type, is_type, are_texts, are_numbers, reads_as, suits, is_empty_call, rule, stands, parts_typed}
 use Rattle.py_typed.proofs.FitLemmas.{one_type}
-use Rattle.source_soundness.proofs.Worlds.{World, Has, HaveAll, Each, Holds, held, holds_still}
+use Rattle.py_typed.specs.TypeTexts.{name_in}
+use Rattle.source_soundness.proofs.TextLemmas.{ascii_text, text_around}
+use Rattle.source_soundness.proofs.Worlds.{World, IsText, Has, HaveAll, Each, Holds, held, holds_still}
 use Rattle.source_soundness.proofs.Fine.{Good, Fine, NotNone, fine_bind, fine_give, fine_new, fine_sure}
 use Rattle.source_soundness.proofs.Operators.{IsWhole, IsPlain, KeysOf, Makes, fine_seen, fine_instance}
 use Rattle.source_soundness.proofs.Names.{none_known}
@@ -28,7 +30,7 @@ use Rattle.source_soundness.proofs.Facts.{Facts, AttributeOf, two, five}
 -- ---- types
 
 -- what is None or of the type is, where it is not None, of the type
-pub narrowed : (m : TypedModule) (W : World) (b : Bool) (u : Sort) (v : Value) → Has m.classes.classes u W v → (b ≡ true → v ≡ NoneVal → ⊥) → Has m.classes.classes (reads_as b u) W v
+pub narrowed : {utf8 : Bool} (m : TypedModule) (W : World utf8) (b : Bool) (u : Sort) (v : Value) → Has m.classes.classes u W v → (b ≡ true → v ≡ NoneVal → ⊥) → Has m.classes.classes (reads_as b u) W v
 narrowed m W true (sort.Optional t) v (inl e) n = absurd (n refl e)
 narrowed m W true (sort.Optional t) v (inr h) n = h
 narrowed m W true sort.Int v h n = h
@@ -107,17 +109,17 @@ pub silent : (u : State) (v : Value) → Tells (λ b. []) u v
 silent u v b q = none_known u.locals
 
 module _ (m : TypedModule) where
-  abbrev pub Gets : TypedNode → Sort → World → State → Value → Type 0
+  abbrev pub Gets : {utf8 : Bool} → TypedNode → Sort → World utf8 → State → Value → Type 0
   Gets n t V u v = Has m.classes.classes t V v × Tells (λ b. node_facts b n) u v × IsHeld n u v
 
-  abbrev pub GetsValue : TypedExpr → World → State → Value → Type 0
+  abbrev pub GetsValue : {utf8 : Bool} → TypedExpr → World utf8 → State → Value → Type 0
   GetsValue (typed n t place) V u v = Gets n t V u v
 
-  pub is_got : (e : TypedExpr) (V : World) (u : State) (v : Value) → GetsValue e V u v → Has m.classes.classes (type_of e) V v
+  pub is_got : {utf8 : Bool} (e : TypedExpr) (V : World utf8) (u : State) (v : Value) → GetsValue e V u v → Has m.classes.classes (type_of e) V v
   is_got (typed n t place) V u v p = p.0
 
   -- a value of a type that is not None's and no Optional is not None
-  pub not_none : (t : Sort) (V : World) (v : Value) → may_be_none t ≡ false → Has m.classes.classes t V v → v ≡ NoneVal → ⊥
+  pub not_none : {utf8 : Bool} (t : Sort) (V : World utf8) (v : Value) → may_be_none t ≡ false → Has m.classes.classes t V v → v ≡ NoneVal → ⊥
   not_none sort.Int V v e h n = cc (sym h.1 ∙ n)
   not_none sort.I64 V v e h n = cc (sym h.1 ∙ n)
   not_none sort.Bool V v e h n = cc (sym h.1 ∙ n)
@@ -130,20 +132,20 @@ module _ (m : TypedModule) where
   not_none (sort.Instance c) V v e h n = cc (sym h.2 ∙ n)
   not_none (sort.Exc c) V v e h n = cc (sym h.1 ∙ n)
 
-  pub told : (e : TypedExpr) (V : World) (u : State) (v : Value) → GetsValue e V u v → Tells (λ b. facts b e) u v
+  pub told : {utf8 : Bool} (e : TypedExpr) (V : World utf8) (u : State) (v : Value) → GetsValue e V u v → Tells (λ b. facts b e) u v
   told (typed n t place) V u v p = p.1
 
-  pub is_held : (e : TypedExpr) (V : World) (u : State) (v : Value) → GetsValue e V u v → IsHeld (node_of e) u v
+  pub is_held : {utf8 : Bool} (e : TypedExpr) (V : World utf8) (u : State) (v : Value) → GetsValue e V u v → IsHeld (node_of e) u v
   is_held (typed n t place) V u v p = p.2
 
   -- nor is one whose own type, before a coercion, is not
-  pub own_not_none : (e : TypedExpr) (V : World) (u : State) (v : Value) → GetsValue e V u v → may_be_none (own_sort e) ≡ false → v ≡ NoneVal → ⊥
+  pub own_not_none : {utf8 : Bool} (e : TypedExpr) (V : World utf8) (u : State) (v : Value) → GetsValue e V u v → may_be_none (own_sort e) ≡ false → v ≡ NoneVal → ⊥
   own_not_none (typed (Coerce e) t place) V u v p h n = p.2 h n
   own_not_none (typed (Local i) t place) V u v p h n = not_none t V v h p.0 n
   own_not_none (typed (Flag b) t place) V u v p h n = not_none t V v h p.0 n
   own_not_none (typed _ t place) V u v p h n = not_none t V v h p.0 n
 
-  pub each_of : (t : Sort) (ss : List Sort) (W : World) (vs : List Value) → list_all (λ s. is_same_type s t) ss ≡ true → HaveAll m.classes.classes (sorts_of ss) W vs → Each m.classes.classes t W vs
+  pub each_of : {utf8 : Bool} (t : Sort) (ss : List Sort) (W : World utf8) (vs : List Value) → list_all (λ s. is_same_type s t) ss ≡ true → HaveAll m.classes.classes (sorts_of ss) W vs → Each m.classes.classes t W vs
   each_of t [] W [] e h = tt
   each_of t [] W (v ∷ vs) e h = absurd h
   each_of t (s ∷ ss) W [] e h = absurd h
@@ -161,7 +163,7 @@ module _ (m : TypedModule) where
 
   -- ---- names
 
-  module _ (vars : List Variable) {W : World} {s : State} (g : Good m vars W s) where
+  module _ {utf8 : Bool} (vars : List Variable) {W : World utf8} {s : State} (g : Good m vars W s) where
     abbrev no_local : ℕ → Does Value
     no_local i = raise_new UnboundLocalError (codes "local variable '" ++ name_at vars i ++ codes "' referenced before assignment")
 
@@ -170,7 +172,7 @@ module _ (m : TypedModule) where
 
     local_by : (i : ℕ) (x : Variable) (t : Sort) (o : Option Value) → slice_get s.locals i ≡ Some o → Holds m.classes.classes x.1 W o → ((v : Value) → slice_get s.locals i ≡ Some (Some v) → Has m.classes.classes x.1 W v → Has m.classes.classes t W v)
         → Fine m vars Value [] W s (Gets (Local i) t) (read_local vars i) (read_local vars i)
-    local_by i x t None q h r = fine_seen m vars [] g (λ z. slice_get z.locals i) (value_in (no_local i)) (value_in (no_local i)) (Some None) q (fine_new m vars g _ _)
+    local_by i x t None q h r = fine_seen m vars [] g (λ z. slice_get z.locals i) (value_in (no_local i)) (value_in (no_local i)) (Some None) q (fine_new m vars g _ _ (λ p. text_around (codes "local variable '") (name_at vars i) (codes "' referenced before assignment") (ascii_text (codes "local variable '") refl) ((g.texts p).locals i) refl))
     local_by i x t (Some v) q h r = fine_seen m vars [] g (λ z. slice_get z.locals i) (value_in (no_local i)) (value_in (no_local i)) (Some (Some v)) q (fine_give m vars g v (r v q h, silent s v, q))
 
     pub fine_local : (i : ℕ) (x : Variable) (t : Sort) → slice_get vars i ≡ Some x → ((v : Value) → slice_get s.locals i ≡ Some (Some v) → Has m.classes.classes x.1 W v → Has m.classes.classes t W v) → Fine m vars Value [] W s (Gets (Local i) t) (read_local vars i) (read_local vars i)
@@ -181,7 +183,7 @@ module _ (m : TypedModule) where
     local_known i x known k v q h = narrowed m W (is_in known i) x.1 v h (λ b e. k i b (q ∙ ap (λ z. Some (Some z)) e))
 
     global_by : (i : ℕ) (x : Variable) (o : Option Value) → slice_get s.globals i ≡ Some o → Holds m.classes.classes x.1 W o → Makes m vars [] g x.1 (read_global m.globals i)
-    global_by i x None q h = fine_seen m vars [] g (λ z. slice_get z.globals i) (value_in (no_global i)) (value_in (no_global i)) (Some None) q (fine_new m vars g _ _)
+    global_by i x None q h = fine_seen m vars [] g (λ z. slice_get z.globals i) (value_in (no_global i)) (value_in (no_global i)) (Some None) q (fine_new m vars g _ _ (λ p. text_around (codes "name '") (name_at m.globals i) (codes "' is not defined") (ascii_text (codes "name '") refl) ((g.texts p).names.globals i) refl))
     global_by i x (Some v) q h = fine_seen m vars [] g (λ z. slice_get z.globals i) (value_in (no_global i)) (value_in (no_global i)) (Some (Some v)) q (fine_give m vars g v h)
 
     pub fine_global : (i : ℕ) (x : Variable) → slice_get m.globals i ≡ Some x → Makes m vars [] g x.1 (read_global m.globals i)
@@ -189,18 +191,21 @@ module _ (m : TypedModule) where
 
     -- ---- attributes
 
-    attribute_by : (c : ℕ) (name : List ℕ) (x : List ℕ × Sort) (t : Sort) (at : Option (Option Value)) (o : Option Value) → x.1 ≡ t → at ≡ Some o → Holds m.classes.classes x.1 W o → Makes m vars [] g t (value_in (unset_attribute m.classes.classes c name) at)
-    attribute_by c name x t at o q e h = subst (λ z. Makes m vars [] g t (value_in (unset_attribute m.classes.classes c name) z)) (sym e) (by o h)
+    attribute_by : (c : ℕ) (name : List ℕ) (x : List ℕ × Sort) (t : Sort) (at : Option (Option Value)) (o : Option Value) → IsText utf8 name → x.1 ≡ t → at ≡ Some o → Holds m.classes.classes x.1 W o → Makes m vars [] g t (value_in (unset_attribute m.classes.classes c name) at)
+    attribute_by c name x t at o named q e h = subst (λ z. Makes m vars [] g t (value_in (unset_attribute m.classes.classes c name) z)) (sym e) (by o h)
       where
         by : (o : Option Value) → Holds m.classes.classes x.1 W o → Makes m vars [] g t (value_in (unset_attribute m.classes.classes c name) (Some o))
-        by None h = fine_new m vars g _ _
+        by None h =
+            fine_new m vars g _ _ (λ p.
+            text_around (codes "attribute '" ++ name ++ codes "' of '") (name_in (slice_get m.classes.classes c)) (codes "' undefined")
+            (text_around (codes "attribute '") name (codes "' of '") (ascii_text (codes "attribute '") refl) (named p) refl) ((g.texts p).names.classes c) refl)
         by (Some v) h = fine_give m vars g v (subst (λ z. Has m.classes.classes z W v) q h)
 
-module _ (m : TypedModule) (sound : Facts m) (vars : List Variable) {W : World} {s : State} (g : Good m vars W s) where
+module _ {utf8 : Bool} (m : TypedModule) (sound : Facts m) (vars : List Variable) {W : World utf8} {s : State} (g : Good m vars W s) where
   pub fine_attribute : (c : ℕ) (name : List ℕ) (t : Sort) (o : Value) → attribute_of m.classes.classes c name ≡ Some t → Has m.classes.classes (sort.Instance c) W o → Makes m vars [] g t (attribute m.classes.classes name o)
   fine_attribute c name t o e h =
       fine_instance m vars [] g c o _ _ h (λ k b vs q r under all.
       let A : AttributeOf m b name t = sound.attribute_there b c name t under e in
       fine_bind m vars (fine_sure m vars {P = λ V u i. i ≡ A.place} g (place_in name (attributes m.classes.classes b)) A.place A.placed refl) (λ V u st i p.
       let o : _ = held m.classes.classes W (attributes m.classes.classes b) vs A.place A.entry all A.there in
-      attribute_by m vars st.good b name A.entry t (slice_get vs i) o.0 A.type (ap (slice_get vs) p ∙ o.1) (holds_still m.classes.classes W V st.grows A.entry.1 o.0 o.2)))
+      attribute_by m vars st.good b name A.entry t (slice_get vs i) o.0 (λ q. (g.texts q).names.attributes c name t e) A.type (ap (slice_get vs) p ∙ o.1) (holds_still m.classes.classes W V st.grows A.entry.1 o.0 o.2)))

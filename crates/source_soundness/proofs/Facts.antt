@@ -84,8 +84,8 @@ module _ (m : TypedModule) where
     pub attribute_there : (b c : ℕ) (name : List ℕ) (t : Sort) → is_class_under m.classes.classes b c ≡ true → attribute_of m.classes.classes c name ≡ Some t → AttributeOf b name t
 
   -- calls are fine: watched and not, from each typed state, with arguments of the parameters' types
-  abbrev pub CallsFine : Calls → Calls → Type 0
-  CallsFine c' c = (vars : List Variable) (W : World) (s : State) → Good m vars W s → (f : ℕ) (F : TypedFunc) → slice_get m.funcs f ≡ Some F → (args : List Value) → HaveAll m.classes.classes (sorts_of (parameters F)) W args
+  abbrev pub CallsFine : (utf8 : Bool) → Calls → Calls → Type 0
+  CallsFine utf8 c' c = (vars : List Variable) (W : World utf8) (s : State) → Good m vars W s → (f : ℕ) (F : TypedFunc) → slice_get m.funcs f ≡ Some F → (args : List Value) → HaveAll m.classes.classes (sorts_of (parameters F)) W args
       → Fine m vars Value [] W s (λ V u v. Has m.classes.classes F.ret V v) (c' f args) (c f args)
 
   signed_by : (locals : List Variable) (init : Option ℕ) (f : ℕ) (o : Option Signature) (ss : List Sort) (t : Sort) → slice_get m.classes.signatures f ≡ o → call_fits m locals init o ss t ≡ true → Signed f ss t
@@ -132,7 +132,7 @@ module _ (m : TypedModule) where
         let r = two (same_row (drop 1 (parameters F)) S.params) (is_same_type F.ret S.ret) h in
         (behind_self (parameters F) d S.params k (one_row (sorts_of (drop 1 (parameters F))) (sorts_of S.params) r.0) ∙ ap (λ x. sort_then (Instance x) (sorts_of S.params)) (cc e), one_type F.ret S.ret r.1)
 
-    module _ {c' c : Calls} (calls : CallsFine c' c) (vars : List Variable) {W : World} {s : State} (g : Good m vars W s) where
+    module _ {utf8 : Bool} {c' c : Calls} (calls : CallsFine utf8 c' c) (vars : List Variable) {W : World utf8} {s : State} (g : Good m vars W s) where
       -- a call of a function
       pub fine_call : (f : ℕ) (ss : List Sort) (t : Sort) → PlainFunction f → Signed f ss t → (args : List Value) → HaveAll m.classes.classes (sorts_of ss) W args → Fine m vars Value [] W s (λ V u v. Has m.classes.classes t V v) (c' f args) (c f args)
       fine_call f ss t P S args h =

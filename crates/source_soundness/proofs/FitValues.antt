@@ -9,16 +9,17 @@ use Rattle.py_typed.specs.Fits.{same, all_same, fits}
 use Rattle.py_typed.specs.Laws.{IsClassTree}
 use Rattle.py_typed.specs.Statements.{Variable, TypedModule}
 use Rattle.source_meaning.specs.State.{State}
-use Rattle.source_meaning.specs.Operations.{coerced, fitting, truth_of}
+use Rattle.source_meaning.specs.Operations.{no_i64, coerced, fitting, truth_of}
 use Rattle.py_typed.proofs.FitLemmas.{and_left, and_right, one_type, fits_itself}
 use Rattle.py_typed.proofs.ClassLemmas.{under_on}
 use Rattle.py_typed.proofs.ExceptionLemmas.{exception_on}
 use Rattle.source_meaning.proofs.RangeLemmas.{wider}
+use Rattle.source_soundness.proofs.TextLemmas.{ascii_text}
 use Rattle.source_soundness.proofs.Worlds.{World, Has, HaveAll}
 use Rattle.source_soundness.proofs.Fine.{Good, Fine, fine_map, fine_give, fine_new}
 
 module _ (m : TypedModule) (tree : IsClassTree m.classes.classes) where
-  module _ (W : World) where
+  module _ {utf8 : Bool} (W : World utf8) where
     mutual
       pub same_has : (s t : Sort) (v : Value) → same m.classes.classes s t ≡ true → Has m.classes.classes s W v → Has m.classes.classes t W v
       same_has Nothing (Optional u) v e h = inl h
@@ -27,7 +28,7 @@ module _ (m : TypedModule) (tree : IsClassTree m.classes.classes) where
       same_has s (Optional u) v e h = inr (same_has s u v e h)
       same_has (TupleOf ss) (TupleOf ts) v e h = (h.0, h.1, all_have ss ts (listed h.0) e h.2)
       same_has (Instance c) (Instance d) v e h = (h.0, h.1, h.2, h.3, under_on m.classes.classes tree h.1 c d h.4 e)
-      same_has (Exc c) (Exc d) v e h = (h.0, h.1, exception_on h.0.class c d h.2 e)
+      same_has (Exc c) (Exc d) v e h = (h.0, h.1, exception_on h.0.class c d h.2 e, h.3)
       same_has s t v e h = subst (λ x. Has m.classes.classes x W v) (one_type s t e) h
 
       all_have : (ss ts : Sorts) (vs : List Value) → all_same m.classes.classes ss ts ≡ true → HaveAll m.classes.classes ss W vs → HaveAll m.classes.classes ts W vs
@@ -37,7 +38,7 @@ module _ (m : TypedModule) (tree : IsClassTree m.classes.classes) where
           (same_has s t v (and_left (same m.classes.classes s t) (all_same m.classes.classes ss ts) e) h.0, all_have ss ts vs (and_right (same m.classes.classes s t) (all_same m.classes.classes ss ts) e) h.1)
       all_have _ _ vs e h = absurd (cc)
 
-  module _ (vars : List Variable) (B : List ℕ) {W : World} {s : State} (g : Good m vars W s) where
+  module _ {utf8 : Bool} (vars : List Variable) (B : List ℕ) {W : World utf8} {s : State} (g : Good m vars W s) where
     -- what the coercion of a value gives is of the type, and as true as the value
     abbrev pub Coerces : Sort → Value → Type 0
     Coerces t v = Fine m vars Value B W s (λ V u w. Has m.classes.classes t V w × (u ≡ s) × ((x : State) → truth_of w x ≡ truth_of v x) × (w ≡ NoneVal → v ≡ NoneVal)) (coerced t v) (coerced t v)
@@ -51,7 +52,7 @@ module _ (m : TypedModule) (tree : IsClassTree m.classes.classes) where
 
     native_by : (n : ℤ) (b : Bool) → lies_within 63 n ≡ b → Fine m vars Value B W s (λ V u w. Has m.classes.classes I64 V w × (u ≡ s) × ((x : State) → truth_of w x ≡ truth_of (IntVal n) x) × (w ≡ NoneVal → IntVal n ≡ NoneVal)) (fitting (cond b (Ok n) (Err OutOfRange))) (fitting (cond b (Ok n) (Err OutOfRange)))
     native_by n true l = fine_give m vars g (IntVal n) ((n, refl, l), refl, (λ x. refl), λ e. e)
-    native_by n false l = fine_new m vars g _ _
+    native_by n false l = fine_new m vars g _ no_i64 (λ q. ascii_text no_i64 refl)
 
     int_native : (n : ℤ) → Coerces I64 (IntVal n)
     int_native n = native_by n (lies_within 63 n) refl

@@ -1,3 +1,4 @@
+pub mod TextLemmas
 pub mod Worlds
 pub mod Fine
 pub mod FitValues
@@ -15,6 +16,7 @@ pub mod Runs
 pub mod Linear
 pub mod Members
 pub mod Whole
+pub mod Utf8Texts
 pub mod Inverse
 mod Samples
 pub mod Places

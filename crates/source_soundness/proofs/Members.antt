@@ -5,20 +5,24 @@ use Rattle.std.proofs.lemmas.Slice.Eq.{bytes_eq-Decides}
 use Rattle.std.proofs.lemmas.Option.{same_Some}
 use Rattle.std.specs.List.{list_any, list_all, flat_map}
 use Rattle.std.specs.Option.{option_map, option_and_then, option_or}
-use Rattle.std.specs.Str.{bytes_eq}
+use Rattle.std.specs.Str.{bytes_eq, is_utf8}
 use Rattle.std.proofs.lemmas.Bool.{eq-eqb, eqb-true}
 use Rattle.py_typed.specs.Sorts.{Sort, sorts_of}
 use Rattle.py_typed.specs.Classes.{ClassEntry, Signature, bases_of, above_of, has_class, is_class_under, lists_what_is_above, bases_in}
 use Rattle.py_typed.specs.Fits.{is_same_type}
 use Rattle.py_typed.specs.Order.{first_there, named, place_in, own_attributes, is_named_in, with_new, order, listed_order, own_method, own_attribute, method_along, method_of, attribute_of, attributes_by, attributes}
 use Rattle.py_typed.specs.Laws.{IsClassTree}
-use Rattle.py_typed.specs.Statements.{TypedFunc, TypedModule}
+use Rattle.py_typed.specs.TypeTexts.{name_in}
+use Rattle.py_typed.specs.Statements.{Variable, TypedFunc, TypedModule}
+use Rattle.source_meaning.specs.ExpressionMeaning.{name_at}
 use Rattle.py_typed.specs.WellTyped.{suite_typed, all_differ, has_statement}
 use Rattle.py_typed.specs.WellTypedExpr.{is_value_type, is_result_type, init_class, is_same_place}
 use Rattle.py_typed.specs.WellTypedModule.{all_at, types_in, names_of, has_self, signature_fits, same_row, ends_well, init_gives_nothing, is_init_of_trait, variables_typed, func_typed, method_typed, is_listed, bases_typed, differing, has_order, same_signature, agrees_with_method, agrees_with_attribute, methods_agree, attributes_agree, members_agree, class_typed, is_well_typed}
 use Rattle.py_typed.proofs.FitLemmas.{and_left, and_right, one_type}
 use Rattle.py_typed.proofs.ClassLemmas.{or_cases, under_on, under_by_bases, or_left, or_right}
-use Rattle.source_soundness.proofs.Facts.{Facts, Signed, MethodOf, AttributeOf, two, one_row}
+use Rattle.source_soundness.proofs.Facts.{Facts, Signed, MethodOf, AttributeOf, two, three, one_row}
+use Rattle.source_soundness.proofs.TextLemmas.{ascii_text}
+use Rattle.source_soundness.proofs.Fine.{NamesAre}
 use Rattle.source_soundness.proofs.Linear.{order_under, order_has, by_base}
 use Rattle.source_soundness.proofs.Runs.{IsTyped}
 
@@ -108,6 +112,8 @@ module _ (is_identifier : List ℕ → Bool) (m : TypedModule) (w : is_well_type
 
   -- the parts of a class
   pub record ClassParts (c : ℕ) (e : ClassEntry) : Type 0 where
+    pub name : is_identifier e.name ≡ true
+    pub names : list_all is_identifier (names_of e.attributes ++ names_of e.methods) ≡ true
     pub falls : list_all (λ b. nat_lt b c) e.bases ≡ true
     pub lists : lists_what_is_above C c ≡ true
     pub bases : bases_typed is_identifier m e ≡ true
@@ -127,7 +133,7 @@ module _ (is_identifier : List ℕ → Bool) (m : TypedModule) (w : is_well_type
       let k = two _ (lists_what_is_above C c) j.0 in
       let l = two _ (differing is_identifier m e.bases) k.0 in
       let n = two _ (list_all (λ b. nat_lt b c) e.bases) l.0 in
-      record { falls = n.1; lists = k.1; bases = j.1; methods = d.1; has = b.1; agree = a.1 }
+      record { name = n.0; names = i.1; falls = n.1; lists = k.1; bases = j.1; methods = d.1; has = b.1; agree = a.1 }
 
   -- ---- the tree of classes
 
@@ -145,6 +151,7 @@ module _ (is_identifier : List ℕ → Bool) (m : TypedModule) (w : is_well_type
   -- ---- functions
 
   pub record FuncParts (f : ℕ) (F : TypedFunc) : Type 0 where
+    pub variables : variables_typed is_identifier m F.locals ≡ true
     pub typed : IsTyped m F
     pub signed : signature_fits (slice_get m.classes.signatures f) F ≡ true
 
@@ -161,7 +168,7 @@ module _ (is_identifier : List ℕ → Bool) (m : TypedModule) (w : is_well_type
       let k = two _ (variables_typed is_identifier m F.locals) j.0 in
       let l = two _ (nat_lt (length F.locals) 101) k.0 in
       let n = two _ (nat_lt F.params (suc (length F.locals))) l.0 in
-      record { typed = record { count = few F.params (length F.locals) n.1; self = i.1; ends = b.1; body = a.1 }; signed = g.1 }
+      record { variables = k.1; typed = record { count = few F.params (length F.locals) n.1; self = i.1; ends = b.1; body = a.1 }; signed = g.1 }
     where
       few : (a b : ℕ) → nat_lt a (suc b) ≡ true → a ≤ b
       few a b h = grind (arith, nat_tests, h)
@@ -477,3 +484,46 @@ module _ (is_identifier : List ℕ → Bool) (m : TypedModule) (w : is_well_type
 
   pub funcs_are : (f : ℕ) (F : TypedFunc) → slice_get m.funcs f ≡ Some F → IsTyped m F
   funcs_are f F h = (func_parts is_identifier m w f F h).typed
+
+  -- ---- names
+
+  module _ (in_utf8 : (name : List ℕ) → is_identifier name ≡ true → is_utf8 name ≡ true) where
+    names_at : (xs : List Variable) → list_all is_identifier (names_of xs) ≡ true → (i : ℕ) → is_utf8 (name_at xs i) ≡ true
+    names_at [] h i = ascii_text [] refl
+    names_at (x ∷ xs) h zero = in_utf8 x.0 (two (is_identifier x.0) (list_all is_identifier (names_of xs)) h).0
+    names_at (x ∷ xs) h (suc i) = names_at xs (two (is_identifier x.0) (list_all is_identifier (names_of xs)) h).1 i
+
+    variables_named : (xs : List Variable) → variables_typed is_identifier m xs ≡ true → (i : ℕ) → is_utf8 (name_at xs i) ≡ true
+    variables_named xs h = names_at xs (three (list_all is_identifier (names_of xs)) (all_differ (names_of xs)) (list_all (is_value_type (length m.classes.classes)) (types_in xs)) h).0
+
+    globals_typed : variables_typed is_identifier m m.globals ≡ true
+    globals_typed =
+        let a = two _ (suite_typed m [] None None [] false false m.top) w in
+        let b = two _ (all_at 0 (func_typed is_identifier m) m.funcs) a.0 in
+        let c = two _ (all_at 0 (is_listed is_identifier m) m.funcs) b.0 in
+        let d = two _ (all_at 0 (class_typed is_identifier m) m.classes.classes) c.0 in
+        let e = two _ (length m.classes.signatures == length m.funcs) d.0 in
+        (two (variables_typed is_identifier m m.globals) _ e.0).0
+
+    class_named : (c : ℕ) (o : Option ClassEntry) → slice_get m.classes.classes c ≡ o → is_utf8 (name_in o) ≡ true
+    class_named c None q = ascii_text [] refl
+    class_named c (Some e) q = in_utf8 e.name (class_parts is_identifier m w c e q).name
+
+    name_among : (xs : List (List ℕ × Sort)) (ys : List (List ℕ)) (i : ℕ) (p : List ℕ × Sort) → list_all is_identifier (names_of xs ++ ys) ≡ true → slice_get xs i ≡ Some p → is_identifier p.0 ≡ true
+    name_among [] ys i p h e = absurd (cc)
+    name_among (x ∷ xs) ys zero p h e = subst (λ (z : List ℕ × Sort). is_identifier z.0 ≡ true) (same_Some x p e) (two (is_identifier x.0) (list_all is_identifier (names_of xs ++ ys)) h).0
+    name_among (x ∷ xs) ys (suc i) p h e = name_among xs ys i p (two (is_identifier x.0) (list_all is_identifier (names_of xs ++ ys)) h).1 e
+
+    attribute_named : (c : ℕ) (name : List ℕ) (t : Sort) → attribute_of m.classes.classes c name ≡ Some t → is_utf8 name ≡ true
+    attribute_named c name t h =
+        let own : _ = first_is (own_attribute m.classes.classes name) (listed_order (order m.classes.classes c)) t h in
+        let D : _ = own_attribute_is is_identifier m w name own.0 t own.2 in
+        subst (λ z. is_utf8 z ≡ true) D.5 (in_utf8 D.3.0 (name_among D.0.attributes (names_of D.0.methods) D.2 D.3 (class_parts is_identifier m w own.0 D.0 D.1).names D.4))
+
+    pub names_are : NamesAre m
+    names_are = record {
+      globals = variables_named m.globals globals_typed;
+      locals = λ f F h. variables_named F.locals (func_parts is_identifier m w f F h).variables;
+      classes = λ c. class_named c (slice_get m.classes.classes c) refl;
+      attributes = attribute_named;
+    }

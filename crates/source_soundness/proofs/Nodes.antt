@@ -27,10 +27,11 @@ use Rattle.py_typed.proofs.FitLemmas.{one_type, nothing_is, same_itself}
 use Rattle.py_typed.proofs.ClassLemmas.{or_cases}
 use Rattle.source_soundness.specs.Watched as watched
 use Rattle.source_soundness.specs.Watched.{Watch}
-use Rattle.source_soundness.proofs.Worlds.{World, Has, HaveAll, EachPair, has_still, have_still, all_unset, each_more, each_taken, each_still}
+use Rattle.source_soundness.proofs.TextLemmas.{ascii_text}
+use Rattle.source_soundness.proofs.Worlds.{World, IsText, Has, HaveAll, EachPair, has_still, have_still, all_unset, each_more, each_taken, each_still}
 use Rattle.source_soundness.proofs.Fine.{Good, Fine, NotNone, Keeps, Passes, fine_bind, fine_map, fine_watched, fine_give, fine_if, fine_needs, fine_sure, fine_make, fine_put, fine_write}
 use Rattle.source_soundness.proofs.FitValues.{fine_coerced, same_has}
-use Rattle.source_soundness.proofs.Operators.{IsWhole, joined_whole, operation_of, entered_kept, printed, all_printed, fine_seen, fine_list, fine_instance, fine_place, fine_got, fine_item, fine_part, fine_length, fine_truth, fine_line, fine_joined, fine_arithmetic, fine_negated, fine_compared, fine_found}
+use Rattle.source_soundness.proofs.Operators.{IsWhole, joined_whole, operation_of, entered_kept, printed, all_printed, written_text, written_line, fine_seen, fine_list, fine_instance, fine_place, fine_got, fine_item, fine_part, fine_length, fine_truth, fine_line, fine_joined, fine_arithmetic, fine_negated, fine_compared, fine_found}
 use Rattle.source_soundness.proofs.Names.{same_number, in_shared, both_known, fewer_known, all_known, tested}
 use Rattle.source_soundness.proofs.Facts.{Facts, CallsFine, Signed, MethodOf, signed_call, plain_function, fine_call, fine_method, two, three, four, five, one_row}
 use Rattle.source_soundness.proofs.Expressions.{ChainIs, PairIs, IsHeld, Gets, GetsValue, Tells, is_got, not_none, told, is_held, silent, some_type, number_fits, declared_at, read_at, sorts_listed, same_gives, common, each_of, keys_of_value, fine_local, local_known, fine_global, fine_attribute}
@@ -39,24 +40,24 @@ not_not : (b c : Bool) → not b ≡ c → not c ≡ b
 not_not true c e = ap not (sym e)
 not_not false c e = ap not (sym e)
 
-module _ (m : TypedModule) (sound : Facts m) (watch : Watch) {c' c : Calls} (calls : CallsFine m c' c) (vars : List Variable) (passes : Passes m vars watch)
+module _ {utf8 : Bool} (m : TypedModule) (sound : Facts m) (watch : Watch) {c' c : Calls} (calls : CallsFine m utf8 c' c) (vars : List Variable) (passes : Passes utf8 m vars watch)
     (init : Option ℕ) (self : (d : ℕ) → init ≡ Some d → (x : Variable) × (slice_get vars 0 ≡ Some x) × (x.1 ≡ sort.Instance d)) where
-  abbrev pub Value_fine : World → State → TypedExpr → Type 0
+  abbrev pub Value_fine : World utf8 → State → TypedExpr → Type 0
   Value_fine W s e = Fine m vars Value [] W s (GetsValue m e) (watched.expression watch m.classes.classes c' m.globals vars e) (official.expression m.classes.classes c m.globals vars e)
 
-  abbrev Node_fine : World → State → TypedNode → Sort → Type 0
+  abbrev Node_fine : World utf8 → State → TypedNode → Sort → Type 0
   Node_fine W s n t = Fine m vars Value [] W s (Gets m n t) (watched.node watch m.classes.classes c' m.globals vars n t) (official.node m.classes.classes c m.globals vars n t)
 
-  has_bool : (V : World) (t : Sort) (b : Bool) → is_same_type t sort.Bool ≡ true → Has m.classes.classes t V (BoolVal b)
+  has_bool : (V : World utf8) (t : Sort) (b : Bool) → is_same_type t sort.Bool ≡ true → Has m.classes.classes t V (BoolVal b)
   has_bool V t b e = subst (λ x. Has m.classes.classes x V (BoolVal b)) (sym (one_type t sort.Bool e)) (b, refl)
 
-  from_type : (V : World) (t u : Sort) (v : Value) → is_same_type t u ≡ true → Has m.classes.classes u V v → Has m.classes.classes t V v
+  from_type : (V : World utf8) (t u : Sort) (v : Value) → is_same_type t u ≡ true → Has m.classes.classes u V v → Has m.classes.classes t V v
   from_type V t u v e h = subst (λ x. Has m.classes.classes x V v) (sym (one_type t u e)) h
 
-  to_type : (V : World) (t u : Sort) (v : Value) → is_same_type t u ≡ true → Has m.classes.classes t V v → Has m.classes.classes u V v
+  to_type : (V : World utf8) (t u : Sort) (v : Value) → is_same_type t u ≡ true → Has m.classes.classes t V v → Has m.classes.classes u V v
   to_type V t u v e h = subst (λ x. Has m.classes.classes x V v) (one_type t u e) h
 
-  from_none : (V : World) (t : Sort) (v : Value) → is_nothing t ≡ true → v ≡ NoneVal → Has m.classes.classes t V v
+  from_none : (V : World utf8) (t : Sort) (v : Value) → is_nothing t ≡ true → v ≡ NoneVal → Has m.classes.classes t V v
   from_none V t v e h = subst (λ x. Has m.classes.classes x V v) (sym (nothing_is m.classes.classes t e)) h
 
   literal_fits : (n : ℤ) → is_literal n ≡ true → lies_within 127 n ≡ true
@@ -73,7 +74,7 @@ module _ (m : TypedModule) (sound : Facts m) (watch : Watch) {c' c : Calls} (cal
   lift_false op e x no_comparisons p = (false, refl, p)
   lift_false op e x (comparison_then o f more) p = tt
 
-  fine_pair : {W : World} {s : State} (g : Good m vars W s) (op : CmpOp) (a b : TypedExpr) (x y : Value) → pair_fits m vars init op a b ≡ true → Has m.classes.classes (type_of a) W x → Has m.classes.classes (type_of b) W y
+  fine_pair : {W : World utf8} {s : State} (g : Good m vars W s) (op : CmpOp) (a b : TypedExpr) (x y : Value) → pair_fits m vars init op a b ≡ true → Has m.classes.classes (type_of a) W x → Has m.classes.classes (type_of b) W y
       → Fine m vars Bool [] W s (λ V u h. PairIs op x h) (holds op (type_of a) (type_of b) x y) (holds op (type_of a) (type_of b) x y)
   fine_pair g compare.Is a b x y e h k = fine_give m vars g (is_none x) refl
   fine_pair g compare.IsNot a b x y e h k = fine_give m vars g (not (is_none x)) refl
@@ -89,7 +90,7 @@ module _ (m : TypedModule) (sound : Facts m) (watch : Watch) {c' c : Calls} (cal
   fine_pair g compare.Ge a b x y e h k = let r : _ = common m (type_of a) (type_of b) e in fine_compared m sound.tree vars [] g _ (type_of a) (type_of b) x y r.0 r.1 r.2 h k
 
   -- what a chain of one pair, against None, tells of the local
-  chain_tells : (e f : TypedExpr) (op : CmpOp) (more : Comparisons) (V : World) (u z : State) (x v : Value) → GetsValue m e V u x → Keeps [] u z → ChainIs x (comparison_then op f more) v → Tells (λ b. none_test b op (node_of e) (node_of f) more) z v
+  chain_tells : (e f : TypedExpr) (op : CmpOp) (more : Comparisons) (V : World utf8) (u z : State) (x v : Value) → GetsValue m e V u x → Keeps [] u z → ChainIs x (comparison_then op f more) v → Tells (λ b. none_test b op (node_of e) (node_of f) more) z v
   chain_tells e f op more V u z x v got kept chain b q i h none =
       let T : _ = tested b op (node_of e) (node_of f) more i h in
       let here : slice_get u.locals i ≡ Some (Some x) = subst (λ n. IsHeld n u x) T.local (is_held m e V u x got) in
@@ -116,14 +117,14 @@ module _ (m : TypedModule) (sound : Facts m) (watch : Watch) {c' c : Calls} (cal
   self_under : (d : ℕ) → is_class_under m.classes.classes d d ≡ true
   self_under d = same_itself m.classes.classes (sort.Instance d)
 
-  fine_new_instance : {W : World} {s : State} (g : Good m vars W s) (d : ℕ) (ss : List Sort) (args : List Value) → make_fits m vars init d ss ≡ true → HaveAll m.classes.classes (sorts_of ss) W args
+  fine_new_instance : {W : World utf8} {s : State} (g : Good m vars W s) (d : ℕ) (ss : List Sort) (args : List Value) → make_fits m vars init d ss ≡ true → HaveAll m.classes.classes (sorts_of ss) W args
       → Fine m vars Value [] W s (λ V u v. Has m.classes.classes (sort.Instance d) V v) (new_instance m.classes.classes c' d args) (new_instance m.classes.classes c d args)
   fine_new_instance {W = W} g d ss args h k =
       fine_bind m vars (fine_make m vars g (sort.Instance d) (InstObj d (replicate (length (attributes m.classes.classes d)) None)) (refl, all_unset m.classes.classes W (attributes m.classes.classes d)))
       (λ V u st o p. by V u st.good o p (have_still m.classes.classes W V st.grows (sorts_of ss) args k) (method_of m.classes.classes d (codes "__init__")) refl
       (two (not (is_trait_in (slice_get m.classes.classes d))) (init_fits m vars init (method_of m.classes.classes d (codes "__init__")) ss) h).1)
     where
-      by : (V : World) (u : State) → Good m vars V u → (o : Value) → (k : ℕ) × (o ≡ ObjVal k) × (slice_get V k ≡ Some (sort.Instance d)) → HaveAll m.classes.classes (sorts_of ss) V args → (f : Option ℕ) → method_of m.classes.classes d (codes "__init__") ≡ f → init_fits m vars init f ss ≡ true
+      by : (V : World utf8) (u : State) → Good m vars V u → (o : Value) → (k : ℕ) × (o ≡ ObjVal k) × (slice_get V.types k ≡ Some (sort.Instance d)) → HaveAll m.classes.classes (sorts_of ss) V args → (f : Option ℕ) → method_of m.classes.classes d (codes "__init__") ≡ f → init_fits m vars init f ss ≡ true
           → Fine m vars Value [] V u (λ X z v. Has m.classes.classes (sort.Instance d) X v) (start_with m.classes.classes c' f o args) (start_with m.classes.classes c f o args)
       by V u g o i k None q h = fine_give m vars g o (i.0, d, i.1, i.2, self_under d)
       by V u g o i k (Some f) q h =
@@ -132,7 +133,7 @@ module _ (m : TypedModule) (sound : Facts m) (watch : Watch) {c' c : Calls} (cal
           (λ X z st v p. fine_give m vars st.good o (has_still m.classes.classes V X st.grows (sort.Instance d) o (i.0, d, i.1, i.2, self_under d)))
 
   -- a method by the class of the object
-  fine_call_method : {W : World} {s : State} (g : Good m vars W s) (d : ℕ) (name : List ℕ) (ss : List Sort) (t : Sort) (o : Value) (args : List Value) → method_fits m vars init (Some d) name ss t ≡ true → Has m.classes.classes (sort.Instance d) W o → HaveAll m.classes.classes (sorts_of ss) W args
+  fine_call_method : {W : World utf8} {s : State} (g : Good m vars W s) (d : ℕ) (name : List ℕ) (ss : List Sort) (t : Sort) (o : Value) (args : List Value) → method_fits m vars init (Some d) name ss t ≡ true → Has m.classes.classes (sort.Instance d) W o → HaveAll m.classes.classes (sorts_of ss) W args
       → Fine m vars Value [] W s (λ V u v. Has m.classes.classes t V v) (call_method m.classes.classes c' name o args) (call_method m.classes.classes c name o args)
   fine_call_method {W = W} {s = s} g d name ss t o args h i k = by (method_of m.classes.classes d name) refl h
     where
@@ -167,7 +168,7 @@ module _ (m : TypedModule) (sound : Facts m) (watch : Watch) {c' c : Calls} (cal
   same_place f None e = absurd (cc)
   same_place f (Some h) e = ap Some (sym (same_number f h e))
 
-  fine_super : {W : World} {s : State} (g : Good m vars W s) (d : ℕ) (f : Option ℕ) (ss : List Sort) (o : Value) (args : List Value) → is_same_place f (method_along m.classes.classes (codes "__init__") (drop 1 (listed_order (order m.classes.classes d)))) ≡ true → init_fits m vars init f ss ≡ true
+  fine_super : {W : World utf8} {s : State} (g : Good m vars W s) (d : ℕ) (f : Option ℕ) (ss : List Sort) (o : Value) (args : List Value) → is_same_place f (method_along m.classes.classes (codes "__init__") (drop 1 (listed_order (order m.classes.classes d)))) ≡ true → init_fits m vars init f ss ≡ true
       → Has m.classes.classes (sort.Instance d) W o → HaveAll m.classes.classes (sorts_of ss) W args → Fine m vars Value [] W s (λ V u v. v ≡ NoneVal) (call_next m.classes.classes c' f o args) (call_next m.classes.classes c f o args)
   fine_super g d None ss o args e h i k = fine_give m vars g NoneVal refl
   fine_super {W = W} g d (Some f) ss o args e h i k =
@@ -180,11 +181,11 @@ module _ (m : TypedModule) (sound : Facts m) (watch : Watch) {c' c : Calls} (cal
   moved : (names : List ℕ) (u z : State) → z ≡ u → NotNone names u.locals → NotNone names z.locals
   moved names u z e h = subst (λ (y : State). NotNone names y.locals) (sym e) h
 
-  not_tells : (e : TypedExpr) (V : World) (u z : State) (x : Value) (b : Bool) → GetsValue m e V u x → z ≡ u → truth_of x u ≡ Gives b u → Tells (λ b'. facts (not b') e) z (BoolVal (not b))
+  not_tells : (e : TypedExpr) (V : World utf8) (u z : State) (x : Value) (b : Bool) → GetsValue m e V u x → z ≡ u → truth_of x u ≡ Gives b u → Tells (λ b'. facts (not b') e) z (BoolVal (not b))
   not_tells e V u z x b got same h b' a =
       moved (facts (not b') e) u z same (told m e V u x got (not b') (subst (λ y. truth_of x u ≡ Gives y u) (sym (not_not b b' (same_gives (not b) b' z a))) h))
 
-  truth_tells : (e : TypedExpr) (V : World) (u z : State) (x : Value) (b : Bool) → GetsValue m e V u x → z ≡ u → truth_of x u ≡ Gives b u → Tells (λ b'. facts b' e) z (BoolVal b)
+  truth_tells : (e : TypedExpr) (V : World utf8) (u z : State) (x : Value) (b : Bool) → GetsValue m e V u x → z ≡ u → truth_of x u ≡ Gives b u → Tells (λ b'. facts b' e) z (BoolVal b)
   truth_tells e V u z x b got same h b' a =
       moved (facts b' e) u z same (told m e V u x got b' (subst (λ y. truth_of x u ≡ Gives y u) (same_gives b b' z a) h))
 
@@ -205,7 +206,7 @@ module _ (m : TypedModule) (sound : Facts m) (watch : Watch) {c' c : Calls} (cal
   or_stops a b u w f k false h = absurd (cc (same_gives false true u (sym h ∙ f)))
   or_stops a b u w f k true h = fewer_known (facts true a) (shared (facts true a) (facts true b)) u.locals (λ i j. (in_shared (facts true a) (facts true b) i j).0) k
 
-  coerced_tells : (e : TypedExpr) (V : World) (u z : State) (x w : Value) → GetsValue m e V u x → z ≡ u → ((y : State) → truth_of w y ≡ truth_of x y) → Tells (λ b. facts b e) z w
+  coerced_tells : (e : TypedExpr) (V : World utf8) (u z : State) (x w : Value) → GetsValue m e V u x → z ≡ u → ((y : State) → truth_of w y ≡ truth_of x y) → Tells (λ b. facts b e) z w
   coerced_tells e V u z x w got same alike b h =
       moved (facts b e) u z same (told m e V u x got b (subst (λ y. truth_of x y ≡ Gives b y) same (sym (alike z) ∙ h)))
 
@@ -223,18 +224,18 @@ module _ (m : TypedModule) (sound : Facts m) (watch : Watch) {c' c : Calls} (cal
   method_type _ name ss t e = absurd (cc)
 
   mutual
-    pub fine_value : (e : TypedExpr) (testing : Bool) (known : List ℕ) → stands m vars init testing known e ≡ true → (W : World) (s : State) → Good m vars W s → NotNone known s.locals → Value_fine W s e
+    pub fine_value : (e : TypedExpr) (testing : Bool) (known : List ℕ) → stands m vars init testing known e ≡ true → (W : World utf8) (s : State) → Good m vars W s → NotNone known s.locals → Value_fine W s e
     fine_value (typed n t place) testing known h W s g k =
         let r = five (parts_typed m vars init testing known n) (rule m vars init known n t) (suits testing n t) (is_result_type (length m.classes.classes) t) (not (is_empty_call n t)) h in
         fine_watched m vars watch passes t (λ V u v p. p.0) (fine_node n t testing known r.0 r.1 W s g k)
 
-    pub fine_node : (n : TypedNode) (t : Sort) (testing : Bool) (known : List ℕ) → parts_typed m vars init testing known n ≡ true → rule m vars init known n t ≡ true → (W : World) (s : State) → Good m vars W s → NotNone known s.locals → Node_fine W s n t
+    pub fine_node : (n : TypedNode) (t : Sort) (testing : Bool) (known : List ℕ) → parts_typed m vars init testing known n ≡ true → rule m vars init known n t ≡ true → (W : World utf8) (s : State) → Good m vars W s → NotNone known s.locals → Node_fine W s n t
     fine_node (Int n) t testing known p r W s g k =
         let x = two (is_literal n) (is_same_type t sort.Int) r in
         fine_give m vars g (IntVal n) (from_type W t sort.Int (IntVal n) x.1 (n, refl, literal_fits n x.0), silent s (IntVal n), tt)
     fine_node (Str text) t testing known p r W s g k =
         let x = two (is_utf8 text) (is_same_type t sort.Str) r in
-        fine_give m vars g (StrVal text) (from_type W t sort.Str (StrVal text) x.1 (text, refl), silent s (StrVal text), tt)
+        fine_give m vars g (StrVal text) (from_type W t sort.Str (StrVal text) x.1 (text, refl, λ q. x.0), silent s (StrVal text), tt)
     fine_node (Flag b) t testing known p r W s g k = fine_give m vars g (BoolVal b) (has_bool W t b r, silent s (BoolVal b), refl)
     fine_node Nothing t testing known p r W s g k = fine_give m vars g NoneVal (from_none W t NoneVal r refl, silent s NoneVal, tt)
     fine_node (Local i) t testing known p r W s g k = by (or_cases (is_type (declared vars i) t) (is_type (option_map (reads_as (is_in known i)) (declared vars i)) t) r)
@@ -365,7 +366,7 @@ module _ (m : TypedModule) (sound : Facts m) (watch : Watch) {c' c : Calls} (cal
     fine_node (MakeExc d e) t testing known p r W s g k =
         let x = two (exception_text m vars init e) (is_same_type t (sort.Exc d)) r in
         fine_bind m vars (fine_text e known p x.0 W s g k) (λ V u st v q.
-        fine_needs m vars (has_text v) (ap has_text q.1) (fine_give m vars st.good _ (from_type V t (sort.Exc d) _ x.1 (thrown d (text_of v), refl, same_itself m.classes.classes (sort.Exc d)), silent u (ExcVal (thrown d (text_of v))), tt)))
+        fine_needs m vars (has_text v) (ap has_text q.1) (fine_give m vars st.good _ (from_type V t (sort.Exc d) _ x.1 (thrown d (text_of v), refl, same_itself m.classes.classes (sort.Exc d), λ z. subst (λ y. is_utf8 (text_of y) ≡ true) (sym q.1) (q.2 z)), silent u (ExcVal (thrown d (text_of v))), tt)))
     fine_node (Method e name es) t testing known p r W s g k =
         let y = two (stands m vars init false known e) (are_values m vars init known es) p in
         let x : _ = method_type (type_of e) name (types_of m vars init es) t r in
@@ -382,9 +383,9 @@ module _ (m : TypedModule) (sound : Facts m) (watch : Watch) {c' c : Calls} (cal
     fine_node (Print es) t testing known p r W s g k =
         let x = two (list_all is_printable (types_of m vars init es)) (is_nothing t) r in
         fine_bind m vars (fine_values es known p W s g k) (λ V u st vs q.
-        fine_needs m vars (list_all has_text vs) (all_printed m V (types_of m vars init es) vs x.0 q) (fine_map m vars (fine_write m vars st.good _) (λ X z st' w h. (from_none X t w x.1 h, silent z w, tt))))
+        fine_needs m vars (list_all has_text vs) (all_printed m V (types_of m vars init es) vs x.0 q) (fine_map m vars (fine_write m vars st.good _ (written_line m V (types_of m vars init es) vs x.0 q)) (λ X z st' w h. (from_none X t w x.1 h, silent z w, tt))))
     fine_node Input t testing known p r W s g k =
-        fine_map m vars (fine_seen m vars [] g (λ z. z.items) next_line next_line s.items refl (fine_line m vars [] g s.items)) (λ X z st' w h. (from_type X t sort.Str w r h, silent z w, tt))
+        fine_map m vars (fine_seen m vars [] g (λ z. z.items) next_line next_line s.items refl (fine_line m vars [] g s.items (λ q. (g.texts q).items))) (λ X z st' w h. (from_type X t sort.Str w r h, silent z w, tt))
     fine_node (Len e) t testing known p r W s g k =
         let x = two (is_sized (type_of e)) (is_same_type t sort.Int) r in
         fine_bind m vars (fine_value e false known p W s g k) (λ V u st v q.
@@ -392,7 +393,7 @@ module _ (m : TypedModule) (sound : Facts m) (watch : Watch) {c' c : Calls} (cal
     fine_node (ToStr e) t testing known p r W s g k =
         let x = two (is_printable (type_of e)) (is_same_type t sort.Str) r in
         fine_bind m vars (fine_value e false known p W s g k) (λ V u st v q.
-        fine_needs m vars (has_text v) (printed m V (type_of e) v x.0 (is_got m e V u v q)) (fine_give m vars st.good _ (from_type V t sort.Str _ x.1 (text_of v, refl), silent u (StrVal (text_of v)), tt)))
+        fine_needs m vars (has_text v) (printed m V (type_of e) v x.0 (is_got m e V u v q)) (fine_give m vars st.good _ (from_type V t sort.Str _ x.1 (text_of v, refl, written_text m V (type_of e) v x.0 (is_got m e V u v q)), silent u (StrVal (text_of v)), tt)))
     fine_node (Append a b) t testing known p r W s g k =
         let y = two (stands m vars init false known a) (stands m vars init false known b) p in
         let x = two (is_same_type (type_of a) (sort.ListOf (type_of b))) (is_nothing t) r in
@@ -404,7 +405,7 @@ module _ (m : TypedModule) (sound : Facts m) (watch : Watch) {c' c : Calls} (cal
     fine_node (Pop e) t testing known p r W s g k =
         fine_bind m vars (fine_value e false known p W s g k) (λ V u st v q.
         fine_list m vars [] st.good t v _ _ (to_type V (type_of e) (sort.ListOf t) v r (is_got m e V u v q)) (λ j vs l at there each.
-        fine_place m vars [] st.good _ (length vs) (IntVal (negsuc 0)) _ _ (negsuc 0, refl, refl) (λ i less.
+        fine_place m vars [] st.good (codes "pop from empty list") (length vs) (IntVal (negsuc 0)) _ _ (negsuc 0, refl, refl) (ascii_text (codes "pop from empty list") refl) (λ i less.
         fine_bind m vars (fine_put m vars st.good j (sort.ListOf t) (ListObj _) at (each_taken m.classes.classes V t i vs each)) (λ X z st' w h.
         fine_map m vars (fine_got m vars [] st'.good t vs i less (each_still m.classes.classes V X st'.grows t vs each)) (λ Y y st'' w h. (h, silent y w, tt))))))
     fine_node (Coerce e) t testing known p r W s g k =
@@ -412,7 +413,7 @@ module _ (m : TypedModule) (sound : Facts m) (watch : Watch) {c' c : Calls} (cal
         fine_bind m vars (fine_value e false known p W s g k) (λ V u st v q.
         fine_map m vars (fine_coerced m sound.tree vars [] st.good (type_of e) t v x.0 (is_got m e V u v q)) (λ X z st' w h. (h.0, coerced_tells e V u z v w q h.1 h.2, λ no n. not_none m (type_of e) V v no (is_got m e V u v q) (h.3 n))))
 
-    fine_values : (es : TypedExprs) (known : List ℕ) → are_values m vars init known es ≡ true → (W : World) (s : State) → Good m vars W s → NotNone known s.locals
+    fine_values : (es : TypedExprs) (known : List ℕ) → are_values m vars init known es ≡ true → (W : World utf8) (s : State) → Good m vars W s → NotNone known s.locals
         → Fine m vars (List Value) [] W s (λ V u vs. HaveAll m.classes.classes (sorts_of (types_of m vars init es)) V vs) (watched.expressions watch m.classes.classes c' m.globals vars es) (official.expressions m.classes.classes c m.globals vars es)
     fine_values no_exprs known p W s g k = fine_give m vars g [] tt
     fine_values (expr_then e more) known p W s g k =
@@ -421,7 +422,7 @@ module _ (m : TypedModule) (sound : Facts m) (watch : Watch) {c' c : Calls} (cal
         fine_bind m vars (fine_values more known y.1 V u st.good (all_known known s u st.keeps k)) (λ X z st' vs q'.
         fine_give m vars st'.good (v ∷ vs) (has_still m.classes.classes V X st'.grows (type_of e) v (is_got m e V u v q), q')))
 
-    fine_chain : (more : Comparisons) (a : TypedExpr) (known : List ℕ) → chain_typed m vars init known a more ≡ true → (W : World) (s : State) → Good m vars W s → NotNone known s.locals → (x : Value) → Has m.classes.classes (type_of a) W x
+    fine_chain : (more : Comparisons) (a : TypedExpr) (known : List ℕ) → chain_typed m vars init known a more ≡ true → (W : World utf8) (s : State) → Good m vars W s → NotNone known s.locals → (x : Value) → Has m.classes.classes (type_of a) W x
         → Fine m vars Value [] W s (λ V u v. Has m.classes.classes sort.Bool V v × ChainIs x more v) (watched.chain watch m.classes.classes c' m.globals vars (type_of a) x more) (official.chain m.classes.classes c m.globals vars (type_of a) x more)
     fine_chain no_comparisons a known p W s g k x h = fine_give m vars g (BoolVal true) ((true, refl), refl)
     fine_chain (comparison_then op e more) a known p W s g k x h =
@@ -433,7 +434,7 @@ module _ (m : TypedModule) (sound : Facts m) (watch : Watch) {c' c : Calls} (cal
         (λ Y o st'' w j. (j.0, lift_true op e x v w more (subst (PairIs op x) is l) j.1)))
         (λ is. fine_give m vars st'.good (BoolVal false) ((false, refl), lift_false op e x more (subst (PairIs op x) is l)))))
 
-    fine_entries : (es : Entries) (j t : Sort) (known : List ℕ) → entries_typed m vars init known es ≡ true → all_of m vars init j (keys_of m vars init es) ≡ true → all_of m vars init t (values_of m vars init es) ≡ true → (W : World) (s : State) → Good m vars W s → NotNone known s.locals
+    fine_entries : (es : Entries) (j t : Sort) (known : List ℕ) → entries_typed m vars init known es ≡ true → all_of m vars init j (keys_of m vars init es) ≡ true → all_of m vars init t (values_of m vars init es) ≡ true → (W : World utf8) (s : State) → Good m vars W s → NotNone known s.locals
         → Fine m vars (List (Value × Value)) [] W s (λ V u ps. EachPair m.classes.classes j t V ps) (watched.entries watch m.classes.classes c' m.globals vars es) (official.entries m.classes.classes c m.globals vars es)
     fine_entries no_entries j t known p a b W s g k = fine_give m vars g [] tt
     fine_entries (entry_then e f more) j t known p a b W s g k =
@@ -446,7 +447,7 @@ module _ (m : TypedModule) (sound : Facts m) (watch : Watch) {c' c : Calls} (cal
         fine_give m vars st''.good ((v, v') ∷ ps)
         ((has_still m.classes.classes X Y st''.grows j v (has_still m.classes.classes V X st'.grows j v (to_type V (type_of e) j v a'.0 (is_got m e V u v q))), has_still m.classes.classes X Y st''.grows t v' (to_type X (type_of f) t v' b'.0 (is_got m f X z v' q'))), q''))))
 
-    fine_text : (e : MaybeExpr) (known : List ℕ) → maybe_value m vars init known e ≡ true → exception_text m vars init e ≡ true → (W : World) (s : State) → Good m vars W s → NotNone known s.locals
-        → Fine m vars Value [] W s (λ V u v. (text : List ℕ) × (v ≡ StrVal text)) (watched.text_or_empty watch m.classes.classes c' m.globals vars e) (official.text_or_empty m.classes.classes c m.globals vars e)
-    fine_text no_expr known p h W s g k = fine_give m vars g (StrVal []) ([], refl)
+    fine_text : (e : MaybeExpr) (known : List ℕ) → maybe_value m vars init known e ≡ true → exception_text m vars init e ≡ true → (W : World utf8) (s : State) → Good m vars W s → NotNone known s.locals
+        → Fine m vars Value [] W s (λ V u v. (text : List ℕ) × (v ≡ StrVal text) × IsText utf8 text) (watched.text_or_empty watch m.classes.classes c' m.globals vars e) (official.text_or_empty m.classes.classes c m.globals vars e)
+    fine_text no_expr known p h W s g k = fine_give m vars g (StrVal []) ([], refl, λ q. ascii_text [] refl)
     fine_text (some_expr e) known p h W s g k = fine_map m vars (fine_value e false known p W s g k) (λ V u st v q. to_type V (type_of e) sort.Str v h (is_got m e V u v q))

@@ -1,7 +1,9 @@
 -- Modules that are not well typed, one for each place where a run is watched: by the meaning alone it goes on, and watched for shapes it
 -- is stuck at the value that has not its type's shape.
 use Rattle.std.proofs.Common.{◌≡◌, ℕ, ◌^◌, pos, false, true, List, [], ◌∷◌, Option, Some, None, refl, codes}
+use Rattle.std.proofs.Math.Utf8.{encode}
 use Rattle.std.specs.Fmt.{digits}
+use Rattle.std.specs.Str.{is_utf8, chars}
 use Rattle.value_core.specs.Ending.{Ending, Done}
 use Rattle.value_core.specs.Items.{Eof}
 use Rattle.py_syntax.specs.declared.expression.BinOp.TheVariants.{Add}
@@ -14,6 +16,7 @@ use Rattle.source_meaning.specs.SourceRun.{source_run}
 use Rattle.source_meaning.proofs.samples.Building.{as_type, num, text, flag, g, call, list, print, set, ◌▸◌, end, func, module_of, plain, seen, most, run}
 use Rattle.source_soundness.specs.Watched.{watched_run}
 use Rattle.source_soundness.specs.Shapes.{shapes}
+use Rattle.source_soundness.specs.Texts.{utf8_texts}
 
 abbrev watched : TypedModule → List ℕ × Option Ending
 watched m = seen (watched_run (shapes m.classes.classes) m most Eof)
@@ -165,3 +168,17 @@ argument_runs = refl
 argument_stops : watched text_passed ≡ ([], None)
 unfolding watched_run
 argument_stops = refl
+
+-- ---- texts
+
+-- print("..."), where the bytes of the text are none in UTF-8
+abbrev bytes_printed : TypedModule
+bytes_printed = plain [] (print (text (255 ∷ []) ∷ []) ▸ end)
+
+bytes_run : run bytes_printed ≡ (255 ∷ 10 ∷ [], Some Done)
+unfolding source_run
+bytes_run = refl
+
+bytes_stop : seen (watched_run utf8_texts bytes_printed most Eof) ≡ ([], None)
+unfolding watched_run is_utf8 chars encode
+bytes_stop = refl

@@ -1,12 +1,10 @@
 -- Each well-typed statement is fine.
 -- The letters are those of `Fine`.
-use Rattle.std.proofs.Common.{◌≡◌, ℕ, suc, ◌<◌, ◌^◌, ◌-◌, ℤ, pos, map, Bool, true, false, not, ◌&&◌, ◌||◌, ◌==◌, List, [], ◌∷◌, ◌++◌, length, Option, Some, None, refl, sym, ap, subst, ◌∙◌, ◌⊎◌, inl, inr, if◌then◌else◌, nat_lt, slice_get, arith}
+use Rattle.std.proofs.Common.{codes, ◌≡◌, ℕ, suc, ◌<◌, ◌^◌, ◌-◌, ℤ, pos, map, Bool, true, false, not, ◌&&◌, ◌||◌, ◌==◌, List, [], ◌∷◌, ◌++◌, length, Option, Some, None, refl, sym, ap, subst, ◌∙◌, ◌⊎◌, inl, inr, if◌then◌else◌, nat_lt, slice_get, arith}
 use Rattle.std.proofs.lemmas.Bool.Decides.{nat_tests}
 use Rattle.std.specs.List.{list_all}
 use Rattle.std.specs.Prelude.{negsuc, int_lt, ◌≤ℤ◌, ◌<ℤ◌, ◌+ℤ◌}
 use Rattle.std.proofs.lemmas.Int.{ints}
-use Rattle.std.proofs.lemmas.Option.{slice_get-map}
-use Rattle.std.specs.Option.{option_map}
 use Rattle.value_core.specs.Arithmetic.{lies_within}
 use Rattle.value_core.specs.declared.exception.ExcClass.{ExcClass}
 use Rattle.value_core.specs.declared.exception.ExcClass.TheVariants.{Exception, ArithmeticError, ZeroDivisionError, OverflowError, LookupError, IndexError, KeyError, NameError, UnboundLocalError, ValueError, TypeError, AttributeError, AssertionError, RuntimeError, EOFError}
@@ -20,7 +18,7 @@ use Rattle.py_typed.specs.Statements.{Variable, TypedTarget, LocalTarget, Global
 use Rattle.py_typed.specs.TargetTypes.{item_sort, key_sort}
 use Rattle.source_meaning.specs.WaysOut.{Flow, Goes, Breaks, Continues, Returns, raise_again, raise_value, catches, loop}
 use Rattle.source_meaning.specs.State.{State, Gives, ◌>>◌, Does, Calls, ◌>>=◌, give}
-use Rattle.source_meaning.specs.Operations.{truth_of, has_text, counted, with_number}
+use Rattle.source_meaning.specs.Operations.{truth_of, has_text, text_of, counted, with_number}
 use Rattle.source_meaning.specs.StatementMeaning as official
 use Rattle.py_typed.specs.Narrowing.{is_in, facts, own_sort, shared, without, bound_by_all, bound_by_name, after_target, part_sorts, bound, bound_in, bound_suite, bound_arms, bound_handlers, bound_last, breaks, breaks_in, breaks_suite, breaks_arms, breaks_handlers, breaks_last, is_true_literal, closes, closes_in, is_closed, closed_arms, closed_handlers, closed_last, or_shared, known_at_end, after, after_act, after_suite, after_arms}
 use Rattle.py_typed.specs.WellTypedExpr.{parts_typed, rule, suits, is_result_type, is_empty_call, is_typed, is_none_literal, is_exception, indexed, is_value}
@@ -29,6 +27,10 @@ use Rattle.py_typed.proofs.FitLemmas.{one_type, fits_itself, nothing_is}
 use Rattle.py_typed.proofs.ClassLemmas.{or_left, or_right, or_cases}
 use Rattle.source_soundness.specs.Watched as watched
 use Rattle.source_soundness.specs.Watched.{Watch}
+use Rattle.std.specs.Str.{is_utf8}
+use Rattle.std.proofs.lemmas.Option.{slice_get-map}
+use Rattle.std.specs.Option.{option_map}
+use Rattle.source_soundness.proofs.TextLemmas.{ascii_text}
 use Rattle.source_soundness.proofs.Worlds.{World, Has, has_still, held, Grows}
 use Rattle.source_soundness.proofs.Fine.{Good, Fine, NotNone, Keeps, Passes, IsThrown, fine_bind, fine_map, fine_more, fine_kept, fine_watched, fine_give, fine_new, fine_if, fine_needs, fine_sure, AllThrown, fine_raise}
 use Rattle.source_soundness.proofs.FitValues.{same_has}
@@ -74,32 +76,32 @@ every_exception AssertionError = refl
 every_exception RuntimeError = refl
 every_exception EOFError = refl
 
-module _ (m : TypedModule) (sound : Facts m) (watch : Watch) {c' c : Calls} (calls : CallsFine m c' c) (vars : List Variable) (passes : Passes m vars watch)
+module _ {utf8 : Bool} (m : TypedModule) (sound : Facts m) (watch : Watch) {c' c : Calls} (calls : CallsFine m utf8 c' c) (vars : List Variable) (passes : Passes utf8 m vars watch)
     (init : Option ℕ) (self : (d : ℕ) → init ≡ Some d → (x : Variable) × (slice_get vars 0 ≡ Some x) × (x.1 ≡ sort.Instance d)) (result : Option Sort) where
   abbrev single : List TypedTarget → Sort → Bool
   single ts a = typing.is_single m vars init result ts a
 
-  abbrev FS : Bool → Bool → Bool → List ℕ → World → State → Flow → Type 0
+  abbrev FS : Bool → Bool → Bool → List ℕ → World utf8 → State → Flow → Type 0
   FS l b c names V u f = FlowIs m result l b c names V u f
 
   -- a part that leaves no None where the names are, and may leave others
-  abbrev Ends : Bool → Bool → Bool → List ℕ → List ℕ → World → State → Does Flow → Does Flow → Type 0
+  abbrev Ends : Bool → Bool → Bool → List ℕ → List ℕ → World utf8 → State → Does Flow → Does Flow → Type 0
   Ends l b c B names W s d e = Fine m vars Flow B W s (FS l b c names) d e
 
-  flow_names : (l b c : Bool) (n1 n2 : List ℕ) (V : World) (u : State) (f : Flow) → (c ≡ false → NotNone n1 u.locals → NotNone n2 u.locals) → FS l b c n1 V u f → FS l b c n2 V u f
+  flow_names : (l b c : Bool) (n1 n2 : List ℕ) (V : World utf8) (u : State) (f : Flow) → (c ≡ false → NotNone n1 u.locals → NotNone n2 u.locals) → FS l b c n1 V u f → FS l b c n2 V u f
   flow_names l b c n1 n2 V u Goes h p = (p.0, h p.0 p.1)
   flow_names l b c n1 n2 V u Breaks h p = p
   flow_names l b c n1 n2 V u Continues h p = p
   flow_names l b c n1 n2 V u (Returns v) h p = p
 
   -- one of several arms or handlers
-  flow_left : (l b1 b2 c1 c2 : Bool) (names : List ℕ) (V : World) (u : State) (f : Flow) → FS l b1 c1 names V u f → FS l (b1 || b2) (c1 && c2) names V u f
+  flow_left : (l b1 b2 c1 c2 : Bool) (names : List ℕ) (V : World utf8) (u : State) (f : Flow) → FS l b1 c1 names V u f → FS l (b1 || b2) (c1 && c2) names V u f
   flow_left l b1 b2 c1 c2 names V u Goes p = (and_left_false c1 c2 p.0, p.1)
   flow_left l b1 b2 c1 c2 names V u Breaks p = (p.0, or_left b1 b2 p.1)
   flow_left l b1 b2 c1 c2 names V u Continues p = p
   flow_left l b1 b2 c1 c2 names V u (Returns v) p = p
 
-  flow_right : (l b1 b2 c1 c2 : Bool) (names : List ℕ) (V : World) (u : State) (f : Flow) → FS l b2 c2 names V u f → FS l (b1 || b2) (c1 && c2) names V u f
+  flow_right : (l b1 b2 c1 c2 : Bool) (names : List ℕ) (V : World utf8) (u : State) (f : Flow) → FS l b2 c2 names V u f → FS l (b1 || b2) (c1 && c2) names V u f
   flow_right l b1 b2 c1 c2 names V u Goes p = (and_right_false c1 c2 p.0, p.1)
   flow_right l b1 b2 c1 c2 names V u Breaks p = (p.0, or_right b1 b2 p.1)
   flow_right l b1 b2 c1 c2 names V u Continues p = p
@@ -107,20 +109,20 @@ module _ (m : TypedModule) (sound : Facts m) (watch : Watch) {c' c : Calls} (cal
 
   -- ---- expressions
 
-  val : (e : TypedExpr) (known : List ℕ) → is_value m vars init known e ≡ true → (W : World) (s : State) → Good m vars W s → NotNone known s.locals → Value_fine m sound watch calls vars passes init self W s e
+  val : (e : TypedExpr) (known : List ℕ) → is_value m vars init known e ≡ true → (W : World utf8) (s : State) → Good m vars W s → NotNone known s.locals → Value_fine m sound watch calls vars passes init self W s e
   val e known h W s g k = value m sound watch calls vars passes init self result e known h W s g k
 
-  fine_alone : (e : TypedExpr) (known : List ℕ) → is_typed m vars init known e ≡ true → (W : World) (s : State) → Good m vars W s → NotNone known s.locals → Value_fine m sound watch calls vars passes init self W s e
+  fine_alone : (e : TypedExpr) (known : List ℕ) → is_typed m vars init known e ≡ true → (W : World utf8) (s : State) → Good m vars W s → NotNone known s.locals → Value_fine m sound watch calls vars passes init self W s e
   fine_alone (typed n t place) known h W s g k =
       let r = four (parts_typed m vars init false known n) (rule m vars init known n t) (suits false n t) (is_result_type (length m.classes.classes) t) h in
       fine_watched m vars watch passes t (λ V u v p. p.0) (fine_node m sound watch calls vars passes init self n t false known r.0 r.1 W s g k)
 
-  literal_true : (e : TypedExpr) (V : World) (u : State) (v : Value) (h : Bool) → GetsValue m e V u v → truth_of v u ≡ Gives h u → is_true_literal e ≡ true → h ≡ true
+  literal_true : (e : TypedExpr) (V : World utf8) (u : State) (v : Value) (h : Bool) → GetsValue m e V u v → truth_of v u ≡ Gives h u → is_true_literal e ≡ true → h ≡ true
   literal_true (typed (Flag b) t place) V u v h got q e = sym (same_gives b h u (sym (ap (λ z. truth_of z u) got.2) ∙ q)) ∙ e
   literal_true (typed _ t place) V u v h got q e = absurd (cc)
 
   -- a test, and what it tells
-  fine_test : (e : TypedExpr) (known : List ℕ) → typing.is_test m vars init result known e ≡ true → (W : World) (s : State) → Good m vars W s → NotNone known s.locals
+  fine_test : (e : TypedExpr) (known : List ℕ) → typing.is_test m vars init result known e ≡ true → (W : World utf8) (s : State) → Good m vars W s → NotNone known s.locals
       → Fine m vars Bool [] W s (λ V u h. NotNone (facts h e) u.locals × (is_true_literal e ≡ true → h ≡ true)) (watched.test_of watch m.classes.classes c' m.globals vars e) (official.test_of m.classes.classes c m.globals vars e)
   fine_test e known p W s g k =
       fine_bind m vars (fine_value m sound watch calls vars passes init self e true known p W s g k) (λ V u st v q.
@@ -176,7 +178,7 @@ module _ (m : TypedModule) (sound : Facts m) (watch : Watch) {c' c : Calls} (cal
     -- a body that is fine
     abbrev SuiteFine : Bool → Bool → TypedSuite → Type 0
     SuiteFine looping handling body =
-        (known : List ℕ) → typing.suite_typed m vars init result known looping handling body ≡ true → (W : World) (s : State) → Good m vars W s → NotNone known s.locals → Handles handling s
+        (known : List ℕ) → typing.suite_typed m vars init result known looping handling body ≡ true → (W : World utf8) (s : State) → Good m vars W s → NotNone known s.locals → Handles handling s
         → Ends looping (breaks_suite body) (is_closed body) (bound_suite body) (after_suite single known body) W s (Suite body) (Suite₀ body)
 
     -- ---- arms
@@ -222,10 +224,10 @@ module _ (m : TypedModule) (sound : Facts m) (watch : Watch) {c' c : Calls} (cal
     -- ---- loops
 
     -- what a loop's body leaves for the next turn
-    ends_body : (l b cl : Bool) (names N B : List ℕ) (V : World) (u z : State) → ((i : ℕ) → is_in N i ≡ true → is_in B i ≡ false) → NotNone N u.locals → Keeps B u z → NotNone N z.locals
+    ends_body : (l b cl : Bool) (names N B : List ℕ) (V : World utf8) (u z : State) → ((i : ℕ) → is_in N i ≡ true → is_in B i ≡ false) → NotNone N u.locals → Keeps B u z → NotNone N z.locals
     ends_body l b cl names N B V u z out k keeps = still_known B N u z keeps out k
 
-    fine_while : (test : TypedExpr) (body : TypedSuite) (known : List ℕ) (looping handling : Bool) → SuiteFine true handling body → typing.act_typed m vars init result known looping handling (While test body) ≡ true → (W : World) (s : State) → Good m vars W s → NotNone known s.locals → Handles handling s
+    fine_while : (test : TypedExpr) (body : TypedSuite) (known : List ℕ) (looping handling : Bool) → SuiteFine true handling body → typing.act_typed m vars init result known looping handling (While test body) ≡ true → (W : World utf8) (s : State) → Good m vars W s → NotNone known s.locals → Handles handling s
         → Ends looping false (closes_in (While test body)) (bound_suite body) (after_act single known (While test body)) W s (watched.act watch m.classes.classes c' m.globals vars n (While test body)) (official.act m.classes.classes c m.globals vars n (While test body))
     fine_while test body known looping handling run p W s g k hd =
         let y = three (typing.is_test m vars init result (without (bound_suite body) known) test) (typing.is_body m vars init result body) (typing.suite_typed m vars init result (facts true test ++ without (bound_suite body) known) true handling body) p in
@@ -256,7 +258,7 @@ module _ (m : TypedModule) (sound : Facts m) (watch : Watch) {c' c : Calls} (cal
         broken true z e h q = (and_right_false (is_true_literal test) false refl, q)
         broken false z e h q = absurd (cc)
 
-        body_ends : (f : Flow) (X : World) (z : State) → NotNone (without (bound_suite body) known) z.locals → Handles handling z → FS true (breaks_suite body) (is_closed body) (after_suite single (facts true test ++ without (bound_suite body) known) body) X z f
+        body_ends : (f : Flow) (X : World utf8) (z : State) → NotNone (without (bound_suite body) known) z.locals → Handles handling z → FS true (breaks_suite body) (is_closed body) (after_suite single (facts true test ++ without (bound_suite body) known) body) X z f
             → BodyIs m result vars {X = ℕ} (bound_suite body) (λ i V u. NotNone (without (bound_suite body) known) u.locals × Handles handling u) (λ i V u. NotNone (facts true test ++ without (bound_suite body) known) u.locals × Handles handling u) (FS looping false (closes_in (While test body)) (after_act single known (While test body))) (λ i. watched.test_of watch m.classes.classes c' m.globals vars test) (λ i. official.test_of m.classes.classes c m.globals vars test) (λ i. Suite body) (λ i. Suite₀ body) (λ i. i) 0 X z f
         body_ends Goes X z k hd q = (k, hd)
         body_ends Continues X z k hd q = (k, hd)
@@ -286,7 +288,7 @@ module _ (m : TypedModule) (sound : Facts m) (watch : Watch) {c' c : Calls} (cal
       Known = bound_known m sound watch calls vars passes init self result Kept ts a a
 
       -- an item for the targets
-      fine_item_bound : (V : World) (u : State) → Good m vars V u → NotNone Kept u.locals → (v : Value) → Has m.classes.classes a V v
+      fine_item_bound : (V : World utf8) (u : State) → Good m vars V u → NotNone Kept u.locals → (v : Value) → Has m.classes.classes a V v
           → Fine m vars (Unit {0}) Loses V u (λ X z x. NotNone Known z.locals) (watched.bind watch m.classes.classes c' m.globals vars ts a v) (official.bind m.classes.classes c m.globals vars ts a v)
       fine_item_bound V u g k v h =
           let y = four (typing.is_filled m vars init result ts) (list_all (typing.is_name m vars init result) ts) (list_all (typing.target_typed m vars init result known) ts) (typing.binding_fits m vars init result ts a) fit in
@@ -294,7 +296,7 @@ module _ (m : TypedModule) (sound : Facts m) (watch : Watch) {c' c : Calls} (cal
           (fine_targets m sound watch calls vars passes init self result ts a a v Kept y.0 (names_typed ts (part_sorts a) known Kept y.1 y.2) y.3 V u g k h (λ no. not_none m a V v no h))
 
       -- and the body behind it
-      fine_turn : (V : World) (u : State) → NotNone Kept u.locals → Handles handling u → {d e : Does (Unit {0})} → Fine m vars (Unit {0}) Loses V u (λ X z x. NotNone Known z.locals) d e
+      fine_turn : (V : World utf8) (u : State) → NotNone Kept u.locals → Handles handling u → {d e : Does (Unit {0})} → Fine m vars (Unit {0}) Loses V u (λ X z x. NotNone Known z.locals) d e
           → Fine m vars Flow Loses V u (λ X z f. FS true (breaks_suite body) (is_closed body) [] X z f × NotNone Kept z.locals × Handles handling z × Grows V X) (d >> Suite body) (e >> Suite₀ body)
       fine_turn V u k hd p =
           fine_map m vars (fine_bind m vars p (λ X z st x q.
@@ -303,8 +305,8 @@ module _ (m : TypedModule) (sound : Facts m) (watch : Watch) {c' c : Calls} (cal
           (λ X z st f q. (flow_names true (breaks_suite body) (is_closed body) (after_suite single (typing.in_loop_from m vars init result known ts a body) body) [] X z f (λ cl h. none_known z.locals) q, lost_known u z st.keeps k, still_handles handling u z st.keeps hd, st.grows))
 
       -- how such a body ends
-      module _ (looping : Bool) {X : Type 0} (Inv Body : X → World → State → Type 0) (test test' : X → Does Bool) (run' run'' : X → Does Flow) (next : X → X) where
-        turn_ends : (x : X) (f : Flow) (V : World) (u : State) → FS true (breaks_suite body) (is_closed body) [] V u f → NotNone Kept u.locals → Inv (next x) V u
+      module _ (looping : Bool) {X : Type 0} (Inv Body : X → World utf8 → State → Type 0) (test test' : X → Does Bool) (run' run'' : X → Does Flow) (next : X → X) where
+        turn_ends : (x : X) (f : Flow) (V : World utf8) (u : State) → FS true (breaks_suite body) (is_closed body) [] V u f → NotNone Kept u.locals → Inv (next x) V u
             → BodyIs m result vars Loses Inv Body (FS looping false false Kept) test test' run' run'' next x V u f
         turn_ends x Goes V u q k i = i
         turn_ends x Continues V u q k i = i
@@ -327,20 +329,20 @@ module _ (m : TypedModule) (sound : Facts m) (watch : Watch) {c' c : Calls} (cal
     dict_type _ e = absurd (cc)
 
     -- a list stays one, and a place in it was tested
-    abbrev ListInv : List ℕ → Bool → Value → Sort → ℕ → World → State → Type 0
+    abbrev ListInv : List ℕ → Bool → Value → Sort → ℕ → World utf8 → State → Type 0
     ListInv N handling l a i X z = NotNone N z.locals × Handles handling z × Has m.classes.classes (sort.ListOf a) X l
 
-    abbrev ListBody : List ℕ → Bool → Value → Sort → ℕ → World → State → Type 0
+    abbrev ListBody : List ℕ → Bool → Value → Sort → ℕ → World utf8 → State → Type 0
     ListBody N handling l a i X z = NotNone N z.locals × Handles handling z × Has m.classes.classes (sort.ListOf a) X l × ((j : ℕ) (vs : List Value) → l ≡ ObjVal j → slice_get z.store j ≡ Some (ListObj vs) → i < length vs)
 
-    fine_for_list : (ts : List TypedTarget) (e : TypedExpr) (body : TypedSuite) (known : List ℕ) (looping handling : Bool) → SuiteFine true handling body → typing.act_typed m vars init result known looping handling (ForList ts e body) ≡ true → (W : World) (s : State) → Good m vars W s → NotNone known s.locals → Handles handling s
+    fine_for_list : (ts : List TypedTarget) (e : TypedExpr) (body : TypedSuite) (known : List ℕ) (looping handling : Bool) → SuiteFine true handling body → typing.act_typed m vars init result known looping handling (ForList ts e body) ≡ true → (W : World utf8) (s : State) → Good m vars W s → NotNone known s.locals → Handles handling s
         → Ends looping false false (bound_by_all ts ++ bound_suite body) (without (bound_by_all ts ++ bound_suite body) known) W s (watched.act watch m.classes.classes c' m.globals vars n (ForList ts e body)) (official.act m.classes.classes c m.globals vars n (ForList ts e body))
     fine_for_list ts e body known looping handling run p W s g k hd =
         let y = five (is_value m vars init known e) (typing.is_list_type m vars init result (type_of e)) (typing.items_fit m vars init result known ts (item_sort (type_of e))) (typing.is_body m vars init result body) (typing.suite_typed m vars init result (typing.in_loop_from m vars init result known ts (item_sort (type_of e)) body) true handling body) p in
         fine_bind m vars (fine_kept m vars (bound_by_all ts ++ bound_suite body) (val e known y.0 W s g k)) (λ V u st l q.
         over (item_sort (type_of e)) y.2 y.4 l V u st.good (first_known ts (item_sort (type_of e)) body known handling run y.2 y.4 u (all_known known s u q.0.keeps k)) (still_handles handling s u st.keeps hd) (subst (λ z. Has m.classes.classes z V l) (list_type (type_of e) y.1) (is_got m e V u l q.1)))
       where
-        over : (a : Sort) (fit : typing.items_fit m vars init result known ts a ≡ true) (tb : typing.suite_typed m vars init result (typing.in_loop_from m vars init result known ts a body) true handling body ≡ true) (l : Value) (V : World) (u : State) → Good m vars V u → NotNone (without (bound_by_all ts ++ bound_suite body) known) u.locals → Handles handling u → Has m.classes.classes (sort.ListOf a) V l
+        over : (a : Sort) (fit : typing.items_fit m vars init result known ts a ≡ true) (tb : typing.suite_typed m vars init result (typing.in_loop_from m vars init result known ts a body) true handling body ≡ true) (l : Value) (V : World utf8) (u : State) → Good m vars V u → NotNone (without (bound_by_all ts ++ bound_suite body) known) u.locals → Handles handling u → Has m.classes.classes (sort.ListOf a) V l
             → Ends looping false false (bound_by_all ts ++ bound_suite body) (without (bound_by_all ts ++ bound_suite body) known) V u
             (loop {X = ℕ} (suc n) (official.list_goes_on m.classes.classes c' m.globals vars l) (λ i. official.list_next m.classes.classes c' m.globals vars l i >>= watch a >>= watched.bind watch m.classes.classes c' m.globals vars ts a >> Suite body) suc 0)
             (loop {X = ℕ} (suc n) (official.list_goes_on m.classes.classes c m.globals vars l) (λ i. official.list_next m.classes.classes c m.globals vars l i >>= official.bind m.classes.classes c m.globals vars ts a >> Suite₀ body) suc 0)
@@ -371,13 +373,13 @@ module _ (m : TypedModule) (sound : Facts m) (watch : Watch) {c' c : Calls} (cal
 
     -- ---- dicts
 
-    abbrev DictInv : List ℕ → Bool → Value → Sort → Sort → ℕ → World → State → Type 0
+    abbrev DictInv : List ℕ → Bool → Value → Sort → Sort → ℕ → World utf8 → State → Type 0
     DictInv N handling d a t i X z = NotNone N z.locals × Handles handling z × Has m.classes.classes (sort.DictOf a t) X d
 
-    abbrev DictBody : List ℕ → Bool → Value → Sort → Sort → ℕ → World → State → Type 0
+    abbrev DictBody : List ℕ → Bool → Value → Sort → Sort → ℕ → World utf8 → State → Type 0
     DictBody N handling d a t i X z = NotNone N z.locals × Handles handling z × Has m.classes.classes (sort.DictOf a t) X d × ((j : ℕ) (ps : List (Value × Value)) → d ≡ ObjVal j → slice_get z.store j ≡ Some (DictObj ps) → i < length ps)
 
-    fine_for_dict : (ts : List TypedTarget) (e : TypedExpr) (body : TypedSuite) (known : List ℕ) (looping handling : Bool) → SuiteFine true handling body → typing.act_typed m vars init result known looping handling (ForDict ts e body) ≡ true → (W : World) (s : State) → Good m vars W s → NotNone known s.locals → Handles handling s
+    fine_for_dict : (ts : List TypedTarget) (e : TypedExpr) (body : TypedSuite) (known : List ℕ) (looping handling : Bool) → SuiteFine true handling body → typing.act_typed m vars init result known looping handling (ForDict ts e body) ≡ true → (W : World utf8) (s : State) → Good m vars W s → NotNone known s.locals → Handles handling s
         → Ends looping false false (bound_by_all ts ++ bound_suite body) (without (bound_by_all ts ++ bound_suite body) known) W s (watched.act watch m.classes.classes c' m.globals vars n (ForDict ts e body)) (official.act m.classes.classes c m.globals vars n (ForDict ts e body))
     fine_for_dict ts e body known looping handling run p W s g k hd =
         let y = five (is_value m vars init known e) (typing.is_dict_type m vars init result (type_of e)) (typing.items_fit m vars init result known ts (key_sort (type_of e))) (typing.is_body m vars init result body) (typing.suite_typed m vars init result (typing.in_loop_from m vars init result known ts (key_sort (type_of e)) body) true handling body) p in
@@ -386,7 +388,7 @@ module _ (m : TypedModule) (sound : Facts m) (watch : Watch) {c' c : Calls} (cal
         fine_dict m vars (bound_by_all ts ++ bound_suite body) st.good (key_sort (type_of e)) (item_sort (type_of e)) d _ _ h (λ j ps is w got each.
         over (key_sort (type_of e)) (item_sort (type_of e)) y.2 y.4 d (length ps) V u st.good (first_known ts (key_sort (type_of e)) body known handling run y.2 y.4 u (all_known known s u q.0.keeps k)) (still_handles handling s u st.keeps hd) h))
       where
-        over : (a t : Sort) (fit : typing.items_fit m vars init result known ts a ≡ true) (tb : typing.suite_typed m vars init result (typing.in_loop_from m vars init result known ts a body) true handling body ≡ true) (d : Value) (size : ℕ) (V : World) (u : State) → Good m vars V u → NotNone (without (bound_by_all ts ++ bound_suite body) known) u.locals → Handles handling u → Has m.classes.classes (sort.DictOf a t) V d
+        over : (a t : Sort) (fit : typing.items_fit m vars init result known ts a ≡ true) (tb : typing.suite_typed m vars init result (typing.in_loop_from m vars init result known ts a body) true handling body ≡ true) (d : Value) (size : ℕ) (V : World utf8) (u : State) → Good m vars V u → NotNone (without (bound_by_all ts ++ bound_suite body) known) u.locals → Handles handling u → Has m.classes.classes (sort.DictOf a t) V d
             → Ends looping false false (bound_by_all ts ++ bound_suite body) (without (bound_by_all ts ++ bound_suite body) known) V u
             (loop {X = ℕ} (suc n) (official.dict_goes_on m.classes.classes c' m.globals vars d size) (λ i. official.dict_next m.classes.classes c' m.globals vars d i >>= watch a >>= watched.bind watch m.classes.classes c' m.globals vars ts a >> Suite body) suc 0)
             (loop {X = ℕ} (suc n) (official.dict_goes_on m.classes.classes c m.globals vars d size) (λ i. official.dict_next m.classes.classes c m.globals vars d i >>= official.bind m.classes.classes c m.globals vars ts a >> Suite₀ body) suc 0)
@@ -400,7 +402,7 @@ module _ (m : TypedModule) (sound : Facts m) (watch : Watch) {c' c : Calls} (cal
             (λ i X z good p. fine_dict m vars (bound_by_all ts ++ bound_suite body) good a t d _ _ p.2 (λ j ps is w got each.
             fine_if m vars (counted (length ps) == counted size)
             (λ same. fine_give m vars good (nat_lt i (counted (length ps))) ((λ b. (p.0, p.1, p.2, λ j' ps' is' got'. long i j j' ps ps' z (same_place j j' (sym is ∙ is')) got got' (count_less i (length ps) b))), (λ b. (refl, p.0))))
-            (λ other. fine_new m vars good _ _)))
+            (λ other. fine_new m vars good _ (codes "dictionary changed size during iteration") (λ q. ascii_text (codes "dictionary changed size during iteration") refl))))
             (λ i X z good p. fine_map m vars (fine_turn ts a body known handling run fit tb X z p.0 p.1
             (fine_bind m vars (fine_kept m vars (bound_by_all ts ++ bound_suite body) (fine_watched m vars watch passes a (λ Y y v q. q) (fine_dict m vars [] good a t d _ _ p.2 (λ j ps is w got each.
             let there : _ = got_within ps i (p.3 j ps is got) in
@@ -428,11 +430,11 @@ module _ (m : TypedModule) (sound : Facts m) (watch : Watch) {c' c : Calls} (cal
         by (inr e) = inr (one_type t sort.I64 e)
 
     -- a number of a type of ranges
-    number_of : (t : Sort) (V : World) (v : Value) → (t ≡ sort.Int) ⊎ (t ≡ sort.I64) → Has m.classes.classes t V v → (i : ℤ) × (v ≡ IntVal i)
+    number_of : (t : Sort) (V : World utf8) (v : Value) → (t ≡ sort.Int) ⊎ (t ≡ sort.I64) → Has m.classes.classes t V v → (i : ℤ) × (v ≡ IntVal i)
     number_of t V v (inl e) h = let x : _ = subst (λ z. Has m.classes.classes z V v) e h in (x.0, x.1)
     number_of t V v (inr e) h = let x : _ = subst (λ z. Has m.classes.classes z V v) e h in (x.0, x.1)
 
-    zero_has : (t : Sort) (V : World) → (t ≡ sort.Int) ⊎ (t ≡ sort.I64) → Has m.classes.classes t V (IntVal (pos 0))
+    zero_has : (t : Sort) (V : World utf8) → (t ≡ sort.Int) ⊎ (t ≡ sort.I64) → Has m.classes.classes t V (IntVal (pos 0))
     zero_has t V (inl e) = subst (λ z. Has m.classes.classes z V (IntVal (pos 0))) (sym e) (pos 0, refl, refl)
     zero_has t V (inr e) = subst (λ z. Has m.classes.classes z V (IntVal (pos 0))) (sym e) (pos 0, refl, refl)
 
@@ -453,7 +455,7 @@ module _ (m : TypedModule) (sound : Facts m) (watch : Watch) {c' c : Calls} (cal
     within_native (negsuc i) (pos j) (pos k) a b l h = grind (arith, nat_tests, ints, b, h)
     within_native i (negsuc j) (pos k) a b l h = absurd (omega (arith, ints, h))
 
-    between : (t : Sort) (V : World) (i j k : ℤ) → (t ≡ sort.Int) ⊎ (t ≡ sort.I64) → Has m.classes.classes t V (IntVal i) → Has m.classes.classes t V (IntVal j) → i ≤ℤ k → k <ℤ j → Has m.classes.classes t V (IntVal k)
+    between : (t : Sort) (V : World utf8) (i j k : ℤ) → (t ≡ sort.Int) ⊎ (t ≡ sort.I64) → Has m.classes.classes t V (IntVal i) → Has m.classes.classes t V (IntVal j) → i ≤ℤ k → k <ℤ j → Has m.classes.classes t V (IntVal k)
     between t V i j k (inl e) h h' l b =
         let x : _ = subst (λ z. Has m.classes.classes z V (IntVal i)) e h in
         let y : _ = subst (λ z. Has m.classes.classes z V (IntVal j)) e h' in
@@ -474,20 +476,20 @@ module _ (m : TypedModule) (sound : Facts m) (watch : Watch) {c' c : Calls} (cal
     less_tested : (k j : ℤ) → int_lt k j ≡ true → k <ℤ j
     less_tested k j e = grind (arith, ints, e)
 
-    abbrev RangeInv : List ℕ → Bool → Sort → ℤ → ℤ → ℤ → World → State → Type 0
+    abbrev RangeInv : List ℕ → Bool → Sort → ℤ → ℤ → ℤ → World utf8 → State → Type 0
     RangeInv N handling t i j k X z = NotNone N z.locals × Handles handling z × Has m.classes.classes t X (IntVal i) × Has m.classes.classes t X (IntVal j) × (i ≤ℤ k)
 
-    abbrev RangeBody : List ℕ → Bool → Sort → ℤ → ℤ → ℤ → World → State → Type 0
+    abbrev RangeBody : List ℕ → Bool → Sort → ℤ → ℤ → ℤ → World utf8 → State → Type 0
     RangeBody N handling t i j k X z = NotNone N z.locals × Handles handling z × Has m.classes.classes t X (IntVal i) × Has m.classes.classes t X (IntVal j) × (i ≤ℤ k) × (k <ℤ j)
 
-    fine_value_or : (e : Option TypedExpr) (v : Value) (t : Sort) (known : List ℕ) → typing.maybe_of_type m vars init result known t e ≡ true → (W : World) (s : State) → Good m vars W s → NotNone known s.locals → Has m.classes.classes t W v
+    fine_value_or : (e : Option TypedExpr) (v : Value) (t : Sort) (known : List ℕ) → typing.maybe_of_type m vars init result known t e ≡ true → (W : World utf8) (s : State) → Good m vars W s → NotNone known s.locals → Has m.classes.classes t W v
         → Fine m vars Value [] W s (λ V u w. Has m.classes.classes t V w) (watched.value_or watch m.classes.classes c' m.globals vars v e) (official.value_or m.classes.classes c m.globals vars v e)
     fine_value_or None v t known p W s g k h = fine_give m vars g v h
     fine_value_or (Some e) v t known p W s g k h =
         let y = two (is_value m vars init known e) (is_same_type (type_of e) t) p in
         fine_map m vars (val e known y.0 W s g k) (λ V u st w q. subst (λ z. Has m.classes.classes z V w) (one_type (type_of e) t y.1) (is_got m e V u w q))
 
-    fine_for_range : (ts : List TypedTarget) (a : Option TypedExpr) (e : TypedExpr) (body : TypedSuite) (known : List ℕ) (looping handling : Bool) → SuiteFine true handling body → typing.act_typed m vars init result known looping handling (ForRange ts a e body) ≡ true → (W : World) (s : State) → Good m vars W s → NotNone known s.locals → Handles handling s
+    fine_for_range : (ts : List TypedTarget) (a : Option TypedExpr) (e : TypedExpr) (body : TypedSuite) (known : List ℕ) (looping handling : Bool) → SuiteFine true handling body → typing.act_typed m vars init result known looping handling (ForRange ts a e body) ≡ true → (W : World utf8) (s : State) → Good m vars W s → NotNone known s.locals → Handles handling s
         → Ends looping false false (bound_by_all ts ++ bound_suite body) (without (bound_by_all ts ++ bound_suite body) known) W s (watched.act watch m.classes.classes c' m.globals vars n (ForRange ts a e body)) (official.act m.classes.classes c m.globals vars n (ForRange ts a e body))
     fine_for_range ts a e body known looping handling run p W s g k hd =
         let y = six (is_value m vars init known e) (typing.is_range_type m vars init result (type_of e)) (typing.maybe_of_type m vars init result known (type_of e) a) (typing.items_fit m vars init result known ts (type_of e)) (typing.is_body m vars init result body) (typing.suite_typed m vars init result (typing.in_loop_from m vars init result known ts (type_of e) body) true handling body) p in
@@ -499,7 +501,7 @@ module _ (m : TypedModule) (sound : Facts m) (watch : Watch) {c' c : Calls} (cal
         from_numbers (type_of e) r y.3 y.5 x v i.0 j.0 i.1 j.1 X z st'.good (first_known ts (type_of e) body known handling run y.3 y.5 z (all_known known u z q'.0.keeps (all_known known s u q.0.keeps k))) (still_handles handling u z st'.keeps (still_handles handling s u st.keeps hd))
         (has_still m.classes.classes V X st'.grows (type_of e) x q.1) (is_got m e X z v q'.1)))
       where
-        over : (t : Sort) (r : (t ≡ sort.Int) ⊎ (t ≡ sort.I64)) (fit : typing.items_fit m vars init result known ts t ≡ true) (tb : typing.suite_typed m vars init result (typing.in_loop_from m vars init result known ts t body) true handling body ≡ true) (i j : ℤ) (V : World) (u : State) → Good m vars V u → NotNone (without (bound_by_all ts ++ bound_suite body) known) u.locals → Handles handling u → Has m.classes.classes t V (IntVal i) → Has m.classes.classes t V (IntVal j)
+        over : (t : Sort) (r : (t ≡ sort.Int) ⊎ (t ≡ sort.I64)) (fit : typing.items_fit m vars init result known ts t ≡ true) (tb : typing.suite_typed m vars init result (typing.in_loop_from m vars init result known ts t body) true handling body ≡ true) (i j : ℤ) (V : World utf8) (u : State) → Good m vars V u → NotNone (without (bound_by_all ts ++ bound_suite body) known) u.locals → Handles handling u → Has m.classes.classes t V (IntVal i) → Has m.classes.classes t V (IntVal j)
             → Ends looping false false (bound_by_all ts ++ bound_suite body) (without (bound_by_all ts ++ bound_suite body) known) V u
             (loop {X = ℤ} (suc n) (λ k. give (int_lt k j)) (λ k. watched.bind watch m.classes.classes c' m.globals vars ts t (IntVal k) >> Suite body) (λ k. k +ℤ pos 1) i)
             (loop {X = ℤ} (suc n) (λ k. give (int_lt k j)) (λ k. official.bind m.classes.classes c m.globals vars ts t (IntVal k) >> Suite₀ body) (λ k. k +ℤ pos 1) i)
@@ -515,7 +517,7 @@ module _ (m : TypedModule) (sound : Facts m) (watch : Watch) {c' c : Calls} (cal
             (q.1, q.2, has_still m.classes.classes X Y q.3 t (IntVal i) p.2, has_still m.classes.classes X Y q.3 t (IntVal j) p.3, next_up i k p.4)))
             (suc n) i V u g (k, hd, h, h', self_up i)
 
-        from_numbers : (t : Sort) (r : (t ≡ sort.Int) ⊎ (t ≡ sort.I64)) (fit : typing.items_fit m vars init result known ts t ≡ true) (tb : typing.suite_typed m vars init result (typing.in_loop_from m vars init result known ts t body) true handling body ≡ true) (x v : Value) (i j : ℤ) → x ≡ IntVal i → v ≡ IntVal j → (V : World) (u : State) → Good m vars V u → NotNone (without (bound_by_all ts ++ bound_suite body) known) u.locals → Handles handling u → Has m.classes.classes t V x → Has m.classes.classes t V v
+        from_numbers : (t : Sort) (r : (t ≡ sort.Int) ⊎ (t ≡ sort.I64)) (fit : typing.items_fit m vars init result known ts t ≡ true) (tb : typing.suite_typed m vars init result (typing.in_loop_from m vars init result known ts t body) true handling body ≡ true) (x v : Value) (i j : ℤ) → x ≡ IntVal i → v ≡ IntVal j → (V : World utf8) (u : State) → Good m vars V u → NotNone (without (bound_by_all ts ++ bound_suite body) known) u.locals → Handles handling u → Has m.classes.classes t V x → Has m.classes.classes t V v
             → Ends looping false false (bound_by_all ts ++ bound_suite body) (without (bound_by_all ts ++ bound_suite body) known) V u
             (with_number x (λ i. with_number v (λ j. loop {X = ℤ} (suc n) (λ k. give (int_lt k j)) (λ k. watched.bind watch m.classes.classes c' m.globals vars ts t (IntVal k) >> Suite body) (λ k. k +ℤ pos 1) i)))
             (with_number x (λ i. with_number v (λ j. loop {X = ℤ} (suc n) (λ k. give (int_lt k j)) (λ k. official.bind m.classes.classes c m.globals vars ts t (IntVal k) >> Suite₀ body) (λ k. k +ℤ pos 1) i)))
@@ -530,7 +532,7 @@ module _ (m : TypedModule) (sound : Facts m) (watch : Watch) {c' c : Calls} (cal
 
     -- ---- exceptions
 
-    exception_fits : (t : Sort) (W : World) (v : Value) → fits m.classes.classes (sort.Exc Exception) t ≡ true → Has m.classes.classes (sort.Exc Exception) W v → Has m.classes.classes t W v
+    exception_fits : (t : Sort) (W : World utf8) (v : Value) → fits m.classes.classes (sort.Exc Exception) t ≡ true → Has m.classes.classes (sort.Exc Exception) W v → Has m.classes.classes t W v
     exception_fits sort.Int W v e h = absurd (cc)
     exception_fits sort.I64 W v e h = absurd (cc)
     exception_fits (sort.Optional t) W v e h = inr (exception_fits t W v e h)
@@ -544,46 +546,46 @@ module _ (m : TypedModule) (sound : Facts m) (watch : Watch) {c' c : Calls} (cal
     exception_fits (sort.Exc d) W v e h = same_has m sound.tree W (sort.Exc Exception) (sort.Exc d) v e h
 
     -- the name of a handler
-    fine_name : (x : Option TypedTarget) (known : List ℕ) → typing.name_fits m vars init result x ≡ true → (W : World) (s : State) → Good m vars W s → NotNone known s.locals → (v : Value) → IsThrown v
+    fine_name : (x : Option TypedTarget) (known : List ℕ) → typing.name_fits m vars init result x ≡ true → (W : World utf8) (s : State) → Good m vars W s → NotNone known s.locals → (v : Value) → IsThrown utf8 v
         → Fine m vars (Unit {0}) (bound_by_name x) W s (λ V u y. NotNone (bound_by_name x ++ known) u.locals) (watched.name_bound watch m.classes.classes c' m.globals vars x v) (official.name_bound m.classes.classes c m.globals vars x v)
     fine_name None known p W s g k v h = fine_give m vars g tt k
     fine_name (Some t) known p W s g k v h =
         let y = three (typing.is_name m vars init result t) (typing.target_typed m vars init result [] t) (fits m.classes.classes (sort.Exc Exception) (type_at m sound watch calls vars passes init self result t)) p in
-        fine_assign m sound watch calls vars passes init self result t (sort.Exc Exception) v known (name_typed t [] known y.0 y.1) W s g k (exception_fits (type_at m sound watch calls vars passes init self result t) W v y.2 (h.0, h.1, every_exception h.0.class)) (λ no e. cc (sym h.1 ∙ e))
+        fine_assign m sound watch calls vars passes init self result t (sort.Exc Exception) v known (name_typed t [] known y.0 y.1) W s g k (exception_fits (type_at m sound watch calls vars passes init self result t) W v y.2 (h.0, h.1, every_exception h.0.class, h.2)) (λ no e. cc (sym h.1 ∙ e))
 
     -- a handler's body
-    fine_handler : (x : Option TypedTarget) (body : TypedSuite) (known : List ℕ) (looping : Bool) → SuiteFine looping true body → typing.name_fits m vars init result x ≡ true → typing.suite_typed m vars init result (bound_by_name x ++ known) looping true body ≡ true → (W : World) (s : State) → Good m vars W s → NotNone known s.locals → (v : Value) → IsThrown v
+    fine_handler : (x : Option TypedTarget) (body : TypedSuite) (known : List ℕ) (looping : Bool) → SuiteFine looping true body → typing.name_fits m vars init result x ≡ true → typing.suite_typed m vars init result (bound_by_name x ++ known) looping true body ≡ true → (W : World utf8) (s : State) → Good m vars W s → NotNone known s.locals → (v : Value) → IsThrown utf8 v
         → Ends looping (breaks_suite body) (is_closed body) (bound_by_name x ++ bound_suite body) [] W s (watched.handled_by watch m.classes.classes c' m.globals vars x (Suite body) v) (official.handled_by m.classes.classes c m.globals vars x (Suite₀ body) v)
     fine_handler x body known looping run nf st W s g k v h =
         fine_handling m result vars looping (breaks_suite body) (is_closed body) v g
         (fine_unset m result vars looping (breaks_suite body) (is_closed body) x (λ i q. out_left (bound_by_name x) (bound_suite body) i q)
-        (fine_bind m vars (fine_more m vars (λ i q. out_left (bound_by_name x) (bound_suite body) i q) (fine_name x known nf W (record s { handled = v ∷ s.handled }) (record { store = g.store; globals = g.globals; locals = g.locals; handled = (h, g.handled) }) k v h)) (λ V u st' y q.
+        (fine_bind m vars (fine_more m vars (λ i q. out_left (bound_by_name x) (bound_suite body) i q) (fine_name x known nf W (record s { handled = v ∷ s.handled }) (record { store = g.store; globals = g.globals; locals = g.locals; handled = (h, g.handled); texts = g.texts }) k v h)) (λ V u st' y q.
         fine_map m vars (fine_more m vars (λ i r. out_right (bound_by_name x) (bound_suite body) i r) (run (bound_by_name x ++ known) st V u st'.good q (λ b. (v, s.handled, st'.keeps.handled))))
         (λ X z st'' f r. flow_names looping (breaks_suite body) (is_closed body) (after_suite single (bound_by_name x ++ known) body) [] X z f (λ cl j. none_known z.locals) r))))
 
     -- ---- leaving
 
-    exception_value : (t : Sort) (V : World) (v : Value) → is_exception t ≡ true → Has m.classes.classes t V v → IsThrown v
-    exception_value (sort.Exc d) V v e h = (h.0, h.1)
+    exception_value : (t : Sort) (V : World utf8) (v : Value) → is_exception t ≡ true → Has m.classes.classes t V v → IsThrown utf8 v
+    exception_value (sort.Exc d) V v e h = (h.0, h.1, h.3)
     exception_value _ V v e h = absurd (cc)
 
-    fine_raised : (e : Option TypedExpr) (known : List ℕ) (looping handling : Bool) → typing.raise_fits m vars init result known handling e ≡ true → (W : World) (s : State) → Good m vars W s → NotNone known s.locals → Handles handling s
+    fine_raised : (e : Option TypedExpr) (known : List ℕ) (looping handling : Bool) → typing.raise_fits m vars init result known handling e ≡ true → (W : World utf8) (s : State) → Good m vars W s → NotNone known s.locals → Handles handling s
         → Ends looping false true [] known W s (watched.raised_by watch m.classes.classes c' m.globals vars e) (official.raised_by m.classes.classes c m.globals vars e)
     fine_raised None known looping handling p W s g k hd =
         let r = hd p in
-        fine_seen m vars [] g (λ z. z.handled) raise_again raise_again (r.0 ∷ r.1) r.2 (fine_raise m vars g r.0 (subst AllThrown r.2 g.handled).0)
+        fine_seen m vars [] g (λ z. z.handled) raise_again raise_again (r.0 ∷ r.1) r.2 (fine_raise m vars g r.0 (subst (AllThrown utf8) r.2 g.handled).0)
     fine_raised (Some e) known looping handling p W s g k hd =
         let y = two (is_value m vars init known e) (is_exception (type_of e)) p in
         fine_bind m vars (val e known y.0 W s g k) (λ V u st v q.
         let h = exception_value (type_of e) V v y.1 (is_got m e V u v q) in
-        subst (λ z. Ends looping false true [] known V u (raise_value z) (raise_value z)) (sym h.1) (fine_raise m vars st.good (ExcVal h.0) (h.0, refl)))
+        subst (λ z. Ends looping false true [] known V u (raise_value z) (raise_value z)) (sym h.1) (fine_raise m vars st.good (ExcVal h.0) (h.0, refl, h.2)))
 
     none_value : (e : TypedExpr) (known : List ℕ) → is_value m vars init known e ≡ true → is_none_literal e ≡ true → type_of e ≡ sort.Nothing
     none_value (typed Nothing t place) known h e =
         nothing_is m.classes.classes t (five (parts_typed m vars init false known Nothing) (rule m vars init known Nothing t) (suits false Nothing t) (is_result_type (length m.classes.classes) t) (not (is_empty_call Nothing t)) h).1
     none_value (typed _ t place) known h e = absurd (cc)
 
-    fine_returned : (o : Option Sort) → result ≡ o → (e : Option TypedExpr) (known : List ℕ) (looping : Bool) → typing.return_fits m vars init result known o e ≡ true → (W : World) (s : State) → Good m vars W s → NotNone known s.locals
+    fine_returned : (o : Option Sort) → result ≡ o → (e : Option TypedExpr) (known : List ℕ) (looping : Bool) → typing.return_fits m vars init result known o e ≡ true → (W : World utf8) (s : State) → Good m vars W s → NotNone known s.locals
         → Fine m vars Value [] W s (λ V u v. ReturnsAs m result o V v) (watched.value_or watch m.classes.classes c' m.globals vars NoneVal e) (official.value_or m.classes.classes c m.globals vars NoneVal e)
     fine_returned None q e known looping p W s g k = absurd (cc)
     fine_returned (Some t) q None known looping p W s g k = fine_give m vars g NoneVal (subst (λ z. Has m.classes.classes z W NoneVal) (sym (nothing_is m.classes.classes t p)) refl)
@@ -594,23 +596,23 @@ module _ (m : TypedModule) (sound : Facts m) (watch : Watch) {c' c : Calls} (cal
         let y = two (is_value m vars init known e) (is_same_type (type_of e) t) p in
         fine_map m vars (val e known y.0 W s g k) (λ V u st v h. subst (λ z. Has m.classes.classes z V v) (one_type (type_of e) t y.1) (is_got m e V u v h))
 
-    fine_failed : (e : Option TypedExpr) (known names : List ℕ) (looping : Bool) → typing.maybe_of_type m vars init result known sort.Str e ≡ true → (W : World) (s : State) → Good m vars W s → NotNone known s.locals
+    fine_failed : (e : Option TypedExpr) (known names : List ℕ) (looping : Bool) → typing.maybe_of_type m vars init result known sort.Str e ≡ true → (W : World utf8) (s : State) → Good m vars W s → NotNone known s.locals
         → Ends looping false false [] names W s (watched.fail_with watch m.classes.classes c' m.globals vars e) (official.fail_with m.classes.classes c m.globals vars e)
-    fine_failed None known names looping p W s g k = fine_new m vars g _ _
+    fine_failed None known names looping p W s g k = fine_new m vars g _ [] (λ q. ascii_text [] refl)
     fine_failed (Some e) known names looping p W s g k =
         let y = two (is_value m vars init known e) (is_same_type (type_of e) sort.Str) p in
         fine_bind m vars (val e known y.0 W s g k) (λ V u st v q.
         let h : Has m.classes.classes sort.Str V v = subst (λ z. Has m.classes.classes z V v) (one_type (type_of e) sort.Str y.1) (is_got m e V u v q) in
-        fine_needs m vars (has_text v) (ap has_text h.1) (fine_new m vars st.good _ _))
+        fine_needs m vars (has_text v) (ap has_text h.1) (fine_new m vars st.good _ _ (λ z. subst (λ y. is_utf8 (text_of y) ≡ true) (sym h.1) (h.2 z))))
 
     -- ---- each statement
 
     mutual
-      pub fine_statement : (t : TypedStmt) (known : List ℕ) (looping handling : Bool) → typing.stmt_typed m vars init result known looping handling t ≡ true → (W : World) (s : State) → Good m vars W s → NotNone known s.locals → Handles handling s
+      pub fine_statement : (t : TypedStmt) (known : List ℕ) (looping handling : Bool) → typing.stmt_typed m vars init result known looping handling t ≡ true → (W : World utf8) (s : State) → Good m vars W s → NotNone known s.locals → Handles handling s
           → Ends looping (breaks t) (closes t) (bound t) (after single known t) W s (watched.statement watch m.classes.classes c' m.globals vars n t) (official.statement m.classes.classes c m.globals vars n t)
       fine_statement (on_line a line) known looping handling p W s g k hd = fine_act a known looping handling p W s g k hd
 
-      fine_act : (a : TypedAct) (known : List ℕ) (looping handling : Bool) → typing.act_typed m vars init result known looping handling a ≡ true → (W : World) (s : State) → Good m vars W s → NotNone known s.locals → Handles handling s
+      fine_act : (a : TypedAct) (known : List ℕ) (looping handling : Bool) → typing.act_typed m vars init result known looping handling a ≡ true → (W : World utf8) (s : State) → Good m vars W s → NotNone known s.locals → Handles handling s
           → Ends looping (breaks_in a) (closes_in a) (bound_in a) (after_act single known a) W s (watched.act watch m.classes.classes c' m.globals vars n a) (official.act m.classes.classes c m.globals vars n a)
       fine_act (Do e) known looping handling p W s g k hd =
           fine_bind m vars (fine_alone e known p W s g k) (λ V u st v q. fine_give m vars st.good Goes (refl, all_known known s u st.keeps k))
@@ -672,7 +674,7 @@ module _ (m : TypedModule) (sound : Facts m) (watch : Watch) {c' c : Calls} (cal
           (λ is. fine_failed message known (facts true test ++ known) looping y.1 V u st.good (all_known known s u st.keeps k)))
       fine_act Pass known looping handling p W s g k hd = fine_give m vars g Goes (refl, k)
 
-      pub fine_suite : (b : TypedSuite) (known : List ℕ) (looping handling : Bool) → typing.suite_typed m vars init result known looping handling b ≡ true → (W : World) (s : State) → Good m vars W s → NotNone known s.locals → Handles handling s
+      pub fine_suite : (b : TypedSuite) (known : List ℕ) (looping handling : Bool) → typing.suite_typed m vars init result known looping handling b ≡ true → (W : World utf8) (s : State) → Good m vars W s → NotNone known s.locals → Handles handling s
           → Ends looping (breaks_suite b) (is_closed b) (bound_suite b) (after_suite single known b) W s (Suite b) (Suite₀ b)
       fine_suite no_stmts known looping handling p W s g k hd = fine_give m vars g Goes (refl, k)
       fine_suite (stmt_then t more) known looping handling p W s g k hd =
@@ -682,7 +684,7 @@ module _ (m : TypedModule) (sound : Facts m) (watch : Watch) {c' c : Calls} (cal
           (λ h. fine_more m vars (λ i q. out_right (bound t) (bound_suite more) i q) (fine_suite more (after single known t) looping handling y.1 V u st.good h (still_handles handling s u st.keeps hd))))
 
       fine_arms : (arms : Arms) (other : TypedSuite) (known : List ℕ) (ends : Option (List ℕ)) (looping handling : Bool) → SuiteFine looping handling other
-          → typing.arms_typed m vars init result known looping handling arms (λ there. typing.suite_typed m vars init result there looping handling other) ≡ true → (W : World) (s : State) → Good m vars W s → NotNone known s.locals → Handles handling s
+          → typing.arms_typed m vars init result known looping handling arms (λ there. typing.suite_typed m vars init result there looping handling other) ≡ true → (W : World utf8) (s : State) → Good m vars W s → NotNone known s.locals → Handles handling s
           → Ends looping (breaks_arms arms || breaks_suite other) (closed_arms arms && is_closed other) (bound_arms arms ++ bound_suite other) (known_at_end (after_arms single known ends arms (last_arm other))) W s
           (watched.first_arm watch m.classes.classes c' m.globals vars n arms (Suite other)) (official.first_arm m.classes.classes c m.globals vars n arms (Suite₀ other))
       fine_arms no_arms other known ends looping handling rest p W s g k hd =
@@ -711,7 +713,7 @@ module _ (m : TypedModule) (sound : Facts m) (watch : Watch) {c' c : Calls} (cal
                   either (inl a) = absurd (cc (in_left (xs ++ ys) zs i (in_right xs ys i a)))
                   either (inr a) = absurd (cc (in_right (xs ++ ys) zs i a))
 
-          behind_first : (l b1 b2 b3 c1 c2 c3 : Bool) (names : List ℕ) (V : World) (u : State) (f : Flow) → FS l (b2 || b3) (c2 && c3) names V u f → FS l ((b1 || b2) || b3) ((c1 && c2) && c3) names V u f
+          behind_first : (l b1 b2 b3 c1 c2 c3 : Bool) (names : List ℕ) (V : World utf8) (u : State) (f : Flow) → FS l (b2 || b3) (c2 && c3) names V u f → FS l ((b1 || b2) || b3) ((c1 && c2) && c3) names V u f
           behind_first l b1 b2 b3 c1 c2 c3 names V u Goes p = (closed c1 c2 c3 p.0, p.1)
             where
               closed : (a b c : Bool) → (b && c) ≡ false → ((a && b) && c) ≡ false
@@ -725,7 +727,7 @@ module _ (m : TypedModule) (sound : Facts m) (watch : Watch) {c' c : Calls} (cal
           behind_first l b1 b2 b3 c1 c2 c3 names V u Continues p = p
           behind_first l b1 b2 b3 c1 c2 c3 names V u (Returns v) p = p
 
-      fine_handle : (hs : Handlers) (known : List ℕ) (looping : Bool) → typing.handlers_typed m vars init result known looping hs ≡ true → (W : World) (s : State) → Good m vars W s → NotNone known s.locals → (v : Value) → IsThrown v
+      fine_handle : (hs : Handlers) (known : List ℕ) (looping : Bool) → typing.handlers_typed m vars init result known looping hs ≡ true → (W : World utf8) (s : State) → Good m vars W s → NotNone known s.locals → (v : Value) → IsThrown utf8 v
           → Ends looping (breaks_handlers hs) (closed_handlers hs) (bound_handlers hs) [] W s (watched.handle watch m.classes.classes c' m.globals vars n hs v) (official.handle m.classes.classes c m.globals vars n hs v)
       fine_handle no_handlers known looping p W s g k v h = fine_raise m vars g v h
       fine_handle (handler_then classes' x body more) known looping p W s g k v h =
@@ -736,7 +738,7 @@ module _ (m : TypedModule) (sound : Facts m) (watch : Watch) {c' c : Calls} (cal
           (λ is. fine_map m vars (fine_more m vars (λ i q. out_right (bound_by_name x ++ bound_suite body) (bound_handlers more) i q) (fine_handle more known looping y.4 W s g k v h))
           (λ V u st f q. flow_right looping (breaks_suite body) (breaks_handlers more) (is_closed body) (closed_handlers more) [] V u f q))
 
-      fine_last : (l : MaybeSuite) (known : List ℕ) (looping handling : Bool) → typing.last_typed m vars init result known looping handling l ≡ true → (W : World) (s : State) → Good m vars W s → NotNone known s.locals → Handles handling s
+      fine_last : (l : MaybeSuite) (known : List ℕ) (looping handling : Bool) → typing.last_typed m vars init result known looping handling l ≡ true → (W : World utf8) (s : State) → Good m vars W s → NotNone known s.locals → Handles handling s
           → Ends looping (breaks_last l) (closed_last l) (bound_last l) [] W s (watched.last_part watch m.classes.classes c' m.globals vars n l) (official.last_part m.classes.classes c m.globals vars n l)
       fine_last no_suite known looping handling p W s g k hd = fine_give m vars g Goes (refl, none_known s.locals)
       fine_last (some_suite body) known looping handling p W s g k hd =

@@ -117,7 +117,7 @@ plain_result {a = a} {c = c} (on_numbers n k t b) = subst IsPlain (sym t) (whole
     whole sort.I64 w = tt
     whole _ w = absurd w
 
-module _ (m : TypedModule) (sound : Facts m) (watch : Watch) {c' c : Calls} (calls : CallsFine m c' c) (vars : List Variable) (passes : Passes m vars watch)
+module _ {utf8 : Bool} (m : TypedModule) (sound : Facts m) (watch : Watch) {c' c : Calls} (calls : CallsFine m utf8 c' c) (vars : List Variable) (passes : Passes utf8 m vars watch)
     (init : Option ℕ) (self : (d : ℕ) → init ≡ Some d → (x : Variable) × (slice_get vars 0 ≡ Some x) × (x.1 ≡ sort.Instance d)) (result : Option Sort) where
   abbrev pub type_at : TypedTarget → Sort
   type_at t = typing.target_type m vars init result t
@@ -128,13 +128,13 @@ module _ (m : TypedModule) (sound : Facts m) (watch : Watch) {c' c : Calls} (cal
   same_target d (AttrTarget e name) = refl
   same_target d (ItemTarget e i) = refl
 
-  pub value : (e : TypedExpr) (known : List ℕ) → is_value m vars init known e ≡ true → (W : World) (s : State) → Good m vars W s → NotNone known s.locals → Value_fine m sound watch calls vars passes init self W s e
+  pub value : (e : TypedExpr) (known : List ℕ) → is_value m vars init known e ≡ true → (W : World utf8) (s : State) → Good m vars W s → NotNone known s.locals → Value_fine m sound watch calls vars passes init self W s e
   value e known h W s g k = fine_value m sound watch calls vars passes init self e false known h W s g k
 
-  count_is : {W : World} {s : State} → Good m vars W s → (i : ℕ) → nat_lt i (length vars) ≡ true → nat_lt i (length s.locals) ≡ true
+  count_is : {W : World utf8} {s : State} → Good m vars W s → (i : ℕ) → nat_lt i (length vars) ≡ true → nat_lt i (length s.locals) ≡ true
   count_is {W = W} {s = s} g i h = subst (λ n. nat_lt i n ≡ true) (sym (held_count m.classes.classes W vars s.locals g.locals)) h
 
-  global_count : {W : World} {s : State} → Good m vars W s → (i : ℕ) → nat_lt i (length m.globals) ≡ true → nat_lt i (length s.globals) ≡ true
+  global_count : {W : World utf8} {s : State} → Good m vars W s → (i : ℕ) → nat_lt i (length m.globals) ≡ true → nat_lt i (length s.globals) ≡ true
   global_count {W = W} {s = s} g i h = subst (λ n. nat_lt i n ≡ true) (sym (held_count m.classes.classes W m.globals s.globals g.globals)) h
 
   one_in : (i : ℕ) → is_in (i ∷ []) i ≡ true
@@ -186,7 +186,7 @@ module _ (m : TypedModule) (sound : Facts m) (watch : Watch) {c' c : Calls} (cal
   no_nothing true e = absurd (cc)
   no_nothing false e = refl
 
-  pub fine_set_attribute : {W : World} {s : State} (g : Good m vars W s) (d : ℕ) (name : List ℕ) (t : Sort) (o v : Value) → attribute_of m.classes.classes d name ≡ Some t → Has m.classes.classes (sort.Instance d) W o → Has m.classes.classes t W v
+  pub fine_set_attribute : {W : World utf8} {s : State} (g : Good m vars W s) (d : ℕ) (name : List ℕ) (t : Sort) (o v : Value) → attribute_of m.classes.classes d name ≡ Some t → Has m.classes.classes (sort.Instance d) W o → Has m.classes.classes t W v
       → Fine m vars (Unit {0}) [] W s (λ V u a. Unit {0}) (set_attribute m.classes.classes name o v) (set_attribute m.classes.classes name o v)
   fine_set_attribute {W = W} g d name t o v e h k =
       fine_instance m vars [] g d o _ _ h (λ j b vs q r under all.
@@ -209,7 +209,7 @@ module _ (m : TypedModule) (sound : Facts m) (watch : Watch) {c' c : Calls} (cal
   assignable _ i e = absurd (cc)
 
   -- a value of the target's type is brought to it
-  pub fine_assign : (t : TypedTarget) (a : Sort) (v : Value) (known : List ℕ) → typing.target_typed m vars init result known t ≡ true → (W : World) (s : State) → Good m vars W s → NotNone known s.locals → Has m.classes.classes (type_at t) W v → (may_be_none a ≡ false → v ≡ NoneVal → ⊥)
+  pub fine_assign : (t : TypedTarget) (a : Sort) (v : Value) (known : List ℕ) → typing.target_typed m vars init result known t ≡ true → (W : World utf8) (s : State) → Good m vars W s → NotNone known s.locals → Has m.classes.classes (type_at t) W v → (may_be_none a ≡ false → v ≡ NoneVal → ⊥)
       → Fine m vars (Unit {0}) (bound_by t) W s (λ V u x. NotNone (after_target known t a) u.locals) (watched.assign watch m.classes.classes c' m.globals vars t v) (official.assign m.classes.classes c m.globals vars t v)
   fine_assign (LocalTarget i) a v known p W s g k h n =
       let x : _ = var_at vars i p in
@@ -236,12 +236,12 @@ module _ (m : TypedModule) (sound : Facts m) (watch : Watch) {c' c : Calls} (cal
   -- ---- several targets
 
   -- values of the targets' types, that are not None where their parts' types say so
-  abbrev TargetsHave : List TypedTarget → List Sort → World → List Value → Type 0
+  abbrev TargetsHave : List TypedTarget → List Sort → World utf8 → List Value → Type 0
   TargetsHave [] [] W [] = Unit {0}
   TargetsHave (t ∷ ts) (a ∷ ss) W (v ∷ vs) = Has m.classes.classes (type_at t) W v × (may_be_none a ≡ false → v ≡ NoneVal → ⊥) × TargetsHave ts ss W vs
   TargetsHave _ _ W _ = ⊥
 
-  targets_still : (V W : World) → Grows V W → (ts : List TypedTarget) (ss : List Sort) (vs : List Value) → TargetsHave ts ss V vs → TargetsHave ts ss W vs
+  targets_still : (V W : World utf8) → Grows V W → (ts : List TypedTarget) (ss : List Sort) (vs : List Value) → TargetsHave ts ss V vs → TargetsHave ts ss W vs
   targets_still V W gr [] [] [] h = h
   targets_still V W gr (t ∷ ts) (a ∷ ss) (v ∷ vs) h = (has_still m.classes.classes V W gr (type_at t) v h.0, h.1, targets_still V W gr ts ss vs h.2)
   targets_still V W gr [] [] (v ∷ vs) h = absurd h
@@ -249,7 +249,7 @@ module _ (m : TypedModule) (sound : Facts m) (watch : Watch) {c' c : Calls} (cal
   targets_still V W gr (t ∷ ts) [] vs h = absurd h
   targets_still V W gr (t ∷ ts) (a ∷ ss) [] h = absurd h
 
-  fine_coerce_each : (ts : List TypedTarget) (ss : List Sort) (vs : List Value) → typing.parts_fit m vars init result ts ss ≡ true → (W : World) (s : State) → Good m vars W s → HaveAll m.classes.classes (sorts_of ss) W vs
+  fine_coerce_each : (ts : List TypedTarget) (ss : List Sort) (vs : List Value) → typing.parts_fit m vars init result ts ss ≡ true → (W : World utf8) (s : State) → Good m vars W s → HaveAll m.classes.classes (sorts_of ss) W vs
       → Fine m vars (List Value) [] W s (λ V u ws. TargetsHave ts ss V ws) (official.coerce_each m.classes.classes c' m.globals vars ts vs) (official.coerce_each m.classes.classes c m.globals vars ts vs)
   fine_coerce_each [] [] [] p W s g h = fine_give m vars g [] tt
   fine_coerce_each [] [] (v ∷ vs) p W s g h = absurd h
@@ -262,7 +262,7 @@ module _ (m : TypedModule) (sound : Facts m) (watch : Watch) {c' c : Calls} (cal
       fine_bind m vars (fine_coerce_each ts ss vs y.1 V u st.good (have_still m.classes.classes W V st.grows (sorts_of ss) vs h.1)) (λ X z st' ws q'.
       fine_give m vars st'.good (w ∷ ws) (has_still m.classes.classes V X st'.grows (type_at t) w q.0, (λ no e. not_none m a W v no h.0 (q.1 e)), q')))
     where
-      fine_coerced_to : (t : TypedTarget) (a : Sort) (v : Value) → fits m.classes.classes a (type_at t) ≡ true → (W : World) (s : State) → Good m vars W s → Has m.classes.classes a W v
+      fine_coerced_to : (t : TypedTarget) (a : Sort) (v : Value) → fits m.classes.classes a (type_at t) ≡ true → (W : World utf8) (s : State) → Good m vars W s → Has m.classes.classes a W v
           → Fine m vars Value [] W s (λ V u w. Has m.classes.classes (type_at t) V w × (w ≡ NoneVal → v ≡ NoneVal)) (coerced (official.target_sort m.classes.classes c' m.globals vars t) v) (coerced (official.target_sort m.classes.classes c m.globals vars t) v)
       fine_coerced_to t a v f W s g h =
           subst (λ x. Fine m vars Value [] W s (λ V u w. Has m.classes.classes (type_at t) V w × (w ≡ NoneVal → v ≡ NoneVal)) (coerced x v) (coerced (official.target_sort m.classes.classes c m.globals vars t) v)) (sym (same_target c' t))
@@ -270,7 +270,7 @@ module _ (m : TypedModule) (sound : Facts m) (watch : Watch) {c' c : Calls} (cal
           (fine_map m vars (fine_coerced m sound.tree vars [] g a (type_at t) v f h) (λ V u st w q. (q.0, q.3))))
 
   -- each value to its target
-  fine_assign_each : (ts : List TypedTarget) (ss : List Sort) (vs : List Value) (known : List ℕ) → typing.targets_typed m vars init result known ts ss ≡ true → (W : World) (s : State) → Good m vars W s → NotNone known s.locals → TargetsHave ts ss W vs
+  fine_assign_each : (ts : List TypedTarget) (ss : List Sort) (vs : List Value) (known : List ℕ) → typing.targets_typed m vars init result known ts ss ≡ true → (W : World utf8) (s : State) → Good m vars W s → NotNone known s.locals → TargetsHave ts ss W vs
       → Fine m vars (Unit {0}) (bound_by_all ts) W s (λ V u x. NotNone (after_parts known ts ss) u.locals) (watched.assign_each watch m.classes.classes c' m.globals vars ts vs) (official.assign_each m.classes.classes c m.globals vars ts vs)
   fine_assign_each [] [] [] known p W s g k h = fine_give m vars g tt (fewer_known known (without [] known) s.locals (λ i q. (in_without [] known i q).0) k)
   fine_assign_each [] [] (v ∷ vs) known p W s g k h = absurd h
@@ -287,7 +287,7 @@ module _ (m : TypedModule) (sound : Facts m) (watch : Watch) {c' c : Calls} (cal
   tuple_of t ts _ e = absurd (cc)
 
   -- the parts of a tuple
-  fine_unpack : (t : TypedTarget) (ts : List TypedTarget) (a : Sort) (v : Value) (known : List ℕ) → typing.targets_typed m vars init result known (t ∷ ts) (part_sorts a) ≡ true → typing.parts_fit m vars init result (t ∷ ts) (part_sorts a) ≡ true → (W : World) (s : State) → Good m vars W s → NotNone known s.locals → Has m.classes.classes a W v
+  fine_unpack : (t : TypedTarget) (ts : List TypedTarget) (a : Sort) (v : Value) (known : List ℕ) → typing.targets_typed m vars init result known (t ∷ ts) (part_sorts a) ≡ true → typing.parts_fit m vars init result (t ∷ ts) (part_sorts a) ≡ true → (W : World utf8) (s : State) → Good m vars W s → NotNone known s.locals → Has m.classes.classes a W v
       → Fine m vars (Unit {0}) (bound_by_all (t ∷ ts)) W s (λ V u x. NotNone (after_parts known (t ∷ ts) (part_sorts a)) u.locals) (watched.unpack watch m.classes.classes c' m.globals vars (t ∷ ts) v) (official.unpack m.classes.classes c m.globals vars (t ∷ ts) v)
   fine_unpack t ts a v known p f W s g k h = by (tuple_of t ts a f)
     where
@@ -312,11 +312,11 @@ module _ (m : TypedModule) (sound : Facts m) (watch : Watch) {c' c : Calls} (cal
   abbrev pub bound_known : List ℕ → List TypedTarget → Sort → Sort → List ℕ
   bound_known known ts a own = if typing.is_single m vars init result ts a then after_parts known ts (own ∷ []) else after_parts known ts (part_sorts a)
 
-  abbrev Binds : List TypedTarget → List ℕ → World → State → Does (Unit {0}) → Does (Unit {0}) → Type 0
+  abbrev Binds : List TypedTarget → List ℕ → World utf8 → State → Does (Unit {0}) → Does (Unit {0}) → Type 0
   Binds ts names W s d e = Fine m vars (Unit {0}) (bound_by_all ts) W s (λ V u x. NotNone names u.locals) d e
 
   -- one target takes the value, or each its part; `own` is the type before a coercion
-  pub fine_targets : (ts : List TypedTarget) (a own : Sort) (v : Value) (known : List ℕ) → typing.is_filled m vars init result ts ≡ true → typing.targets_typed m vars init result known ts (part_sorts a) ≡ true → typing.binding_fits m vars init result ts a ≡ true → (W : World) (s : State) → Good m vars W s → NotNone known s.locals → Has m.classes.classes a W v → (may_be_none own ≡ false → v ≡ NoneVal → ⊥)
+  pub fine_targets : (ts : List TypedTarget) (a own : Sort) (v : Value) (known : List ℕ) → typing.is_filled m vars init result ts ≡ true → typing.targets_typed m vars init result known ts (part_sorts a) ≡ true → typing.binding_fits m vars init result ts a ≡ true → (W : World utf8) (s : State) → Good m vars W s → NotNone known s.locals → Has m.classes.classes a W v → (may_be_none own ≡ false → v ≡ NoneVal → ⊥)
       → Fine m vars (Unit {0}) (bound_by_all ts) W s (λ V u x. NotNone (bound_known known ts a own) u.locals) (watched.bind watch m.classes.classes c' m.globals vars ts a v) (official.bind m.classes.classes c m.globals vars ts a v)
   fine_targets [] a own v known f p b W s g k h n = absurd (cc)
   fine_targets (t ∷ t' ∷ ts) a own v known f p b W s g k h n = fine_unpack t (t' ∷ ts) a v known p b W s g k h

@@ -32,12 +32,12 @@ whole_combined sort.Int o x y w = refl
 whole_combined sort.I64 o x y w = refl
 whole_combined _ o x y w = absurd w
 
-module _ (m : TypedModule) (sound : Facts m) (watch : Watch) {c' c : Calls} (calls : CallsFine m c' c) (vars : List Variable) (passes : Passes m vars watch)
+module _ {utf8 : Bool} (m : TypedModule) (sound : Facts m) (watch : Watch) {c' c : Calls} (calls : CallsFine m utf8 c' c) (vars : List Variable) (passes : Passes utf8 m vars watch)
     (init : Option ℕ) (self : (d : ℕ) → init ≡ Some d → (x : Variable) × (slice_get vars 0 ≡ Some x) × (x.1 ≡ sort.Instance d)) (result : Option Sort) where
   abbrev At : TypedTarget → Sort
   At t = type_at m sound watch calls vars passes init self result t
 
-  fine_combined : {W : World} {s : State} (g : Good m vars W s) (o : BinOp) (a b t : Sort) (x y : Value) → Operates o a b t → Has m.classes.classes a W x → Has m.classes.classes b W y → Makes m vars [] g t (combined t o x y)
+  fine_combined : {W : World utf8} {s : State} (g : Good m vars W s) (o : BinOp) (a b t : Sort) (x y : Value) → Operates o a b t → Has m.classes.classes a W x → Has m.classes.classes b W y → Makes m vars [] g t (combined t o x y)
   fine_combined {W = W} g o a b t x y (on_texts p q r e) h k =
       subst (λ z. Makes m vars [] g z (combined z o x y)) (sym e) (subst (λ z. Makes m vars [] g sort.Str (combined sort.Str z x y)) (sym p)
       (fine_joined m vars [] g x y (subst (λ z. Has m.classes.classes z W x) q h) (subst (λ z. Has m.classes.classes z W y) r k)))
@@ -45,7 +45,7 @@ module _ (m : TypedModule) (sound : Facts m) (watch : Watch) {c' c : Calls} (cal
       let whole : IsWhole t = subst IsWhole (sym e) (joined_whole a b) in
       subst (λ z. Makes m vars [] g t z) (sym (whole_combined t o x y whole)) (fine_arithmetic m sound.tree vars [] g o a b t x y whole (number_fits m a t whole p) (number_fits m b t whole q) n h k)
 
-  fine_coerced_at : {W : World} {s : State} (g : Good m vars W s) (t : TypedTarget) (a : Sort) (v : Value) → fits m.classes.classes a (At t) ≡ true → Has m.classes.classes a W v → may_be_none a ≡ false
+  fine_coerced_at : {W : World utf8} {s : State} (g : Good m vars W s) (t : TypedTarget) (a : Sort) (v : Value) → fits m.classes.classes a (At t) ≡ true → Has m.classes.classes a W v → may_be_none a ≡ false
       → Fine m vars Value [] W s (λ V u w. Has m.classes.classes (At t) V w × (w ≡ NoneVal → ⊥)) (coerced (official.target_sort m.classes.classes c' m.globals vars t) v) (coerced (official.target_sort m.classes.classes c m.globals vars t) v)
   fine_coerced_at {W = W} {s = s} g t a v f h n =
       subst (λ x. Fine m vars Value [] W s (λ V u w. Has m.classes.classes (At t) V w × (w ≡ NoneVal → ⊥)) (coerced x v) (coerced (official.target_sort m.classes.classes c m.globals vars t) v)) (sym (same_target m sound watch calls vars passes init self result c' t))
@@ -53,23 +53,23 @@ module _ (m : TypedModule) (sound : Facts m) (watch : Watch) {c' c : Calls} (cal
       (fine_map m vars (fine_coerced m sound.tree vars [] g a (At t) v f h) (λ V u st w q. (q.0, λ e. not_none m a W v n h (q.3 e)))))
 
   -- of the old value
-  fine_changed : (t : TypedTarget) (o : BinOp) (e : TypedExpr) (a b : Sort) (old : Value) (known : List ℕ) → is_value m vars init known e ≡ true → Operates o a (type_of e) b → fits m.classes.classes b (At t) ≡ true → (W : World) (s : State) → Good m vars W s → NotNone known s.locals → Has m.classes.classes a W old
+  fine_changed : (t : TypedTarget) (o : BinOp) (e : TypedExpr) (a b : Sort) (old : Value) (known : List ℕ) → is_value m vars init known e ≡ true → Operates o a (type_of e) b → fits m.classes.classes b (At t) ≡ true → (W : World utf8) (s : State) → Good m vars W s → NotNone known s.locals → Has m.classes.classes a W old
       → Fine m vars Value [] W s (λ V u w. Has m.classes.classes (At t) V w × (w ≡ NoneVal → ⊥)) (watched.changed watch m.classes.classes c' m.globals vars t o e b old) (official.changed m.classes.classes c m.globals vars t o e b old)
   fine_changed t o e a b old known p O f W s g k h =
       fine_bind m vars (value m sound watch calls vars passes init self result e known p W s g k) (λ V u st y q.
       fine_bind m vars (fine_combined st.good o a (type_of e) b old y O (has_still m.classes.classes W V st.grows a old h) (is_got m e V u y q)) (λ X z st' w r.
       fine_coerced_at st'.good t b w f r (plain_not_none b (plain_result O))))
 
-  reads_same : (known : List ℕ) (i : ℕ) (a : Sort) (V : World) (v : Value) → IsPlain (reads_as (is_in known i) a) → Has m.classes.classes (reads_as (is_in known i) a) V v → Has m.classes.classes (bare a) V v
+  reads_same : (known : List ℕ) (i : ℕ) (a : Sort) (V : World utf8) (v : Value) → IsPlain (reads_as (is_in known i) a) → Has m.classes.classes (reads_as (is_in known i) a) V v → Has m.classes.classes (bare a) V v
   reads_same known i a V v p h = subst (λ z. Has m.classes.classes z V v) (sym (bare_read (is_in known i) a p)) h
 
-  bare_same : (a : Sort) (V : World) (v : Value) → IsPlain a → Has m.classes.classes a V v → Has m.classes.classes (bare a) V v
+  bare_same : (a : Sort) (V : World utf8) (v : Value) → IsPlain a → Has m.classes.classes a V v → Has m.classes.classes (bare a) V v
   bare_same a V v p h = subst (λ z. Has m.classes.classes z V v) (sym (bare_read false a (subst IsPlain (sym (as_is a)) p) ∙ as_is a)) h
     where
       as_is : (a : Sort) → reads_as false a ≡ a
       as_is a = refl
 
-  pub fine_update : (t : TypedTarget) (o : BinOp) (e : TypedExpr) (b : Sort) (known : List ℕ) → is_value m vars init known e ≡ true → typing.target_typed m vars init result known t ≡ true → typing.update_fits m vars init result known t o (type_of e) b ≡ true → (W : World) (s : State) → Good m vars W s → NotNone known s.locals
+  pub fine_update : (t : TypedTarget) (o : BinOp) (e : TypedExpr) (b : Sort) (known : List ℕ) → is_value m vars init known e ≡ true → typing.target_typed m vars init result known t ≡ true → typing.update_fits m vars init result known t o (type_of e) b ≡ true → (W : World utf8) (s : State) → Good m vars W s → NotNone known s.locals
       → Fine m vars (Unit {0}) (bound_by t) W s (λ V u x. NotNone (after_target known t b) u.locals) (watched.update watch m.classes.classes c' m.globals vars t (watched.changed watch m.classes.classes c' m.globals vars t o e b)) (official.update m.classes.classes c m.globals vars t (official.changed m.classes.classes c m.globals vars t o e b))
   fine_update (LocalTarget i) o e b known p d r W s g k =
       let x : _ = var_at vars i d in

@@ -16,10 +16,10 @@ use Rattle.source_soundness.proofs.Shaped.{shapes_pass}
 use Rattle.source_soundness.proofs.Members.{facts_hold, funcs_are, top_typed}
 use Rattle.source_soundness.proofs.Runs.{fine_top}
 
-raised_ends : (v : Value) → IsThrown v → IsSome (raised_as v)
+raised_ends : {utf8 : Bool} (v : Value) → IsThrown utf8 v → IsSome (raised_as v)
 raised_ends v h = subst (λ z. IsSome (raised_as z)) (sym h.1) refl
 
-ends : (m : TypedModule) (b c : Bool) (B names : List ℕ) (W : World) (s : State) (o : Outcome Flow) → Post m [] B W s (FlowIs m None false b c names) o → IsSome (stop_of o).ending
+ends : {utf8 : Bool} (m : TypedModule) (b c : Bool) (B names : List ℕ) (W : World utf8) (s : State) (o : Outcome Flow) → Post m [] B W s (FlowIs m None false b c names) o → IsSome (stop_of o).ending
 ends m b c B names W s (Gives Goes u) p = refl
 ends m b c B names W s (Gives Breaks u) p = absurd (cc p.2.0)
 ends m b c B names W s (Gives Continues u) p = absurd (cc p.2)
@@ -33,11 +33,11 @@ ends m b c B names W s (Stops Stuck u) p = absurd p
 pub none_is_stuck : NoneIsStuck
 unfolding source_run
 none_is_stuck is_identifier m w n items =
-    let top : _ = fine_top m (facts_hold is_identifier m w) (shapes m.classes.classes) (shapes_pass m) (funcs_are is_identifier m w) n items (top_typed is_identifier m w) in
+    let top : _ = fine_top {utf8 = false} m (facts_hold is_identifier m w) (shapes m.classes.classes) (shapes_pass m) (funcs_are is_identifier m w) n items (λ q. absurd (cc)) (top_typed is_identifier m w) in
     ends m _ _ _ _ _ _ _ top.post
 
 pub types_sound : TypesAreSound
 unfolding source_run watched_run
 types_sound is_identifier m w n items =
-    let top : _ = fine_top m (facts_hold is_identifier m w) (shapes m.classes.classes) (shapes_pass m) (funcs_are is_identifier m w) n items (top_typed is_identifier m w) in
+    let top : _ = fine_top {utf8 = false} m (facts_hold is_identifier m w) (shapes m.classes.classes) (shapes_pass m) (funcs_are is_identifier m w) n items (λ q. absurd (cc)) (top_typed is_identifier m w) in
     ap stop_of top.same

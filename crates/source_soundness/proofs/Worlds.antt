@@ -3,6 +3,7 @@
 -- like). W is the world in which a value is looked at, V one before it, t a type, v a value, o an object or what a variable holds.
 use Rattle.std.proofs.Common.{◌≡◌, ℕ, zero, suc, ℤ, Bool, true, List, [], ◌∷◌, ◌++◌, length, take, replicate, Option, Some, None, refl, sym, ap, subst, ◌⊎◌, inl, inr, slice_get, slice_set}
 use Rattle.std.proofs.lemmas.Option.{same_Some}
+use Rattle.std.specs.Str.{is_utf8}
 use Rattle.value_core.specs.Arithmetic.{lies_within}
 use Rattle.value_core.specs.Exceptions.{Thrown, is_under}
 use Rattle.value_core.specs.Value.{Value, IntVal, BoolVal, NoneVal, StrVal, TupleVal, ExcVal, ObjVal, Values, listed, Object, ListObj, DictObj, InstObj, Store}
@@ -11,19 +12,13 @@ use Rattle.py_typed.specs.Classes.{ClassEntry, is_class_under}
 use Rattle.py_typed.specs.Order.{attributes}
 use Rattle.py_typed.specs.Statements.{Variable}
 
--- the types of the objects made so far
-abbrev pub World : Type 0
-World = List Sort
+-- the types of the objects made so far; `utf8` says whether the texts that come in, those of the input and the names of the module, are in UTF-8
+pub record World (utf8 : Bool) : Type 0 where
+  pub types : List Sort
 
--- each object keeps its type
-pub record Grows (V W : World) : Type 0 where
-  pub each : (k : ℕ) (t : Sort) → slice_get V k ≡ Some t → slice_get W k ≡ Some t
-
-pub grows_none : (W : World) → Grows W W
-grows_none W = record { each = λ k t h. h }
-
-pub grows_on : {U V W : World} → Grows U V → Grows V W → Grows U W
-grows_on p q = record { each = λ k t h. q.each k t (p.each k t h) }
+-- a text of a run: it is in UTF-8 where those that come in are
+abbrev pub IsText : Bool → List ℕ → Type 0
+IsText utf8 text = utf8 ≡ true → is_utf8 text ≡ true
 
 got_front : {A : Type 0} (xs ys : List A) (k : ℕ) (x : A) → slice_get xs k ≡ Some x → slice_get (xs ++ ys) k ≡ Some x
 got_front [] ys k x h = absurd (cc)
@@ -34,60 +29,74 @@ pub got_last : {A : Type 0} (xs : List A) (x : A) → slice_get (xs ++ x ∷ [])
 got_last [] x = refl
 got_last (y ∷ xs) x = got_last xs x
 
-pub grows_by : (W : World) (t : Sort) → Grows W (W ++ t ∷ [])
-grows_by W t = record { each = λ k u h. got_front W (t ∷ []) k u h }
+-- each object keeps its type
+pub record Grows {utf8 : Bool} (V W : World utf8) : Type 0 where
+  pub each : (k : ℕ) (t : Sort) → slice_get V.types k ≡ Some t → slice_get W.types k ≡ Some t
 
-module _ (classes : List ClassEntry) where
+pub grows_none : {utf8 : Bool} (W : World utf8) → Grows W W
+grows_none W = record { each = λ k t h. h }
+
+pub grows_on : {utf8 : Bool} {U V W : World utf8} → Grows U V → Grows V W → Grows U W
+grows_on p q = record { each = λ k t h. q.each k t (p.each k t h) }
+
+-- one object more
+abbrev pub with_type : {utf8 : Bool} → World utf8 → Sort → World utf8
+with_type W t = record { types = W.types ++ t ∷ [] }
+
+pub grows_by : {utf8 : Bool} (W : World utf8) (t : Sort) → Grows W (with_type W t)
+grows_by W t = record { each = λ k u h. got_front W.types (t ∷ []) k u h }
+
+module _ {utf8 : Bool} (classes : List ClassEntry) where
   -- a value of a type
   abbrev mutual
-    pub Has : Sort → World → Value → Type 0
+    pub Has : Sort → World utf8 → Value → Type 0
     Has Int W v = (n : ℤ) × (v ≡ IntVal n) × (lies_within 127 n ≡ true)
     Has I64 W v = (n : ℤ) × (v ≡ IntVal n) × (lies_within 63 n ≡ true)
     Has BoolSort W v = (b : Bool) × (v ≡ BoolVal b)
-    Has Str W v = (text : List ℕ) × (v ≡ StrVal text)
+    Has Str W v = (text : List ℕ) × (v ≡ StrVal text) × IsText utf8 text
     Has Nothing W v = v ≡ NoneVal
-    Has (ListOf t) W v = (k : ℕ) × (v ≡ ObjVal k) × (slice_get W k ≡ Some (ListOf t))
-    Has (DictOf j t) W v = (k : ℕ) × (v ≡ ObjVal k) × (slice_get W k ≡ Some (DictOf j t))
+    Has (ListOf t) W v = (k : ℕ) × (v ≡ ObjVal k) × (slice_get W.types k ≡ Some (ListOf t))
+    Has (DictOf j t) W v = (k : ℕ) × (v ≡ ObjVal k) × (slice_get W.types k ≡ Some (DictOf j t))
     Has (TupleOf ts) W v = (vs : Values) × (v ≡ TupleVal vs) × HaveAll ts W (listed vs)
     Has (Optional t) W v = (v ≡ NoneVal) ⊎ Has t W v
-    Has (Instance c) W v = (k : ℕ) × (d : ℕ) × (v ≡ ObjVal k) × (slice_get W k ≡ Some (Instance d)) × (is_class_under classes d c ≡ true)
-    Has (Exc c) W v = (e : Thrown) × (v ≡ ExcVal e) × (is_under e.class c ≡ true)
+    Has (Instance c) W v = (k : ℕ) × (d : ℕ) × (v ≡ ObjVal k) × (slice_get W.types k ≡ Some (Instance d)) × (is_class_under classes d c ≡ true)
+    Has (Exc c) W v = (e : Thrown) × (v ≡ ExcVal e) × (is_under e.class c ≡ true) × IsText utf8 e.text
 
     -- values of types, one by one
-    pub HaveAll : Sorts → World → List Value → Type 0
+    pub HaveAll : Sorts → World utf8 → List Value → Type 0
     HaveAll no_sorts W [] = Unit {0}
     HaveAll no_sorts W (v ∷ vs) = ⊥
     HaveAll (sort_then t ts) W [] = ⊥
     HaveAll (sort_then t ts) W (v ∷ vs) = Has t W v × HaveAll ts W vs
 
   -- values of one type; pairs of a key and a value
-  abbrev pub Each : Sort → World → List Value → Type 0
+  abbrev pub Each : Sort → World utf8 → List Value → Type 0
   Each t W [] = Unit {0}
   Each t W (v ∷ vs) = Has t W v × Each t W vs
 
-  abbrev pub EachPair : Sort → Sort → World → List (Value × Value) → Type 0
+  abbrev pub EachPair : Sort → Sort → World utf8 → List (Value × Value) → Type 0
   EachPair j t W [] = Unit {0}
   EachPair j t W (p ∷ ps) = (Has j W p.0 × Has t W p.1) × EachPair j t W ps
 
   -- what is unset is of each type
-  abbrev pub Holds : Sort → World → Option Value → Type 0
+  abbrev pub Holds : Sort → World utf8 → Option Value → Type 0
   Holds t W None = Unit {0}
   Holds t W (Some v) = Has t W v
 
-  abbrev pub HoldAll : List Variable → World → List (Option Value) → Type 0
+  abbrev pub HoldAll : List Variable → World utf8 → List (Option Value) → Type 0
   HoldAll [] W [] = Unit {0}
   HoldAll [] W (o ∷ os) = ⊥
   HoldAll (x ∷ xs) W [] = ⊥
   HoldAll (x ∷ xs) W (o ∷ os) = Holds x.1 W o × HoldAll xs W os
 
   -- an object of a type
-  abbrev pub Is : Sort → World → Object → Type 0
+  abbrev pub Is : Sort → World utf8 → Object → Type 0
   Is (ListOf t) W (ListObj vs) = Each t W vs
   Is (DictOf j t) W (DictObj ps) = EachPair j t W ps
   Is (Instance c) W (InstObj d vs) = (d ≡ c) × HoldAll (attributes classes c) W vs
   Is _ W o = ⊥
 
-  abbrev pub Stored : World → World → Store → Type 0
+  abbrev pub Stored : World utf8 → List Sort → Store → Type 0
   Stored W [] [] = Unit {0}
   Stored W [] (o ∷ os) = ⊥
   Stored W (t ∷ ts) [] = ⊥
@@ -95,7 +104,7 @@ module _ (classes : List ClassEntry) where
 
   -- ---- what is of a type stays so
 
-  module _ (V W : World) (grows : Grows V W) where
+  module _ (V W : World utf8) (grows : Grows V W) where
     mutual
       pub has_still : (t : Sort) (v : Value) → Has t V v → Has t W v
       has_still Int v h = h
@@ -141,7 +150,7 @@ module _ (classes : List ClassEntry) where
     is_still (Instance c) (InstObj d vs) h = (h.0, hold_still (attributes classes c) vs h.1)
     is_still _ _ h = absurd h
 
-    pub stored_still : (ts : World) (os : Store) → Stored V ts os → Stored W ts os
+    pub stored_still : (ts : List Sort) (os : Store) → Stored V ts os → Stored W ts os
     stored_still [] [] h = h
     stored_still [] (o ∷ os) h = h
     stored_still (t ∷ ts) [] h = h
@@ -149,7 +158,7 @@ module _ (classes : List ClassEntry) where
 
   -- ---- parts
 
-  module _ (W : World) where
+  module _ (W : World utf8) where
     pub one_of_all : (ts : Sorts) (vs : List Value) (i : ℕ) (t : Sort) → HaveAll ts W vs → slice_get (listed_sorts ts) i ≡ Some t → (v : Value) × (slice_get vs i ≡ Some v) × Has t W v
     one_of_all no_sorts vs i t h e = absurd (cc)
     one_of_all (sort_then u ts) [] i t h e = absurd h
@@ -205,25 +214,25 @@ module _ (classes : List ClassEntry) where
     all_unset [] = tt
     all_unset (x ∷ xs) = (tt, all_unset xs)
 
-    pub stored_at : (ts : World) (os : Store) (k : ℕ) (t : Sort) → Stored W ts os → slice_get ts k ≡ Some t → (o : Object) × (slice_get os k ≡ Some o) × Is t W o
+    pub stored_at : (ts : List Sort) (os : Store) (k : ℕ) (t : Sort) → Stored W ts os → slice_get ts k ≡ Some t → (o : Object) × (slice_get os k ≡ Some o) × Is t W o
     stored_at [] os k t h e = absurd (cc)
     stored_at (u ∷ ts) [] k t h e = absurd h
     stored_at (u ∷ ts) (o ∷ os) zero t h e = (o, refl, subst (λ x. Is x W o) (same_Some u t e) h.0)
     stored_at (u ∷ ts) (o ∷ os) (suc k) t h e = stored_at ts os k t h.1 e
 
-    pub stored_set : (ts : World) (os : Store) (k : ℕ) (t : Sort) (o : Object) → Stored W ts os → slice_get ts k ≡ Some t → Is t W o → Stored W ts (slice_set os k o)
+    pub stored_set : (ts : List Sort) (os : Store) (k : ℕ) (t : Sort) (o : Object) → Stored W ts os → slice_get ts k ≡ Some t → Is t W o → Stored W ts (slice_set os k o)
     stored_set [] os k t o h e q = absurd (cc)
     stored_set (u ∷ ts) [] k t o h e q = absurd h
     stored_set (u ∷ ts) (p ∷ os) zero t o h e q = (subst (λ x. Is x W o) (sym (same_Some u t e)) q, h.1)
     stored_set (u ∷ ts) (p ∷ os) (suc k) t o h e q = (h.0, stored_set ts os k t o h.1 e q)
 
-    pub stored_count : (ts : World) (os : Store) → Stored W ts os → length os ≡ length ts
+    pub stored_count : (ts : List Sort) (os : Store) → Stored W ts os → length os ≡ length ts
     stored_count [] [] h = refl
     stored_count [] (o ∷ os) h = absurd h
     stored_count (t ∷ ts) [] h = absurd h
     stored_count (t ∷ ts) (o ∷ os) h = ap suc (stored_count ts os h.1)
 
-    pub stored_more : (ts : World) (os : Store) (t : Sort) (o : Object) → Stored W ts os → Is t W o → Stored W (ts ++ t ∷ []) (os ++ o ∷ [])
+    pub stored_more : (ts : List Sort) (os : Store) (t : Sort) (o : Object) → Stored W ts os → Is t W o → Stored W (ts ++ t ∷ []) (os ++ o ∷ [])
     stored_more [] [] t o h q = (q, tt)
     stored_more [] (p ∷ os) t o h q = absurd h
     stored_more (u ∷ ts) [] t o h q = absurd h
