@@ -1,4 +1,4 @@
-use Rattle.std.proofs.Common.{sym, ◌∙◌, ap, ℕ, ◌≤◌, List, length, Some, arith}
+use Rattle.std.proofs.Common.{sym, ◌∙◌, ap, subst, ℕ, ◌<◌, ◌≤◌, List, length, Some, arith}
 use Rattle.mypyc_top_words.specs.Limits.{most_bytes}
 use Rattle.mypyc_top_status.specs.ErrorLines.{large_line}
 use Rattle.mypyc_top_compiler.proofs.Values.{if_ok}
@@ -27,5 +27,5 @@ returns-in_ok-large_reply-in-Err-TooLarge-clause-answer g c = λ tells below ite
     large_answer c.args.request.now (g.F.Files.faults c.args.files.now) (g.F.Files.faults c.read_file.new.files) _ _ large.0 items _ _ _
     counted below
     large.1
-    large.2
+    (subst (λ m. m < length large.0) c.most_bytes_of.ensures large.2)
     sent.0 (sent.1 ∙ ap large_line c.as_str-file.ensures) sent.2
