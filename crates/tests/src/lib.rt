@@ -16,15 +16,7 @@ mod codes;
 #[cfg(test)]
 mod ir_core_tests;
 #[cfg(test)]
-mod liveness_tests;
-#[cfg(test)]
 mod outside_core_tests;
-#[cfg(test)]
-mod py_annotations_tests;
-#[cfg(test)]
-mod py_binder_tests;
-#[cfg(test)]
-mod py_flow_tests;
 #[cfg(test)]
 mod py_lexer_tests;
 #[cfg(test)]
