@@ -3,7 +3,8 @@ ghost use Rattle.std.specs.Prelude.{◌<◌};
 
 use crate::Done;
 use crate::case::Case;
-use mypyc_top::{Status, mypyc};
+use mypyc_top::mypyc;
+use mypyc_top_status::Status;
 use outside_core::{MemFiles, MemSink, MemSource};
 use std::alloc::{AllocError, Global};
 

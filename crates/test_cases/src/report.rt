@@ -5,7 +5,7 @@ use crate::Done;
 use crate::case::Case;
 use crate::command::Command;
 use crate::difference::first_difference;
-use mypyc_top::Status;
+use mypyc_top_status::Status;
 use std::alloc::Global;
 
 /// How many cases give what they say, how many do not, and what is said of them.
