@@ -18,6 +18,3 @@ pub use key::Key;
 pub use sign::Sign;
 pub use statement::{Class, Func, Handler, Module, Stmt, StmtKind};
 pub use token::{Span, Token, TokenKind, Tokens};
-
-#[cfg(test)]
-mod tests;

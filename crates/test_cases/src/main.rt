@@ -5,29 +5,35 @@
 //! The head of `data/words.test` says how a case is written.
 #![tactic(auto)]
 
-mod case;
-mod change;
-mod check;
-mod command;
-mod difference;
-mod file;
-mod report;
-mod section;
-
-use file::check_file;
-use report::Report;
-use std::alloc::AllocError;
+use mypyc_top::mypyc;
+use mypyc_top_status::Status;
+use std::alloc::Global;
 use std::process::ExitCode;
 use std::{env, fs, io};
+use test_cases_files::{Checker, Compiler, Done, Outside};
 
-/// What ends early only for want of memory.
-type Done = Result<(), AllocError>;
+/// The compiler of this repository.
+#[derive(Clone, Copy)]
+struct Mypyc;
+
+impl Compiler for Mypyc {
+    fn run(&self, alloc: Global, words: &[String], outside: &mut Outside) -> Status {
+        let Outside {
+            files,
+            input,
+            out,
+            err,
+        } = outside;
+        mypyc(alloc, words, files, input, out, err)
+    }
+}
 
 fn main(rt: HostRuntime) -> io::Result<ExitCode> {
-    let mut report = Report::new(rt.alloc());
+    let mut checker = Checker::new(rt.alloc(), Mypyc);
     for word in env::args(&rt)?.skip(1) {
-        check_word(&rt, word.as_str(), &mut report)?;
+        check_word(&rt, word.as_str(), &mut checker)?;
     }
+    let report = &checker.report;
     println!(rt;
         "{}{} passed, {} failed",
         report.said, report.passed, report.failed
@@ -36,13 +42,12 @@ fn main(rt: HostRuntime) -> io::Result<ExitCode> {
 }
 
 /// Checks the file that a word names.
-fn check_word(rt: &HostRuntime, word: &str, report: &mut Report) -> Done {
+fn check_word(rt: &HostRuntime, word: &str, checker: &mut Checker<Mypyc>) -> Done {
     let (file, name) = word.split_once(':').unwrap_or((word, ""));
-    let before = report.all();
+    let before = checker.report.all();
     match fs::read_to_string(rt, file) {
-        Ok(text) => check_file(rt.alloc(), file, text.as_str(), name, report)?,
-        Err(_) => report.fail(file, 0, "it cannot be read")?,
+        Ok(text) => checker.check_file(file, text.as_str(), name)?,
+        Err(_) => checker.report.fail(file, 0, "it cannot be read")?,
     }
-    let count = report.all().saturating_sub(before);
-    write!(report.said, "{file}: {count} cases\n")
+    checker.report.say_count(file, before)
 }

@@ -6,25 +6,19 @@
 #![tactic(auto)]
 
 #[cfg(test)]
-mod c_text_tests;
-#[cfg(test)]
 mod case;
 #[cfg(test)]
 mod cell_heap_tests;
-#[cfg(test)]
-mod codes;
-#[cfg(test)]
-mod ir_core_tests;
 #[cfg(test)]
 mod outside_core_tests;
 #[cfg(test)]
 mod py_lexer_tests;
 #[cfg(test)]
-mod py_messages_tests;
-#[cfg(test)]
 mod py_parser_tables;
 #[cfg(test)]
 mod py_parser_tests;
+#[cfg(test)]
+mod py_syntax_tests;
 #[cfg(test)]
 mod py_typed_tests;
 #[cfg(test)]
@@ -33,7 +27,3 @@ mod slot_arena_tests;
 mod tree_text;
 #[cfg(test)]
 mod value_core_class_tests;
-#[cfg(test)]
-mod value_core_tests;
-#[cfg(test)]
-mod value_core_text_tests;

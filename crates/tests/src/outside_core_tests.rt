@@ -1,19 +1,19 @@
-//! Files, sources and sinks: those in memory that never fail, and those of the system.
+//! Files, sources and sinks of the system.
 use crate::case::check;
 use outside_core::{
-    CalmFiles, CalmSource, CountSink, DiskFiles, Failed, Files, MemFiles, ReadError, Sink, Source,
-    StreamSink, StreamSource, WriteFault, read_whole, write_whole,
+    DiskFiles, Failed, Files, ReadError, Sink, Source, StreamSink, StreamSource, WriteFault,
+    read_whole, write_whole,
 };
-use std::alloc::{AllocError, Global};
+use std::alloc::Global;
 use std::io::{self, Input};
 use std::process::Abort;
 use std::test::Fail;
 use std::{fs, rt};
 
 /// Opens a file and reads it.
-fn open_whole<F: Files>(
+fn open_whole<R: rt::Files + Input>(
     alloc: Global,
-    files: &mut F,
+    files: &mut DiskFiles<R>,
     name: &str,
     limit: usize,
 ) -> Result<Vec<u8>, ReadError> {
@@ -21,90 +21,8 @@ fn open_whole<F: Files>(
     read_whole(alloc, files, limit)
 }
 
-fn files_of(alloc: Global, all: &[(&str, &[u8])], fails: &[u64]) -> Result<MemFiles, AllocError> {
-    let mut files = Vec::new(alloc);
-    for (name, bytes) in all {
-        let name = String::from_str(alloc, name)?;
-        files.push((name, Vec::from_slice(alloc, bytes)?))?;
-    }
-    Ok(MemFiles::new(files, Vec::from_slice(alloc, fails)?))
-}
-
 /// A name, the limit that its file is read with, and what comes of it.
 type Case<'a> = (&'a str, usize, Result<&'a [u8], ReadError>);
-
-fn check_files<F: Files>(rt: &impl Abort, alloc: Global, files: &mut F, cases: &[Case<'_>]) {
-    for (name, limit, want) in cases {
-        let found = open_whole(alloc, files, name, *limit);
-        let is_right = match (&found, want) {
-            (Ok(bytes), Ok(want)) => bytes.as_slice() == *want,
-            (Err(e), Err(want)) => *e == *want,
-            _ => false,
-        };
-        check(rt, &(name, limit), is_right);
-    }
-}
-
-const FILES: &[(&str, &[u8])] = &[
-    ("a.py", b"one"),
-    ("empty", b""),
-    ("a.py", b"two"),
-    ("", b"no name"),
-    ("-", b"dash"),
-    ("\u{e4} b\n", b"any text"),
-];
-
-const NAMED: &[Case<'static>] = &[
-    ("a.py", 3, Ok(b"one")),
-    ("a.py", 2, Err(ReadError::TooLong)),
-    ("empty", 0, Ok(b"")),
-    ("absent", 9, Err(ReadError::Failed)),
-    ("", 7, Ok(b"no name")),
-    ("-", 100, Ok(b"dash")),
-    ("\u{e4} b\n", 8, Ok(b"any text")),
-    ("a.p", 9, Err(ReadError::Failed)),
-];
-
-#[test]
-fn names_open_their_bytes(rt: HostRuntime) -> Result<(), Fail> {
-    let mut files = files_of(rt.alloc(), FILES, &[])?;
-    check_files(&rt, rt.alloc(), &mut files, NAMED);
-    check(
-        &rt,
-        &"counts",
-        (files.faults(), files.absent_opens()) == (2, 2),
-    );
-    Ok(())
-}
-
-const CALM: &[Case<'static>] = &[
-    ("a.py", 4, Ok(b"calm")),
-    ("-", 4, Ok(b"calm")),
-    ("", 4, Ok(b"calm")),
-];
-
-#[test]
-fn calm_objects_never_fail(rt: HostRuntime) -> Result<(), Fail> {
-    let mut files = CalmFiles::new(Vec::from_slice(rt.alloc(), b"calm")?);
-    check_files(&rt, rt.alloc(), &mut files, CALM);
-    let mut source = CalmSource::new(Vec::from_slice(rt.alloc(), b"abc")?);
-    let mut into = [0; 2];
-    for (count, filled) in [(Ok(2), *b"ab"), (Ok(1), *b"cb"), (Ok(0), *b"cb")] {
-        check(
-            &rt,
-            &filled,
-            source.read(&mut into) == count && into == filled,
-        );
-    }
-    let mut sink = CountSink::new();
-    let is_taken = write_whole(&mut sink, b"abc").is_ok() && sink.flush().is_ok();
-    check(
-        &rt,
-        &"taken",
-        is_taken && sink.write(b"de") == Ok(2) && sink.taken() == 5,
-    );
-    Ok(())
-}
 
 const ON_DISK: &[Case<'static>] = &[
     ("disk_files.txt", 11, Ok(b"on the disk")),
@@ -116,7 +34,15 @@ const ON_DISK: &[Case<'static>] = &[
 ];
 
 fn check_disk<R: rt::Files + Input>(rt: &impl Abort, alloc: Global, files: &mut DiskFiles<R>) {
-    check_files(rt, alloc, files, ON_DISK);
+    for (name, limit, want) in ON_DISK {
+        let found = open_whole(alloc, files, name, *limit);
+        let is_right = match (&found, want) {
+            (Ok(bytes), Ok(want)) => bytes.as_slice() == *want,
+            (Err(e), Err(want)) => *e == *want,
+            _ => false,
+        };
+        check(rt, &(name, limit), is_right);
+    }
     let before = files.faults();
     let is_open = files.open_file("-") == Ok(());
     check(rt, &"-", is_open && (before, files.faults()) == (2, 2));

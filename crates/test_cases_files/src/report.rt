@@ -51,6 +51,12 @@ impl Report {
         }
     }
 
+    /// Says how many cases of a file there were since there were so many.
+    pub fn say_count(&mut self, file: &str, before: usize) -> Done {
+        let count = self.all().saturating_sub(before);
+        write!(self.said, "{file}: {count} cases\n")
+    }
+
     /// Counts a failure of the file itself, and says what is wrong in a line of it.
     pub fn fail(&mut self, file: &str, line: usize, what: &str) -> Done {
         self.count(false);

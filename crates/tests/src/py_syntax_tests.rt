@@ -1,4 +1,6 @@
-use crate::{Key, Sign};
+//! The keywords and the signs of Python.
+use crate::case::check;
+use py_syntax::{Key, Sign};
 
 /// `keyword.kwlist` of Python 3.
 const KEYWORDS: [&str; 35] = [
@@ -18,9 +20,9 @@ const SIGNS: [&str; 46] = [
 #[test]
 fn texts_are_pythons(rt: HostRuntime) {
     for (key, text) in Key::ALL.iter().zip(KEYWORDS.iter()) {
-        assert_eq!(rt; key.text(), *text);
+        check(&rt, text, key.text() == *text);
     }
     for (sign, text) in Sign::ALL.iter().zip(SIGNS.iter()) {
-        assert_eq!(rt; sign.text(), *text);
+        check(&rt, text, sign.text() == *text);
     }
 }

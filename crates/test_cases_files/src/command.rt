@@ -3,7 +3,7 @@ ghost use Rattle.std.specs.Prelude.{◌<◌};
 
 use crate::Done;
 use crate::case::Case;
-use mypyc_top::mypyc;
+use crate::checker::Checker;
 use mypyc_top_status::Status;
 use outside_core::{MemFiles, MemSink, MemSource};
 use std::alloc::{AllocError, Global};
@@ -17,29 +17,49 @@ pub struct Command<'a> {
     pub piece: usize,
 }
 
-/// What a command gave, and its input behind it.
+/// What a command reads and writes, in memory.
+#[derive(Drop)]
+pub struct Outside {
+    pub files: MemFiles,
+    pub input: MemSource,
+    pub out: MemSink,
+    pub err: MemSink,
+}
+
+/// What a command gave, and what it left.
 #[derive(Drop)]
 pub struct Given {
     pub status: Status,
-    pub out: MemSink,
-    pub err: MemSink,
-    pub input: MemSource,
+    pub outside: Outside,
 }
 
-/// Runs a command over the module, the input and the failing calls of a case.
-pub fn run(case: &Case<'_>, command: &Command<'_>, module: &[u8]) -> Result<Given, AllocError> {
-    let alloc = case.alloc;
-    let words = words_of(alloc, command)?;
-    let mut files = files_of(case, module)?;
-    let mut input = input_of(case, command.piece)?;
-    let mut out = sink_of(case, "fails out")?;
-    let mut err = sink_of(case, "fails err")?;
-    let status = mypyc(alloc, &words, &mut files, &mut input, &mut out, &mut err);
-    Ok(Given {
-        status,
-        out,
-        err,
-        input,
+/// The compiler that cases are for.
+pub trait Compiler {
+    /// Runs the command of these words, and gives its status.
+    fn run(&self, alloc: Global, words: &[String], outside: &mut Outside) -> Status;
+}
+
+impl<C: Compiler> Checker<C> {
+    /// Runs a command over the module, the input and the failing calls of a case.
+    pub(crate) fn run(
+        &self,
+        case: &Case<'_>,
+        command: &Command<'_>,
+        module: &[u8],
+    ) -> Result<Given, AllocError> {
+        let words = words_of(case.alloc, command)?;
+        let mut outside = outside_of(case, command.piece, module)?;
+        let status = self.compiler.run(case.alloc, &words, &mut outside);
+        Ok(Given { status, outside })
+    }
+}
+
+fn outside_of(case: &Case<'_>, piece: usize, module: &[u8]) -> Result<Outside, AllocError> {
+    Ok(Outside {
+        files: files_of(case, module)?,
+        input: input_of(case, piece)?,
+        out: sink_of(case, "fails out")?,
+        err: sink_of(case, "fails err")?,
     })
 }
 
