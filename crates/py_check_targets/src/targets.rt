@@ -3,6 +3,7 @@ ghost use Rattle.std.specs.Prelude.{◌≡◌, map, IfOk};
 ghost use Rattle.std.specs.Option.{option_map, option_copied};
 ghost use Rattle.py_syntax.specs.Expressions.{expr_tree};
 ghost use Rattle.py_typed.specs.Sorts.{sort};
+ghost use Rattle.py_typed.specs.Expressions.{type_of};
 ghost use Rattle.py_typed.specs.Narrowing as narrowing;
 ghost use Rattle.py_typed.specs.Statements.{typed_target};
 ghost use Rattle.py_check_context.specs.Context.{context, var_sort, var_of, wanted};
@@ -98,7 +99,10 @@ fn variable_aim<'a>(target: Target, x: &'a Name, ty: VarType) -> Option<Aim<'a>>
     match ty {
         VarType::Has(t) => Some(Aim::Held(target, t)),
         VarType::Unset => Some(Aim::First(target, x)),
-        VarType::Untyped => None,
+        VarType::Untyped => {
+            drop(target);
+            None
+        }
     }
 }
 
@@ -109,7 +113,16 @@ pub fn value_aim<'a>(written: bool, e: Box<TExpr>) -> Aim<'a>
     if written {
         return item_aim(e);
     }
-    Aim::Misplaced(Box::into_inner(e).ty)
+    Aim::Misplaced(only_type(e))
+}
+
+// The type of an expression, which is let go.
+fn only_type(e: Box<TExpr>) -> Ty
+    ensures { sort result ≡ type_of (boxed e) }
+{
+    let TExpr { kind, ty, span: _ } = Box::into_inner(e);
+    drop(kind);
+    ty
 }
 
 fn item_aim<'a>(e: Box<TExpr>) -> Aim<'a>
@@ -118,19 +131,26 @@ fn item_aim<'a>(e: Box<TExpr>) -> Aim<'a>
     let TExpr { kind, ty, span: _ } = Box::into_inner(e);
     match kind {
         TKind::At(held, i) => part_aim(held, i, ty),
-        TKind::TupleAt(held, _) => Aim::Unwritten(Box::into_inner(held).ty),
-        _ => Aim::Misplaced(ty),
+        TKind::TupleAt(held, _) => {
+            drop(ty);
+            Aim::Unwritten(only_type(held))
+        }
+        other => {
+            drop(other);
+            Aim::Misplaced(ty)
+        }
     }
 }
 
 fn part_aim<'a>(held: Box<TExpr>, i: Box<TExpr>, ty: Ty) -> Aim<'a>
     ensures { aim_seen result ≡ rule_of.part_aim (boxed held) (boxed i) (sort ty) }
 {
-    let held = Box::into_inner(held);
-    if is_written(&held.ty) {
-        return Aim::Held(Target::At(held, Box::into_inner(i)), ty);
+    if !is_written(&held.ty) {
+        drop(ty);
+        return Aim::Unwritten(only_type(held));
     }
-    Aim::Unwritten(held.ty)
+    let target = Target::At(Box::into_inner(held), Box::into_inner(i));
+    Aim::Held(target, ty)
 }
 
 fn is_written(t: &Ty) -> bool
