@@ -33,7 +33,10 @@ pub fn value_for(
     ensures { IfOk result (λ t. Tells boxed t faults.old faults.new (rule_of.typed_at (context scope.now) (known_at place.now) (rule_of.asked_by several (option_map (map aim_seen) aims.now)) (expr_tree e.now))) }
 {
     let asked = asked_type(alloc, several, aims)?;
-    typed_at(alloc, scope, place, want_of(asked.as_ref()), e, faults)
+    let want = want_of(asked.as_ref());
+    let value = typed_at(alloc, scope, place, want, e, faults);
+    drop(asked);
+    value
 }
 
 // What is asked for by a type, if there is one.
