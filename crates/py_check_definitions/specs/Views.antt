@@ -11,7 +11,9 @@ use Rattle.py_syntax.specs.declared.token.Span.{Span}
 use Rattle.py_syntax.specs.Statements.{StmtTree, at, Def, ClassDef, Import, From, FuncTree, func_tree}
 use Rattle.py_syntax_diagnostics.specs.declared.diagnostic.Diag.{Diag}
 use Rattle.py_binder.specs.declared.scope.Scope.{Scope}
+use Rattle.py_typed.specs.Sorts.{Sort}
 use Rattle.py_check_context.specs.declared.scope.Meaning.{Meaning}
+use Rattle.py_check_context.specs.Context.{VarSort}
 use Rattle.py_check_messages.specs.Seen.{diag}
 use Rattle.py_check_messages.specs.Messages as message
 use Rattle.py_check_names.specs.declared.meanings.Known.{Known}
@@ -21,6 +23,7 @@ use Rattle.py_check_signatures.specs.Headers.{header, header_said}
 use Rattle.py_check_signatures.specs.Definitions.{is_new}
 use Rattle.py_check_signatures.specs.Views.{header_sorts, parts}
 use Rattle.py_check_definitions.specs.declared.functions.Function.{Function}
+use Rattle.py_check_definitions.specs.Starts.{by_mark, or_param, param_sort}
 use Rattle.py_check_definitions.specs.Definitions.{Headed, function_said, import_said, names_given, inner_definitions_said}
 
 abbrev pub headed_of : Function → Headed
@@ -56,6 +59,10 @@ said_along earlier fs (s ∷ more) = said_at earlier fs s ++ said_along (earlier
 -- an annotation, if there is one
 abbrev pub mark_tree : Option (Bor Expr) → Option ExprTree
 mark_tree = option_map (λ e. expr_tree e.now)
+
+-- the type of a function's own variable by such annotations, where its parameters have these names and types
+abbrev pub sort_by : (List ℕ → Meaning) → (List ℕ → Option (Option ExprTree)) → List (List ℕ) → List (Option Sort) → List ℕ → VarSort
+sort_by meanings mark params sorts name = or_param (param_sort params sorts name) (by_mark meanings (mark name))
 
 -- what names mean in a scope
 abbrev pub meanings_by : Known → Scope → List ℕ → Meaning

@@ -11,6 +11,7 @@ ghost use Rattle.py_check_definitions.specs.Definitions as spec;
 ghost use Rattle.py_check_definitions.specs.Views as views;
 
 use crate::functions::Function;
+use crate::variables::add_name;
 use indexmap::IndexSet;
 use py_check_context::Meaning;
 use py_check_messages::{outside_import, outside_profile};
@@ -31,10 +32,23 @@ pub fn add_definition_faults(
     ensures { IfOk result (λ done. faults.new ≡ faults.old ++ views.said_along [] (map views.headed_of functions.now) (trees definitions.now)) }
 {
     let mut earlier = IndexSet::new(alloc);
+    add_along(alloc, definitions, functions, &mut earlier, faults)
+}
+
+/// The same behind definitions of these names, which those here are put behind.
+fn add_along(
+    alloc: Global,
+    definitions: &[&Stmt],
+    functions: &[Function<'_>],
+    earlier: &mut IndexSet<Name>,
+    faults: &mut Many<Diag>,
+) -> Result<(), Memory>
+    ensures { IfOk result (λ done. faults.new ≡ faults.old ++ views.said_along earlier.old.keys (map views.headed_of functions.now) (trees definitions.now)) }
+{
     let mut rest = functions;
     for s in definitions {
-        add_definition_fault(alloc, &earlier, rest, *s, faults)?;
-        let held = add_names(alloc, *s, &mut earlier)?;
+        add_definition_fault(alloc, earlier, rest, *s, faults)?;
+        let held = add_names(alloc, *s, earlier)?;
         rest = behind(rest, held);
     }
     Ok(())
@@ -65,7 +79,7 @@ fn add_all(given: &[(Name, Meaning)], earlier: &mut IndexSet<Name>) -> Result<()
     ensures { IfOk result (λ done. earlier.new.keys ≡ insert_all bytes_eq earlier.old.keys (map (λ p. p.0) given.now)) }
 {
     for (name, _) in given {
-        earlier.insert(name.clone()?)?;
+        add_name(earlier, name)?;
     }
     Ok(())
 }
@@ -86,10 +100,12 @@ fn add_definition_fault(
             add_first_fault(alloc, s.span, fresh, functions, faults)
         }
         StmtKind::Class(c) => outside_profile(alloc, s.span, c.name.as_str(), faults),
-        StmtKind::Import(_, _) => add_import_fault(alloc, false, s.span, faults),
+        StmtKind::Import(_, _) => outside_import(alloc, s.span, faults),
         StmtKind::From(source, names) => {
-            let allowed = may_import_all(source, names.as_slice());
-            add_import_fault(alloc, allowed, s.span, faults)
+            if may_import_all(source, names.as_slice()) {
+                return Ok(());
+            }
+            outside_import(alloc, s.span, faults)
         }
         _ => Ok(()),
     }
@@ -126,12 +142,6 @@ pub fn add_inner_faults(
 
 fn add_in_function(alloc: Global, f: &Func, faults: &mut Many<Diag>) -> Result<(), Memory>
     ensures { IfOk result (λ done. faults.new ≡ faults.old ++ spec.inner_definitions_said (func_tree f.now)) }
-{
-    add_in_parts(alloc, f, faults)
-}
-
-fn add_in_parts(alloc: Global, f: &Func, faults: &mut Many<Diag>) -> Result<(), Memory>
-    ensures { IfOk result (λ done. faults.new ≡ faults.old ++ spec.inner_definitions_said (parts f.now)) }
 {
     let found = definitions_in(alloc, f.body.as_slice())?;
     add_all_inner(alloc, found.as_slice(), faults)
@@ -191,20 +201,6 @@ fn add_marked(alloc: Global, span: Span, f: &Func, faults: &mut Many<Diag>) -> R
         [] => Ok(()),
         [_, ..] => outside_profile(alloc, span, f.name.as_str(), faults),
     }
-}
-
-fn add_import_fault(
-    alloc: Global,
-    allowed: bool,
-    span: Span,
-    faults: &mut Many<Diag>,
-) -> Result<(), Memory>
-    ensures { IfOk result (λ done. faults.new ≡ faults.old ++ spec.import_said allowed span) }
-{
-    if allowed {
-        return Ok(());
-    }
-    outside_import(alloc, span, faults)
 }
 
 /// Whether a module has each of the names, and none is given another name.

@@ -4,7 +4,6 @@ ghost use Rattle.std.specs.List.{flat_map};
 ghost use Rattle.std.specs.Option.{option_copied};
 ghost use Rattle.py_syntax.specs.Statements.{stmt_tree, body_tree, func_tree, handler_tree, handlers_of};
 ghost use Rattle.py_check_names.specs.Walked.{trees, func_trees};
-ghost use Rattle.py_check_signatures.specs.Views.{parts};
 ghost use Rattle.py_check_definitions.specs.Globals as spec;
 
 use indexmap::IndexSet;
@@ -38,12 +37,6 @@ pub fn add_global_faults<'a>(
 /// Puts the `global` statements of a function behind those that there are.
 fn find_in_function<'a>(statements: &mut Vec<&'a Stmt>, f: &'a Func) -> Result<(), Memory>
     ensures { IfOk result (λ done. trees statements.new.items ≡ trees statements.old.items ++ spec.function_globals (func_tree f.now)) }
-{
-    find_by_parts(statements, f)
-}
-
-fn find_by_parts<'a>(statements: &mut Vec<&'a Stmt>, f: &'a Func) -> Result<(), Memory>
-    ensures { IfOk result (λ done. trees statements.new.items ≡ trees statements.old.items ++ spec.function_globals (parts f.now)) }
 {
     find_all(statements, f.body.as_slice())
 }

@@ -30,12 +30,7 @@ pub fn start_types(
 ) -> Result<Many<VarType>, Memory>
     ensures { IfOk result (λ types. map var_sort types ≡ map (spec.start_sort (context scope.now).meaning (suite_bindings (body_tree body.now))) names.now) }
 {
-    let marks = marks_in(alloc, body)?;
-    let mut types = Many::new(alloc);
-    for name in names {
-        types.push(start_type(alloc, scope, &marks, name)?)?;
-    }
-    Ok(types)
+    own_types(alloc, scope, body, &[], &Many::new(alloc), names)
 }
 
 /// The types of a function's own variables before its first statement, where its parameters have these names and types.
@@ -50,9 +45,23 @@ pub fn own_types(
     ensures { IfOk result (λ types. map var_sort types ≡ map (spec.own_sort (context scope.now).meaning (suite_bindings (body_tree body.now)) (map (λ p. p.0) (map param_tree params.now)) (map (option_map sort) sorts.now)) names.now) }
 {
     let marks = marks_in(alloc, body)?;
+    types_by(alloc, scope, &marks, params, sorts, names)
+}
+
+/// The same by the annotations of the first bindings of names.
+fn types_by(
+    alloc: Global,
+    scope: &Scope<'_>,
+    marks: &IndexMap<Name, Option<&Expr>>,
+    params: &[(Name, Option<Expr>)],
+    sorts: &Many<Option<Ty>>,
+    names: &[Name],
+) -> Result<Many<VarType>, Memory>
+    ensures { IfOk result (λ types. map var_sort types ≡ map (views.sort_by (context scope.now).meaning (λ name. option_map views.mark_tree (get bytes_eq marks.now name)) (map (λ p. p.0) (map param_tree params.now)) (map (option_map sort) sorts.now)) names.now) }
+{
     let mut types = Many::new(alloc);
     for name in names {
-        types.push(own_type(alloc, scope, &marks, params, sorts, name)?)?;
+        types.push(own_type(alloc, scope, marks, params, sorts, name)?)?;
     }
     Ok(types)
 }
@@ -65,7 +74,7 @@ fn own_type(
     sorts: &Many<Option<Ty>>,
     name: &Name,
 ) -> Result<VarType, Memory>
-    ensures { IfOk result (λ t. var_sort t ≡ spec.or_param (spec.param_sort (map (λ p. p.0) (map param_tree params.now)) (map (option_map sort) sorts.now) name.now) (spec.by_mark (context scope.now).meaning (option_map views.mark_tree (get bytes_eq marks.now name.now)))) }
+    ensures { IfOk result (λ t. var_sort t ≡ views.sort_by (context scope.now).meaning (λ name. option_map views.mark_tree (get bytes_eq marks.now name)) (map (λ p. p.0) (map param_tree params.now)) (map (option_map sort) sorts.now) name.now) }
 {
     match param_type(params, sorts, name) {
         Some(t) => given_type(alloc, t),

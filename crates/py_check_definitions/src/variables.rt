@@ -1,8 +1,9 @@
 //! The variables of a module and of its functions, with their names.
 ghost use Rattle.std.specs.Prelude.{◌≡◌, ◌++◌, map, filter, unwrap_or, IfOk};
 ghost use Rattle.std.specs.Option.{option_map, option_copied};
+ghost use Rattle.std.specs.Str.{bytes_eq};
+ghost use Rattle.indexmap.specs.IndexSet.{insert_key, insert_all};
 ghost use Rattle.py_syntax.specs.Statements.{param_tree};
-ghost use Rattle.py_binder.specs.Scope.{first_sights};
 ghost use Rattle.py_typed.specs.Sorts as sorts;
 ghost use Rattle.py_typed.specs.Statements.{variable};
 ghost use Rattle.py_check_context.specs.Context.{var_sort, var_of};
@@ -22,31 +23,28 @@ use value_core::{Many, Memory, Name};
 pub fn own_names(alloc: Global, inside: &Scope) -> Result<IndexSet<Name>, Memory>
     ensures { IfOk result (λ own. own.keys ≡ meanings.own_names inside.now) }
 {
-    let mut names = Vec::new(alloc);
-    add_own(&mut names, inside.names.as_slice())?;
-    name_set(alloc, names.as_slice())
+    let mut own = IndexSet::new(alloc);
+    add_own(&mut own, inside.names.as_slice())?;
+    Ok(own)
 }
 
-fn add_own(names: &mut Vec<Name>, seen: &[(Name, Role)]) -> Result<(), Memory>
-    ensures { IfOk result (λ done. names.new.items ≡ names.old.items ++ map (λ p. p.0) (filter (λ p. meanings.is_own p.1) seen.now)) }
+fn add_own(own: &mut IndexSet<Name>, seen: &[(Name, Role)]) -> Result<(), Memory>
+    ensures { IfOk result (λ done. own.new.keys ≡ insert_all bytes_eq own.old.keys (map (λ p. p.0) (filter (λ p. meanings.is_own p.1) seen.now))) }
 {
     for (name, role) in seen {
         if is_own(*role) {
-            names.push(name.clone()?)?;
+            add_name(own, name)?;
         }
     }
     Ok(())
 }
 
-/// Each name once, in the order of first sight.
-fn name_set(alloc: Global, names: &[Name]) -> Result<IndexSet<Name>, Memory>
-    ensures { IfOk result (λ s. s.keys ≡ first_sights names.now) }
+/// Puts a name behind the others, where it is not one of them.
+pub(crate) fn add_name(names: &mut IndexSet<Name>, name: &Name) -> Result<(), Memory>
+    ensures { IfOk result (λ done. names.new.keys ≡ insert_key bytes_eq names.old.keys name.now) }
 {
-    let mut set = IndexSet::new(alloc);
-    for name in names {
-        set.insert(name.clone()?)?;
-    }
-    Ok(set)
+    names.insert(name.clone()?)?;
+    Ok(())
 }
 
 /// The numbers of names.

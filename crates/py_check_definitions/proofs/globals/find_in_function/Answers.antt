@@ -1,11 +1,11 @@
-use Rattle.std.proofs.Common.{◌≡◌, ◌++◌, IfOk, sym, subst}
-use Rattle.py_syntax.specs.Statements.{FuncTree}
+use Rattle.std.proofs.Common.{◌≡◌, ◌++◌, ◌∙◌, IfOk, ap, sym, subst}
+use Rattle.py_syntax.specs.Statements.{Suite, FuncTree, body_tree}
 use Rattle.py_binder.proofs.DefinitionLemmas.{func_tree_at}
 use Rattle.py_check_names.specs.Walked.{trees}
-use Rattle.py_check_definitions.specs.Globals.{function_globals}
+use Rattle.py_check_definitions.specs.Globals.{suite_globals}
 use Rattle.py_check_definitions.proofs.globals.find_in_function.Goals as goal
 
 pub returns : goal.returns
 returns c =
-    let P : FuncTree → Type 0 = λ t. IfOk c.find_by_parts.result (λ done. trees c.find_by_parts.new.statements.items ≡ trees c.args.statements.now.items ++ function_globals t) in
-    subst P (sym (func_tree_at c.args.f.now)) c.find_by_parts.ensures
+    let P : Suite → Type 0 = λ b. IfOk c.find_all.result (λ done. trees c.find_all.new.found.items ≡ trees c.args.statements.now.items ++ suite_globals b) in
+    subst P (ap body_tree c.as_slice.ensures ∙ ap (λ (t : FuncTree). t.body) (sym (func_tree_at c.args.f.now))) c.find_all.ensures

@@ -1,5 +1,5 @@
 use Rattle.py_check_definitions.proofs.DefinitionLemmas.{taken, walk_step}
-use Rattle.py_check_definitions.proofs.definitions.add_definition_faults.Goals as goal
+use Rattle.py_check_definitions.proofs.definitions.add_along.Goals as goal
 
 pub loop-s-preserved : goal.loop-s-preserved
 loop-s-preserved c =
