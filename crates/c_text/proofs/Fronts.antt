@@ -1,6 +1,5 @@
 -- Texts that are written piece by piece.
-use Rattle.std.proofs.Common.{◌≡◌, ◌∙◌, ap, sym, ℕ, ◌+◌, ◌<◌, List, [], ◌∷◌, ◌++◌, length, take, drop, get_or, append_assoc, append-nil, add-one, take-append-drop, subst, suc, Ok, Err}
-use Rattle.std.specs.Prelude.{Result, OnOk, OnErr, Bool, IsTrue}
+use Rattle.std.proofs.Common.{◌≡◌, ◌∙◌, ap, sym, ℕ, ◌+◌, ◌<◌, List, [], ◌∷◌, ◌++◌, length, take, drop, get_or, append_assoc, append-nil, add-one, take-append-drop, subst, suc}
 use Rattle.std.specs.List.{flat_map}
 use Rattle.std.proofs.lemmas.List.{take_more}
 use Rattle.std.proofs.Math.Seq.{drop-cons}
@@ -8,26 +7,7 @@ use Rattle.std.proofs.lemmas.Grind.{flat_map-append}
 use Rattle.outside_core.specs.Bytes.{TakesFront}
 use Rattle.outside_core.proofs.Fronts.{TakesFront-before, TakesFront-after}
 
--- all of the bytes were taken: those of the pieces behind the first one, too
-pub record TakesAll (old new bytes : List ℕ) : Type 0 where
-  pub grown : new ≡ old ++ bytes
-
-pub OnOk-through : {T E : Type 0} {tells : Bool} {mid new more : List ℕ} (old text : List ℕ) (r : Result T E) → (IsTrue tells → TakesAll mid new more → TakesAll old new text) → OnOk r (IsTrue tells → new ≡ mid ++ more) → OnOk r (IsTrue tells → new ≡ old ++ text)
-OnOk-through old text (Ok x) f p = λ tells. (f tells (record { grown = p tells })).grown
-OnOk-through old text (Err e) f p = tt
-
-pub all_behind : {mid new more : List ℕ} (old bytes : List ℕ) → mid ≡ old ++ bytes → TakesAll mid new more → TakesAll old new (bytes ++ more)
-all_behind {more = more} old bytes p all = record { grown = all.grown ∙ ap (λ t. t ++ more) p ∙ append_assoc old bytes more }
-
--- a front is taken where a call failed: of the first piece, or of the pieces behind it
-pub OnErr-front : {T E : Type 0} {tells : Bool} {old new text : List ℕ} (r : Result T E) → (IsTrue tells → TakesFront old new text) → OnErr r (IsTrue tells → TakesFront old new text)
-OnErr-front (Ok x) f = tt
-OnErr-front (Err e) f = f
-
-pub OnErr-through : {T E : Type 0} {tells : Bool} {old mid new text more : List ℕ} (r : Result T E) → (IsTrue tells → TakesFront mid new more → TakesFront old new text) → OnErr r (IsTrue tells → TakesFront mid new more) → OnErr r (IsTrue tells → TakesFront old new text)
-OnErr-through (Ok x) f p = tt
-OnErr-through (Err e) f p = λ tells. f tells (p tells)
-
+-- a front of the first of two pieces, or of what stands behind it
 pub front_of_first : {old new bytes : List ℕ} (more : List ℕ) → TakesFront old new bytes → TakesFront old new (bytes ++ more)
 front_of_first {old} {new} {bytes} more f = TakesFront-before old new bytes more f
 
@@ -52,10 +32,3 @@ taken_more old f xs i x d h p q r =
 pub front_more : {X : Type 0} {mid new : List ℕ} (old : List ℕ) (f : X → List ℕ) (xs ys : List X) (i : ℕ) (x d : X) → xs ≡ ys → i < length xs → x ≡ get_or xs i d → mid ≡ old ++ flat_map f (take i xs) → TakesFront mid new (f x) → TakesFront old new (flat_map f ys)
 front_more {new = new} old f xs ys i x d same h p q r =
     subst (λ text. TakesFront old new text) (sym (pieces_around f xs i x d h p) ∙ ap (flat_map f) same) (front_behind _ _ q (front_of_first _ r))
-
--- the same of a text that is written in another way
-pub all_as : {old new text : List ℕ} (bytes : List ℕ) → bytes ≡ text → TakesAll old new bytes → TakesAll old new text
-all_as {old} bytes e all = record { grown = all.grown ∙ ap (λ t. old ++ t) e }
-
-pub front_as : {old new text : List ℕ} (bytes : List ℕ) → bytes ≡ text → TakesFront old new bytes → TakesFront old new text
-front_as {old} {new} bytes e f = subst (λ (t : List ℕ). TakesFront old new t) e f

@@ -20,4 +20,5 @@ pub mod SameParts
 pub mod StatementLemmas
 pub mod StatementReads
 pub mod VariableLemmas
+pub mod Writing
 pub mod WrittenLemmas

@@ -16,7 +16,10 @@ use Rattle.c_core.specs.WellFormed.{Declared, Spelled, is_char, is_empty, is_ide
 use Rattle.c_text.specs.declared.head.FunctionHead.{FunctionHead}
 use Rattle.c_text.specs.declared.head.FunctionHead.TheVariants.{Module, Function}
 use Rattle.c_text.specs.declared.part.Above.{Above}
+use Rattle.c_text.specs.declared.part.Added.{Added}
+use Rattle.c_text.specs.declared.part.Added.TheVariants as added
 use Rattle.c_text.specs.declared.part.Open.{Open}
+use Rattle.c_text.specs.Adding.{Adds, with_added}
 use Rattle.c_text.specs.declared.part.Part.{Part}
 use Rattle.c_text.specs.declared.part.Part.TheVariants.{Start, Between, Inside, Closed}
 use Rattle.c_text.specs.Heads.{IsHead, IsNoHead, function_of, head_line, parameters_of}
@@ -447,6 +450,13 @@ next_statement a o lines l piece above fine k e =
           ∙ ap (λ t. above_lines a ++ (head_line o.head o.vars ∷ t)) (ap (λ t. own ++ t) (lines_push o.vars 0 o.lines l ∙ ap (λ t. statement_lines o.vars o.lines ++ t ∷ []) k.1) ∙ sym (append_assoc own (statement_lines o.vars o.lines) (piece ∷ [])))
           ∙ sym (append_assoc (above_lines a) (open_lines o) (piece ∷ [])),
     )
+
+-- what a line adds
+pub next_added : (a : Above) (o grown : Open) (x : Added) (piece : List ℕ) → IsAbove a → IsOpen o → Adds o piece x → grown ≡ with_added o x → IsNext (Inside a o) piece (Inside a grown)
+next_added a o grown (added.Variable v) piece above fine k e =
+    subst (λ (p : Open). IsNext (Inside a o) piece (Inside a p)) (sym e) (next_declaration a o (o.vars ++ v ∷ []) v piece above fine k refl)
+next_added a o grown (added.Line l) piece above fine k e =
+    subst (λ (p : Open). IsNext (Inside a o) piece (Inside a p)) (sym e) (next_statement a o (o.lines ++ l ∷ []) l piece above fine k refl)
 
 -- the function that ends is the last one of the code, or another one
 pub next_top : (a : Above) (o : Open) (functions : List CFunc) → IsAbove a → IsOpen o → o.head ≡ Module → functions ≡ a.functions ++ function_of Module o.vars o.lines ∷ [] → IsNext (Inside a o) function_end (Closed (record { globals = a.globals; functions = functions }))

@@ -1,12 +1,13 @@
 -- What is written piece by piece is the text of the code's lines.
-use Rattle.std.proofs.Common.{◌≡◌, ◌∙◌, ℕ, ◌+◌, ◌-◌, ◌<◌, ◌≤◌, suc, Bool, true, false, cond, List, [], ◌∷◌, ◌++◌, length, take, drop, get_or, refl, sym, ap, subst, arith, append_assoc, append-nil, add-one, take-append-drop}
-use Rattle.std.specs.Prelude.{codes, map}
+use Rattle.std.proofs.Common.{◌≡◌, ◌∙◌, ℕ, ◌+◌, ◌-◌, ◌<◌, ◌≤◌, suc, Bool, true, false, cond, List, [], ◌∷◌, ◌++◌, length, take, drop, get_or, refl, sym, ap, subst, arith, append_assoc, append-nil, add-one, take-append-drop, Ok, Err}
+use Rattle.std.specs.Prelude.{codes, map, Result, IsErr}
 use Rattle.std.specs.Fmt.{decimal}
 use Rattle.std.specs.List.{flat_map}
 use Rattle.std.proofs.lemmas.Grind.{common_steps}
 use Rattle.std.proofs.lemmas.List.{take_all, take_more}
 use Rattle.std.proofs.Math.Seq.{drop-cons}
 use Rattle.outside_core.specs.Bytes.{TakesFront}
+use Rattle.outside_core.specs.Counts.{count_after}
 use Rattle.c_core.specs.declared.code.CFunc.{CFunc}
 use Rattle.c_core.specs.declared.code.Code.{Code}
 use Rattle.c_core.specs.declared.code.Line.{Line}
@@ -14,9 +15,11 @@ use Rattle.c_core.specs.Functions.{is_label}
 use Rattle.c_core.specs.Text.{code_text, comma, declaration_lines, declaration_text, first_line, function_end, function_head, function_lines, global_line, global_lines, indented, joined, kind_text, label_line, lines_from, module_head, parameters_text, statement_text, text_of}
 use Rattle.c_core.specs.WellFormed.{Declared}
 use Rattle.c_text.specs.Labels.{labels_after, labels_behind, line_text}
+use Rattle.c_text.specs.Writing.{Wrote}
 use Rattle.c_text.specs.Written.{declaration_written, functions_written, global_written, head_written, indented_written, label_written, line_written, lines_written, next_parameter, other_written, top_written}
 use Rattle.c_text.proofs.Fronts.{front_behind, front_of_first}
 use Rattle.c_text.proofs.LineTexts.{lines_step}
+use Rattle.c_text.proofs.Writing.{erred}
 
 -- a line with its line feed, and what follows it
 ended : (text rest : List ℕ) → indented text ++ 10 ∷ rest ≡ (codes "    " ++ (text ++ codes ";\n")) ++ rest
@@ -73,6 +76,20 @@ line_front {mid} {new} old vars xs ys i labels x d same counted h p q r =
     let whole = sym (ap (lines_written vars 0) around) ∙ lines_written-append vars 0 (take i xs) (x ∷ drop (i + 1) xs) in
     let first = subst (λ (k : ℕ). TakesFront mid new (line_written vars k x)) counted r in
     subst (λ (text : List ℕ). TakesFront old new text) (sym whole ∙ ap (lines_written vars 0) same) (front_behind _ _ q (front_of_first _ first))
+
+pub line_more : {T U E F : Type 0} {x : T} {y : U} {tells : Bool} {calm faults faults_then : ℕ} {old mid new : List ℕ} (vars : List Declared) (xs : List Line) (i labels : ℕ) (l d : Line) → labels ≡ labels_behind 0 (take i xs) → i < length xs → l ≡ get_or xs i d → Wrote {E = E} (Ok x) tells calm faults old mid (lines_written vars 0 (take i xs)) → Wrote {E = F} (Ok y) tells faults faults_then mid new (line_written vars labels l) → Wrote {E = E} (Ok x) tells calm faults_then old new (lines_written vars 0 (take (i + 1) xs))
+line_more {old = old} vars xs i labels l d counted within is w v = record {
+  counted = v.counted ∙ w.counted;
+  taken = λ tells. line_taken old vars xs i labels l d counted within is (w.taken tells) (v.taken tells);
+  front = tt;
+}
+
+pub line_broken : {T U V E F G : Type 0} {x : T} {e : F} {tells : Bool} {calm faults faults_then : ℕ} {old mid new : List ℕ} (vars : List Declared) (xs ys : List Line) (i labels : ℕ) (l d : Line) (r : Result V G) → xs ≡ ys → labels ≡ labels_behind 0 (take i xs) → i < length xs → l ≡ get_or xs i d → IsErr r → Wrote {E = E} (Ok x) tells calm faults old mid (lines_written vars 0 (take i xs)) → Wrote {T = U} (Err e) tells faults faults_then mid new (line_written vars labels l) → Wrote r tells calm faults_then old new (lines_written vars 0 ys)
+line_broken {U = U} {F = F} {e = e} {old = old} vars xs ys i labels l d r same counted within is failed w v = erred {T = U} {E = F} {e = e} r failed (record {
+  counted = v.counted ∙ ap (count_after {T = U} (Err e)) w.counted;
+  taken = tt;
+  front = λ tells. line_front old vars xs ys i labels l d same counted within is (w.taken tells) (v.front tells);
+})
 
 -- what follows the head of a function
 body : (vars own : List Declared) (lines : List Line) (more : List (List ℕ)) → text_of (declaration_lines own ++ (lines_from vars 0 lines ++ (function_end ∷ more))) ≡ (flat_map declaration_written own ++ (lines_written vars 0 lines ++ (function_end ++ 10 ∷ []))) ++ text_of more

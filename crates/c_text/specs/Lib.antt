@@ -1,3 +1,4 @@
+pub mod Adding
 pub mod Arguments
 pub mod Counts
 pub mod Heads
@@ -10,4 +11,5 @@ pub mod Reading
 pub mod Statements
 pub mod Variables
 pub mod Words
+pub mod Writing
 pub mod Written

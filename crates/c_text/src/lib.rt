@@ -2,7 +2,8 @@
 //!
 //! `write`: what comes in is a `Code` and a sink; what goes out are the bytes of the code's one text. Where the sink
 //! refuses a call, a front of the text has gone out. The one text is `code_text` of c_core's `specs/Text.antt`;
-//! `writer.rt` goes from the whole code to its lines, `statement.rt` writes a line, and `quote.rt` a text in quotes.
+//! `writer.rt` goes from the whole code to its lines, `statement.rt` writes a line, `quote.rt` a text in quotes, and
+//! `written.rt` the words that these are made of.
 //!
 //! `read`: what comes in are bytes; what goes out is the code that has them as its text, or the place of the first line
 //! that cannot stand, exactly as `specs/Reading.antt` says. There is one relation for both ways: a line is read as what
@@ -29,6 +30,7 @@ mod unquote;
 mod variable;
 mod word;
 mod writer;
+mod written;
 
 pub use laws::{codes_are_one, places_are_one};
 pub use reader::read;

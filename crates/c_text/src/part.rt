@@ -3,7 +3,9 @@ ghost use Rattle.std.specs.Prelude.{◌≡◌, ◌≢◌, [], IsTrue, IfOk, Matc
 ghost use Rattle.c_core.specs.Text.{declaration_text, function_end, global_line, indented};
 ghost use Rattle.c_core.specs.WellFormed.{Declared, is_identifier};
 ghost use Rattle.c_text.specs.declared.part.Part.TheVariants as variant;
+ghost use Rattle.c_text.specs.Adding.{Adds, AddsNothing, with_added};
 ghost use Rattle.c_text.specs.Parts.{IsAbove, IsFine, IsNext, IsOpen, GoesOn};
+ghost use Rattle.c_text.specs.Statements.{AreNamed};
 
 use crate::declaration::{declaration, global};
 use crate::head::{FunctionHead, line_head};
@@ -11,7 +13,7 @@ use crate::line::line;
 use crate::lines::Lines;
 use crate::variable::Variables;
 use crate::word::is;
-use c_core::{CFunc, Kind};
+use c_core::{CFunc, Kind, Line};
 use std::alloc::Global;
 use value_core::{Many, Memory, Name};
 
@@ -28,6 +30,13 @@ pub(crate) struct Open {
     pub(crate) head: FunctionHead,
     pub(crate) vars: Variables,
     pub(crate) lines: Lines,
+}
+
+/// What a line adds to a function: a variable that it declares, or a label or a statement.
+#[derive(Drop)]
+enum Added {
+    Variable((Name, Kind)),
+    Line(Line),
 }
 
 /// How far a text has come.
@@ -146,6 +155,37 @@ fn declaration_behind(
     declaration(alloc, piece)
 }
 
+/// What a line adds to a function, where it may stand in it.
+fn addition(alloc: Global, begun: &Open, piece: &[u8]) -> Result<Option<Added>, Memory>
+    requires { AreNamed begun.now.vars }
+    ensures { IfOk result (λ found. MatchOption found (AddsNothing begun.now piece.now) (Adds begun.now piece.now)) }
+{
+    if let Some(declared) = declaration_behind(alloc, &begun.lines, piece)? {
+        return Ok(Some(Added::Variable(declared)));
+    }
+    match line(alloc, &begun.vars, begun.lines.labels(), piece)? {
+        Some(line) => Ok(Some(Added::Line(line))),
+        None => Ok(None),
+    }
+}
+
+/// A function with what a line adds to it.
+fn with_added(alloc: Global, begun: Open, added: Added) -> Result<Open, Memory>
+    ensures { IfOk result (λ grown. grown ≡ with_added begun added) }
+{
+    let Open { head, vars, lines } = begun;
+    match added {
+        Added::Variable(declared) => {
+            let vars = vars.and(alloc, declared)?;
+            Ok(Open { head, vars, lines })
+        }
+        Added::Line(line) => {
+            let lines = lines.and(line)?;
+            Ok(Open { head, vars, lines })
+        }
+    }
+}
+
 fn behind_inside(
     alloc: Global,
     above: Above,
@@ -160,16 +200,11 @@ fn behind_inside(
         let part = behind_end(alloc, above, begun)?;
         return Ok(Some(part));
     }
-    let Open { head, vars, lines } = begun;
-    if let Some(declared) = declaration_behind(alloc, &lines, piece)? {
-        let vars = vars.and(alloc, declared)?;
-        return Ok(Some(Part::Inside(above, Open { head, vars, lines })));
-    }
-    let Some(line) = line(alloc, &vars, lines.labels(), piece)? else {
+    let Some(added) = addition(alloc, &begun, piece)? else {
         return Ok(None);
     };
-    let lines = lines.and(line)?;
-    Ok(Some(Part::Inside(above, Open { head, vars, lines })))
+    let grown = with_added(alloc, begun, added)?;
+    Ok(Some(Part::Inside(above, grown)))
 }
 
 /// The part behind one more line, where the line may follow.

@@ -1,31 +1,29 @@
-ghost use Rattle.std.specs.Prelude.{◌≡◌, ◌++◌, IsTrue, OnOk, OnErr};
+ghost use Rattle.std.specs.Prelude.{◌++◌};
 ghost use Rattle.std.specs.List.{flat_map};
-ghost use Rattle.outside_core.specs.Counts.{count_after};
-ghost use Rattle.outside_core.specs.Bytes.{TakesFront};
 ghost use Rattle.c_core.specs.Text.{quoted, byte_text};
+ghost use Rattle.c_text.specs.Writing.{Wrote};
 
-use outside_core::{Sink, WriteFault, write_whole};
+use crate::written::{write_word, write_words};
+use outside_core::{Sink, WriteFault};
 use value_core::Text;
 
-/// Writes a text between double quotes, with its escapes.
-pub(crate) fn write_quoted<O: Sink>(text: &Text, out: &mut O) -> Result<(), WriteFault>
-    ensures counted { O.faults out.new ≡ count_after result (O.faults out.old) }
-    ensures taken { OnOk result (IsTrue O.tells →
-        O.taken out.new ≡ O.taken out.old ++ quoted text.now) }
-    ensures front { OnErr result (IsTrue O.tells →
-        TakesFront (O.taken out.old) (O.taken out.new) (quoted text.now)) }
+/// Writes a text between double quotes, with its escapes, behind what separates it from what stands before.
+pub(crate) fn write_quoted<O: Sink>(
+    separator: &[u8],
+    text: &Text,
+    out: &mut O,
+) -> Result<(), WriteFault>
+    ensures { Wrote result O.tells (O.faults out.old) (O.faults out.new) (O.taken out.old) (O.taken out.new)
+        (separator.now ++ quoted text.now) }
 {
-    write_whole(out, b"\"")?;
+    write_words(&[separator, b"\""], out)?;
     write_bytes(text, out)?;
-    write_whole(out, b"\"")
+    write_word(b"\"", out)
 }
 
 fn write_bytes<O: Sink>(text: &Text, out: &mut O) -> Result<(), WriteFault>
-    ensures counted { O.faults out.new ≡ count_after result (O.faults out.old) }
-    ensures taken { OnOk result (IsTrue O.tells →
-        O.taken out.new ≡ O.taken out.old ++ (flat_map byte_text text.now)) }
-    ensures front { OnErr result (IsTrue O.tells →
-        TakesFront (O.taken out.old) (O.taken out.new) (flat_map byte_text text.now)) }
+    ensures { Wrote result O.tells (O.faults out.old) (O.faults out.new) (O.taken out.old) (O.taken out.new)
+        (flat_map byte_text text.now) }
 {
     for byte in text.as_str().as_bytes() {
         write_byte(*byte, out)?;
@@ -36,16 +34,13 @@ fn write_bytes<O: Sink>(text: &Text, out: &mut O) -> Result<(), WriteFault>
 /// Writes a byte as it stands in a quoted text: a backslash before `"`, `\` and line feeds, three octal digits for
 /// other control characters.
 fn write_byte<O: Sink>(byte: u8, out: &mut O) -> Result<(), WriteFault>
-    ensures counted { O.faults out.new ≡ count_after result (O.faults out.old) }
-    ensures taken { OnOk result (IsTrue O.tells →
-        O.taken out.new ≡ O.taken out.old ++ byte_text byte) }
-    ensures front { OnErr result (IsTrue O.tells →
-        TakesFront (O.taken out.old) (O.taken out.new) (byte_text byte)) }
+    ensures { Wrote result O.tells (O.faults out.old) (O.faults out.new) (O.taken out.old) (O.taken out.new)
+        (byte_text byte) }
 {
     match byte {
-        b'"' => write_whole(out, b"\\\""),
-        b'\\' => write_whole(out, b"\\\\"),
-        b'\n' => write_whole(out, b"\\n"),
+        b'"' => write_word(b"\\\"", out),
+        b'\\' => write_word(b"\\\\", out),
+        b'\n' => write_word(b"\\n", out),
         0..32 | 127 => {
             let octal = [
                 b'\\',
@@ -53,8 +48,8 @@ fn write_byte<O: Sink>(byte: u8, out: &mut O) -> Result<(), WriteFault>
                 b'0' + byte / 8 % 8,
                 b'0' + byte % 8,
             ];
-            write_whole(out, &octal)
+            write_word(&octal, out)
         }
-        _ => write_whole(out, &[byte]),
+        _ => write_word(&[byte], out),
     }
 }

@@ -1,15 +1,17 @@
-use Rattle.c_text.proofs.Fronts.{OnErr-front, OnErr-through, front_of_first, front_behind}
+use Rattle.std.proofs.Common.{append_assoc}
+use Rattle.std.specs.Prelude.{codes}
+use Rattle.c_text.proofs.Writing.{same_text, then, failed}
 use Rattle.c_text.proofs.quote.write_quoted.Goals as goal
 
-pub returns-in_err-write_whole-clause-front : goal.returns-in_err-write_whole-clause-front
-returns-in_err-write_whole-clause-front g c =
-    OnErr-front _ (λ tells. front_of_first _ (c.in_err-write_whole.ensures.front tells))
+pub returns-in_err-write_words : goal.returns-in_err-write_words
+returns-in_err-write_words g c =
+    same_text (append_assoc _ (codes "\"") _) (failed _ _ c.from_residual.ensures.0 c.in_err-write_words.ensures)
 
-pub returns-in_err-write_bytes-clause-front : goal.returns-in_err-write_bytes-clause-front
-returns-in_err-write_bytes-clause-front g c =
-    OnErr-front _ (λ tells. front_behind _ _ (c.in_ok-write_whole.ensures.taken tells) (front_of_first _ (c.in_err-write_bytes.ensures.front tells)))
+pub returns-in_err-write_bytes : goal.returns-in_err-write_bytes
+returns-in_err-write_bytes g c =
+    same_text (append_assoc _ (codes "\"") _)
+    (then c.in_ok-write_words.ensures (failed _ _ c.from_residual-in_err-write_bytes.ensures.0 c.in_err-write_bytes.ensures))
 
-pub returns-clause-front : goal.returns-clause-front
-returns-clause-front g c =
-    OnErr-through _ (λ tells front. front_behind _ _ (c.in_ok-write_whole.ensures.taken tells) (front_behind _ _ (c.in_ok-write_bytes.ensures.taken tells) front))
-    c.write_whole-2.ensures.front
+pub returns : goal.returns
+returns g c =
+    same_text (append_assoc _ (codes "\"") _) (then c.in_ok-write_words.ensures (then c.in_ok-write_bytes.ensures c.write_word.ensures))

@@ -1,25 +1,12 @@
-use Rattle.c_core.specs.Text.{branches_text}
-use Rattle.c_text.proofs.Fronts.{OnOk-through, all_behind, OnErr-front, OnErr-through, front_of_first, front_behind}
+use Rattle.std.proofs.Common.{◌∙◌, ◌++◌, ap}
+use Rattle.std.specs.Prelude.{codes}
+use Rattle.std.specs.Fmt.{decimal}
+use Rattle.c_text.proofs.Writing.{same_text}
 use Rattle.c_text.proofs.statement.write_branches.Goals as goal
 
-pub returns-in_err-write_whole-clause-front : goal.returns-in_err-write_whole-clause-front
-returns-in_err-write_whole-clause-front g c =
-    OnErr-front _ (λ tells. front_of_first _ (c.in_err-write_whole.ensures.front tells))
-
-pub returns-in_err-write_jump-clause-front : goal.returns-in_err-write_jump-clause-front
-returns-in_err-write_jump-clause-front g c =
-    OnErr-front _ (λ tells. front_behind _ _ (c.in_ok-write_whole.ensures.taken tells) (front_of_first _ (c.in_err-write_jump.ensures.front tells)))
-
-pub returns-in_err-write_whole-2-clause-front : goal.returns-in_err-write_whole-2-clause-front
-returns-in_err-write_whole-2-clause-front g c =
-    OnErr-front _ (λ tells. front_behind _ _ (c.in_ok-write_whole.ensures.taken tells) (front_behind _ _ (c.in_ok-write_jump.ensures.taken tells) (front_of_first _ (c.in_err-write_whole-2.ensures.front tells))))
-
-pub returns-clause-front : goal.returns-clause-front
-returns-clause-front g c =
-    OnErr-through _ (λ tells front. front_behind _ _ (c.in_ok-write_whole.ensures.taken tells) (front_behind _ _ (c.in_ok-write_jump.ensures.taken tells) (front_behind _ _ (c.in_ok-write_whole-2.ensures.taken tells) front)))
-    c.write_jump-2.ensures.front
-
-pub returns-clause-taken : goal.returns-clause-taken
-returns-clause-taken g c =
-    OnOk-through (g.O.Sink.taken c.args.out.now) (branches_text c.args.first c.args.second) _ (λ tells taken. all_behind _ _ (c.in_ok-write_whole.ensures.taken tells) (all_behind _ _ (c.in_ok-write_jump.ensures.taken tells) (all_behind _ _ (c.in_ok-write_whole-2.ensures.taken tells) taken)))
-    c.write_jump-2.ensures.taken
+pub returns : goal.returns
+returns g c =
+    let second = c.number_word-second.result.now in
+    same_text (ap (λ t. codes ") goto CPyL" ++ (t ++ (codes "; else goto CPyL" ++ second))) c.number_word-first.ensures
+    ∙ ap (λ t. codes ") goto CPyL" ++ (decimal c.args.first ++ (codes "; else goto CPyL" ++ t))) c.number_word-second.ensures)
+    c.write_words.ensures

@@ -1,23 +1,17 @@
-use Rattle.c_text.proofs.Fronts.{OnErr-front, OnErr-through, front_of_first, front_behind}
+use Rattle.c_text.proofs.Writing.{same_text, then, failed, call_written}
 use Rattle.c_text.proofs.statement.write_call.Goals as goal
 
-pub returns-in_err-write_target-clause-front : goal.returns-in_err-write_target-clause-front
-returns-in_err-write_target-clause-front g c =
-    OnErr-front _ (λ tells. front_of_first _ (c.in_err-write_target.ensures.front tells))
+pub returns-in_err-write_words : goal.returns-in_err-write_words
+returns-in_err-write_words g c =
+    same_text (call_written _ (c.target_words-target.ensures _) c.name_word-name.ensures _)
+    (failed _ _ c.from_residual.ensures.0 c.in_err-write_words.ensures)
 
-pub returns-in_err-write_name-clause-front : goal.returns-in_err-write_name-clause-front
-returns-in_err-write_name-clause-front g c =
-    OnErr-front _ (λ tells. front_behind _ _ (c.in_ok-write_target.ensures.taken tells) (front_of_first _ (c.in_err-write_name.ensures.front tells)))
+pub returns-in_err-write_arguments : goal.returns-in_err-write_arguments
+returns-in_err-write_arguments g c =
+    same_text (call_written _ (c.target_words-target.ensures _) c.name_word-name.ensures _)
+    (then c.in_ok-write_words.ensures (failed _ _ c.from_residual-in_err-write_arguments.ensures.0 c.in_err-write_arguments.ensures))
 
-pub returns-in_err-write_whole-clause-front : goal.returns-in_err-write_whole-clause-front
-returns-in_err-write_whole-clause-front g c =
-    OnErr-front _ (λ tells. front_behind _ _ (c.in_ok-write_target.ensures.taken tells) (front_behind _ _ (c.in_ok-write_name.ensures.taken tells) (front_of_first _ (c.in_err-write_whole.ensures.front tells))))
-
-pub returns-in_err-write_arguments-clause-front : goal.returns-in_err-write_arguments-clause-front
-returns-in_err-write_arguments-clause-front g c =
-    OnErr-front _ (λ tells. front_behind _ _ (c.in_ok-write_target.ensures.taken tells) (front_behind _ _ (c.in_ok-write_name.ensures.taken tells) (front_behind _ _ (c.in_ok-write_whole.ensures.taken tells) (front_of_first _ (c.in_err-write_arguments.ensures.front tells)))))
-
-pub returns-clause-front : goal.returns-clause-front
-returns-clause-front g c =
-    OnErr-through _ (λ tells front. front_behind _ _ (c.in_ok-write_target.ensures.taken tells) (front_behind _ _ (c.in_ok-write_name.ensures.taken tells) (front_behind _ _ (c.in_ok-write_whole.ensures.taken tells) (front_behind _ _ (c.in_ok-write_arguments.ensures.taken tells) front))))
-    c.write_whole-2.ensures.front
+pub returns : goal.returns
+returns g c =
+    same_text (call_written _ (c.target_words-target.ensures _) c.name_word-name.ensures _)
+    (then c.in_ok-write_words.ensures (then c.in_ok-write_arguments.ensures c.write_word.ensures))

@@ -1,23 +1,12 @@
-use Rattle.c_text.proofs.Fronts.{OnErr-front, OnErr-through, front_of_first, front_behind}
+use Rattle.std.proofs.Common.{◌∙◌, ◌++◌, ap}
+use Rattle.std.specs.Prelude.{codes}
+use Rattle.c_core.specs.Text.{var_text}
+use Rattle.c_text.proofs.Writing.{same_text}
 use Rattle.c_text.proofs.statement.write_count.Goals as goal
 
-pub returns-in_err-write_counter-clause-front : goal.returns-in_err-write_counter-clause-front
-returns-in_err-write_counter-clause-front g c =
-    OnErr-front _ (λ tells. front_of_first _ (c.in_err-write_counter.ensures.front tells))
-
-pub returns-in_err-write_whole-clause-front : goal.returns-in_err-write_whole-clause-front
-returns-in_err-write_whole-clause-front g c =
-    OnErr-front _ (λ tells. front_behind _ _ (c.in_ok-write_counter.ensures.taken tells) (front_of_first _ (c.in_err-write_whole.ensures.front tells)))
-
-pub returns-in_err-write_whole-2-clause-front : goal.returns-in_err-write_whole-2-clause-front
-returns-in_err-write_whole-2-clause-front g c =
-    OnErr-front _ (λ tells. front_behind _ _ (c.in_ok-write_counter.ensures.taken tells) (front_behind _ _ (c.in_ok-write_whole.ensures.taken tells) (front_of_first _ (c.in_err-write_whole-2.ensures.front tells))))
-
-pub returns-in_err-write_variable-clause-front : goal.returns-in_err-write_variable-clause-front
-returns-in_err-write_variable-clause-front g c =
-    OnErr-front _ (λ tells. front_behind _ _ (c.in_ok-write_counter.ensures.taken tells) (front_behind _ _ (c.in_ok-write_whole.ensures.taken tells) (front_behind _ _ (c.in_ok-write_whole-2.ensures.taken tells) (front_of_first _ (c.in_err-write_variable.ensures.front tells)))))
-
-pub returns-clause-front : goal.returns-clause-front
-returns-clause-front g c =
-    OnErr-through _ (λ tells front. front_behind _ _ (c.in_ok-write_counter.ensures.taken tells) (front_behind _ _ (c.in_ok-write_whole.ensures.taken tells) (front_behind _ _ (c.in_ok-write_whole-2.ensures.taken tells) (front_behind _ _ (c.in_ok-write_variable.ensures.taken tells) front))))
-    c.write_whole-3.ensures.front
+pub returns : goal.returns
+returns g c =
+    let verb = c.args.verb.now in
+    same_text (ap (λ t. c.counter_word-counter.result.now ++ (verb ++ (codes "(" ++ t))) (c.variable_words-counted.ensures.before (codes ")"))
+    ∙ ap (λ t. t ++ (verb ++ (codes "(" ++ (var_text c.args.vars.now c.args.place ++ codes ")")))) c.counter_word-counter.ensures)
+    c.write_words.ensures

@@ -1,15 +1,11 @@
-use Rattle.c_text.proofs.Fronts.{OnErr-front, OnErr-through, front_of_first, front_behind}
+use Rattle.c_text.proofs.Writing.{then, failed}
 use Rattle.c_text.proofs.statement.write_indented.Goals as goal
 
-pub returns-in_err-write_whole-clause-front : goal.returns-in_err-write_whole-clause-front
-returns-in_err-write_whole-clause-front g c =
-    OnErr-front _ (λ tells. front_of_first _ (c.in_err-write_whole.ensures.front tells))
+pub returns-in_err-write_word : goal.returns-in_err-write_word
+returns-in_err-write_word g c = failed _ _ c.from_residual.ensures.0 c.in_err-write_word.ensures
 
-pub returns-in_err-write_statement-clause-front : goal.returns-in_err-write_statement-clause-front
-returns-in_err-write_statement-clause-front g c =
-    OnErr-front _ (λ tells. front_behind _ _ (c.in_ok-write_whole.ensures.taken tells) (front_of_first _ (c.in_err-write_statement.ensures.front tells)))
+pub returns-in_err-write_statement : goal.returns-in_err-write_statement
+returns-in_err-write_statement g c = then c.in_ok-write_word.ensures (failed _ _ c.from_residual-in_err-write_statement.ensures.0 c.in_err-write_statement.ensures)
 
-pub returns-clause-front : goal.returns-clause-front
-returns-clause-front g c =
-    OnErr-through _ (λ tells front. front_behind _ _ (c.in_ok-write_whole.ensures.taken tells) (front_behind _ _ (c.in_ok-write_statement.ensures.taken tells) front))
-    c.write_whole-2.ensures.front
+pub returns : goal.returns
+returns g c = then c.in_ok-write_word.ensures (then c.in_ok-write_statement.ensures c.write_word-2.ensures)

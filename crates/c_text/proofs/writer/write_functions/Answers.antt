@@ -1,18 +1,13 @@
-use Rattle.std.proofs.Common.{◌≡◌, ◌++◌, ℕ, List, IsTrue, OnOk, OnErr, subst}
-use Rattle.outside_core.specs.Bytes.{TakesFront}
+use Rattle.c_text.proofs.Writing.{same_text, then, failed}
 use Rattle.c_text.proofs.WrittenLemmas.{functions_of}
 use Rattle.c_text.proofs.writer.write_functions.Goals as goal
 
-pub returns-clause-taken : goal.returns-clause-taken
-returns-clause-taken g c =
-    let call = c.write_others_and_top in
-    subst (λ (x : List ℕ). OnOk call.result (IsTrue g.O.Sink.tells → g.O.Sink.taken call.new.out ≡ g.O.Sink.taken c.args.out.now ++ x))
-    (functions_of _ _ _ c.as_slice.ensures c.in-len1-up.len_at_least c.top-item.is)
-    call.ensures.taken
+pub returns-in_err-write_others : goal.returns-in_err-write_others
+returns-in_err-write_others g c =
+    same_text (functions_of _ _ _ c.as_slice.ensures c.in-len1-up.len_at_least c.top-item.is)
+    (failed _ _ c.from_residual.ensures.0 c.in_err-write_others.ensures)
 
-pub returns-clause-front : goal.returns-clause-front
-returns-clause-front g c =
-    let call = c.write_others_and_top in
-    subst (λ (x : List ℕ). OnErr call.result (IsTrue g.O.Sink.tells → TakesFront (g.O.Sink.taken c.args.out.now) (g.O.Sink.taken call.new.out) (x)))
-    (functions_of _ _ _ c.as_slice.ensures c.in-len1-up.len_at_least c.top-item.is)
-    call.ensures.front
+pub returns : goal.returns
+returns g c =
+    same_text (functions_of _ _ _ c.as_slice.ensures c.in-len1-up.len_at_least c.top-item.is)
+    (then c.in_ok-write_others.ensures c.write_top.ensures)

@@ -1,33 +1,17 @@
-use Rattle.c_text.specs.Written.{head_written}
-use Rattle.c_text.proofs.Fronts.{OnOk-through, all_behind, OnErr-front, OnErr-through, front_of_first, front_behind}
+use Rattle.std.proofs.Common.{refl}
+use Rattle.c_text.proofs.Writing.{same_text, then, failed, head_is_written}
 use Rattle.c_text.proofs.writer.write_head.Goals as goal
 
-pub returns-in_err-write_kind-clause-front : goal.returns-in_err-write_kind-clause-front
-returns-in_err-write_kind-clause-front g c =
-    OnErr-front _ (λ tells. front_of_first _ (c.in_err-write_kind.ensures.front tells))
+pub returns-in_err-write_words : goal.returns-in_err-write_words
+returns-in_err-write_words g c =
+    same_text (head_is_written c.kind_word-kind.ensures c.name_word-name.ensures refl) (failed _ _ c.from_residual.ensures.0 c.in_err-write_words.ensures)
 
-pub returns-in_err-write_whole-clause-front : goal.returns-in_err-write_whole-clause-front
-returns-in_err-write_whole-clause-front g c =
-    OnErr-front _ (λ tells. front_behind _ _ (c.in_ok-write_kind.ensures.taken tells) (front_of_first _ (c.in_err-write_whole.ensures.front tells)))
+pub returns-in_err-write_parameters : goal.returns-in_err-write_parameters
+returns-in_err-write_parameters g c =
+    same_text (head_is_written c.kind_word-kind.ensures c.name_word-name.ensures c.parameters.ensures)
+    (then c.in_ok-write_words.ensures (failed _ _ c.from_residual-in_err-write_parameters.ensures.0 c.in_err-write_parameters.ensures))
 
-pub returns-in_err-write_name-clause-front : goal.returns-in_err-write_name-clause-front
-returns-in_err-write_name-clause-front g c =
-    OnErr-front _ (λ tells. front_behind _ _ (c.in_ok-write_kind.ensures.taken tells) (front_behind _ _ (c.in_ok-write_whole.ensures.taken tells) (front_of_first _ (c.in_err-write_name.ensures.front tells))))
-
-pub returns-in_err-write_whole-2-clause-front : goal.returns-in_err-write_whole-2-clause-front
-returns-in_err-write_whole-2-clause-front g c =
-    OnErr-front _ (λ tells. front_behind _ _ (c.in_ok-write_kind.ensures.taken tells) (front_behind _ _ (c.in_ok-write_whole.ensures.taken tells) (front_behind _ _ (c.in_ok-write_name.ensures.taken tells) (front_of_first _ (c.in_err-write_whole-2.ensures.front tells)))))
-
-pub returns-in_err-write_parameters-clause-front : goal.returns-in_err-write_parameters-clause-front
-returns-in_err-write_parameters-clause-front g c =
-    OnErr-front _ (λ tells. front_behind _ _ (c.in_ok-write_kind.ensures.taken tells) (front_behind _ _ (c.in_ok-write_whole.ensures.taken tells) (front_behind _ _ (c.in_ok-write_name.ensures.taken tells) (front_behind _ _ (c.in_ok-write_whole-2.ensures.taken tells) (front_of_first _ (c.in_err-write_parameters.ensures.front tells))))))
-
-pub returns-clause-front : goal.returns-clause-front
-returns-clause-front g c =
-    OnErr-through _ (λ tells front. front_behind _ _ (c.in_ok-write_kind.ensures.taken tells) (front_behind _ _ (c.in_ok-write_whole.ensures.taken tells) (front_behind _ _ (c.in_ok-write_name.ensures.taken tells) (front_behind _ _ (c.in_ok-write_whole-2.ensures.taken tells) (front_behind _ _ (c.in_ok-write_parameters.ensures.taken tells) front)))))
-    c.write_whole-3.ensures.front
-
-pub returns-clause-taken : goal.returns-clause-taken
-returns-clause-taken g c =
-    OnOk-through (g.O.Sink.taken c.args.out.now) (head_written c.args.function.now) _ (λ tells taken. all_behind _ _ (c.in_ok-write_kind.ensures.taken tells) (all_behind _ _ (c.in_ok-write_whole.ensures.taken tells) (all_behind _ _ (c.in_ok-write_name.ensures.taken tells) (all_behind _ _ (c.in_ok-write_whole-2.ensures.taken tells) (all_behind _ _ (c.in_ok-write_parameters.ensures.taken tells) taken)))))
-    c.write_whole-3.ensures.taken
+pub returns : goal.returns
+returns g c =
+    same_text (head_is_written c.kind_word-kind.ensures c.name_word-name.ensures c.parameters.ensures)
+    (then c.in_ok-write_words.ensures (then c.in_ok-write_parameters.ensures c.write_word.ensures))

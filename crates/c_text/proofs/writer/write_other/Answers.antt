@@ -1,25 +1,15 @@
-use Rattle.c_text.specs.Written.{other_written}
-use Rattle.c_text.proofs.Fronts.{OnOk-through, all_behind, OnErr-front, OnErr-through, front_of_first, front_behind}
+use Rattle.std.proofs.Common.{◌++◌, ap}
+use Rattle.std.specs.Prelude.{codes}
+use Rattle.std.specs.List.{flat_map}
+use Rattle.c_text.specs.Written.{declaration_written, head_written, lines_written}
+use Rattle.c_text.proofs.Writing.{same_text, then, failed}
 use Rattle.c_text.proofs.writer.write_other.Goals as goal
 
-pub returns-in_err-write_head-clause-front : goal.returns-in_err-write_head-clause-front
-returns-in_err-write_head-clause-front g c =
-    OnErr-front _ (λ tells. front_of_first _ (c.in_err-write_head.ensures.front tells))
+pub returns-in_err-write_head : goal.returns-in_err-write_head
+returns-in_err-write_head g c = failed _ _ c.from_residual.ensures.0 c.in_err-write_head.ensures
 
-pub returns-in_err-write_own_declarations-clause-front : goal.returns-in_err-write_own_declarations-clause-front
-returns-in_err-write_own_declarations-clause-front g c =
-    OnErr-front _ (λ tells. front_behind _ _ (c.in_ok-write_head.ensures.taken tells) (front_of_first _ (c.in_err-write_own_declarations.ensures.front tells)))
-
-pub returns-in_err-write_lines-clause-front : goal.returns-in_err-write_lines-clause-front
-returns-in_err-write_lines-clause-front g c =
-    OnErr-front _ (λ tells. front_behind _ _ (c.in_ok-write_head.ensures.taken tells) (front_behind _ _ (c.in_ok-write_own_declarations.ensures.taken tells) (front_of_first _ (c.in_err-write_lines.ensures.front tells))))
-
-pub returns-clause-front : goal.returns-clause-front
-returns-clause-front g c =
-    OnErr-through _ (λ tells front. front_behind _ _ (c.in_ok-write_head.ensures.taken tells) (front_behind _ _ (c.in_ok-write_own_declarations.ensures.taken tells) (front_behind _ _ (c.in_ok-write_lines.ensures.taken tells) front)))
-    c.write_whole.ensures.front
-
-pub returns-clause-taken : goal.returns-clause-taken
-returns-clause-taken g c =
-    OnOk-through (g.O.Sink.taken c.args.out.now) (other_written c.args.function.now) _ (λ tells taken. all_behind _ _ (c.in_ok-write_head.ensures.taken tells) (all_behind _ _ (c.in_ok-write_own_declarations.ensures.taken tells) (all_behind _ _ (c.in_ok-write_lines.ensures.taken tells) taken)))
-    c.write_whole.ensures.taken
+pub returns : goal.returns
+returns g c =
+    let f = c.args.function.now in
+    same_text (ap (λ own. head_written f ++ (flat_map declaration_written own ++ (lines_written f.vars 0 f.lines ++ codes "}\n"))) c.own_variables.ensures)
+    (then c.in_ok-write_head.ensures c.write_body.ensures)

@@ -1,19 +1,13 @@
-use Rattle.std.proofs.Common.{◌≡◌, ◌++◌, List, IsTrue, OnOk, OnErr, subst}
-use Rattle.outside_core.specs.Bytes.{TakesFront}
-use Rattle.c_core.specs.Text.{parameters_text}
-use Rattle.c_core.specs.WellFormed.{Declared}
+use Rattle.c_text.proofs.Writing.{same_text, then, failed}
+use Rattle.c_text.proofs.WrittenLemmas.{parameters_of}
 use Rattle.c_text.proofs.writer.write_parameters.Goals as goal
 
-pub returns-clause-taken : goal.returns-clause-taken
-returns-clause-taken g c =
-    let call = c.write_parameter_list in
-    subst (λ (x : List Declared). OnOk call.result (IsTrue g.O.Sink.tells → g.O.Sink.taken call.new.out ≡ g.O.Sink.taken c.args.out.now ++ (parameters_text x)))
-    c.parameters.ensures
-    call.ensures.taken
+pub returns-in_err-write_parameter : goal.returns-in_err-write_parameter
+returns-in_err-write_parameter g c =
+    same_text (parameters_of c.args.vars.now _ c.in-len1-up.len_at_least c.first-item.is)
+    (failed _ _ c.from_residual.ensures.0 c.in_err-write_parameter.ensures)
 
-pub returns-clause-front : goal.returns-clause-front
-returns-clause-front g c =
-    let call = c.write_parameter_list in
-    subst (λ (x : List Declared). OnErr call.result (IsTrue g.O.Sink.tells → TakesFront (g.O.Sink.taken c.args.out.now) (g.O.Sink.taken call.new.out) (parameters_text x)))
-    c.parameters.ensures
-    call.ensures.front
+pub returns : goal.returns
+returns g c =
+    same_text (parameters_of c.args.vars.now _ c.in-len1-up.len_at_least c.first-item.is)
+    (then c.in_ok-write_parameter.ensures c.write_other_parameters.ensures)
