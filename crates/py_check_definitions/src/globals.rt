@@ -26,12 +26,24 @@ pub fn add_global_faults<'a>(
     ensures { IfOk result (λ done. faults.new ≡ faults.old ++ flat_map (spec.global_said variables.now.keys) (spec.all_globals (body_tree body.now) (func_trees functions.now)) ++ filter spec.is_refusal found.now) }
 {
     let mut statements = Vec::new(alloc);
-    find_all(&mut statements, body)?;
-    for f in functions {
-        find_in_function(&mut statements, *f)?;
-    }
+    find_everywhere(&mut statements, body, functions)?;
     add_faults(alloc, variables, statements.as_slice(), faults)?;
     add_refusals(found, faults)
+}
+
+/// Puts the `global` statements of a module and of its functions behind those that there are.
+fn find_everywhere<'a>(
+    statements: &mut Vec<&'a Stmt>,
+    body: &'a [Stmt],
+    functions: &[&'a Func],
+) -> Result<(), Memory>
+    ensures { IfOk result (λ done. trees statements.new.items ≡ trees statements.old.items ++ spec.all_globals (body_tree body.now) (func_trees functions.now)) }
+{
+    find_all(statements, body)?;
+    for f in functions {
+        find_in_function(statements, *f)?;
+    }
+    Ok(())
 }
 
 /// Puts the `global` statements of a function behind those that there are.
