@@ -1,5 +1,5 @@
 //! The types of variables where a module or a function begins.
-ghost use Rattle.std.specs.Prelude.{◌≡◌, ℕ, List, map, IfOk};
+ghost use Rattle.std.specs.Prelude.{◌≡◌, ℕ, List, map, cond, Some, IfOk};
 ghost use Rattle.std.specs.Option.{option_map, option_copied};
 ghost use Rattle.std.specs.Str.{bytes_eq};
 ghost use Rattle.indexmap.specs.IndexMap.{get};
@@ -115,9 +115,20 @@ fn marks_of<'a>(
 {
     let mut marks = IndexMap::new(alloc);
     while let Some(binding) = bindings.pop() {
-        marks.insert(binding.name.clone()?, binding.mark)?;
+        add_mark(&mut marks, &binding)?;
     }
     Ok(marks)
+}
+
+/// Puts the annotation of a binding, or that it has none, in the place of those of its name.
+fn add_mark<'a>(
+    marks: &mut IndexMap<Name, Option<&'a Expr>>,
+    binding: &Binding<'a>,
+) -> Result<(), Memory>
+    ensures { IfOk result (λ done. (name : List ℕ) → get bytes_eq marks.new name ≡ cond (bytes_eq binding.now.name.now name) (Some binding.now.mark) (get bytes_eq marks.old name)) }
+{
+    marks.insert(binding.name.clone()?, binding.mark)?;
+    Ok(())
 }
 
 fn start_type(

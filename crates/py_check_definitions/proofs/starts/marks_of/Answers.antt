@@ -1,4 +1,4 @@
-use Rattle.std.proofs.Common.{rules, ◌≡◌, ◌∙◌, [], ◌∷◌, ◌++◌, map, ap, sym}
+use Rattle.std.proofs.Common.{rules, ◌≡◌, ◌∙◌, [], ◌∷◌, ◌++◌, map, refl, ap, sym}
 use Rattle.std.specs.Option.{option_map}
 use Rattle.py_binder.proofs.TableLemmas.{or_else}
 use Rattle.py_check_definitions.specs.Views.{mark_tree}
@@ -11,8 +11,7 @@ use Rattle.py_check_definitions.proofs.starts.marks_of.Goals as goal
 pub loop-binding-preserved : goal.loop-binding-preserved
 loop-binding-preserved c =
     let taken : c.loop-binding.bindings.items ≡ c.pop.new.self.items ++ c.in-Some.binding ∷ [] = search (rules, c.in-Some.ensures.items) in
-    let copied : c.in_ok-clone.field-0 ≡ c.in-Some.binding.name.now = search rules in
-    mark_step c.loop-binding.bindings.items c.pop.new.self.items c.in-Some.binding c.in_ok-clone.field-0 (get bytes_eq c.loop-binding.marks) (get bytes_eq c.insert.new.self) (λ k. lookup (bytes_eq k) (map with_name c.args.bindings.now.items)) taken copied c.in_ok-insert.ensures.updates.0 c.loop-binding.invariant
+    mark_step c.loop-binding.bindings.items c.pop.new.self.items c.in-Some.binding c.in-Some.binding.name.now (get bytes_eq c.loop-binding.marks) (get bytes_eq c.add_mark.new.marks) (λ k. lookup (bytes_eq k) (map with_name c.args.bindings.now.items)) taken refl c.in_ok-add_mark.ensures c.loop-binding.invariant
 
 pub returns : goal.returns
 returns c = λ name.
