@@ -66,6 +66,14 @@ module _ {X : Type 0} where
   abbrev pub take_one : ℕ → Cells X → Cells X
   take_one = change raised
 
+  -- another content in a cell that is there
+  abbrev pub refilled : X → Option (Cell X) → Option (Cell X)
+  refilled content None = None
+  refilled content (Some cell) = Some (record { count = cell.count; content = content })
+
+  abbrev pub refill : X → ℕ → Cells X → Cells X
+  refill content = change (refilled content)
+
   -- a new cell, whose one reference is its maker's
   abbrev pub make : X → Cells X → Cells X
   make content cells = cells ++ Some (record { count = 1; content = content }) ∷ []

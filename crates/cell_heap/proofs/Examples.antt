@@ -1,7 +1,7 @@
 -- The definitions at small values.
 use Rattle.std.proofs.Common.{◌≡◌, ℕ, [], ◌∷◌, Some, None, refl}
 use Rattle.c_core.specs.Cells.{Cells, content_at, count_at, make, take_one}
-use Rattle.c_core.specs.Machine.{Content, StrCell, TupleCell, DictCell, InstCell, ObjectCell, NoneObject, refs_in}
+use Rattle.c_core.specs.Machine.{Content, StrCell, ListCell, TupleCell, DictCell, InstCell, ObjectCell, NoneObject, TrueObject, refs_in}
 use Rattle.c_core.specs.Release.{release}
 use Rattle.cell_heap.specs.declared.key.Key.{Key}
 use Rattle.cell_heap.specs.declared.word.Word.TheVariants.{Cell as CellWord, PyNone}
@@ -10,6 +10,7 @@ use Rattle.cell_heap.specs.Contents.{content_of}
 use Rattle.cell_heap.specs.Keys.{keys_of}
 use Rattle.cell_heap.specs.Numbered.{gone}
 use Rattle.cell_heap.specs.Room.{places_in}
+use Rattle.cell_heap.specs.Words.{with_word, with_last, without_last, refill_by, word_at, last_at}
 
 abbrev key : ℕ → Key
 key n = record { serial = n }
@@ -45,3 +46,27 @@ gone_last = (refl, refl, refl)
 -- keys are the machine's numbers in every place of a content
 placed : (content_of (Dict ((CellWord (key 3), CellWord (key 4)) ∷ [])) ≡ DictCell ((ObjectCell 3, ObjectCell 4) ∷ [])) × (content_of (Inst 5 (None ∷ Some PyNone ∷ [])) ≡ InstCell 5 (None ∷ Some NoneObject ∷ []))
 placed = (refl, refl)
+
+-- a list with two items: one is written over, one is put behind them, and the last one is taken off
+abbrev items : Content
+items = ListCell (NoneObject ∷ ObjectCell 0 ∷ [])
+
+abbrev list : Cells Content
+list = make items (make text [])
+
+written : (refill_by (with_word 0 (Some (ObjectCell 0))) 1 list ≡ make (ListCell (ObjectCell 0 ∷ ObjectCell 0 ∷ [])) (make text [])) × (word_at list 1 0 ≡ Some NoneObject)
+written = (refl, refl)
+
+pushed : refill_by (with_last TrueObject) 1 list ≡ make (ListCell (NoneObject ∷ ObjectCell 0 ∷ TrueObject ∷ [])) (make text [])
+pushed = refl
+
+popped : (refill_by without_last 1 list ≡ make (ListCell (NoneObject ∷ [])) (make text [])) × (last_at list 1 ≡ Some (ObjectCell 0)) × (last_at (make (ListCell []) []) 0 ≡ None)
+popped = (refl, refl, refl)
+
+-- nothing is written past the last place, in a list nothing is unset, and a cell that is gone stays so
+not_written : (refill_by (with_word 2 (Some NoneObject)) 1 list ≡ list) × (refill_by (with_word 0 None) 1 list ≡ list) × (refill_by without_last 0 (None ∷ []) ≡ None ∷ [])
+not_written = (refl, refl, refl)
+
+-- the value of a pair is written and its key stays, and an attribute is unset
+written_elsewhere : (with_word 0 (Some NoneObject) (DictCell ((TrueObject, ObjectCell 0) ∷ [])) ≡ DictCell ((TrueObject, NoneObject) ∷ [])) × (with_word 1 None (InstCell 5 (None ∷ Some NoneObject ∷ [])) ≡ InstCell 5 (None ∷ None ∷ []))
+written_elsewhere = (refl, refl)

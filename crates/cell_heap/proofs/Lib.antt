@@ -2,4 +2,6 @@ pub mod ListedLemmas
 pub mod MapLemmas
 pub mod RoomLemmas
 pub mod KeyLemmas
+pub mod ItemLemmas
+pub mod RefillLemmas
 mod Examples

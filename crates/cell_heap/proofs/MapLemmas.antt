@@ -55,6 +55,10 @@ present-here m made c unmade =
     filled None = refl
     filled (Some slot) = refl
 
+pub content-here : (m : BTreeMap ℕ Kept) (made c : ℕ) (o : Option Kept) → ((n : ℕ) → made ≤ n → get nat_cmp m n ≡ None) → o ≡ get_by (nat_cmp c) m → content_at (cells_of m made) c ≡ cells.content_of (option_map cell_of o)
+content-here m made c o unmade is =
+    content_at-cell (cells_of m made) c ∙ ap cells.content_of (cell-here m made c unmade ∙ ap (option_map cell_of) (sym is))
+
 -- ---- a reference less
 pub less-more : (n : ℕ) (x : machine.Content) → 1 < n → one_less n x ≡ Some (record { count = n - 1; content = x })
 less-more zero x lt = absurd (omega arith)

@@ -45,7 +45,7 @@ places-make content [] = omega arith
 places-make content (o ∷ cells) = omega (arith, places-make content cells)
 
 -- ---- no change makes a cell or a number free
-length-change : (by : Option (Cell Content) → Option (Cell Content)) (c : ℕ) (cells : Cells Content) → length (change by c cells) ≡ length cells
+pub length-change : (by : Option (Cell Content) → Option (Cell Content)) (c : ℕ) (cells : Cells Content) → length (change by c cells) ≡ length cells
 length-change by c [] = refl
 length-change by zero (o ∷ cells) = refl
 length-change by (suc c) (o ∷ cells) = omega (arith, length-change by c cells)

@@ -1,5 +1,6 @@
 use crate::content::Content;
 use crate::key::Key;
+use crate::word::Word;
 use std::alloc::Global;
 use std::collections::BTreeMap;
 use std::marker::Model;
@@ -39,9 +40,10 @@ impl Cells {
     ghost use Rattle.std.specs.Option.{option_map, option_copied};
     ghost use Rattle.c_core.specs.Cells.{content_at, count_at, make, take_one};
     ghost use Rattle.c_core.specs.Release.{after};
-    ghost use Rattle.cell_heap.specs.Contents.{content_of};
+    ghost use Rattle.cell_heap.specs.Contents.{word_of, content_of};
     ghost use Rattle.cell_heap.specs.Keys.{keys_of};
     ghost use Rattle.cell_heap.specs.Numbered.{cell_of, cell_at, gone};
+    ghost use Rattle.cell_heap.specs.Words.{with_word, with_last, without_last, refill_by, word_at, last_at};
 
     /// No cell was made yet. It takes no memory.
     pub fn new(alloc: Global) -> Cells
@@ -91,6 +93,39 @@ impl Cells {
         match self.there.get_mut(&serial) {
             None => {}
             Some(slot) => slot.count += 1,
+        }
+    }
+
+    /// Writes a word, or nothing, to a place of what the cell of a serial holds, and answers what stood there.
+    pub fn set_word(&mut self, serial: u128, place: usize, word: Option<Word>) -> Option<Word>
+        ensures written { self.new ≡ refill_by (with_word place (option_map word_of word)) serial self.old }
+        ensures old { option_map word_of result ≡ word_at self.old serial place }
+    {
+        match self.there.get_mut(&serial) {
+            None => None,
+            Some(slot) => slot.content.set_word(place, word),
+        }
+    }
+
+    /// Puts a word at the end of the list that the cell of a serial holds.
+    pub fn push_word(&mut self, serial: u128, word: Word) -> Result<(), Memory>
+        ensures ok { OnOk result (self.new ≡ refill_by (with_last (word_of word)) serial self.old) }
+        ensures err { OnErr result (self.new ≡ self.old) }
+    {
+        match self.there.get_mut(&serial) {
+            None => Ok(()),
+            Some(slot) => slot.content.push_word(word),
+        }
+    }
+
+    /// Takes the last word off the list that the cell of a serial holds.
+    pub fn pop_word(&mut self, serial: u128) -> Option<Word>
+        ensures rest { self.new ≡ refill_by without_last serial self.old }
+        ensures last { option_map word_of result ≡ last_at self.old serial }
+    {
+        match self.there.get_mut(&serial) {
+            None => None,
+            Some(slot) => slot.content.pop_word(),
         }
     }
 

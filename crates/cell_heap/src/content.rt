@@ -1,11 +1,13 @@
-ghost use Rattle.std.specs.Prelude.{◌≡◌, ◌+◌, ◌*◌, ◌^◌, ◌≤◌, ◌++◌, length};
+ghost use Rattle.std.specs.Prelude.{◌≡◌, ◌+◌, ◌*◌, ◌^◌, ◌≤◌, ◌++◌, length, map, slice_get, slice_set, OnOk, OnErr};
+ghost use Rattle.std.specs.Option.{option_map};
 ghost use Rattle.std.specs.Vec.{vec_len, vec_capacity};
 ghost use Rattle.c_core.specs.Machine.{refs_of, refs_in};
-ghost use Rattle.cell_heap.specs.Contents.{word_of, content_of, words_refs, optional_refs, pairs_refs};
+ghost use Rattle.cell_heap.specs.Contents.{word_of, pair_of, content_of, words_refs, optional_refs, pairs_refs};
 ghost use Rattle.cell_heap.specs.Room.{places};
+ghost use Rattle.cell_heap.specs.Words.{word_in, set_item, set_value, with_word, with_last, last_in, without_last};
 
 use crate::word::Word;
-use value_core::{ExcClass, Many, Text};
+use value_core::{ExcClass, Many, Memory, Text};
 
 /// What a cell holds. `specs/Contents.antt` says which content of the machine it is.
 #[derive(Drop)]
@@ -39,6 +41,57 @@ impl Content {
         }
     }
 
+    /// The word at a place: an item, the value of a pair, or what an attribute holds.
+    pub(crate) fn word_at(&self, place: usize) -> Option<Word>
+        ensures { option_map word_of result ≡ word_in place (content_of self.now) }
+    {
+        match self {
+            Content::Int(_) | Content::Str(_) | Content::Exc(_, _) => None,
+            Content::List(items) | Content::Tuple(items) => items.get(place).copied(),
+            Content::Dict(pairs) => match pairs.get(place) {
+                None => None,
+                Some(pair) => Some(pair.1),
+            },
+            Content::Inst(_, attributes) => attributes.get(place).copied().flatten(),
+        }
+    }
+
+    /// Writes a word to a place, or nothing to that of an attribute, and answers what stood there.
+    pub(crate) fn set_word(&mut self, place: usize, word: Option<Word>) -> Option<Word>
+        ensures written { content_of self.new ≡ with_word place (option_map word_of word) (content_of self.old) }
+        ensures old { option_map word_of result ≡ word_in place (content_of self.old) }
+    {
+        match self {
+            Content::Int(_) | Content::Str(_) | Content::Exc(_, _) => None,
+            Content::List(items) => write_item(items, place, word),
+            Content::Dict(pairs) => write_value(pairs, place, word),
+            Content::Tuple(items) => write_item(items, place, word),
+            Content::Inst(_, attributes) => replaced(attributes, place, word).flatten(),
+        }
+    }
+
+    /// Puts a word at the end of a list.
+    pub(crate) fn push_word(&mut self, word: Word) -> Result<(), Memory>
+        ensures ok { OnOk result (content_of self.new ≡ with_last (word_of word) (content_of self.old)) }
+        ensures err { OnErr result (content_of self.new ≡ content_of self.old) }
+    {
+        match self {
+            Content::List(items) => items.push(word),
+            _ => Ok(()),
+        }
+    }
+
+    /// Takes the last word off a list that has one.
+    pub(crate) fn pop_word(&mut self) -> Option<Word>
+        ensures rest { content_of self.new ≡ without_last (content_of self.old) }
+        ensures last { option_map word_of result ≡ last_in (content_of self.old) }
+    {
+        match self {
+            Content::List(items) => items.pop(),
+            _ => None,
+        }
+    }
+
     /// Adds the serials of the cells that it refers to at the end of the list, where there is room for them.
     pub(crate) fn add_references(&self, todo: &mut Vec<u128>)
         requires { vec_len todo.old + places (content_of self.now) ≤ vec_capacity todo.old }
@@ -51,6 +104,45 @@ impl Content {
             Content::List(items) | Content::Tuple(items) => add_words(todo, items.as_slice()),
             Content::Dict(pairs) => add_pairs(todo, pairs.as_slice()),
             Content::Inst(_, attributes) => add_attributes(todo, attributes.as_slice()),
+        }
+    }
+}
+
+// Replaces the element at a place, if there is such a place, and answers the old one.
+fn replaced<T: Copy>(elements: &mut Many<T>, place: usize, element: T) -> Option<T>
+    ensures written { elements.new ≡ slice_set elements.old place element }
+    ensures old { result ≡ slice_get elements.old place }
+{
+    match elements.get(place).copied() {
+        None => None,
+        Some(old) => {
+            elements.set(place, element);
+            Some(old)
+        }
+    }
+}
+
+// Writes a word to a place of the items, if there is such a place, and answers the one that stood there.
+fn write_item(items: &mut Many<Word>, place: usize, word: Option<Word>) -> Option<Word>
+    ensures written { map word_of items.new ≡ set_item (map word_of items.old) place (option_map word_of word) }
+    ensures old { result ≡ slice_get items.old place }
+{
+    match word {
+        None => items.get(place).copied(),
+        Some(word) => replaced(items, place, word),
+    }
+}
+
+// Writes a word as the value of the pair at a place, if there is such a place, and answers the one that stood there.
+fn write_value(pairs: &mut Many<(Word, Word)>, place: usize, word: Option<Word>) -> Option<Word>
+    ensures written { map pair_of pairs.new ≡ set_value (map pair_of pairs.old) place (option_map word_of word) }
+    ensures old { result ≡ option_map (λ pair. pair.1) (slice_get pairs.old place) }
+{
+    match pairs.get(place).copied() {
+        None => None,
+        Some(old) => {
+            pairs.set(place, (old.0, word.unwrap_or(old.1)));
+            Some(old.1)
         }
     }
 }

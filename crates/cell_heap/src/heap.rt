@@ -7,15 +7,37 @@ ghost use Rattle.cell_heap.specs.Room.{places_in};
 use crate::cells::Cells;
 use crate::content::Content;
 use crate::key::Key;
+use crate::word::Word;
 use std::alloc::Global;
 use std::marker::Model;
 use thiserror::Error;
-use value_core::{Many, Memory};
+use value_core::{Many, Memory as NoMemory};
 
 /// The cell of the key is gone.
 #[derive(Clone, Copy, Debug, PartialEq, Eq, Error)]
 #[error("the cell is gone")]
 pub struct Dead;
+
+/// Why a call that may take memory did nothing.
+#[derive(Clone, Copy, Debug, PartialEq, Eq, Error)]
+pub enum HeapError {
+    /// The cell of the key is gone.
+    #[error("the cell is gone")]
+    Dead,
+    #[error("there is no memory")]
+    Memory,
+}
+
+impl From<NoMemory> for HeapError {
+    ghost use Rattle.std.specs.Prelude.{◌≡◌};
+    ghost use Rattle.cell_heap.specs.declared.heap.HeapError.TheVariants as errors;
+
+    ghost from_gives = { λ _ e. e ≡ errors.Memory };
+
+    fn from(_refused: NoMemory) -> HeapError {
+        HeapError::Memory
+    }
+}
 
 /// Counted cells. Contracts see them as the machine's cells (`Cells` of c_core).
 #[derive(Drop)]
@@ -42,12 +64,14 @@ impl Model for Heap {
 }
 
 impl Heap {
-    ghost use Rattle.std.specs.Prelude.{◌≡◌, ◌+◌, ◌^◌, ◌<◌, [], ◌∷◌, length, is_ok, is_some, Some, None, IfOk, OnOk, OnErr, MatchResult};
+    ghost use Rattle.std.specs.Prelude.{◌≡◌, ◌+◌, ◌^◌, ◌<◌, [], ◌∷◌, length, is_ok, is_some, is_none, true, Some, None, IfSome, IfOk, OnOk, OnErr, MatchResult};
     ghost use Rattle.c_core.specs.Cells.{content_at, count_at, make, take_one};
     ghost use Rattle.c_core.specs.Machine.{refs_in};
     ghost use Rattle.c_core.specs.Release.{release};
-    ghost use Rattle.cell_heap.specs.Contents.{number_of, content_of};
+    ghost use Rattle.std.specs.Option.{option_map};
+    ghost use Rattle.cell_heap.specs.Contents.{number_of, word_of, content_of};
     ghost use Rattle.cell_heap.specs.Keys.{keys_of};
+    ghost use Rattle.cell_heap.specs.Words.{with_word, with_last, without_last, is_list, refill_by, word_at, last_at, is_dead};
 
     /// No cell was made yet. It takes no memory.
     pub fn new(alloc: Global) -> Heap
@@ -66,7 +90,7 @@ impl Heap {
     /// # Errors
     ///
     /// `Memory`; then the heap is as before.
-    pub fn make(&mut self, content: Content) -> Result<Key, Memory>
+    pub fn make(&mut self, content: Content) -> Result<Key, NoMemory>
         requires { length self.old + 1 < 2 ^ 128 }
         ensures key { IfOk result (λ key. number_of key ≡ length self.old) }
         ensures made { OnOk result (self.new ≡ make (content_of content) self.old) }
@@ -153,8 +177,97 @@ impl Heap {
         }
     }
 
+    /// The word at a place of what a cell holds: an item, the value of a pair, or what an attribute holds. There is none
+    /// where an attribute is unset, and none where there is no such place.
+    ///
+    /// # Errors
+    ///
+    /// `Dead` exactly where the cell is gone.
+    pub fn word_at(&self, key: Key, place: usize) -> Result<Option<Word>, Dead>
+        ensures there { is_ok result ≡ is_some (content_at self.now (number_of key)) }
+        ensures word { IfOk result (λ word. option_map word_of word ≡ word_at self.now (number_of key) place) }
+    {
+        match self.cells.get(key.serial) {
+            None => Err(Dead),
+            Some(slot) => Ok(slot.content.word_at(place)),
+        }
+    }
+
+    /// Writes a word to a place of what a cell holds, and answers the one that stood there: an item, the value of a pair,
+    /// whose key stays, or what an attribute holds. Nothing is written where there is no such place, and only an attribute
+    /// can be unset. The reference in the word is now the cell's, and that in the answer the caller's. It takes no memory.
+    ///
+    /// # Errors
+    ///
+    /// `Dead` exactly where the cell is gone; then the heap is as before.
+    pub fn set_word(
+        &mut self,
+        key: Key,
+        place: usize,
+        word: Option<Word>,
+    ) -> Result<Option<Word>, Dead>
+        ensures there { is_ok result ≡ is_some (content_at self.old (number_of key)) }
+        ensures ok { OnOk result (self.new ≡ refill_by (with_word place (option_map word_of word)) (number_of key) self.old) }
+        ensures old { IfOk result (λ old. option_map word_of old ≡ word_at self.old (number_of key) place) }
+        ensures dead { OnErr result (self.new ≡ self.old) }
+        ensures made { length self.new ≡ length self.old }
+    {
+        if self.cells.contains(key.serial) {
+            Ok(self.cells.set_word(key.serial, place, word))
+        } else {
+            Err(Dead)
+        }
+    }
+
+    /// Puts a word at the end of the list that a cell holds. The reference in the word is now the cell's.
+    ///
+    /// # Errors
+    ///
+    /// `Dead` exactly where the cell is gone, and `Memory`; then the heap is as before.
+    pub fn push_word(&mut self, key: Key, word: Word) -> Result<(), HeapError>
+        requires { IfSome (content_at self.old (number_of key)) (λ content. is_list content ≡ true) }
+        ensures there { is_dead result ≡ is_none (content_at self.old (number_of key)) }
+        ensures ok { OnOk result (self.new ≡ refill_by (with_last (word_of word)) (number_of key) self.old) }
+        ensures err { OnErr result (self.new ≡ self.old) }
+        ensures made { length self.new ≡ length self.old }
+    {
+        if !self.cells.contains(key.serial) {
+            return Err(HeapError::Dead);
+        }
+        let places = self.places as u128 + 1;
+        let places = more_room(&mut self.todo, places)?;
+        self.cells.push_word(key.serial, word)?;
+        self.places = places;
+        Ok(())
+    }
+
+    /// Takes the last word off the list that a cell holds, and answers it. There is none where the list is empty, and none
+    /// where the cell holds no list. The reference in the answer is the caller's. It takes no memory.
+    ///
+    /// # Errors
+    ///
+    /// `Dead` exactly where the cell is gone; then the heap is as before.
+    pub fn pop_word(&mut self, key: Key) -> Result<Option<Word>, Dead>
+        ensures there { is_ok result ≡ is_some (content_at self.old (number_of key)) }
+        ensures ok { OnOk result (self.new ≡ refill_by without_last (number_of key) self.old) }
+        ensures last { IfOk result (λ last. option_map word_of last ≡ last_at self.old (number_of key)) }
+        ensures dead { OnErr result (self.new ≡ self.old) }
+        ensures made { length self.new ≡ length self.old }
+    {
+        if !self.cells.contains(key.serial) {
+            return Err(Dead);
+        }
+        match self.cells.pop_word(key.serial) {
+            None => Ok(None),
+            Some(word) => {
+                self.places -= 1;
+                Ok(Some(word))
+            }
+        }
+    }
+
     /// The keys of the cells that are there, in the order in which they were made.
-    pub fn keys(&self, alloc: Global) -> Result<Many<Key>, Memory>
+    pub fn keys(&self, alloc: Global) -> Result<Many<Key>, NoMemory>
         ensures { IfOk result (λ keys. keys ≡ keys_of self.now) }
     {
         self.cells.keys(alloc)
@@ -162,14 +275,14 @@ impl Heap {
 }
 
 // Makes room in an empty list for as many references as there are places, and answers how many these are.
-fn more_room(todo: &mut Vec<u128>, places: u128) -> Result<usize, Memory>
+fn more_room(todo: &mut Vec<u128>, places: u128) -> Result<usize, NoMemory>
     ensures places { IfOk result (λ counted. counted ≡ places) }
     ensures room { OnOk result (vec_len todo.new + places ≤ vec_capacity todo.new) }
     ensures items { todo.new.items ≡ todo.old.items }
     ensures capacity { vec_capacity todo.old ≤ vec_capacity todo.new }
 {
     if places > usize::MAX as u128 {
-        return Err(Memory);
+        return Err(NoMemory);
     }
     let places = places as usize;
     todo.reserve(places)?;

@@ -4,7 +4,8 @@
 //! under each key its cell until its last reference is given up. Then the cell goes, and gives up each reference that its
 //! content holds, to any depth, without recursion and without memory. Contracts see a heap as the machine's cells
 //! (`Cells` of c_core): the cell of a key stands at the place that its serial says, and nothing stands there once it is
-//! gone. `specs/Contents.antt` says which word and which content of the machine one of this crate is.
+//! gone. `specs/Contents.antt` says which word and which content of the machine one of this crate is, and
+//! `specs/Words.antt` which word stands at a place of a content, and what becomes of it as words are written.
 //!
 //! `heap` has the calls. The cells lie in an ordered map by serial, in `cells`, and beside them there is room for the
 //! serials that a release still has to give up: as much as all contents have places.
@@ -17,6 +18,6 @@ mod key;
 mod word;
 
 pub use content::Content;
-pub use heap::{Dead, Heap};
+pub use heap::{Dead, Heap, HeapError};
 pub use key::Key;
 pub use word::Word;

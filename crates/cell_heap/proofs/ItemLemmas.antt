@@ -1,0 +1,73 @@
+-- Writes to items and pairs, in the heap's words and in the machine's, and the last item of a list.
+use Rattle.std.proofs.Common.{◌≡◌, refl, sym, ap, ◌∙◌, ℕ, zero, suc, ◌+◌, ◌-◌, arith, List, [], ◌∷◌, ◌++◌, length, take, Option, Some, None}
+use Rattle.std.specs.Prelude.{map, slice_get, slice_set, MatchOption}
+use Rattle.std.specs.Option.{option_map, option_flatten, unwrap_or}
+use Rattle.std.proofs.lemmas.List.{map-append, length-append}
+use Rattle.c_core.specs.Machine as machine
+use Rattle.cell_heap.specs.declared.word.Word.{Word}
+use Rattle.cell_heap.specs.Contents.{word_of, pair_of}
+use Rattle.cell_heap.specs.Words.{set_value}
+
+pub set_none : {A : Type 0} (xs : List A) (i : ℕ) (y : A) → slice_get xs i ≡ None → xs ≡ slice_set xs i y
+set_none [] i y e = refl
+set_none (x ∷ xs) zero y e = cc
+set_none (x ∷ xs) (suc i) y e = ap (λ z. x ∷ z) (set_none xs i y e)
+
+pub map_set : {A B : Type 0} (f : A → B) (xs : List A) (i : ℕ) (y : A) → map f (slice_set xs i y) ≡ slice_set (map f xs) i (f y)
+map_set f [] i y = refl
+map_set f (x ∷ xs) zero y = refl
+map_set f (x ∷ xs) (suc i) y = ap (λ z. f x ∷ z) (map_set f xs i y)
+
+pub map_get : {A B : Type 0} (f : A → B) (xs : List A) (i : ℕ) → option_map f (slice_get xs i) ≡ slice_get (map f xs) i
+map_get f [] i = refl
+map_get f (x ∷ xs) zero = refl
+map_get f (x ∷ xs) (suc i) = map_get f xs i
+
+pub flat_get : {A B : Type 0} (f : A → B) (xs : List (Option A)) (i : ℕ) → option_map f (option_flatten (slice_get xs i)) ≡ option_flatten (slice_get (map (option_map f) xs) i)
+flat_get f [] i = refl
+flat_get f (None ∷ xs) zero = refl
+flat_get f (Some x ∷ xs) zero = refl
+flat_get f (x ∷ xs) (suc i) = flat_get f xs i
+
+-- ---- pairs
+pub value_none : (ps : List (Word × Word)) (i : ℕ) (o : Option machine.Word) → slice_get ps i ≡ None → map pair_of ps ≡ set_value (map pair_of ps) i o
+value_none [] i o e = refl
+value_none (p ∷ ps) zero o e = cc
+value_none (p ∷ ps) (suc i) o e = ap (λ z. pair_of p ∷ z) (value_none ps i o e)
+
+or_mapped : (o : Option Word) (w : Word) → word_of (unwrap_or o w) ≡ unwrap_or (option_map word_of o) (word_of w)
+or_mapped None w = refl
+or_mapped (Some v) w = refl
+
+pub value_set : (ps : List (Word × Word)) (i : ℕ) (o : Option Word) (old : Word × Word) → slice_get ps i ≡ Some old → map pair_of (slice_set ps i (old.0, unwrap_or o old.1)) ≡ set_value (map pair_of ps) i (option_map word_of o)
+value_set [] i o old e = cc
+value_set (p ∷ ps) zero o old e =
+    let is : p ≡ old = cc in
+    ap (λ (q : Word × Word). (word_of q.0, word_of (unwrap_or o q.1)) ∷ map pair_of ps) (sym is)
+    ∙ ap (λ w. (word_of p.0, w) ∷ map pair_of ps) (or_mapped o p.1)
+value_set (p ∷ ps) (suc i) o old e = ap (λ z. pair_of p ∷ z) (value_set ps i o old e)
+
+pub length_value : (ps : List (machine.Word × machine.Word)) (i : ℕ) (o : Option machine.Word) → length (set_value ps i o) ≡ length ps
+length_value [] i o = refl
+length_value (p ∷ ps) zero o = refl
+length_value (p ∷ ps) (suc i) o = omega (arith, length_value ps i o)
+
+-- ---- the last item
+length_more : {A : Type 0} (xs : List A) (y : A) → length (xs ++ y ∷ []) - 1 ≡ length xs
+length_more xs y = omega (arith, length-append xs (y ∷ []))
+
+get_end : {A : Type 0} (xs : List A) (y : A) → slice_get (xs ++ y ∷ []) (length xs) ≡ Some y
+get_end [] y = refl
+get_end (x ∷ xs) y = get_end xs y
+
+pub last_item : (items rest : List Word) (o : Option Word) → MatchOption o ((items ≡ []) × (rest ≡ [])) (λ w. items ≡ rest ++ w ∷ []) → option_map word_of o ≡ slice_get (map word_of items) (length (map word_of items) - 1)
+last_item items rest None e = sym (ap (λ z. slice_get (map word_of z) (length (map word_of z) - 1)) e.0)
+last_item items rest (Some w) e =
+    let ws = map word_of rest in
+    let is : map word_of items ≡ ws ++ word_of w ∷ [] = ap (map word_of) e ∙ map-append word_of rest (w ∷ []) in
+    sym (ap (λ z. slice_get z (length z - 1)) is ∙ ap (slice_get (ws ++ word_of w ∷ [])) (length_more ws (word_of w)) ∙ get_end ws (word_of w))
+
+pub length_less : {A : Type 0} (count : Option A → ℕ) (xs : List A) (n : ℕ) → ((x : A) → count (Some x) ≡ 1) → suc n ≡ length xs → length (take n xs) + count (slice_get xs n) ≡ length xs
+length_less count [] n one e = cc
+length_less count (x ∷ xs) zero one e = omega (arith, one x, e)
+length_less count (x ∷ xs) (suc n) one e = omega (arith, length_less count xs n one (omega (arith, e)))
