@@ -25,21 +25,23 @@ use Rattle.py_typed.specs.Expressions.{typed_expr, typed_node, typed_comparison,
 use Rattle.py_typed.specs.Statements.{Variable, TypedFunc, TypedModule, TypedSuite, typed_stmt, typed_act, typed_suite, typed_arm, arms_of, typed_func}
 use Rattle.py_typed.proofs.ExpressionLemmas.{typed_expr_at, typed_node-Compare}
 use Rattle.py_typed.proofs.StatementLemmas.{typed_stmt_at, typed_act-If}
+use Rattle.py_check_unbuilt.specs.declared.form.Unbuilt.{Unbuilt}
+use Rattle.ir_builder_supported.specs.Forms.{unbuilt, node_form, function_form}
 use Rattle.ir_builder_supported.specs.Expressions.{is_form}
-use Rattle.ir_builder_supported.specs.Statements.{is_function, is_def, definition_line, uncompiled_line}
+use Rattle.ir_builder_supported.specs.Statements.{is_function, is_def, definition_line, uncompiled_form}
 use Rattle.ir_builder_supported.specs.Least.{noted, expression_least, part_least, chain_least, statement_least, act_least, suite_least, arms_least, functions_least}
-use Rattle.ir_builder_supported.proofs.LineLemmas.{module_same}
+use Rattle.ir_builder_supported.proofs.FormLemmas.{module_same}
 
-pub comparison_found : (e : TExpr) (a : Box TExpr Global) (more more2 : List (CmpOp × TExpr)) → e.kind ≡ kind.Compare a more → more2 ≡ more → (b : Bool) → b ≡ is_form (typed_node e.kind) (sort e.ty) → b ≡ true → (found first last : Option ℕ) → first ≡ expression_least found (typed_expr a.value) → last ≡ chain_least first (comparisons_of (map typed_comparison more2)) → last ≡ expression_least found (typed_expr e)
+pub comparison_found : (e : TExpr) (a : Box TExpr Global) (more more2 : List (CmpOp × TExpr)) → e.kind ≡ kind.Compare a more → more2 ≡ more → (b : Bool) → b ≡ is_form (typed_node e.kind) (sort e.ty) → b ≡ true → (found first last : Option Unbuilt) → first ≡ expression_least found (typed_expr a.value) → last ≡ chain_least first (comparisons_of (map typed_comparison more2)) → last ≡ expression_least found (typed_expr e)
 comparison_found e a more more2 is same b tested true_is found first last one all =
     all
     ∙ ap (λ f. chain_least f (comparisons_of (map typed_comparison more2))) one
     ∙ ap (λ l. chain_least (expression_least found (typed_expr a.value)) (comparisons_of (map typed_comparison l))) same
     ∙ sym (ap (part_least found) (ap typed_node is ∙ typed_node-Compare a more))
-    ∙ sym (ap (λ t. noted t e.span.line found (part_least found (typed_node e.kind))) (sym tested ∙ true_is))
+    ∙ sym (ap (λ t. noted t (unbuilt e.span.line (node_form (typed_node e.kind) (sort e.ty))) found (part_least found (typed_node e.kind))) (sym tested ∙ true_is))
     ∙ sym (ap (expression_least found) (typed_expr_at e))
 
-pub if_found : (locals globals : List Variable) (s : TStmt) (arms arms2 : List (TExpr × List TStmt)) (other other2 : List TStmt) → s.kind ≡ act.If arms other → arms2 ≡ arms → other2 ≡ other → (found first last : Option ℕ) → first ≡ arms_least locals globals found (arms_of (map typed_arm arms2)) → last ≡ suite_least locals globals first (typed_suite other2) → last ≡ statement_least locals globals found (typed_stmt s)
+pub if_found : (locals globals : List Variable) (s : TStmt) (arms arms2 : List (TExpr × List TStmt)) (other other2 : List TStmt) → s.kind ≡ act.If arms other → arms2 ≡ arms → other2 ≡ other → (found first last : Option Unbuilt) → first ≡ arms_least locals globals found (arms_of (map typed_arm arms2)) → last ≡ suite_least locals globals first (typed_suite other2) → last ≡ statement_least locals globals found (typed_stmt s)
 if_found locals globals s arms arms2 other other2 is a o found first last one all =
     all
     ∙ ap (λ f. suite_least locals globals f (typed_suite other2)) one
@@ -48,7 +50,7 @@ if_found locals globals s arms arms2 other other2 is a o found first last one al
     ∙ sym (ap (act_least locals globals found s.line) (ap typed_act is ∙ typed_act-If arms other))
     ∙ sym (ap (statement_least locals globals found) (typed_stmt_at s))
 
-pub module_found : (m : Suite) (t : TypedModule) (definitions : List StmtTree) (globals : List Variable) (top : TypedSuite) (functions : List TypedFunc) → globals ≡ t.globals → definitions ≡ filter is_def (suite_definitions m) → top ≡ t.top → functions ≡ t.funcs → (found last : Option ℕ) → found ≡ suite_least [] globals None top → last ≡ functions_least globals definitions found 0 functions → last ≡ uncompiled_line m t
+pub module_found : (m : Suite) (t : TypedModule) (definitions : List StmtTree) (globals : List Variable) (top : TypedSuite) (functions : List TypedFunc) → globals ≡ t.globals → definitions ≡ filter is_def (suite_definitions m) → top ≡ t.top → functions ≡ t.funcs → (found last : Option Unbuilt) → found ≡ suite_least [] globals None top → last ≡ functions_least globals definitions found 0 functions → last ≡ uncompiled_form m t
 module_found m t definitions globals top functions g d o f found last one all =
     all
     ∙ ap (λ x. functions_least globals definitions x 0 functions) one
@@ -59,13 +61,13 @@ module_found m t definitions globals top functions g d o f found last one all =
     ∙ module_same m t
 
 -- one function more of a row
-pub function_found : (globals : List Variable) (definitions : List StmtTree) (functions : List TFunc) (n : ℕ) (f : TFunc) (line : ℕ) (found next last : Option ℕ) → n < length functions → f ≡ get_or functions n f → line ≡ definition_line (slice_get definitions n) → next ≡ noted (is_function (typed_func f)) line found (suite_least (typed_func f).locals globals found (typed_func f).body) → functions_least globals definitions found n (map typed_func (drop n functions)) ≡ last → functions_least globals definitions next (n + 1) (map typed_func (drop (n + 1) functions)) ≡ last
+pub function_found : (globals : List Variable) (definitions : List StmtTree) (functions : List TFunc) (n : ℕ) (f : TFunc) (line : ℕ) (found next last : Option Unbuilt) → n < length functions → f ≡ get_or functions n f → line ≡ definition_line (slice_get definitions n) → next ≡ noted (is_function (typed_func f)) (unbuilt line (function_form (typed_func f))) found (suite_least (typed_func f).locals globals found (typed_func f).body) → functions_least globals definitions found n (map typed_func (drop n functions)) ≡ last → functions_least globals definitions next (n + 1) (map typed_func (drop (n + 1) functions)) ≡ last
 function_found globals definitions functions n f line found next last low is place one all =
     let rest : List TypedFunc = map typed_func (drop (n + 1) functions) in
     let on : n + 1 ≡ suc n = omega arith in
     ap (λ k. functions_least globals definitions next k rest) on
     ∙ ap (λ o. functions_least globals definitions o (suc n) rest)
-    (one ∙ ap (λ l. noted (is_function (typed_func f)) l found (suite_least (typed_func f).locals globals found (typed_func f).body)) place)
+    (one ∙ ap (λ l. noted (is_function (typed_func f)) (unbuilt l (function_form (typed_func f))) found (suite_least (typed_func f).locals globals found (typed_func f).body)) place)
     ∙ sym (ap (λ l. functions_least globals definitions found n (map typed_func l)) (drop_more functions n f low ∙ ap (λ g. g ∷ drop (n + 1) functions) (sym is)))
     ∙ all
 

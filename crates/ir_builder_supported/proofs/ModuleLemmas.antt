@@ -18,25 +18,27 @@ use Rattle.py_typed.specs.WellTypedExpr.{init_class}
 use Rattle.py_typed.specs.WellTyped.{is_called_in, all_differ, suite_typed}
 use Rattle.py_typed.specs.WellTypedModule.{names_of, same_row, all_at, ends_well, parameter_types, signature_fits, variables_typed, func_typed, own_name, is_well_typed}
 use Rattle.py_typed.proofs.FitLemmas.{and_left, and_right, one_type}
+use Rattle.py_check_unbuilt.specs.declared.form.Unbuilt.{Unbuilt}
 use Rattle.py_check_unbuilt.specs.Later.{lesser, least}
 use Rattle.ir_builder_frames.specs.Matching.{parameter_sorts}
 use Rattle.ir_builder_expressions.specs.Compiled.{is_scalar, is_result}
 use Rattle.ir_builder_expressions.proofs.SuitLemmas.{AllScalar, AllSigned, same_sorts, either_of}
 use Rattle.ir_builder_statements.specs.Modules.{FunctionSuits, ModuleSuits}
-use Rattle.ir_builder_supported.specs.Statements.{suite_lines, is_none, are_scalars, is_function, is_def, definition_line, function_lines, functions_lines}
+use Rattle.ir_builder_supported.specs.Forms.{unbuilt, is_none, function_form}
+use Rattle.ir_builder_supported.specs.Statements.{suite_forms, are_scalars, is_function, is_def, definition_line, function_forms, functions_forms}
 use Rattle.ir_builder_supported.specs.Laws.{CompiledSuits}
 use Rattle.ir_builder_supported.proofs.CompiledLemmas.{none_left, none_right, form_of, parts_of}
 use Rattle.ir_builder_supported.proofs.SuiteLemmas.{suite_suits}
 
--- ---- lines
+-- ---- forms
 
-still_some : (n : ℕ) (xs : List ℕ) → least (Some n) xs ≡ None → ⊥
-still_some n [] e = absurd (cc)
-still_some n (x ∷ xs) e = still_some (lesser x (Some n)) xs e
+still_some : (u : Unbuilt) (xs : List Unbuilt) → least (Some u) xs ≡ None → ⊥
+still_some u [] e = absurd (cc)
+still_some u (x ∷ xs) e = still_some (lesser x (Some u)) xs e
 
-no_line : (xs : List ℕ) → least None xs ≡ None → xs ≡ []
-no_line [] e = refl
-no_line (x ∷ xs) e = absurd (still_some (lesser x None) xs e)
+no_form : (xs : List Unbuilt) → least None xs ≡ None → xs ≡ []
+no_form [] e = refl
+no_form (x ∷ xs) e = absurd (still_some (lesser x None) xs e)
 
 -- ---- names
 
@@ -69,14 +71,14 @@ at_place test i (y ∷ ys) zero n x is h e =
     subst (λ j. test j x ≡ true) (sym (omega arith)) (subst (λ z. test i z ≡ true) (same_Some y x e) (and_left (test i y) (all_at (suc i) test ys) h))
 at_place test i (y ∷ ys) (suc k) n x is h e = at_place test (suc i) ys k n x (omega arith) (and_right (test i y) (all_at (suc i) test ys) h) e
 
-is_form_of : (globals : List Variable) (definitions : List StmtTree) (n : ℕ) (fs : List TypedFunc) (k : ℕ) (f : TypedFunc) → functions_lines globals definitions n fs ≡ [] → slice_get fs k ≡ Some f → (is_function f ≡ true) × (suite_lines f.locals globals f.body ≡ [])
+is_form_of : (globals : List Variable) (definitions : List StmtTree) (n : ℕ) (fs : List TypedFunc) (k : ℕ) (f : TypedFunc) → functions_forms globals definitions n fs ≡ [] → slice_get fs k ≡ Some f → (is_function f ≡ true) × (suite_forms f.locals globals f.body ≡ [])
 is_form_of globals definitions n [] k f p e = absurd (cc)
 is_form_of globals definitions n (g ∷ more) zero f p e =
-    let here : function_lines globals (slice_get definitions n) g ≡ [] = none_left (function_lines globals (slice_get definitions n) g) (functions_lines globals definitions (suc n) more) p in
-    subst (λ h. (is_function h ≡ true) × (suite_lines h.locals globals h.body ≡ [])) (same_Some g f e)
-    (form_of (is_function g) (definition_line (slice_get definitions n)) (suite_lines g.locals globals g.body) here, parts_of (is_function g) (definition_line (slice_get definitions n)) (suite_lines g.locals globals g.body) here)
+    let here : function_forms globals (slice_get definitions n) g ≡ [] = none_left (function_forms globals (slice_get definitions n) g) (functions_forms globals definitions (suc n) more) p in
+    subst (λ h. (is_function h ≡ true) × (suite_forms h.locals globals h.body ≡ [])) (same_Some g f e)
+    (form_of (is_function g) (unbuilt (definition_line (slice_get definitions n)) (function_form g)) (suite_forms g.locals globals g.body) here, parts_of (is_function g) (unbuilt (definition_line (slice_get definitions n)) (function_form g)) (suite_forms g.locals globals g.body) here)
 is_form_of globals definitions n (g ∷ more) (suc k) f p e =
-    is_form_of globals definitions (suc n) more k f (none_right (function_lines globals (slice_get definitions n) g) (functions_lines globals definitions (suc n) more) p) e
+    is_form_of globals definitions (suc n) more k f (none_right (function_forms globals (slice_get definitions n) g) (functions_forms globals definitions (suc n) more) p) e
 
 none_is : {A : Type 0} (o : Option A) → is_none o ≡ true → o ≡ None
 none_is None h = refl
@@ -93,13 +95,13 @@ module _ (m : TypedModule) where
   named : (f : TypedFunc) → f.class ≡ None → own_name is_identifier m f ≡ f.name ∷ []
   named f h = rw h refl
 
-  all_named : (definitions : List StmtTree) (n : ℕ) (fs : List TypedFunc) → functions_lines m.globals definitions n fs ≡ [] → flat_map (own_name is_identifier m) fs ≡ map (λ (f : TypedFunc). f.name) fs
+  all_named : (definitions : List StmtTree) (n : ℕ) (fs : List TypedFunc) → functions_forms m.globals definitions n fs ≡ [] → flat_map (own_name is_identifier m) fs ≡ map (λ (f : TypedFunc). f.name) fs
   all_named definitions n [] p = refl
   all_named definitions n (f ∷ more) p =
-      let here : function_lines m.globals (slice_get definitions n) f ≡ [] = none_left (function_lines m.globals (slice_get definitions n) f) (functions_lines m.globals definitions (suc n) more) p in
-      let own = named f (no_method f (form_of (is_function f) (definition_line (slice_get definitions n)) (suite_lines f.locals m.globals f.body) here)) in
+      let here : function_forms m.globals (slice_get definitions n) f ≡ [] = none_left (function_forms m.globals (slice_get definitions n) f) (functions_forms m.globals definitions (suc n) more) p in
+      let own = named f (no_method f (form_of (is_function f) (unbuilt (definition_line (slice_get definitions n)) (function_form f)) (suite_forms f.locals m.globals f.body) here)) in
       ap (λ l. l ++ flat_map (own_name is_identifier m) more) own
-      ∙ ap (λ l. f.name ∷ l) (all_named definitions (suc n) more (none_right (function_lines m.globals (slice_get definitions n) f) (functions_lines m.globals definitions (suc n) more) p))
+      ∙ ap (λ l. f.name ∷ l) (all_named definitions (suc n) more (none_right (function_forms m.globals (slice_get definitions n) f) (functions_forms m.globals definitions (suc n) more) p))
 
   -- what a well typed function has
   record Parts (n : ℕ) (f : TypedFunc) : Type 0 where
@@ -130,12 +132,12 @@ module _ (m : TypedModule) where
     sym (one_type f.ret s.ret (and_right (same_row (parameter_types f) s.params) (is_same_type f.ret s.ret) h)),
   )
 
-  module _ (tree : Suite) (typed : is_well_typed is_identifier m ≡ true) (lines : functions_lines m.globals (filter is_def (suite_definitions tree)) 0 m.funcs ≡ []) where
+  module _ (tree : Suite) (typed : is_well_typed is_identifier m ≡ true) (forms : functions_forms m.globals (filter is_def (suite_definitions tree)) 0 m.funcs ≡ []) where
     function_parts : (n : ℕ) (f : TypedFunc) → slice_get m.funcs n ≡ Some f → Parts n f
     function_parts n f is = parts n f (at_place (func_typed is_identifier m) 0 m.funcs n n f (omega arith) (and_right _ _ (and_left _ _ typed)) is)
 
-    formed : (n : ℕ) (f : TypedFunc) → slice_get m.funcs n ≡ Some f → (is_function f ≡ true) × (suite_lines f.locals m.globals f.body ≡ [])
-    formed n f is = is_form_of m.globals (filter is_def (suite_definitions tree)) 0 m.funcs n f lines is
+    formed : (n : ℕ) (f : TypedFunc) → slice_get m.funcs n ≡ Some f → (is_function f ≡ true) × (suite_forms f.locals m.globals f.body ≡ [])
+    formed n f is = is_form_of m.globals (filter is_def (suite_definitions tree)) 0 m.funcs n f forms is
 
     all_signed : (vs : List Variable) (init : Option ℕ) → AllSigned m vs init
     all_signed vs init n f s is function found =
@@ -159,7 +161,7 @@ module _ (m : TypedModule) where
           ends = either_of (is_nothing f.ret) (is_closed f.body) p.ends;
         }
 
-    module_suits : suite_lines [] m.globals m.top ≡ [] → ModuleSuits m
+    module_suits : suite_forms [] m.globals m.top ≡ [] → ModuleSuits m
     module_suits top =
         let six = and_left _ _ typed in
         let two = and_left _ _ (and_left _ _ (and_left _ _ (and_left _ _ six))) in
@@ -171,7 +173,7 @@ module _ (m : TypedModule) where
           functions = function_suits;
           differ =
               sym (one_test (map (λ (f : TypedFunc). f.name) m.funcs))
-              ∙ subst (λ l. all_differ l ≡ true) (all_named (filter is_def (suite_definitions tree)) 0 m.funcs lines) (differ_left functions classes (differ_right others (functions ++ classes) (and_right _ _ two)));
+              ∙ subst (λ l. all_differ l ≡ true) (all_named (filter is_def (suite_definitions tree)) 0 m.funcs forms) (differ_left functions classes (differ_right others (functions ++ classes) (and_right _ _ two)));
           identifiers = and_left _ _ (and_left _ _ globals);
           globals_differ = sym (one_test others) ∙ and_right _ _ (and_left _ _ globals);
           top = suite_suits m [] None no_variables (all_signed [] None) None [] false false m.top (and_right _ _ typed) top;
@@ -182,5 +184,5 @@ module _ (m : TypedModule) where
 
 pub compiled_suits : CompiledSuits
 compiled_suits tree m typed none =
-    let all = no_line (suite_lines [] m.globals m.top ++ functions_lines m.globals (filter is_def (suite_definitions tree)) 0 m.funcs) none in
-    module_suits m tree typed (none_right (suite_lines [] m.globals m.top) (functions_lines m.globals (filter is_def (suite_definitions tree)) 0 m.funcs) all) (none_left (suite_lines [] m.globals m.top) (functions_lines m.globals (filter is_def (suite_definitions tree)) 0 m.funcs) all)
+    let all = no_form (suite_forms [] m.globals m.top ++ functions_forms m.globals (filter is_def (suite_definitions tree)) 0 m.funcs) none in
+    module_suits m tree typed (none_right (suite_forms [] m.globals m.top) (functions_forms m.globals (filter is_def (suite_definitions tree)) 0 m.funcs) all) (none_left (suite_forms [] m.globals m.top) (functions_forms m.globals (filter is_def (suite_definitions tree)) 0 m.funcs) all)

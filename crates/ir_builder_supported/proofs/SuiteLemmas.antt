@@ -21,8 +21,9 @@ use Rattle.ir_builder_expressions.specs.Applying.{BinarySuits}
 use Rattle.ir_builder_expressions.specs.Suiting.{Suits}
 use Rattle.ir_builder_expressions.proofs.SuitLemmas.{AllScalar, AllSigned, gives_value, reads_itself, well_typed_suits, well_typed_node, either_of}
 use Rattle.ir_builder_statements.specs.Suiting.{PrintSuits, DoSuits, IsOnly, UpdateSuits, VariableUpdates, ReturnSuits, StatementSuits, ActSuits, SuiteSuits, ArmsSuit}
-use Rattle.ir_builder_supported.specs.Expressions.{line_at, is_form, expression_lines, part_lines, row_lines}
-use Rattle.ir_builder_supported.specs.Statements.{alone_lines, is_one, is_taken, takes_result, is_updated, returned_lines, statement_lines, act_lines, suite_lines, arms_lines}
+use Rattle.ir_builder_supported.specs.Forms.{unbuilt, node_form, expression_form, expression_at, targets_form, update_form}
+use Rattle.ir_builder_supported.specs.Expressions.{is_form, expression_forms, part_forms, row_forms}
+use Rattle.ir_builder_supported.specs.Statements.{alone_forms, is_one, is_taken, takes_result, is_updated, returned_forms, statement_forms, act_forms, suite_forms, arms_forms}
 use Rattle.ir_builder_supported.proofs.CompiledLemmas.{none_left, none_right, form_of, parts_of, compiled, compiled_node}
 
 -- ---- types
@@ -90,24 +91,24 @@ numbers_update op u s w true built takes numbers h =
 numbers_update op u s w false built takes numbers h = absurd (cc)
 
 module _ (m : TypedModule) (vs : List Variable) (init : Option ℕ) (scalars : AllScalar m vs init) (signed : AllSigned m vs init) where
-  value_scalar : (testing : Bool) (known : List ℕ) (e : TypedExpr) → stands m vs init testing known e ≡ true → expression_lines e ≡ [] → is_scalar (type_of e) ≡ true
+  value_scalar : (testing : Bool) (known : List ℕ) (e : TypedExpr) → stands m vs init testing known e ≡ true → expression_forms e ≡ [] → is_scalar (type_of e) ≡ true
   value_scalar testing known e h p = gives_value m vs init testing known e h (compiled e p)
 
-  expression_suits : (testing : Bool) (known : List ℕ) (e : TypedExpr) → stands m vs init testing known e ≡ true → expression_lines e ≡ [] → Suits m vs e
+  expression_suits : (testing : Bool) (known : List ℕ) (e : TypedExpr) → stands m vs init testing known e ≡ true → expression_forms e ≡ [] → Suits m vs e
   expression_suits testing known e h p = well_typed_suits m vs init scalars signed testing known e h (compiled e p)
 
   test_sort : (known : List ℕ) (e : TypedExpr) → stands m vs init true known e ≡ true → type_of e ≡ sort.Bool
   test_sort known (typed n t place) h = one_type t sort.Bool (and_right _ _ (and_left _ _ (and_left _ _ h)))
 
-  test_suits : (known : List ℕ) (e : TypedExpr) → stands m vs init true known e ≡ true → expression_lines e ≡ [] → (type_of e ≡ sort.Bool) × Suits m vs e
+  test_suits : (known : List ℕ) (e : TypedExpr) → stands m vs init true known e ≡ true → expression_forms e ≡ [] → (type_of e ≡ sort.Bool) × Suits m vs e
   test_suits known e h p = (test_sort known e h, expression_suits true known e h p)
 
   module _ (result : Option Sort) where
-    print_suits : (known : List ℕ) (es : TypedExprs) → are_values m vs init known es ≡ true → row_lines es ≡ [] → PrintSuits m vs result es
+    print_suits : (known : List ℕ) (es : TypedExprs) → are_values m vs init known es ≡ true → row_forms es ≡ [] → PrintSuits m vs result es
     print_suits known no_exprs h p = tt
     print_suits known (expr_then e more) h p =
-        let here = none_left (expression_lines e) (row_lines more) p in
-        (value_scalar false known e (and_left _ _ h) here, expression_suits false known e (and_left _ _ h) here, print_suits known more (and_right _ _ h) (none_right (expression_lines e) (row_lines more) p))
+        let here = none_left (expression_forms e) (row_forms more) p in
+        (value_scalar false known e (and_left _ _ h) here, expression_suits false known e (and_left _ _ h) here, print_suits known more (and_right _ _ h) (none_right (expression_forms e) (row_forms more) p))
 
     node_parts : (known : List ℕ) (n : TypedNode) (t : Sort) (place : Span) → is_typed m vs init known (typed n t place) ≡ true → parts_typed m vs init false known n ≡ true
     node_parts known n t place h = and_left _ _ (and_left _ _ (and_left _ _ h))
@@ -115,11 +116,11 @@ module _ (m : TypedModule) (vs : List Variable) (init : Option ℕ) (scalars : A
     node_rule : (known : List ℕ) (n : TypedNode) (t : Sort) (place : Span) → is_typed m vs init known (typed n t place) ≡ true → rule m vs init known n t ≡ true
     node_rule known n t place h = and_right _ _ (and_left _ _ (and_left _ _ h))
 
-    alone_suits : (known : List ℕ) (e : TypedExpr) → is_typed m vs init known e ≡ true → alone_lines e ≡ [] → DoSuits m vs result e
+    alone_suits : (known : List ℕ) (e : TypedExpr) → is_typed m vs init known e ≡ true → alone_forms e ≡ [] → DoSuits m vs result e
     alone_suits known (typed (Print es) t place) h p = print_suits known es (node_parts known (Print es) t place h) p
     alone_suits known (typed n t place) h p =
         well_typed_node m vs init scalars signed false known n t (node_parts known n t place h) (node_rule known n t place h)
-        (compiled_node n t (form_of (is_form n t) place.line (part_lines n) p) (parts_of (is_form n t) place.line (part_lines n) p))
+        (compiled_node n t (form_of (is_form n t) (unbuilt place.line (node_form n t)) (part_forms n) p) (parts_of (is_form n t) (unbuilt place.line (node_form n t)) (part_forms n) p))
 
     -- ---- assignments
 
@@ -177,54 +178,54 @@ module _ (m : TypedModule) (vs : List Variable) (init : Option ℕ) (scalars : A
 
     -- ---- what is returned
 
-    none_not_compiled : (e : TypedExpr) → is_none_literal e ≡ true → expression_lines e ≡ [] → ⊥
-    none_not_compiled (typed n t place) h p = node_other n t h (form_of (is_form n t) place.line (part_lines n) p)
+    none_not_compiled : (e : TypedExpr) → is_none_literal e ≡ true → expression_forms e ≡ [] → ⊥
+    none_not_compiled (typed n t place) h p = node_other n t h (form_of (is_form n t) (unbuilt place.line (node_form n t)) (part_forms n) p)
       where
         node_other : (n : TypedNode) (t : Sort) → is_none_literal (typed n t place) ≡ true → is_form n t ≡ true → ⊥
         node_other Nothing t h f = absurd (cc)
         node_other _ t h f = absurd (cc)
 
-    value_returned : (known : List ℕ) (t : Sort) (e : TypedExpr) → (is_value m vs init known e && is_same_type (type_of e) t) ≡ true → is_scalar (type_of e) ≡ true → expression_lines e ≡ [] → (is_scalar (type_of e) ≡ true) × (Some t ≡ Some (type_of e)) × Suits m vs e
+    value_returned : (known : List ℕ) (t : Sort) (e : TypedExpr) → (is_value m vs init known e && is_same_type (type_of e) t) ≡ true → is_scalar (type_of e) ≡ true → expression_forms e ≡ [] → (is_scalar (type_of e) ≡ true) × (Some t ≡ Some (type_of e)) × Suits m vs e
     value_returned known t e h c p =
         (c, ap Some (sym (one_type (type_of e) t (and_right _ _ h))), expression_suits false known e (and_left _ _ h) p)
 
-    returns_of : (known : List ℕ) (t : Sort) (e : TypedExpr) → return_fits m vs init result known (Some t) (Some e) ≡ true → is_scalar (type_of e) ≡ true → expression_lines e ≡ [] → (is_scalar (type_of e) ≡ true) × (Some t ≡ Some (type_of e)) × Suits m vs e
+    returns_of : (known : List ℕ) (t : Sort) (e : TypedExpr) → return_fits m vs init result known (Some t) (Some e) ≡ true → is_scalar (type_of e) ≡ true → expression_forms e ≡ [] → (is_scalar (type_of e) ≡ true) × (Some t ≡ Some (type_of e)) × Suits m vs e
     returns_of known sort.Nothing e h c p = absurd (none_not_compiled e (and_right _ _ h) p)
     returns_of known t e h c p = value_returned known t e h c p
 
-  return_suits : (known : List ℕ) (result : Option Sort) (e : Option TypedExpr) → return_fits m vs init result known result e ≡ true → returned_lines e ≡ [] → ReturnSuits m vs result e
+  return_suits : (known : List ℕ) (result : Option Sort) (e : Option TypedExpr) → return_fits m vs init result known result e ≡ true → returned_forms e ≡ [] → ReturnSuits m vs result e
   return_suits known None e h p = absurd (cc)
   return_suits known (Some t) None h p = ap Some (nothing_is t h)
   return_suits known (Some t) (Some e) h p =
-      returns_of (Some t) known t e h (form_of (is_scalar (type_of e)) (line_at e) (expression_lines e) p) (parts_of (is_scalar (type_of e)) (line_at e) (expression_lines e) p)
+      returns_of (Some t) known t e h (form_of (is_scalar (type_of e)) (expression_at e) (expression_forms e) p) (parts_of (is_scalar (type_of e)) (expression_at e) (expression_forms e) p)
 
   -- ---- statements
 
   module _ (result : Option Sort) where
     mutual
-      statement_suits : (known : List ℕ) (looping handling : Bool) (s : TypedStmt) → stmt_typed m vs init result known looping handling s ≡ true → statement_lines vs m.globals s ≡ [] → StatementSuits m vs result looping s
+      statement_suits : (known : List ℕ) (looping handling : Bool) (s : TypedStmt) → stmt_typed m vs init result known looping handling s ≡ true → statement_forms vs m.globals s ≡ [] → StatementSuits m vs result looping s
       statement_suits known looping handling (on_line a line) h p = act_suits known looping handling line a h p
 
-      act_suits : (known : List ℕ) (looping handling : Bool) (line : ℕ) (a : TypedAct) → act_typed m vs init result known looping handling a ≡ true → act_lines vs m.globals line a ≡ [] → ActSuits m vs result looping a
+      act_suits : (known : List ℕ) (looping handling : Bool) (line : ℕ) (a : TypedAct) → act_typed m vs init result known looping handling a ≡ true → act_forms vs m.globals line a ≡ [] → ActSuits m vs result looping a
       act_suits known looping handling line (Do e) h p = alone_suits result known e h p
       act_suits known looping handling line (Assign ts e) h p =
-          let form = form_of (is_one ts && is_scalar (type_of e)) line (expression_lines e) p in
+          let form = form_of (is_one ts && is_scalar (type_of e)) (unbuilt line (targets_form ts (expression_form e))) (expression_forms e) p in
           let scalar = and_right (is_one ts) (is_scalar (type_of e)) form in (
             scalar,
             only_suits result ts (type_of e) (and_left (is_one ts) (is_scalar (type_of e)) form) scalar (and_right _ _ h),
-            expression_suits false known e (and_left _ _ (and_left _ _ (and_left _ _ h))) (parts_of (is_one ts && is_scalar (type_of e)) line (expression_lines e) p),
+            expression_suits false known e (and_left _ _ (and_left _ _ (and_left _ _ h))) (parts_of (is_one ts && is_scalar (type_of e)) (unbuilt line (targets_form ts (expression_form e))) (expression_forms e) p),
           )
       act_suits known looping handling line (Aug t op e s) h p =
-          let form = form_of (is_updated vs m.globals t s && (is_scalar s && is_built op)) line (expression_lines e) p in
+          let form = form_of (is_updated vs m.globals t s && (is_scalar s && is_built op)) (unbuilt line (update_form t s)) (expression_forms e) p in
           let more = and_right (is_updated vs m.globals t s) (is_scalar s && is_built op) form in
           let found = updated result known t op s (type_of e) (and_left (is_updated vs m.globals t s) (is_scalar s && is_built op) form) (and_left (is_scalar s) (is_built op) more) (and_right (is_scalar s) (is_built op) more) (and_left _ _ (and_right _ _ h)) in
-          (found, expression_suits false known e (and_left _ _ (and_left _ _ h)) (parts_of (is_updated vs m.globals t s && (is_scalar s && is_built op)) line (expression_lines e) p))
+          (found, expression_suits false known e (and_left _ _ (and_left _ _ h)) (parts_of (is_updated vs m.globals t s && (is_scalar s && is_built op)) (unbuilt line (update_form t s)) (expression_forms e) p))
       act_suits known looping handling line (If arms other) h p =
-          let found = arms_suit known looping handling arms (λ there. suite_typed m vs init result there looping handling other) (and_right _ _ h) (none_left (arms_lines vs m.globals arms) (suite_lines vs m.globals other) p) in
-          (found.0, suite_suits found.1 looping handling other found.2 (none_right (arms_lines vs m.globals arms) (suite_lines vs m.globals other) p))
+          let found = arms_suit known looping handling arms (λ there. suite_typed m vs init result there looping handling other) (and_right _ _ h) (none_left (arms_forms vs m.globals arms) (suite_forms vs m.globals other) p) in
+          (found.0, suite_suits found.1 looping handling other found.2 (none_right (arms_forms vs m.globals arms) (suite_forms vs m.globals other) p))
       act_suits known looping handling line (While test body) h p = (
-        test_suits (without (bound_suite body) known) test (and_left _ _ (and_left _ _ h)) (none_left (expression_lines test) (suite_lines vs m.globals body) p),
-        suite_suits (facts true test ++ without (bound_suite body) known) true handling body (and_right _ _ h) (none_right (expression_lines test) (suite_lines vs m.globals body) p),
+        test_suits (without (bound_suite body) known) test (and_left _ _ (and_left _ _ h)) (none_left (expression_forms test) (suite_forms vs m.globals body) p),
+        suite_suits (facts true test ++ without (bound_suite body) known) true handling body (and_right _ _ h) (none_right (expression_forms test) (suite_forms vs m.globals body) p),
       )
       act_suits known looping handling line (Return e) h p = return_suits known result e h p
       act_suits known looping handling line Break h p = h
@@ -232,21 +233,21 @@ module _ (m : TypedModule) (vs : List Variable) (init : Option ℕ) (scalars : A
       act_suits known looping handling line Pass h p = tt
       act_suits known looping handling line _ h p = absurd (cc)
 
-      pub suite_suits : (known : List ℕ) (looping handling : Bool) (body : TypedSuite) → suite_typed m vs init result known looping handling body ≡ true → suite_lines vs m.globals body ≡ [] → SuiteSuits m vs result looping body
+      pub suite_suits : (known : List ℕ) (looping handling : Bool) (body : TypedSuite) → suite_typed m vs init result known looping handling body ≡ true → suite_forms vs m.globals body ≡ [] → SuiteSuits m vs result looping body
       suite_suits known looping handling no_stmts h p = tt
       suite_suits known looping handling (stmt_then s more) h p = (
-        statement_suits known looping handling s (and_left _ _ h) (none_left (statement_lines vs m.globals s) (suite_lines vs m.globals more) p),
-        suite_suits (after (is_single m vs init result) known s) looping handling more (and_right _ _ h) (none_right (statement_lines vs m.globals s) (suite_lines vs m.globals more) p),
+        statement_suits known looping handling s (and_left _ _ h) (none_left (statement_forms vs m.globals s) (suite_forms vs m.globals more) p),
+        suite_suits (after (is_single m vs init result) known s) looping handling more (and_right _ _ h) (none_right (statement_forms vs m.globals s) (suite_forms vs m.globals more) p),
       )
 
-      arms_suit : (known : List ℕ) (looping handling : Bool) (arms : Arms) (other : List ℕ → Bool) → arms_typed m vs init result known looping handling arms other ≡ true → arms_lines vs m.globals arms ≡ [] → ArmsSuit m vs result looping arms × (there : List ℕ) × (other there ≡ true)
+      arms_suit : (known : List ℕ) (looping handling : Bool) (arms : Arms) (other : List ℕ → Bool) → arms_typed m vs init result known looping handling arms other ≡ true → arms_forms vs m.globals arms ≡ [] → ArmsSuit m vs result looping arms × (there : List ℕ) × (other there ≡ true)
       arms_suit known looping handling no_arms other h p = (tt, known, h)
       arms_suit known looping handling (arm_then test body more) other h p =
-          let rest : suite_lines vs m.globals body ++ arms_lines vs m.globals more ≡ [] = none_right (expression_lines test) (suite_lines vs m.globals body ++ arms_lines vs m.globals more) p in
-          let found = arms_suit (facts false test ++ known) looping handling more other (and_right _ _ h) (none_right (suite_lines vs m.globals body) (arms_lines vs m.globals more) rest) in (
+          let rest : suite_forms vs m.globals body ++ arms_forms vs m.globals more ≡ [] = none_right (expression_forms test) (suite_forms vs m.globals body ++ arms_forms vs m.globals more) p in
+          let found = arms_suit (facts false test ++ known) looping handling more other (and_right _ _ h) (none_right (suite_forms vs m.globals body) (arms_forms vs m.globals more) rest) in (
             (
-              test_suits known test (and_left _ _ (and_left _ _ (and_left _ _ h))) (none_left (expression_lines test) (suite_lines vs m.globals body ++ arms_lines vs m.globals more) p),
-              suite_suits (facts true test ++ known) looping handling body (and_right _ _ (and_left _ _ h)) (none_left (suite_lines vs m.globals body) (arms_lines vs m.globals more) rest),
+              test_suits known test (and_left _ _ (and_left _ _ (and_left _ _ h))) (none_left (expression_forms test) (suite_forms vs m.globals body ++ arms_forms vs m.globals more) p),
+              suite_suits (facts true test ++ known) looping handling body (and_right _ _ (and_left _ _ h)) (none_left (suite_forms vs m.globals body) (arms_forms vs m.globals more) rest),
               found.0,
             ),
             found.1,

@@ -1,18 +1,17 @@
--- The lines on which expressions stand that are not compiled. An expression stands on the line where it begins, so what stands
--- inside of one that is not compiled stands on no line before it.
-use Rattle.std.specs.Prelude.{ℕ, Bool, true, false, ◌&&◌, if◌then◌else◌, List, [], ◌∷◌, ◌++◌}
+-- The expressions that are not compiled, and the lines on which they stand. An expression stands on the line where it begins, so
+-- what stands inside of one that is not compiled stands on no line before it.
+use Rattle.std.specs.Prelude.{Bool, true, false, ◌&&◌, if◌then◌else◌, List, [], ◌∷◌, ◌++◌}
 use Rattle.py_typed.specs.Fits.{is_number}
 use Rattle.py_typed.specs.Sorts.{Sort}
 use Rattle.py_typed.specs.Expressions.{TypedExpr, typed, TypedNode, Int, Str, Flag, Local, Global, Neg, Not, Truth, Arith, Concat, Compare, And, Or, Cond, At, Call, Input, Len, ToStr, Coerce, TypedExprs, no_exprs, expr_then, Comparisons, no_comparisons, comparison_then, type_of}
+use Rattle.py_check_unbuilt.specs.declared.form.Unbuilt.{Unbuilt}
 use Rattle.ir_builder_operations.specs.Operating.{is_whole}
 use Rattle.ir_builder_expressions.specs.Compiled.{is_bool, is_int, is_text, is_scalar, is_result, is_built, is_ordering, is_pair}
+use Rattle.ir_builder_supported.specs.Forms.{unbuilt, node_form}
 
--- the line of an expression, unless it is of a form that is compiled; then those of its parts
-abbrev pub or_parts : Bool → ℕ → List ℕ → List ℕ
-or_parts compiled line parts = if compiled then parts else line ∷ []
-
-abbrev pub line_at : TypedExpr → ℕ
-line_at (typed e t place) = place.line
+-- something, unless it is compiled; then what is not of its parts
+abbrev pub or_parts : Bool → Unbuilt → List Unbuilt → List Unbuilt
+or_parts compiled here parts = if compiled then parts else here ∷ []
 
 -- each pair of a chain, behind an operand of a type, is compared as numbers or as texts
 abbrev pub are_pairs : Sort → Comparisons → Bool
@@ -44,30 +43,30 @@ is_form (Coerce e) t = is_whole t && is_number (type_of e)
 is_form e t = false
 
 abbrev mutual
-  pub expression_lines : TypedExpr → List ℕ
-  expression_lines (typed e t place) = or_parts (is_form e t) place.line (part_lines e)
+  pub expression_forms : TypedExpr → List Unbuilt
+  expression_forms (typed e t place) = or_parts (is_form e t) (unbuilt place.line (node_form e t)) (part_forms e)
 
-  pub part_lines : TypedNode → List ℕ
-  part_lines (Neg e) = expression_lines e
-  part_lines (Not e) = expression_lines e
-  part_lines (Truth e) = expression_lines e
-  part_lines (Arith op a b) = expression_lines a ++ expression_lines b
-  part_lines (Concat a b) = expression_lines a ++ expression_lines b
-  part_lines (Compare e more) = expression_lines e ++ chain_lines more
-  part_lines (And a b) = expression_lines a ++ expression_lines b
-  part_lines (Or a b) = expression_lines a ++ expression_lines b
-  part_lines (Cond a test b) = expression_lines a ++ (expression_lines test ++ expression_lines b)
-  part_lines (At a b) = expression_lines a ++ expression_lines b
-  part_lines (Call f es) = row_lines es
-  part_lines (Len e) = expression_lines e
-  part_lines (ToStr e) = expression_lines e
-  part_lines (Coerce e) = expression_lines e
-  part_lines e = []
+  pub part_forms : TypedNode → List Unbuilt
+  part_forms (Neg e) = expression_forms e
+  part_forms (Not e) = expression_forms e
+  part_forms (Truth e) = expression_forms e
+  part_forms (Arith op a b) = expression_forms a ++ expression_forms b
+  part_forms (Concat a b) = expression_forms a ++ expression_forms b
+  part_forms (Compare e more) = expression_forms e ++ chain_forms more
+  part_forms (And a b) = expression_forms a ++ expression_forms b
+  part_forms (Or a b) = expression_forms a ++ expression_forms b
+  part_forms (Cond a test b) = expression_forms a ++ (expression_forms test ++ expression_forms b)
+  part_forms (At a b) = expression_forms a ++ expression_forms b
+  part_forms (Call f es) = row_forms es
+  part_forms (Len e) = expression_forms e
+  part_forms (ToStr e) = expression_forms e
+  part_forms (Coerce e) = expression_forms e
+  part_forms e = []
 
-  pub row_lines : TypedExprs → List ℕ
-  row_lines no_exprs = []
-  row_lines (expr_then e more) = expression_lines e ++ row_lines more
+  pub row_forms : TypedExprs → List Unbuilt
+  row_forms no_exprs = []
+  row_forms (expr_then e more) = expression_forms e ++ row_forms more
 
-  pub chain_lines : Comparisons → List ℕ
-  chain_lines no_comparisons = []
-  chain_lines (comparison_then op e more) = expression_lines e ++ chain_lines more
+  pub chain_forms : Comparisons → List Unbuilt
+  chain_forms no_comparisons = []
+  chain_forms (comparison_then op e more) = expression_forms e ++ chain_forms more

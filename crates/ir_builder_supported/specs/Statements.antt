@@ -1,21 +1,24 @@
--- The lines on which statements, expressions and functions of a typed module stand that are not compiled. A statement stands on
--- its own line, and what stands inside of one on no line before it.
+-- The statements, expressions and functions of a typed module that are not compiled, and the lines on which they stand. A statement
+-- stands on its own line, and what stands inside of one on no line before it.
 use Rattle.std.specs.Prelude.{ℕ, suc, Bool, true, false, ◌&&◌, ◌||◌, nat_le, List, [], ◌∷◌, ◌++◌, length, Option, Some, None, slice_get}
 use Rattle.std.specs.List.{list_all, filter}
 use Rattle.py_syntax.specs.Statements.{StmtTree, at, Def, Suite}
 use Rattle.py_typed.specs.Sorts.{Sort}
 use Rattle.py_typed.specs.Fits.{is_same_type}
 use Rattle.py_typed.specs.Expressions.{TypedExpr, typed, Print, type_of}
-use Rattle.py_typed.specs.Statements.{Variable, TypedFunc, TypedModule, TypedTarget, LocalTarget, GlobalTarget, TypedStmt, on_line, TypedAct, Do, Assign, Aug, If, While, Return, Break, Continue, Pass, TypedSuite, no_stmts, stmt_then, Arms, no_arms, arm_then}
+use Rattle.py_typed.specs.Statements.{Variable, TypedFunc, TypedModule, TypedTarget, LocalTarget, GlobalTarget, TypedStmt, on_line, TypedAct, Do, Assign, Aug, Del, If, While, ForRange, ForList, ForDict, Try, Raise, Return, Break, Continue, Assert, Pass, TypedSuite, no_stmts, stmt_then, Arms, no_arms, arm_then}
 use Rattle.py_check_names.specs.Outline.{suite_definitions}
+use Rattle.py_check_unbuilt.specs.declared.form.Form.TheVariants as form
+use Rattle.py_check_unbuilt.specs.declared.form.Unbuilt.{Unbuilt}
 use Rattle.py_check_unbuilt.specs.Later.{least}
 use Rattle.ir_builder_expressions.specs.Compiled.{is_int, is_i64, is_scalar, is_result, is_built}
-use Rattle.ir_builder_supported.specs.Expressions.{or_parts, line_at, expression_lines, row_lines}
+use Rattle.ir_builder_supported.specs.Forms.{unbuilt, expression_form, expression_at, targets_form, update_form, is_none, function_form}
+use Rattle.ir_builder_supported.specs.Expressions.{or_parts, expression_forms, row_forms}
 
 -- `print` writes any number of values
-abbrev pub alone_lines : TypedExpr → List ℕ
-alone_lines (typed (Print es) t place) = row_lines es
-alone_lines e = expression_lines e
+abbrev pub alone_forms : TypedExpr → List Unbuilt
+alone_forms (typed (Print es) t place) = row_forms es
+alone_forms e = expression_forms e
 
 -- one name of the function or of the module
 abbrev pub is_own : TypedTarget → Bool
@@ -27,9 +30,9 @@ abbrev pub is_one : List TypedTarget → Bool
 is_one (t ∷ []) = is_own t
 is_one ts = false
 
-abbrev pub returned_lines : Option TypedExpr → List ℕ
-returned_lines None = []
-returned_lines (Some e) = or_parts (is_scalar (type_of e)) (line_at e) (expression_lines e)
+abbrev pub returned_forms : Option TypedExpr → List Unbuilt
+returned_forms None = []
+returned_forms (Some e) = or_parts (is_scalar (type_of e)) (expression_at e) (expression_forms e)
 
 -- a variable of the first type takes what an operation gives that is done in the second: they are one type, or an `i64` becomes an
 -- `int`
@@ -49,37 +52,39 @@ module _ (locals globals : List Variable) where
   is_updated target s = false
 
   abbrev mutual
-    pub statement_lines : TypedStmt → List ℕ
-    statement_lines (on_line a line) = act_lines line a
+    pub statement_forms : TypedStmt → List Unbuilt
+    statement_forms (on_line a line) = act_forms line a
 
-    pub act_lines : ℕ → TypedAct → List ℕ
-    act_lines line (Do e) = alone_lines e
-    act_lines line (Assign ts e) = or_parts (is_one ts && is_scalar (type_of e)) line (expression_lines e)
-    act_lines line (Aug t op e s) = or_parts (is_updated t s && (is_scalar s && is_built op)) line (expression_lines e)
-    act_lines line (If arms other) = arms_lines arms ++ suite_lines other
-    act_lines line (While test body) = expression_lines test ++ suite_lines body
-    act_lines line (Return e) = returned_lines e
-    act_lines line Break = []
-    act_lines line Continue = []
-    act_lines line Pass = []
-    act_lines line a = line ∷ []
+    pub act_forms : ℕ → TypedAct → List Unbuilt
+    act_forms line (Do e) = alone_forms e
+    act_forms line (Assign ts e) = or_parts (is_one ts && is_scalar (type_of e)) (unbuilt line (targets_form ts (expression_form e))) (expression_forms e)
+    act_forms line (Aug t op e s) = or_parts (is_updated t s && (is_scalar s && is_built op)) (unbuilt line (update_form t s)) (expression_forms e)
+    act_forms line (If arms other) = arms_forms arms ++ suite_forms other
+    act_forms line (While test body) = expression_forms test ++ suite_forms body
+    act_forms line (Return e) = returned_forms e
+    act_forms line Break = []
+    act_forms line Continue = []
+    act_forms line Pass = []
+    act_forms line (Del e i) = unbuilt line form.Del ∷ []
+    act_forms line (ForRange ts a b body) = unbuilt line form.For ∷ []
+    act_forms line (ForList ts e body) = unbuilt line form.For ∷ []
+    act_forms line (ForDict ts e body) = unbuilt line form.For ∷ []
+    act_forms line (Try body handlers last) = unbuilt line form.Try ∷ []
+    act_forms line (Raise e) = unbuilt line form.Raise ∷ []
+    act_forms line (Assert test message) = unbuilt line form.Assert ∷ []
 
-    pub suite_lines : TypedSuite → List ℕ
-    suite_lines no_stmts = []
-    suite_lines (stmt_then s more) = statement_lines s ++ suite_lines more
+    pub suite_forms : TypedSuite → List Unbuilt
+    suite_forms no_stmts = []
+    suite_forms (stmt_then s more) = statement_forms s ++ suite_forms more
 
-    pub arms_lines : Arms → List ℕ
-    arms_lines no_arms = []
-    arms_lines (arm_then test body more) = expression_lines test ++ (suite_lines body ++ arms_lines more)
+    pub arms_forms : Arms → List Unbuilt
+    arms_forms no_arms = []
+    arms_forms (arm_then test body more) = expression_forms test ++ (suite_forms body ++ arms_forms more)
 
 -- ---- functions
 
 abbrev pub are_scalars : List Variable → Bool
 are_scalars vs = list_all (λ (v : Variable). is_scalar v.1) vs
-
-abbrev pub is_none : {A : Type 0} → Option A → Bool
-is_none None = true
-is_none (Some a) = false
 
 -- a function whose variables are numbers, bools and texts, with such a result or None
 abbrev pub is_function : TypedFunc → Bool
@@ -91,20 +96,20 @@ definition_line None = 0
 definition_line (Some (at node span)) = span.line
 
 module _ (globals : List Variable) where
-  abbrev pub function_lines : Option StmtTree → TypedFunc → List ℕ
-  function_lines definition f = or_parts (is_function f) (definition_line definition) (suite_lines f.locals globals f.body)
+  abbrev pub function_forms : Option StmtTree → TypedFunc → List Unbuilt
+  function_forms definition f = or_parts (is_function f) (unbuilt (definition_line definition) (function_form f)) (suite_forms f.locals globals f.body)
 
   -- functions from the one of this number on, among the functions' definitions
-  abbrev pub functions_lines : List StmtTree → ℕ → List TypedFunc → List ℕ
-  functions_lines definitions n [] = []
-  functions_lines definitions n (f ∷ more) = function_lines (slice_get definitions n) f ++ functions_lines definitions (suc n) more
+  abbrev pub functions_forms : List StmtTree → ℕ → List TypedFunc → List Unbuilt
+  functions_forms definitions n [] = []
+  functions_forms definitions n (f ∷ more) = function_forms (slice_get definitions n) f ++ functions_forms definitions (suc n) more
 
 -- a definition of a function
 abbrev pub is_def : StmtTree → Bool
 is_def (at (Def name params ret body marks) span) = true
 is_def s = false
 
--- THE LINE on which a statement, an expression or a function of a module stands first that is not compiled, where there is one. The
--- module has this tree and is this typed one
-abbrev pub uncompiled_line : Suite → TypedModule → Option ℕ
-uncompiled_line m t = least None (suite_lines [] t.globals t.top ++ functions_lines t.globals (filter is_def (suite_definitions m)) 0 t.funcs)
+-- THE STATEMENT, expression or function of a module that is not compiled and stands on the first line with any, where there is one:
+-- of several on that line the first, in the order above. The module has this tree and is this typed one
+abbrev pub uncompiled_form : Suite → TypedModule → Option Unbuilt
+uncompiled_form m t = least None (suite_forms [] t.globals t.top ++ functions_forms t.globals (filter is_def (suite_definitions m)) 0 t.funcs)

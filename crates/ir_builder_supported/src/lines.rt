@@ -1,7 +1,7 @@
-//! The lines on which something stands that is not compiled.
+//! What is not compiled, and on which line it stands.
 //!
-//! Each function takes the least line found so far, and gives the least one with those of what it goes over. Those that go over
-//! statements take the variables of the function and of the module too.
+//! Each function takes the first found so far, and gives the first with those of what it goes over. Those that go over statements
+//! take the variables of the function and of the module too.
 ghost use Rattle.std.specs.Prelude.{◌≡◌, map, slice_get, Some, IfOk};
 ghost use Rattle.std.specs.List.{filter};
 ghost use Rattle.py_check_unbuilt.specs.Later.{lesser};
@@ -9,25 +9,26 @@ ghost use Rattle.py_syntax.specs.Statements.{module_tree, stmt_tree};
 ghost use Rattle.py_check_names.specs.Walked.{trees};
 ghost use Rattle.py_typed.specs.Expressions.{typed_expr, exprs_of, comparisons_of, typed_comparison};
 ghost use Rattle.py_typed.specs.Statements.{typed_stmt, typed_suite, typed_arm, arms_of, maybe_typed, variable, typed_func, typed_module};
-ghost use Rattle.ir_builder_supported.specs.Statements.{uncompiled_line, is_function, is_def, definition_line};
+ghost use Rattle.ir_builder_supported.specs.Statements.{uncompiled_form, is_function, is_def, definition_line};
+ghost use Rattle.ir_builder_supported.specs.Forms as form;
 ghost use Rattle.ir_builder_supported.specs.Least as find;
 
 use crate::forms::{is_assigned, is_form, is_function, is_scalar, is_updated};
+use crate::naming::{assignment_form, expression_at, function_form, unbuilt, update_form};
 use py_check_names::definitions_in;
-use py_check_unbuilt::lesser;
+use py_check_unbuilt::{Form, Unbuilt, lesser};
 use py_syntax::{CmpOp, Module, Stmt, StmtKind};
 use py_typed::{Checked, TExpr, TFunc, TKind, TStmt, TStmtKind, Var};
 use std::alloc::Global;
 use value_core::{Many, Memory};
 
-/// The least line on which a statement, an expression or a function of a module stands that is not compiled, where there is
-/// one.
-pub fn uncompiled_line(
+/// The statement, expression or function of a module that is not compiled and stands on the first line with any, where there is one.
+pub fn uncompiled_form(
     alloc: Global,
     parsed: &Module,
     checked: &Checked,
-) -> Result<Option<usize>, Memory>
-    ensures { IfOk result (λ line. line ≡ uncompiled_line (module_tree parsed.now) (typed_module checked.now)) }
+) -> Result<Option<Unbuilt>, Memory>
+    ensures { IfOk result (λ found. found ≡ uncompiled_form (module_tree parsed.now) (typed_module checked.now)) }
 {
     let mut definitions = definitions_in(alloc, parsed.body.as_slice())?;
     keep_functions(&mut definitions);
@@ -36,20 +37,20 @@ pub fn uncompiled_line(
     Ok(in_functions(&definitions, checked.funcs.as_slice(), globals, found))
 }
 
-/// With a line on which something stands that is not compiled.
-fn with(line: usize, found: Option<usize>) -> Option<usize>
-    ensures { result ≡ Some (lesser line found) }
+/// With something that is not compiled.
+fn with(here: Unbuilt, found: Option<Unbuilt>) -> Option<Unbuilt>
+    ensures { result ≡ Some (lesser here found) }
 {
-    Some(lesser(line, found))
+    Some(lesser(here, found))
 }
 
 /// In an expression.
 #[cycle(expression)]
-fn in_expression(e: &TExpr, found: Option<usize>) -> Option<usize>
+fn in_expression(e: &TExpr, found: Option<Unbuilt>) -> Option<Unbuilt>
     ensures { result ≡ find.expression_least found (typed_expr e.now) }
 {
     if !is_form(e) {
-        return with(e.span.line, found);
+        return with(expression_at(e), found);
     }
     match &e.kind {
         TKind::Neg(a) => in_expression(a, found),
@@ -74,7 +75,7 @@ fn in_expression(e: &TExpr, found: Option<usize>) -> Option<usize>
 }
 
 #[cycle(expression)]
-fn in_row(items: &[TExpr], found: Option<usize>) -> Option<usize>
+fn in_row(items: &[TExpr], found: Option<Unbuilt>) -> Option<Unbuilt>
     ensures { result ≡ find.row_least found (exprs_of (map typed_expr items.now)) }
 {
     let mut found = found;
@@ -85,7 +86,7 @@ fn in_row(items: &[TExpr], found: Option<usize>) -> Option<usize>
 }
 
 #[cycle(expression)]
-fn in_chain(more: &[(CmpOp, TExpr)], found: Option<usize>) -> Option<usize>
+fn in_chain(more: &[(CmpOp, TExpr)], found: Option<Unbuilt>) -> Option<Unbuilt>
     ensures { result ≡ find.chain_least found (comparisons_of (map typed_comparison more.now)) }
 {
     let mut found = found;
@@ -96,7 +97,7 @@ fn in_chain(more: &[(CmpOp, TExpr)], found: Option<usize>) -> Option<usize>
 }
 
 /// In an expression that stands alone: `print` writes any number of values.
-fn in_alone(e: &TExpr, found: Option<usize>) -> Option<usize>
+fn in_alone(e: &TExpr, found: Option<Unbuilt>) -> Option<Unbuilt>
     ensures { result ≡ find.alone_least found (typed_expr e.now) }
 {
     match &e.kind {
@@ -105,28 +106,28 @@ fn in_alone(e: &TExpr, found: Option<usize>) -> Option<usize>
     }
 }
 
-fn in_returned(e: &Option<TExpr>, found: Option<usize>) -> Option<usize>
+fn in_returned(e: &Option<TExpr>, found: Option<Unbuilt>) -> Option<Unbuilt>
     ensures { result ≡ find.returned_least found (maybe_typed e.now) }
 {
     match e {
         None => found,
-        Some(e) => in_part(is_scalar(&e.ty), e, e.span.line, found),
+        Some(e) => in_part(is_scalar(&e.ty), e, expression_at(e), found),
     }
 }
 
-/// In an expression, where what it stands in is compiled; else on a line.
-fn in_part(compiled: bool, e: &TExpr, line: usize, found: Option<usize>) -> Option<usize>
-    ensures { result ≡ find.noted compiled line found (find.expression_least found (typed_expr e.now)) }
+/// In an expression, where what it stands in is compiled; else that itself.
+fn in_part(compiled: bool, e: &TExpr, here: Unbuilt, found: Option<Unbuilt>) -> Option<Unbuilt>
+    ensures { result ≡ find.noted compiled here found (find.expression_least found (typed_expr e.now)) }
 {
     if compiled {
         in_expression(e, found)
     } else {
-        with(line, found)
+        with(here, found)
     }
 }
 
 #[cycle(statement)]
-fn in_suite(body: &[TStmt], locals: &[Var], globals: &[Var], found: Option<usize>) -> Option<usize>
+fn in_suite(body: &[TStmt], locals: &[Var], globals: &[Var], found: Option<Unbuilt>) -> Option<Unbuilt>
     ensures { result ≡ find.suite_least (map variable locals.now) (map variable globals.now) found (typed_suite body.now) }
 {
     let mut found = found;
@@ -137,7 +138,7 @@ fn in_suite(body: &[TStmt], locals: &[Var], globals: &[Var], found: Option<usize
 }
 
 #[cycle(statement)]
-fn in_statement(s: &TStmt, locals: &[Var], globals: &[Var], found: Option<usize>) -> Option<usize>
+fn in_statement(s: &TStmt, locals: &[Var], globals: &[Var], found: Option<Unbuilt>) -> Option<Unbuilt>
     ensures { result ≡ find.statement_least (map variable locals.now) (map variable globals.now) found (typed_stmt s.now) }
 {
     match &s.kind {
@@ -145,13 +146,13 @@ fn in_statement(s: &TStmt, locals: &[Var], globals: &[Var], found: Option<usize>
         TStmtKind::Assign(targets, e) => in_part(
             is_assigned(targets.as_slice(), &e.ty),
             e,
-            s.line,
+            unbuilt(s.line, assignment_form(targets.as_slice(), e)),
             found,
         ),
         TStmtKind::Aug(target, op, e, t) => in_part(
             is_updated(locals, globals, target, *op, t),
             e,
-            s.line,
+            unbuilt(s.line, update_form(target, t)),
             found,
         ),
         TStmtKind::If(arms, other) => in_suite(
@@ -167,13 +168,13 @@ fn in_statement(s: &TStmt, locals: &[Var], globals: &[Var], found: Option<usize>
         TStmtKind::Break => found,
         TStmtKind::Continue => found,
         TStmtKind::Pass => found,
-        TStmtKind::Del(_, _) => with(s.line, found),
-        TStmtKind::ForRange(_, _, _, _) => with(s.line, found),
-        TStmtKind::ForList(_, _, _) => with(s.line, found),
-        TStmtKind::ForDict(_, _, _) => with(s.line, found),
-        TStmtKind::Try(_, _, _) => with(s.line, found),
-        TStmtKind::Raise(_) => with(s.line, found),
-        TStmtKind::Assert(_, _) => with(s.line, found),
+        TStmtKind::Del(_, _) => with(unbuilt(s.line, Form::Del), found),
+        TStmtKind::ForRange(_, _, _, _) => with(unbuilt(s.line, Form::For), found),
+        TStmtKind::ForList(_, _, _) => with(unbuilt(s.line, Form::For), found),
+        TStmtKind::ForDict(_, _, _) => with(unbuilt(s.line, Form::For), found),
+        TStmtKind::Try(_, _, _) => with(unbuilt(s.line, Form::Try), found),
+        TStmtKind::Raise(_) => with(unbuilt(s.line, Form::Raise), found),
+        TStmtKind::Assert(_, _) => with(unbuilt(s.line, Form::Assert), found),
     }
 }
 
@@ -182,8 +183,8 @@ fn in_arms(
     arms: &[(TExpr, Many<TStmt>)],
     locals: &[Var],
     globals: &[Var],
-    found: Option<usize>,
-) -> Option<usize>
+    found: Option<Unbuilt>,
+) -> Option<Unbuilt>
     ensures { result ≡ find.arms_least (map variable locals.now) (map variable globals.now) found (arms_of (map typed_arm arms.now)) }
 {
     let mut found = found;
@@ -193,14 +194,14 @@ fn in_arms(
     found
 }
 
-/// In the body of a function, where the function is compiled; else on the line of its definition.
-fn in_function(f: &TFunc, line: usize, globals: &[Var], found: Option<usize>) -> Option<usize>
-    ensures { result ≡ find.noted (is_function (typed_func f.now)) line found (find.suite_least (typed_func f.now).locals (map variable globals.now) found (typed_func f.now).body) }
+/// In the body of a function, where the function is compiled; else the function, on the line of its definition.
+fn in_function(f: &TFunc, line: usize, globals: &[Var], found: Option<Unbuilt>) -> Option<Unbuilt>
+    ensures { result ≡ find.noted (is_function (typed_func f.now)) (form.unbuilt line (form.function_form (typed_func f.now))) found (find.suite_least (typed_func f.now).locals (map variable globals.now) found (typed_func f.now).body) }
 {
     if is_function(f) {
         in_suite(f.body.as_slice(), f.locals.as_slice(), globals, found)
     } else {
-        with(line, found)
+        with(unbuilt(line, function_form(f)), found)
     }
 }
 
@@ -233,8 +234,8 @@ fn in_functions(
     definitions: &[&Stmt],
     functions: &[TFunc],
     globals: &[Var],
-    found: Option<usize>,
-) -> Option<usize>
+    found: Option<Unbuilt>,
+) -> Option<Unbuilt>
     ensures { result ≡ find.functions_least (map variable globals.now) (trees definitions.now) found 0 (map typed_func functions.now) }
 {
     let mut found = found;

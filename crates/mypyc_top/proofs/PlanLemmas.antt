@@ -18,7 +18,7 @@ use Rattle.mypyc_top_status.specs.Output.{output_text}
 use Rattle.mypyc_top_status.specs.ErrorLines.{large_line}
 use Rattle.mypyc_top_compiler.specs.declared.faults.Faults.{Faults}
 use Rattle.mypyc_top_compiler.specs.Source.{IsTyped}
-use Rattle.mypyc_top_compiler.specs.Diagnostics.{entries_text}
+use Rattle.mypyc_top_compiler.specs.Diagnostics.{entries_text, notes_text}
 use Rattle.mypyc_top_compiler.specs.Faults.{AreFaults}
 use Rattle.mypyc_top_compiler.specs.Found.{entries_of}
 use Rattle.mypyc_top_compiler.proofs.Values.{if_ok}
@@ -33,7 +33,7 @@ pub good_module : (mode : Emit) (file bytes : List ℕ) (m : TypedModule) (Good 
 good_module mode file bytes m Good out err s none is good =
     ([], none, (m, is, good))
 
-by_entries : (file bytes : List ℕ) (Good : TypedModule → Type 0) (es : List Entry) (out err : List ℕ) (s : Status) → ¬ (es ≡ []) → (out ≡ entries_text file es) × (err ≡ []) × (s ≡ status.Diagnosed) → FaultsAnswer file bytes Good es out err s
+by_entries : (file bytes : List ℕ) (Good : TypedModule → Type 0) (es : List Entry) (out err : List ℕ) (s : Status) → ¬ (es ≡ []) → (out ≡ entries_text file es) × (err ≡ notes_text file es) × (s ≡ status.Diagnosed) → FaultsAnswer file bytes Good es out err s
 by_entries file bytes Good [] out err s some sent = absurd (some refl)
 by_entries file bytes Good (e ∷ es) out err s some sent = sent
 

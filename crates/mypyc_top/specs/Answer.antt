@@ -18,7 +18,7 @@ use Rattle.py_parser_source.specs.Entries.{Entry}
 use Rattle.mypyc_top_status.specs.ErrorLines.{usage_line, open_line, read_line, large_line}
 use Rattle.mypyc_top_compiler.specs.Source.{IsTyped}
 use Rattle.mypyc_top_compiler.specs.Faithful.{Faithful}
-use Rattle.mypyc_top_compiler.specs.Diagnostics.{entries_text}
+use Rattle.mypyc_top_compiler.specs.Diagnostics.{entries_text, notes_text}
 use Rattle.mypyc_top_compiler.specs.Faults.{AreFaults}
 use Rattle.mypyc_top.specs.Running.{TextRun, ModuleRun}
 
@@ -47,9 +47,10 @@ Checked out err s = (out ≡ success_text) × (err ≡ []) × (s ≡ status.Done
 abbrev pub Compiled : TypedModule → List ℕ → List ℕ → Status → Type 0
 Compiled m out err s = ((code : Code) × Faithful m code × (out ≡ code_text code)) × (err ≡ []) × (s ≡ status.Done)
 
--- a file with these faults is answered by them, and one without any by what is asked for of its typed module
+-- a file with these faults is answered by them, with their notes on errors, and one without any by what is asked for of its typed
+-- module
 abbrev pub FaultsAnswer : List ℕ → List ℕ → (TypedModule → Type 0) → List Entry → List ℕ → List ℕ → Status → Type 0
-FaultsAnswer file bytes Good (e ∷ es) out err s = (out ≡ entries_text file (e ∷ es)) × (err ≡ []) × (s ≡ status.Diagnosed)
+FaultsAnswer file bytes Good (e ∷ es) out err s = (out ≡ entries_text file (e ∷ es)) × (err ≡ notes_text file (e ∷ es)) × (s ≡ status.Diagnosed)
 FaultsAnswer file bytes Good [] out err s = (m : TypedModule) × IsTyped bytes m × Good m
 
 -- a file that is to be a module is answered by its faults in the mode

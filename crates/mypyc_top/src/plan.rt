@@ -1,4 +1,4 @@
-ghost use Rattle.std.specs.Prelude.{◌≡◌, ◌+◌, ◌<◌, ◌≤◌, ℕ, List, [], Some, false, true, IsTrue, IfOk};
+ghost use Rattle.std.specs.Prelude.{◌≡◌, ◌+◌, ◌<◌, ◌≤◌, ℕ, List, Some, false, true, IsTrue, IfOk};
 ghost use Rattle.outside_core.specs.Bytes.{GivesAtMost};
 ghost use Rattle.outside_core.specs.Counts.{count_end, has_risen, Rose};
 ghost use Rattle.c_core.specs.Run.{most_turns};
@@ -8,14 +8,14 @@ ghost use Rattle.mypyc_top_status.specs.Output.{output_text};
 ghost use Rattle.mypyc_top_status.specs.Causes.{AbsentOpens};
 ghost use Rattle.mypyc_top_status.specs.Replies.{IsSent, is_file_status, is_module_status};
 ghost use Rattle.mypyc_top_running.specs.Programs.{IsRunnable};
-ghost use Rattle.mypyc_top_compiler.specs.Diagnostics.{entries_text};
+ghost use Rattle.mypyc_top_compiler.specs.Diagnostics.{entries_text, notes_text};
 ghost use Rattle.mypyc_top_compiler.specs.Found.{entries_of};
 ghost use Rattle.mypyc_top.specs.Running.{TextRun, ModuleRun};
 ghost use Rattle.mypyc_top.specs.Answer.{Answer, RequestAnswer, ModeAnswer, ModuleAnswer, Checked, Compiled, file_meaning};
 ghost use Rattle.mypyc_top.specs.Plans.{MatchPlan, ForReply, Plans, CanCome, Allowed};
 ghost use Rattle.mypyc_top.specs.Reads.{runs, runs_program, PlanRuns};
 
-use mypyc_top_compiler::{Faults, ModuleError, code_of, lines_of, read_typed};
+use mypyc_top_compiler::{Faults, ModuleError, code_of, lines_of, notes_of, read_typed};
 use mypyc_top_reading::{Refusal, TextFault, read_file, text_code};
 use mypyc_top_running::Program;
 use mypyc_top_status::{
@@ -202,9 +202,15 @@ fn text_plan(alloc: Global, file: &str, turns: u64, bytes: &[u8]) -> Result<Plan
 /// The answer to a file with diagnostics.
 fn diagnosed_reply(alloc: Global, file: &str, faults: &Faults) -> Result<Reply, Memory>
     ensures { IfOk result (λ reply.
-        (output_text reply.out ≡ entries_text file.now (entries_of faults.now)) × (reply.err.items ≡ [])
+        (output_text reply.out ≡ entries_text file.now (entries_of faults.now))
+        × (reply.err.items ≡ notes_text file.now (entries_of faults.now))
         × (reply.status ≡ Status.Diagnosed)) }
 {
     let text = lines_of(alloc, file, faults)?;
-    Ok(output_reply(alloc, Status::Diagnosed, Output::Bytes(text)))
+    let notes = notes_of(alloc, file, faults)?;
+    Ok(Reply {
+        out: Output::Bytes(text),
+        err: notes,
+        status: Status::Diagnosed,
+    })
 }

@@ -12,7 +12,7 @@ use Rattle.mypyc_top_compiler.specs.Faults.{unbuilt_entry}
 -- the entries of what was found
 abbrev pub entries_of : Faults → List Entry
 entries_of (OfSource fault) = entry_of fault ∷ []
-entries_of (Unbuilt line) = unbuilt_entry line ∷ []
+entries_of (Unbuilt u) = unbuilt_entry u ∷ []
 entries_of (OfTypes diags) = map entry_at diags
 
 -- where a module was made these entries are none, and where it was not they are what was found, and some

@@ -1,5 +1,5 @@
 -- The typing of a module, as the command takes it.
-use Rattle.std.specs.Prelude.{List, map}
+use Rattle.std.specs.Prelude.{List, map, None}
 use Rattle.py_syntax.specs.Statements.{Suite}
 use Rattle.py_syntax_diagnostics.specs.declared.diagnostic.Diag.{Diag}
 use Rattle.py_typed.specs.Statements.{TypedModule}
@@ -8,7 +8,7 @@ use Rattle.py_parser_source.specs.Entries.{Entry}
 
 -- the entry of a diagnostic
 abbrev pub entry_at : Diag → Entry
-entry_at d = record { line = d.span.line; text = d.text; code = d.code }
+entry_at d = record { line = d.span.line; text = d.text; code = d.code; note = None }
 
 -- what is wrong with the names and types of a module, by place
 unfoldable pub types_said : Suite → List Entry

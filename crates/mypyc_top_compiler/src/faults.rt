@@ -3,9 +3,10 @@ ghost use Rattle.std.specs.Prelude.{◌≡◌, ◌++◌, map, string_bytes, IfOk
 ghost use Rattle.py_parser_source.specs.Sayings.{entry_of};
 ghost use Rattle.mypyc_top_compiler.specs.Types.{entry_at};
 ghost use Rattle.mypyc_top_compiler.specs.Faults.{unbuilt_entry};
-ghost use Rattle.mypyc_top_compiler.specs.Diagnostics.{entry_text, errors_word, found_text, entries_text};
+ghost use Rattle.mypyc_top_compiler.specs.Diagnostics.{entry_text, errors_word, found_text, entries_text, note_text, notes_text};
 ghost use Rattle.mypyc_top_compiler.specs.Found.{entries_of};
 
+use py_check_unbuilt::Unbuilt;
 use py_parser_source::SourceFault;
 use py_syntax_diagnostics::Diag;
 use std::alloc::Global;
@@ -16,8 +17,8 @@ use value_core::{Many, Memory};
 pub enum Faults {
     /// It is no module.
     OfSource(SourceFault),
-    /// A form on this line is not built.
-    Unbuilt(usize),
+    /// This form is not built.
+    Unbuilt(Unbuilt),
     /// What is wrong with its names and types, by place.
     OfTypes(Many<Diag>),
 }
@@ -31,11 +32,26 @@ pub fn lines_of(alloc: Global, file: &str, faults: &Faults) -> Result<Vec<u8>, M
             let line = source_line(alloc, file, fault)?;
             only_line(alloc, line.as_str())
         }
-        Faults::Unbuilt(line) => {
-            let line = unbuilt_line(alloc, file, *line)?;
+        Faults::Unbuilt(unbuilt) => {
+            let line = unbuilt_line(alloc, file, *unbuilt)?;
             only_line(alloc, line.as_str())
         }
         Faults::OfTypes(diags) => lines_of_types(alloc, file, diags.as_slice()),
+    }
+}
+
+/// The lines on errors that tell of what is wrong with a file: a form that is not built is named.
+#[tactic(auto, using(crate::proofs::NoteLemmas::no_notes))]
+pub fn notes_of(alloc: Global, file: &str, faults: &Faults) -> Result<Vec<u8>, Memory>
+    ensures { IfOk result (λ text. text.items ≡ notes_text file.now (entries_of faults.now)) }
+{
+    match faults {
+        Faults::OfSource(_) => Ok(Vec::new(alloc)),
+        Faults::Unbuilt(unbuilt) => {
+            let note = unbuilt_note(alloc, file, *unbuilt)?;
+            Ok(Vec::from_slice(alloc, note.as_bytes())?)
+        }
+        Faults::OfTypes(_) => Ok(Vec::new(alloc)),
     }
 }
 
@@ -70,10 +86,18 @@ fn source_line(alloc: Global, file: &str, fault: &SourceFault) -> Result<String,
     Ok(format!(in alloc; "{file}:{line}: error: {kind}  [{code}]\n")?)
 }
 
-fn unbuilt_line(alloc: Global, file: &str, line: usize) -> Result<String, Memory>
-    ensures { IfOk result (λ text. string_bytes text ≡ entry_text file.now (unbuilt_entry line)) }
+fn unbuilt_line(alloc: Global, file: &str, unbuilt: Unbuilt) -> Result<String, Memory>
+    ensures { IfOk result (λ text. string_bytes text ≡ entry_text file.now (unbuilt_entry unbuilt)) }
 {
+    let line = unbuilt.line;
     Ok(format!(in alloc; "{file}:{line}: error: Form is not built yet  [unbuilt]\n")?)
+}
+
+fn unbuilt_note(alloc: Global, file: &str, unbuilt: Unbuilt) -> Result<String, Memory>
+    ensures { IfOk result (λ text. string_bytes text ≡ note_text file.now (unbuilt_entry unbuilt)) }
+{
+    let Unbuilt { line, form } = unbuilt;
+    Ok(format!(in alloc; "mypyc: {file}:{line}: not built yet: {form}\n")?)
 }
 
 fn diag_line(alloc: Global, file: &str, diag: &Diag) -> Result<String, Memory>

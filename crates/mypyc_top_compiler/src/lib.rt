@@ -10,6 +10,6 @@ mod laws;
 mod typing;
 
 pub use code::code_of;
-pub use faults::{Faults, lines_of};
+pub use faults::{Faults, lines_of, notes_of};
 pub use laws::{faults_are_one, typed_modules_are_one};
 pub use typing::{ModuleError, read_typed};

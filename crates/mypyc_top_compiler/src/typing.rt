@@ -2,7 +2,7 @@
 ghost use Rattle.std.specs.Prelude.{◌≡◌, true, IfOk};
 ghost use Rattle.py_syntax.specs.Statements.{module_tree};
 ghost use Rattle.py_typed.specs.Statements.{typed_module};
-ghost use Rattle.ir_builder_supported.specs.Statements.{uncompiled_line};
+ghost use Rattle.ir_builder_supported.specs.Statements.{uncompiled_form};
 ghost use Rattle.ir_builder_statements.specs.Modules.{ModuleSuits};
 ghost use Rattle.mypyc_top_compiler.specs.Types.{types_said, typed_tree};
 ghost use Rattle.mypyc_top_compiler.specs.Source.{IsTyped};
@@ -10,12 +10,12 @@ ghost use Rattle.mypyc_top_compiler.specs.Faults.{compiles, unbuilt_at, of_compi
 ghost use Rattle.mypyc_top_compiler.specs.Found.{Tells, Judges};
 
 use crate::faults::Faults;
-use ir_builder_supported::uncompiled_line;
+use ir_builder_supported::uncompiled_form;
 use mypyc_top_words::Emit;
 use py_binder::bind;
 use py_check::{CheckError, check};
 use py_check_source_laws::quiet_files_are_well_typed;
-use py_check_unbuilt::later_line;
+use py_check_unbuilt::{Unbuilt, later_form};
 use py_parser_source::{SourceError, read_module};
 use py_syntax::Module;
 use py_typed::Checked;
@@ -66,8 +66,8 @@ fn typed_of(alloc: Global, mode: Emit, parsed: &Module) -> Result<Checked, Modul
     ensures typed { IfOk result (λ checked. typed_module checked ≡ typed_tree (module_tree parsed.now)) }
     ensures tells { Tells (told mode (module_tree parsed.now)) result }
 {
-    match later_line(parsed) {
-        Some(line) => Err(ModuleError::Faulty(Faults::Unbuilt(line))),
+    match later_form(parsed) {
+        Some(unbuilt) => Err(ModuleError::Faulty(Faults::Unbuilt(unbuilt))),
         None => compiled_of(alloc, mode, parsed),
     }
 }
@@ -79,24 +79,24 @@ fn compiled_of(alloc: Global, mode: Emit, parsed: &Module) -> Result<Checked, Mo
     ensures tells { Tells (of_typed mode (module_tree parsed.now)) result }
 {
     let checked = types_of(alloc, parsed)?;
-    match line_not_compiled(alloc, mode, parsed, &checked)? {
+    match form_not_compiled(alloc, mode, parsed, &checked)? {
         None => Ok(checked),
-        Some(line) => Err(ModuleError::Faulty(Faults::Unbuilt(line))),
+        Some(unbuilt) => Err(ModuleError::Faulty(Faults::Unbuilt(unbuilt))),
     }
 }
 
-/// The line of what is not compiled, where this mode compiles.
-fn line_not_compiled(
+/// What is not compiled, where this mode compiles.
+fn form_not_compiled(
     alloc: Global,
     mode: Emit,
     parsed: &Module,
     checked: &Checked,
-) -> Result<Option<usize>, Memory>
-    ensures { IfOk result (λ line. unbuilt_at line
-        ≡ of_compiling mode (uncompiled_line (module_tree parsed.now) (typed_module checked.now))) }
+) -> Result<Option<Unbuilt>, Memory>
+    ensures { IfOk result (λ found. unbuilt_at found
+        ≡ of_compiling mode (uncompiled_form (module_tree parsed.now) (typed_module checked.now))) }
 {
     if compiles(mode) {
-        uncompiled_line(alloc, parsed, checked)
+        uncompiled_form(alloc, parsed, checked)
     } else {
         Ok(None)
     }

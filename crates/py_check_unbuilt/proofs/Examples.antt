@@ -1,17 +1,26 @@
--- The first form without typing rules in small modules.
+-- The first form without typing rules in small modules, and what it is called.
 use Rattle.std.proofs.Common.{◌≡◌, refl, ℕ, List, [], ◌∷◌, Some, None, codes}
 use Rattle.py_syntax.specs.declared.token.Span.{Span}
+use Rattle.py_syntax.specs.declared.expression.CmpOp.TheVariants as comparison
 use Rattle.py_syntax.specs.Expressions as e
 use Rattle.py_syntax.specs.Expressions.{ExprTree}
 use Rattle.py_syntax.specs.Statements as s
 use Rattle.py_syntax.specs.Statements.{StmtTree, suite_of}
-use Rattle.py_check_unbuilt.specs.Later.{later_line}
+use Rattle.py_check_unbuilt.specs.declared.form.Form.{Form}
+use Rattle.py_check_unbuilt.specs.declared.form.Form.TheVariants as form
+use Rattle.py_check_unbuilt.specs.declared.form.Unbuilt.{Unbuilt}
+use Rattle.py_check_unbuilt.specs.declared.form.TypeKind.TheVariants as kind
+use Rattle.py_check_unbuilt.specs.Forms.{form_text}
+use Rattle.py_check_unbuilt.specs.Later.{later_form}
 
 abbrev on : ℕ → Span
 on n = record { line = n; col = 1 }
 
 abbrev name : ℕ → List ℕ → ExprTree
 name n x = e.at (e.Name x) (on n)
+
+abbrev unbuilt : ℕ → Form → Unbuilt
+unbuilt n f = record { line = n; form = f }
 
 -- x.append on line n
 abbrev method : ℕ → ExprTree
@@ -21,23 +30,33 @@ abbrev doing : ℕ → ExprTree → StmtTree
 doing n a = s.at (s.Do a) (on n)
 
 -- x.append()
-called_method : later_line (suite_of (doing 1 (e.at (e.Call (method 1) e.no_arguments) (on 1)) ∷ [])) ≡ None
+called_method : later_form (suite_of (doing 1 (e.at (e.Call (method 1) e.no_arguments) (on 1)) ∷ [])) ≡ None
 called_method = refl
 
 -- x.append, and it as an argument of a call
-method_alone : later_line (suite_of (doing 1 (name 1 (codes "x")) ∷ doing 2 (method 2) ∷ [])) ≡ Some 2
+method_alone : later_form (suite_of (doing 1 (name 1 (codes "x")) ∷ doing 2 (method 2) ∷ [])) ≡ Some (unbuilt 2 form.Attribute)
 method_alone = refl
 
-method_passed : later_line (suite_of (doing 3 (e.at (e.Call (name 3 (codes "print")) (e.argument_then (method 3) e.no_arguments)) (on 3)) ∷ [])) ≡ Some 3
+method_passed : later_form (suite_of (doing 3 (e.at (e.Call (name 3 (codes "print")) (e.argument_then (method 3) e.no_arguments)) (on 3)) ∷ [])) ≡ Some (unbuilt 3 form.Attribute)
 method_passed = refl
 
 -- {} in a function's body, before a try
-dict_in_function : later_line (suite_of (s.at (s.Def (codes "f") [] None (suite_of (s.at (s.Return (Some (e.at (e.DictOf e.no_entries) (on 2)))) (on 2) ∷ [])) []) (on 1) ∷ s.at (s.Try s.no_stmts s.no_handlers s.no_suite) (on 3) ∷ [])) ≡ Some 2
+dict_in_function : later_form (suite_of (s.at (s.Def (codes "f") [] None (suite_of (s.at (s.Return (Some (e.at (e.DictOf e.no_entries) (on 2)))) (on 2) ∷ [])) []) (on 1) ∷ s.at (s.Try s.no_stmts s.no_handlers s.no_suite) (on 3) ∷ [])) ≡ Some (unbuilt 2 form.DictDisplay)
 dict_in_function = refl
 
 -- from typing import List, Dict
-imported : later_line (suite_of (s.at (s.From (codes "typing") ((codes "List", None) ∷ (codes "Dict", None) ∷ [])) (on 5) ∷ [])) ≡ Some 5
+imported : later_form (suite_of (s.at (s.From (codes "typing") ((codes "List", None) ∷ (codes "Dict", None) ∷ [])) (on 5) ∷ [])) ≡ Some (unbuilt 5 form.NameTypingDict)
 imported = refl
 
-nothing_later : later_line (suite_of (doing 1 (name 1 (codes "range")) ∷ s.at s.Pass (on 2) ∷ [])) ≡ None
+nothing_later : later_form (suite_of (doing 1 (name 1 (codes "range")) ∷ s.at s.Pass (on 2) ∷ [])) ≡ None
 nothing_later = refl
+
+-- assert 1 in x, on one line
+first_of_line : later_form (suite_of (s.at (s.Assert (e.at (e.Compare (name 4 (codes "y")) (e.comparison_then comparison.Member (name 4 (codes "x")) e.no_comparisons)) (on 4)) None) (on 4) ∷ [])) ≡ Some (unbuilt 4 form.Assert)
+first_of_line = refl
+
+called : form_text (form.Index kind.List) ≡ codes "index of a list"
+called = refl
+
+called_plainly : form_text form.MethodCall ≡ codes "method call"
+called_plainly = refl

@@ -1,2 +1,2 @@
 mod Examples
-pub mod LineLemmas
+pub mod FormLemmas

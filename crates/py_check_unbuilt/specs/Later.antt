@@ -3,7 +3,8 @@
 -- where they are called, and the names `super` and `trait`; `try`, `raise`, `assert`, and the names of exception classes.
 --
 -- A name counts where it is an expression, be it a target, and where `from` imports it.
-use Rattle.std.specs.Prelude.{ℕ, nat_lt, Bool, true, false, not, ◌&&◌, ◌||◌, if◌then◌else◌, List, [], ◌∷◌, ◌++◌, Option, Some, None, is_some, codes}
+use Rattle.std.specs.Prelude.{ℕ, nat_lt, Bool, true, false, ◌||◌, if◌then◌else◌, List, [], ◌∷◌, ◌++◌, Option, Some, None, codes}
+use Rattle.std.specs.Option.{option_or, option_map}
 use Rattle.std.specs.Str.{bytes_eq}
 use Rattle.py_syntax.specs.declared.token.Span.{Span}
 use Rattle.py_syntax.specs.declared.expression.CmpOp.{CmpOp}
@@ -12,164 +13,184 @@ use Rattle.py_syntax.specs.Expressions as e
 use Rattle.py_syntax.specs.Expressions.{ExprTree, ExprNode, ExprTrees, Comparisons, Entries, Arguments}
 use Rattle.py_syntax.specs.Statements as s
 use Rattle.py_syntax.specs.Statements.{StmtTree, StmtNode, Suite, Arms}
+use Rattle.value_core.specs.declared.exception.ExcClass.{ExcClass}
 use Rattle.value_core.specs.Exceptions.{class_named}
+use Rattle.py_check_unbuilt.specs.declared.form.Form.{Form}
+use Rattle.py_check_unbuilt.specs.declared.form.Form.TheVariants as form
+use Rattle.py_check_unbuilt.specs.declared.form.Unbuilt.{Unbuilt}
 
--- ---- which nodes
+-- ---- which nodes are such a form
 
-abbrev pub is_later_word : List ℕ → Bool
-is_later_word name =
-    bytes_eq name (codes "dict") || (bytes_eq name (codes "Dict") || (bytes_eq name (codes "super") || bytes_eq name (codes "trait")))
+abbrev pub word_form : List ℕ → Option Form
+word_form name =
+    if bytes_eq name (codes "dict") then Some form.NameDict else
+    (if bytes_eq name (codes "Dict") then Some form.NameTypingDict else
+    (if bytes_eq name (codes "super") then Some form.NameSuper else
+    (if bytes_eq name (codes "trait") then Some form.NameTrait else None)))
 
-abbrev pub is_later_name : List ℕ → Bool
-is_later_name name = is_later_word name || is_some (class_named name)
+abbrev pub exception_form : List ℕ → Option Form
+exception_form name = option_map (λ (c : ExcClass). form.ExceptionClass) (class_named name)
 
-abbrev pub is_membership : CmpOp → Bool
-is_membership comparison.Member = true
-is_membership comparison.NotMember = true
-is_membership _ = false
+abbrev pub name_form : List ℕ → Option Form
+name_form name = option_or (word_form name) (exception_form name)
 
-abbrev pub has_membership : Comparisons → Bool
-has_membership e.no_comparisons = false
-has_membership (e.comparison_then op a more) = is_membership op || has_membership more
+abbrev pub operator_form : CmpOp → Option Form
+operator_form comparison.Member = Some form.Member
+operator_form comparison.NotMember = Some form.NotMember
+operator_form _ = None
+
+-- the first of a chain
+abbrev pub chain_form : Comparisons → Option Form
+chain_form e.no_comparisons = None
+chain_form (e.comparison_then op a more) = option_or (operator_form op) (chain_form more)
 
 -- the two methods of lists
 abbrev pub is_list_method : List ℕ → Bool
 is_list_method name = bytes_eq name (codes "append") || bytes_eq name (codes "pop")
 
+-- an attribute is one, and a method that is called, unless it is a method of lists
+abbrev pub attribute_form : Bool → List ℕ → Option Form
+attribute_form false name = Some form.Attribute
+attribute_form true name = if is_list_method name then None else Some form.MethodCall
+
 -- of an expression that is called, or is not
-abbrev pub is_later_expression : Bool → ExprNode → Bool
-is_later_expression called (e.Name name) = is_later_name name
-is_later_expression called (e.DictOf pairs) = true
-is_later_expression called (e.Compare a more) = has_membership more
-is_later_expression called (e.Attr a name) = not (called && is_list_method name)
-is_later_expression called _ = false
+abbrev pub form_of_node : Bool → ExprNode → Option Form
+form_of_node called (e.Name name) = name_form name
+form_of_node called (e.DictOf pairs) = Some form.DictDisplay
+form_of_node called (e.Compare a more) = chain_form more
+form_of_node called (e.Attr a name) = attribute_form called name
+form_of_node called _ = None
 
-abbrev pub imports_later : List (List ℕ × Option (List ℕ)) → Bool
-imports_later [] = false
-imports_later (p ∷ more) = is_later_name p.0 || imports_later more
+-- the first name that is imported
+abbrev pub import_form : List (List ℕ × Option (List ℕ)) → Option Form
+import_form [] = None
+import_form (p ∷ more) = option_or (name_form p.0) (import_form more)
 
-abbrev pub is_decorated : List ExprTree → Bool
-is_decorated [] = false
-is_decorated (mark ∷ more) = true
+abbrev pub decorator_form : List ExprTree → Option Form
+decorator_form [] = None
+decorator_form (mark ∷ more) = Some form.Decorator
 
-abbrev pub is_later_statement : StmtNode → Bool
-is_later_statement (s.Del a) = true
-is_later_statement (s.Raise a) = true
-is_later_statement (s.Assert a message) = true
-is_later_statement (s.From name names) = imports_later names
-is_later_statement (s.Try body others last) = true
-is_later_statement (s.Def name params ret body marks) = is_decorated marks
-is_later_statement (s.ClassDef name bases body marks) = true
-is_later_statement _ = false
+abbrev pub form_of_act : StmtNode → Option Form
+form_of_act (s.Del a) = Some form.Del
+form_of_act (s.Raise a) = Some form.Raise
+form_of_act (s.Assert a message) = Some form.Assert
+form_of_act (s.From name names) = import_form names
+form_of_act (s.Try body others last) = Some form.Try
+form_of_act (s.Def name params ret body marks) = decorator_form marks
+form_of_act (s.ClassDef name bases body marks) = Some form.Class
+form_of_act _ = None
 
--- ---- their lines, in the order of the text. What stands in a `try` or a class stands on no line before it, so neither is gone into
+-- ---- where they stand, in the order of the text: a node before what is in it. What stands in a `try` or a class stands on no line
+-- before it, so neither is gone into
 
--- the line of a node, where it counts
-abbrev pub line_if : Bool → Span → List ℕ
-line_if true span = span.line ∷ []
-line_if false span = []
+-- what stands at a node, where it is such a form
+abbrev pub form_at : Option Form → Span → List Unbuilt
+form_at None span = []
+form_at (Some f) span = record { line = span.line; form = f } ∷ []
 
 abbrev mutual
-  pub expression_lines : Bool → ExprTree → List ℕ
-  expression_lines called (e.at node span) = line_if (is_later_expression called node) span ++ node_lines node
+  pub expression_forms : Bool → ExprTree → List Unbuilt
+  expression_forms called (e.at node span) = form_at (form_of_node called node) span ++ node_forms node
 
-  pub node_lines : ExprNode → List ℕ
-  node_lines (e.Int n) = []
-  node_lines (e.Str text) = []
-  node_lines e.True = []
-  node_lines e.False = []
-  node_lines e.Nothing = []
-  node_lines (e.Name name) = []
-  node_lines (e.Neg a) = expression_lines false a
-  node_lines (e.Plus a) = expression_lines false a
-  node_lines (e.Not a) = expression_lines false a
-  node_lines (e.Bin op a b) = expression_lines false a ++ expression_lines false b
-  node_lines (e.Compare a more) = expression_lines false a ++ comparison_lines more
-  node_lines (e.And a b) = expression_lines false a ++ expression_lines false b
-  node_lines (e.Or a b) = expression_lines false a ++ expression_lines false b
-  node_lines (e.Cond a test b) = expression_lines false a ++ (expression_lines false test ++ expression_lines false b)
-  node_lines (e.ListOf items) = row_lines items
-  node_lines (e.DictOf entries) = entry_lines entries
-  node_lines (e.TupleOf items) = row_lines items
-  node_lines (e.Attr a name) = expression_lines false a
-  node_lines (e.Index a i) = expression_lines false a ++ expression_lines false i
-  node_lines (e.Call callee more) = expression_lines true callee ++ argument_lines more
+  pub node_forms : ExprNode → List Unbuilt
+  node_forms (e.Int n) = []
+  node_forms (e.Str text) = []
+  node_forms e.True = []
+  node_forms e.False = []
+  node_forms e.Nothing = []
+  node_forms (e.Name name) = []
+  node_forms (e.Neg a) = expression_forms false a
+  node_forms (e.Plus a) = expression_forms false a
+  node_forms (e.Not a) = expression_forms false a
+  node_forms (e.Bin op a b) = expression_forms false a ++ expression_forms false b
+  node_forms (e.Compare a more) = expression_forms false a ++ comparison_forms more
+  node_forms (e.And a b) = expression_forms false a ++ expression_forms false b
+  node_forms (e.Or a b) = expression_forms false a ++ expression_forms false b
+  node_forms (e.Cond a test b) = expression_forms false a ++ (expression_forms false test ++ expression_forms false b)
+  node_forms (e.ListOf items) = row_forms items
+  node_forms (e.DictOf entries) = entry_forms entries
+  node_forms (e.TupleOf items) = row_forms items
+  node_forms (e.Attr a name) = expression_forms false a
+  node_forms (e.Index a i) = expression_forms false a ++ expression_forms false i
+  node_forms (e.Call callee more) = expression_forms true callee ++ argument_forms more
 
-  pub row_lines : ExprTrees → List ℕ
-  row_lines e.no_exprs = []
-  row_lines (e.expr_then a more) = expression_lines false a ++ row_lines more
+  pub row_forms : ExprTrees → List Unbuilt
+  row_forms e.no_exprs = []
+  row_forms (e.expr_then a more) = expression_forms false a ++ row_forms more
 
-  pub comparison_lines : Comparisons → List ℕ
-  comparison_lines e.no_comparisons = []
-  comparison_lines (e.comparison_then op a more) = expression_lines false a ++ comparison_lines more
+  pub comparison_forms : Comparisons → List Unbuilt
+  comparison_forms e.no_comparisons = []
+  comparison_forms (e.comparison_then op a more) = expression_forms false a ++ comparison_forms more
 
-  pub entry_lines : Entries → List ℕ
-  entry_lines e.no_entries = []
-  entry_lines (e.entry_then key value more) = expression_lines false key ++ (expression_lines false value ++ entry_lines more)
+  pub entry_forms : Entries → List Unbuilt
+  entry_forms e.no_entries = []
+  entry_forms (e.entry_then key value more) = expression_forms false key ++ (expression_forms false value ++ entry_forms more)
 
   -- the key of an argument is no expression that is there to be typed
-  pub argument_lines : Arguments → List ℕ
-  argument_lines e.no_arguments = []
-  argument_lines (e.argument_then value more) = expression_lines false value ++ argument_lines more
-  argument_lines (e.keyed_then key value more) = expression_lines false value ++ argument_lines more
+  pub argument_forms : Arguments → List Unbuilt
+  argument_forms e.no_arguments = []
+  argument_forms (e.argument_then value more) = expression_forms false value ++ argument_forms more
+  argument_forms (e.keyed_then key value more) = expression_forms false value ++ argument_forms more
 
-abbrev pub maybe_lines : Option ExprTree → List ℕ
-maybe_lines None = []
-maybe_lines (Some a) = expression_lines false a
+abbrev pub maybe_forms : Option ExprTree → List Unbuilt
+maybe_forms None = []
+maybe_forms (Some a) = expression_forms false a
 
-abbrev pub list_lines : List ExprTree → List ℕ
-list_lines [] = []
-list_lines (a ∷ more) = expression_lines false a ++ list_lines more
+abbrev pub list_forms : List ExprTree → List Unbuilt
+list_forms [] = []
+list_forms (a ∷ more) = expression_forms false a ++ list_forms more
 
-abbrev pub parameter_lines : List (List ℕ × Option ExprTree) → List ℕ
-parameter_lines [] = []
-parameter_lines (p ∷ more) = maybe_lines p.1 ++ parameter_lines more
+abbrev pub parameter_forms : List (List ℕ × Option ExprTree) → List Unbuilt
+parameter_forms [] = []
+parameter_forms (p ∷ more) = maybe_forms p.1 ++ parameter_forms more
 
 abbrev mutual
-  pub statement_lines : StmtTree → List ℕ
-  statement_lines (s.at node span) = line_if (is_later_statement node) span ++ act_lines node
+  pub statement_forms : StmtTree → List Unbuilt
+  statement_forms (s.at node span) = form_at (form_of_act node) span ++ act_forms node
 
-  pub act_lines : StmtNode → List ℕ
-  act_lines (s.Do a) = expression_lines false a
-  act_lines (s.Assign to a) = expression_lines false to ++ expression_lines false a
-  act_lines (s.Annot to mark a) = expression_lines false to ++ (expression_lines false mark ++ maybe_lines a)
-  act_lines (s.Aug to op a) = expression_lines false to ++ expression_lines false a
-  act_lines (s.Del a) = expression_lines false a
-  act_lines s.Pass = []
-  act_lines s.Break = []
-  act_lines s.Continue = []
-  act_lines (s.Return a) = maybe_lines a
-  act_lines (s.Raise a) = maybe_lines a
-  act_lines (s.Global names) = []
-  act_lines (s.Assert a message) = expression_lines false a ++ maybe_lines message
-  act_lines (s.Import name other) = []
-  act_lines (s.From name names) = []
-  act_lines (s.If arms other) = arm_lines arms ++ suite_lines other
-  act_lines (s.While a body) = expression_lines false a ++ suite_lines body
-  act_lines (s.For to a body) = expression_lines false to ++ (expression_lines false a ++ suite_lines body)
-  act_lines (s.Try body others last) = []
-  act_lines (s.Def name params ret body marks) = list_lines marks ++ (parameter_lines params ++ (maybe_lines ret ++ suite_lines body))
-  act_lines (s.ClassDef name bases body marks) = []
+  pub act_forms : StmtNode → List Unbuilt
+  act_forms (s.Do a) = expression_forms false a
+  act_forms (s.Assign to a) = expression_forms false to ++ expression_forms false a
+  act_forms (s.Annot to mark a) = expression_forms false to ++ (expression_forms false mark ++ maybe_forms a)
+  act_forms (s.Aug to op a) = expression_forms false to ++ expression_forms false a
+  act_forms (s.Del a) = expression_forms false a
+  act_forms s.Pass = []
+  act_forms s.Break = []
+  act_forms s.Continue = []
+  act_forms (s.Return a) = maybe_forms a
+  act_forms (s.Raise a) = maybe_forms a
+  act_forms (s.Global names) = []
+  act_forms (s.Assert a message) = expression_forms false a ++ maybe_forms message
+  act_forms (s.Import name other) = []
+  act_forms (s.From name names) = []
+  act_forms (s.If arms other) = arm_forms arms ++ suite_forms other
+  act_forms (s.While a body) = expression_forms false a ++ suite_forms body
+  act_forms (s.For to a body) = expression_forms false to ++ (expression_forms false a ++ suite_forms body)
+  act_forms (s.Try body others last) = []
+  act_forms (s.Def name params ret body marks) = list_forms marks ++ (parameter_forms params ++ (maybe_forms ret ++ suite_forms body))
+  act_forms (s.ClassDef name bases body marks) = []
 
-  pub suite_lines : Suite → List ℕ
-  suite_lines s.no_stmts = []
-  suite_lines (s.stmt_then a more) = statement_lines a ++ suite_lines more
+  pub suite_forms : Suite → List Unbuilt
+  suite_forms s.no_stmts = []
+  suite_forms (s.stmt_then a more) = statement_forms a ++ suite_forms more
 
-  pub arm_lines : Arms → List ℕ
-  arm_lines s.no_arms = []
-  arm_lines (s.arm_then test body more) = expression_lines false test ++ (suite_lines body ++ arm_lines more)
+  pub arm_forms : Arms → List Unbuilt
+  arm_forms s.no_arms = []
+  arm_forms (s.arm_then test body more) = expression_forms false test ++ (suite_forms body ++ arm_forms more)
 
 -- ---- the least of them
 
-abbrev pub lesser : ℕ → Option ℕ → ℕ
-lesser n None = n
-lesser n (Some m) = if nat_lt m n then m else n
+-- the one on the lesser line, of a form and of one before it; on one line it is the one before
+abbrev pub lesser : Unbuilt → Option Unbuilt → Unbuilt
+lesser u None = u
+lesser u (Some before) = if nat_lt u.line before.line then u else before
 
--- the least of a line, if there is one, and of others
-abbrev pub least : Option ℕ → List ℕ → Option ℕ
+-- the least of a form, if there is one, and of others
+abbrev pub least : Option Unbuilt → List Unbuilt → Option Unbuilt
 least found [] = found
-least found (n ∷ more) = least (Some (lesser n found)) more
+least found (u ∷ more) = least (Some (lesser u found)) more
 
--- THE LINE of the first form in a module that has no typing rules yet, where there is one
-abbrev pub later_line : Suite → Option ℕ
-later_line m = least None (suite_lines m)
+-- THE FORM in a module that has no typing rules yet and stands on the first line with any, where there is one: of several on that
+-- line the first, in the order above
+abbrev pub later_form : Suite → Option Unbuilt
+later_form m = least None (suite_forms m)

@@ -1,22 +1,24 @@
--- How the least line is found: along the tree, with the least line found so far. `LineLemmas` shows that it is the least of the
--- lines that `Later` lists.
+-- How the first form is found: along the tree, with the one found so far. `FormLemmas` shows that it is the least of those that
+-- `Later` lists.
 use Rattle.std.specs.Prelude.{ℕ, Bool, true, false, List, [], ◌∷◌, Option, Some, None}
 use Rattle.py_syntax.specs.Expressions as e
 use Rattle.py_syntax.specs.Expressions.{ExprTree, ExprNode, ExprTrees, Comparisons, Entries, Arguments}
 use Rattle.py_syntax.specs.Statements as s
 use Rattle.py_syntax.specs.Statements.{StmtTree, StmtNode, Suite, Arms}
-use Rattle.py_check_unbuilt.specs.Later.{lesser, is_later_expression, is_later_statement}
+use Rattle.py_check_unbuilt.specs.declared.form.Form.{Form}
+use Rattle.py_check_unbuilt.specs.declared.form.Unbuilt.{Unbuilt}
+use Rattle.py_check_unbuilt.specs.Later.{lesser, form_of_node, form_of_act}
 
--- one more line, where it counts
-abbrev pub noted : Bool → ℕ → Option ℕ → Option ℕ
-noted true line found = Some (lesser line found)
-noted false line found = found
+-- one more node, where it is such a form
+abbrev pub noted : Option Form → ℕ → Option Unbuilt → Option Unbuilt
+noted None line found = found
+noted (Some f) line found = Some (lesser (record { line = line; form = f }) found)
 
 abbrev mutual
-  pub expression_least : Option ℕ → Bool → ExprTree → Option ℕ
-  expression_least found called (e.at node span) = node_least (noted (is_later_expression called node) span.line found) node
+  pub expression_least : Option Unbuilt → Bool → ExprTree → Option Unbuilt
+  expression_least found called (e.at node span) = node_least (noted (form_of_node called node) span.line found) node
 
-  pub node_least : Option ℕ → ExprNode → Option ℕ
+  pub node_least : Option Unbuilt → ExprNode → Option Unbuilt
   node_least found (e.Int n) = found
   node_least found (e.Str text) = found
   node_least found e.True = found
@@ -38,40 +40,40 @@ abbrev mutual
   node_least found (e.Index a i) = expression_least (expression_least found false a) false i
   node_least found (e.Call callee more) = argument_least (expression_least found true callee) more
 
-  pub row_least : Option ℕ → ExprTrees → Option ℕ
+  pub row_least : Option Unbuilt → ExprTrees → Option Unbuilt
   row_least found e.no_exprs = found
   row_least found (e.expr_then a more) = row_least (expression_least found false a) more
 
-  pub comparison_least : Option ℕ → Comparisons → Option ℕ
+  pub comparison_least : Option Unbuilt → Comparisons → Option Unbuilt
   comparison_least found e.no_comparisons = found
   comparison_least found (e.comparison_then op a more) = comparison_least (expression_least found false a) more
 
-  pub entry_least : Option ℕ → Entries → Option ℕ
+  pub entry_least : Option Unbuilt → Entries → Option Unbuilt
   entry_least found e.no_entries = found
   entry_least found (e.entry_then key value more) = entry_least (expression_least (expression_least found false key) false value) more
 
-  pub argument_least : Option ℕ → Arguments → Option ℕ
+  pub argument_least : Option Unbuilt → Arguments → Option Unbuilt
   argument_least found e.no_arguments = found
   argument_least found (e.argument_then value more) = argument_least (expression_least found false value) more
   argument_least found (e.keyed_then key value more) = argument_least (expression_least found false value) more
 
-abbrev pub maybe_least : Option ℕ → Option ExprTree → Option ℕ
+abbrev pub maybe_least : Option Unbuilt → Option ExprTree → Option Unbuilt
 maybe_least found None = found
 maybe_least found (Some a) = expression_least found false a
 
-abbrev pub list_least : Option ℕ → List ExprTree → Option ℕ
+abbrev pub list_least : Option Unbuilt → List ExprTree → Option Unbuilt
 list_least found [] = found
 list_least found (a ∷ more) = list_least (expression_least found false a) more
 
-abbrev pub parameter_least : Option ℕ → List (List ℕ × Option ExprTree) → Option ℕ
+abbrev pub parameter_least : Option Unbuilt → List (List ℕ × Option ExprTree) → Option Unbuilt
 parameter_least found [] = found
 parameter_least found (p ∷ more) = parameter_least (maybe_least found p.1) more
 
 abbrev mutual
-  pub statement_least : Option ℕ → StmtTree → Option ℕ
-  statement_least found (s.at node span) = act_least (noted (is_later_statement node) span.line found) node
+  pub statement_least : Option Unbuilt → StmtTree → Option Unbuilt
+  statement_least found (s.at node span) = act_least (noted (form_of_act node) span.line found) node
 
-  pub act_least : Option ℕ → StmtNode → Option ℕ
+  pub act_least : Option Unbuilt → StmtNode → Option Unbuilt
   act_least found (s.Do a) = expression_least found false a
   act_least found (s.Assign to a) = expression_least (expression_least found false to) false a
   act_least found (s.Annot to mark a) = maybe_least (expression_least (expression_least found false to) false mark) a
@@ -93,10 +95,10 @@ abbrev mutual
   act_least found (s.Def name params ret body marks) = suite_least (maybe_least (parameter_least (list_least found marks) params) ret) body
   act_least found (s.ClassDef name bases body marks) = found
 
-  pub suite_least : Option ℕ → Suite → Option ℕ
+  pub suite_least : Option Unbuilt → Suite → Option Unbuilt
   suite_least found s.no_stmts = found
   suite_least found (s.stmt_then a more) = suite_least (statement_least found a) more
 
-  pub arm_least : Option ℕ → Arms → Option ℕ
+  pub arm_least : Option Unbuilt → Arms → Option Unbuilt
   arm_least found s.no_arms = found
   arm_least found (s.arm_then test body more) = arm_least (suite_least (expression_least found false test) body) more

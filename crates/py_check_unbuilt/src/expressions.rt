@@ -1,35 +1,63 @@
 //! Expressions without typing rules.
 ghost use Rattle.std.specs.Prelude.{◌≡◌, map};
-ghost use Rattle.std.specs.Option.{option_map};
 ghost use Rattle.py_syntax.specs.Expressions.{expr_tree, expr_node, exprs_of, comparisons_of, comparison_tree, entries_of, entry_tree, arguments_of, arg_tree};
 ghost use Rattle.py_syntax.specs.Statements.{maybe_expr, param_tree};
 ghost use Rattle.py_check_unbuilt.specs.Later as spec;
 ghost use Rattle.py_check_unbuilt.specs.Least as find;
 
+use crate::form::{Form, Unbuilt};
 use py_syntax::{Arg, CmpOp, Expr, ExprKind};
 use value_core::{ExcClass, Name};
 
-/// The lesser of a line and of the one found before it.
-pub fn lesser(line: usize, found: Option<usize>) -> usize
-    ensures { result ≡ spec.lesser line found }
+/// The one on the lesser line, of a form and of one found before it; on one line the one found before.
+pub fn lesser(unbuilt: Unbuilt, found: Option<Unbuilt>) -> Unbuilt
+    ensures { result ≡ spec.lesser unbuilt found }
 {
     match found {
-        None => line,
-        Some(other) => { if other < line { other } else { line } }
+        None => unbuilt,
+        Some(before) => {
+            if unbuilt.line < before.line {
+                unbuilt
+            } else {
+                before
+            }
+        }
     }
 }
 
-/// Whether a name belongs to a form without typing rules.
-pub(crate) fn is_later_name(name: &Name) -> bool
-    ensures { result ≡ spec.is_later_name name.now }
+/// The form without typing rules that a name belongs to, where there is one.
+pub(crate) fn name_form(name: &Name) -> Option<Form>
+    ensures { result ≡ spec.name_form name.now }
 {
-    is_later_word(name.as_str()) || ExcClass::named(name.as_str()).is_some()
+    match word_form(name.as_str()) {
+        Some(form) => Some(form),
+        None => exception_form(name.as_str()),
+    }
 }
 
-fn is_later_word(name: &str) -> bool
-    ensures { result ≡ spec.is_later_word name.now }
+fn word_form(name: &str) -> Option<Form>
+    ensures { result ≡ spec.word_form name.now }
 {
-    name == "dict" || (name == "Dict" || (name == "super" || name == "trait"))
+    if name == "dict" {
+        Some(Form::NameDict)
+    } else if name == "Dict" {
+        Some(Form::NameTypingDict)
+    } else if name == "super" {
+        Some(Form::NameSuper)
+    } else if name == "trait" {
+        Some(Form::NameTrait)
+    } else {
+        None
+    }
+}
+
+fn exception_form(name: &str) -> Option<Form>
+    ensures { result ≡ spec.exception_form name.now }
+{
+    match ExcClass::named(name) {
+        Some(_) => Some(Form::ExceptionClass),
+        None => None,
+    }
 }
 
 fn is_list_method(name: &str) -> bool
@@ -38,53 +66,69 @@ fn is_list_method(name: &str) -> bool
     name == "append" || name == "pop"
 }
 
-fn is_membership(op: CmpOp) -> bool
-    ensures { result ≡ spec.is_membership op }
+fn operator_form(op: CmpOp) -> Option<Form>
+    ensures { result ≡ spec.operator_form op }
 {
-    matches!(op, CmpOp::Member | CmpOp::NotMember)
+    match op {
+        CmpOp::Member => Some(Form::Member),
+        CmpOp::NotMember => Some(Form::NotMember),
+        _ => None,
+    }
 }
 
-fn has_membership(more: &[(CmpOp, Expr)]) -> bool
-    ensures { result ≡ spec.has_membership (comparisons_of (map comparison_tree more.now)) }
+/// The first operator of a chain without typing rules.
+fn chain_form(more: &[(CmpOp, Expr)]) -> Option<Form>
+    ensures { result ≡ spec.chain_form (comparisons_of (map comparison_tree more.now)) }
 {
     for (op, _) in more {
-        if is_membership(*op) {
-            return true;
+        if let Some(form) = operator_form(*op) {
+            return Some(form);
         }
     }
-    false
+    None
 }
 
-/// Whether an expression, which is called or not, is of a form without typing rules.
-fn is_later(called: bool, e: &Expr) -> bool
-    ensures { result ≡ spec.is_later_expression called (expr_node e.now.kind) }
+fn attribute_form(called: bool, name: &Name) -> Option<Form>
+    ensures { result ≡ spec.attribute_form called name.now }
+{
+    if !called {
+        Some(Form::Attribute)
+    } else if is_list_method(name.as_str()) {
+        None
+    } else {
+        Some(Form::MethodCall)
+    }
+}
+
+/// The form without typing rules that an expression is, which is called or not.
+fn form_of(called: bool, e: &Expr) -> Option<Form>
+    ensures { result ≡ spec.form_of_node called (expr_node e.now.kind) }
 {
     match &e.kind {
-        ExprKind::Name(name) => is_later_name(name),
-        ExprKind::Dict(_) => true,
-        ExprKind::Compare(_, more) => has_membership(more.as_slice()),
-        ExprKind::Attr(_, name) => !(called && is_list_method(name.as_str())),
-        _ => false,
+        ExprKind::Name(name) => name_form(name),
+        ExprKind::Dict(_) => Some(Form::DictDisplay),
+        ExprKind::Compare(_, more) => chain_form(more.as_slice()),
+        ExprKind::Attr(_, name) => attribute_form(called, name),
+        _ => None,
     }
 }
 
-/// One more line, where it counts.
-pub(crate) fn noted(counts: bool, line: usize, found: Option<usize>) -> Option<usize>
-    ensures { result ≡ find.noted counts line found }
+/// One more node, where it is such a form.
+pub(crate) fn noted(form: Option<Form>, line: usize, found: Option<Unbuilt>) -> Option<Unbuilt>
+    ensures { result ≡ find.noted form line found }
 {
-    if counts {
-        Some(lesser(line, found))
-    } else {
-        found
+    match form {
+        None => found,
+        Some(form) => Some(lesser(Unbuilt { line, form }, found)),
     }
 }
 
-/// The least line of forms without typing rules in an expression, which is called or not, and of one found before.
+/// The first form without typing rules in an expression, which is called or not, or one found before.
 #[cycle(expression)]
-pub(crate) fn in_expression(e: &Expr, called: bool, found: Option<usize>) -> Option<usize>
+pub(crate) fn in_expression(e: &Expr, called: bool, found: Option<Unbuilt>) -> Option<Unbuilt>
     ensures { result ≡ find.expression_least found called (expr_tree e.now) }
 {
-    let found = noted(is_later(called, e), e.span.line, found);
+    let found = noted(form_of(called, e), e.span.line, found);
     match &e.kind {
         ExprKind::Neg(a) => in_expression(a, false, found),
         ExprKind::Plus(a) => in_expression(a, false, found),
@@ -119,7 +163,7 @@ pub(crate) fn in_expression(e: &Expr, called: bool, found: Option<usize>) -> Opt
 }
 
 #[cycle(expression)]
-fn in_row(items: &[Expr], found: Option<usize>) -> Option<usize>
+fn in_row(items: &[Expr], found: Option<Unbuilt>) -> Option<Unbuilt>
     ensures { result ≡ find.row_least found (exprs_of (map expr_tree items.now)) }
 {
     let mut found = found;
@@ -130,7 +174,7 @@ fn in_row(items: &[Expr], found: Option<usize>) -> Option<usize>
 }
 
 #[cycle(expression)]
-fn in_comparisons(more: &[(CmpOp, Expr)], found: Option<usize>) -> Option<usize>
+fn in_comparisons(more: &[(CmpOp, Expr)], found: Option<Unbuilt>) -> Option<Unbuilt>
     ensures { result ≡ find.comparison_least found (comparisons_of (map comparison_tree more.now)) }
 {
     let mut found = found;
@@ -141,7 +185,7 @@ fn in_comparisons(more: &[(CmpOp, Expr)], found: Option<usize>) -> Option<usize>
 }
 
 #[cycle(expression)]
-fn in_entries(entries: &[(Expr, Expr)], found: Option<usize>) -> Option<usize>
+fn in_entries(entries: &[(Expr, Expr)], found: Option<Unbuilt>) -> Option<Unbuilt>
     ensures { result ≡ find.entry_least found (entries_of (map entry_tree entries.now)) }
 {
     let mut found = found;
@@ -152,7 +196,7 @@ fn in_entries(entries: &[(Expr, Expr)], found: Option<usize>) -> Option<usize>
 }
 
 #[cycle(expression)]
-fn in_arguments(arguments: &[Arg], found: Option<usize>) -> Option<usize>
+fn in_arguments(arguments: &[Arg], found: Option<Unbuilt>) -> Option<Unbuilt>
     ensures { result ≡ find.argument_least found (arguments_of (map arg_tree arguments.now)) }
 {
     let mut found = found;
@@ -163,7 +207,7 @@ fn in_arguments(arguments: &[Arg], found: Option<usize>) -> Option<usize>
 }
 
 /// In an expression that may be absent.
-pub(crate) fn in_maybe(e: &Option<Expr>, found: Option<usize>) -> Option<usize>
+pub(crate) fn in_maybe(e: &Option<Expr>, found: Option<Unbuilt>) -> Option<Unbuilt>
     ensures { result ≡ find.maybe_least found (maybe_expr e.now) }
 {
     match e {
@@ -173,7 +217,7 @@ pub(crate) fn in_maybe(e: &Option<Expr>, found: Option<usize>) -> Option<usize>
 }
 
 /// In expressions one behind another.
-pub(crate) fn in_list(items: &[Expr], found: Option<usize>) -> Option<usize>
+pub(crate) fn in_list(items: &[Expr], found: Option<Unbuilt>) -> Option<Unbuilt>
     ensures { result ≡ find.list_least found (map expr_tree items.now) }
 {
     let mut found = found;
@@ -186,8 +230,8 @@ pub(crate) fn in_list(items: &[Expr], found: Option<usize>) -> Option<usize>
 /// In the annotations of parameters.
 pub(crate) fn in_parameters(
     parameters: &[(Name, Option<Expr>)],
-    found: Option<usize>,
-) -> Option<usize>
+    found: Option<Unbuilt>,
+) -> Option<Unbuilt>
     ensures { result ≡ find.parameter_least found (map param_tree parameters.now) }
 {
     let mut found = found;

@@ -1,10 +1,13 @@
-//! The forms of the language that have no typing rules yet: whether a module has one, and the line of the first.
+//! The forms of the language that have no typing rules yet: whether a module has one, which is the first, and on which line.
 //!
-//! `specs/Later.antt` says which they are. As forms get their rules, they go from there, and at last this crate goes.
+//! `specs/Later.antt` says which they are. As forms get their rules, they go from there. `form` has what each form is called that
+//! is not built, also of those that are typed and not compiled.
 #![tactic(auto)]
 
 mod expressions;
+mod form;
 mod statements;
 
 pub use expressions::lesser;
-pub use statements::later_line;
+pub use form::{Form, TypeKind, Unbuilt};
+pub use statements::later_form;

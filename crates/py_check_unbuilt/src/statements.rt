@@ -5,20 +5,21 @@ ghost use Rattle.py_syntax.specs.Statements.{stmt_tree, stmt_node, body_tree, mo
 ghost use Rattle.py_check_unbuilt.specs.Later as spec;
 ghost use Rattle.py_check_unbuilt.specs.Least as find;
 
-use crate::expressions::{in_expression, in_list, in_maybe, in_parameters, is_later_name, noted};
-use py_syntax::{Func, Module, Stmt, StmtKind};
+use crate::expressions::{in_expression, in_list, in_maybe, in_parameters, name_form, noted};
+use crate::form::{Form, Unbuilt};
+use py_syntax::{Expr, Func, Module, Stmt, StmtKind};
 use value_core::Name;
 
-/// The line of the first form in a module that has no typing rules yet, where there is one.
-#[tactic(auto, using(crate::proofs::LineLemmas::module_same))]
-pub fn later_line(m: &Module) -> Option<usize>
-    ensures { result ≡ spec.later_line (module_tree m.now) }
+/// The first form in a module that has no typing rules yet, where there is one.
+#[tactic(auto, using(crate::proofs::FormLemmas::module_same))]
+pub fn later_form(m: &Module) -> Option<Unbuilt>
+    ensures { result ≡ spec.later_form (module_tree m.now) }
 {
     in_suite(m.body.as_slice(), None)
 }
 
 #[cycle(statement)]
-fn in_suite(body: &[Stmt], found: Option<usize>) -> Option<usize>
+fn in_suite(body: &[Stmt], found: Option<Unbuilt>) -> Option<Unbuilt>
     ensures { result ≡ find.suite_least found (body_tree body.now) }
 {
     let mut found = found;
@@ -28,27 +29,37 @@ fn in_suite(body: &[Stmt], found: Option<usize>) -> Option<usize>
     found
 }
 
-/// Whether a statement is of a form without typing rules.
-fn is_later(s: &Stmt) -> bool
-    ensures { result ≡ spec.is_later_statement (stmt_node s.now.kind) }
+/// The form without typing rules that a statement is.
+fn form_of(s: &Stmt) -> Option<Form>
+    ensures { result ≡ spec.form_of_act (stmt_node s.now.kind) }
 {
     match &s.kind {
-        StmtKind::Del(_) => true,
-        StmtKind::Raise(_) => true,
-        StmtKind::Assert(_, _) => true,
-        StmtKind::From(_, names) => imports_later(names.as_slice()),
-        StmtKind::Try(_, _, _) => true,
-        StmtKind::Def(f) => !f.marks.as_slice().is_empty(),
-        StmtKind::Class(_) => true,
-        _ => false,
+        StmtKind::Del(_) => Some(Form::Del),
+        StmtKind::Raise(_) => Some(Form::Raise),
+        StmtKind::Assert(_, _) => Some(Form::Assert),
+        StmtKind::From(_, names) => import_form(names.as_slice()),
+        StmtKind::Try(_, _, _) => Some(Form::Try),
+        StmtKind::Def(f) => decorator_form(f.marks.as_slice()),
+        StmtKind::Class(_) => Some(Form::Class),
+        _ => None,
+    }
+}
+
+fn decorator_form(marks: &[Expr]) -> Option<Form>
+    ensures { result ≡ spec.decorator_form (map expr_tree marks.now) }
+{
+    if marks.is_empty() {
+        None
+    } else {
+        Some(Form::Decorator)
     }
 }
 
 #[cycle(statement)]
-fn in_statement(s: &Stmt, found: Option<usize>) -> Option<usize>
+fn in_statement(s: &Stmt, found: Option<Unbuilt>) -> Option<Unbuilt>
     ensures { result ≡ find.statement_least found (stmt_tree s.now) }
 {
-    let found = noted(is_later(s), s.span.line, found);
+    let found = noted(form_of(s), s.span.line, found);
     match &s.kind {
         StmtKind::Expr(a) => in_expression(a, false, found),
         StmtKind::Assign(to, a) => in_expression(a, false, in_expression(to, false, found)),
@@ -86,19 +97,20 @@ fn in_statement(s: &Stmt, found: Option<usize>) -> Option<usize>
     }
 }
 
-fn imports_later(names: &[(Name, Option<Name>)]) -> bool
-    ensures { result ≡ spec.imports_later names.now }
+/// The form without typing rules of the first name that is imported.
+fn import_form(names: &[(Name, Option<Name>)]) -> Option<Form>
+    ensures { result ≡ spec.import_form names.now }
 {
     for (name, _) in names {
-        if is_later_name(name) {
-            return true;
+        if let Some(form) = name_form(name) {
+            return Some(form);
         }
     }
-    false
+    None
 }
 
 #[cycle(statement)]
-fn in_function(f: &Func, found: Option<usize>) -> Option<usize>
+fn in_function(f: &Func, found: Option<Unbuilt>) -> Option<Unbuilt>
     ensures { result ≡ find.act_least found (def_of (func_tree f.now)) }
 {
     let found = in_parameters(f.params.as_slice(), in_list(f.marks.as_slice(), found));

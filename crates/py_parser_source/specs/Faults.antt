@@ -19,7 +19,7 @@ use Rattle.py_parser_source.specs.Entries.{Entry, Telling}
 use Rattle.py_parser_source.specs.Texts.{kind_text, kind_code}
 
 abbrev pub at_line : ℕ → FaultKind → Entry
-at_line line kind = record { line = line; text = kind_text kind; code = kind_code kind }
+at_line line kind = record { line = line; text = kind_text kind; code = kind_code kind; note = None }
 
 -- ---- lines
 

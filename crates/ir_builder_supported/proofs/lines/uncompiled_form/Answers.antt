@@ -6,7 +6,7 @@ use Rattle.py_check_names.specs.Outline.{suite_definitions}
 use Rattle.py_typed.specs.Statements.{variable, typed_suite, typed_func, typed_module}
 use Rattle.ir_builder_supported.specs.Statements.{is_def}
 use Rattle.ir_builder_supported.proofs.CodeLemmas.{module_found}
-use Rattle.ir_builder_supported.proofs.lines.uncompiled_line.Goals as goal
+use Rattle.ir_builder_supported.proofs.lines.uncompiled_form.Goals as goal
 
 pub returns : goal.returns
 returns c =
