@@ -21,12 +21,16 @@ use Rattle.py_typed.specs.declared.expression.TKind as kind
 use Rattle.py_typed.specs.declared.statement.TStmt.{TStmt, size-TStmt}
 use Rattle.py_typed.specs.declared.statement.TStmtKind as act
 use Rattle.py_typed.specs.declared.checked.TFunc.{TFunc}
-use Rattle.py_typed.specs.Expressions.{typed_expr, typed_node, typed_comparison, comparisons_of}
+use Rattle.py_typed.specs.Expressions.{typed_expr, typed_node, typed_comparison, comparisons_of, type_of}
 use Rattle.py_typed.specs.Statements.{Variable, TypedFunc, TypedModule, TypedSuite, typed_stmt, typed_act, typed_suite, typed_arm, arms_of, typed_func}
 use Rattle.py_typed.proofs.ExpressionLemmas.{typed_expr_at, typed_node-Compare}
 use Rattle.py_typed.proofs.StatementLemmas.{typed_stmt_at, typed_act-If}
+use Rattle.py_check_unbuilt.specs.declared.form.Form.{Form}
+use Rattle.py_check_unbuilt.specs.declared.form.Form.TheVariants as form
+use Rattle.py_check_unbuilt.specs.declared.form.TypeKind.{TypeKind}
 use Rattle.py_check_unbuilt.specs.declared.form.Unbuilt.{Unbuilt}
-use Rattle.ir_builder_supported.specs.Forms.{unbuilt, node_form, function_form}
+use Rattle.ir_builder_supported.specs.Forms.{unbuilt, chain_form, node_form, function_form}
+use Rattle.ir_builder_supported.specs.Forms.{kind as sort_kind}
 use Rattle.ir_builder_supported.specs.Expressions.{is_form}
 use Rattle.ir_builder_supported.specs.Statements.{is_function, is_def, definition_line, uncompiled_form}
 use Rattle.ir_builder_supported.specs.Least.{noted, expression_least, part_least, chain_least, statement_least, act_least, suite_least, arms_least, functions_least}
@@ -40,6 +44,15 @@ comparison_found e a more more2 is same b tested true_is found first last one al
     ∙ sym (ap (part_least found) (ap typed_node is ∙ typed_node-Compare a more))
     ∙ sym (ap (λ t. noted t (unbuilt e.span.line (node_form (typed_node e.kind) (sort e.ty))) found (part_least found (typed_node e.kind))) (sym tested ∙ true_is))
     ∙ sym (ap (expression_least found) (typed_expr_at e))
+
+-- what a comparison is called that is not compiled
+pub comparison_named : (e : TExpr) (a : Box TExpr Global) (more more2 : List (CmpOp × TExpr)) → e.kind ≡ kind.Compare a more → more2 ≡ more → (k : TypeKind) → k ≡ sort_kind (sort a.value.ty) → (f : Form) → f ≡ chain_form (form.Value k) (comparisons_of (map typed_comparison more2)) → f ≡ node_form (typed_node e.kind) (sort e.ty)
+comparison_named e a more more2 is same k first f named =
+    named
+    ∙ ap (λ l. chain_form (form.Value k) (comparisons_of (map typed_comparison l))) same
+    ∙ ap (λ x. chain_form (form.Value x) (comparisons_of (map typed_comparison more))) first
+    ∙ sym (ap (λ t. chain_form (form.Value (sort_kind (type_of t))) (comparisons_of (map typed_comparison more))) (typed_expr_at a.value))
+    ∙ sym (ap (λ n. node_form n (sort e.ty)) (ap typed_node is ∙ typed_node-Compare a more))
 
 pub if_found : (locals globals : List Variable) (s : TStmt) (arms arms2 : List (TExpr × List TStmt)) (other other2 : List TStmt) → s.kind ≡ act.If arms other → arms2 ≡ arms → other2 ≡ other → (found first last : Option Unbuilt) → first ≡ arms_least locals globals found (arms_of (map typed_arm arms2)) → last ≡ suite_least locals globals first (typed_suite other2) → last ≡ statement_least locals globals found (typed_stmt s)
 if_found locals globals s arms arms2 other other2 is a o found first last one all =

@@ -1,4 +1,4 @@
-pub mod LineLemmas
+pub mod FormLemmas
 pub mod CompiledLemmas
 pub mod SuiteLemmas
 pub mod ModuleLemmas

@@ -74,7 +74,7 @@ module _ (locals globals : List Variable) where
     act_least found line (ForRange ts a b body) = Some (lesser (unbuilt line form.For) found)
     act_least found line (ForList ts e body) = Some (lesser (unbuilt line form.For) found)
     act_least found line (ForDict ts e body) = Some (lesser (unbuilt line form.For) found)
-    act_least found line (Try body handlers last) = Some (lesser (unbuilt line form.Try) found)
+    act_least found line (Try body others last) = Some (lesser (unbuilt line form.Try) found)
     act_least found line (Raise e) = Some (lesser (unbuilt line form.Raise) found)
     act_least found line (Assert test message) = Some (lesser (unbuilt line form.Assert) found)
 

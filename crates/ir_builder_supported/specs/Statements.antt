@@ -69,7 +69,7 @@ module _ (locals globals : List Variable) where
     act_forms line (ForRange ts a b body) = unbuilt line form.For ∷ []
     act_forms line (ForList ts e body) = unbuilt line form.For ∷ []
     act_forms line (ForDict ts e body) = unbuilt line form.For ∷ []
-    act_forms line (Try body handlers last) = unbuilt line form.Try ∷ []
+    act_forms line (Try body others last) = unbuilt line form.Try ∷ []
     act_forms line (Raise e) = unbuilt line form.Raise ∷ []
     act_forms line (Assert test message) = unbuilt line form.Assert ∷ []
 

@@ -127,7 +127,12 @@ fn in_part(compiled: bool, e: &TExpr, here: Unbuilt, found: Option<Unbuilt>) -> 
 }
 
 #[cycle(statement)]
-fn in_suite(body: &[TStmt], locals: &[Var], globals: &[Var], found: Option<Unbuilt>) -> Option<Unbuilt>
+fn in_suite(
+    body: &[TStmt],
+    locals: &[Var],
+    globals: &[Var],
+    found: Option<Unbuilt>,
+) -> Option<Unbuilt>
     ensures { result ≡ find.suite_least (map variable locals.now) (map variable globals.now) found (typed_suite body.now) }
 {
     let mut found = found;
@@ -138,7 +143,12 @@ fn in_suite(body: &[TStmt], locals: &[Var], globals: &[Var], found: Option<Unbui
 }
 
 #[cycle(statement)]
-fn in_statement(s: &TStmt, locals: &[Var], globals: &[Var], found: Option<Unbuilt>) -> Option<Unbuilt>
+fn in_statement(
+    s: &TStmt,
+    locals: &[Var],
+    globals: &[Var],
+    found: Option<Unbuilt>,
+) -> Option<Unbuilt>
     ensures { result ≡ find.statement_least (map variable locals.now) (map variable globals.now) found (typed_stmt s.now) }
 {
     match &s.kind {

@@ -63,14 +63,13 @@ fn chain_form(other: Form, more: &[(CmpOp, TExpr)]) -> Form
 fn node_form(e: &TExpr) -> Form
     ensures { result ≡ spec.node_form (typed_node e.now.kind) (sort e.now.ty) }
 {
+    let value = Form::Value(kind(&e.ty));
     match &e.kind {
         TKind::Nothing => Form::NoneValue,
         TKind::Local(_) => Form::Variable(kind(&e.ty)),
         TKind::Global(_) => Form::Variable(kind(&e.ty)),
         TKind::Truth(a) => Form::Condition(kind(&a.ty)),
-        TKind::Compare(first, more) => {
-            chain_form(Form::Value(kind(&first.ty)), more.as_slice())
-        }
+        TKind::Compare(first, more) => { chain_form(Form::Value(kind(&first.ty)), more.as_slice()) }
         TKind::List(_) => Form::ListDisplay,
         TKind::Dict(_) => Form::DictDisplay,
         TKind::Tuple(_) => Form::Tuple,
@@ -85,7 +84,20 @@ fn node_form(e: &TExpr) -> Form
         TKind::Len(a) => Form::Length(kind(&a.ty)),
         TKind::Append(_, _) => Form::Append,
         TKind::Pop(_) => Form::Pop,
-        _ => Form::Value(kind(&e.ty)),
+        TKind::Int(_) => value,
+        TKind::Str(_) => value,
+        TKind::Bool(_) => value,
+        TKind::Neg(_) => value,
+        TKind::Not(_) => value,
+        TKind::Arith(_, _, _) => value,
+        TKind::Concat(_, _) => value,
+        TKind::And(_, _) => value,
+        TKind::Or(_, _) => value,
+        TKind::Cond(_, _, _) => value,
+        TKind::Print(_) => value,
+        TKind::Input => value,
+        TKind::ToStr(_) => value,
+        TKind::Coerce(_) => value,
     }
 }
 
