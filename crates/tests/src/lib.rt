@@ -25,5 +25,3 @@ mod py_typed_tests;
 mod slot_arena_tests;
 #[cfg(test)]
 mod tree_text;
-#[cfg(test)]
-mod value_core_class_tests;
