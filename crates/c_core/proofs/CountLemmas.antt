@@ -1,6 +1,6 @@
 -- What the small changes of cells leave of counts and holders.
 use Rattle.std.proofs.Common.{◌≡◌, ℕ, zero, suc, ◌+◌, ◌≤◌, List, [], ◌∷◌, length, Some, None, refl, ap, arith}
-use Rattle.c_core.specs.Cells.{Cells, same, times, count_at, content_at, take_one, make}
+use Rattle.c_core.specs.Cells.{Cells, same, times, count_at, content_at, take_one, refill, make}
 use Rattle.c_core.specs.Release.{uses}
 
 pub same_one : (d c n : ℕ) → same d c ≡ suc n → d ≡ c
@@ -28,6 +28,14 @@ module _ {X : Type 0} where
   count-make (o ∷ h) zero x = omega arith
   count-make (o ∷ h) (suc d) x = count-make h d x
 
+  pub count-refill : (h : Cells X) (c d : ℕ) (x : X) → count_at (refill x c h) d ≡ count_at h d
+  count-refill [] c d x = refl
+  count-refill (None ∷ h) zero d x = refl
+  count-refill (Some cell ∷ h) zero zero x = refl
+  count-refill (Some cell ∷ h) zero (suc d) x = refl
+  count-refill (o ∷ h) (suc c) zero x = refl
+  count-refill (o ∷ h) (suc c) (suc d) x = count-refill h c d x
+
   -- a cell that is counted is there
   pub there : (h : Cells X) (c : ℕ) → 1 ≤ count_at h c → (v : X) × (content_at h c ≡ Some v)
   there [] c le = absurd (omega arith)
@@ -48,6 +56,14 @@ module _ {X : Type 0} where
     uses-take_one (None ∷ h) zero d = refl
     uses-take_one (Some cell ∷ h) zero d = refl
     uses-take_one (o ∷ h) (suc c) d = omega (arith, uses-take_one h c d)
+
+    -- the new content holds in the place of the old one
+    pub uses-refill : (h : Cells X) (c d : ℕ) (v x : X) → content_at h c ≡ Some v → uses refs_in (refill x c h) d + times (refs_in v) d ≡ uses refs_in h d + times (refs_in x) d
+    uses-refill [] c d v x e = cc
+    uses-refill (None ∷ h) zero d v x e = cc
+    uses-refill (Some cell ∷ h) zero d v x e =
+        let f : cell.content ≡ v = cc in omega (arith, ap (λ z. times (refs_in z) d) f)
+    uses-refill (o ∷ h) (suc c) d v x e = omega (arith, uses-refill h c d v x e)
 
     pub uses-make : (h : Cells X) (d : ℕ) (x : X) → uses refs_in (make x h) d ≡ uses refs_in h d + times (refs_in x) d
     uses-make [] d x = omega arith

@@ -19,7 +19,7 @@ use Rattle.c_core.specs.Machine.{Word, BigInt, ObjectCell, set_refs, Frame, Mach
 use Rattle.c_core.specs.Functions.{is_turn, label_places, function_named, entry_words}
 use Rattle.c_core.specs.Primitives.{row_of, primitive_named}
 use Rattle.c_core.specs.Arguments.{stolen}
-use Rattle.c_core.specs.Step.{Next, Goes, Ends, Faulted, Effect, Wrong, Says, Shares, Makes, Writes, Stores, Fails, Pends, Catches, MakesInt, Reads, Skips, Stops, effect, shared, given, with_ledger, with_target, next_line, at_place, literal_word, equals_error, kind_of, function_of, label_at, applied, call_step, entered, jumped, turned, if_return, if_result, if_none_left, step_at, line_at}
+use Rattle.c_core.specs.Step.{Next, Goes, Ends, Faulted, Effect, Wrong, Says, Shares, Makes, Changes, Writes, Stores, Fails, Pends, Catches, MakesInt, Reads, Skips, Stops, effect, shared, given, with_ledger, with_target, next_line, at_place, literal_word, equals_error, kind_of, function_of, label_at, applied, call_step, entered, jumped, turned, if_return, if_result, if_none_left, step_at, line_at}
 use Rattle.c_core.specs.Run.{most_lines}
 use Rattle.c_core.specs.WellFormed.{goes_on, goes_down, jump_fits, is_turn_at, function_fits}
 use Rattle.c_core.proofs.StepCases.{at_some, at_calm, at_word, at_there, at_called, at_function, at_jumped, at_chosen, at_incremented, at_decremented, at_decremented_if_set, at_order, at_ended, at_result}
@@ -229,8 +229,9 @@ module _ (is_checked : Bool) (code : Code) (all : list_all (function_fits code) 
   applied_falls x l gone Wrong on = tt
   applied_falls x l gone (Says w) on = answer_falls x w _ (given_falls is_checked code s gone _ on)
   applied_falls x l gone (Makes content) on = answer_falls x _ _ on
+  applied_falls x l gone (Changes c content w up) on = answer_falls x w _ (given_falls is_checked code s up _ on)
   applied_falls x l gone (Writes text) on = given_falls is_checked code s gone _ on
-  applied_falls x l gone (Shares w) on = answer_falls x w _ (shared_falls w _ on)
+  applied_falls x l gone (Shares w) on = answer_falls x w _ (given_falls is_checked code s gone _ (shared_falls w _ on))
   applied_falls x l gone (Stores n old new) on =
       given_falls is_checked code s (set_refs (old ∷ [])) (record (with_ledger l s) { globals = slice_set s.globals n new }) on
   applied_falls x l gone (Fails w e) on = answer_falls x w _ (given_falls is_checked code s gone _ on)
@@ -253,7 +254,7 @@ module _ (is_checked : Bool) (code : Code) (all : list_all (function_fits code) 
   call_falls : (x : Option ℕ) (name : List ℕ) (args : List CArg) (o : Option Primitive) → To (Goes (next_line s)) → To (call_step is_checked s code x name args o)
   call_falls x name args (Some p) on =
       at_called is_checked s To bad code x args p
-      (λ calm all l left. applied_falls x l (stolen (row_of p).parameters all) (effect code s p all) on)
+      (λ calm all l left there. applied_falls x l (stolen (row_of p).parameters all) (effect code s p all) on)
   call_falls x name args None on =
       at_function is_checked s To bad code x args (function_named code.funcs name)
       (λ f h e found ws. entered_falls x f h (entry_words ws h) found (named_function code.funcs name f h e found) on)

@@ -1,13 +1,14 @@
 -- A step keeps every count equal to the number of places that hold the cell.
-use Rattle.std.proofs.Common.{◌≡◌, refl, sym, ap, subst, ℕ, zero, suc, ◌+◌, arith, Bool, true, false, cond, List, [], ◌∷◌, length, Option, Some, None}
-use Rattle.std.specs.Prelude.{map, not, int_lt, ◌==◌, ◌≤◌, ℤ, pos, ◌&&◌, slice_get, slice_set, is_some, Result, Ok, Err}
+use Rattle.std.proofs.Common.{◌≡◌, refl, sym, ◌∙◌, ap, subst, ℕ, zero, suc, ◌+◌, arith, Bool, true, false, cond, List, [], ◌∷◌, ◌++◌, length, Option, Some, None}
+use Rattle.std.specs.Prelude.{map, not, int_lt, ◌==◌, ◌≤◌, ℤ, pos, negsuc, ◌&&◌, slice_get, slice_set, is_some, Result, Ok, Err}
 use Rattle.std.specs.Ordering.{int_eq}
-use Rattle.std.specs.Option.{option_and_then}
+use Rattle.std.specs.Option.{option_and_then, option_map}
 use Rattle.std.specs.Fmt.{signed_decimal}
 use Rattle.std.specs.Str.{bytes_eq}
 use Rattle.std.specs.Str.Parse.{signed_digits_value}
 use Rattle.value_core.specs.declared.arith.Arith.{Arith}
 use Rattle.value_core.specs.declared.exception.ExcClass.{ExcClass}
+use Rattle.value_core.specs.Characters.{place_of}
 use Rattle.value_core.specs.Arithmetic.{lies_within, is_short, int_add, int_sub, int_mul, int_neg, int_floor_div, int_modulo, int_shl, int_shr, int_to_i64, i64_floor_div, i64_modulo, i64_shl, i64_shr}
 use Rattle.value_core.specs.Exceptions.{Thrown, class_named, is_under}
 use Rattle.value_core.specs.Items as item
@@ -26,35 +27,45 @@ use Rattle.c_core.specs.declared.primitive.Primitive.TheVariants as prim
 use Rattle.c_core.specs.declared.primitive.Int64Prim.TheVariants as int64
 use Rattle.c_core.specs.declared.primitive.TaggedPrim.TheVariants as tagged
 use Rattle.c_core.specs.declared.primitive.BoolPrim.TheVariants as bool
+use Rattle.c_core.specs.declared.primitive.ObjectPrim.TheVariants as object
 use Rattle.c_core.specs.declared.primitive.StrPrim.TheVariants as str
+use Rattle.c_core.specs.declared.primitive.ListPrim.TheVariants as list
+use Rattle.c_core.specs.declared.primitive.TuplePrim.TheVariants as tuple
 use Rattle.c_core.specs.declared.primitive.GlobalPrim.TheVariants as global
 use Rattle.c_core.specs.declared.primitive.ExcPrim.TheVariants as exc
 use Rattle.c_core.specs.declared.primitive.ErrPrim.TheVariants as err
 use Rattle.c_core.specs.declared.primitive.IoPrim.TheVariants as io
-use Rattle.c_core.specs.Cells.{same, times, count_at, content_at, make}
-use Rattle.c_core.specs.Ledgers.{Ledger}
+use Rattle.c_core.specs.Cells.{same, times, count_at, content_at, take_one, refill, make}
+use Rattle.c_core.specs.Ledgers.{Ledger, more, more_of}
 use Rattle.c_core.specs.Release.{uses, release}
-use Rattle.c_core.specs.Machine.{Word, BigInt, Native, CharWord, ObjectCell, Content, IntCell, StrCell, ExcCell, refs_of, refs_in, set_refs, Frame, MachineState}
+use Rattle.c_core.specs.Machine.{Word, ShortInt, BigInt, TaggedError, Native, CharWord, ObjectCell, NoneObject, TrueObject, FalseObject, NoObject, Content, IntCell, StrCell, ListCell, TupleCell, ExcCell, refs_of, refs, refs_in, set_refs, Frame, MachineState}
 use Rattle.c_core.specs.Holders.{pending_refs, owned_below}
 use Rattle.c_core.specs.Functions.{function_named}
-use Rattle.c_core.specs.Primitives.{OfGlobal, Anything, Steals, row_of, primitive_named}
-use Rattle.c_core.specs.Arguments.{Argument, Cell, Plain, Written, int_in, kind_of_global, number_of_global, word_in, stolen}
-use Rattle.c_core.specs.Step.{Next, Goes, Ends, Faulted, Effect, Wrong, Says, Shares, Makes, Writes, Stores, Fails, Pends, Catches, MakesInt, Reads, Skips, Stops, truth_word, native_or, tagged_effect, tagged_or, fitted, written_int, of_int, of_ints, item_or, line_read, global_at, got, stored, set_to, made_exception, pending_exception, matched, caught, took, shared, raise, effect, with_ledger, with_cells, with_target, next_line, own, literal_word, equals_error, kind_of, label_at, applied, given, call_step, turned, if_return, if_result, if_none_left, step_at, line_at, step}
-use Rattle.c_core.specs.Strings.{text_less, text_length, text_item}
+use Rattle.c_core.specs.Primitives.{KindAt, Is, OfGlobal, Holding, Anything, Parameter, Borrows, Steals, MaySteal, TakesNumber, TakesText, TakesException, TakesGlobal, TakesClass, row_of, primitive_named}
+use Rattle.c_core.specs.Arguments.{Argument, Cell, Plain, Written, int_in, kind_of_global, number_of_global, word_in, words_in, stolen_from, stolen}
+use Rattle.c_core.specs.Step.{Next, Goes, Ends, Faulted, Effect, Wrong, Says, Shares, Makes, Changes, Writes, Stores, Fails, Pends, Catches, MakesInt, Reads, Skips, Stops, truth_word, truth_object, native_or, tagged_effect, tagged_or, fitted, written_int, of_int, of_ints, unboxed, native_in, of_word, item_at, put_at, popped, of_words, part_at, item_or, line_read, global_at, got, stored, set_to, made_exception, pending_exception, matched, caught, took, shared, raise, effect, with_ledger, with_cells, with_target, next_line, own, literal_word, equals_error, kind_of, label_at, applied, given, call_step, turned, if_return, if_result, if_none_left, step_at, line_at, step}
+use Rattle.c_core.specs.Strings.{counted_length, text_less, text_length, text_item}
 use Rattle.c_core.specs.Run.{Stop, go_on, start, most_steps}
 use Rattle.c_core.specs.Laws.{IsCounted, IsCountedAfter, Reaches, Here, There, RunKeepsCounts}
+use Rattle.c_core.proofs.Lines.{and_true}
 use Rattle.c_core.proofs.ReleaseLemmas.{times-append, release_keeps}
-use Rattle.c_core.proofs.CountLemmas.{same_self, there, count-make, count-take_one, uses-make, uses-take_one}
+use Rattle.c_core.proofs.CountLemmas.{same_self, there, held-uses, count-make, count-take_one, count-refill, uses-make, uses-take_one, uses-refill}
+use Rattle.c_core.proofs.ItemLemmas.{refs-append, refs-one, refs-at, refs-set, refs-last, last_place}
 use Rattle.c_core.proofs.LedgerLemmas.{more-times, more_of-times}
-use Rattle.c_core.proofs.StepCases.{Leaves, IsCalm, at_some, at_calm, at_word, at_there, at_called, at_function, at_jumped, at_chosen, at_incremented, at_decremented, at_decremented_if_set, at_order, at_ended, at_result}
+use Rattle.c_core.proofs.StepCases.{Leaves, AreThere, IsCalm, at_some, at_calm, at_word, at_there, at_called, at_function, at_jumped, at_chosen, at_incremented, at_decremented, at_decremented_if_set, at_order, at_ended, at_result}
 
--- a primitive makes no references: a new cell holds what was stolen
+-- a cell is there
+abbrev pub HasCell : MachineState → ℕ → Type 0
+HasCell s c = (v : Content) × (content_at s.cells c ≡ Some v)
+
+-- a primitive makes no references: a new cell, and a new content, holds what was stolen
 abbrev pub Fair : MachineState → Effect → List ℕ → Type 0
 Fair s Wrong gone = Unit {0}
 Fair s (Says w) gone = (c : ℕ) → times (refs_of w) c ≡ 0
-Fair s (Shares w) gone =
-    (c : ℕ) → (times gone c ≡ 0) × (times (refs_of w) c ≤ times (set_refs s.globals) c)
+Fair s (Shares w) gone = (c : ℕ) → 1 ≤ times (refs_of w) c → HasCell s c
 Fair s (Makes content) gone = (c : ℕ) → times (refs_in content) c ≡ times gone c
+Fair s (Changes c content w up) gone =
+    (old : Content) × (content_at s.cells c ≡ Some old) × ((d : ℕ) → times (refs_in content) d + (times (refs_of w) d + times up d) ≡ times (refs_in old) d + times gone d)
 Fair s (Writes text) gone = Unit {0}
 Fair s (Stores n old new) gone =
     (slice_get s.globals n ≡ Some old) × ((c : ℕ) → times (set_refs (new ∷ [])) c ≡ times gone c)
@@ -95,12 +106,13 @@ set_global (o ∷ gs) (suc n) old new c e =
     omega (arith, set_global gs n old new c e, set_refs-step o gs c, set_refs-step o (slice_set gs n new) c)
 
 -- the effects of reads and writes, where o is what was found at the number n
-get_fair : (s : MachineState) (name : List ℕ) (k : Option Kind) (n : Option ℕ) (o : Option (Option Word)) → o ≡ option_and_then (slice_get s.globals) n → s.pending ≡ None → Fair s (got name k o) []
-get_fair s name None n o e calm = tt
-get_fair s name (Some k) n None e calm = tt
-get_fair s name (Some k) n (Some None) e calm = calm
-get_fair s name (Some k) None (Some (Some w)) e calm = cc
-get_fair s name (Some k) (Some n) (Some (Some w)) e calm = λ c. (refl, held_global s.globals n w c (sym e))
+get_fair : (s : MachineState) (ok : IsCounted s) (name : List ℕ) (k : Option Kind) (n : Option ℕ) (o : Option (Option Word)) → o ≡ option_and_then (slice_get s.globals) n → s.pending ≡ None → Fair s (got name k o) []
+get_fair s ok name None n o e calm = tt
+get_fair s ok name (Some k) n None e calm = tt
+get_fair s ok name (Some k) n (Some None) e calm = calm
+get_fair s ok name (Some k) None (Some (Some w)) e calm = cc
+get_fair s ok name (Some k) (Some n) (Some (Some w)) e calm =
+    λ c held. there s.cells c (omega (arith, ok c, held, held_global s.globals n w c (sym e)))
 
 store_fair : (s : MachineState) (n : Option ℕ) (o : Option (Option Word)) (new : Option Word) (gone : List ℕ) → o ≡ option_and_then (slice_get s.globals) n → ((c : ℕ) → times (set_refs (new ∷ [])) c ≡ times gone c) → Fair s (stored n o new) gone
 store_fair s None o new gone e is = tt
@@ -140,6 +152,10 @@ fitted_fair : (s : MachineState) (r : Result ℤ Arith) → s.pending ≡ None �
 fitted_fair s (Ok n) calm = λ c. refl
 fitted_fair s (Err f) calm = calm
 
+of_int_fair_any : (s : MachineState) (f : ℤ → Effect) (o : Option ℤ) (gone : List ℕ) → ((n : ℤ) → Fair s (f n) gone) → Fair s (of_int f o) gone
+of_int_fair_any s f None gone each = tt
+of_int_fair_any s f (Some n) gone each = each n
+
 of_int_fair : (s : MachineState) (f : ℤ → Effect) (o : Option ℤ) → ((n : ℤ) → Fair s (f n) []) → Fair s (of_int f o) []
 of_int_fair s f None each = tt
 of_int_fair s f (Some n) each = each n
@@ -157,6 +173,121 @@ test_fair s f a b = of_ints_fair s _ (int_in a) (int_in b) (λ m n. truth_fair (
 item_fair : (s : MachineState) (o : Option (List ℕ)) → s.pending ≡ None → Fair s (item_or o) []
 item_fair s None calm = calm
 item_fair s (Some text) calm = λ c. refl
+
+-- ---- cells with words
+same_cell : (c d : ℕ) → 1 ≤ same c d → d ≡ c
+same_cell zero zero le = refl
+same_cell zero (suc d) le = absurd (omega (arith, le))
+same_cell (suc c) zero le = absurd (omega (arith, le))
+same_cell (suc c) (suc d) le = ap suc (same_cell c d le)
+
+-- the references of a content that is there are to cells that are there
+item_there : (s : MachineState) (ok : IsCounted s) (c d : ℕ) (v : Content) → content_at s.cells c ≡ Some v → 1 ≤ times (refs_in v) d → HasCell s d
+item_there s ok c d v e held = there s.cells d (omega (arith, ok d, held-uses refs_in s.cells c d v e, held))
+
+cell_there : (s : MachineState) (c : ℕ) (v : Content) → content_at s.cells c ≡ Some v → (d : ℕ) → 1 ≤ same c d + 0 → HasCell s d
+cell_there s c v e d held = (v, ap (content_at s.cells) (same_cell c d (omega (arith, held))) ∙ e)
+
+of_word_fair : (s : MachineState) (f : Word → Effect) (gone : List ℕ) (o : Option Word) → ((w : Word) → o ≡ Some w → Fair s (f w) gone) → Fair s (of_word f o) gone
+of_word_fair s f gone None each = tt
+of_word_fair s f gone (Some w) each = each w refl
+
+-- a word that was stolen has the references that left the ledger
+given_fair : (s : MachineState) (f : Word → Effect) (a : Argument) → ((w : Word) (gone : List ℕ) → ((d : ℕ) → times (refs_of w) d ≡ times gone d) → Fair s (f w) gone) → Fair s (of_word f (word_in Object a)) (stolen_from (Steals (Is Object) Anything) a ++ [])
+given_fair s f (Cell c x) each = each (ObjectCell c) _ (λ d. refl)
+given_fair s f (Plain (BigInt c)) each = tt
+given_fair s f (Plain (ObjectCell c)) each = tt
+given_fair s f (Plain w) each = each w [] (λ d. refl)
+given_fair s f (Written a) each = tt
+
+append_fair : (s : MachineState) (c : ℕ) (items : List Word) → content_at s.cells c ≡ Some (ListCell items) → (w : Word) (gone : List ℕ) → ((d : ℕ) → times (refs_of w) d ≡ times gone d) → Fair s (Changes c (ListCell (items ++ w ∷ [])) NoneObject []) gone
+append_fair s c items e w gone is =
+    (ListCell items, e, λ d. omega (arith, is d, refs-append items (w ∷ []) d, refs-one w d))
+
+item_at_fair : (s : MachineState) (ok : IsCounted s) (c : ℕ) (items : List Word) → content_at s.cells c ≡ Some (ListCell items) → s.pending ≡ None → (o : Option ℕ) → Fair s (item_at o items) []
+item_at_fair s ok c items e calm None = calm
+item_at_fair s ok c items e calm (Some i) =
+    of_word_fair s Shares [] (slice_get items i) (λ w at d held. item_there s ok c d (ListCell items) e (omega (arith, held, refs-at items i w d at)))
+
+-- what a word of a stolen object refers to has left the ledger
+abbrev steals : Parameter → Bool
+steals (Steals k h) = true
+steals (MaySteal k h) = true
+steals _ = false
+
+abbrev all_steal : List Parameter → Bool
+all_steal [] = true
+all_steal (p ∷ ps) = steals p && all_steal ps
+
+refs_lost : (k : KindAt) (h : Holding) (a : Argument) (w : Word) (d : ℕ) → word_in Object a ≡ Some w → times (refs_of w) d ≡ times (stolen_from (Steals k h) a) d
+refs_lost k h (Cell c x) w d e = let g : ObjectCell c ≡ w = cc in ap (λ z. times (refs_of z) d) (sym g)
+refs_lost k h (Plain (BigInt c)) w d e = cc
+refs_lost k h (Plain (ObjectCell c)) w d e = cc
+refs_lost k h (Plain (ShortInt n)) w d e = let g : ShortInt n ≡ w = cc in ap (λ z. times (refs_of z) d) (sym g)
+refs_lost k h (Plain TaggedError) w d e = let g : TaggedError ≡ w = cc in ap (λ z. times (refs_of z) d) (sym g)
+refs_lost k h (Plain (Native n)) w d e = let g : Native n ≡ w = cc in ap (λ z. times (refs_of z) d) (sym g)
+refs_lost k h (Plain (CharWord n)) w d e = let g : CharWord n ≡ w = cc in ap (λ z. times (refs_of z) d) (sym g)
+refs_lost k h (Plain NoneObject) w d e = let g : NoneObject ≡ w = cc in ap (λ z. times (refs_of z) d) (sym g)
+refs_lost k h (Plain TrueObject) w d e = let g : TrueObject ≡ w = cc in ap (λ z. times (refs_of z) d) (sym g)
+refs_lost k h (Plain FalseObject) w d e = let g : FalseObject ≡ w = cc in ap (λ z. times (refs_of z) d) (sym g)
+refs_lost k h (Plain NoObject) w d e = let g : NoObject ≡ w = cc in ap (λ z. times (refs_of z) d) (sym g)
+refs_lost k h (Written a) w d e = cc
+
+word_lost : (p : Parameter) (a : Argument) (w : Word) (d : ℕ) → steals p ≡ true → word_in Object a ≡ Some w → times (refs_of w) d ≡ times (stolen_from p a) d
+word_lost (Steals k h) a w d s e = refs_lost k h a w d e
+word_lost (MaySteal k h) a w d s e = refs_lost k h a w d e
+word_lost (Borrows k h) a w d s e = cc
+word_lost TakesNumber a w d s e = cc
+word_lost TakesText a w d s e = cc
+word_lost TakesException a w d s e = cc
+word_lost TakesGlobal a w d s e = cc
+word_lost TakesClass a w d s e = cc
+
+-- the words that are put into a tuple are what was stolen
+pack_by : (s : MachineState) (ps : List Parameter) (all : List Argument) (gone : List ℕ) → AreThere s ps all → all_steal ps ≡ true → (f : List Word → Effect) → ((ws : List Word) → ((d : ℕ) → times (refs ws) d ≡ times (stolen ps all) d) → Fair s (f ws) gone) → Fair s (of_words f (words_in all)) gone
+pack_by s [] [] gone here steal f each = each [] (λ d. refl)
+pack_by s (p ∷ ps) [] gone here steal f each = each [] (λ d. refl)
+pack_by s [] (a ∷ rest) gone here steal f each = absurd here
+pack_by s (p ∷ ps) (a ∷ rest) gone here steal f each =
+    by (word_in Object a) refl (pack_by s ps rest gone here.1 (and_true (steals p) (all_steal ps) steal).1)
+  where
+    both : (steals p ≡ true) × (all_steal ps ≡ true)
+    both = and_true (steals p) (all_steal ps) steal
+
+    rests : (o : Option (List Word)) → (w : Word) → Fair s (of_words (λ ws. f (w ∷ ws)) o) gone → Fair s (of_words f (option_map (λ ws. w ∷ ws) o)) gone
+    rests None w h = h
+    rests (Some ws) w h = h
+
+    by : (o : Option Word) → word_in Object a ≡ o → ((g : List Word → Effect) → ((ws : List Word) → ((d : ℕ) → times (refs ws) d ≡ times (stolen ps rest) d) → Fair s (g ws) gone) → Fair s (of_words g (words_in rest)) gone) → Fair s (of_words f (option_and_then (λ w. option_map (λ ws. w ∷ ws) (words_in rest)) o)) gone
+    by None is later = tt
+    by (Some w) is later =
+        rests (words_in rest) w (later (λ ws. f (w ∷ ws)) (λ ws h. each (w ∷ ws) (λ d. omega (arith, h d, word_lost p a w d both.0 is, times-append (refs_of w) (refs ws) d, times-append (stolen_from p a) (stolen ps rest) d))))
+
+part_fair : (s : MachineState) (ok : IsCounted s) (c : ℕ) (items : List Word) → content_at s.cells c ≡ Some (TupleCell items) → (n : ℤ) → Fair s (part_at items n) []
+part_fair s ok c items e (pos i) =
+    of_word_fair s Shares [] (slice_get items i) (λ w at d held. item_there s ok c d (TupleCell items) e (omega (arith, held, refs-at items i w d at)))
+part_fair s ok c items e (negsuc i) = tt
+
+put_fair : (s : MachineState) (c : ℕ) (items : List Word) → content_at s.cells c ≡ Some (ListCell items) → s.pending ≡ None → (o : Option ℕ) (w : Word) (gone : List ℕ) → ((d : ℕ) → times (refs_of w) d ≡ times gone d) → Fair s (put_at c o items w) gone
+put_fair s c items e calm None w gone is = calm
+put_fair s c items e calm (Some i) w gone is =
+    of_word_fair s _ gone (slice_get items i) (λ old at. (ListCell items, e, λ d. omega (arith, is d, refs-set items i old w d at)))
+
+popped_fair : (s : MachineState) (c : ℕ) (items : List Word) → content_at s.cells c ≡ Some (ListCell items) → s.pending ≡ None → (o : Option ℕ) → place_of (length items) (negsuc 0) ≡ o → Fair s (popped c o items) []
+popped_fair s c items e calm None last = calm
+popped_fair s c items e calm (Some i) last =
+    of_word_fair s _ [] (slice_get items i) (λ w at. (ListCell items, e, λ d. omega (arith, refs-last items i w d at (last_place (length items) i last))))
+
+unboxed_fair : (s : MachineState) (c : ℕ) (n : ℤ) → content_at s.cells c ≡ Some (IntCell n) → Fair s (unboxed c n) []
+unboxed_fair s c n e = choice_fair s (is_short n) _ _ (λ d. refl) (cell_there s c (IntCell n) e)
+
+native_in_fair : (s : MachineState) (r : Result ℤ Arith) → Fair s (native_in r) []
+native_in_fair s (Ok n) = λ c. refl
+native_in_fair s (Err f) = tt
+
+object_fair : (n c : ℕ) → times (refs_of (truth_object n)) c ≡ 0
+object_fair zero c = refl
+object_fair (suc n) c = refl
 
 line_fair : (s : MachineState) (items : Items) → s.pending ≡ None → Fair s (line_read items) []
 line_fair s item.Eof calm = calm
@@ -178,62 +309,87 @@ caught_fair : (s : MachineState) (o : Option ℕ) → s.pending ≡ o → Fair s
 caught_fair s None e = tt
 caught_fair s (Some c) e = (e, λ d. refl)
 
-fair : (code : Code) (s : MachineState) (p : Primitive) (all : List Argument) → IsCalm s (row_of p).while_pending → Fair s (effect code s p all) (stolen (row_of p).parameters all)
-fair code s (prim.Int64 int64.Add) (Plain (Native a) ∷ Plain (Native b) ∷ []) calm = λ c. refl
-fair code s (prim.Int64 int64.Subtract) (Plain (Native a) ∷ Plain (Native b) ∷ []) calm = λ c. refl
-fair code s (prim.Int64 int64.Multiply) (Plain (Native a) ∷ Plain (Native b) ∷ []) calm = λ c. refl
-fair code s (prim.Int64 int64.Negate) (Plain (Native a) ∷ []) calm = λ c. refl
-fair code s (prim.Int64 int64.FloorDivide) (Plain (Native a) ∷ Plain (Native b) ∷ []) calm = native_fair s (i64_floor_div a b) (calm refl)
-fair code s (prim.Int64 int64.Remainder) (Plain (Native a) ∷ Plain (Native b) ∷ []) calm = native_fair s (i64_modulo a b) (calm refl)
-fair code s (prim.Int64 int64.Lshift) (Plain (Native a) ∷ Plain (Native b) ∷ []) calm = native_fair s (i64_shl a b) (calm refl)
-fair code s (prim.Int64 int64.Rshift) (Plain (Native a) ∷ Plain (Native b) ∷ []) calm = native_fair s (i64_shr a b) (calm refl)
-fair code s (prim.Int64 int64.FromBool) (Plain (CharWord n) ∷ []) calm = λ c. refl
-fair code s (prim.Int64 int64.Eq) (Plain (Native a) ∷ Plain (Native b) ∷ []) calm = truth_fair (int_eq a b)
-fair code s (prim.Int64 int64.Lt) (Plain (Native a) ∷ Plain (Native b) ∷ []) calm = truth_fair (int_lt a b)
-fair code s (prim.Int64 int64.Le) (Plain (Native a) ∷ Plain (Native b) ∷ []) calm = truth_fair (not (int_lt b a))
-fair code s (prim.Int64 int64.Str) (Plain (Native a) ∷ []) calm = λ c. refl
-fair code s (prim.Tagged tagged.Add) (a ∷ b ∷ []) calm = sum_fair s int_add a b (calm refl)
-fair code s (prim.Tagged tagged.Subtract) (a ∷ b ∷ []) calm = sum_fair s int_sub a b (calm refl)
-fair code s (prim.Tagged tagged.Multiply) (a ∷ b ∷ []) calm = sum_fair s int_mul a b (calm refl)
-fair code s (prim.Tagged tagged.Negate) (a ∷ []) calm = of_int_fair s _ (int_in a) (λ n. tagged_or_fair s (int_neg n) (calm refl))
-fair code s (prim.Tagged tagged.FloorDivide) (a ∷ b ∷ []) calm = sum_fair s int_floor_div a b (calm refl)
-fair code s (prim.Tagged tagged.Remainder) (a ∷ b ∷ []) calm = sum_fair s int_modulo a b (calm refl)
-fair code s (prim.Tagged tagged.Lshift) (a ∷ b ∷ []) calm = sum_fair s int_shl a b (calm refl)
-fair code s (prim.Tagged tagged.Rshift) (a ∷ b ∷ []) calm = sum_fair s int_shr a b (calm refl)
-fair code s (prim.Tagged tagged.FromText) (Written (arg.Text text) ∷ []) calm = written_fair s text (signed_digits_value 10 text)
-fair code s (prim.Tagged tagged.FromInt64) (Plain (Native n) ∷ []) calm = tagged_fair s n
-fair code s (prim.Tagged tagged.FromBool) (Plain (CharWord n) ∷ []) calm = tagged_fair s (pos n)
-fair code s (prim.Tagged tagged.AsInt64) (a ∷ []) calm = of_int_fair s _ (int_in a) (λ n. fitted_fair s (int_to_i64 n) (calm refl))
-fair code s (prim.Tagged tagged.Eq) (a ∷ b ∷ []) calm = test_fair s int_eq a b
-fair code s (prim.Tagged tagged.Lt) (a ∷ b ∷ []) calm = test_fair s int_lt a b
-fair code s (prim.Tagged tagged.Le) (a ∷ b ∷ []) calm = test_fair s (λ m n. not (int_lt n m)) a b
-fair code s (prim.Tagged tagged.Str) (a ∷ []) calm = of_int_fair s _ (int_in a) (λ n c. refl)
-fair code s (prim.Bool bool.Not) (Plain (CharWord n) ∷ []) calm = truth_fair (n == 0)
-fair code s (prim.Bool bool.Str) (Plain (CharWord n) ∷ []) calm = λ c. refl
-fair code s (prim.Str str.Literal) (Written (arg.Text text) ∷ []) calm = λ c. refl
-fair code s (prim.Str str.Concat) (Cell c (StrCell a) ∷ Cell d (StrCell b) ∷ []) calm = λ e. refl
-fair code s (prim.Str str.Eq) (Cell c (StrCell a) ∷ Cell d (StrCell b) ∷ []) calm = truth_fair (bytes_eq a b)
-fair code s (prim.Str str.Lt) (Cell c (StrCell a) ∷ Cell d (StrCell b) ∷ []) calm = truth_fair (text_less a b)
-fair code s (prim.Str str.Le) (Cell c (StrCell a) ∷ Cell d (StrCell b) ∷ []) calm = truth_fair (not (text_less b a))
-fair code s (prim.Str str.Len) (Cell c (StrCell text) ∷ []) calm = tagged_fair s (text_length text)
-fair code s (prim.Str str.GetItem) (Cell c (StrCell text) ∷ a ∷ []) calm =
+fair : (code : Code) (s : MachineState) (ok : IsCounted s) (p : Primitive) (all : List Argument) → IsCalm s (row_of p).while_pending → AreThere s (row_of p).parameters all → Fair s (effect code s p all) (stolen (row_of p).parameters all)
+fair code s ok (prim.Int64 int64.Add) (Plain (Native a) ∷ Plain (Native b) ∷ []) calm here = λ c. refl
+fair code s ok (prim.Int64 int64.Subtract) (Plain (Native a) ∷ Plain (Native b) ∷ []) calm here = λ c. refl
+fair code s ok (prim.Int64 int64.Multiply) (Plain (Native a) ∷ Plain (Native b) ∷ []) calm here = λ c. refl
+fair code s ok (prim.Int64 int64.Negate) (Plain (Native a) ∷ []) calm here = λ c. refl
+fair code s ok (prim.Int64 int64.FloorDivide) (Plain (Native a) ∷ Plain (Native b) ∷ []) calm here = native_fair s (i64_floor_div a b) (calm refl)
+fair code s ok (prim.Int64 int64.Remainder) (Plain (Native a) ∷ Plain (Native b) ∷ []) calm here = native_fair s (i64_modulo a b) (calm refl)
+fair code s ok (prim.Int64 int64.Lshift) (Plain (Native a) ∷ Plain (Native b) ∷ []) calm here = native_fair s (i64_shl a b) (calm refl)
+fair code s ok (prim.Int64 int64.Rshift) (Plain (Native a) ∷ Plain (Native b) ∷ []) calm here = native_fair s (i64_shr a b) (calm refl)
+fair code s ok (prim.Int64 int64.FromBool) (Plain (CharWord n) ∷ []) calm here = λ c. refl
+fair code s ok (prim.Int64 int64.Eq) (Plain (Native a) ∷ Plain (Native b) ∷ []) calm here = truth_fair (int_eq a b)
+fair code s ok (prim.Int64 int64.Lt) (Plain (Native a) ∷ Plain (Native b) ∷ []) calm here = truth_fair (int_lt a b)
+fair code s ok (prim.Int64 int64.Le) (Plain (Native a) ∷ Plain (Native b) ∷ []) calm here = truth_fair (not (int_lt b a))
+fair code s ok (prim.Int64 int64.Str) (Plain (Native a) ∷ []) calm here = λ c. refl
+fair code s ok (prim.Int64 int64.Box) (Plain (Native a) ∷ []) calm here = λ c. refl
+fair code s ok (prim.Int64 int64.Unbox) (Cell c (IntCell n) ∷ []) calm here = native_in_fair s (int_to_i64 n)
+fair code s ok (prim.Tagged tagged.Add) (a ∷ b ∷ []) calm here = sum_fair s int_add a b (calm refl)
+fair code s ok (prim.Tagged tagged.Subtract) (a ∷ b ∷ []) calm here = sum_fair s int_sub a b (calm refl)
+fair code s ok (prim.Tagged tagged.Multiply) (a ∷ b ∷ []) calm here = sum_fair s int_mul a b (calm refl)
+fair code s ok (prim.Tagged tagged.Negate) (a ∷ []) calm here = of_int_fair s _ (int_in a) (λ n. tagged_or_fair s (int_neg n) (calm refl))
+fair code s ok (prim.Tagged tagged.FloorDivide) (a ∷ b ∷ []) calm here = sum_fair s int_floor_div a b (calm refl)
+fair code s ok (prim.Tagged tagged.Remainder) (a ∷ b ∷ []) calm here = sum_fair s int_modulo a b (calm refl)
+fair code s ok (prim.Tagged tagged.Lshift) (a ∷ b ∷ []) calm here = sum_fair s int_shl a b (calm refl)
+fair code s ok (prim.Tagged tagged.Rshift) (a ∷ b ∷ []) calm here = sum_fair s int_shr a b (calm refl)
+fair code s ok (prim.Tagged tagged.FromText) (Written (arg.Text text) ∷ []) calm here = written_fair s text (signed_digits_value 10 text)
+fair code s ok (prim.Tagged tagged.FromInt64) (Plain (Native n) ∷ []) calm here = tagged_fair s n
+fair code s ok (prim.Tagged tagged.FromBool) (Plain (CharWord n) ∷ []) calm here = tagged_fair s (pos n)
+fair code s ok (prim.Tagged tagged.AsInt64) (a ∷ []) calm here = of_int_fair s _ (int_in a) (λ n. fitted_fair s (int_to_i64 n) (calm refl))
+fair code s ok (prim.Tagged tagged.Eq) (a ∷ b ∷ []) calm here = test_fair s int_eq a b
+fair code s ok (prim.Tagged tagged.Lt) (a ∷ b ∷ []) calm here = test_fair s int_lt a b
+fair code s ok (prim.Tagged tagged.Le) (a ∷ b ∷ []) calm here = test_fair s (λ m n. not (int_lt n m)) a b
+fair code s ok (prim.Tagged tagged.Str) (a ∷ []) calm here = of_int_fair s _ (int_in a) (λ n c. refl)
+fair code s ok (prim.Tagged tagged.Box) (Plain (ShortInt n) ∷ []) calm here = λ c. refl
+fair code s ok (prim.Tagged tagged.Box) (Cell c (IntCell n) ∷ []) calm here = cell_there s c (IntCell n) here.0
+fair code s ok (prim.Tagged tagged.Unbox) (Cell c (IntCell n) ∷ []) calm here = unboxed_fair s c n here.0
+fair code s ok (prim.Bool bool.Not) (Plain (CharWord n) ∷ []) calm here = truth_fair (n == 0)
+fair code s ok (prim.Bool bool.Str) (Plain (CharWord n) ∷ []) calm here = λ c. refl
+fair code s ok (prim.Bool bool.Box) (Plain (CharWord n) ∷ []) calm here = object_fair n
+fair code s ok (prim.Bool bool.Unbox) (Plain TrueObject ∷ []) calm here = λ c. refl
+fair code s ok (prim.Bool bool.Unbox) (Plain FalseObject ∷ []) calm here = λ c. refl
+fair code s ok (prim.Object object.IsNone) (Plain NoneObject ∷ []) calm here = λ c. refl
+fair code s ok (prim.Object object.IsNone) (a ∷ []) calm here = λ c. refl
+fair code s ok (prim.Str str.Literal) (Written (arg.Text text) ∷ []) calm here = λ c. refl
+fair code s ok (prim.Str str.Concat) (Cell c (StrCell a) ∷ Cell d (StrCell b) ∷ []) calm here = λ e. refl
+fair code s ok (prim.Str str.Eq) (Cell c (StrCell a) ∷ Cell d (StrCell b) ∷ []) calm here = truth_fair (bytes_eq a b)
+fair code s ok (prim.Str str.Lt) (Cell c (StrCell a) ∷ Cell d (StrCell b) ∷ []) calm here = truth_fair (text_less a b)
+fair code s ok (prim.Str str.Le) (Cell c (StrCell a) ∷ Cell d (StrCell b) ∷ []) calm here = truth_fair (not (text_less b a))
+fair code s ok (prim.Str str.Len) (Cell c (StrCell text) ∷ []) calm here = tagged_fair s (text_length text)
+fair code s ok (prim.Str str.GetItem) (Cell c (StrCell text) ∷ a ∷ []) calm here =
     of_int_fair s _ (int_in a) (λ i. item_fair s (text_item text i) (calm refl))
-fair code s (prim.Global global.Get) (Written (arg.Global name) ∷ []) calm =
-    get_fair s name (kind_of_global code name) (number_of_global code name) (global_at code s name) refl (calm refl)
-fair code s (prim.Global global.Set) (Written (arg.Global name) ∷ a ∷ []) calm =
+fair code s ok (prim.List list.New) [] calm here = λ c. refl
+fair code s ok (prim.List list.Append) (Cell c (ListCell items) ∷ a ∷ []) calm here =
+    given_fair s _ a (append_fair s c items here.0)
+fair code s ok (prim.List list.GetItem) (Cell c (ListCell items) ∷ a ∷ []) calm here =
+    of_int_fair s _ (int_in a) (λ i. item_at_fair s ok c items here.0 (calm refl) (place_of (length items) i))
+fair code s ok (prim.List list.SetItem) (Cell c (ListCell items) ∷ a ∷ b ∷ []) calm here =
+    of_int_fair_any s _ (int_in a) _ (λ i. given_fair s _ b (put_fair s c items here.0 (calm refl) (place_of (length items) i)))
+fair code s ok (prim.List list.Pop) (Cell c (ListCell items) ∷ []) calm here =
+    popped_fair s c items here.0 (calm refl) (place_of (length items) (negsuc 0)) refl
+fair code s ok (prim.List list.Len) (Cell c (ListCell items) ∷ []) calm here = tagged_fair s (pos (counted_length (length items)))
+fair code s ok (prim.Tuple tuple.Pack) all calm here =
+    pack_by s (row_of (prim.Tuple tuple.Pack)).parameters all _ here refl (λ ws. Makes (TupleCell ws)) (λ ws h. h)
+fair code s ok (prim.Tuple tuple.GetItem) (Cell c (TupleCell items) ∷ Written (arg.Number n) ∷ []) calm here =
+    part_fair s ok c items here.0 n
+fair code s ok (prim.Tuple tuple.Len) (Cell c (TupleCell items) ∷ []) calm here = tagged_fair s (pos (counted_length (length items)))
+fair code s ok (prim.Global global.Get) (Written (arg.Global name) ∷ []) calm here =
+    get_fair s ok name (kind_of_global code name) (number_of_global code name) (global_at code s name) refl (calm refl)
+fair code s ok (prim.Global global.Set) (Written (arg.Global name) ∷ a ∷ []) calm here =
     set_fair s (number_of_global code name) (global_at code s name) (kind_of_global code name) a refl
-fair code s (prim.Global global.Clear) (Written (arg.Global name) ∷ []) calm =
+fair code s ok (prim.Global global.Clear) (Written (arg.Global name) ∷ []) calm here =
     store_fair s (number_of_global code name) (global_at code s name) None [] refl (λ c. refl)
-fair code s (prim.Exc exc.New) (Written (arg.Text name) ∷ Cell c (StrCell text) ∷ []) calm = made_fair s (class_named name) text
-fair code s (prim.Exc exc.Str) (Cell c (ExcCell e) ∷ []) calm = λ d. refl
-fair code s (prim.Err err.SetObject) (Cell c (ExcCell e) ∷ []) calm = (calm refl, λ d. omega arith)
-fair code s (prim.Err err.Unbound) (Written (arg.Text name) ∷ []) calm = calm refl
-fair code s (prim.Err err.Occurred) [] calm = truth_fair (is_some s.pending)
-fair code s (prim.Err err.Matches) (Written (arg.Text name) ∷ []) calm = matched_fair s (class_named name) (pending_exception s)
-fair code s (prim.Err err.Catch) [] calm = caught_fair s s.pending refl
-fair code s (prim.Io io.Write) (Cell c (StrCell text) ∷ []) calm = tt
-fair code s (prim.Io io.Input) [] calm = line_fair s s.items (calm refl)
-fair code s _ _ calm = tt
+fair code s ok (prim.Exc exc.New) (Written (arg.Text name) ∷ Cell c (StrCell text) ∷ []) calm here = made_fair s (class_named name) text
+fair code s ok (prim.Exc exc.Str) (Cell c (ExcCell e) ∷ []) calm here = λ d. refl
+fair code s ok (prim.Err err.SetObject) (Cell c (ExcCell e) ∷ []) calm here = (calm refl, λ d. omega arith)
+fair code s ok (prim.Err err.Unbound) (Written (arg.Text name) ∷ []) calm here = calm refl
+fair code s ok (prim.Err err.Occurred) [] calm here = truth_fair (is_some s.pending)
+fair code s ok (prim.Err err.Matches) (Written (arg.Text name) ∷ []) calm here = matched_fair s (class_named name) (pending_exception s)
+fair code s ok (prim.Err err.Catch) [] calm here = caught_fair s s.pending refl
+fair code s ok (prim.Io io.Write) (Cell c (StrCell text) ∷ []) calm here = tt
+fair code s ok (prim.Io io.Input) [] calm here = line_fair s s.items (calm refl)
+fair code s ok _ _ calm here = tt
 
 module _ (s : MachineState) (ok : IsCounted s) where
   bad : (f : Fault) → IsCountedAfter (Ends (Faulted f) s)
@@ -259,14 +415,28 @@ module _ (s : MachineState) (ok : IsCounted s) where
   took_kept c x l e left d =
       omega (arith, ok d, left d, more-times c l d, count-take_one s.cells c d x e, uses-take_one refs_in s.cells c d)
 
-  held_kept : (c : ℕ) (l : Ledger) → 1 ≤ times (set_refs s.globals) c → ((d : ℕ) → times s.top.ledger d ≡ times l d) → IsCounted (took c (with_ledger l s))
-  held_kept c l held left =
-      let here = there s.cells c (omega (arith, ok c, held)) in took_kept c here.0 l here.1 left
+  -- and then what was stolen is given up
+  taken_given : (c : ℕ) (l : Ledger) (gone : List ℕ) → Leaves s.top.ledger gone l → HasCell s c → IsCounted (given true s gone (took c (with_ledger l s)))
+  taken_given c l gone left here d =
+      let cells = take_one c s.cells in
+      let others : ℕ = times (set_refs s.globals) d + (times (pending_refs s.pending) d + (times (more c l) d + owned_below s.below d)) in
+      let before : count_at cells d ≡ uses refs_in cells d + times gone d + others =
+      omega (arith, ok d, left d, more-times c l d, count-take_one s.cells c d here.0 here.1, uses-take_one refs_in s.cells c d) in
+      omega (arith, release_keeps refs_in cells gone d others before)
 
-  shared_kept : (w : Word) (l : Ledger) → ((c : ℕ) → times (refs_of w) c ≤ times (set_refs s.globals) c) → ((d : ℕ) → times s.top.ledger d ≡ times l d) → IsCounted (shared w (with_ledger l s))
-  shared_kept (BigInt c) l held left = held_kept c l (omega (arith, held c, same_self c)) left
-  shared_kept (ObjectCell c) l held left = held_kept c l (omega (arith, held c, same_self c)) left
-  shared_kept w l held left = λ d. omega (arith, ok d, left d)
+  shared_kept : (w : Word) (l : Ledger) (gone : List ℕ) → Leaves s.top.ledger gone l → Fair s (Shares w) gone → IsCounted (given true s gone (shared w (with_ledger l s)))
+  shared_kept (BigInt c) l gone left held = taken_given c l gone left (held c (omega (arith, same_self c)))
+  shared_kept (ObjectCell c) l gone left held = taken_given c l gone left (held c (omega (arith, same_self c)))
+  shared_kept w l gone left held = λ d. omega (arith, all_given l gone left d)
+
+  -- a cell has another content, and what neither that nor the ledger holds is given up
+  changed_kept : (c : ℕ) (content : Content) (w : Word) (up : List ℕ) (l : Ledger) (gone : List ℕ) → Leaves s.top.ledger gone l → Fair s (Changes c content w up) gone → IsCounted (given true s up (with_cells (refill content c s.cells) (with_ledger (more_of (refs_of w) l) s)))
+  changed_kept c content w up l gone left fair d =
+      let cells = refill content c s.cells in
+      let others : ℕ = times (set_refs s.globals) d + (times (pending_refs s.pending) d + (times (more_of (refs_of w) l) d + owned_below s.below d)) in
+      let before : count_at cells d ≡ uses refs_in cells d + times up d + others =
+      omega (arith, ok d, left d, fair.2 d, more_of-times (refs_of w) l d, count-refill s.cells c d content, uses-refill refs_in s.cells c d fair.0 content fair.1) in
+      omega (arith, release_keeps refs_in cells up d others before)
 
   -- what a global held is given up, and what it holds now left the ledger
   stored_kept : (n : ℕ) (old new : Option Word) (l : Ledger) (gone : List ℕ) → Leaves s.top.ledger gone l → Fair s (Stores n old new) gone → IsCounted (given true s (set_refs (old ∷ [])) (record (with_ledger l s) { globals = slice_set s.globals n new }))
@@ -288,8 +458,8 @@ module _ (s : MachineState) (ok : IsCounted s) where
       target_kept x w _ (λ d. omega (arith, all_given l gone left d))
   applied_kept x l gone (Makes content) left f = target_kept x (ObjectCell (length s.cells)) _ (made_kept l gone content left f)
   applied_kept x l gone (Writes text) left f = λ d. omega (arith, all_given l gone left d)
-  applied_kept x l gone (Shares w) left f =
-      target_kept x w _ (shared_kept w l (λ c. (f c).1) (λ d. omega (arith, left d, (f d).0)))
+  applied_kept x l gone (Shares w) left f = target_kept x w _ (shared_kept w l gone left f)
+  applied_kept x l gone (Changes c content w up) left f = target_kept x w _ (changed_kept c content w up l gone left f)
   applied_kept x l gone (Stores n old new) left f = stored_kept n old new l gone left f
   applied_kept x l gone (Fails w e) left f = target_kept x w _ (raised_kept e l gone left f)
   applied_kept x l gone (Pends c) left f =
@@ -319,7 +489,7 @@ module _ (s : MachineState) (ok : IsCounted s) (code : Code) where
   call_kept : (x : Option ℕ) (name : List ℕ) (args : List CArg) (o : Option Primitive) → IsCountedAfter (call_step true s code x name args o)
   call_kept x name args (Some p) =
       at_called true s IsCountedAfter (bad s ok) code x args p
-      (λ calm all l left. applied_kept s ok x l (stolen (row_of p).parameters all) (effect code s p all) (left refl) (fair code s p all calm))
+      (λ calm all l left here. applied_kept s ok x l (stolen (row_of p).parameters all) (effect code s p all) (left refl) (fair code s ok p all calm here))
   call_kept x name args None =
       at_function true s IsCountedAfter (bad s ok) code x args (function_named code.funcs name) (λ f g e is ws c. omega (arith, ok c))
 

@@ -15,3 +15,5 @@ pub mod Bounds
 pub mod WellFormedLemmas
 pub mod NameLemmas
 pub mod IndexLemmas
+pub mod ItemLemmas
+pub mod ListExamples

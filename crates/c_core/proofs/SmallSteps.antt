@@ -8,16 +8,16 @@ use Rattle.c_core.specs.declared.code.Code.{Code}
 use Rattle.c_core.specs.declared.primitive.Primitive.{Primitive}
 use Rattle.c_core.specs.declared.fault.Fault.{Fault}
 use Rattle.c_core.specs.declared.fault.Fault.TheVariants as fault
-use Rattle.c_core.specs.Cells.{Cell, Cells, same, counted, count_at, content_at, one_less, change, lowered, raised, take_one, make}
+use Rattle.c_core.specs.Cells.{Cell, Cells, same, counted, count_at, content_at, one_less, change, lowered, raised, refilled, take_one, refill, make}
 use Rattle.c_core.specs.Ledgers.{Ledger}
 use Rattle.c_core.specs.Release.{after, freed, weight, release_some, release}
 use Rattle.c_core.specs.Machine.{Word, BigInt, ObjectCell, Content, IntCell, StrCell, ExcCell, set_refs, refs_in, Frame, MachineState}
 use Rattle.c_core.specs.Functions.{function_named}
 use Rattle.c_core.specs.Primitives.{row_of, primitive_named}
 use Rattle.c_core.specs.Arguments.{stolen}
-use Rattle.c_core.specs.Step.{Next, Ends, Faulted, Effect, Wrong, Says, Shares, Makes, Writes, Stores, Fails, Pends, Catches, MakesInt, Reads, Skips, Stops, effect, shared, with_ledger, with_cells, with_target, next_line, own, given, literal_word, equals_error, kind_of, label_at, applied, call_step, turned, if_return, if_result, if_none_left, step_at, line_at, step}
+use Rattle.c_core.specs.Step.{Next, Ends, Faulted, Effect, Wrong, Says, Shares, Makes, Changes, Writes, Stores, Fails, Pends, Catches, MakesInt, Reads, Skips, Stops, effect, shared, with_ledger, with_cells, with_target, next_line, own, given, literal_word, equals_error, kind_of, label_at, applied, call_step, turned, if_return, if_result, if_none_left, step_at, line_at, step}
 use Rattle.c_core.specs.Laws.{state_after, StepStaysSmall}
-use Rattle.c_core.proofs.CountLemmas.{count-make, count-take_one}
+use Rattle.c_core.proofs.CountLemmas.{count-make, count-take_one, count-refill}
 use Rattle.c_core.proofs.StepCases.{at_some, at_calm, at_word, at_there, at_called, at_function, at_jumped, at_chosen, at_incremented, at_decremented, at_decremented_if_set, at_order, at_ended, at_result}
 
 same_most : (c d : ℕ) → same c d ≤ 1
@@ -102,13 +102,31 @@ module _ (s : MachineState) where
     small_counts = λ d. omega (arith, ap (λ h. count_at h d) e, take_most s.cells c d, same_most c d);
   }
 
-  shared_small : (x : Option ℕ) (w : Word) (l : Ledger) → IsSmallStep s (next_line (with_target x w (shared w (with_ledger l s))))
-  shared_small None (BigInt c) l = taken_small _ c refl
-  shared_small (Some x) (BigInt c) l = taken_small _ c refl
-  shared_small None (ObjectCell c) l = taken_small _ c refl
-  shared_small (Some x) (ObjectCell c) l = taken_small _ c refl
-  shared_small None w l = same_cells _ refl
-  shared_small (Some x) w l = same_cells _ refl
+  -- one count more, and then a release
+  exchanged_small : (t : MachineState) (c : ℕ) (gone : List ℕ) → t.cells ≡ release refs_in (take_one c s.cells) gone → IsSmallStep s t
+  exchanged_small t c gone e =
+      let n : ℕ = length gone + weight refs_in (take_one c s.cells) in
+      record {
+        few_cells = omega (arith, ap length e, length-release refs_in n (take_one c s.cells) gone, length-change raised c s.cells);
+        small_counts = λ d. omega (arith, ap (λ h. count_at h d) e, release_most refs_in n (take_one c s.cells) gone d, take_most s.cells c d, same_most c d);
+      }
+
+  shared_small : (x : Option ℕ) (w : Word) (l : Ledger) (gone : List ℕ) → IsSmallStep s (next_line (with_target x w (given true s gone (shared w (with_ledger l s)))))
+  shared_small None (BigInt c) l gone = exchanged_small _ c gone refl
+  shared_small (Some x) (BigInt c) l gone = exchanged_small _ c gone refl
+  shared_small None (ObjectCell c) l gone = exchanged_small _ c gone refl
+  shared_small (Some x) (ObjectCell c) l gone = exchanged_small _ c gone refl
+  shared_small None w l gone = released_small _ gone refl
+  shared_small (Some x) w l gone = released_small _ gone refl
+
+  -- another content, and then a release
+  changed_small : (t : MachineState) (c : ℕ) (x : Content) (up : List ℕ) → t.cells ≡ release refs_in (refill x c s.cells) up → IsSmallStep s t
+  changed_small t c x up e =
+      let n : ℕ = length up + weight refs_in (refill x c s.cells) in
+      record {
+        few_cells = omega (arith, ap length e, length-release refs_in n (refill x c s.cells) up, length-change (refilled x) c s.cells);
+        small_counts = λ d. omega (arith, ap (λ h. count_at h d) e, release_most refs_in n (refill x c s.cells) up d, count-refill s.cells c d x);
+      }
 
   -- one cell more behind a release
   added_small : (t : MachineState) (gone : List ℕ) (x : Content) → t.cells ≡ make x (release refs_in s.cells gone) → IsSmallStep s t
@@ -126,7 +144,9 @@ module _ (s : MachineState) where
   applied_small None l gone (Makes content) = made_small _ content refl
   applied_small (Some x) l gone (Makes content) = made_small _ content refl
   applied_small x l gone (Writes text) = released_small _ gone refl
-  applied_small x l gone (Shares w) = shared_small x w l
+  applied_small x l gone (Shares w) = shared_small x w l gone
+  applied_small None l gone (Changes c content w up) = changed_small _ c content up refl
+  applied_small (Some x) l gone (Changes c content w up) = changed_small _ c content up refl
   applied_small x l gone (Stores n old new) = released_small _ (set_refs (old ∷ [])) refl
   applied_small None l gone (Fails w e) = added_small _ gone (ExcCell e) refl
   applied_small (Some x) l gone (Fails w e) = added_small _ gone (ExcCell e) refl
@@ -165,7 +185,7 @@ module _ (s : MachineState) where
   call_small : (code : Code) (x : Option ℕ) (name : List ℕ) (args : List CArg) (o : Option Primitive) → To (call_step true s code x name args o)
   call_small code x name args (Some p) =
       at_called true s To bad code x args p
-      (λ calm all l left. applied_small x l (stolen (row_of p).parameters all) (effect code s p all))
+      (λ calm all l left there. applied_small x l (stolen (row_of p).parameters all) (effect code s p all))
   call_small code x name args None =
       at_function true s To bad code x args (function_named code.funcs name) (λ f g e is ws. same_cells _ refl)
 

@@ -14,7 +14,7 @@ use Rattle.c_core.specs.Cells.{times, content_at, take_one}
 use Rattle.c_core.specs.Ledgers.{Ledger, without}
 use Rattle.c_core.specs.Machine.{Word, ShortInt, BigInt, TaggedError, CharWord, ObjectCell, NoneObject, TrueObject, FalseObject, NoObject, Content, ExcCell, refs_of, MachineState}
 use Rattle.c_core.specs.Functions.{parameter_kinds, entry_words}
-use Rattle.c_core.specs.Primitives.{KindAt, Holding, Parameter, Borrows, Steals, TakesNumber, TakesText, TakesException, TakesGlobal, TakesClass, row_of}
+use Rattle.c_core.specs.Primitives.{KindAt, Holding, Parameter, Borrows, Steals, MaySteal, TakesNumber, TakesText, TakesException, TakesGlobal, TakesClass, may_end, row_of}
 use Rattle.c_core.specs.Arguments.{Argument, Cell, Plain, Written, is_value_of, is_holding, kind_found, stolen_from, stolen}
 use Rattle.c_core.specs.Step.{Next, Goes, Ends, Faulted, effect, if_some, if_calm, if_content, if_any, if_taken, if_true, if_there, if_variable, if_stolen, if_argument, if_arguments, if_may_stand, applied, called, if_thrown, if_ended, word_of, if_in_order, if_result, if_none_left, with_ledger, next_line, at_place, own, with_cells, given, given_up, is_error, is_both, if_passed, entered, function_step, function_called, jumped, chosen, taken, incremented, decremented, decremented_if_set}
 use Rattle.c_core.proofs.ReleaseLemmas.{times-append}
@@ -23,6 +23,18 @@ use Rattle.c_core.proofs.LedgerLemmas.{without-times}
 -- what was stolen and the ledger that is left are the ledger from before
 abbrev pub Leaves : Ledger → List ℕ → Ledger → Type 0
 Leaves l gone r = (d : ℕ) → times l d ≡ times gone d + times r d
+
+-- the cell of an argument is there, with its content
+abbrev pub IsThere : MachineState → Argument → Type 0
+IsThere s (Cell c x) = content_at s.cells c ≡ Some x
+IsThere s (Plain w) = Unit {0}
+IsThere s (Written a) = Unit {0}
+
+-- so it is of all arguments, of which there are no more than parameters
+abbrev pub AreThere : MachineState → List Parameter → List Argument → Type 0
+AreThere s ps [] = Unit {0}
+AreThere s [] (a ∷ rest) = ⊥
+AreThere s (p ∷ ps) (a ∷ rest) = IsThere s a × AreThere s ps rest
 
 -- no exception is pending, unless a row may stand while one is
 abbrev pub IsCalm : MachineState → Bool → Type 0
@@ -60,46 +72,52 @@ module _ (is_checked : Bool) (s : MachineState) (P : Next → Type 0) (bad : (f 
   at_true true go h = h
   at_true false go h = bad fault.Kind
 
-  pub at_there : (w : Word) (go : Argument → Next) → ((a : Argument) → P (go a)) → P (if_there is_checked s w go)
-  at_there (BigInt c) go h = at_content c _ (λ x e. h (Cell c x))
-  at_there (ObjectCell c) go h = at_content c _ (λ x e. h (Cell c x))
-  at_there w go h = h (Plain w)
+  at_found : (w : Word) (go : Argument → Next) → ((a : Argument) → IsThere s a → P (go a)) → P (if_there is_checked s w go)
+  at_found (BigInt c) go h = at_content c _ (λ x e. h (Cell c x) e)
+  at_found (ObjectCell c) go h = at_content c _ (λ x e. h (Cell c x) e)
+  at_found w go h = h (Plain w) tt
 
-  at_variable : (k : Kind) (h : Holding) (x : ℕ) (go : Argument → Next) → ((a : Argument) → P (go a)) → P (if_variable is_checked s k h x go)
+  pub at_there : (w : Word) (go : Argument → Next) → ((a : Argument) → P (go a)) → P (if_there is_checked s w go)
+  at_there w go h = at_found w go (λ a there. h a)
+
+  at_variable : (k : Kind) (h : Holding) (x : ℕ) (go : Argument → Next) → ((a : Argument) → IsThere s a → P (go a)) → P (if_variable is_checked s k h x go)
   at_variable k h x go is =
-      at_word x _ (λ w e. at_true (is_value_of k w) _ (at_there w _ (λ a. at_true (is_holding h a) (go a) (is a))))
+      at_word x _ (λ w e. at_true (is_value_of k w) _ (at_found w _ (λ a there. at_true (is_holding h a) (go a) (is a there))))
 
   at_stolen : (k : KindAt) (h : Holding) (a : Argument) (l : Ledger) (go : Ledger → Next) → ((r : Ledger) → (is_checked ≡ true → Leaves l (stolen_from (Steals k h) a) r) → P (go r)) → P (if_stolen is_checked s a l go)
   at_stolen k h (Cell c x) l go is = at_taken c l go (λ r took. is r took)
   at_stolen k h (Plain w) l go is = is l (λ t d. omega arith)
   at_stolen k h (Written a) l go is = is l (λ t d. omega arith)
 
-  at_argument : (code : Code) (p : Parameter) (a : CArg) (earlier : List Argument) (l : Ledger) (go : Argument → Ledger → Next) → ((x : Argument) (r : Ledger) → (is_checked ≡ true → Leaves l (stolen_from p x) r) → P (go x r)) → P (if_argument is_checked s code p a earlier l go)
+  at_argument : (code : Code) (p : Parameter) (a : CArg) (earlier : List Argument) (l : Ledger) (go : Argument → Ledger → Next) → ((x : Argument) (r : Ledger) → IsThere s x → (is_checked ≡ true → Leaves l (stolen_from p x) r) → P (go x r)) → P (if_argument is_checked s code p a earlier l go)
   at_argument code (Borrows k h) (arg.Var x) earlier l go is =
-      at_some fault.Kind (kind_found code k earlier) _ (λ kind e. at_variable kind h x _ (λ a. is a l (λ t d. omega arith)))
+      at_some fault.Kind (kind_found code k earlier) _ (λ kind e. at_variable kind h x _ (λ a there. is a l there (λ t d. omega arith)))
   at_argument code (Steals k h) (arg.Var x) earlier l go is =
-      at_some fault.Kind (kind_found code k earlier) _ (λ kind e. at_variable kind h x _ (λ a. at_stolen k h a l (go a) (is a)))
-  at_argument code TakesNumber (arg.Number n) earlier l go is = is (Written (arg.Number n)) l (λ t d. omega arith)
-  at_argument code TakesText (arg.Text text) earlier l go is = is (Written (arg.Text text)) l (λ t d. omega arith)
-  at_argument code TakesException (arg.Text text) earlier l go is = is (Written (arg.Text text)) l (λ t d. omega arith)
-  at_argument code TakesGlobal (arg.Global name) earlier l go is = is (Written (arg.Global name)) l (λ t d. omega arith)
-  at_argument code TakesClass (arg.Class name) earlier l go is = is (Written (arg.Class name)) l (λ t d. omega arith)
+      at_some fault.Kind (kind_found code k earlier) _ (λ kind e. at_variable kind h x _ (λ a there. at_stolen k h a l (go a) (λ r. is a r there)))
+  at_argument code (MaySteal k h) (arg.Var x) earlier l go is =
+      at_some fault.Kind (kind_found code k earlier) _ (λ kind e. at_variable kind h x _ (λ a there. at_stolen k h a l (go a) (λ r. is a r there)))
+  at_argument code TakesNumber (arg.Number n) earlier l go is = is (Written (arg.Number n)) l tt (λ t d. omega arith)
+  at_argument code TakesText (arg.Text text) earlier l go is = is (Written (arg.Text text)) l tt (λ t d. omega arith)
+  at_argument code TakesException (arg.Text text) earlier l go is = is (Written (arg.Text text)) l tt (λ t d. omega arith)
+  at_argument code TakesGlobal (arg.Global name) earlier l go is = is (Written (arg.Global name)) l tt (λ t d. omega arith)
+  at_argument code TakesClass (arg.Class name) earlier l go is = is (Written (arg.Class name)) l tt (λ t d. omega arith)
   at_argument code _ _ earlier l go is = bad fault.Kind
 
-  at_arguments : (code : Code) (ps : List Parameter) (args : List CArg) (earlier : List Argument) (l : Ledger) (go : List Argument → Ledger → Next) → ((xs : List Argument) (r : Ledger) → (is_checked ≡ true → Leaves l (stolen ps xs) r) → P (go xs r)) → P (if_arguments is_checked s code ps args earlier l go)
-  at_arguments code [] [] earlier l go is = is [] l (λ t d. omega arith)
+  at_arguments : (code : Code) (ps : List Parameter) (args : List CArg) (earlier : List Argument) (l : Ledger) (go : List Argument → Ledger → Next) → ((xs : List Argument) (r : Ledger) → (is_checked ≡ true → Leaves l (stolen ps xs) r) → AreThere s ps xs → P (go xs r)) → P (if_arguments is_checked s code ps args earlier l go)
+  at_arguments code [] [] earlier l go is = is [] l (λ t d. omega arith) tt
   at_arguments code (p ∷ ps) (a ∷ rest) earlier l go is =
       at_argument code p a earlier l _
-      (λ x r first. at_arguments code ps rest (earlier ++ x ∷ []) r (λ others. go (x ∷ others))
-      (λ xs last others. is (x ∷ xs) last (λ t d. omega (arith, first t d, others t d, times-append (stolen_from p x) (stolen ps xs) d))))
-  at_arguments code _ _ earlier l go is = bad fault.Kind
+      (λ x r there first. at_arguments code ps rest (earlier ++ x ∷ []) r (λ others. go (x ∷ others))
+      (λ xs last others all. is (x ∷ xs) last (λ t d. omega (arith, first t d, others t d, times-append (stolen_from p x) (stolen ps xs) d)) (there, all)))
+  at_arguments code (p ∷ ps) [] earlier l go is = at_true (may_end (p ∷ ps)) (go [] l) (is [] l (λ t d. omega arith) tt)
+  at_arguments code [] (a ∷ rest) earlier l go is = bad fault.Kind
 
   at_may_stand : (b : Bool) (go : Next) → (IsCalm s b → P go) → P (if_may_stand is_checked s b go)
   at_may_stand true go h = h (λ e. cc)
   at_may_stand false go h = at_calm s.pending go (λ calm. h (λ e. calm))
 
   -- a call of a primitive
-  pub at_called : (code : Code) (x : Option ℕ) (args : List CArg) (p : Primitive) → (IsCalm s (row_of p).while_pending → (all : List Argument) (l : Ledger) → (is_checked ≡ true → Leaves s.top.ledger (stolen (row_of p).parameters all) l) → P (applied is_checked s x l (stolen (row_of p).parameters all) (effect code s p all))) → P (called is_checked s code x args p)
+  pub at_called : (code : Code) (x : Option ℕ) (args : List CArg) (p : Primitive) → (IsCalm s (row_of p).while_pending → (all : List Argument) (l : Ledger) → (is_checked ≡ true → Leaves s.top.ledger (stolen (row_of p).parameters all) l) → AreThere s (row_of p).parameters all → P (applied is_checked s x l (stolen (row_of p).parameters all) (effect code s p all))) → P (called is_checked s code x args p)
   at_called code x args p is =
       at_may_stand (row_of p).while_pending _
       (λ calm. at_arguments code (row_of p).parameters args [] s.top.ledger _ (is calm))

@@ -1,5 +1,5 @@
 -- What the tests of a code compute, one part after another.
-use Rattle.std.proofs.Common.{◌≡◌, refl, sym, ◌∙◌, ap, ℕ, suc, ◌+◌, ◌-◌, ◌<◌, arith, take, length-drop, Bool, true, false, not, List, [], ◌∷◌, length, drop, get_or, add-one, drop-cons}
+use Rattle.std.proofs.Common.{◌≡◌, refl, sym, ◌∙◌, ap, ℕ, zero, suc, ◌≤◌, replicate, ◌+◌, ◌-◌, ◌<◌, arith, take, length-drop, Bool, true, false, not, List, [], ◌∷◌, length, drop, get_or, add-one, drop-cons, eqb-true}
 use Rattle.std.proofs.lemmas.List.{take_all}
 use Rattle.std.specs.Prelude.{map, ◌&&◌, ◌||◌, ◌==◌}
 use Rattle.std.specs.List.{list_all, list_any}
@@ -8,8 +8,12 @@ use Rattle.std.proofs.lemmas.Str.{is_utf8-from_IsUtf8}
 use Rattle.unicode_ident.specs.Ident.{is_xid_continue}
 use Rattle.c_core.specs.declared.code.CArg.{CArg}
 use Rattle.c_core.specs.declared.code.Code.{Code}
-use Rattle.c_core.specs.Primitives.{Parameter}
-use Rattle.c_core.specs.WellFormed.{Declared, is_identifier, names_differ, arg_fits, args_fit}
+use Rattle.c_core.specs.declared.code.CArg.TheVariants as arg
+use Rattle.c_core.specs.declared.code.Kind.TheVariants.{Object}
+use Rattle.c_core.specs.declared.primitive.Primitive.TheVariants as prim
+use Rattle.c_core.specs.declared.primitive.TuplePrim.TheVariants as tuple
+use Rattle.c_core.specs.Primitives.{Is, Anything, Parameter, MaySteal, may_end, row_of}
+use Rattle.c_core.specs.WellFormed.{Declared, is_identifier, names_differ, has_kind, kind_at, passes, arg_fits, args_fit}
 
 pub some_identifier : (name : List ℕ) (r : Bool) → IsUtf8 name → false ≡ (length name == 0) → r ≡ list_all is_xid_continue (chars name) → r ≡ is_identifier name
 some_identifier [] r u e f = absurd (cc)
@@ -47,6 +51,41 @@ and_false false = refl
 pub too_many : (code : Code) (vars : List Declared) (all : List CArg) (ps : List Parameter) (args : List CArg) → length ps < length args → args_fit code vars all ps args ≡ false
 too_many code vars all [] [] l = absurd (omega (arith, l))
 too_many code vars all [] (a ∷ rest) l = refl
-too_many code vars all (p ∷ ps) [] l = refl
+too_many code vars all (p ∷ ps) [] l = absurd (omega (arith, l))
 too_many code vars all (p ∷ ps) (a ∷ rest) l =
     ap (λ b. arg_fits code vars all p a && b) (too_many code vars all ps rest (omega (arith, l))) ∙ and_false (arg_fits code vars all p a)
+
+-- ---- the parts of a tuple
+abbrev is_object_of : List Declared → CArg → Bool
+is_object_of vars a = passes vars (Object ∷ []) (a ∷ [])
+
+and_true_is : (b : Bool) → b ≡ (b && true)
+and_true_is true = refl
+and_true_is false = refl
+
+object_fits : (code : Code) (vars : List Declared) (all : List CArg) (a : CArg) → arg_fits code vars all (MaySteal (Is Object) Anything) a ≡ is_object_of vars a
+object_fits code vars all (arg.Var x) = and_true_is (has_kind Object (kind_at vars x))
+object_fits code vars all (arg.Number n) = refl
+object_fits code vars all (arg.Text t) = refl
+object_fits code vars all (arg.Global n) = refl
+object_fits code vars all (arg.Class n) = refl
+
+may_end_all : (n : ℕ) → may_end (replicate n (MaySteal (Is Object) Anything)) ≡ true
+may_end_all zero = refl
+may_end_all (suc n) = may_end_all n
+
+objects_fit : (code : Code) (vars : List Declared) (all : List CArg) (n : ℕ) (args : List CArg) → length args ≤ n → args_fit code vars all (replicate n (MaySteal (Is Object) Anything)) args ≡ list_all (is_object_of vars) args
+objects_fit code vars all zero [] l = refl
+objects_fit code vars all zero (a ∷ rest) l = absurd (omega (arith, l))
+objects_fit code vars all (suc n) [] l = may_end_all n
+objects_fit code vars all (suc n) (a ∷ rest) l =
+    ap (λ b. b && args_fit code vars all (replicate n (MaySteal (Is Object) Anything)) rest) (object_fits code vars all a) ∙ ap (λ b. is_object_of vars a && b) (objects_fit code vars all n rest (omega (arith, l)))
+
+pub pack_fits : (code : Code) (vars : List Declared) (all args : List CArg) → false ≡ (length args == 0) → length args ≤ 16 → args_fit code vars all (row_of (prim.Tuple tuple.Pack)).parameters args ≡ list_all (is_object_of vars) args
+pack_fits code vars all [] few many = absurd (cc)
+pack_fits code vars all (a ∷ rest) few many =
+    ap (λ b. b && args_fit code vars all (replicate 15 (MaySteal (Is Object) Anything)) rest) (object_fits code vars all a) ∙ ap (λ b. is_object_of vars a && b) (objects_fit code vars all 15 rest (omega (arith, many)))
+
+pub no_pack : (code : Code) (vars : List Declared) (all args : List CArg) → true ≡ (length args == 0) → args_fit code vars all (row_of (prim.Tuple tuple.Pack)).parameters args ≡ false
+no_pack code vars all [] e = refl
+no_pack code vars all (a ∷ rest) e = absurd (omega (arith, eqb-true (length (a ∷ rest)) 0 (sym e)))

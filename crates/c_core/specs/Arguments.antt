@@ -8,8 +8,8 @@ use Rattle.c_core.specs.declared.code.Kind.TheVariants.{Tagged, Int64, Char, Obj
 use Rattle.c_core.specs.declared.code.CArg.{CArg}
 use Rattle.c_core.specs.declared.code.CArg.TheVariants as arg
 use Rattle.c_core.specs.declared.code.Code.{Code}
-use Rattle.c_core.specs.Machine.{Word, ShortInt, BigInt, Native, CharWord, ObjectCell, NoneObject, TrueObject, FalseObject, Content, IntCell, StrCell, InstCell, ExcCell}
-use Rattle.c_core.specs.Primitives.{KindAt, Is, OfGlobal, OfSlot, Holding, Anything, ANumber, AText, AnException, Parameter, Steals}
+use Rattle.c_core.specs.Machine.{Word, ShortInt, BigInt, Native, CharWord, ObjectCell, NoneObject, TrueObject, FalseObject, Content, IntCell, StrCell, ListCell, TupleCell, InstCell, ExcCell}
+use Rattle.c_core.specs.Primitives.{KindAt, Is, OfGlobal, OfSlot, Holding, Anything, ANumber, AText, AnException, AList, ATuple, Parameter, Steals, MaySteal}
 
 -- an argument that passed its tests: a cell that is there with its content, a word without a cell, or what is written
 pub data Argument : Type 0 where
@@ -39,6 +39,10 @@ is_holding AText (Cell c (StrCell text)) = true
 is_holding AText _ = false
 is_holding AnException (Cell c (ExcCell e)) = true
 is_holding AnException _ = false
+is_holding AList (Cell c (ListCell items)) = true
+is_holding AList _ = false
+is_holding ATuple (Cell c (TupleCell items)) = true
+is_holding ATuple _ = false
 
 -- the number that an argument is, where it is an `int`
 abbrev pub int_in : Argument → Option ℤ
@@ -75,9 +79,15 @@ word_in k (Plain (ObjectCell c)) = None
 word_in k (Plain w) = Some w
 word_in k _ = None
 
+-- the words that arguments were, all of them objects
+abbrev pub words_in : List Argument → Option (List Word)
+words_in [] = Some []
+words_in (a ∷ rest) = option_and_then (λ w. option_map (λ ws. w ∷ ws) (words_in rest)) (word_in Object a)
+
 -- the references that arguments lose, one for each stolen cell
 abbrev pub stolen_from : Parameter → Argument → List ℕ
 stolen_from (Steals k h) (Cell c content) = c ∷ []
+stolen_from (MaySteal k h) (Cell c content) = c ∷ []
 stolen_from _ _ = []
 
 abbrev pub stolen : List Parameter → List Argument → List ℕ

@@ -1,5 +1,5 @@
 -- The states of the machine that runs the C text.
-use Rattle.std.specs.Prelude.{ℕ, ℤ, List, [], ◌∷◌, ◌++◌, Option, Some, None}
+use Rattle.std.specs.Prelude.{ℕ, ℤ, Bool, true, false, cond, List, [], ◌∷◌, ◌++◌, Option, Some, None}
 use Rattle.value_core.specs.Exceptions.{Thrown}
 use Rattle.value_core.specs.Items.{Items}
 use Rattle.c_core.specs.Cells.{Cells}
@@ -65,6 +65,20 @@ refs_in (DictCell pairs) = pair_refs pairs
 refs_in (TupleCell items) = refs items
 refs_in (InstCell class attributes) = set_refs attributes
 refs_in (ExcCell e) = []
+
+-- whether a cell is an object of the source, which has an identity and can change: a list, a dict or an instance
+abbrev pub is_object : Content → Bool
+is_object (IntCell n) = false
+is_object (StrCell text) = false
+is_object (ListCell items) = true
+is_object (DictCell pairs) = true
+is_object (TupleCell items) = false
+is_object (InstCell class attributes) = true
+is_object (ExcCell e) = false
+
+-- the numbers of the cells that were made for objects, when cell c is made with this content
+abbrev pub noted : Content → ℕ → List ℕ → List ℕ
+noted content c made = cond (is_object content) (made ++ c ∷ []) made
 
 -- A call that goes on: the number of its function, the place of its next line, its variables, its ledger, and the
 -- caller's variable for its result, if there is one.

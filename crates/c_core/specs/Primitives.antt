@@ -1,6 +1,6 @@
 -- The primitives of the runtime: each is one row with what its arguments are to be, which of them it steals, its result,
 -- and whether it may stand while an exception is pending (mypyc's developer guide, "Primitives").
-use Rattle.std.specs.Prelude.{ℕ, Bool, true, false, List, [], ◌∷◌, Option, codes, find, map}
+use Rattle.std.specs.Prelude.{ℕ, Bool, true, false, List, [], ◌∷◌, Option, codes, find, map, replicate}
 use Rattle.std.specs.Str.{bytes_eq}
 use Rattle.c_core.specs.declared.code.Kind.{Kind}
 use Rattle.c_core.specs.declared.code.Kind.TheVariants.{Tagged, Int64, Char, Object}
@@ -9,7 +9,10 @@ use Rattle.c_core.specs.declared.primitive.Primitive.TheVariants as prim
 use Rattle.c_core.specs.declared.primitive.Int64Prim.TheVariants as int64
 use Rattle.c_core.specs.declared.primitive.TaggedPrim.TheVariants as tagged
 use Rattle.c_core.specs.declared.primitive.BoolPrim.TheVariants as bool
+use Rattle.c_core.specs.declared.primitive.ObjectPrim.TheVariants as object
 use Rattle.c_core.specs.declared.primitive.StrPrim.TheVariants as str
+use Rattle.c_core.specs.declared.primitive.ListPrim.TheVariants as list
+use Rattle.c_core.specs.declared.primitive.TuplePrim.TheVariants as tuple
 use Rattle.c_core.specs.declared.primitive.GlobalPrim.TheVariants as global
 use Rattle.c_core.specs.declared.primitive.ExcPrim.TheVariants as exc
 use Rattle.c_core.specs.declared.primitive.ErrPrim.TheVariants as err
@@ -22,24 +25,33 @@ pub data KindAt : Type 0 where
   OfGlobal : KindAt
   OfSlot : KindAt
 
--- what a variable is to hold: any word of its kind that is no error value, a number that is short or stands in a cell, a cell with a
--- text, or one with an exception
+-- what a variable is to hold: any word of its kind that is no error value, a number that is short or stands in a cell, or a cell with a
+-- text, an exception, a list or a tuple
 pub data Holding : Type 0 where
   Anything : Holding
   ANumber : Holding
   AText : Holding
   AnException : Holding
+  AList : Holding
+  ATuple : Holding
 
--- what an argument is to be: a variable, which is borrowed or stolen, or a number, a text, the name of an exception class as a
--- text, a global or a class as it is written
+-- what an argument is to be: a variable, which is borrowed, or stolen, or stolen where there is one; or a number, a text,
+-- the name of an exception class as a text, a global or a class as it is written
 pub data Parameter : Type 0 where
   Borrows : (k : KindAt) (h : Holding) → Parameter
   Steals : (k : KindAt) (h : Holding) → Parameter
+  MaySteal : (k : KindAt) (h : Holding) → Parameter
   TakesNumber : Parameter
   TakesText : Parameter
   TakesException : Parameter
   TakesGlobal : Parameter
   TakesClass : Parameter
+
+-- whether no more arguments have to be there
+abbrev pub may_end : List Parameter → Bool
+may_end [] = true
+may_end (MaySteal k h ∷ ps) = may_end ps
+may_end _ = false
 
 -- what a primitive answers: nothing, or a word of a kind, whose reference the caller then owns
 pub data Outcome : Type 0 where
@@ -90,6 +102,8 @@ row_of (prim.Int64 int64.Eq) = simple_row (codes "CPyInt64_Eq") (Int64 ∷ Int64
 row_of (prim.Int64 int64.Lt) = simple_row (codes "CPyInt64_Lt") (Int64 ∷ Int64 ∷ []) Char
 row_of (prim.Int64 int64.Le) = simple_row (codes "CPyInt64_Le") (Int64 ∷ Int64 ∷ []) Char
 row_of (prim.Int64 int64.Str) = simple_row (codes "CPyInt64_Str") (Int64 ∷ []) Object
+row_of (prim.Int64 int64.Box) = simple_row (codes "CPyInt64_Box") (Int64 ∷ []) Object
+row_of (prim.Int64 int64.Unbox) = one_row (codes "CPyInt64_Unbox") Object ANumber Int64
 row_of (prim.Tagged tagged.Add) = two_row (codes "CPyTagged_Add") Tagged ANumber Tagged
 row_of (prim.Tagged tagged.Subtract) = two_row (codes "CPyTagged_Subtract") Tagged ANumber Tagged
 row_of (prim.Tagged tagged.Multiply) = two_row (codes "CPyTagged_Multiply") Tagged ANumber Tagged
@@ -106,8 +120,13 @@ row_of (prim.Tagged tagged.Eq) = two_row (codes "CPyTagged_Eq") Tagged ANumber C
 row_of (prim.Tagged tagged.Lt) = two_row (codes "CPyTagged_Lt") Tagged ANumber Char
 row_of (prim.Tagged tagged.Le) = two_row (codes "CPyTagged_Le") Tagged ANumber Char
 row_of (prim.Tagged tagged.Str) = one_row (codes "CPyTagged_Str") Tagged ANumber Object
+row_of (prim.Tagged tagged.Box) = answering_row (codes "CPyTagged_Box") (Steals (Is Tagged) ANumber ∷ []) Object
+row_of (prim.Tagged tagged.Unbox) = one_row (codes "CPyTagged_Unbox") Object ANumber Tagged
 row_of (prim.Bool bool.Not) = simple_row (codes "CPyBool_Not") (Char ∷ []) Char
 row_of (prim.Bool bool.Str) = simple_row (codes "CPyBool_Str") (Char ∷ []) Object
+row_of (prim.Bool bool.Box) = simple_row (codes "CPyBool_Box") (Char ∷ []) Object
+row_of (prim.Bool bool.Unbox) = simple_row (codes "CPyBool_Unbox") (Object ∷ []) Char
+row_of (prim.Object object.IsNone) = simple_row (codes "CPyObject_IsNone") (Object ∷ []) Char
 row_of (prim.Str str.Literal) = answering_row (codes "CPyStr_Literal") (TakesText ∷ []) Object
 row_of (prim.Str str.Concat) = two_row (codes "CPyStr_Concat") Object AText Object
 row_of (prim.Str str.Eq) = two_row (codes "CPyStr_Eq") Object AText Char
@@ -115,6 +134,17 @@ row_of (prim.Str str.Lt) = two_row (codes "CPyStr_Lt") Object AText Char
 row_of (prim.Str str.Le) = two_row (codes "CPyStr_Le") Object AText Char
 row_of (prim.Str str.Len) = one_row (codes "CPyStr_Len") Object AText Tagged
 row_of (prim.Str str.GetItem) = answering_row (codes "CPyStr_GetItem") (Borrows (Is Object) AText ∷ Borrows (Is Tagged) ANumber ∷ []) Object
+row_of (prim.List list.New) = answering_row (codes "CPyList_New") [] Object
+row_of (prim.List list.Append) = acting_row (codes "CPyList_Append") (Borrows (Is Object) AList ∷ Steals (Is Object) Anything ∷ [])
+row_of (prim.List list.GetItem) = answering_row (codes "CPyList_GetItem") (Borrows (Is Object) AList ∷ Borrows (Is Tagged) ANumber ∷ []) Object
+row_of (prim.List list.SetItem) =
+    answering_row (codes "CPyList_SetItem") (Borrows (Is Object) AList ∷ Borrows (Is Tagged) ANumber ∷ Steals (Is Object) Anything ∷ []) Char
+row_of (prim.List list.Pop) = one_row (codes "CPyList_Pop") Object AList Object
+row_of (prim.List list.Len) = one_row (codes "CPyList_Len") Object AList Tagged
+row_of (prim.Tuple tuple.Pack) =
+    answering_row (codes "CPyTuple_Pack") (Steals (Is Object) Anything ∷ replicate 15 (MaySteal (Is Object) Anything)) Object
+row_of (prim.Tuple tuple.GetItem) = answering_row (codes "CPyTuple_GetItem") (Borrows (Is Object) ATuple ∷ TakesNumber ∷ []) Object
+row_of (prim.Tuple tuple.Len) = one_row (codes "CPyTuple_Len") Object ATuple Tagged
 row_of (prim.Global global.Get) = record { name = codes "CPyGlobal_Get"; parameters = TakesGlobal ∷ []; outcome = Owned OfGlobal; while_pending = false }
 row_of (prim.Global global.Set) = acting_row (codes "CPyGlobal_Set") (TakesGlobal ∷ Steals OfGlobal Anything ∷ [])
 row_of (prim.Global global.Clear) = acting_row (codes "CPyGlobal_Clear") (TakesGlobal ∷ [])
@@ -133,12 +163,16 @@ all_primitives =
     prim.Int64 int64.Add ∷ prim.Int64 int64.Subtract ∷ prim.Int64 int64.Multiply ∷ prim.Int64 int64.Negate
     ∷ prim.Int64 int64.FloorDivide ∷ prim.Int64 int64.Remainder ∷ prim.Int64 int64.Lshift ∷ prim.Int64 int64.Rshift
     ∷ prim.Int64 int64.FromBool ∷ prim.Int64 int64.Eq ∷ prim.Int64 int64.Lt ∷ prim.Int64 int64.Le ∷ prim.Int64 int64.Str
+    ∷ prim.Int64 int64.Box ∷ prim.Int64 int64.Unbox
     ∷ prim.Tagged tagged.Add ∷ prim.Tagged tagged.Subtract ∷ prim.Tagged tagged.Multiply ∷ prim.Tagged tagged.Negate
     ∷ prim.Tagged tagged.FloorDivide ∷ prim.Tagged tagged.Remainder ∷ prim.Tagged tagged.Lshift ∷ prim.Tagged tagged.Rshift
     ∷ prim.Tagged tagged.FromText ∷ prim.Tagged tagged.FromInt64 ∷ prim.Tagged tagged.FromBool ∷ prim.Tagged tagged.AsInt64
     ∷ prim.Tagged tagged.Eq ∷ prim.Tagged tagged.Lt ∷ prim.Tagged tagged.Le ∷ prim.Tagged tagged.Str
-    ∷ prim.Bool bool.Not ∷ prim.Bool bool.Str ∷ prim.Str str.Literal ∷ prim.Str str.Concat ∷ prim.Str str.Eq ∷ prim.Str str.Lt
-    ∷ prim.Str str.Le ∷ prim.Str str.Len ∷ prim.Str str.GetItem
+    ∷ prim.Tagged tagged.Box ∷ prim.Tagged tagged.Unbox
+    ∷ prim.Bool bool.Not ∷ prim.Bool bool.Str ∷ prim.Bool bool.Box ∷ prim.Bool bool.Unbox ∷ prim.Object object.IsNone
+    ∷ prim.Str str.Literal ∷ prim.Str str.Concat ∷ prim.Str str.Eq ∷ prim.Str str.Lt ∷ prim.Str str.Le ∷ prim.Str str.Len ∷ prim.Str str.GetItem
+    ∷ prim.List list.New ∷ prim.List list.Append ∷ prim.List list.GetItem ∷ prim.List list.SetItem ∷ prim.List list.Pop
+    ∷ prim.List list.Len ∷ prim.Tuple tuple.Pack ∷ prim.Tuple tuple.GetItem ∷ prim.Tuple tuple.Len
     ∷ prim.Global global.Get ∷ prim.Global global.Set ∷ prim.Global global.Clear ∷ prim.Exc exc.New ∷ prim.Exc exc.Str
     ∷ prim.Err err.SetObject ∷ prim.Err err.Unbound ∷ prim.Err err.Occurred ∷ prim.Err err.Matches ∷ prim.Err err.Catch
     ∷ prim.Io io.Write ∷ prim.Io io.Input ∷ []

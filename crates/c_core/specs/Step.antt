@@ -1,6 +1,6 @@
 -- One step of the machine: what a line of the C text does to a state. Its tests go from left to right, each on the
 -- ledger that those before it left, and a fault leaves the state as it was before the line.
-use Rattle.std.specs.Prelude.{ℕ, zero, suc, ◌+◌, ◌/◌, ◌%◌, ◌==◌, Bool, true, false, not, ◌&&◌, ◌||◌, cond, ℤ, pos, negsuc, int_lt, List, [], ◌∷◌, ◌++◌, length, Option, Some, None, codes, slice_get, slice_set, Result, Ok, Err, is_some}
+use Rattle.std.specs.Prelude.{ℕ, zero, suc, ◌+◌, ◌/◌, ◌%◌, ◌==◌, Bool, true, false, not, ◌&&◌, ◌||◌, cond, ℤ, pos, negsuc, int_lt, List, [], ◌∷◌, ◌++◌, length, take, Option, Some, None, codes, slice_get, slice_set, Result, Ok, Err, is_some}
 use Rattle.std.specs.Fmt.{signed_decimal}
 use Rattle.std.specs.Option.{option_and_then, option_map}
 use Rattle.std.specs.Str.{bytes_eq}
@@ -10,6 +10,7 @@ use Rattle.value_core.specs.declared.arith.Arith.{Arith}
 use Rattle.value_core.specs.declared.arith.Arith.TheVariants.{Overflow, ZeroDivisor, NegativeShift, OutOfRange}
 use Rattle.value_core.specs.declared.exception.ExcClass.{ExcClass}
 use Rattle.value_core.specs.declared.exception.ExcClass.TheVariants.{ZeroDivisionError, OverflowError, IndexError, NameError, UnboundLocalError, ValueError, EOFError}
+use Rattle.value_core.specs.Characters.{place_of}
 use Rattle.value_core.specs.Arithmetic.{lies_within, is_short, int_add, int_sub, int_mul, int_neg, int_floor_div, int_modulo, int_shl, int_shr, int_to_i64, i64_add, i64_sub, i64_mul, i64_neg, i64_floor_div, i64_modulo, i64_shl, i64_shr}
 use Rattle.value_core.specs.Exceptions.{Thrown, thrown, class_named, is_under}
 use Rattle.value_core.specs.Ending.{Ending, Done, Raised, Cut, Over, Broken}
@@ -32,19 +33,22 @@ use Rattle.c_core.specs.declared.primitive.Primitive.TheVariants as prim
 use Rattle.c_core.specs.declared.primitive.Int64Prim.TheVariants as int64
 use Rattle.c_core.specs.declared.primitive.TaggedPrim.TheVariants as tagged
 use Rattle.c_core.specs.declared.primitive.BoolPrim.TheVariants as bool
+use Rattle.c_core.specs.declared.primitive.ObjectPrim.TheVariants as object
 use Rattle.c_core.specs.declared.primitive.StrPrim.TheVariants as str
+use Rattle.c_core.specs.declared.primitive.ListPrim.TheVariants as list
+use Rattle.c_core.specs.declared.primitive.TuplePrim.TheVariants as tuple
 use Rattle.c_core.specs.declared.primitive.GlobalPrim.TheVariants as global
 use Rattle.c_core.specs.declared.primitive.ExcPrim.TheVariants as exc
 use Rattle.c_core.specs.declared.primitive.ErrPrim.TheVariants as err
 use Rattle.c_core.specs.declared.primitive.IoPrim.TheVariants as io
-use Rattle.c_core.specs.Cells.{Cells, times, content_at, take_one, make}
+use Rattle.c_core.specs.Cells.{Cells, times, content_at, take_one, refill, make}
 use Rattle.c_core.specs.Ledgers.{Ledger, more, more_of, without}
 use Rattle.c_core.specs.Release.{release}
-use Rattle.c_core.specs.Machine.{Word, ShortInt, BigInt, TaggedError, Native, CharWord, ObjectCell, NoneObject, TrueObject, FalseObject, NoObject, Content, IntCell, StrCell, ExcCell, refs_of, set_refs, refs_in, Frame, MachineState}
+use Rattle.c_core.specs.Machine.{Word, ShortInt, BigInt, TaggedError, Native, CharWord, ObjectCell, NoneObject, TrueObject, FalseObject, NoObject, Content, IntCell, StrCell, ListCell, TupleCell, ExcCell, refs_of, set_refs, refs_in, noted, Frame, MachineState}
 use Rattle.c_core.specs.Functions.{label_places, function_named, parameter_kinds, error_word, entry_words}
-use Rattle.c_core.specs.Primitives.{Holding, Parameter, Borrows, Steals, TakesNumber, TakesText, TakesException, TakesGlobal, TakesClass, row_of, primitive_named}
-use Rattle.c_core.specs.Arguments.{Argument, Cell, Plain, Written, is_value_of, is_holding, int_in, kind_of_global, number_of_global, kind_found, word_in, stolen}
-use Rattle.c_core.specs.Strings.{text_less, text_length, text_item}
+use Rattle.c_core.specs.Primitives.{Holding, Parameter, Borrows, Steals, MaySteal, TakesNumber, TakesText, TakesException, TakesGlobal, TakesClass, may_end, row_of, primitive_named}
+use Rattle.c_core.specs.Arguments.{Argument, Cell, Plain, Written, is_value_of, is_holding, int_in, kind_of_global, number_of_global, kind_found, word_in, words_in, stolen}
+use Rattle.c_core.specs.Strings.{counted_length, text_less, text_length, text_item}
 
 -- how a run of the machine ends: as a program of the source does, or by a fault
 pub data MachineEnding : Type 0 where
@@ -136,8 +140,10 @@ abbrev pub equals_error : Word → Bool
 equals_error w = is_error w || is_both w
 
 -- ---- primitives
--- What a primitive does. It was called wrongly. It answers a word that has no cell, or one that a global holds and goes on to
--- hold. It makes a cell, whose content takes over what was stolen. It writes to the output. A global that held one thing gets
+-- What a primitive does. It was called wrongly. It answers a word that has no cell, or one whose cell is there and gets one more
+-- reference, and what was stolen is given up. It makes a cell, whose content takes over what was stolen. It gives a cell another
+-- content, which takes over what was stolen, and answers a word, whose reference, if it has one, was the old content's and goes to
+-- the frame; other references that the old content held are given up after the write. It writes to the output. A global that held one thing gets
 -- another, which is what was stolen, or nothing, and the thing that it held is given up. It fails: a new exception is pending, and the
 -- answer is an error value. The exception that was stolen is pending. The exception that was pending is answered, and none is pending.
 -- It makes a cell of a number, which an `int` is to refer to. It reads a line of input, and makes a cell of its text. It passes over a
@@ -147,6 +153,7 @@ pub data Effect : Type 0 where
   Says : (w : Word) → Effect
   Shares : (w : Word) → Effect
   Makes : (content : Content) → Effect
+  Changes : (c : ℕ) (content : Content) (w : Word) (old : List ℕ) → Effect
   Writes : (text : List ℕ) → Effect
   Stores : (n : ℕ) (old new : Option Word) → Effect
   Fails : (w : Word) (e : Thrown) → Effect
@@ -157,10 +164,14 @@ pub data Effect : Type 0 where
   Skips : (next : Items) (w : Word) (e : Thrown) → Effect
   Stops : (e : Ending) → Effect
 
--- a truth as a `char`, and as a text
+-- a truth as a `char`, as an object, and as a text
 abbrev pub truth_word : Bool → Word
 truth_word true = CharWord 1
 truth_word false = CharWord 0
+
+abbrev pub truth_object : ℕ → Word
+truth_object zero = FalseObject
+truth_object (suc n) = TrueObject
 
 abbrev pub truth_text : ℕ → List ℕ
 truth_text zero = codes "False"
@@ -209,6 +220,43 @@ of_int f (Some n) = f n
 
 abbrev pub of_ints : (ℤ → ℤ → Effect) → Option ℤ → Option ℤ → Effect
 of_ints f a b = of_int (λ m. of_int (f m) b) a
+
+-- a number that stands in a cell, as an `int`; and a number as a native integer, which has to fit
+abbrev pub unboxed : ℕ → ℤ → Effect
+unboxed c n = cond (is_short n) (Says (ShortInt n)) (Shares (BigInt c))
+
+abbrev pub native_in : Result ℤ Arith → Effect
+native_in (Ok n) = Says (Native n)
+native_in (Err f) = Wrong
+
+-- what is done with a word
+abbrev pub of_word : (Word → Effect) → Option Word → Effect
+of_word f None = Wrong
+of_word f (Some w) = f w
+
+-- the item of a list at the place of an index; another one is put there; the last one is taken out
+abbrev pub item_at : Option ℕ → List Word → Effect
+item_at None items = Fails (error_word Object) (thrown IndexError (codes "list index out of range"))
+item_at (Some i) items = of_word Shares (slice_get items i)
+
+abbrev pub put_at : ℕ → Option ℕ → List Word → Word → Effect
+put_at c None items w = Fails (error_word Char) (thrown IndexError (codes "list assignment index out of range"))
+put_at c (Some i) items w =
+    of_word (λ old. Changes c (ListCell (slice_set items i w)) (CharWord 1) (refs_of old)) (slice_get items i)
+
+abbrev pub popped : ℕ → Option ℕ → List Word → Effect
+popped c None items = Fails (error_word Object) (thrown IndexError (codes "pop from empty list"))
+popped c (Some i) items = of_word (λ w. Changes c (ListCell (take i items)) w []) (slice_get items i)
+
+-- what is done with some words
+abbrev pub of_words : (List Word → Effect) → Option (List Word) → Effect
+of_words f None = Wrong
+of_words f (Some ws) = f ws
+
+-- the part of a tuple
+abbrev pub part_at : List Word → ℤ → Effect
+part_at items (pos i) = of_word Shares (slice_get items i)
+part_at items (negsuc i) = Wrong
 
 -- the item of a text
 abbrev pub item_or : Option (List ℕ) → Effect
@@ -282,6 +330,8 @@ effect code s (prim.Int64 int64.Eq) (Plain (Native a) ∷ Plain (Native b) ∷ [
 effect code s (prim.Int64 int64.Lt) (Plain (Native a) ∷ Plain (Native b) ∷ []) = Says (truth_word (int_lt a b))
 effect code s (prim.Int64 int64.Le) (Plain (Native a) ∷ Plain (Native b) ∷ []) = Says (truth_word (not (int_lt b a)))
 effect code s (prim.Int64 int64.Str) (Plain (Native a) ∷ []) = Makes (StrCell (signed_decimal a))
+effect code s (prim.Int64 int64.Box) (Plain (Native a) ∷ []) = Makes (IntCell a)
+effect code s (prim.Int64 int64.Unbox) (Cell c (IntCell n) ∷ []) = native_in (int_to_i64 n)
 effect code s (prim.Tagged tagged.Add) (a ∷ b ∷ []) = of_ints (λ m n. tagged_or (int_add m n)) (int_in a) (int_in b)
 effect code s (prim.Tagged tagged.Subtract) (a ∷ b ∷ []) = of_ints (λ m n. tagged_or (int_sub m n)) (int_in a) (int_in b)
 effect code s (prim.Tagged tagged.Multiply) (a ∷ b ∷ []) = of_ints (λ m n. tagged_or (int_mul m n)) (int_in a) (int_in b)
@@ -298,8 +348,16 @@ effect code s (prim.Tagged tagged.Eq) (a ∷ b ∷ []) = of_ints (λ m n. Says (
 effect code s (prim.Tagged tagged.Lt) (a ∷ b ∷ []) = of_ints (λ m n. Says (truth_word (int_lt m n))) (int_in a) (int_in b)
 effect code s (prim.Tagged tagged.Le) (a ∷ b ∷ []) = of_ints (λ m n. Says (truth_word (not (int_lt n m)))) (int_in a) (int_in b)
 effect code s (prim.Tagged tagged.Str) (a ∷ []) = of_int (λ n. Makes (StrCell (signed_decimal n))) (int_in a)
+effect code s (prim.Tagged tagged.Box) (Plain (ShortInt n) ∷ []) = Makes (IntCell n)
+effect code s (prim.Tagged tagged.Box) (Cell c (IntCell n) ∷ []) = Shares (ObjectCell c)
+effect code s (prim.Tagged tagged.Unbox) (Cell c (IntCell n) ∷ []) = unboxed c n
 effect code s (prim.Bool bool.Not) (Plain (CharWord n) ∷ []) = Says (truth_word (n == 0))
 effect code s (prim.Bool bool.Str) (Plain (CharWord n) ∷ []) = Makes (StrCell (truth_text n))
+effect code s (prim.Bool bool.Box) (Plain (CharWord n) ∷ []) = Says (truth_object n)
+effect code s (prim.Bool bool.Unbox) (Plain TrueObject ∷ []) = Says (CharWord 1)
+effect code s (prim.Bool bool.Unbox) (Plain FalseObject ∷ []) = Says (CharWord 0)
+effect code s (prim.Object object.IsNone) (Plain NoneObject ∷ []) = Says (CharWord 1)
+effect code s (prim.Object object.IsNone) (a ∷ []) = Says (CharWord 0)
 effect code s (prim.Str str.Literal) (Written (arg.Text text) ∷ []) = Makes (StrCell text)
 effect code s (prim.Str str.Concat) (Cell c (StrCell a) ∷ Cell d (StrCell b) ∷ []) = Makes (StrCell (a ++ b))
 effect code s (prim.Str str.Eq) (Cell c (StrCell a) ∷ Cell d (StrCell b) ∷ []) = Says (truth_word (bytes_eq a b))
@@ -307,6 +365,19 @@ effect code s (prim.Str str.Lt) (Cell c (StrCell a) ∷ Cell d (StrCell b) ∷ [
 effect code s (prim.Str str.Le) (Cell c (StrCell a) ∷ Cell d (StrCell b) ∷ []) = Says (truth_word (not (text_less b a)))
 effect code s (prim.Str str.Len) (Cell c (StrCell text) ∷ []) = tagged_effect (text_length text)
 effect code s (prim.Str str.GetItem) (Cell c (StrCell text) ∷ a ∷ []) = of_int (λ i. item_or (text_item text i)) (int_in a)
+effect code s (prim.List list.New) [] = Makes (ListCell [])
+-- (a row without a result: the word that it answers goes nowhere)
+effect code s (prim.List list.Append) (Cell c (ListCell items) ∷ a ∷ []) =
+    of_word (λ w. Changes c (ListCell (items ++ w ∷ [])) NoneObject []) (word_in Object a)
+effect code s (prim.List list.GetItem) (Cell c (ListCell items) ∷ a ∷ []) =
+    of_int (λ i. item_at (place_of (length items) i) items) (int_in a)
+effect code s (prim.List list.SetItem) (Cell c (ListCell items) ∷ a ∷ b ∷ []) =
+    of_int (λ i. of_word (put_at c (place_of (length items) i) items) (word_in Object b)) (int_in a)
+effect code s (prim.List list.Pop) (Cell c (ListCell items) ∷ []) = popped c (place_of (length items) (negsuc 0)) items
+effect code s (prim.List list.Len) (Cell c (ListCell items) ∷ []) = tagged_effect (pos (counted_length (length items)))
+effect code s (prim.Tuple tuple.Pack) all = of_words (λ ws. Makes (TupleCell ws)) (words_in all)
+effect code s (prim.Tuple tuple.GetItem) (Cell c (TupleCell items) ∷ Written (arg.Number n) ∷ []) = part_at items n
+effect code s (prim.Tuple tuple.Len) (Cell c (TupleCell items) ∷ []) = tagged_effect (pos (counted_length (length items)))
 effect code s (prim.Global global.Get) (Written (arg.Global name) ∷ []) =
     got name (kind_of_global code name) (global_at code s name)
 effect code s (prim.Global global.Set) (Written (arg.Global name) ∷ a ∷ []) =
@@ -396,6 +467,8 @@ module _ (is_checked : Bool) (s : MachineState) where
       if_some fault.Kind (kind_found code k earlier) (λ kind. if_variable kind h x (λ a. go a l))
   if_argument code (Steals k h) (arg.Var x) earlier l go =
       if_some fault.Kind (kind_found code k earlier) (λ kind. if_variable kind h x (λ a. if_stolen a l (go a)))
+  if_argument code (MaySteal k h) (arg.Var x) earlier l go =
+      if_some fault.Kind (kind_found code k earlier) (λ kind. if_variable kind h x (λ a. if_stolen a l (go a)))
   if_argument code TakesNumber (arg.Number n) earlier l go = go (Written (arg.Number n)) l
   if_argument code TakesText (arg.Text text) earlier l go = go (Written (arg.Text text)) l
   if_argument code TakesException (arg.Text text) earlier l go = go (Written (arg.Text text)) l
@@ -408,11 +481,13 @@ module _ (is_checked : Bool) (s : MachineState) where
   if_arguments code [] [] earlier l go = go [] l
   if_arguments code (p ∷ ps) (a ∷ rest) earlier l go =
       if_argument code p a earlier l (λ first r. if_arguments code ps rest (earlier ++ first ∷ []) r (λ others. go (first ∷ others)))
-  if_arguments code _ _ earlier l go = faulted fault.Kind
+  if_arguments code (p ∷ ps) [] earlier l go = if_true (may_end (p ∷ ps)) (go [] l)
+  if_arguments code [] (a ∷ rest) earlier l go = faulted fault.Kind
 
   -- a new cell, which the frame owns and the target refers to, as an object or as an `int`
   abbrev pub made_cell : Option ℕ → Content → MachineState → MachineState
-  made_cell x content t = with_target x (ObjectCell (length t.cells)) (own (length t.cells) (with_cells (make content t.cells) t))
+  made_cell x content t =
+      with_target x (ObjectCell (length t.cells)) (own (length t.cells) (record t { cells = make content t.cells; made = noted content (length t.cells) t.made }))
 
   abbrev pub made_int : Option ℕ → ℤ → MachineState → MachineState
   made_int x n t = with_target x (BigInt (length t.cells)) (own (length t.cells) (with_cells (make (IntCell n) t.cells) t))
@@ -421,8 +496,10 @@ module _ (is_checked : Bool) (s : MachineState) where
   abbrev pub applied : Option ℕ → Ledger → List ℕ → Effect → Next
   applied x l gone Wrong = faulted fault.Kind
   applied x l gone (Says w) = Goes (next_line (with_target x w (given gone (with_ledger l s))))
-  applied x l gone (Shares w) = Goes (next_line (with_target x w (shared w (with_ledger l s))))
+  applied x l gone (Shares w) = Goes (next_line (with_target x w (given gone (shared w (with_ledger l s)))))
   applied x l gone (Makes content) = Goes (next_line (made_cell x content (with_ledger l s)))
+  applied x l gone (Changes c content w old) =
+      Goes (next_line (with_target x w (given old (with_cells (refill content c s.cells) (with_ledger (more_of (refs_of w) l) s)))))
   applied x l gone (Writes text) = Goes (next_line (given gone (with_ledger l (record s { output = s.output ++ text }))))
   applied x l gone (Stores n old new) =
       Goes (next_line (given (set_refs (old ∷ [])) (record (with_ledger l s) { globals = slice_set s.globals n new })))

@@ -18,7 +18,7 @@ use Rattle.c_core.specs.declared.code.CFunc.{CFunc}
 use Rattle.c_core.specs.declared.code.Code.{Code}
 use Rattle.c_core.specs.declared.primitive.Primitive.{Primitive}
 use Rattle.c_core.specs.Functions.{is_turn, label_places, after_prefix, function_named, parameter_kinds}
-use Rattle.c_core.specs.Primitives.{KindAt, Is, OfGlobal, OfSlot, Parameter, Borrows, Steals, TakesNumber, TakesText, TakesException, TakesGlobal, TakesClass, Outcome, Nothing, Owned, Row, row_of, primitive_named}
+use Rattle.c_core.specs.Primitives.{KindAt, Is, OfGlobal, OfSlot, Parameter, Borrows, Steals, MaySteal, TakesNumber, TakesText, TakesException, TakesGlobal, TakesClass, Outcome, Nothing, Owned, Row, may_end, row_of, primitive_named}
 use Rattle.c_core.specs.Arguments.{kind_of_global}
 use Rattle.c_core.specs.Step.{literal_word}
 
@@ -193,6 +193,7 @@ module _ (code : Code) (vars : List Declared) where
   abbrev pub arg_fits : List CArg → Parameter → CArg → Bool
   arg_fits args (Borrows k h) (arg.Var x) = kind_fits code args k (kind_at vars x)
   arg_fits args (Steals k h) (arg.Var x) = kind_fits code args k (kind_at vars x)
+  arg_fits args (MaySteal k h) (arg.Var x) = kind_fits code args k (kind_at vars x)
   arg_fits args TakesNumber (arg.Number n) = true
   arg_fits args TakesText (arg.Text text) = true
   arg_fits args TakesException (arg.Text text) = is_some (class_named text)
@@ -203,7 +204,8 @@ module _ (code : Code) (vars : List Declared) where
   abbrev pub args_fit : List CArg → List Parameter → List CArg → Bool
   args_fit args [] [] = true
   args_fit args (p ∷ ps) (a ∷ rest) = arg_fits args p a && args_fit args ps rest
-  args_fit args _ _ = false
+  args_fit args (p ∷ ps) [] = may_end (p ∷ ps)
+  args_fit args [] (a ∷ rest) = false
 
   -- a result may be left without a target; a row without a result has none
   abbrev pub target_fits : List CArg → Outcome → Option ℕ → Bool

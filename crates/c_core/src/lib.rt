@@ -21,7 +21,7 @@ pub use laws::{
     run_stays_small, step_stays_small,
 };
 pub use primitive::{
-    BoolPrim, ErrPrim, ExcPrim, GlobalPrim, Int64Prim, IoPrim, Primitive as Prim, StrPrim,
-    TaggedPrim,
+    BoolPrim, ErrPrim, ExcPrim, GlobalPrim, Int64Prim, IoPrim, ListPrim, ObjectPrim,
+    Primitive as Prim, StrPrim, TaggedPrim, TuplePrim,
 };
 pub use well_formed::{is_call_name, is_identifier, is_spelled, is_well_formed};

@@ -7,7 +7,10 @@ pub enum Primitive {
     Int64(Int64Prim),
     Tagged(TaggedPrim),
     Bool(BoolPrim),
+    Object(ObjectPrim),
     Str(StrPrim),
+    List(ListPrim),
+    Tuple(TuplePrim),
     Global(GlobalPrim),
     Exc(ExcPrim),
     Err(ErrPrim),
@@ -36,6 +39,10 @@ pub enum Int64Prim {
     Le,
     /// The decimal.
     Str,
+    /// A new cell with the number.
+    Box,
+    /// The number in a cell, which has to fit in 64 bits.
+    Unbox,
 }
 
 /// `CPyTagged_..`, on `int`s of 128 bits. The word of an `int` from -2^62 to 2^62 - 1 is short, that of any other has a cell. What
@@ -66,6 +73,10 @@ pub enum TaggedPrim {
     Le,
     /// The decimal.
     Str,
+    /// The number as an object: in a new cell where it is short, else in its own. Takes the reference.
+    Box,
+    /// The number in a cell; where it is not short the same cell.
+    Unbox,
 }
 
 /// `CPyBool_..`
@@ -74,6 +85,14 @@ pub enum BoolPrim {
     Not,
     /// `True` or `False`.
     Str,
+    Box,
+    Unbox,
+}
+
+/// `CPyObject_..`
+#[derive(Clone, Copy, Debug, PartialEq, Eq)]
+pub enum ObjectPrim {
+    IsNone,
 }
 
 /// `CPyStr_..`, on texts, whose items are their code points.
@@ -90,6 +109,33 @@ pub enum StrPrim {
     Len,
     /// The text of one code point. A negative index counts from the end. Fails for an index out of range.
     GetItem,
+}
+
+/// `CPyList_..`, on lists. A negative index counts from the end.
+#[derive(Clone, Copy, Debug, PartialEq, Eq)]
+pub enum ListPrim {
+    New,
+    /// Takes the item's reference.
+    Append,
+    /// Fails for an index out of range.
+    GetItem,
+    /// Answers 1. Fails for an index out of range. Takes the item's reference, also where it fails.
+    SetItem,
+    /// Takes the last item out. Fails for an empty list.
+    Pop,
+    /// The number of items, or the greatest `int` where there are more.
+    Len,
+}
+
+/// `CPyTuple_..`, on tuples.
+#[derive(Clone, Copy, Debug, PartialEq, Eq)]
+pub enum TuplePrim {
+    /// A tuple of 1 to 16 parts, whose references it takes.
+    Pack,
+    /// The part of a number, from 0.
+    GetItem,
+    /// The number of parts, or the greatest `int` where there are more.
+    Len,
 }
 
 /// `CPyGlobal_..`, on the variable of the module that they name.
@@ -140,7 +186,7 @@ impl Primitive {
     ghost use Rattle.c_core.specs.Primitives.{row_of, is_named, primitive_named, all_primitives};
 
     /// All primitives.
-    pub const ALL: [Primitive; 50] = [
+    pub const ALL: [Primitive; 66] = [
         Primitive::Int64(Int64Prim::Add),
         Primitive::Int64(Int64Prim::Subtract),
         Primitive::Int64(Int64Prim::Multiply),
@@ -154,6 +200,8 @@ impl Primitive {
         Primitive::Int64(Int64Prim::Lt),
         Primitive::Int64(Int64Prim::Le),
         Primitive::Int64(Int64Prim::Str),
+        Primitive::Int64(Int64Prim::Box),
+        Primitive::Int64(Int64Prim::Unbox),
         Primitive::Tagged(TaggedPrim::Add),
         Primitive::Tagged(TaggedPrim::Subtract),
         Primitive::Tagged(TaggedPrim::Multiply),
@@ -170,8 +218,13 @@ impl Primitive {
         Primitive::Tagged(TaggedPrim::Lt),
         Primitive::Tagged(TaggedPrim::Le),
         Primitive::Tagged(TaggedPrim::Str),
+        Primitive::Tagged(TaggedPrim::Box),
+        Primitive::Tagged(TaggedPrim::Unbox),
         Primitive::Bool(BoolPrim::Not),
         Primitive::Bool(BoolPrim::Str),
+        Primitive::Bool(BoolPrim::Box),
+        Primitive::Bool(BoolPrim::Unbox),
+        Primitive::Object(ObjectPrim::IsNone),
         Primitive::Str(StrPrim::Literal),
         Primitive::Str(StrPrim::Concat),
         Primitive::Str(StrPrim::Eq),
@@ -179,6 +232,15 @@ impl Primitive {
         Primitive::Str(StrPrim::Le),
         Primitive::Str(StrPrim::Len),
         Primitive::Str(StrPrim::GetItem),
+        Primitive::List(ListPrim::New),
+        Primitive::List(ListPrim::Append),
+        Primitive::List(ListPrim::GetItem),
+        Primitive::List(ListPrim::SetItem),
+        Primitive::List(ListPrim::Pop),
+        Primitive::List(ListPrim::Len),
+        Primitive::Tuple(TuplePrim::Pack),
+        Primitive::Tuple(TuplePrim::GetItem),
+        Primitive::Tuple(TuplePrim::Len),
         Primitive::Global(GlobalPrim::Get),
         Primitive::Global(GlobalPrim::Set),
         Primitive::Global(GlobalPrim::Clear),
@@ -211,6 +273,8 @@ impl Primitive {
             Primitive::Int64(Int64Prim::Lt) => "CPyInt64_Lt",
             Primitive::Int64(Int64Prim::Le) => "CPyInt64_Le",
             Primitive::Int64(Int64Prim::Str) => "CPyInt64_Str",
+            Primitive::Int64(Int64Prim::Box) => "CPyInt64_Box",
+            Primitive::Int64(Int64Prim::Unbox) => "CPyInt64_Unbox",
             Primitive::Tagged(TaggedPrim::Add) => "CPyTagged_Add",
             Primitive::Tagged(TaggedPrim::Subtract) => "CPyTagged_Subtract",
             Primitive::Tagged(TaggedPrim::Multiply) => "CPyTagged_Multiply",
@@ -227,8 +291,13 @@ impl Primitive {
             Primitive::Tagged(TaggedPrim::Lt) => "CPyTagged_Lt",
             Primitive::Tagged(TaggedPrim::Le) => "CPyTagged_Le",
             Primitive::Tagged(TaggedPrim::Str) => "CPyTagged_Str",
+            Primitive::Tagged(TaggedPrim::Box) => "CPyTagged_Box",
+            Primitive::Tagged(TaggedPrim::Unbox) => "CPyTagged_Unbox",
             Primitive::Bool(BoolPrim::Not) => "CPyBool_Not",
             Primitive::Bool(BoolPrim::Str) => "CPyBool_Str",
+            Primitive::Bool(BoolPrim::Box) => "CPyBool_Box",
+            Primitive::Bool(BoolPrim::Unbox) => "CPyBool_Unbox",
+            Primitive::Object(ObjectPrim::IsNone) => "CPyObject_IsNone",
             Primitive::Str(StrPrim::Literal) => "CPyStr_Literal",
             Primitive::Str(StrPrim::Concat) => "CPyStr_Concat",
             Primitive::Str(StrPrim::Eq) => "CPyStr_Eq",
@@ -236,6 +305,15 @@ impl Primitive {
             Primitive::Str(StrPrim::Le) => "CPyStr_Le",
             Primitive::Str(StrPrim::Len) => "CPyStr_Len",
             Primitive::Str(StrPrim::GetItem) => "CPyStr_GetItem",
+            Primitive::List(ListPrim::New) => "CPyList_New",
+            Primitive::List(ListPrim::Append) => "CPyList_Append",
+            Primitive::List(ListPrim::GetItem) => "CPyList_GetItem",
+            Primitive::List(ListPrim::SetItem) => "CPyList_SetItem",
+            Primitive::List(ListPrim::Pop) => "CPyList_Pop",
+            Primitive::List(ListPrim::Len) => "CPyList_Len",
+            Primitive::Tuple(TuplePrim::Pack) => "CPyTuple_Pack",
+            Primitive::Tuple(TuplePrim::GetItem) => "CPyTuple_GetItem",
+            Primitive::Tuple(TuplePrim::Len) => "CPyTuple_Len",
             Primitive::Global(GlobalPrim::Get) => "CPyGlobal_Get",
             Primitive::Global(GlobalPrim::Set) => "CPyGlobal_Set",
             Primitive::Global(GlobalPrim::Clear) => "CPyGlobal_Clear",

@@ -15,6 +15,8 @@ ghost use Rattle.c_core.specs.declared.code.CFunc.{CFunc};
 ghost use Rattle.c_core.specs.declared.code.Code as declared;
 ghost use Rattle.c_core.specs.declared.primitive.Primitive.TheVariants as prim;
 ghost use Rattle.c_core.specs.declared.primitive.StrPrim.TheVariants as str;
+ghost use Rattle.c_core.specs.declared.primitive.ListPrim.TheVariants as list;
+ghost use Rattle.c_core.specs.declared.primitive.TuplePrim.TheVariants as tuple;
 ghost use Rattle.c_core.specs.declared.primitive.GlobalPrim.TheVariants as global;
 ghost use Rattle.c_core.specs.declared.primitive.ExcPrim.TheVariants as exc;
 ghost use Rattle.c_core.specs.declared.primitive.ErrPrim.TheVariants as err;
@@ -22,7 +24,8 @@ ghost use Rattle.c_core.specs.declared.primitive.IoPrim.TheVariants as io;
 
 use crate::code::{CArg, CFunc, CLit, Code, Kind, Line};
 use crate::primitive::{
-    BoolPrim, ErrPrim, ExcPrim, GlobalPrim, Int64Prim, IoPrim, Primitive, StrPrim, TaggedPrim,
+    BoolPrim, ErrPrim, ExcPrim, GlobalPrim, Int64Prim, IoPrim, ListPrim, ObjectPrim, Primitive,
+    StrPrim, TaggedPrim, TuplePrim,
 };
 use unicode_ident::is_xid_continue;
 use value_core::{ExcClass, Name};
@@ -427,14 +430,28 @@ pub(crate) fn line_fits(
         Line::Move(x, y) => same_kinds(kind_at(vars, *x), kind_at(vars, *y)),
         Line::Lit(x, literal) => literal_fits(*literal, kind_at(vars, *x)),
         Line::Call(target, name, args) => {
-            let args = args.as_slice();
-            match Primitive::named(name.as_str()) {
-                Some(primitive) => primitive_call_fits(code, vars, primitive, *target, args),
-                None => function_call_fits(code, vars, callee, *target, args),
-            }
+            let primitive = Primitive::named(name.as_str());
+            call_fits(code, vars, primitive, callee, *target, args.as_slice())
         }
         Line::Return(x) => kind_at(vars, *x) == Some(ret),
         _ => true,
+    }
+}
+
+// A call of a primitive, or of the function of a number.
+fn call_fits(
+    code: &Code,
+    vars: &[(Name, Kind)],
+    primitive: Option<Primitive>,
+    callee: Option<usize>,
+    target: Option<usize>,
+    args: &[CArg],
+) -> bool
+    ensures { result ≡ spec.call_fits code.now vars.now target args.now primitive callee }
+{
+    match primitive {
+        Some(primitive) => primitive_call_fits(code, vars, primitive, target, args),
+        None => function_call_fits(code, vars, callee, target, args),
     }
 }
 
@@ -559,7 +576,10 @@ fn primitive_call_fits(
         Primitive::Int64(operation) => int64_call_fits(vars, operation, target, args),
         Primitive::Tagged(operation) => tagged_call_fits(vars, operation, target, args),
         Primitive::Bool(operation) => bool_call_fits(vars, operation, target, args),
+        Primitive::Object(operation) => object_call_fits(vars, operation, target, args),
         Primitive::Str(operation) => text_call_fits(vars, operation, target, args),
+        Primitive::List(operation) => list_call_fits(vars, operation, target, args),
+        Primitive::Tuple(operation) => tuple_call_fits(vars, operation, target, args),
         Primitive::Global(operation) => global_call_fits(code, vars, operation, target, args),
         Primitive::Exc(operation) => exception_call_fits(vars, operation, target, args),
         Primitive::Err(operation) => error_call_fits(vars, operation, target, args),
@@ -589,6 +609,8 @@ fn int64_call_fits(
         Int64Prim::Lt => two_fit(vars, Kind::Int64, args, Kind::Char, target),
         Int64Prim::Le => two_fit(vars, Kind::Int64, args, Kind::Char, target),
         Int64Prim::Str => one_fits(vars, Kind::Int64, args, Kind::Object, target),
+        Int64Prim::Box => one_fits(vars, Kind::Int64, args, Kind::Object, target),
+        Int64Prim::Unbox => one_fits(vars, Kind::Object, args, Kind::Int64, target),
     }
 }
 
@@ -617,6 +639,8 @@ fn tagged_call_fits(
         TaggedPrim::Lt => two_fit(vars, Kind::Tagged, args, Kind::Char, target),
         TaggedPrim::Le => two_fit(vars, Kind::Tagged, args, Kind::Char, target),
         TaggedPrim::Str => one_fits(vars, Kind::Tagged, args, Kind::Object, target),
+        TaggedPrim::Box => one_fits(vars, Kind::Tagged, args, Kind::Object, target),
+        TaggedPrim::Unbox => one_fits(vars, Kind::Object, args, Kind::Tagged, target),
     }
 }
 
@@ -631,6 +655,21 @@ fn bool_call_fits(
     match operation {
         BoolPrim::Not => one_fits(vars, Kind::Char, args, Kind::Char, target),
         BoolPrim::Str => one_fits(vars, Kind::Char, args, Kind::Object, target),
+        BoolPrim::Box => one_fits(vars, Kind::Char, args, Kind::Object, target),
+        BoolPrim::Unbox => one_fits(vars, Kind::Object, args, Kind::Char, target),
+    }
+}
+
+fn object_call_fits(
+    vars: &[(Name, Kind)],
+    operation: ObjectPrim,
+    target: Option<usize>,
+    args: &[CArg],
+) -> bool
+    ensures { (code : declared.Code) → result ≡ spec.row_fits code vars.now target args.now (row_of (prim.Object operation)) }
+{
+    match operation {
+        ObjectPrim::IsNone => one_fits(vars, Kind::Object, args, Kind::Char, target),
     }
 }
 
@@ -653,7 +692,100 @@ fn text_call_fits(
     }
 }
 
-// A text and an index are borrowed, and an object is answered.
+fn list_call_fits(
+    vars: &[(Name, Kind)],
+    operation: ListPrim,
+    target: Option<usize>,
+    args: &[CArg],
+) -> bool
+    ensures { (code : declared.Code) → result ≡ spec.row_fits code vars.now target args.now (row_of (prim.List operation)) }
+{
+    match operation {
+        ListPrim::New => nothing_fits(vars, args, Kind::Object, target),
+        ListPrim::Append => append_fits(vars, args, target),
+        ListPrim::GetItem => item_fits(vars, args, target),
+        ListPrim::SetItem => put_fits(vars, args, target),
+        ListPrim::Pop => one_fits(vars, Kind::Object, args, Kind::Object, target),
+        ListPrim::Len => one_fits(vars, Kind::Object, args, Kind::Tagged, target),
+    }
+}
+
+// A list is borrowed and an object stolen, and nothing is answered.
+fn append_fits(vars: &[(Name, Kind)], args: &[CArg], target: Option<usize>) -> bool
+    ensures { (code : declared.Code) → result ≡ spec.row_fits code vars.now target args.now (row_of (prim.List list.Append)) }
+{
+    match args {
+        [CArg::Var(x), CArg::Var(y)] => {
+            target.is_none()
+                && kind_at(vars, *x) == Some(Kind::Object)
+                && kind_at(vars, *y) == Some(Kind::Object)
+        }
+        _ => false,
+    }
+}
+
+// A list and an index are borrowed and an object stolen, and a `char` is answered.
+fn put_fits(vars: &[(Name, Kind)], args: &[CArg], target: Option<usize>) -> bool
+    ensures { (code : declared.Code) → result ≡ spec.row_fits code vars.now target args.now (row_of (prim.List list.SetItem)) }
+{
+    match args {
+        [CArg::Var(list), CArg::Var(index), CArg::Var(item)] => {
+            kind_at(vars, *list) == Some(Kind::Object)
+                && kind_at(vars, *index) == Some(Kind::Tagged)
+                && kind_at(vars, *item) == Some(Kind::Object)
+                && answers(vars, Kind::Char, target)
+        }
+        _ => false,
+    }
+}
+
+fn tuple_call_fits(
+    vars: &[(Name, Kind)],
+    operation: TuplePrim,
+    target: Option<usize>,
+    args: &[CArg],
+) -> bool
+    ensures { (code : declared.Code) → result ≡ spec.row_fits code vars.now target args.now (row_of (prim.Tuple operation)) }
+{
+    match operation {
+        TuplePrim::Pack => pack_fits(vars, args, target),
+        TuplePrim::GetItem => part_fits(vars, args, target),
+        TuplePrim::Len => one_fits(vars, Kind::Object, args, Kind::Tagged, target),
+    }
+}
+
+// 1 to 16 objects are stolen, and an object is answered.
+fn pack_fits(vars: &[(Name, Kind)], args: &[CArg], target: Option<usize>) -> bool
+    ensures { (code : declared.Code) → result ≡ spec.row_fits code vars.now target args.now (row_of (prim.Tuple tuple.Pack)) }
+{
+    if args.is_empty() {
+        return false;
+    }
+    if args.len() > 16 {
+        return false;
+    }
+    are_objects(vars, args) && answers(vars, Kind::Object, target)
+}
+
+fn are_objects(vars: &[(Name, Kind)], args: &[CArg]) -> bool
+    ensures { result ≡ list_all (λ a. spec.passes vars.now (Kind.Object ∷ []) (a ∷ [])) args.now }
+{
+    args.iter().all(|arg| is_passed(vars, Kind::Object, arg))
+}
+
+// A tuple is borrowed and a number written, and an object is answered.
+fn part_fits(vars: &[(Name, Kind)], args: &[CArg], target: Option<usize>) -> bool
+    ensures { (code : declared.Code) → result ≡ spec.row_fits code vars.now target args.now (row_of (prim.Tuple tuple.GetItem)) }
+{
+    match args {
+        [CArg::Var(x), CArg::Number(_)] => {
+            kind_at(vars, *x) == Some(Kind::Object) && answers(vars, Kind::Object, target)
+        }
+        _ => false,
+    }
+}
+
+// A text or a list and an index are borrowed, and an object is answered.
 fn item_fits(vars: &[(Name, Kind)], args: &[CArg], target: Option<usize>) -> bool
     ensures { (code : declared.Code) → result ≡ spec.row_fits code vars.now target args.now (row_of (prim.Str str.GetItem)) }
 {

@@ -16,19 +16,19 @@ use Rattle.c_core.specs.declared.fault.Fault.TheVariants as fault
 use Rattle.c_core.specs.declared.primitive.Primitive.{Primitive}
 use Rattle.c_core.specs.declared.primitive.Primitive.TheVariants as prim
 use Rattle.c_core.specs.declared.primitive.ErrPrim.TheVariants as err
-use Rattle.c_core.specs.Cells.{Cells, times, content_at, take_one, make}
+use Rattle.c_core.specs.Cells.{Cells, times, content_at, take_one, refill, make}
 use Rattle.c_core.specs.Ledgers.{Ledger, more, more_of, without}
 use Rattle.c_core.specs.Release.{release}
-use Rattle.c_core.specs.Machine.{Word, ShortInt, BigInt, TaggedError, CharWord, ObjectCell, NoneObject, TrueObject, FalseObject, NoObject, Content, IntCell, StrCell, ExcCell, refs_of, set_refs, refs_in, Frame, MachineState}
+use Rattle.c_core.specs.Machine.{Word, ShortInt, BigInt, TaggedError, CharWord, ObjectCell, NoneObject, TrueObject, FalseObject, NoObject, Content, IntCell, StrCell, ExcCell, refs_of, set_refs, refs_in, noted, Frame, MachineState}
 use Rattle.c_core.specs.Holders.{pending_refs}
 use Rattle.c_core.specs.Functions.{function_named, parameter_kinds}
-use Rattle.c_core.specs.Primitives.{Holding, Parameter, Borrows, Steals, TakesNumber, TakesText, TakesException, TakesGlobal, TakesClass, row_of, primitive_named}
+use Rattle.c_core.specs.Primitives.{Holding, Parameter, Borrows, Steals, MaySteal, TakesNumber, TakesText, TakesException, TakesGlobal, TakesClass, may_end, row_of, primitive_named}
 use Rattle.c_core.specs.Arguments.{Argument, Cell, Plain, Written, is_value_of, is_holding, kind_found, stolen}
-use Rattle.c_core.specs.Step.{Faulted, Next, Goes, Ends, Effect, Wrong, Says, Shares, Makes, Writes, Stores, Fails, Pends, Catches, MakesInt, Reads, Skips, Stops, exception_in, matched, effect, with_cells, with_ledger, with_items, with_var, with_target, next_line, own, shared, raise, literal_word, equals_error, is_error, is_both, kind_of, label_at, line_at, if_some, if_calm, if_content, if_any, if_taken, given, word_of, if_true, if_there, if_variable, if_stolen, if_argument, if_arguments, applied, if_may_stand, called, call_step, if_passed, function_called, jumped, chosen, turned, taken, incremented, given_up, decremented, decremented_if_set, if_in_order, if_result, if_none_left, if_thrown, if_ended, if_return, step_at, step, unchecked_step}
+use Rattle.c_core.specs.Step.{Faulted, Next, Goes, Ends, Effect, Wrong, Says, Shares, Makes, Changes, Writes, Stores, Fails, Pends, Catches, MakesInt, Reads, Skips, Stops, exception_in, matched, effect, with_cells, with_ledger, with_items, with_var, with_target, next_line, own, shared, raise, literal_word, equals_error, is_error, is_both, kind_of, label_at, line_at, if_some, if_calm, if_content, if_any, if_taken, given, word_of, if_true, if_there, if_variable, if_stolen, if_argument, if_arguments, applied, if_may_stand, called, call_step, if_passed, function_called, jumped, chosen, turned, taken, incremented, given_up, decremented, decremented_if_set, if_in_order, if_result, if_none_left, if_thrown, if_ended, if_return, step_at, step, unchecked_step}
 use Rattle.c_core.specs.Laws.{IsCounted}
 use Rattle.c_core.proofs.CountLemmas.{same_self, there}
 use Rattle.c_core_ownership_laws.specs.Alike.{with_ledgers, loose, HoldsMore, IsLike, Alike}
-use Rattle.c_core_ownership_laws.proofs.CellLemmas.{taken_more, given_more, made_more}
+use Rattle.c_core_ownership_laws.proofs.CellLemmas.{taken_more, changed_more, given_more, made_more}
 
 -- a fault of ownership in the checked step
 dead : (s : MachineState) (next : Next) → Alike (Ends (Faulted fault.Dead) s) next
@@ -122,6 +122,9 @@ module _ (s : MachineState) (ok : IsCounted s) (h : Cells Content) (l : Ledger) 
   like_argument code (Steals k hold) (arg.Var x) earlier r q go other same =
       like_some fault.Kind (kind_found code k earlier) _ _
       (λ kind e. like_variable kind hold x _ _ (λ a. like_stolen a r q (go a) (other a) (same a)))
+  like_argument code (MaySteal k hold) (arg.Var x) earlier r q go other same =
+      like_some fault.Kind (kind_found code k earlier) _ _
+      (λ kind e. like_variable kind hold x _ _ (λ a. like_stolen a r q (go a) (other a) (same a)))
   like_argument code TakesNumber (arg.Number n) earlier r q go other same = same (Written (arg.Number n)) r q
   like_argument code TakesText (arg.Text text) earlier r q go other same = same (Written (arg.Text text)) r q
   like_argument code TakesException (arg.Text text) earlier r q go other same = same (Written (arg.Text text)) r q
@@ -134,7 +137,8 @@ module _ (s : MachineState) (ok : IsCounted s) (h : Cells Content) (l : Ledger) 
   like_arguments code (p ∷ ps) (a ∷ rest) earlier r q go other same =
       like_argument code p a earlier r q _ _
       (λ y b d. like_arguments code ps rest (earlier ++ y ∷ []) b d (λ others. go (y ∷ others)) (λ others. other (y ∷ others)) (λ all e f. same (y ∷ all) e f))
-  like_arguments code _ _ earlier r q go other same = like_fault fault.Kind
+  like_arguments code (p ∷ ps) [] earlier r q go other same = like_true (may_end (p ∷ ps)) (go [] r) (other [] q) (same [] r q)
+  like_arguments code [] (a ∷ rest) earlier r q go other same = like_fault fault.Kind
 
   -- ---- what a primitive does hangs on the state only by its globals, its pending exception and its input
   pending_at : (o : Option ℕ) → s.pending ≡ o → option_and_then exception_in (option_and_then (content_at h) o) ≡ option_and_then exception_in (option_and_then (content_at s.cells) o)
@@ -153,24 +157,37 @@ module _ (s : MachineState) (ok : IsCounted s) (h : Cells Content) (l : Ledger) 
   local code (prim.Int64 p) all = refl
   local code (prim.Tagged p) all = refl
   local code (prim.Bool p) all = refl
+  local code (prim.Object p) all = refl
   local code (prim.Str p) all = refl
+  local code (prim.List p) all = refl
+  local code (prim.Tuple p) all = refl
   local code (prim.Global p) all = refl
   local code (prim.Exc p) all = refl
   local code (prim.Io p) all = refl
 
-  like_shared : (x : Option ℕ) (w : Word) (r q : Ledger) → IsLike (next_line (with_target x w (shared w (with_ledger r s)))) (next_line (with_target x w (shared w (with_ledger q u))))
-  like_shared x (BigInt c) r q =
-      like_target x (BigInt c) _ _ (record { cells = take_one c h; ledger = more c q; ledgers = ls; is = refl; more = taken_more s.cells h m c })
-  like_shared x (ObjectCell c) r q =
-      like_target x (ObjectCell c) _ _ (record { cells = take_one c h; ledger = more c q; ledgers = ls; is = refl; more = taken_more s.cells h m c })
-  like_shared x w r q = like_target x w _ _ (with_one q _ _ refl m)
+  like_shared : (x : Option ℕ) (w : Word) (gone : List ℕ) (r q : Ledger) → IsLike (next_line (with_target x w (given true s gone (shared w (with_ledger r s))))) (next_line (with_target x w (given false u gone (shared w (with_ledger q u)))))
+  like_shared x (BigInt c) gone r q =
+      like_target x (BigInt c) _ _ (record { cells = take_one c h; ledger = more c q; ledgers = ls; is = refl; more = given_more (take_one c s.cells) (take_one c h) (taken_more s.cells h m c) gone })
+  like_shared x (ObjectCell c) gone r q =
+      like_target x (ObjectCell c) _ _ (record { cells = take_one c h; ledger = more c q; ledgers = ls; is = refl; more = given_more (take_one c s.cells) (take_one c h) (taken_more s.cells h m c) gone })
+  like_shared x w gone r q = like_target x w _ _ (with_one q _ _ refl (given_more s.cells h m gone))
 
-  -- a new cell, to which the target refers by its number
-  like_made : (x : Option ℕ) (word : ℕ → Word) (content : Content) (next : Items) (r q : Ledger) → IsLike (next_line (with_target x (word (length s.cells)) (own (length s.cells) (with_cells (make content s.cells) (with_items next (with_ledger r s)))))) (next_line (with_target x (word (length h)) (own (length h) (with_cells (make content h) (with_items next (with_ledger q u))))))
+  -- a cell has another content
+  like_changed : (x : Option ℕ) (c : ℕ) (content : Content) (w : Word) (up : List ℕ) (r q : Ledger) → IsLike (next_line (with_target x w (given true s up (with_cells (refill content c s.cells) (with_ledger (more_of (refs_of w) r) s))))) (next_line (with_target x w (given false u up (with_cells (refill content c h) (with_ledger (more_of (refs_of w) q) u)))))
+  like_changed x c content w up r q =
+      like_target x w _ _ (record { cells = refill content c h; ledger = more_of (refs_of w) q; ledgers = ls; is = refl; more = given_more (refill content c s.cells) (refill content c h) (changed_more s.cells h m content c) up })
+
+  -- a new cell, to which the target refers by its number, and which is noted where it is an object
+  like_made : (x : Option ℕ) (word : ℕ → Word) (content : Content) (next : Items) (r q : Ledger) → IsLike (next_line (with_target x (word (length s.cells)) (own (length s.cells) (record (with_items next (with_ledger r s)) { cells = make content s.cells; made = noted content (length s.cells) s.made })))) (next_line (with_target x (word (length h)) (own (length h) (record (with_items next (with_ledger q u)) { cells = make content h; made = noted content (length h) s.made }))))
   like_made x word content next r q =
-      subst (λ n. IsLike (next_line (with_target x (word (length s.cells)) (own (length s.cells) (with_cells (make content s.cells) (with_items next (with_ledger r s)))))) (next_line (with_target x (word n) (own (length h) (with_cells (make content h) (with_items next (with_ledger q u))))))) m.size
-      (like_target x (word (length s.cells)) (own (length s.cells) (with_cells (make content s.cells) (with_items next (with_ledger r s)))) (own (length h) (with_cells (make content h) (with_items next (with_ledger q u))))
-      (record { cells = make content h; ledger = more (length h) q; ledgers = ls; is = refl; more = made_more s.cells h m content }))
+      subst (λ n. IsLike (next_line (with_target x (word (length s.cells)) before)) (next_line (with_target x (word n) (after n)))) m.size
+      (like_target x (word (length s.cells)) before (after (length s.cells)) (record { cells = make content h; ledger = more (length h) q; ledgers = ls; is = refl; more = made_more s.cells h m content }))
+    where
+      before : MachineState
+      before = own (length s.cells) (record (with_items next (with_ledger r s)) { cells = make content s.cells; made = noted content (length s.cells) s.made })
+
+      after : ℕ → MachineState
+      after n = own (length h) (record (with_items next (with_ledger q u)) { cells = make content h; made = noted content n s.made })
 
   -- a new exception is pending, and what was stolen is given up
   like_failed : (x : Option ℕ) (w : Word) (e : Thrown) (gone : List ℕ) (next : Items) (r q : Ledger) → IsLike (next_line (with_target x w (raise e (given true s gone (with_items next (with_ledger r s)))))) (next_line (with_target x w (raise e (given false u gone (with_items next (with_ledger q u))))))
@@ -187,7 +204,8 @@ module _ (s : MachineState) (ok : IsCounted s) (h : Cells Content) (l : Ledger) 
   like_applied : (x : Option ℕ) (gone : List ℕ) (r q : Ledger) (e : Effect) → Alike (applied true s x r gone e) (applied false u x q gone e)
   like_applied x gone r q Wrong = like_fault fault.Kind
   like_applied x gone r q (Says w) = like_target x w _ _ (with_one q _ _ refl (given_more s.cells h m gone))
-  like_applied x gone r q (Shares w) = like_shared x w r q
+  like_applied x gone r q (Shares w) = like_shared x w gone r q
+  like_applied x gone r q (Changes c content w up) = like_changed x c content w up r q
   like_applied x gone r q (Makes content) = like_made x ObjectCell content s.items r q
   like_applied x gone r q (Writes text) = with_one q _ _ refl (given_more s.cells h m gone)
   like_applied x gone r q (Stores n old new) = with_one q _ _ refl (given_more s.cells h m (set_refs (old ∷ [])))

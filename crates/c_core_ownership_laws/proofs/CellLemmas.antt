@@ -1,6 +1,6 @@
 -- What changes of cells leave of the contents that two lists of cells have in common.
 use Rattle.std.proofs.Common.{◌≡◌, refl, sym, ◌∙◌, ℕ, zero, suc, ◌+◌, List, [], ◌∷◌, ◌++◌, length, length-append, Option, Some, None, ap, arith}
-use Rattle.c_core.specs.Cells.{Cell, Cells, content_of, content_at, one_less, change, lowered, raised, take_one, make}
+use Rattle.c_core.specs.Cells.{Cell, Cells, content_of, content_at, one_less, change, lowered, raised, refilled, take_one, refill, make}
 use Rattle.c_core.specs.Release.{after, freed, weight, release_some, release}
 use Rattle.c_core.specs.Machine.{Content, refs_in}
 use Rattle.c_core_ownership_laws.specs.Alike.{HoldsMore}
@@ -53,12 +53,41 @@ module _ {X : Type 0} where
   make-content (o ∷ g) (p ∷ h) x l m (suc d) v e =
       make-content g h x (omega (arith, l)) (λ i. m (suc i)) d v e
 
+module _ {X : Type 0} where
+  refill-content : (g h : Cells X) (x : X) (c : ℕ) → ((d : ℕ) (v : X) → content_at g d ≡ Some v → content_at h d ≡ Some v) → (d : ℕ) (v : X) → content_at (refill x c g) d ≡ Some v → content_at (refill x c h) d ≡ Some v
+  refill-content [] h x c m d v e = absurd (cc)
+  refill-content (o ∷ g) [] x zero m zero v e = gone o (m 0) e
+    where
+      gone : (o : Option (Cell X)) → ((v : X) → content_of o ≡ Some v → None ≡ Some v) → content_of (refilled x o) ≡ Some v → None ≡ Some v
+      gone None n e = e
+      gone (Some cell) n e = absurd (let f = n cell.content refl in cc)
+  refill-content (o ∷ g) [] x zero m (suc d) v e = m (suc d) v e
+  refill-content (o ∷ g) [] x (suc c) m zero v e = m 0 v e
+  refill-content (o ∷ g) [] x (suc c) m (suc d) v e = refill-content g [] x c (λ i. m (suc i)) d v e
+  refill-content (o ∷ g) (p ∷ h) x zero m zero v e = same_one o p (m 0) e
+    where
+      same_one : (o p : Option (Cell X)) → ((v : X) → content_of o ≡ Some v → content_of p ≡ Some v) → content_of (refilled x o) ≡ Some v → content_of (refilled x p) ≡ Some v
+      same_one None p n e = absurd (cc)
+      same_one (Some cell) None n e = absurd (let f = n cell.content refl in cc)
+      same_one (Some cell) (Some other) n e = e
+  refill-content (o ∷ g) (p ∷ h) x zero m (suc d) v e = m (suc d) v e
+  refill-content (o ∷ g) (p ∷ h) x (suc c) m zero v e = m 0 v e
+  refill-content (o ∷ g) (p ∷ h) x (suc c) m (suc d) v e = refill-content g h x c (λ i. m (suc i)) d v e
+
 module _ (g h : Cells Content) (m : HoldsMore g h) where
   pub taken_more : (c : ℕ) → HoldsMore (take_one c g) (take_one c h)
   taken_more c =
       record {
         size = change-length raised c g ∙ m.size ∙ sym (change-length raised c h);
         more = λ d v e. take-content h c d ∙ m.more d v (sym (take-content g c d) ∙ e);
+      }
+
+  -- another content in both
+  pub changed_more : (x : Content) (c : ℕ) → HoldsMore (refill x c g) (refill x c h)
+  changed_more x c =
+      record {
+        size = change-length (refilled x) c g ∙ m.size ∙ sym (change-length (refilled x) c h);
+        more = refill-content g h x c m.more;
       }
 
   -- the first gives references up, and the second does not

@@ -1,6 +1,6 @@
 -- What a primitive may write into its target and into the globals.
 use Rattle.std.proofs.Common.{◌≡◌, refl, sym, ap, subst, ◌∙◌, ℕ, zero, suc, Bool, true, false, cond, List, [], ◌∷◌, length, Option, Some, None}
-use Rattle.std.specs.Prelude.{not, ◌&&◌, int_lt, nat_lt, ◌==◌, ℤ, pos, slice_get, slice_set, is_some, find, Result, Ok, Err}
+use Rattle.std.specs.Prelude.{not, ◌&&◌, int_lt, nat_lt, ◌==◌, ℤ, pos, negsuc, slice_get, slice_set, is_some, find, Result, Ok, Err}
 use Rattle.std.specs.Fmt.{signed_decimal}
 use Rattle.std.specs.List.{position, position_or_len}
 use Rattle.std.specs.Ordering.{int_eq}
@@ -10,6 +10,7 @@ use Rattle.std.specs.Str.Parse.{signed_digits_value}
 use Rattle.std.proofs.lemmas.List.Folds.{find_at}
 use Rattle.value_core.specs.declared.arith.Arith.{Arith}
 use Rattle.value_core.specs.declared.exception.ExcClass.{ExcClass}
+use Rattle.value_core.specs.Characters.{place_of}
 use Rattle.value_core.specs.Arithmetic.{lies_within, is_short, int_add, int_sub, int_mul, int_neg, int_floor_div, int_modulo, int_shl, int_shr, int_to_i64, i64_floor_div, i64_modulo, i64_shl, i64_shr}
 use Rattle.value_core.specs.Ending.{Ending, Done, Raised, Cut, Over, Broken}
 use Rattle.value_core.specs.Exceptions.{Thrown, class_named, is_under}
@@ -25,17 +26,20 @@ use Rattle.c_core.specs.declared.primitive.Primitive.TheVariants as prim
 use Rattle.c_core.specs.declared.primitive.Int64Prim.TheVariants as int64
 use Rattle.c_core.specs.declared.primitive.TaggedPrim.TheVariants as tagged
 use Rattle.c_core.specs.declared.primitive.BoolPrim.TheVariants as bool
+use Rattle.c_core.specs.declared.primitive.ObjectPrim.TheVariants as object
 use Rattle.c_core.specs.declared.primitive.StrPrim.TheVariants as str
+use Rattle.c_core.specs.declared.primitive.ListPrim.TheVariants as list
+use Rattle.c_core.specs.declared.primitive.TuplePrim.TheVariants as tuple
 use Rattle.c_core.specs.declared.primitive.GlobalPrim.TheVariants as global
 use Rattle.c_core.specs.declared.primitive.ExcPrim.TheVariants as exc
 use Rattle.c_core.specs.declared.primitive.ErrPrim.TheVariants as err
 use Rattle.c_core.specs.declared.primitive.IoPrim.TheVariants as io
-use Rattle.c_core.specs.Machine.{Word, ShortInt, BigInt, TaggedError, Native, CharWord, ObjectCell, NoneObject, TrueObject, FalseObject, NoObject, StrCell, ExcCell, MachineState}
+use Rattle.c_core.specs.Machine.{Word, ShortInt, BigInt, TaggedError, Native, CharWord, ObjectCell, NoneObject, TrueObject, FalseObject, NoObject, IntCell, StrCell, ListCell, TupleCell, ExcCell, MachineState}
 use Rattle.c_core.specs.Functions.{error_word}
 use Rattle.c_core.specs.Primitives.{OfGlobal, Outcome, Nothing, Owned, row_of}
-use Rattle.c_core.specs.Arguments.{Argument, Cell, Plain, Written, int_in, kind_of_global, number_of_global, word_in}
-use Rattle.c_core.specs.Step.{Effect, Wrong, Says, Shares, Makes, Writes, Stores, Fails, Pends, Catches, MakesInt, Reads, Skips, Stops, truth_word, native_or, tagged_effect, tagged_or, fitted, written_int, of_int, of_ints, item_or, line_read, global_at, got, stored, set_to, made_exception, pending_exception, matched, caught, effect}
-use Rattle.c_core.specs.Strings.{text_less, text_length, text_item}
+use Rattle.c_core.specs.Arguments.{Argument, Cell, Plain, Written, int_in, kind_of_global, number_of_global, word_in, words_in}
+use Rattle.c_core.specs.Step.{Effect, Wrong, Says, Shares, Makes, Changes, Writes, Stores, Fails, Pends, Catches, MakesInt, Reads, Skips, Stops, truth_word, truth_object, native_or, tagged_effect, tagged_or, fitted, written_int, of_int, of_ints, native_in, of_word, item_at, put_at, popped, of_words, part_at, item_or, line_read, global_at, got, stored, set_to, made_exception, pending_exception, matched, caught, effect}
+use Rattle.c_core.specs.Strings.{counted_length, text_less, text_length, text_item}
 use Rattle.c_core.specs.WellFormed.{kind_at, named_kind}
 use Rattle.c_core_ownership_laws.specs.Shares.{has_cells, may_have_cells, answers_cells}
 use Rattle.c_core_ownership_laws.specs.Frames.{IsBare, GlobalsBare}
@@ -56,6 +60,7 @@ Tame code gs o b Wrong = Unit {0}
 Tame code gs o b (Says w) = IsBare w
 Tame code gs o b (Shares w) = b ≡ false → IsBare w
 Tame code gs o b (Makes content) = b ≡ true
+Tame code gs o b (Changes c content w up) = b ≡ false → IsBare w
 Tame code gs o b (Writes text) = o ≡ Nothing
 Tame code gs o b (Stores n old new) = (o ≡ Nothing) × GlobalsBare code (slice_set gs n new)
 Tame code gs o b (Fails w e) = IsBare w
@@ -78,6 +83,10 @@ AreAsWritten _ _ = Unit {0}
 truth_bare : (b : Bool) → IsBare (truth_word b)
 truth_bare true c = refl
 truth_bare false c = refl
+
+object_bare : (n : ℕ) → IsBare (truth_object n)
+object_bare zero c = refl
+object_bare (suc n) c = refl
 
 pub error_bare : (k : Kind) → IsBare (error_word k)
 error_bare Tagged c = refl
@@ -199,6 +208,35 @@ item_tame : (code : Code) (gs : List (Option Word)) (o : Outcome) (i : Option (L
 item_tame code gs o None = λ c. refl
 item_tame code gs o (Some text) = refl
 
+native_in_tame : (code : Code) (gs : List (Option Word)) (o : Outcome) (b : Bool) (r : Result ℤ Arith) → Tame code gs o b (native_in r)
+native_in_tame code gs o b (Ok n) = λ c. refl
+native_in_tame code gs o b (Err f) = tt
+
+-- cells with words
+of_word_tame : (code : Code) (gs : List (Option Word)) (o : Outcome) (b : Bool) (f : Word → Effect) (w : Option Word) → ((v : Word) → Tame code gs o b (f v)) → Tame code gs o b (of_word f w)
+of_word_tame code gs o b f None each = tt
+of_word_tame code gs o b f (Some w) each = each w
+
+of_words_tame : (code : Code) (gs : List (Option Word)) (o : Outcome) (b : Bool) (f : List Word → Effect) (ws : Option (List Word)) → ((us : List Word) → Tame code gs o b (f us)) → Tame code gs o b (of_words f ws)
+of_words_tame code gs o b f None each = tt
+of_words_tame code gs o b f (Some ws) each = each ws
+
+item_at_tame : (code : Code) (gs : List (Option Word)) (o : Outcome) (i : Option ℕ) (items : List Word) → Tame code gs o true (item_at i items)
+item_at_tame code gs o None items = λ c. refl
+item_at_tame code gs o (Some i) items = of_word_tame code gs o true Shares (slice_get items i) (λ w e. absurd (cc))
+
+put_tame : (code : Code) (gs : List (Option Word)) (o : Outcome) (b : Bool) (c : ℕ) (i : Option ℕ) (items : List Word) (w : Word) → Tame code gs o b (put_at c i items w)
+put_tame code gs o b c None items w = λ d. refl
+put_tame code gs o b c (Some i) items w = of_word_tame code gs o b _ (slice_get items i) (λ old e d. refl)
+
+popped_tame : (code : Code) (gs : List (Option Word)) (o : Outcome) (c : ℕ) (i : Option ℕ) (items : List Word) → Tame code gs o true (popped c i items)
+popped_tame code gs o c None items = λ d. refl
+popped_tame code gs o c (Some i) items = of_word_tame code gs o true _ (slice_get items i) (λ w e. absurd (cc))
+
+part_tame : (code : Code) (gs : List (Option Word)) (o : Outcome) (items : List Word) (n : ℤ) → Tame code gs o true (part_at items n)
+part_tame code gs o items (pos i) = of_word_tame code gs o true Shares (slice_get items i) (λ w e. absurd (cc))
+part_tame code gs o items (negsuc i) = tt
+
 line_tame : (code : Code) (gs : List (Option Word)) (o : Outcome) (items : Items) → Tame code gs o true (line_read items)
 line_tame code gs o item.Eof = λ c. refl
 line_tame code gs o item.Broken = tt
@@ -233,6 +271,8 @@ tame code s (prim.Int64 int64.Eq) args (Plain (Native a) ∷ Plain (Native b) �
 tame code s (prim.Int64 int64.Lt) args (Plain (Native a) ∷ Plain (Native b) ∷ []) bare w = truth_bare (int_lt a b)
 tame code s (prim.Int64 int64.Le) args (Plain (Native a) ∷ Plain (Native b) ∷ []) bare w = truth_bare (not (int_lt b a))
 tame code s (prim.Int64 int64.Str) args (Plain (Native a) ∷ []) bare w = refl
+tame code s (prim.Int64 int64.Box) args (Plain (Native a) ∷ []) bare w = refl
+tame code s (prim.Int64 int64.Unbox) args (Cell c (IntCell n) ∷ []) bare w = native_in_tame code s.globals _ _ (int_to_i64 n)
 tame code s (prim.Tagged tagged.Add) args (x ∷ y ∷ []) bare w = sum_tame code s.globals _ int_add x y
 tame code s (prim.Tagged tagged.Subtract) args (x ∷ y ∷ []) bare w = sum_tame code s.globals _ int_sub x y
 tame code s (prim.Tagged tagged.Multiply) args (x ∷ y ∷ []) bare w = sum_tame code s.globals _ int_mul x y
@@ -249,8 +289,17 @@ tame code s (prim.Tagged tagged.Eq) args (x ∷ y ∷ []) bare w = test_tame cod
 tame code s (prim.Tagged tagged.Lt) args (x ∷ y ∷ []) bare w = test_tame code s.globals _ _ int_lt x y
 tame code s (prim.Tagged tagged.Le) args (x ∷ y ∷ []) bare w = test_tame code s.globals _ _ (λ m n. not (int_lt n m)) x y
 tame code s (prim.Tagged tagged.Str) args (x ∷ []) bare w = of_int_tame code s.globals _ _ _ (int_in x) (λ n. refl)
+tame code s (prim.Tagged tagged.Box) args (Plain (ShortInt n) ∷ []) bare w = refl
+tame code s (prim.Tagged tagged.Box) args (Cell c (IntCell n) ∷ []) bare w = λ e. absurd (cc)
+tame code s (prim.Tagged tagged.Unbox) args (Cell c (IntCell n) ∷ []) bare w =
+    choice_tame code s.globals _ true (is_short n) _ _ (λ c. refl) (λ e. absurd (cc))
 tame code s (prim.Bool bool.Not) args (Plain (CharWord n) ∷ []) bare w = truth_bare (n == 0)
 tame code s (prim.Bool bool.Str) args (Plain (CharWord n) ∷ []) bare w = refl
+tame code s (prim.Bool bool.Box) args (Plain (CharWord n) ∷ []) bare w = object_bare n
+tame code s (prim.Bool bool.Unbox) args (Plain TrueObject ∷ []) bare w = λ c. refl
+tame code s (prim.Bool bool.Unbox) args (Plain FalseObject ∷ []) bare w = λ c. refl
+tame code s (prim.Object object.IsNone) args (Plain NoneObject ∷ []) bare w = λ c. refl
+tame code s (prim.Object object.IsNone) args (a ∷ []) bare w = λ c. refl
 tame code s (prim.Str str.Literal) args (Written (arg.Text text) ∷ []) bare w = refl
 tame code s (prim.Str str.Concat) args (Cell c (StrCell a) ∷ Cell d (StrCell b) ∷ []) bare w = refl
 tame code s (prim.Str str.Eq) args (Cell c (StrCell a) ∷ Cell d (StrCell b) ∷ []) bare w = truth_bare (bytes_eq a b)
@@ -259,6 +308,21 @@ tame code s (prim.Str str.Le) args (Cell c (StrCell a) ∷ Cell d (StrCell b) �
 tame code s (prim.Str str.Len) args (Cell c (StrCell text) ∷ []) bare w = number_tame code s.globals _ (text_length text)
 tame code s (prim.Str str.GetItem) args (Cell c (StrCell text) ∷ x ∷ []) bare w =
     of_int_tame code s.globals _ _ _ (int_in x) (λ i. item_tame code s.globals _ (text_item text i))
+tame code s (prim.List list.New) args [] bare w = refl
+tame code s (prim.List list.Append) args (Cell c (ListCell items) ∷ a ∷ []) bare w =
+    of_word_tame code s.globals _ _ _ (word_in Object a) (λ v e d. refl)
+tame code s (prim.List list.GetItem) args (Cell c (ListCell items) ∷ x ∷ []) bare w =
+    of_int_tame code s.globals _ _ _ (int_in x) (λ i. item_at_tame code s.globals _ (place_of (length items) i) items)
+tame code s (prim.List list.SetItem) args (Cell c (ListCell items) ∷ x ∷ a ∷ []) bare w =
+    of_int_tame code s.globals _ _ _ (int_in x)
+    (λ i. of_word_tame code s.globals _ _ _ (word_in Object a) (put_tame code s.globals _ _ c (place_of (length items) i) items))
+tame code s (prim.List list.Pop) args (Cell c (ListCell items) ∷ []) bare w =
+    popped_tame code s.globals _ c (place_of (length items) (negsuc 0)) items
+tame code s (prim.List list.Len) args (Cell c (ListCell items) ∷ []) bare w = number_tame code s.globals _ (pos (counted_length (length items)))
+tame code s (prim.Tuple tuple.Pack) args all bare w = of_words_tame code s.globals _ _ _ (words_in all) (λ ws. refl)
+tame code s (prim.Tuple tuple.GetItem) args (Cell c (TupleCell items) ∷ Written (arg.Number n) ∷ []) bare w =
+    part_tame code s.globals _ items n
+tame code s (prim.Tuple tuple.Len) args (Cell c (TupleCell items) ∷ []) bare w = number_tame code s.globals _ (pos (counted_length (length items)))
 tame code s (prim.Global global.Get) args (Written (arg.Global name) ∷ []) bare w = get_tame code s args name bare w
 tame code s (prim.Global global.Set) args (Written (arg.Global name) ∷ a ∷ []) bare w =
     set_tame code s.globals (number_of_global code name) (global_at code s name) (kind_of_global code name) a bare (kind_found code name) _ refl
@@ -316,7 +380,10 @@ module _ (code : Code) (s : MachineState) where
   stops_by_input (prim.Int64 q) all = of_tame (prim.Int64 q) all
   stops_by_input (prim.Tagged q) all = of_tame (prim.Tagged q) all
   stops_by_input (prim.Bool q) all = of_tame (prim.Bool q) all
+  stops_by_input (prim.Object q) all = of_tame (prim.Object q) all
   stops_by_input (prim.Str q) all = of_tame (prim.Str q) all
+  stops_by_input (prim.List q) all = of_tame (prim.List q) all
+  stops_by_input (prim.Tuple q) all = of_tame (prim.Tuple q) all
   stops_by_input (prim.Exc q) all = of_tame (prim.Exc q) all
   stops_by_input (prim.Err q) all = of_tame (prim.Err q) all
   stops_by_input (prim.Io q) all = of_tame (prim.Io q) all

@@ -69,7 +69,7 @@ module _ (s : MachineState) where
   call_left : (code : Code) (x : Option ℕ) (name : List ℕ) (args : List CArg) (o : Option Primitive) → Left (call_step true s code x name args o)
   call_left code x name args (Some p) =
       at_called true s Left bad code x args p
-      (λ calm all l left. applied_left x l (stolen (row_of p).parameters all) (effect code s p all) (stops_by_input code s p all))
+      (λ calm all l left here. applied_left x l (stolen (row_of p).parameters all) (effect code s p all) (stops_by_input code s p all))
   call_left code x name args None =
       at_function true s Left bad code x args (function_named code.funcs name) (λ f g e is ws. tt)
 

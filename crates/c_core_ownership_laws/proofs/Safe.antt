@@ -14,15 +14,15 @@ use Rattle.c_core.specs.declared.code.CFunc.{CFunc}
 use Rattle.c_core.specs.declared.code.Code.{Code}
 use Rattle.c_core.specs.declared.fault.Fault.TheVariants as fault
 use Rattle.c_core.specs.declared.primitive.Primitive.{Primitive}
-use Rattle.c_core.specs.Cells.{Cells, same, times, content_at, take_one, make}
+use Rattle.c_core.specs.Cells.{Cells, same, times, content_at, take_one, refill, make}
 use Rattle.c_core.specs.Ledgers.{Ledger, more, more_of, without}
 use Rattle.c_core.specs.Release.{release}
-use Rattle.c_core.specs.Machine.{Word, ShortInt, BigInt, TaggedError, CharWord, ObjectCell, NoneObject, TrueObject, FalseObject, NoObject, Content, IntCell, StrCell, ExcCell, refs_of, set_refs, refs_in, Frame, MachineState}
+use Rattle.c_core.specs.Machine.{Word, ShortInt, BigInt, TaggedError, CharWord, ObjectCell, NoneObject, TrueObject, FalseObject, NoObject, Content, IntCell, StrCell, ExcCell, refs_of, set_refs, refs_in, noted, Frame, MachineState}
 use Rattle.c_core.specs.Holders.{pending_refs, owned_below}
 use Rattle.c_core.specs.Functions.{label_places, function_named, parameter_kinds, entry_words}
-use Rattle.c_core.specs.Primitives.{Holding, Parameter, Borrows, Steals, TakesNumber, TakesText, TakesException, TakesGlobal, TakesClass, Outcome, Nothing, row_of, primitive_named}
+use Rattle.c_core.specs.Primitives.{Holding, Parameter, Borrows, Steals, MaySteal, TakesNumber, TakesText, TakesException, TakesGlobal, TakesClass, Outcome, Nothing, may_end, row_of, primitive_named}
 use Rattle.c_core.specs.Arguments.{Argument, Cell, Plain, Written, is_value_of, is_holding, kind_found, stolen}
-use Rattle.c_core.specs.Step.{MachineEnding, Ended, Faulted, Next, Goes, Ends, Effect, Wrong, Says, Shares as SharesWord, Makes, Writes, Stores, Fails, Pends, Catches, MakesInt, Reads as ReadsLine, Skips, Stops, effect, with_ledger, with_var, with_target, next_line, shared, literal_word, equals_error, is_error, is_both, kind_of, label_at, if_some, if_calm, if_content, if_any, if_taken, word_of, if_true, if_there, if_variable, if_stolen, if_argument, if_arguments, applied, if_may_stand, called, call_step, if_passed, entered, function_called, jumped, chosen, turned, incremented, given_up, decremented, decremented_if_set, if_in_order, if_result, if_none_left, if_thrown, if_ended, if_return, step_at}
+use Rattle.c_core.specs.Step.{MachineEnding, Ended, Faulted, Next, Goes, Ends, Effect, Wrong, Says, Shares as SharesWord, Makes, Changes, Writes, Stores, Fails, Pends, Catches, MakesInt, Reads as ReadsLine, Skips, Stops, effect, with_ledger, with_var, with_target, next_line, shared, literal_word, equals_error, is_error, is_both, kind_of, label_at, if_some, if_calm, if_content, if_any, if_taken, word_of, if_true, if_there, if_variable, if_stolen, if_argument, if_arguments, given, applied, if_may_stand, called, call_step, if_passed, entered, function_called, jumped, chosen, turned, incremented, given_up, decremented, decremented_if_set, if_in_order, if_result, if_none_left, if_thrown, if_ended, if_return, step_at}
 use Rattle.c_core.specs.Laws.{IsCounted}
 use Rattle.c_core.proofs.CountLemmas.{same_self, there}
 use Rattle.c_core.proofs.LedgerLemmas.{without-times, more-times, more_of-times}
@@ -145,12 +145,17 @@ module _ (code : Code) (Enters At : ℕ → ℕ → Shares → Type 0) where
 
     taken_left : (p : Parameter) (a : CArg) (k : ℕ → ℕ) → IsLeft k → IsLeft (one_taken g.vars p a k)
     taken_left (Steals kind hold) (arg.Var x) k left r = put-most x (k x - 1) k σ.owns r (omega (arith, left x)) left
+    taken_left (MaySteal kind hold) (arg.Var x) k left r = put-most x (k x - 1) k σ.owns r (omega (arith, left x)) left
     taken_left _ _ k left r = left r
 
     safe_argument : (p : Parameter) (a : CArg) (earlier : List Argument) (k : ℕ → ℕ) (l : Ledger) (go : Argument → Ledger → Next) → IsGiven g.vars σ p a k → IsLeft k → Owns l k → ((y : Argument) (r : Ledger) → IsAsWritten a y → Owns r (one_taken g.vars p a k) → P (go y r)) → P (if_argument true s code p a earlier l go)
     safe_argument (Borrows kind hold) (arg.Var x) earlier k l go has left owned h =
         safe_some (kind_found code kind earlier) _ (λ found e. safe_variable found hold x _ has (λ w a at read. h a l (read.1 (arg.Var x)) owned))
     safe_argument (Steals kind hold) (arg.Var x) earlier k l go has left owned h =
+        safe_some (kind_found code kind earlier) _
+        (λ found e. safe_variable found hold x _ (⊎_elim (λ le. inl (omega (arith, le, left x))) (λ f. inr (inr f)) has)
+        (λ w a at read. safe_steal x w a k l (go a) has at read owned (λ r. h a r (read.1 (arg.Var x)))))
+    safe_argument (MaySteal kind hold) (arg.Var x) earlier k l go has left owned h =
         safe_some (kind_found code kind earlier) _
         (λ found e. safe_variable found hold x _ (⊎_elim (λ le. inl (omega (arith, le, left x))) (λ f. inr (inr f)) has)
         (λ w a at read. safe_steal x w a k l (go a) has at read owned (λ r. h a r (read.1 (arg.Var x)))))
@@ -167,11 +172,12 @@ module _ (code : Code) (Enters At : ℕ → ℕ → Shares → Type 0) where
         safe_argument p a earlier k l _ has.0 left owned
         (λ y r first rests. safe_arguments ps rest (earlier ++ y ∷ []) (one_taken g.vars p a k) r (λ others. go (y ∷ others)) has.1 (taken_left p a k left) rests
         (λ all last others ends. h (y ∷ all) last (first, others) ends))
-    safe_arguments _ _ earlier k l go has left owned h = fine (Faulted fault.Kind) s tt
+    safe_arguments (p ∷ ps) [] earlier k l go has left owned h = safe_true (may_end (p ∷ ps)) (go [] l) (λ e. h [] l tt owned)
+    safe_arguments [] (a ∷ rest) earlier k l go has left owned h = fine (Faulted fault.Kind) s tt
 
     -- ---- what a primitive does, where the ledger l is what variables own after the arguments
-    safe_answer : (x : Option ℕ) (b : Bool) (k : ℕ → ℕ) (w : Word) (cells : Cells Content) (l r : Ledger) (gs : List (Option Word)) (p : Option ℕ) (output : List ℕ) (items : Items) → Owns l k → IsTarget g.vars b x → IsFree g.vars k x → Go (with_answer g.vars x (record σ { owns = k })) → (b ≡ false → IsBare w) → ((c : ℕ) → times r c ≡ times l c + times (refs_of w) c) → GlobalsBare code gs → P (Goes (next_line (with_target x w (record s { cells = cells; top = record s.top { ledger = r }; globals = gs; pending = p; output = output; items = items }))))
-    safe_answer None b k w cells l r gs p output items owned at none go sure e numbers =
+    safe_answer : (x : Option ℕ) (b : Bool) (k : ℕ → ℕ) (w : Word) (cells : Cells Content) (l r : Ledger) (gs : List (Option Word)) (p : Option ℕ) (output : List ℕ) (items : Items) (made : List ℕ) → Owns l k → IsTarget g.vars b x → IsFree g.vars k x → Go (with_answer g.vars x (record σ { owns = k })) → (b ≡ false → IsBare w) → ((c : ℕ) → times r c ≡ times l c + times (refs_of w) c) → GlobalsBare code gs → P (Goes (next_line (with_target x w (record s { cells = cells; top = record s.top { ledger = r }; globals = gs; pending = p; output = output; items = items; made = made }))))
+    safe_answer None b k w cells l r gs p output items made owned at none go sure e numbers =
         arr _ (record {
           σ = record σ { owns = k };
           func = refl;
@@ -183,7 +189,7 @@ module _ (code : Code) (Enters At : ℕ → ℕ → Shares → Type 0) where
           waits = waits;
           globals = numbers;
         })
-    safe_answer (Some x) b k w cells l r gs p output items owned at none go sure e numbers =
+    safe_answer (Some x) b k w cells l r gs p output items made owned at none go sure e numbers =
         arr _ (record {
           σ = with_answer g.vars (Some x) (record σ { owns = k });
           func = refl;
@@ -201,41 +207,43 @@ module _ (code : Code) (Enters At : ℕ → ℕ → Shares → Type 0) where
       safe_act : (cells : Cells Content) (gs : List (Option Word)) (p : Option ℕ) (output : List ℕ) → o ≡ Nothing → GlobalsBare code gs → P (Goes (next_line (record s { cells = cells; top = record s.top { ledger = l }; globals = gs; pending = p; output = output })))
       safe_act cells gs p output acts numbers =
           let missing : x ≡ None = subst (λ z. HasTarget z x) acts has in
-          safe_answer None b k NoneObject cells l l gs p output s.items owned (subst (IsTarget g.vars b) missing at) tt (subst (λ z. Go (with_answer g.vars z (record σ { owns = k }))) missing go) (λ f c. refl) (λ c. omega arith) numbers
+          safe_answer None b k NoneObject cells l l gs p output s.items s.made owned (subst (IsTarget g.vars b) missing at) tt (subst (λ z. Go (with_answer g.vars z (record σ { owns = k }))) missing go) (λ f c. refl) (λ c. omega arith) numbers
 
-      safe_shared : (w : Word) → (b ≡ false → IsBare w) → P (Goes (next_line (with_target x w (shared w (with_ledger l s)))))
-      safe_shared (BigInt c) sure =
-          safe_answer x b k (BigInt c) (take_one c s.cells) l (more c l) s.globals s.pending s.output s.items owned at none go sure (λ d. omega (arith, more-times c l d)) bare
-      safe_shared (ObjectCell c) sure =
-          safe_answer x b k (ObjectCell c) (take_one c s.cells) l (more c l) s.globals s.pending s.output s.items owned at none go sure (λ d. omega (arith, more-times c l d)) bare
-      safe_shared w sure =
-          safe_answer x b k w s.cells l l s.globals s.pending s.output s.items owned at none go sure (λ d. omega arith) bare
+      safe_shared : (gone : List ℕ) (w : Word) → (b ≡ false → IsBare w) → P (Goes (next_line (with_target x w (given true s gone (shared w (with_ledger l s))))))
+      safe_shared gone (BigInt c) sure =
+          safe_answer x b k (BigInt c) (release refs_in (take_one c s.cells) gone) l (more c l) s.globals s.pending s.output s.items s.made owned at none go sure (λ d. omega (arith, more-times c l d)) bare
+      safe_shared gone (ObjectCell c) sure =
+          safe_answer x b k (ObjectCell c) (release refs_in (take_one c s.cells) gone) l (more c l) s.globals s.pending s.output s.items s.made owned at none go sure (λ d. omega (arith, more-times c l d)) bare
+      safe_shared gone w sure =
+          safe_answer x b k w (release refs_in s.cells gone) l l s.globals s.pending s.output s.items s.made owned at none go sure (λ d. omega arith) bare
 
       -- a new cell, which the frame owns
-      safe_made : (word : ℕ → Word) (content : Content) (items : Items) → ((c d : ℕ) → times (refs_of (word c)) d ≡ same c d) → b ≡ true → P (Goes (next_line (with_target x (word (length s.cells)) (record s { cells = make content s.cells; top = record s.top { ledger = more (length s.cells) l }; items = items }))))
-      safe_made word content items refers t =
-          safe_answer x b k (word (length s.cells)) (make content s.cells) l (more (length s.cells) l) s.globals s.pending s.output items owned at none go (λ f. cc) (λ c. omega (arith, more-times (length s.cells) l c, refers (length s.cells) c)) bare
+      safe_made : (word : ℕ → Word) (content : Content) (items : Items) (made : List ℕ) → ((c d : ℕ) → times (refs_of (word c)) d ≡ same c d) → b ≡ true → P (Goes (next_line (with_target x (word (length s.cells)) (record s { cells = make content s.cells; top = record s.top { ledger = more (length s.cells) l }; items = items; made = made }))))
+      safe_made word content items made refers t =
+          safe_answer x b k (word (length s.cells)) (make content s.cells) l (more (length s.cells) l) s.globals s.pending s.output items made owned at none go (λ f. cc) (λ c. omega (arith, more-times (length s.cells) l c, refers (length s.cells) c)) bare
 
       -- a new exception is pending
       safe_failed : (gone : List ℕ) (w : Word) (e : Thrown) (items : Items) → IsBare w → P (Goes (next_line (with_target x w (record s { cells = make (ExcCell e) (release refs_in s.cells gone); top = record s.top { ledger = l }; pending = Some (length (release refs_in s.cells gone)); items = items }))))
       safe_failed gone w e items t =
-          safe_answer x b k w (make (ExcCell e) (release refs_in s.cells gone)) l l s.globals (Some (length (release refs_in s.cells gone))) s.output items owned at none go (λ f. t) (λ c. omega (arith, t c)) bare
+          safe_answer x b k w (make (ExcCell e) (release refs_in s.cells gone)) l l s.globals (Some (length (release refs_in s.cells gone))) s.output items s.made owned at none go (λ f. t) (λ c. omega (arith, t c)) bare
 
       safe_applied : (gone : List ℕ) (e : Effect) → Tame code s.globals o b e → P (applied true s x l gone e)
       safe_applied gone Wrong t = fine (Faulted fault.Kind) s tt
       safe_applied gone (Says w) t =
-          safe_answer x b k w (release refs_in s.cells gone) l l s.globals s.pending s.output s.items owned at none go (λ f. t) (λ c. omega (arith, t c)) bare
-      safe_applied gone (SharesWord w) t = safe_shared w t
-      safe_applied gone (Makes content) t = safe_made ObjectCell content s.items (λ c d. omega arith) t
+          safe_answer x b k w (release refs_in s.cells gone) l l s.globals s.pending s.output s.items s.made owned at none go (λ f. t) (λ c. omega (arith, t c)) bare
+      safe_applied gone (SharesWord w) t = safe_shared gone w t
+      safe_applied gone (Changes c content w up) t =
+          safe_answer x b k w (release refs_in (refill content c s.cells) up) l (more_of (refs_of w) l) s.globals s.pending s.output s.items s.made owned at none go t (λ d. omega (arith, more_of-times (refs_of w) l d)) bare
+      safe_applied gone (Makes content) t = safe_made ObjectCell content s.items (noted content (length s.cells) s.made) (λ c d. omega arith) t
       safe_applied gone (Writes text) t = safe_act (release refs_in s.cells gone) s.globals s.pending (s.output ++ text) t bare
       safe_applied gone (Stores n old new) t =
           safe_act (release refs_in s.cells (set_refs (old ∷ []))) (slice_set s.globals n new) s.pending s.output t.0 t.1
       safe_applied gone (Fails w e) t = safe_failed gone w e s.items t
       safe_applied gone (Pends c) t = safe_act s.cells s.globals (Some c) s.output t bare
       safe_applied gone (Catches c) t =
-          safe_answer x b k (ObjectCell c) s.cells l (more c l) s.globals None s.output s.items owned at none go (λ f. cc) (λ d. omega (arith, more-times c l d)) bare
-      safe_applied gone (MakesInt n) t = safe_made BigInt (IntCell n) s.items (λ c d. omega arith) t
-      safe_applied gone (ReadsLine text next) t = safe_made ObjectCell (StrCell text) next (λ c d. omega arith) t
+          safe_answer x b k (ObjectCell c) s.cells l (more c l) s.globals None s.output s.items s.made owned at none go (λ f. cc) (λ d. omega (arith, more-times c l d)) bare
+      safe_applied gone (MakesInt n) t = safe_made BigInt (IntCell n) s.items s.made (λ c d. omega arith) t
+      safe_applied gone (ReadsLine text next) t = safe_made ObjectCell (StrCell text) next s.made (λ c d. omega arith) t
       safe_applied gone (Skips next w e) t = safe_failed gone w e next t
       safe_applied gone (Stops e) t = fine (Ended e) s tt
 

@@ -7,7 +7,7 @@ use Rattle.c_core.specs.declared.code.Line.TheVariants.{Label, Move, Lit, Call, 
 use Rattle.c_core.specs.declared.code.CFunc.{CFunc}
 use Rattle.c_core.specs.declared.code.Code.{Code}
 use Rattle.c_core.specs.declared.primitive.Primitive.{Primitive}
-use Rattle.c_core.specs.Primitives.{Parameter, Borrows, Steals, row_of, primitive_named}
+use Rattle.c_core.specs.Primitives.{Parameter, Borrows, Steals, MaySteal, row_of, primitive_named}
 use Rattle.c_core_ownership_laws.specs.Shares.{put, Shares, with_share, Within, may_refer, IsLent, IsUsable, AreUsable, IsGiven, one_taken, AreGiven, left_over, one_if, with_answer, Jumps, CallChecks, LineChecks}
 
 pub within_all : (ρ σ τ : Shares) → Within ρ σ → Within σ τ → Within ρ τ
@@ -42,6 +42,7 @@ module _ (code : Code) (g : CFunc) (Enters : ℕ → Shares → Type 0) where
     given_still : (p : Parameter) (a : CArg) (k : ℕ → ℕ) → IsGiven g.vars σ p a k → IsGiven g.vars wide p a k
     given_still (Borrows kind hold) (arg.Var x) k u = usable_still x u
     given_still (Steals kind hold) (arg.Var x) k u = u
+    given_still (MaySteal kind hold) (arg.Var x) k u = u
     given_still _ _ k u = u
 
     all_given : (ps : List Parameter) (args : List CArg) (k : ℕ → ℕ) → AreGiven g.vars σ ps args k → AreGiven g.vars wide ps args k

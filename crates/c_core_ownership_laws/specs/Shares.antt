@@ -13,7 +13,7 @@ use Rattle.c_core.specs.declared.code.Code.{Code}
 use Rattle.c_core.specs.declared.primitive.Primitive.{Primitive}
 use Rattle.c_core.specs.Cells.{same}
 use Rattle.c_core.specs.Functions.{function_named}
-use Rattle.c_core.specs.Primitives.{Is, OfGlobal, OfSlot, Parameter, Borrows, Steals, Outcome, Nothing, Owned, Row, row_of, primitive_named}
+use Rattle.c_core.specs.Primitives.{Is, OfGlobal, OfSlot, Parameter, Borrows, Steals, MaySteal, Outcome, Nothing, Owned, Row, row_of, primitive_named}
 use Rattle.c_core.specs.WellFormed.{Declared, kind_at, named_kind}
 
 -- a function of numbers that is changed at one of them
@@ -83,11 +83,13 @@ module _ (vars : List Declared) where
   abbrev pub IsGiven : Shares → Parameter → CArg → (ℕ → ℕ) → Type 0
   IsGiven σ (Borrows h w) (arg.Var x) k = IsUsable σ x
   IsGiven σ (Steals h w) (arg.Var x) k = (1 ≤ k x) ⊎ (may_refer x ≡ false)
+  IsGiven σ (MaySteal h w) (arg.Var x) k = (1 ≤ k x) ⊎ (may_refer x ≡ false)
   IsGiven σ _ _ k = Unit {0}
 
   -- what it leaves in turn
   abbrev pub one_taken : Parameter → CArg → (ℕ → ℕ) → ℕ → ℕ
   one_taken (Steals h w) (arg.Var x) k = put x (k x - 1) k
+  one_taken (MaySteal h w) (arg.Var x) k = put x (k x - 1) k
   one_taken _ _ k = k
 
   -- all arguments, from left to right

@@ -1,5 +1,5 @@
 use Rattle.std.proofs.Common.{codes}
-use Rattle.c_core.specs.Primitives.{Anything}
+use Rattle.c_core.specs.Primitives.{Anything, ANumber}
 use Rattle.c_core.proofs.well_formed.int64_call_fits.Goals as goal
 
 pub returns-in-Add : goal.returns-in-Add
@@ -40,3 +40,9 @@ returns-in-Lshift c = λ code. rw c.in-Lshift.is (c.two_fit-in-Lshift.ensures co
 
 pub returns-in-Rshift : goal.returns-in-Rshift
 returns-in-Rshift c = λ code. rw c.in-Rshift.is (c.two_fit-in-Rshift.ensures code (codes "CPyInt64_Rshift") Anything)
+
+pub returns-in-Box : goal.returns-in-Box
+returns-in-Box c = λ code. rw c.in-Box.is (c.one_fits-in-Box.ensures code (codes "CPyInt64_Box") Anything)
+
+pub returns-in-Unbox : goal.returns-in-Unbox
+returns-in-Unbox c = λ code. rw c.in-Unbox.is (c.one_fits-in-Unbox.ensures code (codes "CPyInt64_Unbox") ANumber)

@@ -49,3 +49,9 @@ returns-in-Le c = λ code. rw c.in-Le.is (c.two_fit-in-Le.ensures code (codes "C
 
 pub returns-in-Str : goal.returns-in-Str
 returns-in-Str c = λ code. rw c.in-Str.is (c.one_fits-in-Str.ensures code (codes "CPyTagged_Str") ANumber)
+
+pub returns-in-Box : goal.returns-in-Box
+returns-in-Box c = λ code. rw c.in-Box.is (c.one_fits-in-Box.ensures code (codes "CPyTagged_Box") ANumber)
+
+pub returns-in-Unbox : goal.returns-in-Unbox
+returns-in-Unbox c = λ code. rw c.in-Unbox.is (c.one_fits-in-Unbox.ensures code (codes "CPyTagged_Unbox") ANumber)
