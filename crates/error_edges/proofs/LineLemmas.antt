@@ -14,7 +14,7 @@ use Rattle.c_core.specs.declared.code.CFunc.{CFunc}
 use Rattle.c_core.specs.declared.code.Code.{Code}
 use Rattle.c_core.specs.declared.primitive.Primitive.{Primitive}
 use Rattle.c_core.specs.Functions.{function_named, parameter_kinds}
-use Rattle.c_core.specs.Primitives.{KindAt, Is, OfGlobal, OfSlot, Parameter, Borrows, Steals, TakesNumber, TakesText, TakesException, TakesGlobal, TakesClass, Outcome, Nothing, Owned, row_of, primitive_named}
+use Rattle.c_core.specs.Primitives.{KindAt, Is, OfGlobal, OfSlot, Parameter, Borrows, Steals, MaySteal, TakesNumber, TakesText, TakesException, TakesGlobal, TakesClass, Outcome, Nothing, Owned, row_of, primitive_named}
 use Rattle.c_core.specs.WellFormed.{Declared, is_call_name, spelled_literal, spelled_label, is_declared, kind_at, is_counted_kind, spelled_arg, spelled_target, spelled_line, has_kind, same_kinds, literal_fits, kinds_agree, named_kind, kind_fits, passes, arg_fits, args_fit, target_fits, function_call_fits, call_fits, line_fits}
 
 -- the functions of a code may have more variables and other lines
@@ -127,6 +127,7 @@ module _ (vars more : List Declared) where
     arg_fits_more : (args : List CArg) (p : Parameter) (a : CArg) → arg_fits code vars args p a ≡ true → arg_fits new all args p a ≡ true
     arg_fits_more args (Borrows k h) (arg.Var x) e = kind_fits_more args k x e
     arg_fits_more args (Steals k h) (arg.Var x) e = kind_fits_more args k x e
+    arg_fits_more args (MaySteal k h) (arg.Var x) e = kind_fits_more args k x e
     arg_fits_more args TakesNumber (arg.Number n) e = refl
     arg_fits_more args TakesText (arg.Text text) e = refl
     arg_fits_more args TakesException (arg.Text text) e = e
@@ -138,7 +139,7 @@ module _ (vars more : List Declared) where
     args_fit_more : (args : List CArg) (ps : List Parameter) (rest : List CArg) → args_fit code vars args ps rest ≡ true → args_fit new all args ps rest ≡ true
     args_fit_more args [] [] e = refl
     args_fit_more args [] (a ∷ rest) e = absurd (cc)
-    args_fit_more args (p ∷ ps) [] e = absurd (cc)
+    args_fit_more args (p ∷ ps) [] e = e
     args_fit_more args (p ∷ ps) (a ∷ rest) e =
         let both = and_parts (arg_fits code vars args p a) (args_fit code vars args ps rest) e in
         and_from (arg_fits new all args p a) (args_fit new all args ps rest) (arg_fits_more args p a both.0) (args_fit_more args ps rest both.1)

@@ -12,7 +12,10 @@ use Rattle.c_core.specs.declared.primitive.Primitive.{Primitive}
 use Rattle.c_core.specs.declared.primitive.Primitive.TheVariants as prim
 use Rattle.c_core.specs.declared.primitive.Int64Prim.TheVariants as int64
 use Rattle.c_core.specs.declared.primitive.BoolPrim.TheVariants as bool
+use Rattle.c_core.specs.declared.primitive.ObjectPrim.TheVariants as object
 use Rattle.c_core.specs.declared.primitive.StrPrim.TheVariants as str
+use Rattle.c_core.specs.declared.primitive.ListPrim.TheVariants as list
+use Rattle.c_core.specs.declared.primitive.TuplePrim.TheVariants as tuple
 use Rattle.c_core.specs.declared.primitive.TaggedPrim.TheVariants as tagged
 use Rattle.c_core.specs.declared.primitive.GlobalPrim.TheVariants as global
 use Rattle.c_core.specs.declared.primitive.ExcPrim.TheVariants as exc
@@ -185,4 +188,20 @@ primitive_spelled (prim.Str str.Lt) = word_spelled 83 _ refl refl
 primitive_spelled (prim.Str str.Le) = word_spelled 83 _ refl refl
 primitive_spelled (prim.Str str.Len) = word_spelled 83 _ refl refl
 primitive_spelled (prim.Str str.GetItem) = word_spelled 83 _ refl refl
+primitive_spelled (prim.Int64 int64.Box) = word_spelled 73 _ refl refl
+primitive_spelled (prim.Int64 int64.Unbox) = word_spelled 73 _ refl refl
+primitive_spelled (prim.Tagged tagged.Box) = word_spelled 84 _ refl refl
+primitive_spelled (prim.Tagged tagged.Unbox) = word_spelled 84 _ refl refl
+primitive_spelled (prim.Bool bool.Box) = word_spelled 66 _ refl refl
+primitive_spelled (prim.Bool bool.Unbox) = word_spelled 66 _ refl refl
+primitive_spelled (prim.Object object.IsNone) = word_spelled 79 _ refl refl
+primitive_spelled (prim.List list.New) = word_spelled 76 _ refl refl
+primitive_spelled (prim.List list.Append) = word_spelled 76 _ refl refl
+primitive_spelled (prim.List list.GetItem) = word_spelled 76 _ refl refl
+primitive_spelled (prim.List list.SetItem) = word_spelled 76 _ refl refl
+primitive_spelled (prim.List list.Pop) = word_spelled 76 _ refl refl
+primitive_spelled (prim.List list.Len) = word_spelled 76 _ refl refl
+primitive_spelled (prim.Tuple tuple.Pack) = word_spelled 84 _ refl refl
+primitive_spelled (prim.Tuple tuple.GetItem) = word_spelled 84 _ refl refl
+primitive_spelled (prim.Tuple tuple.Len) = word_spelled 84 _ refl refl
 primitive_spelled (prim.Io io.Input) = word_spelled 95 _ refl refl

@@ -5,7 +5,10 @@ use Rattle.c_core.specs.declared.primitive.Primitive.TheVariants as prim
 use Rattle.c_core.specs.declared.primitive.Int64Prim.TheVariants as int64
 use Rattle.c_core.specs.declared.primitive.TaggedPrim.TheVariants as tagged
 use Rattle.c_core.specs.declared.primitive.BoolPrim.TheVariants as bool
+use Rattle.c_core.specs.declared.primitive.ObjectPrim.TheVariants as object
 use Rattle.c_core.specs.declared.primitive.StrPrim.TheVariants as str
+use Rattle.c_core.specs.declared.primitive.ListPrim.TheVariants as list
+use Rattle.c_core.specs.declared.primitive.TuplePrim.TheVariants as tuple
 use Rattle.c_core.specs.declared.primitive.GlobalPrim.TheVariants as global
 use Rattle.c_core.specs.declared.primitive.ExcPrim.TheVariants as exc
 use Rattle.c_core.specs.declared.primitive.ErrPrim.TheVariants as err
@@ -62,4 +65,20 @@ primitive_found (prim.Str str.Lt) = refl
 primitive_found (prim.Str str.Le) = refl
 primitive_found (prim.Str str.Len) = refl
 primitive_found (prim.Str str.GetItem) = refl
+primitive_found (prim.Int64 int64.Box) = refl
+primitive_found (prim.Int64 int64.Unbox) = refl
+primitive_found (prim.Tagged tagged.Box) = refl
+primitive_found (prim.Tagged tagged.Unbox) = refl
+primitive_found (prim.Bool bool.Box) = refl
+primitive_found (prim.Bool bool.Unbox) = refl
+primitive_found (prim.Object object.IsNone) = refl
+primitive_found (prim.List list.New) = refl
+primitive_found (prim.List list.Append) = refl
+primitive_found (prim.List list.GetItem) = refl
+primitive_found (prim.List list.SetItem) = refl
+primitive_found (prim.List list.Pop) = refl
+primitive_found (prim.List list.Len) = refl
+primitive_found (prim.Tuple tuple.Pack) = refl
+primitive_found (prim.Tuple tuple.GetItem) = refl
+primitive_found (prim.Tuple tuple.Len) = refl
 primitive_found (prim.Io io.Input) = refl

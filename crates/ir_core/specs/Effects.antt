@@ -1,8 +1,8 @@
 -- What primitives do, each in one row.
-use Rattle.std.specs.Prelude.{ℕ, Bool, true, false, not, ◌&&◌, cond, ℤ, pos, int_lt, List, [], ◌∷◌, ◌++◌, Option, Some, None, codes, is_some, Result, Ok, Err, slice_get, slice_set}
+use Rattle.std.specs.Prelude.{ℕ, nat_lt, Bool, true, false, not, ◌&&◌, cond, ℤ, pos, negsuc, int_lt, List, [], ◌∷◌, ◌++◌, length, take, Option, Some, None, codes, is_some, Result, Ok, Err, slice_get, slice_set}
 use Rattle.std.specs.Fmt.{signed_decimal}
 use Rattle.std.specs.List.{position}
-use Rattle.std.specs.Option.{option_and_then}
+use Rattle.std.specs.Option.{option_and_then, option_map}
 use Rattle.std.specs.Ordering.{int_eq}
 use Rattle.std.specs.Str.{bytes_eq}
 use Rattle.std.specs.Str.Parse.{signed_digits_value}
@@ -10,24 +10,28 @@ use Rattle.value_core.specs.declared.arith.Arith.{Arith}
 use Rattle.value_core.specs.declared.arith.Arith.TheVariants.{Overflow}
 use Rattle.value_core.specs.declared.exception.ExcClass.{ExcClass}
 use Rattle.value_core.specs.declared.exception.ExcClass.TheVariants.{IndexError, ValueError, EOFError}
+use Rattle.value_core.specs.Characters.{place_of}
 use Rattle.value_core.specs.Arithmetic.{lies_within, is_short, int_add, int_sub, int_mul, int_neg, int_floor_div, int_modulo, int_shl, int_shr, int_to_i64, i64_add, i64_sub, i64_mul, i64_neg, i64_floor_div, i64_modulo, i64_shl, i64_shr}
 use Rattle.value_core.specs.Ending.{Ending, Over, Broken}
 use Rattle.value_core.specs.Exceptions.{Thrown, thrown, class_named, is_under}
 use Rattle.value_core.specs.Items as item
 use Rattle.value_core.specs.Items.{Items}
-use Rattle.value_core.specs.Value.{Value, IntVal, BoolVal, StrVal, ExcVal, Store}
+use Rattle.value_core.specs.Value.{Value, IntVal, BoolVal, NoneVal, StrVal, TupleVal, ExcVal, ObjVal, listed, tupled, Object, ListObj, Store}
 use Rattle.c_core.specs.declared.primitive.Primitive.{Primitive}
 use Rattle.c_core.specs.declared.primitive.Primitive.TheVariants as prim
 use Rattle.c_core.specs.declared.primitive.Int64Prim.TheVariants as int64
 use Rattle.c_core.specs.declared.primitive.TaggedPrim.TheVariants as tagged
 use Rattle.c_core.specs.declared.primitive.BoolPrim.TheVariants as bool
+use Rattle.c_core.specs.declared.primitive.ObjectPrim.TheVariants as object
 use Rattle.c_core.specs.declared.primitive.StrPrim.TheVariants as str
+use Rattle.c_core.specs.declared.primitive.ListPrim.TheVariants as list
+use Rattle.c_core.specs.declared.primitive.TuplePrim.TheVariants as tuple
 use Rattle.c_core.specs.declared.primitive.GlobalPrim.TheVariants as global
 use Rattle.c_core.specs.declared.primitive.ExcPrim.TheVariants as exc
 use Rattle.c_core.specs.declared.primitive.ErrPrim.TheVariants as err
 use Rattle.c_core.specs.declared.primitive.IoPrim.TheVariants as io
 use Rattle.c_core.specs.Step.{int64_exception, int_exception, not_defined, unbound}
-use Rattle.c_core.specs.Strings.{text_less, text_length, text_item}
+use Rattle.c_core.specs.Strings.{counted_length, text_less, text_length, text_item}
 use Rattle.ir_core.specs.declared.code.PArg.{PArg}
 use Rattle.ir_core.specs.declared.code.PArg.TheVariants as arg
 use Rattle.ir_core.specs.declared.code.Program.{Program}
@@ -83,6 +87,61 @@ fitted (Err f) w = Fails (int64_exception Overflow) w
 abbrev pub written_int : List ℕ → ℤ → World → Effect
 written_int text n w =
     cond (bytes_eq (signed_decimal n) text && (lies_within 127 n && not (is_short n))) (Gives (IntVal n) w) Wrong
+
+-- an `int` as a native integer, which has to fit
+abbrev pub native_in : Result ℤ Arith → World → Effect
+native_in (Ok n) w = Gives (IntVal n) w
+native_in (Err f) w = Wrong
+
+-- an object is put into the store, behind the others, and in the place of one
+abbrev pub with_new : Object → World → World
+with_new o w = record w { store = w.store ++ o ∷ [] }
+
+abbrev pub with_object : ℕ → Object → World → World
+with_object k o w = record w { store = slice_set w.store k o }
+
+-- what is done with the items of a list, and with a value
+abbrev pub of_list : (List Value → Effect) → Option Object → Effect
+of_list f (Some (ListObj items)) = f items
+of_list f _ = Wrong
+
+abbrev pub of_value : (Value → Effect) → Option Value → Effect
+of_value f None = Wrong
+of_value f (Some v) = f v
+
+-- the item of a list at the place of an index; another one is put there; the last one is taken out
+abbrev pub item_at : Option ℕ → List Value → World → Effect
+item_at None items w = Fails (thrown IndexError (codes "list index out of range")) w
+item_at (Some i) items w = of_value (λ v. Gives v w) (slice_get items i)
+
+abbrev pub put_at : ℕ → Option ℕ → List Value → Value → World → Effect
+put_at k None items v w = Fails (thrown IndexError (codes "list assignment index out of range")) w
+put_at k (Some i) items v w =
+    of_value (λ old. Gives (BoolVal true) (with_object k (ListObj (slice_set items i v)) w)) (slice_get items i)
+
+abbrev pub popped : ℕ → Option ℕ → List Value → World → Effect
+popped k None items w = Fails (thrown IndexError (codes "pop from empty list")) w
+popped k (Some i) items w = of_value (λ v. Gives v (with_object k (ListObj (take i items)) w)) (slice_get items i)
+
+-- the values of arguments, all of them registers
+abbrev pub values_in : List Argument → Option (List Value)
+values_in [] = Some []
+values_in (Given v ∷ rest) = option_map (λ vs. v ∷ vs) (values_in rest)
+values_in (Written a ∷ rest) = None
+
+-- a tuple of 1 to 16 parts
+abbrev pub packed : List Value → World → Effect
+packed vs w = cond (nat_lt 0 (length vs) && nat_lt (length vs) 17) (Gives (TupleVal (tupled vs)) w) Wrong
+
+-- what is done with values
+abbrev pub of_values : (List Value → Effect) → Option (List Value) → Effect
+of_values f None = Wrong
+of_values f (Some vs) = f vs
+
+-- the part of a tuple
+abbrev pub part_at : List Value → ℤ → World → Effect
+part_at parts (pos i) w = of_value (λ v. Gives v w) (slice_get parts i)
+part_at parts (negsuc i) w = Wrong
 
 -- the item of a text
 abbrev pub item_or : Option (List ℕ) → World → Effect
@@ -141,6 +200,8 @@ effect p (prim.Int64 int64.Eq) (Given (IntVal a) ∷ Given (IntVal b) ∷ []) w 
 effect p (prim.Int64 int64.Lt) (Given (IntVal a) ∷ Given (IntVal b) ∷ []) w = Gives (BoolVal (int_lt a b)) w
 effect p (prim.Int64 int64.Le) (Given (IntVal a) ∷ Given (IntVal b) ∷ []) w = Gives (BoolVal (not (int_lt b a))) w
 effect p (prim.Int64 int64.Str) (Given (IntVal a) ∷ []) w = Gives (StrVal (signed_decimal a)) w
+effect p (prim.Int64 int64.Box) (Given (IntVal a) ∷ []) w = Gives (IntVal a) w
+effect p (prim.Int64 int64.Unbox) (Given (IntVal a) ∷ []) w = native_in (int_to_i64 a) w
 effect p (prim.Tagged tagged.Add) (Given (IntVal a) ∷ Given (IntVal b) ∷ []) w = int_or (int_add a b) w
 effect p (prim.Tagged tagged.Subtract) (Given (IntVal a) ∷ Given (IntVal b) ∷ []) w = int_or (int_sub a b) w
 effect p (prim.Tagged tagged.Multiply) (Given (IntVal a) ∷ Given (IntVal b) ∷ []) w = int_or (int_mul a b) w
@@ -157,8 +218,14 @@ effect p (prim.Tagged tagged.Eq) (Given (IntVal a) ∷ Given (IntVal b) ∷ []) 
 effect p (prim.Tagged tagged.Lt) (Given (IntVal a) ∷ Given (IntVal b) ∷ []) w = Gives (BoolVal (int_lt a b)) w
 effect p (prim.Tagged tagged.Le) (Given (IntVal a) ∷ Given (IntVal b) ∷ []) w = Gives (BoolVal (not (int_lt b a))) w
 effect p (prim.Tagged tagged.Str) (Given (IntVal a) ∷ []) w = Gives (StrVal (signed_decimal a)) w
+effect p (prim.Tagged tagged.Box) (Given (IntVal a) ∷ []) w = Gives (IntVal a) w
+effect p (prim.Tagged tagged.Unbox) (Given (IntVal a) ∷ []) w = Gives (IntVal a) w
 effect p (prim.Bool bool.Not) (Given (BoolVal b) ∷ []) w = Gives (BoolVal (not b)) w
 effect p (prim.Bool bool.Str) (Given (BoolVal b) ∷ []) w = Gives (StrVal (truth_text b)) w
+effect p (prim.Bool bool.Box) (Given (BoolVal b) ∷ []) w = Gives (BoolVal b) w
+effect p (prim.Bool bool.Unbox) (Given (BoolVal b) ∷ []) w = Gives (BoolVal b) w
+effect p (prim.Object object.IsNone) (Given NoneVal ∷ []) w = Gives (BoolVal true) w
+effect p (prim.Object object.IsNone) (Given v ∷ []) w = Gives (BoolVal false) w
 effect p (prim.Str str.Literal) (Written (arg.Text text) ∷ []) w = Gives (StrVal text) w
 effect p (prim.Str str.Concat) (Given (StrVal a) ∷ Given (StrVal b) ∷ []) w = Gives (StrVal (a ++ b)) w
 effect p (prim.Str str.Eq) (Given (StrVal a) ∷ Given (StrVal b) ∷ []) w = Gives (BoolVal (bytes_eq a b)) w
@@ -166,6 +233,20 @@ effect p (prim.Str str.Lt) (Given (StrVal a) ∷ Given (StrVal b) ∷ []) w = Gi
 effect p (prim.Str str.Le) (Given (StrVal a) ∷ Given (StrVal b) ∷ []) w = Gives (BoolVal (not (text_less b a))) w
 effect p (prim.Str str.Len) (Given (StrVal text) ∷ []) w = Gives (IntVal (text_length text)) w
 effect p (prim.Str str.GetItem) (Given (StrVal text) ∷ Given (IntVal a) ∷ []) w = item_or (text_item text a) w
+effect p (prim.List list.New) [] w = Gives (ObjVal (length w.store)) (with_new (ListObj []) w)
+effect p (prim.List list.Append) (Given (ObjVal k) ∷ Given v ∷ []) w =
+    of_list (λ items. Acts (with_object k (ListObj (items ++ v ∷ [])) w)) (slice_get w.store k)
+effect p (prim.List list.GetItem) (Given (ObjVal k) ∷ Given (IntVal i) ∷ []) w =
+    of_list (λ items. item_at (place_of (length items) i) items w) (slice_get w.store k)
+effect p (prim.List list.SetItem) (Given (ObjVal k) ∷ Given (IntVal i) ∷ Given v ∷ []) w =
+    of_list (λ items. put_at k (place_of (length items) i) items v w) (slice_get w.store k)
+effect p (prim.List list.Pop) (Given (ObjVal k) ∷ []) w =
+    of_list (λ items. popped k (place_of (length items) (negsuc 0)) items w) (slice_get w.store k)
+effect p (prim.List list.Len) (Given (ObjVal k) ∷ []) w =
+    of_list (λ items. Gives (IntVal (pos (counted_length (length items)))) w) (slice_get w.store k)
+effect p (prim.Tuple tuple.Pack) all w = of_values (λ vs. packed vs w) (values_in all)
+effect p (prim.Tuple tuple.GetItem) (Given (TupleVal parts) ∷ Written (arg.Number n) ∷ []) w = part_at (listed parts) n w
+effect p (prim.Tuple tuple.Len) (Given (TupleVal parts) ∷ []) w = Gives (IntVal (pos (counted_length (length (listed parts))))) w
 effect p (prim.Global global.Get) (Written (arg.Global name) ∷ []) w = got name (global_at p w name) w
 effect p (prim.Global global.Set) (Written (arg.Global name) ∷ Given v ∷ []) w =
     stored (number_of_global p name) (global_at p w name) (Some v) w

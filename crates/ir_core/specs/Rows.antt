@@ -7,7 +7,10 @@ use Rattle.c_core.specs.declared.primitive.Primitive.TheVariants as prim
 use Rattle.c_core.specs.declared.primitive.Int64Prim.TheVariants as int64
 use Rattle.c_core.specs.declared.primitive.TaggedPrim.TheVariants as tagged
 use Rattle.c_core.specs.declared.primitive.BoolPrim.TheVariants as bool
+use Rattle.c_core.specs.declared.primitive.ObjectPrim.TheVariants as object
 use Rattle.c_core.specs.declared.primitive.StrPrim.TheVariants as str
+use Rattle.c_core.specs.declared.primitive.ListPrim.TheVariants as list
+use Rattle.c_core.specs.declared.primitive.TuplePrim.TheVariants as tuple
 use Rattle.c_core.specs.declared.primitive.GlobalPrim.TheVariants as global
 use Rattle.c_core.specs.declared.primitive.ExcPrim.TheVariants as exc
 use Rattle.c_core.specs.declared.primitive.ErrPrim.TheVariants as err
@@ -42,6 +45,8 @@ failing (prim.Int64 int64.Eq) = NeverFails
 failing (prim.Int64 int64.Lt) = NeverFails
 failing (prim.Int64 int64.Le) = NeverFails
 failing (prim.Int64 int64.Str) = NeverFails
+failing (prim.Int64 int64.Box) = NeverFails
+failing (prim.Int64 int64.Unbox) = NeverFails
 failing (prim.Tagged tagged.Add) = MayFail
 failing (prim.Tagged tagged.Subtract) = MayFail
 failing (prim.Tagged tagged.Multiply) = MayFail
@@ -58,8 +63,13 @@ failing (prim.Tagged tagged.Eq) = NeverFails
 failing (prim.Tagged tagged.Lt) = NeverFails
 failing (prim.Tagged tagged.Le) = NeverFails
 failing (prim.Tagged tagged.Str) = NeverFails
+failing (prim.Tagged tagged.Box) = NeverFails
+failing (prim.Tagged tagged.Unbox) = NeverFails
 failing (prim.Bool bool.Not) = NeverFails
 failing (prim.Bool bool.Str) = NeverFails
+failing (prim.Bool bool.Box) = NeverFails
+failing (prim.Bool bool.Unbox) = NeverFails
+failing (prim.Object object.IsNone) = NeverFails
 failing (prim.Str str.Literal) = NeverFails
 failing (prim.Str str.Concat) = NeverFails
 failing (prim.Str str.Eq) = NeverFails
@@ -67,6 +77,15 @@ failing (prim.Str str.Lt) = NeverFails
 failing (prim.Str str.Le) = NeverFails
 failing (prim.Str str.Len) = NeverFails
 failing (prim.Str str.GetItem) = MayFail
+failing (prim.List list.New) = NeverFails
+failing (prim.List list.Append) = NeverFails
+failing (prim.List list.GetItem) = MayFail
+failing (prim.List list.SetItem) = MayFail
+failing (prim.List list.Pop) = MayFail
+failing (prim.List list.Len) = NeverFails
+failing (prim.Tuple tuple.Pack) = NeverFails
+failing (prim.Tuple tuple.GetItem) = NeverFails
+failing (prim.Tuple tuple.Len) = NeverFails
 failing (prim.Global global.Get) = MayFail
 failing (prim.Global global.Set) = NeverFails
 failing (prim.Global global.Clear) = NeverFails

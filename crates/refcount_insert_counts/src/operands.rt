@@ -5,11 +5,12 @@ ghost use Rattle.c_core.specs.Primitives.{row_of};
 ghost use Rattle.liveness.specs.Paths as path;
 ghost use Rattle.liveness.specs.Paths.{is_among};
 ghost use Rattle.refcount_insert_rule.specs.Rule as rule;
+ghost use Rattle.c_core.specs.declared.primitive.Primitive.TheVariants as prim;
 ghost use Rattle.refcount_insert_rule.specs.Rule.{takes_one, taken, takes};
 ghost use Rattle.refcount_insert_counts.specs.Counts as spec;
 ghost use Rattle.refcount_insert_counts.specs.Counts.{AreOnce, is_touched, steals_at};
 
-use c_core::{ErrPrim, GlobalPrim, Prim};
+use c_core::{ErrPrim, GlobalPrim, ListPrim, Prim, TaggedPrim, TuplePrim};
 use ir_core::{Op, PArg};
 use liveness::{register_written, registers_read};
 use std::alloc::Global;
@@ -106,7 +107,21 @@ fn steals(p: Prim, place: usize) -> bool
     match p {
         Prim::Global(GlobalPrim::Set) => place == 1,
         Prim::Err(ErrPrim::SetObject) => place == 0,
+        Prim::Tagged(TaggedPrim::Box) => place == 0,
+        Prim::List(ListPrim::Append) => place == 1,
+        Prim::List(ListPrim::SetItem) => place == 2,
+        Prim::Tuple(operation) => steals_part(operation, place),
         _ => false,
+    }
+}
+
+// A tuple takes each of its parts.
+fn steals_part(operation: TuplePrim, place: usize) -> bool
+    ensures { result ≡ steals_at (row_of (prim.Tuple operation)).parameters place }
+{
+    match operation {
+        TuplePrim::Pack => place < 16,
+        TuplePrim::GetItem | TuplePrim::Len => false,
     }
 }
 

@@ -37,7 +37,7 @@ use Rattle.ir_core.specs.Lower.{kind_of_type, variable_of, register_in, call_nam
 use Rattle.refcount_insert_lines_laws.specs.Matching.{Fits, RegsFit, PendingFits, HasHead, HasHeads, RunsIn}
 use Rattle.refcount_insert_lines_laws.specs.Lines.{CallDoes, call_sticks, call_enters, CallsDo}
 use Rattle.refcount_insert_lines_laws.proofs.ListLemmas.{get_map}
-use Rattle.refcount_insert_lines_laws.proofs.Growing.{same_grows, fits_grow, world_grows}
+use Rattle.refcount_insert_lines_laws.proofs.Growing.{same_keeps, same_grows, fits_grow, world_keeps}
 use Rattle.refcount_insert_lines_laws.proofs.Words.{AllFit, entry_fit, entry_size, there_is, value_word}
 use Rattle.refcount_insert_lines_laws.proofs.Facts.{facts, fits_here, has_type, type_here}
 
@@ -275,7 +275,7 @@ module _ (p : Program) (code : Code) (heads : HasHeads p code) (formed : WellFor
           let words : List Word = entry_words ps.words hd.g in
           let same : ps.words ++ map (λ v. error_word v.1) (drop (length ps.words) (map variable_of h.regs)) ≡ words = ap (λ i. ps.words ++ map (λ (v : List ℕ × Kind). error_word v.1) (drop i (map variable_of h.regs))) (size ∙ sym hd.params) ∙ ap (λ vs. ps.words ++ map (λ (v : List ℕ × Kind). error_word v.1) (drop hd.g.params vs)) (sym hd.vars) in
           let t : MachineState = entered false s (Some r.0) n words in
-          let g = same_grows s t refl in
+          let g = same_grows s t refl refl in
           let held = all_read Ds f.regs args xs are in
           let begins : RegsFit t h.regs (first_regs h.regs xs) words = record {
             size = ap length (sym same) ∙ entry_size s h.regs xs ps.words ps.fit;
@@ -296,7 +296,7 @@ module _ (p : Program) (code : Code) (heads : HasHeads p code) (formed : WellFor
             grows = g;
             registers = begins;
             given = λ k inside. first_hold Ds h.regs args xs types held.1 held.0 k (subst (λ z. k < z) (sym (held.1 ∙ count)) inside);
-            world = world_grows s t g p w refl refl refl refl refl refl a.world;
+            world = world_keeps s t (same_keeps s t refl) p w refl refl refl refl refl refl a.world;
           }) in
           subst (λ z. C z (do_op Fitting p (Call r n args) f below w)) (sym text) (subst (C (Goes t)) (sym (does (Some xs) are ∙ ap (λ c. cond c (Runs (first_frame xs) (waits ∷ below) w) Stuck) fit)) on)
 

@@ -1,43 +1,138 @@
--- What a state holds it goes on to hold while its cells only become more.
-use Rattle.std.proofs.Common.{◌≡◌, sym, ◌∙◌, ap, subst, ℕ, List, [], ◌∷◌, Option, Some, None}
+-- What a state holds it goes on to hold while its cells only become more, and only objects change.
+use Rattle.std.proofs.Common.{◌≡◌, ◌≢◌, refl, sym, ◌∙◌, ap, subst, ℕ, ◌<◌, arith, Bool, true, false, nat_eq, List, [], ◌∷◌, ◌++◌, length, Option, Some, None, length-append, eqb-true}
+use Rattle.std.specs.Prelude.{slice_get, slice_set}
+use Rattle.std.proofs.lemmas.Bool.{eq-eqb}
+use Rattle.std.proofs.lemmas.Option.{slice_get_within}
 use Rattle.value_core.specs.Exceptions.{Thrown}
-use Rattle.value_core.specs.Value.{Value}
-use Rattle.c_core.specs.Cells.{content_at, make, take_one}
-use Rattle.c_core.specs.Machine.{Word, Content, MachineState}
+use Rattle.value_core.specs.Value.{Value, IntVal, BoolVal, NoneVal, StrVal, TupleVal, ExcVal, ObjVal, Values, no_values, value_then, Object, ListObj, DictObj, InstObj, Store}
+use Rattle.c_core.specs.Cells.{content_at, make, refill, take_one}
+use Rattle.c_core.specs.Machine.{Word, Content, IntCell, StrCell, ListCell, DictCell, TupleCell, InstCell, ExcCell, is_object, MachineState}
+use Rattle.c_core.specs.Stands.{IsLive}
 use Rattle.ir_core.specs.declared.code.RType.{RType}
 use Rattle.ir_core.specs.declared.code.Program.{Program}
 use Rattle.ir_core.specs.Registers.{Held, Holds, Regs}
 use Rattle.ir_core.specs.Rows.{Declared}
 use Rattle.ir_core.specs.Effects.{World}
-use Rattle.refcount_insert_lines_laws.specs.Matching.{Fits, tagged_error, short, big, native, char_error, char_true, char_false, no_object, none, object_true, object_false, text, exception, RegsFit, GlobalsFit, PendingFits, Grows, WorldFits}
-use Rattle.refcount_insert_lines_laws.proofs.ListLemmas.{taken_same, made_old}
+use Rattle.refcount_insert_lines_laws.specs.Matching.{Boxed, PartsBoxed, AllBoxed, ObjectFits, ObjectAt, StoreFits, Fits, tagged_error, short, big, native, char_error, char_true, char_false, no_object, boxed, RegsFit, GlobalsFit, PendingFits, Keeps, Grows, WorldFits}
+use Rattle.refcount_insert_lines_laws.proofs.ListLemmas.{size_set, get_set_same, get_set_other, get_first, get_last, OldOrLast, is_old, is_last, old_or_last, get_within, taken_same, made_old, made_new, cell_within, refilled_same, refilled_other}
+
+-- ---- states that keep all contents
+pub same_keeps : (s t : MachineState) → t.cells ≡ s.cells → Keeps s t
+same_keeps s t e = record { contents = λ c v f. ap (λ z. content_at z c) e ∙ f }
+
+pub make_keeps : (s t : MachineState) (x : Content) → t.cells ≡ make x s.cells → Keeps s t
+make_keeps s t x e = record { contents = λ c v f. ap (λ z. content_at z c) e ∙ made_old s.cells x c v f }
+
+pub take_keeps : (s t : MachineState) (d : ℕ) → t.cells ≡ take_one d s.cells → Keeps s t
+take_keeps s t d e = record { contents = λ c v f. ap (λ z. content_at z c) e ∙ (taken_same s.cells d c ∙ f) }
+
+pub keeps_on : (s t u : MachineState) → Keeps s t → Keeps t u → Keeps s u
+keeps_on s t u a b = record { contents = λ c v e. b.contents c v (a.contents c v e) }
 
 -- ---- states that grow
-pub same_grows : (s t : MachineState) → t.cells ≡ s.cells → Grows s t
-same_grows s t e = record { keeps = λ c v f. ap (λ z. content_at z c) e ∙ f }
+pub keeps_grows : (s t : MachineState) → Keeps s t → t.made ≡ s.made → Grows s t
+keeps_grows s t k e =
+    record {
+      keeps = λ c v fixed f. k.contents c v f;
+      lives = λ c v f. (v, k.contents c v f);
+      makes = λ i c f. ap (λ z. slice_get z i) e ∙ f;
+    }
 
-pub make_grows : (s t : MachineState) (x : Content) → t.cells ≡ make x s.cells → Grows s t
-make_grows s t x e = record { keeps = λ c v f. ap (λ z. content_at z c) e ∙ made_old s.cells x c v f }
+pub same_grows : (s t : MachineState) → t.cells ≡ s.cells → t.made ≡ s.made → Grows s t
+same_grows s t e f = keeps_grows s t (same_keeps s t e) f
 
-pub take_grows : (s t : MachineState) (d : ℕ) → t.cells ≡ take_one d s.cells → Grows s t
-take_grows s t d e = record { keeps = λ c v f. ap (λ z. content_at z c) e ∙ (taken_same s.cells d c ∙ f) }
+-- a state with the same cells as one that has grown
+pub grows_as : (s t u : MachineState) → Grows s t → u.cells ≡ t.cells → u.made ≡ t.made → Grows s u
+grows_as s t u g e f =
+    record {
+      keeps = λ c v fixed h. ap (λ z. content_at z c) e ∙ g.keeps c v fixed h;
+      lives = λ c v h. let l = g.lives c v h in (l.0, ap (λ z. content_at z c) e ∙ l.1);
+      makes = λ i c h. ap (λ z. slice_get z i) f ∙ g.makes i c h;
+    }
+
+-- a new cell for an object
+pub note_grows : (s t : MachineState) (x : Content) → t.cells ≡ make x s.cells → t.made ≡ s.made ++ length s.cells ∷ [] → Grows s t
+note_grows s t x e f =
+    let k = make_keeps s t x e in
+    record {
+      keeps = λ c v fixed h. k.contents c v h;
+      lives = λ c v h. (v, k.contents c v h);
+      makes = λ i c h. ap (λ z. slice_get z i) f ∙ get_first s.made (length s.cells) c i h;
+    }
+
+-- an object has another content
+module _ (s t : MachineState) (x old : Content) (c : ℕ) (cells : t.cells ≡ refill x c s.cells) (made : t.made ≡ s.made) (live : IsLive s c old) (object : is_object old ≡ true) where
+  other_same : (d : ℕ) → d ≢ c → content_at t.cells d ≡ content_at s.cells d
+  other_same d ne = ap (λ z. content_at z d) cells ∙ refilled_other s.cells x c d ne
+
+  pub here_new : content_at t.cells c ≡ Some x
+  here_new = ap (λ z. content_at z c) cells ∙ refilled_same s.cells x c old live
+
+  is_other : (d : ℕ) (v : Content) → is_object v ≡ false → content_at s.cells d ≡ Some v → d ≢ c
+  is_other d v fixed e same =
+      let both : Some old ≡ Some v = sym live ∙ ap (content_at s.cells) (sym same) ∙ e in
+      let f : old ≡ v = cc in
+      let g : true ≡ false = sym object ∙ ap is_object f ∙ fixed in
+      absurd (cc)
+
+  lives_by : (d : ℕ) (v : Content) → content_at s.cells d ≡ Some v → (b : Bool) → nat_eq d c ≡ b → (y : Content) × (content_at t.cells d ≡ Some y)
+  lives_by d v e true is = (x, ap (content_at t.cells) (eqb-true d c is) ∙ here_new)
+  lives_by d v e false is =
+      let ne : d ≢ c = λ same. let both : true ≡ false = sym (eq-eqb d c same) ∙ is in absurd (cc) in (v, other_same d ne ∙ e)
+
+  pub change_grows : Grows s t
+  change_grows = record {
+    keeps = λ d v fixed e. other_same d (is_other d v fixed e) ∙ e;
+    lives = λ d v e. lives_by d v e (nat_eq d c) refl;
+    makes = λ i d e. ap (λ z. slice_get z i) made ∙ e;
+  }
 
 -- ---- what is kept
 module _ (s t : MachineState) (grows : Grows s t) where
+  mutual
+    pub boxed_grows : (v : Value) (y : Word) → Boxed s v y → Boxed t v y
+    boxed_grows (IntVal n) y m = (m.0, m.1, grows.keeps m.0 (IntCell n) refl m.2)
+    boxed_grows (BoolVal b) y m = m
+    boxed_grows NoneVal y m = m
+    boxed_grows (StrVal x) y m = (m.0, m.1, grows.keeps m.0 (StrCell x) refl m.2)
+    boxed_grows (TupleVal parts) y m =
+        (m.0, m.1, (m.2.0, grows.keeps m.0 (TupleCell m.2.0) refl m.2.1, parts_grow parts m.2.0 m.2.2))
+    boxed_grows (ExcVal e) y m = (m.0, m.1, grows.keeps m.0 (ExcCell e) refl m.2)
+    boxed_grows (ObjVal k) y m = (m.0, m.1, grows.makes k m.0 m.2, grows.lives m.0 m.3.0 m.3.1)
+
+    pub parts_grow : (vs : Values) (ys : List Word) → PartsBoxed s vs ys → PartsBoxed t vs ys
+    parts_grow no_values [] m = tt
+    parts_grow no_values (y ∷ ys) m = absurd m
+    parts_grow (value_then v vs) [] m = absurd m
+    parts_grow (value_then v vs) (y ∷ ys) m = (boxed_grows v y m.0, parts_grow vs ys m.1)
+
+  pub all_grow : (vs : List Value) (ys : List Word) → AllBoxed s vs ys → AllBoxed t vs ys
+  all_grow [] [] m = tt
+  all_grow [] (y ∷ ys) m = absurd m
+  all_grow (v ∷ vs) [] m = absurd m
+  all_grow (v ∷ vs) (y ∷ ys) m = (boxed_grows v y m.0, all_grow vs ys m.1)
+
+  pub object_grows : (o : Object) (x : Content) → ObjectFits s o x → ObjectFits t o x
+  object_grows (ListObj items) (ListCell words) m = all_grow items words m
+  object_grows (ListObj items) (IntCell n) m = absurd m
+  object_grows (ListObj items) (StrCell n) m = absurd m
+  object_grows (ListObj items) (DictCell n) m = absurd m
+  object_grows (ListObj items) (TupleCell n) m = absurd m
+  object_grows (ListObj items) (InstCell n a) m = absurd m
+  object_grows (ListObj items) (ExcCell n) m = absurd m
+  object_grows (DictObj pairs) x m = absurd m
+  object_grows (InstObj class attributes) x m = absurd m
+
   pub fits_grow : (u : RType) (h : Held) (y : Word) → Fits s u h y → Fits t u h y
   fits_grow u h y tagged_error = tagged_error
   fits_grow u h y (short n) = short n
-  fits_grow u h y (big n c live) = big n c (grows.keeps c _ live)
+  fits_grow u h y (big n c live) = big n c (grows.keeps c _ refl live)
   fits_grow u h y (native n) = native n
   fits_grow u h y char_error = char_error
   fits_grow u h y char_true = char_true
   fits_grow u h y char_false = char_false
   fits_grow u h y no_object = no_object
-  fits_grow u h y none = none
-  fits_grow u h y object_true = object_true
-  fits_grow u h y object_false = object_false
-  fits_grow u h y (text x c live) = text x c (grows.keeps c _ live)
-  fits_grow u h y (exception e c live) = exception e c (grows.keeps c _ live)
+  fits_grow u h y (boxed v z m) = boxed v z (boxed_grows v z m)
 
   pub regs_grow : (declared : Declared) (regs : Regs) (words : List Word) → RegsFit s declared regs words → RegsFit t declared regs words
   regs_grow declared regs words a =
@@ -59,17 +154,115 @@ module _ (s t : MachineState) (grows : Grows s t) where
   pending_grows None None a = tt
   pending_grows None (Some c) a = absurd a
   pending_grows (Some e) None a = absurd a
-  pending_grows (Some e) (Some c) a = grows.keeps c _ a
+  pending_grows (Some e) (Some c) a = grows.keeps c _ refl a
 
-  -- the world, where what is beside the cells is the same
-  pub world_grows : (p : Program) (w : World) → t.output ≡ s.output → t.turns ≡ s.turns → t.items ≡ s.items → t.made ≡ s.made → t.globals ≡ s.globals → t.pending ≡ s.pending → WorldFits p w s → WorldFits p w t
-  world_grows p w output turns items made globals pending a =
+-- ---- the store
+-- each object is where it was, as it was
+pub store_keeps : (s t : MachineState) → Keeps s t → t.made ≡ s.made → (store : Store) → StoreFits s store → StoreFits t store
+store_keeps s t k made store a =
+    let g : Grows s t = keeps_grows s t k made in
+    record {
+      size = ap length made ∙ a.size;
+      objects = λ i o e.
+          let old = a.objects i o e in
+          record { c = old.c; made = g.makes i old.c old.made; content = old.content; live = k.contents old.c old.content old.live; fits = object_grows s t g o old.content old.fits };
+      apart = λ i j c e f. a.apart i j c (ap (λ z. slice_get z i) (sym made) ∙ e) (ap (λ z. slice_get z j) (sym made) ∙ f);
+    }
+
+-- what was made is an object
+object_there : (s : MachineState) (store : Store) → StoreFits s store → (k c : ℕ) → slice_get s.made k ≡ Some c → (o : Object) × ObjectAt s o k
+object_there s store a k c e =
+    let o = get_within store k (omega (arith, slice_get_within s.made k c e, a.size)) in (o.0, a.objects k o.0 o.1)
+
+-- so its cell is there
+pub made_within : (s : MachineState) (store : Store) → StoreFits s store → (k c : ℕ) → slice_get s.made k ≡ Some c → c < length s.cells
+made_within s store a k c e =
+    let o = object_there s store a k c e in
+    let both : Some o.1.c ≡ Some c = sym o.1.made ∙ e in
+    let same : o.1.c ≡ c = cc in
+    subst (λ z. z < length s.cells) same (cell_within s.cells o.1.c o.1.content o.1.live)
+
+-- an object is made
+module _ (s t : MachineState) (store : Store) (a : StoreFits s store) (o : Object) (x : Content) (cells : t.cells ≡ make x s.cells) (made : t.made ≡ s.made ++ length s.cells ∷ []) (fits : ObjectFits s o x) where
+  abbrev noting : Grows s t
+  noting = note_grows s t x cells made
+
+  old_object : (i : ℕ) (q : Object) → ObjectAt s q i → ObjectAt t q i
+  old_object i q old =
+      record { c = old.c; made = noting.makes i old.c old.made; content = old.content; live = (make_keeps s t x cells).contents old.c old.content old.live; fits = object_grows s t noting q old.content old.fits }
+
+  last_object : ObjectAt t o (length store)
+  last_object =
       record {
-        output = output ∙ a.output;
-        turns = turns ∙ a.turns;
-        items = items ∙ a.items;
-        store = a.store;
-        made = made ∙ a.made;
-        globals = subst (GlobalsFit t p.globals w.globals) (sym globals) (globals_grow p.globals w.globals s.globals a.globals);
-        pending = subst (PendingFits t w.pending) (sym pending) (pending_grows w.pending s.pending a.pending);
+        c = length s.cells;
+        made = ap (λ z. slice_get z (length store)) made ∙ ap (slice_get (s.made ++ length s.cells ∷ [])) (sym a.size) ∙ get_last s.made (length s.cells);
+        content = x;
+        live = ap (λ z. content_at z (length s.cells)) cells ∙ made_new s.cells x;
+        fits = object_grows s t noting o x fits;
       }
+
+  objects_by : (i : ℕ) (q : Object) → OldOrLast store o i q → ObjectAt t q i
+  objects_by i q (is_old e) = old_object i q (a.objects i q e)
+  objects_by i q (is_last e f) = subst (λ z. ObjectAt t z i) f (subst (ObjectAt t o) (sym e) last_object)
+
+  apart_by : (i j c : ℕ) → OldOrLast s.made (length s.cells) i c → OldOrLast s.made (length s.cells) j c → i ≡ j
+  apart_by i j c (is_old e) (is_old f) = a.apart i j c e f
+  apart_by i j c (is_last e f) (is_last g h) = e ∙ sym g
+  apart_by i j c (is_old e) (is_last g h) =
+      absurd (omega (arith, made_within s store a i c e, h))
+  apart_by i j c (is_last e f) (is_old g) =
+      absurd (omega (arith, made_within s store a j c g, f))
+
+  pub store_makes : StoreFits t (store ++ o ∷ [])
+  store_makes = record {
+    size = ap length made ∙ omega (arith, a.size, length-append s.made (length s.cells ∷ []), length-append store (o ∷ []));
+    objects = λ i q e. objects_by i q (old_or_last store o q i e);
+    apart = λ i j c e f. apart_by i j c (old_or_last s.made (length s.cells) c i (ap (λ z. slice_get z i) (sym made) ∙ e)) (old_or_last s.made (length s.cells) c j (ap (λ z. slice_get z j) (sym made) ∙ f));
+  }
+
+-- an object changes
+module _ (s t : MachineState) (store : Store) (a : StoreFits s store) (k c : ℕ) (o : Object) (x old : Content) (cells : t.cells ≡ refill x c s.cells) (made : t.made ≡ s.made) (here : slice_get s.made k ≡ Some c) (live : IsLive s c old) (object : is_object old ≡ true) (fits : ObjectFits s o x) where
+  abbrev changing : Grows s t
+  changing = change_grows s t x old c cells made live object
+
+  other_object : (i : ℕ) (q : Object) → i ≢ k → ObjectAt s q i → ObjectAt t q i
+  other_object i q ne at =
+      let far : at.c ≢ c = λ same. ne (a.apart i k c (at.made ∙ ap Some same) here) in
+      record { c = at.c; made = changing.makes i at.c at.made; content = at.content; live = other_same s t x old c cells made live object at.c far ∙ at.live; fits = object_grows s t changing q at.content at.fits }
+
+  this_object : ObjectAt t o k
+  this_object =
+      record { c = c; made = changing.makes k c here; content = x; live = here_new s t x old c cells made live object; fits = object_grows s t changing o x fits }
+
+  within : k < length store
+  within = omega (arith, slice_get_within s.made k c here, a.size)
+
+  changed_by : (i : ℕ) (q : Object) → slice_get (slice_set store k o) i ≡ Some q → (b : Bool) → nat_eq i k ≡ b → ObjectAt t q i
+  changed_by i q e true is =
+      let same : i ≡ k = eqb-true i k is in
+      let both : Some o ≡ Some q = sym (get_set_same store k o within) ∙ ap (slice_get (slice_set store k o)) (sym same) ∙ e in
+      let this : o ≡ q = cc in
+      subst (λ z. ObjectAt t z i) this (subst (ObjectAt t o) (sym same) this_object)
+  changed_by i q e false is =
+      let ne : i ≢ k = λ same. let both : true ≡ false = sym (eq-eqb i k same) ∙ is in absurd (cc) in
+      other_object i q ne (a.objects i q (sym (get_set_other store k i o ne) ∙ e))
+
+  pub store_changes : StoreFits t (slice_set store k o)
+  store_changes = record {
+    size = ap length made ∙ (a.size ∙ sym (size_set store k o));
+    objects = λ i q e. changed_by i q e (nat_eq i k) refl;
+    apart = λ i j d e f. a.apart i j d (ap (λ z. slice_get z i) (sym made) ∙ e) (ap (λ z. slice_get z j) (sym made) ∙ f);
+  }
+
+-- ---- the world, where what is beside the cells is the same
+pub world_keeps : (s t : MachineState) → Keeps s t → (p : Program) (w : World) → t.output ≡ s.output → t.turns ≡ s.turns → t.items ≡ s.items → t.made ≡ s.made → t.globals ≡ s.globals → t.pending ≡ s.pending → WorldFits p w s → WorldFits p w t
+world_keeps s t keeps p w output turns items made globals pending a =
+    let g : Grows s t = keeps_grows s t keeps made in
+    record {
+      output = output ∙ a.output;
+      turns = turns ∙ a.turns;
+      items = items ∙ a.items;
+      store = store_keeps s t keeps made w.store a.store;
+      globals = subst (GlobalsFit t p.globals w.globals) (sym globals) (globals_grow s t g p.globals w.globals s.globals a.globals);
+      pending = subst (PendingFits t w.pending) (sym pending) (pending_grows s t g w.pending s.pending a.pending);
+    }

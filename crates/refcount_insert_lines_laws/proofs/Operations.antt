@@ -15,7 +15,7 @@ use Rattle.c_core.specs.declared.primitive.Primitive.TheVariants as prim
 use Rattle.c_core.specs.declared.primitive.GlobalPrim.TheVariants as global
 use Rattle.c_core.specs.Functions.{function_named}
 use Rattle.c_core.specs.Ledgers.{Ledger, without}
-use Rattle.c_core.specs.Machine.{Word, IntCell, StrCell, ExcCell, MachineState}
+use Rattle.c_core.specs.Machine.{Word, IntCell, MachineState}
 use Rattle.c_core.specs.Primitives.{OfGlobal, Anything, Steals, TakesGlobal, Owned, Nothing, row_of}
 use Rattle.c_core.specs.Arguments.{Cell, Plain, is_holding, kind_of_global, stolen, word_in}
 use Rattle.c_core.specs.Arguments as machines
@@ -39,12 +39,12 @@ use Rattle.ir_core.specs.Meaning.{Frame, Waiting, Config, Runs, Ended, Stuck, Fi
 use Rattle.ir_core.specs.Meaning as meaning
 use Rattle.ir_core.specs.Lower.{kind_of_type, variable_of, argument_in, number_of, literal_in, line_of}
 use Rattle.ir_core.proofs.RowLemmas.{primitive_found}
-use Rattle.refcount_insert_lines_laws.specs.Matching.{Fits, short, big, native, char_true, char_false, none, object_true, object_false, text, exception, PendingFits, HasHeads, RunsIn}
+use Rattle.refcount_insert_lines_laws.specs.Matching.{Fits, short, big, native, char_true, char_false, boxed, PendingFits, HasHeads, RunsIn}
 use Rattle.refcount_insert_lines_laws.specs.Lines.{stays, OpDoes, op_sticks, op_goes, op_ends, OpsDo}
-use Rattle.refcount_insert_lines_laws.proofs.Growing.{same_grows, globals_grow, pending_grows}
+use Rattle.refcount_insert_lines_laws.proofs.Growing.{same_keeps, same_grows, globals_grow, pending_grows, store_keeps}
 use Rattle.refcount_insert_lines_laws.proofs.Words.{there_is, literal_fits}
 use Rattle.refcount_insert_lines_laws.proofs.Facts.{fits_here, kind_here, registers_here, type_here, same_types, literal_type, has_type}
-use Rattle.refcount_insert_lines_laws.proofs.Reading.{AllMeet, no_more, one_more, writes_global, are_read, first_then, reading, variable_reads, at_cell}
+use Rattle.refcount_insert_lines_laws.proofs.Reading.{AllMeet, no_more, one_more, writes_global, are_read, first_then, reading, variable_reads, at_cell, word_read, object_reads, read_stolen}
 use Rattle.refcount_insert_lines_laws.proofs.Agreeing.{Agrees, IsTarget, sticks, stayed, wrote, effects_do}
 use Rattle.refcount_insert_lines_laws.proofs.Rows.{answer_of, is_global, agree}
 use Rattle.refcount_insert_lines_laws.proofs.Refusing.{refused}
@@ -74,7 +74,7 @@ module _ (p : Program) (code : Code) (heads : HasHeads p code) (formed : WellFor
   -- a register is written, and nothing else changes
   writes : (r : ℕ) (d : List ℕ × RType) → slice_get a.func.regs r ≡ Some d → (h : Held) (y : Word) → Fits s d.1 h y → D (Goes (next_line (with_var r y s))) (Runs (next f (put f.regs r h)) below w)
   writes r d e h y fits =
-      op_goes (put f.regs r h) w (next_line (with_var r y s)) (wrote p f below s a.func a.there a.regs r d e h y w s (record { ledger = s.top.ledger; top = refl; below = refl; grows = same_grows s s refl }) a.world fits)
+      op_goes (put f.regs r h) w (next_line (with_var r y s)) (wrote p f below s a.func a.there a.regs r d e h y w s (record { ledger = s.top.ledger; top = refl; below = refl; grows = same_grows s s refl refl }) a.world fits)
 
   -- ---- moves, literals, turns
   -- an error value of an `int` or of a reference is not moved
@@ -118,13 +118,12 @@ module _ (p : Program) (code : Code) (heads : HasHeads p code) (formed : WellFor
   turned_by (suc n) =
       let u : MachineState = record s { turns = n } in
       let v : World = record w { turns = n } in
-      let g = same_grows s u refl in
+      let g = same_grows s u refl refl in
       op_goes f.regs v (next_line u) (stayed p f below s a.func a.there a.regs v u (record { ledger = s.top.ledger; top = refl; below = refl; grows = g }) (record {
         output = a.world.output;
         turns = refl;
         items = a.world.items;
-        store = a.world.store;
-        made = a.world.made;
+        store = store_keeps s u (same_keeps s u refl) refl w.store a.world.store;
         globals = globals_grow s u g p.globals w.globals s.globals a.world.globals;
         pending = pending_grows s u g w.pending s.pending a.world.pending;
       }))
@@ -187,9 +186,9 @@ module _ (p : Program) (code : Code) (heads : HasHeads p code) (formed : WellFor
         by_both _ _ _ _ (ap (call_step false s code into (row_of q).name cargs) (primitive_found q)) refl (stands_by q _ _ h (row_of q).while_pending refl w.pending refl s.pending refl a.world.pending)
 
     -- a row that is read as every other
-    by_row : (o : Option RType) → IsTarget a.func.regs o to → are_read (row_of q).parameters ≡ true → ((vs : List Argument) (ys : List machines.Argument) → AllMeet s code (row_of q).parameters vs ys → Agrees p w s o (program.effect p q vs w) (steps.effect code s q ys)) → Called
+    by_row : (o : Option RType) → IsTarget a.func.regs o to → are_read (row_of q).parameters ≡ true → ((vs : List Argument) (ys : List machines.Argument) → AllMeet w s code (row_of q).parameters vs ys → Agrees p w s o (program.effect p q vs w) (steps.effect code s q ys)) → Called
     by_row o target read row =
-        called (reading D S code s declared a.func.regs f.regs regs_are a.regs cargs (row_of q).parameters args read parts.0 [] s.top.ledger by_text by_program (λ vs ys m meet. effects_do p f below s a.func a.there a.regs w a.world (edge_of_prim declared to q) o to target m (stolen (row_of q).parameters ys) (program.effect p q vs w) (steps.effect code s q ys) (row vs ys meet)) (λ vs r. ap (applied Fitting p (edge_of_prim declared to q) to f below) (refused p code w s q vs r)))
+        called (reading D S code w s a.world.store declared a.func.regs f.regs regs_are a.regs cargs (row_of q).parameters args read parts.0 [] s.top.ledger by_text by_program (λ vs ys m meet. effects_do p f below s a.func a.there a.regs w a.world (edge_of_prim declared to q) o to target m (stolen (row_of q).parameters ys) (program.effect p q vs w) (steps.effect code s q ys) (row vs ys meet)) (λ vs r. ap (applied Fitting p (edge_of_prim declared to q) to f below) (refused p w q vs r)))
 
     plain_does : is_global q ≡ false → Called
     plain_does other =
@@ -201,7 +200,7 @@ module _ (p : Program) (code : Code) (heads : HasHeads p code) (formed : WellFor
   clear_does to args is =
       by_row to (prim.Global global.Clear) args is None (target_is code a.func.regs (map argument_in args) Nothing to refl (parts to (prim.Global global.Clear) args is).1) refl row
     where
-      row : (vs : List Argument) (ys : List machines.Argument) → AllMeet s code (TakesGlobal ∷ []) vs ys → Agrees p w s None (program.effect p (prim.Global global.Clear) vs w) (steps.effect code s (prim.Global global.Clear) ys)
+      row : (vs : List Argument) (ys : List machines.Argument) → AllMeet w s code (TakesGlobal ∷ []) vs ys → Agrees p w s None (program.effect p (prim.Global global.Clear) vs w) (steps.effect code s (prim.Global global.Clear) ys)
       row vs ys (one_more (writes_global name known) no_more) = clear_row p code heads.globals w s a.world name known
 
   get_does : (to : Option Reg) (args : List PArg) → line_at code s.top ≡ Some (line_of p (Prim to (prim.Global global.Get) args)) → D (step_at false code s (Some (line_of p (Prim to (prim.Global global.Get) args)))) (do_op Fitting p (Prim to (prim.Global global.Get) args) f below w)
@@ -228,17 +227,15 @@ module _ (p : Program) (code : Code) (heads : HasHeads p code) (formed : WellFor
   any_reads : (t : RType) (l : Ledger) (go : machines.Argument → Ledger → Next) (k : Argument → Config) → ((v : Value) (y : Word) (x : machines.Argument) (m : Ledger) → word_in (kind_of_type t) x ≡ Some y → Fits s t (Holds v) y → D (go x m) (k (Given v))) → (v : Value) (y : Word) → Fits s t (Holds v) y → D (if_there false s y (λ x. if_true false s (is_holding Anything x) (steps.if_stolen false s x l (go x)))) (k (Given v))
   any_reads t l go k more v y (short n) = more _ y (Plain y) l refl (short n)
   any_reads t l go k more v y (big n c live) =
-      at_cell D S code s declared a.func.regs f.regs regs_are a.regs c (IntCell n) live (λ x. steps.if_stolen false s (Cell c x) l (go (Cell c x))) (k (Given v)) (more _ y (Cell c (IntCell n)) (without c l) refl (big n c live))
+      at_cell D S code w s a.world.store declared a.func.regs f.regs regs_are a.regs c (IntCell n) live (λ x. steps.if_stolen false s (Cell c x) l (go (Cell c x))) (k (Given v)) (more _ y (Cell c (IntCell n)) (without c l) refl (big n c live))
   any_reads t l go k more v y (native n) = more _ y (Plain y) l refl (native n)
   any_reads t l go k more v y char_true = more _ y (Plain y) l refl char_true
   any_reads t l go k more v y char_false = more _ y (Plain y) l refl char_false
-  any_reads t l go k more v y none = more _ y (Plain y) l refl none
-  any_reads t l go k more v y object_true = more _ y (Plain y) l refl object_true
-  any_reads t l go k more v y object_false = more _ y (Plain y) l refl object_false
-  any_reads t l go k more v y (text n c live) =
-      at_cell D S code s declared a.func.regs f.regs regs_are a.regs c (StrCell n) live (λ x. steps.if_stolen false s (Cell c x) l (go (Cell c x))) (k (Given v)) (more _ y (Cell c (StrCell n)) (without c l) refl (text n c live))
-  any_reads t l go k more v y (exception e c live) =
-      at_cell D S code s declared a.func.regs f.regs regs_are a.regs c (ExcCell e) live (λ x. steps.if_stolen false s (Cell c x) l (go (Cell c x))) (k (Given v)) (more _ y (Cell c (ExcCell e)) (without c l) refl (exception e c live))
+  any_reads t l go k more v y (boxed u z m) =
+      object_reads D S code w s a.world.store declared a.func.regs f.regs regs_are a.regs Anything (λ x. steps.if_stolen false s x l (go x)) k u z
+      (λ x b read e. let left = read_stolen D S code w s a.world.store declared a.func.regs f.regs regs_are a.regs z x read l (go x) in by_both _ _ _ _ left.1 refl (more u z x left.0 (word_read w s a.world.store z x read) (boxed u z m)))
+      (λ e. absurd (cc))
+      (boxed u z m)
 
   set_does : (to : Option Reg) (args : List PArg) → line_at code s.top ≡ Some (line_of p (Prim to (prim.Global global.Set) args)) → D (step_at false code s (Some (line_of p (Prim to (prim.Global global.Set) args)))) (do_op Fitting p (Prim to (prim.Global global.Set) args) f below w)
   set_does to args is =
@@ -263,7 +260,7 @@ module _ (p : Program) (code : Code) (heads : HasHeads p code) (formed : WellFor
       (ap (λ z. meaning.if_some (arguments declared f.regs z) (by_program to q args is)) two.2
       ∙ (first_then declared f.regs (Some (Written (arg.Global name))) (arguments declared f.regs (arg.Var r ∷ [])) (by_program to q args is)
       ∙ first_then declared f.regs (argument declared f.regs (arg.Var r)) (Some []) (λ xs. by_program to q args is (Written (arg.Global name) ∷ xs))))
-      (variable_reads D S code s declared a.func.regs f.regs regs_are a.regs t Anything r has stolen_one k (any_reads t s.top.ledger go k (λ v y x m word fits. effects_do p f below s a.func a.there a.regs w a.world (edge_of_prim declared to q) None to (target_is code a.func.regs (map argument_in args) Nothing to refl fit.1) m (stolen (row_of q).parameters (written ∷ x ∷ [])) _ _ (set_row p code heads.globals w s a.world name two.3 v y x word fits)))))
+      (variable_reads D S code w s a.world.store declared a.func.regs f.regs regs_are a.regs t Anything r has stolen_one k (any_reads t s.top.ledger go k (λ v y x m word fits. effects_do p f below s a.func a.there a.regs w a.world (edge_of_prim declared to q) None to (target_is code a.func.regs (map argument_in args) Nothing to refl fit.1) m (stolen (row_of q).parameters (written ∷ x ∷ [])) _ _ (set_row p code heads.globals w s a.world name two.3 v y x word fits)))))
 
   -- ---- all
   prim_does : (to : Option Reg) (q : Primitive) (args : List PArg) → line_at code s.top ≡ Some (line_of p (Prim to q args)) → D (step_at false code s (Some (line_of p (Prim to q args)))) (do_op Fitting p (Prim to q args) f below w)
@@ -273,7 +270,10 @@ module _ (p : Program) (code : Code) (heads : HasHeads p code) (formed : WellFor
   prim_does to (prim.Int64 q) args is = plain_does to (prim.Int64 q) args is refl
   prim_does to (prim.Tagged q) args is = plain_does to (prim.Tagged q) args is refl
   prim_does to (prim.Bool q) args is = plain_does to (prim.Bool q) args is refl
+  prim_does to (prim.Object q) args is = plain_does to (prim.Object q) args is refl
   prim_does to (prim.Str q) args is = plain_does to (prim.Str q) args is refl
+  prim_does to (prim.List q) args is = plain_does to (prim.List q) args is refl
+  prim_does to (prim.Tuple q) args is = plain_does to (prim.Tuple q) args is refl
   prim_does to (prim.Exc q) args is = plain_does to (prim.Exc q) args is refl
   prim_does to (prim.Err q) args is = plain_does to (prim.Err q) args is refl
   prim_does to (prim.Io q) args is = plain_does to (prim.Io q) args is refl

@@ -28,10 +28,10 @@ use Rattle.ir_core.specs.Rows.{type_of_reg, edge_of_call}
 use Rattle.ir_core.specs.Effects.{World}
 use Rattle.ir_core.specs.Meaning.{Frame, Waiting, Config, Runs, Stuck, Fitting, Way, Well, Badly, Wrongly, next, goes, is_edge, item_at, registers_of, failed, returned, way, way_calm, leave, ended_well, raised_by, do_last}
 use Rattle.ir_core.specs.Meaning as meaning
-use Rattle.refcount_insert_lines_laws.specs.Matching.{Fits, tagged_error, short, big, native, char_error, char_true, char_false, no_object, none, object_true, object_false, text, exception, PendingFits, WorldFits, HasHeads, RunsIn}
+use Rattle.refcount_insert_lines_laws.specs.Matching.{Fits, tagged_error, short, big, native, char_error, char_true, char_false, no_object, boxed, PendingFits, WorldFits, HasHeads, RunsIn}
 use Rattle.refcount_insert_lines_laws.specs.Lines.{WaitsIn, GoesBack, ReturnDoes, return_sticks, return_goes, ReturnsDo, EndDoes, end_sticks, end_is, EndsDo}
-use Rattle.refcount_insert_lines_laws.proofs.Growing.{same_grows, fits_grow, regs_grow, world_grows}
-use Rattle.refcount_insert_lines_laws.proofs.Words.{same_error, error_held, no_error, put_fits}
+use Rattle.refcount_insert_lines_laws.proofs.Growing.{same_keeps, same_grows, fits_grow, regs_grow, world_keeps}
+use Rattle.refcount_insert_lines_laws.proofs.Words.{ObjectWord, word_none, word_true, word_false, word_cell, boxed_word, same_error, error_held, no_error, put_fits}
 use Rattle.refcount_insert_lines_laws.proofs.Facts.{is_declared, fits_here, has_type, type_here, last_answers}
 
 module _ (s : MachineState) where
@@ -40,6 +40,13 @@ module _ (s : MachineState) where
   none_left (c ∷ l) go = refl
 
   -- the cell of a word is there, and no ledger is looked at
+  word_result : (y : Word) → ObjectWord s y → (n : Next) → if_result false s y (λ l. if_none_left false s l n) ≡ n
+  word_result y word_none n = none_left s.top.ledger n
+  word_result y word_true n = none_left s.top.ledger n
+  word_result y word_false n = none_left s.top.ledger n
+  word_result y (word_cell c x live) n =
+      ap (λ o. steps.if_some false s fault.Dead o (λ x. if_none_left false s (without c s.top.ledger) n)) live ∙ none_left (without c s.top.ledger) n
+
   result_is : (t : RType) (h : Held) (y : Word) → Fits s t h y → (n : Next) → if_result false s y (λ l. if_none_left false s l n) ≡ n
   result_is t h y tagged_error n = none_left s.top.ledger n
   result_is t h y (short k) n = none_left s.top.ledger n
@@ -50,13 +57,7 @@ module _ (s : MachineState) where
   result_is t h y char_true n = none_left s.top.ledger n
   result_is t h y char_false n = none_left s.top.ledger n
   result_is t h y no_object n = none_left s.top.ledger n
-  result_is t h y none n = none_left s.top.ledger n
-  result_is t h y object_true n = none_left s.top.ledger n
-  result_is t h y object_false n = none_left s.top.ledger n
-  result_is t h y (text k c live) n =
-      ap (λ o. steps.if_some false s fault.Dead o (λ x. if_none_left false s (without c s.top.ledger) n)) live ∙ none_left (without c s.top.ledger) n
-  result_is t h y (exception k c live) n =
-      ap (λ o. steps.if_some false s fault.Dead o (λ x. if_none_left false s (without c s.top.ledger) n)) live ∙ none_left (without c s.top.ledger) n
+  result_is t h y (boxed v z m) n = word_result z (boxed_word s v z m) n
 
   -- an error value passes while an exception is pending
   error_passes : (y : Word) (c : ℕ) (go : Next) → equals_error y ≡ true → if_in_order false s y (Some c) go ≡ go
@@ -138,7 +139,7 @@ module _ (p : Program) (code : Code) (heads : HasHeads p code) (formed : WellFor
 
   back : (h : Held) (y : Word) → Fits s a.func.ret h y → GoesBack p b.func.regs fr frs s (put k.frame.regs k.into.0 h) w (u y)
   back h y fits =
-      let g = same_grows s (u y) refl in
+      let g = same_grows s (u y) refl refl in
       let same : (d : List ℕ × RType) → slice_get b.func.regs k.into.0 ≡ Some d → a.func.ret ≡ d.1 = λ d e. let both : Some target.0 ≡ Some d = sym target.1 ∙ e in let one : target.0 ≡ d = cc in sym target.2 ∙ ap (λ (z : List ℕ × RType). z.1) one in
       record {
         func = refl;
@@ -147,7 +148,7 @@ module _ (p : Program) (code : Code) (heads : HasHeads p code) (formed : WellFor
         below = refl;
         grows = g;
         registers = put_fits (u y) b.func.regs k.frame.regs fr.vars (regs_grow s (u y) g b.func.regs k.frame.regs fr.vars b.regs) k.into.0 h y (slice_get_within b.func.regs k.into.0 target.0 target.1) (λ d e. subst (λ z. Fits (u y) z h y) (same d e) (fits_grow s (u y) g a.func.ret h y fits));
-        world = world_grows s (u y) g p w refl refl refl refl refl refl a.world;
+        world = world_keeps s (u y) (same_keeps s (u y) refl) p w refl refl refl refl refl refl a.world;
       }
 
   failed_does : (e : Edge) (h : Held) (y : Word) → Fits s a.func.ret h y → R (Goes (u y)) (failed Fitting p e (next k.frame (put k.frame.regs k.into.0 h)) ks w)
@@ -226,11 +227,7 @@ module _ (p : Program) (code : Code) (heads : HasHeads p code) (formed : WellFor
       (end_is Done w a.world calm)
   ends_by t e h y char_false calm quiet = end_stuck _ _ refl
   ends_by t e h y no_object calm quiet = end_stuck _ _ refl
-  ends_by t e h y none calm quiet = end_stuck _ _ refl
-  ends_by t e h y object_true calm quiet = absurd (cc)
-  ends_by t e h y object_false calm quiet = end_stuck _ _ refl
-  ends_by t e h y (text n c live) calm quiet = end_stuck _ _ refl
-  ends_by t e h y (exception n c live) calm quiet = end_stuck _ _ refl
+  ends_by t e h y (boxed v z m) calm quiet = absurd (cc)
 
   raises_by : (t : RType) → t ≡ BoolType → (h : Held) (y : Word) → Fits s t h y → (e : Thrown) (c : ℕ) → w.pending ≡ Some e → s.pending ≡ Some c → content_at s.cells c ≡ Some (ExcCell e) → is_error t h ≡ true → E (end_of y) (raised_by w.pending w)
   raises_by t i h y tagged_error e c thrown at live wrong = absurd (cc)
@@ -248,11 +245,7 @@ module _ (p : Program) (code : Code) (heads : HasHeads p code) (formed : WellFor
   raises_by t i h y char_true e c thrown at live wrong = absurd (cc)
   raises_by t i h y char_false e c thrown at live wrong = absurd (cc)
   raises_by t i h y no_object e c thrown at live wrong = absurd (cc)
-  raises_by t i h y none e c thrown at live wrong = absurd (cc)
-  raises_by t i h y object_true e c thrown at live wrong = absurd (cc)
-  raises_by t i h y object_false e c thrown at live wrong = absurd (cc)
-  raises_by t i h y (text n k l) e c thrown at live wrong = absurd (cc)
-  raises_by t i h y (exception n k l) e c thrown at live wrong = absurd (cc)
+  raises_by t i h y (boxed v z m) e c thrown at live wrong = absurd (cc)
 
   pub end_does : line_at code s.top ≡ Some (line.Return x.0) → E (step_at false code s (Some (line.Return x.0))) (do_last Fitting p (Return x) f [] w)
   end_does is =

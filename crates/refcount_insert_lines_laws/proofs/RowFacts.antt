@@ -9,7 +9,10 @@ use Rattle.c_core.specs.declared.primitive.Primitive.TheVariants as prim
 use Rattle.c_core.specs.declared.primitive.Int64Prim.TheVariants as int64
 use Rattle.c_core.specs.declared.primitive.TaggedPrim.TheVariants as tagged
 use Rattle.c_core.specs.declared.primitive.BoolPrim.TheVariants as bool
+use Rattle.c_core.specs.declared.primitive.ObjectPrim.TheVariants as object
 use Rattle.c_core.specs.declared.primitive.StrPrim.TheVariants as str
+use Rattle.c_core.specs.declared.primitive.ListPrim.TheVariants as list
+use Rattle.c_core.specs.declared.primitive.TuplePrim.TheVariants as tuple
 use Rattle.c_core.specs.declared.primitive.ExcPrim.TheVariants as exc
 use Rattle.c_core.specs.declared.primitive.ErrPrim.TheVariants as err
 use Rattle.c_core.specs.declared.primitive.IoPrim.TheVariants as io
@@ -51,6 +54,8 @@ read_row (prim.Int64 int64.Eq) g = refl
 read_row (prim.Int64 int64.Lt) g = refl
 read_row (prim.Int64 int64.Le) g = refl
 read_row (prim.Int64 int64.Str) g = refl
+read_row (prim.Int64 int64.Box) g = refl
+read_row (prim.Int64 int64.Unbox) g = refl
 read_row (prim.Tagged tagged.Add) g = refl
 read_row (prim.Tagged tagged.Subtract) g = refl
 read_row (prim.Tagged tagged.Multiply) g = refl
@@ -67,8 +72,13 @@ read_row (prim.Tagged tagged.Eq) g = refl
 read_row (prim.Tagged tagged.Lt) g = refl
 read_row (prim.Tagged tagged.Le) g = refl
 read_row (prim.Tagged tagged.Str) g = refl
+read_row (prim.Tagged tagged.Box) g = refl
+read_row (prim.Tagged tagged.Unbox) g = refl
 read_row (prim.Bool bool.Not) g = refl
 read_row (prim.Bool bool.Str) g = refl
+read_row (prim.Bool bool.Box) g = refl
+read_row (prim.Bool bool.Unbox) g = refl
+read_row (prim.Object object.IsNone) g = refl
 read_row (prim.Str str.Literal) g = refl
 read_row (prim.Str str.Concat) g = refl
 read_row (prim.Str str.Eq) g = refl
@@ -76,6 +86,15 @@ read_row (prim.Str str.Lt) g = refl
 read_row (prim.Str str.Le) g = refl
 read_row (prim.Str str.Len) g = refl
 read_row (prim.Str str.GetItem) g = refl
+read_row (prim.List list.New) g = refl
+read_row (prim.List list.Append) g = refl
+read_row (prim.List list.GetItem) g = refl
+read_row (prim.List list.SetItem) g = refl
+read_row (prim.List list.Pop) g = refl
+read_row (prim.List list.Len) g = refl
+read_row (prim.Tuple tuple.Pack) g = refl
+read_row (prim.Tuple tuple.GetItem) g = refl
+read_row (prim.Tuple tuple.Len) g = refl
 read_row (prim.Exc exc.New) g = refl
 read_row (prim.Exc exc.Str) g = refl
 read_row (prim.Err err.SetObject) g = refl

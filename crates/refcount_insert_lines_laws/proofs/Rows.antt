@@ -1,48 +1,55 @@
 -- Each primitive does with words what it does with values, one row one case.
-use Rattle.std.proofs.Common.{◌≡◌, refl, sym, ap, subst, ℕ, Bool, true, false, not, ◌&&◌, cond, List, ◌++◌, Option, Some, None, Result, Ok, Err}
-use Rattle.std.specs.Prelude.{ℤ, pos, int_lt, is_some}
+use Rattle.std.proofs.Common.{◌≡◌, ◌≢◌, refl, sym, ◌∙◌, ap, subst, ℕ, zero, suc, Bool, true, false, not, ◌&&◌, cond, List, [], ◌∷◌, ◌++◌, length, take, replicate, Option, Some, None, Result, Ok, Err}
+use Rattle.std.specs.Prelude.{ℤ, pos, negsuc, int_lt, nat_lt, is_some, slice_get, slice_set}
 use Rattle.std.specs.Fmt.{signed_decimal}
-use Rattle.std.specs.Option.{option_and_then}
+use Rattle.std.specs.Option.{option_and_then, option_map}
 use Rattle.std.specs.Ordering.{int_eq}
 use Rattle.std.specs.Str.{bytes_eq}
 use Rattle.std.specs.Str.Parse.{signed_digits_value}
 use Rattle.value_core.specs.declared.arith.Arith.{Arith}
 use Rattle.value_core.specs.declared.exception.ExcClass.{ExcClass}
+use Rattle.value_core.specs.Characters.{place_of}
 use Rattle.value_core.specs.Arithmetic.{lies_within, is_short, int_add, int_sub, int_mul, int_neg, int_floor_div, int_modulo, int_shl, int_shr, int_to_i64, i64_add, i64_sub, i64_mul, i64_neg, i64_floor_div, i64_modulo, i64_shl, i64_shr}
 use Rattle.value_core.specs.Ending.{Over, Broken}
 use Rattle.value_core.specs.Exceptions.{Thrown, class_named, is_under}
 use Rattle.value_core.specs.Items as item
 use Rattle.value_core.specs.Items.{Items}
-use Rattle.value_core.specs.Value.{IntVal, BoolVal}
+use Rattle.value_core.specs.Value.{Value, IntVal, BoolVal, NoneVal, StrVal, TupleVal, ExcVal, ObjVal, Values, no_values, value_then, listed, tupled, ListObj}
 use Rattle.c_core.specs.declared.code.Code.{Code}
 use Rattle.c_core.specs.declared.primitive.Primitive.{Primitive}
 use Rattle.c_core.specs.declared.primitive.Primitive.TheVariants as prim
 use Rattle.c_core.specs.declared.primitive.Int64Prim.TheVariants as int64
 use Rattle.c_core.specs.declared.primitive.TaggedPrim.TheVariants as tagged
 use Rattle.c_core.specs.declared.primitive.BoolPrim.TheVariants as bool
+use Rattle.c_core.specs.declared.primitive.ObjectPrim.TheVariants as object
 use Rattle.c_core.specs.declared.primitive.StrPrim.TheVariants as str
+use Rattle.c_core.specs.declared.primitive.ListPrim.TheVariants as list
+use Rattle.c_core.specs.declared.primitive.TuplePrim.TheVariants as tuple
 use Rattle.c_core.specs.declared.primitive.ExcPrim.TheVariants as exc
 use Rattle.c_core.specs.declared.primitive.ErrPrim.TheVariants as err
 use Rattle.c_core.specs.declared.primitive.IoPrim.TheVariants as io
 use Rattle.c_core.specs.Cells.{content_at}
-use Rattle.c_core.specs.Machine.{Word, ShortInt, Native, NoObject, StrCell, MachineState}
-use Rattle.c_core.specs.Primitives.{Is, Outcome, Owned, row_of}
-use Rattle.c_core.specs.Arguments.{int_in}
+use Rattle.c_core.specs.Machine.{Word, ShortInt, BigInt, Native, CharWord, ObjectCell, NoneObject, TrueObject, FalseObject, NoObject, IntCell, StrCell, ListCell, TupleCell, ExcCell, refs_of, MachineState}
+use Rattle.c_core.specs.Stands.{IsLive}
+use Rattle.c_core.specs.declared.code.Kind.TheVariants.{Object as ObjectKind}
+use Rattle.c_core.specs.Primitives.{Is, Anything, MaySteal, Outcome, Owned, row_of}
+use Rattle.c_core.specs.Arguments.{int_in, word_in}
 use Rattle.c_core.specs.Arguments as machines
 use Rattle.c_core.specs.Step.{truth_word, of_int, of_ints}
 use Rattle.c_core.specs.Step as steps
-use Rattle.c_core.specs.Strings.{text_less, text_length, text_item}
+use Rattle.c_core.specs.Strings.{counted_length, text_less, text_length, text_item}
 use Rattle.ir_core.specs.declared.code.RType.{RType}
 use Rattle.ir_core.specs.declared.code.RType.TheVariants.{Int, I64, Bool as BoolType, Ref}
 use Rattle.ir_core.specs.declared.code.Program.{Program}
 use Rattle.ir_core.specs.Registers.{error_of}
-use Rattle.ir_core.specs.Effects.{World, Argument, Effect, Gives, truth_number}
+use Rattle.ir_core.specs.Effects.{World, Argument, Effect, Wrong, Gives, Acts, with_object, truth_number}
 use Rattle.ir_core.specs.Effects as program
-use Rattle.refcount_insert_lines_laws.specs.Matching.{Fits, tagged_error, short, native, no_object, PendingFits, WorldFits}
+use Rattle.refcount_insert_lines_laws.specs.Matching.{Boxed, PartsBoxed, AllBoxed, Fits, tagged_error, short, big, native, char_error, no_object, boxed, PendingFits, WorldFits}
+use Rattle.refcount_insert_lines_laws.proofs.Growing.{parts_grow}
 use Rattle.refcount_insert_lines_laws.proofs.Words.{char_fits}
 use Rattle.refcount_insert_lines_laws.proofs.Facts.{type_in}
-use Rattle.refcount_insert_lines_laws.proofs.Reading.{is_native, is_truth, is_number, is_text, is_exception, is_stolen, writes_text, writes_exception, AllMeet, no_more, one_more}
-use Rattle.refcount_insert_lines_laws.proofs.Agreeing.{Agrees, both_wrong, both_say, both_make_text, both_make_exception, both_make_int, both_write, both_fail, both_pend, both_catch, both_read, both_skip, both_stop}
+use Rattle.refcount_insert_lines_laws.proofs.Reading.{IsRead, read_none, read_true, read_false, read_cell, is_native, is_truth, is_number, owns_short, owns_big, is_any, owns_any, may_own_any, is_box, is_text, is_exception, is_stolen, is_list, is_tuple, writes_number, writes_text, writes_exception, AllMeet, no_more, left_out, one_more}
+use Rattle.refcount_insert_lines_laws.proofs.Agreeing.{Changing, Agrees, both_wrong, both_say, both_share, both_make, both_make_object, both_change, both_change_answering, both_make_int, both_write, both_fail, both_pend, both_catch, both_read, both_skip, both_stop}
 
 -- the type of what a row answers
 abbrev pub answer_of : Outcome → Option RType
@@ -57,6 +64,16 @@ is_global _ = false
 module _ (p : Program) (code : Code) (w : World) (s : MachineState) (world : WorldFits p w s) where
   abbrev A : Option RType → Effect → steps.Effect → Type 0
   A o x y = Agrees p w s o x y
+
+  -- a new cell, which never changes
+  makes_text : (t : List ℕ) → A (Some Ref) (Gives (StrVal t) w) (steps.Makes (StrCell t))
+  makes_text t = both_make (StrVal t) (StrCell t) refl (λ u g live. (_, refl, live))
+
+  makes_exception : (e : Thrown) → A (Some Ref) (Gives (ExcVal e) w) (steps.Makes (ExcCell e))
+  makes_exception e = both_make (ExcVal e) (ExcCell e) refl (λ u g live. (_, refl, live))
+
+  makes_number : (n : ℤ) → A (Some Ref) (Gives (IntVal n) w) (steps.Makes (IntCell n))
+  makes_number n = both_make (IntVal n) (IntCell n) refl (λ u g live. (_, refl, live))
 
   says_native : (n : ℤ) → A (Some I64) (Gives (IntVal n) w) (steps.Says (Native n))
   says_native n = both_say I64 (IntVal n) (Native n) (native n)
@@ -103,7 +120,7 @@ module _ (p : Program) (code : Code) (w : World) (s : MachineState) (world : Wor
 
   item_row : (o : Option (List ℕ)) → A (Some Ref) (program.item_or o w) (steps.item_or o)
   item_row None = both_fail (Some Ref) _ _ (fails_as Ref _ no_object)
-  item_row (Some t) = both_make_text t
+  item_row (Some t) = makes_text t
 
   line_row : (i : Items) → A (Some Ref) (program.line_read i w) (steps.line_read i)
   line_row item.Eof = both_fail (Some Ref) _ _ (fails_as Ref _ no_object)
@@ -114,7 +131,7 @@ module _ (p : Program) (code : Code) (w : World) (s : MachineState) (world : Wor
 
   exception_row : (o : Option ExcClass) (t : List ℕ) → A (Some Ref) (program.made_exception o t w) (steps.made_exception o t)
   exception_row None t = both_wrong (Some Ref) steps.Wrong
-  exception_row (Some class) t = both_make_exception _
+  exception_row (Some class) t = makes_exception _
 
   -- the pending exception
   same_exception : (o : Option Thrown) (q : Option ℕ) → PendingFits s o q → option_and_then steps.exception_in (option_and_then (content_at s.cells) q) ≡ o
@@ -140,10 +157,225 @@ module _ (p : Program) (code : Code) (w : World) (s : MachineState) (world : Wor
   caught_row (Some e) None at = absurd at
   caught_row (Some e) (Some c) at = both_catch e c at
 
+  -- ---- boxes
+  native_in_row : (r : Result ℤ Arith) → A (Some I64) (program.native_in r w) (steps.native_in r)
+  native_in_row (Ok n) = says_native n
+  native_in_row (Err x) = both_wrong (Some I64) steps.Wrong
+
+  unboxed_row : (n : ℤ) (c : ℕ) → IsLive s c (IntCell n) → A (Some Int) (Gives (IntVal n) w) (steps.unboxed c n)
+  unboxed_row n c live = by (is_short n)
+    where
+      by : (b : Bool) → A (Some Int) (Gives (IntVal n) w) (cond b (steps.Says (ShortInt n)) (steps.Shares (BigInt c)))
+      by true = both_say Int (IntVal n) (ShortInt n) (short n)
+      by false = both_share Int (IntVal n) (BigInt c) (big n c live)
+
+  unbox_row : (v : Value) (y : Word) (a : machines.Argument) → Boxed s v y → IsRead s y a → A (Some BoolType) (program.effect p (prim.Bool bool.Unbox) (program.Given v ∷ []) w) (steps.effect code s (prim.Bool bool.Unbox) (a ∷ []))
+  unbox_row (BoolVal true) y a m read_none = let e : NoneObject ≡ TrueObject = m in absurd (cc)
+  unbox_row (BoolVal true) y a m read_true = says_truth true
+  unbox_row (BoolVal true) y a m read_false = let e : FalseObject ≡ TrueObject = m in absurd (cc)
+  unbox_row (BoolVal true) y a m (read_cell c x live) = let e : ObjectCell c ≡ TrueObject = m in absurd (cc)
+  unbox_row (BoolVal false) y a m read_none = let e : NoneObject ≡ FalseObject = m in absurd (cc)
+  unbox_row (BoolVal false) y a m read_true = let e : TrueObject ≡ FalseObject = m in absurd (cc)
+  unbox_row (BoolVal false) y a m read_false = says_truth false
+  unbox_row (BoolVal false) y a m (read_cell c x live) = let e : ObjectCell c ≡ FalseObject = m in absurd (cc)
+  unbox_row _ y a m r = both_wrong (Some BoolType) _
+
+  -- a value that is not None
+  not_none : (v : Value) (y : Word) → Boxed s v y → y ≡ NoneObject → v ≡ NoneVal
+  not_none (IntVal n) y m e = let f : ObjectCell m.0 ≡ NoneObject = sym m.1 ∙ e in absurd (cc)
+  not_none (BoolVal true) y m e = let f : TrueObject ≡ NoneObject = sym m ∙ e in absurd (cc)
+  not_none (BoolVal false) y m e = let f : FalseObject ≡ NoneObject = sym m ∙ e in absurd (cc)
+  not_none NoneVal y m e = refl
+  not_none (StrVal t) y m e = let f : ObjectCell m.0 ≡ NoneObject = sym m.1 ∙ e in absurd (cc)
+  not_none (TupleVal parts) y m e = let f : ObjectCell m.0 ≡ NoneObject = sym m.1 ∙ e in absurd (cc)
+  not_none (ExcVal x) y m e = let f : ObjectCell m.0 ≡ NoneObject = sym m.1 ∙ e in absurd (cc)
+  not_none (ObjVal k) y m e = let f : ObjectCell m.0 ≡ NoneObject = sym m.1 ∙ e in absurd (cc)
+
+  abbrev NoneRow : Value → machines.Argument → Type 0
+  NoneRow v a =
+      A (Some BoolType) (program.effect p (prim.Object object.IsNone) (program.Given v ∷ []) w) (steps.effect code s (prim.Object object.IsNone) (a ∷ []))
+
+  some_row : (v : Value) (y : Word) (a : machines.Argument) → Boxed s v y → y ≢ NoneObject → steps.effect code s (prim.Object object.IsNone) (a ∷ []) ≡ steps.Says (CharWord 0) → NoneRow v a
+  some_row NoneVal y a m ne e = absurd (ne m)
+  some_row v y a m ne e = subst (λ z. A (Some BoolType) (program.effect p (prim.Object object.IsNone) (program.Given v ∷ []) w) z) (sym e) (says_truth false)
+
+  none_row : (v : Value) (y : Word) (a : machines.Argument) → Boxed s v y → IsRead s y a → NoneRow v a
+  none_row v y a m read_none = subst (λ z. NoneRow z (machines.Plain NoneObject)) (sym (not_none v NoneObject m refl)) (says_truth true)
+  none_row v y a m read_true = some_row v TrueObject (machines.Plain TrueObject) m (λ e. cc) refl
+  none_row v y a m read_false = some_row v FalseObject (machines.Plain FalseObject) m (λ e. cc) refl
+  none_row v y a m (read_cell c x live) = some_row v (ObjectCell c) (machines.Cell c x) m (λ e. cc) refl
+
+  -- ---- lists and tuples
+  -- what stands at a place of both
+  abbrev BothBoxed : Option Value → Option Word → Type 0
+  BothBoxed None None = Unit {0}
+  BothBoxed (Some v) (Some y) = Boxed s v y
+  BothBoxed _ _ = ⊥
+
+  all_at : (vs : List Value) (ys : List Word) → AllBoxed s vs ys → (i : ℕ) → BothBoxed (slice_get vs i) (slice_get ys i)
+  all_at [] [] m i = tt
+  all_at [] (y ∷ ys) m i = absurd m
+  all_at (v ∷ vs) [] m i = absurd m
+  all_at (v ∷ vs) (y ∷ ys) m zero = m.0
+  all_at (v ∷ vs) (y ∷ ys) m (suc i) = all_at vs ys m.1 i
+
+  all_size : (vs : List Value) (ys : List Word) → AllBoxed s vs ys → length vs ≡ length ys
+  all_size [] [] m = refl
+  all_size [] (y ∷ ys) m = absurd m
+  all_size (v ∷ vs) [] m = absurd m
+  all_size (v ∷ vs) (y ∷ ys) m = ap suc (all_size vs ys m.1)
+
+  all_then : (vs : List Value) (ys : List Word) (v : Value) (y : Word) → AllBoxed s vs ys → Boxed s v y → AllBoxed s (vs ++ v ∷ []) (ys ++ y ∷ [])
+  all_then [] [] v y m b = (b, tt)
+  all_then [] (z ∷ ys) v y m b = absurd m
+  all_then (u ∷ vs) [] v y m b = absurd m
+  all_then (u ∷ vs) (z ∷ ys) v y m b = (m.0, all_then vs ys v y m.1 b)
+
+  all_set : (vs : List Value) (ys : List Word) (i : ℕ) (v : Value) (y : Word) → AllBoxed s vs ys → Boxed s v y → AllBoxed s (slice_set vs i v) (slice_set ys i y)
+  all_set [] [] i v y m b = tt
+  all_set [] (z ∷ ys) i v y m b = absurd m
+  all_set (u ∷ vs) [] i v y m b = absurd m
+  all_set (u ∷ vs) (z ∷ ys) zero v y m b = (b, m.1)
+  all_set (u ∷ vs) (z ∷ ys) (suc i) v y m b = (m.0, all_set vs ys i v y m.1 b)
+
+  all_take : (vs : List Value) (ys : List Word) (i : ℕ) → AllBoxed s vs ys → AllBoxed s (take i vs) (take i ys)
+  all_take vs ys zero m = tt
+  all_take [] [] (suc i) m = tt
+  all_take [] (z ∷ ys) (suc i) m = absurd m
+  all_take (u ∷ vs) [] (suc i) m = absurd m
+  all_take (u ∷ vs) (z ∷ ys) (suc i) m = (m.0, all_take vs ys i m.1)
+
+  all_parts : (vs : Values) (ys : List Word) → PartsBoxed s vs ys → AllBoxed s (listed vs) ys
+  all_parts no_values [] m = tt
+  all_parts no_values (y ∷ ys) m = absurd m
+  all_parts (value_then v vs) [] m = absurd m
+  all_parts (value_then v vs) (y ∷ ys) m = (m.0, all_parts vs ys m.1)
+
+  parts_all : (vs : List Value) (ys : List Word) → AllBoxed s vs ys → PartsBoxed s (tupled vs) ys
+  parts_all [] [] m = tt
+  parts_all [] (y ∷ ys) m = absurd m
+  parts_all (v ∷ vs) [] m = absurd m
+  parts_all (v ∷ vs) (y ∷ ys) m = (m.0, parts_all vs ys m.1)
+
+  -- the values and the words that a tuple gets
+  record Packed (vs : List Argument) (ys : List machines.Argument) : Type 0 where
+    values : List Value
+    words : List Word
+    has : program.values_in vs ≡ Some values
+    there : machines.words_in ys ≡ Some words
+    all : AllBoxed s values words
+
+  none_packed : Packed [] []
+  none_packed = record { values = []; words = []; has = refl; there = refl; all = tt }
+
+  one_packed : (v : Value) (y : Word) (a : machines.Argument) (vs : List Argument) (ys : List machines.Argument) → Boxed s v y → word_in ObjectKind a ≡ Some y → Packed vs ys → Packed (program.Given v ∷ vs) (a ∷ ys)
+  one_packed v y a vs ys b e rest = record {
+    values = v ∷ rest.values;
+    words = y ∷ rest.words;
+    has = ap (option_map (λ us. v ∷ us)) rest.has;
+    there = ap (option_and_then (λ z. option_map (λ zs. z ∷ zs) (machines.words_in ys))) e ∙ ap (option_map (λ zs. y ∷ zs)) rest.there;
+    all = (b, rest.all);
+  }
+
+  may_pack : (n : ℕ) (vs : List Argument) (ys : List machines.Argument) → AllMeet w s code (replicate n (MaySteal (Is ObjectKind) Anything)) vs ys → Packed vs ys
+  may_pack zero vs ys no_more = none_packed
+  may_pack (suc n) vs ys left_out = none_packed
+  may_pack (suc n) _ _ (one_more {vs = vs} {ys = ys} (may_own_any v y a b e) rest) = one_packed v y a vs ys b e (may_pack n vs ys rest)
+
+  if_packed : (values : List Value) (words : List Word) → AllBoxed s values words → (b : Bool) → A (Some Ref) (cond b (Gives (TupleVal (tupled values)) w) Wrong) (steps.Makes (TupleCell words))
+  if_packed values words all true =
+      both_make (TupleVal (tupled values)) (TupleCell words) refl (λ u g live. (_, refl, (words, live, parts_grow s u g (tupled values) words (parts_all values words all))))
+  if_packed values words all false = both_wrong (Some Ref) _
+
+  packed_row : (vs : List Argument) (ys : List machines.Argument) → Packed vs ys → A (Some Ref) (program.effect p (prim.Tuple tuple.Pack) vs w) (steps.effect code s (prim.Tuple tuple.Pack) ys)
+  packed_row vs ys k =
+      let values : List Value = k.values in
+      let words : List Word = k.words in
+      subst (λ z. A (Some Ref) (program.of_values (λ us. program.packed us w) z) (steps.of_words (λ zs. steps.Makes (TupleCell zs)) (machines.words_in ys))) (sym k.has)
+      (subst (λ z. A (Some Ref) (program.packed values w) (steps.of_words (λ zs. steps.Makes (TupleCell zs)) z)) (sym k.there)
+      (if_packed values words k.all (nat_lt 0 (length values) && nat_lt (length values) 17)))
+
+  -- both count the same number of items
+  counted_row : (vs : List Value) (ys : List Word) → AllBoxed s vs ys → A (Some Int) (Gives (IntVal (pos (counted_length (length vs)))) w) (steps.tagged_effect (pos (counted_length (length ys))))
+  counted_row vs ys m =
+      subst (λ n. A (Some Int) (Gives (IntVal (pos (counted_length n))) w) (steps.tagged_effect (pos (counted_length (length ys))))) (sym (all_size vs ys m)) (int_row (pos (counted_length (length ys))))
+
+  shared_row : (o : Option Value) (q : Option Word) → BothBoxed o q → A (Some Ref) (program.of_value (λ v. Gives v w) o) (steps.of_word steps.Shares q)
+  shared_row None None m = both_wrong (Some Ref) steps.Wrong
+  shared_row None (Some y) m = absurd m
+  shared_row (Some v) None m = absurd m
+  shared_row (Some v) (Some y) m = both_share Ref v y (boxed v y m)
+
+  part_row : (vs : Values) (ys : List Word) → PartsBoxed s vs ys → (n : ℤ) → A (Some Ref) (program.part_at (listed vs) n w) (steps.part_at ys n)
+  part_row vs ys m (pos i) = shared_row (slice_get (listed vs) i) (slice_get ys i) (all_at (listed vs) ys (all_parts vs ys m) i)
+  part_row vs ys m (negsuc i) = both_wrong (Some Ref) steps.Wrong
+
+  module _ (k c : ℕ) (vs : List Value) (ys : List Word) (there : slice_get w.store k ≡ Some (ListObj vs)) (made : slice_get s.made k ≡ Some c) (live : IsLive s c (ListCell ys)) (m : AllBoxed s vs ys) where
+    -- the program finds the items
+    items_found : (o : Option RType) (F : List Value → Effect) (e : steps.Effect) → A o (F vs) e → A o (program.of_list F (slice_get w.store k)) e
+    items_found o F e h = subst (λ z. A o (program.of_list F z) e) (sym there) h
+
+    -- both find the same place
+    same_place : (i : ℤ) → place_of (length vs) i ≡ place_of (length ys) i
+    same_place i = ap (λ n. place_of n i) (all_size vs ys m)
+
+    changing : (us : List Value) (zs : List Word) → AllBoxed s us zs → Changing s k c (ListObj us) (ListCell zs)
+    changing us zs all = record { made = made; old = ListCell ys; live = live; object = refl; fits = all }
+
+    -- the machine finds the word that it was given
+    given : (o : Option RType) (x : Effect) (F : Word → steps.Effect) (a : machines.Argument) (y : Word) → word_in ObjectKind a ≡ Some y → A o x (F y) → A o x (steps.of_word F (word_in ObjectKind a))
+    given o x F a y e h = subst (λ z. A o x (steps.of_word F z)) (sym e) h
+
+    item_at_row : (i : Option ℕ) → A (Some Ref) (program.item_at i vs w) (steps.item_at i ys)
+    item_at_row None = both_fail (Some Ref) _ _ (fails_as Ref _ no_object)
+    item_at_row (Some i) = shared_row (slice_get vs i) (slice_get ys i) (all_at vs ys m i)
+
+    put_by : (i : ℕ) (v : Value) (y : Word) → Boxed s v y → (o : Option Value) (q : Option Word) → BothBoxed o q → A (Some BoolType) (program.of_value (λ old. Gives (BoolVal true) (with_object k (ListObj (slice_set vs i v)) w)) o) (steps.of_word (λ old. steps.Changes c (ListCell (slice_set ys i y)) (CharWord 1) (refs_of old)) q)
+    put_by i v y b None None n = both_wrong (Some BoolType) steps.Wrong
+    put_by i v y b None (Some z) n = absurd n
+    put_by i v y b (Some u) None n = absurd n
+    put_by i v y b (Some u) (Some z) n =
+        both_change_answering BoolType (BoolVal true) k c _ _ (CharWord 1) (refs_of z) (changing (slice_set vs i v) (slice_set ys i y) (all_set vs ys i v y m b)) (char_fits s true)
+
+    put_row : (i : Option ℕ) (v : Value) (y : Word) → Boxed s v y → A (Some BoolType) (program.put_at k i vs v w) (steps.put_at c i ys y)
+    put_row None v y b = both_fail (Some BoolType) _ _ (fails_as BoolType _ char_error)
+    put_row (Some i) v y b = put_by i v y b (slice_get vs i) (slice_get ys i) (all_at vs ys m i)
+
+    popped_by : (i : ℕ) (o : Option Value) (q : Option Word) → BothBoxed o q → A (Some Ref) (program.of_value (λ v. Gives v (with_object k (ListObj (take i vs)) w)) o) (steps.of_word (λ y. steps.Changes c (ListCell (take i ys)) y []) q)
+    popped_by i None None n = both_wrong (Some Ref) steps.Wrong
+    popped_by i None (Some z) n = absurd n
+    popped_by i (Some u) None n = absurd n
+    popped_by i (Some u) (Some z) n =
+        both_change_answering Ref u k c _ _ z [] (changing (take i vs) (take i ys) (all_take vs ys i m)) (boxed u z n)
+
+    popped_row : (i : Option ℕ) → A (Some Ref) (program.popped k i vs w) (steps.popped c i ys)
+    popped_row None = both_fail (Some Ref) _ _ (fails_as Ref _ no_object)
+    popped_row (Some i) = popped_by i (slice_get vs i) (slice_get ys i) (all_at vs ys m i)
+
+    append_row : (v : Value) (y : Word) (a : machines.Argument) → Boxed s v y → word_in ObjectKind a ≡ Some y → A None (program.of_list (λ items. Acts (with_object k (ListObj (items ++ v ∷ [])) w)) (slice_get w.store k)) (steps.of_word (λ z. steps.Changes c (ListCell (ys ++ z ∷ [])) NoneObject []) (word_in ObjectKind a))
+    append_row v y a b e =
+        items_found None _ _ (given None _ _ a y e (both_change k c _ _ NoneObject [] (changing (vs ++ v ∷ []) (ys ++ y ∷ []) (all_then vs ys v y m b))))
+
+    get_row : (i : ℤ) → A (Some Ref) (program.of_list (λ items. program.item_at (place_of (length items) i) items w) (slice_get w.store k)) (steps.item_at (place_of (length ys) i) ys)
+    get_row i =
+        items_found (Some Ref) _ _ (subst (λ z. A (Some Ref) (program.item_at z vs w) (steps.item_at (place_of (length ys) i) ys)) (sym (same_place i)) (item_at_row (place_of (length ys) i)))
+
+    set_row : (i : ℤ) (v : Value) (y : Word) (a : machines.Argument) → Boxed s v y → word_in ObjectKind a ≡ Some y → A (Some BoolType) (program.of_list (λ items. program.put_at k (place_of (length items) i) items v w) (slice_get w.store k)) (steps.of_word (steps.put_at c (place_of (length ys) i) ys) (word_in ObjectKind a))
+    set_row i v y a b e =
+        items_found (Some BoolType) _ _ (given (Some BoolType) _ _ a y e (subst (λ z. A (Some BoolType) (program.put_at k z vs v w) (steps.put_at c (place_of (length ys) i) ys y)) (sym (same_place i)) (put_row (place_of (length ys) i) v y b)))
+
+    pop_row : A (Some Ref) (program.of_list (λ items. program.popped k (place_of (length items) (negsuc 0)) items w) (slice_get w.store k)) (steps.popped c (place_of (length ys) (negsuc 0)) ys)
+    pop_row =
+        items_found (Some Ref) _ _ (subst (λ z. A (Some Ref) (program.popped k z vs w) (steps.popped c (place_of (length ys) (negsuc 0)) ys)) (sym (same_place (negsuc 0))) (popped_row (place_of (length ys) (negsuc 0))))
+
+    size_row : A (Some Int) (program.of_list (λ items. Gives (IntVal (pos (counted_length (length items)))) w) (slice_get w.store k)) (steps.tagged_effect (pos (counted_length (length ys))))
+    size_row =
+        items_found (Some Int) _ _ (counted_row vs ys m)
+
   -- ---- the rows
   abbrev pub Row : Primitive → Type 0
   Row q =
-      (vs : List Argument) (ys : List machines.Argument) → AllMeet s code (row_of q).parameters vs ys → A (answer_of (row_of q).outcome) (program.effect p q vs w) (steps.effect code s q ys)
+      (vs : List Argument) (ys : List machines.Argument) → AllMeet w s code (row_of q).parameters vs ys → A (answer_of (row_of q).outcome) (program.effect p q vs w) (steps.effect code s q ys)
 
   pub agree : (q : Primitive) → is_global q ≡ false → Row q
   agree (prim.Int64 int64.Add) g vs ys (one_more (is_native m) (one_more (is_native n) no_more)) =
@@ -173,7 +405,11 @@ module _ (p : Program) (code : Code) (w : World) (s : MachineState) (world : Wor
   agree (prim.Int64 int64.Le) g vs ys (one_more (is_native m) (one_more (is_native n) no_more)) =
       says_truth (not (int_lt n m))
   agree (prim.Int64 int64.Str) g vs ys (one_more (is_native n) no_more) =
-      both_make_text (signed_decimal n)
+      makes_text (signed_decimal n)
+  agree (prim.Int64 int64.Box) g vs ys (one_more (is_native n) no_more) =
+      makes_number n
+  agree (prim.Int64 int64.Unbox) g vs ys (one_more (is_box n c live) no_more) =
+      native_in_row (int_to_i64 n)
   agree (prim.Tagged tagged.Add) g vs ys (one_more (is_number m a e) (one_more (is_number n b f) no_more)) =
       two_ints (Some Int) _ (λ m n. steps.tagged_or (int_add m n)) a b m n e f (ints_row (int_add m n))
   agree (prim.Tagged tagged.Subtract) g vs ys (one_more (is_number m a e) (one_more (is_number n b f) no_more)) =
@@ -207,19 +443,33 @@ module _ (p : Program) (code : Code) (w : World) (s : MachineState) (world : Wor
   agree (prim.Tagged tagged.Le) g vs ys (one_more (is_number m a e) (one_more (is_number n b f) no_more)) =
       two_ints (Some BoolType) _ (λ m n. steps.Says (truth_word (not (int_lt n m)))) a b m n e f (says_truth (not (int_lt n m)))
   agree (prim.Tagged tagged.Str) g vs ys (one_more (is_number n a e) no_more) =
-      one_int (Some Ref) _ (λ n. steps.Makes (StrCell (signed_decimal n))) a n e (both_make_text (signed_decimal n))
+      one_int (Some Ref) _ (λ n. steps.Makes (StrCell (signed_decimal n))) a n e (makes_text (signed_decimal n))
+  agree (prim.Tagged tagged.Box) g vs ys (one_more (owns_short n) no_more) =
+      makes_number n
+  agree (prim.Tagged tagged.Box) g vs ys (one_more (owns_big n c live) no_more) =
+      both_share Ref (IntVal n) (ObjectCell c) (boxed (IntVal n) (ObjectCell c) (c, refl, live))
+  agree (prim.Tagged tagged.Unbox) g vs ys (one_more (is_box n c live) no_more) =
+      unboxed_row n c live
   agree (prim.Bool bool.Not) g vs ys (one_more (is_truth true) no_more) =
       says_truth false
   agree (prim.Bool bool.Not) g vs ys (one_more (is_truth false) no_more) =
       says_truth true
   agree (prim.Bool bool.Str) g vs ys (one_more (is_truth true) no_more) =
-      both_make_text (program.truth_text true)
+      makes_text (program.truth_text true)
   agree (prim.Bool bool.Str) g vs ys (one_more (is_truth false) no_more) =
-      both_make_text (program.truth_text false)
+      makes_text (program.truth_text false)
+  agree (prim.Bool bool.Box) g vs ys (one_more (is_truth true) no_more) =
+      both_say Ref (BoolVal true) TrueObject (boxed (BoolVal true) TrueObject refl)
+  agree (prim.Bool bool.Box) g vs ys (one_more (is_truth false) no_more) =
+      both_say Ref (BoolVal false) FalseObject (boxed (BoolVal false) FalseObject refl)
+  agree (prim.Bool bool.Unbox) g vs ys (one_more (is_any v y a m r) no_more) =
+      unbox_row v y a m r
+  agree (prim.Object object.IsNone) g vs ys (one_more (is_any v y a m r) no_more) =
+      none_row v y a m r
   agree (prim.Str str.Literal) g vs ys (one_more (writes_text t) no_more) =
-      both_make_text t
+      makes_text t
   agree (prim.Str str.Concat) g vs ys (one_more (is_text t c) (one_more (is_text u d) no_more)) =
-      both_make_text (t ++ u)
+      makes_text (t ++ u)
   agree (prim.Str str.Eq) g vs ys (one_more (is_text t c) (one_more (is_text u d) no_more)) =
       says_truth (bytes_eq t u)
   agree (prim.Str str.Lt) g vs ys (one_more (is_text t c) (one_more (is_text u d) no_more)) =
@@ -230,10 +480,28 @@ module _ (p : Program) (code : Code) (w : World) (s : MachineState) (world : Wor
       int_row (text_length t)
   agree (prim.Str str.GetItem) g vs ys (one_more (is_text t c) (one_more (is_number n a e) no_more)) =
       one_int (Some Ref) _ (λ i. steps.item_or (text_item t i)) a n e (item_row (text_item t n))
+  agree (prim.List list.New) g vs ys no_more =
+      both_make_object (ListObj []) (ListCell []) refl tt
+  agree (prim.List list.Append) g vs ys (one_more (is_list k c us zs there made live m) (one_more (owns_any v y a b e) no_more)) =
+      append_row k c us zs there made live m v y a b e
+  agree (prim.List list.GetItem) g vs ys (one_more (is_list k c us zs there made live m) (one_more (is_number n a e) no_more)) =
+      one_int (Some Ref) _ (λ i. steps.item_at (place_of (length zs) i) zs) a n e (get_row k c us zs there made live m n)
+  agree (prim.List list.SetItem) g vs ys (one_more (is_list k c us zs there made live m) (one_more (is_number n a e) (one_more (owns_any v y x b f) no_more))) =
+      one_int (Some BoolType) _ (λ i. steps.of_word (steps.put_at c (place_of (length zs) i) zs) (word_in ObjectKind x)) a n e (set_row k c us zs there made live m n v y x b f)
+  agree (prim.List list.Pop) g vs ys (one_more (is_list k c us zs there made live m) no_more) =
+      pop_row k c us zs there made live m
+  agree (prim.List list.Len) g vs ys (one_more (is_list k c us zs there made live m) no_more) =
+      size_row k c us zs there made live m
+  agree (prim.Tuple tuple.Pack) g vs ys (one_more {vs = us} {ys = zs} (owns_any v y a b e) rest) =
+      packed_row _ _ (one_packed v y a us zs b e (may_pack 15 us zs rest))
+  agree (prim.Tuple tuple.GetItem) g vs ys (one_more (is_tuple parts c zs m) (one_more (writes_number n) no_more)) =
+      part_row parts zs m n
+  agree (prim.Tuple tuple.Len) g vs ys (one_more (is_tuple parts c zs m) no_more) =
+      counted_row (listed parts) zs (all_parts parts zs m)
   agree (prim.Exc exc.New) g vs ys (one_more (writes_exception name) (one_more (is_text t c) no_more)) =
       exception_row (class_named name) t
   agree (prim.Exc exc.Str) g vs ys (one_more (is_exception x c) no_more) =
-      both_make_text x.text
+      makes_text x.text
   agree (prim.Err err.SetObject) g vs ys (one_more (is_stolen x c live) no_more) =
       both_pend x c live
   agree (prim.Err err.Unbound) g vs ys (one_more (writes_text t) no_more) =

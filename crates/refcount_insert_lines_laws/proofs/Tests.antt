@@ -21,10 +21,10 @@ use Rattle.ir_core.specs.Rows.{type_of_reg}
 use Rattle.ir_core.specs.Effects.{World}
 use Rattle.ir_core.specs.Meaning.{Frame, Waiting, Config, Stuck, Fitting, to_block, registers_of, do_last}
 use Rattle.ir_core.specs.Meaning as meaning
-use Rattle.refcount_insert_lines_laws.specs.Matching.{Fits, tagged_error, short, big, native, char_error, char_true, char_false, no_object, none, object_true, object_false, text, exception, Grows, RunsIn}
+use Rattle.refcount_insert_lines_laws.specs.Matching.{Fits, tagged_error, short, big, native, char_error, char_true, char_false, no_object, boxed, Keeps, RunsIn}
 use Rattle.refcount_insert_lines_laws.specs.Lines.{TestDoes, test_sticks, first_taken, second_taken, IfsDo, IfErrorsDo, Passes, HasCells, CountsDo}
-use Rattle.refcount_insert_lines_laws.proofs.Growing.{same_grows, take_grows}
-use Rattle.refcount_insert_lines_laws.proofs.Words.{same_error}
+use Rattle.refcount_insert_lines_laws.proofs.Growing.{same_keeps, take_keeps}
+use Rattle.refcount_insert_lines_laws.proofs.Words.{ObjectWord, word_none, word_true, word_false, word_cell, boxed_word, same_error}
 use Rattle.refcount_insert_lines_laws.proofs.Facts.{is_declared, registers_here, type_here}
 
 -- ---- tests
@@ -52,11 +52,7 @@ module _ (p : Program) (code : Code) (x : Reg) (a b n m : ℕ) (f : Frame) (belo
   chosen_by t h z char_true = first_taken
   chosen_by t h z char_false = second_taken
   chosen_by t h z no_object = test_sticks _
-  chosen_by t h z none = test_sticks _
-  chosen_by t h z object_true = test_sticks _
-  chosen_by t h z object_false = test_sticks _
-  chosen_by t h z (text k c live) = test_sticks _
-  chosen_by t h z (exception k c live) = test_sticks _
+  chosen_by t h z (boxed v y m) = test_sticks _
 
   if_by : (o : Option (List ℕ × RType)) → slice_get r.func.regs x.0 ≡ o → T (step_at false code s (Some (line.If x.0 n m))) (do_last Fitting p (If x a b) f below w)
   if_by None e =
@@ -97,8 +93,8 @@ module _ (s : MachineState) where
   Passed k = (t : MachineState) × Passes s k t
 
   -- with other cells and another ledger the next line comes
-  passes : (k : Next) (t : MachineState) → k ≡ Goes (next_line t) → t.top ≡ record s.top { ledger = t.top.ledger } → t ≡ record s { top = t.top; cells = t.cells } → Grows s t → Passed k
-  passes k t e top rest grows = (
+  passes : (k : Next) (t : MachineState) → k ≡ Goes (next_line t) → t.top ≡ record s.top { ledger = t.top.ledger } → t ≡ record s { top = t.top; cells = t.cells } → Keeps s t → Passed k
+  passes k t e top rest keeps = (
     next_line t,
     record {
       goes = e;
@@ -113,21 +109,39 @@ module _ (s : MachineState) where
       made = ap (λ z. z.made) rest;
       globals = ap (λ z. z.globals) rest;
       pending = ap (λ z. z.pending) rest;
-      grows = record { keeps = grows.keeps };
+      keeps = record { contents = keeps.contents };
     },
   )
 
   stays : (k : Next) → k ≡ Goes (next_line s) → Passed k
-  stays k e = passes k s e refl refl (same_grows s s refl)
+  stays k e = passes k s e refl refl (same_keeps s s refl)
 
   takes : (c : ℕ) (v : Content) → IsLive s c v → Passed (steps.taken false s c)
   takes c v live =
-      passes _ (took c s) (ap (λ o. steps.if_some false s fault.Dead o (λ content. Goes (next_line (took c s)))) live) refl refl (take_grows s (took c s) c refl)
+      passes _ (took c s) (ap (λ o. steps.if_some false s fault.Dead o (λ content. Goes (next_line (took c s)))) live) refl refl (take_keeps s (took c s) c refl)
 
   gives_up : (c : ℕ) (v : Content) → IsLive s c v → Passed (steps.given_up false s c)
   gives_up c v live =
       let t : MachineState = with_ledger (without c s.top.ledger) s in
-      passes _ t (ap (λ o. steps.if_some false s fault.Dead o (λ content. Goes (next_line t))) live) refl refl (same_grows s t refl)
+      passes _ t (ap (λ o. steps.if_some false s fault.Dead o (λ content. Goes (next_line t))) live) refl refl (same_keeps s t refl)
+
+  word_increments : (y : Word) → ObjectWord s y → Passed (steps.incremented false s y)
+  word_increments y word_none = stays _ refl
+  word_increments y word_true = stays _ refl
+  word_increments y word_false = stays _ refl
+  word_increments y (word_cell c x live) = takes c _ live
+
+  word_decrements : (y : Word) → ObjectWord s y → Passed (steps.decremented false s y)
+  word_decrements y word_none = stays _ refl
+  word_decrements y word_true = stays _ refl
+  word_decrements y word_false = stays _ refl
+  word_decrements y (word_cell c x live) = gives_up c _ live
+
+  word_decrements_if_set : (y : Word) → ObjectWord s y → Passed (steps.decremented_if_set false s y)
+  word_decrements_if_set y word_none = stays _ refl
+  word_decrements_if_set y word_true = stays _ refl
+  word_decrements_if_set y word_false = stays _ refl
+  word_decrements_if_set y (word_cell c x live) = gives_up c _ live
 
   increments : (t : RType) → (t ≡ Int) ⊎ (t ≡ Ref) → (h : Held) → is_unset h ≡ false → (y : Word) → Fits s t h y → Passed (steps.incremented false s y)
   increments t counted h set y tagged_error = absurd (cc)
@@ -138,11 +152,7 @@ module _ (s : MachineState) where
   increments t counted h set y char_true = absurd (⊎_elim (λ e. cc) (λ e. cc) counted)
   increments t counted h set y char_false = absurd (⊎_elim (λ e. cc) (λ e. cc) counted)
   increments t counted h set y no_object = absurd (cc)
-  increments t counted h set y none = stays _ refl
-  increments t counted h set y object_true = stays _ refl
-  increments t counted h set y object_false = stays _ refl
-  increments t counted h set y (text x c live) = takes c _ live
-  increments t counted h set y (exception x c live) = takes c _ live
+  increments t counted h set y (boxed v z m) = word_increments z (boxed_word s v z m)
 
   decrements : (t : RType) → (t ≡ Int) ⊎ (t ≡ Ref) → (h : Held) → is_unset h ≡ false → (y : Word) → Fits s t h y → Passed (steps.decremented false s y)
   decrements t counted h set y tagged_error = absurd (cc)
@@ -153,11 +163,7 @@ module _ (s : MachineState) where
   decrements t counted h set y char_true = absurd (⊎_elim (λ e. cc) (λ e. cc) counted)
   decrements t counted h set y char_false = absurd (⊎_elim (λ e. cc) (λ e. cc) counted)
   decrements t counted h set y no_object = absurd (cc)
-  decrements t counted h set y none = stays _ refl
-  decrements t counted h set y object_true = stays _ refl
-  decrements t counted h set y object_false = stays _ refl
-  decrements t counted h set y (text x c live) = gives_up c _ live
-  decrements t counted h set y (exception x c live) = gives_up c _ live
+  decrements t counted h set y (boxed v z m) = word_decrements z (boxed_word s v z m)
 
   decrements_if_set : (t : RType) → (t ≡ Int) ⊎ (t ≡ Ref) → (h : Held) (y : Word) → Fits s t h y → Passed (steps.decremented_if_set false s y)
   decrements_if_set t counted h y tagged_error = stays _ refl
@@ -168,11 +174,7 @@ module _ (s : MachineState) where
   decrements_if_set t counted h y char_true = absurd (⊎_elim (λ e. cc) (λ e. cc) counted)
   decrements_if_set t counted h y char_false = absurd (⊎_elim (λ e. cc) (λ e. cc) counted)
   decrements_if_set t counted h y no_object = stays _ refl
-  decrements_if_set t counted h y none = stays _ refl
-  decrements_if_set t counted h y object_true = stays _ refl
-  decrements_if_set t counted h y object_false = stays _ refl
-  decrements_if_set t counted h y (text x c live) = gives_up c _ live
-  decrements_if_set t counted h y (exception x c live) = gives_up c _ live
+  decrements_if_set t counted h y (boxed v z m) = word_decrements_if_set z (boxed_word s v z m)
 
 module _ (p : Program) (code : Code) (f : Frame) (w : World) (s : MachineState) (a : RunsIn p f w s) (r : ℕ) (cells : HasCells a.func.regs r) where
   counted : (t : RType) × (y : Word) × (slice_get s.top.vars r ≡ Some y) × Fits s t (f.regs r) y × ((t ≡ Int) ⊎ (t ≡ Ref))

@@ -3,9 +3,11 @@
 use Rattle.std.proofs.Common.{◌≡◌, ◌≢◌, refl, sym, ◌∙◌, ap, subst, ℕ, zero, suc, ◌/◌, ◌%◌, ◌<◌, arith, Bool, true, false, cond, List, [], ◌∷◌, ◌++◌, length, Some, None, drop, eqb-true}
 use Rattle.std.specs.Prelude.{ℤ, pos, negsuc, ◌==◌, nat_eq, slice_get, slice_set, map}
 use Rattle.std.proofs.lemmas.Bool.{eq-eqb}
-use Rattle.value_core.specs.Value.{Value, IntVal, BoolVal, NoneVal}
+use Rattle.value_core.specs.Value.{Value, IntVal, BoolVal, NoneVal, StrVal, TupleVal, ExcVal, ObjVal}
 use Rattle.c_core.specs.declared.fault.Fault.TheVariants as fault
-use Rattle.c_core.specs.Machine.{Word, ShortInt, TaggedError, Native, CharWord, NoneObject, TrueObject, FalseObject, NoObject, MachineState}
+use Rattle.c_core.specs.Machine.{Word, ShortInt, TaggedError, Native, CharWord, ObjectCell, NoneObject, TrueObject, FalseObject, NoObject, Content, IntCell, StrCell, TupleCell, ExcCell, MachineState}
+use Rattle.c_core.specs.Stands.{IsLive}
+use Rattle.c_core.specs.declared.code.Kind.TheVariants.{Object}
 use Rattle.c_core.specs.Arguments as m
 use Rattle.c_core.specs.Functions.{error_word}
 use Rattle.c_core.specs.Step.{Next, literal_word, truth_word, equals_error, if_there}
@@ -17,10 +19,51 @@ use Rattle.ir_core.specs.declared.code.Lit.TheVariants.{Number, Null, PyNone, Py
 use Rattle.ir_core.specs.Registers.{Held, Unset, Holds, error_of, is_error, literal_of, Regs, put, error_at, first_regs}
 use Rattle.ir_core.specs.Rows.{Declared}
 use Rattle.ir_core.specs.Lower.{kind_of_type, variable_of, literal_in}
-use Rattle.refcount_insert_lines_laws.specs.Matching.{Fits, tagged_error, short, big, native, char_error, char_true, char_false, no_object, none, object_true, object_false, text, exception, RegsFit}
+use Rattle.refcount_insert_lines_laws.specs.Matching.{Boxed, Fits, tagged_error, short, big, native, char_error, char_true, char_false, no_object, boxed, RegsFit}
 use Rattle.refcount_insert_lines_laws.proofs.ListLemmas.{size_set, get_set_same, get_set_other, size_map}
 
+-- an object's word: one of those without a cell, or that of a cell that is there
+pub data ObjectWord (s : MachineState) : Word → Type 0 where
+  word_none : ObjectWord s NoneObject
+  word_true : ObjectWord s TrueObject
+  word_false : ObjectWord s FalseObject
+  word_cell : (c : ℕ) (x : Content) → IsLive s c x → ObjectWord s (ObjectCell c)
+
 module _ (s : MachineState) where
+  pub boxed_word : (v : Value) (y : Word) → Boxed s v y → ObjectWord s y
+  boxed_word (IntVal n) y m = subst (ObjectWord s) (sym m.1) (word_cell m.0 (IntCell n) m.2)
+  boxed_word (BoolVal true) y m = subst (ObjectWord s) (sym m) word_true
+  boxed_word (BoolVal false) y m = subst (ObjectWord s) (sym m) word_false
+  boxed_word NoneVal y m = subst (ObjectWord s) (sym m) word_none
+  boxed_word (StrVal x) y m = subst (ObjectWord s) (sym m.1) (word_cell m.0 (StrCell x) m.2)
+  boxed_word (TupleVal parts) y m = subst (ObjectWord s) (sym m.1) (word_cell m.0 (TupleCell m.2.0) m.2.1)
+  boxed_word (ExcVal e) y m = subst (ObjectWord s) (sym m.1) (word_cell m.0 (ExcCell e) m.2)
+  boxed_word (ObjVal k) y m = subst (ObjectWord s) (sym m.1) (word_cell m.0 m.3.0 m.3.1)
+
+  word_there : (y : Word) → ObjectWord s y → (n : Next) → if_there false s y (λ a. n) ≡ n
+  word_there y word_none n = refl
+  word_there y word_true n = refl
+  word_there y word_false n = refl
+  word_there y (word_cell c x live) n = ap (λ o. step.if_some false s fault.Dead o (λ x. n)) live
+
+  word_no_error : (y : Word) → ObjectWord s y → equals_error y ≡ false
+  word_no_error y word_none = refl
+  word_no_error y word_true = refl
+  word_no_error y word_false = refl
+  word_no_error y (word_cell c x live) = refl
+
+  word_is_no_error : (y : Word) → ObjectWord s y → step.is_error y ≡ false
+  word_is_no_error y word_none = refl
+  word_is_no_error y word_true = refl
+  word_is_no_error y word_false = refl
+  word_is_no_error y (word_cell c x live) = refl
+
+  word_value : (y : Word) → ObjectWord s y → m.is_value_of Object y ≡ true
+  word_value y word_none = refl
+  word_value y word_true = refl
+  word_value y word_false = refl
+  word_value y (word_cell c x live) = refl
+
   pub char_fits : (b : Bool) → Fits s BoolType (Holds (BoolVal b)) (truth_word b)
   char_fits true = char_true
   char_fits false = char_false
@@ -41,11 +84,7 @@ module _ (s : MachineState) where
   there_is t h y char_true n = refl
   there_is t h y char_false n = refl
   there_is t h y no_object n = refl
-  there_is t h y none n = refl
-  there_is t h y object_true n = refl
-  there_is t h y object_false n = refl
-  there_is t h y (text x c live) n = ap (λ o. step.if_some false s fault.Dead o (λ x. n)) live
-  there_is t h y (exception e c live) n = ap (λ o. step.if_some false s fault.Dead o (λ x. n)) live
+  there_is t h y (boxed v z m) n = word_there z (boxed_word v z m) n
 
   pub same_error : (t : RType) (h : Held) (y : Word) → Fits s t h y → equals_error y ≡ is_error t h
   same_error t h y tagged_error = refl
@@ -57,11 +96,7 @@ module _ (s : MachineState) where
   same_error t h y char_true = refl
   same_error t h y char_false = refl
   same_error t h y no_object = refl
-  same_error t h y none = refl
-  same_error t h y object_true = refl
-  same_error t h y object_false = refl
-  same_error t h y (text x c live) = refl
-  same_error t h y (exception e c live) = refl
+  same_error t h y (boxed v z m) = word_no_error z (boxed_word v z m)
 
   -- what is tested as an error value is one
   pub error_held : (t : RType) (h : Held) (y : Word) → Fits s t h y → is_error t h ≡ true → h ≡ error_of t
@@ -74,11 +109,7 @@ module _ (s : MachineState) where
   error_held t h y char_true e = absurd (cc)
   error_held t h y char_false e = absurd (cc)
   error_held t h y no_object e = refl
-  error_held t h y none e = absurd (cc)
-  error_held t h y object_true e = absurd (cc)
-  error_held t h y object_false e = absurd (cc)
-  error_held t h y (text x c live) e = absurd (cc)
-  error_held t h y (exception x c live) e = absurd (cc)
+  error_held t h y (boxed v z m) e = absurd (cc)
 
   pub value_word : (t : RType) (v : Value) (y : Word) → Fits s t (Holds v) y → m.is_value_of (kind_of_type t) y ≡ true
   value_word t v y (short n) = refl
@@ -86,11 +117,7 @@ module _ (s : MachineState) where
   value_word t v y (native n) = refl
   value_word t v y char_true = refl
   value_word t v y char_false = refl
-  value_word t v y none = refl
-  value_word t v y object_true = refl
-  value_word t v y object_false = refl
-  value_word t v y (text x c live) = refl
-  value_word t v y (exception e c live) = refl
+  value_word t v y (boxed u z m) = word_value z (boxed_word u z m)
 
   pub no_error : (t : RType) (v : Value) (y : Word) → Fits s t (Holds v) y → step.is_error y ≡ false
   no_error t v y (short n) = refl
@@ -98,11 +125,7 @@ module _ (s : MachineState) where
   no_error t v y (native n) = refl
   no_error t v y char_true = refl
   no_error t v y char_false = refl
-  no_error t v y none = refl
-  no_error t v y object_true = refl
-  no_error t v y object_false = refl
-  no_error t v y (text x c live) = refl
-  no_error t v y (exception e c live) = refl
+  no_error t v y (boxed u z m) = word_is_no_error z (boxed_word u z m)
 
 -- ---- literals
 module _ (s : MachineState) where
@@ -147,9 +170,9 @@ module _ (s : MachineState) where
   literal_fits BoolType PyFalse h e = nothing BoolType PyFalse h e
   literal_fits Ref (Number n) h e = nothing Ref (Number n) h e
   literal_fits Ref Null h e = is_held Ref Null Unset h NoObject e refl no_object
-  literal_fits Ref PyNone h e = is_held Ref PyNone (Holds NoneVal) h NoneObject e refl none
-  literal_fits Ref PyTrue h e = is_held Ref PyTrue (Holds (BoolVal true)) h TrueObject e refl object_true
-  literal_fits Ref PyFalse h e = is_held Ref PyFalse (Holds (BoolVal false)) h FalseObject e refl object_false
+  literal_fits Ref PyNone h e = is_held Ref PyNone (Holds NoneVal) h NoneObject e refl (boxed NoneVal NoneObject refl)
+  literal_fits Ref PyTrue h e = is_held Ref PyTrue (Holds (BoolVal true)) h TrueObject e refl (boxed (BoolVal true) TrueObject refl)
+  literal_fits Ref PyFalse h e = is_held Ref PyFalse (Holds (BoolVal false)) h FalseObject e refl (boxed (BoolVal false) FalseObject refl)
 
 -- ---- registers
 module _ (s : MachineState) (declared : Declared) (regs : Regs) (vars : List Word) (a : RegsFit s declared regs vars) where

@@ -22,7 +22,7 @@ use Rattle.ir_core.specs.Registers.{Regs, is_unset}
 use Rattle.ir_core.specs.Rows.{Declared, type_of_reg}
 use Rattle.ir_core.specs.Effects.{World}
 use Rattle.ir_core.specs.Meaning.{Frame, Waiting, Config, Runs, Ended, Stuck, Fitting, next, to_block, do_op, do_last}
-use Rattle.refcount_insert_lines_laws.specs.Matching.{RegsFit, Grows, WorldFits, HasHeads, RunsIn}
+use Rattle.refcount_insert_lines_laws.specs.Matching.{RegsFit, Keeps, Grows, WorldFits, HasHeads, RunsIn}
 
 -- a run that ends by itself leaves no exception pending, and one that an exception ends leaves that one
 abbrev pub EndsBy : Ending → Option Thrown → Type 0
@@ -154,7 +154,7 @@ pub record Passes (s : MachineState) (next : Next) (t : MachineState) : Type 0 w
   pub made : t.made ≡ s.made
   pub globals : t.globals ≡ s.globals
   pub pending : t.pending ≡ s.pending
-  pub grows : Grows s t
+  pub keeps : Keeps s t
 
 -- the type of a register has cells
 abbrev pub HasCells : Declared → ℕ → Type 0

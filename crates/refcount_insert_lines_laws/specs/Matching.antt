@@ -1,11 +1,11 @@
 -- When the words of a machine are what the registers of a program hold.
-use Rattle.std.specs.Prelude.{◌≡◌, ℕ, ℤ, true, false, List, [], ◌∷◌, length, map, Option, Some, None, slice_get}
+use Rattle.std.specs.Prelude.{◌≡◌, ℕ, ℤ, Bool, true, false, List, [], ◌∷◌, length, map, Option, Some, None, slice_get}
 use Rattle.value_core.specs.Exceptions.{Thrown}
-use Rattle.value_core.specs.Value.{Value, IntVal, BoolVal, NoneVal, StrVal, ExcVal}
+use Rattle.value_core.specs.Value.{Value, IntVal, BoolVal, NoneVal, StrVal, TupleVal, ExcVal, ObjVal, Values, no_values, value_then, Object, ListObj, Store}
 use Rattle.c_core.specs.declared.code.CFunc.{CFunc}
 use Rattle.c_core.specs.declared.code.Code.{Code}
 use Rattle.c_core.specs.Cells.{content_at}
-use Rattle.c_core.specs.Machine.{Word, ShortInt, BigInt, TaggedError, Native, CharWord, ObjectCell, NoneObject, TrueObject, FalseObject, NoObject, Content, IntCell, StrCell, ExcCell, MachineState}
+use Rattle.c_core.specs.Machine.{Word, ShortInt, BigInt, TaggedError, Native, CharWord, ObjectCell, NoneObject, TrueObject, FalseObject, NoObject, Content, IntCell, StrCell, ListCell, TupleCell, ExcCell, is_object, MachineState}
 use Rattle.c_core.specs.Stands.{IsLive}
 use Rattle.ir_core.specs.declared.code.RType.{RType}
 use Rattle.ir_core.specs.declared.code.RType.TheVariants.{Int, I64, Bool as BoolType, Ref}
@@ -17,7 +17,54 @@ use Rattle.ir_core.specs.Effects.{World}
 use Rattle.ir_core.specs.Meaning.{Frame}
 use Rattle.ir_core.specs.Lower.{kind_of_type, variable_of, global_of, name_in}
 
+-- a truth as an object
+abbrev pub truth_object : Bool → Word
+truth_object true = TrueObject
+truth_object false = FalseObject
+
 module _ (s : MachineState) where
+  -- A word of the kind of objects stands for a value. A truth and None have no cell; a number, a text, a tuple and an exception stand
+  -- in a cell that never changes, an object of the store in the one that was made for it.
+  abbrev mutual
+    pub Boxed : Value → Word → Type 0
+    Boxed (IntVal n) y = (c : ℕ) × (y ≡ ObjectCell c) × IsLive s c (IntCell n)
+    Boxed (BoolVal b) y = y ≡ truth_object b
+    Boxed NoneVal y = y ≡ NoneObject
+    Boxed (StrVal t) y = (c : ℕ) × (y ≡ ObjectCell c) × IsLive s c (StrCell t)
+    Boxed (TupleVal parts) y = (c : ℕ) × (y ≡ ObjectCell c) × ((ys : List Word) × IsLive s c (TupleCell ys) × PartsBoxed parts ys)
+    Boxed (ExcVal e) y = (c : ℕ) × (y ≡ ObjectCell c) × IsLive s c (ExcCell e)
+    Boxed (ObjVal k) y = (c : ℕ) × (y ≡ ObjectCell c) × (slice_get s.made k ≡ Some c) × ((x : Content) × IsLive s c x)
+
+    pub PartsBoxed : Values → List Word → Type 0
+    PartsBoxed no_values [] = Unit {0}
+    PartsBoxed no_values (y ∷ ys) = ⊥
+    PartsBoxed (value_then v vs) [] = ⊥
+    PartsBoxed (value_then v vs) (y ∷ ys) = Boxed v y × PartsBoxed vs ys
+
+  abbrev pub AllBoxed : List Value → List Word → Type 0
+  AllBoxed [] [] = Unit {0}
+  AllBoxed (v ∷ vs) (y ∷ ys) = Boxed v y × AllBoxed vs ys
+  AllBoxed _ _ = ⊥
+
+  -- a content is an object's. No dict and no instance is made yet
+  abbrev pub ObjectFits : Object → Content → Type 0
+  ObjectFits (ListObj items) (ListCell words) = AllBoxed items words
+  ObjectFits _ _ = ⊥
+
+  -- an object of the store is in the cell that was made as the k-th
+  pub record ObjectAt (o : Object) (k : ℕ) : Type 0 where
+    pub c : ℕ
+    pub made : slice_get s.made k ≡ Some c
+    pub content : Content
+    pub live : IsLive s c content
+    pub fits : ObjectFits o content
+
+  -- In a run without tests of ownership no cell ever goes, so each object that was ever made is there, in a cell of its own.
+  pub record StoreFits (store : Store) : Type 0 where
+    pub size : length s.made ≡ length store
+    pub objects : (k : ℕ) (o : Object) → slice_get store k ≡ Some o → ObjectAt o k
+    pub apart : (j k c : ℕ) → slice_get s.made j ≡ Some c → slice_get s.made k ≡ Some c → j ≡ k
+
   -- a word of the kind of a type is what a register of the type holds
   pub data Fits : RType → Held → Word → Type 0 where
     tagged_error : Fits Int Unset TaggedError
@@ -28,11 +75,7 @@ module _ (s : MachineState) where
     char_true : Fits BoolType (Holds (BoolVal true)) (CharWord 1)
     char_false : Fits BoolType (Holds (BoolVal false)) (CharWord 0)
     no_object : Fits Ref Unset NoObject
-    none : Fits Ref (Holds NoneVal) NoneObject
-    object_true : Fits Ref (Holds (BoolVal true)) TrueObject
-    object_false : Fits Ref (Holds (BoolVal false)) FalseObject
-    text : (t : List ℕ) (c : ℕ) → IsLive s c (StrCell t) → Fits Ref (Holds (StrVal t)) (ObjectCell c)
-    exception : (e : Thrown) (c : ℕ) → IsLive s c (ExcCell e) → Fits Ref (Holds (ExcVal e)) (ObjectCell c)
+    boxed : (v : Value) (y : Word) → Boxed v y → Fits Ref (Holds v) y
 
   -- the variables of a frame are the registers
   pub record RegsFit (declared : Declared) (regs : Regs) (words : List Word) : Type 0 where
@@ -52,18 +95,23 @@ module _ (s : MachineState) where
   PendingFits (Some e) (Some c) = IsLive s c (ExcCell e)
   PendingFits _ _ = ⊥
 
--- the cells that are live in the first state are live in the second, with the same content. In a run without tests of ownership
--- no cell ever goes
-pub record Grows (s t : MachineState) : Type 0 where
-  pub keeps : (c : ℕ) (v : Content) → content_at s.cells c ≡ Some v → content_at t.cells c ≡ Some v
+-- the cells that are live in the first state are live in the second, with the same content
+pub record Keeps (s t : MachineState) : Type 0 where
+  pub contents : (c : ℕ) (v : Content) → content_at s.cells c ≡ Some v → content_at t.cells c ≡ Some v
 
--- a state has what a program has beside its registers. No object is made yet
+-- What is live in the first state is live in the second, with the same content where it is no object, and an object that was made stays in
+-- its cell. In a run without tests of ownership no cell ever goes.
+pub record Grows (s t : MachineState) : Type 0 where
+  pub keeps : (c : ℕ) (v : Content) → is_object v ≡ false → content_at s.cells c ≡ Some v → content_at t.cells c ≡ Some v
+  pub lives : (c : ℕ) (v : Content) → content_at s.cells c ≡ Some v → (x : Content) × (content_at t.cells c ≡ Some x)
+  pub makes : (k c : ℕ) → slice_get s.made k ≡ Some c → slice_get t.made k ≡ Some c
+
+-- a state has what a program has beside its registers
 pub record WorldFits (p : Program) (w : World) (s : MachineState) : Type 0 where
   pub output : s.output ≡ w.output
   pub turns : s.turns ≡ w.turns
   pub items : s.items ≡ w.items
-  pub store : w.store ≡ []
-  pub made : s.made ≡ []
+  pub store : StoreFits s w.store
   pub globals : GlobalsFit s p.globals w.globals s.globals
   pub pending : PendingFits s w.pending s.pending
 

@@ -7,7 +7,10 @@ use Rattle.c_core.specs.declared.primitive.Primitive.TheVariants as prim
 use Rattle.c_core.specs.declared.primitive.Int64Prim.TheVariants as int64
 use Rattle.c_core.specs.declared.primitive.TaggedPrim.TheVariants as tagged
 use Rattle.c_core.specs.declared.primitive.BoolPrim.TheVariants as bool
+use Rattle.c_core.specs.declared.primitive.ObjectPrim.TheVariants as object
 use Rattle.c_core.specs.declared.primitive.StrPrim.TheVariants as str
+use Rattle.c_core.specs.declared.primitive.ListPrim.TheVariants as list
+use Rattle.c_core.specs.declared.primitive.TuplePrim.TheVariants as tuple
 use Rattle.c_core.specs.declared.primitive.GlobalPrim.TheVariants as global
 use Rattle.c_core.specs.declared.primitive.ExcPrim.TheVariants as exc
 use Rattle.c_core.specs.declared.primitive.ErrPrim.TheVariants as err
@@ -17,7 +20,7 @@ use Rattle.ir_core.specs.declared.code.Func.{Func}
 use Rattle.ir_core.specs.declared.code.Program.{Program}
 use Rattle.ir_core.specs.Lower.{call_name, called_as}
 
--- no primitive answers what an object holds
+-- no primitive's result has the kind of a slot
 abbrev pub HasNoSlot : Outcome → Type 0
 HasNoSlot (Owned OfSlot) = ⊥
 HasNoSlot _ = Unit {0}
@@ -71,6 +74,22 @@ no_slot (prim.Str str.Lt) = tt
 no_slot (prim.Str str.Le) = tt
 no_slot (prim.Str str.Len) = tt
 no_slot (prim.Str str.GetItem) = tt
+no_slot (prim.Int64 int64.Box) = tt
+no_slot (prim.Int64 int64.Unbox) = tt
+no_slot (prim.Tagged tagged.Box) = tt
+no_slot (prim.Tagged tagged.Unbox) = tt
+no_slot (prim.Bool bool.Box) = tt
+no_slot (prim.Bool bool.Unbox) = tt
+no_slot (prim.Object object.IsNone) = tt
+no_slot (prim.List list.New) = tt
+no_slot (prim.List list.Append) = tt
+no_slot (prim.List list.GetItem) = tt
+no_slot (prim.List list.SetItem) = tt
+no_slot (prim.List list.Pop) = tt
+no_slot (prim.List list.Len) = tt
+no_slot (prim.Tuple tuple.Pack) = tt
+no_slot (prim.Tuple tuple.GetItem) = tt
+no_slot (prim.Tuple tuple.Len) = tt
 no_slot (prim.Io io.Write) = tt
 no_slot (prim.Io io.Input) = tt
 

@@ -8,7 +8,7 @@ use Rattle.c_core.specs.declared.code.CFunc.{CFunc}
 use Rattle.c_core.specs.declared.code.Code.{Code}
 use Rattle.c_core.specs.Cells.{same}
 use Rattle.c_core.specs.Functions.{parameter_kinds}
-use Rattle.c_core.specs.Primitives.{KindAt, Is, OfGlobal, OfSlot, Parameter, Borrows, Steals, TakesNumber, TakesText, TakesException, TakesGlobal, TakesClass, Owned}
+use Rattle.c_core.specs.Primitives.{KindAt, Is, OfGlobal, OfSlot, Parameter, Borrows, Steals, MaySteal, TakesNumber, TakesText, TakesException, TakesGlobal, TakesClass, Owned}
 use Rattle.c_core.specs.WellFormed.{Declared, kind_at, named_kind, has_kind, kind_fits, kinds_agree, target_fits, function_call_fits, passes}
 use Rattle.c_core.proofs.Lines.{and_true}
 use Rattle.ir_core.specs.declared.code.Reg.{Reg}
@@ -36,10 +36,15 @@ left-over vars (p ∷ ps) (a ∷ args) k r =
   where
     by : (p : Parameter) (a : PArg) → one_taken vars p (argument_in a) k r - taken ps args r ≡ k r - (takes_one (is_stolen p) a r + taken ps args r)
     by (Steals h w) (arg.Var s) = omega (arith, put-less s.0 k r)
+    by (MaySteal h w) (arg.Var s) = omega (arith, put-less s.0 k r)
     by (Steals h w) (arg.Number n) = omega arith
+    by (MaySteal h w) (arg.Number n) = omega arith
     by (Steals h w) (arg.Text n) = omega arith
+    by (MaySteal h w) (arg.Text n) = omega arith
     by (Steals h w) (arg.Global n) = omega arith
+    by (MaySteal h w) (arg.Global n) = omega arith
     by (Steals h w) (arg.Class n) = omega arith
+    by (MaySteal h w) (arg.Class n) = omega arith
     by (Borrows h w) a = omega arith
     by TakesNumber a = omega arith
     by TakesText a = omega arith
@@ -59,9 +64,13 @@ written_given vars σ (Borrows h w) (arg.Text n) k no_var = tt
 written_given vars σ (Borrows h w) (arg.Global n) k no_var = tt
 written_given vars σ (Borrows h w) (arg.Class n) k no_var = tt
 written_given vars σ (Steals h w) (arg.Number n) k no_var = tt
+written_given vars σ (MaySteal h w) (arg.Number n) k no_var = tt
 written_given vars σ (Steals h w) (arg.Text n) k no_var = tt
+written_given vars σ (MaySteal h w) (arg.Text n) k no_var = tt
 written_given vars σ (Steals h w) (arg.Global n) k no_var = tt
+written_given vars σ (MaySteal h w) (arg.Global n) k no_var = tt
 written_given vars σ (Steals h w) (arg.Class n) k no_var = tt
+written_given vars σ (MaySteal h w) (arg.Class n) k no_var = tt
 written_given vars σ TakesNumber (arg.Number n) k no_var = tt
 written_given vars σ TakesNumber (arg.Text n) k no_var = tt
 written_given vars σ TakesNumber (arg.Global n) k no_var = tt
@@ -90,9 +99,13 @@ written_left vars (Borrows h w) (arg.Text n) k no_var r t le = omega (arith, le)
 written_left vars (Borrows h w) (arg.Global n) k no_var r t le = omega (arith, le)
 written_left vars (Borrows h w) (arg.Class n) k no_var r t le = omega (arith, le)
 written_left vars (Steals h w) (arg.Number n) k no_var r t le = omega (arith, le)
+written_left vars (MaySteal h w) (arg.Number n) k no_var r t le = omega (arith, le)
 written_left vars (Steals h w) (arg.Text n) k no_var r t le = omega (arith, le)
+written_left vars (MaySteal h w) (arg.Text n) k no_var r t le = omega (arith, le)
 written_left vars (Steals h w) (arg.Global n) k no_var r t le = omega (arith, le)
+written_left vars (MaySteal h w) (arg.Global n) k no_var r t le = omega (arith, le)
 written_left vars (Steals h w) (arg.Class n) k no_var r t le = omega (arith, le)
+written_left vars (MaySteal h w) (arg.Class n) k no_var r t le = omega (arith, le)
 written_left vars TakesNumber (arg.Number n) k no_var r t le = omega (arith, le)
 written_left vars TakesNumber (arg.Text n) k no_var r t le = omega (arith, le)
 written_left vars TakesNumber (arg.Global n) k no_var r t le = omega (arith, le)
@@ -133,6 +146,8 @@ given vars counted σ (p ∷ ps) (arg.Var s ∷ args) k u m e =
     by : (p : Parameter) → IsUsable vars σ s.0 → (counted s.0 ≡ true → takes_one (is_stolen p) (arg.Var s) s.0 + taken ps args s.0 ≤ k s.0) → IsGiven vars σ p (argument_in (arg.Var s)) k
     by (Steals h w) us le =
         ⊎_elim (λ is. inl (omega (arith, le is, same_self s.0))) (λ off. inr (m s.0 here ∙ off)) (either (counted s.0))
+    by (MaySteal h w) us le =
+        ⊎_elim (λ is. inl (omega (arith, le is, same_self s.0))) (λ off. inr (m s.0 here ∙ off)) (either (counted s.0))
     by (Borrows h w) us le = us
     by TakesNumber us le = tt
     by TakesText us le = tt
@@ -142,6 +157,7 @@ given vars counted σ (p ∷ ps) (arg.Var s ∷ args) k u m e =
 
     more : (p : Parameter) (r : ℕ) → takes_one (is_stolen p) (arg.Var s) r + taken ps args r ≤ k r → taken ps args r ≤ one_taken vars p (argument_in (arg.Var s)) k r
     more (Steals h w) r le = omega (arith, le, put-less s.0 k r)
+    more (MaySteal h w) r le = omega (arith, le, put-less s.0 k r)
     more (Borrows h w) r le = omega (arith, le)
     more TakesNumber r le = omega (arith, le)
     more TakesText r le = omega (arith, le)

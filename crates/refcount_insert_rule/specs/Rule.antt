@@ -3,7 +3,7 @@
 -- after (mypyc's developer guide, "Reference counting").
 use Rattle.std.specs.Prelude.{◌≡◌, ℕ, ◌+◌, ◌-◌, Bool, true, false, not, cond, List, [], ◌∷◌, ◌++◌, map, Option}
 use Rattle.c_core.specs.Cells.{same, times}
-use Rattle.c_core.specs.Primitives.{Parameter, Steals, row_of}
+use Rattle.c_core.specs.Primitives.{Parameter, Steals, MaySteal, row_of}
 use Rattle.ir_core.specs.declared.code.RType.{RType}
 use Rattle.ir_core.specs.declared.code.RType.TheVariants.{Int, I64, Bool as BoolType, Ref}
 use Rattle.ir_core.specs.declared.code.Reg.{Reg}
@@ -22,6 +22,7 @@ is_counted Ref = true
 
 abbrev pub is_stolen : Parameter → Bool
 is_stolen (Steals k h) = true
+is_stolen (MaySteal k h) = true
 is_stolen _ = false
 
 -- how often an argument takes a reference from a register

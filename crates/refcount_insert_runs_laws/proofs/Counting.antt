@@ -19,7 +19,7 @@ use Rattle.refcount_insert_runs_laws.proofs.Lists.{drop_next}
 use Rattle.refcount_insert_runs_laws.proofs.Heads.{FuncAt}
 use Rattle.refcount_insert_runs_laws.proofs.Counts.{IsCount, AreCounts}
 use Rattle.refcount_insert_lines_laws.proofs.Growing.{regs_grow}
-use Rattle.refcount_insert_runs_laws.proofs.Growing.{Past, no_change, past_on, passed, regs_past, world_past}
+use Rattle.refcount_insert_runs_laws.proofs.Growing.{Past, no_change, past_on, passed, grows_past, regs_past, world_past}
 use Rattle.refcount_insert_runs_laws.proofs.Relation.{code, machine, lines_of, FrameAt, WaitsAt, StackAt, At, Leads, stays, steps_on, line_in}
 
 -- ---- frames that wait
@@ -48,7 +48,7 @@ module _ (p q : Program) (s t : MachineState) (grows : Grows s t) where
 module _ (p q : Program) (s t : MachineState) (past : Past s t) where
   pub stack_past : (callee : ℕ) (ks : List Waiting) → StackAt p q s callee s.top.into ks s.below → StackAt p q t callee t.top.into ks t.below
   stack_past callee ks a =
-      subst (λ z. StackAt p q t callee z ks t.below) (sym past.into) (subst (StackAt p q t callee s.top.into ks) (sym past.below) (stack_grow p q s t past.grows callee s.top.into ks s.below a))
+      subst (λ z. StackAt p q t callee z ks t.below) (sym past.into) (subst (StackAt p q t callee s.top.into ks) (sym past.below) (stack_grow p q s t (grows_past s t past) callee s.top.into ks s.below a))
 
 module _ (p q : Program) (counts_do : CountsDo) where
   -- ---- counts

@@ -69,7 +69,7 @@ moved s n =
       made = refl;
       globals = refl;
       pending = refl;
-      grows = record { keeps = λ c v e. e };
+      keeps = record { contents = λ c v e. e };
     }
 
 module _ (p q : Program) (shape : Shape p) where

@@ -6,9 +6,9 @@ use Rattle.ir_core.specs.declared.code.Program.{Program}
 use Rattle.ir_core.specs.Registers.{Regs}
 use Rattle.ir_core.specs.Rows.{Declared}
 use Rattle.ir_core.specs.Effects.{World}
-use Rattle.refcount_insert_lines_laws.specs.Matching.{RegsFit, Grows, WorldFits}
+use Rattle.refcount_insert_lines_laws.specs.Matching.{RegsFit, Keeps, Grows, WorldFits}
 use Rattle.refcount_insert_lines_laws.specs.Lines.{Passes}
-use Rattle.refcount_insert_lines_laws.proofs.Growing.{regs_grow, world_grows}
+use Rattle.refcount_insert_lines_laws.proofs.Growing.{keeps_on, keeps_grows, regs_grow, world_keeps}
 
 -- a state behind some lines that did nothing but count, or jump
 pub record Past (s t : MachineState) : Type 0 where
@@ -22,7 +22,7 @@ pub record Past (s t : MachineState) : Type 0 where
   pub made : t.made ≡ s.made
   pub globals : t.globals ≡ s.globals
   pub pending : t.pending ≡ s.pending
-  pub grows : Grows s t
+  pub keeps : Keeps s t
 
 pub no_change : (s : MachineState) → Past s s
 no_change s =
@@ -37,7 +37,7 @@ no_change s =
       made = refl;
       globals = refl;
       pending = refl;
-      grows = record { keeps = λ c v e. e };
+      keeps = record { contents = λ c v e. e };
     }
 
 pub past_on : (s t u : MachineState) → Past s t → Past t u → Past s u
@@ -53,7 +53,7 @@ past_on s t u a b =
       made = b.made ∙ a.made;
       globals = b.globals ∙ a.globals;
       pending = b.pending ∙ a.pending;
-      grows = record { keeps = λ c v e. b.grows.keeps c v (a.grows.keeps c v e) };
+      keeps = keeps_on s t u a.keeps b.keeps;
     }
 
 pub passed : (s : MachineState) (n : Next) (t : MachineState) → Passes s n t → Past s t
@@ -69,14 +69,17 @@ passed s n t a =
       made = a.made;
       globals = a.globals;
       pending = a.pending;
-      grows = a.grows;
+      keeps = a.keeps;
     }
 
 module _ (s t : MachineState) (past : Past s t) where
+  pub grows_past : Grows s t
+  grows_past = keeps_grows s t past.keeps past.made
+
   pub regs_past : (declared : Declared) (regs : Regs) → RegsFit s declared regs s.top.vars → RegsFit t declared regs t.top.vars
   regs_past declared regs fit =
-      subst (RegsFit t declared regs) (sym past.vars) (regs_grow s t past.grows declared regs s.top.vars fit)
+      subst (RegsFit t declared regs) (sym past.vars) (regs_grow s t grows_past declared regs s.top.vars fit)
 
   pub world_past : (p : Program) (w : World) → WorldFits p w s → WorldFits p w t
   world_past p w a =
-      world_grows s t past.grows p w past.output past.turns past.items past.made past.globals past.pending a
+      world_keeps s t past.keeps p w past.output past.turns past.items past.made past.globals past.pending a

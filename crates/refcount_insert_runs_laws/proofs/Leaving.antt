@@ -21,26 +21,26 @@ use Rattle.ir_core.specs.Lower.{op_lines, end_lines, label_of}
 use Rattle.ir_core.specs.Shape.{LastFits, Shape}
 use Rattle.liveness.specs.Paths.{is_target, MetAt, BorrowedAt}
 use Rattle.refcount_insert_rule.specs.Counted.{owned, AreGroups, AreAll, IsCountedProgram}
-use Rattle.refcount_insert_lines_laws.specs.Matching.{RegsFit, GlobalsFit, PendingFits, Grows, WorldFits, RunsIn}
+use Rattle.refcount_insert_lines_laws.specs.Matching.{RegsFit, GlobalsFit, PendingFits, Keeps, Grows, WorldFits, RunsIn}
 use Rattle.refcount_insert_lines_laws.specs.Lines.{WaitsIn, GoesBack, ReturnDoes, return_sticks, return_goes, EndDoes, end_sticks, end_is, ReturnsDo, EndsDo, CountsDo}
 use Rattle.refcount_insert_runs_laws.proofs.Lists.{drop_next}
 use Rattle.refcount_insert_runs_laws.proofs.Heads.{heads}
 use Rattle.refcount_insert_runs_laws.proofs.Counts.{AreCounts, counts_by}
 use Rattle.refcount_insert_runs_laws.proofs.Keeping.{Same, Kept, return_kept}
-use Rattle.refcount_insert_lines_laws.proofs.Growing.{globals_grow, pending_grows}
+use Rattle.refcount_insert_lines_laws.proofs.Growing.{keeps_grows, globals_grow, pending_grows, store_keeps}
 use Rattle.refcount_insert_runs_laws.proofs.Relation.{code, machine, lines_of, EndsAt, ends_at, FrameAt, WaitsAt, StackAt, Arrives, gets_stuck, comes, ends, Leads, stays, steps_on, line_in, label_in}
 use Rattle.refcount_insert_runs_laws.proofs.Counting.{stack_grow, settle}
 use Rattle.refcount_insert_runs_laws.proofs.Entering.{Labelled, label_found}
 use Rattle.refcount_insert_runs_laws.proofs.Ending.{main, at_end, same_here, stack_here, world_here, runs, line_here, first}
 
 -- what holds of an end holds behind some lines that only go round
-on_end : (p : Program) (e : Ending) (w : World) (s u : MachineState) → u.output ≡ s.output → u.made ≡ s.made → u.globals ≡ s.globals → u.pending ≡ s.pending → Grows s u → EndsAt p e w s → EndsAt p e w u
-on_end p e w s u output made globals pending grows a =
+on_end : (p : Program) (e : Ending) (w : World) (s u : MachineState) → u.output ≡ s.output → u.made ≡ s.made → u.globals ≡ s.globals → u.pending ≡ s.pending → Keeps s u → EndsAt p e w s → EndsAt p e w u
+on_end p e w s u output made globals pending keeps a =
+    let grows : Grows s u = keeps_grows s u keeps made in
     record {
       by_pending = a.by_pending;
       output = output ∙ a.output;
-      store = a.store;
-      made = made ∙ a.made;
+      store = store_keeps s u keeps made w.store a.store;
       globals = subst (GlobalsFit u p.globals w.globals) (sym globals) (globals_grow s u grows p.globals w.globals s.globals a.globals);
       pending = subst (PendingFits u w.pending) (sym pending) (pending_grows s u grows w.pending s.pending a.pending);
     }
@@ -173,7 +173,7 @@ module _ (p q : Program) (shape : Shape p) (counted : IsCountedProgram p q) (wf 
           calm = round.calm;
           rest = found.rest;
           at = drop_next found.place lines line.Label (line.Turn ∷ (line.Goto label ∷ found.rest)) above;
-          end = on_end p Cut w u u3 refl refl refl refl (record { keeps = λ c v e. e }) round.end;
+          end = on_end p Cut w u u3 refl refl refl refl (record { contents = λ c v e. e }) round.end;
         } in
         let r = rounds n u3 refl again in
         let last : Next = Ends (steps.Ended Cut) r.0 in

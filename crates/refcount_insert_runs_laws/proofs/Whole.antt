@@ -5,11 +5,12 @@ use Rattle.std.proofs.lemmas.Option.{slice_get_within}
 use Rattle.value_core.specs.Ending.{Ending, Done, Raised, Cut, Over, Broken}
 use Rattle.value_core.specs.Exceptions.{Thrown}
 use Rattle.value_core.specs.Items.{Items}
-use Rattle.value_core.specs.Value.{Value, IntVal, BoolVal, NoneVal, StrVal, ExcVal, Store}
+use Rattle.value_core.specs.Value.{Value, IntVal, BoolVal, NoneVal, StrVal, TupleVal, ExcVal, ObjVal, Values, no_values, value_then, Object, ListObj, DictObj, InstObj, Store}
+use Rattle.c_core.specs.Cells.{content_at}
 use Rattle.c_core.specs.WellFormed.{WellFormed}
 use Rattle.c_core.specs.Functions.{error_word}
-use Rattle.c_core.specs.Machine.{Word, ShortInt, BigInt, Native, CharWord, ObjectCell, NoneObject, TrueObject, FalseObject, ExcCell, MachineState}
-use Rattle.c_core.specs.Stands.{IsLive, Matches, MatchSet, MatchesStore, in_short, in_native, in_big, true_char, false_char, true_object, false_object, Stands}
+use Rattle.c_core.specs.Machine.{Word, ShortInt, BigInt, Native, CharWord, Content, IntCell, StrCell, ListCell, DictCell, TupleCell, InstCell, ExcCell, MachineState}
+use Rattle.c_core.specs.Stands.{IsLive, MatchesInt, MatchesBool, in_object, Matches, MatchesParts, MatchAll, MatchSet, MatchesObject, MatchesStore, in_short, in_native, in_big, true_char, false_char, true_object, false_object, Stands}
 use Rattle.c_core.specs.Step.{Next, Goes, Ends}
 use Rattle.c_core.specs.Step as machines
 use Rattle.c_core.specs.Run.{Stop, go_on, first_words, module_function, most_steps}
@@ -30,7 +31,7 @@ use Rattle.ir_core.specs.Shape.{Shape}
 use Rattle.ir_core.proofs.RunLemmas.{steps_on as run_on}
 use Rattle.ir_core.proofs.ModeLemmas.{unstuck_is_plain}
 use Rattle.refcount_insert_rule.specs.Counted.{IsCountedProgram}
-use Rattle.refcount_insert_lines_laws.specs.Matching.{Fits, tagged_error, short, big, native, char_error, char_true, char_false, no_object, none, object_true, object_false, text, exception, RegsFit, GlobalsFit, PendingFits, WorldFits}
+use Rattle.refcount_insert_lines_laws.specs.Matching.{Boxed, PartsBoxed, AllBoxed, ObjectFits, ObjectAt, StoreFits, Fits, tagged_error, short, big, native, char_error, char_true, char_false, no_object, boxed, RegsFit, GlobalsFit, PendingFits, WorldFits}
 use Rattle.refcount_insert_lines_laws.specs.Follows.{stop_of, EndsStanding, UncheckedFollows}
 use Rattle.refcount_insert_lines_laws.proofs.Operations.{ops_do}
 use Rattle.refcount_insert_lines_laws.proofs.Calls.{calls_do}
@@ -51,6 +52,40 @@ module _ (s : MachineState) where
   matches_as : (v u : Value) (w : Word) → Holds u ≡ Holds v → Matches s u w → Matches s v w
   matches_as v u w e m = let same : u ≡ v = cc in subst (λ z. Matches s z w) same m
 
+  mutual
+    boxed_matches : (v : Value) (y : Word) → Boxed s v y → Matches s v y
+    boxed_matches (IntVal n) y m = subst (MatchesInt s n) (sym m.1) (in_object m.0 m.2)
+    boxed_matches (BoolVal true) y m = subst (MatchesBool s true) (sym m) true_object
+    boxed_matches (BoolVal false) y m = subst (MatchesBool s false) (sym m) false_object
+    boxed_matches NoneVal y m = m
+    boxed_matches (StrVal x) y m = m
+    boxed_matches (TupleVal parts) y m = (m.0, m.1, (m.2.0, m.2.1, parts_match parts m.2.0 m.2.2))
+    boxed_matches (ExcVal x) y m = m
+    boxed_matches (ObjVal k) y m = m
+
+    parts_match : (vs : Values) (ys : List Word) → PartsBoxed s vs ys → MatchesParts s vs ys
+    parts_match no_values [] m = tt
+    parts_match no_values (y ∷ ys) m = absurd m
+    parts_match (value_then v vs) [] m = absurd m
+    parts_match (value_then v vs) (y ∷ ys) m = (boxed_matches v y m.0, parts_match vs ys m.1)
+
+  all_match : (vs : List Value) (ys : List Word) → AllBoxed s vs ys → MatchAll s vs ys
+  all_match [] [] m = tt
+  all_match [] (y ∷ ys) m = absurd m
+  all_match (v ∷ vs) [] m = absurd m
+  all_match (v ∷ vs) (y ∷ ys) m = (boxed_matches v y m.0, all_match vs ys m.1)
+
+  object_matches : (o : Object) (x : Content) → ObjectFits s o x → MatchesObject s o x
+  object_matches (ListObj items) (ListCell words) m = all_match items words m
+  object_matches (ListObj items) (IntCell n) m = absurd m
+  object_matches (ListObj items) (StrCell n) m = absurd m
+  object_matches (ListObj items) (DictCell n) m = absurd m
+  object_matches (ListObj items) (TupleCell n) m = absurd m
+  object_matches (ListObj items) (InstCell n b) m = absurd m
+  object_matches (ListObj items) (ExcCell n) m = absurd m
+  object_matches (DictObj pairs) x m = absurd m
+  object_matches (InstObj class attributes) x m = absurd m
+
   fits_matches : (a : RType) (v : Value) (h : Held) (w : Word) → h ≡ Holds v → Fits s a h w → Matches s v w
   fits_matches a v h w e tagged_error = absurd (cc)
   fits_matches a v h w e (short n) = matches_as v (IntVal n) (ShortInt n) e (in_short)
@@ -60,11 +95,7 @@ module _ (s : MachineState) where
   fits_matches a v h w e char_true = matches_as v (BoolVal true) (CharWord 1) e true_char
   fits_matches a v h w e char_false = matches_as v (BoolVal false) (CharWord 0) e false_char
   fits_matches a v h w e no_object = absurd (cc)
-  fits_matches a v h w e none = matches_as v NoneVal NoneObject e refl
-  fits_matches a v h w e object_true = matches_as v (BoolVal true) TrueObject e true_object
-  fits_matches a v h w e object_false = matches_as v (BoolVal false) FalseObject e false_object
-  fits_matches a v h w e (text x c live) = matches_as v (StrVal x) (ObjectCell c) e (c, refl, live)
-  fits_matches a v h w e (exception x c live) = matches_as v (ExcVal x) (ObjectCell c) e (c, refl, live)
+  fits_matches a v h w e (boxed u y m) = matches_as v u y e (boxed_matches u y m)
 
   globals_match : (gs : Declared) (vs : List (Option Value)) (ws : List (Option Word)) → GlobalsFit s gs vs ws → MatchSet s vs ws
   globals_match [] [] [] fit = tt
@@ -79,10 +110,22 @@ module _ (s : MachineState) where
   globals_match (g ∷ gs) (Some v ∷ vs) (Some w ∷ ws) fit =
       (fits_matches g.1 v (Holds v) w refl fit.0, globals_match gs vs ws fit.1)
 
-  no_store : (store : Store) (made : List ℕ) → store ≡ [] → made ≡ [] → MatchesStore s store made
-  no_store [] [] e f = tt
-  no_store [] (c ∷ cs) e f = let g : c ∷ cs ≡ [] = f in absurd (cc)
-  no_store (o ∷ os) made e f = let g : o ∷ os ≡ [] = e in absurd (cc)
+  -- each object with its cell, from the first on
+  store_matches : (store : Store) (made : List ℕ) → length made ≡ length store → ((k : ℕ) (o : Object) (c : ℕ) → slice_get store k ≡ Some o → slice_get made k ≡ Some c → (x : Content) → IsLive s c x → MatchesObject s o x) → MatchesStore s store made
+  store_matches [] [] size each = tt
+  store_matches [] (c ∷ cs) size each = absurd (omega (arith, size))
+  store_matches (o ∷ os) [] size each = absurd (omega (arith, size))
+  store_matches (o ∷ os) (c ∷ cs) size each =
+      (λ x live. each 0 o c refl refl x live, store_matches os cs (omega (arith, size)) (λ k. each (suc k)))
+
+  object_here : (store : Store) → StoreFits s store → (k : ℕ) (o : Object) (c : ℕ) → slice_get store k ≡ Some o → slice_get s.made k ≡ Some c → (x : Content) → IsLive s c x → MatchesObject s o x
+  object_here store a k o c there made x live =
+      let at : ObjectAt s o k = a.objects k o there in
+      let cells : Some at.c ≡ Some c = sym at.made ∙ made in
+      let same : at.c ≡ c = cc in
+      let contents : Some at.content ≡ Some x = sym at.live ∙ (ap (content_at s.cells) same ∙ live) in
+      let content : at.content ≡ x = cc in
+      subst (MatchesObject s o) content (object_matches o at.content at.fits)
 
   not_pending : (e : Option Thrown) (c : Option ℕ) → PendingFits s e c → e ≡ None → c ≡ None
   not_pending None None fits is = refl
@@ -100,7 +143,7 @@ module _ (s : MachineState) where
 module _ (p : Program) (w : World) (s : MachineState) where
   stands_there : (e : Ending) → EndsAt p e w s → Stands w.store w.globals s
   stands_there e at =
-      record { objects = no_store s w.store s.made at.store at.made; variables_match = globals_match s p.globals w.globals s.globals at.globals }
+      record { objects = store_matches s w.store s.made at.store.size (object_here s w.store at.store); variables_match = globals_match s p.globals w.globals s.globals at.globals }
 
   standing : (e : Ending) → EndsAt p e w s → EndsStanding e (stop_of e w) s
   standing Done at = (stands_there Done at, not_pending s w.pending s.pending at.pending at.by_pending)
@@ -216,8 +259,7 @@ module _ (lines_do : LinesDo) (p q : Program) (shape : Shape p) (counted : IsCou
             output = refl;
             turns = refl;
             items = refl;
-            store = refl;
-            made = refl;
+            store = record { size = refl; objects = λ k o e. absurd (cc); apart = λ j k c e f. absurd (cc) };
             globals = subst (λ (z : Declared). GlobalsFit first p.globals (replicate (length p.globals) None) (map (λ g. None) (map global_of z))) (sym counted.globals) (unset first p.globals);
             pending = tt;
           }
