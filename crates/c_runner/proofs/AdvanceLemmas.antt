@@ -24,7 +24,7 @@ use Rattle.c_runner.specs.declared.state.State.{State}
 use Rattle.c_runner.specs.Advancing.{line_count, HandsFront, HandsAll, TakesSome, Fetches, UsesLines, Moves, Advances}
 use Rattle.c_runner.specs.Handing.{HandsOn}
 use Rattle.c_runner.specs.Ran.{error_of_read}
-use Rattle.c_runner.specs.States.{state_of, next_of, Follows}
+use Rattle.c_runner.specs.States.{state_of, next_of, Leads}
 use Rattle.c_runner.specs.Waiting.{input_step, Asks, Steps, before, behind, Receives}
 use Rattle.c_runner.proofs.Running.{no_rest}
 
@@ -63,8 +63,8 @@ pub asks_of : (does : MachineState → Next) (old asked : State) (why : Pause) (
 asks_of does old asked why target is steps = subst (λ p. Steps does (Err p) old asked) is steps
 
 -- ---- a step that asks for nothing
-pub moves_at_once : (does : MachineState → Next) (old new : State) (reader : ReaderState) (out_tells : Bool) (sink : List ℕ) (Untouched : Type 0) (in_tells : Bool) (left : List ℕ) (ending : Option Ending) → Untouched → Follows does ending old new → Moves does old new reader reader out_tells sink sink Untouched in_tells left left ending
-moves_at_once does old new reader out_tells sink Untouched in_tells left ending same follows = record {
+pub moves_at_once : (does : MachineState → Next) (old new : State) (reader : ReaderState) (out_tells : Bool) (sink : List ℕ) (Untouched : Type 0) (in_tells : Bool) (left : List ℕ) (ending : Option Ending) → Untouched → Leads does ending old new → Moves does old new reader reader out_tells sink sink Untouched in_tells left left ending
+moves_at_once does old new reader out_tells sink Untouched in_tells left ending same step = record {
   kept = old.output;
   hands = ([], refl, λ t. sym (append-nil sink), λ none. same);
   taken = [];
@@ -75,9 +75,9 @@ moves_at_once does old new reader out_tells sink Untouched in_tells left ending 
   ended = λ e. e;
   quiet = λ e. refl;
   usual = inr (record { near = λ h. h; lines = 0; counted = λ future e s. omega arith; quiet = λ none. refl });
-  leads = λ future e s handed.
-      follows (record { items = items_left reader future e; handed = handed })
-      ∙ ap (λ h. next_of ending (state_of (record { items = items_left reader future e; handed = h }) new)) (sym (append-nil handed));
+  leads = λ future e s handed made.
+      let led = step (record { items = items_left reader future e; handed = handed; made = made }) in
+      (led.0, led.1 ∙ ap (λ h. next_of ending (state_of (record { items = items_left reader future e; handed = h; made = led.0 }) new)) (sym (append-nil handed)));
 }
 
 -- ---- a step that got its line
@@ -150,7 +150,7 @@ uses_lines Eof target o mid new reader reader' taken receives found = inr (recor
   quiet = λ none. no_rest reader.held taken (no_byte (reader.held ++ taken) (no_piece reader.before (pieces (reader.held ++ taken)) found.lines.1));
 })
 uses_lines Over target o mid new reader reader' taken receives found =
-    inl (over_ends o _ _ (receives (record { items = items.Eof; handed = [] })))
+    inl (over_ends o _ _ (receives (record { items = items.Eof; handed = []; made = [] })))
 
 -- a reader that saw the end reads no more
 ended_ready : (reader : ReaderState) → IsTrue reader.ended → IsTrue (is_ready reader)
@@ -161,9 +161,9 @@ ended_ready reader e = rw e (by (list_any is_line_feed reader.held) (nat_lt most
     by false far = refl
 
 -- what was handed on before
-handed_same : (old : State) (kept handed sent : List ℕ) (lines : Items) → old.output ≡ sent ++ kept → state_of (record { items = lines; handed = handed }) old ≡ state_of (record { items = lines; handed = handed ++ sent }) (record old { output = kept })
-handed_same old kept handed sent lines e =
-    ap (λ l. record (state_of (record { items = lines; handed = handed }) old) { output = l }) (ap (λ l. handed ++ l) e ∙ sym (append_assoc handed sent kept))
+handed_same : (old : State) (kept handed sent made : List ℕ) (lines : Items) → old.output ≡ sent ++ kept → state_of (record { items = lines; handed = handed; made = made }) old ≡ state_of (record { items = lines; handed = handed ++ sent; made = made }) (record old { output = kept })
+handed_same old kept handed sent made lines e =
+    ap (λ l. record (state_of (record { items = lines; handed = handed; made = made }) old) { output = l }) (ap (λ l. handed ++ l) e ∙ sym (append_assoc handed sent kept))
 
 moves_from : (does : MachineState → Next) (old new : State) (target : Option ℕ) (item : Item) (reader reader' : ReaderState) (out_tells : Bool) (sink sink' : List ℕ) (Untouched : Type 0) (in_tells : Bool) (left left' kept : List ℕ) (o : Option Ending) → Asks does target old old → HandsOn out_tells sink sink' old.output kept Untouched → Takes reader in_tells left left' (Found item reader reader') → (IsTrue in_tells → EndIsSeen reader left → EndIsSeen reader' left') → Receives target item o (record old { output = kept }) new → Moves does old new reader reader' out_tells sink sink' Untouched in_tells left left' o
 moves_from does old new target item reader reader' out_tells sink sink' Untouched in_tells left left' kept o asks hands takes seen receives =
@@ -179,13 +179,14 @@ moves_from does old new target item reader reader' out_tells sink sink' Untouche
       ended = found.ended;
       quiet = λ e. takes.quiet (ended_ready reader e);
       usual = uses_lines item target o (record old { output = kept }) new reader reader' takes.taken receives found;
-      leads = λ future e s handed.
-          let next = items_left reader' future e in
-          asks.leads (record { items = items_left reader (takes.taken ++ future) e; handed = handed })
-          ∙ ap (input_step target) (handed_same old kept handed hands.0 (items_left reader (takes.taken ++ future) e) hands.1)
-          ∙ ap (λ l. input_step target (state_of (record { items = l; handed = handed ++ hands.0 }) (record old { output = kept }))) (item_before item reader reader' takes.taken found.lines future e s)
-          ∙ receives (record { items = next; handed = handed ++ hands.0 })
-          ∙ ap (λ l. next_of o (state_of (record { items = l; handed = handed ++ hands.0 }) new)) (item_behind item reader reader' takes.taken found.lines future e s);
+      leads = λ future e s handed made. (
+        made,
+        asks.leads (record { items = items_left reader (takes.taken ++ future) e; handed = handed; made = made })
+            ∙ ap (input_step target) (handed_same old kept handed hands.0 made (items_left reader (takes.taken ++ future) e) hands.1)
+            ∙ ap (λ l. input_step target (state_of (record { items = l; handed = handed ++ hands.0; made = made }) (record old { output = kept }))) (item_before item reader reader' takes.taken found.lines future e s)
+            ∙ receives (record { items = items_left reader' future e; handed = handed ++ hands.0; made = made })
+            ∙ ap (λ l. next_of o (state_of (record { items = l; handed = handed ++ hands.0; made = made }) new)) (item_behind item reader reader' takes.taken found.lines future e s),
+      );
     }
 
 pub moves_on : (does : MachineState → Next) (old asked new : State) (target : Option ℕ) (item : Item) (reader reader' : ReaderState) (out_tells : Bool) (sink sink' : List ℕ) (Untouched : Type 0) (in_tells : Bool) (left left' kept : List ℕ) (o : Option Ending) → Asks does target old asked → HandsOn out_tells sink sink' asked.output kept Untouched → Takes reader in_tells left left' (Found item reader reader') → (IsTrue in_tells → EndIsSeen reader left → EndIsSeen reader' left') → Receives target item o (record asked { output = kept }) new → Moves does old new reader reader' out_tells sink sink' Untouched in_tells left left' o
@@ -199,7 +200,7 @@ failed_from does old new target reader reader' kept out_tells sink sink' Untouch
   hands = fetches.0;
   takes = fetches.1;
   unready = fetches.2;
-  stops = λ handed. asks.leads (record { items = items.Broken; handed = handed });
+  stops = λ handed made. asks.leads (record { items = items.Broken; handed = handed; made = made });
 }
 failed_from does old new target reader reader' kept out_tells sink sink' Untouched in_tells left left' WriteFault asks fetches = fetches
 failed_from does old new target reader reader' kept out_tells sink sink' Untouched in_tells left left' Memory asks fetches = fetches

@@ -1,5 +1,5 @@
--- What the calls of primitives on native integers and truths are, by the words of their arguments.
-use Rattle.std.proofs.Common.{◌≡◌, refl, ap, ◌∙◌, ℕ, Bool, true, false, cond, List, [], ◌∷◌, Option, Some, None}
+-- What the calls of primitives on native integers are, by the words of their arguments, and the truth that arguments are.
+use Rattle.std.proofs.Common.{◌≡◌, refl, ◌∙◌, ℕ, Bool, true, false, cond, List, [], ◌∷◌, Option, Some, None}
 use Rattle.std.specs.Prelude.{ℤ, pos, not, ◌==◌, slice_get}
 use Rattle.std.specs.Option.{option_and_then, option_map}
 use Rattle.value_core.specs.Arithmetic.{i64_neg}
@@ -11,13 +11,11 @@ use Rattle.c_core.specs.declared.fault.Fault.TheVariants as fault
 use Rattle.c_core.specs.declared.primitive.Primitive.TheVariants as prim
 use Rattle.c_core.specs.declared.primitive.Int64Prim.{Int64Prim}
 use Rattle.c_core.specs.declared.primitive.Int64Prim.TheVariants as int64
-use Rattle.c_core.specs.declared.primitive.BoolPrim.TheVariants as bool
 use Rattle.c_core.specs.Arguments.{Argument, Plain, is_value_of}
 use Rattle.c_core.specs.Ledgers.{Ledger}
-use Rattle.c_core.specs.Machine.{Word, ShortInt, BigInt, TaggedError, Native, CharWord, ObjectCell, NoneObject, TrueObject, FalseObject, NoObject, refs_in, MachineState}
+use Rattle.c_core.specs.Machine.{Word, ShortInt, BigInt, TaggedError, Native, CharWord, ObjectCell, NoneObject, TrueObject, FalseObject, NoObject, MachineState}
 use Rattle.c_core.specs.Primitives.{Parameter, Borrows, Is, Anything}
-use Rattle.c_core.specs.Step.{Next, Goes, Effect, Says, if_some, if_true, if_there, if_argument, if_arguments, faulted, applied, primitive_step, next_line, with_target, with_cells, truth_word}
-use Rattle.c_core.proofs.ReleaseLemmas.{release-nothing}
+use Rattle.c_core.specs.Step.{Next, Effect, Says, if_some, if_true, if_there, if_argument, if_arguments, faulted, applied, primitive_step}
 use Rattle.c_runner.specs.declared.state.State.{State}
 use Rattle.c_runner.specs.Parts.{native_of, char_of, native_at, char_at, one_native, both, two_natives, one_char, int64_effect}
 use Rattle.c_runner.specs.States.{Rest, state_of}
@@ -116,13 +114,7 @@ module _ (s : MachineState) where
       ∙ each (native_at s.top.vars a) _ (λ n. kind_fault) (λ n. native_found code b (Plain (Native n) ∷ []) l _ ∙ wrong (native_at s.top.vars b))
       ∙ wrong (native_at s.top.vars a)
 
-  -- ---- an answer
-  abbrev pub says : Option ℕ → Word → Next
-  says x w = Goes (next_line (with_target x w s))
-
-  said : (x : Option ℕ) (w : Word) → applied true s x s.top.ledger [] (Says w) ≡ says x w
-  said x w = ap (λ cells. Goes (next_line (with_target x w (with_cells cells s)))) (release-nothing refs_in s.cells)
-
+  -- ---- what is done
   all_applied : {A : Type 0} (x : Option ℕ) (o : Option A) (f : A → Effect) → some o (λ a. applied true s x s.top.ledger [] (f a)) ≡ some (option_map f o) (applied true s x s.top.ledger [])
   all_applied x None f = refl
   all_applied x (Some a) f = refl
@@ -131,33 +123,28 @@ module _ (s : MachineState) where
   then_applied x None f = refl
   then_applied x (Some a) f = refl
 
-  all_said : {A : Type 0} (x : Option ℕ) (o : Option A) (f : A → Word) → some o (λ a. applied true s x s.top.ledger [] (Says (f a))) ≡ some (option_map f o) (says x)
-  all_said x None f = refl
-  all_said x (Some a) f = said x (f a)
-
 -- ---- calls
 module _ (rest : Rest) (old : State) (code : Code) (x : Option ℕ) (args : List CArg) where
   abbrev t : MachineState
   t = state_of rest old
 
-  pub not_said : primitive_step true t code x args (prim.Bool bool.Not) ≡ if_some true t fault.Kind (option_map (λ n. truth_word (n == 0)) (one_char t.top.vars args)) (says t x)
-  not_said = char_only t code args t.top.ledger _ ∙ all_said t x (one_char t.top.vars args) (λ n. truth_word (n == 0))
-
   two_applied : (f : ℤ × ℤ → Effect) → if_some true t fault.Kind (two_natives t.top.vars args) (λ q. applied true t x t.top.ledger [] (f q)) ≡ if_some true t fault.Kind (option_and_then (λ q. Some (f q)) (two_natives t.top.vars args)) (applied true t x t.top.ledger [])
   two_applied f = then_applied t x (two_natives t.top.vars args) f
 
-  -- a primitive that makes no text
-  pub int64_called : (p : Int64Prim) → (p ≡ int64.Str → ⊥) → primitive_step true t code x args (prim.Int64 p) ≡ if_some true t fault.Kind (int64_effect p t.top.vars args) (applied true t x t.top.ledger [])
-  int64_called int64.Add other = two_found t code args t.top.ledger _ ∙ two_applied _
-  int64_called int64.Subtract other = two_found t code args t.top.ledger _ ∙ two_applied _
-  int64_called int64.Multiply other = two_found t code args t.top.ledger _ ∙ two_applied _
-  int64_called int64.Negate other = one_found t code args t.top.ledger _ ∙ all_applied t x (one_native t.top.vars args) (λ n. Says (Native (i64_neg n)))
-  int64_called int64.FloorDivide other = two_found t code args t.top.ledger _ ∙ two_applied _
-  int64_called int64.Remainder other = two_found t code args t.top.ledger _ ∙ two_applied _
-  int64_called int64.Lshift other = two_found t code args t.top.ledger _ ∙ two_applied _
-  int64_called int64.Rshift other = two_found t code args t.top.ledger _ ∙ two_applied _
-  int64_called int64.FromBool other = char_only t code args t.top.ledger _ ∙ all_applied t x (one_char t.top.vars args) (λ n. Says (Native (pos n)))
-  int64_called int64.Eq other = two_found t code args t.top.ledger _ ∙ two_applied _
-  int64_called int64.Lt other = two_found t code args t.top.ledger _ ∙ two_applied _
-  int64_called int64.Le other = two_found t code args t.top.ledger _ ∙ two_applied _
-  int64_called int64.Str other = absurd (other refl)
+  -- a primitive that makes no cell and reads none
+  pub int64_called : (p : Int64Prim) → (p ≡ int64.Str → ⊥) → (p ≡ int64.Box → ⊥) → (p ≡ int64.Unbox → ⊥) → primitive_step true t code x args (prim.Int64 p) ≡ if_some true t fault.Kind (int64_effect p t.top.vars args) (applied true t x t.top.ledger [])
+  int64_called int64.Add a b c = two_found t code args t.top.ledger _ ∙ two_applied _
+  int64_called int64.Subtract a b c = two_found t code args t.top.ledger _ ∙ two_applied _
+  int64_called int64.Multiply a b c = two_found t code args t.top.ledger _ ∙ two_applied _
+  int64_called int64.Negate a b c = one_found t code args t.top.ledger _ ∙ all_applied t x (one_native t.top.vars args) (λ n. Says (Native (i64_neg n)))
+  int64_called int64.FloorDivide a b c = two_found t code args t.top.ledger _ ∙ two_applied _
+  int64_called int64.Remainder a b c = two_found t code args t.top.ledger _ ∙ two_applied _
+  int64_called int64.Lshift a b c = two_found t code args t.top.ledger _ ∙ two_applied _
+  int64_called int64.Rshift a b c = two_found t code args t.top.ledger _ ∙ two_applied _
+  int64_called int64.FromBool a b c = char_only t code args t.top.ledger _ ∙ all_applied t x (one_char t.top.vars args) (λ n. Says (Native (pos n)))
+  int64_called int64.Eq a b c = two_found t code args t.top.ledger _ ∙ two_applied _
+  int64_called int64.Lt a b c = two_found t code args t.top.ledger _ ∙ two_applied _
+  int64_called int64.Le a b c = two_found t code args t.top.ledger _ ∙ two_applied _
+  int64_called int64.Str a b c = absurd (a refl)
+  int64_called int64.Box a b c = absurd (b refl)
+  int64_called int64.Unbox a b c = absurd (c refl)

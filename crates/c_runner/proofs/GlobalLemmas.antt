@@ -17,7 +17,7 @@ use Rattle.c_core.specs.declared.fault.Fault.{Fault}
 use Rattle.c_core.specs.declared.fault.Fault.TheVariants as fault
 use Rattle.c_core.specs.declared.primitive.Primitive.TheVariants as prim
 use Rattle.c_core.specs.declared.primitive.GlobalPrim.TheVariants as global
-use Rattle.c_core.specs.Arguments.{Argument, Cell, Written, is_value_of, kind_of_global, number_of_global, kind_found, word_in, stolen}
+use Rattle.c_core.specs.Arguments.{Argument, Cell, Written, is_value_of, is_holding, kind_of_global, number_of_global, kind_found, word_in, stolen}
 use Rattle.c_core.specs.Cells as machine_cell
 use Rattle.c_core.specs.Functions.{error_word}
 use Rattle.value_core.specs.declared.exception.ExcClass.TheVariants.{NameError}
@@ -26,10 +26,11 @@ use Rattle.c_core.specs.Cells.{Cells, times, content_at, change, raised, lowered
 use Rattle.c_core.specs.Ledgers.{Ledger, more_of, without}
 use Rattle.c_core.specs.Machine as machine
 use Rattle.c_core.specs.Machine.{ShortInt, BigInt, TaggedError, Native, CharWord, ObjectCell, NoneObject, TrueObject, FalseObject, NoObject, Content, MachineState, refs_of, refs_in, set_refs}
-use Rattle.c_core.specs.Primitives.{OfGlobal, Anything, Steals, row_of}
+use Rattle.c_core.specs.Primitives.{KindAt, OfGlobal, Holding, Anything, Steals, MaySteal, row_of}
 use Rattle.c_core.specs.Release.{after, freed, weight, release, release_some}
 use Rattle.c_core.specs.Step as step
-use Rattle.c_core.specs.Step.{Next, Goes, Ends, Faulted, Effect, Wrong, Shares, Stores, if_some, if_true, if_there, if_any, if_taken, if_stolen, word_of, faulted, global_at, got, set_to, applied, primitive_step, shared, next_line}
+use Rattle.c_core.specs.Step.{Next, Goes, Ends, Faulted, Effect, Wrong, Shares, Stores, if_some, if_true, if_there, if_any, if_taken, if_stolen, word_of, faulted, global_at, got, set_to, with_cells, applied, primitive_step, shared, next_line}
+use Rattle.c_core.proofs.ReleaseLemmas.{release-nothing}
 use Rattle.c_runner.specs.declared.report.Ending.{Ending}
 use Rattle.c_runner.specs.declared.state.Frame.{Frame}
 use Rattle.c_runner.specs.declared.state.State.{State}
@@ -119,7 +120,9 @@ pub word_shared : (rest : Rest) (old : State) (target : Option ℕ) (w : Word) (
 word_shared rest old target w cells owner top cells_is owner_is top_is =
     let v = contents.word_of w in
     let made : State = record old { cells = with_taken v old.cells; top = record old.top { ledger = more_of (refs_of v) old.top.ledger } } in
-    ap (λ t. Goes (next_line (step.with_target target v t))) (shared_is rest old v)
+    let taken = shared v (state_of rest old) in
+    ap (λ cs. Goes (next_line (step.with_target target v (with_cells cs taken)))) (release-nothing refs_in taken.cells)
+    ∙ ap (λ t. Goes (next_line (step.with_target target v t))) (shared_is rest old v)
     ∙ ap (λ t. Goes (next_line t)) (target_set rest made target w)
     ∙ sym (ap (λ cs. Goes (state_of rest (record old { cells = cs; top = record top { place = top.place + 1 } }))) cells_is
     ∙ ap (λ f. Goes (state_of rest (record made { top = record f { place = f.place + 1 } }))) (top_is ∙ ap (with_target target w) owner_is))
@@ -161,35 +164,30 @@ module _ (s : MachineState) where
   if_lost (ObjectCell c) l go = if_taken true s c l go
   if_lost w l go = go l
 
-  cell_lost : (c : ℕ) (o : Option Content) (l : Ledger) (go : Argument → Ledger → Next) → if_some true s fault.Dead o (λ content. if_taken true s c l (go (Cell c content))) ≡ if_some true s fault.Dead o (λ content. if_taken true s c l (go (cell_argument c o)))
-  cell_lost c None l go = refl
-  cell_lost c (Some content) l go = refl
+  cell_lost : (h : Holding) (c : ℕ) (o : Option Content) (l : Ledger) (go : Argument → Ledger → Next) → if_some true s fault.Dead o (λ content. if_true true s (is_holding h (Cell c content)) (if_taken true s c l (go (Cell c content)))) ≡ if_some true s fault.Dead o (λ content. if_true true s (is_holding h (cell_argument c o)) (if_taken true s c l (go (cell_argument c o))))
+  cell_lost h c None l go = refl
+  cell_lost h c (Some content) l go = refl
 
-  there_lost : (w : machine.Word) (l : Ledger) (go : Argument → Ledger → Next) → if_there true s w (λ a. if_stolen true s a l (go a)) ≡ if_there true s w (λ a. if_lost w l (go (argument_of s.cells w)))
-  there_lost (BigInt c) l go = cell_lost c (content_at s.cells c) l go
-  there_lost (ObjectCell c) l go = cell_lost c (content_at s.cells c) l go
-  there_lost (ShortInt n) l go = refl
-  there_lost TaggedError l go = refl
-  there_lost (Native n) l go = refl
-  there_lost (CharWord n) l go = refl
-  there_lost NoneObject l go = refl
-  there_lost TrueObject l go = refl
-  there_lost FalseObject l go = refl
-  there_lost NoObject l go = refl
+  there_lost : (h : Holding) (w : machine.Word) (l : Ledger) (go : Argument → Ledger → Next) → if_there true s w (λ a. if_true true s (is_holding h a) (if_stolen true s a l (go a))) ≡ if_there true s w (λ a. if_true true s (is_holding h (argument_of s.cells w)) (if_lost w l (go (argument_of s.cells w))))
+  there_lost h (BigInt c) l go = cell_lost h c (content_at s.cells c) l go
+  there_lost h (ObjectCell c) l go = cell_lost h c (content_at s.cells c) l go
+  there_lost h _ l go = refl
 
   some_alike : {A : Type 0} (f : Fault) (o : Option A) (go to : A → Next) → ((a : A) → go a ≡ to a) → if_some true s f o go ≡ if_some true s f o to
   some_alike f None go to e = refl
   some_alike f (Some a) go to e = e a
 
   -- an argument that is stolen, by its word
-  pub steals : (code : Code) (k : Kind) (a : CArg) (earlier : List Argument) (l : Ledger) (go : Argument → Ledger → Next) → kind_found code OfGlobal earlier ≡ Some k → step.if_argument true s code (Steals OfGlobal Anything) a earlier l go ≡ if_argument s k a (λ w. if_lost w l (go (argument_of s.cells w)))
-  steals code k (arg.Var x) earlier l go e =
-      ap (λ o. if_some true s fault.Kind o (λ kind. step.if_variable true s kind Anything x (λ a. if_stolen true s a l (go a)))) e
-      ∙ some_alike fault.Kind (slice_get s.top.vars x) _ _ (λ w. ap (if_true true s (is_value_of k w)) (there_lost w l go))
-  steals code k (arg.Number n) earlier l go e = refl
-  steals code k (arg.Text text) earlier l go e = refl
-  steals code k (arg.Global name) earlier l go e = refl
-  steals code k (arg.Class name) earlier l go e = refl
+  pub steals : (code : Code) (k : Kind) (place : KindAt) (h : Holding) (a : CArg) (earlier : List Argument) (l : Ledger) (go : Argument → Ledger → Next) → kind_found code place earlier ≡ Some k → step.if_argument true s code (Steals place h) a earlier l go ≡ if_argument s k a (λ w. if_true true s (is_holding h (argument_of s.cells w)) (if_lost w l (go (argument_of s.cells w))))
+  steals code k place h (arg.Var x) earlier l go e =
+      ap (λ o. if_some true s fault.Kind o (λ kind. step.if_variable true s kind h x (λ a. if_stolen true s a l (go a)))) e
+      ∙ some_alike fault.Kind (slice_get s.top.vars x) _ _ (λ w. ap (if_true true s (is_value_of k w)) (there_lost h w l go))
+  steals code k place h _ earlier l go e = refl
+
+  -- one that may be missing is stolen alike
+  pub may_steal : (code : Code) (place : KindAt) (h : Holding) (a : CArg) (earlier : List Argument) (l : Ledger) (go : Argument → Ledger → Next) → step.if_argument true s code (MaySteal place h) a earlier l go ≡ step.if_argument true s code (Steals place h) a earlier l go
+  may_steal code place h (arg.Var x) earlier l go = refl
+  may_steal code place h _ earlier l go = refl
 
   -- a reference that the frame owns, and one that it does not own
   any_owned : (n : ℕ) (go : Next) → nat_lt 0 n ≡ true → if_any true s n go ≡ go

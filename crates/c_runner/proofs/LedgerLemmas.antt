@@ -54,6 +54,10 @@ not_same zero c d e other = refl
 not_same (suc k) c d e other =
     let equal : d ≡ c = same_one d c k (sym e) in absurd (grind (arith, nat_tests, equal, other))
 
+elsewhere : (k d c : ℕ) → k ≡ same d c → (d ≡ c → ⊥) → k ≡ 0
+elsewhere zero d c e other = refl
+elsewhere (suc k) d c e other = absurd (other (same_one d c k (sym e)))
+
 differ : (c d : ℕ) → is_at (nat_cmp c) d ≡ false → same d c ≡ 0
 differ c d e = not_same (same d c) c d refl (at_other c d e)
 
@@ -86,6 +90,11 @@ module _ (c d n : ℕ) (l : List ℕ) where
   times_at e =
       let equal = at_is c d e in
       omega (arith, ap (λ z. same z c) equal, same_self c, ap (λ z. times (replicate n z ++ l) c) equal, times_here n c l)
+
+  times_alone : is_at (nat_cmp c) d ≡ true → times l c ≡ 0 → times entry c ≡ n + 1
+  times_alone e rest =
+      let equal = at_is c d e in
+      omega (arith, rest, ap (λ z. same z c) equal, same_self c, ap (λ z. times (replicate n z ++ l) c) equal, times_here n c l)
 
   times_other : is_at (nat_cmp c) d ≡ false → times entry c ≡ times l c
   times_other e = omega (arith, differ c d e, times_past n d c l (differ c d e))
@@ -223,6 +232,41 @@ only c n (e ∷ es) some =
 pub none_owned : (c : ℕ) (es : List (ℕ × ℕ)) → further c es ≡ None → false ≡ is_only c (numbers_of es)
 none_owned c es none = ap (λ n. nat_lt 0 n && is_none (without c (numbers_of es))) (sym (absent c es none).0)
 
+-- ---- how often a number stands, where no number has two entries
+none_above : (c : ℕ) (es : List (ℕ × ℕ)) → AllByRecursion (λ y. nat_cmp c y ≡ Less) (keys_of es) → further c es ≡ None
+none_above c [] above = refl
+none_above c (e ∷ es) above =
+    ap (λ b. cond b (Some e.1) (further c es)) (at_less c e.0 (less_than c e.0 above.0)) ∙ none_above c es above.1
+
+exactly_either : (b : Bool) (c : ℕ) (e : ℕ × ℕ) (es : List (ℕ × ℕ)) → is_at (nat_cmp c) e.0 ≡ b → AllByRecursion (λ y. nat_cmp e.0 y ≡ Less) (keys_of es) → times (numbers_of es) c ≡ standing (further c es) → times (numbers_of (e ∷ es)) c ≡ standing (cond b (Some e.1) (further c es))
+exactly_either true c e es is above h =
+    let key : e.0 ≡ c = at_is c e.0 is in
+    times_alone c e.0 e.1 (numbers_of es) is (h ∙ ap standing (ap (λ k. further k es) (sym key) ∙ none_above e.0 es above))
+exactly_either false c e es is above h = times_other c e.0 e.1 (numbers_of es) is ∙ h
+
+stands_exactly : (c : ℕ) (es : List (ℕ × ℕ)) → IsStrictlySortedBy nat_cmp (keys_of es) → times (numbers_of es) c ≡ standing (further c es)
+stands_exactly c [] up = refl
+stands_exactly c (e ∷ es) up =
+    exactly_either (is_at (nat_cmp c) e.0) c e es refl (sorted_head nat_cmp e.0 (keys_of es) up)
+    (stands_exactly c es (sorted_tail nat_cmp e.0 (keys_of es) up))
+
+beyond_either : (b : Bool) (n m : ℕ) → nat_le n m ≡ b → b ≡ nat_lt n (m + 1)
+beyond_either true n m e = grind (arith, nat_tests, e)
+beyond_either false n m e = grind (arith, nat_tests, e)
+
+one_beyond : (n m : ℕ) → nat_le n m ≡ nat_lt n (m + 1)
+one_beyond n m = beyond_either (nat_le n m) n m refl
+
+-- whether a number stands there more often than so many times
+pub owned_beyond : (c n m : ℕ) (es : List (ℕ × ℕ)) → IsStrictlySortedBy nat_cmp (keys_of es) → further c es ≡ Some m → nat_le n m ≡ nat_lt n (times (numbers_of es) c)
+owned_beyond c n m es up e = one_beyond n m ∙ ap (nat_lt n) (sym (stands_exactly c es up ∙ ap standing e))
+
+none_more : (n m : ℕ) → m ≡ 0 → false ≡ nat_lt n m
+none_more n m e = grind (arith, nat_tests, e)
+
+pub none_beyond : (c n : ℕ) (es : List (ℕ × ℕ)) → further c es ≡ None → false ≡ nat_lt n (times (numbers_of es) c)
+none_beyond c n es e = none_more n (times (numbers_of es) c) (absent c es e).0
+
 -- ---- nothing
 pub none_there : (es : List (ℕ × ℕ)) → (length es ≡ 0) ↔ (numbers_of es ≡ [])
 none_there [] = (λ e. refl, λ e. refl)
@@ -263,9 +307,38 @@ none_left false d = refl
 pub owned_once : (n d c : ℕ) (l : List ℕ) → n ≡ d → l ≡ d ∷ [] → nat_eq n c ≡ nat_lt 0 (times l c)
 owned_once n d c l number list = ap (λ k. nat_eq k c) number ∙ alone d c ∙ ap (λ k. nat_lt 0 (times k c)) (sym list)
 
+same_few : (d c : ℕ) → same d c ≤ 1
+same_few zero zero = omega arith
+same_few zero (suc c) = omega arith
+same_few (suc d) zero = omega arith
+same_few (suc d) (suc c) = same_few d c
+
+few_alone : (d c : ℕ) → times (d ∷ []) c ≤ 1
+few_alone d c = omega (arith, same_few d c)
+
+few_more : (n m : ℕ) → m ≤ 1 → 0 < n → nat_eq n 0 ≡ nat_lt n m
+few_more n m few lt =
+    let some : nat_eq n 0 ≡ false = grind (arith, nat_tests, lt) in
+    let none : nat_lt n m ≡ false = grind (arith, nat_tests, few, lt) in
+    some ∙ sym none
+
+-- one number alone stands there no more often than once
+pub few_once : (n d c : ℕ) (l : List ℕ) → l ≡ d ∷ [] → 0 < n → nat_eq n 0 ≡ nat_lt n (times l c)
+few_once n d c l list lt = few_more n (times (d ∷ []) c) (few_alone d c) lt ∙ ap (λ k. nat_lt n (times k c)) (sym list)
+
+pub beyond_once : (n number d c : ℕ) (l : List ℕ) → number ≡ d → l ≡ d ∷ [] → n ≡ 0 → nat_eq number c ≡ nat_lt n (times l c)
+beyond_once n number d c l is list none = owned_once number d c l is list ∙ ap (λ m. nat_lt m (times l c)) (sym none)
+
 pub only_once : (n d c : ℕ) (l : List ℕ) → n ≡ d → l ≡ d ∷ [] → nat_eq n c ≡ is_only c l
 only_once n d c l number list =
     ap (λ k. nat_eq k c) number
     ∙ none_left (nat_eq d c) d
     ∙ ap (λ b. b && is_none (without c (d ∷ []))) (alone d c)
     ∙ ap (is_only c) (sym list)
+
+-- ---- two numbers that are the same, or are not
+pub same_here : (d c : ℕ) → d ≡ c → 1 ≡ same d c
+same_here d c e = sym (ap (λ z. same z c) e ∙ same_self c)
+
+pub same_elsewhere : (d c : ℕ) → (d ≡ c → ⊥) → 0 ≡ same d c
+same_elsewhere d c other = sym (elsewhere (same d c) d c refl other)

@@ -7,7 +7,11 @@ pub mod CallLemmas
 pub mod StepLemmas
 pub mod Running
 pub mod GlobalLemmas
+pub mod StolenLemmas
 pub mod ExceptionLemmas
+pub mod FindLemmas
 pub mod DeedLemmas
+pub mod ListLemmas
+pub mod TupleLemmas
 pub mod Taking
 pub mod AdvanceLemmas

@@ -37,25 +37,27 @@ any_longer : (handed old new more : List ℕ) → handed ++ new ≡ (handed ++ o
 any_longer [] old new more e = longer_held old new more e
 any_longer (h ∷ handed) old new more e = refl
 
--- the lines that are left of a run, and the output that was handed on
-abbrev pub rest_after : Items → List ℕ → Rest
-rest_after lines handed = record { items = lines; handed = handed }
+-- the lines that are left of a run, the output that was handed on, and the objects that were made
+abbrev pub rest_after : Items → List ℕ → List ℕ → Rest
+rest_after lines handed made = record { items = lines; handed = handed; made = made }
 
 -- a run of at most so many more steps goes on from a state, where these lines are left, the sink took what was handed on, and whether
 -- there was any output is known
 pub record Running (tells : Bool) (before now : List ℕ) (code : Code) (turns : ℕ) (items : Items) (left : ℕ) (any : Bool) (Untouched : Type 0) (state : State) (lines : Items) : Type 0 where
   pub handed : List ℕ
+  pub made : List ℕ
   pub taken : IsTrue tells → now ≡ before ++ handed
   pub alone : handed ≡ [] → Untouched
   pub any_is : any ≡ has_bytes (handed ++ state.output)
   pub steps : ℕ
   pub all_steps : steps + left ≡ most_steps turns code
-  pub reaches : Reaches code steps (start code turns items) (state_of (rest_after lines handed) state)
-  pub goes : go_on (step code) left (Goes (state_of (rest_after lines handed) state)) ≡ machine_run turns items code
+  pub reaches : Reaches code steps (start code turns items) (state_of (rest_after lines handed made) state)
+  pub goes : go_on (step code) left (Goes (state_of (rest_after lines handed made) state)) ≡ machine_run turns items code
 
 pub at_start : (tells : Bool) (before : List ℕ) (code : Code) (turns left : ℕ) (items : Items) (Untouched : Type 0) (state : State) → Untouched → ((i : Items) → state_of (first_rest i) state ≡ start code turns i) → left ≡ most_steps turns code → Running tells before before code turns items left false Untouched state items
 at_start tells before code turns left items Untouched state same is count = record {
   handed = [];
+  made = [];
   taken = λ t. sym (append-nil before);
   alone = λ none. same;
   any_is = ap (λ s. has_bytes s.output) (sym (is items));
@@ -68,14 +70,15 @@ at_start tells before code turns left items Untouched state same is count = reco
 -- a run stopped so in a state, where these lines are left, and the sink took what was handed on
 pub record Stopped (tells : Bool) (before now : List ℕ) (any : Bool) (Untouched : Type 0) (state : State) (lines : Items) (ending : MachineEnding) (stop : Stop) : Type 0 where
   pub handed : List ℕ
+  pub made : List ℕ
   pub taken : IsTrue tells → now ≡ before ++ handed
   pub alone : handed ≡ [] → Untouched
   pub any_is : any ≡ has_bytes (handed ++ state.output)
-  pub is : stop ≡ record { ending = ending; state = state_of (rest_after lines handed) state }
+  pub is : stop ≡ record { ending = ending; state = state_of (rest_after lines handed made) state }
 
 module _ (tells : Bool) (before now : List ℕ) (code : Code) (turns : ℕ) (items : Items) (left : ℕ) (any : Bool) (Untouched : Type 0) (state : State) (lines : Items) (running : Running tells before now code turns items left any Untouched state lines) where
   abbrev rest : Rest
-  rest = rest_after lines running.handed
+  rest = rest_after lines running.handed running.made
 
   pub can_step : RunExists → WellFormed code → 1 ≤ left
   can_step exists formed =
@@ -116,6 +119,7 @@ module _ (tells : Bool) (before now : List ℕ) (code : Code) (turns : ℕ) (ite
   pub handed_on : (after output : List ℕ) (Still StillUntouched : Type 0) → (Untouched → Still → StillUntouched) → HandsOn tells now after state.output output Still → Running tells before after code turns items left any StillUntouched (record state { output = output }) lines
   handed_on after output Still StillUntouched both hands = record {
     handed = running.handed ++ hands.0;
+    made = running.made;
     alone = λ none. both (running.alone (no_front running.handed hands.0 none)) (hands.3 (no_rest running.handed hands.0 none));
     any_is = running.any_is ∙ ap has_bytes (ap (λ l. running.handed ++ l) hands.1 ∙ sym (append_assoc running.handed hands.0 output));
     taken = λ t. hands.2 t ∙ ap (λ l. l ++ hands.0) (running.taken t) ∙ append_assoc before running.handed hands.0;
@@ -132,13 +136,13 @@ module _ (tells : Bool) (before now : List ℕ) (code : Code) (turns : ℕ) (ite
       let both : Some stop ≡ Some (record { ending = ending; state = last }) = sym run ∙ sym running.goes ∙ end in
       cc
 
-  -- a step, before which some of what was held was handed on
-  module _ (after : List ℕ) (Still StillUntouched : Type 0) (both : Untouched → Still → StillUntouched) (kept : List ℕ) (hands : HandsOn tells now after state.output kept Still) (new : State) (next : Items) where
+  -- a step, before which some of what was held was handed on, and behind which these objects were made
+  module _ (after : List ℕ) (Still StillUntouched : Type 0) (both : Untouched → Still → StillUntouched) (kept : List ℕ) (hands : HandsOn tells now after state.output kept Still) (new : State) (next : Items) (grown : List ℕ) where
     abbrev all_handed : List ℕ
     all_handed = running.handed ++ hands.0
 
     abbrev later : MachineState
-    later = state_of (rest_after next all_handed) new
+    later = state_of (rest_after next all_handed grown) new
 
     split : running.handed ++ state.output ≡ all_handed ++ kept
     split = ap (λ l. running.handed ++ l) hands.1 ∙ sym (append_assoc running.handed hands.0 kept)
@@ -161,6 +165,7 @@ module _ (tells : Bool) (before now : List ℕ) (code : Code) (turns : ℕ) (ite
     pub stepped : (any' : Bool) → any' ≡ (any || has_bytes new.output) → 1 ≤ left → step code (state_of rest state) ≡ Goes later → Running tells before after code turns items (left - 1) any' StillUntouched new next
     stepped any' is more e = record {
       handed = all_handed;
+      made = grown;
       taken = taken_too;
       alone = alone_still;
       any_is = is ∙ any_after None e;
@@ -173,6 +178,7 @@ module _ (tells : Bool) (before now : List ℕ) (code : Code) (turns : ℕ) (ite
     pub stopped : (any' : Bool) → any' ≡ (any || has_bytes new.output) → 1 ≤ left → (ending : Ending) → step code (state_of rest state) ≡ Ends (ending_of ending) later → (stop : Stop) → machine_run turns items code ≡ Some stop → Stopped tells before after any' StillUntouched new next (ending_of ending) stop
     stopped any' is more ending e stop run = record {
       handed = all_handed;
+      made = grown;
       taken = taken_too;
       alone = alone_still;
       any_is = is ∙ any_after (Some ending) e;

@@ -1,6 +1,6 @@
 -- What the parts of a step of the machine are at the runner's states.
 use Rattle.std.proofs.Common.{◌≡◌, refl, sym, ap, ◌∙◌, ℕ, zero, suc, ◌+◌, arith, Bool, true, false, cond, eqb, List, [], ◌∷◌, ◌++◌, length, append_assoc, Option, Some, None, Ok, Err}
-use Rattle.std.specs.Prelude.{slice_get, slice_set, nat_lt, is_some, Result}
+use Rattle.std.specs.Prelude.{slice_get, slice_set, nat_lt, is_some, Result, IfOk}
 use Rattle.std.specs.Option.{option_map, option_and_then}
 use Rattle.std.proofs.lemmas.List.{map-set}
 use Rattle.std.proofs.lemmas.Option.{slice_get-map}
@@ -14,29 +14,31 @@ use Rattle.c_core.specs.declared.code.Line.TheVariants.{Call}
 use Rattle.c_core.specs.declared.code.CLit.{CLit}
 use Rattle.c_core.specs.declared.fault.Fault.TheVariants as fault
 use Rattle.c_core.specs.declared.primitive.Primitive.{Primitive}
-use Rattle.c_core.specs.declared.primitive.Primitive.TheVariants.{Io}
+use Rattle.c_core.specs.declared.primitive.Primitive.TheVariants.{List as OfList, Io}
+use Rattle.c_core.specs.declared.primitive.ListPrim.{ListPrim}
 use Rattle.c_core.specs.declared.primitive.IoPrim.{IoPrim}
-use Rattle.c_core.specs.declared.primitive.IoPrim.TheVariants.{Write}
+use Rattle.c_core.specs.declared.primitive.IoPrim.TheVariants.{Write, Input}
 use Rattle.c_core.specs.declared.code.Code.{Code}
 use Rattle.c_core.specs.Arguments.{Cell, is_holding}
 use Rattle.c_core.specs.Cells.{Cells, times, content_at, make}
 use Rattle.c_core.specs.Functions.{label_places, function_named}
 use Rattle.c_core.specs.Ledgers.{more}
 use Rattle.c_core.specs.Machine as machine
-use Rattle.c_core.specs.Machine.{MachineState, StrCell, refs_in}
-use Rattle.c_core.specs.Primitives.{AText, primitive_named}
+use Rattle.c_core.specs.Machine.{MachineState, StrCell, refs_in, noted}
+use Rattle.c_core.specs.Primitives.{AText, row_of, primitive_named}
 use Rattle.c_core.specs.Step as step
-use Rattle.c_core.specs.Step.{Next, Goes, Ends, Faulted, Makes, word_of, if_some, if_calm, literal_word, with_var, next_line, applied, primitive_step, called, function_called, call_step, given_up, if_any}
+use Rattle.c_core.specs.Step.{Next, Goes, Ends, Faulted, Makes, word_of, if_some, if_calm, if_may_stand, literal_word, with_var, next_line, line_at, applied, primitive_step, called, function_called, call_step, faulted, given_up, if_any}
 use Rattle.c_core.proofs.ReleaseLemmas.{release-nothing}
 use Rattle.c_runner.specs.declared.pause.Pause.{Pause}
 use Rattle.c_runner.specs.declared.pause.Pause.TheVariants.{Waits, Memory}
 use Rattle.c_runner.specs.declared.report.Ending.{Ending}
+use Rattle.c_runner.specs.declared.report.Ending.TheVariants as ending
 use Rattle.c_runner.specs.declared.state.Frame.{Frame}
 use Rattle.c_runner.specs.declared.table.Callee.{Callee}
 use Rattle.c_runner.specs.declared.table.Callee.TheVariants as callee
 use Rattle.c_runner.specs.declared.table.Target.{Target}
 use Rattle.c_runner.specs.declared.state.State.{State}
-use Rattle.c_runner.specs.States.{Rest, state_of, with_target, Follows}
+use Rattle.c_runner.specs.States.{Rest, frame_of, state_of, with_target, Follows, Leads}
 use Rattle.c_runner.specs.Targets.{callee_among, callee_of, target_of}
 use Rattle.cell_heap.specs.declared.key.Key.{Key}
 use Rattle.cell_heap.specs.declared.word.Word.{Word}
@@ -44,7 +46,7 @@ use Rattle.cell_heap.specs.declared.word.Word.TheVariants as heap
 use Rattle.cell_heap.specs.Contents as contents
 use Rattle.cell_heap.specs.Contents.{number_of}
 use Rattle.c_runner.specs.Waiting.{Steps}
-use Rattle.c_runner.specs.Parts.{written, callee_called, is_there}
+use Rattle.c_runner.specs.Parts.{written, callee_called, plain_step, quiet_step, is_there}
 use Rattle.c_runner.proofs.FrameLemmas.{there, target_set}
 
 module _ (rest : Rest) (old : State) where
@@ -98,17 +100,20 @@ module _ (rest : Rest) (old : State) where
       ∙ ap (λ cells. Goes (next_line (record s { cells = cells; output = s.output ++ text }))) (release-nothing refs_in s.cells)
       ∙ ap (λ out. Goes (next_line (record s { output = out }))) (append_assoc rest.handed old.output text ∙ ap (λ t. rest.handed ++ t) (sym h))
 
--- a cell is made, which the frame owns and the target refers to
-pub cell_made : (rest : Rest) (old : State) (target : Option ℕ) (content : machine.Content) (key : Key) (number : ℕ) (cells : Cells machine.Content) (ledger : List ℕ) (top : Frame) → number ≡ number_of key → number_of key ≡ length old.cells → cells ≡ make content old.cells → ledger ≡ more number old.top.ledger → top ≡ with_target target (heap.Cell key) (record old.top { ledger = ledger }) → applied true (state_of rest old) target old.top.ledger [] (Makes content) ≡ Goes (state_of rest (record old { cells = cells; top = record top { place = top.place + 1 } }))
+-- a cell is made, which the frame owns and the target refers to; where it is an object it is noted
+pub cell_made : (rest : Rest) (old : State) (target : Option ℕ) (content : machine.Content) (key : Key) (number : ℕ) (cells : Cells machine.Content) (ledger : List ℕ) (top : Frame) → number ≡ number_of key → number_of key ≡ length old.cells → cells ≡ make content old.cells → ledger ≡ more number old.top.ledger → top ≡ with_target target (heap.Cell key) (record old.top { ledger = ledger }) → applied true (state_of rest old) target old.top.ledger [] (Makes content) ≡ Goes (state_of (record rest { made = noted content (length old.cells) rest.made }) (record old { cells = cells; top = record top { place = top.place + 1 } }))
 cell_made rest old None content key number cells ledger top n k c l t =
-    sym (ap (λ f. Goes (state_of rest (record old { cells = cells; top = record f { place = f.place + 1 } }))) t ∙ ap (λ h. Goes (state_of rest (record old { cells = h; top = record old.top { place = old.top.place + 1; ledger = ledger } }))) c ∙ ap (λ d. Goes (state_of rest (record old { cells = make content old.cells; top = record old.top { place = old.top.place + 1; ledger = d } }))) (l ∙ ap (λ m. more m old.top.ledger) (n ∙ k)))
+    let after : State → Next = λ r. Goes (state_of (record rest { made = noted content (length old.cells) rest.made }) r) in
+    sym (ap (λ f. after (record old { cells = cells; top = record f { place = f.place + 1 } })) t ∙ ap (λ h. after (record old { cells = h; top = record old.top { place = old.top.place + 1; ledger = ledger } })) c ∙ ap (λ d. after (record old { cells = make content old.cells; top = record old.top { place = old.top.place + 1; ledger = d } })) (l ∙ ap (λ m. more m old.top.ledger) (n ∙ k)))
 cell_made rest old (Some x) content key number cells ledger top n k c l t =
     let made : State = record old { cells = make content old.cells; top = record old.top { ledger = more (length old.cells) old.top.ledger } } in
-    ap (λ m. Goes (next_line (with_var x (machine.ObjectCell m) (state_of rest made)))) (sym k)
-    ∙ ap Goes (set_is rest made x (heap.Cell key))
-    ∙ sym (ap (λ f. Goes (state_of rest (record old { cells = cells; top = record f { place = f.place + 1 } }))) t
-    ∙ ap (λ h. Goes (state_of rest (record old { cells = h; top = record old.top { place = old.top.place + 1; ledger = ledger; vars = slice_set old.top.vars x (heap.Cell key) } }))) c
-    ∙ ap (λ d. Goes (state_of rest (record old { cells = make content old.cells; top = record old.top { place = old.top.place + 1; ledger = d; vars = slice_set old.top.vars x (heap.Cell key) } }))) (l ∙ ap (λ m. more m old.top.ledger) (n ∙ k)))
+    let later : Rest = record rest { made = noted content (length old.cells) rest.made } in
+    let after : State → Next = λ r. Goes (state_of later r) in
+    ap (λ m. Goes (next_line (with_var x (machine.ObjectCell m) (state_of later made)))) (sym k)
+    ∙ ap Goes (set_is later made x (heap.Cell key))
+    ∙ sym (ap (λ f. after (record old { cells = cells; top = record f { place = f.place + 1 } })) t
+    ∙ ap (λ h. after (record old { cells = h; top = record old.top { place = old.top.place + 1; ledger = ledger; vars = slice_set old.top.vars x (heap.Cell key) } })) c
+    ∙ ap (λ d. after (record old { cells = make content old.cells; top = record old.top { place = old.top.place + 1; ledger = d; vars = slice_set old.top.vars x (heap.Cell key) } })) (l ∙ ap (λ m. more m old.top.ledger) (n ∙ k)))
 
 -- ---- the arguments of a write
 call_is : (code : Code) (s : MachineState) (target : Option ℕ) (args : List CArg) (x : ℕ) (alone : Bool) → slice_get args 0 ≡ Some (arg.Var x) → alone ≡ eqb (length args) 1 → primitive_step true s code target args (Io Write) ≡ written code target x alone s
@@ -122,15 +127,57 @@ call_is code s target (a ∷ b ∷ more) x alone e is =
     let no : alone ≡ false = is ∙ grind (arith, nat_tests) in
     ap (λ d. primitive_step true s code target (d ∷ b ∷ more) (Io Write)) first ∙ ap (λ d. written code target x d s) (sym no)
 
-pub call_writes : (target : Option ℕ) (args : List CArg) (x : ℕ) (alone : Bool) (p : IoPrim) (old new : State) (ending : Option Ending) → p ≡ Write → slice_get args 0 ≡ Some (arg.Var x) → alone ≡ eqb (length args) 1 → ((code : Code) (t : Option ℕ) → Follows (written code t x alone) ending old new) → (code : Code) → Follows (λ s. primitive_step true s code target args (Io p)) ending old new
-call_writes target args x alone p old new ending e f g h =
-    λ code rest. ap (λ q. primitive_step true (state_of rest old) code target args (Io q)) e ∙ call_is code (state_of rest old) target args x alone f g ∙ h code target rest
+pub call_writes : {E : Type 0} (args : List CArg) (x : ℕ) (alone : Bool) (old new : State) (r : Result (Option Ending) E) → slice_get args 0 ≡ Some (arg.Var x) → alone ≡ eqb (length args) 1 → IfOk r (λ ending. (code : Code) (target : Option ℕ) → Follows (written code target x alone) ending old new) → IfOk r (λ ending. (code : Code) (target : Option ℕ) → Follows (λ s. primitive_step true s code target args (Io Write)) ending old new)
+call_writes args x alone old new (Ok ending) f g h = λ code target rest. call_is code (state_of rest old) target args x alone f g ∙ h code target rest
+call_writes args x alone old new (Err e) f g h = tt
 
--- ---- a step that is another one
+-- a line is asked for with no argument
+pub input_crowded : (code : Code) (target : Option ℕ) (args : List CArg) (old : State) → eqb (length args) 0 ≡ false → Leads (λ s. primitive_step true s code target args (Io Input)) (Some (ending.Fault fault.Kind)) old old
+input_crowded code target [] old e = absurd (cc)
+input_crowded code target (a ∷ args) old e = λ rest. (rest.made, refl)
+
+-- ---- a step that makes no object, and a step that is another one
+pub quiet : (does to : MachineState → Next) (ending : Option Ending) (old new : State) → ((rest : Rest) → to (state_of rest old) ≡ does (state_of rest old)) → Follows does ending old new → Leads to ending old new
+quiet does to ending old new e h = λ rest. (rest.made, e rest ∙ h rest)
+
+pub leads_as : (does to : MachineState → Next) (ending : Option Ending) (old new : State) → ((rest : Rest) → to (state_of rest old) ≡ does (state_of rest old)) → Leads does ending old new → Leads to ending old new
+leads_as does to ending old new e h = λ rest. let led = h rest in (led.0, e rest ∙ led.1)
+
 pub steps_as : (does to : MachineState → Next) (old new : State) (r : Result (Option Ending) Pause) → ((rest : Rest) → to (state_of rest old) ≡ does (state_of rest old)) → Steps does r old new → Steps to r old new
-steps_as does to old new (Ok ending) e h = λ rest. e rest ∙ h rest
+steps_as does to old new (Ok ending) e h = leads_as does to ending old new e h
 steps_as does to old new (Err (Waits target)) e h = record { same = h.same; place = h.place; leads = λ rest. e rest ∙ h.leads rest }
 steps_as does to old new (Err Memory) e h = tt
+
+-- whether a primitive may be called now
+module _ (code : Code) (target : Option ℕ) (args : List CArg) (p : Primitive) (old : State) (b : Bool) (may : (rest : Rest) (go : Next) → if_may_stand true (state_of rest old) (row_of p).while_pending go ≡ cond b go (faulted true (state_of rest old) fault.Kind)) where
+  stands_so : (rest : Rest) → called true (state_of rest old) code target args p ≡ cond b (primitive_step true (state_of rest old) code target args p) (faulted true (state_of rest old) fault.Kind)
+  stands_so rest = may rest (primitive_step true (state_of rest old) code target args p)
+
+  pub may_not_stand : b ≡ false → Leads (λ s. called true s code target args p) (Some (ending.Fault fault.Kind)) old old
+  may_not_stand is = λ rest. (rest.made, stands_so rest ∙ ap (λ d. cond d (primitive_step true (state_of rest old) code target args p) (faulted true (state_of rest old) fault.Kind)) is)
+
+  pub may_stand : (new : State) (r : Result (Option Ending) Pause) → b ≡ true → Steps (λ s. primitive_step true s code target args p) r old new → Steps (λ s. called true s code target args p) r old new
+  may_stand new r is h =
+      steps_as (λ s. primitive_step true s code target args p) (λ s. called true s code target args p) old new r
+      (λ rest. stands_so rest ∙ ap (λ d. cond d (primitive_step true (state_of rest old) code target args p) (faulted true (state_of rest old) fault.Kind)) is) h
+
+-- lines that call nothing, and primitives that make no object and ask for no line
+pub is_plain : (code : Code) (s : MachineState) (line : Line) → ((x : Option ℕ) (name : List ℕ) (args : List CArg) → line ≡ Call x name args → ⊥) → step.step_at true code s (Some line) ≡ plain_step code s line
+is_plain code s (Call x name args) other = absurd (other x name args refl)
+is_plain code s _ other = refl
+
+pub is_quiet : (code : Code) (s : MachineState) (target : Option ℕ) (args : List CArg) (p : Primitive) → ((o : ListPrim) → p ≡ OfList o → ⊥) → ((o : IoPrim) → p ≡ Io o → ⊥) → primitive_step true s code target args p ≡ quiet_step code target args p s
+is_quiet code s target args (OfList o) no_list no_io = absurd (no_list o refl)
+is_quiet code s target args (Io o) no_list no_io = absurd (no_io o refl)
+is_quiet code s target args _ no_list no_io = refl
+
+-- the line that comes next
+pub no_line : (code : Code) (old : State) → line_at code (frame_of old.top) ≡ None → Leads (step.step code) (Some (ending.Fault fault.Kind)) old old
+no_line code old e = λ rest. (rest.made, ap (step.step_at true code (state_of rest old)) e)
+
+pub one_line : (code : Code) (old new : State) (line : Line) (r : Result (Option Ending) Pause) → line_at code (frame_of old.top) ≡ Some line → Steps (λ s. step.step_at true code s (Some line)) r old new → Steps (step.step code) r old new
+one_line code old new line r e h =
+    steps_as (λ s. step.step_at true code s (Some line)) (step.step code) old new r (λ rest. ap (step.step_at true code (state_of rest old)) e) h
 
 -- ---- a line that calls
 module _ (rest : Rest) (old : State) (code : Code) (x : Option ℕ) (name : List ℕ) (args : List CArg) where

@@ -10,12 +10,13 @@ use Rattle.c_core.specs.declared.fault.Fault.{Fault}
 use Rattle.c_core.specs.declared.fault.Fault.TheVariants as fault
 use Rattle.c_core.specs.declared.primitive.Primitive.{Primitive}
 use Rattle.c_core.specs.Arguments.{stolen}
+use Rattle.c_core.specs.Cells.{refill}
 use Rattle.c_core.specs.Functions.{function_named}
 use Rattle.c_core.specs.Ledgers.{Ledger, more_of}
 use Rattle.c_core.specs.Laws.{Reaches, Here, There}
 use Rattle.c_core.specs.Machine.{Word, BigInt, ObjectCell, Content, StrCell, Frame, MachineState, refs_of, set_refs}
 use Rattle.c_core.specs.Primitives.{row_of, primitive_named}
-use Rattle.c_core.specs.Step.{Next, Goes, Ends, Faulted, Effect, Wrong, Says, Shares, Makes, Writes, Stores, Fails, Pends, Catches, MakesInt, Reads, Skips, Stops, with_items, shared, raise, own, effect, with_ledger, with_target, next_line, literal_word, equals_error, kind_of, label_at, applied, given, made_cell, made_int, call_step, turned, if_return, if_result, if_none_left, step_at, line_at, step}
+use Rattle.c_core.specs.Step.{Next, Goes, Ends, Faulted, Effect, Wrong, Says, Shares, Makes, Changes, Writes, Stores, Fails, Pends, Catches, MakesInt, Reads, Skips, Stops, with_cells, with_items, shared, raise, own, effect, with_ledger, with_target, next_line, literal_word, equals_error, kind_of, label_at, applied, given, made_cell, made_int, call_step, turned, if_return, if_result, if_none_left, step_at, line_at, step}
 use Rattle.c_core.specs.Run.{Stop, go_on}
 use Rattle.c_core.proofs.StepCases.{at_some, at_calm, at_word, at_there, at_called, at_function, at_jumped, at_chosen, at_incremented, at_decremented, at_decremented_if_set, at_order, at_ended, at_result}
 
@@ -60,8 +61,10 @@ module _ (s : MachineState) where
   applied_on : (x : Option ℕ) (l : Ledger) (gone : List ℕ) (e : Effect) → To (applied true s x l gone e)
   applied_on x l gone Wrong = refl
   applied_on x l gone (Says w) = answered_on x w (given true s gone (with_ledger l s)) refl
-  applied_on x l gone (Shares w) = answered_on x w (shared w (with_ledger l s)) (shared_output w (with_ledger l s))
+  applied_on x l gone (Shares w) = answered_on x w (given true s gone (shared w (with_ledger l s))) (shared_output w (with_ledger l s))
   applied_on x l gone (Makes content) = made_on x content (with_ledger l s) refl
+  applied_on x l gone (Changes c content w up) =
+      answered_on x w (given true s up (with_cells (refill content c s.cells) (with_ledger (more_of (refs_of w) l) s))) refl
   applied_on x l gone (Writes text) = record { more = text; grown = refl }
   applied_on x l gone (Stores n old new) =
       same (next_line (given true s (set_refs (old ∷ [])) (record (with_ledger l s) { globals = slice_set s.globals n new }))) refl
@@ -88,7 +91,7 @@ module _ (s : MachineState) where
 
   call_on : (code : Code) (x : Option ℕ) (name : List ℕ) (args : List CArg) (o : Option Primitive) → To (call_step true s code x name args o)
   call_on code x name args (Some p) =
-      at_called true s To bad code x args p (λ calm all l left. applied_on x l (stolen (row_of p).parameters all) (effect code s p all))
+      at_called true s To bad code x args p (λ calm all l left there. applied_on x l (stolen (row_of p).parameters all) (effect code s p all))
   call_on code x name args None =
       at_function true s To bad code x args (function_named code.funcs name) (λ f g e is ws. record { more = []; grown = sym (append-nil s.output) })
 

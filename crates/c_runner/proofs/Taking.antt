@@ -166,8 +166,9 @@ module _ (out_tells : Bool) (sink sink' : List ℕ) (Untouched : Type 0) (in_tel
       used = used_on moves.usual;
       goes = λ future e s.
           let running = was moves.taken future e moves.ended moves.quiet s in
+          let leads = moves.leads future e s running.handed running.made in
           stepped out_tells sink sink' code turns (input_items ((going.read ++ moves.taken) ++ future) e) left any Untouched state (items_left reader (moves.taken ++ future) e) running
-          sink'' Still StillUntouched both moves.kept moves.hands new (items_left reader' future e) any' is more (moves.leads future e s running.handed);
+          sink'' Still StillUntouched both moves.kept moves.hands new (items_left reader' future e) leads.0 any' is more leads.1;
     }
       where
         used_on : (None ≡ Some Over) ⊎ UsesLines reader reader' moves.taken → Used reader' (going.read ++ moves.taken)
@@ -183,8 +184,9 @@ module _ (out_tells : Bool) (sink sink' : List ℕ) (Untouched : Type 0) (in_tel
           let f = told in_tells after in
           let s = suits_told in_tells after reader' read'.seen in
           let running = was moves.taken f AtEof moves.ended moves.quiet s in
+          let leads = moves.leads f AtEof s running.handed running.made in
           stopped out_tells sink sink' code turns (input_items ((going.read ++ moves.taken) ++ f) AtEof) left any Untouched state (items_left reader (moves.taken ++ f) AtEof) running
-          sink'' Still StillUntouched both moves.kept moves.hands new (items_left reader' f AtEof) any' is more ending (moves.leads f AtEof s running.handed) stop run;
+          sink'' Still StillUntouched both moves.kept moves.hands new (items_left reader' f AtEof) leads.0 any' is more ending leads.1 stop run;
     }
       where
         read' : Read in_tells before after reader' (going.read ++ moves.taken)
@@ -297,7 +299,7 @@ module _ (in_tells : Bool) (faults faults' : ℕ) (left : List ℕ) (code : Code
           let run = exists code formed turns items in
           let before = going.goes taken AtFailure (λ r. let no = unended reader breaks.unready in absurd (cc)) in
           let running = subst (Running out_tells sink sink' code turns items steps_left any Untouched state) breaks.takes.outcome before in
-          let stop_is = last_step out_tells sink sink' code turns items steps_left any Untouched state Broken running (Ended source.Broken) _ more (breaks.stops running.handed) run.0 run.1 in
+          let stop_is = last_step out_tells sink sink' code turns items steps_left any Untouched state Broken running (Ended source.Broken) _ more (breaks.stops running.handed running.made) run.0 run.1 in
           let output_is : run.0.state.output ≡ running.handed ++ state.output = ap (λ s. s.state.output) stop_is in (
             items,
             given_failed in_tells faults faults' left after (going.read ++ taken) risen

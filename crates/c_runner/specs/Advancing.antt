@@ -70,7 +70,8 @@ pub record UsesLines (reader reader' : ReaderState) (taken : List ℕ) : Type 0 
   pub counted : (future : List ℕ) (e : InputEnd) → Suits reader' future e → line_count (items_left reader (taken ++ future) e) ≡ lines + line_count (items_left reader' future e)
   pub quiet : lines ≡ 0 → taken ≡ []
 
--- A step leads from the old state to the new one, whatever follows the bytes that were taken, and whatever was handed on before
+-- A step leads from the old state to the new one, whatever follows the bytes that were taken, whatever was handed on before, and whatever
+-- objects were made; it may make one
 pub record Moves (does : MachineState → Next) (old new : State) (reader reader' : ReaderState) (out_tells : Bool) (sink sink' : List ℕ) (Untouched : Type 0) (in_tells : Bool) (left left' : List ℕ) (ending : Option Ending) : Type 0 where
   pub kept : List ℕ
   pub hands : HandsOn out_tells sink sink' old.output kept Untouched
@@ -82,14 +83,14 @@ pub record Moves (does : MachineState → Next) (old new : State) (reader reader
   pub ended : IsTrue reader.ended → IsTrue reader'.ended
   pub quiet : IsTrue reader.ended → taken ≡ []
   pub usual : (ending ≡ Some Over) ⊎ UsesLines reader reader' taken
-  pub leads : (future : List ℕ) (e : InputEnd) → Suits reader' future e → (handed : List ℕ) → does (state_of (record { items = items_left reader (taken ++ future) e; handed = handed }) old) ≡ next_of ending (state_of (record { items = items_left reader' future e; handed = handed ++ hands.0 }) new)
+  pub leads : (future : List ℕ) (e : InputEnd) → Suits reader' future e → (handed made : List ℕ) → (later : List ℕ) × (does (state_of (record { items = items_left reader (taken ++ future) e; handed = handed; made = made }) old) ≡ next_of ending (state_of (record { items = items_left reader' future e; handed = handed ++ hands.0; made = later }) new))
 
 -- a read failed, all that was held was handed on before, and the machine stops there
 pub record BreaksOff (does : MachineState → Next) (old : State) (reader : ReaderState) (out_tells : Bool) (sink sink' : List ℕ) (Untouched : Type 0) (in_tells : Bool) (left left' : List ℕ) : Type 0 where
   pub hands : HandsAll out_tells sink sink' old.output Untouched
   pub takes : Takes reader in_tells left left' (Refuses Failed reader)
   pub unready : is_ready reader ≡ false
-  pub stops : (handed : List ℕ) → does (state_of (record { items = Broken; handed = handed }) old) ≡ Ends (Ended source.Broken) (state_of (record { items = Broken; handed = handed }) old)
+  pub stops : (handed made : List ℕ) → does (state_of (record { items = Broken; handed = handed; made = made }) old) ≡ Ends (Ended source.Broken) (state_of (record { items = Broken; handed = handed; made = made }) old)
 
 abbrev pub Advances : (MachineState → Next) → State → State → ReaderState → ReaderState → Bool → List ℕ → List ℕ → Type 0 → Bool → List ℕ → List ℕ → Result (Option Ending) RunError → Type 0
 Advances does old new reader reader' out_tells sink sink' Untouched in_tells left left' (Ok ending) =

@@ -1,26 +1,31 @@
--- What the primitives on `int`s and texts find in their arguments, and what they do.
-use Rattle.std.specs.Prelude.{ℕ, ℤ, pos, true, not, cond, int_lt, nat_lt, ◌&&◌, List, [], ◌++◌, length, Option, Some, None, Result, Ok, Err, slice_get}
+-- What the primitives on `int`s, texts and objects find in their arguments, and what they do.
+use Rattle.std.specs.Prelude.{ℕ, ℤ, pos, Bool, true, false, not, cond, int_lt, nat_lt, ◌&&◌, ◌==◌, List, [], ◌++◌, length, Option, Some, None, Result, Ok, Err, slice_get}
 use Rattle.std.specs.Fmt.{signed_decimal}
 use Rattle.std.specs.Ordering.{int_eq}
 use Rattle.std.specs.Str.{bytes_eq}
 use Rattle.std.specs.Str.Parse.{signed_digits_value}
 use Rattle.value_core.specs.declared.arith.Arith.{Arith}
 use Rattle.value_core.specs.Arithmetic.{lies_within, is_short, int_add, int_sub, int_mul, int_neg, int_floor_div, int_modulo, int_shl, int_shr, int_to_i64}
+use Rattle.value_core.specs.Characters.{place_of}
 use Rattle.value_core.specs.Exceptions.{thrown}
 use Rattle.c_core.specs.declared.code.CArg.{CArg}
-use Rattle.c_core.specs.declared.code.CArg.TheVariants as arg
 use Rattle.c_core.specs.declared.fault.Fault.{Fault}
 use Rattle.c_core.specs.declared.fault.Fault.TheVariants as fault
 use Rattle.c_core.specs.declared.primitive.TaggedPrim.{TaggedPrim}
 use Rattle.c_core.specs.declared.primitive.TaggedPrim.TheVariants as tagged
+use Rattle.c_core.specs.declared.primitive.BoolPrim.{BoolPrim}
+use Rattle.c_core.specs.declared.primitive.BoolPrim.TheVariants as bool
+use Rattle.c_core.specs.declared.primitive.ObjectPrim.{ObjectPrim}
+use Rattle.c_core.specs.declared.primitive.ObjectPrim.TheVariants as object
 use Rattle.c_core.specs.declared.primitive.StrPrim.{StrPrim}
 use Rattle.c_core.specs.declared.primitive.StrPrim.TheVariants as str
 use Rattle.c_core.specs.Cells.{Cells, content_at}
-use Rattle.c_core.specs.Machine.{Word, ShortInt, BigInt, ObjectCell, Content, IntCell, StrCell, MachineState}
-use Rattle.c_core.specs.Step.{Next, Ends, Faulted, Effect, Says, Makes, MakesInt, Fails, applied, truth_word, tagged_effect, tagged_or, fitted, item_or}
-use Rattle.c_core.specs.Strings.{text_less, text_length, text_item}
+use Rattle.c_core.specs.Machine.{Word, ShortInt, BigInt, CharWord, ObjectCell, NoneObject, TrueObject, FalseObject, Content, IntCell, StrCell, MachineState}
+use Rattle.c_core.specs.Step.{Next, Ends, Faulted, Effect, Wrong, Says, Shares, Makes, MakesInt, Fails, applied, truth_word, truth_object, truth_text, tagged_effect, tagged_or, fitted, native_in, unboxed, item_at, part_at, item_or}
+use Rattle.c_core.specs.Strings.{counted_length, text_less, text_length, text_item}
 use Rattle.c_runner.specs.declared.deed.Deed.{Deed}
 use Rattle.c_runner.specs.declared.deed.Deed.TheVariants as deed
+use Rattle.c_runner.specs.Objects.{word_at, boxed_at, list_at, tuple_at, any_at, written_number}
 use Rattle.c_runner.specs.Parts.{one_native, one_char, only_text}
 use Rattle.cell_heap.specs.Contents as contents
 
@@ -45,11 +50,6 @@ text_held (Some _) = Err fault.Kind
 abbrev pub text_of : Cells Content → Option Word → Result (List ℕ) Fault
 text_of cells (Some (ObjectCell c)) = text_held (content_at cells c)
 text_of cells _ = Err fault.Kind
-
--- the word of an argument, where these are the variables
-abbrev pub word_at : List Word → Option CArg → Option Word
-word_at vars (Some (arg.Var x)) = slice_get vars x
-word_at vars _ = None
 
 abbrev pub int_at : Cells Content → List Word → Option CArg → Result ℤ Fault
 int_at cells vars a = int_of cells (word_at vars a)
@@ -82,12 +82,35 @@ two_texts cells vars args = paired (text_at cells vars (slice_get args 0)) (text
 abbrev pub text_and_int : Cells Content → List Word → List CArg → Result (List ℕ × ℤ) Fault
 text_and_int cells vars args = paired (text_at cells vars (slice_get args 0)) (int_at cells vars (slice_get args 1)) (length args)
 
+-- a number in a cell, a list, a tuple, and any object
+abbrev pub one_boxed : Cells Content → List Word → List CArg → Result (ℕ × ℤ) Fault
+one_boxed cells vars args = alone (boxed_at cells vars (slice_get args 0)) (length args)
+
+abbrev pub one_list : Cells Content → List Word → List CArg → Result (ℕ × List Word) Fault
+one_list cells vars args = alone (list_at cells vars (slice_get args 0)) (length args)
+
+abbrev pub one_tuple : Cells Content → List Word → List CArg → Result (ℕ × List Word) Fault
+one_tuple cells vars args = alone (tuple_at cells vars (slice_get args 0)) (length args)
+
+abbrev pub one_object : Cells Content → List Word → List CArg → Result Word Fault
+one_object cells vars args = alone (any_at cells vars (slice_get args 0)) (length args)
+
+-- a list and an `int`, a tuple and a number that is written
+abbrev pub list_and_int : Cells Content → List Word → List CArg → Result ((ℕ × List Word) × ℤ) Fault
+list_and_int cells vars args = paired (list_at cells vars (slice_get args 0)) (int_at cells vars (slice_get args 1)) (length args)
+
+abbrev pub tuple_and_number : Cells Content → List Word → List CArg → Result ((ℕ × List Word) × ℤ) Fault
+tuple_and_number cells vars args = paired (tuple_at cells vars (slice_get args 0)) (written_number (slice_get args 1)) (length args)
+
 -- ---- what is done
 abbrev pub effect_of : Deed → Effect
 effect_of (deed.Says w) = Says (contents.word_of w)
+effect_of (deed.Shares w) = Shares (contents.word_of w)
 effect_of (deed.MakesInt n) = MakesInt n
+effect_of (deed.MakesNumber n) = Makes (IntCell n)
 effect_of (deed.MakesText text) = Makes (StrCell text)
 effect_of (deed.Fails w class text) = Fails (contents.word_of w) (thrown class text)
+effect_of deed.Wrong = Wrong
 
 -- what is done with what was found, if anything was
 abbrev pub then_done : {A : Type 0} → (A → Effect) → Result A Fault → Result Effect Fault
@@ -150,6 +173,7 @@ tagged_done tagged.FromBool cells vars args = done_or (λ n. tagged_effect (pos 
 tagged_done tagged.Negate cells vars args = then_tried (one_done tagged.Negate) (one_int cells vars args)
 tagged_done tagged.AsInt64 cells vars args = then_tried (one_done tagged.AsInt64) (one_int cells vars args)
 tagged_done tagged.Str cells vars args = then_tried (one_done tagged.Str) (one_int cells vars args)
+tagged_done tagged.Unbox cells vars args = then_done (λ q. unboxed q.0 q.1) (one_boxed cells vars args)
 tagged_done p cells vars args = then_tried (λ q. two_done p q.0 q.1) (two_ints cells vars args)
 
 -- ---- texts
@@ -167,3 +191,51 @@ str_done str.Literal cells vars args = done_or (λ text. Makes (StrCell text)) (
 str_done str.Len cells vars args = then_done (λ text. tagged_effect (text_length text)) (one_text cells vars args)
 str_done str.GetItem cells vars args = then_done (λ q. item_or (text_item q.0 q.1)) (text_and_int cells vars args)
 str_done p cells vars args = then_tried (λ q. texts_done p q.0 q.1) (two_texts cells vars args)
+
+-- ---- objects
+-- what is done with a native integer, and with the number in a cell, which is to fit
+abbrev pub box_done : List Word → List CArg → Result Effect Fault
+box_done vars args = done_or (λ n. Makes (IntCell n)) (one_native vars args)
+
+abbrev pub unbox_done : Cells Content → List Word → List CArg → Result Effect Fault
+unbox_done cells vars args = then_done (λ q. native_in (int_to_i64 q.1)) (one_boxed cells vars args)
+
+-- what a primitive on a truth does, and what is done with an object that is to be one
+abbrev pub truth_done : BoolPrim → ℕ → Effect
+truth_done bool.Not n = Says (truth_word (n == 0))
+truth_done bool.Str n = Makes (StrCell (truth_text n))
+truth_done bool.Box n = Says (truth_object n)
+truth_done bool.Unbox n = Wrong
+
+abbrev pub truth_in : Word → Effect
+truth_in TrueObject = Says (CharWord 1)
+truth_in FalseObject = Says (CharWord 0)
+truth_in _ = Wrong
+
+-- what a primitive on truths does
+abbrev pub bool_done : BoolPrim → Cells Content → List Word → List CArg → Result Effect Fault
+bool_done bool.Not cells vars args = done_or (truth_done bool.Not) (one_char vars args)
+bool_done bool.Str cells vars args = done_or (truth_done bool.Str) (one_char vars args)
+bool_done bool.Box cells vars args = done_or (truth_done bool.Box) (one_char vars args)
+bool_done bool.Unbox cells vars args = then_done truth_in (one_object cells vars args)
+
+-- what a primitive on any object does
+abbrev pub is_none_object : Word → Bool
+is_none_object NoneObject = true
+is_none_object _ = false
+
+abbrev pub object_done : ObjectPrim → Cells Content → List Word → List CArg → Result Effect Fault
+object_done object.IsNone cells vars args = then_done (λ w. Says (truth_word (is_none_object w))) (one_object cells vars args)
+
+-- the item of a list and its length, and the part of a tuple and how many it has
+abbrev pub list_item_done : Cells Content → List Word → List CArg → Result Effect Fault
+list_item_done cells vars args = then_done (λ q. item_at (place_of (length q.0.1) q.1) q.0.1) (list_and_int cells vars args)
+
+abbrev pub list_length_done : Cells Content → List Word → List CArg → Result Effect Fault
+list_length_done cells vars args = then_done (λ q. tagged_effect (pos (counted_length (length q.1)))) (one_list cells vars args)
+
+abbrev pub tuple_item_done : Cells Content → List Word → List CArg → Result Effect Fault
+tuple_item_done cells vars args = then_done (λ q. part_at q.0.1 q.1) (tuple_and_number cells vars args)
+
+abbrev pub tuple_length_done : Cells Content → List Word → List CArg → Result Effect Fault
+tuple_length_done cells vars args = then_done (λ q. tagged_effect (pos (counted_length (length q.1)))) (one_tuple cells vars args)

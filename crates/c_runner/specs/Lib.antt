@@ -8,5 +8,8 @@ pub mod States
 pub mod Parts
 pub mod Targets
 pub mod Deeds
+pub mod Objects
+pub mod Lists
+pub mod Tuples
 pub mod Waiting
 pub mod Advancing

@@ -8,9 +8,12 @@ use Rattle.c_core.specs.declared.code.CArg.{CArg}
 use Rattle.c_core.specs.declared.code.CArg.TheVariants as arg
 use Rattle.c_core.specs.declared.code.Code.{Code}
 use Rattle.c_core.specs.declared.code.Kind.{Kind}
+use Rattle.c_core.specs.declared.code.Line.{Line}
+use Rattle.c_core.specs.declared.code.Line.TheVariants as line
 use Rattle.c_core.specs.declared.code.Kind.TheVariants.{Int64, Object}
 use Rattle.c_core.specs.declared.fault.Fault.{Fault}
 use Rattle.c_core.specs.declared.fault.Fault.TheVariants as fault
+use Rattle.c_core.specs.declared.primitive.Primitive.{Primitive}
 use Rattle.c_core.specs.declared.primitive.Primitive.TheVariants as prim
 use Rattle.c_core.specs.declared.primitive.Int64Prim.{Int64Prim}
 use Rattle.c_core.specs.declared.primitive.Int64Prim.TheVariants as int64
@@ -26,7 +29,7 @@ use Rattle.c_core.specs.Machine as machine
 use Rattle.c_core.specs.Machine.{Word, BigInt, Native, CharWord, ObjectCell, Content, MachineState, refs_of}
 use Rattle.c_core.specs.Primitives.{OfGlobal, Anything, AText, AnException, Steals, row_of}
 use Rattle.c_core.specs.Step as machine_step
-use Rattle.c_core.specs.Step.{Next, Ends, Faulted, Effect, Says, Fails, if_variable, if_stolen, if_true, if_there, word_of, jumped, equals_error, truth_word, int64_exception, native_or, applied, effect, called, function_called, faulted, with_target, next_line}
+use Rattle.c_core.specs.Step.{Next, Ends, Faulted, Effect, Says, Fails, if_variable, if_stolen, if_true, if_there, word_of, jumped, equals_error, truth_word, int64_exception, native_or, applied, effect, called, primitive_step, function_called, step_at, faulted, with_target, next_line}
 use Rattle.c_runner.specs.declared.state.Frame.{Frame}
 use Rattle.c_runner.specs.declared.table.Callee.{Callee}
 use Rattle.c_runner.specs.declared.table.Callee.TheVariants as callee
@@ -38,6 +41,17 @@ use Rattle.cell_heap.specs.Contents as contents
 abbrev pub unless_fault : Option Fault → MachineState → Next → Next
 unless_fault None s next = next
 unless_fault (Some f) s next = Ends (Faulted f) s
+
+-- ---- lines
+-- what a line does that calls nothing, and a primitive that makes no object and asks for no line of the input
+abbrev pub plain_step : Code → MachineState → Line → Next
+plain_step code s (line.Call target name args) = faulted true s fault.Kind
+plain_step code s other = step_at true code s (Some other)
+
+abbrev pub quiet_step : Code → Option ℕ → List CArg → Primitive → MachineState → Next
+quiet_step code target args (prim.List operation) s = faulted true s fault.Kind
+quiet_step code target args (prim.Io operation) s = faulted true s fault.Kind
+quiet_step code target args p s = primitive_step true s code target args p
 
 -- ---- words
 -- whether the cell of a word is there, if the word has one

@@ -14,14 +14,16 @@ use Rattle.c_runner.specs.Report.{ending_of}
 use Rattle.cell_heap.specs.declared.word.Word.{Word}
 use Rattle.cell_heap.specs.Contents.{number_of, word_of}
 
--- what a state of the machine has beside the runner's own: the lines of input, and the output that was handed on
+-- what a state of the machine has beside the runner's own: the lines of input, the output that was handed on, and the
+-- numbers of the cells that were made for objects, after which no step asks
 pub record Rest : Type 0 where
   pub items : Items
   pub handed : List ℕ
+  pub made : List ℕ
 
--- where a run begins nothing was handed on
+-- where a run begins nothing was handed on, and no object was made
 abbrev pub first_rest : Items → Rest
-first_rest items = record { items = items; handed = [] }
+first_rest items = record { items = items; handed = []; made = [] }
 
 abbrev pub frame_of : Frame → machine.Frame
 frame_of f = record { func = f.func; place = f.place; vars = map word_of f.vars; ledger = f.ledger; into = f.into }
@@ -34,7 +36,6 @@ waiting frames = reverse (map frame_of frames)
 abbrev pub held_of : Option Word → Option machine.Word
 held_of = option_map word_of
 
--- no list, dict or instance was made
 abbrev pub state_of : Rest → State → MachineState
 state_of rest r = record {
   cells = r.cells;
@@ -45,7 +46,7 @@ state_of rest r = record {
   output = rest.handed ++ r.output;
   items = rest.items;
   turns = r.turns;
-  made = [];
+  made = rest.made;
 }
 
 -- a frame with its target written, if there is one
@@ -61,6 +62,11 @@ next_of (Some e) s = Ends (ending_of e) s
 -- what the machine does leads from the runner's old state to its new one
 abbrev pub Follows : (MachineState → Next) → Option Ending → State → State → Type 0
 Follows does ending old new = (rest : Rest) → does (state_of rest old) ≡ next_of ending (state_of rest new)
+
+-- the same where an object may be made
+abbrev pub Leads : (MachineState → Next) → Option Ending → State → State → Type 0
+Leads does ending old new =
+    (rest : Rest) → (made : List ℕ) × (does (state_of rest old) ≡ next_of ending (state_of (record rest { made = made }) new))
 
 -- neither the number of cells that were made, nor a count of a cell, nor a number of references that frames own is so great
 -- that the runner could not count one more

@@ -10,7 +10,7 @@ use Rattle.c_runner.specs.declared.pause.Pause.{Pause}
 use Rattle.c_runner.specs.declared.pause.Pause.TheVariants.{Memory, Waits}
 use Rattle.c_runner.specs.declared.report.Ending.{Ending}
 use Rattle.c_runner.specs.declared.state.State.{State}
-use Rattle.c_runner.specs.States.{Rest, state_of, next_of, Follows}
+use Rattle.c_runner.specs.States.{Rest, state_of, next_of, Leads}
 
 -- the machine reads the next line of input, whose text goes to a variable, if it goes to one
 abbrev pub input_step : Option ℕ → MachineState → Next
@@ -24,7 +24,7 @@ pub record Asks (does : MachineState → Next) (target : Option ℕ) (old new : 
 
 -- what a step answers; without memory nothing is said
 abbrev pub Steps : (MachineState → Next) → Result (Option Ending) Pause → State → State → Type 0
-Steps does (Ok ending) old new = Follows does ending old new
+Steps does (Ok ending) old new = Leads does ending old new
 Steps does (Err (Waits target)) old new = Asks does target old new
 Steps does (Err Memory) old new = ⊤
 

@@ -1,14 +1,16 @@
 //! Calls of primitives. Which arguments a primitive takes and what it does are its row and its effect in the machine.
-ghost use Rattle.std.specs.Prelude.{◌≡◌, ℕ, ◌+◌, ◌^◌, ◌<◌, true, cond, [], Option, IfOk, map};
+ghost use Rattle.std.specs.Prelude.{◌≡◌, ℕ, ◌+◌, ◌^◌, ◌<◌, true, cond, [], length, Option, IfOk, map};
 ghost use Rattle.std.specs.Option.{option_map};
 ghost use Rattle.value_core.specs.Exceptions.{thrown};
 ghost use Rattle.c_core.specs.declared.code.Code as machine_code;
 ghost use Rattle.c_core.specs.declared.fault.Fault.TheVariants as fault;
+ghost use Rattle.c_core.specs.declared.primitive.IoPrim.TheVariants as io;
 ghost use Rattle.c_core.specs.declared.primitive.Primitive.TheVariants as prim;
+ghost use Rattle.c_core.specs.Machine.{noted};
 ghost use Rattle.c_core.specs.Primitives.{row_of};
-ghost use Rattle.c_core.specs.Step.{Next, Goes, Makes, Fails, with_target, next_line, if_some, if_may_stand, faulted, applied, primitive_step, called, truth_text};
-ghost use Rattle.c_runner.specs.Parts.{written, one_char};
-ghost use Rattle.c_runner.specs.States.{Rest, Follows, IsSmall, state_of};
+ghost use Rattle.c_core.specs.Step.{Next, Goes, Makes, Fails, with_target, next_line, if_some, if_may_stand, faulted, applied, primitive_step, called};
+ghost use Rattle.c_runner.specs.Parts.{written, one_char, quiet_step};
+ghost use Rattle.c_runner.specs.States.{Rest, Follows, IsSmall, state_of, next_of};
 ghost use Rattle.c_runner.specs.Targets.{global_of};
 ghost use Rattle.c_runner.specs.Waiting.{Steps};
 ghost use Rattle.cell_heap.specs.Contents.{word_of, content_of};
@@ -16,8 +18,7 @@ ghost use Rattle.cell_heap.specs.Contents.{word_of, content_of};
 use crate::pause::Pause;
 use crate::report::Ending;
 use crate::state::State;
-use crate::words::truth;
-use c_core::{BoolPrim, CArg, Code, ErrPrim, Fault, IoPrim, Prim};
+use c_core::{CArg, Code, ErrPrim, Fault, IoPrim, Prim};
 use cell_heap::{Content, Word};
 use std::alloc::Global;
 use value_core::{ExcClass, Memory, Text};
@@ -73,16 +74,41 @@ impl State {
         ensures { Steps (λ s. primitive_step true s code.now target args.now primitive) result self.old self.new }
     {
         match primitive {
-            Prim::Int64(operation) => Ok(self.call_int64(alloc, operation, target, args)?),
-            Prim::Tagged(operation) => Ok(self.call_tagged(alloc, operation, target, args)?),
-            Prim::Bool(operation) => Ok(self.call_bool(alloc, operation, target, args)?),
-            Prim::Str(operation) => Ok(self.call_str(alloc, operation, target, args)?),
-            Prim::Global(operation) => {
-                Ok(self.call_global(alloc, code, operation, global, target, args)?)
-            }
-            Prim::Exc(operation) => Ok(self.call_exception(operation, target, args)?),
-            Prim::Err(operation) => Ok(self.call_error(alloc, operation, target, args)?),
+            Prim::List(operation) => Ok(self.call_list(alloc, operation, target, args)?),
             Prim::Io(operation) => self.call_io(operation, target, args),
+            _ => Ok(self.perform_quietly(alloc, code, primitive, global, target, args)?),
+        }
+    }
+
+    /// Does what a primitive does that may be called now, makes no object and asks for no line of the input.
+    fn perform_quietly(
+        &mut self,
+        alloc: Global,
+        code: &Code,
+        primitive: Prim,
+        global: Option<usize>,
+        target: Option<usize>,
+        args: &[CArg],
+    ) -> Result<Option<Ending>, Memory>
+        requires small { IsSmall self.old }
+        requires place { self.old.top.place + 1 < 2 ^ 64 }
+        requires global { global ≡ global_of code.now args.now }
+        ensures { IfOk result (λ ending. Follows
+            (quiet_step code.now target args.now primitive) ending self.old self.new) }
+    {
+        match primitive {
+            Prim::Int64(operation) => self.call_int64(alloc, operation, target, args),
+            Prim::Tagged(operation) => self.call_tagged(alloc, operation, target, args),
+            Prim::Bool(operation) => self.call_bool(alloc, operation, target, args),
+            Prim::Object(operation) => self.call_object(operation, target, args),
+            Prim::Str(operation) => self.call_str(alloc, operation, target, args),
+            Prim::Tuple(operation) => self.call_tuple(alloc, operation, target, args),
+            Prim::Global(operation) => {
+                self.call_global(alloc, code, operation, global, target, args)
+            }
+            Prim::Exc(operation) => self.call_exception(operation, target, args),
+            Prim::Err(operation) => self.call_error(alloc, operation, target, args),
+            Prim::List(_) | Prim::Io(_) => Ok(Some(Ending::Fault(Fault::Kind))),
         }
     }
 
@@ -98,36 +124,20 @@ impl State {
             (λ s. primitive_step true s code target args.now (prim.Io operation)) result self.old self.new }
     {
         match operation {
-            IoPrim::Write => match args.first() {
-                Some(CArg::Var(x)) => Ok(self.write(*x, args.len() == 1)?),
-                _ => Ok(Some(Ending::Fault(Fault::Kind))),
-            },
+            IoPrim::Write => Ok(self.call_write(args)?),
             IoPrim::Input => self.ask_for_line(target, args),
         }
     }
 
-    /// Calls a primitive on truths.
-    fn call_bool(
-        &mut self,
-        alloc: Global,
-        primitive: BoolPrim,
-        target: Option<usize>,
-        args: &[CArg],
-    ) -> Result<Option<Ending>, Memory>
-        requires small { IsSmall self.old }
+    /// Calls the primitive that writes.
+    fn call_write(&mut self, args: &[CArg]) -> Result<Option<Ending>, Memory>
         requires place { self.old.top.place + 1 < 2 ^ 64 }
-        ensures { IfOk result (λ ending. (code : machine_code.Code) → Follows
-            (λ s. primitive_step true s code target args.now (prim.Bool primitive)) ending self.old self.new) }
+        ensures { IfOk result (λ ending. (code : machine_code.Code) (target : Option ℕ) → Follows
+            (λ s. primitive_step true s code target args.now (prim.Io io.Write)) ending self.old self.new) }
     {
-        let Some(n) = self.one_char(args) else {
-            return Ok(Some(Ending::Fault(Fault::Kind)));
-        };
-        match primitive {
-            BoolPrim::Not => Ok(self.answer(target, Some(truth(n == 0)))),
-            BoolPrim::Str => {
-                let text = Text::from_str(alloc, truth_text(n))?;
-                self.make_cell(target, Content::Str(text))
-            }
+        match args.first() {
+            Some(CArg::Var(x)) => self.write(*x, args.len() == 1),
+            _ => Ok(Some(Ending::Fault(Fault::Kind))),
         }
     }
 
@@ -147,7 +157,7 @@ impl State {
         }
     }
 
-    /// Makes a cell, which the frame owns, and writes it to the target.
+    /// Makes a cell, which the frame owns, and writes it to the target. Of an object the machine notes the cell.
     pub fn make_cell(
         &mut self,
         target: Option<usize>,
@@ -155,8 +165,9 @@ impl State {
     ) -> Result<Option<Ending>, Memory>
         requires small { IsSmall self.old }
         requires place { self.old.top.place + 1 < 2 ^ 64 }
-        ensures { IfOk result (λ ending. Follows
-            (λ s. applied true s target s.top.ledger [] (Makes (content_of content))) ending self.old self.new) }
+        ensures { IfOk result (λ ending. (rest : Rest) →
+            applied true (state_of rest self.old) target self.old.top.ledger [] (Makes (content_of content))
+            ≡ next_of ending (state_of (record rest { made = noted (content_of content) (length self.old.cells) rest.made }) self.new)) }
     {
         let key = self.cells.make(content)?;
         self.top.ledger.add(key.serial())?;
@@ -174,6 +185,22 @@ impl State {
         text: Text,
     ) -> Result<Option<Ending>, Memory>
         requires small { IsSmall self.old }
+        requires place { self.old.top.place + 1 < 2 ^ 64 }
+        ensures { IfOk result (λ ending. Follows
+            (λ s. applied true s target s.top.ledger [] (Fails (word_of word) (thrown class text))) ending self.old self.new) }
+    {
+        self.fail_in_room(target, word, class, text)
+    }
+
+    /// The same where nothing else is known of the state than that one more cell can be made.
+    pub fn fail_in_room(
+        &mut self,
+        target: Option<usize>,
+        word: Word,
+        class: ExcClass,
+        text: Text,
+    ) -> Result<Option<Ending>, Memory>
+        requires room { length self.old.cells + 1 < 2 ^ 128 }
         requires place { self.old.top.place + 1 < 2 ^ 64 }
         ensures { IfOk result (λ ending. Follows
             (λ s. applied true s target s.top.ledger [] (Fails (word_of word) (thrown class text))) ending self.old self.new) }
@@ -233,11 +260,4 @@ fn stands_while_pending(primitive: Prim) -> bool
         Prim::Err(ErrPrim::Occurred | ErrPrim::Matches | ErrPrim::Catch) => true,
         _ => false,
     }
-}
-
-/// A truth as Python writes it.
-fn truth_text(n: u8) -> &'static str
-    ensures { result.now ≡ truth_text n }
-{
-    if n == 0 { "False" } else { "True" }
 }

@@ -1,6 +1,7 @@
-//! What the primitives on `int`s and texts do, once their arguments were found right.
+//! What primitives do, once their arguments were found right.
 ghost use Rattle.std.specs.Prelude.{◌+◌, ◌^◌, ◌<◌, true, [], IfOk};
-ghost use Rattle.c_core.specs.Step.{MakesInt, applied};
+ghost use Rattle.c_core.specs.Machine.{IntCell};
+ghost use Rattle.c_core.specs.Step.{Makes, MakesInt, applied};
 ghost use Rattle.c_runner.specs.Deeds.{done_by, performed};
 ghost use Rattle.c_runner.specs.States.{Follows, IsSmall};
 
@@ -15,12 +16,18 @@ use value_core::{ExcClass, Memory, Text};
 pub(crate) enum Deed {
     /// Answers a word without a cell.
     Says(Word),
+    /// Answers a word, and takes one reference more to its cell, if it has one.
+    Shares(Word),
     /// Answers an `int`, in a new cell.
     MakesInt(i128),
+    /// Answers an object, a number in a new cell.
+    MakesNumber(i128),
     /// Answers a text, in a new cell.
     MakesText(Text),
     /// Fails: it answers an error value, and an exception of a class and a text is pending.
     Fails(Word, ExcClass, Text),
+    /// Nothing: its arguments were wrong.
+    Wrong,
 }
 
 impl State {
@@ -37,9 +44,12 @@ impl State {
         match deed {
             Err(fault) => Ok(Some(Ending::Fault(fault))),
             Ok(Deed::Says(word)) => Ok(self.answer(target, Some(word))),
+            Ok(Deed::Shares(word)) => self.share(target, word),
             Ok(Deed::MakesInt(number)) => self.make_int(target, number),
+            Ok(Deed::MakesNumber(number)) => self.make_number(target, number),
             Ok(Deed::MakesText(text)) => self.make_cell(target, Content::Str(text)),
             Ok(Deed::Fails(word, class, text)) => self.fail(target, word, class, text),
+            Ok(Deed::Wrong) => Ok(Some(Ending::Fault(Fault::Kind))),
         }
     }
 
@@ -55,5 +65,19 @@ impl State {
         self.top.set_target(target, Word::Big(key));
         self.top.place += 1;
         Ok(None)
+    }
+
+    /// Makes a cell of a number, which the frame owns, and writes it as an object to the target.
+    pub fn make_number(
+        &mut self,
+        target: Option<usize>,
+        number: i128,
+    ) -> Result<Option<Ending>, Memory>
+        requires small { IsSmall self.old }
+        requires place { self.old.top.place + 1 < 2 ^ 64 }
+        ensures { IfOk result (λ ending. Follows
+            (λ s. applied true s target s.top.ledger [] (Makes (IntCell number))) ending self.old self.new) }
+    {
+        self.make_cell(target, Content::Int(number))
     }
 }

@@ -1,27 +1,24 @@
 //! Calls of primitives on globals. The number of the global that a call names was found before the run.
-ghost use Rattle.std.specs.Prelude.{◌≡◌, ℕ, ◌+◌, ◌^◌, ◌<◌, true, List, [], ◌∷◌, Option, Some, None, length, slice_set, IfOk};
+ghost use Rattle.std.specs.Prelude.{◌≡◌, ℕ, ◌+◌, ◌^◌, ◌<◌, true, [], ◌∷◌, Option, length, slice_set, IfOk};
 ghost use Rattle.c_core.specs.declared.primitive.Primitive.TheVariants as prim;
-ghost use Rattle.c_core.specs.Arguments.{Argument, kind_of_global, number_of_global, kind_found, word_in};
-ghost use Rattle.c_core.specs.Cells.{count_at};
-ghost use Rattle.c_core.specs.Ledgers.{Ledger};
-ghost use Rattle.c_core.specs.Machine.{refs_in, set_refs};
-ghost use Rattle.c_core.specs.Primitives.{OfGlobal, Anything, Steals};
-ghost use Rattle.c_core.specs.Release.{release};
+ghost use Rattle.c_core.specs.Arguments.{kind_of_global, number_of_global};
+ghost use Rattle.c_core.specs.Machine.{set_refs};
 ghost use Rattle.c_core.specs.Step as machine_step;
-ghost use Rattle.c_core.specs.Step.{Next, Shares, global_at, got, applied, primitive_step, next_line};
+ghost use Rattle.c_core.specs.Step.{Shares, global_at, got, applied, primitive_step, next_line};
 ghost use Rattle.c_core.specs.declared.code.CArg as machine_arg;
 ghost use Rattle.c_core.specs.declared.code.Code as machine_code;
 ghost use Rattle.c_core.specs.declared.primitive.GlobalPrim.TheVariants as global_prim;
-ghost use Rattle.c_runner.specs.Parts.{global_set, with_taken, argument_of, stolen_or};
+ghost use Rattle.c_runner.specs.Parts.{global_set};
 ghost use Rattle.c_runner.specs.States.{Rest, Follows, IsSmall, held_of, state_of};
 ghost use Rattle.c_runner.specs.Targets.{global_of};
 ghost use Rattle.cell_heap.specs.Contents.{word_of};
 
 use crate::report::Ending;
 use crate::state::State;
+use crate::stolen::{give_word, take_word};
 use crate::words::error_of;
-use c_core::{CArg, Code, Fault, GlobalPrim, Kind};
-use cell_heap::{Dead, Heap, Word};
+use c_core::{CArg, Code, Fault, GlobalPrim};
+use cell_heap::Word;
 use std::alloc::Global;
 use value_core::{ExcClass, Memory, Text};
 
@@ -95,7 +92,7 @@ impl State {
     }
 
     /// Writes a word to the target, and takes one reference more to its cell, if it has one.
-    fn share(&mut self, target: Option<usize>, word: Word) -> Result<Option<Ending>, Memory>
+    pub fn share(&mut self, target: Option<usize>, word: Word) -> Result<Option<Ending>, Memory>
         requires small { IsSmall self.old }
         requires place { self.old.top.place + 1 < 2 ^ 64 }
         ensures { IfOk result (λ ending. Follows
@@ -143,22 +140,6 @@ impl State {
         None
     }
 
-    /// The word that an argument gives to a global of a kind. The frame is to own its reference.
-    fn stolen_word(&self, kind: Kind, argument: &CArg) -> Result<Word, Fault>
-        ensures stolen { (rest : Rest) (code : machine_code.Code) (earlier : List Argument) (go : Argument → Ledger → Next) →
-            kind_found code OfGlobal earlier ≡ Some kind →
-            (let s = state_of rest self.now in
-            machine_step.if_argument true s code (Steals OfGlobal Anything) argument.now earlier s.top.ledger go
-            ≡ stolen_or result s go) }
-        ensures word { IfOk result (λ word. word_in kind (argument_of self.now.cells (word_of word)) ≡ Some (word_of word)) }
-    {
-        let word = self.passed(kind, argument)?;
-        if !self.top.owns(word) {
-            return Err(Fault::NotOwned);
-        }
-        Ok(word)
-    }
-
     /// Unsets a global.
     fn clear_global(&mut self, global: Option<usize>) -> Option<Ending>
         requires { self.old.top.place + 1 < 2 ^ 64 }
@@ -188,38 +169,6 @@ impl State {
         self.globals.set(number, word);
         give_word(&mut self.cells, held);
         self.top.place += 1;
-    }
-}
-
-/// Takes one reference more to the cell of a word, if it has one that is there.
-fn take_word(cells: &mut Heap, word: Word)
-    requires { (c : ℕ) → count_at cells.old c + 1 < 2 ^ 128 }
-    ensures { cells.new ≡ with_taken (word_of word) cells.old }
-{
-    match word {
-        Word::Big(key) | Word::Cell(key) => match cells.take(key) {
-            Ok(()) => {}
-            // Nothing happens to a cell that is gone.
-            Err(Dead) => {}
-        },
-        _ => {}
-    }
-}
-
-/// Gives the reference of a word up, if there is a word and it has a cell that is there.
-fn give_word(cells: &mut Heap, word: Option<Word>)
-    ensures { cells.new ≡ release refs_in cells.old (set_refs (held_of word ∷ [])) }
-{
-    let Some(word) = word else {
-        return;
-    };
-    match word {
-        Word::Big(key) | Word::Cell(key) => match cells.give(key) {
-            Ok(()) => {}
-            // Nothing happens to a cell that is gone.
-            Err(Dead) => {}
-        },
-        _ => {}
     }
 }
 

@@ -1,14 +1,18 @@
 //! Calls of primitives on native integers.
 ghost use Rattle.std.specs.Prelude.{◌≡◌, ℕ, ◌+◌, ◌^◌, ◌<◌, true, map, List, [], IfOk};
 ghost use Rattle.std.specs.Option.{option_map};
+ghost use Rattle.value_core.specs.Arithmetic.{int_to_i64};
 ghost use Rattle.c_core.specs.declared.code.Code as machine_code;
 ghost use Rattle.c_core.specs.declared.fault.Fault.TheVariants as fault;
 ghost use Rattle.c_core.specs.declared.primitive.Primitive.TheVariants as prim;
-ghost use Rattle.c_core.specs.Step.{if_some, applied, primitive_step, exception_past, native_or};
+ghost use Rattle.c_core.specs.Step.{if_some, applied, primitive_step, exception_past, native_or, native_in};
+ghost use Rattle.c_runner.specs.Deeds as deeds;
+ghost use Rattle.c_runner.specs.Deeds.{done_by, box_done, unbox_done};
 ghost use Rattle.c_runner.specs.Parts.{native_at, one_native, two_natives, effect_of, two_effect, int64_effect};
 ghost use Rattle.c_runner.specs.States.{Follows, IsSmall};
 ghost use Rattle.cell_heap.specs.Contents.{word_of};
 
+use crate::deed::Deed;
 use crate::report::Ending;
 use crate::state::State;
 use crate::words::truth;
@@ -18,7 +22,7 @@ use itoa::Buffer;
 use std::alloc::Global;
 use value_core::{
     Arith, ExcClass, Memory, Text, i64_add, i64_floor_div, i64_modulo, i64_mul, i64_neg, i64_shl,
-    i64_shr, i64_sub,
+    i64_shr, i64_sub, int_to_i64,
 };
 
 impl State {
@@ -43,10 +47,38 @@ impl State {
                     self.make_cell(target, Content::Str(text))
                 }
             },
+            Int64Prim::Box => {
+                let deed = self.box_native(args);
+                self.perform_deed(target, deed)
+            }
+            Int64Prim::Unbox => {
+                let deed = self.unbox_native(args);
+                self.perform_deed(target, deed)
+            }
             _ => {
                 let outcome = self.int64_outcome(primitive, args);
                 self.settle(alloc, target, outcome)
             }
+        }
+    }
+
+    /// Answers the one argument, a native integer, in a new cell.
+    fn box_native(&self, args: &[CArg]) -> Result<Deed, Fault>
+        ensures { done_by result ≡ box_done (map word_of self.now.top.vars) args.now }
+    {
+        match self.one_native(args) {
+            None => Err(Fault::Kind),
+            Some(n) => Ok(Deed::MakesNumber(i128::from(n))),
+        }
+    }
+
+    /// Answers the native integer that the one argument, a number in a cell, is.
+    fn unbox_native(&self, args: &[CArg]) -> Result<Deed, Fault>
+        ensures { done_by result ≡ unbox_done self.now.cells (map word_of self.now.top.vars) args.now }
+    {
+        match self.one_boxed(args) {
+            Err(fault) => Err(fault),
+            Ok((_, n)) => Ok(native_deed(n)),
         }
     }
 
@@ -148,7 +180,21 @@ fn two_outcome(primitive: Int64Prim, a: i64, b: i64) -> Option<Result<Word, Arit
         Int64Prim::Eq => Some(Ok(truth(a == b))),
         Int64Prim::Lt => Some(Ok(truth(a < b))),
         Int64Prim::Le => Some(Ok(truth(a <= b))),
-        Int64Prim::Negate | Int64Prim::FromBool | Int64Prim::Str => None,
+        Int64Prim::Negate
+        | Int64Prim::FromBool
+        | Int64Prim::Str
+        | Int64Prim::Box
+        | Int64Prim::Unbox => None,
+    }
+}
+
+/// Answers a number as a native integer, which it has to fit.
+fn native_deed(n: i128) -> Deed
+    ensures { deeds.effect_of result ≡ native_in (int_to_i64 n) }
+{
+    match int_to_i64(n) {
+        Ok(native) => Deed::Says(Word::I64(native)),
+        Err(_) => Deed::Wrong,
     }
 }
 

@@ -89,9 +89,16 @@ impl Ledger {
     pub fn owns(&self, c: u128) -> bool
         ensures { result ≡ nat_lt 0 (times self.now c) }
     {
+        self.owns_more_than(c, 0)
+    }
+
+    /// Whether there are more references to a cell than so many.
+    pub fn owns_more_than(&self, c: u128, n: usize) -> bool
+        ensures { result ≡ nat_lt n (times self.now c) }
+    {
         match &self.held {
-            Held::Once(first) => first.number() == c,
-            Held::Several(numbers) => numbers.owns(c),
+            Held::Once(first) => n == 0 && first.number() == c,
+            Held::Several(numbers) => numbers.owns_more_than(c, n),
         }
     }
 

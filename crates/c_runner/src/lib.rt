@@ -13,6 +13,8 @@
 //! a heap (`cell_heap`), its words and contents too.
 #![tactic(auto)]
 
+mod arguments;
+mod boxes;
 mod calls;
 mod counts;
 mod deed;
@@ -21,7 +23,9 @@ mod frames;
 mod globals;
 mod input;
 mod int64;
+mod items;
 mod ledger;
+mod lists;
 mod live;
 mod numbers;
 mod output;
@@ -32,9 +36,11 @@ mod report;
 mod runner;
 mod state;
 mod step;
+mod stolen;
 mod strings;
 mod table;
 mod tagged;
+mod tuples;
 mod wide;
 mod words;
 

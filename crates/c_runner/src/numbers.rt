@@ -67,13 +67,15 @@ impl Numbers {
         is_last
     }
 
-    /// Whether there is any reference to a cell.
-    pub fn owns(&self, c: u128) -> bool
-        ensures { result ≡ nat_lt 0 (times self.now c) }
+    /// Whether there are more references to a cell than so many.
+    pub fn owns_more_than(&self, c: u128, n: usize) -> bool
+        ensures { result ≡ nat_lt n (times self.now c) }
     {
+        // Its contract says that no number has two entries.
+        let _entries = self.further.len();
         match self.further.get(&c) {
             None => false,
-            Some(_) => true,
+            Some(further) => n as u128 <= *further,
         }
     }
 

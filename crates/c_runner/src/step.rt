@@ -1,10 +1,10 @@
 //! One step of a run, with the tests in the machine's order. At a fault the state is as it was before the line.
-ghost use Rattle.std.specs.Prelude.{◌≡◌, ◌+◌, ◌^◌, ◌<◌, true, Some, slice_get};
+ghost use Rattle.std.specs.Prelude.{◌≡◌, ◌+◌, ◌^◌, ◌<◌, true, Some, slice_get, IfOk};
 ghost use Rattle.std.specs.Option.{option_map, option_and_then};
 ghost use Rattle.c_core.specs.declared.fault.Fault.TheVariants as fault;
 ghost use Rattle.c_core.specs.Functions.{label_places};
 ghost use Rattle.c_core.specs.Step.{Goes, literal_word, with_var, next_line, if_calm, if_some, if_there, word_of, jumped, chosen, turned, step, step_at};
-ghost use Rattle.c_runner.specs.Parts.{callee_called, jumped_by_error, is_there};
+ghost use Rattle.c_runner.specs.Parts.{callee_called, plain_step, jumped_by_error, is_there};
 ghost use Rattle.c_runner.specs.States.{Follows, IsSmall};
 ghost use Rattle.c_runner.specs.Targets.{global_of, target_of, table_of};
 ghost use Rattle.c_runner.specs.Waiting.{Steps};
@@ -18,7 +18,7 @@ use crate::words::{equals_error, of_literal};
 use c_core::{CArg, CFunc, CLit, Code, Fault, Kind, Line};
 use cell_heap::Word;
 use std::alloc::Global;
-use value_core::Many;
+use value_core::{Many, Memory};
 
 impl State {
     /// What the next line does, and how the run ends if it ends there. The table tells what the lines of the code name.
@@ -60,21 +60,41 @@ impl State {
         ensures { Steps (λ s. step_at true code.now s (Some line.now)) result self.old self.new }
     {
         match line {
-            Line::Label => Ok(self.go_on()),
-            Line::Move(x, y) => Ok(self.copy(*x, *y)),
-            Line::Lit(x, literal) => Ok(self.assign(kind_of(function, *x), *x, *literal)),
             Line::Call(x, _, args) => match target.callee {
                 None => Ok(Some(Ending::Fault(Fault::Kind))),
                 Some(callee) => {
                     self.call(alloc, code, callee, target.global, *x, args.as_slice())
                 }
             },
+            _ => Ok(self.plain_line(code, function, line, target)?),
+        }
+    }
+
+    /// What a line of a function does that calls nothing.
+    fn plain_line(
+        &mut self,
+        code: &Code,
+        function: &CFunc,
+        line: &Line,
+        target: Target,
+    ) -> Result<Option<Ending>, Memory>
+        requires small { IsSmall self.old }
+        requires place { self.old.top.place + 1 < 2 ^ 64 }
+        requires function { slice_get code.now.funcs self.old.top.func ≡ Some function.now }
+        requires target { target ≡ target_of code.now (label_places function.now.lines) line.now }
+        ensures { IfOk result (λ ending. Follows (λ s. plain_step code.now s line.now) ending self.old self.new) }
+    {
+        match line {
+            Line::Label => Ok(self.go_on()),
+            Line::Move(x, y) => Ok(self.copy(*x, *y)),
+            Line::Lit(x, literal) => Ok(self.assign(kind_of(function, *x), *x, *literal)),
+            Line::Call(_, _, _) => Ok(Some(Ending::Fault(Fault::Kind))),
             Line::Goto(_) => Ok(self.jump(target.first)),
             Line::If(x, _, _) => Ok(self.choose(*x, target.first, target.second)),
             Line::IfError(x, _, _) => Ok(self.choose_by_error(*x, target.first, target.second)),
             Line::Turn => Ok(self.spend_turn()),
-            Line::Return(x) => Ok(self.leave(*x)?),
-            Line::Inc(x) => Ok(self.increment(*x)?),
+            Line::Return(x) => self.leave(*x),
+            Line::Inc(x) => self.increment(*x),
             Line::Dec(x) => Ok(self.decrement(*x)),
             Line::XDec(x) => Ok(self.decrement_if_set(*x)),
         }

@@ -6,8 +6,8 @@ ghost use Rattle.c_core.specs.declared.code.Code as machine_code;
 ghost use Rattle.c_core.specs.declared.primitive.Primitive.TheVariants as prim;
 ghost use Rattle.c_core.specs.Cells.{content_at};
 ghost use Rattle.value_core.specs.Arithmetic.{int_to_i64};
-ghost use Rattle.c_core.specs.Step.{MakesInt, primitive_step, tagged_effect, tagged_or, fitted};
-ghost use Rattle.c_runner.specs.Deeds.{effect_of, done_by, done_or, then_tried, int_held, int_at, one_int, two_ints, long_number, number_written, computed, one_done, two_done, tagged_done};
+ghost use Rattle.c_core.specs.Step.{MakesInt, primitive_step, tagged_effect, tagged_or, fitted, unboxed};
+ghost use Rattle.c_runner.specs.Deeds.{effect_of, done_by, done_or, then_done, then_tried, int_held, int_at, one_int, two_ints, one_boxed, long_number, number_written, computed, one_done, two_done, tagged_done};
 ghost use Rattle.c_runner.specs.Parts.{one_native, one_char, only_text};
 ghost use Rattle.c_runner.specs.States.{Follows, IsSmall};
 ghost use Rattle.cell_heap.specs.Contents.{number_of, word_of};
@@ -41,11 +41,16 @@ impl State {
         ensures { IfOk result (λ ending. (code : machine_code.Code) → Follows
             (λ s. primitive_step true s code target args.now (prim.Tagged primitive)) ending self.old self.new) }
     {
-        let deed = self.tagged_deed(alloc, primitive, args)?;
-        self.perform_deed(target, deed)
+        match primitive {
+            TaggedPrim::Box => self.box_int(target, args),
+            _ => {
+                let deed = self.tagged_deed(alloc, primitive, args)?;
+                self.perform_deed(target, deed)
+            }
+        }
     }
 
-    /// What a primitive on `int`s does, if its arguments are right.
+    /// What a primitive on `int`s does that steals nothing, if its arguments are right.
     fn tagged_deed(
         &self,
         alloc: Global,
@@ -62,6 +67,7 @@ impl State {
             TaggedPrim::Negate | TaggedPrim::AsInt64 | TaggedPrim::Str => {
                 self.one_deed(alloc, primitive, args)
             }
+            TaggedPrim::Unbox => Ok(self.unbox_int(args)),
             _ => self.two_deed(alloc, primitive, args),
         }
     }
@@ -84,6 +90,17 @@ impl State {
         match self.one_char(args) {
             None => Err(Fault::Kind),
             Some(n) => Ok(int_deed(i128::from(n))),
+        }
+    }
+
+    /// Answers the `int` that the one argument, a number in a cell, is.
+    fn unbox_int(&self, args: &[CArg]) -> Result<Deed, Fault>
+        ensures { done_by result ≡ then_done (λ q. unboxed q.0 q.1)
+            (one_boxed self.now.cells (map word_of self.now.top.vars) args.now) }
+    {
+        match self.one_boxed(args) {
+            Err(fault) => Err(fault),
+            Ok((key, n)) => Ok(unboxed_deed(key, n)),
         }
     }
 
@@ -252,6 +269,17 @@ pub(crate) fn int_deed(n: i128) -> Deed
         Deed::Says(Word::Short(n as i64))
     } else {
         Deed::MakesInt(n)
+    }
+}
+
+/// Answers the `int` that the number in a cell is: a short word where it is short, and else one that refers to the cell.
+fn unboxed_deed(key: Key, n: i128) -> Deed
+    ensures { effect_of result ≡ unboxed (number_of key) n }
+{
+    if is_short(n) {
+        Deed::Says(Word::Short(n as i64))
+    } else {
+        Deed::Shares(Word::Big(key))
     }
 }
 

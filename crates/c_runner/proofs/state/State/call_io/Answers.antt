@@ -1,14 +1,17 @@
-use Rattle.std.proofs.Common.{refl, sym, ◌∙◌, ap, true, Some}
+use Rattle.std.proofs.Common.{ap, true}
 use Rattle.c_core.specs.declared.primitive.Primitive.TheVariants.{Io}
-use Rattle.c_core.specs.declared.primitive.IoPrim.TheVariants.{Input}
+use Rattle.c_core.specs.declared.primitive.IoPrim.TheVariants.{Write, Input}
 use Rattle.c_core.specs.Step.{primitive_step}
 use Rattle.c_runner.specs.States.{state_of}
-use Rattle.c_runner.proofs.StateLemmas.{call_writes, steps_as}
+use Rattle.c_runner.proofs.StateLemmas.{quiet, steps_as}
 use Rattle.c_runner.proofs.state.State.call_io.Goals as goal
 
-pub returns-in_ok-write-in-Some-Var : goal.returns-in_ok-write-in-Some-Var
-returns-in_ok-write-in-Some-Var c =
-    call_writes c.args.target c.args.args.now c.in-Some-Var.x _ c.args.operation c.args.self.now c.write.new.self c.in_ok-write-in-Some-Var.field-0 c.in-Write.is (sym c.in-Some-Var.ensures.value ∙ ap Some c.in-Some-Var.field-0-is) refl c.in_ok-write-in-Some-Var.ensures
+pub returns-in_ok-call_write-in-Write : goal.returns-in_ok-call_write-in-Write
+returns-in_ok-call_write-in-Write c =
+    λ code.
+    quiet (λ s. primitive_step true s code c.args.target c.args.args.now (Io Write)) (λ s. primitive_step true s code c.args.target c.args.args.now (Io c.args.operation)) c.in_ok-call_write-in-Write.field-0 c.args.self.now c.call_write.new.self
+    (λ rest. ap (λ p. primitive_step true (state_of rest c.args.self.now) code c.args.target c.args.args.now (Io p)) c.in-Write.is)
+    (c.in_ok-call_write-in-Write.ensures code c.args.target)
 
 pub returns-in-Input : goal.returns-in-Input
 returns-in-Input c =

@@ -1,7 +1,7 @@
 use Rattle.std.proofs.Common.{sym, ap, ◌∙◌}
 use Rattle.std.specs.Prelude.{is_ok}
 use Rattle.c_runner.proofs.GlobalLemmas.{take_dead}
-use Rattle.c_runner.proofs.globals.take_word.Goals as goal
+use Rattle.c_runner.proofs.stolen.take_word.Goals as goal
 
 pub returns-in-Err : goal.returns-in-Err
 returns-in-Err c =

@@ -1,6 +1,6 @@
 use Rattle.value_core.specs.Exceptions.{thrown}
 use Rattle.c_runner.proofs.ExceptionLemmas.{failed}
-use Rattle.c_runner.proofs.state.State.fail.Goals as goal
+use Rattle.c_runner.proofs.state.State.fail_in_room.Goals as goal
 
 pub returns : goal.returns
 returns c =

@@ -1,0 +1,182 @@
+//! The arguments of primitives on objects: a number, a list or a tuple that stands in a cell, or any object.
+ghost use Rattle.std.specs.Prelude.{◌≡◌, Ok, Err, map, MatchResult};
+ghost use Rattle.std.specs.Option.{option_copied};
+ghost use Rattle.c_runner.specs.Deeds.{one_boxed, one_list, one_tuple, one_object, list_and_int, tuple_and_number};
+ghost use Rattle.c_runner.specs.Objects.{word_at, cell_of, boxed_at, list_at, tuple_at, any_at, written_number};
+ghost use Rattle.cell_heap.specs.Contents.{number_of, word_of};
+
+use crate::state::State;
+use c_core::{CArg, Fault, Kind};
+use cell_heap::{Content, Key, Word};
+use value_core::Many;
+
+impl State {
+    /// The one number in a cell that the arguments are, and its cell.
+    pub fn one_boxed(&self, args: &[CArg]) -> Result<(Key, i128), Fault>
+        ensures { MatchResult result
+            (λ found. one_boxed self.now.cells (map word_of self.now.top.vars) args.now ≡ Ok (number_of found.0, found.1))
+            (λ why. one_boxed self.now.cells (map word_of self.now.top.vars) args.now ≡ Err why) }
+    {
+        let found = self.boxed_argument(args.first())?;
+        if args.len() > 1 {
+            return Err(Fault::Kind);
+        }
+        Ok(found)
+    }
+
+    /// The one list that the arguments are, and its cell.
+    pub fn one_list(&self, args: &[CArg]) -> Result<(Key, &Many<Word>), Fault>
+        ensures { MatchResult result
+            (λ found. one_list self.now.cells (map word_of self.now.top.vars) args.now ≡ Ok (number_of found.0, map word_of found.1.now))
+            (λ why. one_list self.now.cells (map word_of self.now.top.vars) args.now ≡ Err why) }
+    {
+        let found = self.list_argument(args.first())?;
+        if args.len() > 1 {
+            return Err(Fault::Kind);
+        }
+        Ok(found)
+    }
+
+    /// The one tuple that the arguments are, and its cell.
+    pub fn one_tuple(&self, args: &[CArg]) -> Result<(Key, &Many<Word>), Fault>
+        ensures { MatchResult result
+            (λ found. one_tuple self.now.cells (map word_of self.now.top.vars) args.now ≡ Ok (number_of found.0, map word_of found.1.now))
+            (λ why. one_tuple self.now.cells (map word_of self.now.top.vars) args.now ≡ Err why) }
+    {
+        let found = self.tuple_argument(args.first())?;
+        if args.len() > 1 {
+            return Err(Fault::Kind);
+        }
+        Ok(found)
+    }
+
+    /// The one object that the arguments are.
+    pub fn one_object(&self, args: &[CArg]) -> Result<Word, Fault>
+        ensures { MatchResult result
+            (λ word. one_object self.now.cells (map word_of self.now.top.vars) args.now ≡ Ok (word_of word))
+            (λ why. one_object self.now.cells (map word_of self.now.top.vars) args.now ≡ Err why) }
+    {
+        let word = self.any_argument(args.first())?;
+        if args.len() > 1 {
+            return Err(Fault::Kind);
+        }
+        Ok(word)
+    }
+
+    /// The list, with its cell, and the `int` that the arguments are.
+    pub fn list_and_int(&self, args: &[CArg]) -> Result<(Key, &Many<Word>, i128), Fault>
+        ensures { MatchResult result
+            (λ found. list_and_int self.now.cells (map word_of self.now.top.vars) args.now
+            ≡ Ok ((number_of found.0, map word_of found.1.now), found.2))
+            (λ why. list_and_int self.now.cells (map word_of self.now.top.vars) args.now ≡ Err why) }
+    {
+        let (key, items) = self.list_argument(args.first())?;
+        let index = self.int_argument(args.get(1))?;
+        if args.len() > 2 {
+            return Err(Fault::Kind);
+        }
+        Ok((key, items, index))
+    }
+
+    /// The tuple, with its cell, and the number as it is written that the arguments are.
+    pub fn tuple_and_number(&self, args: &[CArg]) -> Result<(Key, &Many<Word>, i64), Fault>
+        ensures { MatchResult result
+            (λ found. tuple_and_number self.now.cells (map word_of self.now.top.vars) args.now
+            ≡ Ok ((number_of found.0, map word_of found.1.now), found.2))
+            (λ why. tuple_and_number self.now.cells (map word_of self.now.top.vars) args.now ≡ Err why) }
+    {
+        let (key, parts) = self.tuple_argument(args.first())?;
+        let number = written_number(args.get(1))?;
+        if args.len() > 2 {
+            return Err(Fault::Kind);
+        }
+        Ok((key, parts, number))
+    }
+
+    /// The number that stands in the cell of an argument, and the cell.
+    pub fn boxed_argument(&self, argument: Option<&CArg>) -> Result<(Key, i128), Fault>
+        ensures { MatchResult result
+            (λ found. boxed_at self.now.cells (map word_of self.now.top.vars) (option_copied argument.entry) ≡ Ok (number_of found.0, found.1))
+            (λ why. boxed_at self.now.cells (map word_of self.now.top.vars) (option_copied argument.entry) ≡ Err why) }
+    {
+        let key = self.cell_argument(argument)?;
+        let Ok(content) = self.cells.content(key) else {
+            return Err(Fault::Dead);
+        };
+        match content {
+            Content::Int(n) => Ok((key, *n)),
+            _ => Err(Fault::Kind),
+        }
+    }
+
+    /// The items of the list that stands in the cell of an argument, and the cell.
+    pub fn list_argument(&self, argument: Option<&CArg>) -> Result<(Key, &Many<Word>), Fault>
+        ensures { MatchResult result
+            (λ found. list_at self.now.cells (map word_of self.now.top.vars) (option_copied argument.entry)
+            ≡ Ok (number_of found.0, map word_of found.1.now))
+            (λ why. list_at self.now.cells (map word_of self.now.top.vars) (option_copied argument.entry) ≡ Err why) }
+    {
+        let key = self.cell_argument(argument)?;
+        let Ok(content) = self.cells.content(key) else {
+            return Err(Fault::Dead);
+        };
+        match content {
+            Content::List(items) => Ok((key, items)),
+            _ => Err(Fault::Kind),
+        }
+    }
+
+    /// The parts of the tuple that stands in the cell of an argument, and the cell.
+    pub fn tuple_argument(&self, argument: Option<&CArg>) -> Result<(Key, &Many<Word>), Fault>
+        ensures { MatchResult result
+            (λ found. tuple_at self.now.cells (map word_of self.now.top.vars) (option_copied argument.entry)
+            ≡ Ok (number_of found.0, map word_of found.1.now))
+            (λ why. tuple_at self.now.cells (map word_of self.now.top.vars) (option_copied argument.entry) ≡ Err why) }
+    {
+        let key = self.cell_argument(argument)?;
+        let Ok(content) = self.cells.content(key) else {
+            return Err(Fault::Dead);
+        };
+        match content {
+            Content::Tuple(parts) => Ok((key, parts)),
+            _ => Err(Fault::Kind),
+        }
+    }
+
+    /// The object that an argument is.
+    pub fn any_argument(&self, argument: Option<&CArg>) -> Result<Word, Fault>
+        ensures { MatchResult result
+            (λ word. any_at self.now.cells (map word_of self.now.top.vars) (option_copied argument.entry) ≡ Ok (word_of word))
+            (λ why. any_at self.now.cells (map word_of self.now.top.vars) (option_copied argument.entry) ≡ Err why) }
+    {
+        match argument {
+            None => Err(Fault::Kind),
+            Some(argument) => self.passed(Kind::Object, argument),
+        }
+    }
+
+    /// The key of the cell that an argument refers to as an object.
+    fn cell_argument(&self, argument: Option<&CArg>) -> Result<Key, Fault>
+        ensures { MatchResult result
+            (λ key. cell_of (word_at (map word_of self.now.top.vars) (option_copied argument.entry)) ≡ Ok (number_of key))
+            (λ why. cell_of (word_at (map word_of self.now.top.vars) (option_copied argument.entry)) ≡ Err why) }
+    {
+        let Some(CArg::Var(x)) = argument else {
+            return Err(Fault::Kind);
+        };
+        match self.top.vars.get(*x) {
+            Some(Word::Cell(key)) => Ok(*key),
+            _ => Err(Fault::Kind),
+        }
+    }
+}
+
+/// The number that is written as an argument.
+fn written_number(argument: Option<&CArg>) -> Result<i64, Fault>
+    ensures { result ≡ written_number (option_copied argument.entry) }
+{
+    match argument {
+        Some(CArg::Number(n)) => Ok(*n),
+        _ => Err(Fault::Kind),
+    }
+}
