@@ -1,3 +1,4 @@
 pub mod AssignmentLemmas
+pub mod RefusalLemmas
 pub mod UpdateLemmas
 mod Samples

@@ -1,6 +1,8 @@
 -- An operation with assignment, by the type of the operation's value.
-use Rattle.std.proofs.Common.{◌≡◌, List, Option, Some, None, Result, Ok, Err, IfOk, refl, ap, sym, ◌∙◌, subst}
+use Rattle.std.proofs.Common.{◌≡◌, Bool, true, false, List, [], ◌∷◌, Option, Some, None, Result, Ok, Err, IfOk, refl, ap, sym, ◌∙◌, subst}
 use Rattle.std.proofs.lemmas.List.{append-nil}
+use Rattle.std.specs.Prelude.{if◌then◌else◌}
+use Rattle.std.specs.Option.{option_map}
 use Rattle.std.specs.Result.{result_map_both}
 use Rattle.std.specs.declared.boxed.Box.{Box}
 use Rattle.std.specs.declared.alloc.Global.{Global}
@@ -14,12 +16,15 @@ use Rattle.py_typed.specs.declared.statement.TStmtKind.{TStmtKind}
 use Rattle.py_typed.specs.Sorts.{Sort, sort}
 use Rattle.py_typed.specs.Classes.{ClassEntry}
 use Rattle.py_typed.specs.Expressions.{TypedExpr, typed_expr, type_of}
-use Rattle.py_typed.specs.Statements.{TypedAct}
-use Rattle.py_check_messages.specs.Seen.{Seen, Message, Tells, judged, ruled}
+use Rattle.py_typed.specs.Statements as act
+use Rattle.py_typed.specs.Statements.{TypedTarget, TypedAct}
+use Rattle.py_check_messages.specs.Seen.{Seen, Message, Tells, Finds, fails, judged}
+use Rattle.py_check_messages.specs.Messages.{no_target}
 use Rattle.py_check_operators.specs.Operators.{arithmetic, arithmetic_type}
 use Rattle.py_check_coercions.proofs.PartLemmas.{type_at}
 use Rattle.py_check_operators.proofs.OperatorLemmas.{arithmetic_has_type}
-use Rattle.py_check_targets.specs.Targets.{Aim, updated_to, of_operation, updated}
+use Rattle.py_check_values.specs.Assignments.{binding_fault}
+use Rattle.py_check_targets.specs.Targets.{Aim, is_placed, slot_of, target_of, written_back, updated_to, of_operation, updated}
 use Rattle.py_check_targets.specs.Views.{boxed_act}
 use Rattle.py_check_assignments.specs.Views.{boxed_sort}
 
@@ -32,14 +37,13 @@ by_type : (classes : List ClassEntry) (a : Aim) (o : BinOp) (b : TypedExpr) (r :
 by_type classes a o b (Ok e) = refl
 by_type classes a o b (Err m) = refl
 
-module _ (classes : List ClassEntry) (span : Span) (o : BinOp) (aim : TypedExpr → Aim) (a b : TExpr) (parts : Option (TypedExpr × TypedExpr)) where
+module _ (classes : List ClassEntry) (span : Span) (o : BinOp) (aim : TypedExpr → Aim) (a b : TExpr) where
   same_type : arithmetic_type classes o (type_of (typed_expr a)) (type_of (typed_expr b)) ≡ arithmetic_type classes o (sort a.ty) (sort b.ty)
   same_type = ap (λ s. arithmetic_type classes o s (type_of (typed_expr b))) (type_at a) ∙ ap (λ t. arithmetic_type classes o (sort a.ty) t) (type_at b)
 
-  says : parts ≡ Some (typed_expr a, typed_expr b) → ruled span (updated classes span o aim) parts ≡ judged span (of_type classes (aim (typed_expr a)) o (typed_expr b) (arithmetic_type classes o (sort a.ty) (sort b.ty)))
-  says are =
-      ap (ruled span (updated classes span o aim)) are
-      ∙ ap (judged span) (by_type classes (aim (typed_expr a)) o (typed_expr b) (arithmetic classes span o (typed_expr a, typed_expr b)))
+  says : judged span (updated classes span o aim (typed_expr a, typed_expr b)) ≡ judged span (of_type classes (aim (typed_expr a)) o (typed_expr b) (arithmetic_type classes o (sort a.ty) (sort b.ty)))
+  says =
+      ap (judged span) (by_type classes (aim (typed_expr a)) o (typed_expr b) (arithmetic classes span o (typed_expr a, typed_expr b)))
       ∙ ap (λ r. judged span (of_type classes (aim (typed_expr a)) o (typed_expr b) r)) (arithmetic_has_type classes span o (typed_expr a, typed_expr b) ∙ same_type)
 
 refused_so : (classes : List ClassEntry) (span : Span) (x : Aim) (o : BinOp) (b : TypedExpr) (r : Result Sort Message) (old new : List Diag) → Tells boxed_sort None old new (judged span r) → Tells boxed_act None old new (judged span (of_type classes x o b r))
@@ -47,11 +51,11 @@ refused_so classes span x o b (Ok s) old new t = absurd (let wrong = t.0 in cc)
 refused_so classes span x o b (Err m) old new t = (refl, t.1)
 
 -- the operation is refused
-pub refused_says : (classes : List ClassEntry) (span : Span) (o : BinOp) (aim : TypedExpr → Aim) (a b : TExpr) (parts : Option (TypedExpr × TypedExpr)) (found : Option (Box Ty Global)) (old new : List Diag) → parts ≡ Some (typed_expr a, typed_expr b) → Tells boxed_sort found old new (judged span (arithmetic_type classes o (sort a.ty) (sort b.ty))) → found ≡ None → Tells boxed_act None old new (ruled span (updated classes span o aim) parts)
-refused_says classes span o aim a b parts found old new are told none =
+pub refused_says : (classes : List ClassEntry) (span : Span) (o : BinOp) (aim : TypedExpr → Aim) (a b : TExpr) (found : Option (Box Ty Global)) (old new : List Diag) → Tells boxed_sort found old new (judged span (arithmetic_type classes o (sort a.ty) (sort b.ty))) → found ≡ None → Tells boxed_act None old new (judged span (updated classes span o aim (typed_expr a, typed_expr b)))
+refused_says classes span o aim a b found old new told none =
     let F : Option (Box Ty Global) → Type 0 = λ f. Tells boxed_sort f old new (judged span (arithmetic_type classes o (sort a.ty) (sort b.ty))) in
     let S : Seen TypedAct → Type 0 = λ s. Tells boxed_act None old new s in
-    subst S (sym (says classes span o aim a b parts are)) (refused_so classes span (aim (typed_expr a)) o (typed_expr b) (arithmetic_type classes o (sort a.ty) (sort b.ty)) old new (subst F none told))
+    subst S (sym (says classes span o aim a b)) (refused_so classes span (aim (typed_expr a)) o (typed_expr b) (arithmetic_type classes o (sort a.ty) (sort b.ty)) old new (subst F none told))
 
 holds_so : (classes : List ClassEntry) (span : Span) (x : Aim) (o : BinOp) (b : TypedExpr) (r : Result Sort Message) (ty : Box Ty Global) (k : Result (Option (Box TStmtKind Global)) Memory) (old mid new : List Diag) → Tells boxed_sort (Some ty) old mid (judged span r) → IfOk k (λ t. Tells boxed_act t mid new (judged span (updated_to classes x o b (boxed_sort ty)))) → IfOk k (λ t. Tells boxed_act t old new (judged span (of_type classes x o b r)))
 holds_so classes span x o b (Err m) ty k old mid new t h = absurd (let wrong = t.0 in cc)
@@ -63,9 +67,54 @@ holds_so classes span x o b (Ok s) ty k old mid new t h =
     subst L still (subst T same h)
 
 -- it has a value, which is assigned
-pub holds_says : (classes : List ClassEntry) (span : Span) (o : BinOp) (aim : TypedExpr → Aim) (a b : TExpr) (parts : Option (TypedExpr × TypedExpr)) (found : Option (Box Ty Global)) (ty : Box Ty Global) (x : Aim) (k : Result (Option (Box TStmtKind Global)) Memory) (old mid new : List Diag) → parts ≡ Some (typed_expr a, typed_expr b) → Tells boxed_sort found old mid (judged span (arithmetic_type classes o (sort a.ty) (sort b.ty))) → found ≡ Some ty → x ≡ aim (typed_expr a) → IfOk k (λ t. Tells boxed_act t mid new (judged span (updated_to classes x o (typed_expr b) (boxed_sort ty)))) → IfOk k (λ t. Tells boxed_act t old new (ruled span (updated classes span o aim) parts))
-holds_says classes span o aim a b parts found ty x k old mid new are told some is h =
+pub holds_says : (classes : List ClassEntry) (span : Span) (o : BinOp) (aim : TypedExpr → Aim) (a b : TExpr) (found : Option (Box Ty Global)) (ty : Box Ty Global) (x : Aim) (k : Result (Option (Box TStmtKind Global)) Memory) (old mid new : List Diag) → Tells boxed_sort found old mid (judged span (arithmetic_type classes o (sort a.ty) (sort b.ty))) → found ≡ Some ty → x ≡ aim (typed_expr a) → IfOk k (λ t. Tells boxed_act t mid new (judged span (updated_to classes x o (typed_expr b) (boxed_sort ty)))) → IfOk k (λ t. Tells boxed_act t old new (judged span (updated classes span o aim (typed_expr a, typed_expr b))))
+holds_says classes span o aim a b found ty x k old mid new told some is h =
     let F : Option (Box Ty Global) → Type 0 = λ f. Tells boxed_sort f old mid (judged span (arithmetic_type classes o (sort a.ty) (sort b.ty))) in
     let S : Seen TypedAct → Type 0 = λ s. IfOk k (λ t. Tells boxed_act t old new s) in
     let X : Aim → Type 0 = λ y. IfOk k (λ t. Tells boxed_act t mid new (judged span (updated_to classes y o (typed_expr b) (boxed_sort ty)))) in
-    subst S (sym (says classes span o aim a b parts are)) (holds_so classes span (aim (typed_expr a)) o (typed_expr b) (arithmetic_type classes o (sort a.ty) (sort b.ty)) ty k old mid new (subst F some told) (subst X is h))
+    subst S (sym (says classes span o aim a b)) (holds_so classes span (aim (typed_expr a)) o (typed_expr b) (arithmetic_type classes o (sort a.ty) (sort b.ty)) ty k old mid new (subst F some told) (subst X is h))
+
+-- ---- the result is written back
+
+-- to a target
+pub augmented_says : (span : Span) (o : BinOp) (b : TypedExpr) (s : Sort) (ts : List TypedTarget) (target : TypedTarget) (r : Result (Option (Box TStmtKind Global)) Memory) (old : List Diag) → ts ≡ target ∷ [] → IfOk r (λ t. option_map boxed_act t ≡ Some (act.Aug target o b s)) → IfOk r (λ t. Tells boxed_act t old old (judged span (written_back o b s None ts)))
+augmented_says span o b s ts target (Ok t) old is made =
+    let P : List TypedTarget → Type 0 = λ l. Tells boxed_act t old old (judged span (written_back o b s None l)) in
+    subst P (sym is) (made, sym (append-nil old))
+augmented_says span o b s ts target (Err m) old is made = tt
+
+-- there is none
+pub no_target_says : (span : Span) (o : BinOp) (b : TypedExpr) (s : Sort) (ts : List TypedTarget) (r : Result (Option (Box TStmtKind Global)) Memory) (old new : List Diag) → ts ≡ [] → IfOk r (λ t. Tells boxed_act t old new (fails {A = TypedAct} span no_target)) → IfOk r (λ t. Tells boxed_act t old new (judged span (written_back o b s None ts)))
+no_target_says span o b s ts r old new is h =
+    let P : List TypedTarget → Type 0 = λ l. IfOk r (λ t. Tells boxed_act t old new (judged span (written_back o b s None l))) in
+    subst P (sym is) h
+
+-- ---- the result is bound to a target, where that may be
+
+abbrev by_place : List ClassEntry → Aim → BinOp → TypedExpr → Sort → Bool → Result TypedAct Message
+by_place classes a o b s placed = if placed then written_back o b s (binding_fault classes (slot_of a) s) (target_of a) else Err no_target
+
+pub misplaced_says : (classes : List ClassEntry) (span : Span) (a : Aim) (o : BinOp) (b : TypedExpr) (s : Sort) (r : Result (Option (Box TStmtKind Global)) Memory) (old new : List Diag) → is_placed a ≡ false → IfOk r (λ t. Tells boxed_act t old new (fails {A = TypedAct} span no_target)) → IfOk r (λ t. Tells boxed_act t old new (judged span (updated_to classes a o b s)))
+misplaced_says classes span a o b s r old new unplaced h =
+    let P : Bool → Type 0 = λ p. IfOk r (λ t. Tells boxed_act t old new (judged span (by_place classes a o b s p))) in
+    subst P (sym unplaced) h
+
+fault_so : (span : Span) (o : BinOp) (b : TypedExpr) (s : Sort) (fault : Option Message) (ts : List TypedTarget) (right : Bool) (old new : List Diag) → Finds right old new span fault → right ≡ false → Tells boxed_act None old new (judged span (written_back o b s fault ts))
+fault_so span o b s None ts right old new found wrong = absurd (let clash : true ≡ false = sym found.0 ∙ wrong in cc)
+fault_so span o b s (Some m) ts right old new found wrong = (refl, found.1)
+
+pub unbound_says : (classes : List ClassEntry) (span : Span) (a : Aim) (o : BinOp) (b : TypedExpr) (s : Sort) (right : Bool) (old new : List Diag) → is_placed a ≡ true → Finds right old new span (binding_fault classes (slot_of a) s) → right ≡ false → Tells boxed_act None old new (judged span (updated_to classes a o b s))
+unbound_says classes span a o b s right old new placed found wrong =
+    let P : Bool → Type 0 = λ p. Tells boxed_act None old new (judged span (by_place classes a o b s p)) in
+    subst P (sym placed) (fault_so span o b s (binding_fault classes (slot_of a) s) (target_of a) right old new found wrong)
+
+no_fault_so : (span : Span) (o : BinOp) (b : TypedExpr) (s : Sort) (fault : Option Message) (ts : List TypedTarget) (right : Bool) (r : Result (Option (Box TStmtKind Global)) Memory) (old mid new : List Diag) → Finds right old mid span fault → right ≡ true → IfOk r (λ t. Tells boxed_act t mid new (judged span (written_back o b s None ts))) → IfOk r (λ t. Tells boxed_act t old new (judged span (written_back o b s fault ts)))
+no_fault_so span o b s (Some m) ts right r old mid new found holds h = absurd (let clash : false ≡ true = sym found.0 ∙ holds in cc)
+no_fault_so span o b s None ts right r old mid new found holds h =
+    let P : List Diag → Type 0 = λ l. IfOk r (λ t. Tells boxed_act t l new (judged span (written_back o b s None ts))) in
+    subst P found.1 h
+
+pub bound_says : (classes : List ClassEntry) (span : Span) (a : Aim) (o : BinOp) (b : TypedExpr) (s : Sort) (right : Bool) (r : Result (Option (Box TStmtKind Global)) Memory) (old mid new : List Diag) → is_placed a ≡ true → Finds right old mid span (binding_fault classes (slot_of a) s) → right ≡ true → IfOk r (λ t. Tells boxed_act t mid new (judged span (written_back o b s None (target_of a)))) → IfOk r (λ t. Tells boxed_act t old new (judged span (updated_to classes a o b s)))
+bound_says classes span a o b s right r old mid new placed found holds h =
+    let P : Bool → Type 0 = λ p. IfOk r (λ t. Tells boxed_act t old new (judged span (by_place classes a o b s p))) in
+    subst P (sym placed) (no_fault_so span o b s (binding_fault classes (slot_of a) s) (target_of a) right r old mid new found holds h)

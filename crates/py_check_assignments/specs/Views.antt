@@ -1,8 +1,15 @@
--- A type in a box.
+-- A type in a box, and whether a part was typed.
+use Rattle.std.specs.Prelude.{◌≡◌, Bool, List, ◌++◌, is_some}
 use Rattle.std.specs.declared.boxed.Box.{Box}
 use Rattle.std.specs.declared.alloc.Global.{Global}
+use Rattle.py_syntax_diagnostics.specs.declared.diagnostic.Diag.{Diag}
 use Rattle.py_typed.specs.declared.types.Ty.{Ty}
 use Rattle.py_typed.specs.Sorts.{Sort, sort}
+use Rattle.py_check_messages.specs.Seen.{Seen}
 
 abbrev pub boxed_sort : Box Ty Global → Sort
 boxed_sort t = sort t.value
+
+-- a function returned whether a part is typed, and put its diagnostics behind those that there were
+abbrev pub Shows : {A : Type 0} → Bool → List Diag → List Diag → Seen A → Type 0
+Shows typed old new s = (typed ≡ is_some s.got) × (new ≡ old ++ s.said)

@@ -1,28 +1,32 @@
 //! Assignments with an annotation.
-ghost use Rattle.std.specs.Prelude.{◌≡◌, [], ◌∷◌, ◌++◌, map, if◌then◌else◌, Some, None, IfOk};
+ghost use Rattle.std.specs.Prelude.{◌≡◌, map, if◌then◌else◌, Some, None, IfOk};
 ghost use Rattle.std.specs.Option.{option_map, option_copied, option_zip};
 ghost use Rattle.py_syntax.specs.Expressions.{expr_tree};
 ghost use Rattle.py_syntax.specs.Statements.{maybe_expr};
 ghost use Rattle.py_typed.specs.Sorts.{sort};
 ghost use Rattle.py_typed.specs.Classes.{class_entry};
 ghost use Rattle.py_typed.specs.Expressions.{type_of};
+ghost use Rattle.py_typed.specs.Statements as acts;
 ghost use Rattle.py_check_context.specs.Context.{context, var_sort, var_of, wanted};
 ghost use Rattle.py_check_flow.specs.Bindings.{name_in};
-ghost use Rattle.py_check_messages.specs.Seen.{Tells, Finds, diag, ruled};
+ghost use Rattle.py_check_messages.specs.Seen.{Tells, Finds, behind, judged, ruled};
 ghost use Rattle.py_check_messages.specs.Messages as message;
+ghost use Rattle.py_check_annotations.specs.Annotations as marks;
 ghost use Rattle.py_check_coercions.specs.Boxes.{boxed};
 ghost use Rattle.py_check_places.specs.Places as places;
 ghost use Rattle.py_check_targets.specs.Targets as rule_of;
 ghost use Rattle.py_check_assignments.specs.Assignments as rules_of;
 ghost use Rattle.py_check_places.specs.Views.{known_at};
 ghost use Rattle.py_check_targets.specs.Views.{aim_seen, boxed_aim, boxed_act};
+ghost use Rattle.py_check_assignments.specs.Views.{Shows};
 
-use crate::assignments::{Assignment, act_of, put_target};
+use crate::assignments::{Assignment, act_of, kept, put_target};
+use crate::parts::{has_aims, refuse, refuse_value};
 use py_check_annotations::annotation;
 use py_check_context::{Meaning, Scope, VarType, Want, meaning_of};
-use py_check_messages::{already_defined, cannot_assign, no_target};
+use py_check_messages::{already_defined, cannot_assign};
 use py_check_places::{Place, bind_target, name_in};
-use py_check_targets::{Aim, in_box, name_aim, slot_of, target_aims, typed_at, value_type};
+use py_check_targets::{Aim, in_box, name_aim, slot_of, typed_at, value_type};
 use py_check_values::assigned;
 use py_syntax::{Expr, Span};
 use py_syntax_diagnostics::Diag;
@@ -49,7 +53,9 @@ pub fn annotate(
             let Assignment { kind, value } = annotated_name(
                 alloc, scope, place, span, x, mark, e, faults,
             )?;
-            bind_target(alloc, scope, place, kind.is_some(), target, value.as_ref())?;
+            let bound = bind_target(alloc, scope, place, kind.is_some(), target, value.as_ref());
+            drop(value);
+            bound?;
             Ok(kind)
         }
         None => {
@@ -100,15 +106,10 @@ fn declares(
     let meaning = meaning_of(scope, x);
     let aim = named_aim(alloc, place, x, meaning)?;
     let t = annotation(alloc, scope, mark, faults)?;
-    declared(
-        alloc,
-        span,
-        x,
-        is_bound(place, meaning),
-        aim,
-        t.as_ref(),
-        faults,
-    )
+    let bound = is_bound(place, meaning);
+    let kind = declared(alloc, span, x, bound, &aim, t.as_ref(), faults);
+    drop(t);
+    kind
 }
 
 fn gives_value(
@@ -124,24 +125,39 @@ fn gives_value(
     ensures told { IfOk result (λ a. Tells boxed_act a.kind faults.old faults.new (rules_of.gives_value (context scope.now) (known_at place.now) span x.now (expr_tree mark.now) (expr_tree e.now))) }
     ensures value { IfOk result (λ a. option_map sort a.value ≡ option_map type_of (rules_of.annotated_value (context scope.now) (known_at place.now) x.now (expr_tree e.now)).got) }
 {
-    let meaning = meaning_of(scope, x);
-    let aim = named_aim(alloc, place, x, meaning)?;
+    let aim = named_aim(alloc, place, x, meaning_of(scope, x))?;
     let t = annotation(alloc, scope, mark, faults)?;
+    let assignment = with_value(alloc, scope, place, span, x, aim, t.as_ref(), e, faults);
+    drop(t);
+    assignment
+}
+
+// The same where the name and its annotation were looked at.
+fn with_value(
+    alloc: Global,
+    scope: &Scope<'_>,
+    place: &Place,
+    span: Span,
+    x: &Name,
+    aim: Option<Box<Aim<'_>>>,
+    t: Option<&Ty>,
+    e: &Expr,
+    faults: &mut Many<Diag>,
+) -> Result<Assignment, Memory>
+    ensures told { IfOk result (λ a. Tells boxed_act a.kind faults.old faults.new (behind (rules_of.annotated_value (context scope.now) (known_at place.now) x.now (expr_tree e.now)) (λ v. ruled span (rule_of.given (context scope.now).classes x.now (places.is_bound (known_at place.now) ((context scope.now).meaning x.now))) (option_zip (option_zip (option_map boxed_aim aim.entry) (option_map sort (option_copied t.entry))) v)))) }
+    ensures value { IfOk result (λ a. option_map sort a.value ≡ option_map type_of (rules_of.annotated_value (context scope.now) (known_at place.now) x.now (expr_tree e.now)).got) }
+{
+    let meaning = meaning_of(scope, x);
     let e = typed_at(alloc, scope, place, asked_by(place, meaning), e, faults)?;
     let value = value_type(alloc, &e)?;
     let bound = is_bound(place, meaning);
-    let kind = given(
-        alloc,
-        scope.classes,
-        span,
-        x,
-        bound,
-        aim,
-        t.as_ref(),
-        e,
-        faults,
-    )?;
-    Ok(Assignment { kind, value })
+    match given(alloc, scope.classes, span, x, bound, aim, t, e, faults) {
+        Ok(kind) => Ok(Assignment { kind, value }),
+        Err(memory) => {
+            drop(value);
+            Err(memory)
+        }
+    }
 }
 
 // A name that is assigned to.
@@ -196,11 +212,11 @@ fn declared(
     span: Span,
     x: &Name,
     bound: bool,
-    aim: Option<Box<Aim<'_>>>,
+    aim: &Option<Box<Aim<'_>>>,
     t: Option<&Ty>,
     faults: &mut Many<Diag>,
 ) -> Result<Option<Box<TStmtKind>>, Memory>
-    ensures { IfOk result (λ r. Tells boxed_act r faults.old faults.new (ruled span (rule_of.declared x.now bound) (option_zip (option_map boxed_aim aim.entry) (option_map sort (option_copied t.entry))))) }
+    ensures { IfOk result (λ r. Tells boxed_act r faults.old faults.new (ruled span (rule_of.declared x.now bound) (option_zip (option_map boxed_aim aim.now) (option_map sort (option_copied t.entry))))) }
 {
     let Some(aim) = aim else {
         return Ok(None);
@@ -208,10 +224,10 @@ fn declared(
     let Some(_) = t else {
         return Ok(None);
     };
-    if !may_be_annotated(alloc, span, x, bound, &aim, faults)? {
+    if !may_be_annotated(alloc, span, x, bound, aim, faults)? {
         return Ok(None);
     }
-    let kind = Box::new(alloc, TStmtKind::Pass)?;
+    let kind = kept(alloc, TStmtKind::Pass)?;
     Ok(Some(kind))
 }
 
@@ -238,10 +254,37 @@ fn given(
     let Some(e) = e else {
         return Ok(None);
     };
+    given_all(alloc, classes, span, x, bound, aim, e, faults)
+}
+
+// The same of parts that are typed.
+fn given_all(
+    alloc: Global,
+    classes: &Classes,
+    span: Span,
+    x: &Name,
+    bound: bool,
+    aim: Box<Aim<'_>>,
+    e: Box<TExpr>,
+    faults: &mut Many<Diag>,
+) -> Result<Option<Box<TStmtKind>>, Memory>
+    ensures { IfOk result (λ r. Tells boxed_act r faults.old faults.new (judged span (rule_of.given_after (map class_entry classes.now.list) (rule_of.annotation_fault x.now bound (boxed_aim aim.entry)) (boxed_aim aim.entry) (boxed e)))) }
+{
     if !may_be_annotated(alloc, span, x, bound, &aim, faults)? {
         return Ok(None);
     }
     let e = assigned(alloc, classes, span, slot_of(&aim), Some(e), faults)?;
+    act_on(alloc, aim, e)
+}
+
+// The assignment of a value to what is aimed at.
+fn act_on(
+    alloc: Global,
+    aim: Box<Aim<'_>>,
+    e: Option<Box<TExpr>>,
+) -> Result<Option<Box<TStmtKind>>, Memory>
+    ensures { IfOk result (λ t. option_map boxed_act t ≡ option_map (acts.Assign (rule_of.target_of (boxed_aim aim.entry))) (option_map boxed e)) }
+{
     let mut targets = Many::new(alloc);
     put_target(&mut targets, Box::into_inner(aim))?;
     act_of(alloc, targets, e)
@@ -299,23 +342,26 @@ fn annotates_other(
 ) -> Result<(), Memory>
     ensures { IfOk result (λ done. Tells boxed_act None faults.old faults.new (rules_of.annotates_other (context scope.now) (known_at place.now) span (expr_tree target.now) (expr_tree mark.now) (maybe_expr e.now))) }
 {
-    let placed = target_aims(alloc, scope, place, target, faults)?.is_some();
-    let marked = annotation(alloc, scope, mark, faults)?.is_some();
+    let placed = has_aims(alloc, scope, place, target, faults)?;
+    let marked = is_type(alloc, scope, mark, faults)?;
+    let complete = placed && marked;
     match e {
-        None => refuse(alloc, span, placed && marked, faults),
-        Some(e) => {
-            let e = typed_at(alloc, scope, place, Want::Free, e, faults)?;
-            refuse(alloc, span, placed && marked && e.is_some(), faults)
-        }
+        None => refuse(alloc, span, complete, faults),
+        Some(e) => refuse_value(alloc, scope, place, span, complete, e, faults),
     }
 }
 
-// It is said where all parts are typed.
-fn refuse(alloc: Global, span: Span, typed: bool, faults: &mut Many<Diag>) -> Result<(), Memory>
-    ensures { IfOk result (λ done. faults.new ≡ faults.old ++ (if typed then diag span message.no_target ∷ [] else [])) }
+// Whether an annotation is a type; what is wrong is said.
+fn is_type(
+    alloc: Global,
+    scope: &Scope<'_>,
+    mark: &Expr,
+    faults: &mut Many<Diag>,
+) -> Result<bool, Memory>
+    ensures { IfOk result (λ typed. Shows typed faults.old faults.new (marks.annotation (context scope.now).meaning (expr_tree mark.now))) }
 {
-    if typed {
-        no_target(alloc, span, faults)?;
-    }
-    Ok(())
+    let t = annotation(alloc, scope, mark, faults)?;
+    let typed = t.is_some();
+    drop(t);
+    Ok(typed)
 }

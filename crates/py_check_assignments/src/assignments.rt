@@ -1,5 +1,5 @@
 //! Assignments.
-ghost use Rattle.std.specs.Prelude.{◌≡◌, ◌++◌, map, IfOk};
+ghost use Rattle.std.specs.Prelude.{◌≡◌, [], ◌∷◌, ◌++◌, map, IfOk, MatchOption};
 ghost use Rattle.std.specs.List.{list_all};
 ghost use Rattle.std.specs.Option.{option_map, option_zip};
 ghost use Rattle.py_syntax.specs.Expressions.{expr_tree};
@@ -14,15 +14,15 @@ ghost use Rattle.py_check_messages.specs.Messages as message;
 ghost use Rattle.py_check_coercions.specs.Boxes.{boxed};
 ghost use Rattle.py_check_coercions.specs.Several.{unless};
 ghost use Rattle.py_check_targets.specs.Targets as rule_of;
-ghost use Rattle.py_check_targets.specs.Targets as rule_of;
 ghost use Rattle.py_check_assignments.specs.Assignments as rules_of;
 ghost use Rattle.py_check_places.specs.Views.{known_at};
 ghost use Rattle.py_check_targets.specs.Views.{aim_seen, boxed_act};
 
+use crate::parts::refused;
 use py_check_context::Scope;
 use py_check_messages::no_target;
-use py_check_places::{Place, bind_target, is_flat, is_row, leaves};
-use py_check_targets::{Aim, aims, binds_several, slot_of, target_aims, value_for, value_type};
+use py_check_places::{Place, bind_target, is_flat, is_row};
+use py_check_targets::{Aim, binds_several, slot_of, target_aims, value_for, value_type};
 use py_check_values::assigned;
 use py_syntax::{Expr, Span};
 use py_syntax_diagnostics::Diag;
@@ -46,12 +46,13 @@ pub fn assign(
     let Assignment { kind, value } = typed_assignment(
         alloc, scope, place, span, target, e, faults,
     )?;
-    bind_target(alloc, scope, place, kind.is_some(), target, value.as_ref())?;
+    let bound = bind_target(alloc, scope, place, kind.is_some(), target, value.as_ref());
+    drop(value);
+    bound?;
     Ok(kind)
 }
 
 /// A statement that assigns, where it holds, and the type of its value, where that has one.
-#[derive(Drop)]
 pub(crate) struct Assignment {
     pub(crate) kind: Option<Box<TStmtKind>>,
     pub(crate) value: Option<Ty>,
@@ -73,8 +74,13 @@ fn typed_assignment(
     let aims = target_aims(alloc, scope, place, target, faults)?;
     let e = value_for(alloc, scope, place, is_row(target), &aims, e, faults)?;
     let value = value_type(alloc, &e)?;
-    let kind = assigned_to(alloc, scope.classes, span, target, aims, e, faults)?;
-    Ok(Assignment { kind, value })
+    match assigned_to(alloc, scope.classes, span, target, aims, e, faults) {
+        Ok(kind) => Ok(Assignment { kind, value }),
+        Err(memory) => {
+            drop(value);
+            Err(memory)
+        }
+    }
 }
 
 // A value that is assigned to these targets.
@@ -95,9 +101,23 @@ fn assigned_to(
     let Some(e) = e else {
         return Ok(None);
     };
+    takes_value(alloc, classes, span, target, aims, e, faults)
+}
+
+// The same of parts that are typed.
+fn takes_value(
+    alloc: Global,
+    classes: &Classes,
+    span: Span,
+    target: &Expr,
+    aims: Many<Aim<'_>>,
+    e: Box<TExpr>,
+    faults: &mut Many<Diag>,
+) -> Result<Option<Box<TStmtKind>>, Memory>
+    ensures { IfOk result (λ t. Tells boxed_act t faults.old faults.new (judged span (rule_of.assigned (map class_entry classes.now.list) (expr_tree target.now) (map aim_seen aims.entry, boxed e)))) }
+{
     if !are_placed(is_flat(target), aims.as_slice()) {
-        no_target(alloc, span, faults)?;
-        return Ok(None);
+        return refused(alloc, span, faults);
     }
     let e = value_assigned(
         alloc,
@@ -130,16 +150,11 @@ fn all_placed(aims: &[Aim<'_>]) -> bool
     true
 }
 
-fn is_placed(a: &Aim<'_>) -> bool
+/// Whether one is no other expression.
+pub(crate) fn is_placed(a: &Aim<'_>) -> bool
     ensures { result ≡ rule_of.is_placed (aim_seen a.now) }
 {
-    match a {
-        Aim::Misplaced(_) => false,
-        Aim::Held(_, _) => true,
-        Aim::First(_, _) => true,
-        Aim::Barred(_) => true,
-        Aim::Unwritten(_) => true,
-    }
+    !matches!(a, Aim::Misplaced(_))
 }
 
 // The value as it is assigned.
@@ -222,12 +237,26 @@ fn targets_of(alloc: Global, aims: Many<Aim<'_>>) -> Result<Many<Target>, Memory
 pub(crate) fn put_target(targets: &mut Many<Target>, a: Aim<'_>) -> Result<(), Memory>
     ensures { IfOk result (λ done. map typed_target targets.new ≡ map typed_target targets.old ++ rule_of.target_of (aim_seen a.entry)) }
 {
+    match written(a) {
+        Some(target) => targets.push(target),
+        None => Ok(()),
+    }
+}
+
+/// The target that is written, if it is one.
+pub(crate) fn written(a: Aim<'_>) -> Option<Target>
+    ensures { MatchOption result (rule_of.target_of (aim_seen a.entry) ≡ []) (λ target. rule_of.target_of (aim_seen a.entry) ≡ typed_target target ∷ []) }
+{
     match a {
-        Aim::Held(target, _) => targets.push(target),
-        Aim::First(target, _) => targets.push(target),
-        Aim::Barred(_) => Ok(()),
-        Aim::Unwritten(_) => Ok(()),
-        Aim::Misplaced(_) => Ok(()),
+        Aim::Held(target, t) => {
+            drop(t);
+            Some(target)
+        }
+        Aim::First(target, _) => Some(target),
+        other => {
+            drop(other);
+            None
+        }
     }
 }
 
@@ -242,6 +271,13 @@ pub(crate) fn act_of(
     let Some(e) = e else {
         return Ok(None);
     };
-    let kind = Box::new(alloc, TStmtKind::Assign(targets, Box::into_inner(e)))?;
+    let kind = kept(alloc, TStmtKind::Assign(targets, Box::into_inner(e)))?;
     Ok(Some(kind))
+}
+
+/// A statement on the heap.
+pub(crate) fn kept(alloc: Global, kind: TStmtKind) -> Result<Box<TStmtKind>, Memory>
+    ensures { IfOk result (λ b. b.value ≡ kind) }
+{
+    Ok(Box::new(alloc, kind)?)
 }

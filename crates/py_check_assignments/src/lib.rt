@@ -6,6 +6,7 @@
 
 mod annotations;
 mod assignments;
+mod parts;
 mod updates;
 
 pub use annotations::annotate;

@@ -1,32 +1,30 @@
 //! Operations with assignment.
 ghost use Rattle.std.specs.Prelude.{◌≡◌, false, map, None, Some, unwrap_or, IfOk};
-ghost use Rattle.std.specs.Option.{option_copied, option_map, option_zip};
+ghost use Rattle.std.specs.Option.{option_map, option_zip};
 ghost use Rattle.py_syntax.specs.Expressions.{expr_tree};
 ghost use Rattle.py_typed.specs.Sorts.{sort};
 ghost use Rattle.py_typed.specs.Classes.{class_entry};
 ghost use Rattle.py_typed.specs.Expressions.{type_of};
 ghost use Rattle.py_typed.specs.Statements as acts;
-ghost use Rattle.py_typed.specs.Statements.{TypedAct, typed_target};
+ghost use Rattle.py_typed.specs.Statements.{typed_target};
 ghost use Rattle.py_check_context.specs.Context.{context};
 ghost use Rattle.py_check_flow.specs.Bindings as bindings;
-ghost use Rattle.py_check_messages.specs.Seen.{Tells, fails, judged, ruled};
-ghost use Rattle.py_check_messages.specs.Messages as message;
+ghost use Rattle.py_check_messages.specs.Seen.{Tells, judged, ruled};
 ghost use Rattle.py_check_coercions.specs.Boxes.{boxed};
-ghost use Rattle.py_check_coercions.specs.Several.{with_part};
 ghost use Rattle.py_check_operators.specs.Operators as operators;
 ghost use Rattle.py_check_places.specs.Shapes as shapes;
 ghost use Rattle.py_check_targets.specs.Targets as targets;
-ghost use Rattle.py_check_places.specs.Shapes as shapes;
 ghost use Rattle.py_check_assignments.specs.Assignments as rules_of;
 ghost use Rattle.py_check_places.specs.Views.{known_at};
 ghost use Rattle.py_check_targets.specs.Views.{aim_seen, boxed_aim, boxed_act};
 ghost use Rattle.py_check_assignments.specs.Views.{boxed_sort};
 
+use crate::assignments::{is_placed, kept, written};
+use crate::parts::{has_aims, refuse_value, refused};
 use py_check_context::{Meaning, Scope, Want, meaning_of};
-use py_check_messages::no_target;
 use py_check_operators::arithmetic_type;
 use py_check_places::{Place, bind_target, is_item, is_row, name_in};
-use py_check_targets::{Aim, name_aim, slot_of, target_aims, typed_at, value_aim};
+use py_check_targets::{Aim, name_aim, slot_of, typed_at, value_aim};
 use py_check_values::binds;
 use py_syntax::{BinOp, Expr, Span};
 use py_syntax_diagnostics::Diag;
@@ -85,23 +83,8 @@ fn update_row(
 ) -> Result<Option<Box<TStmtKind>>, Memory>
     ensures { IfOk result (λ t. Tells boxed_act t faults.old faults.new (rules_of.updates_row (context scope.now) (known_at place.now) span (expr_tree target.now) (expr_tree e.now))) }
 {
-    let aims = target_aims(alloc, scope, place, target, faults)?;
-    let e = typed_at(alloc, scope, place, Want::Free, e, faults)?;
-    row_refused(alloc, span, aims, e, faults)
-}
-
-fn row_refused(
-    alloc: Global,
-    span: Span,
-    aims: Option<Many<Aim<'_>>>,
-    e: Option<Box<TExpr>>,
-    faults: &mut Many<Diag>,
-) -> Result<Option<Box<TStmtKind>>, Memory>
-    ensures { IfOk result (λ t. Tells boxed_act t faults.old faults.new (with_part (option_zip (option_map (map aim_seen) aims.entry) (option_map boxed e)) (λ p. fails {A = TypedAct} span message.no_target))) }
-{
-    if aims.is_some() && e.is_some() {
-        return refused(alloc, span, faults);
-    }
+    let placed = has_aims(alloc, scope, place, target, faults)?;
+    refuse_value(alloc, scope, place, span, placed, e, faults)?;
     Ok(None)
 }
 
@@ -143,6 +126,23 @@ fn operation(
     let Some(e) = e else {
         return Ok(None);
     };
+    operation_on(alloc, scope, place, span, target, op, read, e, faults)
+}
+
+// The same of parts that are typed.
+fn operation_on(
+    alloc: Global,
+    scope: &Scope<'_>,
+    place: &Place,
+    span: Span,
+    target: &Expr,
+    op: BinOp,
+    read: Box<TExpr>,
+    e: Box<TExpr>,
+    faults: &mut Many<Diag>,
+) -> Result<Option<Box<TStmtKind>>, Memory>
+    ensures { IfOk result (λ t. Tells boxed_act t faults.old faults.new (judged span (targets.updated (context scope.now).classes span op (targets.read_aim (context scope.now) (known_at place.now) (bindings.name_in (expr_tree target.now)) (shapes.is_item (expr_tree target.now))) (boxed read, boxed e)))) }
+{
     let classes = scope.classes;
     let Some(ty) = result_type(alloc, classes, span, op, &read.ty, &e.ty, faults)? else {
         return Ok(None);
@@ -228,12 +228,6 @@ fn updated_to(
     written_back(alloc, span, aim, op, e, ty, faults)
 }
 
-fn is_placed(a: &Aim<'_>) -> bool
-    ensures { result ≡ targets.is_placed (aim_seen a.now) }
-{
-    !matches!(a, Aim::Misplaced(_))
-}
-
 // To a target that the result may be bound to.
 fn written_back(
     alloc: Global,
@@ -246,12 +240,9 @@ fn written_back(
 ) -> Result<Option<Box<TStmtKind>>, Memory>
     ensures { IfOk result (λ t. Tells boxed_act t faults.old faults.new (judged span (targets.written_back op (boxed e) (boxed_sort ty) None (targets.target_of (boxed_aim aim.entry))))) }
 {
-    match Box::into_inner(aim) {
-        Aim::Held(target, _) => augmented(alloc, target, op, e, ty),
-        Aim::First(target, _) => augmented(alloc, target, op, e, ty),
-        Aim::Barred(_) => refused(alloc, span, faults),
-        Aim::Unwritten(_) => refused(alloc, span, faults),
-        Aim::Misplaced(_) => refused(alloc, span, faults),
+    match written(Box::into_inner(aim)) {
+        Some(target) => augmented(alloc, target, op, e, ty),
+        None => refused(alloc, span, faults),
     }
 }
 
@@ -265,17 +256,6 @@ fn augmented(
     ensures { IfOk result (λ t. option_map boxed_act t ≡ Some (acts.Aug (typed_target target) op (boxed e) (boxed_sort ty))) }
 {
     let e = Box::into_inner(e);
-    let kind = TStmtKind::Aug(target, op, e, Box::into_inner(ty));
-    Ok(Some(Box::new(alloc, kind)?))
-}
-
-fn refused(
-    alloc: Global,
-    span: Span,
-    faults: &mut Many<Diag>,
-) -> Result<Option<Box<TStmtKind>>, Memory>
-    ensures { IfOk result (λ t. Tells boxed_act t faults.old faults.new (fails {A = TypedAct} span message.no_target)) }
-{
-    no_target(alloc, span, faults)?;
-    Ok(None)
+    let kind = kept(alloc, TStmtKind::Aug(target, op, e, Box::into_inner(ty)))?;
+    Ok(Some(kind))
 }

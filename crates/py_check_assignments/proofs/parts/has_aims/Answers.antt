@@ -1,0 +1,12 @@
+use Rattle.std.proofs.Common.{map}
+use Rattle.py_syntax.specs.Expressions.{expr_tree}
+use Rattle.py_check_context.specs.Context.{context}
+use Rattle.py_check_places.specs.Views.{known_at}
+use Rattle.py_check_targets.specs.Targets.{target_aims}
+use Rattle.py_check_targets.specs.Views.{aim_seen}
+use Rattle.py_check_assignments.proofs.RefusalLemmas.{shown}
+use Rattle.py_check_assignments.proofs.parts.has_aims.Goals as goal
+
+pub returns : goal.returns
+returns c =
+    shown (map aim_seen) c.in_ok-aims.aims c.is_some.result c.args.faults.now c.target_aims.new.faults (target_aims (context c.args.scope.now) (known_at c.args.place.now) (expr_tree c.args.target.now)) c.in_ok-aims.ensures c.is_some.ensures
