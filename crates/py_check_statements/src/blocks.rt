@@ -16,7 +16,7 @@ ghost use Rattle.py_check_targets.specs.Views.{boxed_act};
 ghost use Rattle.py_check_loops.specs.Loops.{loop_of};
 ghost use Rattle.py_check_loops.specs.Heads as heads;
 ghost use Rattle.py_check_statements.specs.Bodies as rules_of;
-ghost use Rattle.py_check_statements.specs.Views.{boxed_stmt, guarded_seen, way};
+ghost use Rattle.py_check_statements.specs.Views.{guarded_seen, way};
 
 use crate::bodies::{condition, is_definition};
 use crate::parts::{
@@ -57,31 +57,14 @@ pub fn block(
         if is_definition(s) {
             continue;
         }
-        let one = statement(alloc, scope, s, returns, loops, place, faults)?;
+        let kind = act(alloc, scope, s, returns, loops, place, faults)?;
+        let one = placed(alloc, s.span.line, kind)?;
         found = with_statement(found, one)?;
     }
     Ok(found)
 }
 
-// A statement that is no definition.
-#[cycle(statement)]
-fn statement(
-    alloc: Global,
-    scope: &Scope<'_>,
-    s: &Stmt,
-    returns: Returns<'_>,
-    loops: bool,
-    place: &mut Place,
-    faults: &mut Many<Diag>,
-) -> Result<Option<Box<TStmt>>, Memory>
-    ensures told { IfOk result (λ t. Tells boxed_stmt t faults.old faults.new (rules_of.statement (context scope.now) (return_sort returns.entry) loops (known_at place.old) (stmt_tree s.now))) }
-    ensures known { IfOk result (λ t. known_at place.new ≡ rules_of.after (context scope.now) (known_at place.old) (stmt_tree s.now)) }
-{
-    let kind = act(alloc, scope, s, returns, loops, place, faults)?;
-    placed(alloc, s.span.line, kind)
-}
-
-// What a statement is, without its line.
+// A statement that is no definition, without its line.
 #[cycle(statement)]
 fn act(
     alloc: Global,

@@ -16,6 +16,7 @@ ghost use Rattle.py_check_targets.specs.Views.{boxed_act};
 ghost use Rattle.py_check_statements.specs.Bodies as rules_of;
 ghost use Rattle.py_check_statements.specs.Views.{guarded_seen};
 
+use crate::statements::in_box;
 use py_check_context::Scope;
 use py_check_flow::{breaks_out, is_closed};
 use py_check_operators::with_facts;
@@ -85,7 +86,7 @@ pub(crate) fn branched(
     let Some(other) = other else {
         return Ok(None);
     };
-    let kind = Box::new(alloc, if_of(arms, other))?;
+    let kind = in_box(alloc, if_of(arms, other))?;
     Ok(Some(kind))
 }
 
@@ -107,7 +108,7 @@ pub(crate) fn repeated(
         return Ok(None);
     };
     let Guarded { test, body } = one;
-    let kind = Box::new(alloc, TStmtKind::While(Box::into_inner(test), body))?;
+    let kind = in_box(alloc, TStmtKind::While(Box::into_inner(test), body))?;
     Ok(Some(kind))
 }
 

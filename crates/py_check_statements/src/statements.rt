@@ -43,13 +43,20 @@ pub fn alone(
     of_value(alloc, e)
 }
 
+/// A statement that is kept on the heap.
+pub(crate) fn in_box(alloc: Global, kind: TStmtKind) -> Result<Box<TStmtKind>, Memory>
+    ensures { IfOk result (λ a. boxed_act a ≡ acts.typed_act kind) }
+{
+    Ok(Box::new(alloc, kind)?)
+}
+
 fn of_value(alloc: Global, e: Option<Box<TExpr>>) -> Result<Option<Box<TStmtKind>>, Memory>
     ensures { IfOk result (λ t. option_map boxed_act t ≡ option_map acts.Do (option_map boxed e)) }
 {
     let Some(e) = e else {
         return Ok(None);
     };
-    let kind = Box::new(alloc, TStmtKind::Expr(Box::into_inner(e)))?;
+    let kind = in_box(alloc, TStmtKind::Expr(Box::into_inner(e)))?;
     Ok(Some(kind))
 }
 
@@ -84,7 +91,7 @@ fn nothing_given(alloc: Global, right: Option<()>) -> Result<Option<Box<TStmtKin
     let Some(_) = right else {
         return Ok(None);
     };
-    let kind = Box::new(alloc, TStmtKind::Return(None))?;
+    let kind = in_box(alloc, TStmtKind::Return(None))?;
     Ok(Some(kind))
 }
 
@@ -94,7 +101,7 @@ fn given(alloc: Global, e: Option<Box<TExpr>>) -> Result<Option<Box<TStmtKind>>,
     let Some(e) = e else {
         return Ok(None);
     };
-    let kind = Box::new(alloc, TStmtKind::Return(Some(Box::into_inner(e))))?;
+    let kind = in_box(alloc, TStmtKind::Return(Some(Box::into_inner(e))))?;
     Ok(Some(kind))
 }
 
@@ -102,7 +109,7 @@ fn given(alloc: Global, e: Option<Box<TExpr>>) -> Result<Option<Box<TStmtKind>>,
 pub(crate) fn passed(alloc: Global) -> Result<Option<Box<TStmtKind>>, Memory>
     ensures { IfOk result (λ t. option_map boxed_act t ≡ Some acts.Pass) }
 {
-    let kind = Box::new(alloc, TStmtKind::Pass)?;
+    let kind = in_box(alloc, TStmtKind::Pass)?;
     Ok(Some(kind))
 }
 
@@ -119,7 +126,7 @@ pub(crate) fn broken(
         outside_loop(alloc, span, "break", faults)?;
         return Ok(None);
     }
-    let kind = Box::new(alloc, TStmtKind::Break)?;
+    let kind = in_box(alloc, TStmtKind::Break)?;
     Ok(Some(kind))
 }
 
@@ -136,7 +143,7 @@ pub(crate) fn continued(
         outside_loop(alloc, span, "continue", faults)?;
         return Ok(None);
     }
-    let kind = Box::new(alloc, TStmtKind::Continue)?;
+    let kind = in_box(alloc, TStmtKind::Continue)?;
     Ok(Some(kind))
 }
 

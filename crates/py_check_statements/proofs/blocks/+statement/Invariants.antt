@@ -14,9 +14,6 @@ use Rattle.py_syntax.specs.declared.statement.Stmt.{size-Stmt}
 use Rattle.py_check_statements.proofs.SizeLemmas.{arm_size}
 use Rattle.py_check_statements.proofs.blocks.+statement.Given as goal
 
-abbrev pub decreases-statement : goal.decreases-statement
-decreases-statement l = size-Stmt l.s.now * 6 + 1
-
 abbrev pub decreases-act : goal.decreases-act
 decreases-act l = size-Stmt l.s.now * 6
 
