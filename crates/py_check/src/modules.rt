@@ -1,13 +1,16 @@
 //! A module with its own statements and its functions.
-ghost use Rattle.std.specs.Prelude.{◌≡◌, ◌++◌, map, IfOk};
+ghost use Rattle.std.specs.Prelude.{◌≡◌, ◌++◌, map, filter, IfOk};
+ghost use Rattle.std.specs.List.{flat_map};
 ghost use Rattle.std.specs.Option.{option_map};
 ghost use Rattle.py_syntax.specs.Statements.{body_tree};
 ghost use Rattle.py_typed.specs.Classes.{signature};
 ghost use Rattle.py_typed.specs.Statements.{typed_func, typed_module, typed_stmt};
+ghost use Rattle.py_check_names.specs.Walked.{func_trees};
 ghost use Rattle.py_check_context.specs.Context.{context, var_sort};
 ghost use Rattle.py_check_messages.specs.Seen.{Tells};
 ghost use Rattle.py_check_signatures.specs.Headers as headers;
 ghost use Rattle.py_check_places.specs.Views.{known_at};
+ghost use Rattle.py_check_definitions.specs.Globals as global_rules;
 ghost use Rattle.py_check_definitions.specs.Views.{headed_of};
 ghost use Rattle.py_check.specs.Outcome.{IsBound};
 ghost use Rattle.py_check.specs.Module as spec;
@@ -18,8 +21,8 @@ use indexmap::IndexSet;
 use py_binder::{Scope, Scopes};
 use py_check_context::{VarType, Variables};
 use py_check_definitions::{
-    Environment, Function, add_global_faults, add_header_faults, definitions_of, no_classes,
-    signatures_of, start_types, typed_variables,
+    Environment, Function, Outlined, add_global_faults, add_header_faults, definitions_of,
+    no_classes, signatures_of, start_types, typed_variables,
 };
 use py_check_names::{Known, names_in};
 use py_check_places::Place;
@@ -53,14 +56,22 @@ pub(crate) fn typed_module(
 {
     let found = definitions_of(alloc, body, &scopes.top)?;
     let functions = add_header_faults(alloc, &found, scopes, faults)?;
-    let typed = typed_parts(
-        alloc,
-        &found.known,
-        functions.as_slice(),
-        &scopes.top,
-        body,
-        faults,
-    )?;
+    typed_with(alloc, &found, functions.as_slice(), scopes, body, faults)
+}
+
+/// The same where these are its definitions and its functions with their headers, of which all that is wrong is told before.
+fn typed_with<'a>(
+    alloc: Global,
+    found: &Outlined<'a>,
+    functions: &[Function<'_>],
+    scopes: &Scopes,
+    body: &'a [Stmt],
+    faults: &mut Many<Diag>,
+) -> Result<Checked, Memory>
+    ensures typed { IfOk result (λ c. typed_module c ≡ spec.typed_parts (views.environment_by found.now.known (map headed_of functions.now)) scopes.now.top (map headed_of functions.now) (body_tree body.now)) }
+    ensures told { IfOk result (λ c. faults.new ≡ faults.old ++ spec.statements_said (views.environment_by found.now.known (map headed_of functions.now)) scopes.now.top (map headed_of functions.now) (body_tree body.now) ++ flat_map (global_rules.global_said found.now.known.variables.keys) (global_rules.all_globals (body_tree body.now) (func_trees found.now.functions.items)) ++ filter global_rules.is_refusal scopes.now.faults) }
+{
+    let typed = typed_parts(alloc, &found.known, functions, &scopes.top, body, faults)?;
     add_global_faults(
         alloc,
         &found.known.variables,

@@ -1,8 +1,8 @@
-use Rattle.std.proofs.Common.{◌≡◌, ◌++◌, ◌∙◌, List, map, filter, Bor, ap, ap₂}
+use Rattle.std.proofs.Common.{◌≡◌, ◌++◌, ◌∙◌, List, map, filter, IfOk, refl, ap, subst}
 use Rattle.std.specs.List.{flat_map}
-use Rattle.py_syntax.specs.declared.statement.Func.{Func}
 use Rattle.py_syntax.specs.Statements.{body_tree}
 use Rattle.py_syntax_diagnostics.specs.declared.diagnostic.Diag.{Diag}
+use Rattle.py_typed.specs.Statements.{TypedModule, typed_module}
 use Rattle.py_check_names.specs.Walked.{trees, func_trees}
 use Rattle.py_check_definitions.specs.declared.functions.Function.{Function}
 use Rattle.py_check_definitions.specs.Views.{headed_of}
@@ -23,18 +23,23 @@ returns-clause-typed c =
     let o = c.in_ok-found.found in
     let fs = map headed_of c.in_ok-functions.functions.items in
     let whole : fs ≡ headed_functions m = same_functions m s c.requires o.known c.in_ok-found.ensures.said c.in_ok-found.ensures.variables (func_trees o.functions.items) c.in_ok-found.ensures.functions fs c.in_ok-functions.ensures.functions in
-    c.in_ok-typed.ensures.typed
-    ∙ ap (λ (l : List Function). typed_parts (environment_by o.known (map headed_of l)) s.top (map headed_of l) m) c.as_slice.ensures.value
-    ∙ same_tree m s c.requires o.known c.in_ok-found.ensures.said c.in_ok-found.ensures.variables fs whole
+    let P : TypedModule → Type 0 = λ x. IfOk c.typed_with.result (λ t. typed_module t ≡ x) in
+    subst P
+    (ap (λ (l : List Function). typed_parts (environment_by o.known (map headed_of l)) s.top (map headed_of l) m) c.as_slice.ensures.value
+    ∙ same_tree m s c.requires o.known c.in_ok-found.ensures.said c.in_ok-found.ensures.variables fs whole)
+    c.typed_with.ensures.typed
 
 pub returns-clause-told : goal.returns-clause-told
 returns-clause-told c =
     let m = body_tree c.args.body.now in
     let s = c.args.scopes.now in
     let o = c.in_ok-found.found in
+    let l = c.in_ok-functions.functions.items in
     let d1 = c.add_header_faults.new.faults in
-    let d2 = c.typed_parts.new.faults in
-    all_told m s c.requires o.known c.in_ok-found.ensures.said c.in_ok-found.ensures.variables (func_trees o.functions.items) c.in_ok-found.ensures.functions (map headed_of c.in_ok-functions.functions.items) c.in_ok-functions.ensures.functions (trees o.definitions.items) c.in_ok-found.ensures.definitions c.args.faults.now d1 d2 c.add_global_faults.new.faults
-    c.in_ok-functions.ensures.told
-    (c.in_ok-typed.ensures.told ∙ ap (λ (l : List Function). d1 ++ statements_said (environment_by o.known (map headed_of l)) s.top (map headed_of l) m) c.as_slice.ensures.value)
-    (c.in_ok-add_global_faults.ensures ∙ ap₂ (λ (l : List (Bor Func)) (ds : List Diag). (d2 ++ flat_map (global_said o.known.variables.keys) (all_globals m (func_trees l))) ++ filter is_refusal ds) c.as_slice-2.ensures.value c.as_slice-3.ensures)
+    let after : List Function → List Diag = λ k. d1 ++ statements_said (environment_by o.known (map headed_of k)) s.top (map headed_of k) m in
+    let all : List Function → List Diag = λ k. (after k ++ flat_map (global_said o.known.variables.keys) (all_globals m (func_trees o.functions.items))) ++ filter is_refusal s.faults in
+    let P : List Diag → Type 0 = λ x. IfOk c.typed_with.result (λ t. c.typed_with.new.faults ≡ x) in
+    subst P
+    (ap all c.as_slice.ensures.value
+    ∙ all_told m s c.requires o.known c.in_ok-found.ensures.said c.in_ok-found.ensures.variables (func_trees o.functions.items) c.in_ok-found.ensures.functions (map headed_of l) c.in_ok-functions.ensures.functions (trees o.definitions.items) c.in_ok-found.ensures.definitions c.args.faults.now d1 (after l) (all l) c.in_ok-functions.ensures.told refl refl)
+    c.typed_with.ensures.told

@@ -1,0 +1,32 @@
+use Rattle.std.proofs.Common.{◌≡◌, ◌∙◌, ◌++◌, List, map, Option, IfOk, ap, ap₂, subst, subst₂}
+use Rattle.std.proofs.lemmas.List.{append_assoc}
+use Rattle.py_syntax.specs.Statements.{body_tree}
+use Rattle.py_syntax_diagnostics.specs.declared.diagnostic.Diag.{Diag}
+use Rattle.py_typed.specs.Statements.{TypedStmt, TypedFunc, typed_func, typed_module}
+use Rattle.py_check_context.specs.Context.{VarSort}
+use Rattle.py_check_places.specs.Views.{known_at}
+use Rattle.py_check_statements.proofs.BodyLemmas.{always}
+use Rattle.py_check_definitions.specs.Views.{headed_of}
+use Rattle.py_check.specs.Module.{context_in, own_statements, fixed_sorts, bodies_said, typed_functions, sorts_behind_all, statements_said}
+use Rattle.py_check.specs.Parts.{environment_of, module_by}
+use Rattle.py_check.proofs.modules.typed_in.Goals as goal
+
+pub returns : goal.returns
+returns c =
+    let e = environment_of c.args.environment.now in
+    let top = c.args.top.now in
+    let fs = map headed_of c.args.functions.now in
+    let m = body_tree c.args.body.now in
+    let own = own_statements (context_in e top) e.variables m in
+    let fixed = c.in_ok-own.ensures.known in
+    let behind = (known_at c.typed_functions.new.place).types.globals in
+    let P : List VarSort → List TypedFunc → Option (List TypedStmt) → Type 0 = λ sorts funcs typed. IfOk c.with_functions.result (λ t. typed_module t ≡ module_by fs e.variables sorts funcs typed) in
+    let Q : Option (List TypedStmt) → Type 0 = P behind (map typed_func c.in_ok-funcs.funcs) in
+    let R : List VarSort → List TypedFunc → Type 0 = λ sorts funcs. P sorts funcs own.got in
+    record {
+      typed = subst₂ R (c.in_ok-funcs.ensures.known ∙ ap (λ (k : List VarSort). sorts_behind_all e k fs) fixed) (c.in_ok-funcs.ensures.typed ∙ ap (λ (k : List VarSort). typed_functions e k fs) fixed) (subst Q c.in_ok-own.ensures.told.0 c.with_functions.ensures);
+      told = always c.with_functions.result (c.typed_functions.new.faults ≡ c.args.faults.now ++ statements_said e top fs m)
+          (c.in_ok-funcs.ensures.told
+          ∙ ap₂ (λ (l : List Diag) (k : List VarSort). l ++ bodies_said e k fs) c.in_ok-own.ensures.told.1 fixed
+          ∙ append_assoc c.args.faults.now own.said (bodies_said e (fixed_sorts (context_in e top) e.variables m) fs));
+    }
