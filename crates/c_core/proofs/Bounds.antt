@@ -10,7 +10,7 @@ use Rattle.c_core.specs.Cells.{count_at}
 use Rattle.c_core.specs.Machine.{MachineState}
 use Rattle.c_core.specs.Step.{Next, Goes, Ends, step_at, line_at}
 use Rattle.c_core.specs.Run.{Stop, go_on, start, most_lines, most_steps, module_function, unchecked_run}
-use Rattle.c_core.specs.WellFormed.{WellFormed, is_spelled, is_empty, spelled_globals, spelled_functions, names_differ, function_fits, is_leaving}
+use Rattle.c_core.specs.WellFormed.{WellFormed, is_spelled, spelled_globals, spelled_class, spelled_functions, names_differ, function_fits, classes_fit, functions_fit, is_leaving}
 use Rattle.c_core.specs.Laws.{state_after, Reaches, Here, There, RunExists, RunStaysSmall}
 use Rattle.c_core.proofs.Lines.{and_true, leads_on}
 use Rattle.c_core.proofs.Falls.{most, steps_left, Falls, step_falls, first_left}
@@ -36,12 +36,12 @@ most_some code (g ∷ fs) e all =
 bounded : (code : Code) → WellFormed code → Bounded code
 bounded code wf =
     let globals = names_differ (map (λ v. v.0) code.globals) in
-    let functions = names_differ (map (λ g. g.name) code.funcs) in
-    let fit = list_all (function_fits code) code.funcs in
-    let both = and_true (is_spelled code) (globals && (functions && fit)) wf in
-    let spelled = and_true (spelled_globals code.globals) (is_empty code.classes && spelled_functions code.funcs) both.0 in
-    let some = (and_true (is_empty code.classes) (spelled_functions code.funcs) spelled.1).1 in
-    let all = (and_true functions fit (and_true globals (functions && fit) both.1).1).1 in
+    let classes = list_all spelled_class code.classes in
+    let both = and_true (is_spelled code) (globals && (classes_fit code && functions_fit code)) wf in
+    let spelled = and_true (spelled_globals code.globals) (classes && spelled_functions code.funcs) both.0 in
+    let some = (and_true classes (spelled_functions code.funcs) spelled.1).1 in
+    let fits = (and_true (classes_fit code) (functions_fit code) (and_true globals (classes_fit code && functions_fit code) both.1).1).1 in
+    let all = (and_true (names_differ (map (λ g. g.name) code.funcs)) (list_all (function_fits code) code.funcs) fits).1 in
     record { all = all; some_lines = most_some code code.funcs some all }
 
 -- ---- with more steps than are left a run stops

@@ -8,7 +8,8 @@ use Rattle.std.proofs.lemmas.Option.{slice_get_within}
 use Rattle.std.proofs.lemmas.Bool.{ltb-true, ltb-false}
 use Rattle.c_core.specs.declared.code.CArg.{CArg}
 use Rattle.c_core.specs.declared.code.Line.{Line}
-use Rattle.c_core.specs.declared.code.Line.TheVariants.{Label, Move, Lit, Call, Goto, If, IfError, Turn, Return, Inc, Dec, XDec}
+use Rattle.c_core.specs.declared.code.Line.TheVariants.{Label, Move, Lit, Call, Virtual, TraitCall, Goto, If, IfError, Turn, Return, Inc, Dec, XDec}
+use Rattle.c_core.specs.declared.code.CClass.{CClass}
 use Rattle.c_core.specs.declared.code.CFunc.{CFunc}
 use Rattle.c_core.specs.declared.code.Code.{Code}
 use Rattle.c_core.specs.declared.fault.Fault.{Fault}
@@ -16,14 +17,14 @@ use Rattle.c_core.specs.declared.fault.Fault.TheVariants as fault
 use Rattle.c_core.specs.declared.primitive.Primitive.{Primitive}
 use Rattle.c_core.specs.Ledgers.{Ledger}
 use Rattle.c_core.specs.Machine.{Word, BigInt, ObjectCell, set_refs, Frame, MachineState}
-use Rattle.c_core.specs.Functions.{is_turn, label_places, function_named, entry_words}
+use Rattle.c_core.specs.Functions.{is_turn, label_places, function_named, method_at, trait_method_at, entry_words}
 use Rattle.c_core.specs.Primitives.{row_of, primitive_named}
 use Rattle.c_core.specs.Arguments.{stolen}
-use Rattle.c_core.specs.Step.{Next, Goes, Ends, Faulted, Effect, Wrong, Says, Shares, Makes, Changes, Writes, Stores, Fails, Pends, Catches, MakesInt, Reads, Skips, Stops, effect, shared, given, with_ledger, with_target, next_line, at_place, literal_word, equals_error, kind_of, function_of, label_at, applied, call_step, entered, jumped, turned, if_return, if_result, if_none_left, step_at, line_at}
+use Rattle.c_core.specs.Step.{Next, Goes, Ends, Faulted, Effect, Wrong, Says, Shares, Lends, Makes, Changes, Writes, Stores, Fails, Pends, Catches, MakesInt, Reads, Skips, Stops, effect, shared, given, with_ledger, with_target, next_line, at_place, literal_word, equals_error, kind_of, function_of, label_at, applied, call_step, method_called, entered, jumped, turned, if_return, if_result, if_none_left, step_at, line_at}
 use Rattle.c_core.specs.Run.{most_lines}
 use Rattle.c_core.specs.WellFormed.{goes_on, goes_down, jump_fits, is_turn_at, function_fits}
-use Rattle.c_core.proofs.StepCases.{at_some, at_calm, at_word, at_there, at_called, at_function, at_jumped, at_chosen, at_incremented, at_decremented, at_decremented_if_set, at_order, at_ended, at_result}
-use Rattle.c_core.proofs.Lines.{Leads, leads_on, and_true, all_at, most_bound, label_is, turn_above, jump_at, named_function}
+use Rattle.c_core.proofs.StepCases.{at_some, at_calm, at_word, at_there, at_called, at_function, at_method, at_jumped, at_chosen, at_incremented, at_decremented, at_decremented_if_set, at_order, at_ended, at_result}
+use Rattle.c_core.proofs.Lines.{Leads, leads_on, and_true, all_at, most_bound, label_is, turn_above, jump_at, named_function, method_named}
 
 -- How many steps a frame has left before it spends a turn, where no function has more than m lines: at a goto to a label
 -- above, a round more than the lines below; at a turn that begins a function, none
@@ -232,6 +233,7 @@ module _ (is_checked : Bool) (code : Code) (all : list_all (function_fits code) 
   applied_falls x l gone (Changes c content w up) on = answer_falls x w _ (given_falls is_checked code s up _ on)
   applied_falls x l gone (Writes text) on = given_falls is_checked code s gone _ on
   applied_falls x l gone (Shares w) on = answer_falls x w _ (given_falls is_checked code s gone _ (shared_falls w _ on))
+  applied_falls x l gone (Lends w) on = answer_falls x w _ (given_falls is_checked code s gone _ on)
   applied_falls x l gone (Stores n old new) on =
       given_falls is_checked code s (set_refs (old ∷ [])) (record (with_ledger l s) { globals = slice_set s.globals n new }) on
   applied_falls x l gone (Fails w e) on = answer_falls x w _ (given_falls is_checked code s gone _ on)
@@ -259,6 +261,11 @@ module _ (is_checked : Bool) (code : Code) (all : list_all (function_fits code) 
       at_function is_checked s To bad code x args (function_named code.funcs name)
       (λ f h e found ws. entered_falls x f h (entry_words ws h) found (named_function code.funcs name f h e found) on)
 
+  method_falls : (x o : ℕ) (args : List ℕ) (entry : CClass → Option (List ℕ)) → To (Goes (next_line s)) → To (method_called is_checked s code x o args entry)
+  method_falls x o args entry on =
+      at_method is_checked s To bad code x o args entry
+      (λ a f h e found ws. entered_falls (Some x) f h (entry_words ws h) found (method_named code entry a f h e found) on)
+
   return_falls : (w : Word) (fs : List Frame) → s.below ≡ fs → left m labels p (slice_get lines p) ≡ m - p → p < length lines → To (if_return is_checked s w fs (λ next. if_result is_checked s w (λ l. if_none_left is_checked s l next)))
   return_falls w [] e here lt = at_ended is_checked s To bad w s.pending _ (λ end. at_result is_checked s To bad w _ (λ left. tt))
   return_falls w (f ∷ fs) e here lt =
@@ -285,6 +292,10 @@ module _ (is_checked : Bool) (code : Code) (all : list_all (function_fits code) 
       at_some is_checked s To bad fault.Kind (option_and_then (λ k. literal_word k l) (kind_of code s.top x)) _ (λ w found. next_falls (Lit x l) e refl refl)
   line_falls (Some (Call x name args)) e =
       call_falls x name args (primitive_named name) (next_falls (Call x name args) e refl refl)
+  line_falls (Some (Virtual x o n args)) e =
+      method_falls x o args (method_at n) (next_falls (Virtual x o n args) e refl refl)
+  line_falls (Some (TraitCall x o t n args)) e =
+      method_falls x o args (trait_method_at t n) (next_falls (TraitCall x o t n args) e refl refl)
   line_falls (Some (Goto n)) e =
       at_jumped is_checked s To bad (label_at code s.top n) (λ q found. goto_falls n q e (label_of n q found))
   line_falls (Some (If x n k)) e =

@@ -1,15 +1,14 @@
 -- A step keeps every count equal to the number of places that hold the cell.
-use Rattle.std.proofs.Common.{◌≡◌, refl, sym, ◌∙◌, ap, subst, ℕ, zero, suc, ◌+◌, arith, Bool, true, false, cond, List, [], ◌∷◌, ◌++◌, length, Option, Some, None}
+use Rattle.std.proofs.Common.{◌≡◌, refl, sym, ◌∙◌, ap, subst, ℕ, zero, suc, ◌+◌, arith, Bool, true, false, cond, List, [], ◌∷◌, ◌++◌, length, take, drop, Option, Some, None}
 use Rattle.std.specs.Prelude.{map, not, int_lt, ◌==◌, ◌≤◌, ℤ, pos, negsuc, ◌&&◌, slice_get, slice_set, is_some, Result, Ok, Err}
 use Rattle.std.specs.Ordering.{int_eq}
 use Rattle.std.specs.Option.{option_and_then, option_map}
-use Rattle.std.specs.Fmt.{signed_decimal}
 use Rattle.std.specs.Str.{bytes_eq}
 use Rattle.std.specs.Str.Parse.{signed_digits_value}
 use Rattle.value_core.specs.declared.arith.Arith.{Arith}
 use Rattle.value_core.specs.declared.exception.ExcClass.{ExcClass}
 use Rattle.value_core.specs.Characters.{place_of}
-use Rattle.value_core.specs.Arithmetic.{lies_within, is_short, int_add, int_sub, int_mul, int_neg, int_floor_div, int_modulo, int_shl, int_shr, int_to_i64, i64_floor_div, i64_modulo, i64_shl, i64_shr}
+use Rattle.value_core.specs.Arithmetic.{is_short, int_add, int_sub, int_mul, int_neg, int_floor_div, int_modulo, int_shl, int_shr, int_to_i64, i64_floor_div, i64_modulo, i64_shl, i64_shr}
 use Rattle.value_core.specs.Exceptions.{Thrown, class_named, is_under}
 use Rattle.value_core.specs.Items as item
 use Rattle.value_core.specs.Items.{Items}
@@ -18,7 +17,8 @@ use Rattle.c_core.specs.declared.code.CArg.TheVariants as arg
 use Rattle.c_core.specs.declared.code.Kind.{Kind}
 use Rattle.c_core.specs.declared.code.Kind.TheVariants.{Tagged, Object}
 use Rattle.c_core.specs.declared.code.Line.{Line}
-use Rattle.c_core.specs.declared.code.Line.TheVariants.{Label, Move, Lit, Call, Goto, If, IfError, Turn, Return, Inc, Dec, XDec}
+use Rattle.c_core.specs.declared.code.Line.TheVariants.{Label, Move, Lit, Call, Virtual, TraitCall, Goto, If, IfError, Turn, Return, Inc, Dec, XDec}
+use Rattle.c_core.specs.declared.code.CClass.{CClass}
 use Rattle.c_core.specs.declared.code.Code.{Code}
 use Rattle.c_core.specs.declared.fault.Fault.{Fault}
 use Rattle.c_core.specs.declared.fault.Fault.TheVariants as fault
@@ -30,7 +30,10 @@ use Rattle.c_core.specs.declared.primitive.BoolPrim.TheVariants as bool
 use Rattle.c_core.specs.declared.primitive.ObjectPrim.TheVariants as object
 use Rattle.c_core.specs.declared.primitive.StrPrim.TheVariants as str
 use Rattle.c_core.specs.declared.primitive.ListPrim.TheVariants as list
+use Rattle.c_core.specs.declared.primitive.DictPrim.TheVariants as dict
 use Rattle.c_core.specs.declared.primitive.TuplePrim.TheVariants as tuple
+use Rattle.c_core.specs.declared.primitive.InstancePrim.TheVariants as instance
+use Rattle.c_core.specs.declared.primitive.AttrPrim.TheVariants as attr
 use Rattle.c_core.specs.declared.primitive.GlobalPrim.TheVariants as global
 use Rattle.c_core.specs.declared.primitive.ExcPrim.TheVariants as exc
 use Rattle.c_core.specs.declared.primitive.ErrPrim.TheVariants as err
@@ -38,21 +41,22 @@ use Rattle.c_core.specs.declared.primitive.IoPrim.TheVariants as io
 use Rattle.c_core.specs.Cells.{same, times, count_at, content_at, take_one, refill, make}
 use Rattle.c_core.specs.Ledgers.{Ledger, more, more_of}
 use Rattle.c_core.specs.Release.{uses, release}
-use Rattle.c_core.specs.Machine.{Word, ShortInt, BigInt, TaggedError, Native, CharWord, ObjectCell, NoneObject, TrueObject, FalseObject, NoObject, Content, IntCell, StrCell, ListCell, TupleCell, ExcCell, refs_of, refs, refs_in, set_refs, Frame, MachineState}
+use Rattle.c_core.specs.Machine.{Word, ShortInt, BigInt, TaggedError, Native, CharWord, ObjectCell, NoneObject, TrueObject, FalseObject, NoObject, Content, IntCell, StrCell, ListCell, DictCell, TupleCell, InstCell, ExcCell, refs_of, refs, pair_refs, refs_in, set_refs, Frame, MachineState}
 use Rattle.c_core.specs.Holders.{pending_refs, owned_below}
-use Rattle.c_core.specs.Functions.{function_named}
-use Rattle.c_core.specs.Primitives.{KindAt, Is, OfGlobal, Holding, Anything, Parameter, Borrows, Steals, MaySteal, TakesNumber, TakesText, TakesException, TakesGlobal, TakesClass, row_of, primitive_named}
-use Rattle.c_core.specs.Arguments.{Argument, Cell, Plain, Written, int_in, kind_of_global, number_of_global, word_in, words_in, stolen_from, stolen}
-use Rattle.c_core.specs.Step.{Next, Goes, Ends, Faulted, Effect, Wrong, Says, Shares, Makes, Changes, Writes, Stores, Fails, Pends, Catches, MakesInt, Reads, Skips, Stops, truth_word, truth_object, native_or, tagged_effect, tagged_or, fitted, written_int, of_int, of_ints, unboxed, native_in, of_word, item_at, put_at, popped, of_words, part_at, item_or, line_read, global_at, got, stored, set_to, made_exception, pending_exception, matched, caught, took, shared, raise, effect, with_ledger, with_cells, with_target, next_line, own, literal_word, equals_error, kind_of, label_at, applied, given, call_step, turned, if_return, if_result, if_none_left, step_at, line_at, step}
-use Rattle.c_core.specs.Strings.{counted_length, text_less, text_length, text_item}
+use Rattle.c_core.specs.Functions.{function_named, method_at, trait_method_at}
+use Rattle.c_core.specs.Keys.{Key, key_place}
+use Rattle.c_core.specs.Primitives.{KindAt, Is, OfGlobal, OfSlot, Holding, Anything, AKey, Parameter, Borrows, Steals, MaySteal, TakesNumber, TakesPlace, TakesText, TakesDecimal, TakesException, TakesGlobal, TakesClass, row_of, primitive_named}
+use Rattle.c_core.specs.Arguments.{Argument, Cell, Plain, Written, int_in, key_as, kind_of_global, kind_of_slot, number_of_global, number_of_class, word_in, words_in, stolen_from, stolen}
+use Rattle.c_core.specs.Step.{Next, Goes, Ends, Faulted, Effect, Wrong, Says, Shares, Lends, Makes, Changes, Writes, Stores, Fails, Pends, Catches, MakesInt, Reads, Skips, Stops, truth_word, truth_object, native_or, tagged_effect, tagged_or, fitted, written_int, of_int, of_ints, unboxed, native_in, of_word, item_at, put_at, popped, lent, of_key, of_pair, value_at, entry_set, entry_cut, sized, key_at, instance_of, attribute_at, slot_got, attribute_got, slot_set, attribute_set, of_words, part_at, item_or, line_read, global_at, got, stored, set_to, made_exception, pending_exception, matched, caught, took, shared, raise, effect, with_ledger, with_cells, with_target, next_line, own, literal_word, equals_error, kind_of, label_at, applied, given, call_step, method_called, turned, if_return, if_result, if_none_left, step_at, line_at, step}
+use Rattle.c_core.specs.Strings.{writes_long, counted_length, text_less, text_length, text_item}
 use Rattle.c_core.specs.Run.{Stop, go_on, start, most_steps}
 use Rattle.c_core.specs.Laws.{IsCounted, IsCountedAfter, Reaches, Here, There, RunKeepsCounts}
 use Rattle.c_core.proofs.Lines.{and_true}
 use Rattle.c_core.proofs.ReleaseLemmas.{times-append, release_keeps}
 use Rattle.c_core.proofs.CountLemmas.{same_self, there, held-uses, count-make, count-take_one, count-refill, uses-make, uses-take_one, uses-refill}
-use Rattle.c_core.proofs.ItemLemmas.{refs-append, refs-one, refs-at, refs-set, refs-last, last_place}
+use Rattle.c_core.proofs.ItemLemmas.{refs-append, refs-one, refs-at, refs-set, refs-last, last_place, pairs-append, pairs-one, pairs-at, pairs-set, pairs-cut}
 use Rattle.c_core.proofs.LedgerLemmas.{more-times, more_of-times}
-use Rattle.c_core.proofs.StepCases.{Leaves, AreThere, IsCalm, at_some, at_calm, at_word, at_there, at_called, at_function, at_jumped, at_chosen, at_incremented, at_decremented, at_decremented_if_set, at_order, at_ended, at_result}
+use Rattle.c_core.proofs.StepCases.{Leaves, AreThere, IsCalm, at_some, at_calm, at_word, at_there, at_called, at_function, at_method, at_jumped, at_chosen, at_incremented, at_decremented, at_decremented_if_set, at_order, at_ended, at_result}
 
 -- a cell is there
 abbrev pub HasCell : MachineState → ℕ → Type 0
@@ -63,6 +67,7 @@ abbrev pub Fair : MachineState → Effect → List ℕ → Type 0
 Fair s Wrong gone = Unit {0}
 Fair s (Says w) gone = (c : ℕ) → times (refs_of w) c ≡ 0
 Fair s (Shares w) gone = (c : ℕ) → 1 ≤ times (refs_of w) c → HasCell s c
+Fair s (Lends w) gone = Unit {0}
 Fair s (Makes content) gone = (c : ℕ) → times (refs_in content) c ≡ times gone c
 Fair s (Changes c content w up) gone =
     (old : Content) × (content_at s.cells c ≡ Some old) × ((d : ℕ) → times (refs_in content) d + (times (refs_of w) d + times up d) ≡ times (refs_in old) d + times gone d)
@@ -146,7 +151,7 @@ tagged_or_fair s (Err f) calm = calm
 
 written_fair : (s : MachineState) (text : List ℕ) (n : ℤ) → Fair s (written_int text n) []
 written_fair s text n =
-    choice_fair s (bytes_eq (signed_decimal n) text && (lies_within 127 n && not (is_short n))) (MakesInt n) Wrong (λ c. refl) tt
+    choice_fair s (writes_long text n) (MakesInt n) Wrong (λ c. refl) tt
 
 fitted_fair : (s : MachineState) (r : Result ℤ Arith) → s.pending ≡ None → Fair s (fitted r) []
 fitted_fair s (Ok n) calm = λ c. refl
@@ -238,7 +243,9 @@ word_lost (Steals k h) a w d s e = refs_lost k h a w d e
 word_lost (MaySteal k h) a w d s e = refs_lost k h a w d e
 word_lost (Borrows k h) a w d s e = cc
 word_lost TakesNumber a w d s e = cc
+word_lost TakesPlace a w d s e = cc
 word_lost TakesText a w d s e = cc
+word_lost TakesDecimal a w d s e = cc
 word_lost TakesException a w d s e = cc
 word_lost TakesGlobal a w d s e = cc
 word_lost TakesClass a w d s e = cc
@@ -277,6 +284,99 @@ popped_fair : (s : MachineState) (c : ℕ) (items : List Word) → content_at s.
 popped_fair s c items e calm None last = calm
 popped_fair s c items e calm (Some i) last =
     of_word_fair s _ [] (slice_get items i) (λ w at. (ListCell items, e, λ d. omega (arith, refs-last items i w d at (last_place (length items) i last))))
+
+-- ---- what is lent
+lent_fair : (s : MachineState) (e : Effect) → Fair s e [] → Fair s (lent e) []
+lent_fair s (Shares w) f = tt
+lent_fair s _ f = f
+
+-- ---- dicts
+of_key_fair : (s : MachineState) (f : Key → Effect) (gone : List ℕ) (o : Option Key) → ((k : Key) → Fair s (f k) gone) → Fair s (of_key f o) gone
+of_key_fair s f gone None each = tt
+of_key_fair s f gone (Some k) each = each k
+
+of_pair_fair : (s : MachineState) (f : Word × Word → Effect) (gone : List ℕ) (o : Option (Word × Word)) → ((p : Word × Word) → o ≡ Some p → Fair s (f p) gone) → Fair s (of_pair f o) gone
+of_pair_fair s f gone None each = tt
+of_pair_fair s f gone (Some p) each = each p refl
+
+value_fair : (s : MachineState) (ok : IsCounted s) (c : ℕ) (pairs : List (Word × Word)) → content_at s.cells c ≡ Some (DictCell pairs) → s.pending ≡ None → (k : Key) (o : Option ℕ) → Fair s (value_at k o pairs) []
+value_fair s ok c pairs e calm k None = calm
+value_fair s ok c pairs e calm k (Some i) =
+    of_pair_fair s _ [] (slice_get pairs i) (λ p at d held. item_there s ok c d (DictCell pairs) e (omega (arith, held, pairs-at pairs i p d at)))
+
+-- a pair is put behind the others, or a value takes another one's place, and the key that came is given up
+entry_fair : (s : MachineState) (c : ℕ) (pairs : List (Word × Word)) → content_at s.cells c ≡ Some (DictCell pairs) → (o : Option ℕ) (key w : Word) (gone : List ℕ) → ((d : ℕ) → times (refs_of key) d + times (refs_of w) d ≡ times gone d) → Fair s (entry_set c o pairs key w) gone
+entry_fair s c pairs e None key w gone is =
+    (DictCell pairs, e, λ d. omega (arith, is d, pairs-append pairs ((key, w) ∷ []) d, pairs-one (key, w) d))
+entry_fair s c pairs e (Some i) key w gone is =
+    of_pair_fair s _ gone (slice_get pairs i)
+    (λ p at. (DictCell pairs, e, λ d. omega (arith, is d, pairs-set pairs i p (p.0, w) d at, times-append (refs_of key) (refs_of p.1) d)))
+
+-- the key and the value that were stolen
+pair_fair : (s : MachineState) (c : ℕ) (pairs : List (Word × Word)) → content_at s.cells c ≡ Some (DictCell pairs) → (o : Option ℕ) (a b : Argument) → Fair s (of_word (λ key. of_word (entry_set c o pairs key) (word_in Object b)) (word_in Object a)) (stolen_from (Steals (Is Object) AKey) a ++ (stolen_from (Steals (Is Object) Anything) b ++ []))
+pair_fair s c pairs e o a b =
+    of_word_fair s _ _ (word_in Object a)
+    (λ key first. of_word_fair s _ _ (word_in Object b)
+    (λ w second. entry_fair s c pairs e o key w _
+    (λ d. omega (arith, refs_lost (Is Object) AKey a key d first, refs_lost (Is Object) Anything b w d second, times-append (stolen_from (Steals (Is Object) AKey) a) (stolen_from (Steals (Is Object) Anything) b ++ []) d, times-append (stolen_from (Steals (Is Object) Anything) b) [] d))))
+
+cut_fair : (s : MachineState) (c : ℕ) (pairs : List (Word × Word)) → content_at s.cells c ≡ Some (DictCell pairs) → s.pending ≡ None → (k : Key) (o : Option ℕ) → Fair s (entry_cut c k o pairs) []
+cut_fair s c pairs e calm k None = calm
+cut_fair s c pairs e calm k (Some i) =
+    let next : i + 1 ≡ suc i = omega arith in
+    of_pair_fair s _ [] (slice_get pairs i)
+    (λ p at. (DictCell pairs, e, λ d. omega (arith, pairs-cut pairs i p d at, ap (λ j. times (pair_refs (take i pairs ++ drop j pairs)) d) next, times-append (refs_of p.0) (refs_of p.1) d)))
+
+sized_fair : (s : MachineState) (b : Bool) → s.pending ≡ None → Fair s (sized b) []
+sized_fair s true calm = λ d. refl
+sized_fair s false calm = calm
+
+key_fair : (s : MachineState) (ok : IsCounted s) (c : ℕ) (pairs : List (Word × Word)) → content_at s.cells c ≡ Some (DictCell pairs) → (n : ℤ) → Fair s (key_at pairs n) []
+key_fair s ok c pairs e (pos i) =
+    of_pair_fair s _ [] (slice_get pairs i) (λ p at d held. item_there s ok c d (DictCell pairs) e (omega (arith, held, pairs-at pairs i p d at)))
+key_fair s ok c pairs e (negsuc i) = tt
+
+-- ---- instances
+none_set : {A : Type 0} (xs : List A) (c : ℕ) → times (set_refs (map (λ x. None) xs)) c ≡ 0
+none_set [] c = refl
+none_set (x ∷ xs) c = none_set xs c
+
+instance_fair : (s : MachineState) (n : Option ℕ) (k : Option CClass) → Fair s (instance_of n k) []
+instance_fair s None k = tt
+instance_fair s (Some n) None = tt
+instance_fair s (Some n) (Some k) = none_set k.attrs
+
+slot_got_fair : (s : MachineState) (ok : IsCounted s) (c class : ℕ) (attributes : List (Option Word)) → content_at s.cells c ≡ Some (InstCell class attributes) → s.pending ≡ None → (name : List ℕ) (i : ℕ) (a : Option (List ℕ × Kind)) (o : Option (Option Word)) → slice_get attributes i ≡ o → Fair s (slot_got name a o) []
+slot_got_fair s ok c class attributes e calm name i None o at = tt
+slot_got_fair s ok c class attributes e calm name i (Some a) None at = tt
+slot_got_fair s ok c class attributes e calm name i (Some a) (Some None) at = calm
+slot_got_fair s ok c class attributes e calm name i (Some a) (Some (Some w)) at =
+    λ d held. item_there s ok c d (InstCell class attributes) e (omega (arith, held, held_global attributes i w d at))
+
+attribute_fair : (s : MachineState) (ok : IsCounted s) (c class : ℕ) (attributes : List (Option Word)) → content_at s.cells c ≡ Some (InstCell class attributes) → s.pending ≡ None → (k : Option CClass) (n : ℤ) → Fair s (attribute_got k n (attribute_at attributes n)) []
+attribute_fair s ok c class attributes e calm None n = tt
+attribute_fair s ok c class attributes e calm (Some k) (pos i) =
+    slot_got_fair s ok c class attributes e calm k.name i (slice_get k.attrs i) (slice_get attributes i) refl
+attribute_fair s ok c class attributes e calm (Some k) (negsuc i) = tt
+
+slot_set_fair : (s : MachineState) (c class i : ℕ) (attributes : List (Option Word)) → content_at s.cells c ≡ Some (InstCell class attributes) → (w : Word) (gone : List ℕ) → ((d : ℕ) → times (refs_of w) d ≡ times gone d) → (o : Option (Option Word)) → slice_get attributes i ≡ o → Fair s (slot_set c class i attributes w o) gone
+slot_set_fair s c class i attributes e w gone is None at = tt
+slot_set_fair s c class i attributes e w gone is (Some old) at =
+    (InstCell class attributes, e, λ d. omega (arith, is d, set_global attributes i old (Some w) d at, times-append (refs_of w) [] d))
+
+attribute_set_fair : (s : MachineState) (c class : ℕ) (attributes : List (Option Word)) → content_at s.cells c ≡ Some (InstCell class attributes) → (n : ℤ) (w : Word) (gone : List ℕ) → ((d : ℕ) → times (refs_of w) d ≡ times gone d) → Fair s (attribute_set c class n attributes w) gone
+attribute_set_fair s c class attributes e (pos i) w gone is = slot_set_fair s c class i attributes e w gone is (slice_get attributes i) refl
+attribute_set_fair s c class attributes e (negsuc i) w gone is = tt
+
+-- a word of the kind of a slot that was stolen has the references that left the ledger
+kept_fair : (s : MachineState) (f : Word → Effect) (k : Option Kind) (a : Argument) → ((w : Word) (gone : List ℕ) → ((d : ℕ) → times (refs_of w) d ≡ times gone d) → Fair s (f w) gone) → Fair s (of_word f (option_and_then (λ l. word_in l a) k)) (stolen_from (Steals OfSlot Anything) a ++ [])
+kept_fair s f None a each = tt
+kept_fair s f (Some Tagged) (Cell c x) each = each (BigInt c) _ (λ d. refl)
+kept_fair s f (Some Object) (Cell c x) each = each (ObjectCell c) _ (λ d. refl)
+kept_fair s f (Some k) (Plain (BigInt c)) each = tt
+kept_fair s f (Some k) (Plain (ObjectCell c)) each = tt
+kept_fair s f (Some k) (Plain w) each = each w [] (λ d. refl)
+kept_fair s f (Some k) _ each = tt
 
 unboxed_fair : (s : MachineState) (c : ℕ) (n : ℤ) → content_at s.cells c ≡ Some (IntCell n) → Fair s (unboxed c n) []
 unboxed_fair s c n e = choice_fair s (is_short n) _ _ (λ d. refl) (cell_there s c (IntCell n) e)
@@ -364,16 +464,42 @@ fair code s ok (prim.List list.Append) (Cell c (ListCell items) ∷ a ∷ []) ca
     given_fair s _ a (append_fair s c items here.0)
 fair code s ok (prim.List list.GetItem) (Cell c (ListCell items) ∷ a ∷ []) calm here =
     of_int_fair s _ (int_in a) (λ i. item_at_fair s ok c items here.0 (calm refl) (place_of (length items) i))
+fair code s ok (prim.List list.GetItemBorrow) (Cell c (ListCell items) ∷ a ∷ []) calm here =
+    of_int_fair s _ (int_in a) (λ i. lent_fair s (item_at (place_of (length items) i) items) (item_at_fair s ok c items here.0 (calm refl) (place_of (length items) i)))
 fair code s ok (prim.List list.SetItem) (Cell c (ListCell items) ∷ a ∷ b ∷ []) calm here =
     of_int_fair_any s _ (int_in a) _ (λ i. given_fair s _ b (put_fair s c items here.0 (calm refl) (place_of (length items) i)))
 fair code s ok (prim.List list.Pop) (Cell c (ListCell items) ∷ []) calm here =
     popped_fair s c items here.0 (calm refl) (place_of (length items) (negsuc 0)) refl
 fair code s ok (prim.List list.Len) (Cell c (ListCell items) ∷ []) calm here = tagged_fair s (pos (counted_length (length items)))
+fair code s ok (prim.Dict dict.New) [] calm here = λ c. refl
+fair code s ok (prim.Dict dict.GetItem) (Cell c (DictCell pairs) ∷ a ∷ []) calm here =
+    of_key_fair s _ [] (key_as a) (λ k. value_fair s ok c pairs here.0 (calm refl) k (key_place s.cells k pairs))
+fair code s ok (prim.Dict dict.SetItem) (Cell c (DictCell pairs) ∷ a ∷ b ∷ []) calm here =
+    of_key_fair s _ _ (key_as a) (λ k. pair_fair s c pairs here.0 (key_place s.cells k pairs) a b)
+fair code s ok (prim.Dict dict.DelItem) (Cell c (DictCell pairs) ∷ a ∷ []) calm here =
+    of_key_fair s _ [] (key_as a) (λ k. cut_fair s c pairs here.0 (calm refl) k (key_place s.cells k pairs))
+fair code s ok (prim.Dict dict.Contains) (Cell c (DictCell pairs) ∷ a ∷ []) calm here =
+    of_key_fair s _ [] (key_as a) (λ k. truth_fair (is_some (key_place s.cells k pairs)))
+fair code s ok (prim.Dict dict.CheckSize) (Cell c (DictCell pairs) ∷ a ∷ []) calm here =
+    of_int_fair s _ (int_in a) (λ n. sized_fair s (int_eq (pos (counted_length (length pairs))) n) (calm refl))
+fair code s ok (prim.Dict dict.KeyAt) (Cell c (DictCell pairs) ∷ a ∷ []) calm here =
+    of_int_fair s _ (int_in a) (key_fair s ok c pairs here.0)
+fair code s ok (prim.Dict dict.Len) (Cell c (DictCell pairs) ∷ []) calm here = tagged_fair s (pos (counted_length (length pairs)))
 fair code s ok (prim.Tuple tuple.Pack) all calm here =
     pack_by s (row_of (prim.Tuple tuple.Pack)).parameters all _ here refl (λ ws. Makes (TupleCell ws)) (λ ws h. h)
 fair code s ok (prim.Tuple tuple.GetItem) (Cell c (TupleCell items) ∷ Written (arg.Number n) ∷ []) calm here =
     part_fair s ok c items here.0 n
+fair code s ok (prim.Tuple tuple.GetItemBorrow) (Cell c (TupleCell items) ∷ Written (arg.Number n) ∷ []) calm here =
+    lent_fair s (part_at items n) (part_fair s ok c items here.0 n)
 fair code s ok (prim.Tuple tuple.Len) (Cell c (TupleCell items) ∷ []) calm here = tagged_fair s (pos (counted_length (length items)))
+fair code s ok (prim.Instance instance.New) (Written (arg.Class name) ∷ []) calm here =
+    instance_fair s (number_of_class code name) (option_and_then (slice_get code.classes) (number_of_class code name))
+fair code s ok (prim.Attr attr.Get) (Cell c (InstCell class attributes) ∷ Written (arg.Number n) ∷ []) calm here =
+    attribute_fair s ok c class attributes here.0 (calm refl) (slice_get code.classes class) n
+fair code s ok (prim.Attr attr.GetBorrow) (Cell c (InstCell class attributes) ∷ Written (arg.Number n) ∷ []) calm here =
+    lent_fair s (attribute_got (slice_get code.classes class) n (attribute_at attributes n)) (attribute_fair s ok c class attributes here.0 (calm refl) (slice_get code.classes class) n)
+fair code s ok (prim.Attr attr.Set) (Cell c (InstCell class attributes) ∷ Written (arg.Number n) ∷ a ∷ []) calm here =
+    kept_fair s _ (kind_of_slot code class n) a (attribute_set_fair s c class attributes here.0 n)
 fair code s ok (prim.Global global.Get) (Written (arg.Global name) ∷ []) calm here =
     get_fair s ok name (kind_of_global code name) (number_of_global code name) (global_at code s name) refl (calm refl)
 fair code s ok (prim.Global global.Set) (Written (arg.Global name) ∷ a ∷ []) calm here =
@@ -456,6 +582,8 @@ module _ (s : MachineState) (ok : IsCounted s) where
   applied_kept x l gone Wrong left f = ok
   applied_kept x l gone (Says w) left f =
       target_kept x w _ (λ d. omega (arith, all_given l gone left d))
+  applied_kept x l gone (Lends w) left f =
+      target_kept x w _ (λ d. omega (arith, all_given l gone left d))
   applied_kept x l gone (Makes content) left f = target_kept x (ObjectCell (length s.cells)) _ (made_kept l gone content left f)
   applied_kept x l gone (Writes text) left f = λ d. omega (arith, all_given l gone left d)
   applied_kept x l gone (Shares w) left f = target_kept x w _ (shared_kept w l gone left f)
@@ -493,6 +621,10 @@ module _ (s : MachineState) (ok : IsCounted s) (code : Code) where
   call_kept x name args None =
       at_function true s IsCountedAfter (bad s ok) code x args (function_named code.funcs name) (λ f g e is ws c. omega (arith, ok c))
 
+  method_kept : (x o : ℕ) (args : List ℕ) (entry : CClass → Option (List ℕ)) → IsCountedAfter (method_called true s code x o args entry)
+  method_kept x o args entry =
+      at_method true s IsCountedAfter (bad s ok) code x o args entry (λ a f g e is ws c. omega (arith, ok c))
+
   step_kept : (o : Option Line) → IsCountedAfter (step_at true code s o)
   step_kept None = ok
   step_kept (Some Label) = ok
@@ -501,6 +633,8 @@ module _ (s : MachineState) (ok : IsCounted s) (code : Code) where
   step_kept (Some (Lit x l)) =
       at_some true s IsCountedAfter (bad s ok) fault.Kind (option_and_then (λ k. literal_word k l) (kind_of code s.top x)) _ (λ w e. ok)
   step_kept (Some (Call x name args)) = call_kept x name args (primitive_named name)
+  step_kept (Some (Virtual x o n args)) = method_kept x o args (method_at n)
+  step_kept (Some (TraitCall x o t n args)) = method_kept x o args (trait_method_at t n)
   step_kept (Some (Goto n)) = at_jumped true s IsCountedAfter (bad s ok) (label_at code s.top n) (λ q e. ok)
   step_kept (Some (If x n m)) =
       at_word true s IsCountedAfter (bad s ok) x _
@@ -522,12 +656,8 @@ module _ (s : MachineState) (ok : IsCounted s) (code : Code) where
 step_keeps : (code : Code) (s : MachineState) → IsCounted s → IsCountedAfter (step code s)
 step_keeps code s ok = step_kept s ok code (line_at code s.top)
 
-no_globals : {A : Type 0} (gs : List A) (c : ℕ) → times (set_refs (map (λ g. None) gs)) c ≡ 0
-no_globals [] c = refl
-no_globals (g ∷ gs) c = no_globals gs c
-
 start_counted : (code : Code) (n : ℕ) (items : Items) → IsCounted (start code n items)
-start_counted code n items c = omega (arith, no_globals code.globals c)
+start_counted code n items c = omega (arith, none_set code.globals c)
 
 reached_counted : (code : Code) (k : ℕ) (s t : MachineState) → Reaches code k s t → IsCounted s → IsCounted t
 reached_counted code k s t (Here u) ok = ok

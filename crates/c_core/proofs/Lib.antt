@@ -17,3 +17,5 @@ pub mod NameLemmas
 pub mod IndexLemmas
 pub mod ItemLemmas
 pub mod ListExamples
+pub mod DictExamples
+pub mod ClassExamples

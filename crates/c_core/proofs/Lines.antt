@@ -9,10 +9,14 @@ use Rattle.std.proofs.lemmas.List.Quantifiers.{position-Some}
 use Rattle.std.proofs.lemmas.Slice.Eq.{bytes_eq-Decides}
 use Rattle.c_core.specs.declared.code.Line.{Line}
 use Rattle.c_core.specs.declared.code.Line.TheVariants.{Label}
+use Rattle.c_core.specs.declared.code.CClass.{CClass}
 use Rattle.c_core.specs.declared.code.CFunc.{CFunc}
 use Rattle.c_core.specs.declared.code.Code.{Code}
 use Rattle.c_core.specs.Functions.{is_turn, label_places, labels_from, after_prefix, number_of, function_named}
+use Rattle.c_core.specs.Arguments.{Argument, Cell}
+use Rattle.c_core.specs.Machine.{InstCell}
 use Rattle.c_core.specs.Run.{most_lines}
+use Rattle.c_core.specs.Step.{method_of}
 use Rattle.c_core.specs.WellFormed.{jump_fits, jumps_fit, is_turn_at, is_leaving, names_differ, line_fits, lines_lead_on, begins_right, function_fits}
 
 pub and_true : (a b : Bool) → (a && b) ≡ true → (a ≡ true) × (b ≡ true)
@@ -97,3 +101,8 @@ named_is functions (Some name) f h n is = number_is functions name (bytes_eq nam
 -- a function that a call means has a name
 pub named_function : (functions : List CFunc) (name : List ℕ) (f : ℕ) (h : CFunc) → function_named functions name ≡ Some f → slice_get functions f ≡ Some h → bytes_eq h.name [] ≡ false
 named_function functions name f h n is = named_is functions (after_prefix (codes "CPyDef_") name) f h n is
+
+-- and so has one that an object has for a method
+pub method_named : (code : Code) (entry : CClass → Option (List ℕ)) (a : Argument) (f : ℕ) (h : CFunc) → method_of code entry a ≡ Some f → slice_get code.funcs f ≡ Some h → bytes_eq h.name [] ≡ false
+method_named code entry (Cell c (InstCell class attributes)) f h n is = named_is code.funcs (option_and_then entry (slice_get code.classes class)) f h n is
+method_named code entry _ f h n is = cc

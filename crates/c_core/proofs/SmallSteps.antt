@@ -3,7 +3,8 @@ use Rattle.std.proofs.Common.{◌≡◌, refl, ap, ◌∙◌, ℕ, zero, suc, �
 use Rattle.std.specs.Option.{option_and_then}
 use Rattle.c_core.specs.declared.code.CArg.{CArg}
 use Rattle.c_core.specs.declared.code.Line.{Line}
-use Rattle.c_core.specs.declared.code.Line.TheVariants.{Label, Move, Lit, Call, Goto, If, IfError, Turn, Return, Inc, Dec, XDec}
+use Rattle.c_core.specs.declared.code.Line.TheVariants.{Label, Move, Lit, Call, Virtual, TraitCall, Goto, If, IfError, Turn, Return, Inc, Dec, XDec}
+use Rattle.c_core.specs.declared.code.CClass.{CClass}
 use Rattle.c_core.specs.declared.code.Code.{Code}
 use Rattle.c_core.specs.declared.primitive.Primitive.{Primitive}
 use Rattle.c_core.specs.declared.fault.Fault.{Fault}
@@ -12,13 +13,13 @@ use Rattle.c_core.specs.Cells.{Cell, Cells, same, counted, count_at, content_at,
 use Rattle.c_core.specs.Ledgers.{Ledger}
 use Rattle.c_core.specs.Release.{after, freed, weight, release_some, release}
 use Rattle.c_core.specs.Machine.{Word, BigInt, ObjectCell, Content, IntCell, StrCell, ExcCell, set_refs, refs_in, Frame, MachineState}
-use Rattle.c_core.specs.Functions.{function_named}
+use Rattle.c_core.specs.Functions.{function_named, method_at, trait_method_at}
 use Rattle.c_core.specs.Primitives.{row_of, primitive_named}
 use Rattle.c_core.specs.Arguments.{stolen}
-use Rattle.c_core.specs.Step.{Next, Ends, Faulted, Effect, Wrong, Says, Shares, Makes, Changes, Writes, Stores, Fails, Pends, Catches, MakesInt, Reads, Skips, Stops, effect, shared, with_ledger, with_cells, with_target, next_line, own, given, literal_word, equals_error, kind_of, label_at, applied, call_step, turned, if_return, if_result, if_none_left, step_at, line_at, step}
+use Rattle.c_core.specs.Step.{Next, Ends, Faulted, Effect, Wrong, Says, Shares, Lends, Makes, Changes, Writes, Stores, Fails, Pends, Catches, MakesInt, Reads, Skips, Stops, effect, shared, with_ledger, with_cells, with_target, next_line, own, given, literal_word, equals_error, kind_of, label_at, applied, call_step, method_called, turned, if_return, if_result, if_none_left, step_at, line_at, step}
 use Rattle.c_core.specs.Laws.{state_after, StepStaysSmall}
 use Rattle.c_core.proofs.CountLemmas.{count-make, count-take_one, count-refill}
-use Rattle.c_core.proofs.StepCases.{at_some, at_calm, at_word, at_there, at_called, at_function, at_jumped, at_chosen, at_incremented, at_decremented, at_decremented_if_set, at_order, at_ended, at_result}
+use Rattle.c_core.proofs.StepCases.{at_some, at_calm, at_word, at_there, at_called, at_function, at_method, at_jumped, at_chosen, at_incremented, at_decremented, at_decremented_if_set, at_order, at_ended, at_result}
 
 same_most : (c d : ℕ) → same c d ≤ 1
 same_most zero zero = omega arith
@@ -145,6 +146,8 @@ module _ (s : MachineState) where
   applied_small (Some x) l gone (Makes content) = made_small _ content refl
   applied_small x l gone (Writes text) = released_small _ gone refl
   applied_small x l gone (Shares w) = shared_small x w l gone
+  applied_small None l gone (Lends w) = released_small _ gone refl
+  applied_small (Some x) l gone (Lends w) = released_small _ gone refl
   applied_small None l gone (Changes c content w up) = changed_small _ c content up refl
   applied_small (Some x) l gone (Changes c content w up) = changed_small _ c content up refl
   applied_small x l gone (Stores n old new) = released_small _ (set_refs (old ∷ [])) refl
@@ -189,6 +192,9 @@ module _ (s : MachineState) where
   call_small code x name args None =
       at_function true s To bad code x args (function_named code.funcs name) (λ f g e is ws. same_cells _ refl)
 
+  method_small : (code : Code) (x o : ℕ) (args : List ℕ) (entry : CClass → Option (List ℕ)) → To (method_called true s code x o args entry)
+  method_small code x o args entry = at_method true s To bad code x o args entry (λ a f g e is ws. same_cells _ refl)
+
   step_small : (code : Code) (o : Option Line) → To (step_at true code s o)
   step_small code None = bad fault.Kind
   step_small code (Some Label) = same_cells _ refl
@@ -196,6 +202,8 @@ module _ (s : MachineState) where
   step_small code (Some (Lit x l)) =
       at_some true s To bad fault.Kind (option_and_then (λ k. literal_word k l) (kind_of code s.top x)) _ (λ w e. same_cells _ refl)
   step_small code (Some (Call x name args)) = call_small code x name args (primitive_named name)
+  step_small code (Some (Virtual x o n args)) = method_small code x o args (method_at n)
+  step_small code (Some (TraitCall x o t n args)) = method_small code x o args (trait_method_at t n)
   step_small code (Some (Goto n)) = at_jumped true s To bad (label_at code s.top n) (λ q e. same_cells _ refl)
   step_small code (Some (If x n m)) =
       at_word true s To bad x _

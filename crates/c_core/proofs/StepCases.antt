@@ -1,9 +1,11 @@
 -- What holds of each end of the tests of a step, and of each fault, holds of the whole, with tests of ownership and without.
 use Rattle.std.proofs.Common.{◌≡◌, refl, ap, ℕ, zero, suc, ◌+◌, ◌≤◌, arith, Bool, true, false, cond, List, [], ◌∷◌, ◌++◌, Option, Some, None}
-use Rattle.std.specs.Prelude.{slice_get}
+use Rattle.std.specs.Prelude.{map, slice_get}
 use Rattle.c_core.specs.declared.code.Kind.{Kind}
+use Rattle.c_core.specs.declared.code.Kind.TheVariants.{Object}
 use Rattle.c_core.specs.declared.code.CArg.{CArg}
 use Rattle.c_core.specs.declared.code.CArg.TheVariants as arg
+use Rattle.c_core.specs.declared.code.CClass.{CClass}
 use Rattle.c_core.specs.declared.code.CFunc.{CFunc}
 use Rattle.c_core.specs.declared.code.Code.{Code}
 use Rattle.c_core.specs.declared.fault.Fault.{Fault}
@@ -14,9 +16,9 @@ use Rattle.c_core.specs.Cells.{times, content_at, take_one}
 use Rattle.c_core.specs.Ledgers.{Ledger, without}
 use Rattle.c_core.specs.Machine.{Word, ShortInt, BigInt, TaggedError, CharWord, ObjectCell, NoneObject, TrueObject, FalseObject, NoObject, Content, ExcCell, refs_of, MachineState}
 use Rattle.c_core.specs.Functions.{parameter_kinds, entry_words}
-use Rattle.c_core.specs.Primitives.{KindAt, Holding, Parameter, Borrows, Steals, MaySteal, TakesNumber, TakesText, TakesException, TakesGlobal, TakesClass, may_end, row_of}
+use Rattle.c_core.specs.Primitives.{KindAt, Holding, AnInstance, Parameter, Borrows, Steals, MaySteal, TakesNumber, TakesPlace, TakesText, TakesDecimal, TakesException, TakesGlobal, TakesClass, may_end, row_of}
 use Rattle.c_core.specs.Arguments.{Argument, Cell, Plain, Written, is_value_of, is_holding, kind_found, stolen_from, stolen}
-use Rattle.c_core.specs.Step.{Next, Goes, Ends, Faulted, effect, if_some, if_calm, if_content, if_any, if_taken, if_true, if_there, if_variable, if_stolen, if_argument, if_arguments, if_may_stand, applied, called, if_thrown, if_ended, word_of, if_in_order, if_result, if_none_left, with_ledger, next_line, at_place, own, with_cells, given, given_up, is_error, is_both, if_passed, entered, function_step, function_called, jumped, chosen, taken, incremented, decremented, decremented_if_set}
+use Rattle.c_core.specs.Step.{Next, Goes, Ends, Faulted, effect, if_some, if_calm, if_content, if_any, if_taken, if_true, if_there, if_variable, if_stolen, if_argument, if_arguments, if_may_stand, applied, called, if_thrown, if_ended, word_of, if_in_order, if_result, if_none_left, with_ledger, next_line, at_place, own, with_cells, given, given_up, is_error, is_both, if_passed, entered, function_step, function_called, answer_fits, method_of, takes_and_gives, method_step, method_called, jumped, chosen, taken, incremented, decremented, decremented_if_set}
 use Rattle.c_core.proofs.ReleaseLemmas.{times-append}
 use Rattle.c_core.proofs.LedgerLemmas.{without-times}
 
@@ -97,7 +99,9 @@ module _ (is_checked : Bool) (s : MachineState) (P : Next → Type 0) (bad : (f 
   at_argument code (MaySteal k h) (arg.Var x) earlier l go is =
       at_some fault.Kind (kind_found code k earlier) _ (λ kind e. at_variable kind h x _ (λ a there. at_stolen k h a l (go a) (λ r. is a r there)))
   at_argument code TakesNumber (arg.Number n) earlier l go is = is (Written (arg.Number n)) l tt (λ t d. omega arith)
+  at_argument code TakesPlace (arg.Number n) earlier l go is = is (Written (arg.Number n)) l tt (λ t d. omega arith)
   at_argument code TakesText (arg.Text text) earlier l go is = is (Written (arg.Text text)) l tt (λ t d. omega arith)
+  at_argument code TakesDecimal (arg.Text text) earlier l go is = is (Written (arg.Text text)) l tt (λ t d. omega arith)
   at_argument code TakesException (arg.Text text) earlier l go is = is (Written (arg.Text text)) l tt (λ t d. omega arith)
   at_argument code TakesGlobal (arg.Global name) earlier l go is = is (Written (arg.Global name)) l tt (λ t d. omega arith)
   at_argument code TakesClass (arg.Class name) earlier l go is = is (Written (arg.Class name)) l tt (λ t d. omega arith)
@@ -120,7 +124,8 @@ module _ (is_checked : Bool) (s : MachineState) (P : Next → Type 0) (bad : (f 
   pub at_called : (code : Code) (x : Option ℕ) (args : List CArg) (p : Primitive) → (IsCalm s (row_of p).while_pending → (all : List Argument) (l : Ledger) → (is_checked ≡ true → Leaves s.top.ledger (stolen (row_of p).parameters all) l) → AreThere s (row_of p).parameters all → P (applied is_checked s x l (stolen (row_of p).parameters all) (effect code s p all))) → P (called is_checked s code x args p)
   at_called code x args p is =
       at_may_stand (row_of p).while_pending _
-      (λ calm. at_arguments code (row_of p).parameters args [] s.top.ledger _ (is calm))
+      (λ calm. at_arguments code (row_of p).parameters args [] s.top.ledger _
+      (λ all l left there. at_true (answer_fits code s.top (row_of p).outcome x all) _ (is calm all l left there)))
 
   at_passed : (ks : List Kind) (args : List CArg) (go : List Word → Next) → ((ws : List Word) → P (go ws)) → P (if_passed is_checked s ks args go)
   at_passed [] [] go h = h []
@@ -135,6 +140,16 @@ module _ (is_checked : Bool) (s : MachineState) (P : Next → Type 0) (bad : (f 
       (λ calm. at_some fault.Kind n _
       (λ f e. at_some fault.Kind (slice_get code.funcs f) (function_step is_checked s x args f)
       (λ g is. at_passed (parameter_kinds g) args _ (h f g e is))))
+
+  -- a call of a method
+  pub at_method : (code : Code) (x o : ℕ) (args : List ℕ) (entry : CClass → Option (List ℕ)) → ((a : Argument) (f : ℕ) (g : CFunc) → method_of code entry a ≡ Some f → slice_get code.funcs f ≡ Some g → (ws : List Word) → P (Goes (entered is_checked s (Some x) f (entry_words ws g)))) → P (method_called is_checked s code x o args entry)
+  at_method code x o args entry h =
+      at_calm s.pending _
+      (λ calm. at_variable Object AnInstance o _
+      (λ a there. at_some fault.Kind (method_of code entry a) _
+      (λ f e. at_some fault.Kind (slice_get code.funcs f) (method_step is_checked s code x (o ∷ args) f)
+      (λ g is. at_true (takes_and_gives is_checked s code x (o ∷ args) g) _
+      (at_passed (parameter_kinds g) (map arg.Var (o ∷ args)) _ (h a f g e is))))))
 
   pub at_jumped : (o : Option ℕ) → ((q : ℕ) → o ≡ Some q → P (Goes (at_place q s))) → P (jumped is_checked s o)
   at_jumped o h = at_some fault.Kind o _ h

@@ -33,11 +33,10 @@ module _ {A : Type 0} (name_of : A → List ℕ) where
       ∙ ap (λ k. not (list_any (λ y. bytes_eq (name_of x) (name_of y)) (drop k xs)) && names_differ (map name_of (drop k xs))) (sym (add-one i))
 
   -- one turn of the loop over the names: b is whether the name of number i stands again behind it
-  pub names_turn : (xs : List A) (i : ℕ) (x : A) (name : List ℕ) (b : Bool) → i < length xs → x ≡ get_or xs i x → name ≡ name_of (get_or xs i x) → b ≡ list_any (λ y. bytes_eq name (name_of y)) (take (length xs - (i + 1)) (drop (i + 1) xs)) → names_differ (map name_of (drop i xs)) ≡ names_differ (map name_of xs) → names_differ (map name_of xs) ≡ (not b && names_differ (map name_of (drop (i + 1) xs)))
-  names_turn xs i x name b l e n any so_far =
+  pub names_turn : (xs : List A) (i : ℕ) (x : A) (name : List ℕ) (b : Bool) → i < length xs → x ≡ get_or xs i x → name ≡ name_of x → b ≡ list_any (λ y. bytes_eq name (name_of y)) (take (length xs - (i + 1)) (drop (i + 1) xs)) → names_differ (map name_of (drop i xs)) ≡ names_differ (map name_of xs) → names_differ (map name_of xs) ≡ (not b && names_differ (map name_of (drop (i + 1) xs)))
+  names_turn xs i x name b l e same_name any so_far =
       let rest : take (length xs - (i + 1)) (drop (i + 1) xs) ≡ drop (i + 1) xs =
       take_all (length xs - (i + 1)) (drop (i + 1) xs) (omega (arith, length-drop (i + 1) xs)) in
-      let same_name : name ≡ name_of x = n ∙ ap name_of (sym e) in
       let any_here : b ≡ list_any (λ y. bytes_eq (name_of x) (name_of y)) (drop (i + 1) xs) =
       any ∙ ap (list_any (λ y. bytes_eq name (name_of y))) rest ∙ ap (λ t. list_any (λ y. bytes_eq t (name_of y)) (drop (i + 1) xs)) same_name in
       sym so_far ∙ names_step xs i x l e ∙ ap (λ t. not t && names_differ (map name_of (drop (i + 1) xs))) (sym any_here)

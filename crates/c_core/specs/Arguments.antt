@@ -8,8 +8,9 @@ use Rattle.c_core.specs.declared.code.Kind.TheVariants.{Tagged, Int64, Char, Obj
 use Rattle.c_core.specs.declared.code.CArg.{CArg}
 use Rattle.c_core.specs.declared.code.CArg.TheVariants as arg
 use Rattle.c_core.specs.declared.code.Code.{Code}
-use Rattle.c_core.specs.Machine.{Word, ShortInt, BigInt, Native, CharWord, ObjectCell, NoneObject, TrueObject, FalseObject, Content, IntCell, StrCell, ListCell, TupleCell, InstCell, ExcCell}
-use Rattle.c_core.specs.Primitives.{KindAt, Is, OfGlobal, OfSlot, Holding, Anything, ANumber, AText, AnException, AList, ATuple, Parameter, Steals, MaySteal}
+use Rattle.c_core.specs.Machine.{Word, ShortInt, BigInt, Native, CharWord, ObjectCell, NoneObject, TrueObject, FalseObject, Content, IntCell, StrCell, ListCell, DictCell, TupleCell, InstCell, ExcCell}
+use Rattle.c_core.specs.Keys.{Key, TruthKey, key_in}
+use Rattle.c_core.specs.Primitives.{KindAt, Is, OfGlobal, OfSlot, Holding, Anything, ANumber, AText, AnException, AList, ATuple, ADict, AKey, AnInstance, Parameter, Steals, MaySteal}
 
 -- an argument that passed its tests: a cell that is there with its content, a word without a cell, or what is written
 pub data Argument : Type 0 where
@@ -43,12 +44,28 @@ is_holding AList (Cell c (ListCell items)) = true
 is_holding AList _ = false
 is_holding ATuple (Cell c (TupleCell items)) = true
 is_holding ATuple _ = false
+is_holding ADict (Cell c (DictCell pairs)) = true
+is_holding ADict _ = false
+is_holding AKey (Cell c (IntCell n)) = true
+is_holding AKey (Cell c (StrCell text)) = true
+is_holding AKey (Plain TrueObject) = true
+is_holding AKey (Plain FalseObject) = true
+is_holding AKey _ = false
+is_holding AnInstance (Cell c (InstCell class attributes)) = true
+is_holding AnInstance _ = false
 
 -- the number that an argument is, where it is an `int`
 abbrev pub int_in : Argument → Option ℤ
 int_in (Plain (ShortInt n)) = Some n
 int_in (Cell c (IntCell n)) = Some n
 int_in _ = None
+
+-- the key that an argument is, where it may be one
+abbrev pub key_as : Argument → Option Key
+key_as (Cell c content) = key_in content
+key_as (Plain TrueObject) = Some (TruthKey true)
+key_as (Plain FalseObject) = Some (TruthKey false)
+key_as _ = None
 
 -- the kind of a global by its name, and of a slot by the number of its class and its own
 abbrev pub kind_of_global : Code → List ℕ → Option Kind
@@ -57,6 +74,10 @@ kind_of_global code name = option_map (λ g. g.1) (find (λ g. bytes_eq name g.0
 -- the number of a global by its name
 abbrev pub number_of_global : Code → List ℕ → Option ℕ
 number_of_global code name = position (λ g. bytes_eq name g.0) code.globals
+
+-- the number of a class by its name
+abbrev pub number_of_class : Code → List ℕ → Option ℕ
+number_of_class code name = position (λ k. bytes_eq name k.name) code.classes
 
 abbrev pub kind_of_slot : Code → ℕ → ℤ → Option Kind
 kind_of_slot code class (pos n) =

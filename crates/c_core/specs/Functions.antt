@@ -1,6 +1,6 @@
 -- What stands in a function, and which function a call names: where its labels are, what it takes, and with which words its
 -- variables begin.
-use Rattle.std.specs.Prelude.{ℕ, ◌+◌, Bool, true, false, cond, negsuc, List, [], ◌∷◌, ◌++◌, Option, Some, None, codes, map, take, drop, ◌==◌}
+use Rattle.std.specs.Prelude.{ℕ, ◌+◌, Bool, true, false, cond, negsuc, List, [], ◌∷◌, ◌++◌, Option, Some, None, codes, find, map, take, drop, slice_get, ◌==◌}
 use Rattle.std.specs.List.{position}
 use Rattle.std.specs.Option.{option_and_then}
 use Rattle.std.specs.Str.{bytes_eq}
@@ -8,6 +8,7 @@ use Rattle.c_core.specs.declared.code.Kind.{Kind}
 use Rattle.c_core.specs.declared.code.Kind.TheVariants.{Tagged, Int64, Char, Object}
 use Rattle.c_core.specs.declared.code.Line.{Line}
 use Rattle.c_core.specs.declared.code.Line.TheVariants.{Label, Turn}
+use Rattle.c_core.specs.declared.code.CClass.{CClass}
 use Rattle.c_core.specs.declared.code.CFunc.{CFunc}
 use Rattle.c_core.specs.Machine.{Word, TaggedError, Native, CharWord, NoObject}
 
@@ -41,6 +42,32 @@ number_of functions name = cond (bytes_eq name []) None (position (λ g. bytes_e
 -- the number of the function that a call means by `CPyDef_` and a name
 abbrev pub function_named : List CFunc → List ℕ → Option ℕ
 function_named functions name = option_and_then (number_of functions) (after_prefix (codes "CPyDef_") name)
+
+-- ---- methods
+-- the functions of a class by their places: its own methods, and those that it has for a trait, by its first list for that
+abbrev pub method_at : ℕ → CClass → Option (List ℕ)
+method_at n k = slice_get k.methods n
+
+abbrev pub trait_method_at : List ℕ → ℕ → CClass → Option (List ℕ)
+trait_method_at name n k =
+    option_and_then (λ entry. slice_get entry.1 n) (find (λ entry. bytes_eq name entry.0) k.traits)
+
+-- ---- kinds
+abbrev pub same_kind : Kind → Kind → Bool
+same_kind Tagged Tagged = true
+same_kind Int64 Int64 = true
+same_kind Char Char = true
+same_kind Object Object = true
+same_kind _ _ = false
+
+abbrev pub has_kind : Kind → Option Kind → Bool
+has_kind k None = false
+has_kind k (Some l) = same_kind k l
+
+-- a kind is the one that is asked for, if one is
+abbrev pub kinds_agree : Option Kind → Option Kind → Bool
+kinds_agree None k = false
+kinds_agree (Some k) l = has_kind k l
 
 -- ---- variables
 -- the kinds of a function's parameters, which are the first of its variables

@@ -3,6 +3,7 @@ pub mod Ledgers
 pub mod Release
 pub mod Machine
 pub mod Functions
+pub mod Keys
 pub mod Holders
 pub mod Primitives
 pub mod Arguments

@@ -12,7 +12,10 @@ use Rattle.c_core.specs.declared.primitive.BoolPrim.TheVariants as bool
 use Rattle.c_core.specs.declared.primitive.ObjectPrim.TheVariants as object
 use Rattle.c_core.specs.declared.primitive.StrPrim.TheVariants as str
 use Rattle.c_core.specs.declared.primitive.ListPrim.TheVariants as list
+use Rattle.c_core.specs.declared.primitive.DictPrim.TheVariants as dict
 use Rattle.c_core.specs.declared.primitive.TuplePrim.TheVariants as tuple
+use Rattle.c_core.specs.declared.primitive.InstancePrim.TheVariants as instance
+use Rattle.c_core.specs.declared.primitive.AttrPrim.TheVariants as attr
 use Rattle.c_core.specs.declared.primitive.GlobalPrim.TheVariants as global
 use Rattle.c_core.specs.declared.primitive.ExcPrim.TheVariants as exc
 use Rattle.c_core.specs.declared.primitive.ErrPrim.TheVariants as err
@@ -26,7 +29,7 @@ pub data KindAt : Type 0 where
   OfSlot : KindAt
 
 -- what a variable is to hold: any word of its kind that is no error value, a number that is short or stands in a cell, or a cell with a
--- text, an exception, a list or a tuple
+-- text, an exception, a list, a tuple, a dict or an instance; or what may be the key of a dict
 pub data Holding : Type 0 where
   Anything : Holding
   ANumber : Holding
@@ -34,15 +37,21 @@ pub data Holding : Type 0 where
   AnException : Holding
   AList : Holding
   ATuple : Holding
+  ADict : Holding
+  AKey : Holding
+  AnInstance : Holding
 
--- what an argument is to be: a variable, which is borrowed, or stolen, or stolen where there is one; or a number, a text,
--- the name of an exception class as a text, a global or a class as it is written
+-- what an argument is to be: a variable, which is borrowed, or stolen, or stolen where there is one; or a number, a place (a number that
+-- is not negative), a text, the decimal of an `int` that is not short, the name of an exception class as a text, a global or a class as
+-- it is written
 pub data Parameter : Type 0 where
   Borrows : (k : KindAt) (h : Holding) → Parameter
   Steals : (k : KindAt) (h : Holding) → Parameter
   MaySteal : (k : KindAt) (h : Holding) → Parameter
   TakesNumber : Parameter
+  TakesPlace : Parameter
   TakesText : Parameter
+  TakesDecimal : Parameter
   TakesException : Parameter
   TakesGlobal : Parameter
   TakesClass : Parameter
@@ -53,10 +62,11 @@ may_end [] = true
 may_end (MaySteal k h ∷ ps) = may_end ps
 may_end _ = false
 
--- what a primitive answers: nothing, or a word of a kind, whose reference the caller then owns
+-- what a primitive answers: nothing, a word of a kind, whose reference the caller then owns, or one whose reference stays where it is
 pub data Outcome : Type 0 where
   Nothing : Outcome
   Owned : (k : KindAt) → Outcome
+  Lent : (k : KindAt) → Outcome
 
 pub record Row : Type 0 where
   pub name : List ℕ
@@ -79,6 +89,10 @@ two_row name k h answer = record { name = name; parameters = Borrows (Is k) h �
 -- a row that answers a word of a kind
 abbrev pub answering_row : List ℕ → List Parameter → Kind → Row
 answering_row name parameters k = record { name = name; parameters = parameters; outcome = Owned (Is k); while_pending = false }
+
+-- a row that lends a word of a kind
+abbrev pub lending_row : List ℕ → List Parameter → KindAt → Row
+lending_row name parameters k = record { name = name; parameters = parameters; outcome = Lent k; while_pending = false }
 
 -- a row without variables that may stand while an exception is pending
 abbrev pub pending_row : List ℕ → List Parameter → Kind → Row
@@ -112,7 +126,7 @@ row_of (prim.Tagged tagged.FloorDivide) = two_row (codes "CPyTagged_FloorDivide"
 row_of (prim.Tagged tagged.Remainder) = two_row (codes "CPyTagged_Remainder") Tagged ANumber Tagged
 row_of (prim.Tagged tagged.Lshift) = two_row (codes "CPyTagged_Lshift") Tagged ANumber Tagged
 row_of (prim.Tagged tagged.Rshift) = two_row (codes "CPyTagged_Rshift") Tagged ANumber Tagged
-row_of (prim.Tagged tagged.FromText) = answering_row (codes "CPyTagged_FromText") (TakesText ∷ []) Tagged
+row_of (prim.Tagged tagged.FromText) = answering_row (codes "CPyTagged_FromText") (TakesDecimal ∷ []) Tagged
 row_of (prim.Tagged tagged.FromInt64) = simple_row (codes "CPyTagged_FromInt64") (Int64 ∷ []) Tagged
 row_of (prim.Tagged tagged.FromBool) = simple_row (codes "CPyTagged_FromBool") (Char ∷ []) Tagged
 row_of (prim.Tagged tagged.AsInt64) = one_row (codes "CPyTagged_AsInt64") Tagged ANumber Int64
@@ -137,14 +151,32 @@ row_of (prim.Str str.GetItem) = answering_row (codes "CPyStr_GetItem") (Borrows 
 row_of (prim.List list.New) = answering_row (codes "CPyList_New") [] Object
 row_of (prim.List list.Append) = acting_row (codes "CPyList_Append") (Borrows (Is Object) AList ∷ Steals (Is Object) Anything ∷ [])
 row_of (prim.List list.GetItem) = answering_row (codes "CPyList_GetItem") (Borrows (Is Object) AList ∷ Borrows (Is Tagged) ANumber ∷ []) Object
+row_of (prim.List list.GetItemBorrow) =
+    lending_row (codes "CPyList_GetItemBorrow") (Borrows (Is Object) AList ∷ Borrows (Is Tagged) ANumber ∷ []) (Is Object)
 row_of (prim.List list.SetItem) =
     answering_row (codes "CPyList_SetItem") (Borrows (Is Object) AList ∷ Borrows (Is Tagged) ANumber ∷ Steals (Is Object) Anything ∷ []) Char
 row_of (prim.List list.Pop) = one_row (codes "CPyList_Pop") Object AList Object
 row_of (prim.List list.Len) = one_row (codes "CPyList_Len") Object AList Tagged
+row_of (prim.Dict dict.New) = answering_row (codes "CPyDict_New") [] Object
+row_of (prim.Dict dict.GetItem) = answering_row (codes "CPyDict_GetItem") (Borrows (Is Object) ADict ∷ Borrows (Is Object) AKey ∷ []) Object
+row_of (prim.Dict dict.SetItem) =
+    acting_row (codes "CPyDict_SetItem") (Borrows (Is Object) ADict ∷ Steals (Is Object) AKey ∷ Steals (Is Object) Anything ∷ [])
+row_of (prim.Dict dict.DelItem) = answering_row (codes "CPyDict_DelItem") (Borrows (Is Object) ADict ∷ Borrows (Is Object) AKey ∷ []) Char
+row_of (prim.Dict dict.Contains) = answering_row (codes "CPyDict_Contains") (Borrows (Is Object) ADict ∷ Borrows (Is Object) AKey ∷ []) Char
+row_of (prim.Dict dict.CheckSize) = answering_row (codes "CPyDict_CheckSize") (Borrows (Is Object) ADict ∷ Borrows (Is Tagged) ANumber ∷ []) Char
+row_of (prim.Dict dict.KeyAt) = answering_row (codes "CPyDict_KeyAt") (Borrows (Is Object) ADict ∷ Borrows (Is Tagged) ANumber ∷ []) Object
+row_of (prim.Dict dict.Len) = one_row (codes "CPyDict_Len") Object ADict Tagged
 row_of (prim.Tuple tuple.Pack) =
     answering_row (codes "CPyTuple_Pack") (Steals (Is Object) Anything ∷ replicate 15 (MaySteal (Is Object) Anything)) Object
 row_of (prim.Tuple tuple.GetItem) = answering_row (codes "CPyTuple_GetItem") (Borrows (Is Object) ATuple ∷ TakesNumber ∷ []) Object
+row_of (prim.Tuple tuple.GetItemBorrow) =
+    lending_row (codes "CPyTuple_GetItemBorrow") (Borrows (Is Object) ATuple ∷ TakesNumber ∷ []) (Is Object)
 row_of (prim.Tuple tuple.Len) = one_row (codes "CPyTuple_Len") Object ATuple Tagged
+row_of (prim.Instance instance.New) = answering_row (codes "CPyInstance_New") (TakesClass ∷ []) Object
+row_of (prim.Attr attr.Get) =
+    record { name = codes "CPyAttr_Get"; parameters = Borrows (Is Object) AnInstance ∷ TakesPlace ∷ []; outcome = Owned OfSlot; while_pending = false }
+row_of (prim.Attr attr.GetBorrow) = lending_row (codes "CPyAttr_GetBorrow") (Borrows (Is Object) AnInstance ∷ TakesPlace ∷ []) OfSlot
+row_of (prim.Attr attr.Set) = acting_row (codes "CPyAttr_Set") (Borrows (Is Object) AnInstance ∷ TakesPlace ∷ Steals OfSlot Anything ∷ [])
 row_of (prim.Global global.Get) = record { name = codes "CPyGlobal_Get"; parameters = TakesGlobal ∷ []; outcome = Owned OfGlobal; while_pending = false }
 row_of (prim.Global global.Set) = acting_row (codes "CPyGlobal_Set") (TakesGlobal ∷ Steals OfGlobal Anything ∷ [])
 row_of (prim.Global global.Clear) = acting_row (codes "CPyGlobal_Clear") (TakesGlobal ∷ [])
@@ -171,8 +203,12 @@ all_primitives =
     ∷ prim.Tagged tagged.Box ∷ prim.Tagged tagged.Unbox
     ∷ prim.Bool bool.Not ∷ prim.Bool bool.Str ∷ prim.Bool bool.Box ∷ prim.Bool bool.Unbox ∷ prim.Object object.IsNone
     ∷ prim.Str str.Literal ∷ prim.Str str.Concat ∷ prim.Str str.Eq ∷ prim.Str str.Lt ∷ prim.Str str.Le ∷ prim.Str str.Len ∷ prim.Str str.GetItem
-    ∷ prim.List list.New ∷ prim.List list.Append ∷ prim.List list.GetItem ∷ prim.List list.SetItem ∷ prim.List list.Pop
-    ∷ prim.List list.Len ∷ prim.Tuple tuple.Pack ∷ prim.Tuple tuple.GetItem ∷ prim.Tuple tuple.Len
+    ∷ prim.List list.New ∷ prim.List list.Append ∷ prim.List list.GetItem ∷ prim.List list.GetItemBorrow ∷ prim.List list.SetItem
+    ∷ prim.List list.Pop ∷ prim.List list.Len
+    ∷ prim.Dict dict.New ∷ prim.Dict dict.GetItem ∷ prim.Dict dict.SetItem ∷ prim.Dict dict.DelItem ∷ prim.Dict dict.Contains
+    ∷ prim.Dict dict.CheckSize ∷ prim.Dict dict.KeyAt ∷ prim.Dict dict.Len
+    ∷ prim.Tuple tuple.Pack ∷ prim.Tuple tuple.GetItem ∷ prim.Tuple tuple.GetItemBorrow ∷ prim.Tuple tuple.Len
+    ∷ prim.Instance instance.New ∷ prim.Attr attr.Get ∷ prim.Attr attr.GetBorrow ∷ prim.Attr attr.Set
     ∷ prim.Global global.Get ∷ prim.Global global.Set ∷ prim.Global global.Clear ∷ prim.Exc exc.New ∷ prim.Exc exc.Str
     ∷ prim.Err err.SetObject ∷ prim.Err err.Unbound ∷ prim.Err err.Occurred ∷ prim.Err err.Matches ∷ prim.Err err.Catch
     ∷ prim.Io io.Write ∷ prim.Io io.Input ∷ []

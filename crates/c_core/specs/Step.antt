@@ -1,6 +1,6 @@
 -- One step of the machine: what a line of the C text does to a state. Its tests go from left to right, each on the
 -- ledger that those before it left, and a fault leaves the state as it was before the line.
-use Rattle.std.specs.Prelude.{ℕ, zero, suc, ◌+◌, ◌/◌, ◌%◌, ◌==◌, Bool, true, false, not, ◌&&◌, ◌||◌, cond, ℤ, pos, negsuc, int_lt, List, [], ◌∷◌, ◌++◌, length, take, Option, Some, None, codes, slice_get, slice_set, Result, Ok, Err, is_some}
+use Rattle.std.specs.Prelude.{ℕ, zero, suc, ◌+◌, ◌/◌, ◌%◌, ◌==◌, Bool, true, false, not, ◌&&◌, ◌||◌, cond, ℤ, pos, negsuc, int_lt, List, [], ◌∷◌, ◌++◌, length, map, take, drop, Option, Some, None, codes, slice_get, slice_set, Result, Ok, Err, is_some}
 use Rattle.std.specs.Fmt.{signed_decimal}
 use Rattle.std.specs.Option.{option_and_then, option_map}
 use Rattle.std.specs.Str.{bytes_eq}
@@ -9,9 +9,9 @@ use Rattle.std.specs.Ordering.{int_eq}
 use Rattle.value_core.specs.declared.arith.Arith.{Arith}
 use Rattle.value_core.specs.declared.arith.Arith.TheVariants.{Overflow, ZeroDivisor, NegativeShift, OutOfRange}
 use Rattle.value_core.specs.declared.exception.ExcClass.{ExcClass}
-use Rattle.value_core.specs.declared.exception.ExcClass.TheVariants.{ZeroDivisionError, OverflowError, IndexError, NameError, UnboundLocalError, ValueError, EOFError}
+use Rattle.value_core.specs.declared.exception.ExcClass.TheVariants.{ZeroDivisionError, OverflowError, IndexError, KeyError, NameError, UnboundLocalError, ValueError, AttributeError, RuntimeError, EOFError}
 use Rattle.value_core.specs.Characters.{place_of}
-use Rattle.value_core.specs.Arithmetic.{lies_within, is_short, int_add, int_sub, int_mul, int_neg, int_floor_div, int_modulo, int_shl, int_shr, int_to_i64, i64_add, i64_sub, i64_mul, i64_neg, i64_floor_div, i64_modulo, i64_shl, i64_shr}
+use Rattle.value_core.specs.Arithmetic.{is_short, int_add, int_sub, int_mul, int_neg, int_floor_div, int_modulo, int_shl, int_shr, int_to_i64, i64_add, i64_sub, i64_mul, i64_neg, i64_floor_div, i64_modulo, i64_shl, i64_shr}
 use Rattle.value_core.specs.Exceptions.{Thrown, thrown, class_named, is_under}
 use Rattle.value_core.specs.Ending.{Ending, Done, Raised, Cut, Over, Broken}
 use Rattle.value_core.specs.Items as item
@@ -23,7 +23,8 @@ use Rattle.c_core.specs.declared.code.CLit.TheVariants.{Number, Null, PyNone, Py
 use Rattle.c_core.specs.declared.code.CArg.{CArg}
 use Rattle.c_core.specs.declared.code.CArg.TheVariants as arg
 use Rattle.c_core.specs.declared.code.Line.{Line}
-use Rattle.c_core.specs.declared.code.Line.TheVariants.{Label, Move, Lit, Call, Goto, If, IfError, Turn, Return, Inc, Dec, XDec}
+use Rattle.c_core.specs.declared.code.Line.TheVariants.{Label, Move, Lit, Call, Virtual, TraitCall, Goto, If, IfError, Turn, Return, Inc, Dec, XDec}
+use Rattle.c_core.specs.declared.code.CClass.{CClass}
 use Rattle.c_core.specs.declared.code.CFunc.{CFunc}
 use Rattle.c_core.specs.declared.code.Code.{Code}
 use Rattle.c_core.specs.declared.fault.Fault.{Fault}
@@ -36,7 +37,10 @@ use Rattle.c_core.specs.declared.primitive.BoolPrim.TheVariants as bool
 use Rattle.c_core.specs.declared.primitive.ObjectPrim.TheVariants as object
 use Rattle.c_core.specs.declared.primitive.StrPrim.TheVariants as str
 use Rattle.c_core.specs.declared.primitive.ListPrim.TheVariants as list
+use Rattle.c_core.specs.declared.primitive.DictPrim.TheVariants as dict
 use Rattle.c_core.specs.declared.primitive.TuplePrim.TheVariants as tuple
+use Rattle.c_core.specs.declared.primitive.InstancePrim.TheVariants as instance
+use Rattle.c_core.specs.declared.primitive.AttrPrim.TheVariants as attr
 use Rattle.c_core.specs.declared.primitive.GlobalPrim.TheVariants as global
 use Rattle.c_core.specs.declared.primitive.ExcPrim.TheVariants as exc
 use Rattle.c_core.specs.declared.primitive.ErrPrim.TheVariants as err
@@ -44,11 +48,12 @@ use Rattle.c_core.specs.declared.primitive.IoPrim.TheVariants as io
 use Rattle.c_core.specs.Cells.{Cells, times, content_at, take_one, refill, make}
 use Rattle.c_core.specs.Ledgers.{Ledger, more, more_of, without}
 use Rattle.c_core.specs.Release.{release}
-use Rattle.c_core.specs.Machine.{Word, ShortInt, BigInt, TaggedError, Native, CharWord, ObjectCell, NoneObject, TrueObject, FalseObject, NoObject, Content, IntCell, StrCell, ListCell, TupleCell, ExcCell, refs_of, set_refs, refs_in, noted, Frame, MachineState}
-use Rattle.c_core.specs.Functions.{label_places, function_named, parameter_kinds, error_word, entry_words}
-use Rattle.c_core.specs.Primitives.{Holding, Parameter, Borrows, Steals, MaySteal, TakesNumber, TakesText, TakesException, TakesGlobal, TakesClass, may_end, row_of, primitive_named}
-use Rattle.c_core.specs.Arguments.{Argument, Cell, Plain, Written, is_value_of, is_holding, int_in, kind_of_global, number_of_global, kind_found, word_in, words_in, stolen}
-use Rattle.c_core.specs.Strings.{counted_length, text_less, text_length, text_item}
+use Rattle.c_core.specs.Machine.{Word, ShortInt, BigInt, TaggedError, Native, CharWord, ObjectCell, NoneObject, TrueObject, FalseObject, NoObject, Content, IntCell, StrCell, ListCell, DictCell, TupleCell, InstCell, ExcCell, refs_of, set_refs, refs_in, noted, Frame, MachineState}
+use Rattle.c_core.specs.Functions.{label_places, function_named, number_of, method_at, trait_method_at, has_kind, kinds_agree, parameter_kinds, error_word, entry_words}
+use Rattle.c_core.specs.Keys.{Key, key_place, key_text}
+use Rattle.c_core.specs.Primitives.{KindAt, OfSlot, Holding, AnInstance, Parameter, Borrows, Steals, MaySteal, TakesNumber, TakesPlace, TakesText, TakesDecimal, TakesException, TakesGlobal, TakesClass, Outcome, Nothing, Owned, Lent, may_end, row_of, primitive_named}
+use Rattle.c_core.specs.Arguments.{Argument, Cell, Plain, Written, is_value_of, is_holding, int_in, key_as, kind_of_global, number_of_global, number_of_class, kind_of_slot, kind_found, word_in, words_in, stolen}
+use Rattle.c_core.specs.Strings.{counted_length, text_less, text_length, text_item, writes_long}
 
 -- how a run of the machine ends: as a program of the source does, or by a fault
 pub data MachineEnding : Type 0 where
@@ -141,7 +146,7 @@ equals_error w = is_error w || is_both w
 
 -- ---- primitives
 -- What a primitive does. It was called wrongly. It answers a word that has no cell, or one whose cell is there and gets one more
--- reference, and what was stolen is given up. It makes a cell, whose content takes over what was stolen. It gives a cell another
+-- reference, and what was stolen is given up. It answers a word whose reference stays where it is. It makes a cell, whose content takes over what was stolen. It gives a cell another
 -- content, which takes over what was stolen, and answers a word, whose reference, if it has one, was the old content's and goes to
 -- the frame; other references that the old content held are given up after the write. It writes to the output. A global that held one thing gets
 -- another, which is what was stolen, or nothing, and the thing that it held is given up. It fails: a new exception is pending, and the
@@ -152,6 +157,7 @@ pub data Effect : Type 0 where
   Wrong : Effect
   Says : (w : Word) → Effect
   Shares : (w : Word) → Effect
+  Lends : (w : Word) → Effect
   Makes : (content : Content) → Effect
   Changes : (c : ℕ) (content : Content) (w : Word) (old : List ℕ) → Effect
   Writes : (text : List ℕ) → Effect
@@ -210,8 +216,7 @@ fitted (Err f) = Fails (error_word Int64) (int64_exception Overflow)
 
 -- a text that writes this number as it is printed, which is no short one and has a cell
 abbrev pub written_int : List ℕ → ℤ → Effect
-written_int text n =
-    cond (bytes_eq (signed_decimal n) text && (lies_within 127 n && not (is_short n))) (MakesInt n) Wrong
+written_int text n = cond (writes_long text n) (MakesInt n) Wrong
 
 -- what is done with one `int`, and with two
 abbrev pub of_int : (ℤ → Effect) → Option ℤ → Effect
@@ -247,6 +252,87 @@ put_at c (Some i) items w =
 abbrev pub popped : ℕ → Option ℕ → List Word → Effect
 popped c None items = Fails (error_word Object) (thrown IndexError (codes "pop from empty list"))
 popped c (Some i) items = of_word (λ w. Changes c (ListCell (take i items)) w []) (slice_get items i)
+
+-- what is read is lent, and gets no more references
+abbrev pub lent : Effect → Effect
+lent (Shares w) = Lends w
+lent e = e
+
+-- what is done with a key, and with a pair of a dict
+abbrev pub of_key : (Key → Effect) → Option Key → Effect
+of_key f None = Wrong
+of_key f (Some k) = f k
+
+abbrev pub of_pair : (Word × Word → Effect) → Option (Word × Word) → Effect
+of_pair f None = Wrong
+of_pair f (Some p) = f p
+
+-- at the place of a key in a dict, if it has one: the value is read; another value is put there, or a new pair behind the others; the
+-- pair is taken out. A key that is there stays, and the equal one that came is given up
+abbrev pub missing : Key → Thrown
+missing k = thrown KeyError (key_text k)
+
+abbrev pub value_at : Key → Option ℕ → List (Word × Word) → Effect
+value_at k None pairs = Fails (error_word Object) (missing k)
+value_at k (Some i) pairs = of_pair (λ p. Shares p.1) (slice_get pairs i)
+
+abbrev pub entry_set : ℕ → Option ℕ → List (Word × Word) → Word → Word → Effect
+entry_set c None pairs key w = Changes c (DictCell (pairs ++ (key, w) ∷ [])) NoneObject []
+entry_set c (Some i) pairs key w =
+    of_pair (λ p. Changes c (DictCell (slice_set pairs i (p.0, w))) NoneObject (refs_of key ++ refs_of p.1)) (slice_get pairs i)
+
+abbrev pub entry_cut : ℕ → Key → Option ℕ → List (Word × Word) → Effect
+entry_cut c k None pairs = Fails (error_word Char) (missing k)
+entry_cut c k (Some i) pairs =
+    of_pair (λ p. Changes c (DictCell (take i pairs ++ drop (i + 1) pairs)) (CharWord 1) (refs_of p.0 ++ refs_of p.1)) (slice_get pairs i)
+
+-- whether a dict has as many pairs as before, and the key at a place
+abbrev pub sized : Bool → Effect
+sized true = Says (CharWord 1)
+sized false = Fails (error_word Char) (thrown RuntimeError (codes "dictionary changed size during iteration"))
+
+abbrev pub key_at : List (Word × Word) → ℤ → Effect
+key_at pairs (pos i) = of_pair (λ p. Shares p.0) (slice_get pairs i)
+key_at pairs (negsuc i) = Wrong
+
+-- a new instance of the class of a number, with all attributes unset
+abbrev pub instance_of : Option ℕ → Option CClass → Effect
+instance_of (Some n) (Some k) = Makes (InstCell n (map (λ a. None) k.attrs))
+instance_of n k = Wrong
+
+-- the attribute of a number, which is unset or holds a word
+abbrev pub attribute_at : List (Option Word) → ℤ → Option (Option Word)
+attribute_at attributes (pos i) = slice_get attributes i
+attribute_at attributes (negsuc i) = None
+
+abbrev pub undefined : List ℕ → List ℕ → Thrown
+undefined name class =
+    thrown AttributeError (codes "attribute '" ++ (name ++ (codes "' of '" ++ (class ++ codes "' undefined"))))
+
+-- the slot of a class by its number, with its name and its kind
+abbrev pub slot_of : CClass → ℤ → Option (List ℕ × Kind)
+slot_of k (pos i) = slice_get k.attrs i
+slot_of k (negsuc i) = None
+
+-- a read of a slot of the class of a name, which holds this
+abbrev pub slot_got : List ℕ → Option (List ℕ × Kind) → Option (Option Word) → Effect
+slot_got class (Some a) (Some (Some w)) = Shares w
+slot_got class (Some a) (Some None) = Fails (error_word a.1) (undefined a.0 class)
+slot_got class a o = Wrong
+
+abbrev pub attribute_got : Option CClass → ℤ → Option (Option Word) → Effect
+attribute_got None n o = Wrong
+attribute_got (Some k) n o = slot_got k.name (slot_of k n) o
+
+-- a write of an attribute
+abbrev pub slot_set : ℕ → ℕ → ℕ → List (Option Word) → Word → Option (Option Word) → Effect
+slot_set c class i attributes w None = Wrong
+slot_set c class i attributes w (Some old) =
+    Changes c (InstCell class (slice_set attributes i (Some w))) NoneObject (set_refs (old ∷ []))
+
+abbrev pub attribute_set : ℕ → ℕ → ℤ → List (Option Word) → Word → Effect
+attribute_set c class (pos i) attributes w = slot_set c class i attributes w (slice_get attributes i)
+attribute_set c class (negsuc i) attributes w = Wrong
 
 -- what is done with some words
 abbrev pub of_words : (List Word → Effect) → Option (List Word) → Effect
@@ -371,13 +457,36 @@ effect code s (prim.List list.Append) (Cell c (ListCell items) ∷ a ∷ []) =
     of_word (λ w. Changes c (ListCell (items ++ w ∷ [])) NoneObject []) (word_in Object a)
 effect code s (prim.List list.GetItem) (Cell c (ListCell items) ∷ a ∷ []) =
     of_int (λ i. item_at (place_of (length items) i) items) (int_in a)
+effect code s (prim.List list.GetItemBorrow) (Cell c (ListCell items) ∷ a ∷ []) =
+    of_int (λ i. lent (item_at (place_of (length items) i) items)) (int_in a)
 effect code s (prim.List list.SetItem) (Cell c (ListCell items) ∷ a ∷ b ∷ []) =
     of_int (λ i. of_word (put_at c (place_of (length items) i) items) (word_in Object b)) (int_in a)
 effect code s (prim.List list.Pop) (Cell c (ListCell items) ∷ []) = popped c (place_of (length items) (negsuc 0)) items
 effect code s (prim.List list.Len) (Cell c (ListCell items) ∷ []) = tagged_effect (pos (counted_length (length items)))
+effect code s (prim.Dict dict.New) [] = Makes (DictCell [])
+effect code s (prim.Dict dict.GetItem) (Cell c (DictCell pairs) ∷ a ∷ []) = of_key (λ k. value_at k (key_place s.cells k pairs) pairs) (key_as a)
+effect code s (prim.Dict dict.SetItem) (Cell c (DictCell pairs) ∷ a ∷ b ∷ []) =
+    of_key (λ k. of_word (λ key. of_word (entry_set c (key_place s.cells k pairs) pairs key) (word_in Object b)) (word_in Object a)) (key_as a)
+effect code s (prim.Dict dict.DelItem) (Cell c (DictCell pairs) ∷ a ∷ []) =
+    of_key (λ k. entry_cut c k (key_place s.cells k pairs) pairs) (key_as a)
+effect code s (prim.Dict dict.Contains) (Cell c (DictCell pairs) ∷ a ∷ []) =
+    of_key (λ k. Says (truth_word (is_some (key_place s.cells k pairs)))) (key_as a)
+effect code s (prim.Dict dict.CheckSize) (Cell c (DictCell pairs) ∷ a ∷ []) =
+    of_int (λ n. sized (int_eq (pos (counted_length (length pairs))) n)) (int_in a)
+effect code s (prim.Dict dict.KeyAt) (Cell c (DictCell pairs) ∷ a ∷ []) = of_int (key_at pairs) (int_in a)
+effect code s (prim.Dict dict.Len) (Cell c (DictCell pairs) ∷ []) = tagged_effect (pos (counted_length (length pairs)))
 effect code s (prim.Tuple tuple.Pack) all = of_words (λ ws. Makes (TupleCell ws)) (words_in all)
 effect code s (prim.Tuple tuple.GetItem) (Cell c (TupleCell items) ∷ Written (arg.Number n) ∷ []) = part_at items n
+effect code s (prim.Tuple tuple.GetItemBorrow) (Cell c (TupleCell items) ∷ Written (arg.Number n) ∷ []) = lent (part_at items n)
 effect code s (prim.Tuple tuple.Len) (Cell c (TupleCell items) ∷ []) = tagged_effect (pos (counted_length (length items)))
+effect code s (prim.Instance instance.New) (Written (arg.Class name) ∷ []) =
+    instance_of (number_of_class code name) (option_and_then (slice_get code.classes) (number_of_class code name))
+effect code s (prim.Attr attr.Get) (Cell c (InstCell class attributes) ∷ Written (arg.Number n) ∷ []) =
+    attribute_got (slice_get code.classes class) n (attribute_at attributes n)
+effect code s (prim.Attr attr.GetBorrow) (Cell c (InstCell class attributes) ∷ Written (arg.Number n) ∷ []) =
+    lent (attribute_got (slice_get code.classes class) n (attribute_at attributes n))
+effect code s (prim.Attr attr.Set) (Cell c (InstCell class attributes) ∷ Written (arg.Number n) ∷ a ∷ []) =
+    of_word (attribute_set c class n attributes) (option_and_then (λ k. word_in k a) (kind_of_slot code class n))
 effect code s (prim.Global global.Get) (Written (arg.Global name) ∷ []) =
     got name (kind_of_global code name) (global_at code s name)
 effect code s (prim.Global global.Set) (Written (arg.Global name) ∷ a ∷ []) =
@@ -402,6 +511,22 @@ function_of code f = slice_get code.funcs f.func
 
 abbrev pub kind_of : Code → Frame → ℕ → Option Kind
 kind_of code f x = option_and_then (λ g. option_map (λ v. v.1) (slice_get g.vars x)) (function_of code f)
+
+-- the kind of a slot is that of the variable into which it is read; of other answers this is known from the text
+abbrev pub slot_fits : Code → Frame → KindAt → Option ℕ → List Argument → Bool
+slot_fits code f OfSlot (Some x) all = kinds_agree (kind_found code OfSlot all) (kind_of code f x)
+slot_fits code f k x all = true
+
+abbrev pub answer_fits : Code → Frame → Outcome → Option ℕ → List Argument → Bool
+answer_fits code f Nothing x all = true
+answer_fits code f (Owned k) x all = slot_fits code f k x all
+answer_fits code f (Lent k) x all = slot_fits code f k x all
+
+-- the number of the function that an object's class has for a method
+abbrev pub method_of : Code → (CClass → Option (List ℕ)) → Argument → Option ℕ
+method_of code entry (Cell c (InstCell class attributes)) =
+    option_and_then (number_of code.funcs) (option_and_then entry (slice_get code.classes class))
+method_of code entry _ = None
 
 abbrev pub line_at : Code → Frame → Option Line
 line_at code f = option_and_then (λ g. slice_get g.lines f.place) (function_of code f)
@@ -470,7 +595,9 @@ module _ (is_checked : Bool) (s : MachineState) where
   if_argument code (MaySteal k h) (arg.Var x) earlier l go =
       if_some fault.Kind (kind_found code k earlier) (λ kind. if_variable kind h x (λ a. if_stolen a l (go a)))
   if_argument code TakesNumber (arg.Number n) earlier l go = go (Written (arg.Number n)) l
+  if_argument code TakesPlace (arg.Number n) earlier l go = go (Written (arg.Number n)) l
   if_argument code TakesText (arg.Text text) earlier l go = go (Written (arg.Text text)) l
+  if_argument code TakesDecimal (arg.Text text) earlier l go = go (Written (arg.Text text)) l
   if_argument code TakesException (arg.Text text) earlier l go = go (Written (arg.Text text)) l
   if_argument code TakesGlobal (arg.Global name) earlier l go = go (Written (arg.Global name)) l
   if_argument code TakesClass (arg.Class name) earlier l go = go (Written (arg.Class name)) l
@@ -497,6 +624,7 @@ module _ (is_checked : Bool) (s : MachineState) where
   applied x l gone Wrong = faulted fault.Kind
   applied x l gone (Says w) = Goes (next_line (with_target x w (given gone (with_ledger l s))))
   applied x l gone (Shares w) = Goes (next_line (with_target x w (given gone (shared w (with_ledger l s)))))
+  applied x l gone (Lends w) = Goes (next_line (with_target x w (given gone (with_ledger l s))))
   applied x l gone (Makes content) = Goes (next_line (made_cell x content (with_ledger l s)))
   applied x l gone (Changes c content w old) =
       Goes (next_line (with_target x w (given old (with_cells (refill content c s.cells) (with_ledger (more_of (refs_of w) l) s)))))
@@ -514,7 +642,7 @@ module _ (is_checked : Bool) (s : MachineState) where
   abbrev pub primitive_step : Code → Option ℕ → List CArg → Primitive → Next
   primitive_step code x args p =
       if_arguments code (row_of p).parameters args [] s.top.ledger
-      (λ all l. applied x l (stolen (row_of p).parameters all) (effect code s p all))
+      (λ all l. if_true (answer_fits code s.top (row_of p).outcome x all) (applied x l (stolen (row_of p).parameters all) (effect code s p all)))
 
   -- while an exception is pending only some rows may stand
   abbrev pub if_may_stand : Bool → Next → Next
@@ -541,6 +669,18 @@ module _ (is_checked : Bool) (s : MachineState) where
   abbrev pub function_called : Code → Option ℕ → List CArg → Option ℕ → Next
   function_called code x args n =
       if_calm s.pending (if_some fault.Kind n (λ f. if_some fault.Kind (slice_get code.funcs f) (function_step x args f)))
+
+  -- A call of a method: the object is tested, then that its class has a function there, which takes as many arguments and gives a
+  -- result of the target's kind, and then the arguments, of which the object is the first.
+  abbrev pub takes_and_gives : Code → ℕ → List ℕ → CFunc → Bool
+  takes_and_gives code x args g = (length args == length (parameter_kinds g)) && has_kind g.ret (kind_of code s.top x)
+
+  abbrev pub method_step : Code → ℕ → List ℕ → ℕ → CFunc → Next
+  method_step code x args f g = if_true (takes_and_gives code x args g) (function_step (Some x) (map arg.Var args) f g)
+
+  abbrev pub method_called : Code → ℕ → ℕ → List ℕ → (CClass → Option (List ℕ)) → Next
+  method_called code x o args entry =
+      if_calm s.pending (if_variable Object AnInstance o (λ a. if_some fault.Kind (method_of code entry a) (λ f. if_some fault.Kind (slice_get code.funcs f) (method_step code x (o ∷ args) f))))
 
   -- the name of a call is a primitive's or a function's
   abbrev pub call_step : Code → Option ℕ → List ℕ → List CArg → Option Primitive → Next
@@ -636,6 +776,8 @@ step_at b code s (Some (Move x y)) = word_of b s y (λ w. if_there b s w (λ a. 
 step_at b code s (Some (Lit x l)) =
     if_some b s fault.Kind (option_and_then (λ k. literal_word k l) (kind_of code s.top x)) (λ w. Goes (next_line (with_var x w s)))
 step_at b code s (Some (Call x name args)) = call_step b s code x name args (primitive_named name)
+step_at b code s (Some (Virtual x o n args)) = method_called b s code x o args (method_at n)
+step_at b code s (Some (TraitCall x o t n args)) = method_called b s code x o args (trait_method_at t n)
 step_at b code s (Some (Goto n)) = jumped b s (label_at code s.top n)
 step_at b code s (Some (If x n m)) = word_of b s x (chosen b s (label_at code s.top n) (label_at code s.top m))
 step_at b code s (Some (IfError x n m)) = word_of b s x (λ w. jumped b s (label_at code s.top (cond (equals_error w) n m)))

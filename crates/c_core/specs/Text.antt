@@ -10,7 +10,8 @@ use Rattle.c_core.specs.declared.code.CArg.TheVariants as arg
 use Rattle.c_core.specs.declared.code.CLit.{CLit}
 use Rattle.c_core.specs.declared.code.CLit.TheVariants.{Number, Null, PyNone, PyTrue, PyFalse}
 use Rattle.c_core.specs.declared.code.Line.{Line}
-use Rattle.c_core.specs.declared.code.Line.TheVariants.{Label, Move, Lit, Call, Goto, If, IfError, Turn, Return, Inc, Dec, XDec}
+use Rattle.c_core.specs.declared.code.Line.TheVariants.{Label, Move, Lit, Call, Virtual, TraitCall, Goto, If, IfError, Turn, Return, Inc, Dec, XDec}
+use Rattle.c_core.specs.declared.code.CClass.{CClass}
 use Rattle.c_core.specs.declared.code.CFunc.{CFunc}
 use Rattle.c_core.specs.declared.code.Code.{Code}
 use Rattle.c_core.specs.Functions.{is_label}
@@ -53,12 +54,16 @@ var_name (Some v) = codes "cpy_" ++ v.0
 abbrev pub var_text : List (List ℕ × Kind) → ℕ → List ℕ
 var_text vars x = var_name (slice_get vars x)
 
+-- a class by its name
+abbrev pub type_text : List ℕ → List ℕ
+type_text name = codes "CPyType_" ++ name
+
 abbrev pub arg_text : List (List ℕ × Kind) → CArg → List ℕ
 arg_text vars (arg.Var x) = var_text vars x
 arg_text vars (arg.Number n) = signed_decimal n
 arg_text vars (arg.Text text) = quoted text
 arg_text vars (arg.Global name) = codes "CPyStatic_" ++ name
-arg_text vars (arg.Class name) = codes "CPyType_" ++ name
+arg_text vars (arg.Class name) = type_text name
 
 abbrev pub arg_texts : List (List ℕ × Kind) → List CArg → List (List ℕ)
 arg_texts vars [] = []
@@ -102,13 +107,20 @@ counter_of _ = codes "CPy_"
 abbrev pub count_text : List (List ℕ × Kind) → List ℕ → ℕ → List ℕ
 count_text vars word x = counter_of (slice_get vars x) ++ (word ++ (codes "(" ++ (var_text vars x ++ codes ")")))
 
+-- a call by the name that stands in it
+abbrev pub call_text : List ℕ → List (List ℕ) → List ℕ
+call_text name args = name ++ (codes "(" ++ (joined comma args ++ codes ")"))
+
 -- a statement without its semicolon; a label is none
 abbrev pub statement_text : List (List ℕ × Kind) → Line → List ℕ
 statement_text vars Label = []
 statement_text vars (Move x y) = var_text vars x ++ (codes " = " ++ var_text vars y)
 statement_text vars (Lit x l) = var_text vars x ++ (codes " = " ++ literal_text l)
-statement_text vars (Call x name args) =
-    target_text vars x ++ (name ++ (codes "(" ++ (joined comma (arg_texts vars args) ++ codes ")")))
+statement_text vars (Call x name args) = target_text vars x ++ call_text name (arg_texts vars args)
+statement_text vars (Virtual x o n args) =
+    target_text vars (Some x) ++ call_text (codes "CPyVirtual") (var_text vars o ∷ decimal n ∷ map (var_text vars) args)
+statement_text vars (TraitCall x o t n args) =
+    target_text vars (Some x) ++ call_text (codes "CPyTrait") (var_text vars o ∷ type_text t ∷ decimal n ∷ map (var_text vars) args)
 statement_text vars (Goto n) = goto_text n
 statement_text vars (If x n m) = codes "if (" ++ (var_text vars x ++ branches_text n m)
 statement_text vars (IfError x n m) =
@@ -177,9 +189,42 @@ global_line v = kind_text v.1 ++ (codes "CPyStatic_" ++ (v.0 ++ codes ";"))
 abbrev pub global_lines : List (List ℕ × Kind) → List (List ℕ)
 global_lines vars = map global_line vars
 
--- the lines of a code's text. Classes are not built: no code that is spelled has any
+-- ---- classes
+-- texts in braces, with commas between them
+abbrev pub braced : List (List ℕ) → List ℕ
+braced texts = codes "{" ++ (joined comma texts ++ codes "}")
+
+-- the kind of an attribute
+abbrev pub slot_text : Kind → List ℕ
+slot_text Tagged = codes "CPyTagged"
+slot_text Int64 = codes "int64_t"
+slot_text Char = codes "char"
+slot_text Object = codes "PyObject *"
+
+abbrev pub attribute_text : List ℕ × Kind → List ℕ
+attribute_text a = braced (quoted a.0 ∷ slot_text a.1 ∷ [])
+
+-- the functions of methods, and those of a trait
+abbrev pub method_text : List ℕ → List ℕ
+method_text name = codes "CPyDef_" ++ name
+
+abbrev pub methods_text : List (List ℕ) → List ℕ
+methods_text names = braced (map method_text names)
+
+abbrev pub trait_text : List ℕ × List (List ℕ) → List ℕ
+trait_text t = braced (type_text t.0 ∷ methods_text t.1 ∷ [])
+
+-- the line of a class: its name, its attributes, its methods and its traits
+abbrev pub class_text : CClass → List ℕ
+class_text k =
+    braced (quoted k.name ∷ braced (map attribute_text k.attrs) ∷ methods_text k.methods ∷ braced (map trait_text k.traits) ∷ [])
+
+abbrev pub class_line : CClass → List ℕ
+class_line k = codes "CPyClass CPyType_" ++ (k.name ++ (codes " = " ++ (class_text k ++ codes ";")))
+
+-- the lines of a code's text
 abbrev pub code_lines : Code → List (List ℕ)
-code_lines code = first_line ∷ (global_lines code.globals ++ function_lines code.funcs)
+code_lines code = first_line ∷ (global_lines code.globals ++ (map class_line code.classes ++ function_lines code.funcs))
 
 -- lines as a text: each has its line feed
 abbrev pub text_of : List (List ℕ) → List ℕ

@@ -1,5 +1,5 @@
 -- Which codes are spelled, so that their text is C text, and which of them the machine may run.
-use Rattle.std.specs.Prelude.{ℕ, ◌+◌, ◌-◌, ◌^◌, nat_lt, nat_le, ◌==◌, Bool, true, false, not, ◌&&◌, ◌||◌, List, [], ◌∷◌, length, map, Option, Some, None, is_some, codes, slice_get, IsTrue}
+use Rattle.std.specs.Prelude.{ℕ, ◌+◌, ◌-◌, ◌^◌, nat_lt, nat_le, ◌==◌, pos, Bool, true, false, not, ◌&&◌, ◌||◌, List, [], ◌∷◌, length, map, Option, Some, None, is_some, codes, slice_get, IsTrue}
 use Rattle.std.specs.Option.{option_and_then, option_map}
 use Rattle.std.specs.List.{list_all, list_any}
 use Rattle.std.specs.Str.{bytes_eq, chars, is_utf8}
@@ -7,20 +7,23 @@ use Rattle.unicode_ident.specs.Ident.{is_xid_continue}
 use Rattle.value_core.specs.Arithmetic.{lies_within}
 use Rattle.value_core.specs.Exceptions.{class_named}
 use Rattle.c_core.specs.declared.code.Kind.{Kind}
-use Rattle.c_core.specs.declared.code.Kind.TheVariants.{Tagged, Int64, Char, Object}
+use Rattle.c_core.specs.declared.code.Kind.TheVariants.{Tagged, Char, Object}
 use Rattle.c_core.specs.declared.code.CArg.{CArg}
 use Rattle.c_core.specs.declared.code.CArg.TheVariants as arg
 use Rattle.c_core.specs.declared.code.CLit.{CLit}
 use Rattle.c_core.specs.declared.code.CLit.TheVariants.{Number}
 use Rattle.c_core.specs.declared.code.Line.{Line}
-use Rattle.c_core.specs.declared.code.Line.TheVariants.{Label, Move, Lit, Call, Goto, If, IfError, Turn, Return, Inc, Dec, XDec}
+use Rattle.c_core.specs.declared.code.Line.TheVariants.{Label, Move, Lit, Call, Goto, Virtual, TraitCall, If, IfError, Turn, Return, Inc, Dec, XDec}
+use Rattle.c_core.specs.declared.code.CClass.{CClass}
 use Rattle.c_core.specs.declared.code.CFunc.{CFunc}
 use Rattle.c_core.specs.declared.code.Code.{Code}
 use Rattle.c_core.specs.declared.primitive.Primitive.{Primitive}
+pub use Rattle.c_core.specs.Functions.{same_kind, has_kind, kinds_agree}
 use Rattle.c_core.specs.Functions.{is_turn, label_places, after_prefix, function_named, parameter_kinds}
-use Rattle.c_core.specs.Primitives.{KindAt, Is, OfGlobal, OfSlot, Parameter, Borrows, Steals, MaySteal, TakesNumber, TakesText, TakesException, TakesGlobal, TakesClass, Outcome, Nothing, Owned, Row, may_end, row_of, primitive_named}
+use Rattle.c_core.specs.Primitives.{KindAt, Is, OfGlobal, OfSlot, Parameter, Borrows, Steals, MaySteal, TakesNumber, TakesPlace, TakesText, TakesDecimal, TakesException, TakesGlobal, TakesClass, Outcome, Nothing, Owned, Lent, Row, may_end, row_of, primitive_named}
 use Rattle.c_core.specs.Arguments.{kind_of_global}
 use Rattle.c_core.specs.Step.{literal_word}
+use Rattle.c_core.specs.Strings.{is_long_decimal}
 
 -- a variable with its name and kind
 abbrev pub Declared : Type 0
@@ -49,7 +52,7 @@ abbrev pub spelled_literal : CLit → Bool
 spelled_literal (Number n) = lies_within 63 n
 spelled_literal _ = true
 
--- the number of a label has a text of its own
+-- the number of a label or of a method has a text of its own
 abbrev pub spelled_label : ℕ → Bool
 spelled_label n = nat_lt n (2 ^ 64)
 
@@ -82,6 +85,9 @@ module _ (vars : List Declared) where
   spelled_line (Move x y) = is_declared x && is_declared y
   spelled_line (Lit x l) = is_declared x && spelled_literal l
   spelled_line (Call x name args) = spelled_target x && (is_call_name name && list_all spelled_arg args)
+  spelled_line (Virtual x o n args) = is_declared x && (is_declared o && (spelled_label n && list_all is_declared args))
+  spelled_line (TraitCall x o t n args) =
+      is_declared x && (is_declared o && (is_identifier t && (spelled_label n && list_all is_declared args)))
   spelled_line (Goto n) = spelled_label n
   spelled_line (If x n m) = is_declared x && (spelled_label n && spelled_label m)
   spelled_line (IfError x n m) = is_declared x && (spelled_label n && spelled_label m)
@@ -107,10 +113,6 @@ spelled_top g = bytes_eq g.name [] && (is_char g.ret && ((g.params == 0) && spel
 abbrev pub spelled_function : CFunc → Bool
 spelled_function g = is_identifier g.name && (nat_le g.params (length g.vars) && spelled_body g)
 
-abbrev pub is_empty : {A : Type 0} → List A → Bool
-is_empty [] = true
-is_empty (a ∷ rest) = false
-
 -- functions, of which the last is the module's own
 abbrev pub spelled_functions : List CFunc → Bool
 spelled_functions [] = false
@@ -120,26 +122,23 @@ spelled_functions (g ∷ h ∷ gs) = spelled_function g && spelled_functions (h 
 abbrev pub spelled_globals : List Declared → Bool
 spelled_globals vars = list_all (λ v. is_identifier v.0) vars
 
+-- a class, whose attributes may have any names, with the functions of its methods and, for each trait, those of the trait's
+abbrev pub spelled_trait : List ℕ × List (List ℕ) → Bool
+spelled_trait t = is_identifier t.0 && list_all is_identifier t.1
+
+abbrev pub spelled_class : CClass → Bool
+spelled_class k =
+    is_identifier k.name && (list_all (λ a. is_utf8 a.0) k.attrs && (list_all is_identifier k.methods && list_all spelled_trait k.traits))
+
 -- Each part of the code stands in its text as C text wants it. Two spelled codes may share a text, where a name is
--- declared twice. Classes are not built, so no code with any of them is spelled.
+-- declared twice.
 abbrev pub is_spelled : Code → Bool
-is_spelled code = spelled_globals code.globals && (is_empty code.classes && spelled_functions code.funcs)
+is_spelled code = spelled_globals code.globals && (list_all spelled_class code.classes && spelled_functions code.funcs)
 
 abbrev pub Spelled : Code → Type 0
 Spelled code = IsTrue (is_spelled code)
 
 -- ---- well formed
-
-abbrev pub same_kind : Kind → Kind → Bool
-same_kind Tagged Tagged = true
-same_kind Int64 Int64 = true
-same_kind Char Char = true
-same_kind Object Object = true
-same_kind _ _ = false
-
-abbrev pub has_kind : Kind → Option Kind → Bool
-has_kind k None = false
-has_kind k (Some l) = same_kind k l
 
 abbrev pub names_differ : List (List ℕ) → Bool
 names_differ [] = true
@@ -154,11 +153,6 @@ same_kinds (Some k) l = has_kind k l
 abbrev pub literal_fits : CLit → Option Kind → Bool
 literal_fits l None = false
 literal_fits l (Some k) = is_some (literal_word k l)
-
--- a kind is the one that is asked for, if one is
-abbrev pub kinds_agree : Option Kind → Option Kind → Bool
-kinds_agree None k = false
-kinds_agree (Some k) l = has_kind k l
 
 -- the kind of the global that a call names first
 abbrev pub named_kind : Code → List CArg → Option Kind
@@ -183,6 +177,13 @@ passes vars [] [] = true
 passes vars (k ∷ ks) (arg.Var x ∷ rest) = has_kind k (kind_at vars x) && passes vars ks rest
 passes vars _ _ = false
 
+-- a class and a function of a name are there
+abbrev pub has_class : Code → List ℕ → Bool
+has_class code name = list_any (λ k. bytes_eq name k.name) code.classes
+
+abbrev pub has_function : Code → List ℕ → Bool
+has_function code name = list_any (λ g. bytes_eq name g.name) code.funcs
+
 -- the number of the function that a line calls, if it calls one
 abbrev pub callee_of : List CFunc → Line → Option ℕ
 callee_of functions (Call x name args) = function_named functions name
@@ -195,10 +196,12 @@ module _ (code : Code) (vars : List Declared) where
   arg_fits args (Steals k h) (arg.Var x) = kind_fits code args k (kind_at vars x)
   arg_fits args (MaySteal k h) (arg.Var x) = kind_fits code args k (kind_at vars x)
   arg_fits args TakesNumber (arg.Number n) = true
+  arg_fits args TakesPlace (arg.Number (pos n)) = true
   arg_fits args TakesText (arg.Text text) = true
+  arg_fits args TakesDecimal (arg.Text text) = is_long_decimal text
   arg_fits args TakesException (arg.Text text) = is_some (class_named text)
   arg_fits args TakesGlobal (arg.Global name) = is_some (kind_of_global code name)
-  arg_fits args TakesClass (arg.Class name) = list_any (λ k. bytes_eq name k.name) code.classes
+  arg_fits args TakesClass (arg.Class name) = has_class code name
   arg_fits args _ _ = false
 
   abbrev pub args_fit : List CArg → List Parameter → List CArg → Bool
@@ -212,6 +215,7 @@ module _ (code : Code) (vars : List Declared) where
   target_fits args o None = true
   target_fits args Nothing (Some x) = false
   target_fits args (Owned k) (Some x) = kind_fits code args k (kind_at vars x)
+  target_fits args (Lent k) (Some x) = kind_fits code args k (kind_at vars x)
 
   abbrev pub row_fits : Option ℕ → List CArg → Row → Bool
   row_fits x args r = args_fit args r.parameters args && target_fits args r.outcome x
@@ -226,11 +230,13 @@ module _ (code : Code) (vars : List Declared) where
   call_fits x args (Some p) n = row_fits x args (row_of p)
   call_fits x args None n = function_call_fits x args (option_and_then (slice_get code.funcs) n)
 
-  -- moves, literals, calls and returns fit the declarations of their variables, and calls their rows and functions
+  -- Moves, literals, calls and returns fit the declarations of their variables, and calls their rows and functions. What a method
+  -- takes and gives is known only when it is called; the trait by which it is called is there.
   abbrev pub line_fits : Kind → Line → Bool
   line_fits ret (Move x y) = same_kinds (kind_at vars x) (kind_at vars y)
   line_fits ret (Lit x l) = literal_fits l (kind_at vars x)
   line_fits ret (Call x name args) = call_fits x args (primitive_named name) (function_named code.funcs name)
+  line_fits ret (TraitCall x o t n args) = has_class code t
   line_fits ret (Return x) = has_kind ret (kind_at vars x)
   line_fits ret _ = true
 
@@ -282,9 +288,25 @@ abbrev pub function_fits : Code → CFunc → Bool
 function_fits code g =
     names_differ (map (λ v. v.0) g.vars) && (list_all (line_fits code g.vars g.ret) g.lines && (lines_lead_on g.lines && begins_right g))
 
+-- ---- classes
+-- the functions of a trait's methods, and those of a class's: the trait and the functions are there, and the names of attributes differ
+abbrev pub trait_fits : Code → List ℕ × List (List ℕ) → Bool
+trait_fits code t = has_class code t.0 && list_all (has_function code) t.1
+
+abbrev pub class_fits : Code → CClass → Bool
+class_fits code k =
+    names_differ (map (λ a. a.0) k.attrs) && (list_all (has_function code) k.methods && list_all (trait_fits code) k.traits)
+
+abbrev pub classes_fit : Code → Bool
+classes_fit code = names_differ (map (λ k. k.name) code.classes) && list_all (class_fits code) code.classes
+
+-- ---- codes
+abbrev pub functions_fit : Code → Bool
+functions_fit code = names_differ (map (λ g. g.name) code.funcs) && list_all (function_fits code) code.funcs
+
 abbrev pub well_formed : Code → Bool
 well_formed code =
-    is_spelled code && (names_differ (map (λ v. v.0) code.globals) && (names_differ (map (λ g. g.name) code.funcs) && list_all (function_fits code) code.funcs))
+    is_spelled code && (names_differ (map (λ v. v.0) code.globals) && (classes_fit code && functions_fit code))
 
 abbrev pub WellFormed : Code → Type 0
 WellFormed code = IsTrue (well_formed code)

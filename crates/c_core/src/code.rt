@@ -42,6 +42,11 @@ pub enum Line {
     Lit(usize, CLit),
     /// `x = NAME(arguments);`, or `NAME(arguments);` without a target: a primitive, or a function by `CPyDef_` and its name.
     Call(Option<usize>, Name, Many<CArg>),
+    /// `x = CPyVirtual(o, N, arguments);`: the method at a place of the methods of the object's class, with the object as its
+    /// first argument.
+    Virtual(usize, usize, usize, Many<usize>),
+    /// `x = CPyTrait(o, CPyType_T, N, arguments);`: the same of the methods that the class has for a trait.
+    TraitCall(usize, usize, Name, usize, Many<usize>),
     /// `goto CPyLn;`
     Goto(usize),
     /// `if (x) goto CPyLa; else goto CPyLb;`

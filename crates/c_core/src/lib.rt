@@ -7,21 +7,27 @@
 #![tactic(auto)]
 
 mod checked;
+mod classes;
 mod code;
+mod decimal;
 mod fault;
 mod laws;
+mod names;
 mod primitive;
+mod rows;
+mod shapes;
 mod well_formed;
 
 pub use checked::check_well_formed;
 pub use code::{CArg, CClass, CFunc, CLit, Code, Kind, Line};
+pub use decimal::long_decimal;
 pub use fault::Fault;
 pub use laws::{
     ledgers_ascend, release_in_any_order, release_keeps_counts, run_exists, run_keeps_counts,
     run_stays_small, step_stays_small,
 };
 pub use primitive::{
-    BoolPrim, ErrPrim, ExcPrim, GlobalPrim, Int64Prim, IoPrim, ListPrim, ObjectPrim,
-    Primitive as Prim, StrPrim, TaggedPrim, TuplePrim,
+    AttrPrim, BoolPrim, DictPrim, ErrPrim, ExcPrim, GlobalPrim, InstancePrim, Int64Prim, IoPrim,
+    ListPrim, ObjectPrim, Primitive as Prim, StrPrim, TaggedPrim, TuplePrim,
 };
 pub use well_formed::{is_call_name, is_identifier, is_spelled, is_well_formed};

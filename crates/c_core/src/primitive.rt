@@ -10,7 +10,10 @@ pub enum Primitive {
     Object(ObjectPrim),
     Str(StrPrim),
     List(ListPrim),
+    Dict(DictPrim),
     Tuple(TuplePrim),
+    Instance(InstancePrim),
+    Attr(AttrPrim),
     Global(GlobalPrim),
     Exc(ExcPrim),
     Err(ErrPrim),
@@ -119,11 +122,32 @@ pub enum ListPrim {
     Append,
     /// Fails for an index out of range.
     GetItem,
+    /// The same, but that the item's reference stays with the list.
+    GetItemBorrow,
     /// Answers 1. Fails for an index out of range. Takes the item's reference, also where it fails.
     SetItem,
     /// Takes the last item out. Fails for an empty list.
     Pop,
     /// The number of items, or the greatest `int` where there are more.
+    Len,
+}
+
+/// `CPyDict_..`, on dicts, whose keys are numbers, texts and truths. Their pairs stand in the order in which they were put in.
+#[derive(Clone, Copy, Debug, PartialEq, Eq)]
+pub enum DictPrim {
+    New,
+    /// The value of a key. Fails where there is no equal one.
+    GetItem,
+    /// Takes the references of the key and of the value. An equal key that is there stays at its place.
+    SetItem,
+    /// Takes the pair of a key out, and answers 1. Fails where there is no equal key.
+    DelItem,
+    Contains,
+    /// Answers 1. Fails where there are not as many pairs.
+    CheckSize,
+    /// The key at a place, from 0.
+    KeyAt,
+    /// The number of pairs, or the greatest `int` where there are more.
     Len,
 }
 
@@ -134,8 +158,28 @@ pub enum TuplePrim {
     Pack,
     /// The part of a number, from 0.
     GetItem,
+    /// The same, but that the part's reference stays with the tuple.
+    GetItemBorrow,
     /// The number of parts, or the greatest `int` where there are more.
     Len,
+}
+
+/// `CPyInstance_..`
+#[derive(Clone, Copy, Debug, PartialEq, Eq)]
+pub enum InstancePrim {
+    /// An instance of the class that is named, with all attributes unset.
+    New,
+}
+
+/// `CPyAttr_..`, on the attributes of an instance, which go by their places in its class.
+#[derive(Clone, Copy, Debug, PartialEq, Eq)]
+pub enum AttrPrim {
+    /// Fails where the attribute is unset.
+    Get,
+    /// The same, but that the reference stays with the instance.
+    GetBorrow,
+    /// Takes the reference of what it puts there.
+    Set,
 }
 
 /// `CPyGlobal_..`, on the variable of the module that they name.
@@ -186,7 +230,7 @@ impl Primitive {
     ghost use Rattle.c_core.specs.Primitives.{row_of, is_named, primitive_named, all_primitives};
 
     /// All primitives.
-    pub const ALL: [Primitive; 66] = [
+    pub const ALL: [Primitive; 80] = [
         Primitive::Int64(Int64Prim::Add),
         Primitive::Int64(Int64Prim::Subtract),
         Primitive::Int64(Int64Prim::Multiply),
@@ -235,12 +279,26 @@ impl Primitive {
         Primitive::List(ListPrim::New),
         Primitive::List(ListPrim::Append),
         Primitive::List(ListPrim::GetItem),
+        Primitive::List(ListPrim::GetItemBorrow),
         Primitive::List(ListPrim::SetItem),
         Primitive::List(ListPrim::Pop),
         Primitive::List(ListPrim::Len),
+        Primitive::Dict(DictPrim::New),
+        Primitive::Dict(DictPrim::GetItem),
+        Primitive::Dict(DictPrim::SetItem),
+        Primitive::Dict(DictPrim::DelItem),
+        Primitive::Dict(DictPrim::Contains),
+        Primitive::Dict(DictPrim::CheckSize),
+        Primitive::Dict(DictPrim::KeyAt),
+        Primitive::Dict(DictPrim::Len),
         Primitive::Tuple(TuplePrim::Pack),
         Primitive::Tuple(TuplePrim::GetItem),
+        Primitive::Tuple(TuplePrim::GetItemBorrow),
         Primitive::Tuple(TuplePrim::Len),
+        Primitive::Instance(InstancePrim::New),
+        Primitive::Attr(AttrPrim::Get),
+        Primitive::Attr(AttrPrim::GetBorrow),
+        Primitive::Attr(AttrPrim::Set),
         Primitive::Global(GlobalPrim::Get),
         Primitive::Global(GlobalPrim::Set),
         Primitive::Global(GlobalPrim::Clear),
@@ -308,12 +366,26 @@ impl Primitive {
             Primitive::List(ListPrim::New) => "CPyList_New",
             Primitive::List(ListPrim::Append) => "CPyList_Append",
             Primitive::List(ListPrim::GetItem) => "CPyList_GetItem",
+            Primitive::List(ListPrim::GetItemBorrow) => "CPyList_GetItemBorrow",
             Primitive::List(ListPrim::SetItem) => "CPyList_SetItem",
             Primitive::List(ListPrim::Pop) => "CPyList_Pop",
             Primitive::List(ListPrim::Len) => "CPyList_Len",
+            Primitive::Dict(DictPrim::New) => "CPyDict_New",
+            Primitive::Dict(DictPrim::GetItem) => "CPyDict_GetItem",
+            Primitive::Dict(DictPrim::SetItem) => "CPyDict_SetItem",
+            Primitive::Dict(DictPrim::DelItem) => "CPyDict_DelItem",
+            Primitive::Dict(DictPrim::Contains) => "CPyDict_Contains",
+            Primitive::Dict(DictPrim::CheckSize) => "CPyDict_CheckSize",
+            Primitive::Dict(DictPrim::KeyAt) => "CPyDict_KeyAt",
+            Primitive::Dict(DictPrim::Len) => "CPyDict_Len",
             Primitive::Tuple(TuplePrim::Pack) => "CPyTuple_Pack",
             Primitive::Tuple(TuplePrim::GetItem) => "CPyTuple_GetItem",
+            Primitive::Tuple(TuplePrim::GetItemBorrow) => "CPyTuple_GetItemBorrow",
             Primitive::Tuple(TuplePrim::Len) => "CPyTuple_Len",
+            Primitive::Instance(InstancePrim::New) => "CPyInstance_New",
+            Primitive::Attr(AttrPrim::Get) => "CPyAttr_Get",
+            Primitive::Attr(AttrPrim::GetBorrow) => "CPyAttr_GetBorrow",
+            Primitive::Attr(AttrPrim::Set) => "CPyAttr_Set",
             Primitive::Global(GlobalPrim::Get) => "CPyGlobal_Get",
             Primitive::Global(GlobalPrim::Set) => "CPyGlobal_Set",
             Primitive::Global(GlobalPrim::Clear) => "CPyGlobal_Clear",

@@ -1,44 +1,32 @@
 //! Whether the machine may run a code.
-ghost use Rattle.std.specs.Prelude.{◌≡◌, ◌&&◌, ℕ, ◌-◌, false, List, [], ◌∷◌, length, map, take, slice_get, Some, is_some};
-ghost use Rattle.std.specs.List.{list_all, list_any, position};
-ghost use Rattle.std.specs.Option.{option_and_then, option_map};
+ghost use Rattle.std.specs.Prelude.{◌≡◌, ◌&&◌, ◌-◌, false, [], ◌∷◌, length, map, take, slice_get, Some};
+ghost use Rattle.std.specs.List.{list_all, list_any};
+ghost use Rattle.std.specs.Option.{option_and_then};
 ghost use Rattle.std.specs.Str.{bytes_eq, is_utf8};
 ghost use Rattle.value_core.specs.Arithmetic.{lies_within};
-ghost use Rattle.value_core.specs.Exceptions.{class_named};
-ghost use Rattle.c_core.specs.Arguments as arguments;
 ghost use Rattle.c_core.specs.Functions as function;
 ghost use Rattle.c_core.specs.Functions.{label_places};
-ghost use Rattle.c_core.specs.Primitives.{Holding, Owned, Is, TakesText, one_row, two_row, answering_row, pending_row, row_of, primitive_named};
+ghost use Rattle.c_core.specs.Index.{class_in, is_class, IsFound};
 ghost use Rattle.c_core.specs.WellFormed as spec;
-ghost use Rattle.c_core.specs.declared.code.CArg.{CArg};
-ghost use Rattle.c_core.specs.declared.code.CFunc.{CFunc};
-ghost use Rattle.c_core.specs.declared.code.Code as declared;
-ghost use Rattle.c_core.specs.declared.primitive.Primitive.TheVariants as prim;
-ghost use Rattle.c_core.specs.declared.primitive.StrPrim.TheVariants as str;
-ghost use Rattle.c_core.specs.declared.primitive.ListPrim.TheVariants as list;
-ghost use Rattle.c_core.specs.declared.primitive.TuplePrim.TheVariants as tuple;
-ghost use Rattle.c_core.specs.declared.primitive.GlobalPrim.TheVariants as global;
-ghost use Rattle.c_core.specs.declared.primitive.ExcPrim.TheVariants as exc;
-ghost use Rattle.c_core.specs.declared.primitive.ErrPrim.TheVariants as err;
-ghost use Rattle.c_core.specs.declared.primitive.IoPrim.TheVariants as io;
 
+use crate::classes::{classes_fit, spelled_classes};
 use crate::code::{CArg, CFunc, CLit, Code, Kind, Line};
-use crate::primitive::{
-    BoolPrim, ErrPrim, ExcPrim, GlobalPrim, Int64Prim, IoPrim, ListPrim, ObjectPrim, Primitive,
-    StrPrim, TaggedPrim, TuplePrim,
-};
+use crate::names::{Found, found_in, names_differ};
+use crate::primitive::Primitive;
+use crate::rows::primitive_call_fits;
+use crate::shapes::{answers, is_passed, kind_at, same_kinds};
 use unicode_ident::is_xid_continue;
-use value_core::{ExcClass, Name};
+use value_core::Name;
 
 /// Whether a code is well formed: it is spelled, its names differ, lines, calls and returns have the numbers and kinds that
-/// they ask for, labels and functions are there, and no way round passes no turn. It takes no memory, and a time that
+/// they ask for, labels, functions and classes are there, and no way round passes no turn. It takes no memory, and a time that
 /// grows with the square of the number of names, calls and jumps.
 pub fn is_well_formed(code: &Code) -> bool
     ensures { result ≡ spec.well_formed code.now }
 {
     is_spelled(code)
         && names_differ(code.globals.as_slice())
-        && function_names_differ(code.funcs.as_slice())
+        && classes_fit(code)
         && functions_fit(code)
 }
 
@@ -47,7 +35,7 @@ pub fn is_spelled(code: &Code) -> bool
     ensures { result ≡ spec.is_spelled code.now }
 {
     spelled_globals(code.globals.as_slice())
-        && code.classes.is_empty()
+        && spelled_classes(code.classes.as_slice())
         && spelled_functions(code.funcs.as_slice())
 }
 
@@ -120,6 +108,19 @@ fn spelled_line(vars: &[(Name, Kind)], line: &Line) -> bool
                 && is_call_name(name.as_str())
                 && spelled_args(vars, args.as_slice())
         }
+        Line::Virtual(x, object, place, args) => {
+            *x < vars.len()
+                && *object < vars.len()
+                && spelled_label(*place)
+                && are_declared(vars, args.as_slice())
+        }
+        Line::TraitCall(x, object, name, place, args) => {
+            *x < vars.len()
+                && *object < vars.len()
+                && is_identifier(name.as_str())
+                && spelled_label(*place)
+                && are_declared(vars, args.as_slice())
+        }
         Line::Goto(label) => spelled_label(*label),
         Line::If(x, label, other) | Line::IfError(x, label, other) => {
             *x < vars.len() && spelled_label(*label) && spelled_label(*other)
@@ -160,6 +161,12 @@ fn spelled_args(vars: &[(Name, Kind)], args: &[CArg]) -> bool
     args.iter().all(|arg| spelled_arg(vars, arg))
 }
 
+fn are_declared(vars: &[(Name, Kind)], args: &[usize]) -> bool
+    ensures { result ≡ list_all (spec.is_declared vars.now) args.now }
+{
+    args.iter().all(|x| *x < vars.len())
+}
+
 fn spelled_target(vars: &[(Name, Kind)], target: Option<usize>) -> bool
     ensures { result ≡ spec.spelled_target vars.now target }
 {
@@ -181,16 +188,10 @@ fn spelled_arg(vars: &[(Name, Kind)], arg: &CArg) -> bool
 }
 
 // Each `str` is UTF-8.
-fn is_text(_text: &str) -> bool
+pub(crate) fn is_text(_text: &str) -> bool
     ensures { result ≡ is_utf8 _text.now }
 {
     true
-}
-
-fn kind_at(vars: &[(Name, Kind)], x: usize) -> Option<Kind>
-    ensures { result ≡ spec.kind_at vars.now x }
-{
-    vars.get(x).map(|var| var.1)
 }
 
 /// Whether a text is one or more characters that may continue an identifier.
@@ -228,9 +229,14 @@ fn is_other_word(name: &str) -> bool
 }
 
 fn functions_fit(code: &Code) -> bool
-    ensures { result ≡ list_all (spec.function_fits code.now) code.now.funcs }
+    ensures { result ≡ spec.functions_fit code.now }
 {
-    let functions = code.funcs.as_slice();
+    names_differ(code.funcs.as_slice()) && each_fits(code, code.funcs.as_slice())
+}
+
+fn each_fits(code: &Code, functions: &[CFunc]) -> bool
+    ensures { result ≡ list_all (spec.function_fits code.now) functions.now }
+{
     functions
         .iter()
         .all(|function| function_fits(code, function))
@@ -247,56 +253,10 @@ fn function_fits(code: &Code, function: &CFunc) -> bool
         && begins_right(function)
 }
 
-fn names_differ(vars: &[(Name, Kind)]) -> bool
-    ensures { result ≡ spec.names_differ (map (λ var. var.0) vars.now) }
-{
-    for i in 0..vars.len() {
-        if is_declared_in(vars[i].0.as_str(), &vars[i + 1..]) {
-            return false;
-        }
-    }
-    true
-}
-
-fn is_declared_in(name: &str, vars: &[(Name, Kind)]) -> bool
-    ensures { result ≡ list_any (λ var. bytes_eq name.now var.0) vars.now }
-{
-    vars.iter().any(|var| name == var.0.as_str())
-}
-
-fn function_names_differ(functions: &[CFunc]) -> bool
-    ensures { result ≡ spec.names_differ (map (λ function. function.name) functions.now) }
-{
-    for i in 0..functions.len() {
-        if is_function_in(functions[i].name.as_str(), &functions[i + 1..]) {
-            return false;
-        }
-    }
-    true
-}
-
-fn is_function_in(name: &str, functions: &[CFunc]) -> bool
-    ensures { result ≡ list_any (λ function. bytes_eq name.now function.name) functions.now }
-{
-    functions
-        .iter()
-        .any(|function| name == function.name.as_str())
-}
-
 fn lines_fit(code: &Code, vars: &[(Name, Kind)], ret: Kind, lines: &[Line]) -> bool
     ensures { result ≡ list_all (spec.line_fits code.now vars.now ret) lines.now }
 {
-    let functions = code.funcs.as_slice();
-    lines.iter().all(|line| line_fits(code, vars, ret, line, callee_of(functions, line)))
-}
-
-fn callee_of(functions: &[CFunc], line: &Line) -> Option<usize>
-    ensures { result ≡ spec.callee_of functions.now line.now }
-{
-    match line {
-        Line::Call(_, name, _) => function_named(functions, name.as_str()),
-        _ => None,
-    }
+    lines.iter().all(|line| line_fits(code, vars, ret, line, found_in(code, line)))
 }
 
 fn lines_lead_on(lines: &[Line]) -> bool
@@ -415,15 +375,15 @@ fn begins_with_turn(lines: &[Line]) -> bool
     }
 }
 
-/// Whether a line fits, where the number of the function that it calls is known.
+/// Whether a line fits, where it is known what its names stand for.
 pub(crate) fn line_fits(
     code: &Code,
     vars: &[(Name, Kind)],
     ret: Kind,
     line: &Line,
-    callee: Option<usize>,
+    found: Found,
 ) -> bool
-    requires { callee ≡ spec.callee_of code.now.funcs line.now }
+    requires { IsFound code.now line.now found }
     ensures { result ≡ spec.line_fits code.now vars.now ret line.now }
 {
     match line {
@@ -431,62 +391,31 @@ pub(crate) fn line_fits(
         Line::Lit(x, literal) => literal_fits(*literal, kind_at(vars, *x)),
         Line::Call(target, name, args) => {
             let primitive = Primitive::named(name.as_str());
-            call_fits(code, vars, primitive, callee, *target, args.as_slice())
+            call_fits(code, vars, primitive, found, *target, args.as_slice())
         }
+        Line::TraitCall(..) => found.class,
         Line::Return(x) => kind_at(vars, *x) == Some(ret),
         _ => true,
     }
 }
 
-// A call of a primitive, or of the function of a number.
+// A call of a primitive, or of the function that was found.
 fn call_fits(
     code: &Code,
     vars: &[(Name, Kind)],
     primitive: Option<Primitive>,
-    callee: Option<usize>,
+    found: Found,
     target: Option<usize>,
     args: &[CArg],
 ) -> bool
-    ensures { result ≡ spec.call_fits code.now vars.now target args.now primitive callee }
+    requires global { found.global ≡ spec.named_kind code.now args.now }
+    requires class { found.class ≡ is_class code.now (class_in args.now) }
+    ensures { result ≡ spec.call_fits code.now vars.now target args.now primitive found.callee }
 {
     match primitive {
-        Some(primitive) => primitive_call_fits(code, vars, primitive, target, args),
-        None => function_call_fits(code, vars, callee, target, args),
+        Some(primitive) => primitive_call_fits(vars, primitive, found, target, args),
+        None => function_call_fits(code, vars, found.callee, target, args),
     }
-}
-
-fn same_kinds(kind: Option<Kind>, other: Option<Kind>) -> bool
-    ensures { result ≡ spec.same_kinds kind other }
-{
-    kind.is_some() && kind == other
-}
-
-/// The number of the function that a call means by a name, if there is one.
-fn function_named(functions: &[CFunc], name: &str) -> Option<usize>
-    ensures { result ≡ function.function_named functions.now name.now }
-{
-    match name.strip_prefix("CPyDef_") {
-        Some(rest) => number_of(functions, rest),
-        None => None,
-    }
-}
-
-fn number_of(functions: &[CFunc], name: &str) -> Option<usize>
-    ensures { result ≡ function.number_of functions.now name.now }
-{
-    if name.is_empty() {
-        None
-    } else {
-        place_of_name(functions, name)
-    }
-}
-
-fn place_of_name(functions: &[CFunc], name: &str) -> Option<usize>
-    ensures { result ≡ position (λ function. bytes_eq name.now function.name) functions.now }
-{
-    functions
-        .iter()
-        .position(|function| name == function.name.as_str())
 }
 
 fn function_call_fits(
@@ -531,25 +460,6 @@ fn passes(vars: &[(Name, Kind)], parameters: &[(Name, Kind)], args: &[CArg]) -> 
     true
 }
 
-fn is_passed(vars: &[(Name, Kind)], kind: Kind, arg: &CArg) -> bool
-    ensures { result ≡ spec.passes vars.now (kind ∷ []) (arg.now ∷ []) }
-{
-    match arg {
-        CArg::Var(x) => kind_at(vars, *x) == Some(kind),
-        _ => false,
-    }
-}
-
-// A result of a kind may be left without a target.
-fn answers(vars: &[(Name, Kind)], kind: Kind, target: Option<usize>) -> bool
-    ensures { (code : declared.Code) (args : List CArg) → result ≡ spec.target_fits code vars.now args (Owned (Is kind)) target }
-{
-    match target {
-        Some(x) => kind_at(vars, x) == Some(kind),
-        None => true,
-    }
-}
-
 fn literal_fits(literal: CLit, kind: Option<Kind>) -> bool
     ensures { result ≡ spec.literal_fits literal kind }
 {
@@ -559,468 +469,6 @@ fn literal_fits(literal: CLit, kind: Option<Kind>) -> bool
         (Some(Kind::Char), CLit::Number(n)) => matches!(n, 0..=2),
         (Some(Kind::Object), CLit::Number(_)) => false,
         (Some(Kind::Object), _) => true,
-        _ => false,
-    }
-}
-
-fn primitive_call_fits(
-    code: &Code,
-    vars: &[(Name, Kind)],
-    primitive: Primitive,
-    target: Option<usize>,
-    args: &[CArg],
-) -> bool
-    ensures { result ≡ spec.row_fits code.now vars.now target args.now (row_of primitive) }
-{
-    match primitive {
-        Primitive::Int64(operation) => int64_call_fits(vars, operation, target, args),
-        Primitive::Tagged(operation) => tagged_call_fits(vars, operation, target, args),
-        Primitive::Bool(operation) => bool_call_fits(vars, operation, target, args),
-        Primitive::Object(operation) => object_call_fits(vars, operation, target, args),
-        Primitive::Str(operation) => text_call_fits(vars, operation, target, args),
-        Primitive::List(operation) => list_call_fits(vars, operation, target, args),
-        Primitive::Tuple(operation) => tuple_call_fits(vars, operation, target, args),
-        Primitive::Global(operation) => global_call_fits(code, vars, operation, target, args),
-        Primitive::Exc(operation) => exception_call_fits(vars, operation, target, args),
-        Primitive::Err(operation) => error_call_fits(vars, operation, target, args),
-        Primitive::Io(operation) => io_call_fits(vars, operation, target, args),
-    }
-}
-
-fn int64_call_fits(
-    vars: &[(Name, Kind)],
-    operation: Int64Prim,
-    target: Option<usize>,
-    args: &[CArg],
-) -> bool
-    ensures { (code : declared.Code) → result ≡ spec.row_fits code vars.now target args.now (row_of (prim.Int64 operation)) }
-{
-    match operation {
-        Int64Prim::Add => two_fit(vars, Kind::Int64, args, Kind::Int64, target),
-        Int64Prim::Subtract => two_fit(vars, Kind::Int64, args, Kind::Int64, target),
-        Int64Prim::Multiply => two_fit(vars, Kind::Int64, args, Kind::Int64, target),
-        Int64Prim::Negate => one_fits(vars, Kind::Int64, args, Kind::Int64, target),
-        Int64Prim::FloorDivide => two_fit(vars, Kind::Int64, args, Kind::Int64, target),
-        Int64Prim::Remainder => two_fit(vars, Kind::Int64, args, Kind::Int64, target),
-        Int64Prim::Lshift => two_fit(vars, Kind::Int64, args, Kind::Int64, target),
-        Int64Prim::Rshift => two_fit(vars, Kind::Int64, args, Kind::Int64, target),
-        Int64Prim::FromBool => one_fits(vars, Kind::Char, args, Kind::Int64, target),
-        Int64Prim::Eq => two_fit(vars, Kind::Int64, args, Kind::Char, target),
-        Int64Prim::Lt => two_fit(vars, Kind::Int64, args, Kind::Char, target),
-        Int64Prim::Le => two_fit(vars, Kind::Int64, args, Kind::Char, target),
-        Int64Prim::Str => one_fits(vars, Kind::Int64, args, Kind::Object, target),
-        Int64Prim::Box => one_fits(vars, Kind::Int64, args, Kind::Object, target),
-        Int64Prim::Unbox => one_fits(vars, Kind::Object, args, Kind::Int64, target),
-    }
-}
-
-fn tagged_call_fits(
-    vars: &[(Name, Kind)],
-    operation: TaggedPrim,
-    target: Option<usize>,
-    args: &[CArg],
-) -> bool
-    ensures { (code : declared.Code) → result ≡ spec.row_fits code vars.now target args.now (row_of (prim.Tagged operation)) }
-{
-    match operation {
-        TaggedPrim::Add => two_fit(vars, Kind::Tagged, args, Kind::Tagged, target),
-        TaggedPrim::Subtract => two_fit(vars, Kind::Tagged, args, Kind::Tagged, target),
-        TaggedPrim::Multiply => two_fit(vars, Kind::Tagged, args, Kind::Tagged, target),
-        TaggedPrim::Negate => one_fits(vars, Kind::Tagged, args, Kind::Tagged, target),
-        TaggedPrim::FloorDivide => two_fit(vars, Kind::Tagged, args, Kind::Tagged, target),
-        TaggedPrim::Remainder => two_fit(vars, Kind::Tagged, args, Kind::Tagged, target),
-        TaggedPrim::Lshift => two_fit(vars, Kind::Tagged, args, Kind::Tagged, target),
-        TaggedPrim::Rshift => two_fit(vars, Kind::Tagged, args, Kind::Tagged, target),
-        TaggedPrim::FromText => written_fits(vars, args, Kind::Tagged, target),
-        TaggedPrim::FromInt64 => one_fits(vars, Kind::Int64, args, Kind::Tagged, target),
-        TaggedPrim::FromBool => one_fits(vars, Kind::Char, args, Kind::Tagged, target),
-        TaggedPrim::AsInt64 => one_fits(vars, Kind::Tagged, args, Kind::Int64, target),
-        TaggedPrim::Eq => two_fit(vars, Kind::Tagged, args, Kind::Char, target),
-        TaggedPrim::Lt => two_fit(vars, Kind::Tagged, args, Kind::Char, target),
-        TaggedPrim::Le => two_fit(vars, Kind::Tagged, args, Kind::Char, target),
-        TaggedPrim::Str => one_fits(vars, Kind::Tagged, args, Kind::Object, target),
-        TaggedPrim::Box => one_fits(vars, Kind::Tagged, args, Kind::Object, target),
-        TaggedPrim::Unbox => one_fits(vars, Kind::Object, args, Kind::Tagged, target),
-    }
-}
-
-fn bool_call_fits(
-    vars: &[(Name, Kind)],
-    operation: BoolPrim,
-    target: Option<usize>,
-    args: &[CArg],
-) -> bool
-    ensures { (code : declared.Code) → result ≡ spec.row_fits code vars.now target args.now (row_of (prim.Bool operation)) }
-{
-    match operation {
-        BoolPrim::Not => one_fits(vars, Kind::Char, args, Kind::Char, target),
-        BoolPrim::Str => one_fits(vars, Kind::Char, args, Kind::Object, target),
-        BoolPrim::Box => one_fits(vars, Kind::Char, args, Kind::Object, target),
-        BoolPrim::Unbox => one_fits(vars, Kind::Object, args, Kind::Char, target),
-    }
-}
-
-fn object_call_fits(
-    vars: &[(Name, Kind)],
-    operation: ObjectPrim,
-    target: Option<usize>,
-    args: &[CArg],
-) -> bool
-    ensures { (code : declared.Code) → result ≡ spec.row_fits code vars.now target args.now (row_of (prim.Object operation)) }
-{
-    match operation {
-        ObjectPrim::IsNone => one_fits(vars, Kind::Object, args, Kind::Char, target),
-    }
-}
-
-fn text_call_fits(
-    vars: &[(Name, Kind)],
-    operation: StrPrim,
-    target: Option<usize>,
-    args: &[CArg],
-) -> bool
-    ensures { (code : declared.Code) → result ≡ spec.row_fits code vars.now target args.now (row_of (prim.Str operation)) }
-{
-    match operation {
-        StrPrim::Literal => written_fits(vars, args, Kind::Object, target),
-        StrPrim::Concat => two_fit(vars, Kind::Object, args, Kind::Object, target),
-        StrPrim::Eq => two_fit(vars, Kind::Object, args, Kind::Char, target),
-        StrPrim::Lt => two_fit(vars, Kind::Object, args, Kind::Char, target),
-        StrPrim::Le => two_fit(vars, Kind::Object, args, Kind::Char, target),
-        StrPrim::Len => one_fits(vars, Kind::Object, args, Kind::Tagged, target),
-        StrPrim::GetItem => item_fits(vars, args, target),
-    }
-}
-
-fn list_call_fits(
-    vars: &[(Name, Kind)],
-    operation: ListPrim,
-    target: Option<usize>,
-    args: &[CArg],
-) -> bool
-    ensures { (code : declared.Code) → result ≡ spec.row_fits code vars.now target args.now (row_of (prim.List operation)) }
-{
-    match operation {
-        ListPrim::New => nothing_fits(vars, args, Kind::Object, target),
-        ListPrim::Append => append_fits(vars, args, target),
-        ListPrim::GetItem => item_fits(vars, args, target),
-        ListPrim::SetItem => put_fits(vars, args, target),
-        ListPrim::Pop => one_fits(vars, Kind::Object, args, Kind::Object, target),
-        ListPrim::Len => one_fits(vars, Kind::Object, args, Kind::Tagged, target),
-    }
-}
-
-// A list is borrowed and an object stolen, and nothing is answered.
-fn append_fits(vars: &[(Name, Kind)], args: &[CArg], target: Option<usize>) -> bool
-    ensures { (code : declared.Code) → result ≡ spec.row_fits code vars.now target args.now (row_of (prim.List list.Append)) }
-{
-    match args {
-        [CArg::Var(x), CArg::Var(y)] => {
-            target.is_none()
-                && kind_at(vars, *x) == Some(Kind::Object)
-                && kind_at(vars, *y) == Some(Kind::Object)
-        }
-        _ => false,
-    }
-}
-
-// A list and an index are borrowed and an object stolen, and a `char` is answered.
-fn put_fits(vars: &[(Name, Kind)], args: &[CArg], target: Option<usize>) -> bool
-    ensures { (code : declared.Code) → result ≡ spec.row_fits code vars.now target args.now (row_of (prim.List list.SetItem)) }
-{
-    match args {
-        [CArg::Var(list), CArg::Var(index), CArg::Var(item)] => {
-            kind_at(vars, *list) == Some(Kind::Object)
-                && kind_at(vars, *index) == Some(Kind::Tagged)
-                && kind_at(vars, *item) == Some(Kind::Object)
-                && answers(vars, Kind::Char, target)
-        }
-        _ => false,
-    }
-}
-
-fn tuple_call_fits(
-    vars: &[(Name, Kind)],
-    operation: TuplePrim,
-    target: Option<usize>,
-    args: &[CArg],
-) -> bool
-    ensures { (code : declared.Code) → result ≡ spec.row_fits code vars.now target args.now (row_of (prim.Tuple operation)) }
-{
-    match operation {
-        TuplePrim::Pack => pack_fits(vars, args, target),
-        TuplePrim::GetItem => part_fits(vars, args, target),
-        TuplePrim::Len => one_fits(vars, Kind::Object, args, Kind::Tagged, target),
-    }
-}
-
-// 1 to 16 objects are stolen, and an object is answered.
-fn pack_fits(vars: &[(Name, Kind)], args: &[CArg], target: Option<usize>) -> bool
-    ensures { (code : declared.Code) → result ≡ spec.row_fits code vars.now target args.now (row_of (prim.Tuple tuple.Pack)) }
-{
-    if args.is_empty() {
-        return false;
-    }
-    if args.len() > 16 {
-        return false;
-    }
-    are_objects(vars, args) && answers(vars, Kind::Object, target)
-}
-
-fn are_objects(vars: &[(Name, Kind)], args: &[CArg]) -> bool
-    ensures { result ≡ list_all (λ a. spec.passes vars.now (Kind.Object ∷ []) (a ∷ [])) args.now }
-{
-    args.iter().all(|arg| is_passed(vars, Kind::Object, arg))
-}
-
-// A tuple is borrowed and a number written, and an object is answered.
-fn part_fits(vars: &[(Name, Kind)], args: &[CArg], target: Option<usize>) -> bool
-    ensures { (code : declared.Code) → result ≡ spec.row_fits code vars.now target args.now (row_of (prim.Tuple tuple.GetItem)) }
-{
-    match args {
-        [CArg::Var(x), CArg::Number(_)] => {
-            kind_at(vars, *x) == Some(Kind::Object) && answers(vars, Kind::Object, target)
-        }
-        _ => false,
-    }
-}
-
-// A text or a list and an index are borrowed, and an object is answered.
-fn item_fits(vars: &[(Name, Kind)], args: &[CArg], target: Option<usize>) -> bool
-    ensures { (code : declared.Code) → result ≡ spec.row_fits code vars.now target args.now (row_of (prim.Str str.GetItem)) }
-{
-    match args {
-        [CArg::Var(x), CArg::Var(y)] => {
-            kind_at(vars, *x) == Some(Kind::Object)
-                && kind_at(vars, *y) == Some(Kind::Tagged)
-                && answers(vars, Kind::Object, target)
-        }
-        _ => false,
-    }
-}
-
-/// The kind of the global of a name, if there is one.
-fn kind_of_global(code: &Code, name: &str) -> Option<Kind>
-    ensures { result ≡ arguments.kind_of_global code.now name.now }
-{
-    code.globals
-        .as_slice()
-        .iter()
-        .find(|global| name == global.0.as_str())
-        .map(|global| global.1)
-}
-
-fn global_call_fits(
-    code: &Code,
-    vars: &[(Name, Kind)],
-    operation: GlobalPrim,
-    target: Option<usize>,
-    args: &[CArg],
-) -> bool
-    ensures { result ≡ spec.row_fits code.now vars.now target args.now (row_of (prim.Global operation)) }
-{
-    match operation {
-        GlobalPrim::Get => get_fits(code, vars, target, args),
-        GlobalPrim::Set => target.is_none() && set_fits(code, vars, args),
-        GlobalPrim::Clear => target.is_none() && clear_fits(code, args),
-    }
-}
-
-fn get_fits(code: &Code, vars: &[(Name, Kind)], target: Option<usize>, args: &[CArg]) -> bool
-    ensures { result ≡ spec.row_fits code.now vars.now target args.now (row_of (prim.Global global.Get)) }
-{
-    match args {
-        [CArg::Global(name)] => answers_kind(vars, kind_of_global(code, name.as_str()), target),
-        _ => false,
-    }
-}
-
-// A result may be left without a target, but there is to be one.
-fn answers_kind(vars: &[(Name, Kind)], kind: Option<Kind>, target: Option<usize>) -> bool
-    ensures { result ≡ spec.answers_kind vars.now kind target }
-{
-    match (kind, target) {
-        (Some(kind), Some(x)) => kind_at(vars, x) == Some(kind),
-        (Some(_), None) => true,
-        (None, _) => false,
-    }
-}
-
-fn set_fits(code: &Code, vars: &[(Name, Kind)], args: &[CArg]) -> bool
-    ensures { result ≡ spec.args_fit code.now vars.now args.now (row_of (prim.Global global.Set)).parameters args.now }
-{
-    match args {
-        [CArg::Global(name), CArg::Var(x)] => {
-            same_kinds(kind_of_global(code, name.as_str()), kind_at(vars, *x))
-        }
-        _ => false,
-    }
-}
-
-fn clear_fits(code: &Code, args: &[CArg]) -> bool
-    ensures { (vars : List spec.Declared) → result ≡ spec.args_fit code.now vars args.now (row_of (prim.Global global.Clear)).parameters args.now }
-{
-    match args {
-        [CArg::Global(name)] => kind_of_global(code, name.as_str()).is_some(),
-        _ => false,
-    }
-}
-
-fn exception_call_fits(
-    vars: &[(Name, Kind)],
-    operation: ExcPrim,
-    target: Option<usize>,
-    args: &[CArg],
-) -> bool
-    ensures { (code : declared.Code) → result ≡ spec.row_fits code vars.now target args.now (row_of (prim.Exc operation)) }
-{
-    match operation {
-        ExcPrim::New => new_fits(vars, args, target),
-        ExcPrim::Str => one_fits(vars, Kind::Object, args, Kind::Object, target),
-    }
-}
-
-fn new_fits(vars: &[(Name, Kind)], args: &[CArg], target: Option<usize>) -> bool
-    ensures { (code : declared.Code) → result ≡ spec.row_fits code vars.now target args.now (row_of (prim.Exc exc.New)) }
-{
-    match args {
-        [CArg::Text(class), CArg::Var(x)] => {
-            is_exception(class.as_str())
-                && kind_at(vars, *x) == Some(Kind::Object)
-                && answers(vars, Kind::Object, target)
-        }
-        _ => false,
-    }
-}
-
-fn error_call_fits(
-    vars: &[(Name, Kind)],
-    operation: ErrPrim,
-    target: Option<usize>,
-    args: &[CArg],
-) -> bool
-    ensures { (code : declared.Code) → result ≡ spec.row_fits code vars.now target args.now (row_of (prim.Err operation)) }
-{
-    match operation {
-        ErrPrim::SetObject => object_fits(vars, args, target),
-        ErrPrim::Unbound => text_fits(args, target),
-        ErrPrim::Occurred => nothing_fits(vars, args, Kind::Char, target),
-        ErrPrim::Matches => class_fits(vars, args, target),
-        ErrPrim::Catch => nothing_fits(vars, args, Kind::Object, target),
-    }
-}
-
-// An object is stolen, and nothing is answered.
-fn object_fits(vars: &[(Name, Kind)], args: &[CArg], target: Option<usize>) -> bool
-    ensures { (code : declared.Code) → result ≡ spec.row_fits code vars.now target args.now (row_of (prim.Err err.SetObject)) }
-{
-    match args {
-        [CArg::Var(x)] => target.is_none() && kind_at(vars, *x) == Some(Kind::Object),
-        _ => false,
-    }
-}
-
-fn text_fits(args: &[CArg], target: Option<usize>) -> bool
-    ensures { (code : declared.Code) (vars : List spec.Declared) → result ≡ spec.row_fits code vars target args.now (row_of (prim.Err err.Unbound)) }
-{
-    match args {
-        [CArg::Text(_)] => target.is_none(),
-        _ => false,
-    }
-}
-
-// Nothing is passed, and a word of a kind is answered.
-fn nothing_fits(vars: &[(Name, Kind)], args: &[CArg], answer: Kind, target: Option<usize>) -> bool
-    ensures { (code : declared.Code) (name : List ℕ) → result ≡ spec.row_fits code vars.now target args.now (pending_row name [] answer) }
-{
-    match args {
-        [] => answers(vars, answer, target),
-        _ => false,
-    }
-}
-
-fn class_fits(vars: &[(Name, Kind)], args: &[CArg], target: Option<usize>) -> bool
-    ensures { (code : declared.Code) → result ≡ spec.row_fits code vars.now target args.now (row_of (prim.Err err.Matches)) }
-{
-    match args {
-        [CArg::Text(class)] => is_exception(class.as_str()) && answers(vars, Kind::Char, target),
-        _ => false,
-    }
-}
-
-/// Whether an exception class has this name.
-fn is_exception(name: &str) -> bool
-    ensures { result ≡ is_some (class_named name.now) }
-{
-    ExcClass::named(name).is_some()
-}
-
-fn io_call_fits(
-    vars: &[(Name, Kind)],
-    operation: IoPrim,
-    target: Option<usize>,
-    args: &[CArg],
-) -> bool
-    ensures { (code : declared.Code) → result ≡ spec.row_fits code vars.now target args.now (row_of (prim.Io operation)) }
-{
-    match operation {
-        IoPrim::Write => write_fits(vars, args, target),
-        IoPrim::Input => nothing_fits(vars, args, Kind::Object, target),
-    }
-}
-
-// An object is borrowed, and nothing is answered.
-fn write_fits(vars: &[(Name, Kind)], args: &[CArg], target: Option<usize>) -> bool
-    ensures { (code : declared.Code) → result ≡ spec.row_fits code vars.now target args.now (row_of (prim.Io io.Write)) }
-{
-    match args {
-        [CArg::Var(x)] => target.is_none() && kind_at(vars, *x) == Some(Kind::Object),
-        _ => false,
-    }
-}
-
-// A text is written, and a word of a kind is answered.
-fn written_fits(vars: &[(Name, Kind)], args: &[CArg], answer: Kind, target: Option<usize>) -> bool
-    ensures { (code : declared.Code) (name : List ℕ) → result ≡ spec.row_fits code vars.now target args.now (answering_row name (TakesText ∷ []) answer) }
-{
-    match args {
-        [CArg::Text(_)] => answers(vars, answer, target),
-        _ => false,
-    }
-}
-
-// One variable of a kind is borrowed, and a word of a kind is answered.
-fn one_fits(
-    vars: &[(Name, Kind)],
-    kind: Kind,
-    args: &[CArg],
-    answer: Kind,
-    target: Option<usize>,
-) -> bool
-    ensures { (code : declared.Code) (name : List ℕ) (h : Holding) → result ≡ spec.row_fits code vars.now target args.now (one_row name kind h answer) }
-{
-    match args {
-        [CArg::Var(x)] => kind_at(vars, *x) == Some(kind) && answers(vars, answer, target),
-        _ => false,
-    }
-}
-
-// The same of two variables.
-fn two_fit(
-    vars: &[(Name, Kind)],
-    kind: Kind,
-    args: &[CArg],
-    answer: Kind,
-    target: Option<usize>,
-) -> bool
-    ensures { (code : declared.Code) (name : List ℕ) (h : Holding) → result ≡ spec.row_fits code vars.now target args.now (two_row name kind h answer) }
-{
-    match args {
-        [CArg::Var(x), CArg::Var(y)] => {
-            kind_at(vars, *x) == Some(kind)
-                && kind_at(vars, *y) == Some(kind)
-                && answers(vars, answer, target)
-        }
         _ => false,
     }
 }

@@ -10,7 +10,7 @@ returns-in-Call c =
     let vars = c.args.vars.now in
     let primitive : c.named-primitive.result ≡ primitive_named c.as_str.result.now = c.named-primitive.ensures in
     c.call_fits.ensures
-    ∙ (ap (λ z. call_fits code vars c.in-Call.target z c.named-primitive.result c.args.callee) c.as_slice.ensures
-    ∙ (ap (λ z. call_fits code vars c.in-Call.target c.in-Call.args z c.args.callee) (primitive ∙ ap primitive_named c.as_str.ensures)
-    ∙ (ap (λ z. call_fits code vars c.in-Call.target c.in-Call.args (primitive_named c.in-Call.name) z) (c.requires ∙ ap (callee_of code.funcs) c.in-Call.is)
+    ∙ (ap (λ z. call_fits code vars c.in-Call.target z c.named-primitive.result c.args.found.callee) c.as_slice.ensures
+    ∙ (ap (λ z. call_fits code vars c.in-Call.target c.in-Call.args z c.args.found.callee) (primitive ∙ ap primitive_named c.as_str.ensures)
+    ∙ (ap (λ z. call_fits code vars c.in-Call.target c.in-Call.args (primitive_named c.in-Call.name) z) (c.requires.callee ∙ ap (callee_of code.funcs) c.in-Call.is)
     ∙ ap (line_fits code vars c.args.ret) (sym c.in-Call.is))))
