@@ -1,9 +1,11 @@
 -- What changes of cells leave of the contents that two lists of cells have in common.
-use Rattle.std.proofs.Common.{◌≡◌, refl, sym, ◌∙◌, ℕ, zero, suc, ◌+◌, List, [], ◌∷◌, ◌++◌, length, length-append, Option, Some, None, ap, arith}
+use Rattle.std.proofs.Common.{◌≡◌, refl, sym, subst, ◌∙◌, ℕ, zero, suc, ◌+◌, ◌≤◌, ◌⊎◌, inl, inr, ⊎_elim, List, [], ◌∷◌, ◌++◌, length, length-append, Option, Some, None, ap, arith}
+use Rattle.c_core.specs.declared.code.Code.{Code}
 use Rattle.c_core.specs.Cells.{Cell, Cells, content_of, content_at, one_less, change, lowered, raised, refilled, take_one, refill, make}
-use Rattle.c_core.specs.Release.{after, freed, weight, release_some, release}
+use Rattle.c_core.specs.Release.{after, freed, weight, uses, release_some, release}
 use Rattle.c_core.specs.Machine.{Content, refs_in}
 use Rattle.c_core_ownership_laws.specs.Alike.{HoldsMore}
+use Rattle.c_core_ownership_laws.specs.Frames.{HasBareSlots, SlotsBare}
 
 module _ {X : Type 0} where
   change-length : (f : Option (Cell X) → Option (Cell X)) (c : ℕ) (h : Cells X) → length (change f c h) ≡ length h
@@ -45,6 +47,11 @@ module _ {X : Type 0} where
     release-length (suc n) h (w ∷ refs) =
         release-length n (after w h) (freed words w h ++ refs) ∙ change-length lowered w h
 
+  -- nothing is given up
+  release-none : (words : X → List ℕ) (n : ℕ) (h : Cells X) → release_some words n h [] ≡ h
+  release-none words zero h = refl
+  release-none words (suc n) h = refl
+
   make-content : (g h : Cells X) (x : X) → length g ≡ length h → ((d : ℕ) (v : X) → content_at g d ≡ Some v → content_at h d ≡ Some v) → (d : ℕ) (v : X) → content_at (make x g) d ≡ Some v → content_at (make x h) d ≡ Some v
   make-content [] [] x l m d v e = e
   make-content [] (p ∷ h) x l m d v e = absurd (omega (arith, l))
@@ -73,6 +80,44 @@ module _ {X : Type 0} where
   refill-content (o ∷ g) (p ∷ h) x zero m (suc d) v e = m (suc d) v e
   refill-content (o ∷ g) (p ∷ h) x (suc c) m zero v e = m 0 v e
   refill-content (o ∷ g) (p ∷ h) x (suc c) m (suc d) v e = refill-content g h x c (λ i. m (suc i)) d v e
+
+module _ {X : Type 0} where
+  -- a content is an old one, or the one that was put there
+  make-one : (h : Cells X) (x : X) (d : ℕ) (v : X) → content_at (make x h) d ≡ Some v → (content_at h d ≡ Some v) ⊎ (x ≡ v)
+  make-one [] x zero v e = inr (cc)
+  make-one [] x (suc d) v e = inl e
+  make-one (o ∷ h) x zero v e = inl e
+  make-one (o ∷ h) x (suc d) v e = make-one h x d v e
+
+  refill-one : (h : Cells X) (x : X) (c d : ℕ) (v : X) → content_at (refill x c h) d ≡ Some v → (content_at h d ≡ Some v) ⊎ (x ≡ v)
+  refill-one [] x c d v e = inl e
+  refill-one (None ∷ h) x zero zero v e = inl e
+  refill-one (Some cell ∷ h) x zero zero v e = inr (cc)
+  refill-one (o ∷ h) x zero (suc d) v e = inl e
+  refill-one (o ∷ h) x (suc c) zero v e = inl e
+  refill-one (o ∷ h) x (suc c) (suc d) v e = refill-one h x c d v e
+
+-- the attributes of numbers keep having no cell
+module _ (code : Code) (h : Cells Content) (bare : SlotsBare code h) where
+  pub taken_bare : (c : ℕ) → SlotsBare code (take_one c h)
+  taken_bare c d v e = bare d v (sym (take-content h c d) ∙ e)
+
+  pub given_bare : (refs : List ℕ) → SlotsBare code (release refs_in h refs)
+  given_bare refs d v e = bare d v (release-content refs_in (length refs + weight refs_in h) h refs d v e)
+
+  pub made_bare : (x : Content) → HasBareSlots code x → SlotsBare code (make x h)
+  made_bare x new d v e =
+      ⊎_elim (λ f. bare d v f) (λ f. subst (HasBareSlots code) f new) (make-one h x d v e)
+
+  pub refilled_bare : (x : Content) (c : ℕ) → HasBareSlots code x → SlotsBare code (refill x c h)
+  refilled_bare x c new d v e =
+      ⊎_elim (λ f. bare d v f) (λ f. subst (HasBareSlots code) f new) (refill-one h x c d v e)
+
+-- where nothing is given up, what contents hold stays
+pub given_uses : (h : Cells Content) (gone : List ℕ) → gone ≡ [] → (c : ℕ) → uses refs_in h c ≤ uses refs_in (release refs_in h gone) c
+given_uses h gone e c =
+    let none : release refs_in h [] ≡ h = release-none refs_in (length {A = ℕ} [] + weight refs_in h) h in
+    omega (arith, ap (λ z. uses refs_in (release refs_in h z) c) e, ap (λ z. uses refs_in z c) none)
 
 module _ (g h : Cells Content) (m : HoldsMore g h) where
   pub taken_more : (c : ℕ) → HoldsMore (take_one c g) (take_one c h)

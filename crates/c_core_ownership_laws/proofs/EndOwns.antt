@@ -4,7 +4,8 @@ use Rattle.std.specs.Option.{option_and_then}
 use Rattle.value_core.specs.Ending.{Ending, Done, Raised, Cut, Over, Broken}
 use Rattle.c_core.specs.declared.code.CArg.{CArg}
 use Rattle.c_core.specs.declared.code.Line.{Line}
-use Rattle.c_core.specs.declared.code.Line.TheVariants.{Label, Move, Lit, Call, Goto, If, IfError, Turn, Return, Inc, Dec, XDec}
+use Rattle.c_core.specs.declared.code.Line.TheVariants.{Label, Move, Lit, Call, Virtual, TraitCall, Goto, If, IfError, Turn, Return, Inc, Dec, XDec}
+use Rattle.c_core.specs.declared.code.CClass.{CClass}
 use Rattle.c_core.specs.declared.code.Code.{Code}
 use Rattle.c_core.specs.declared.fault.Fault.{Fault}
 use Rattle.c_core.specs.declared.fault.Fault.TheVariants as fault
@@ -13,13 +14,13 @@ use Rattle.c_core.specs.Cells.{times}
 use Rattle.c_core.specs.Ledgers.{Ledger}
 use Rattle.c_core.specs.Machine.{Word, CharWord, Content, ExcCell, refs_of, Frame, MachineState}
 use Rattle.c_core.specs.Holders.{owned, owned_below}
-use Rattle.c_core.specs.Functions.{function_named}
+use Rattle.c_core.specs.Functions.{function_named, method_at, trait_method_at}
 use Rattle.c_core.specs.Primitives.{row_of, primitive_named}
 use Rattle.c_core.specs.Arguments.{stolen}
-use Rattle.c_core.specs.Step.{MachineEnding, Ended, Faulted, Next, Goes, Ends, Effect, Stops, effect, literal_word, equals_error, kind_of, label_at, applied, call_step, turned, if_return, if_result, if_none_left, if_thrown, if_ended, step_at, line_at, step}
+use Rattle.c_core.specs.Step.{MachineEnding, Ended, Faulted, Next, Goes, Ends, Effect, Stops, effect, literal_word, equals_error, kind_of, label_at, applied, call_step, method_called, turned, if_return, if_result, if_none_left, if_thrown, if_ended, step_at, line_at, step}
 use Rattle.c_core.specs.Run.{Stop, go_on, start, most_steps}
 use Rattle.c_core.proofs.KeepsCounts.{run_keeps_counts}
-use Rattle.c_core.proofs.StepCases.{at_some, at_calm, at_content, at_word, at_there, at_called, at_function, at_jumped, at_chosen, at_incremented, at_decremented, at_decremented_if_set, at_order, at_result}
+use Rattle.c_core.proofs.StepCases.{at_some, at_calm, at_content, at_word, at_there, at_called, at_function, at_method, at_jumped, at_chosen, at_incremented, at_decremented, at_decremented_if_set, at_order, at_result}
 use Rattle.c_core_ownership_laws.specs.Laws.{IsFinished, EndOwnsNothing}
 use Rattle.c_core_ownership_laws.proofs.Effects.{StopsByInput, stops_by_input}
 
@@ -73,6 +74,9 @@ module _ (s : MachineState) where
   call_left code x name args None =
       at_function true s Left bad code x args (function_named code.funcs name) (λ f g e is ws. tt)
 
+  method_left : (code : Code) (x o : ℕ) (args : List ℕ) (entry : CClass → Option (List ℕ)) → Left (method_called true s code x o args entry)
+  method_left code x o args entry = at_method true s Left bad code x o args entry (λ a f g e is ws. tt)
+
   line_left : (code : Code) (o : Option Line) → Left (step_at true code s o)
   line_left code None = tt
   line_left code (Some Label) = tt
@@ -80,6 +84,8 @@ module _ (s : MachineState) where
   line_left code (Some (Lit x l)) =
       at_some true s Left bad fault.Kind (option_and_then (λ k. literal_word k l) (kind_of code s.top x)) _ (λ w e. tt)
   line_left code (Some (Call x name args)) = call_left code x name args (primitive_named name)
+  line_left code (Some (Virtual x o n args)) = method_left code x o args (method_at n)
+  line_left code (Some (TraitCall x o t n args)) = method_left code x o args (trait_method_at t n)
   line_left code (Some (Goto n)) = at_jumped true s Left bad (label_at code s.top n) (λ q e. tt)
   line_left code (Some (If x n m)) =
       at_word true s Left bad x _

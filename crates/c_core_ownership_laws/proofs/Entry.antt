@@ -1,5 +1,5 @@
 -- The variables with which a function begins.
-use Rattle.std.proofs.Common.{◌≡◌, refl, ap, subst, ℕ, zero, suc, ◌<◌, true, false, List, [], ◌∷◌, ◌++◌, length, Some, arith}
+use Rattle.std.proofs.Common.{◌≡◌, refl, sym, ap, subst, ◌∙◌, ℕ, zero, suc, ◌<◌, Bool, true, false, List, [], ◌∷◌, ◌++◌, length, Some, arith}
 use Rattle.std.specs.Prelude.{map, take, drop, slice_get}
 use Rattle.c_core.specs.declared.code.Kind.{Kind}
 use Rattle.c_core.specs.declared.code.Kind.TheVariants.{Tagged, Int64, Char, Object}
@@ -82,3 +82,15 @@ entry-bare (suc n) (v ∷ vars) [] a r w number e = absurd a
 entry-bare (suc n) (v ∷ vars) (u ∷ ws) a zero w number e =
     let f : u ≡ w = cc in subst IsBare f (value_bare v.1 u a.0 number)
 entry-bare (suc n) (v ∷ vars) (u ∷ ws) a (suc r) w number e = entry-bare n vars ws a.1 r w number e
+
+-- a variable that is empty is none that a word was passed for, so it holds an error value
+pub entry-empty : (e : ℕ → Bool) (n : ℕ) (vars : List Declared) (ws : List Word) → AreValues (kinds n vars) ws → ((r : ℕ) → r < n → e r ≡ false) → (r : ℕ) (w : Word) → e r ≡ true → slice_get (ws ++ errors (drop n vars)) r ≡ Some w → IsBare w
+entry-empty e zero vars [] a filled r w t is = errors-bare vars r w is
+entry-empty e zero vars (u ∷ ws) a filled r w t is = absurd a
+entry-empty e (suc n) [] [] a filled r w t is = cc
+entry-empty e (suc n) [] (u ∷ ws) a filled r w t is = absurd a
+entry-empty e (suc n) (v ∷ vars) [] a filled r w t is = absurd a
+entry-empty e (suc n) (v ∷ vars) (u ∷ ws) a filled zero w t is =
+    let both : true ≡ false = sym t ∙ filled 0 (omega arith) in absurd (cc)
+entry-empty e (suc n) (v ∷ vars) (u ∷ ws) a filled (suc r) w t is =
+    entry-empty (λ i. e (suc i)) n vars ws a.1 (λ i lt. filled (suc i) (omega (arith, lt))) r w t is

@@ -6,7 +6,8 @@ use Rattle.value_core.specs.Items.{Items}
 use Rattle.c_core.specs.declared.code.Line.{Line}
 use Rattle.c_core.specs.declared.code.CFunc.{CFunc}
 use Rattle.c_core.specs.declared.code.Code.{Code}
-use Rattle.c_core.specs.Machine.{MachineState}
+use Rattle.c_core.specs.Release.{uses}
+use Rattle.c_core.specs.Machine.{MachineState, refs_in}
 use Rattle.c_core.specs.Step.{MachineEnding, Next, Goes, Ends, step, step_at, line_at}
 use Rattle.c_core.specs.Run.{start}
 use Rattle.c_core.specs.Laws.{Reaches}
@@ -41,9 +42,10 @@ module _ (code : Code) (t : Table) (placed : ArePlaced code t) (n : ℕ) (items 
       is = ap (slice_get code.funcs) a.func ∙ is;
       σ = a.go.0;
       at = subst (λ f. places f u.top.place a.go.0) (sym a.func) (subst (λ p. places s.top.func p a.go.0) (sym a.place) a.go.1);
-      meets = meets-within g.vars a.σ u.top.vars u.below a.go.0 u.top.ledger a.go.2 a.meets;
+      meets = meets-within g.vars a.σ u.top.vars u.below (uses refs_in u.cells) a.go.0 u.top.ledger a.go.2 a.meets;
       waits = a.waits;
       globals = a.globals;
+      slots = a.slots;
     };
   }
 
@@ -52,7 +54,7 @@ module _ (code : Code) (t : Table) (placed : ArePlaced code t) (n : ℕ) (items 
   line_comes s reached r l straight e =
       let is_line : line_at code s.top ≡ Some l = ap (option_and_then (λ g. slice_get g.lines s.top.place)) r.is ∙ e in
       subst (λ o. ComesTo code t s 1 (step_at true code s o)) (sym is_line)
-      (safe_straight code labels places s (reached_counted code labels places (placed_kept code t placed) n items reached.0 s reached.1) r.g r.σ r.is r.meets r.waits r.globals (Follows code labels places s.top.func s.top.place) (ComesTo code t s 1) (λ e u f. f) (arrived_next s r.g r.is) l straight ((placed_kept code t placed s.top.func r.g r.is).line s.top.place l r.σ r.at e))
+      (safe_straight code labels places s (reached_counted code labels places (placed_kept code t placed) n items reached.0 s reached.1) r.g r.σ r.is r.meets r.waits r.globals r.slots (Follows code labels places s.top.func s.top.place) (ComesTo code t s 1) (λ e u f. f) (arrived_next s r.g r.is) l straight ((placed_kept code t placed s.top.func r.g r.is).line s.top.place l r.σ r.at e))
 
   ends_stay : (s : MachineState) (j k : ℕ) (e : MachineEnding) (u : MachineState) → IsFine e → ComesTo code t s j (steps_on code k (Ends e u))
   ends_stay s j zero e u f = f

@@ -9,7 +9,7 @@ use Rattle.c_core.specs.Functions.{label_places}
 use Rattle.c_core_ownership_laws.specs.Shares.{Shares, Within, LineChecks, Checks}
 use Rattle.c_core_ownership_laws.specs.Order.{Any, from, IsInOrder, Table, Entered, AreInOrder, labels_of, IsPlaced, ArePlaced}
 use Rattle.c_core_ownership_laws.proofs.Safe.{Follows, AreKept}
-use Rattle.c_core_ownership_laws.proofs.Weaken.{within_all, line_within}
+use Rattle.c_core_ownership_laws.proofs.Weaken.{within_self, within_all, line_within}
 
 -- ---- places
 from-suc : (ls : List Line) (p : ℕ) (l : Line) → slice_get ls p ≡ Some l → from p ls ≡ l ∷ from (suc p) ls
@@ -39,7 +39,7 @@ module _ (code : Code) (t : Table) (order : AreInOrder code t) where
 
   order_line : (f : ℕ) (g : CFunc) → slice_get code.funcs f ≡ Some g → (p : ℕ) (l : Line) (σ : Shares) → ChecksAt f p σ → slice_get g.lines p ≡ Some l → LineChecks code g (Entered t f) σ l (Follows code (Entered t) ChecksAt f p)
   order_line f g is p l σ at e =
-      line_within code g (Entered t f) σ σ l (λ τ. Checks code g (Entered t f) Any τ (from (p + 1) g.lines)) (Follows code (Entered t) ChecksAt f p) (λ r. refl, λ r t. t)
+      line_within code g (Entered t f) σ σ l (λ τ. Checks code g (Entered t f) Any τ (from (p + 1) g.lines)) (Follows code (Entered t) ChecksAt f p) (within_self σ)
       (λ τ ω w h. (τ, only f (p + 1) g τ is h, w))
       (subst (Checks code g (Entered t f) Any σ) (from-get g.lines p l e) (at g is))
 
@@ -49,6 +49,7 @@ module _ (code : Code) (t : Table) (order : AreInOrder code t) where
       record {
         entry = o.entry;
         is_entry = o.is_entry;
+        is_filled = o.is_filled;
         begins = only f 0 g o.entry is o.begins;
         enters = λ n q σ e at. only f q g σ is (o.enters n q σ e at);
         line = order_line f g is;
@@ -66,6 +67,7 @@ module _ (code : Code) (t : Table) where
       record {
         entry = o.entry;
         is_entry = o.is_entry;
+        is_filled = o.is_filled;
         begins = o.begins;
         enters = λ n q σ e at. label_found f n q g σ is e at;
         line = o.line;
@@ -86,8 +88,9 @@ module _ (code : Code) (t : Table) where
     placed_order = record {
       entry = o.entry;
       is_entry = o.is_entry;
-      begins = placed_checks g.lines 0 refl o.entry o.entry o.begins (λ r. refl, λ r t. t);
-      enters = λ n q σ e at. placed_checks (from q g.lines) q refl σ σ (label_found f n q g σ is e at) (λ r. refl, λ r t. t);
+      is_filled = o.is_filled;
+      begins = placed_checks g.lines 0 refl o.entry o.entry o.begins (within_self o.entry);
+      enters = λ n q σ e at. placed_checks (from q g.lines) q refl σ σ (label_found f n q g σ is e at) (within_self σ);
     }
 
   pub placed_in_order : ArePlaced code t → AreInOrder code (labels_of code t)

@@ -1,20 +1,22 @@
 -- No run of a code whose lines keep the shares of its places ends in a fault of ownership.
-use Rattle.std.proofs.Common.{◌≡◌, refl, sym, ap, subst, ◌∙◌, ℕ, zero, suc, ◌+◌, ◌⊎◌, inl, inr, ⊎_elim, true, List, [], ◌∷◌, Option, Some, None, arith}
-use Rattle.std.specs.Prelude.{map, slice_get}
+use Rattle.std.proofs.Common.{◌≡◌, refl, sym, ap, subst, ◌∙◌, ℕ, zero, suc, ◌+◌, ◌⊎◌, inl, inr, ⊎_elim, true, [], Option, Some, None, arith}
+use Rattle.std.specs.Prelude.{slice_get}
 use Rattle.std.specs.Option.{option_and_then}
 use Rattle.value_core.specs.Items.{Items}
 use Rattle.c_core.specs.declared.code.Line.{Line}
 use Rattle.c_core.specs.declared.code.CFunc.{CFunc}
 use Rattle.c_core.specs.declared.code.Code.{Code}
-use Rattle.c_core.specs.Machine.{Word, MachineState}
+use Rattle.c_core.specs.Release.{uses}
+use Rattle.c_core.specs.Machine.{MachineState, refs_in}
 use Rattle.c_core.specs.Step.{Next, Goes, Ends, step, step_at, line_at}
 use Rattle.c_core.specs.Run.{Stop, go_on, first_words, module_function, start, most_steps, machine_run}
 use Rattle.c_core.specs.Laws.{IsCounted, Reaches, Here, There}
 use Rattle.c_core.proofs.KeepsCounts.{run_keeps_counts}
 use Rattle.c_core_ownership_laws.specs.Shares.{Shares}
-use Rattle.c_core_ownership_laws.specs.Frames.{IsBare, Meets, IsMet}
+use Rattle.c_core_ownership_laws.specs.Frames.{Meets, IsMet}
 use Rattle.c_core_ownership_laws.specs.Groups.{IsFine}
 use Rattle.c_core_ownership_laws.proofs.Totals.{meets-within}
+use Rattle.c_core_ownership_laws.proofs.Effects.{unset_words}
 use Rattle.c_core_ownership_laws.proofs.Entry.{errors, errors-size, errors-none, errors-bare}
 use Rattle.c_core_ownership_laws.proofs.Safe.{Follows, AreKept, Arrives, safe_line}
 
@@ -42,9 +44,10 @@ module _ (code : Code) (Enters At : ℕ → ℕ → Shares → Type 0) (kept : A
         is = ap (slice_get code.funcs) a.func ∙ is;
         σ = a.go.0;
         at = subst (λ f. At f t.top.place a.go.0) (sym a.func) (subst (λ p. At s.top.func p a.go.0) (sym a.place) a.go.1);
-        meets = meets-within g.vars a.σ t.top.vars t.below a.go.0 t.top.ledger a.go.2 a.meets;
+        meets = meets-within g.vars a.σ t.top.vars t.below (uses refs_in t.cells) a.go.0 t.top.ledger a.go.2 a.meets;
         waits = a.waits;
         globals = a.globals;
+        slots = a.slots;
       })
       (λ r. r)
       h
@@ -54,7 +57,7 @@ module _ (code : Code) (Enters At : ℕ → ℕ → Shares → Type 0) (kept : A
   safe_at s ok r None e = tt
   safe_at s ok r (Some l) e =
       arrived s r.g r.is (step_at true code s (Some l))
-      (safe_line code Enters At s ok r.g r.σ r.is r.meets r.waits r.globals (Follows code Enters At s.top.func s.top.place) (Steps s r.g) (λ e t f. f) (λ t a. inl a) kept r.at (λ τ h. h) (λ t q. inr q) l ((kept s.top.func r.g r.is).line s.top.place l r.σ r.at e))
+      (safe_line code Enters At s ok r.g r.σ r.is r.meets r.waits r.globals r.slots (Follows code Enters At s.top.func s.top.place) (Steps s r.g) (λ e t f. f) (λ t a. inl a) kept r.at (λ τ h. h) (λ t q. inr q) l ((kept s.top.func r.g r.is).line s.top.place l r.σ r.at e))
 
   -- a step makes no fault of ownership, and what it comes to has the shares of its place
   pub step_safe : (s : MachineState) → IsCounted s → IsMet code At s → Safe (step code s)
@@ -64,11 +67,6 @@ module _ (code : Code) (Enters At : ℕ → ℕ → Shares → Type 0) (kept : A
       safe_at s ok r (line_at code s.top) e
 
   -- ---- the start
-  no_globals : {A : Type 0} (gs : List A) (n : ℕ) (w : Word) → slice_get (map (λ g. None) gs) n ≡ Some (Some w) → IsBare w
-  no_globals [] n w e = cc
-  no_globals (g ∷ gs) zero w e = cc
-  no_globals (g ∷ gs) (suc n) w e = no_globals gs n w e
-
   module _ (n : ℕ) (items : Items) where
     pub start_counted : IsCounted (start code n items)
     start_counted = (run_keeps_counts code n items).0 0 (start code n items) (Here (start code n items))
@@ -78,14 +76,16 @@ module _ (code : Code) (Enters At : ℕ → ℕ → Shares → Type 0) (kept : A
     start_met g e =
         let t = kept (module_function code) g e in
         let words : first_words (slice_get code.funcs (module_function code)) ≡ errors g.vars = ap first_words e in
-        let m : Meets g.vars t.entry (first_words (slice_get code.funcs (module_function code))) [] [] =
-        subst (λ ws. Meets g.vars t.entry ws [] []) (sym words) (record {
+        let m : Meets g.vars t.entry (first_words (slice_get code.funcs (module_function code))) [] [] (uses refs_in []) =
+        subst (λ ws. Meets g.vars t.entry ws [] [] (uses refs_in [])) (sym words) (record {
           size = errors-size g.vars;
           owned = λ c. sym (errors-none t.entry.owns g.vars c);
           lent = λ r w marked is c. omega (arith, errors-bare g.vars r w is c);
+          held = λ r w marked is c. omega (arith, errors-bare g.vars r w is c);
+          empty = λ r w marked is. errors-bare g.vars r w is;
           bare = λ r w number is. errors-bare g.vars r w is;
         }) in
-        record { g = g; is = e; σ = t.entry; at = t.begins; meets = m; waits = tt; globals = λ k w number is. no_globals code.globals k w is }
+        record { g = g; is = e; σ = t.entry; at = t.begins; meets = m; waits = tt; globals = λ k w number is. unset_words code.globals k w is; slots = λ c x e. absurd (cc) }
 
     start_step : (o : Option CFunc) → slice_get code.funcs (module_function code) ≡ o → Safe (step_at true code (start code n items) (option_and_then (λ g. slice_get g.lines 0) o))
     start_step None e = tt

@@ -1,7 +1,7 @@
 -- Groups: lines of which each leads to the next one.
 use Rattle.std.specs.Prelude.{◌≡◌, ℕ, zero, suc, ◌+◌, List, [], ◌∷◌, Option, Some, None}
 use Rattle.c_core.specs.declared.code.Line.{Line}
-use Rattle.c_core.specs.declared.code.Line.TheVariants.{Call, Goto, If, IfError, Return}
+use Rattle.c_core.specs.declared.code.Line.TheVariants.{Call, Virtual, TraitCall, Goto, If, IfError, Return}
 use Rattle.c_core.specs.declared.code.Code.{Code}
 use Rattle.c_core.specs.declared.primitive.Primitive.{Primitive}
 use Rattle.c_core.specs.declared.fault.Fault.TheVariants as fault
@@ -16,9 +16,11 @@ abbrev pub IsPrimitive : Option Primitive → Type 0
 IsPrimitive None = ⊥
 IsPrimitive (Some p) = Unit {0}
 
--- a line that leads to the next one: no jump, no return and no call of a function
+-- a line that leads to the next one: no jump, no return and no call of a function or a method
 abbrev pub IsStraight : Line → Type 0
 IsStraight (Call x name args) = IsPrimitive (primitive_named name)
+IsStraight (Virtual x o n args) = ⊥
+IsStraight (TraitCall x o t n args) = ⊥
 IsStraight (Goto n) = ⊥
 IsStraight (If x n m) = ⊥
 IsStraight (IfError x n m) = ⊥

@@ -1,5 +1,5 @@
 -- When a function and a code keep their references in order.
-use Rattle.std.specs.Prelude.{◌≡◌, ◌<◌, ℕ, zero, suc, ◌+◌, List, [], ◌∷◌, Option, Some, slice_get}
+use Rattle.std.specs.Prelude.{◌≡◌, ◌<◌, ℕ, zero, suc, ◌+◌, false, List, [], ◌∷◌, Option, Some, slice_get}
 use Rattle.std.specs.Option.{option_and_then}
 use Rattle.c_core.specs.declared.code.Line.{Line}
 use Rattle.c_core.specs.declared.code.CFunc.{CFunc}
@@ -17,11 +17,12 @@ from zero ls = ls
 from (suc p) [] = []
 from (suc p) (l ∷ ls) = from p ls
 
--- A function is in order: its first line from shares that own nothing through a parameter, and the lines from each label on from
+-- A function is in order: its first line from shares that own nothing through a parameter and know of none that it is empty, and the lines from each label on from
 -- each shares with which the label is entered. The other variables begin with an error value, so they may have any shares.
 pub record IsInOrder (code : Code) (Enters : ℕ → Shares → Type 0) (g : CFunc) : Type 0 where
   pub entry : Shares
   pub is_entry : (r : ℕ) → r < g.params → entry.owns r ≡ 0
+  pub is_filled : (r : ℕ) → r < g.params → entry.empty r ≡ false
   pub begins : Checks code g Enters Any entry g.lines
   pub enters : (n q : ℕ) (σ : Shares) → Enters n σ → slice_get (label_places g.lines) n ≡ Some q → Checks code g Enters Any σ (from q g.lines)
 
@@ -48,6 +49,7 @@ labels_of code t f n =
 pub record IsPlaced (code : Code) (t : Table) (f : ℕ) (g : CFunc) : Type 0 where
   pub entry : Shares
   pub is_entry : (r : ℕ) → r < g.params → entry.owns r ≡ 0
+  pub is_filled : (r : ℕ) → r < g.params → entry.empty r ≡ false
   pub begins : t f 0 ≡ Some entry
   pub line : (p : ℕ) (l : Line) (σ : Shares) → t f p ≡ Some σ → slice_get g.lines p ≡ Some l → LineChecks code g (Entered (labels_of code t) f) σ l (λ τ. (ρ : Shares) × (t f (p + 1) ≡ Some ρ) × Within τ ρ)
 
