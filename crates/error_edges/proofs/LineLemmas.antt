@@ -1,5 +1,5 @@
 -- Lines that are spelled and fit among variables are so among more, in a code that has the same globals, classes and functions.
-use Rattle.std.proofs.Common.{◌≡◌, refl, sym, ◌∙◌, ap, ℕ, zero, suc, ◌<◌, arith, Bool, true, false, List, [], ◌∷◌, ◌++◌, length, length-append, Option, Some, None}
+use Rattle.std.proofs.Common.{◌≡◌, refl, sym, ◌∙◌, ap, ℕ, zero, suc, ◌<◌, arith, pos, Bool, true, false, List, [], ◌∷◌, ◌++◌, length, length-append, Option, Some, None}
 use Rattle.std.specs.Prelude.{slice_get, ◌&&◌, is_some, find}
 use Rattle.std.specs.List.{list_all, list_any}
 use Rattle.std.specs.Option.{option_map, option_and_then}
@@ -9,13 +9,13 @@ use Rattle.c_core.specs.declared.code.Kind.{Kind}
 use Rattle.c_core.specs.declared.code.CArg.{CArg}
 use Rattle.c_core.specs.declared.code.CArg.TheVariants as arg
 use Rattle.c_core.specs.declared.code.Line.{Line}
-use Rattle.c_core.specs.declared.code.Line.TheVariants.{Label, Move, Lit, Call, Goto, If, IfError, Turn, Return, Inc, Dec, XDec}
+use Rattle.c_core.specs.declared.code.Line.TheVariants.{Label, Move, Lit, Call, Virtual, TraitCall, Goto, If, IfError, Turn, Return, Inc, Dec, XDec}
 use Rattle.c_core.specs.declared.code.CFunc.{CFunc}
 use Rattle.c_core.specs.declared.code.Code.{Code}
 use Rattle.c_core.specs.declared.primitive.Primitive.{Primitive}
 use Rattle.c_core.specs.Functions.{function_named, parameter_kinds}
-use Rattle.c_core.specs.Primitives.{KindAt, Is, OfGlobal, OfSlot, Parameter, Borrows, Steals, MaySteal, TakesNumber, TakesText, TakesException, TakesGlobal, TakesClass, Outcome, Nothing, Owned, row_of, primitive_named}
-use Rattle.c_core.specs.WellFormed.{Declared, is_call_name, spelled_literal, spelled_label, is_declared, kind_at, is_counted_kind, spelled_arg, spelled_target, spelled_line, has_kind, same_kinds, literal_fits, kinds_agree, named_kind, kind_fits, passes, arg_fits, args_fit, target_fits, function_call_fits, call_fits, line_fits}
+use Rattle.c_core.specs.Primitives.{KindAt, Is, OfGlobal, OfSlot, Parameter, Borrows, Steals, MaySteal, TakesNumber, TakesPlace, TakesText, TakesDecimal, TakesException, TakesGlobal, TakesClass, Outcome, Nothing, Owned, Lent, row_of, primitive_named}
+use Rattle.c_core.specs.WellFormed.{Declared, is_identifier, is_call_name, has_class, spelled_literal, spelled_label, is_declared, kind_at, is_counted_kind, spelled_arg, spelled_target, spelled_line, has_kind, same_kinds, literal_fits, kinds_agree, named_kind, kind_fits, passes, arg_fits, args_fit, target_fits, function_call_fits, call_fits, line_fits}
 
 -- the functions of a code may have more variables and other lines
 pub record CodeKept (code new : Code) : Type 0 where
@@ -61,6 +61,12 @@ module _ (vars more : List Declared) where
       let both = and_parts (spelled_arg vars a) (list_all (spelled_arg vars) args) e in
       and_from (spelled_arg all a) (list_all (spelled_arg all) args) (arg_spelled a both.0) (args_spelled args both.1)
 
+  all_declared : (xs : List ℕ) → list_all (is_declared vars) xs ≡ true → list_all (is_declared all) xs ≡ true
+  all_declared [] e = refl
+  all_declared (x ∷ xs) e =
+      let both = and_parts (is_declared vars x) (list_all (is_declared vars) xs) e in
+      and_from (is_declared all x) (list_all (is_declared all) xs) (declared_more x both.0) (all_declared xs both.1)
+
   target_spelled : (x : Option ℕ) → spelled_target vars x ≡ true → spelled_target all x ≡ true
   target_spelled None e = refl
   target_spelled (Some x) e = declared_more x e
@@ -78,6 +84,22 @@ module _ (vars more : List Declared) where
       let call = and_parts (is_call_name name) (list_all (spelled_arg vars) args) both.1 in
       and_from (spelled_target all x) (is_call_name name && list_all (spelled_arg all) args) (target_spelled x both.0)
       (and_from (is_call_name name) (list_all (spelled_arg all) args) call.0 (args_spelled args call.1))
+  spelled_more (Virtual x o n args) e =
+      let one = and_parts (is_declared vars x) (is_declared vars o && (spelled_label n && list_all (is_declared vars) args)) e in
+      let two = and_parts (is_declared vars o) (spelled_label n && list_all (is_declared vars) args) one.1 in
+      let three = and_parts (spelled_label n) (list_all (is_declared vars) args) two.1 in
+      and_from (is_declared all x) (is_declared all o && (spelled_label n && list_all (is_declared all) args)) (declared_more x one.0)
+      (and_from (is_declared all o) (spelled_label n && list_all (is_declared all) args) (declared_more o two.0)
+      (and_from (spelled_label n) (list_all (is_declared all) args) three.0 (all_declared args three.1)))
+  spelled_more (TraitCall x o t n args) e =
+      let one = and_parts (is_declared vars x) (is_declared vars o && (is_identifier t && (spelled_label n && list_all (is_declared vars) args))) e in
+      let two = and_parts (is_declared vars o) (is_identifier t && (spelled_label n && list_all (is_declared vars) args)) one.1 in
+      let three = and_parts (is_identifier t) (spelled_label n && list_all (is_declared vars) args) two.1 in
+      let four = and_parts (spelled_label n) (list_all (is_declared vars) args) three.1 in
+      and_from (is_declared all x) (is_declared all o && (is_identifier t && (spelled_label n && list_all (is_declared all) args))) (declared_more x one.0)
+      (and_from (is_declared all o) (is_identifier t && (spelled_label n && list_all (is_declared all) args)) (declared_more o two.0)
+      (and_from (is_identifier t) (spelled_label n && list_all (is_declared all) args) three.0
+      (and_from (spelled_label n) (list_all (is_declared all) args) four.0 (all_declared args four.1))))
   spelled_more (Goto n) e = e
   spelled_more (If x n m) e =
       let both = and_parts (is_declared vars x) (spelled_label n && spelled_label m) e in
@@ -124,16 +146,21 @@ module _ (vars more : List Declared) where
         ap (λ k. kinds_agree k (kind_at all x)) (named_same args) ∙ kind_more (kinds_agree (named_kind code args)) (agree_none (named_kind code args)) x e
     kind_fits_more args OfSlot x e = kind_more is_some refl x e
 
+    class_kept : (name : List ℕ) → has_class new name ≡ has_class code name
+    class_kept name = ap (λ ks. list_any (λ k. bytes_eq name k.name) ks) kept.classes
+
     arg_fits_more : (args : List CArg) (p : Parameter) (a : CArg) → arg_fits code vars args p a ≡ true → arg_fits new all args p a ≡ true
     arg_fits_more args (Borrows k h) (arg.Var x) e = kind_fits_more args k x e
     arg_fits_more args (Steals k h) (arg.Var x) e = kind_fits_more args k x e
     arg_fits_more args (MaySteal k h) (arg.Var x) e = kind_fits_more args k x e
     arg_fits_more args TakesNumber (arg.Number n) e = refl
+    arg_fits_more args TakesPlace (arg.Number (pos n)) e = refl
     arg_fits_more args TakesText (arg.Text text) e = refl
+    arg_fits_more args TakesDecimal (arg.Text text) e = e
     arg_fits_more args TakesException (arg.Text text) e = e
     arg_fits_more args TakesGlobal (arg.Global name) e =
         ap (λ gs. is_some (option_map (λ (g : Declared). g.1) (find (λ (g : Declared). bytes_eq name g.0) gs))) kept.globals ∙ e
-    arg_fits_more args TakesClass (arg.Class name) e = ap (λ ks. list_any (λ k. bytes_eq name k.name) ks) kept.classes ∙ e
+    arg_fits_more args TakesClass (arg.Class name) e = class_kept name ∙ e
     arg_fits_more args _ _ e = absurd (cc)
 
     args_fit_more : (args : List CArg) (ps : List Parameter) (rest : List CArg) → args_fit code vars args ps rest ≡ true → args_fit new all args ps rest ≡ true
@@ -147,8 +174,10 @@ module _ (vars more : List Declared) where
     target_fits_more : (args : List CArg) (o : Outcome) (x : Option ℕ) → target_fits code vars args o x ≡ true → target_fits new all args o x ≡ true
     target_fits_more args Nothing None e = refl
     target_fits_more args (Owned k) None e = refl
+    target_fits_more args (Lent k) None e = refl
     target_fits_more args Nothing (Some x) e = absurd (cc)
     target_fits_more args (Owned k) (Some x) e = kind_fits_more args k x e
+    target_fits_more args (Lent k) (Some x) e = kind_fits_more args k x e
 
     function_fits_more : (x : Option ℕ) (args : List CArg) (o : Option CFunc) (o' : Option CFunc) → ((g : CFunc) → o ≡ Some g → (h : CFunc) × (o' ≡ Some h) × (parameter_kinds h ≡ parameter_kinds g) × (h.ret ≡ g.ret)) → function_call_fits code vars x args o ≡ true → function_call_fits new all x args o' ≡ true
     function_fits_more x args None o' found e = absurd (cc)
@@ -182,6 +211,8 @@ module _ (vars more : List Declared) where
     fits_more ret (Lit x l) e = kind_more (literal_fits l) refl x e
     fits_more ret (Call x name args) e =
         ap (call_fits new all x args (primitive_named name)) (kept.named name) ∙ call_fits_more x args (primitive_named name) (function_named code.funcs name) e
+    fits_more ret (Virtual x o n args) e = refl
+    fits_more ret (TraitCall x o t n args) e = class_kept t ∙ e
     fits_more ret (Goto n) e = refl
     fits_more ret (If x n m) e = refl
     fits_more ret (IfError x n m) e = refl

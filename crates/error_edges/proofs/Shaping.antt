@@ -10,7 +10,7 @@ use Rattle.c_core.specs.declared.code.Kind.{Kind}
 use Rattle.c_core.specs.declared.code.Line.TheVariants as line
 use Rattle.c_core.specs.declared.code.CFunc.{CFunc}
 use Rattle.c_core.specs.Functions.{label_places, after_prefix, number_of as number_named, function_named, parameter_kinds}
-use Rattle.c_core.specs.WellFormed.{Declared as Variable, is_identifier, is_char, is_empty, is_leaving, is_turn_at, begins_right, jumps_fit, lines_lead_on, line_fits, function_fits, names_differ, spelled_line, spelled_body, spelled_top, spelled_function, spelled_functions, spelled_globals, is_spelled}
+use Rattle.c_core.specs.WellFormed.{Declared as Variable, is_identifier, is_char, is_leaving, is_turn_at, begins_right, jumps_fit, lines_lead_on, line_fits, function_fits, names_differ, classes_fit, functions_fit, spelled_line, spelled_body, spelled_top, spelled_function, spelled_functions, spelled_globals, spelled_class, is_spelled}
 use Rattle.ir_core.specs.declared.code.RType.TheVariants.{Bool as BoolType}
 use Rattle.ir_core.specs.declared.code.Op.{Op}
 use Rattle.ir_core.specs.declared.code.Op.TheVariants.{Turn}
@@ -24,6 +24,7 @@ use Rattle.ir_core.specs.Lower.{kind_of_type, variable_of, global_of, call_name,
 use Rattle.ir_core.specs.Shape.{FuncFits, FuncsFit, BeginsInTurn, Shape}
 use Rattle.ir_core.proofs.JumpLemmas.{jumps_go, last_leaves}
 use Rattle.ir_core.proofs.TextLemmas.{LinesAre, lines_from_all, all_spelled, all_fit}
+use Rattle.ir_core.proofs.ClassLemmas.{classes_same}
 use Rattle.error_edges.specs.Layout.{needs_flag, needs_exit, number_at, exit_blocks, chains}
 use Rattle.error_edges.specs.Edged.{IsEdged, AreEdged, IsEdgedProgram}
 use Rattle.error_edges.proofs.FunctionLemmas.{each_count}
@@ -123,23 +124,26 @@ module _ (p q : Program) (edged : IsEdgedProgram p q) (shape : Shape p) where
       by (f ∷ fs) (g ∷ gs) (suc n) all = by fs gs n all.1
 
   -- ---- the C text of the program
-  parts : (is_spelled (lower p) ≡ true) × ((names_differ (map (λ v. v.0) (lower p).globals) && (names_differ (map (λ g. g.name) (lower p).funcs) && list_all (function_fits (lower p)) (lower p).funcs)) ≡ true)
+  parts : (is_spelled (lower p) ≡ true) × ((names_differ (map (λ v. v.0) (lower p).globals) && (classes_fit (lower p) && functions_fit (lower p))) ≡ true)
   parts =
-      and_parts (is_spelled (lower p)) (names_differ (map (λ v. v.0) (lower p).globals) && (names_differ (map (λ g. g.name) (lower p).funcs) && list_all (function_fits (lower p)) (lower p).funcs)) shape.lowered
+      and_parts (is_spelled (lower p)) (names_differ (map (λ v. v.0) (lower p).globals) && (classes_fit (lower p) && functions_fit (lower p))) shape.lowered
 
-  globals_spelled : (spelled_globals (lower p).globals ≡ true) × ((is_empty p.classes && spelled_functions (lower p).funcs) ≡ true)
-  globals_spelled = and_parts (spelled_globals (lower p).globals) (is_empty p.classes && spelled_functions (lower p).funcs) parts.0
+  globals_spelled : (spelled_globals (lower p).globals ≡ true) × ((list_all spelled_class p.classes && spelled_functions (lower p).funcs) ≡ true)
+  globals_spelled =
+      and_parts (spelled_globals (lower p).globals) (list_all spelled_class p.classes && spelled_functions (lower p).funcs) parts.0
 
-  no_classes : (is_empty p.classes ≡ true) × (spelled_functions (lower p).funcs ≡ true)
-  no_classes = and_parts (is_empty p.classes) (spelled_functions (lower p).funcs) globals_spelled.1
+  classes_spelled : (list_all spelled_class p.classes ≡ true) × (spelled_functions (lower p).funcs ≡ true)
+  classes_spelled = and_parts (list_all spelled_class p.classes) (spelled_functions (lower p).funcs) globals_spelled.1
 
-  globals_differ : (names_differ (map (λ v. v.0) (lower p).globals) ≡ true) × ((names_differ (map (λ g. g.name) (lower p).funcs) && list_all (function_fits (lower p)) (lower p).funcs) ≡ true)
-  globals_differ =
-      and_parts (names_differ (map (λ v. v.0) (lower p).globals)) (names_differ (map (λ g. g.name) (lower p).funcs) && list_all (function_fits (lower p)) (lower p).funcs) parts.1
+  globals_differ : (names_differ (map (λ v. v.0) (lower p).globals) ≡ true) × ((classes_fit (lower p) && functions_fit (lower p)) ≡ true)
+  globals_differ = and_parts (names_differ (map (λ v. v.0) (lower p).globals)) (classes_fit (lower p) && functions_fit (lower p)) parts.1
+
+  old_fit : (classes_fit (lower p) ≡ true) × (functions_fit (lower p) ≡ true)
+  old_fit = and_parts (classes_fit (lower p)) (functions_fit (lower p)) globals_differ.1
 
   functions_differ : (names_differ (map (λ g. g.name) (lower p).funcs) ≡ true) × (list_all (function_fits (lower p)) (lower p).funcs ≡ true)
   functions_differ =
-      and_parts (names_differ (map (λ g. g.name) (lower p).funcs)) (list_all (function_fits (lower p)) (lower p).funcs) globals_differ.1
+      and_parts (names_differ (map (λ g. g.name) (lower p).funcs)) (list_all (function_fits (lower p)) (lower p).funcs) old_fit.1
 
   -- what is known of each of its functions
   abbrev text : ℕ → Func → CFunc
@@ -182,7 +186,7 @@ module _ (p q : Program) (edged : IsEdgedProgram p q) (shape : Shape p) where
       (good_function n f blocks.0 one.0 two.0, all_good (suc n) (g ∷ fs) blocks.1 one.1 two.1)
 
   good : AreGood 0 p.funcs
-  good = all_good 0 p.funcs shape.funcs no_classes.1 functions_differ.1
+  good = all_good 0 p.funcs shape.funcs classes_spelled.1 functions_differ.1
 
   -- ---- the functions of the new C text take and give the same
   kinds_same : (f g : Func) → IsEdged f g → f.params ≤ length f.regs → (a b : List ℕ) → parameter_kinds (lowered_as q a g) ≡ parameter_kinds (lowered_as p b f)
@@ -340,16 +344,19 @@ module _ (p q : Program) (edged : IsEdgedProgram p q) (shape : Shape p) where
   pub shape_kept : Shape q
   shape_kept =
       let turns : BeginsInTurn q.funcs = turns_stay p.funcs q.funcs edged.funcs shape.turns in
-      let names : names_differ (map (λ (g : CFunc). g.name) (lower q).funcs) ≡ true = ap names_differ (names_same 0 p.funcs q.funcs edged.funcs) ∙ functions_differ.0 in
+      let names : map (λ (g : CFunc). g.name) (lower q).funcs ≡ map (λ (g : CFunc). g.name) (lower p).funcs = names_same 0 p.funcs q.funcs edged.funcs in
       let none : 0 + length q.funcs ≡ length q.funcs = omega arith in
-      let fit : list_all (function_fits (lower q)) (lower q).funcs ≡ true = all_fit_new 0 p.funcs q.funcs edged.funcs good turns none in
+      let fit : functions_fit (lower q) ≡ true =
+      and_from (names_differ (map (λ (g : CFunc). g.name) (lower q).funcs)) (list_all (function_fits (lower q)) (lower q).funcs) (ap names_differ names ∙ functions_differ.0)
+      (all_fit_new 0 p.funcs q.funcs edged.funcs good turns none) in
+      let classes : classes_fit (lower q) ≡ true = classes_same (lower p) (lower q) edged.classes names ∙ old_fit.0 in
       let globals : spelled_globals (lower q).globals ≡ true = ap (λ gs. spelled_globals (map global_of gs)) edged.globals ∙ globals_spelled.0 in
       let differ : names_differ (map (λ (v : Variable). v.0) (lower q).globals) ≡ true = ap (λ gs. names_differ (map (λ (v : Variable). v.0) (map global_of gs))) edged.globals ∙ globals_differ.0 in
       let spelled : is_spelled (lower q) ≡ true =
-      and_from (spelled_globals (lower q).globals) (is_empty q.classes && spelled_functions (lower q).funcs) globals
-      (and_from (is_empty q.classes) (spelled_functions (lower q).funcs) (ap is_empty edged.classes ∙ no_classes.0) (all_spelled_new 0 p.funcs q.funcs edged.funcs good no_classes.1)) in
+      and_from (spelled_globals (lower q).globals) (list_all spelled_class q.classes && spelled_functions (lower q).funcs) globals
+      (and_from (list_all spelled_class q.classes) (spelled_functions (lower q).funcs) (ap (list_all spelled_class) edged.classes ∙ classes_spelled.0) (all_spelled_new 0 p.funcs q.funcs edged.funcs good classes_spelled.1)) in
       record {
         funcs = funcs_fit 0 p.funcs q.funcs edged.funcs good;
         turns = turns;
-        lowered = and_from (is_spelled (lower q)) (names_differ (map (λ (v : Variable). v.0) (lower q).globals) && (names_differ (map (λ (g : CFunc). g.name) (lower q).funcs) && list_all (function_fits (lower q)) (lower q).funcs)) spelled (and_from (names_differ (map (λ (v : Variable). v.0) (lower q).globals)) (names_differ (map (λ (g : CFunc). g.name) (lower q).funcs) && list_all (function_fits (lower q)) (lower q).funcs) differ (and_from (names_differ (map (λ (g : CFunc). g.name) (lower q).funcs)) (list_all (function_fits (lower q)) (lower q).funcs) names fit));
+        lowered = and_from (is_spelled (lower q)) (names_differ (map (λ (v : Variable). v.0) (lower q).globals) && (classes_fit (lower q) && functions_fit (lower q))) spelled (and_from (names_differ (map (λ (v : Variable). v.0) (lower q).globals)) (classes_fit (lower q) && functions_fit (lower q)) differ (and_from (classes_fit (lower q)) (functions_fit (lower q)) classes fit));
       }

@@ -7,6 +7,7 @@ use Rattle.value_core.specs.Exceptions.{Thrown}
 use Rattle.value_core.specs.Value.{Value, BoolVal}
 use Rattle.c_core.specs.declared.code.CClass.{CClass}
 use Rattle.c_core.specs.declared.primitive.Primitive.{Primitive}
+use Rattle.c_core.specs.Functions.{method_at, trait_method_at}
 use Rattle.ir_core.specs.declared.code.RType.{RType}
 use Rattle.ir_core.specs.declared.code.RType.TheVariants.{Int, I64, Bool as BoolType, Ref}
 use Rattle.ir_core.specs.declared.code.Reg.{Reg}
@@ -27,7 +28,7 @@ use Rattle.ir_core.specs.Rows.{Failing, NeverFails, MayFail, AlwaysFails, failin
 use Rattle.ir_core.specs.Registers.{Held, Unset, Holds, error_of, is_error, literal_of, Regs, put, look, first_regs}
 use Rattle.ir_core.specs.Names.{function_called}
 use Rattle.ir_core.specs.Effects.{World, Argument, Effect, Wrong, Gives, Acts, Fails, Ends, effect}
-use Rattle.ir_core.specs.Meaning.{Frame, Waiting, Config, Runs, Leaves, Ended, Stuck, Strict, Fitting, if_some, if_calm, next, to_block, goes, read, read_all, arguments, is_lost, class_of, method_at, class_name, trait_method_at, is_fit, Way, Well, Badly, Wrongly, way, ended, ended_well, raised_by, is_edge, is_clear, away, may_stand, turned, chosen, halted, declared_of, registers_of, item_at, handler_at, method_of, trait_name, calls, calls_method, failed, succeeds, applied, returned, leave, do_op, do_last, act, step, steps}
+use Rattle.ir_core.specs.Meaning.{Frame, Waiting, Config, Runs, Leaves, Ended, Stuck, Strict, Fitting, if_some, if_calm, next, to_block, goes, read, read_all, arguments, is_lost, class_of, class_name, is_fit, Way, Well, Badly, Wrongly, way, ended, ended_well, raised_by, is_edge, is_clear, away, may_stand, turned, chosen, halted, declared_of, registers_of, item_at, handler_at, method_of, trait_name, calls, calls_method, failed, succeeds, applied, returned, leave, do_op, do_last, act, step, steps}
 use Rattle.ir_core.proofs.StepLemmas.{put_same, goto_step, error_step, if_step, lit_step, return_step}
 use Rattle.error_edges.specs.Layout.{missing, moved, target_of, asking, flag_register, error_literal}
 use Rattle.error_edges.proofs.Laid.{LaidAfter, ExitStands, Escapes, Asked, BlockStands, FunctionLaid}

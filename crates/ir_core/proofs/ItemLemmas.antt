@@ -1,5 +1,5 @@
 -- The items of a block: its operations, and behind them its end.
-use Rattle.std.proofs.Common.{◌≡◌, refl, ap, ℕ, zero, suc, List, [], ◌∷◌, length, Option, Some, None}
+use Rattle.std.proofs.Common.{◌≡◌, refl, ap, ℕ, zero, suc, List, [], ◌∷◌, length, Some, None}
 use Rattle.std.specs.Prelude.{slice_get}
 use Rattle.ir_core.specs.declared.code.Op.{Op}
 use Rattle.ir_core.specs.declared.code.Last.{Last}

@@ -12,3 +12,4 @@ pub mod RowLemmas
 pub mod SpellingLemmas
 pub mod TextLemmas
 pub mod ItemLemmas
+pub mod ClassLemmas

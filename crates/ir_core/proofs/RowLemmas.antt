@@ -8,7 +8,10 @@ use Rattle.c_core.specs.declared.primitive.BoolPrim.TheVariants as bool
 use Rattle.c_core.specs.declared.primitive.ObjectPrim.TheVariants as object
 use Rattle.c_core.specs.declared.primitive.StrPrim.TheVariants as str
 use Rattle.c_core.specs.declared.primitive.ListPrim.TheVariants as list
+use Rattle.c_core.specs.declared.primitive.DictPrim.TheVariants as dict
 use Rattle.c_core.specs.declared.primitive.TuplePrim.TheVariants as tuple
+use Rattle.c_core.specs.declared.primitive.InstancePrim.TheVariants as instance
+use Rattle.c_core.specs.declared.primitive.AttrPrim.TheVariants as attr
 use Rattle.c_core.specs.declared.primitive.GlobalPrim.TheVariants as global
 use Rattle.c_core.specs.declared.primitive.ExcPrim.TheVariants as exc
 use Rattle.c_core.specs.declared.primitive.ErrPrim.TheVariants as err
@@ -75,10 +78,24 @@ primitive_found (prim.Object object.IsNone) = refl
 primitive_found (prim.List list.New) = refl
 primitive_found (prim.List list.Append) = refl
 primitive_found (prim.List list.GetItem) = refl
+primitive_found (prim.List list.GetItemBorrow) = refl
 primitive_found (prim.List list.SetItem) = refl
 primitive_found (prim.List list.Pop) = refl
 primitive_found (prim.List list.Len) = refl
+primitive_found (prim.Dict dict.New) = refl
+primitive_found (prim.Dict dict.GetItem) = refl
+primitive_found (prim.Dict dict.SetItem) = refl
+primitive_found (prim.Dict dict.DelItem) = refl
+primitive_found (prim.Dict dict.Contains) = refl
+primitive_found (prim.Dict dict.CheckSize) = refl
+primitive_found (prim.Dict dict.KeyAt) = refl
+primitive_found (prim.Dict dict.Len) = refl
 primitive_found (prim.Tuple tuple.Pack) = refl
 primitive_found (prim.Tuple tuple.GetItem) = refl
+primitive_found (prim.Tuple tuple.GetItemBorrow) = refl
 primitive_found (prim.Tuple tuple.Len) = refl
+primitive_found (prim.Instance instance.New) = refl
+primitive_found (prim.Attr attr.Get) = refl
+primitive_found (prim.Attr attr.GetBorrow) = refl
+primitive_found (prim.Attr attr.Set) = refl
 primitive_found (prim.Io io.Input) = refl

@@ -6,12 +6,12 @@ use Rattle.std.specs.Option.{option_map}
 use Rattle.std.specs.Str.{chars, is_utf8}
 use Rattle.std.proofs.Math.Utf8.{encode}
 use Rattle.unicode_ident.proofs.Computing.{unicode_ident}
-use Rattle.value_core.specs.declared.exception.ExcClass.TheVariants.{OverflowError, IndexError, ValueError}
+use Rattle.value_core.specs.declared.exception.ExcClass.TheVariants.{OverflowError, IndexError, KeyError, ValueError, RuntimeError}
 use Rattle.value_core.specs.Ending.{Ending, Done, Raised, Cut, Over}
 use Rattle.value_core.specs.Exceptions.{Thrown, thrown}
 use Rattle.value_core.specs.Items as item
 use Rattle.value_core.specs.Items.{Items, Eof}
-use Rattle.value_core.specs.Value.{IntVal, BoolVal, StrVal, ObjVal, InstObj}
+use Rattle.value_core.specs.Value.{Value, IntVal, BoolVal, NoneVal, StrVal, ObjVal, DictObj, InstObj}
 use Rattle.c_core.specs.declared.code.CArg.TheVariants as c_arg
 use Rattle.c_core.specs.declared.code.CLit.TheVariants as c_lit
 use Rattle.c_core.specs.declared.code.Line.TheVariants as line
@@ -20,6 +20,8 @@ use Rattle.c_core.specs.declared.primitive.Primitive.TheVariants as prim
 use Rattle.c_core.specs.declared.primitive.Int64Prim.TheVariants as int64
 use Rattle.c_core.specs.declared.primitive.TaggedPrim.TheVariants as tagged
 use Rattle.c_core.specs.declared.primitive.StrPrim.TheVariants as str
+use Rattle.c_core.specs.declared.primitive.ListPrim.TheVariants as list
+use Rattle.c_core.specs.declared.primitive.DictPrim.TheVariants as dict
 use Rattle.c_core.specs.declared.primitive.IoPrim.TheVariants as io
 use Rattle.ir_core.specs.declared.code.RType.{RType}
 use Rattle.ir_core.specs.declared.code.RType.TheVariants.{Int, I64, Bool, Ref}
@@ -36,7 +38,7 @@ use Rattle.ir_core.specs.declared.code.Program.{Program}
 use Rattle.ir_core.specs.Registers.{Unset, Holds}
 use Rattle.ir_core.specs.Names.{function_id}
 use Rattle.ir_core.specs.declared.code.ErrorKind.TheVariants.{Magic, MagicOverlapping}
-use Rattle.ir_core.specs.Effects.{World, Argument, Given, Written, Effect, Wrong, Gives, Fails, Ends, effect}
+use Rattle.ir_core.specs.Effects.{World, Argument, Given, Written, Effect, Wrong, Gives, Acts, Fails, Ends, effect}
 use Rattle.ir_core.specs.Rows.{error_kind}
 use Rattle.ir_core.specs.Meaning.{Waiting, Config, Runs, Leaves, Ended, Stuck, Mode, Plain, Strict, Fitting, steps}
 use Rattle.ir_core.specs.Runs.{start, Calm, Fit}
@@ -292,6 +294,44 @@ bad_line = refl
 too_far : effect (program []) (prim.Io io.Input) [] (reading item.Over) ≡ Ends Over (reading item.Over)
 too_far = refl
 
+-- ---- rows on dicts
+abbrev holding : List (Value × Value) → World
+holding pairs = record (reading Eof) { store = DictObj pairs ∷ [] }
+
+abbrev on_dict : Primitive → List (Value × Value) → List Argument → Effect
+on_dict q pairs xs = effect (program []) q (Given (ObjVal 0) ∷ xs) (holding pairs)
+
+abbrev one_pair : List (Value × Value)
+one_pair = (StrVal (codes "a"), IntVal (pos 1)) ∷ []
+
+pair_added : on_dict (prim.Dict dict.SetItem) one_pair (int (pos 1) ∷ text (codes "b") ∷ []) ≡ Acts (holding (one_pair ++ (IntVal (pos 1), StrVal (codes "b")) ∷ []))
+pair_added = refl
+
+value_replaced : on_dict (prim.Dict dict.SetItem) one_pair (text (codes "a") ∷ text (codes "b") ∷ []) ≡ Acts (holding ((StrVal (codes "a"), StrVal (codes "b")) ∷ []))
+value_replaced = refl
+
+pair_cut : on_dict (prim.Dict dict.DelItem) one_pair (text (codes "a") ∷ []) ≡ Gives (BoolVal true) (holding [])
+pair_cut = refl
+
+value_read : on_dict (prim.Dict dict.GetItem) one_pair (text (codes "a") ∷ []) ≡ Gives (IntVal (pos 1)) (holding one_pair)
+value_read = refl
+
+key_is_missing : on_dict (prim.Dict dict.GetItem) one_pair (text (codes "b") ∷ []) ≡ Fails (thrown KeyError (codes "b")) (holding one_pair)
+key_is_missing = refl
+
+-- a truth is no number, and an object no key
+truth_is_no_number : on_dict (prim.Dict dict.Contains) ((IntVal (pos 1), NoneVal) ∷ []) (Given (BoolVal true) ∷ []) ≡ Gives (BoolVal false) (holding ((IntVal (pos 1), NoneVal) ∷ []))
+truth_is_no_number = refl
+
+object_is_no_key : on_dict (prim.Dict dict.Contains) one_pair (Given (ObjVal 0) ∷ []) ≡ Wrong
+object_is_no_key = refl
+
+size_has_changed : on_dict (prim.Dict dict.CheckSize) one_pair (int (pos 2) ∷ []) ≡ Fails (thrown RuntimeError (codes "dictionary changed size during iteration")) (holding one_pair)
+size_has_changed = refl
+
+past_the_keys : on_dict (prim.Dict dict.KeyAt) one_pair (int (pos 1) ∷ []) ≡ Wrong
+past_the_keys = refl
+
 -- how they tell that they failed
 int_tells : error_kind (prim.Tagged tagged.Remainder) (Some Int) ≡ Magic
 int_tells = refl
@@ -521,6 +561,10 @@ result_without_target = refl
 
 target_without_result : op_fits (Prim (Some (reg 1)) (prim.Io io.Write) (var 0 ∷ [])) ≡ false
 target_without_result = refl
+
+-- and what is only lent
+lent_result : op_fits (Prim (Some (reg 0)) (prim.List list.GetItemBorrow) (var 1 ∷ var 2 ∷ [])) ≡ false
+lent_result = refl
 
 -- ---- all runs: the sum is fit, whatever the turns and the input are
 abbrev after_sum : ℕ → Items → List ℕ → World

@@ -1,6 +1,5 @@
 -- Lines that are spelled and fit, and the lines of programs whose calls and classes are the same.
-use Rattle.std.proofs.Common.{◌≡◌, refl, ◌∙◌, ap, ℕ, zero, suc, true, List, [], ◌∷◌, ◌++◌, map, Some}
-use Rattle.std.specs.Prelude.{◌&&◌}
+use Rattle.std.proofs.Common.{◌≡◌, refl, ◌∙◌, ap, ℕ, suc, true, List, [], ◌∷◌, ◌++◌, map, Some}
 use Rattle.std.specs.List.{list_all}
 use Rattle.std.proofs.lemmas.Bool.{and_from, and_parts}
 use Rattle.c_core.specs.declared.code.Kind.{Kind}

@@ -1,5 +1,5 @@
--- What primitives do, each in one row.
-use Rattle.std.specs.Prelude.{ℕ, nat_lt, Bool, true, false, not, ◌&&◌, cond, ℤ, pos, negsuc, int_lt, List, [], ◌∷◌, ◌++◌, length, take, Option, Some, None, codes, is_some, Result, Ok, Err, slice_get, slice_set}
+-- What primitives do, each in one row. Those of instances and their attributes have none yet: they are called wrongly.
+use Rattle.std.specs.Prelude.{ℕ, nat_lt, Bool, true, false, not, ◌&&◌, cond, ℤ, pos, negsuc, int_lt, List, [], ◌∷◌, ◌++◌, ◌+◌, length, take, drop, Option, Some, None, codes, is_some, Result, Ok, Err, slice_get, slice_set}
 use Rattle.std.specs.Fmt.{signed_decimal}
 use Rattle.std.specs.List.{position}
 use Rattle.std.specs.Option.{option_and_then, option_map}
@@ -9,14 +9,14 @@ use Rattle.std.specs.Str.Parse.{signed_digits_value}
 use Rattle.value_core.specs.declared.arith.Arith.{Arith}
 use Rattle.value_core.specs.declared.arith.Arith.TheVariants.{Overflow}
 use Rattle.value_core.specs.declared.exception.ExcClass.{ExcClass}
-use Rattle.value_core.specs.declared.exception.ExcClass.TheVariants.{IndexError, ValueError, EOFError}
+use Rattle.value_core.specs.declared.exception.ExcClass.TheVariants.{IndexError, ValueError, RuntimeError, EOFError}
 use Rattle.value_core.specs.Characters.{place_of}
-use Rattle.value_core.specs.Arithmetic.{lies_within, is_short, int_add, int_sub, int_mul, int_neg, int_floor_div, int_modulo, int_shl, int_shr, int_to_i64, i64_add, i64_sub, i64_mul, i64_neg, i64_floor_div, i64_modulo, i64_shl, i64_shr}
+use Rattle.value_core.specs.Arithmetic.{int_add, int_sub, int_mul, int_neg, int_floor_div, int_modulo, int_shl, int_shr, int_to_i64, i64_add, i64_sub, i64_mul, i64_neg, i64_floor_div, i64_modulo, i64_shl, i64_shr}
 use Rattle.value_core.specs.Ending.{Ending, Over, Broken}
 use Rattle.value_core.specs.Exceptions.{Thrown, thrown, class_named, is_under}
 use Rattle.value_core.specs.Items as item
 use Rattle.value_core.specs.Items.{Items}
-use Rattle.value_core.specs.Value.{Value, IntVal, BoolVal, NoneVal, StrVal, TupleVal, ExcVal, ObjVal, listed, tupled, Object, ListObj, Store}
+use Rattle.value_core.specs.Value.{Value, IntVal, BoolVal, NoneVal, StrVal, TupleVal, ExcVal, ObjVal, listed, tupled, Object, ListObj, DictObj, Store}
 use Rattle.c_core.specs.declared.primitive.Primitive.{Primitive}
 use Rattle.c_core.specs.declared.primitive.Primitive.TheVariants as prim
 use Rattle.c_core.specs.declared.primitive.Int64Prim.TheVariants as int64
@@ -25,13 +25,15 @@ use Rattle.c_core.specs.declared.primitive.BoolPrim.TheVariants as bool
 use Rattle.c_core.specs.declared.primitive.ObjectPrim.TheVariants as object
 use Rattle.c_core.specs.declared.primitive.StrPrim.TheVariants as str
 use Rattle.c_core.specs.declared.primitive.ListPrim.TheVariants as list
+use Rattle.c_core.specs.declared.primitive.DictPrim.TheVariants as dict
 use Rattle.c_core.specs.declared.primitive.TuplePrim.TheVariants as tuple
 use Rattle.c_core.specs.declared.primitive.GlobalPrim.TheVariants as global
 use Rattle.c_core.specs.declared.primitive.ExcPrim.TheVariants as exc
 use Rattle.c_core.specs.declared.primitive.ErrPrim.TheVariants as err
 use Rattle.c_core.specs.declared.primitive.IoPrim.TheVariants as io
-use Rattle.c_core.specs.Step.{int64_exception, int_exception, not_defined, unbound}
-use Rattle.c_core.specs.Strings.{counted_length, text_less, text_length, text_item}
+use Rattle.c_core.specs.Keys.{Key, NumberKey, TextKey, TruthKey, is_key}
+use Rattle.c_core.specs.Step.{int64_exception, int_exception, missing, not_defined, unbound}
+use Rattle.c_core.specs.Strings.{counted_length, text_less, text_length, text_item, writes_long}
 use Rattle.ir_core.specs.declared.code.PArg.{PArg}
 use Rattle.ir_core.specs.declared.code.PArg.TheVariants as arg
 use Rattle.ir_core.specs.declared.code.Program.{Program}
@@ -85,8 +87,7 @@ fitted (Err f) w = Fails (int64_exception Overflow) w
 
 -- a text that writes this number as it is printed, which is an `int` that is not short
 abbrev pub written_int : List ℕ → ℤ → World → Effect
-written_int text n w =
-    cond (bytes_eq (signed_decimal n) text && (lies_within 127 n && not (is_short n))) (Gives (IntVal n) w) Wrong
+written_int text n w = cond (writes_long text n) (Gives (IntVal n) w) Wrong
 
 -- an `int` as a native integer, which has to fit
 abbrev pub native_in : Result ℤ Arith → World → Effect
@@ -122,6 +123,55 @@ put_at k (Some i) items v w =
 abbrev pub popped : ℕ → Option ℕ → List Value → World → Effect
 popped k None items w = Fails (thrown IndexError (codes "pop from empty list")) w
 popped k (Some i) items w = of_value (λ v. Gives v (with_object k (ListObj (take i items)) w)) (slice_get items i)
+
+-- what is done with the pairs of a dict, with a key, and with a pair
+abbrev pub of_dict : (List (Value × Value) → Effect) → Option Object → Effect
+of_dict f (Some (DictObj pairs)) = f pairs
+of_dict f _ = Wrong
+
+abbrev pub of_key : (Key → Effect) → Option Key → Effect
+of_key f None = Wrong
+of_key f (Some k) = f k
+
+abbrev pub of_pair : (Value × Value → Effect) → Option (Value × Value) → Effect
+of_pair f None = Wrong
+of_pair f (Some p) = f p
+
+-- the key that a value is, if it may be one
+abbrev pub key_of_value : Value → Option Key
+key_of_value (IntVal n) = Some (NumberKey n)
+key_of_value (StrVal text) = Some (TextKey text)
+key_of_value (BoolVal b) = Some (TruthKey b)
+key_of_value _ = None
+
+-- the place of the first pair of a dict whose key is this one
+abbrev pub place_of_key : Key → List (Value × Value) → Option ℕ
+place_of_key k pairs = position (λ p. is_key k (key_of_value p.0)) pairs
+
+-- at the place of a key in a dict, if it has one: the value is read; another value is put there, or a new pair behind the others; the
+-- pair is taken out. A key that is there stays
+abbrev pub value_at : Key → Option ℕ → List (Value × Value) → World → Effect
+value_at k None pairs w = Fails (missing k) w
+value_at k (Some i) pairs w = of_pair (λ p. Gives p.1 w) (slice_get pairs i)
+
+abbrev pub entry_set : ℕ → Option ℕ → List (Value × Value) → Value → Value → World → Effect
+entry_set d None pairs key v w = Acts (with_object d (DictObj (pairs ++ (key, v) ∷ [])) w)
+entry_set d (Some i) pairs key v w =
+    of_pair (λ p. Acts (with_object d (DictObj (slice_set pairs i (p.0, v))) w)) (slice_get pairs i)
+
+abbrev pub entry_cut : ℕ → Key → Option ℕ → List (Value × Value) → World → Effect
+entry_cut d k None pairs w = Fails (missing k) w
+entry_cut d k (Some i) pairs w =
+    of_pair (λ p. Gives (BoolVal true) (with_object d (DictObj (take i pairs ++ drop (i + 1) pairs)) w)) (slice_get pairs i)
+
+-- whether a dict has as many pairs as before, and the key at a place
+abbrev pub sized : Bool → World → Effect
+sized true w = Gives (BoolVal true) w
+sized false w = Fails (thrown RuntimeError (codes "dictionary changed size during iteration")) w
+
+abbrev pub key_at : List (Value × Value) → ℤ → World → Effect
+key_at pairs (pos i) w = of_pair (λ p. Gives p.0 w) (slice_get pairs i)
+key_at pairs (negsuc i) w = Wrong
 
 -- the values of arguments, all of them registers
 abbrev pub values_in : List Argument → Option (List Value)
@@ -238,14 +288,32 @@ effect p (prim.List list.Append) (Given (ObjVal k) ∷ Given v ∷ []) w =
     of_list (λ items. Acts (with_object k (ListObj (items ++ v ∷ [])) w)) (slice_get w.store k)
 effect p (prim.List list.GetItem) (Given (ObjVal k) ∷ Given (IntVal i) ∷ []) w =
     of_list (λ items. item_at (place_of (length items) i) items w) (slice_get w.store k)
+effect p (prim.List list.GetItemBorrow) (Given (ObjVal k) ∷ Given (IntVal i) ∷ []) w =
+    of_list (λ items. item_at (place_of (length items) i) items w) (slice_get w.store k)
 effect p (prim.List list.SetItem) (Given (ObjVal k) ∷ Given (IntVal i) ∷ Given v ∷ []) w =
     of_list (λ items. put_at k (place_of (length items) i) items v w) (slice_get w.store k)
 effect p (prim.List list.Pop) (Given (ObjVal k) ∷ []) w =
     of_list (λ items. popped k (place_of (length items) (negsuc 0)) items w) (slice_get w.store k)
 effect p (prim.List list.Len) (Given (ObjVal k) ∷ []) w =
     of_list (λ items. Gives (IntVal (pos (counted_length (length items)))) w) (slice_get w.store k)
+effect p (prim.Dict dict.New) [] w = Gives (ObjVal (length w.store)) (with_new (DictObj []) w)
+effect p (prim.Dict dict.GetItem) (Given (ObjVal d) ∷ Given a ∷ []) w =
+    of_dict (λ pairs. of_key (λ k. value_at k (place_of_key k pairs) pairs w) (key_of_value a)) (slice_get w.store d)
+effect p (prim.Dict dict.SetItem) (Given (ObjVal d) ∷ Given a ∷ Given v ∷ []) w =
+    of_dict (λ pairs. of_key (λ k. entry_set d (place_of_key k pairs) pairs a v w) (key_of_value a)) (slice_get w.store d)
+effect p (prim.Dict dict.DelItem) (Given (ObjVal d) ∷ Given a ∷ []) w =
+    of_dict (λ pairs. of_key (λ k. entry_cut d k (place_of_key k pairs) pairs w) (key_of_value a)) (slice_get w.store d)
+effect p (prim.Dict dict.Contains) (Given (ObjVal d) ∷ Given a ∷ []) w =
+    of_dict (λ pairs. of_key (λ k. Gives (BoolVal (is_some (place_of_key k pairs))) w) (key_of_value a)) (slice_get w.store d)
+effect p (prim.Dict dict.CheckSize) (Given (ObjVal d) ∷ Given (IntVal n) ∷ []) w =
+    of_dict (λ pairs. sized (int_eq (pos (counted_length (length pairs))) n) w) (slice_get w.store d)
+effect p (prim.Dict dict.KeyAt) (Given (ObjVal d) ∷ Given (IntVal i) ∷ []) w =
+    of_dict (λ pairs. key_at pairs i w) (slice_get w.store d)
+effect p (prim.Dict dict.Len) (Given (ObjVal d) ∷ []) w =
+    of_dict (λ pairs. Gives (IntVal (pos (counted_length (length pairs)))) w) (slice_get w.store d)
 effect p (prim.Tuple tuple.Pack) all w = of_values (λ vs. packed vs w) (values_in all)
 effect p (prim.Tuple tuple.GetItem) (Given (TupleVal parts) ∷ Written (arg.Number n) ∷ []) w = part_at (listed parts) n w
+effect p (prim.Tuple tuple.GetItemBorrow) (Given (TupleVal parts) ∷ Written (arg.Number n) ∷ []) w = part_at (listed parts) n w
 effect p (prim.Tuple tuple.Len) (Given (TupleVal parts) ∷ []) w = Gives (IntVal (pos (counted_length (length (listed parts))))) w
 effect p (prim.Global global.Get) (Written (arg.Global name) ∷ []) w = got name (global_at p w name) w
 effect p (prim.Global global.Set) (Written (arg.Global name) ∷ Given v ∷ []) w =

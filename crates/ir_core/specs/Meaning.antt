@@ -3,14 +3,14 @@
 -- fitting one is strict, and stuck as well where an operation fails and what is to stand behind it does not. Of a program whose
 -- C text is well formed all three are stuck where the machine of the C text would find something of the wrong kind. Counts do
 -- nothing, but they too are stuck at an error value.
-use Rattle.std.specs.Prelude.{ℕ, zero, suc, ◌+◌, Bool, true, false, cond, ◌&&◌, nat_eq, List, [], ◌∷◌, length, Option, Some, None, slice_get, find}
+use Rattle.std.specs.Prelude.{ℕ, zero, suc, ◌+◌, Bool, true, false, cond, ◌&&◌, nat_eq, List, [], ◌∷◌, length, Option, Some, None, slice_get}
 use Rattle.std.specs.Option.{option_and_then, option_map}
-use Rattle.std.specs.Str.{bytes_eq}
 use Rattle.value_core.specs.Ending.{Ending, Done, Raised, Cut}
 use Rattle.value_core.specs.Exceptions.{Thrown}
 use Rattle.value_core.specs.Value.{Value, BoolVal, ObjVal, Object, InstObj, Store}
 use Rattle.c_core.specs.declared.code.CClass.{CClass}
 use Rattle.c_core.specs.declared.primitive.Primitive.{Primitive}
+use Rattle.c_core.specs.Functions.{method_at, trait_method_at}
 use Rattle.c_core.specs.Primitives.{row_of}
 use Rattle.ir_core.specs.declared.code.RType.{RType}
 use Rattle.ir_core.specs.declared.code.RType.TheVariants.{Int, I64, Bool as BoolType, Ref}
@@ -119,14 +119,6 @@ class_of_object _ = None
 abbrev pub class_of : Store → Value → Option ℕ
 class_of store (ObjVal k) = class_of_object (slice_get store k)
 class_of store _ = None
-
--- the functions of a class by their places: its own methods, and those that it has for a trait
-abbrev pub method_at : ℕ → CClass → Option (List ℕ)
-method_at n k = slice_get k.methods n
-
-abbrev pub trait_method_at : List ℕ → ℕ → CClass → Option (List ℕ)
-trait_method_at name n k =
-    option_and_then (λ entry. slice_get entry.1 n) (find (λ entry. bytes_eq name entry.0) k.traits)
 
 abbrev pub class_name : CClass → List ℕ
 class_name k = k.name

@@ -10,7 +10,10 @@ use Rattle.c_core.specs.declared.primitive.BoolPrim.TheVariants as bool
 use Rattle.c_core.specs.declared.primitive.ObjectPrim.TheVariants as object
 use Rattle.c_core.specs.declared.primitive.StrPrim.TheVariants as str
 use Rattle.c_core.specs.declared.primitive.ListPrim.TheVariants as list
+use Rattle.c_core.specs.declared.primitive.DictPrim.TheVariants as dict
 use Rattle.c_core.specs.declared.primitive.TuplePrim.TheVariants as tuple
+use Rattle.c_core.specs.declared.primitive.InstancePrim.TheVariants as instance
+use Rattle.c_core.specs.declared.primitive.AttrPrim.TheVariants as attr
 use Rattle.c_core.specs.declared.primitive.GlobalPrim.TheVariants as global
 use Rattle.c_core.specs.declared.primitive.ExcPrim.TheVariants as exc
 use Rattle.c_core.specs.declared.primitive.ErrPrim.TheVariants as err
@@ -80,12 +83,26 @@ failing (prim.Str str.GetItem) = MayFail
 failing (prim.List list.New) = NeverFails
 failing (prim.List list.Append) = NeverFails
 failing (prim.List list.GetItem) = MayFail
+failing (prim.List list.GetItemBorrow) = MayFail
 failing (prim.List list.SetItem) = MayFail
 failing (prim.List list.Pop) = MayFail
 failing (prim.List list.Len) = NeverFails
+failing (prim.Dict dict.New) = NeverFails
+failing (prim.Dict dict.GetItem) = MayFail
+failing (prim.Dict dict.SetItem) = NeverFails
+failing (prim.Dict dict.DelItem) = MayFail
+failing (prim.Dict dict.Contains) = NeverFails
+failing (prim.Dict dict.CheckSize) = MayFail
+failing (prim.Dict dict.KeyAt) = NeverFails
+failing (prim.Dict dict.Len) = NeverFails
 failing (prim.Tuple tuple.Pack) = NeverFails
 failing (prim.Tuple tuple.GetItem) = NeverFails
+failing (prim.Tuple tuple.GetItemBorrow) = NeverFails
 failing (prim.Tuple tuple.Len) = NeverFails
+failing (prim.Instance instance.New) = NeverFails
+failing (prim.Attr attr.Get) = MayFail
+failing (prim.Attr attr.GetBorrow) = MayFail
+failing (prim.Attr attr.Set) = NeverFails
 failing (prim.Global global.Get) = MayFail
 failing (prim.Global global.Set) = NeverFails
 failing (prim.Global global.Clear) = NeverFails

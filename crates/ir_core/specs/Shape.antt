@@ -1,7 +1,7 @@
 -- What the blocks of a program look like.
 use Rattle.std.specs.Prelude.{◌≡◌, ◌<◌, ◌⊎◌, ℕ, suc, Bool, true, false, not, ◌&&◌, nat_eq, List, [], ◌∷◌, length, Option, Some, None, IsTrue}
 use Rattle.std.specs.List.{list_any}
-use Rattle.c_core.specs.Primitives.{Outcome, Nothing, Owned, row_of}
+use Rattle.c_core.specs.Primitives.{Outcome, Nothing, Owned, Lent, row_of}
 use Rattle.c_core.specs.WellFormed.{WellFormed}
 use Rattle.ir_core.specs.declared.code.Reg.{Reg}
 use Rattle.ir_core.specs.declared.code.PArg.{PArg}
@@ -43,12 +43,14 @@ abbrev pub HandlerFits : ℕ → ℕ → Option ℕ → Type 0
 HandlerFits n k None = Unit {0}
 HandlerFits n k (Some h) = IsHigher n k h
 
--- a primitive whose row gives a result names a target, and no other one does
+-- A primitive whose row gives a result names a target, and no other one does. What is only lent goes nowhere yet: no operation that
+-- gives it fits.
 abbrev pub is_target_of : Outcome → Option Reg → Bool
 is_target_of Nothing None = true
 is_target_of Nothing (Some r) = false
 is_target_of (Owned k) None = false
 is_target_of (Owned k) (Some r) = true
+is_target_of (Lent k) to = false
 
 -- the target of an operation is none of its arguments
 abbrev pub is_register : Reg → Reg → Bool

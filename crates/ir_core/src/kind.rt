@@ -3,7 +3,9 @@ ghost use Rattle.std.specs.Prelude.{◌≡◌};
 ghost use Rattle.ir_core.specs.Rows.{error_kind, kind_by_result, edge_of_kind, type_of_reg, edge_of_op};
 
 use crate::code::{ErrorKind, Op, RType, Reg};
-use c_core::{ErrPrim, GlobalPrim, Int64Prim, IoPrim, ListPrim, Prim, StrPrim, TaggedPrim};
+use c_core::{
+    AttrPrim, DictPrim, ErrPrim, GlobalPrim, Int64Prim, IoPrim, ListPrim, Prim, StrPrim, TaggedPrim,
+};
 use value_core::Name;
 
 /// What is to stand directly behind an operation, so that its failure is seen: nothing, a test of its result, that test
@@ -36,7 +38,11 @@ pub fn kind_of(p: Prim, target: Option<RType>) -> ErrorKind
             | TaggedPrim::AsInt64,
         )
         | Prim::Str(StrPrim::GetItem)
-        | Prim::List(ListPrim::GetItem | ListPrim::SetItem | ListPrim::Pop)
+        | Prim::List(
+            ListPrim::GetItem | ListPrim::GetItemBorrow | ListPrim::SetItem | ListPrim::Pop,
+        )
+        | Prim::Dict(DictPrim::GetItem | DictPrim::DelItem | DictPrim::CheckSize)
+        | Prim::Attr(AttrPrim::Get | AttrPrim::GetBorrow)
         | Prim::Global(GlobalPrim::Get)
         | Prim::Io(IoPrim::Input) => by_result(target),
         Prim::Err(ErrPrim::SetObject | ErrPrim::Unbound) => ErrorKind::Always,

@@ -2,7 +2,7 @@
 use Rattle.std.proofs.Common.{◌≡◌, ℕ, zero, suc, ◌<◌, ◌≤◌, ◌⊎◌, Bool, true, false, List, [], ◌∷◌, length, Some, None, refl, sym, ap, ◌∙◌, inl, inr, ⊎_elim, arith, get_or, drop, take, map, ◌+◌, ◌-◌}
 use Rattle.std.specs.Prelude.{slice_get, nat_eq, min, not, ◌&&◌, ◌||◌, ◌↔◌}
 use Rattle.std.proofs.lemmas.Option.{same_Some, slice_get_within}
-use Rattle.c_core.specs.Primitives.{Outcome, Nothing, Owned, row_of}
+use Rattle.c_core.specs.Primitives.{Outcome, Nothing, Owned, Lent, row_of}
 use Rattle.ir_core.specs.declared.code.Op.{Op}
 use Rattle.ir_core.specs.declared.code.Op.TheVariants as op
 use Rattle.ir_core.specs.declared.code.Last.{Last}
@@ -101,6 +101,7 @@ written_all (y ∷ ys) (suc n) r e =
 lends_none : (o : Outcome) → lends o ≡ false
 lends_none Nothing = refl
 lends_none (Owned k) = refl
+lends_none (Lent k) = refl
 
 pub no_lent : (i : Item) → gives_lent i ≡ false
 no_lent (Do (op.Move r s)) = refl

@@ -3,7 +3,7 @@ use Rattle.std.specs.Prelude.{◌≡◌, ◌≤◌, ℕ, suc, Bool, true, false,
 use Rattle.std.specs.List.{list_any, filter_map}
 use Rattle.std.specs.Option.{option_map}
 use Rattle.c_core.specs.declared.primitive.Primitive.{Primitive}
-use Rattle.c_core.specs.Primitives.{Outcome, Nothing, Owned, row_of}
+use Rattle.c_core.specs.Primitives.{Outcome, Nothing, Owned, Lent, row_of}
 use Rattle.ir_core.specs.declared.code.Reg.{Reg}
 use Rattle.ir_core.specs.declared.code.PArg.{PArg}
 use Rattle.ir_core.specs.declared.code.PArg.TheVariants as arg
@@ -83,10 +83,12 @@ abbrev pub writes : Item → ℕ → Bool
 writes (Do o) r = is_target (write_of o) r
 writes (End l) r = false
 
--- a primitive whose result is only lent: what it is read from goes on to own it. No row has such a result yet
+-- A primitive whose result is only lent: what it is read from goes on to own it. No register is written so yet, since no operation fits
+-- whose row lends (`is_target_of` of the intermediate code), and such a row counts as one that gives a reference
 abbrev pub lends : Outcome → Bool
 lends Nothing = false
 lends (Owned k) = false
+lends (Lent k) = false
 
 abbrev pub is_lent : Primitive → Bool
 is_lent p = lends (row_of p).outcome

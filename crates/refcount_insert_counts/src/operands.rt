@@ -10,7 +10,7 @@ ghost use Rattle.refcount_insert_rule.specs.Rule.{takes_one, taken, takes};
 ghost use Rattle.refcount_insert_counts.specs.Counts as spec;
 ghost use Rattle.refcount_insert_counts.specs.Counts.{AreOnce, is_touched, steals_at};
 
-use c_core::{ErrPrim, GlobalPrim, ListPrim, Prim, TaggedPrim, TuplePrim};
+use c_core::{AttrPrim, DictPrim, ErrPrim, GlobalPrim, ListPrim, Prim, TaggedPrim, TuplePrim};
 use ir_core::{Op, PArg};
 use liveness::{register_written, registers_read};
 use std::alloc::Global;
@@ -110,6 +110,8 @@ fn steals(p: Prim, place: usize) -> bool
         Prim::Tagged(TaggedPrim::Box) => place == 0,
         Prim::List(ListPrim::Append) => place == 1,
         Prim::List(ListPrim::SetItem) => place == 2,
+        Prim::Dict(DictPrim::SetItem) => place == 1 || place == 2,
+        Prim::Attr(AttrPrim::Set) => place == 2,
         Prim::Tuple(operation) => steals_part(operation, place),
         _ => false,
     }
@@ -121,7 +123,7 @@ fn steals_part(operation: TuplePrim, place: usize) -> bool
 {
     match operation {
         TuplePrim::Pack => place < 16,
-        TuplePrim::GetItem | TuplePrim::Len => false,
+        TuplePrim::GetItem | TuplePrim::GetItemBorrow | TuplePrim::Len => false,
     }
 }
 

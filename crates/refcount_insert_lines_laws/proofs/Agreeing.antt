@@ -48,6 +48,7 @@ pub data Agrees (p : Program) (w : World) (s : MachineState) : Option RType → 
   both_wrong : (o : Option RType) (e : steps.Effect) → Agrees p w s o Wrong e
   both_say : (t : RType) (v : Value) (y : Word) → Fits s t (Holds v) y → Agrees p w s (Some t) (Gives v w) (steps.Says y)
   both_share : (t : RType) (v : Value) (y : Word) → Fits s t (Holds v) y → Agrees p w s (Some t) (Gives v w) (steps.Shares y)
+  both_lend : (t : RType) (v : Value) (y : Word) → Fits s t (Holds v) y → Agrees p w s (Some t) (Gives v w) (steps.Lends y)
   both_make : (v : Value) (x : Content) → is_object x ≡ false → ((u : MachineState) → Grows s u → IsLive u (length s.cells) x → Boxed u v (ObjectCell (length s.cells))) → Agrees p w s (Some Ref) (Gives v w) (steps.Makes x)
   both_make_object : (o : Object) (x : Content) → is_object x ≡ true → ObjectFits s o x → Agrees p w s (Some Ref) (Gives (ObjVal (length w.store)) (with_new o w)) (steps.Makes x)
   both_change : (k c : ℕ) (o : Object) (x : Content) (y : Word) (up : List ℕ) → Changing s k c o x → Agrees p w s None (Acts (with_object k o w)) (steps.Changes c x y up)
@@ -272,6 +273,7 @@ module _ (p : Program) (f : Frame) (below : List Waiting) (s : MachineState) (fu
     none_does e l gone o x y (both_wrong q z) = op_sticks _
     none_does e l gone o x y (both_say t v z fits) = op_sticks _
     none_does e l gone o x y (both_share t v z fits) = op_sticks _
+    none_does e l gone o x y (both_lend t v z fits) = op_sticks _
     none_does e l gone o x y (both_make v z other fits) = op_sticks _
     none_does e l gone o x y (both_make_object q z object fits) = op_sticks _
     none_does e l gone o x y (both_change k c q z u up a) =
@@ -354,6 +356,10 @@ module _ (p : Program) (f : Frame) (below : List Waiting) (s : MachineState) (fu
           let same : q ≡ t = cc in
           let u = is_shared l z in
           gives v w (shared z (with_ledger l s)) z u.0 u.1 (fits_grow s (shared z (with_ledger l s)) u.0.grows t (Holds v) z (subst (λ c. Fits s c (Holds v) z) same fits))
+      some_does o is x y (both_lend q v z fits) =
+          let same : q ≡ t = cc in
+          let u = as_it_is l in
+          gives v w (with_ledger l s) z u.0 u.1 (fits_grow s (with_ledger l s) u.0.grows t (Holds v) z (subst (λ c. Fits s c (Holds v) z) same fits))
       some_does o is x y (both_make v n other fits) =
           let same : Ref ≡ t = cc in
           let u : MachineState = made_noted l n in

@@ -11,7 +11,7 @@ use Rattle.c_core.specs.declared.code.CFunc.{CFunc}
 use Rattle.c_core.specs.declared.code.Code.{Code}
 use Rattle.c_core.specs.Machine.{MachineState}
 use Rattle.c_core.specs.Step.{function_of, line_at, kind_of}
-use Rattle.c_core.specs.WellFormed.{WellFormed, is_spelled, is_empty, spelled_globals, spelled_functions, names_differ, function_fits, line_fits, lines_lead_on, begins_right, kind_at, has_kind, same_kind, same_kinds}
+use Rattle.c_core.specs.WellFormed.{WellFormed, is_spelled, spelled_globals, spelled_class, spelled_functions, names_differ, classes_fit, functions_fit, function_fits, line_fits, lines_lead_on, begins_right, kind_at, has_kind, same_kind, same_kinds}
 use Rattle.c_core.specs.WellFormed as wf
 use Rattle.c_core.proofs.Lines.{and_true, all_at}
 use Rattle.ir_core.specs.declared.code.RType.{RType}
@@ -37,10 +37,12 @@ facts code formed =
     let globals : Bool = names_differ (map (λ v. v.0) code.globals) in
     let functions : Bool = names_differ (map (λ (g : CFunc). g.name) code.funcs) in
     let fit : Bool = list_all (function_fits code) code.funcs in
-    let both = and_true (is_spelled code) (globals && (functions && fit)) formed in
-    let spelled = and_true (spelled_globals code.globals) (is_empty code.classes && spelled_functions code.funcs) both.0 in
-    let some = (and_true (is_empty code.classes) (spelled_functions code.funcs) spelled.1).1 in
-    let last = and_true functions fit (and_true globals (functions && fit) both.1).1 in
+    let rest : Bool = classes_fit code && functions_fit code in
+    let both = and_true (is_spelled code) (globals && rest) formed in
+    let classes : Bool = list_all spelled_class code.classes in
+    let spelled = and_true (spelled_globals code.globals) (classes && spelled_functions code.funcs) both.0 in
+    let some = (and_true classes (spelled_functions code.funcs) spelled.1).1 in
+    let last = and_true functions fit (and_true (classes_fit code) (functions_fit code) (and_true globals rest both.1).1).1 in
     record { fits = last.1; names = last.0; spelled = some }
 
 -- each line of a function fits

@@ -13,7 +13,7 @@ use Rattle.ir_core.specs.declared.code.Program.{Program}
 use Rattle.ir_core.specs.Registers.{Held, Holds, Regs}
 use Rattle.ir_core.specs.Rows.{Declared}
 use Rattle.ir_core.specs.Effects.{World}
-use Rattle.refcount_insert_lines_laws.specs.Matching.{Boxed, PartsBoxed, AllBoxed, ObjectFits, ObjectAt, StoreFits, Fits, tagged_error, short, big, native, char_error, char_true, char_false, no_object, boxed, RegsFit, GlobalsFit, PendingFits, Keeps, Grows, WorldFits}
+use Rattle.refcount_insert_lines_laws.specs.Matching.{Boxed, PartsBoxed, AllBoxed, PairsBoxed, ObjectFits, ObjectAt, StoreFits, Fits, tagged_error, short, big, native, char_error, char_true, char_false, no_object, boxed, RegsFit, GlobalsFit, PendingFits, Keeps, Grows, WorldFits}
 use Rattle.refcount_insert_lines_laws.proofs.ListLemmas.{size_set, get_set_same, get_set_other, get_first, get_last, OldOrLast, is_old, is_last, old_or_last, get_within, taken_same, made_old, made_new, cell_within, refilled_same, refilled_other}
 
 -- ---- states that keep all contents
@@ -112,6 +112,12 @@ module _ (s t : MachineState) (grows : Grows s t) where
   all_grow (v ∷ vs) [] m = absurd m
   all_grow (v ∷ vs) (y ∷ ys) m = (boxed_grows v y m.0, all_grow vs ys m.1)
 
+  pub pairs_grow : (ps : List (Value × Value)) (qs : List (Word × Word)) → PairsBoxed s ps qs → PairsBoxed t ps qs
+  pairs_grow [] [] m = tt
+  pairs_grow [] (q ∷ qs) m = absurd m
+  pairs_grow (p ∷ ps) [] m = absurd m
+  pairs_grow (p ∷ ps) (q ∷ qs) m = (boxed_grows p.0 q.0 m.0, boxed_grows p.1 q.1 m.1, pairs_grow ps qs m.2)
+
   pub object_grows : (o : Object) (x : Content) → ObjectFits s o x → ObjectFits t o x
   object_grows (ListObj items) (ListCell words) m = all_grow items words m
   object_grows (ListObj items) (IntCell n) m = absurd m
@@ -120,7 +126,13 @@ module _ (s t : MachineState) (grows : Grows s t) where
   object_grows (ListObj items) (TupleCell n) m = absurd m
   object_grows (ListObj items) (InstCell n a) m = absurd m
   object_grows (ListObj items) (ExcCell n) m = absurd m
-  object_grows (DictObj pairs) x m = absurd m
+  object_grows (DictObj pairs) (DictCell words) m = pairs_grow pairs words m
+  object_grows (DictObj pairs) (IntCell n) m = absurd m
+  object_grows (DictObj pairs) (StrCell n) m = absurd m
+  object_grows (DictObj pairs) (ListCell n) m = absurd m
+  object_grows (DictObj pairs) (TupleCell n) m = absurd m
+  object_grows (DictObj pairs) (InstCell n a) m = absurd m
+  object_grows (DictObj pairs) (ExcCell n) m = absurd m
   object_grows (InstObj class attributes) x m = absurd m
 
   pub fits_grow : (u : RType) (h : Held) (y : Word) → Fits s u h y → Fits t u h y

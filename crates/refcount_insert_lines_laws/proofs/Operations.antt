@@ -46,10 +46,10 @@ use Rattle.refcount_insert_lines_laws.proofs.Words.{there_is, literal_fits}
 use Rattle.refcount_insert_lines_laws.proofs.Facts.{fits_here, kind_here, registers_here, type_here, same_types, literal_type, has_type}
 use Rattle.refcount_insert_lines_laws.proofs.Reading.{AllMeet, no_more, one_more, writes_global, are_read, first_then, reading, variable_reads, at_cell, word_read, object_reads, read_stolen}
 use Rattle.refcount_insert_lines_laws.proofs.Agreeing.{Agrees, IsTarget, sticks, stayed, wrote, effects_do}
-use Rattle.refcount_insert_lines_laws.proofs.Rows.{answer_of, is_global, agree}
+use Rattle.refcount_insert_lines_laws.proofs.Rows.{answer_of, stands_elsewhere, agree}
 use Rattle.refcount_insert_lines_laws.proofs.Refusing.{refused}
 use Rattle.refcount_insert_lines_laws.proofs.Globals.{the_global, kind_is_there, get_row, clear_row, set_row}
-use Rattle.refcount_insert_lines_laws.proofs.RowFacts.{read_row, has_kinds, target_is, one_global, global_and_stolen}
+use Rattle.refcount_insert_lines_laws.proofs.RowFacts.{read_row, has_kinds, answer_is, target_is, one_global, global_and_stolen}
 
 module _ (p : Program) (code : Code) (heads : HasHeads p code) (formed : WellFormed code) (f : Frame) (below : List Waiting) (w : World) (s : MachineState) (a : RunsIn p f w s) where
   abbrev D : Next → Config → Type 0
@@ -171,7 +171,7 @@ module _ (p : Program) (code : Code) (heads : HasHeads p code) (formed : WellFor
     -- what comes behind the arguments
     abbrev by_text : List machines.Argument → Ledger → Next
     by_text ys l =
-        steps.applied false s into l (stolen (row_of q).parameters ys) (steps.effect code s q ys)
+        if_true false s (steps.answer_fits code s.top (row_of q).outcome into ys) (steps.applied false s into l (stolen (row_of q).parameters ys) (steps.effect code s q ys))
 
     abbrev by_program : List Argument → Config
     by_program xs =
@@ -186,19 +186,28 @@ module _ (p : Program) (code : Code) (heads : HasHeads p code) (formed : WellFor
         by_both _ _ _ _ (ap (call_step false s code into (row_of q).name cargs) (primitive_found q)) refl (stands_by q _ _ h (row_of q).while_pending refl w.pending refl s.pending refl a.world.pending)
 
     -- a row that is read as every other
-    by_row : (o : Option RType) → IsTarget a.func.regs o to → are_read (row_of q).parameters ≡ true → ((vs : List Argument) (ys : List machines.Argument) → AllMeet w s code (row_of q).parameters vs ys → Agrees p w s o (program.effect p q vs w) (steps.effect code s q ys)) → Called
-    by_row o target read row =
-        called (reading D S code w s a.world.store declared a.func.regs f.regs regs_are a.regs cargs (row_of q).parameters args read parts.0 [] s.top.ledger by_text by_program (λ vs ys m meet. effects_do p f below s a.func a.there a.regs w a.world (edge_of_prim declared to q) o to target m (stolen (row_of q).parameters ys) (program.effect p q vs w) (steps.effect code s q ys) (row vs ys meet)) (λ vs r. ap (applied Fitting p (edge_of_prim declared to q) to f below) (refused p w q vs r)))
+    by_row : (o : Option RType) → IsTarget a.func.regs o to → are_read (row_of q).parameters ≡ true → ((ys : List machines.Argument) → steps.answer_fits code s.top (row_of q).outcome into ys ≡ true) → ((vs : List Argument) (ys : List machines.Argument) → AllMeet w s code (row_of q).parameters vs ys → Agrees p w s o (program.effect p q vs w) (steps.effect code s q ys)) → Called
+    by_row o target read fitting row =
+        called (reading D S code w s a.world.store declared a.func.regs f.regs regs_are a.regs cargs (row_of q).parameters args read parts.0 [] s.top.ledger by_text by_program (λ vs ys m meet. subst (λ b. D (if_true false s b (steps.applied false s into m (stolen (row_of q).parameters ys) (steps.effect code s q ys))) (by_program vs)) (sym (fitting ys)) (effects_do p f below s a.func a.there a.regs w a.world (edge_of_prim declared to q) o to target m (stolen (row_of q).parameters ys) (program.effect p q vs w) (steps.effect code s q ys) (row vs ys meet))) (λ vs r. ap (applied Fitting p (edge_of_prim declared to q) to f below) (refused p w q vs r)))
 
-    plain_does : is_global q ≡ false → Called
+    plain_does : stands_elsewhere q ≡ false → Called
     plain_does other =
         let both = and_true (are_read (row_of q).parameters) (has_kinds (row_of q).outcome) (read_row q other) in
-        by_row (answer_of (row_of q).outcome) (target_is code a.func.regs cargs (row_of q).outcome to both.1 parts.1) both.0 (agree p code w s a.world q other)
+        by_row (answer_of (row_of q).outcome) (target_is code a.func.regs cargs (row_of q).outcome to both.1 parts.1) both.0 (λ ys. answer_is code s.top (row_of q).outcome into ys both.1) (agree p code w s a.world q other)
+
+    -- a row that is wrong whatever it is given
+    wrong_does : ((xs : List Argument) → program.effect p q xs w ≡ program.Wrong) → Called
+    wrong_does wrong = S _ _ (by (may_stand w.pending q) (arguments declared f.regs args))
+      where
+        by : (b : Bool) (o : Option (List Argument)) → cond b (meaning.if_some o by_program) Stuck ≡ Stuck
+        by true None = refl
+        by true (Some xs) = ap (applied Fitting p (edge_of_prim declared to q) to f below) (wrong xs)
+        by false o = refl
 
   -- ---- globals
   clear_does : (to : Option Reg) (args : List PArg) → line_at code s.top ≡ Some (line_of p (Prim to (prim.Global global.Clear) args)) → D (step_at false code s (Some (line_of p (Prim to (prim.Global global.Clear) args)))) (do_op Fitting p (Prim to (prim.Global global.Clear) args) f below w)
   clear_does to args is =
-      by_row to (prim.Global global.Clear) args is None (target_is code a.func.regs (map argument_in args) Nothing to refl (parts to (prim.Global global.Clear) args is).1) refl row
+      by_row to (prim.Global global.Clear) args is None (target_is code a.func.regs (map argument_in args) Nothing to refl (parts to (prim.Global global.Clear) args is).1) refl (λ ys. refl) row
     where
       row : (vs : List Argument) (ys : List machines.Argument) → AllMeet w s code (TakesGlobal ∷ []) vs ys → Agrees p w s None (program.effect p (prim.Global global.Clear) vs w) (steps.effect code s (prim.Global global.Clear) ys)
       row vs ys (one_more (writes_global name known) no_more) = clear_row p code heads.globals w s a.world name known
@@ -273,6 +282,9 @@ module _ (p : Program) (code : Code) (heads : HasHeads p code) (formed : WellFor
   prim_does to (prim.Object q) args is = plain_does to (prim.Object q) args is refl
   prim_does to (prim.Str q) args is = plain_does to (prim.Str q) args is refl
   prim_does to (prim.List q) args is = plain_does to (prim.List q) args is refl
+  prim_does to (prim.Dict q) args is = plain_does to (prim.Dict q) args is refl
+  prim_does to (prim.Instance q) args is = wrong_does to (prim.Instance q) args is (λ xs. refl)
+  prim_does to (prim.Attr q) args is = wrong_does to (prim.Attr q) args is (λ xs. refl)
   prim_does to (prim.Tuple q) args is = plain_does to (prim.Tuple q) args is refl
   prim_does to (prim.Exc q) args is = plain_does to (prim.Exc q) args is refl
   prim_does to (prim.Err q) args is = plain_does to (prim.Err q) args is refl

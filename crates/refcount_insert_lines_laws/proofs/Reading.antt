@@ -11,10 +11,11 @@ use Rattle.c_core.specs.declared.code.CArg.TheVariants as c_arg
 use Rattle.c_core.specs.declared.code.Code.{Code}
 use Rattle.c_core.specs.declared.fault.Fault.TheVariants as fault
 use Rattle.c_core.specs.Cells.{content_at}
+use Rattle.c_core.specs.Keys.{Key, key_in, key_of}
 use Rattle.c_core.specs.Ledgers.{Ledger, without}
 use Rattle.c_core.specs.Machine.{Word, ShortInt, Native, ObjectCell, NoneObject, TrueObject, FalseObject, IntCell, StrCell, ListCell, DictCell, TupleCell, InstCell, ExcCell, Content, MachineState}
-use Rattle.c_core.specs.Primitives.{KindAt, Is, Holding, Anything, ANumber, AText, AnException, AList, ATuple, Parameter, Borrows, Steals, MaySteal, TakesNumber, TakesText, TakesException, TakesGlobal, TakesClass, may_end}
-use Rattle.c_core.specs.Arguments.{Cell, Plain, is_value_of, is_holding, int_in, kind_of_global, word_in}
+use Rattle.c_core.specs.Primitives.{KindAt, Is, Holding, Anything, ANumber, AText, AnException, AList, ATuple, ADict, AKey, AnInstance, Parameter, Borrows, Steals, MaySteal, TakesNumber, TakesPlace, TakesText, TakesDecimal, TakesException, TakesGlobal, TakesClass, may_end}
+use Rattle.c_core.specs.Arguments.{Cell, Plain, is_value_of, is_holding, int_in, key_as, kind_of_global, word_in}
 use Rattle.c_core.specs.Arguments as machines
 use Rattle.c_core.specs.Stands.{IsLive}
 use Rattle.c_core.specs.Step.{Next, if_true, if_there, if_variable, if_argument, if_arguments, truth_word}
@@ -28,11 +29,11 @@ use Rattle.ir_core.specs.declared.code.PArg.{PArg}
 use Rattle.ir_core.specs.declared.code.PArg.TheVariants as arg
 use Rattle.ir_core.specs.Registers.{Held, Unset, Holds, Regs}
 use Rattle.ir_core.specs.Rows.{Declared, type_of_reg}
-use Rattle.ir_core.specs.Effects.{World, Argument, Given, Written}
+use Rattle.ir_core.specs.Effects.{World, Argument, Given, Written, key_of_value}
 use Rattle.ir_core.specs.Meaning.{Config, Stuck, value_of, argument, arguments}
 use Rattle.ir_core.specs.Meaning as meaning
 use Rattle.ir_core.specs.Lower.{kind_of_type, variable_of, argument_in}
-use Rattle.refcount_insert_lines_laws.specs.Matching.{Boxed, PartsBoxed, AllBoxed, ObjectFits, ObjectAt, StoreFits, Fits, short, big, native, char_true, char_false, boxed, RegsFit}
+use Rattle.refcount_insert_lines_laws.specs.Matching.{Boxed, PartsBoxed, AllBoxed, PairsBoxed, ObjectFits, ObjectAt, StoreFits, Fits, short, big, native, char_true, char_false, boxed, RegsFit}
 use Rattle.refcount_insert_lines_laws.specs.Matching.{truth_object}
 use Rattle.refcount_insert_lines_laws.proofs.ListLemmas.{get_within}
 use Rattle.refcount_insert_lines_laws.proofs.Words.{value_word}
@@ -61,8 +62,12 @@ pub data Meets (w : World) (s : MachineState) (code : Code) : Parameter → Argu
   is_stolen : (e : Thrown) (c : ℕ) → IsLive s c (ExcCell e) → Meets w s code (Steals (Is ObjectKind) AnException) (Given (ExcVal e)) (Cell c (ExcCell e))
   is_list : (k c : ℕ) (items : List Value) (words : List Word) → slice_get w.store k ≡ Some (ListObj items) → slice_get s.made k ≡ Some c → IsLive s c (ListCell words) → AllBoxed s items words → Meets w s code (Borrows (Is ObjectKind) AList) (Given (ObjVal k)) (Cell c (ListCell words))
   is_tuple : (parts : _) (c : ℕ) (words : List Word) → PartsBoxed s parts words → Meets w s code (Borrows (Is ObjectKind) ATuple) (Given (TupleVal parts)) (Cell c (TupleCell words))
+  is_dict : (k c : ℕ) (pairs : List (Value × Value)) (words : List (Word × Word)) → slice_get w.store k ≡ Some (DictObj pairs) → slice_get s.made k ≡ Some c → IsLive s c (DictCell words) → PairsBoxed s pairs words → Meets w s code (Borrows (Is ObjectKind) ADict) (Given (ObjVal k)) (Cell c (DictCell words))
+  is_a_key : (v : Value) (y : Word) (a : machines.Argument) (k : Key) → Boxed s v y → key_of_value v ≡ Some k → key_as a ≡ Some k → Meets w s code (Borrows (Is ObjectKind) AKey) (Given v) a
+  owns_key : (v : Value) (y : Word) (a : machines.Argument) (k : Key) → Boxed s v y → key_of_value v ≡ Some k → key_as a ≡ Some k → word_in ObjectKind a ≡ Some y → Meets w s code (Steals (Is ObjectKind) AKey) (Given v) a
   writes_number : (n : ℤ) → Meets w s code TakesNumber (Written (arg.Number n)) (machines.Written (c_arg.Number n))
   writes_text : (t : List ℕ) → Meets w s code TakesText (Written (arg.Text t)) (machines.Written (c_arg.Text t))
+  writes_decimal : (t : List ℕ) → Meets w s code TakesDecimal (Written (arg.Text t)) (machines.Written (c_arg.Text t))
   writes_exception : (t : List ℕ) → Meets w s code TakesException (Written (arg.Text t)) (machines.Written (c_arg.Text t))
   writes_global : (name : List ℕ) → is_some (kind_of_global code name) ≡ true → Meets w s code TakesGlobal (Written (arg.Global name)) (machines.Written (c_arg.Global name))
 
@@ -76,6 +81,10 @@ abbrev pub is_list_object : Option Object → Bool
 is_list_object (Some (ListObj items)) = true
 is_list_object _ = false
 
+abbrev pub is_dict_object : Option Object → Bool
+is_dict_object (Some (DictObj pairs)) = true
+is_dict_object _ = false
+
 abbrev pub suits : World → Holding → Value → Bool
 suits w Anything v = true
 suits w ANumber (IntVal n) = true
@@ -88,6 +97,10 @@ suits w AList (ObjVal k) = is_list_object (slice_get w.store k)
 suits w AList _ = false
 suits w ATuple (TupleVal parts) = true
 suits w ATuple _ = false
+suits w ADict (ObjVal k) = is_dict_object (slice_get w.store k)
+suits w ADict _ = false
+suits w AKey v = is_some (key_of_value v)
+suits w AnInstance v = false
 
 abbrev pub suited : World → Parameter → Argument → Bool
 suited w (Borrows k h) (Given v) = suits w h v
@@ -115,8 +128,12 @@ meets_suits w s code q v a (is_exception e c) = refl
 meets_suits w s code q v a (is_stolen e c live) = refl
 meets_suits w s code q v a (is_list k c items words at made live m) = ap is_list_object at
 meets_suits w s code q v a (is_tuple parts c words m) = refl
+meets_suits w s code q v a (is_dict k c pairs words at made live m) = ap is_dict_object at
+meets_suits w s code q v a (is_a_key u y x k m has found) = ap is_some has
+meets_suits w s code q v a (owns_key u y x k m has found e) = ap is_some has
 meets_suits w s code q v a (writes_number n) = refl
 meets_suits w s code q v a (writes_text t) = refl
+meets_suits w s code q v a (writes_decimal t) = refl
 meets_suits w s code q v a (writes_exception t) = refl
 meets_suits w s code q v a (writes_global name known) = refl
 
@@ -128,10 +145,12 @@ is_read (Borrows (Is Tagged) ANumber) = true
 is_read (Steals (Is Tagged) ANumber) = true
 is_read (Borrows (Is ObjectKind) h) = true
 is_read (Steals (Is ObjectKind) AnException) = true
+is_read (Steals (Is ObjectKind) AKey) = true
 is_read (Steals (Is ObjectKind) Anything) = true
 is_read (MaySteal (Is ObjectKind) Anything) = true
 is_read TakesNumber = true
 is_read TakesText = true
+is_read TakesDecimal = true
 is_read TakesException = true
 is_read TakesGlobal = true
 is_read _ = false
@@ -153,17 +172,26 @@ module _ (w : World) (s : MachineState) (store : StoreFits s w.store) where
       let content : at.content ≡ x = cc in
       (o.0, o.1, subst (ObjectFits s o.0) content at.fits)
 
-  list_only : (o : Object) (x : Content) → ObjectFits s o x → (h : Holding) (k c : ℕ) → slice_get w.store k ≡ Some o → is_holding h (Cell c x) ≡ suits w h (ObjVal k)
-  list_only (ListObj items) (ListCell words) m AList k c e = ap is_list_object (sym e)
-  list_only (ListObj items) (ListCell words) m _ k c e = refl
-  list_only (ListObj items) (IntCell n) m h k c e = absurd m
-  list_only (ListObj items) (StrCell n) m h k c e = absurd m
-  list_only (ListObj items) (DictCell n) m h k c e = absurd m
-  list_only (ListObj items) (TupleCell n) m h k c e = absurd m
-  list_only (ListObj items) (InstCell n a) m h k c e = absurd m
-  list_only (ListObj items) (ExcCell n) m h k c e = absurd m
-  list_only (DictObj pairs) x m h k c e = absurd m
-  list_only (InstObj class attributes) x m h k c e = absurd m
+  object_holds : (o : Object) (x : Content) → ObjectFits s o x → (h : Holding) (k c : ℕ) → slice_get w.store k ≡ Some o → is_holding h (Cell c x) ≡ suits w h (ObjVal k)
+  object_holds (ListObj items) (ListCell words) m AList k c e = ap is_list_object (sym e)
+  object_holds (ListObj items) (ListCell words) m ADict k c e = ap is_dict_object (sym e)
+  object_holds (ListObj items) (ListCell words) m _ k c e = refl
+  object_holds (ListObj items) (IntCell n) m h k c e = absurd m
+  object_holds (ListObj items) (StrCell n) m h k c e = absurd m
+  object_holds (ListObj items) (DictCell n) m h k c e = absurd m
+  object_holds (ListObj items) (TupleCell n) m h k c e = absurd m
+  object_holds (ListObj items) (InstCell n a) m h k c e = absurd m
+  object_holds (ListObj items) (ExcCell n) m h k c e = absurd m
+  object_holds (DictObj pairs) (DictCell words) m AList k c e = ap is_list_object (sym e)
+  object_holds (DictObj pairs) (DictCell words) m ADict k c e = ap is_dict_object (sym e)
+  object_holds (DictObj pairs) (DictCell words) m _ k c e = refl
+  object_holds (DictObj pairs) (IntCell n) m h k c e = absurd m
+  object_holds (DictObj pairs) (StrCell n) m h k c e = absurd m
+  object_holds (DictObj pairs) (ListCell n) m h k c e = absurd m
+  object_holds (DictObj pairs) (TupleCell n) m h k c e = absurd m
+  object_holds (DictObj pairs) (InstCell n a) m h k c e = absurd m
+  object_holds (DictObj pairs) (ExcCell n) m h k c e = absurd m
+  object_holds (InstObj class attributes) x m h k c e = absurd m
 
   int_holds : (h : Holding) (n : ℤ) (c : ℕ) → is_holding h (Cell c (IntCell n)) ≡ suits w h (IntVal n)
   int_holds ANumber n c = refl
@@ -214,7 +242,7 @@ module _ (w : World) (s : MachineState) (store : StoreFits s w.store) where
       record { a = Cell m.0 (ExcCell e); read = subst (λ z. IsRead s z (Cell m.0 (ExcCell e))) (sym m.1) (read_cell m.0 _ m.2); holds = λ h. exception_holds h e m.0 }
   found (ObjVal k) y m =
       let o = object_content k m.0 m.3.0 m.2 m.3.1 in
-      record { a = Cell m.0 m.3.0; read = subst (λ z. IsRead s z (Cell m.0 m.3.0)) (sym m.1) (read_cell m.0 _ m.3.1); holds = λ h. list_only o.0 m.3.0 o.2 h k m.0 o.1 }
+      record { a = Cell m.0 m.3.0; read = subst (λ z. IsRead s z (Cell m.0 m.3.0)) (sym m.1) (read_cell m.0 _ m.3.1); holds = λ h. object_holds o.0 m.3.0 o.2 h k m.0 o.1 }
 
   pub word_read : (y : Word) (a : machines.Argument) → IsRead s y a → word_in ObjectKind a ≡ Some y
   word_read y a read_none = refl
@@ -232,6 +260,46 @@ module _ (w : World) (s : MachineState) (store : StoreFits s w.store) where
       let both : Some u ≡ Some x = sym at ∙ (ap (content_at s.cells) same ∙ live) in
       let content : u ≡ x = cc in
       ap (λ i. Cell i u) same ∙ ap (Cell c) content
+
+  -- an object is no key, and the key that a word is is that of its value
+  no_key : (o : Object) (x : Content) → ObjectFits s o x → key_in x ≡ None
+  no_key (ListObj items) (ListCell words) m = refl
+  no_key (ListObj items) (IntCell n) m = absurd m
+  no_key (ListObj items) (StrCell n) m = absurd m
+  no_key (ListObj items) (DictCell n) m = absurd m
+  no_key (ListObj items) (TupleCell n) m = absurd m
+  no_key (ListObj items) (InstCell n a) m = absurd m
+  no_key (ListObj items) (ExcCell n) m = absurd m
+  no_key (DictObj pairs) (DictCell words) m = refl
+  no_key (DictObj pairs) (IntCell n) m = absurd m
+  no_key (DictObj pairs) (StrCell n) m = absurd m
+  no_key (DictObj pairs) (ListCell n) m = absurd m
+  no_key (DictObj pairs) (TupleCell n) m = absurd m
+  no_key (DictObj pairs) (InstCell n a) m = absurd m
+  no_key (DictObj pairs) (ExcCell n) m = absurd m
+  no_key (InstObj class attributes) x m = absurd m
+
+  pub word_key : (v : Value) (y : Word) → Boxed s v y → key_of s.cells y ≡ key_of_value v
+  word_key (IntVal n) y m = ap (key_of s.cells) m.1 ∙ ap (option_and_then key_in) m.2
+  word_key (BoolVal true) y m = ap (key_of s.cells) m
+  word_key (BoolVal false) y m = ap (key_of s.cells) m
+  word_key NoneVal y m = ap (key_of s.cells) m
+  word_key (StrVal t) y m = ap (key_of s.cells) m.1 ∙ ap (option_and_then key_in) m.2
+  word_key (TupleVal parts) y m = ap (key_of s.cells) m.1 ∙ ap (option_and_then key_in) m.2.1
+  word_key (ExcVal e) y m = ap (key_of s.cells) m.1 ∙ ap (option_and_then key_in) m.2
+  word_key (ObjVal k) y m =
+      let o = object_content k m.0 m.3.0 m.2 m.3.1 in
+      ap (key_of s.cells) m.1 ∙ (ap (option_and_then key_in) m.3.1 ∙ no_key o.0 m.3.0 o.2)
+
+  key_read : (y : Word) (a : machines.Argument) → IsRead s y a → key_as a ≡ key_of s.cells y
+  key_read y a read_none = refl
+  key_read y a read_true = refl
+  key_read y a read_false = refl
+  key_read y a (read_cell c x live) = sym (ap (option_and_then key_in) live)
+
+  some_key : (o : Option Key) → is_some o ≡ true → (k : Key) × (o ≡ Some k)
+  some_key None e = absurd (cc)
+  some_key (Some k) e = (k, refl)
 
   -- what is asked for is met
   module _ (code : Code) where
@@ -281,7 +349,7 @@ module _ (w : World) (s : MachineState) (store : StoreFits s w.store) where
     list_by k c (ListObj items) (TupleCell n) at made live m e = absurd m
     list_by k c (ListObj items) (InstCell n b) at made live m e = absurd m
     list_by k c (ListObj items) (ExcCell n) at made live m e = absurd m
-    list_by k c (DictObj pairs) x at made live m e = absurd m
+    list_by k c (DictObj pairs) x at made live m e = absurd (cc)
     list_by k c (InstObj class attributes) x at made live m e = absurd m
 
     list_meets : (v : Value) (y : Word) (a : machines.Argument) → Boxed s v y → IsRead s y a → suits w AList v ≡ true → Meets w s code (Borrows (Is ObjectKind) AList) (Given v) a
@@ -295,6 +363,34 @@ module _ (w : World) (s : MachineState) (store : StoreFits s w.store) where
     list_meets (TupleVal parts) y a m r e = absurd (cc)
     list_meets (ExcVal x) y a m r e = absurd (cc)
 
+    dict_by : (k c : ℕ) (o : Object) (x : Content) → slice_get w.store k ≡ Some o → slice_get s.made k ≡ Some c → IsLive s c x → ObjectFits s o x → is_dict_object (Some o) ≡ true → Meets w s code (Borrows (Is ObjectKind) ADict) (Given (ObjVal k)) (Cell c x)
+    dict_by k c (DictObj pairs) (DictCell words) at made live m e = is_dict k c pairs words at made live m
+    dict_by k c (DictObj pairs) (IntCell n) at made live m e = absurd m
+    dict_by k c (DictObj pairs) (StrCell n) at made live m e = absurd m
+    dict_by k c (DictObj pairs) (ListCell n) at made live m e = absurd m
+    dict_by k c (DictObj pairs) (TupleCell n) at made live m e = absurd m
+    dict_by k c (DictObj pairs) (InstCell n b) at made live m e = absurd m
+    dict_by k c (DictObj pairs) (ExcCell n) at made live m e = absurd m
+    dict_by k c (ListObj items) x at made live m e = absurd (cc)
+    dict_by k c (InstObj class attributes) x at made live m e = absurd m
+
+    dict_meets : (v : Value) (y : Word) (a : machines.Argument) → Boxed s v y → IsRead s y a → suits w ADict v ≡ true → Meets w s code (Borrows (Is ObjectKind) ADict) (Given v) a
+    dict_meets (ObjVal k) y a m r e =
+        let o = object_content k m.0 m.3.0 m.2 m.3.1 in
+        subst (Meets w s code (Borrows (Is ObjectKind) ADict) (Given (ObjVal k))) (sym (cell_is m.0 m.3.0 a y m.1 m.3.1 r)) (dict_by k m.0 o.0 m.3.0 o.1 m.2 m.3.1 o.2 (ap is_dict_object (sym o.1) ∙ e))
+    dict_meets (IntVal n) y a m r e = absurd (cc)
+    dict_meets (BoolVal b) y a m r e = absurd (cc)
+    dict_meets NoneVal y a m r e = absurd (cc)
+    dict_meets (StrVal t) y a m r e = absurd (cc)
+    dict_meets (TupleVal parts) y a m r e = absurd (cc)
+    dict_meets (ExcVal x) y a m r e = absurd (cc)
+
+    key_meets : (v : Value) (y : Word) (a : machines.Argument) → Boxed s v y → IsRead s y a → suits w AKey v ≡ true → Meets w s code (Borrows (Is ObjectKind) AKey) (Given v) a × Meets w s code (Steals (Is ObjectKind) AKey) (Given v) a
+    key_meets v y a m r e =
+        let k = some_key (key_of_value v) e in
+        let same : key_as a ≡ Some k.0 = key_read y a r ∙ (word_key v y m ∙ k.1) in
+        (is_a_key v y a k.0 m k.1 same, owns_key v y a k.0 m k.1 same (word_read y a r))
+
     pub held_meets : (h : Holding) (v : Value) (y : Word) (a : machines.Argument) → Boxed s v y → IsRead s y a → suits w h v ≡ true → Meets w s code (Borrows (Is ObjectKind) h) (Given v) a
     held_meets Anything v y a m r e = is_any v y a m r
     held_meets ANumber v y a m r e = box_meets v y a m r e
@@ -302,6 +398,9 @@ module _ (w : World) (s : MachineState) (store : StoreFits s w.store) where
     held_meets AnException v y a m r e = (exception_meets v y a m r e).0
     held_meets AList v y a m r e = list_meets v y a m r e
     held_meets ATuple v y a m r e = tuple_meets v y a m r e
+    held_meets ADict v y a m r e = dict_meets v y a m r e
+    held_meets AKey v y a m r e = (key_meets v y a m r e).0
+    held_meets AnInstance v y a m r e = absurd (cc)
 
 -- ---- by the program
 module _ (declared : Declared) (regs : Regs) where
@@ -418,6 +517,11 @@ module _ (P : Next → Config → Type 0) (stuck : (n : Next) (c : Config) → c
       (λ v y. object_reads AnException (λ x. steps.if_stolen false s x l (go x)) k v y
       (λ x m read e. let z = read_stolen y x read l (go x) in to_both _ _ _ _ z.1 refl (more _ x z.0 (exception_meets w s store code v y x m read e).1))
       (not (Given v)))
+  argument_reads all (Steals (Is ObjectKind) AKey) (arg.Var r) is fits earlier l go k more not =
+      variable_reads Ref AKey r fits (λ x. steps.if_stolen false s x l (go x)) k
+      (λ v y. object_reads AKey (λ x. steps.if_stolen false s x l (go x)) k v y
+      (λ x m read e. let z = read_stolen y x read l (go x) in to_both _ _ _ _ z.1 refl (more _ x z.0 (key_meets w s store code v y x m read e).1))
+      (not (Given v)))
   argument_reads all (Steals (Is ObjectKind) Anything) (arg.Var r) is fits earlier l go k more not =
       variable_reads Ref Anything r fits (λ x. steps.if_stolen false s x l (go x)) k
       (λ v y. object_reads Anything (λ x. steps.if_stolen false s x l (go x)) k v y
@@ -430,6 +534,7 @@ module _ (P : Next → Config → Type 0) (stuck : (n : Next) (c : Config) → c
       (not (Given v)))
   argument_reads all TakesNumber (arg.Number n) is fits earlier l go k more not = more _ _ l (writes_number n)
   argument_reads all TakesText (arg.Text t) is fits earlier l go k more not = more _ _ l (writes_text t)
+  argument_reads all TakesDecimal (arg.Text t) is fits earlier l go k more not = more _ _ l (writes_decimal t)
   argument_reads all TakesException (arg.Text t) is fits earlier l go k more not = more _ _ l (writes_exception t)
   argument_reads all TakesGlobal (arg.Global name) is fits earlier l go k more not = more _ _ l (writes_global name fits)
   argument_reads all q x is fits earlier l go k more not = absurd (cc)
@@ -440,7 +545,9 @@ module _ (P : Next → Config → Type 0) (stuck : (n : Next) (c : Config) → c
   may_stop (Borrows k h) qs e = absurd (cc)
   may_stop (Steals k h) qs e = absurd (cc)
   may_stop TakesNumber qs e = absurd (cc)
+  may_stop TakesPlace qs e = absurd (cc)
   may_stop TakesText qs e = absurd (cc)
+  may_stop TakesDecimal qs e = absurd (cc)
   may_stop TakesException qs e = absurd (cc)
   may_stop TakesGlobal qs e = absurd (cc)
   may_stop TakesClass qs e = absurd (cc)

@@ -1,6 +1,6 @@
 -- A primitive whose argument is not what its row asks for is called wrongly.
 use Rattle.std.proofs.Common.{◌≡◌, refl, sym, ◌∙◌, ℕ, zero, suc, replicate, true, false, ◌&&◌, List, [], ◌∷◌, Option, Some, None}
-use Rattle.std.specs.Prelude.{slice_get}
+use Rattle.std.specs.Prelude.{slice_get, is_some}
 use Rattle.value_core.specs.Value.{Value, IntVal, BoolVal, NoneVal, StrVal, TupleVal, ExcVal, ObjVal, Object as StoreObject, ListObj, DictObj, InstObj}
 use Rattle.c_core.specs.declared.primitive.Primitive.{Primitive}
 use Rattle.c_core.specs.declared.primitive.Primitive.TheVariants as prim
@@ -10,17 +10,19 @@ use Rattle.c_core.specs.declared.primitive.BoolPrim.TheVariants as bool
 use Rattle.c_core.specs.declared.primitive.ObjectPrim.TheVariants as object
 use Rattle.c_core.specs.declared.primitive.StrPrim.TheVariants as str
 use Rattle.c_core.specs.declared.primitive.ListPrim.TheVariants as list
+use Rattle.c_core.specs.declared.primitive.DictPrim.TheVariants as dict
 use Rattle.c_core.specs.declared.primitive.TuplePrim.TheVariants as tuple
 use Rattle.c_core.specs.declared.primitive.GlobalPrim.TheVariants as global
 use Rattle.c_core.specs.declared.primitive.ExcPrim.TheVariants as exc
 use Rattle.c_core.specs.declared.primitive.ErrPrim.TheVariants as err
 use Rattle.c_core.specs.declared.primitive.IoPrim.TheVariants as io
 use Rattle.c_core.specs.declared.code.Kind.TheVariants.{Object}
+use Rattle.c_core.specs.Keys.{Key}
 use Rattle.c_core.specs.Primitives.{Is, Anything, MaySteal, row_of}
 use Rattle.ir_core.specs.declared.code.PArg.TheVariants as arg
 use Rattle.ir_core.specs.declared.code.Program.{Program}
-use Rattle.ir_core.specs.Effects.{World, Argument, Given, Written, Effect, Wrong, of_list, effect}
-use Rattle.refcount_insert_lines_laws.proofs.Reading.{is_list_object, are_suited}
+use Rattle.ir_core.specs.Effects.{World, Argument, Given, Written, Effect, Wrong, Gives, of_list, of_dict, of_key, key_of_value, place_of_key, value_at, entry_set, entry_cut, effect}
+use Rattle.refcount_insert_lines_laws.proofs.Reading.{is_list_object, is_dict_object, are_suited}
 
 module _ (p : Program) (w : World) where
   -- what is done with the items of a list is not done with another object
@@ -29,6 +31,20 @@ module _ (p : Program) (w : World) where
   no_list f (Some (ListObj items)) e = absurd (cc)
   no_list f (Some (DictObj pairs)) e = refl
   no_list f (Some (InstObj class attributes)) e = refl
+
+  no_dict : (f : List (Value × Value) → Effect) (o : Option StoreObject) → (is_dict_object o && true) ≡ false → of_dict f o ≡ Wrong
+  no_dict f None e = refl
+  no_dict f (Some (ListObj items)) e = refl
+  no_dict f (Some (DictObj pairs)) e = absurd (cc)
+  no_dict f (Some (InstObj class attributes)) e = refl
+
+  -- nor with what is no key
+  no_key : (f : List (Value × Value) → Key → Effect) (o : Option StoreObject) (k : Option Key) → (is_dict_object o && (is_some k && true)) ≡ false → of_dict (λ pairs. of_key (f pairs) k) o ≡ Wrong
+  no_key f None k e = refl
+  no_key f (Some (ListObj items)) k e = refl
+  no_key f (Some (DictObj pairs)) None e = refl
+  no_key f (Some (DictObj pairs)) (Some k) e = absurd (cc)
+  no_key f (Some (InstObj class attributes)) k e = refl
 
   -- of the parts of a tuple nothing is asked
   all_suit : (n : ℕ) (vs : List Argument) → are_suited w (replicate n (MaySteal (Is Object) Anything)) vs ≡ true
@@ -135,19 +151,45 @@ module _ (p : Program) (w : World) where
   refused (prim.List list.Append) _ e = refl
   refused (prim.List list.GetItem) (Given (ObjVal k) ∷ Given (IntVal i) ∷ []) e = no_list _ (slice_get w.store k) e
   refused (prim.List list.GetItem) _ e = refl
+  refused (prim.List list.GetItemBorrow) (Given (ObjVal k) ∷ Given (IntVal i) ∷ []) e = no_list _ (slice_get w.store k) e
+  refused (prim.List list.GetItemBorrow) _ e = refl
   refused (prim.List list.SetItem) (Given (ObjVal k) ∷ Given (IntVal i) ∷ Given v ∷ []) e = no_list _ (slice_get w.store k) e
   refused (prim.List list.SetItem) _ e = refl
   refused (prim.List list.Pop) (Given (ObjVal k) ∷ []) e = no_list _ (slice_get w.store k) e
   refused (prim.List list.Pop) _ e = refl
   refused (prim.List list.Len) (Given (ObjVal k) ∷ []) e = no_list _ (slice_get w.store k) e
   refused (prim.List list.Len) _ e = refl
+  refused (prim.Dict dict.New) [] e = absurd (cc)
+  refused (prim.Dict dict.New) _ e = refl
+  refused (prim.Dict dict.GetItem) (Given (ObjVal d) ∷ Given a ∷ []) e =
+      no_key (λ pairs k. value_at k (place_of_key k pairs) pairs w) (slice_get w.store d) (key_of_value a) e
+  refused (prim.Dict dict.GetItem) _ e = refl
+  refused (prim.Dict dict.SetItem) (Given (ObjVal d) ∷ Given a ∷ Given v ∷ []) e =
+      no_key (λ pairs k. entry_set d (place_of_key k pairs) pairs a v w) (slice_get w.store d) (key_of_value a) e
+  refused (prim.Dict dict.SetItem) _ e = refl
+  refused (prim.Dict dict.DelItem) (Given (ObjVal d) ∷ Given a ∷ []) e =
+      no_key (λ pairs k. entry_cut d k (place_of_key k pairs) pairs w) (slice_get w.store d) (key_of_value a) e
+  refused (prim.Dict dict.DelItem) _ e = refl
+  refused (prim.Dict dict.Contains) (Given (ObjVal d) ∷ Given a ∷ []) e =
+      no_key (λ pairs k. Gives (BoolVal (is_some (place_of_key k pairs))) w) (slice_get w.store d) (key_of_value a) e
+  refused (prim.Dict dict.Contains) _ e = refl
+  refused (prim.Dict dict.CheckSize) (Given (ObjVal d) ∷ Given (IntVal n) ∷ []) e = no_dict _ (slice_get w.store d) e
+  refused (prim.Dict dict.CheckSize) _ e = refl
+  refused (prim.Dict dict.KeyAt) (Given (ObjVal d) ∷ Given (IntVal i) ∷ []) e = no_dict _ (slice_get w.store d) e
+  refused (prim.Dict dict.KeyAt) _ e = refl
+  refused (prim.Dict dict.Len) (Given (ObjVal d) ∷ []) e = no_dict _ (slice_get w.store d) e
+  refused (prim.Dict dict.Len) _ e = refl
   refused (prim.Tuple tuple.Pack) [] e = absurd (cc)
   refused (prim.Tuple tuple.Pack) (Given v ∷ vs) e = absurd (let f : true ≡ false = sym (all_suit 15 vs) ∙ e in cc)
   refused (prim.Tuple tuple.Pack) (Written a ∷ vs) e = refl
   refused (prim.Tuple tuple.GetItem) (Given (TupleVal parts) ∷ Written (arg.Number n) ∷ []) e = absurd (cc)
   refused (prim.Tuple tuple.GetItem) _ e = refl
+  refused (prim.Tuple tuple.GetItemBorrow) (Given (TupleVal parts) ∷ Written (arg.Number n) ∷ []) e = absurd (cc)
+  refused (prim.Tuple tuple.GetItemBorrow) _ e = refl
   refused (prim.Tuple tuple.Len) (Given (TupleVal parts) ∷ []) e = absurd (cc)
   refused (prim.Tuple tuple.Len) _ e = refl
+  refused (prim.Instance q) vs e = refl
+  refused (prim.Attr q) vs e = refl
   refused (prim.Global global.Get) (Written (arg.Global name) ∷ []) e = absurd (cc)
   refused (prim.Global global.Get) _ e = refl
   refused (prim.Global global.Set) (Written (arg.Global name) ∷ Given v ∷ []) e = absurd (cc)

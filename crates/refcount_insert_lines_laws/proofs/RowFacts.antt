@@ -1,4 +1,4 @@
--- The rows of the primitives: all but those of globals say themselves of which kinds their variables are.
+-- The rows of the primitives: all but those of globals and of attributes say themselves of which kinds their variables are.
 use Rattle.std.proofs.Common.{◌≡◌, refl, sym, ap, subst, Bool, true, false, ◌&&◌, List, [], ◌∷◌, Option, Some, None}
 use Rattle.std.specs.Prelude.{ℕ, map, is_some}
 use Rattle.std.specs.Option.{option_map}
@@ -12,12 +12,15 @@ use Rattle.c_core.specs.declared.primitive.BoolPrim.TheVariants as bool
 use Rattle.c_core.specs.declared.primitive.ObjectPrim.TheVariants as object
 use Rattle.c_core.specs.declared.primitive.StrPrim.TheVariants as str
 use Rattle.c_core.specs.declared.primitive.ListPrim.TheVariants as list
+use Rattle.c_core.specs.declared.primitive.DictPrim.TheVariants as dict
 use Rattle.c_core.specs.declared.primitive.TuplePrim.TheVariants as tuple
 use Rattle.c_core.specs.declared.primitive.ExcPrim.TheVariants as exc
 use Rattle.c_core.specs.declared.primitive.ErrPrim.TheVariants as err
 use Rattle.c_core.specs.declared.primitive.IoPrim.TheVariants as io
-use Rattle.c_core.specs.Primitives.{Is, OfGlobal, OfSlot, Anything, Steals, TakesGlobal, Outcome, Nothing, Owned, Row, row_of}
-use Rattle.c_core.specs.Arguments.{kind_of_global}
+use Rattle.c_core.specs.Primitives.{Is, OfGlobal, OfSlot, Anything, Steals, TakesGlobal, Outcome, Nothing, Owned, Lent, Row, row_of}
+use Rattle.c_core.specs.Machine.{Frame}
+use Rattle.c_core.specs.Arguments.{Argument, kind_of_global}
+use Rattle.c_core.specs.Step as steps
 use Rattle.c_core.specs.WellFormed.{has_kind, kind_at, kind_fits, args_fit, target_fits}
 use Rattle.c_core.proofs.Lines.{and_true}
 use Rattle.ir_core.specs.declared.code.Reg.{Reg}
@@ -28,7 +31,7 @@ use Rattle.ir_core.specs.Lower.{variable_of, number_of, argument_in}
 use Rattle.refcount_insert_lines_laws.proofs.Facts.{has_type, type_in, kind_in_type}
 use Rattle.refcount_insert_lines_laws.proofs.Reading.{are_read}
 use Rattle.refcount_insert_lines_laws.proofs.Agreeing.{IsTarget}
-use Rattle.refcount_insert_lines_laws.proofs.Rows.{answer_of, is_global}
+use Rattle.refcount_insert_lines_laws.proofs.Rows.{answer_of, stands_elsewhere}
 
 -- a row that is read as every other
 abbrev pub has_kinds : Outcome → Bool
@@ -36,11 +39,14 @@ has_kinds Nothing = true
 has_kinds (Owned (Is k)) = true
 has_kinds (Owned OfGlobal) = false
 has_kinds (Owned OfSlot) = false
+has_kinds (Lent (Is k)) = true
+has_kinds (Lent OfGlobal) = false
+has_kinds (Lent OfSlot) = false
 
 abbrev pub is_plain : Row → Bool
 is_plain r = are_read r.parameters && has_kinds r.outcome
 
-pub read_row : (q : Primitive) → is_global q ≡ false → is_plain (row_of q) ≡ true
+pub read_row : (q : Primitive) → stands_elsewhere q ≡ false → is_plain (row_of q) ≡ true
 read_row (prim.Int64 int64.Add) g = refl
 read_row (prim.Int64 int64.Subtract) g = refl
 read_row (prim.Int64 int64.Multiply) g = refl
@@ -89,11 +95,21 @@ read_row (prim.Str str.GetItem) g = refl
 read_row (prim.List list.New) g = refl
 read_row (prim.List list.Append) g = refl
 read_row (prim.List list.GetItem) g = refl
+read_row (prim.List list.GetItemBorrow) g = refl
 read_row (prim.List list.SetItem) g = refl
 read_row (prim.List list.Pop) g = refl
 read_row (prim.List list.Len) g = refl
+read_row (prim.Dict dict.New) g = refl
+read_row (prim.Dict dict.GetItem) g = refl
+read_row (prim.Dict dict.SetItem) g = refl
+read_row (prim.Dict dict.DelItem) g = refl
+read_row (prim.Dict dict.Contains) g = refl
+read_row (prim.Dict dict.CheckSize) g = refl
+read_row (prim.Dict dict.KeyAt) g = refl
+read_row (prim.Dict dict.Len) g = refl
 read_row (prim.Tuple tuple.Pack) g = refl
 read_row (prim.Tuple tuple.GetItem) g = refl
+read_row (prim.Tuple tuple.GetItemBorrow) g = refl
 read_row (prim.Tuple tuple.Len) g = refl
 read_row (prim.Exc exc.New) g = refl
 read_row (prim.Exc exc.Str) g = refl
@@ -105,6 +121,18 @@ read_row (prim.Err err.Catch) g = refl
 read_row (prim.Io io.Write) g = refl
 read_row (prim.Io io.Input) g = refl
 read_row (prim.Global q) g = absurd (cc)
+read_row (prim.Instance q) g = absurd (cc)
+read_row (prim.Attr q) g = absurd (cc)
+
+-- that the target has the kind of the answer is known from the text
+pub answer_is : (code : Code) (f : Frame) (o : Outcome) (x : Option ℕ) (all : List Argument) → has_kinds o ≡ true → steps.answer_fits code f o x all ≡ true
+answer_is code f Nothing x all plain = refl
+answer_is code f (Owned (Is k)) x all plain = refl
+answer_is code f (Owned OfGlobal) x all plain = absurd (cc)
+answer_is code f (Owned OfSlot) x all plain = absurd (cc)
+answer_is code f (Lent (Is k)) x all plain = refl
+answer_is code f (Lent OfGlobal) x all plain = absurd (cc)
+answer_is code f (Lent OfSlot) x all plain = absurd (cc)
 
 -- the target of a line that fits has the type of the answer
 pub target_is : (code : Code) (regs : Declared) (args : List CArg) (o : Outcome) (to : Option Reg) → has_kinds o ≡ true → target_fits code (map variable_of regs) args o (option_map number_of to) ≡ true → IsTarget regs (answer_of o) to
@@ -114,6 +142,10 @@ target_is code regs args (Owned (Is k)) (Some r) plain fits =
     has_type regs r.0 (type_in k) (subst (λ z. has_kind z (kind_at (map variable_of regs) r.0) ≡ true) (sym (kind_in_type k)) fits)
 target_is code regs args (Owned OfGlobal) (Some r) plain fits = absurd (cc)
 target_is code regs args (Owned OfSlot) (Some r) plain fits = absurd (cc)
+target_is code regs args (Lent (Is k)) (Some r) plain fits =
+    has_type regs r.0 (type_in k) (subst (λ z. has_kind z (kind_at (map variable_of regs) r.0) ≡ true) (sym (kind_in_type k)) fits)
+target_is code regs args (Lent OfGlobal) (Some r) plain fits = absurd (cc)
+target_is code regs args (Lent OfSlot) (Some r) plain fits = absurd (cc)
 
 -- ---- arguments that name a global
 pub one_global : (code : Code) (vars : _) (all : List CArg) (args : List PArg) → args_fit code vars all (TakesGlobal ∷ []) (map argument_in args) ≡ true → (name : List ℕ) × (args ≡ arg.Global name ∷ []) × (is_some (kind_of_global code name) ≡ true)

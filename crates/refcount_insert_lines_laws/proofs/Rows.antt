@@ -1,7 +1,8 @@
 -- Each primitive does with words what it does with values, one row one case.
-use Rattle.std.proofs.Common.{◌≡◌, ◌≢◌, refl, sym, ◌∙◌, ap, subst, ℕ, zero, suc, Bool, true, false, not, ◌&&◌, cond, List, [], ◌∷◌, ◌++◌, length, take, replicate, Option, Some, None, Result, Ok, Err}
+use Rattle.std.proofs.Common.{◌≡◌, ◌≢◌, refl, sym, ◌∙◌, ap, subst, ℕ, zero, suc, Bool, true, false, not, ◌&&◌, cond, List, [], ◌∷◌, ◌++◌, ◌+◌, length, take, drop, replicate, Option, Some, None, Result, Ok, Err}
 use Rattle.std.specs.Prelude.{ℤ, pos, negsuc, int_lt, nat_lt, is_some, slice_get, slice_set}
 use Rattle.std.specs.Fmt.{signed_decimal}
+use Rattle.std.specs.List.{position_or_len}
 use Rattle.std.specs.Option.{option_and_then, option_map}
 use Rattle.std.specs.Ordering.{int_eq}
 use Rattle.std.specs.Str.{bytes_eq}
@@ -9,12 +10,12 @@ use Rattle.std.specs.Str.Parse.{signed_digits_value}
 use Rattle.value_core.specs.declared.arith.Arith.{Arith}
 use Rattle.value_core.specs.declared.exception.ExcClass.{ExcClass}
 use Rattle.value_core.specs.Characters.{place_of}
-use Rattle.value_core.specs.Arithmetic.{lies_within, is_short, int_add, int_sub, int_mul, int_neg, int_floor_div, int_modulo, int_shl, int_shr, int_to_i64, i64_add, i64_sub, i64_mul, i64_neg, i64_floor_div, i64_modulo, i64_shl, i64_shr}
+use Rattle.value_core.specs.Arithmetic.{is_short, int_add, int_sub, int_mul, int_neg, int_floor_div, int_modulo, int_shl, int_shr, int_to_i64, i64_add, i64_sub, i64_mul, i64_neg, i64_floor_div, i64_modulo, i64_shl, i64_shr}
 use Rattle.value_core.specs.Ending.{Over, Broken}
 use Rattle.value_core.specs.Exceptions.{Thrown, class_named, is_under}
 use Rattle.value_core.specs.Items as item
 use Rattle.value_core.specs.Items.{Items}
-use Rattle.value_core.specs.Value.{Value, IntVal, BoolVal, NoneVal, StrVal, TupleVal, ExcVal, ObjVal, Values, no_values, value_then, listed, tupled, ListObj}
+use Rattle.value_core.specs.Value.{Value, IntVal, BoolVal, NoneVal, StrVal, TupleVal, ExcVal, ObjVal, Values, no_values, value_then, listed, tupled, ListObj, DictObj}
 use Rattle.c_core.specs.declared.code.Code.{Code}
 use Rattle.c_core.specs.declared.primitive.Primitive.{Primitive}
 use Rattle.c_core.specs.declared.primitive.Primitive.TheVariants as prim
@@ -24,42 +25,47 @@ use Rattle.c_core.specs.declared.primitive.BoolPrim.TheVariants as bool
 use Rattle.c_core.specs.declared.primitive.ObjectPrim.TheVariants as object
 use Rattle.c_core.specs.declared.primitive.StrPrim.TheVariants as str
 use Rattle.c_core.specs.declared.primitive.ListPrim.TheVariants as list
+use Rattle.c_core.specs.declared.primitive.DictPrim.TheVariants as dict
 use Rattle.c_core.specs.declared.primitive.TuplePrim.TheVariants as tuple
 use Rattle.c_core.specs.declared.primitive.ExcPrim.TheVariants as exc
 use Rattle.c_core.specs.declared.primitive.ErrPrim.TheVariants as err
 use Rattle.c_core.specs.declared.primitive.IoPrim.TheVariants as io
 use Rattle.c_core.specs.Cells.{content_at}
-use Rattle.c_core.specs.Machine.{Word, ShortInt, BigInt, Native, CharWord, ObjectCell, NoneObject, TrueObject, FalseObject, NoObject, IntCell, StrCell, ListCell, TupleCell, ExcCell, refs_of, MachineState}
+use Rattle.c_core.specs.Machine.{Word, ShortInt, BigInt, Native, CharWord, ObjectCell, NoneObject, TrueObject, FalseObject, NoObject, IntCell, StrCell, ListCell, DictCell, TupleCell, ExcCell, refs_of, MachineState}
 use Rattle.c_core.specs.Stands.{IsLive}
 use Rattle.c_core.specs.declared.code.Kind.TheVariants.{Object as ObjectKind}
-use Rattle.c_core.specs.Primitives.{Is, Anything, MaySteal, Outcome, Owned, row_of}
-use Rattle.c_core.specs.Arguments.{int_in, word_in}
+use Rattle.c_core.specs.Keys.{Key, is_key, key_of, key_place}
+use Rattle.c_core.specs.Primitives.{Is, Anything, MaySteal, Outcome, Owned, Lent, row_of}
+use Rattle.c_core.specs.Arguments.{int_in, key_as, word_in}
 use Rattle.c_core.specs.Arguments as machines
 use Rattle.c_core.specs.Step.{truth_word, of_int, of_ints}
 use Rattle.c_core.specs.Step as steps
-use Rattle.c_core.specs.Strings.{counted_length, text_less, text_length, text_item}
+use Rattle.c_core.specs.Strings.{counted_length, text_less, text_length, text_item, writes_long}
 use Rattle.ir_core.specs.declared.code.RType.{RType}
 use Rattle.ir_core.specs.declared.code.RType.TheVariants.{Int, I64, Bool as BoolType, Ref}
 use Rattle.ir_core.specs.declared.code.Program.{Program}
 use Rattle.ir_core.specs.Registers.{error_of}
-use Rattle.ir_core.specs.Effects.{World, Argument, Effect, Wrong, Gives, Acts, with_object, truth_number}
+use Rattle.ir_core.specs.Effects.{World, Argument, Effect, Wrong, Gives, Acts, with_object, truth_number, key_of_value, place_of_key}
 use Rattle.ir_core.specs.Effects as program
-use Rattle.refcount_insert_lines_laws.specs.Matching.{Boxed, PartsBoxed, AllBoxed, Fits, tagged_error, short, big, native, char_error, no_object, boxed, PendingFits, WorldFits}
+use Rattle.refcount_insert_lines_laws.specs.Matching.{Boxed, PartsBoxed, AllBoxed, PairsBoxed, Fits, tagged_error, short, big, native, char_error, no_object, boxed, PendingFits, WorldFits}
 use Rattle.refcount_insert_lines_laws.proofs.Growing.{parts_grow}
 use Rattle.refcount_insert_lines_laws.proofs.Words.{char_fits}
 use Rattle.refcount_insert_lines_laws.proofs.Facts.{type_in}
-use Rattle.refcount_insert_lines_laws.proofs.Reading.{IsRead, read_none, read_true, read_false, read_cell, is_native, is_truth, is_number, owns_short, owns_big, is_any, owns_any, may_own_any, is_box, is_text, is_exception, is_stolen, is_list, is_tuple, writes_number, writes_text, writes_exception, AllMeet, no_more, left_out, one_more}
-use Rattle.refcount_insert_lines_laws.proofs.Agreeing.{Changing, Agrees, both_wrong, both_say, both_share, both_make, both_make_object, both_change, both_change_answering, both_make_int, both_write, both_fail, both_pend, both_catch, both_read, both_skip, both_stop}
+use Rattle.refcount_insert_lines_laws.proofs.Reading.{IsRead, read_none, read_true, read_false, read_cell, is_native, is_truth, is_number, owns_short, owns_big, is_any, owns_any, may_own_any, is_box, is_text, is_exception, is_stolen, is_list, is_tuple, is_dict, is_a_key, owns_key, writes_number, writes_text, writes_decimal, writes_exception, word_key, AllMeet, no_more, left_out, one_more}
+use Rattle.refcount_insert_lines_laws.proofs.Agreeing.{Changing, Agrees, both_wrong, both_say, both_share, both_lend, both_make, both_make_object, both_change, both_change_answering, both_make_int, both_write, both_fail, both_pend, both_catch, both_read, both_skip, both_stop}
 
 -- the type of what a row answers
 abbrev pub answer_of : Outcome → Option RType
 answer_of (Owned (Is k)) = Some (type_in k)
+answer_of (Lent (Is k)) = Some (type_in k)
 answer_of _ = None
 
--- a global's own rows stand elsewhere
-abbrev pub is_global : Primitive → Bool
-is_global (prim.Global q) = true
-is_global _ = false
+-- the rows of globals, of instances and of their attributes stand elsewhere
+abbrev pub stands_elsewhere : Primitive → Bool
+stands_elsewhere (prim.Global q) = true
+stands_elsewhere (prim.Instance q) = true
+stands_elsewhere (prim.Attr q) = true
+stands_elsewhere _ = false
 
 module _ (p : Program) (code : Code) (w : World) (s : MachineState) (world : WorldFits p w s) where
   abbrev A : Option RType → Effect → steps.Effect → Type 0
@@ -112,7 +118,7 @@ module _ (p : Program) (code : Code) (w : World) (s : MachineState) (world : Wor
       subst (λ z. A o x (of_ints F z (int_in b))) (sym e) (subst (λ z. A o x (of_int (F m) z)) (sym f) h)
 
   written_row : (text : List ℕ) (n : ℤ) → A (Some Int) (program.written_int text n w) (steps.written_int text n)
-  written_row text n = by (bytes_eq (signed_decimal n) text && (lies_within 127 n && not (is_short n)))
+  written_row text n = by (writes_long text n)
     where
       by : (b : Bool) → A (Some Int) (cond b (Gives (IntVal n) w) program.Wrong) (cond b (steps.MakesInt n) steps.Wrong)
       by true = both_make_int n
@@ -306,6 +312,21 @@ module _ (p : Program) (code : Code) (w : World) (s : MachineState) (world : Wor
   shared_row (Some v) None m = absurd m
   shared_row (Some v) (Some y) m = both_share Ref v y (boxed v y m)
 
+  -- and the same where it is lent
+  lent_row : (o : Option Value) (q : Option Word) → BothBoxed o q → A (Some Ref) (program.of_value (λ v. Gives v w) o) (steps.lent (steps.of_word steps.Shares q))
+  lent_row None None m = both_wrong (Some Ref) steps.Wrong
+  lent_row None (Some y) m = absurd m
+  lent_row (Some v) None m = absurd m
+  lent_row (Some v) (Some y) m = both_lend Ref v y (boxed v y m)
+
+  lent_part_row : (vs : Values) (ys : List Word) → PartsBoxed s vs ys → (n : ℤ) → A (Some Ref) (program.part_at (listed vs) n w) (steps.lent (steps.part_at ys n))
+  lent_part_row vs ys m (pos i) = lent_row (slice_get (listed vs) i) (slice_get ys i) (all_at (listed vs) ys (all_parts vs ys m) i)
+  lent_part_row vs ys m (negsuc i) = both_wrong (Some Ref) steps.Wrong
+
+  -- the machine finds the word that it was given
+  given : (o : Option RType) (x : Effect) (F : Word → steps.Effect) (a : machines.Argument) (y : Word) → word_in ObjectKind a ≡ Some y → A o x (F y) → A o x (steps.of_word F (word_in ObjectKind a))
+  given o x F a y e h = subst (λ z. A o x (steps.of_word F z)) (sym e) h
+
   part_row : (vs : Values) (ys : List Word) → PartsBoxed s vs ys → (n : ℤ) → A (Some Ref) (program.part_at (listed vs) n w) (steps.part_at ys n)
   part_row vs ys m (pos i) = shared_row (slice_get (listed vs) i) (slice_get ys i) (all_at (listed vs) ys (all_parts vs ys m) i)
   part_row vs ys m (negsuc i) = both_wrong (Some Ref) steps.Wrong
@@ -322,13 +343,13 @@ module _ (p : Program) (code : Code) (w : World) (s : MachineState) (world : Wor
     changing : (us : List Value) (zs : List Word) → AllBoxed s us zs → Changing s k c (ListObj us) (ListCell zs)
     changing us zs all = record { made = made; old = ListCell ys; live = live; object = refl; fits = all }
 
-    -- the machine finds the word that it was given
-    given : (o : Option RType) (x : Effect) (F : Word → steps.Effect) (a : machines.Argument) (y : Word) → word_in ObjectKind a ≡ Some y → A o x (F y) → A o x (steps.of_word F (word_in ObjectKind a))
-    given o x F a y e h = subst (λ z. A o x (steps.of_word F z)) (sym e) h
-
     item_at_row : (i : Option ℕ) → A (Some Ref) (program.item_at i vs w) (steps.item_at i ys)
     item_at_row None = both_fail (Some Ref) _ _ (fails_as Ref _ no_object)
     item_at_row (Some i) = shared_row (slice_get vs i) (slice_get ys i) (all_at vs ys m i)
+
+    lent_item_row : (i : Option ℕ) → A (Some Ref) (program.item_at i vs w) (steps.lent (steps.item_at i ys))
+    lent_item_row None = both_fail (Some Ref) _ _ (fails_as Ref _ no_object)
+    lent_item_row (Some i) = lent_row (slice_get vs i) (slice_get ys i) (all_at vs ys m i)
 
     put_by : (i : ℕ) (v : Value) (y : Word) → Boxed s v y → (o : Option Value) (q : Option Word) → BothBoxed o q → A (Some BoolType) (program.of_value (λ old. Gives (BoolVal true) (with_object k (ListObj (slice_set vs i v)) w)) o) (steps.of_word (λ old. steps.Changes c (ListCell (slice_set ys i y)) (CharWord 1) (refs_of old)) q)
     put_by i v y b None None n = both_wrong (Some BoolType) steps.Wrong
@@ -360,6 +381,10 @@ module _ (p : Program) (code : Code) (w : World) (s : MachineState) (world : Wor
     get_row i =
         items_found (Some Ref) _ _ (subst (λ z. A (Some Ref) (program.item_at z vs w) (steps.item_at (place_of (length ys) i) ys)) (sym (same_place i)) (item_at_row (place_of (length ys) i)))
 
+    get_lent_row : (i : ℤ) → A (Some Ref) (program.of_list (λ items. program.item_at (place_of (length items) i) items w) (slice_get w.store k)) (steps.lent (steps.item_at (place_of (length ys) i) ys))
+    get_lent_row i =
+        items_found (Some Ref) _ _ (subst (λ z. A (Some Ref) (program.item_at z vs w) (steps.lent (steps.item_at (place_of (length ys) i) ys))) (sym (same_place i)) (lent_item_row (place_of (length ys) i)))
+
     set_row : (i : ℤ) (v : Value) (y : Word) (a : machines.Argument) → Boxed s v y → word_in ObjectKind a ≡ Some y → A (Some BoolType) (program.of_list (λ items. program.put_at k (place_of (length items) i) items v w) (slice_get w.store k)) (steps.of_word (steps.put_at c (place_of (length ys) i) ys) (word_in ObjectKind a))
     set_row i v y a b e =
         items_found (Some BoolType) _ _ (given (Some BoolType) _ _ a y e (subst (λ z. A (Some BoolType) (program.put_at k z vs v w) (steps.put_at c (place_of (length ys) i) ys y)) (sym (same_place i)) (put_row (place_of (length ys) i) v y b)))
@@ -372,12 +397,183 @@ module _ (p : Program) (code : Code) (w : World) (s : MachineState) (world : Wor
     size_row =
         items_found (Some Int) _ _ (counted_row vs ys m)
 
+  -- ---- dicts
+  -- what stands at a place of both
+  abbrev BothPaired : Option (Value × Value) → Option (Word × Word) → Type 0
+  BothPaired None None = Unit {0}
+  BothPaired (Some p) (Some q) = Boxed s p.0 q.0 × Boxed s p.1 q.1
+  BothPaired _ _ = ⊥
+
+  pairs_at : (ps : List (Value × Value)) (qs : List (Word × Word)) → PairsBoxed s ps qs → (i : ℕ) → BothPaired (slice_get ps i) (slice_get qs i)
+  pairs_at [] [] m i = tt
+  pairs_at [] (q ∷ qs) m i = absurd m
+  pairs_at (p ∷ ps) [] m i = absurd m
+  pairs_at (p ∷ ps) (q ∷ qs) m zero = (m.0, m.1)
+  pairs_at (p ∷ ps) (q ∷ qs) m (suc i) = pairs_at ps qs m.2 i
+
+  pairs_size : (ps : List (Value × Value)) (qs : List (Word × Word)) → PairsBoxed s ps qs → length ps ≡ length qs
+  pairs_size [] [] m = refl
+  pairs_size [] (q ∷ qs) m = absurd m
+  pairs_size (p ∷ ps) [] m = absurd m
+  pairs_size (p ∷ ps) (q ∷ qs) m = ap suc (pairs_size ps qs m.2)
+
+  pairs_append : (ps rs : List (Value × Value)) (qs ts : List (Word × Word)) → PairsBoxed s ps qs → PairsBoxed s rs ts → PairsBoxed s (ps ++ rs) (qs ++ ts)
+  pairs_append [] rs [] ts m n = n
+  pairs_append [] rs (q ∷ qs) ts m n = absurd m
+  pairs_append (p ∷ ps) rs [] ts m n = absurd m
+  pairs_append (p ∷ ps) rs (q ∷ qs) ts m n = (m.0, m.1, pairs_append ps rs qs ts m.2 n)
+
+  pairs_set : (ps : List (Value × Value)) (qs : List (Word × Word)) (i : ℕ) (p : Value × Value) (q : Word × Word) → PairsBoxed s ps qs → Boxed s p.0 q.0 → Boxed s p.1 q.1 → PairsBoxed s (slice_set ps i p) (slice_set qs i q)
+  pairs_set [] [] i p q m a b = tt
+  pairs_set [] (t ∷ qs) i p q m a b = absurd m
+  pairs_set (r ∷ ps) [] i p q m a b = absurd m
+  pairs_set (r ∷ ps) (t ∷ qs) zero p q m a b = (a, b, m.2)
+  pairs_set (r ∷ ps) (t ∷ qs) (suc i) p q m a b = (m.0, m.1, pairs_set ps qs i p q m.2 a b)
+
+  pairs_take : (ps : List (Value × Value)) (qs : List (Word × Word)) (i : ℕ) → PairsBoxed s ps qs → PairsBoxed s (take i ps) (take i qs)
+  pairs_take ps qs zero m = tt
+  pairs_take [] [] (suc i) m = tt
+  pairs_take [] (q ∷ qs) (suc i) m = absurd m
+  pairs_take (p ∷ ps) [] (suc i) m = absurd m
+  pairs_take (p ∷ ps) (q ∷ qs) (suc i) m = (m.0, m.1, pairs_take ps qs i m.2)
+
+  pairs_drop : (ps : List (Value × Value)) (qs : List (Word × Word)) (i : ℕ) → PairsBoxed s ps qs → PairsBoxed s (drop i ps) (drop i qs)
+  pairs_drop ps qs zero m = m
+  pairs_drop [] [] (suc i) m = tt
+  pairs_drop [] (q ∷ qs) (suc i) m = absurd m
+  pairs_drop (p ∷ ps) [] (suc i) m = absurd m
+  pairs_drop (p ∷ ps) (q ∷ qs) (suc i) m = pairs_drop ps qs i m.2
+
+  -- both find a key at the same place
+  abbrev holds_key : Key → Value × Value → Bool
+  holds_key k p = is_key k (key_of_value p.0)
+
+  abbrev has_key : Key → Word × Word → Bool
+  has_key k q = is_key k (key_of s.cells q.0)
+
+  same_first : (k : Key) (ps : List (Value × Value)) (qs : List (Word × Word)) → PairsBoxed s ps qs → position_or_len (has_key k) qs ≡ position_or_len (holds_key k) ps
+  same_first k [] [] m = refl
+  same_first k [] (q ∷ qs) m = absurd m
+  same_first k (p ∷ ps) [] m = absurd m
+  same_first k (p ∷ ps) (q ∷ qs) m =
+      ap (λ o. cond (not (is_key k o)) (1 + position_or_len (has_key k) qs) 0) (word_key w s world.store p.0 q.0 m.0)
+      ∙ ap (λ n. cond (not (holds_key k p)) (1 + n) 0) (same_first k ps qs m.2)
+
+  same_key_place : (k : Key) (ps : List (Value × Value)) (qs : List (Word × Word)) → PairsBoxed s ps qs → key_place s.cells k qs ≡ place_of_key k ps
+  same_key_place k ps qs m =
+      ap (λ n. cond (nat_lt n (length qs)) (Some n) None) (same_first k ps qs m)
+      ∙ ap (λ n. cond (nat_lt (position_or_len (holds_key k) ps) n) (Some (position_or_len (holds_key k) ps)) None) (sym (pairs_size ps qs m))
+
+  -- both know the key
+  with_key : (o : Option RType) (F : Key → Effect) (G : Key → steps.Effect) (v : Value) (a : machines.Argument) (k : Key) → key_of_value v ≡ Some k → key_as a ≡ Some k → A o (F k) (G k) → A o (program.of_key F (key_of_value v)) (steps.of_key G (key_as a))
+  with_key o F G v a k e f h =
+      subst (λ z. A o (program.of_key F z) (steps.of_key G (key_as a))) (sym e) (subst (λ z. A o (F k) (steps.of_key G z)) (sym f) h)
+
+  sized_row : (b : Bool) → A (Some BoolType) (program.sized b w) (steps.sized b)
+  sized_row true = says_truth true
+  sized_row false = both_fail (Some BoolType) _ _ (fails_as BoolType _ char_error)
+
+  module _ (d c : ℕ) (ps : List (Value × Value)) (qs : List (Word × Word)) (there : slice_get w.store d ≡ Some (DictObj ps)) (made : slice_get s.made d ≡ Some c) (live : IsLive s c (DictCell qs)) (m : PairsBoxed s ps qs) where
+    -- the program finds the pairs
+    pairs_found : (o : Option RType) (F : List (Value × Value) → Effect) (e : steps.Effect) → A o (F ps) e → A o (program.of_dict F (slice_get w.store d)) e
+    pairs_found o F e h = subst (λ z. A o (program.of_dict F z) e) (sym there) h
+
+    becomes : (us : List (Value × Value)) (zs : List (Word × Word)) → PairsBoxed s us zs → Changing s d c (DictObj us) (DictCell zs)
+    becomes us zs all = record { made = made; old = DictCell qs; live = live; object = refl; fits = all }
+
+    -- the value of a key is read
+    value_by : (o : Option (Value × Value)) (q : Option (Word × Word)) → BothPaired o q → A (Some Ref) (program.of_pair (λ p. Gives p.1 w) o) (steps.of_pair (λ p. steps.Shares p.1) q)
+    value_by None None n = both_wrong (Some Ref) steps.Wrong
+    value_by None (Some q) n = absurd n
+    value_by (Some p) None n = absurd n
+    value_by (Some p) (Some q) n = both_share Ref p.1 q.1 (boxed p.1 q.1 n.1)
+
+    value_row : (k : Key) (i : Option ℕ) → A (Some Ref) (program.value_at k i ps w) (steps.value_at k i qs)
+    value_row k None = both_fail (Some Ref) _ _ (fails_as Ref _ no_object)
+    value_row k (Some i) = value_by (slice_get ps i) (slice_get qs i) (pairs_at ps qs m i)
+
+    read_row : (v : Value) (a : machines.Argument) (k : Key) → key_of_value v ≡ Some k → key_as a ≡ Some k → A (Some Ref) (program.of_dict (λ pairs. program.of_key (λ j. program.value_at j (place_of_key j pairs) pairs w) (key_of_value v)) (slice_get w.store d)) (steps.of_key (λ j. steps.value_at j (key_place s.cells j qs) qs) (key_as a))
+    read_row v a k e f =
+        pairs_found (Some Ref) (λ pairs. program.of_key (λ j. program.value_at j (place_of_key j pairs) pairs w) (key_of_value v)) _
+        (with_key (Some Ref) (λ j. program.value_at j (place_of_key j ps) ps w) (λ j. steps.value_at j (key_place s.cells j qs) qs) v a k e f
+        (subst (λ z. A (Some Ref) (program.value_at k (place_of_key k ps) ps w) (steps.value_at k z qs)) (sym (same_key_place k ps qs m)) (value_row k (place_of_key k ps))))
+
+    -- a value is put at a key
+    entry_by : (v : Value) (y z : Word) → Boxed s v z → (i : ℕ) (o : Option (Value × Value)) (q : Option (Word × Word)) → BothPaired o q → A None (program.of_pair (λ p. Acts (with_object d (DictObj (slice_set ps i (p.0, v))) w)) o) (steps.of_pair (λ p. steps.Changes c (DictCell (slice_set qs i (p.0, z))) NoneObject (refs_of y ++ refs_of p.1)) q)
+    entry_by v y z b i None None n = both_wrong None steps.Wrong
+    entry_by v y z b i None (Some q) n = absurd n
+    entry_by v y z b i (Some p) None n = absurd n
+    entry_by v y z b i (Some p) (Some q) n =
+        both_change d c _ _ NoneObject (refs_of y ++ refs_of q.1) (becomes (slice_set ps i (p.0, v)) (slice_set qs i (q.0, z)) (pairs_set ps qs i (p.0, v) (q.0, z) m n.0 b))
+
+    entry_row : (u v : Value) (y z : Word) → Boxed s u y → Boxed s v z → (i : Option ℕ) → A None (program.entry_set d i ps u v w) (steps.entry_set c i qs y z)
+    entry_row u v y z a b None =
+        both_change d c _ _ NoneObject [] (becomes (ps ++ (u, v) ∷ []) (qs ++ (y, z) ∷ []) (pairs_append ps ((u, v) ∷ []) qs ((y, z) ∷ []) m (a, b, tt)))
+    entry_row u v y z a b (Some i) = entry_by v y z b i (slice_get ps i) (slice_get qs i) (pairs_at ps qs m i)
+
+    put_pair_row : (u v : Value) (y z : Word) (a b : machines.Argument) (k : Key) → Boxed s u y → key_of_value u ≡ Some k → key_as a ≡ Some k → word_in ObjectKind a ≡ Some y → Boxed s v z → word_in ObjectKind b ≡ Some z → A None (program.of_dict (λ pairs. program.of_key (λ j. program.entry_set d (place_of_key j pairs) pairs u v w) (key_of_value u)) (slice_get w.store d)) (steps.of_key (λ j. steps.of_word (λ key. steps.of_word (steps.entry_set c (key_place s.cells j qs) qs key) (word_in ObjectKind b)) (word_in ObjectKind a)) (key_as a))
+    put_pair_row u v y z a b k first e f is second it =
+        pairs_found None (λ pairs. program.of_key (λ j. program.entry_set d (place_of_key j pairs) pairs u v w) (key_of_value u)) _
+        (with_key None (λ j. program.entry_set d (place_of_key j ps) ps u v w) (λ j. steps.of_word (λ key. steps.of_word (steps.entry_set c (key_place s.cells j qs) qs key) (word_in ObjectKind b)) (word_in ObjectKind a)) u a k e f
+        (given None (program.entry_set d (place_of_key k ps) ps u v w) (λ key. steps.of_word (steps.entry_set c (key_place s.cells k qs) qs key) (word_in ObjectKind b)) a y is
+        (given None (program.entry_set d (place_of_key k ps) ps u v w) (steps.entry_set c (key_place s.cells k qs) qs y) b z it
+        (subst (λ i. A None (program.entry_set d (place_of_key k ps) ps u v w) (steps.entry_set c i qs y z)) (sym (same_key_place k ps qs m)) (entry_row u v y z first second (place_of_key k ps))))))
+
+    -- the pair of a key is taken out
+    cut_by : (i : ℕ) (o : Option (Value × Value)) (q : Option (Word × Word)) → BothPaired o q → A (Some BoolType) (program.of_pair (λ p. Gives (BoolVal true) (with_object d (DictObj (take i ps ++ drop (i + 1) ps)) w)) o) (steps.of_pair (λ p. steps.Changes c (DictCell (take i qs ++ drop (i + 1) qs)) (CharWord 1) (refs_of p.0 ++ refs_of p.1)) q)
+    cut_by i None None n = both_wrong (Some BoolType) steps.Wrong
+    cut_by i None (Some q) n = absurd n
+    cut_by i (Some p) None n = absurd n
+    cut_by i (Some p) (Some q) n =
+        both_change_answering BoolType (BoolVal true) d c _ _ (CharWord 1) (refs_of q.0 ++ refs_of q.1) (becomes (take i ps ++ drop (i + 1) ps) (take i qs ++ drop (i + 1) qs) (pairs_append (take i ps) (drop (i + 1) ps) (take i qs) (drop (i + 1) qs) (pairs_take ps qs i m) (pairs_drop ps qs (i + 1) m))) (char_fits s true)
+
+    cut_row : (k : Key) (i : Option ℕ) → A (Some BoolType) (program.entry_cut d k i ps w) (steps.entry_cut c k i qs)
+    cut_row k None = both_fail (Some BoolType) _ _ (fails_as BoolType _ char_error)
+    cut_row k (Some i) = cut_by i (slice_get ps i) (slice_get qs i) (pairs_at ps qs m i)
+
+    cut_pair_row : (v : Value) (a : machines.Argument) (k : Key) → key_of_value v ≡ Some k → key_as a ≡ Some k → A (Some BoolType) (program.of_dict (λ pairs. program.of_key (λ j. program.entry_cut d j (place_of_key j pairs) pairs w) (key_of_value v)) (slice_get w.store d)) (steps.of_key (λ j. steps.entry_cut c j (key_place s.cells j qs) qs) (key_as a))
+    cut_pair_row v a k e f =
+        pairs_found (Some BoolType) (λ pairs. program.of_key (λ j. program.entry_cut d j (place_of_key j pairs) pairs w) (key_of_value v)) _
+        (with_key (Some BoolType) (λ j. program.entry_cut d j (place_of_key j ps) ps w) (λ j. steps.entry_cut c j (key_place s.cells j qs) qs) v a k e f
+        (subst (λ z. A (Some BoolType) (program.entry_cut d k (place_of_key k ps) ps w) (steps.entry_cut c k z qs)) (sym (same_key_place k ps qs m)) (cut_row k (place_of_key k ps))))
+
+    -- a key is looked for
+    contains_row : (v : Value) (a : machines.Argument) (k : Key) → key_of_value v ≡ Some k → key_as a ≡ Some k → A (Some BoolType) (program.of_dict (λ pairs. program.of_key (λ j. Gives (BoolVal (is_some (place_of_key j pairs))) w) (key_of_value v)) (slice_get w.store d)) (steps.of_key (λ j. steps.Says (truth_word (is_some (key_place s.cells j qs)))) (key_as a))
+    contains_row v a k e f =
+        pairs_found (Some BoolType) (λ pairs. program.of_key (λ j. Gives (BoolVal (is_some (place_of_key j pairs))) w) (key_of_value v)) _
+        (with_key (Some BoolType) (λ j. Gives (BoolVal (is_some (place_of_key j ps))) w) (λ j. steps.Says (truth_word (is_some (key_place s.cells j qs)))) v a k e f
+        (subst (λ z. A (Some BoolType) (Gives (BoolVal (is_some (place_of_key k ps))) w) (steps.Says (truth_word (is_some z)))) (sym (same_key_place k ps qs m)) (says_truth (is_some (place_of_key k ps)))))
+
+    -- how many pairs there are, and the key at a place
+    check_row : (n : ℤ) → A (Some BoolType) (program.of_dict (λ pairs. program.sized (int_eq (pos (counted_length (length pairs))) n) w) (slice_get w.store d)) (steps.sized (int_eq (pos (counted_length (length qs))) n))
+    check_row n =
+        pairs_found (Some BoolType) (λ pairs. program.sized (int_eq (pos (counted_length (length pairs))) n) w) _
+        (subst (λ z. A (Some BoolType) (program.sized (int_eq (pos (counted_length z)) n) w) (steps.sized (int_eq (pos (counted_length (length qs))) n))) (sym (pairs_size ps qs m)) (sized_row (int_eq (pos (counted_length (length qs))) n)))
+
+    pairs_row : A (Some Int) (program.of_dict (λ pairs. Gives (IntVal (pos (counted_length (length pairs)))) w) (slice_get w.store d)) (steps.tagged_effect (pos (counted_length (length qs))))
+    pairs_row =
+        pairs_found (Some Int) (λ pairs. Gives (IntVal (pos (counted_length (length pairs)))) w) _
+        (subst (λ n. A (Some Int) (Gives (IntVal (pos (counted_length n))) w) (steps.tagged_effect (pos (counted_length (length qs))))) (sym (pairs_size ps qs m)) (int_row (pos (counted_length (length qs)))))
+
+    key_by : (o : Option (Value × Value)) (q : Option (Word × Word)) → BothPaired o q → A (Some Ref) (program.of_pair (λ p. Gives p.0 w) o) (steps.of_pair (λ p. steps.Shares p.0) q)
+    key_by None None n = both_wrong (Some Ref) steps.Wrong
+    key_by None (Some q) n = absurd n
+    key_by (Some p) None n = absurd n
+    key_by (Some p) (Some q) n = both_share Ref p.0 q.0 (boxed p.0 q.0 n.0)
+
+    key_at_row : (i : ℤ) → A (Some Ref) (program.key_at ps i w) (steps.key_at qs i)
+    key_at_row (pos i) = key_by (slice_get ps i) (slice_get qs i) (pairs_at ps qs m i)
+    key_at_row (negsuc i) = both_wrong (Some Ref) steps.Wrong
+
+    key_row : (i : ℤ) → A (Some Ref) (program.of_dict (λ pairs. program.key_at pairs i w) (slice_get w.store d)) (steps.key_at qs i)
+    key_row i = pairs_found (Some Ref) (λ pairs. program.key_at pairs i w) _ (key_at_row i)
+
   -- ---- the rows
   abbrev pub Row : Primitive → Type 0
   Row q =
       (vs : List Argument) (ys : List machines.Argument) → AllMeet w s code (row_of q).parameters vs ys → A (answer_of (row_of q).outcome) (program.effect p q vs w) (steps.effect code s q ys)
 
-  pub agree : (q : Primitive) → is_global q ≡ false → Row q
+  pub agree : (q : Primitive) → stands_elsewhere q ≡ false → Row q
   agree (prim.Int64 int64.Add) g vs ys (one_more (is_native m) (one_more (is_native n) no_more)) =
       says_native (i64_add m n)
   agree (prim.Int64 int64.Subtract) g vs ys (one_more (is_native m) (one_more (is_native n) no_more)) =
@@ -426,7 +622,7 @@ module _ (p : Program) (code : Code) (w : World) (s : MachineState) (world : Wor
       two_ints (Some Int) _ (λ m n. steps.tagged_or (int_shr m n)) a b m n e f (ints_row (int_shr m n))
   agree (prim.Tagged tagged.Negate) g vs ys (one_more (is_number n a e) no_more) =
       one_int (Some Int) _ (λ n. steps.tagged_or (int_neg n)) a n e (ints_row (int_neg n))
-  agree (prim.Tagged tagged.FromText) g vs ys (one_more (writes_text t) no_more) =
+  agree (prim.Tagged tagged.FromText) g vs ys (one_more (writes_decimal t) no_more) =
       written_row t (signed_digits_value 10 t)
   agree (prim.Tagged tagged.FromInt64) g vs ys (one_more (is_native n) no_more) =
       int_row n
@@ -486,16 +682,36 @@ module _ (p : Program) (code : Code) (w : World) (s : MachineState) (world : Wor
       append_row k c us zs there made live m v y a b e
   agree (prim.List list.GetItem) g vs ys (one_more (is_list k c us zs there made live m) (one_more (is_number n a e) no_more)) =
       one_int (Some Ref) _ (λ i. steps.item_at (place_of (length zs) i) zs) a n e (get_row k c us zs there made live m n)
+  agree (prim.List list.GetItemBorrow) g vs ys (one_more (is_list k c us zs there made live m) (one_more (is_number n a e) no_more)) =
+      one_int (Some Ref) _ (λ i. steps.lent (steps.item_at (place_of (length zs) i) zs)) a n e (get_lent_row k c us zs there made live m n)
   agree (prim.List list.SetItem) g vs ys (one_more (is_list k c us zs there made live m) (one_more (is_number n a e) (one_more (owns_any v y x b f) no_more))) =
       one_int (Some BoolType) _ (λ i. steps.of_word (steps.put_at c (place_of (length zs) i) zs) (word_in ObjectKind x)) a n e (set_row k c us zs there made live m n v y x b f)
   agree (prim.List list.Pop) g vs ys (one_more (is_list k c us zs there made live m) no_more) =
       pop_row k c us zs there made live m
   agree (prim.List list.Len) g vs ys (one_more (is_list k c us zs there made live m) no_more) =
       size_row k c us zs there made live m
+  agree (prim.Dict dict.New) g vs ys no_more =
+      both_make_object (DictObj []) (DictCell []) refl tt
+  agree (prim.Dict dict.GetItem) g vs ys (one_more (is_dict d c ps qs there made live m) (one_more (is_a_key v y a k b e f) no_more)) =
+      read_row d c ps qs there made live m v a k e f
+  agree (prim.Dict dict.SetItem) g vs ys (one_more (is_dict d c ps qs there made live m) (one_more (owns_key u y a k b e f is) (one_more (owns_any v z x n it) no_more))) =
+      put_pair_row d c ps qs there made live m u v y z a x k b e f is n it
+  agree (prim.Dict dict.DelItem) g vs ys (one_more (is_dict d c ps qs there made live m) (one_more (is_a_key v y a k b e f) no_more)) =
+      cut_pair_row d c ps qs there made live m v a k e f
+  agree (prim.Dict dict.Contains) g vs ys (one_more (is_dict d c ps qs there made live m) (one_more (is_a_key v y a k b e f) no_more)) =
+      contains_row d c ps qs there made live m v a k e f
+  agree (prim.Dict dict.CheckSize) g vs ys (one_more (is_dict d c ps qs there made live m) (one_more (is_number n a e) no_more)) =
+      one_int (Some BoolType) _ (λ i. steps.sized (int_eq (pos (counted_length (length qs))) i)) a n e (check_row d c ps qs there made live m n)
+  agree (prim.Dict dict.KeyAt) g vs ys (one_more (is_dict d c ps qs there made live m) (one_more (is_number n a e) no_more)) =
+      one_int (Some Ref) _ (steps.key_at qs) a n e (key_row d c ps qs there made live m n)
+  agree (prim.Dict dict.Len) g vs ys (one_more (is_dict d c ps qs there made live m) no_more) =
+      pairs_row d c ps qs there made live m
   agree (prim.Tuple tuple.Pack) g vs ys (one_more {vs = us} {ys = zs} (owns_any v y a b e) rest) =
       packed_row _ _ (one_packed v y a us zs b e (may_pack 15 us zs rest))
   agree (prim.Tuple tuple.GetItem) g vs ys (one_more (is_tuple parts c zs m) (one_more (writes_number n) no_more)) =
       part_row parts zs m n
+  agree (prim.Tuple tuple.GetItemBorrow) g vs ys (one_more (is_tuple parts c zs m) (one_more (writes_number n) no_more)) =
+      lent_part_row parts zs m n
   agree (prim.Tuple tuple.Len) g vs ys (one_more (is_tuple parts c zs m) no_more) =
       counted_row (listed parts) zs (all_parts parts zs m)
   agree (prim.Exc exc.New) g vs ys (one_more (writes_exception name) (one_more (is_text t c) no_more)) =
@@ -517,3 +733,5 @@ module _ (p : Program) (code : Code) (w : World) (s : MachineState) (world : Wor
   agree (prim.Io io.Input) g vs ys no_more =
       subst (λ z. A (Some Ref) (program.line_read w.items w) (steps.line_read z)) (sym world.items) (line_row w.items)
   agree (prim.Global q) g vs ys h = absurd (cc)
+  agree (prim.Instance q) g vs ys h = absurd (cc)
+  agree (prim.Attr q) g vs ys h = absurd (cc)

@@ -1,11 +1,11 @@
 -- When the words of a machine are what the registers of a program hold.
 use Rattle.std.specs.Prelude.{◌≡◌, ℕ, ℤ, Bool, true, false, List, [], ◌∷◌, length, map, Option, Some, None, slice_get}
 use Rattle.value_core.specs.Exceptions.{Thrown}
-use Rattle.value_core.specs.Value.{Value, IntVal, BoolVal, NoneVal, StrVal, TupleVal, ExcVal, ObjVal, Values, no_values, value_then, Object, ListObj, Store}
+use Rattle.value_core.specs.Value.{Value, IntVal, BoolVal, NoneVal, StrVal, TupleVal, ExcVal, ObjVal, Values, no_values, value_then, Object, ListObj, DictObj, Store}
 use Rattle.c_core.specs.declared.code.CFunc.{CFunc}
 use Rattle.c_core.specs.declared.code.Code.{Code}
 use Rattle.c_core.specs.Cells.{content_at}
-use Rattle.c_core.specs.Machine.{Word, ShortInt, BigInt, TaggedError, Native, CharWord, ObjectCell, NoneObject, TrueObject, FalseObject, NoObject, Content, IntCell, StrCell, ListCell, TupleCell, ExcCell, is_object, MachineState}
+use Rattle.c_core.specs.Machine.{Word, ShortInt, BigInt, TaggedError, Native, CharWord, ObjectCell, NoneObject, TrueObject, FalseObject, NoObject, Content, IntCell, StrCell, ListCell, DictCell, TupleCell, ExcCell, is_object, MachineState}
 use Rattle.c_core.specs.Stands.{IsLive}
 use Rattle.ir_core.specs.declared.code.RType.{RType}
 use Rattle.ir_core.specs.declared.code.RType.TheVariants.{Int, I64, Bool as BoolType, Ref}
@@ -46,9 +46,15 @@ module _ (s : MachineState) where
   AllBoxed (v ∷ vs) (y ∷ ys) = Boxed v y × AllBoxed vs ys
   AllBoxed _ _ = ⊥
 
-  -- a content is an object's. No dict and no instance is made yet
+  abbrev pub PairsBoxed : List (Value × Value) → List (Word × Word) → Type 0
+  PairsBoxed [] [] = Unit {0}
+  PairsBoxed (p ∷ ps) (q ∷ qs) = Boxed p.0 q.0 × Boxed p.1 q.1 × PairsBoxed ps qs
+  PairsBoxed _ _ = ⊥
+
+  -- a content is an object's. No instance is made yet
   abbrev pub ObjectFits : Object → Content → Type 0
   ObjectFits (ListObj items) (ListCell words) = AllBoxed items words
+  ObjectFits (DictObj pairs) (DictCell words) = PairsBoxed pairs words
   ObjectFits _ _ = ⊥
 
   -- an object of the store is in the cell that was made as the k-th

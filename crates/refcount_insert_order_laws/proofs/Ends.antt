@@ -20,10 +20,11 @@ use Rattle.ir_core.specs.Lower.{kind_of_type, variable_of, line_of, op_lines, la
 use Rattle.ir_core.specs.Shape.{LastFits}
 use Rattle.ir_core.proofs.ItemLemmas.{end_item}
 use Rattle.c_core_ownership_laws.specs.Shares.{put, Shares, with_share, has_cells, may_have_cells, may_refer, one_if, IsUsable, Jumps, Checks}
+use Rattle.c_core_ownership_laws.proofs.Weaken.{within_self}
 use Rattle.liveness.specs.Paths.{targets, MetAt}
 use Rattle.refcount_insert_rule.specs.Rule.{IsEdge, IsReturned}
 use Rattle.refcount_insert_rule.specs.Counted.{counts_register, Tables, owned, AreLast, IsEdgeTo, IsLast}
-use Rattle.refcount_insert_order_laws.proofs.Numbers.{put_is, same_is, or_left, is_short, same_found}
+use Rattle.refcount_insert_order_laws.proofs.Numbers.{put_is, put_off, same_is, or_left, is_short, same_found}
 use Rattle.refcount_insert_order_laws.proofs.Counts.{lines_append, ups_check, edge_check}
 use Rattle.refcount_insert_order_laws.proofs.Variables.{agrees, has_kind_is}
 use Rattle.refcount_insert_order_laws.proofs.Equations.{at, lent_at, end_usable, edge_usable, edge_lent, dead_returned, few_owned, off_owned}
@@ -110,28 +111,28 @@ module _ (p q : Program) (f : Func) (t : Tables f) (number : ℕ → ℕ) (code 
       -- shares that lend as much as those of the end
       jump_to : (σ : Shares) → ((r : ℕ) → σ.owns r ≡ owned f t to 0 r) → ((r : ℕ) → lent_at f t b (length k.ops) r ≡ true → σ.lent r ≡ true) → Jumps code g (Starts start) σ (label_of (number to))
       jump_to σ e l =
-          (at f t to 0, enter start (number to) (at f t to 0) entered.0 entered.1, (e, λ r h. l r (edge_lent f t b (length k.ops) k.last item met i to goes first_item.0 first_item.1 r h)))
+          (at f t to 0, enter start (number to) (at f t to 0) entered.0 entered.1, λ r. inr (e r, (λ h. l r (edge_lent f t b (length k.ops) k.last item met i to goes first_item.0 first_item.1 r h)), (λ h. absurd (cc)), refl))
 
       -- the counts of the edge and a jump there
-      counted_goto : (σ : Shares) (counts : List (Op × ℕ)) (ls : List Line) → IsEdge σ.owns (owned f t to 0) counts → ((r : ℕ) → IsUsable g.vars (at f t b (length k.ops)) r → IsUsable g.vars σ r) → ((r : ℕ) → lent_at f t b (length k.ops) r ≡ true → σ.lent r ≡ true) → ((ρ : Shares) → Jumps code g (Starts start) ρ (label_of (number to)) → Good ρ ls) → Good σ (op_lines q counts ++ ls)
-      counted_goto σ counts ls edge u l rest =
-          edge_check q code g (Starts start) Never σ (owned f t to 0) counts ls edge (λ r le. u r (edge_usable f t b (length k.ops) k.last item met i to goes first_item.0 first_item.1 r le)) (rest (record σ { owns = owned f t to 0 }) (jump_to (record σ { owns = owned f t to 0 }) (λ r. refl) l))
+      counted_goto : (σ : Shares) (counts : List (Op × ℕ)) (ls : List Line) → IsEdge σ.owns (owned f t to 0) counts → ((r : ℕ) → IsUsable g.vars (at f t b (length k.ops)) r → IsUsable g.vars σ r) → ((r : ℕ) → lent_at f t b (length k.ops) r ≡ true → σ.lent r ≡ true) → ((r : ℕ) → σ.held r ≡ false) → ((ρ : Shares) → Jumps code g (Starts start) ρ (label_of (number to)) → Good ρ ls) → Good σ (op_lines q counts ++ ls)
+      counted_goto σ counts ls edge u l off rest =
+          edge_check q code g (Starts start) Never σ (owned f t to 0) counts ls edge (λ r le. u r (edge_usable f t b (length k.ops) k.last item met i to goes first_item.0 first_item.1 r le)) off (rest (record { owns = owned f t to 0; lent = σ.lent; held = λ r. false; empty = σ.empty }) (jump_to (record { owns = owned f t to 0; lent = σ.lent; held = λ r. false; empty = σ.empty }) (λ r. refl) l))
 
       -- the edge of a test
       edge_jump : (σ : Shares) (at_block into : ℕ) (own : List Block) → IsEdgeTo f t number σ.owns to at_block into own → 1 ≤ at_block → ((x : Block) (xs : List Block) → own ≡ x ∷ xs → start at_block ≡ Some σ) → ((r : ℕ) → lent_at f t b (length k.ops) r ≡ true → σ.lent r ≡ true) → Jumps code g (Starts start) σ (label_of into)
       edge_jump σ at_block into own (inl h) le begins l =
           subst (λ z. Jumps code g (Starts start) σ (label_of z)) (sym h.0) (jump_to σ h.2 l)
       edge_jump σ at_block into own (inr h) le begins l =
-          subst (λ z. Jumps code g (Starts start) σ (label_of z)) (sym h.0) (σ, enter start at_block σ le (begins (record { ops = h.1; last = Goto (number to) }) [] h.2), (λ r. refl, λ r e. e))
+          subst (λ z. Jumps code g (Starts start) σ (label_of z)) (sym h.0) (σ, enter start at_block σ le (begins (record { ops = h.1; last = Goto (number to) }) [] h.2), within_self σ)
 
       -- the block of the edge
-      pub own_check : (σ : Shares) (at_block into : ℕ) (x : Block) (xs : List Block) → IsEdgeTo f t number σ.owns to at_block into (x ∷ xs) → ((r : ℕ) → IsUsable g.vars (at f t b (length k.ops)) r → IsUsable g.vars σ r) → ((r : ℕ) → lent_at f t b (length k.ops) r ≡ true → σ.lent r ≡ true) → (j : ℕ) → (xs ≡ []) × Good σ (op_lines q x.ops ++ end_lines label_of j x.last)
-      own_check σ at_block into x xs (inl h) u l j = let e : x ∷ xs ≡ [] = h.1 in absurd (cc)
-      own_check σ at_block into x xs (inr h) u l j =
+      pub own_check : (σ : Shares) (at_block into : ℕ) (x : Block) (xs : List Block) → IsEdgeTo f t number σ.owns to at_block into (x ∷ xs) → ((r : ℕ) → IsUsable g.vars (at f t b (length k.ops)) r → IsUsable g.vars σ r) → ((r : ℕ) → lent_at f t b (length k.ops) r ≡ true → σ.lent r ≡ true) → ((r : ℕ) → σ.held r ≡ false) → (j : ℕ) → (xs ≡ []) × Good σ (op_lines q x.ops ++ end_lines label_of j x.last)
+      own_check σ at_block into x xs (inl h) u l off j = let e : x ∷ xs ≡ [] = h.1 in absurd (cc)
+      own_check σ at_block into x xs (inr h) u l off j =
           let e : x ∷ xs ≡ record { ops = h.1; last = Goto (number to) } ∷ [] = h.2 in
           let one : record { ops = h.1; last = Goto (number to) } ≡ x = cc in
           let none : xs ≡ [] = cc in
-          (none, subst (λ (z : Block). Good σ (op_lines q z.ops ++ end_lines label_of j z.last)) one (counted_goto σ h.1 (line.Goto (label_of (number to)) ∷ []) h.3 u l (λ ρ a. a)))
+          (none, subst (λ (z : Block). Good σ (op_lines q z.ops ++ end_lines label_of j z.last)) one (counted_goto σ h.1 (line.Goto (label_of (number to)) ∷ []) h.3 u l off (λ ρ a. a)))
 
     -- the shares at the end, and those of a test's error edge
     abbrev pub here : Shares
@@ -147,6 +148,9 @@ module _ (p q : Program) (f : Func) (t : Tables f) (number : ℕ → ℕ) (code 
         by true = refl
         by false = e
 
+    pub failed_off : (x : Reg) (a r : ℕ) → (failed x a).held r ≡ false
+    failed_off x a r = put_off x.0 (λ r. false) (λ r. refl) r
+
     pub failed_usable : (x : Reg) (a r : ℕ) → IsUsable g.vars here r → IsUsable g.vars (failed x a) r
     failed_usable x a r u = by (nat_eq x.0 r) refl
       where
@@ -157,7 +161,7 @@ module _ (p q : Program) (f : Func) (t : Tables f) (number : ℕ → ℕ) (code 
         by true e = inr (inl (put_is x.0 true here.lent r ∙ ap (λ c. cond c true (here.lent r)) e))
         by false e = ⊎_elim
             (λ own. inl (omega (arith, own, own_is ∙ ap (λ c. cond c (owned f t a 0 x.0) (here.owns r)) e)))
-            (λ l. inr (⊎_elim (λ lent. inl (failed_lent x a r lent)) (λ off. inr off) l))
+            (λ l. inr (⊎_elim (λ lent. inl (failed_lent x a r lent)) (λ off. inr (⊎_elim (λ f. inl f) (λ t. absurd (cc)) off)) l))
             u
 
     -- the blocks of the edges of a test, where shares stand at their starts
@@ -179,7 +183,7 @@ module _ (p q : Program) (f : Func) (t : Tables f) (number : ℕ → ℕ) (code 
 
     returned : (x : Reg) (ops : List (Op × ℕ)) → k.last ≡ Return x → IsReturned counted x here.owns ops → IsLastFit f (Return x) → Good here (op_lines q ops ++ line.Return x.0 ∷ [])
     returned x ops e h fit =
-        subst (λ z. Good here (op_lines q z ++ line.Return x.0 ∷ [])) (sym h.is) (ups_check q code g (Starts start) Never h.up 0 here (line.Return x.0 ∷ []) usable (kinds, owns))
+        subst (λ z. Good here (op_lines q z ++ line.Return x.0 ∷ [])) (sym h.is) (ups_check q code g (Starts start) Never h.up 0 here (line.Return x.0 ∷ []) usable (kinds, λ r. inl (owns r)))
       where
         is_end : item_in f.blocks b (length k.ops) ≡ Some (End (Return x))
         is_end = item ∙ ap (λ z. Some (End z)) e
@@ -224,7 +228,7 @@ module _ (p q : Program) (f : Func) (t : Tables f) (number : ℕ → ℕ) (code 
 
     pub end_check : (l : Last) → k.last ≡ l → (behind : List (Op × ℕ)) → AreLast f t number here.owns l behind → (first : ℕ) (last : Last) (own : List Block) (h : IsLast f t number here.owns l first last own) → LastFits (length f.blocks) b k.ops l → IsLastFit f l → 1 ≤ first → Begins first (starts_of f t number b (length k.ops) l first last own h) → (j : ℕ) → j ≡ number b → Good here (op_lines q behind ++ end_lines label_of j last)
     end_check (Goto to) e behind counts first last own h fits of_text le begins j is_number =
-        subst (λ z. Good here (op_lines q behind ++ end_lines label_of j z)) (sym h.0) (counted_goto 0 to (ap (λ z. slice_get (targets z) 0) e) fits.0 fits.1 here behind (line.Goto (label_of (number to)) ∷ []) counts (λ r u. u) (λ r lent. lent) (λ ρ a. a))
+        subst (λ z. Good here (op_lines q behind ++ end_lines label_of j z)) (sym h.0) (counted_goto 0 to (ap (λ z. slice_get (targets z) 0) e) fits.0 fits.1 here behind (line.Goto (label_of (number to)) ∷ []) counts (λ r u. u) (λ r lent. lent) (λ r. refl) (λ ρ a. a))
     end_check (If x a c) e behind counts first last own h fits of_text le begins j is_number =
         subst (λ z. Good here (op_lines q behind ++ end_lines label_of j z)) (sym h.2) (subst (λ z. Good here (op_lines q z ++ (line.If x.0 (label_of h.0) (label_of h.1) ∷ []))) (sym counts) (
           edge_jump 0 a (ap (λ z. slice_get (targets z) 0) e) (omega (arith, fits.0.0)) fits.0.1 here first h.0 h.3.0 h.3.3 le (first_begins first h.3.0 h.3.1 here here begins) (λ r lent. lent),
@@ -232,7 +236,7 @@ module _ (p q : Program) (f : Func) (t : Tables f) (number : ℕ → ℕ) (code 
         ))
     end_check (IfError x a c source) e behind counts first last own h fits of_text le begins j is_number =
         subst (λ z. Good here (op_lines q behind ++ end_lines label_of j z)) (sym h.2) (subst (λ z. Good here (op_lines q z ++ (line.IfError x.0 (label_of h.0) (label_of h.1) ∷ []))) (sym counts) (
-          (owned f t a 0 x.0, true, edge_jump 0 a (ap (λ z. slice_get (targets z) 0) e) (omega (arith, fits.0.0)) fits.0.1 (failed x a) first h.0 h.3.0 h.3.3 le (first_begins first h.3.0 h.3.1 (failed x a) here begins) (failed_lent x a)),
+          (record { owns = owned f t a 0 x.0; lent = true; held = false; empty = false }, edge_jump 0 a (ap (λ z. slice_get (targets z) 0) e) (omega (arith, fits.0.0)) fits.0.1 (failed x a) first h.0 h.3.0 h.3.3 le (first_begins first h.3.0 h.3.1 (failed x a) here begins) (failed_lent x a)),
           edge_jump 1 c (ap (λ z. slice_get (targets z) 1) e) (omega (arith, fits.1.0)) fits.1.1 here (first + length h.3.0) h.1 h.3.1 h.3.4 (omega (arith, le)) (second_begins first h.3.0 h.3.1 (failed x a) here begins) (λ r lent. lent),
         ))
     end_check (Return x) e behind counts first last own h fits of_text le begins j is_number =
@@ -241,7 +245,7 @@ module _ (p q : Program) (f : Func) (t : Tables f) (number : ℕ → ℕ) (code 
         let there = known b k is marked fits.0 in
         let none : here ≡ at f t b 0 = ap (λ z. at f t b (length z)) fits.1 in
         subst (λ z. Good here (op_lines q behind ++ end_lines label_of j z)) (sym h.0) (subst (λ z. Good here (op_lines q z ++ (line.Turn ∷ line.Goto (label_of j) ∷ []))) (sym counts)
-        (here, enter start j here (omega (arith, there.0, is_number)) (ap start is_number ∙ (there.1 ∙ ap Some (sym none))), (λ r. refl, λ r lent. lent)))
+        (here, enter start j here (omega (arith, there.0, is_number)) (ap start is_number ∙ (there.1 ∙ ap Some (sym none))), within_self here))
 
     -- a jump directly behind a turn
     pub turned_check : (to : ℕ) → k.last ≡ Goto to → (turn : Op × ℕ) → turn.0 ≡ Turn → (counts : List (Op × ℕ)) → IsEdge here.owns (owned f t to 0) counts → 0 < to → to < length f.blocks → Good here (op_lines q (counts ++ turn ∷ []) ++ (line.Goto (label_of (number to)) ∷ []))
@@ -250,4 +254,4 @@ module _ (p q : Program) (f : Func) (t : Tables f) (number : ℕ → ℕ) (code 
         ap (λ z. z ++ (line.Goto (label_of (number to)) ∷ [])) (lines_append q counts (turn ∷ []))
         ∙ (append_assoc (op_lines q counts) (line_of q turn.0 ∷ []) (line.Goto (label_of (number to)) ∷ [])
         ∙ ap (λ z. op_lines q counts ++ (line_of q z ∷ line.Goto (label_of (number to)) ∷ [])) is_turn) in
-        subst (Good here) (sym split) (counted_goto 0 to (ap (λ z. slice_get (targets z) 0) e) higher lower here counts (line.Turn ∷ line.Goto (label_of (number to)) ∷ []) edge (λ r u. u) (λ r lent. lent) (λ ρ a. a))
+        subst (Good here) (sym split) (counted_goto 0 to (ap (λ z. slice_get (targets z) 0) e) higher lower here counts (line.Turn ∷ line.Goto (label_of (number to)) ∷ []) edge (λ r u. u) (λ r lent. lent) (λ r. refl) (λ ρ a. a))

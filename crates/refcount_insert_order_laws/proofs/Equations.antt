@@ -177,7 +177,7 @@ module _ (f : Func) where
 
     -- the shares of a place
     abbrev pub at : ℕ → ℕ → Shares
-    at b p = record { owns = owned f t b p; lent = lent_at b p }
+    at b p = record { owns = owned f t b p; lent = lent_at b p; held = λ r. false; empty = λ r. false }
 
     lent_is : (b p r : ℕ) → r < length f.regs → lent_at b p r ≡ t.lent b p r
     lent_is b p r lt = ap (λ c. c && t.lent b p r) (lt-ltb r (length f.regs) lt)
@@ -192,7 +192,7 @@ module _ (f : Func) where
     live_usable b p r same live = by (counted r) refl (t.lent b p r) refl
       where
         by : (c : Bool) → counted r ≡ c → (l : Bool) → t.lent b p r ≡ l → IsUsable (map variable_of f.regs) (at b p) r
-        by false off l el = inr (inr (same ∙ off))
+        by false off l el = inr (inr (inl (same ∙ off)))
         by true is true el = inr (inl (lent_is b p r (counted_there f.regs r is) ∙ el))
         by true is false el = inl (omega (arith, one_here (counted r) (t.live b p r) (t.lent b p r) is (live is) el))
 
@@ -238,6 +238,10 @@ module _ (f : Func) where
             kept = stays;
             clear = dead;
             lent = λ r. lent_next r (is_target (write_of o) r) refl (nat_lt r (length f.regs)) refl;
+            none_held = λ r. refl;
+            none_held_after = λ r. refl;
+            none_empty = λ r. refl;
+            none_empty_after = λ r. refl;
           }
         where
           stays : (r : ℕ) → is_target (write_of o) r ≡ false → 1 ≤ owned f t b (suc p) r → IsUsable (map variable_of f.regs) (at b p) r
@@ -269,7 +273,7 @@ module _ (f : Func) where
         (λ off. off_owned b (suc p) r off ∙ sym (off_owned b p r off))
         (either (counted r)) in
         let lend : (r : ℕ) → lent_at b (suc p) r ≡ lent_at b p r = λ r. lends_on r (nat_lt r (length f.regs)) refl in
-        λ i. record { owns = λ r. own r i; lent = λ r. lend r i }
+        λ i. record { owns = λ r. own r i; lent = λ r. lend r i; held = λ r. false; empty = λ r. false }
       where
         lends_on : (r : ℕ) (c : Bool) → nat_lt r (length f.regs) ≡ c → lent_at b (suc p) r ≡ lent_at b p r
         lends_on r true lt = ap (λ z. nat_lt r (length f.regs) && z) (lent_on b p Turn is met r (ltb-true r (length f.regs) lt) refl)

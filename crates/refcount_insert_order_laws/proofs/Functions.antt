@@ -21,7 +21,7 @@ use Rattle.refcount_insert_order_laws.proofs.Equations.{at, lent_at}
 use Rattle.refcount_insert_order_laws.proofs.MetBlocks.{Marks}
 use Rattle.refcount_insert_order_laws.proofs.Trails.{at_place, at_behind, head, Leads, leads_size}
 use Rattle.refcount_insert_order_laws.proofs.Bodies.{text_of, AreAlike, lines_size}
-use Rattle.refcount_insert_order_laws.proofs.Ends.{Starts, Never, failed_at, starts_of, own_check, failed_usable, failed_lent}
+use Rattle.refcount_insert_order_laws.proofs.Ends.{Starts, Never, failed_at, starts_of, own_check, failed_usable, failed_lent, failed_off}
 use Rattle.refcount_insert_order_laws.proofs.Mains.{BlockFacts, Main, main_of, head_drop, operations_within}
 use Rattle.refcount_insert_order_laws.proofs.Blocks.{labelled, labelled_drop, unmet, AreChecked, Marked, Blocks, cons_block, own_blocks}
 use Rattle.refcount_insert_order_laws.proofs.Starts.{if_met, starts, starts_size, checked_append, none_checked}
@@ -32,10 +32,10 @@ module _ (p q : Program) (f : Func) (t : Tables f) (number : ℕ → ℕ) (code 
 
   -- ---- the blocks of the edges of a block that is met
   module _ (b : ℕ) (k : Block) (is : slice_get f.blocks b ≡ Some k) (marked : m.marked b ≡ true) where
-    edge_checked : (i to : ℕ) (goes : slice_get (targets k.last) i ≡ Some to) → 0 < to → to < length f.blocks → (σ : Shares) (first into : ℕ) (one : List Block) → IsEdgeTo f t number σ.owns to first into one → ((r : ℕ) → IsUsable g.vars (at f t b (length k.ops)) r → IsUsable g.vars σ r) → ((r : ℕ) → lent_at f t b (length k.ops) r ≡ true → σ.lent r ≡ true) → (j : ℕ) → AreChecked q code g start j one (map Some (map (λ z. σ) one))
-    edge_checked i to goes higher lower σ first into [] h u l j = tt
-    edge_checked i to goes higher lower σ first into (x ∷ xs) h u l j =
-        let c = own_check p q f t number code name lines start m known b k is marked i to goes higher lower σ first into x xs h u l j in
+    edge_checked : (i to : ℕ) (goes : slice_get (targets k.last) i ≡ Some to) → 0 < to → to < length f.blocks → (σ : Shares) (first into : ℕ) (one : List Block) → IsEdgeTo f t number σ.owns to first into one → ((r : ℕ) → IsUsable g.vars (at f t b (length k.ops)) r → IsUsable g.vars σ r) → ((r : ℕ) → lent_at f t b (length k.ops) r ≡ true → σ.lent r ≡ true) → ((r : ℕ) → σ.held r ≡ false) → (j : ℕ) → AreChecked q code g start j one (map Some (map (λ z. σ) one))
+    edge_checked i to goes higher lower σ first into [] h u l off j = tt
+    edge_checked i to goes higher lower σ first into (x ∷ xs) h u l off j =
+        let c = own_check p q f t number code name lines start m known b k is marked i to goes higher lower σ first into x xs h u l off j in
         (λ τ e. let one : σ ≡ τ = cc in subst (λ z. Checks code g (Starts start) Never z (op_lines q x.ops ++ end_lines label_of j x.last)) one c.1, subst (λ z. AreChecked q code g start (suc j) z (map Some (map (λ z. σ) z))) (sym c.0) tt)
 
     own_checked : (l : Last) → k.last ≡ l → (first : ℕ) (last : Last) (own : List Block) (h : IsLast f t number (owned f t b (length k.ops)) l first last own) → LastFits (length f.blocks) b k.ops l → (j : ℕ) → AreChecked q code g start j own (map Some (starts_of f t number b (length k.ops) l first last own h))
@@ -44,14 +44,14 @@ module _ (p q : Program) (f : Func) (t : Tables f) (number : ℕ → ℕ) (code 
     own_checked (If x a c) e first last own h fits j =
         let σ : Shares = at f t b (length k.ops) in
         subst (λ z. AreChecked q code g start j z (map Some (map (λ z. σ) h.3.0 ++ map (λ z. σ) h.3.1))) (sym h.3.2) (subst (AreChecked q code g start j (h.3.0 ++ h.3.1)) (sym (map-append Some (map (λ z. σ) h.3.0) (map (λ z. σ) h.3.1))) (checked_append q code g start j h.3.0 h.3.1 (map Some (map (λ z. σ) h.3.0)) (map Some (map (λ z. σ) h.3.1))
-        (edge_checked 0 a (ap (λ z. slice_get (targets z) 0) e) (omega (arith, fits.0.0)) fits.0.1 σ first h.0 h.3.0 h.3.3 (λ r u. u) (λ r u. u) j)
-        (edge_checked 1 c (ap (λ z. slice_get (targets z) 1) e) (omega (arith, fits.1.0)) fits.1.1 σ (first + length h.3.0) h.1 h.3.1 h.3.4 (λ r u. u) (λ r u. u) (j + length h.3.0))))
+        (edge_checked 0 a (ap (λ z. slice_get (targets z) 0) e) (omega (arith, fits.0.0)) fits.0.1 σ first h.0 h.3.0 h.3.3 (λ r u. u) (λ r u. u) (λ r. refl) j)
+        (edge_checked 1 c (ap (λ z. slice_get (targets z) 1) e) (omega (arith, fits.1.0)) fits.1.1 σ (first + length h.3.0) h.1 h.3.1 h.3.4 (λ r u. u) (λ r u. u) (λ r. refl) (j + length h.3.0))))
     own_checked (IfError x a c source) e first last own h fits j =
         let σ : Shares = at f t b (length k.ops) in
         let τ : Shares = failed_at f t b (length k.ops) x a in
         subst (λ z. AreChecked q code g start j z (map Some (map (λ z. τ) h.3.0 ++ map (λ z. σ) h.3.1))) (sym h.3.2) (subst (AreChecked q code g start j (h.3.0 ++ h.3.1)) (sym (map-append Some (map (λ z. τ) h.3.0) (map (λ z. σ) h.3.1))) (checked_append q code g start j h.3.0 h.3.1 (map Some (map (λ z. τ) h.3.0)) (map Some (map (λ z. σ) h.3.1))
-        (edge_checked 0 a (ap (λ z. slice_get (targets z) 0) e) (omega (arith, fits.0.0)) fits.0.1 τ first h.0 h.3.0 h.3.3 (failed_usable p q f t number code name lines start m known b k is marked x a) (failed_lent p q f t number code name lines start m known b k is marked x a) j)
-        (edge_checked 1 c (ap (λ z. slice_get (targets z) 1) e) (omega (arith, fits.1.0)) fits.1.1 σ (first + length h.3.0) h.1 h.3.1 h.3.4 (λ r u. u) (λ r u. u) (j + length h.3.0))))
+        (edge_checked 0 a (ap (λ z. slice_get (targets z) 0) e) (omega (arith, fits.0.0)) fits.0.1 τ first h.0 h.3.0 h.3.3 (failed_usable p q f t number code name lines start m known b k is marked x a) (failed_lent p q f t number code name lines start m known b k is marked x a) (failed_off p q f t number code name lines start m known b k is marked x a) j)
+        (edge_checked 1 c (ap (λ z. slice_get (targets z) 1) e) (omega (arith, fits.1.0)) fits.1.1 σ (first + length h.3.0) h.1 h.3.1 h.3.4 (λ r u. u) (λ r u. u) (λ r. refl) (j + length h.3.0))))
     own_checked (Return x) e first last own h fits j =
         subst (λ z. AreChecked q code g start j z []) (sym h.1) tt
     own_checked Unreachable e first last own h fits j =

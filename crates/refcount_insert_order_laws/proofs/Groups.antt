@@ -18,7 +18,7 @@ use Rattle.c_core_ownership_laws.specs.Shares.{put, Shares, with_share, IsUsable
 use Rattle.liveness.specs.Paths.{is_among, reads_of, write_of, is_target, registers_in}
 use Rattle.refcount_insert_rule.specs.Rule.{is_stolen, takes_one, taken, takes, gives, need, counts_before, done, counts_after, downs, given_up}
 use Rattle.refcount_insert_rule.proofs.Balance.{gives_least}
-use Rattle.refcount_insert_order_laws.proofs.Numbers.{put_is, eq_self, same_found, or_left, or_right, some_of, is_short, done_is, wanted_is, given_is}
+use Rattle.refcount_insert_order_laws.proofs.Numbers.{ext, put_is, put_off, eq_self, same_found, or_left, or_right, some_of, is_short, done_is, wanted_is, given_is}
 use Rattle.refcount_insert_order_laws.proofs.Counts.{Fine, usable_more, downs_check}
 
 -- the shares before and behind an operation suit it
@@ -31,6 +31,10 @@ pub record Suits (vars : List Declared) (counted : ℕ → Bool) (o : Op) (σ τ
   pub kept : (r : ℕ) → is_target (write_of o) r ≡ false → 1 ≤ τ.owns r → IsUsable vars σ r
   pub clear : (r : ℕ) → is_target (write_of o) r ≡ true → is_among (reads_of o) r ≡ false → σ.owns r ≡ 0
   pub lent : (r : ℕ) → τ.lent r ≡ cond (is_target (write_of o) r) false (σ.lent r)
+  pub none_held : (r : ℕ) → σ.held r ≡ false
+  pub none_held_after : (r : ℕ) → τ.held r ≡ false
+  pub none_empty : (r : ℕ) → σ.empty r ≡ false
+  pub none_empty_after : (r : ℕ) → τ.empty r ≡ false
 
 -- what the C text of a program asks of an operation
 pub record IsFit (p : Program) (code : Code) (g : CFunc) (o : Op) : Type 0 where
@@ -117,36 +121,40 @@ module _ (p q : Program) (code : Code) (g : CFunc) (counted : ℕ → Bool) (Ent
   none_up r is = none_number (counted r) (σ.owns r) (times up r) (need counted o σ.owns τ.owns r - σ.owns r) is (before r) (fit.off r is)
 
   -- the counts behind the operation bring what is there to what is wanted
-  finish : (ρ : Shares) → ((r : ℕ) → ρ.owns r ≡ cond (counted r) (done counted o σ.owns τ.owns r) 0) → ((r : ℕ) → ρ.lent r ≡ τ.lent r) → Goes ρ
-  finish ρ e l =
+  finish : (ρ : Shares) → ((r : ℕ) → ρ.owns r ≡ cond (counted r) (done counted o σ.owns τ.owns r) 0) → ((r : ℕ) → ρ.lent r ≡ τ.lent r) → ((r : ℕ) → ρ.held r ≡ false) → ((r : ℕ) → ρ.empty r ≡ false) → Goes ρ
+  finish ρ e l off full =
       let want : (r : ℕ) → counted r ≡ true → τ.owns r ≤ done counted o σ.owns τ.owns r = λ r is.
       subst (λ c. τ.owns r ≤ cond (is_target (write_of o) r) (gives o (τ.owns r)) (σ.owns r + cond c (need counted o σ.owns τ.owns r - σ.owns r) 0 - takes o r)) (sym is)
       (wanted_is (is_target (write_of o) r) (τ.owns r) (gives o (τ.owns r)) (σ.owns r) (takes o r) (gives_least o (τ.owns r) (fit.few_after r))) in
       let all : (r : ℕ) → (times (given_up ds) r ≤ ρ.owns r) × (τ.owns r ≡ ρ.owns r - times (given_up ds) r) = λ r.
       given_is (counted r) (done counted o σ.owns τ.owns r) (τ.owns r) (ρ.owns r) (times (given_up ds) r) (e r) (after r) (want r) (fit.off_after r) in
-      let back : Fine q code g Enters End (record { owns = λ r. ρ.owns r - times (given_up ds) r; lent = τ.lent }) ls =
-      subst (λ z. Fine q code g Enters End (record { owns = z; lent = τ.lent }) ls) (λ i r. (all r).1 i) rest in
-      downs_check q code g Enters End ds n ρ ls (λ r. (all r).0) (subst (λ z. Fine q code g Enters End (record { owns = λ r. ρ.owns r - times (given_up ds) r; lent = z }) ls) (λ i r. sym (l r) i) back)
+      let want_owns : Fine q code g Enters End (record { owns = λ r. ρ.owns r - times (given_up ds) r; lent = τ.lent; held = τ.held; empty = τ.empty }) ls =
+      subst (λ z. Fine q code g Enters End (record { owns = z; lent = τ.lent; held = τ.held; empty = τ.empty }) ls) (λ i r. (all r).1 i) rest in
+      let want_held : Fine q code g Enters End (record { owns = λ r. ρ.owns r - times (given_up ds) r; lent = τ.lent; held = λ r. false; empty = τ.empty }) ls =
+      subst (λ z. Fine q code g Enters End (record { owns = λ r. ρ.owns r - times (given_up ds) r; lent = τ.lent; held = z; empty = τ.empty }) ls) (λ i r. fit.none_held_after r i) want_owns in
+      let want_empty : Fine q code g Enters End (record { owns = λ r. ρ.owns r - times (given_up ds) r; lent = τ.lent; held = λ r. false; empty = ρ.empty }) ls =
+      subst (λ z. Fine q code g Enters End (record { owns = λ r. ρ.owns r - times (given_up ds) r; lent = τ.lent; held = λ r. false; empty = z }) ls) (ext (λ r. fit.none_empty_after r ∙ sym (full r))) want_held in
+      downs_check q code g Enters End ds n ρ ls (λ r. (all r).0) off (subst (λ z. Fine q code g Enters End (record { owns = λ r. ρ.owns r - times (given_up ds) r; lent = z; held = λ r. false; empty = ρ.empty }) ls) (λ i r. sym (l r) i) want_empty)
 
   -- behind an operation with a target, which gives it n references
-  pub written : (x m : ℕ) (k : ℕ → ℕ) → write_of o ≡ Some x → ((r : ℕ) → k r ≡ σ.owns r + times up r - takes o r) → m ≡ cond (counted x) (gives o (τ.owns x)) 0 → Goes (with_share x m false (record σ { owns = k }))
-  written x m k w e em =
+  pub written : (x m : ℕ) (k : ℕ → ℕ) (h : ℕ → Bool) → write_of o ≡ Some x → ((r : ℕ) → k r ≡ σ.owns r + times up r - takes o r) → m ≡ cond (counted x) (gives o (τ.owns x)) 0 → ((r : ℕ) → h r ≡ false) → Goes (with_share x m false (record { owns = k; lent = σ.lent; held = h; empty = σ.empty }))
+  written x m k h w e em off =
       let hit : (r : ℕ) → is_target (write_of o) r ≡ nat_eq x r = λ r. ap (λ z. is_target z r) w in
       let own : (r : ℕ) → put x m k r ≡ cond (counted r) (done counted o σ.owns τ.owns r) 0 = λ r.
       put_is x m k r ∙ (ap (λ b. cond b m (k r)) (sym (hit r))
       ∙ done_is (counted r) (is_target (write_of o) r) m (k r) (σ.owns r) (times up r) (counts_before counted o σ.owns τ.owns r) (takes o r) (gives o (τ.owns r)) (e r) (before r) (cond_twice (counted r) (need counted o σ.owns τ.owns r - σ.owns r)) (fit.off r)
       (λ t. em ∙ ap (λ z. cond (counted z) (gives o (τ.owns z)) 0) (eqb-true x r (sym (hit r) ∙ t)))) in
-      finish (with_share x m false (record σ { owns = k })) own (λ r. put_is x false σ.lent r ∙ (ap (λ b. cond b false (σ.lent r)) (sym (hit r)) ∙ sym (fit.lent r)))
+      finish (with_share x m false (record { owns = k; lent = σ.lent; held = h; empty = σ.empty })) own (λ r. put_is x false σ.lent r ∙ (ap (λ b. cond b false (σ.lent r)) (sym (hit r)) ∙ sym (fit.lent r))) (λ r. put_off x h off r) (λ r. put_off x σ.empty fit.none_empty r)
 
   -- behind an operation without one
-  pub unwritten : (k : ℕ → ℕ) → write_of o ≡ None → ((r : ℕ) → k r ≡ σ.owns r + times up r - takes o r) → Goes (record σ { owns = k })
-  unwritten k w e =
+  pub unwritten : (k : ℕ → ℕ) (h : ℕ → Bool) → write_of o ≡ None → ((r : ℕ) → k r ≡ σ.owns r + times up r - takes o r) → ((r : ℕ) → h r ≡ false) → Goes (record { owns = k; lent = σ.lent; held = h; empty = σ.empty })
+  unwritten k h w e off =
       let hit : (r : ℕ) → is_target (write_of o) r ≡ false = λ r. ap (λ z. is_target z r) w in
       let own : (r : ℕ) → k r ≡ cond (counted r) (done counted o σ.owns τ.owns r) 0 = λ r.
       ap (λ b. cond b 0 (k r)) (sym (hit r))
       ∙ done_is (counted r) (is_target (write_of o) r) 0 (k r) (σ.owns r) (times up r) (counts_before counted o σ.owns τ.owns r) (takes o r) (gives o (τ.owns r)) (e r) (before r) (cond_twice (counted r) (need counted o σ.owns τ.owns r - σ.owns r)) (fit.off r)
       (λ t. let both : true ≡ false = sym t ∙ hit r in absurd (cc)) in
-      finish (record σ { owns = k }) own (λ r. ap (λ b. cond b false (σ.lent r)) (sym (hit r)) ∙ sym (fit.lent r))
+      finish (record { owns = k; lent = σ.lent; held = h; empty = σ.empty }) own (λ r. ap (λ b. cond b false (σ.lent r)) (sym (hit r)) ∙ sym (fit.lent r)) off fit.none_empty
 
   -- nothing is owned through the target when the operation has taken
   pub free : (x : ℕ) → write_of o ≡ Some x → σ.owns x ≤ takes o x → σ.owns x + times up x - takes o x ≡ 0

@@ -1,7 +1,7 @@
 mod Numbers
 mod Counts
 mod Variables
-mod NamedRows
+mod CallNames
 mod Groups
 mod Operations
 mod GroupChecks

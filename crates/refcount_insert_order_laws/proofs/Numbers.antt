@@ -26,6 +26,13 @@ put_is zero a k (suc r) = ap (λ c. cond c a (k (suc r))) (sym (eq_not 0 (suc r)
 put_is (suc x) a k zero = ap (λ c. cond c a (k 0)) (sym (eq_not (suc x) 0 (λ e. omega (arith, e))))
 put_is (suc x) a k (suc r) = put_is x a (λ j. k (suc j)) r ∙ ap (λ c. cond c a (k (suc r))) (eq_suc x r)
 
+-- nothing is marked, and the mark of one number is taken away
+pub put_off : (x : ℕ) (h : ℕ → Bool) → ((r : ℕ) → h r ≡ false) → (r : ℕ) → put x false h r ≡ false
+put_off zero h off zero = refl
+put_off zero h off (suc r) = off (suc r)
+put_off (suc x) h off zero = off 0
+put_off (suc x) h off (suc r) = put_off x (λ j. h (suc j)) (λ j. off (suc j)) r
+
 pub same_is : (x r : ℕ) → same x r ≡ one_if (nat_eq x r)
 same_is zero zero = refl
 same_is zero (suc r) = ap one_if (sym (eq_not 0 (suc r) (λ e. omega (arith, e))))

@@ -6,7 +6,7 @@ use Rattle.std.specs.Str.{bytes_eq}
 use Rattle.c_core.specs.declared.code.Line.{Line}
 use Rattle.c_core.specs.declared.code.CFunc.{CFunc}
 use Rattle.c_core.specs.declared.code.Code.{Code}
-use Rattle.c_core.specs.WellFormed.{is_spelled, is_empty, is_identifier, is_char, spelled_globals, spelled_functions, spelled_function, spelled_body, spelled_line, names_differ, function_fits, line_fits, is_leaving, lines_lead_on, begins_right, is_declared, has_kind, kind_at}
+use Rattle.c_core.specs.WellFormed.{is_spelled, is_identifier, is_char, spelled_globals, spelled_class, spelled_functions, spelled_function, spelled_body, spelled_line, names_differ, classes_fit, functions_fit, function_fits, line_fits, is_leaving, lines_lead_on, begins_right, is_declared, has_kind, kind_at}
 use Rattle.c_core.proofs.Lines.{and_true, all_at, leads_on}
 use Rattle.ir_core.specs.declared.code.Op.{Op}
 use Rattle.ir_core.specs.declared.code.Last.{Last}
@@ -77,12 +77,14 @@ module _ (p : Program) (shape : Shape p) where
       let globals : Bool = names_differ (map (λ v. v.0) (lower p).globals) in
       let functions : Bool = names_differ (map (λ (g : CFunc). g.name) (lower p).funcs) in
       let fit : Bool = list_all (function_fits (lower p)) (lower p).funcs in
-      let both = and_true (is_spelled (lower p)) (globals && (functions && fit)) shape.lowered in
-      (both.0, (and_true functions fit (and_true globals (functions && fit) both.1).1).1)
+      let rest : Bool = classes_fit (lower p) && functions_fit (lower p) in
+      let both = and_true (is_spelled (lower p)) (globals && rest) shape.lowered in
+      (both.0, (and_true functions fit (and_true (classes_fit (lower p)) (functions_fit (lower p)) (and_true globals rest both.1).1).1).1)
 
   pub spelled_all : spelled_functions (lower p).funcs ≡ true
   spelled_all =
-      (and_true (is_empty (lower p).classes) (spelled_functions (lower p).funcs) (and_true (spelled_globals (lower p).globals) (is_empty (lower p).classes && spelled_functions (lower p).funcs) whole.0).1).1
+      let classes : Bool = list_all spelled_class (lower p).classes in
+      (and_true classes (spelled_functions (lower p).funcs) (and_true (spelled_globals (lower p).globals) (classes && spelled_functions (lower p).funcs) whole.0).1).1
 
   module _ (n : ℕ) (f : Func) (is : slice_get p.funcs n ≡ Some f) where
     abbrev text : CFunc

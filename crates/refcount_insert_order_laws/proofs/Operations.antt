@@ -8,7 +8,7 @@ use Rattle.c_core.specs.declared.code.CFunc.{CFunc}
 use Rattle.c_core.specs.declared.code.Code.{Code}
 use Rattle.c_core.specs.Cells.{same}
 use Rattle.c_core.specs.Functions.{parameter_kinds}
-use Rattle.c_core.specs.Primitives.{KindAt, Is, OfGlobal, OfSlot, Parameter, Borrows, Steals, MaySteal, TakesNumber, TakesText, TakesException, TakesGlobal, TakesClass, Owned}
+use Rattle.c_core.specs.Primitives.{KindAt, Is, OfGlobal, OfSlot, Parameter, Borrows, Steals, MaySteal, TakesNumber, TakesPlace, TakesText, TakesDecimal, TakesException, TakesGlobal, TakesClass, Owned}
 use Rattle.c_core.specs.WellFormed.{Declared, kind_at, named_kind, has_kind, kind_fits, kinds_agree, target_fits, function_call_fits, passes}
 use Rattle.c_core.proofs.Lines.{and_true}
 use Rattle.ir_core.specs.declared.code.Reg.{Reg}
@@ -17,13 +17,12 @@ use Rattle.ir_core.specs.declared.code.PArg.TheVariants as arg
 use Rattle.ir_core.specs.declared.code.Op.TheVariants.{Prim}
 use Rattle.ir_core.specs.Lower.{argument_in, register_in}
 use Rattle.ir_core.specs.Shape.{is_argument, is_register}
-use Rattle.c_core_ownership_laws.specs.Shares.{Shares, may_refer, may_have_cells, has_cells, IsUsable, AreUsable, IsGiven, AreGiven, left_over, one_taken, answers_cells, returns_cells}
+use Rattle.c_core_ownership_laws.specs.Shares.{Shares, may_refer, may_have_cells, has_cells, IsUsable, AreUsable, IsGiven, AreGiven, left_over, one_taken, cells_at, returns_cells}
 use Rattle.liveness.specs.Paths.{is_among, reads_of, write_of, is_target, registers_in}
 use Rattle.liveness.specs.Paths as path
 use Rattle.refcount_insert_rule.specs.Rule.{is_stolen, takes_one, taken}
 use Rattle.refcount_insert_order_laws.proofs.Numbers.{eq_self, put-less, either, same_self, or_left, or_right, or_none}
 use Rattle.refcount_insert_order_laws.proofs.Variables.{has_kind_is}
-use Rattle.refcount_insert_order_laws.proofs.NamedRows.{HasNoSlot}
 
 -- ---- arguments
 -- what arguments leave
@@ -47,7 +46,9 @@ left-over vars (p ∷ ps) (a ∷ args) k r =
     by (MaySteal h w) (arg.Class n) = omega arith
     by (Borrows h w) a = omega arith
     by TakesNumber a = omega arith
+    by TakesPlace a = omega arith
     by TakesText a = omega arith
+    by TakesDecimal a = omega arith
     by TakesException a = omega arith
     by TakesGlobal a = omega arith
     by TakesClass a = omega arith
@@ -75,10 +76,18 @@ written_given vars σ TakesNumber (arg.Number n) k no_var = tt
 written_given vars σ TakesNumber (arg.Text n) k no_var = tt
 written_given vars σ TakesNumber (arg.Global n) k no_var = tt
 written_given vars σ TakesNumber (arg.Class n) k no_var = tt
+written_given vars σ TakesPlace (arg.Number n) k no_var = tt
+written_given vars σ TakesPlace (arg.Text n) k no_var = tt
+written_given vars σ TakesPlace (arg.Global n) k no_var = tt
+written_given vars σ TakesPlace (arg.Class n) k no_var = tt
 written_given vars σ TakesText (arg.Number n) k no_var = tt
 written_given vars σ TakesText (arg.Text n) k no_var = tt
 written_given vars σ TakesText (arg.Global n) k no_var = tt
 written_given vars σ TakesText (arg.Class n) k no_var = tt
+written_given vars σ TakesDecimal (arg.Number n) k no_var = tt
+written_given vars σ TakesDecimal (arg.Text n) k no_var = tt
+written_given vars σ TakesDecimal (arg.Global n) k no_var = tt
+written_given vars σ TakesDecimal (arg.Class n) k no_var = tt
 written_given vars σ TakesException (arg.Number n) k no_var = tt
 written_given vars σ TakesException (arg.Text n) k no_var = tt
 written_given vars σ TakesException (arg.Global n) k no_var = tt
@@ -110,10 +119,18 @@ written_left vars TakesNumber (arg.Number n) k no_var r t le = omega (arith, le)
 written_left vars TakesNumber (arg.Text n) k no_var r t le = omega (arith, le)
 written_left vars TakesNumber (arg.Global n) k no_var r t le = omega (arith, le)
 written_left vars TakesNumber (arg.Class n) k no_var r t le = omega (arith, le)
+written_left vars TakesPlace (arg.Number n) k no_var r t le = omega (arith, le)
+written_left vars TakesPlace (arg.Text n) k no_var r t le = omega (arith, le)
+written_left vars TakesPlace (arg.Global n) k no_var r t le = omega (arith, le)
+written_left vars TakesPlace (arg.Class n) k no_var r t le = omega (arith, le)
 written_left vars TakesText (arg.Number n) k no_var r t le = omega (arith, le)
 written_left vars TakesText (arg.Text n) k no_var r t le = omega (arith, le)
 written_left vars TakesText (arg.Global n) k no_var r t le = omega (arith, le)
 written_left vars TakesText (arg.Class n) k no_var r t le = omega (arith, le)
+written_left vars TakesDecimal (arg.Number n) k no_var r t le = omega (arith, le)
+written_left vars TakesDecimal (arg.Text n) k no_var r t le = omega (arith, le)
+written_left vars TakesDecimal (arg.Global n) k no_var r t le = omega (arith, le)
+written_left vars TakesDecimal (arg.Class n) k no_var r t le = omega (arith, le)
 written_left vars TakesException (arg.Number n) k no_var r t le = omega (arith, le)
 written_left vars TakesException (arg.Text n) k no_var r t le = omega (arith, le)
 written_left vars TakesException (arg.Global n) k no_var r t le = omega (arith, le)
@@ -145,12 +162,14 @@ given vars counted σ (p ∷ ps) (arg.Var s ∷ args) k u m e =
 
     by : (p : Parameter) → IsUsable vars σ s.0 → (counted s.0 ≡ true → takes_one (is_stolen p) (arg.Var s) s.0 + taken ps args s.0 ≤ k s.0) → IsGiven vars σ p (argument_in (arg.Var s)) k
     by (Steals h w) us le =
-        ⊎_elim (λ is. inl (omega (arith, le is, same_self s.0))) (λ off. inr (m s.0 here ∙ off)) (either (counted s.0))
+        ⊎_elim (λ is. inl (omega (arith, le is, same_self s.0))) (λ off. inr (inl (m s.0 here ∙ off))) (either (counted s.0))
     by (MaySteal h w) us le =
-        ⊎_elim (λ is. inl (omega (arith, le is, same_self s.0))) (λ off. inr (m s.0 here ∙ off)) (either (counted s.0))
-    by (Borrows h w) us le = us
+        ⊎_elim (λ is. inl (omega (arith, le is, same_self s.0))) (λ off. inr (inl (m s.0 here ∙ off))) (either (counted s.0))
+    by (Borrows h w) us le = inl us
     by TakesNumber us le = tt
+    by TakesPlace us le = tt
     by TakesText us le = tt
+    by TakesDecimal us le = tt
     by TakesException us le = tt
     by TakesGlobal us le = tt
     by TakesClass us le = tt
@@ -160,7 +179,9 @@ given vars counted σ (p ∷ ps) (arg.Var s ∷ args) k u m e =
     more (MaySteal h w) r le = omega (arith, le, put-less s.0 k r)
     more (Borrows h w) r le = omega (arith, le)
     more TakesNumber r le = omega (arith, le)
+    more TakesPlace r le = omega (arith, le)
     more TakesText r le = omega (arith, le)
+    more TakesDecimal r le = omega (arith, le)
     more TakesException r le = omega (arith, le)
     more TakesGlobal r le = omega (arith, le)
     more TakesClass r le = omega (arith, le)
@@ -206,10 +227,10 @@ agreed None l e f = absurd (cc)
 agreed (Some k) l e f = no_cells k l e f
 
 -- a kind of a row's result is that of its target
-pub answer_fits : (code old : Code) (args : List CArg) → named_kind code args ≡ named_kind old args → (k : KindAt) → HasNoSlot (Owned k) → (l : Option Kind) → kind_fits old args k l ≡ true → may_have_cells l ≡ false → answers_cells code args (Owned k) ≡ false
-answer_fits code old args same (Is k) h l e f = no_cells k l e f
-answer_fits code old args same OfGlobal h l e f = ap may_have_cells same ∙ agreed (named_kind old args) l e f
-answer_fits code old args same OfSlot h l e f = absurd h
+pub answer_fits : (code old : Code) (args : List CArg) → named_kind code args ≡ named_kind old args → (k : KindAt) (l : Option Kind) → kind_fits old args k l ≡ true → may_have_cells l ≡ false → cells_at code args l k ≡ false
+answer_fits code old args same (Is k) l e f = no_cells k l e f
+answer_fits code old args same OfGlobal l e f = ap may_have_cells same ∙ agreed (named_kind old args) l e f
+answer_fits code old args same OfSlot l e f = f
 
 pub called_fits : (code : Code) (vars : List Declared) (x : ℕ) (args : List CArg) (o : Option CFunc) → function_call_fits code vars (Some x) args o ≡ true → may_refer vars x ≡ false → returns_cells o ≡ false
 called_fits code vars x args None e f = absurd (cc)

@@ -13,6 +13,7 @@ use Rattle.ir_core.specs.Shape.{Shape}
 use Rattle.ir_core.proofs.LowerLemmas.{place_of, label_at}
 use Rattle.c_core_ownership_laws.specs.Shares.{Shares, Within}
 use Rattle.c_core_ownership_laws.specs.Order.{Table, Entered, labels_of, IsPlaced}
+use Rattle.c_core_ownership_laws.proofs.Weaken.{within_self}
 use Rattle.refcount_insert_rule.specs.Counted.{IsCountedFunc}
 use Rattle.refcount_insert_order_laws.proofs.Equations.{at, not_owned_first}
 use Rattle.refcount_insert_order_laws.proofs.MetBlocks.{marks}
@@ -80,9 +81,10 @@ module _ (p q : Program) (shape : Shape p) (counted : IsCountedProgram p q) (n :
         record {
           entry = at f c.tables 0 0;
           is_entry = λ r lt. not_owned_first f c.tables r lt block.0 block.1 (no_way_back p shape n f is_old);
+          is_filled = λ r lt. refl;
           begins = tie 0 ∙ (at_drop done.shares 0 ∙ (done.places 0 first.1 first.2 ∙ (first.0 ∙ ap (λ d. cond d (Some (at f c.tables 0 0)) None) (marks f).first)));
           line = λ place l σ e is_line.
               line_map (lower q) text (Starts start) (Entered (labels_of (lower q) t) n) enters σ (λ τ. at_place done.shares (suc place) ≡ Some τ) (λ τ. (ρ : Shares) × (t n (place + 1) ≡ Some ρ) × Within τ ρ)
-              (λ τ later. let z : place + 1 ≡ suc place = omega arith in (τ, ap (t n) z ∙ (tie (suc place) ∙ later), (λ r. refl, λ r lent. lent)))
+              (λ τ later. let z : place + 1 ≡ suc place = omega arith in (τ, ap (t n) z ∙ (tie (suc place) ∙ later), within_self τ))
               l (lead_at (lower q) text (Starts start) lines done.shares done.leads place l σ is_line (sym (tie place) ∙ e));
         }

@@ -1,14 +1,14 @@
 -- Lines that are in order have shares at each of their places, where each line leads from its own to those of the next one.
-use Rattle.std.proofs.Common.{◌≡◌, refl, sym, ap, ◌∙◌, subst, ℕ, zero, suc, ◌+◌, ◌-◌, ◌⊎◌, inl, inr, ⊎_elim, false, List, [], ◌∷◌, ◌++◌, length, arith, Option, Some, None}
+use Rattle.std.proofs.Common.{◌≡◌, refl, sym, ap, ◌∙◌, subst, ℕ, zero, suc, ◌+◌, ◌-◌, ◌⊎◌, inl, inr, ⊎_elim, List, [], ◌∷◌, ◌++◌, length, arith, Option, Some, None}
 use Rattle.std.specs.Prelude.{slice_get}
 use Rattle.c_core.specs.declared.code.CArg.{CArg}
 use Rattle.c_core.specs.declared.code.Line.{Line}
-use Rattle.c_core.specs.declared.code.Line.TheVariants.{Label, Move, Lit, Call, Goto, If, IfError, Turn, Return, Inc, Dec, XDec}
+use Rattle.c_core.specs.declared.code.Line.TheVariants.{Label, Move, Lit, Call, Virtual, TraitCall, Goto, If, IfError, Turn, Return, Inc, Dec, XDec}
 use Rattle.c_core.specs.declared.code.CFunc.{CFunc}
 use Rattle.c_core.specs.declared.code.Code.{Code}
 use Rattle.c_core.specs.declared.primitive.Primitive.{Primitive}
 use Rattle.c_core.specs.Primitives.{row_of, primitive_named}
-use Rattle.c_core_ownership_laws.specs.Shares.{Shares, with_owns, with_share, may_refer, with_answer, left_over, Jumps, CallChecks, LineChecks, Checks}
+use Rattle.c_core_ownership_laws.specs.Shares.{Shares, with_owns, with_state, with_share, with_held, with_empty, unheld, unheld_if, is_noisy, may_refer, with_answer, with_outcome, left_over, Jumps, CallChecks, LineChecks, Checks}
 
 -- what stands at a place of a list
 abbrev pub at_place : List (Option Shares) → ℕ → Option Shares
@@ -74,28 +74,39 @@ module _ (code : Code) (g : CFunc) (Enters : ℕ → Shares → Type 0) where
 
   call_next : (σ : Shares) (x : Option ℕ) (name : List ℕ) (args : List CArg) (o : Option Primitive) (Go : Shares → Type 0) → CallChecks code g Enters σ x name args o Go → (τ : Shares) × Go τ × CallChecks code g Enters σ x name args o (λ ρ. ρ ≡ τ)
   call_next σ x name args (Some p) Go h =
-      (with_answer g.vars x (record σ { owns = left_over g.vars (row_of p).parameters args σ.owns }), h.4, (h.0, h.1, h.2, h.3, refl))
+      (with_outcome g.vars (row_of p).outcome x (unheld_if (is_noisy p) (record σ { owns = left_over g.vars (row_of p).parameters args σ.owns })), h.4, (h.0, h.1, h.2, h.3, refl))
   call_next σ x name args None Go h =
-      (with_answer g.vars x σ, h.3, (h.0, h.1, h.2, refl))
+      (with_answer g.vars x (unheld σ), h.3, (h.0, h.1, h.2, refl))
 
   line_next : (σ : Shares) (l : Line) (Go : Shares → Type 0) → LineChecks code g Enters σ l Go → Next σ l Go
   line_next σ Label Go h = inl (σ, h, refl)
   line_next σ (Move x y) Go h =
       ⊎_elim
-      (λ a. inl (with_share x 1 false (with_owns y (σ.owns y - 1) σ), a.2, (h.0, inl (a.0, a.1, refl))))
-      (λ a. inl (with_share x 0 (may_refer g.vars x) σ, a.2, (h.0, inr (a.0, a.1, refl))))
+      (λ a. inl (with_share x 1 a.2.0 (with_owns y (σ.owns y - 1) σ), a.2.2, (h.0, inl (a.0, a.1, (a.2.0, a.2.1, refl)))))
+      (λ o. ⊎_elim
+      (λ a. inl (with_share x 0 (may_refer g.vars x) σ, a.2, (h.0, inr (inl (a.0, a.1, refl)))))
+      (λ o. ⊎_elim
+      (λ a. inl (with_held x σ, a.2, (h.0, inr (inr (inl (a.0, a.1, refl))))))
+      (λ o. ⊎_elim
+      (λ a. inl (with_empty x σ, a.2, (h.0, inr (inr (inr (inl (a.0, a.1, refl)))))))
+      (λ a. inl (σ, a.2, (h.0, inr (inr (inr (inr (a.0, a.1, refl)))))))
+      o)
+      o)
+      o)
       h.1
   line_next σ (Lit x l) Go h =
-      inl (with_share x h.2.0 h.2.1 σ, h.2.2, (h.0, h.1, (h.2.0, h.2.1, refl)))
+      inl (with_state x h.2.0 σ, h.2.1, (h.0, h.1, (h.2.0, refl)))
   line_next σ (Call x name args) Go h = inl (call_next σ x name args (primitive_named name) Go h)
+  line_next σ (Virtual x o n args) Go h = inl (with_answer g.vars (Some x) (unheld σ), h.3, (h.0, h.1, h.2, refl))
+  line_next σ (TraitCall x o t n args) Go h = inl (with_answer g.vars (Some x) (unheld σ), h.3, (h.0, h.1, h.2, refl))
   line_next σ (Goto n) Go h = inr h
   line_next σ (If x n m) Go h = inr h
   line_next σ (IfError x n m) Go h = inr h
   line_next σ Turn Go h = inl (σ, h, refl)
   line_next σ (Return x) Go h = inr h
   line_next σ (Inc x) Go h = inl (with_owns x (σ.owns x + 1) σ, h.1, (h.0, refl))
-  line_next σ (Dec x) Go h = inl (with_owns x (σ.owns x - 1) σ, h.1, (h.0, refl))
-  line_next σ (XDec x) Go h = inl (with_owns x (σ.owns x - 1) σ, h.1, (h.0, refl))
+  line_next σ (Dec x) Go h = inl (unheld (with_owns x (σ.owns x - 1) σ), h.1, (h.0, refl))
+  line_next σ (XDec x) Go h = inl (unheld (with_owns x (σ.owns x - 1) σ), h.1, (h.0, refl))
 
 -- a line that is in order is so where more holds of the next one, and more of what is entered
 module _ (code : Code) (g : CFunc) (Enters Into : ℕ → Shares → Type 0) (enters : (n : ℕ) (σ : Shares) → Enters n σ → Into n σ) where
@@ -105,29 +116,37 @@ module _ (code : Code) (g : CFunc) (Enters Into : ℕ → Shares → Type 0) (en
   module _ (σ : Shares) (Go Then : Shares → Type 0) (go : (τ : Shares) → Go τ → Then τ) where
     call_map : (x : Option ℕ) (name : List ℕ) (args : List CArg) (o : Option Primitive) → CallChecks code g Enters σ x name args o Go → CallChecks code g Into σ x name args o Then
     call_map x name args (Some p) h =
-        (h.0, h.1, h.2, h.3, go (with_answer g.vars x (record σ { owns = left_over g.vars (row_of p).parameters args σ.owns })) h.4)
-    call_map x name args None h = (h.0, h.1, h.2, go (with_answer g.vars x σ) h.3)
+        (h.0, h.1, h.2, h.3, go (with_outcome g.vars (row_of p).outcome x (unheld_if (is_noisy p) (record σ { owns = left_over g.vars (row_of p).parameters args σ.owns }))) h.4)
+    call_map x name args None h = (h.0, h.1, h.2, go (with_answer g.vars x (unheld σ)) h.3)
 
     pub line_map : (l : Line) → LineChecks code g Enters σ l Go → LineChecks code g Into σ l Then
     line_map Label h = go σ h
     line_map (Move x y) h = (
       h.0,
       ⊎_elim
-          (λ a. inl (a.0, a.1, go (with_share x 1 false (with_owns y (σ.owns y - 1) σ)) a.2))
-          (λ a. inr (a.0, a.1, go (with_share x 0 (may_refer g.vars x) σ) a.2))
+          (λ a. inl (a.0, a.1, (a.2.0, a.2.1, go (with_share x 1 a.2.0 (with_owns y (σ.owns y - 1) σ)) a.2.2)))
+          (λ o. inr (⊎_elim
+          (λ a. inl (a.0, a.1, go (with_share x 0 (may_refer g.vars x) σ) a.2))
+          (λ o. inr (⊎_elim
+          (λ a. inl (a.0, a.1, go (with_held x σ) a.2))
+          (λ o. inr (⊎_elim (λ a. inl (a.0, a.1, go (with_empty x σ) a.2)) (λ a. inr (a.0, a.1, go σ a.2)) o))
+          o))
+          o))
           h.1,
     )
-    line_map (Lit x l) h = (h.0, h.1, (h.2.0, h.2.1, go (with_share x h.2.0 h.2.1 σ) h.2.2))
+    line_map (Lit x l) h = (h.0, h.1, (h.2.0, go (with_state x h.2.0 σ) h.2.1))
     line_map (Call x name args) h = call_map x name args (primitive_named name) h
+    line_map (Virtual x o n args) h = (h.0, h.1, h.2, go (with_answer g.vars (Some x) (unheld σ)) h.3)
+    line_map (TraitCall x o t n args) h = (h.0, h.1, h.2, go (with_answer g.vars (Some x) (unheld σ)) h.3)
     line_map (Goto n) h = jumps_map σ n h
     line_map (If x n m) h = (jumps_map σ n h.0, jumps_map σ m h.1)
     line_map (IfError x n m) h =
-        ((h.0.0, h.0.1, jumps_map (with_share x h.0.0 h.0.1 σ) n h.0.2), jumps_map σ m h.1)
+        ((h.0.0, jumps_map (with_state x h.0.0 σ) n h.0.1), jumps_map σ m h.1)
     line_map Turn h = go σ h
     line_map (Return x) h = h
     line_map (Inc x) h = (h.0, go (with_owns x (σ.owns x + 1) σ) h.1)
-    line_map (Dec x) h = (h.0, go (with_owns x (σ.owns x - 1) σ) h.1)
-    line_map (XDec x) h = (h.0, go (with_owns x (σ.owns x - 1) σ) h.1)
+    line_map (Dec x) h = (h.0, go (unheld (with_owns x (σ.owns x - 1) σ)) h.1)
+    line_map (XDec x) h = (h.0, go (unheld (with_owns x (σ.owns x - 1) σ)) h.1)
 
 -- ---- trails
 -- the shares at the places of lines that are in order

@@ -7,7 +7,7 @@ use Rattle.std.proofs.lemmas.Bool.{eqb-true}
 use Rattle.c_core.specs.declared.code.Line.{Line}
 use Rattle.c_core.specs.declared.code.CFunc.{CFunc}
 use Rattle.c_core.specs.declared.code.Code.{Code}
-use Rattle.c_core.specs.WellFormed.{WellFormed, is_spelled, is_empty, is_char, spelled_globals, spelled_functions, spelled_function, spelled_top, spelled_body, names_differ, line_fits, lines_lead_on, begins_right, function_fits}
+use Rattle.c_core.specs.WellFormed.{WellFormed, is_spelled, is_char, spelled_globals, spelled_class, spelled_functions, spelled_function, spelled_top, spelled_body, names_differ, line_fits, lines_lead_on, begins_right, function_fits, classes_fit, functions_fit}
 use Rattle.c_core.proofs.Lines.{and_true, all_at}
 use Rattle.ir_core.specs.declared.code.Op.{Op}
 use Rattle.ir_core.specs.declared.code.Last.{Last}
@@ -76,8 +76,9 @@ line_fits_at code wf n g there i l e =
     let globals = names_differ (map (λ v. v.0) code.globals) in
     let functions = names_differ (map (λ g. g.name) code.funcs) in
     let fit = list_all (function_fits code) code.funcs in
-    let both = and_true (is_spelled code) (globals && (functions && fit)) wf in
-    let all = (and_true functions fit (and_true globals (functions && fit) both.1).1).1 in
+    let both = and_true (is_spelled code) (globals && (classes_fit code && functions_fit code)) wf in
+    let last = and_true (classes_fit code) (functions_fit code) (and_true globals (classes_fit code && functions_fit code) both.1).1 in
+    let all = (and_true functions fit last.1).1 in
     let one = all_at (function_fits code) code.funcs n g all there in
     let rest = (and_true (names_differ (map (λ v. v.0) g.vars)) (list_all (line_fits code g.vars g.ret) g.lines && (lines_lead_on g.lines && begins_right g)) one).1 in
     let lines = (and_true (list_all (line_fits code g.vars g.ret) g.lines) (lines_lead_on g.lines && begins_right g) rest).0 in
@@ -97,11 +98,10 @@ last_spelled (x ∷ y ∷ fs) e (suc i) g size there =
 pub top_params : (code : Code) → WellFormed code → (n : ℕ) (g : CFunc) → suc n ≡ length code.funcs → slice_get code.funcs n ≡ Some g → g.params ≡ 0
 top_params code wf n g size there =
     let globals = names_differ (map (λ v. v.0) code.globals) in
-    let functions = names_differ (map (λ g. g.name) code.funcs) in
-    let fit = list_all (function_fits code) code.funcs in
-    let both = and_true (is_spelled code) (globals && (functions && fit)) wf in
-    let spelled = and_true (spelled_globals code.globals) (is_empty code.classes && spelled_functions code.funcs) both.0 in
-    let all = (and_true (is_empty code.classes) (spelled_functions code.funcs) spelled.1).1 in
+    let both = and_true (is_spelled code) (globals && (classes_fit code && functions_fit code)) wf in
+    let classes = list_all spelled_class code.classes in
+    let spelled = and_true (spelled_globals code.globals) (classes && spelled_functions code.funcs) both.0 in
+    let all = (and_true classes (spelled_functions code.funcs) spelled.1).1 in
     let top = last_spelled code.funcs all n g size there in
     let named = (and_true (bytes_eq g.name []) (is_char g.ret && ((g.params == 0) && spelled_body g)) top).1 in
     let ret = (and_true (is_char g.ret) ((g.params == 0) && spelled_body g) named).1 in

@@ -10,7 +10,7 @@ use Rattle.c_core.specs.Cells.{content_at}
 use Rattle.c_core.specs.WellFormed.{WellFormed}
 use Rattle.c_core.specs.Functions.{error_word}
 use Rattle.c_core.specs.Machine.{Word, ShortInt, BigInt, Native, CharWord, Content, IntCell, StrCell, ListCell, DictCell, TupleCell, InstCell, ExcCell, MachineState}
-use Rattle.c_core.specs.Stands.{IsLive, MatchesInt, MatchesBool, in_object, Matches, MatchesParts, MatchAll, MatchSet, MatchesObject, MatchesStore, in_short, in_native, in_big, true_char, false_char, true_object, false_object, Stands}
+use Rattle.c_core.specs.Stands.{IsLive, MatchesInt, MatchesBool, in_object, Matches, MatchesParts, MatchAll, MatchPairs, MatchSet, MatchesObject, MatchesStore, in_short, in_native, in_big, true_char, false_char, true_object, false_object, Stands}
 use Rattle.c_core.specs.Step.{Next, Goes, Ends}
 use Rattle.c_core.specs.Step as machines
 use Rattle.c_core.specs.Run.{Stop, go_on, first_words, module_function, most_steps}
@@ -31,7 +31,7 @@ use Rattle.ir_core.specs.Shape.{Shape}
 use Rattle.ir_core.proofs.RunLemmas.{steps_on as run_on}
 use Rattle.ir_core.proofs.ModeLemmas.{unstuck_is_plain}
 use Rattle.refcount_insert_rule.specs.Counted.{IsCountedProgram}
-use Rattle.refcount_insert_lines_laws.specs.Matching.{Boxed, PartsBoxed, AllBoxed, ObjectFits, ObjectAt, StoreFits, Fits, tagged_error, short, big, native, char_error, char_true, char_false, no_object, boxed, RegsFit, GlobalsFit, PendingFits, WorldFits}
+use Rattle.refcount_insert_lines_laws.specs.Matching.{Boxed, PartsBoxed, AllBoxed, PairsBoxed, ObjectFits, ObjectAt, StoreFits, Fits, tagged_error, short, big, native, char_error, char_true, char_false, no_object, boxed, RegsFit, GlobalsFit, PendingFits, WorldFits}
 use Rattle.refcount_insert_lines_laws.specs.Follows.{stop_of, EndsStanding, UncheckedFollows}
 use Rattle.refcount_insert_lines_laws.proofs.Operations.{ops_do}
 use Rattle.refcount_insert_lines_laws.proofs.Calls.{calls_do}
@@ -75,6 +75,12 @@ module _ (s : MachineState) where
   all_match (v ∷ vs) [] m = absurd m
   all_match (v ∷ vs) (y ∷ ys) m = (boxed_matches v y m.0, all_match vs ys m.1)
 
+  pairs_match : (ps : List (Value × Value)) (qs : List (Word × Word)) → PairsBoxed s ps qs → MatchPairs s ps qs
+  pairs_match [] [] m = tt
+  pairs_match [] (q ∷ qs) m = absurd m
+  pairs_match (p ∷ ps) [] m = absurd m
+  pairs_match (p ∷ ps) (q ∷ qs) m = (boxed_matches p.0 q.0 m.0, (boxed_matches p.1 q.1 m.1, pairs_match ps qs m.2))
+
   object_matches : (o : Object) (x : Content) → ObjectFits s o x → MatchesObject s o x
   object_matches (ListObj items) (ListCell words) m = all_match items words m
   object_matches (ListObj items) (IntCell n) m = absurd m
@@ -83,7 +89,13 @@ module _ (s : MachineState) where
   object_matches (ListObj items) (TupleCell n) m = absurd m
   object_matches (ListObj items) (InstCell n b) m = absurd m
   object_matches (ListObj items) (ExcCell n) m = absurd m
-  object_matches (DictObj pairs) x m = absurd m
+  object_matches (DictObj pairs) (DictCell words) m = pairs_match pairs words m
+  object_matches (DictObj pairs) (IntCell n) m = absurd m
+  object_matches (DictObj pairs) (StrCell n) m = absurd m
+  object_matches (DictObj pairs) (ListCell n) m = absurd m
+  object_matches (DictObj pairs) (TupleCell n) m = absurd m
+  object_matches (DictObj pairs) (InstCell n b) m = absurd m
+  object_matches (DictObj pairs) (ExcCell n) m = absurd m
   object_matches (InstObj class attributes) x m = absurd m
 
   fits_matches : (a : RType) (v : Value) (h : Held) (w : Word) → h ≡ Holds v → Fits s a h w → Matches s v w

@@ -59,6 +59,8 @@ module _ (code : Code) (vars : List Declared) (ret : Kind) where
   line_bare (line.Call x name args) =
       ap (call_fits less vars x args (primitive_named name)) (named_bare code.funcs name)
       ∙ call_bare x args (primitive_named name) (function_named code.funcs name)
+  line_bare (line.Virtual x o n args) = refl
+  line_bare (line.TraitCall x o t n args) = refl
   line_bare (line.Goto n) = refl
   line_bare (line.If x n m) = refl
   line_bare (line.IfError x n m) = refl

@@ -7,7 +7,7 @@ use Rattle.std.proofs.lemmas.Bool.{and_from, and_parts, or_left, or_right}
 use Rattle.c_core.specs.declared.code.Line.TheVariants as line
 use Rattle.c_core.specs.declared.code.CFunc.{CFunc}
 use Rattle.c_core.specs.Functions.{label_places}
-use Rattle.c_core.specs.WellFormed.{Declared as Variable, is_identifier, is_char, is_empty, is_leaving, is_turn_at, begins_right, jumps_fit, lines_lead_on, line_fits, function_fits, names_differ, spelled_line, spelled_body, spelled_top, spelled_function, spelled_functions, spelled_globals, is_spelled, well_formed, WellFormed}
+use Rattle.c_core.specs.WellFormed.{Declared as Variable, is_identifier, is_char, is_leaving, is_turn_at, begins_right, jumps_fit, lines_lead_on, line_fits, function_fits, names_differ, classes_fit, functions_fit, spelled_line, spelled_body, spelled_top, spelled_function, spelled_functions, spelled_globals, spelled_class, is_spelled, well_formed, WellFormed}
 use Rattle.ir_core.specs.declared.code.Block.{Block}
 use Rattle.ir_core.specs.declared.code.Func.{Func}
 use Rattle.ir_core.specs.declared.code.Program.{Program}
@@ -17,6 +17,7 @@ use Rattle.ir_core.specs.Lower.{lines_from, lowered_from, lower}
 use Rattle.ir_core.specs.Shape.{FuncFits, FuncsFit, BeginsInTurn, Shape}
 use Rattle.ir_core.proofs.JumpLemmas.{last_leaves}
 use Rattle.ir_core.proofs.TextLemmas.{LinesAre, lines_from_all, all_spelled, all_fit}
+use Rattle.ir_core.proofs.ClassLemmas.{classes_same}
 use Rattle.refcount_insert_rule.specs.Counted.{IsCountedFunc, AreCounted, IsCountedProgram}
 use Rattle.refcount_insert_shapes_laws.specs.Laws.{CountedIsWellFormed}
 use Rattle.refcount_insert_shapes_laws.proofs.Jumps.{jumps_lead}
@@ -118,18 +119,23 @@ module _ (p q : Program) (counted : IsCountedProgram p q) (shape : Shape p) wher
   -- ---- the code
   well : well_formed (new_code p q counted) ≡ true
   well =
+      let old = lower p in
       let new = new_code p q counted in
-      let names = names_differ (map (λ (c : CFunc). c.name) (lower p).funcs) in
-      let one = and_parts (is_spelled (lower p)) (names_differ (map (λ (v : Variable). v.0) (lower p).globals) && (names && list_all (function_fits (lower p)) (lower p).funcs)) shape.lowered in
-      let two = and_parts (names_differ (map (λ (v : Variable). v.0) (lower p).globals)) (names && list_all (function_fits (lower p)) (lower p).funcs) one.1 in
-      let three = and_parts names (list_all (function_fits (lower p)) (lower p).funcs) two.1 in
-      let four = and_parts (spelled_globals (lower p).globals) (is_empty p.classes && spelled_functions (lower p).funcs) one.0 in
-      let five = and_parts (is_empty p.classes) (spelled_functions (lower p).funcs) four.1 in
-      let all = all_new 0 p.funcs q.funcs counted.funcs shape.funcs shape.turns five.1 three.1 in
-      and_from (is_spelled new) (names_differ (map (λ (v : Variable). v.0) new.globals) && (names_differ (map (λ (c : CFunc). c.name) new.funcs) && list_all (function_fits new) new.funcs))
-      (and_from (spelled_globals new.globals) (is_empty new.classes && spelled_functions new.funcs) four.0 (and_from (is_empty new.classes) (spelled_functions new.funcs) five.0 all.0))
-      (and_from (names_differ (map (λ (v : Variable). v.0) new.globals)) (names_differ (map (λ (c : CFunc). c.name) new.funcs) && list_all (function_fits new) new.funcs) two.0
-      (and_from (names_differ (map (λ (c : CFunc). c.name) new.funcs)) (list_all (function_fits new) new.funcs) (ap names_differ (code_names p q counted) ∙ three.0) (all_same new.funcs ∙ all.1)))
+      let names = names_differ (map (λ (c : CFunc). c.name) old.funcs) in
+      let one = and_parts (is_spelled old) (names_differ (map (λ (v : Variable). v.0) old.globals) && (classes_fit old && functions_fit old)) shape.lowered in
+      let two = and_parts (names_differ (map (λ (v : Variable). v.0) old.globals)) (classes_fit old && functions_fit old) one.1 in
+      let three = and_parts (classes_fit old) (functions_fit old) two.1 in
+      let four = and_parts names (list_all (function_fits old) old.funcs) three.1 in
+      let five = and_parts (spelled_globals old.globals) (list_all spelled_class p.classes && spelled_functions old.funcs) one.0 in
+      let six = and_parts (list_all spelled_class p.classes) (spelled_functions old.funcs) five.1 in
+      let all = all_new 0 p.funcs q.funcs counted.funcs shape.funcs shape.turns six.1 four.1 in
+      let functions : functions_fit new ≡ true =
+      and_from (names_differ (map (λ (c : CFunc). c.name) new.funcs)) (list_all (function_fits new) new.funcs) (ap names_differ (code_names p q counted) ∙ four.0) (all_same new.funcs ∙ all.1) in
+      let classes : classes_fit new ≡ true = classes_same old new refl (code_names p q counted) ∙ three.0 in
+      and_from (is_spelled new) (names_differ (map (λ (v : Variable). v.0) new.globals) && (classes_fit new && functions_fit new))
+      (and_from (spelled_globals new.globals) (list_all spelled_class new.classes && spelled_functions new.funcs) five.0 (and_from (list_all spelled_class new.classes) (spelled_functions new.funcs) six.0 all.0))
+      (and_from (names_differ (map (λ (v : Variable). v.0) new.globals)) (classes_fit new && functions_fit new) two.0
+      (and_from (classes_fit new) (functions_fit new) classes functions))
 
 pub counted_is_well_formed : CountedIsWellFormed
 counted_is_well_formed p q shape counted =
