@@ -2,7 +2,7 @@
 use Rattle.std.proofs.Common.{◌≡◌, ℕ, zero, suc, List, [], ◌∷◌, ◌++◌, Some, None, refl, sym, ap, ◌∙◌, subst, arith, Result, Ok, Err, OnOk, OnErr, ◌⊎◌, inl, inr, ⊎_elim}
 use Rattle.std.specs.Prelude.{slice_get}
 use Rattle.c_core.specs.declared.primitive.Primitive.{Primitive}
-use Rattle.c_core.specs.Primitives.{Is, Parameter, Borrows, TakesText}
+use Rattle.c_core.specs.Primitives.{Is, Parameter, Borrows, TakesText, TakesDecimal}
 use Rattle.ir_core.specs.declared.code.RType.{RType}
 use Rattle.ir_core.specs.declared.code.RType.TheVariants as rtype
 use Rattle.ir_core.specs.declared.code.Lit.{Lit as Literal}
@@ -35,6 +35,7 @@ module _ (regs more : Declared) (up : HasMore regs more) where
   arguments_more [] [] h = tt
   arguments_more (Borrows (Is k) holding ∷ ps) (arg.Var r ∷ rest) h = (h.0, up r h.0 h.1, h.2, arguments_more ps rest h.3)
   arguments_more (TakesText ∷ ps) (arg.Text text ∷ rest) h = (h.0, arguments_more ps rest h.1)
+  arguments_more (TakesDecimal ∷ ps) (arg.Text text ∷ rest) h = (h.0, h.1, arguments_more ps rest h.2)
   arguments_more ps args h = absurd h
 
   pub registers_more : (ts : List RType) (rs : List Reg) → Take regs ts rs → Take more ts rs

@@ -9,7 +9,7 @@ use Rattle.ir_core.specs.declared.code.PArg.{PArg}
 use Rattle.ir_core.specs.declared.code.PArg.TheVariants.{Var, Number, Text, Global, Class}
 use Rattle.ir_core.specs.declared.code.Op.TheVariants.{Prim, Call}
 use Rattle.c_core.specs.declared.primitive.Primitive.{Primitive}
-use Rattle.c_core.specs.Primitives.{Outcome, Nothing, Owned, row_of}
+use Rattle.c_core.specs.Primitives.{Is, OfGlobal, OfSlot, Outcome, Nothing, Owned, Lent, row_of}
 use Rattle.std.proofs.Common.{Bool, true, false, nat_eq}
 use Rattle.std.proofs.lemmas.Bool.{ne_eqb}
 use Rattle.std.specs.Prelude.{IsTrue, not, ◌&&◌, ◌||◌}
@@ -82,7 +82,10 @@ close_either (Err x) b c l e f n m fit s = kept_shaped n m b c f s
 
 target_any : (o : Outcome) (r s : Reg) → IsTrue (is_target_of o (Some r)) → IsTrue (is_target_of o (Some s))
 target_any Nothing r s h = h
-target_any (Owned k) r s h = h
+target_any (Owned (Is k)) r s h = h
+target_any (Owned OfGlobal) r s h = h
+target_any (Owned OfSlot) r s h = h
+target_any (Lent k) r s h = h
 
 other_than : (r n : ℕ) → n < r → nat_eq r n ≡ false
 other_than r n lt = ne_eqb r n (λ e. omega arith)

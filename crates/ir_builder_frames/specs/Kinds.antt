@@ -6,7 +6,8 @@ use Rattle.value_core.specs.Arithmetic.{lies_within}
 use Rattle.c_core.specs.declared.primitive.Primitive.{Primitive}
 use Rattle.c_core.specs.declared.primitive.Primitive.TheVariants as prim
 use Rattle.c_core.specs.declared.primitive.GlobalPrim.TheVariants as global
-use Rattle.c_core.specs.Primitives.{Is, Parameter, Borrows, TakesText, Nothing, Owned, row_of}
+use Rattle.c_core.specs.Primitives.{Is, Parameter, Borrows, TakesText, TakesDecimal, Nothing, Owned, row_of}
+use Rattle.c_core.specs.Strings.{is_long_decimal}
 use Rattle.py_typed.specs.Statements.{TypedFunc, TypedModule}
 use Rattle.ir_core.specs.declared.code.RType.{RType}
 use Rattle.ir_core.specs.declared.code.RType.TheVariants as rtype
@@ -50,12 +51,15 @@ module _ (regs : Declared) where
   abbrev pub IsOf : Reg → RType → Type 0
   IsOf r t = type_of_reg regs r ≡ Some t
 
-  -- arguments for the parameters of a primitive that borrows them: registers of its kinds, and texts
+  -- arguments for the parameters of a primitive that borrows them: registers of its kinds, and texts, among them the decimals of `int`s
+  -- that are not short
   abbrev pub AreArguments : List Parameter → List PArg → Type 0
   AreArguments [] [] = Unit {0}
   AreArguments (Borrows (Is k) h ∷ ps) (arg.Var r ∷ rest) =
       (t : RType) × IsOf r t × (kind_of_type t ≡ k) × AreArguments ps rest
   AreArguments (TakesText ∷ ps) (arg.Text text ∷ rest) = (is_utf8 text ≡ true) × AreArguments ps rest
+  AreArguments (TakesDecimal ∷ ps) (arg.Text text ∷ rest) =
+      (is_utf8 text ≡ true) × (is_long_decimal text ≡ true) × AreArguments ps rest
   AreArguments ps args = ⊥
 
   -- registers with arguments of these types

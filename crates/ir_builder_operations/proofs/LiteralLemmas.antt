@@ -1,20 +1,21 @@
 -- An `int` as it is written is read as that `int`: a short one as twice its value, and any other one as its decimal.
 use Rattle.std.proofs.Common.{◌≡◌, refl, ◌∙◌, ap, ℕ, suc, ◌+◌, ◌*◌, ◌/◌, ◌%◌, arith, true, false, cond, List, [], ◌∷◌, Some}
 use Rattle.std.proofs.lemmas.Bool.Decides.{nat_tests}
-use Rattle.std.proofs.lemmas.Bool.{eq-eqb}
+use Rattle.std.proofs.lemmas.Bool.{eq-eqb, and_from}
 use Rattle.std.proofs.lemmas.Str.{is_utf8-from_IsUtf8}
 use Rattle.std.specs.Int.{w128}
 use mir.Val.{SFits}
 use Rattle.std.proofs.lemmas.Slice.Eq.{bytes_eq-Decides}
 use Rattle.std.specs.Prelude.{is_some, ℤ, pos, negsuc, neg_ℤ, ◌*ℤ◌, not, ◌&&◌}
 use Rattle.std.specs.Fmt.{signed_decimal}
-use Rattle.std.specs.Str.{IsUtf8}
+use Rattle.std.specs.Str.{IsUtf8, bytes_eq}
 use Rattle.std.specs.Str.Parse.{signed_digits_value}
 use Rattle.value_core.specs.Arithmetic.{lies_within, is_short}
 use Rattle.value_core.specs.Value.{IntVal, StrVal}
 use Rattle.c_core.specs.declared.primitive.Primitive.TheVariants as prim
 use Rattle.c_core.specs.declared.primitive.TaggedPrim.TheVariants as tagged
 use Rattle.c_core.specs.declared.primitive.StrPrim.TheVariants as str
+use Rattle.c_core.specs.Strings.{writes_long, is_long_decimal}
 use Rattle.c_core.proofs.DecimalLemmas.{read_back}
 use Rattle.ir_core.specs.declared.code.Lit.TheVariants.{Number}
 use Rattle.ir_core.specs.declared.code.Op.TheVariants.{Lit, Prim}
@@ -58,12 +59,19 @@ fitting_int : (n : ℤ) → SFits w128 n → lies_within 127 n ≡ true
 fitting_int (pos n) f = grind (arith, nat_tests, f.sfits)
 fitting_int (negsuc n) f = grind (arith, nat_tests, f.sfits)
 
+-- the decimal of one that is not short is what `CPyTagged_FromText` wants
+writes_own : (n : ℤ) → lies_within 127 n ≡ true → is_short n ≡ false → writes_long (signed_decimal n) n ≡ true
+writes_own n within long =
+    and_from (bytes_eq (signed_decimal n) (signed_decimal n)) (lies_within 127 n && not (is_short n)) ((bytes_eq-Decides (signed_decimal n) (signed_decimal n)).1 refl)
+    (and_from (lies_within 127 n) (not (is_short n)) within (ap not long))
+
+long_decimal : (n : ℤ) → lies_within 127 n ≡ true → is_short n ≡ false → is_long_decimal (signed_decimal n) ≡ true
+long_decimal n within long = ap (writes_long (signed_decimal n)) (read_back n within) ∙ writes_own n within long
+
 pub written_back : (n : ℤ) (w : World) → lies_within 127 n ≡ true → is_short n ≡ false → written_int (signed_decimal n) (signed_digits_value 10 (signed_decimal n)) w ≡ Gives (IntVal n) w
 written_back n w within long =
     ap (λ z. written_int (signed_decimal n) z w) (read_back n within)
-    ∙ ap (λ b. cond (b && (lies_within 127 n && not (is_short n))) (Gives (IntVal n) w) Wrong) ((bytes_eq-Decides (signed_decimal n) (signed_decimal n)).1 refl)
-    ∙ ap (λ b. cond (b && not (is_short n)) (Gives (IntVal n) w) Wrong) within
-    ∙ ap (λ b. cond (not b) (Gives (IntVal n) w) Wrong) long
+    ∙ ap (λ b. cond b (Gives (IntVal n) w) Wrong) (writes_own n within long)
 
 pub decimal_makes : (b c : Building) (r : ℕ) (n : ℤ) (text : List ℕ) → SFits w128 n → is_short n ≡ false → text ≡ signed_decimal n → Adds b c r rtype.Int (Prim (Some record { 0 = r }) (prim.Tagged tagged.FromText) (Text text ∷ [])) → Makes b c r rtype.Int (λ regs h. h ≡ Holds (IntVal n))
 decimal_makes b c r n text fits long is a =
@@ -74,8 +82,9 @@ decimal_makes b c r n text fits long is a =
 pub text_makes : (b c : Building) (r : ℕ) (text : List ℕ) → Adds b c r rtype.Ref (Prim (Some record { 0 = r }) (prim.Str str.Literal) (Text text ∷ [])) → Makes b c r rtype.Ref (λ regs h. h ≡ Holds (StrVal text))
 text_makes b c r text a = written_makes b c r rtype.Ref (prim.Str str.Literal) text (StrVal text) a refl (λ p w. refl)
 
-pub decimal_answers : (regs : Declared) (text : List ℕ) → IsUtf8 text → Answers rtype.Int regs (prim.Tagged tagged.FromText) (Text text ∷ [])
-decimal_answers regs text u = (refl, (is_utf8-from_IsUtf8 text u, tt))
+pub decimal_answers : (regs : Declared) (n : ℤ) (text : List ℕ) → IsUtf8 text → SFits w128 n → is_short n ≡ false → text ≡ signed_decimal n → Answers rtype.Int regs (prim.Tagged tagged.FromText) (Text text ∷ [])
+decimal_answers regs n text u fits long is =
+    (refl, (is_utf8-from_IsUtf8 text u, ap is_long_decimal is ∙ long_decimal n (fitting_int n fits) long, tt))
 
 pub text_answers : (regs : Declared) (text : List ℕ) → IsUtf8 text → Answers rtype.Ref regs (prim.Str str.Literal) (Text text ∷ [])
 text_answers regs text u = (refl, (is_utf8-from_IsUtf8 text u, tt))

@@ -17,7 +17,8 @@ use Rattle.c_core.specs.declared.primitive.GlobalPrim.TheVariants as global
 use Rattle.c_core.specs.Arguments.{kind_of_global}
 use Rattle.c_core.specs.Functions.{function_named, parameter_kinds}
 use Rattle.c_core.specs.Machine.{ShortInt, TaggedError}
-use Rattle.c_core.specs.Primitives.{Is, Parameter, Borrows, TakesText, Owned, row_of, primitive_named}
+use Rattle.c_core.specs.Primitives.{Is, Parameter, Borrows, TakesText, TakesDecimal, Owned, row_of, primitive_named}
+use Rattle.c_core.specs.Strings.{is_long_decimal}
 use Rattle.c_core.specs.WellFormed.{is_identifier, is_call_name, is_declared, kind_at, spelled_arg, spelled_label, spelled_line, spelled_literal, has_kind, same_kinds, kinds_agree, literal_fits, passes, args_fit, target_fits, function_call_fits, call_fits, line_fits}
 use Rattle.ir_core.specs.declared.code.RType.{RType}
 use Rattle.ir_core.specs.declared.code.RType.TheVariants.{Int, I64, Bool as BoolType, Ref}
@@ -129,6 +130,8 @@ module _ (regs : Declared) where
       and_from (is_declared vars r.0) (list_all (spelled_arg vars) (map argument_in rest)) (stands r h.0 h.1).declared (arguments_spelled ps rest h.3)
   arguments_spelled (TakesText ∷ ps) (arg.Text text ∷ rest) h =
       and_from (spelled_arg vars (argument_in (arg.Text text))) (list_all (spelled_arg vars) (map argument_in rest)) h.0 (arguments_spelled ps rest h.1)
+  arguments_spelled (TakesDecimal ∷ ps) (arg.Text text ∷ rest) h =
+      and_from (spelled_arg vars (argument_in (arg.Text text))) (list_all (spelled_arg vars) (map argument_in rest)) h.0 (arguments_spelled ps rest h.2)
   arguments_spelled ps args h = absurd h
 
   registers_spelled : (ts : List RType) (rs : List Reg) → Take regs ts rs → list_all (spelled_arg vars) (map register_in rs) ≡ true
@@ -156,6 +159,8 @@ module _ (regs : Declared) where
         and_from (has_kind k (kind_at vars r.0)) (args_fit (lower p) vars all ps (map argument_in rest))
         (ap (λ x. has_kind x (kind_at vars r.0)) (sym h.2) ∙ has r h.0 h.1) (arguments_fit all ps rest h.3)
     arguments_fit all (TakesText ∷ ps) (arg.Text text ∷ rest) h = arguments_fit all ps rest h.1
+    arguments_fit all (TakesDecimal ∷ ps) (arg.Text text ∷ rest) h =
+        and_from (is_long_decimal text) (args_fit (lower p) vars all ps (map argument_in rest)) h.1 (arguments_fit all ps rest h.2)
     arguments_fit all ps args h = absurd h
 
     -- ---- lines

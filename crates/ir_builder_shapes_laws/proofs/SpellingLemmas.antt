@@ -15,7 +15,10 @@ use Rattle.c_core.specs.declared.primitive.BoolPrim.TheVariants as bool
 use Rattle.c_core.specs.declared.primitive.ObjectPrim.TheVariants as object
 use Rattle.c_core.specs.declared.primitive.StrPrim.TheVariants as str
 use Rattle.c_core.specs.declared.primitive.ListPrim.TheVariants as list
+use Rattle.c_core.specs.declared.primitive.DictPrim.TheVariants as dict
 use Rattle.c_core.specs.declared.primitive.TuplePrim.TheVariants as tuple
+use Rattle.c_core.specs.declared.primitive.InstancePrim.TheVariants as instance
+use Rattle.c_core.specs.declared.primitive.AttrPrim.TheVariants as attr
 use Rattle.c_core.specs.declared.primitive.TaggedPrim.TheVariants as tagged
 use Rattle.c_core.specs.declared.primitive.GlobalPrim.TheVariants as global
 use Rattle.c_core.specs.declared.primitive.ExcPrim.TheVariants as exc
@@ -198,10 +201,24 @@ primitive_spelled (prim.Object object.IsNone) = word_spelled 79 _ refl refl
 primitive_spelled (prim.List list.New) = word_spelled 76 _ refl refl
 primitive_spelled (prim.List list.Append) = word_spelled 76 _ refl refl
 primitive_spelled (prim.List list.GetItem) = word_spelled 76 _ refl refl
+primitive_spelled (prim.List list.GetItemBorrow) = word_spelled 76 _ refl refl
 primitive_spelled (prim.List list.SetItem) = word_spelled 76 _ refl refl
 primitive_spelled (prim.List list.Pop) = word_spelled 76 _ refl refl
 primitive_spelled (prim.List list.Len) = word_spelled 76 _ refl refl
+primitive_spelled (prim.Dict dict.New) = word_spelled 68 _ refl refl
+primitive_spelled (prim.Dict dict.GetItem) = word_spelled 68 _ refl refl
+primitive_spelled (prim.Dict dict.SetItem) = word_spelled 68 _ refl refl
+primitive_spelled (prim.Dict dict.DelItem) = word_spelled 68 _ refl refl
+primitive_spelled (prim.Dict dict.Contains) = word_spelled 68 _ refl refl
+primitive_spelled (prim.Dict dict.CheckSize) = word_spelled 68 _ refl refl
+primitive_spelled (prim.Dict dict.KeyAt) = word_spelled 68 _ refl refl
+primitive_spelled (prim.Dict dict.Len) = word_spelled 68 _ refl refl
 primitive_spelled (prim.Tuple tuple.Pack) = word_spelled 84 _ refl refl
 primitive_spelled (prim.Tuple tuple.GetItem) = word_spelled 84 _ refl refl
+primitive_spelled (prim.Tuple tuple.GetItemBorrow) = word_spelled 84 _ refl refl
 primitive_spelled (prim.Tuple tuple.Len) = word_spelled 84 _ refl refl
+primitive_spelled (prim.Instance instance.New) = word_spelled 73 _ refl refl
+primitive_spelled (prim.Attr attr.Get) = word_spelled 65 _ refl refl
+primitive_spelled (prim.Attr attr.GetBorrow) = word_spelled 65 _ refl refl
+primitive_spelled (prim.Attr attr.Set) = word_spelled 65 _ refl refl
 primitive_spelled (prim.Io io.Input) = word_spelled 95 _ refl refl

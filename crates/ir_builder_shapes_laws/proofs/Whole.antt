@@ -10,10 +10,11 @@ use Rattle.std.proofs.lemmas.Option.{slice_get_within, slice_get-map}
 use Rattle.c_core.specs.declared.code.Kind.{Kind}
 use Rattle.c_core.specs.declared.code.Line.{Line}
 use Rattle.c_core.specs.declared.code.Line.TheVariants as line
+use Rattle.c_core.specs.declared.code.CClass.{CClass}
 use Rattle.c_core.specs.declared.code.CFunc.{CFunc}
 use Rattle.c_core.specs.declared.code.Code.{Code}
 use Rattle.c_core.specs.Functions.{label_places}
-use Rattle.c_core.specs.WellFormed.{is_identifier, is_char, is_empty, is_leaving, is_turn_at, begins_right, jumps_fit, lines_lead_on, line_fits, function_fits, names_differ, spelled_line, spelled_body, spelled_top, spelled_function, spelled_functions, spelled_globals, is_spelled, well_formed}
+use Rattle.c_core.specs.WellFormed.{is_identifier, is_char, is_leaving, is_turn_at, begins_right, jumps_fit, lines_lead_on, line_fits, function_fits, names_differ, class_fits, classes_fit, functions_fit, spelled_line, spelled_body, spelled_top, spelled_function, spelled_functions, spelled_globals, spelled_class, is_spelled, well_formed}
 use Rattle.ir_core.specs.declared.code.RType.{RType}
 use Rattle.ir_core.specs.declared.code.Op.{Op}
 use Rattle.ir_core.specs.declared.code.Op.TheVariants.{Turn}
@@ -187,11 +188,13 @@ module _ (p : Program) where
         let differ : Bool = names_differ (map (λ (g : CFunc). g.name) code.funcs) in
         let spelled : spelled_functions code.funcs ≡ true = subst (λ (xs : List Func). spelled_functions (lowered_from p 0 xs) ≡ true) (sym is.are) (all_spelled fs 0 (omega (arith, count)) is.each) in
         let fit : all ≡ true = subst (λ (xs : List Func). list_all (function_fits code) (lowered_from p 0 xs) ≡ true) (sym is.are) (all_fit fs 0 (omega (arith, count)) is.each) in
-        and_from (is_spelled code) (names_differ (map (λ (v : List ℕ × Kind). v.0) code.globals) && (differ && all))
-        (and_from (spelled_globals code.globals) (is_empty code.classes && spelled_functions code.funcs) (globals_spelled p.globals is.globals)
-        (and_from (is_empty code.classes) (spelled_functions code.funcs) (ap is_empty is.classes) spelled))
-        (and_from (names_differ (map (λ (v : List ℕ × Kind). v.0) code.globals)) (differ && all) (ap names_differ (global_names p.globals) ∙ is.globals_differ)
-        (and_from differ all names fit))
+        let functions : functions_fit code ≡ true = and_from differ all names fit in
+        let classes : classes_fit code ≡ true = ap (λ ks. names_differ (map (λ (k : CClass). k.name) ks) && list_all (class_fits code) ks) is.classes in
+        and_from (is_spelled code) (names_differ (map (λ (v : List ℕ × Kind). v.0) code.globals) && (classes_fit code && functions_fit code))
+        (and_from (spelled_globals code.globals) (list_all spelled_class code.classes && spelled_functions code.funcs) (globals_spelled p.globals is.globals)
+        (and_from (list_all spelled_class code.classes) (spelled_functions code.funcs) (ap (list_all spelled_class) is.classes) spelled))
+        (and_from (names_differ (map (λ (v : List ℕ × Kind). v.0) code.globals)) (classes_fit code && functions_fit code) (ap names_differ (global_names p.globals) ∙ is.globals_differ)
+        (and_from (classes_fit code) (functions_fit code) classes functions))
 
     shape_of : Shape p
     shape_of = record {

@@ -27,4 +27,6 @@ returns-in_ok-decimal-clause-made c =
     ok_map _ _ _ (λ (r : Reg) a. decimal_makes _ _ r.0 c.args.n _ c.ranges.n (ap is_short (sym number) ∙ sym c.is_short.ensures ∙ c.if-is_short.false) (c.as_str.ensures ∙ c.in_ok-decimal.ensures ∙ ap signed_decimal number) a) c.emit_written.ensures.added
 
 pub returns-in_ok-decimal-clause-kinds : goal.returns-in_ok-decimal-clause-kinds
-returns-in_ok-decimal-clause-kinds c g h = c.emit_written.ensures.kinds g (decimal_answers c.args.b.now.regs _ c.as_str.utf8) h
+returns-in_ok-decimal-clause-kinds c g h =
+    let number = to_z-of_z w128 c.args.n c.ranges.n in
+    c.emit_written.ensures.kinds g (decimal_answers c.args.b.now.regs c.args.n _ c.as_str.utf8 c.ranges.n (ap is_short (sym number) ∙ sym c.is_short.ensures ∙ c.if-is_short.false) (c.as_str.ensures ∙ c.in_ok-decimal.ensures ∙ ap signed_decimal number)) h
