@@ -15,6 +15,7 @@ use Rattle.unicode_ident.specs.Ident.{is_xid_continue}
 use Rattle.unicode_ident.proofs.Computing.{unicode_ident}
 use Rattle.c_core.specs.Text.{indented}
 use Rattle.c_core.specs.WellFormed.{is_identifier}
+use Rattle.c_text.specs.Braces.{EndsItem, is_item_end}
 use Rattle.c_text.specs.Words.{HasNo, EndsArgument, IsCut, bracketed}
 
 pub or_false : (a b : Bool) → (a || b) ≡ false → (a ≡ false) × (b ≡ false)
@@ -46,13 +47,16 @@ HasNo-by_place stop [] h = refl
 HasNo-by_place stop (b ∷ bs) h =
     HasNo-cons stop b bs (h 0 (omega arith)) (HasNo-by_place stop bs (λ i l. h (suc i) (omega arith)))
 
--- the first place of a byte behind bytes without it
+-- the first place of a byte that passes a test, behind bytes that don't
+first_place : (p : ℕ → Bool) (i : ℕ) (front : List ℕ) (b : ℕ) (back : List ℕ) → list_any p front ≡ false → p b ≡ true → position_from p i (front ++ b ∷ back) ≡ Some (i + length front)
+first_place p i [] b back h t = ap (λ x. cond x (Some i) (position_from p (i + 1) back)) t ∙ ap Some (omega arith)
+first_place p i (c ∷ front) b back h t =
+    let parts = or_false (p c) _ h in
+    ap (λ x. cond x (Some i) (position_from p (i + 1) (front ++ b ∷ back))) parts.0
+    ∙ first_place p (i + 1) front b back parts.1 t ∙ ap Some (omega arith)
+
 place_at : (stop i : ℕ) (front back : List ℕ) → HasNo stop front → position_from (λ b. b == stop) i (front ++ stop ∷ back) ≡ Some (i + length front)
-place_at stop i [] back h = ap (λ t. cond t (Some i) (position_from (λ b. b == stop) (i + 1) back)) (same_byte stop) ∙ ap Some (omega arith)
-place_at stop i (b ∷ front) back h =
-    let parts = or_false (b == stop) _ h in
-    ap (λ t. cond t (Some i) (position_from (λ x. x == stop) (i + 1) (front ++ stop ∷ back))) parts.0
-    ∙ place_at stop (i + 1) front back parts.1 ∙ ap Some (omega arith)
+place_at stop i front back h = first_place (λ b. b == stop) i front stop back h (same_byte stop)
 
 no_place : (stop i : ℕ) (bs : List ℕ) → HasNo stop bs → position_from (λ b. b == stop) i bs ≡ None
 no_place stop i [] h = refl
@@ -88,6 +92,46 @@ pub no_comma : (front rest bytes : List ℕ) → HasNo 44 front → EndsArgument
 no_comma front [] bytes h t e p = (grind (arith, common_steps, e), refl)
 no_comma front (b ∷ rest) bytes h t e p =
     absurd (is_cut 44 front rest bytes h (ap (λ x. front ++ x ∷ rest) (sym t) ∙ e) p)
+
+-- ---- where an item of a list in braces ends
+
+pub no_item_end : (bytes : List ℕ) → HasNo 44 bytes → HasNo 125 bytes → list_any is_item_end bytes ≡ false
+no_item_end [] p q = refl
+no_item_end (b ∷ bytes) p q =
+    let comma = or_false (b == 44) _ p in
+    let brace = or_false (b == 125) _ q in
+    ap (λ t. (t || (b == 125)) || list_any is_item_end bytes) comma.0 ∙ ap (λ t. t || list_any is_item_end bytes) brace.0 ∙ no_item_end bytes comma.1 brace.1
+
+end_is : (front : List ℕ) (b : ℕ) (rest bytes : List ℕ) → list_any is_item_end front ≡ false → is_item_end b ≡ true → front ++ b ∷ rest ≡ bytes → position_from is_item_end 0 bytes ≡ Some (0 + length front)
+end_is front b rest bytes h t e = ap (position_from is_item_end 0) (sym e) ∙ first_place is_item_end 0 front b rest h t
+
+pub end_at : (place : ℕ) (front rest bytes : List ℕ) → list_any is_item_end front ≡ false → EndsItem rest → front ++ rest ≡ bytes → position_from is_item_end 0 bytes ≡ Some place → (take place bytes ≡ front) × (drop place bytes ≡ rest)
+end_at place front [] bytes h t e p = absurd t
+end_at place front (b ∷ rest) bytes h t e p =
+    let q : Some place ≡ Some (0 + length front) = sym p ∙ end_is front b rest bytes h t e in
+    let r : place ≡ 0 + length front = cc in
+    let at : length front ≡ place = omega arith in
+    (ap (take place) (sym e) ∙ take_at front (b ∷ rest) place at, ap (drop place) (sym e) ∙ drop_at front (b ∷ rest) place at)
+
+pub no_end_at : (front rest bytes : List ℕ) → list_any is_item_end front ≡ false → EndsItem rest → front ++ rest ≡ bytes → position_from is_item_end 0 bytes ≡ None → ⊥
+no_end_at front [] bytes h t e p = t
+no_end_at front (b ∷ rest) bytes h t e p = let q : None ≡ Some (0 + length front) = sym p ∙ end_is front b rest bytes h t e in cc
+
+-- an end parts a text in one way
+pub same_item : (u v r s : List ℕ) → list_any is_item_end u ≡ false → list_any is_item_end v ≡ false → EndsItem r → EndsItem s → u ++ r ≡ v ++ s → (u ≡ v) × (r ≡ s)
+same_item u v [] s p q a b e = absurd a
+same_item u v r [] p q a b e = absurd b
+same_item [] [] (c ∷ r) (d ∷ s) p q a b e = (refl, e)
+same_item [] (x ∷ v) (c ∷ r) (d ∷ s) p q a b e =
+    let same : c ≡ x = ap (λ l. get_or l 0 0) e in
+    absurd (false≢true (sym (or_false (is_item_end x) _ q).0 ∙ ap is_item_end (sym same) ∙ a))
+same_item (x ∷ u) [] (c ∷ r) (d ∷ s) p q a b e =
+    let same : x ≡ d = ap (λ l. get_or l 0 0) e in
+    absurd (false≢true (sym (or_false (is_item_end x) _ p).0 ∙ ap is_item_end same ∙ b))
+same_item (x ∷ u) (y ∷ v) (c ∷ r) (d ∷ s) p q a b e =
+    let same : x ≡ y = ap (λ l. get_or l 0 0) e in
+    let rest = same_item u v (c ∷ r) (d ∷ s) (or_false (is_item_end x) _ p).1 (or_false (is_item_end y) _ q).1 a b (ap (drop 1) e) in
+    (ap (λ n. n ∷ u) same ∙ ap (λ xs. y ∷ xs) rest.0, rest.1)
 
 -- ---- bytes that stand in no identifier
 
@@ -138,6 +182,18 @@ comma_stops = refl
 pub closing_stops : is_xid_continue 41 ≡ false
 unfolding unicode_ident
 closing_stops = refl
+
+pub quote_stops : is_xid_continue 34 ≡ false
+unfolding unicode_ident
+quote_stops = refl
+
+pub brace_stops : is_xid_continue 125 ≡ false
+unfolding unicode_ident
+brace_stops = refl
+
+-- an identifier of a list in braces ends where it stands before an end
+pub identifier_ends : (name : List ℕ) → IsTrue (is_identifier name) → list_any is_item_end name ≡ false
+identifier_ends name h = no_item_end name (HasNo-identifier 44 name (omega arith) comma_stops h) (HasNo-identifier 125 name (omega arith) brace_stops h)
 
 -- ---- where a byte stands
 

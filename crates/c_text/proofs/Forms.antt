@@ -11,16 +11,18 @@ use Rattle.c_core.specs.declared.code.CLit.{CLit}
 use Rattle.c_core.specs.declared.code.Kind.{Kind}
 use Rattle.c_core.specs.declared.code.Kind.TheVariants.{Tagged, Int64, Char, Object}
 use Rattle.c_core.specs.declared.code.Line.{Line}
-use Rattle.c_core.specs.declared.code.Line.TheVariants.{Label, Move, Lit, Call, Goto, If, IfError, Turn, Return, Inc, Dec, XDec}
+use Rattle.c_core.specs.declared.code.Line.TheVariants.{Label, Move, Lit, Call, Virtual, TraitCall, Goto, If, IfError, Turn, Return, Inc, Dec, XDec}
 use Rattle.c_core.specs.Text.{branches_text, count_text, error_text, literal_text, statement_text, var_text}
-use Rattle.c_core.specs.WellFormed.{Declared, spelled_label, is_call_name, is_declared, kind_at, spelled_arg, spelled_line, spelled_literal}
+use Rattle.c_core.specs.WellFormed.{Declared, spelled_label, is_call_name, is_declared, is_identifier, kind_at, spelled_arg, spelled_line, spelled_literal}
 use Rattle.c_text.specs.declared.count.Count.{Count}
 use Rattle.c_text.specs.declared.count.Count.TheVariants as count
 use Rattle.c_text.specs.Counts.{IsCounted, count_line, count_word, counter_text}
+use Rattle.c_text.specs.Methods.{for_trait_text, virtual_text}
 use Rattle.c_text.specs.Words.{HasNo, IsCut, bracketed}
 use Rattle.c_text.specs.Statements.{AreNamed, IsIndented, args_text, assignment_text, both_text, call_text, error_of, test_text}
 use Rattle.c_text.proofs.Bytes.{and_true, closing_stops, differ, bracket_stops, same_bracketed, same_front, space_stops, HasNo-append}
 use Rattle.c_text.proofs.ArgumentLemmas.{HasNo-variable}
+use Rattle.c_text.proofs.MethodTexts.{for_trait_is, virtual_is}
 use Rattle.c_text.proofs.Numbers.{HasNo-decimal}
 use Rattle.c_text.proofs.StatementLemmas.{HasNo-call_name, IsCount, call_name_parts, count_begins, count_parts, count_plain}
 use Rattle.c_text.proofs.VariableLemmas.{declared_at, kind_is, text_at}
@@ -33,6 +35,8 @@ opening (Move x y) = codes "cpy_"
 opening (Lit x l) = codes "cpy_"
 opening (Call None name args) = codes "CPy"
 opening (Call (Some x) name args) = codes "cpy_"
+opening (Virtual x o n args) = codes "cpy_"
+opening (TraitCall x o t n args) = codes "cpy_"
 opening (Goto n) = codes "goto CPyL"
 opening (If x a b) = codes "if ("
 opening (IfError x a b) = codes "if ("
@@ -61,6 +65,12 @@ opens vars (Call None name args) h = let o = call_opens vars name args (and_true
 opens vars (Call (Some x) name args) h =
     let o = assignment_opens vars x (call_text vars name args) (and_true (is_declared vars x) _ h).0 in
     record { rest = o.0; text = append_assoc (var_text vars x) (codes " = ") (call_text vars name args) ∙ o.1 }
+opens vars (Virtual x o n args) h =
+    let p = assignment_opens vars x (bracketed (codes "CPyVirtual") (virtual_text vars o n args)) (and_true (is_declared vars x) _ h).0 in
+    record { rest = p.0; text = virtual_is vars x o n args ∙ p.1 }
+opens vars (TraitCall x o t n args) h =
+    let p = assignment_opens vars x (bracketed (codes "CPyTrait") (for_trait_text vars o t n args)) (and_true (is_declared vars x) _ h).0 in
+    record { rest = p.0; text = for_trait_is vars x o t n args ∙ p.1 }
 opens vars (Goto n) h = record { rest = decimal n; text = refl }
 opens vars (If x a b) h = record { rest = var_text vars x ++ branches_text a b; text = refl }
 opens vars (IfError x a b) h = record { rest = _; text = refl }
@@ -156,10 +166,16 @@ is_test vars l inside branches n i h plain e = absurd (apart vars l h (test_text
 
 -- ---- assignments
 
+-- the calls whose answer is assigned, by their words and what stands between their brackets
+pub data Called (vars : List Declared) (x : ℕ) (word inside : List ℕ) : Line → Type 0 where
+  by_name : (name : List ℕ) (args : List CArg) → IsTrue (is_call_name name) → IsTrue (list_all (spelled_arg vars) args) → name ≡ word → args_text vars args ≡ inside → Called vars x word inside (Call (Some x) name args)
+  by_class : (o n : ℕ) (args : List ℕ) → IsTrue (is_declared vars o) → IsTrue (spelled_label n) → IsTrue (list_all (is_declared vars) args) → codes "CPyVirtual" ≡ word → virtual_text vars o n args ≡ inside → Called vars x word inside (Virtual x o n args)
+  by_trait : (o : ℕ) (t : List ℕ) (n : ℕ) (args : List ℕ) → IsTrue (is_declared vars o) → IsTrue (is_identifier t) → IsTrue (spelled_label n) → IsTrue (list_all (is_declared vars) args) → codes "CPyTrait" ≡ word → for_trait_text vars o t n args ≡ inside → Called vars x word inside (TraitCall x o t n args)
+
 pub data Assigned (vars : List Declared) (place : ℕ) (value : List ℕ) : Line → Type 0 where
   moves : (x y : ℕ) → IsTrue (is_declared vars x) → IsTrue (is_declared vars y) → var_text vars x ≡ var_text vars place → var_text vars y ≡ value → Assigned vars place value (Move x y)
   takes : (x : ℕ) (l : CLit) → IsTrue (is_declared vars x) → IsTrue (spelled_literal l) → var_text vars x ≡ var_text vars place → literal_text l ≡ value → Assigned vars place value (Lit x l)
-  gets : (x : ℕ) (name : List ℕ) (args : List CArg) → IsTrue (is_declared vars x) → IsTrue (is_call_name name) → IsTrue (list_all (spelled_arg vars) args) → var_text vars x ≡ var_text vars place → call_text vars name args ≡ value → Assigned vars place value (Call (Some x) name args)
+  gets : (x : ℕ) (word inside rest : List ℕ) (l : Line) → IsTrue (is_declared vars x) → HasNo 40 word → word ≡ codes "CPy" ++ rest → Called vars x word inside l → var_text vars x ≡ var_text vars place → bracketed word inside ≡ value → Assigned vars place value l
 
 same_target : (vars : List Declared) (x y : ℕ) (v w : List ℕ) → AreNamed vars → IsTrue (is_declared vars x) → IsTrue (is_declared vars y) → assignment_text vars x v ≡ assignment_text vars y w → (var_text vars x ≡ var_text vars y) × (v ≡ w)
 same_target vars x y v w names h k e =
@@ -186,7 +202,21 @@ is_assignment vars l place value n d i h e = split l i h e
         let p = and_true (is_declared vars x) _ h in
         let q = and_true (is_call_name name) _ p.1 in
         let t = same_target vars x place (call_text vars name args) value n p.0 d (sym (append_assoc (var_text vars x) (codes " = ") (call_text vars name args)) ∙ e) in
-        gets x name args p.0 q.0 q.1 t.0 t.1
+        let c = call_name_parts name q.0 in
+        gets x name (args_text vars args) c.rest (Call (Some x) name args) p.0 (HasNo-call_name 40 name (omega arith) bracket_stops refl q.0) c.whole (by_name name args q.0 q.1 refl refl) t.0 t.1
+    split (Virtual x o m args) i h e =
+        let p = and_true (is_declared vars x) _ h in
+        let q = and_true (is_declared vars o) _ p.1 in
+        let r = and_true (spelled_label m) _ q.1 in
+        let t = same_target vars x place (bracketed (codes "CPyVirtual") (virtual_text vars o m args)) value n p.0 d (sym (virtual_is vars x o m args) ∙ e) in
+        gets x (codes "CPyVirtual") (virtual_text vars o m args) (codes "Virtual") (Virtual x o m args) p.0 refl refl (by_class o m args q.0 r.0 r.1 refl refl) t.0 t.1
+    split (TraitCall x o t m args) i h e =
+        let p = and_true (is_declared vars x) _ h in
+        let q = and_true (is_declared vars o) _ p.1 in
+        let r = and_true (is_identifier t) _ q.1 in
+        let s = and_true (spelled_label m) _ r.1 in
+        let u = same_target vars x place (bracketed (codes "CPyTrait") (for_trait_text vars o t m args)) value n p.0 d (sym (for_trait_is vars x o t m args) ∙ e) in
+        gets x (codes "CPyTrait") (for_trait_text vars o t m args) (codes "Trait") (TraitCall x o t m args) p.0 refl refl (by_trait o t m args q.0 r.0 s.0 s.1 refl refl) u.0 u.1
     split (Call None name args) i h e = absurd (apart vars (Call None name args) h _ (e ∙ front.1) refl)
     split m i h e = absurd (apart vars m h (codes "cpy_" ++ front.0) (e ∙ front.1) refl)
 
@@ -229,6 +259,8 @@ is_none vars l text i h e v w g t r = split l i (opens vars l h).rest (sym e ∙
     split (Lit x l) i rest f = v rest f
     split (Call None name args) i rest f = w rest f
     split (Call (Some x) name args) i rest f = v rest f
+    split (Virtual x o n args) i rest f = v rest f
+    split (TraitCall x o t n args) i rest f = v rest f
     split (Goto n) i rest f = g rest f
     split (If x a b) i rest f = t rest f
     split (IfError x a b) i rest f = t rest f

@@ -1,12 +1,17 @@
 pub mod ArgumentLemmas
 pub mod Bytes
+pub mod ClassLines
+pub mod ClassReads
 pub mod Forms
 pub mod Fronts
 pub mod HeadLemmas
+pub mod Items
 pub mod Joined
 pub mod LabelLemmas
 pub mod LineTexts
 pub mod Literals
+pub mod MethodReads
+pub mod MethodTexts
 pub mod Numbers
 pub mod OneCode
 pub mod OneText
@@ -15,7 +20,9 @@ pub mod PlaceLemmas
 pub mod PlaceTables
 pub mod Quoting
 pub mod ReadLemmas
+pub mod SameClasses
 pub mod SameLines
+pub mod SameMethods
 pub mod SameParts
 pub mod StatementLemmas
 pub mod StatementReads

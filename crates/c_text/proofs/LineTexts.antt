@@ -14,16 +14,18 @@ use Rattle.c_core.specs.declared.code.CFunc.{CFunc}
 use Rattle.c_core.specs.declared.code.Kind.{Kind}
 use Rattle.c_core.specs.declared.code.Kind.TheVariants.{Tagged, Int64, Char, Object}
 use Rattle.c_core.specs.declared.code.Line.{Line}
-use Rattle.c_core.specs.declared.code.Line.TheVariants.{Label, Move, Lit, Call, Goto, If, IfError, Turn, Return, Inc, Dec, XDec}
+use Rattle.c_core.specs.declared.code.Line.TheVariants.{Label, Move, Lit, Call, Virtual, TraitCall, Goto, If, IfError, Turn, Return, Inc, Dec, XDec}
 use Rattle.c_core.specs.Functions.{is_label}
 use Rattle.c_core.specs.Text.{arg_text, branches_text, byte_text, comma, count_text, counter_of, declaration_text, error_text, function_end, function_head, global_line, goto_text, indented, kind_text, label_line, lines_from, literal_text, module_head, octal, parameters_text, statement_text, var_text}
-use Rattle.c_core.specs.WellFormed.{Declared, is_call_name, is_counted_kind, is_declared, kind_at, is_identifier, spelled_arg, spelled_line, spelled_literal}
-use Rattle.c_text.specs.Words.{HasNo}
+use Rattle.c_core.specs.WellFormed.{Declared, is_call_name, is_counted_kind, is_declared, kind_at, is_identifier, spelled_arg, spelled_label, spelled_line, spelled_literal}
+use Rattle.c_text.specs.Methods.{for_trait_text, virtual_text}
+use Rattle.c_text.specs.Words.{HasNo, bracketed}
 use Rattle.c_text.specs.Counts.{counter_text}
 use Rattle.c_text.specs.Labels.{labels_after, line_text}
 use Rattle.c_text.specs.Statements.{AreNamed, IsIndented, args_text, assignment_text, call_text}
 use Rattle.c_text.proofs.Bytes.{differ, and_true, inside_same, HasNo-append, HasNo-cons, HasNo-identifier, or_false, line_feed_stops, space_stops}
 use Rattle.c_text.proofs.Forms.{opening, opens}
+use Rattle.c_text.proofs.MethodTexts.{for_trait_is, for_trait_plain, virtual_is, virtual_plain}
 use Rattle.c_text.proofs.Numbers.{HasNo-decimal, HasNo-number}
 use Rattle.c_text.proofs.ArgumentLemmas.{HasNo-variable}
 use Rattle.c_text.proofs.StatementLemmas.{HasNo-call_name, count_parts, call_name_parts}
@@ -45,7 +47,7 @@ byte_plain b = split (b == 34) (b == 92) (b == 10) (nat_lt b 32 || (b == 127)) r
         HasNo-cons 10 92 high (omega arith) (HasNo-cons 10 (48 + b / 64) middle (omega arith) (HasNo-cons 10 (48 + b / 8 % 8) low (omega arith) (HasNo-cons 10 (48 + b % 8) [] (omega arith) refl)))
     split false false false false e = ap (λ t. t || false) e
 
-bytes_plain : (t : List ℕ) → HasNo 10 (flat_map byte_text t)
+pub bytes_plain : (t : List ℕ) → HasNo 10 (flat_map byte_text t)
 bytes_plain [] = refl
 bytes_plain (b ∷ t) = HasNo-append 10 (byte_text b) (flat_map byte_text t) (byte_plain b) (bytes_plain t)
 
@@ -73,11 +75,14 @@ literal_plain PyFalse h = refl
 variable_plain : (vars : List Declared) (x : ℕ) → AreNamed vars → IsTrue (is_declared vars x) → HasNo 10 (var_text vars x)
 variable_plain vars x names h = HasNo-variable 10 vars x (omega arith) line_feed_stops refl names h
 
+bracketed_plain : (word inside : List ℕ) → HasNo 10 word → HasNo 10 inside → HasNo 10 (bracketed word inside)
+bracketed_plain word inside p q =
+    HasNo-append 10 word (codes "(" ++ (inside ++ codes ")")) p (HasNo-append 10 (codes "(") (inside ++ codes ")") refl (HasNo-append 10 inside (codes ")") q refl))
+
 call_plain : (vars : List Declared) (name : List ℕ) (args : List CArg) → AreNamed vars → IsTrue (is_call_name name && list_all (spelled_arg vars) args) → HasNo 10 (name ++ (codes "(" ++ (args_text vars args ++ codes ")")))
 call_plain vars name args names h =
     let parts = and_true (is_call_name name) _ h in
-    HasNo-append 10 name (codes "(" ++ (args_text vars args ++ codes ")")) (HasNo-call_name 10 name (omega arith) line_feed_stops refl parts.0)
-    (HasNo-append 10 (codes "(") (args_text vars args ++ codes ")") refl (HasNo-append 10 (args_text vars args) (codes ")") (arguments_plain vars args names parts.1) refl))
+    bracketed_plain name (args_text vars args) (HasNo-call_name 10 name (omega arith) line_feed_stops refl parts.0) (arguments_plain vars args names parts.1)
 
 jump_plain : (n : ℕ) → HasNo 10 (goto_text n)
 jump_plain n = HasNo-append 10 (codes "goto CPyL") (decimal n) refl (HasNo-decimal 10 n (λ r. omega (arith, r.0)))
@@ -118,6 +123,17 @@ statement_plain vars (Call None name args) names h = call_plain vars name args n
 statement_plain vars (Call (Some x) name args) names h =
     let parts = and_true (is_declared vars x) _ h in
     ap (list_any (λ b. b == 10)) (append_assoc (var_text vars x) (codes " = ") (call_text vars name args)) ∙ target_plain vars x (call_text vars name args) names parts.0 (call_plain vars name args names parts.1)
+statement_plain vars (Virtual x o n args) names h =
+    let p = and_true (is_declared vars x) _ h in
+    let q = and_true (is_declared vars o) _ p.1 in
+    let r = and_true (spelled_label n) _ q.1 in
+    ap (list_any (λ b. b == 10)) (virtual_is vars x o n args) ∙ target_plain vars x (bracketed (codes "CPyVirtual") (virtual_text vars o n args)) names p.0 (bracketed_plain (codes "CPyVirtual") (virtual_text vars o n args) refl (virtual_plain vars o n args names q.0 r.1))
+statement_plain vars (TraitCall x o t n args) names h =
+    let p = and_true (is_declared vars x) _ h in
+    let q = and_true (is_declared vars o) _ p.1 in
+    let r = and_true (is_identifier t) _ q.1 in
+    let s = and_true (spelled_label n) _ r.1 in
+    ap (list_any (λ b. b == 10)) (for_trait_is vars x o t n args) ∙ target_plain vars x (bracketed (codes "CPyTrait") (for_trait_text vars o t n args)) names p.0 (bracketed_plain (codes "CPyTrait") (for_trait_text vars o t n args) refl (for_trait_plain vars o t n args names q.0 r.0 s.1))
 statement_plain vars (Goto n) names h = jump_plain n
 statement_plain vars (If x a b) names h =
     HasNo-append 10 (codes "if (") (var_text vars x ++ branches_text a b) refl (HasNo-append 10 (var_text vars x) (branches_text a b) (variable_plain vars x names (and_true (is_declared vars x) _ h).0) (branches_plain a b))
@@ -295,6 +311,8 @@ kind_not_statement vars l k rest i h e = split l i h (e ∙ ap (λ t. t ++ codes
     split (Call None name args) i h o e =
         kind_not_call k rest name ((args_text vars args ++ codes ")") ++ codes ";") (and_true (is_call_name name) _ h).0 (e ∙ append_assoc name (codes "(" ++ (args_text vars args ++ codes ")")) (codes ";"))
     split (Call (Some x) name args) i h o e = kind_not_variable k rest _ o
+    split (Virtual x y n args) i h o e = kind_not_variable k rest _ o
+    split (TraitCall x y t n args) i h o e = kind_not_variable k rest _ o
     split (Goto n) i h o e = kind_not_jump k rest _ o
     split (If x a b) i h o e = kind_not_test k rest _ o
     split (IfError x a b) i h o e = kind_not_test k rest _ o

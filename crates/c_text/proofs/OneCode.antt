@@ -1,5 +1,5 @@
 -- No two well-formed codes have the same lines.
-use Rattle.std.proofs.Common.{◌≡◌, ◌∙◌, ℕ, ◌≤◌, List, [], ◌∷◌, ◌++◌, length, take, drop, true, IsTrue, refl, sym, ap, arith, subst, append_assoc, append-nil, take-append-drop, length-take}
+use Rattle.std.proofs.Common.{◌≡◌, ◌∙◌, ℕ, ◌≤◌, List, [], ◌∷◌, ◌++◌, length, take, drop, Bool, true, IsTrue, refl, sym, ap, arith, subst, append_assoc, append-nil, take-append-drop, length-take}
 use Rattle.std.specs.Prelude.{◌==◌, map}
 use Rattle.std.specs.List.{list_all}
 use Rattle.std.specs.Str.{bytes_eq}
@@ -11,14 +11,16 @@ use Rattle.c_core.specs.declared.code.Code.{Code}
 use Rattle.c_core.specs.declared.code.Kind.{Kind}
 use Rattle.c_core.specs.declared.code.Kind.TheVariants.{Tagged, Int64, Char, Object}
 use Rattle.c_core.specs.declared.code.Line.{Line}
-use Rattle.c_core.specs.Text.{code_lines, declaration_lines, function_end, function_lines, global_lines, statement_lines}
-use Rattle.c_core.specs.WellFormed.{Declared, Spelled, WellFormed, function_fits, is_char, names_differ, spelled_function, spelled_functions}
+use Rattle.c_core.specs.Text.{class_line, code_lines, declaration_lines, function_end, function_lines, global_line, statement_lines}
+use Rattle.c_core.specs.WellFormed.{Declared, Spelled, WellFormed, classes_fit, function_fits, is_char, is_identifier, names_differ, spelled_class, spelled_function, spelled_functions}
+use Rattle.c_text.specs.Classes.{class_lines}
 use Rattle.c_text.specs.Parts.{AreSpelled}
 use Rattle.c_text.specs.Statements.{AreNamed}
 use Rattle.c_text.proofs.Bytes.{and_true}
 use Rattle.c_text.proofs.HeadLemmas.{named_drop, named_take, same_head}
-use Rattle.c_text.proofs.LineTexts.{global_not_head, global_not_module, head_not_module, same_global}
-use Rattle.c_text.proofs.PartLemmas.{IsPast, body_is_past, body_lines, code_parts, coded, heads, inner_ends, other_parts, same_vars, tails, top_parts}
+use Rattle.c_text.proofs.LineTexts.{head_not_module, same_global}
+use Rattle.c_text.proofs.PartLemmas.{IsPast, body_is_past, body_lines, classes_not_global, code_parts, coded, functions_not_class, heads, inner_ends, other_parts, same_vars, tails, top_parts}
+use Rattle.c_text.proofs.SameClasses.{same_class}
 use Rattle.c_text.proofs.SameLines.{same_lines}
 use Rattle.c_text.proofs.VariableLemmas.{HaveOwnNames}
 
@@ -92,25 +94,27 @@ same_functions (f ∷ l ∷ fs) (g ∷ m ∷ gs) own h k e =
     let count = same_count f.params g.params g.vars (subst (λ (vs : List Declared). f.params ≤ length vs) s.0 (leb-true f.params (length f.vars) p.few)) (leb-true g.params (length g.vars) q.few) (ap (take f.params) (sym s.0) ∙ head.2) in
     ap (λ z. z ∷ l ∷ fs) (same_made f g head.1 head.0 count s.0 s.1) ∙ ap (λ zs. g ∷ zs) (same_functions (l ∷ fs) (m ∷ gs) own.1 x.1 y.1 ends.1)
 
-functions_first : (fs : List CFunc) (v : Declared) (more : List (List ℕ)) → IsTrue (spelled_functions fs) → function_lines fs ≡ global_lines (v ∷ []) ++ more → ⊥
-functions_first [] v more h e = false≢true h
-functions_first (t ∷ []) v more h e = global_not_module v (sym (heads e))
-functions_first (f ∷ g ∷ fs) v more h e = global_not_head v f (sym (heads e))
-
-same_globals : (xs ys : List Declared) (fs gs : List CFunc) → IsTrue (spelled_functions fs) → IsTrue (spelled_functions gs) → global_lines xs ++ function_lines fs ≡ global_lines ys ++ function_lines gs → (xs ≡ ys) × (function_lines fs ≡ function_lines gs)
-same_globals [] [] fs gs h k e = (refl, e)
-same_globals [] (b ∷ ys) fs gs h k e = absurd (functions_first fs b (global_lines ys ++ function_lines gs) h e)
-same_globals (a ∷ xs) [] fs gs h k e = absurd (functions_first gs a (global_lines xs ++ function_lines fs) k (sym e))
-same_globals (a ∷ xs) (b ∷ ys) fs gs h k e =
-    let r = same_globals xs ys fs gs h k (tails e) in (ap (λ z. z ∷ xs) (same_global a b (heads e)) ∙ ap (λ zs. b ∷ zs) r.0, r.1)
+-- lines of one sort, before lines of which the first is of another
+same_before : {A : Type 0} (line : A → List ℕ) (spelled : A → Bool) → ((a b : A) → IsTrue (spelled a) → IsTrue (spelled b) → line a ≡ line b → a ≡ b) → (xs ys : List A) (more others : List (List ℕ)) → ((a : A) (rest : List (List ℕ)) → more ≡ line a ∷ rest → ⊥) → ((a : A) (rest : List (List ℕ)) → others ≡ line a ∷ rest → ⊥) → IsTrue (list_all spelled xs) → IsTrue (list_all spelled ys) → map line xs ++ more ≡ map line ys ++ others → (xs ≡ ys) × (more ≡ others)
+same_before line spelled same [] [] more others m o h k e = (refl, e)
+same_before line spelled same [] (b ∷ ys) more others m o h k e = absurd (m b (map line ys ++ others) e)
+same_before line spelled same (a ∷ xs) [] more others m o h k e = absurd (o a (map line xs ++ more) (sym e))
+same_before line spelled same (a ∷ xs) (b ∷ ys) more others m o h k e =
+    let p = and_true (spelled a) _ h in
+    let q = and_true (spelled b) _ k in
+    let r = same_before line spelled same xs ys more others m o p.1 q.1 (tails e) in
+    (ap (λ z. z ∷ xs) (same a b p.0 q.0 (heads e)) ∙ ap (λ zs. b ∷ zs) r.0, r.1)
 
 pub other_is : (other code : Code) → WellFormed other → Spelled code → code_lines other ≡ code_lines code → other ≡ code
 other_is other code w h e =
     let parts = and_true _ _ w in
     let names = and_true (names_differ (map (λ v. v.0) other.globals)) _ parts.1 in
-    let fit = (and_true (names_differ (map (λ g. g.name) other.funcs)) _ names.1).1 in
+    let fits = and_true (classes_fit other) _ names.1 in
+    let fit = (and_true (names_differ (map (λ g. g.name) other.funcs)) _ fits.1).1 in
     let m = code_parts other parts.0 in
     let n = code_parts code h in
-    let g = same_globals other.globals code.globals other.funcs code.funcs m.functions n.functions (tails e) in
-    let f = same_functions other.funcs code.funcs (all_own other other.funcs fit) m.functions n.functions g.1 in
-    m.whole ∙ ap (λ z. coded z [] other.funcs) g.0 ∙ ap (λ z. coded code.globals [] z) f ∙ sym n.whole
+    let g = same_before global_line (λ v. is_identifier v.0) (λ a b p q f. same_global a b f) other.globals code.globals (class_lines other.classes ++ function_lines other.funcs) (class_lines code.classes ++ function_lines code.funcs) (λ v rest f. classes_not_global other.classes other.funcs v rest m.functions f)
+    (λ v rest f. classes_not_global code.classes code.funcs v rest n.functions f) m.named n.named (tails e) in
+    let k = same_before class_line spelled_class same_class other.classes code.classes (function_lines other.funcs) (function_lines code.funcs) (λ k rest f. functions_not_class other.funcs k rest m.functions f) (λ k rest f. functions_not_class code.funcs k rest n.functions f) m.classes n.classes g.1 in
+    let f = same_functions other.funcs code.funcs (all_own other other.funcs fit) m.functions n.functions k.1 in
+    ap (λ z. coded z other.classes other.funcs) g.0 ∙ ap (λ z. coded code.globals z other.funcs) k.0 ∙ ap (λ z. coded code.globals code.classes z) f

@@ -1,6 +1,6 @@
 -- Which line may follow a part of a text: the lines of a code's text, taken from the front.
-use Rattle.std.proofs.Common.{◌≡◌, ◌≢◌, ◌∙◌, ℕ, ◌+◌, true, cond, List, [], ◌∷◌, ◌++◌, take, drop, IsTrue, refl, sym, ap, append_assoc, append-nil, subst, take-append-drop, ◌≤◌, arith, length-append, ◌⊎◌, inl, inr}
-use Rattle.std.specs.Prelude.{◌&&◌, ◌==◌, codes, length, nat_le}
+use Rattle.std.proofs.Common.{◌≡◌, ◌≢◌, ◌∙◌, ℕ, ◌+◌, Bool, true, cond, List, [], ◌∷◌, ◌++◌, take, drop, IsTrue, refl, sym, ap, append_assoc, append-nil, subst, take-append-drop, ◌≤◌, arith, length-append, ◌⊎◌, inl, inr}
+use Rattle.std.specs.Prelude.{◌&&◌, ◌==◌, codes, length, map, nat_le}
 use Rattle.std.specs.Str.{bytes_eq}
 use Rattle.std.specs.List.{list_all}
 use Rattle.std.specs.Cmp.Derive.{both_true}
@@ -11,23 +11,28 @@ use Rattle.c_core.specs.declared.code.CFunc.{CFunc}
 use Rattle.c_core.specs.declared.code.Code.{Code}
 use Rattle.c_core.specs.declared.code.Kind.{Kind}
 use Rattle.c_core.specs.declared.code.Line.{Line}
-use Rattle.c_core.specs.Text.{code_lines, declaration_lines, declaration_text, first_line, function_end, function_head, function_lines, global_line, global_lines, indented, kind_text, lines_from, module_head, parameters_text, statement_lines}
-use Rattle.c_core.specs.WellFormed.{Declared, Spelled, is_char, is_empty, is_identifier, spelled_body, spelled_function, spelled_functions, spelled_line, spelled_top}
+use Rattle.c_core.specs.Text.{class_line, code_lines, declaration_lines, declaration_text, first_line, function_end, function_head, function_lines, global_line, global_lines, indented, kind_text, lines_from, module_head, parameters_text, statement_lines}
+use Rattle.c_core.specs.WellFormed.{Declared, Spelled, is_char, is_identifier, spelled_body, spelled_class, spelled_function, spelled_functions, spelled_line, spelled_top}
 use Rattle.c_text.specs.declared.head.FunctionHead.{FunctionHead}
 use Rattle.c_text.specs.declared.head.FunctionHead.TheVariants.{Module, Function}
 use Rattle.c_text.specs.declared.part.Above.{Above}
 use Rattle.c_text.specs.declared.part.Added.{Added}
 use Rattle.c_text.specs.declared.part.Added.TheVariants as added
 use Rattle.c_text.specs.declared.part.Open.{Open}
-use Rattle.c_text.specs.Adding.{Adds, with_added}
+use Rattle.c_text.specs.declared.part.Outside.{Outside}
+use Rattle.c_text.specs.declared.part.Outside.TheVariants as outside
+use Rattle.c_text.specs.Adding.{Adds, AddsNothingOutside, AddsOutside, with_added, with_outside}
+use Rattle.c_text.specs.Classes.{AreClasses, IsClass, class_lines}
 use Rattle.c_text.specs.declared.part.Part.{Part}
 use Rattle.c_text.specs.declared.part.Part.TheVariants.{Start, Between, Inside, Closed}
-use Rattle.c_text.specs.Heads.{IsHead, IsNoHead, function_of, head_line, parameters_of}
+use Rattle.c_text.specs.Heads.{BeginsFunction, IsHead, IsNoHead, function_of, head_line, parameters_of}
 use Rattle.c_text.specs.Labels.{labels_after, labels_behind, line_text}
 use Rattle.c_text.specs.Reading.{CanStand}
 use Rattle.c_text.specs.Statements.{AreNamed, IsLine, IsNoLine}
 use Rattle.c_text.specs.Parts.{AreSpelled, IsAbove, IsFine, IsNext, IsOpen, above_lines, code_of, open_lines, other_lines, part_lines}
+use Rattle.c_text.proofs.ArgumentLemmas.{all_push}
 use Rattle.c_text.proofs.Bytes.{and_true}
+use Rattle.c_text.proofs.ClassLines.{class_not_global, class_not_head, class_not_module}
 use Rattle.c_text.proofs.HeadLemmas.{named_drop, named_push, named_take, same_head}
 use Rattle.c_text.proofs.LineTexts.{end_not_declaration, end_not_line, global_not_head, global_not_module, head_not_module, lines_step, no_declaration, same_after, same_declaration}
 
@@ -47,18 +52,14 @@ coded globals classes functions = record { globals = globals; classes = classes;
 
 pub record CodeParts (code : Code) : Type 0 where
   pub named : AreNamed code.globals
+  pub classes : AreClasses code.classes
   pub functions : IsTrue (spelled_functions code.funcs)
-  pub whole : code ≡ coded code.globals [] code.funcs
 
 pub code_parts : (code : Code) → Spelled code → CodeParts code
 code_parts code h =
     let globals = and_true (list_all (λ v. is_identifier v.0) code.globals) _ h in
-    let classes = and_true (is_empty code.classes) _ globals.1 in
-    record { named = globals.0; functions = classes.1; whole = none code.classes classes.0 }
-  where
-    none : (ks : List CClass) → is_empty ks ≡ true → coded code.globals ks code.funcs ≡ coded code.globals [] code.funcs
-    none [] e = refl
-    none (k ∷ ks) e = absurd (false≢true e)
+    let classes = and_true (list_all spelled_class code.classes) _ globals.1 in
+    record { named = globals.0; classes = classes.0; functions = classes.1 }
 
 pub record FunctionParts (g : CFunc) : Type 0 where
   pub named : AreNamed g.vars
@@ -130,38 +131,84 @@ functions_behind (g ∷ k ∷ gs) (f ∷ fs) tail h e =
     ∙ ap (λ t. declaration_lines (drop f.params f.vars) ++ t) (append_assoc (statement_lines f.vars f.lines) (function_end ∷ other_lines fs) tail)) in
     functions_behind (k ∷ gs) fs tail (and_true (spelled_function g) _ h).1 ends.1
 
--- the lines of functions begin with no global
+-- the lines of functions begin with no global and no class, and those of classes with no global
 functions_not_global : (fs : List CFunc) (v : Declared) (tail : List (List ℕ)) → IsTrue (spelled_functions fs) → function_lines fs ≡ global_line v ∷ tail → ⊥
 functions_not_global [] v tail h e = no_functions h
 functions_not_global (t ∷ []) v tail h e = global_not_module v (sym (heads e))
 functions_not_global (f ∷ k ∷ fs) v tail h e = global_not_head v f (sym (heads e))
 
-globals_behind : (cs gs : List Declared) (fs : List CFunc) (tail : List (List ℕ)) → AreNamed cs → IsTrue (spelled_functions fs) → global_lines cs ++ function_lines fs ≡ global_lines gs ++ tail → (ms : List Declared) × AreNamed ms × (global_lines ms ++ function_lines fs ≡ tail)
-globals_behind cs [] fs tail n h e = (cs, n, e)
-globals_behind [] (g ∷ gs) fs tail n h e = absurd (functions_not_global fs g (global_lines gs ++ tail) h e)
-globals_behind (c ∷ cs) (g ∷ gs) fs tail n h e = globals_behind cs gs fs tail (and_true (is_identifier c.0) _ n).1 h (tails e)
+pub functions_not_class : (fs : List CFunc) (k : CClass) (tail : List (List ℕ)) → IsTrue (spelled_functions fs) → function_lines fs ≡ class_line k ∷ tail → ⊥
+functions_not_class [] k tail h e = no_functions h
+functions_not_class (t ∷ []) k tail h e = class_not_module k (sym (heads e))
+functions_not_class (f ∷ g ∷ fs) k tail h e = class_not_head k f (sym (heads e))
 
--- behind what stands above a function come globals, if no function has come, and functions
+pub classes_not_global : (ks : List CClass) (fs : List CFunc) (v : Declared) (tail : List (List ℕ)) → IsTrue (spelled_functions fs) → class_lines ks ++ function_lines fs ≡ global_line v ∷ tail → ⊥
+classes_not_global [] fs v tail h e = functions_not_global fs v tail h e
+classes_not_global (k ∷ ks) fs v tail h e = class_not_global k v (heads e)
+
+-- lines of one sort, before lines of which the first is of another
+lines_behind : {A : Type 0} (line : A → List ℕ) (spelled : A → Bool) (cs gs : List A) (more tail : List (List ℕ)) → ((a : A) (rest : List (List ℕ)) → more ≡ line a ∷ rest → ⊥) → IsTrue (list_all spelled cs) → map line cs ++ more ≡ map line gs ++ tail → (ms : List A) × IsTrue (list_all spelled ms) × (map line ms ++ more ≡ tail)
+lines_behind line spelled cs [] more tail none n e = (cs, n, e)
+lines_behind line spelled [] (g ∷ gs) more tail none n e = absurd (none g (map line gs ++ tail) e)
+lines_behind line spelled (c ∷ cs) (g ∷ gs) more tail none n e = lines_behind line spelled cs gs more tail none (and_true (spelled c) _ n).1 (tails e)
+
+globals_behind : (cs gs : List Declared) (ks : List CClass) (fs : List CFunc) (tail : List (List ℕ)) → AreNamed cs → IsTrue (spelled_functions fs) → global_lines cs ++ (class_lines ks ++ function_lines fs) ≡ global_lines gs ++ tail → (ms : List Declared) × AreNamed ms × (global_lines ms ++ (class_lines ks ++ function_lines fs) ≡ tail)
+globals_behind cs gs ks fs tail n h e = lines_behind global_line (λ v. is_identifier v.0) cs gs (class_lines ks ++ function_lines fs) tail (λ v rest f. classes_not_global ks fs v rest h f) n e
+
+classes_behind : (cs ks : List CClass) (fs : List CFunc) (tail : List (List ℕ)) → AreClasses cs → IsTrue (spelled_functions fs) → class_lines cs ++ function_lines fs ≡ class_lines ks ++ tail → (ms : List CClass) × AreClasses ms × (class_lines ms ++ function_lines fs ≡ tail)
+classes_behind cs ks fs tail n h e = lines_behind class_line spelled_class cs ks (function_lines fs) tail (λ k rest f. functions_not_class fs k rest h f) n e
+
+-- the lines above a function, and what follows them
+pub above_more : (a : Above) (more : List (List ℕ)) → first_line ∷ (global_lines a.globals ++ (class_lines a.classes ++ (other_lines a.functions ++ more))) ≡ above_lines a ++ more
+above_more a more =
+    ap (λ t. first_line ∷ t) (ap (λ t. global_lines a.globals ++ t) (sym (append_assoc (class_lines a.classes) (other_lines a.functions) more)) ∙ sym (append_assoc (global_lines a.globals) (class_lines a.classes ++ other_lines a.functions) more))
+
+-- behind what stands above a function come globals, if no class and no function has come, classes, if no function has, and functions
 pub record Left (a : Above) (tail : List (List ℕ)) : Type 0 where
   pub globals : List Declared
+  pub classes : List CClass
   pub functions : List CFunc
   pub named : AreNamed globals
+  pub are_classes : AreClasses classes
   pub spelled : IsTrue (spelled_functions functions)
-  pub lines : global_lines globals ++ function_lines functions ≡ tail
-  pub early : (globals ≡ []) ⊎ (a.functions ≡ [])
+  pub lines : global_lines globals ++ (class_lines classes ++ function_lines functions) ≡ tail
+  pub early : (globals ≡ []) ⊎ ((a.classes ≡ []) × (a.functions ≡ []))
+  pub early_classes : (classes ≡ []) ⊎ (a.functions ≡ [])
+
+-- the same behind the globals, and behind the classes too
+functions_left : (code : Code) (a : Above) (tail : List (List ℕ)) (fs : List CFunc) → a.functions ≡ fs → CodeParts code → (ks : List CClass) → AreClasses ks → class_lines ks ++ function_lines code.funcs ≡ other_lines a.functions ++ tail → Left a tail
+functions_left code a tail [] q p ks n e =
+    record { globals = []; classes = ks; functions = code.funcs; named = refl; are_classes = n; spelled = p.functions; lines = e ∙ ap (λ z. other_lines z ++ tail) q; early = inl refl; early_classes = inr q }
+functions_left code a tail (f ∷ fs) q p [] n e =
+    let b = functions_behind code.funcs a.functions tail p.functions e in
+    record { globals = []; classes = []; functions = b.0; named = refl; are_classes = refl; spelled = b.1; lines = b.2; early = inl refl; early_classes = inl refl }
+functions_left code a tail (f ∷ fs) q p (k ∷ ks) n e = absurd (class_not_head k f (heads (e ∙ ap (λ z. other_lines z ++ tail) q)))
+
+classes_left : (code : Code) (a : Above) (tail : List (List ℕ)) (ks : List CClass) (fs : List CFunc) → a.classes ≡ ks → a.functions ≡ fs → CodeParts code → (ms : List Declared) → AreNamed ms → global_lines ms ++ (class_lines code.classes ++ function_lines code.funcs) ≡ class_lines a.classes ++ (other_lines a.functions ++ tail) → Left a tail
+classes_left code a tail ks fs q r p [] n e =
+    let c = classes_behind code.classes a.classes code.funcs (other_lines a.functions ++ tail) p.classes p.functions e in
+    functions_left code a tail fs r p c.0 c.1 c.2
+classes_left code a tail [] [] q r p (m ∷ ms) n e = record {
+  globals = m ∷ ms;
+  classes = code.classes;
+  functions = code.funcs;
+  named = n;
+  are_classes = p.classes;
+  spelled = p.functions;
+  lines = e ∙ ap (λ z. class_lines z ++ (other_lines a.functions ++ tail)) q ∙ ap (λ z. other_lines z ++ tail) r;
+  early = inr (q, r);
+  early_classes = inr r;
+}
+classes_left code a tail (k ∷ ks) fs q r p (m ∷ ms) n e =
+    absurd (class_not_global k m (sym (heads (e ∙ ap (λ z. class_lines z ++ (other_lines a.functions ++ tail)) q))))
+classes_left code a tail [] (f ∷ fs) q r p (m ∷ ms) n e =
+    absurd (global_not_head m f (heads (e ∙ ap (λ z. class_lines z ++ (other_lines a.functions ++ tail)) q ∙ ap (λ z. other_lines z ++ tail) r)))
 
 pub left_of : (code : Code) (a : Above) (tail : List (List ℕ)) → Spelled code → code_lines code ≡ above_lines a ++ tail → Left a tail
 left_of code a tail h e =
     let p = code_parts code h in
-    let g = globals_behind code.globals a.globals code.funcs (other_lines a.functions ++ tail) p.named p.functions (tails e ∙ append_assoc (global_lines a.globals) (other_lines a.functions) tail) in
-    split a.functions refl g.0 g.1 g.2 p.functions
-  where
-    split : (fs : List CFunc) → a.functions ≡ fs → (ms : List Declared) → AreNamed ms → global_lines ms ++ function_lines code.funcs ≡ other_lines a.functions ++ tail → IsTrue (spelled_functions code.funcs) → Left a tail
-    split [] q ms n f s = record { globals = ms; functions = code.funcs; named = n; spelled = s; lines = f ∙ ap (λ z. other_lines z ++ tail) q; early = inr q }
-    split (k ∷ fs) q [] n f s =
-        let b = functions_behind code.funcs a.functions tail s f in
-        record { globals = []; functions = b.0; named = refl; spelled = b.1; lines = b.2; early = inl refl }
-    split (k ∷ fs) q (m ∷ ms) n f s = absurd (global_not_head m k (heads (f ∙ ap (λ z. other_lines z ++ tail) q)))
+    let g = globals_behind code.globals a.globals code.classes code.funcs (class_lines a.classes ++ (other_lines a.functions ++ tail)) p.named p.functions (tails (e ∙ sym (above_more a tail))) in
+    classes_left code a tail a.classes a.functions refl refl p g.0 g.1 g.2
 
 -- ---- variables and the lines of a body
 
@@ -263,6 +310,11 @@ open_functions o (g ∷ k ∷ gs) tail (Function name ret params) q fine past h 
     inside_body o (drop g.params g.vars) (drop params o.vars) g.vars g.lines (function_lines (k ∷ gs)) tail fine (named_drop g.params g.vars p.named) (named_drop params o.vars fine.named) p.spelled past
     (λ s. sym (take-append-drop g.params g.vars) ∙ ap (λ z. z ++ drop g.params g.vars) same.2 ∙ ap (λ z. take params o.vars ++ z) s ∙ take-append-drop params o.vars) (tails line)
 
+head_is_no_class : (o : Open) (head : FunctionHead) (k : CClass) → o.head ≡ head → class_line k ≢ head_line o.head o.vars
+head_is_no_class o Module k q e = class_not_module k (e ∙ ap (λ z. head_line z o.vars) q)
+head_is_no_class o (Function name ret params) k q e =
+    class_not_head k (record { name = name; ret = ret; params = params; vars = o.vars; lines = [] }) (e ∙ ap (λ z. head_line z o.vars) q)
+
 head_is_first : (o : Open) (head : FunctionHead) (v : Declared) → o.head ≡ head → global_line v ≢ head_line o.head o.vars
 head_is_first o Module v q e = global_not_module v (e ∙ ap (λ z. head_line z o.vars) q)
 head_is_first o (Function name ret params) v q e =
@@ -271,29 +323,32 @@ head_is_first o (Function name ret params) v q e =
 pub open_left : (code : Code) (a : Above) (o : Open) (tail : List (List ℕ)) → Spelled code → IsOpen o → IsPastBehind o.lines tail → code_lines code ≡ (above_lines a ++ open_lines o) ++ tail → OpenLeft o tail
 open_left code a o tail h fine past e =
     let l = left_of code a (open_lines o ++ tail) h (e ∙ append_assoc (above_lines a) (open_lines o) tail) in
-    split l.globals l.functions l.spelled l.lines
+    split l.globals l.classes l.functions l.spelled l.lines
   where
-    split : (gs : List Declared) (fs : List CFunc) → IsTrue (spelled_functions fs) → global_lines gs ++ function_lines fs ≡ open_lines o ++ tail → OpenLeft o tail
-    split [] fs s f = open_functions o fs tail o.head refl fine past s f
-    split (g ∷ gs) fs s f = absurd (head_is_first o o.head g refl (heads f))
+    split : (gs : List Declared) (ks : List CClass) (fs : List CFunc) → IsTrue (spelled_functions fs) → global_lines gs ++ (class_lines ks ++ function_lines fs) ≡ open_lines o ++ tail → OpenLeft o tail
+    split [] [] fs s f = open_functions o fs tail o.head refl fine past s f
+    split [] (k ∷ ks) fs s f = absurd (head_is_no_class o o.head k refl (heads f))
+    split (g ∷ gs) ks fs s f = absurd (head_is_first o o.head g refl (heads f))
 
 -- ---- a line that cannot follow
 
-pub stops_between : (a : Above) (piece : List ℕ) → ((v : Declared) → a.functions ≡ [] → IsTrue (is_identifier v.0) → global_line v ≢ piece) → IsNoHead piece → ¬ (CanStand (above_lines a ++ piece ∷ []))
-stops_between a piece no_global no_head c =
+pub stops_between : (a : Above) (piece : List ℕ) → AddsNothingOutside a piece → ¬ (CanStand (above_lines a ++ piece ∷ []))
+stops_between a piece none c =
     let l = left_of c.code a (piece ∷ c.rest) c.spelled (c.lines ∙ append_assoc (above_lines a) (piece ∷ []) c.rest) in
-    split l.globals l.functions l.named l.spelled l.lines l.early
+    split l.globals l.classes l.functions l.named l.are_classes l.spelled l.lines l.early l.early_classes
   where
     functions : (fs : List CFunc) → IsTrue (spelled_functions fs) → function_lines fs ≡ piece ∷ c.rest → ⊥
     functions [] s e = no_functions s
-    functions (t ∷ []) s e = no_head.0 (sym (heads e))
+    functions (t ∷ []) s e = none.no_head.0 (sym (heads e))
     functions (f ∷ k ∷ fs) s e =
-        let p = other_parts f (and_true (spelled_function f) _ s).0 in no_head.1 f p.name (named_take f.params f.vars p.named) (heads e)
+        let p = other_parts f (and_true (spelled_function f) _ s).0 in none.no_head.1 f p.name (named_take f.params f.vars p.named) (heads e)
 
-    split : (gs : List Declared) (fs : List CFunc) → AreNamed gs → IsTrue (spelled_functions fs) → global_lines gs ++ function_lines fs ≡ piece ∷ c.rest → (gs ≡ []) ⊎ (a.functions ≡ []) → ⊥
-    split [] fs n s e early = functions fs s e
-    split (g ∷ gs) fs n s e (inl none) = no_line_left none
-    split (g ∷ gs) fs n s e (inr none) = no_global g none (and_true (is_identifier g.0) _ n).0 (heads e)
+    split : (gs : List Declared) (ks : List CClass) (fs : List CFunc) → AreNamed gs → AreClasses ks → IsTrue (spelled_functions fs) → global_lines gs ++ (class_lines ks ++ function_lines fs) ≡ piece ∷ c.rest → (gs ≡ []) ⊎ ((a.classes ≡ []) × (a.functions ≡ [])) → (ks ≡ []) ⊎ (a.functions ≡ []) → ⊥
+    split [] [] fs n m s e early last = functions fs s e
+    split [] (k ∷ ks) fs n m s e early (inl gone) = no_line_left gone
+    split [] (k ∷ ks) fs n m s e early (inr gone) = none.no_class gone k (and_true (spelled_class k) _ m).0 (heads e)
+    split (g ∷ gs) ks fs n m s e (inl gone) last = no_line_left gone
+    split (g ∷ gs) ks fs n m s e (inr gone) last = none.no_global g gone.0 gone.1 (and_true (is_identifier g.0) _ n).0 (heads e)
 
 pub past_piece : (lines : List Line) (piece : List ℕ) (rest : List (List ℕ)) → ((v : Declared) → lines ≡ [] → IsTrue (is_identifier v.0) → indented (declaration_text v) ≢ piece) → IsPastBehind lines (piece ∷ rest)
 past_piece [] piece rest none = λ v h. none v refl h
@@ -322,14 +377,29 @@ stops_closed a piece fine c =
     let p = code_parts c.code c.spelled in
     let own = code_parts (code_of a) fine in
     let e = c.lines ∙ append_assoc (code_lines (code_of a)) (piece ∷ []) c.rest in
-    let g = globals_behind c.code.globals a.globals c.code.funcs (function_lines a.functions ++ piece ∷ c.rest) p.named p.functions (tails e ∙ append_assoc (global_lines a.globals) (function_lines a.functions) (piece ∷ c.rest)) in
-    split g.0 g.2 a.functions own.functions refl
+    let rest = piece ∷ c.rest in
+    let g = globals_behind c.code.globals a.globals c.code.classes c.code.funcs (class_lines a.classes ++ (function_lines a.functions ++ rest)) p.named p.functions (tails e ∙ append_assoc (global_lines a.globals) (class_lines a.classes ++ function_lines a.functions) rest
+    ∙ ap (λ t. global_lines a.globals ++ t) (append_assoc (class_lines a.classes) (function_lines a.functions) rest)) in
+    globals g.0 g.2 a.classes refl own.functions
   where
-    split : (ms : List Declared) → global_lines ms ++ function_lines c.code.funcs ≡ function_lines a.functions ++ piece ∷ c.rest → (fs : List CFunc) → IsTrue (spelled_functions fs) → a.functions ≡ fs → ⊥
-    split [] e fs s q = no_line_left (sym (nothing_behind c.code.funcs fs (piece ∷ c.rest) (code_parts c.code c.spelled).functions s (e ∙ ap (λ z. function_lines z ++ piece ∷ c.rest) q)))
-    split (m ∷ ms) e [] s q = no_functions s
-    split (m ∷ ms) e (t ∷ []) s q = global_not_module m (heads (e ∙ ap (λ z. function_lines z ++ piece ∷ c.rest) q))
-    split (m ∷ ms) e (f ∷ k ∷ fs) s q = global_not_head m f (heads (e ∙ ap (λ z. function_lines z ++ piece ∷ c.rest) q))
+    functions : (ks : List CClass) → class_lines ks ++ function_lines c.code.funcs ≡ function_lines a.functions ++ piece ∷ c.rest → (fs : List CFunc) → a.functions ≡ fs → IsTrue (spelled_functions fs) → ⊥
+    functions [] e fs q s = no_line_left (sym (nothing_behind c.code.funcs fs (piece ∷ c.rest) (code_parts c.code c.spelled).functions s (e ∙ ap (λ z. function_lines z ++ piece ∷ c.rest) q)))
+    functions (m ∷ ms) e [] q s = no_functions s
+    functions (m ∷ ms) e (t ∷ []) q s = class_not_module m (heads (e ∙ ap (λ z. function_lines z ++ piece ∷ c.rest) q))
+    functions (m ∷ ms) e (f ∷ g ∷ fs) q s = class_not_head m f (heads (e ∙ ap (λ z. function_lines z ++ piece ∷ c.rest) q))
+
+    first_global : (m : Declared) (ms : List (List ℕ)) (fs : List CFunc) → IsTrue (spelled_functions fs) → global_line m ∷ ms ≡ function_lines fs ++ piece ∷ c.rest → ⊥
+    first_global m ms [] s e = no_functions s
+    first_global m ms (t ∷ []) s e = global_not_module m (heads e)
+    first_global m ms (f ∷ g ∷ fs) s e = global_not_head m f (heads e)
+
+    globals : (ms : List Declared) → global_lines ms ++ (class_lines c.code.classes ++ function_lines c.code.funcs) ≡ class_lines a.classes ++ (function_lines a.functions ++ piece ∷ c.rest) → (ks : List CClass) → a.classes ≡ ks → IsTrue (spelled_functions a.functions) → ⊥
+    globals [] e ks q s =
+        let p = code_parts c.code c.spelled in
+        let b = classes_behind c.code.classes a.classes c.code.funcs (function_lines a.functions ++ piece ∷ c.rest) p.classes p.functions e in
+        functions b.0 b.2 a.functions refl s
+    globals (m ∷ ms) e [] q s = first_global m _ a.functions s (e ∙ ap (λ z. class_lines z ++ (function_lines a.functions ++ piece ∷ c.rest)) q)
+    globals (m ∷ ms) e (k ∷ ks) q s = class_not_global k m (sym (heads (e ∙ ap (λ z. class_lines z ++ (function_lines a.functions ++ piece ∷ c.rest)) q)))
 
 -- ---- the end of the text
 
@@ -351,11 +421,12 @@ pub unended_is_no_text : (part : Part) (code : Code) → IsFine part → IsUnend
 unended_is_no_text Start code fine o h e = no_line_left e
 unended_is_no_text (Between a) code fine o h e =
     let l = left_of code a [] h (e ∙ sym (append-nil (above_lines a))) in
-    split l.globals l.functions l.spelled l.lines
+    split l.globals l.classes l.functions l.spelled l.lines
   where
-    split : (gs : List Declared) (fs : List CFunc) → IsTrue (spelled_functions fs) → global_lines gs ++ function_lines fs ≡ [] → ⊥
-    split [] fs s f = lines_of_functions fs s f
-    split (g ∷ gs) fs s f = no_line_left f
+    split : (gs : List Declared) (ks : List CClass) (fs : List CFunc) → IsTrue (spelled_functions fs) → global_lines gs ++ (class_lines ks ++ function_lines fs) ≡ [] → ⊥
+    split [] [] fs s f = lines_of_functions fs s f
+    split [] (k ∷ ks) fs s f = no_line_left f
+    split (g ∷ gs) ks fs s f = no_line_left f
 unended_is_no_text (Inside a o) code fine u h e =
     let l = open_left code a o [] h fine.1 (past_none o.lines) (e ∙ sym (append-nil (above_lines a ++ open_lines o))) in
     no_body o.vars (labels_behind 0 o.lines) l.lines l.more l.is
@@ -458,32 +529,71 @@ next_added a o grown (added.Variable v) piece above fine k e =
 next_added a o grown (added.Line l) piece above fine k e =
     subst (λ (p : Open). IsNext (Inside a o) piece (Inside a p)) (sym e) (next_statement a o (o.lines ++ l ∷ []) l piece above fine k refl)
 
+-- what a line adds outside of functions
+map_push : {A : Type 0} (line : A → List ℕ) (xs : List A) (x : A) → map line (xs ++ x ∷ []) ≡ map line xs ++ line x ∷ []
+map_push line [] x = refl
+map_push line (y ∷ xs) x = ap (λ ls. line y ∷ ls) (map_push line xs x)
+
+next_global : (a : Above) (v : Declared) (piece : List ℕ) → IsAbove a → (a.classes ≡ []) × (a.functions ≡ []) × IsTrue (is_identifier v.0) × (global_line v ≡ piece) → IsNext (Between a) piece (Between (record a { globals = a.globals ++ v ∷ [] }))
+next_global a v piece above k =
+    let gs = a.globals ++ v ∷ [] in (
+      record { named = named_push a.globals v above.named k.2; classes = above.classes; functions = above.functions },
+      ap (λ ks. first_line ∷ (global_lines gs ++ (class_lines ks ++ other_lines a.functions))) k.0
+          ∙ ap (λ fs. first_line ∷ (global_lines gs ++ other_lines fs)) k.1
+          ∙ ap (λ t. first_line ∷ t) (append-nil (global_lines gs) ∙ map_push global_line a.globals v ∙ ap (λ t. global_lines a.globals ++ t ∷ []) k.3)
+          ∙ ap (λ fs. first_line ∷ (global_lines a.globals ++ (other_lines fs ++ piece ∷ []))) (sym k.1)
+          ∙ ap (λ ks. first_line ∷ (global_lines a.globals ++ (class_lines ks ++ (other_lines a.functions ++ piece ∷ [])))) (sym k.0)
+          ∙ above_more a (piece ∷ []),
+    )
+
+next_class : (a : Above) (k : CClass) (piece : List ℕ) → IsAbove a → (a.functions ≡ []) × IsClass piece k → IsNext (Between a) piece (Between (record a { classes = a.classes ++ k ∷ [] }))
+next_class a k piece above h =
+    let ks = a.classes ++ k ∷ [] in (
+      record { named = above.named; classes = all_push spelled_class a.classes ks k above.classes h.1.0 refl; functions = above.functions },
+      ap (λ fs. first_line ∷ (global_lines a.globals ++ (class_lines ks ++ other_lines fs))) h.0
+          ∙ ap (λ t. first_line ∷ (global_lines a.globals ++ t)) (append-nil (class_lines ks) ∙ map_push class_line a.classes k ∙ ap (λ t. class_lines a.classes ++ t ∷ []) h.1.1)
+          ∙ ap (λ fs. first_line ∷ (global_lines a.globals ++ (class_lines a.classes ++ (other_lines fs ++ piece ∷ [])))) (sym h.0)
+          ∙ above_more a (piece ∷ []),
+    )
+
+next_head : (a : Above) (head : FunctionHead) (vars : List Declared) (piece : List ℕ) → IsAbove a → BeginsFunction head vars piece → IsNext (Between a) piece (Inside a (record { head = head; vars = vars; lines = [] }))
+next_head a head vars piece above h = (
+  (above, record { head = h.is_head; named = h.named; spelled = refl }),
+  ap (λ vs. above_lines a ++ (head_line head vars ∷ (declaration_lines vs ++ []))) h.all ∙ ap (λ t. above_lines a ++ t ∷ []) h.line,
+)
+
+pub next_outside : (a : Above) (x : Outside) (piece : List ℕ) (part : Part) → IsAbove a → AddsOutside a piece x → part ≡ with_outside a x → IsNext (Between a) piece part
+next_outside a (outside.Global v) piece part above k e = subst (IsNext (Between a) piece) (sym e) (next_global a v piece above k)
+next_outside a (outside.Class k) piece part above h e = subst (IsNext (Between a) piece) (sym e) (next_class a k piece above h)
+next_outside a (outside.Head head vars) piece part above h e = subst (IsNext (Between a) piece) (sym e) (next_head a head vars piece above h)
+
 -- the function that ends is the last one of the code, or another one
-pub next_top : (a : Above) (o : Open) (functions : List CFunc) → IsAbove a → IsOpen o → o.head ≡ Module → functions ≡ a.functions ++ function_of Module o.vars o.lines ∷ [] → IsNext (Inside a o) function_end (Closed (record { globals = a.globals; functions = functions }))
+pub next_top : (a : Above) (o : Open) (functions : List CFunc) → IsAbove a → IsOpen o → o.head ≡ Module → functions ≡ a.functions ++ function_of Module o.vars o.lines ∷ [] → IsNext (Inside a o) function_end (Closed (record { globals = a.globals; classes = a.classes; functions = functions }))
 next_top a o functions above fine q e =
     let t = function_of Module o.vars o.lines in
     let body = declaration_lines o.vars ++ statement_lines o.vars o.lines in (
-      both_true above.named (subst (λ (fs : List CFunc). IsTrue (spelled_functions fs)) (sym e) (all_spelled a.functions t above.functions (both_true fine.named fine.spelled))),
-      ap (λ fs. first_line ∷ (global_lines a.globals ++ function_lines fs)) e
-          ∙ ap (λ r. first_line ∷ (global_lines a.globals ++ r)) (functions_push a.functions t)
-          ∙ ap (λ r. first_line ∷ r) (sym (append_assoc (global_lines a.globals) (other_lines a.functions) (function_lines (t ∷ []))))
+      both_true above.named (both_true above.classes (subst (λ (fs : List CFunc). IsTrue (spelled_functions fs)) (sym e) (all_spelled a.functions t above.functions (both_true fine.named fine.spelled)))),
+      ap (λ fs. first_line ∷ (global_lines a.globals ++ (class_lines a.classes ++ function_lines fs))) e
+          ∙ ap (λ r. first_line ∷ (global_lines a.globals ++ (class_lines a.classes ++ r))) (functions_push a.functions t)
+          ∙ above_more a (function_lines (t ∷ []))
           ∙ ap (λ r. above_lines a ++ (module_head ∷ r)) (sym (append_assoc (declaration_lines o.vars) (statement_lines o.vars o.lines) (function_end ∷ [])))
           ∙ sym (append_assoc (above_lines a) (module_head ∷ body) (function_end ∷ []))
           ∙ ap (λ z. (above_lines a ++ (head_line z o.vars ∷ (declaration_lines (drop (parameters_of z) o.vars) ++ statement_lines o.vars o.lines))) ++ function_end ∷ []) (sym q),
     )
 
-pub next_other : (a : Above) (o : Open) (functions : List CFunc) (name : List ℕ) (ret : Kind) (params : ℕ) → IsAbove a → IsOpen o → o.head ≡ Function name ret params → functions ≡ a.functions ++ function_of (Function name ret params) o.vars o.lines ∷ [] → IsNext (Inside a o) function_end (Between (record { globals = a.globals; functions = functions }))
+pub next_other : (a : Above) (o : Open) (functions : List CFunc) (name : List ℕ) (ret : Kind) (params : ℕ) → IsAbove a → IsOpen o → o.head ≡ Function name ret params → functions ≡ a.functions ++ function_of (Function name ret params) o.vars o.lines ∷ [] → IsNext (Inside a o) function_end (Between (record { globals = a.globals; classes = a.classes; functions = functions }))
 next_other a o functions name ret params above fine q e =
     let g = function_of (Function name ret params) o.vars o.lines in
     let own = declaration_lines (drop params o.vars) in
     let is_head = subst (λ (z : FunctionHead). IsHead z o.vars) q fine.head in (
       record {
         named = above.named;
+        classes = above.classes;
         functions = subst (λ (fs : List CFunc). IsTrue (list_all spelled_function fs)) (sym e) (functions_all_push a.functions g above.functions (other_spelled g (record { name = is_head.0; few = is_head.1; named = fine.named; spelled = fine.spelled })));
       },
-      ap (λ fs. first_line ∷ (global_lines a.globals ++ other_lines fs)) e
-          ∙ ap (λ r. first_line ∷ (global_lines a.globals ++ r)) (others_push a.functions g)
-          ∙ ap (λ r. first_line ∷ r) (sym (append_assoc (global_lines a.globals) (other_lines a.functions) (function_head g ∷ (own ++ (statement_lines o.vars o.lines ++ (function_end ∷ []))))))
+      ap (λ fs. first_line ∷ (global_lines a.globals ++ (class_lines a.classes ++ other_lines fs))) e
+          ∙ ap (λ r. first_line ∷ (global_lines a.globals ++ (class_lines a.classes ++ r))) (others_push a.functions g)
+          ∙ above_more a (function_head g ∷ (own ++ (statement_lines o.vars o.lines ++ (function_end ∷ []))))
           ∙ ap (λ r. above_lines a ++ (function_head g ∷ r)) (sym (append_assoc own (statement_lines o.vars o.lines) (function_end ∷ [])))
           ∙ sym (append_assoc (above_lines a) (function_head g ∷ (own ++ statement_lines o.vars o.lines)) (function_end ∷ []))
           ∙ ap (λ z. (above_lines a ++ (head_line z o.vars ∷ (declaration_lines (drop (parameters_of z) o.vars) ++ statement_lines o.vars o.lines))) ++ function_end ∷ []) (sym q),

@@ -4,12 +4,13 @@ use Rattle.std.specs.Prelude.{◌==◌}
 use Rattle.std.specs.List.{list_any, position_from}
 use Rattle.std.specs.Cmp.Derive.{both_true}
 use Rattle.std.proofs.lemmas.Bool.{false≢true}
+use Rattle.c_core.specs.declared.code.CClass.{CClass}
 use Rattle.c_core.specs.declared.code.CFunc.{CFunc}
 use Rattle.c_core.specs.declared.code.Code.{Code}
 use Rattle.c_core.specs.declared.code.Kind.TheVariants.{Char}
 use Rattle.c_core.specs.declared.code.Line.{Line}
 use Rattle.c_core.specs.Text.{code_lines, code_text, declaration_lines, first_line, function_end, function_lines, global_lines, lines_from, module_head, statement_lines, text_of}
-use Rattle.c_core.specs.WellFormed.{Declared, Spelled, is_identifier, spelled_function, spelled_functions, spelled_line}
+use Rattle.c_core.specs.WellFormed.{Declared, Spelled, is_identifier, spelled_class, spelled_function, spelled_functions, spelled_line}
 use Rattle.c_text.specs.declared.head.FunctionHead.{FunctionHead}
 use Rattle.c_text.specs.declared.head.FunctionHead.TheVariants.{Module, Function}
 use Rattle.c_text.specs.declared.part.Above.{Above}
@@ -17,15 +18,17 @@ use Rattle.c_text.specs.declared.part.Part.{Part}
 use Rattle.c_text.specs.declared.part.Part.TheVariants.{Start, Between, Inside, Closed}
 use Rattle.c_text.specs.declared.text_error.TextError.TheVariants.{Refused}
 use Rattle.c_text.specs.Words.{HasNo, IsFirstLine}
+use Rattle.c_text.specs.Classes.{AreClasses, class_lines}
 use Rattle.c_text.specs.Heads.{function_of}
 use Rattle.c_text.specs.Labels.{labels_after}
 use Rattle.c_text.specs.Statements.{AreNamed}
 use Rattle.c_text.specs.Parts.{AreSpelled, IsAbove, IsFine, above_lines, code_of, open_lines, other_lines, part_lines}
 use Rattle.c_text.specs.Reading.{IsReading, HasCode, CanStand, at_line, at_end, SaysRefused}
 use Rattle.c_text.proofs.Bytes.{and_true, behind_at, found_at, not_in, same_front}
+use Rattle.c_text.proofs.ClassLines.{class_plain}
 use Rattle.c_text.proofs.HeadLemmas.{global_plain, head_plain, named_drop, named_take}
 use Rattle.c_text.proofs.LineTexts.{declaration_plain, line_plain, lines_step}
-use Rattle.c_text.proofs.PartLemmas.{IsUnended, all_spelled, code_parts, functions_push, next_other, next_top, other_parts, top_parts, unended_is_no_text}
+use Rattle.c_text.proofs.PartLemmas.{IsUnended, above_more, all_spelled, code_parts, functions_push, next_other, next_top, other_parts, top_parts, unended_is_no_text}
 use Rattle.c_text.proofs.OneCode.{other_is}
 
 -- ---- a text has one list of lines
@@ -95,9 +98,15 @@ globals_plain [] more n m = m
 globals_plain (g ∷ gs) more n m =
     let parts = and_true (is_identifier g.0) _ n in (global_plain g parts.0, globals_plain gs more parts.1 m)
 
+classes_plain : (ks : List CClass) (more : List (List ℕ)) → AreClasses ks → ArePlain more → ArePlain (class_lines ks ++ more)
+classes_plain [] more n m = m
+classes_plain (k ∷ ks) more n m =
+    let parts = and_true (spelled_class k) _ n in (class_plain k parts.0, classes_plain ks more parts.1 m)
+
 code_plain : (code : Code) → Spelled code → ArePlain (code_lines code)
 code_plain code h =
-    let p = code_parts code h in (refl, globals_plain code.globals (function_lines code.funcs) p.named (functions_plain code.funcs p.functions))
+    let p = code_parts code h in
+    (refl, globals_plain code.globals (class_lines code.classes ++ function_lines code.funcs) p.named (classes_plain code.classes (function_lines code.funcs) p.classes (functions_plain code.funcs p.functions)))
 
 -- lines that can stand are plain
 pub standing_plain : (front : List (List ℕ)) → CanStand front → ArePlain front
@@ -115,15 +124,15 @@ top = record { name = []; ret = Char; params = 0; vars = []; lines = [] }
 closed_between : (a : Above) → IsAbove a → IsClosedBy (above_lines a) (module_head ∷ function_end ∷ [])
 unfolding top
 closed_between a fine = record {
-  code = record { globals = a.globals; classes = []; funcs = a.functions ++ top ∷ [] };
-  spelled = both_true fine.named (all_spelled a.functions top fine.functions refl);
-  same = ap (λ t. first_line ∷ (global_lines a.globals ++ t)) (functions_push a.functions top) ∙ ap (λ t. first_line ∷ t) (sym (append_assoc (global_lines a.globals) (other_lines a.functions) (module_head ∷ function_end ∷ [])));
+  code = record { globals = a.globals; classes = a.classes; funcs = a.functions ++ top ∷ [] };
+  spelled = both_true fine.named (both_true fine.classes (all_spelled a.functions top fine.functions refl));
+  same = ap (λ t. first_line ∷ (global_lines a.globals ++ (class_lines a.classes ++ t))) (functions_push a.functions top) ∙ above_more a (module_head ∷ function_end ∷ []);
 }
 
 closed_by : (part : Part) → IsFine part → (more : List (List ℕ)) × IsClosedBy (part_lines part) more
 closed_by Start fine =
-    let a : Above = record { globals = []; functions = [] } in
-    let c = closed_between a (record { named = refl; functions = refl }) in
+    let a : Above = record { globals = []; classes = []; functions = [] } in
+    let c = closed_between a (record { named = refl; classes = refl; functions = refl }) in
     (code_lines c.code, record { code = c.code; spelled = c.spelled; same = refl })
 closed_by (Between a) fine = (module_head ∷ function_end ∷ [], closed_between a fine)
 closed_by (Inside a o) fine = split o.head refl
@@ -132,11 +141,11 @@ closed_by (Inside a o) fine = split o.head refl
     split Module q =
         let n = next_top a o (a.functions ++ function_of Module o.vars o.lines ∷ []) fine.0 fine.1 q refl in (
           function_end ∷ [],
-          record { code = code_of (record { globals = a.globals; functions = a.functions ++ function_of Module o.vars o.lines ∷ [] }); spelled = n.0; same = n.1 },
+          record { code = code_of (record { globals = a.globals; classes = a.classes; functions = a.functions ++ function_of Module o.vars o.lines ∷ [] }); spelled = n.0; same = n.1 },
         )
     split (Function name ret params) q =
         let n = next_other a o (a.functions ++ function_of (Function name ret params) o.vars o.lines ∷ []) name ret params fine.0 fine.1 q refl in
-        let c = closed_between (record { globals = a.globals; functions = a.functions ++ function_of (Function name ret params) o.vars o.lines ∷ [] }) n.0 in (
+        let c = closed_between (record { globals = a.globals; classes = a.classes; functions = a.functions ++ function_of (Function name ret params) o.vars o.lines ∷ [] }) n.0 in (
           function_end ∷ module_head ∷ function_end ∷ [],
           record { code = c.code; spelled = c.spelled; same = c.same ∙ ap (λ t. t ++ module_head ∷ function_end ∷ []) n.1 ∙ append_assoc (above_lines a ++ open_lines o) (function_end ∷ []) (module_head ∷ function_end ∷ []) },
         )

@@ -1,5 +1,5 @@
 -- No two statements have one text, and so no two lists of statements have the same lines.
-use Rattle.std.proofs.Common.{◌≡◌, ◌≢◌, ◌∙◌, ℕ, List, [], ◌∷◌, ◌++◌, Some, None, IsTrue, refl, sym, ap, arith, append_assoc, inl, inr}
+use Rattle.std.proofs.Common.{◌≡◌, ◌≢◌, ◌∙◌, ℕ, List, [], ◌∷◌, ◌++◌, Some, None, IsTrue, refl, sym, ap, arith, append_assoc, inl, inr, subst}
 use Rattle.std.specs.Prelude.{codes}
 use Rattle.std.specs.Fmt.{decimal}
 use Rattle.std.specs.List.{list_all}
@@ -8,22 +8,25 @@ use Rattle.std.proofs.lemmas.List.{append_cancel_left}
 use Rattle.c_core.specs.declared.code.CArg.{CArg}
 use Rattle.c_core.specs.declared.code.CLit.{CLit}
 use Rattle.c_core.specs.declared.code.Line.{Line}
-use Rattle.c_core.specs.declared.code.Line.TheVariants.{Label, Move, Lit, Call, Goto, If, IfError, Turn, Return, Inc, Dec, XDec}
+use Rattle.c_core.specs.declared.code.Line.TheVariants.{Label, Move, Lit, Call, Virtual, TraitCall, Goto, If, IfError, Turn, Return, Inc, Dec, XDec}
 use Rattle.c_core.specs.Text.{function_end, lines_from, literal_text, statement_text, var_text}
 use Rattle.c_core.specs.WellFormed.{Declared, is_call_name, is_counted_kind, is_declared, kind_at, spelled_arg, spelled_label, spelled_line, spelled_literal}
 use Rattle.c_text.specs.declared.count.Count.{Count}
 use Rattle.c_text.specs.declared.count.Count.TheVariants as count
 use Rattle.c_text.specs.Counts.{count_line, count_word, verb_text}
 use Rattle.c_text.specs.Labels.{labels_after, line_text}
+use Rattle.c_text.specs.Methods.{for_trait_text, virtual_text}
 use Rattle.c_text.specs.Words.{HasNo, bracketed}
 use Rattle.c_text.specs.Parts.{AreSpelled}
 use Rattle.c_text.specs.Statements.{AreNamed, IsIndented, args_text, assignment_text, both_text, call_text, error_of, test_text}
 use Rattle.c_text.proofs.Bytes.{and_true, bracket_stops, closing_stops, differ, inside_same, not_in, same_bracketed, same_front, space_stops}
 use Rattle.c_text.proofs.ArgumentLemmas.{HasNo-variable}
-use Rattle.c_text.proofs.Forms.{Assigned, moves, takes, gets, Jumping, jumps, Returned, returns, Tested, tests, tests_error, Worded, turns, counts, calls, both_parts, error_front, error_test, is_assignment, is_jump, is_return, is_test, is_worded}
+use Rattle.c_text.proofs.Forms.{Assigned, moves, takes, gets, Called, by_name, by_class, by_trait, Jumping, jumps, Returned, returns, Tested, tests, tests_error, Worded, turns, counts, calls, both_parts, error_front, error_test, is_assignment, is_jump, is_return, is_test, is_worded}
 use Rattle.c_text.proofs.LineTexts.{end_not_line, indented_text, label_or_statement, lines_step}
+use Rattle.c_text.proofs.MethodTexts.{for_trait_is, virtual_is}
 use Rattle.c_text.proofs.Numbers.{HasNo-decimal, same_label}
 use Rattle.c_text.proofs.PartLemmas.{heads, tails}
+use Rattle.c_text.proofs.SameMethods.{same_for_trait, same_virtual}
 use Rattle.c_text.proofs.SameParts.{same_arguments, same_literal, same_variable}
 use Rattle.c_text.proofs.StatementLemmas.{HasNo-call_name, call_name_parts, count_at, count_begins, count_listed, count_parts, count_plain, literal_front, literal_not_variable, no_other_word, same_count, turn_is_no_count}
 use Rattle.c_text.proofs.VariableLemmas.{HaveOwnNames, declared_at, kind_declared, text_at}
@@ -62,36 +65,45 @@ one_test vars inside branches own names (tests_error x a b j h p q t u) (tests_e
 variable_is_no_literal : (vars : List Declared) (y : ℕ) (l : CLit) → IsTrue (is_declared vars y) → IsTrue (spelled_literal l) → literal_text l ≢ var_text vars y
 variable_is_no_literal vars y l p h e = let o = declared_at vars y p in literal_not_variable l o.var.0 h (e ∙ text_at vars y o.var o.at)
 
-variable_is_no_call : (vars : List Declared) (y : ℕ) (name : List ℕ) (args : List CArg) → IsTrue (is_declared vars y) → IsTrue (is_call_name name) → call_text vars name args ≢ var_text vars y
-variable_is_no_call vars y name args p h e =
+variable_is_no_call : (vars : List Declared) (y : ℕ) (word inside rest : List ℕ) → IsTrue (is_declared vars y) → word ≡ codes "CPy" ++ rest → bracketed word inside ≢ var_text vars y
+variable_is_no_call vars y word inside rest p w e =
     let o = declared_at vars y p in
-    let c = call_name_parts name h in
-    differ (ap (λ z. bracketed z (args_text vars args)) (sym c.whole) ∙ e ∙ text_at vars y o.var o.at) refl
+    differ (ap (λ z. bracketed z inside) (sym w) ∙ e ∙ text_at vars y o.var o.at) refl
 
-literal_is_no_call : (vars : List Declared) (l : CLit) (name : List ℕ) (args : List CArg) → IsTrue (spelled_literal l) → IsTrue (is_call_name name) → literal_text l ≢ call_text vars name args
-literal_is_no_call vars l name args h k e =
-    let c = call_name_parts name k in
-    literal_front l (c.rest ++ (codes "(" ++ (args_text vars args ++ codes ")"))) h (e ∙ ap (λ z. bracketed z (args_text vars args)) c.whole)
+literal_is_no_call : (l : CLit) (word inside rest : List ℕ) → IsTrue (spelled_literal l) → word ≡ codes "CPy" ++ rest → literal_text l ≢ bracketed word inside
+literal_is_no_call l word inside rest h w e = literal_front l (rest ++ (codes "(" ++ (inside ++ codes ")"))) h (e ∙ ap (λ z. bracketed z inside) w)
 
-same_call : (vars : List Declared) (name other : List ℕ) (args more : List CArg) → HaveOwnNames vars → AreNamed vars → IsTrue (is_call_name name) → IsTrue (is_call_name other) → IsTrue (list_all (spelled_arg vars) args) → IsTrue (list_all (spelled_arg vars) more) → call_text vars name args ≡ call_text vars other more → (name ≡ other) × (args ≡ more)
-same_call vars name other args more own names p q r s e =
-    let b = same_bracketed name other (args_text vars args) (args_text vars more) (HasNo-call_name 40 name (omega arith) bracket_stops refl p) (HasNo-call_name 40 other (omega arith) bracket_stops refl q) e in
-    (b.0, same_arguments vars args more own names r s b.1)
+one_call : (vars : List Declared) (x : ℕ) (word inside : List ℕ) {l m : Line} → HaveOwnNames vars → AreNamed vars → Called vars x word inside l → Called vars x word inside m → l ≡ m
+one_call vars x word inside own names (by_name name args p q t u) (by_name other more r s v w) =
+    ap (λ z. Call (Some x) z args) (t ∙ sym v) ∙ ap (Call (Some x) other) (same_arguments vars args more own names q s (u ∙ sym w))
+one_call vars x word inside own names (by_name name args p q t u) (by_class b m more r s k v w) = absurd (no_other_word name (codes "CPyVirtual") p refl (t ∙ sym v))
+one_call vars x word inside own names (by_name name args p q t u) (by_trait b y m more r s k j v w) = absurd (no_other_word name (codes "CPyTrait") p refl (t ∙ sym v))
+one_call vars x word inside own names (by_class a n args p q h t u) (by_name other more r s v w) = absurd (no_other_word other (codes "CPyVirtual") r refl (v ∙ sym t))
+one_call vars x word inside own names (by_class a n args p q h t u) (by_class b m more r s k v w) =
+    let c = same_virtual vars a b n m args more own names p r q s h k (u ∙ sym w) in
+    ap (λ z. Virtual x z n args) c.0 ∙ ap (λ z. Virtual x b z args) c.1 ∙ ap (Virtual x b m) c.2
+one_call vars x word inside own names (by_class a n args p q h t u) (by_trait b y m more r s k j v w) = absurd (differ (t ∙ sym v) refl)
+one_call vars x word inside own names (by_trait a z n args p g q h t u) (by_name other more r s v w) = absurd (no_other_word other (codes "CPyTrait") r refl (v ∙ sym t))
+one_call vars x word inside own names (by_trait a z n args p g q h t u) (by_class b m more r s k v w) = absurd (differ (t ∙ sym v) refl)
+one_call vars x word inside own names (by_trait a z n args p g q h t u) (by_trait b y m more r j s k v w) =
+    let c = same_for_trait vars a b z y n m args more own names p r g j q s h k (u ∙ sym w) in
+    ap (λ i. TraitCall x i z n args) c.0 ∙ ap (λ i. TraitCall x b i n args) c.1 ∙ ap (λ i. TraitCall x b y i args) c.2 ∙ ap (TraitCall x b y m) c.3
 
 one_assignment : (vars : List Declared) (place : ℕ) (value : List ℕ) {l m : Line} → HaveOwnNames vars → AreNamed vars → Assigned vars place value l → Assigned vars place value m → l ≡ m
 one_assignment vars place value own names (moves x y p q t u) (moves z w r s v o) =
     ap (λ i. Move i y) (same_variable vars x z own p r (t ∙ sym v)) ∙ ap (Move z) (same_variable vars y w own q s (u ∙ sym o))
 one_assignment vars place value own names (moves x y p q t u) (takes z m r s v o) = absurd (variable_is_no_literal vars y m q s (o ∙ sym u))
-one_assignment vars place value own names (moves x y p q t u) (gets z other more r s k v o) = absurd (variable_is_no_call vars y other more q s (o ∙ sym u))
+one_assignment vars place value own names (moves x y p q t u) (gets z word inside rest m r h w d v o) = absurd (variable_is_no_call vars y word inside rest q w (o ∙ sym u))
 one_assignment vars place value own names (takes x l p q t u) (moves z w r s v o) = absurd (variable_is_no_literal vars w l s q (u ∙ sym o))
 one_assignment vars place value own names (takes x l p q t u) (takes z m r s v o) =
     ap (λ i. Lit i l) (same_variable vars x z own p r (t ∙ sym v)) ∙ ap (Lit z) (same_literal l m q s (u ∙ sym o))
-one_assignment vars place value own names (takes x l p q t u) (gets z other more r s k v o) = absurd (literal_is_no_call vars l other more q s (u ∙ sym o))
-one_assignment vars place value own names (gets x name args p q k t u) (moves z w r s v o) = absurd (variable_is_no_call vars w name args s q (u ∙ sym o))
-one_assignment vars place value own names (gets x name args p q k t u) (takes z m r s v o) = absurd (literal_is_no_call vars m name args s q (o ∙ sym u))
-one_assignment vars place value own names (gets x name args p q k t u) (gets z other more r s j v o) =
-    let c = same_call vars name other args more own names q s k j (u ∙ sym o) in
-    ap (λ i. Call (Some i) name args) (same_variable vars x z own p r (t ∙ sym v)) ∙ ap (λ i. Call (Some z) i args) c.0 ∙ ap (Call (Some z) other) c.1
+one_assignment vars place value own names (takes x l p q t u) (gets z word inside rest m r h w d v o) = absurd (literal_is_no_call l word inside rest q w (u ∙ sym o))
+one_assignment vars place value own names (gets x word inside rest l p h w c t u) (moves z y r s v o) = absurd (variable_is_no_call vars y word inside rest s w (u ∙ sym o))
+one_assignment vars place value own names (gets x word inside rest l p h w c t u) (takes z m r s v o) = absurd (literal_is_no_call m word inside rest s w (o ∙ sym u))
+one_assignment vars place value own names (gets x word inside rest l p h w c t u) (gets z other more back m r k y d v o) =
+    let b = same_bracketed word other inside more h k (u ∙ sym o) in
+    let same = same_variable vars x z own p r (t ∙ sym v) in
+    one_call vars z other more own names (subst (λ (n : ℕ). Called vars n other more l) same (subst (λ (i : List ℕ). Called vars x other i l) b.1 (subst (λ (n : List ℕ). Called vars x n inside l) b.0 c))) d
 
 one_word : (vars : List Declared) (word inside : List ℕ) {l m : Line} → HaveOwnNames vars → AreNamed vars → Worded vars word inside l → Worded vars word inside m → l ≡ m
 one_word vars word inside own names (turns t) (turns u) = refl
@@ -138,6 +150,10 @@ same_statement vars l m own names i j p q e = split l i p e
         worded (Call None name args) name (args_text vars args) (c.rest ++ (codes "(" ++ (args_text vars args ++ codes ")"))) i p (HasNo-call_name 40 name (omega arith) bracket_stops refl (and_true (is_call_name name) _ p).0) (ap (λ z. bracketed z (args_text vars args)) c.whole) refl e
     split (Call (Some x) name args) i p e =
         assigned (Call (Some x) name args) x (call_text vars name args) i p (and_true (is_declared vars x) _ p).0 (append_assoc (var_text vars x) (codes " = ") (call_text vars name args)) e
+    split (Virtual x o n args) i p e =
+        assigned (Virtual x o n args) x (bracketed (codes "CPyVirtual") (virtual_text vars o n args)) i p (and_true (is_declared vars x) _ p).0 (virtual_is vars x o n args) e
+    split (TraitCall x o t n args) i p e =
+        assigned (TraitCall x o t n args) x (bracketed (codes "CPyTrait") (for_trait_text vars o t n args)) i p (and_true (is_declared vars x) _ p).0 (for_trait_is vars x o t n args) e
     split (Goto n) i p e = one_jump (decimal n) (is_jump vars (Goto n) (decimal n) i p refl) (is_jump vars m (decimal n) j q (sym e))
     split (If x a b) i p e =
         tested (If x a b) (var_text vars x) (both_text a b) i p (HasNo-variable 41 vars x (omega arith) closing_stops refl names (and_true (is_declared vars x) _ p).0) refl e

@@ -79,7 +79,7 @@ same_byte b c r s e =
     let same : b ≡ c = sym (byte_first b r) ∙ ap first_byte e ∙ byte_first c s in
     (same, append_cancel_left (byte_text c) r s (ap (λ x. byte_text x ++ r) (sym same) ∙ e))
 
-same_quoted : (t u r s : List ℕ) → flat_map byte_text t ++ 34 ∷ r ≡ flat_map byte_text u ++ 34 ∷ s → (t ≡ u) × (r ≡ s)
+pub same_quoted : (t u r s : List ℕ) → flat_map byte_text t ++ 34 ∷ r ≡ flat_map byte_text u ++ 34 ∷ s → (t ≡ u) × (r ≡ s)
 same_quoted [] [] r s e = (refl, ap (drop 1) e)
 same_quoted [] (c ∷ u) r s e = absurd (byte_is_no_quote c (flat_map byte_text u ++ 34 ∷ s) r (sym (append_assoc (byte_text c) (flat_map byte_text u) (34 ∷ s)) ∙ sym e))
 same_quoted (b ∷ t) [] r s e = absurd (byte_is_no_quote b (flat_map byte_text t ++ 34 ∷ r) s (sym (append_assoc (byte_text b) (flat_map byte_text t) (34 ∷ r)) ∙ e))
@@ -121,7 +121,7 @@ same_literal PyFalse m h i e = let s = is_false m i (sym e) in cc
 
 -- ---- arguments
 
-same_ends : (u v r s : List ℕ) → HasNo 44 u → HasNo 44 v → EndsArgument r → EndsArgument s → u ++ r ≡ v ++ s → (u ≡ v) × (r ≡ s)
+pub same_ends : (u v r s : List ℕ) → HasNo 44 u → HasNo 44 v → EndsArgument r → EndsArgument s → u ++ r ≡ v ++ s → (u ≡ v) × (r ≡ s)
 same_ends u v [] [] p q a b e = (sym (append-nil u) ∙ e ∙ append-nil v, refl)
 same_ends u v (c ∷ r) (d ∷ s) p q a b e =
     let front = same_front 44 u v r s p q (ap (λ x. u ++ x ∷ r) (sym a) ∙ e ∙ ap (λ x. v ++ x ∷ s) b) in

@@ -9,19 +9,21 @@ use Rattle.c_core.specs.declared.code.CLit.{CLit}
 use Rattle.c_core.specs.declared.code.Kind.{Kind}
 use Rattle.c_core.specs.declared.code.Kind.TheVariants.{Tagged, Int64, Char, Object}
 use Rattle.c_core.specs.declared.code.Line.{Line}
-use Rattle.c_core.specs.declared.code.Line.TheVariants.{Label, Move, Lit, Call, Goto, If, IfError, Turn, Return, Inc, Dec, XDec}
+use Rattle.c_core.specs.declared.code.Line.TheVariants.{Label, Move, Lit, Call, Virtual, TraitCall, Goto, If, IfError, Turn, Return, Inc, Dec, XDec}
 use Rattle.c_core.specs.Text.{count_text, goto_text, literal_text, statement_text, var_text}
-use Rattle.c_core.specs.WellFormed.{Declared, is_call_name, is_declared, kind_at, spelled_arg, spelled_label, spelled_line, spelled_literal}
+use Rattle.c_core.specs.WellFormed.{Declared, is_call_name, is_declared, is_identifier, kind_at, spelled_arg, spelled_label, spelled_line, spelled_literal}
 use Rattle.c_text.specs.declared.count.Count.{Count}
 use Rattle.c_text.specs.declared.count.Count.TheVariants as count
 use Rattle.c_text.specs.Counts.{FindsCount, IsCounted, count_line, count_word, counter_text}
 use Rattle.c_text.specs.Labels.{FindsLabel}
 use Rattle.c_text.specs.Variables.{Finds, FindsVariable, FindsVariableOf}
-use Rattle.c_text.specs.Words.{HasNo, IsBracketed, IsCut, bracketed}
+use Rattle.c_text.specs.Methods.{for_trait_text, virtual_text}
+use Rattle.c_text.specs.Words.{HasNo, IsCut, bracketed}
 use Rattle.c_text.specs.Statements.{AreNamed, IsIndented, IsSpelledLine, Reads, args_text, assignment_text, both_text, call_text, error_of, test_text}
 use Rattle.c_text.proofs.Bytes.{and_true, bracket_stops, differ, not_in, same_bracketed, same_front, space_stops}
 use Rattle.c_text.proofs.ArgumentLemmas.{HasNo-variable}
-use Rattle.c_text.proofs.Forms.{Assigned, moves, takes, gets, Jumping, jumps, Returned, returns, Tested, tests, tests_error, Worded, turns, counts, calls, apart, error_test, is_assignment, is_jump, is_return, is_test, is_worded}
+use Rattle.c_text.proofs.Forms.{Assigned, moves, takes, gets, Called, by_name, by_class, by_trait, Jumping, jumps, Returned, returns, Tested, tests, tests_error, Worded, turns, counts, calls, apart, error_test, is_assignment, is_jump, is_return, is_test, is_worded}
+use Rattle.c_text.proofs.MethodTexts.{for_trait_alike, for_trait_is, virtual_alike, virtual_is}
 use Rattle.c_text.proofs.StatementLemmas.{HasNo-call_name, IsCount, call_name_parts, count_at, count_listed, count_parts, count_plain, count_spelled, literal_front, literal_not_variable, no_other_word, same_counter, turn_is_no_count}
 use Rattle.c_text.proofs.VariableLemmas.{declared_at, kind_declared, text_at}
 
@@ -169,20 +171,65 @@ test_unclosed vars text none = record { spelled = tt; finds = closes }
 
 -- ---- assignments
 
--- what is assigned is a call
-pub call_assigned : {E : Type 0} (vars : List Declared) (place : ℕ) (value word inside rest : List ℕ) (r : Result (Option Line) E) → AreNamed vars → IsTrue (is_declared vars place) → value ≡ codes "CPy" ++ rest → IsBracketed word inside value → IfOk r (IsSpelledLine vars) → ((args : List CArg) → IsTrue (is_call_name word) → IsTrue (list_all (spelled_arg vars) args) → args_text vars args ≡ inside → IfOk r (λ found. Finds (statement_text vars) found (Call (Some place) word args))) → IfOk r (Reads vars (assignment_text vars place value))
-call_assigned vars place value word inside rest (Err f) n d begins b s finds = tt
-call_assigned vars place value word inside rest (Ok found) n d begins b s finds = record { spelled = s; finds = λ l i h e. at (is_assignment vars l place value n d i h e) }
+-- what is assigned is a call by this word
+record CallAssigned (vars : List Declared) (place : ℕ) (word inside : List ℕ) (l : Line) : Type 0 where
+  x : ℕ
+  target : var_text vars x ≡ var_text vars place
+  called : Called vars x word inside l
+
+of_call : (vars : List Declared) (place : ℕ) (word inside rest : List ℕ) (l : Line) → HasNo 40 word → bracketed word inside ≡ codes "CPy" ++ rest → Assigned vars place (bracketed word inside) l → CallAssigned vars place word inside l
+of_call vars place word inside rest l plain begins a = at a
+  where
+    at : {m : Line} → Assigned vars place (bracketed word inside) m → CallAssigned vars place word inside m
+    at (moves x y p q t u) = let o = declared_at vars y q in absurd (differ (sym (text_at vars y o.var o.at) ∙ u ∙ begins) refl)
+    at (takes x m p q t u) = absurd (literal_front m rest q (u ∙ begins))
+    at (gets x other more r m p h w c t u) =
+        let s = same_bracketed other word more inside h plain u in
+        record { x = x; target = t; called = subst (λ (i : List ℕ). Called vars x word i m) s.1 (subst (λ (z : List ℕ). Called vars x z more m) s.0 c) }
+
+-- the call of a function or a primitive
+pub call_assigned : {E : Type 0} (vars : List Declared) (place : ℕ) (word inside rest : List ℕ) (r : Result (Option Line) E) → AreNamed vars → IsTrue (is_declared vars place) → HasNo 40 word → bracketed word inside ≡ codes "CPy" ++ rest → word ≢ codes "CPyVirtual" → word ≢ codes "CPyTrait" → IfOk r (IsSpelledLine vars) → ((args : List CArg) → IsTrue (is_call_name word) → IsTrue (list_all (spelled_arg vars) args) → args_text vars args ≡ inside → IfOk r (λ found. Finds (statement_text vars) found (Call (Some place) word args))) → IfOk r (Reads vars (assignment_text vars place (bracketed word inside)))
+call_assigned vars place word inside rest (Err f) n d plain begins no_own no_trait s finds = tt
+call_assigned vars place word inside rest (Ok found) n d plain begins no_own no_trait s finds = record {
+  spelled = s;
+  finds = λ l i h e. let c = of_call vars place word inside rest l plain begins (is_assignment vars l place (bracketed word inside) n d i h e) in at c.x c.target c.called;
+}
   where
     alike : (name : List ℕ) (args : List CArg) (x : ℕ) → name ≡ word → var_text vars x ≡ var_text vars place → statement_text vars (Call (Some x) name args) ≡ statement_text vars (Call (Some place) word args)
     alike name args x p q = ap (λ z. (z ++ codes " = ") ++ call_text vars name args) q ∙ ap (λ z. (var_text vars place ++ codes " = ") ++ bracketed z (args_text vars args)) p
 
-    at : {l : Line} → Assigned vars place value l → Finds (statement_text vars) found l
-    at (moves x y p q t u) = let o = declared_at vars y q in absurd (differ (sym (text_at vars y o.var o.at) ∙ u ∙ begins) refl)
-    at (takes x l p q t u) = absurd (literal_front l rest q (u ∙ begins))
-    at (gets x name args p q k t u) =
-        let m = same_bracketed name word (args_text vars args) inside (HasNo-call_name 40 name (omega arith) bracket_stops refl q) b.plain (u ∙ sym b.whole) in
-        alike_then (statement_text vars) (Call (Some x) name args) (Call (Some place) word args) found (alike name args x m.0 t) (finds args (ap is_call_name (sym m.0) ∙ q) k m.1)
+    at : {l : Line} (x : ℕ) → var_text vars x ≡ var_text vars place → Called vars x word inside l → Finds (statement_text vars) found l
+    at x t (by_name name args p q w v) =
+        alike_then (statement_text vars) (Call (Some x) name args) (Call (Some place) word args) found (alike name args x w t) (finds args (ap is_call_name (sym w) ∙ p) q v)
+    at x t (by_class o m args p q r w v) = absurd (no_own (sym w))
+    at x t (by_trait o u m args p q r k w v) = absurd (no_trait (sym w))
+
+-- the call of a method of the object's own class, and of one for a trait
+pub virtual_assigned : {E : Type 0} (vars : List Declared) (place : ℕ) (word inside rest : List ℕ) (r : Result (Option Line) E) → AreNamed vars → IsTrue (is_declared vars place) → HasNo 40 word → bracketed word inside ≡ codes "CPy" ++ rest → word ≡ codes "CPyVirtual" → IfOk r (IsSpelledLine vars) → ((o m : ℕ) (args : List ℕ) → IsTrue (is_declared vars o) → IsTrue (spelled_label m) → IsTrue (list_all (is_declared vars) args) → virtual_text vars o m args ≡ inside → IfOk r (λ found. Finds (statement_text vars) found (Virtual place o m args))) → IfOk r (Reads vars (assignment_text vars place (bracketed word inside)))
+virtual_assigned vars place word inside rest (Err f) n d plain begins is s finds = tt
+virtual_assigned vars place word inside rest (Ok found) n d plain begins is s finds = record {
+  spelled = s;
+  finds = λ l i h e. let c = of_call vars place word inside rest l plain begins (is_assignment vars l place (bracketed word inside) n d i h e) in at c.x c.target c.called;
+}
+  where
+    at : {l : Line} (x : ℕ) → var_text vars x ≡ var_text vars place → Called vars x word inside l → Finds (statement_text vars) found l
+    at x t (by_name name args p q w v) = absurd (no_other_word name (codes "CPyVirtual") p refl (w ∙ is))
+    at x t (by_class o m args p q r w v) =
+        alike_then (statement_text vars) (Virtual x o m args) (Virtual place o m args) found (virtual_alike vars x place o o m m args args t refl) (finds o m args p q r v)
+    at x t (by_trait o u m args p q r k w v) = absurd (differ (w ∙ is) refl)
+
+pub trait_assigned : {E : Type 0} (vars : List Declared) (place : ℕ) (word inside rest : List ℕ) (r : Result (Option Line) E) → AreNamed vars → IsTrue (is_declared vars place) → HasNo 40 word → bracketed word inside ≡ codes "CPy" ++ rest → word ≡ codes "CPyTrait" → IfOk r (IsSpelledLine vars) → ((o : ℕ) (u : List ℕ) (m : ℕ) (args : List ℕ) → IsTrue (is_declared vars o) → IsTrue (is_identifier u) → IsTrue (spelled_label m) → IsTrue (list_all (is_declared vars) args) → for_trait_text vars o u m args ≡ inside → IfOk r (λ found. Finds (statement_text vars) found (TraitCall place o u m args))) → IfOk r (Reads vars (assignment_text vars place (bracketed word inside)))
+trait_assigned vars place word inside rest (Err f) n d plain begins is s finds = tt
+trait_assigned vars place word inside rest (Ok found) n d plain begins is s finds = record {
+  spelled = s;
+  finds = λ l i h e. let c = of_call vars place word inside rest l plain begins (is_assignment vars l place (bracketed word inside) n d i h e) in at c.x c.target c.called;
+}
+  where
+    at : {l : Line} (x : ℕ) → var_text vars x ≡ var_text vars place → Called vars x word inside l → Finds (statement_text vars) found l
+    at x t (by_name name args p q w v) = absurd (no_other_word name (codes "CPyTrait") p refl (w ∙ is))
+    at x t (by_class o m args p q r w v) = absurd (differ (w ∙ is) refl)
+    at x t (by_trait o u m args p q r k w v) =
+        alike_then (statement_text vars) (TraitCall x o u m args) (TraitCall place o u m args) found (for_trait_alike vars x place o o u u m m args args t refl) (finds o u m args p q r k v)
 
 pub no_call_assigned : (vars : List Declared) (place : ℕ) (value rest : List ℕ) → AreNamed vars → IsTrue (is_declared vars place) → value ≡ codes "CPy" ++ rest → ((word inside : List ℕ) → HasNo 40 word → bracketed word inside ≢ value) → Reads vars (assignment_text vars place value) None
 no_call_assigned vars place value rest n d begins none = record { spelled = tt; finds = λ l i h e. at (is_assignment vars l place value n d i h e) }
@@ -190,7 +237,7 @@ no_call_assigned vars place value rest n d begins none = record { spelled = tt; 
     at : {l : Line} → Assigned vars place value l → ⊥
     at (moves x y p q t u) = let o = declared_at vars y q in differ (sym (text_at vars y o.var o.at) ∙ u ∙ begins) refl
     at (takes x l p q t u) = literal_front l rest q (u ∙ begins)
-    at (gets x name args p q k t u) = none name (args_text vars args) (HasNo-call_name 40 name (omega arith) bracket_stops refl q) u
+    at (gets x word inside r l p h w c t u) = none word inside h u
 
 -- it is a variable
 pub variable_assigned : (vars : List Declared) (place : ℕ) (value rest : List ℕ) (found : Option ℕ) → AreNamed vars → IsTrue (is_declared vars place) → value ≡ codes "cpy_" ++ rest → FindsVariable vars value found → Reads vars (assignment_text vars place value) (option_map (Move place) found)
@@ -199,13 +246,13 @@ variable_assigned vars place value rest None n d begins f = record { spelled = t
     at : {l : Line} → Assigned vars place value l → ⊥
     at (moves x y p q t u) = f y q u
     at (takes x l p q t u) = literal_not_variable l rest q (u ∙ begins)
-    at (gets x name args p q k t u) = let c = call_name_parts name q in differ (ap (λ z. bracketed z (args_text vars args)) (sym c.whole) ∙ u ∙ begins) refl
+    at (gets x word inside r l p h w c t u) = differ (ap (λ z. bracketed z inside) (sym w) ∙ u ∙ begins) refl
 variable_assigned vars place value rest (Some y) n d begins f = record { spelled = (tt, ap (λ z. z && is_declared vars y) d ∙ f.0); finds = λ l i h e. at (is_assignment vars l place value n d i h e) }
   where
     at : {l : Line} → Assigned vars place value l → statement_text vars l ≡ statement_text vars (Move place y)
     at (moves x z p q t u) = ap (λ w. assignment_text vars x w) (u ∙ sym f.1) ∙ ap (λ w. w ++ (codes " = " ++ var_text vars y)) t
     at (takes x l p q t u) = absurd (literal_not_variable l rest q (u ∙ begins))
-    at (gets x name args p q k t u) = let c = call_name_parts name q in absurd (differ (ap (λ z. bracketed z (args_text vars args)) (sym c.whole) ∙ u ∙ begins) refl)
+    at (gets x word inside r l p h w c t u) = absurd (differ (ap (λ z. bracketed z inside) (sym w) ∙ u ∙ begins) refl)
 
 -- it is a literal
 pub literal_assigned : (vars : List Declared) (place : ℕ) (value : List ℕ) (found : Option CLit) → AreNamed vars → IsTrue (is_declared vars place) → ((r : List ℕ) → value ≢ codes "CPy" ++ r) → ((r : List ℕ) → value ≢ codes "cpy_" ++ r) → ((l : CLit) → IsTrue (spelled_literal l) → literal_text l ≡ value → found ≡ Some l) → IfSome found (λ l. IsTrue (spelled_literal l)) → Reads vars (assignment_text vars place value) (option_map (Lit place) found)
@@ -219,7 +266,7 @@ literal_assigned vars place value found n d no_call no_variable finds s = record
     at (moves x y p q t u) = let o = declared_at vars y q in absurd (no_variable o.var.0 (sym u ∙ text_at vars y o.var o.at))
     at (takes x l p q t u) =
         subst (λ (o : Option CLit). Finds (statement_text vars) (option_map (Lit place) o) (Lit x l)) (sym (finds l q u)) (ap (λ w. w ++ (codes " = " ++ literal_text l)) t)
-    at (gets x name args p q k t u) = let c = call_name_parts name q in absurd (no_call (c.rest ++ (codes "(" ++ (args_text vars args ++ codes ")"))) (sym u ∙ ap (λ z. bracketed z (args_text vars args)) c.whole))
+    at (gets x word inside r l p h w c t u) = absurd (no_call (r ++ (codes "(" ++ (inside ++ codes ")"))) (sym u ∙ ap (λ z. bracketed z inside) w))
 
 -- a statement that begins with a variable assigns to it
 pub no_target : (vars : List Declared) (text rest : List ℕ) → text ≡ codes "cpy_" ++ rest → ((x : ℕ) (value : List ℕ) → IsTrue (is_declared vars x) → assignment_text vars x value ≢ text) → Reads vars text None
@@ -230,6 +277,8 @@ no_target vars text rest begins none = record { spelled = tt; finds = at }
     at (Move x y) i h e = none x (var_text vars y) (and_true (is_declared vars x) _ h).0 e
     at (Lit x l) i h e = none x (literal_text l) (and_true (is_declared vars x) _ h).0 e
     at (Call (Some x) name args) i h e = none x (call_text vars name args) (and_true (is_declared vars x) _ h).0 (sym (append_assoc (var_text vars x) (codes " = ") (call_text vars name args)) ∙ e)
+    at (Virtual x o n args) i h e = none x (bracketed (codes "CPyVirtual") (virtual_text vars o n args)) (and_true (is_declared vars x) _ h).0 (sym (virtual_is vars x o n args) ∙ e)
+    at (TraitCall x o t n args) i h e = none x (bracketed (codes "CPyTrait") (for_trait_text vars o t n args)) (and_true (is_declared vars x) _ h).0 (sym (for_trait_is vars x o t n args) ∙ e)
     at (Call None name args) i h e = apart vars (Call None name args) h _ (e ∙ begins) refl
     at l i h e = apart vars l h (codes "cpy_" ++ rest) (e ∙ begins) refl
 

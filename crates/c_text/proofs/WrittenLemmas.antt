@@ -8,12 +8,14 @@ use Rattle.std.proofs.lemmas.List.{take_all, take_more}
 use Rattle.std.proofs.Math.Seq.{drop-cons}
 use Rattle.outside_core.specs.Bytes.{TakesFront}
 use Rattle.outside_core.specs.Counts.{count_after}
+use Rattle.c_core.specs.declared.code.CClass.{CClass}
 use Rattle.c_core.specs.declared.code.CFunc.{CFunc}
 use Rattle.c_core.specs.declared.code.Code.{Code}
 use Rattle.c_core.specs.declared.code.Line.{Line}
 use Rattle.c_core.specs.Functions.{is_label}
-use Rattle.c_core.specs.Text.{code_text, comma, declaration_lines, declaration_text, first_line, function_end, function_head, function_lines, global_line, global_lines, indented, joined, kind_text, label_line, lines_from, module_head, parameters_text, statement_text, text_of}
+use Rattle.c_core.specs.Text.{class_line, code_text, comma, declaration_lines, declaration_text, first_line, function_end, function_head, function_lines, global_line, global_lines, indented, joined, kind_text, label_line, lines_from, module_head, parameters_text, statement_text, text_of}
 use Rattle.c_core.specs.WellFormed.{Declared}
+use Rattle.c_text.specs.Classes.{class_lines, class_written}
 use Rattle.c_text.specs.Labels.{labels_after, labels_behind, line_text}
 use Rattle.c_text.specs.Writing.{Wrote}
 use Rattle.c_text.specs.Written.{declaration_written, functions_written, global_written, head_written, indented_written, label_written, line_written, lines_written, next_parameter, other_written, top_written}
@@ -131,9 +133,16 @@ globals [] more = refl
 globals (v ∷ vs) more =
     global v (text_of (global_lines vs ++ more)) ∙ ap (λ t. global_written v ++ t) (globals vs more) ∙ sym (append_assoc (global_written v) (flat_map global_written vs) (text_of more))
 
-pub written_code : (code : Code) → (first_line ++ 10 ∷ []) ++ (flat_map global_written code.globals ++ functions_written code.funcs) ≡ code_text code
+classes : (ks : List CClass) (more : List (List ℕ)) → text_of (class_lines ks ++ more) ≡ flat_map class_written ks ++ text_of more
+classes [] more = refl
+classes (k ∷ ks) more =
+    sym (append_assoc (class_line k) (10 ∷ []) (text_of (class_lines ks ++ more))) ∙ ap (λ t. class_written k ++ t) (classes ks more)
+    ∙ sym (append_assoc (class_written k) (flat_map class_written ks) (text_of more))
+
+pub written_code : (code : Code) → (first_line ++ 10 ∷ []) ++ (flat_map global_written code.globals ++ (flat_map class_written code.classes ++ functions_written code.funcs)) ≡ code_text code
 written_code code =
-    ap (λ t. first_line ++ 10 ∷ t) (ap (λ t. flat_map global_written code.globals ++ t) (sym (functions code.funcs)) ∙ sym (globals code.globals (function_lines code.funcs)))
+    ap (λ t. first_line ++ 10 ∷ t) (ap (λ t. flat_map global_written code.globals ++ t) (ap (λ t. flat_map class_written code.classes ++ t) (sym (functions code.funcs)) ∙ sym (classes code.classes (function_lines code.funcs)))
+    ∙ sym (globals code.globals (class_lines code.classes ++ function_lines code.funcs)))
 
 -- the functions before the last one, and the last one
 split_last : (gs : List CFunc) (g : CFunc) → functions_written (gs ++ g ∷ []) ≡ flat_map other_written gs ++ top_written g

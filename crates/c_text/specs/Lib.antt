@@ -1,9 +1,12 @@
 pub mod Adding
 pub mod Arguments
+pub mod Braces
+pub mod Classes
 pub mod Counts
 pub mod Heads
 pub mod Labels
 pub mod Laws
+pub mod Methods
 pub mod Parts
 pub mod Places
 pub mod Quotes

@@ -10,6 +10,7 @@ use Rattle.c_text.specs.declared.part.Above.{Above}
 use Rattle.c_text.specs.declared.part.Open.{Open}
 use Rattle.c_text.specs.declared.part.Part.{Part}
 use Rattle.c_text.specs.declared.part.Part.TheVariants.{Start, Between, Inside, Closed}
+use Rattle.c_text.specs.Classes.{AreClasses, class_lines}
 use Rattle.c_text.specs.Heads.{IsHead, head_line, parameters_of}
 use Rattle.c_text.specs.Reading.{CanStand}
 use Rattle.c_text.specs.Statements.{AreNamed}
@@ -26,7 +27,7 @@ other_lines (g ∷ gs) =
 
 -- the lines above a function
 abbrev pub above_lines : Above → List (List ℕ)
-above_lines a = first_line ∷ (global_lines a.globals ++ other_lines a.functions)
+above_lines a = first_line ∷ (global_lines a.globals ++ (class_lines a.classes ++ other_lines a.functions))
 
 -- the lines of a function that has not ended
 abbrev pub open_lines : Open → List (List ℕ)
@@ -34,7 +35,7 @@ open_lines o = head_line o.head o.vars ∷ (declaration_lines (drop (parameters_
 
 -- the code of which nothing is missing
 abbrev pub code_of : Above → Code
-code_of a = record { globals = a.globals; classes = []; funcs = a.functions }
+code_of a = record { globals = a.globals; classes = a.classes; funcs = a.functions }
 
 -- the lines of a text up to a part
 abbrev pub part_lines : Part → List (List ℕ)
@@ -46,6 +47,7 @@ part_lines (Closed a) = code_lines (code_of a)
 -- what was read up to a part may stand there
 pub record IsAbove (a : Above) : Type 0 where
   pub named : AreNamed a.globals
+  pub classes : AreClasses a.classes
   pub functions : IsTrue (list_all spelled_function a.functions)
 
 pub record IsOpen (o : Open) : Type 0 where

@@ -2,18 +2,22 @@
 //!
 //! `write`: what comes in is a `Code` and a sink; what goes out are the bytes of the code's one text. Where the sink
 //! refuses a call, a front of the text has gone out. The one text is `code_text` of c_core's `specs/Text.antt`;
-//! `writer.rt` goes from the whole code to its lines, `statement.rt` writes a line, `quote.rt` a text in quotes, and
-//! `written.rt` the words that these are made of.
+//! `writer.rt` goes from the whole code to its lines, `statement.rt` writes a line, `class.rt` that of a class,
+//! `quote.rt` a text in quotes, and `written.rt` the words that these are made of.
 //!
 //! `read`: what comes in are bytes; what goes out is the code that has them as its text, or the place of the first line
 //! that cannot stand, exactly as `specs/Reading.antt` says. There is one relation for both ways: a line is read as what
 //! it seems to be, and is that line only where writing it gives the same bytes. `reader.rt` goes from line to line,
-//! `part.rt` says which line may follow, `declaration.rt`, `line.rt` and `argument.rt` read the parts of a line,
+//! `part.rt` says which line may follow, `declaration.rt`, `line.rt`, `argument.rt` and `method_call.rt` read the parts of
+//! a line, `class.rt` the line of a class, whose lists are those of `braces.rt` with the items of `class_items.rt`,
 //! `unquote.rt` a text in quotes, `variable.rt` finds variables by their names, and `word.rt` reads words. The laws are that
 //! a text is refused at one place (`places_are_one`), and that it has at most one well-formed code (`codes_are_one`).
 #![tactic(auto)]
 
 mod argument;
+mod braces;
+mod class;
+mod class_items;
 mod count;
 mod declaration;
 mod head;
@@ -21,6 +25,7 @@ mod jump;
 mod laws;
 mod line;
 mod lines;
+mod method_call;
 mod part;
 mod quote;
 mod reader;

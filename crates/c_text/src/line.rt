@@ -13,6 +13,7 @@ ghost use Rattle.c_text.specs.Statements.{AreNamed, FindsTarget, IsLine, IsNoLin
 use crate::argument::arguments;
 use crate::count::{count_named, counted};
 use crate::jump::{goto, test};
+use crate::method_call::{trait_call, virtual_call};
 use crate::statement::write_statement;
 use crate::variable::{Variables, variable, variable_of};
 use crate::word::{before, behind, cut, inside_line, is, literal};
@@ -109,6 +110,29 @@ fn call(alloc: Global, vars: &Variables, text: &[u8]) -> Result<Option<Line>, Me
     }
 }
 
+/// An assignment of what a call answers, by the word of the call and what stands between its brackets.
+fn called(
+    alloc: Global,
+    vars: &Variables,
+    place: usize,
+    word: &[u8],
+    inside: &[u8],
+) -> Result<Option<Line>, Memory>
+    requires named { AreNamed vars.now }
+    requires declared { IsTrue (is_declared vars.now place) }
+    requires plain { HasNo 40 word.now }
+    requires begins { (rest : List ℕ) × (bracketed word.now inside.now ≡ codes "CPy" ++ rest) }
+    ensures { IfOk result (Reads vars.now (assignment_text vars.now place (bracketed word.now inside.now))) }
+{
+    if is(word, b"CPyVirtual") {
+        virtual_call(alloc, vars, place, inside)
+    } else if is(word, b"CPyTrait") {
+        trait_call(alloc, vars, place, inside)
+    } else {
+        call_of(alloc, vars, Some(place), word, inside)
+    }
+}
+
 /// An assignment to a variable, by what is assigned: a call, a variable or a literal.
 fn assigned(
     alloc: Global,
@@ -122,7 +146,7 @@ fn assigned(
 {
     if let Some(_) = behind(value, b"CPy") {
         match word_and_inside(value) {
-            Some((word, inside)) => call_of(alloc, vars, Some(place), word, inside),
+            Some((word, inside)) => called(alloc, vars, place, word, inside),
             None => Ok(None),
         }
     } else if let Some(_) = behind(value, b"cpy_") {

@@ -3,24 +3,27 @@ ghost use Rattle.std.specs.Prelude.{◌≡◌, ◌≢◌, [], IsTrue, IfOk, Matc
 ghost use Rattle.c_core.specs.Text.{declaration_text, function_end, global_line, indented};
 ghost use Rattle.c_core.specs.WellFormed.{Declared, is_identifier};
 ghost use Rattle.c_text.specs.declared.part.Part.TheVariants as variant;
-ghost use Rattle.c_text.specs.Adding.{Adds, AddsNothing, with_added};
+ghost use Rattle.c_text.specs.Adding.{Adds, AddsNothing, AddsNothingOutside, AddsOutside, with_added, with_outside};
+ghost use Rattle.c_text.specs.Classes.{IsClass, IsNoClass};
 ghost use Rattle.c_text.specs.Parts.{IsAbove, IsFine, IsNext, IsOpen, GoesOn};
 ghost use Rattle.c_text.specs.Statements.{AreNamed};
 
+use crate::class::class;
 use crate::declaration::{declaration, global};
 use crate::head::{FunctionHead, line_head};
 use crate::line::line;
 use crate::lines::Lines;
 use crate::variable::Variables;
 use crate::word::is;
-use c_core::{CFunc, Kind, Line};
+use c_core::{CClass, CFunc, Kind, Line};
 use std::alloc::Global;
 use value_core::{Many, Memory, Name};
 
-/// What stands above a function: the globals, and the functions that have ended.
+/// What stands above a function: the globals, the classes, and the functions that have ended.
 #[derive(Drop)]
 pub(crate) struct Above {
     pub(crate) globals: Many<(Name, Kind)>,
+    pub(crate) classes: Many<CClass>,
     pub(crate) functions: Many<CFunc>,
 }
 
@@ -39,12 +42,20 @@ enum Added {
     Line(Line),
 }
 
+/// What a line adds outside of functions: a global, a class, or the head of a function with its parameters.
+#[derive(Drop)]
+enum Outside {
+    Global((Name, Kind)),
+    Class(CClass),
+    Head(FunctionHead, Variables),
+}
+
 /// How far a text has come.
 #[derive(Drop)]
 pub(crate) enum Part {
     /// Nothing was read.
     Start,
-    /// A function may follow, or a global where there is no function yet.
+    /// A function may follow, a class where there is no function yet, or a global where there is no class either.
     Between(Above),
     /// A function has begun.
     Inside(Above, Open),
@@ -58,6 +69,7 @@ fn behind_start(alloc: Global, piece: &[u8]) -> Option<Part>
     if is(piece, b"/* mypyc subset 1 */") {
         Some(Part::Between(Above {
             globals: Many::new(alloc),
+            classes: Many::new(alloc),
             functions: Many::new(alloc),
         }))
     } else {
@@ -66,41 +78,93 @@ fn behind_start(alloc: Global, piece: &[u8]) -> Option<Part>
 }
 
 /// The global that a line declares, where one may stand.
-fn global_behind(
-    alloc: Global,
-    functions: &Many<CFunc>,
-    piece: &[u8],
-) -> Result<Option<(Name, Kind)>, Memory>
-    ensures { IfOk result (λ found. MatchOption found ((v : Declared) → functions.now ≡ [] → IsTrue (is_identifier v.0) → global_line v ≢ piece.now)
-        (λ v. (functions.now ≡ []) × IsTrue (is_identifier v.0) × (global_line v ≡ piece.now))) }
+fn global_behind(alloc: Global, above: &Above, piece: &[u8]) -> Result<Option<(Name, Kind)>, Memory>
+    ensures { IfOk result (λ found. MatchOption found ((v : Declared) → above.now.classes ≡ [] → above.now.functions ≡ [] → IsTrue (is_identifier v.0) → global_line v ≢ piece.now)
+        (λ v. (above.now.classes ≡ []) × (above.now.functions ≡ []) × IsTrue (is_identifier v.0) × (global_line v ≡ piece.now))) }
 {
-    if !functions.is_empty() {
+    if !above.classes.is_empty() {
+        return Ok(None);
+    }
+    if !above.functions.is_empty() {
         return Ok(None);
     }
     global(alloc, piece)
+}
+
+/// The class that a line declares, where one may stand.
+fn class_behind(alloc: Global, above: &Above, piece: &[u8]) -> Result<Option<CClass>, Memory>
+    ensures { IfOk result (λ found. MatchOption found (above.now.functions ≡ [] → IsNoClass piece.now)
+        (λ k. (above.now.functions ≡ []) × IsClass piece.now k)) }
+{
+    if !above.functions.is_empty() {
+        return Ok(None);
+    }
+    class(alloc, piece)
+}
+
+/// What a line adds outside of functions, where it may stand there.
+fn outer_addition(alloc: Global, above: &Above, piece: &[u8]) -> Result<Option<Outside>, Memory>
+    ensures { IfOk result (λ found. MatchOption found (AddsNothingOutside above.now piece.now) (AddsOutside above.now piece.now)) }
+{
+    if let Some(global) = global_behind(alloc, above, piece)? {
+        return Ok(Some(Outside::Global(global)));
+    }
+    if let Some(class) = class_behind(alloc, above, piece)? {
+        return Ok(Some(Outside::Class(class)));
+    }
+    match line_head(alloc, piece)? {
+        Some((head, vars)) => Ok(Some(Outside::Head(head, vars))),
+        None => Ok(None),
+    }
+}
+
+/// The part behind what a line adds outside of functions.
+fn with_outside(alloc: Global, above: Above, added: Outside) -> Result<Part, Memory>
+    ensures { IfOk result (λ part. part ≡ with_outside above added) }
+{
+    let Above {
+        mut globals,
+        mut classes,
+        functions,
+    } = above;
+    match added {
+        Outside::Global(global) => {
+            globals.push(global)?;
+            Ok(Part::Between(Above {
+                globals,
+                classes,
+                functions,
+            }))
+        }
+        Outside::Class(class) => {
+            classes.push(class)?;
+            Ok(Part::Between(Above {
+                globals,
+                classes,
+                functions,
+            }))
+        }
+        Outside::Head(head, vars) => {
+            let above = Above {
+                globals,
+                classes,
+                functions,
+            };
+            let lines = Lines::new(alloc);
+            Ok(Part::Inside(above, Open { head, vars, lines }))
+        }
+    }
 }
 
 fn behind_between(alloc: Global, above: Above, piece: &[u8]) -> Result<Option<Part>, Memory>
     requires { IsAbove above }
     ensures { IfOk result (GoesOn (variant.Between above) piece.now) }
 {
-    let Above {
-        mut globals,
-        functions,
-    } = above;
-    if let Some(global) = global_behind(alloc, &functions, piece)? {
-        globals.push(global)?;
-        return Ok(Some(Part::Between(Above { globals, functions })));
-    }
-    let Some((head, vars)) = line_head(alloc, piece)? else {
+    let Some(added) = outer_addition(alloc, &above, piece)? else {
         return Ok(None);
     };
-    let begun = Open {
-        head,
-        vars,
-        lines: Lines::new(alloc),
-    };
-    Ok(Some(Part::Inside(Above { globals, functions }, begun)))
+    let part = with_outside(alloc, above, added)?;
+    Ok(Some(part))
 }
 
 /// The part behind the end of a function.
@@ -111,6 +175,7 @@ fn behind_end(alloc: Global, above: Above, begun: Open) -> Result<Part, Memory>
 {
     let Above {
         globals,
+        classes,
         mut functions,
     } = above;
     let Open { head, vars, lines } = begun;
@@ -125,7 +190,11 @@ fn behind_end(alloc: Global, above: Above, begun: Open) -> Result<Part, Memory>
                 vars,
                 lines,
             })?;
-            Ok(Part::Closed(Above { globals, functions }))
+            Ok(Part::Closed(Above {
+                globals,
+                classes,
+                functions,
+            }))
         }
         FunctionHead::Function(name, ret, params) => {
             functions.push(CFunc {
@@ -135,7 +204,11 @@ fn behind_end(alloc: Global, above: Above, begun: Open) -> Result<Part, Memory>
                 vars,
                 lines,
             })?;
-            Ok(Part::Between(Above { globals, functions }))
+            Ok(Part::Between(Above {
+                globals,
+                classes,
+                functions,
+            }))
         }
     }
 }

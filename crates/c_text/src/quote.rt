@@ -5,12 +5,11 @@ ghost use Rattle.c_text.specs.Writing.{Wrote};
 
 use crate::written::{write_word, write_words};
 use outside_core::{Sink, WriteFault};
-use value_core::Text;
 
 /// Writes a text between double quotes, with its escapes, behind what separates it from what stands before.
 pub(crate) fn write_quoted<O: Sink>(
     separator: &[u8],
-    text: &Text,
+    text: &[u8],
     out: &mut O,
 ) -> Result<(), WriteFault>
     ensures { Wrote result O.tells (O.faults out.old) (O.faults out.new) (O.taken out.old) (O.taken out.new)
@@ -21,11 +20,11 @@ pub(crate) fn write_quoted<O: Sink>(
     write_word(b"\"", out)
 }
 
-fn write_bytes<O: Sink>(text: &Text, out: &mut O) -> Result<(), WriteFault>
+fn write_bytes<O: Sink>(text: &[u8], out: &mut O) -> Result<(), WriteFault>
     ensures { Wrote result O.tells (O.faults out.old) (O.faults out.new) (O.taken out.old) (O.taken out.new)
         (flat_map byte_text text.now) }
 {
-    for byte in text.as_str().as_bytes() {
+    for byte in text {
         write_byte(*byte, out)?;
     }
     Ok(())

@@ -9,7 +9,6 @@ use crate::text_error::TextError;
 use crate::word::place_of;
 use c_core::Code;
 use std::alloc::Global;
-use value_core::Many;
 
 /// The first line of a text, without its line feed, and what stands behind that.
 fn first_line(text: &[u8]) -> Option<(&[u8], &[u8])>
@@ -22,20 +21,24 @@ fn first_line(text: &[u8]) -> Option<(&[u8], &[u8])>
 }
 
 /// The code of which nothing is missing.
-fn code(alloc: Global, above: Above) -> Code
+fn code(above: Above) -> Code
     ensures { result ≡ code_of above }
 {
-    let Above { globals, functions } = above;
+    let Above {
+        globals,
+        classes,
+        functions,
+    } = above;
     Code {
         globals,
-        classes: Many::new(alloc),
+        classes,
         funcs: functions,
     }
 }
 
 /// The code of a text that ends behind a part, or that there is none. Behind the part's lines stands a rest that is no
 /// line, and `len` is how long the whole text is.
-fn finish(alloc: Global, part: Part, rest: &[u8], len: usize) -> Result<Code, TextError>
+fn finish(part: Part, rest: &[u8], len: usize) -> Result<Code, TextError>
     requires fine { IsFine part }
     requires plain { HasNo 10 rest.now }
     requires whole { len ≡ length (text_of (part_lines part) ++ rest.now) }
@@ -45,7 +48,7 @@ fn finish(alloc: Global, part: Part, rest: &[u8], len: usize) -> Result<Code, Te
     match part {
         Part::Closed(above) => {
             if rest.is_empty() {
-                Ok(code(alloc, above))
+                Ok(code(above))
             } else {
                 Err(TextError::Refused(len))
             }
@@ -68,5 +71,5 @@ pub fn read(alloc: Global, bytes: &[u8]) -> Result<Code, TextError>
         part = next;
         rest = after;
     }
-    finish(alloc, part, rest, bytes.len())
+    finish(part, rest, bytes.len())
 }

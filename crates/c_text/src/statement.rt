@@ -3,6 +3,7 @@ ghost use Rattle.std.specs.Fmt.{decimal};
 ghost use Rattle.std.specs.List.{flat_map};
 ghost use Rattle.c_core.specs.Text.{arg_text, arg_texts, branches_text, comma, count_text, counter_of, error_text, joined, goto_text, literal_text, statement_text, target_text, var_text};
 ghost use Rattle.c_text.specs.Arguments.{next_text};
+ghost use Rattle.c_text.specs.Methods.{method_behind, next_variable, others_text};
 ghost use Rattle.c_text.specs.Writing.{Wrote};
 ghost use Rattle.c_text.specs.Written.{indented_written, label_written, line_written};
 
@@ -65,6 +66,12 @@ pub(crate) fn write_statement<O: Sink>(
         Line::Move(place, source) => write_move(vars, *place, *source, out),
         Line::Lit(place, literal) => write_assignment(vars, *place, *literal, out),
         Line::Call(target, name, args) => write_call(vars, *target, name, args, out),
+        Line::Virtual(place, object, number, args) => {
+            write_virtual(vars, *place, *object, *number, args, out)
+        }
+        Line::TraitCall(place, object, name, number, args) => {
+            write_trait_call(vars, *place, *object, name, *number, args, out)
+        }
         Line::Goto(label) => write_jump(*label, out),
         Line::If(place, first, second) => write_test(vars, *place, *first, *second, out),
         Line::IfError(place, first, second) => write_error_test(vars, *place, *first, *second, out),
@@ -120,6 +127,109 @@ fn write_call<O: Sink>(
     write_words(&[target.0, target.1, target.2, name, b"("], out)?;
     write_arguments(vars, args, out)?;
     write_word(b")", out)
+}
+
+fn write_virtual<O: Sink>(
+    vars: &Many<(Name, Kind)>,
+    place: usize,
+    object: usize,
+    number: usize,
+    args: &Many<usize>,
+    out: &mut O,
+) -> Result<(), WriteFault>
+    ensures { Wrote result O.tells (O.faults out.old) (O.faults out.new) (O.taken out.old) (O.taken out.new)
+        (statement_text vars.now (Line.Virtual place object number args.now)) }
+{
+    let target = variable_words(vars, place);
+    let object = variable_words(vars, object);
+    write_words(
+        &[
+            target.0,
+            target.1,
+            b" = ",
+            b"CPyVirtual(",
+            object.0,
+            object.1,
+        ],
+        out,
+    )?;
+    write_method(vars, number, args, out)?;
+    write_word(b")", out)
+}
+
+fn write_trait_call<O: Sink>(
+    vars: &Many<(Name, Kind)>,
+    place: usize,
+    object: usize,
+    name: &Name,
+    number: usize,
+    args: &Many<usize>,
+    out: &mut O,
+) -> Result<(), WriteFault>
+    ensures { Wrote result O.tells (O.faults out.old) (O.faults out.new) (O.taken out.old) (O.taken out.new)
+        (statement_text vars.now (Line.TraitCall place object name.now number args.now)) }
+{
+    let target = variable_words(vars, place);
+    let object = variable_words(vars, object);
+    let name = name_word(name);
+    write_words(
+        &[
+            target.0,
+            target.1,
+            b" = ",
+            b"CPyTrait(",
+            object.0,
+            object.1,
+            b", CPyType_",
+            name,
+        ],
+        out,
+    )?;
+    write_method(vars, number, args, out)?;
+    write_word(b")", out)
+}
+
+/// Writes the place of a method and the arguments behind it, each behind a comma and a space.
+fn write_method<O: Sink>(
+    vars: &Many<(Name, Kind)>,
+    number: usize,
+    args: &Many<usize>,
+    out: &mut O,
+) -> Result<(), WriteFault>
+    ensures { Wrote result O.tells (O.faults out.old) (O.faults out.new) (O.taken out.old) (O.taken out.new)
+        (method_behind vars.now (number, args.now)) }
+{
+    let mut digits = Buffer::new();
+    let number = number_word(number, &mut digits);
+    write_words(&[b", ", number], out)?;
+    write_variables(vars, args, out)
+}
+
+fn write_variables<O: Sink>(
+    vars: &Many<(Name, Kind)>,
+    args: &Many<usize>,
+    out: &mut O,
+) -> Result<(), WriteFault>
+    ensures { Wrote result O.tells (O.faults out.old) (O.faults out.new) (O.taken out.old) (O.taken out.new)
+        (others_text vars.now args.now) }
+{
+    for arg in args.as_slice() {
+        write_next_variable(vars, *arg, out)?;
+    }
+    Ok(())
+}
+
+/// Writes a variable behind a comma and a space.
+fn write_next_variable<O: Sink>(
+    vars: &Many<(Name, Kind)>,
+    place: usize,
+    out: &mut O,
+) -> Result<(), WriteFault>
+    ensures { Wrote result O.tells (O.faults out.old) (O.faults out.new) (O.taken out.old) (O.taken out.new)
+        (next_variable vars.now place) }
+{
+    let variable = variable_words(vars, place);
+    write_words(&[b", ", variable.0, variable.1], out)
 }
 
 fn write_return<O: Sink>(
@@ -321,7 +431,7 @@ fn write_argument<O: Sink>(
             let mut digits = Buffer::new();
             write_words(&[separator, digits.format(*number).as_bytes()], out)
         }
-        CArg::Text(text) => write_quoted(separator, text, out),
+        CArg::Text(text) => write_quoted(separator, text.as_str().as_bytes(), out),
         CArg::Global(name) => write_words(&[separator, b"CPyStatic_", name_word(name)], out),
         CArg::Class(name) => write_words(&[separator, b"CPyType_", name_word(name)], out),
     }

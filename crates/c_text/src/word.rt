@@ -1,11 +1,12 @@
 //! Words of a line: what stands before or behind known bytes, names and numbers.
 ghost use Rattle.std.specs.Prelude.{◌≡◌, ◌≢◌, ◌++◌, ◌∷◌, ◌<◌, ◌≤◌, ◌==◌, ◌↔◌, ℤ, ℕ, List, length, Some, false, IsTrue, IfOk, IfSome, MatchOption};
 ghost use Rattle.std.specs.Fmt.{signed_decimal};
-ghost use Rattle.std.specs.List.{position_from};
+ghost use Rattle.std.specs.List.{list_any, position_from};
 ghost use Rattle.value_core.specs.Arithmetic.{lies_within};
 ghost use Rattle.c_core.specs.declared.code.CLit.{CLit};
 ghost use Rattle.c_core.specs.Text.{indented, literal_text};
 ghost use Rattle.c_core.specs.WellFormed.{is_identifier, spelled_literal};
+ghost use Rattle.c_text.specs.Braces.{EndsItem, is_item_end};
 ghost use Rattle.c_text.specs.Labels.{FindsLabel};
 ghost use Rattle.c_text.specs.Words.{HasNo, IsCut, EndsArgument};
 
@@ -19,6 +20,18 @@ pub(crate) fn behind<'a>(bytes: &'a [u8], prefix: &[u8]) -> Option<&'a [u8]>
     ensures { MatchOption result ((rest : List ℕ) → bytes.now ≢ prefix.now ++ rest) (λ rest. bytes.now ≡ prefix.now ++ rest.now) }
 {
     bytes.strip_prefix(prefix)
+}
+
+/// What stands behind a prefix where a text begins with it, and else the text.
+pub(crate) fn past<'a>(text: &'a [u8], prefix: &[u8]) -> &'a [u8]
+    ensures some { (rest : List ℕ) → text.now ≡ prefix.now ++ rest → result.now ≡ rest }
+    ensures none { ((rest : List ℕ) → text.now ≢ prefix.now ++ rest) → result.now ≡ text.now }
+    ensures within { length result.now ≤ length text.now }
+{
+    match behind(text, prefix) {
+        Some(rest) => rest,
+        None => text,
+    }
 }
 
 /// What stands before a suffix.
@@ -67,6 +80,26 @@ pub(crate) fn up_to_comma(bytes: &[u8]) -> (&[u8], &[u8])
     ensures within { length result.1.now ≤ length bytes.now }
 {
     match place_of(bytes, b',') {
+        Some(place) => bytes.split_at(place),
+        None => (bytes, &[]),
+    }
+}
+
+/// The first place of a comma or a closing brace.
+fn place_of_end(bytes: &[u8]) -> Option<usize>
+    ensures value { result ≡ position_from is_item_end 0 bytes.now }
+    ensures within { IfSome result (λ place. place < length bytes.now) }
+{
+    bytes.iter().position(|byte| *byte == b',' || *byte == b'}')
+}
+
+/// What stands before the first comma or closing brace, and the rest from there on.
+pub(crate) fn up_to_end(bytes: &[u8]) -> (&[u8], &[u8])
+    ensures finds { (front rest : List ℕ) → list_any is_item_end front ≡ false → EndsItem rest → front ++ rest ≡ bytes.now →
+        (result.0.now ≡ front) × (result.1.now ≡ rest) }
+    ensures within { length result.1.now ≤ length bytes.now }
+{
+    match place_of_end(bytes) {
         Some(place) => bytes.split_at(place),
         None => (bytes, &[]),
     }

@@ -3,13 +3,15 @@ ghost use Rattle.std.specs.List.{flat_map};
 ghost use Rattle.outside_core.specs.Counts.{count_after};
 ghost use Rattle.outside_core.specs.Bytes.{TakesFront};
 ghost use Rattle.c_core.specs.Text.{code_text, declaration_text, parameters_text};
+ghost use Rattle.c_text.specs.Classes.{class_written};
 ghost use Rattle.c_text.specs.Writing.{Wrote};
 ghost use Rattle.c_text.specs.Written.{declaration_written, functions_written, global_written, head_written, lines_written, next_parameter, other_written, top_written};
 
+use crate::class::write_class;
 use crate::lines::is_label;
 use crate::statement::write_line;
 use crate::written::{kind_word, name_word, write_word, write_words};
-use c_core::{CFunc, Code, Kind, Line};
+use c_core::{CClass, CFunc, Code, Kind, Line};
 use outside_core::{Sink, WriteFault};
 use value_core::{Many, Name};
 
@@ -31,6 +33,7 @@ fn write_code<O: Sink>(code: &Code, out: &mut O) -> Result<(), WriteFault>
 {
     write_word(b"/* mypyc subset 1 */\n", out)?;
     write_globals(&code.globals, out)?;
+    write_classes(&code.classes, out)?;
     write_functions(&code.funcs, out)
 }
 
@@ -51,6 +54,24 @@ fn write_global<O: Sink>(global: &(Name, Kind), out: &mut O) -> Result<(), Write
     let kind = kind_word(&global.1);
     let name = name_word(&global.0);
     write_words(&[kind, b"CPyStatic_", name, b";\n"], out)
+}
+
+fn write_classes<O: Sink>(classes: &Many<CClass>, out: &mut O) -> Result<(), WriteFault>
+    ensures { Wrote result O.tells (O.faults out.old) (O.faults out.new) (O.taken out.old) (O.taken out.new)
+        (flat_map class_written classes.now) }
+{
+    for class in classes.as_slice() {
+        write_class_line(class, out)?;
+    }
+    Ok(())
+}
+
+fn write_class_line<O: Sink>(class: &CClass, out: &mut O) -> Result<(), WriteFault>
+    ensures { Wrote result O.tells (O.faults out.old) (O.faults out.new) (O.taken out.old) (O.taken out.new)
+        (class_written class.now) }
+{
+    write_class(class, out)?;
+    write_word(b"\n", out)
 }
 
 /// Writes the functions. The last one is the module's own.

@@ -1,10 +1,11 @@
-use Rattle.std.proofs.Common.{Some, None}
-use Rattle.c_text.proofs.StatementReads.{call_assigned, no_call_assigned, variable_assigned, literal_assigned}
+use Rattle.std.proofs.Common.{ℕ, List, Some, None, IfOk, subst}
+use Rattle.c_text.specs.Statements.{Reads, assignment_text}
+use Rattle.c_text.proofs.StatementReads.{no_call_assigned, variable_assigned, literal_assigned}
 use Rattle.c_text.proofs.line.assigned.Goals as goal
 
 pub returns-in-Some-word_and_inside : goal.returns-in-Some-word_and_inside
 returns-in-Some-word_and_inside c =
-    call_assigned c.args.vars.now c.args.place c.args.value.now c.in-Some-word_and_inside.word.now c.in-Some-word_and_inside.inside.now c.in-Some.field-0.now c.call_of.result c.requires.named c.requires.declared c.in-Some.ensures c.in-Some-word_and_inside.ensures c.call_of.ensures.spelled c.call_of.ensures.finds
+    subst (λ (t : List ℕ). IfOk c.called.result (Reads c.args.vars.now (assignment_text c.args.vars.now c.args.place t))) c.in-Some-word_and_inside.ensures.whole c.called.ensures
 
 pub returns-in-None : goal.returns-in-None
 returns-in-None c = no_call_assigned c.args.vars.now c.args.place c.args.value.now c.in-Some.field-0.now c.requires.named c.requires.declared c.in-Some.ensures c.in-None.ensures

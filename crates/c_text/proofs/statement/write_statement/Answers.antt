@@ -12,6 +12,12 @@ returns-in-Lit g c = same_text (ap (statement_text c.args.vars.now) (sym c.in-Li
 pub returns-in-Call : goal.returns-in-Call
 returns-in-Call g c = same_text (ap (statement_text c.args.vars.now) (sym c.in-Call.is)) c.write_call.ensures
 
+pub returns-in-Virtual : goal.returns-in-Virtual
+returns-in-Virtual g c = same_text (ap (statement_text c.args.vars.now) (sym c.in-Virtual.is)) c.write_virtual.ensures
+
+pub returns-in-TraitCall : goal.returns-in-TraitCall
+returns-in-TraitCall g c = same_text (ap (statement_text c.args.vars.now) (sym c.in-TraitCall.is)) c.write_trait_call.ensures
+
 pub returns-in-Goto : goal.returns-in-Goto
 returns-in-Goto g c = same_text (ap (statement_text c.args.vars.now) (sym c.in-Goto.is)) c.write_jump.ensures
 
