@@ -1,7 +1,7 @@
 -- The definitions at small values.
 use Rattle.std.proofs.Common.{◌≡◌, ℕ, [], ◌∷◌, Some, None, refl}
 use Rattle.c_core.specs.Cells.{Cells, content_at, count_at, make, take_one}
-use Rattle.c_core.specs.Machine.{Content, StrCell, ListCell, TupleCell, DictCell, InstCell, ObjectCell, NoneObject, TrueObject, refs_in}
+use Rattle.c_core.specs.Machine.{Content, StrCell, ListCell, TupleCell, DictCell, InstCell, ObjectCell, NoneObject, TrueObject, FalseObject, refs_in}
 use Rattle.c_core.specs.Release.{release}
 use Rattle.cell_heap.specs.declared.key.Key.{Key}
 use Rattle.cell_heap.specs.declared.word.Word.TheVariants.{Cell as CellWord, PyNone}
@@ -9,6 +9,7 @@ use Rattle.cell_heap.specs.declared.content.Content.TheVariants.{Dict, Inst}
 use Rattle.cell_heap.specs.Contents.{content_of}
 use Rattle.cell_heap.specs.Keys.{keys_of}
 use Rattle.cell_heap.specs.Numbered.{gone}
+use Rattle.cell_heap.specs.Pairs.{place_at, with_pair, without_pair, pair_at}
 use Rattle.cell_heap.specs.Room.{places_in}
 use Rattle.cell_heap.specs.Words.{with_word, with_last, without_last, refill_by, word_at, last_at}
 
@@ -70,3 +71,20 @@ not_written = (refl, refl, refl)
 -- the value of a pair is written and its key stays, and an attribute is unset
 written_elsewhere : (with_word 0 (Some NoneObject) (DictCell ((TrueObject, ObjectCell 0) ∷ [])) ≡ DictCell ((TrueObject, NoneObject) ∷ [])) × (with_word 1 None (InstCell 5 (None ∷ Some NoneObject ∷ [])) ≡ InstCell 5 (None ∷ None ∷ []))
 written_elsewhere = (refl, refl)
+
+-- a dict with two pairs, under a text and under a truth: keys are found by what they are, and a key whose cell is gone is no key
+abbrev entries : Content
+entries = DictCell ((ObjectCell 0, NoneObject) ∷ (TrueObject, ObjectCell 0) ∷ [])
+
+abbrev dict : Cells Content
+dict = make text (make entries (make text []))
+
+found : (place_at dict 1 (ObjectCell 2) ≡ Some 0) × (place_at dict 1 TrueObject ≡ Some 1) × (place_at dict 1 FalseObject ≡ None) × (place_at dict 1 NoneObject ≡ None) × (place_at (None ∷ Some (record { count = 1; content = entries }) ∷ Some (record { count = 1; content = text }) ∷ []) 1 (ObjectCell 2) ≡ None)
+found = (refl, refl, refl, refl, refl)
+
+paired : (refill_by (with_pair (FalseObject, TrueObject)) 1 dict ≡ make text (make (DictCell ((ObjectCell 0, NoneObject) ∷ (TrueObject, ObjectCell 0) ∷ (FalseObject, TrueObject) ∷ [])) (make text []))) × (refill_by (without_pair 0) 1 dict ≡ make text (make (DictCell ((TrueObject, ObjectCell 0) ∷ [])) (make text [])))
+paired = (refl, refl)
+
+-- where there is no such pair, or no dict, nothing is taken out
+not_taken : (refill_by (without_pair 2) 1 dict ≡ dict) × (pair_at dict 1 2 ≡ None) × (refill_by (without_pair 0) 1 list ≡ list)
+not_taken = (refl, refl, refl)

@@ -4,4 +4,5 @@ pub mod RoomLemmas
 pub mod KeyLemmas
 pub mod ItemLemmas
 pub mod RefillLemmas
+pub mod PairLemmas
 mod Examples

@@ -80,7 +80,7 @@ places-change f zero (None ∷ cells) = refl
 places-change f zero (Some cell ∷ cells) = omega arith
 places-change f (suc c) (o ∷ cells) = omega (arith, places-change f c cells)
 
-places-refill : (f : Content → Content) (c : ℕ) (cells : Cells Content) → places_in (refill_by f c cells) + places_of (content_at cells c) ≡ places_in cells + places_of (option_map f (content_at cells c))
+pub places-refill : (f : Content → Content) (c : ℕ) (cells : Cells Content) → places_in (refill_by f c cells) + places_of (content_at cells c) ≡ places_in cells + places_of (option_map f (content_at cells c))
 places-refill f c cells =
     omega (arith, ap places_in (change-refill f c cells), places-change f c cells)
 

@@ -40,8 +40,9 @@ impl Cells {
     ghost use Rattle.std.specs.Option.{option_map, option_copied};
     ghost use Rattle.c_core.specs.Cells.{content_at, count_at, make, take_one};
     ghost use Rattle.c_core.specs.Release.{after};
-    ghost use Rattle.cell_heap.specs.Contents.{word_of, content_of};
+    ghost use Rattle.cell_heap.specs.Contents.{word_of, pair_of, content_of};
     ghost use Rattle.cell_heap.specs.Keys.{keys_of};
+    ghost use Rattle.cell_heap.specs.Pairs.{with_pair, without_pair, pair_at};
     ghost use Rattle.cell_heap.specs.Numbered.{cell_of, cell_at, gone};
     ghost use Rattle.cell_heap.specs.Words.{with_word, with_last, without_last, refill_by, word_at, last_at};
 
@@ -126,6 +127,29 @@ impl Cells {
         match self.there.get_mut(&serial) {
             None => None,
             Some(slot) => slot.content.pop_word(),
+        }
+    }
+
+    /// Puts a pair behind the others of the dict that the cell of a serial holds.
+    pub fn push_pair(&mut self, serial: u128, pair: (Word, Word)) -> Result<(), Memory>
+        ensures ok { OnOk result (self.new ≡ refill_by (with_pair (pair_of pair)) serial self.old) }
+        ensures err { OnErr result (self.new ≡ self.old) }
+    {
+        match self.there.get_mut(&serial) {
+            None => Ok(()),
+            Some(slot) => slot.content.push_pair(pair),
+        }
+    }
+
+    /// Takes the pair at a place out of the dict that the cell of a serial holds, if there is one.
+    pub fn take_pair(&mut self, serial: u128, place: usize) -> Option<(Word, Word)>
+        ensures rest { self.new ≡ refill_by (without_pair place) serial self.old }
+        ensures pair { option_map pair_of result ≡ pair_at self.old serial place }
+    {
+        let alloc = self.alloc;
+        match self.there.get_mut(&serial) {
+            None => None,
+            Some(slot) => slot.content.take_pair(alloc, place),
         }
     }
 

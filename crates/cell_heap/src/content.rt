@@ -1,12 +1,15 @@
-ghost use Rattle.std.specs.Prelude.{◌≡◌, ◌+◌, ◌*◌, ◌^◌, ◌≤◌, ◌++◌, length, map, slice_get, slice_set, OnOk, OnErr};
+ghost use Rattle.std.specs.Prelude.{◌≡◌, ◌+◌, ◌*◌, ◌^◌, ◌≤◌, ◌++◌, length, map, take, drop, slice_get, slice_set, OnOk, OnErr};
 ghost use Rattle.std.specs.Option.{option_map};
 ghost use Rattle.std.specs.Vec.{vec_len, vec_capacity};
 ghost use Rattle.c_core.specs.Machine.{refs_of, refs_in};
 ghost use Rattle.cell_heap.specs.Contents.{word_of, pair_of, content_of, words_refs, optional_refs, pairs_refs};
+ghost use Rattle.cell_heap.specs.Pairs.{with_pair, pair_in, without_pair};
 ghost use Rattle.cell_heap.specs.Room.{places};
 ghost use Rattle.cell_heap.specs.Words.{word_in, set_item, set_value, with_word, with_last, last_in, without_last};
 
 use crate::word::Word;
+use std::alloc::Global;
+use std::mem;
 use value_core::{ExcClass, Many, Memory, Text};
 
 /// What a cell holds. `specs/Contents.antt` says which content of the machine it is.
@@ -92,6 +95,28 @@ impl Content {
         }
     }
 
+    /// Puts a pair behind the others of a dict.
+    pub(crate) fn push_pair(&mut self, pair: (Word, Word)) -> Result<(), Memory>
+        ensures ok { OnOk result (content_of self.new ≡ with_pair (pair_of pair) (content_of self.old)) }
+        ensures err { OnErr result (content_of self.new ≡ content_of self.old) }
+    {
+        match self {
+            Content::Dict(pairs) => pairs.push(pair),
+            _ => Ok(()),
+        }
+    }
+
+    /// Takes the pair at a place out of a dict that has one there.
+    pub(crate) fn take_pair(&mut self, alloc: Global, place: usize) -> Option<(Word, Word)>
+        ensures rest { content_of self.new ≡ without_pair place (content_of self.old) }
+        ensures pair { option_map pair_of result ≡ pair_in place (content_of self.old) }
+    {
+        match self {
+            Content::Dict(pairs) => take_out(alloc, pairs, place),
+            _ => None,
+        }
+    }
+
     /// Adds the serials of the cells that it refers to at the end of the list, where there is room for them.
     pub(crate) fn add_references(&self, todo: &mut Vec<u128>)
         requires { vec_len todo.old + places (content_of self.now) ≤ vec_capacity todo.old }
@@ -145,6 +170,20 @@ fn write_value(pairs: &mut Many<(Word, Word)>, place: usize, word: Option<Word>)
             Some(old.1)
         }
     }
+}
+
+// Takes the pair at a place out, if there is such a place.
+fn take_out(alloc: Global, pairs: &mut Many<(Word, Word)>, place: usize) -> Option<(Word, Word)>
+    ensures rest { pairs.new ≡ take place pairs.old ++ drop (place + 1) pairs.old }
+    ensures pair { result ≡ slice_get pairs.old place }
+{
+    if place >= pairs.len() {
+        return None;
+    }
+    let mut all = mem::replace(pairs, Many::new(alloc)).into_vec();
+    let pair = all.remove(place);
+    *pairs = Many::from_vec(all);
+    Some(pair)
 }
 
 // Adds the serial of the cell that a word refers to, if it refers to one.

@@ -64,13 +64,14 @@ impl Model for Heap {
 }
 
 impl Heap {
-    ghost use Rattle.std.specs.Prelude.{◌≡◌, ◌+◌, ◌^◌, ◌<◌, [], ◌∷◌, length, is_ok, is_some, is_none, true, Some, None, IfSome, IfOk, OnOk, OnErr, MatchResult};
+    ghost use Rattle.std.specs.Prelude.{◌≡◌, ◌+◌, ◌^◌, ◌<◌, ◌&&◌, [], ◌∷◌, length, is_ok, is_some, is_none, true, Some, None, IfSome, IfOk, OnOk, OnErr, MatchResult};
     ghost use Rattle.c_core.specs.Cells.{content_at, count_at, make, take_one};
     ghost use Rattle.c_core.specs.Machine.{refs_in};
     ghost use Rattle.c_core.specs.Release.{release};
     ghost use Rattle.std.specs.Option.{option_map};
-    ghost use Rattle.cell_heap.specs.Contents.{number_of, word_of, content_of};
+    ghost use Rattle.cell_heap.specs.Contents.{number_of, word_of, pair_of, content_of};
     ghost use Rattle.cell_heap.specs.Keys.{keys_of};
+    ghost use Rattle.cell_heap.specs.Pairs.{has_cell, place_at, is_dict, with_pair, without_pair, pair_at};
     ghost use Rattle.cell_heap.specs.Words.{with_word, with_last, without_last, is_list, refill_by, word_at, last_at, is_dead};
 
     /// No cell was made yet. It takes no memory.
@@ -262,6 +263,77 @@ impl Heap {
             Some(word) => {
                 self.places -= 1;
                 Ok(Some(word))
+            }
+        }
+    }
+
+    /// The place of the first pair of the dict that a cell holds whose key equals the key that a word is: a number a number, a text
+    /// a text, a truth a truth. There is none where the word is no key, and none where the cell holds no dict; a key whose cell is
+    /// gone equals none.
+    ///
+    /// # Errors
+    ///
+    /// `Dead` exactly where the cell of the dict or that of the word is gone.
+    pub fn dict_find(&self, dict: Key, key: Word) -> Result<Option<usize>, Dead>
+        ensures there { is_ok result ≡ (is_some (content_at self.now (number_of dict)) && has_cell self.now (word_of key)) }
+        ensures place { IfOk result (λ place. place ≡ place_at self.now (number_of dict) (word_of key)) }
+    {
+        let Some(slot) = self.cells.get(dict.serial) else {
+            return Err(Dead);
+        };
+        if !self.cells.has_cell(key) {
+            return Err(Dead);
+        }
+        match &slot.content {
+            Content::Dict(pairs) => Ok(self.cells.place_of_key(pairs.as_slice(), key)),
+            _ => Ok(None),
+        }
+    }
+
+    /// Puts a pair behind the others of the dict that a cell holds. The references in its words are now the cell's.
+    ///
+    /// # Errors
+    ///
+    /// `Dead` exactly where the cell is gone, and `Memory`; then the heap is as before.
+    pub fn dict_push(&mut self, dict: Key, pair: (Word, Word)) -> Result<(), HeapError>
+        requires { IfSome (content_at self.old (number_of dict)) (λ content. is_dict content ≡ true) }
+        ensures there { is_dead result ≡ is_none (content_at self.old (number_of dict)) }
+        ensures ok { OnOk result (self.new ≡ refill_by (with_pair (pair_of pair)) (number_of dict) self.old) }
+        ensures err { OnErr result (self.new ≡ self.old) }
+        ensures made { length self.new ≡ length self.old }
+    {
+        if !self.cells.contains(dict.serial) {
+            return Err(HeapError::Dead);
+        }
+        let places = self.places as u128 + 2;
+        let places = more_room(&mut self.todo, places)?;
+        self.cells.push_pair(dict.serial, pair)?;
+        self.places = places;
+        Ok(())
+    }
+
+    /// Takes the pair at a place out of the dict that a cell holds, and answers it; those behind it move up. There is none where
+    /// there is no such place, and none where the cell holds no dict. The references in the answer are the caller's. It takes no
+    /// memory.
+    ///
+    /// # Errors
+    ///
+    /// `Dead` exactly where the cell is gone; then the heap is as before.
+    pub fn dict_take(&mut self, dict: Key, place: usize) -> Result<Option<(Word, Word)>, Dead>
+        ensures there { is_ok result ≡ is_some (content_at self.old (number_of dict)) }
+        ensures ok { OnOk result (self.new ≡ refill_by (without_pair place) (number_of dict) self.old) }
+        ensures pair { IfOk result (λ pair. option_map pair_of pair ≡ pair_at self.old (number_of dict) place) }
+        ensures dead { OnErr result (self.new ≡ self.old) }
+        ensures made { length self.new ≡ length self.old }
+    {
+        if !self.cells.contains(dict.serial) {
+            return Err(Dead);
+        }
+        match self.cells.take_pair(dict.serial, place) {
+            None => Ok(None),
+            Some(pair) => {
+                self.places -= 2;
+                Ok(Some(pair))
             }
         }
     }

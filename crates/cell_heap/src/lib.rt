@@ -5,14 +5,16 @@
 //! content holds, to any depth, without recursion and without memory. Contracts see a heap as the machine's cells
 //! (`Cells` of c_core): the cell of a key stands at the place that its serial says, and nothing stands there once it is
 //! gone. `specs/Contents.antt` says which word and which content of the machine one of this crate is, and
-//! `specs/Words.antt` which word stands at a place of a content, and what becomes of it as words are written.
+//! `specs/Words.antt` which word stands at a place of a content, and what becomes of it as words are written, and
+//! `specs/Pairs.antt` the same of the pairs of a dict, with the place of a key among them.
 //!
-//! `heap` has the calls. The cells lie in an ordered map by serial, in `cells`, and beside them there is room for the
-//! serials that a release still has to give up: as much as all contents have places.
+//! `heap` has the calls, and `dicts` compares the keys of dicts. The cells lie in an ordered map by serial, in `cells`, and
+//! beside them there is room for the serials that a release still has to give up: as much as all contents have places.
 #![tactic(auto)]
 
 mod cells;
 mod content;
+mod dicts;
 mod heap;
 mod key;
 mod word;
