@@ -6,6 +6,11 @@ use Rattle.std.specs.Char.{digit_value}
 use Rattle.std.specs.Fmt.{decimal, signed_decimal}
 use Rattle.std.specs.Int.{w128}
 use Rattle.std.specs.Str.Parse.{IsNumeral, ParsesSigned, without_leading_sign, signed_digits_value}
+use Rattle.std.specs.Prelude.{is_some}
+use Rattle.c_core.specs.Keys.{key_of, key_place}
+use Rattle.c_core.specs.Step.{of_key, value_at, sized, key_at}
+use Rattle.c_runner.specs.Deeds.{dict_item_done, dict_contains_done, dict_size_done, dict_key_done, dict_length_done}
+use Rattle.c_runner.proofs.FindLemmas.{dict_finds, key_finds}
 use Rattle.std.proofs.lemmas.Bool.{ltb-true, eqb-true}
 use Rattle.std.proofs.lemmas.Fmt.{decimal_is_IsNumeral_wide}
 use Rattle.std.proofs.lemmas.Int.{ints}
@@ -32,6 +37,7 @@ use Rattle.c_core.specs.declared.primitive.ObjectPrim.{ObjectPrim}
 use Rattle.c_core.specs.declared.primitive.ObjectPrim.TheVariants as object
 use Rattle.c_core.specs.declared.primitive.StrPrim.{StrPrim}
 use Rattle.c_core.specs.declared.primitive.StrPrim.TheVariants as str
+use Rattle.c_core.specs.declared.primitive.DictPrim.TheVariants as dict
 use Rattle.c_core.specs.declared.primitive.ListPrim.TheVariants as list
 use Rattle.c_core.specs.declared.primitive.TuplePrim.TheVariants as tuple
 use Rattle.c_core.specs.Arguments.{Argument, Cell, int_in, stolen}
@@ -40,14 +46,17 @@ use Rattle.c_core.specs.Ledgers.{Ledger, more}
 use Rattle.c_core.specs.Machine.{Word, BigInt, CharWord, ObjectCell, NoneObject, TrueObject, FalseObject, Content, IntCell, StrCell, TupleCell, MachineState}
 use Rattle.c_core.specs.Primitives.{Parameter, Borrows, Is, ANumber, AText, row_of}
 use Rattle.c_core.specs.Step as step
-use Rattle.c_core.specs.Step.{Next, Goes, Effect, Says, Makes, MakesInt, Wrong, if_some, if_arguments, applied, effect, primitive_step, next_line, of_int, of_ints, truth_word, tagged_effect, tagged_or, fitted, native_in, unboxed, item_at, part_at, item_or}
+use Rattle.c_core.specs.Step.{Next, Goes, Effect, Says, Makes, MakesInt, Wrong, if_some, if_arguments, applied, effect, primitive_step, next_line, of_int, of_ints, truth_word, tagged_effect, tagged_or, fitted, native_in, unboxed, item_at, part_at, item_or, lent}
 use Rattle.c_core.specs.Strings.{counted_length, text_less, text_length, text_item}
 use Rattle.c_runner.specs.declared.state.Frame.{Frame}
 use Rattle.c_runner.specs.declared.state.State.{State}
-use Rattle.c_runner.specs.Deeds.{alone, paired, one_int, two_ints, one_text, two_texts, text_and_int, then_done, done_or, then_tried, performed, long_number, number_written, one_done, two_done, tagged_done, texts_done, str_done, box_done, unbox_done, truth_done, truth_in, bool_done, is_none_object, object_done, list_item_done, list_length_done, tuple_item_done, tuple_length_done}
+use Rattle.c_runner.specs.declared.deed.Deed.{Deed}
+use Rattle.c_runner.specs.declared.deed.Deed.TheVariants as deed
+use Rattle.c_runner.specs.Deeds.{alone, paired, one_int, two_ints, one_text, two_texts, text_and_int, list_and_int, tuple_and_number, effect_of, then_done, done_or, then_tried, lent_done, performed, long_number, number_written, one_done, two_done, tagged_done, texts_done, str_done, box_done, unbox_done, truth_done, truth_in, bool_done, is_none_object, object_done, list_item_done, list_length_done, tuple_item_done, tuple_length_done}
 use Rattle.c_runner.specs.Parts.{cell_argument, argument_of, one_native, one_char, only_text}
 use Rattle.c_runner.specs.States.{Rest, state_of, with_target}
 use Rattle.cell_heap.specs.declared.key.Key.{Key}
+use Rattle.cell_heap.specs.declared.word.Word as heap_word
 use Rattle.cell_heap.specs.declared.word.Word.TheVariants as heap
 use Rattle.cell_heap.specs.Contents.{number_of}
 use Rattle.c_runner.proofs.CallLemmas.{one_found, char_only}
@@ -195,10 +204,53 @@ module _ (s : MachineState) where
           one_done_by (list_finds s) (goes (prim.List list.Len)) (λ q. tagged_effect (pos (counted_length (length q.1))))
           (λ b q e. ap (λ y. goes (prim.List list.Len) (y ∷ []) s.top.ledger) e)
 
+      -- ---- dicts
+      pub dict_item_called : primitive_step true s code x args (prim.Dict dict.GetItem) ≡ performed x (dict_item_done s.cells s.top.vars args) s
+      dict_item_called =
+          two_done_by (dict_finds s) (key_finds s) (goes (prim.Dict dict.GetItem)) (λ q. of_key (λ k. value_at k (key_place s.cells k q.0.1) q.0.1) (key_of s.cells q.1))
+          (λ b c q w e g. ap (λ y. goes (prim.Dict dict.GetItem) (y ∷ c ∷ []) s.top.ledger) e ∙ ap (λ o. acts (of_key (λ k. value_at k (key_place s.cells k q.1) q.1) o)) g)
+
+      pub dict_contains_called : primitive_step true s code x args (prim.Dict dict.Contains) ≡ performed x (dict_contains_done s.cells s.top.vars args) s
+      dict_contains_called =
+          two_done_by (dict_finds s) (key_finds s) (goes (prim.Dict dict.Contains)) (λ q. of_key (λ k. Says (truth_word (is_some (key_place s.cells k q.0.1)))) (key_of s.cells q.1))
+          (λ b c q w e g. ap (λ y. goes (prim.Dict dict.Contains) (y ∷ c ∷ []) s.top.ledger) e ∙ ap (λ o. acts (of_key (λ k. Says (truth_word (is_some (key_place s.cells k q.1)))) o)) g)
+
+      pub dict_size_called : primitive_step true s code x args (prim.Dict dict.CheckSize) ≡ performed x (dict_size_done s.cells s.top.vars args) s
+      dict_size_called =
+          two_done_by (dict_finds s) (number_finds s) (goes (prim.Dict dict.CheckSize)) (λ q. sized (int_eq (pos (counted_length (length q.0.1))) q.1))
+          (λ b c q n e g. ap (λ y. goes (prim.Dict dict.CheckSize) (y ∷ c ∷ []) s.top.ledger) e ∙ int_acts (λ i. sized (int_eq (pos (counted_length (length q.1))) i)) c n g)
+
+      pub dict_key_called : primitive_step true s code x args (prim.Dict dict.KeyAt) ≡ performed x (dict_key_done s.cells s.top.vars args) s
+      dict_key_called =
+          two_done_by (dict_finds s) (number_finds s) (goes (prim.Dict dict.KeyAt)) (λ q. key_at q.0.1 q.1)
+          (λ b c q n e g. ap (λ y. goes (prim.Dict dict.KeyAt) (y ∷ c ∷ []) s.top.ledger) e ∙ int_acts (key_at q.1) c n g)
+
+      pub dict_length_called : primitive_step true s code x args (prim.Dict dict.Len) ≡ performed x (dict_length_done s.cells s.top.vars args) s
+      dict_length_called =
+          one_done_by (dict_finds s) (goes (prim.Dict dict.Len)) (λ q. tagged_effect (pos (counted_length (length q.1))))
+          (λ b q e. ap (λ y. goes (prim.Dict dict.Len) (y ∷ []) s.top.ledger) e)
+
       pub tuple_item_called : primitive_step true s code x args (prim.Tuple tuple.GetItem) ≡ performed x (tuple_item_done s.cells s.top.vars args) s
       tuple_item_called =
           two_done_by (tuple_finds s) (written_finds s) (goes (prim.Tuple tuple.GetItem)) (λ q. part_at q.0.1 q.1)
           (λ b c q n e g. ap (λ y. goes (prim.Tuple tuple.GetItem) (y ∷ c ∷ []) s.top.ledger) e ∙ ap (λ y. goes (prim.Tuple tuple.GetItem) (Cell q.0 (TupleCell q.1) ∷ y ∷ []) s.top.ledger) g)
+
+      -- what is read is lent
+      then_lent : {A : Type 0} (does : A → Effect) (r : Result A Fault) → then_done (λ a. lent (does a)) r ≡ lent_done (then_done does r)
+      then_lent does (Ok a) = refl
+      then_lent does (Err why) = refl
+
+      pub list_item_lent : primitive_step true s code x args (prim.List list.GetItemBorrow) ≡ performed x (lent_done (list_item_done s.cells s.top.vars args)) s
+      list_item_lent =
+          two_done_by (list_finds s) (number_finds s) (goes (prim.List list.GetItemBorrow)) (λ q. lent (item_at (place_of (length q.0.1) q.1) q.0.1))
+          (λ b c q n e g. ap (λ y. goes (prim.List list.GetItemBorrow) (y ∷ c ∷ []) s.top.ledger) e ∙ int_acts (λ i. lent (item_at (place_of (length q.1) i) q.1)) c n g)
+          ∙ ap (λ d. performed x d s) (then_lent (λ q. item_at (place_of (length q.0.1) q.1) q.0.1) (list_and_int s.cells s.top.vars args))
+
+      pub tuple_item_lent : primitive_step true s code x args (prim.Tuple tuple.GetItemBorrow) ≡ performed x (lent_done (tuple_item_done s.cells s.top.vars args)) s
+      tuple_item_lent =
+          two_done_by (tuple_finds s) (written_finds s) (goes (prim.Tuple tuple.GetItemBorrow)) (λ q. lent (part_at q.0.1 q.1))
+          (λ b c q n e g. ap (λ y. goes (prim.Tuple tuple.GetItemBorrow) (y ∷ c ∷ []) s.top.ledger) e ∙ ap (λ y. goes (prim.Tuple tuple.GetItemBorrow) (Cell q.0 (TupleCell q.1) ∷ y ∷ []) s.top.ledger) g)
+          ∙ ap (λ d. performed x d s) (then_lent (λ q. part_at q.0.1 q.1) (tuple_and_number s.cells s.top.vars args))
 
       pub tuple_length_called : primitive_step true s code x args (prim.Tuple tuple.Len) ≡ performed x (tuple_length_done s.cells s.top.vars args) s
       tuple_length_called =
@@ -267,6 +319,12 @@ module _ (s : MachineState) where
     str_called code args str.Le = texts_called code args _ (λ a b. Says (truth_word (not (text_less b a)))) (texts_done str.Le) (λ c a d b. refl) (λ a b. refl)
     str_called code args str.Len = length_called code args _ (λ t. tagged_effect (text_length t)) (λ c a. refl)
     str_called code args str.GetItem = item_called code args _ (λ t i. item_or (text_item t i)) (λ c t a. refl)
+
+-- ---- what the runner does
+-- what shares nothing is lent as it is
+pub lent_other : (d : Deed) → ((w : heap_word.Word) → d ≡ deed.Shares w → ⊥) → effect_of d ≡ lent (effect_of d)
+lent_other (deed.Shares w) other = absurd (other w refl)
+lent_other _ other = refl
 
 -- ---- what the runner finds
 -- the primitives on two `int`s, and on two texts

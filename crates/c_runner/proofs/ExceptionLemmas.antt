@@ -44,6 +44,11 @@ pub follows_for : {E : Type 0} (does : MachineState → Next) (other : Code → 
 follows_for does other old new (Ok ending) same h = λ code rest. same code rest ∙ h rest
 follows_for does other old new (Err e) same h = tt
 
+-- the same where the code is one
+pub follows_on : {E : Type 0} (does other : MachineState → Next) (old new : State) (r : Result (Option Ending) E) → ((rest : Rest) → other (state_of rest old) ≡ does (state_of rest old)) → IfOk r (λ ending. Follows does ending old new) → IfOk r (λ ending. Follows other ending old new)
+follows_on does other old new (Ok ending) same h = λ rest. same rest ∙ h rest
+follows_on does other old new (Err e) same h = tt
+
 -- ---- an exception that a failure makes
 pub failed : (rest : Rest) (old : State) (target : Option ℕ) (w : Word) (e : Thrown) (key : Key) (cells : Cells Content) (top : Frame) → number_of key ≡ length old.cells → cells ≡ make (ExcCell e) old.cells → top ≡ with_target target w old.top → applied true (state_of rest old) target old.top.ledger [] (Fails (contents.word_of w) e) ≡ Goes (state_of rest (record old { cells = cells; pending = Some key; top = record top { place = top.place + 1 } }))
 failed rest old target w e key cells top key_is cells_is top_is =

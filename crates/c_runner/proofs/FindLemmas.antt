@@ -3,6 +3,12 @@ use Rattle.std.proofs.Common.{◌≡◌, refl, sym, ap, subst, ◌∙◌, ℕ, a
 use Rattle.std.specs.Prelude.{ℤ, nat_lt, is_some, map, slice_get, Result, Ok, Err, MatchResult}
 use Rattle.std.specs.Option.{option_flatten}
 use Rattle.std.proofs.lemmas.Bool.Decides.{nat_tests}
+use Rattle.std.specs.Option.{option_and_then}
+use Rattle.c_core.specs.Arguments.{key_as}
+use Rattle.c_core.specs.Keys.{key_in, key_of}
+use Rattle.c_core.specs.Machine.{DictCell}
+use Rattle.c_core.specs.Primitives.{ADict, AKey}
+use Rattle.c_runner.specs.Objects.{pairs_in, dict_at, key_held, key_word, key_argument}
 use Rattle.value_core.specs.Items.{Eof}
 use Rattle.c_core.specs.declared.code.CArg.{CArg}
 use Rattle.c_core.specs.declared.code.CArg.TheVariants as arg
@@ -13,12 +19,12 @@ use Rattle.c_core.specs.declared.fault.Fault.TheVariants as fault
 use Rattle.c_core.specs.Arguments.{Argument, Cell, Plain, Written, is_value_of, is_holding, int_in}
 use Rattle.c_core.specs.Cells.{content_at}
 use Rattle.c_core.specs.Ledgers.{Ledger}
-use Rattle.c_core.specs.Machine.{Word, ShortInt, BigInt, ObjectCell, NoneObject, TrueObject, FalseObject, Content, IntCell, StrCell, ListCell, TupleCell, MachineState}
-use Rattle.c_core.specs.Primitives.{Holding, Anything, ANumber, AText, AList, ATuple, Parameter, Borrows, TakesNumber, Is, may_end}
-use Rattle.c_core.specs.Step.{Next, Goes, Ends, Faulted, if_some, if_true, if_there, if_argument, if_arguments, faulted}
+use Rattle.c_core.specs.Machine.{Word, ShortInt, BigInt, ObjectCell, NoneObject, TrueObject, FalseObject, Content, IntCell, StrCell, ListCell, TupleCell, InstCell, MachineState}
+use Rattle.c_core.specs.Primitives.{Holding, Anything, ANumber, AText, AList, ATuple, AnInstance, Parameter, Borrows, TakesNumber, TakesPlace, Is, may_end}
+use Rattle.c_core.specs.Step.{Next, Goes, Ends, Faulted, if_some, if_true, if_there, if_variable, if_argument, if_arguments, faulted}
 use Rattle.c_runner.specs.declared.state.State.{State}
 use Rattle.c_runner.specs.Deeds.{int_held, int_of, int_at, text_held, text_of, text_at, alone, paired}
-use Rattle.c_runner.specs.Objects.{word_at, number_in, items_in, parts_in, or_kind, held, beside, object_of, boxed_at, list_at, tuple_at, any_of, any_at, written_number}
+use Rattle.c_runner.specs.Objects.{word_at, number_in, items_in, parts_in, instance_in, or_kind, held, beside, object_of, boxed_at, list_at, tuple_at, instance_at, any_of, any_at, written_number}
 use Rattle.c_runner.specs.Parts as parts
 use Rattle.c_runner.specs.Parts.{cell_argument, argument_of, passed_on}
 use Rattle.c_runner.specs.States.{Rest, first_rest, state_of}
@@ -42,8 +48,14 @@ IsBoxed b q = b ≡ Cell q.0 (IntCell q.1)
 abbrev pub IsList : Argument → ℕ × List Word → Type 0
 IsList b q = b ≡ Cell q.0 (ListCell q.1)
 
+abbrev pub IsDict : Argument → ℕ × List (Word × Word) → Type 0
+IsDict b q = b ≡ Cell q.0 (DictCell q.1)
+
 abbrev pub IsTuple : Argument → ℕ × List Word → Type 0
 IsTuple b q = b ≡ Cell q.0 (TupleCell q.1)
+
+abbrev pub IsInstance : Argument → ℕ × (ℕ × List (Option Word)) → Type 0
+IsInstance b q = b ≡ Cell q.0 (InstCell q.1.0 q.1.1)
 
 abbrev pub IsNumber : Argument → ℤ → Type 0
 IsNumber b n = b ≡ Written (arg.Number n)
@@ -72,6 +84,14 @@ items_made : (content : Content) (items : List Word) → items_in content ≡ So
 items_made (ListCell others) items e = let same : others ≡ items = cc in ap ListCell same
 items_made _ items e = absurd (cc)
 
+entries_held : (c : ℕ) (content : Content) → is_holding ADict (Cell c content) ≡ is_some (pairs_in content)
+entries_held c (DictCell pairs) = refl
+entries_held c _ = refl
+
+entries_made : (content : Content) (pairs : List (Word × Word)) → pairs_in content ≡ Some pairs → content ≡ DictCell pairs
+entries_made (DictCell others) pairs e = let same : others ≡ pairs = cc in ap DictCell same
+entries_made _ pairs e = absurd (cc)
+
 parts_held : (c : ℕ) (content : Content) → is_holding ATuple (Cell c content) ≡ is_some (parts_in content)
 parts_held c (TupleCell items) = refl
 parts_held c _ = refl
@@ -80,14 +100,31 @@ parts_made : (content : Content) (items : List Word) → parts_in content ≡ So
 parts_made (TupleCell others) items e = let same : others ≡ items = cc in ap TupleCell same
 parts_made _ items e = absurd (cc)
 
+abbrev instance : ℕ × List (Option Word) → Content
+instance q = InstCell q.0 q.1
+
+instance_held : (c : ℕ) (content : Content) → is_holding AnInstance (Cell c content) ≡ is_some (instance_in content)
+instance_held c (InstCell class attributes) = refl
+instance_held c _ = refl
+
+instance_made : (content : Content) (q : ℕ × List (Option Word)) → instance_in content ≡ Some q → content ≡ instance q
+instance_made (InstCell class attributes) q e = let same : (class, attributes) ≡ q = cc in ap instance same
+instance_made _ q e = absurd (cc)
+
 picks_number : Picks ANumber number_in IntCell
 picks_number = record { cell = number_held; made = number_made; none_object = refl; true_object = refl; false_object = refl }
 
 picks_items : Picks AList items_in ListCell
 picks_items = record { cell = items_held; made = items_made; none_object = refl; true_object = refl; false_object = refl }
 
+picks_pairs : Picks ADict pairs_in DictCell
+picks_pairs = record { cell = entries_held; made = entries_made; none_object = refl; true_object = refl; false_object = refl }
+
 picks_parts : Picks ATuple parts_in TupleCell
 picks_parts = record { cell = parts_held; made = parts_made; none_object = refl; true_object = refl; false_object = refl }
+
+picks_instance : Picks AnInstance instance_in instance
+picks_instance = record { cell = instance_held; made = instance_made; none_object = refl; true_object = refl; false_object = refl }
 
 module _ (s : MachineState) where
   abbrev pub kind_fault : Next
@@ -165,8 +202,41 @@ module _ (s : MachineState) where
   pub list_finds : Finds (Borrows (Is Object) AList) (list_at s.cells s.top.vars) IsList
   list_finds = record { needed = λ ps. refl; missing = refl; argument = object_found AList items_in ListCell picks_items }
 
+  pub dict_finds : Finds (Borrows (Is Object) ADict) (dict_at s.cells s.top.vars) IsDict
+  dict_finds = record { needed = λ ps. refl; missing = refl; argument = object_found ADict pairs_in DictCell picks_pairs }
+
+  -- ---- a key
+  abbrev pub IsKey : Argument → Word → Type 0
+  IsKey b w = key_as b ≡ key_of s.cells w
+
+  key_cell : (c : ℕ) (o : Option Content) (go : Argument → Next) (f : Word → Next) → ((content : Content) → o ≡ Some content → go (Cell c content) ≡ f (ObjectCell c)) → if_some true s fault.Dead o (λ content. if_true true s (is_holding AKey (Cell c content)) (go (Cell c content))) ≡ found (key_held c o) f
+  key_cell c (Some (IntCell n)) go f same = same (IntCell n) refl
+  key_cell c (Some (StrCell text)) go f same = same (StrCell text) refl
+  key_cell c _ go f same = refl
+
+  a_key : (o : Option Word) (go : Argument → Next) (f : Word → Next) → ((b : Argument) (w : Word) → IsKey b w → go b ≡ f w) → if_some true s fault.Kind o (λ w. if_true true s (is_value_of Object w) (if_there true s w (λ a. if_true true s (is_holding AKey a) (go a)))) ≡ found (key_word s.cells o) f
+  a_key (Some (ObjectCell c)) go f same =
+      key_cell c (content_at s.cells c) go f (λ content is. same (Cell c content) (ObjectCell c) (sym (ap (option_and_then key_in) is)))
+  a_key (Some TrueObject) go f same = same (Plain TrueObject) TrueObject refl
+  a_key (Some FalseObject) go f same = same (Plain FalseObject) FalseObject refl
+  a_key _ go f same = refl
+
+  key_found : (code : Code) (a : CArg) (earlier : List Argument) (l : Ledger) (go : Argument → Ledger → Next) (f : Word → Next) → ((b : Argument) (w : Word) → IsKey b w → go b l ≡ f w) → if_argument true s code (Borrows (Is Object) AKey) a earlier l go ≡ found (key_argument s.cells s.top.vars (Some a)) f
+  key_found code (arg.Var x) earlier l go f same = a_key (slice_get s.top.vars x) (λ a. go a l) f same
+  key_found code _ earlier l go f same = refl
+
+  pub key_finds : Finds (Borrows (Is Object) AKey) (key_argument s.cells s.top.vars) IsKey
+  key_finds = record { needed = λ ps. refl; missing = refl; argument = key_found }
+
   pub tuple_finds : Finds (Borrows (Is Object) ATuple) (tuple_at s.cells s.top.vars) IsTuple
   tuple_finds = record { needed = λ ps. refl; missing = refl; argument = object_found ATuple parts_in TupleCell picks_parts }
+
+  pub instance_finds : Finds (Borrows (Is Object) AnInstance) (instance_at s.cells s.top.vars) IsInstance
+  instance_finds = record { needed = λ ps. refl; missing = refl; argument = object_found AnInstance instance_in instance picks_instance }
+
+  -- the same of a variable
+  pub instance_variable : (x : ℕ) (go : Argument → Next) → if_variable true s Object AnInstance x go ≡ found (object_of instance_in s.cells (slice_get s.top.vars x)) (λ q. go (Cell q.0 (InstCell q.1.0 q.1.1)))
+  instance_variable x go = object_word AnInstance instance_in instance picks_instance (slice_get s.top.vars x) go (λ q. go (Cell q.0 (InstCell q.1.0 q.1.1))) (λ c q. refl)
 
   -- ---- any object
   abbrev pub IsWord : Argument → Word → Type 0
@@ -197,6 +267,14 @@ module _ (s : MachineState) where
 
   pub written_finds : Finds TakesNumber written_number IsNumber
   written_finds = record { needed = λ ps. refl; missing = refl; argument = written_found }
+
+  -- the number of a place that is written
+  place_found : (code : Code) (a : CArg) (earlier : List Argument) (l : Ledger) (go : Argument → Ledger → Next) (f : ℤ → Next) → ((b : Argument) (n : ℤ) → IsNumber b n → go b l ≡ f n) → if_argument true s code TakesPlace a earlier l go ≡ found (written_number (Some a)) f
+  place_found code (arg.Number n) earlier l go f same = same (Written (arg.Number n)) n refl
+  place_found code _ earlier l go f same = refl
+
+  pub place_finds : Finds TakesPlace written_number IsNumber
+  place_finds = record { needed = λ ps. refl; missing = refl; argument = place_found }
 
   -- ---- one argument, and two
   alone_is : {A : Type 0} (r : Result A Fault) (f : A → Next) → found r f ≡ found (alone r 1) f

@@ -108,6 +108,15 @@ module _ (s : MachineState) (ps : List Declared) (args : List CArg) where
       let more = drop_rest args i lt in
       ap (λ qs. both qs (drop i args) go) (drop_all ps i le) ∙ ap (λ rest. both [] rest go) more.1
 
+  pub too_few : (i : ℕ) (go : List machine.Word → Next) → i < length ps → length args ≤ i → left i go ≡ Ends (Faulted fault.Kind) s
+  too_few i go lt le =
+      let more = drop_rest ps i lt in
+      ap (λ qs. both qs (drop i args) go) more.1 ∙ ap (λ rest. both (more.0 ∷ drop (suc i) ps) rest go) (drop_all args i le)
+
+  pub all_passed : (i : ℕ) (go : List machine.Word → Next) → length ps ≤ i → length args ≤ i → left i go ≡ go []
+  all_passed i go le few =
+      ap (λ qs. both qs (drop i args) go) (drop_all ps i le) ∙ ap (λ rest. both [] rest go) (drop_all args i few)
+
   -- one word more before what is left
   pub word_more : (i : ℕ) (before after : List Word) (w : Word) (go : List machine.Word → Next) → after ≡ before ++ w ∷ [] → left i (λ ws. go (map contents.word_of before ++ contents.word_of w ∷ ws)) ≡ left i (λ ws. go (map contents.word_of after ++ ws))
   word_more i before after w go e =
@@ -139,6 +148,18 @@ refused rest old code g f target args ps o why vars calm e is pass failed =
     ∙ ap (λ qs. if_passed true s (map (λ v. v.1) qs) args go) (sym is)
     ∙ pass go
     ∙ ap (λ h. unless_fault h s (go (map contents.word_of vars))) failed
+
+-- it is called where each may be passed
+pub enters : (rest : Rest) (old new : State) (code : Code) (g : CFunc) (f : ℕ) (target : Option ℕ) (args : List CArg) (ps : List Declared) (o : Option Fault) (vars : List Word) → old.pending ≡ None → slice_get code.funcs f ≡ Some g → ps ≡ take g.params g.vars → ((go : List machine.Word → Next) → if_passed true (state_of rest old) (map (λ v. v.1) ps) args go ≡ unless_fault o (state_of rest old) (go (map contents.word_of vars))) → o ≡ None → state_of rest new ≡ entered true (state_of rest old) target f (entry_words (map contents.word_of vars) g) → function_called true (state_of rest old) code target args (Some f) ≡ Goes (state_of rest new)
+enters rest old new code g f target args ps o vars calm e is pass none last =
+    let s = state_of rest old in
+    let go : List machine.Word → Next = λ ws. Goes (entered true s target f (entry_words ws g)) in
+    ap (λ p. if_calm true s (option_map contents.number_of p) (if_some true s fault.Kind (slice_get code.funcs f) (function_step true s target args f))) calm
+    ∙ ap (λ h. if_some true s fault.Kind h (function_step true s target args f)) e
+    ∙ ap (λ qs. if_passed true s (map (λ v. v.1) qs) args go) (sym is)
+    ∙ pass go
+    ∙ ap (λ h. unless_fault h s (go (map contents.word_of vars))) none
+    ∙ ap Goes (sym last)
 
 -- ---- a return
 pub target_set : (rest : Rest) (st : State) (target : Option ℕ) (w : Word) → step.with_target target (contents.word_of w) (state_of rest st) ≡ state_of rest (record st { top = with_target target w st.top })

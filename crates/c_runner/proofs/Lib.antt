@@ -11,7 +11,10 @@ pub mod StolenLemmas
 pub mod ExceptionLemmas
 pub mod FindLemmas
 pub mod DeedLemmas
+pub mod DictLemmas
 pub mod ListLemmas
 pub mod TupleLemmas
+pub mod InstanceLemmas
+pub mod MethodLemmas
 pub mod Taking
 pub mod AdvanceLemmas

@@ -327,7 +327,7 @@ leads_alone does other old new (Err failed) same h = tt
 
 -- ---- a list that changes
 -- a cell is refilled, a word is answered, and references are given up
-changed : (rest : Rest) (old : State) (target : Option ℕ) (c : ℕ) (content : Content) (answer : Word) (l : Ledger) (up gone : List ℕ) (filled cells : Cells Content) (owner top : Frame) → filled ≡ refill content c old.cells → cells ≡ release refs_in filled up → owner ≡ record old.top { ledger = more_of (refs_of (contents.word_of answer)) l } → top ≡ with_target target answer owner → applied true (state_of rest old) target l gone (Changes c content (contents.word_of answer) up) ≡ Goes (state_of rest (record old { cells = cells; top = record top { place = top.place + 1 } }))
+pub changed : (rest : Rest) (old : State) (target : Option ℕ) (c : ℕ) (content : Content) (answer : Word) (l : Ledger) (up gone : List ℕ) (filled cells : Cells Content) (owner top : Frame) → filled ≡ refill content c old.cells → cells ≡ release refs_in filled up → owner ≡ record old.top { ledger = more_of (refs_of (contents.word_of answer)) l } → top ≡ with_target target answer owner → applied true (state_of rest old) target l gone (Changes c content (contents.word_of answer) up) ≡ Goes (state_of rest (record old { cells = cells; top = record top { place = top.place + 1 } }))
 changed rest old target c content answer l up gone filled cells owner top filled_is cells_is owner_is top_is =
     let made : State = record old { cells = release refs_in (refill content c old.cells) up; top = record old.top { ledger = more_of (refs_of (contents.word_of answer)) l } } in
     ap (λ t. Goes (next_line t)) (target_set rest made target answer)
@@ -350,7 +350,7 @@ added rest old target key w cells owner top e cells_is owner_is top_is =
     (cells_is ∙ refill-there (with_last v) c old.cells (ListCell (items_at old.cells c)) e) (sym (release-nothing refs_in cells)) owner_is top_is
 
 -- an item that is there is written
-some_item : {X : Type 0} (xs : List X) (i : ℕ) → i < length xs → slice_get xs i ≡ None → ⊥
+pub some_item : {X : Type 0} (xs : List X) (i : ℕ) → i < length xs → slice_get xs i ≡ None → ⊥
 some_item [] i lt e = omega (arith, lt)
 some_item (x ∷ xs) zero lt e = cc
 some_item (x ∷ xs) (suc i) lt e = some_item xs i (omega (arith, lt)) e

@@ -10,12 +10,14 @@ use Rattle.c_core.specs.declared.code.CArg.TheVariants as arg
 use Rattle.c_core.specs.declared.code.CFunc.{CFunc}
 use Rattle.c_core.specs.declared.code.Kind.{Kind}
 use Rattle.c_core.specs.declared.code.Line.{Line}
-use Rattle.c_core.specs.declared.code.Line.TheVariants.{Call}
+use Rattle.c_core.specs.declared.code.Line.TheVariants.{Call, Virtual, TraitCall}
 use Rattle.c_core.specs.declared.code.CLit.{CLit}
 use Rattle.c_core.specs.declared.fault.Fault.TheVariants as fault
 use Rattle.c_core.specs.declared.primitive.Primitive.{Primitive}
-use Rattle.c_core.specs.declared.primitive.Primitive.TheVariants.{List as OfList, Io}
+use Rattle.c_core.specs.declared.primitive.Primitive.TheVariants.{Dict as OfDict, List as OfList, Instance as OfInstance, Io}
+use Rattle.c_core.specs.declared.primitive.DictPrim.{DictPrim}
 use Rattle.c_core.specs.declared.primitive.ListPrim.{ListPrim}
+use Rattle.c_core.specs.declared.primitive.InstancePrim.{InstancePrim}
 use Rattle.c_core.specs.declared.primitive.IoPrim.{IoPrim}
 use Rattle.c_core.specs.declared.primitive.IoPrim.TheVariants.{Write, Input}
 use Rattle.c_core.specs.declared.code.Code.{Code}
@@ -162,14 +164,18 @@ module _ (code : Code) (target : Option ℕ) (args : List CArg) (p : Primitive) 
       (λ rest. stands_so rest ∙ ap (λ d. cond d (primitive_step true (state_of rest old) code target args p) (faulted true (state_of rest old) fault.Kind)) is) h
 
 -- lines that call nothing, and primitives that make no object and ask for no line
-pub is_plain : (code : Code) (s : MachineState) (line : Line) → ((x : Option ℕ) (name : List ℕ) (args : List CArg) → line ≡ Call x name args → ⊥) → step.step_at true code s (Some line) ≡ plain_step code s line
-is_plain code s (Call x name args) other = absurd (other x name args refl)
-is_plain code s _ other = refl
+pub is_plain : (code : Code) (s : MachineState) (line : Line) → ((x : Option ℕ) (name : List ℕ) (args : List CArg) → line ≡ Call x name args → ⊥) → ((x o n : ℕ) (args : List ℕ) → line ≡ Virtual x o n args → ⊥) → ((x o : ℕ) (t : List ℕ) (n : ℕ) (args : List ℕ) → line ≡ TraitCall x o t n args → ⊥) → step.step_at true code s (Some line) ≡ plain_step code s line
+is_plain code s (Call x name args) no_call no_own no_trait = absurd (no_call x name args refl)
+is_plain code s (Virtual x o n args) no_call no_own no_trait = absurd (no_own x o n args refl)
+is_plain code s (TraitCall x o t n args) no_call no_own no_trait = absurd (no_trait x o t n args refl)
+is_plain code s _ no_call no_own no_trait = refl
 
-pub is_quiet : (code : Code) (s : MachineState) (target : Option ℕ) (args : List CArg) (p : Primitive) → ((o : ListPrim) → p ≡ OfList o → ⊥) → ((o : IoPrim) → p ≡ Io o → ⊥) → primitive_step true s code target args p ≡ quiet_step code target args p s
-is_quiet code s target args (OfList o) no_list no_io = absurd (no_list o refl)
-is_quiet code s target args (Io o) no_list no_io = absurd (no_io o refl)
-is_quiet code s target args _ no_list no_io = refl
+pub is_quiet : (code : Code) (s : MachineState) (target : Option ℕ) (args : List CArg) (p : Primitive) → ((o : DictPrim) → p ≡ OfDict o → ⊥) → ((o : ListPrim) → p ≡ OfList o → ⊥) → ((o : InstancePrim) → p ≡ OfInstance o → ⊥) → ((o : IoPrim) → p ≡ Io o → ⊥) → primitive_step true s code target args p ≡ quiet_step code target args p s
+is_quiet code s target args (OfDict o) no_dict no_list no_instance no_io = absurd (no_dict o refl)
+is_quiet code s target args (OfList o) no_dict no_list no_instance no_io = absurd (no_list o refl)
+is_quiet code s target args (OfInstance o) no_dict no_list no_instance no_io = absurd (no_instance o refl)
+is_quiet code s target args (Io o) no_dict no_list no_instance no_io = absurd (no_io o refl)
+is_quiet code s target args _ no_dict no_list no_instance no_io = refl
 
 -- the line that comes next
 pub no_line : (code : Code) (old : State) → line_at code (frame_of old.top) ≡ None → Leads (step.step code) (Some (ending.Fault fault.Kind)) old old
@@ -234,6 +240,11 @@ module _ (code : Code) (g : CFunc) (line : Line) (x : Option ℕ) (name : List �
       ∙ callee_step rest old code x name args (primitive_named name) k (callee_is (Some k) e)
       ∙ ap (λ a. callee_called code x a k (state_of rest old)) (sym same))
       h
+
+-- a line that calls a method makes no object
+pub line_calls : (code : Code) (line as_is : Line) (does : MachineState → Next) (ending : Option Ending) (old new : State) → line ≡ as_is → ((rest : Rest) → step.step_at true code (state_of rest old) (Some as_is) ≡ does (state_of rest old)) → Follows does ending old new → Leads (λ s. step.step_at true code s (Some line)) ending old new
+line_calls code line as_is does ending old new is same h =
+    quiet does (λ s. step.step_at true code s (Some line)) ending old new (λ rest. ap (λ l. step.step_at true code (state_of rest old) (Some l)) is ∙ same rest) h
 
 -- ---- a reference that is given up
 none_owned : (s : MachineState) (c n : ℕ) (go : Next) → nat_lt 0 n ≡ false → if_any true s n go ≡ Ends (Faulted fault.NotOwned) s

@@ -3,22 +3,23 @@ use Rattle.std.proofs.Common.{◌≡◌, refl, sym, ◌∙◌, ap, ℕ, zero, su
 use Rattle.std.specs.Prelude.{slice_set}
 use Rattle.std.specs.Option.{option_and_then}
 use Rattle.c_core.specs.declared.code.Line.{Line}
-use Rattle.c_core.specs.declared.code.Line.TheVariants.{Label, Move, Lit, Call, Goto, If, IfError, Turn, Return, Inc, Dec, XDec}
+use Rattle.c_core.specs.declared.code.Line.TheVariants.{Label, Move, Lit, Call, Virtual, TraitCall, Goto, If, IfError, Turn, Return, Inc, Dec, XDec}
 use Rattle.c_core.specs.declared.code.CArg.{CArg}
+use Rattle.c_core.specs.declared.code.CClass.{CClass}
 use Rattle.c_core.specs.declared.code.Code.{Code}
 use Rattle.c_core.specs.declared.fault.Fault.{Fault}
 use Rattle.c_core.specs.declared.fault.Fault.TheVariants as fault
 use Rattle.c_core.specs.declared.primitive.Primitive.{Primitive}
 use Rattle.c_core.specs.Arguments.{stolen}
 use Rattle.c_core.specs.Cells.{refill}
-use Rattle.c_core.specs.Functions.{function_named}
+use Rattle.c_core.specs.Functions.{function_named, method_at, trait_method_at}
 use Rattle.c_core.specs.Ledgers.{Ledger, more_of}
 use Rattle.c_core.specs.Laws.{Reaches, Here, There}
 use Rattle.c_core.specs.Machine.{Word, BigInt, ObjectCell, Content, StrCell, Frame, MachineState, refs_of, set_refs}
 use Rattle.c_core.specs.Primitives.{row_of, primitive_named}
-use Rattle.c_core.specs.Step.{Next, Goes, Ends, Faulted, Effect, Wrong, Says, Shares, Makes, Changes, Writes, Stores, Fails, Pends, Catches, MakesInt, Reads, Skips, Stops, with_cells, with_items, shared, raise, own, effect, with_ledger, with_target, next_line, literal_word, equals_error, kind_of, label_at, applied, given, made_cell, made_int, call_step, turned, if_return, if_result, if_none_left, step_at, line_at, step}
+use Rattle.c_core.specs.Step.{Next, Goes, Ends, Faulted, Effect, Wrong, Says, Shares, Lends, Makes, Changes, Writes, Stores, Fails, Pends, Catches, MakesInt, Reads, Skips, Stops, with_cells, with_items, shared, raise, own, effect, with_ledger, with_target, next_line, literal_word, equals_error, kind_of, label_at, applied, given, made_cell, made_int, call_step, method_called, turned, if_return, if_result, if_none_left, step_at, line_at, step}
 use Rattle.c_core.specs.Run.{Stop, go_on}
-use Rattle.c_core.proofs.StepCases.{at_some, at_calm, at_word, at_there, at_called, at_function, at_jumped, at_chosen, at_incremented, at_decremented, at_decremented_if_set, at_order, at_ended, at_result}
+use Rattle.c_core.proofs.StepCases.{at_some, at_calm, at_word, at_there, at_called, at_function, at_method, at_jumped, at_chosen, at_incremented, at_decremented, at_decremented_if_set, at_order, at_ended, at_result}
 
 -- ---- a step
 pub record Keeps (s t : MachineState) : Type 0 where
@@ -62,6 +63,7 @@ module _ (s : MachineState) where
   applied_on x l gone Wrong = refl
   applied_on x l gone (Says w) = answered_on x w (given true s gone (with_ledger l s)) refl
   applied_on x l gone (Shares w) = answered_on x w (given true s gone (shared w (with_ledger l s))) (shared_output w (with_ledger l s))
+  applied_on x l gone (Lends w) = answered_on x w (given true s gone (with_ledger l s)) refl
   applied_on x l gone (Makes content) = made_on x content (with_ledger l s) refl
   applied_on x l gone (Changes c content w up) =
       answered_on x w (given true s up (with_cells (refill content c s.cells) (with_ledger (more_of (refs_of w) l) s))) refl
@@ -95,6 +97,10 @@ module _ (s : MachineState) where
   call_on code x name args None =
       at_function true s To bad code x args (function_named code.funcs name) (λ f g e is ws. record { more = []; grown = sym (append-nil s.output) })
 
+  method_on : (code : Code) (x o : ℕ) (args : List ℕ) (entry : CClass → Option (List ℕ)) → To (method_called true s code x o args entry)
+  method_on code x o args entry =
+      at_method true s To bad code x o args entry (λ a f g e is ws. record { more = []; grown = sym (append-nil s.output) })
+
   jump_on : (code : Code) (n : ℕ) → To (step_at true code s (Some (Goto n)))
   jump_on code n = at_jumped true s To bad (label_at code s.top n) (λ q e. record { more = []; grown = sym (append-nil s.output) })
 
@@ -107,6 +113,8 @@ module _ (s : MachineState) where
       at_some true s To bad fault.Kind (option_and_then (λ k. literal_word k l) (kind_of code s.top x)) _
       (λ w e. record { more = []; grown = sym (append-nil s.output) })
   step_on code (Some (Call x name args)) = call_on code x name args (primitive_named name)
+  step_on code (Some (Virtual x o n args)) = method_on code x o args (method_at n)
+  step_on code (Some (TraitCall x o t n args)) = method_on code x o args (trait_method_at t n)
   step_on code (Some (Goto n)) = jump_on code n
   step_on code (Some (If x n m)) =
       at_word true s To bad x _

@@ -8,16 +8,22 @@ use Rattle.std.proofs.lemmas.Bool.Decides.{same_from_decides}
 use Rattle.std.proofs.lemmas.Slice.Eq.{bytes_eq-Decides}
 use Rattle.std.proofs.lemmas.List.{take_more, length-take-le, map-append}
 use Rattle.c_core.specs.declared.code.CArg.{CArg}
+use Rattle.c_core.specs.declared.code.CArg.TheVariants as arg
+use Rattle.c_core.specs.declared.code.CClass.{CClass}
 use Rattle.c_core.specs.declared.code.CFunc.{CFunc}
 use Rattle.c_core.specs.declared.code.Code.{Code}
 use Rattle.c_core.specs.declared.code.Line.{Line}
 use Rattle.c_core.specs.declared.code.Line.TheVariants.{Label, Call}
-use Rattle.c_core.specs.Functions.{is_label, labels_from, label_places, function_named}
+use Rattle.c_core.specs.Arguments.{number_of_global, number_of_class}
+use Rattle.c_core.specs.Functions.{is_label, labels_from, label_places, function_named, number_of}
 use Rattle.c_core.specs.Primitives.{primitive_named}
 use Rattle.c_runner.specs.declared.table.Callee.{Callee}
 use Rattle.c_runner.specs.declared.table.Callee.TheVariants as callee
+use Rattle.c_runner.specs.declared.table.Methods.{Methods}
+use Rattle.c_runner.specs.declared.table.Named.{Named}
+use Rattle.c_runner.specs.declared.table.Tables.{Tables}
 use Rattle.c_runner.specs.declared.table.Target.{Target}
-use Rattle.c_runner.specs.Targets.{callee_among, callee_of, global_of, target_of}
+use Rattle.c_runner.specs.Targets.{callee_among, callee_of, global_of, class_of, named_global, named_class, named_of, global_in, class_in, target_of, lines_of, functions_of, methods_of, table_of}
 
 -- ---- one element more
 next_take : {X : Type 0} (xs : List X) (i : ℕ) (x : X) → i < length xs → x ≡ get_or xs i x → take (i + 1) xs ≡ take i xs ++ x ∷ []
@@ -81,9 +87,49 @@ first_back name_of xs m n g name text o lt is next same later =
     ∙ sym (ap (position_from (λ h. bytes_eq name (name_of h)) m) here)
 
 -- ---- a line's entry
-abbrev call_target : Option Callee → Option ℕ → Target
-call_target callee global = record { first = None; second = None; callee = callee; global = global }
+abbrev call_target : Option Callee → Named → Target
+call_target callee named = record { first = None; second = None; callee = callee; named = named }
 
-pub call_line : (code : Code) (labels : List ℕ) (l : Line) (x : Option ℕ) (name : List ℕ) (args : List CArg) (callee : Option Callee) (global : Option ℕ) → l ≡ Call x name args → callee ≡ callee_of code.funcs name → global ≡ global_of code args → record { first = None; second = None; callee = callee; global = global } ≡ target_of code labels l
-call_line code labels l x name args callee global is e f =
-    ap (λ k. call_target k global) e ∙ ap (call_target (callee_of code.funcs name)) f ∙ sym (ap (target_of code labels) is)
+pub call_line : (code : Code) (labels : List ℕ) (l : Line) (x : Option ℕ) (name : List ℕ) (args : List CArg) (callee : Option Callee) (named : Named) → l ≡ Call x name args → callee ≡ callee_of code.funcs name → named ≡ named_of code args → record { first = None; second = None; callee = callee; named = named } ≡ target_of code labels l
+call_line code labels l x name args callee named is e f =
+    ap (λ k. call_target k named) e ∙ ap (call_target (callee_of code.funcs name)) f ∙ sym (ap (target_of code labels) is)
+
+-- ---- both
+pub tables : (code : Code) (lines : List (List Target)) (classes : List Methods) → lines ≡ lines_of code → classes ≡ methods_of code → record { lines = lines; classes = classes } ≡ table_of code
+tables code lines classes e is =
+    let both : List (List Target) → List Methods → Tables = λ ls ms. record { lines = ls; classes = ms } in
+    ap (λ ls. both ls classes) e ∙ ap (both (lines_of code)) is
+
+pub class_functions : (functions : List CFunc) (k : CClass) (own : List (Option ℕ)) (traits : List (List (Option ℕ))) → own ≡ map (number_of functions) k.methods → traits ≡ map (λ t. map (number_of functions) t.1) k.traits → record { own = own; traits = traits } ≡ functions_of functions k
+class_functions functions k own traits e is =
+    let both : List (Option ℕ) → List (List (Option ℕ)) → Methods = λ o ts. record { own = o; traits = ts } in
+    ap (λ o. both o traits) e ∙ ap (both (map (number_of functions) k.methods)) is
+
+-- ---- what the first argument names
+global_back : (o : Option ℕ) → global_in (named_global o) ≡ o
+global_back None = refl
+global_back (Some n) = refl
+
+class_back : (o : Option ℕ) → class_in (named_class o) ≡ o
+class_back None = refl
+class_back (Some n) = refl
+
+no_class : (o : Option ℕ) → class_in (named_global o) ≡ None
+no_class None = refl
+no_class (Some n) = refl
+
+no_global : (o : Option ℕ) → global_in (named_class o) ≡ None
+no_global None = refl
+no_global (Some n) = refl
+
+pub global_is : (code : Code) (args : List CArg) → global_in (named_of code args) ≡ global_of code args
+global_is code [] = refl
+global_is code (arg.Global name ∷ args) = global_back (number_of_global code name)
+global_is code (arg.Class name ∷ args) = no_global (number_of_class code name)
+global_is code (_ ∷ args) = refl
+
+pub class_is : (code : Code) (args : List CArg) → class_in (named_of code args) ≡ class_of code args
+class_is code [] = refl
+class_is code (arg.Global name ∷ args) = no_class (number_of_global code name)
+class_is code (arg.Class name ∷ args) = class_back (number_of_class code name)
+class_is code (_ ∷ args) = refl

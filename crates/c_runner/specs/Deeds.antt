@@ -1,5 +1,6 @@
 -- What the primitives on `int`s, texts and objects find in their arguments, and what they do.
 use Rattle.std.specs.Prelude.{ℕ, ℤ, pos, Bool, true, false, not, cond, int_lt, nat_lt, ◌&&◌, ◌==◌, List, [], ◌++◌, length, Option, Some, None, Result, Ok, Err, slice_get}
+use Rattle.std.specs.Prelude.{is_some}
 use Rattle.std.specs.Fmt.{signed_decimal}
 use Rattle.std.specs.Ordering.{int_eq}
 use Rattle.std.specs.Str.{bytes_eq}
@@ -11,6 +12,8 @@ use Rattle.value_core.specs.Exceptions.{thrown}
 use Rattle.c_core.specs.declared.code.CArg.{CArg}
 use Rattle.c_core.specs.declared.fault.Fault.{Fault}
 use Rattle.c_core.specs.declared.fault.Fault.TheVariants as fault
+use Rattle.c_core.specs.Keys.{key_of, key_place}
+use Rattle.c_core.specs.Step.{of_key, value_at, sized, key_at}
 use Rattle.c_core.specs.declared.primitive.TaggedPrim.{TaggedPrim}
 use Rattle.c_core.specs.declared.primitive.TaggedPrim.TheVariants as tagged
 use Rattle.c_core.specs.declared.primitive.BoolPrim.{BoolPrim}
@@ -21,11 +24,11 @@ use Rattle.c_core.specs.declared.primitive.StrPrim.{StrPrim}
 use Rattle.c_core.specs.declared.primitive.StrPrim.TheVariants as str
 use Rattle.c_core.specs.Cells.{Cells, content_at}
 use Rattle.c_core.specs.Machine.{Word, ShortInt, BigInt, CharWord, ObjectCell, NoneObject, TrueObject, FalseObject, Content, IntCell, StrCell, MachineState}
-use Rattle.c_core.specs.Step.{Next, Ends, Faulted, Effect, Wrong, Says, Shares, Makes, MakesInt, Fails, applied, truth_word, truth_object, truth_text, tagged_effect, tagged_or, fitted, native_in, unboxed, item_at, part_at, item_or}
+use Rattle.c_core.specs.Step.{Next, Ends, Faulted, Effect, Wrong, Says, Shares, Lends, Makes, MakesInt, Fails, applied, truth_word, truth_object, truth_text, tagged_effect, tagged_or, fitted, native_in, unboxed, item_at, part_at, item_or, lent}
 use Rattle.c_core.specs.Strings.{counted_length, text_less, text_length, text_item}
 use Rattle.c_runner.specs.declared.deed.Deed.{Deed}
 use Rattle.c_runner.specs.declared.deed.Deed.TheVariants as deed
-use Rattle.c_runner.specs.Objects.{word_at, boxed_at, list_at, tuple_at, any_at, written_number}
+use Rattle.c_runner.specs.Objects.{word_at, boxed_at, list_at, dict_at, key_argument, tuple_at, instance_at, any_at, written_number}
 use Rattle.c_runner.specs.Parts.{one_native, one_char, only_text}
 use Rattle.cell_heap.specs.Contents as contents
 
@@ -89,6 +92,9 @@ one_boxed cells vars args = alone (boxed_at cells vars (slice_get args 0)) (leng
 abbrev pub one_list : Cells Content → List Word → List CArg → Result (ℕ × List Word) Fault
 one_list cells vars args = alone (list_at cells vars (slice_get args 0)) (length args)
 
+abbrev pub one_dict : Cells Content → List Word → List CArg → Result (ℕ × List (Word × Word)) Fault
+one_dict cells vars args = alone (dict_at cells vars (slice_get args 0)) (length args)
+
 abbrev pub one_tuple : Cells Content → List Word → List CArg → Result (ℕ × List Word) Fault
 one_tuple cells vars args = alone (tuple_at cells vars (slice_get args 0)) (length args)
 
@@ -99,13 +105,25 @@ one_object cells vars args = alone (any_at cells vars (slice_get args 0)) (lengt
 abbrev pub list_and_int : Cells Content → List Word → List CArg → Result ((ℕ × List Word) × ℤ) Fault
 list_and_int cells vars args = paired (list_at cells vars (slice_get args 0)) (int_at cells vars (slice_get args 1)) (length args)
 
+-- a dict and a key, a dict and an `int`
+abbrev pub dict_and_key : Cells Content → List Word → List CArg → Result ((ℕ × List (Word × Word)) × Word) Fault
+dict_and_key cells vars args = paired (dict_at cells vars (slice_get args 0)) (key_argument cells vars (slice_get args 1)) (length args)
+
+abbrev pub dict_and_int : Cells Content → List Word → List CArg → Result ((ℕ × List (Word × Word)) × ℤ) Fault
+dict_and_int cells vars args = paired (dict_at cells vars (slice_get args 0)) (int_at cells vars (slice_get args 1)) (length args)
+
 abbrev pub tuple_and_number : Cells Content → List Word → List CArg → Result ((ℕ × List Word) × ℤ) Fault
 tuple_and_number cells vars args = paired (tuple_at cells vars (slice_get args 0)) (written_number (slice_get args 1)) (length args)
+
+-- an instance, with its class and its attributes, and a place that is written
+abbrev pub instance_and_place : Cells Content → List Word → List CArg → Result ((ℕ × (ℕ × List (Option Word))) × ℤ) Fault
+instance_and_place cells vars args = paired (instance_at cells vars (slice_get args 0)) (written_number (slice_get args 1)) (length args)
 
 -- ---- what is done
 abbrev pub effect_of : Deed → Effect
 effect_of (deed.Says w) = Says (contents.word_of w)
 effect_of (deed.Shares w) = Shares (contents.word_of w)
+effect_of (deed.Lends w) = Lends (contents.word_of w)
 effect_of (deed.MakesInt n) = MakesInt n
 effect_of (deed.MakesNumber n) = Makes (IntCell n)
 effect_of (deed.MakesText text) = Makes (StrCell text)
@@ -128,6 +146,10 @@ then_tried f (Err why) = Err why
 -- what is done, or why the run faults, as the runner and as the machine has it
 abbrev pub done_by : Result Deed Fault → Result Effect Fault
 done_by outcome = then_done effect_of outcome
+
+-- what is read is lent
+abbrev pub lent_done : Result Effect Fault → Result Effect Fault
+lent_done d = then_done lent d
 
 abbrev pub performed : Option ℕ → Result Effect Fault → MachineState → Next
 performed target (Ok e) s = applied true s target s.top.ledger [] e
@@ -233,6 +255,26 @@ list_item_done cells vars args = then_done (λ q. item_at (place_of (length q.0.
 
 abbrev pub list_length_done : Cells Content → List Word → List CArg → Result Effect Fault
 list_length_done cells vars args = then_done (λ q. tagged_effect (pos (counted_length (length q.1)))) (one_list cells vars args)
+
+-- the value of a key in a dict and whether it has the key, whether it has as many pairs as before, the key at a place and the number of
+-- pairs
+abbrev pub dict_item_done : Cells Content → List Word → List CArg → Result Effect Fault
+dict_item_done cells vars args =
+    then_done (λ q. of_key (λ k. value_at k (key_place cells k q.0.1) q.0.1) (key_of cells q.1)) (dict_and_key cells vars args)
+
+abbrev pub dict_contains_done : Cells Content → List Word → List CArg → Result Effect Fault
+dict_contains_done cells vars args =
+    then_done (λ q. of_key (λ k. Says (truth_word (is_some (key_place cells k q.0.1)))) (key_of cells q.1)) (dict_and_key cells vars args)
+
+abbrev pub dict_size_done : Cells Content → List Word → List CArg → Result Effect Fault
+dict_size_done cells vars args =
+    then_done (λ q. sized (int_eq (pos (counted_length (length q.0.1))) q.1)) (dict_and_int cells vars args)
+
+abbrev pub dict_key_done : Cells Content → List Word → List CArg → Result Effect Fault
+dict_key_done cells vars args = then_done (λ q. key_at q.0.1 q.1) (dict_and_int cells vars args)
+
+abbrev pub dict_length_done : Cells Content → List Word → List CArg → Result Effect Fault
+dict_length_done cells vars args = then_done (λ q. tagged_effect (pos (counted_length (length q.1)))) (one_dict cells vars args)
 
 abbrev pub tuple_item_done : Cells Content → List Word → List CArg → Result Effect Fault
 tuple_item_done cells vars args = then_done (λ q. part_at q.0.1 q.1) (tuple_and_number cells vars args)

@@ -9,7 +9,10 @@ pub mod Parts
 pub mod Targets
 pub mod Deeds
 pub mod Objects
+pub mod Dicts
 pub mod Lists
 pub mod Tuples
+pub mod Instances
+pub mod Methods
 pub mod Waiting
 pub mod Advancing

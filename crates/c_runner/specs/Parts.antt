@@ -46,10 +46,14 @@ unless_fault (Some f) s next = Ends (Faulted f) s
 -- what a line does that calls nothing, and a primitive that makes no object and asks for no line of the input
 abbrev pub plain_step : Code → MachineState → Line → Next
 plain_step code s (line.Call target name args) = faulted true s fault.Kind
+plain_step code s (line.Virtual x o n args) = faulted true s fault.Kind
+plain_step code s (line.TraitCall x o t n args) = faulted true s fault.Kind
 plain_step code s other = step_at true code s (Some other)
 
 abbrev pub quiet_step : Code → Option ℕ → List CArg → Primitive → MachineState → Next
+quiet_step code target args (prim.Dict operation) s = faulted true s fault.Kind
 quiet_step code target args (prim.List operation) s = faulted true s fault.Kind
+quiet_step code target args (prim.Instance operation) s = faulted true s fault.Kind
 quiet_step code target args (prim.Io operation) s = faulted true s fault.Kind
 quiet_step code target args p s = primitive_step true s code target args p
 

@@ -1,9 +1,14 @@
-//! The arguments of primitives on objects: a number, a list or a tuple that stands in a cell, or any object.
-ghost use Rattle.std.specs.Prelude.{◌≡◌, Ok, Err, map, MatchResult};
+//! The arguments of primitives on objects: a number, a list, a dict, a tuple or an instance that stands in a cell,
+//! or any object.
+ghost use Rattle.std.specs.Prelude.{◌≡◌, Ok, Err, map, slice_get, MatchResult};
 ghost use Rattle.std.specs.Option.{option_copied};
-ghost use Rattle.c_runner.specs.Deeds.{one_boxed, one_list, one_tuple, one_object, list_and_int, tuple_and_number};
-ghost use Rattle.c_runner.specs.Objects.{word_at, cell_of, boxed_at, list_at, tuple_at, any_at, written_number};
+ghost use Rattle.c_runner.specs.Deeds.{one_boxed, one_list, one_tuple, one_object, list_and_int, tuple_and_number, instance_and_place};
+ghost use Rattle.c_runner.specs.Objects.{word_at, cell_of, boxed_at, list_at, tuple_at, instance_in, instance_at, object_of, any_at, written_number};
+ghost use Rattle.c_runner.specs.States.{held_of};
 ghost use Rattle.cell_heap.specs.Contents.{number_of, word_of};
+ghost use Rattle.cell_heap.specs.Contents.{pair_of};
+ghost use Rattle.c_runner.specs.Deeds.{one_dict, dict_and_key, dict_and_int};
+ghost use Rattle.c_runner.specs.Objects.{dict_at};
 
 use crate::state::State;
 use c_core::{CArg, Fault, Kind};
@@ -31,6 +36,19 @@ impl State {
             (λ why. one_list self.now.cells (map word_of self.now.top.vars) args.now ≡ Err why) }
     {
         let found = self.list_argument(args.first())?;
+        if args.len() > 1 {
+            return Err(Fault::Kind);
+        }
+        Ok(found)
+    }
+
+    /// The one dict that the arguments are, and its cell.
+    pub fn one_dict(&self, args: &[CArg]) -> Result<(Key, &Many<(Word, Word)>), Fault>
+        ensures { MatchResult result
+            (λ found. one_dict self.now.cells (map word_of self.now.top.vars) args.now ≡ Ok (number_of found.0, map pair_of found.1.now))
+            (λ why. one_dict self.now.cells (map word_of self.now.top.vars) args.now ≡ Err why) }
+    {
+        let found = self.dict_argument(args.first())?;
         if args.len() > 1 {
             return Err(Fault::Kind);
         }
@@ -78,6 +96,36 @@ impl State {
         Ok((key, items, index))
     }
 
+    /// The dict, with its cell, and the key that the arguments are.
+    pub fn dict_and_key(&self, args: &[CArg]) -> Result<(Key, &Many<(Word, Word)>, Word), Fault>
+        ensures { MatchResult result
+            (λ found. dict_and_key self.now.cells (map word_of self.now.top.vars) args.now
+            ≡ Ok ((number_of found.0, map pair_of found.1.now), word_of found.2))
+            (λ why. dict_and_key self.now.cells (map word_of self.now.top.vars) args.now ≡ Err why) }
+    {
+        let (dict, pairs) = self.dict_argument(args.first())?;
+        let key = self.key_argument(args.get(1))?;
+        if args.len() > 2 {
+            return Err(Fault::Kind);
+        }
+        Ok((dict, pairs, key))
+    }
+
+    /// The dict, with its cell, and the `int` that the arguments are.
+    pub fn dict_and_int(&self, args: &[CArg]) -> Result<(Key, &Many<(Word, Word)>, i128), Fault>
+        ensures { MatchResult result
+            (λ found. dict_and_int self.now.cells (map word_of self.now.top.vars) args.now
+            ≡ Ok ((number_of found.0, map pair_of found.1.now), found.2))
+            (λ why. dict_and_int self.now.cells (map word_of self.now.top.vars) args.now ≡ Err why) }
+    {
+        let (dict, pairs) = self.dict_argument(args.first())?;
+        let number = self.int_argument(args.get(1))?;
+        if args.len() > 2 {
+            return Err(Fault::Kind);
+        }
+        Ok((dict, pairs, number))
+    }
+
     /// The tuple, with its cell, and the number as it is written that the arguments are.
     pub fn tuple_and_number(&self, args: &[CArg]) -> Result<(Key, &Many<Word>, i64), Fault>
         ensures { MatchResult result
@@ -91,6 +139,25 @@ impl State {
             return Err(Fault::Kind);
         }
         Ok((key, parts, number))
+    }
+
+    /// The attributes of the instance, with the number of its class and its cell, and the place as it is written that the
+    /// arguments are.
+    pub fn instance_and_place(
+        &self,
+        args: &[CArg],
+    ) -> Result<(Key, usize, &Many<Option<Word>>, i64), Fault>
+        ensures { MatchResult result
+            (λ found. instance_and_place self.now.cells (map word_of self.now.top.vars) args.now
+            ≡ Ok ((number_of found.0, (found.1, map held_of found.2.now)), found.3))
+            (λ why. instance_and_place self.now.cells (map word_of self.now.top.vars) args.now ≡ Err why) }
+    {
+        let (key, class, attributes) = self.instance_argument(args.first())?;
+        let number = written_number(args.get(1))?;
+        if args.len() > 2 {
+            return Err(Fault::Kind);
+        }
+        Ok((key, class, attributes, number))
     }
 
     /// The number that stands in the cell of an argument, and the cell.
@@ -126,6 +193,26 @@ impl State {
         }
     }
 
+    /// The pairs of the dict that stands in the cell of an argument, and the cell.
+    pub fn dict_argument(
+        &self,
+        argument: Option<&CArg>,
+    ) -> Result<(Key, &Many<(Word, Word)>), Fault>
+        ensures { MatchResult result
+            (λ found. dict_at self.now.cells (map word_of self.now.top.vars) (option_copied argument.entry)
+            ≡ Ok (number_of found.0, map pair_of found.1.now))
+            (λ why. dict_at self.now.cells (map word_of self.now.top.vars) (option_copied argument.entry) ≡ Err why) }
+    {
+        let key = self.cell_argument(argument)?;
+        let Ok(content) = self.cells.content(key) else {
+            return Err(Fault::Dead);
+        };
+        match content {
+            Content::Dict(pairs) => Ok((key, pairs)),
+            _ => Err(Fault::Kind),
+        }
+    }
+
     /// The parts of the tuple that stands in the cell of an argument, and the cell.
     pub fn tuple_argument(&self, argument: Option<&CArg>) -> Result<(Key, &Many<Word>), Fault>
         ensures { MatchResult result
@@ -139,6 +226,39 @@ impl State {
         };
         match content {
             Content::Tuple(parts) => Ok((key, parts)),
+            _ => Err(Fault::Kind),
+        }
+    }
+
+    /// The attributes of the instance that stands in the cell of an argument, with the number of its class, and the cell.
+    pub fn instance_argument(
+        &self,
+        argument: Option<&CArg>,
+    ) -> Result<(Key, usize, &Many<Option<Word>>), Fault>
+        ensures { MatchResult result
+            (λ found. instance_at self.now.cells (map word_of self.now.top.vars) (option_copied argument.entry)
+            ≡ Ok (number_of found.0, (found.1, map held_of found.2.now)))
+            (λ why. instance_at self.now.cells (map word_of self.now.top.vars) (option_copied argument.entry) ≡ Err why) }
+    {
+        match argument {
+            Some(CArg::Var(x)) => self.instance_variable(*x),
+            _ => Err(Fault::Kind),
+        }
+    }
+
+    /// The same of the instance in a variable.
+    pub fn instance_variable(&self, x: usize) -> Result<(Key, usize, &Many<Option<Word>>), Fault>
+        ensures { MatchResult result
+            (λ found. object_of instance_in self.now.cells (slice_get (map word_of self.now.top.vars) x)
+            ≡ Ok (number_of found.0, (found.1, map held_of found.2.now)))
+            (λ why. object_of instance_in self.now.cells (slice_get (map word_of self.now.top.vars) x) ≡ Err why) }
+    {
+        let key = self.cell_variable(x)?;
+        let Ok(content) = self.cells.content(key) else {
+            return Err(Fault::Dead);
+        };
+        match content {
+            Content::Inst(class, attributes) => Ok((key, *class, attributes)),
             _ => Err(Fault::Kind),
         }
     }
@@ -169,10 +289,22 @@ impl State {
             _ => Err(Fault::Kind),
         }
     }
+
+    /// The key of the cell that a variable refers to as an object.
+    fn cell_variable(&self, x: usize) -> Result<Key, Fault>
+        ensures { MatchResult result
+            (λ key. cell_of (slice_get (map word_of self.now.top.vars) x) ≡ Ok (number_of key))
+            (λ why. cell_of (slice_get (map word_of self.now.top.vars) x) ≡ Err why) }
+    {
+        match self.top.vars.get(x) {
+            Some(Word::Cell(key)) => Ok(*key),
+            _ => Err(Fault::Kind),
+        }
+    }
 }
 
 /// The number that is written as an argument.
-fn written_number(argument: Option<&CArg>) -> Result<i64, Fault>
+pub(crate) fn written_number(argument: Option<&CArg>) -> Result<i64, Fault>
     ensures { result ≡ written_number (option_copied argument.entry) }
 {
     match argument {

@@ -11,39 +11,40 @@ ghost use Rattle.c_core.specs.Primitives.{row_of};
 ghost use Rattle.c_core.specs.Step.{Next, Goes, Makes, Fails, with_target, next_line, if_some, if_may_stand, faulted, applied, primitive_step, called};
 ghost use Rattle.c_runner.specs.Parts.{written, one_char, quiet_step};
 ghost use Rattle.c_runner.specs.States.{Rest, Follows, IsSmall, state_of, next_of};
-ghost use Rattle.c_runner.specs.Targets.{global_of};
+ghost use Rattle.c_runner.specs.Targets.{named_of};
 ghost use Rattle.c_runner.specs.Waiting.{Steps};
 ghost use Rattle.cell_heap.specs.Contents.{word_of, content_of};
 
 use crate::pause::Pause;
 use crate::report::Ending;
 use crate::state::State;
+use crate::table::Named;
 use c_core::{CArg, Code, ErrPrim, Fault, IoPrim, Prim};
 use cell_heap::{Content, Word};
 use std::alloc::Global;
 use value_core::{ExcClass, Memory, Text};
 
 impl State {
-    /// Calls a primitive, whose first argument may name the global of a number. While an exception is pending only some may
-    /// be called.
+    /// Calls a primitive, whose first argument may name a global or a class. While an exception is pending only some may be
+    /// called.
     pub fn call_primitive(
         &mut self,
         alloc: Global,
         code: &Code,
         primitive: Prim,
-        global: Option<usize>,
+        named: Named,
         target: Option<usize>,
         args: &[CArg],
     ) -> Result<Option<Ending>, Pause>
         requires small { IsSmall self.old }
         requires place { self.old.top.place + 1 < 2 ^ 64 }
-        requires global { global ≡ global_of code.now args.now }
+        requires named { named ≡ named_of code.now args.now }
         ensures { Steps (λ s. called true s code.now target args.now primitive) result self.old self.new }
     {
         if !self.may_stand(primitive) {
             return Ok(Some(Ending::Fault(Fault::Kind)));
         }
-        self.perform(alloc, code, primitive, global, target, args)
+        self.perform(alloc, code, primitive, named, target, args)
     }
 
     /// Whether a primitive may be called now.
@@ -64,19 +65,23 @@ impl State {
         alloc: Global,
         code: &Code,
         primitive: Prim,
-        global: Option<usize>,
+        named: Named,
         target: Option<usize>,
         args: &[CArg],
     ) -> Result<Option<Ending>, Pause>
         requires small { IsSmall self.old }
         requires place { self.old.top.place + 1 < 2 ^ 64 }
-        requires global { global ≡ global_of code.now args.now }
+        requires named { named ≡ named_of code.now args.now }
         ensures { Steps (λ s. primitive_step true s code.now target args.now primitive) result self.old self.new }
     {
         match primitive {
+            Prim::Dict(operation) => Ok(self.call_dict(alloc, operation, target, args)?),
             Prim::List(operation) => Ok(self.call_list(alloc, operation, target, args)?),
+            Prim::Instance(operation) => {
+                Ok(self.call_instance(alloc, code, operation, named.class(), target, args)?)
+            }
             Prim::Io(operation) => self.call_io(operation, target, args),
-            _ => Ok(self.perform_quietly(alloc, code, primitive, global, target, args)?),
+            _ => Ok(self.perform_quietly(alloc, code, primitive, named, target, args)?),
         }
     }
 
@@ -86,13 +91,13 @@ impl State {
         alloc: Global,
         code: &Code,
         primitive: Prim,
-        global: Option<usize>,
+        named: Named,
         target: Option<usize>,
         args: &[CArg],
     ) -> Result<Option<Ending>, Memory>
         requires small { IsSmall self.old }
         requires place { self.old.top.place + 1 < 2 ^ 64 }
-        requires global { global ≡ global_of code.now args.now }
+        requires named { named ≡ named_of code.now args.now }
         ensures { IfOk result (λ ending. Follows
             (quiet_step code.now target args.now primitive) ending self.old self.new) }
     {
@@ -102,13 +107,17 @@ impl State {
             Prim::Bool(operation) => self.call_bool(alloc, operation, target, args),
             Prim::Object(operation) => self.call_object(operation, target, args),
             Prim::Str(operation) => self.call_str(alloc, operation, target, args),
+            Prim::Dict(_) => Ok(Some(Ending::Fault(Fault::Kind))),
             Prim::Tuple(operation) => self.call_tuple(alloc, operation, target, args),
+            Prim::Attr(operation) => self.call_attribute(alloc, code, operation, target, args),
             Prim::Global(operation) => {
-                self.call_global(alloc, code, operation, global, target, args)
+                self.call_global(alloc, code, operation, named.global(), target, args)
             }
             Prim::Exc(operation) => self.call_exception(operation, target, args),
             Prim::Err(operation) => self.call_error(alloc, operation, target, args),
-            Prim::List(_) | Prim::Io(_) => Ok(Some(Ending::Fault(Fault::Kind))),
+            Prim::List(_) | Prim::Instance(_) | Prim::Io(_) => {
+                Ok(Some(Ending::Fault(Fault::Kind)))
+            }
         }
     }
 

@@ -1,8 +1,9 @@
 //! What primitives do, once their arguments were found right.
-ghost use Rattle.std.specs.Prelude.{◌+◌, ◌^◌, ◌<◌, true, [], IfOk};
+ghost use Rattle.std.specs.Prelude.{◌≡◌, ◌+◌, ◌^◌, ◌<◌, true, [], IfOk};
 ghost use Rattle.c_core.specs.Machine.{IntCell};
+ghost use Rattle.c_core.specs.Step as machine_step;
 ghost use Rattle.c_core.specs.Step.{Makes, MakesInt, applied};
-ghost use Rattle.c_runner.specs.Deeds.{done_by, performed};
+ghost use Rattle.c_runner.specs.Deeds.{effect_of, done_by, lent_done, performed};
 ghost use Rattle.c_runner.specs.States.{Follows, IsSmall};
 
 use crate::report::Ending;
@@ -18,6 +19,8 @@ pub(crate) enum Deed {
     Says(Word),
     /// Answers a word, and takes one reference more to its cell, if it has one.
     Shares(Word),
+    /// Answers a word, whose reference stays where it is.
+    Lends(Word),
     /// Answers an `int`, in a new cell.
     MakesInt(i128),
     /// Answers an object, a number in a new cell.
@@ -45,6 +48,7 @@ impl State {
             Err(fault) => Ok(Some(Ending::Fault(fault))),
             Ok(Deed::Says(word)) => Ok(self.answer(target, Some(word))),
             Ok(Deed::Shares(word)) => self.share(target, word),
+            Ok(Deed::Lends(word)) => Ok(self.answer(target, Some(word))),
             Ok(Deed::MakesInt(number)) => self.make_int(target, number),
             Ok(Deed::MakesNumber(number)) => self.make_number(target, number),
             Ok(Deed::MakesText(text)) => self.make_cell(target, Content::Str(text)),
@@ -79,5 +83,25 @@ impl State {
             (λ s. applied true s target s.top.ledger [] (Makes (IntCell number))) ending self.old self.new) }
     {
         self.make_cell(target, Content::Int(number))
+    }
+}
+
+/// Lends what is read.
+pub(crate) fn lent(deed: Result<Deed, Fault>) -> Result<Deed, Fault>
+    ensures { done_by result ≡ lent_done (done_by deed) }
+{
+    match deed {
+        Err(fault) => Err(fault),
+        Ok(deed) => Ok(lend(deed)),
+    }
+}
+
+/// Lends what a deed shares.
+fn lend(deed: Deed) -> Deed
+    ensures { effect_of result ≡ machine_step.lent (effect_of deed) }
+{
+    match deed {
+        Deed::Shares(word) => Deed::Lends(word),
+        other => other,
     }
 }

@@ -1,11 +1,12 @@
 //! Calls of functions, and returns from them. The frames that wait stand in a list, the innermost last.
 ghost use Rattle.std.specs.Prelude.{◌≡◌, ◌≢◌, ℕ, ◌+◌, ◌^◌, ◌<◌, true, cond, List, [], ◌++◌, Some, None, map, take, drop, IfOk, OnOk};
+ghost use Rattle.c_core.specs.declared.code.CArg.TheVariants as machine_arg;
 ghost use Rattle.c_core.specs.declared.fault.Fault.TheVariants as fault;
 ghost use Rattle.c_core.specs.Arguments as arguments;
-ghost use Rattle.c_core.specs.Functions.{error_word};
+ghost use Rattle.c_core.specs.Functions.{error_word, entry_words};
 ghost use Rattle.c_core.specs.Machine as machine;
 ghost use Rattle.c_core.specs.Step as machine_step;
-ghost use Rattle.c_core.specs.Step.{Next, function_called, returned, if_passed, if_in_order, if_result, if_none_left, if_ended, Ends, Ended, Faulted};
+ghost use Rattle.c_core.specs.Step.{Next, function_called, entered, returned, if_passed, if_in_order, if_result, if_none_left, if_ended, Ends, Ended, Faulted};
 ghost use Rattle.c_runner.specs.Parts.{is_there, if_argument, passed_on, unless_fault, waits_for, handed_back};
 ghost use Rattle.c_runner.specs.States.{Rest, Follows, IsSmall, state_of, next_of};
 ghost use Rattle.cell_heap.specs.Contents.{number_of, word_of};
@@ -44,17 +45,33 @@ impl State {
         match self.pass(parameters(function), args, &mut vars)? {
             Some(fault) => Ok(Some(Ending::Fault(fault))),
             None => {
-                push_error_values(&mut vars, other_vars(function))?;
-                self.wait_for(Frame {
-                    func,
-                    place: 0,
-                    vars,
-                    ledger: Ledger::new(alloc),
-                    into: target,
-                })?;
+                self.begin(alloc, func, function, target, vars)?;
                 Ok(None)
             }
         }
+    }
+
+    /// Lets a function begin with what it is passed. The frame that ran waits for it at the line behind the call.
+    pub fn begin(
+        &mut self,
+        alloc: Global,
+        func: usize,
+        function: &CFunc,
+        target: Option<usize>,
+        mut vars: Many<Word>,
+    ) -> Result<(), Memory>
+        requires { self.old.top.place + 1 < 2 ^ 64 }
+        ensures { OnOk result ((rest : Rest) →
+            state_of rest self.new ≡ entered true (state_of rest self.old) target func (entry_words (map word_of vars) function.now)) }
+    {
+        push_error_values(&mut vars, other_vars(function))?;
+        self.wait_for(Frame {
+            func,
+            place: 0,
+            vars,
+            ledger: Ledger::new(alloc),
+            into: target,
+        })
     }
 
     /// Lets a frame run, for which the one that ran waits at its next line.
@@ -103,10 +120,21 @@ impl State {
         ensures value { IfOk result (λ word. arguments.is_value_of kind (word_of word) ≡ true) }
         ensures there { IfOk result (λ word. is_there self.now.cells (word_of word) ≡ true) }
     {
-        let CArg::Var(x) = argument else {
-            return Err(Fault::Kind);
-        };
-        let Some(word) = self.top.vars.get(*x) else {
+        match argument {
+            CArg::Var(x) => self.passed_variable(kind, *x),
+            _ => Err(Fault::Kind),
+        }
+    }
+
+    /// The word that a variable passes to a parameter of a kind.
+    pub fn passed_variable(&self, kind: Kind, x: usize) -> Result<Word, Fault>
+        ensures passed { (rest : Rest) (go : machine.Word → Next) →
+            if_argument (state_of rest self.now) kind (machine_arg.Var x) go
+            ≡ passed_on result (state_of rest self.now) go }
+        ensures value { IfOk result (λ word. arguments.is_value_of kind (word_of word) ≡ true) }
+        ensures there { IfOk result (λ word. is_there self.now.cells (word_of word) ≡ true) }
+    {
+        let Some(word) = self.top.vars.get(x) else {
             return Err(Fault::Kind);
         };
         let word = *word;
@@ -262,7 +290,7 @@ impl State {
 }
 
 /// The parameters of a function, which are the first of its variables.
-fn parameters(function: &CFunc) -> &[(Name, Kind)]
+pub(crate) fn parameters(function: &CFunc) -> &[(Name, Kind)]
     ensures { result.now ≡ take function.now.params function.now.vars }
 {
     let vars = function.vars.as_slice();

@@ -12,6 +12,7 @@ ghost use Rattle.c_runner.specs.Parts.{left_by};
 ghost use Rattle.c_runner.specs.States.{Rest, Follows, Leads, IsSmall, state_of};
 ghost use Rattle.cell_heap.specs.Contents.{number_of, word_of};
 
+use crate::deed::lent;
 use crate::report::Ending;
 use crate::state::State;
 use crate::stolen::give_word;
@@ -48,6 +49,10 @@ impl State {
             ListPrim::GetItem => {
                 let deed = self.list_item_deed(alloc, args)?;
                 self.perform_deed(target, deed)
+            }
+            ListPrim::GetItemBorrow => {
+                let deed = self.list_item_deed(alloc, args)?;
+                self.perform_deed(target, lent(deed))
             }
             ListPrim::SetItem => self.set_item(alloc, target, args),
             ListPrim::Pop => self.pop(alloc, target, args),

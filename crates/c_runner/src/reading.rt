@@ -9,18 +9,17 @@ use crate::output::Output;
 use crate::pause::Pause;
 use crate::report::{Ending, RunError};
 use crate::state::State;
-use crate::table::Target;
+use crate::table::Tables;
 use c_core::Code;
 use c_runner_lines::{Item, LineReader};
 use outside_core::{Sink, Source};
 use std::alloc::Global;
-use value_core::Many;
 
 /// Makes the next step, and reads a line of the input where it asks for one.
 pub(crate) fn advance<I: Source, O: Sink>(
     alloc: Global,
     code: &Code,
-    table: &Many<Many<Target>>,
+    table: &Tables,
     state: &mut State,
     reader: &mut LineReader,
     input: &mut I,

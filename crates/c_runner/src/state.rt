@@ -158,8 +158,8 @@ impl State {
     }
 }
 
-/// As many places as there are globals, each unset.
-fn unset(alloc: Global, globals: &[(Name, Kind)]) -> Result<Many<Option<Word>>, Memory>
+/// As many places as there are globals or attributes, each unset.
+pub(crate) fn unset(alloc: Global, globals: &[(Name, Kind)]) -> Result<Many<Option<Word>>, Memory>
     ensures { IfOk result (λ places. map held_of places ≡ map (λ g. None) globals.now) }
 {
     let mut places = Many::new(alloc);

@@ -6,14 +6,14 @@ ghost use Rattle.c_core.specs.Functions.{label_places};
 ghost use Rattle.c_core.specs.Step.{Goes, literal_word, with_var, next_line, if_calm, if_some, if_there, word_of, jumped, chosen, turned, step, step_at};
 ghost use Rattle.c_runner.specs.Parts.{callee_called, plain_step, jumped_by_error, is_there};
 ghost use Rattle.c_runner.specs.States.{Follows, IsSmall};
-ghost use Rattle.c_runner.specs.Targets.{global_of, target_of, table_of};
+ghost use Rattle.c_runner.specs.Targets.{named_of, target_of, methods_of, table_of};
 ghost use Rattle.c_runner.specs.Waiting.{Steps};
 ghost use Rattle.cell_heap.specs.Contents as contents;
 
 use crate::pause::Pause;
 use crate::report::Ending;
 use crate::state::State;
-use crate::table::{Callee, Target, target_at};
+use crate::table::{Callee, Methods, Named, Tables, Target, target_at};
 use crate::words::{equals_error, of_literal};
 use c_core::{CArg, CFunc, CLit, Code, Fault, Kind, Line};
 use cell_heap::Word;
@@ -27,7 +27,7 @@ impl State {
         &mut self,
         alloc: Global,
         code: &Code,
-        table: &Many<Many<Target>>,
+        table: &Tables,
     ) -> Result<Option<Ending>, Pause>
         requires table { table.now ≡ table_of code.now }
         requires small { IsSmall self.old }
@@ -40,21 +40,23 @@ impl State {
         let Some(line) = lines.get(self.top.place) else {
             return Ok(Some(Ending::Fault(Fault::Kind)));
         };
-        let target = target_at(table, self.top.func, self.top.place);
-        self.line(alloc, code, function, line, target)
+        let target = target_at(&table.lines, self.top.func, self.top.place);
+        self.line(alloc, code, &table.classes, function, line, target)
     }
 
-    /// What a line of a function does.
+    /// What a line of a function does. The functions of the classes are known.
     fn line(
         &mut self,
         alloc: Global,
         code: &Code,
+        classes: &Many<Methods>,
         function: &CFunc,
         line: &Line,
         target: Target,
     ) -> Result<Option<Ending>, Pause>
         requires small { IsSmall self.old }
         requires place { self.old.top.place + 1 < 2 ^ 64 }
+        requires classes { classes.now ≡ methods_of code.now }
         requires function { slice_get code.now.funcs self.old.top.func ≡ Some function.now }
         requires target { target ≡ target_of code.now (label_places function.now.lines) line.now }
         ensures { Steps (λ s. step_at true code.now s (Some line.now)) result self.old self.new }
@@ -62,10 +64,27 @@ impl State {
         match line {
             Line::Call(x, _, args) => match target.callee {
                 None => Ok(Some(Ending::Fault(Fault::Kind))),
-                Some(callee) => {
-                    self.call(alloc, code, callee, target.global, *x, args.as_slice())
-                }
+                Some(callee) => self.call(alloc, code, callee, target.named, *x, args.as_slice()),
             },
+            Line::Virtual(x, object, number, args) => Ok(self.call_own_method(
+                alloc,
+                code,
+                classes,
+                *x,
+                *object,
+                *number,
+                args.as_slice(),
+            )?),
+            Line::TraitCall(x, object, name, number, args) => Ok(self.call_trait_method(
+                alloc,
+                code,
+                classes,
+                *x,
+                *object,
+                name.as_str(),
+                *number,
+                args.as_slice(),
+            )?),
             _ => Ok(self.plain_line(code, function, line, target)?),
         }
     }
@@ -88,7 +107,9 @@ impl State {
             Line::Label => Ok(self.go_on()),
             Line::Move(x, y) => Ok(self.copy(*x, *y)),
             Line::Lit(x, literal) => Ok(self.assign(kind_of(function, *x), *x, *literal)),
-            Line::Call(_, _, _) => Ok(Some(Ending::Fault(Fault::Kind))),
+            Line::Call(_, _, _) | Line::Virtual(_, _, _, _) | Line::TraitCall(_, _, _, _, _) => {
+                Ok(Some(Ending::Fault(Fault::Kind)))
+            }
             Line::Goto(_) => Ok(self.jump(target.first)),
             Line::If(x, _, _) => Ok(self.choose(*x, target.first, target.second)),
             Line::IfError(x, _, _) => Ok(self.choose_by_error(*x, target.first, target.second)),
@@ -100,24 +121,24 @@ impl State {
         }
     }
 
-    /// Calls a primitive, whose first argument may name a global, or a function.
+    /// Calls a primitive, whose first argument may name a global or a class, or a function.
     fn call(
         &mut self,
         alloc: Global,
         code: &Code,
         callee: Callee,
-        global: Option<usize>,
+        named: Named,
         target: Option<usize>,
         args: &[CArg],
     ) -> Result<Option<Ending>, Pause>
         requires small { IsSmall self.old }
         requires place { self.old.top.place + 1 < 2 ^ 64 }
-        requires global { global ≡ global_of code.now args.now }
+        requires named { named ≡ named_of code.now args.now }
         ensures { Steps (callee_called code.now target args.now callee) result self.old self.new }
     {
         match callee {
             Callee::Primitive(primitive) => {
-                self.call_primitive(alloc, code, primitive, global, target, args)
+                self.call_primitive(alloc, code, primitive, named, target, args)
             }
             Callee::Function(func) => Ok(self.enter(alloc, code, func, target, args)?),
         }
@@ -244,7 +265,7 @@ impl State {
 }
 
 /// The kind of a variable, if there is one of this number.
-fn kind_of(function: &CFunc, x: usize) -> Option<Kind>
+pub(crate) fn kind_of(function: &CFunc, x: usize) -> Option<Kind>
     ensures { result ≡ option_map (λ v. v.1) (slice_get function.now.vars x) }
 {
     function.vars.get(x).map(|var| var.1)

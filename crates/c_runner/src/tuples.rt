@@ -13,6 +13,7 @@ ghost use Rattle.c_runner.specs.States.{Rest, Follows, IsSmall, state_of};
 ghost use Rattle.c_runner.specs.Tuples.{pack_parameters, AreObjects, AreOwned, lost_all, all_stolen_or};
 ghost use Rattle.cell_heap.specs.Contents.{word_of};
 
+use crate::deed::lent;
 use crate::report::Ending;
 use crate::state::{Frame, State};
 use c_core::{CArg, Fault, Kind, TuplePrim};
@@ -42,6 +43,10 @@ impl State {
             TuplePrim::GetItem => {
                 let deed = self.tuple_item_deed(args);
                 self.perform_deed(target, deed)
+            }
+            TuplePrim::GetItemBorrow => {
+                let deed = self.tuple_item_deed(args);
+                self.perform_deed(target, lent(deed))
             }
             TuplePrim::Len => {
                 let deed = self.tuple_length_deed(args);
@@ -106,7 +111,7 @@ impl State {
 
 impl Frame {
     /// Whether the reference of a word is owned beside those of other words, if it has one.
-    fn owns_beside(&self, words: &[Word], word: Word) -> bool
+    pub fn owns_beside(&self, words: &[Word], word: Word) -> bool
         ensures { AreOwned (map word_of words.now) self.now.ledger →
             result ≡ is_owned (word_of word) (lost_all (map word_of words.now) self.now.ledger) }
     {

@@ -2,9 +2,9 @@ use Rattle.std.proofs.Common.{sym, ap, ◌∙◌, true}
 use Rattle.c_core.specs.declared.primitive.Primitive.TheVariants as prim
 use Rattle.c_core.specs.declared.primitive.ListPrim.TheVariants as list
 use Rattle.c_core.specs.Step.{primitive_step}
-use Rattle.c_runner.specs.Deeds.{done_by, performed}
+use Rattle.c_runner.specs.Deeds.{done_by, lent_done, performed}
 use Rattle.c_runner.specs.States.{state_of}
-use Rattle.c_runner.proofs.DeedLemmas.{list_item_called, list_length_called}
+use Rattle.c_runner.proofs.DeedLemmas.{list_item_called, list_item_lent, list_length_called}
 use Rattle.c_runner.proofs.ListLemmas.{leads_as, leads_quietly, leads_alone}
 use Rattle.c_runner.proofs.state.State.call_list.Goals as goal
 
@@ -47,6 +47,20 @@ returns-in_ok-deed-in-GetItem c =
     ∙ list_item_called s c.args.target code c.args.args.now
     ∙ ap (λ d. performed c.args.target d s) (sym c.in_ok-deed-in-GetItem.ensures))
     c.perform_deed.ensures
+
+pub returns-in_ok-deed-in-GetItemBorrow : goal.returns-in_ok-deed-in-GetItemBorrow
+returns-in_ok-deed-in-GetItemBorrow c =
+    leads_alone
+    (performed c.args.target (done_by c.lent.result))
+    (λ code s. primitive_step true s code c.args.target c.args.args.now (prim.List c.args.operation))
+    c.args.self.now c.perform_deed-in-GetItemBorrow.new.self c.perform_deed-in-GetItemBorrow.result
+    (λ code rest.
+    let s = state_of rest c.args.self.now in
+    ap (λ p. primitive_step true s code c.args.target c.args.args.now (prim.List p)) c.in-GetItemBorrow.is
+    ∙ list_item_lent s c.args.target code c.args.args.now
+    ∙ ap (λ d. performed c.args.target (lent_done d) s) (sym c.in_ok-deed-in-GetItemBorrow.ensures)
+    ∙ ap (λ d. performed c.args.target d s) (sym c.lent.ensures))
+    c.perform_deed-in-GetItemBorrow.ensures
 
 pub returns-in-Len : goal.returns-in-Len
 returns-in-Len c =

@@ -22,7 +22,10 @@ line-requires-clause-target c =
     let found : slice_get c.in-Some.function.now.lines c.args.self.now.top.place ≡ Some c.in-Some-get.line.now =
     ap (λ ls. slice_get ls c.args.self.now.top.place) (sym c.as_slice-lines.ensures)
     ∙ slice_get_read c.as_slice-lines.result.now (length c.as_slice-lines.result.now) c.args.self.now.top.place c.in-Some-get.line.now refl c.in-Some-get.ensures.lookup.3.0 c.in-Some-get.ensures.lookup.1 in
-    c.target_at-target.ensures c.args.code.now c.in-Some.function.now c.in-Some-get.line.now c.requires.table (sym c.in-Some.ensures.value) found
+    c.target_at-target.ensures c.args.code.now c.in-Some.function.now c.in-Some-get.line.now (ap (λ t. t.lines) c.requires.table) (sym c.in-Some.ensures.value) found
+
+pub line-requires-clause-classes : goal.line-requires-clause-classes
+line-requires-clause-classes c = ap (λ t. t.classes) c.requires.table
 
 pub returns : goal.returns
 returns c =
