@@ -16,7 +16,7 @@ use Rattle.py_typed.specs.declared.checked.Checked.{Checked}
 use Rattle.py_typed.specs.Classes.{ClassEntry, Signature}
 use Rattle.py_typed.specs.Statements.{TypedModule}
 use Rattle.py_check_context.specs.declared.scope.Meaning.{Meaning}
-use Rattle.py_check_names.specs.declared.meanings.Known.{Known}
+use Rattle.py_check_names.specs.declared.meanings.ModuleNames.{ModuleNames}
 use Rattle.py_check_names.specs.Walked.{func_trees}
 use Rattle.py_check_names.specs.Outline.{suite_definitions}
 use Rattle.py_check_names.specs.Meanings.{variables, meaning_in, said_in, module_meaning}
@@ -26,9 +26,9 @@ use Rattle.py_check.specs.declared.checking.CheckError.TheVariants as reason
 use Rattle.py_check_definitions.specs.Definitions.{Headed, headed, headed_functions, inner_definitions_said, headers_said}
 use Rattle.py_check_definitions.specs.Globals.{global_said, all_globals, is_refusal, globals_said}
 use Rattle.py_check_definitions.specs.Views.{headed_all, said_along}
-use Rattle.py_check.specs.Module.{Environment, environment, context_in, statements_said, typed_parts, said, diagnostics, typed}
+use Rattle.py_check.specs.Module.{Environment, environment, context_by, context_in, statements_said, typed_parts, said, diagnostics, typed}
 use Rattle.py_check_definitions.specs.Views.{meanings_by, headers_said_by}
-use Rattle.py_check.specs.Parts.{environment_by, context_by}
+use Rattle.py_check.specs.Parts.{environment_by}
 use Rattle.py_check.specs.Outcome.{IsBound, Outcome, Decided}
 use Rattle.py_check_definitions.proofs.HeldLemmas.{functions_defined}
 use Rattle.py_check_definitions.proofs.DefinitionLemmas.{walk_says}
@@ -53,7 +53,7 @@ abbrev environment_with : (List ℕ → Option Meaning) → List (List ℕ) → 
 environment_with said names signatures = environment_full said names signatures []
 
 -- from the signatures and the classes
-pub environment_at : (k : Known) (fs : List Headed) (signatures : List (Option Signature)) (classes : List ClassEntry) → signatures ≡ map (λ f. signature_of f.header) fs → classes ≡ [] → environment_full (get bytes_eq k.said) k.variables.keys signatures classes ≡ environment_by k fs
+pub environment_at : (k : ModuleNames) (fs : List Headed) (signatures : List (Option Signature)) (classes : List ClassEntry) → signatures ≡ map (λ f. signature_of f.header) fs → classes ≡ [] → environment_full (get bytes_eq k.said) k.variables.keys signatures classes ≡ environment_by k fs
 environment_at k fs signatures classes signed none =
     ap (λ (l : List (Option Signature)). environment_full (get bytes_eq k.said) k.variables.keys l classes) signed
     ∙ ap (λ (l : List ClassEntry). environment_full (get bytes_eq k.said) k.variables.keys (map (λ f. signature_of f.header) fs) l) none
@@ -72,7 +72,7 @@ three_told d0 d1 d2 d3 a b c e a2 b2 g2 first second third x y z =
 
 -- ---- what is known of a module's names
 
-module _ (m : Suite) (s : Scopes) (bound : IsBound m s) (k : Known) (found : (name : List ℕ) → get bytes_eq k.said name ≡ said_in m name) (names : k.variables.keys ≡ variables s.top) where
+module _ (m : Suite) (s : Scopes) (bound : IsBound m s) (k : ModuleNames) (found : (name : List ℕ) → get bytes_eq k.said name ≡ said_in m name) (names : k.variables.keys ≡ variables s.top) where
   same_names : k.variables.keys ≡ variables (module_scope m)
   same_names = names ∙ ap variables bound.top
 

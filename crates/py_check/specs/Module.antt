@@ -39,6 +39,26 @@ statements_of typed = suite_of (unwrap_or typed [])
 abbrev pub plain_signature : Option Signature → Signature
 plain_signature s = unwrap_or s (record { params = []; ret = sort.Nothing })
 
+-- a function, the types of its own variables behind its body, and its statements, if they are typed
+abbrev pub function_by : Headed → List VarSort → Option (List TypedStmt) → TypedFunc
+function_by f locals typed = record {
+  name = f.tree.name;
+  class = None;
+  params = length f.tree.params;
+  locals = typed_variables locals (own_names f.inside);
+  ret = unwrap_or f.header.ret sort.Nothing;
+  body = statements_of typed;
+}
+
+-- a module of these functions, with the names and types of its variables, and its own statements, if they are typed
+abbrev pub module_by : List Headed → List (List ℕ) → List VarSort → List TypedFunc → Option (List TypedStmt) → TypedModule
+module_by fs names sorts funcs typed = record {
+  classes = record { classes = []; signatures = map (λ f. plain_signature (signature_of f.header)) fs };
+  globals = typed_variables sorts names;
+  funcs = funcs;
+  top = statements_of typed;
+}
+
 -- ---- contexts
 
 -- what all scopes of a module share: what its definitions say of names, its variables, the signatures of its functions, and its
@@ -49,8 +69,12 @@ pub record Environment : Type 0 where
   pub signatures : List (Option Signature)
   pub classes : List ClassEntry
 
+-- where names mean this, and in a scope
+abbrev pub context_by : (List ℕ → Meaning) → Environment → Context
+context_by meanings e = record { meaning = meanings; signatures = e.signatures; classes = e.classes }
+
 abbrev pub context_in : Environment → Scope → Context
-context_in e inside = record { meaning = meaning_in e.said e.variables inside; signatures = e.signatures; classes = e.classes }
+context_in e inside = context_by (meaning_in e.said e.variables inside) e
 
 -- ---- the module's own statements
 
@@ -97,14 +121,7 @@ module _ (c : Context) (names : List (List ℕ)) (sorts : List VarSort) (f : Hea
   body_after = block_after c function_start f.tree.body
 
   abbrev pub typed_function : TypedFunc
-  typed_function = record {
-    name = f.tree.name;
-    class = None;
-    params = length f.tree.params;
-    locals = typed_variables body_after.types.locals (own_names f.inside);
-    ret = unwrap_or f.header.ret sort.Nothing;
-    body = statements_of body.got;
-  }
+  typed_function = function_by f body_after.types.locals body.got
 
 -- ---- all bodies, by the numbers of functions
 
@@ -136,12 +153,9 @@ module _ (e : Environment) (top : Scope) (fs : List Headed) (m : Suite) where
   statements_said = (own_statements (context_in e top) e.variables m).said ++ bodies_said e global_sorts fs
 
   abbrev pub typed_parts : TypedModule
-  typed_parts = record {
-    classes = record { classes = []; signatures = map (λ f. plain_signature (signature_of f.header)) fs };
-    globals = typed_variables (sorts_behind_all e global_sorts fs) e.variables;
-    funcs = typed_functions e global_sorts fs;
-    top = statements_of (own_statements (context_in e top) e.variables m).got;
-  }
+  typed_parts =
+      module_by fs e.variables (sorts_behind_all e global_sorts fs) (typed_functions e global_sorts fs)
+      (own_statements (context_in e top) e.variables m).got
 
 module _ (m : Suite) where
   abbrev pub environment : Environment

@@ -15,10 +15,9 @@ ghost use Rattle.py_check.specs.Parts as views;
 use indexmap::IndexSet;
 use py_check_context::{Scope, VarType};
 use py_check_definitions::{
-    Environment, Function, numbers_of, own_names, own_types, param_numbers, type_or_none,
-    typed_variables,
+    Environment, Function, numbers_of, own_types, param_numbers, type_or_none, typed_variables,
 };
-use py_check_names::names_in;
+use py_check_names::{names_in, own_names};
 use py_check_places::Place;
 use py_check_statements::block;
 use py_check_values::Returns;
@@ -163,7 +162,7 @@ fn with_body(
     body: Option<Many<TStmt>>,
 ) -> Result<TFunc, Memory>
     requires { own.now.keys ≡ meanings.own_names f.now.inside.now }
-    ensures { IfOk result (λ t. typed_func t ≡ views.function_by (headed_parts f.now) (map var_sort locals.now) (option_map (map typed_stmt) body)) }
+    ensures { IfOk result (λ t. typed_func t ≡ spec.function_by (headed_parts f.now) (map var_sort locals.now) (option_map (map typed_stmt) body)) }
 {
     let name = f.tree.name.clone()?;
     let locals = typed_variables(alloc, own.as_slice(), locals)?;

@@ -24,7 +24,7 @@ use py_check_definitions::{
     Environment, Function, Outlined, add_global_faults, add_header_faults, definitions_of,
     no_classes, signatures_of, start_types, typed_variables,
 };
-use py_check_names::{Known, names_in};
+use py_check_names::{ModuleNames, names_in};
 use py_check_places::Place;
 use py_check_signatures::signature_of;
 use py_check_statements::block;
@@ -86,7 +86,7 @@ fn typed_with<'a>(
 /// The typed tree of a module of these functions and statements, where these names are seen in it.
 fn typed_parts(
     alloc: Global,
-    known: &Known,
+    known: &ModuleNames,
     functions: &[Function<'_>],
     top: &Scope,
     body: &[Stmt],
@@ -204,7 +204,7 @@ fn with_functions(
     own: Option<Many<TStmt>>,
     funcs: Many<TFunc>,
 ) -> Result<Checked, Memory>
-    ensures { IfOk result (λ c. typed_module c ≡ views.module_by (map headed_of functions.now) variables.now.keys (map var_sort globals.now) (map typed_func funcs) (option_map (map typed_stmt) own)) }
+    ensures { IfOk result (λ c. typed_module c ≡ spec.module_by (map headed_of functions.now) variables.now.keys (map var_sort globals.now) (map typed_func funcs) (option_map (map typed_stmt) own)) }
 {
     let sigs = plain_signatures(alloc, functions)?;
     let globals = typed_variables(alloc, variables.as_slice(), globals)?;

@@ -1,21 +1,20 @@
 -- The walk over definitions says what is to be said of them.
 use Rattle.std.proofs.Common.{◌≡◌, ◌∙◌, ℕ, zero, suc, ◌+◌, ◌<◌, not, ◌&&◌, ◌||◌, List, [], ◌∷◌, ◌++◌, length, map, drop, get_or, drop-cons, add-one, refl, ap, ap₂, sym, Bor}
-use Rattle.std.proofs.lemmas.List.{append_assoc, append-nil, length-map}
+use Rattle.std.proofs.lemmas.List.{append_assoc}
 use Rattle.std.proofs.lemmas.List.Folds.{list_any-append}
 use Rattle.std.specs.List.{flat_map}
 use Rattle.std.specs.Str.{bytes_eq}
 use Rattle.indexmap.specs.IndexSet.{insert_all, insert_key}
 use Rattle.py_syntax.specs.declared.token.Span.{Span}
 use Rattle.py_syntax.specs.declared.statement.Stmt.{Stmt}
-use Rattle.py_syntax.specs.declared.statement.Func.{Func}
 use Rattle.py_syntax.specs.Statements as s
 use Rattle.py_syntax.specs.Statements.{StmtTree, StmtNode, FuncTree, stmt_tree, func_tree}
 use Rattle.py_syntax_diagnostics.specs.declared.diagnostic.Diag.{Diag}
 use Rattle.py_binder.specs.Scope.{contains, Roles}
 use Rattle.py_binder.proofs.TableLemmas.{contains_all}
 use Rattle.py_check_context.specs.declared.scope.Meaning.{Meaning}
-use Rattle.py_check_names.specs.Walked.{trees, func_trees}
-use Rattle.py_check_names.specs.Outline.{said_by, said_from, held_by}
+use Rattle.py_check_names.specs.Walked.{trees}
+use Rattle.py_check_names.specs.Outline.{held_by}
 use Rattle.py_check_names.proofs.OutlineLemmas.{trees_at}
 use Rattle.py_check_signatures.specs.Definitions.{is_builtin_name}
 use Rattle.py_check_definitions.specs.Definitions.{Headed, headed, names_given, definition_said, definitions_said}

@@ -1,18 +1,15 @@
 -- Functions with their scopes, one to one.
-use Rattle.std.proofs.Common.{◌≡◌, ◌∙◌, ℕ, suc, ◌+◌, ◌<◌, List, [], ◌∷◌, ◌++◌, length, map, drop, get_or, drop-cons, add-one, refl, ap, sym, subst, Bor}
-use Rattle.std.proofs.lemmas.List.{append_assoc}
-use Rattle.py_syntax.specs.declared.statement.Func.{Func}
-use Rattle.py_syntax.specs.Statements.{FuncTree, func_tree}
+use Rattle.std.proofs.Common.{◌≡◌, ℕ, List, [], ◌∷◌, map, refl, ap}
+use Rattle.py_syntax.specs.Statements.{FuncTree}
 use Rattle.py_binder.specs.declared.scope.Scope.{Scope}
 use Rattle.py_binder.specs.Scope.{Roles, function_scope}
 use Rattle.py_check_context.specs.declared.scope.Meaning.{Meaning}
-use Rattle.py_check_names.specs.Walked.{func_trees}
 use Rattle.py_binder.proofs.DefinitionLemmas.{func_tree_at}
 use Rattle.py_check_signatures.specs.Headers.{HeaderSorts}
 use Rattle.py_check_signatures.specs.Views.{header_sorts}
 use Rattle.py_check_definitions.specs.declared.functions.Function.{Function}
 use Rattle.py_check_definitions.specs.Definitions.{Headed, headed}
-use Rattle.py_check_definitions.specs.Views.{headed_of, headed_parts, headed_with, headed_all}
+use Rattle.py_check_definitions.specs.Views.{headed_of, headed_parts, headed_all}
 
 module _ (meanings : List ℕ → Meaning) where
   pub all_headed : (roles : Roles) (fs : List FuncTree) → headed_all meanings fs (map (function_scope roles) fs) ≡ map (headed roles meanings) fs

@@ -1,42 +1,14 @@
 -- Variables by their numbers, one after the other.
-use Rattle.std.proofs.Common.{◌≡◌, ◌∙◌, ℕ, suc, ◌+◌, ◌<◌, Bool, true, false, if◌then◌else◌, List, [], ◌∷◌, ◌++◌, length, map, filter, drop, get_or, slice_get, drop-cons, add-one, Option, refl, ap, sym}
+use Rattle.std.proofs.Common.{◌≡◌, ◌∙◌, ℕ, suc, ◌+◌, ◌<◌, List, [], ◌∷◌, ◌++◌, length, map, drop, get_or, slice_get, drop-cons, add-one, Option, refl, ap, sym}
 use Rattle.std.proofs.lemmas.List.{append_assoc}
 use Rattle.std.proofs.lemmas.Option.{slice_get-map}
 use Rattle.std.specs.Option.{option_map}
-use Rattle.std.specs.Str.{bytes_eq}
-use Rattle.indexmap.specs.IndexSet.{insert_key, insert_all}
-use Rattle.py_binder.specs.declared.scope.Role.{Role}
-use Rattle.py_check_names.specs.Meanings.{is_own}
 use Rattle.py_typed.specs.declared.checked.Var.{Var}
 use Rattle.py_typed.specs.Sorts.{Sort}
 use Rattle.py_typed.specs.Statements.{Variable, variable}
 use Rattle.py_check_context.specs.declared.variables.VarType.{VarType}
 use Rattle.py_check_context.specs.Context.{var_sort, var_of, var_at}
 use Rattle.py_check_definitions.specs.Variables.{numbers_from, sort_or_none, variables_from}
-
--- ---- a function's own names
-
-abbrev pub owned : List (List ℕ × Role) → List (List ℕ)
-owned seen = map (λ p. p.0) (filter (λ p. is_own p.1) seen)
-
-module _ (seen : List (List ℕ × Role)) (i : ℕ) (p : List ℕ × Role) (h : i < length seen) (at : p ≡ get_or seen i p) where
-  owned_at : owned (drop i seen) ≡ owned (p ∷ drop (i + 1) seen)
-  owned_at =
-      ap owned (drop-cons seen i p h)
-      ∙ ap (λ (q : List ℕ × Role). owned (q ∷ drop (suc i) seen)) (sym at)
-      ∙ ap (λ n. owned (p ∷ drop n seen)) (sym (add-one i))
-
-  owned_if : (b : Bool) → is_own p.1 ≡ b → owned (drop i seen) ≡ map (λ q. q.0) (if b then p ∷ filter (λ q. is_own q.1) (drop (i + 1) seen) else filter (λ q. is_own q.1) (drop (i + 1) seen))
-  owned_if b own = owned_at ∙ ap (λ c. map (λ (q : List ℕ × Role). q.0) (if c then p ∷ filter (λ q. is_own q.1) (drop (i + 1) seen) else filter (λ q. is_own q.1) (drop (i + 1) seen))) own
-
-  pub owned_on : is_own p.1 ≡ true → (ks ks2 whole : List (List ℕ)) → ks2 ≡ insert_key bytes_eq ks p.0 → insert_all bytes_eq ks (owned (drop i seen)) ≡ whole → insert_all bytes_eq ks2 (owned (drop (i + 1) seen)) ≡ whole
-  owned_on own ks ks2 whole put before =
-      ap (λ l. insert_all bytes_eq l (owned (drop (i + 1) seen))) put
-      ∙ ap (insert_all bytes_eq ks) (sym (owned_if true own))
-      ∙ before
-
-  pub others_on : is_own p.1 ≡ false → (ks whole : List (List ℕ)) → insert_all bytes_eq ks (owned (drop i seen)) ≡ whole → insert_all bytes_eq ks (owned (drop (i + 1) seen)) ≡ whole
-  others_on other ks whole before = ap (insert_all bytes_eq ks) (sym (owned_if false other)) ∙ before
 
 -- ---- numbers
 

@@ -16,7 +16,7 @@ use Rattle.py_check_context.specs.declared.scope.Meaning.{Meaning}
 use Rattle.py_check_context.specs.Context.{VarSort}
 use Rattle.py_check_messages.specs.Seen.{diag}
 use Rattle.py_check_messages.specs.Messages as message
-use Rattle.py_check_names.specs.declared.meanings.Known.{Known}
+use Rattle.py_check_names.specs.declared.meanings.ModuleNames.{ModuleNames}
 use Rattle.py_check_names.specs.Outline.{may_import_all, held_by}
 use Rattle.py_check_names.specs.Meanings.{meaning_in}
 use Rattle.py_check_signatures.specs.Headers.{header, header_said}
@@ -65,7 +65,7 @@ abbrev pub sort_by : (List ℕ → Meaning) → (List ℕ → Option (Option Exp
 sort_by meanings mark params sorts name = or_param (param_sort params sorts name) (by_mark meanings (mark name))
 
 -- what names mean in a scope
-abbrev pub meanings_by : Known → Scope → List ℕ → Meaning
+abbrev pub meanings_by : ModuleNames → Scope → List ℕ → Meaning
 meanings_by k inside = meaning_in (get bytes_eq k.said) k.variables.keys inside
 
 -- in the annotations of functions, of definitions and imports, and of those in the bodies of functions

@@ -11,11 +11,10 @@ ghost use Rattle.py_check_definitions.specs.Definitions as spec;
 ghost use Rattle.py_check_definitions.specs.Views as views;
 
 use crate::functions::Function;
-use crate::variables::add_name;
 use indexmap::IndexSet;
 use py_check_context::Meaning;
 use py_check_messages::{outside_import, outside_profile};
-use py_check_names::{definitions_in, import_meaning, outline_of};
+use py_check_names::{add_name, definitions_in, may_import_all, outline_of};
 use py_check_signatures::{add_def_fault, is_new, own_count};
 use py_syntax::{Func, Span, Stmt, StmtKind};
 use py_syntax_diagnostics::Diag;
@@ -201,16 +200,4 @@ fn add_marked(alloc: Global, span: Span, f: &Func, faults: &mut Many<Diag>) -> R
         [] => Ok(()),
         [_, ..] => outside_profile(alloc, span, f.name.as_str(), faults),
     }
-}
-
-/// Whether a module has each of the names, and none is given another name.
-fn may_import_all(source: &Name, names: &[(Name, Option<Name>)]) -> bool
-    ensures { result ≡ outline.may_import_all source.now names.now }
-{
-    for (name, other) in names {
-        if !(other.is_none() && import_meaning(source, name).is_some()) {
-            return false;
-        }
-    }
-    true
 }

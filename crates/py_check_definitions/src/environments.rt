@@ -2,7 +2,7 @@
 ghost use Rattle.std.specs.Prelude.{◌≡◌, [], map};
 ghost use Rattle.py_typed.specs.Classes.{class_entry};
 
-use py_check_names::Known;
+use py_check_names::ModuleNames;
 use py_typed::{Classes, Sig};
 use std::alloc::Global;
 use value_core::Many;
@@ -10,7 +10,7 @@ use value_core::Many;
 /// What is known of names in a module, the signatures of its functions by their numbers, where they have one, and its classes.
 #[derive(Drop)]
 pub struct Environment<'a> {
-    pub known: &'a Known,
+    pub known: &'a ModuleNames,
     pub signatures: &'a [Option<Sig>],
     pub classes: &'a Classes,
 }

@@ -20,4 +20,4 @@ pub use functions::{Function, functions_of, signatures_of};
 pub use globals::add_global_faults;
 pub use outlines::{Outlined, add_header_faults, definitions_of};
 pub use starts::{own_types, start_types};
-pub use variables::{numbers_of, own_names, param_numbers, type_or_none, typed_variables};
+pub use variables::{numbers_of, param_numbers, type_or_none, typed_variables};

@@ -16,7 +16,7 @@ use crate::definitions::{add_definition_faults, add_inner_faults};
 use crate::environments::no_classes;
 use crate::functions::{Function, functions_of};
 use py_binder::{Scope, Scopes};
-use py_check_names::{Known, Outline, definitions_in, known_in, names_in, outline_of};
+use py_check_names::{ModuleNames, Outline, definitions_in, module_names, names_in, outline_of};
 use py_syntax::{Func, Stmt};
 use py_syntax_diagnostics::Diag;
 use std::alloc::Global;
@@ -27,7 +27,7 @@ use value_core::{Many, Memory};
 pub struct Outlined<'a> {
     pub definitions: Vec<&'a Stmt>,
     pub functions: Vec<&'a Func>,
-    pub known: Known,
+    pub known: ModuleNames,
 }
 
 /// The definitions of a module that has this scope.
@@ -47,7 +47,7 @@ pub fn definitions_of<'a>(
         mut said,
         functions,
     } = outline;
-    let known = known_in(alloc, &mut said, top)?;
+    let known = module_names(alloc, &mut said, top)?;
     Ok(Outlined {
         definitions,
         functions,

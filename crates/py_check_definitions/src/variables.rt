@@ -1,8 +1,6 @@
 //! The variables of a module and of its functions, with their names.
-ghost use Rattle.std.specs.Prelude.{◌≡◌, ◌++◌, map, filter, unwrap_or, IfOk};
+ghost use Rattle.std.specs.Prelude.{◌≡◌, map, unwrap_or, IfOk};
 ghost use Rattle.std.specs.Option.{option_map, option_copied};
-ghost use Rattle.std.specs.Str.{bytes_eq};
-ghost use Rattle.indexmap.specs.IndexSet.{insert_key, insert_all};
 ghost use Rattle.py_syntax.specs.Statements.{param_tree};
 ghost use Rattle.py_typed.specs.Sorts as sorts;
 ghost use Rattle.py_typed.specs.Statements.{variable};
@@ -11,41 +9,12 @@ ghost use Rattle.py_check_names.specs.Meanings as meanings;
 ghost use Rattle.py_check_definitions.specs.Variables as spec;
 
 use indexmap::IndexSet;
-use py_binder::{Role, Scope};
 use py_check_context::VarType;
-use py_check_names::is_own;
+use py_check_names::number;
 use py_syntax::Expr;
 use py_typed::{Ty, Var, copy_of};
 use std::alloc::Global;
 use value_core::{Many, Memory, Name};
-
-/// A function's own variables, by their numbers.
-pub fn own_names(alloc: Global, inside: &Scope) -> Result<IndexSet<Name>, Memory>
-    ensures { IfOk result (λ own. own.keys ≡ meanings.own_names inside.now) }
-{
-    let mut own = IndexSet::new(alloc);
-    add_own(&mut own, inside.names.as_slice())?;
-    Ok(own)
-}
-
-fn add_own(own: &mut IndexSet<Name>, seen: &[(Name, Role)]) -> Result<(), Memory>
-    ensures { IfOk result (λ done. own.new.keys ≡ insert_all bytes_eq own.old.keys (map (λ p. p.0) (filter (λ p. meanings.is_own p.1) seen.now))) }
-{
-    for (name, role) in seen {
-        if is_own(*role) {
-            add_name(own, name)?;
-        }
-    }
-    Ok(())
-}
-
-/// Puts a name behind the others, where it is not one of them.
-pub(crate) fn add_name(names: &mut IndexSet<Name>, name: &Name) -> Result<(), Memory>
-    ensures { IfOk result (λ done. names.new.keys ≡ insert_key bytes_eq names.old.keys name.now) }
-{
-    names.insert(name.clone()?)?;
-    Ok(())
-}
 
 /// The numbers of names.
 pub fn numbers_of(alloc: Global, names: &[Name]) -> Result<Vec<usize>, Memory>
@@ -71,16 +40,6 @@ pub fn param_numbers(
         numbers.push(number(own, name))?;
     }
     Ok(numbers)
-}
-
-/// The place of a name among names, or their number where it is none of them.
-fn number(names: &IndexSet<Name>, name: &Name) -> usize
-    ensures { result ≡ meanings.number names.now.keys name.now }
-{
-    match names.get_index_of(name) {
-        Some(place) => place,
-        None => names.len(),
-    }
 }
 
 /// Variables by their numbers, with their types.

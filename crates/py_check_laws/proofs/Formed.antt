@@ -7,7 +7,7 @@ use Rattle.std.proofs.lemmas.Option.{same_Some, slice_get-map}
 use Rattle.std.specs.Prelude.{is_some, find}
 use Rattle.std.specs.List.{list_all, zip}
 use Rattle.std.specs.Map.{lookup}
-use Rattle.std.specs.Option.{option_map, option_zip}
+use Rattle.std.specs.Option.{option_or, option_map, option_zip}
 use Rattle.std.specs.Str.{bytes_eq}
 use Rattle.value_core.specs.declared.exception.ExcClass.{ExcClass}
 use Rattle.value_core.specs.Exceptions.{class_named}
@@ -33,7 +33,7 @@ use Rattle.py_check_messages.specs.Rows.{row_then}
 use Rattle.py_check_places.specs.Places.{Known}
 use Rattle.py_check_statements.specs.Bodies.{is_definition, after, statement, block}
 use Rattle.py_check_names.specs.Builtins as names
-use Rattle.py_check_names.specs.Builtins.{or_else, exception_meaning}
+use Rattle.py_check_names.specs.Builtins.{exception_meaning}
 use Rattle.py_check_names.specs.Meanings.{is_own, own_names}
 use Rattle.py_check_names.specs.Outline.{stmt_definitions, suite_definitions}
 use Rattle.py_check_signatures.specs.Headers.{marked, param_types, all_of}
@@ -100,15 +100,15 @@ keys_found {A = A} (p ∷ l) x = by (bytes_eq x p.0) (keys_found l x)
     by true h = refl
     by false h = h
 
-both_false : (o : Option Meaning) (c : Option ExcClass) → is_some (or_else o (exception_meaning c)) ≡ false → (is_some o ≡ false) × (is_some c ≡ false)
+both_false : (o : Option Meaning) (c : Option ExcClass) → is_some (option_or o (exception_meaning c)) ≡ false → (is_some o ≡ false) × (is_some c ≡ false)
 both_false None None h = (refl, refl)
 both_false None (Some c) h = absurd (cc)
 both_false (Some m) c h = absurd (cc)
 
 not_built : (x : List ℕ) → is_builtin_name x ≡ false → is_builtin x ≡ false
 not_built x h =
-    let r = both_false (lookup (bytes_eq x) names.plain_builtins) (class_named x) h in
-    ap₂ (λ (a b : Bool). a || b) (keys_found names.plain_builtins x ∙ r.0) r.1
+    let r = both_false (lookup (bytes_eq x) names.named_builtins) (class_named x) h in
+    ap₂ (λ (a b : Bool). a || b) (keys_found names.named_builtins x ∙ r.0) r.1
 
 param_role : (a b : Bool) (r : Role) → a ≡ false → b ≡ true → is_own (if a then role.Builtin else (if b then role.Param else r)) ≡ true
 param_role false true r p q = refl

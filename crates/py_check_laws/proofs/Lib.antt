@@ -26,6 +26,7 @@ mod Modules
 mod Fixed
 mod Owned
 mod Varied
+mod Lasting
 mod Marked
 mod Inner
 mod Described

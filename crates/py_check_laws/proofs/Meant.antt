@@ -6,6 +6,7 @@ use Rattle.std.proofs.lemmas.List.Folds.{list_any-append}
 use Rattle.std.specs.Prelude.{is_some, is_none, codes}
 use Rattle.std.specs.List.{list_all, flat_map}
 use Rattle.std.specs.Map.{lookup}
+use Rattle.std.specs.Option.{option_or}
 use Rattle.std.specs.Str.{bytes_eq}
 use Rattle.value_core.specs.declared.exception.ExcClass.{ExcClass}
 use Rattle.value_core.specs.Exceptions.{class_named}
@@ -18,7 +19,7 @@ use Rattle.py_binder.specs.Sights.{Use, Reads, Binds, Defines, Declares, Holds, 
 use Rattle.py_binder.specs.Scope.{contains, is_builtin, bound_there, listed_there, seen_there, said_there, all_there, Roles, said_or_variable, module_role, is_variable, param_names, function_role, first_sights, scope_of, module_scope}
 use Rattle.py_check_context.specs.declared.scope.Meaning.{Meaning}
 use Rattle.py_check_context.specs.declared.scope.Meaning.TheVariants as meaning
-use Rattle.py_check_names.specs.Builtins.{plain_builtins, exception_meaning, or_else, builtin_meaning, of_typing, of_extensions, of_future, import_meaning}
+use Rattle.py_check_names.specs.Builtins.{named_builtins, exception_meaning, builtin_meaning, of_typing, of_extensions, of_future, import_meaning}
 use Rattle.py_check_names.specs.Outline.{may_import, may_import_all, imported_as, said_by, said_from, held_by, suite_definitions}
 use Rattle.py_check_names.specs.Meanings.{is_own, names_of, variables, own_names, number, by_role, meaning_in, said_in}
 use Rattle.py_typed.proofs.FitLemmas.{and_left, and_right}
@@ -82,10 +83,10 @@ import_given n from name m h = by (bytes_eq from (codes "typing")) (bytes_eq fro
     by false false false q = absurd (cc)
 
 builtin_built : (name : List ℕ) → is_built (unwrap_or (builtin_meaning name) meaning.Unknown) ≡ true
-builtin_built name = by (lookup (bytes_eq name) plain_builtins) refl (class_named name)
+builtin_built name = by (lookup (bytes_eq name) named_builtins) refl (class_named name)
   where
-    by : (o : Option Meaning) → lookup (bytes_eq name) plain_builtins ≡ o → (c : Option ExcClass) → is_built (unwrap_or (or_else o (exception_meaning c)) meaning.Unknown) ≡ true
-    by (Some m) q c = found_all is_built (bytes_eq name) plain_builtins refl m q
+    by : (o : Option Meaning) → lookup (bytes_eq name) named_builtins ≡ o → (c : Option ExcClass) → is_built (unwrap_or (option_or o (exception_meaning c)) meaning.Unknown) ≡ true
+    by (Some m) q c = found_all is_built (bytes_eq name) named_builtins refl m q
     by None q None = refl
     by None q (Some c) = refl
 

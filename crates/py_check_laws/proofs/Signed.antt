@@ -3,7 +3,7 @@ use Rattle.std.proofs.Common.{◌≡◌, ℕ, zero, suc, ◌<◌, Bool, true, fa
 use Rattle.std.proofs.lemmas.Bool.{and_from}
 use Rattle.std.specs.Prelude.{is_some, is_none}
 use Rattle.std.specs.List.{list_all, flat_map}
-use Rattle.std.specs.Option.{option_map, option_zip}
+use Rattle.std.specs.Option.{option_or, option_map, option_zip}
 use Rattle.py_syntax.specs.declared.token.Span.{Span}
 use Rattle.py_syntax.specs.Expressions.{ExprTree}
 use Rattle.py_syntax.specs.Statements as s
@@ -20,7 +20,7 @@ use Rattle.py_check_annotations.specs.Annotations.{annotation, return_annotation
 use Rattle.py_check_annotations.specs.Names.{is_untyped}
 use Rattle.py_check_names.specs.Outline.{held_by, may_import_all}
 use Rattle.py_check_signatures.specs.Headers.{HeaderSorts, has_type, marked, returned, param_types, params_said, params_typed, header, header_said, all_of, signature_of}
-use Rattle.py_check_signatures.specs.Definitions.{own_count, repeated, are_marked, all_marked, body_fault, def_fault, no_marks, told, or_else, is_new, is_builtin_name, gives_value}
+use Rattle.py_check_signatures.specs.Definitions.{own_count, repeated, are_marked, all_marked, body_fault, def_fault, no_marks, told, is_new, is_builtin_name, gives_value}
 use Rattle.py_check_definitions.specs.Definitions.{headed, marks_said, function_said, import_said, names_given, definition_said, definitions_said}
 use Rattle.py_check_expressions_laws.specs.Laws.{is_voiceless}
 use Rattle.py_check_expressions_laws.proofs.Loud.{none_before, none_behind}
@@ -89,7 +89,7 @@ module _ (roles : Roles) (meanings : List ℕ → Meaning) where
 
 -- ---- faults of definitions
 
-fault_parts : (fresh : Bool) (m : Message) (a b c : Option Message) → (if not fresh then Some m else or_else a (or_else b c)) ≡ None → (fresh ≡ true) × (a ≡ None) × (b ≡ None) × (c ≡ None)
+fault_parts : (fresh : Bool) (m : Message) (a b c : Option Message) → (if not fresh then Some m else option_or a (option_or b c)) ≡ None → (fresh ≡ true) × (a ≡ None) × (b ≡ None) × (c ≡ None)
 fault_parts false m a b c h = absurd (cc)
 fault_parts true m (Some x) b c h = absurd (cc)
 fault_parts true m None (Some x) c h = absurd (cc)

@@ -58,6 +58,12 @@ are_variables_typed m =
 abbrev pub QuietModuleTypesVariables : Type 0
 QuietModuleTypesVariables = (m : Suite) → diagnostics m ≡ [] → are_variables_typed m ≡ true
 
+-- where nothing is said of a module, its own statements fix the types of its variables: the body of a function changes none
+abbrev pub QuietModuleFixesTypes : Type 0
+QuietModuleFixesTypes =
+    (m : Suite) → diagnostics m ≡ []
+    → sorts_behind_all (environment m) (global_sorts (environment m) (module_scope m) (headed_functions m) m) (headed_functions m) ≡ global_sorts (environment m) (module_scope m) (headed_functions m) m
+
 -- ---- what is typed is well typed
 
 -- statements that a text can write, in the module and in its functions

@@ -1,5 +1,5 @@
 //! The laws. The calls do nothing.
-ghost use Rattle.py_check_laws.specs.Modules.{QuietModuleIsTyped, QuietModuleIsWellTyped, QuietModuleNamesDiffer, QuietModuleStands, QuietModuleTypesVariables};
+ghost use Rattle.py_check_laws.specs.Modules.{QuietModuleFixesTypes, QuietModuleIsTyped, QuietModuleIsWellTyped, QuietModuleNamesDiffer, QuietModuleStands, QuietModuleTypesVariables};
 ghost use Rattle.py_check_laws.specs.Statements.{QuietBlockIsTyped, TypedBlockIsWellTyped};
 
 /// Where no name in reach is without a type, a block of which nothing is said is typed whole, and no name is without a type behind it.
@@ -20,6 +20,11 @@ pub fn what_is_not_typed_in_a_module_has_said_why()
 /// In a module of which nothing is said each variable has a type, of the module and of its functions.
 pub fn variables_of_a_quiet_module_have_types()
     ensures { QuietModuleTypesVariables }
+{}
+
+/// In a module of which nothing is said the module's own statements fix the types of its variables: no body of a function changes one.
+pub fn statements_of_a_quiet_module_fix_types()
+    ensures { QuietModuleFixesTypes }
 {}
 
 /// In a module of which nothing is said the module's own statements and the bodies of its functions are well typed.

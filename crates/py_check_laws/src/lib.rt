@@ -8,7 +8,7 @@ mod laws;
 
 pub use laws::{
     a_quiet_module_is_well_typed, names_of_a_quiet_module_differ,
-    statements_of_a_quiet_module_are_well_typed, variables_of_a_quiet_module_have_types,
-    what_is_not_typed_in_a_block_has_said_why, what_is_not_typed_in_a_module_has_said_why,
-    what_is_typed_in_a_block_is_well_typed,
+    statements_of_a_quiet_module_are_well_typed, statements_of_a_quiet_module_fix_types,
+    variables_of_a_quiet_module_have_types, what_is_not_typed_in_a_block_has_said_why,
+    what_is_not_typed_in_a_module_has_said_why, what_is_typed_in_a_block_is_well_typed,
 };

@@ -1,10 +1,13 @@
 -- What builtin names and the names of imports mean (Python Library Reference, "Built-in Functions", "Built-in Exceptions" and
 -- "typing").
 use Rattle.std.specs.Prelude.{ℕ, List, [], ◌∷◌, codes, if◌then◌else◌, Option, Some, None}
+use Rattle.std.specs.List.{zip}
 use Rattle.std.specs.Map.{lookup}
+use Rattle.std.specs.Option.{option_or}
 use Rattle.std.specs.Str.{bytes_eq}
 use Rattle.value_core.specs.declared.exception.ExcClass.{ExcClass}
 use Rattle.value_core.specs.Exceptions.{class_named}
+use Rattle.py_binder.specs.Scope.{plain_builtins}
 use Rattle.py_check_context.specs.declared.scope.Meaning.{Meaning}
 use Rattle.py_check_context.specs.declared.scope.Meaning.TheVariants as meaning
 use Rattle.py_check_context.specs.declared.scope.Imported.TheVariants as imported
@@ -15,27 +18,23 @@ use denote.Ref.{Bor}
 abbrev pub with_text : Bor (List ℕ) × Meaning → List ℕ × Meaning
 with_text p = (p.0.now, p.1)
 
-abbrev pub plain_builtins : List (List ℕ × Meaning)
-plain_builtins =
-    (codes "print", meaning.Builtin builtin.Print) ∷ (codes "input", meaning.Builtin builtin.Input)
-    ∷ (codes "len", meaning.Builtin builtin.Len) ∷ (codes "range", meaning.Builtin builtin.Range)
-    ∷ (codes "str", meaning.Builtin builtin.Str) ∷ (codes "int", meaning.Builtin builtin.Int)
-    ∷ (codes "bool", meaning.Builtin builtin.Bool) ∷ (codes "list", meaning.Builtin builtin.List)
-    ∷ (codes "dict", meaning.Builtin builtin.Dict) ∷ (codes "tuple", meaning.Builtin builtin.Tuple)
-    ∷ (codes "super", meaning.Builtin builtin.Super) ∷ (codes "__name__", meaning.ModuleName) ∷ []
+-- what the builtin names mean that are no exception classes, in the order in which they are listed
+abbrev pub plain_meanings : List Meaning
+plain_meanings =
+    meaning.Builtin builtin.Print ∷ meaning.Builtin builtin.Input ∷ meaning.Builtin builtin.Len ∷ meaning.Builtin builtin.Range
+    ∷ meaning.Builtin builtin.Str ∷ meaning.Builtin builtin.Int ∷ meaning.Builtin builtin.Bool ∷ meaning.Builtin builtin.List
+    ∷ meaning.Builtin builtin.Dict ∷ meaning.Builtin builtin.Tuple ∷ meaning.Builtin builtin.Super ∷ meaning.ModuleName ∷ []
+
+abbrev pub named_builtins : List (List ℕ × Meaning)
+named_builtins = zip plain_builtins plain_meanings
 
 abbrev pub exception_meaning : Option ExcClass → Option Meaning
 exception_meaning None = None
 exception_meaning (Some c) = Some (meaning.Exception c)
 
--- the first of two that is there
-abbrev pub or_else : Option Meaning → Option Meaning → Option Meaning
-or_else (Some m) other = Some m
-or_else None other = other
-
 -- the builtins, and the exception classes
 abbrev pub builtin_meaning : List ℕ → Option Meaning
-builtin_meaning name = or_else (lookup (bytes_eq name) plain_builtins) (exception_meaning (class_named name))
+builtin_meaning name = option_or (lookup (bytes_eq name) named_builtins) (exception_meaning (class_named name))
 
 -- what may be imported from a module
 abbrev pub of_typing : List (List ℕ × Meaning)

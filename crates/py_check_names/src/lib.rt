@@ -12,6 +12,6 @@ mod outline;
 mod walk;
 
 pub use builtins::{builtin_meaning, import_meaning};
-pub use meanings::{Known, is_own, known_in, names_in};
-pub use outline::{Outline, outline_of};
+pub use meanings::{ModuleNames, add_name, is_own, module_names, names_in, number, own_names};
+pub use outline::{Outline, may_import_all, outline_of};
 pub use walk::definitions_in;

@@ -3,7 +3,8 @@ ghost use Rattle.std.specs.Prelude.{◌≡◌, ℕ, List, ◌++◌, map, filter,
 ghost use Rattle.std.specs.Map.{lookup};
 ghost use Rattle.std.specs.Str.{bytes_eq};
 ghost use Rattle.indexmap.specs.IndexMap.{get};
-ghost use Rattle.py_binder.specs.Scope.{is_variable, first_sights};
+ghost use Rattle.indexmap.specs.IndexSet.{insert_key, insert_all};
+ghost use Rattle.py_binder.specs.Scope.{is_variable};
 ghost use Rattle.py_check_names.specs.Meanings as spec;
 
 use crate::builtins::builtin_meaning;
@@ -15,60 +16,60 @@ use value_core::{Memory, Name};
 
 /// What a module's definitions say of names, and its variables by their numbers.
 #[derive(Drop)]
-pub struct Known {
+pub struct ModuleNames {
     pub said: IndexMap<Name, Meaning>,
     pub variables: IndexSet<Name>,
 }
 
-/// What is known in a module of these definitions and this scope.
-pub fn known_in(
+/// The names of a module of these definitions and this scope.
+pub fn module_names(
     alloc: Global,
     said: &mut Vec<(Name, Meaning)>,
     top: &Scope,
-) -> Result<Known, Memory>
+) -> Result<ModuleNames, Memory>
     ensures said { IfOk result (λ k. (name : List ℕ) → get bytes_eq k.said name ≡ lookup (bytes_eq name) said.old.items) }
     ensures variables { IfOk result (λ k. k.variables.keys ≡ spec.variables top.now) }
 {
     let said = table_of(alloc, said)?;
-    let mut names = Vec::new(alloc);
-    add_variables(&mut names, top.names.as_slice())?;
-    let variables = name_set(alloc, names.as_slice())?;
-    Ok(Known { said, variables })
+    let variables = variables_of(alloc, top)?;
+    Ok(ModuleNames { said, variables })
 }
 
-/// What each name that is seen in a scope means there.
-pub fn names_in(
-    alloc: Global,
-    known: &Known,
-    inside: &Scope,
-) -> Result<IndexMap<Name, Meaning>, Memory>
-    ensures { IfOk result (λ table. (name : List ℕ) → unwrap_or (get bytes_eq table name) Meaning.Unknown ≡ spec.meaning_in (get bytes_eq known.now.said) known.now.variables.keys inside.now name) }
+/// The variables of a module, by their numbers.
+fn variables_of(alloc: Global, top: &Scope) -> Result<IndexSet<Name>, Memory>
+    ensures { IfOk result (λ names. names.keys ≡ spec.variables top.now) }
 {
-    let mut names = Vec::new(alloc);
-    add_own(&mut names, inside.names.as_slice())?;
-    let own = name_set(alloc, names.as_slice())?;
-    let mut pairs = Vec::new(alloc);
-    add_meanings(known, &own, inside.names.as_slice(), &mut pairs)?;
-    table_of(alloc, &mut pairs)
+    let mut names = IndexSet::new(alloc);
+    add_variables(&mut names, top.names.as_slice())?;
+    Ok(names)
 }
 
-fn add_variables(names: &mut Vec<Name>, seen: &[(Name, Role)]) -> Result<(), Memory>
-    ensures { IfOk result (λ done. names.new.items ≡ names.old.items ++ map (λ p. p.0) (filter (λ p. is_variable p.1) seen.now)) }
+fn add_variables(names: &mut IndexSet<Name>, seen: &[(Name, Role)]) -> Result<(), Memory>
+    ensures { IfOk result (λ done. names.new.keys ≡ insert_all bytes_eq names.old.keys (map (λ p. p.0) (filter (λ p. is_variable p.1) seen.now))) }
 {
     for (name, role) in seen {
         if *role == Role::GlobalVar {
-            names.push(name.clone()?)?;
+            add_name(names, name)?;
         }
     }
     Ok(())
 }
 
-fn add_own(names: &mut Vec<Name>, seen: &[(Name, Role)]) -> Result<(), Memory>
-    ensures { IfOk result (λ done. names.new.items ≡ names.old.items ++ map (λ p. p.0) (filter (λ p. spec.is_own p.1) seen.now)) }
+/// A function's own variables, by their numbers.
+pub fn own_names(alloc: Global, inside: &Scope) -> Result<IndexSet<Name>, Memory>
+    ensures { IfOk result (λ own. own.keys ≡ spec.own_names inside.now) }
+{
+    let mut own = IndexSet::new(alloc);
+    add_own(&mut own, inside.names.as_slice())?;
+    Ok(own)
+}
+
+fn add_own(own: &mut IndexSet<Name>, seen: &[(Name, Role)]) -> Result<(), Memory>
+    ensures { IfOk result (λ done. own.new.keys ≡ insert_all bytes_eq own.old.keys (map (λ p. p.0) (filter (λ p. spec.is_own p.1) seen.now))) }
 {
     for (name, role) in seen {
         if is_own(*role) {
-            names.push(name.clone()?)?;
+            add_name(own, name)?;
         }
     }
     Ok(())
@@ -81,8 +82,30 @@ pub fn is_own(role: Role) -> bool
     matches!(role, Role::Param | Role::Local)
 }
 
+/// Puts a name behind the others, where it is not one of them.
+pub fn add_name(names: &mut IndexSet<Name>, name: &Name) -> Result<(), Memory>
+    ensures { IfOk result (λ done. names.new.keys ≡ insert_key bytes_eq names.old.keys name.now) }
+{
+    names.insert(name.clone()?)?;
+    Ok(())
+}
+
+/// What each name that is seen in a scope means there.
+pub fn names_in(
+    alloc: Global,
+    known: &ModuleNames,
+    inside: &Scope,
+) -> Result<IndexMap<Name, Meaning>, Memory>
+    ensures { IfOk result (λ table. (name : List ℕ) → unwrap_or (get bytes_eq table name) Meaning.Unknown ≡ spec.meaning_in (get bytes_eq known.now.said) known.now.variables.keys inside.now name) }
+{
+    let own = own_names(alloc, inside)?;
+    let mut pairs = Vec::new(alloc);
+    add_meanings(known, &own, inside.names.as_slice(), &mut pairs)?;
+    table_of(alloc, &mut pairs)
+}
+
 fn add_meanings(
-    known: &Known,
+    known: &ModuleNames,
     own: &IndexSet<Name>,
     seen: &[(Name, Role)],
     pairs: &mut Vec<(Name, Meaning)>,
@@ -96,7 +119,7 @@ fn add_meanings(
     Ok(())
 }
 
-fn by_role(known: &Known, own: &IndexSet<Name>, name: &Name, role: Role) -> Meaning
+fn by_role(known: &ModuleNames, own: &IndexSet<Name>, name: &Name, role: Role) -> Meaning
     ensures { result ≡ spec.by_role (get bytes_eq known.now.said) known.now.variables.keys own.now.keys name.now role }
 {
     match role {
@@ -124,7 +147,7 @@ fn said_of(said: &IndexMap<Name, Meaning>, name: &Name) -> Meaning
 }
 
 /// The place of a name among names, or their number where it is none of them.
-fn number(names: &IndexSet<Name>, name: &Name) -> usize
+pub fn number(names: &IndexSet<Name>, name: &Name) -> usize
     ensures { result ≡ spec.number names.now.keys name.now }
 {
     match names.get_index_of(name) {
@@ -145,15 +168,4 @@ fn table_of(
         table.insert(name, meaning)?;
     }
     Ok(table)
-}
-
-/// Each name once, in the order of first sight.
-fn name_set(alloc: Global, names: &[Name]) -> Result<IndexSet<Name>, Memory>
-    ensures { IfOk result (λ s. s.keys ≡ first_sights names.now) }
-{
-    let mut set = IndexSet::new(alloc);
-    for name in names {
-        set.insert(name.clone()?)?;
-    }
-    Ok(set)
 }

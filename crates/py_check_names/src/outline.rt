@@ -71,7 +71,7 @@ fn say_imports(
 }
 
 /// Whether a module has each of the names, and none is given another name.
-fn may_import_all(source: &Name, names: &[(Name, Option<Name>)]) -> bool
+pub fn may_import_all(source: &Name, names: &[(Name, Option<Name>)]) -> bool
     ensures { result ≡ spec.may_import_all source.now names.now }
 {
     for (name, other) in names {

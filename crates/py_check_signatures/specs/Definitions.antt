@@ -6,7 +6,7 @@
 -- type, nothing else is said. Decorators have no types yet.
 use Rattle.std.specs.Prelude.{ℕ, Bool, true, false, not, ◌&&◌, if◌then◌else◌, nat_lt, List, [], ◌∷◌, ◌++◌, count_by, find, Option, Some, None, is_some}
 use Rattle.std.specs.List.{list_all}
-use Rattle.std.specs.Option.{option_map}
+use Rattle.std.specs.Option.{option_or, option_map}
 use Rattle.py_syntax.specs.declared.token.Span.{Span}
 use Rattle.py_syntax.specs.Expressions.{ExprTree}
 use Rattle.py_syntax.specs.Statements.{FuncTree}
@@ -50,11 +50,6 @@ gives_value None = false
 gives_value (Some sort.Nothing) = false
 gives_value (Some t) = true
 
--- the first of two that is there
-abbrev pub or_else : Option Message → Option Message → Option Message
-or_else (Some m) other = Some m
-or_else None other = other
-
 -- a body without its end, or a count past its bound
 abbrev pub body_fault : ℕ → FuncTree → Option Sort → Option Message
 body_fault own f ret =
@@ -67,8 +62,8 @@ body_fault own f ret =
 abbrev pub fault_by : Bool → ℕ → FuncTree → Option (List ℕ) → Option Sort → Option Message
 fault_by fresh own f twice ret =
     if not fresh then Some (message.already_defined f.name) else
-    or_else (option_map message.duplicate_parameter twice)
-    (or_else (option_map message.cannot_assign (find is_builtin_name (param_names f))) (body_fault own f ret))
+    option_or (option_map message.duplicate_parameter twice)
+    (option_or (option_map message.cannot_assign (find is_builtin_name (param_names f))) (body_fault own f ret))
 
 -- THE FAULT of a definition, whose name is new or not, of so many names of its own, and of what it returns
 abbrev pub def_fault : Bool → ℕ → FuncTree → Option Sort → Option Message

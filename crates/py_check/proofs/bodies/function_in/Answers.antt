@@ -5,8 +5,7 @@ use Rattle.py_check_places.specs.Places.{Known}
 use Rattle.py_check_places.specs.Views.{known_at}
 use Rattle.py_check_statements.proofs.BodyLemmas.{always}
 use Rattle.py_check_definitions.specs.Views.{headed_parts}
-use Rattle.py_check.specs.Module.{body, body_after}
-use Rattle.py_check.specs.Parts.{function_by}
+use Rattle.py_check.specs.Module.{function_by, body, body_after}
 use Rattle.py_check.proofs.bodies.function_in.Goals as goal
 
 pub returns : goal.returns

@@ -7,8 +7,8 @@ use Rattle.py_check_context.specs.Context.{VarSort}
 use Rattle.py_check_places.specs.Views.{known_at}
 use Rattle.py_check_statements.proofs.BodyLemmas.{always}
 use Rattle.py_check_definitions.specs.Views.{headed_of}
-use Rattle.py_check.specs.Module.{context_in, own_statements, fixed_sorts, bodies_said, typed_functions, sorts_behind_all, statements_said}
-use Rattle.py_check.specs.Parts.{environment_of, module_by}
+use Rattle.py_check.specs.Module.{module_by, context_in, own_statements, fixed_sorts, bodies_said, typed_functions, sorts_behind_all, statements_said}
+use Rattle.py_check.specs.Parts.{environment_of}
 use Rattle.py_check.proofs.modules.typed_in.Goals as goal
 
 pub returns : goal.returns

@@ -1,8 +1,10 @@
-use Rattle.std.proofs.Common.{◌≡◌, ◌++◌, map, drop, filter}
+use Rattle.std.proofs.Common.{◌≡◌, map, drop, filter}
+use Rattle.std.specs.Str.{bytes_eq}
+use Rattle.indexmap.specs.IndexSet.{insert_all}
 use Rattle.py_binder.specs.Scope.{is_variable}
 use Rattle.py_check_names.proofs.meanings.add_variables.Given as goal
 
 abbrev pub invariant-loop-name : goal.invariant-loop-name
 invariant-loop-name l =
-    l.names.items ++ map (λ p. p.0) (filter (λ p. is_variable p.1) (drop l.name-index l.seen))
-    ≡ l.fn.names.items ++ map (λ p. p.0) (filter (λ p. is_variable p.1) l.seen)
+    insert_all bytes_eq l.names.keys (map (λ p. p.0) (filter (λ p. is_variable p.1) (drop l.name-index l.seen)))
+    ≡ insert_all bytes_eq l.fn.names.keys (map (λ p. p.0) (filter (λ p. is_variable p.1) l.seen))
