@@ -3,18 +3,16 @@ use Rattle.std.proofs.Common.{◌≡◌, ℕ, [], ◌∷◌, Some, None, refl}
 use Rattle.c_core.specs.Cells.{Cells, content_at, count_at, make, take_one}
 use Rattle.c_core.specs.Machine.{Content, StrCell, ListCell, TupleCell, DictCell, InstCell, ObjectCell, NoneObject, TrueObject, FalseObject, refs_in}
 use Rattle.c_core.specs.Release.{release}
-use Rattle.cell_heap.specs.declared.key.Key.{Key}
+use Rattle.slot_arena.specs.declared.key.Key.{Key}
 use Rattle.cell_heap.specs.declared.word.Word.TheVariants.{Cell as CellWord, PyNone}
 use Rattle.cell_heap.specs.declared.content.Content.TheVariants.{Dict, Inst}
 use Rattle.cell_heap.specs.Contents.{content_of}
-use Rattle.cell_heap.specs.Keys.{keys_of}
-use Rattle.cell_heap.specs.Numbered.{gone}
+use Rattle.cell_heap.specs.Numbers.{numbers_of}
 use Rattle.cell_heap.specs.Pairs.{place_at, with_pair, without_pair, pair_at}
-use Rattle.cell_heap.specs.Room.{places_in}
 use Rattle.cell_heap.specs.Words.{with_word, with_last, without_last, refill_by, word_at, last_at}
 
 abbrev key : ℕ → Key
-key n = record { serial = n }
+key n = record { slot = 7; serial = n }
 
 -- a text, and a tuple that holds it twice and was taken once more
 abbrev text : Content
@@ -26,26 +24,22 @@ pair = TupleCell (ObjectCell 0 ∷ ObjectCell 0 ∷ [])
 abbrev two : Cells Content
 two = take_one 0 (take_one 1 (make pair (make text [])))
 
-counted : (count_at two 0 ≡ 2) × (count_at two 1 ≡ 2) × (content_at two 1 ≡ Some pair) × (content_at two 2 ≡ None) × (places_in two ≡ 2)
-counted = (refl, refl, refl, refl, refl)
+counted : (count_at two 0 ≡ 2) × (count_at two 1 ≡ 2) × (content_at two 1 ≡ Some pair) × (content_at two 2 ≡ None)
+counted = (refl, refl, refl, refl)
 
 -- the second reference to the tuple ends it, and with it both references to the text
-first_given : keys_of (release refs_in two (1 ∷ [])) ≡ key 0 ∷ key 1 ∷ []
+first_given : numbers_of (release refs_in two (1 ∷ [])) ≡ 0 ∷ 1 ∷ []
 first_given = refl
 
 both_given : release refs_in (release refs_in two (1 ∷ [])) (1 ∷ []) ≡ None ∷ None ∷ []
 both_given = refl
 
--- a cell that is made after that has a new key
-made_after : keys_of (make text (None ∷ None ∷ [])) ≡ key 2 ∷ []
+-- a cell that is made after that has a new number
+made_after : numbers_of (make text (None ∷ None ∷ [])) ≡ 2 ∷ []
 made_after = refl
 
--- what goes where a reference less is the last one
-gone_last : (gone 0 two ≡ None) × (gone 0 (make text []) ≡ Some text) × (gone 1 (make text []) ≡ None)
-gone_last = (refl, refl, refl)
-
 -- keys are the machine's numbers in every place of a content
-placed : (content_of (Dict ((CellWord (key 3), CellWord (key 4)) ∷ [])) ≡ DictCell ((ObjectCell 3, ObjectCell 4) ∷ [])) × (content_of (Inst 5 (None ∷ Some PyNone ∷ [])) ≡ InstCell 5 (None ∷ Some NoneObject ∷ []))
+placed : (content_of (Dict (record { pairs = (CellWord (key 3), CellWord (key 4)) ∷ []; marks = None })) ≡ DictCell ((ObjectCell 3, ObjectCell 4) ∷ [])) × (content_of (Inst 5 (None ∷ Some PyNone ∷ [])) ≡ InstCell 5 (None ∷ Some NoneObject ∷ []))
 placed = (refl, refl)
 
 -- a list with two items: one is written over, one is put behind them, and the last one is taken off

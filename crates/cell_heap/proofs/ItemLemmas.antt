@@ -1,5 +1,5 @@
 -- Writes to items and pairs, in the heap's words and in the machine's, and the last item of a list.
-use Rattle.std.proofs.Common.{◌≡◌, refl, sym, ap, ◌∙◌, ℕ, zero, suc, ◌+◌, ◌-◌, arith, List, [], ◌∷◌, ◌++◌, length, take, Option, Some, None}
+use Rattle.std.proofs.Common.{◌≡◌, refl, sym, ap, ◌∙◌, ℕ, zero, suc, ◌-◌, arith, List, [], ◌∷◌, ◌++◌, length, Option, Some, None}
 use Rattle.std.specs.Prelude.{map, slice_get, slice_set, MatchOption}
 use Rattle.std.specs.Option.{option_map, option_flatten, unwrap_or}
 use Rattle.std.proofs.lemmas.List.{map-append, length-append}
@@ -47,11 +47,6 @@ value_set (p ∷ ps) zero o old e =
     ∙ ap (λ w. (word_of p.0, w) ∷ map pair_of ps) (or_mapped o p.1)
 value_set (p ∷ ps) (suc i) o old e = ap (λ z. pair_of p ∷ z) (value_set ps i o old e)
 
-pub length_value : (ps : List (machine.Word × machine.Word)) (i : ℕ) (o : Option machine.Word) → length (set_value ps i o) ≡ length ps
-length_value [] i o = refl
-length_value (p ∷ ps) zero o = refl
-length_value (p ∷ ps) (suc i) o = omega (arith, length_value ps i o)
-
 -- ---- the last item
 length_more : {A : Type 0} (xs : List A) (y : A) → length (xs ++ y ∷ []) - 1 ≡ length xs
 length_more xs y = omega (arith, length-append xs (y ∷ []))
@@ -66,8 +61,3 @@ last_item items rest (Some w) e =
     let ws = map word_of rest in
     let is : map word_of items ≡ ws ++ word_of w ∷ [] = ap (map word_of) e ∙ map-append word_of rest (w ∷ []) in
     sym (ap (λ z. slice_get z (length z - 1)) is ∙ ap (slice_get (ws ++ word_of w ∷ [])) (length_more ws (word_of w)) ∙ get_end ws (word_of w))
-
-pub length_less : {A : Type 0} (count : Option A → ℕ) (xs : List A) (n : ℕ) → ((x : A) → count (Some x) ≡ 1) → suc n ≡ length xs → length (take n xs) + count (slice_get xs n) ≡ length xs
-length_less count [] n one e = cc
-length_less count (x ∷ xs) zero one e = omega (arith, one x, e)
-length_less count (x ∷ xs) (suc n) one e = omega (arith, length_less count xs n one (omega (arith, e)))

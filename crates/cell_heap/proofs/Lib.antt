@@ -1,8 +1,8 @@
-pub mod ListedLemmas
-pub mod MapLemmas
-pub mod RoomLemmas
-pub mod KeyLemmas
+pub mod HeldLemmas
+pub mod MarkLemmas
+pub mod ReleaseLemmas
 pub mod ItemLemmas
 pub mod RefillLemmas
+pub mod KeptLemmas
 pub mod PairLemmas
 mod Examples

@@ -3,7 +3,7 @@ use Rattle.std.specs.Prelude.{ℕ, List, Option, map}
 use Rattle.std.specs.Option.{option_map}
 use Rattle.value_core.specs.Exceptions.{thrown}
 use Rattle.c_core.specs.Machine as machine
-use Rattle.cell_heap.specs.declared.key.Key.{Key}
+use Rattle.slot_arena.specs.declared.key.Key.{Key}
 use Rattle.cell_heap.specs.declared.word.Word.{Word}
 use Rattle.cell_heap.specs.declared.word.Word.TheVariants.{Short, Big, TagError, I64, Char, PyNone, PyTrue, PyFalse, Cell, Null}
 use Rattle.cell_heap.specs.declared.content.Content.{Content}
@@ -32,7 +32,7 @@ abbrev pub content_of : Content → machine.Content
 content_of (Int n) = machine.IntCell n
 content_of (Str text) = machine.StrCell text
 content_of (ListItems items) = machine.ListCell (map word_of items)
-content_of (Dict pairs) = machine.DictCell (map pair_of pairs)
+content_of (Dict dict) = machine.DictCell (map pair_of dict.pairs)
 content_of (Tuple items) = machine.TupleCell (map word_of items)
 content_of (Inst class attributes) = machine.InstCell class (map (option_map word_of) attributes)
 content_of (Exc class text) = machine.ExcCell (thrown class text)

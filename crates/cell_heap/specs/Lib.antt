@@ -1,7 +1,7 @@
 pub mod Contents
-pub mod Room
-pub mod Numbered
-pub mod Keys
+pub mod Numbers
 pub mod Words
 pub mod Pairs
 pub mod Seen
+pub mod Held
+pub mod Marks

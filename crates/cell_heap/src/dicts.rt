@@ -1,16 +1,21 @@
 //! The keys of dicts: what a word is as a key, and where an equal one stands among pairs.
-ghost use Rattle.std.specs.Prelude.{◌≡◌, map};
+ghost use Rattle.std.specs.Prelude.{◌≡◌, map, slice_get, IfSome};
 ghost use Rattle.std.specs.List.{position};
 ghost use Rattle.std.specs.Option.{option_copied, option_map};
 ghost use Rattle.c_core.specs.Cells.{content_at};
 ghost use Rattle.c_core.specs.Keys as keys;
-ghost use Rattle.cell_heap.specs.Contents.{word_of, pair_of, content_of};
+ghost use Rattle.cell_heap.specs.Contents.{number_of, word_of, pair_of, content_of};
+ghost use Rattle.cell_heap.specs.Held.{cells_of};
+ghost use Rattle.cell_heap.specs.Marks.{marks_in, AreMarked, has_key, mark_of, number_mark, text_mark};
 ghost use Rattle.cell_heap.specs.Pairs as pairs_of;
 ghost use Rattle.cell_heap.specs.Seen.{key_seen};
 
-use crate::cells::Cells;
+use crate::cells::{CountedCell, lookup};
 use crate::content::Content;
+use crate::pairs::Pairs;
 use crate::word::Word;
+use indexmap::IndexSet;
+use slot_arena::{Arena, Key};
 
 /// What a word is as the key of a dict. A truth is no number.
 #[derive(Clone, Copy)]
@@ -20,67 +25,155 @@ pub(crate) enum DictKey<'a> {
     Truth(bool),
 }
 
-impl Cells {
-    /// Whether the cell of a word is there, if it has one.
-    pub fn has_cell(&self, word: Word) -> bool
-        ensures { result ≡ pairs_of.has_cell self.now (word_of word) }
-    {
-        match word {
-            Word::Big(key) | Word::Cell(key) => self.contains(key.serial),
-            _ => true,
+/// Whether the cell of a word is there, if it has one.
+pub(crate) fn has_cell(cells: &Arena<CountedCell>, word: Word) -> bool
+    ensures { result ≡ pairs_of.has_cell (cells_of cells.now.entries) (word_of word) }
+{
+    match word {
+        Word::Big(key) | Word::Cell(key) => lookup(cells, key).is_some(),
+        _ => true,
+    }
+}
+
+/// The place of the first pair of a dict whose key equals that of a word. There is none where the word is no key.
+pub(crate) fn place_of_key(cells: &Arena<CountedCell>, dict: &Pairs, word: Word) -> Option<usize>
+    requires { IfSome (marks_in dict.now) (AreMarked (cells_of cells.now.entries) (map (λ pair. word_of pair.0) dict.now.pairs)) }
+    ensures { result ≡ pairs_of.place_for (cells_of cells.now.entries) (keys.key_of (cells_of cells.now.entries) (word_of word)) (map pair_of dict.now.pairs) }
+{
+    match key_of(cells, word) {
+        None => None,
+        Some(key) => place_in(cells, dict, key),
+    }
+}
+
+/// The place of the first pair of a dict that has this key.
+fn place_in(cells: &Arena<CountedCell>, dict: &Pairs, key: DictKey<'_>) -> Option<usize>
+    requires { IfSome (marks_in dict.now) (AreMarked (cells_of cells.now.entries) (map (λ pair. word_of pair.0) dict.now.pairs)) }
+    ensures { result ≡ position (λ pair. keys.is_key (key_seen key.entry) (keys.key_of (cells_of cells.now.entries) (word_of pair.0))) dict.now.pairs }
+{
+    match &dict.marks {
+        None => place_of(cells, dict.pairs.as_slice(), key),
+        Some(marks) => marked_place(cells, dict.pairs.as_slice(), marks, key),
+    }
+}
+
+/// The place of the first of pairs that has this key, where the keys have these marks.
+fn marked_place(
+    cells: &Arena<CountedCell>,
+    pairs: &[(Word, Word)],
+    marks: &IndexSet<u64>,
+    key: DictKey<'_>,
+) -> Option<usize>
+    requires { AreMarked (cells_of cells.now.entries) (map (λ pair. word_of pair.0) pairs.now) marks.now.keys }
+    ensures { result ≡ position (λ pair. keys.is_key (key_seen key.entry) (keys.key_of (cells_of cells.now.entries) (word_of pair.0))) pairs.now }
+{
+    match marks.get_index_of(&mark(key)) {
+        None => None,
+        Some(place) => {
+            if is_key_at(cells, pairs, place, key) {
+                Some(place)
+            } else {
+                // Another key has the same mark.
+                place_of(cells, pairs, key)
+            }
         }
     }
+}
 
-    /// The place of the first of pairs whose key equals that of a word. There is none where the word is no key.
-    pub fn place_of_key(&self, pairs: &[(Word, Word)], word: Word) -> Option<usize>
-        ensures { result ≡ pairs_of.place_for self.now (keys.key_of self.now (word_of word)) (map pair_of pairs.now) }
-    {
-        match self.key_of(word) {
+/// Whether the pair at a place has this key.
+fn is_key_at(
+    cells: &Arena<CountedCell>,
+    pairs: &[(Word, Word)],
+    place: usize,
+    key: DictKey<'_>,
+) -> bool
+    ensures { result ≡ has_key (cells_of cells.now.entries) (key_seen key.entry) (slice_get pairs.now place) }
+{
+    match pairs.get(place) {
+        None => false,
+        Some(pair) => is_key(cells, key, pair.0),
+    }
+}
+
+/// The mark of the key that a word is, if it is one.
+pub(crate) fn mark_of_word(cells: &Arena<CountedCell>, word: Word) -> Option<u64>
+    ensures { result ≡ option_map mark_of (keys.key_of (cells_of cells.now.entries) (word_of word)) }
+{
+    match key_of(cells, word) {
+        None => None,
+        Some(key) => Some(mark(key)),
+    }
+}
+
+/// The mark of a key: equal keys have one mark, and few others have it too.
+fn mark(key: DictKey<'_>) -> u64
+    ensures { result ≡ mark_of (key_seen key.entry) }
+{
+    match key {
+        DictKey::Number(n) => number_mark(n),
+        DictKey::Text(text) => text_mark(text.as_bytes()),
+        DictKey::Truth(true) => 1,
+        DictKey::Truth(false) => 0,
+    }
+}
+
+fn number_mark(n: i128) -> u64
+    ensures { result ≡ number_mark n }
+{
+    let half = (n.unsigned_abs() % 0x8000_0000_0000_0000) as u64;
+    if n < 0 { 2 * half + 1 } else { 2 * half }
+}
+
+fn text_mark(bytes: &[u8]) -> u64
+    ensures { result ≡ text_mark 0 bytes.now }
+{
+    let mut mark = 0;
+    for byte in bytes {
+        mark = ((mark as u128 * 1_099_511_628_211 + u128::from(*byte))
+            % 0x1_0000_0000_0000_0000) as u64;
+    }
+    mark
+}
+
+/// The place of the first of pairs that has this key.
+fn place_of(cells: &Arena<CountedCell>, pairs: &[(Word, Word)], key: DictKey<'_>) -> Option<usize>
+    ensures { result ≡ position (λ pair. keys.is_key (key_seen key.entry) (keys.key_of (cells_of cells.now.entries) (word_of pair.0))) pairs.now }
+{
+    pairs.iter().position(|pair| is_key(cells, key, pair.0))
+}
+
+/// Whether a word is a key that equals this one.
+fn is_key(cells: &Arena<CountedCell>, key: DictKey<'_>, word: Word) -> bool
+    ensures { result ≡ keys.is_key (key_seen key.entry) (keys.key_of (cells_of cells.now.entries) (word_of word)) }
+{
+    match key_of(cells, word) {
+        None => false,
+        Some(other) => same_key(key, other),
+    }
+}
+
+/// What a word is as a key, nothing where it is none or its cell is gone.
+fn key_of(cells: &Arena<CountedCell>, word: Word) -> Option<DictKey<'_>>
+    ensures { option_map key_seen result ≡ keys.key_of (cells_of cells.now.entries) (word_of word) }
+{
+    match word {
+        Word::PyTrue => Some(DictKey::Truth(true)),
+        Word::PyFalse => Some(DictKey::Truth(false)),
+        Word::Cell(key) => match held(cells, key) {
             None => None,
-            Some(key) => self.place_of(pairs, key),
-        }
+            Some(content) => key_in(content),
+        },
+        _ => None,
     }
+}
 
-    /// The place of the first of pairs that has this key.
-    fn place_of(&self, pairs: &[(Word, Word)], key: DictKey<'_>) -> Option<usize>
-        ensures { result ≡ position (λ pair. keys.is_key (key_seen key.entry) (keys.key_of self.now (word_of pair.0))) pairs.now }
-    {
-        pairs.iter().position(|pair| self.is_key(key, pair.0))
-    }
-
-    /// Whether a word is a key that equals this one.
-    fn is_key(&self, key: DictKey<'_>, word: Word) -> bool
-        ensures { result ≡ keys.is_key (key_seen key.entry) (keys.key_of self.now (word_of word)) }
-    {
-        match self.key_of(word) {
-            None => false,
-            Some(other) => same_key(key, other),
-        }
-    }
-
-    /// What a word is as a key, nothing where it is none or its cell is gone.
-    fn key_of(&self, word: Word) -> Option<DictKey<'_>>
-        ensures { option_map key_seen result ≡ keys.key_of self.now (word_of word) }
-    {
-        match word {
-            Word::PyTrue => Some(DictKey::Truth(true)),
-            Word::PyFalse => Some(DictKey::Truth(false)),
-            Word::Cell(key) => match self.held(key.serial) {
-                None => None,
-                Some(content) => key_in(content),
-            },
-            _ => None,
-        }
-    }
-
-    /// What the cell of a serial holds, if it is there.
-    fn held(&self, serial: u128) -> Option<&Content>
-        ensures { option_map content_of (option_copied result) ≡ content_at self.now serial }
-    {
-        match self.get(serial) {
-            None => None,
-            Some(slot) => Some(&slot.content),
-        }
+/// What the cell that a key names holds, if it is there.
+fn held(cells: &Arena<CountedCell>, key: Key) -> Option<&Content>
+    ensures { option_map content_of (option_copied result) ≡ content_at (cells_of cells.now.entries) (number_of key) }
+{
+    match lookup(cells, key) {
+        None => None,
+        Some(cell) => Some(&cell.content),
     }
 }
 

@@ -1,13 +1,9 @@
-ghost use Rattle.std.specs.Prelude.{◌≡◌, ◌+◌, ◌≤◌, [], ◌++◌, IfOk, OnOk};
-ghost use Rattle.std.specs.Vec.{vec_len, vec_capacity};
-ghost use Rattle.c_core.specs.Machine.{refs_in};
-ghost use Rattle.c_core.specs.Release.{after, freed, release};
-ghost use Rattle.cell_heap.specs.Room.{places_in};
-
-use crate::cells::Cells;
+use crate::cells::{CountedCell, found, lookup};
 use crate::content::Content;
-use crate::key::Key;
+use crate::dicts::{has_cell, mark_of_word, place_of_key};
+use crate::release::give;
 use crate::word::Word;
+use slot_arena::{Arena, Key};
 use std::alloc::Global;
 use std::marker::Model;
 use thiserror::Error;
@@ -42,35 +38,33 @@ impl From<NoMemory> for HeapError {
 /// Counted cells. Contracts see them as the machine's cells (`Cells` of c_core).
 #[derive(Drop)]
 pub struct Heap {
-    cells: Cells,
-    // How many places for a word all contents have, and the serials whose references a release still has to give up, for
-    // as many of which there is room.
-    places: usize,
-    todo: Vec<u128>,
+    alloc: Global,
+    cells: Arena<CountedCell>,
 }
 
 impl Model for Heap {
-    ghost use Rattle.std.specs.Vec.{vec_capacity};
     ghost use Rattle.c_core.specs.Cells.{Cells};
     ghost use Rattle.c_core.specs.Machine.{Content};
 
     ghost Value = { Cells Content };
 
-    ghost use Rattle.cell_heap.specs.Room.{HasRoom};
+    ghost use Rattle.std.specs.Prelude.{◌≡◌, []};
+    ghost use Rattle.cell_heap.specs.Held.{cells_of};
+    ghost use Rattle.cell_heap.specs.Marks.{IsKept};
 
-    ghost view = { λ heap. heap.cells };
+    ghost view = { λ heap. cells_of heap.cells.entries };
 
-    ghost invariant = { λ heap. HasRoom heap.cells heap.places heap.todo.items (vec_capacity heap.todo) };
+    ghost invariant = { λ heap. IsKept heap.cells };
 }
 
 impl Heap {
-    ghost use Rattle.std.specs.Prelude.{◌≡◌, ◌+◌, ◌^◌, ◌<◌, ◌&&◌, [], ◌∷◌, length, is_ok, is_some, is_none, true, Some, None, IfSome, IfOk, OnOk, OnErr, MatchResult};
+    ghost use Rattle.std.specs.Prelude.{◌≡◌, ◌+◌, ◌^◌, ◌<◌, ◌&&◌, [], ◌∷◌, length, map, is_ok, is_some, is_none, true, Some, None, IfSome, IfOk, OnOk, OnErr, MatchResult};
     ghost use Rattle.c_core.specs.Cells.{content_at, count_at, make, take_one};
     ghost use Rattle.c_core.specs.Machine.{refs_in};
     ghost use Rattle.c_core.specs.Release.{release};
     ghost use Rattle.std.specs.Option.{option_map};
     ghost use Rattle.cell_heap.specs.Contents.{number_of, word_of, pair_of, content_of};
-    ghost use Rattle.cell_heap.specs.Keys.{keys_of};
+    ghost use Rattle.cell_heap.specs.Numbers.{numbers_of};
     ghost use Rattle.cell_heap.specs.Pairs.{has_cell, place_at, is_dict, with_pair, without_pair, pair_at};
     ghost use Rattle.cell_heap.specs.Words.{with_word, with_last, without_last, is_list, refill_by, word_at, last_at, is_dead};
 
@@ -79,9 +73,8 @@ impl Heap {
         ensures { result ≡ [] }
     {
         Heap {
-            cells: Cells::new(alloc),
-            places: 0,
-            todo: Vec::new(alloc),
+            alloc,
+            cells: Arena::new(alloc),
         }
     }
 
@@ -91,17 +84,15 @@ impl Heap {
     /// # Errors
     ///
     /// `Memory`; then the heap is as before.
-    pub fn make(&mut self, content: Content) -> Result<Key, NoMemory>
+    pub fn make(&mut self, mut content: Content) -> Result<Key, NoMemory>
         requires { length self.old + 1 < 2 ^ 128 }
         ensures key { IfOk result (λ key. number_of key ≡ length self.old) }
         ensures made { OnOk result (self.new ≡ make (content_of content) self.old) }
         ensures err { OnErr result (self.new ≡ self.old) }
     {
-        let places = self.places as u128 + content.places();
-        let places = more_room(&mut self.todo, places)?;
-        let serial = self.cells.make(content)?;
-        self.places = places;
-        Ok(Key { serial })
+        self.cells.reserve(1)?;
+        content.forget_marks();
+        Ok(self.cells.insert(CountedCell { count: 1, content }))
     }
 
     /// Takes one reference more to a cell. It takes no memory.
@@ -116,11 +107,15 @@ impl Heap {
         ensures dead { OnErr result (self.new ≡ self.old) }
         ensures made { length self.new ≡ length self.old }
     {
-        if self.cells.contains(key.serial) {
-            self.cells.take(key.serial);
-            Ok(())
-        } else {
-            Err(Dead)
+        let Some(key) = found(&self.cells, key) else {
+            return Err(Dead);
+        };
+        match self.cells.get_mut(key) {
+            None => Err(Dead),
+            Some(cell) => {
+                cell.count += 1;
+                Ok(())
+            }
         }
     }
 
@@ -136,17 +131,12 @@ impl Heap {
         ensures dead { OnErr result (self.new ≡ self.old) }
         ensures made { length self.new ≡ length self.old }
     {
-        if !self.cells.contains(key.serial) {
-            return Err(Dead);
+        if found(&self.cells, key).is_some() {
+            give(&mut self.cells, key);
+            Ok(())
+        } else {
+            Err(Dead)
         }
-        lower(
-            &mut self.cells,
-            &mut self.places,
-            &mut self.todo,
-            key.serial,
-        );
-        lower_all(&mut self.cells, &mut self.places, &mut self.todo);
-        Ok(())
     }
 
     /// What a cell holds.
@@ -157,9 +147,9 @@ impl Heap {
     pub fn content(&self, key: Key) -> Result<&Content, Dead>
         ensures { MatchResult result (λ content. content_at self.now (number_of key) ≡ Some (content_of content.now)) (λ _. content_at self.now (number_of key) ≡ None) }
     {
-        match self.cells.get(key.serial) {
+        match lookup(&self.cells, key) {
             None => Err(Dead),
-            Some(slot) => Ok(&slot.content),
+            Some(cell) => Ok(&cell.content),
         }
     }
 
@@ -172,9 +162,9 @@ impl Heap {
         ensures there { is_ok result ≡ is_some (content_at self.now (number_of key)) }
         ensures count { IfOk result (λ count. count ≡ count_at self.now (number_of key)) }
     {
-        match self.cells.get(key.serial) {
+        match lookup(&self.cells, key) {
             None => Err(Dead),
-            Some(slot) => Ok(slot.count),
+            Some(cell) => Ok(cell.count),
         }
     }
 
@@ -188,9 +178,9 @@ impl Heap {
         ensures there { is_ok result ≡ is_some (content_at self.now (number_of key)) }
         ensures word { IfOk result (λ word. option_map word_of word ≡ word_at self.now (number_of key) place) }
     {
-        match self.cells.get(key.serial) {
+        match lookup(&self.cells, key) {
             None => Err(Dead),
-            Some(slot) => Ok(slot.content.word_at(place)),
+            Some(cell) => Ok(cell.content.word_at(place)),
         }
     }
 
@@ -213,10 +203,12 @@ impl Heap {
         ensures dead { OnErr result (self.new ≡ self.old) }
         ensures made { length self.new ≡ length self.old }
     {
-        if self.cells.contains(key.serial) {
-            Ok(self.cells.set_word(key.serial, place, word))
-        } else {
-            Err(Dead)
+        let Some(key) = found(&self.cells, key) else {
+            return Err(Dead);
+        };
+        match self.cells.get_mut(key) {
+            None => Err(Dead),
+            Some(cell) => Ok(cell.content.set_word(place, word)),
         }
     }
 
@@ -232,14 +224,16 @@ impl Heap {
         ensures err { OnErr result (self.new ≡ self.old) }
         ensures made { length self.new ≡ length self.old }
     {
-        if !self.cells.contains(key.serial) {
+        let Some(key) = found(&self.cells, key) else {
             return Err(HeapError::Dead);
+        };
+        match self.cells.get_mut(key) {
+            None => Err(HeapError::Dead),
+            Some(cell) => {
+                cell.content.push_word(word)?;
+                Ok(())
+            }
         }
-        let places = self.places as u128 + 1;
-        let places = more_room(&mut self.todo, places)?;
-        self.cells.push_word(key.serial, word)?;
-        self.places = places;
-        Ok(())
     }
 
     /// Takes the last word off the list that a cell holds, and answers it. There is none where the list is empty, and none
@@ -255,15 +249,12 @@ impl Heap {
         ensures dead { OnErr result (self.new ≡ self.old) }
         ensures made { length self.new ≡ length self.old }
     {
-        if !self.cells.contains(key.serial) {
+        let Some(key) = found(&self.cells, key) else {
             return Err(Dead);
-        }
-        match self.cells.pop_word(key.serial) {
-            None => Ok(None),
-            Some(word) => {
-                self.places -= 1;
-                Ok(Some(word))
-            }
+        };
+        match self.cells.get_mut(key) {
+            None => Err(Dead),
+            Some(cell) => Ok(cell.content.pop_word()),
         }
     }
 
@@ -278,14 +269,17 @@ impl Heap {
         ensures there { is_ok result ≡ (is_some (content_at self.now (number_of dict)) && has_cell self.now (word_of key)) }
         ensures place { IfOk result (λ place. place ≡ place_at self.now (number_of dict) (word_of key)) }
     {
-        let Some(slot) = self.cells.get(dict.serial) else {
+        let Some(dict) = found(&self.cells, dict) else {
             return Err(Dead);
         };
-        if !self.cells.has_cell(key) {
+        if !has_cell(&self.cells, key) {
             return Err(Dead);
         }
-        match &slot.content {
-            Content::Dict(pairs) => Ok(self.cells.place_of_key(pairs.as_slice(), key)),
+        let Some(cell) = self.cells.get(dict) else {
+            return Err(Dead);
+        };
+        match &cell.content {
+            Content::Dict(dict) => Ok(place_of_key(&self.cells, dict, key)),
             _ => Ok(None),
         }
     }
@@ -302,14 +296,17 @@ impl Heap {
         ensures err { OnErr result (self.new ≡ self.old) }
         ensures made { length self.new ≡ length self.old }
     {
-        if !self.cells.contains(dict.serial) {
+        let Some(dict) = found(&self.cells, dict) else {
             return Err(HeapError::Dead);
+        };
+        let mark = mark_of_word(&self.cells, pair.0);
+        match self.cells.get_mut(dict) {
+            None => Err(HeapError::Dead),
+            Some(cell) => {
+                cell.content.push_pair(pair, mark)?;
+                Ok(())
+            }
         }
-        let places = self.places as u128 + 2;
-        let places = more_room(&mut self.todo, places)?;
-        self.cells.push_pair(dict.serial, pair)?;
-        self.places = places;
-        Ok(())
     }
 
     /// Takes the pair at a place out of the dict that a cell holds, and answers it; those behind it move up. There is none where
@@ -326,70 +323,20 @@ impl Heap {
         ensures dead { OnErr result (self.new ≡ self.old) }
         ensures made { length self.new ≡ length self.old }
     {
-        if !self.cells.contains(dict.serial) {
+        let Some(dict) = found(&self.cells, dict) else {
             return Err(Dead);
-        }
-        match self.cells.take_pair(dict.serial, place) {
-            None => Ok(None),
-            Some(pair) => {
-                self.places -= 2;
-                Ok(Some(pair))
-            }
+        };
+        let alloc = self.alloc;
+        match self.cells.get_mut(dict) {
+            None => Err(Dead),
+            Some(cell) => Ok(cell.content.take_pair(alloc, place)),
         }
     }
 
     /// The keys of the cells that are there, in the order in which they were made.
     pub fn keys(&self, alloc: Global) -> Result<Many<Key>, NoMemory>
-        ensures { IfOk result (λ keys. keys ≡ keys_of self.now) }
+        ensures { IfOk result (λ keys. map number_of keys ≡ numbers_of self.now) }
     {
         self.cells.keys(alloc)
-    }
-}
-
-// Makes room in an empty list for as many references as there are places, and answers how many these are.
-fn more_room(todo: &mut Vec<u128>, places: u128) -> Result<usize, NoMemory>
-    ensures places { IfOk result (λ counted. counted ≡ places) }
-    ensures room { OnOk result (vec_len todo.new + places ≤ vec_capacity todo.new) }
-    ensures items { todo.new.items ≡ todo.old.items }
-    ensures capacity { vec_capacity todo.old ≤ vec_capacity todo.new }
-{
-    if places > usize::MAX as u128 {
-        return Err(NoMemory);
-    }
-    let places = places as usize;
-    todo.reserve(places)?;
-    Ok(places)
-}
-
-// Gives one reference to the cell of a serial up, and adds those that it lets go of to the list.
-fn lower(cells: &mut Cells, places: &mut usize, todo: &mut Vec<u128>, serial: u128)
-    requires counts { places.old ≡ places_in cells.old }
-    requires room { vec_len todo.old + places.old ≤ vec_capacity todo.old }
-    ensures cells { cells.new ≡ after serial cells.old }
-    ensures todo { todo.new.items ≡ todo.old.items ++ freed refs_in serial cells.old }
-    ensures counts { places.new ≡ places_in cells.new }
-    ensures room { vec_len todo.new + places.new ≤ vec_capacity todo.new }
-{
-    match cells.lower(serial) {
-        None => {}
-        Some(content) => {
-            content.add_references(todo);
-            let counted = *places;
-            *places = counted - content.places() as usize;
-        }
-    }
-}
-
-// Gives all references of the list up, and those that cells let go of on the way.
-fn lower_all(cells: &mut Cells, places: &mut usize, todo: &mut Vec<u128>)
-    requires counts { places.old ≡ places_in cells.old }
-    requires room { vec_len todo.old + places.old ≤ vec_capacity todo.old }
-    ensures cells { cells.new ≡ release refs_in cells.old todo.old.items }
-    ensures todo { todo.new.items ≡ [] }
-    ensures counts { places.new ≡ places_in cells.new }
-    ensures room { places.new ≤ vec_capacity todo.new }
-{
-    while let Some(serial) = todo.pop() {
-        lower(cells, places, todo, serial);
     }
 }

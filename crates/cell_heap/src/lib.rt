@@ -8,18 +8,24 @@
 //! `specs/Words.antt` which word stands at a place of a content, and what becomes of it as words are written, and
 //! `specs/Pairs.antt` the same of the pairs of a dict, with the place of a key among them.
 //!
-//! `heap` has the calls, and `dicts` compares the keys of dicts. The cells lie in an ordered map by serial, in `cells`, and
-//! beside them there is room for the serials that a release still has to give up: as much as all contents have places.
+//! `heap` has the calls, and `dicts` compares the keys of dicts. The cells lie in an arena: `cells` finds that of a key, by
+//! its slot and, where this has another serial by now, by its serial alone. `release` gives references up: a cell without
+//! any is condemned, and the condemned ones are taken off until none is left. In a dict of `pairs` a key is found by its mark.
+//! A text of `letters` knows whether it is ASCII alone, and then finds a code point at once.
 #![tactic(auto)]
 
 mod cells;
 mod content;
 mod dicts;
 mod heap;
-mod key;
+mod letters;
+mod pairs;
+mod release;
 mod word;
 
 pub use content::Content;
 pub use heap::{Dead, Heap, HeapError};
-pub use key::Key;
+pub use letters::Letters;
+pub use pairs::Pairs;
+pub use slot_arena::Key;
 pub use word::Word;

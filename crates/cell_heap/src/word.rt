@@ -3,7 +3,7 @@ ghost use Rattle.std.specs.Option.{option_map};
 ghost use Rattle.c_core.specs.Machine.{refs_of};
 ghost use Rattle.cell_heap.specs.Contents.{number_of, word_of};
 
-use crate::key::Key;
+use slot_arena::Key;
 
 /// What a variable, a global or a place of a container holds (mypyc's developer guide, "Value representation").
 /// `specs/Contents.antt` says which word of the machine it is.

@@ -9,5 +9,6 @@ pub mod Condemned
 pub mod Sound
 pub mod Changes
 pub mod Keys
+pub mod Finding
 pub mod ContentsLemmas
 pub mod Examples

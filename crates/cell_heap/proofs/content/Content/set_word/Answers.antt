@@ -5,6 +5,8 @@ use Rattle.c_core.specs.Machine.{ListCell, TupleCell, InstCell}
 use Rattle.cell_heap.specs.Contents.{word_of, content_of}
 use Rattle.cell_heap.specs.Words.{word_in, with_word}
 use Rattle.cell_heap.proofs.ItemLemmas.{map_set, map_get, flat_get}
+use Rattle.cell_heap.specs.Marks.{marks_of, keys_in}
+use Rattle.cell_heap.proofs.PairLemmas.{keys_written}
 use Rattle.cell_heap.proofs.content.Content.set_word.Goals as goal
 
 pub returns-in-Inst-clause-written : goal.returns-in-Inst-clause-written
@@ -40,3 +42,11 @@ returns-in-Tuple-clause-old c =
     ap (option_map word_of) c.write_item-in-Tuple.ensures.old
     ∙ map_get word_of c.in-Tuple.items c.args.place
     ∙ ap (λ x. word_in c.args.place (content_of x)) (sym c.in-Tuple.is)
+
+pub returns-in-Dict-clause-keys : goal.returns-in-Dict-clause-keys
+returns-in-Dict-clause-keys c = record {
+  keys =
+      keys_written c.in-Dict.dict.pairs c.write_value.new.pairs c.args.place (option_map word_of c.args.word) c.write_value.ensures.written
+      ∙ ap keys_in (sym c.in-Dict.is);
+  marks = ap marks_of (sym c.in-Dict.is);
+}

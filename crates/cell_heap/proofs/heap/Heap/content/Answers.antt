@@ -1,14 +1,13 @@
-use Rattle.std.proofs.Common.{sym, ap, ◌∙◌, Some}
+use Rattle.std.proofs.Common.{sym, ap, ◌∙◌}
 use Rattle.c_core.specs.Cells as cells
-use Rattle.cell_heap.specs.declared.cells.CountedCell.{CountedCell}
-use Rattle.cell_heap.specs.Contents.{content_of}
-use Rattle.cell_heap.proofs.ListedLemmas.{content_at-cell}
+use Rattle.cell_heap.specs.Held.{cells_of}
+use Rattle.cell_heap.proofs.HeldLemmas.{content_at-cell}
 use Rattle.cell_heap.proofs.heap.Heap.content.Goals as goal
 
 pub returns-in-None : goal.returns-in-None
 returns-in-None c =
-    rw (← c.self.view_is) (content_at-cell c.self.inside.cells c.args.key.serial ∙ ap cells.content_of (sym c.in-None.ensures))
+    rw (← c.self.view_is) (content_at-cell (cells_of c.self.inside.cells.entries) c.args.key.serial ∙ ap cells.content_of (sym c.in-None.ensures))
 
 pub returns-in-Some : goal.returns-in-Some
 returns-in-Some c =
-    rw (← c.self.view_is) (content_at-cell c.self.inside.cells c.args.key.serial ∙ ap cells.content_of (sym c.in-Some.ensures) ∙ ap (λ (s : CountedCell). Some (content_of s.content)) (sym c.deref.ensures))
+    rw (← c.self.view_is) (content_at-cell (cells_of c.self.inside.cells.entries) c.args.key.serial ∙ ap cells.content_of (sym c.in-Some.ensures))

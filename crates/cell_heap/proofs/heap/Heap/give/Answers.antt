@@ -1,19 +1,18 @@
-use Rattle.std.proofs.Common.{sym, ap, ◌∙◌, [], ◌∷◌, ◌++◌, length, append-nil}
-use Rattle.c_core.specs.Machine.{refs_in}
-use Rattle.c_core.specs.Release.{after, freed, release}
-use Rattle.c_core.proofs.Order.{release_first}
-use Rattle.cell_heap.proofs.RoomLemmas.{length-release}
+use Rattle.std.proofs.Common.{sym, ap, ◌∙◌, ◌∷◌, [], ◌++◌, length}
+use Rattle.std.specs.Option.{is_some}
+use Rattle.cell_heap.specs.Held.{cells_of, waiting}
+use Rattle.cell_heap.proofs.HeldLemmas.{is_found}
+use Rattle.cell_heap.proofs.ReleaseLemmas.{length-release}
 use Rattle.cell_heap.proofs.heap.Heap.give.Goals as goal
 
-released : goal.returns-clause-ok
-released c =
-    let cells = c.self.inside.cells in
-    let n = c.args.key.serial in
-    let waits = c.lower.ensures.todo ∙ ap (λ t. t ++ freed refs_in n cells) c.self.invariant.idle ∙ sym (append-nil (freed refs_in n cells)) in
-    rw (← c.self.view_is) (c.lower_all.ensures.cells ∙ ap (λ h. release refs_in h c.lower.new.todo.items) c.lower.ensures.cells ∙ ap (release refs_in (after n cells)) waits ∙ sym (release_first refs_in cells n []))
+pub returns-then-is_some-clause-there : goal.returns-then-is_some-clause-there
+returns-then-is_some-clause-there c =
+    rw (← c.self.view_is) (sym c.if-is_some.true ∙ c.is_some.ensures ∙ ap is_some c.found.ensures ∙ is_found c.self.inside.cells.entries c.args.key.serial)
 
-pub returns-clause-ok : goal.returns-clause-ok
-returns-clause-ok c = released c
+pub returns-then-is_some-clause-made : goal.returns-then-is_some-clause-made
+returns-then-is_some-clause-made c =
+    rw (← c.self.view_is) (ap length c.give.ensures.cells ∙ length-release (cells_of c.self.inside.cells.entries) (c.args.key.serial ∷ [] ++ waiting c.self.inside.cells.condemned))
 
-pub returns-clause-made : goal.returns-clause-made
-returns-clause-made c = ap length (released c) ∙ length-release c.args.self.now (c.args.key.serial ∷ [])
+pub returns-else-is_some-clause-there : goal.returns-else-is_some-clause-there
+returns-else-is_some-clause-there c =
+    rw (← c.self.view_is) (sym c.if-is_some.false ∙ c.is_some.ensures ∙ ap is_some c.found.ensures ∙ is_found c.self.inside.cells.entries c.args.key.serial)

@@ -1,33 +1,54 @@
-use Rattle.std.proofs.Common.{ap, ◌∙◌, arith, length}
-use Rattle.cell_heap.specs.Room.{places_in}
-use Rattle.cell_heap.specs.Words.{without_last}
-use Rattle.cell_heap.proofs.RefillLemmas.{some_count, places-popped, length-refill_by}
+use Rattle.std.proofs.Common.{refl, sym, ap, ◌∙◌, is_ok}
+use Rattle.std.specs.Option.{is_some, option_and_then}
+use Rattle.cell_heap.specs.declared.cells.CountedCell.{CountedCell}
+use Rattle.cell_heap.specs.Held.{cells_of}
+use Rattle.cell_heap.specs.Words.{last_in, without_last}
+use Rattle.cell_heap.proofs.RefillLemmas.{content_none, content_lost, content_found, refill-writes}
+use Rattle.std.proofs.Common.{subst}
+use Rattle.cell_heap.specs.Marks.{IsKept}
+use Rattle.cell_heap.proofs.MarkLemmas.{has_kept}
+use Rattle.cell_heap.proofs.KeptLemmas.{kept_written, without_last-key}
 use Rattle.cell_heap.proofs.heap.Heap.pop_word.Goals as goal
+use Rattle.cell_heap.proofs.heap.Heap.pop_word.Goals.{in-None, in-Some-get_mut}
+
+pub returns-in_default-clause-there : goal.returns-in_default-clause-there
+returns-in_default-clause-there c =
+    rw (← c.self.view_is) (sym (ap is_some (content_none c.self.inside.cells.entries c.args.key.serial c.in_default.ensures)))
+
+pub returns-clause-there : goal.returns-clause-there
+returns-clause-there c =
+    rw (← c.self.view_is) (elim c.match-get_mut.branch [
+      | in-None w ↦ ap is_ok w.result-is ∙ sym (ap is_some (content_lost c.self.inside.cells.entries c.args.key.serial c.in-Some.key c.in-Some.ensures w.in-None.ensures.value))
+      | in-Some-get_mut w ↦ ap is_ok w.result-is ∙ sym (ap is_some (content_found c.self.inside.cells.entries c.args.key.serial c.in-Some.key w.in-Some-get_mut.cell.now c.in-Some.ensures w.in-Some-get_mut.ensures.value))
+    ])
+
+pub returns-clause-ok : goal.returns-clause-ok
+returns-clause-ok c =
+    rw (← c.self.view_is) (elim c.match-get_mut.branch [
+      | in-None w ↦ rw w.result-is tt
+      | in-Some-get_mut w ↦
+          let cell = w.in-Some-get_mut.cell.now in
+          let new : CountedCell = record { count = cell.count; content = w.pop_word.new.self } in
+          rw w.result-is (ap (λ i. cells_of i.cells.entries) w.self-inside-is
+          ∙ refill-writes (without_last) c.self.inside.cells.entries c.args.key.serial c.in-Some.key cell new c.in-Some.ensures w.in-Some-get_mut.ensures.value refl w.pop_word.ensures.rest)
+    ])
+
+pub returns-clause-last : goal.returns-clause-last
+returns-clause-last c =
+    rw (← c.self.view_is) (elim c.match-get_mut.branch [
+      | in-None w ↦ rw w.result-is tt
+      | in-Some-get_mut w ↦
+          rw w.result-is (w.pop_word.ensures.last
+          ∙ sym (ap (option_and_then (last_in)) (content_found c.self.inside.cells.entries c.args.key.serial c.in-Some.key w.in-Some-get_mut.cell.now c.in-Some.ensures w.in-Some-get_mut.ensures.value)))
+    ])
 
 pub invariant_of-self : goal.invariant_of-self
-invariant_of-self c = record {
-  counts =
-      omega (arith, c.self.invariant.counts, ap places_in c.pop_word.ensures.rest, places-popped c.args.key.serial c.self.inside.cells, ap some_count c.in-None.ensures.last);
-  room = c.self.invariant.room;
-  idle = c.self.invariant.idle;
-}
-
-pub overflow_sub-self : goal.overflow_sub-self
-overflow_sub-self c =
-    omega (arith, c.self.invariant.counts, places-popped c.args.key.serial c.self.inside.cells, ap some_count c.in-Some.ensures.last)
-
-pub invariant_of-self-in-Some : goal.invariant_of-self-in-Some
-invariant_of-self-in-Some c = record {
-  counts =
-      omega (arith, c.self.invariant.counts, ap places_in c.pop_word.ensures.rest, places-popped c.args.key.serial c.self.inside.cells, ap some_count c.in-Some.ensures.last);
-  room = omega (arith, c.self.invariant.room);
-  idle = c.self.invariant.idle;
-}
-
-pub returns-in-None-clause-made : goal.returns-in-None-clause-made
-returns-in-None-clause-made c =
-    rw (← c.self.view_is) (ap length c.pop_word.ensures.rest ∙ length-refill_by without_last c.args.key.serial c.self.inside.cells)
-
-pub returns-in-Some-clause-made : goal.returns-in-Some-clause-made
-returns-in-Some-clause-made c =
-    rw (← c.self.view_is) (ap length c.pop_word.ensures.rest ∙ length-refill_by without_last c.args.key.serial c.self.inside.cells)
+invariant_of-self c =
+    elim c.match-get_mut.branch [
+      | in-None w ↦ subst (λ i. IsKept i.cells) (sym w.self-inside-is) c.self.invariant
+      | in-Some-get_mut w ↦
+          let cell = w.in-Some-get_mut.cell.now in
+          let new : CountedCell = record { count = cell.count; content = w.pop_word.new.self } in
+          subst (λ i. IsKept i.cells) (sym w.self-inside-is)
+          (kept_written (without_last) c.self.inside.cells c.args.key.serial c.in-Some.key cell new (without_last-key) c.in-Some.ensures w.in-Some-get_mut.ensures.value refl w.pop_word.ensures.rest (λ after narrows. has_kept after cell.content w.pop_word.new.self w.pop_word.ensures.keys) c.self.invariant)
+    ]

@@ -1,20 +1,55 @@
-use Rattle.std.proofs.Common.{sym, ap, ◌∙◌, length}
-use Rattle.std.specs.Option.{option_map}
+use Rattle.std.proofs.Common.{refl, sym, ap, ◌∙◌, is_ok}
+use Rattle.std.specs.Option.{is_some, option_map, option_and_then}
+use Rattle.cell_heap.specs.declared.cells.CountedCell.{CountedCell}
 use Rattle.cell_heap.specs.Contents.{word_of}
-use Rattle.cell_heap.specs.Room.{places_in}
-use Rattle.cell_heap.specs.Words.{with_word}
-use Rattle.cell_heap.proofs.RefillLemmas.{places-written, length-refill_by}
+use Rattle.cell_heap.specs.Held.{cells_of}
+use Rattle.cell_heap.specs.Words.{word_in, with_word}
+use Rattle.cell_heap.proofs.RefillLemmas.{content_none, content_lost, content_found, refill-writes}
+use Rattle.std.proofs.Common.{subst}
+use Rattle.cell_heap.specs.Marks.{IsKept}
+use Rattle.cell_heap.proofs.MarkLemmas.{has_kept}
+use Rattle.cell_heap.proofs.KeptLemmas.{kept_written, with_word-key}
 use Rattle.cell_heap.proofs.heap.Heap.set_word.Goals as goal
+use Rattle.cell_heap.proofs.heap.Heap.set_word.Goals.{in-None, in-Some-get_mut}
+
+pub returns-in_default-clause-there : goal.returns-in_default-clause-there
+returns-in_default-clause-there c =
+    rw (← c.self.view_is) (sym (ap is_some (content_none c.self.inside.cells.entries c.args.key.serial c.in_default.ensures)))
+
+pub returns-clause-there : goal.returns-clause-there
+returns-clause-there c =
+    rw (← c.self.view_is) (elim c.match-get_mut.branch [
+      | in-None w ↦ ap is_ok w.result-is ∙ sym (ap is_some (content_lost c.self.inside.cells.entries c.args.key.serial c.in-Some.key c.in-Some.ensures w.in-None.ensures.value))
+      | in-Some-get_mut w ↦ ap is_ok w.result-is ∙ sym (ap is_some (content_found c.self.inside.cells.entries c.args.key.serial c.in-Some.key w.in-Some-get_mut.cell.now c.in-Some.ensures w.in-Some-get_mut.ensures.value))
+    ])
+
+pub returns-clause-ok : goal.returns-clause-ok
+returns-clause-ok c =
+    rw (← c.self.view_is) (elim c.match-get_mut.branch [
+      | in-None w ↦ rw w.result-is tt
+      | in-Some-get_mut w ↦
+          let cell = w.in-Some-get_mut.cell.now in
+          let new : CountedCell = record { count = cell.count; content = w.set_word.new.self } in
+          rw w.result-is (ap (λ i. cells_of i.cells.entries) w.self-inside-is
+          ∙ refill-writes (with_word c.args.place (option_map word_of c.args.word)) c.self.inside.cells.entries c.args.key.serial c.in-Some.key cell new c.in-Some.ensures w.in-Some-get_mut.ensures.value refl w.set_word.ensures.written)
+    ])
+
+pub returns-clause-old : goal.returns-clause-old
+returns-clause-old c =
+    rw (← c.self.view_is) (elim c.match-get_mut.branch [
+      | in-None w ↦ rw w.result-is tt
+      | in-Some-get_mut w ↦
+          rw w.result-is (w.set_word.ensures.old
+          ∙ sym (ap (option_and_then (word_in c.args.place)) (content_found c.self.inside.cells.entries c.args.key.serial c.in-Some.key w.in-Some-get_mut.cell.now c.in-Some.ensures w.in-Some-get_mut.ensures.value)))
+    ])
 
 pub invariant_of-self : goal.invariant_of-self
-invariant_of-self c = record {
-  counts =
-      c.self.invariant.counts
-      ∙ sym (ap places_in c.set_word.ensures.written ∙ places-written c.args.place (option_map word_of c.args.word) c.args.key.serial c.self.inside.cells);
-  room = c.self.invariant.room;
-  idle = c.self.invariant.idle;
-}
-
-pub returns-then-contains-clause-made : goal.returns-then-contains-clause-made
-returns-then-contains-clause-made c =
-    rw (← c.self.view_is) (ap length c.set_word.ensures.written ∙ length-refill_by (with_word c.args.place (option_map word_of c.args.word)) c.args.key.serial c.self.inside.cells)
+invariant_of-self c =
+    elim c.match-get_mut.branch [
+      | in-None w ↦ subst (λ i. IsKept i.cells) (sym w.self-inside-is) c.self.invariant
+      | in-Some-get_mut w ↦
+          let cell = w.in-Some-get_mut.cell.now in
+          let new : CountedCell = record { count = cell.count; content = w.set_word.new.self } in
+          subst (λ i. IsKept i.cells) (sym w.self-inside-is)
+          (kept_written (with_word c.args.place (option_map word_of c.args.word)) c.self.inside.cells c.args.key.serial c.in-Some.key cell new (with_word-key c.args.place (option_map word_of c.args.word)) c.in-Some.ensures w.in-Some-get_mut.ensures.value refl w.set_word.ensures.written (λ after narrows. has_kept after cell.content w.set_word.new.self w.set_word.ensures.keys) c.self.invariant)
+    ]
