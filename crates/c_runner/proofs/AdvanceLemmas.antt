@@ -16,15 +16,15 @@ use Rattle.c_runner_lines.specs.ReaderState.{ReaderState, total_of}
 use Rattle.c_runner_lines.specs.Reading.{items_left, is_ready, Suits, Answers, Refuses, Found, Takes, EndIsSeen}
 use Rattle.c_runner.specs.declared.pause.Pause.{Pause}
 use Rattle.c_runner.specs.declared.pause.Pause.TheVariants.{Waits}
-use Rattle.c_runner.specs.declared.report.Ending.{Ending}
-use Rattle.c_runner.specs.declared.report.Ending.TheVariants as ending
+use Rattle.c_runner_deeds.specs.declared.ending.Ending.{Ending}
+use Rattle.c_runner_deeds.specs.declared.ending.Ending.TheVariants as ending
 use Rattle.c_runner.specs.declared.report.RunError.{RunError}
 use Rattle.c_runner.specs.declared.report.RunError.TheVariants.{InputFault, WriteFault, Memory}
-use Rattle.c_runner.specs.declared.state.State.{State}
+use Rattle.c_runner_deeds.specs.declared.state.State.{State}
 use Rattle.c_runner.specs.Advancing.{line_count, HandsFront, HandsAll, TakesSome, Fetches, UsesLines, Moves, Advances}
-use Rattle.c_runner.specs.Handing.{HandsOn}
+use Rattle.c_runner_deeds.specs.Handing.{HandsOn}
 use Rattle.c_runner.specs.Ran.{error_of_read}
-use Rattle.c_runner.specs.States.{state_of, next_of, Leads}
+use Rattle.c_runner_deeds.specs.States.{state_of, next_of, Leads}
 use Rattle.c_runner.specs.Waiting.{input_step, Asks, Steps, before, behind, Receives}
 use Rattle.c_runner.proofs.Running.{no_rest}
 

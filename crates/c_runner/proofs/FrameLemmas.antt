@@ -2,7 +2,7 @@
 use Rattle.std.proofs.Common.{◌≡◌, ◌≢◌, refl, sym, ap, ◌∙◌, ℕ, zero, suc, ◌+◌, ◌^◌, ◌<◌, ◌≤◌, arith, add-one, true, false, List, [], ◌∷◌, ◌++◌, append_assoc, length, get_or, take, drop, drop-cons, Option, Some, None}
 use Rattle.std.specs.Prelude.{map, reverse, slice_get, is_some}
 use Rattle.std.specs.Option.{option_map}
-use Rattle.std.proofs.lemmas.List.{map-append, map-set, reverse-append, reverse-reverse}
+use Rattle.std.proofs.lemmas.List.{map-append, reverse-append, reverse-reverse}
 use Rattle.c_core.specs.declared.code.CArg.{CArg}
 use Rattle.c_core.specs.declared.code.CArg.TheVariants as arg
 use Rattle.c_core.specs.declared.code.CFunc.{CFunc}
@@ -11,37 +11,22 @@ use Rattle.c_core.specs.declared.code.Kind.{Kind}
 use Rattle.c_core.specs.declared.fault.Fault.{Fault}
 use Rattle.c_core.specs.declared.fault.Fault.TheVariants as fault
 use Rattle.c_core.specs.Arguments.{is_value_of}
-use Rattle.c_core.specs.Cells.{times, content_at}
+use Rattle.c_core.specs.Cells.{times}
 use Rattle.c_core.specs.Functions.{entry_words}
 use Rattle.c_core.specs.Holders.{owned_below}
 use Rattle.c_core.specs.Ledgers.{more_of}
 use Rattle.c_core.specs.Machine as machine
 use Rattle.c_core.specs.Machine.{MachineState, refs_of}
 use Rattle.c_core.specs.Step as step
-use Rattle.c_core.specs.Step.{Next, Goes, Ends, Faulted, if_calm, if_some, if_there, if_content, if_taken, if_result, if_none_left, if_in_order, if_return, if_passed, function_called, function_step, entered, returned, faulted}
-use Rattle.c_runner.specs.declared.state.Frame.{Frame}
-use Rattle.c_runner.specs.declared.state.State.{State}
-use Rattle.c_runner.specs.Parts.{if_argument, is_there, unless_fault, back_in, handed_back}
-use Rattle.c_runner.specs.States.{Rest, IsSmall, frame_of, waiting, state_of, with_target}
+use Rattle.c_core.specs.Step.{Next, Goes, Ends, Faulted, if_calm, if_some, if_there, if_result, if_none_left, if_in_order, if_return, if_passed, function_called, function_step, entered, returned}
+use Rattle.c_runner_deeds.specs.declared.state.Frame.{Frame}
+use Rattle.c_runner_deeds.specs.declared.state.State.{State}
+use Rattle.c_runner_deeds.specs.Parts.{if_argument}
+use Rattle.c_runner.specs.Parts.{unless_fault, back_in, handed_back}
+use Rattle.c_runner_deeds.specs.States.{Rest, IsSmall, frame_of, waiting, state_of, with_target}
 use Rattle.cell_heap.specs.declared.word.Word.{Word}
 use Rattle.cell_heap.specs.Contents as contents
-
--- ---- cells that are there, and cells that are gone
-some_there : (s : MachineState) {A : Type 0} (o : Option A) (go : Next) → is_some o ≡ true → if_some true s fault.Dead o (λ a. go) ≡ go
-some_there s None go e = absurd (cc)
-some_there s (Some a) go e = refl
-
-pub there : (s : MachineState) (w : machine.Word) (go : Next) → is_there s.cells w ≡ true → if_there true s w (λ a. go) ≡ go
-there s (machine.BigInt c) go e = some_there s (content_at s.cells c) go e
-there s (machine.ObjectCell c) go e = some_there s (content_at s.cells c) go e
-there s (machine.ShortInt n) go e = refl
-there s machine.TaggedError go e = refl
-there s (machine.Native n) go e = refl
-there s (machine.CharWord n) go e = refl
-there s machine.NoneObject go e = refl
-there s machine.TrueObject go e = refl
-there s machine.FalseObject go e = refl
-there s machine.NoObject go e = refl
+use Rattle.c_runner_deeds.proofs.FrameLemmas.{target_set}
 
 -- ---- passing
 next_passed : (s : MachineState) (k : Kind) (ks : List Kind) (a : CArg) (args : List CArg) (go : List machine.Word → Next) → if_passed true s (k ∷ ks) (a ∷ args) go ≡ if_argument s k a (λ w. if_passed true s ks args (λ ws. go (w ∷ ws)))
@@ -160,13 +145,6 @@ enters rest old new code g f target args ps o vars calm e is pass none last =
     ∙ pass go
     ∙ ap (λ h. unless_fault h s (go (map contents.word_of vars))) none
     ∙ ap Goes (sym last)
-
--- ---- a return
-pub target_set : (rest : Rest) (st : State) (target : Option ℕ) (w : Word) → step.with_target target (contents.word_of w) (state_of rest st) ≡ state_of rest (record st { top = with_target target w st.top })
-target_set rest st None w = refl
-target_set rest st (Some x) w =
-    let with : List machine.Word → MachineState = λ v. record (state_of rest st) { top = record (frame_of st.top) { vars = v } } in
-    ap with (sym (map-set contents.word_of st.top.vars x w))
 
 -- the innermost frame that waits goes on
 pub handed : (rest : Rest) (old : State) (caller callee dest owner top : Frame) (below : List Frame) (w : Word) → old.below ≡ below ++ caller ∷ [] → callee ≡ old.top → dest ≡ caller → owner ≡ record dest { ledger = more_of (refs_of (contents.word_of w)) dest.ledger } → top ≡ with_target callee.into w owner → handed_back (contents.word_of w) (state_of rest old) ≡ state_of rest (record old { top = top; below = below })

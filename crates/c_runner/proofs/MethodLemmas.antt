@@ -1,6 +1,6 @@
 -- Calls of methods: which function the runner finds for one, and what the machine does with it, at the runner's states.
-use Rattle.std.proofs.Common.{◌≡◌, refl, sym, ap, ◌∙◌, ℕ, zero, suc, ◌+◌, ◌-◌, ◌<◌, ◌≤◌, arith, Bool, true, false, cond, List, [], ◌∷◌, ◌++◌, append-nil, length, get_or, drop, Option, Some, None}
-use Rattle.std.specs.Prelude.{find, is_some, map, take, slice_get, nat_lt, Result, Ok, Err}
+use Rattle.std.proofs.Common.{◌≡◌, refl, sym, ap, ◌∙◌, ℕ, zero, suc, ◌+◌, ◌-◌, ◌<◌, ◌≤◌, arith, Bool, true, false, cond, List, [], ◌∷◌, ◌++◌, append-nil, length, get_or, Option, Some, None}
+use Rattle.std.specs.Prelude.{find, is_some, map, take, slice_get, nat_lt, Ok, Err}
 use Rattle.std.specs.List.{position, position_or_len}
 use Rattle.std.specs.Option.{option_and_then, option_flatten, option_map}
 use Rattle.std.specs.Str.{bytes_eq}
@@ -22,20 +22,20 @@ use Rattle.c_core.specs.Functions.{number_of, method_at, trait_method_at, parame
 use Rattle.c_core.specs.Machine as machine
 use Rattle.c_core.specs.Machine.{InstCell, MachineState}
 use Rattle.c_core.specs.Primitives.{AnInstance}
-use Rattle.c_core.specs.Step as step
 use Rattle.c_core.specs.Step.{Next, Goes, Ends, Faulted, if_calm, if_some, if_true, if_variable, if_passed, entered, method_of, method_step, method_called, takes_and_gives, function_step}
-use Rattle.c_runner.specs.declared.state.State.{State}
-use Rattle.c_runner.specs.declared.table.Methods.{Methods}
+use Rattle.c_runner_deeds.specs.declared.state.State.{State}
+use Rattle.c_runner_table.specs.declared.naming.Methods.{Methods}
 use Rattle.c_runner.specs.Methods.{function_for, method_begins}
-use Rattle.c_runner.specs.Objects.{instance_in, object_of}
-use Rattle.c_runner.specs.Parts.{if_argument, unless_fault}
-use Rattle.c_runner.specs.States.{Rest, state_of}
-use Rattle.c_runner.specs.Targets.{functions_of, methods_of}
-use Rattle.cell_heap.specs.declared.key.Key.{Key}
+use Rattle.c_runner_deeds.specs.Objects.{instance_in, object_of}
+use Rattle.c_runner_deeds.specs.Parts.{if_argument}
+use Rattle.c_runner.specs.Parts.{unless_fault}
+use Rattle.c_runner_deeds.specs.States.{Rest, state_of}
+use Rattle.c_runner_table.specs.Targets.{functions_of, methods_of}
+use Rattle.slot_arena.specs.declared.key.Key.{Key}
 use Rattle.cell_heap.specs.declared.word.Word.{Word}
 use Rattle.cell_heap.specs.Contents as contents
-use Rattle.c_runner.proofs.FindLemmas.{found, instance_variable}
-use Rattle.c_runner.proofs.FrameLemmas.{left, one_passed, too_many, too_few, all_passed, word_more}
+use Rattle.c_runner_deeds.proofs.FindLemmas.{found, instance_variable}
+use Rattle.c_runner.proofs.FrameLemmas.{left, one_passed, too_many, too_few, all_passed}
 
 -- ---- the function of a method
 -- what is found at a place of a list of what was looked up

@@ -11,12 +11,12 @@ use Rattle.c_core.specs.Step.{MachineEnding, Goes, Ends, step}
 use Rattle.c_core.specs.Run.{Stop, go_on, start, most_steps, machine_run}
 use Rattle.c_core.specs.Laws.{Reaches, Here, RunExists, RunKeepsCounts, RunStaysSmall}
 use Rattle.c_core.specs.WellFormed.{WellFormed}
-use Rattle.c_runner.specs.declared.report.Ending.{Ending}
+use Rattle.c_runner_deeds.specs.declared.ending.Ending.{Ending}
 use Rattle.c_runner.specs.declared.report.Report.{Report}
-use Rattle.c_runner.specs.declared.state.State.{State}
-use Rattle.c_runner.specs.Handing.{HandsOn, has_bytes}
-use Rattle.c_runner.specs.Report.{ending_of, live_cells, Reports}
-use Rattle.c_runner.specs.States.{Rest, IsSmall, first_rest, state_of, next_of}
+use Rattle.c_runner_deeds.specs.declared.state.State.{State}
+use Rattle.c_runner_deeds.specs.Handing.{HandsOn, has_bytes}
+use Rattle.c_runner_deeds.specs.States.{ending_of, Rest, IsSmall, first_rest, state_of, next_of}
+use Rattle.c_runner.specs.Report.{live_cells, Reports}
 use Rattle.c_runner.proofs.StepLemmas.{Keeps, KeepsTo, step_keeps, some_left, one_taken, one_further, grows}
 
 -- ---- no bytes

@@ -10,25 +10,24 @@ use Rattle.outside_core.proofs.Fronts.{TakesFront-none, bytes_between-split}
 use Rattle.c_core.specs.declared.code.Code.{Code}
 use Rattle.c_core.specs.Machine.{MachineState}
 use Rattle.c_core.specs.Step.{Next, Ended, step}
-use Rattle.c_core.specs.Run.{Stop, machine_run}
+use Rattle.c_core.specs.Run.{Stop, machine_run, start, most_steps}
 use Rattle.c_core.specs.Laws.{RunExists}
 use Rattle.c_core.specs.WellFormed.{WellFormed}
 use Rattle.c_runner_lines.specs.Held.{most_read, piece_size}
 use Rattle.c_runner_lines.specs.ReaderState.{ReaderState, total_of}
 use Rattle.c_runner_lines.specs.Reading.{items_left, is_ready, Suits, EndIsSeen}
 use Rattle.c_runner_lines.proofs.TakeLemmas.{waits}
-use Rattle.c_runner.specs.declared.report.Ending.{Ending}
-use Rattle.c_runner.specs.declared.report.Ending.TheVariants.{Over}
+use Rattle.c_runner_deeds.specs.declared.ending.Ending.{Ending}
+use Rattle.c_runner_deeds.specs.declared.ending.Ending.TheVariants.{Over}
 use Rattle.c_runner.specs.declared.report.Report.{Report}
 use Rattle.c_runner.specs.declared.report.RunError.{RunError}
 use Rattle.c_runner.specs.declared.report.RunError.TheVariants.{InputFault, WriteFault, Memory}
-use Rattle.c_runner.specs.declared.state.State.{State}
+use Rattle.c_runner_deeds.specs.declared.state.State.{State}
 use Rattle.c_runner.specs.Advancing.{line_count, HandsFront, TakesSome, UsesLines, Moves, BreaksOff, Advances, faults_of_input}
-use Rattle.c_runner.specs.Handing.{HandsOn, has_bytes}
+use Rattle.c_runner_deeds.specs.Handing.{HandsOn, has_bytes}
 use Rattle.c_runner.specs.Ran.{AreGiven, Ran, TookLines, TookNear, Took, given_items}
-use Rattle.c_runner.specs.Report.{ending_of, live_cells}
-use Rattle.c_runner.specs.States.{first_rest, state_of}
-use Rattle.c_core.specs.Run.{start, most_steps}
+use Rattle.c_runner_deeds.specs.States.{ending_of, first_rest, state_of}
+use Rattle.c_runner.specs.Report.{live_cells}
 use Rattle.c_runner.proofs.Running.{Running, Stopped, no_front, no_rest, at_start, front_of_held, nothing_so_far, nothing_held, handed_on, last_step, stepped, stopped, front_at_end, all_at_end, nothing_at_end, reported}
 
 -- ---- what was read so far

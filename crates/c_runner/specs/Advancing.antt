@@ -11,13 +11,13 @@ use Rattle.c_runner_lines.specs.declared.read_fault.ReadFault.TheVariants.{Faile
 use Rattle.c_runner_lines.specs.Held.{most_read, piece_size}
 use Rattle.c_runner_lines.specs.ReaderState.{ReaderState, total_of}
 use Rattle.c_runner_lines.specs.Reading.{items_left, is_ready, Suits, Refuses, Found, Takes, Uses, EndIsSeen}
-use Rattle.c_runner.specs.declared.report.Ending.{Ending}
-use Rattle.c_runner.specs.declared.report.Ending.TheVariants.{Over}
+use Rattle.c_runner_deeds.specs.declared.ending.Ending.{Ending}
+use Rattle.c_runner_deeds.specs.declared.ending.Ending.TheVariants.{Over}
 use Rattle.c_runner.specs.declared.report.RunError.{RunError}
 use Rattle.c_runner.specs.declared.report.RunError.TheVariants.{InputFault, WriteFault, Memory}
-use Rattle.c_runner.specs.declared.state.State.{State}
-use Rattle.c_runner.specs.Handing.{HandsOn}
-use Rattle.c_runner.specs.States.{state_of, next_of}
+use Rattle.c_runner_deeds.specs.declared.state.State.{State}
+use Rattle.c_runner_deeds.specs.Handing.{HandsOn}
+use Rattle.c_runner_deeds.specs.States.{state_of, next_of}
 
 -- how many lines are left
 abbrev pub line_count : Items → ℕ

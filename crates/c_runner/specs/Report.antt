@@ -1,26 +1,15 @@
 -- When a report is that of a run.
 use Rattle.std.specs.Prelude.{◌≡◌, ℕ, List, [], ◌∷◌, Option, Some, None, codes, slice_get}
-use Rattle.value_core.specs.Exceptions.{class_name, thrown}
-use Rattle.value_core.specs.Ending as source
+use Rattle.value_core.specs.Exceptions.{class_name}
 use Rattle.c_core.specs.declared.code.CClass.{CClass}
 use Rattle.c_core.specs.declared.code.Code.{Code}
 use Rattle.c_core.specs.Cells.{Cells}
 use Rattle.c_core.specs.Machine.{Content, IntCell, StrCell, ListCell, DictCell, TupleCell, InstCell, ExcCell}
-use Rattle.c_core.specs.Step.{MachineEnding, Ended, Faulted}
 use Rattle.c_core.specs.Run.{Stop}
-use Rattle.c_runner.specs.declared.report.Ending.{Ending}
-use Rattle.c_runner.specs.declared.report.Ending.TheVariants.{Done, Raised, Cut, Over, Fault}
 use Rattle.c_runner.specs.declared.report.LiveCell.{LiveCell}
 use Rattle.c_runner.specs.declared.report.Report.{Report}
-use Rattle.c_runner.specs.Handing.{has_bytes}
-
--- the machine's ending of a report's
-abbrev pub ending_of : Ending → MachineEnding
-ending_of Done = Ended source.Done
-ending_of (Raised class text) = Ended (source.Raised (thrown class text))
-ending_of Cut = Ended source.Cut
-ending_of Over = Ended source.Over
-ending_of (Fault f) = Faulted f
+use Rattle.c_runner_deeds.specs.Handing.{has_bytes}
+use Rattle.c_runner_deeds.specs.States.{ending_of}
 
 -- what a cell holds, by name: an instance by its class's, an exception by its own class's
 abbrev pub name_of_class : Option CClass → List ℕ

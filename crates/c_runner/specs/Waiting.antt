@@ -8,9 +8,9 @@ use Rattle.c_runner_lines.specs.declared.item.Item.{Item}
 use Rattle.c_runner_lines.specs.declared.item.Item.TheVariants.{Line, Bad, Eof, Over}
 use Rattle.c_runner.specs.declared.pause.Pause.{Pause}
 use Rattle.c_runner.specs.declared.pause.Pause.TheVariants.{Memory, Waits}
-use Rattle.c_runner.specs.declared.report.Ending.{Ending}
-use Rattle.c_runner.specs.declared.state.State.{State}
-use Rattle.c_runner.specs.States.{Rest, state_of, next_of, Leads}
+use Rattle.c_runner_deeds.specs.declared.ending.Ending.{Ending}
+use Rattle.c_runner_deeds.specs.declared.state.State.{State}
+use Rattle.c_runner_deeds.specs.States.{Rest, state_of, next_of, Leads}
 
 -- the machine reads the next line of input, whose text goes to a variable, if it goes to one
 abbrev pub input_step : Option ℕ → MachineState → Next

@@ -4,59 +4,56 @@ ghost use Rattle.c_core.specs.declared.code.Code as machine_code;
 ghost use Rattle.c_core.specs.declared.primitive.Primitive.TheVariants as prim;
 ghost use Rattle.c_core.specs.declared.primitive.IoPrim.TheVariants as io;
 ghost use Rattle.c_core.specs.Step.{primitive_step};
-ghost use Rattle.c_runner.specs.States.{IsSmall};
+ghost use Rattle.c_runner_deeds.specs.States.{IsSmall};
 ghost use Rattle.c_runner.specs.Waiting.{Steps, Receives};
 
 use crate::pause::Pause;
-use crate::report::Ending;
-use crate::state::State;
 use c_core::{CArg, Fault};
+use c_runner_deeds::{Ending, State};
 use c_runner_lines::Item;
-use cell_heap::{Content, Word};
+use cell_heap::{Content, Letters, Word};
 use std::alloc::Global;
 use value_core::{ExcClass, Memory, Text};
 
-impl State {
-    /// Asks for a line of input, where the call has no argument.
-    pub fn ask_for_line(
-        &self,
-        target: Option<usize>,
-        args: &[CArg],
-    ) -> Result<Option<Ending>, Pause>
-        requires place { self.now.top.place + 1 < 2 ^ 64 }
-        ensures { (code : machine_code.Code) → Steps
-            (λ s. primitive_step true s code target args.now (prim.Io io.Input)) result self.now self.now }
-    {
-        if args.is_empty() {
-            Err(Pause::Waits(target))
-        } else {
-            Ok(Some(Ending::Fault(Fault::Kind)))
-        }
+/// Asks for a line of input, where the call has no argument.
+pub(crate) fn ask_for_line(
+    state: &State,
+    target: Option<usize>,
+    args: &[CArg],
+) -> Result<Option<Ending>, Pause>
+    requires place { state.now.top.place + 1 < 2 ^ 64 }
+    ensures { (code : machine_code.Code) → Steps
+        (λ s. primitive_step true s code target args.now (prim.Io io.Input)) result state.now state.now }
+{
+    if args.is_empty() {
+        Err(Pause::Waits(target))
+    } else {
+        Ok(Some(Ending::Fault(Fault::Kind)))
     }
+}
 
-    /// Goes on behind a call that asked for a line, with what was found of it.
-    pub fn receive(
-        &mut self,
-        alloc: Global,
-        target: Option<usize>,
-        item: Item,
-    ) -> Result<Option<Ending>, Memory>
-        requires small { IsSmall self.old }
-        requires place { self.old.top.place + 1 < 2 ^ 64 }
-        ensures { IfOk result (λ ending. Receives target item ending self.old self.new) }
-    {
-        match item {
-            Item::Line(text) => self.make_cell(target, Content::Str(text)),
-            Item::Bad => {
-                let text = no_text(alloc)?;
-                self.fail(target, Word::Null, ExcClass::ValueError, text)
-            }
-            Item::Eof => {
-                let text = no_line(alloc)?;
-                self.fail(target, Word::Null, ExcClass::EOFError, text)
-            }
-            Item::Over => Ok(Some(Ending::Over)),
+/// Goes on behind a call that asked for a line, with what was found of it.
+pub(crate) fn receive(
+    state: &mut State,
+    alloc: Global,
+    target: Option<usize>,
+    item: Item,
+) -> Result<Option<Ending>, Memory>
+    requires small { IsSmall state.old }
+    requires place { state.old.top.place + 1 < 2 ^ 64 }
+    ensures { IfOk result (λ ending. Receives target item ending state.old state.new) }
+{
+    match item {
+        Item::Line(text) => state.make_cell(target, Content::Str(Letters::of(text))),
+        Item::Bad => {
+            let text = no_text(alloc)?;
+            state.fail(target, Word::Null, ExcClass::ValueError, text)
         }
+        Item::Eof => {
+            let text = no_line(alloc)?;
+            state.fail(target, Word::Null, ExcClass::EOFError, text)
+        }
+        Item::Over => Ok(Some(Ending::Over)),
     }
 }
 

@@ -8,47 +8,25 @@
 //! A step that asks for a line of the input makes no read: it waits, and the run reads the line (`c_runner_lines`) and goes on with it;
 //! what is held of the output is handed on before each read.
 //!
-//! The runner keeps a state of its own and makes the machine's steps one for one: `specs/States.antt` says which state of
-//! the machine it stands for, and each step leads from that of the old state to that of the new one. Its cells are those of
-//! a heap (`cell_heap`), its words and contents too.
+//! The runner keeps a state of its own (`c_runner_deeds`) and makes the machine's steps one for one: each step leads from the
+//! machine's state that the old one stands for to that of the new one. What the primitives do stands in `c_runner_deeds` and
+//! `c_runner_objects`; here are the lines, the calls and returns of functions and methods, and the whole run.
 #![tactic(auto)]
 
-mod arguments;
-mod boxes;
 mod calls;
 mod counts;
-mod deed;
-mod dicts;
-mod entries;
-mod exceptions;
 mod frames;
-mod globals;
 mod input;
-mod instances;
-mod int64;
-mod items;
-mod keys;
-mod ledger;
-mod lists;
 mod live;
 mod methods;
-mod numbers;
-mod output;
 mod pause;
-mod pending;
 mod reading;
 mod report;
 mod runner;
-mod state;
+mod start;
 mod step;
-mod stolen;
-mod strings;
-mod table;
-mod tagged;
-mod tuples;
-mod wide;
-mod words;
 
 pub use c_core::Fault;
-pub use report::{Ending, LiveCell, Report, RunError};
+pub use c_runner_deeds::Ending;
+pub use report::{LiveCell, Report, RunError};
 pub use runner::run;

@@ -1,13 +1,14 @@
 //! The cells that are there, as a report has them.
-ghost use Rattle.std.specs.Prelude.{◌≡◌, IfOk};
+ghost use Rattle.std.specs.Prelude.{◌≡◌, IfOk, None};
 ghost use Rattle.std.specs.Option.{option_copied};
 ghost use Rattle.c_runner.specs.Report as report;
 ghost use Rattle.c_runner.specs.Report.{live_cells, name_of_class};
 ghost use Rattle.c_runner.specs.Live.{live_at};
 ghost use Rattle.cell_heap.specs.Contents.{number_of, content_of};
 
-use crate::report::LiveCell;
-use c_core::CClass;
+use crate::report::{LiveCell, Report};
+use c_core::{CClass, Code};
+use c_runner_deeds::{Ending, State};
 use cell_heap::{Content, Heap, Key};
 use std::alloc::Global;
 use value_core::{Many, Memory, Text};
@@ -75,4 +76,25 @@ fn class_name(class: Option<&CClass>) -> &str
         None => "",
         Some(class) => class.name.as_str(),
     }
+}
+
+/// The report of a run of a code that ends so, and wrote something or not.
+pub(crate) fn report_of(
+    state: &State,
+    alloc: Global,
+    code: &Code,
+    ending: Ending,
+    has_output: bool,
+) -> Result<Report, Memory>
+    ensures ending { IfOk result (λ report. report.ending ≡ ending) }
+    ensures live { IfOk result (λ report. report.live ≡ live_cells code.now.classes state.now.cells) }
+    ensures turns { IfOk result (λ report. report.turns_left ≡ state.now.turns) }
+    ensures output { IfOk result (λ report. report.has_output ≡ has_output) }
+{
+    Ok(Report {
+        ending,
+        live: live(alloc, code.classes.as_slice(), &state.cells)?,
+        turns_left: state.turns,
+        has_output,
+    })
 }

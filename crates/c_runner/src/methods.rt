@@ -11,156 +11,159 @@ ghost use Rattle.c_core.specs.Step as machine_step;
 ghost use Rattle.c_core.specs.Step.{Next, if_passed, method_called};
 ghost use Rattle.c_runner.specs.Methods.{function_for, method_begins, class_calls};
 ghost use Rattle.c_runner.specs.Parts.{unless_fault};
-ghost use Rattle.c_runner.specs.States.{Rest, Follows, state_of};
-ghost use Rattle.c_runner.specs.Targets.{methods_of};
+ghost use Rattle.c_runner_deeds.specs.States.{Rest, Follows, state_of};
+ghost use Rattle.c_runner_table.specs.Targets.{methods_of};
 ghost use Rattle.cell_heap.specs.Contents.{word_of};
 
-use crate::frames::parameters;
-use crate::report::Ending;
-use crate::state::State;
-use crate::table::Methods;
+use crate::frames::{begin, parameters};
 use c_core::{CFunc, Code, Fault, Kind};
+use c_runner_deeds::{Ending, State};
+use c_runner_table::Methods;
 use cell_heap::Word;
 use std::alloc::Global;
 use value_core::{Many, Memory, Name};
 
-impl State {
-    /// Calls the method of a number among those of the class of an object.
-    pub fn call_own_method(
-        &mut self,
-        alloc: Global,
-        code: &Code,
-        classes: &Many<Methods>,
-        target: usize,
-        object: usize,
-        number: usize,
-        args: &[usize],
-    ) -> Result<Option<Ending>, Memory>
-        requires place { self.old.top.place + 1 < 2 ^ 64 }
-        requires classes { classes.now ≡ methods_of code.now }
-        ensures { IfOk result (λ ending. Follows
-            (λ s. method_called true s code.now target object args.now (method_at number)) ending self.old self.new) }
-    {
-        match self.receiver(object) {
-            Err(fault) => Ok(Some(Ending::Fault(fault))),
-            Ok(class) => {
-                let func = own_method(code, classes, class, number);
-                self.call_method(alloc, code, func, target, object, args)
-            }
+/// Calls the method of a number among those of the class of an object.
+pub(crate) fn call_own_method(
+    state: &mut State,
+    alloc: Global,
+    code: &Code,
+    classes: &Many<Methods>,
+    target: usize,
+    object: usize,
+    number: usize,
+    args: &[usize],
+) -> Result<Option<Ending>, Memory>
+    requires place { state.old.top.place + 1 < 2 ^ 64 }
+    requires classes { classes.now ≡ methods_of code.now }
+    ensures { IfOk result (λ ending. Follows
+        (λ s. method_called true s code.now target object args.now (method_at number)) ending state.old state.new) }
+{
+    match receiver(state, object) {
+        Err(fault) => Ok(Some(Ending::Fault(fault))),
+        Ok(class) => {
+            let func = own_method(code, classes, class, number);
+            call_method(state, alloc, code, func, target, object, args)
         }
     }
+}
 
-    /// The same of the methods that the class has for a trait.
-    pub fn call_trait_method(
-        &mut self,
-        alloc: Global,
-        code: &Code,
-        classes: &Many<Methods>,
-        target: usize,
-        object: usize,
-        name: &str,
-        number: usize,
-        args: &[usize],
-    ) -> Result<Option<Ending>, Memory>
-        requires place { self.old.top.place + 1 < 2 ^ 64 }
-        requires classes { classes.now ≡ methods_of code.now }
-        ensures { IfOk result (λ ending. Follows
-            (λ s. method_called true s code.now target object args.now (trait_method_at name.now number)) ending self.old self.new) }
-    {
-        match self.receiver(object) {
-            Err(fault) => Ok(Some(Ending::Fault(fault))),
-            Ok(class) => {
-                let func = trait_method(code, classes, class, name, number);
-                self.call_method(alloc, code, func, target, object, args)
-            }
+/// The same of the methods that the class has for a trait.
+pub(crate) fn call_trait_method(
+    state: &mut State,
+    alloc: Global,
+    code: &Code,
+    classes: &Many<Methods>,
+    target: usize,
+    object: usize,
+    name: &str,
+    number: usize,
+    args: &[usize],
+) -> Result<Option<Ending>, Memory>
+    requires place { state.old.top.place + 1 < 2 ^ 64 }
+    requires classes { classes.now ≡ methods_of code.now }
+    ensures { IfOk result (λ ending. Follows
+        (λ s. method_called true s code.now target object args.now (trait_method_at name.now number)) ending state.old state.new) }
+{
+    match receiver(state, object) {
+        Err(fault) => Ok(Some(Ending::Fault(fault))),
+        Ok(class) => {
+            let func = trait_method(code, classes, class, name, number);
+            call_method(state, alloc, code, func, target, object, args)
         }
     }
+}
 
-    /// The class, by its number, of the object whose method is called, where no exception is pending.
-    fn receiver(&self, object: usize) -> Result<usize, Fault>
-        ensures { (rest : Rest) (code : machine_code.Code) (target : ℕ) (args : List ℕ) (entry : machine_class.CClass → Option (List ℕ)) →
-            (let s = state_of rest self.now in
-            method_called true s code target object args entry ≡ class_calls code target (object ∷ args) entry result s) }
-    {
-        if self.pending.is_some() {
-            return Err(Fault::Kind);
-        }
-        match self.instance_variable(object) {
-            Err(fault) => Err(fault),
-            Ok(found) => Ok(found.1),
+/// The class, by its number, of the object whose method is called, where no exception is pending.
+fn receiver(state: &State, object: usize) -> Result<usize, Fault>
+    ensures { (rest : Rest) (code : machine_code.Code) (target : ℕ) (args : List ℕ) (entry : machine_class.CClass → Option (List ℕ)) →
+        (let s = state_of rest state.now in
+        method_called true s code target object args entry ≡ class_calls code target (object ∷ args) entry result s) }
+{
+    if state.pending.is_some() {
+        return Err(Fault::Kind);
+    }
+    match state.instance_variable(object) {
+        Err(fault) => Err(fault),
+        Ok(found) => Ok(found.1),
+    }
+}
+
+/// Calls the function that was found for a method, if one was. It is to take as many arguments, of which the object is the
+/// first, and to give a result of the target's kind.
+fn call_method(
+    state: &mut State,
+    alloc: Global,
+    code: &Code,
+    func: Option<usize>,
+    target: usize,
+    object: usize,
+    args: &[usize],
+) -> Result<Option<Ending>, Memory>
+    requires { state.old.top.place + 1 < 2 ^ 64 }
+    ensures { IfOk result (λ ending. Follows (method_begins code.now target (object ∷ args.now) func) ending state.old state.new) }
+{
+    let Some(func) = func else {
+        return Ok(Some(Ending::Fault(Fault::Kind)));
+    };
+    let Some(function) = code.funcs.get(func) else {
+        return Ok(Some(Ending::Fault(Fault::Kind)));
+    };
+    if !takes_and_gives(state, code, target, args, function) {
+        return Ok(Some(Ending::Fault(Fault::Kind)));
+    }
+    let mut vars = Many::new(alloc);
+    match pass_variables(state, parameters(function), object, args, &mut vars)? {
+        Some(fault) => Ok(Some(Ending::Fault(fault))),
+        None => {
+            begin(state, alloc, func, function, Some(target), vars)?;
+            Ok(None)
         }
     }
+}
 
-    /// Calls the function that was found for a method, if one was. It is to take as many arguments, of which the object is the
-    /// first, and to give a result of the target's kind.
-    fn call_method(
-        &mut self,
-        alloc: Global,
-        code: &Code,
-        func: Option<usize>,
-        target: usize,
-        object: usize,
-        args: &[usize],
-    ) -> Result<Option<Ending>, Memory>
-        requires { self.old.top.place + 1 < 2 ^ 64 }
-        ensures { IfOk result (λ ending. Follows (method_begins code.now target (object ∷ args.now) func) ending self.old self.new) }
-    {
-        let Some(func) = func else {
-            return Ok(Some(Ending::Fault(Fault::Kind)));
-        };
-        let Some(function) = code.funcs.get(func) else {
-            return Ok(Some(Ending::Fault(Fault::Kind)));
-        };
-        if !self.takes_and_gives(code, target, args, function) {
-            return Ok(Some(Ending::Fault(Fault::Kind)));
-        }
-        let mut vars = Many::new(alloc);
-        match self.pass_variables(parameters(function), object, args, &mut vars)? {
-            Some(fault) => Ok(Some(Ending::Fault(fault))),
-            None => {
-                self.begin(alloc, func, function, Some(target), vars)?;
-                Ok(None)
-            }
-        }
-    }
+/// Whether a function takes an object and as many other arguments, and gives a result of the target's kind.
+fn takes_and_gives(
+    state: &State,
+    code: &Code,
+    target: usize,
+    args: &[usize],
+    function: &CFunc,
+) -> bool
+    ensures { (rest : Rest) (object : ℕ) → result
+        ≡ machine_step.takes_and_gives true (state_of rest state.now) code.now target (object ∷ args.now) function.now }
+{
+    args.len() + 1 == parameters(function).len()
+        && state.kind_of_variable(code, target) == Some(function.ret)
+}
 
-    /// Whether a function takes an object and as many other arguments, and gives a result of the target's kind.
-    fn takes_and_gives(&self, code: &Code, target: usize, args: &[usize], function: &CFunc) -> bool
-        ensures { (rest : Rest) (object : ℕ) → result
-            ≡ machine_step.takes_and_gives true (state_of rest self.now) code.now target (object ∷ args.now) function.now }
-    {
-        args.len() + 1 == parameters(function).len()
-            && self.kind_of_variable(code, target) == Some(function.ret)
-    }
-
-    /// Adds a word for each parameter, of which the object is the first, and answers the fault of the first variable that may
-    /// not be passed.
-    fn pass_variables(
-        &self,
-        parameters: &[(Name, Kind)],
-        object: usize,
-        args: &[usize],
-        words: &mut Many<Word>,
-    ) -> Result<Option<Fault>, Memory>
-        requires { words.old ≡ [] }
-        ensures { IfOk result (λ fault. (rest : Rest) (go : List machine.Word → Next) →
-            if_passed true (state_of rest self.now) (map (λ v. v.1) parameters.now) (map machine_arg.Var (object ∷ args.now)) go
-            ≡ unless_fault fault (state_of rest self.now) (go (map word_of words.new))) }
-    {
-        for (i, parameter) in parameters.iter().enumerate() {
-            let Some(x) = variable_at(object, args, i) else {
-                return Ok(Some(Fault::Kind));
-            };
-            match self.passed_variable(parameter.1, x) {
-                Err(fault) => return Ok(Some(fault)),
-                Ok(word) => words.push(word)?,
-            }
-        }
-        if args.len() >= parameters.len() {
+/// Adds a word for each parameter, of which the object is the first, and answers the fault of the first variable that may
+/// not be passed.
+fn pass_variables(
+    state: &State,
+    parameters: &[(Name, Kind)],
+    object: usize,
+    args: &[usize],
+    words: &mut Many<Word>,
+) -> Result<Option<Fault>, Memory>
+    requires { words.old ≡ [] }
+    ensures { IfOk result (λ fault. (rest : Rest) (go : List machine.Word → Next) →
+        if_passed true (state_of rest state.now) (map (λ v. v.1) parameters.now) (map machine_arg.Var (object ∷ args.now)) go
+        ≡ unless_fault fault (state_of rest state.now) (go (map word_of words.new))) }
+{
+    for (i, parameter) in parameters.iter().enumerate() {
+        let Some(x) = variable_at(object, args, i) else {
             return Ok(Some(Fault::Kind));
+        };
+        match state.passed_variable(parameter.1, x) {
+            Err(fault) => return Ok(Some(fault)),
+            Ok(word) => words.push(word)?,
         }
-        Ok(None)
     }
+    if args.len() >= parameters.len() {
+        return Ok(Some(Fault::Kind));
+    }
+    Ok(None)
 }
 
 /// The variable at a place among an object and other arguments.

@@ -2,16 +2,17 @@
 ghost use Rattle.std.specs.Prelude.{◌≡◌};
 ghost use Rattle.c_core.specs.Step.{step};
 ghost use Rattle.c_runner.specs.Advancing.{Fetches, Advances, faults_of_input, faults_of_output};
-ghost use Rattle.c_runner.specs.States.{IsSmall};
-ghost use Rattle.c_runner.specs.Targets.{table_of};
+ghost use Rattle.c_runner_deeds.specs.States.{IsSmall};
+ghost use Rattle.c_runner_table.specs.Targets.{table_of};
 
-use crate::output::Output;
+use crate::input::receive;
 use crate::pause::Pause;
-use crate::report::{Ending, RunError};
-use crate::state::State;
-use crate::table::Tables;
+use crate::report::RunError;
+use crate::step::step;
 use c_core::Code;
+use c_runner_deeds::{Ending, Output, State};
 use c_runner_lines::{Item, LineReader};
+use c_runner_table::Tables;
 use outside_core::{Sink, Source};
 use std::alloc::Global;
 
@@ -33,12 +34,12 @@ pub(crate) fn advance<I: Source, O: Sink>(
     ensures counted { I.faults input.new ≡ faults_of_input result (I.faults input.old) }
     ensures out_counted { O.faults out.new ≡ faults_of_output result (O.faults out.old) }
 {
-    match state.step(alloc, code, table) {
+    match step(state, alloc, code, table) {
         Ok(ending) => Ok(ending),
         Err(Pause::Memory) => Err(RunError::Memory),
         Err(Pause::Waits(target)) => {
             let item = next_item(reader, &mut state.output, input, out)?;
-            Ok(state.receive(alloc, target, item)?)
+            Ok(receive(state, alloc, target, item)?)
         }
     }
 }

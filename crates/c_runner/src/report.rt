@@ -1,8 +1,8 @@
-use c_core::Fault;
+use c_runner_deeds::Ending;
 use c_runner_lines::ReadFault;
 use outside_core::WriteFault;
 use thiserror::Error;
-use value_core::{ExcClass, Many, Memory as NoMemory, Text};
+use value_core::{Many, Memory as NoMemory, Text};
 
 /// What came of a run: how it ended, the cells that are still there in the order in which they were made, how many turns
 /// are left, and whether the program wrote anything.
@@ -12,21 +12,6 @@ pub struct Report {
     pub live: Many<LiveCell>,
     pub turns_left: u64,
     pub has_output: bool,
-}
-
-/// How a run ends.
-#[derive(Debug, Drop)]
-pub enum Ending {
-    /// The module ended by itself.
-    Done,
-    /// An exception of this class and text left the module.
-    Raised(ExcClass, Text),
-    /// No turns were left.
-    Cut,
-    /// A line of input stands too far along.
-    Over,
-    /// The code broke a rule of the machine.
-    Fault(Fault),
 }
 
 /// A cell at the end of a run: what it holds, by name, and its count.

@@ -5,12 +5,13 @@ ghost use Rattle.c_core.specs.Run.{Stop, machine_run, most_turns, most_steps, mo
 ghost use Rattle.c_core.specs.WellFormed.{WellFormed};
 ghost use Rattle.c_runner.specs.Ran.{AreGiven, Ran, Took, faults_of_out};
 
+use crate::live::report_of;
 use crate::reading::advance;
 use crate::report::{Report, RunError};
-use crate::state::State;
-use crate::table::table;
+use crate::start::start;
 use c_core::{CFunc, Code, run_exists, run_keeps_counts, run_stays_small};
 use c_runner_lines::LineReader;
+use c_runner_table::table;
 use outside_core::{Sink, Source};
 use std::alloc::Global;
 
@@ -39,7 +40,7 @@ pub fn run<I: Source, O: Sink>(
     run_keeps_counts();
     run_stays_small();
     let table = table(alloc, code)?;
-    let mut state = State::start(alloc, code, turns)?;
+    let mut state = start(alloc, code, turns)?;
     // A well-formed code stops before these steps are taken.
     let mut left = most_steps(code, turns);
     let mut has_output = false;
@@ -52,7 +53,7 @@ pub fn run<I: Source, O: Sink>(
             None => state.output.hand_on_if_full(out)?,
             Some(ending) => {
                 state.output.hand_on(out)?;
-                return Ok(state.report(alloc, code, ending, has_output)?);
+                return Ok(report_of(&state, alloc, code, ending, has_output)?);
             }
         }
     }

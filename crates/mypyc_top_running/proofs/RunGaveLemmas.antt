@@ -6,7 +6,7 @@ use Rattle.value_core.specs.Ending.{Done, Raised, Cut, Over, Broken}
 use Rattle.c_core.specs.Step.{MachineEnding, Ended, Faulted}
 use Rattle.c_core.specs.Run.{Stop, machine_run}
 use Rattle.c_runner.specs.declared.report.LiveCell.{LiveCell}
-use Rattle.c_runner.specs.Handing.{has_bytes}
+use Rattle.c_runner_deeds.specs.Handing.{has_bytes}
 use Rattle.c_runner.specs.Ran.{AreLines, given_items}
 use Rattle.mypyc_top_status.specs.declared.status.Status.{Status}
 use Rattle.mypyc_top_status.specs.declared.status.Status.TheVariants as status

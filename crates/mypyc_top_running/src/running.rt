@@ -2,7 +2,7 @@ ghost use Rattle.std.specs.Prelude.{◌≡◌, ◌⊎◌, [], false, Some, IsTru
 ghost use Rattle.value_core.specs.Items.{Items};
 ghost use Rattle.outside_core.specs.Counts.{Rose};
 ghost use Rattle.c_core.specs.Run.{Stop, machine_run};
-ghost use Rattle.c_runner.specs.Report.{ending_of};
+ghost use Rattle.c_runner_deeds.specs.States.{ending_of};
 ghost use Rattle.c_runner.specs.Ran.{AreGiven};
 ghost use Rattle.mypyc_top_status.specs.Output.{output_text};
 ghost use Rattle.mypyc_top_status.specs.ErrorLines.{input_line};

@@ -1,6 +1,6 @@
 ghost use Rattle.std.specs.Prelude.{◌≡◌, ◌++◌, IfOk, OnOk};
 ghost use Rattle.std.specs.List.{flat_map};
-ghost use Rattle.c_runner.specs.Report.{ending_of};
+ghost use Rattle.c_runner_deeds.specs.States.{ending_of};
 ghost use Rattle.mypyc_top_running.specs.Summary.{ending_name, fault_name, cell_line, summary_text};
 
 use c_core::Fault;

@@ -1,6 +1,8 @@
 use Rattle.std.proofs.Common.{◌≡◌, sym, ap, ◌∙◌, ◌++◌, ◌+◌, List, [], drop, length, append-nil, arith, Some, None}
+use Rattle.std.specs.Prelude.{map}
 use Rattle.std.proofs.Math.Seq.{drop-length}
-use Rattle.cell_heap.specs.declared.key.Key.{Key}
+use Rattle.cell_heap.specs.Contents.{number_of}
+use Rattle.slot_arena.specs.declared.key.Key.{Key}
 use Rattle.c_runner.specs.declared.report.LiveCell.{LiveCell}
 use Rattle.c_runner.proofs.LiveLemmas.{live_of, all_live, one_more}
 use Rattle.c_runner.proofs.live.live.Goals as goal
@@ -10,14 +12,14 @@ pub loop-key-init : goal.loop-key-init
 loop-key-init c =
     let classes = c.args.classes.now in
     let cells = c.args.cells.now in
-    ap (λ (live : List LiveCell). live ++ live_of classes cells c.as_slice-key-items.result.now) c.new-live.ensures
-    ∙ ap (live_of classes cells) (c.as_slice-key-items.ensures ∙ c.in_ok-keys.ensures)
+    ap (λ (live : List LiveCell). live ++ live_of classes cells (map number_of c.as_slice-key-items.result.now)) c.new-live.ensures
+    ∙ ap (live_of classes cells) (ap (map number_of) c.as_slice-key-items.ensures ∙ c.in_ok-keys.ensures)
     ∙ all_live classes cells
 
 pub loop-key-preserved : goal.loop-key-preserved
 loop-key-preserved c =
     let keys = c.as_slice-key-items.result.now in
-    let later = live_of c.args.classes.now c.args.cells.now (drop (c.loop-key.key-index + 1) keys) in
+    let later = live_of c.args.classes.now c.args.cells.now (map number_of (drop (c.loop-key.key-index + 1) keys)) in
     elim c.match-branch-3.branch [
       | in-None w ↦
           ap (λ (live : List LiveCell). live ++ later) (w.live-is ∙ sym (append-nil c.loop-key.live))
@@ -33,5 +35,5 @@ returns c =
     let all : c.loop-key.key-index ≡ length keys = omega arith in
     let ended : drop c.loop-key.key-index keys ≡ [] = ap (λ i. drop i keys) all ∙ drop-length keys in
     sym (append-nil c.loop-key.live)
-    ∙ ap (λ (rest : List Key). c.loop-key.live ++ live_of c.args.classes.now c.args.cells.now rest) (sym ended)
+    ∙ ap (λ (rest : List Key). c.loop-key.live ++ live_of c.args.classes.now c.args.cells.now (map number_of rest)) (sym ended)
     ∙ c.loop-key.invariant

@@ -1,5 +1,5 @@
 use Rattle.std.proofs.Common.{sym, ap, ◌∙◌}
-use Rattle.std.specs.Option.{option_copied, option_flatten}
+use Rattle.std.specs.Option.{option_flatten}
 use Rattle.c_core.specs.Functions.{method_at}
 use Rattle.c_runner.proofs.MethodLemmas.{no_functions, own_found}
 use Rattle.c_runner.proofs.methods.own_method.Goals as goal

@@ -1,5 +1,5 @@
 use Rattle.std.proofs.Common.{◌∙◌, ◌-◌}
-use Rattle.c_runner.proofs.ListLemmas.{copied_at}
+use Rattle.c_runner_objects.proofs.ListLemmas.{copied_at}
 use Rattle.c_runner.proofs.MethodLemmas.{object_first, others_behind}
 use Rattle.c_runner.proofs.methods.variable_at.Goals as goal
 

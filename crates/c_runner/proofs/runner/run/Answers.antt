@@ -71,9 +71,9 @@ returns-in_err-hand_on-in-Some-clause-ran g c =
     (g.O.Sink.taken c.hand_on.new.out) (c.hand_on.new.out ≡ c.advance.new.out) (c.hand_on.new.out ≡ c.args.out.now) (λ untouched still. still ∙ untouched) WriteFault NoSink
     (c.in_ok-ending.ensures.counted ∙ c.steps.invariant.calm_in) c.in_err-hand_on-in-Some.ensures.front c.in_err-hand_on-in-Some.ensures.alone)
 
-pub returns-in_err-report-in-Some-clause-ran : goal.returns-in_err-report-in-Some-clause-ran
-returns-in_err-report-in-Some-clause-ran g c =
-    let p = err_from_is_err_and c.from_residual-in_err-report-in-Some.result c.from_residual-in_err-report-in-Some.ensures.1 in
+pub returns-in_err-report_of-in-Some-clause-ran : goal.returns-in_err-report_of-in-Some-clause-ran
+returns-in_err-report_of-in-Some-clause-ran g c =
+    let p = err_from_is_err_and c.from_residual-in_err-report_of-in-Some.result c.from_residual-in_err-report_of-in-Some.ensures.1 in
     let halted = halts_there g.O.Sink.tells (g.O.Sink.taken c.args.out.now) (g.O.Sink.taken c.steps.out) (c.steps.out ≡ c.args.out.now) g.I.Source.tells (g.I.Source.left c.args.input.now) (g.I.Source.left c.steps.input) c.args.code.now c.args.turns c.steps.left c.steps.has_output c.steps.state c.steps.reader c.steps.invariant.going
     (g.O.Sink.taken c.advance.new.out) (g.I.Source.left c.advance.new.input) (c.advance.new.out ≡ c.steps.out) (c.advance.new.out ≡ c.args.out.now) (λ untouched still. still ∙ untouched) c.advance.new.state c.advance.new.reader _ c.has_any-has_output.ensures (can_step _ _ _ _ _ _ _ _ _ _ _ (a_run _ _ _ _ _ _ _ _ _ _ _ _ _ c.steps.invariant.going) c.run_exists.ensures c.requires.well_formed) c.in-Some.ending (rw c.in-Some.is at c.in_ok-ending.ensures.advances) in
     rw (p.1, p.2) (answers_halt g.I.Source.tells (g.I.Source.faults c.args.input.now) (g.I.Source.faults c.advance.new.input) (g.I.Source.left c.args.input.now) c.args.code.now c.args.turns g.O.Sink.tells (g.O.Sink.taken c.args.out.now) c.run_exists.ensures c.requires.well_formed (g.O.Sink.taken c.advance.new.out) (g.I.Source.left c.advance.new.input) (c.advance.new.out ≡ c.args.out.now) _ c.advance.new.state c.advance.new.reader c.in-Some.ending halted
@@ -87,4 +87,4 @@ returns-in-Some-clause-ran g c =
     answers_report g.I.Source.tells (g.I.Source.faults c.args.input.now) (g.I.Source.faults c.advance.new.input) (g.I.Source.left c.args.input.now) c.args.code.now c.args.turns g.O.Sink.tells (g.O.Sink.taken c.args.out.now) c.run_exists.ensures c.requires.well_formed (g.O.Sink.taken c.advance.new.out) (g.I.Source.left c.advance.new.input) (c.advance.new.out ≡ c.args.out.now) _ c.advance.new.state c.advance.new.reader c.in-Some.ending halted
     (g.O.Sink.taken c.hand_on.new.out) (c.hand_on.new.out ≡ c.advance.new.out) (c.hand_on.new.out ≡ c.args.out.now) (λ untouched still. still ∙ untouched)
     (c.in_ok-ending.ensures.counted ∙ c.steps.invariant.calm_in) c.in_ok-hand_on-in-Some.ensures.taken c.in_ok-hand_on-in-Some.ensures.alone _
-    c.in_ok-report-in-Some.ensures.ending c.in_ok-report-in-Some.ensures.live c.in_ok-report-in-Some.ensures.turns c.in_ok-report-in-Some.ensures.output
+    c.in_ok-report_of-in-Some.ensures.ending c.in_ok-report_of-in-Some.ensures.live c.in_ok-report_of-in-Some.ensures.turns c.in_ok-report_of-in-Some.ensures.output

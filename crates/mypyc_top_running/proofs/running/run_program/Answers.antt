@@ -1,4 +1,4 @@
-use Rattle.c_runner.specs.Report.{ending_of}
+use Rattle.c_runner_deeds.specs.States.{ending_of}
 use Rattle.mypyc_top_status.specs.Sinks.{sink_call}
 use Rattle.mypyc_top_running.proofs.RunGaveLemmas.{ended, has_of_report, broken}
 use Rattle.mypyc_top_running.proofs.TookLemmas.{took_ended, took_broken}

@@ -1,6 +1,0 @@
-use Rattle.c_runner.proofs.StateLemmas.{assigned}
-use Rattle.c_runner.proofs.state.State.assign.Goals as goal
-
-pub returns-in-Some-of_literal : goal.returns-in-Some-of_literal
-returns-in-Some-of_literal c =
-    λ rest. assigned rest c.args.self.now _ _ _ _ _ _ c.in-Some.is c.in-Some-of_literal.ensures c.set.ensures

@@ -1,5 +1,0 @@
-use Rattle.std.proofs.Common.{arith}
-use Rattle.c_runner.proofs.state.State.take.Goals as goal
-
-pub add-requires : goal.add-requires
-add-requires c = omega (arith, c.requires.small.ledgers c.serial.result)

@@ -1,8 +1,0 @@
-use Rattle.std.proofs.Common.{sym, ap, ◌∙◌}
-use Rattle.std.specs.Prelude.{is_ok}
-use Rattle.c_runner.proofs.GlobalLemmas.{give_dead}
-use Rattle.c_runner.proofs.stolen.give_word.Goals as goal
-
-pub returns-in-Err : goal.returns-in-Err
-returns-in-Err c =
-    give_dead c.args.cells.now c.give.new.self c.args.word c.in-Some.word c.in-Big.key c.in-Some.is c.in-Big.is (sym (ap is_ok c.in-Err.is) ∙ c.give.ensures.there) c.in-Err.ensures.dead

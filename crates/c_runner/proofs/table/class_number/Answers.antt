@@ -1,5 +1,0 @@
-use Rattle.std.proofs.Common.{◌∙◌}
-use Rattle.c_runner.proofs.table.class_number.Goals as goal
-
-pub returns : goal.returns
-returns c = λ code known. c.copied.ensures ∙ c.get.ensures.value ∙ known c.args.name.now

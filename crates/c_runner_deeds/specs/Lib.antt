@@ -1,0 +1,5 @@
+pub mod Handing
+pub mod States
+pub mod Parts
+pub mod Deeds
+pub mod Objects

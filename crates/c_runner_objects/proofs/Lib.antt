@@ -1,0 +1,4 @@
+pub mod DictLemmas
+pub mod ListLemmas
+pub mod TupleLemmas
+pub mod InstanceLemmas

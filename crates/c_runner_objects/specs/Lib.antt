@@ -1,0 +1,4 @@
+pub mod Dicts
+pub mod Lists
+pub mod Tuples
+pub mod Instances
