@@ -14,11 +14,12 @@ use Rattle.ir_core.specs.declared.code.Last.TheVariants.{Goto, If, IfError, Retu
 use Rattle.ir_core.specs.declared.code.Block.{Block}
 use Rattle.ir_core.specs.declared.kind.Edge.{Edge}
 use Rattle.ir_core.specs.declared.kind.Edge.TheVariants.{NoEdge, Tests, TestsTwice, Jumps}
-use Rattle.ir_core.specs.Items.{Item, in_block, handler_of}
+use Rattle.ir_core.specs.Items.{Item, in_block, item_in, handler_of}
 use Rattle.ir_core.specs.Rows.{Declared, edge_of_op}
 use Rattle.ir_core.specs.Meaning.{is_edge}
 use Rattle.ir_core.specs.Shape.{is_turn, ends_in_turn, op_fits, OpsFit, LastFits, HandlerFits, BlockFits, BlocksFit}
-use Rattle.error_edges.specs.Layout.{missing, edges_in, edges_of, is_some_edge, is_second_test, asks, needs_flag, out_of, leaves, needs_exit, extra, room, number_at, moved, target_of, block_of, asking, cut_at, cut, flag_register, error_register, chain, chains, error_literal, exit_block}
+use Rattle.ir_core.specs.Missing.{missing, edges_in, edges_of, is_some_edge}
+use Rattle.error_edges.specs.Layout.{is_second_test, asks, needs_flag, out_of, leaves, needs_exit, extra, room, number_at, moved, target_of, block_of, asking, cut_at, cut, flag_register, error_register, chain, chains, error_literal, exit_block}
 use Rattle.error_edges.proofs.Numbers.{starts_in, end_in, laid_blocks}
 use Rattle.error_edges.proofs.LayoutLemmas.{chain_count, chains_count}
 
@@ -66,8 +67,8 @@ left_turn : (os : List (Op × ℕ)) → ends_in_turn os ≡ true → Left ATurn 
 left_turn [] h = h
 left_turn (o ∷ os) h = h
 
-missing_none : (e : Edge) (item : Option Item) → e ≡ NoEdge → missing e item ≡ NoEdge
-missing_none e item is = rw is refl
+missing_none : (at : ℕ → ℕ → Option Item) (e : Edge) (item : Option Item) → e ≡ NoEdge → missing at e item ≡ NoEdge
+missing_none at e item is = rw is refl
 
 some_room : (es : List Edge) → 1 ≤ room es
 some_room [] = omega arith
@@ -116,14 +117,14 @@ module _ (D R : Reg → Type 0) (O : Op → Type 0) where
   ops_append [] o h k = (k, tt)
   ops_append (x ∷ xs) o h k = (h.0, ops_append xs o h.1 k)
 
-  edge_missing : (e : Edge) (item : Option Item) → EdgeIs e → EdgeIs (missing e item)
-  edge_missing e item h = by (is_edge e item)
+  edge_missing : (at : ℕ → ℕ → Option Item) (e : Edge) (item : Option Item) → EdgeIs e → EdgeIs (missing at e item)
+  edge_missing at e item h = by (is_edge at e item)
     where
       by : (b : Bool) → EdgeIs (cond b NoEdge e)
       by true = tt
       by false = h
 
-  module _ (ds : Declared) (fit : (o : Op) → O o → IsTrue (op_fits o)) (edge : (o : Op) → O o → EdgeIs (edge_of_op ds o)) (size : ℕ) where
+  module _ (ds : Declared) (fit : (o : Op) → O o → IsTrue (op_fits o)) (edge : (o : Op) → O o → EdgeIs (edge_of_op ds o)) (all : List Block) (size : ℕ) where
     abbrev flag : Reg
     flag = flag_register ds
 
@@ -172,82 +173,82 @@ module _ (D R : Reg → Type 0) (O : Op → Type 0) where
       shorter (TestsTwice r) is n k l = omega (arith, l)
       shorter Jumps is n k l = omega (arith, l)
 
-      cut_fits : (os : List (Op × ℕ)) (last : Last) (n : ℕ) (done : List (Op × ℕ)) → n + room (edges_in ds os last) ≤ limit → OpsAre os → OpsAre done → (list_any is_second_test (edges_in ds os last) ≡ true → Answered) → (list_any is_some_edge (edges_in ds os last) ≡ true → target < size) → Left need done os → BlocksAre size n (cut target flag os (edges_in ds os last) end n done)
+      cut_fits : (os : List (Op × ℕ)) (last : Last) (n : ℕ) (done : List (Op × ℕ)) → n + room (edges_in ds all os last) ≤ limit → OpsAre os → OpsAre done → (list_any is_second_test (edges_in ds all os last) ≡ true → Answered) → (list_any is_some_edge (edges_in ds all os last) ≡ true → target < size) → Left need done os → BlocksAre size n (cut target flag os (edges_in ds all os last) end n done)
       cut_fits [] last n done l h k asks inside left = (one_block n done end k (fits n done (omega (arith, l)) left) ends, tt)
       cut_fits (o ∷ os) last n done l h k asks inside left =
-          let e : Edge = missing (edge_of_op ds o.0) (in_block os last 0) in
-          let es : List Edge = edges_in ds os last in
+          let e : Edge = missing (item_in all) (edge_of_op ds o.0) (in_block os last 0) in
+          let es : List Edge = edges_in ds all os last in
           let later : list_any is_second_test es ≡ true → Answered = λ x. asks (or_right (is_second_test e) (list_any is_second_test es) x) in
           let out : list_any is_some_edge es ≡ true → target < size = λ x. inside (or_right (is_some_edge e) (list_any is_some_edge es) x) in
           at_cut e (cut target flag os es end) (room es) n (done ++ o ∷ []) o.1 (some_room es) l (ops_append done o k h.0)
-          (edge_missing (edge_of_op ds o.0) (in_block os last 0) (edge o.0 h.0))
+          (edge_missing (item_in all) (edge_of_op ds o.0) (in_block os last 0) (edge o.0 h.0))
           (λ x. asks (or_left (is_second_test e) (list_any is_second_test es) x))
           (λ x. inside (or_left (is_some_edge e) (list_any is_some_edge es) x))
           (λ none. cut_fits os last n (done ++ o ∷ []) (shorter e none n (room es) l) h.1 (ops_append done o k h.0) later out (stays need done o os left))
-          (λ some m x. cut_fits os last m [] x h.1 tt later out (shifts ds need done o os (λ is. some (missing_none (edge_of_op ds o.0) (in_block os last 0) is)) left))
+          (λ some m x. cut_fits os last m [] x h.1 tt later out (shifts ds need done o os (λ is. some (missing_none (item_in all) (edge_of_op ds o.0) (in_block os last 0) is)) left))
 
     -- the chain of block k of so many, which begins at number n
     module _ (old k n : ℕ) (target : ℕ) (start : ℕ → ℕ) (inner : k ≤ n) where
-      chain_fits : (ops : List (Op × ℕ)) (last : Last) → n + room (edges_in ds ops last) ≤ target → n + room (edges_in ds ops last) ≤ size → (list_any is_second_test (edges_in ds ops last) ≡ true → Answered) → (list_any is_some_edge (edges_in ds ops last) ≡ true → target < size) → ((t : ℕ) → k < t → t < old → (n + room (edges_in ds ops last) ≤ start t) × (start t < size)) → ((t : ℕ) → 0 < t → t < old → (0 < start t) × (start t < size)) → OpsAre ops → EndIs last → LastFits old k ops last → BlocksAre size n (cut target flag ops (edges_in ds ops last) (moved start last) n [])
+      chain_fits : (ops : List (Op × ℕ)) (last : Last) → n + room (edges_in ds all ops last) ≤ target → n + room (edges_in ds all ops last) ≤ size → (list_any is_second_test (edges_in ds all ops last) ≡ true → Answered) → (list_any is_some_edge (edges_in ds all ops last) ≡ true → target < size) → ((t : ℕ) → k < t → t < old → (n + room (edges_in ds all ops last) ≤ start t) × (start t < size)) → ((t : ℕ) → 0 < t → t < old → (0 < start t) × (start t < size)) → OpsAre ops → EndIs last → LastFits old k ops last → BlocksAre size n (cut target flag ops (edges_in ds all ops last) (moved start last) n [])
       chain_fits ops (Goto t) reach below asks inside ahead some h end fits = on fits.2
         where
-          on : (k < t) ⊎ (ends_in_turn ops ≡ true) → BlocksAre size n (cut target flag ops (edges_in ds ops (Goto t)) (moved start (Goto t)) n [])
+          on : (k < t) ⊎ (ends_in_turn ops ≡ true) → BlocksAre size n (cut target flag ops (edges_in ds all ops (Goto t)) (moved start (Goto t)) n [])
           on (inl l) =
-              cut_fits target (Goto (start t)) tt Nothing (n + room (edges_in ds ops (Goto t))) reach below
+              cut_fits target (Goto (start t)) tt Nothing (n + room (edges_in ds all ops (Goto t))) reach below
               (λ m os lt met. let a = ahead t l fits.1 in (omega (arith, a.0, lt), a.1, inl (omega (arith, a.0, lt))))
               ops (Goto t) n [] (omega arith) h tt asks inside (left_nothing ops)
           on (inr turn) =
-              cut_fits target (Goto (start t)) tt ATurn (n + room (edges_in ds ops (Goto t))) reach below
+              cut_fits target (Goto (start t)) tt ATurn (n + room (edges_in ds all ops (Goto t))) reach below
               (λ m os lt met. let a = some t fits.0 fits.1 in (a.0, a.1, inr met))
               ops (Goto t) n [] (omega arith) h tt asks inside (left_turn ops turn)
       chain_fits ops (If r a b) reach below asks inside ahead some h end fits =
-          cut_fits target (If r (start a) (start b)) end Nothing (n + room (edges_in ds ops (If r a b))) reach below
+          cut_fits target (If r (start a) (start b)) end Nothing (n + room (edges_in ds all ops (If r a b))) reach below
           (λ m os lt met. let x = ahead a fits.0.0 fits.0.1 in let y = ahead b fits.1.0 fits.1.1 in ((omega (arith, x.0, lt), x.1), (omega (arith, y.0, lt), y.1)))
           ops (If r a b) n [] (omega arith) h tt asks inside (left_nothing ops)
       chain_fits ops (IfError r a b line) reach below asks inside ahead some h end fits =
-          cut_fits target (IfError r (start a) (start b) line) end Nothing (n + room (edges_in ds ops (IfError r a b line))) reach below
+          cut_fits target (IfError r (start a) (start b) line) end Nothing (n + room (edges_in ds all ops (IfError r a b line))) reach below
           (λ m os lt met. let x = ahead a fits.0.0 fits.0.1 in let y = ahead b fits.1.0 fits.1.1 in ((omega (arith, x.0, lt), x.1), (omega (arith, y.0, lt), y.1)))
           ops (IfError r a b line) n [] (omega arith) h tt asks inside (left_nothing ops)
       chain_fits ops (Return r) reach below asks inside ahead some h end fits =
-          cut_fits target (Return r) end Nothing (n + room (edges_in ds ops (Return r))) reach below (λ m os lt met. tt)
+          cut_fits target (Return r) end Nothing (n + room (edges_in ds all ops (Return r))) reach below (λ m os lt met. tt)
           ops (Return r) n [] (omega arith) h tt asks inside (left_nothing ops)
       chain_fits [] Unreachable reach below asks inside ahead some h end fits =
           let l : 0 < k = fits.0 in (one_block n [] Unreachable tt (omega (arith, l, inner), refl) tt, tt)
       chain_fits (o ∷ ops) Unreachable reach below asks inside ahead some h end fits = let e = fits.1 in absurd (cc)
 
 -- ---- where the chains begin
-module _ (ds : Declared) where
-  end_above : (bs : List Block) (n : ℕ) → n ≤ end_in ds bs n
+module _ (ds : Declared) (all : List Block) where
+  end_above : (bs : List Block) (n : ℕ) → n ≤ end_in ds all bs n
   end_above [] n = omega arith
-  end_above (b ∷ bs) n = let h = end_above bs (n + room (edges_of ds b)) in omega (arith, h)
+  end_above (b ∷ bs) n = let h = end_above bs (n + room (edges_of ds all b)) in omega (arith, h)
 
-  pub end_below : (bs : List Block) (n : ℕ) → n + length bs ≤ end_in ds bs n
+  pub end_below : (bs : List Block) (n : ℕ) → n + length bs ≤ end_in ds all bs n
   end_below [] n = omega arith
   end_below (b ∷ bs) n =
-      let h = end_below bs (n + room (edges_of ds b)) in
-      let k = some_room (edges_of ds b) in
+      let h = end_below bs (n + room (edges_of ds all b)) in
+      let k = some_room (edges_of ds all b) in
       omega (arith, h, k)
 
   abbrev from : ℕ → List ℕ → ℕ → ℕ
   from exit starts j = option_map_or (λ n. n) (slice_get starts j) exit
 
-  start_above : (exit : ℕ) (bs : List Block) (n j : ℕ) → j < length bs → (n ≤ from exit (starts_in ds bs n) j) × (from exit (starts_in ds bs n) j < end_in ds bs n)
+  start_above : (exit : ℕ) (bs : List Block) (n j : ℕ) → j < length bs → (n ≤ from exit (starts_in ds all bs n) j) × (from exit (starts_in ds all bs n) j < end_in ds all bs n)
   start_above exit [] n j l = absurd (omega (arith, l))
   start_above exit (b ∷ bs) n zero l =
-      let h = end_above bs (n + room (edges_of ds b)) in
-      let k = some_room (edges_of ds b) in
+      let h = end_above bs (n + room (edges_of ds all b)) in
+      let k = some_room (edges_of ds all b) in
       (omega arith, omega (arith, h, k))
   start_above exit (b ∷ bs) n (suc j) l =
-      let h = start_above exit bs (n + room (edges_of ds b)) j (omega (arith, l)) in
+      let h = start_above exit bs (n + room (edges_of ds all b)) j (omega (arith, l)) in
       (omega (arith, h.0), h.1)
 
 -- ---- all chains, and the exit
 module _ (D R : Reg → Type 0) (O : Op → Type 0) (ds : Declared) (fit : (o : Op) → O o → IsTrue (op_fits o)) (edge : (o : Op) → O o → EdgeIs D R O (edge_of_op ds o)) (all : List Block) where
   abbrev exit : ℕ
-  exit = end_in ds all 0
+  exit = end_in ds all all 0
 
   abbrev start : ℕ → ℕ
-  start = number_at (starts_in ds all 0) exit
+  start = number_at (starts_in ds all all 0) exit
 
   abbrev Answers : Type 0
   Answers = O (asking (flag_register ds)) × D (flag_register ds)
@@ -256,12 +257,12 @@ module _ (D R : Reg → Type 0) (O : Op → Type 0) (ds : Declared) (fit : (o : 
     some_start : (t : ℕ) → 0 < t → t < length all → (0 < start t) × (start t < size)
     some_start t p l = on all exit t p l big
       where
-        on : (bs : List Block) (x t : ℕ) → 0 < t → t < length bs → end_in ds bs 0 ≤ size → (0 < from ds x (starts_in ds bs 0) t) × (from ds x (starts_in ds bs 0) t < size)
+        on : (bs : List Block) (x t : ℕ) → 0 < t → t < length bs → end_in ds all bs 0 ≤ size → (0 < from ds all x (starts_in ds all bs 0) t) × (from ds all x (starts_in ds all bs 0) t < size)
         on [] x t p l e = absurd (omega (arith, l))
         on (b ∷ bs) x zero p l e = absurd (omega (arith, p))
         on (b ∷ bs) x (suc j) p l e =
-            let h = start_above ds x bs (0 + room (edges_of ds b)) j (omega (arith, l)) in
-            let k = some_room (edges_of ds b) in
+            let h = start_above ds all x bs (0 + room (edges_of ds all b)) j (omega (arith, l)) in
+            let k = some_room (edges_of ds all b) in
             (omega (arith, h.0, k), omega (arith, h.1, e))
 
     target_there : (k m : ℕ) (h : Option ℕ) → HandlerFits (length all) k h → m ≤ exit → ((t : ℕ) → k < t → t < length all → (m ≤ start t) × (start t < size)) → m ≤ target_of start exit h
@@ -272,39 +273,39 @@ module _ (D R : Reg → Type 0) (O : Op → Type 0) (ds : Declared) (fit : (o : 
     target_inside k m None fails fits ahead out is = out is
     target_inside k m (Some t) fails fits ahead out is = (ahead t fits.0 fits.1).1
 
-    chains_fit : (bs : List Block) (k n : ℕ) → k + length bs ≡ length all → k ≤ n → end_in ds bs n ≡ exit → ((j : ℕ) → slice_get (starts_in ds all 0) (k + j) ≡ slice_get (starts_in ds bs n) j) → (list_any (asks ds) bs ≡ true → Answers) → (list_any (leaves ds) bs ≡ true → exit < size) → BlocksAre D R O (length all) k bs → BlocksAre D R O size n (chains ds start exit bs n)
+    chains_fit : (bs : List Block) (k n : ℕ) → k + length bs ≡ length all → k ≤ n → end_in ds all bs n ≡ exit → ((j : ℕ) → slice_get (starts_in ds all all 0) (k + j) ≡ slice_get (starts_in ds all bs n) j) → (list_any (asks ds all) bs ≡ true → Answers) → (list_any (leaves ds all) bs ≡ true → exit < size) → BlocksAre D R O (length all) k bs → BlocksAre D R O size n (chains ds all start exit bs n)
     chains_fit [] k n count inner ends same asked out old = tt
     chains_fit (b ∷ bs) k n count inner ends same asked out old =
-        let r : ℕ = room (edges_of ds b) in
+        let r : ℕ = room (edges_of ds all b) in
         let target : ℕ = target_of start exit (handler_of b) in
-        let one = some_room (edges_of ds b) in
-        let above = end_above ds bs (n + r) in
+        let one = some_room (edges_of ds all b) in
+        let above = end_above ds all bs (n + r) in
         let reach : n + r ≤ exit = omega (arith, above, ends) in
-        let shifted : (j : ℕ) → slice_get (starts_in ds all 0) (suc k + j) ≡ slice_get (starts_in ds bs (n + r)) j = λ j. let z : suc k + j ≡ k + suc j = omega arith in ap (slice_get (starts_in ds all 0)) z ∙ same (suc j) in
+        let shifted : (j : ℕ) → slice_get (starts_in ds all all 0) (suc k + j) ≡ slice_get (starts_in ds all bs (n + r)) j = λ j. let z : suc k + j ≡ k + suc j = omega arith in ap (slice_get (starts_in ds all all 0)) z ∙ same (suc j) in
         let ahead : (t : ℕ) → k < t → t < length all → (n + r ≤ start t) × (start t < size) = λ t l m. (
         let z : t ≡ suc k + (t - suc k) = omega (arith, l) in
-        let at : start t ≡ from ds exit (starts_in ds bs (n + r)) (t - suc k) = ap (λ o. option_map_or (λ n. n) o exit) (ap (slice_get (starts_in ds all 0)) z ∙ shifted (t - suc k)) in
-        let h = start_above ds exit bs (n + r) (t - suc k) (omega (arith, l, m, count)) in
+        let at : start t ≡ from ds all exit (starts_in ds all bs (n + r)) (t - suc k) = ap (λ o. option_map_or (λ n. n) o exit) (ap (slice_get (starts_in ds all all 0)) z ∙ shifted (t - suc k)) in
+        let h = start_above ds all exit bs (n + r) (t - suc k) (omega (arith, l, m, count)) in
         (omega (arith, at, h.0), omega (arith, at, h.1, ends, big))) in
-        let chained : BlocksAre D R O size n (chain ds start exit b n) =
-        chain_fits D R O ds fit edge size (length all) k n target start inner b.ops b.last
+        let chained : BlocksAre D R O size n (chain ds all start exit b n) =
+        chain_fits D R O ds fit edge all size (length all) k n target start inner b.ops b.last
         (target_there k (n + r) (handler_of b) old.0.fits.handler reach ahead)
         (omega (arith, reach, big))
-        (λ x. asked (or_left (asks ds b) (list_any (asks ds) bs) x))
-        (target_inside k (n + r) (handler_of b) (list_any is_some_edge (edges_of ds b)) old.0.fits.handler ahead (λ x. out (or_left (leaves ds b) (list_any (leaves ds) bs) x)))
+        (λ x. asked (or_left (asks ds all b) (list_any (asks ds all) bs) x))
+        (target_inside k (n + r) (handler_of b) (list_any is_some_edge (edges_of ds all b)) old.0.fits.handler ahead (λ x. out (or_left (leaves ds all b) (list_any (leaves ds all) bs) x)))
         ahead some_start old.0.ops old.0.end old.0.fits.last in
-        let rest : BlocksAre D R O size (n + r) (chains ds start exit bs (n + r)) =
+        let rest : BlocksAre D R O size (n + r) (chains ds all start exit bs (n + r)) =
         chains_fit bs (suc k) (n + r) (omega (arith, count)) (omega (arith, inner, one)) ends shifted
-        (λ x. asked (or_right (asks ds b) (list_any (asks ds) bs) x)) (λ x. out (or_right (leaves ds b) (list_any (leaves ds) bs) x)) old.1 in
-        blocks_append D R O size n (chain ds start exit b n) (chains ds start exit bs (n + r)) chained
-        (subst (λ c. BlocksAre D R O size (n + c) (chains ds start exit bs (n + r))) (sym (chain_count ds start exit b n)) rest)
+        (λ x. asked (or_right (asks ds all b) (list_any (asks ds all) bs) x)) (λ x. out (or_right (leaves ds all b) (list_any (leaves ds all) bs) x)) old.1 in
+        blocks_append D R O size n (chain ds all start exit b n) (chains ds all start exit bs (n + r)) chained
+        (subst (λ c. BlocksAre D R O size (n + c) (chains ds all start exit bs (n + r))) (sym (chain_count ds all start exit b n)) rest)
 
   module _ (ret : RType) (asked : needs_flag ds all ≡ true → Answers) (given : needs_exit ds all ≡ true → O (Lit (error_register ds all) (error_literal ret)) × D (error_register ds all) × R (error_register ds all)) (old : BlocksAre D R O (length all) 0 all) where
     abbrev main : List Block
-    main = chains ds start exit all 0
+    main = chains ds all start exit all 0
 
     main_count : length main ≡ exit
-    main_count = let e = chains_count ds start exit all 0 in omega (arith, e)
+    main_count = let e = chains_count ds all start exit all 0 in omega (arith, e)
 
     with_exit : (b : Bool) → (b ≡ true → O (Lit (error_register ds all) (error_literal ret)) × D (error_register ds all) × R (error_register ds all)) → ((size : ℕ) → exit ≤ size → (b ≡ true → exit < size) → BlocksAre D R O size 0 main) → BlocksAre D R O (length (main ++ cond b (exit_block (error_register ds all) ret ∷ []) [])) 0 (main ++ cond b (exit_block (error_register ds all) ret ∷ []) [])
     with_exit true gives h =
@@ -312,7 +313,7 @@ module _ (D R : Reg → Type 0) (O : Op → Type 0) (ds : Declared) (fit : (o : 
         let size : ℕ = length (main ++ last ∷ []) in
         let count : size ≡ exit + 1 = length-append main (last ∷ []) ∙ ap (λ n. n + 1) main_count in
         let g = gives refl in
-        let one : BlockIs D R O size (0 + length main) last = one_block D R O ds fit edge size (0 + length main) last.ops last.last (g.0, tt) tt (g.1, g.2) in
+        let one : BlockIs D R O size (0 + length main) last = one_block D R O ds fit edge all size (0 + length main) last.ops last.last (g.0, tt) tt (g.1, g.2) in
         blocks_append D R O size 0 main (last ∷ []) (h size (omega (arith, count)) (λ e. omega (arith, count))) (one, tt)
     with_exit false gives h =
         let count : length (main ++ []) ≡ exit = length-append main [] ∙ (let z : length main + 0 ≡ length main = omega arith in z) ∙ main_count in
@@ -322,4 +323,4 @@ module _ (D R : Reg → Type 0) (O : Op → Type 0) (ds : Declared) (fit : (o : 
     laid_fit =
         let none : 0 + length all ≡ length all = omega arith in
         with_exit (needs_exit ds all) given
-        (λ size big out. chains_fit size big all 0 0 none (omega arith) refl (λ j. let z : 0 + j ≡ j = omega arith in ap (slice_get (starts_in ds all 0)) z) asked out old)
+        (λ size big out. chains_fit size big all 0 0 none (omega arith) refl (λ j. let z : 0 + j ≡ j = omega arith in ap (slice_get (starts_in ds all all 0)) z) asked out old)

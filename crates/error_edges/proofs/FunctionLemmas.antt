@@ -38,7 +38,7 @@ each_from (x ∷ fs) (y ∷ gs) all zero g e = let same : y ≡ g = cc in (x, re
 each_from (x ∷ fs) (y ∷ gs) all (suc n) g e = each_from fs gs all.1 n g e
 
 -- a function that is laid out by a plan. The plan and the blocks were made from copies of its registers and blocks
-pub edged_by : (f g : Func) (between r s : Declared) (bs : List Block) (starts : List ℕ) (exit : ℕ) (flag out : Bool) → r ≡ f.regs → s ≡ f.regs → bs ≡ f.blocks → ((k : ℕ) → number_at starts exit k ≡ start_of r bs k) → exit ≡ exit_of r bs → flag ≡ needs_flag r bs → out ≡ needs_exit r bs → g.name ≡ f.name → g.params ≡ f.params → g.ret ≡ f.ret → IsGrown flag BoolType f.regs between → IsGrown out f.ret between g.regs → g.blocks ≡ chains s (number_at starts exit) exit f.blocks 0 ++ cond out (exit_block (record { 0 = length s + cond flag 1 0 }) f.ret ∷ []) [] → length g.blocks ≤ 2 ^ 64 → IsEdged f g
+pub edged_by : (f g : Func) (between r s : Declared) (bs : List Block) (starts : List ℕ) (exit : ℕ) (flag out : Bool) → r ≡ f.regs → s ≡ f.regs → bs ≡ f.blocks → ((k : ℕ) → number_at starts exit k ≡ start_of r bs k) → exit ≡ exit_of r bs → flag ≡ needs_flag r bs → out ≡ needs_exit r bs → g.name ≡ f.name → g.params ≡ f.params → g.ret ≡ f.ret → IsGrown flag BoolType f.regs between → IsGrown out f.ret between g.regs → g.blocks ≡ chains s f.blocks (number_at starts exit) exit f.blocks 0 ++ cond out (exit_block (record { 0 = length s + cond flag 1 0 }) f.ret ∷ []) [] → length g.blocks ≤ 2 ^ 64 → IsEdged f g
 edged_by f g between r s bs starts exit flag out same_r same_s same_bs at last asked leaves name params ret grown more blocks few =
     let flag_is : flag ≡ needs_flag f.regs f.blocks = asked ∙ (ap (λ ds. needs_flag ds bs) same_r ∙ ap (needs_flag f.regs) same_bs) in
     let out_is : out ≡ needs_exit f.regs f.blocks = leaves ∙ (ap (λ ds. needs_exit ds bs) same_r ∙ ap (needs_exit f.regs) same_bs) in
@@ -53,7 +53,7 @@ edged_by f g between r s bs starts exit flag out same_r same_s same_bs at last a
       error = subst (λ b. IsGrown b f.ret between g.regs) out_is more;
       blocks =
           blocks
-          ∙ (ap (λ ds. chains ds (number_at starts exit) exit f.blocks 0 ++ cond out (exit_block (record { 0 = length ds + cond flag 1 0 }) f.ret ∷ []) []) same_s
+          ∙ (ap (λ ds. chains ds f.blocks (number_at starts exit) exit f.blocks 0 ++ cond out (exit_block (record { 0 = length ds + cond flag 1 0 }) f.ret ∷ []) []) same_s
           ∙ plan_laid f.regs f.ret f.blocks starts exit flag out starts_there exit_there flag_is out_is);
       few = few;
     }

@@ -13,11 +13,12 @@ use Rattle.ir_core.specs.declared.kind.Edge.{Edge}
 use Rattle.ir_core.specs.declared.kind.Edge.TheVariants.{NoEdge, Tests, TestsTwice, Jumps}
 use Rattle.ir_core.specs.Items.{Item, Do, End, in_block, item_in, handler_of}
 use Rattle.ir_core.specs.Rows.{Declared, type_of_reg, edge_of_op}
-use Rattle.error_edges.specs.Layout.{missing, moved, target_of, asking, flag_register, error_literal}
+use Rattle.ir_core.specs.Missing.{missing}
+use Rattle.error_edges.specs.Layout.{moved, target_of, asking, flag_register, error_literal}
 
 -- the rest of a block stands from a place on, and goes on in the blocks behind. What is asked for is there, and what leaves
 -- gets out
-module _ (item : ℕ → ℕ → Option Item) (start : ℕ → ℕ) (target : ℕ) (flag : Reg) (Asked Escapes : Type 0) (regs : Declared) where
+module _ (item : ℕ → ℕ → Option Item) (start : ℕ → ℕ) (target : ℕ) (flag : Reg) (Asked Escapes : Type 0) (regs : Declared) (all : List Block) where
   abbrev pub LaidAfter : Edge → ℕ → ℕ → ℕ → (ℕ → ℕ → Type 0) → Type 0
   LaidAfter NoEdge line k i rest = rest k (i + 1)
   LaidAfter (Tests r) line k i rest =
@@ -28,7 +29,7 @@ module _ (item : ℕ → ℕ → Option Item) (start : ℕ → ℕ) (target : �
 
   abbrev pub Laid : List (Op × ℕ) → Last → ℕ → ℕ → Type 0
   Laid [] last k i = item k i ≡ Some (End (moved start last))
-  Laid (o ∷ os) last k i = (item k i ≡ Some (Do o.0)) × LaidAfter (missing (edge_of_op regs o.0) (in_block os last 0)) o.1 k i (Laid os last)
+  Laid (o ∷ os) last k i = (item k i ≡ Some (Do o.0)) × LaidAfter (missing (item_in all) (edge_of_op regs o.0) (in_block os last 0)) o.1 k i (Laid os last)
 
 -- the exit of a function gives its error value
 pub record ExitStands (g : Func) (exit : ℕ) : Type 0 where
@@ -47,7 +48,7 @@ Asked g flag = type_of_reg g.regs flag ≡ Some BoolType
 -- a block of f stands in the function g, in its chain
 abbrev pub BlockStands : Func → Func → (ℕ → ℕ) → ℕ → Block → List (Op × ℕ) → Last → ℕ → ℕ → Type 0
 BlockStands f g start exit b =
-    Laid (item_in g.blocks) start (target_of start exit (handler_of b)) (flag_register f.regs) (Asked g (flag_register f.regs)) (Escapes g exit (handler_of b)) f.regs
+    Laid (item_in g.blocks) start (target_of start exit (handler_of b)) (flag_register f.regs) (Asked g (flag_register f.regs)) (Escapes g exit (handler_of b)) f.regs f.blocks
 
 pub record FunctionLaid (f g : Func) : Type 0 where
   pub start : ℕ → ℕ

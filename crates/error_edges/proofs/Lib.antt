@@ -7,6 +7,7 @@ mod Occurring
 mod Simulation
 mod Kept
 mod Laying
+mod EdgeLemmas
 mod Whole
 mod Standing
 mod BlockShapes

@@ -45,7 +45,7 @@ abbrev var : ℕ → PArg
 var n = arg.Var (reg n)
 
 abbrev block : List (Op × ℕ) → Last → Block
-block ops last = record { ops = ops; last = last }
+block ops last = record { ops = ops; last = last; handler = None }
 
 -- the question whether an exception is pending
 abbrev occurred : ℕ → ℕ → Op × ℕ
@@ -146,16 +146,44 @@ raise_is_edged = record {
   few = lit≤ tt;
 }
 
--- ---- a test that stands there already is left alone, also that of a native integer, which may be a global's error value: the
--- function stays as it is
+-- ---- a block with a handler: its edges go there, by the handler's new number, and not out of the function. Nothing leaves it, so
+-- it has no exit
+abbrev guarded : Func
+guarded = record {
+  name = codes "t";
+  params = 1;
+  regs = (codes "e", Ref) ∷ (codes "r0", Bool) ∷ [];
+  ret = Bool;
+  blocks =
+      record { ops = (Turn, 1) ∷ (Call (reg 1) 0 (reg 0 ∷ []), 2) ∷ (Prim None (prim.Err err.SetObject) (var 0 ∷ []), 3) ∷ []; last = Return (reg 1); handler = Some 2 }
+      ∷ block [] (Return (reg 1))
+      ∷ block ((Prim (Some (reg 1)) (prim.Err err.Occurred) [], 4) ∷ []) (Return (reg 1)) ∷ [];
+}
+
+abbrev caught : Func
+caught = record guarded {
+  blocks =
+      block ((Turn, 1) ∷ (Call (reg 1) 0 (reg 0 ∷ []), 2) ∷ []) (IfError (reg 1) 4 1 2)
+      ∷ block ((Prim None (prim.Err err.SetObject) (var 0 ∷ []), 3) ∷ []) (Goto 4)
+      ∷ block [] (Return (reg 1))
+      ∷ block [] (Return (reg 1))
+      ∷ block ((Prim (Some (reg 1)) (prim.Err err.Occurred) [], 4) ∷ []) (Return (reg 1)) ∷ [];
+}
+
+guarded_is_edged : IsEdged guarded caught
+guarded_is_edged =
+    record { name = refl; params = refl; ret = refl; between = guarded.regs; flag = refl; error = refl; blocks = refl; few = lit≤ tt }
+
+-- ---- tests that stand there already are left alone: the function stays as it is
 abbrev look_up : Func
 look_up = record {
   name = codes "h";
   params = 0;
-  regs = (codes "r0", I64) ∷ (codes "r1", I64) ∷ [];
+  regs = (codes "r0", I64) ∷ (codes "r1", I64) ∷ (codes "r2", Bool) ∷ [];
   ret = I64;
   blocks =
-      block ((Turn, 1) ∷ (Prim (Some (reg 0)) (prim.Global global.Get) (arg.Global (codes "v") ∷ []), 2) ∷ []) (IfError (reg 0) 1 2 2)
+      block ((Turn, 1) ∷ (Prim (Some (reg 0)) (prim.Global global.Get) (arg.Global (codes "v") ∷ []), 2) ∷ []) (IfError (reg 0) 1 3 2)
+      ∷ block (occurred 2 2 ∷ []) (If (reg 2) 2 3)
       ∷ block ((Lit (reg 1) (Number (negsuc 112)), 2) ∷ []) (Return (reg 1))
       ∷ block [] (Return (reg 0)) ∷ [];
 }
@@ -163,6 +191,19 @@ look_up = record {
 look_up_is_edged : IsEdged look_up look_up
 look_up_is_edged =
     record { name = refl; params = refl; ret = refl; between = look_up.regs; flag = refl; error = refl; blocks = refl; few = lit≤ tt }
+
+-- but of a native integer the test of the word alone is no edge, since that is an ordinary value too
+abbrev one_test : List Block
+one_test =
+    block ((Prim (Some (reg 0)) (prim.Global global.Get) (arg.Global (codes "v") ∷ []), 2) ∷ []) (IfError (reg 0) 1 1 2) ∷ block [] (Return (reg 0)) ∷ []
+
+one_test_is_no_edge : edged_blocks ((codes "r0", I64) ∷ []) I64 one_test ≡
+    block ((Prim (Some (reg 0)) (prim.Global global.Get) (arg.Global (codes "v") ∷ []), 2) ∷ []) (IfError (reg 0) 1 2 2)
+    ∷ block (occurred 1 2 ∷ []) (If (reg 1) 4 2)
+    ∷ block [] (IfError (reg 0) 3 3 2)
+    ∷ block [] (Return (reg 0))
+    ∷ block ((Lit (reg 2) (Number (negsuc 112)), 0) ∷ []) (Return (reg 2)) ∷ []
+one_test_is_no_edge = refl
 
 -- ---- a jump back stays behind its turn: `while True: a = a // b`, and the exit of a function that gives an object
 abbrev round : Func

@@ -26,7 +26,7 @@ use Rattle.ir_core.proofs.JumpLemmas.{jumps_go, last_leaves}
 use Rattle.ir_core.proofs.TextLemmas.{LinesAre, lines_from_all, all_spelled, all_fit}
 use Rattle.ir_core.proofs.ClassLemmas.{classes_same}
 use Rattle.error_edges.specs.Layout.{needs_flag, needs_exit, number_at, exit_blocks, chains}
-use Rattle.error_edges.specs.Edged.{IsEdged, AreEdged, IsEdgedProgram}
+use Rattle.error_edges.specs.Edged.{IsEdged, AreEdged, IsEdgedProgram, HasEdges, EachHasEdges}
 use Rattle.error_edges.proofs.FunctionLemmas.{each_count}
 use Rattle.error_edges.proofs.Numbers.{starts_in, end_in, laid_same}
 use Rattle.error_edges.proofs.LayoutLemmas.{chains_count}
@@ -36,6 +36,7 @@ use Rattle.error_edges.proofs.Laying.{more_regs, function_laid}
 use Rattle.error_edges.proofs.LineLemmas.{CodeKept}
 use Rattle.error_edges.proofs.SpellingLemmas.{map_append, AreNamed, grown_named}
 use Rattle.error_edges.proofs.FunctionShapes.{func_fits, function_lines}
+use Rattle.error_edges.proofs.Standing.{has_edges}
 
 -- ---- the first operation stays
 first_turn : (ops : List (Op × ℕ)) (last : Last) → in_block ops last 0 ≡ Some (Do Turn) → (o : Op × ℕ) × (rest : List (Op × ℕ)) × (ops ≡ o ∷ rest) × (o.0 ≡ Turn)
@@ -235,12 +236,21 @@ module _ (p q : Program) (edged : IsEdgedProgram p q) (shape : Shape p) where
 
   new_blocks : (f g : Func) → IsEdged f g → 0 < length f.blocks → 0 < length g.blocks
   new_blocks f g e some =
-      let exit : ℕ = end_in f.regs f.blocks 0 in
-      let start : ℕ → ℕ = number_at (starts_in f.regs f.blocks 0) exit in
-      let main : List Block = chains f.regs start exit f.blocks 0 in
+      let exit : ℕ = end_in f.regs f.blocks f.blocks 0 in
+      let start : ℕ → ℕ = number_at (starts_in f.regs f.blocks f.blocks 0) exit in
+      let main : List Block = chains f.regs f.blocks start exit f.blocks 0 in
       let all = length-append main (exit_blocks f.regs f.ret f.blocks) in
       let size : length g.blocks ≡ length (main ++ exit_blocks f.regs f.ret f.blocks) = ap length (e.blocks ∙ sym (laid_same f.regs f.ret f.blocks)) in
-      omega (arith, some, size, all, chains_count f.regs start exit f.blocks 0, end_below f.regs f.blocks 0)
+      omega (arith, some, size, all, chains_count f.regs f.blocks start exit f.blocks 0, end_below f.regs f.blocks f.blocks 0)
+
+  -- the lines of an old one are spelled and fit
+  old_lines : (n : ℕ) (f : Func) → IsGood n f → LinesAre (lower p) (map variable_of f.regs) (kind_of_type f.ret) (lines_from p 0 f.blocks)
+  old_lines n f known =
+      let c : CFunc = text n f in
+      let body = and_parts (list_all (λ (v : Variable). is_identifier v.0) c.vars) (list_all (spelled_line c.vars) c.lines) known.body in
+      let one = and_parts (names_differ (map (λ (v : Variable). v.0) c.vars)) (list_all (line_fits (lower p) c.vars c.ret) c.lines && (lines_lead_on c.lines && begins_right c)) known.fits in
+      let two = and_parts (list_all (line_fits (lower p) c.vars c.ret) c.lines) (lines_lead_on c.lines && begins_right c) one.1 in
+      lines_from_all (lower p) c.vars (kind_of_type f.ret) c.lines body.1 two.0
 
   is_new : (n : ℕ) (f g : Func) → IsEdged f g → IsGood n f → IsNew n g
   is_new n f g e known =
@@ -253,9 +263,9 @@ module _ (p q : Program) (edged : IsEdgedProgram p q) (shape : Shape p) where
       let two = and_parts (list_all (line_fits (lower p) c.vars c.ret) c.lines) (lines_lead_on c.lines && begins_right c) one.1 in
       let three = and_parts (lines_lead_on c.lines) (begins_right c) two.1 in
       let four = and_parts (jumps_fit (label_places c.lines) 0 false c.lines) (is_leaving (slice_get c.lines (length c.lines - 1))) three.0 in
-      let old_lines : LinesAre (lower p) c.vars ret c.lines = lines_from_all (lower p) c.vars ret c.lines body.1 two.0 in
-      let blocks : FuncFits g = func_fits p q kept edged.classes calls_same f g e known.blocks old_lines in
-      let lines : LinesAre (lower q) vars ret d.lines = function_lines p q kept edged.classes calls_same f g e known.blocks old_lines in
+      let was : LinesAre (lower p) c.vars ret c.lines = old_lines n f known in
+      let blocks : FuncFits g = func_fits p q kept edged.classes calls_same f g e known.blocks was in
+      let lines : LinesAre (lower q) vars ret d.lines = function_lines p q kept edged.classes calls_same f g e known.blocks was in
       let named : AreNamed g.regs =
       grown_named (needs_exit f.regs f.blocks) f.ret e.between g.regs e.error
       (grown_named (needs_flag f.regs f.blocks) BoolType f.regs e.between e.flag (record { spelled = body.0; differ = one.0 })) in
@@ -340,6 +350,19 @@ module _ (p q : Program) (edged : IsEdgedProgram p q) (shape : Shape p) where
   all_fit_new n (f ∷ fs) (g ∷ h ∷ gs) all known turns size =
       and_from (function_fits (lower q) (new_text n g)) (list_all (function_fits (lower q)) (lowered_from q (suc n) (h ∷ gs)))
       ((is_new n f g all.0 known.0).fits (turn_begins n g turns.0)) (all_fit_new (suc n) fs (h ∷ gs) all.1 known.1 turns.1 (omega (arith, size)))
+
+  -- ---- behind each operation that can fail stands its edge
+  edges_at : (n : ℕ) (fs gs : List Func) → AreEdged fs gs → AreGood n fs → (i : ℕ) (g : Func) → slice_get gs i ≡ Some g → HasEdges g
+  edges_at n [] [] all known i g e = absurd (cc)
+  edges_at n [] (h ∷ gs) all known i g e = absurd all
+  edges_at n (f ∷ fs) [] all known i g e = absurd all
+  edges_at n (f ∷ fs) (h ∷ gs) all known zero g e =
+      let same : h ≡ g = cc in
+      subst HasEdges same (has_edges p f h all.0 (lower p) (kind_of_type f.ret) (old_lines n f known.0))
+  edges_at n (f ∷ fs) (h ∷ gs) all known (suc i) g e = edges_at (suc n) fs gs all.1 known.1 i g e
+
+  pub each_has_edges : EachHasEdges q
+  each_has_edges i g e = edges_at 0 p.funcs q.funcs edged.funcs good i g e
 
   pub shape_kept : Shape q
   shape_kept =

@@ -1,17 +1,19 @@
 -- Each step of a program is one step or more of the program with edges.
 use Rattle.std.proofs.Common.{◌≡◌, ◌≢◌, refl, sym, ◌∙◌, ap, subst, ℕ, zero, suc, ◌+◌, arith, Bool, true, false, cond, List, [], ◌∷◌, ◌++◌, length, Option, Some, None}
-use Rattle.std.specs.Prelude.{slice_get, is_some}
+use Rattle.std.specs.Prelude.{slice_get, is_some, nat_eq}
 use Rattle.std.specs.Option.{option_map, option_and_then}
-use Rattle.std.proofs.lemmas.Bool.{eq-eqb}
+use Rattle.std.proofs.lemmas.Bool.{and_from, eq-eqb}
 use Rattle.value_core.specs.Exceptions.{Thrown}
 use Rattle.value_core.specs.Value.{Value, BoolVal}
+use Rattle.c_core.specs.declared.code.Kind.{Kind}
 use Rattle.c_core.specs.declared.code.CClass.{CClass}
 use Rattle.c_core.specs.declared.primitive.Primitive.{Primitive}
-use Rattle.c_core.specs.Functions.{method_at, trait_method_at}
+use Rattle.c_core.specs.Functions.{has_kind, method_at, trait_method_at}
 use Rattle.ir_core.specs.declared.code.RType.{RType}
 use Rattle.ir_core.specs.declared.code.RType.TheVariants.{Int, I64, Bool as BoolType, Ref}
 use Rattle.ir_core.specs.declared.code.Reg.{Reg}
 use Rattle.ir_core.specs.declared.code.PArg.{PArg}
+use Rattle.ir_core.specs.declared.code.PArg.TheVariants as arg
 use Rattle.ir_core.specs.declared.code.Op.{Op}
 use Rattle.ir_core.specs.declared.code.Op.TheVariants.{Move, Lit, Prim, Call, Virtual, TraitCall, Turn, Inc, Dec, XDec}
 use Rattle.ir_core.specs.declared.code.Last.{Last}
@@ -27,13 +29,16 @@ use Rattle.ir_core.specs.Items.{Item, Do, End, in_block, item_of, item_in, handl
 use Rattle.ir_core.specs.Rows.{Failing, NeverFails, MayFail, AlwaysFails, failing, kind_by, kind_by_result, error_kind, edge_of_kind, Declared, type_of_reg, edge_of_call, edge_of_prim, edge_of_op}
 use Rattle.ir_core.specs.Registers.{Held, Unset, Holds, error_of, is_error, literal_of, Regs, put, look, first_regs}
 use Rattle.ir_core.specs.Names.{function_called}
-use Rattle.ir_core.specs.Effects.{World, Argument, Effect, Wrong, Gives, Acts, Fails, Ends, effect}
-use Rattle.ir_core.specs.Meaning.{Frame, Waiting, Config, Runs, Leaves, Ended, Stuck, Strict, Fitting, if_some, if_calm, next, to_block, goes, read, read_all, arguments, is_lost, class_of, class_name, is_fit, Way, Well, Badly, Wrongly, way, ended, ended_well, raised_by, is_edge, is_clear, away, may_stand, turned, chosen, halted, declared_of, registers_of, item_at, handler_at, method_of, trait_name, calls, calls_method, failed, succeeds, applied, returned, leave, do_op, do_last, act, step, steps}
+use Rattle.ir_core.specs.Lower.{kind_of_type}
+use Rattle.ir_core.specs.Effects.{World, Argument, Effect, Wrong, Gives, Acts, Fails, Ends, IfTarget, IfWritten, effect}
+use Rattle.ir_core.specs.Meaning.{Frame, Waiting, Config, Runs, Leaves, Ended, Stuck, Strict, Fitting, if_some, if_calm, next, to_block, goes, read, read_all, arguments, is_lost, class_of, class_name, is_fit, Way, Well, Badly, Wrongly, way, ended, ended_well, raised_by, is_edge, is_clear, away, may_stand, has_slot_kind, is_into, is_written, typed, turned, chosen, halted, declared_of, registers_of, item_at, handler_at, method_of, trait_name, calls, calls_method, failed, succeeds, applied, returned, leave, do_op, do_last, act, step, steps}
 use Rattle.ir_core.proofs.StepLemmas.{put_same, goto_step, error_step, if_step, lit_step, return_step}
-use Rattle.error_edges.specs.Layout.{missing, moved, target_of, asking, flag_register, error_literal}
+use Rattle.ir_core.specs.Missing.{missing}
+use Rattle.error_edges.specs.Layout.{moved, target_of, asking, flag_register, error_literal}
 use Rattle.error_edges.proofs.Laid.{LaidAfter, ExitStands, Escapes, Asked, BlockStands, FunctionLaid}
 use Rattle.error_edges.proofs.RegisterLemmas.{type_more, RegsAgree, put_as, reg_as, look_as, read_as, read_all_as, arguments_as, first_as, call_fits}
 use Rattle.error_edges.proofs.Occurring.{asking_step}
+use Rattle.error_edges.proofs.EdgeLemmas.{no_edge, second_laid, kept_edge}
 
 -- ---- error values
 
@@ -48,22 +53,6 @@ literal_is Int = refl
 literal_is I64 = refl
 literal_is BoolType = refl
 literal_is Ref = refl
-
--- an end that moves stays an edge, and an operation is none
-pub moved_edge : (start : ℕ → ℕ) (m : Edge) (l : Last) → is_edge m (Some (End (moved start l))) ≡ is_edge m (Some (End l))
-moved_edge start NoEdge l = refl
-moved_edge start (Tests r) (IfError s e n line) = refl
-moved_edge start (Tests r) _ = refl
-moved_edge start (TestsTwice r) (IfError s e n line) = refl
-moved_edge start (TestsTwice r) _ = refl
-moved_edge start Jumps (Goto t) = refl
-moved_edge start Jumps _ = refl
-
-pub no_edge : (m : Edge) (o : Op) → is_edge m (Some (Do o)) ≡ true → ⊥
-no_edge NoEdge o e = cc
-no_edge (Tests r) o e = cc
-no_edge (TestsTwice r) o e = cc
-no_edge Jumps o e = cc
 
 -- two programs of which the second has the functions of the first with edges
 pub record ProgramLaid (p q : Program) : Type 0 where
@@ -258,7 +247,11 @@ module _ (p q : Program) (all : ProgramLaid p q) where
     Rest = BlockStands fs.old fs.new fs.laid.start fs.laid.exit st.block os last
 
     abbrev LaidOn : Edge → Type 0
-    LaidOn m = LaidAfter items fs.laid.start target flag (Asked fs.new flag) (Escapes fs.new fs.laid.exit (handler_of st.block)) ds m o.1 g.block g.place Rest
+    LaidOn m = LaidAfter items fs.laid.start target flag (Asked fs.new flag) (Escapes fs.new fs.laid.exit (handler_of st.block)) ds fs.old.blocks m o.1 g.block g.place Rest
+
+    -- all items of the old function
+    abbrev was : ℕ → ℕ → Option Item
+    was = item_in fs.old.blocks
 
     item_new : (k i : ℕ) (it : Item) → items k i ≡ Some it → item_at q g.fn k i ≡ Some it
     item_new k i it e = ap (λ h. item_in (blocks_of h) k i) fs.at_new ∙ e
@@ -336,7 +329,7 @@ module _ (p q : Program) (all : ProgramLaid p q) where
 
       -- an operation that did not fail
       passes : is_clear (edge_of_op ds o.0) w.pending ≡ true → Given ds (edge_of_op ds o.0) x → Passing (Runs (next g y) waiting w)
-      passes c h = choose_missing (edge_of_op ds o.0) (is_edge (edge_of_op ds o.0) (in_block os last 0)) c h st.laid.1
+      passes c h = choose_missing (edge_of_op ds o.0) (is_edge was (edge_of_op ds o.0) (in_block os last 0)) c h st.laid.1
 
       -- ---- an operation that failed
       abbrev Gone : Config → Type 0
@@ -353,13 +346,21 @@ module _ (p q : Program) (all : ProgramLaid p q) where
       arrives_away v vs out =
           subst (λ h. After (away h (next f x) below w) (Runs (at target 0 v) waiting w)) (sym handler_is) (reaches v vs (handler_of st.block) out)
 
+      -- the items as the two machines find them
+      all_new : item_at q g.fn ≡ items
+      all_new = ap (λ h. item_in (blocks_of h)) fs.at_new
+
+      all_old : item_at p f.fn ≡ was
+      all_old = ap (λ h. item_in (blocks_of h)) fs.at_old
+
       -- the fitting machine behind an operation that failed
       abbrev On : Edge → Config
-      On m = cond (is_edge m (item_at q g.fn g.block (g.place + 1))) (Runs (next g y) waiting w) Stuck
+      On m = cond (is_edge (item_at q g.fn) m (item_at q g.fn g.block (g.place + 1))) (Runs (next g y) waiting w) Stuck
 
-      is_on : (m : Edge) (it : Item) → items g.block (g.place + 1) ≡ Some it → is_edge m (Some it) ≡ true → (z : Config) → After z (Runs (next g y) waiting w) → After z (On m)
+      is_on : (m : Edge) (it : Item) → items g.block (g.place + 1) ≡ Some it → is_edge items m (Some it) ≡ true → (z : Config) → After z (Runs (next g y) waiting w) → After z (On m)
       is_on m it e b z h =
-          let here : is_edge m (item_at q g.fn g.block (g.place + 1)) ≡ true = ap (is_edge m) (item_new g.block (g.place + 1) it e) ∙ b in
+          let here : is_edge (item_at q g.fn) m (item_at q g.fn g.block (g.place + 1)) ≡ true =
+          ap (λ at. is_edge at m (at g.block (g.place + 1))) all_new ∙ (ap (is_edge items m) e ∙ b) in
           rw here h
 
       split : (e : Thrown) → w.pending ≡ Some e → (m : Edge) → Missed ds m x → LaidOn m → m ≢ NoEdge → Gone (On m)
@@ -368,7 +369,7 @@ module _ (p q : Program) (all : ProgramLaid p q) where
           is_on (Tests r) _ l.0 (eq-eqb r.0 r.0 refl) _
           (tests g.block (g.place + 1) r target (g.block + 1) o.1 h.0 true _ l.0 h.1 (ap (is_error h.0) h.2 ∙ error_is h.0) (arrives_away y rs l.1))
       split e pending (TestsTwice r) h l n =
-          is_on (TestsTwice r) _ l.0 (eq-eqb r.0 r.0 refl) _
+          is_on (TestsTwice r) _ l.0 (and_from (nat_eq r.0 r.0) _ (eq-eqb r.0 r.0 refl) (second_laid items (g.block + 1) (g.block + 2) target flag l.1 l.2)) _
           (tests g.block (g.place + 1) r (g.block + 1) (g.block + 2) o.1 h.0 true _ l.0 h.1 (ap (is_error h.0) h.2 ∙ error_is h.0)
           (asks (g.block + 1) (g.block + 2) _ true (ap is_some pending) l.1 l.2 l.3 (arrives_away answered answer_agrees l.4)))
       split e pending Jumps h l n =
@@ -377,24 +378,28 @@ module _ (p q : Program) (all : ProgramLaid p q) where
           (arrives_away y rs l.1))
 
       -- the edge stood there already
-      kept : (m : Edge) (rest : List (Op × ℕ)) (l : Last) → is_edge m (in_block rest l 0) ≡ true → BlockStands fs.old fs.new fs.laid.start fs.laid.exit st.block rest l g.block (g.place + 1) → is_edge m (item_at q g.fn g.block (g.place + 1)) ≡ true
-      kept m [] l b laid = ap (is_edge m) (item_new g.block (g.place + 1) (End (moved fs.laid.start l)) laid) ∙ (moved_edge fs.laid.start m l ∙ b)
-      kept m (a ∷ rest) l b laid = absurd (no_edge m a.0 b)
+      kept : (m : Edge) (rest : List (Op × ℕ)) (l : Last) → is_edge was m (in_block rest l 0) ≡ true → BlockStands fs.old fs.new fs.laid.start fs.laid.exit st.block rest l g.block (g.place + 1) → is_edge (item_at q g.fn) m (item_at q g.fn g.block (g.place + 1)) ≡ true
+      kept m [] l b laid =
+          ap (λ at. is_edge at m (at g.block (g.place + 1))) all_new ∙ (ap (is_edge items m) laid ∙ kept_edge fs.old fs.new fs.laid m l b)
+      kept m (a ∷ rest) l b laid = absurd (no_edge was m a.0 b)
 
       -- the strict machine behind an operation that failed
       abbrev OnOld : Edge → Config
-      OnOld m = cond (is_edge m (item_at p f.fn f.block (f.place + 1))) (Runs (next f x) below w) (away (handler_at p f.fn f.block) (next f x) below w)
+      OnOld m = cond (is_edge (item_at p f.fn) m (item_at p f.fn f.block (f.place + 1))) (Runs (next f x) below w) (away (handler_at p f.fn f.block) (next f x) below w)
 
-      on_edge : (e : Thrown) → w.pending ≡ Some e → (m : Edge) → m ≢ NoEdge → Missed ds m x → (b : Bool) → is_edge m (in_block os last 0) ≡ b → LaidOn (cond b NoEdge m) → After (OnOld m) (On m)
+      old_is : (m : Edge) (b : Bool) → is_edge was m (in_block os last 0) ≡ b → is_edge (item_at p f.fn) m (item_at p f.fn f.block (f.place + 1)) ≡ b
+      old_is m b is = ap (λ at. is_edge at m (item_at p f.fn f.block (f.place + 1))) all_old ∙ (ap (is_edge was m) item_old ∙ is)
+
+      on_edge : (e : Thrown) → w.pending ≡ Some e → (m : Edge) → m ≢ NoEdge → Missed ds m x → (b : Bool) → is_edge was m (in_block os last 0) ≡ b → LaidOn (cond b NoEdge m) → After (OnOld m) (On m)
       on_edge e pending m n h true is l =
-          let old : is_edge m (item_at p f.fn f.block (f.place + 1)) ≡ true = ap (is_edge m) item_old ∙ is in
+          let old = old_is m true is in
           let new = kept m os last is l in
           rw (old, new) (arrives x y rs g.block (g.place + 1) l)
       on_edge e pending m n h false is l =
-          let old : is_edge m (item_at p f.fn f.block (f.place + 1)) ≡ false = ap (is_edge m) item_old ∙ is in
+          let old = old_is m false is in
           rw old (split e pending m h l n)
 
-      by_edge : (e : Thrown) → w.pending ≡ Some e → (m : Edge) → Missed ds m x → LaidOn (missing m (in_block os last 0)) → After (failed Strict p m (next f x) below w) (failed Fitting q m (next g y) waiting w)
+      by_edge : (e : Thrown) → w.pending ≡ Some e → (m : Edge) → Missed ds m x → LaidOn (missing was m (in_block os last 0)) → After (failed Strict p m (next f x) below w) (failed Fitting q m (next g y) waiting w)
       by_edge e pending NoEdge h l = (0, tt)
       by_edge e pending (Tests r) h l = on_edge e pending (Tests r) (λ n. absurd (cc)) h _ refl l
       by_edge e pending (TestsTwice r) h l = on_edge e pending (TestsTwice r) (λ n. absurd (cc)) h _ refl l
@@ -626,6 +631,10 @@ module _ (p q : Program) (all : ProgramLaid p q) where
     applied_matches : (to : Option Reg) (c : Primitive) (ps : List PArg) (st : FrameStands ((Prim to c ps, line) ∷ os) last f g) (e : Effect) → After (applied Strict p (edge_of_prim (registers_of p f.fn) to c) to f below e) (applied Fitting q (edge_of_prim (registers_of q g.fn) to c) to g waiting e)
     applied_matches None c ps st Wrong = (0, tt)
     applied_matches (Some r) c ps st Wrong = (0, tt)
+    applied_matches None c ps st (IfTarget k e) = (0, tt)
+    applied_matches (Some r) c ps st (IfTarget k e) = (0, tt)
+    applied_matches None c ps st (IfWritten k e) = (0, tt)
+    applied_matches (Some r) c ps st (IfWritten k e) = (0, tt)
     applied_matches None c ps st (Ends e w) = (0, refl)
     applied_matches (Some r) c ps st (Ends e w) = (0, refl)
     applied_matches None c ps st (Gives v w) = (0, tt)
@@ -668,6 +677,45 @@ module _ (p q : Program) (all : ProgramLaid p q) where
               same_edges (λ m. failed Strict p m (next f x) below v) (λ m. failed Fitting q m (next g y) waiting v) _ _ _ old_edge new_edge step,
         ))
 
+    -- a register of a slot's kind is one in both
+    slot_kind_as : (fs : FunctionStands f.fn g.fn) (k : Kind) (r : Reg) → has_slot_kind (registers_of p f.fn) k r ≡ true → has_slot_kind (registers_of q g.fn) k r ≡ true
+    slot_kind_as fs k r e = by (type_of_reg (registers_of p f.fn) r) refl e
+      where
+        by : (o : Option RType) → type_of_reg (registers_of p f.fn) r ≡ o → has_kind k (option_map kind_of_type o) ≡ true → has_slot_kind (registers_of q g.fn) k r ≡ true
+        by None is has = absurd (cc)
+        by (Some t) is has = ap (λ o. has_kind k (option_map kind_of_type o)) (type_as f.fn g.fn fs r t is) ∙ has
+
+    into_as : (fs : FunctionStands f.fn g.fn) (k : Kind) (to : Option Reg) → is_into (registers_of p f.fn) k to ≡ true → is_into (registers_of q g.fn) k to ≡ true
+    into_as fs k None e = refl
+    into_as fs k (Some r) e = slot_kind_as fs k r e
+
+    written_as : (fs : FunctionStands f.fn g.fn) (k : Kind) (ps : List PArg) → is_written (registers_of p f.fn) k ps ≡ true → is_written (registers_of q g.fn) k ps ≡ true
+    written_as fs k (a ∷ b ∷ arg.Var r ∷ []) e = slot_kind_as fs k r e
+    written_as fs k [] e = absurd (cc)
+    written_as fs k (a ∷ []) e = absurd (cc)
+    written_as fs k (a ∷ b ∷ []) e = absurd (cc)
+    written_as fs k (a ∷ b ∷ arg.Number n ∷ more) e = absurd (cc)
+    written_as fs k (a ∷ b ∷ arg.Text n ∷ more) e = absurd (cc)
+    written_as fs k (a ∷ b ∷ arg.Global n ∷ more) e = absurd (cc)
+    written_as fs k (a ∷ b ∷ arg.Class n ∷ more) e = absurd (cc)
+    written_as fs k (a ∷ b ∷ arg.Var r ∷ c ∷ more) e = absurd (cc)
+
+    by_kind : (to : Option Reg) (c : Primitive) (ps : List PArg) (st : FrameStands ((Prim to c ps, line) ∷ os) last f g) (e : Effect) (b d : Bool) → (b ≡ true → d ≡ true) → After (applied Strict p (edge_of_prim (registers_of p f.fn) to c) to f below (cond b e Wrong)) (applied Fitting q (edge_of_prim (registers_of q g.fn) to c) to g waiting (cond d e Wrong))
+    by_kind to c ps st e true d h =
+        subst (λ z. After (applied Strict p (edge_of_prim (registers_of p f.fn) to c) to f below e) (applied Fitting q (edge_of_prim (registers_of q g.fn) to c) to g waiting (cond z e Wrong))) (sym (h refl)) (applied_matches to c ps st e)
+    by_kind to c ps st e false d h = (0, tt)
+
+    typed_matches : (to : Option Reg) (c : Primitive) (ps : List PArg) (st : FrameStands ((Prim to c ps, line) ∷ os) last f g) (e : Effect) → After (applied Strict p (edge_of_prim (registers_of p f.fn) to c) to f below (typed (registers_of p f.fn) to ps e)) (applied Fitting q (edge_of_prim (registers_of q g.fn) to c) to g waiting (typed (registers_of q g.fn) to ps e))
+    typed_matches to c ps st Wrong = applied_matches to c ps st Wrong
+    typed_matches to c ps st (Gives v w) = applied_matches to c ps st (Gives v w)
+    typed_matches to c ps st (Acts w) = applied_matches to c ps st (Acts w)
+    typed_matches to c ps st (Fails e w) = applied_matches to c ps st (Fails e w)
+    typed_matches to c ps st (Ends e w) = applied_matches to c ps st (Ends e w)
+    typed_matches to c ps st (IfTarget k e) =
+        by_kind to c ps st e (is_into (registers_of p f.fn) k to) (is_into (registers_of q g.fn) k to) (into_as st.function k to)
+    typed_matches to c ps st (IfWritten k e) =
+        by_kind to c ps st e (is_written (registers_of p f.fn) k ps) (is_written (registers_of q g.fn) k ps) (written_as st.function k ps)
+
     -- a call waits at its place
     waits : (o : Op) (r : Reg) (st : FrameStands ((o, line) ∷ os) last f g) → edge_of_op st.function.old.regs o ≡ edge_of_call st.function.old.regs r → WaitStands (record { frame = f; into = r }) (record { frame = g; into = r })
     waits o r st e = record { into = refl; op = o; line = line; ops = os; last = last; frame = st; edge = e }
@@ -697,8 +745,8 @@ module _ (p q : Program) (all : ProgramLaid p q) where
         (λ xs e. (
           let there : arguments fs.old.regs f.regs ps ≡ Some xs = ap (λ ds. arguments ds f.regs ps) (sym (registers_old f.fn g.fn fs)) ∙ e in
               ap (λ ds. arguments ds g.regs ps) (registers_new f.fn g.fn fs) ∙ arguments_as fs.old.regs fs.laid.more f.regs g.regs st.regs ps xs there,
-          subst (λ x. After (applied Strict p (edge_of_prim (registers_of p f.fn) to c) to f below (effect p c xs w)) (applied Fitting q (edge_of_prim (registers_of q g.fn) to c) to g waiting x)) (sym (all.effects c xs w))
-              (applied_matches to c ps st (effect p c xs w)),
+          subst (λ x. After (applied Strict p (edge_of_prim (registers_of p f.fn) to c) to f below (typed (registers_of p f.fn) to ps (effect p c xs w))) (applied Fitting q (edge_of_prim (registers_of q g.fn) to c) to g waiting (typed (registers_of q g.fn) to ps x))) (sym (all.effects c xs w))
+              (typed_matches to c ps st (effect p c xs w)),
         )))
     op_matches (Call r n args) st w =
         call_of f g below waiting w r args st.function st.regs wait (waits (Call r n args) r st refl) (Some n)

@@ -19,54 +19,33 @@ use Rattle.ir_core.specs.declared.code.Last.TheVariants.{Goto, If, IfError, Retu
 use Rattle.ir_core.specs.declared.code.Block.{Block}
 use Rattle.ir_core.specs.declared.kind.Edge.{Edge}
 use Rattle.ir_core.specs.declared.kind.Edge.TheVariants.{NoEdge, Tests, TestsTwice, Jumps}
-use Rattle.ir_core.specs.Items.{Item, in_block, handler_of}
-use Rattle.ir_core.specs.Rows.{Declared, edge_of_op}
-use Rattle.ir_core.specs.Meaning.{is_edge}
+use Rattle.ir_core.specs.Items.{handler_of}
+use Rattle.ir_core.specs.Rows.{Declared}
+use Rattle.ir_core.specs.Missing.{edges_of, is_some_edge}
 
--- ---- what is missing
-
--- the edge that is missing behind an operation: none where the item there is it already
-abbrev pub missing : Edge → Option Item → Edge
-missing e item = cond (is_edge e item) NoEdge e
-
--- the missing edges of a block, by operation
-abbrev pub edges_in : Declared → List (Op × ℕ) → Last → List Edge
-edges_in regs [] last = []
-edges_in regs (o ∷ os) last = missing (edge_of_op regs o.0) (in_block os last 0) ∷ edges_in regs os last
-
--- the end of a block, where no operation is left
-abbrev pub ahead : List (Op × ℕ) → Last → Option Last
-ahead [] last = Some last
-ahead (o ∷ os) last = None
-
-abbrev pub edges_of : Declared → Block → List Edge
-edges_of regs b = edges_in regs b.ops b.last
-
-abbrev pub is_some_edge : Edge → Bool
-is_some_edge NoEdge = false
-is_some_edge _ = true
+-- ---- what is needed
 
 abbrev pub is_second_test : Edge → Bool
 is_second_test (TestsTwice r) = true
 is_second_test _ = false
 
 -- a test of the pending exception writes its answer to a register, which is needed where there is one
-abbrev pub asks : Declared → Block → Bool
-asks regs b = list_any is_second_test (edges_of regs b)
+abbrev pub asks : Declared → List Block → Block → Bool
+asks regs all b = list_any is_second_test (edges_of regs all b)
 
 abbrev pub needs_flag : Declared → List Block → Bool
-needs_flag regs blocks = list_any (asks regs) blocks
+needs_flag regs blocks = list_any (asks regs blocks) blocks
 
 -- an error leaves the function out of a block without a handler
 abbrev pub out_of : Option ℕ → Bool → Bool
 out_of None fails = fails
 out_of (Some h) fails = false
 
-abbrev pub leaves : Declared → Block → Bool
-leaves regs b = out_of (handler_of b) (list_any is_some_edge (edges_of regs b))
+abbrev pub leaves : Declared → List Block → Block → Bool
+leaves regs all b = out_of (handler_of b) (list_any is_some_edge (edges_of regs all b))
 
 abbrev pub needs_exit : Declared → List Block → Bool
-needs_exit regs blocks = list_any (leaves regs) blocks
+needs_exit regs blocks = list_any (leaves regs blocks) blocks
 
 -- ---- the new numbers of blocks
 
@@ -82,15 +61,15 @@ abbrev pub room : List Edge → ℕ
 room [] = 1
 room (e ∷ es) = extra e + room es
 
-abbrev pub size_of : Declared → Block → ℕ
-size_of regs b = room (edges_of regs b)
+abbrev pub size_of : Declared → List Block → Block → ℕ
+size_of regs all b = room (edges_of regs all b)
 
 -- in front of the chain of a block stand the chains of those before it, and in front of the exit all
 abbrev pub start_of : Declared → List Block → ℕ → ℕ
-start_of regs blocks k = sum_by (size_of regs) (take k blocks)
+start_of regs blocks k = sum_by (size_of regs blocks) (take k blocks)
 
 abbrev pub exit_of : Declared → List Block → ℕ
-exit_of regs blocks = sum_by (size_of regs) blocks
+exit_of regs blocks = sum_by (size_of regs blocks) blocks
 
 -- the number at a place of a list, or what is behind it
 abbrev pub number_at : List ℕ → ℕ → ℕ → ℕ
@@ -110,8 +89,9 @@ target_of start exit (Some h) = start h
 
 -- ---- the blocks
 
+-- none has a handler: each operation that can fail has its edge
 abbrev pub block_of : List (Op × ℕ) → Last → Block
-block_of ops last = record { ops = ops; last = last }
+block_of ops last = record { ops = ops; last = last; handler = None }
 
 -- whether an exception is pending
 abbrev pub asking : Reg → Op
@@ -143,15 +123,15 @@ flag_register regs = record { 0 = length regs }
 abbrev pub error_register : Declared → List Block → Reg
 error_register regs blocks = record { 0 = length regs + cond (needs_flag regs blocks) 1 0 }
 
-module _ (regs : Declared) where
+module _ (regs : Declared) (all : List Block) where
   -- a block as a chain of blocks, of which the first has number n
   abbrev pub chain : (ℕ → ℕ) → ℕ → Block → ℕ → List Block
   chain start exit b n =
-      cut (target_of start exit (handler_of b)) (flag_register regs) b.ops (edges_of regs b) (moved start b.last) n []
+      cut (target_of start exit (handler_of b)) (flag_register regs) b.ops (edges_of regs all b) (moved start b.last) n []
 
   abbrev pub chains : (ℕ → ℕ) → ℕ → List Block → ℕ → List Block
   chains start exit [] n = []
-  chains start exit (b ∷ bs) n = chain start exit b n ++ chains start exit bs (n + size_of regs b)
+  chains start exit (b ∷ bs) n = chain start exit b n ++ chains start exit bs (n + size_of regs all b)
 
 -- the literal that writes the error value of a type
 abbrev pub error_literal : RType → Literal
@@ -168,4 +148,4 @@ abbrev pub exit_blocks : Declared → RType → List Block → List Block
 exit_blocks regs ret blocks = cond (needs_exit regs blocks) (exit_block (error_register regs blocks) ret ∷ []) []
 
 abbrev pub edged_blocks : Declared → RType → List Block → List Block
-edged_blocks regs ret blocks = chains regs (start_of regs blocks) (exit_of regs blocks) blocks 0 ++ exit_blocks regs ret blocks
+edged_blocks regs ret blocks = chains regs blocks (start_of regs blocks) (exit_of regs blocks) blocks 0 ++ exit_blocks regs ret blocks

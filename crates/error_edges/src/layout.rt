@@ -1,13 +1,13 @@
 //! The blocks in order.
-ghost use Rattle.std.specs.Prelude.{◌≡◌, ℕ, ◌+◌, ◌++◌, ◌∷◌, [], List, cond, length, IfOk, OnOk};
+ghost use Rattle.std.specs.Prelude.{◌≡◌, ℕ, ◌+◌, ◌++◌, ◌∷◌, [], List, cond, length, map, IfOk, OnOk};
 ghost use Rattle.ir_core.specs.Items.{handler_of};
 ghost use Rattle.ir_core.specs.declared.code.Op.{Op as OpItem};
 ghost use Rattle.ir_core.specs.declared.code.Block.{Block as BlockItem};
+ghost use Rattle.ir_core.specs.Missing.{edges_of};
 ghost use Rattle.error_edges.specs.Layout as spec;
-ghost use Rattle.error_edges.specs.Layout.{flag_register, number_at, block_of, cut_at, cut, chain, chains, exit_block};
+ghost use Rattle.error_edges.specs.Layout.{flag_register, number_at, moved, target_of, block_of, cut_at, cut, chains, exit_block};
 
-use crate::missing::edges_of;
-use crate::plan::{EdgePlan, handler};
+use crate::plan::EdgePlan;
 use c_core::{ErrPrim, Prim};
 use ir_core::{Block, Edge, Last, Lit, Op, RType, Reg};
 use std::alloc::Global;
@@ -22,11 +22,22 @@ pub(crate) fn edged_blocks(
     plan: &EdgePlan,
     blocks: Many<Block>,
 ) -> Result<Many<Block>, Memory>
-    ensures { IfOk result (λ all. all ≡ chains regs.now (number_at plan.now.starts.items plan.now.exit) plan.now.exit blocks 0 ++ cond plan.now.needs_exit (exit_block (record { 0 = length regs.now + cond plan.now.needs_flag 1 0 }) ret ∷ []) []) }
+    requires { plan.now.edges.items ≡ map (edges_of regs.now blocks) blocks }
+    ensures { IfOk result (λ all. all ≡ chains regs.now blocks (number_at plan.now.starts.items plan.now.exit) plan.now.exit blocks 0 ++ cond plan.now.needs_exit (exit_block (record { 0 = length regs.now + cond plan.now.needs_flag 1 0 }) ret ∷ []) []) }
 {
     let mut edged = Vec::new(alloc);
+    let flag = Reg(regs.len());
+    let mut k = 0;
     for block in blocks.into_vec() {
-        lay_block(alloc, &mut edged, regs, plan, block)?;
+        lay_block(
+            alloc,
+            &mut edged,
+            plan,
+            plan.edges[k].as_slice(),
+            flag,
+            block,
+        )?;
+        k += 1;
     }
     if plan.needs_exit {
         let number = if plan.needs_flag {
@@ -60,22 +71,22 @@ fn error_literal(t: RType) -> Lit
     }
 }
 
-/// One block as its chain, behind the blocks that stand.
+/// One block with these missing edges as its chain, behind the blocks that stand.
 fn lay_block(
     alloc: Global,
     blocks: &mut Vec<Block>,
-    regs: &[(Name, RType)],
     plan: &EdgePlan,
+    edges: &[Edge],
+    flag: Reg,
     block: Block,
 ) -> Result<(), Memory>
-    ensures { OnOk result (blocks.new.items ≡ blocks.old.items ++ chain regs.now (number_at plan.now.starts.items plan.now.exit) plan.now.exit block (length blocks.old.items)) }
+    requires { length edges.now ≡ length block.ops }
+    ensures { OnOk result (blocks.new.items ≡ blocks.old.items ++ cut (target_of (number_at plan.now.starts.items plan.now.exit) plan.now.exit (handler_of block)) flag block.ops edges.now (moved (number_at plan.now.starts.items plan.now.exit) block.last) (length blocks.old.items) []) }
 {
-    let edges = edges_of(alloc, regs, &block)?;
-    let target = plan.target(handler(&block));
-    let flag = Reg(regs.len());
-    let Block { ops, last } = block;
+    let Block { ops, last, handler } = block;
+    let target = plan.target(handler);
     let last = plan.moved(last);
-    lay_ops(alloc, blocks, ops.into_vec(), &edges, last, target, flag)
+    lay_ops(alloc, blocks, ops.into_vec(), edges, last, target, flag)
 }
 
 /// The operations of a block, each with its missing edge, and its end.
@@ -147,6 +158,7 @@ fn close(
     blocks.push(Block {
         ops: Many::from_vec(ops),
         last,
+        handler: None,
     })?;
     Ok(())
 }

@@ -1,14 +1,15 @@
 //! The new numbers of a function's blocks, and what is added to it.
-ghost use Rattle.std.specs.Prelude.{◌≡◌, ℕ, ◌+◌, IfOk, MatchOption};
+ghost use Rattle.std.specs.Prelude.{◌≡◌, ℕ, ◌+◌, map, IfOk, MatchOption};
 ghost use Rattle.std.specs.List.{list_any};
 ghost use Rattle.ir_core.specs.Items.{handler_of};
 ghost use Rattle.error_edges.specs.Layout as spec;
-ghost use Rattle.error_edges.specs.Layout.{is_some_edge, room, start_of, exit_of, number_at, target_of, moved};
+ghost use Rattle.ir_core.specs.Missing.{edges_of, is_some_edge};
+ghost use Rattle.error_edges.specs.Layout.{room, start_of, exit_of, number_at, target_of, moved};
 
-use crate::missing::{any_edge, any_second_test, edges_of};
-use ir_core::{Block, Edge, Last, RType};
+use crate::missing::any_second_test;
+use ir_core::{Block, Edge, Last, RType, any_edge, missing_edges};
 use std::alloc::Global;
-use value_core::{Memory, Name};
+use value_core::{Many, Memory, Name};
 
 /// What a function with edges is to have.
 #[derive(Drop)]
@@ -17,6 +18,8 @@ pub(crate) struct EdgePlan {
     pub starts: Vec<usize>,
     /// The number behind the last chain.
     pub exit: usize,
+    /// The missing edges of each block, by operation.
+    pub edges: Vec<Many<Edge>>,
     /// Whether a test asks for the pending exception, so that a register is needed for the answer.
     pub needs_flag: bool,
     /// Whether an error leaves the function, so that the exit is needed.
@@ -31,23 +34,27 @@ pub(crate) fn plan_of(
 ) -> Result<EdgePlan, Memory>
     ensures starts { IfOk result (λ plan. (k : ℕ) → number_at plan.starts.items plan.exit k ≡ start_of regs.now blocks.now k) }
     ensures exit { IfOk result (λ plan. plan.exit ≡ exit_of regs.now blocks.now) }
+    ensures edges { IfOk result (λ plan. plan.edges.items ≡ map (edges_of regs.now blocks.now) blocks.now) }
     ensures needs_flag { IfOk result (λ plan. plan.needs_flag ≡ spec.needs_flag regs.now blocks.now) }
     ensures needs_exit { IfOk result (λ plan. plan.needs_exit ≡ spec.needs_exit regs.now blocks.now) }
 {
     let mut starts = Vec::new(alloc);
     let mut exit = 0usize;
+    let mut edges = Vec::new(alloc);
     let mut needs_flag = false;
     let mut needs_exit = false;
     for block in blocks {
-        let edges = edges_of(alloc, regs, block)?;
+        let missing = missing_edges(alloc, regs, blocks, block)?;
         starts.push(exit)?;
-        exit = behind(exit, &edges).ok_or(Memory)?;
-        needs_flag = needs_flag || any_second_test(&edges);
-        needs_exit = needs_exit || leaves(block, &edges);
+        exit = behind(exit, missing.as_slice()).ok_or(Memory)?;
+        needs_flag = needs_flag || any_second_test(missing.as_slice());
+        needs_exit = needs_exit || leaves(block, missing.as_slice());
+        edges.push(missing)?;
     }
     Ok(EdgePlan {
         starts,
         exit,
+        edges,
         needs_flag,
         needs_exit,
     })
@@ -57,17 +64,10 @@ pub(crate) fn plan_of(
 fn leaves(block: &Block, edges: &[Edge]) -> bool
     ensures { result ≡ spec.out_of (handler_of block.now) (list_any is_some_edge edges.now) }
 {
-    match handler(block) {
+    match block.handler {
         Some(_) => false,
         None => any_edge(edges),
     }
-}
-
-/// The block that an exception in a block goes to, if not out of the function. No block has one yet.
-pub(crate) fn handler(_block: &Block) -> Option<usize>
-    ensures { result ≡ handler_of _block.now }
-{
-    None
 }
 
 /// The number behind the chain of a block with these missing edges, of which the first block has a number.

@@ -14,8 +14,7 @@ use Rattle.ir_core.specs.declared.code.Op.TheVariants.{Lit}
 use Rattle.ir_core.specs.declared.code.Program.{Program}
 use Rattle.ir_core.specs.declared.code.Reg.{Reg}
 use Rattle.ir_core.specs.declared.code.RType.{RType}
-use Rattle.ir_core.specs.Building.{Building, Extends}
-use Rattle.ir_core.specs.Items.{handler_in, blocks_of}
+use Rattle.ir_core.specs.Building.{Building, handled, Extends}
 use Rattle.ir_core.specs.Meaning.{Waiting, Config, Strict, declared_of, registers_of}
 use Rattle.ir_core.specs.Registers.{Holds, Regs, literal_of, look}
 use Rattle.ir_core.specs.Rows.{type_of_reg}
@@ -36,11 +35,9 @@ use Rattle.ir_builder_loops_and_jumps.proofs.ExitLemmas.{close_at}
 use Rattle.ir_builder.specs.Bodies.{Filled, LeavesWith, Bodied}
 use Rattle.ir_builder.proofs.FillLemmas.{true_false, all_written}
 
--- no block has a handler
-pub no_handler : (blocks : List Block) (k : ℕ) → handler_in blocks k ≡ None
-no_handler [] k = refl
-no_handler (b ∷ bs) zero = refl
-no_handler (b ∷ bs) (suc k) = no_handler bs k
+no_other : (h : Option ℕ) → h ≡ or_other h None
+no_other None = refl
+no_other (Some k) = refl
 
 no_items : {A : Type 0} (l : List A) → length l ≡ 0 → l ≡ []
 no_items [] e = refl
@@ -93,10 +90,10 @@ module _ (x : Setting) (result : Option Sort) (t : RType) (last : Literal) (m : 
         ops = f.ops ∙ no_items b3.ops c.ops;
         more = omega arith;
         full = λ k le. all_written b2 b3 b4 r from end c f is_end k (omega (arith, is_from, le));
-        works = λ p fn h value has there is n calls regs below s match le.
+        works = λ p fn h value has handlers there is n calls regs below s match le.
             let has3 = f.has p fn has in
             let has1 = has_less p fn b1 b3 x13 has3 in
-            let placed : Placed p fn b0 b1 None = record { has = has1; guards = λ k l u. no_handler (blocks_of (slice_get p.funcs fn)) k ∙ sym (ap (λ y. or_other y None) (no_handler b1.blocks k)) } in
+            let placed : Placed p fn b0 b1 None = record { has = has1; guards = λ k l u. handlers k ∙ (f.handlers k ∙ (x13.handlers k u ∙ no_other (handled b1 k))) } in
             let jumps = fill_jumps p fn b1 b3 b4 from end x13 f has (length b0.blocks) (length b1.blocks) q.mine (omega (arith, is_from)) (omega (arith, is_end, n2)) q.works.opens in
             let run = q.works.runs p fn None (λ w. end) placed jumps n calls regs below s match le in
             ends_more p s.turns _ (m n s) _ (LeavesWith p x.source result value below) _ (Departs x.source fn below) (λ g u d z. flow_out p fn h value has3 there is regs below g u d z) (λ v u d z. z) run;

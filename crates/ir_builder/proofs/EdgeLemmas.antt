@@ -11,7 +11,7 @@ use Rattle.ir_core.specs.declared.code.Program.{Program}
 use Rattle.ir_core.specs.declared.code.Reg.{Reg}
 use Rattle.ir_core.specs.declared.kind.Edge.TheVariants.{Tests}
 use Rattle.ir_core.specs.Items.{Item, Do, End, in_block, item_in, blocks_of}
-use Rattle.ir_core.specs.Meaning.{is_edge, item_at}
+use Rattle.ir_core.specs.Meaning.{is_tested, item_at}
 use Rattle.ir_builder_frames.specs.Placing.{into, NoEdges}
 use Rattle.ir_builder_frames.specs.Shaped.{Above, OpsFit, EndFits, AllFit}
 
@@ -46,7 +46,7 @@ ends_at n m low (x ∷ bs) zero i r a b line f e =
     ⊎_elim (λ lt. inl lt) (λ none. inr (alone_at x.ops x.last (IfError r a b line) i none e)) fits.0
 ends_at n m low (x ∷ bs) (suc k) i r a b line f e = ends_at n m (suc low) bs k i r a b line f.3 e
 
-untested : (n r : ℕ) (o : Option Item) → n ≤ r → ((g : Reg) (a b line : ℕ) → o ≡ Some (End (IfError g a b line)) → g.0 < n) → is_edge (Tests record { 0 = r }) o ≡ false
+untested : (n r : ℕ) (o : Option Item) → n ≤ r → ((g : Reg) (a b line : ℕ) → o ≡ Some (End (IfError g a b line)) → g.0 < n) → is_tested (record { 0 = r }) o ≡ false
 untested n r None le h = refl
 untested n r (Some (Do o)) le h = refl
 untested n r (Some (End (Goto t))) le h = refl

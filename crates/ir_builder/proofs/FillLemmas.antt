@@ -77,6 +77,7 @@ filled_past b c from k to shut le below f = record {
   later = λ j i x l e. f.later j i x (omega arith) e;
   none = λ j l u. ⊎_elim (λ lt. f.none j l lt) (λ ge. let q : j ≡ k = omega arith in ap (λ z. is_open_at c.blocks z) q ∙ shut) (cases_lt j k);
   same = λ j l. f.same j (omega arith);
+  handlers = f.handlers;
   same_regs = f.same_regs;
   blocks = f.blocks;
   ops = f.ops;
@@ -105,6 +106,7 @@ filled_set b c d from k to is_open le f e =
           (λ ge. let q : j ≡ k = omega arith in ap (λ z. is_open_at z j) same ∙ ap (λ z. is_open_at (with_last c.blocks k (Goto to)) z) q ∙ open_set c.blocks k to)
           (cases_lt j k);
       same = λ j l. ap (λ z. is_open_at z j) same ∙ open_other c.blocks k j to (λ q. omega arith) ∙ f.same j (omega arith);
+      handlers = λ j. p.handlers j ∙ f.handlers j;
       same_regs = p.same_regs ∙ f.same_regs;
       blocks = p.blocks ∙ f.blocks;
       ops = ap (λ (v : Building). v.ops) e ∙ f.ops;

@@ -21,9 +21,9 @@ use Rattle.ir_core.specs.declared.code.Op.TheVariants.{Turn}
 use Rattle.ir_core.specs.declared.code.Program.{Program}
 use Rattle.ir_core.specs.declared.code.RType.{RType}
 use Rattle.ir_core.specs.declared.code.RType.TheVariants as rtype
-use Rattle.ir_core.specs.Building.{Building, held_in, held, Extends, is_open_at}
-use Rattle.ir_core.specs.Items.{Do, item_in, blocks_of}
-use Rattle.ir_core.specs.Meaning.{Config, Ended, declared_of}
+use Rattle.ir_core.specs.Building.{Building, held_in, held, handled, Extends, is_open_at}
+use Rattle.ir_core.specs.Items.{Do, item_in, handler_in, blocks_of}
+use Rattle.ir_core.specs.Meaning.{Config, Ended, handler_at, declared_of}
 use Rattle.ir_core.specs.Registers.{Holds, literal_of, first_regs}
 use Rattle.ir_core.specs.Rows.{Declared, type_of_reg}
 use Rattle.ir_core.proofs.BuildingLemmas.{built_is_held}
@@ -199,6 +199,7 @@ pub record IsMade (m : TypedModule) (vs : List Variable) (b : Building) (h : Fun
   pub regs : h.regs ≡ variable_registers vs ++ rest
   pub built : IsBuilt (heads_of m) (variable_registers m.globals) h
   pub has : (p : Program) (fn : ℕ) → slice_get p.funcs fn ≡ Some h → Has p fn b
+  pub handlers : (p : Program) (fn : ℕ) → slice_get p.funcs fn ≡ Some h → (k : ℕ) → handler_at p fn k ≡ handled b k
 
 pub is_made : (m : TypedModule) (vs : List Variable) (variables : Declared) (count : ℕ) (vars : Vars) (gives : Option Sort) (t : RType) (last : Literal) (M : Meaning Flow) (b0 b1 b2 : Building) (h : Func) → list_all is_identifier (variable_names vs) ≡ true → variables ≡ variable_registers vs → count ≡ length vs → ((g : Surrounding) → g.ret ≡ t → GivesResult gives g) → LiteralFits t last → Begins variables b0 → Extends b0 b1 → length b1.blocks ≡ 0 → ((high : ℕ) → Shaped 0 high b0 → Shaped 0 high b1) → KeepsKinds b0 b1 → Bodied (body_setting m vs vars) gives t last M b1 b2 → CompletesShape b1 b2 → KeepsKindsIf (BodyAround m gives t last) b1 b2 → length b2.blocks < 2 ^ 64 → names_differ (names_of b2.regs) ≡ true → h.regs ≡ b2.regs → h.blocks ≡ b2.blocks → h.ret ≡ t → h.params ≤ count → IsMade m vs b2 h
 is_made m vs variables count vars gives t last M b0 b1 b2 h names are size gives_it fits first x01 start shaped01 kinds01 bodied shape kinds12 few differ regs blocks ret params =
@@ -216,6 +217,7 @@ is_made m vs variables count vars gives t last M b0 b1 b2 h names are size gives
       regs = regs ∙ behind;
       built = is_built vs more.0 g b2 h 0 high size names behind kinds bodied.ops highest shaped (λ k. bodied.full k (omega (arith, start))) few differ params ret regs blocks;
       has = λ p fn there. has_all p fn b2 h there blocks regs bodied.ops (no_edges p fn h 0 high there (subst (λ bs. AllFit 0 high 0 bs) (sym blocks) shaped.0));
+      handlers = λ p fn there k. ap (λ o. handler_in (blocks_of o) k) there ∙ ap (λ bs. handler_in bs k) blocks;
     }
 
 -- a function of the module
@@ -250,7 +252,7 @@ function_is m f fits variables count params vars ret last b0 bf b1 b2 name h0 h 
       works = λ p fn there.
           let has = made.has p fn there in
           let value : literal_of ret last ≡ Some (Holds (end_value ret)) = ap (literal_of ret) last_is ∙ literal_value ret in
-          let body = bodied.works p fn h (end_value ret) has there value in
+          let body = bodied.works p fn h (end_value ret) has (made.handlers p fn there) there value in
           let B : RType → ℕ → ℕ → Type 0 = λ r k i. BodyWorks p (body_setting m f.locals vars) (Some f.ret) (end_value r) (means_suite (body_setting m f.locals vars) f.body) fn k i in
           let placed : B (rtype_of f.ret) 0 1 = subst (λ r. B r 0 1) ret_is (subst (λ i. B ret 0 i) one (subst (λ k. B ret k (length b1.ops)) none body)) in
           let no_end : (n : ℕ) (s : State) → (is_nothing f.ret ≡ true) ⊎ Avoids is_end (suite m.classes.classes (call_of m n) m.globals f.locals n f.body s) = λ n s. ⊎_elim (λ e. inl e) (λ closed. inr (suite_closed m.classes.classes (call_of m n) m.globals f.locals n m f.locals (Some f.ret) false f.body fits.body closed s)) fits.ends in
@@ -283,7 +285,7 @@ own_is m variables count params vars b0 b2 h are size vars_are first bodied shap
       };
       works = λ p fn there n calls s types le.
           let has = made.has p fn there in
-          let body = bodied.works p fn h (BoolVal true) has there refl in
+          let body = bodied.works p fn h (BoolVal true) has (made.handlers p fn there) there refl in
           let B : ℕ → ℕ → Type 0 = λ k i. BodyWorks p (body_setting m [] vars) None (BoolVal true) (means_suite (body_setting m [] vars) m.top) fn k i in
           let placed : B 0 0 = subst (λ i. B 0 i) start (subst (λ k. B k (length b0.ops)) none body) in
           let match : Matches (body_setting m [] vars) (first_regs h.regs []) s = record { each = λ j v at. let f : None ≡ Some v = at in absurd (cc); globals = types } in

@@ -10,9 +10,9 @@ use Rattle.ir_core.specs.declared.code.Last.TheVariants.{Goto, Unreachable}
 use Rattle.ir_core.specs.declared.code.Lit.{Lit}
 use Rattle.ir_core.specs.declared.code.Program.{Program}
 use Rattle.ir_core.specs.declared.code.RType.{RType}
-use Rattle.ir_core.specs.Building.{Building, held, Extends, is_open_at}
+use Rattle.ir_core.specs.Building.{Building, held, handled, Extends, is_open_at}
 use Rattle.ir_core.specs.Items.{Item, End}
-use Rattle.ir_core.specs.Meaning.{Config, Waiting, item_at}
+use Rattle.ir_core.specs.Meaning.{Config, Waiting, item_at, handler_at}
 use Rattle.ir_core.specs.Registers.{Holds, Regs, literal_of}
 use Rattle.ir_builder_frames.specs.declared.frame.Frame.{Frame}
 use Rattle.ir_builder_frames.specs.declared.frame.Vars.{Vars}
@@ -36,6 +36,7 @@ pub record Filled (b c : Building) (from upto to : ℕ) : Type 0 where
   pub later : (k i : ℕ) (x : Item) → upto ≤ k → held b k i ≡ Some x → held c k i ≡ Some x
   pub none : (k : ℕ) → from ≤ k → k < upto → is_open_at c.blocks k ≡ false
   pub same : (k : ℕ) → upto ≤ k → is_open_at c.blocks k ≡ is_open_at b.blocks k
+  pub handlers : (k : ℕ) → handled c k ≡ handled b k
   pub same_regs : c.regs ≡ b.regs
   pub blocks : length c.blocks ≡ length b.blocks
   pub ops : c.ops ≡ b.ops
@@ -63,7 +64,7 @@ pub record Bodied (x : Setting) (result : Option Sort) (t : RType) (last : Lit) 
   pub ops : new.ops ≡ []
   pub more : length old.blocks < length new.blocks
   pub full : (k : ℕ) → length old.blocks ≤ k → is_open_at new.blocks k ≡ false
-  pub works : (p : Program) (fn : ℕ) (h : Func) (end : Value) → Has p fn new → slice_get p.funcs fn ≡ Some h → literal_of t last ≡ Some (Holds end) → BodyWorks p x result end m fn (length old.blocks) (length old.ops)
+  pub works : (p : Program) (fn : ℕ) (h : Func) (end : Value) → Has p fn new → ((k : ℕ) → handler_at p fn k ≡ handled new k) → slice_get p.funcs fn ≡ Some h → literal_of t last ≡ Some (Holds end) → BodyWorks p x result end m fn (length old.blocks) (length old.ops)
 
 -- it goes where it may, up to the last block
 abbrev pub CompletesShape : Building → Building → Type 0

@@ -21,7 +21,7 @@ use Rattle.ir_core.specs.declared.kind.Edge.TheVariants.{Tests}
 use Rattle.ir_core.specs.Rows.{Declared, type_of_reg}
 use Rattle.ir_core.specs.Registers.{Held, Holds, error_of, is_error, Regs, put, first_regs}
 use Rattle.ir_core.specs.Building.{Building}
-use Rattle.ir_core.specs.Meaning.{Waiting, Leaves, Strict, read_all, is_type, are_types, is_fit, is_edge, away, registers_of, item_at, handler_at, step}
+use Rattle.ir_core.specs.Meaning.{Waiting, Leaves, Strict, read_all, is_type, are_types, is_fit, is_tested, away, registers_of, item_at, handler_at, step}
 use Rattle.ir_core.proofs.StepLemmas.{put_same, put_other, call_step}
 use Rattle.ir_builder_frames.specs.Settings.{Setting, rtype_of}
 use Rattle.ir_builder_frames.specs.Placing.{Has}
@@ -101,7 +101,7 @@ error_is Ref = refl
 
 module _ (p : Program) where
   -- an exception leaves a function, and comes to its caller
-  leaves_step : (g : ℕ) (h : Func) (fn k i : ℕ) (regs : Regs) (into : ℕ) (t : RType) (below : List Waiting) (e : Thrown) (s : State) → slice_get p.funcs g ≡ Some h → type_of_reg (registers_of p fn) (record { 0 = into }) ≡ Some t → is_edge (Tests record { 0 = into }) (item_at p fn k (i + 1)) ≡ false → step Strict p (Leaves g (record { frame = record { fn = fn; block = k; place = i; regs = regs }; into = record { 0 = into } } ∷ below) (world (Some e) s)) ≡ away (handler_at p fn k) (record { fn = fn; block = k; place = i + 1; regs = put regs into (error_of t) }) below (world (Some e) s)
+  leaves_step : (g : ℕ) (h : Func) (fn k i : ℕ) (regs : Regs) (into : ℕ) (t : RType) (below : List Waiting) (e : Thrown) (s : State) → slice_get p.funcs g ≡ Some h → type_of_reg (registers_of p fn) (record { 0 = into }) ≡ Some t → is_tested (record { 0 = into }) (item_at p fn k (i + 1)) ≡ false → step Strict p (Leaves g (record { frame = record { fn = fn; block = k; place = i; regs = regs }; into = record { 0 = into } } ∷ below) (world (Some e) s)) ≡ away (handler_at p fn k) (record { fn = fn; block = k; place = i + 1; regs = put regs into (error_of t) }) below (world (Some e) s)
   leaves_step g h fn k i regs into t below e s there type edge =
       rw (there, error_is h.ret, type) (failed_off p t (record { 0 = into }) (record { fn = fn; block = k; place = i + 1; regs = put regs into (error_of t) }) below (world (Some e) s) edge)
 

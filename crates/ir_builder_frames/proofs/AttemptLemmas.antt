@@ -1,4 +1,5 @@
 -- Operations that may fail: what they leave in registers, and where their exceptions go.
+use Rattle.std.specs.Prelude.{◌&&◌}
 use Rattle.std.proofs.Common.{◌≡◌, ℕ, ◌+◌, ◌<◌, true, false, cond, List, length, Option, Some, None, Result, Ok, Err, refl, sym, ap, ◌∙◌, subst, arith, le_refl}
 use Rattle.value_core.specs.Exceptions.{Thrown}
 use Rattle.value_core.specs.Value.{Value, ExcVal}
@@ -17,7 +18,7 @@ use Rattle.ir_core.specs.Rows.{Failing, NeverFails, MayFail, AlwaysFails, failin
 use Rattle.ir_core.specs.Registers.{Held, Holds, Regs, put, error_of}
 use Rattle.ir_core.specs.Effects.{World, Argument, Effect, Gives as Giving, Fails, effect}
 use Rattle.ir_core.specs.Building.{Building}
-use Rattle.ir_core.specs.Meaning.{Frame, Waiting, Config, Runs, Stuck, Strict, arguments, is_edge, is_clear, away, registers_of, item_at, handler_at, failed, step}
+use Rattle.ir_core.specs.Meaning.{Frame, Waiting, Config, Runs, Stuck, Strict, arguments, is_tested, is_asked, is_clear, away, registers_of, item_at, handler_at, failed, step}
 use Rattle.ir_core.proofs.StepLemmas.{put_same, put_other, op_step}
 use Rattle.ir_builder_frames.specs.Settings.{Setting}
 use Rattle.ir_builder_frames.specs.Placing.{Has, Placed, where_it_may}
@@ -32,19 +33,11 @@ use Rattle.ir_builder_frames.proofs.MatchLemmas.{room_on, same_refl, same_trans,
 
 -- ---- where no test stands behind
 
-twice_is : (r : Reg) (o : Option Item) → is_edge (TestsTwice r) o ≡ is_edge (Tests r) o
-twice_is r None = refl
-twice_is r (Some (Do q)) = refl
-twice_is r (Some (End (last.Goto t))) = refl
-twice_is r (Some (End (last.If s a b))) = refl
-twice_is r (Some (End (last.IfError s a b line))) = refl
-twice_is r (Some (End (last.Return s))) = refl
-twice_is r (Some (End last.Unreachable)) = refl
-
 -- an exception goes to the handler or out of the function
-pub failed_off : (p : Program) (t : RType) (r : Reg) (f : Frame) (below : List Waiting) (w : World) → is_edge (Tests r) (item_at p f.fn f.block f.place) ≡ false → failed Strict p (edge_of_kind (kind_by_result (Some t)) (Some r)) f below w ≡ away (handler_at p f.fn f.block) f below w
+pub failed_off : (p : Program) (t : RType) (r : Reg) (f : Frame) (below : List Waiting) (w : World) → is_tested r (item_at p f.fn f.block f.place) ≡ false → failed Strict p (edge_of_kind (kind_by_result (Some t)) (Some r)) f below w ≡ away (handler_at p f.fn f.block) f below w
 failed_off p Int r f below w e = ap (λ b. cond b (Runs f below w) (away (handler_at p f.fn f.block) f below w)) e
-failed_off p I64 r f below w e = ap (λ b. cond b (Runs f below w) (away (handler_at p f.fn f.block) f below w)) (twice_is r (item_at p f.fn f.block f.place) ∙ e)
+failed_off p I64 r f below w e =
+    ap (λ b. cond (b && is_asked (item_at p f.fn) (item_at p f.fn f.block f.place)) (Runs f below w) (away (handler_at p f.fn f.block) f below w)) e
 failed_off p BoolType r f below w e = ap (λ b. cond b (Runs f below w) (away (handler_at p f.fn f.block) f below w)) e
 failed_off p Ref r f below w e = ap (λ b. cond b (Runs f below w) (away (handler_at p f.fn f.block) f below w)) e
 
@@ -92,12 +85,12 @@ module _ (p : Program) (fn k i : ℕ) (regs : Regs) (below : List Waiting) (s : 
       op_step Strict p (record { fn = fn; block = k; place = i; regs = regs }) below (world None s) (Prim (Some record { 0 = r }) q args) at
       ∙ rw (given, does, type, may) (ap (λ b. cond b (running fn k (i + 1) (put regs r (Holds v)) below (world None s)) Stuck) (clear_none t (record { 0 = r })))
 
-  may_fail : (e : Thrown) → failing q ≡ MayFail → effect p q xs (world None s) ≡ Fails e (world None s) → is_edge (Tests record { 0 = r }) (item_at p fn k (i + 1)) ≡ false → step Strict p (running fn k i regs below (world None s)) ≡ Comes (Err e)
+  may_fail : (e : Thrown) → failing q ≡ MayFail → effect p q xs (world None s) ≡ Fails e (world None s) → is_tested (record { 0 = r }) (item_at p fn k (i + 1)) ≡ false → step Strict p (running fn k i regs below (world None s)) ≡ Comes (Err e)
   may_fail e may does edge =
       op_step Strict p (record { fn = fn; block = k; place = i; regs = regs }) below (world None s) (Prim (Some record { 0 = r }) q args) at
       ∙ rw (given, does, type, may) (failed_off p t (record { 0 = r }) (record { fn = fn; block = k; place = i + 1; regs = put regs r (error_of t) }) below (world (Some e) s) edge)
 
-  comes : (f : Failing) (o : Result Value Thrown) → failing q ≡ f → Allows f o → effect p q xs (world None s) ≡ effect_of o (world None s) → (failing q ≡ MayFail → is_edge (Tests record { 0 = r }) (item_at p fn k (i + 1)) ≡ false) → step Strict p (running fn k i regs below (world None s)) ≡ Comes o
+  comes : (f : Failing) (o : Result Value Thrown) → failing q ≡ f → Allows f o → effect p q xs (world None s) ≡ effect_of o (world None s) → (failing q ≡ MayFail → is_tested (record { 0 = r }) (item_at p fn k (i + 1)) ≡ false) → step Strict p (running fn k i regs below (world None s)) ≡ Comes o
   comes NeverFails (Ok v) is allowed does edge = prim_step p fn k i regs below s r q args t xs v at type given is does
   comes NeverFails (Err e) is allowed does edge = absurd allowed
   comes MayFail (Ok v) is allowed does edge = may_give v is does
@@ -126,7 +119,7 @@ prim_ends K b c r t q args a p fn h placed x room regs below s match res d =
     let at = adds_has p fn b c r t _ a placed.has in
     let target = type_has p fn c r t placed.has a.type in
     let here = guard_at p fn b c h (let z = a.blocks in omega arith) placed (length b.blocks) (sym a.blocks) in
-    let edge : failing q ≡ MayFail → is_edge (Tests record { 0 = r }) (item_at p fn (length b.blocks) (length b.ops + 1)) ≡ false = λ may. placed.has.edges.each _ _ r _ at (ap (λ f. where_it_may f r) may) in
+    let edge : failing q ≡ MayFail → is_tested (record { 0 = r }) (item_at p fn (length b.blocks) (length b.ops + 1)) ≡ false = λ may. placed.has.edges.each _ _ r _ at (ap (λ f. where_it_may f r) may) in
     let leads = comes p fn (length b.blocks) (length b.ops) regs below s r q args t d.values at target d.given (failing q) d.result refl d.allowed d.effects edge in
     let kept : (w : Held) (j : ℕ) → j < length b.regs → put regs r w j ≡ regs j = λ w j lt. put_other regs r j w (let z = a.made in λ e. omega arith) in
     ends_of p s.turns _ res (outcome_of d.result s) R T d.does

@@ -9,7 +9,7 @@ use Rattle.ir_core.specs.declared.code.Program.{Program}
 use Rattle.ir_core.specs.declared.code.RType.{RType}
 use Rattle.ir_core.specs.Items.{Do, handler_in}
 use Rattle.ir_core.specs.Rows.{type_of_reg}
-use Rattle.ir_core.specs.Building.{Building, held, handled, Extends}
+use Rattle.ir_core.specs.Building.{Building, ended_block, held, handled, Extends}
 use Rattle.ir_core.specs.Laws.{added, pushed, closed}
 use Rattle.ir_core.specs.Meaning.{item_at, handler_at, registers_of}
 use Rattle.ir_core.proofs.BuildingLemmas.{calls_extend}
@@ -95,7 +95,7 @@ pub closes : (b c : Building) (l : Last) → c ≡ closed b l → Closes b c l
 closes b c l e = record {
   extends = closed_extends b c l e;
   regs = ap (λ (v : Building). length v.regs) e;
-  blocks = ap (λ (v : Building). length v.blocks) e ∙ length-append b.blocks (record { ops = b.ops; last = l } ∷ []);
+  blocks = ap (λ (v : Building). length v.blocks) e ∙ length-append b.blocks (ended_block b.ops l ∷ []);
   ops = ap (λ (v : Building). length v.ops) e;
   at = ap (λ (v : Building). held v (length b.blocks) (length b.ops)) e ∙ calls_extend.end b l;
 }

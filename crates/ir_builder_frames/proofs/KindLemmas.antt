@@ -15,7 +15,7 @@ use Rattle.ir_core.specs.declared.code.Last.{Last}
 use Rattle.ir_core.specs.declared.code.Last.TheVariants.{Goto, If, IfError, Return, Unreachable}
 use Rattle.ir_core.specs.declared.code.Block.{Block}
 use Rattle.ir_core.specs.Rows.{Declared}
-use Rattle.ir_core.specs.Building.{Building, with_last, Extends}
+use Rattle.ir_core.specs.Building.{Building, ended_block, with_last, Extends}
 use Rattle.ir_core.specs.Laws.{added, pushed, closed}
 use Rattle.ir_builder_frames.specs.Calling.{Declares}
 use Rattle.ir_builder_frames.specs.Kinds.{temporary_name, Surrounding, IsOf, AreArguments, Take, Answers, Reports, ReadsGlobal, WritesGlobal, Calls, LiteralFits, OpKinds, OpsKinds, LastKinds, BlocksKinds, HasKinds, KeepsKinds, KeepsKindsIf}
@@ -136,7 +136,7 @@ module _ (g : Surrounding) (b : Building) (h : HasKinds g b) where
   push_here o k = record { variables = h.variables; named = h.named; blocks = h.blocks; ops = ops_behind g b.regs b.ops o k h.ops }
 
   close_here : (l : Last) → LastKinds g b.regs l → HasKinds g (closed b l)
-  close_here l k = record { variables = h.variables; named = h.named; blocks = blocks_behind g b.regs b.blocks (record { ops = b.ops; last = l }) h.ops k h.blocks; ops = tt }
+  close_here l k = record { variables = h.variables; named = h.named; blocks = blocks_behind g b.regs b.blocks (ended_block b.ops l) h.ops k h.blocks; ops = tt }
 
   last_here : (n : ℕ) (l : Last) → LastKinds g b.regs l → HasKinds g (record b { blocks = with_last b.blocks n l })
   last_here n l k = record { variables = h.variables; named = h.named; blocks = blocks_last g b.regs b.blocks n l k h.blocks; ops = h.ops }

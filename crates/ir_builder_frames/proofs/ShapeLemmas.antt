@@ -17,7 +17,7 @@ use Rattle.std.specs.List.{list_any}
 use Rattle.ir_core.specs.Rows.{Failing, NeverFails, MayFail, AlwaysFails, failing}
 use Rattle.ir_core.specs.Shape.{is_target_of, is_register, is_argument}
 use Rattle.ir_core.specs.Items.{Do, End, in_block}
-use Rattle.ir_core.specs.Building.{Building, held_in, held, with_last}
+use Rattle.ir_core.specs.Building.{Building, ended_block, held_in, held, with_last}
 use Rattle.ir_core.specs.Laws.{pushed, closed}
 use Rattle.ir_builder_frames.specs.Placing.{where_it_may}
 use Rattle.ir_builder_frames.specs.Shaped.{Above, AreBelow, AllBelow, OpFits, OpsFit, GoesOn, EndFits, AllFit, Shaped, KeepsIf}
@@ -33,7 +33,7 @@ ops_more : (n : ℕ) (os : List (Op × ℕ)) (o : Op × ℕ) → OpFits n o.0 �
 ops_more n [] o a f = (a, tt)
 ops_more n (q ∷ os) o a f = (f.0, ops_more n os o a f.1)
 
-fit_more : (n m k : ℕ) (bs : List Block) (ops : List (Op × ℕ)) (l : Last) → EndFits n m (k + length bs) ops l → OpsFit n ops → AllFit n m k bs → AllFit n m k (bs ++ record { ops = ops; last = l } ∷ [])
+fit_more : (n m k : ℕ) (bs : List Block) (ops : List (Op × ℕ)) (l : Last) → EndFits n m (k + length bs) ops l → OpsFit n ops → AllFit n m k bs → AllFit n m k (bs ++ ended_block ops l ∷ [])
 fit_more n m k [] ops l e o a = (subst (λ j. EndFits n m j ops l) (let q : k + 0 ≡ k = omega arith in q) e, o, tt, tt)
 fit_more n m k (b ∷ bs) ops l e o a = (a.0, a.1, a.2, fit_more n m (suc k) bs ops l (subst (λ j. EndFits n m j ops l) (let q : k + suc (length bs) ≡ suc k + length bs = omega arith in q) e) o a.3)
 

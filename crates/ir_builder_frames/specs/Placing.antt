@@ -9,7 +9,7 @@ use Rattle.ir_core.specs.declared.code.RType.{RType}
 use Rattle.ir_core.specs.declared.kind.Edge.TheVariants.{Tests}
 use Rattle.ir_core.specs.Items.{Item, Do, End}
 use Rattle.ir_core.specs.Rows.{Failing, NeverFails, MayFail, AlwaysFails, failing, type_of_reg}
-use Rattle.ir_core.specs.Meaning.{item_at, handler_at, registers_of, is_edge}
+use Rattle.ir_core.specs.Meaning.{item_at, handler_at, registers_of, is_tested}
 use Rattle.ir_core.specs.Building.{Building, held, handled}
 
 -- a register of this number and type is there
@@ -36,7 +36,7 @@ or_other (Some b) a = Some b
 module _ (p : Program) (fn : ℕ) where
   -- behind no operation that may fail stands a test of its result
   pub record NoEdges : Type 0 where
-    pub each : (k i r : ℕ) (o : Op) → item_at p fn k i ≡ Some (Do o) → into o ≡ Some r → is_edge (Tests record { 0 = r }) (item_at p fn k (i + 1)) ≡ false
+    pub each : (k i r : ℕ) (o : Op) → item_at p fn k i ≡ Some (Do o) → into o ≡ Some r → is_tested (record { 0 = r }) (item_at p fn k (i + 1)) ≡ false
 
   -- the function has what the builder holds, but for the ends that are still to be written
   pub record Has (b : Building) : Type 0 where

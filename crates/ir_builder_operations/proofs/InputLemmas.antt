@@ -21,7 +21,7 @@ use Rattle.ir_core.specs.Rows.{type_of_reg}
 use Rattle.ir_core.specs.Registers.{Held, Unset, Holds, Regs, put}
 use Rattle.ir_core.specs.Effects.{Gives as Giving, Fails, Ends as Ending_by, line_read}
 use Rattle.ir_core.specs.Building.{Building}
-use Rattle.ir_core.specs.Meaning.{Waiting, Config, Ended, Strict, is_edge, away, registers_of, item_at, handler_at, step}
+use Rattle.ir_core.specs.Meaning.{Waiting, Config, Ended, Strict, is_tested, away, registers_of, item_at, handler_at, step}
 use Rattle.ir_core.proofs.StepLemmas.{put_same, put_other, op_step}
 use Rattle.ir_builder_frames.specs.Settings.{Setting}
 use Rattle.ir_builder_frames.specs.Calling.{Adds}
@@ -49,7 +49,7 @@ module _ (p : Program) (fn k i : ℕ) (regs : Regs) (below : List Waiting) (s : 
       op_step Strict p (record { fn = fn; block = k; place = i; regs = regs }) below (world None s) (Prim (Some record { 0 = r }) (prim.Io io.Input) []) at
       ∙ rw (does, type) refl
 
-  read_fails : (e : Thrown) (s1 : State) → line_read s.items (world None s) ≡ Fails e (world None s1) → is_edge (Tests record { 0 = r }) (item_at p fn k (i + 1)) ≡ false → step Strict p start ≡ left e s1
+  read_fails : (e : Thrown) (s1 : State) → line_read s.items (world None s) ≡ Fails e (world None s1) → is_tested (record { 0 = r }) (item_at p fn k (i + 1)) ≡ false → step Strict p start ≡ left e s1
   read_fails e s1 does edge =
       op_step Strict p (record { fn = fn; block = k; place = i; regs = regs }) below (world None s) (Prim (Some record { 0 = r }) (prim.Io io.Input) []) at
       ∙ rw (does, type) (failed_off p rtype.Ref (record { 0 = r }) (record { fn = fn; block = k; place = i + 1; regs = put regs r Unset }) below (world (Some e) s1) edge)
@@ -59,7 +59,7 @@ module _ (p : Program) (fn k i : ℕ) (regs : Regs) (below : List Waiting) (s : 
       op_step Strict p (record { fn = fn; block = k; place = i; regs = regs }) below (world None s) (Prim (Some record { 0 = r }) (prim.Io io.Input) []) at
       ∙ rw does refl
 
-  line_ends : (x : Setting) (R T : Value → State → Config → Type 0) → is_edge (Tests record { 0 = r }) (item_at p fn k (i + 1)) ≡ false → ((s1 : State) → s1.locals ≡ s.locals → s1.globals ≡ s.globals → SameLocals x s s1) → ((text : List ℕ) (s1 : State) → SameLocals x s s1 → R (StrVal text) s1 (with_line text s1)) → ((e : Thrown) (s1 : State) → SameLocals x s s1 → T (ExcVal e) s1 (left e s1)) → (items : Items) → s.items ≡ items → Ends p s.turns start (next_line items s) R T
+  line_ends : (x : Setting) (R T : Value → State → Config → Type 0) → is_tested (record { 0 = r }) (item_at p fn k (i + 1)) ≡ false → ((s1 : State) → s1.locals ≡ s.locals → s1.globals ≡ s.globals → SameLocals x s s1) → ((text : List ℕ) (s1 : State) → SameLocals x s s1 → R (StrVal text) s1 (with_line text s1)) → ((e : Thrown) (s1 : State) → SameLocals x s s1 → T (ExcVal e) s1 (left e s1)) → (items : Items) → s.items ≡ items → Ends p s.turns start (next_line items s) R T
   line_ends x R T edge same good bad item.Eof e =
       let x0 : Thrown = thrown EOFError (codes "EOF when reading a line") in
       (le_refl s.turns, left x0 s, leads_step p start (left x0 s) (read_fails x0 s (ap (λ l. line_read l (world None s)) e) edge), bad x0 s (same s refl refl))

@@ -1,5 +1,5 @@
 -- The blocks of a function whose ends are all written have their shape.
-use Rattle.std.proofs.Common.{◌≡◌, ℕ, suc, ◌<◌, ◌⊎◌, refl, sym, subst, arith, true, false, List, [], ◌∷◌, ◌++◌, Some, inl, inr, ⊎_elim}
+use Rattle.std.proofs.Common.{◌≡◌, ℕ, suc, ◌<◌, ◌⊎◌, refl, sym, subst, arith, true, false, List, [], ◌∷◌, ◌++◌, Option, Some, None, inl, inr, ⊎_elim}
 use Rattle.std.specs.Prelude.{slice_get}
 use Rattle.ir_core.specs.declared.code.Op.{Op}
 use Rattle.ir_core.specs.declared.code.Op.TheVariants.{Turn}
@@ -7,12 +7,12 @@ use Rattle.ir_core.specs.declared.code.Last.{Last}
 use Rattle.ir_core.specs.declared.code.Last.TheVariants.{Goto, If, IfError, Return, Unreachable}
 use Rattle.ir_core.specs.declared.code.Block.{Block}
 use Rattle.ir_core.specs.declared.code.Func.{Func}
-use Rattle.ir_core.specs.Items.{Do, item_in}
+use Rattle.ir_core.specs.Items.{Do, item_in, handler_of}
 use Rattle.ir_core.specs.Rows.{Declared}
 use Rattle.ir_core.specs.Building.{is_unwritten, is_open_at}
 use Rattle.ir_core.specs.Shape.{IsHigher, LastFits, BlockFits, BlocksFit, FuncFits, BeginsInTurn, FuncsFit}
 use Rattle.ir_core.specs.Shape as shape
-use Rattle.ir_builder_frames.specs.Shaped.{Higher, OpsFit, EndFits, AllFit}
+use Rattle.ir_builder_frames.specs.Shaped.{Higher, OpsFit, EndFits, HandlerFits, AllFit}
 use Rattle.ir_builder_frames.specs.Kinds.{FunctionType}
 use Rattle.ir_builder_shapes_laws.specs.Built.{IsBuilt}
 
@@ -33,10 +33,14 @@ last_fits low m k ops (IfError r a b line) e h = (higher k m a h.1, higher k m b
 last_fits low m k ops (Return r) e h = tt
 last_fits low m k ops Unreachable e h = absurd (cc)
 
+handler_fits : (m k : ℕ) (h : Option ℕ) → HandlerFits m k h → shape.HandlerFits (suc m) k h
+handler_fits m k None f = tt
+handler_fits m k (Some t) f = higher k m t f
+
 pub blocks_fit : (low m k : ℕ) (bs : List Block) → ((j : ℕ) → is_open_at bs j ≡ false) → AllFit low m k bs → BlocksFit (suc m) k bs
 blocks_fit low m k [] written h = tt
 blocks_fit low m k (b ∷ bs) written h = (
-  record { ops = ops_fit low b.ops h.1; last = last_fits low m k b.ops b.last (written 0) h.0; handler = tt },
+  record { ops = ops_fit low b.ops h.1; last = last_fits low m k b.ops b.last (written 0) h.0; handler = handler_fits m k (handler_of b) h.2 },
   blocks_fit low m (suc k) bs (λ j. written (suc j)) h.3,
 )
 

@@ -6,7 +6,7 @@ use Rattle.ir_core.specs.declared.code.Block.{Block}
 use Rattle.ir_core.specs.declared.code.Last.{Last}
 use Rattle.ir_core.specs.declared.code.Op.{Op}
 use Rattle.ir_core.specs.Items.{Item, Do, End, in_block, item_in, handler_in}
-use Rattle.ir_core.specs.Building.{Building, in_open, held_in, Extends}
+use Rattle.ir_core.specs.Building.{Building, ended_block, in_open, held_in, Extends}
 use Rattle.ir_core.specs.Laws.{added, pushed, closed, CallsExtend}
 
 module _ (o : Op × ℕ) where
@@ -31,7 +31,7 @@ module _ (o : Op × ℕ) where
 
 module _ (last : Last) where
   abbrev ended : List (Op × ℕ) → Block
-  ended os = record { ops = os; last = last }
+  ended os = ended_block os last
 
   in_ended : (os : List (Op × ℕ)) (i : ℕ) (x : Item) → in_open os i ≡ Some x → in_block os last i ≡ Some x
   in_ended [] i x e = let f : None ≡ Some x = e in absurd (cc)

@@ -13,3 +13,6 @@ pub mod SpellingLemmas
 pub mod TextLemmas
 pub mod ItemLemmas
 pub mod ClassLemmas
+pub mod MissingLemmas
+pub mod KindLemmas
+pub mod BareLemmas

@@ -13,8 +13,8 @@ use Rattle.ir_core.specs.declared.kind.Edge.TheVariants.{NoEdge, Tests, TestsTwi
 use Rattle.ir_core.specs.Items.{Item, Do, End}
 use Rattle.ir_core.specs.Rows.{type_of_reg, edge_of_call, edge_of_prim}
 use Rattle.ir_core.specs.Registers.{Held, error_of, Regs, put, look}
-use Rattle.ir_core.specs.Effects.{World, Effect, Wrong, Gives, Acts, Fails, Ends, effect}
-use Rattle.ir_core.specs.Meaning.{Frame, Waiting, Config, Runs, Leaves, Ended, Stuck, Mode, Plain, Strict, Fitting, if_some, next, goes, arguments, is_refused, Way, Well, Badly, Wrongly, way, is_edge, unfit, away, may_stand, registers_of, item_at, handler_at, write, write_error, failed, applied, returned, do_op, do_last, act, step, steps}
+use Rattle.ir_core.specs.Effects.{World, Effect, Wrong, Gives, Acts, Fails, Ends, IfTarget, IfWritten, effect}
+use Rattle.ir_core.specs.Meaning.{Frame, Waiting, Config, Runs, Leaves, Ended, Stuck, Mode, Plain, Strict, Fitting, if_some, next, goes, arguments, is_refused, Way, Well, Badly, Wrongly, way, is_edge, unfit, away, may_stand, typed, registers_of, item_at, handler_at, write, write_error, failed, applied, returned, do_op, do_last, act, step, steps}
 use Rattle.ir_core.specs.Runs.{start, Calm, Fit}
 use Rattle.ir_core.proofs.RunLemmas.{stays_stuck}
 
@@ -41,11 +41,11 @@ module _ (m k : Mode) (stricter : IsStricter m k) (p : Program) where
   agree_failed : (e : Edge) (f : Frame) (below : List Waiting) (w : World) → Agrees (failed m p e f below w) (failed k p e f below w)
   agree_failed NoEdge f below w = inl refl
   agree_failed (Tests r) f below w =
-      agree_cond (is_edge (Tests r) (item_at p f.fn f.block f.place)) _ _ _ _ (same _) (stricter.at_failure (away (handler_at p f.fn f.block) f below w))
+      agree_cond (is_edge (item_at p f.fn) (Tests r) (item_at p f.fn f.block f.place)) _ _ _ _ (same _) (stricter.at_failure (away (handler_at p f.fn f.block) f below w))
   agree_failed (TestsTwice r) f below w =
-      agree_cond (is_edge (TestsTwice r) (item_at p f.fn f.block f.place)) _ _ _ _ (same _) (stricter.at_failure (away (handler_at p f.fn f.block) f below w))
+      agree_cond (is_edge (item_at p f.fn) (TestsTwice r) (item_at p f.fn f.block f.place)) _ _ _ _ (same _) (stricter.at_failure (away (handler_at p f.fn f.block) f below w))
   agree_failed Jumps f below w =
-      agree_cond (is_edge Jumps (item_at p f.fn f.block f.place)) _ _ _ _ (same _) (stricter.at_failure (away (handler_at p f.fn f.block) f below w))
+      agree_cond (is_edge (item_at p f.fn) Jumps (item_at p f.fn f.block f.place)) _ _ _ _ (same _) (stricter.at_failure (away (handler_at p f.fn f.block) f below w))
 
   agree_error : (fn : ℕ) (regs : Regs) (to : Option Reg) (go go' : Regs → Config) → ((x : Regs) → Agrees (go x) (go' x)) → Agrees (write_error p fn regs to go) (write_error p fn regs to go')
   agree_error fn regs None go go' h = h regs
@@ -73,13 +73,17 @@ module _ (m k : Mode) (stricter : IsStricter m k) (p : Program) where
       agree_error f.fn f.regs (Some r) _ _ (λ y. agree_failed e (next f y) below (record w { pending = Some x }))
   agree_applied e None f below (Ends x w) = same _
   agree_applied e (Some r) f below (Ends x w) = same _
+  agree_applied e None f below (IfTarget n x) = same _
+  agree_applied e (Some r) f below (IfTarget n x) = same _
+  agree_applied e None f below (IfWritten n x) = same _
+  agree_applied e (Some r) f below (IfWritten n x) = same _
 
   agree_op : (o : Op) (f : Frame) (below : List Waiting) (w : World) → Agrees (do_op m p o f below w) (do_op k p o f below w)
   agree_op (Move r s) f below w =
       agree_some (type_of_reg (registers_of p f.fn) s) _ _ (λ t. stricter.at_move t (f.regs s.0) (write p f.fn f.regs r (f.regs s.0) (λ regs. goes f below regs w)))
   agree_op (Lit r l) f below w = same _
   agree_op (Prim to q args) f below w =
-      agree_cond (may_stand w.pending q) _ _ _ _ (agree_some (arguments (registers_of p f.fn) f.regs args) _ _ (λ xs. agree_applied (edge_of_prim (registers_of p f.fn) to q) to f below (effect p q xs w))) (same Stuck)
+      agree_cond (may_stand w.pending q) _ _ _ _ (agree_some (arguments (registers_of p f.fn) f.regs args) _ _ (λ xs. agree_applied (edge_of_prim (registers_of p f.fn) to q) to f below (typed (registers_of p f.fn) to args (effect p q xs w)))) (same Stuck)
   agree_op (Call r g args) f below w = same _
   agree_op (Virtual r o n args) f below w = same _
   agree_op (TraitCall r o t n args) f below w = same _

@@ -6,13 +6,15 @@ use Rattle.std.specs.Option.{option_map}
 use Rattle.std.specs.Str.{chars, is_utf8}
 use Rattle.std.proofs.Math.Utf8.{encode}
 use Rattle.unicode_ident.proofs.Computing.{unicode_ident}
-use Rattle.value_core.specs.declared.exception.ExcClass.TheVariants.{OverflowError, IndexError, KeyError, ValueError, RuntimeError}
+use Rattle.value_core.specs.declared.exception.ExcClass.TheVariants.{OverflowError, IndexError, KeyError, ValueError, RuntimeError, AttributeError}
 use Rattle.value_core.specs.Ending.{Ending, Done, Raised, Cut, Over}
 use Rattle.value_core.specs.Exceptions.{Thrown, thrown}
 use Rattle.value_core.specs.Items as item
 use Rattle.value_core.specs.Items.{Items, Eof}
 use Rattle.value_core.specs.Value.{Value, IntVal, BoolVal, NoneVal, StrVal, ObjVal, DictObj, InstObj}
 use Rattle.c_core.specs.declared.code.CArg.TheVariants as c_arg
+use Rattle.c_core.specs.declared.code.CClass.{CClass}
+use Rattle.c_core.specs.declared.code.Kind.TheVariants as kind
 use Rattle.c_core.specs.declared.code.CLit.TheVariants as c_lit
 use Rattle.c_core.specs.declared.code.Line.TheVariants as line
 use Rattle.c_core.specs.declared.primitive.Primitive.{Primitive}
@@ -22,6 +24,9 @@ use Rattle.c_core.specs.declared.primitive.TaggedPrim.TheVariants as tagged
 use Rattle.c_core.specs.declared.primitive.StrPrim.TheVariants as str
 use Rattle.c_core.specs.declared.primitive.ListPrim.TheVariants as list
 use Rattle.c_core.specs.declared.primitive.DictPrim.TheVariants as dict
+use Rattle.c_core.specs.declared.primitive.InstancePrim.TheVariants as instance
+use Rattle.c_core.specs.declared.primitive.AttrPrim.TheVariants as attr
+use Rattle.c_core.specs.declared.primitive.ErrPrim.TheVariants as err
 use Rattle.c_core.specs.declared.primitive.IoPrim.TheVariants as io
 use Rattle.ir_core.specs.declared.code.RType.{RType}
 use Rattle.ir_core.specs.declared.code.RType.TheVariants.{Int, I64, Bool, Ref}
@@ -38,7 +43,7 @@ use Rattle.ir_core.specs.declared.code.Program.{Program}
 use Rattle.ir_core.specs.Registers.{Unset, Holds}
 use Rattle.ir_core.specs.Names.{function_id}
 use Rattle.ir_core.specs.declared.code.ErrorKind.TheVariants.{Magic, MagicOverlapping}
-use Rattle.ir_core.specs.Effects.{World, Argument, Given, Written, Effect, Wrong, Gives, Acts, Fails, Ends, effect}
+use Rattle.ir_core.specs.Effects.{World, Argument, Given, Written, Effect, Wrong, Gives, Acts, Fails, Ends, IfTarget, IfWritten, effect}
 use Rattle.ir_core.specs.Rows.{error_kind}
 use Rattle.ir_core.specs.Meaning.{Waiting, Config, Runs, Leaves, Ended, Stuck, Mode, Plain, Strict, Fitting, steps}
 use Rattle.ir_core.specs.Runs.{start, Calm, Fit}
@@ -46,8 +51,9 @@ use Rattle.c_core.specs.Step as machine
 use Rattle.c_core.specs.Step.{MachineEnding}
 use Rattle.c_core.specs.Run.{Stop, machine_run}
 use Rattle.c_core.specs.WellFormed.{well_formed}
-use Rattle.ir_core.specs.Lower.{lines_from, lower}
-use Rattle.ir_core.specs.Shape.{LastFits, FuncFits, Shape, op_fits}
+use Rattle.ir_core.specs.Lower.{line_of, lines_from, lower}
+use Rattle.ir_core.specs.Building.{ended_block}
+use Rattle.ir_core.specs.Shape.{LastFits, HandlerFits, FuncFits, Shape, op_fits}
 use Rattle.ir_core.proofs.RunLemmas.{ended_is_calm}
 use Rattle.ir_core.proofs.ModeLemmas.{fit_is_calm}
 
@@ -58,7 +64,7 @@ abbrev var : ℕ → Rattle.ir_core.specs.declared.code.PArg.PArg
 var n = arg.Var (reg n)
 
 abbrev block : List (Op × ℕ) → Last → Block
-block ops last = record { ops = ops; last = last }
+block ops last = ended_block ops last
 
 abbrev program : List Func → Program
 program funcs = record { globals = []; classes = []; funcs = funcs }
@@ -199,10 +205,54 @@ failure_is_caught Fitting = refl
 failure_is_passed_on : seen (steps Strict (asked Ref) 4 leaving) ≡ Some (Raised failure, [])
 failure_is_passed_on = refl
 
+-- nothing asks for it, but the block has a handler: there it is caught
+abbrev guarded : Option ℕ → Program
+guarded h =
+    asking Ref (record { ops = (Call (reg 0) 0 [], 2) ∷ []; last = Return (reg 0); handler = h } ∷ block [] (Return (reg 0)) ∷ [])
+
+handler_catches : stands (steps Strict (guarded (Some 1)) 1 leaving) ≡ Some (1, 1, 0)
+handler_catches = refl
+
+without_handler_it_leaves : steps Strict (guarded None) 1 leaving ≡ Leaves 1 (waits 2 ∷ []) failing_world
+without_handler_it_leaves = refl
+
+guarded_is_unfit : steps Fitting (guarded (Some 1)) 1 leaving ≡ Stuck
+guarded_is_unfit = refl
+
+-- a handler is a higher block
+handler_behind : HandlerFits 2 0 (Some 1)
+handler_behind = (lit< tt, lit< tt)
+
+handler_of_itself : HandlerFits 2 1 (Some 1) → ⊥
+handler_of_itself h = let below : 1 < 1 = h.0 in omega arith
+
 -- ---- -113 is an error value of a native integer with an exception, and a value without one; a test of the word tells no
--- difference
-native_failure_is_caught : stands (steps Fitting (asked I64) 2 leaving) ≡ Some (1, 1, 0)
+-- difference. So one test is no edge, and two are
+one_test_is_no_edge : steps Fitting (asked I64) 1 leaving ≡ Stuck
+one_test_is_no_edge = refl
+
+-- the second test goes on at a block where there is no exception
+abbrev asked_twice : ℕ → Program
+asked_twice n =
+    program
+    (function I64 []
+    ∷ record {
+      name = codes "g";
+      params = 0;
+      regs = (codes "r0", I64) ∷ (codes "r1", Bool) ∷ [];
+      ret = I64;
+      blocks =
+          block ((Call (reg 0) 0 [], 2) ∷ []) (IfError (reg 0) 1 3 2) ∷ block ((Prim (Some (reg 1)) (prim.Err err.Occurred) [], 2) ∷ []) (If (reg 1) 2 n)
+          ∷ block [] (Return (reg 0)) ∷ block [] (Return (reg 0)) ∷ [];
+    }
+    ∷ top ((codes "r0", I64) ∷ (codes "r1", Bool) ∷ []) (block ((Call (reg 0) 1 [], 3) ∷ (Lit (reg 1) (Number (pos 1)), 3) ∷ []) (Return (reg 1)) ∷ []) ∷ [])
+
+native_failure_is_caught : stands (steps Fitting (asked_twice 3) 4 leaving) ≡ Some (1, 2, 0)
 native_failure_is_caught = refl
+
+-- which is that where the result is no error value
+tests_part : steps Fitting (asked_twice 2) 1 leaving ≡ Stuck
+tests_part = refl
 
 abbrev minus_113 : Program
 minus_113 =
@@ -210,15 +260,16 @@ minus_113 =
     (function I64 (block ((Turn, 1) ∷ (Lit (reg 0) (Number (negsuc 112)), 2) ∷ []) (Return (reg 0)) ∷ [])
     ∷ top ((codes "r0", I64) ∷ (codes "r1", Ref) ∷ (codes "r2", Bool) ∷ [])
     (block ((Call (reg 0) 0 [], 4) ∷ []) (IfError (reg 0) 1 2 4)
+    ∷ block ((Prim (Some (reg 2)) (prim.Err err.Occurred) [], 4) ∷ []) (If (reg 2) 3 2)
     ∷ block ((Prim (Some (reg 1)) (prim.Int64 int64.Str) (var 0 ∷ []), 4) ∷ (Prim None (prim.Io io.Write) (var 1 ∷ []), 4) ∷ (Lit (reg 2) (Number (pos 1)), 4) ∷ []) (Return (reg 2))
     ∷ block [] (Return (reg 2)) ∷ [])
     ∷ [])
 
-minus_113_is_a_value : seen (steps Fitting minus_113 10 (start minus_113 1 Eof)) ≡ Some (Done, codes "-113")
+minus_113_is_a_value : seen (steps Fitting minus_113 20 (start minus_113 1 Eof)) ≡ Some (Done, codes "-113")
 unfolding digits
 minus_113_is_a_value = refl
 
-minus_113_is_an_error : steps Plain minus_113 3 (Leaves 0 (waits 1 ∷ []) failing_world) ≡ Stuck
+minus_113_is_an_error : stands (steps Plain minus_113 4 (Leaves 0 (waits 1 ∷ []) failing_world)) ≡ Some (1, 3, 0)
 minus_113_is_an_error = refl
 
 -- ---- rows on numbers, texts and the input
@@ -331,6 +382,62 @@ size_has_changed = refl
 
 past_the_keys : on_dict (prim.Dict dict.KeyAt) one_pair (int (pos 1) ∷ []) ≡ Wrong
 past_the_keys = refl
+
+-- ---- rows on instances
+abbrev class_of_slots : CClass
+class_of_slots = record { name = codes "K"; attrs = (codes "n", kind.Tagged) ∷ (codes "s", kind.Object) ∷ []; methods = []; traits = [] }
+
+-- the module alone, with an object, an `int` and a second object, and an instance of the class with these attributes
+abbrev with_slots : List (Op × ℕ) → Program
+with_slots ops = record {
+  globals = [];
+  classes = class_of_slots ∷ [];
+  funcs = top ((codes "o", Ref) ∷ (codes "i", Int) ∷ (codes "p", Ref) ∷ []) (block ops (Return (reg 0)) ∷ []) ∷ [];
+}
+
+abbrev having : List (Option Value) → World
+having attributes = record (reading Eof) { store = InstObj 0 attributes ∷ [] }
+
+abbrev on_slots : Primitive → List (Option Value) → List Argument → Effect
+on_slots q attributes xs = effect (with_slots []) q (Given (ObjVal 0) ∷ xs) (having attributes)
+
+abbrev slot : ℤ → Argument
+slot n = Written (arg.Number n)
+
+instance_made : effect (with_slots []) (prim.Instance instance.New) (Written (arg.Class (codes "K")) ∷ []) (reading Eof) ≡ Gives (ObjVal 0) (having (None ∷ None ∷ []))
+instance_made = refl
+
+no_such_class : effect (with_slots []) (prim.Instance instance.New) (Written (arg.Class (codes "L")) ∷ []) (reading Eof) ≡ Wrong
+no_such_class = refl
+
+attribute_read : on_slots (prim.Attr attr.Get) (Some (IntVal (pos 1)) ∷ None ∷ []) (slot (pos 0) ∷ []) ≡ IfTarget kind.Tagged (Gives (IntVal (pos 1)) (having (Some (IntVal (pos 1)) ∷ None ∷ [])))
+attribute_read = refl
+
+attribute_is_unset : on_slots (prim.Attr attr.Get) (Some (IntVal (pos 1)) ∷ None ∷ []) (slot (pos 1) ∷ []) ≡ IfTarget kind.Object (Fails (thrown AttributeError (codes "attribute 's' of 'K' undefined")) (having (Some (IntVal (pos 1)) ∷ None ∷ [])))
+attribute_is_unset = refl
+
+attribute_written : on_slots (prim.Attr attr.Set) (Some (IntVal (pos 1)) ∷ None ∷ []) (slot (pos 1) ∷ text (codes "a") ∷ []) ≡ IfWritten kind.Object (Acts (having (Some (IntVal (pos 1)) ∷ Some (StrVal (codes "a")) ∷ [])))
+attribute_written = refl
+
+past_the_slots : on_slots (prim.Attr attr.Get) (None ∷ None ∷ []) (slot (pos 2) ∷ []) ≡ Wrong
+past_the_slots = refl
+
+-- a register of another type than the slot's is neither read into nor written, also where the attribute is unset
+abbrev on_slot : Option Reg → Primitive → List Rattle.ir_core.specs.declared.code.PArg.PArg → Config
+on_slot to q args =
+    steps Plain (with_slots ((Prim to q args, 1) ∷ [])) 1 (Runs (record { fn = 0; block = 0; place = 0; regs = λ k. Holds (ObjVal 0) }) [] (having (None ∷ None ∷ [])))
+
+unset_into_its_type : on_slot (Some (reg 2)) (prim.Attr attr.Get) (var 0 ∷ arg.Number (pos 1) ∷ []) ≡ Leaves 0 [] (record (having (None ∷ None ∷ [])) { pending = Some (thrown AttributeError (codes "attribute 's' of 'K' undefined")) })
+unset_into_its_type = refl
+
+unset_into_another : on_slot (Some (reg 2)) (prim.Attr attr.Get) (var 0 ∷ arg.Number (pos 0) ∷ []) ≡ Stuck
+unset_into_another = refl
+
+written_of_its_type : stands (on_slot None (prim.Attr attr.Set) (var 0 ∷ arg.Number (pos 1) ∷ var 2 ∷ [])) ≡ Some (0, 0, 1)
+written_of_its_type = refl
+
+written_of_another : on_slot None (prim.Attr attr.Set) (var 0 ∷ arg.Number (pos 0) ∷ var 2 ∷ []) ≡ Stuck
+written_of_another = refl
 
 -- how they tell that they failed
 int_tells : error_kind (prim.Tagged tagged.Remainder) (Some Int) ≡ Magic
@@ -498,6 +605,13 @@ virtual_call = refl
 trait_call : stands (steps Plain with_class 1 (at_call 1)) ≡ Some (0, 0, 0)
 unfolding digits chars
 trait_call = refl
+
+-- and has a line of its own, with the trait by its name
+virtual_line : line_of with_class (Virtual (reg 1) (reg 0) 0 (reg 2 ∷ [])) ≡ line.Virtual 1 0 0 (2 ∷ [])
+virtual_line = refl
+
+trait_line : line_of with_class (TraitCall (reg 1) (reg 0) 1 0 []) ≡ line.TraitCall 1 0 (codes "T") 0 []
+trait_line = refl
 
 -- ---- shape
 sum_fits : FuncFits sum

@@ -4,21 +4,28 @@ use Rattle.std.specs.List.{list_all}
 use Rattle.std.proofs.lemmas.Bool.{and_from, and_parts}
 use Rattle.c_core.specs.declared.code.Kind.{Kind}
 use Rattle.c_core.specs.declared.code.Kind.TheVariants.{Tagged, Int64, Char, Object}
+use Rattle.c_core.specs.declared.code.CArg.TheVariants as c_arg
 use Rattle.c_core.specs.declared.code.Line.{Line}
 use Rattle.c_core.specs.declared.code.Line.TheVariants as line
 use Rattle.c_core.specs.declared.code.Code.{Code}
 use Rattle.c_core.specs.WellFormed.{Declared as Variable, spelled_line, same_kind, line_fits}
+use Rattle.ir_core.specs.declared.code.Reg.{Reg}
 use Rattle.ir_core.specs.declared.code.Op.{Op}
 use Rattle.ir_core.specs.declared.code.Op.TheVariants.{Move, Lit, Prim, Call, Virtual, TraitCall, Turn, Inc, Dec, XDec}
 use Rattle.ir_core.specs.declared.code.Block.{Block}
 use Rattle.ir_core.specs.declared.code.Program.{Program}
-use Rattle.ir_core.specs.Lower.{register_in, called_as, line_of, op_lines, label_before, label_of, end_lines, block_lines, lines_from}
+use Rattle.ir_core.specs.Lower.{number_of, register_in, called_as, line_of, op_lines, label_before, label_of, end_lines, block_lines, lines_from}
 
 pub same_self : (k : Kind) → same_kind k k ≡ true
 same_self Tagged = refl
 same_self Int64 = refl
 same_self Char = refl
 same_self Object = refl
+
+-- registers as variables, and by their numbers
+pub map_registers : (args : List Reg) → map c_arg.Var (map number_of args) ≡ map register_in args
+map_registers [] = refl
+map_registers (x ∷ args) = ap (λ l. register_in x ∷ l) (map_registers args)
 
 -- ---- lines that are spelled and fit
 module _ (code : Code) (vars : List Variable) (ret : Kind) where

@@ -15,11 +15,22 @@ pub record Building : Type 0 where
   pub blocks : List Block
   pub ops : List (Op × ℕ)
 
--- the blocks, with another end of the one of this number
+-- the blocks, with a change of the one of this number
+abbrev pub changed_at : (Block → Block) → List Block → ℕ → List Block
+changed_at change [] n = []
+changed_at change (b ∷ bs) zero = change b ∷ bs
+changed_at change (b ∷ bs) (suc n) = b ∷ changed_at change bs n
+
+-- with another end, or another handler
 abbrev pub with_last : List Block → ℕ → Last → List Block
-with_last [] n last = []
-with_last (b ∷ bs) zero last = record b { last = last } ∷ bs
-with_last (b ∷ bs) (suc n) last = b ∷ with_last bs n last
+with_last bs n last = changed_at (λ b. record b { last = last }) bs n
+
+abbrev pub with_handler : List Block → ℕ → Option ℕ → List Block
+with_handler bs n h = changed_at (λ b. record b { handler = h }) bs n
+
+-- a block that is ended has no handler yet
+abbrev pub ended_block : List (Op × ℕ) → Last → Block
+ended_block ops last = record { ops = ops; last = last; handler = None }
 
 -- an end that says nothing yet
 abbrev pub is_unwritten : Last → Bool

@@ -1,8 +1,8 @@
--- What primitives do, each in one row. Those of instances and their attributes have none yet: they are called wrongly.
-use Rattle.std.specs.Prelude.{ℕ, nat_lt, Bool, true, false, not, ◌&&◌, cond, ℤ, pos, negsuc, int_lt, List, [], ◌∷◌, ◌++◌, ◌+◌, length, take, drop, Option, Some, None, codes, is_some, Result, Ok, Err, slice_get, slice_set}
+-- What primitives do, each in one row.
+use Rattle.std.specs.Prelude.{ℕ, nat_lt, Bool, true, false, not, ◌&&◌, cond, ℤ, pos, negsuc, int_lt, List, [], ◌∷◌, ◌++◌, ◌+◌, length, map, take, drop, Option, Some, None, codes, is_some, Result, Ok, Err, slice_get, slice_set}
 use Rattle.std.specs.Fmt.{signed_decimal}
 use Rattle.std.specs.List.{position}
-use Rattle.std.specs.Option.{option_and_then, option_map}
+use Rattle.std.specs.Option.{option_and_then, option_map, option_map_or}
 use Rattle.std.specs.Ordering.{int_eq}
 use Rattle.std.specs.Str.{bytes_eq}
 use Rattle.std.specs.Str.Parse.{signed_digits_value}
@@ -16,7 +16,9 @@ use Rattle.value_core.specs.Ending.{Ending, Over, Broken}
 use Rattle.value_core.specs.Exceptions.{Thrown, thrown, class_named, is_under}
 use Rattle.value_core.specs.Items as item
 use Rattle.value_core.specs.Items.{Items}
-use Rattle.value_core.specs.Value.{Value, IntVal, BoolVal, NoneVal, StrVal, TupleVal, ExcVal, ObjVal, listed, tupled, Object, ListObj, DictObj, Store}
+use Rattle.value_core.specs.Value.{Value, IntVal, BoolVal, NoneVal, StrVal, TupleVal, ExcVal, ObjVal, listed, tupled, Object, ListObj, DictObj, InstObj, Store}
+use Rattle.c_core.specs.declared.code.Kind.{Kind}
+use Rattle.c_core.specs.declared.code.CClass.{CClass}
 use Rattle.c_core.specs.declared.primitive.Primitive.{Primitive}
 use Rattle.c_core.specs.declared.primitive.Primitive.TheVariants as prim
 use Rattle.c_core.specs.declared.primitive.Int64Prim.TheVariants as int64
@@ -27,12 +29,14 @@ use Rattle.c_core.specs.declared.primitive.StrPrim.TheVariants as str
 use Rattle.c_core.specs.declared.primitive.ListPrim.TheVariants as list
 use Rattle.c_core.specs.declared.primitive.DictPrim.TheVariants as dict
 use Rattle.c_core.specs.declared.primitive.TuplePrim.TheVariants as tuple
+use Rattle.c_core.specs.declared.primitive.InstancePrim.TheVariants as instance
+use Rattle.c_core.specs.declared.primitive.AttrPrim.TheVariants as attr
 use Rattle.c_core.specs.declared.primitive.GlobalPrim.TheVariants as global
 use Rattle.c_core.specs.declared.primitive.ExcPrim.TheVariants as exc
 use Rattle.c_core.specs.declared.primitive.ErrPrim.TheVariants as err
 use Rattle.c_core.specs.declared.primitive.IoPrim.TheVariants as io
 use Rattle.c_core.specs.Keys.{Key, NumberKey, TextKey, TruthKey, is_key}
-use Rattle.c_core.specs.Step.{int64_exception, int_exception, missing, not_defined, unbound}
+use Rattle.c_core.specs.Step.{int64_exception, int_exception, missing, not_defined, slot_of, unbound, undefined}
 use Rattle.c_core.specs.Strings.{counted_length, text_less, text_length, text_item, writes_long}
 use Rattle.ir_core.specs.declared.code.PArg.{PArg}
 use Rattle.ir_core.specs.declared.code.PArg.TheVariants as arg
@@ -53,14 +57,17 @@ pub data Argument : Type 0 where
   Given : (v : Value) → Argument
   Written : (a : PArg) → Argument
 
--- what a primitive does: it was called wrongly, it gives a value, it acts and gives none, it fails with an exception, or the
--- run ends
+-- What a primitive does: it was called wrongly, it gives a value, it acts and gives none, it fails with an exception, or the
+-- run ends. What it does with an attribute it does only where a register is of the kind of the attribute's slot: the target of a read, or
+-- the register that is written.
 pub data Effect : Type 0 where
   Wrong : Effect
   Gives : (v : Value) (w : World) → Effect
   Acts : (w : World) → Effect
   Fails : (e : Thrown) (w : World) → Effect
   Ends : (e : Ending) (w : World) → Effect
+  IfTarget : (k : Kind) (e : Effect) → Effect
+  IfWritten : (k : Kind) (e : Effect) → Effect
 
 -- a truth as a number and as a text
 abbrev pub truth_number : Bool → ℤ
@@ -193,6 +200,45 @@ abbrev pub part_at : List Value → ℤ → World → Effect
 part_at parts (pos i) w = of_value (λ v. Gives v w) (slice_get parts i)
 part_at parts (negsuc i) w = Wrong
 
+-- the number of a class by its name
+abbrev pub number_of_class : Program → List ℕ → Option ℕ
+number_of_class p name = position (λ k. bytes_eq name k.name) p.classes
+
+-- a new instance of the class of a number, with all attributes unset
+abbrev pub instance_of : Option ℕ → Option CClass → World → Effect
+instance_of (Some n) (Some k) w =
+    Gives (ObjVal (length w.store)) (with_new (InstObj n (map (λ a. None) k.attrs)) w)
+instance_of n k w = Wrong
+
+-- what is done with the attributes of an instance of the class of a number
+abbrev pub of_instance : (ℕ → List (Option Value) → Effect) → Option Object → Effect
+of_instance f (Some (InstObj class attributes)) = f class attributes
+of_instance f _ = Wrong
+
+-- the slot of a number in the class of a number, with its name and its kind
+abbrev pub slot_in : Program → ℕ → ℤ → Option (List ℕ × Kind)
+slot_in p class n = option_and_then (λ k. slot_of k n) (slice_get p.classes class)
+
+abbrev pub name_of_class : Program → ℕ → List ℕ
+name_of_class p class = option_map_or (λ k. k.name) (slice_get p.classes class) []
+
+-- the attribute of a number, which is unset or holds a value
+abbrev pub attribute_at : List (Option Value) → ℤ → Option (Option Value)
+attribute_at attributes (pos i) = slice_get attributes i
+attribute_at attributes (negsuc i) = None
+
+-- a read of a slot of the class of a name, which holds this
+abbrev pub slot_got : List ℕ → Option (List ℕ × Kind) → Option (Option Value) → World → Effect
+slot_got class (Some a) (Some (Some v)) w = IfTarget a.1 (Gives v w)
+slot_got class (Some a) (Some None) w = IfTarget a.1 (Fails (undefined a.0 class) w)
+slot_got class a o w = Wrong
+
+-- a write of a value to a slot of the object of a number, an instance of the class of a number
+abbrev pub slot_set : ℕ → ℕ → ℤ → List (Option Value) → Value → Option (List ℕ × Kind) → Option (Option Value) → World → Effect
+slot_set k class (pos i) attributes v (Some a) (Some old) w =
+    IfWritten a.1 (Acts (with_object k (InstObj class (slice_set attributes i (Some v))) w))
+slot_set k class n attributes v a o w = Wrong
+
 -- the item of a text
 abbrev pub item_or : Option (List ℕ) → World → Effect
 item_or None w = Fails (thrown IndexError (codes "string index out of range")) w
@@ -315,6 +361,14 @@ effect p (prim.Tuple tuple.Pack) all w = of_values (λ vs. packed vs w) (values_
 effect p (prim.Tuple tuple.GetItem) (Given (TupleVal parts) ∷ Written (arg.Number n) ∷ []) w = part_at (listed parts) n w
 effect p (prim.Tuple tuple.GetItemBorrow) (Given (TupleVal parts) ∷ Written (arg.Number n) ∷ []) w = part_at (listed parts) n w
 effect p (prim.Tuple tuple.Len) (Given (TupleVal parts) ∷ []) w = Gives (IntVal (pos (counted_length (length (listed parts))))) w
+effect p (prim.Instance instance.New) (Written (arg.Class name) ∷ []) w =
+    instance_of (number_of_class p name) (option_and_then (slice_get p.classes) (number_of_class p name)) w
+effect p (prim.Attr attr.Get) (Given (ObjVal k) ∷ Written (arg.Number n) ∷ []) w =
+    of_instance (λ class attributes. slot_got (name_of_class p class) (slot_in p class n) (attribute_at attributes n) w) (slice_get w.store k)
+effect p (prim.Attr attr.GetBorrow) (Given (ObjVal k) ∷ Written (arg.Number n) ∷ []) w =
+    of_instance (λ class attributes. slot_got (name_of_class p class) (slot_in p class n) (attribute_at attributes n) w) (slice_get w.store k)
+effect p (prim.Attr attr.Set) (Given (ObjVal k) ∷ Written (arg.Number n) ∷ Given v ∷ []) w =
+    of_instance (λ class attributes. slot_set k class n attributes v (slot_in p class n) (attribute_at attributes n) w) (slice_get w.store k)
 effect p (prim.Global global.Get) (Written (arg.Global name) ∷ []) w = got name (global_at p w name) w
 effect p (prim.Global global.Set) (Written (arg.Global name) ∷ Given v ∷ []) w =
     stored (number_of_global p name) (global_at p w name) (Some v) w

@@ -25,9 +25,9 @@ item_of (Some b) i = in_block b.ops b.last i
 abbrev pub item_in : List Block → ℕ → ℕ → Option Item
 item_in blocks k i = item_of (slice_get blocks k) i
 
--- where an exception in a block goes, if not out of the function. No block has a handler yet
+-- where an exception in a block goes, if not out of the function
 abbrev pub handler_of : Block → Option ℕ
-handler_of b = None
+handler_of b = b.handler
 
 abbrev pub handler_in : List Block → ℕ → Option ℕ
 handler_in blocks k = option_and_then handler_of (slice_get blocks k)

@@ -8,7 +8,7 @@ use Rattle.ir_core.specs.declared.code.Op.{Op}
 use Rattle.ir_core.specs.declared.code.Last.{Last}
 use Rattle.ir_core.specs.declared.code.Program.{Program}
 use Rattle.ir_core.specs.Items.{Do, End, item_in}
-use Rattle.ir_core.specs.Building.{Building, held_in, held, Extends}
+use Rattle.ir_core.specs.Building.{Building, ended_block, held_in, held, Extends}
 use Rattle.ir_core.specs.Effects.{World}
 use Rattle.ir_core.specs.Meaning.{Config, Ended, Stuck, Mode, Plain, steps, item_at, left_at}
 use Rattle.ir_core.specs.Runs.{ComesTo, Calm, Fit}
@@ -23,7 +23,7 @@ abbrev pub pushed : Building → Op × ℕ → Building
 pushed b o = record b { ops = b.ops ++ o ∷ [] }
 
 abbrev pub closed : Building → Last → Building
-closed b last = record b { blocks = b.blocks ++ record { ops = b.ops; last = last } ∷ []; ops = [] }
+closed b last = record b { blocks = b.blocks ++ ended_block b.ops last ∷ []; ops = [] }
 
 -- they leave what stands as it is, and what they add stands at the place that was being filled
 pub record CallsExtend : Type 0 where

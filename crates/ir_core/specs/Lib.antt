@@ -5,8 +5,10 @@ pub mod Registers
 pub mod Names
 pub mod Effects
 pub mod Meaning
+pub mod Missing
 pub mod Runs
 pub mod Laws
 pub mod Lower
 pub mod Lowered
 pub mod Shape
+pub mod Bare

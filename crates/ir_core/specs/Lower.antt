@@ -1,5 +1,5 @@
 -- The C text of a program: one line for each operation and each end (mypyc's developer guide, "Emitting C").
-use Rattle.std.specs.Prelude.{ℕ, suc, zero, ◌-◌, cond, nat_eq, pos, List, [], ◌∷◌, ◌++◌, length, map, Some, codes, slice_get}
+use Rattle.std.specs.Prelude.{ℕ, suc, zero, ◌-◌, cond, nat_eq, List, [], ◌∷◌, ◌++◌, length, map, Some, codes, slice_get}
 use Rattle.std.specs.Option.{option_map, option_map_or}
 use Rattle.c_core.specs.declared.code.Kind.{Kind}
 use Rattle.c_core.specs.declared.code.Kind.TheVariants.{Tagged, Int64, Char, Object}
@@ -74,17 +74,14 @@ class_name k = k.name
 abbrev pub class_called : Program → ℕ → List ℕ
 class_called p t = option_map_or class_name (slice_get p.classes t) []
 
--- the line of an operation. Calls of methods have no line of their own yet: they stand as calls of a name that no call may
--- have, so that no code with one is well formed
+-- the line of an operation
 abbrev pub line_of : Program → Op → Line
 line_of p (Move r s) = line.Move r.0 s.0
 line_of p (Lit r l) = line.Lit r.0 (literal_in l)
 line_of p (Prim to q args) = line.Call (option_map number_of to) (row_of q).name (map argument_in args)
 line_of p (Call r g args) = line.Call (Some r.0) (called_as p g) (map register_in args)
-line_of p (Virtual r o n args) =
-    line.Call (Some r.0) (codes "CPyVirtual") (c_arg.Var o.0 ∷ c_arg.Number (pos n) ∷ map register_in args)
-line_of p (TraitCall r o t n args) =
-    line.Call (Some r.0) (codes "CPyTrait") (c_arg.Var o.0 ∷ c_arg.Class (class_called p t) ∷ c_arg.Number (pos n) ∷ map register_in args)
+line_of p (Virtual r o n args) = line.Virtual r.0 o.0 n (map number_of args)
+line_of p (TraitCall r o t n args) = line.TraitCall r.0 o.0 (class_called p t) n (map number_of args)
 line_of p Turn = line.Turn
 line_of p (Inc r) = line.Inc r.0
 line_of p (Dec r) = line.Dec r.0

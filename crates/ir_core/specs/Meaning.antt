@@ -4,13 +4,16 @@
 -- C text is well formed all three are stuck where the machine of the C text would find something of the wrong kind. Counts do
 -- nothing, but they too are stuck at an error value.
 use Rattle.std.specs.Prelude.{ℕ, zero, suc, ◌+◌, Bool, true, false, cond, ◌&&◌, nat_eq, List, [], ◌∷◌, length, Option, Some, None, slice_get}
-use Rattle.std.specs.Option.{option_and_then, option_map}
+use Rattle.std.specs.Option.{option_and_then, option_map, option_map_or}
 use Rattle.value_core.specs.Ending.{Ending, Done, Raised, Cut}
 use Rattle.value_core.specs.Exceptions.{Thrown}
 use Rattle.value_core.specs.Value.{Value, BoolVal, ObjVal, Object, InstObj, Store}
 use Rattle.c_core.specs.declared.code.CClass.{CClass}
 use Rattle.c_core.specs.declared.primitive.Primitive.{Primitive}
-use Rattle.c_core.specs.Functions.{method_at, trait_method_at}
+use Rattle.c_core.specs.declared.code.Kind.{Kind}
+use Rattle.c_core.specs.declared.primitive.Primitive.TheVariants as prim
+use Rattle.c_core.specs.declared.primitive.ErrPrim.TheVariants as err
+use Rattle.c_core.specs.Functions.{has_kind, method_at, trait_method_at}
 use Rattle.c_core.specs.Primitives.{row_of}
 use Rattle.ir_core.specs.declared.code.RType.{RType}
 use Rattle.ir_core.specs.declared.code.RType.TheVariants.{Int, I64, Bool as BoolType, Ref}
@@ -29,7 +32,8 @@ use Rattle.ir_core.specs.Items.{Item, Do, End, item_in, handler_in, blocks_of, L
 use Rattle.ir_core.specs.Rows.{Declared, type_of_reg, edge_of_call, edge_of_prim}
 use Rattle.ir_core.specs.Registers.{Held, Unset, Holds, error_of, is_unset, is_error, literal_of, Regs, put, look, first_regs}
 use Rattle.ir_core.specs.Names.{function_called}
-use Rattle.ir_core.specs.Effects.{World, Argument, Given, Written, Effect, Wrong, Gives, Acts, Fails, Ends, effect}
+use Rattle.ir_core.specs.Lower.{kind_of_type}
+use Rattle.ir_core.specs.Effects.{World, Argument, Given, Written, Effect, Wrong, Gives, Acts, Fails, Ends, IfTarget, IfWritten, effect}
 
 -- where a function stands, and its registers
 pub record Frame : Type 0 where
@@ -174,12 +178,40 @@ ended Wrongly h w = Stuck
 
 -- ---- failures
 
+-- the register that the answer goes into where an item asks whether an exception is pending
+abbrev pub question : Option Item → Option Reg
+question (Some (Do (Prim (Some flag) (prim.Err err.Occurred) []))) = Some flag
+question _ = None
+
+-- whether an item tests that answer, and goes on at a block where there is none
+abbrev pub is_answered : Option Item → ℕ → Reg → Bool
+is_answered (Some (End (If r a b))) n flag = nat_eq flag.0 r.0 && nat_eq b n
+is_answered _ n flag = false
+
+-- whether two items, which are all of a block, are that second test
+abbrev pub is_second_test : Option Item → Option Item → ℕ → Bool
+is_second_test first second n = option_map_or (is_answered second n) (question first) false
+
+-- whether an item tests a register for its error value, and whether it leads to that second test, among all items by block and
+-- place, and both lead to the same block where nothing failed
+abbrev pub is_tested : Reg → Option Item → Bool
+is_tested r (Some (End (IfError s e n line))) = nat_eq r.0 s.0
+is_tested r _ = false
+
+abbrev pub is_asked : (ℕ → ℕ → Option Item) → Option Item → Bool
+is_asked at (Some (End (IfError s e n line))) = is_second_test (at e 0) (at e 1) n
+is_asked at _ = false
+
+abbrev pub is_jump : Option Item → Bool
+is_jump (Some (End (Goto t))) = true
+is_jump _ = false
+
 -- whether this item is what is to stand behind an operation
-abbrev pub is_edge : Edge → Option Item → Bool
-is_edge (Tests r) (Some (End (IfError s e n line))) = nat_eq r.0 s.0
-is_edge (TestsTwice r) (Some (End (IfError s e n line))) = nat_eq r.0 s.0
-is_edge Jumps (Some (End (Goto t))) = true
-is_edge _ _ = false
+abbrev pub is_edge : (ℕ → ℕ → Option Item) → Edge → Option Item → Bool
+is_edge at NoEdge item = false
+is_edge at (Tests r) item = is_tested r item
+is_edge at (TestsTwice r) item = is_tested r item && is_asked at item
+is_edge at Jumps item = is_jump item
 
 -- an operation that may fail and did not leaves no exception, and one that always fails does not get here
 abbrev pub is_clear : Edge → Option Thrown → Bool
@@ -201,6 +233,26 @@ away (Some k) f below w = to_block f k below w
 abbrev pub may_stand : Option Thrown → Primitive → Bool
 may_stand None q = true
 may_stand (Some e) q = (row_of q).while_pending
+
+-- ---- attributes
+
+-- a register has the kind of a slot; a result may be left without a target
+abbrev pub has_slot_kind : Declared → Kind → Reg → Bool
+has_slot_kind declared k r = has_kind k (option_map kind_of_type (type_of_reg declared r))
+
+abbrev pub is_into : Declared → Kind → Option Reg → Bool
+is_into declared k to = option_map_or (has_slot_kind declared k) to true
+
+-- what is written to an attribute is the last of three arguments
+abbrev pub is_written : Declared → Kind → List PArg → Bool
+is_written declared k (o ∷ n ∷ arg.Var r ∷ []) = has_slot_kind declared k r
+is_written declared k _ = false
+
+-- what a primitive does with registers of these types
+abbrev pub typed : Declared → Option Reg → List PArg → Effect → Effect
+typed declared to args (IfTarget k e) = cond (is_into declared k to) e Wrong
+typed declared to args (IfWritten k e) = cond (is_written declared k args) e Wrong
+typed declared to args e = e
 
 -- ---- turns, tests, and places that are never reached
 
@@ -270,7 +322,7 @@ module _ (mode : Mode) (p : Program) where
   abbrev pub failed : Edge → Frame → List Waiting → World → Config
   failed NoEdge f below w = Stuck
   failed e f below w =
-      cond (is_edge e (item_at p f.fn f.block f.place)) (Runs f below w) (unfit mode (away (handler_at p f.fn f.block) f below w))
+      cond (is_edge (item_at p f.fn) e (item_at p f.fn f.block f.place)) (Runs f below w) (unfit mode (away (handler_at p f.fn f.block) f below w))
 
   -- and one did not
   abbrev pub succeeds : Edge → Frame → List Waiting → Regs → World → Config
@@ -285,6 +337,8 @@ module _ (mode : Mode) (p : Program) where
   applied e to f below (Fails x w) =
       write_error p f.fn f.regs to (λ regs. failed e (next f regs) below (record w { pending = Some x }))
   applied e to f below (Ends x w) = Ended x w
+  applied e to f below (IfTarget k x) = Stuck
+  applied e to f below (IfWritten k x) = Stuck
 
   -- a function was left: its caller goes on behind the call, or the run ends
   abbrev pub returned : Way → Held → List Waiting → World → Config
@@ -303,7 +357,7 @@ module _ (mode : Mode) (p : Program) where
   do_op (Lit r l) f below w =
       if_some (type_of_reg (registers_of p f.fn) r) (λ t. if_some (literal_of t l) (λ h. goes f below (put f.regs r.0 h) w))
   do_op (Prim to q args) f below w =
-      cond (may_stand w.pending q) (if_some (arguments (registers_of p f.fn) f.regs args) (λ xs. applied (edge_of_prim (registers_of p f.fn) to q) to f below (effect p q xs w))) Stuck
+      cond (may_stand w.pending q) (if_some (arguments (registers_of p f.fn) f.regs args) (λ xs. applied (edge_of_prim (registers_of p f.fn) to q) to f below (typed (registers_of p f.fn) to args (effect p q xs w)))) Stuck
   do_op (Call r g args) f below w = calls p r args f below w (Some g)
   do_op (Virtual r o n args) f below w = calls_method p r o args f below w (method_at n)
   do_op (TraitCall r o t n args) f below w =

@@ -2,7 +2,7 @@
 ghost use Rattle.std.specs.Prelude.{◌≡◌, ◌<◌, ◌≤◌, [], ◌∷◌, ◌++◌, length, take, OnOk, OnErr, IfOk};
 ghost use Rattle.std.specs.List.{list_any};
 ghost use Rattle.std.specs.Str.{bytes_eq};
-ghost use Rattle.ir_core.specs.Building.{with_last, is_unwritten, is_open_at};
+ghost use Rattle.ir_core.specs.Building.{with_last, with_handler, ended_block, is_unwritten, is_open_at};
 
 use crate::code::{Block, Func, Last, Op, RType, Reg};
 use std::alloc::Global;
@@ -86,17 +86,22 @@ impl Builder {
         Ok(())
     }
 
-    /// Ends the block that is being filled, and answers its number. What is pushed then goes to a new block.
+    /// Ends the block that is being filled, and answers its number. What is pushed then goes to a new block. The block has no
+    /// handler.
     pub fn end_block(&mut self, last: Last) -> Result<usize, Memory>
         ensures number { IfOk result (λ n. n ≡ length self.old.blocks) }
-        ensures ok { OnOk result (self.new ≡ record self.old { blocks = self.old.blocks ++ record { ops = self.old.ops; last = last } ∷ []; ops = [] }) }
+        ensures ok { OnOk result (self.new ≡ record self.old { blocks = self.old.blocks ++ ended_block self.old.ops last ∷ []; ops = [] }) }
         ensures err { OnErr result (self.new ≡ self.old) }
     {
         let number = self.blocks.len();
         self.blocks.reserve(1)?;
         let ops = mem::replace(&mut self.ops, Vec::new(self.alloc));
         let ops = Many::from_vec(ops);
-        self.blocks.push(Block { ops, last })?;
+        self.blocks.push(Block {
+            ops,
+            last,
+            handler: None,
+        })?;
         Ok(number)
     }
 
@@ -113,6 +118,14 @@ impl Builder {
         ensures { self.new ≡ record self.old { blocks = with_last self.old.blocks block last } }
     {
         self.blocks[block].last = last;
+    }
+
+    /// Says where an exception in a block that has its end goes, if not out of the function. It takes no memory.
+    pub fn set_handler(&mut self, block: usize, h: Option<usize>)
+        requires { block < length self.old.blocks }
+        ensures { self.new ≡ record self.old { blocks = with_handler self.old.blocks block h } }
+    {
+        self.blocks[block].handler = h;
     }
 
     /// Whether the end of a block that was ended is `Last::Unreachable`, so that it is perhaps still to be written.

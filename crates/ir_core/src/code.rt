@@ -82,11 +82,13 @@ pub enum Last {
     Unreachable,
 }
 
-/// Operations in a row, each with its source line, and what comes after them.
+/// Operations in a row, each with its source line, and what comes after them; and the block that an exception in it goes to,
+/// if not out of the function.
 #[derive(Drop)]
 pub struct Block {
     pub ops: Many<(Op, usize)>,
     pub last: Last,
+    pub handler: Option<usize>,
 }
 
 /// A function. Its first registers are its parameters.

@@ -1,8 +1,10 @@
 //! How an operation tells that it failed, and what wants to stand behind it.
-ghost use Rattle.std.specs.Prelude.{◌≡◌};
+ghost use Rattle.std.specs.Prelude.{◌≡◌, Some};
+ghost use Rattle.ir_core.specs.Items.{Do, End, in_block, item_in};
 ghost use Rattle.ir_core.specs.Rows.{error_kind, kind_by_result, edge_of_kind, type_of_reg, edge_of_op};
+ghost use Rattle.ir_core.specs.Meaning as spec;
 
-use crate::code::{ErrorKind, Op, RType, Reg};
+use crate::code::{Block, ErrorKind, Last, Op, RType, Reg};
 use c_core::{
     AttrPrim, DictPrim, ErrPrim, GlobalPrim, Int64Prim, IoPrim, ListPrim, Prim, StrPrim, TaggedPrim,
 };
@@ -91,5 +93,57 @@ pub fn edge_of(regs: &[(Name, RType)], op: &Op) -> Edge
             edge_for(by_result(type_of(regs, *r)), Some(*r))
         }
         _ => Edge::NoEdge,
+    }
+}
+
+/// The register that the answer goes into where an operation asks whether an exception is pending.
+fn question(op: &Op) -> Option<Reg>
+    ensures { result ≡ spec.question (Some (Do op.now)) }
+{
+    match op {
+        Op::Prim(Some(flag), Prim::Err(ErrPrim::Occurred), args) if args.is_empty() => Some(*flag),
+        _ => None,
+    }
+}
+
+/// Whether the end of a block tests that answer, and goes on at block `next` where there is no exception.
+fn is_answered(last: Last, next: usize, flag: Reg) -> bool
+    ensures { result ≡ spec.is_answered (Some (End last)) next flag }
+{
+    match last {
+        Last::If(r, _, b) => flag.0 == r.0 && b == next,
+        _ => false,
+    }
+}
+
+/// Whether a block is the test of the pending exception, and nothing else.
+fn is_second_test(block: &Block, next: usize) -> bool
+    ensures { result ≡ spec.is_second_test (in_block block.now.ops block.now.last 0) (in_block block.now.ops block.now.last 1) next }
+{
+    let ops = block.ops.as_slice();
+    if ops.len() != 1 {
+        return false;
+    }
+    match question(&ops[0].0) {
+        Some(flag) => is_answered(block.last, next, flag),
+        None => false,
+    }
+}
+
+/// Whether the end of one of a function's blocks is this edge.
+pub fn is_edge(blocks: &[Block], edge: Edge, end: Last) -> bool
+    ensures { result ≡ spec.is_edge (item_in blocks.now) edge (Some (End end)) }
+{
+    match (edge, end) {
+        (Edge::Tests(r), Last::IfError(s, _, _, _)) => r.0 == s.0,
+        (Edge::TestsTwice(r), Last::IfError(s, second, next, _)) => {
+            r.0 == s.0
+                && match blocks.get(second) {
+                    Some(block) => is_second_test(block, next),
+                    None => false,
+                }
+        }
+        (Edge::Jumps, Last::Goto(_)) => true,
+        _ => false,
     }
 }

@@ -1,4 +1,5 @@
 //! The laws of building, of runs, and of the C text of a program. Each function is its clause, and does nothing when it runs.
+ghost use Rattle.ir_core.specs.Bare.{BareIsSame};
 ghost use Rattle.ir_core.specs.Laws.{CallsExtend, BuiltIsHeld, StepsCompose, EndedIsCalm, UnstuckIsPlain, FitIsCalm, EndsAreOne, LeftGoesOn, LeftEnds, LowerIsLowered};
 
 /// The builder's calls leave what stands as it is.
@@ -49,4 +50,9 @@ pub fn left_ends()
 /// The C text of a program is the program laid out in lines.
 pub fn lower_is_lowered()
     ensures { LowerIsLowered }
+{}
+
+/// A program whose failures go over edges does the same without its handlers.
+pub fn bare_is_same()
+    ensures { BareIsSame }
 {}

@@ -9,3 +9,4 @@ pub mod SpreadLemmas
 pub mod PathLemmas
 pub mod OwnedLemmas
 pub mod Samples
+pub mod EdgePaths

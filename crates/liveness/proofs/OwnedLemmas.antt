@@ -8,6 +8,7 @@ use Rattle.ir_core.specs.declared.code.Op.TheVariants as op
 use Rattle.ir_core.specs.declared.code.Last.{Last}
 use Rattle.ir_core.specs.declared.code.Block.{Block}
 use Rattle.ir_core.specs.declared.code.Func.{Func}
+use Rattle.ir_core.specs.Bare.{IsBare}
 use Rattle.ir_core.specs.Items.{Item, Do, End, in_block, item_in}
 use Rattle.ir_core.proofs.ItemLemmas.{op_item}
 use Rattle.liveness.specs.declared.step.Step.{Step}
@@ -27,7 +28,9 @@ use Rattle.liveness.proofs.InverseLemmas.{either}
 use Rattle.liveness.proofs.PlaceLemmas.{span_there, written_among, written_is, row_has}
 use Rattle.liveness.proofs.FoundLemmas.{get_map_or, written_any}
 use Rattle.liveness.proofs.SpreadLemmas.{edge_block, block_edge}
-use Rattle.liveness.proofs.PathLemmas.{get_map, get_unmap, item_is, item_was, item_within, item_end, item_block, rest_end, no_handler}
+use Rattle.liveness.specs.declared.borrow_table.BorrowTable.{BorrowTable}
+use Rattle.liveness.specs.Liveness.{says_borrowed, AreMarked}
+use Rattle.liveness.proofs.PathLemmas.{get_map, get_unmap, item_is, item_was, item_within, item_end, item_block, rest_end}
 
 -- ---- lists and truth values
 
@@ -118,7 +121,7 @@ no_lent (End l) = refl
 
 -- ---- what is met
 
-module _ (f : Func) where
+module _ (f : Func) (calm : IsBare f) where
   item_here : (b p : ℕ) (k : Block) (i : Item) → slice_get f.blocks b ≡ Some k → in_block k.ops k.last p ≡ Some i → item_in f.blocks b p ≡ Some i
   item_here b p k i is e = item_is f 0 b p k i is e
 
@@ -136,7 +139,7 @@ module _ (f : Func) where
   path_met b p entry = first
   path_met b p (onward x y c q m (passes x2 y2 o e)) = path_met x y m
   path_met b p (onward x y c q m (fails x2 y2 h o e caught at)) =
-      absurd (no_handler (slice_get f.blocks x) h at)
+      absurd (calm x h at)
   path_met b p (onward x y c q m (jumps x2 y2 i t l e at)) =
       let there = item_block (slice_get f.blocks x) y (End l) e in
       let end = item_end there.0.ops there.0.last y l (item_was f 0 x y there.0 (End l) there.1 e) in
@@ -237,7 +240,7 @@ module _ (f : Func) where
         ap (λ z. is_target (write_of z) r) there.2 ∙ ap (λ z. writes z r) (sym same) ∙ w in
         bit_more (marked x) k y there.0 there.1 ∙ or_right (bit (marked x) k y) _ wrote
     owned_bit lt b p (written x y c q i m e w n (fails x2 y2 h o e2 caught at)) k is =
-        absurd (no_handler (slice_get f.blocks x) h at)
+        absurd (calm x h at)
     owned_bit lt b p (written x y c q i m e w n (jumps x2 y2 j t l e2 at)) k is =
         let same : i ≡ End l = same_Some _ _ (sym e ∙ e2) in
         let no_write : false ≡ true = ap (λ z. writes z r) (sym same) ∙ w in
@@ -246,7 +249,7 @@ module _ (f : Func) where
         let there = item_get k.ops k.last y o (item_was f 0 x y k (Do o) is e2) in
         bit_more (marked x) k y there.0 there.1 ∙ or_left (bit (marked x) k y) _ (owned_bit lt x y on k is)
     owned_bit lt b p (kept x y c q i on e w (fails x2 y2 h o e2 caught at)) k is =
-        absurd (no_handler (slice_get f.blocks x) h at)
+        absurd (calm x h at)
     owned_bit lt b p (kept x y c q i on e w (jumps x2 y2 j t l e2 at)) k is =
         let there = item_block (slice_get f.blocks x) y (End l) e2 in
         let k0 = there.0 in
@@ -303,7 +306,7 @@ module _ (blocks : List Steps) (count : ℕ) (touches : Touches) (are : AreTouch
       ∙ ap (λ z. has rows r b || is_below (next_from writes m) z) up
       ∙ ap (λ z. has rows r b || z) written
 
-module _ (f : Func) (met : List Bool) (rows : List (List ℕ)) (n : ℕ) (touches : Touches) (are : AreTouches (map steps_of f.blocks) n touches) (met_is : IsMetRow (map steps_of f.blocks) met) (writers : List (List ℕ)) (writers_are : (r : ℕ) → r < n → get_or writers r [] ≡ rows_with 0 (map writes_of_block (map steps_of f.blocks)) r) (exact : (r t : ℕ) → r < n → t < length (map steps_of f.blocks) → (has rows r t ≡ true) ↔ Spread (map targets_of (map steps_of f.blocks)) (seeds_of (get_or writers r []) met) t) where
+module _ (f : Func) (calm : IsBare f) (met : List Bool) (rows : List (List ℕ)) (n : ℕ) (touches : Touches) (are : AreTouches (map steps_of f.blocks) n touches) (met_is : IsMetRow (map steps_of f.blocks) met) (writers : List (List ℕ)) (writers_are : (r : ℕ) → r < n → get_or writers r [] ≡ rows_with 0 (map writes_of_block (map steps_of f.blocks)) r) (exact : (r t : ℕ) → r < n → t < length (map steps_of f.blocks) → (has rows r t ≡ true) ↔ Spread (map targets_of (map steps_of f.blocks)) (seeds_of (get_or writers r []) met) t) where
   owned_given : (b p r : ℕ) (k : Block) → slice_get f.blocks b ≡ Some k → p ≤ length k.ops → r < n → r < f.params → ((get_or met b false && owned_by touches.spans (slice_get touches.writes r) rows b p r) ≡ true) ↔ OwnedAt f r b p
   owned_given b p r k is le lt par =
       let here = get_map steps_of f.blocks b k is in
@@ -315,9 +318,9 @@ module _ (f : Func) (met : List Bool) (rows : List (List ℕ)) (n : ℕ) (touche
       owned_there (map steps_of f.blocks) n touches are rows r b p (steps_of k) lt here (omega (arith, le, length-map k.ops step_of)) in (
         λ e.
             let both = and_true (get_or met b false) _ e in
-            bit_owned f r met (has rows r) (seeds_of (get_or writers r []) met) met_is seeded spread b k is p le both.0 (sym same ∙ both.1),
+            bit_owned f calm r met (has rows r) (seeds_of (get_or writers r []) met) met_is seeded spread b k is p le both.0 (sym same ∙ both.1),
         λ o.
-            both_true (get_or met b false) _ ((met_is b within).1 (path_met f b p (owned_met f r b p o))) (same ∙ owned_bit f r met (has rows r) (seeds_of (get_or writers r []) met) met_is seeded spread par b p o k is),
+            both_true (get_or met b false) _ ((met_is b within).1 (path_met f calm b p (owned_met f calm r b p o))) (same ∙ owned_bit f calm r met (has rows r) (seeds_of (get_or writers r []) met) met_is seeded spread par b p o k is),
       )
 
   other_given : (b p r : ℕ) (k : Block) → slice_get f.blocks b ≡ Some k → p ≤ length k.ops → n ≤ r → f.params ≤ r → ((get_or met b false && owned_by touches.spans (slice_get touches.writes r) rows b p r) ≡ true) ↔ OwnedAt f r b p
@@ -327,9 +330,9 @@ module _ (f : Func) (met : List Bool) (rows : List (List ℕ)) (n : ℕ) (touche
       ap (λ z. owned_by touches.spans z rows b p r) (get_none touches.writes r (omega (arith, ge, are.3))) in (
         λ e.
             let both = and_true (get_or met b false) _ e in
-            met_owned f r par b p (met_walk f b k is (met_path f b ((met_is b within).0 both.0)) p le),
+            met_owned f calm r par b p (met_walk f calm b k is (met_path f calm b ((met_is b within).0 both.0)) p le),
         λ o.
-            both_true (get_or met b false) _ ((met_is b within).1 (path_met f b p (owned_met f r b p o))) same,
+            both_true (get_or met b false) _ ((met_is b within).1 (path_met f calm b p (owned_met f calm r b p o))) same,
       )
 
   pub borrowed_is : (b p r : ℕ) (i : Item) → item_in f.blocks b p ≡ Some i → ((r < n) × (r < f.params)) ⊎ ((n ≤ r) × (f.params ≤ r)) → (borrowed_by touches.spans touches.writes met rows b p r ≡ true) ↔ BorrowedAt f r b p
@@ -343,3 +346,10 @@ below_or_not r zero = inr (omega arith)
 below_or_not zero (suc n) = inl (omega arith)
 below_or_not (suc r) (suc n) =
     ⊎_elim (λ a. inl (omega (arith, a))) (λ a. inr (omega (arith, a))) (below_or_not r n)
+
+-- what marks say of the blocks of a function, whose parameters that have registers are so many
+pub marked_is : (f : Func) (calm : IsBare f) (count : ℕ) (table : BorrowTable) → count ≡ min f.params (length f.regs) → AreMarked (map steps_of f.blocks) count table → (b p r : ℕ) (i : Item) → item_in f.blocks b p ≡ Some i → r < length f.regs → (says_borrowed table b p r ≡ true) ↔ BorrowedAt f r b p
+marked_is f calm count table is marked b p r i e lt =
+    let which : ((r < count) × (r < f.params)) ⊎ ((count ≤ r) × (f.params ≤ r)) =
+    ⊎_elim (λ below. inl (omega (arith, is, below, lt), below)) (λ not_below. inr (omega (arith, is, not_below), not_below)) (below_or_not r f.params) in
+    borrowed_is f calm table.met table.rows count table.touches marked.touches marked.met marked.writers marked.are_writers marked.spread b p r i e which

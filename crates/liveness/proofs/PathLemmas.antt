@@ -1,13 +1,14 @@
 -- Paths from place to place, and what is left of a block.
 use Rattle.std.proofs.Common.{◌≡◌, ℕ, zero, suc, ◌<◌, ◌≤◌, Bool, true, false, List, [], ◌∷◌, length, Option, Some, None, refl, sym, ap, ◌∙◌, subst, arith, drop, map}
 use Rattle.std.specs.Prelude.{slice_get, ◌↔◌}
-use Rattle.std.specs.Option.{option_and_then}
 use Rattle.std.proofs.lemmas.Option.{same_Some}
 use Rattle.ir_core.specs.declared.code.Op.{Op}
 use Rattle.ir_core.specs.declared.code.Last.{Last}
 use Rattle.ir_core.specs.declared.code.Block.{Block}
 use Rattle.ir_core.specs.declared.code.Func.{Func}
-use Rattle.ir_core.specs.Items.{Item, Do, End, in_block, item_of, item_in, handler_of}
+use Rattle.ir_core.specs.Bare.{IsBare, bare_blocks, bare}
+use Rattle.ir_core.proofs.BareLemmas.{bare_is_bare}
+use Rattle.ir_core.specs.Items.{Item, Do, End, in_block, item_of, item_in}
 use Rattle.liveness.specs.declared.step.Step.{Step}
 use Rattle.liveness.specs.declared.step.Steps.{Steps}
 use Rattle.liveness.specs.Paths.{is_among, is_target, reads_of, write_of, reads_of_last, reads, writes, targets, Goes, passes, fails, jumps, LiveAt}
@@ -18,6 +19,8 @@ use Rattle.liveness.specs.Rows as rows
 use Rattle.liveness.specs.declared.places.Touches.{Touches}
 use Rattle.liveness.specs.Rising.{has}
 use Rattle.liveness.specs.Places.{AreTouches}
+use Rattle.liveness.specs.declared.live_table.LiveTable.{LiveTable}
+use Rattle.liveness.specs.Liveness.{IsLiveTable, AreStarts}
 use Rattle.liveness.specs.Tables.{live_by}
 use Rattle.std.proofs.lemmas.List.{length-map}
 use Rattle.liveness.proofs.FoundLemmas.{table_given}
@@ -103,9 +106,10 @@ pub item_block : (b : Option Block) (p : ℕ) (i : Item) → item_of b p ≡ Som
 item_block None p i e = let f : None ≡ Some i = e in absurd (cc)
 item_block (Some k) p i e = (k, refl)
 
-pub no_handler : (b : Option Block) (h : ℕ) → option_and_then handler_of b ≡ Some h → ⊥
-no_handler None h e = let f : None ≡ Some h = e in absurd (cc)
-no_handler (Some k) h e = let f : None ≡ Some h = e in absurd (cc)
+-- what is kept of a block says nothing of its handler
+pub steps_bare : (bs : List Block) → map steps_of (bare_blocks bs) ≡ map steps_of bs
+steps_bare [] = refl
+steps_bare (b ∷ bs) = ap (λ z. steps_of b ∷ z) (steps_bare bs)
 
 -- ---- what is read again
 
@@ -116,6 +120,10 @@ module _ (f : Func) (r : ℕ) where
 
   pub item_was : (b p : ℕ) (k : Block) (i : Item) → slice_get f.blocks b ≡ Some k → item_in f.blocks b p ≡ Some i → in_block k.ops k.last p ≡ Some i
   item_was b p k i is e = ap (λ z. item_of z p) (sym is) ∙ e
+
+  live_block : (b p : ℕ) → LiveAt f r b p → (k : Block) × (slice_get f.blocks b ≡ Some k)
+  live_block b p (path.reads_here x y i e a) = item_block (slice_get f.blocks b) p i e
+  live_block b p (path.goes_on x y c q i e w g on) = item_block (slice_get f.blocks b) p i e
 
   -- a path over what is left of a block is one from place to place
   live_path : (ss : List Step) (l : Last) → Live (map steps_of f.blocks) r ss l → (b p : ℕ) (k : Block) (ops : List (Op × ℕ)) → slice_get f.blocks b ≡ Some k → drop p k.ops ≡ ops → p ≤ length k.ops → ss ≡ map step_of ops → l ≡ k.last → LiveAt f r b p
@@ -151,53 +159,63 @@ module _ (f : Func) (r : ℕ) where
       let h : Do o.0 ≡ i = same_Some _ _ g in
       rows.reads_here (step_of o) (map step_of ops) last (ap (λ y. reads y r) h ∙ a)
 
-  live_block : (b p : ℕ) → LiveAt f r b p → (k : Block) × (slice_get f.blocks b ≡ Some k)
-  live_block b p (path.reads_here x y i e a) = item_block (slice_get f.blocks b) p i e
-  live_block b p (path.goes_on x y c q i e w g on) = item_block (slice_get f.blocks b) p i e
-
   -- and one from place to place is one over what is left
-  path_live : (b p : ℕ) → LiveAt f r b p → (k : Block) → slice_get f.blocks b ≡ Some k → Live (map steps_of f.blocks) r (map step_of (drop p k.ops)) k.last
-  path_live b p (path.reads_here x y i e a) k is =
+  path_live : IsBare f → (b p : ℕ) → LiveAt f r b p → (k : Block) → slice_get f.blocks b ≡ Some k → Live (map steps_of f.blocks) r (map step_of (drop p k.ops)) k.last
+  path_live calm b p (path.reads_here x y i e a) k is =
       read_at (drop p k.ops) k.last i (drop_item k.ops k.last p i (item_was b p k i is e)) a
-  path_live b p (path.goes_on x y c q i e w (passes x2 y2 o e2) on) k is =
+  path_live calm b p (path.goes_on x y c q i e w (passes x2 y2 o e2) on) k is =
       let first = item_rest k.ops k.last p o (item_was b p k (Do o) is e2) in
       let same : i ≡ Do o = same_Some _ _ (sym e ∙ e2) in
       let past : is_target (write_of first.0.0) r ≡ false =
       ap (λ y. is_target (write_of y) r) first.2 ∙ ap (λ y. writes y r) (sym same) ∙ w in
-      subst (λ z. Live (map steps_of f.blocks) r (map step_of z) k.last) (sym first.1) (rows.goes_past (step_of first.0) (map step_of (drop (suc p) k.ops)) k.last past (path_live b (suc p) on k is))
-  path_live b p (path.goes_on x y c q i e w (fails x2 y2 h o e2 caught at) on) k is =
-      absurd (no_handler (slice_get f.blocks b) h at)
-  path_live b p (path.goes_on x y c q i e w (jumps x2 y2 n t l e2 at) on) k is =
+      subst (λ z. Live (map steps_of f.blocks) r (map step_of z) k.last) (sym first.1) (rows.goes_past (step_of first.0) (map step_of (drop (suc p) k.ops)) k.last past (path_live calm b (suc p) on k is))
+  path_live calm b p (path.goes_on x y c q i e w (fails x2 y2 h o e2 caught at) on) k is =
+      absurd (calm b h at)
+  path_live calm b p (path.goes_on x y c q i e w (jumps x2 y2 n t l e2 at) on) k is =
       let end = item_end k.ops k.last p l (item_was b p k (End l) is e2) in
       let to = live_block t 0 on in
-      subst (λ z. Live (map steps_of f.blocks) r (map step_of z) k.last) (sym end.0) (rows.jumps_on n t k.last (steps_of to.0) (ap (λ y. slice_get (targets y) n) end.1 ∙ at) (get_map steps_of f.blocks t to.0 to.1) (path_live t 0 on to.0 to.1))
+      subst (λ z. Live (map steps_of f.blocks) r (map step_of z) k.last) (sym end.0) (rows.jumps_on n t k.last (steps_of to.0) (ap (λ y. slice_get (targets y) n) end.1 ∙ at) (get_map steps_of f.blocks t to.0 to.1) (path_live calm t 0 on to.0 to.1))
 
   -- what exact marks give at a place
-  pub live_given_is : (marked : ℕ → Bool) → IsLiveRow (map steps_of f.blocks) r marked → (b p : ℕ) (k : Block) → slice_get f.blocks b ≡ Some k → p ≤ length k.ops → (live_given (drop p (map step_of k.ops)) k.last marked r ≡ true) ↔ LiveAt f r b p
-  live_given_is marked exact b p k is le =
+  pub live_given_is : IsBare f → (marked : ℕ → Bool) → IsLiveRow (map steps_of f.blocks) r marked → (b p : ℕ) (k : Block) → slice_get f.blocks b ≡ Some k → p ≤ length k.ops → (live_given (drop p (map step_of k.ops)) k.last marked r ≡ true) ↔ LiveAt f r b p
+  live_given_is calm marked exact b p k is le =
       let given = given_exact (map steps_of f.blocks) r marked exact (map step_of (drop p k.ops)) k.last in
       let kept = ap (λ z. live_given z k.last marked r) (drop_map step_of p k.ops) in
-      (λ h. live_path (map step_of (drop p k.ops)) k.last (given.0 (sym kept ∙ h)) b p k (drop p k.ops) is refl le refl refl, λ h. kept ∙ given.1 (path_live b p h k is))
+      (λ h. live_path (map step_of (drop p k.ops)) k.last (given.0 (sym kept ∙ h)) b p k (drop p k.ops) is refl le refl refl, λ h. kept ∙ given.1 (path_live calm b p h k is))
 
 -- what a table says at a place
-pub live_table_is : (f : Func) (r : ℕ) (touches : Touches) (rows : List (List ℕ)) (count : ℕ) → AreTouches (map steps_of f.blocks) count touches → r < count → IsLiveRow (map steps_of f.blocks) r (has rows r) → (b p : ℕ) (i : Item) → item_in f.blocks b p ≡ Some i → (live_by touches rows b p r ≡ true) ↔ LiveAt f r b p
-live_table_is f r touches rows count are below exact b p i e =
+pub live_table_is : (f : Func) (calm : IsBare f) (r : ℕ) (touches : Touches) (rows : List (List ℕ)) (count : ℕ) → AreTouches (map steps_of f.blocks) count touches → r < count → IsLiveRow (map steps_of f.blocks) r (has rows r) → (b p : ℕ) (i : Item) → item_in f.blocks b p ≡ Some i → (live_by touches rows b p r ≡ true) ↔ LiveAt f r b p
+live_table_is f calm r touches rows count are below exact b p i e =
     let there = item_block (slice_get f.blocks b) p i e in
     let k = there.0 in
     let le : p ≤ length k.ops = item_within k.ops k.last p i (item_was f r b p k i there.1 e) in
     let within : p ≤ length (map step_of k.ops) = omega (arith, le, length-map k.ops step_of) in
-    let given = live_given_is f r (has rows r) exact b p k there.1 le in
+    let given = live_given_is f r calm (has rows r) exact b p k there.1 le in
     let told = table_given (map steps_of f.blocks) r count touches are below rows b p (steps_of k) (get_map steps_of f.blocks b k there.1) within in
     (λ h. given.0 (sym told ∙ h), λ h. told ∙ given.1 h)
 
 -- what exact marks say at the start of a block
-pub starts_are : (f : Func) (r : ℕ) (marked : ℕ → Bool) → IsLiveRow (map steps_of f.blocks) r marked → (b : ℕ) → (marked b ≡ true) ↔ LiveAt f r b 0
-starts_are f r marked exact b = (
+pub starts_are : (f : Func) (calm : IsBare f) (r : ℕ) (marked : ℕ → Bool) → IsLiveRow (map steps_of f.blocks) r marked → (b : ℕ) → (marked b ≡ true) ↔ LiveAt f r b 0
+starts_are f calm r marked exact b = (
   λ h.
       let size = length-map f.blocks steps_of in
       let there = get_within f.blocks b (omega (arith, exact.0 b h, size)) in
       live_path f r (map step_of there.0.ops) there.0.last ((exact.1 b (steps_of there.0) (get_map steps_of f.blocks b there.0 there.1)).0 h) b 0 there.0 there.0.ops there.1 refl (omega arith) refl refl,
   λ h.
       let there = live_block f r b 0 h in
-      (exact.1 b (steps_of there.0) (get_map steps_of f.blocks b there.0 there.1)).1 (path_live f r b 0 h there.0 there.1),
+      (exact.1 b (steps_of there.0) (get_map steps_of f.blocks b there.0 there.1)).1 (path_live f r calm b 0 h there.0 there.1),
 )
+
+-- ---- tables that were made with the handlers passed over
+
+pub live_kept : (f : Func) (table : LiveTable) (blocks : List Steps) (count : ℕ) → blocks ≡ map steps_of f.blocks → count ≡ length f.regs → AreTouches blocks count table.touches → ((r : ℕ) → r < count → IsLiveRow blocks r (has table.rows r)) → IsLiveTable (bare f) table
+live_kept f table blocks count kept size touches exact b p r i e lt =
+    let same : blocks ≡ map steps_of (bare f).blocks = kept ∙ sym (steps_bare f.blocks) in
+    let below : r < count = omega (arith, lt, size) in
+    live_table_is (bare f) (bare_is_bare f) r table.touches table.rows count (subst (λ z. AreTouches z count table.touches) same touches) below (subst (λ z. IsLiveRow z r (has table.rows r)) same (exact r below)) b p i e
+
+pub starts_kept : (f : Func) (table : LiveTable) (blocks : List Steps) (count : ℕ) → blocks ≡ map steps_of f.blocks → count ≡ length f.regs → ((r : ℕ) → r < count → IsLiveRow blocks r (has table.rows r)) → AreStarts (bare f) table
+starts_kept f table blocks count kept size exact b r lt =
+    let same : blocks ≡ map steps_of (bare f).blocks = kept ∙ sym (steps_bare f.blocks) in
+    let below : r < count = omega (arith, lt, size) in
+    starts_are (bare f) (bare_is_bare f) r (has table.rows r) (subst (λ z. IsLiveRow z r (has table.rows r)) same (exact r below)) b

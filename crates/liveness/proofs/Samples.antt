@@ -1,5 +1,5 @@
 -- What is read again and what is only lent in a small function: a branch that writes a parameter.
-use Rattle.std.proofs.Common.{◌≤◌, refl, arith, ℕ, [], ◌∷◌, codes}
+use Rattle.std.proofs.Common.{◌≤◌, refl, arith, ℕ, [], ◌∷◌, None, codes}
 use Rattle.ir_core.specs.declared.code.RType.TheVariants.{Int, Bool}
 use Rattle.ir_core.specs.declared.code.Reg.{Reg}
 use Rattle.ir_core.specs.declared.code.Lit.TheVariants.{Null}
@@ -20,9 +20,9 @@ sample = record {
   regs = (codes "n", Int) ∷ (codes "b", Bool) ∷ (codes "r0", Int) ∷ [];
   ret = Int;
   blocks =
-      record { ops = []; last = If (reg 1) 1 2 }
-      ∷ record { ops = (Lit (reg 0) Null, 1) ∷ []; last = Goto 2 }
-      ∷ record { ops = (Move (reg 2) (reg 0), 2) ∷ []; last = Return (reg 2) }
+      record { ops = []; last = If (reg 1) 1 2; handler = None }
+      ∷ record { ops = (Lit (reg 0) Null, 1) ∷ []; last = Goto 2; handler = None }
+      ∷ record { ops = (Move (reg 2) (reg 0), 2) ∷ []; last = Return (reg 2); handler = None }
       ∷ [];
 }
 

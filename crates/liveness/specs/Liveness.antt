@@ -1,10 +1,14 @@
 -- What a table says, and when it says it of a function.
-use Rattle.std.specs.Prelude.{◌≡◌, ◌<◌, ℕ, Bool, true, List, [], length, Some, get_or, ◌↔◌}
+use Rattle.std.specs.Prelude.{◌≡◌, ◌<◌, ℕ, Bool, true, List, [], length, map, Some, get_or, ◌↔◌}
 use Rattle.ir_core.specs.declared.code.Func.{Func}
 use Rattle.ir_core.specs.Items.{Item, item_in}
 use Rattle.liveness.specs.declared.live_table.LiveTable.{LiveTable}
 use Rattle.liveness.specs.declared.borrow_table.BorrowTable.{BorrowTable}
 use Rattle.liveness.specs.Paths.{is_among, LiveAt, BorrowedAt}
+use Rattle.liveness.specs.declared.step.Steps.{Steps}
+use Rattle.liveness.specs.Rising.{has, rows_with}
+use Rattle.liveness.specs.Places.{AreTouches, writes_of_block, targets_of}
+use Rattle.liveness.specs.Rows.{IsMetRow, Spread, seeds_of}
 use Rattle.liveness.specs.Tables.{live_by, borrowed_by}
 
 -- whether a table says that a register is read again, at a block, a place and the register's number
@@ -32,3 +36,11 @@ says_borrowed table = borrowed_by table.touches.spans table.touches.writes table
 abbrev pub IsBorrowTable : Func → BorrowTable → Type 0
 IsBorrowTable f table =
     (b p r : ℕ) (i : Item) → item_in f.blocks b p ≡ Some i → r < length f.regs → (says_borrowed table b p r ≡ true) ↔ BorrowedAt f r b p
+
+-- what it keeps of blocks and of so many parameters: where paths come, and to where from blocks that write a parameter
+pub record AreMarked (blocks : List Steps) (count : ℕ) (table : BorrowTable) : Type 0 where
+  pub touches : AreTouches blocks count table.touches
+  pub met : IsMetRow blocks table.met
+  pub writers : List (List ℕ)
+  pub are_writers : (r : ℕ) → r < count → get_or writers r [] ≡ rows_with 0 (map writes_of_block blocks) r
+  pub spread : (r t : ℕ) → r < count → t < length blocks → (has table.rows r t ≡ true) ↔ Spread (map targets_of blocks) (seeds_of (get_or writers r []) table.met) t

@@ -107,17 +107,22 @@ targets (IfError r e o line) = e ∷ o ∷ []
 targets (Return r) = []
 targets Unreachable = []
 
--- whether an operation that fails goes to the handler: it may fail, and what is to stand behind it does not
-abbrev pub is_caught : Edge → Option Item → Bool
-is_caught NoEdge behind = false
-is_caught e behind = not (is_edge e behind)
+-- whether an operation that fails goes to the handler: it may fail, and what is to stand behind it, among all items, does not
+abbrev pub is_caught : (ℕ → ℕ → Option Item) → Edge → Option Item → Bool
+is_caught at NoEdge behind = false
+is_caught at e behind = not (is_edge at e behind)
 
 -- a path goes from a place to the next one: behind an operation, from one that fails to the handler of its block, and from an
 -- end to the start of a block
 pub data Goes (f : Func) : ℕ → ℕ → ℕ → ℕ → Type 0 where
   passes : (b p : ℕ) (o : Op) → item_in f.blocks b p ≡ Some (Do o) → Goes f b p b (suc p)
-  fails : (b p h : ℕ) (o : Op) → item_in f.blocks b p ≡ Some (Do o) → is_caught (edge_of_op f.regs o) (item_in f.blocks b (suc p)) ≡ true → handler_in f.blocks b ≡ Some h → Goes f b p h 0
+  fails : (b p h : ℕ) (o : Op) → item_in f.blocks b p ≡ Some (Do o) → is_caught (item_in f.blocks) (edge_of_op f.regs o) (item_in f.blocks b (suc p)) ≡ true → handler_in f.blocks b ≡ Some h → Goes f b p h 0
   jumps : (b p i t : ℕ) (l : Last) → item_in f.blocks b p ≡ Some (End l) → slice_get (targets l) i ≡ Some t → Goes f b p t 0
+
+-- no operation goes to a handler: the failure of each goes over its edge, or out of the function
+abbrev pub GoesOverEnds : Func → Type 0
+GoesOverEnds f =
+    (b p h : ℕ) (o : Op) → item_in f.blocks b p ≡ Some (Do o) → is_caught (item_in f.blocks) (edge_of_op f.regs o) (item_in f.blocks b (suc p)) ≡ true → handler_in f.blocks b ≡ Some h → ⊥
 
 -- some path from a place reads the register before it writes it
 pub data LiveAt (f : Func) (r : ℕ) : ℕ → ℕ → Type 0 where

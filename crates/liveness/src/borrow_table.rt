@@ -2,18 +2,19 @@
 //! that may have been written when it is entered: for one parameter after the other the blocks are marked that one comes
 //! to from those that write it. A register that is no parameter is lent only where no path comes.
 ghost use Rattle.std.specs.Prelude.{◌≡◌, ◌<◌, ◌+◌, ◌↔◌, ◌∷◌, [], ℕ, true, false, length, map, get_or, Some, IfOk, OnOk};
-ghost use Rattle.liveness.specs.Paths.{is_among};
+ghost use Rattle.liveness.specs.Paths.{is_among, GoesOverEnds};
 ghost use Rattle.liveness.specs.Rising.{next_from, has};
 ghost use Rattle.liveness.specs.Places.{lets};
 ghost use Rattle.liveness.specs.Flood.{Comes};
 ghost use Rattle.liveness.specs.Rows.{AreBelow, Spread, AreSpread, seeds_of};
 ghost use Rattle.liveness.specs.Tables.{owned_in, owned_by};
-ghost use Rattle.liveness.specs.Liveness.{says_borrowed, IsBorrowTable};
+ghost use Rattle.ir_core.specs.Bare.{bare};
+ghost use Rattle.liveness.specs.Liveness.{says_borrowed, AreMarked, IsBorrowTable};
 
 use crate::flood::{flood, is_before, numbers_of};
 use crate::places::{Span, Touches, block_targets, touches_of, writers};
 use crate::rising::{Rising, empty_rows, stands};
-use crate::step::kept_blocks;
+use crate::step::{Steps, kept_blocks};
 use ir_core::{Func, Reg};
 use std::alloc::Global;
 use value_core::{Many, Memory};
@@ -128,15 +129,13 @@ fn marked_rows(
     Ok(Many::from_vec(rows))
 }
 
-/// The table of a function.
-pub fn borrowed(alloc: Global, f: &Func) -> Result<BorrowTable, Memory>
-    ensures { IfOk result (λ table. IsBorrowTable f.now table) }
+/// The table of blocks whose paths go over their ends alone, for so many parameters.
+fn table_of(alloc: Global, blocks: &[Steps], count: usize) -> Result<BorrowTable, Memory>
+    ensures { IfOk result (λ table. AreMarked blocks.now count table) }
 {
-    let blocks = kept_blocks(alloc, f.blocks.as_slice())?;
-    let count = f.params.min(f.regs.len());
-    let touches = touches_of(alloc, blocks.as_slice(), count)?;
-    let edges = block_targets(alloc, blocks.as_slice())?;
-    let writers = writers(alloc, blocks.as_slice(), count)?;
+    let touches = touches_of(alloc, blocks, count)?;
+    let edges = block_targets(alloc, blocks)?;
+    let writers = writers(alloc, blocks, count)?;
     let spans = touches.spans.as_slice();
     let met = met(alloc, spans, edges.as_slice())?;
     let rows = marked_rows(
@@ -147,6 +146,17 @@ pub fn borrowed(alloc: Global, f: &Func) -> Result<BorrowTable, Memory>
         edges.as_slice(),
     )?;
     Ok(BorrowTable { touches, met, rows })
+}
+
+/// The table of a function. Its handlers are passed over: where the failure of each operation goes over its edge, no path comes
+/// to one.
+pub fn borrowed(alloc: Global, f: &Func) -> Result<BorrowTable, Memory>
+    ensures bare { IfOk result (λ table. IsBorrowTable (bare f.now) table) }
+    ensures exact { IfOk result (λ table. GoesOverEnds f.now → IsBorrowTable f.now table) }
+{
+    let blocks = kept_blocks(alloc, f.blocks.as_slice())?;
+    let table = table_of(alloc, blocks.as_slice(), f.params.min(f.regs.len()))?;
+    Ok(table)
 }
 
 /// Whether a parameter may have been written before a place of a block.

@@ -3,7 +3,8 @@
 //! that lead to a marked one and do not write it.
 ghost use Rattle.std.specs.Prelude.{◌≡◌, ◌≤◌, ◌<◌, ◌+◌, ◌↔◌, ℕ, [], true, false, Some, length, get_or, IfOk, OnOk};
 ghost use Rattle.std.specs.List.{list_any};
-ghost use Rattle.liveness.specs.Paths.{is_among, targets};
+ghost use Rattle.ir_core.specs.Bare.{bare};
+ghost use Rattle.liveness.specs.Paths.{is_among, targets, GoesOverEnds};
 ghost use Rattle.liveness.specs.Rising.{IsRising, AreAtMost, has};
 ghost use Rattle.liveness.specs.Places.{is_read, reads_first, touch_from, AreTouches};
 ghost use Rattle.liveness.specs.Rows.{AreBelow, IsLiveRow, Found, AreFound};
@@ -120,16 +121,27 @@ fn marked_rows(
     Ok(Many::from_vec(rows))
 }
 
-/// The table of a function.
+/// The table of blocks whose paths go over their ends alone.
+fn table_of(alloc: Global, blocks: &[Steps], count: usize) -> Result<LiveTable, Memory>
+    ensures touches { IfOk result (λ table. AreTouches blocks.now count table.touches) }
+    ensures rows { IfOk result (λ table. (r : ℕ) → r < count → IsLiveRow blocks.now r (has table.rows r)) }
+{
+    let touches = touches_of(alloc, blocks, count)?;
+    let rows = marked_rows(alloc, blocks, &touches, count)?;
+    Ok(LiveTable { touches, rows })
+}
+
+/// The table of a function. Its handlers are passed over: where the failure of each operation goes over its edge, no path comes
+/// to one.
 pub fn live(alloc: Global, f: &Func) -> Result<LiveTable, Memory>
-    ensures exact { IfOk result (λ table. IsLiveTable f.now table) }
-    ensures starts { IfOk result (λ table. AreStarts f.now table) }
+    ensures bare { IfOk result (λ table. IsLiveTable (bare f.now) table) }
+    ensures bare_starts { IfOk result (λ table. AreStarts (bare f.now) table) }
+    ensures exact { IfOk result (λ table. GoesOverEnds f.now → IsLiveTable f.now table) }
+    ensures starts { IfOk result (λ table. GoesOverEnds f.now → AreStarts f.now table) }
 {
     let blocks = kept_blocks(alloc, f.blocks.as_slice())?;
-    let count = f.regs.len();
-    let touches = touches_of(alloc, blocks.as_slice(), count)?;
-    let rows = marked_rows(alloc, blocks.as_slice(), &touches, count)?;
-    Ok(LiveTable { touches, rows })
+    let table = table_of(alloc, blocks.as_slice(), f.regs.len())?;
+    Ok(table)
 }
 
 fn goes_to_marked(rows: &[Rising], last: Last, r: usize) -> bool

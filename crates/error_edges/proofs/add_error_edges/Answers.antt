@@ -1,6 +1,5 @@
 use Rattle.error_edges.proofs.Kept.{means, fits}
-use Rattle.error_edges.proofs.Shaping.{shape_kept}
-use Rattle.error_edges.proofs.Standing.{each_has_edges}
+use Rattle.error_edges.proofs.Shaping.{each_has_edges, shape_kept}
 use Rattle.error_edges.proofs.Whole.{program_laid}
 use Rattle.error_edges.proofs.add_error_edges.Goals as goal
 
@@ -13,7 +12,7 @@ returns-clause-fits c =
     fits c.args.p c.in_ok-program.program (program_laid c.args.p c.in_ok-program.program c.in_ok-program.ensures) c.requires.calm
 
 pub returns-clause-edges : goal.returns-clause-edges
-returns-clause-edges c = each_has_edges c.args.p c.in_ok-program.program c.in_ok-program.ensures
+returns-clause-edges c = each_has_edges c.args.p c.in_ok-program.program c.in_ok-program.ensures c.requires.shape
 
 pub returns-clause-shaped : goal.returns-clause-shaped
 returns-clause-shaped c = shape_kept c.args.p c.in_ok-program.program c.in_ok-program.ensures c.requires.shape

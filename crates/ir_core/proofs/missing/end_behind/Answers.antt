@@ -1,6 +1,6 @@
 use Rattle.std.proofs.Common.{sym, ◌+◌}
-use Rattle.error_edges.proofs.LayoutLemmas.{ahead_more, ahead_end}
-use Rattle.error_edges.proofs.missing.end_behind.Goals as goal
+use Rattle.ir_core.proofs.MissingLemmas.{ahead_more, ahead_end}
+use Rattle.ir_core.proofs.missing.end_behind.Goals as goal
 
 pub returns-then-i-ops : goal.returns-then-i-ops
 returns-then-i-ops c = sym (ahead_more c.args.ops.now (c.args.i + 1) c.args.last c.if-i-ops.true)

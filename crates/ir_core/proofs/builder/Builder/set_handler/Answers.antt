@@ -1,0 +1,10 @@
+use Rattle.std.proofs.Common.{ap, ◌∙◌}
+use Rattle.ir_core.specs.declared.code.Block.{Block}
+use Rattle.ir_core.specs.Building.{Building, with_handler}
+use Rattle.ir_core.proofs.BlockLemmas.{changed_is}
+use Rattle.ir_core.proofs.builder.Builder.set_handler.Goals as goal
+
+pub returns : goal.returns
+returns c =
+    ap (λ l. record { name = c.self.inside.name; regs = c.self.inside.regs.items; blocks = l; ops = c.self.inside.ops.items }) (changed_is (λ (b : Block). record b { handler = c.args.h }) _ c.args.block c.index_mut.result.now c.index_mut.ensures.value)
+    ∙ ap (λ (v : Building). record v { blocks = with_handler v.blocks c.args.block c.args.h }) c.self.view_is
