@@ -1,12 +1,14 @@
 -- Blocks that are planned and laid out are the blocks of the function with their counts.
-use Rattle.std.proofs.Common.{◌≡◌, ℕ, zero, suc, ◌+◌, ◌-◌, ◌<◌, ◌≤◌, ◌^◌, Bool, true, false, List, [], ◌∷◌, ◌++◌, take, drop, length, get_or, Some, refl, sym, ap, ◌∙◌, ⊎_elim, subst, arith}
+use Rattle.std.proofs.Common.{◌≡◌, ℕ, zero, suc, ◌+◌, ◌-◌, ◌<◌, ◌≤◌, ◌^◌, Bool, true, false, List, None, [], ◌∷◌, ◌++◌, take, drop, length, get_or, Some, refl, sym, ap, ◌∙◌, ⊎_elim, subst, arith}
 use Rattle.std.specs.Prelude.{slice_get, cond, nat_lt}
 use Rattle.ir_core.specs.declared.code.Op.{Op}
 use Rattle.ir_core.specs.declared.code.Block.{Block}
 use Rattle.ir_core.specs.declared.code.Func.{Func}
 use Rattle.ir_core.specs.declared.code.Last.{Last}
 use Rattle.ir_core.specs.declared.code.Last.TheVariants.{Goto, If, IfError, Return, Unreachable}
-use Rattle.ir_core.specs.Items.{Item, Do, End, in_block, item_of, item_in}
+use Rattle.ir_core.specs.Bare.{bare_blocks}
+use Rattle.ir_core.specs.Items.{Item, Do, End, in_block, item_of, item_in, handler_in}
+use Rattle.ir_core.specs.Rows.{Declared}
 use Rattle.ir_core.specs.Shape.{ends_in_turn, LastFits, BlocksFit, FuncFits}
 use Rattle.ir_core.proofs.ItemLemmas.{end_item, op_item}
 use Rattle.c_core_ownership_laws.specs.Shares.{put}
@@ -22,8 +24,8 @@ use Rattle.refcount_insert.specs.declared.plan.Planned.{Planned}
 use Rattle.refcount_insert_counts.specs.Known.{IsKnown, owned_at}
 use Rattle.refcount_insert_counts.specs.Ends.{is_read_again, AreEndCounts, AreTestCounts}
 use Rattle.refcount_insert.specs.Plan.{IsCountedOp, AreCountedOps, IsPlannedBody, ArePlanned}
-use Rattle.refcount_insert_counts.specs.Edges.{edge_ops}
-use Rattle.refcount_insert.specs.Layout.{size_of, starts_from, number_at, end_at, edge_blocks, all_laid}
+use Rattle.refcount_insert_counts.specs.Edges.{is_none, edge_ops}
+use Rattle.refcount_insert.specs.Layout.{size_of, starts_from, number_at, end_at, edge_block, edge_blocks, laid, all_laid}
 use Rattle.refcount_insert.proofs.Laying.{blocks_count}
 use Rattle.refcount_insert.proofs.GroupLemmas.{group_is}
 use Rattle.refcount_insert.proofs.EdgeLemmas.{AreExact, edge_is, one_target, two_targets, first_target, second_target, exact_edge, exact_tested, ahead_of_jump, ahead_of_test, edges_to_are}
@@ -31,7 +33,7 @@ use Rattle.refcount_insert.proofs.EdgeLemmas.{AreExact, edge_is, one_target, two
 -- the tables of a function
 abbrev pub tables_of : (f : Func) (known : KnownRegisters) → IsKnown f known → Tables f
 tables_of f known is =
-    record { live = says_live known.live; lent = says_borrowed known.lent; is_live = is.live; is_lent = is.lent }
+    record { calm = is.calm; live = says_live known.live; lent = says_borrowed known.lent; is_live = is.live; is_lent = is.lent }
 
 -- ---- lists
 
@@ -203,7 +205,7 @@ module _ (f : Func) (known : KnownRegisters) (is : IsKnown f known) (number : �
       subst (λ z. IsLast f (tables_of f known is) number (owned_at known f.regs k (length b.ops)) b.last (m + 1) (end_at number p.first p.second z (m + 1)) (edge_blocks number p.first p.second z)) (sym plan.last) (last_is f known is number k b.ops b.last (m + 1) p.first p.second at_end fits.0.last plan.edges) in
       let rest : AreBlocks f (tables_of f known is) number (suc k) (m + size_of p) bs (all_laid number (m + size_of p) ps) =
       blocks_are (suc k) (m + size_of p) bs ps (λ i c at. let s : k + suc i ≡ suc k + i = omega arith in ap (slice_get f.blocks) (sym s) ∙ there (suc i) c at) fits.1 planned.1 (λ i lt. let s : k + suc i ≡ suc k + i = omega arith in ap number (sym s) ∙ numbers (suc i) (omega (arith, lt))) in (
-        record { ops = p.ops; last = end_at number p.first p.second p.last (m + 1) },
+        record { ops = p.ops; last = end_at number p.first p.second p.last (m + 1); handler = None },
         edge_blocks number p.first p.second p.last,
         all_laid number (m + size_of p) ps,
         refl,
@@ -212,6 +214,49 @@ module _ (f : Func) (known : KnownRegisters) (is : IsKnown f known) (number : �
         last,
         subst (λ z. AreBlocks f (tables_of f known is) number (suc k) z bs (all_laid number (m + size_of p) ps)) (sym next) rest,
       )
+
+-- no block that is laid out has a handler
+none_bare : (bs cs : List Block) → ((k h : ℕ) → handler_in bs k ≡ Some h → ⊥) → ((k h : ℕ) → handler_in cs k ≡ Some h → ⊥) → (k h : ℕ) → handler_in (bs ++ cs) k ≡ Some h → ⊥
+none_bare [] cs one other k h e = other k h e
+none_bare (b ∷ bs) cs one other zero h e = one 0 h e
+none_bare (b ∷ bs) cs one other (suc k) h e = none_bare bs cs (λ j i. one (suc j) i) other k h e
+
+nothing_bare : (k h : ℕ) → handler_in [] k ≡ Some h → ⊥
+nothing_bare k h e = absurd (cc)
+
+own_bare : (c : Counts) (there k h : ℕ) → handler_in (edge_block c there) k ≡ Some h → ⊥
+own_bare c there k h e = by (is_none c) k e
+  where
+    by : (b : Bool) (k : ℕ) → handler_in (cond b [] (record { ops = edge_ops c; last = Goto there; handler = None } ∷ [])) k ≡ Some h → ⊥
+    by true k e = nothing_bare k h e
+    by false zero e = absurd (cc)
+    by false (suc k) e = nothing_bare k h e
+
+both_bare : (number : ℕ → ℕ) (first second : Counts) (last : Last) (k h : ℕ) → handler_in (edge_blocks number first second last) k ≡ Some h → ⊥
+both_bare number first second (Goto t) k h e = nothing_bare k h e
+both_bare number first second (If x t u) k h e =
+    none_bare (edge_block first (number t)) (edge_block second (number u)) (own_bare first (number t)) (own_bare second (number u)) k h e
+both_bare number first second (IfError x t u line) k h e =
+    none_bare (edge_block first (number t)) (edge_block second (number u)) (own_bare first (number t)) (own_bare second (number u)) k h e
+both_bare number first second (Return x) k h e = nothing_bare k h e
+both_bare number first second Unreachable k h e = nothing_bare k h e
+
+one_bare : (number : ℕ → ℕ) (n : ℕ) (p : Planned) (k h : ℕ) → handler_in (laid number n p) k ≡ Some h → ⊥
+one_bare number n p zero h e = absurd (cc)
+one_bare number n p (suc k) h e = both_bare number p.first p.second p.last k h e
+
+laid_bare : (number : ℕ → ℕ) (n : ℕ) (ps : List Planned) (k h : ℕ) → handler_in (all_laid number n ps) k ≡ Some h → ⊥
+laid_bare number n [] k h e = nothing_bare k h e
+laid_bare number n (p ∷ ps) k h e =
+    none_bare (laid number n p) (all_laid number (n + size_of p) ps) (one_bare number n p) (laid_bare number (n + size_of p) ps) k h e
+
+-- what is planned says nothing of handlers
+pub planned_bare : (known : KnownRegisters) (regs : Declared) (k : ℕ) (bs : List Block) (ps : List Planned) → ArePlanned known regs k bs ps → ArePlanned known regs k (bare_blocks bs) ps
+planned_bare known regs k [] [] h = tt
+planned_bare known regs k [] (p ∷ ps) h = absurd h
+planned_bare known regs k (b ∷ bs) [] h = absurd h
+planned_bare known regs k (b ∷ bs) (p ∷ ps) h =
+    (record { body = h.0.body; last = h.0.last; edges = h.0.edges }, planned_bare known regs (suc k) bs ps h.1)
 
 -- a function with these blocks
 pub counted_by : (f g : Func) (known : KnownRegisters) (is : IsKnown f known) (planned : List Planned) → FuncFits f → ArePlanned known f.regs 0 f.blocks planned → g.name ≡ f.name → g.params ≡ f.params → g.ret ≡ f.ret → g.regs ≡ f.regs → g.blocks ≡ all_laid (number_at (starts_from 0 planned)) 0 planned → length g.blocks ≤ 2 ^ 64 → IsCountedFunc f g
@@ -224,4 +269,5 @@ counted_by f g known is planned fits plan name params ret regs blocks few = reco
   number = number_at (starts_from 0 planned);
   blocks = subst (AreBlocks f (tables_of f known is) (number_at (starts_from 0 planned)) 0 0 f.blocks) (sym blocks) (blocks_are f known is (number_at (starts_from 0 planned)) 0 0 f.blocks planned (λ i b at. let e : 0 + i ≡ i = omega arith in ap (slice_get f.blocks) e ∙ at) fits plan (λ i lt. let e : 0 + i ≡ i = omega arith in ap (λ z. get_or (starts_from 0 planned) z 0) e));
   few = few;
+  bare = subst (λ bs. (k h : ℕ) → handler_in bs k ≡ Some h → ⊥) (sym blocks) (laid_bare (number_at (starts_from 0 planned)) 0 planned);
 }

@@ -1,6 +1,6 @@
 -- The counts of what is read again at an end are all counts of its edges: any other register has nothing there, and is to have
 -- nothing at the targets.
-use Rattle.std.proofs.Common.{◌≡◌, ℕ, zero, suc, ◌+◌, ◌-◌, ◌<◌, ◌⊎◌, Bool, true, false, not, List, [], ◌∷◌, ◌++◌, length, Option, Some, None, refl, sym, ap, ◌∙◌, inl, inr, ⊎_elim, subst, arith}
+use Rattle.std.proofs.Common.{◌≡◌, ◌≢◌, ℕ, zero, suc, ◌+◌, ◌-◌, ◌<◌, ◌⊎◌, Bool, true, false, not, List, [], ◌∷◌, ◌++◌, length, Option, Some, None, refl, sym, ap, ◌∙◌, inl, inr, ⊎_elim, subst, arith}
 use Rattle.std.specs.Prelude.{◌↔◌, ◌&&◌, ◌||◌, cond, nat_eq}
 use Rattle.c_core.specs.Cells.{times}
 use Rattle.ir_core.specs.declared.code.Reg.{Reg}
@@ -14,7 +14,7 @@ use Rattle.liveness.specs.Liveness.{says_live, says_borrowed, starts_of}
 use Rattle.liveness.proofs.OwnedLemmas.{below_or_not}
 use Rattle.liveness.proofs.RisingLemmas.{eq_tells, eq_same}
 use Rattle.liveness.proofs.RowLemmas.{or_cases, or_left, or_right}
-use Rattle.refcount_insert_rule.specs.Rule.{given_up, AreUnsure, IsEdge}
+use Rattle.refcount_insert_rule.specs.Rule.{ups, downs, given_up, AreUnsure, IsEdge}
 use Rattle.refcount_insert_rule.specs.Counted.{counts_register, Tables, owned, IsEdgeTo, AreEdgesTo}
 use Rattle.refcount_insert_counts.specs.declared.counts.Counts.{Counts}
 use Rattle.refcount_insert_counts.specs.declared.known.KnownRegisters.{KnownRegisters}
@@ -165,7 +165,7 @@ module _ (f : Func) (known : KnownRegisters) (is : IsKnown f known) where
   pub ahead_of_jump : (b p t : ℕ) → item_in f.blocks b p ≡ Some (End (Goto t)) → (r : ℕ) → r < length f.regs → (is_among (starts_of known.live t) r ≡ true) ↔ LiveAt f r b p
   ahead_of_jump b p t here r lt = (
     λ on. live_at_target f r b p (Goto t) here t (ap (λ z. z || false) (eq_same t)) ((is.starts t r lt).0 on),
-    λ live. ⊎_elim (λ e. let f : false ≡ true = e in absurd (cc)) (λ h. (is.starts t r lt).1 (subst (λ z. LiveAt f r z 0) (sym (one_target t h.0 h.1)) h.2)) (live_at_end f r b p (Goto t) here live),
+    λ live. ⊎_elim (λ e. let f : false ≡ true = e in absurd (cc)) (λ h. (is.starts t r lt).1 (subst (λ z. LiveAt f r z 0) (sym (one_target t h.0 h.1)) h.2)) (live_at_end f r b p (Goto t) here is.calm live),
   )
 
   pub ahead_of_test : (b p t u : ℕ) (x : Reg) (last : Last) → targets last ≡ t ∷ u ∷ [] → reads_of_last last ≡ x.0 ∷ [] → item_in f.blocks b p ≡ Some (End last) → (r : ℕ) → r < length f.regs → (is_read_again known.live x t u r ≡ true) ↔ LiveAt f r b p
@@ -189,7 +189,7 @@ module _ (f : Func) (known : KnownRegisters) (is : IsKnown f known) where
             (λ k. or_left at_t (at_u || nat_eq x.0 r) ((is.starts t r lt).1 (subst (λ z. LiveAt f r z 0) (sym k) h.2)))
             (λ k. or_right at_t (at_u || nat_eq x.0 r) (or_left at_u (nat_eq x.0 r) ((is.starts u r lt).1 (subst (λ z. LiveAt f r z 0) (sym k) h.2))))
             (two_targets t u h.0 (ap (λ z. is_among z h.0) (sym to) ∙ h.1)))
-            (live_at_end f r b p last here live),
+            (live_at_end f r b p last here is.calm live),
       )
     where
       or_first : (a : Bool) → (a || false) ≡ true → a ≡ true
@@ -203,15 +203,20 @@ none_ups [] [] e = (refl, refl)
 none_ups [] (d ∷ ds) e = cc
 none_ups (r ∷ rs) ds e = cc
 
+some_ops : (rs : List ℕ) (ds : List (ℕ × Bool)) → are_none rs ds ≡ false → ups rs 0 ++ downs ds 0 ≢ []
+some_ops [] [] e is = cc
+some_ops [] (d ∷ ds) e is = cc
+some_ops (r ∷ rs) ds e is = cc
+
 module _ (f : Func) (t : Tables f) (number : ℕ → ℕ) where
   pub edge_to_is : (have : ℕ → ℕ) (b n : ℕ) (c : Counts) → AreExact have (λ r. owned f t b 0 r) c → IsEdgeTo f t number have b n (edge_to c (number b) n) (edge_block c (number b))
   edge_to_is have b n c exact = which (is_none c) refl
     where
-      which : (e : Bool) → is_none c ≡ e → IsEdgeTo f t number have b n (cond e (number b) n) (cond e [] (record { ops = edge_ops c; last = Goto (number b) } ∷ []))
+      which : (e : Bool) → is_none c ≡ e → IsEdgeTo f t number have b n (cond e (number b) n) (cond e [] (record { ops = edge_ops c; last = Goto (number b); handler = None } ∷ []))
       which true none =
           let both = none_ups c.ups c.downs none in
           inl (refl, refl, λ r. let up : times [] r ≡ _ = ap (λ z. times z r) (sym both.0) ∙ exact.0 r in let down : times [] r ≡ _ = ap (λ z. times (given_up z) r) (sym both.1) ∙ exact.1 r in omega (arith, up, down))
-      which false some = inr (refl, edge_ops c, refl, edge_is have _ c exact)
+      which false some = inr (refl, edge_ops c, refl, edge_is have _ c exact, some_ops c.ups c.downs some)
 
   pub edges_to_are : (first second : ℕ → ℕ) (a b n : ℕ) (c d : Counts) → AreExact first (λ r. owned f t a 0 r) c → AreExact second (λ r. owned f t b 0 r) d → AreEdgesTo f t number first second a b n (edge_to c (number a) n) (edge_to d (number b) (n + room c)) (edge_block c (number a) ++ edge_block d (number b))
   edges_to_are first second a b n c d one other =

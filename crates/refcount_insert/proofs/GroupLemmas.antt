@@ -100,7 +100,7 @@ module _ (f : Func) (known : KnownRegisters) (is : IsKnown f known) where
       ⊎_elim
       (λ lt.
       let next = next_there f.blocks b p o here in
-      let live = same_truth (says_live known.live b p r) (says_live known.live b (suc p) r) (is.live b p r (Do o) here lt) (is.live b (suc p) r next.0 next.1 lt) (live_behind f r b p o here no_read no_write) (live_before f r b p o here no_read no_write) in
+      let live = same_truth (says_live known.live b p r) (says_live known.live b (suc p) r) (is.live b p r (Do o) here lt) (is.live b (suc p) r next.0 next.1 lt) (live_behind f r b p o here no_read no_write is.calm) (live_before f r b p o here no_read no_write) in
       let lent = same_truth (says_borrowed known.lent b p r) (says_borrowed known.lent b (suc p) r) (is.lent b p r (Do o) here lt) (is.lent b (suc p) r next.0 next.1 lt) (λ h owned. h (owned_before f r b p o here no_read no_write owned)) (λ h owned. h (owned_behind f r b p o here no_read no_write owned)) in
       ap (λ z. one_if (counts_register f.regs r && (z && not (says_borrowed known.lent b p r)))) live ∙ ap (λ z. one_if (counts_register f.regs r && (says_live known.live b (suc p) r && not z))) lent)
       (λ ge.

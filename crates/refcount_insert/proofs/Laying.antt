@@ -1,14 +1,15 @@
 -- The steps of the loops that plan blocks and lay them out.
-use Rattle.std.proofs.Common.{◌≡◌, ℕ, zero, suc, ◌+◌, Bool, true, false, List, [], ◌∷◌, ◌++◌, take, length, Some, refl, sym, ap, ◌∙◌, subst, arith, append_assoc, length-append}
+use Rattle.std.proofs.Common.{◌≡◌, ℕ, zero, suc, ◌+◌, Bool, true, false, List, None, [], ◌∷◌, ◌++◌, take, length, map, Some, refl, sym, ap, ◌∙◌, subst, arith, append_assoc, length-append}
 use Rattle.std.specs.Prelude.{slice_get, cond}
 use Rattle.std.proofs.lemmas.Option.{slice_get_within}
-use Rattle.std.proofs.lemmas.List.{length-take-le, append-nil}
+use Rattle.std.proofs.lemmas.List.{length-take-le, append-nil, map-append}
 use Rattle.ir_core.specs.declared.code.Op.{Op}
 use Rattle.ir_core.specs.declared.code.Block.{Block}
 use Rattle.ir_core.specs.declared.code.Func.{Func}
 use Rattle.ir_core.specs.declared.code.Last.{Last}
 use Rattle.ir_core.specs.declared.code.Last.TheVariants.{Goto, If, IfError, Return, Unreachable}
 use Rattle.ir_core.specs.Rows.{Declared}
+use Rattle.ir_core.specs.Bare.{bare}
 use Rattle.ir_core.specs.Shape.{FuncFits, FuncsFit}
 use Rattle.liveness.proofs.InverseLemmas.{take_next}
 use Rattle.refcount_insert_rule.specs.Counted.{IsCountedFunc, AreCounted}
@@ -24,7 +25,7 @@ use Rattle.refcount_insert.specs.Layout.{room, rooms, size_of, edge_block, edge_
 pub own_count : (c : Counts) (there : ℕ) → length (edge_block c there) ≡ room c
 own_count c there = which (is_none c)
   where
-    which : (b : Bool) → length {A = Block} (cond b [] (record { ops = edge_ops c; last = Goto there } ∷ [])) ≡ cond b 0 1
+    which : (b : Bool) → length {A = Block} (cond b [] (record { ops = edge_ops c; last = Goto there; handler = None } ∷ [])) ≡ cond b 0 1
     which true = refl
     which false = refl
 
@@ -101,7 +102,8 @@ funcs_more [] (y ∷ gs) f g all e = absurd all
 funcs_more (x ∷ fs) [] f g all e = absurd all
 funcs_more (x ∷ fs) (y ∷ gs) f g all e = (all.0, funcs_more fs gs f g all.1 e)
 
-pub funcs_step : (fs : List Func) (i : ℕ) (f g : Func) (done new : List Func) → slice_get fs i ≡ Some f → AreCounted (take i fs) done → IsCountedFunc f g → new ≡ done ++ g ∷ [] → AreCounted (take (i + 1) fs) new
+pub funcs_step : (fs : List Func) (i : ℕ) (f g : Func) (done new : List Func) → slice_get fs i ≡ Some f → AreCounted (map bare (take i fs)) done → IsCountedFunc (bare f) g → new ≡ done ++ g ∷ [] → AreCounted (map bare (take (i + 1) fs)) new
 funcs_step fs i f g done new there so_far one is =
     let e : suc i ≡ i + 1 = omega arith in
-    subst (AreCounted (take (i + 1) fs)) (sym is) (subst (λ z. AreCounted z (done ++ g ∷ [])) (sym (take_next fs i f there) ∙ ap (λ z. take z fs) e) (funcs_more (take i fs) done f g so_far one))
+    subst (AreCounted (map bare (take (i + 1) fs))) (sym is)
+    (subst (λ z. AreCounted z (done ++ g ∷ [])) (sym (map-append bare (take i fs) (f ∷ [])) ∙ ap (map bare) (sym (take_next fs i f there) ∙ ap (λ z. take z fs) e)) (funcs_more (map bare (take i fs)) done (bare f) g so_far one))

@@ -1,5 +1,5 @@
 -- The blocks with their counts, from what is planned of them.
-use Rattle.std.specs.Prelude.{ℕ, ◌+◌, cond, List, [], ◌∷◌, ◌++◌, get_or}
+use Rattle.std.specs.Prelude.{ℕ, ◌+◌, cond, List, None, [], ◌∷◌, ◌++◌, get_or}
 use Rattle.ir_core.specs.declared.code.Op.{Op}
 use Rattle.ir_core.specs.declared.code.Last.{Last}
 use Rattle.ir_core.specs.declared.code.Last.TheVariants.{Goto, If, IfError, Return, Unreachable}
@@ -34,7 +34,7 @@ edge_to c there own = cond (is_none c) there own
 
 -- the block of its counts
 abbrev pub edge_block : Counts → ℕ → List Block
-edge_block c there = cond (is_none c) [] (record { ops = edge_ops c; last = Goto there } ∷ [])
+edge_block c there = cond (is_none c) [] (record { ops = edge_ops c; last = Goto there; handler = None } ∷ [])
 
 module _ (number : ℕ → ℕ) where
   -- the end of a block, where those of its edges begin at n
@@ -53,7 +53,7 @@ module _ (number : ℕ → ℕ) where
 
   -- a block with those of its edges, from number n on
   abbrev pub laid : ℕ → Planned → List Block
-  laid n p = record { ops = p.ops; last = end_at p.first p.second p.last (n + 1) } ∷ edge_blocks p.first p.second p.last
+  laid n p = record { ops = p.ops; last = end_at p.first p.second p.last (n + 1); handler = None } ∷ edge_blocks p.first p.second p.last
 
   abbrev pub all_laid : ℕ → List Planned → List Block
   all_laid n [] = []

@@ -1,6 +1,7 @@
 //! The functions of a program, and the program.
-ghost use Rattle.std.specs.Prelude.{◌≡◌, ◌≤◌, ◌^◌, List, length, IfOk};
+ghost use Rattle.std.specs.Prelude.{◌≡◌, ◌≤◌, ◌^◌, List, length, map, IfOk};
 ghost use Rattle.ir_core.specs.declared.code.Program.{Program as ProgramItem};
+ghost use Rattle.ir_core.specs.Bare.{bare, bare_program};
 ghost use Rattle.ir_core.specs.Lower as spec;
 ghost use Rattle.ir_core.specs.Runs.{Fit};
 ghost use Rattle.ir_core.specs.Shape.{Shape, FuncFits, FuncsFit};
@@ -25,7 +26,7 @@ use value_core::{Many, Memory, Name};
 
 /// The blocks of a function with their counts. They are as few as numbers of 64 bits can name.
 fn counted_blocks(alloc: Global, f: &Func) -> Result<Many<Block>, Memory>
-    ensures laid { IfOk result (λ blocks. (known : KnownItem) × (planned : List PlannedItem) × IsKnown f.now known × ArePlanned known f.now.regs 0 f.now.blocks planned × (blocks ≡ all_laid (number_at (starts_from 0 planned)) 0 planned)) }
+    ensures laid { IfOk result (λ blocks. (known : KnownItem) × (planned : List PlannedItem) × IsKnown (bare f.now) known × ArePlanned known f.now.regs 0 f.now.blocks planned × (blocks ≡ all_laid (number_at (starts_from 0 planned)) 0 planned)) }
     ensures few { IfOk result (λ blocks. length blocks ≤ 2 ^ 64) }
 {
     let known = known_of(alloc, f)?;
@@ -37,7 +38,7 @@ fn counted_blocks(alloc: Global, f: &Func) -> Result<Many<Block>, Memory>
 /// A function with its counts.
 fn counted_function(alloc: Global, f: &Func) -> Result<Func, Memory>
     requires { FuncFits f.now }
-    ensures { IfOk result (λ g. IsCountedFunc f.now g) }
+    ensures { IfOk result (λ g. IsCountedFunc (bare f.now) g) }
 {
     let blocks = counted_blocks(alloc, f)?;
     let name = Name::from_str(alloc, f.name.as_str())?;
@@ -53,7 +54,7 @@ fn counted_function(alloc: Global, f: &Func) -> Result<Func, Memory>
 
 fn counted_functions(alloc: Global, funcs: &[Func]) -> Result<Many<Func>, Memory>
     requires { FuncsFit funcs.now }
-    ensures { IfOk result (λ all. AreCounted funcs.now all) }
+    ensures { IfOk result (λ all. AreCounted (map bare funcs.now) all) }
 {
     let mut all = Vec::new(alloc);
     for f in funcs {
@@ -62,10 +63,10 @@ fn counted_functions(alloc: Global, funcs: &[Func]) -> Result<Many<Func>, Memory
     Ok(Many::from_vec(all))
 }
 
-/// A program with its counts.
+/// A program with its counts. Its failures go over edges, so its handlers are left out: none is ever gone to.
 pub fn with_counts(alloc: Global, e: &Edged) -> Result<Program, Memory>
     requires shape { Shape e.now.program }
-    ensures counted { IfOk result (λ q. IsCountedProgram e.now.program q) }
+    ensures counted { IfOk result (λ q. IsCountedProgram (bare_program e.now.program) q) }
 {
     let p = &e.program;
     let globals = copy_declared(alloc, p.globals.as_slice())?;
@@ -84,7 +85,7 @@ pub fn insert_counts(alloc: Global, e: &Edged) -> Result<Code, Memory>
     requires shape { Shape e.now.program }
     requires fits { Fit e.now.program }
     ensures follows { IfOk result (Follows e.now.program) }
-    ensures counted { IfOk result (λ code. (q : ProgramItem) × IsCountedProgram e.now.program q × (code ≡ spec.lower q)) }
+    ensures counted { IfOk result (λ code. (q : ProgramItem) × IsCountedProgram (bare_program e.now.program) q × (code ≡ spec.lower q)) }
 {
     let counted = with_counts(alloc, e)?;
     let code = lower(alloc, &counted)?;

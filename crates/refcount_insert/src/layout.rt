@@ -94,6 +94,7 @@ fn lay_own(
     blocks.push(Block {
         ops: Many::from_vec(ops),
         last: Last::Goto(there),
+        handler: None,
     })?;
     Ok(())
 }
@@ -134,7 +135,11 @@ fn lay_block(
         first,
         second,
     } = planned;
-    blocks.push(Block { ops, last })?;
+    blocks.push(Block {
+        ops,
+        last,
+        handler: None,
+    })?;
     lay_both(alloc, blocks, starts, old, &first, &second)
 }
 

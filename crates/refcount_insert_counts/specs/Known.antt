@@ -1,6 +1,7 @@
 -- How many references a frame owns through a register, by the tables of its function.
 use Rattle.std.specs.Prelude.{ℕ, not, ◌&&◌}
 use Rattle.ir_core.specs.declared.code.Func.{Func}
+use Rattle.ir_core.specs.Bare.{IsBare}
 use Rattle.ir_core.specs.Rows.{Declared}
 use Rattle.c_core_ownership_laws.specs.Shares.{one_if}
 use Rattle.liveness.specs.Paths.{is_among}
@@ -8,8 +9,9 @@ use Rattle.liveness.specs.Liveness.{says_live, starts_of, says_borrowed, IsLiveT
 use Rattle.refcount_insert_rule.specs.Counted.{counts_register}
 use Rattle.refcount_insert_counts.specs.declared.known.KnownRegisters.{KnownRegisters}
 
--- the tables are those of the function
+-- the tables are those of the function, in which no operation goes to a handler
 pub record IsKnown (f : Func) (known : KnownRegisters) : Type 0 where
+  pub calm : IsBare f
   pub live : IsLiveTable f known.live
   pub starts : AreStarts f known.live
   pub lent : IsBorrowTable f known.lent

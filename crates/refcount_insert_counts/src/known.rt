@@ -1,5 +1,6 @@
 //! How many references a frame owns through a register.
 ghost use Rattle.std.specs.Prelude.{◌≡◌, ◌≤◌, IfOk};
+ghost use Rattle.ir_core.specs.Bare.{bare};
 ghost use Rattle.refcount_insert_rule.specs.Rule as rule;
 ghost use Rattle.refcount_insert_rule.specs.Counted.{counts_register};
 ghost use Rattle.refcount_insert_counts.specs.Known.{IsKnown, owned_at, held_at, entered};
@@ -16,9 +17,9 @@ pub struct KnownRegisters {
     pub lent: BorrowTable,
 }
 
-/// What is known of a function.
+/// What is known of a function in which each operation that fails has its edge: its handlers are passed over.
 pub fn known_of(alloc: Global, f: &Func) -> Result<KnownRegisters, Memory>
-    ensures { IfOk result (λ known. IsKnown f.now known) }
+    ensures { IfOk result (λ known. IsKnown (bare f.now) known) }
 {
     let live = live(alloc, f)?;
     let lent = borrowed(alloc, f)?;

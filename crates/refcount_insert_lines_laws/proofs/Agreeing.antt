@@ -7,6 +7,7 @@ use Rattle.value_core.specs.Ending.{Ending}
 use Rattle.value_core.specs.Exceptions.{Thrown}
 use Rattle.value_core.specs.Items.{Items}
 use Rattle.value_core.specs.Value.{Value, IntVal, StrVal, ExcVal, ObjVal, Object}
+use Rattle.c_core.specs.declared.code.CClass.{CClass}
 use Rattle.c_core.specs.Ledgers.{Ledger, more, more_of}
 use Rattle.c_core.specs.Machine.{Word, ShortInt, BigInt, TaggedError, Native, CharWord, ObjectCell, NoneObject, TrueObject, FalseObject, NoObject, Content, IntCell, StrCell, ExcCell, refs_of, is_object, noted, MachineState}
 use Rattle.c_core.specs.Machine as machines
@@ -17,6 +18,7 @@ use Rattle.c_core.specs.Cells.{refill, make}
 use Rattle.ir_core.specs.declared.code.RType.{RType}
 use Rattle.ir_core.specs.declared.code.RType.TheVariants.{Int, Ref}
 use Rattle.ir_core.specs.declared.code.Reg.{Reg}
+use Rattle.ir_core.specs.declared.code.PArg.{PArg}
 use Rattle.ir_core.specs.declared.code.Func.{Func}
 use Rattle.ir_core.specs.declared.code.Program.{Program}
 use Rattle.ir_core.specs.declared.kind.Edge.{Edge}
@@ -24,24 +26,24 @@ use Rattle.ir_core.specs.declared.kind.Edge.TheVariants.{NoEdge, Tests, TestsTwi
 use Rattle.ir_core.specs.Registers.{Held, Holds, Regs, put, error_of}
 use Rattle.ir_core.specs.Rows.{Declared}
 use Rattle.ir_core.specs.Effects.{World, Effect, Wrong, Gives, Acts, Fails, Ends, with_new, with_object}
-use Rattle.ir_core.specs.Meaning.{Frame, Waiting, Config, Runs, Stuck, Fitting, next, goes, is_edge, is_clear, item_at, failed, succeeds, applied}
+use Rattle.ir_core.specs.Meaning.{Frame, Waiting, Config, Runs, Stuck, Fitting, next, goes, is_edge, is_clear, item_at, failed, succeeds, typed, applied}
 use Rattle.ir_core.specs.Meaning as meaning
 use Rattle.ir_core.specs.Lower.{number_of}
-use Rattle.refcount_insert_lines_laws.specs.Matching.{Boxed, ObjectFits, Fits, big, boxed, RegsFit, GlobalsFit, Grows, WorldFits}
+use Rattle.refcount_insert_lines_laws.specs.Matching.{Boxed, ObjectFits, Fits, big, boxed, RegsFit, PlacesFit, Grows, WorldFits}
 use Rattle.refcount_insert_lines_laws.specs.Lines.{EndsBy, GoesOn, OpDoes, op_sticks, op_goes, op_ends}
 use Rattle.refcount_insert_lines_laws.proofs.ListLemmas.{get_last, made_new}
-use Rattle.refcount_insert_lines_laws.proofs.Growing.{same_keeps, make_keeps, take_keeps, keeps_grows, same_grows, note_grows, change_grows, grows_as, fits_grow, regs_grow, globals_grow, pending_grows, store_keeps, store_makes, store_changes, world_keeps}
+use Rattle.refcount_insert_lines_laws.proofs.Growing.{same_keeps, make_keeps, take_keeps, keeps_grows, same_grows, note_grows, change_grows, grows_as, fits_grow, regs_grow, places_grow, pending_grows, store_keeps, store_makes, store_changes, world_keeps}
 use Rattle.refcount_insert_lines_laws.proofs.Words.{put_fits}
 use Rattle.refcount_insert_lines_laws.proofs.Facts.{type_here}
 
 -- ---- effects
 -- the object of number k has cell c, and can become this one, with this content
-pub record Changing (s : MachineState) (k c : ℕ) (o : Object) (x : Content) : Type 0 where
+pub record Changing (classes : List CClass) (s : MachineState) (k c : ℕ) (o : Object) (x : Content) : Type 0 where
   pub made : slice_get s.made k ≡ Some c
   pub old : Content
   pub live : IsLive s c old
   pub object : is_object old ≡ true
-  pub fits : ObjectFits s o x
+  pub fits : ObjectFits s classes o x
 
 -- the target, where there is one, has this type; a row without a result has none
 pub data Agrees (p : Program) (w : World) (s : MachineState) : Option RType → Effect → steps.Effect → Type 0 where
@@ -50,18 +52,38 @@ pub data Agrees (p : Program) (w : World) (s : MachineState) : Option RType → 
   both_share : (t : RType) (v : Value) (y : Word) → Fits s t (Holds v) y → Agrees p w s (Some t) (Gives v w) (steps.Shares y)
   both_lend : (t : RType) (v : Value) (y : Word) → Fits s t (Holds v) y → Agrees p w s (Some t) (Gives v w) (steps.Lends y)
   both_make : (v : Value) (x : Content) → is_object x ≡ false → ((u : MachineState) → Grows s u → IsLive u (length s.cells) x → Boxed u v (ObjectCell (length s.cells))) → Agrees p w s (Some Ref) (Gives v w) (steps.Makes x)
-  both_make_object : (o : Object) (x : Content) → is_object x ≡ true → ObjectFits s o x → Agrees p w s (Some Ref) (Gives (ObjVal (length w.store)) (with_new o w)) (steps.Makes x)
-  both_change : (k c : ℕ) (o : Object) (x : Content) (y : Word) (up : List ℕ) → Changing s k c o x → Agrees p w s None (Acts (with_object k o w)) (steps.Changes c x y up)
-  both_change_answering : (t : RType) (v : Value) (k c : ℕ) (o : Object) (x : Content) (y : Word) (up : List ℕ) → Changing s k c o x → Fits s t (Holds v) y → Agrees p w s (Some t) (Gives v (with_object k o w)) (steps.Changes c x y up)
+  both_make_object : (o : Object) (x : Content) → is_object x ≡ true → ObjectFits s p.classes o x → Agrees p w s (Some Ref) (Gives (ObjVal (length w.store)) (with_new o w)) (steps.Makes x)
+  both_change : (k c : ℕ) (o : Object) (x : Content) (y : Word) (up : List ℕ) → Changing p.classes s k c o x → Agrees p w s None (Acts (with_object k o w)) (steps.Changes c x y up)
+  both_change_answering : (t : RType) (v : Value) (k c : ℕ) (o : Object) (x : Content) (y : Word) (up : List ℕ) → Changing p.classes s k c o x → Fits s t (Holds v) y → Agrees p w s (Some t) (Gives v (with_object k o w)) (steps.Changes c x y up)
   both_make_int : (n : ℤ) → Agrees p w s (Some Int) (Gives (IntVal n) w) (steps.MakesInt n)
   both_write : (t : List ℕ) → Agrees p w s None (Acts (record w { output = w.output ++ t })) (steps.Writes t)
-  both_store : (n : ℕ) (old y : Option Word) (v : Option Value) → GlobalsFit s p.globals (slice_set w.globals n v) (slice_set s.globals n y) → Agrees p w s None (Acts (record w { globals = slice_set w.globals n v })) (steps.Stores n old y)
+  both_store : (n : ℕ) (old y : Option Word) (v : Option Value) → PlacesFit s p.globals (slice_set w.globals n v) (slice_set s.globals n y) → Agrees p w s None (Acts (record w { globals = slice_set w.globals n v })) (steps.Stores n old y)
   both_fail : (o : Option RType) (e : Thrown) (y : Word) → ((t : RType) → o ≡ Some t → Fits s t (error_of t) y) → Agrees p w s o (Fails e w) (steps.Fails y e)
   both_pend : (e : Thrown) (c : ℕ) → IsLive s c (ExcCell e) → Agrees p w s None (Fails e w) (steps.Pends c)
   both_catch : (e : Thrown) (c : ℕ) → IsLive s c (ExcCell e) → Agrees p w s (Some Ref) (Gives (ExcVal e) (record w { pending = None })) (steps.Catches c)
   both_read : (t : List ℕ) (rest : Items) → Agrees p w s (Some Ref) (Gives (StrVal t) (record w { items = rest })) (steps.Reads t rest)
   both_skip : (o : Option RType) (rest : Items) (e : Thrown) (y : Word) → ((t : RType) → o ≡ Some t → Fits s t (error_of t) y) → Agrees p w s o (Fails e (record w { items = rest })) (steps.Skips rest y e)
   both_stop : (o : Option RType) (e : Ending) → EndsBy e w.pending → Agrees p w s o (Ends e w) (steps.Stops e)
+
+-- an effect that asks for no slot's type is the same with registers of any types
+pub typed_agrees : (p : Program) (w : World) (s : MachineState) (declared : Declared) (to : Option Reg) (args : List PArg) (o : Option RType) (x : Effect) (y : steps.Effect) → Agrees p w s o x y → Agrees p w s o (typed declared to args x) y
+typed_agrees p w s declared to args o x y (both_wrong q e) = both_wrong q e
+typed_agrees p w s declared to args o x y (both_say t v z fits) = both_say t v z fits
+typed_agrees p w s declared to args o x y (both_share t v z fits) = both_share t v z fits
+typed_agrees p w s declared to args o x y (both_lend t v z fits) = both_lend t v z fits
+typed_agrees p w s declared to args o x y (both_make v n other fits) = both_make v n other fits
+typed_agrees p w s declared to args o x y (both_make_object q n object fits) = both_make_object q n object fits
+typed_agrees p w s declared to args o x y (both_change k c q n z up a) = both_change k c q n z up a
+typed_agrees p w s declared to args o x y (both_change_answering t v k c q n z up a fits) = both_change_answering t v k c q n z up a fits
+typed_agrees p w s declared to args o x y (both_make_int n) = both_make_int n
+typed_agrees p w s declared to args o x y (both_write t) = both_write t
+typed_agrees p w s declared to args o x y (both_store n old z v fits) = both_store n old z v fits
+typed_agrees p w s declared to args o x y (both_fail q e z fits) = both_fail q e z fits
+typed_agrees p w s declared to args o x y (both_pend e c live) = both_pend e c live
+typed_agrees p w s declared to args o x y (both_catch e c live) = both_catch e c live
+typed_agrees p w s declared to args o x y (both_read t rest) = both_read t rest
+typed_agrees p w s declared to args o x y (both_skip q rest e z fits) = both_skip q rest e z fits
+typed_agrees p w s declared to args o x y (both_stop q e by) = both_stop q e by
 
 -- a target has the type of the answer
 abbrev pub IsTarget : Declared → Option RType → Option Reg → Type 0
@@ -100,9 +122,9 @@ module _ (p : Program) (f : Frame) (below : List Waiting) (s : MachineState) (fu
 
       by : (x : Edge) → Does (Goes t) (failed Fitting p x (next f regs) below v)
       by NoEdge = op_sticks (Goes t)
-      by (Tests r) = seen (is_edge (Tests r) (item_at p f.fn f.block (f.place + 1)))
-      by (TestsTwice r) = seen (is_edge (TestsTwice r) (item_at p f.fn f.block (f.place + 1)))
-      by Jumps = seen (is_edge Jumps (item_at p f.fn f.block (f.place + 1)))
+      by (Tests r) = seen (is_edge (item_at p f.fn) (Tests r) (item_at p f.fn f.block (f.place + 1)))
+      by (TestsTwice r) = seen (is_edge (item_at p f.fn) (TestsTwice r) (item_at p f.fn f.block (f.place + 1)))
+      by Jumps = seen (is_edge (item_at p f.fn) Jumps (item_at p f.fn f.block (f.place + 1)))
 
   -- ---- registers
   pub stayed : (v : World) (u : MachineState) → Beside s u → WorldFits p v u → GoesOn p func.regs s f.regs v (next_line u)
@@ -176,8 +198,8 @@ module _ (p : Program) (f : Frame) (below : List Waiting) (s : MachineState) (fu
             output = world.output;
             turns = world.turns;
             items = refl;
-            store = store_keeps s u keeps refl w.store world.store;
-            globals = globals_grow s u g p.globals w.globals s.globals world.globals;
+            store = store_keeps p.classes s u keeps refl w.store world.store;
+            globals = places_grow s u g p.globals w.globals s.globals world.globals;
             pending = pending_grows s u g w.pending s.pending world.pending;
           },
           made_new s.cells x,
@@ -207,7 +229,7 @@ module _ (p : Program) (f : Frame) (below : List Waiting) (s : MachineState) (fu
         let same : u.made ≡ s.made = unnoted x (length s.cells) other in
         (record { ledger = more (length s.cells) l; top = refl; below = refl; grows = keeps_grows s u keeps same }, world_keeps s u keeps p w refl refl refl same refl refl world)
 
-    is_made_object : (l : Ledger) (o : Object) (x : Content) → is_object x ≡ true → ObjectFits s o x → Beside s (made_noted l x) × WorldFits p (with_new o w) (made_noted l x)
+    is_made_object : (l : Ledger) (o : Object) (x : Content) → is_object x ≡ true → ObjectFits s p.classes o x → Beside s (made_noted l x) × WorldFits p (with_new o w) (made_noted l x)
     is_made_object l o x object fits =
         let u : MachineState = made_noted l x in
         let one : u.made ≡ s.made ++ length s.cells ∷ [] = is_noted x (length s.cells) object in
@@ -217,8 +239,8 @@ module _ (p : Program) (f : Frame) (below : List Waiting) (s : MachineState) (fu
             output = world.output;
             turns = world.turns;
             items = world.items;
-            store = store_makes s u w.store world.store o x refl one fits;
-            globals = globals_grow s u g p.globals w.globals s.globals world.globals;
+            store = store_makes p.classes s u w.store world.store o x refl one fits;
+            globals = places_grow s u g p.globals w.globals s.globals world.globals;
             pending = pending_grows s u g w.pending s.pending world.pending;
           },
         )
@@ -227,7 +249,7 @@ module _ (p : Program) (f : Frame) (below : List Waiting) (s : MachineState) (fu
     abbrev changed : Ledger → ℕ → Content → Word → MachineState
     changed l c x y = with_cells (refill x c s.cells) (with_ledger (more_of (refs_of y) l) s)
 
-    is_changed : (l : Ledger) (k c : ℕ) (o : Object) (x : Content) (y : Word) → Changing s k c o x → Beside s (changed l c x y) × WorldFits p (with_object k o w) (changed l c x y)
+    is_changed : (l : Ledger) (k c : ℕ) (o : Object) (x : Content) (y : Word) → Changing p.classes s k c o x → Beside s (changed l c x y) × WorldFits p (with_object k o w) (changed l c x y)
     is_changed l k c o x y a =
         let u : MachineState = changed l c x y in
         let g : Grows s u = change_grows s u x a.old c refl refl a.live a.object in (
@@ -236,8 +258,8 @@ module _ (p : Program) (f : Frame) (below : List Waiting) (s : MachineState) (fu
             output = world.output;
             turns = world.turns;
             items = world.items;
-            store = store_changes s u w.store world.store k c o x a.old refl refl a.made a.live a.object a.fits;
-            globals = globals_grow s u g p.globals w.globals s.globals world.globals;
+            store = store_changes p.classes s u w.store world.store k c o x a.old refl refl a.made a.live a.object a.fits;
+            globals = places_grow s u g p.globals w.globals s.globals world.globals;
             pending = pending_grows s u g w.pending s.pending world.pending;
           },
         )
@@ -255,8 +277,8 @@ module _ (p : Program) (f : Frame) (below : List Waiting) (s : MachineState) (fu
           output = world.output;
           turns = world.turns;
           items = refl;
-          store = store_keeps s u keeps refl w.store world.store;
-          globals = globals_grow s u g p.globals w.globals s.globals world.globals;
+          store = store_keeps p.classes s u keeps refl w.store world.store;
+          globals = places_grow s u g p.globals w.globals s.globals world.globals;
           pending = made_new s.cells (ExcCell e);
         } in
         (record { ledger = l; top = refl; below = refl; grows = g }, subst (λ z. WorldFits p (record z { pending = Some e }) u) (sym same) at)
@@ -289,8 +311,8 @@ module _ (p : Program) (f : Frame) (below : List Waiting) (s : MachineState) (fu
           output = ap (λ z. z ++ t) world.output;
           turns = world.turns;
           items = world.items;
-          store = store_keeps s u (same_keeps s u refl) refl w.store world.store;
-          globals = globals_grow s u g p.globals w.globals s.globals world.globals;
+          store = store_keeps p.classes s u (same_keeps s u refl) refl w.store world.store;
+          globals = places_grow s u g p.globals w.globals s.globals world.globals;
           pending = pending_grows s u g w.pending s.pending world.pending;
         }))
     none_does e l gone o x y (both_store n old z v fits) =
@@ -301,8 +323,8 @@ module _ (p : Program) (f : Frame) (below : List Waiting) (s : MachineState) (fu
           output = world.output;
           turns = world.turns;
           items = world.items;
-          store = store_keeps s u (same_keeps s u refl) refl w.store world.store;
-          globals = globals_grow s u g p.globals (slice_set w.globals n v) (slice_set s.globals n z) fits;
+          store = store_keeps p.classes s u (same_keeps s u refl) refl w.store world.store;
+          globals = places_grow s u g p.globals (slice_set w.globals n v) (slice_set s.globals n z) fits;
           pending = pending_grows s u g w.pending s.pending world.pending;
         }))
     none_does e l gone o x y (both_fail q z n fits) =
@@ -316,8 +338,8 @@ module _ (p : Program) (f : Frame) (below : List Waiting) (s : MachineState) (fu
           output = world.output;
           turns = world.turns;
           items = world.items;
-          store = store_keeps s u (same_keeps s u refl) refl w.store world.store;
-          globals = globals_grow s u g p.globals w.globals s.globals world.globals;
+          store = store_keeps p.classes s u (same_keeps s u refl) refl w.store world.store;
+          globals = places_grow s u g p.globals w.globals s.globals world.globals;
           pending = live;
         }))
     none_does e l gone o x y (both_catch z c live) = op_sticks _
@@ -396,8 +418,8 @@ module _ (p : Program) (f : Frame) (below : List Waiting) (s : MachineState) (fu
             output = world.output;
             turns = world.turns;
             items = world.items;
-            store = store_keeps s u (same_keeps s u refl) refl w.store world.store;
-            globals = globals_grow s u g p.globals w.globals s.globals world.globals;
+            store = store_keeps p.classes s u (same_keeps s u refl) refl w.store world.store;
+            globals = places_grow s u g p.globals w.globals s.globals world.globals;
             pending = tt;
           }) (subst (λ q. Fits u q (Holds (ExcVal z)) (ObjectCell c)) same (boxed (ExcVal z) (ObjectCell c) (c, refl, live)))
       some_does o is x y (both_read n rest) =

@@ -24,30 +24,13 @@ use Rattle.ir_core.specs.Rows.{Declared}
 use Rattle.ir_core.specs.Effects.{World, Given, Written, number_of_global}
 use Rattle.ir_core.specs.Effects as program
 use Rattle.ir_core.specs.Lower.{kind_of_type, global_of}
-use Rattle.refcount_insert_lines_laws.specs.Matching.{Fits, GlobalsFit, WorldFits}
+use Rattle.refcount_insert_lines_laws.specs.Matching.{Fits, PlacesFit, WorldFits}
 use Rattle.refcount_insert_lines_laws.proofs.ListLemmas.{size_map}
+use Rattle.refcount_insert_lines_laws.proofs.Places.{PlaceFits, first_fits, all_fit}
 use Rattle.refcount_insert_lines_laws.proofs.Words.{error_fits}
 use Rattle.refcount_insert_lines_laws.proofs.Agreeing.{Agrees, both_share, both_store, both_fail}
 
 module _ (s : MachineState) where
-  -- a global of a type is unset, or holds a value and its word
-  abbrev pub GlobalFits : RType → Option Value → Option Word → Type 0
-  GlobalFits t None None = Unit {0}
-  GlobalFits t (Some v) (Some y) = Fits s t (Holds v) y
-  GlobalFits t _ _ = ⊥
-
-  first_fits : (g : List ℕ × RType) (gs : Declared) (v : Option Value) (vs : List (Option Value)) (y : Option Word) (ys : List (Option Word)) → GlobalsFit s (g ∷ gs) (v ∷ vs) (y ∷ ys) → GlobalFits g.1 v y × GlobalsFit s gs vs ys
-  first_fits g gs None vs None ys at = (tt, at)
-  first_fits g gs None vs (Some y) ys at = absurd at
-  first_fits g gs (Some v) vs None ys at = absurd at
-  first_fits g gs (Some v) vs (Some y) ys at = at
-
-  all_fit : (g : List ℕ × RType) (gs : Declared) (v : Option Value) (vs : List (Option Value)) (y : Option Word) (ys : List (Option Word)) → GlobalFits g.1 v y → GlobalsFit s gs vs ys → GlobalsFit s (g ∷ gs) (v ∷ vs) (y ∷ ys)
-  all_fit g gs None vs None ys first rest = rest
-  all_fit g gs None vs (Some y) ys first rest = absurd first
-  all_fit g gs (Some v) vs None ys first rest = absurd first
-  all_fit g gs (Some v) vs (Some y) ys first rest = (first, rest)
-
   -- the first global of a name, with its number, its value and its word
   pub record Found (name : List ℕ) (gs : Declared) (vs : List (Option Value)) (ys : List (Option Word)) : Type 0 where
     pub number : ℕ
@@ -60,10 +43,10 @@ module _ (s : MachineState) where
     pub declared : find (λ g. bytes_eq name g.0) (map global_of gs) ≡ Some (global_of global)
     pub holds : slice_get vs number ≡ Some value
     pub there : slice_get ys number ≡ Some word
-    pub fits : GlobalFits global.1 value word
-    pub put : (v : Option Value) (y : Option Word) → GlobalFits global.1 v y → GlobalsFit s gs (slice_set vs number v) (slice_set ys number y)
+    pub fits : PlaceFits s global.1 value word
+    pub put : (v : Option Value) (y : Option Word) → PlaceFits s global.1 v y → PlacesFit s gs (slice_set vs number v) (slice_set ys number y)
 
-  found : (name : List ℕ) (gs : Declared) (vs : List (Option Value)) (ys : List (Option Word)) → GlobalsFit s gs vs ys → is_some (find (λ (g : List ℕ × Kind). bytes_eq name g.0) (map global_of gs)) ≡ true → Found name gs vs ys
+  found : (name : List ℕ) (gs : Declared) (vs : List (Option Value)) (ys : List (Option Word)) → PlacesFit s gs vs ys → is_some (find (λ (g : List ℕ × Kind). bytes_eq name g.0) (map global_of gs)) ≡ true → Found name gs vs ys
   found name [] vs ys at e = absurd (cc)
   found name (g ∷ gs) [] ys at e = absurd at
   found name (g ∷ gs) (None ∷ vs) [] at e = absurd at
@@ -71,8 +54,8 @@ module _ (s : MachineState) where
   found name (g ∷ gs) (v ∷ vs) (y ∷ ys) at e =
       by (bytes_eq name g.0) refl (λ f. found name gs vs ys both.1 f)
     where
-      both : GlobalFits g.1 v y × GlobalsFit s gs vs ys
-      both = first_fits g gs v vs y ys at
+      both : PlaceFits s g.1 v y × PlacesFit s gs vs ys
+      both = first_fits s g gs v vs y ys at
 
       later : Option (List ℕ × Kind)
       later = find (λ (g : List ℕ × Kind). bytes_eq name g.0) (map global_of gs)
@@ -91,7 +74,7 @@ module _ (s : MachineState) where
             holds = refl;
             there = refl;
             fits = both.0;
-            put = λ u z fits. all_fit g gs u vs z ys fits both.1;
+            put = λ u z fits. all_fit s g gs u vs z ys fits both.1;
           }
       by false is more =
           let r = more (ap (λ c. is_some (cond c (Some (global_of g)) later)) (sym is) ∙ e) in
@@ -107,7 +90,7 @@ module _ (s : MachineState) where
             holds = r.holds;
             there = r.there;
             fits = r.fits;
-            put = λ u z fits. all_fit g gs v (slice_set vs r.number u) y (slice_set ys r.number z) both.0 (r.put u z fits);
+            put = λ u z fits. all_fit s g gs v (slice_set vs r.number u) y (slice_set ys r.number z) both.0 (r.put u z fits);
           }
 
 by_number : (i n size : ℕ) → i ≡ n → n < size → cond (nat_lt i size) (Some i) None ≡ Some n
@@ -155,7 +138,7 @@ module _ (p : Program) (code : Code) (globals : code.globals ≡ map global_of p
   abbrev k : Kind
   k = kind_of_type t
 
-  got_row : (v : Option Value) (y : Option Word) → GlobalFits s t v y → Agrees p w s (Some t) (program.got name (Some v) w) (steps.got name (Some k) (Some y))
+  got_row : (v : Option Value) (y : Option Word) → PlaceFits s t v y → Agrees p w s (Some t) (program.got name (Some v) w) (steps.got name (Some k) (Some y))
   got_row None None fits =
       both_fail (Some t) _ (error_word k) (λ u is. let same : t ≡ u = cc in subst (λ z. Fits s z (error_of z) (error_word k)) same (error_fits s t))
   got_row None (Some y) fits = absurd fits
@@ -168,7 +151,7 @@ module _ (p : Program) (code : Code) (globals : code.globals ≡ map global_of p
       (subst (λ o. Agrees p w s (Some t) (program.got name (Some the_global.value) w) (steps.got name o (steps.global_at code s name))) (sym kind_is_there)
       (subst (λ o. Agrees p w s (Some t) (program.got name (Some the_global.value) w) (steps.got name (Some k) o)) (sym held_by_text) (got_row the_global.value the_global.word the_global.fits)))
 
-  stored_row : (v : Option Value) (y : Option Word) → GlobalFits s t v y → Agrees p w s None (program.stored (number_of_global p name) (program.global_at p w name) v w) (steps.stored (number_in_text code name) (steps.global_at code s name) y)
+  stored_row : (v : Option Value) (y : Option Word) → PlaceFits s t v y → Agrees p w s None (program.stored (number_of_global p name) (program.global_at p w name) v w) (steps.stored (number_in_text code name) (steps.global_at code s name) y)
   stored_row v y fits =
       let n : ℕ = the_global.number in
       let does : program.stored (number_of_global p name) (program.global_at p w name) v w ≡ program.Acts (record w { globals = slice_set w.globals n v }) =

@@ -1,4 +1,5 @@
 pub mod ListLemmas
+pub mod Places
 pub mod Growing
 pub mod Facts
 pub mod Words
@@ -7,8 +8,11 @@ pub mod Agreeing
 pub mod Rows
 pub mod Refusing
 pub mod Globals
+pub mod Instances
 pub mod RowFacts
 pub mod Operations
 pub mod Tests
 pub mod Returns
+pub mod Names
 pub mod Calls
+pub mod Methods

@@ -8,6 +8,7 @@ use Rattle.value_core.specs.Value.{Value, IntVal, BoolVal, NoneVal, StrVal, Tupl
 use Rattle.c_core.specs.declared.code.Kind.TheVariants.{Tagged, Int64, Char, Object as ObjectKind}
 use Rattle.c_core.specs.declared.code.CArg.{CArg}
 use Rattle.c_core.specs.declared.code.CArg.TheVariants as c_arg
+use Rattle.c_core.specs.declared.code.CClass.{CClass}
 use Rattle.c_core.specs.declared.code.Code.{Code}
 use Rattle.c_core.specs.declared.fault.Fault.TheVariants as fault
 use Rattle.c_core.specs.Cells.{content_at}
@@ -33,7 +34,7 @@ use Rattle.ir_core.specs.Effects.{World, Argument, Given, Written, key_of_value}
 use Rattle.ir_core.specs.Meaning.{Config, Stuck, value_of, argument, arguments}
 use Rattle.ir_core.specs.Meaning as meaning
 use Rattle.ir_core.specs.Lower.{kind_of_type, variable_of, argument_in}
-use Rattle.refcount_insert_lines_laws.specs.Matching.{Boxed, PartsBoxed, AllBoxed, PairsBoxed, ObjectFits, ObjectAt, StoreFits, Fits, short, big, native, char_true, char_false, boxed, RegsFit}
+use Rattle.refcount_insert_lines_laws.specs.Matching.{slot_typed, Boxed, PartsBoxed, AllBoxed, PairsBoxed, PlacesFit, AttributesFit, ObjectFits, ObjectAt, StoreFits, Fits, short, big, native, char_true, char_false, boxed, RegsFit}
 use Rattle.refcount_insert_lines_laws.specs.Matching.{truth_object}
 use Rattle.refcount_insert_lines_laws.proofs.ListLemmas.{get_within}
 use Rattle.refcount_insert_lines_laws.proofs.Words.{value_word}
@@ -63,13 +64,16 @@ pub data Meets (w : World) (s : MachineState) (code : Code) : Parameter → Argu
   is_list : (k c : ℕ) (items : List Value) (words : List Word) → slice_get w.store k ≡ Some (ListObj items) → slice_get s.made k ≡ Some c → IsLive s c (ListCell words) → AllBoxed s items words → Meets w s code (Borrows (Is ObjectKind) AList) (Given (ObjVal k)) (Cell c (ListCell words))
   is_tuple : (parts : _) (c : ℕ) (words : List Word) → PartsBoxed s parts words → Meets w s code (Borrows (Is ObjectKind) ATuple) (Given (TupleVal parts)) (Cell c (TupleCell words))
   is_dict : (k c : ℕ) (pairs : List (Value × Value)) (words : List (Word × Word)) → slice_get w.store k ≡ Some (DictObj pairs) → slice_get s.made k ≡ Some c → IsLive s c (DictCell words) → PairsBoxed s pairs words → Meets w s code (Borrows (Is ObjectKind) ADict) (Given (ObjVal k)) (Cell c (DictCell words))
+  is_instance : (k c class : ℕ) (attributes : List (Option Value)) (words : List (Option Word)) (kept : CClass) → slice_get w.store k ≡ Some (InstObj class attributes) → slice_get s.made k ≡ Some c → IsLive s c (InstCell class words) → slice_get code.classes class ≡ Some kept → PlacesFit s (map slot_typed kept.attrs) attributes words → Meets w s code (Borrows (Is ObjectKind) AnInstance) (Given (ObjVal k)) (Cell c (InstCell class words))
   is_a_key : (v : Value) (y : Word) (a : machines.Argument) (k : Key) → Boxed s v y → key_of_value v ≡ Some k → key_as a ≡ Some k → Meets w s code (Borrows (Is ObjectKind) AKey) (Given v) a
   owns_key : (v : Value) (y : Word) (a : machines.Argument) (k : Key) → Boxed s v y → key_of_value v ≡ Some k → key_as a ≡ Some k → word_in ObjectKind a ≡ Some y → Meets w s code (Steals (Is ObjectKind) AKey) (Given v) a
   writes_number : (n : ℤ) → Meets w s code TakesNumber (Written (arg.Number n)) (machines.Written (c_arg.Number n))
+  writes_place : (n : ℤ) → Meets w s code TakesPlace (Written (arg.Number n)) (machines.Written (c_arg.Number n))
   writes_text : (t : List ℕ) → Meets w s code TakesText (Written (arg.Text t)) (machines.Written (c_arg.Text t))
   writes_decimal : (t : List ℕ) → Meets w s code TakesDecimal (Written (arg.Text t)) (machines.Written (c_arg.Text t))
   writes_exception : (t : List ℕ) → Meets w s code TakesException (Written (arg.Text t)) (machines.Written (c_arg.Text t))
   writes_global : (name : List ℕ) → is_some (kind_of_global code name) ≡ true → Meets w s code TakesGlobal (Written (arg.Global name)) (machines.Written (c_arg.Global name))
+  writes_class : (name : List ℕ) → Meets w s code TakesClass (Written (arg.Class name)) (machines.Written (c_arg.Class name))
 
 pub data AllMeet (w : World) (s : MachineState) (code : Code) : List Parameter → List Argument → List machines.Argument → Type 0 where
   no_more : AllMeet w s code [] [] []
@@ -84,6 +88,10 @@ is_list_object _ = false
 abbrev pub is_dict_object : Option Object → Bool
 is_dict_object (Some (DictObj pairs)) = true
 is_dict_object _ = false
+
+abbrev pub is_instance_object : Option Object → Bool
+is_instance_object (Some (InstObj class attributes)) = true
+is_instance_object _ = false
 
 abbrev pub suits : World → Holding → Value → Bool
 suits w Anything v = true
@@ -100,7 +108,8 @@ suits w ATuple _ = false
 suits w ADict (ObjVal k) = is_dict_object (slice_get w.store k)
 suits w ADict _ = false
 suits w AKey v = is_some (key_of_value v)
-suits w AnInstance v = false
+suits w AnInstance (ObjVal k) = is_instance_object (slice_get w.store k)
+suits w AnInstance _ = false
 
 abbrev pub suited : World → Parameter → Argument → Bool
 suited w (Borrows k h) (Given v) = suits w h v
@@ -129,13 +138,16 @@ meets_suits w s code q v a (is_stolen e c live) = refl
 meets_suits w s code q v a (is_list k c items words at made live m) = ap is_list_object at
 meets_suits w s code q v a (is_tuple parts c words m) = refl
 meets_suits w s code q v a (is_dict k c pairs words at made live m) = ap is_dict_object at
+meets_suits w s code q v a (is_instance k c class attributes words kept at made live there m) = ap is_instance_object at
 meets_suits w s code q v a (is_a_key u y x k m has found) = ap is_some has
 meets_suits w s code q v a (owns_key u y x k m has found e) = ap is_some has
 meets_suits w s code q v a (writes_number n) = refl
+meets_suits w s code q v a (writes_place n) = refl
 meets_suits w s code q v a (writes_text t) = refl
 meets_suits w s code q v a (writes_decimal t) = refl
 meets_suits w s code q v a (writes_exception t) = refl
 meets_suits w s code q v a (writes_global name known) = refl
+meets_suits w s code q v a (writes_class name) = refl
 
 -- the parameters that are read here
 abbrev pub is_read : Parameter → Bool
@@ -149,10 +161,12 @@ is_read (Steals (Is ObjectKind) AKey) = true
 is_read (Steals (Is ObjectKind) Anything) = true
 is_read (MaySteal (Is ObjectKind) Anything) = true
 is_read TakesNumber = true
+is_read TakesPlace = true
 is_read TakesText = true
 is_read TakesDecimal = true
 is_read TakesException = true
 is_read TakesGlobal = true
+is_read TakesClass = true
 is_read _ = false
 
 abbrev pub are_read : List Parameter → Bool
@@ -160,21 +174,22 @@ are_read [] = true
 are_read (q ∷ qs) = is_read q && are_read qs
 
 -- ---- objects
-module _ (w : World) (s : MachineState) (store : StoreFits s w.store) where
+module _ (code : Code) (w : World) (s : MachineState) (store : StoreFits s code.classes w.store) where
   -- an object of a value has a content, which is its object's
-  pub object_content : (k c : ℕ) (x : Content) → slice_get s.made k ≡ Some c → IsLive s c x → (o : Object) × (slice_get w.store k ≡ Some o) × ObjectFits s o x
+  pub object_content : (k c : ℕ) (x : Content) → slice_get s.made k ≡ Some c → IsLive s c x → (o : Object) × (slice_get w.store k ≡ Some o) × ObjectFits s code.classes o x
   object_content k c x made live =
       let o = get_within w.store k (omega (arith, slice_get_within s.made k c made, store.size)) in
-      let at : ObjectAt s o.0 k = store.objects k o.0 o.1 in
+      let at : ObjectAt s code.classes o.0 k = store.objects k o.0 o.1 in
       let both : Some at.c ≡ Some c = sym at.made ∙ made in
       let same : at.c ≡ c = cc in
       let contents : Some at.content ≡ Some x = sym at.live ∙ (ap (λ z. content_at s.cells z) same ∙ live) in
       let content : at.content ≡ x = cc in
-      (o.0, o.1, subst (ObjectFits s o.0) content at.fits)
+      (o.0, o.1, subst (ObjectFits s code.classes o.0) content at.fits)
 
-  object_holds : (o : Object) (x : Content) → ObjectFits s o x → (h : Holding) (k c : ℕ) → slice_get w.store k ≡ Some o → is_holding h (Cell c x) ≡ suits w h (ObjVal k)
+  object_holds : (o : Object) (x : Content) → ObjectFits s code.classes o x → (h : Holding) (k c : ℕ) → slice_get w.store k ≡ Some o → is_holding h (Cell c x) ≡ suits w h (ObjVal k)
   object_holds (ListObj items) (ListCell words) m AList k c e = ap is_list_object (sym e)
   object_holds (ListObj items) (ListCell words) m ADict k c e = ap is_dict_object (sym e)
+  object_holds (ListObj items) (ListCell words) m AnInstance k c e = ap is_instance_object (sym e)
   object_holds (ListObj items) (ListCell words) m _ k c e = refl
   object_holds (ListObj items) (IntCell n) m h k c e = absurd m
   object_holds (ListObj items) (StrCell n) m h k c e = absurd m
@@ -184,6 +199,7 @@ module _ (w : World) (s : MachineState) (store : StoreFits s w.store) where
   object_holds (ListObj items) (ExcCell n) m h k c e = absurd m
   object_holds (DictObj pairs) (DictCell words) m AList k c e = ap is_list_object (sym e)
   object_holds (DictObj pairs) (DictCell words) m ADict k c e = ap is_dict_object (sym e)
+  object_holds (DictObj pairs) (DictCell words) m AnInstance k c e = ap is_instance_object (sym e)
   object_holds (DictObj pairs) (DictCell words) m _ k c e = refl
   object_holds (DictObj pairs) (IntCell n) m h k c e = absurd m
   object_holds (DictObj pairs) (StrCell n) m h k c e = absurd m
@@ -191,7 +207,16 @@ module _ (w : World) (s : MachineState) (store : StoreFits s w.store) where
   object_holds (DictObj pairs) (TupleCell n) m h k c e = absurd m
   object_holds (DictObj pairs) (InstCell n a) m h k c e = absurd m
   object_holds (DictObj pairs) (ExcCell n) m h k c e = absurd m
-  object_holds (InstObj class attributes) x m h k c e = absurd m
+  object_holds (InstObj class attributes) (InstCell n words) m AList k c e = ap is_list_object (sym e)
+  object_holds (InstObj class attributes) (InstCell n words) m ADict k c e = ap is_dict_object (sym e)
+  object_holds (InstObj class attributes) (InstCell n words) m AnInstance k c e = ap is_instance_object (sym e)
+  object_holds (InstObj class attributes) (InstCell n words) m _ k c e = refl
+  object_holds (InstObj class attributes) (IntCell n) m h k c e = absurd m
+  object_holds (InstObj class attributes) (StrCell n) m h k c e = absurd m
+  object_holds (InstObj class attributes) (ListCell n) m h k c e = absurd m
+  object_holds (InstObj class attributes) (DictCell n) m h k c e = absurd m
+  object_holds (InstObj class attributes) (TupleCell n) m h k c e = absurd m
+  object_holds (InstObj class attributes) (ExcCell n) m h k c e = absurd m
 
   int_holds : (h : Holding) (n : ℤ) (c : ℕ) → is_holding h (Cell c (IntCell n)) ≡ suits w h (IntVal n)
   int_holds ANumber n c = refl
@@ -262,7 +287,7 @@ module _ (w : World) (s : MachineState) (store : StoreFits s w.store) where
       ap (λ i. Cell i u) same ∙ ap (Cell c) content
 
   -- an object is no key, and the key that a word is is that of its value
-  no_key : (o : Object) (x : Content) → ObjectFits s o x → key_in x ≡ None
+  no_key : (o : Object) (x : Content) → ObjectFits s code.classes o x → key_in x ≡ None
   no_key (ListObj items) (ListCell words) m = refl
   no_key (ListObj items) (IntCell n) m = absurd m
   no_key (ListObj items) (StrCell n) m = absurd m
@@ -277,7 +302,13 @@ module _ (w : World) (s : MachineState) (store : StoreFits s w.store) where
   no_key (DictObj pairs) (TupleCell n) m = absurd m
   no_key (DictObj pairs) (InstCell n a) m = absurd m
   no_key (DictObj pairs) (ExcCell n) m = absurd m
-  no_key (InstObj class attributes) x m = absurd m
+  no_key (InstObj class attributes) (InstCell n words) m = refl
+  no_key (InstObj class attributes) (IntCell n) m = absurd m
+  no_key (InstObj class attributes) (StrCell n) m = absurd m
+  no_key (InstObj class attributes) (ListCell n) m = absurd m
+  no_key (InstObj class attributes) (DictCell n) m = absurd m
+  no_key (InstObj class attributes) (TupleCell n) m = absurd m
+  no_key (InstObj class attributes) (ExcCell n) m = absurd m
 
   pub word_key : (v : Value) (y : Word) → Boxed s v y → key_of s.cells y ≡ key_of_value v
   word_key (IntVal n) y m = ap (key_of s.cells) m.1 ∙ ap (option_and_then key_in) m.2
@@ -302,105 +333,133 @@ module _ (w : World) (s : MachineState) (store : StoreFits s w.store) where
   some_key (Some k) e = (k, refl)
 
   -- what is asked for is met
-  module _ (code : Code) where
-    box_meets : (v : Value) (y : Word) (a : machines.Argument) → Boxed s v y → IsRead s y a → suits w ANumber v ≡ true → Meets w s code (Borrows (Is ObjectKind) ANumber) (Given v) a
-    box_meets (IntVal n) y a m r e = subst (Meets w s code (Borrows (Is ObjectKind) ANumber) (Given (IntVal n))) (sym (cell_is m.0 (IntCell n) a y m.1 m.2 r)) (is_box n m.0 m.2)
-    box_meets (BoolVal b) y a m r e = absurd (cc)
-    box_meets NoneVal y a m r e = absurd (cc)
-    box_meets (StrVal t) y a m r e = absurd (cc)
-    box_meets (TupleVal parts) y a m r e = absurd (cc)
-    box_meets (ExcVal x) y a m r e = absurd (cc)
-    box_meets (ObjVal k) y a m r e = absurd (cc)
+  box_meets : (v : Value) (y : Word) (a : machines.Argument) → Boxed s v y → IsRead s y a → suits w ANumber v ≡ true → Meets w s code (Borrows (Is ObjectKind) ANumber) (Given v) a
+  box_meets (IntVal n) y a m r e = subst (Meets w s code (Borrows (Is ObjectKind) ANumber) (Given (IntVal n))) (sym (cell_is m.0 (IntCell n) a y m.1 m.2 r)) (is_box n m.0 m.2)
+  box_meets (BoolVal b) y a m r e = absurd (cc)
+  box_meets NoneVal y a m r e = absurd (cc)
+  box_meets (StrVal t) y a m r e = absurd (cc)
+  box_meets (TupleVal parts) y a m r e = absurd (cc)
+  box_meets (ExcVal x) y a m r e = absurd (cc)
+  box_meets (ObjVal k) y a m r e = absurd (cc)
 
-    text_meets : (v : Value) (y : Word) (a : machines.Argument) → Boxed s v y → IsRead s y a → suits w AText v ≡ true → Meets w s code (Borrows (Is ObjectKind) AText) (Given v) a
-    text_meets (StrVal t) y a m r e = subst (Meets w s code (Borrows (Is ObjectKind) AText) (Given (StrVal t))) (sym (cell_is m.0 (StrCell t) a y m.1 m.2 r)) (is_text t m.0)
-    text_meets (IntVal n) y a m r e = absurd (cc)
-    text_meets (BoolVal b) y a m r e = absurd (cc)
-    text_meets NoneVal y a m r e = absurd (cc)
-    text_meets (TupleVal parts) y a m r e = absurd (cc)
-    text_meets (ExcVal x) y a m r e = absurd (cc)
-    text_meets (ObjVal k) y a m r e = absurd (cc)
+  text_meets : (v : Value) (y : Word) (a : machines.Argument) → Boxed s v y → IsRead s y a → suits w AText v ≡ true → Meets w s code (Borrows (Is ObjectKind) AText) (Given v) a
+  text_meets (StrVal t) y a m r e = subst (Meets w s code (Borrows (Is ObjectKind) AText) (Given (StrVal t))) (sym (cell_is m.0 (StrCell t) a y m.1 m.2 r)) (is_text t m.0)
+  text_meets (IntVal n) y a m r e = absurd (cc)
+  text_meets (BoolVal b) y a m r e = absurd (cc)
+  text_meets NoneVal y a m r e = absurd (cc)
+  text_meets (TupleVal parts) y a m r e = absurd (cc)
+  text_meets (ExcVal x) y a m r e = absurd (cc)
+  text_meets (ObjVal k) y a m r e = absurd (cc)
 
-    exception_meets : (v : Value) (y : Word) (a : machines.Argument) → Boxed s v y → IsRead s y a → suits w AnException v ≡ true → Meets w s code (Borrows (Is ObjectKind) AnException) (Given v) a × Meets w s code (Steals (Is ObjectKind) AnException) (Given v) a
-    exception_meets (ExcVal x) y a m r e =
-        let same = sym (cell_is m.0 (ExcCell x) a y m.1 m.2 r) in
-        (subst (Meets w s code (Borrows (Is ObjectKind) AnException) (Given (ExcVal x))) same (is_exception x m.0), subst (Meets w s code (Steals (Is ObjectKind) AnException) (Given (ExcVal x))) same (is_stolen x m.0 m.2))
-    exception_meets (IntVal n) y a m r e = absurd (cc)
-    exception_meets (BoolVal b) y a m r e = absurd (cc)
-    exception_meets NoneVal y a m r e = absurd (cc)
-    exception_meets (StrVal t) y a m r e = absurd (cc)
-    exception_meets (TupleVal parts) y a m r e = absurd (cc)
-    exception_meets (ObjVal k) y a m r e = absurd (cc)
+  exception_meets : (v : Value) (y : Word) (a : machines.Argument) → Boxed s v y → IsRead s y a → suits w AnException v ≡ true → Meets w s code (Borrows (Is ObjectKind) AnException) (Given v) a × Meets w s code (Steals (Is ObjectKind) AnException) (Given v) a
+  exception_meets (ExcVal x) y a m r e =
+      let same = sym (cell_is m.0 (ExcCell x) a y m.1 m.2 r) in
+      (subst (Meets w s code (Borrows (Is ObjectKind) AnException) (Given (ExcVal x))) same (is_exception x m.0), subst (Meets w s code (Steals (Is ObjectKind) AnException) (Given (ExcVal x))) same (is_stolen x m.0 m.2))
+  exception_meets (IntVal n) y a m r e = absurd (cc)
+  exception_meets (BoolVal b) y a m r e = absurd (cc)
+  exception_meets NoneVal y a m r e = absurd (cc)
+  exception_meets (StrVal t) y a m r e = absurd (cc)
+  exception_meets (TupleVal parts) y a m r e = absurd (cc)
+  exception_meets (ObjVal k) y a m r e = absurd (cc)
 
-    tuple_meets : (v : Value) (y : Word) (a : machines.Argument) → Boxed s v y → IsRead s y a → suits w ATuple v ≡ true → Meets w s code (Borrows (Is ObjectKind) ATuple) (Given v) a
-    tuple_meets (TupleVal parts) y a m r e = subst (Meets w s code (Borrows (Is ObjectKind) ATuple) (Given (TupleVal parts))) (sym (cell_is m.0 (TupleCell m.2.0) a y m.1 m.2.1 r)) (is_tuple parts m.0 m.2.0 m.2.2)
-    tuple_meets (IntVal n) y a m r e = absurd (cc)
-    tuple_meets (BoolVal b) y a m r e = absurd (cc)
-    tuple_meets NoneVal y a m r e = absurd (cc)
-    tuple_meets (StrVal t) y a m r e = absurd (cc)
-    tuple_meets (ExcVal x) y a m r e = absurd (cc)
-    tuple_meets (ObjVal k) y a m r e = absurd (cc)
+  tuple_meets : (v : Value) (y : Word) (a : machines.Argument) → Boxed s v y → IsRead s y a → suits w ATuple v ≡ true → Meets w s code (Borrows (Is ObjectKind) ATuple) (Given v) a
+  tuple_meets (TupleVal parts) y a m r e = subst (Meets w s code (Borrows (Is ObjectKind) ATuple) (Given (TupleVal parts))) (sym (cell_is m.0 (TupleCell m.2.0) a y m.1 m.2.1 r)) (is_tuple parts m.0 m.2.0 m.2.2)
+  tuple_meets (IntVal n) y a m r e = absurd (cc)
+  tuple_meets (BoolVal b) y a m r e = absurd (cc)
+  tuple_meets NoneVal y a m r e = absurd (cc)
+  tuple_meets (StrVal t) y a m r e = absurd (cc)
+  tuple_meets (ExcVal x) y a m r e = absurd (cc)
+  tuple_meets (ObjVal k) y a m r e = absurd (cc)
 
-    list_by : (k c : ℕ) (o : Object) (x : Content) → slice_get w.store k ≡ Some o → slice_get s.made k ≡ Some c → IsLive s c x → ObjectFits s o x → is_list_object (Some o) ≡ true → Meets w s code (Borrows (Is ObjectKind) AList) (Given (ObjVal k)) (Cell c x)
-    list_by k c (ListObj items) (ListCell words) at made live m e = is_list k c items words at made live m
-    list_by k c (ListObj items) (IntCell n) at made live m e = absurd m
-    list_by k c (ListObj items) (StrCell n) at made live m e = absurd m
-    list_by k c (ListObj items) (DictCell n) at made live m e = absurd m
-    list_by k c (ListObj items) (TupleCell n) at made live m e = absurd m
-    list_by k c (ListObj items) (InstCell n b) at made live m e = absurd m
-    list_by k c (ListObj items) (ExcCell n) at made live m e = absurd m
-    list_by k c (DictObj pairs) x at made live m e = absurd (cc)
-    list_by k c (InstObj class attributes) x at made live m e = absurd m
+  list_by : (k c : ℕ) (o : Object) (x : Content) → slice_get w.store k ≡ Some o → slice_get s.made k ≡ Some c → IsLive s c x → ObjectFits s code.classes o x → is_list_object (Some o) ≡ true → Meets w s code (Borrows (Is ObjectKind) AList) (Given (ObjVal k)) (Cell c x)
+  list_by k c (ListObj items) (ListCell words) at made live m e = is_list k c items words at made live m
+  list_by k c (ListObj items) (IntCell n) at made live m e = absurd m
+  list_by k c (ListObj items) (StrCell n) at made live m e = absurd m
+  list_by k c (ListObj items) (DictCell n) at made live m e = absurd m
+  list_by k c (ListObj items) (TupleCell n) at made live m e = absurd m
+  list_by k c (ListObj items) (InstCell n b) at made live m e = absurd m
+  list_by k c (ListObj items) (ExcCell n) at made live m e = absurd m
+  list_by k c (DictObj pairs) x at made live m e = absurd (cc)
+  list_by k c (InstObj class attributes) x at made live m e = absurd (cc)
 
-    list_meets : (v : Value) (y : Word) (a : machines.Argument) → Boxed s v y → IsRead s y a → suits w AList v ≡ true → Meets w s code (Borrows (Is ObjectKind) AList) (Given v) a
-    list_meets (ObjVal k) y a m r e =
-        let o = object_content k m.0 m.3.0 m.2 m.3.1 in
-        subst (Meets w s code (Borrows (Is ObjectKind) AList) (Given (ObjVal k))) (sym (cell_is m.0 m.3.0 a y m.1 m.3.1 r)) (list_by k m.0 o.0 m.3.0 o.1 m.2 m.3.1 o.2 (ap is_list_object (sym o.1) ∙ e))
-    list_meets (IntVal n) y a m r e = absurd (cc)
-    list_meets (BoolVal b) y a m r e = absurd (cc)
-    list_meets NoneVal y a m r e = absurd (cc)
-    list_meets (StrVal t) y a m r e = absurd (cc)
-    list_meets (TupleVal parts) y a m r e = absurd (cc)
-    list_meets (ExcVal x) y a m r e = absurd (cc)
+  list_meets : (v : Value) (y : Word) (a : machines.Argument) → Boxed s v y → IsRead s y a → suits w AList v ≡ true → Meets w s code (Borrows (Is ObjectKind) AList) (Given v) a
+  list_meets (ObjVal k) y a m r e =
+      let o = object_content k m.0 m.3.0 m.2 m.3.1 in
+      subst (Meets w s code (Borrows (Is ObjectKind) AList) (Given (ObjVal k))) (sym (cell_is m.0 m.3.0 a y m.1 m.3.1 r)) (list_by k m.0 o.0 m.3.0 o.1 m.2 m.3.1 o.2 (ap is_list_object (sym o.1) ∙ e))
+  list_meets (IntVal n) y a m r e = absurd (cc)
+  list_meets (BoolVal b) y a m r e = absurd (cc)
+  list_meets NoneVal y a m r e = absurd (cc)
+  list_meets (StrVal t) y a m r e = absurd (cc)
+  list_meets (TupleVal parts) y a m r e = absurd (cc)
+  list_meets (ExcVal x) y a m r e = absurd (cc)
 
-    dict_by : (k c : ℕ) (o : Object) (x : Content) → slice_get w.store k ≡ Some o → slice_get s.made k ≡ Some c → IsLive s c x → ObjectFits s o x → is_dict_object (Some o) ≡ true → Meets w s code (Borrows (Is ObjectKind) ADict) (Given (ObjVal k)) (Cell c x)
-    dict_by k c (DictObj pairs) (DictCell words) at made live m e = is_dict k c pairs words at made live m
-    dict_by k c (DictObj pairs) (IntCell n) at made live m e = absurd m
-    dict_by k c (DictObj pairs) (StrCell n) at made live m e = absurd m
-    dict_by k c (DictObj pairs) (ListCell n) at made live m e = absurd m
-    dict_by k c (DictObj pairs) (TupleCell n) at made live m e = absurd m
-    dict_by k c (DictObj pairs) (InstCell n b) at made live m e = absurd m
-    dict_by k c (DictObj pairs) (ExcCell n) at made live m e = absurd m
-    dict_by k c (ListObj items) x at made live m e = absurd (cc)
-    dict_by k c (InstObj class attributes) x at made live m e = absurd m
+  dict_by : (k c : ℕ) (o : Object) (x : Content) → slice_get w.store k ≡ Some o → slice_get s.made k ≡ Some c → IsLive s c x → ObjectFits s code.classes o x → is_dict_object (Some o) ≡ true → Meets w s code (Borrows (Is ObjectKind) ADict) (Given (ObjVal k)) (Cell c x)
+  dict_by k c (DictObj pairs) (DictCell words) at made live m e = is_dict k c pairs words at made live m
+  dict_by k c (DictObj pairs) (IntCell n) at made live m e = absurd m
+  dict_by k c (DictObj pairs) (StrCell n) at made live m e = absurd m
+  dict_by k c (DictObj pairs) (ListCell n) at made live m e = absurd m
+  dict_by k c (DictObj pairs) (TupleCell n) at made live m e = absurd m
+  dict_by k c (DictObj pairs) (InstCell n b) at made live m e = absurd m
+  dict_by k c (DictObj pairs) (ExcCell n) at made live m e = absurd m
+  dict_by k c (ListObj items) x at made live m e = absurd (cc)
+  dict_by k c (InstObj class attributes) x at made live m e = absurd (cc)
 
-    dict_meets : (v : Value) (y : Word) (a : machines.Argument) → Boxed s v y → IsRead s y a → suits w ADict v ≡ true → Meets w s code (Borrows (Is ObjectKind) ADict) (Given v) a
-    dict_meets (ObjVal k) y a m r e =
-        let o = object_content k m.0 m.3.0 m.2 m.3.1 in
-        subst (Meets w s code (Borrows (Is ObjectKind) ADict) (Given (ObjVal k))) (sym (cell_is m.0 m.3.0 a y m.1 m.3.1 r)) (dict_by k m.0 o.0 m.3.0 o.1 m.2 m.3.1 o.2 (ap is_dict_object (sym o.1) ∙ e))
-    dict_meets (IntVal n) y a m r e = absurd (cc)
-    dict_meets (BoolVal b) y a m r e = absurd (cc)
-    dict_meets NoneVal y a m r e = absurd (cc)
-    dict_meets (StrVal t) y a m r e = absurd (cc)
-    dict_meets (TupleVal parts) y a m r e = absurd (cc)
-    dict_meets (ExcVal x) y a m r e = absurd (cc)
+  dict_meets : (v : Value) (y : Word) (a : machines.Argument) → Boxed s v y → IsRead s y a → suits w ADict v ≡ true → Meets w s code (Borrows (Is ObjectKind) ADict) (Given v) a
+  dict_meets (ObjVal k) y a m r e =
+      let o = object_content k m.0 m.3.0 m.2 m.3.1 in
+      subst (Meets w s code (Borrows (Is ObjectKind) ADict) (Given (ObjVal k))) (sym (cell_is m.0 m.3.0 a y m.1 m.3.1 r)) (dict_by k m.0 o.0 m.3.0 o.1 m.2 m.3.1 o.2 (ap is_dict_object (sym o.1) ∙ e))
+  dict_meets (IntVal n) y a m r e = absurd (cc)
+  dict_meets (BoolVal b) y a m r e = absurd (cc)
+  dict_meets NoneVal y a m r e = absurd (cc)
+  dict_meets (StrVal t) y a m r e = absurd (cc)
+  dict_meets (TupleVal parts) y a m r e = absurd (cc)
+  dict_meets (ExcVal x) y a m r e = absurd (cc)
 
-    key_meets : (v : Value) (y : Word) (a : machines.Argument) → Boxed s v y → IsRead s y a → suits w AKey v ≡ true → Meets w s code (Borrows (Is ObjectKind) AKey) (Given v) a × Meets w s code (Steals (Is ObjectKind) AKey) (Given v) a
-    key_meets v y a m r e =
-        let k = some_key (key_of_value v) e in
-        let same : key_as a ≡ Some k.0 = key_read y a r ∙ (word_key v y m ∙ k.1) in
-        (is_a_key v y a k.0 m k.1 same, owns_key v y a k.0 m k.1 same (word_read y a r))
+  class_there : (o : Option CClass) (attributes : List (Option Value)) (words : List (Option Word)) → AttributesFit s o attributes words → (kept : CClass) × (o ≡ Some kept) × PlacesFit s (map slot_typed kept.attrs) attributes words
+  class_there None attributes words m = absurd m
+  class_there (Some kept) attributes words m = (kept, refl, m)
 
-    pub held_meets : (h : Holding) (v : Value) (y : Word) (a : machines.Argument) → Boxed s v y → IsRead s y a → suits w h v ≡ true → Meets w s code (Borrows (Is ObjectKind) h) (Given v) a
-    held_meets Anything v y a m r e = is_any v y a m r
-    held_meets ANumber v y a m r e = box_meets v y a m r e
-    held_meets AText v y a m r e = text_meets v y a m r e
-    held_meets AnException v y a m r e = (exception_meets v y a m r e).0
-    held_meets AList v y a m r e = list_meets v y a m r e
-    held_meets ATuple v y a m r e = tuple_meets v y a m r e
-    held_meets ADict v y a m r e = dict_meets v y a m r e
-    held_meets AKey v y a m r e = (key_meets v y a m r e).0
-    held_meets AnInstance v y a m r e = absurd (cc)
+  instance_by : (k c : ℕ) (o : Object) (x : Content) → slice_get w.store k ≡ Some o → slice_get s.made k ≡ Some c → IsLive s c x → ObjectFits s code.classes o x → is_instance_object (Some o) ≡ true → Meets w s code (Borrows (Is ObjectKind) AnInstance) (Given (ObjVal k)) (Cell c x)
+  instance_by k c (InstObj class attributes) (InstCell n words) at made live m e =
+      let kept = class_there (slice_get code.classes class) attributes words m.1 in
+      subst (λ i. Meets w s code (Borrows (Is ObjectKind) AnInstance) (Given (ObjVal k)) (Cell c (InstCell i words))) m.0
+      (is_instance k c class attributes words kept.0 at made (subst (λ i. IsLive s c (InstCell i words)) (sym m.0) live) kept.1 kept.2)
+  instance_by k c (InstObj class attributes) (IntCell n) at made live m e = absurd m
+  instance_by k c (InstObj class attributes) (StrCell n) at made live m e = absurd m
+  instance_by k c (InstObj class attributes) (ListCell n) at made live m e = absurd m
+  instance_by k c (InstObj class attributes) (DictCell n) at made live m e = absurd m
+  instance_by k c (InstObj class attributes) (TupleCell n) at made live m e = absurd m
+  instance_by k c (InstObj class attributes) (ExcCell n) at made live m e = absurd m
+  instance_by k c (ListObj items) x at made live m e = absurd (cc)
+  instance_by k c (DictObj pairs) x at made live m e = absurd (cc)
+
+  instance_meets : (v : Value) (y : Word) (a : machines.Argument) → Boxed s v y → IsRead s y a → suits w AnInstance v ≡ true → Meets w s code (Borrows (Is ObjectKind) AnInstance) (Given v) a
+  instance_meets (ObjVal k) y a m r e =
+      let o = object_content k m.0 m.3.0 m.2 m.3.1 in
+      subst (Meets w s code (Borrows (Is ObjectKind) AnInstance) (Given (ObjVal k))) (sym (cell_is m.0 m.3.0 a y m.1 m.3.1 r)) (instance_by k m.0 o.0 m.3.0 o.1 m.2 m.3.1 o.2 (ap is_instance_object (sym o.1) ∙ e))
+  instance_meets (IntVal n) y a m r e = absurd (cc)
+  instance_meets (BoolVal b) y a m r e = absurd (cc)
+  instance_meets NoneVal y a m r e = absurd (cc)
+  instance_meets (StrVal t) y a m r e = absurd (cc)
+  instance_meets (TupleVal parts) y a m r e = absurd (cc)
+  instance_meets (ExcVal x) y a m r e = absurd (cc)
+
+  key_meets : (v : Value) (y : Word) (a : machines.Argument) → Boxed s v y → IsRead s y a → suits w AKey v ≡ true → Meets w s code (Borrows (Is ObjectKind) AKey) (Given v) a × Meets w s code (Steals (Is ObjectKind) AKey) (Given v) a
+  key_meets v y a m r e =
+      let k = some_key (key_of_value v) e in
+      let same : key_as a ≡ Some k.0 = key_read y a r ∙ (word_key v y m ∙ k.1) in
+      (is_a_key v y a k.0 m k.1 same, owns_key v y a k.0 m k.1 same (word_read y a r))
+
+  pub held_meets : (h : Holding) (v : Value) (y : Word) (a : machines.Argument) → Boxed s v y → IsRead s y a → suits w h v ≡ true → Meets w s code (Borrows (Is ObjectKind) h) (Given v) a
+  held_meets Anything v y a m r e = is_any v y a m r
+  held_meets ANumber v y a m r e = box_meets v y a m r e
+  held_meets AText v y a m r e = text_meets v y a m r e
+  held_meets AnException v y a m r e = (exception_meets v y a m r e).0
+  held_meets AList v y a m r e = list_meets v y a m r e
+  held_meets ATuple v y a m r e = tuple_meets v y a m r e
+  held_meets ADict v y a m r e = dict_meets v y a m r e
+  held_meets AKey v y a m r e = (key_meets v y a m r e).0
+  held_meets AnInstance v y a m r e = instance_meets v y a m r e
 
 -- ---- by the program
 module _ (declared : Declared) (regs : Regs) where
@@ -420,7 +479,7 @@ module _ (declared : Declared) (regs : Regs) where
 
 -- ---- by both
 -- P holds of what a line leads to and of what an operation does, and of whatever where the operation is stuck
-module _ (P : Next → Config → Type 0) (stuck : (n : Next) (c : Config) → c ≡ Stuck → P n c) (code : Code) (w : World) (s : MachineState) (store : StoreFits s w.store) (declared vars : Declared) (regs : Regs) (same : declared ≡ vars) (a : RegsFit s vars regs s.top.vars) where
+module _ (P : Next → Config → Type 0) (stuck : (n : Next) (c : Config) → c ≡ Stuck → P n c) (code : Code) (w : World) (s : MachineState) (store : StoreFits s code.classes w.store) (declared vars : Declared) (regs : Regs) (same : declared ≡ vars) (a : RegsFit s vars regs s.top.vars) where
   abbrev kinds : List CDeclared
   kinds = map variable_of vars
 
@@ -483,12 +542,12 @@ module _ (P : Next → Config → Type 0) (stuck : (n : Next) (c : Config) → c
 
   pub object_reads : (h : Holding) (go : machines.Argument → Next) (k : Argument → Config) → (v : Value) (y : Word) → ((x : machines.Argument) → Boxed s v y → IsRead s y x → suits w h v ≡ true → P (go x) (k (Given v))) → (suits w h v ≡ false → k (Given v) ≡ Stuck) → Fits s Ref (Holds v) y → P (if_there false s y (λ x. if_true false s (is_holding h x) (go x))) (k (Given v))
   object_reads h go k v y more not (boxed u z m) =
-      let f = found w s store u z m in
+      let f = found code w s store u z m in
       by (suits w h u) refl (read_there z f.a f.read (λ x. if_true false s (is_holding h x) (go x)) ∙ ap (λ c. if_true false s c (go f.a)) (f.holds h))
     where
-      by : (b : Bool) → suits w h u ≡ b → if_there false s z (λ x. if_true false s (is_holding h x) (go x)) ≡ if_true false s (suits w h u) (go (found w s store u z m).a) → P (if_there false s z (λ x. if_true false s (is_holding h x) (go x))) (k (Given u))
+      by : (b : Bool) → suits w h u ≡ b → if_there false s z (λ x. if_true false s (is_holding h x) (go x)) ≡ if_true false s (suits w h u) (go (found code w s store u z m).a) → P (if_there false s z (λ x. if_true false s (is_holding h x) (go x))) (k (Given u))
       by true is e =
-          let f = found w s store u z m in
+          let f = found code w s store u z m in
           to_both _ (go f.a) _ (k (Given u)) (e ∙ ap (λ c. if_true false s c (go f.a)) is) refl (more f.a m f.read is)
       by false is e = stuck _ _ (not is)
 
@@ -500,7 +559,7 @@ module _ (P : Next → Config → Type 0) (stuck : (n : Next) (c : Config) → c
   read_stolen y x (read_cell c v live) l go = (without c l, refl)
 
   -- one argument
-  argument_reads : (all : List CArg) (q : Parameter) (x : PArg) → is_read q ≡ true → arg_fits code kinds all q (argument_in x) ≡ true → (earlier : List machines.Argument) (l : Ledger) (go : machines.Argument → Ledger → Next) (k : Argument → Config) → Goes q go k → Not q k → P (if_argument false s code q (argument_in x) earlier l go) (meaning.if_some (argument declared regs x) k)
+  pub argument_reads : (all : List CArg) (q : Parameter) (x : PArg) → is_read q ≡ true → arg_fits code kinds all q (argument_in x) ≡ true → (earlier : List machines.Argument) (l : Ledger) (go : machines.Argument → Ledger → Next) (k : Argument → Config) → Goes q go k → Not q k → P (if_argument false s code q (argument_in x) earlier l go) (meaning.if_some (argument declared regs x) k)
   argument_reads all (Borrows (Is Int64) Anything) (arg.Var r) is fits earlier l go k more not =
       variable_reads I64 Anything r fits (λ x. go x l) k (native_reads l go k more)
   argument_reads all (Borrows (Is Char) Anything) (arg.Var r) is fits earlier l go k more not =
@@ -511,32 +570,34 @@ module _ (P : Next → Config → Type 0) (stuck : (n : Next) (c : Config) → c
       variable_reads Int ANumber r fits (λ x. steps.if_stolen false s x l (go x)) k (owned_number_reads l go k more)
   argument_reads all (Borrows (Is ObjectKind) h) (arg.Var r) is fits earlier l go k more not =
       variable_reads Ref h r fits (λ x. go x l) k
-      (λ v y. object_reads h (λ x. go x l) k v y (λ x m read e. more _ x l (held_meets w s store code h v y x m read e)) (not (Given v)))
+      (λ v y. object_reads h (λ x. go x l) k v y (λ x m read e. more _ x l (held_meets code w s store h v y x m read e)) (not (Given v)))
   argument_reads all (Steals (Is ObjectKind) AnException) (arg.Var r) is fits earlier l go k more not =
       variable_reads Ref AnException r fits (λ x. steps.if_stolen false s x l (go x)) k
       (λ v y. object_reads AnException (λ x. steps.if_stolen false s x l (go x)) k v y
-      (λ x m read e. let z = read_stolen y x read l (go x) in to_both _ _ _ _ z.1 refl (more _ x z.0 (exception_meets w s store code v y x m read e).1))
+      (λ x m read e. let z = read_stolen y x read l (go x) in to_both _ _ _ _ z.1 refl (more _ x z.0 (exception_meets code w s store v y x m read e).1))
       (not (Given v)))
   argument_reads all (Steals (Is ObjectKind) AKey) (arg.Var r) is fits earlier l go k more not =
       variable_reads Ref AKey r fits (λ x. steps.if_stolen false s x l (go x)) k
       (λ v y. object_reads AKey (λ x. steps.if_stolen false s x l (go x)) k v y
-      (λ x m read e. let z = read_stolen y x read l (go x) in to_both _ _ _ _ z.1 refl (more _ x z.0 (key_meets w s store code v y x m read e).1))
+      (λ x m read e. let z = read_stolen y x read l (go x) in to_both _ _ _ _ z.1 refl (more _ x z.0 (key_meets code w s store v y x m read e).1))
       (not (Given v)))
   argument_reads all (Steals (Is ObjectKind) Anything) (arg.Var r) is fits earlier l go k more not =
       variable_reads Ref Anything r fits (λ x. steps.if_stolen false s x l (go x)) k
       (λ v y. object_reads Anything (λ x. steps.if_stolen false s x l (go x)) k v y
-      (λ x m read e. let z = read_stolen y x read l (go x) in to_both _ _ _ _ z.1 refl (more _ x z.0 (owns_any v y x m (word_read w s store y x read))))
+      (λ x m read e. let z = read_stolen y x read l (go x) in to_both _ _ _ _ z.1 refl (more _ x z.0 (owns_any v y x m (word_read code w s store y x read))))
       (not (Given v)))
   argument_reads all (MaySteal (Is ObjectKind) Anything) (arg.Var r) is fits earlier l go k more not =
       variable_reads Ref Anything r fits (λ x. steps.if_stolen false s x l (go x)) k
       (λ v y. object_reads Anything (λ x. steps.if_stolen false s x l (go x)) k v y
-      (λ x m read e. let z = read_stolen y x read l (go x) in to_both _ _ _ _ z.1 refl (more _ x z.0 (may_own_any v y x m (word_read w s store y x read))))
+      (λ x m read e. let z = read_stolen y x read l (go x) in to_both _ _ _ _ z.1 refl (more _ x z.0 (may_own_any v y x m (word_read code w s store y x read))))
       (not (Given v)))
   argument_reads all TakesNumber (arg.Number n) is fits earlier l go k more not = more _ _ l (writes_number n)
+  argument_reads all TakesPlace (arg.Number n) is fits earlier l go k more not = more _ _ l (writes_place n)
   argument_reads all TakesText (arg.Text t) is fits earlier l go k more not = more _ _ l (writes_text t)
   argument_reads all TakesDecimal (arg.Text t) is fits earlier l go k more not = more _ _ l (writes_decimal t)
   argument_reads all TakesException (arg.Text t) is fits earlier l go k more not = more _ _ l (writes_exception t)
   argument_reads all TakesGlobal (arg.Global name) is fits earlier l go k more not = more _ _ l (writes_global name fits)
+  argument_reads all TakesClass (arg.Class name) is fits earlier l go k more not = more _ _ l (writes_class name)
   argument_reads all q x is fits earlier l go k more not = absurd (cc)
 
   -- the arguments may end here

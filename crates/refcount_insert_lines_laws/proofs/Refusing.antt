@@ -12,6 +12,8 @@ use Rattle.c_core.specs.declared.primitive.StrPrim.TheVariants as str
 use Rattle.c_core.specs.declared.primitive.ListPrim.TheVariants as list
 use Rattle.c_core.specs.declared.primitive.DictPrim.TheVariants as dict
 use Rattle.c_core.specs.declared.primitive.TuplePrim.TheVariants as tuple
+use Rattle.c_core.specs.declared.primitive.InstancePrim.TheVariants as instance
+use Rattle.c_core.specs.declared.primitive.AttrPrim.TheVariants as attr
 use Rattle.c_core.specs.declared.primitive.GlobalPrim.TheVariants as global
 use Rattle.c_core.specs.declared.primitive.ExcPrim.TheVariants as exc
 use Rattle.c_core.specs.declared.primitive.ErrPrim.TheVariants as err
@@ -21,8 +23,8 @@ use Rattle.c_core.specs.Keys.{Key}
 use Rattle.c_core.specs.Primitives.{Is, Anything, MaySteal, row_of}
 use Rattle.ir_core.specs.declared.code.PArg.TheVariants as arg
 use Rattle.ir_core.specs.declared.code.Program.{Program}
-use Rattle.ir_core.specs.Effects.{World, Argument, Given, Written, Effect, Wrong, Gives, of_list, of_dict, of_key, key_of_value, place_of_key, value_at, entry_set, entry_cut, effect}
-use Rattle.refcount_insert_lines_laws.proofs.Reading.{is_list_object, is_dict_object, are_suited}
+use Rattle.ir_core.specs.Effects.{World, Argument, Given, Written, Effect, Wrong, Gives, of_list, of_dict, of_instance, of_key, key_of_value, place_of_key, value_at, entry_set, entry_cut, effect}
+use Rattle.refcount_insert_lines_laws.proofs.Reading.{is_list_object, is_dict_object, is_instance_object, are_suited}
 
 module _ (p : Program) (w : World) where
   -- what is done with the items of a list is not done with another object
@@ -37,6 +39,12 @@ module _ (p : Program) (w : World) where
   no_dict f (Some (ListObj items)) e = refl
   no_dict f (Some (DictObj pairs)) e = absurd (cc)
   no_dict f (Some (InstObj class attributes)) e = refl
+
+  no_instance : (f : ℕ → List (Option Value) → Effect) (o : Option StoreObject) → (is_instance_object o && true) ≡ false → of_instance f o ≡ Wrong
+  no_instance f None e = refl
+  no_instance f (Some (ListObj items)) e = refl
+  no_instance f (Some (DictObj pairs)) e = refl
+  no_instance f (Some (InstObj class attributes)) e = absurd (cc)
 
   -- nor with what is no key
   no_key : (f : List (Value × Value) → Key → Effect) (o : Option StoreObject) (k : Option Key) → (is_dict_object o && (is_some k && true)) ≡ false → of_dict (λ pairs. of_key (f pairs) k) o ≡ Wrong
@@ -188,8 +196,14 @@ module _ (p : Program) (w : World) where
   refused (prim.Tuple tuple.GetItemBorrow) _ e = refl
   refused (prim.Tuple tuple.Len) (Given (TupleVal parts) ∷ []) e = absurd (cc)
   refused (prim.Tuple tuple.Len) _ e = refl
-  refused (prim.Instance q) vs e = refl
-  refused (prim.Attr q) vs e = refl
+  refused (prim.Instance instance.New) (Written (arg.Class name) ∷ []) e = absurd (cc)
+  refused (prim.Instance instance.New) _ e = refl
+  refused (prim.Attr attr.Get) (Given (ObjVal k) ∷ Written (arg.Number n) ∷ []) e = no_instance _ (slice_get w.store k) e
+  refused (prim.Attr attr.Get) _ e = refl
+  refused (prim.Attr attr.GetBorrow) (Given (ObjVal k) ∷ Written (arg.Number n) ∷ []) e = no_instance _ (slice_get w.store k) e
+  refused (prim.Attr attr.GetBorrow) _ e = refl
+  refused (prim.Attr attr.Set) (Given (ObjVal k) ∷ Written (arg.Number n) ∷ Given v ∷ []) e = no_instance _ (slice_get w.store k) e
+  refused (prim.Attr attr.Set) _ e = refl
   refused (prim.Global global.Get) (Written (arg.Global name) ∷ []) e = absurd (cc)
   refused (prim.Global global.Get) _ e = refl
   refused (prim.Global global.Set) (Written (arg.Global name) ∷ Given v ∷ []) e = absurd (cc)

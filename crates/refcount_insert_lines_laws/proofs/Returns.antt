@@ -163,9 +163,9 @@ module _ (p : Program) (code : Code) (heads : HasHeads p code) (formed : WellFor
 
       by : (z : Edge) → R (Goes (u y)) (failed Fitting p z (next k.frame (put k.frame.regs k.into.0 h)) ks w)
       by NoEdge = return_sticks _
-      by (Tests r) = seen (is_edge (Tests r) (item_at p k.frame.fn k.frame.block (k.frame.place + 1)))
-      by (TestsTwice r) = seen (is_edge (TestsTwice r) (item_at p k.frame.fn k.frame.block (k.frame.place + 1)))
-      by Jumps = seen (is_edge Jumps (item_at p k.frame.fn k.frame.block (k.frame.place + 1)))
+      by (Tests r) = seen (is_edge (item_at p k.frame.fn) (Tests r) (item_at p k.frame.fn k.frame.block (k.frame.place + 1)))
+      by (TestsTwice r) = seen (is_edge (item_at p k.frame.fn) (TestsTwice r) (item_at p k.frame.fn k.frame.block (k.frame.place + 1)))
+      by Jumps = seen (is_edge (item_at p k.frame.fn) Jumps (item_at p k.frame.fn k.frame.block (k.frame.place + 1)))
 
   both : (n m : Next) (c d : Config) → n ≡ m → c ≡ d → R m d → R n c
   both n m c d e g z = subst (λ x. R x c) (sym e) (subst (R m) (sym g) z)

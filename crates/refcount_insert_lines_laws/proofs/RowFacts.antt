@@ -1,7 +1,8 @@
 -- The rows of the primitives: all but those of globals and of attributes say themselves of which kinds their variables are.
 use Rattle.std.proofs.Common.{◌≡◌, refl, sym, ap, subst, Bool, true, false, ◌&&◌, List, [], ◌∷◌, Option, Some, None}
-use Rattle.std.specs.Prelude.{ℕ, map, is_some}
+use Rattle.std.specs.Prelude.{ℕ, pos, negsuc, map, is_some}
 use Rattle.std.specs.Option.{option_map}
+use Rattle.c_core.specs.declared.code.Kind.TheVariants.{Object}
 use Rattle.c_core.specs.declared.code.CArg.{CArg}
 use Rattle.c_core.specs.declared.code.Code.{Code}
 use Rattle.c_core.specs.declared.primitive.Primitive.{Primitive}
@@ -14,10 +15,11 @@ use Rattle.c_core.specs.declared.primitive.StrPrim.TheVariants as str
 use Rattle.c_core.specs.declared.primitive.ListPrim.TheVariants as list
 use Rattle.c_core.specs.declared.primitive.DictPrim.TheVariants as dict
 use Rattle.c_core.specs.declared.primitive.TuplePrim.TheVariants as tuple
+use Rattle.c_core.specs.declared.primitive.InstancePrim.TheVariants as instance
 use Rattle.c_core.specs.declared.primitive.ExcPrim.TheVariants as exc
 use Rattle.c_core.specs.declared.primitive.ErrPrim.TheVariants as err
 use Rattle.c_core.specs.declared.primitive.IoPrim.TheVariants as io
-use Rattle.c_core.specs.Primitives.{Is, OfGlobal, OfSlot, Anything, Steals, TakesGlobal, Outcome, Nothing, Owned, Lent, Row, row_of}
+use Rattle.c_core.specs.Primitives.{KindAt, Is, OfGlobal, OfSlot, Anything, AnInstance, Borrows, Steals, TakesPlace, TakesGlobal, Outcome, Nothing, Owned, Lent, Row, row_of}
 use Rattle.c_core.specs.Machine.{Frame}
 use Rattle.c_core.specs.Arguments.{Argument, kind_of_global}
 use Rattle.c_core.specs.Step as steps
@@ -28,7 +30,8 @@ use Rattle.ir_core.specs.declared.code.PArg.{PArg}
 use Rattle.ir_core.specs.declared.code.PArg.TheVariants as arg
 use Rattle.ir_core.specs.Rows.{Declared}
 use Rattle.ir_core.specs.Lower.{variable_of, number_of, argument_in}
-use Rattle.refcount_insert_lines_laws.proofs.Facts.{has_type, type_in, kind_in_type}
+use Rattle.refcount_insert_lines_laws.specs.Matching.{type_in}
+use Rattle.refcount_insert_lines_laws.proofs.Facts.{has_type, kind_in_type}
 use Rattle.refcount_insert_lines_laws.proofs.Reading.{are_read}
 use Rattle.refcount_insert_lines_laws.proofs.Agreeing.{IsTarget}
 use Rattle.refcount_insert_lines_laws.proofs.Rows.{answer_of, stands_elsewhere}
@@ -121,7 +124,7 @@ read_row (prim.Err err.Catch) g = refl
 read_row (prim.Io io.Write) g = refl
 read_row (prim.Io io.Input) g = refl
 read_row (prim.Global q) g = absurd (cc)
-read_row (prim.Instance q) g = absurd (cc)
+read_row (prim.Instance instance.New) g = refl
 read_row (prim.Attr q) g = absurd (cc)
 
 -- that the target has the kind of the answer is known from the text
@@ -158,23 +161,46 @@ one_global code vars all (arg.Class n ∷ rest) e = absurd (cc)
 one_global code vars all (arg.Global n ∷ x ∷ xs) e =
     let f = (and_true (is_some (kind_of_global code n)) false e).1 in absurd (cc)
 
-one_stolen : (code : Code) (vars : _) (all : List CArg) (args : List PArg) → args_fit code vars all (Steals OfGlobal Anything ∷ []) (map argument_in args) ≡ true → (r : Reg) × (args ≡ arg.Var r ∷ []) × (kind_fits code all OfGlobal (kind_at vars r.0) ≡ true)
-one_stolen code vars all [] e = absurd (cc)
-one_stolen code vars all (arg.Var r ∷ []) e = (r, refl, (and_true (kind_fits code all OfGlobal (kind_at vars r.0)) true e).0)
-one_stolen code vars all (arg.Global n ∷ rest) e = absurd (cc)
-one_stolen code vars all (arg.Number n ∷ rest) e = absurd (cc)
-one_stolen code vars all (arg.Text n ∷ rest) e = absurd (cc)
-one_stolen code vars all (arg.Class n ∷ rest) e = absurd (cc)
-one_stolen code vars all (arg.Var r ∷ x ∷ xs) e =
-    let f = (and_true (kind_fits code all OfGlobal (kind_at vars r.0)) false e).1 in absurd (cc)
+-- what is stolen last
+one_stolen : (code : Code) (vars : _) (all : List CArg) (k : KindAt) (args : List PArg) → args_fit code vars all (Steals k Anything ∷ []) (map argument_in args) ≡ true → (r : Reg) × (args ≡ arg.Var r ∷ []) × (kind_fits code all k (kind_at vars r.0) ≡ true)
+one_stolen code vars all k [] e = absurd (cc)
+one_stolen code vars all k (arg.Var r ∷ []) e = (r, refl, (and_true (kind_fits code all k (kind_at vars r.0)) true e).0)
+one_stolen code vars all k (arg.Global n ∷ rest) e = absurd (cc)
+one_stolen code vars all k (arg.Number n ∷ rest) e = absurd (cc)
+one_stolen code vars all k (arg.Text n ∷ rest) e = absurd (cc)
+one_stolen code vars all k (arg.Class n ∷ rest) e = absurd (cc)
+one_stolen code vars all k (arg.Var r ∷ x ∷ xs) e =
+    let f = (and_true (kind_fits code all k (kind_at vars r.0)) false e).1 in absurd (cc)
 
 pub global_and_stolen : (code : Code) (vars : _) (all : List CArg) (args : List PArg) → args_fit code vars all (TakesGlobal ∷ Steals OfGlobal Anything ∷ []) (map argument_in args) ≡ true → (name : List ℕ) × (r : Reg) × (args ≡ arg.Global name ∷ arg.Var r ∷ []) × (is_some (kind_of_global code name) ≡ true) × (kind_fits code all OfGlobal (kind_at vars r.0) ≡ true)
 global_and_stolen code vars all [] e = absurd (cc)
 global_and_stolen code vars all (arg.Global n ∷ rest) e =
     let both = and_true (is_some (kind_of_global code n)) (args_fit code vars all (Steals OfGlobal Anything ∷ []) (map argument_in rest)) e in
-    let more = one_stolen code vars all rest both.1 in
+    let more = one_stolen code vars all OfGlobal rest both.1 in
     (n, more.0, ap (λ z. arg.Global n ∷ z) more.1, both.0, more.2)
 global_and_stolen code vars all (arg.Var r ∷ rest) e = absurd (cc)
 global_and_stolen code vars all (arg.Number n ∷ rest) e = absurd (cc)
 global_and_stolen code vars all (arg.Text n ∷ rest) e = absurd (cc)
 global_and_stolen code vars all (arg.Class n ∷ rest) e = absurd (cc)
+
+-- ---- arguments that name a slot
+place_and_stolen : (code : Code) (vars : _) (all : List CArg) (args : List PArg) → args_fit code vars all (TakesPlace ∷ Steals OfSlot Anything ∷ []) (map argument_in args) ≡ true → (i : ℕ) × (r : Reg) × (args ≡ arg.Number (pos i) ∷ arg.Var r ∷ []) × (is_some (kind_at vars r.0) ≡ true)
+place_and_stolen code vars all [] e = absurd (cc)
+place_and_stolen code vars all (arg.Number (pos i) ∷ rest) e =
+    let more = one_stolen code vars all OfSlot rest e in (i, more.0, ap (λ z. arg.Number (pos i) ∷ z) more.1, more.2)
+place_and_stolen code vars all (arg.Number (negsuc i) ∷ rest) e = absurd (cc)
+place_and_stolen code vars all (arg.Var r ∷ rest) e = absurd (cc)
+place_and_stolen code vars all (arg.Global n ∷ rest) e = absurd (cc)
+place_and_stolen code vars all (arg.Text n ∷ rest) e = absurd (cc)
+place_and_stolen code vars all (arg.Class n ∷ rest) e = absurd (cc)
+
+pub slot_and_stolen : (code : Code) (vars : _) (all : List CArg) (args : List PArg) → args_fit code vars all (Borrows (Is Object) AnInstance ∷ TakesPlace ∷ Steals OfSlot Anything ∷ []) (map argument_in args) ≡ true → (o : Reg) × (i : ℕ) × (r : Reg) × (args ≡ arg.Var o ∷ arg.Number (pos i) ∷ arg.Var r ∷ []) × (has_kind Object (kind_at vars o.0) ≡ true) × (is_some (kind_at vars r.0) ≡ true)
+slot_and_stolen code vars all [] e = absurd (cc)
+slot_and_stolen code vars all (arg.Var o ∷ rest) e =
+    let both = and_true (has_kind Object (kind_at vars o.0)) (args_fit code vars all (TakesPlace ∷ Steals OfSlot Anything ∷ []) (map argument_in rest)) e in
+    let more = place_and_stolen code vars all rest both.1 in
+    (o, more.0, more.1, ap (λ z. arg.Var o ∷ z) more.2, both.0, more.3)
+slot_and_stolen code vars all (arg.Number n ∷ rest) e = absurd (cc)
+slot_and_stolen code vars all (arg.Global n ∷ rest) e = absurd (cc)
+slot_and_stolen code vars all (arg.Text n ∷ rest) e = absurd (cc)
+slot_and_stolen code vars all (arg.Class n ∷ rest) e = absurd (cc)

@@ -1,8 +1,8 @@
 -- Each primitive does with words what it does with values, one row one case.
 use Rattle.std.proofs.Common.{◌≡◌, ◌≢◌, refl, sym, ◌∙◌, ap, subst, ℕ, zero, suc, Bool, true, false, not, ◌&&◌, cond, List, [], ◌∷◌, ◌++◌, ◌+◌, length, take, drop, replicate, Option, Some, None, Result, Ok, Err}
-use Rattle.std.specs.Prelude.{ℤ, pos, negsuc, int_lt, nat_lt, is_some, slice_get, slice_set}
+use Rattle.std.specs.Prelude.{ℤ, pos, negsuc, int_lt, nat_lt, is_some, map, slice_get, slice_set}
 use Rattle.std.specs.Fmt.{signed_decimal}
-use Rattle.std.specs.List.{position_or_len}
+use Rattle.std.specs.List.{position, position_or_len}
 use Rattle.std.specs.Option.{option_and_then, option_map}
 use Rattle.std.specs.Ordering.{int_eq}
 use Rattle.std.specs.Str.{bytes_eq}
@@ -15,7 +15,9 @@ use Rattle.value_core.specs.Ending.{Over, Broken}
 use Rattle.value_core.specs.Exceptions.{Thrown, class_named, is_under}
 use Rattle.value_core.specs.Items as item
 use Rattle.value_core.specs.Items.{Items}
-use Rattle.value_core.specs.Value.{Value, IntVal, BoolVal, NoneVal, StrVal, TupleVal, ExcVal, ObjVal, Values, no_values, value_then, listed, tupled, ListObj, DictObj}
+use Rattle.value_core.specs.Value.{Value, IntVal, BoolVal, NoneVal, StrVal, TupleVal, ExcVal, ObjVal, Values, no_values, value_then, listed, tupled, ListObj, DictObj, InstObj}
+use Rattle.c_core.specs.declared.code.CClass.{CClass}
+use Rattle.c_core.specs.declared.code.CArg.TheVariants as c_arg
 use Rattle.c_core.specs.declared.code.Code.{Code}
 use Rattle.c_core.specs.declared.primitive.Primitive.{Primitive}
 use Rattle.c_core.specs.declared.primitive.Primitive.TheVariants as prim
@@ -27,11 +29,12 @@ use Rattle.c_core.specs.declared.primitive.StrPrim.TheVariants as str
 use Rattle.c_core.specs.declared.primitive.ListPrim.TheVariants as list
 use Rattle.c_core.specs.declared.primitive.DictPrim.TheVariants as dict
 use Rattle.c_core.specs.declared.primitive.TuplePrim.TheVariants as tuple
+use Rattle.c_core.specs.declared.primitive.InstancePrim.TheVariants as instance
 use Rattle.c_core.specs.declared.primitive.ExcPrim.TheVariants as exc
 use Rattle.c_core.specs.declared.primitive.ErrPrim.TheVariants as err
 use Rattle.c_core.specs.declared.primitive.IoPrim.TheVariants as io
 use Rattle.c_core.specs.Cells.{content_at}
-use Rattle.c_core.specs.Machine.{Word, ShortInt, BigInt, Native, CharWord, ObjectCell, NoneObject, TrueObject, FalseObject, NoObject, IntCell, StrCell, ListCell, DictCell, TupleCell, ExcCell, refs_of, MachineState}
+use Rattle.c_core.specs.Machine.{Word, ShortInt, BigInt, Native, CharWord, ObjectCell, NoneObject, TrueObject, FalseObject, NoObject, IntCell, StrCell, ListCell, DictCell, TupleCell, InstCell, ExcCell, refs_of, MachineState}
 use Rattle.c_core.specs.Stands.{IsLive}
 use Rattle.c_core.specs.declared.code.Kind.TheVariants.{Object as ObjectKind}
 use Rattle.c_core.specs.Keys.{Key, is_key, key_of, key_place}
@@ -43,15 +46,16 @@ use Rattle.c_core.specs.Step as steps
 use Rattle.c_core.specs.Strings.{counted_length, text_less, text_length, text_item, writes_long}
 use Rattle.ir_core.specs.declared.code.RType.{RType}
 use Rattle.ir_core.specs.declared.code.RType.TheVariants.{Int, I64, Bool as BoolType, Ref}
+use Rattle.ir_core.specs.declared.code.PArg.TheVariants as arg
 use Rattle.ir_core.specs.declared.code.Program.{Program}
 use Rattle.ir_core.specs.Registers.{error_of}
 use Rattle.ir_core.specs.Effects.{World, Argument, Effect, Wrong, Gives, Acts, with_object, truth_number, key_of_value, place_of_key}
 use Rattle.ir_core.specs.Effects as program
-use Rattle.refcount_insert_lines_laws.specs.Matching.{Boxed, PartsBoxed, AllBoxed, PairsBoxed, Fits, tagged_error, short, big, native, char_error, no_object, boxed, PendingFits, WorldFits}
+use Rattle.refcount_insert_lines_laws.specs.Matching.{type_in, Boxed, PartsBoxed, AllBoxed, PairsBoxed, AttributesFit, StoreFits, Fits, tagged_error, short, big, native, char_error, no_object, boxed, PendingFits, WorldFits}
 use Rattle.refcount_insert_lines_laws.proofs.Growing.{parts_grow}
+use Rattle.refcount_insert_lines_laws.proofs.Places.{none_set}
 use Rattle.refcount_insert_lines_laws.proofs.Words.{char_fits}
-use Rattle.refcount_insert_lines_laws.proofs.Facts.{type_in}
-use Rattle.refcount_insert_lines_laws.proofs.Reading.{IsRead, read_none, read_true, read_false, read_cell, is_native, is_truth, is_number, owns_short, owns_big, is_any, owns_any, may_own_any, is_box, is_text, is_exception, is_stolen, is_list, is_tuple, is_dict, is_a_key, owns_key, writes_number, writes_text, writes_decimal, writes_exception, word_key, AllMeet, no_more, left_out, one_more}
+use Rattle.refcount_insert_lines_laws.proofs.Reading.{IsRead, read_none, read_true, read_false, read_cell, is_native, is_truth, is_number, owns_short, owns_big, is_any, owns_any, may_own_any, is_box, is_text, is_exception, is_stolen, is_list, is_tuple, is_dict, is_a_key, owns_key, writes_number, writes_text, writes_decimal, writes_exception, writes_class, word_key, AllMeet, no_more, left_out, one_more}
 use Rattle.refcount_insert_lines_laws.proofs.Agreeing.{Changing, Agrees, both_wrong, both_say, both_share, both_lend, both_make, both_make_object, both_change, both_change_answering, both_make_int, both_write, both_fail, both_pend, both_catch, both_read, both_skip, both_stop}
 
 -- the type of what a row answers
@@ -60,14 +64,16 @@ answer_of (Owned (Is k)) = Some (type_in k)
 answer_of (Lent (Is k)) = Some (type_in k)
 answer_of _ = None
 
--- the rows of globals, of instances and of their attributes stand elsewhere
+-- the rows of globals and of attributes stand elsewhere
 abbrev pub stands_elsewhere : Primitive → Bool
 stands_elsewhere (prim.Global q) = true
-stands_elsewhere (prim.Instance q) = true
 stands_elsewhere (prim.Attr q) = true
 stands_elsewhere _ = false
 
-module _ (p : Program) (code : Code) (w : World) (s : MachineState) (world : WorldFits p w s) where
+module _ (p : Program) (code : Code) (classes : code.classes ≡ p.classes) (w : World) (s : MachineState) (world : WorldFits p w s) where
+  store : StoreFits s code.classes w.store
+  store = subst (λ z. StoreFits s z w.store) (sym classes) world.store
+
   abbrev A : Option RType → Effect → steps.Effect → Type 0
   A o x y = Agrees p w s o x y
 
@@ -340,7 +346,7 @@ module _ (p : Program) (code : Code) (w : World) (s : MachineState) (world : Wor
     same_place : (i : ℤ) → place_of (length vs) i ≡ place_of (length ys) i
     same_place i = ap (λ n. place_of n i) (all_size vs ys m)
 
-    changing : (us : List Value) (zs : List Word) → AllBoxed s us zs → Changing s k c (ListObj us) (ListCell zs)
+    changing : (us : List Value) (zs : List Word) → AllBoxed s us zs → Changing p.classes s k c (ListObj us) (ListCell zs)
     changing us zs all = record { made = made; old = ListCell ys; live = live; object = refl; fits = all }
 
     item_at_row : (i : Option ℕ) → A (Some Ref) (program.item_at i vs w) (steps.item_at i ys)
@@ -456,7 +462,7 @@ module _ (p : Program) (code : Code) (w : World) (s : MachineState) (world : Wor
   same_first k [] (q ∷ qs) m = absurd m
   same_first k (p ∷ ps) [] m = absurd m
   same_first k (p ∷ ps) (q ∷ qs) m =
-      ap (λ o. cond (not (is_key k o)) (1 + position_or_len (has_key k) qs) 0) (word_key w s world.store p.0 q.0 m.0)
+      ap (λ o. cond (not (is_key k o)) (1 + position_or_len (has_key k) qs) 0) (word_key code w s store p.0 q.0 m.0)
       ∙ ap (λ n. cond (not (holds_key k p)) (1 + n) 0) (same_first k ps qs m.2)
 
   same_key_place : (k : Key) (ps : List (Value × Value)) (qs : List (Word × Word)) → PairsBoxed s ps qs → key_place s.cells k qs ≡ place_of_key k ps
@@ -478,7 +484,7 @@ module _ (p : Program) (code : Code) (w : World) (s : MachineState) (world : Wor
     pairs_found : (o : Option RType) (F : List (Value × Value) → Effect) (e : steps.Effect) → A o (F ps) e → A o (program.of_dict F (slice_get w.store d)) e
     pairs_found o F e h = subst (λ z. A o (program.of_dict F z) e) (sym there) h
 
-    becomes : (us : List (Value × Value)) (zs : List (Word × Word)) → PairsBoxed s us zs → Changing s d c (DictObj us) (DictCell zs)
+    becomes : (us : List (Value × Value)) (zs : List (Word × Word)) → PairsBoxed s us zs → Changing p.classes s d c (DictObj us) (DictCell zs)
     becomes us zs all = record { made = made; old = DictCell qs; live = live; object = refl; fits = all }
 
     -- the value of a key is read
@@ -567,6 +573,24 @@ module _ (p : Program) (code : Code) (w : World) (s : MachineState) (world : Wor
 
     key_row : (i : ℤ) → A (Some Ref) (program.of_dict (λ pairs. program.key_at pairs i w) (slice_get w.store d)) (steps.key_at qs i)
     key_row i = pairs_found (Some Ref) (λ pairs. program.key_at pairs i w) _ (key_at_row i)
+
+  -- ---- instances
+  abbrev class_here : List CClass → List ℕ → Option ℕ
+  class_here ks name = position (λ k. bytes_eq name k.name) ks
+
+  made_row : (n : Option ℕ) → A (Some Ref) (program.instance_of n (option_and_then (slice_get p.classes) n) w) (steps.instance_of n (option_and_then (slice_get p.classes) n))
+  made_row None = both_wrong (Some Ref) steps.Wrong
+  made_row (Some n) = by (slice_get p.classes n) refl
+    where
+      by : (k : Option CClass) → slice_get p.classes n ≡ k → A (Some Ref) (program.instance_of (Some n) k w) (steps.instance_of (Some n) k)
+      by None is = both_wrong (Some Ref) steps.Wrong
+      by (Some k) is =
+          both_make_object (InstObj n (map (λ a. None) k.attrs)) (InstCell n (map (λ a. None) k.attrs)) refl (refl, subst (λ o. AttributesFit s o (map (λ a. None) k.attrs) (map (λ a. None) k.attrs)) (sym is) (none_set s k.attrs))
+
+  instance_row : (name : List ℕ) → A (Some Ref) (program.effect p (prim.Instance instance.New) (program.Written (arg.Class name) ∷ []) w) (steps.effect code s (prim.Instance instance.New) (machines.Written (c_arg.Class name) ∷ []))
+  instance_row name =
+      subst (λ z. A (Some Ref) (program.instance_of (class_here p.classes name) (option_and_then (slice_get p.classes) (class_here p.classes name)) w) (steps.instance_of (class_here z name) (option_and_then (slice_get z) (class_here z name)))) (sym classes)
+      (made_row (class_here p.classes name))
 
   -- ---- the rows
   abbrev pub Row : Primitive → Type 0
@@ -733,5 +757,6 @@ module _ (p : Program) (code : Code) (w : World) (s : MachineState) (world : Wor
   agree (prim.Io io.Input) g vs ys no_more =
       subst (λ z. A (Some Ref) (program.line_read w.items w) (steps.line_read z)) (sym world.items) (line_row w.items)
   agree (prim.Global q) g vs ys h = absurd (cc)
-  agree (prim.Instance q) g vs ys h = absurd (cc)
+  agree (prim.Instance instance.New) g vs ys (one_more (writes_class name) no_more) =
+      instance_row name
   agree (prim.Attr q) g vs ys h = absurd (cc)

@@ -13,7 +13,7 @@ use Rattle.ir_core.specs.declared.code.RType.{RType}
 use Rattle.ir_core.specs.declared.code.RType.TheVariants.{Int, Ref}
 use Rattle.ir_core.specs.declared.code.Reg.{Reg}
 use Rattle.ir_core.specs.declared.code.Op.{Op}
-use Rattle.ir_core.specs.declared.code.Op.TheVariants.{Move, Lit, Prim, Call, Turn}
+use Rattle.ir_core.specs.declared.code.Op.TheVariants.{Move, Lit, Prim, Call, Virtual, TraitCall, Turn}
 use Rattle.ir_core.specs.declared.code.Last.TheVariants.{If, IfError, Return}
 use Rattle.ir_core.specs.declared.code.Func.{Func}
 use Rattle.ir_core.specs.declared.code.Program.{Program}
@@ -81,6 +81,17 @@ pub data CallDoes (p : Program) (declared : Declared) (n : ℕ) (into : Reg) (f 
 abbrev pub CallsDo : Type 0
 CallsDo =
     (p : Program) (code : Code) → HasHeads p code → WellFormed code → (into : Reg) (n : ℕ) (args : List Reg) (f : Frame) (below : List Waiting) (w : World) (s : MachineState) (a : RunsIn p f w s) → line_at code s.top ≡ Some (line_of p (Call into n args)) → CallDoes p a.func.regs n into f below s (do_op Fitting p (Call into n args) f below w) (unchecked_step code s)
+
+-- a call of a method has a target
+abbrev pub method_target : Op → Option Reg
+method_target (Virtual r o n args) = Some r
+method_target (TraitCall r o t n args) = Some r
+method_target o = None
+
+-- it calls the function that the object's class has there, the same in both
+abbrev pub MethodsDo : Type 0
+MethodsDo =
+    (p : Program) (code : Code) → HasHeads p code → WellFormed code → (o : Op) (into : Reg) → method_target o ≡ Some into → (f : Frame) (below : List Waiting) (w : World) (s : MachineState) (a : RunsIn p f w s) → line_at code s.top ≡ Some (line_of p o) → (n : ℕ) × CallDoes p a.func.regs n into f below s (do_op Fitting p o f below w) (unchecked_step code s)
 
 -- ---- returns
 

@@ -1,5 +1,5 @@
 //! The laws. Each function is its clause, and does nothing when it runs.
-ghost use Rattle.refcount_insert_lines_laws.specs.Lines.{CallsDo, CountsDo, EndsDo, IfErrorsDo, IfsDo, OpsDo, ReturnsDo};
+ghost use Rattle.refcount_insert_lines_laws.specs.Lines.{CallsDo, CountsDo, EndsDo, IfErrorsDo, IfsDo, MethodsDo, OpsDo, ReturnsDo};
 
 /// An operation that stays in its function.
 pub fn ops_do()
@@ -9,6 +9,11 @@ pub fn ops_do()
 /// A call of a function.
 pub fn calls_do()
     ensures { CallsDo }
+{}
+
+/// A call of a method.
+pub fn methods_do()
+    ensures { MethodsDo }
 {}
 
 /// A return to a caller.

@@ -7,4 +7,6 @@
 
 mod laws;
 
-pub use laws::{calls_do, counts_do, ends_do, if_errors_do, ifs_do, ops_do, returns_do};
+pub use laws::{
+    calls_do, counts_do, ends_do, if_errors_do, ifs_do, methods_do, ops_do, returns_do,
+};

@@ -1,5 +1,5 @@
 //! The line of an operation.
-ghost use Rattle.std.specs.Prelude.{◌≡◌, ◌++◌, map, pos, IfOk, OnOk};
+ghost use Rattle.std.specs.Prelude.{◌≡◌, ◌++◌, map, IfOk, OnOk};
 ghost use Rattle.std.specs.Option.{option_map};
 ghost use Rattle.c_core.specs.Primitives.{row_of};
 ghost use Rattle.ir_core.specs.Lower.{argument_in, number_of, register_in, literal_in};
@@ -79,14 +79,14 @@ fn call_line(
     Ok(Line::Call(Some(r.0), name, Many::from_vec(all)))
 }
 
-/// A number of a method as an argument. No list has so many methods that it does not fit: that is want of memory.
-fn place_of(n: usize) -> Result<CArg, Memory>
-    ensures { IfOk result (λ argument. argument ≡ CArg.Number (pos n)) }
+fn numbers_of(alloc: Global, registers: &[Reg]) -> Result<Many<usize>, Memory>
+    ensures { IfOk result (λ all. all ≡ map number_of registers.now) }
 {
-    match i64::try_from(n) {
-        Ok(number) => Ok(CArg::Number(number)),
-        Err(_) => Err(Memory),
+    let mut all = Vec::new(alloc);
+    for register in registers {
+        all.push(register.0)?;
     }
+    Ok(Many::from_vec(all))
 }
 
 fn virtual_line(
@@ -99,12 +99,7 @@ fn virtual_line(
 ) -> Result<Line, Memory>
     ensures { IfOk result (λ line. line ≡ spec.line_of p.now (Op.Virtual r object n registers.now)) }
 {
-    let name = Name::from_str(alloc, "CPyVirtual")?;
-    let mut all = Vec::new(alloc);
-    all.push(CArg::Var(object.0))?;
-    all.push(place_of(n)?)?;
-    push_registers(&mut all, registers)?;
-    Ok(Line::Call(Some(r.0), name, Many::from_vec(all)))
+    Ok(Line::Virtual(r.0, object.0, n, numbers_of(alloc, registers)?))
 }
 
 fn trait_line(
@@ -118,13 +113,8 @@ fn trait_line(
 ) -> Result<Line, Memory>
     ensures { IfOk result (λ line. line ≡ spec.line_of p.now (Op.TraitCall r object t n registers.now)) }
 {
-    let name = Name::from_str(alloc, "CPyTrait")?;
-    let mut all = Vec::new(alloc);
-    all.push(CArg::Var(object.0))?;
-    all.push(CArg::Class(name_of_class(alloc, p, t)?))?;
-    all.push(place_of(n)?)?;
-    push_registers(&mut all, registers)?;
-    Ok(Line::Call(Some(r.0), name, Many::from_vec(all)))
+    let name = name_of_class(alloc, p, t)?;
+    Ok(Line::TraitCall(r.0, object.0, name, n, numbers_of(alloc, registers)?))
 }
 
 fn primitive_line(
@@ -139,7 +129,7 @@ fn primitive_line(
     Ok(Line::Call(target_of(target), name, arguments_of(alloc, arguments)?))
 }
 
-/// The line of an operation of a program. A call of a method has a name that no call may have.
+/// The line of an operation of a program.
 pub(crate) fn line_of(alloc: Global, p: &Program, op: &Op) -> Result<Line, Memory>
     ensures { IfOk result (λ line. line ≡ spec.line_of p.now op.now) }
 {

@@ -1,5 +1,5 @@
 -- The end of a block with its counts is in order, and so are the blocks of its edges.
-use Rattle.std.proofs.Common.{◌≡◌, refl, sym, ap, ◌∙◌, subst, ℕ, zero, suc, ◌+◌, ◌-◌, ◌≤◌, ◌<◌, inl, inr, ⊎_elim, Bool, true, false, cond, List, [], ◌∷◌, ◌++◌, map, length, arith, append_assoc, Option, Some, eqb-true}
+use Rattle.std.proofs.Common.{◌≡◌, refl, sym, ap, ◌∙◌, subst, ℕ, zero, suc, ◌+◌, ◌-◌, ◌≤◌, ◌<◌, inl, inr, ⊎_elim, Bool, true, false, cond, List, None, [], ◌∷◌, ◌++◌, map, length, arith, append_assoc, Option, Some, eqb-true}
 use Rattle.std.specs.Prelude.{slice_get, nat_eq}
 use Rattle.c_core.specs.declared.code.Line.{Line}
 use Rattle.c_core.specs.declared.code.Line.TheVariants as line
@@ -123,14 +123,14 @@ module _ (p q : Program) (f : Func) (t : Tables f) (number : ℕ → ℕ) (code 
       edge_jump σ at_block into own (inl h) le begins l =
           subst (λ z. Jumps code g (Starts start) σ (label_of z)) (sym h.0) (jump_to σ h.2 l)
       edge_jump σ at_block into own (inr h) le begins l =
-          subst (λ z. Jumps code g (Starts start) σ (label_of z)) (sym h.0) (σ, enter start at_block σ le (begins (record { ops = h.1; last = Goto (number to) }) [] h.2), within_self σ)
+          subst (λ z. Jumps code g (Starts start) σ (label_of z)) (sym h.0) (σ, enter start at_block σ le (begins (record { ops = h.1; last = Goto (number to); handler = None }) [] h.2), within_self σ)
 
       -- the block of the edge
       pub own_check : (σ : Shares) (at_block into : ℕ) (x : Block) (xs : List Block) → IsEdgeTo f t number σ.owns to at_block into (x ∷ xs) → ((r : ℕ) → IsUsable g.vars (at f t b (length k.ops)) r → IsUsable g.vars σ r) → ((r : ℕ) → lent_at f t b (length k.ops) r ≡ true → σ.lent r ≡ true) → ((r : ℕ) → σ.held r ≡ false) → (j : ℕ) → (xs ≡ []) × Good σ (op_lines q x.ops ++ end_lines label_of j x.last)
       own_check σ at_block into x xs (inl h) u l off j = let e : x ∷ xs ≡ [] = h.1 in absurd (cc)
       own_check σ at_block into x xs (inr h) u l off j =
-          let e : x ∷ xs ≡ record { ops = h.1; last = Goto (number to) } ∷ [] = h.2 in
-          let one : record { ops = h.1; last = Goto (number to) } ≡ x = cc in
+          let e : x ∷ xs ≡ record { ops = h.1; last = Goto (number to); handler = None } ∷ [] = h.2 in
+          let one : record { ops = h.1; last = Goto (number to); handler = None } ≡ x = cc in
           let none : xs ≡ [] = cc in
           (none, subst (λ (z : Block). Good σ (op_lines q z.ops ++ end_lines label_of j z.last)) one (counted_goto σ h.1 (line.Goto (label_of (number to)) ∷ []) h.3 u l off (λ ρ a. a)))
 

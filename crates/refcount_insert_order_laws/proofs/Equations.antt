@@ -14,6 +14,7 @@ use Rattle.ir_core.specs.declared.code.Last.{Last}
 use Rattle.ir_core.specs.declared.code.Last.TheVariants.{Return}
 use Rattle.ir_core.specs.declared.code.Block.{Block}
 use Rattle.ir_core.specs.declared.code.Func.{Func}
+use Rattle.ir_core.specs.Bare.{IsBare}
 use Rattle.ir_core.specs.Items.{Item, Do, End, in_block, item_of, item_in}
 use Rattle.ir_core.specs.Rows.{Declared}
 use Rattle.ir_core.specs.Lower.{variable_of}
@@ -21,7 +22,6 @@ use Rattle.ir_core.proofs.ItemLemmas.{next_item}
 use Rattle.c_core_ownership_laws.specs.Shares.{one_if, Shares, may_refer, IsUsable}
 use Rattle.liveness.specs.Paths.{is_among, reads_of, reads_of_last, write_of, is_target, is_lent, targets, Goes, passes, fails, jumps, LiveAt, reads_here, goes_on, MetAt, entry, onward, OwnedAt, no_parameter, written, kept, BorrowedAt}
 use Rattle.liveness.specs.Paths as path
-use Rattle.liveness.proofs.PathLemmas.{no_handler}
 use Rattle.liveness.proofs.OwnedLemmas.{no_lent}
 use Rattle.refcount_insert_rule.specs.Rule.{is_counted}
 use Rattle.refcount_insert_rule.specs.Counted.{counts_register, Tables, owned}
@@ -92,7 +92,7 @@ one_none true false b e = refl
 one_none false l b e = refl
 
 -- ---- items
-item_next : (b : Option Block) (p : ℕ) (o : Op) → item_of b p ≡ Some (Do o) → (i : Item) × (item_of b (suc p) ≡ Some i)
+pub item_next : (b : Option Block) (p : ℕ) (o : Op) → item_of b p ≡ Some (Do o) → (i : Item) × (item_of b (suc p) ≡ Some i)
 item_next None p o e = let f : None ≡ Some (Do o) = e in absurd (cc)
 item_next (Some k) p o e = next_item k.ops k.last p o e
 
@@ -112,7 +112,7 @@ module _ (f : Func) where
       absurd (cc)
 
   -- what is written last before the next place
-  owned_from : (r b p c q : ℕ) (o : Op) → item_in f.blocks b p ≡ Some (Do o) → is_target (write_of o) r ≡ false → OwnedAt f r c q → c ≡ b → q ≡ suc p → OwnedAt f r b p
+  pub owned_from : (r b p c q : ℕ) (o : Op) → item_in f.blocks b p ≡ Some (Do o) → is_target (write_of o) r ≡ false → OwnedAt f r c q → c ≡ b → q ≡ suc p → OwnedAt f r b p
   owned_from r b p c q o e w (no_parameter le) ec eq = absurd (omega (arith, eq))
   owned_from r b p c q o e w (written x y c2 q2 i met is at lent go) ec eq = absurd (past x y c q i go is at ec eq)
     where
@@ -135,31 +135,31 @@ module _ (f : Func) where
       back x y c q own (jumps b2 p2 j t l e2 there) ec eq = absurd (omega (arith, eq))
 
   -- what a turn leaves is read again behind it
-  live_back : (r b p : ℕ) → item_in f.blocks b p ≡ Some (Do Turn) → LiveAt f r b p → LiveAt f r b (suc p)
-  live_back r b p e (reads_here x y i is at) =
+  live_back : IsBare f → (r b p : ℕ) → item_in f.blocks b p ≡ Some (Do Turn) → LiveAt f r b p → LiveAt f r b (suc p)
+  live_back calm r b p e (reads_here x y i is at) =
       let same : i ≡ Do Turn = same_item b p i (Do Turn) is e in
       let both : true ≡ false = sym at ∙ ap (λ z. path.reads z r) same in
       absurd (cc)
-  live_back r b p e (goes_on x y c q i is off (passes b2 p2 o2 e2) on) = on
-  live_back r b p e (goes_on x y c q i is off (fails b2 p2 h o2 e2 caught there) on) =
-      absurd (no_handler (slice_get f.blocks b) h there)
-  live_back r b p e (goes_on x y c q i is off (jumps b2 p2 j t l e2 there) on) =
+  live_back calm r b p e (goes_on x y c q i is off (passes b2 p2 o2 e2) on) = on
+  live_back calm r b p e (goes_on x y c q i is off (fails b2 p2 h o2 e2 caught there) on) =
+      absurd (calm b h there)
+  live_back calm r b p e (goes_on x y c q i is off (jumps b2 p2 j t l e2 there) on) =
       let both : End l ≡ Do Turn = same_item b p (End l) (Do Turn) e2 e in absurd (cc)
 
   -- a return reads what it returns, and nothing is read behind it
-  live_returned : (r b p : ℕ) (x : Reg) → item_in f.blocks b p ≡ Some (End (Return x)) → LiveAt f r b p → nat_eq x.0 r ≡ true
-  live_returned r b p x e (reads_here b2 p2 i is at) =
+  live_returned : IsBare f → (r b p : ℕ) (x : Reg) → item_in f.blocks b p ≡ Some (End (Return x)) → LiveAt f r b p → nat_eq x.0 r ≡ true
+  live_returned calm r b p x e (reads_here b2 p2 i is at) =
       let same : i ≡ End (Return x) = same_item b p i (End (Return x)) is e in
       left (nat_eq x.0 r) (ap (λ z. path.reads z r) (sym same) ∙ at)
     where
       left : (c : Bool) → (c || false) ≡ true → c ≡ true
       left true f = refl
       left false f = absurd (cc)
-  live_returned r b p x e (goes_on b2 p2 c q i is off (passes b3 p3 o2 e2) on) =
+  live_returned calm r b p x e (goes_on b2 p2 c q i is off (passes b3 p3 o2 e2) on) =
       let both : Do o2 ≡ End (Return x) = same_item b p (Do o2) (End (Return x)) e2 e in absurd (cc)
-  live_returned r b p x e (goes_on b2 p2 c q i is off (fails b3 p3 h o2 e2 caught there) on) =
-      absurd (no_handler (slice_get f.blocks b) h there)
-  live_returned r b p x e (goes_on b2 p2 c q i is off (jumps b3 p3 j t l e2 there) on) =
+  live_returned calm r b p x e (goes_on b2 p2 c q i is off (fails b3 p3 h o2 e2 caught there) on) =
+      absurd (calm b h there)
+  live_returned calm r b p x e (goes_on b2 p2 c q i is off (jumps b3 p3 j t l e2 there) on) =
       let same : l ≡ Return x = same_end (same_item b p (End l) (End (Return x)) e2 e) in
       let none : None ≡ Some t = ap (λ z. slice_get (targets z) j) (sym same) ∙ there in
       absurd (cc)
@@ -267,7 +267,7 @@ module _ (f : Func) where
     turn_same b p is met =
         let lived : (r : ℕ) → r < length f.regs → t.live b (suc p) r ≡ t.live b p r = λ r lt.
         both_bools (t.live b (suc p) r) (t.live b p r) (live_on b p Turn is met r lt refl)
-        (λ e. (t.is_live b (suc p) r (behind b p Turn is met).0 (behind b p Turn is met).1 lt).1 (live_back r b p is ((t.is_live b p r (Do Turn) is lt).0 e))) in
+        (λ e. (t.is_live b (suc p) r (behind b p Turn is met).0 (behind b p Turn is met).1 lt).1 (live_back t.calm r b p is ((t.is_live b p r (Do Turn) is lt).0 e))) in
         let own : (r : ℕ) → owned f t b (suc p) r ≡ owned f t b p r = λ r. ⊎_elim
         (λ c. ap (λ z. one_if (counted r && (z && not (t.lent b (suc p) r)))) (lived r (counted_there f.regs r c)) ∙ ap (λ z. one_if (counted r && (t.live b p r && not z))) (lent_on b p Turn is met r (counted_there f.regs r c) refl))
         (λ off. off_owned b (suc p) r off ∙ sym (off_owned b p r off))
@@ -282,7 +282,7 @@ module _ (f : Func) where
     -- at a return only what is returned is owned
     pub dead_returned : (b p r : ℕ) (x : Reg) → item_in f.blocks b p ≡ Some (End (Return x)) → nat_eq x.0 r ≡ false → owned f t b p r ≡ 0
     dead_returned b p r x is ne = ⊎_elim
-        (λ c. one_dead (counted r) (t.live b p r) (t.lent b p r) (⊎_elim (λ l. let both : true ≡ false = sym (live_returned r b p x is ((t.is_live b p r (End (Return x)) is (counted_there f.regs r c)).0 l)) ∙ ne in absurd (cc)) (λ l. l) (either (t.live b p r))))
+        (λ c. one_dead (counted r) (t.live b p r) (t.lent b p r) (⊎_elim (λ l. let both : true ≡ false = sym (live_returned t.calm r b p x is ((t.is_live b p r (End (Return x)) is (counted_there f.regs r c)).0 l)) ∙ ne in absurd (cc)) (λ l. l) (either (t.live b p r))))
         (λ off. off_owned b p r off)
         (either (counted r))
 

@@ -13,7 +13,7 @@ use Rattle.c_core.specs.declared.primitive.Primitive.{Primitive}
 use Rattle.c_core.specs.Cells.{same, times}
 use Rattle.c_core.specs.Functions.{function_named}
 use Rattle.c_core.specs.Primitives.{Outcome, Nothing, Owned, Lent, row_of}
-use Rattle.c_core.specs.WellFormed.{kind_at, named_kind, same_kinds, is_declared, is_call_name, spelled_target, spelled_arg, spelled_literal, call_fits, args_fit, target_fits, function_call_fits}
+use Rattle.c_core.specs.WellFormed.{kind_at, named_kind, same_kinds, is_declared, is_call_name, is_identifier, spelled_label, spelled_target, spelled_arg, spelled_literal, call_fits, args_fit, target_fits, function_call_fits}
 use Rattle.c_core.proofs.Lines.{and_true}
 use Rattle.ir_core.specs.declared.code.Reg.{Reg}
 use Rattle.ir_core.specs.declared.code.PArg.{PArg}
@@ -21,10 +21,11 @@ use Rattle.ir_core.specs.declared.code.Lit.{Lit as Literal}
 use Rattle.ir_core.specs.declared.code.Op.{Op}
 use Rattle.ir_core.specs.declared.code.Op.TheVariants.{Move, Lit, Prim, Call, Virtual, TraitCall, Turn, Inc, Dec, XDec}
 use Rattle.ir_core.specs.declared.code.Program.{Program}
-use Rattle.ir_core.specs.Lower.{line_of, op_lines, argument_in, number_of, register_in, literal_in, called_as}
+use Rattle.ir_core.specs.Lower.{line_of, op_lines, argument_in, number_of, register_in, literal_in, called_as, class_called}
 use Rattle.ir_core.specs.Shape.{is_target_of, is_apart, is_argument, is_register}
 use Rattle.ir_core.proofs.RowLemmas.{primitive_found}
-use Rattle.c_core_ownership_laws.specs.Shares.{put, one_if, Shares, with_owns, with_share, unheld_if, is_noisy, may_refer, may_have_cells, IsLent, IsUsable, left_over, HasRoom, IsClear, IsFree, with_answer, with_outcome, target_kind, answers_cells, returns_cells, callee_named, HasTarget, LineChecks, PrimitiveChecks, CallChecks}
+use Rattle.ir_core.proofs.TextLemmas.{map_registers}
+use Rattle.c_core_ownership_laws.specs.Shares.{put, one_if, Shares, with_owns, with_share, unheld_if, is_noisy, may_refer, may_have_cells, IsLent, IsUsable, left_over, HasRoom, IsClear, IsFree, with_answer, with_outcome, target_kind, answers_cells, returns_cells, callee_named, HasTarget, AreUsable, LineChecks, PrimitiveChecks, CallChecks, MethodChecks}
 use Rattle.liveness.specs.Paths.{is_among, reads_of, write_of, is_target, registers_in}
 use Rattle.liveness.specs.Paths as path
 use Rattle.refcount_insert_rule.specs.Rule.{taken, takes, gives, counts_before, counts_after, downs, ups, given_up, IsGroup}
@@ -153,6 +154,12 @@ module _ (p q : Program) (code old : Code) (g : CFunc) (counted : ℕ → Bool) 
         let off : is_among (reads_of o) x.0 ≡ false = ap (λ z. is_among z x.0) read ∙ apart_regs x args (not_true (list_any (is_register x) args) op) in
         (usable_all g.vars U args (λ r e. here_usable r (ap (λ z. is_among z r) read ∙ e)), (room x.0 spelled, λ e. returns_same name ∙ called_fits old g.vars x.0 (map register_in args) (callee_named old name) fits e), inl (omega (arith, here_free x.0 w (here_clear x.0 w off), none_taken x.0)), answered x.0 U.owns (λ r. false) w spelled (λ r. omega (arith, none_taken r)) one (λ r. refl))
 
+    -- so is a method, of which the object is the first
+    method_check : (x ob : Reg) (args : List Reg) → write_of o ≡ Some x.0 → reads_of o ≡ map path.number_of (ob ∷ args) → ((r : ℕ) → takes o r ≡ 0) → ((w : ℕ) → gives o w ≡ 1) → not (list_any (is_register x) (ob ∷ args)) ≡ true → is_declared g.vars x.0 ≡ true → MethodChecks code g Enters U x.0 (ob.0 ∷ map number_of args) Left
+    method_check x ob args w read none_taken one op spelled =
+        let off : is_among (reads_of o) x.0 ≡ false = ap (λ z. is_among z x.0) read ∙ apart_regs x (ob ∷ args) (not_true (list_any (is_register x) (ob ∷ args)) op) in
+        (subst (AreUsable g.vars U) (sym (map_registers (ob ∷ args))) (usable_all g.vars U (ob ∷ args) (λ r e. here_usable r (ap (λ z. is_among z r) read ∙ e))), room x.0 spelled, inl (omega (arith, here_free x.0 w (here_clear x.0 w off), none_taken x.0)), answered x.0 U.owns (λ r. false) w spelled (λ r. omega (arith, none_taken r)) one (λ r. refl))
+
   op_check : (o : Op) (σ τ : Shares) (fit : Suits g.vars counted o σ τ) (up : List ℕ) (ds : List (ℕ × Bool)) (before : (r : ℕ) → times up r ≡ counts_before counted o σ.owns τ.owns r) (after : (r : ℕ) → times (given_up ds) r ≡ counts_after counted o σ.owns τ.owns r) (n : ℕ) (ls : List Line) (rest : Good τ ls) → IsFit p old g o → LineChecks code g Enters (record σ { owns = λ r. σ.owns r + times up r }) (line_of p o) (λ ρ. Good ρ (op_lines q (downs ds n) ++ ls))
   op_check (Move x y) σ τ fit up ds before after n ls rest is =
       move_check (Move x y) σ τ fit up ds before after n ls rest x.0 y.0 refl refl (λ r. refl) (λ w. refl) is.spelled is.fits
@@ -174,8 +181,12 @@ module _ (p q : Program) (code old : Code) (g : CFunc) (counted : ℕ → Bool) 
       ap (λ z. call_fits old g.vars (Some x.0) cargs z (function_named old.funcs name)) (sym (none_called p m)) ∙ is.fits in
       subst (λ z. CallChecks code g Enters (record σ { owns = λ r. σ.owns r + times up r }) (Some x.0) name cargs z (λ ρ. Good ρ (op_lines q (downs ds n) ++ ls))) (sym (none_called p m))
       (call_check (Call x m args) σ τ fit up ds before after n ls rest x name args refl refl (λ r. refl) (λ w. refl) is.op spelled fits)
-  op_check (Virtual x o m args) σ τ fit up ds before after n ls rest is = let e : false ≡ true = is.fits in absurd (cc)
-  op_check (TraitCall x o t m args) σ τ fit up ds before after n ls rest is = let e : false ≡ true = is.fits in absurd (cc)
+  op_check (Virtual x ob m args) σ τ fit up ds before after n ls rest is =
+      let others : Bool = is_declared g.vars ob.0 && (spelled_label m && list_all (is_declared g.vars) (map number_of args)) in
+      method_check (Virtual x ob m args) σ τ fit up ds before after n ls rest x ob args refl refl (λ r. refl) (λ w. refl) is.op (and_true (is_declared g.vars x.0) others is.spelled).0
+  op_check (TraitCall x ob t m args) σ τ fit up ds before after n ls rest is =
+      let others : Bool = is_declared g.vars ob.0 && (is_identifier (class_called p t) && (spelled_label m && list_all (is_declared g.vars) (map number_of args))) in
+      method_check (TraitCall x ob t m args) σ τ fit up ds before after n ls rest x ob args refl refl (λ r. refl) (λ w. refl) is.op (and_true (is_declared g.vars x.0) others is.spelled).0
   op_check Turn σ τ fit up ds before after n ls rest is =
       turn_check Turn σ τ fit up ds before after n ls rest refl (λ r. refl)
   op_check (Inc x) σ τ fit up ds before after n ls rest is = let e : false ≡ true = is.op in absurd (cc)

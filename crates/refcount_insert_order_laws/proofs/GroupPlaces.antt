@@ -7,6 +7,7 @@ use Rattle.c_core.specs.Functions.{label_places}
 use Rattle.ir_core.specs.declared.code.Block.{Block}
 use Rattle.ir_core.specs.declared.code.Func.{Func}
 use Rattle.ir_core.specs.declared.code.Program.{Program}
+use Rattle.ir_core.specs.Bare.{IsBare}
 use Rattle.ir_core.specs.Items.{End, item_of}
 use Rattle.ir_core.specs.Lower.{op_lines, label_before, label_of, end_lines, block_lines, lines_from, name_in, lower}
 use Rattle.ir_core.specs.Lowered.{IsLabelled}
@@ -15,7 +16,7 @@ use Rattle.ir_core.proofs.LowerLemmas.{place_of, label_at}
 use Rattle.c_core_ownership_laws.specs.Shares.{Shares}
 use Rattle.c_core_ownership_laws.specs.Order.{from}
 use Rattle.liveness.specs.Paths.{targets, passes, fails, jumps, MetAt, entry, onward}
-use Rattle.liveness.proofs.PathLemmas.{no_handler, item_end, item_block}
+use Rattle.liveness.proofs.PathLemmas.{item_end, item_block}
 use Rattle.refcount_insert_rule.specs.Counted.{owned, IsCountedFunc, IsCountedProgram}
 use Rattle.refcount_insert_order_laws.specs.Places.{operations_before, NewBlock, group_place, HasShares}
 use Rattle.refcount_insert_order_laws.proofs.Equations.{at}
@@ -32,21 +33,21 @@ get_within [] i x e = let f : None ≡ Some x = e in absurd (cc)
 get_within (y ∷ bs) zero x e = omega arith
 get_within (y ∷ bs) (suc i) x e = omega (arith, get_within bs i x e)
 
-met_marked : (f : Func) (m : Marks f) (b p : ℕ) → MetAt f b p → (k : Block) → slice_get f.blocks b ≡ Some k → m.marked b ≡ true
-met_marked f m b p entry k is = m.first
-met_marked f m b p (onward c x d y met (passes c2 x2 o e)) k is = met_marked f m c x met k is
-met_marked f m b p (onward c x d y met (fails c2 x2 h o e caught there)) k is =
-    absurd (no_handler (slice_get f.blocks c) h there)
-met_marked f m b p (onward c x d y met (jumps c2 x2 i t l e goes)) k is =
+met_marked : (f : Func) (calm : IsBare f) (m : Marks f) (b p : ℕ) → MetAt f b p → (k : Block) → slice_get f.blocks b ≡ Some k → m.marked b ≡ true
+met_marked f calm m b p entry k is = m.first
+met_marked f calm m b p (onward c x d y met (passes c2 x2 o e)) k is = met_marked f calm m c x met k is
+met_marked f calm m b p (onward c x d y met (fails c2 x2 h o e caught there)) k is =
+    absurd (calm c h there)
+met_marked f calm m b p (onward c x d y met (jumps c2 x2 i t l e goes)) k is =
     let n = item_block (slice_get f.blocks c) x (End l) e in
     let end = item_end n.0.ops n.0.last x l (ap (λ z. item_of z x) (sym n.1) ∙ e) in
-    m.closed c n.0 n.1 (met_marked f m c x met n.0 n.1) i b (ap (λ z. slice_get (targets z) i) end.1 ∙ goes) (get_within f.blocks b k is)
+    m.closed c n.0 n.1 (met_marked f calm m c x met n.0 n.1) i b (ap (λ z. slice_get (targets z) i) end.1 ∙ goes) (get_within f.blocks b k is)
 
 from_none : (n : ℕ) → from n [] ≡ []
 from_none zero = refl
 from_none (suc n) = refl
 
-from_twice : (ls : List Line) (n k : ℕ) → from k (from n ls) ≡ from (n + k) ls
+pub from_twice : (ls : List Line) (n k : ℕ) → from k (from n ls) ≡ from (n + k) ls
 from_twice ls zero k = let e : k ≡ 0 + k = omega arith in ap (λ i. from i ls) e
 from_twice [] (suc n) k = from_none k ∙ sym (from_none (suc n + k))
 from_twice (x ∷ ls) (suc n) k =
@@ -54,7 +55,7 @@ from_twice (x ∷ ls) (suc n) k =
     from_twice ls n k ∙ ap (λ i. from i (x ∷ ls)) e
 
 -- a block at its label
-labelled_at : (q : Program) (blocks : List Block) (j : ℕ) (x : Block) → slice_get blocks j ≡ Some x → IsLabelled (lines_from q 0 blocks) label_of j (place_of q 0 blocks j)
+pub labelled_at : (q : Program) (blocks : List Block) (j : ℕ) (x : Block) → slice_get blocks j ≡ Some x → IsLabelled (lines_from q 0 blocks) label_of j (place_of q 0 blocks j)
 labelled_at q blocks zero x e = refl
 labelled_at q blocks (suc j) x e =
     let z : suc j - 1 ≡ j = omega arith in
@@ -128,4 +129,4 @@ module _ (p q : Program) (shape : Shape p) (counted : IsCountedProgram p q) (n :
 
   pub groups_have : (t : ℕ → Option Shares) → ((place : ℕ) → t place ≡ at_place shares place) → (b : ℕ) (k : Block) → slice_get f.blocks b ≡ Some k → MetAt f b 0 → (h : NewBlock q f g c b k) × ((i : ℕ) → i ≤ length h.front → HasShares f c.tables b i (t (group_place h i)))
   groups_have t tie b k is met =
-      have_at b k ((done p q shape counted n f g is_old c).marked b k (b, omega arith, is, met_marked f (marks f) b 0 met k is)) t tie
+      have_at b k ((done p q shape counted n f g is_old c).marked b k (b, omega arith, is, met_marked f c.tables.calm (marks f) b 0 met k is)) t tie

@@ -20,3 +20,4 @@ mod NewText
 mod Placing
 pub mod Whole
 mod GroupPlaces
+mod CallGroups

@@ -15,10 +15,11 @@ use Rattle.ir_core.specs.declared.code.Block.{Block}
 use Rattle.ir_core.specs.declared.code.Func.{Func}
 use Rattle.ir_core.specs.declared.code.Program.{Program}
 use Rattle.ir_core.specs.Lower.{kind_of_type, variable_of, line_of, op_lines, label_before, label_of, end_lines, block_lines, lines_from, lowered_as, name_in, lowered_from, lower}
-use Rattle.ir_core.specs.Shape.{OpsFit, op_fits, LastFits, BlockFits, BlocksFit, FuncFits, FuncsFit, Shape}
-use Rattle.ir_core.specs.Items.{End, item_of}
+use Rattle.std.specs.Option.{option_and_then}
+use Rattle.ir_core.specs.Shape.{OpsFit, op_fits, LastFits, HandlerFits, BlockFits, BlocksFit, FuncFits, FuncsFit, Shape}
+use Rattle.ir_core.specs.Items.{Do, End, item_of, handler_of}
 use Rattle.liveness.specs.Paths.{targets, Goes, passes, fails, jumps}
-use Rattle.liveness.proofs.PathLemmas.{no_handler, item_end, item_block}
+use Rattle.liveness.proofs.PathLemmas.{item_end, item_block}
 use Rattle.refcount_insert_order_laws.proofs.Ends.{IsLastFit}
 use Rattle.refcount_insert_order_laws.proofs.Mains.{BlockFacts}
 
@@ -151,7 +152,11 @@ module _ (p : Program) (shape : Shape p) where
 
         by : (b x d y : ℕ) → Goes f b x d y → d ≡ 0 → y ≡ 0 → ⊥
         by b x d y (passes b2 x2 o e) ed ey = omega (arith, ey)
-        by b x d y (fails b2 x2 h o e caught there) ed ey = no_handler (slice_get f.blocks b) h there
+        by b x d y (fails b2 x2 h o e caught there) ed ey =
+            let k = item_block (slice_get f.blocks b) x (Do o) e in
+            let handler : handler_of k.0 ≡ Some h = sym (ap (option_and_then handler_of) k.1) ∙ there in
+            let higher : HandlerFits (length f.blocks) b (Some h) = subst (HandlerFits (length f.blocks) b) handler (shape_at b k.0 k.1).handler in
+            omega (arith, higher.0, ed)
         by b x d y (jumps b2 x2 i t l e goes) ed ey =
             let k = item_block (slice_get f.blocks b) x (End l) e in
             let end = item_end k.0.ops k.0.last x l (ap (λ z. item_of z x) (sym k.1) ∙ e) in

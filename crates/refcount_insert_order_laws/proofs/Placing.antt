@@ -1,5 +1,5 @@
 -- A function with its counts is placed, by the shares at its lines.
-use Rattle.std.proofs.Common.{◌≡◌, refl, sym, ◌∙◌, ap, ℕ, zero, suc, ◌+◌, ◌≤◌, ◌<◌, arith, true, cond, List, [], ◌∷◌, length, Option, Some, None}
+use Rattle.std.proofs.Common.{◌≡◌, refl, sym, ◌∙◌, ap, ℕ, zero, suc, ◌+◌, ◌≤◌, ◌<◌, arith, true, cond, List, [], ◌∷◌, length, Option, Some, None, false}
 use Rattle.std.specs.Prelude.{slice_get}
 use Rattle.std.specs.Option.{option_and_then}
 use Rattle.c_core.specs.declared.code.Line.{Line}
@@ -21,7 +21,7 @@ use Rattle.refcount_insert_order_laws.proofs.Trails.{at_place, lead_at, line_map
 use Rattle.refcount_insert_order_laws.proofs.Bodies.{text_of}
 use Rattle.refcount_insert_order_laws.proofs.Ends.{Starts}
 use Rattle.refcount_insert_order_laws.proofs.Blocks.{Blocks}
-use Rattle.refcount_insert_order_laws.proofs.Starts.{if_met, starts, all_size, start_at, first_start}
+use Rattle.refcount_insert_order_laws.proofs.Starts.{if_met, starts, all_size, start_at, number_within, first_start}
 use Rattle.refcount_insert_order_laws.proofs.Functions.{Has, all_blocks}
 use Rattle.refcount_insert_order_laws.proofs.Labels.{at_drop}
 use Rattle.refcount_insert_order_laws.proofs.OldText.{has_block, block_facts, no_way_back}
@@ -63,6 +63,18 @@ module _ (p q : Program) (shape : Shape p) (counted : IsCountedProgram p q) (n :
   done =
       all_blocks p q f c.tables c.number (lower q) (lower p) (name_in q n g) (lines_from q 0 g.blocks) (alike p q counted) start (marks f) known begun [] (λ i. refl) (block_facts p shape n f is_old (name_in q n g) (lines_from q 0 g.blocks)) 0 0 f.blocks g.blocks c.blocks refl refl
       (λ j x e. let z : 0 + j ≡ j = omega arith in ap (slice_get f.blocks) z ∙ e)
+
+  -- a block to which no path leads has no shares where it begins
+  pub unmet_start : (b : ℕ) (k : Block) → slice_get f.blocks b ≡ Some k → (marks f).marked b ≡ false → (x : Block) × (slice_get g.blocks (c.number b) ≡ Some x) × (at_place done.shares (place_of q 0 g.blocks (c.number b)) ≡ None)
+  unmet_start b k is off =
+      let s = start_at f c.tables c.number (marks f) 0 0 f.blocks g.blocks c.blocks b k is in
+      let within = number_within f c.tables c.number (marks f) 0 0 f.blocks g.blocks c.blocks b k is in
+      let z : 0 + b ≡ b = omega arith in
+      let number : c.number b ≡ s.0 = ap c.number (sym z) ∙ (s.1 ∙ omega arith) in
+      let same : c.number b ≡ within.0 = ap c.number (sym z) ∙ (within.1 ∙ omega arith) in
+      let x = get_there g.blocks (c.number b) (omega (arith, same, within.2)) in
+      let none : start (c.number b) ≡ None = ap start number ∙ (s.3 ∙ (ap (λ y. if_met f c.tables c.number (marks f) y (at f c.tables y 0)) z ∙ ap (λ d. cond d (Some (at f c.tables b 0)) None) off)) in
+      (x.0, x.1, at_drop done.shares (place_of q 0 g.blocks (c.number b)) ∙ (done.places (c.number b) x.0 x.1 ∙ none))
 
   -- a table that has them is one by which the function is placed
   module _ (t : Table) (tie : (place : ℕ) → t n place ≡ at_place done.shares place) (there : slice_get (lower q).funcs n ≡ Some text) where

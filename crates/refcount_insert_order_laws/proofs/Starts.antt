@@ -1,5 +1,5 @@
 -- The shares with which new blocks start: those of the start of an old block that is met, and those with which an edge leaves it.
-use Rattle.std.proofs.Common.{◌≡◌, refl, sym, ap, ◌∙◌, subst, ℕ, zero, suc, ◌+◌, ◌≤◌, cond, List, [], ◌∷◌, ◌++◌, map, length, arith, length-append, Option, Some, None}
+use Rattle.std.proofs.Common.{◌≡◌, refl, sym, ap, ◌∙◌, subst, ℕ, zero, suc, ◌+◌, ◌≤◌, cond, List, [], ◌∷◌, ◌++◌, map, length, arith, length-append, Option, Some, None, ◌<◌}
 use Rattle.std.specs.Prelude.{slice_get}
 use Rattle.c_core.specs.declared.code.CFunc.{CFunc}
 use Rattle.c_core.specs.declared.code.Code.{Code}
@@ -65,6 +65,17 @@ module _ (f : Func) (t : Tables f) (number : ℕ → ℕ) (m : Marks f) where
       let size : length own ≡ length h.1 = map_size Shares (Option Shares) (if_met k) (starts_of f t number k (length b.ops) b.last (n + 1) h.0.last h.1 h.6) ∙ starts_size k (length b.ops) b.last (n + 1) h.0.last h.1 h.6 in
       let z : k + suc j ≡ suc k + j = omega arith in
       (suc (length own + rest.0), ap number z ∙ (rest.1 ∙ omega (arith, size)), omega (arith, rest.2), at_behind own later rest.0 ∙ (rest.3 ∙ ap (λ y. if_met y (at f t y 0)) (sym z)))
+
+  -- which is one of the new blocks
+  pub number_within : (k n : ℕ) (bs blocks : List Block) (h : AreBlocks f t number k n bs blocks) (j : ℕ) (x : Block) → slice_get bs j ≡ Some x → (i : ℕ) × (number (k + j) ≡ n + i) × (i < length blocks)
+  number_within k n [] blocks h j x e = let g : None ≡ Some x = e in absurd (cc)
+  number_within k n (b ∷ bs) blocks h zero x e =
+      let z : k + 0 ≡ k = omega arith in
+      (0, ap number z ∙ (h.4 ∙ omega arith), omega (arith, ap length h.3))
+  number_within k n (b ∷ bs) blocks h (suc j) x e =
+      let rest = number_within (suc k) (n + 1 + length h.1) bs h.2 h.7 j x e in
+      let z : k + suc j ≡ suc k + j = omega arith in
+      (suc (length h.1 + rest.0), ap number z ∙ (rest.1 ∙ omega arith), omega (arith, rest.2, ap length h.3, length-append h.1 h.2))
 
   -- the first of blocks that are there
   pub first_start : (k n : ℕ) (bs blocks : List Block) (h : AreBlocks f t number k n bs blocks) (x : Block) → slice_get bs 0 ≡ Some x → (at_place (starts k n bs blocks h) 0 ≡ if_met k (at f t k 0)) × (main : Block) × (slice_get blocks 0 ≡ Some main)

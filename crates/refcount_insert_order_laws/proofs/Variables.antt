@@ -1,14 +1,13 @@
 -- What lines that are spelled and fit say of their variables and of their kinds.
 use Rattle.std.proofs.Common.{◌≡◌, refl, sym, ap, ◌∙◌, subst, ℕ, zero, suc, ◌<◌, ◌⊎◌, inl, inr, ⊎_elim, Bool, true, false, List, [], ◌∷◌, map, length, arith, Option, Some, None, eqb-true}
-use Rattle.std.specs.Prelude.{slice_get, nat_eq, nat_lt, ◌&&◌, ◌||◌, codes, pos}
+use Rattle.std.specs.Prelude.{slice_get, nat_eq, nat_lt, ◌&&◌, ◌||◌}
 use Rattle.std.specs.List.{list_all}
 use Rattle.std.specs.Option.{option_map, option_map_or}
 use Rattle.std.proofs.lemmas.Bool.{ltb-true}
 use Rattle.c_core.specs.declared.code.Kind.{Kind}
 use Rattle.c_core.specs.declared.code.Kind.TheVariants.{Tagged, Int64, Char, Object}
 use Rattle.c_core.specs.Primitives.{row_of}
-use Rattle.value_core.specs.Arithmetic.{lies_within}
-use Rattle.c_core.specs.WellFormed.{has_kind, same_kind, same_kinds, is_declared, is_identifier, is_call_name, spelled_target, spelled_line, spelled_arg}
+use Rattle.c_core.specs.WellFormed.{has_kind, same_kind, same_kinds, is_declared, is_identifier, is_call_name, spelled_label, spelled_target, spelled_line, spelled_arg}
 use Rattle.c_core.proofs.Lines.{and_true}
 use Rattle.ir_core.specs.declared.code.RType.{RType}
 use Rattle.ir_core.specs.declared.code.RType.TheVariants.{Int, I64, Bool as BoolType, Ref}
@@ -116,6 +115,12 @@ module _ (vars : List (List ℕ × Kind)) where
       let both = and_true (is_declared vars x.0) (list_all (spelled_arg vars) (map register_in args)) s in
       ⊎_elim (λ is. subst (λ z. is_declared vars z ≡ true) is both.0) (regs_declared args both.1 r) (one_of x.0 (map path.number_of args) r e)
 
+  numbers_declared : (args : List Reg) → list_all (is_declared vars) (map number_of args) ≡ true → (r : ℕ) → is_among (map path.number_of args) r ≡ true → is_declared vars r ≡ true
+  numbers_declared [] s r e = absurd (cc)
+  numbers_declared (x ∷ args) s r e =
+      let both = and_true (is_declared vars x.0) (list_all (is_declared vars) (map number_of args)) s in
+      ⊎_elim (λ is. subst (λ z. is_declared vars z ≡ true) is both.0) (numbers_declared args both.1 r) (one_of x.0 (map path.number_of args) r e)
+
   pub reads_declared : (p : Program) (o : Op) → op_fits o ≡ true → spelled_line vars (line_of p o) ≡ true → (r : ℕ) → is_among (reads_of o) r ≡ true → is_declared vars r ≡ true
   reads_declared p (Move x y) fit s r e =
       among_one y.0 r (and_true (is_declared vars x.0) (is_declared vars y.0) s).1 e
@@ -125,17 +130,17 @@ module _ (vars : List (List ℕ × Kind)) where
   reads_declared p (Call x n args) fit s r e =
       regs_declared args (and_true (is_call_name (called_as p n)) (list_all (spelled_arg vars) (map register_in args)) (and_true (is_declared vars x.0) (is_call_name (called_as p n) && list_all (spelled_arg vars) (map register_in args)) s).1).1 r e
   reads_declared p (Virtual x o n args) fit s r e =
-      let all = list_all (spelled_arg vars) (map register_in args) in
-      let spelled = (and_true (is_call_name (codes "CPyVirtual")) (is_declared vars o.0 && (lies_within 63 (pos n) && all)) (and_true (is_declared vars x.0) (is_call_name (codes "CPyVirtual") && (is_declared vars o.0 && (lies_within 63 (pos n) && all))) s).1).1 in
-      let both = and_true (is_declared vars o.0) (lies_within 63 (pos n) && all) spelled in
-      ⊎_elim (λ is. subst (λ z. is_declared vars z ≡ true) is both.0) (regs_declared args (and_true (lies_within 63 (pos n)) all both.1).1 r) (one_of o.0 (map path.number_of args) r e)
+      let all = list_all (is_declared vars) (map number_of args) in
+      let object = (and_true (is_declared vars x.0) (is_declared vars o.0 && (spelled_label n && all)) s).1 in
+      let both = and_true (is_declared vars o.0) (spelled_label n && all) object in
+      ⊎_elim (λ is. subst (λ z. is_declared vars z ≡ true) is both.0) (numbers_declared args (and_true (spelled_label n) all both.1).1 r) (one_of o.0 (map path.number_of args) r e)
   reads_declared p (TraitCall x o t n args) fit s r e =
-      let all = list_all (spelled_arg vars) (map register_in args) in
-      let trait = is_identifier (class_called p t) && (lies_within 63 (pos n) && all) in
-      let spelled = (and_true (is_call_name (codes "CPyTrait")) (is_declared vars o.0 && trait) (and_true (is_declared vars x.0) (is_call_name (codes "CPyTrait") && (is_declared vars o.0 && trait)) s).1).1 in
-      let both = and_true (is_declared vars o.0) trait spelled in
-      let last = (and_true (is_identifier (class_called p t)) (lies_within 63 (pos n) && all) both.1).1 in
-      ⊎_elim (λ is. subst (λ z. is_declared vars z ≡ true) is both.0) (regs_declared args (and_true (lies_within 63 (pos n)) all last).1 r) (one_of o.0 (map path.number_of args) r e)
+      let all = list_all (is_declared vars) (map number_of args) in
+      let trait = is_identifier (class_called p t) && (spelled_label n && all) in
+      let object = (and_true (is_declared vars x.0) (is_declared vars o.0 && trait) s).1 in
+      let both = and_true (is_declared vars o.0) trait object in
+      let last = (and_true (is_identifier (class_called p t)) (spelled_label n && all) both.1).1 in
+      ⊎_elim (λ is. subst (λ z. is_declared vars z ≡ true) is both.0) (numbers_declared args (and_true (spelled_label n) all last).1 r) (one_of o.0 (map path.number_of args) r e)
   reads_declared p Turn fit s r e = absurd (cc)
   reads_declared p (Inc x) fit s r e = absurd (cc)
   reads_declared p (Dec x) fit s r e = absurd (cc)

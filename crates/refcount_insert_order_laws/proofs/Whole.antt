@@ -1,9 +1,9 @@
 -- A program with its counts is placed, and so it is in order.
-use Rattle.std.proofs.Common.{◌≡◌, refl, sym, ◌∙◌, ap, subst, arith, ℕ, zero, suc, ◌+◌, ◌-◌, ◌≤◌, ◌<◌, ◌⊎◌, inl, inr, true, length, List, [], ◌∷◌, Option, Some, None}
+use Rattle.std.proofs.Common.{◌≡◌, refl, sym, ◌∙◌, ap, subst, arith, ℕ, zero, suc, ◌+◌, ◌-◌, ◌≤◌, ◌<◌, ◌⊎◌, inl, inr, Bool, true, false, length, List, [], ◌∷◌, Option, Some, None}
 use Rattle.std.specs.Prelude.{slice_get, map}
 use Rattle.value_core.specs.Items.{Items}
 use Rattle.c_core.specs.declared.code.CFunc.{CFunc}
-use Rattle.c_core.specs.Machine.{MachineState}
+use Rattle.c_core.specs.Machine.{MachineState, Frame}
 use Rattle.c_core.specs.Run.{module_function, start}
 use Rattle.c_core.specs.Laws.{Reaches}
 use Rattle.c_core.specs.WellFormed.{spelled_functions}
@@ -12,18 +12,24 @@ use Rattle.ir_core.specs.declared.code.Program.{Program}
 use Rattle.ir_core.specs.Lower.{kind_of_type, variable_of, lines_from, lowered_as, name_in, lowered_from, lower}
 use Rattle.ir_core.specs.Shape.{Shape}
 use Rattle.c_core_ownership_laws.specs.Shares.{Shares}
-use Rattle.c_core_ownership_laws.specs.Frames.{IsMet}
+use Rattle.c_core_ownership_laws.specs.Frames.{IsMet, IsWaiting, Waits}
 use Rattle.c_core_ownership_laws.specs.Order.{Table, Entered, ArePlaced, IsPlaced, labels_of}
 use Rattle.c_core_ownership_laws.proofs.Placed.{placed_kept, placed_in_order}
 use Rattle.c_core_ownership_laws.proofs.Runs.{reached_met}
 use Rattle.c_core_ownership_laws.proofs.Totals.{total-same}
 use Rattle.refcount_insert_rule.specs.Counted.{owned, IsCountedFunc, AreCounted, IsCountedProgram}
-use Rattle.refcount_insert_order_laws.specs.Places.{EachCounted}
-use Rattle.refcount_insert_order_laws.specs.Laws.{CountedIsInOrder, CountedIsPlaced, LedgersAreOwned, GroupsHaveShares, GroupsOwn}
+use Rattle.ir_core.proofs.LowerLemmas.{place_of}
+use Rattle.c_core.specs.declared.code.Kind.{Kind}
+use Rattle.liveness.specs.Paths.{MetAt}
+use Rattle.std.proofs.lemmas.Option.{slice_get_within}
+use Rattle.refcount_insert_order_laws.proofs.CallGroups.{call_line}
+use Rattle.refcount_insert_order_laws.proofs.MetBlocks.{marks}
+use Rattle.refcount_insert_order_laws.specs.Places.{EachCounted, group_place}
+use Rattle.refcount_insert_order_laws.specs.Laws.{CountedIsInOrder, CountedIsPlaced, LedgersAreOwned, GroupsHaveShares, GroupsOwn, CallersAreOwned, CallersOwn, UnmetAreNeverEntered, NeverEntered}
 use Rattle.refcount_insert_order_laws.proofs.Trails.{at_place}
 use Rattle.refcount_insert_order_laws.proofs.Bodies.{text_of}
-use Rattle.refcount_insert_order_laws.proofs.Placing.{done, placed}
-use Rattle.refcount_insert_order_laws.proofs.GroupPlaces.{groups_have}
+use Rattle.refcount_insert_order_laws.proofs.Placing.{done, placed, unmet_start}
+use Rattle.refcount_insert_order_laws.proofs.GroupPlaces.{groups_have, labelled_at}
 use Rattle.refcount_insert_order_laws.proofs.OldText.{function_at, spelled_all}
 use Rattle.refcount_insert_order_laws.proofs.NewText.{Pair, pair_at, counted_size}
 
@@ -42,6 +48,14 @@ each_map [] (g ∷ gs) h k P Q to each = tt
 each_map (f ∷ fs) [] h k P Q to each = tt
 each_map (f ∷ fs) (g ∷ gs) h k P Q to each =
     (to k f g h.0 each.0, each_map fs gs h.1 (suc k) P Q to each.1)
+
+-- a block to which no path leads has no mark
+unmarked : (f : Func) (b : ℕ) → (MetAt f b 0 → ⊥) → (marks f).marked b ≡ false
+unmarked f b unmet = by ((marks f).marked b) refl
+  where
+    by : (m : Bool) → (marks f).marked b ≡ m → (marks f).marked b ≡ false
+    by true is = absurd (unmet ((marks f).sound b is))
+    by false is = is
 
 module _ (p q : Program) (shape : Shape p) (counted : IsCountedProgram p q) where
   abbrev Here : ℕ → Type 0
@@ -132,6 +146,56 @@ module _ (p q : Program) (shape : Shape p) (counted : IsCountedProgram p q) wher
   all_own =
       each_map p.funcs q.funcs counted.funcs 0 (GroupsHaveShares q table) (GroupsOwn q) owns_at all_shares
 
+  -- ---- frames that wait
+  waits_at : (ret : Kind) (into : Option ℕ) (fs : List Frame) → Waits (lower q) (Entered table) ret into fs → (j : ℕ) (frame : Frame) → slice_get fs j ≡ Some frame → (k : Kind) × (x : Option ℕ) × (below : List Frame) × IsWaiting (lower q) (Entered table) k x frame below
+  waits_at ret into [] w j frame e = let f : None ≡ Some frame = e in absurd (cc)
+  waits_at ret into (f ∷ fs) w zero frame e =
+      let g : Some f ≡ Some frame = e in
+      let same : f ≡ frame = cc in
+      (ret, into, fs, subst (λ z. IsWaiting (lower q) (Entered table) ret into z fs) same w.0)
+  waits_at ret into (f ∷ fs) w (suc j) frame e = waits_at w.0.g.ret f.into fs w.1 j frame e
+
+  callers_at : (n : ℕ) (f g : Func) (there : slice_get p.funcs n ≡ Some f) (here : slice_get q.funcs n ≡ Some g) (c : IsCountedFunc f g) → GroupsHaveShares q table n f g c → CallersOwn q n f g c
+  callers_at n f g there here c have b k is met =
+      let h = have b k is met in (
+        h.0,
+        λ i o at call. (
+          call_line q f g c b k is h.0 i o at call,
+          λ turns items steps s r j frame found func place cell.
+              let low : i ≤ length h.0.front = omega (arith, slice_get_within h.0.front i o at) in
+              let shares = h.1 i low in
+              let state = met_at turns items steps s r in
+              let waits = (waits_at state.g.ret s.top.into s.below state.waits j frame found).3 in
+              let same_place : waits.call ≡ group_place h.0 i = omega (arith, waits.place, place) in
+              let both : Some waits.σ ≡ Some shares.0 = sym waits.at ∙ (ap (λ z. table z waits.call) func ∙ (ap (table n) same_place ∙ shares.1)) in
+              let same : waits.σ ≡ shares.0 = cc in
+              waits.meets.owned cell ∙ total-same waits.σ.owns (owned f c.tables b i) frame.vars cell (λ x. ap (λ (z : Shares). z.owns x) same ∙ shares.2 x),
+        ),
+      )
+
+  pub all_callers : EachCounted (CallersOwn q) 0 p.funcs q.funcs counted.funcs
+  all_callers =
+      each_from p.funcs q.funcs counted.funcs 0 (CallersOwn q) (λ i f g there here c e. let z : i ≡ 0 + i = omega arith in subst (λ n. CallersOwn q n f g c) z (callers_at i f g there here c (shares_at i f g there here c e)))
+
+  -- ---- blocks to which no path leads
+  never_at : (n : ℕ) (f g : Func) (there : slice_get p.funcs n ≡ Some f) (here : slice_get q.funcs n ≡ Some g) (c : IsCountedFunc f g) → pair_at p.funcs q.funcs counted.funcs n ≡ inl (f, g, there, here, c) → NeverEntered q n f g c
+  never_at n f g there here c e b k is unmet =
+      let off : (marks f).marked b ≡ false = unmarked f b unmet in
+      let first = unmet_start p q shape counted n f g there c b k is off in
+      let place : ℕ = place_of q 0 g.blocks (c.number b) in (
+        place,
+        labelled_at q g.blocks (c.number b) first.0 first.1,
+        λ turns items steps s r func at.
+            let state = met_at turns items steps s r in
+            let none : table n place ≡ None = ap (λ o. at_place (shares_by n o) place) e ∙ first.2 in
+            let both : Some state.σ ≡ None = sym state.at ∙ (ap (λ z. table z s.top.place) func ∙ (ap (table n) at ∙ none)) in
+            absurd (cc),
+      )
+
+  pub all_never : EachCounted (NeverEntered q) 0 p.funcs q.funcs counted.funcs
+  all_never =
+      each_from p.funcs q.funcs counted.funcs 0 (NeverEntered q) (λ i f g there here c e. let z : i ≡ 0 + i = omega arith in subst (λ n. NeverEntered q n f g c) z (never_at i f g there here c e))
+
 pub counted_is_in_order : CountedIsInOrder
 counted_is_in_order p q shape counted =
     (labels_of (lower q) (table p q shape counted), placed_in_order (lower q) (table p q shape counted) (all_placed p q shape counted))
@@ -142,3 +206,9 @@ counted_is_placed p q shape counted =
 
 pub ledgers_are_owned : LedgersAreOwned
 ledgers_are_owned p q shape counted = all_own p q shape counted
+
+pub callers_are_owned : CallersAreOwned
+callers_are_owned p q shape counted = all_callers p q shape counted
+
+pub unmet_are_never_entered : UnmetAreNeverEntered
+unmet_are_never_entered p q shape counted = all_never p q shape counted

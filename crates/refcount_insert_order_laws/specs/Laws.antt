@@ -1,14 +1,17 @@
 -- A program with its counts keeps its references in order.
-use Rattle.std.specs.Prelude.{◌≡◌, ◌≤◌, ℕ, length, Some, slice_get}
+use Rattle.std.specs.Prelude.{◌≡◌, ◌≤◌, ℕ, ◌+◌, Bool, true, false, length, Some, slice_get}
 use Rattle.value_core.specs.Items.{Items}
 use Rattle.c_core.specs.Cells.{times}
-use Rattle.c_core.specs.Machine.{MachineState}
+use Rattle.c_core.specs.Machine.{Frame, MachineState}
 use Rattle.c_core.specs.Run.{start}
 use Rattle.c_core.specs.Laws.{Reaches}
+use Rattle.ir_core.specs.declared.code.Op.{Op}
+use Rattle.ir_core.specs.declared.code.Op.TheVariants.{Call, Virtual, TraitCall}
 use Rattle.ir_core.specs.declared.code.Block.{Block}
 use Rattle.ir_core.specs.declared.code.Func.{Func}
 use Rattle.ir_core.specs.declared.code.Program.{Program}
-use Rattle.ir_core.specs.Lower.{lower}
+use Rattle.ir_core.specs.Lower.{label_of, line_of, lines_from, lower}
+use Rattle.ir_core.specs.Lowered.{IsLabelled}
 use Rattle.ir_core.specs.Shape.{Shape}
 use Rattle.c_core_ownership_laws.specs.Frames.{total}
 use Rattle.c_core_ownership_laws.specs.Order.{Table, AreInOrder, ArePlaced}
@@ -40,3 +43,32 @@ GroupsOwn q n f g c =
 abbrev pub LedgersAreOwned : Type 0
 LedgersAreOwned =
     (p q : Program) → Shape p → (is : IsCountedProgram p q) → EachCounted (GroupsOwn q) 0 p.funcs q.funcs is.funcs
+
+-- ---- frames that wait
+-- a call of a function or of a method
+abbrev pub is_call : Op → Bool
+is_call (Call r g args) = true
+is_call (Virtual r o n args) = true
+is_call (TraitCall r o t n args) = true
+is_call _ = false
+
+-- The line of a call is the first of its group, and wherever a frame waits in that call it owns what its registers own at the old block
+-- and place of the call.
+abbrev pub CallersOwn : Program → ℕ → (f g : Func) → IsCountedFunc f g → Type 0
+CallersOwn q n f g c =
+    (b : ℕ) (k : Block) → slice_get f.blocks b ≡ Some k → MetAt f b 0 → (h : NewBlock q f g c b k) × ((i : ℕ) (o : Op × ℕ) → slice_get h.front i ≡ Some o → is_call o.0 ≡ true → (slice_get (lines_from q 0 g.blocks) (group_place h i) ≡ Some (line_of q o.0)) × ((turns : ℕ) (items : Items) (steps : ℕ) (s : MachineState) → Reaches (lower q) steps (start (lower q) turns items) s → (j : ℕ) (frame : Frame) → slice_get s.below j ≡ Some frame → frame.func ≡ n → frame.place ≡ group_place h i + 1 → (cell : ℕ) → times frame.ledger cell ≡ total (owned f c.tables b i) frame.vars cell))
+
+-- In each run a frame that waits in a call owns exactly what it owned in front of the call.
+abbrev pub CallersAreOwned : Type 0
+CallersAreOwned =
+    (p q : Program) → Shape p → (is : IsCountedProgram p q) → EachCounted (CallersOwn q) 0 p.funcs q.funcs is.funcs
+
+-- ---- blocks to which no path leads
+-- no run comes to the start of one
+abbrev pub NeverEntered : Program → ℕ → (f g : Func) → IsCountedFunc f g → Type 0
+NeverEntered q n f g c =
+    (b : ℕ) (k : Block) → slice_get f.blocks b ≡ Some k → (MetAt f b 0 → ⊥) → (place : ℕ) × IsLabelled (lines_from q 0 g.blocks) label_of (c.number b) place × ((turns : ℕ) (items : Items) (steps : ℕ) (s : MachineState) → Reaches (lower q) steps (start (lower q) turns items) s → s.top.func ≡ n → s.top.place ≡ place → ⊥)
+
+abbrev pub UnmetAreNeverEntered : Type 0
+UnmetAreNeverEntered =
+    (p q : Program) → Shape p → (is : IsCountedProgram p q) → EachCounted (NeverEntered q) 0 p.funcs q.funcs is.funcs

@@ -1,5 +1,5 @@
 //! The laws. Each function is its clause, and does nothing when it runs.
-ghost use Rattle.refcount_insert_order_laws.specs.Laws.{CountedIsInOrder, CountedIsPlaced, LedgersAreOwned};
+ghost use Rattle.refcount_insert_order_laws.specs.Laws.{CallersAreOwned, CountedIsInOrder, CountedIsPlaced, LedgersAreOwned, UnmetAreNeverEntered};
 
 /// The C text of a program with its counts is in order.
 pub fn counted_is_in_order()
@@ -14,4 +14,14 @@ pub fn counted_is_placed()
 /// In each run the frame owns in front of each group what its registers hold that are counted, read again and not only lent.
 pub fn ledgers_are_owned()
     ensures { LedgersAreOwned }
+{}
+
+/// And a frame that waits in a call owns what it owned in front of the call.
+pub fn callers_are_owned()
+    ensures { CallersAreOwned }
+{}
+
+/// A block to which no path leads is never entered.
+pub fn unmet_are_never_entered()
+    ensures { UnmetAreNeverEntered }
 {}

@@ -7,4 +7,7 @@
 
 mod laws;
 
-pub use laws::{counted_is_in_order, counted_is_placed, ledgers_are_owned};
+pub use laws::{
+    callers_are_owned, counted_is_in_order, counted_is_placed, ledgers_are_owned,
+    unmet_are_never_entered,
+};

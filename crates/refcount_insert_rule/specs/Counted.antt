@@ -1,7 +1,7 @@
 -- When one program is another one with its counts. The blocks are the old ones in their order, each operation with its counts by
 -- the one rule. An edge whose registers have other references before it than behind it has counts of its own: those of a jump
 -- stand in the block that it leaves, those of a test in a block of their own, which stands directly behind the block of the test.
-use Rattle.std.specs.Prelude.{◌≡◌, ◌↔◌, ◌≤◌, ◌<◌, ◌⊎◌, ℕ, suc, ◌+◌, ◌^◌, Bool, true, false, not, ◌&&◌, cond, nat_lt, List, [], ◌∷◌, ◌++◌, length, Some}
+use Rattle.std.specs.Prelude.{◌≡◌, ◌≢◌, ◌↔◌, ◌≤◌, ◌<◌, ◌⊎◌, ℕ, suc, ◌+◌, ◌^◌, Bool, true, false, not, ◌&&◌, cond, nat_lt, List, [], ◌∷◌, ◌++◌, length, Some, None}
 use Rattle.std.specs.Option.{option_map_or}
 use Rattle.ir_core.specs.declared.code.Op.{Op}
 use Rattle.ir_core.specs.declared.code.Last.{Last}
@@ -9,6 +9,7 @@ use Rattle.ir_core.specs.declared.code.Last.TheVariants.{Goto, If, IfError, Retu
 use Rattle.ir_core.specs.declared.code.Block.{Block}
 use Rattle.ir_core.specs.declared.code.Func.{Func}
 use Rattle.ir_core.specs.declared.code.Program.{Program}
+use Rattle.ir_core.specs.Bare.{IsBare}
 use Rattle.ir_core.specs.Items.{Item, item_in}
 use Rattle.ir_core.specs.Rows.{Declared, type_of_reg}
 use Rattle.c_core_ownership_laws.specs.Shares.{put, one_if}
@@ -20,8 +21,10 @@ abbrev pub counts_register : Declared → ℕ → Bool
 counts_register regs r = option_map_or is_counted (type_of_reg regs record { 0 = r }) false
 
 -- what is known at each block and place of a function of each register by its number: whether it is read again, and whether it
--- is only lent. In a block that no path comes to every register is only lent, by the definition of paths: nothing is owned there
+-- is only lent. In a block that no path comes to every register is only lent, by the definition of paths: nothing is owned there. No
+-- operation goes to a handler, since its failure goes over an edge
 pub record Tables (f : Func) : Type 0 where
+  pub calm : IsBare f
   pub live : ℕ → ℕ → ℕ → Bool
   pub lent : ℕ → ℕ → ℕ → Bool
   pub is_live : (b p r : ℕ) (i : Item) → item_in f.blocks b p ≡ Some i → r < length f.regs → (live b p r ≡ true) ↔ LiveAt f r b p
@@ -72,10 +75,11 @@ module _ (f : Func) (t : Tables f) (number : ℕ → ℕ) where
   IsBody k at old (Goto b) ops = cond (is_ahead k b) (AreAll at old (Goto b) ops) (AreTurned at old b ops)
   IsBody k at old last ops = AreAll at old last ops
 
-  -- the edge of a test to block b goes there, where that block wants what registers have, or to block n, which has its counts, if any
+  -- the edge of a test to block b goes there, where that block wants what registers have, or to block n, which has its counts. An edge
+  -- without counts has no block of its own
   abbrev pub IsEdgeTo : (ℕ → ℕ) → ℕ → ℕ → ℕ → List Block → Type 0
   IsEdgeTo have b n to own =
-      ((to ≡ number b) × (own ≡ []) × ((r : ℕ) → have r ≡ wanted b r)) ⊎ ((to ≡ n) × (counts : List (Op × ℕ)) × (own ≡ record { ops = counts; last = Goto (number b) } ∷ []) × IsEdge have (wanted b) counts)
+      ((to ≡ number b) × (own ≡ []) × ((r : ℕ) → have r ≡ wanted b r)) ⊎ ((to ≡ n) × (counts : List (Op × ℕ)) × (own ≡ record { ops = counts; last = Goto (number b); handler = None } ∷ []) × IsEdge have (wanted b) counts × (counts ≢ []))
 
   -- both edges of a test, whose blocks begin at n
   abbrev pub AreEdgesTo : (ℕ → ℕ) → (ℕ → ℕ) → ℕ → ℕ → ℕ → ℕ → ℕ → List Block → Type 0
@@ -101,7 +105,7 @@ module _ (f : Func) (t : Tables f) (number : ℕ → ℕ) where
 
 -- ---- programs
 
--- a function with its counts: nothing but the blocks has changed, and they are as few as numbers of 64 bits can name
+-- a function with its counts: nothing but the blocks has changed. They are as few as numbers of 64 bits can name, and none has a handler
 pub record IsCountedFunc (f g : Func) : Type 0 where
   pub name : g.name ≡ f.name
   pub params : g.params ≡ f.params
@@ -111,6 +115,7 @@ pub record IsCountedFunc (f g : Func) : Type 0 where
   pub number : ℕ → ℕ
   pub blocks : AreBlocks f tables number 0 0 f.blocks g.blocks
   pub few : length g.blocks ≤ 2 ^ 64
+  pub bare : IsBare g
 
 abbrev pub AreCounted : List Func → List Func → Type 0
 AreCounted [] [] = Unit {0}

@@ -1,5 +1,5 @@
 -- The end of a block that goes to another one: the counts before it, its line, and the counts of the edge.
-use Rattle.std.proofs.Common.{◌≡◌, refl, sym, ◌∙◌, ap, subst, ℕ, ◌+◌, ◌<◌, arith, Bool, true, false, List, [], ◌∷◌, ◌++◌, length, Some, inl, inr}
+use Rattle.std.proofs.Common.{◌≡◌, refl, sym, ◌∙◌, ap, subst, ℕ, ◌+◌, ◌<◌, arith, Bool, true, false, List, None, [], ◌∷◌, ◌++◌, length, Some, inl, inr}
 use Rattle.std.specs.Prelude.{slice_get, nat_eq}
 use Rattle.std.proofs.lemmas.Bool.{eqb-true, eqb-false}
 use Rattle.c_core.specs.declared.code.Line.{Line}
@@ -125,7 +125,7 @@ module _ (p q : Program) (shape : Shape p) (counted : IsCountedProgram p q) (wf 
         subst (λ z. Arrives p q (jumped false at_end (label_at (code p q) at_end.top (label_of z))) (to_block f c below w)) (sym e.0) straight
     edge have short more n to blocks (inr e) high owns =
         let counts : List (Op × ℕ) = e.1 in
-        let detour : Block = record { ops = counts; last = Goto (number c) } in
+        let detour : Block = record { ops = counts; last = Goto (number c); handler = None } in
         let far : n + 0 ≡ n = omega arith in
         let there : slice_get a.at.new.blocks n ≡ Some detour = ap (slice_get a.at.new.blocks) (sym far) ∙ owns 0 detour (ap (λ z. slice_get z 0) e.2) in
         let place : f.place ≡ length a.block.ops = end_place a.block.ops a.block.last f.place a.block.last a.left in

@@ -1,5 +1,5 @@
 -- Into a block: at the start of a function, at a label, and over the counts of an edge.
-use Rattle.std.proofs.Common.{◌≡◌, refl, sym, ◌∙◌, ap, subst, ℕ, zero, suc, ◌+◌, ◌<◌, arith, false, List, ◌∷◌, ◌++◌, Some, drop, ⊎_elim}
+use Rattle.std.proofs.Common.{◌≡◌, refl, sym, ◌∙◌, ap, subst, ℕ, zero, suc, ◌+◌, ◌<◌, arith, false, List, None, ◌∷◌, ◌++◌, Some, drop, ⊎_elim}
 use Rattle.std.specs.Prelude.{slice_get}
 use Rattle.c_core.specs.declared.code.Line.{Line}
 use Rattle.c_core.specs.declared.code.Line.TheVariants as line
@@ -132,7 +132,7 @@ module _ (p q : Program) (shape : Shape p) where
   -- over a block of counts
   module _ (counts_do : CountsDo) (f : Frame) (below : List Waiting) (w : World) (at : FuncAt p q f.fn) (k : ℕ) (block : Block) (here : slice_get at.func.blocks k ≡ Some block) (met : MetAt at.func k 0) (lent : (r : ℕ) → BorrowedAt at.func r k 0 → is_unset (f.regs r) ≡ false) (some : 0 < k) (n : ℕ) (counts : List (Op × ℕ)) where
     abbrev detour : Block
-    detour = record { ops = counts; last = Goto (at.counted.number k) }
+    detour = record { ops = counts; last = Goto (at.counted.number k); handler = None }
 
     abbrev goto : Line
     goto = line.Goto (label_of (at.counted.number k))

@@ -78,4 +78,4 @@ module _ (p q : Program) (counted : IsCountedProgram p q) where
 
   pub heads : HasHeads p (lower q)
   heads =
-      record { globals = ap (map global_of) counted.globals; count = as_many q 0 q.funcs ∙ same_size; funcs = head }
+      record { globals = ap (map global_of) counted.globals; classes = counted.classes; count = as_many q 0 q.funcs ∙ same_size; funcs = head }

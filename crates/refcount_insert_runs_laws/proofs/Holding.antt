@@ -6,6 +6,8 @@ use Rattle.std.proofs.lemmas.Bool.{eqb-true}
 use Rattle.value_core.specs.Exceptions.{Thrown}
 use Rattle.value_core.specs.Value.{Value}
 use Rattle.c_core.specs.declared.primitive.Primitive.{Primitive}
+use Rattle.c_core.specs.declared.code.CClass.{CClass}
+use Rattle.c_core.specs.Functions.{method_at, trait_method_at}
 use Rattle.ir_core.specs.declared.code.RType.{RType}
 use Rattle.ir_core.specs.declared.code.RType.TheVariants.{Int, I64, Bool as BoolType, Ref}
 use Rattle.ir_core.specs.declared.code.Reg.{Reg}
@@ -17,9 +19,9 @@ use Rattle.ir_core.specs.declared.code.Program.{Program}
 use Rattle.ir_core.specs.Rows.{Declared, type_of_reg}
 use Rattle.ir_core.specs.Registers.{Held, Unset, Holds, Regs, is_unset}
 use Rattle.ir_core.specs.Effects.{World, Argument, Given, Written}
-use Rattle.ir_core.specs.Meaning.{Frame, Waiting, Config, Stuck, Fitting, if_some, if_calm, value_of, read, read_all, arguments, may_stand, is_lost, registers_of, do_op}
+use Rattle.ir_core.specs.Meaning.{Frame, Waiting, Config, Stuck, Fitting, if_some, if_calm, value_of, read, read_all, arguments, may_stand, is_lost, registers_of, do_op, calls_method, method_of, trait_name}
 use Rattle.liveness.specs.Paths.{is_among, number_of, registers_in, reads_of}
-use Rattle.refcount_insert_lines_laws.specs.Lines.{HasCells, stays}
+use Rattle.refcount_insert_lines_laws.specs.Lines.{HasCells, stays, method_target}
 
 -- ---- what is read
 value_set : (h : Held) (v : Value) → value_of h ≡ Some v → is_unset h ≡ false
@@ -155,6 +157,32 @@ module _ (p : Program) (f : Frame) (below : List Waiting) (w : World) where
   reads_hold (Inc r) e = absurd (cc)
   reads_hold (Dec r) e = absurd (cc)
   reads_hold (XDec r) e = absurd (cc)
+
+  -- a call of a method, where its arguments do not all hold values
+  method_stuck : (x o : Reg) (args : List Reg) (entry : CClass → Option (List ℕ)) → read_all declared f.regs (o ∷ args) ≡ None → calls_method p x o args f below w entry ≡ Stuck
+  method_stuck x o args entry e =
+      some_stuck (read declared f.regs o) _ (λ v. calm_stuck w.pending _ (some_stuck (method_of p w v entry) _ (λ g. some_stuck (slice_get p.funcs g) _ (λ h. some_at (read_all declared f.regs (o ∷ args)) _ (λ xs also. let both : None ≡ Some xs = sym e ∙ also in absurd (cc))))))
+
+  virtual_holds : (x o : Reg) (n : ℕ) (args : List Reg) (xs : Option (List Held)) → read_all declared f.regs (o ∷ args) ≡ xs → Result (Virtual x o n args)
+  virtual_holds x o n args None e = inl (method_stuck x o args (method_at n) e)
+  virtual_holds x o n args (Some xs) e = inr (λ r among cells. all_set declared f.regs (o ∷ args) xs e r among)
+
+  trait_holds : (x o : Reg) (t n : ℕ) (args : List Reg) (xs : Option (List Held)) → read_all declared f.regs (o ∷ args) ≡ xs → Result (TraitCall x o t n args)
+  trait_holds x o t n args None e =
+      inl (some_stuck (trait_name p t) _ (λ name. method_stuck x o args (trait_method_at name n) e))
+  trait_holds x o t n args (Some xs) e = inr (λ r among cells. all_set declared f.regs (o ∷ args) xs e r among)
+
+  pub method_reads_hold : (o : Op) (into : Reg) → method_target o ≡ Some into → Result o
+  method_reads_hold (Virtual x o n args) into e = virtual_holds x o n args (read_all declared f.regs (o ∷ args)) refl
+  method_reads_hold (TraitCall x o t n args) into e = trait_holds x o t n args (read_all declared f.regs (o ∷ args)) refl
+  method_reads_hold (Move x y) into e = absurd (cc)
+  method_reads_hold (Lit x l) into e = absurd (cc)
+  method_reads_hold (Prim to q args) into e = absurd (cc)
+  method_reads_hold (Call x g args) into e = absurd (cc)
+  method_reads_hold Turn into e = absurd (cc)
+  method_reads_hold (Inc r) into e = absurd (cc)
+  method_reads_hold (Dec r) into e = absurd (cc)
+  method_reads_hold (XDec r) into e = absurd (cc)
 
   -- and a call
   pub call_reads_hold : (x : Reg) (g : ℕ) (args : List Reg) → Result (Call x g args)

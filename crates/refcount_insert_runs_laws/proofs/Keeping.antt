@@ -12,8 +12,8 @@ use Rattle.ir_core.specs.declared.kind.Edge.{Edge}
 use Rattle.ir_core.specs.declared.kind.Edge.TheVariants.{NoEdge, Tests, TestsTwice, Jumps}
 use Rattle.ir_core.specs.Registers.{Held, Holds, Regs, put, look, literal_of, error_of}
 use Rattle.ir_core.specs.Rows.{type_of_reg, edge_of_prim, edge_of_call}
-use Rattle.ir_core.specs.Effects.{World, Effect, Wrong, Gives, Acts, Fails, Ends, effect}
-use Rattle.ir_core.specs.Meaning.{Frame, Waiting, Config, Runs, Leaves, Ended, Stuck, Fitting, Way, Well, Badly, Wrongly, if_some, if_calm, goes, is_refused, arguments, may_stand, is_clear, is_edge, item_at, registers_of, write, write_error, failed, succeeds, applied, turned, returned, way, do_op, do_last}
+use Rattle.ir_core.specs.Effects.{World, Effect, Wrong, Gives, Acts, Fails, Ends, IfTarget, IfWritten, effect}
+use Rattle.ir_core.specs.Meaning.{Frame, Waiting, Config, Runs, Leaves, Ended, Stuck, Fitting, Way, Well, Badly, Wrongly, if_some, if_calm, goes, is_refused, arguments, may_stand, typed, is_clear, is_edge, item_at, registers_of, write, write_error, failed, succeeds, applied, turned, returned, way, do_op, do_last}
 use Rattle.ir_core.specs.Meaning as meaning
 use Rattle.liveness.specs.Paths.{is_target, write_of, number_of}
 use Rattle.std.specs.Option.{option_map}
@@ -50,11 +50,11 @@ module _ (p : Program) where
   failed_kept : (old : Regs) (to : Option ℕ) (e : Edge) (f : Frame) (below : List Waiting) (w : World) → Same old to f.regs → Kept old to (failed Fitting p e f below w)
   failed_kept old to NoEdge f below w h = tt
   failed_kept old to (Tests r) f below w h =
-      choice_kept old to (is_edge (Tests r) (item_at p f.fn f.block f.place)) (Runs f below w) Stuck h tt
+      choice_kept old to (is_edge (item_at p f.fn) (Tests r) (item_at p f.fn f.block f.place)) (Runs f below w) Stuck h tt
   failed_kept old to (TestsTwice r) f below w h =
-      choice_kept old to (is_edge (TestsTwice r) (item_at p f.fn f.block f.place)) (Runs f below w) Stuck h tt
+      choice_kept old to (is_edge (item_at p f.fn) (TestsTwice r) (item_at p f.fn f.block f.place)) (Runs f below w) Stuck h tt
   failed_kept old to Jumps f below w h =
-      choice_kept old to (is_edge Jumps (item_at p f.fn f.block f.place)) (Runs f below w) Stuck h tt
+      choice_kept old to (is_edge (item_at p f.fn) Jumps (item_at p f.fn f.block f.place)) (Runs f below w) Stuck h tt
 
   module _ (f : Frame) (below : List Waiting) where
     write_kept : (r : Reg) (h : Held) (w : World) (go : Regs → Config) → ((regs : Regs) → Same f.regs (Some r.0) regs → Kept f.regs (Some r.0) (go regs)) → Kept f.regs (Some r.0) (write p f.fn f.regs r h go)
@@ -70,6 +70,8 @@ module _ (p : Program) where
         some_kept f.regs (Some r.0) (type_of_reg (registers_of p f.fn) r) _
         (λ t. failed_kept f.regs (Some r.0) e (meaning.next f (put f.regs r.0 (error_of t))) below (record w { pending = Some x }) (put_other f.regs r.0 (error_of t)))
     applied_some e r (Ends x w) = tt
+    applied_some e r (IfTarget k x) = tt
+    applied_some e r (IfWritten k x) = tt
 
     applied_none : (e : Edge) (x : Effect) → Kept f.regs None (applied Fitting p e None f below x)
     applied_none e Wrong = tt
@@ -78,6 +80,8 @@ module _ (p : Program) where
     applied_none e (Fails x w) =
         failed_kept f.regs None e (meaning.next f f.regs) below (record w { pending = Some x }) (λ r same. refl)
     applied_none e (Ends x w) = tt
+    applied_none e (IfTarget k x) = tt
+    applied_none e (IfWritten k x) = tt
 
     prim_kept : (to : Option Reg) (q : Primitive) (e : Edge) (x : Effect) → Kept f.regs (option_map number_of to) (applied Fitting p e to f below x)
     prim_kept None q e x = applied_none e x
@@ -96,8 +100,8 @@ module _ (p : Program) where
         some_kept f.regs (Some r.0) (type_of_reg (registers_of p f.fn) r) _
         (λ t. some_kept f.regs (Some r.0) (literal_of t l) _ (λ h. put_other f.regs r.0 h))
     op_kept (Prim to q args) e w =
-        choice_kept f.regs (write_of (Prim to q args)) (may_stand w.pending q) (if_some (arguments (registers_of p f.fn) f.regs args) (λ xs. applied Fitting p (edge_of_prim (registers_of p f.fn) to q) to f below (effect p q xs w))) Stuck
-        (some_kept f.regs (write_of (Prim to q args)) (arguments (registers_of p f.fn) f.regs args) _ (λ xs. prim_kept to q (edge_of_prim (registers_of p f.fn) to q) (effect p q xs w)))
+        choice_kept f.regs (write_of (Prim to q args)) (may_stand w.pending q) (if_some (arguments (registers_of p f.fn) f.regs args) (λ xs. applied Fitting p (edge_of_prim (registers_of p f.fn) to q) to f below (typed (registers_of p f.fn) to args (effect p q xs w)))) Stuck
+        (some_kept f.regs (write_of (Prim to q args)) (arguments (registers_of p f.fn) f.regs args) _ (λ xs. prim_kept to q (edge_of_prim (registers_of p f.fn) to q) (typed (registers_of p f.fn) to args (effect p q xs w))))
         tt
     op_kept (Call x g args) e w = absurd (cc)
     op_kept (Virtual x o n args) e w = absurd (cc)

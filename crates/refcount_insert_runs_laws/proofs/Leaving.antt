@@ -21,13 +21,13 @@ use Rattle.ir_core.specs.Lower.{op_lines, end_lines, label_of}
 use Rattle.ir_core.specs.Shape.{LastFits, Shape}
 use Rattle.liveness.specs.Paths.{is_target, MetAt, BorrowedAt}
 use Rattle.refcount_insert_rule.specs.Counted.{owned, AreGroups, AreAll, IsCountedProgram}
-use Rattle.refcount_insert_lines_laws.specs.Matching.{RegsFit, GlobalsFit, PendingFits, Keeps, Grows, WorldFits, RunsIn}
+use Rattle.refcount_insert_lines_laws.specs.Matching.{RegsFit, PlacesFit, PendingFits, Keeps, Grows, WorldFits, RunsIn}
 use Rattle.refcount_insert_lines_laws.specs.Lines.{WaitsIn, GoesBack, ReturnDoes, return_sticks, return_goes, EndDoes, end_sticks, end_is, ReturnsDo, EndsDo, CountsDo}
 use Rattle.refcount_insert_runs_laws.proofs.Lists.{drop_next}
 use Rattle.refcount_insert_runs_laws.proofs.Heads.{heads}
 use Rattle.refcount_insert_runs_laws.proofs.Counts.{AreCounts, counts_by}
 use Rattle.refcount_insert_runs_laws.proofs.Keeping.{Same, Kept, return_kept}
-use Rattle.refcount_insert_lines_laws.proofs.Growing.{keeps_grows, globals_grow, pending_grows, store_keeps}
+use Rattle.refcount_insert_lines_laws.proofs.Growing.{keeps_grows, places_grow, pending_grows, store_keeps}
 use Rattle.refcount_insert_runs_laws.proofs.Relation.{code, machine, lines_of, EndsAt, ends_at, FrameAt, WaitsAt, StackAt, Arrives, gets_stuck, comes, ends, Leads, stays, steps_on, line_in, label_in}
 use Rattle.refcount_insert_runs_laws.proofs.Counting.{stack_grow, settle}
 use Rattle.refcount_insert_runs_laws.proofs.Entering.{Labelled, label_found}
@@ -40,8 +40,8 @@ on_end p e w s u output made globals pending keeps a =
     record {
       by_pending = a.by_pending;
       output = output ∙ a.output;
-      store = store_keeps s u keeps made w.store a.store;
-      globals = subst (GlobalsFit u p.globals w.globals) (sym globals) (globals_grow s u grows p.globals w.globals s.globals a.globals);
+      store = store_keeps p.classes s u keeps made w.store a.store;
+      globals = subst (PlacesFit u p.globals w.globals) (sym globals) (places_grow s u grows p.globals w.globals s.globals a.globals);
       pending = subst (PendingFits u w.pending) (sym pending) (pending_grows s u grows w.pending s.pending a.pending);
     }
 

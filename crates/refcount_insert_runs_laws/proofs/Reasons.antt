@@ -111,7 +111,7 @@ module _ (f : Func) (t : Tables f) where
             none_taken none =
                 let lt : want < have = over_of (counted r) (is_target (write_of o) r) (gives o want) (takes o r) have want some calm none in
                 let all = one_all (counted r) (t.live b p r) (t.lent b p r) (omega (arith, lt)) in
-                let live : LiveAt f r b (suc p) = live_next f b p o here r not_read (lives b p (Do o) here r yes all.1) in
+                let live : LiveAt f r b (suc p) = live_next f b p o here r t.calm not_read (lives b p (Do o) here r yes all.1) in
                 let lent : BorrowedAt f r b (suc p) = only_lent b (suc p) i there r yes live (omega (arith, lt, have_most)) in
                 let bad : t.lent b p r ≡ true = is_lent b p (Do o) here r yes (borrowed_before f b p o here r calm lent) in
                 absurd (cc)

@@ -24,7 +24,7 @@ use Rattle.ir_core.specs.Meaning.{Frame, Waiting, Config, Runs, Ended, Stuck, ne
 use Rattle.ir_core.specs.Lower.{op_lines, end_lines, label_of, lines_from, lowered_as, name_in, lower}
 use Rattle.ir_core.proofs.PlaceLemmas.{left_goes_on, left_ends}
 use Rattle.liveness.specs.Paths.{is_target, MetAt, BorrowedAt}
-use Rattle.refcount_insert_lines_laws.specs.Matching.{StoreFits, RegsFit, GlobalsFit, PendingFits, WorldFits}
+use Rattle.refcount_insert_lines_laws.specs.Matching.{StoreFits, RegsFit, PlacesFit, PendingFits, WorldFits}
 use Rattle.refcount_insert_lines_laws.specs.Lines.{EndsBy}
 use Rattle.refcount_insert_runs_laws.proofs.Lists.{get_first}
 use Rattle.refcount_insert_runs_laws.proofs.Laid.{function_at}
@@ -37,8 +37,8 @@ use Rattle.refcount_insert_runs_laws.proofs.Placed.{BlockAt}
 pub record EndsAt (p : Program) (e : Ending) (w : World) (s : MachineState) : Type 0 where
   pub by_pending : EndsBy e w.pending
   pub output : s.output ≡ w.output
-  pub store : StoreFits s w.store
-  pub globals : GlobalsFit s p.globals w.globals s.globals
+  pub store : StoreFits s p.classes w.store
+  pub globals : PlacesFit s p.globals w.globals s.globals
   pub pending : PendingFits s w.pending s.pending
 
 pub ends_at : (p : Program) (e : Ending) (w : World) (s : MachineState) → WorldFits p w s → EndsBy e w.pending → EndsAt p e w s

@@ -1,8 +1,6 @@
 -- One step of a program, and the lines that do what it does.
-use Rattle.std.proofs.Common.{◌≡◌, refl, sym, ◌∙◌, ap, subst, ℕ, ◌+◌, true, false, List, [], ◌∷◌, ◌++◌, length}
-use Rattle.std.specs.Prelude.{map}
-use Rattle.c_core.specs.declared.code.Line.{Line}
-use Rattle.c_core.specs.WellFormed.{WellFormed, line_fits}
+use Rattle.std.proofs.Common.{◌≡◌, refl, sym, ap, subst, ℕ, ◌+◌, true, false, List, [], ◌∷◌, length}
+use Rattle.c_core.specs.WellFormed.{WellFormed}
 use Rattle.c_core.specs.Machine.{MachineState}
 use Rattle.ir_core.specs.declared.code.Op.{Op}
 use Rattle.ir_core.specs.declared.code.Op.TheVariants.{Move, Lit, Prim, Call, Virtual, TraitCall, Turn, Inc, Dec, XDec}
@@ -12,17 +10,16 @@ use Rattle.ir_core.specs.declared.code.Program.{Program}
 use Rattle.ir_core.specs.Registers.{is_unset}
 use Rattle.ir_core.specs.Effects.{World}
 use Rattle.ir_core.specs.Meaning.{Frame, Waiting, Runs, Fitting, act, do_last, step}
-use Rattle.ir_core.specs.Lower.{kind_of_type, variable_of, line_of, op_lines, lowered_as, name_in}
 use Rattle.ir_core.specs.Shape.{op_fits, LastFits, Shape}
 use Rattle.liveness.specs.Paths.{MetAt, BorrowedAt}
 use Rattle.refcount_insert_rule.specs.Counted.{owned, IsBody, IsLast, IsCountedProgram}
 use Rattle.refcount_insert_lines_laws.specs.Matching.{RegsFit, WorldFits}
-use Rattle.refcount_insert_lines_laws.specs.Lines.{OpsDo, CallsDo, ReturnsDo, EndsDo, IfsDo, IfErrorsDo, CountsDo}
-use Rattle.refcount_insert_runs_laws.proofs.Lists.{get_behind}
-use Rattle.refcount_insert_runs_laws.proofs.Laid.{function_at}
-use Rattle.refcount_insert_runs_laws.proofs.Shapes.{get_dropped, block_fits, op_fits_at, line_fits_at}
-use Rattle.refcount_insert_runs_laws.proofs.Relation.{code, machine, lines_of, FrameAt, StackAt, At, Arrives, arrives_step, end_there}
-use Rattle.refcount_insert_runs_laws.proofs.Operating.{group, behind, parts, op_arrives}
+use Rattle.refcount_insert_lines_laws.specs.Lines.{OpsDo, CallsDo, MethodsDo, ReturnsDo, EndsDo, IfsDo, IfErrorsDo, CountsDo}
+use Rattle.refcount_insert_runs_laws.proofs.Shapes.{block_fits, op_fits_at}
+use Rattle.refcount_insert_runs_laws.proofs.Relation.{code, machine, FrameAt, StackAt, At, Arrives, arrives_step, end_there}
+use Rattle.refcount_insert_runs_laws.proofs.Heads.{heads}
+use Rattle.refcount_insert_runs_laws.proofs.Holding.{call_reads_hold, method_reads_hold}
+use Rattle.refcount_insert_runs_laws.proofs.Operating.{op_arrives}
 use Rattle.refcount_insert_runs_laws.proofs.Calling.{Moves, call_arrives}
 use Rattle.refcount_insert_runs_laws.proofs.Ending.{first, at_end, goto_arrives, if_arrives, if_error_arrives}
 use Rattle.refcount_insert_runs_laws.proofs.Leaving.{return_arrives, unreachable_arrives}
@@ -31,6 +28,7 @@ use Rattle.refcount_insert_runs_laws.proofs.Leaving.{return_arrives, unreachable
 pub record LinesDo : Type 0 where
   pub ops : OpsDo
   pub calls : CallsDo
+  pub methods : MethodsDo
   pub returns : ReturnsDo
   pub ends : EndsDo
   pub ifs : IfsDo
@@ -40,15 +38,6 @@ pub record LinesDo : Type 0 where
 module _ (lines_do : LinesDo) (p q : Program) (shape : Shape p) (counted : IsCountedProgram p q) (wf : WellFormed (code p q)) where
   -- ---- operations
   module _ (f : Frame) (below : List Waiting) (w : World) (s : MachineState) (x : Op) (source : ℕ) (os : List (Op × ℕ)) (a : FrameAt p q f s.top [] ((x, source) ∷ os)) where
-    abbrev before : List Line
-    before = op_lines q (group p q lines_do.counts f below w s (x, source) os a).before
-
-    -- its line is one of a well-formed code
-    line_fits_here : line_fits (code p q) (map variable_of a.at.new.regs) (kind_of_type a.at.new.ret) (line_of q x) ≡ true
-    line_fits_here =
-        line_fits_at (code p q) wf f.fn (lowered_as q (name_in q f.fn a.at.new) a.at.new) (function_at q f.fn a.at.new a.at.new_there) (s.top.place + (length before + 0)) (line_of q x)
-        (get_dropped s.top.place (length before + 0) (lines_of p q a.at.new) (before ++ (line_of q x ∷ behind p q lines_do.counts f below w s (x, source) os a)) (parts p q lines_do.counts f below w s (x, source) os a) ∙ get_behind before (line_of q x ∷ behind p q lines_do.counts f below w s (x, source) os a) 0)
-
     op_fits_here : op_fits x ≡ true
     op_fits_here =
         op_fits_at a.block.ops a.block.last f.place (x, source) os a.block.last (block_fits p shape f.fn a.at.func a.at.there f.block a.block a.here).ops a.left
@@ -62,14 +51,11 @@ module _ (lines_do : LinesDo) (p q : Program) (shape : Shape p) (counted : IsCou
     by_op (Prim to y args) source os a fit met lent stack world =
         record { more = 0; arrives = op_arrives p q counted wf lines_do.ops lines_do.counts f below w s (Prim to y args, source) os a fit met lent stack world refl }
     by_op (Call r g args) source os a fit met lent stack world =
-        call_arrives p q shape counted wf lines_do.calls lines_do.counts f below w s r g args source os a fit met lent stack world
-    -- a call of a method is no line of a well-formed code
+        call_arrives p q shape counted wf lines_do.counts f below w s (Call r g args) r refl source os a fit met lent stack world (call_reads_hold p f below w r g args) (λ t runs line. (g, lines_do.calls p (code p q) (heads p q counted) wf r g args f below w t runs line))
     by_op (Virtual r o n args) source os a fit met lent stack world =
-        let fits : false ≡ true = line_fits_here f below w s (Virtual r o n args) source os a in
-        absurd (cc)
-    by_op (TraitCall r o t n args) source os a fit met lent stack world =
-        let fits : false ≡ true = line_fits_here f below w s (TraitCall r o t n args) source os a in
-        absurd (cc)
+        call_arrives p q shape counted wf lines_do.counts f below w s (Virtual r o n args) r refl source os a fit met lent stack world (method_reads_hold p f below w (Virtual r o n args) r refl) (λ t runs line. lines_do.methods p (code p q) (heads p q counted) wf (Virtual r o n args) r refl f below w t runs line)
+    by_op (TraitCall r o k n args) source os a fit met lent stack world =
+        call_arrives p q shape counted wf lines_do.counts f below w s (TraitCall r o k n args) r refl source os a fit met lent stack world (method_reads_hold p f below w (TraitCall r o k n args) r refl) (λ t runs line. lines_do.methods p (code p q) (heads p q counted) wf (TraitCall r o k n args) r refl f below w t runs line)
     by_op Turn source os a fit met lent stack world =
         record { more = 0; arrives = op_arrives p q counted wf lines_do.ops lines_do.counts f below w s (Turn, source) os a fit met lent stack world refl }
     by_op (Inc r) source os a fit met lent stack world =

@@ -5,9 +5,9 @@ use Rattle.std.proofs.lemmas.Option.{same_Some}
 use Rattle.ir_core.specs.declared.code.Op.{Op}
 use Rattle.ir_core.specs.declared.code.Last.{Last}
 use Rattle.ir_core.specs.declared.code.Func.{Func}
+use Rattle.ir_core.specs.Bare.{IsBare}
 use Rattle.ir_core.specs.Items.{Item, Do, End, item_in}
 use Rattle.liveness.specs.Paths.{is_among, is_target, reads_of, write_of, reads, writes, targets, Goes, passes, fails, jumps, LiveAt, reads_here, goes_on, MetAt, onward, OwnedAt, no_parameter, written, kept, BorrowedAt}
-use Rattle.liveness.proofs.PathLemmas.{no_handler}
 use Rattle.liveness.proofs.OwnedLemmas.{no_lent}
 
 module _ (f : Func) where
@@ -30,24 +30,24 @@ module _ (f : Func) where
     met_next met = onward b p b (suc p) met (passes b p o here)
 
     module _ (r : ℕ) where
-      live_from : (c q x y : ℕ) → c ≡ b → q ≡ p → Goes f c q x y → LiveAt f r x y → LiveAt f r b (suc p)
-      live_from c q x y same place (passes d j k e) l =
+      live_from : IsBare f → (c q x y : ℕ) → c ≡ b → q ≡ p → Goes f c q x y → LiveAt f r x y → LiveAt f r b (suc p)
+      live_from bare c q x y same place (passes d j k e) l =
           subst (λ z. LiveAt f r z (suc p)) same (subst (λ z. LiveAt f r c (suc z)) place l)
-      live_from c q x y same place (fails d j h k e a g) l = absurd (no_handler _ _ g)
-      live_from c q x y same place (jumps d j i t k e g) l =
+      live_from bare c q x y same place (fails d j h k e a g) l = absurd (bare d h g)
+      live_from bare c q x y same place (jumps d j i t k e g) l =
           let found : Some (End k) ≡ Some (Do o) = sym e ∙ (ap (λ z. item_in f.blocks z q) same ∙ (ap (item_in f.blocks b) place ∙ here)) in
           absurd (cc)
 
-      live_by : (c q : ℕ) → c ≡ b → q ≡ p → is_among (reads_of o) r ≡ false → LiveAt f r c q → LiveAt f r b (suc p)
-      live_by c q same place none (reads_here d j i e is) =
+      live_by : IsBare f → (c q : ℕ) → c ≡ b → q ≡ p → is_among (reads_of o) r ≡ false → LiveAt f r c q → LiveAt f r b (suc p)
+      live_by bare c q same place none (reads_here d j i e is) =
           let found : i ≡ Do o = same_item i (sym (ap (λ z. item_in f.blocks z q) same ∙ ap (item_in f.blocks b) place) ∙ e) in
           let bad : is_among (reads_of o) r ≡ true = ap (λ z. reads z r) (sym found) ∙ is in
           absurd (cc)
-      live_by c q same place none (goes_on d j x y i e w g l) = live_from c q x y same place g l
+      live_by bare c q same place none (goes_on d j x y i e w g l) = live_from bare c q x y same place g l
 
       -- what is read again and not here is read again behind
-      pub live_next : is_among (reads_of o) r ≡ false → LiveAt f r b p → LiveAt f r b (suc p)
-      live_next none l = live_by b p refl refl none l
+      pub live_next : IsBare f → is_among (reads_of o) r ≡ false → LiveAt f r b p → LiveAt f r b (suc p)
+      live_next bare none l = live_by bare b p refl refl none l
 
       module _ (calm : is_target (write_of o) r ≡ false) where
         -- what is read again behind, and not written here, is read again

@@ -6,6 +6,7 @@ use Rattle.value_core.specs.Ending.{Ending, Done, Raised, Cut, Over, Broken}
 use Rattle.value_core.specs.Exceptions.{Thrown}
 use Rattle.value_core.specs.Items.{Items}
 use Rattle.value_core.specs.Value.{Value, IntVal, BoolVal, NoneVal, StrVal, TupleVal, ExcVal, ObjVal, Values, no_values, value_then, Object, ListObj, DictObj, InstObj, Store}
+use Rattle.c_core.specs.declared.code.CClass.{CClass}
 use Rattle.c_core.specs.Cells.{content_at}
 use Rattle.c_core.specs.WellFormed.{WellFormed}
 use Rattle.c_core.specs.Functions.{error_word}
@@ -31,10 +32,11 @@ use Rattle.ir_core.specs.Shape.{Shape}
 use Rattle.ir_core.proofs.RunLemmas.{steps_on as run_on}
 use Rattle.ir_core.proofs.ModeLemmas.{unstuck_is_plain}
 use Rattle.refcount_insert_rule.specs.Counted.{IsCountedProgram}
-use Rattle.refcount_insert_lines_laws.specs.Matching.{Boxed, PartsBoxed, AllBoxed, PairsBoxed, ObjectFits, ObjectAt, StoreFits, Fits, tagged_error, short, big, native, char_error, char_true, char_false, no_object, boxed, RegsFit, GlobalsFit, PendingFits, WorldFits}
+use Rattle.refcount_insert_lines_laws.specs.Matching.{slot_typed, Boxed, PartsBoxed, AllBoxed, PairsBoxed, AttributesFit, ObjectFits, ObjectAt, StoreFits, Fits, tagged_error, short, big, native, char_error, char_true, char_false, no_object, boxed, RegsFit, PlacesFit, PendingFits, WorldFits}
 use Rattle.refcount_insert_lines_laws.specs.Follows.{stop_of, EndsStanding, UncheckedFollows}
 use Rattle.refcount_insert_lines_laws.proofs.Operations.{ops_do}
 use Rattle.refcount_insert_lines_laws.proofs.Calls.{calls_do}
+use Rattle.refcount_insert_lines_laws.proofs.Methods.{methods_do}
 use Rattle.refcount_insert_lines_laws.proofs.Returns.{returns_do, ends_do}
 use Rattle.refcount_insert_lines_laws.proofs.Tests.{ifs_do, if_errors_do, counts_do}
 use Rattle.refcount_insert_lines_laws.proofs.Words.{entry_fit, entry_size}
@@ -81,23 +83,6 @@ module _ (s : MachineState) where
   pairs_match (p ∷ ps) [] m = absurd m
   pairs_match (p ∷ ps) (q ∷ qs) m = (boxed_matches p.0 q.0 m.0, (boxed_matches p.1 q.1 m.1, pairs_match ps qs m.2))
 
-  object_matches : (o : Object) (x : Content) → ObjectFits s o x → MatchesObject s o x
-  object_matches (ListObj items) (ListCell words) m = all_match items words m
-  object_matches (ListObj items) (IntCell n) m = absurd m
-  object_matches (ListObj items) (StrCell n) m = absurd m
-  object_matches (ListObj items) (DictCell n) m = absurd m
-  object_matches (ListObj items) (TupleCell n) m = absurd m
-  object_matches (ListObj items) (InstCell n b) m = absurd m
-  object_matches (ListObj items) (ExcCell n) m = absurd m
-  object_matches (DictObj pairs) (DictCell words) m = pairs_match pairs words m
-  object_matches (DictObj pairs) (IntCell n) m = absurd m
-  object_matches (DictObj pairs) (StrCell n) m = absurd m
-  object_matches (DictObj pairs) (ListCell n) m = absurd m
-  object_matches (DictObj pairs) (TupleCell n) m = absurd m
-  object_matches (DictObj pairs) (InstCell n b) m = absurd m
-  object_matches (DictObj pairs) (ExcCell n) m = absurd m
-  object_matches (InstObj class attributes) x m = absurd m
-
   fits_matches : (a : RType) (v : Value) (h : Held) (w : Word) → h ≡ Holds v → Fits s a h w → Matches s v w
   fits_matches a v h w e tagged_error = absurd (cc)
   fits_matches a v h w e (short n) = matches_as v (IntVal n) (ShortInt n) e (in_short)
@@ -109,18 +94,46 @@ module _ (s : MachineState) where
   fits_matches a v h w e no_object = absurd (cc)
   fits_matches a v h w e (boxed u y m) = matches_as v u y e (boxed_matches u y m)
 
-  globals_match : (gs : Declared) (vs : List (Option Value)) (ws : List (Option Word)) → GlobalsFit s gs vs ws → MatchSet s vs ws
-  globals_match [] [] [] fit = tt
-  globals_match [] [] (w ∷ ws) fit = absurd fit
-  globals_match [] (v ∷ vs) ws fit = absurd fit
-  globals_match (g ∷ gs) [] ws fit = absurd fit
-  globals_match (g ∷ gs) (None ∷ vs) [] fit = absurd fit
-  globals_match (g ∷ gs) (None ∷ vs) (None ∷ ws) fit = globals_match gs vs ws fit
-  globals_match (g ∷ gs) (None ∷ vs) (Some w ∷ ws) fit = absurd fit
-  globals_match (g ∷ gs) (Some v ∷ vs) [] fit = absurd fit
-  globals_match (g ∷ gs) (Some v ∷ vs) (None ∷ ws) fit = absurd fit
-  globals_match (g ∷ gs) (Some v ∷ vs) (Some w ∷ ws) fit =
-      (fits_matches g.1 v (Holds v) w refl fit.0, globals_match gs vs ws fit.1)
+  places_match : (gs : Declared) (vs : List (Option Value)) (ws : List (Option Word)) → PlacesFit s gs vs ws → MatchSet s vs ws
+  places_match [] [] [] fit = tt
+  places_match [] [] (w ∷ ws) fit = absurd fit
+  places_match [] (v ∷ vs) ws fit = absurd fit
+  places_match (g ∷ gs) [] ws fit = absurd fit
+  places_match (g ∷ gs) (None ∷ vs) [] fit = absurd fit
+  places_match (g ∷ gs) (None ∷ vs) (None ∷ ws) fit = places_match gs vs ws fit
+  places_match (g ∷ gs) (None ∷ vs) (Some w ∷ ws) fit = absurd fit
+  places_match (g ∷ gs) (Some v ∷ vs) [] fit = absurd fit
+  places_match (g ∷ gs) (Some v ∷ vs) (None ∷ ws) fit = absurd fit
+  places_match (g ∷ gs) (Some v ∷ vs) (Some w ∷ ws) fit =
+      (fits_matches g.1 v (Holds v) w refl fit.0, places_match gs vs ws fit.1)
+
+  attributes_match : (o : Option CClass) (vs : List (Option Value)) (ws : List (Option Word)) → AttributesFit s o vs ws → MatchSet s vs ws
+  attributes_match None vs ws m = absurd m
+  attributes_match (Some k) vs ws m = places_match (map slot_typed k.attrs) vs ws m
+
+  object_matches : (classes : List CClass) (o : Object) (x : Content) → ObjectFits s classes o x → MatchesObject s o x
+  object_matches classes (ListObj items) (ListCell words) m = all_match items words m
+  object_matches classes (ListObj items) (IntCell n) m = absurd m
+  object_matches classes (ListObj items) (StrCell n) m = absurd m
+  object_matches classes (ListObj items) (DictCell n) m = absurd m
+  object_matches classes (ListObj items) (TupleCell n) m = absurd m
+  object_matches classes (ListObj items) (InstCell n b) m = absurd m
+  object_matches classes (ListObj items) (ExcCell n) m = absurd m
+  object_matches classes (DictObj pairs) (DictCell words) m = pairs_match pairs words m
+  object_matches classes (DictObj pairs) (IntCell n) m = absurd m
+  object_matches classes (DictObj pairs) (StrCell n) m = absurd m
+  object_matches classes (DictObj pairs) (ListCell n) m = absurd m
+  object_matches classes (DictObj pairs) (TupleCell n) m = absurd m
+  object_matches classes (DictObj pairs) (InstCell n b) m = absurd m
+  object_matches classes (DictObj pairs) (ExcCell n) m = absurd m
+  object_matches classes (InstObj class attributes) (InstCell n words) m =
+      (m.0, attributes_match (slice_get classes class) attributes words m.1)
+  object_matches classes (InstObj class attributes) (IntCell n) m = absurd m
+  object_matches classes (InstObj class attributes) (StrCell n) m = absurd m
+  object_matches classes (InstObj class attributes) (ListCell n) m = absurd m
+  object_matches classes (InstObj class attributes) (DictCell n) m = absurd m
+  object_matches classes (InstObj class attributes) (TupleCell n) m = absurd m
+  object_matches classes (InstObj class attributes) (ExcCell n) m = absurd m
 
   -- each object with its cell, from the first on
   store_matches : (store : Store) (made : List ℕ) → length made ≡ length store → ((k : ℕ) (o : Object) (c : ℕ) → slice_get store k ≡ Some o → slice_get made k ≡ Some c → (x : Content) → IsLive s c x → MatchesObject s o x) → MatchesStore s store made
@@ -130,14 +143,14 @@ module _ (s : MachineState) where
   store_matches (o ∷ os) (c ∷ cs) size each =
       (λ x live. each 0 o c refl refl x live, store_matches os cs (omega (arith, size)) (λ k. each (suc k)))
 
-  object_here : (store : Store) → StoreFits s store → (k : ℕ) (o : Object) (c : ℕ) → slice_get store k ≡ Some o → slice_get s.made k ≡ Some c → (x : Content) → IsLive s c x → MatchesObject s o x
-  object_here store a k o c there made x live =
-      let at : ObjectAt s o k = a.objects k o there in
+  object_here : (classes : List CClass) (store : Store) → StoreFits s classes store → (k : ℕ) (o : Object) (c : ℕ) → slice_get store k ≡ Some o → slice_get s.made k ≡ Some c → (x : Content) → IsLive s c x → MatchesObject s o x
+  object_here classes store a k o c there made x live =
+      let at : ObjectAt s classes o k = a.objects k o there in
       let cells : Some at.c ≡ Some c = sym at.made ∙ made in
       let same : at.c ≡ c = cc in
       let contents : Some at.content ≡ Some x = sym at.live ∙ (ap (content_at s.cells) same ∙ live) in
       let content : at.content ≡ x = cc in
-      subst (MatchesObject s o) content (object_matches o at.content at.fits)
+      subst (MatchesObject s o) content (object_matches classes o at.content at.fits)
 
   not_pending : (e : Option Thrown) (c : Option ℕ) → PendingFits s e c → e ≡ None → c ≡ None
   not_pending None None fits is = refl
@@ -155,7 +168,7 @@ module _ (s : MachineState) where
 module _ (p : Program) (w : World) (s : MachineState) where
   stands_there : (e : Ending) → EndsAt p e w s → Stands w.store w.globals s
   stands_there e at =
-      record { objects = store_matches s w.store s.made at.store.size (object_here s w.store at.store); variables_match = globals_match s p.globals w.globals s.globals at.globals }
+      record { objects = store_matches s w.store s.made at.store.size (object_here s p.classes w.store at.store); variables_match = places_match s p.globals w.globals s.globals at.globals }
 
   standing : (e : Ending) → EndsAt p e w s → EndsStanding e (stop_of e w) s
   standing Done at = (stands_there Done at, not_pending s w.pending s.pending at.pending at.by_pending)
@@ -168,7 +181,7 @@ module _ (p : Program) (w : World) (s : MachineState) where
 abbrev error_words : Declared → List Word
 error_words regs = map (λ v. error_word v.1) (map variable_of regs)
 
-unset : (s : MachineState) (gs : Declared) → GlobalsFit s gs (replicate (length gs) None) (map (λ g. None) (map global_of gs))
+unset : (s : MachineState) (gs : Declared) → PlacesFit s gs (replicate (length gs) None) (map (λ g. None) (map global_of gs))
 unset s [] = tt
 unset s (g ∷ gs) = unset s gs
 
@@ -272,7 +285,7 @@ module _ (lines_do : LinesDo) (p q : Program) (shape : Shape p) (counted : IsCou
             turns = refl;
             items = refl;
             store = record { size = refl; objects = λ k o e. absurd (cc); apart = λ j k c e f. absurd (cc) };
-            globals = subst (λ (z : Declared). GlobalsFit first p.globals (replicate (length p.globals) None) (map (λ g. None) (map global_of z))) (sym counted.globals) (unset first p.globals);
+            globals = subst (λ (z : Declared). PlacesFit first p.globals (replicate (length p.globals) None) (map (λ g. None) (map global_of z))) (sym counted.globals) (unset first p.globals);
             pending = tt;
           }
 
@@ -317,7 +330,7 @@ module _ (lines_do : LinesDo) (p q : Program) (shape : Shape p) (counted : IsCou
 -- ---- the law
 lines_do : LinesDo
 lines_do =
-    record { ops = ops_do; calls = calls_do; returns = returns_do; ends = ends_do; ifs = ifs_do; if_errors = if_errors_do; counts = counts_do }
+    record { ops = ops_do; calls = calls_do; methods = methods_do; returns = returns_do; ends = ends_do; ifs = ifs_do; if_errors = if_errors_do; counts = counts_do }
 
 pub counted_runs_follow : CountedRunsFollow
 counted_runs_follow p q shape fits counted wf turns items = follows lines_do p q shape counted wf turns items fits

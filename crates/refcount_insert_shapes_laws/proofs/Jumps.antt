@@ -1,5 +1,5 @@
 -- Where jumps lead follows from how blocks end, whatever their operations are, counts too: only turns among these matter.
-use Rattle.std.proofs.Common.{◌≡◌, refl, sym, ◌∙◌, ap, subst, ℕ, zero, suc, ◌+◌, Bool, true, false, cond, List, [], ◌∷◌, ◌++◌, length, map, ⊎_elim, inl, inr}
+use Rattle.std.proofs.Common.{◌≡◌, refl, sym, ◌∙◌, ap, subst, ℕ, zero, suc, ◌+◌, Bool, true, false, cond, List, None, [], ◌∷◌, ◌++◌, length, map, ⊎_elim, inl, inr}
 use Rattle.std.specs.Prelude.{◌&&◌}
 use Rattle.std.proofs.lemmas.List.{length-map}
 use Rattle.c_core.specs.declared.code.Line.{Line}
@@ -33,7 +33,7 @@ abbrev still_op : Op × ℕ → Op × ℕ
 still_op o = (stilled o.0, o.1)
 
 abbrev still : Block → Block
-still b = record { ops = map still_op b.ops; last = b.last }
+still b = record { ops = map still_op b.ops; last = b.last; handler = None }
 
 abbrev quiet : Line → Line
 quiet (line.Move x y) = line.Lit 0 c_lit.Null
