@@ -8,3 +8,9 @@ pub mod Rows
 pub mod Nodes
 pub mod Called
 pub mod Sound
+pub mod Ruled
+pub mod RightRules
+pub mod RuleTexts
+pub mod Formless
+pub mod Layers
+pub mod Bare

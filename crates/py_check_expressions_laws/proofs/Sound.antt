@@ -1,5 +1,5 @@
 -- What is typed is well typed, of each kind of expression.
-use Rattle.std.proofs.Common.{◌≡◌, ℕ, zero, suc, Bool, true, false, not, ◌&&◌, ◌==◌, nat_lt, List, [], ◌∷◌, ◌++◌, length, slice_get, Option, Some, None, Ok, Err, refl, ap, ◌∙◌, subst, if◌then◌else◌, arith}
+use Rattle.std.proofs.Common.{◌≡◌, ℕ, zero, suc, Bool, true, false, not, ◌&&◌, ◌==◌, List, [], ◌∷◌, ◌++◌, length, slice_get, Option, Some, None, Ok, Err, refl, ap, ◌∙◌, subst, if◌then◌else◌, arith}
 use Rattle.std.proofs.lemmas.Bool.{and_from, or_left}
 use Rattle.py_syntax.specs.declared.token.Span.{Span}
 use Rattle.py_syntax.specs.declared.expression.CmpOp.{CmpOp}
@@ -13,7 +13,7 @@ use Rattle.py_typed.specs.Expressions.{TypedExpr, TypedNode, typed, type_of, com
 use Rattle.py_typed.specs.Statements.{Variable, TypedModule}
 use Rattle.py_typed.specs.Narrowing as telling
 use Rattle.py_typed.specs.Narrowing.{is_in}
-use Rattle.py_typed.specs.WellTypedExpr.{are_value_types, is_literal, is_type, reads_as, declared}
+use Rattle.py_typed.specs.WellTypedExpr.{is_literal, is_type, reads_as, declared}
 use Rattle.py_typed.proofs.FitLemmas.{type_is_itself, and_left, and_right}
 use Rattle.std.specs.Str.{is_utf8, IsAscii}
 use Rattle.std.proofs.lemmas.Str.{is_utf8-from_IsUtf8, IsUtf8-from_ascii}

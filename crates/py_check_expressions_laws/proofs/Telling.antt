@@ -128,7 +128,7 @@ module _ (C : Context) (V : VarSorts) where
   abbrev chain_of : Span → CmpOp → TypedExpr → TypedExpr → TypedExpr
   chain_of span o p q = typed (node.Compare p (node.comparison_then o q node.no_comparisons)) sort.Bool span
 
-  pair_tells : (b : Bool) (span : Span) (o : CmpOp) (p q : TypedExpr) → telling.facts b (chain_of span o p q) ≡ telling.none_test b o (node_of p) (node_of q) node.no_comparisons
+  pub pair_tells : (b : Bool) (span : Span) (o : CmpOp) (p q : TypedExpr) → telling.facts b (chain_of span o p q) ≡ telling.none_test b o (node_of p) (node_of q) node.no_comparisons
   pair_tells true span o p q = refl
   pair_tells false span o p q = refl
 

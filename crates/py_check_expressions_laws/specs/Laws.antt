@@ -1,11 +1,13 @@
 -- What holds of the typing of every expression, beside that it says nothing where there is a type.
-use Rattle.std.specs.Prelude.{◌≡◌, ◌≢◌, ℕ, Bool, true, false, is_none, List, [], Option, None, slice_get}
-use Rattle.py_syntax.specs.Expressions.{ExprTree}
+use Rattle.std.specs.Prelude.{◌≡◌, ◌≢◌, ℕ, Bool, true, false, is_none, List, [], map, Option, None, slice_get, ◌⊎◌}
+use Rattle.py_syntax.specs.declared.token.Span.{Span}
+use Rattle.py_syntax.specs.Expressions.{ExprTree, ExprNode}
 use Rattle.py_typed.specs.Classes.{Signature}
 use Rattle.py_check_context.specs.declared.scope.Meaning.{Meaning}
 use Rattle.py_check_context.specs.declared.scope.Meaning.TheVariants as meaning
 use Rattle.py_check_context.specs.Context.{Context, VarSort, untyped, VarSorts, var_at, Wanted, some_signature}
-use Rattle.py_check_expressions.specs.Typing.{typing}
+use Rattle.py_check_messages.specs.Seen.{Message, diag}
+use Rattle.py_check_expressions.specs.Typing.{typing, node_typing}
 
 -- ---- names without a type
 
@@ -30,3 +32,13 @@ pub record AllHaveTypes (c : Context) (vars : VarSorts) : Type 0 where
 abbrev pub UntypedIsLoud : Type 0
 UntypedIsLoud =
     (c : Context) (vars : VarSorts) → AllHaveTypes c vars → (w : Wanted) (known : List ℕ) (e : ExprTree) → (typing c vars w known e).got ≡ None → (typing c vars w known e).said ≢ []
+
+-- ---- one place
+
+-- all that is said of an expression is at its own place, or else it is what is said of its parts and hangs nowhere on the place. So
+-- where an expression has an entry, nothing is said of any part of it: no two entries are of an outer and an inner one. Only a chain
+-- of comparisons has several at its place, in the order of its pairs
+abbrev pub OwnOrOfParts : Type 0
+OwnOrOfParts =
+    (c : Context) (vars : VarSorts) (w : Wanted) (known : List ℕ) (span : Span) (n : ExprNode)
+    → ((ms : List Message) × ((node_typing c vars w known span n).said ≡ map (diag span) ms)) ⊎ ((place : Span) → (node_typing c vars w known place n).said ≡ (node_typing c vars w known span n).said)

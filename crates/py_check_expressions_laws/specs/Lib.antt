@@ -1,2 +1,4 @@
 pub mod Laws
 pub mod WellTyped
+pub mod Placeholders
+pub mod Bare

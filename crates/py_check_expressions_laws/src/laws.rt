@@ -1,5 +1,7 @@
 //! The laws. The calls do nothing.
-ghost use Rattle.py_check_expressions_laws.specs.Laws.{UntypedIsLoud};
+ghost use Rattle.py_check_expressions_laws.specs.Bare.{TypedTellsNoMore};
+ghost use Rattle.py_check_expressions_laws.specs.Laws.{OwnOrOfParts, UntypedIsLoud};
+ghost use Rattle.py_check_expressions_laws.specs.Placeholders.{NoFormNoPlaceholder};
 ghost use Rattle.py_check_expressions_laws.specs.WellTyped.{TypedTellsAsMuch, TypedIsWellTyped};
 
 /// Where no name in reach is without a type, an expression that has none has said why: some diagnostic stands in it.
@@ -7,12 +9,28 @@ pub fn what_is_not_typed_has_said_why()
     ensures { UntypedIsLoud }
 {}
 
+/// All that is said of an expression is at its own place, or else it is what is said of its parts: never of both.
+pub fn an_expression_has_an_entry_or_its_parts_have()
+    ensures { OwnOrOfParts }
+{}
+
 /// What a test tells of names as it is written, its typed form tells.
 pub fn typed_tests_tell_as_much()
     ensures { TypedTellsAsMuch }
 {}
 
+/// The typed form of a test tells nothing of names that the test as it is written does not, where no sign `+` and no call stands in it
+/// where a test tells something.
+pub fn bare_tests_tell_no_more()
+    ensures { TypedTellsNoMore }
+{}
+
 /// What is typed is well typed, where its place takes it.
 pub fn what_is_typed_is_well_typed()
     ensures { TypedIsWellTyped }
+{}
+
+/// Of an expression in which no form without typing rules stands nothing is said that stands for a rule that is not written yet.
+pub fn where_no_form_stands_no_placeholder_is_met()
+    ensures { NoFormNoPlaceholder }
 {}
