@@ -41,8 +41,8 @@ raising_made = record {
   params = 2;
   vars = (codes "r_self", Object) ∷ (codes "r_n", Tagged) ∷ (codes "t_0", Object) ∷ [];
   lines =
-    Turn ∷ Inc 1 ∷ Call None (codes "CPyAttr_Set") (arg.Var 0 ∷ arg.Number (pos 0) ∷ arg.Var 1 ∷ []) ∷ Lit 2 PyNone ∷ Return 2 ∷
-    [];
+      Turn ∷ Inc 1 ∷ Call None (codes "CPyAttr_Set") (arg.Var 0 ∷ arg.Number (pos 0) ∷ arg.Var 1 ∷ []) ∷ Lit 2 PyNone ∷ Return 2 ∷
+      [];
 }
 
 -- the third item, which raises ValueError("no")
@@ -53,8 +53,8 @@ raising_third = record {
   params = 0;
   vars = (codes "t_0", Object) ∷ (codes "t_1", Object) ∷ (codes "t_2", Object) ∷ [];
   lines =
-    Turn ∷ Call (Some 0) (codes "CPyStr_Literal") (arg.Text (codes "no") ∷ []) ∷ Call (Some 1) (codes "CPyExc_New") (arg.Text (codes "ValueError") ∷ arg.Var 0 ∷ []) ∷ Dec 0 ∷ Call None (codes "CPyErr_SetObject") (arg.Var 1 ∷ []) ∷ Lit 2 Null ∷ Return 2 ∷
-    [];
+      Turn ∷ Call (Some 0) (codes "CPyStr_Literal") (arg.Text (codes "no") ∷ []) ∷ Call (Some 1) (codes "CPyExc_New") (arg.Text (codes "ValueError") ∷ arg.Var 0 ∷ []) ∷ Dec 0 ∷ Call None (codes "CPyErr_SetObject") (arg.Var 1 ∷ []) ∷ Lit 2 Null ∷ Return 2 ∷
+      [];
 }
 
 -- the list [A(1), A(2), c()], of which the third item raises: what stands of it is given up
@@ -65,13 +65,13 @@ raising_go = record {
   params = 0;
   vars = (codes "r_xs", Object) ∷ (codes "t_0", Object) ∷ (codes "t_1", Tagged) ∷ (codes "t_2", Object) ∷ (codes "t_3", Object) ∷ (codes "t_4", Tagged) ∷ (codes "t_5", Object) ∷ (codes "t_6", Object) ∷ (codes "t_7", Object) ∷ (codes "t_8", Tagged) ∷ (codes "t_9", Object) ∷ (codes "t_10", Object) ∷ (codes "t_11", Object) ∷ [];
   lines =
-    Turn ∷ Call (Some 1) (codes "CPyInstance_New") (arg.Class (codes "A") ∷ []) ∷ Lit 2 (Number (pos 2)) ∷ Call (Some 3) (codes "CPyDef_1A___init__") (arg.Var 1 ∷ arg.Var 2 ∷ []) ∷ IfError 3 4 0 ∷
-    Label ∷ Call (Some 4) (codes "CPyInstance_New") (arg.Class (codes "A") ∷ []) ∷ Lit 5 (Number (pos 4)) ∷ Call (Some 6) (codes "CPyDef_1A___init__") (arg.Var 4 ∷ arg.Var 5 ∷ []) ∷ IfError 6 3 1 ∷
-    Label ∷ Call (Some 7) (codes "CPyDef_c") [] ∷ IfError 7 3 2 ∷
-    Label ∷ Call (Some 8) (codes "CPyList_New") [] ∷ Call None (codes "CPyList_Append") (arg.Var 8 ∷ arg.Var 1 ∷ []) ∷ Call None (codes "CPyList_Append") (arg.Var 8 ∷ arg.Var 4 ∷ []) ∷ Call None (codes "CPyList_Append") (arg.Var 8 ∷ arg.Var 7 ∷ []) ∷ Move 0 8 ∷ Call (Some 9) (codes "CPyList_Len") (arg.Var 0 ∷ []) ∷ Dec 0 ∷ Call (Some 10) (codes "CPyTagged_Str") (arg.Var 9 ∷ []) ∷ Dec 9 ∷ Call None (codes "CPy_Write") (arg.Var 10 ∷ []) ∷ Dec 10 ∷ Call (Some 11) (codes "CPyStr_Literal") (arg.Text (10 ∷ []) ∷ []) ∷ Call None (codes "CPy_Write") (arg.Var 11 ∷ []) ∷ Dec 11 ∷ Lit 12 PyNone ∷ Return 12 ∷
-    Label ∷ Dec 4 ∷ Goto 4 ∷
-    Label ∷ Dec 1 ∷ Lit 12 Null ∷ Return 12 ∷
-    [];
+      Turn ∷ Call (Some 1) (codes "CPyInstance_New") (arg.Class (codes "A") ∷ []) ∷ Lit 2 (Number (pos 2)) ∷ Call (Some 3) (codes "CPyDef_1A___init__") (arg.Var 1 ∷ arg.Var 2 ∷ []) ∷ IfError 3 4 0 ∷
+      Label ∷ Call (Some 4) (codes "CPyInstance_New") (arg.Class (codes "A") ∷ []) ∷ Lit 5 (Number (pos 4)) ∷ Call (Some 6) (codes "CPyDef_1A___init__") (arg.Var 4 ∷ arg.Var 5 ∷ []) ∷ IfError 6 3 1 ∷
+      Label ∷ Call (Some 7) (codes "CPyDef_c") [] ∷ IfError 7 3 2 ∷
+      Label ∷ Call (Some 8) (codes "CPyList_New") [] ∷ Call None (codes "CPyList_Append") (arg.Var 8 ∷ arg.Var 1 ∷ []) ∷ Call None (codes "CPyList_Append") (arg.Var 8 ∷ arg.Var 4 ∷ []) ∷ Call None (codes "CPyList_Append") (arg.Var 8 ∷ arg.Var 7 ∷ []) ∷ Move 0 8 ∷ Call (Some 9) (codes "CPyList_Len") (arg.Var 0 ∷ []) ∷ Dec 0 ∷ Call (Some 10) (codes "CPyTagged_Str") (arg.Var 9 ∷ []) ∷ Dec 9 ∷ Call None (codes "CPy_Write") (arg.Var 10 ∷ []) ∷ Dec 10 ∷ Call (Some 11) (codes "CPyStr_Literal") (arg.Text (10 ∷ []) ∷ []) ∷ Call None (codes "CPy_Write") (arg.Var 11 ∷ []) ∷ Dec 11 ∷ Lit 12 PyNone ∷ Return 12 ∷
+      Label ∷ Dec 4 ∷ Goto 4 ∷
+      Label ∷ Dec 1 ∷ Lit 12 Null ∷ Return 12 ∷
+      [];
 }
 
 -- calls it, catches what it raises and writes its text
@@ -82,13 +82,13 @@ raising_module = record {
   params = 0;
   vars = (codes "t_0", Object) ∷ (codes "t_1", Char) ∷ (codes "t_2", Object) ∷ (codes "t_3", Object) ∷ (codes "t_4", Object) ∷ (codes "t_5", Object) ∷ (codes "t_6", Char) ∷ [];
   lines =
-    Call (Some 0) (codes "CPyDef_go") [] ∷ IfError 0 0 3 ∷
-    Label ∷ Call (Some 1) (codes "CPyErr_Matches") (arg.Text (codes "ValueError") ∷ []) ∷ If 1 1 4 ∷
-    Label ∷ Call (Some 2) (codes "CPyErr_Catch") [] ∷ Call None (codes "CPyGlobal_Set") (arg.Global (codes "e") ∷ arg.Var 2 ∷ []) ∷ Call (Some 3) (codes "CPyGlobal_Get") (arg.Global (codes "e") ∷ []) ∷ IfError 3 4 2 ∷
-    Label ∷ Call (Some 4) (codes "CPyExc_Str") (arg.Var 3 ∷ []) ∷ Dec 3 ∷ Call None (codes "CPy_Write") (arg.Var 4 ∷ []) ∷ Dec 4 ∷ Call (Some 5) (codes "CPyStr_Literal") (arg.Text (10 ∷ []) ∷ []) ∷ Call None (codes "CPy_Write") (arg.Var 5 ∷ []) ∷ Dec 5 ∷ Call None (codes "CPyGlobal_Clear") (arg.Global (codes "e") ∷ []) ∷
-    Label ∷ Lit 6 (Number (pos 1)) ∷ Return 6 ∷
-    Label ∷ Lit 6 (Number (pos 2)) ∷ Return 6 ∷
-    [];
+      Call (Some 0) (codes "CPyDef_go") [] ∷ IfError 0 0 3 ∷
+      Label ∷ Call (Some 1) (codes "CPyErr_Matches") (arg.Text (codes "ValueError") ∷ []) ∷ If 1 1 4 ∷
+      Label ∷ Call (Some 2) (codes "CPyErr_Catch") [] ∷ Call None (codes "CPyGlobal_Set") (arg.Global (codes "e") ∷ arg.Var 2 ∷ []) ∷ Call (Some 3) (codes "CPyGlobal_Get") (arg.Global (codes "e") ∷ []) ∷ IfError 3 4 2 ∷
+      Label ∷ Call (Some 4) (codes "CPyExc_Str") (arg.Var 3 ∷ []) ∷ Dec 3 ∷ Call None (codes "CPy_Write") (arg.Var 4 ∷ []) ∷ Dec 4 ∷ Call (Some 5) (codes "CPyStr_Literal") (arg.Text (10 ∷ []) ∷ []) ∷ Call None (codes "CPy_Write") (arg.Var 5 ∷ []) ∷ Dec 5 ∷ Call None (codes "CPyGlobal_Clear") (arg.Global (codes "e") ∷ []) ∷
+      Label ∷ Lit 6 (Number (pos 1)) ∷ Return 6 ∷
+      Label ∷ Lit 6 (Number (pos 2)) ∷ Return 6 ∷
+      [];
 }
 
 abbrev raising : Code
@@ -228,8 +228,8 @@ ring_made = record {
   params = 1;
   vars = (codes "r_self", Object) ∷ (codes "t_0", Object) ∷ [];
   lines =
-    Turn ∷ Lit 1 PyNone ∷ Call None (codes "CPyAttr_Set") (arg.Var 0 ∷ arg.Number (pos 0) ∷ arg.Var 1 ∷ []) ∷ Return 1 ∷
-    [];
+      Turn ∷ Lit 1 PyNone ∷ Call None (codes "CPyAttr_Set") (arg.Var 0 ∷ arg.Number (pos 0) ∷ arg.Var 1 ∷ []) ∷ Return 1 ∷
+      [];
 }
 
 -- x.next = y and y.next = x
@@ -240,8 +240,8 @@ ring_link = record {
   params = 2;
   vars = (codes "r_x", Object) ∷ (codes "r_y", Object) ∷ (codes "t_0", Object) ∷ [];
   lines =
-    Turn ∷ Inc 1 ∷ Call None (codes "CPyAttr_Set") (arg.Var 0 ∷ arg.Number (pos 0) ∷ arg.Var 1 ∷ []) ∷ Inc 0 ∷ Call None (codes "CPyAttr_Set") (arg.Var 1 ∷ arg.Number (pos 0) ∷ arg.Var 0 ∷ []) ∷ Lit 2 PyNone ∷ Return 2 ∷
-    [];
+      Turn ∷ Inc 1 ∷ Call None (codes "CPyAttr_Set") (arg.Var 0 ∷ arg.Number (pos 0) ∷ arg.Var 1 ∷ []) ∷ Inc 0 ∷ Call None (codes "CPyAttr_Set") (arg.Var 1 ∷ arg.Number (pos 0) ∷ arg.Var 0 ∷ []) ∷ Lit 2 PyNone ∷ Return 2 ∷
+      [];
 }
 
 -- makes two nodes and links them
@@ -252,12 +252,12 @@ ring_go = record {
   params = 0;
   vars = (codes "r_p", Object) ∷ (codes "r_q", Object) ∷ (codes "t_0", Object) ∷ [];
   lines =
-    Turn ∷ Call (Some 0) (codes "CPyInstance_New") (arg.Class (codes "Node") ∷ []) ∷ Call (Some 2) (codes "CPyDef_4Node___init__") (arg.Var 0 ∷ []) ∷ IfError 2 3 0 ∷
-    Label ∷ Call (Some 1) (codes "CPyInstance_New") (arg.Class (codes "Node") ∷ []) ∷ Call (Some 2) (codes "CPyDef_4Node___init__") (arg.Var 1 ∷ []) ∷ IfError 2 2 1 ∷
-    Label ∷ Call (Some 2) (codes "CPyDef_link") (arg.Var 0 ∷ arg.Var 1 ∷ []) ∷ Goto 2 ∷
-    Label ∷ Dec 1 ∷ Goto 3 ∷
-    Label ∷ Dec 0 ∷ Return 2 ∷
-    [];
+      Turn ∷ Call (Some 0) (codes "CPyInstance_New") (arg.Class (codes "Node") ∷ []) ∷ Call (Some 2) (codes "CPyDef_4Node___init__") (arg.Var 0 ∷ []) ∷ IfError 2 3 0 ∷
+      Label ∷ Call (Some 1) (codes "CPyInstance_New") (arg.Class (codes "Node") ∷ []) ∷ Call (Some 2) (codes "CPyDef_4Node___init__") (arg.Var 1 ∷ []) ∷ IfError 2 2 1 ∷
+      Label ∷ Call (Some 2) (codes "CPyDef_link") (arg.Var 0 ∷ arg.Var 1 ∷ []) ∷ Goto 2 ∷
+      Label ∷ Dec 1 ∷ Goto 3 ∷
+      Label ∷ Dec 0 ∷ Return 2 ∷
+      [];
 }
 
 abbrev ring_module : CFunc
@@ -267,10 +267,10 @@ ring_module = record {
   params = 0;
   vars = (codes "t_0", Object) ∷ (codes "t_1", Char) ∷ [];
   lines =
-    Call (Some 0) (codes "CPyDef_go") [] ∷ IfError 0 0 1 ∷
-    Label ∷ Lit 1 (Number (pos 2)) ∷ Return 1 ∷
-    Label ∷ Lit 1 (Number (pos 1)) ∷ Return 1 ∷
-    [];
+      Call (Some 0) (codes "CPyDef_go") [] ∷ IfError 0 0 1 ∷
+      Label ∷ Lit 1 (Number (pos 2)) ∷ Return 1 ∷
+      Label ∷ Lit 1 (Number (pos 1)) ∷ Return 1 ∷
+      [];
 }
 
 abbrev ring : Code
