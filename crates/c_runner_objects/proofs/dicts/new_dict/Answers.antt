@@ -5,9 +5,9 @@ use Rattle.cell_heap.specs.Contents.{pair_of}
 use Rattle.c_runner_objects.proofs.DictLemmas.{makes_dict, new_crowded}
 use Rattle.c_runner_objects.proofs.dicts.new_dict.Goals as goal
 
-pub returns-in_ok-dict-then-is_empty : goal.returns-in_ok-dict-then-is_empty
-returns-in_ok-dict-then-is_empty c =
-    makes_dict c.args.state.now c.make_cell.new.self c.args.target c.args.args.now (map pair_of c.in_ok-dict-then-is_empty.dict.pairs) c.make_cell.result (sym c.is_empty.ensures ∙ c.if-is_empty.true) (ap (map pair_of) c.in_ok-dict-then-is_empty.ensures) c.make_cell.ensures
+pub returns-in_ok-dict : goal.returns-in_ok-dict
+returns-in_ok-dict c =
+    makes_dict c.args.state.now c.make_cell.new.self c.args.target c.args.args.now (map pair_of c.in_ok-dict.dict.pairs) c.make_cell.result (sym c.is_empty.ensures ∙ c.if-is_empty.true) (ap (map pair_of) c.in_ok-dict.ensures) c.make_cell.ensures
 
 pub returns-else-is_empty : goal.returns-else-is_empty
 returns-else-is_empty c =
