@@ -1,0 +1,4 @@
+//! Draft.
+#![tactic(auto)]
+
+mod merge;
