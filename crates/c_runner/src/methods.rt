@@ -1,5 +1,7 @@
 //! Calls of methods: of the function that the class of an object has for one, with the object as its first argument.
 ghost use Rattle.std.specs.Prelude.{◌≡◌, ℕ, ◌+◌, ◌^◌, ◌<◌, ◌∷◌, true, List, [], Option, Some, map, slice_get, IfOk};
+ghost use Rattle.std.specs.List.{position};
+ghost use Rattle.std.specs.Str.{bytes_eq};
 ghost use Rattle.c_core.specs.declared.code.CArg.TheVariants as machine_arg;
 ghost use Rattle.c_core.specs.declared.code.CClass as machine_class;
 ghost use Rattle.c_core.specs.declared.code.Code as machine_code;
@@ -7,7 +9,7 @@ ghost use Rattle.c_core.specs.Functions.{method_at, trait_method_at};
 ghost use Rattle.c_core.specs.Machine as machine;
 ghost use Rattle.c_core.specs.Step as machine_step;
 ghost use Rattle.c_core.specs.Step.{Next, if_passed, method_called};
-ghost use Rattle.c_runner.specs.Methods.{method_begins, class_calls};
+ghost use Rattle.c_runner.specs.Methods.{function_for, method_begins, class_calls};
 ghost use Rattle.c_runner.specs.Parts.{unless_fault};
 ghost use Rattle.c_runner_deeds.specs.States.{Rest, Follows, state_of};
 ghost use Rattle.c_runner_table.specs.Targets.{methods_of};
@@ -16,7 +18,7 @@ ghost use Rattle.cell_heap.specs.Contents.{word_of};
 use crate::frames::{begin, parameters};
 use c_core::{CFunc, Code, Fault, Kind};
 use c_runner_deeds::{Ending, State};
-use c_runner_table::{Methods, own_method, trait_method};
+use c_runner_table::Methods;
 use cell_heap::Word;
 use std::alloc::Global;
 use value_core::{Many, Memory, Name};
@@ -173,4 +175,48 @@ fn variable_at(object: usize, args: &[usize], place: usize) -> Option<usize>
     } else {
         args.get(place - 1).copied()
     }
+}
+
+/// The function that a class has for the method of a number, if there is one.
+fn own_method(_code: &Code, classes: &Many<Methods>, class: usize, number: usize) -> Option<usize>
+    requires { classes.now ≡ methods_of _code.now }
+    ensures { result ≡ function_for _code.now (method_at number) class }
+{
+    match classes.get(class) {
+        None => None,
+        Some(methods) => methods.own.get(number).copied().flatten(),
+    }
+}
+
+/// The function that a class has for the method of a number of a trait, if there is one.
+fn trait_method(
+    code: &Code,
+    classes: &Many<Methods>,
+    class: usize,
+    name: &str,
+    number: usize,
+) -> Option<usize>
+    requires { classes.now ≡ methods_of code.now }
+    ensures { result ≡ function_for code.now (trait_method_at name.now number) class }
+{
+    let Some(declared) = code.classes.get(class) else {
+        return None;
+    };
+    let Some(methods) = classes.get(class) else {
+        return None;
+    };
+    let Some(place) = trait_place(declared.traits.as_slice(), name) else {
+        return None;
+    };
+    match methods.traits.get(place) {
+        None => None,
+        Some(functions) => functions.get(number).copied().flatten(),
+    }
+}
+
+/// The place of a trait by its name.
+fn trait_place(traits: &[(Name, Many<Name>)], name: &str) -> Option<usize>
+    ensures { result ≡ position (λ entry. bytes_eq name.now entry.0) traits.now }
+{
+    traits.iter().position(|entry| name == entry.0.as_str())
 }

@@ -2,8 +2,6 @@
 //! classes; and the functions of each class.
 #![tactic(auto)]
 
-mod finding;
 mod naming;
 
-pub use finding::{own_method, trait_method};
 pub use naming::{Callee, Methods, Named, Tables, Target, table, target_at};

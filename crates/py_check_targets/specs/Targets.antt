@@ -143,31 +143,21 @@ targets_of aims = flat_map target_of aims
 abbrev pub are_placed : Bool → List Aim → Bool
 are_placed flat aims = flat && list_all is_placed aims
 
--- what has a type takes what fits it; so does a new name that stands twice, by the type of its first part
+-- a new name that stands twice has the type of its first part
 abbrev pub again_fault : List ClassEntry → Option Sort → Sort → Option Message
 again_fault classes None s = None
 again_fault classes (Some t) s = if fits classes s t then None else Some (wrong_assignment classes s t)
 
--- what is wrong with the part that one target takes, behind these new names with the types of their first parts
-abbrev pub part_fault : List ClassEntry → List (List ℕ × Sort) → Aim → Sort → Option Message
-part_fault classes seen (held target t) s = again_fault classes (Some t) s
-part_fault classes seen (first target x) s = again_fault classes (lookup (bytes_eq x) seen) s
-part_fault classes seen a s = None
-
--- the new names with that of one more target
-abbrev pub with_new_name : List (List ℕ × Sort) → Aim → Sort → List (List ℕ × Sort)
-with_new_name seen (first target x) s = seen ++ (x, s) ∷ []
-with_new_name seen a s = seen
-
--- the first part that does not fit
-abbrev pub parts_fault : List ClassEntry → List (List ℕ × Sort) → List Aim → List Sort → Option Message
-parts_fault classes seen (a ∷ more) (s ∷ ss) = first_of (part_fault classes seen a s) (parts_fault classes (with_new_name seen a s) more ss)
-parts_fault classes seen aims ss = None
+abbrev pub twice_fault : List ClassEntry → List (List ℕ × Sort) → List Aim → List Sort → Option Message
+twice_fault classes seen (first target x ∷ more) (s ∷ ss) =
+    first_of (again_fault classes (lookup (bytes_eq x) seen) s) (twice_fault classes (seen ++ (x, s) ∷ []) more ss)
+twice_fault classes seen (a ∷ more) (s ∷ ss) = twice_fault classes seen more ss
+twice_fault classes seen aims ss = None
 
 -- what is wrong where a value of a type is bound to several targets
 abbrev pub several_fault : List ClassEntry → List Aim → Sort → Option Message
 several_fault classes aims t =
-    first_of (unpacking_fault classes (map slot_of aims) t) (parts_fault classes [] aims (some_parts (items_for t (length aims))))
+    first_of (unpacking_fault classes (map slot_of aims) t) (twice_fault classes [] aims (some_parts (items_for t (length aims))))
 
 abbrev pub one_assigned : List ClassEntry → List Aim → TypedExpr → Result TypedExpr Message
 one_assigned classes (a ∷ []) e = assignment classes (slot_of a) e

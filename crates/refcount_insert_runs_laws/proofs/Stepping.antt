@@ -70,7 +70,7 @@ module _ (lines_do : LinesDo) (p q : Program) (shape : Shape p) (counted : IsCou
       abbrev state : MachineState
       state = at_end p q shape counted wf lines_do.counts f below w s a fit met lent stack world
 
-      by_last : (l : Last) → a.block.last ≡ l → LastFits (length a.at.func.blocks) f.block a.block.ops l → IsBody a.at.func a.at.counted.tables a.at.counted.number f.block (owned a.at.func a.at.counted.tables f.block) a.block.ops l a.placed.stands.main.ops → IsLast a.at.func a.at.counted.tables a.at.counted.number a.at.counted.first a.at.counted.at_start (owned a.at.func a.at.counted.tables f.block (length a.block.ops)) l a.placed.stands.main.last → Arrives p q (machine p q state) (do_last Fitting p l f below w)
+      by_last : (l : Last) → a.block.last ≡ l → LastFits (length a.at.func.blocks) f.block a.block.ops l → IsBody a.at.func a.at.counted.tables a.at.counted.number f.block (owned a.at.func a.at.counted.tables f.block) a.block.ops l a.placed.stands.main.ops → IsLast a.at.func a.at.counted.tables a.at.counted.number (owned a.at.func a.at.counted.tables f.block (length a.block.ops)) l (a.at.counted.number f.block + 1) a.placed.stands.main.last a.placed.stands.own → Arrives p q (machine p q state) (do_last Fitting p l f below w)
       by_last (Goto c) is fits body form =
           goto_arrives p q shape counted wf lines_do.counts f below w s a fit met lent stack world c is fits form
       by_last (If x y z) is fits body form =
@@ -78,9 +78,9 @@ module _ (lines_do : LinesDo) (p q : Program) (shape : Shape p) (counted : IsCou
       by_last (IfError x y z n) is fits body form =
           if_error_arrives p q shape counted wf lines_do.counts f below w s a fit met lent stack world lines_do.if_errors x y z n is fits form
       by_last (Return x) is fits body form =
-          return_arrives p q shape counted wf lines_do.counts f below w s a fit met lent stack world lines_do.returns lines_do.ends x form
+          return_arrives p q shape counted wf lines_do.counts f below w s a fit met lent stack world lines_do.returns lines_do.ends x form.0
       by_last Unreachable is fits body form =
-          unreachable_arrives p q shape counted wf lines_do.counts f below w s a fit met lent stack world fits body form
+          unreachable_arrives p q shape counted wf lines_do.counts f below w s a fit met lent stack world fits body form.0
 
       end_arrives : Arrives p q (machine p q s) (step Fitting p (Runs f below w))
       end_arrives =

@@ -1,8 +1,8 @@
 use Rattle.std.proofs.Common.{sym, ap, ◌∙◌}
 use Rattle.std.specs.Option.{option_flatten}
 use Rattle.c_core.specs.Functions.{method_at}
-use Rattle.c_runner_table.proofs.FindingLemmas.{no_functions, own_found}
-use Rattle.c_runner_table.proofs.finding.own_method.Goals as goal
+use Rattle.c_runner.proofs.MethodLemmas.{no_functions, own_found}
+use Rattle.c_runner.proofs.methods.own_method.Goals as goal
 
 pub returns-in-None : goal.returns-in-None
 returns-in-None c = no_functions c.args._code.now c.args.class (method_at c.args.number) c.args.classes.now c.requires (sym c.in-None.ensures.value)

@@ -3,8 +3,8 @@ use Rattle.std.specs.List.{position}
 use Rattle.std.specs.Option.{option_copied, option_flatten}
 use Rattle.std.specs.Str.{bytes_eq}
 use Rattle.c_core.specs.Functions.{trait_method_at}
-use Rattle.c_runner_table.proofs.FindingLemmas.{no_class, no_functions, no_trait, no_entries, trait_found}
-use Rattle.c_runner_table.proofs.finding.trait_method.Goals as goal
+use Rattle.c_runner.proofs.MethodLemmas.{no_class, no_functions, no_trait, no_entries, trait_found}
+use Rattle.c_runner.proofs.methods.trait_method.Goals as goal
 
 pub returns-in_default : goal.returns-in_default
 returns-in_default c = no_class c.args.code.now c.args.class (trait_method_at c.args.name.now c.args.number) (sym c.get.ensures.value ∙ ap option_copied c.in_default.is)

@@ -1,4 +1,0 @@
-//! Draft.
-#![tactic(auto)]
-
-mod merge;
