@@ -16,25 +16,25 @@ use Rattle.ir_core.specs.declared.kind.Edge.{Edge}
 use Rattle.ir_core.specs.declared.kind.Edge.TheVariants.{NoEdge, Tests, TestsTwice, Jumps}
 use Rattle.ir_core.specs.Items.{Item, Do, End, in_block, item_of, item_in, handler_of}
 use Rattle.ir_core.specs.Rows.{Declared, edge_of_op}
-use Rattle.ir_core.specs.Meaning.{question, is_answered, is_second_test, is_edge}
+use Rattle.ir_core.specs.Meaning.{question_of, question, is_answered, is_second_test, is_edge}
 use Rattle.ir_core.specs.Missing.{missing}
 use Rattle.error_edges.specs.Layout.{moved, target_of, flag_register, asking}
 use Rattle.error_edges.proofs.Laid.{LaidAfter, Escapes, Asked, BlockStands, FunctionLaid}
 
 -- an operation is no edge
-pub no_edge : (at : ℕ → ℕ → Option Item) (m : Edge) (o : Op) → is_edge at m (Some (Do o)) ≡ true → ⊥
-no_edge at NoEdge o e = cc
-no_edge at (Tests r) o e = cc
-no_edge at (TestsTwice r) o e = cc
-no_edge at Jumps o e = cc
+pub no_edge : (at : ℕ → ℕ → Option Item) (m : Edge) (o : Op) (line : ℕ) → is_edge at m (Some (Do o line)) ≡ true → ⊥
+no_edge at NoEdge o line e = cc
+no_edge at (Tests r) o line e = cc
+no_edge at (TestsTwice r) o line e = cc
+no_edge at Jumps o line e = cc
 
 -- the test of the pending exception, as it is laid out
-pub second_laid : (at : ℕ → ℕ → Option Item) (k n t : ℕ) (flag : Reg) → at k 0 ≡ Some (Do (asking flag)) → at k 1 ≡ Some (End (If flag t n)) → is_second_test (at k 0) (at k 1) n ≡ true
+pub second_laid : (at : ℕ → ℕ → Option Item) (k n t : ℕ) (flag : Reg) {line : ℕ} → at k 0 ≡ Some (Do (asking flag) line) → at k 1 ≡ Some (End (If flag t n)) → is_second_test (at k 0) (at k 1) n ≡ true
 second_laid at k n t flag first second =
     rw (first, second) (and_from (nat_eq flag.0 flag.0) (nat_eq n n) (eq-eqb flag.0 flag.0 refl) (eq-eqb n n refl))
 
 -- the question whether an exception is pending never fails
-asks_calmly : (ds : Declared) (o : Op) (flag : Reg) → question (Some (Do o)) ≡ Some flag → edge_of_op ds o ≡ NoEdge
+asks_calmly : (ds : Declared) (o : Op) (flag : Reg) → question_of o ≡ Some flag → edge_of_op ds o ≡ NoEdge
 asks_calmly ds (Prim (Some r) (prim.Err err.Occurred) []) flag e = refl
 asks_calmly ds _ flag e = absurd (cc)
 
@@ -63,14 +63,14 @@ module _ (f g : Func) (laid : FunctionLaid f g) where
       in_ops : (b : Block) (ops : List (Op × ℕ)) → BlockStands f g laid.start laid.exit b ops b.last (laid.start k) 0 → is_second_test (in_block ops b.last 0) (in_block ops b.last 1) n ≡ true → is_second_test (item_in g.blocks (laid.start k) 0) (item_in g.blocks (laid.start k) 1) (laid.start n) ≡ true
       in_ops b [] stands h = absurd (cc)
       in_ops b (o ∷ []) stands h =
-          let asked = asked_by (question (Some (Do o.0))) (Some (End b.last)) n h in
+          let asked = asked_by (question (Some (Do o.0 o.1))) (Some (End b.last)) n h in
           let calm : edge_of_op f.regs o.0 ≡ NoEdge = asks_calmly f.regs o.0 asked.0 asked.1 in
           let behind : item_in g.blocks (laid.start k) 1 ≡ Some (End (moved laid.start b.last)) =
           subst (λ m. LaidAfter (item_in g.blocks) laid.start (target_of laid.start laid.exit (handler_of b)) (flag_register f.regs) (Asked g (flag_register f.regs)) (Escapes g laid.exit (handler_of b)) f.regs f.blocks m o.1 (laid.start k) 0 (λ j i. item_in g.blocks j i ≡ Some (End (moved laid.start b.last))))
           (none_missing (item_in f.blocks) (edge_of_op f.regs o.0) (Some (End b.last)) calm) stands.1 in
           rw (stands.0, behind, asked.1) (answer_kept b.last n asked.0 asked.2)
       in_ops b (o ∷ p ∷ os) stands h =
-          let asked = asked_by (question (Some (Do o.0))) (Some (Do p.0)) n h in absurd (cc (asked.2))
+          let asked = asked_by (question (Some (Do o.0 o.1))) (Some (Do p.0 p.1)) n h in absurd (cc (asked.2))
 
       by : (b : Option Block) → slice_get f.blocks k ≡ b → is_second_test (item_in g.blocks (laid.start k) 0) (item_in g.blocks (laid.start k) 1) (laid.start n) ≡ true
       by None is =

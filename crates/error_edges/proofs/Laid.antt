@@ -24,18 +24,18 @@ module _ (item : ℕ → ℕ → Option Item) (start : ℕ → ℕ) (target : �
   LaidAfter (Tests r) line k i rest =
       (item k (i + 1) ≡ Some (End (IfError r target (k + 1) line))) × Escapes × rest (k + 1) 0
   LaidAfter (TestsTwice r) line k i rest =
-      (item k (i + 1) ≡ Some (End (IfError r (k + 1) (k + 2) line))) × (item (k + 1) 0 ≡ Some (Do (asking flag))) × (item (k + 1) 1 ≡ Some (End (If flag target (k + 2)))) × Asked × Escapes × rest (k + 2) 0
+      (item k (i + 1) ≡ Some (End (IfError r (k + 1) (k + 2) line))) × (item (k + 1) 0 ≡ Some (Do (asking flag) line)) × (item (k + 1) 1 ≡ Some (End (If flag target (k + 2)))) × Asked × Escapes × rest (k + 2) 0
   LaidAfter Jumps line k i rest = (item k (i + 1) ≡ Some (End (Goto target))) × Escapes × rest (k + 1) 0
 
   abbrev pub Laid : List (Op × ℕ) → Last → ℕ → ℕ → Type 0
   Laid [] last k i = item k i ≡ Some (End (moved start last))
-  Laid (o ∷ os) last k i = (item k i ≡ Some (Do o.0)) × LaidAfter (missing (item_in all) (edge_of_op regs o.0) (in_block os last 0)) o.1 k i (Laid os last)
+  Laid (o ∷ os) last k i = (item k i ≡ Some (Do o.0 o.1)) × LaidAfter (missing (item_in all) (edge_of_op regs o.0) (in_block os last 0)) o.1 k i (Laid os last)
 
 -- the exit of a function gives its error value
 pub record ExitStands (g : Func) (exit : ℕ) : Type 0 where
   pub register : Reg
   pub kind : type_of_reg g.regs register ≡ Some g.ret
-  pub writes : item_in g.blocks exit 0 ≡ Some (Do (Lit register (error_literal g.ret)))
+  pub writes : item_in g.blocks exit 0 ≡ Some (Do (Lit register (error_literal g.ret)) 0)
   pub returns : item_in g.blocks exit 1 ≡ Some (End (Return register))
 
 abbrev pub Escapes : Func → ℕ → Option ℕ → Type 0

@@ -34,9 +34,9 @@ at_all : (blocks : List Block) → At (item_in blocks) 0 blocks
 at_all blocks j b e i =
     let z : 0 + j ≡ j = omega arith in ap (λ k. item_in blocks k i) z ∙ ap (λ o. item_of o i) e
 
-in_ops : (ops : List (Op × ℕ)) (last : Last) (i : ℕ) (o : Op × ℕ) → slice_get ops i ≡ Some o → in_block ops last i ≡ Some (Do o.0)
+in_ops : (ops : List (Op × ℕ)) (last : Last) (i : ℕ) (o : Op × ℕ) → slice_get ops i ≡ Some o → in_block ops last i ≡ Some (Do o.0 o.1)
 in_ops [] last i o e = absurd (cc)
-in_ops (x ∷ ops) last zero o e = let same : x ≡ o = cc in ap (λ (y : Op × ℕ). Some (Do y.0)) same
+in_ops (x ∷ ops) last zero o e = let same : x ≡ o = cc in ap (λ (y : Op × ℕ). Some (Do y.0 y.1)) same
 in_ops (x ∷ ops) last (suc i) o e = in_ops ops last i o e
 
 module _ (item : ℕ → ℕ → Option Item) where
@@ -61,7 +61,7 @@ module _ (item : ℕ → ℕ → Option Item) where
   -- ---- one chain
   module _ (start : ℕ → ℕ) (target : ℕ) (flag : Reg) (Asks Out : Type 0) (regs : Declared) (all : List Block) where
     -- the operations that stand in the block already
-    stand_at : (e : Edge) (more : ℕ → List (Op × ℕ) → List Block) (n : ℕ) (done : List (Op × ℕ)) (line i : ℕ) (o : Op × ℕ) → slice_get done i ≡ Some o → (At item n (more n done) → item n i ≡ Some (Do o.0)) → At item n (cut_at target flag e n done line more) → item n i ≡ Some (Do o.0)
+    stand_at : (e : Edge) (more : ℕ → List (Op × ℕ) → List Block) (n : ℕ) (done : List (Op × ℕ)) (line i : ℕ) (o : Op × ℕ) → slice_get done i ≡ Some o → (At item n (more n done) → item n i ≡ Some (Do o.0 o.1)) → At item n (cut_at target flag e n done line more) → item n i ≡ Some (Do o.0 o.1)
     stand_at NoEdge more n done line i o e h at = h at
     stand_at (Tests r) more n done line i o e h at =
         at_first n (block_of done (IfError r target (n + 1) line)) (more (n + 1) []) at i ∙ in_ops done _ i o e
@@ -70,7 +70,7 @@ module _ (item : ℕ → ℕ → Option Item) where
     stand_at Jumps more n done line i o e h at =
         at_first n (block_of done (Goto target)) (more (n + 1) []) at i ∙ in_ops done _ i o e
 
-    stand : (os : List (Op × ℕ)) (last end : Last) (n : ℕ) (done : List (Op × ℕ)) (i : ℕ) (o : Op × ℕ) → slice_get done i ≡ Some o → At item n (cut target flag os (edges_in regs all os last) end n done) → item n i ≡ Some (Do o.0)
+    stand : (os : List (Op × ℕ)) (last end : Last) (n : ℕ) (done : List (Op × ℕ)) (i : ℕ) (o : Op × ℕ) → slice_get done i ≡ Some o → At item n (cut target flag os (edges_in regs all os last) end n done) → item n i ≡ Some (Do o.0 o.1)
     stand [] last end n done i o e at = at_first n (block_of done end) [] at i ∙ in_ops done end i o e
     stand (x ∷ os) last end n done i o e at =
         let more = get_more done (x ∷ []) i o e in

@@ -1,5 +1,5 @@
 -- The step that asks whether an exception is pending.
-use Rattle.std.proofs.Common.{◌≡◌, refl, ◌∙◌, ap, List, [], Option, Some, None}
+use Rattle.std.proofs.Common.{◌≡◌, refl, ◌∙◌, ap, ℕ, List, [], Option, Some, None}
 use Rattle.std.specs.Prelude.{is_some}
 use Rattle.value_core.specs.Exceptions.{Thrown}
 use Rattle.value_core.specs.Value.{BoolVal}
@@ -20,5 +20,5 @@ stands : (e : Option Thrown) → may_stand e (prim.Err err.Occurred) ≡ Rattle.
 stands None = refl
 stands (Some e) = refl
 
-pub asking_step : (q : Program) (f : Frame) (below : List Waiting) (w : World) (r : Reg) → item_at q f.fn f.block f.place ≡ Some (Do (asking r)) → type_of_reg (registers_of q f.fn) r ≡ Some BoolType → step Fitting q (Runs f below w) ≡ Runs (next f (put f.regs r.0 (Holds (BoolVal (is_some w.pending))))) below w
+pub asking_step : (q : Program) (f : Frame) (below : List Waiting) (w : World) (r : Reg) {line : ℕ} → item_at q f.fn f.block f.place ≡ Some (Do (asking r) line) → type_of_reg (registers_of q f.fn) r ≡ Some BoolType → step Fitting q (Runs f below w) ≡ Runs (next f (put f.regs r.0 (Holds (BoolVal (is_some w.pending))))) below w
 asking_step q f below w r e k = op_step Fitting q f below w (asking r) e ∙ rw (stands w.pending, k) refl

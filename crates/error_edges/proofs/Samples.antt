@@ -318,7 +318,7 @@ before_has_shape = record {
     (record { ops = (refl, (refl, tt)); last = tt; handler = tt }, tt),
     ((record { ops = (refl, (refl, (refl, (refl, (refl, (refl, tt)))))); last = tt; handler = tt }, tt), tt),
   );
-  turns = (refl, tt);
+  turns = ((1, refl), tt);
   lowered = refl;
 }
 

@@ -20,7 +20,7 @@ use Rattle.ir_core.specs.declared.code.Func.{Func}
 use Rattle.ir_core.specs.declared.code.Program.{Program}
 use Rattle.ir_core.specs.Items.{Do, in_block, item_of, item_in}
 use Rattle.ir_core.specs.Names.{function_id}
-use Rattle.ir_core.specs.Lower.{kind_of_type, variable_of, global_of, call_name, called_as, line_of, op_lines, end_lines, label_of, lines_from, lowered_as, name_in, lowered_from, lower}
+use Rattle.ir_core.specs.Lower.{kind_of_type, variable_of, global_of, call_name, called_as, op_lines, end_lines, label_of, lines_from, lowered_as, name_in, lowered_from, lower}
 use Rattle.ir_core.specs.Shape.{FuncFits, FuncsFit, BeginsInTurn, Shape}
 use Rattle.ir_core.proofs.JumpLemmas.{jumps_go, last_leaves}
 use Rattle.ir_core.proofs.TextLemmas.{LinesAre, lines_from_all, all_spelled, all_fit}
@@ -39,28 +39,28 @@ use Rattle.error_edges.proofs.FunctionShapes.{func_fits, function_lines}
 use Rattle.error_edges.proofs.Standing.{has_edges}
 
 -- ---- the first operation stays
-first_turn : (ops : List (Op × ℕ)) (last : Last) → in_block ops last 0 ≡ Some (Do Turn) → (o : Op × ℕ) × (rest : List (Op × ℕ)) × (ops ≡ o ∷ rest) × (o.0 ≡ Turn)
+first_turn : (ops : List (Op × ℕ)) (last : Last) {source : ℕ} → in_block ops last 0 ≡ Some (Do Turn source) → (rest : List (Op × ℕ)) × (ops ≡ (Turn, source) ∷ rest)
 first_turn [] last e = absurd (cc)
-first_turn (o ∷ rest) last e = (o, rest, refl, cc)
+first_turn (o ∷ rest) last {source} e = let op : o.0 ≡ Turn = cc in let at : o.1 ≡ source = cc in (rest, ap (λ x. (x, o.1) ∷ rest) op ∙ ap (λ l. (Turn, l) ∷ rest) at)
 
-turn_stays : (f g : Func) → FunctionLaid f g → item_in f.blocks 0 0 ≡ Some (Do Turn) → item_in g.blocks 0 0 ≡ Some (Do Turn)
-turn_stays f g laid e = by (slice_get f.blocks 0) refl
+turn_stays : (f g : Func) {source : ℕ} → FunctionLaid f g → item_in f.blocks 0 0 ≡ Some (Do Turn source) → item_in g.blocks 0 0 ≡ Some (Do Turn source)
+turn_stays f g {source} laid e = by (slice_get f.blocks 0) refl
   where
-    by : (b : Option Block) → slice_get f.blocks 0 ≡ b → item_in g.blocks 0 0 ≡ Some (Do Turn)
-    by None is = let k : None ≡ Some (Do Turn) = sym (ap (λ b. item_of b 0) is) ∙ e in absurd (cc)
+    by : (b : Option Block) → slice_get f.blocks 0 ≡ b → item_in g.blocks 0 0 ≡ Some (Do Turn source)
+    by None is = let k : None ≡ Some (Do Turn source) = sym (ap (λ b. item_of b 0) is) ∙ e in absurd (cc)
     by (Some b) is =
         let found = first_turn b.ops b.last (sym (ap (λ b. item_of b 0) is) ∙ e) in
-        let stands : BlockStands f g laid.start laid.exit b (found.0 ∷ found.1) b.last 0 0 =
-        subst (λ n. BlockStands f g laid.start laid.exit b (found.0 ∷ found.1) b.last n 0) laid.entry
-        (subst (λ ops. BlockStands f g laid.start laid.exit b ops b.last (laid.start 0) 0) found.2 (laid.blocks 0 b is)) in
-        stands.0 ∙ ap (λ o. Some (Do o)) found.3
+        let stands : BlockStands f g laid.start laid.exit b ((Turn, source) ∷ found.0) b.last 0 0 =
+        subst (λ n. BlockStands f g laid.start laid.exit b ((Turn, source) ∷ found.0) b.last n 0) laid.entry
+        (subst (λ ops. BlockStands f g laid.start laid.exit b ops b.last (laid.start 0) 0) found.1 (laid.blocks 0 b is)) in
+        stands.0
 
 -- and so does the line
-turn_line : (p : Program) (bs : List Block) → item_in bs 0 0 ≡ Some (Do Turn) → slice_get (lines_from p 0 bs) 0 ≡ Some line.Turn
+turn_line : (p : Program) (bs : List Block) {source : ℕ} → item_in bs 0 0 ≡ Some (Do Turn source) → slice_get (lines_from p 0 bs) 0 ≡ Some line.Turn
 turn_line p [] e = absurd (cc)
 turn_line p (b ∷ bs) e =
     let found = first_turn b.ops b.last e in
-    ap (λ ops. slice_get ((op_lines p ops ++ end_lines label_of 0 b.last) ++ lines_from p 1 bs) 0) found.2 ∙ ap (λ o. Some (line_of p o)) found.3
+    ap (λ ops. slice_get ((op_lines p ops ++ end_lines label_of 0 b.last) ++ lines_from p 1 bs) 0) found.1
 
 -- ---- lists
 take_front : {A : Type 0} (n : ℕ) (xs ys : List A) → n ≤ length xs → take n (xs ++ ys) ≡ take n xs
@@ -297,7 +297,7 @@ module _ (p q : Program) (edged : IsEdgedProgram p q) (shape : Shape p) where
   turns_stay (f ∷ []) (g ∷ h ∷ gs) all turns = absurd all.1
   turns_stay (f ∷ d ∷ fs) (g ∷ []) all turns = absurd all.1
   turns_stay (f ∷ d ∷ fs) (g ∷ h ∷ gs) all turns =
-      (turn_stays f g (function_laid f g all.0) turns.0, turns_stay (d ∷ fs) (h ∷ gs) all.1 turns.1)
+      ((turns.0.0, turn_stays f g (function_laid f g all.0) turns.0.1), turns_stay (d ∷ fs) (h ∷ gs) all.1 turns.1)
 
   new_top : (n : ℕ) (f g : Func) → IsEdged f g → IsGood n f → spelled_top (text n f) ≡ true → spelled_top (new_text n g) ≡ true
   new_top n f g e known spelled =
@@ -337,7 +337,7 @@ module _ (p q : Program) (edged : IsEdgedProgram p q) (shape : Shape p) where
       let none : name_in q n g ≡ [] = ap (λ b. cond b [] (function_id g.name)) (eq-eqb (suc n) (length q.funcs) e) in
       or_left (bytes_eq (name_in q n g) []) (is_turn_at (slice_get (lines_from q 0 g.blocks) 0)) (ap (λ x. bytes_eq x []) none)
 
-  turn_begins : (n : ℕ) (g : Func) → item_in g.blocks 0 0 ≡ Some (Do Turn) → begins_right (new_text n g) ≡ true
+  turn_begins : (n : ℕ) (g : Func) {source : ℕ} → item_in g.blocks 0 0 ≡ Some (Do Turn source) → begins_right (new_text n g) ≡ true
   turn_begins n g e =
       or_right (bytes_eq (name_in q n g) []) (is_turn_at (slice_get (lines_from q 0 g.blocks) 0)) (ap is_turn_at (turn_line q g.blocks e))
 
@@ -349,7 +349,7 @@ module _ (p q : Program) (edged : IsEdgedProgram p q) (shape : Shape p) where
       and_from (function_fits (lower q) (new_text n g)) true ((is_new n f g all.0 known.0).fits (own_begins n g (omega (arith, size)))) refl
   all_fit_new n (f ∷ fs) (g ∷ h ∷ gs) all known turns size =
       and_from (function_fits (lower q) (new_text n g)) (list_all (function_fits (lower q)) (lowered_from q (suc n) (h ∷ gs)))
-      ((is_new n f g all.0 known.0).fits (turn_begins n g turns.0)) (all_fit_new (suc n) fs (h ∷ gs) all.1 known.1 turns.1 (omega (arith, size)))
+      ((is_new n f g all.0 known.0).fits (turn_begins n g turns.0.1)) (all_fit_new (suc n) fs (h ∷ gs) all.1 known.1 turns.1 (omega (arith, size)))
 
   -- ---- behind each operation that can fail stands its edge
   edges_at : (n : ℕ) (fs gs : List Func) → AreEdged fs gs → AreGood n fs → (i : ℕ) (g : Func) → slice_get gs i ≡ Some g → HasEdges g

@@ -284,12 +284,12 @@ module _ (p q : Program) (all : ProgramLaid p q) where
           Rattle.ir_core.proofs.StepLemmas.put_other y (length ds) k (Holds (BoolVal (is_some w.pending))) ne ∙ rs k lt
 
       -- the test of the pending exception
-      asks : (k n : ℕ) (z : Config) (c : Bool) → is_some w.pending ≡ c → items k 0 ≡ Some (Do (asking flag)) → items k 1 ≡ Some (End (If flag target n)) → Asked fs.new flag → After z (Runs (at (cond c target n) 0 answered) waiting w) → After z (Runs (at k 0 y) waiting w)
-      asks k n z c is a b there h =
+      asks : (k n : ℕ) (z : Config) (c : Bool) {line : ℕ} → is_some w.pending ≡ c → items k 0 ≡ Some (Do (asking flag) line) → items k 1 ≡ Some (End (If flag target n)) → Asked fs.new flag → After z (Runs (at (cond c target n) 0 answered) waiting w) → After z (Runs (at k 0 y) waiting w)
+      asks k n z c {line} is a b there h =
           let kind : type_of_reg (registers_of q g.fn) flag ≡ Some BoolType = ap (λ fn. type_of_reg (declared_of fn) flag) fs.at_new ∙ there in
           let holds : answered (length ds) ≡ Holds (BoolVal c) = put_same y (length ds) (Holds (BoolVal (is_some w.pending))) ∙ ap (λ d. Holds (BoolVal d)) is in
           after_step z (Runs (at k 0 y) waiting w) (Runs (at k 1 answered) waiting w)
-          (asking_step q (at k 0 y) waiting w flag (item_new k 0 (Do (asking flag)) a) kind)
+          (asking_step q (at k 0 y) waiting w flag (item_new k 0 (Do (asking flag) line) a) kind)
           (after_step z (Runs (at k 1 answered) waiting w) (Runs (at (cond c target n) 0 answered) waiting w)
           (if_step Fitting q (at k 1 answered) waiting w flag target n c (item_new k 1 (End (If flag target n)) b) kind holds) h)
 
@@ -381,7 +381,7 @@ module _ (p q : Program) (all : ProgramLaid p q) where
       kept : (m : Edge) (rest : List (Op × ℕ)) (l : Last) → is_edge was m (in_block rest l 0) ≡ true → BlockStands fs.old fs.new fs.laid.start fs.laid.exit st.block rest l g.block (g.place + 1) → is_edge (item_at q g.fn) m (item_at q g.fn g.block (g.place + 1)) ≡ true
       kept m [] l b laid =
           ap (λ at. is_edge at m (at g.block (g.place + 1))) all_new ∙ (ap (is_edge items m) laid ∙ kept_edge fs.old fs.new fs.laid m l b)
-      kept m (a ∷ rest) l b laid = absurd (no_edge was m a.0 b)
+      kept m (a ∷ rest) l b laid = absurd (no_edge was m a.0 a.1 b)
 
       -- the strict machine behind an operation that failed
       abbrev OnOld : Edge → Config
@@ -788,7 +788,7 @@ module _ (p q : Program) (all : ProgramLaid p q) where
       acts (Some (End last)) f below w (End (moved st.function.laid.start last)) g waiting (first_item [] last f g st) (item_there f.fn g st.function _ st.laid)
       (last_matches last f g below waiting w st.function st.regs wait)
   run_matches (o ∷ os) last f g below waiting w st wait =
-      acts (Some (Do o.0)) f below w (Do o.0) g waiting (first_item (o ∷ os) last f g st) (item_there f.fn g st.function _ st.laid.0)
+      acts (Some (Do o.0 o.1)) f below w (Do o.0 o.1) g waiting (first_item (o ∷ os) last f g st) (item_there f.fn g st.function _ st.laid.0)
       (op_matches o.1 os last f g below waiting wait o.0 st w)
 
   lost_matches : (f : Frame) (below : List Waiting) (w : World) (d : Config) (it : Option Item) → it ≡ None → After (act Strict p it f below w) d
@@ -805,7 +805,7 @@ module _ (p q : Program) (all : ProgramLaid p q) where
       let f : Frame = m.frame in
       let item : (i : ℕ) (it : Item) → item_in new.blocks fs.laid.exit i ≡ Some it → item_at q f.fn f.block i ≡ Some it =
       λ i it e. ap (λ h. item_in (blocks_of h) f.block i) fs.at_new ∙ (ap (λ k. item_in new.blocks k i) m.block ∙ e) in
-      let writes : item_at q f.fn f.block f.place ≡ Some (Do (Lit r (error_literal new.ret))) = ap (λ i. item_at q f.fn f.block i) m.place ∙ item 0 _ m.exit.writes in
+      let writes : item_at q f.fn f.block f.place ≡ Some (Do (Lit r (error_literal new.ret)) 0) = ap (λ i. item_at q f.fn f.block i) m.place ∙ item 0 _ m.exit.writes in
       let kind : type_of_reg (registers_of q f.fn) r ≡ Some new.ret = ap (λ h. type_of_reg (declared_of h) r) fs.at_new ∙ m.exit.kind in
       let z : Regs = put f.regs r.0 (error_of new.ret) in
       let g : Frame = next f z in

@@ -173,7 +173,7 @@ module _ (p : Program) (f g : Func) (edged : IsEdged f g) where
           stands : (os : List (Op × ℕ)) → is_edge was (edge_of_op ds o.0) (in_block os last 0) ≡ true → Ready (done ++ o ∷ []) os end
           stands [] k =
               calm_then done o end h (inr (ap (λ m. is_edge is m (Some (End end))) same ∙ kept_edge f g laid (edge_of_op ds o.0) last k))
-          stands (x ∷ os) k = absurd (no_edge was (edge_of_op ds o.0) x.0 k)
+          stands (x ∷ os) k = absurd (no_edge was (edge_of_op ds o.0) x.0 x.1 k)
 
           wants_none : (os : List (Op × ℕ)) → edge_of_op ds o.0 ≡ NoEdge → Ready (done ++ o ∷ []) os end
           wants_none [] k = calm_then done o end h (inl (same ∙ k))
@@ -225,7 +225,7 @@ module _ (p : Program) (f g : Func) (edged : IsEdged f g) where
       (all_append (laid_chains f g edged) (exit_blocks ds f.ret f.blocks) (chains_stand f.blocks 0 same (chains_at f g edged)) exit_stands)
 
   -- ---- by places
-  in_ops : (ops : List (Op × ℕ)) (last : Last) (i : ℕ) (o : Op) → Stand ops last → in_block ops last i ≡ Some (Do o) → HasEdge (edge_of_op g.regs o) (in_block ops last (i + 1))
+  in_ops : (ops : List (Op × ℕ)) (last : Last) (i : ℕ) (o : Op) {line : ℕ} → Stand ops last → in_block ops last i ≡ Some (Do o line) → HasEdge (edge_of_op g.regs o) (in_block ops last (i + 1))
   in_ops [] last zero o h e = absurd (cc)
   in_ops [] last (suc i) o h e = absurd (cc)
   in_ops (x ∷ ops) last zero o h e =
@@ -236,12 +236,12 @@ module _ (p : Program) (f g : Func) (edged : IsEdged f g) where
       let z : suc i + 1 ≡ suc (i + 1) = omega arith in
       subst (λ n. HasEdge (edge_of_op g.regs o) (in_block (x ∷ ops) last n)) (sym z) (in_ops ops last i o h.1 e)
 
-  in_blocks : (bs : List Block) (k i : ℕ) (o : Op) → AllStand bs → item_in bs k i ≡ Some (Do o) → HasEdge (edge_of_op g.regs o) (item_in bs k (i + 1))
+  in_blocks : (bs : List Block) (k i : ℕ) (o : Op) {line : ℕ} → AllStand bs → item_in bs k i ≡ Some (Do o line) → HasEdge (edge_of_op g.regs o) (item_in bs k (i + 1))
   in_blocks [] k i o h e = absurd (cc)
   in_blocks (b ∷ bs) zero i o h e = in_ops b.ops b.last i o h.0 e
   in_blocks (b ∷ bs) (suc k) i o h e = in_blocks bs k i o h.1 e
 
   -- its lines are spelled, so the registers in them are declared
   pub has_edges : (code : Code) (ret : Kind) → LinesAre code (map variable_of ds) ret (lines_from p 0 f.blocks) → HasEdges g
-  has_edges code ret lines k i o e =
+  has_edges code ret lines k i o line e =
       in_blocks g.blocks k i o (all_stand (blocks_same p ds (more_regs f g edged).0 g.regs (more_regs f g edged).1 code ret 0 f.blocks lines)) e

@@ -36,7 +36,7 @@ pub record IsEdgedProgram (p q : Program) : Type 0 where
 -- behind each operation that can fail stands its edge
 abbrev pub HasEdges : Func → Type 0
 HasEdges g =
-    (k i : ℕ) (o : Op) → item_in g.blocks k i ≡ Some (Do o) → (edge_of_op g.regs o ≡ NoEdge) ⊎ (is_edge (item_in g.blocks) (edge_of_op g.regs o) (item_in g.blocks k (i + 1)) ≡ true)
+    (k i : ℕ) (o : Op) (line : ℕ) → item_in g.blocks k i ≡ Some (Do o line) → (edge_of_op g.regs o ≡ NoEdge) ⊎ (is_edge (item_in g.blocks) (edge_of_op g.regs o) (item_in g.blocks k (i + 1)) ≡ true)
 
 abbrev pub EachHasEdges : Program → Type 0
 EachHasEdges q = (n : ℕ) (g : Func) → slice_get q.funcs n ≡ Some g → HasEdges g

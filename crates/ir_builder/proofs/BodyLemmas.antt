@@ -52,7 +52,7 @@ fill_jumps p fn b1 b3 b4 start end x f has from to (e ∷ es) l u o =
     (λ i is. f.jumps p fn e.block i has (omega arith) (omega arith) (x.items e.block i _ is), fill_jumps p fn b1 b3 b4 start end x f has (suc e.block) to es (omega arith) u o.3)
 
 -- a literal is given
-given : (p : Program) (fn : ℕ) (h : Func) (b1 b2 b3 : Building) (r : Reg) (t : RType) (last : Literal) (end : Value) → Adds b1 b2 r.0 t (Lit r last) → Closes b2 b3 (Leave r) → Has p fn b3 → slice_get p.funcs fn ≡ Some h → literal_of t last ≡ Some (Holds end) → (now : Regs) (below : List Waiting) (s : State) → Leads p (running fn (length b1.blocks) (length b1.ops) now below (world None s)) (returning p end below (world None s))
+given : {line : ℕ} (p : Program) (fn : ℕ) (h : Func) (b1 b2 b3 : Building) (r : Reg) (t : RType) (last : Literal) (end : Value) → Adds b1 b2 r.0 t (Lit r last) line → Closes b2 b3 (Leave r) → Has p fn b3 → slice_get p.funcs fn ≡ Some h → literal_of t last ≡ Some (Holds end) → (now : Regs) (below : List Waiting) (s : State) → Leads p (running fn (length b1.blocks) (length b1.ops) now below (world None s)) (returning p end below (world None s))
 given p fn h b1 b2 b3 r t last end a c has there is now below s =
     let has2 = has_less p fn b2 b3 c.extends has in
     let made = literal_makes b1 b2 r.0 t last (Holds end) a is in
@@ -64,7 +64,7 @@ given p fn h b1 b2 b3 r t last end a c has there is now below s =
     let step = return_step Strict p (record { fn = fn; block = length b2.blocks; place = length b2.ops; regs = first.0 }) below (world None s) r h (Holds end) (close_at p fn b2 b3 _ (λ z. cc) c has) there held in
     leads_trans p _ _ _ first.1 (leads_step p _ _ step)
 
-module _ (x : Setting) (result : Option Sort) (t : RType) (last : Literal) (m : Meaning Flow) (b0 b1 b2 b3 b4 : Building) (x0 xs : List Exit) (from end : ℕ) (r : Reg) (bare : x.frame.ret ≡ None) (q : Emitted x result false m b0 b1 x0 xs) (a : Adds b1 b2 r.0 t (Lit r last)) (c : Closes b2 b3 (Leave r)) (is_from : from ≡ length b0.blocks) (is_end : end ≡ length b2.blocks) (f : Filled b3 b4 from end end) where
+module _ (x : Setting) (result : Option Sort) (t : RType) (last : Literal) (m : Meaning Flow) (b0 b1 b2 b3 b4 : Building) (x0 xs : List Exit) (from end : ℕ) (r : Reg) {line : ℕ} (bare : x.frame.ret ≡ None) (q : Emitted x result false m b0 b1 x0 xs) (a : Adds b1 b2 r.0 t (Lit r last) line) (c : Closes b2 b3 (Leave r)) (is_from : from ≡ length b0.blocks) (is_end : end ≡ length b2.blocks) (f : Filled b3 b4 from end end) where
   x13 : Extends b1 b3
   x13 = extends_trans b1 b2 b3 a.extends c.extends
 
@@ -100,5 +100,5 @@ module _ (x : Setting) (result : Option Sort) (t : RType) (last : Literal) (m : 
       }
 
 -- the register that is given has the type of the result
-pub given_kinds : (g : Surrounding) (b1 b2 : Building) (r : Reg) (t : RType) (last : Literal) → Adds b1 b2 r.0 t (Lit r last) → g.ret ≡ t → LastKinds g b2.regs (Leave r)
+pub given_kinds : {line : ℕ} (g : Surrounding) (b1 b2 : Building) (r : Reg) (t : RType) (last : Literal) → Adds b1 b2 r.0 t (Lit r last) line → g.ret ≡ t → LastKinds g b2.regs (Leave r)
 given_kinds g b1 b2 r t last a is = a.type ∙ ap Some (sym is)

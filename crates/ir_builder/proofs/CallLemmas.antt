@@ -23,18 +23,18 @@ pub record IsThere (p : Program) (m : TypedModule) (g : ℕ) (f : TypedFunc) : T
   pub code : Func
   pub at : slice_get p.funcs g ≡ Some code
   pub head : HasHead code f
-  pub turn : item_at p g 0 0 ≡ Some (Do Turn)
+  pub turn : (line : ℕ) × (item_at p g 0 0 ≡ Some (Do Turn line))
   pub works : FunctionWorks p m f g code
 
 module _ (p : Program) (m : TypedModule) (variables : HasGlobals p m) (there : (g : ℕ) (f : TypedFunc) → slice_get m.funcs g ≡ Some f → IsThere p m g f) where
   -- where no turn is left
-  cut : (g : ℕ) (regs : Regs) (below : List Waiting) (s : State) → item_at p g 0 0 ≡ Some (Do Turn) → s.turns ≡ 0 → step Strict p (running g 0 0 regs below (world None s)) ≡ Ended ending.Cut (world None s)
+  cut : {line : ℕ} (g : ℕ) (regs : Regs) (below : List Waiting) (s : State) → item_at p g 0 0 ≡ Some (Do Turn line) → s.turns ≡ 0 → step Strict p (running g 0 0 regs below (world None s)) ≡ Ended ending.Cut (world None s)
   cut g regs below s turn none =
       op_step Strict p (record { fn = g; block = 0; place = 0; regs = regs }) below (world None s) Turn turn
       ∙ ap (turned (record { fn = g; block = 0; place = 0; regs = regs }) below (world None s)) none
 
   -- a call with some turns left, where calls with fewer work
-  called : (n : ℕ) → ((k : ℕ) → n ≡ suc k → CallsWork p m k) → (g : ℕ) (f : TypedFunc) (h : Func) (args : List Value) (below : List Waiting) (s : State) (t : ℕ) → s.turns ≡ t → slice_get m.funcs g ≡ Some f → slice_get p.funcs g ≡ Some h → item_at p g 0 0 ≡ Some (Do Turn) → FunctionWorks p m f g h → HaveKinds (parameter_sorts f) args → HaveTypes m.globals s.globals → s.turns ≤ n → Ends p s.turns (running g 0 0 (first_regs h.regs (map Holds args)) below (world None s)) (on_to (spend_from t s) (λ _. body_of m n g args)) (CallGives p m f below s) (CallRaises m g below s)
+  called : {line : ℕ} (n : ℕ) → ((k : ℕ) → n ≡ suc k → CallsWork p m k) → (g : ℕ) (f : TypedFunc) (h : Func) (args : List Value) (below : List Waiting) (s : State) (t : ℕ) → s.turns ≡ t → slice_get m.funcs g ≡ Some f → slice_get p.funcs g ≡ Some h → item_at p g 0 0 ≡ Some (Do Turn line) → FunctionWorks p m f g h → HaveKinds (parameter_sorts f) args → HaveTypes m.globals s.globals → s.turns ≤ n → Ends p s.turns (running g 0 0 (first_regs h.regs (map Holds args)) below (world None s)) (on_to (spend_from t s) (λ _. body_of m n g args)) (CallGives p m f below s) (CallRaises m g below s)
   called n fewer g f h args below s zero left is at turn works kinds types le =
       (ending.Cut, refl, leads_step p _ _ (cut g (first_regs h.regs (map Holds args)) below s turn left))
   called zero fewer g f h args below s (suc t) left is at turn works kinds types le = absurd (omega (arith, left, le))
@@ -55,7 +55,7 @@ module _ (p : Program) (m : TypedModule) (variables : HasGlobals p m) (there : (
     each = λ g f h args below s is at kinds types le.
         let t = there g f is in
         let same : t.code ≡ h = (let both : Some t.code ≡ Some h = sym t.at ∙ at in cc) in
-        called n fewer g f h args below s s.turns refl is at t.turn (subst (λ z. FunctionWorks p m f g z) same t.works) kinds types le;
+        called n fewer g f h args below s s.turns refl is at t.turn.1 (subst (λ z. FunctionWorks p m f g z) same t.works) kinds types le;
   }
 
   pub calls_work : (n : ℕ) → CallsWork p m n

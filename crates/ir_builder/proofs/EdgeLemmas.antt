@@ -15,21 +15,21 @@ use Rattle.ir_core.specs.Meaning.{is_tested, item_at}
 use Rattle.ir_builder_frames.specs.Placing.{into, NoEdges}
 use Rattle.ir_builder_frames.specs.Shaped.{Above, OpsFit, EndFits, AllFit}
 
-ops_at : (n : ℕ) (os : List (Op × ℕ)) (l : Last) (i : ℕ) (o : Op) → OpsFit n os → in_block os l i ≡ Some (Do o) → Above n (into o)
-ops_at n [] l zero o f e = let g : Some (End l) ≡ Some (Do o) = e in absurd (cc)
-ops_at n [] l (suc i) o f e = let g : None ≡ Some (Do o) = e in absurd (cc)
-ops_at n (q ∷ os) l zero o f e = let g : Some (Do q.0) ≡ Some (Do o) = e in let same : q.0 ≡ o = cc in subst (λ z. Above n (into z)) same f.0.0
+ops_at : (n : ℕ) (os : List (Op × ℕ)) (l : Last) (i : ℕ) (o : Op) {line : ℕ} → OpsFit n os → in_block os l i ≡ Some (Do o line) → Above n (into o)
+ops_at n [] l zero o {line} f e = let g : Some (End l) ≡ Some (Do o line) = e in absurd (cc)
+ops_at n [] l (suc i) o {line} f e = let g : None ≡ Some (Do o line) = e in absurd (cc)
+ops_at n (q ∷ os) l zero o {line} f e = let g : Some (Do q.0 q.1) ≡ Some (Do o line) = e in let same : q.0 ≡ o = cc in subst (λ z. Above n (into z)) same f.0.0
 ops_at n (q ∷ os) l (suc i) o f e = ops_at n os l i o f.1 e
 
-blocks_at : (n m low : ℕ) (bs : List Block) (k i : ℕ) (o : Op) → AllFit n m low bs → item_in bs k i ≡ Some (Do o) → Above n (into o)
-blocks_at n m low [] k i o f e = let g : None ≡ Some (Do o) = e in absurd (cc)
+blocks_at : (n m low : ℕ) (bs : List Block) (k i : ℕ) (o : Op) {line : ℕ} → AllFit n m low bs → item_in bs k i ≡ Some (Do o line) → Above n (into o)
+blocks_at n m low [] k i o {line} f e = let g : None ≡ Some (Do o line) = e in absurd (cc)
 blocks_at n m low (b ∷ bs) zero i o f e = ops_at n b.ops b.last i o f.1 e
 blocks_at n m low (b ∷ bs) (suc k) i o f e = blocks_at n m (suc low) bs k i o f.3 e
 
 end_is : (os : List (Op × ℕ)) (l x : Last) (i : ℕ) → in_block os l i ≡ Some (End x) → x ≡ l
 end_is [] l x zero e = let g : Some (End l) ≡ Some (End x) = e in cc
 end_is [] l x (suc i) e = let g : None ≡ Some (End x) = e in absurd (cc)
-end_is (q ∷ os) l x zero e = let g : Some (Do q.0) ≡ Some (End x) = e in absurd (cc)
+end_is (q ∷ os) l x zero e = let g : Some (Do q.0 q.1) ≡ Some (End x) = e in absurd (cc)
 end_is (q ∷ os) l x (suc i) e = end_is os l x i e
 
 alone_at : (os : List (Op × ℕ)) (l x : Last) (i : ℕ) → os ≡ [] → in_block os l i ≡ Some (End x) → i ≡ 0
@@ -48,7 +48,7 @@ ends_at n m low (x ∷ bs) (suc k) i r a b line f e = ends_at n m (suc low) bs k
 
 untested : (n r : ℕ) (o : Option Item) → n ≤ r → ((g : Reg) (a b line : ℕ) → o ≡ Some (End (IfError g a b line)) → g.0 < n) → is_tested (record { 0 = r }) o ≡ false
 untested n r None le h = refl
-untested n r (Some (Do o)) le h = refl
+untested n r (Some (Do o line)) le h = refl
 untested n r (Some (End (Goto t))) le h = refl
 untested n r (Some (End (If g a b))) le h = refl
 untested n r (Some (End (IfError g a b line))) le h = let q : g.0 < n = h g a b line refl in ne_eqb r g.0 (λ e. omega arith)
@@ -63,5 +63,5 @@ pub no_edges : (p : Program) (fn : ℕ) (h : Func) (n m : ℕ) → slice_get p.f
 no_edges p fn h n m there f =
     let at : (k i : ℕ) → item_at p fn k i ≡ item_in h.blocks k i = λ k i. ap (λ o. item_in (blocks_of o) k i) there in
     record {
-      each = λ k i r o is may. untested n r (item_at p fn k (i + 1)) (above_at n r (into o) may (blocks_at n m 0 h.blocks k i o f (sym (at k i) ∙ is))) (λ g a b line e. ⊎_elim (λ lt. lt) (λ z. absurd (omega (arith, z))) (ends_at n m 0 h.blocks k (i + 1) g a b line f (sym (at k (i + 1)) ∙ e)));
+      each = λ k i r o line is may. untested n r (item_at p fn k (i + 1)) (above_at n r (into o) may (blocks_at n m 0 h.blocks k i o f (sym (at k i) ∙ is))) (λ g a b line e. ⊎_elim (λ lt. lt) (λ z. absurd (omega (arith, z))) (ends_at n m 0 h.blocks k (i + 1) g a b line f (sym (at k (i + 1)) ∙ e)));
     }

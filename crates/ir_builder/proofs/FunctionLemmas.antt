@@ -221,8 +221,8 @@ is_made m vs variables count vars gives t last M b0 b1 b2 h names are size gives
     }
 
 -- a function of the module
-pub function_is : (m : TypedModule) (f : TypedFunc) (fits : FunctionSuits m f) (variables : Declared) (count params : ℕ) (vars : Vars) (ret : RType) (last : Literal) (b0 bf b1 b2 : Building) (name : List ℕ) (h0 h : Func) → variables ≡ variable_registers f.locals → count ≡ length f.locals → vars ≡ variables_of params count → ret ≡ rtype_of f.ret → last ≡ end_literal ret → Begins variables b0 → AddsFlags (count - params) b0 bf → Keeps b0 bf → KeepsKinds b0 bf → Pushes bf b1 Turn → KeepsIf (λ low high. OpFits low Turn) bf b1 → KeepsKindsIf (λ g. OpKinds g bf.regs Turn) bf b1 → Bodied (body_setting m f.locals vars) (Some f.ret) ret last (means_suite (body_setting m f.locals vars) f.body) b1 b2 → CompletesShape b1 b2 → KeepsKindsIf (BodyAround m (Some f.ret) ret last) b1 b2 → length b2.blocks < 2 ^ 64 → names_differ (names_of b2.regs) ≡ true → params ≡ f.params → h0 ≡ record { name = b2.name; params = params; regs = b2.regs; ret = ret; blocks = b2.blocks } → name ≡ f.name → h ≡ record h0 { name = name } → IsFunctionOf m f h
-function_is m f fits variables count params vars ret last b0 bf b1 b2 name h0 h are size vars_are ret_is last_is first flags flags_shaped flags_kinds turn shaped01 kinds01 bodied shape kinds12 few differ params_are is0 name_is is =
+pub function_is : {line : ℕ} (m : TypedModule) (f : TypedFunc) (fits : FunctionSuits m f) (variables : Declared) (count params : ℕ) (vars : Vars) (ret : RType) (last : Literal) (b0 bf b1 b2 : Building) (name : List ℕ) (h0 h : Func) → variables ≡ variable_registers f.locals → count ≡ length f.locals → vars ≡ variables_of params count → ret ≡ rtype_of f.ret → last ≡ end_literal ret → Begins variables b0 → AddsFlags (count - params) b0 bf → Keeps b0 bf → KeepsKinds b0 bf → Pushes bf b1 Turn line → KeepsIf (λ low high. OpFits low Turn) bf b1 → KeepsKindsIf (λ g. OpKinds g bf.regs Turn) bf b1 → Bodied (body_setting m f.locals vars) (Some f.ret) ret last (means_suite (body_setting m f.locals vars) f.body) b1 b2 → CompletesShape b1 b2 → KeepsKindsIf (BodyAround m (Some f.ret) ret last) b1 b2 → length b2.blocks < 2 ^ 64 → names_differ (names_of b2.regs) ≡ true → params ≡ f.params → h0 ≡ record { name = b2.name; params = params; regs = b2.regs; ret = ret; blocks = b2.blocks } → name ≡ f.name → h ≡ record h0 { name = name } → IsFunctionOf m f h
+function_is {line} m f fits variables count params vars ret last b0 bf b1 b2 name h0 h are size vars_are ret_is last_is first flags flags_shaped flags_kinds turn shaped01 kinds01 bodied shape kinds12 few differ params_are is0 name_is is =
     let none : length b1.blocks ≡ 0 = turn.blocks ∙ flags.blocks ∙ ap length first.blocks in
     let one : length b1.ops ≡ 1 = turn.ops ∙ ap (λ k. k + 1) flags.ops ∙ ap (λ os. length os + 1) first.ops in
     let h_regs : h.regs ≡ b2.regs = ap (λ (z : Func). z.regs) is ∙ ap (λ (z : Func). z.regs) is0 in
@@ -233,8 +233,8 @@ function_is m f fits variables count params vars ret last b0 bf b1 b2 name h0 h 
     let literal : LiteralFits ret last = subst (LiteralFits ret) (sym last_is) (literal_fits ret) in
     let few_params : h.params ≤ count = omega (arith, h_params, size, fits.parameters) in
     let made = is_made m f.locals variables count vars (Some f.ret) ret last (means_suite (body_setting m f.locals vars) f.body) b0 b1 b2 h fits.identifiers are size (λ g e. e ∙ ret_is) literal first (extends_trans b0 bf b1 flags.extends turn.extends) none (λ high s. shaped01 0 high (tt, refl) (flags_shaped 0 high (omega arith) (omega (arith, flags.blocks, ap length first.blocks)) s)) (λ g k. kinds01 g tt (flags_kinds g k)) bodied shape kinds12 few differ h_regs h_blocks h_ret few_params in
-    let item : held b2 0 0 ≡ Some (Do Turn) =
-    ap (λ k. held b2 k 0) (sym (flags.blocks ∙ ap length first.blocks)) ∙ ap (λ i. held b2 (length bf.blocks) i) (sym (flags.ops ∙ ap length first.ops)) ∙ bodied.extends.items (length bf.blocks) (length bf.ops) (Do Turn) turn.at in
+    let item : held b2 0 0 ≡ Some (Do Turn line) =
+    ap (λ k. held b2 k 0) (sym (flags.blocks ∙ ap length first.blocks)) ∙ ap (λ i. held b2 (length bf.blocks) i) (sym (flags.ops ∙ ap length first.ops)) ∙ bodied.extends.items (length bf.blocks) (length bf.ops) (Do Turn line) turn.at in
     let room = begin_room f.locals b0 variables are first count size m vars params bf vars_are flags in
     let have : HaveFlags vars (length f.locals) h.regs = λ j above low. ap (λ ds. type_of_reg ds (record { 0 = flag_of vars j })) h_regs ∙ type_kept bf b2 (flag_of vars j) rtype.Bool (extends_trans bf b1 b2 turn.extends bodied.extends) (room.flagged j above (omega (arith, ap (λ (z : Vars). z.count) vars_are, size))) in
     record {
@@ -246,7 +246,7 @@ function_is m f fits variables count params vars ret last b0 bf b1 b2 name h0 h 
       };
       built = record {
         built = made.built;
-        turn = ap (λ bs. item_in bs 0 0) h_blocks ∙ sym (built_is_held b2.blocks 0 0) ∙ sym (ap (λ os. held_in b2.blocks os 0 0) bodied.ops) ∙ item;
+        turn = (line, ap (λ bs. item_in bs 0 0) h_blocks ∙ sym (built_is_held b2.blocks 0 0) ∙ sym (ap (λ os. held_in b2.blocks os 0 0) bodied.ops) ∙ item);
         name = ap is_identifier h_name ∙ fits.name;
       };
       works = λ p fn there.

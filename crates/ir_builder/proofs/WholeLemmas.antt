@@ -124,7 +124,7 @@ module _ (m : TypedModule) (p : Program) (b : IsBuiltOf m p) (suits : ModuleSuit
   there g f e =
       let k = built_at m m.funcs b.functions b.own g f b.each e in
       let at : slice_get p.funcs g ≡ Some k.0 = ap (λ fs. slice_get fs g) b.are ∙ k.1 in
-      record { code = k.0; at = at; head = k.2.head; turn = ap (λ o. item_in (blocks_of o) 0 0) at ∙ k.2.built.turn; works = k.2.works p g at }
+      record { code = k.0; at = at; head = k.2.head; turn = (k.2.built.turn.0, ap (λ o. item_in (blocks_of o) 0 0) at ∙ k.2.built.turn.1); works = k.2.works p g at }
 
   own_at : slice_get p.funcs (length b.functions) ≡ Some b.own
   own_at = ap (λ fs. slice_get fs (length b.functions)) b.are ∙ last_at b.functions b.own
@@ -132,7 +132,7 @@ module _ (m : TypedModule) (p : Program) (b : IsBuiltOf m p) (suits : ModuleSuit
   -- behind no operation that may fail stands a test of its result
   edges_at : (fn : ℕ) (o : Option Func) → slice_get p.funcs fn ≡ o → NoEdges p fn
   edges_at fn None none = record {
-    each = λ k i r o is may. let gone : None ≡ Some (Do o) = sym (ap (λ z. item_in (blocks_of z) k i) none) ∙ is in absurd (cc);
+    each = λ k i r o line is may. let gone : None ≡ Some (Do o line) = sym (ap (λ z. item_in (blocks_of z) k i) none) ∙ is in absurd (cc);
   }
   edges_at fn (Some h) there =
       ⊎_elim

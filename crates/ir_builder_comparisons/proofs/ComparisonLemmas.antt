@@ -134,16 +134,16 @@ test_answers Texts cmp.Gt regs x y e f = (refl, (rtype.Ref, e, refl, (rtype.Ref,
 test_answers Texts cmp.Ge regs x y e f = (refl, (rtype.Ref, e, refl, (rtype.Ref, f, refl, tt)))
 test_answers Texts op regs x y e f = (refl, (rtype.Ref, e, refl, (rtype.Ref, f, refl, tt)))
 
-pub straight_makes : (k : Compared) (op : CmpOp) (b c : Building) (r x y : ℕ) → is_swapped op ≡ false → HasType b x (rtype_of (compared_sort k)) → HasType b y (rtype_of (compared_sort k)) → Adds b c r rtype.Bool (Prim (Some record { 0 = r }) (test_primitive k op) (Var record { 0 = x } ∷ Var record { 0 = y } ∷ [])) → Makes b c r rtype.Bool (OfTwo x y (Tests (compared_sort k) op))
+pub straight_makes : {line : ℕ} (k : Compared) (op : CmpOp) (b c : Building) (r x y : ℕ) → is_swapped op ≡ false → HasType b x (rtype_of (compared_sort k)) → HasType b y (rtype_of (compared_sort k)) → Adds b c r rtype.Bool (Prim (Some record { 0 = r }) (test_primitive k op) (Var record { 0 = x } ∷ Var record { 0 = y } ∷ [])) line → Makes b c r rtype.Bool (OfTwo x y (Tests (compared_sort k) op))
 straight_makes k op b c r x y order type_x type_y a =
     two_makes b c r x y rtype.Bool (rtype_of (compared_sort k)) (rtype_of (compared_sort k)) (test_primitive k op) (Tests (compared_sort k) op) a type_x type_y (never_fails k op)
     (λ p w u v z f. tests_straight p w k op u v f.left f.right order ∙ ap (λ y. Giving y w) (sym f.is))
 
-pub swapped_makes : (k : Compared) (op : CmpOp) (b c : Building) (r x y : ℕ) → is_swapped op ≡ true → HasType b x (rtype_of (compared_sort k)) → HasType b y (rtype_of (compared_sort k)) → Adds b c r rtype.Bool (Prim (Some record { 0 = r }) (test_primitive k op) (Var record { 0 = y } ∷ Var record { 0 = x } ∷ [])) → Makes b c r rtype.Bool (OfTwo x y (Tests (compared_sort k) op))
+pub swapped_makes : {line : ℕ} (k : Compared) (op : CmpOp) (b c : Building) (r x y : ℕ) → is_swapped op ≡ true → HasType b x (rtype_of (compared_sort k)) → HasType b y (rtype_of (compared_sort k)) → Adds b c r rtype.Bool (Prim (Some record { 0 = r }) (test_primitive k op) (Var record { 0 = y } ∷ Var record { 0 = x } ∷ [])) line → Makes b c r rtype.Bool (OfTwo x y (Tests (compared_sort k) op))
 swapped_makes k op b c r x y order type_x type_y a =
     makes_as b c r rtype.Bool (OfTwo y x (λ v u z. Tests (compared_sort k) op u v z)) (OfTwo x y (Tests (compared_sort k) op)) (λ regs h f. record { u = f.v; left = f.right; v = f.u; right = f.left; result = f.result; fits = f.fits; gives = f.gives })
     (two_makes b c r y x rtype.Bool (rtype_of (compared_sort k)) (rtype_of (compared_sort k)) (test_primitive k op) (λ v u z. Tests (compared_sort k) op u v z) a type_y type_x (never_fails k op)
     (λ p w v u z f. tests_swapped p w k op u v f.left f.right order ∙ ap (λ y. Giving y w) (sym f.is)))
 
-pub inversion_makes : (b c : Building) (r x : ℕ) → HasType b x rtype.Bool → Adds b c r rtype.Bool (Prim (Some record { 0 = r }) (prim.Bool bool.Not) (Var record { 0 = x } ∷ [])) → Makes b c r rtype.Bool (OfOne x Inverts)
+pub inversion_makes : {line : ℕ} (b c : Building) (r x : ℕ) → HasType b x rtype.Bool → Adds b c r rtype.Bool (Prim (Some record { 0 = r }) (prim.Bool bool.Not) (Var record { 0 = x } ∷ [])) line → Makes b c r rtype.Bool (OfOne x Inverts)
 inversion_makes b c r x type a = one_makes b c r x rtype.Bool rtype.Bool (prim.Bool bool.Not) Inverts a type refl (λ p w v z f. ap (λ y. effect p (prim.Bool bool.Not) (Given y ∷ []) w) f.1 ∙ ap (λ y. Giving y w) (sym f.2))

@@ -105,7 +105,7 @@ module _ (p : Program) where
   leaves_step g h fn k i regs into t below e s there type edge =
       rw (there, error_is h.ret, type) (failed_off p t (record { 0 = into }) (record { fn = fn; block = k; place = i + 1; regs = put regs into (error_of t) }) below (world (Some e) s) edge)
 
-pub call_emits : (x : Setting) (f : ℕ) (g : TypedFunc) (es : TypedExprs) (place : Span) (b0 b1 b2 : Building) (rs : List Reg) (r : ℕ) → slice_get x.source.funcs f ≡ Some g → HasRoom x b0 → EmitsAll x (parameter_sorts g) es b0 b1 rs → Adds b1 b2 r (rtype_of g.ret) (op.Call record { 0 = r } f rs) → Emits x (typed (Call f es) g.ret place) b0 b2 r
+pub call_emits : {line : ℕ} (x : Setting) (f : ℕ) (g : TypedFunc) (es : TypedExprs) (place : Span) (b0 b1 b2 : Building) (rs : List Reg) (r : ℕ) → slice_get x.source.funcs f ≡ Some g → HasRoom x b0 → EmitsAll x (parameter_sorts g) es b0 b1 rs → Adds b1 b2 r (rtype_of g.ret) (op.Call record { 0 = r } f rs) line → Emits x (typed (Call f es) g.ret place) b0 b2 r
 call_emits x f g es place b0 b1 b2 rs r is room q a =
     let k1 = q.extends.blocks_grow in
     let l1 = q.extends.regs_grow in
@@ -129,7 +129,7 @@ call_emits x f g es place b0 b1 b2 rs r is room q a =
           let body = calls.each f g code.0 vs (waits ∷ below) s1 is code.1 (all_kinds (parameter_sorts g) vs now rs shows) match1.globals le1 in
           let here = guard_at p fn b1 b2 h (let z = a.blocks in omega arith) p2 (length b1.blocks) (sym a.blocks) in
           let put_kept : (w : Held) (j : ℕ) → j < length b1.regs → put now r w j ≡ now j = λ w j lt. put_other now r j w (let z = a.made in λ e. omega arith) in
-          let edge = at.has.edges.each _ _ r _ at_call refl in
+          let edge = at.has.edges.each _ _ r _ _ at_call refl in
           ends_from p s1.turns s1.turns _ (running f 0 0 (first_regs code.0.regs (map Holds vs)) (waits ∷ below) (world None s1)) (call_of x.source n f vs s1) R T (le_refl _) (leads_step p _ _ enter)
           (ends_both p s1.turns _ (call_of x.source n f vs s1) _ R _ T
           (λ v s2 d c.

@@ -34,7 +34,7 @@ use Rattle.ir_builder_expressions.proofs.FollowLemmas.{attempt_then}
 use Rattle.ir_builder_expressions.proofs.ChoiceLemmas.{shows_set, choice_runs, meet_within}
 
 -- no comparison is left
-pub chain_done : (x : Setting) (s u : Sort) (first : ℕ) (b c : Building) (r : ℕ) → Adds b c r rtype.Bool (Lit record { 0 = r } (literal_of_truth true)) → EmitsChain x s u first no_comparisons b c r
+pub chain_done : {line : ℕ} (x : Setting) (s u : Sort) (first : ℕ) (b c : Building) (r : ℕ) → Adds b c r rtype.Bool (Lit record { 0 = r } (literal_of_truth true)) line → EmitsChain x s u first no_comparisons b c r
 chain_done x s u first b c r a =
     let made = literal_makes b c r rtype.Bool (literal_of_truth true) (Holds (BoolVal true)) a refl in
     record {

@@ -40,7 +40,7 @@ shows_set t v h k = ap is_unset k.0
 
 module _ (p : Program) (fn : ℕ) (below : List Waiting) (K : Showing) (set : IsSet K) (t : RType) (keep : ℕ) (old : Regs) (x : Setting) (before : State) where
   -- an arm's value is brought, and the arm goes to where the arms meet
-  brought : (b c : Building) (target r : ℕ) (v : Value) (s : State) (d : Config) → item_at p fn (length b.blocks) (length b.ops) ≡ Some (Do (Move record { 0 = target } record { 0 = r })) → item_at p fn (length b.blocks) (length b.ops + 1) ≡ Some (End (Goto (length c.blocks))) → length c.ops ≡ 0 → type_of_reg (registers_of p fn) (record { 0 = target }) ≡ Some t → type_of_reg (registers_of p fn) (record { 0 = r }) ≡ Some t → keep ≤ target → Arrives K fn (length b.blocks) (length b.ops) below keep old x before r v s d → (e : Config) × Leads p d e × Arrives K fn (length c.blocks) (length c.ops) below keep old x before target v s e
+  brought : {line : ℕ} (b c : Building) (target r : ℕ) (v : Value) (s : State) (d : Config) → item_at p fn (length b.blocks) (length b.ops) ≡ Some (Do (Move record { 0 = target } record { 0 = r }) line) → item_at p fn (length b.blocks) (length b.ops + 1) ≡ Some (End (Goto (length c.blocks))) → length c.ops ≡ 0 → type_of_reg (registers_of p fn) (record { 0 = target }) ≡ Some t → type_of_reg (registers_of p fn) (record { 0 = r }) ≡ Some t → keep ≤ target → Arrives K fn (length b.blocks) (length b.ops) below keep old x before r v s d → (e : Config) × Leads p d e × Arrives K fn (length c.blocks) (length c.ops) below keep old x before target v s e
   brought b c target r v s d move jump ops to_type from_type wide a =
       let now : Regs = put a.now target (a.now r) in
       let first = move_step Strict p (record { fn = fn; block = length b.blocks; place = length b.ops; regs = a.now }) below (world None s) (record { 0 = target }) (record { 0 = r }) t t move to_type from_type (not_refused t (a.now r) (set v (a.now r) a.shows)) in
@@ -53,7 +53,7 @@ module _ (p : Program) (fn : ℕ) (below : List Waiting) (K : Showing) (set : Is
       )
 
   -- the place where the test stands, the arms, and where they meet
-  pub choice_ends : (hv : Bool) (b1 b2 b3 b5 b6 c : Building) (condition first second ra rb target : ℕ) (f g : Does Value) (now : Regs) (s : State) (E : Value → State → Config → Type 0) → item_at p fn (length b1.blocks) (length b1.ops) ≡ Some (End (If record { 0 = condition } first second)) → type_of_reg (registers_of p fn) (record { 0 = condition }) ≡ Some BoolType → now condition ≡ Holds (BoolVal hv) → first ≡ length b2.blocks → length b2.ops ≡ 0 → second ≡ length b5.blocks → length b5.ops ≡ 0 → length c.ops ≡ 0 → type_of_reg (registers_of p fn) (record { 0 = target }) ≡ Some t → keep ≤ target → type_of_reg (registers_of p fn) (record { 0 = ra }) ≡ Some t → item_at p fn (length b3.blocks) (length b3.ops) ≡ Some (Do (Move record { 0 = target } record { 0 = ra })) → item_at p fn (length b3.blocks) (length b3.ops + 1) ≡ Some (End (Goto (length c.blocks))) → type_of_reg (registers_of p fn) (record { 0 = rb }) ≡ Some t → item_at p fn (length b6.blocks) (length b6.ops) ≡ Some (Do (Move record { 0 = target } record { 0 = rb })) → item_at p fn (length b6.blocks) (length b6.ops + 1) ≡ Some (End (Goto (length c.blocks))) → (hv ≡ true → Ends p s.turns (running fn (length b2.blocks) (length b2.ops) now below (world None s)) (f s) (Arrives K fn (length b3.blocks) (length b3.ops) below keep old x before ra) E) → (hv ≡ false → Ends p s.turns (running fn (length b5.blocks) (length b5.ops) now below (world None s)) (g s) (Arrives K fn (length b6.blocks) (length b6.ops) below keep old x before rb) E) → Ends p s.turns (running fn (length b1.blocks) (length b1.ops) now below (world None s)) ((if hv then f else g) s) (Arrives K fn (length c.blocks) (length c.ops) below keep old x before target) E
+  pub choice_ends : {line line' : ℕ} (hv : Bool) (b1 b2 b3 b5 b6 c : Building) (condition first second ra rb target : ℕ) (f g : Does Value) (now : Regs) (s : State) (E : Value → State → Config → Type 0) → item_at p fn (length b1.blocks) (length b1.ops) ≡ Some (End (If record { 0 = condition } first second)) → type_of_reg (registers_of p fn) (record { 0 = condition }) ≡ Some BoolType → now condition ≡ Holds (BoolVal hv) → first ≡ length b2.blocks → length b2.ops ≡ 0 → second ≡ length b5.blocks → length b5.ops ≡ 0 → length c.ops ≡ 0 → type_of_reg (registers_of p fn) (record { 0 = target }) ≡ Some t → keep ≤ target → type_of_reg (registers_of p fn) (record { 0 = ra }) ≡ Some t → item_at p fn (length b3.blocks) (length b3.ops) ≡ Some (Do (Move record { 0 = target } record { 0 = ra }) line) → item_at p fn (length b3.blocks) (length b3.ops + 1) ≡ Some (End (Goto (length c.blocks))) → type_of_reg (registers_of p fn) (record { 0 = rb }) ≡ Some t → item_at p fn (length b6.blocks) (length b6.ops) ≡ Some (Do (Move record { 0 = target } record { 0 = rb }) line') → item_at p fn (length b6.blocks) (length b6.ops + 1) ≡ Some (End (Goto (length c.blocks))) → (hv ≡ true → Ends p s.turns (running fn (length b2.blocks) (length b2.ops) now below (world None s)) (f s) (Arrives K fn (length b3.blocks) (length b3.ops) below keep old x before ra) E) → (hv ≡ false → Ends p s.turns (running fn (length b5.blocks) (length b5.ops) now below (world None s)) (g s) (Arrives K fn (length b6.blocks) (length b6.ops) below keep old x before rb) E) → Ends p s.turns (running fn (length b1.blocks) (length b1.ops) now below (world None s)) ((if hv then f else g) s) (Arrives K fn (length c.blocks) (length c.ops) below keep old x before target) E
   choice_ends true b1 b2 b3 b5 b6 c condition first second ra rb target f g now s E test condition_type holds n2 o2 n5 o5 oc to_type wide type_a move_a jump_a type_b move_b jump_b arm_a arm_b =
       let step = if_step Strict p (record { fn = fn; block = length b1.blocks; place = length b1.ops; regs = now }) below (world None s) (record { 0 = condition }) first second true test condition_type holds in
       let is : running fn first 0 now below (world None s) ≡ running fn (length b2.blocks) (length b2.ops) now below (world None s) = ap (λ k. running fn k 0 now below (world None s)) n2 ∙ ap (λ i. running fn (length b2.blocks) i now below (world None s)) (sym o2) in

@@ -142,7 +142,7 @@ going_over x first whole cs i start b d links left holds r le g ended =
     let P : Chain → Type 0 = λ z. Going x first whole z start b links left holds in
     going_ends x first whole start b d links left holds r (subst P (drop_all i cs le) g) ended
 
-pub chain_empty : (x : Setting) (first : Side) (rest : Chain) (b c : Building) (r : ℕ) → length rest < 1 → Adds b c r rtype.Bool (Lit record { 0 = r } (literal_of_truth true)) → EmitsFrom x first rest b c r
+pub chain_empty : {line : ℕ} (x : Setting) (first : Side) (rest : Chain) (b c : Building) (r : ℕ) → length rest < 1 → Adds b c r rtype.Bool (Lit record { 0 = r } (literal_of_truth true)) line → EmitsFrom x first rest b c r
 chain_empty x first [] b c r lt a = chain_done x (kind_sort first.own) (kind_sort first.shown) first.reg.0 b c r a
 chain_empty x first (p ∷ more) b c r lt a = absurd (omega arith)
 

@@ -43,7 +43,7 @@ kind_at t u v e k = subst (λ z. HasKind z v) e k
 pub emits_at : (x : Setting) (e : TypedExpr) (t : Sort) (b c : Building) (r : ℕ) → type_of e ≡ t → Emits x e b c r → Computes x (Shows t) (rtype_of t) (means x e) b c r
 emits_at x e t b c r is q = subst (λ z. Computes x (Shows z) (rtype_of z) (means x e) b c r) is q
 
-pub flag_emits : (x : Setting) (value : Bool) (place : Span) (b c : Building) (r : ℕ) → Adds b c r rtype.Bool (Lit record { 0 = r } (literal_of_truth value)) → Emits x (typed (Flag value) sort.Bool place) b c r
+pub flag_emits : {line : ℕ} (x : Setting) (value : Bool) (place : Span) (b c : Building) (r : ℕ) → Adds b c r rtype.Bool (Lit record { 0 = r } (literal_of_truth value)) line → Emits x (typed (Flag value) sort.Bool place) b c r
 flag_emits x true place b c r a = made_computes x (Shows sort.Bool) rtype.Bool _ _ b c r (literal_makes b c r rtype.Bool _ (Holds (BoolVal true)) a refl) (λ n s regs. (BoolVal true, Holds (BoolVal true), refl, refl, (refl, (true, refl))))
 flag_emits x false place b c r a = made_computes x (Shows sort.Bool) rtype.Bool _ _ b c r (literal_makes b c r rtype.Bool _ (Holds (BoolVal false)) a refl) (λ n s regs. (BoolVal false, Holds (BoolVal false), refl, refl, (refl, (false, refl))))
 

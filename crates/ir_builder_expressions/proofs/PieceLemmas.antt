@@ -71,7 +71,7 @@ literal_is _ t place n e = absurd (cc)
 literal_means : (x : Setting) (e : TypedExpr) (k : ℕ) (i : ℤ) (s : State) → literal_in e ≡ Some i → means x e k s ≡ Gives (IntVal i) s
 literal_means x (typed node t place) k i s e = ap (λ y. means x y k s) (sym (literal_is node t place i e))
 
-pub native_part : (x : Setting) (t : Sort) (e : TypedExpr) (n : ℤ) (b c : Building) (r : ℕ) → native_in t (literal_in e) ≡ Some n → Adds b c r rtype.I64 (Lit record { 0 = r } (Number n)) → EmitsPart x t e b c r
+pub native_part : {line : ℕ} (x : Setting) (t : Sort) (e : TypedExpr) (n : ℤ) (b c : Building) (r : ℕ) → native_in t (literal_in e) ≡ Some n → Adds b c r rtype.I64 (Lit record { 0 = r } (Number n)) line → EmitsPart x t e b c r
 native_part x t e n b c r is a =
     let h = native_is t (literal_in e) n is in
     let part : sort.I64 ≡ part_sort t e = ap (λ o. sort_by o (type_of e)) (sym is) in

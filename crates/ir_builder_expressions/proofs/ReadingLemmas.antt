@@ -49,7 +49,7 @@ use Rattle.ir_builder_expressions.proofs.NodeLemmas.{local_emits}
 
 -- ---- the test
 
-module _ (b0 b1 b2 b3 b4 b5 b6 : Building) (test bad good flag r line : ℕ) (name : List ℕ) (type : HasType b0 flag rtype.Bool) (c01 : Closes b0 b1 (Goto test)) (test_is : test ≡ length b1.blocks) (c12 : Closes b1 b2 Unreachable) (bad_is : bad ≡ length b2.blocks) (q23 : Pushes b2 b3 (reports_unbound name)) (a34 : Adds b3 b4 r rtype.Bool (Lit record { 0 = r } (Number (pos 0)))) (c45 : Closes b4 b5 (Goto good)) (good_is : good ≡ length b5.blocks) (set : b6 ≡ record b5 { blocks = with_last b5.blocks test (IfError (record { 0 = flag }) bad good line) }) where
+module _ (b0 b1 b2 b3 b4 b5 b6 : Building) (test bad good flag r line : ℕ) (name : List ℕ) (type : HasType b0 flag rtype.Bool) (c01 : Closes b0 b1 (Goto test)) (test_is : test ≡ length b1.blocks) (c12 : Closes b1 b2 Unreachable) (bad_is : bad ≡ length b2.blocks) (q23 : Pushes b2 b3 (reports_unbound name) line) (a34 : Adds b3 b4 r rtype.Bool (Lit record { 0 = r } (Number (pos 0))) line) (c45 : Closes b4 b5 (Goto good)) (good_is : good ≡ length b5.blocks) (set : b6 ≡ record b5 { blocks = with_last b5.blocks test (IfError (record { 0 = flag }) bad good line) }) where
   x35 : Extends b3 b5
   x35 = extends_trans b3 b4 b5 a34.extends c45.extends
 
@@ -94,13 +94,13 @@ module _ (b0 b1 b2 b3 b4 b5 b6 : Building) (test bad good flag r line : ℕ) (na
         let there : running fn good 0 regs below (world None s) ≡ running fn (length b6.blocks) (length b6.ops) regs below (world None s) = ap (λ k. running fn k 0 regs below (world None s)) (good_is ∙ sym written.blocks) ∙ ap (λ i. running fn (length b6.blocks) i regs below (world None s)) (sym (written.ops ∙ c45.ops)) in
         subst (λ d. Leads p (running fn (length b0.blocks) (length b0.ops) regs below (world None s)) d) there (leads_trans p _ _ _ to_test first)
 
-    behind : item_at p fn bad 1 ≡ Some (Do (Lit (record { 0 = r }) (Number (pos 0))))
+    behind : item_at p fn bad 1 ≡ Some (Do (Lit (record { 0 = r }) (Number (pos 0))) line)
     behind =
         let one : length b3.ops ≡ 1 = (let z = q23.ops in let y = c12.ops in omega arith) in
         ap (λ k. item_at p fn k 1) (bad_is ∙ sym q23.blocks) ∙ ap (item_at p fn (length b3.blocks)) (sym one)
         ∙ adds_has p fn b3 b4 r rtype.Bool _ a34 (has_less p fn b4 b5 c45.extends has5)
 
-    reported : item_at p fn bad 0 ≡ Some (Do (reports_unbound name))
+    reported : item_at p fn bad 0 ≡ Some (Do (reports_unbound name) line)
     reported =
         ap (λ k. item_at p fn k 0) bad_is ∙ ap (item_at p fn (length b2.blocks)) (sym c12.ops)
         ∙ pushes_has p fn b2 b3 _ q23 (has_less p fn b3 b5 x35 has5)
@@ -212,14 +212,14 @@ module _ (m : TypedModule) (vs : List Var) (are : m.globals ≡ map variable vs)
   args_name : args ≡ arg.Global v.name ∷ []
   args_name = args_are ∙ ap (λ z. arg.Global z ∷ []) named
 
-  pub global_emits : (b c : Building) (r : ℕ) → Adds b c r t (Prim (Some record { 0 = r }) (prim.Global global.Get) args) → EmitsGlobal m i b c r
-  global_emits b c r a ws frame u place room suits =
+  pub global_emits : {line : ℕ} (b c : Building) (r : ℕ) → Adds b c r t (Prim (Some record { 0 = r }) (prim.Global global.Get) args) line → EmitsGlobal m i b c r
+  global_emits {line} b c r a ws frame u place room suits =
       let x : Setting = setting_in m ws frame in
       let same : variable v ≡ suits.1 = (let z : Some (variable v) ≡ Some suits.1 = sym global_at ∙ suits.2 in cc) in
       let sort_is : sort v.ty ≡ u = ap (λ (z : Variable). z.1) same ∙ suits.3 in
       let P : Sort → Type 0 = λ z. Computes x (Shows z) (rtype_of z) (λ n. read_global m.globals i) b c r in
-      let typed_add : Adds b c r (rtype_of (sort v.ty)) (Prim (Some record { 0 = r }) (prim.Global global.Get) args) = subst (λ z. Adds b c r z (Prim (Some record { 0 = r }) (prim.Global global.Get) args)) type a in
-      let add : Adds b c r (rtype_of (sort v.ty)) (Prim (Some record { 0 = r }) (prim.Global global.Get) (arg.Global v.name ∷ [])) = subst (λ z. Adds b c r (rtype_of (sort v.ty)) (Prim (Some record { 0 = r }) (prim.Global global.Get) z)) args_name typed_add in
+      let typed_add : Adds b c r (rtype_of (sort v.ty)) (Prim (Some record { 0 = r }) (prim.Global global.Get) args) line = subst (λ z. Adds b c r z (Prim (Some record { 0 = r }) (prim.Global global.Get) args) line) type a in
+      let add : Adds b c r (rtype_of (sort v.ty)) (Prim (Some record { 0 = r }) (prim.Global global.Get) (arg.Global v.name ∷ [])) line = subst (λ z. Adds b c r (rtype_of (sort v.ty)) (Prim (Some record { 0 = r }) (prim.Global global.Get) z) line) args_name typed_add in
       subst P sort_is (global_computes x i (variable v) b c r room global_at add)
 
   -- its global is there

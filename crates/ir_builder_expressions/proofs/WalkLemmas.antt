@@ -66,7 +66,7 @@ emits_type x e t b c r is q = subst (λ z. HasType c r (rtype_of z)) is q.type
 module _ (x : Setting) (e : TExpr) (suits : Suits x.source x.variables (typed_expr e)) where
   -- ---- what has no parts
 
-  pub flag_walked : (value : Bool) (b c : Building) (r : ℕ) → e.kind ≡ kind.Bool value → Adds b c r rtype.Bool (Lit record { 0 = r } (literal_of_truth value)) → Emits x (typed_expr e) b c r
+  pub flag_walked : {line : ℕ} (value : Bool) (b c : Building) (r : ℕ) → e.kind ≡ kind.Bool value → Adds b c r rtype.Bool (Lit record { 0 = r } (literal_of_truth value)) line → Emits x (typed_expr e) b c r
   flag_walked value b c r is a = emits_as x e (tree.Flag value) sort.Bool b c r (is_flag e value is) (asked x.source x.variables e (tree.Flag value) (is_flag e value is) suits) (flag_emits x value e.span b c r a)
 
   pub int_within : (n : ℤ) → e.kind ≡ kind.Int n → lies_within 127 n ≡ true
@@ -267,13 +267,13 @@ module _ (x : Setting) (e : TExpr) (suits : Suits x.source x.variables (typed_ex
       let n = asked x.source x.variables e (tree.Call f (exprs_of (map typed_expr es))) (is_call e f es is) suits in
       (parameter_sorts n.1, n.4)
 
-  pub call_walked : (f : ℕ) (es : List TExpr) (b0 b1 b2 : Building) (rs : List Reg) (r : ℕ) (t : RType) → e.kind ≡ kind.Call f es → t ≡ rtype_of (sort_of e.ty) → HasRoom x b0 → EmitsAll x (map type_of (map typed_expr es)) (exprs_of (map typed_expr es)) b0 b1 rs → Adds b1 b2 r t (CallOp record { 0 = r } f rs) → Emits x (typed_expr e) b0 b2 r
-  call_walked f es b0 b1 b2 rs r t is at room q a =
+  pub call_walked : {line : ℕ} (f : ℕ) (es : List TExpr) (b0 b1 b2 : Building) (rs : List Reg) (r : ℕ) (t : RType) → e.kind ≡ kind.Call f es → t ≡ rtype_of (sort_of e.ty) → HasRoom x b0 → EmitsAll x (map type_of (map typed_expr es)) (exprs_of (map typed_expr es)) b0 b1 rs → Adds b1 b2 r t (CallOp record { 0 = r } f rs) line → Emits x (typed_expr e) b0 b2 r
+  call_walked {line} f es b0 b1 b2 rs r t is at room q a =
       let n = asked x.source x.variables e (tree.Call f (exprs_of (map typed_expr es))) (is_call e f es is) suits in
       let ts = suit_types x.source x.variables (parameter_sorts n.1) (map typed_expr es) n.4 in
       let result : t ≡ rtype_of n.1.ret = at ∙ ap rtype_of (sym n.3) in
       let all : EmitsAll x (parameter_sorts n.1) (exprs_of (map typed_expr es)) b0 b1 rs = subst (λ z. EmitsAll x z (exprs_of (map typed_expr es)) b0 b1 rs) (sym ts) q in
-      let adds : Adds b1 b2 r (rtype_of n.1.ret) (CallOp record { 0 = r } f rs) = subst (λ z. Adds b1 b2 r z (CallOp record { 0 = r } f rs)) result a in
+      let adds : Adds b1 b2 r (rtype_of n.1.ret) (CallOp record { 0 = r } f rs) line = subst (λ z. Adds b1 b2 r z (CallOp record { 0 = r } f rs) line) result a in
       emits_as x e (tree.Call f (exprs_of (map typed_expr es))) n.1.ret b0 b2 r (is_call e f es is) (sym n.3) (call_emits x f n.1 (exprs_of (map typed_expr es)) e.span b0 b1 b2 rs r n.2 room all adds)
 
 pub types_below : (b : Building) (ts : List Sort) (rs : List Reg) → HaveTypes b.regs ts rs → AllBelow (length b.regs) rs

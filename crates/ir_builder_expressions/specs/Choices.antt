@@ -26,7 +26,8 @@ pub record Brings (old new : Building) (target r end : ℕ) : Type 0 where
   pub end_is : end ≡ length old.blocks
   pub blocks : length new.blocks ≡ length old.blocks + 1
   pub ops : length new.ops ≡ 0
-  pub move : held new (length old.blocks) (length old.ops) ≡ Some (Do (Move record { 0 = target } record { 0 = r }))
+  pub line : ℕ
+  pub move : held new (length old.blocks) (length old.ops) ≡ Some (Do (Move record { 0 = target } record { 0 = r }) line)
   pub hole : held new (length old.blocks) (length old.ops + 1) ≡ Some (End Unreachable)
 
 -- the other value was brought there, and the test and both jumps stand
@@ -37,7 +38,8 @@ pub record Meets (old new : Building) (target r condition test first end second 
   pub handlers : (k : ℕ) → k ≤ length old.blocks → handled new k ≡ handled old k
   pub blocks : length new.blocks ≡ length old.blocks + 1
   pub ops : length new.ops ≡ 0
-  pub move : (p : Program) (fn : ℕ) → Has p fn new → item_at p fn (length old.blocks) (length old.ops) ≡ Some (Do (Move record { 0 = target } record { 0 = r }))
+  pub line : ℕ
+  pub move : (p : Program) (fn : ℕ) → Has p fn new → item_at p fn (length old.blocks) (length old.ops) ≡ Some (Do (Move record { 0 = target } record { 0 = r }) line)
   pub jump : (p : Program) (fn : ℕ) → Has p fn new → item_at p fn (length old.blocks) (length old.ops + 1) ≡ Some (End (Goto (length new.blocks)))
   pub tests : (p : Program) (fn i : ℕ) → Has p fn new → held old test i ≡ Some (End Unreachable) → item_at p fn test i ≡ Some (End (If record { 0 = condition } first second))
   pub ends : (p : Program) (fn i : ℕ) → Has p fn new → held old end i ≡ Some (End Unreachable) → item_at p fn end i ≡ Some (End (Goto (length new.blocks)))

@@ -27,7 +27,7 @@ fn text_of(alloc: Global, text: &str) -> Result<Text, Memory>
 // The exception of a variable that is read before it is set.
 fn emit_unbound(b: &mut Emitter, alloc: Global, name: &str, line: usize) -> Result<(), Memory>
     ensures kept { Extends b.old b.new }
-    ensures pushed { OnOk result (Pushes b.old b.new (reports_unbound name.now)) }
+    ensures pushed { OnOk result (Pushes b.old b.new (reports_unbound name.now) line) }
     ensures shaped { Keeps b.old b.new }
     ensures kinds { KeepsKinds b.old b.new }
 {

@@ -75,7 +75,7 @@ abbrev ByResult : (Value → Config) → (Thrown → Config) → Result Value Th
 ByResult good bad (Ok v) = good v
 ByResult good bad (Err e) = bad e
 
-module _ (p : Program) (fn k i : ℕ) (regs : Regs) (below : List Waiting) (s : State) (r : ℕ) (q : Primitive) (args : List PArg) (t : RType) (xs : List Argument) (at : item_at p fn k i ≡ Some (Do (Prim (Some record { 0 = r }) q args))) (type : type_of_reg (registers_of p fn) (record { 0 = r }) ≡ Some t) (given : arguments (registers_of p fn) regs args ≡ Some xs) where
+module _ (p : Program) (fn k i : ℕ) (regs : Regs) (below : List Waiting) (s : State) (r : ℕ) (q : Primitive) (args : List PArg) (t : RType) (xs : List Argument) {line : ℕ} (at : item_at p fn k i ≡ Some (Do (Prim (Some record { 0 = r }) q args) line)) (type : type_of_reg (registers_of p fn) (record { 0 = r }) ≡ Some t) (given : arguments (registers_of p fn) regs args ≡ Some xs) where
   -- where the machine comes to
   abbrev Comes : Result Value Thrown → Config
   Comes o = ByResult (λ v. running fn k (i + 1) (put regs r (Holds v)) below (world None s)) (λ e. away (handler_at p fn k) (record { fn = fn; block = k; place = i + 1; regs = put regs r (error_of t) }) below (world (Some e) s)) o
@@ -112,14 +112,14 @@ pub record DoesAs (K : Showing) (p : Program) (fn : ℕ) (q : Primitive) (args :
   pub does : res ≡ outcome_of result s
 
 -- where the code of a single operation comes to
-pub prim_ends : (K : Showing) (b c : Building) (r : ℕ) (t : RType) (q : Primitive) (args : List PArg) → Adds b c r t (Prim (Some record { 0 = r }) q args) → (p : Program) (fn : ℕ) (h : Option ℕ) → Placed p fn b c h → (x : Setting) → HasRoom x b → (regs : Regs) (below : List Waiting) (s : State) → Matches x regs s → (res : Outcome Value) → DoesAs K p fn q args regs s res → Ends p s.turns (running fn (length b.blocks) (length b.ops) regs below (world None s)) res (Arrives K fn (length c.blocks) (length c.ops) below (length b.regs) regs x s r) (IsThrown fn h below x (length b.regs) regs)
+pub prim_ends : {line : ℕ} (K : Showing) (b c : Building) (r : ℕ) (t : RType) (q : Primitive) (args : List PArg) → Adds b c r t (Prim (Some record { 0 = r }) q args) line → (p : Program) (fn : ℕ) (h : Option ℕ) → Placed p fn b c h → (x : Setting) → HasRoom x b → (regs : Regs) (below : List Waiting) (s : State) → Matches x regs s → (res : Outcome Value) → DoesAs K p fn q args regs s res → Ends p s.turns (running fn (length b.blocks) (length b.ops) regs below (world None s)) res (Arrives K fn (length c.blocks) (length c.ops) below (length b.regs) regs x s r) (IsThrown fn h below x (length b.regs) regs)
 prim_ends K b c r t q args a p fn h placed x room regs below s match res d =
     let R = Arrives K fn (length c.blocks) (length c.ops) below (length b.regs) regs x s r in
     let T = IsThrown fn h below x (length b.regs) regs in
     let at = adds_has p fn b c r t _ a placed.has in
     let target = type_has p fn c r t placed.has a.type in
     let here = guard_at p fn b c h (let z = a.blocks in omega arith) placed (length b.blocks) (sym a.blocks) in
-    let edge : failing q ≡ MayFail → is_tested (record { 0 = r }) (item_at p fn (length b.blocks) (length b.ops + 1)) ≡ false = λ may. placed.has.edges.each _ _ r _ at (ap (λ f. where_it_may f r) may) in
+    let edge : failing q ≡ MayFail → is_tested (record { 0 = r }) (item_at p fn (length b.blocks) (length b.ops + 1)) ≡ false = λ may. placed.has.edges.each _ _ r _ _ at (ap (λ f. where_it_may f r) may) in
     let leads = comes p fn (length b.blocks) (length b.ops) regs below s r q args t d.values at target d.given (failing q) d.result refl d.allowed d.effects edge in
     let kept : (w : Held) (j : ℕ) → j < length b.regs → put regs r w j ≡ regs j = λ w j lt. put_other regs r j w (let z = a.made in λ e. omega arith) in
     ends_of p s.turns _ res (outcome_of d.result s) R T d.does
@@ -131,7 +131,7 @@ prim_ends K b c r t q args a p fn h placed x room regs below s match res d =
     (λ e. thrown_now p fn (length b.blocks) (length b.ops + 1) h below x (length b.regs) regs (put regs r (error_of t)) e s here (match_here x b regs (put regs r (error_of t)) s room (λ j lt. kept (error_of t) j (let z = room.top in omega arith)) match) (λ j i lt o. kept (error_of t) j lt))
     d.shown)
 
-pub prim_attempts : (K : Showing) (b c : Building) (r : ℕ) (t : RType) (q : Primitive) (args : List PArg) (from : Regs → State → Outcome Value → Type 0) → Adds b c r t (Prim (Some record { 0 = r }) q args) → ((p : Program) (fn : ℕ) → Has p fn b → (regs : Regs) (s : State) (res : Outcome Value) → from regs s res → DoesAs K p fn q args regs s res) → Attempts K b c r t from
+pub prim_attempts : {line : ℕ} (K : Showing) (b c : Building) (r : ℕ) (t : RType) (q : Primitive) (args : List PArg) (from : Regs → State → Outcome Value → Type 0) → Adds b c r t (Prim (Some record { 0 = r }) q args) line → ((p : Program) (fn : ℕ) → Has p fn b → (regs : Regs) (s : State) (res : Outcome Value) → from regs s res → DoesAs K p fn q args regs s res) → Attempts K b c r t from
 prim_attempts K b c r t q args from a by = record {
   extends = a.extends;
   type = a.type;
@@ -140,7 +140,7 @@ prim_attempts K b c r t q args from a by = record {
 }
 
 -- with nothing before it, in a program whose calls work
-pub prim_computes : (x : Setting) (K : Showing) (m : Meaning Value) (b c : Building) (r : ℕ) (t : RType) (q : Primitive) (args : List PArg) → HasRoom x b → Adds b c r t (Prim (Some record { 0 = r }) q args) → ((p : Program) (fn : ℕ) → Has p fn b → (n : ℕ) → CallsWork p x.source n → (regs : Regs) (s : State) → Matches x regs s → DoesAs K p fn q args regs s (m n s)) → Computes x K t m b c r
+pub prim_computes : {line : ℕ} (x : Setting) (K : Showing) (m : Meaning Value) (b c : Building) (r : ℕ) (t : RType) (q : Primitive) (args : List PArg) → HasRoom x b → Adds b c r t (Prim (Some record { 0 = r }) q args) line → ((p : Program) (fn : ℕ) → Has p fn b → (n : ℕ) → CallsWork p x.source n → (regs : Regs) (s : State) → Matches x regs s → DoesAs K p fn q args regs s (m n s)) → Computes x K t m b c r
 prim_computes x K m b c r t q args room a by = record {
   extends = a.extends;
   type = a.type;

@@ -176,7 +176,7 @@ shown_if : (t : Sort) (name : List ℕ) (o : Option Value) → MayHold t o → S
 shown_if t name None k = tt
 shown_if t name (Some v) k = (refl, k)
 
-pub global_computes : (x : Setting) (i : ℕ) (v : Variable) (b c : Building) (r : ℕ) → HasRoom x b → slice_get x.source.globals i ≡ Some v → Adds b c r (rtype_of v.1) (Prim (Some record { 0 = r }) (prim.Global global.Get) (arg.Global v.0 ∷ [])) → Computes x (Shows v.1) (rtype_of v.1) (λ n. read_global x.source.globals i) b c r
+pub global_computes : {line : ℕ} (x : Setting) (i : ℕ) (v : Variable) (b c : Building) (r : ℕ) → HasRoom x b → slice_get x.source.globals i ≡ Some v → Adds b c r (rtype_of v.1) (Prim (Some record { 0 = r }) (prim.Global global.Get) (arg.Global v.0 ∷ [])) line → Computes x (Shows v.1) (rtype_of v.1) (λ n. read_global x.source.globals i) b c r
 global_computes x i v b c r room at a =
     prim_computes x (Shows v.1) _ b c r (rtype_of v.1) (prim.Global global.Get) _ room a
     (λ p fn has n calls regs s match.
@@ -194,7 +194,7 @@ global_computes x i v b c r room at a =
 write_arguments : (declared : Declared) (regs : Regs) (name : List ℕ) (r : ℕ) (w : Value) → read declared regs (record { 0 = r }) ≡ Some w → arguments declared regs (arg.Global name ∷ arg.Var record { 0 = r } ∷ []) ≡ Some (Written (arg.Global name) ∷ Given w ∷ [])
 write_arguments declared regs name r w e = rw e refl
 
-pub global_step : (p : Program) (fn k j : ℕ) (regs : Regs) (below : List Waiting) (s : State) (m : TypedModule) (i : ℕ) (v : Variable) (r : ℕ) (t : RType) (w : Value) → HasGlobals p m → HaveTypes m.globals s.globals → slice_get m.globals i ≡ Some v → item_at p fn k j ≡ Some (Do (Prim None (prim.Global global.Set) (arg.Global v.0 ∷ arg.Var record { 0 = r } ∷ []))) → type_of_reg (registers_of p fn) (record { 0 = r }) ≡ Some t → regs r ≡ Holds w → step Strict p (running fn k j regs below (world None s)) ≡ running fn k (j + 1) regs below (world None (record s { globals = slice_set s.globals i (Some w) }))
+pub global_step : {line : ℕ} (p : Program) (fn k j : ℕ) (regs : Regs) (below : List Waiting) (s : State) (m : TypedModule) (i : ℕ) (v : Variable) (r : ℕ) (t : RType) (w : Value) → HasGlobals p m → HaveTypes m.globals s.globals → slice_get m.globals i ≡ Some v → item_at p fn k j ≡ Some (Do (Prim None (prim.Global global.Set) (arg.Global v.0 ∷ arg.Var record { 0 = r } ∷ [])) line) → type_of_reg (registers_of p fn) (record { 0 = r }) ≡ Some t → regs r ≡ Holds w → step Strict p (running fn k j regs below (world None s)) ≡ running fn k (j + 1) regs below (world None (record s { globals = slice_set s.globals i (Some w) }))
 global_step p fn k j regs below s m i v r t w has types at there type holds =
     let o = types.each i v at in
     let given = write_arguments (registers_of p fn) regs v.0 r w (read_is (registers_of p fn) regs r t w type holds) in

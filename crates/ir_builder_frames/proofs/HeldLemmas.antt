@@ -82,7 +82,7 @@ declares b c name t r number e = record {
   ops = ap (λ (v : Building). length v.ops) e;
 }
 
-pub pushes : (b c : Building) (o : Op × ℕ) → c ≡ pushed b o → Pushes b c o.0
+pub pushes : (b c : Building) (o : Op × ℕ) → c ≡ pushed b o → Pushes b c o.0 o.1
 pushes b c o e = record {
   extends = pushed_extends b c o e;
   regs = ap (λ (v : Building). length v.regs) e;
@@ -101,7 +101,7 @@ closes b c l e = record {
 }
 
 -- a register, and an operation
-pub adds : (a b c : Building) (r : ℕ) (t : RType) (o : Op) → Declares a b r t → Pushes b c o → Adds a c r t o
+pub adds : (a b c : Building) (r : ℕ) (t : RType) (o : Op) {line : ℕ} → Declares a b r t → Pushes b c o line → Adds a c r t o line
 adds a b c r t o d q = record {
   extends = extends_trans a b c d.extends q.extends;
   made = d.made;
@@ -122,13 +122,13 @@ module _ (p : Program) (fn : ℕ) where
     edges = h.edges;
   }
 
-  pub does_at : (b : Building) (k i : ℕ) (o : Op) → Has p fn b → held b k i ≡ Some (Do o) → item_at p fn k i ≡ Some (Do o)
-  does_at b k i o h e = h.items k i (Do o) (λ q. cc) e
+  pub does_at : (b : Building) (k i : ℕ) (o : Op) {line : ℕ} → Has p fn b → held b k i ≡ Some (Do o line) → item_at p fn k i ≡ Some (Do o line)
+  does_at b k i o {line} h e = h.items k i (Do o line) (λ q. cc) e
 
-  pub adds_has : (b c : Building) (r : ℕ) (t : RType) (o : Op) → Adds b c r t o → Has p fn c → item_at p fn (length b.blocks) (length b.ops) ≡ Some (Do o)
+  pub adds_has : (b c : Building) (r : ℕ) (t : RType) (o : Op) {line : ℕ} → Adds b c r t o line → Has p fn c → item_at p fn (length b.blocks) (length b.ops) ≡ Some (Do o line)
   adds_has b c r t o a h = does_at c (length b.blocks) (length b.ops) o h a.at
 
-  pub pushes_has : (b c : Building) (o : Op) → Pushes b c o → Has p fn c → item_at p fn (length b.blocks) (length b.ops) ≡ Some (Do o)
+  pub pushes_has : (b c : Building) (o : Op) {line : ℕ} → Pushes b c o line → Has p fn c → item_at p fn (length b.blocks) (length b.ops) ≡ Some (Do o line)
   pushes_has b c o a h = does_at c (length b.blocks) (length b.ops) o h a.at
 
   pub within_part : (b c : Building) (from to low high : ℕ) (h : Option ℕ) → Extends b c → from ≤ low → high ≤ to → high ≤ length b.blocks → Within p fn c from to h → Within p fn b low high h

@@ -15,25 +15,25 @@ use Rattle.ir_builder_frames.proofs.HeldLemmas.{closes}
 
 open_no_end : (os : List (Op × ℕ)) (i : ℕ) (l : Last) → in_open os i ≡ Some (End l) → ⊥
 open_no_end [] i l e = let f : None ≡ Some (End l) = e in cc
-open_no_end (o ∷ os) zero l e = let f : Some (Do o.0) ≡ Some (End l) = e in cc
+open_no_end (o ∷ os) zero l e = let f : Some (Do o.0 o.1) ≡ Some (End l) = e in cc
 open_no_end (o ∷ os) (suc i) l e = open_no_end os i l e
 
-block_do : (os : List (Op × ℕ)) (a l : Last) (i : ℕ) (o : Op) → in_block os a i ≡ Some (Do o) → in_block os l i ≡ Some (Do o)
-block_do [] a l zero o e = let f : Some (End a) ≡ Some (Do o) = e in absurd (cc)
-block_do [] a l (suc i) o e = let f : None ≡ Some (Do o) = e in absurd (cc)
+block_do : (os : List (Op × ℕ)) (a l : Last) (i : ℕ) (o : Op) {line : ℕ} → in_block os a i ≡ Some (Do o line) → in_block os l i ≡ Some (Do o line)
+block_do [] a l zero o {line} e = let f : Some (End a) ≡ Some (Do o line) = e in absurd (cc)
+block_do [] a l (suc i) o {line} e = let f : None ≡ Some (Do o line) = e in absurd (cc)
 block_do (p ∷ os) a l zero o e = e
 block_do (p ∷ os) a l (suc i) o e = block_do os a l i o e
 
 block_ends : (os : List (Op × ℕ)) (a l x : Last) (i : ℕ) → in_block os a i ≡ Some (End x) → in_block os l i ≡ Some (End l)
 block_ends [] a l x zero e = refl
 block_ends [] a l x (suc i) e = let f : None ≡ Some (End x) = e in absurd (cc)
-block_ends (p ∷ os) a l x zero e = let f : Some (Do p.0) ≡ Some (End x) = e in absurd (cc)
+block_ends (p ∷ os) a l x zero e = let f : Some (Do p.0 p.1) ≡ Some (End x) = e in absurd (cc)
 block_ends (p ∷ os) a l x (suc i) e = block_ends os a l x i e
 
 block_end_is : (os : List (Op × ℕ)) (a x : Last) (i : ℕ) → in_block os a i ≡ Some (End x) → x ≡ a
 block_end_is [] a x zero e = let f : Some (End a) ≡ Some (End x) = e in cc
 block_end_is [] a x (suc i) e = let f : None ≡ Some (End x) = e in absurd (cc)
-block_end_is (p ∷ os) a x zero e = let f : Some (Do p.0) ≡ Some (End x) = e in absurd (cc)
+block_end_is (p ∷ os) a x zero e = let f : Some (Do p.0 p.1) ≡ Some (End x) = e in absurd (cc)
 block_end_is (p ∷ os) a x (suc i) e = block_end_is os a x i e
 
 -- a block has one end
@@ -52,7 +52,7 @@ end_below (b ∷ bs) os (suc k) i x e = omega (arith, end_below bs os k i x e)
 pub open_below : (b : Building) (k : ℕ) → Open b k → k < length b.blocks
 open_below b k o = end_below b.blocks b.ops k o.place Unreachable o.is
 
-with_do : (bs : List Block) (os : List (Op × ℕ)) (k i : ℕ) (l : Last) (o : Op) → held_in bs os k i ≡ Some (Do o) → held_in (with_last bs k l) os k i ≡ Some (Do o)
+with_do : (bs : List Block) (os : List (Op × ℕ)) (k i : ℕ) (l : Last) (o : Op) {line : ℕ} → held_in bs os k i ≡ Some (Do o line) → held_in (with_last bs k l) os k i ≡ Some (Do o line)
 with_do [] os k i l o e = e
 with_do (b ∷ bs) os zero i l o e = block_do b.ops b.last l i o e
 with_do (b ∷ bs) os (suc k) i l o e = with_do bs os k i l o e
@@ -93,7 +93,7 @@ module _ (b : Building) (k : ℕ) (l : Last) (o : Open b k) (ne : l ≢ Unreacha
   patched = record b { blocks = with_last b.blocks k l }
 
   has_at : (p : Program) (fn : ℕ) → Has p fn patched → (i : ℕ) (x : Item) → x ≢ End Unreachable → held b k i ≡ Some x → item_at p fn k i ≡ Some x
-  has_at p fn h i (Do q) other e = h.items k i (Do q) other (with_do b.blocks b.ops k i l q e)
+  has_at p fn h i (Do q line) other e = h.items k i (Do q line) other (with_do b.blocks b.ops k i l q e)
   has_at p fn h i (End y) other e = absurd (other (ap End (ends_same b.blocks b.ops k i o.place y Unreachable e o.is)))
 
   has_before : (p : Program) (fn : ℕ) → Has p fn patched → Has p fn b
@@ -107,7 +107,7 @@ module _ (b : Building) (k : ℕ) (l : Last) (o : Open b k) (ne : l ≢ Unreacha
   }
 
   extends_at : (a : Building) → Extends a b → length a.blocks ≤ k → (i : ℕ) (x : Item) → held a k i ≡ Some x → held patched k i ≡ Some x
-  extends_at a p le i (Do q) e = with_do b.blocks b.ops k i l q (p.items k i (Do q) e)
+  extends_at a p le i (Do q line) e = with_do b.blocks b.ops k i l q (p.items k i (Do q line) e)
   extends_at a p le i (End y) e = absurd (let lt = end_below a.blocks a.ops k i y e in omega arith)
 
   here_patches : Patches b patched k l

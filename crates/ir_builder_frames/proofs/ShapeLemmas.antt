@@ -44,7 +44,7 @@ fit_last n m i (b ∷ bs) (suc k) l g a = (a.0, a.1, a.2, fit_last n m (suc i) b
 
 nothing_before : (os : List (Op × ℕ)) (a x : Last) → in_block os a 0 ≡ Some (End x) → os ≡ []
 nothing_before [] a x e = refl
-nothing_before (o ∷ os) a x e = let f : Some (Do o.0) ≡ Some (End x) = e in absurd (cc)
+nothing_before (o ∷ os) a x e = let f : Some (Do o.0 o.1) ≡ Some (End x) = e in absurd (cc)
 
 alone_last : (n m i : ℕ) (bs : List Block) (os : List (Op × ℕ)) (k : ℕ) (l x : Last) → held_in bs os k 0 ≡ Some (End x) → EndFits n m (i + k) [] l → AllFit n m i bs → AllFit n m i (with_last bs k l)
 alone_last n m i [] os k l x e g a = tt

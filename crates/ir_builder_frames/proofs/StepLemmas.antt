@@ -38,19 +38,19 @@ pub two_arguments : (declared : Declared) (regs : Regs) (x y : ℕ) (u v : Value
 two_arguments declared regs x y u v e f = rw (e, f) refl
 
 module _ (p : Program) (fn k i : ℕ) (regs : Regs) (below : List Waiting) (s : State) where
-  pub prim_step : (r : ℕ) (q : Primitive) (args : List PArg) (t : RType) (xs : List Argument) (v : Value) → item_at p fn k i ≡ Some (Do (Prim (Some record { 0 = r }) q args)) → type_of_reg (registers_of p fn) (record { 0 = r }) ≡ Some t → arguments (registers_of p fn) regs args ≡ Some xs → failing q ≡ NeverFails → effect p q xs (world None s) ≡ Gives v (world None s) → step Strict p (running fn k i regs below (world None s)) ≡ running fn k (i + 1) (put regs r (Holds v)) below (world None s)
+  pub prim_step : {line : ℕ} (r : ℕ) (q : Primitive) (args : List PArg) (t : RType) (xs : List Argument) (v : Value) → item_at p fn k i ≡ Some (Do (Prim (Some record { 0 = r }) q args) line) → type_of_reg (registers_of p fn) (record { 0 = r }) ≡ Some t → arguments (registers_of p fn) regs args ≡ Some xs → failing q ≡ NeverFails → effect p q xs (world None s) ≡ Gives v (world None s) → step Strict p (running fn k i regs below (world None s)) ≡ running fn k (i + 1) (put regs r (Holds v)) below (world None s)
   prim_step r q args t xs v at type given never does =
       op_step Strict p (record { fn = fn; block = k; place = i; regs = regs }) below (world None s) (Prim (Some record { 0 = r }) q args) at
       ∙ rw (given, does, type, never) refl
 
   -- one that gives no value, and acts on the world
-  pub acts_step : (q : Primitive) (args : List PArg) (xs : List Argument) (w : World) → item_at p fn k i ≡ Some (Do (Prim None q args)) → arguments (registers_of p fn) regs args ≡ Some xs → failing q ≡ NeverFails → effect p q xs (world None s) ≡ Acts w → step Strict p (running fn k i regs below (world None s)) ≡ running fn k (i + 1) regs below w
+  pub acts_step : {line : ℕ} (q : Primitive) (args : List PArg) (xs : List Argument) (w : World) → item_at p fn k i ≡ Some (Do (Prim None q args) line) → arguments (registers_of p fn) regs args ≡ Some xs → failing q ≡ NeverFails → effect p q xs (world None s) ≡ Acts w → step Strict p (running fn k i regs below (world None s)) ≡ running fn k (i + 1) regs below w
   acts_step q args xs w at given never does =
       op_step Strict p (record { fn = fn; block = k; place = i; regs = regs }) below (world None s) (Prim None q args) at
       ∙ rw (given, does, never) refl
 
 -- a new register, by one step
-adds_makes : (b c : Building) (r : ℕ) (t : RType) (o : Op) (from : Regs → Held → Type 0) → Adds b c r t o → ((p : Program) (fn : ℕ) → Has p fn c → (regs : Regs) (below : List Waiting) (s : State) (h : Held) → from regs h → step Strict p (running fn (length b.blocks) (length b.ops) regs below (world None s)) ≡ running fn (length b.blocks) (length b.ops + 1) (put regs r h) below (world None s)) → Makes b c r t from
+adds_makes : {line : ℕ} (b c : Building) (r : ℕ) (t : RType) (o : Op) (from : Regs → Held → Type 0) → Adds b c r t o line → ((p : Program) (fn : ℕ) → Has p fn c → (regs : Regs) (below : List Waiting) (s : State) (h : Held) → from regs h → step Strict p (running fn (length b.blocks) (length b.ops) regs below (world None s)) ≡ running fn (length b.blocks) (length b.ops + 1) (put regs r h) below (world None s)) → Makes b c r t from
 adds_makes b c r t o from a does = record {
   extends = a.extends;
   type = a.type;
@@ -61,18 +61,18 @@ adds_makes b c r t o from a does = record {
       (put regs r h, leads_step p _ _ (does p fn has regs below s h f ∙ is), put_same regs r h, λ j lt. put_other regs r j h (let z = a.made in λ e. omega arith));
 }
 
-pub literal_makes : (b c : Building) (r : ℕ) (t : RType) (l : Literal) (held : Held) → Adds b c r t (Lit record { 0 = r } l) → literal_of t l ≡ Some held → Makes b c r t (λ regs h. h ≡ held)
+pub literal_makes : {line : ℕ} (b c : Building) (r : ℕ) (t : RType) (l : Literal) (held : Held) → Adds b c r t (Lit record { 0 = r } l) line → literal_of t l ≡ Some held → Makes b c r t (λ regs h. h ≡ held)
 literal_makes b c r t l held a is = adds_makes b c r t _ _ a (λ p fn has regs below s h f.
     lit_step Strict p (record { fn = fn; block = length b.blocks; place = length b.ops; regs = regs }) below (world None s) (record { 0 = r }) l t h (adds_has p fn b c r t _ a has) (type_has p fn c r t has a.type) (is ∙ ap Some (sym f)))
 
-pub one_makes : (b c : Building) (r x : ℕ) (t u : RType) (q : Primitive) (P : Value → Value → Type 0) → Adds b c r t (Prim (Some record { 0 = r }) q (Var record { 0 = x } ∷ [])) → HasType b x u → failing q ≡ NeverFails → ((p : Program) (w : World) (v z : Value) → P v z → effect p q (Given v ∷ []) w ≡ Gives z w) → Makes b c r t (OfOne x P)
+pub one_makes : {line : ℕ} (b c : Building) (r x : ℕ) (t u : RType) (q : Primitive) (P : Value → Value → Type 0) → Adds b c r t (Prim (Some record { 0 = r }) q (Var record { 0 = x } ∷ [])) line → HasType b x u → failing q ≡ NeverFails → ((p : Program) (w : World) (v z : Value) → P v z → effect p q (Given v ∷ []) w ≡ Gives z w) → Makes b c r t (OfOne x P)
 one_makes b c r x t u q P a type never does = adds_makes b c r t _ _ a (λ p fn has regs below s h f.
     let declared = registers_of p fn in
     let given = one_argument (registers_of p fn) regs x f.v (read_is (registers_of p fn) regs x u f.v (type_has p fn b x u (has_less p fn b c a.extends has) type) f.is) in
     prim_step p fn (length b.blocks) (length b.ops) regs below s r q _ t (Given f.v ∷ []) f.result (adds_has p fn b c r t _ a has) (type_has p fn c r t has a.type) given never (does p (world None s) f.v f.result f.fits)
     ∙ ap (λ (z : Held). running fn (length b.blocks) (length b.ops + 1) (put regs r z) below (world None s)) (sym f.gives))
 
-pub two_makes : (b c : Building) (r x y : ℕ) (t tx ty : RType) (q : Primitive) (P : Value → Value → Value → Type 0) → Adds b c r t (Prim (Some record { 0 = r }) q (Var record { 0 = x } ∷ Var record { 0 = y } ∷ [])) → HasType b x tx → HasType b y ty → failing q ≡ NeverFails → ((p : Program) (w : World) (u v z : Value) → P u v z → effect p q (Given u ∷ Given v ∷ []) w ≡ Gives z w) → Makes b c r t (OfTwo x y P)
+pub two_makes : {line : ℕ} (b c : Building) (r x y : ℕ) (t tx ty : RType) (q : Primitive) (P : Value → Value → Value → Type 0) → Adds b c r t (Prim (Some record { 0 = r }) q (Var record { 0 = x } ∷ Var record { 0 = y } ∷ [])) line → HasType b x tx → HasType b y ty → failing q ≡ NeverFails → ((p : Program) (w : World) (u v z : Value) → P u v z → effect p q (Given u ∷ Given v ∷ []) w ≡ Gives z w) → Makes b c r t (OfTwo x y P)
 two_makes b c r x y t tx ty q P a type_x type_y never does = adds_makes b c r t _ _ a (λ p fn has regs below s h f.
     let before = has_less p fn b c a.extends has in
     let left = read_is (registers_of p fn) regs x tx f.u (type_has p fn b x tx before type_x) f.left in

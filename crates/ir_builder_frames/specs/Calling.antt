@@ -19,23 +19,23 @@ pub record Declares (old new : Building) (r : ℕ) (t : RType) : Type 0 where
   pub blocks : length new.blocks ≡ length old.blocks
   pub ops : length new.ops ≡ length old.ops
 
--- an operation, with a register for its result
-pub record Adds (old new : Building) (r : ℕ) (t : RType) (o : Op) : Type 0 where
+-- an operation of a source line, with a register for its result
+pub record Adds (old new : Building) (r : ℕ) (t : RType) (o : Op) (line : ℕ) : Type 0 where
   pub extends : Extends old new
   pub made : r ≡ length old.regs
   pub type : HasType new r t
   pub regs : length new.regs ≡ length old.regs + 1
   pub blocks : length new.blocks ≡ length old.blocks
   pub ops : length new.ops ≡ length old.ops + 1
-  pub at : held new (length old.blocks) (length old.ops) ≡ Some (Do o)
+  pub at : held new (length old.blocks) (length old.ops) ≡ Some (Do o line)
 
--- an operation
-pub record Pushes (old new : Building) (o : Op) : Type 0 where
+-- an operation of a source line
+pub record Pushes (old new : Building) (o : Op) (line : ℕ) : Type 0 where
   pub extends : Extends old new
   pub regs : length new.regs ≡ length old.regs
   pub blocks : length new.blocks ≡ length old.blocks
   pub ops : length new.ops ≡ length old.ops + 1
-  pub at : held new (length old.blocks) (length old.ops) ≡ Some (Do o)
+  pub at : held new (length old.blocks) (length old.ops) ≡ Some (Do o line)
 
 -- the end of the block
 pub record Closes (old new : Building) (l : Last) : Type 0 where

@@ -36,7 +36,7 @@ or_other (Some b) a = Some b
 module _ (p : Program) (fn : ℕ) where
   -- behind no operation that may fail stands a test of its result
   pub record NoEdges : Type 0 where
-    pub each : (k i r : ℕ) (o : Op) → item_at p fn k i ≡ Some (Do o) → into o ≡ Some r → is_tested (record { 0 = r }) (item_at p fn k (i + 1)) ≡ false
+    pub each : (k i r : ℕ) (o : Op) (line : ℕ) → item_at p fn k i ≡ Some (Do o line) → into o ≡ Some r → is_tested (record { 0 = r }) (item_at p fn k (i + 1)) ≡ false
 
   -- the function has what the builder holds, but for the ends that are still to be written
   pub record Has (b : Building) : Type 0 where

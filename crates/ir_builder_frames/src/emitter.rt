@@ -70,7 +70,7 @@ impl Emitter {
     /// One more operation, of a source line.
     pub fn push(&mut self, op: Op, line: usize) -> Result<(), Memory>
         ensures kept { Extends self.old self.new }
-        ensures pushed { OnOk result (Pushes self.old self.new op) }
+        ensures pushed { OnOk result (Pushes self.old self.new op line) }
         ensures is { OnOk result (self.new ≡ pushed self.old (op, line)) }
         ensures shaped { KeepsIf (λ n m. OpFits n op) self.old self.new }
         ensures kinds { KeepsKindsIf (λ g. OpKinds g self.old.regs op) self.old self.new }
@@ -134,7 +134,7 @@ impl Emitter {
     /// A literal in a register of its own.
     pub fn literal(&mut self, t: RType, literal: Lit, line: usize) -> Result<Reg, Memory>
         ensures kept { Extends self.old self.new }
-        ensures added { IfOk result (λ r. Adds self.old self.new r.0 t (Op.Lit r literal)) }
+        ensures added { IfOk result (λ r. Adds self.old self.new r.0 t (Op.Lit r literal) line) }
         ensures shaped { Keeps self.old self.new }
         ensures kinds { KeepsKindsIf (λ g. LiteralFits t literal) self.old self.new }
     {
@@ -154,7 +154,7 @@ impl Emitter {
         requires result { IsTrue (is_target_of (row_of primitive).outcome (Some record { 0 = 0 })) }
         requires below { AreBelow (length self.old.regs) args }
         ensures kept { Extends self.old self.new }
-        ensures added { IfOk result (λ r. Adds self.old self.new r.0 t (Op.Prim (Some r) primitive args)) }
+        ensures added { IfOk result (λ r. Adds self.old self.new r.0 t (Op.Prim (Some r) primitive args) line) }
         ensures shaped { Keeps self.old self.new }
         ensures kinds { KeepsKindsIf (λ g. Answers t self.old.regs primitive args ⊎ ReadsGlobal g t primitive args) self.old self.new }
     {
@@ -173,7 +173,7 @@ impl Emitter {
     ) -> Result<Reg, Memory>
         requires below { AllBelow (length self.old.regs) args }
         ensures kept { Extends self.old self.new }
-        ensures added { IfOk result (λ r. Adds self.old self.new r.0 t (Op.Call r function args)) }
+        ensures added { IfOk result (λ r. Adds self.old self.new r.0 t (Op.Call r function args) line) }
         ensures shaped { Keeps self.old self.new }
         ensures kinds { KeepsKindsIf (λ g. Calls g t self.old.regs function args) self.old self.new }
     {

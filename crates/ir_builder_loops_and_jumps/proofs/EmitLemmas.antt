@@ -177,7 +177,7 @@ continue_emitted x result looping s b0 b1 xs ys loops is noted c =
 bool_is : (t : Sort) → t ≡ sort.Bool → (x : Setting) (m : Meaning Value) (b0 b1 : Building) (r : ℕ) → Computes x (Shows t) (rtype_of t) m b0 b1 r → Computes x (Shows sort.Bool) BoolType m b0 b1 r
 bool_is t is x m b0 b1 r cx = let P : Sort → Type 0 = λ z. Computes x (Shows z) (rtype_of z) m b0 b1 r in subst P is cx
 
-pub while_emitted : (x : Setting) (result : Option Sort) (looping : Bool) (s : TStmt) (e : TExpr) (ss body : List TStmt) (b0 b1 b2 b3 b4 b5 b6 b7 b8 b9 : Building) (r : Reg) (head test start next exit : ℕ) (x0 x1 xs0 xs ks ls : List Exit) (plan : ExitPlan) → HasRoom x b0 → s.kind ≡ kind.While e ss → body ≡ ss → type_of (typed_expr e) ≡ sort.Bool → head ≡ length b1.blocks → Closes b0 b1 (Goto head) → Computes x (Shows (type_of (typed_expr e))) (rtype_of (type_of (typed_expr e))) (means x (typed_expr e)) b1 b2 r.0 → test ≡ length b2.blocks → Closes b2 b3 Unreachable → start ≡ length b3.blocks → xs0 ≡ [] → Emitted x result true (means_suite x (typed_suite body)) b3 b4 xs0 xs → next ≡ length b5.blocks → Closes b4 b5 (Goto next) → Pushes b5 b6 Turn → Closes b6 b7 (Goto head) → exit ≡ length b7.blocks → plan ≡ record { breaks = Some exit; continues = Some next; returns = None; joins = None } → ls ≡ xs → x1 ≡ x0 ++ left (planned plan) ls → b8 ≡ record b7 { blocks = with_last b7.blocks test (If r start exit) } → ks ≡ xs → Patching b8 b9 ks [] (planned plan) → Emitted x result looping (means_statement x (typed_stmt s)) b0 b9 x0 x1
+pub while_emitted : {line : ℕ} (x : Setting) (result : Option Sort) (looping : Bool) (s : TStmt) (e : TExpr) (ss body : List TStmt) (b0 b1 b2 b3 b4 b5 b6 b7 b8 b9 : Building) (r : Reg) (head test start next exit : ℕ) (x0 x1 xs0 xs ks ls : List Exit) (plan : ExitPlan) → HasRoom x b0 → s.kind ≡ kind.While e ss → body ≡ ss → type_of (typed_expr e) ≡ sort.Bool → head ≡ length b1.blocks → Closes b0 b1 (Goto head) → Computes x (Shows (type_of (typed_expr e))) (rtype_of (type_of (typed_expr e))) (means x (typed_expr e)) b1 b2 r.0 → test ≡ length b2.blocks → Closes b2 b3 Unreachable → start ≡ length b3.blocks → xs0 ≡ [] → Emitted x result true (means_suite x (typed_suite body)) b3 b4 xs0 xs → next ≡ length b5.blocks → Closes b4 b5 (Goto next) → Pushes b5 b6 Turn line → Closes b6 b7 (Goto head) → exit ≡ length b7.blocks → plan ≡ record { breaks = Some exit; continues = Some next; returns = None; joins = None } → ls ≡ xs → x1 ≡ x0 ++ left (planned plan) ls → b8 ≡ record b7 { blocks = with_last b7.blocks test (If r start exit) } → ks ≡ xs → Patching b8 b9 ks [] (planned plan) → Emitted x result looping (means_statement x (typed_stmt s)) b0 b9 x0 x1
 while_emitted x result looping s e ss body b0 b1 b2 b3 b4 b5 b6 b7 b8 b9 r head test start next exit x0 x1 xs0 xs ks ls plan room is same bool is_head c1 cx is_test c3 is_start none p is_next c5 t c7 is_exit planis ls_is more e8 ks_is all =
     let mine : xs ≡ p.mine = p.is ∙ ap (λ z. z ++ p.mine) none in
     let planis' : plan ≡ record { breaks = Some (length b7.blocks); continues = Some (length b5.blocks); returns = None; joins = None } = planis ∙ rw (is_exit, is_next) refl in

@@ -43,7 +43,8 @@ pub record LoopAt (p : Program) (fn : ℕ) (b1 b2 b3 b4 b5 : Building) (r out : 
   pub test : item_at p fn (length b2.blocks) (length b2.ops) ≡ Some (End (If record { 0 = r } (length b3.blocks) out))
   pub type : type_of_reg (registers_of p fn) (record { 0 = r }) ≡ Some BoolType
   pub on : item_at p fn (length b4.blocks) (length b4.ops) ≡ Some (End (Goto (length b5.blocks)))
-  pub turn : item_at p fn (length b5.blocks) 0 ≡ Some (Do Turn)
+  pub line : ℕ
+  pub turn : item_at p fn (length b5.blocks) 0 ≡ Some (Do Turn line)
   pub back : item_at p fn (length b5.blocks) 1 ≡ Some (End (Goto (length b1.blocks)))
 
 module _ (p : Program) (result : Option Sort) (fn : ℕ) (below : List Waiting) (x : Setting) (n : ℕ) (calls : CallsWork p x.source n) (h : Option ℕ) (test : Meaning Value) (body : Meaning Flow) (b1 b2 b3 b4 b5 : Building) (r out : ℕ) (xs ys : List Exit) (to inner : Way → ℕ) (keep : ℕ) (old : Regs) (at : LoopAt p fn b1 b2 b3 b4 b5 r out) (room : HasRoom x b1) (wide : keep ≤ length b1.regs) (wider : keep ≤ length b3.regs) (cx : Computes x (Shows sort.Bool) BoolType test b1 b2 r) (at_test : Placed p fn b1 b2 h) (start1 : length b1.ops ≡ 0) (q : Works x result body b3 b4 xs) (at_body : Placed p fn b3 b4 h) (start3 : length b3.ops ≡ 0) (jumps : JumpTo p fn b4 inner xs) (breaks : inner Break ≡ out) (continues : inner Continue ≡ length b5.blocks) (returns : (o : Option Reg) (v : Value) (s : State) (d : Config) → Back p result o fn inner xs below x keep old v s d → Back p result o fn to ys below x keep old v s d) where
@@ -106,8 +107,8 @@ returns_out p result fn x plan xs to below keep old none same None v s d b = b
 returns_out p result fn x plan xs to below keep old none same (Some r) v s d b =
     (uses_left plan Return xs none b.0, let P : ℕ → Type 0 = λ z. Brings fn z below x r.0 keep old v s d in subst P same b.1)
 
-pub while_works : (x : Setting) (result : Option Sort) (test : Meaning Value) (body : Meaning Flow) (b0 b1 b2 b3 b4 b5 b6 b7 b8 b9 : Building) (r : ℕ) (xs : List Exit) (plan : ExitPlan) → plan ≡ record { breaks = Some (length b7.blocks); continues = Some (length b5.blocks); returns = None; joins = None } → HasRoom x b0 → Closes b0 b1 (Goto (length b1.blocks)) → Computes x (Shows sort.Bool) BoolType test b1 b2 r → Closes b2 b3 Unreachable → Works x result body b3 b4 xs → Closes b4 b5 (Goto (length b5.blocks)) → Pushes b5 b6 Turn → Closes b6 b7 (Goto (length b1.blocks)) → b8 ≡ record b7 { blocks = with_last b7.blocks (length b2.blocks) (If record { 0 = r } (length b3.blocks) (length b7.blocks)) } → Patching b8 b9 xs [] (planned plan) → Works x result (λ n s. loop {X = ℕ} (suc n) (λ j u. on_to (test n u) truth_of) (λ j. body n) (λ j. j) 0 s) b0 b9 (left (planned plan) xs)
-while_works x result test body b0 b1 b2 b3 b4 b5 b6 b7 b8 b9 r xs plan planis room c1 cx c3 q c5 t c7 e8 all =
+pub while_works : {line : ℕ} (x : Setting) (result : Option Sort) (test : Meaning Value) (body : Meaning Flow) (b0 b1 b2 b3 b4 b5 b6 b7 b8 b9 : Building) (r : ℕ) (xs : List Exit) (plan : ExitPlan) → plan ≡ record { breaks = Some (length b7.blocks); continues = Some (length b5.blocks); returns = None; joins = None } → HasRoom x b0 → Closes b0 b1 (Goto (length b1.blocks)) → Computes x (Shows sort.Bool) BoolType test b1 b2 r → Closes b2 b3 Unreachable → Works x result body b3 b4 xs → Closes b4 b5 (Goto (length b5.blocks)) → Pushes b5 b6 Turn line → Closes b6 b7 (Goto (length b1.blocks)) → b8 ≡ record b7 { blocks = with_last b7.blocks (length b2.blocks) (If record { 0 = r } (length b3.blocks) (length b7.blocks)) } → Patching b8 b9 xs [] (planned plan) → Works x result (λ n s. loop {X = ℕ} (suc n) (λ j u. on_to (test n u) truth_of) (λ j. body n) (λ j. j) 0 s) b0 b9 (left (planned plan) xs)
+while_works {line} x result test body b0 b1 b2 b3 b4 b5 b6 b7 b8 b9 r xs plan planis room c1 cx c3 q c5 t c7 e8 all =
     let k2 = cx.extends.blocks_grow in let k4 = q.extends.blocks_grow in
     let g2 = cx.extends.regs_grow in let g4 = q.extends.regs_grow in
     let n1 = c1.blocks in let n3 = c3.blocks in let n5 = c5.blocks in let n6 = t.blocks in let n7 = c7.blocks in
@@ -153,6 +154,7 @@ while_works x result test body b0 b1 b2 b3 b4 b5 b6 b7 b8 b9 r xs plan planis ro
             test = p8.code p fn (length b2.ops) w8.has at2;
             type = type_has p fn b2 r BoolType h2 cx.type;
             on = close_at p fn b4 b5 _ (λ z. cc) c5 h5;
+            line = line;
             turn = ap (λ z. item_at p fn (length b5.blocks) z) (sym c5.ops) ∙ pushes_has p fn b5 b6 _ t h6;
             back = (let one : length b6.ops ≡ 1 = omega (arith, t.ops, c5.ops) in ap (λ z. item_at p fn (length b5.blocks) z) (sym one) ∙ ap (λ z. item_at p fn z (length b6.ops)) (sym n6) ∙ close_at p fn b6 b7 _ (λ z. cc) c7 h7);
           } in

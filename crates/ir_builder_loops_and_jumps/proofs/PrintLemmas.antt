@@ -43,22 +43,22 @@ use Rattle.ir_builder_loops_and_jumps.specs.Printing.{written, writes_of, item_t
 -- ---- the operation that writes
 
 module _ (p : Program) (fn : ℕ) (below : List Waiting) where
-  step_leads : (b c : Building) (o : Op) (regs regs' : Regs) (w w' : World) → held c (length b.blocks) (length b.ops) ≡ Some (Do o) → length c.blocks ≡ length b.blocks → length c.ops ≡ length b.ops + 1 → Has p fn c → do_op Strict p o (record { fn = fn; block = length b.blocks; place = length b.ops; regs = regs }) below w ≡ running fn (length b.blocks) (length b.ops + 1) regs' below w' → Leads p (running fn (length b.blocks) (length b.ops) regs below w) (running fn (length c.blocks) (length c.ops) regs' below w')
-  step_leads b c o regs regs' w w' at same_blocks more_ops has does =
+  step_leads : (b c : Building) (o : Op) {line : ℕ} (regs regs' : Regs) (w w' : World) → held c (length b.blocks) (length b.ops) ≡ Some (Do o line) → length c.blocks ≡ length b.blocks → length c.ops ≡ length b.ops + 1 → Has p fn c → do_op Strict p o (record { fn = fn; block = length b.blocks; place = length b.ops; regs = regs }) below w ≡ running fn (length b.blocks) (length b.ops + 1) regs' below w' → Leads p (running fn (length b.blocks) (length b.ops) regs below w) (running fn (length c.blocks) (length c.ops) regs' below w')
+  step_leads b c o {line} regs regs' w w' at same_blocks more_ops has does =
       let is : running fn (length b.blocks) (length b.ops + 1) regs' below w' ≡ running fn (length c.blocks) (length c.ops) regs' below w' = rw (same_blocks, more_ops) refl in
-      leads_step p _ _ (op_step Strict p (record { fn = fn; block = length b.blocks; place = length b.ops; regs = regs }) below w o (has.items _ _ (Do o) (λ z. cc) at) ∙ does ∙ is)
+      leads_step p _ _ (op_step Strict p (record { fn = fn; block = length b.blocks; place = length b.ops; regs = regs }) below w o (has.items _ _ (Do o line) (λ z. cc) at) ∙ does ∙ is)
 
   write_does : (k i r : ℕ) (text : List ℕ) (regs : Regs) (s : State) → type_of_reg (registers_of p fn) (record { 0 = r }) ≡ Some Ref → regs r ≡ Holds (StrVal text) → do_op Strict p (writes_of (record { 0 = r })) (record { fn = fn; block = k; place = i; regs = regs }) below (world None s) ≡ running fn k (i + 1) regs below (world None (written s text))
   write_does k i r text regs s t is = rw (t, is) refl
 
-  write_leads : (b c : Building) (r : ℕ) (text : List ℕ) (regs : Regs) (s : State) → Pushes b c (writes_of (record { 0 = r })) → HasType b r Ref → Has p fn c → regs r ≡ Holds (StrVal text) → Leads p (running fn (length b.blocks) (length b.ops) regs below (world None s)) (running fn (length c.blocks) (length c.ops) regs below (world None (written s text)))
+  write_leads : {line : ℕ} (b c : Building) (r : ℕ) (text : List ℕ) (regs : Regs) (s : State) → Pushes b c (writes_of (record { 0 = r })) line → HasType b r Ref → Has p fn c → regs r ≡ Holds (StrVal text) → Leads p (running fn (length b.blocks) (length b.ops) regs below (world None s)) (running fn (length c.blocks) (length c.ops) regs below (world None (written s text)))
   write_leads b c r text regs s q type has is =
       let t = type_has p fn b r Ref (has_less p fn b c q.extends has) type in
       step_leads b c (writes_of (record { 0 = r })) regs regs (world None s) (world None (written s text)) q.at q.blocks q.ops has (write_does _ _ r text regs s t is)
 
 -- ---- single texts
 
-pub text_written : (b c d : Building) (r : Reg) (text : List ℕ) → Makes b c r.0 Ref (λ regs h. h ≡ Holds (StrVal text)) → Pushes c d (writes_of r) → WritesText b d text
+pub text_written : {line : ℕ} (b c d : Building) (r : Reg) (text : List ℕ) → Makes b c r.0 Ref (λ regs h. h ≡ Holds (StrVal text)) → Pushes c d (writes_of r) line → WritesText b d text
 text_written b c d r text m q = record {
   extends = extends_trans b c d m.extends q.extends;
   runs = λ p fn h at regs below s.
@@ -67,7 +67,7 @@ text_written b c d r text m q = record {
       (made.0, leads_trans p _ _ _ made.1 (write_leads p fn below c d r.0 text made.0 s q m.type at.has made.2), made.3);
 }
 
-pub value_written : (t : Sort) (b c d : Building) (x : ℕ) (r : Reg) → Attempts (Shows sort.Str) b c r.0 Ref (ActsOn t x (λ v. give (StrVal (text_of v)))) → Pushes c d (writes_of r) → WritesOne t x b d text_of
+pub value_written : {line : ℕ} (t : Sort) (b c d : Building) (x : ℕ) (r : Reg) → Attempts (Shows sort.Str) b c r.0 Ref (ActsOn t x (λ v. give (StrVal (text_of v)))) → Pushes c d (writes_of r) line → WritesOne t x b d text_of
 value_written t b c d x r m q = record {
   extends = extends_trans b c d m.extends q.extends;
   runs = λ p fn h at y room regs below s match v shows.

@@ -70,7 +70,7 @@ value_kept BoolType v = refl
 value_kept Ref v = refl
 
 -- a value is moved into the register of a variable
-moved : (x : Setting) (k r : ℕ) (v0 : Variable) (b0 b1 : Building) → HasRoom x b0 → slice_get x.variables k ≡ Some v0 → HasType b0 r (rtype_of v0.1) → Pushes b0 b1 (Move record { 0 = k } record { 0 = r }) → (p : Program) (fn : ℕ) → Has p fn b1 → (regs : Regs) (below : List Waiting) (w : World) (v : Value) → regs r ≡ Holds v → Leads p (running fn (length b0.blocks) (length b0.ops) regs below w) (running fn (length b1.blocks) (length b1.ops) (put regs k (Holds v)) below w)
+moved : {line : ℕ} (x : Setting) (k r : ℕ) (v0 : Variable) (b0 b1 : Building) → HasRoom x b0 → slice_get x.variables k ≡ Some v0 → HasType b0 r (rtype_of v0.1) → Pushes b0 b1 (Move record { 0 = k } record { 0 = r }) line → (p : Program) (fn : ℕ) → Has p fn b1 → (regs : Regs) (below : List Waiting) (w : World) (v : Value) → regs r ≡ Holds v → Leads p (running fn (length b0.blocks) (length b0.ops) regs below w) (running fn (length b1.blocks) (length b1.ops) (put regs k (Holds v)) below w)
 moved x k r v0 b0 b1 room var t q p fn has regs below w v is =
     let has0 = has_less p fn b0 b1 q.extends has in
     let tr = type_has p fn b0 r (rtype_of v0.1) has0 t in
@@ -105,7 +105,7 @@ set_matches x k v0 b regs now s v room var match kind held flag others =
     }
 
 -- a parameter
-pub param_set : (x : Setting) (k r : ℕ) (v0 : Variable) (b0 b1 : Building) → HasRoom x b0 → slice_get x.variables k ≡ Some v0 → k < x.frame.locals.params → HasType b0 r (rtype_of v0.1) → Pushes b0 b1 (Move record { 0 = k } record { 0 = r }) → Sets x (LocalTarget k) v0.1 r b0 b1
+pub param_set : {line : ℕ} (x : Setting) (k r : ℕ) (v0 : Variable) (b0 b1 : Building) → HasRoom x b0 → slice_get x.variables k ≡ Some v0 → k < x.frame.locals.params → HasType b0 r (rtype_of v0.1) → Pushes b0 b1 (Move record { 0 = k } record { 0 = r }) line → Sets x (LocalTarget k) v0.1 r b0 b1
 param_set x k r v0 b0 b1 room var param t q = record {
   extends = q.extends;
   blocks = q.blocks;
@@ -120,7 +120,7 @@ param_set x k r v0 b0 b1 room var param t q = record {
 }
 
 -- another variable: its flag is set behind the value
-pub other_set : (x : Setting) (k r : ℕ) (v0 : Variable) (b0 b1 b2 : Building) → HasRoom x b0 → slice_get x.variables k ≡ Some v0 → x.frame.locals.params ≤ k → HasType b0 r (rtype_of v0.1) → Pushes b0 b1 (Move record { 0 = k } record { 0 = r }) → Pushes b1 b2 (Lit record { 0 = flag_of x.frame.locals k } (Number (pos 1))) → Sets x (LocalTarget k) v0.1 r b0 b2
+pub other_set : {line : ℕ} (x : Setting) (k r : ℕ) (v0 : Variable) (b0 b1 b2 : Building) → HasRoom x b0 → slice_get x.variables k ≡ Some v0 → x.frame.locals.params ≤ k → HasType b0 r (rtype_of v0.1) → Pushes b0 b1 (Move record { 0 = k } record { 0 = r }) line → Pushes b1 b2 (Lit record { 0 = flag_of x.frame.locals k } (Number (pos 1))) line → Sets x (LocalTarget k) v0.1 r b0 b2
 other_set x k r v0 b0 b1 b2 room var other t q q' = record {
   extends = extends_trans b0 b1 b2 q.extends q'.extends;
   blocks = q'.blocks ∙ q.blocks;
@@ -146,7 +146,7 @@ other_set x k r v0 b0 b1 b2 room var other t q q' = record {
 }
 
 -- a variable of the module
-pub global_set : (x : Setting) (i r : ℕ) (v0 : Variable) (b0 b1 : Building) → slice_get x.source.globals i ≡ Some v0 → HasType b0 r (rtype_of v0.1) → Pushes b0 b1 (Prim None (prim.Global global.Set) (arg.Global v0.0 ∷ arg.Var record { 0 = r } ∷ [])) → Sets x (GlobalTarget i) v0.1 r b0 b1
+pub global_set : {line : ℕ} (x : Setting) (i r : ℕ) (v0 : Variable) (b0 b1 : Building) → slice_get x.source.globals i ≡ Some v0 → HasType b0 r (rtype_of v0.1) → Pushes b0 b1 (Prim None (prim.Global global.Set) (arg.Global v0.0 ∷ arg.Var record { 0 = r } ∷ [])) line → Sets x (GlobalTarget i) v0.1 r b0 b1
 global_set x i r v0 b0 b1 var t q = record {
   extends = q.extends;
   blocks = q.blocks;

@@ -26,7 +26,7 @@ use value_core::{Many, Memory};
 fn emit_write(b: &mut Emitter, alloc: Global, r: Reg, line: usize) -> Result<(), Memory>
     requires { HasType b.old r.0 RType.Ref }
     ensures kept { Extends b.old b.new }
-    ensures pushed { OnOk result (Pushes b.old b.new (writes_of r)) }
+    ensures pushed { OnOk result (Pushes b.old b.new (writes_of r) line) }
     ensures shaped { Keeps b.old b.new }
     ensures kinds { KeepsKinds b.old b.new }
 {

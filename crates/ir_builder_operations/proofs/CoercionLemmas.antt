@@ -124,7 +124,7 @@ coerces =
     (by_i64 (λ v. Performs (Shows sort.Int) (prim.Tagged tagged.FromInt64) (Given v ∷ []) (coerced sort.Int v)) int_of_native)
     (by_int (λ v. Performs (Shows sort.I64) (prim.Tagged tagged.AsInt64) (Given v ∷ []) (coerced sort.I64 v)) (λ n e. native_of_int n))
 
-pub coercion_attempts : (s t : Sort) (q : Primitive) (b c : Building) (r x : ℕ) → coercion s t ≡ Some q → HasType b x (rtype_of s) → Adds b c r (rtype_of t) (Prim (Some record { 0 = r }) q (Var record { 0 = x } ∷ [])) → Attempts (Shows t) b c r (rtype_of t) (ActsOn s x (coerced t))
+pub coercion_attempts : {line : ℕ} (s t : Sort) (q : Primitive) (b c : Building) (r x : ℕ) → coercion s t ≡ Some q → HasType b x (rtype_of s) → Adds b c r (rtype_of t) (Prim (Some record { 0 = r }) q (Var record { 0 = x } ∷ [])) line → Attempts (Shows t) b c r (rtype_of t) (ActsOn s x (coerced t))
 coercion_attempts s t q b c r x is type a = one_performs s t (coerced t) b c r x (rtype_of t) (rtype_of s) q type a (coerces s t q is)
 
 pub coercion_answers : (s t : Sort) (q : Primitive) → coercion s t ≡ Some q → (regs : Declared) (x : Reg) → type_of_reg regs x ≡ Some (rtype_of s) → Answers (rtype_of t) regs q (Var x ∷ [])

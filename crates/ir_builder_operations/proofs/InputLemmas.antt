@@ -34,7 +34,7 @@ use Rattle.ir_builder_frames.proofs.MatchLemmas.{match_kept, thrown_now}
 use Rattle.ir_builder_frames.proofs.AttemptLemmas.{failed_off}
 use Rattle.ir_builder_operations.specs.Operating.{Acts}
 
-module _ (p : Program) (fn k i : ℕ) (regs : Regs) (below : List Waiting) (s : State) (r : ℕ) (at : item_at p fn k i ≡ Some (Do (Prim (Some record { 0 = r }) (prim.Io io.Input) []))) (type : type_of_reg (registers_of p fn) (record { 0 = r }) ≡ Some rtype.Ref) where
+module _ (p : Program) (fn k i : ℕ) (regs : Regs) (below : List Waiting) (s : State) (r : ℕ) {line : ℕ} (at : item_at p fn k i ≡ Some (Do (Prim (Some record { 0 = r }) (prim.Io io.Input) []) line)) (type : type_of_reg (registers_of p fn) (record { 0 = r }) ≡ Some rtype.Ref) where
   abbrev start : Config
   start = running fn k i regs below (world None s)
 
@@ -73,7 +73,7 @@ module _ (p : Program) (fn k i : ℕ) (regs : Regs) (below : List Waiting) (s : 
       let x0 : Thrown = thrown ValueError (codes "input is not UTF-8") in
       (le_refl s.turns, left x0 s1, leads_step p start (left x0 s1) (read_fails x0 s1 (ap (λ l. line_read l (world None s)) e) edge), bad x0 s1 (same s1 refl refl))
 
-pub input_attempts : (b c : Building) (r : ℕ) → Adds b c r rtype.Ref (Prim (Some record { 0 = r }) (prim.Io io.Input) []) → Attempts (Shows sort.Str) b c r rtype.Ref (Acts (look (λ s. s.items) next_line))
+pub input_attempts : {line : ℕ} (b c : Building) (r : ℕ) → Adds b c r rtype.Ref (Prim (Some record { 0 = r }) (prim.Io io.Input) []) line → Attempts (Shows sort.Str) b c r rtype.Ref (Acts (look (λ s. s.items) next_line))
 input_attempts b c r a = record {
   extends = a.extends;
   type = a.type;
@@ -86,7 +86,7 @@ input_attempts b c r a = record {
       let top = room.top in
       ends_of p s.turns _ res (next_line s.items s) R T needs
       (line_ends p fn (length b.blocks) (length b.ops) regs below s r at (type_has p fn c r rtype.Ref placed.has a.type) x R T
-      (placed.has.edges.each _ _ r _ at refl)
+      (placed.has.edges.each _ _ r _ _ at refl)
       (λ s1 e f. record { locals = e; globals = subst (HaveTypes x.source.globals) (sym f) match.globals })
       (λ text s1 same. record { now = put regs r (Holds (StrVal text)); is = rw (a.blocks, a.ops) refl; shows = (put_same regs r (Holds (StrVal text)), (text, refl)); kept = kept (Holds (StrVal text)); same = same })
       (λ e s1 same. thrown_now p fn (length b.blocks) (length b.ops + 1) h below x (length b.regs) regs (put regs r Unset) e s1 here (match_kept x b regs (put regs r Unset) s s1 room (λ j lt. kept Unset j (omega arith)) same match) (λ j i lt o. kept Unset j lt))

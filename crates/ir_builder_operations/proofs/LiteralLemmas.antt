@@ -52,7 +52,7 @@ short_twice (negsuc n) z e s = ap (lies_within 63) (e ∙ ap (λ k. neg_ℤ (pos
 pub twice_fits : (n z : ℤ) → z ≡ pos 2 *ℤ n → is_short n ≡ true → LiteralFits rtype.Int (Number z)
 twice_fits n z e s = (ap is_some (halved_twice n z e), short_twice n z e s)
 
-pub short_makes : (b c : Building) (r : ℕ) (n z : ℤ) → z ≡ pos 2 *ℤ n → Adds b c r rtype.Int (Lit record { 0 = r } (Number z)) → Makes b c r rtype.Int (λ regs h. h ≡ Holds (IntVal n))
+pub short_makes : {line : ℕ} (b c : Building) (r : ℕ) (n z : ℤ) → z ≡ pos 2 *ℤ n → Adds b c r rtype.Int (Lit record { 0 = r } (Number z)) line → Makes b c r rtype.Int (λ regs h. h ≡ Holds (IntVal n))
 short_makes b c r n z e a = literal_makes b c r rtype.Int (Number z) (Holds (IntVal n)) a (halved_twice n z e)
 
 fitting_int : (n : ℤ) → SFits w128 n → lies_within 127 n ≡ true
@@ -73,13 +73,13 @@ written_back n w within long =
     ap (λ z. written_int (signed_decimal n) z w) (read_back n within)
     ∙ ap (λ b. cond b (Gives (IntVal n) w) Wrong) (writes_own n within long)
 
-pub decimal_makes : (b c : Building) (r : ℕ) (n : ℤ) (text : List ℕ) → SFits w128 n → is_short n ≡ false → text ≡ signed_decimal n → Adds b c r rtype.Int (Prim (Some record { 0 = r }) (prim.Tagged tagged.FromText) (Text text ∷ [])) → Makes b c r rtype.Int (λ regs h. h ≡ Holds (IntVal n))
+pub decimal_makes : {line : ℕ} (b c : Building) (r : ℕ) (n : ℤ) (text : List ℕ) → SFits w128 n → is_short n ≡ false → text ≡ signed_decimal n → Adds b c r rtype.Int (Prim (Some record { 0 = r }) (prim.Tagged tagged.FromText) (Text text ∷ [])) line → Makes b c r rtype.Int (λ regs h. h ≡ Holds (IntVal n))
 decimal_makes b c r n text fits long is a =
     written_makes b c r rtype.Int (prim.Tagged tagged.FromText) text (IntVal n) a refl
     (λ p w. ap (λ t. written_int t (signed_digits_value 10 t) w) is ∙ written_back n w (fitting_int n fits) long)
 
 -- a text as it is written
-pub text_makes : (b c : Building) (r : ℕ) (text : List ℕ) → Adds b c r rtype.Ref (Prim (Some record { 0 = r }) (prim.Str str.Literal) (Text text ∷ [])) → Makes b c r rtype.Ref (λ regs h. h ≡ Holds (StrVal text))
+pub text_makes : {line : ℕ} (b c : Building) (r : ℕ) (text : List ℕ) → Adds b c r rtype.Ref (Prim (Some record { 0 = r }) (prim.Str str.Literal) (Text text ∷ [])) line → Makes b c r rtype.Ref (λ regs h. h ≡ Holds (StrVal text))
 text_makes b c r text a = written_makes b c r rtype.Ref (prim.Str str.Literal) text (StrVal text) a refl (λ p w. refl)
 
 pub decimal_answers : (regs : Declared) (n : ℤ) (text : List ℕ) → IsUtf8 text → SFits w128 n → is_short n ≡ false → text ≡ signed_decimal n → Answers rtype.Int regs (prim.Tagged tagged.FromText) (Text text ∷ [])
@@ -90,5 +90,5 @@ pub text_answers : (regs : Declared) (text : List ℕ) → IsUtf8 text → Answe
 text_answers regs text u = (refl, (is_utf8-from_IsUtf8 text u, tt))
 
 -- a native integer as it is written
-pub native_makes : (b c : Building) (r : ℕ) (n z : ℤ) → z ≡ n → Adds b c r rtype.I64 (Lit record { 0 = r } (Number z)) → Makes b c r rtype.I64 (λ regs h. h ≡ Holds (IntVal n))
+pub native_makes : {line : ℕ} (b c : Building) (r : ℕ) (n z : ℤ) → z ≡ n → Adds b c r rtype.I64 (Lit record { 0 = r } (Number z)) line → Makes b c r rtype.I64 (λ regs h. h ≡ Holds (IntVal n))
 native_makes b c r n z e a = literal_makes b c r rtype.I64 (Number z) (Holds (IntVal n)) a (ap (λ k. Some (Holds (IntVal k))) e)

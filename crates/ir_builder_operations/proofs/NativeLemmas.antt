@@ -183,7 +183,7 @@ numbers_perform op a b is e f = record {
   does = λ s. arithmetic_is op a b s e f ∙ given_outcome op a b s is;
 }
 
-pub native_attempts : (op : BinOp) (b c : Building) (r x y : ℕ) → is_arithmetic op ≡ true → HasType b x rtype.I64 → HasType b y rtype.I64 → Adds b c r rtype.I64 (Prim (Some record { 0 = r }) (prim.Int64 (native_primitive op)) (Var record { 0 = x } ∷ Var record { 0 = y } ∷ [])) → Attempts (Shows sort.I64) b c r rtype.I64 (ActsOnTwo sort.I64 sort.I64 x y (arithmetic sort.I64 op))
+pub native_attempts : {line : ℕ} (op : BinOp) (b c : Building) (r x y : ℕ) → is_arithmetic op ≡ true → HasType b x rtype.I64 → HasType b y rtype.I64 → Adds b c r rtype.I64 (Prim (Some record { 0 = r }) (prim.Int64 (native_primitive op)) (Var record { 0 = x } ∷ Var record { 0 = y } ∷ [])) line → Attempts (Shows sort.I64) b c r rtype.I64 (ActsOnTwo sort.I64 sort.I64 x y (arithmetic sort.I64 op))
 native_attempts op b c r x y is type_x type_y a =
     two_perform sort.I64 sort.I64 sort.I64 (arithmetic sort.I64 op) b c r x y rtype.I64 rtype.I64 rtype.I64 (prim.Int64 (native_primitive op)) type_x type_y a
     (λ v w k l.
@@ -204,7 +204,7 @@ negation_performs a e = record {
   does = λ s. negated_is a s e;
 }
 
-pub native_negation_attempts : (b c : Building) (r x : ℕ) → HasType b x rtype.I64 → Adds b c r rtype.I64 (Prim (Some record { 0 = r }) (prim.Int64 int64.Negate) (Var record { 0 = x } ∷ [])) → Attempts (Shows sort.I64) b c r rtype.I64 (ActsOn sort.I64 x (negated sort.I64))
+pub native_negation_attempts : {line : ℕ} (b c : Building) (r x : ℕ) → HasType b x rtype.I64 → Adds b c r rtype.I64 (Prim (Some record { 0 = r }) (prim.Int64 int64.Negate) (Var record { 0 = x } ∷ [])) line → Attempts (Shows sort.I64) b c r rtype.I64 (ActsOn sort.I64 x (negated sort.I64))
 native_negation_attempts b c r x type a =
     one_performs sort.I64 sort.I64 (negated sort.I64) b c r x rtype.I64 rtype.I64 (prim.Int64 int64.Negate) type a
     (λ v k. by_i64 (λ v. Performs (Shows sort.I64) (prim.Int64 int64.Negate) (Given v ∷ []) (negated sort.I64 v)) (λ n e. negation_performs n e) v k)

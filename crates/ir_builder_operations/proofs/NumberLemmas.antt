@@ -93,7 +93,7 @@ numbers_perform op a b is e f = record {
   does = λ s. given_outcome op a b s is ∙ int_outcome (given_by op a b) s;
 }
 
-pub arithmetic_attempts : (op : BinOp) (b c : Building) (r x y : ℕ) → is_arithmetic op ≡ true → HasType b x rtype.Int → HasType b y rtype.Int → Adds b c r rtype.Int (Prim (Some record { 0 = r }) (prim.Tagged (int_primitive op)) (Var record { 0 = x } ∷ Var record { 0 = y } ∷ [])) → Attempts (Shows sort.Int) b c r rtype.Int (ActsOnTwo sort.Int sort.Int x y (arithmetic sort.Int op))
+pub arithmetic_attempts : {line : ℕ} (op : BinOp) (b c : Building) (r x y : ℕ) → is_arithmetic op ≡ true → HasType b x rtype.Int → HasType b y rtype.Int → Adds b c r rtype.Int (Prim (Some record { 0 = r }) (prim.Tagged (int_primitive op)) (Var record { 0 = x } ∷ Var record { 0 = y } ∷ [])) line → Attempts (Shows sort.Int) b c r rtype.Int (ActsOnTwo sort.Int sort.Int x y (arithmetic sort.Int op))
 arithmetic_attempts op b c r x y is type_x type_y a =
     two_perform sort.Int sort.Int sort.Int (arithmetic sort.Int op) b c r x y rtype.Int rtype.Int rtype.Int (prim.Tagged (int_primitive op)) type_x type_y a
     (λ v w k l.
@@ -111,7 +111,7 @@ negation_performs a = record {
   does = λ s. int_outcome (int_neg a) s;
 }
 
-pub negation_attempts : (b c : Building) (r x : ℕ) → HasType b x rtype.Int → Adds b c r rtype.Int (Prim (Some record { 0 = r }) (prim.Tagged tagged.Negate) (Var record { 0 = x } ∷ [])) → Attempts (Shows sort.Int) b c r rtype.Int (ActsOn sort.Int x (negated sort.Int))
+pub negation_attempts : {line : ℕ} (b c : Building) (r x : ℕ) → HasType b x rtype.Int → Adds b c r rtype.Int (Prim (Some record { 0 = r }) (prim.Tagged tagged.Negate) (Var record { 0 = x } ∷ [])) line → Attempts (Shows sort.Int) b c r rtype.Int (ActsOn sort.Int x (negated sort.Int))
 negation_attempts b c r x type a =
     one_performs sort.Int sort.Int (negated sort.Int) b c r x rtype.Int rtype.Int (prim.Tagged tagged.Negate) type a
     (λ v k. by_int (λ v. Performs (Shows sort.Int) (prim.Tagged tagged.Negate) (Given v ∷ []) (negated sort.Int v)) (λ n e. negation_performs n) v k)

@@ -38,7 +38,7 @@ pub record Performs (K : Showing) (q : Primitive) (values : List Argument) (go :
 one_argument : (declared : Declared) (regs : Regs) (x : ℕ) (v : Value) → read declared regs (record { 0 = x }) ≡ Some v → arguments declared regs (Var record { 0 = x } ∷ []) ≡ Some (Given v ∷ [])
 one_argument declared regs x v e = rw e refl
 
-pub one_performs : (t u : Sort) (go : Value → Does Value) (b c : Building) (r x : ℕ) (type_r type_x : RType) (q : Primitive) → HasType b x type_x → Adds b c r type_r (Prim (Some record { 0 = r }) q (Var record { 0 = x } ∷ [])) → ((v : Value) → HasKind t v → Performs (Shows u) q (Given v ∷ []) (go v)) → Attempts (Shows u) b c r type_r (ActsOn t x go)
+pub one_performs : {line : ℕ} (t u : Sort) (go : Value → Does Value) (b c : Building) (r x : ℕ) (type_r type_x : RType) (q : Primitive) → HasType b x type_x → Adds b c r type_r (Prim (Some record { 0 = r }) q (Var record { 0 = x } ∷ [])) line → ((v : Value) → HasKind t v → Performs (Shows u) q (Given v ∷ []) (go v)) → Attempts (Shows u) b c r type_r (ActsOn t x go)
 one_performs t u go b c r x type_r type_x q type a by =
     prim_attempts (Shows u) b c r type_r q _ (ActsOn t x go) a
     (λ p fn has regs s res needs.
@@ -53,7 +53,7 @@ one_performs t u go b c r x type_r type_x q type a by =
       does = needs.does ∙ d.does s;
     })
 
-pub two_perform : (t t' u : Sort) (go : Value → Value → Does Value) (b c : Building) (r x y : ℕ) (tr tx ty : RType) (q : Primitive) → HasType b x tx → HasType b y ty → Adds b c r tr (Prim (Some record { 0 = r }) q (Var record { 0 = x } ∷ Var record { 0 = y } ∷ [])) → ((v w : Value) → HasKind t v → HasKind t' w → Performs (Shows u) q (Given v ∷ Given w ∷ []) (go v w)) → Attempts (Shows u) b c r tr (ActsOnTwo t t' x y go)
+pub two_perform : {line : ℕ} (t t' u : Sort) (go : Value → Value → Does Value) (b c : Building) (r x y : ℕ) (tr tx ty : RType) (q : Primitive) → HasType b x tx → HasType b y ty → Adds b c r tr (Prim (Some record { 0 = r }) q (Var record { 0 = x } ∷ Var record { 0 = y } ∷ [])) line → ((v w : Value) → HasKind t v → HasKind t' w → Performs (Shows u) q (Given v ∷ Given w ∷ []) (go v w)) → Attempts (Shows u) b c r tr (ActsOnTwo t t' x y go)
 two_perform t t' u go b c r x y tr tx ty q type_x type_y a by =
     prim_attempts (Shows u) b c r tr q _ (ActsOnTwo t t' x y go) a
     (λ p fn has regs s res needs.
@@ -83,7 +83,7 @@ stays t go b r type is same = record {
 }
 
 -- a value that a primitive makes of a text as it is written
-pub written_makes : (b c : Building) (r : ℕ) (t : RType) (q : Primitive) (text : List ℕ) (v : Value) → Adds b c r t (Prim (Some record { 0 = r }) q (Text text ∷ [])) → failing q ≡ NeverFails → ((p : Program) (w : World) → effect p q (Written (Text text) ∷ []) w ≡ Giving v w) → Makes b c r t (λ regs h. h ≡ Holds v)
+pub written_makes : {line : ℕ} (b c : Building) (r : ℕ) (t : RType) (q : Primitive) (text : List ℕ) (v : Value) → Adds b c r t (Prim (Some record { 0 = r }) q (Text text ∷ [])) line → failing q ≡ NeverFails → ((p : Program) (w : World) → effect p q (Written (Text text) ∷ []) w ≡ Giving v w) → Makes b c r t (λ regs h. h ≡ Holds v)
 written_makes b c r t q text v a never does = record {
   extends = a.extends;
   type = a.type;

@@ -49,7 +49,7 @@ concat_performs a b = record {
   does = λ s. refl;
 }
 
-pub concat_attempts : (b c : Building) (r x y : ℕ) → HasType b x rtype.Ref → HasType b y rtype.Ref → Adds b c r rtype.Ref (Prim (Some record { 0 = r }) (prim.Str str.Concat) (Var record { 0 = x } ∷ Var record { 0 = y } ∷ [])) → Attempts (Shows sort.Str) b c r rtype.Ref (ActsOnTwo sort.Str sort.Str x y joined)
+pub concat_attempts : {line : ℕ} (b c : Building) (r x y : ℕ) → HasType b x rtype.Ref → HasType b y rtype.Ref → Adds b c r rtype.Ref (Prim (Some record { 0 = r }) (prim.Str str.Concat) (Var record { 0 = x } ∷ Var record { 0 = y } ∷ [])) line → Attempts (Shows sort.Str) b c r rtype.Ref (ActsOnTwo sort.Str sort.Str x y joined)
 concat_attempts b c r x y type_x type_y a =
     two_perform sort.Str sort.Str sort.Str joined b c r x y rtype.Ref rtype.Ref rtype.Ref (prim.Str str.Concat) type_x type_y a
     (λ v w k l.
@@ -67,7 +67,7 @@ length_performs t = record {
   does = λ s. ap (λ n. Gives (IntVal (pos n)) s) (sym (counted_is (char_len t)));
 }
 
-pub length_attempts : (b c : Building) (r x : ℕ) → HasType b x rtype.Ref → Adds b c r rtype.Int (Prim (Some record { 0 = r }) (prim.Str str.Len) (Var record { 0 = x } ∷ [])) → Attempts (Shows sort.Int) b c r rtype.Int (ActsOn sort.Str x length_of)
+pub length_attempts : {line : ℕ} (b c : Building) (r x : ℕ) → HasType b x rtype.Ref → Adds b c r rtype.Int (Prim (Some record { 0 = r }) (prim.Str str.Len) (Var record { 0 = x } ∷ [])) line → Attempts (Shows sort.Int) b c r rtype.Int (ActsOn sort.Str x length_of)
 length_attempts b c r x type a =
     one_performs sort.Str sort.Int length_of b c r x rtype.Int rtype.Ref (prim.Str str.Len) type a
     (by_text (λ v. Performs (Shows sort.Int) (prim.Str str.Len) (Given v ∷ []) (length_of v)) length_performs)
@@ -110,7 +110,7 @@ item_performs text i = record {
   does = λ s. ap (λ n. letter_at text (place_of n i) s) (letters_length text) ∙ item_outcome text (place_of (char_len text) i) s (λ k e. place_below (char_len text) i k e);
 }
 
-pub item_attempts : (b c : Building) (r x i : ℕ) → HasType b x rtype.Ref → HasType b i rtype.Int → Adds b c r rtype.Ref (Prim (Some record { 0 = r }) (prim.Str str.GetItem) (Var record { 0 = x } ∷ Var record { 0 = i } ∷ [])) → Attempts (Shows sort.Str) b c r rtype.Ref (ActsOnTwo sort.Str sort.Int x i letter)
+pub item_attempts : {line : ℕ} (b c : Building) (r x i : ℕ) → HasType b x rtype.Ref → HasType b i rtype.Int → Adds b c r rtype.Ref (Prim (Some record { 0 = r }) (prim.Str str.GetItem) (Var record { 0 = x } ∷ Var record { 0 = i } ∷ [])) line → Attempts (Shows sort.Str) b c r rtype.Ref (ActsOnTwo sort.Str sort.Int x i letter)
 item_attempts b c r x i type_x type_i a =
     two_perform sort.Str sort.Int sort.Str letter b c r x i rtype.Ref rtype.Ref rtype.Int (prim.Str str.GetItem) type_x type_i a
     (λ v w k l.
@@ -149,7 +149,7 @@ writes =
     (by_i64 (λ v. Performs (Shows sort.Str) (prim.Int64 int64.Str) (Given v ∷ []) (written v)) (λ n e. native_written n))
     (by_bool (λ v. Performs (Shows sort.Str) (prim.Bool bool.Str) (Given v ∷ []) (written v)) flag_written)
 
-pub text_attempts : (t : Sort) (q : Primitive) (b c : Building) (r x : ℕ) → text_primitive t ≡ Some q → HasType b x (rtype_of t) → Adds b c r rtype.Ref (Prim (Some record { 0 = r }) q (Var record { 0 = x } ∷ [])) → Attempts (Shows sort.Str) b c r rtype.Ref (ActsOn t x (λ v. give (StrVal (text_of v))))
+pub text_attempts : {line : ℕ} (t : Sort) (q : Primitive) (b c : Building) (r x : ℕ) → text_primitive t ≡ Some q → HasType b x (rtype_of t) → Adds b c r rtype.Ref (Prim (Some record { 0 = r }) q (Var record { 0 = x } ∷ [])) line → Attempts (Shows sort.Str) b c r rtype.Ref (ActsOn t x (λ v. give (StrVal (text_of v))))
 text_attempts t q b c r x is type a = one_performs t sort.Str written b c r x rtype.Ref (rtype_of t) q type a (writes t q is)
 
 pub text_answers : (t : Sort) (q : Primitive) → text_primitive t ≡ Some q → (regs : Declared) (x : Reg) → type_of_reg regs x ≡ Some (rtype_of t) → Answers rtype.Ref regs q (Var x ∷ [])

@@ -26,7 +26,7 @@ pub fn emit_one(
     requires result { IsTrue (is_target_of (row_of primitive).outcome (Some record { 0 = 0 })) }
     requires below { x.0 < length b.old.regs }
     ensures kept { Extends b.old b.new }
-    ensures added { IfOk result (λ r. Adds b.old b.new r.0 t (Op.Prim (Some r) primitive (PArg.Var x ∷ []))) }
+    ensures added { IfOk result (λ r. Adds b.old b.new r.0 t (Op.Prim (Some r) primitive (PArg.Var x ∷ [])) line) }
     ensures shaped { Keeps b.old b.new }
     ensures kinds { KeepsKindsIf (λ g. Answers t b.old.regs primitive (PArg.Var x ∷ [])) b.old b.new }
 {
@@ -49,7 +49,7 @@ pub fn emit_two(
     requires left { x.0 < length b.old.regs }
     requires right { y.0 < length b.old.regs }
     ensures kept { Extends b.old b.new }
-    ensures added { IfOk result (λ r. Adds b.old b.new r.0 t (Op.Prim (Some r) primitive (PArg.Var x ∷ PArg.Var y ∷ []))) }
+    ensures added { IfOk result (λ r. Adds b.old b.new r.0 t (Op.Prim (Some r) primitive (PArg.Var x ∷ PArg.Var y ∷ [])) line) }
     ensures shaped { Keeps b.old b.new }
     ensures kinds { KeepsKindsIf (λ g. Answers t b.old.regs primitive (PArg.Var x ∷ PArg.Var y ∷ [])) b.old b.new }
 {
@@ -70,7 +70,7 @@ pub fn emit_written(
 ) -> Result<Reg, Memory>
     requires result { IsTrue (is_target_of (row_of primitive).outcome (Some record { 0 = 0 })) }
     ensures kept { Extends b.old b.new }
-    ensures added { IfOk result (λ r. Adds b.old b.new r.0 t (Op.Prim (Some r) primitive (PArg.Text text.now ∷ []))) }
+    ensures added { IfOk result (λ r. Adds b.old b.new r.0 t (Op.Prim (Some r) primitive (PArg.Text text.now ∷ [])) line) }
     ensures shaped { Keeps b.old b.new }
     ensures kinds { KeepsKindsIf (λ g. Answers t b.old.regs primitive (PArg.Text text.now ∷ [])) b.old b.new }
 {

@@ -55,7 +55,7 @@ module _ (own : Func) where
   funcs_fit [] each last = (last, tt)
   funcs_fit (f ∷ fs) each last = (each 0 f refl, funcs_fit fs (λ n g e. each (suc n) g e) last)
 
-  pub turns_begin : (fs : List Func) → ((n : ℕ) (f : Func) → slice_get fs n ≡ Some f → item_in f.blocks 0 0 ≡ Some (Do Turn)) → BeginsInTurn (fs ++ own ∷ [])
+  pub turns_begin : (fs : List Func) → ((n : ℕ) (f : Func) → slice_get fs n ≡ Some f → (line : ℕ) × (item_in f.blocks 0 0 ≡ Some (Do Turn line))) → BeginsInTurn (fs ++ own ∷ [])
   turns_begin [] each = tt
   turns_begin (f ∷ []) each = (each 0 f refl, tt)
   turns_begin (f ∷ g ∷ fs) each = (each 0 f refl, turns_begin (g ∷ fs) (λ n h e. each (suc n) h e))

@@ -46,15 +46,15 @@ spelled_more g (h ∷ gs) one more = and_from (spelled_function g) (spelled_func
 
 module _ (p : Program) where
   -- ---- a function that begins with a turn
-  first_turn : (ops : List (Op × ℕ)) (last : Last) (rest more : List Line) → in_block ops last 0 ≡ Some (Do Turn) → slice_get ((op_lines p ops ++ rest) ++ more) 0 ≡ Some line.Turn
-  first_turn [] last rest more e = let f : Some (End last) ≡ Some (Do Turn) = e in absurd (cc)
-  first_turn (o ∷ os) last rest more e =
-      let f : Some (Do o.0) ≡ Some (Do Turn) = e in
+  first_turn : {source : ℕ} (ops : List (Op × ℕ)) (last : Last) (rest more : List Line) → in_block ops last 0 ≡ Some (Do Turn source) → slice_get ((op_lines p ops ++ rest) ++ more) 0 ≡ Some line.Turn
+  first_turn {source} [] last rest more e = let f : Some (End last) ≡ Some (Do Turn source) = e in absurd (cc)
+  first_turn {source} (o ∷ os) last rest more e =
+      let f : Some (Do o.0 o.1) ≡ Some (Do Turn source) = e in
       let same : o.0 ≡ Turn = cc in
       ap (λ x. Some (line_of p x)) same
 
-  turn_first : (bs : List Block) → item_in bs 0 0 ≡ Some (Do Turn) → slice_get (lines_from p 0 bs) 0 ≡ Some line.Turn
-  turn_first [] e = let f : None ≡ Some (Do Turn) = e in absurd (cc)
+  turn_first : {source : ℕ} (bs : List Block) → item_in bs 0 0 ≡ Some (Do Turn source) → slice_get (lines_from p 0 bs) 0 ≡ Some line.Turn
+  turn_first {source} [] e = let f : None ≡ Some (Do Turn source) = e in absurd (cc)
   turn_first (b ∷ bs) e = first_turn b.ops b.last (end_lines label_of 0 b.last) (lines_from p 1 bs) e
 
   module _ (is : IsProgram p) where
@@ -151,7 +151,7 @@ module _ (p : Program) where
     fits_one : (n : ℕ) (f : Func) → IsFunction heads p.globals f → function_fits (lower p) (lowered_as p (name_in p n f) f) ≡ true
     fits_one n f b =
         let name : List ℕ = name_in p n f in
-        fits f b.built name (or_right (bytes_eq name []) (is_turn_at (slice_get (lines_from p 0 f.blocks) 0)) (ap is_turn_at (turn_first f.blocks b.turn)))
+        fits f b.built name (or_right (bytes_eq name []) (is_turn_at (slice_get (lines_from p 0 f.blocks) 0)) (ap is_turn_at (turn_first f.blocks b.turn.1)))
 
     spelled_own : (n : ℕ) → suc n ≡ length p.funcs → spelled_top (lowered_as p (name_in p n own) own) ≡ true
     spelled_own n e =

@@ -41,7 +41,7 @@ pub record IsBuilt (heads : List FunctionType) (globals : Declared) (f : Func) :
 -- a function of the module begins with a turn
 pub record IsFunction (heads : List FunctionType) (globals : Declared) (f : Func) : Type 0 where
   pub built : IsBuilt heads globals f
-  pub turn : item_in f.blocks 0 0 ≡ Some (Do Turn)
+  pub turn : (line : ℕ) × (item_in f.blocks 0 0 ≡ Some (Do Turn line))
   pub name : is_identifier f.name ≡ true
 
 pub record IsOwn (heads : List FunctionType) (globals : Declared) (f : Func) : Type 0 where

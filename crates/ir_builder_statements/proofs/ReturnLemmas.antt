@@ -1,5 +1,5 @@
 -- A return does in its code what it means.
-use Rattle.std.proofs.Common.{◌≡◌, [], Option, Some, None, refl, sym, subst}
+use Rattle.std.proofs.Common.{◌≡◌, ℕ, [], Option, Some, None, refl, sym, subst}
 use Rattle.value_core.specs.Value.{NoneVal}
 use Rattle.py_typed.specs.Sorts as sort
 use Rattle.py_typed.specs.Sorts.{Sort}
@@ -25,7 +25,7 @@ use Rattle.ir_builder_loops_and_jumps.specs.Runs.{Works}
 use Rattle.ir_builder_loops_and_jumps.proofs.SimpleLemmas.{leaves_none, return_works}
 use Rattle.ir_builder_statements.specs.Parts.{ComputesReturned}
 
-pub none_returned : (x : Setting) (o : Option TExpr) (b c : Building) (r : Reg) → o ≡ None → Adds b c r.0 Ref (Lit r PyNone) → ComputesReturned x (maybe_typed o) b c r.0
+pub none_returned : {line : ℕ} (x : Setting) (o : Option TExpr) (b c : Building) (r : Reg) → o ≡ None → Adds b c r.0 Ref (Lit r PyNone) line → ComputesReturned x (maybe_typed o) b c r.0
 none_returned x o b c r is a =
     let P : Option TExpr → Type 0 = λ z. ComputesReturned x (maybe_typed z) b c r.0 in
     subst P (sym is)

@@ -38,14 +38,14 @@ sets_by x target r t u b c e h = let P : Sort → Type 0 = λ z. Sets x target z
 
 -- ---- a variable of the function is set
 
-pub parameter_sets : (frame : Frame) (k : ℕ) (r : Reg) (b c : Building) → k < frame.locals.params → Pushes b c (Move record { 0 = k } r) → SetsLocal frame k r.0 b c
+pub parameter_sets : {line : ℕ} (frame : Frame) (k : ℕ) (r : Reg) (b c : Building) → k < frame.locals.params → Pushes b c (Move record { 0 = k } r) line → SetsLocal frame k r.0 b c
 parameter_sets frame k r b c low q x v is room at type =
     param_set x k r.0 v b c room at (subst (λ (f : Frame). k < f.locals.params) (sym is) low) type q
 
-pub variable_sets : (frame : Frame) (k : ℕ) (r flag : Reg) (b c d : Building) → frame.locals.params ≤ k → flag.0 ≡ flag_of frame.locals k → Pushes b c (Move record { 0 = k } r) → Pushes c d (Lit flag (Number (pos 1))) → SetsLocal frame k r.0 b d
-variable_sets frame k r flag b c d other flag_is q q' x v is room at type =
+pub variable_sets : {line : ℕ} (frame : Frame) (k : ℕ) (r flag : Reg) (b c d : Building) → frame.locals.params ≤ k → flag.0 ≡ flag_of frame.locals k → Pushes b c (Move record { 0 = k } r) line → Pushes c d (Lit flag (Number (pos 1))) line → SetsLocal frame k r.0 b d
+variable_sets {line} frame k r flag b c d other flag_is q q' x v is room at type =
     let here : flag.0 ≡ flag_of x.frame.locals k = flag_is ∙ ap (λ (f : Frame). flag_of f.locals k) (sym is) in
-    other_set x k r.0 v b c d room at (subst (λ (f : Frame). f.locals.params ≤ k) (sym is) other) type q (subst (λ n. Pushes c d (Lit (record { 0 = n }) (Number (pos 1)))) here q')
+    other_set x k r.0 v b c d room at (subst (λ (f : Frame). f.locals.params ≤ k) (sym is) other) type q (subst (λ n. Pushes c d (Lit (record { 0 = n }) (Number (pos 1))) line) here q')
 
 pub flag_kinds : (g : Surrounding) (b c : Building) (frame : Frame) (k : ℕ) (flag : Reg) → HasFlag frame k b → frame.locals.params ≤ k → flag.0 ≡ flag_of frame.locals k → Extends b c → OpKinds g c.regs (Lit flag (Number (pos 1)))
 flag_kinds g b c frame k flag has other is more =
@@ -79,11 +79,11 @@ declared_name vs i d v at is = ap (λ (z : Variable). z.0) (declared_variable vs
 abbrev pub stored : List ℕ → Reg → List PArg
 stored name r = arg.Global name ∷ arg.Var r ∷ []
 
-pub global_sets : (m : TypedModule) (vs : List Var) (i : ℕ) (d : Var) (r : Reg) (args : List PArg) (b c : Building) → m.globals ≡ map variable vs → d ≡ get_or vs i d → args ≡ stored d.name r → Pushes b c (Prim None (prim.Global global.Set) args) → SetsGlobal m i r.0 b c
-global_sets m vs i d r args b c all is args_are q x v same at type =
+pub global_sets : {line : ℕ} (m : TypedModule) (vs : List Var) (i : ℕ) (d : Var) (r : Reg) (args : List PArg) (b c : Building) → m.globals ≡ map variable vs → d ≡ get_or vs i d → args ≡ stored d.name r → Pushes b c (Prim None (prim.Global global.Set) args) line → SetsGlobal m i r.0 b c
+global_sets {line} m vs i d r args b c all is args_are q x v same at type =
     let at' : slice_get (map variable vs) i ≡ Some v = ap (λ l. slice_get l i) (sym all) ∙ at in
     let named : v.0 ≡ d.name = declared_name vs i d v at' is in
-    global_set x i r.0 v b c (ap (λ (z : TypedModule). slice_get z.globals i) same ∙ at) type (subst (λ l. Pushes b c (Prim None (prim.Global global.Set) l)) (args_are ∙ ap (λ name. stored name r) (sym named)) q)
+    global_set x i r.0 v b c (ap (λ (z : TypedModule). slice_get z.globals i) same ∙ at) type (subst (λ l. Pushes b c (Prim None (prim.Global global.Set) l) line) (args_are ∙ ap (λ name. stored name r) (sym named)) q)
 
 pub global_fits : (m : TypedModule) (g : Surrounding) (vs : List Var) (i : ℕ) (d : Var) (r : Reg) (args : List PArg) (b : Building) → m.globals ≡ map variable vs → d ≡ get_or vs i d → args ≡ stored d.name r → IsAmong m g → TakesGlobal m i r.0 b → WritesGlobal g b.regs (prim.Global global.Set) args
 global_fits m g vs i d r args b all is args_are among takes =

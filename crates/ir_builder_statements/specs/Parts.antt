@@ -135,7 +135,8 @@ pub record EndsLoop (old new : Building) (head : ℕ) (t : Test) (inner before a
   pub here : next ≡ length left_body.blocks
   pub leaves : Closes old left_body (Goto next)
   pub turned : Building
-  pub turns : Pushes left_body turned Turn
+  pub line : ℕ
+  pub turns : Pushes left_body turned Turn line
   pub closed : Building
   pub closes : Closes turned closed (Goto head)
   pub exit : ℕ

@@ -204,7 +204,7 @@ module _ (p : Program) where
 
   act_same : (o : Option Item) (f : Frame) (below : List Waiting) (w : World) → act Fitting q o f below w ≡ act Fitting p o f below w
   act_same None f below w = refl
-  act_same (Some (Do o)) f below w = op_same o f below w
+  act_same (Some (Do o line)) f below w = op_same o f below w
   act_same (Some (End l)) f below w = last_same l f below w
 
   step_same : (c : Config) → step Fitting q c ≡ step Fitting p c
@@ -283,7 +283,7 @@ module _ (p : Program) where
   turns_begin : (fs : List Func) → BeginsInTurn fs → BeginsInTurn (map bare fs)
   turns_begin [] h = tt
   turns_begin (f ∷ []) h = tt
-  turns_begin (f ∷ g ∷ fs) h = (items_bare f.blocks 0 0 ∙ h.0, turns_begin (g ∷ fs) h.1)
+  turns_begin (f ∷ g ∷ fs) h = ((h.0.0, items_bare f.blocks 0 0 ∙ h.0.1), turns_begin (g ∷ fs) h.1)
 
   still_shaped : Shape p → Shape q
   still_shaped h = record {

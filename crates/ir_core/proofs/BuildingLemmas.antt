@@ -15,7 +15,7 @@ module _ (o : Op × ℕ) where
   open_more (q ∷ os) zero x e = e
   open_more (q ∷ os) (suc i) x e = open_more os i x e
 
-  open_last : (os : List (Op × ℕ)) → in_open (os ++ o ∷ []) (length os) ≡ Some (Do o.0)
+  open_last : (os : List (Op × ℕ)) → in_open (os ++ o ∷ []) (length os) ≡ Some (Do o.0 o.1)
   open_last [] = refl
   open_last (q ∷ os) = open_last os
 
@@ -25,7 +25,7 @@ module _ (o : Op × ℕ) where
   held_more (b ∷ bs) os zero i x e = e
   held_more (b ∷ bs) os (suc k) i x e = held_more bs os k i x e
 
-  held_last : (bs : List Block) (os : List (Op × ℕ)) → held_in bs (os ++ o ∷ []) (length bs) (length os) ≡ Some (Do o.0)
+  held_last : (bs : List Block) (os : List (Op × ℕ)) → held_in bs (os ++ o ∷ []) (length bs) (length os) ≡ Some (Do o.0 o.1)
   held_last [] os = open_last os
   held_last (b ∷ bs) os = held_last bs os
 

@@ -14,4 +14,4 @@ never (Some flag) = refl
 pub no_second_test : (ops : List (Op × ℕ)) (last : Last) (n : ℕ) → (length ops ≡ 1 → ⊥) → false ≡ is_second_test (in_block ops last 0) (in_block ops last 1) n
 no_second_test [] last n h = refl
 no_second_test (o ∷ []) last n h = absurd (h refl)
-no_second_test (o ∷ p ∷ os) last n h = sym (never (question (Some (Do o.0))))
+no_second_test (o ∷ p ∷ os) last n h = sym (never (question (Some (Do o.0 o.1))))

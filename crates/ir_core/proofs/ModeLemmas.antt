@@ -102,7 +102,7 @@ module _ (m k : Mode) (stricter : IsStricter m k) (p : Program) where
 
   agree_act : (o : Option Item) (f : Frame) (below : List Waiting) (w : World) → Agrees (act m p o f below w) (act k p o f below w)
   agree_act None f below w = same _
-  agree_act (Some (Do o)) f below w = agree_op o f below w
+  agree_act (Some (Do o line)) f below w = agree_op o f below w
   agree_act (Some (End l)) f below w = agree_last l f below w
 
   agree_step : (c : Config) → Agrees (step m p c) (step k p c)

@@ -18,7 +18,7 @@ last_of last (Some l) = l.last
 
 abbrev Begins : List (Op × ℕ) → Last → ℕ → Op × ℕ → List (Op × ℕ) → Last → Type 0
 Begins ops end i o os last =
-    (in_block ops end i ≡ Some (Do o.0)) × (left_from ops end (suc i) ≡ Some (left os last))
+    (in_block ops end i ≡ Some (Do o.0 o.1)) × (left_from ops end (suc i) ≡ Some (left os last))
 
 goes_on : (ops : List (Op × ℕ)) (end : Last) (i : ℕ) (o : Op × ℕ) (os : List (Op × ℕ)) (last : Last) → left_from ops end i ≡ Some (left (o ∷ os) last) → Begins ops end i o os last
 goes_on [] end zero o os last e = let f : [] ≡ o ∷ os = ap ops_of e in absurd (cc)
@@ -28,7 +28,7 @@ goes_on (q ∷ qs) end zero o os last e =
     let first : q ≡ o = cc in
     let rest : qs ≡ os = cc in
     let same : end ≡ last = ap (last_of last) e in
-    (ap (λ (x : Op × ℕ). Some (Do x.0)) first, ap (λ x. Some (left x end)) rest ∙ ap (λ x. Some (left os x)) same)
+    (ap (λ (x : Op × ℕ). Some (Do x.0 x.1)) first, ap (λ x. Some (left x end)) rest ∙ ap (λ x. Some (left os x)) same)
 goes_on (q ∷ qs) end (suc i) o os last e = goes_on qs end i o os last e
 
 ends : (ops : List (Op × ℕ)) (end : Last) (i : ℕ) (last : Last) → left_from ops end i ≡ Some (left [] last) → in_block ops end i ≡ Some (End last)
@@ -37,7 +37,7 @@ ends [] end (suc i) last e = let f : None ≡ Some (left [] last) = e in absurd 
 ends (q ∷ qs) end zero last e = let f : q ∷ qs ≡ [] = ap ops_of e in absurd (cc)
 ends (q ∷ qs) end (suc i) last e = ends qs end i last e
 
-pub left_goes_on : (b : Option Block) (i : ℕ) (o : Op × ℕ) (os : List (Op × ℕ)) (last : Last) → left_of b i ≡ Some (left (o ∷ os) last) → (item_of b i ≡ Some (Do o.0)) × (left_of b (i + 1) ≡ Some (left os last))
+pub left_goes_on : (b : Option Block) (i : ℕ) (o : Op × ℕ) (os : List (Op × ℕ)) (last : Last) → left_of b i ≡ Some (left (o ∷ os) last) → (item_of b i ≡ Some (Do o.0 o.1)) × (left_of b (i + 1) ≡ Some (left os last))
 left_goes_on None i o os last e = let f : [] ≡ o ∷ os = ap ops_of e in absurd (cc)
 left_goes_on (Some b) i o os last e =
     let h = goes_on b.ops b.last i o os last e in

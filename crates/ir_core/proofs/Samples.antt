@@ -647,7 +647,7 @@ uncounted_is_well_formed = refl
 
 uncounted_has_shape : Shape uncounted
 uncounted_has_shape =
-    record { funcs = (sum_fits, (uncounted_fits, tt)); turns = (refl, tt); lowered = uncounted_is_well_formed }
+    record { funcs = (sum_fits, (uncounted_fits, tt)); turns = ((1, refl), tt); lowered = uncounted_is_well_formed }
 
 counting_does_not_fit : op_fits (Dec (reg 3)) ≡ false
 counting_does_not_fit = refl

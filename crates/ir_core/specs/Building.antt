@@ -44,7 +44,7 @@ is_open_at blocks n = option_map_or (λ (b : Block). is_unwritten b.last) (slice
 -- the item at a place of the block that is being filled
 abbrev pub in_open : List (Op × ℕ) → ℕ → Option Item
 in_open [] i = None
-in_open (o ∷ os) zero = Some (Do o.0)
+in_open (o ∷ os) zero = Some (Do o.0 o.1)
 in_open (o ∷ os) (suc i) = in_open os i
 
 -- the item at a block and place, as far as it stands

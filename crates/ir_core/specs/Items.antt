@@ -1,5 +1,5 @@
--- What stands at each place of a program: place i of a block is its operation of that number, and the place behind the last
--- operation is the block's end.
+-- What stands at each place of a program: place i of a block is its operation of that number, with its source line, and the place
+-- behind the last operation is the block's end.
 use Rattle.std.specs.Prelude.{ℕ, zero, suc, List, [], ◌∷◌, Option, Some, None, slice_get}
 use Rattle.std.specs.Option.{option_and_then}
 use Rattle.ir_core.specs.declared.code.Op.{Op}
@@ -8,14 +8,14 @@ use Rattle.ir_core.specs.declared.code.Block.{Block}
 use Rattle.ir_core.specs.declared.code.Func.{Func}
 
 pub data Item : Type 0 where
-  Do : (o : Op) → Item
+  Do : (o : Op) (line : ℕ) → Item
   End : (l : Last) → Item
 
 -- the item at a place of operations, with their lines, and an end
 abbrev pub in_block : List (Op × ℕ) → Last → ℕ → Option Item
 in_block [] last zero = Some (End last)
 in_block [] last (suc i) = None
-in_block (o ∷ os) last zero = Some (Do o.0)
+in_block (o ∷ os) last zero = Some (Do o.0 o.1)
 in_block (o ∷ os) last (suc i) = in_block os last i
 
 abbrev pub item_of : Option Block → ℕ → Option Item

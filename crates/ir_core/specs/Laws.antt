@@ -30,7 +30,7 @@ pub record CallsExtend : Type 0 where
   pub adding : (b : Building) (name : List ℕ) (t : RType) → Extends b (added b name t)
   pub pushing : (b : Building) (o : Op × ℕ) → Extends b (pushed b o)
   pub closing : (b : Building) (last : Last) → Extends b (closed b last)
-  pub operation : (b : Building) (o : Op × ℕ) → held (pushed b o) (length b.blocks) (length b.ops) ≡ Some (Do o.0)
+  pub operation : (b : Building) (o : Op × ℕ) → held (pushed b o) (length b.blocks) (length b.ops) ≡ Some (Do o.0 o.1)
   pub end : (b : Building) (last : Last) → held (closed b last) (length b.blocks) (length b.ops) ≡ Some (End last)
   pub composes : (a b c : Building) → Extends a b → Extends b c → Extends a c
 
@@ -64,7 +64,7 @@ EndsAreOne =
 -- what is left of a block begins with the item at that place, and goes on with what is left at the next one
 abbrev pub LeftGoesOn : Type 0
 LeftGoesOn =
-    (p : Program) (fn k i : ℕ) (o : Op × ℕ) (os : List (Op × ℕ)) (last : Last) → left_at p fn k i ≡ Some (record { ops = o ∷ os; last = last }) → (item_at p fn k i ≡ Some (Do o.0)) × (left_at p fn k (i + 1) ≡ Some (record { ops = os; last = last }))
+    (p : Program) (fn k i : ℕ) (o : Op × ℕ) (os : List (Op × ℕ)) (last : Last) → left_at p fn k i ≡ Some (record { ops = o ∷ os; last = last }) → (item_at p fn k i ≡ Some (Do o.0 o.1)) × (left_at p fn k (i + 1) ≡ Some (record { ops = os; last = last }))
 
 abbrev pub LeftEnds : Type 0
 LeftEnds =

@@ -178,9 +178,13 @@ ended Wrongly h w = Stuck
 
 -- ---- failures
 
--- the register that the answer goes into where an item asks whether an exception is pending
+-- the register that the answer goes into where an operation, or an item, asks whether an exception is pending
+abbrev pub question_of : Op → Option Reg
+question_of (Prim (Some flag) (prim.Err err.Occurred) []) = Some flag
+question_of _ = None
+
 abbrev pub question : Option Item → Option Reg
-question (Some (Do (Prim (Some flag) (prim.Err err.Occurred) []))) = Some flag
+question (Some (Do o line)) = question_of o
 question _ = None
 
 -- whether an item tests that answer, and goes on at a block where there is none
@@ -379,7 +383,7 @@ module _ (mode : Mode) (p : Program) where
 
   abbrev pub act : Option Item → Frame → List Waiting → World → Config
   act None f below w = Stuck
-  act (Some (Do o)) f below w = do_op o f below w
+  act (Some (Do o line)) f below w = do_op o f below w
   act (Some (End l)) f below w = do_last l f below w
 
   abbrev pub step : Config → Config

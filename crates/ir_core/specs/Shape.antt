@@ -96,7 +96,7 @@ FuncFits f = BlocksFit (length f.blocks) 0 f.blocks
 abbrev pub BeginsInTurn : List Func → Type 0
 BeginsInTurn [] = Unit {0}
 BeginsInTurn (f ∷ []) = Unit {0}
-BeginsInTurn (f ∷ g ∷ fs) = (item_in f.blocks 0 0 ≡ Some (Do Turn)) × BeginsInTurn (g ∷ fs)
+BeginsInTurn (f ∷ g ∷ fs) = ((line : ℕ) × (item_in f.blocks 0 0 ≡ Some (Do Turn line))) × BeginsInTurn (g ∷ fs)
 
 abbrev pub FuncsFit : List Func → Type 0
 FuncsFit [] = Unit {0}

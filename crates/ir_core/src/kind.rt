@@ -1,6 +1,6 @@
 //! How an operation tells that it failed, and what wants to stand behind it.
 ghost use Rattle.std.specs.Prelude.{◌≡◌, Some};
-ghost use Rattle.ir_core.specs.Items.{Do, End, in_block, item_in};
+ghost use Rattle.ir_core.specs.Items.{End, in_block, item_in};
 ghost use Rattle.ir_core.specs.Rows.{error_kind, kind_by_result, edge_of_kind, type_of_reg, edge_of_op};
 ghost use Rattle.ir_core.specs.Meaning as spec;
 
@@ -98,7 +98,7 @@ pub fn edge_of(regs: &[(Name, RType)], op: &Op) -> Edge
 
 /// The register that the answer goes into where an operation asks whether an exception is pending.
 fn question(op: &Op) -> Option<Reg>
-    ensures { result ≡ spec.question (Some (Do op.now)) }
+    ensures { result ≡ spec.question_of op.now }
 {
     match op {
         Op::Prim(Some(flag), Prim::Err(ErrPrim::Occurred), args) if args.is_empty() => Some(*flag),

@@ -28,12 +28,12 @@ left ops last = record { ops = ops; last = last }
 
 left_item : (b : Block) (i : ℕ) (ops : List (Op × ℕ)) (last : Last) → left_from b.ops b.last i ≡ Some (left ops last) → (x : Item) × (in_block b.ops b.last i ≡ Some x)
 left_item b i [] last e = (End last, left_ends (Some b) i last e)
-left_item b i (o ∷ os) last e = (Do o.0, (left_goes_on (Some b) i o os last e).0)
+left_item b i (o ∷ os) last e = (Do o.0 o.1, (left_goes_on (Some b) i o os last e).0)
 
 pub first_item : (b : Block) → (x : Item) × (in_block b.ops b.last 0 ≡ Some x)
 first_item b = left_item b 0 b.ops b.last refl
 
-item_behind : (xs : List (Op × ℕ)) (o : Op × ℕ) (last : Last) → in_block (xs ++ (o ∷ [])) last (length xs) ≡ Some (Do o.0)
+item_behind : (xs : List (Op × ℕ)) (o : Op × ℕ) (last : Last) → in_block (xs ++ (o ∷ [])) last (length xs) ≡ Some (Do o.0 o.1)
 item_behind [] o last = refl
 item_behind (x ∷ xs) o last = item_behind xs o last
 
@@ -83,7 +83,7 @@ module _ (f : Func) (t : Tables f) (number : ℕ → ℕ) (k : ℕ) where
   abbrev counted : ℕ → Bool
   counted = counts_register f.regs
 
-  group_form : (i : ℕ) (o : Op × ℕ) → item_in f.blocks k i ≡ Some (Do o.0) → (x : Item) → item_in f.blocks k (suc i) ≡ Some x → (group : List (Op × ℕ)) → IsGroup counted o (owned f t k i) (owned f t k (suc i)) group → (rest : List (Op × ℕ)) → Group f k i o (group ++ rest) rest
+  group_form : (i : ℕ) (o : Op × ℕ) → item_in f.blocks k i ≡ Some (Do o.0 o.1) → (x : Item) → item_in f.blocks k (suc i) ≡ Some x → (group : List (Op × ℕ)) → IsGroup counted o (owned f t k i) (owned f t k (suc i)) group → (rest : List (Op × ℕ)) → Group f k i o (group ++ rest) rest
   group_form i o here x there group g rest =
       record {
         before = ups g.up o.1;
@@ -111,7 +111,7 @@ module _ (f : Func) (t : Tables f) (number : ℕ → ℕ) (k : ℕ) where
         let parts : gs.0 ++ (gs.1 ++ end) ≡ groups ++ end = sym (ap (λ z. z ++ end) gs.2 ∙ append_assoc gs.0 gs.1 end) in
         let far : i + length (o ∷ os) ≡ suc i + length os = omega arith in (
           gs.1 ++ end,
-          subst (λ z. Group f k i o z (gs.1 ++ end)) parts (group_form i o (item_here i (Do o.0) goes.0) next.0 (item_here (suc i) next.0 next.1) gs.0 group (gs.1 ++ end)),
+          subst (λ z. Group f k i o z (gs.1 ++ end)) parts (group_form i o (item_here i (Do o.0 o.1) goes.0) next.0 (item_here (suc i) next.0 next.1) gs.0 group (gs.1 ++ end)),
           groups_form os tail (suc i) (λ j. at (suc j)) (λ j. let e : i + suc j ≡ suc i + j = omega arith in same (suc j) ∙ ap (owned f t k) e) more gs.1 gs.4 end (subst (λ z. Form f k z tail end) far form),
         )
 
@@ -163,7 +163,7 @@ module _ (f : Func) (t : Tables f) (number : ℕ → ℕ) (k : ℕ) where
         let size : end_place ≡ suc (length before) = ap length all.4 ∙ size_behind before turn in
         let far : length before ≡ 0 + length before = omega arith in
         let is_last : is_turn turn.0 ≡ true = sym (ap ends_in_turn all.4 ∙ turn_behind before turn) ∙ turns in
-        let at_turn : item_in f.blocks k (length before) ≡ Some (Do turn.0) = item_here (length before) (Do turn.0) (ap (λ z. in_block z b.last (length before)) all.4 ∙ item_behind before turn b.last) in
+        let at_turn : item_in f.blocks k (length before) ≡ Some (Do turn.0 turn.1) = item_here (length before) (Do turn.0 turn.1) (ap (λ z. in_block z b.last (length before)) all.4 ∙ item_behind before turn b.last) in
         let counts : AreCounts f.regs (λ r. BorrowedAt f r k end_place) all.3 = edge_counts (Goto c) is 0 c refl lt (owned f t k end_place) (λ r lt. lt) (λ r lt. lt) all.3 all.7 in
         let earlier : AreCounts f.regs (Before f k turn.0 (length before)) all.3 = counts_by f.regs (λ r. BorrowedAt f r k end_place) (Before f k turn.0 (length before)) all.3 (λ r cells lent. inr (borrowed_before f k (length before) turn.0 at_turn r (turn_writes turn.0 r is_last) (subst (BorrowedAt f r k) size lent))) counts in
         let tail : Form f k (length before) (turn ∷ []) (all.3 ++ (turn ∷ [])) = ([], record { before = all.3; after = []; is = refl; before_count = earlier; after_count = tt }, tt) in

@@ -65,7 +65,7 @@ module _ (f : Func) (t : Tables f) where
     only_lent live none =
         lends (none_lent (counted r) (t.live b p r) (t.lent b p r) yes (is_live live) none)
 
-  module _ (b p : ℕ) (o : Op) (here : item_in f.blocks b p ≡ Some (Do o)) (i : Item) (there : item_in f.blocks b (suc p) ≡ Some i) (r : ℕ) where
+  module _ (b p : ℕ) (o : Op) {line : ℕ} (here : item_in f.blocks b p ≡ Some (Do o line)) (i : Item) (there : item_in f.blocks b (suc p) ≡ Some i) (r : ℕ) where
     abbrev have : ℕ
     have = owned f t b p r
 
@@ -91,7 +91,7 @@ module _ (f : Func) (t : Tables f) where
             let h = short_of (counted r) (is_target (write_of o) r) (takes o r) have want some none in
             let all = one_all (counted r) (t.live b (suc p) r) (t.lent b (suc p) r) (omega (arith, h.1)) in
             let live : LiveAt f r b p = live_before f b p o here r h.0 (lives b (suc p) i there r yes all.1) in
-            let lent : BorrowedAt f r b p = only_lent b p (Do o) here r yes live (omega (arith, h.1, want_most)) in
+            let lent : BorrowedAt f r b p = only_lent b p (Do o line) here r yes live (omega (arith, h.1, want_most)) in
             let bad : t.lent b (suc p) r ≡ true = is_lent b (suc p) i there r yes (borrowed_next f b p o here r h.0 lent) in
             absurd (cc)
 
@@ -111,9 +111,9 @@ module _ (f : Func) (t : Tables f) where
             none_taken none =
                 let lt : want < have = over_of (counted r) (is_target (write_of o) r) (gives o want) (takes o r) have want some calm none in
                 let all = one_all (counted r) (t.live b p r) (t.lent b p r) (omega (arith, lt)) in
-                let live : LiveAt f r b (suc p) = live_next f b p o here r t.calm not_read (lives b p (Do o) here r yes all.1) in
+                let live : LiveAt f r b (suc p) = live_next f b p o here r t.calm not_read (lives b p (Do o line) here r yes all.1) in
                 let lent : BorrowedAt f r b (suc p) = only_lent b (suc p) i there r yes live (omega (arith, lt, have_most)) in
-                let bad : t.lent b p r ≡ true = is_lent b p (Do o) here r yes (borrowed_before f b p o here r calm lent) in
+                let bad : t.lent b p r ≡ true = is_lent b p (Do o line) here r yes (borrowed_before f b p o here r calm lent) in
                 absurd (cc)
 
     pub over_counted : 0 < counts_after counted o (owned f t b p) (owned f t b (suc p)) r → counted r ≡ true

@@ -156,14 +156,14 @@ module _ (p q : Program) where
 
   -- the next item
   module _ (f : Frame) (fr : machines.Frame) (o : Op × ℕ) (os : List (Op × ℕ)) (a : FrameAt f fr [] (o ∷ os)) where
-    pub op_is : item_of (Some a.block) f.place ≡ Some (Do o.0)
+    pub op_is : item_of (Some a.block) f.place ≡ Some (Do o.0 o.1)
     op_is = (left_goes_on (Some a.block) f.place o os a.block.last a.left).0
 
-    pub op_here : item_in a.at.func.blocks f.block f.place ≡ Some (Do o.0)
-    op_here = item_here f fr [] (o ∷ os) a f.place (Do o.0) op_is
+    pub op_here : item_in a.at.func.blocks f.block f.place ≡ Some (Do o.0 o.1)
+    op_here = item_here f fr [] (o ∷ os) a f.place (Do o.0 o.1) op_is
 
-    pub op_there : item_at p f.fn f.block f.place ≡ Some (Do o.0)
-    op_there = item_there f fr [] (o ∷ os) a f.place (Do o.0) op_is
+    pub op_there : item_at p f.fn f.block f.place ≡ Some (Do o.0 o.1)
+    op_there = item_there f fr [] (o ∷ os) a f.place (Do o.0 o.1) op_is
 
   module _ (f : Frame) (fr : machines.Frame) (a : FrameAt f fr [] []) where
     pub end_is : item_of (Some a.block) f.place ≡ Some (End a.block.last)

@@ -21,10 +21,10 @@ module _ (f : Func) where
   came b p c q j (fails x y h o e a g) is = absurd (omega (arith, is))
   came b p c q j (jumps x y i t l e g) is = absurd (omega (arith, is))
 
-  module _ (b p : ℕ) (o : Op) (here : item_in f.blocks b p ≡ Some (Do o)) where
+  module _ (b p : ℕ) (o : Op) {line : ℕ} (here : item_in f.blocks b p ≡ Some (Do o line)) where
     -- the item is this operation
-    same_item : (i : Item) → item_in f.blocks b p ≡ Some i → i ≡ Do o
-    same_item i e = same_Some i (Do o) (sym e ∙ here)
+    same_item : (i : Item) → item_in f.blocks b p ≡ Some i → i ≡ Do o line
+    same_item i e = same_Some i (Do o line) (sym e ∙ here)
 
     pub met_next : MetAt f b p → MetAt f b (suc p)
     met_next met = onward b p b (suc p) met (passes b p o here)
@@ -35,12 +35,12 @@ module _ (f : Func) where
           subst (λ z. LiveAt f r z (suc p)) same (subst (λ z. LiveAt f r c (suc z)) place l)
       live_from bare c q x y same place (fails d j h k e a g) l = absurd (bare d h g)
       live_from bare c q x y same place (jumps d j i t k e g) l =
-          let found : Some (End k) ≡ Some (Do o) = sym e ∙ (ap (λ z. item_in f.blocks z q) same ∙ (ap (item_in f.blocks b) place ∙ here)) in
+          let found : Some (End k) ≡ Some (Do o line) = sym e ∙ (ap (λ z. item_in f.blocks z q) same ∙ (ap (item_in f.blocks b) place ∙ here)) in
           absurd (cc)
 
       live_by : IsBare f → (c q : ℕ) → c ≡ b → q ≡ p → is_among (reads_of o) r ≡ false → LiveAt f r c q → LiveAt f r b (suc p)
       live_by bare c q same place none (reads_here d j i e is) =
-          let found : i ≡ Do o = same_item i (sym (ap (λ z. item_in f.blocks z q) same ∙ ap (item_in f.blocks b) place) ∙ e) in
+          let found : i ≡ Do o line = same_item i (sym (ap (λ z. item_in f.blocks z q) same ∙ ap (item_in f.blocks b) place) ∙ e) in
           let bad : is_among (reads_of o) r ≡ true = ap (λ z. reads z r) (sym found) ∙ is in
           absurd (cc)
       live_by bare c q same place none (goes_on d j x y i e w g l) = live_from bare c q x y same place g l
@@ -52,9 +52,9 @@ module _ (f : Func) where
       module _ (calm : is_target (write_of o) r ≡ false) where
         -- what is read again behind, and not written here, is read again
         pub live_before : LiveAt f r b (suc p) → LiveAt f r b p
-        live_before l = goes_on b p b (suc p) (Do o) here calm (passes b p o here) l
+        live_before l = goes_on b p b (suc p) (Do o line) here calm (passes b p o here) l
 
-        owned_from : (c q x y : ℕ) → x ≡ b → y ≡ suc p → (i : Item) → item_in f.blocks c q ≡ Some i → Goes f c q x y → (i ≡ Do o) × (c ≡ b) × (q ≡ p)
+        owned_from : (c q x y : ℕ) → x ≡ b → y ≡ suc p → (i : Item) → item_in f.blocks c q ≡ Some i → Goes f c q x y → (i ≡ Do o line) × (c ≡ b) × (q ≡ p)
         owned_from c q x y same place i e g =
             let from = came c q x y p g place in
             let block : c ≡ b = from.block ∙ same in
@@ -77,7 +77,7 @@ module _ (f : Func) where
 
         pub borrowed_before : BorrowedAt f r b (suc p) → BorrowedAt f r b p
         borrowed_before lent =
-            λ owned. lent (kept b p b (suc p) (Do o) owned here calm (passes b p o here))
+            λ owned. lent (kept b p b (suc p) (Do o line) owned here calm (passes b p o here))
 
       -- and what is written, where a path comes, is not
       pub borrowed_kept : MetAt f b p → BorrowedAt f r b (suc p) → is_target (write_of o) r ≡ false
@@ -85,7 +85,7 @@ module _ (f : Func) where
         where
           by : (z : Bool) → is_target (write_of o) r ≡ z → z ≡ false
           by false e = refl
-          by true e = absurd (lent (written b p b (suc p) (Do o) met here e (no_lent (Do o)) (passes b p o here)))
+          by true e = absurd (lent (written b p b (suc p) (Do o line) met here e (no_lent (Do o line)) (passes b p o here)))
 
   -- over an edge
   module _ (b p i t : ℕ) (l : Last) (here : item_in f.blocks b p ≡ Some (End l)) (goes : slice_get (targets l) i ≡ Some t) where

@@ -44,17 +44,17 @@ none_short true x y le = omega (arith, le)
 none_short false x y le = refl
 
 -- ---- the first place of a function that begins with a turn
-module _ (f : Func) (first : item_in f.blocks 0 0 ≡ Some (Do Turn)) where
+module _ (f : Func) {source : ℕ} (first : item_in f.blocks 0 0 ≡ Some (Do Turn source)) where
   -- one comes to the second place from the first one alone
   from_first : (b p c q : ℕ) → Goes f b p c q → c ≡ 0 → q ≡ 1 → (b ≡ 0) × (p ≡ 0)
   from_first b p c q (passes i j o e) z one = (z, omega (arith, one))
   from_first b p c q (fails i j h o e g k) z one = absurd (omega (arith, one))
   from_first b p c q (jumps i j n t l e g) z one = absurd (omega (arith, one))
 
-  turn_there : (b p : ℕ) (i : Item) → b ≡ 0 → p ≡ 0 → item_in f.blocks b p ≡ Some i → i ≡ Do Turn
+  turn_there : (b p : ℕ) (i : Item) → b ≡ 0 → p ≡ 0 → item_in f.blocks b p ≡ Some i → i ≡ Do Turn source
   turn_there b p i e g is =
-      let at : item_in f.blocks b p ≡ Some (Do Turn) = ap (λ k. item_in f.blocks k p) e ∙ (ap (item_in f.blocks 0) g ∙ first) in
-      let same : Some i ≡ Some (Do Turn) = sym is ∙ at in
+      let at : item_in f.blocks b p ≡ Some (Do Turn source) = ap (λ k. item_in f.blocks k p) e ∙ (ap (item_in f.blocks 0) g ∙ first) in
+      let same : Some i ≡ Some (Do Turn source) = sym is ∙ at in
       cc
 
   owned_before : (r c q : ℕ) → OwnedAt f r c q → c ≡ 0 → q ≡ 1 → OwnedAt f r 0 0
@@ -68,14 +68,14 @@ module _ (f : Func) (first : item_in f.blocks 0 0 ≡ Some (Do Turn)) where
       let from = from_first b p c q goes z one in
       subst (λ k. OwnedAt f r k 0) from.0 (subst (OwnedAt f r b) from.1 o)
 
-  second : (bs : List Block) → item_in bs 0 0 ≡ Some (Do Turn) → (i : Item) × (item_in bs 0 1 ≡ Some i)
+  second : (bs : List Block) → item_in bs 0 0 ≡ Some (Do Turn source) → (i : Item) × (item_in bs 0 1 ≡ Some i)
   second [] e = absurd (cc)
   second (b ∷ bs) e = by b.ops b.last e
     where
-      by : (ops : List (Op × ℕ)) (last : Last) → in_block ops last 0 ≡ Some (Do Turn) → (i : Item) × (in_block ops last 1 ≡ Some i)
+      by : (ops : List (Op × ℕ)) (last : Last) → in_block ops last 0 ≡ Some (Do Turn source) → (i : Item) × (in_block ops last 1 ≡ Some i)
       by [] last e = absurd (cc)
       by (o ∷ []) last e = (End last, refl)
-      by (o ∷ p ∷ os) last e = (Do p.0, refl)
+      by (o ∷ p ∷ os) last e = (Do p.0 p.1, refl)
 
   module _ (t : Tables f) (number : ℕ → ℕ) where
     abbrev at : ℕ → ℕ → ℕ
@@ -85,10 +85,10 @@ module _ (f : Func) (first : item_in f.blocks 0 0 ≡ Some (Do Turn)) where
     not_more r =
         let next = second f.blocks first in
         fewer (counts_register f.regs r) (t.live 0 1 r) (t.lent 0 1 r) (t.live 0 0 r) (t.lent 0 0 r)
-        (λ c l. (t.is_live 0 0 r (Do Turn) first (within f.regs r c)).1
-        (goes_on 0 0 0 1 (Do Turn) first refl (passes 0 0 Turn first) ((t.is_live 0 1 r next.0 next.1 (within f.regs r c)).0 l)))
+        (λ c l. (t.is_live 0 0 r (Do Turn source) first (within f.regs r c)).1
+        (goes_on 0 0 0 1 (Do Turn source) first refl (passes 0 0 Turn first) ((t.is_live 0 1 r next.0 next.1 (within f.regs r c)).0 l)))
         (λ c l. (t.is_lent 0 1 r next.0 next.1 (within f.regs r c)).1
-        (λ o. (t.is_lent 0 0 r (Do Turn) first (within f.regs r c)).0 l (owned_before r 0 1 o refl refl)))
+        (λ o. (t.is_lent 0 0 r (Do Turn source) first (within f.regs r c)).0 l (owned_before r 0 1 o refl refl)))
 
     first_group : (o : Op × ℕ) (group : List (Op × ℕ)) → o.0 ≡ Turn → IsGroup (counts_register f.regs) o (at 0) (at 1) group → (rest : List (Op × ℕ)) × (group ≡ o ∷ rest)
     first_group o group is g =
@@ -104,7 +104,7 @@ module _ (f : Func) (first : item_in f.blocks 0 0 ≡ Some (Do Turn)) where
     all_of n old ops (Return x) fits body = body
     all_of n old ops Unreachable fits body = body
 
-    first_op : (n : ℕ) (old ops : List (Op × ℕ)) (last : Last) → in_block old last 0 ≡ Some (Do Turn) → LastFits n 0 old last → IsBody f t number 0 at old last ops → (o : Op × ℕ) × (rest : List (Op × ℕ)) × (ops ≡ o ∷ rest) × (o.0 ≡ Turn)
+    first_op : (n : ℕ) (old ops : List (Op × ℕ)) (last : Last) → in_block old last 0 ≡ Some (Do Turn source) → LastFits n 0 old last → IsBody f t number 0 at old last ops → (o : Op × ℕ) × (rest : List (Op × ℕ)) × (ops ≡ o ∷ rest) × (o.0 ≡ Turn)
     first_op n [] ops last e fits body = absurd (cc)
     first_op n (o ∷ os) ops last e fits body =
         let all = all_of n (o ∷ os) ops last fits body in
@@ -112,7 +112,7 @@ module _ (f : Func) (first : item_in f.blocks 0 0 ≡ Some (Do Turn)) where
         let g = first_group o all.3.0 is all.3.3 in
         (o, (g.0 ++ all.3.1) ++ all.1, all.2 ∙ ap (λ l. l ++ all.1) (all.3.2 ∙ ap (λ l. l ++ all.3.1) g.1), is)
 
-    begins_by : (p : Program) (n : ℕ) (bs blocks : List Block) → item_in bs 0 0 ≡ Some (Do Turn) → BlocksFit n 0 bs → AreBlocks f t number 0 0 bs blocks → slice_get (lines_from p 0 blocks) 0 ≡ Some line.Turn
+    begins_by : (p : Program) (n : ℕ) (bs blocks : List Block) → item_in bs 0 0 ≡ Some (Do Turn source) → BlocksFit n 0 bs → AreBlocks f t number 0 0 bs blocks → slice_get (lines_from p 0 blocks) 0 ≡ Some line.Turn
     begins_by p n [] blocks e fits are = absurd (cc)
     begins_by p n (b ∷ bs) blocks e fits are =
         let op = first_op n b.ops are.0.ops b.last e fits.0.last are.5 in

@@ -78,7 +78,7 @@ module _ (p q : Program) (counted : IsCountedProgram p q) (shape : Shape p) wher
       )
 
   -- another one, which begins with a turn
-  new_function : (n : ℕ) (f g : Func) → IsCountedFunc f g → FuncFits f → item_in f.blocks 0 0 ≡ Some (Do Turn) → spelled_function (text p q counted n f) ≡ true → function_fits (lower p) (text p q counted n f) ≡ true → (spelled_function (new_text p q counted n f g) ≡ true) × (function_fits (lower p) (new_text p q counted n f g) ≡ true)
+  new_function : (n : ℕ) (f g : Func) {source : ℕ} → IsCountedFunc f g → FuncFits f → item_in f.blocks 0 0 ≡ Some (Do Turn source) → spelled_function (text p q counted n f) ≡ true → function_fits (lower p) (text p q counted n f) ≡ true → (spelled_function (new_text p q counted n f g) ≡ true) × (function_fits (lower p) (new_text p q counted n f g) ≡ true)
   new_function n f g c blocks turn spelled fit =
       let old : CFunc = text p q counted n f in
       let new : CFunc = new_text p q counted n f g in
@@ -104,7 +104,7 @@ module _ (p q : Program) (counted : IsCountedProgram p q) (shape : Shape p) wher
   all_new n (f ∷ d ∷ fs) (g ∷ h ∷ gs) all blocks turns spelled fit =
       let one = and_parts (spelled_function (text p q counted n f)) (spelled_functions (lowered_from p (suc n) (d ∷ fs))) spelled in
       let two = and_parts (function_fits (lower p) (text p q counted n f)) (list_all (function_fits (lower p)) (lowered_from p (suc n) (d ∷ fs))) fit in
-      let first = new_function n f g all.0 blocks.0 turns.0 one.0 two.0 in
+      let first = new_function n f g all.0 blocks.0 turns.0.1 one.0 two.0 in
       let rest = all_new (suc n) (d ∷ fs) (h ∷ gs) all.1 blocks.1 turns.1 one.1 two.1 in (
         and_from (spelled_function (new_text p q counted n f g)) (spelled_functions (new_from p q counted (suc n) (d ∷ fs) (h ∷ gs))) first.0 rest.0,
         and_from (function_fits (lower p) (new_text p q counted n f g)) (list_all (function_fits (lower p)) (new_from p q counted (suc n) (d ∷ fs) (h ∷ gs))) first.1 rest.1,

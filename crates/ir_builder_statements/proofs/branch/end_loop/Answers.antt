@@ -18,6 +18,7 @@ returns-clause-ends c = record {
   here = c.in_ok-next.ensures.number;
   leaves = c.in_ok-next.ensures.closed;
   turned = c.push.new.self;
+  line = c.args.line;
   turns = c.in_ok-push.ensures.pushed;
   closed = c.close.new.self;
   closes = c.in_ok-close.ensures.closed;
