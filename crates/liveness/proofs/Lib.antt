@@ -8,5 +8,7 @@ pub mod FoundLemmas
 pub mod SpreadLemmas
 pub mod PathLemmas
 pub mod OwnedLemmas
+pub mod ApartLemmas
+pub mod ApartPaths
+pub mod TableLemmas
 pub mod Samples
-pub mod EdgePaths

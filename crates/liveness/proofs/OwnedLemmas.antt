@@ -29,7 +29,7 @@ use Rattle.liveness.proofs.PlaceLemmas.{span_there, written_among, written_is, r
 use Rattle.liveness.proofs.FoundLemmas.{get_map_or, written_any}
 use Rattle.liveness.proofs.SpreadLemmas.{edge_block, block_edge}
 use Rattle.liveness.specs.declared.borrow_table.BorrowTable.{BorrowTable}
-use Rattle.liveness.specs.Liveness.{says_borrowed, AreMarked}
+use Rattle.liveness.specs.Liveness.{AreMarked}
 use Rattle.liveness.proofs.PathLemmas.{get_map, get_unmap, item_is, item_was, item_within, item_end, item_block, rest_end}
 
 -- ---- lists and truth values
@@ -72,11 +72,11 @@ get_none [] i le = refl
 get_none (x ∷ xs) zero le = absurd (omega (arith, le))
 get_none (x ∷ xs) (suc i) le = get_none xs i (omega (arith, le))
 
-item_get : (ops : List (Op × ℕ)) (last : Last) (p : ℕ) (o : Op) → in_block ops last p ≡ Some (Do o) → (x : Op × ℕ) × (slice_get ops p ≡ Some x) × (x.0 ≡ o)
-item_get [] last zero o e = let f : Some (End last) ≡ Some (Do o) = e in absurd (cc)
-item_get [] last (suc p) o e = let f : None ≡ Some (Do o) = e in absurd (cc)
-item_get (q ∷ ops) last zero o e =
-    let g : Some (Do q.0) ≡ Some (Do o) = e in
+item_get : (ops : List (Op × ℕ)) (last : Last) (p : ℕ) (o : Op) {line : ℕ} → in_block ops last p ≡ Some (Do o line) → (x : Op × ℕ) × (slice_get ops p ≡ Some x) × (x.0 ≡ o)
+item_get [] last zero o {line} e = let f : Some (End last) ≡ Some (Do o line) = e in absurd (cc)
+item_get [] last (suc p) o {line} e = let f : None ≡ Some (Do o line) = e in absurd (cc)
+item_get (q ∷ ops) last zero o {line} e =
+    let g : Some (Do q.0 q.1) ≡ Some (Do o line) = e in
     let f : q.0 ≡ o = cc in (q, refl, f)
 item_get (q ∷ ops) last (suc p) o e = item_get ops last p o e
 
@@ -107,16 +107,16 @@ lends_none (Owned k) = refl
 lends_none (Lent k) = refl
 
 pub no_lent : (i : Item) → gives_lent i ≡ false
-no_lent (Do (op.Move r s)) = refl
-no_lent (Do (op.Lit r l)) = refl
-no_lent (Do (op.Prim to p args)) = lends_none (row_of p).outcome
-no_lent (Do (op.Call r g args)) = refl
-no_lent (Do (op.Virtual r o n args)) = refl
-no_lent (Do (op.TraitCall r o t n args)) = refl
-no_lent (Do op.Turn) = refl
-no_lent (Do (op.Inc r)) = refl
-no_lent (Do (op.Dec r)) = refl
-no_lent (Do (op.XDec r)) = refl
+no_lent (Do (op.Move r s) line) = refl
+no_lent (Do (op.Lit r l) line) = refl
+no_lent (Do (op.Prim to p args) line) = lends_none (row_of p).outcome
+no_lent (Do (op.Call r g args) line) = refl
+no_lent (Do (op.Virtual r o n args) line) = refl
+no_lent (Do (op.TraitCall r o t n args) line) = refl
+no_lent (Do op.Turn line) = refl
+no_lent (Do (op.Inc r) line) = refl
+no_lent (Do (op.Dec r) line) = refl
+no_lent (Do (op.XDec r) line) = refl
 no_lent (End l) = refl
 
 -- ---- what is met
@@ -133,7 +133,7 @@ module _ (f : Func) (calm : IsBare f) where
   met_walk b k is m zero le = m
   met_walk b k is m (suc n) le =
       let o = there_is k.ops n (omega (arith, le)) in
-      onward b n b (suc n) (met_walk b k is m n (omega (arith, le))) (passes b n o.0.0 (item_here b n k (Do o.0.0) is (op_item k.ops k.last n o.0 o.1)))
+      onward b n b (suc n) (met_walk b k is m n (omega (arith, le))) (passes b n o.0.0 (item_here b n k (Do o.0.0 o.0.1) is (op_item k.ops k.last n o.0 o.1)))
 
   path_met : (b p : ℕ) → MetAt f b p → Met (map steps_of f.blocks) b
   path_met b p entry = first
@@ -158,8 +158,8 @@ module _ (f : Func) (calm : IsBare f) where
   owned_met r b p (kept x y c q i o e w g) = onward x y c q (owned_met r x y o) g
 
   goes_item : (b p c q : ℕ) → Goes f b p c q → (i : Item) × (item_in f.blocks b p ≡ Some i)
-  goes_item b p c q (passes x y o e) = (Do o, e)
-  goes_item b p c q (fails x y h o e caught at) = (Do o, e)
+  goes_item b p c q (passes x y o {line} e) = (Do o line, e)
+  goes_item b p c q (fails x y h o {line} e caught at) = (Do o line, e)
   goes_item b p c q (jumps x y i t l e at) = (End l, e)
 
   -- a register that is no parameter is never only lent where a path comes
@@ -187,14 +187,14 @@ module _ (f : Func) (calm : IsBare f) where
     owned_walk x b k is m start zero le e = start (sym (or_none x) ∙ e)
     owned_walk x b k is m start (suc n) le e =
         let o = there_is k.ops n (omega (arith, le)) in
-        let item = item_here b n k (Do o.0.0) is (op_item k.ops k.last n o.0 o.1) in
+        let item = item_here b n k (Do o.0.0 o.0.1) is (op_item k.ops k.last n o.0 o.1) in
         let more = sym (bit_more x k n o.0 o.1) ∙ e in
         ⊎_elim
-        (λ w. written b n b (suc n) (Do o.0.0) (met_walk b k is m n (omega (arith, le))) item w (no_lent (Do o.0.0)) (passes b n o.0.0 item))
+        (λ w. written b n b (suc n) (Do o.0.0 o.0.1) (met_walk b k is m n (omega (arith, le))) item w (no_lent (Do o.0.0 o.0.1)) (passes b n o.0.0 item))
         (λ w.
         let was : bit x k n ≡ true =
         sym (ap (λ z. bit x k n || z) w ∙ or_none (bit x k n)) ∙ more in
-        kept b n b (suc n) (Do o.0.0) (owned_walk x b k is m start n (omega (arith, le)) was) item w (passes b n o.0.0 item))
+        kept b n b (suc n) (Do o.0.0 o.0.1) (owned_walk x b k is m start n (omega (arith, le)) was) item w (passes b n o.0.0 item))
         (either (is_target (write_of o.0.0) r))
 
     jump_on : (b : ℕ) (k : Block) (i t : ℕ) → slice_get f.blocks b ≡ Some k → slice_get (targets k.last) i ≡ Some t → OwnedAt f r b (length k.ops) → OwnedAt f r t 0
@@ -233,9 +233,9 @@ module _ (f : Func) (calm : IsBare f) where
     -- and what has a path the rows give
     owned_bit : r < f.params → (b p : ℕ) → OwnedAt f r b p → (k : Block) → slice_get f.blocks b ≡ Some k → bit (marked b) k p ≡ true
     owned_bit lt b p (no_parameter le) k is = absurd (omega (arith, lt, le))
-    owned_bit lt b p (written x y c q i m e w n (passes x2 y2 o e2)) k is =
-        let there = item_get k.ops k.last y o (item_was f 0 x y k (Do o) is e2) in
-        let same : i ≡ Do o = same_Some _ _ (sym e ∙ e2) in
+    owned_bit lt b p (written x y c q i m e w n (passes x2 y2 o {line} e2)) k is =
+        let there = item_get k.ops k.last y o (item_was f 0 x y k (Do o line) is e2) in
+        let same : i ≡ Do o line = same_Some _ _ (sym e ∙ e2) in
         let wrote : is_target (write_of there.0.0) r ≡ true =
         ap (λ z. is_target (write_of z) r) there.2 ∙ ap (λ z. writes z r) (sym same) ∙ w in
         bit_more (marked x) k y there.0 there.1 ∙ or_right (bit (marked x) k y) _ wrote
@@ -245,8 +245,8 @@ module _ (f : Func) (calm : IsBare f) where
         let same : i ≡ End l = same_Some _ _ (sym e ∙ e2) in
         let no_write : false ≡ true = ap (λ z. writes z r) (sym same) ∙ w in
         absurd (cc)
-    owned_bit lt b p (kept x y c q i on e w (passes x2 y2 o e2)) k is =
-        let there = item_get k.ops k.last y o (item_was f 0 x y k (Do o) is e2) in
+    owned_bit lt b p (kept x y c q i on e w (passes x2 y2 o {line} e2)) k is =
+        let there = item_get k.ops k.last y o (item_was f 0 x y k (Do o line) is e2) in
         bit_more (marked x) k y there.0 there.1 ∙ or_left (bit (marked x) k y) _ (owned_bit lt x y on k is)
     owned_bit lt b p (kept x y c q i on e w (fails x2 y2 h o e2 caught at)) k is =
         absurd (calm x h at)
@@ -348,7 +348,7 @@ below_or_not (suc r) (suc n) =
     ⊎_elim (λ a. inl (omega (arith, a))) (λ a. inr (omega (arith, a))) (below_or_not r n)
 
 -- what marks say of the blocks of a function, whose parameters that have registers are so many
-pub marked_is : (f : Func) (calm : IsBare f) (count : ℕ) (table : BorrowTable) → count ≡ min f.params (length f.regs) → AreMarked (map steps_of f.blocks) count table → (b p r : ℕ) (i : Item) → item_in f.blocks b p ≡ Some i → r < length f.regs → (says_borrowed table b p r ≡ true) ↔ BorrowedAt f r b p
+pub marked_is : (f : Func) (calm : IsBare f) (count : ℕ) (table : BorrowTable) → count ≡ min f.params (length f.regs) → AreMarked (map steps_of f.blocks) count table → (b p r : ℕ) (i : Item) → item_in f.blocks b p ≡ Some i → r < length f.regs → (borrowed_by table.touches.spans table.touches.writes table.met table.rows b p r ≡ true) ↔ BorrowedAt f r b p
 marked_is f calm count table is marked b p r i e lt =
     let which : ((r < count) × (r < f.params)) ⊎ ((count ≤ r) × (f.params ≤ r)) =
     ⊎_elim (λ below. inl (omega (arith, is, below, lt), below)) (λ not_below. inr (omega (arith, is, not_below), not_below)) (below_or_not r f.params) in

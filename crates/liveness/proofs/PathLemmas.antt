@@ -6,8 +6,7 @@ use Rattle.ir_core.specs.declared.code.Op.{Op}
 use Rattle.ir_core.specs.declared.code.Last.{Last}
 use Rattle.ir_core.specs.declared.code.Block.{Block}
 use Rattle.ir_core.specs.declared.code.Func.{Func}
-use Rattle.ir_core.specs.Bare.{IsBare, bare_blocks, bare}
-use Rattle.ir_core.proofs.BareLemmas.{bare_is_bare}
+use Rattle.ir_core.specs.Bare.{IsBare, bare_blocks}
 use Rattle.ir_core.specs.Items.{Item, Do, End, in_block, item_of, item_in}
 use Rattle.liveness.specs.declared.step.Step.{Step}
 use Rattle.liveness.specs.declared.step.Steps.{Steps}
@@ -19,8 +18,6 @@ use Rattle.liveness.specs.Rows as rows
 use Rattle.liveness.specs.declared.places.Touches.{Touches}
 use Rattle.liveness.specs.Rising.{has}
 use Rattle.liveness.specs.Places.{AreTouches}
-use Rattle.liveness.specs.declared.live_table.LiveTable.{LiveTable}
-use Rattle.liveness.specs.Liveness.{IsLiveTable, AreStarts}
 use Rattle.liveness.specs.Tables.{live_by}
 use Rattle.std.proofs.lemmas.List.{length-map}
 use Rattle.liveness.proofs.FoundLemmas.{table_given}
@@ -62,12 +59,12 @@ item_within ops last zero i e = omega arith
 item_within [] last (suc p) i e = let f : None ≡ Some i = e in absurd (cc)
 item_within (o ∷ ops) last (suc p) i e = omega (arith, item_within ops last p i e)
 
-pub rest_item : (ops : List (Op × ℕ)) (last : Last) (p : ℕ) (o : Op × ℕ) (os : List (Op × ℕ)) → drop p ops ≡ o ∷ os → in_block ops last p ≡ Some (Do o.0)
+pub rest_item : (ops : List (Op × ℕ)) (last : Last) (p : ℕ) (o : Op × ℕ) (os : List (Op × ℕ)) → drop p ops ≡ o ∷ os → in_block ops last p ≡ Some (Do o.0 o.1)
 rest_item [] last zero o os e = let f : [] ≡ o ∷ os = e in absurd (cc)
 rest_item [] last (suc p) o os e = let f : [] ≡ o ∷ os = e in absurd (cc)
 rest_item (q ∷ ops) last zero o os e =
     let g : q ∷ ops ≡ o ∷ os = e in
-    let f : q ≡ o = cc in ap (λ (z : Op × ℕ). Some (Do z.0)) f
+    let f : q ≡ o = cc in ap (λ (z : Op × ℕ). Some (Do z.0 z.1)) f
 rest_item (q ∷ ops) last (suc p) o os e = rest_item ops last p o os e
 
 pub rest_end : (ops : List (Op × ℕ)) (last : Last) (p : ℕ) → drop p ops ≡ [] → p ≤ length ops → in_block ops last p ≡ Some (End last)
@@ -86,11 +83,11 @@ drop_next (q ∷ ops) (suc p) o os e =
     let h = drop_next ops p o os e in (h.0, omega (arith, h.1))
 
 -- an operation at a place is the first of those that are left
-pub item_rest : (ops : List (Op × ℕ)) (last : Last) (p : ℕ) (o : Op) → in_block ops last p ≡ Some (Do o) → (x : Op × ℕ) × (drop p ops ≡ x ∷ drop (suc p) ops) × (x.0 ≡ o)
-item_rest [] last zero o e = let f : Some (End last) ≡ Some (Do o) = e in absurd (cc)
-item_rest [] last (suc p) o e = let f : None ≡ Some (Do o) = e in absurd (cc)
-item_rest (q ∷ ops) last zero o e =
-    let g : Some (Do q.0) ≡ Some (Do o) = e in
+pub item_rest : (ops : List (Op × ℕ)) (last : Last) (p : ℕ) (o : Op) {line : ℕ} → in_block ops last p ≡ Some (Do o line) → (x : Op × ℕ) × (drop p ops ≡ x ∷ drop (suc p) ops) × (x.0 ≡ o)
+item_rest [] last zero o {line} e = let f : Some (End last) ≡ Some (Do o line) = e in absurd (cc)
+item_rest [] last (suc p) o {line} e = let f : None ≡ Some (Do o line) = e in absurd (cc)
+item_rest (q ∷ ops) last zero o {line} e =
+    let g : Some (Do q.0 q.1) ≡ Some (Do o line) = e in
     let f : q.0 ≡ o = cc in (q, refl, f)
 item_rest (q ∷ ops) last (suc p) o e = item_rest ops last p o e
 
@@ -99,7 +96,7 @@ item_end [] last zero l e =
     let g : Some (End last) ≡ Some (End l) = e in
     let f : last ≡ l = cc in (refl, f)
 item_end [] last (suc p) l e = let f : None ≡ Some (End l) = e in absurd (cc)
-item_end (q ∷ ops) last zero l e = let f : Some (Do q.0) ≡ Some (End l) = e in absurd (cc)
+item_end (q ∷ ops) last zero l e = let f : Some (Do q.0 q.1) ≡ Some (End l) = e in absurd (cc)
 item_end (q ∷ ops) last (suc p) l e = item_end ops last p l e
 
 pub item_block : (b : Option Block) (p : ℕ) (i : Item) → item_of b p ≡ Some i → (k : Block) × (b ≡ Some k)
@@ -131,7 +128,7 @@ module _ (f : Func) (r : ℕ) where
   live_path ss l (rows.reads_here s xs j a) b p k (o ∷ os) is left le e m =
       let z : s ∷ xs ≡ step_of o ∷ map step_of os = e in
       let first : s ≡ step_of o = cc in
-      path.reads_here b p (Do o.0) (item_is b p k (Do o.0) is (rest_item k.ops k.last p o os left)) (ap (λ (y : Step). is_among y.reads r) (sym first) ∙ a)
+      path.reads_here b p (Do o.0 o.1) (item_is b p k (Do o.0 o.1) is (rest_item k.ops k.last p o os left)) (ap (λ (y : Step). is_among y.reads r) (sym first) ∙ a)
   live_path ss l (rows.reads_last j a) b p k [] is left le e m =
       path.reads_here b p (End k.last) (item_is b p k (End k.last) is (rest_end k.ops k.last p left le)) (ap (λ y. is_among (reads_of_last y) r) (sym m) ∙ a)
   live_path ss l (rows.reads_last j a) b p k (o ∷ os) is left le e m = let z : [] ≡ step_of o ∷ map step_of os = e in absurd (cc)
@@ -140,9 +137,9 @@ module _ (f : Func) (r : ℕ) where
       let z : s ∷ xs ≡ step_of o ∷ map step_of os = e in
       let first : s ≡ step_of o = cc in
       let others : xs ≡ map step_of os = cc in
-      let item = item_is b p k (Do o.0) is (rest_item k.ops k.last p o os left) in
+      let item = item_is b p k (Do o.0 o.1) is (rest_item k.ops k.last p o os left) in
       let more = drop_next k.ops p o os left in
-      path.goes_on b p b (suc p) (Do o.0) item (ap (λ (y : Step). is_target y.write r) (sym first) ∙ a) (passes b p o.0 item) (live_path xs l q b (suc p) k os is more.0 more.1 others m)
+      path.goes_on b p b (suc p) (Do o.0 o.1) item (ap (λ (y : Step). is_target y.write r) (sym first) ∙ a) (passes b p o.0 item) (live_path xs l q b (suc p) k os is more.0 more.1 others m)
   live_path ss l (rows.jumps_on i t j n at there q) b p k [] is left le e m =
       let item = item_is b p k (End k.last) is (rest_end k.ops k.last p left le) in
       let to = get_unmap steps_of f.blocks t n there in
@@ -155,17 +152,17 @@ module _ (f : Func) (r : ℕ) where
       let h : End last ≡ i = same_Some _ _ g in
       rows.reads_last last (ap (λ y. reads y r) h ∙ a)
   read_at (o ∷ ops) last i e a =
-      let g : Some (Do o.0) ≡ Some i = e in
-      let h : Do o.0 ≡ i = same_Some _ _ g in
+      let g : Some (Do o.0 o.1) ≡ Some i = e in
+      let h : Do o.0 o.1 ≡ i = same_Some _ _ g in
       rows.reads_here (step_of o) (map step_of ops) last (ap (λ y. reads y r) h ∙ a)
 
   -- and one from place to place is one over what is left
   path_live : IsBare f → (b p : ℕ) → LiveAt f r b p → (k : Block) → slice_get f.blocks b ≡ Some k → Live (map steps_of f.blocks) r (map step_of (drop p k.ops)) k.last
   path_live calm b p (path.reads_here x y i e a) k is =
       read_at (drop p k.ops) k.last i (drop_item k.ops k.last p i (item_was b p k i is e)) a
-  path_live calm b p (path.goes_on x y c q i e w (passes x2 y2 o e2) on) k is =
-      let first = item_rest k.ops k.last p o (item_was b p k (Do o) is e2) in
-      let same : i ≡ Do o = same_Some _ _ (sym e ∙ e2) in
+  path_live calm b p (path.goes_on x y c q i e w (passes x2 y2 o {line} e2) on) k is =
+      let first = item_rest k.ops k.last p o (item_was b p k (Do o line) is e2) in
+      let same : i ≡ Do o line = same_Some _ _ (sym e ∙ e2) in
       let past : is_target (write_of first.0.0) r ≡ false =
       ap (λ y. is_target (write_of y) r) first.2 ∙ ap (λ y. writes y r) (sym same) ∙ w in
       subst (λ z. Live (map steps_of f.blocks) r (map step_of z) k.last) (sym first.1) (rows.goes_past (step_of first.0) (map step_of (drop (suc p) k.ops)) k.last past (path_live calm b (suc p) on k is))
@@ -205,17 +202,3 @@ starts_are f calm r marked exact b = (
       let there = live_block f r b 0 h in
       (exact.1 b (steps_of there.0) (get_map steps_of f.blocks b there.0 there.1)).1 (path_live f r calm b 0 h there.0 there.1),
 )
-
--- ---- tables that were made with the handlers passed over
-
-pub live_kept : (f : Func) (table : LiveTable) (blocks : List Steps) (count : ℕ) → blocks ≡ map steps_of f.blocks → count ≡ length f.regs → AreTouches blocks count table.touches → ((r : ℕ) → r < count → IsLiveRow blocks r (has table.rows r)) → IsLiveTable (bare f) table
-live_kept f table blocks count kept size touches exact b p r i e lt =
-    let same : blocks ≡ map steps_of (bare f).blocks = kept ∙ sym (steps_bare f.blocks) in
-    let below : r < count = omega (arith, lt, size) in
-    live_table_is (bare f) (bare_is_bare f) r table.touches table.rows count (subst (λ z. AreTouches z count table.touches) same touches) below (subst (λ z. IsLiveRow z r (has table.rows r)) same (exact r below)) b p i e
-
-pub starts_kept : (f : Func) (table : LiveTable) (blocks : List Steps) (count : ℕ) → blocks ≡ map steps_of f.blocks → count ≡ length f.regs → ((r : ℕ) → r < count → IsLiveRow blocks r (has table.rows r)) → AreStarts (bare f) table
-starts_kept f table blocks count kept size exact b r lt =
-    let same : blocks ≡ map steps_of (bare f).blocks = kept ∙ sym (steps_bare f.blocks) in
-    let below : r < count = omega (arith, lt, size) in
-    starts_are (bare f) (bare_is_bare f) r (has table.rows r) (subst (λ z. IsLiveRow z r (has table.rows r)) same (exact r below)) b

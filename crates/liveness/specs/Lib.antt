@@ -5,4 +5,5 @@ pub mod Places
 pub mod Flood
 pub mod Rows
 pub mod Tables
+pub mod Apart
 pub mod Liveness

@@ -76,11 +76,11 @@ is_target (Some s) r = nat_eq s r
 
 -- whether the item at a place reads a register, and whether it writes it
 abbrev pub reads : Item → ℕ → Bool
-reads (Do o) r = is_among (reads_of o) r
+reads (Do o line) r = is_among (reads_of o) r
 reads (End l) r = is_among (reads_of_last l) r
 
 abbrev pub writes : Item → ℕ → Bool
-writes (Do o) r = is_target (write_of o) r
+writes (Do o line) r = is_target (write_of o) r
 writes (End l) r = false
 
 -- A primitive whose result is only lent: what it is read from goes on to own it. No register is written so yet, since no operation fits
@@ -94,7 +94,7 @@ abbrev pub is_lent : Primitive → Bool
 is_lent p = lends (row_of p).outcome
 
 abbrev pub gives_lent : Item → Bool
-gives_lent (Do (Prim to p args)) = is_lent p
+gives_lent (Do (Prim to p args) line) = is_lent p
 gives_lent _ = false
 
 -- ---- paths
@@ -115,14 +115,9 @@ is_caught at e behind = not (is_edge at e behind)
 -- a path goes from a place to the next one: behind an operation, from one that fails to the handler of its block, and from an
 -- end to the start of a block
 pub data Goes (f : Func) : ℕ → ℕ → ℕ → ℕ → Type 0 where
-  passes : (b p : ℕ) (o : Op) → item_in f.blocks b p ≡ Some (Do o) → Goes f b p b (suc p)
-  fails : (b p h : ℕ) (o : Op) → item_in f.blocks b p ≡ Some (Do o) → is_caught (item_in f.blocks) (edge_of_op f.regs o) (item_in f.blocks b (suc p)) ≡ true → handler_in f.blocks b ≡ Some h → Goes f b p h 0
+  passes : (b p : ℕ) (o : Op) {line : ℕ} → item_in f.blocks b p ≡ Some (Do o line) → Goes f b p b (suc p)
+  fails : (b p h : ℕ) (o : Op) {line : ℕ} → item_in f.blocks b p ≡ Some (Do o line) → is_caught (item_in f.blocks) (edge_of_op f.regs o) (item_in f.blocks b (suc p)) ≡ true → handler_in f.blocks b ≡ Some h → Goes f b p h 0
   jumps : (b p i t : ℕ) (l : Last) → item_in f.blocks b p ≡ Some (End l) → slice_get (targets l) i ≡ Some t → Goes f b p t 0
-
--- no operation goes to a handler: the failure of each goes over its edge, or out of the function
-abbrev pub GoesOverEnds : Func → Type 0
-GoesOverEnds f =
-    (b p h : ℕ) (o : Op) → item_in f.blocks b p ≡ Some (Do o) → is_caught (item_in f.blocks) (edge_of_op f.regs o) (item_in f.blocks b (suc p)) ≡ true → handler_in f.blocks b ≡ Some h → ⊥
 
 -- some path from a place reads the register before it writes it
 pub data LiveAt (f : Func) (r : ℕ) : ℕ → ℕ → Type 0 where

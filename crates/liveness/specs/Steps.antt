@@ -6,8 +6,11 @@ use Rattle.liveness.specs.declared.step.Step.{Step}
 use Rattle.liveness.specs.declared.step.Steps.{Steps}
 use Rattle.liveness.specs.Paths.{reads_of, write_of}
 
+abbrev pub step_over : Op → Step
+step_over o = record { reads = reads_of o; write = write_of o }
+
 abbrev pub step_of : Op × ℕ → Step
-step_of o = record { reads = reads_of o.0; write = write_of o.0 }
+step_of o = step_over o.0
 
 abbrev pub steps_of : Block → Steps
 steps_of b = record { steps = map step_of b.ops; last = b.last }

@@ -2,15 +2,16 @@
 //! that may have been written when it is entered: for one parameter after the other the blocks are marked that one comes
 //! to from those that write it. A register that is no parameter is lent only where no path comes.
 ghost use Rattle.std.specs.Prelude.{◌≡◌, ◌<◌, ◌+◌, ◌↔◌, ◌∷◌, [], ℕ, true, false, length, map, get_or, Some, IfOk, OnOk};
-ghost use Rattle.liveness.specs.Paths.{is_among, GoesOverEnds};
+ghost use Rattle.liveness.specs.Paths.{is_among};
 ghost use Rattle.liveness.specs.Rising.{next_from, has};
 ghost use Rattle.liveness.specs.Places.{lets};
 ghost use Rattle.liveness.specs.Flood.{Comes};
 ghost use Rattle.liveness.specs.Rows.{AreBelow, Spread, AreSpread, seeds_of};
-ghost use Rattle.liveness.specs.Tables.{owned_in, owned_by};
+ghost use Rattle.liveness.specs.Tables.{owned_in, owned_by, borrowed_by};
 ghost use Rattle.ir_core.specs.Bare.{bare};
 ghost use Rattle.liveness.specs.Liveness.{says_borrowed, AreMarked, IsBorrowTable};
 
+use crate::apart::{Home, kept_pieces, layout_of, whole};
 use crate::flood::{flood, is_before, numbers_of};
 use crate::places::{Span, Touches, block_targets, touches_of, writers};
 use crate::rising::{Rising, empty_rows, stands};
@@ -22,6 +23,7 @@ use value_core::{Many, Memory};
 /// Which registers are only lent at each place of a function.
 #[derive(Drop)]
 pub struct BorrowTable {
+    homes: Many<Home>,
     touches: Touches,
     met: Many<bool>,
     rows: Many<Rising>,
@@ -129,13 +131,19 @@ fn marked_rows(
     Ok(Many::from_vec(rows))
 }
 
-/// The table of blocks whose paths go over their ends alone, for so many parameters.
-fn table_of(alloc: Global, blocks: &[Steps], count: usize) -> Result<BorrowTable, Memory>
-    ensures { IfOk result (λ table. AreMarked blocks.now count table) }
+/// The table of pieces, whose paths go over their ends alone, for so many parameters.
+fn table_of(
+    alloc: Global,
+    homes: Many<Home>,
+    pieces: &[Steps],
+    count: usize,
+) -> Result<BorrowTable, Memory>
+    ensures homes { IfOk result (λ table. table.homes ≡ homes) }
+    ensures marked { IfOk result (λ table. AreMarked pieces.now count table) }
 {
-    let touches = touches_of(alloc, blocks, count)?;
-    let edges = block_targets(alloc, blocks)?;
-    let writers = writers(alloc, blocks, count)?;
+    let touches = touches_of(alloc, pieces, count)?;
+    let edges = block_targets(alloc, pieces)?;
+    let writers = writers(alloc, pieces, count)?;
     let spans = touches.spans.as_slice();
     let met = met(alloc, spans, edges.as_slice())?;
     let rows = marked_rows(
@@ -145,21 +153,38 @@ fn table_of(alloc: Global, blocks: &[Steps], count: usize) -> Result<BorrowTable
         met.as_slice(),
         edges.as_slice(),
     )?;
-    Ok(BorrowTable { touches, met, rows })
+    Ok(BorrowTable {
+        homes,
+        touches,
+        met,
+        rows,
+    })
 }
 
-/// The table of a function. Its handlers are passed over: where the failure of each operation goes over its edge, no path comes
-/// to one.
+/// The table of a function.
 pub fn borrowed(alloc: Global, f: &Func) -> Result<BorrowTable, Memory>
-    ensures bare { IfOk result (λ table. IsBorrowTable (bare f.now) table) }
-    ensures exact { IfOk result (λ table. GoesOverEnds f.now → IsBorrowTable f.now table) }
+    ensures { IfOk result (λ table. IsBorrowTable f.now table) }
 {
-    let blocks = kept_blocks(alloc, f.blocks.as_slice())?;
-    let table = table_of(alloc, blocks.as_slice(), f.params.min(f.regs.len()))?;
+    let layout = layout_of(alloc, f.blocks.as_slice())?;
+    let pieces = kept_pieces(alloc, f, &layout)?;
+    let count = f.params.min(f.regs.len());
+    let table = table_of(alloc, layout.homes, pieces.as_slice(), count)?;
     Ok(table)
 }
 
-/// Whether a parameter may have been written before a place of a block.
+/// The table of a function whose handlers are passed over, as they may be where the failure of each operation goes over its
+/// edge.
+pub fn borrowed_bare(alloc: Global, f: &Func) -> Result<BorrowTable, Memory>
+    ensures { IfOk result (λ table. IsBorrowTable (bare f.now) table) }
+{
+    let blocks = kept_blocks(alloc, f.blocks.as_slice())?;
+    let homes = whole(alloc, blocks.len())?;
+    let count = f.params.min(f.regs.len());
+    let table = table_of(alloc, homes, blocks.as_slice(), count)?;
+    Ok(table)
+}
+
+/// Whether a parameter may have been written before a place of a piece.
 fn is_written(writes: &Rising, at_start: bool, span: Span, place: usize) -> bool
     ensures { result ≡ owned_in writes.now at_start (Some span) place }
 {
@@ -184,21 +209,31 @@ fn is_owned(
 }
 
 impl BorrowTable {
+    /// Whether a register is only lent at a place of a piece.
+    fn is_lent(&self, piece: usize, place: usize, r: usize) -> bool
+        ensures { result ≡ borrowed_by self.now.touches.spans self.now.touches.writes self.now.met self.now.rows piece place r }
+    {
+        if !is_set(self.met.as_slice(), piece) {
+            return true;
+        }
+        match self.touches.writes.get(r) {
+            Some(writes) => {
+                let spans = self.touches.spans.as_slice();
+                !is_owned(spans, writes, self.rows.as_slice(), piece, place, r)
+            }
+            None => false,
+        }
+    }
+
     /// Whether, by whichever path a run came to a place of a block, a register was written last by a primitive whose
     /// result is only lent, or is a parameter that was never written. A place is the number of an operation, before which it
     /// stands; the number of the operations is the place before the end.
     pub fn is_borrowed(&self, block: usize, place: usize, r: Reg) -> bool
         ensures { result ≡ says_borrowed self.now block place r.0 }
     {
-        if !is_set(self.met.as_slice(), block) {
-            return true;
-        }
-        match self.touches.writes.get(r.0) {
-            Some(writes) => {
-                let spans = self.touches.spans.as_slice();
-                !is_owned(spans, writes, self.rows.as_slice(), block, place, r.0)
-            }
-            None => false,
+        match self.homes.get(block) {
+            Some(home) => self.is_lent(home.piece(place), home.place(place), r.0),
+            None => true,
         }
     }
 }

@@ -10,6 +10,7 @@
 //! block's start. They are found one after the other, from the blocks that touch the register, over the jumps.
 #![tactic(auto)]
 
+mod apart;
 mod borrow_table;
 mod flood;
 mod live_table;
@@ -17,6 +18,6 @@ mod places;
 mod rising;
 mod step;
 
-pub use borrow_table::{BorrowTable, borrowed};
-pub use live_table::{LiveTable, live};
+pub use borrow_table::{BorrowTable, borrowed, borrowed_bare};
+pub use live_table::{LiveTable, live, live_bare};
 pub use step::{register_written, registers_read};

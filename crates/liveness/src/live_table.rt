@@ -1,16 +1,17 @@
-//! Which register is read again. Of each block there is a row of the registers that are read again at its start: for one
-//! register after the other the blocks are marked that read it before they write it, and then, against the jumps, those
-//! that lead to a marked one and do not write it.
+//! Which register is read again. Of each block, or piece of one, there is a row of the registers that are read again at its
+//! start: for one register after the other the blocks are marked that read it before they write it, and then, against the
+//! jumps, those that lead to a marked one and do not write it.
 ghost use Rattle.std.specs.Prelude.{◌≡◌, ◌≤◌, ◌<◌, ◌+◌, ◌↔◌, ℕ, [], true, false, Some, length, get_or, IfOk, OnOk};
 ghost use Rattle.std.specs.List.{list_any};
 ghost use Rattle.ir_core.specs.Bare.{bare};
-ghost use Rattle.liveness.specs.Paths.{is_among, targets, GoesOverEnds};
+ghost use Rattle.liveness.specs.Paths.{is_among, targets};
 ghost use Rattle.liveness.specs.Rising.{IsRising, AreAtMost, has};
 ghost use Rattle.liveness.specs.Places.{is_read, reads_first, touch_from, AreTouches};
 ghost use Rattle.liveness.specs.Rows.{AreBelow, IsLiveRow, Found, AreFound};
-ghost use Rattle.liveness.specs.Tables.{live_in};
+ghost use Rattle.liveness.specs.Tables.{live_in, live_by};
 ghost use Rattle.liveness.specs.Liveness.{says_live, starts_of, IsLiveTable, AreStarts};
 
+use crate::apart::{Home, kept_pieces, layout_of, whole};
 use crate::flood::{flood, numbers_of};
 use crate::places::{Span, Touch, Touches, readers, reads_first, sources, touch_from, touches_of};
 use crate::rising::{Rising, empty_rows, mark, stands};
@@ -22,6 +23,7 @@ use value_core::{Many, Memory};
 /// Which registers are read again at each place of a function.
 #[derive(Drop)]
 pub struct LiveTable {
+    homes: Many<Home>,
     touches: Touches,
     rows: Many<Rising>,
 }
@@ -121,26 +123,46 @@ fn marked_rows(
     Ok(Many::from_vec(rows))
 }
 
-/// The table of blocks whose paths go over their ends alone.
-fn table_of(alloc: Global, blocks: &[Steps], count: usize) -> Result<LiveTable, Memory>
-    ensures touches { IfOk result (λ table. AreTouches blocks.now count table.touches) }
-    ensures rows { IfOk result (λ table. (r : ℕ) → r < count → IsLiveRow blocks.now r (has table.rows r)) }
+/// The table of pieces, whose paths go over their ends alone.
+fn table_of(
+    alloc: Global,
+    homes: Many<Home>,
+    pieces: &[Steps],
+    count: usize,
+) -> Result<LiveTable, Memory>
+    ensures homes { IfOk result (λ table. table.homes ≡ homes) }
+    ensures touches { IfOk result (λ table. AreTouches pieces.now count table.touches) }
+    ensures rows { IfOk result (λ table. (r : ℕ) → r < count → IsLiveRow pieces.now r (has table.rows r)) }
 {
-    let touches = touches_of(alloc, blocks, count)?;
-    let rows = marked_rows(alloc, blocks, &touches, count)?;
-    Ok(LiveTable { touches, rows })
+    let touches = touches_of(alloc, pieces, count)?;
+    let rows = marked_rows(alloc, pieces, &touches, count)?;
+    Ok(LiveTable {
+        homes,
+        touches,
+        rows,
+    })
 }
 
-/// The table of a function. Its handlers are passed over: where the failure of each operation goes over its edge, no path comes
-/// to one.
+/// The table of a function.
 pub fn live(alloc: Global, f: &Func) -> Result<LiveTable, Memory>
-    ensures bare { IfOk result (λ table. IsLiveTable (bare f.now) table) }
-    ensures bare_starts { IfOk result (λ table. AreStarts (bare f.now) table) }
-    ensures exact { IfOk result (λ table. GoesOverEnds f.now → IsLiveTable f.now table) }
-    ensures starts { IfOk result (λ table. GoesOverEnds f.now → AreStarts f.now table) }
+    ensures exact { IfOk result (λ table. IsLiveTable f.now table) }
+    ensures starts { IfOk result (λ table. AreStarts f.now table) }
+{
+    let layout = layout_of(alloc, f.blocks.as_slice())?;
+    let pieces = kept_pieces(alloc, f, &layout)?;
+    let table = table_of(alloc, layout.homes, pieces.as_slice(), f.regs.len())?;
+    Ok(table)
+}
+
+/// The table of a function whose handlers are passed over, as they may be where the failure of each operation goes over its
+/// edge.
+pub fn live_bare(alloc: Global, f: &Func) -> Result<LiveTable, Memory>
+    ensures exact { IfOk result (λ table. IsLiveTable (bare f.now) table) }
+    ensures starts { IfOk result (λ table. AreStarts (bare f.now) table) }
 {
     let blocks = kept_blocks(alloc, f.blocks.as_slice())?;
-    let table = table_of(alloc, blocks.as_slice(), f.regs.len())?;
+    let homes = whole(alloc, blocks.len())?;
+    let table = table_of(alloc, homes, blocks.as_slice(), f.regs.len())?;
     Ok(table)
 }
 
@@ -154,7 +176,7 @@ fn goes_to_marked(rows: &[Rising], last: Last, r: usize) -> bool
     }
 }
 
-/// Whether a register is read again from a place of a block on.
+/// Whether a register is read again from a place of a piece on.
 fn live_in(touches: &Touches, rows: &[Rising], span: Span, place: usize, r: usize) -> bool
     ensures { result ≡ live_in touches.now rows.now (Some span) place r }
 {
@@ -168,14 +190,43 @@ fn live_in(touches: &Touches, rows: &[Rising], span: Span, place: usize, r: usiz
     }
 }
 
+fn live_by(touches: &Touches, rows: &[Rising], piece: usize, place: usize, r: usize) -> bool
+    ensures { result ≡ live_by touches.now rows.now piece place r }
+{
+    match touches.spans.get(piece) {
+        Some(span) => live_in(touches, rows, *span, place, r),
+        None => false,
+    }
+}
+
+/// The numbers of a row, which are none where there is no such row.
+fn row_of(rows: &[Rising], t: usize) -> &[usize]
+    ensures numbers { result.now ≡ get_or rows.now t [] }
+    ensures rising { IsRising result.now }
+{
+    match rows.get(t) {
+        Some(row) => row.as_slice(),
+        None => &[],
+    }
+}
+
 impl LiveTable {
     /// Whether some path from a place of a block reads a register before it writes it. A place is the number of an
     /// operation, before which it stands; the number of the operations is the place before the end.
     pub fn is_live(&self, block: usize, place: usize, r: Reg) -> bool
         ensures { result ≡ says_live self.now block place r.0 }
     {
-        match self.touches.spans.get(block) {
-            Some(span) => live_in(&self.touches, self.rows.as_slice(), *span, place, r.0),
+        match self.homes.get(block) {
+            Some(home) => {
+                let rows = self.rows.as_slice();
+                live_by(
+                    &self.touches,
+                    rows,
+                    home.piece(place),
+                    home.place(place),
+                    r.0,
+                )
+            }
             None => false,
         }
     }
@@ -185,8 +236,8 @@ impl LiveTable {
         ensures numbers { result.now ≡ starts_of self.now block }
         ensures rising { IsRising result.now }
     {
-        match self.rows.get(block) {
-            Some(row) => row.as_slice(),
+        match self.homes.get(block) {
+            Some(home) => row_of(self.rows.as_slice(), home.first()),
             None => &[],
         }
     }
@@ -195,6 +246,9 @@ impl LiveTable {
     pub fn is_live_at_start(&self, block: usize, r: Reg) -> bool
         ensures { result ≡ is_among (starts_of self.now block) r.0 }
     {
-        stands(self.rows.as_slice(), r.0, block)
+        match self.homes.get(block) {
+            Some(home) => stands(self.rows.as_slice(), r.0, home.first()),
+            None => false,
+        }
     }
 }

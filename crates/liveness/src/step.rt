@@ -2,7 +2,7 @@
 ghost use Rattle.std.specs.Prelude.{◌≡◌, ◌∷◌, [], ◌++◌, map, IfOk, OnOk};
 ghost use Rattle.std.specs.Option.{option_map};
 ghost use Rattle.liveness.specs.Paths.{number_of, registers_in, reads_of, write_of};
-ghost use Rattle.liveness.specs.Steps.{step_of, steps_of};
+ghost use Rattle.liveness.specs.Steps.{step_over, step_of, steps_of};
 
 use ir_core::{Block, Last, Op, PArg, Reg};
 use std::alloc::Global;
@@ -106,16 +106,30 @@ pub fn register_written(op: &Op) -> Option<usize>
     }
 }
 
-fn kept_steps(alloc: Global, ops: &[(Op, usize)]) -> Result<Many<Step>, Memory>
+fn step_over(alloc: Global, op: &Op) -> Result<Step, Memory>
+    ensures { IfOk result (λ step. step ≡ step_over op.now) }
+{
+    Ok(Step {
+        reads: registers_read(alloc, op)?,
+        write: register_written(op),
+    })
+}
+
+/// What is kept of one operation.
+pub(crate) fn kept_step(alloc: Global, op: &Op) -> Result<Many<Step>, Memory>
+    ensures { IfOk result (λ all. all ≡ step_over op.now ∷ []) }
+{
+    let mut all = Many::new(alloc);
+    all.push(step_over(alloc, op)?)?;
+    Ok(all)
+}
+
+pub(crate) fn kept_steps(alloc: Global, ops: &[(Op, usize)]) -> Result<Many<Step>, Memory>
     ensures { IfOk result (λ all. all ≡ map step_of ops.now) }
 {
     let mut all = Vec::new(alloc);
     for (op, _) in ops {
-        let reads = registers_read(alloc, op)?;
-        all.push(Step {
-            reads,
-            write: register_written(op),
-        })?;
+        all.push(step_over(alloc, op)?)?;
     }
     Ok(Many::from_vec(all))
 }

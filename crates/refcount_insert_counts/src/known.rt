@@ -6,7 +6,7 @@ ghost use Rattle.refcount_insert_rule.specs.Counted.{counts_register};
 ghost use Rattle.refcount_insert_counts.specs.Known.{IsKnown, owned_at, held_at, entered};
 
 use ir_core::{Func, RType, Reg};
-use liveness::{BorrowTable, LiveTable, borrowed, live};
+use liveness::{BorrowTable, LiveTable, borrowed_bare, live_bare};
 use std::alloc::Global;
 use value_core::{Memory, Name};
 
@@ -21,8 +21,8 @@ pub struct KnownRegisters {
 pub fn known_of(alloc: Global, f: &Func) -> Result<KnownRegisters, Memory>
     ensures { IfOk result (λ known. IsKnown (bare f.now) known) }
 {
-    let live = live(alloc, f)?;
-    let lent = borrowed(alloc, f)?;
+    let live = live_bare(alloc, f)?;
+    let lent = borrowed_bare(alloc, f)?;
     Ok(KnownRegisters { live, lent })
 }
 

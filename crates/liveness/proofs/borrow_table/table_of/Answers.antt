@@ -1,16 +1,15 @@
-use Rattle.std.proofs.Common.{◌≡◌, ◌∙◌, ◌<◌, ◌≤◌, ℕ, [], ◌∷◌, map, length, sym, ap, subst, arith, true, false, get_or}
+use Rattle.std.proofs.Common.{◌≡◌, ◌∙◌, ◌<◌, ℕ, [], ◌∷◌, map, length, sym, ap, subst, arith, true, false, get_or}
 use Rattle.std.specs.Prelude.{◌↔◌}
 use Rattle.std.proofs.lemmas.List.{length-map}
-use Rattle.liveness.specs.Rising.{has, rows_with}
-use Rattle.liveness.specs.Places.{AreTouches, writes_of_block, targets_of, lets}
+use Rattle.liveness.specs.Places.{targets_of, lets}
 use Rattle.liveness.specs.Flood.{Comes}
-use Rattle.liveness.specs.Rows.{IsMetRow, AreSpread, Spread, seeds_of}
+use Rattle.liveness.specs.Rows.{AreSpread}
 use Rattle.liveness.proofs.SpreadLemmas.{met_exact}
 use Rattle.liveness.proofs.borrow_table.table_of.Goals as goal
 
-pub returns : goal.returns
-returns c =
-    let blocks = c.args.blocks.now in
+pub returns-clause-marked : goal.returns-clause-marked
+returns-clause-marked c =
+    let blocks = c.args.pieces.now in
     let edges : c.in_ok-edges.edges ≡ map targets_of blocks = c.in_ok-edges.ensures in
     let size : length c.in_ok-rows.rows ≡ length blocks =
     omega (arith, c.in_ok-rows.ensures.size, ap length (c.as_slice-4.ensures ∙ edges), length-map blocks targets_of) in
