@@ -69,7 +69,7 @@ take_get (suc n) (suc i) (y ∷ xs) x e = take_get n i xs x e
 
 first_there : (ops : List (Op × ℕ)) (last : Last) → (i : Item) × (in_block ops last 0 ≡ Some i)
 first_there [] last = (End last, refl)
-first_there (o ∷ ops) last = (Do o.0, refl)
+first_there (o ∷ ops) last = (Do o.0 o.1, refl)
 
 block_starts : (blocks : List Block) (t : ℕ) → t < length blocks → (i : Item) × (item_in blocks t 0 ≡ Some i)
 block_starts blocks t lt =

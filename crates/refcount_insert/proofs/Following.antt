@@ -11,6 +11,8 @@ use Rattle.ir_core.specs.Runs.{MeansSame, Fit}
 use Rattle.ir_core.specs.Shape.{Shape}
 use Rattle.refcount_insert_lines_laws.specs.Follows.{RunFollows, Follows}
 use Rattle.refcount_insert_rule.specs.Counted.{IsCountedProgram}
+use Rattle.refcount_insert_meaning_laws.specs.Uncounted.{uncounted}
+use Rattle.refcount_insert_meaning_laws.proofs.Whole.{counted_means_same, counted_fits}
 use Rattle.refcount_insert_order_laws.proofs.Whole.{counted_is_in_order}
 use Rattle.refcount_insert_shapes_laws.proofs.Whole.{counted_is_well_formed}
 use Rattle.refcount_insert_runs_laws.proofs.Whole.{counted_runs_follow}
@@ -39,6 +41,17 @@ module _ (p q : Program) (code : Code) (globals : map global_of q.globals ≡ ma
 
   follows_same : Follows p code → Follows q code
   follows_same f = record { is_well_formed = f.is_well_formed; same_globals = f.same_globals ∙ sym globals; runs = λ turns items. runs_same turns items (f.runs turns items) }
+
+-- without its counts it means the same
+pub counted_means : (p q : Program) → Shape p → Fit p → IsCountedProgram (bare_program p) q → MeansSame p (uncounted q)
+counted_means p q shape fit counted turns items e w =
+    let bare = bare_is_same.means p fit turns items e w in
+    let same = counted_means_same (bare_program p) q (bare_is_same.shape p shape) (bare_is_same.fits p fit) counted turns items e w in
+    (λ h. same.0 (bare.1 h), λ h. bare.0 (same.1 h))
+
+pub counted_fit : (p q : Program) → Shape p → Fit p → IsCountedProgram (bare_program p) q → Fit (uncounted q)
+counted_fit p q shape fit counted =
+    counted_fits (bare_program p) q (bare_is_same.shape p shape) (bare_is_same.fits p fit) counted
 
 pub counted_follows : (p q : Program) (code : Code) → Shape p → Fit p → IsCountedProgram (bare_program p) q → code ≡ lower q → Follows p code
 counted_follows p q code shape fit counted is =

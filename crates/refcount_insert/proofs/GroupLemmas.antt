@@ -88,20 +88,20 @@ pub not_counted : (regs : Declared) (r : ℕ) → length regs ≤ r → counts_r
 not_counted regs r le =
     ap (λ z. option_map_or is_counted (option_map (λ (x : List ℕ × RType). x.1) z) false) (get_none regs r le)
 
-next_there : (blocks : List Block) (b p : ℕ) (o : Op) → item_in blocks b p ≡ Some (Do o) → (i : Item) × (item_in blocks b (suc p) ≡ Some i)
-next_there blocks b p o e =
-    let there = item_block (slice_get blocks b) p (Do o) e in
+next_there : (blocks : List Block) (b p : ℕ) (o : Op) {line : ℕ} → item_in blocks b p ≡ Some (Do o line) → (i : Item) × (item_in blocks b (suc p) ≡ Some i)
+next_there blocks b p o {line} e =
+    let there = item_block (slice_get blocks b) p (Do o line) e in
     let next = next_item there.0.ops there.0.last p o (ap (λ z. item_of z p) (sym there.1) ∙ e) in
     (next.0, ap (λ z. item_of z (suc p)) there.1 ∙ next.1)
 
 module _ (f : Func) (known : KnownRegisters) (is : IsKnown f known) where
-  untouched : (b p : ℕ) (o : Op) (r : ℕ) → item_in f.blocks b p ≡ Some (Do o) → is_among (reads_of o) r ≡ false → is_target (write_of o) r ≡ false → owned_at known f.regs b p r ≡ owned_at known f.regs b (suc p) r
-  untouched b p o r here no_read no_write =
+  untouched : (b p : ℕ) (o : Op) (r : ℕ) {line : ℕ} → item_in f.blocks b p ≡ Some (Do o line) → is_among (reads_of o) r ≡ false → is_target (write_of o) r ≡ false → owned_at known f.regs b p r ≡ owned_at known f.regs b (suc p) r
+  untouched b p o r {line} here no_read no_write =
       ⊎_elim
       (λ lt.
       let next = next_there f.blocks b p o here in
-      let live = same_truth (says_live known.live b p r) (says_live known.live b (suc p) r) (is.live b p r (Do o) here lt) (is.live b (suc p) r next.0 next.1 lt) (live_behind f r b p o here no_read no_write is.calm) (live_before f r b p o here no_read no_write) in
-      let lent = same_truth (says_borrowed known.lent b p r) (says_borrowed known.lent b (suc p) r) (is.lent b p r (Do o) here lt) (is.lent b (suc p) r next.0 next.1 lt) (λ h owned. h (owned_before f r b p o here no_read no_write owned)) (λ h owned. h (owned_behind f r b p o here no_read no_write owned)) in
+      let live = same_truth (says_live known.live b p r) (says_live known.live b (suc p) r) (is.live b p r (Do o line) here lt) (is.live b (suc p) r next.0 next.1 lt) (live_behind f r b p o here no_read no_write is.calm) (live_before f r b p o here no_read no_write) in
+      let lent = same_truth (says_borrowed known.lent b p r) (says_borrowed known.lent b (suc p) r) (is.lent b p r (Do o line) here lt) (is.lent b (suc p) r next.0 next.1 lt) (λ h owned. h (owned_before f r b p o here no_read no_write owned)) (λ h owned. h (owned_behind f r b p o here no_read no_write owned)) in
       ap (λ z. one_if (counts_register f.regs r && (z && not (says_borrowed known.lent b p r)))) live ∙ ap (λ z. one_if (counts_register f.regs r && (says_live known.live b (suc p) r && not z))) lent)
       (λ ge.
       let off = not_counted f.regs r ge in
@@ -137,7 +137,7 @@ of_all is k rs each off r = each r ∙ which (is r) refl
     which true e = refl
     which false e = sym (off r e)
 
-pub group_is : (f : Func) (known : KnownRegisters) (is : IsKnown f known) (b p : ℕ) (o : Op × ℕ) (group : List (Op × ℕ)) → item_in f.blocks b p ≡ Some (Do o.0) → IsCountedOp known f.regs (owned_at known f.regs b p) (owned_at known f.regs b (suc p)) o group → IsGroup (counts_register f.regs) o (owned_at known f.regs b p) (owned_at known f.regs b (suc p)) group
+pub group_is : (f : Func) (known : KnownRegisters) (is : IsKnown f known) (b p : ℕ) (o : Op × ℕ) (group : List (Op × ℕ)) → item_in f.blocks b p ≡ Some (Do o.0 o.1) → IsCountedOp known f.regs (owned_at known f.regs b p) (owned_at known f.regs b (suc p)) o group → IsGroup (counts_register f.regs) o (owned_at known f.regs b p) (owned_at known f.regs b (suc p)) group
 group_is f known is b p o group here counted =
     let c : Counts = counted.0 in
     let have = owned_at known f.regs b p in

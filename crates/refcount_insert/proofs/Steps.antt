@@ -20,8 +20,8 @@ same_truth true false p q f g = sym (q.1 (f (p.0 refl)))
 same_truth false true p q f g = p.1 (g (q.0 refl))
 
 module _ (f : Func) (r : ℕ) where
-  module _ (b p : ℕ) (o : Op) (here : item_in f.blocks b p ≡ Some (Do o)) (no_read : is_among (reads_of o) r ≡ false) (no_write : is_target (write_of o) r ≡ false) where
-    same_item : (i : Item) → item_in f.blocks b p ≡ Some i → i ≡ Do o
+  module _ (b p : ℕ) (o : Op) {line : ℕ} (here : item_in f.blocks b p ≡ Some (Do o line)) (no_read : is_among (reads_of o) r ≡ false) (no_write : is_target (write_of o) r ≡ false) where
+    same_item : (i : Item) → item_in f.blocks b p ≡ Some i → i ≡ Do o line
     same_item i e = same_Some _ _ (sym e ∙ here)
 
     live_past : IsBare f → (c q : ℕ) → LiveAt f r c q → c ≡ b → q ≡ p → LiveAt f r b (suc p)
@@ -35,17 +35,17 @@ module _ (f : Func) (r : ℕ) where
         absurd (calm c h at)
     live_past calm c q (path.goes_on x y u v i e w (jumps x2 y2 n t l e2 at) on) same_c same_q =
         let there : item_in f.blocks b p ≡ Some (End l) = ap (λ z. item_in f.blocks z p) (sym same_c) ∙ ap (item_in f.blocks c) (sym same_q) ∙ e2 in
-        let odd : End l ≡ Do o = same_item (End l) there in
+        let odd : End l ≡ Do o line = same_item (End l) there in
         absurd (cc)
 
     pub live_behind : IsBare f → LiveAt f r b p → LiveAt f r b (suc p)
     live_behind calm h = live_past calm b p h refl refl
 
     pub live_before : LiveAt f r b (suc p) → LiveAt f r b p
-    live_before h = path.goes_on b p b (suc p) (Do o) here no_write (passes b p o here) h
+    live_before h = path.goes_on b p b (suc p) (Do o line) here no_write (passes b p o here) h
 
     pub owned_behind : OwnedAt f r b p → OwnedAt f r b (suc p)
-    owned_behind h = kept b p b (suc p) (Do o) h here no_write (passes b p o here)
+    owned_behind h = kept b p b (suc p) (Do o line) h here no_write (passes b p o here)
 
     owned_past : (c q : ℕ) → OwnedAt f r c q → c ≡ b → q ≡ suc p → OwnedAt f r b p
     owned_past c q (no_parameter le) same_c same_q = absurd (omega (arith, same_q))
@@ -74,9 +74,9 @@ module _ (f : Func) (r : ℕ) where
     end_past calm c q (path.reads_here x y i e a) same_c same_q =
         let at : item_in f.blocks b p ≡ Some i = ap (λ z. item_in f.blocks z p) (sym same_c) ∙ ap (item_in f.blocks c) (sym same_q) ∙ e in
         inl (sym (ap (λ z. reads z r) (same_end i at)) ∙ a)
-    end_past calm c q (path.goes_on x y u v i e w (passes x2 y2 o2 e2) on) same_c same_q =
-        let there : item_in f.blocks b p ≡ Some (Do o2) = ap (λ z. item_in f.blocks z p) (sym same_c) ∙ ap (item_in f.blocks c) (sym same_q) ∙ e2 in
-        let odd : Do o2 ≡ End l = same_end (Do o2) there in
+    end_past calm c q (path.goes_on x y u v i e w (passes x2 y2 o2 {line} e2) on) same_c same_q =
+        let there : item_in f.blocks b p ≡ Some (Do o2 line) = ap (λ z. item_in f.blocks z p) (sym same_c) ∙ ap (item_in f.blocks c) (sym same_q) ∙ e2 in
+        let odd : Do o2 line ≡ End l = same_end (Do o2 line) there in
         absurd (cc)
     end_past calm c q (path.goes_on x y u v i e w (fails x2 y2 h o2 e2 caught at) on) same_c same_q =
         absurd (calm c h at)

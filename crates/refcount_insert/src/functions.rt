@@ -3,7 +3,7 @@ ghost use Rattle.std.specs.Prelude.{◌≡◌, ◌≤◌, ◌^◌, List, length,
 ghost use Rattle.ir_core.specs.declared.code.Program.{Program as ProgramItem};
 ghost use Rattle.ir_core.specs.Bare.{bare, bare_program};
 ghost use Rattle.ir_core.specs.Lower as spec;
-ghost use Rattle.ir_core.specs.Runs.{Fit};
+ghost use Rattle.ir_core.specs.Runs.{MeansSame, Fit};
 ghost use Rattle.ir_core.specs.Shape.{Shape, FuncFits, FuncsFit};
 ghost use Rattle.refcount_insert_counts.specs.declared.known.KnownRegisters.{KnownRegisters as KnownItem};
 ghost use Rattle.refcount_insert.specs.declared.plan.Planned.{Planned as PlannedItem};
@@ -11,6 +11,7 @@ ghost use Rattle.refcount_insert_counts.specs.Known.{IsKnown};
 ghost use Rattle.refcount_insert.specs.Plan.{ArePlanned};
 ghost use Rattle.refcount_insert.specs.Layout.{starts_from, number_at, all_laid};
 ghost use Rattle.refcount_insert_lines_laws.specs.Follows.{Follows};
+ghost use Rattle.refcount_insert_meaning_laws.specs.Uncounted.{uncounted};
 ghost use Rattle.refcount_insert_rule.specs.Counted.{IsCountedFunc, AreCounted, IsCountedProgram};
 
 use crate::copies::copy_declared;
@@ -63,12 +64,10 @@ fn counted_functions(alloc: Global, funcs: &[Func]) -> Result<Many<Func>, Memory
     Ok(Many::from_vec(all))
 }
 
-/// A program with its counts. Its failures go over edges, so its handlers are left out: none is ever gone to.
-pub fn with_counts(alloc: Global, e: &Edged) -> Result<Program, Memory>
-    requires shape { Shape e.now.program }
-    ensures counted { IfOk result (λ q. IsCountedProgram (bare_program e.now.program) q) }
+fn counted_program(alloc: Global, p: &Program) -> Result<Program, Memory>
+    requires { Shape p.now }
+    ensures { IfOk result (λ q. IsCountedProgram (bare_program p.now) q) }
 {
-    let p = &e.program;
     let globals = copy_declared(alloc, p.globals.as_slice())?;
     let classes = copy_classes(alloc, p.classes.as_slice())?;
     let funcs = counted_functions(alloc, p.funcs.as_slice())?;
@@ -77,6 +76,20 @@ pub fn with_counts(alloc: Global, e: &Edged) -> Result<Program, Memory>
         classes,
         funcs,
     })
+}
+
+/// A program with its counts, and without its handlers. Where each operation that fails has its edge, no handler is ever gone to;
+/// then what is given means the same without its counts, each operation that fails has its edge again, and the C text with
+/// the counts does what the program does.
+pub fn with_counts(alloc: Global, e: &Edged) -> Result<Program, Memory>
+    requires { Shape e.now.program }
+    ensures counted { IfOk result (λ q. IsCountedProgram (bare_program e.now.program) q) }
+    ensures follows { IfOk result (λ q. Fit e.now.program → Follows e.now.program (spec.lower q)) }
+    ensures means { IfOk result (λ q. Fit e.now.program → MeansSame e.now.program (uncounted q)) }
+    ensures fits { IfOk result (λ q. Fit e.now.program → Fit (uncounted q)) }
+{
+    let counted = counted_program(alloc, &e.program)?;
+    Ok(counted)
 }
 
 /// The C text of a program with its counts, as data. It does what the program does, its runs never fault, and at their end each

@@ -83,9 +83,7 @@ fn functions_of(alloc: Global, p: &Program) -> Result<Many<CFunc>, Memory>
     Ok(all)
 }
 
-/// The C text of a program, as data: it is well formed where the program has its shape, and does what the program does.
-/// Want of memory is the only other answer; so is a call of a method whose place does not fit an `i64`, since no list is
-/// as long.
+/// The C text of a program, as data: one statement for each operation and each end. Want of memory is the only other answer.
 pub fn lower(alloc: Global, p: &Program) -> Result<Code, Memory>
     ensures { IfOk result (λ code. code ≡ spec.lower p.now) }
 {

@@ -51,12 +51,12 @@ get_line q (x ∷ ops) zero o e =
     ap (λ (z : Op × ℕ). Some (line_of q z.0)) same
 get_line q (x ∷ ops) (suc n) o e = get_line q ops n o e
 
-get_item : (ops : List (Op × ℕ)) (last : Last) (n : ℕ) (o : Op × ℕ) → slice_get ops n ≡ Some o → in_block ops last n ≡ Some (Do o.0)
+get_item : (ops : List (Op × ℕ)) (last : Last) (n : ℕ) (o : Op × ℕ) → slice_get ops n ≡ Some o → in_block ops last n ≡ Some (Do o.0 o.1)
 get_item [] last n o e = let f : None ≡ Some o = e in absurd (cc)
 get_item (x ∷ ops) last zero o e =
     let f : Some x ≡ Some o = e in
     let same : x ≡ o = cc in
-    ap (λ (z : Op × ℕ). Some (Do z.0)) same
+    ap (λ (z : Op × ℕ). Some (Do z.0 z.1)) same
 get_item (x ∷ ops) last (suc n) o e = get_item ops last n o e
 
 none_times : (xs : List ℕ) → ((r : ℕ) → times xs r ≡ 0) → xs ≡ []
@@ -82,8 +82,8 @@ some_or_none (suc n) = inl (omega arith)
 
 module _ (f : Func) (t : Tables f) where
   -- what is owned behind an operation that does not write it is owned before
-  owned_before : (b p r : ℕ) (o : Op) → item_in f.blocks b p ≡ Some (Do o) → is_target (write_of o) r ≡ false → owned f t b (suc p) r ≤ owned f t b p r
-  owned_before b p r o e off = ⊎_elim some (λ none. omega (arith, none)) (some_or_none (owned f t b (suc p) r))
+  owned_before : (b p r : ℕ) (o : Op) {line : ℕ} → item_in f.blocks b p ≡ Some (Do o line) → is_target (write_of o) r ≡ false → owned f t b (suc p) r ≤ owned f t b p r
+  owned_before b p r o {line} e off = ⊎_elim some (λ none. omega (arith, none)) (some_or_none (owned f t b (suc p) r))
     where
       some : 1 ≤ owned f t b (suc p) r → owned f t b (suc p) r ≤ owned f t b p r
       some le =
@@ -91,19 +91,19 @@ module _ (f : Func) (t : Tables f) where
           let inside : r < length f.regs = counted_there f.regs r tells.0 in
           let behind = item_next (slice_get f.blocks b) p o e in
           let later : LiveAt f r b (suc p) = (t.is_live b (suc p) r behind.0 behind.1 inside).0 tells.1 in
-          let live : t.live b p r ≡ true = (t.is_live b p r (Do o) e inside).1 (goes_on b p b (suc p) (Do o) e off (passes b p o e) later) in
+          let live : t.live b p r ≡ true = (t.is_live b p r (Do o line) e inside).1 (goes_on b p b (suc p) (Do o line) e off (passes b p o e) later) in
           let here = one_here (counts_register f.regs r) (t.live b p r) (t.lent b p r) tells.0 live (free (t.lent b p r) refl behind.0 behind.1 inside tells.2) in
           omega (arith, here, few_owned f t b (suc p) r)
         where
           free : (l : Bool) → t.lent b p r ≡ l → (i : Item) → item_in f.blocks b (suc p) ≡ Some i → r < length f.regs → t.lent b (suc p) r ≡ false → t.lent b p r ≡ false
           free false is i there inside later = is
           free true is i there inside later =
-              let borrowed : BorrowedAt f r b p = (t.is_lent b p r (Do o) e inside).0 is in
+              let borrowed : BorrowedAt f r b p = (t.is_lent b p r (Do o line) e inside).0 is in
               let also : t.lent b (suc p) r ≡ true = (t.is_lent b (suc p) r i there inside).1 (λ own. borrowed (owned_from f r b p b (suc p) o e off own refl refl)) in
               let both : true ≡ false = sym also ∙ later in
               absurd (cc)
 
-  none_before : (b p : ℕ) (o : Op) → item_in f.blocks b p ≡ Some (Do o) → is_call o ≡ true → (r : ℕ) → counts_before (counts_register f.regs) o (owned f t b p) (owned f t b (suc p)) r ≡ 0
+  none_before : (b p : ℕ) (o : Op) {line : ℕ} → item_in f.blocks b p ≡ Some (Do o line) → is_call o ≡ true → (r : ℕ) → counts_before (counts_register f.regs) o (owned f t b p) (owned f t b (suc p)) r ≡ 0
   none_before b p o e call r =
       by (counts_register f.regs r) (takes o r + cond (is_target (write_of o) r) 0 (owned f t b (suc p) r) - owned f t b p r) (needed (is_target (write_of o) r) refl)
     where
@@ -136,7 +136,7 @@ call_line q f g c b k is h i o at call =
     let first : ℕ = h.label + length (label_before (c.number b)) in
     let lines : List Line = lines_from q 0 g.blocks in
     let old : slice_get k.ops i ≡ Some o = ⊎_elim (λ same. ap (λ z. slice_get z i) same ∙ at) (λ turn. ap (λ z. slice_get z i) turn.1 ∙ get_before h.front _ i o at) h.is_front in
-    let item : item_in f.blocks b i ≡ Some (Do o.0) = ap (λ z. item_of z i) is ∙ get_item k.ops k.last i o old in
+    let item : item_in f.blocks b i ≡ Some (Do o.0 o.1) = ap (λ z. item_of z i) is ∙ get_item k.ops k.last i o old in
     let none : found.up ≡ [] = none_times found.up (λ r. found.before r ∙ none_before f c.tables b i o.0 item call r) in
     let begins : group.0 ≡ o ∷ downs found.down o.1 = found.is ∙ ap (λ u. ups u o.1 ++ (o ∷ downs found.down o.1)) none in
     let in_groups : slice_get h.groups before ≡ Some o = first_dropped h.groups before ∙ (ap (λ z. slice_get z 0) group.2 ∙ ap (λ z. slice_get (z ++ group.1) 0) begins) in

@@ -51,7 +51,7 @@ block_there (x ∷ bs) (suc j) lt = block_there bs j (omega (arith, lt))
 
 item_first : (ops : List (Op × ℕ)) (last : Last) → (j : Item) × (in_block ops last 0 ≡ Some j)
 item_first [] last = (End last, refl)
-item_first (o ∷ os) last = (Do o.0, refl)
+item_first (o ∷ os) last = (Do o.0 o.1, refl)
 
 -- the shares of a test's error edge: the register that is tested has no cell
 abbrev pub failed_at : (f : Func) → Tables f → ℕ → ℕ → Reg → ℕ → Shares

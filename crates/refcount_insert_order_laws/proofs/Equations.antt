@@ -92,8 +92,8 @@ one_none true false b e = refl
 one_none false l b e = refl
 
 -- ---- items
-pub item_next : (b : Option Block) (p : ℕ) (o : Op) → item_of b p ≡ Some (Do o) → (i : Item) × (item_of b (suc p) ≡ Some i)
-item_next None p o e = let f : None ≡ Some (Do o) = e in absurd (cc)
+pub item_next : (b : Option Block) (p : ℕ) (o : Op) {line : ℕ} → item_of b p ≡ Some (Do o line) → (i : Item) × (item_of b (suc p) ≡ Some i)
+item_next None p o {line} e = let f : None ≡ Some (Do o line) = e in absurd (cc)
 item_next (Some k) p o e = next_item k.ops k.last p o e
 
 module _ (f : Func) where
@@ -101,26 +101,26 @@ module _ (f : Func) where
   same_item b p i j e h = same_Some i j (sym e ∙ h)
 
   -- what is written and not read is not read again
-  dead_before : (r b p : ℕ) (o : Op) → item_in f.blocks b p ≡ Some (Do o) → is_target (write_of o) r ≡ true → is_among (reads_of o) r ≡ false → LiveAt f r b p → ⊥
-  dead_before r b p o e w u (reads_here x y i is at) =
-      let same : i ≡ Do o = same_item b p i (Do o) is e in
+  dead_before : (r b p : ℕ) (o : Op) {line : ℕ} → item_in f.blocks b p ≡ Some (Do o line) → is_target (write_of o) r ≡ true → is_among (reads_of o) r ≡ false → LiveAt f r b p → ⊥
+  dead_before r b p o {line} e w u (reads_here x y i is at) =
+      let same : i ≡ Do o line = same_item b p i (Do o line) is e in
       let both : true ≡ false = sym at ∙ (ap (λ z. path.reads z r) same ∙ u) in
       absurd (cc)
-  dead_before r b p o e w u (goes_on x y c q i is off go on) =
-      let same : i ≡ Do o = same_item b p i (Do o) is e in
+  dead_before r b p o {line} e w u (goes_on x y c q i is off go on) =
+      let same : i ≡ Do o line = same_item b p i (Do o line) is e in
       let both : true ≡ false = sym w ∙ (ap (λ z. path.writes z r) (sym same) ∙ off) in
       absurd (cc)
 
   -- what is written last before the next place
-  pub owned_from : (r b p c q : ℕ) (o : Op) → item_in f.blocks b p ≡ Some (Do o) → is_target (write_of o) r ≡ false → OwnedAt f r c q → c ≡ b → q ≡ suc p → OwnedAt f r b p
+  pub owned_from : (r b p c q : ℕ) (o : Op) {line : ℕ} → item_in f.blocks b p ≡ Some (Do o line) → is_target (write_of o) r ≡ false → OwnedAt f r c q → c ≡ b → q ≡ suc p → OwnedAt f r b p
   owned_from r b p c q o e w (no_parameter le) ec eq = absurd (omega (arith, eq))
-  owned_from r b p c q o e w (written x y c2 q2 i met is at lent go) ec eq = absurd (past x y c q i go is at ec eq)
+  owned_from r b p c q o {line} e w (written x y c2 q2 i met is at lent go) ec eq = absurd (past x y c q i go is at ec eq)
     where
       past : (x y c q : ℕ) (i : Item) → Goes f x y c q → item_in f.blocks x y ≡ Some i → path.writes i r ≡ true → c ≡ b → q ≡ suc p → ⊥
       past x y c q i (passes b2 p2 o2 e2) is at ec eq =
           let place : y ≡ p = omega (arith, eq) in
           let here : item_in f.blocks b p ≡ Some i = ap (λ z. item_in f.blocks z p) (sym ec) ∙ (ap (item_in f.blocks x) (sym place) ∙ is) in
-          let same : i ≡ Do o = same_item b p i (Do o) here e in
+          let same : i ≡ Do o line = same_item b p i (Do o line) here e in
           let both : true ≡ false = sym at ∙ (ap (λ z. path.writes z r) same ∙ w) in
           absurd (cc)
       past x y c q i (fails b2 p2 h o2 e2 caught there) is at ec eq = omega (arith, eq)
@@ -135,16 +135,16 @@ module _ (f : Func) where
       back x y c q own (jumps b2 p2 j t l e2 there) ec eq = absurd (omega (arith, eq))
 
   -- what a turn leaves is read again behind it
-  live_back : IsBare f → (r b p : ℕ) → item_in f.blocks b p ≡ Some (Do Turn) → LiveAt f r b p → LiveAt f r b (suc p)
-  live_back calm r b p e (reads_here x y i is at) =
-      let same : i ≡ Do Turn = same_item b p i (Do Turn) is e in
+  live_back : IsBare f → (r b p : ℕ) {line : ℕ} → item_in f.blocks b p ≡ Some (Do Turn line) → LiveAt f r b p → LiveAt f r b (suc p)
+  live_back calm r b p {line} e (reads_here x y i is at) =
+      let same : i ≡ Do Turn line = same_item b p i (Do Turn line) is e in
       let both : true ≡ false = sym at ∙ ap (λ z. path.reads z r) same in
       absurd (cc)
   live_back calm r b p e (goes_on x y c q i is off (passes b2 p2 o2 e2) on) = on
   live_back calm r b p e (goes_on x y c q i is off (fails b2 p2 h o2 e2 caught there) on) =
       absurd (calm b h there)
-  live_back calm r b p e (goes_on x y c q i is off (jumps b2 p2 j t l e2 there) on) =
-      let both : End l ≡ Do Turn = same_item b p (End l) (Do Turn) e2 e in absurd (cc)
+  live_back calm r b p {line} e (goes_on x y c q i is off (jumps b2 p2 j t l e2 there) on) =
+      let both : End l ≡ Do Turn line = same_item b p (End l) (Do Turn line) e2 e in absurd (cc)
 
   -- a return reads what it returns, and nothing is read behind it
   live_returned : IsBare f → (r b p : ℕ) (x : Reg) → item_in f.blocks b p ≡ Some (End (Return x)) → LiveAt f r b p → nat_eq x.0 r ≡ true
@@ -155,8 +155,8 @@ module _ (f : Func) where
       left : (c : Bool) → (c || false) ≡ true → c ≡ true
       left true f = refl
       left false f = absurd (cc)
-  live_returned calm r b p x e (goes_on b2 p2 c q i is off (passes b3 p3 o2 e2) on) =
-      let both : Do o2 ≡ End (Return x) = same_item b p (Do o2) (End (Return x)) e2 e in absurd (cc)
+  live_returned calm r b p x e (goes_on b2 p2 c q i is off (passes b3 p3 o2 {line} e2) on) =
+      let both : Do o2 line ≡ End (Return x) = same_item b p (Do o2 line) (End (Return x)) e2 e in absurd (cc)
   live_returned calm r b p x e (goes_on b2 p2 c q i is off (fails b3 p3 h o2 e2 caught there) on) =
       absurd (calm b h there)
   live_returned calm r b p x e (goes_on b2 p2 c q i is off (jumps b3 p3 j t l e2 there) on) =
@@ -203,28 +203,28 @@ module _ (f : Func) where
     off_owned b p r off = one_off (counted r) (t.live b p r && not (t.lent b p r)) off
 
     -- ---- an operation at a place that is met
-    module _ (b p : ℕ) (o : Op) (is : item_in f.blocks b p ≡ Some (Do o)) (met : MetAt f b p) where
+    module _ (b p : ℕ) (o : Op) {line : ℕ} (is : item_in f.blocks b p ≡ Some (Do o line)) (met : MetAt f b p) where
       behind : (i : Item) × (item_in f.blocks b (suc p) ≡ Some i)
       behind = item_next (slice_get f.blocks b) p o is
 
       live_read : (r : ℕ) → r < length f.regs → is_among (reads_of o) r ≡ true → t.live b p r ≡ true
-      live_read r lt e = (t.is_live b p r (Do o) is lt).1 (reads_here b p (Do o) is e)
+      live_read r lt e = (t.is_live b p r (Do o line) is lt).1 (reads_here b p (Do o line) is e)
 
       live_on : (r : ℕ) → r < length f.regs → is_target (write_of o) r ≡ false → t.live b (suc p) r ≡ true → t.live b p r ≡ true
       live_on r lt off e =
-          (t.is_live b p r (Do o) is lt).1 (goes_on b p b (suc p) (Do o) is off (passes b p o is) ((t.is_live b (suc p) r behind.0 behind.1 lt).0 e))
+          (t.is_live b p r (Do o line) is lt).1 (goes_on b p b (suc p) (Do o line) is off (passes b p o is) ((t.is_live b (suc p) r behind.0 behind.1 lt).0 e))
 
       lent_on : (r : ℕ) → r < length f.regs → is_target (write_of o) r ≡ false → t.lent b (suc p) r ≡ t.lent b p r
       lent_on r lt off =
           both_bools (t.lent b (suc p) r) (t.lent b p r)
-          (λ e. (t.is_lent b p r (Do o) is lt).1 (λ own. (t.is_lent b (suc p) r behind.0 behind.1 lt).0 e (kept b p b (suc p) (Do o) own is off (passes b p o is))))
-          (λ e. (t.is_lent b (suc p) r behind.0 behind.1 lt).1 (λ own. (t.is_lent b p r (Do o) is lt).0 e (owned_from r b p b (suc p) o is off own refl refl)))
+          (λ e. (t.is_lent b p r (Do o line) is lt).1 (λ own. (t.is_lent b (suc p) r behind.0 behind.1 lt).0 e (kept b p b (suc p) (Do o line) own is off (passes b p o is))))
+          (λ e. (t.is_lent b (suc p) r behind.0 behind.1 lt).1 (λ own. (t.is_lent b p r (Do o line) is lt).0 e (owned_from r b p b (suc p) o is off own refl refl)))
 
       lent_off : (r : ℕ) → r < length f.regs → is_target (write_of o) r ≡ true → t.lent b (suc p) r ≡ false
       lent_off r lt hit = by (t.lent b (suc p) r) refl
         where
           by : (l : Bool) → t.lent b (suc p) r ≡ l → l ≡ false
-          by true e = absurd ((t.is_lent b (suc p) r behind.0 behind.1 lt).0 e (written b p b (suc p) (Do o) met is hit (no_lent (Do o)) (passes b p o is)))
+          by true e = absurd ((t.is_lent b (suc p) r behind.0 behind.1 lt).0 e (written b p b (suc p) (Do o line) met is hit (no_lent (Do o line)) (passes b p o is)))
           by false e = refl
 
       pub suits : ((r : ℕ) → is_among (reads_of o) r ≡ true → is_declared (map variable_of f.regs) r ≡ true) → ((r : ℕ) → is_declared (map variable_of f.regs) r ≡ true → may_refer (map variable_of f.regs) r ≡ counted r) → Suits (map variable_of f.regs) counted o (at b p) (at b (suc p))
@@ -252,7 +252,7 @@ module _ (f : Func) where
 
           dead : (r : ℕ) → is_target (write_of o) r ≡ true → is_among (reads_of o) r ≡ false → owned f t b p r ≡ 0
           dead r hit unread = ⊎_elim
-              (λ c. one_dead (counted r) (t.live b p r) (t.lent b p r) (⊎_elim (λ l. absurd (dead_before r b p o is hit unread ((t.is_live b p r (Do o) is (counted_there f.regs r c)).0 l))) (λ l. l) (either (t.live b p r))))
+              (λ c. one_dead (counted r) (t.live b p r) (t.lent b p r) (⊎_elim (λ l. absurd (dead_before r b p o is hit unread ((t.is_live b p r (Do o line) is (counted_there f.regs r c)).0 l))) (λ l. l) (either (t.live b p r))))
               (λ off. off_owned b p r off)
               (either (counted r))
 
@@ -263,11 +263,11 @@ module _ (f : Func) where
           lent_next r false off false lt = ap (λ z. z && t.lent b (suc p) r) lt ∙ ap (λ z. z && t.lent b p r) (sym lt)
 
     -- a turn changes nothing
-    pub turn_same : (b p : ℕ) → item_in f.blocks b p ≡ Some (Do Turn) → MetAt f b p → at b (suc p) ≡ at b p
-    turn_same b p is met =
+    pub turn_same : (b p : ℕ) {line : ℕ} → item_in f.blocks b p ≡ Some (Do Turn line) → MetAt f b p → at b (suc p) ≡ at b p
+    turn_same b p {line} is met =
         let lived : (r : ℕ) → r < length f.regs → t.live b (suc p) r ≡ t.live b p r = λ r lt.
         both_bools (t.live b (suc p) r) (t.live b p r) (live_on b p Turn is met r lt refl)
-        (λ e. (t.is_live b (suc p) r (behind b p Turn is met).0 (behind b p Turn is met).1 lt).1 (live_back t.calm r b p is ((t.is_live b p r (Do Turn) is lt).0 e))) in
+        (λ e. (t.is_live b (suc p) r (behind b p Turn is met).0 (behind b p Turn is met).1 lt).1 (live_back t.calm r b p is ((t.is_live b p r (Do Turn line) is lt).0 e))) in
         let own : (r : ℕ) → owned f t b (suc p) r ≡ owned f t b p r = λ r. ⊎_elim
         (λ c. ap (λ z. one_if (counted r && (z && not (t.lent b (suc p) r)))) (lived r (counted_there f.regs r c)) ∙ ap (λ z. one_if (counted r && (t.live b p r && not z))) (lent_on b p Turn is met r (counted_there f.regs r c) refl))
         (λ off. off_owned b (suc p) r off ∙ sym (off_owned b p r off))
@@ -295,7 +295,7 @@ module _ (f : Func) where
       where
         first_item : (ops : List (Op × ℕ)) (last : Last) → (i : Item) × (in_block ops last 0 ≡ Some i)
         first_item [] last = (End last, refl)
-        first_item (o ∷ ops) last = (Do o.0, refl)
+        first_item (o ∷ ops) last = (Do o.0 o.1, refl)
 
         never_owned : (b p : ℕ) → OwnedAt f r b p → b ≡ 0 → p ≡ 0 → ⊥
         never_owned b p (no_parameter le) eb ep = omega (arith, lt, le)

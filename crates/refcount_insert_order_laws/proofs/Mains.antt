@@ -33,11 +33,11 @@ pub record BlockFacts (p : Program) (old : Code) (f : Func) (name : List ℕ) (l
   pub last : LastFits (length f.blocks) b k.ops k.last
   pub text : IsLastFit f k.last
 
-item_here : (ops : List (Op × ℕ)) (last : Last) (i : ℕ) (o : Op × ℕ) → slice_get ops i ≡ Some o → in_block ops last i ≡ Some (Do o.0)
+item_here : (ops : List (Op × ℕ)) (last : Last) (i : ℕ) (o : Op × ℕ) → slice_get ops i ≡ Some o → in_block ops last i ≡ Some (Do o.0 o.1)
 item_here [] last i o e = let f : None ≡ Some o = e in absurd (cc)
 item_here (x ∷ ops) last zero o e =
     let f : Some x ≡ Some o = e in
-    let same : x ≡ o = cc in ap (λ (z : Op × ℕ). Some (Do z.0)) same
+    let same : x ≡ o = cc in ap (λ (z : Op × ℕ). Some (Do z.0 z.1)) same
 item_here (x ∷ ops) last (suc i) o e = item_here ops last i o e
 
 get_within : (ops : List (Op × ℕ)) (i : ℕ) (o : Op × ℕ) → slice_get ops i ≡ Some o → i < length ops
@@ -149,8 +149,8 @@ module _ (p q : Program) (f : Func) (t : Tables f) (number : ℕ → ℕ) (code 
         let turn : Op × ℕ = body.1 in
         let is_a_turn : turn.0 ≡ Turn = turn_is turn.0 (last_turn before turn (ap ends_in_turn (sym body.4) ∙ ends)) in
         let size : length k.ops ≡ suc (length before) = ap length body.4 ∙ (length-append before (turn ∷ []) ∙ omega arith) in
-        let item : item_in f.blocks b (length before) ≡ Some (Do Turn) =
-        ap (λ z. item_of z (length before)) is ∙ (item_here k.ops k.last (length before) turn (ap (λ z. slice_get z (length before)) body.4 ∙ get_last before turn) ∙ ap (λ z. Some (Do z)) is_a_turn) in
+        let item : item_in f.blocks b (length before) ≡ Some (Do Turn turn.1) =
+        ap (λ z. item_of z (length before)) is ∙ (item_here k.ops k.last (length before) turn (ap (λ z. slice_get z (length before)) body.4 ∙ get_last before turn) ∙ ap (λ z. Some (Do z turn.1)) is_a_turn) in
         let alike : at f t b (length k.ops) ≡ at f t b (length before) =
         ap (at f t b) size ∙ turn_same f t b (length before) item (in_met f b k is (m.sound b marked) (length before) (omega (arith, size))) in
         let tail : List Line = op_lines q (body.3 ++ turn ∷ []) ++ end_lines label_of j (Goto (number to)) in

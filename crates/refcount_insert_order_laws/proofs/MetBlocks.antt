@@ -12,16 +12,16 @@ use Rattle.liveness.specs.Paths.{targets, passes, jumps, MetAt, entry, onward}
 use Rattle.refcount_insert_order_laws.proofs.Numbers.{either, eq_self, or_right}
 
 -- ---- places of a block
-pub op_item : (ops : List (Op × ℕ)) (last : Last) (p : ℕ) → p < length ops → (o : Op) × (in_block ops last p ≡ Some (Do o))
+pub op_item : (ops : List (Op × ℕ)) (last : Last) (p : ℕ) → p < length ops → (o : Op × ℕ) × (in_block ops last p ≡ Some (Do o.0 o.1))
 op_item [] last p lt = absurd (omega (arith, lt))
-op_item (x ∷ ops) last zero lt = (x.0, refl)
+op_item (x ∷ ops) last zero lt = (x, refl)
 op_item (x ∷ ops) last (suc p) lt = op_item ops last p (omega (arith, lt))
 
 pub in_met : (f : Func) (b : ℕ) (k : Block) → slice_get f.blocks b ≡ Some k → MetAt f b 0 → (p : ℕ) → p ≤ length k.ops → MetAt f b p
 in_met f b k is met zero le = met
 in_met f b k is met (suc p) le =
     let o = op_item k.ops k.last p (omega (arith, le)) in
-    onward b p b (suc p) (in_met f b k is met p (omega (arith, le))) (passes b p o.0 (ap (λ z. item_of z p) is ∙ o.1))
+    onward b p b (suc p) (in_met f b k is met p (omega (arith, le))) (passes b p o.0.0 (ap (λ z. item_of z p) is ∙ o.1))
 
 -- ---- marks
 zero_plus : (k : ℕ) → k ≡ 0 + k

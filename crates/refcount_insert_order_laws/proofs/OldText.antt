@@ -152,8 +152,8 @@ module _ (p : Program) (shape : Shape p) where
 
         by : (b x d y : ℕ) → Goes f b x d y → d ≡ 0 → y ≡ 0 → ⊥
         by b x d y (passes b2 x2 o e) ed ey = omega (arith, ey)
-        by b x d y (fails b2 x2 h o e caught there) ed ey =
-            let k = item_block (slice_get f.blocks b) x (Do o) e in
+        by b x d y (fails b2 x2 h o {line} e caught there) ed ey =
+            let k = item_block (slice_get f.blocks b) x (Do o line) e in
             let handler : handler_of k.0 ≡ Some h = sym (ap (option_and_then handler_of) k.1) ∙ there in
             let higher : HandlerFits (length f.blocks) b (Some h) = subst (HandlerFits (length f.blocks) b) handler (shape_at b k.0 k.1).handler in
             omega (arith, higher.0, ed)

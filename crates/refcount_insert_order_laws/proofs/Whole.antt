@@ -1,6 +1,6 @@
 -- A program with its counts is placed, and so it is in order.
 use Rattle.std.proofs.Common.{◌≡◌, refl, sym, ◌∙◌, ap, subst, arith, ℕ, zero, suc, ◌+◌, ◌-◌, ◌≤◌, ◌<◌, ◌⊎◌, inl, inr, Bool, true, false, length, List, [], ◌∷◌, Option, Some, None}
-use Rattle.std.specs.Prelude.{slice_get, map}
+use Rattle.std.specs.Prelude.{slice_get, map, drop}
 use Rattle.value_core.specs.Items.{Items}
 use Rattle.c_core.specs.declared.code.CFunc.{CFunc}
 use Rattle.c_core.specs.Machine.{MachineState, Frame}
@@ -25,7 +25,7 @@ use Rattle.std.proofs.lemmas.Option.{slice_get_within}
 use Rattle.refcount_insert_order_laws.proofs.CallGroups.{call_line}
 use Rattle.refcount_insert_order_laws.proofs.MetBlocks.{marks}
 use Rattle.refcount_insert_order_laws.specs.Places.{EachCounted, group_place}
-use Rattle.refcount_insert_order_laws.specs.Laws.{CountedIsInOrder, CountedIsPlaced, LedgersAreOwned, GroupsHaveShares, GroupsOwn, CallersAreOwned, CallersOwn, UnmetAreNeverEntered, NeverEntered}
+use Rattle.refcount_insert_order_laws.specs.Laws.{CountedIsInOrder, CountedIsPlaced, LedgersAreOwned, GroupsHaveShares, GroupsOwn, CallersAreOwned, CallersOwn, LentAreHeld, LentAre, UnmetAreNeverEntered, NeverEntered}
 use Rattle.refcount_insert_order_laws.proofs.Trails.{at_place}
 use Rattle.refcount_insert_order_laws.proofs.Bodies.{text_of}
 use Rattle.refcount_insert_order_laws.proofs.Placing.{done, placed, unmet_start}
@@ -147,12 +147,12 @@ module _ (p q : Program) (shape : Shape p) (counted : IsCountedProgram p q) wher
       each_map p.funcs q.funcs counted.funcs 0 (GroupsHaveShares q table) (GroupsOwn q) owns_at all_shares
 
   -- ---- frames that wait
-  waits_at : (ret : Kind) (into : Option ℕ) (fs : List Frame) → Waits (lower q) (Entered table) ret into fs → (j : ℕ) (frame : Frame) → slice_get fs j ≡ Some frame → (k : Kind) × (x : Option ℕ) × (below : List Frame) × IsWaiting (lower q) (Entered table) k x frame below
+  waits_at : (ret : Kind) (into : Option ℕ) (fs : List Frame) → Waits (lower q) (Entered table) ret into fs → (j : ℕ) (frame : Frame) → slice_get fs j ≡ Some frame → (k : Kind) × (x : Option ℕ) × IsWaiting (lower q) (Entered table) k x frame (drop (suc j) fs)
   waits_at ret into [] w j frame e = let f : None ≡ Some frame = e in absurd (cc)
   waits_at ret into (f ∷ fs) w zero frame e =
       let g : Some f ≡ Some frame = e in
       let same : f ≡ frame = cc in
-      (ret, into, fs, subst (λ z. IsWaiting (lower q) (Entered table) ret into z fs) same w.0)
+      (ret, into, subst (λ z. IsWaiting (lower q) (Entered table) ret into z fs) same w.0)
   waits_at ret into (f ∷ fs) w (suc j) frame e = waits_at w.0.g.ret f.into fs w.1 j frame e
 
   callers_at : (n : ℕ) (f g : Func) (there : slice_get p.funcs n ≡ Some f) (here : slice_get q.funcs n ≡ Some g) (c : IsCountedFunc f g) → GroupsHaveShares q table n f g c → CallersOwn q n f g c
@@ -165,7 +165,7 @@ module _ (p q : Program) (shape : Shape p) (counted : IsCountedProgram p q) wher
               let low : i ≤ length h.0.front = omega (arith, slice_get_within h.0.front i o at) in
               let shares = h.1 i low in
               let state = met_at turns items steps s r in
-              let waits = (waits_at state.g.ret s.top.into s.below state.waits j frame found).3 in
+              let waits = (waits_at state.g.ret s.top.into s.below state.waits j frame found).2 in
               let same_place : waits.call ≡ group_place h.0 i = omega (arith, waits.place, place) in
               let both : Some waits.σ ≡ Some shares.0 = sym waits.at ∙ (ap (λ z. table z waits.call) func ∙ (ap (table n) same_place ∙ shares.1)) in
               let same : waits.σ ≡ shares.0 = cc in
@@ -176,6 +176,30 @@ module _ (p q : Program) (shape : Shape p) (counted : IsCountedProgram p q) wher
   pub all_callers : EachCounted (CallersOwn q) 0 p.funcs q.funcs counted.funcs
   all_callers =
       each_from p.funcs q.funcs counted.funcs 0 (CallersOwn q) (λ i f g there here c e. let z : i ≡ 0 + i = omega arith in subst (λ n. CallersOwn q n f g c) z (callers_at i f g there here c (shares_at i f g there here c e)))
+
+  -- ---- registers that are only lent
+  lent_at : (n : ℕ) (f g : Func) (c : IsCountedFunc f g) → GroupsHaveShares q table n f g c → LentAre q n f g c
+  lent_at n f g c have b k is met =
+      let h = have b k is met in (
+        h.0,
+        λ i le turns items steps s r.
+            let shares = h.1 i le in
+            let state = met_at turns items steps s r in
+            let there : (a place : ℕ) (σ : Shares) → Entered table a place σ → a ≡ n → place ≡ group_place h.0 i → σ ≡ shares.0 = λ a place σ at func here. let both : Some σ ≡ Some shares.0 = sym at ∙ (ap (λ z. table z place) func ∙ (ap (table n) here ∙ shares.1)) in cc in (
+              λ func place x w lt lent word cell.
+                  let same : state.σ ≡ shares.0 = there s.top.func s.top.place state.σ state.at func place in
+                  state.meets.lent x w (ap (λ (z : Shares). z.lent x) same ∙ (shares.3 x lt ∙ lent)) word cell,
+              λ j frame found func place x w lt lent word cell.
+                  let waits = (waits_at state.g.ret s.top.into s.below state.waits j frame found).2 in
+                  let same_place : waits.call ≡ group_place h.0 i = omega (arith, waits.place, place) in
+                  let same : waits.σ ≡ shares.0 = there frame.func waits.call waits.σ waits.at func same_place in
+                  waits.meets.lent x w (ap (λ (z : Shares). z.lent x) same ∙ (shares.3 x lt ∙ lent)) word cell,
+            ),
+      )
+
+  pub all_lent : EachCounted (LentAre q) 0 p.funcs q.funcs counted.funcs
+  all_lent =
+      each_map p.funcs q.funcs counted.funcs 0 (GroupsHaveShares q table) (LentAre q) lent_at all_shares
 
   -- ---- blocks to which no path leads
   never_at : (n : ℕ) (f g : Func) (there : slice_get p.funcs n ≡ Some f) (here : slice_get q.funcs n ≡ Some g) (c : IsCountedFunc f g) → pair_at p.funcs q.funcs counted.funcs n ≡ inl (f, g, there, here, c) → NeverEntered q n f g c
@@ -209,6 +233,9 @@ ledgers_are_owned p q shape counted = all_own p q shape counted
 
 pub callers_are_owned : CallersAreOwned
 callers_are_owned p q shape counted = all_callers p q shape counted
+
+pub lent_are_held : LentAreHeld
+lent_are_held p q shape counted = all_lent p q shape counted
 
 pub unmet_are_never_entered : UnmetAreNeverEntered
 unmet_are_never_entered p q shape counted = all_never p q shape counted

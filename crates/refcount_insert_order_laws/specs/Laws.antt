@@ -1,8 +1,9 @@
 -- A program with its counts keeps its references in order.
-use Rattle.std.specs.Prelude.{◌≡◌, ◌≤◌, ℕ, ◌+◌, Bool, true, false, length, Some, slice_get}
+use Rattle.std.specs.Prelude.{◌≡◌, ◌≤◌, ◌<◌, ℕ, suc, ◌+◌, Bool, true, false, List, length, Some, slice_get, drop}
 use Rattle.value_core.specs.Items.{Items}
 use Rattle.c_core.specs.Cells.{times}
-use Rattle.c_core.specs.Machine.{Frame, MachineState}
+use Rattle.c_core.specs.Holders.{owned_below}
+use Rattle.c_core.specs.Machine.{Word, refs_of, Frame, MachineState}
 use Rattle.c_core.specs.Run.{start}
 use Rattle.c_core.specs.Laws.{Reaches}
 use Rattle.ir_core.specs.declared.code.Op.{Op}
@@ -62,6 +63,23 @@ CallersOwn q n f g c =
 abbrev pub CallersAreOwned : Type 0
 CallersAreOwned =
     (p q : Program) → Shape p → (is : IsCountedProgram p q) → EachCounted (CallersOwn q) 0 p.funcs q.funcs is.funcs
+
+-- ---- registers that are only lent
+-- each of them has no cell, or one that an older frame owns
+abbrev pub AreHeld : ℕ → (ℕ → Bool) → List Word → List Frame → Type 0
+AreHeld size lent words older =
+    (r : ℕ) (w : Word) → r < size → lent r ≡ true → slice_get words r ≡ Some w → (cell : ℕ) → times (refs_of w) cell ≤ owned_below older cell
+
+-- wherever a run stands at the first line of a group, and wherever a frame waits in a call that is a group's operation
+abbrev pub LentAre : Program → ℕ → (f g : Func) → IsCountedFunc f g → Type 0
+LentAre q n f g c =
+    (b : ℕ) (k : Block) → slice_get f.blocks b ≡ Some k → MetAt f b 0 → (h : NewBlock q f g c b k) × ((i : ℕ) → i ≤ length h.front → (turns : ℕ) (items : Items) (steps : ℕ) (s : MachineState) → Reaches (lower q) steps (start (lower q) turns items) s → (s.top.func ≡ n → s.top.place ≡ group_place h i → AreHeld (length f.regs) (c.tables.lent b i) s.top.vars s.below) × ((j : ℕ) (frame : Frame) → slice_get s.below j ≡ Some frame → frame.func ≡ n → frame.place ≡ group_place h i + 1 → AreHeld (length f.regs) (c.tables.lent b i) frame.vars (drop (suc j) s.below)))
+
+-- In each run, in front of each group a register that is only lent has no cell, or one that an older frame owns; so it is in a frame that
+-- waits in a call.
+abbrev pub LentAreHeld : Type 0
+LentAreHeld =
+    (p q : Program) → Shape p → (is : IsCountedProgram p q) → EachCounted (LentAre q) 0 p.funcs q.funcs is.funcs
 
 -- ---- blocks to which no path leads
 -- no run comes to the start of one

@@ -1,5 +1,5 @@
 //! The laws. Each function is its clause, and does nothing when it runs.
-ghost use Rattle.refcount_insert_order_laws.specs.Laws.{CallersAreOwned, CountedIsInOrder, CountedIsPlaced, LedgersAreOwned, UnmetAreNeverEntered};
+ghost use Rattle.refcount_insert_order_laws.specs.Laws.{CallersAreOwned, CountedIsInOrder, CountedIsPlaced, LedgersAreOwned, LentAreHeld, UnmetAreNeverEntered};
 
 /// The C text of a program with its counts is in order.
 pub fn counted_is_in_order()
@@ -19,6 +19,11 @@ pub fn ledgers_are_owned()
 /// And a frame that waits in a call owns what it owned in front of the call.
 pub fn callers_are_owned()
     ensures { CallersAreOwned }
+{}
+
+/// In both, a register that is only lent has no cell, or one that an older frame owns.
+pub fn lent_are_held()
+    ensures { LentAreHeld }
 {}
 
 /// A block to which no path leads is never entered.

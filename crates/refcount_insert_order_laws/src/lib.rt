@@ -8,6 +8,6 @@
 mod laws;
 
 pub use laws::{
-    callers_are_owned, counted_is_in_order, counted_is_placed, ledgers_are_owned,
+    callers_are_owned, counted_is_in_order, counted_is_placed, ledgers_are_owned, lent_are_held,
     unmet_are_never_entered,
 };

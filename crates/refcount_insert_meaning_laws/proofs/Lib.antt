@@ -1,0 +1,5 @@
+mod Counts
+mod Goals
+mod Standing
+mod Steps
+pub mod Whole
