@@ -4,6 +4,7 @@ use Rattle.c_core.specs.Cells.{Cells, content_at, count_at, make, take_one}
 use Rattle.c_core.specs.Machine.{Content, StrCell, ListCell, TupleCell, DictCell, InstCell, ObjectCell, NoneObject, TrueObject, FalseObject, refs_in}
 use Rattle.c_core.specs.Release.{release}
 use Rattle.slot_arena.specs.declared.key.Key.{Key}
+use Rattle.slot_arena.specs.Serials.{key_with}
 use Rattle.cell_heap.specs.declared.word.Word.TheVariants.{Cell as CellWord, PyNone}
 use Rattle.cell_heap.specs.declared.content.Content.TheVariants.{Dict, Inst}
 use Rattle.cell_heap.specs.Contents.{content_of}
@@ -12,7 +13,7 @@ use Rattle.cell_heap.specs.Pairs.{place_at, with_pair, without_pair, pair_at}
 use Rattle.cell_heap.specs.Words.{with_word, with_last, without_last, refill_by, word_at, last_at}
 
 abbrev key : ℕ → Key
-key n = record { slot = 7; serial = n }
+key n = key_with 7 n
 
 -- a text, and a tuple that holds it twice and was taken once more
 abbrev text : Content

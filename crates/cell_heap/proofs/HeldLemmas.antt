@@ -1,5 +1,5 @@
 -- Cells in an arena are the machine's: what a key finds, and what a change of one entry and one entry more make.
-use Rattle.std.proofs.Common.{◌≡◌, refl, sym, ap, ◌∙◌, ℕ, zero, suc, ◌+◌, eqb, eq-eqb, eqb-true, List, [], ◌∷◌, ◌++◌, length, get_or, set, Option, Some, None}
+use Rattle.std.proofs.Common.{◌≡◌, refl, sym, ap, ◌∙◌, ℕ, zero, suc, ◌+◌, ◌^◌, ◌<◌, eqb, eq-eqb, eqb-true, List, [], ◌∷◌, ◌++◌, length, get_or, set, Option, Some, None}
 use Rattle.std.specs.Prelude.{map, is_some, Result, Ok, Err, IfOk}
 use Rattle.std.specs.Option.{option_map}
 use Rattle.std.proofs.lemmas.Bool.{cond-true}
@@ -8,7 +8,9 @@ use Rattle.std.proofs.lemmas.List.{map-append, length-map}
 use Rattle.c_core.specs.Cells.{Cell, Cells, change, counted, count_at, content_of, content_at, make}
 use Rattle.c_core.specs.Machine as machine
 use Rattle.slot_arena.specs.declared.key.Key.{Key}
+use Rattle.slot_arena.specs.Serials.{serial_of, key_with}
 use Rattle.slot_arena.specs.Contents.{Entry, value_in, key_in, keys_from}
+use Rattle.slot_arena.proofs.KeyLemmas.{serial_of-key_with, key_with-serial_of}
 use Rattle.cell_heap.specs.declared.cells.CountedCell.{CountedCell}
 use Rattle.cell_heap.specs.Contents as contents
 use Rattle.cell_heap.specs.Held.{cell_at, cell_of, cell_in, cells_of}
@@ -50,17 +52,18 @@ none_found entries n none = cell_at-cells entries n ∙ of_entry (get_or entries
     of_entry (Some entry) none = absurd (cc)
 
 -- the key that was found has the number, and finds its cell
-pub found : (entries : Entries) (n : ℕ) (key : Key) → Some key ≡ key_in n (get_or entries n None) → (key.serial ≡ n) × (option_map cell_of (value_in key.slot (get_or entries key.serial None)) ≡ cell_at (cells_of entries) n)
+pub found : (entries : Entries) (n : ℕ) (key : Key) → Some key ≡ key_in n (get_or entries n None) → (serial_of key ≡ n) × (option_map cell_of (value_in key.slot (get_or entries (serial_of key) None)) ≡ cell_at (cells_of entries) n)
 found entries n key is = of_entry (get_or entries n None) refl is
   where
-    of_entry : (o : Option (Entry CountedCell)) → get_or entries n None ≡ o → Some key ≡ key_in n o → (key.serial ≡ n) × (option_map cell_of (value_in key.slot (get_or entries key.serial None)) ≡ cell_at (cells_of entries) n)
+    of_entry : (o : Option (Entry CountedCell)) → get_or entries n None ≡ o → Some key ≡ key_in n o → (serial_of key ≡ n) × (option_map cell_of (value_in key.slot (get_or entries (serial_of key) None)) ≡ cell_at (cells_of entries) n)
     of_entry None at is = absurd (cc)
     of_entry (Some entry) at is =
-        let same : ◌≡◌ {A = Key} key (record { slot = entry.slot; serial = n }) = same_Some _ _ is in
+        let same : key ≡ key_with entry.slot n = same_Some _ _ is in
+        let made : serial_of (key_with entry.slot n) ≡ n = serial_of-key_with entry.slot n in
         let value : value_in entry.slot (Some entry) ≡ Some entry.value =
         cond-true (eqb entry.slot entry.slot) (Some entry.value) None (eq-eqb entry.slot entry.slot refl) in (
-          ap (λ k. k.serial) same,
-          ap (option_map cell_of) (ap (λ k. value_in k.slot (get_or entries k.serial None)) same ∙ ap (value_in entry.slot) at ∙ value)
+          ap serial_of same ∙ made,
+          ap (option_map cell_of) (ap (λ k. value_in k.slot (get_or entries (serial_of k) None)) same ∙ ap (λ m. value_in entry.slot (get_or entries m None)) made ∙ ap (value_in entry.slot) at ∙ value)
               ∙ sym (cell_at-cells entries n ∙ ap cell_in at),
         )
 
@@ -80,11 +83,13 @@ own slot (Some entry) value is =
     let here = eqb-true entry.slot slot parts.0 in
     ap (λ k. Some (record { slot = k; value = entry.value })) here ∙ ap (λ v. Some (record { slot = slot; value = v })) parts.1
 
-pub own_cell : (entries : Entries) (key : Key) (value : CountedCell) → Some value ≡ value_in key.slot (get_or entries key.serial None) → cell_at (cells_of entries) key.serial ≡ Some (cell_of value)
-own_cell entries key value is = cell_at-cells entries key.serial ∙ ap cell_in (own key.slot (get_or entries key.serial None) value is)
+pub own_cell : (entries : Entries) (key : Key) (value : CountedCell) → Some value ≡ value_in key.slot (get_or entries (serial_of key) None) → cell_at (cells_of entries) (serial_of key) ≡ Some (cell_of value)
+own_cell entries key value is = cell_at-cells entries (serial_of key) ∙ ap cell_in (own key.slot (get_or entries (serial_of key) None) value is)
 
-pub own_key : (entries : Entries) (key : Key) (value : CountedCell) → Some value ≡ value_in key.slot (get_or entries key.serial None) → Some key ≡ key_in key.serial (get_or entries key.serial None)
-own_key entries key value is = sym (ap (key_in key.serial) (own key.slot (get_or entries key.serial None) value is))
+-- it is the key of its serial
+pub own_key : (entries : Entries) (key : Key) (value : CountedCell) → key.serial.low < 2 ^ 64 → Some value ≡ value_in key.slot (get_or entries (serial_of key) None) → Some key ≡ key_in (serial_of key) (get_or entries (serial_of key) None)
+own_key entries key value small is =
+    sym (ap (key_in (serial_of key)) (own key.slot (get_or entries (serial_of key) None) value is) ∙ ap Some (key_with-serial_of key small))
 
 -- ---- one entry changes, or there is one more
 pub cells-set : (by : Option (Cell machine.Content) → Option (Cell machine.Content)) (entries : Entries) (n : ℕ) (o : Option (Entry CountedCell)) → by (cell_at (cells_of entries) n) ≡ cell_in o → cells_of (set entries n o) ≡ change by n (cells_of entries)
@@ -93,17 +98,17 @@ cells-set by (first ∷ entries) zero o is = ap (λ c. c ∷ cells_of entries) (
 cells-set by (first ∷ entries) (suc n) o is = ap (λ cs. cell_in first ∷ cs) (cells-set by entries n o is)
 
 -- the entry of a key that was found
-pub cells-written : (by : Option (Cell machine.Content) → Option (Cell machine.Content)) (entries : Entries) (n : ℕ) (key : Key) (o : Option (Entry CountedCell)) → Some key ≡ key_in n (get_or entries n None) → by (cell_at (cells_of entries) n) ≡ cell_in o → cells_of (set entries key.serial o) ≡ change by n (cells_of entries)
+pub cells-written : (by : Option (Cell machine.Content) → Option (Cell machine.Content)) (entries : Entries) (n : ℕ) (key : Key) (o : Option (Entry CountedCell)) → Some key ≡ key_in n (get_or entries n None) → by (cell_at (cells_of entries) n) ≡ cell_in o → cells_of (set entries (serial_of key) o) ≡ change by n (cells_of entries)
 cells-written by entries n key o is written =
     let at = found entries n key is in
-    cells-set by entries key.serial o (ap (λ m. by (cell_at (cells_of entries) m)) at.0 ∙ written)
+    cells-set by entries (serial_of key) o (ap (λ m. by (cell_at (cells_of entries) m)) at.0 ∙ written)
     ∙ ap (λ m. change by m (cells_of entries)) at.0
 
 -- what stands there
-pub cell_found : (entries : Entries) (n : ℕ) (key : Key) (value : CountedCell) → Some key ≡ key_in n (get_or entries n None) → Some value ≡ value_in key.slot (get_or entries key.serial None) → cell_at (cells_of entries) n ≡ Some (cell_of value)
+pub cell_found : (entries : Entries) (n : ℕ) (key : Key) (value : CountedCell) → Some key ≡ key_in n (get_or entries n None) → Some value ≡ value_in key.slot (get_or entries (serial_of key) None) → cell_at (cells_of entries) n ≡ Some (cell_of value)
 cell_found entries n key value is there = sym ((found entries n key is).1) ∙ ap (option_map cell_of) (sym there)
 
-pub cell_lost : (entries : Entries) (n : ℕ) (key : Key) → Some key ≡ key_in n (get_or entries n None) → None ≡ value_in key.slot (get_or entries key.serial None) → cell_at (cells_of entries) n ≡ None
+pub cell_lost : (entries : Entries) (n : ℕ) (key : Key) → Some key ≡ key_in n (get_or entries n None) → None ≡ value_in key.slot (get_or entries (serial_of key) None) → cell_at (cells_of entries) n ≡ None
 cell_lost entries n key is there = sym ((found entries n key is).1) ∙ ap (option_map cell_of) (sym there)
 
 pub cells-made : (entries : Entries) (slot : ℕ) (content : machine.Content) (cell : CountedCell) → cell_of cell ≡ record { count = 1; content = content } → cells_of (entries ++ Some (record { slot = slot; value = cell }) ∷ []) ≡ make content (cells_of entries)
@@ -118,7 +123,9 @@ length-cells entries = length-map entries cell_in
 pub numbers-cells : (n : ℕ) (entries : Entries) → map contents.number_of (keys_from n entries) ≡ numbers_from n (cells_of entries)
 numbers-cells n [] = refl
 numbers-cells n (None ∷ entries) = numbers-cells (n + 1) entries
-numbers-cells n (Some entry ∷ entries) = ap (λ ns. n ∷ ns) (numbers-cells (n + 1) entries)
+numbers-cells n (Some entry ∷ entries) =
+    ap (λ m. m ∷ map contents.number_of (keys_from (n + 1) entries)) (serial_of-key_with entry.slot n)
+    ∙ ap (λ ns. n ∷ ns) (numbers-cells (n + 1) entries)
 
 -- a consequence of what was answered
 pub if_ok : {T E : Type 0} {P Q : T → Type 0} (r : Result T E) → ((x : T) → P x → Q x) → IfOk r P → IfOk r Q

@@ -11,6 +11,7 @@ use Rattle.c_core.specs.Cells.{Cell, Cells, change, content_at, make, lowered, o
 use Rattle.c_core.specs.Keys.{Key, NumberKey, TextKey, TruthKey, same_key, key_in, key_of, is_key}
 use Rattle.c_core.specs.Machine as machine
 use Rattle.slot_arena.specs.declared.key.Key.{Key as ArenaKey}
+use Rattle.slot_arena.specs.Serials.{serial_of}
 use Rattle.slot_arena.specs.Contents.{Entry, Contents, value_at, key_at, inserted, with_value, condemned_with}
 use Rattle.cell_heap.specs.declared.cells.CountedCell.{CountedCell}
 use Rattle.cell_heap.specs.declared.content.Content.{Content}
@@ -132,22 +133,22 @@ marked_written by a n key old new makes_none is there step fits marked =
     let h = cells_of a.entries in
     let after = change by n h in
     let narrows = narrows_change by n h makes_none in
-    let entry : ◌≡◌ (get_or a.entries key.serial None) (Some (record { slot = key.slot; value = old })) = own key.slot (get_or a.entries key.serial None) old there in
+    let entry : ◌≡◌ (get_or a.entries (serial_of key) None) (Some (record { slot = key.slot; value = old })) = own key.slot (get_or a.entries (serial_of key) None) old there in
     let still = each_still h after a.entries narrows marked in
     let written = cells-written by a.entries n key (Some (record { slot = key.slot; value = new })) is (ap by (cell_found a.entries n key old is there) ∙ step) in
-    subst (λ cs. EachHasMarks cs (set a.entries key.serial (Some (record { slot = key.slot; value = new })))) (sym written)
-    (each_set after a.entries key.serial (record { slot = key.slot; value = new }) (fits after narrows (each_at after a.entries key.serial (record { slot = key.slot; value = old }) entry still)) still)
+    subst (λ cs. EachHasMarks cs (set a.entries (serial_of key) (Some (record { slot = key.slot; value = new })))) (sym written)
+    (each_set after a.entries (serial_of key) (record { slot = key.slot; value = new }) (fits after narrows (each_at after a.entries (serial_of key) (record { slot = key.slot; value = old }) entry still)) still)
 
 pub marked_condemned : (a : Contents CountedCell) (n : ℕ) (key : ArenaKey) (old : CountedCell) → Some key ≡ key_at a n → lowered (cell_at (cells_of a.entries) n) ≡ None → AreAllMarked a → AreAllMarked (condemned_with a key old)
 marked_condemned a n key old is last marked =
     let h = cells_of a.entries in
-    subst (λ cs. EachHasMarks cs (set a.entries key.serial None)) (sym (cells-written lowered a.entries n key None is last))
-    (each_none (change lowered n h) a.entries key.serial (each_still h (change lowered n h) a.entries (narrows_change lowered n h lowered_no_key) marked))
+    subst (λ cs. EachHasMarks cs (set a.entries (serial_of key) None)) (sym (cells-written lowered a.entries n key None is last))
+    (each_none (change lowered n h) a.entries (serial_of key) (each_still h (change lowered n h) a.entries (narrows_change lowered n h lowered_no_key) marked))
 
 pub marked_dict : (a : Contents CountedCell) (key : ArenaKey) (cell : CountedCell) (dict : Pairs) → Some cell ≡ value_at a key → cell.content ≡ Dict dict → AreAllMarked a → IfSome (marks_in dict) (AreMarked (cells_of a.entries) (first_words dict.pairs))
 marked_dict a key cell dict there is marked =
     let h = cells_of a.entries in
-    subst (HasMarks h) is (each_at h a.entries key.serial (record { slot = key.slot; value = cell }) (own key.slot (get_or a.entries key.serial None) cell there) marked)
+    subst (HasMarks h) is (each_at h a.entries (serial_of key) (record { slot = key.slot; value = cell }) (own key.slot (get_or a.entries (serial_of key) None) cell there) marked)
 
 pub has_kept : (h : Cells machine.Content) (old new : Content) → KeepsKeys old new → HasMarks h old → HasMarks h new
 has_kept h old new keeps marked =

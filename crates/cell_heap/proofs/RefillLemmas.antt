@@ -5,6 +5,7 @@ use Rattle.c_core.specs.Cells as cells
 use Rattle.c_core.specs.Cells.{Cell, Cells, change, content_at, refill}
 use Rattle.c_core.specs.Machine.{Content}
 use Rattle.slot_arena.specs.declared.key.Key.{Key}
+use Rattle.slot_arena.specs.Serials.{serial_of}
 use Rattle.slot_arena.specs.Contents.{value_in, key_in}
 use Rattle.cell_heap.specs.declared.cells.CountedCell.{CountedCell}
 use Rattle.cell_heap.specs.Contents.{content_of}
@@ -36,18 +37,18 @@ pub length-refill_by : (f : Content → Content) (c : ℕ) (cells : Cells Conten
 length-refill_by f c cells = ap length (sym (change-refill f c cells)) ∙ length-change (rewritten f) c cells
 
 -- ---- the arena
-pub content_found : (entries : Entries) (n : ℕ) (key : Key) (value : CountedCell) → Some key ≡ key_in n (get_or entries n None) → Some value ≡ value_in key.slot (get_or entries key.serial None) → content_at (cells_of entries) n ≡ Some (content_of value.content)
+pub content_found : (entries : Entries) (n : ℕ) (key : Key) (value : CountedCell) → Some key ≡ key_in n (get_or entries n None) → Some value ≡ value_in key.slot (get_or entries (serial_of key) None) → content_at (cells_of entries) n ≡ Some (content_of value.content)
 content_found entries n key value is there =
     content_at-cell (cells_of entries) n ∙ ap cells.content_of (cell_found entries n key value is there)
 
-pub content_lost : (entries : Entries) (n : ℕ) (key : Key) → Some key ≡ key_in n (get_or entries n None) → None ≡ value_in key.slot (get_or entries key.serial None) → content_at (cells_of entries) n ≡ None
+pub content_lost : (entries : Entries) (n : ℕ) (key : Key) → Some key ≡ key_in n (get_or entries n None) → None ≡ value_in key.slot (get_or entries (serial_of key) None) → content_at (cells_of entries) n ≡ None
 content_lost entries n key is there =
     content_at-cell (cells_of entries) n ∙ ap cells.content_of (cell_lost entries n key is there)
 
 pub content_none : (entries : Entries) (n : ℕ) → None ≡ key_in n (get_or entries n None) → content_at (cells_of entries) n ≡ None
 content_none entries n none = content_at-cell (cells_of entries) n ∙ ap cells.content_of (none_found entries n none)
 
-pub refill-writes : (f : Content → Content) (entries : Entries) (n : ℕ) (key : Key) (old new : CountedCell) → Some key ≡ key_in n (get_or entries n None) → Some old ≡ value_in key.slot (get_or entries key.serial None) → new.count ≡ old.count → content_of new.content ≡ f (content_of old.content) → cells_of (set entries key.serial (Some (record { slot = key.slot; value = new }))) ≡ refill_by f n (cells_of entries)
+pub refill-writes : (f : Content → Content) (entries : Entries) (n : ℕ) (key : Key) (old new : CountedCell) → Some key ≡ key_in n (get_or entries n None) → Some old ≡ value_in key.slot (get_or entries (serial_of key) None) → new.count ≡ old.count → content_of new.content ≡ f (content_of old.content) → cells_of (set entries (serial_of key) (Some (record { slot = key.slot; value = new }))) ≡ refill_by f n (cells_of entries)
 refill-writes f entries n key old new is there count content =
     cells-written (rewritten f) entries n key (Some (record { slot = key.slot; value = new })) is
     (ap (rewritten f) (cell_found entries n key old is there)
@@ -61,7 +62,7 @@ change-same zero (o ∷ cells) = refl
 change-same (suc c) (o ∷ cells) = ap (λ z. o ∷ z) (change-same c cells)
 
 -- the same content was written back
-pub refill-same : (entries : Entries) (n : ℕ) (key : Key) (old new : CountedCell) → Some key ≡ key_in n (get_or entries n None) → Some old ≡ value_in key.slot (get_or entries key.serial None) → new.count ≡ old.count → content_of new.content ≡ content_of old.content → cells_of (set entries key.serial (Some (record { slot = key.slot; value = new }))) ≡ cells_of entries
+pub refill-same : (entries : Entries) (n : ℕ) (key : Key) (old new : CountedCell) → Some key ≡ key_in n (get_or entries n None) → Some old ≡ value_in key.slot (get_or entries (serial_of key) None) → new.count ≡ old.count → content_of new.content ≡ content_of old.content → cells_of (set entries (serial_of key) (Some (record { slot = key.slot; value = new }))) ≡ cells_of entries
 refill-same entries n key old new is there count content =
     cells-written (λ o. o) entries n key (Some (record { slot = key.slot; value = new })) is
     (cell_found entries n key old is there

@@ -9,6 +9,7 @@ use Rattle.c_core.specs.Release.{after, freed, freed_of, let_go, weight, release
 use Rattle.c_core.proofs.Order.{any_order, release_first}
 use Rattle.c_core.proofs.ReleaseLemmas.{times-append, release-nothing}
 use Rattle.slot_arena.specs.declared.key.Key.{Key}
+use Rattle.slot_arena.specs.Serials.{serial_of}
 use Rattle.slot_arena.specs.Contents.{Entry, Contents, value_at, key_at, with_value, condemned_with, taken_off}
 use Rattle.cell_heap.specs.declared.word.Word.{Word}
 use Rattle.cell_heap.specs.declared.cells.CountedCell.{CountedCell}
@@ -90,7 +91,7 @@ pub gives_at : {a b : Contents CountedCell} {m n : ℕ} → m ≡ n → Gives (m
 gives_at {a} {b} same given = subst (λ k. Gives (k ∷ []) a b) same given
 
 -- a key that was found is found by its own serial
-pub found_self : (a : Contents CountedCell) (n : ℕ) (key : Key) → Some key ≡ key_at a n → (key.serial ≡ n) × (key_at a key.serial ≡ Some key)
+pub found_self : (a : Contents CountedCell) (n : ℕ) (key : Key) → Some key ≡ key_at a n → (serial_of key ≡ n) × (key_at a (serial_of key) ≡ Some key)
 found_self a n key is =
     let at = found a.entries n key is in
     (at.0, ap (key_at a) at.0 ∙ sym is)
@@ -117,13 +118,13 @@ gives_last (suc zero) x le = refl
 gives_last (suc (suc n)) x le = absurd (omega (arith, ltb-false 1 (suc (suc n)) le))
 
 -- a cell to which there are more references
-pub count_found : (a : Contents CountedCell) (key : Key) (cell : CountedCell) → key_at a key.serial ≡ Some key → Some cell ≡ value_at a key → count_at (cells_of a.entries) key.serial ≡ cell.count
+pub count_found : (a : Contents CountedCell) (key : Key) (cell : CountedCell) → key_at a (serial_of key) ≡ Some key → Some cell ≡ value_at a key → count_at (cells_of a.entries) (serial_of key) ≡ cell.count
 count_found a key cell is there =
-    count_at-cell (cells_of a.entries) key.serial ∙ ap counted (cell_found a.entries key.serial key cell (sym is) there)
+    count_at-cell (cells_of a.entries) (serial_of key) ∙ ap counted (cell_found a.entries (serial_of key) key cell (sym is) there)
 
-pub count_gives : (a : Contents CountedCell) (key : Key) (cell : CountedCell) → key_at a key.serial ≡ Some key → Some cell ≡ value_at a key → 1 < count_at (cells_of a.entries) key.serial → Gives (key.serial ∷ []) a (with_value a key (record { count = cell.count - 1; content = cell.content }))
+pub count_gives : (a : Contents CountedCell) (key : Key) (cell : CountedCell) → key_at a (serial_of key) ≡ Some key → Some cell ≡ value_at a key → 1 < count_at (cells_of a.entries) (serial_of key) → Gives (serial_of key ∷ []) a (with_value a key (record { count = cell.count - 1; content = cell.content }))
 count_gives a key cell is there more =
-    let n = key.serial in
+    let n = serial_of key in
     let h = cells_of a.entries in
     let x = content_of cell.content in
     let lt : 1 < cell.count = omega (arith, count_found a key cell is there) in
@@ -135,19 +136,19 @@ count_gives a key cell is there more =
     (omega (arith, present-same a.entries n (record { slot = key.slot; value = cell }) (record { slot = key.slot; value = new }) (own key.slot (get_or a.entries n None) cell there)))
     (marked_written lowered a n key cell new lowered_no_key (sym is) there (less_more cell.count x lt) (λ after narrows marked. marked))
 
-pub no_count : (a : Contents CountedCell) (key : Key) → key_at a key.serial ≡ Some key → None ≡ value_at a key → 1 < count_at (cells_of a.entries) key.serial → ⊥
+pub no_count : (a : Contents CountedCell) (key : Key) → key_at a (serial_of key) ≡ Some key → None ≡ value_at a key → 1 < count_at (cells_of a.entries) (serial_of key) → ⊥
 no_count a key is there more =
-    omega (arith, count_at-cell (cells_of a.entries) key.serial ∙ ap counted (cell_lost a.entries key.serial key (sym is) there))
+    omega (arith, count_at-cell (cells_of a.entries) (serial_of key) ∙ ap counted (cell_lost a.entries (serial_of key) key (sym is) there))
 
 -- the last reference
-pub last_gives : (a b : Contents CountedCell) (key : Key) → key_at a key.serial ≡ Some key → nat_lt 1 (count_at (cells_of a.entries) key.serial) ≡ false → MatchOption (value_at a key) (b ≡ a) (λ cell. b ≡ condemned_with a key cell) → Gives (key.serial ∷ []) a b
+pub last_gives : (a b : Contents CountedCell) (key : Key) → key_at a (serial_of key) ≡ Some key → nat_lt 1 (count_at (cells_of a.entries) (serial_of key)) ≡ false → MatchOption (value_at a key) (b ≡ a) (λ cell. b ≡ condemned_with a key cell) → Gives (serial_of key ∷ []) a b
 last_gives a b key is le = by_value (value_at a key) refl
   where
-    by_value : (o : Option CountedCell) → o ≡ value_at a key → MatchOption o (b ≡ a) (λ cell. b ≡ condemned_with a key cell) → Gives (key.serial ∷ []) a b
+    by_value : (o : Option CountedCell) → o ≡ value_at a key → MatchOption o (b ≡ a) (λ cell. b ≡ condemned_with a key cell) → Gives (serial_of key ∷ []) a b
     by_value None there same =
-        subst (λ c. Gives (key.serial ∷ []) a c) (sym same) (gone_gives a key.serial (cell_lost a.entries key.serial key (sym is) there))
+        subst (λ c. Gives (serial_of key ∷ []) a c) (sym same) (gone_gives a (serial_of key) (cell_lost a.entries (serial_of key) key (sym is) there))
     by_value (Some cell) there same =
-        let n = key.serial in
+        let n = serial_of key in
         let h = cells_of a.entries in
         let x = content_of cell.content in
         let last : nat_lt 1 cell.count ≡ false = ap (nat_lt 1) (sym (count_found a key cell is there)) ∙ le in

@@ -4,6 +4,7 @@ use Rattle.std.specs.Option.{option_map}
 use Rattle.value_core.specs.Exceptions.{thrown}
 use Rattle.c_core.specs.Machine as machine
 use Rattle.slot_arena.specs.declared.key.Key.{Key}
+use Rattle.slot_arena.specs.Serials.{serial_of}
 use Rattle.cell_heap.specs.declared.word.Word.{Word}
 use Rattle.cell_heap.specs.declared.word.Word.TheVariants.{Short, Big, TagError, I64, Char, PyNone, PyTrue, PyFalse, Cell, Null}
 use Rattle.cell_heap.specs.declared.content.Content.{Content}
@@ -11,7 +12,7 @@ use Rattle.cell_heap.specs.declared.content.Content.TheVariants.{Int, Str, List 
 
 -- the number of a key's cell: how many cells were made before it
 abbrev pub number_of : Key → ℕ
-number_of key = key.serial
+number_of key = serial_of key
 
 abbrev pub word_of : Word → machine.Word
 word_of (Short n) = machine.ShortInt n

@@ -8,9 +8,11 @@ use Rattle.slot_arena.specs.declared.slot.Slot.{Slot}
 use Rattle.slot_arena.specs.declared.slot.Slot.TheVariants.{Free, Full}
 use Rattle.slot_arena.specs.declared.slot.Standing.{Standing}
 use Rattle.slot_arena.specs.declared.slot.Standing.TheVariants.{Live, Condemned}
+use Rattle.slot_arena.specs.Serials.{serial_of, key_with}
 use Rattle.slot_arena.specs.Contents.{Entry, Contents, value_at, ContainsKey, with_value, inserted, removed, condemned_with, taken_off}
 use Rattle.slot_arena.specs.Slot.{value_under, free_link, condemned_link}
 use Rattle.slot_arena.specs.Layout.{value_here, entry_from, link_count, condemned_from, contents_of, IsChain, IsApart, IsSound}
+use Rattle.slot_arena.proofs.KeyLemmas.{key_with-serial_of}
 use Rattle.slot_arena.proofs.Chains.{no_link_is_off, head_is_off, popped, link_count-set, link_count-push, link_count-lt-length}
 use Rattle.slot_arena.proofs.Condemned.{condemned_from-head, condemned_from-set, condemned_from-push}
 use Rattle.slot_arena.proofs.Entries.{value_under_own, value_under_live, value_here-set_same, value_here-set_other, value_here-push_same, value_here-push_other, entry_found, entry_gone, entry_same, value_in-entries_of, entries_of-changed, entries_of-same, entries_of-more}
@@ -71,12 +73,12 @@ module _ {T : Type 0} where
       ])
 
   -- what a key finds in the map
-  pub value_at-contents_of : (slots : List (Slot T)) (capacity : ℕ) (free : Option ℕ) (freed : ℕ) (condemned : Option ℕ) (count : ℕ) (key : Key) → IsSound slots capacity free freed condemned count → value_at (contents_of slots capacity freed condemned count) key ≡ value_here slots key.slot key.serial
+  pub value_at-contents_of : (slots : List (Slot T)) (capacity : ℕ) (free : Option ℕ) (freed : ℕ) (condemned : Option ℕ) (count : ℕ) (key : Key) → IsSound slots capacity free freed condemned count → value_at (contents_of slots capacity freed condemned count) key ≡ value_here slots key.slot (serial_of key)
   value_at-contents_of slots capacity free freed condemned count key sound =
-      value_in-entries_of slots count key.slot key.serial sound.apart sound.numbered
+      value_in-entries_of slots count key.slot (serial_of key) sound.apart sound.numbered
 
   -- a slot is used for the first time
-  pub contents_of-push : (slots : List (Slot T)) (capacity : ℕ) (free : Option ℕ) (freed : ℕ) (condemned : Option ℕ) (count : ℕ) (value : T) → length slots < capacity → IsSound slots capacity free freed condemned count → contents_of (slots ++ Full Live count value ∷ []) capacity freed condemned (count + 1) ≡ inserted (contents_of slots capacity freed condemned count) (record { slot = length slots; serial = count }) value
+  pub contents_of-push : (slots : List (Slot T)) (capacity : ℕ) (free : Option ℕ) (freed : ℕ) (condemned : Option ℕ) (count : ℕ) (value : T) → length slots < capacity → IsSound slots capacity free freed condemned count → contents_of (slots ++ Full Live count value ∷ []) capacity freed condemned (count + 1) ≡ inserted (contents_of slots capacity freed condemned count) (key_with (length slots) count) value
   contents_of-push slots capacity free freed condemned count value room sound =
       let new = Full Live count value in
       let after = IsSound-push slots capacity free freed condemned count value room sound in
@@ -97,7 +99,7 @@ module _ {T : Type 0} where
       (omega (arith, length_push slots new))
 
   -- the first free slot is used again
-  pub contents_of-fill : (slots : List (Slot T)) (capacity at : ℕ) (next : Option ℕ) (freed : ℕ) (condemned : Option ℕ) (count : ℕ) (value : T) → slice_get slots at ≡ Some (Free next) → IsSound slots capacity (Some at) freed condemned count → contents_of (set slots at (Full Live count value)) capacity (freed - 1) condemned (count + 1) ≡ inserted (contents_of slots capacity freed condemned count) (record { slot = at; serial = count }) value
+  pub contents_of-fill : (slots : List (Slot T)) (capacity at : ℕ) (next : Option ℕ) (freed : ℕ) (condemned : Option ℕ) (count : ℕ) (value : T) → slice_get slots at ≡ Some (Free next) → IsSound slots capacity (Some at) freed condemned count → contents_of (set slots at (Full Live count value)) capacity (freed - 1) condemned (count + 1) ≡ inserted (contents_of slots capacity freed condemned count) (key_with at count) value
   contents_of-fill slots capacity at next freed condemned count value found sound =
       let new = Full Live count value in
       let within = slice_get_within slots at (Free next) found in
@@ -117,10 +119,10 @@ module _ {T : Type 0} where
       spare (suc n) p = omega (arith, length-set slots at (Full Live count value))
 
   -- a value in the map becomes another
-  pub contents_of-rewrite : (slots : List (Slot T)) (capacity : ℕ) (free : Option ℕ) (freed : ℕ) (condemned : Option ℕ) (count : ℕ) (key : Key) (old value : T) → slice_get slots key.slot ≡ Some (Full Live key.serial old) → IsSound slots capacity free freed condemned count → contents_of (set slots key.slot (Full Live key.serial value)) capacity freed condemned count ≡ with_value (contents_of slots capacity freed condemned count) key value
+  pub contents_of-rewrite : (slots : List (Slot T)) (capacity : ℕ) (free : Option ℕ) (freed : ℕ) (condemned : Option ℕ) (count : ℕ) (key : Key) (old value : T) → slice_get slots key.slot ≡ Some (Full Live (serial_of key) old) → IsSound slots capacity free freed condemned count → contents_of (set slots key.slot (Full Live (serial_of key) value)) capacity freed condemned count ≡ with_value (contents_of slots capacity freed condemned count) key value
   contents_of-rewrite slots capacity free freed condemned count key old value found sound =
       let at = key.slot in
-      let serial = key.serial in
+      let serial = serial_of key in
       let before = Full Live serial old in
       let new = Full Live serial value in
       let within = slice_get_within slots at before found in
@@ -137,10 +139,10 @@ module _ {T : Type 0} where
       (omega (arith, length-set slots at new))
 
   -- a value leaves the map, and its slot is free
-  pub contents_of-vacate : (slots : List (Slot T)) (capacity : ℕ) (free : Option ℕ) (freed : ℕ) (condemned : Option ℕ) (count : ℕ) (key : Key) (old : T) → slice_get slots key.slot ≡ Some (Full Live key.serial old) → IsSound slots capacity free freed condemned count → contents_of (set slots key.slot (Free free)) capacity (freed + 1) condemned count ≡ removed (contents_of slots capacity freed condemned count) key
+  pub contents_of-vacate : (slots : List (Slot T)) (capacity : ℕ) (free : Option ℕ) (freed : ℕ) (condemned : Option ℕ) (count : ℕ) (key : Key) (old : T) → slice_get slots key.slot ≡ Some (Full Live (serial_of key) old) → IsSound slots capacity free freed condemned count → contents_of (set slots key.slot (Free free)) capacity (freed + 1) condemned count ≡ removed (contents_of slots capacity freed condemned count) key
   contents_of-vacate slots capacity free freed condemned count key old found sound =
       let at = key.slot in
-      let serial = key.serial in
+      let serial = serial_of key in
       let before = Full Live serial old in
       let new = Free free in
       let after = IsSound-vacate slots capacity free freed condemned count at serial old found sound in
@@ -156,10 +158,10 @@ module _ {T : Type 0} where
       (omega (arith, length-set slots at new))
 
   -- a value leaves the map, and its slot is condemned
-  pub contents_of-condemn : (slots : List (Slot T)) (capacity : ℕ) (free : Option ℕ) (freed : ℕ) (condemned : Option ℕ) (count : ℕ) (key : Key) (old : T) → slice_get slots key.slot ≡ Some (Full Live key.serial old) → IsSound slots capacity free freed condemned count → contents_of (set slots key.slot (Full (Condemned condemned) key.serial old)) capacity freed (Some key.slot) count ≡ condemned_with (contents_of slots capacity freed condemned count) key old
-  contents_of-condemn slots capacity free freed condemned count key old found sound =
+  pub contents_of-condemn : (slots : List (Slot T)) (capacity : ℕ) (free : Option ℕ) (freed : ℕ) (condemned : Option ℕ) (count : ℕ) (key : Key) (old : T) → key.serial.low < 2 ^ 64 → slice_get slots key.slot ≡ Some (Full Live (serial_of key) old) → IsSound slots capacity free freed condemned count → contents_of (set slots key.slot (Full (Condemned condemned) (serial_of key) old)) capacity freed (Some key.slot) count ≡ condemned_with (contents_of slots capacity freed condemned count) key old
+  contents_of-condemn slots capacity free freed condemned count key old small found sound =
       let at = key.slot in
-      let serial = key.serial in
+      let serial = serial_of key in
       let before = Full Live serial old in
       let new = Full (Condemned condemned) serial old in
       let within = slice_get_within slots at before found in
@@ -173,11 +175,12 @@ module _ {T : Type 0} where
       (λ other differs. entry_kept slots at before new other found after.apart (under_other other serial old differs) refl))
       (ap (λ n. condemned_from (set slots at new) n (Some at)) more
       ∙ condemned_from-head (set slots at new) _ at serial old condemned (slice_get-set_same slots at new within)
+      ∙ ap (λ k. (k, old) ∷ condemned_from (set slots at new) (link_count condemned_link slots) condemned) (key_with-serial_of key small)
       ∙ ap (λ pairs. (key, old) ∷ pairs) (condemned_from-set slots at new _ condemned (λ m _. no_link_is_off condemned_link slots at (ap (option_and_then condemned_link) found) m) sound.condemned_linked))
       (omega (arith, length-set slots at new))
 
   -- the first condemned slot is taken off, and is free
-  pub condemned_from-take : (slots : List (Slot T)) (capacity : ℕ) (free : Option ℕ) (freed count at serial : ℕ) (old : T) (next : Option ℕ) → slice_get slots at ≡ Some (Full (Condemned next) serial old) → IsSound slots capacity free freed (Some at) count → condemned_from slots (link_count condemned_link slots) (Some at) ≡ (record { slot = at; serial = serial }, old) ∷ condemned_from (set slots at (Free free)) (link_count condemned_link (set slots at (Free free))) next
+  pub condemned_from-take : (slots : List (Slot T)) (capacity : ℕ) (free : Option ℕ) (freed count at serial : ℕ) (old : T) (next : Option ℕ) → slice_get slots at ≡ Some (Full (Condemned next) serial old) → IsSound slots capacity free freed (Some at) count → condemned_from slots (link_count condemned_link slots) (Some at) ≡ (key_with at serial, old) ∷ condemned_from (set slots at (Free free)) (link_count condemned_link (set slots at (Free free))) next
   condemned_from-take slots capacity free freed count at serial old next found sound =
       let new = Free free in
       let condemns = link_count-set condemned_link slots at (Full (Condemned next) serial old) new found in
@@ -186,7 +189,7 @@ module _ {T : Type 0} where
       let whole = subst (λ n. IsChain condemned_link slots n (Some at)) fewer sound.condemned_linked in
       ap (λ n. condemned_from slots n (Some at)) fewer
       ∙ condemned_from-head slots _ at serial old next found
-      ∙ ap (λ pairs. (record { slot = at; serial = serial }, old) ∷ pairs)
+      ∙ ap (λ pairs. (key_with at serial, old) ∷ pairs)
       (sym (condemned_from-set slots at new _ next (head_is_off condemned_link slots _ at whole) (popped condemned_link slots _ at next links whole)))
 
   pub contents_of-take : (slots : List (Slot T)) (capacity : ℕ) (free : Option ℕ) (freed count at serial : ℕ) (old : T) (next : Option ℕ) → slice_get slots at ≡ Some (Full (Condemned next) serial old) → IsSound slots capacity free freed (Some at) count → contents_of (set slots at (Free free)) capacity (freed + 1) next count ≡ taken_off (contents_of slots capacity freed (Some at) count) (condemned_from (set slots at (Free free)) (link_count condemned_link (set slots at (Free free))) next)
@@ -214,10 +217,10 @@ module _ {T : Type 0} where
   pub record Present (slots : List (Slot T)) (key : Key) (found : Option T) : Type 0 where
     pub value : T
     pub is : found ≡ Some value
-    pub slot : slice_get slots key.slot ≡ Some (Full Live key.serial value)
+    pub slot : slice_get slots key.slot ≡ Some (Full Live (serial_of key) value)
 
   pub present : (slots : List (Slot T)) (capacity : ℕ) (free : Option ℕ) (freed : ℕ) (condemned : Option ℕ) (count : ℕ) (key : Key) → IsSound slots capacity free freed condemned count → ContainsKey (contents_of slots capacity freed condemned count) key → Present slots key (value_at (contents_of slots capacity freed condemned count) key)
   present slots capacity free freed condemned count key sound contains =
       let here = value_at-contents_of slots capacity free freed condemned count key sound in
-      let found = found_there (slice_get slots key.slot) key.serial _ (sym here) contains in
+      let found = found_there (slice_get slots key.slot) (serial_of key) _ (sym here) contains in
       record { value = found.0; is = found.1; slot = found.2 }

@@ -4,6 +4,7 @@ use Rattle.std.proofs.lemmas.Option.{same_Some, slice_get_within}
 use Rattle.slot_arena.specs.declared.slot.Slot.{Slot}
 use Rattle.slot_arena.specs.declared.slot.Slot.TheVariants.{Free, Full}
 use Rattle.slot_arena.specs.declared.slot.Standing.TheVariants.{Live, Condemned}
+use Rattle.slot_arena.specs.Serials.{key_with}
 use Rattle.slot_arena.specs.Slot.{condemned_link, condemned_part}
 use Rattle.slot_arena.specs.Layout.{link_at, IsChain, pair_then, condemned_from}
 use Rattle.slot_arena.proofs.Lists.{slice_get-set_other, slice_get-append_left}
@@ -23,7 +24,7 @@ module _ {T : Type 0} where
       record { serial = serial; value = value; is = ap (λ l. Some (Full (Condemned l) serial value)) (same_Some link next found) }
 
   -- the first pair, and then the others
-  pub condemned_from-head : (slots : List (Slot T)) (n place serial : ℕ) (value : T) (next : Option ℕ) → slice_get slots place ≡ Some (Full (Condemned next) serial value) → condemned_from slots (suc n) (Some place) ≡ (record { slot = place; serial = serial }, value) ∷ condemned_from slots n next
+  pub condemned_from-head : (slots : List (Slot T)) (n place serial : ℕ) (value : T) (next : Option ℕ) → slice_get slots place ≡ Some (Full (Condemned next) serial value) → condemned_from slots (suc n) (Some place) ≡ (key_with place serial, value) ∷ condemned_from slots n next
   condemned_from-head slots n place serial value next found =
       ap (λ s. pair_then place (option_and_then condemned_part s) (λ l. condemned_from slots n l)) found
 
@@ -36,7 +37,7 @@ module _ {T : Type 0} where
       let held = condemned_there (slice_get old place) p.1 (subst (λ k. link_at condemned_link old k ≡ Some p.1) at p.3) in
       let kept = same place n (omega arith) p in
       condemned_from-head new n place held.serial held.value p.1 (kept ∙ held.is)
-      ∙ ap (λ pairs. (record { slot = place; serial = held.serial }, held.value) ∷ pairs) (alike old new n p.1 (λ other m below q. same other m (omega arith) q) p.4)
+      ∙ ap (λ pairs. (key_with place held.serial, held.value) ∷ pairs) (alike old new n p.1 (λ other m below q. same other m (omega arith) q) p.4)
       ∙ sym (condemned_from-head old n place held.serial held.value p.1 held.is)
 
   -- a write at a place that is not on the chain keeps the pairs

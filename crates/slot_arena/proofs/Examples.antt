@@ -1,18 +1,23 @@
 -- The definitions at small values: what a map with keys that are never used again has to say.
-use Rattle.std.proofs.Common.{◌≡◌, ℕ, [], ◌∷◌, Some, None, refl}
+use Rattle.std.proofs.Common.{◌≡◌, ℕ, ◌+◌, ◌^◌, [], ◌∷◌, Some, None, refl}
 use Rattle.slot_arena.specs.declared.key.Key.{Key}
+use Rattle.slot_arena.specs.Serials.{wide_of, serial_of, key_with}
 use Rattle.slot_arena.specs.Contents.{Contents, inserts, value_at, key_at, inserted, removed, condemned_with, taken_off, keys_of}
 use Rattle.slot_arena.specs.Laid.{laid, values_in}
 
 -- the keys of the first three inserts, where the third takes the slot of the first
 abbrev first : Key
-first = record { slot = 0; serial = 0 }
+first = key_with 0 0
 
 abbrev second : Key
-second = record { slot = 1; serial = 1 }
+second = key_with 1 1
 
 abbrev third : Key
-third = record { slot = 0; serial = 2 }
+third = key_with 0 2
+
+-- a serial past 2 ^ 64 takes both halves
+halves : (wide_of (2 ^ 64 + 5) ≡ record { high = 1; low = 5 }) × (serial_of (key_with 7 (2 ^ 64 + 5)) ≡ 2 ^ 64 + 5)
+halves = (refl, refl)
 
 abbrev two : Contents ℕ
 two = inserted (inserted (record { entries = []; condemned = []; spare = 2 }) first 10) second 20
@@ -27,7 +32,7 @@ found : (value_at two first ≡ Some 10) × (value_at two second ≡ Some 20) ×
 found = (refl, refl, refl, refl, refl)
 
 -- the first key stays dead in its old slot, and a key with the right serial and the wrong slot finds nothing
-dead : (value_at three first ≡ None) × (value_at three third ≡ Some 30) × (value_at three (record { slot = 1; serial = 2 }) ≡ None) × (three.spare ≡ 0)
+dead : (value_at three first ≡ None) × (value_at three third ≡ Some 30) × (value_at three (key_with 1 2) ≡ None) × (three.spare ≡ 0)
 dead = (refl, refl, refl, refl)
 
 -- a serial finds its key, whatever the slot, and nothing once that was taken out

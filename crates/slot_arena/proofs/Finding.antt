@@ -4,6 +4,7 @@ use Rattle.std.proofs.lemmas.Bool.{cases_lt}
 use Rattle.std.proofs.lemmas.List.{get_or_past}
 use Rattle.slot_arena.specs.declared.slot.Slot.{Slot}
 use Rattle.slot_arena.specs.declared.key.Key.{Key}
+use Rattle.slot_arena.specs.Serials.{key_with}
 use Rattle.slot_arena.specs.Contents.{key_in}
 use Rattle.slot_arena.specs.Slot.{value_under}
 use Rattle.slot_arena.specs.Layout.{value_here, entries_of, IsApart, IsNumbered}
@@ -25,7 +26,7 @@ module _ {T : Type 0} where
             ap (λ p. value_here slots p serial) same ∙ ap (option_and_then (value_under serial)) at ∙ none
       ]
 
-  pub key_found : {A : Type 0} (f : A → T) (o : Option A) (slots : List (Slot T)) (count place serial : ℕ) (slot : Slot T) → IsApart slots → IsNumbered slots count → slice_get slots place ≡ Some slot → option_map f o ≡ value_under serial slot → is_some o ≡ true → ◌≡◌ {A = Option Key} (Some (record { slot = place; serial = serial })) (key_in serial (get_or (entries_of slots count) serial None))
+  pub key_found : {A : Type 0} (f : A → T) (o : Option A) (slots : List (Slot T)) (count place serial : ℕ) (slot : Slot T) → IsApart slots → IsNumbered slots count → slice_get slots place ≡ Some slot → option_map f o ≡ value_under serial slot → is_some o ≡ true → ◌≡◌ {A = Option Key} (Some (key_with place serial)) (key_in serial (get_or (entries_of slots count) serial None))
   key_found f o slots count place serial slot apart numbered at value is =
       let some = some_of f o is in
       let lies : value_here slots place serial ≡ Some some.0 = ap (option_and_then (value_under serial)) at ∙ sym value ∙ some.1 in

@@ -11,9 +11,11 @@ use Rattle.slot_arena.specs.declared.key.Key.{Key}
 use Rattle.slot_arena.specs.declared.slot.Slot.{Slot}
 use Rattle.slot_arena.specs.declared.slot.Slot.TheVariants.{Free, Full}
 use Rattle.slot_arena.specs.declared.slot.Standing.TheVariants.{Live, Condemned}
+use Rattle.slot_arena.specs.Serials.{serial_of, key_with}
 use Rattle.slot_arena.specs.Contents.{Entry, keys_from}
 use Rattle.slot_arena.specs.Slot.{live_serial, value_under}
 use Rattle.slot_arena.specs.Layout.{serial_here, entry_from, entries_of, IsApart, IsNumbered}
+use Rattle.slot_arena.proofs.KeyLemmas.{serial_of-key_with}
 use Rattle.slot_arena.proofs.Entries.{value_under_own, value_under_live, Sought, gone, there, sought, entry_found, length-entries_of, get_or-entries_of}
 
 module _ {X : Type 0} where
@@ -40,14 +42,14 @@ zero_not_suc n same = omega arith
 -- the serials rise, from low on
 abbrev pub Rises : ℕ → List Key → Type 0
 Rises low [] = Unit {0}
-Rises low (key ∷ keys) = (low ≤ key.serial) × Rises (suc key.serial) keys
+Rises low (key ∷ keys) = (low ≤ serial_of key) × Rises (suc (serial_of key)) keys
 
-rises_above : (low : ℕ) (keys : List Key) (key : Key) → Rises low keys → Contains keys key → low ≤ key.serial
+rises_above : (low : ℕ) (keys : List Key) (key : Key) → Rises low keys → Contains keys key → low ≤ serial_of key
 rises_above low [] key up inside = absurd (omega (arith, inside.1))
 rises_above low (first ∷ rest) key up inside =
     elim (Contains-cons_cases first key rest inside) [
-      | inl same ↦ subst (λ k. low ≤ k.serial) same up.0
-      | inr later ↦ let above = rises_above (suc first.serial) rest key up.1 later in let here = up.0 in omega arith
+      | inl same ↦ subst (λ k. low ≤ serial_of k) same up.0
+      | inr later ↦ let above = rises_above (suc (serial_of first)) rest key up.1 later in let here = up.0 in omega arith
     ]
 
 -- rising keys are told by which there are
@@ -62,42 +64,42 @@ same_rising low (x ∷ xs) (y ∷ ys) up down there_too here_too =
       | inr later ↦ elim (Contains-cons_cases x y xs (here_too y (0, omega arith, refl))) [
         | inl same ↦ sym same
         | inr after ↦
-            let above = rises_above (suc y.serial) ys x down.1 later in
-            let below = rises_above (suc x.serial) xs y up.1 after in
+            let above = rises_above (suc (serial_of y)) ys x down.1 later in
+            let below = rises_above (suc (serial_of x)) xs y up.1 after in
             absurd (omega arith)
       ]
     ] in
-    let tails : Rises (suc x.serial) ys = subst (λ k. Rises (suc k.serial) ys) first down.1 in
+    let tails : Rises (suc (serial_of x)) ys = subst (λ k. Rises (suc (serial_of k)) ys) first down.1 in
     let rest : xs ≡ ys =
-    same_rising (suc x.serial) xs ys up.1 tails
+    same_rising (suc (serial_of x)) xs ys up.1 tails
     (λ key inside. elim (Contains-cons_cases y key ys (there_too key (Contains-cons x key xs inside))) [
-      | inl same ↦ let above = rises_above (suc x.serial) xs key up.1 inside in let equal : x.serial ≡ key.serial = ap (λ k. k.serial) (sym first ∙ same) in absurd (omega arith)
+      | inl same ↦ let above = rises_above (suc (serial_of x)) xs key up.1 inside in let equal : serial_of x ≡ serial_of key = ap serial_of (sym first ∙ same) in absurd (omega arith)
       | inr later ↦ later
     ])
     (λ key inside. elim (Contains-cons_cases x key xs (here_too key (Contains-cons y key ys inside))) [
-      | inl same ↦ let above = rises_above (suc x.serial) ys key tails inside in let equal : x.serial ≡ key.serial = ap (λ k. k.serial) same in absurd (omega arith)
+      | inl same ↦ let above = rises_above (suc (serial_of x)) ys key tails inside in let equal : serial_of x ≡ serial_of key = ap serial_of same in absurd (omega arith)
       | inr later ↦ later
     ]) in
     ap (λ k. k ∷ xs) (sym first) ∙ ap (λ ks. y ∷ ks) rest
 
 -- keys that do not fall, no two of which have one serial, rise
-rises_from : (low : ℕ) (keys : List Key) → ((d : Key) → 0 < length keys → low ≤ (get_or keys 0 d).serial) → ((i : ℕ) (d : Key) → suc i < length keys → (get_or keys i d).serial < (get_or keys (suc i) d).serial) → Rises low keys
+rises_from : (low : ℕ) (keys : List Key) → ((d : Key) → 0 < length keys → low ≤ serial_of (get_or keys 0 d)) → ((i : ℕ) (d : Key) → suc i < length keys → serial_of (get_or keys i d) < serial_of (get_or keys (suc i) d)) → Rises low keys
 rises_from low [] first next = tt
 rises_from low (key ∷ keys) first next =
-    (first key (omega arith), rises_from (suc key.serial) keys (λ d some. next 0 d (omega arith)) (λ i d within. next (suc i) d (omega arith)))
+    (first key (omega arith), rises_from (suc (serial_of key)) keys (λ d some. next 0 d (omega arith)) (λ i d within. next (suc i) d (omega arith)))
 
 abbrev pub same_serial : Key → Key → Bool
-same_serial x y = eqb x.serial y.serial
+same_serial x y = eqb (serial_of x) (serial_of y)
 
 eqb_flips : (m n : ℕ) → eqb m n ≡ eqb n m
 eqb_flips m n = elim (cases_eq m n) [ inl same ↦ eq-eqb m n same ∙ sym (eq-eqb n m (sym same)) | inr differs ↦ ne_eqb m n differs ∙ sym (ne_eqb n m (λ same. differs (sym same))) ]
 
-pub Rises-from_sorted : (keys : List Key) → IsNonDecreasingBy (λ key. key.serial) keys → IsDistinct same_serial keys → Rises 0 keys
+pub Rises-from_sorted : (keys : List Key) → IsNonDecreasingBy serial_of keys → IsDistinct same_serial keys → Rises 0 keys
 Rises-from_sorted keys up apart =
     rises_from 0 keys (λ d some. omega arith)
     (λ i d within.
     let rises = up i (suc i) d (omega arith) within in
-    let differs : (get_or keys i d).serial ≢ (get_or keys (suc i) d).serial =
+    let differs : serial_of (get_or keys i d) ≢ serial_of (get_or keys (suc i) d) =
     λ same. eqb-false _ _ (apart_from_distinct same_serial keys i (suc i) d apart (omega arith) within) same in
     omega arith)
 
@@ -110,15 +112,14 @@ Rises-keys_from serial (None ∷ rest) = lower (keys_from (serial + 1) rest) (Ri
     lower [] up = tt
     lower (key ∷ keys) up = let above = up.0 in (omega arith, up.1)
 Rises-keys_from serial (Some entry ∷ rest) =
-    (omega arith, subst (λ k. Rises k (keys_from (serial + 1) rest)) add-one-serial (Rises-keys_from (serial + 1) rest))
-  where
-    add-one-serial : serial + 1 ≡ suc serial
-    add-one-serial = omega arith
+    let own : serial ≡ serial_of (key_with entry.slot serial) = sym (serial_of-key_with entry.slot serial) in
+    let next : serial + 1 ≡ suc serial = omega arith in
+    (subst (λ k. serial ≤ k) own (omega arith), subst (λ k. Rises k (keys_from (serial + 1) rest)) (next ∙ ap suc own) (Rises-keys_from (serial + 1) rest))
 
 -- the key of a live slot, and then the others
 abbrev pub key_then : ℕ → Option ℕ → List Key → List Key
 key_then place None others = others
-key_then place (Some serial) others = record { slot = place; serial = serial } ∷ others
+key_then place (Some serial) others = key_with place serial ∷ others
 
 Contains-key_then : (base : ℕ) (own : Option ℕ) (others : List Key) (key : Key) → Contains others key → Contains (key_then base own others) key
 Contains-key_then base None others key inside = inside
@@ -143,22 +144,27 @@ module _ {T : Type 0} where
 
       joined : (o : Option ℕ) → (keys ++ key_then place o []) ++ later ≡ keys ++ key_then place o later
       joined None = ap (λ ks. ks ++ later) (append-nil keys)
-      joined (Some serial) = append_assoc keys (record { slot = place; serial = serial } ∷ []) later
+      joined (Some serial) = append_assoc keys (key_with place serial ∷ []) later
 
   pub live_keys_all : (keys : List Key) (slots : List (Slot T)) (place : ℕ) → length slots ≤ place → keys ++ live_keys place (drop place slots) ≡ live_keys 0 slots → keys ≡ live_keys 0 slots
   live_keys_all keys slots place past kept = sym (append-nil keys) ∙ ap (λ xs. keys ++ live_keys place xs) (sym (drop_all place slots past)) ∙ kept
 
   -- a key of the live slots lies in the first or in a later one
   abbrev IsLiveFrom : ℕ → List (Slot T) → Key → Type 0
-  IsLiveFrom base slots key = (place : ℕ) × (key.slot ≡ base + place) × (serial_here slots place ≡ Some key.serial)
+  IsLiveFrom base slots key = (place serial : ℕ) × (key ≡ key_with (base + place) serial) × (serial_here slots place ≡ Some serial)
+
+  later_place : (base : ℕ) (slot : Slot T) (rest : List (Slot T)) (key : Key) → IsLiveFrom (base + 1) rest key → IsLiveFrom base (slot ∷ rest) key
+  later_place base slot rest key found =
+      let shift : base + 1 + found.0 ≡ base + suc found.0 = omega arith in
+      (suc found.0, found.1, found.2 ∙ ap (λ slot. key_with slot found.1) shift, found.3)
 
   live_key_first : (base : ℕ) (slot : Slot T) (rest : List (Slot T)) (key : Key) (own : Option ℕ) (others : List Key) → live_serial slot ≡ own → (Contains others key → IsLiveFrom (base + 1) rest key) → Contains (key_then base own others) key → IsLiveFrom base (slot ∷ rest) key
   live_key_first base slot rest key None others none later inside =
-      let found = later inside in (suc found.0, omega (arith, found.1), found.2)
+      later_place base slot rest key (later inside)
   live_key_first base slot rest key (Some serial) others some later inside =
-      elim (Contains-cons_cases (record { slot = base; serial = serial }) key others inside) [
-        | inl same ↦ (0, sym (ap (λ k. k.slot) same) ∙ sym (add-zero base), some ∙ ap (λ k. Some k.serial) same)
-        | inr more ↦ let found = later more in (suc found.0, omega (arith, found.1), found.2)
+      elim (Contains-cons_cases (key_with base serial) key others inside) [
+        | inl same ↦ (0, serial, sym same ∙ ap (λ slot. key_with slot serial) (sym (add-zero base)), some)
+        | inr more ↦ later_place base slot rest key (later more)
       ]
 
   -- which keys there are among the live slots
@@ -167,7 +173,7 @@ module _ {T : Type 0} where
   live_key_from base (slot ∷ rest) key inside =
       live_key_first base slot rest key (live_serial slot) (live_keys (base + 1) rest) refl (live_key_from (base + 1) rest key) inside
 
-  pub live_key_to : (base : ℕ) (slots : List (Slot T)) (place serial : ℕ) → serial_here slots place ≡ Some serial → Contains (live_keys base slots) (record { slot = base + place; serial = serial })
+  pub live_key_to : (base : ℕ) (slots : List (Slot T)) (place serial : ℕ) → serial_here slots place ≡ Some serial → Contains (live_keys base slots) (key_with (base + place) serial)
   live_key_to base [] place serial found = absurd (cc)
   live_key_to base (slot ∷ rest) zero serial found = rw (found, add-zero) (0, omega arith, refl)
   live_key_to base (slot ∷ rest) (suc place) serial found =
@@ -192,11 +198,13 @@ module _ {T : Type 0} where
   distinct_first : (base : ℕ) (slot : Slot T) (rest : List (Slot T)) (own : Option ℕ) (others : List Key) → live_serial slot ≡ own → ((key : Key) → Contains others key → IsLiveFrom (base + 1) rest key) → ((place other serial : ℕ) → serial_here (slot ∷ rest) place ≡ Some serial → serial_here (slot ∷ rest) other ≡ Some serial → place ≡ other) → IsDistinct same_serial others → IsDistinct same_serial (key_then base own others)
   distinct_first base slot rest None others none later apart tail = tail
   distinct_first base slot rest (Some own) others some later apart tail =
-      IsDistinct-cons same_serial (record { slot = base; serial = own }) others
-      (all_by_recursion (λ key. eqb own key.serial ≡ false) others
+      IsDistinct-cons same_serial (key_with base own) others
+      (all_by_recursion (λ key. same_serial (key_with base own) key ≡ false) others
       (λ key inside.
       let found = later key inside in
-      ne_eqb own key.serial (λ same. zero_not_suc found.0 (apart 0 (suc found.0) own some (found.2 ∙ ap Some (sym same))))))
+      let at : serial_of key ≡ found.1 = ap serial_of found.2 ∙ serial_of-key_with (base + 1 + found.0) found.1 in
+      ne_eqb (serial_of (key_with base own)) (serial_of key)
+      (λ same. zero_not_suc found.0 (apart 0 (suc found.0) own some (found.3 ∙ ap Some (sym at ∙ sym same ∙ serial_of-key_with base own))))))
       tail
 
   pub live_keys_distinct : (base : ℕ) (slots : List (Slot T)) → ((place other serial : ℕ) → serial_here slots place ≡ Some serial → serial_here slots other ≡ Some serial → place ≡ other) → IsDistinct same_serial (live_keys base slots)
@@ -206,26 +214,32 @@ module _ {T : Type 0} where
       distinct_first base slot rest (live_serial slot) (live_keys (base + 1) rest) refl (live_key_from (base + 1) rest) apart
       (live_keys_distinct (base + 1) rest (λ place other serial here there. pred_same place other (apart (suc place) (suc other) serial here there)))
 
+  -- a key of the map has its value at some place
+  abbrev IsMapFrom : ℕ → List (Option (Entry T)) → Key → Type 0
+  IsMapFrom serial entries key = (place : ℕ) × (entry : Entry T) × (key ≡ key_with entry.slot (serial + place)) × (slice_get entries place ≡ Some (Some entry))
+
+  later_entry : (serial : ℕ) (first : Option (Entry T)) (rest : List (Option (Entry T))) (key : Key) → IsMapFrom (serial + 1) rest key → IsMapFrom serial (first ∷ rest) key
+  later_entry serial first rest key found =
+      let shift : serial + 1 + found.0 ≡ serial + suc found.0 = omega arith in
+      (suc found.0, found.1, found.2 ∙ ap (key_with found.1.slot) shift, found.3)
+
   -- which keys there are in the map
-  pub map_key_from : (serial : ℕ) (entries : List (Option (Entry T))) (key : Key) → Contains (keys_from serial entries) key → (place : ℕ) × (value : T) × (key.serial ≡ serial + place) × (slice_get entries place ≡ Some (Some (record { slot = key.slot; value = value })))
+  pub map_key_from : (serial : ℕ) (entries : List (Option (Entry T))) (key : Key) → Contains (keys_from serial entries) key → IsMapFrom serial entries key
   map_key_from serial [] key inside = absurd (omega (arith, inside.1))
   map_key_from serial (None ∷ rest) key inside =
-      let found = map_key_from (serial + 1) rest key inside in
-      (suc found.0, found.1, omega (arith, found.2), found.3)
+      later_entry serial None rest key (map_key_from (serial + 1) rest key inside)
   map_key_from serial (Some entry ∷ rest) key inside =
-      elim (Contains-cons_cases (record { slot = entry.slot; serial = serial }) key (keys_from (serial + 1) rest) inside) [
-        | inl same ↦ (0, entry.value, sym (ap (λ k. k.serial) same) ∙ sym (add-zero serial), ap (λ k. Some (Some (record { slot = k.slot; value = entry.value }))) same)
-        | inr more ↦
-            let found = map_key_from (serial + 1) rest key more in
-            (suc found.0, found.1, omega (arith, found.2), found.3)
+      elim (Contains-cons_cases (key_with entry.slot serial) key (keys_from (serial + 1) rest) inside) [
+        | inl same ↦ (0, entry, sym same ∙ ap (key_with entry.slot) (sym (add-zero serial)), refl)
+        | inr more ↦ later_entry serial (Some entry) rest key (map_key_from (serial + 1) rest key more)
       ]
 
-  pub map_key_to : (serial : ℕ) (entries : List (Option (Entry T))) (place : ℕ) (entry : Entry T) → slice_get entries place ≡ Some (Some entry) → Contains (keys_from serial entries) (record { slot = entry.slot; serial = serial + place })
+  pub map_key_to : (serial : ℕ) (entries : List (Option (Entry T))) (place : ℕ) (entry : Entry T) → slice_get entries place ≡ Some (Some entry) → Contains (keys_from serial entries) (key_with entry.slot (serial + place))
   map_key_to serial [] place entry found = absurd (cc)
   map_key_to serial (None ∷ rest) zero entry found = absurd (cc)
   map_key_to serial (Some first ∷ rest) zero entry found =
       let same : first ≡ entry = cc in
-      subst (λ e. Contains (keys_from serial (Some first ∷ rest)) (record { slot = e.slot; serial = serial + 0 })) same (rw add-zero (0, omega arith, refl))
+      subst (λ e. Contains (keys_from serial (Some first ∷ rest)) (key_with e.slot (serial + 0))) same (rw add-zero (0, omega arith, refl))
   map_key_to serial (None ∷ rest) (suc place) entry found =
       let shift : serial + suc place ≡ serial + 1 + place = omega arith in
       rw shift (map_key_to (serial + 1) rest place entry found)
@@ -234,10 +248,10 @@ module _ {T : Type 0} where
       Contains-cons _ _ _ (rw shift (map_key_to (serial + 1) rest place entry found))
 
   -- the sorted keys of the live slots are the keys of the map
-  pub keys_of_sorted : (slots : List (Slot T)) (count : ℕ) (keys : List Key) → IsApart slots → IsNumbered slots count → IsPermutation (live_keys 0 slots) keys → IsNonDecreasingBy (λ key. key.serial) keys → keys ≡ keys_from 0 (entries_of slots count)
+  pub keys_of_sorted : (slots : List (Slot T)) (count : ℕ) (keys : List Key) → IsApart slots → IsNumbered slots count → IsPermutation (live_keys 0 slots) keys → IsNonDecreasingBy serial_of keys → keys ≡ keys_from 0 (entries_of slots count)
   keys_of_sorted slots count keys apart numbered moved up =
       same_rising 0 keys (keys_from 0 (entries_of slots count))
-      (Rises-from_sorted keys up (IsDistinct-IsPermutation same_serial (λ x y. eqb_flips x.serial y.serial) (live_keys 0 slots) keys moved (live_keys_distinct 0 slots one_place)))
+      (Rises-from_sorted keys up (IsDistinct-IsPermutation same_serial (λ x y. eqb_flips (serial_of x) (serial_of y)) (live_keys 0 slots) keys moved (live_keys_distinct 0 slots one_place)))
       (Rises-keys_from 0 (entries_of slots count))
       (λ key inside. to_map key (live_key_from 0 slots key (Contains-permutation keys (live_keys 0 slots) key (IsPermutation-sym (live_keys 0 slots) keys moved) inside)))
       (λ key inside. Contains-permutation (live_keys 0 slots) keys key moved (from_map key (map_key_from 0 (entries_of slots count) key inside)))
@@ -250,32 +264,34 @@ module _ {T : Type 0} where
 
       to_map : (key : Key) → IsLiveFrom 0 slots key → Contains (keys_from 0 (entries_of slots count)) key
       to_map key found =
-          let held = value_from_serial (slice_get slots found.0) key.serial found.2 in
-          let below = numbered found.0 key.serial held.0 held.1 in
-          let inside : key.serial < length (entries_of slots count) = omega (arith, length-entries_of slots count) in
-          let slot : found.0 ≡ key.slot = omega (arith, found.1) in
-          let entry : slice_get (entries_of slots count) key.serial ≡ Some (Some (record { slot = found.0; value = held.0 })) =
-          slice_get-get_or (entries_of slots count) key.serial None inside
-          ∙ ap Some (get_or-entries_of slots count key.serial None below ∙ entry_found slots found.0 key.serial held.0 apart held.1) in
-          let listed = map_key_to 0 (entries_of slots count) key.serial (record { slot = found.0; value = held.0 }) entry in
-          let at : ◌≡◌ {A = Key} (record { slot = found.0; serial = 0 + key.serial }) key = λ i. record { slot = slot i; serial = zero-add key.serial i } in
+          let place = found.0 in
+          let serial = found.1 in
+          let held = value_from_serial (slice_get slots place) serial found.3 in
+          let below = numbered place serial held.0 held.1 in
+          let inside : serial < length (entries_of slots count) = omega (arith, length-entries_of slots count) in
+          let entry : slice_get (entries_of slots count) serial ≡ Some (Some (record { slot = place; value = held.0 })) =
+          slice_get-get_or (entries_of slots count) serial None inside
+          ∙ ap Some (get_or-entries_of slots count serial None below ∙ entry_found slots place serial held.0 apart held.1) in
+          let listed = map_key_to 0 (entries_of slots count) serial (record { slot = place; value = held.0 }) entry in
+          let at : key_with place (0 + serial) ≡ key = ap (key_with place) (zero-add serial) ∙ sym (found.2 ∙ ap (λ slot. key_with slot serial) (zero-add place)) in
           subst (Contains (keys_from 0 (entries_of slots count))) at listed
 
-      lies : (key : Key) (place : ℕ) (value : T) (entry : Option (Entry T)) → key.serial ≡ place → entry ≡ Some (record { slot = key.slot; value = value }) → Sought slots place entry 0 → serial_here slots key.slot ≡ Some key.serial
-      lies key place value entry same is (gone none nowhere) = absurd (cc)
-      lies key place value entry same is (there at held here found) =
-          let both : ◌≡◌ {A = Option (Entry T)} (Some (record { slot = 0 + at; value = held })) (Some (record { slot = key.slot; value = value })) = sym here ∙ is in
-          let slot : 0 + at ≡ key.slot = ap (λ e. e.slot) (same_Some _ _ both) in
-          subst (λ p. serial_here slots p ≡ Some key.serial) (sym (zero-add at) ∙ slot)
-          (serial_from_value (slice_get slots at) place held found ∙ ap Some (sym same))
+      lies : (serial : ℕ) (entry : Entry T) (o : Option (Entry T)) → o ≡ Some entry → Sought slots serial o 0 → serial_here slots entry.slot ≡ Some serial
+      lies serial entry o is (gone none nowhere) = absurd (cc)
+      lies serial entry o is (there at held here found) =
+          let both : ◌≡◌ {A = Option (Entry T)} (Some (record { slot = 0 + at; value = held })) (Some entry) = sym here ∙ is in
+          let slot : 0 + at ≡ entry.slot = ap (λ e. e.slot) (same_Some _ _ both) in
+          subst (λ p. serial_here slots p ≡ Some serial) (sym (zero-add at) ∙ slot)
+          (serial_from_value (slice_get slots at) serial held found)
 
-      from_map : (key : Key) → ((place : ℕ) × (value : T) × (key.serial ≡ 0 + place) × (slice_get (entries_of slots count) place ≡ Some (Some (record { slot = key.slot; value = value })))) → Contains (live_keys 0 slots) key
+      from_map : (key : Key) → IsMapFrom 0 (entries_of slots count) key → Contains (live_keys 0 slots) key
       from_map key found =
-          let inside = slice_get_within (entries_of slots count) found.0 _ found.3 in
-          let below : found.0 < count = omega (arith, length-entries_of slots count) in
-          let entry : entry_from 0 slots found.0 ≡ Some (record { slot = key.slot; value = found.1 }) =
-          sym (get_or-entries_of slots count found.0 None below) ∙ get_or_from_slice_get (entries_of slots count) found.0 _ None found.3 in
-          let here = lies key found.0 found.1 (entry_from 0 slots found.0) (found.2 ∙ zero-add found.0) entry (sought slots found.0 0) in
-          let listed = live_key_to 0 slots key.slot key.serial here in
-          let at : ◌≡◌ {A = Key} (record { slot = 0 + key.slot; serial = key.serial }) key = λ i. record { slot = zero-add key.slot i; serial = key.serial } in
+          let serial = found.0 in
+          let inside = slice_get_within (entries_of slots count) serial _ found.3 in
+          let below : serial < count = omega (arith, length-entries_of slots count) in
+          let entry : entry_from 0 slots serial ≡ Some found.1 =
+          sym (get_or-entries_of slots count serial None below) ∙ get_or_from_slice_get (entries_of slots count) serial _ None found.3 in
+          let here = lies serial found.1 (entry_from 0 slots serial) entry (sought slots serial 0) in
+          let listed = live_key_to 0 slots found.1.slot serial here in
+          let at : key_with (0 + found.1.slot) serial ≡ key = ap (λ slot. key_with slot serial) (zero-add found.1.slot) ∙ sym (found.2 ∙ ap (key_with found.1.slot) (zero-add serial)) in
           subst (Contains (live_keys 0 slots)) at listed

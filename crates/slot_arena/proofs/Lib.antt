@@ -8,6 +8,7 @@ pub mod Entries
 pub mod Condemned
 pub mod Sound
 pub mod Changes
+pub mod KeyLemmas
 pub mod Keys
 pub mod Finding
 pub mod ContentsLemmas

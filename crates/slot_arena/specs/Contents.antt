@@ -3,6 +3,7 @@
 -- place n says what became of the value that was inserted after n others.
 use Rattle.std.specs.Prelude.{◌≡◌, ℕ, ◌+◌, ◌-◌, ◌<◌, ◌==◌, if◌then◌else◌, List, [], ◌∷◌, ◌++◌, length, Option, Some, None, IsSome, slice_index_or, slice_set}
 use Rattle.slot_arena.specs.declared.key.Key.{Key}
+use Rattle.slot_arena.specs.Serials.{serial_of, key_with}
 
 -- a value in the map, and the slot in which it lies
 pub record Entry (T : Type 0) : Type 0 where
@@ -16,10 +17,6 @@ pub record Contents (T : Type 0) : Type 0 where
   pub condemned : List (Key × T)
   pub spare : ℕ
 
--- how many inserts came before the one that made this key
-abbrev pub serial_of : Key → ℕ
-serial_of key = key.serial
-
 module _ {T : Type 0} where
   -- how many inserts there were, which is the serial of the next key
   abbrev pub inserts : Contents T → ℕ
@@ -32,7 +29,7 @@ module _ {T : Type 0} where
 
   -- the value of a key in the map
   abbrev pub value_at : Contents T → Key → Option T
-  value_at a key = value_in key.slot (slice_index_or a.entries key.serial None)
+  value_at a key = value_in key.slot (slice_index_or a.entries (serial_of key) None)
 
   -- the key is in the map
   abbrev pub ContainsKey : Contents T → Key → Type 0
@@ -41,7 +38,7 @@ module _ {T : Type 0} where
   -- the key of an entry with this serial
   abbrev pub key_in : ℕ → Option (Entry T) → Option Key
   key_in serial None = None
-  key_in serial (Some entry) = Some (record { slot = entry.slot; serial = serial })
+  key_in serial (Some entry) = Some (key_with entry.slot serial)
 
   -- the key of the map that has this serial
   abbrev pub key_at : Contents T → ℕ → Option Key
@@ -66,16 +63,16 @@ module _ {T : Type 0} where
   -- the key, which is in the map, has another value
   abbrev pub with_value : Contents T → Key → T → Contents T
   with_value a key value =
-      record a { entries = slice_set a.entries key.serial (Some (record { slot = key.slot; value = value })) }
+      record a { entries = slice_set a.entries (serial_of key) (Some (record { slot = key.slot; value = value })) }
 
   -- the key is out of the map, and its slot may be used again
   abbrev pub removed : Contents T → Key → Contents T
-  removed a key = record a { entries = slice_set a.entries key.serial None; spare = a.spare + 1 }
+  removed a key = record a { entries = slice_set a.entries (serial_of key) None; spare = a.spare + 1 }
 
   -- the key, which has this value, is out of the map and among the condemned
   abbrev pub condemned_with : Contents T → Key → T → Contents T
   condemned_with a key value =
-      record a { entries = slice_set a.entries key.serial None; condemned = (key, value) ∷ a.condemned }
+      record a { entries = slice_set a.entries (serial_of key) None; condemned = (key, value) ∷ a.condemned }
 
   -- only these pairs are still condemned, and the slot of the pair that was taken off may be used again
   abbrev pub taken_off : Contents T → List (Key × T) → Contents T
@@ -85,7 +82,7 @@ module _ {T : Type 0} where
   abbrev pub keys_from : ℕ → List (Option (Entry T)) → List Key
   keys_from serial [] = []
   keys_from serial (None ∷ rest) = keys_from (serial + 1) rest
-  keys_from serial (Some entry ∷ rest) = record { slot = entry.slot; serial = serial } ∷ keys_from (serial + 1) rest
+  keys_from serial (Some entry ∷ rest) = key_with entry.slot serial ∷ keys_from (serial + 1) rest
 
   -- the map's keys, by ascending serials
   abbrev pub keys_of : Contents T → List Key

@@ -3,6 +3,7 @@ use Rattle.std.specs.Prelude.{◌≡◌, ℕ, zero, suc, ◌+◌, ◌-◌, ◌^�
 use Rattle.std.specs.List.{range_with_len}
 use Rattle.slot_arena.specs.declared.key.Key.{Key}
 use Rattle.slot_arena.specs.declared.slot.Slot.{Slot}
+use Rattle.slot_arena.specs.Serials.{key_with}
 use Rattle.slot_arena.specs.Contents.{Entry, Contents}
 use Rattle.slot_arena.specs.Slot.{live_serial, value_under, condemned_part, free_link, condemned_link}
 
@@ -43,7 +44,7 @@ module _ {T : Type 0} where
   -- the pair of a condemned slot at this place, and then the others
   abbrev pub pair_then : ℕ → Option (ℕ × T × Option ℕ) → (Option ℕ → List (Key × T)) → List (Key × T)
   pair_then place None others = []
-  pair_then place (Some part) others = (record { slot = place; serial = part.0 }, part.1) ∷ others part.2
+  pair_then place (Some part) others = (key_with place part.0, part.1) ∷ others part.2
 
   -- the pairs of so many condemned slots, from this place on
   abbrev pub condemned_from : List (Slot T) → ℕ → Option ℕ → List (Key × T)

@@ -1,3 +1,4 @@
+pub mod Serials
 pub mod Contents
 pub mod Slot
 pub mod Places

@@ -2,7 +2,8 @@
 ghost use Rattle.std.specs.Prelude.{◌≡◌, ◌+◌, ◌-◌, ◌^◌, ◌<◌, ◌≤◌, ◌↔◌, ◌∷◌, [], IsTrue, IsNone, IsOk, IsSome, Some, IfNone, IfOk, IfSome, OnOk, OnErr, OnSome, MatchOption, option_copied};
 ghost use Rattle.std.specs.Option.{option_copied_mut};
 ghost use Rattle.std.specs.Borrow.{sem};
-ghost use Rattle.slot_arena.specs.Contents.{inserts, value_at, key_at, ContainsKey, KeepsEarlier, empty, inserted, removed, condemned_with, taken_off, keys_of, serial_of};
+ghost use Rattle.slot_arena.specs.Serials.{serial_of};
+ghost use Rattle.slot_arena.specs.Contents.{inserts, value_at, key_at, ContainsKey, KeepsEarlier, empty, inserted, removed, condemned_with, taken_off, keys_of};
 
 use crate::key::Key;
 use crate::slot::{Slot, Standing};
@@ -87,7 +88,7 @@ impl<T> Arena<T> {
         let Some(slot) = self.free else {
             let slot = self.slots.len();
             self.slots.push(full);
-            return Key { slot, serial };
+            return Key::new(slot, serial);
         };
         match self.slots.replace(slot, full) {
             Slot::Free(next) => self.free = next,
@@ -98,7 +99,7 @@ impl<T> Arena<T> {
             } => unreachable!(),
         }
         self.freed -= 1;
-        Key { slot, serial }
+        Key::new(slot, serial)
     }
 
     /// The value of a key, if the key is in the map. It takes no memory.
@@ -106,7 +107,7 @@ impl<T> Arena<T> {
         ensures { option_copied result ≡ value_at self.now key }
     {
         if key.slot < self.slots.len() {
-            self.slots.at(key.slot).value(key.serial)
+            self.slots.at(key.slot).value(key.serial())
         } else {
             None
         }
@@ -130,7 +131,7 @@ impl<T> Arena<T> {
     {
         for slot in 0..self.slots.len() {
             if self.slots.at(slot).value(serial).is_some() {
-                return Some(Key { slot, serial });
+                return Some(Key::new(slot, serial));
             }
         }
         None
@@ -193,7 +194,7 @@ impl<T> Arena<T> {
                 self.condemned = next;
                 self.free = Some(slot);
                 self.freed += 1;
-                Some((Key { slot, serial }, value))
+                Some((Key::new(slot, serial), value))
             }
             _ => unreachable!(),
         }
@@ -206,10 +207,10 @@ impl<T> Arena<T> {
         let mut keys = Vec::new(alloc);
         for slot in 0..self.slots.len() {
             if let Some(serial) = self.slots.at(slot).live_serial() {
-                keys.push(Key { slot, serial })?;
+                keys.push(Key::new(slot, serial))?;
             }
         }
-        keys.as_mut_slice().sort_unstable_by_key(|key| key.serial);
+        keys.as_mut_slice().sort_unstable_by_key(|key| key.serial());
         Ok(Many::from_vec(keys))
     }
 

@@ -17,6 +17,7 @@ mod key;
 mod room;
 mod slot;
 mod slots;
+mod wide;
 
 pub use arena::Arena;
 pub use key::Key;

@@ -1,13 +1,14 @@
 use Rattle.std.proofs.Common.{sym, ap, ◌∙◌}
 use Rattle.c_core.specs.Cells as cells
+use Rattle.cell_heap.specs.Contents.{number_of}
 use Rattle.cell_heap.specs.Held.{cells_of}
 use Rattle.cell_heap.proofs.HeldLemmas.{content_at-cell}
 use Rattle.cell_heap.proofs.dicts.held.Goals as goal
 
 pub returns-in-None : goal.returns-in-None
 returns-in-None c =
-    sym (content_at-cell (cells_of c.args.cells.now.entries) c.args.key.serial ∙ ap cells.content_of (sym c.in-None.ensures))
+    sym (content_at-cell (cells_of c.args.cells.now.entries) (number_of c.args.key) ∙ ap cells.content_of (sym c.in-None.ensures))
 
 pub returns-in-Some : goal.returns-in-Some
 returns-in-Some c =
-    sym (content_at-cell (cells_of c.args.cells.now.entries) c.args.key.serial ∙ ap cells.content_of (sym c.in-Some.ensures))
+    sym (content_at-cell (cells_of c.args.cells.now.entries) (number_of c.args.key) ∙ ap cells.content_of (sym c.in-Some.ensures))

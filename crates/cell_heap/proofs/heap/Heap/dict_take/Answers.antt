@@ -1,5 +1,6 @@
 use Rattle.std.proofs.Common.{refl, sym, ap, ◌∙◌, is_ok}
 use Rattle.std.specs.Option.{is_some, option_and_then}
+use Rattle.cell_heap.specs.Contents.{number_of}
 use Rattle.cell_heap.specs.declared.cells.CountedCell.{CountedCell}
 use Rattle.cell_heap.specs.Held.{cells_of}
 use Rattle.cell_heap.specs.Pairs.{pair_in, without_pair}
@@ -13,13 +14,13 @@ use Rattle.cell_heap.proofs.heap.Heap.dict_take.Goals.{in-None, in-Some-get_mut}
 
 pub returns-in_default-clause-there : goal.returns-in_default-clause-there
 returns-in_default-clause-there c =
-    rw (← c.self.view_is) (sym (ap is_some (content_none c.self.inside.cells.entries c.args.dict.serial c.in_default.ensures)))
+    rw (← c.self.view_is) (sym (ap is_some (content_none c.self.inside.cells.entries (number_of c.args.dict) c.in_default.ensures)))
 
 pub returns-clause-there : goal.returns-clause-there
 returns-clause-there c =
     rw (← c.self.view_is) (elim c.match-get_mut.branch [
-      | in-None w ↦ ap is_ok w.result-is ∙ sym (ap is_some (content_lost c.self.inside.cells.entries c.args.dict.serial c.in-Some.dict c.in-Some.ensures w.in-None.ensures.value))
-      | in-Some-get_mut w ↦ ap is_ok w.result-is ∙ sym (ap is_some (content_found c.self.inside.cells.entries c.args.dict.serial c.in-Some.dict w.in-Some-get_mut.cell.now c.in-Some.ensures w.in-Some-get_mut.ensures.value))
+      | in-None w ↦ ap is_ok w.result-is ∙ sym (ap is_some (content_lost c.self.inside.cells.entries (number_of c.args.dict) c.in-Some.dict c.in-Some.ensures w.in-None.ensures.value))
+      | in-Some-get_mut w ↦ ap is_ok w.result-is ∙ sym (ap is_some (content_found c.self.inside.cells.entries (number_of c.args.dict) c.in-Some.dict w.in-Some-get_mut.cell.now c.in-Some.ensures w.in-Some-get_mut.ensures.value))
     ])
 
 pub returns-clause-ok : goal.returns-clause-ok
@@ -30,7 +31,7 @@ returns-clause-ok c =
           let cell = w.in-Some-get_mut.cell.now in
           let new : CountedCell = record { count = cell.count; content = w.take_pair.new.self } in
           rw w.result-is (ap (λ i. cells_of i.cells.entries) w.self-inside-is
-          ∙ refill-writes (without_pair c.args.place) c.self.inside.cells.entries c.args.dict.serial c.in-Some.dict cell new c.in-Some.ensures w.in-Some-get_mut.ensures.value refl w.take_pair.ensures.rest)
+          ∙ refill-writes (without_pair c.args.place) c.self.inside.cells.entries (number_of c.args.dict) c.in-Some.dict cell new c.in-Some.ensures w.in-Some-get_mut.ensures.value refl w.take_pair.ensures.rest)
     ])
 
 pub returns-clause-pair : goal.returns-clause-pair
@@ -39,7 +40,7 @@ returns-clause-pair c =
       | in-None w ↦ rw w.result-is tt
       | in-Some-get_mut w ↦
           rw w.result-is (w.take_pair.ensures.pair
-          ∙ sym (ap (option_and_then (pair_in c.args.place)) (content_found c.self.inside.cells.entries c.args.dict.serial c.in-Some.dict w.in-Some-get_mut.cell.now c.in-Some.ensures w.in-Some-get_mut.ensures.value)))
+          ∙ sym (ap (option_and_then (pair_in c.args.place)) (content_found c.self.inside.cells.entries (number_of c.args.dict) c.in-Some.dict w.in-Some-get_mut.cell.now c.in-Some.ensures w.in-Some-get_mut.ensures.value)))
     ])
 
 pub invariant_of-self : goal.invariant_of-self
@@ -50,5 +51,5 @@ invariant_of-self c =
           let cell = w.in-Some-get_mut.cell.now in
           let new : CountedCell = record { count = cell.count; content = w.take_pair.new.self } in
           subst (λ i. IsKept i.cells) (sym w.self-inside-is)
-          (kept_written (without_pair c.args.place) c.self.inside.cells c.args.dict.serial c.in-Some.dict cell new (without_pair-key c.args.place) c.in-Some.ensures w.in-Some-get_mut.ensures.value refl w.take_pair.ensures.rest (λ after narrows. has_taken after c.args.place cell.content w.take_pair.new.self w.take_pair.ensures.marked) c.self.invariant)
+          (kept_written (without_pair c.args.place) c.self.inside.cells (number_of c.args.dict) c.in-Some.dict cell new (without_pair-key c.args.place) c.in-Some.ensures w.in-Some-get_mut.ensures.value refl w.take_pair.ensures.rest (λ after narrows. has_taken after c.args.place cell.content w.take_pair.new.self w.take_pair.ensures.marked) c.self.invariant)
     ]

@@ -1,5 +1,6 @@
 use Rattle.std.proofs.Common.{refl, sym, ap, ◌∙◌, is_ok}
 use Rattle.std.specs.Option.{is_some, option_and_then}
+use Rattle.cell_heap.specs.Contents.{number_of}
 use Rattle.cell_heap.specs.declared.cells.CountedCell.{CountedCell}
 use Rattle.cell_heap.specs.Held.{cells_of}
 use Rattle.cell_heap.specs.Words.{last_in, without_last}
@@ -13,13 +14,13 @@ use Rattle.cell_heap.proofs.heap.Heap.pop_word.Goals.{in-None, in-Some-get_mut}
 
 pub returns-in_default-clause-there : goal.returns-in_default-clause-there
 returns-in_default-clause-there c =
-    rw (← c.self.view_is) (sym (ap is_some (content_none c.self.inside.cells.entries c.args.key.serial c.in_default.ensures)))
+    rw (← c.self.view_is) (sym (ap is_some (content_none c.self.inside.cells.entries (number_of c.args.key) c.in_default.ensures)))
 
 pub returns-clause-there : goal.returns-clause-there
 returns-clause-there c =
     rw (← c.self.view_is) (elim c.match-get_mut.branch [
-      | in-None w ↦ ap is_ok w.result-is ∙ sym (ap is_some (content_lost c.self.inside.cells.entries c.args.key.serial c.in-Some.key c.in-Some.ensures w.in-None.ensures.value))
-      | in-Some-get_mut w ↦ ap is_ok w.result-is ∙ sym (ap is_some (content_found c.self.inside.cells.entries c.args.key.serial c.in-Some.key w.in-Some-get_mut.cell.now c.in-Some.ensures w.in-Some-get_mut.ensures.value))
+      | in-None w ↦ ap is_ok w.result-is ∙ sym (ap is_some (content_lost c.self.inside.cells.entries (number_of c.args.key) c.in-Some.key c.in-Some.ensures w.in-None.ensures.value))
+      | in-Some-get_mut w ↦ ap is_ok w.result-is ∙ sym (ap is_some (content_found c.self.inside.cells.entries (number_of c.args.key) c.in-Some.key w.in-Some-get_mut.cell.now c.in-Some.ensures w.in-Some-get_mut.ensures.value))
     ])
 
 pub returns-clause-ok : goal.returns-clause-ok
@@ -30,7 +31,7 @@ returns-clause-ok c =
           let cell = w.in-Some-get_mut.cell.now in
           let new : CountedCell = record { count = cell.count; content = w.pop_word.new.self } in
           rw w.result-is (ap (λ i. cells_of i.cells.entries) w.self-inside-is
-          ∙ refill-writes (without_last) c.self.inside.cells.entries c.args.key.serial c.in-Some.key cell new c.in-Some.ensures w.in-Some-get_mut.ensures.value refl w.pop_word.ensures.rest)
+          ∙ refill-writes (without_last) c.self.inside.cells.entries (number_of c.args.key) c.in-Some.key cell new c.in-Some.ensures w.in-Some-get_mut.ensures.value refl w.pop_word.ensures.rest)
     ])
 
 pub returns-clause-last : goal.returns-clause-last
@@ -39,7 +40,7 @@ returns-clause-last c =
       | in-None w ↦ rw w.result-is tt
       | in-Some-get_mut w ↦
           rw w.result-is (w.pop_word.ensures.last
-          ∙ sym (ap (option_and_then (last_in)) (content_found c.self.inside.cells.entries c.args.key.serial c.in-Some.key w.in-Some-get_mut.cell.now c.in-Some.ensures w.in-Some-get_mut.ensures.value)))
+          ∙ sym (ap (option_and_then (last_in)) (content_found c.self.inside.cells.entries (number_of c.args.key) c.in-Some.key w.in-Some-get_mut.cell.now c.in-Some.ensures w.in-Some-get_mut.ensures.value)))
     ])
 
 pub invariant_of-self : goal.invariant_of-self
@@ -50,5 +51,5 @@ invariant_of-self c =
           let cell = w.in-Some-get_mut.cell.now in
           let new : CountedCell = record { count = cell.count; content = w.pop_word.new.self } in
           subst (λ i. IsKept i.cells) (sym w.self-inside-is)
-          (kept_written (without_last) c.self.inside.cells c.args.key.serial c.in-Some.key cell new (without_last-key) c.in-Some.ensures w.in-Some-get_mut.ensures.value refl w.pop_word.ensures.rest (λ after narrows. has_kept after cell.content w.pop_word.new.self w.pop_word.ensures.keys) c.self.invariant)
+          (kept_written (without_last) c.self.inside.cells (number_of c.args.key) c.in-Some.key cell new (without_last-key) c.in-Some.ensures w.in-Some-get_mut.ensures.value refl w.pop_word.ensures.rest (λ after narrows. has_kept after cell.content w.pop_word.new.self w.pop_word.ensures.keys) c.self.invariant)
     ]
