@@ -2,6 +2,8 @@ pub mod LiveLemmas
 pub mod FrameLemmas
 pub mod StateLemmas
 pub mod CallLemmas
+pub mod AtOnceLemmas
+pub mod LineLemmas
 pub mod StepLemmas
 pub mod Running
 pub mod MethodLemmas

@@ -17,7 +17,7 @@ use Rattle.c_runner_deeds.specs.declared.state.State.{State}
 use Rattle.c_runner_deeds.specs.Handing.{HandsOn, has_bytes}
 use Rattle.c_runner_deeds.specs.States.{ending_of, Rest, IsSmall, first_rest, state_of, next_of}
 use Rattle.c_runner.specs.Report.{live_cells, Reports}
-use Rattle.c_runner.proofs.StepLemmas.{Keeps, KeepsTo, step_keeps, some_left, one_taken, one_further, grows}
+use Rattle.c_runner.proofs.StepLemmas.{Keeps, KeepsTo, step_keeps, some_left, one_taken, one_further, grows, reaches_on, goes_on}
 
 -- ---- no bytes
 pub no_front : (xs ys : List ℕ) → xs ++ ys ≡ [] → xs ≡ []
@@ -84,6 +84,20 @@ module _ (tells : Bool) (before now : List ℕ) (code : Code) (turns : ℕ) (ite
   can_step exists formed =
       let run = exists code formed turns items in
       some_left code left (state_of rest state) run.0 (running.goes ∙ run.1)
+
+  -- some steps that wrote nothing
+  pub strides : (n : ℕ) (new : State) → ((r : Rest) → Reaches code n (state_of r state) (state_of r new)) → new.output ≡ state.output → n ≤ left → Running tells before now code turns items (left - n) any Untouched new lines
+  strides n new steps same le = record {
+    handed = running.handed;
+    made = running.made;
+    taken = running.taken;
+    alone = running.alone;
+    any_is = running.any_is ∙ ap (λ o. has_bytes (running.handed ++ o)) (sym same);
+    steps = running.steps + n;
+    all_steps = omega (arith, running.all_steps, le);
+    reaches = reaches_on code running.steps n (start code turns items) (state_of rest state) (state_of rest new) running.reaches (steps rest);
+    goes = sym (goes_on code n left (state_of rest state) (state_of rest new) (steps rest) le) ∙ running.goes;
+  }
 
   -- a front of what is held went too
   pub front_of_held : (after : List ℕ) → (IsTrue tells → TakesFront now after state.output) → (stop : Stop) → machine_run turns items code ≡ Some stop → IsTrue tells → TakesFront before after stop.state.output

@@ -135,13 +135,15 @@ module _ (code : Code) (g : CFunc) (line : Line) (x : Option ℕ) (name : List �
   calls_nothing rest old e =
       ap (λ l. step.step_at true code (state_of rest old) (Some l)) is ∙ no_callee rest old code x name args (primitive_named name) (callee_is None e)
 
+  pub call_is : (rest : Rest) (old : State) (slice : List CArg) (k : Callee) → target.callee ≡ Some k → slice ≡ args → step.step_at true code (state_of rest old) (Some line) ≡ callee_called code x slice k (state_of rest old)
+  call_is rest old slice k e same =
+      ap (λ l. step.step_at true code (state_of rest old) (Some l)) is
+      ∙ callee_step rest old code x name args (primitive_named name) k (callee_is (Some k) e)
+      ∙ ap (λ a. callee_called code x a k (state_of rest old)) (sym same)
+
   pub calls : (old new : State) (slice : List CArg) (k : Callee) (r : Result (Option Ending) Pause) → target.callee ≡ Some k → slice ≡ args → Steps (callee_called code x slice k) r old new → Steps (λ s. step.step_at true code s (Some line)) r old new
   calls old new slice k r e same h =
-      steps_as (callee_called code x slice k) (λ s. step.step_at true code s (Some line)) old new r
-      (λ rest. ap (λ l. step.step_at true code (state_of rest old) (Some l)) is
-      ∙ callee_step rest old code x name args (primitive_named name) k (callee_is (Some k) e)
-      ∙ ap (λ a. callee_called code x a k (state_of rest old)) (sym same))
-      h
+      steps_as (callee_called code x slice k) (λ s. step.step_at true code s (Some line)) old new r (λ rest. call_is rest old slice k e same) h
 
 -- a line that calls a method makes no object
 pub line_calls : (code : Code) (line as_is : Line) (does : MachineState → Next) (ending : Option Ending) (old new : State) → line ≡ as_is → ((rest : Rest) → step.step_at true code (state_of rest old) (Some as_is) ≡ does (state_of rest old)) → Follows does ending old new → Leads (λ s. step.step_at true code s (Some line)) ending old new

@@ -1,5 +1,5 @@
 -- What each step of the machine keeps: the output only grows.
-use Rattle.std.proofs.Common.{◌≡◌, refl, sym, ◌∙◌, ap, ℕ, zero, suc, ◌+◌, ◌-◌, ◌≤◌, arith, true, cond, List, [], ◌∷◌, ◌++◌, append_assoc, append-nil, Option, Some, None}
+use Rattle.std.proofs.Common.{◌≡◌, refl, sym, ◌∙◌, ap, subst, ℕ, zero, suc, ◌+◌, ◌-◌, ◌≤◌, arith, true, cond, List, [], ◌∷◌, ◌++◌, append_assoc, append-nil, Option, Some, None}
 use Rattle.std.specs.Prelude.{slice_set}
 use Rattle.std.specs.Option.{option_and_then}
 use Rattle.c_core.specs.declared.code.Line.{Line}
@@ -166,3 +166,34 @@ module _ (code : Code) where
   pub one_further : (k : ℕ) (s t u : MachineState) → Reaches code k s t → step code t ≡ Goes u → Reaches code (k + 1) s u
   one_further k s t u (Here w) e = There 0 s u u e (Here u)
   one_further k s t u (There j a b w f r) e = There (j + 1) a b u f (one_further j b w u r e)
+
+  -- the state in which a run stops is one that it comes to
+  reached_after : (k : ℕ) (next : Next) (s : MachineState) (stop : Stop) → step code s ≡ next → KeepsTo s next → go_on (step code) k next ≡ Some stop → (j : ℕ) × Reaches code j s stop.state
+  reached_after k (Ends e t) s stop is kept end =
+      let same_stop : record { ending = e; state = t } ≡ stop = cc in
+      let same_state : s ≡ stop.state = sym kept ∙ ap (λ z. z.state) same_stop in
+      (0, subst (λ z. Reaches code 0 s z) same_state (Here s))
+  reached_after zero (Goes t) s stop is kept end = absurd (cc)
+  reached_after (suc k) (Goes t) s stop is kept end =
+      let later = reached_after k (step code t) t stop refl (step_keeps t code) end in
+      (later.0 + 1, There later.0 s t stop.state is later.1)
+
+  pub reached : (k : ℕ) (s : MachineState) (stop : Stop) → go_on (step code) k (Goes s) ≡ Some stop → (j : ℕ) × Reaches code j s stop.state
+  reached k s stop end =
+      reached_after (k - 1) (step code s) s stop refl (step_keeps s code) (sym (one_taken k s (some_left k s stop end)) ∙ end)
+
+  -- some steps, one after the other
+  pub reaches_on : (j k : ℕ) (s t u : MachineState) → Reaches code j s t → Reaches code k t u → Reaches code (j + k) s u
+  reaches_on j k s t u r (Here w) = let same : j ≡ j + 0 = omega arith in subst (λ n. Reaches code n s w) same r
+  reaches_on j k s t u r (There i a m b e more) =
+      let same : (j + 1) + i ≡ j + (i + 1) = omega arith in
+      subst (λ n. Reaches code n s b) same (reaches_on (j + 1) i s m b (one_further j s a m r e) more)
+
+  pub goes_on : (k left : ℕ) (s t : MachineState) → Reaches code k s t → k ≤ left → go_on (step code) left (Goes s) ≡ go_on (step code) (left - k) (Goes t)
+  goes_on k left s t (Here w) le = let same : left ≡ left - 0 = omega arith in ap (λ n. go_on (step code) n (Goes w)) same
+  goes_on k left s t (There i a m b e more) le =
+      let same : (left - 1) - i ≡ left - (i + 1) = omega arith in
+      one_taken left a (omega (arith, le))
+      ∙ ap (go_on (step code) (left - 1)) e
+      ∙ goes_on i (left - 1) m b more (omega (arith, le))
+      ∙ ap (λ n. go_on (step code) n (Goes b)) same

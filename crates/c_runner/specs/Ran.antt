@@ -1,12 +1,15 @@
 -- What a call that runs a code gives.
-use Rattle.std.specs.Prelude.{◌≡◌, ◌⊎◌, ℕ, ◌+◌, ◌<◌, ◌≤◌, Bool, true, false, List, [], ◌++◌, length, IsTrue, Result, Ok, Err}
-use Rattle.value_core.specs.Items.{Items, InputEnd, AtEof, AtFailure, input_items, pieces, lines_from}
+use Rattle.std.specs.Prelude.{◌≡◌, ◌⊎◌, ℕ, ◌+◌, ◌-◌, ◌<◌, ◌≤◌, Bool, true, false, List, [], ◌++◌, length, take, IsTrue, Result, Ok, Err}
+use Rattle.std.specs.List.{concat}
+use Rattle.value_core.specs.Items.{Items, Line, Bad, InputEnd, AtEof, AtFailure, input_items, pieces, lines_from}
 use Rattle.outside_core.specs.Bytes.{TakesFront, GivesAtMost, bytes_between}
 use Rattle.outside_core.specs.Counts.{count_end, has_risen, one_more}
 use Rattle.c_core.specs.declared.code.Code.{Code}
 use Rattle.value_core.specs.Ending as source
+use Rattle.c_core.specs.Machine.{MachineState}
 use Rattle.c_core.specs.Step.{Ended}
-use Rattle.c_core.specs.Run.{Stop}
+use Rattle.c_core.specs.Run.{Stop, start}
+use Rattle.c_core.specs.Laws.{Reaches}
 use Rattle.c_runner_lines.specs.Held.{most_read, piece_size}
 use Rattle.c_runner_lines.specs.declared.read_fault.ReadFault.{ReadFault}
 use Rattle.c_runner_lines.specs.declared.read_fault.ReadFault.TheVariants as read
@@ -41,25 +44,59 @@ Ran code stop tells before after (Err InputFault) =
 Ran code stop tells before after (Err WriteFault) = IsTrue tells → TakesFront before after stop.state.output
 Ran code stop tells before after (Err Memory) = IsTrue tells → TakesFront before after stop.state.output
 
+-- how many lines are left, and how many were used where of some lines these are left
+abbrev pub line_count : Items → ℕ
+line_count (Line text next) = line_count next + 1
+line_count (Bad next) = line_count next + 1
+line_count _ = 0
+
+abbrev pub lines_used : Items → Items → ℕ
+lines_used items left = line_count items - line_count left
+
+-- where the first lines of some bytes end
+abbrev pub lines_end : ℕ → List ℕ → ℕ
+lines_end lines bytes = length (concat (take lines (pieces bytes)))
+
 -- where no line ended too far along, fewer bytes were taken behind those that were used than one read gives, and none where no line was used
 pub record TookNear (items : Items) (used ahead : List ℕ) (stop : Stop) : Type 0 where
   pub near : length ahead < piece_size
-  pub none : stop.state.items ≡ items → used ++ ahead ≡ []
+  pub none : lines_used items stop.state.items ≡ 0 → used ++ ahead ≡ []
 
--- what a run took of an input that tells its bytes: those of the lines that it used, and some behind them, no more in all than one byte
--- more than may be used. The lines that are left are those of the bytes behind the ones that were used
+-- what a run took of an input that tells its bytes: those of the lines that it used, each whole and no others, and some behind them, no more
+-- in all than one byte more than may be used. The lines that are left are those of the bytes behind the ones that were used
 pub record TookLines (items : Items) (stop : Stop) (left left' : List ℕ) : Type 0 where
   pub used : List ℕ
   pub ahead : List ℕ
   pub given : left ≡ used ++ (ahead ++ left')
+  pub whole : used ≡ concat (take (lines_used items stop.state.items) (pieces left))
   pub follows : stop.state.items ≡ lines_from (length used) AtEof (pieces (ahead ++ left'))
   pub within : length used + length ahead ≤ most_read
   pub usual : (stop.ending ≡ Ended source.Over) ⊎ TookNear items used ahead stop
 
--- the same of a call; where it has no report no more than that is said of how much was taken
-abbrev pub Took : Result Report RunError → Items → Stop → List ℕ → List ℕ → Type 0
-Took (Ok report) items stop left left' = TookLines items stop left left'
-Took (Err e) items stop left left' = GivesAtMost most_read left left'
+-- so many lines were used, and fewer bytes were taken behind the last one than one read gives, and none where no line was used
+pub record TookUpTo (lines : ℕ) (left left' : List ℕ) : Type 0 where
+  pub taken : List ℕ
+  pub given : left ≡ taken ++ left'
+  pub near : length taken < lines_end lines left + piece_size
+  pub none : lines ≡ 0 → taken ≡ []
+
+-- What a run took that was broken off, because memory ran out or the sink refused a call: what was taken up to some state that the run
+-- comes to is all, and the sink took the whole output up to that state. So nothing was read behind a call that the sink refused. The run may stop
+-- there, at a line that ends too far along
+pub record TookSome (code : Code) (turns : ℕ) (items : Items) (stop : Stop) (tells : Bool) (sink sink' left left' : List ℕ) : Type 0 where
+  pub state : MachineState
+  pub steps : ℕ
+  pub comes : Reaches code steps (start code turns items) state
+  pub sent : IsTrue tells → (more : List ℕ) × (sink' ≡ sink ++ (state.output ++ more))
+  pub within : GivesAtMost most_read left left'
+  pub usual : (stop ≡ record { ending = Ended source.Over; state = state }) ⊎ TookUpTo (lines_used items state.items) left left'
+
+-- what a call took by its answer; where a read failed, the run's lines end with the bytes that were taken
+abbrev pub Took : Code → ℕ → Bool → List ℕ → List ℕ → Result Report RunError → Items → Stop → List ℕ → List ℕ → Type 0
+Took code turns tells sink sink' (Ok report) items stop left left' = TookLines items stop left left'
+Took code turns tells sink sink' (Err InputFault) items stop left left' = GivesAtMost most_read left left'
+Took code turns tells sink sink' (Err WriteFault) items stop left left' = TookSome code turns items stop tells sink sink' left left'
+Took code turns tells sink sink' (Err Memory) items stop left left' = TookSome code turns items stop tells sink sink' left left'
 
 -- why a run ends that could not read a line
 abbrev pub error_of_read : ReadFault → RunError

@@ -37,7 +37,7 @@ pub(crate) fn enter(
     let Some(function) = code.funcs.get(func) else {
         return Ok(Some(Ending::Fault(Fault::Kind)));
     };
-    let mut vars = Many::new(alloc);
+    let mut vars = room_for_vars(alloc, function)?;
     match pass(state, parameters(function), args, &mut vars)? {
         Some(fault) => Ok(Some(Ending::Fault(fault))),
         None => {
@@ -45,6 +45,14 @@ pub(crate) fn enter(
             Ok(None)
         }
     }
+}
+
+/// No words yet, with memory for all variables of a function.
+pub(crate) fn room_for_vars(alloc: Global, function: &CFunc) -> Result<Many<Word>, Memory>
+    ensures { IfOk result (λ vars. vars ≡ []) }
+{
+    let vars = Vec::with_capacity(alloc, function.vars.len())?;
+    Ok(Many::from_vec(vars))
 }
 
 /// Lets a function begin with what it is passed. The frame that ran waits for it at the line behind the call.

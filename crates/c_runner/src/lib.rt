@@ -13,10 +13,12 @@
 //! `c_runner_objects`; here are the lines, the calls and returns of functions and methods, and the whole run.
 #![tactic(auto)]
 
+mod at_once;
 mod calls;
 mod counts;
 mod frames;
 mod input;
+mod lines;
 mod live;
 mod methods;
 mod pause;

@@ -15,7 +15,7 @@ ghost use Rattle.c_runner_deeds.specs.States.{Rest, Follows, state_of};
 ghost use Rattle.c_runner_table.specs.Targets.{methods_of};
 ghost use Rattle.cell_heap.specs.Contents.{word_of};
 
-use crate::frames::{begin, parameters};
+use crate::frames::{begin, parameters, room_for_vars};
 use c_core::{CFunc, Code, Fault, Kind};
 use c_runner_deeds::{Ending, State};
 use c_runner_table::Methods;
@@ -112,7 +112,7 @@ fn call_method(
     if !takes_and_gives(state, code, target, args, function) {
         return Ok(Some(Ending::Fault(Fault::Kind)));
     }
-    let mut vars = Many::new(alloc);
+    let mut vars = room_for_vars(alloc, function)?;
     match pass_variables(state, parameters(function), object, args, &mut vars)? {
         Some(fault) => Ok(Some(Ending::Fault(fault))),
         None => {

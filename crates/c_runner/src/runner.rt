@@ -1,10 +1,11 @@
-ghost use Rattle.std.specs.Prelude.{◌≡◌, ◌≤◌, [], Some, IsTrue, IsErrOf};
+ghost use Rattle.std.specs.Prelude.{◌≡◌, ◌<◌, ◌≤◌, [], Some, IsTrue, IsErrOf};
 ghost use Rattle.outside_core.specs.Counts.{Rose};
 ghost use Rattle.value_core.specs.Items.{Items};
 ghost use Rattle.c_core.specs.Run.{Stop, machine_run, most_turns, most_steps, most_lines};
 ghost use Rattle.c_core.specs.WellFormed.{WellFormed};
 ghost use Rattle.c_runner.specs.Ran.{AreGiven, Ran, Took, faults_of_out};
 
+use crate::lines::do_lines;
 use crate::live::report_of;
 use crate::reading::advance;
 use crate::report::{Report, RunError};
@@ -15,9 +16,13 @@ use c_runner_table::table;
 use outside_core::{Sink, Source};
 use std::alloc::Global;
 
+/// So many steps are made at once at most.
+const MOST_AT_ONCE: usize = 65_536;
+
 /// Runs a well-formed code for so many turns, on the lines of the input. What the program writes goes to `out`,
 /// whenever 65536 bytes have come together, before each read of the input, and what is left before the answer; where it writes nothing, nothing
-/// happens to `out`. The input is read only for a line that is asked for, and of the bytes behind the lines that were used at most 4095 are taken.
+/// happens to `out`. The input is read only for a line that is asked for, and of the bytes behind the lines that were used at most 4095 are taken;
+/// behind a call that `out` refused nothing is read.
 pub fn run<I: Source, O: Sink>(
     alloc: Global,
     code: &Code,
@@ -32,7 +37,8 @@ pub fn run<I: Source, O: Sink>(
         × ((stop : Stop) × (machine_run turns items code.now ≡ Some stop)
         × Ran code.now stop O.tells (O.taken out.old) (O.taken out.new) result
         × (stop.state.output ≡ [] → out.new ≡ out.old)
-        × (IsTrue I.tells → Took result items stop (I.left input.old) (I.left input.new))) }
+        × (IsTrue I.tells → Took code.now turns O.tells (O.taken out.old) (O.taken out.new) result
+        items stop (I.left input.old) (I.left input.new))) }
     ensures input_fault { IsErrOf result RunError.InputFault → Rose (I.faults input.old) (I.faults input.new) }
     ensures out_faults { O.faults out.new ≡ faults_of_out result (O.faults out.old) }
 {
@@ -46,6 +52,8 @@ pub fn run<I: Source, O: Sink>(
     let mut has_output = false;
     let mut reader = LineReader::new(alloc);
     'steps: loop {
+        let done = do_lines(&mut state, code, &table, some_steps(left));
+        left -= done as u128;
         left -= 1;
         let ending = advance(alloc, code, &table, &mut state, &mut reader, input, out)?;
         has_output = state.output.has_any(has_output);
@@ -56,6 +64,18 @@ pub fn run<I: Source, O: Sink>(
                 return Ok(report_of(&state, alloc, code, ending, has_output)?);
             }
         }
+    }
+}
+
+/// How many steps are made at once at most, where so many are left: fewer.
+fn some_steps(left: u128) -> usize
+    requires { 1 ≤ left }
+    ensures { result < left }
+{
+    if left > MOST_AT_ONCE as u128 {
+        MOST_AT_ONCE
+    } else {
+        (left - 1) as usize
     }
 }
 

@@ -6,7 +6,7 @@ use Rattle.std.proofs.lemmas.Bool.Decides.{nat_tests}
 use Rattle.value_core.specs.Items.{InputEnd, AtEof, AtFailure, Eof, Broken, Over, most_input, line_feed, is_line_feed, before_pieces, pieces, is_ended, unended, is_whole, line_before, lines_from}
 
 -- of bytes with no line feed neither the first is one nor are the others
-first_none : (x y : Bool) → (x || y) ≡ false → (x ≡ false) × (y ≡ false)
+pub first_none : (x y : Bool) → (x || y) ≡ false → (x ≡ false) × (y ≡ false)
 first_none true y e = absurd (cc)
 first_none false y e = (refl, e)
 
@@ -16,7 +16,7 @@ feed_before [] = refl
 feed_before (p ∷ ps) = refl
 
 -- any other byte belongs to the first piece
-byte_before : (b : ℕ) (p : List ℕ) (ps : List (List ℕ)) → is_line_feed b ≡ false → before_pieces b (p ∷ ps) ≡ (b ∷ p) ∷ ps
+pub byte_before : (b : ℕ) (p : List ℕ) (ps : List (List ℕ)) → is_line_feed b ≡ false → before_pieces b (p ∷ ps) ≡ (b ∷ p) ∷ ps
 byte_before b p ps e = rw e refl
 
 -- the first piece ends with the first line feed

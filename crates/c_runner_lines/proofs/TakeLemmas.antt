@@ -1,13 +1,13 @@
 -- What is taken of an input by one step after another, and what a refused one says.
-use Rattle.std.proofs.Common.{◌≡◌, refl, sym, ◌∙◌, ap, ℕ, ◌+◌, ◌≤◌, Bool, true, false, not, ◌||◌, nat_lt, List, [], ◌∷◌, ◌++◌, length, IsTrue, append_assoc, append-nil, length-append, arith}
+use Rattle.std.proofs.Common.{◌≡◌, refl, sym, ◌∙◌, ap, ℕ, ◌+◌, ◌≤◌, Bool, true, false, not, ◌||◌, nat_lt, List, [], ◌∷◌, ◌++◌, length, Option, Some, None, IsTrue, append_assoc, append-nil, length-append, arith}
 use Rattle.std.specs.List.{list_any}
 use Rattle.std.proofs.lemmas.Bool.Decides.{nat_tests}
-use Rattle.value_core.specs.Items.{AtFailure, Broken, most_input, is_line_feed, pieces, lines_from}
+use Rattle.value_core.specs.Items.{AtFailure, Broken, most_input, line_feed, is_line_feed, pieces, lines_from}
 use Rattle.c_runner_lines.specs.declared.read_fault.ReadFault.{ReadFault}
 use Rattle.c_runner_lines.specs.declared.read_fault.ReadFault.TheVariants.{Failed, Memory}
 use Rattle.c_runner_lines.specs.ReaderState.{ReaderState, total_of}
-use Rattle.c_runner_lines.specs.Reading.{is_ready, Refuses, Takes}
-use Rattle.c_runner_lines.specs.Steps.{HoldsMore, Loses}
+use Rattle.c_runner_lines.specs.Reading.{is_ready, IsForOneLine, Refuses, Takes}
+use Rattle.c_runner_lines.specs.Steps.{HoldsMore, Loses, IsSearched}
 use Rattle.c_runner_lines.proofs.PieceLemmas.{pieces_open, broken_piece}
 
 -- a reader that has to read: no line feed is held, the end was not seen, and more may be read
@@ -65,7 +65,45 @@ refused old mid Failed taken more e h l =
     ap (λ n. lines_from n AtFailure (pieces (old.held ++ (taken ++ more)))) (sym h.before)
     ∙ ap (λ c. lines_from mid.before AtFailure (pieces c)) (sym all)
     ∙ broken mid.before mid.held wait.none wait.room
-refused old mid Memory taken more e h l = tt
+refused old mid Memory taken more e h l = record {
+  text = mid.held;
+  rest = more;
+  split = sym (append_assoc old.held taken more) ∙ ap (λ c. c ++ more) (sym h.held);
+  none = (waits mid e).none;
+  near = l;
+}
+
+-- a reader whose first line was searched for has read for that line
+pub searched_one : (r : ReaderState) (end : Option ℕ) → IsSearched r end → IsForOneLine r []
+searched_one r None s = record {
+  text = r.held;
+  rest = [];
+  split = refl;
+  none = s.ends;
+  near = omega arith;
+}
+searched_one r (Some k) s =
+    let near = s.near in
+    let size = s.ends.size in
+    record {
+      text = s.ends.text;
+      rest = line_feed ∷ s.ends.rest;
+      split = append-nil r.held ∙ s.ends.split;
+      none = s.ends.none;
+      near = omega (arith, ap length s.ends.split, length-append s.ends.text (line_feed ∷ s.ends.rest));
+    }
+
+pub IsForOneLine-more : (old mid : ReaderState) (taken : List ℕ) → HoldsMore old mid taken → IsForOneLine mid [] → IsForOneLine old taken
+IsForOneLine-more old mid taken h one = record {
+  text = one.text;
+  rest = one.rest;
+  split = sym h.held ∙ sym (append-nil mid.held) ∙ one.split;
+  none = one.none;
+  near = one.near;
+}
+
+pub searched_refuses : (old mid : ReaderState) (end : Option ℕ) (taken : List ℕ) → IsSearched mid end → HoldsMore old mid taken → Refuses Memory old taken
+searched_refuses old mid end taken s h = IsForOneLine-more old mid taken h (searched_one mid end s)
 
 pub not_false : (b : Bool) → not b ≡ true → b ≡ false
 not_false true e = absurd (cc)

@@ -1,6 +1,6 @@
 -- What a call of `next` finds, told by the lines of the whole input (`Items` of value_core). Which bytes follow those that were read is not known
 -- when a line is answered, so it is told of all that may follow.
-use Rattle.std.specs.Prelude.{◌≡◌, ◌<◌, ◌≤◌, ℕ, ◌+◌, Bool, ◌||◌, nat_lt, List, [], ◌++◌, length, Result, Ok, Err, IsTrue, ⊤}
+use Rattle.std.specs.Prelude.{◌≡◌, ◌<◌, ◌≤◌, ℕ, ◌+◌, Bool, false, ◌||◌, nat_lt, List, [], ◌∷◌, ◌++◌, length, Result, Ok, Err, IsTrue}
 use Rattle.std.specs.List.{list_any}
 use Rattle.outside_core.specs.Counts.{one_more}
 use Rattle.value_core.specs.Items.{Items, InputEnd, AtEof, AtFailure, Broken, most_input, is_line_feed, pieces, lines_from}
@@ -31,10 +31,18 @@ Answers Bad old new taken = (future : List ℕ) (e : InputEnd) → Suits new fut
 Answers Eof old new taken = IsTrue new.ended × (items_left old taken AtEof ≡ items.Eof) × (items_left new [] AtEof ≡ items.Eof)
 Answers Over old new taken = (future : List ℕ) (e : InputEnd) → (items_left old (taken ++ future) e ≡ items.Over) × (items_left new future e ≡ items.Over)
 
--- what a refusal says: where a read failed, the input ends so and no line is left; of want of memory nothing is said
+-- what was taken is for the first line that was left: its bytes have no line feed, or no more stand from the first one on than one read gives
+pub record IsForOneLine (old : ReaderState) (taken : List ℕ) : Type 0 where
+  pub text : List ℕ
+  pub rest : List ℕ
+  pub split : old.held ++ taken ≡ text ++ rest
+  pub none : list_any is_line_feed text ≡ false
+  pub near : length rest ≤ piece_size
+
+-- what a refusal says: where a read failed, the input ends so and no line is left; where memory ran out, it was read for one line
 abbrev pub Refuses : ReadFault → ReaderState → List ℕ → Type 0
 Refuses Failed old taken = items_left old taken AtFailure ≡ Broken
-Refuses Memory old taken = ⊤
+Refuses Memory old taken = IsForOneLine old taken
 
 -- how far was read beyond what an answer used: a line has less than one read behind it, the end nothing, and one byte too many was read at most
 abbrev pub ReadsNear : Item → ReaderState → Type 0
@@ -49,11 +57,21 @@ pub record Uses (old new : ReaderState) (taken : List ℕ) : Type 0 where
   pub split : old.held ++ taken ≡ used ++ new.held
   pub before : new.before ≡ old.before + length used
 
--- an item that is found: what it says of lines, how far was read, and what is used. What was read is used or held, and an end that was seen stays so
+-- the bytes that are used are the first piece of all that were left: a line is used whole, and with nothing else; otherwise nothing is used
+abbrev pub Cuts : Item → ReaderState → ReaderState → List ℕ → List ℕ → Type 0
+Cuts (Line text) old new taken used = (future : List ℕ) (e : InputEnd) → Suits new future e → pieces (old.held ++ (taken ++ future)) ≡ used ∷ pieces (new.held ++ future)
+Cuts Bad old new taken used = (future : List ℕ) (e : InputEnd) → Suits new future e → pieces (old.held ++ (taken ++ future)) ≡ used ∷ pieces (new.held ++ future)
+Cuts Eof old new taken used = used ≡ []
+Cuts Over old new taken used = used ≡ []
+
+-- an item that is found: what it says of lines, how far was read, and what is used. What was read is used or held, it was read for one
+-- line, and an end that was seen stays so
 pub record Found (item : Item) (old new : ReaderState) (taken : List ℕ) : Type 0 where
   pub lines : Answers item old new taken
   pub near : ReadsNear item new
   pub uses : Uses old new taken
+  pub cuts : Cuts item old new taken uses.used
+  pub one : IsForOneLine old taken
   pub total : total_of new ≡ total_of old + length taken
   pub ended : IsTrue old.ended → IsTrue new.ended
 

@@ -1,5 +1,5 @@
 -- The steps of a call of `next`: bytes are gathered until a line can be answered, and the line is handed out.
-use Rattle.std.specs.Prelude.{◌≡◌, ◌≤◌, ℕ, ◌+◌, ◌-◌, cond, nat_lt, List, [], ◌++◌, length, drop, take, Option, IfSome, IsTrue, ⊤}
+use Rattle.std.specs.Prelude.{◌≡◌, ◌≤◌, ℕ, ◌+◌, ◌-◌, cond, nat_lt, List, [], ◌++◌, length, drop, take, Option, IfSome, IsTrue}
 use Rattle.std.specs.Bool.{MatchBool}
 use Rattle.std.specs.Str.{is_utf8}
 use Rattle.value_core.specs.Items.{most_input}
@@ -16,10 +16,10 @@ pub record HoldsMore (old new : ReaderState) (taken : List ℕ) : Type 0 where
   pub held : new.held ≡ old.held ++ taken
   pub ended : IsTrue old.ended → IsTrue new.ended
 
--- what a refused read took: nothing. Of want of memory nothing is said
+-- what a refused read took: nothing; where there was no memory for its bytes, no more than a read gives
 abbrev pub Loses : ReadFault → List ℕ → Type 0
 Loses Failed taken = taken ≡ []
-Loses Memory taken = ⊤
+Loses Memory taken = length taken ≤ piece_size
 
 -- how much a reader may still read, with one more as long as it did not see the end
 abbrev pub to_read : ReaderState → ℕ

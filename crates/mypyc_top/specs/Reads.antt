@@ -1,9 +1,9 @@
 -- What a call took of the input.
-use Rattle.std.specs.Prelude.{◌≡◌, ℕ, ◌+◌, Bool, true, false, not, ◌||◌, List, ◌++◌, length, Some, IsTrue}
+use Rattle.std.specs.Prelude.{◌≡◌, ◌⊎◌, ℕ, ◌+◌, Bool, true, false, not, ◌||◌, List, ◌++◌, length, Some, IsTrue}
 use Rattle.value_core.specs.Items.{Items}
 use Rattle.c_core.specs.declared.code.Code.{Code}
+use Rattle.c_core.specs.Text.{code_text}
 use Rattle.c_core.specs.Run.{Stop, machine_run}
-use Rattle.c_runner.specs.Ran.{TookLines}
 use Rattle.mypyc_top_words.specs.declared.words.Emit.{Emit}
 use Rattle.mypyc_top_words.specs.declared.words.Emit.TheVariants as emit
 use Rattle.mypyc_top_words.specs.declared.words.Words.{Words}
@@ -11,8 +11,11 @@ use Rattle.mypyc_top_words.specs.declared.words.Words.TheVariants.{Usage, Go}
 use Rattle.mypyc_top_status.specs.declared.status.Status.{Status}
 use Rattle.mypyc_top_status.specs.declared.status.Status.TheVariants as status
 use Rattle.mypyc_top_status.specs.Endings.{machine_status, machine_line}
+use Rattle.mypyc_top_status.specs.Causes.{Yields}
+use Rattle.mypyc_top_status.specs.Sinks.{SinkCall}
 use Rattle.mypyc_top_running.specs.Summary.{cells_left}
 use Rattle.mypyc_top_running.specs.Programs.{behind_output}
+use Rattle.mypyc_top_running.specs.Takes.{TookBy}
 use Rattle.mypyc_top.specs.declared.plan.Plan.{Plan}
 use Rattle.mypyc_top.specs.declared.plan.Plan.TheVariants.{Send, Run}
 
@@ -27,6 +30,20 @@ abbrev pub runs_program : Words → Bool
 runs_program Usage = false
 runs_program (Go r) = runs r.emit
 
+-- whether the words ask for the run of a C text
+abbrev pub is_text : Emit → Bool
+is_text emit.Runc = true
+is_text _ = false
+
+abbrev pub runs_text : Words → Bool
+runs_text Usage = false
+runs_text (Go r) = is_text r.emit
+
+-- a program that is planned is that of a C text of these bytes
+abbrev pub OfText : List ℕ → Plan → Type 0
+OfText bytes (Send reply) = Unit {0}
+OfText bytes (Run program) = code_text program.code ≡ bytes
+
 -- the statuses of a call that ran no program
 abbrev pub is_unrun : Status → Bool
 is_unrun status.Diagnosed = true
@@ -37,30 +54,29 @@ is_unrun status.TooLarge = true
 is_unrun status.TextRefused = true
 is_unrun _ = false
 
--- the statuses of a program that was run to an ending of its own, or to one by its turns or by a line too far along
-abbrev pub is_ended : Status → Bool
-is_ended status.Done = true
-is_ended status.Raised = true
-is_ended status.Cut = true
-is_ended status.Faulted = true
-is_ended status.InputOver = true
-is_ended _ = false
-
 -- the input is left as it was where the words run no program, and where none was run
 abbrev pub leaves_input : Words → Status → Bool
 leaves_input words s = not (runs_program words) || is_unrun s
 
--- The run behind an answer of this status, and what it took of an input that tells its bytes: the output, the line and the
--- status of the run of a code on these lines are the answer, and what was taken is what that very run says of its lines.
-pub record RunRead (items : Items) (left left' : List ℕ) (IsAnswer : List ℕ → List ℕ → Status → Type 0) (s : Status) : Type 0 where
+-- The run behind an answer, and what it took of an input that tells its bytes: the output, the line and the status of the run of a code on
+-- these lines are the answer, and what was taken is what that very run says of its lines; where a C text is run it is that text's code. Want of
+-- memory or a refusal of a sink can come between.
+pub record RunRead (items : Items) (out : SinkCall) (left left' : List ℕ) (IsCode : Code → Type 0) (IsAnswer : List ℕ → List ℕ → Status → Type 0) (s : Status) : Type 0 where
   pub code : Code
+  pub is_code : IsCode code
   pub turns : ℕ
   pub has_summary : Bool
   pub stop : Stop
   pub run : machine_run turns items code ≡ Some stop
-  pub ending : s ≡ machine_status stop.ending
-  pub answer : IsAnswer (stop.state.output ++ behind_output has_summary stop.ending (cells_left code stop)) (machine_line stop.ending (length (cells_left code stop))) s
-  pub took : TookLines items stop left left'
+  pub ending : (s ≡ machine_status stop.ending) ⊎ Yields s
+  pub answer : IsAnswer (stop.state.output ++ behind_output has_summary stop.ending (cells_left code stop)) (machine_line stop.ending (length (cells_left code stop))) (machine_status stop.ending)
+  pub took : TookBy s code turns out items stop left left'
+
+-- whether a program was run, by a status that comes where one is: memory may have run out, or a sink refused, also where none was
+abbrev pub ReadBy : Status → Type 0 → Type 0 → Type 0
+ReadBy status.WriteFault Alone Read = Alone ⊎ Read
+ReadBy status.Memory Alone Read = Alone ⊎ Read
+ReadBy _ Alone Read = Read
 
 -- a program is planned only where one is run in the mode, and there each reply says that none was run
 abbrev pub PlanRuns : Bool → Plan → Type 0

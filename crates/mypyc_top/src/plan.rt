@@ -13,7 +13,7 @@ ghost use Rattle.mypyc_top_compiler.specs.Found.{entries_of};
 ghost use Rattle.mypyc_top.specs.Running.{TextRun, ModuleRun};
 ghost use Rattle.mypyc_top.specs.Answer.{Answer, RequestAnswer, ModeAnswer, ModuleAnswer, Checked, Compiled, file_meaning};
 ghost use Rattle.mypyc_top.specs.Plans.{MatchPlan, ForReply, Plans, CanCome, Allowed};
-ghost use Rattle.mypyc_top.specs.Reads.{runs, runs_program, PlanRuns};
+ghost use Rattle.mypyc_top.specs.Reads.{runs, runs_program, is_text, runs_text, OfText, PlanRuns};
 
 use mypyc_top_compiler::{Faults, ModuleError, code_of, lines_of, notes_of, read_typed};
 use mypyc_top_reading::{Refusal, TextFault, read_file, text_code};
@@ -59,6 +59,8 @@ pub(crate) fn plan_of<F: Files>(
         Plans (Answer (texts words.now)
         (file_meaning (has_risen (F.faults files.old) (F.faults files.new)) (F.is_open files.new)
         (named_content (F.content files.old) (texts words.now)))) plan) }
+    ensures text { (bytes : List ℕ) → IsTrue F.tells → named_content (F.content files.old) (texts words.now) ≡ Some bytes
+        → IsTrue (runs_text (words_of (texts words.now))) → IfOk result (OfText bytes) }
     ensures read_at_most { (bytes : List ℕ) → IsTrue F.tells → F.is_open files.old ≡ false
         → named_content (F.content files.old) (texts words.now) ≡ Some bytes → IsTrue (F.is_open files.new)
         → GivesAtMost (named_most (words_of (texts words.now)) + 1) bytes (F.left files.new) }
@@ -85,6 +87,8 @@ fn request_plan<F: Files>(alloc: Global, request: &Request, files: &mut F) -> Re
         Plans (RequestAnswer request.now
         (file_meaning (has_risen (F.faults files.old) (F.faults files.new)) (F.is_open files.new)
         (F.content files.old request.now.file))) plan) }
+    ensures text { (bytes : List ℕ) → IsTrue F.tells → F.content files.old request.now.file ≡ Some bytes
+        → IsTrue (is_text request.now.emit) → IfOk result (OfText bytes) }
     ensures read_at_most { (bytes : List ℕ) → IsTrue F.tells
         → F.content files.old request.now.file ≡ Some bytes → IsTrue (F.is_open files.new)
         → GivesAtMost (most_bytes request.now.emit + 1) bytes (F.left files.new) }
@@ -106,6 +110,7 @@ fn file_plan(alloc: Global, request: &Request, bytes: &[u8]) -> Result<Plan, Mem
     ensures allowed { IfOk result (CanCome request.now.emit) }
     ensures runs { IfOk result (PlanRuns (runs request.now.emit)) }
     ensures answer { IfOk result (Plans (ModeAnswer request.now.emit request.now bytes.now)) }
+    ensures text { IsTrue (is_text request.now.emit) → IfOk result (OfText bytes.now) }
 {
     let file = request.file.as_str();
     match request.emit {
@@ -186,6 +191,7 @@ fn text_plan(alloc: Global, file: &str, turns: u64, bytes: &[u8]) -> Result<Plan
     ensures allowed { IfOk result (CanCome Emit.Runc) }
     ensures runs { IfOk result (PlanRuns true) }
     ensures answer { IfOk result (Plans (TextRun file.now bytes.now turns)) }
+    ensures text { IfOk result (OfText bytes.now) }
 {
     match text_code(alloc, bytes) {
         Ok(code) => Ok(Plan::Run(Program {

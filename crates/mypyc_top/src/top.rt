@@ -2,16 +2,18 @@ ghost use Rattle.std.specs.Prelude.{◌≡◌, ◌+◌, ◌<◌, ◌⊎◌, ℕ,
 ghost use Rattle.value_core.specs.Items.{Items};
 ghost use Rattle.outside_core.specs.Bytes.{GivesAtMost};
 ghost use Rattle.outside_core.specs.Counts.{count_end, has_risen, Rose};
+ghost use Rattle.c_core.specs.Text.{code_text};
 ghost use Rattle.c_runner.specs.Ran.{AreGiven};
 ghost use Rattle.mypyc_top_words.specs.Words.{texts, words_of};
 ghost use Rattle.mypyc_top_words.specs.Limits.{named_content, named_most};
 ghost use Rattle.mypyc_top_status.specs.Causes.{AbsentOpens, Yields};
+ghost use Rattle.mypyc_top_status.specs.Replies.{is_run_status};
 ghost use Rattle.mypyc_top_status.specs.Sinks.{sink_call};
 ghost use Rattle.mypyc_top_running.specs.Takes.{most_taken};
 ghost use Rattle.mypyc_top.specs.Answer.{file_meaning, Answer, IsStatus};
 ghost use Rattle.mypyc_top.specs.Modes.{IsAllowed};
 ghost use Rattle.mypyc_top.specs.Answered.{Answered};
-ghost use Rattle.mypyc_top.specs.Reads.{runs_program, is_ended, leaves_input, RunRead};
+ghost use Rattle.mypyc_top.specs.Reads.{runs_program, runs_text, leaves_input, RunRead, ReadBy};
 
 use crate::plan::{Plan, plan_of};
 use mypyc_top_running::{run_and_send, send_reply};
@@ -62,16 +64,19 @@ pub fn mypyc<F: Files, I: Source, O: Sink, E: Sink>(
     ensures input_fault { result ≡ Status.InputFault → Rose (I.faults input.old) (I.faults input.new) }
     // The input is left as it was where no program is run.
     ensures input { IsTrue (leaves_input (words_of (texts words.now)) result) → input.new ≡ input.old }
-    // Where the input tells its bytes, a run that ended took those of the lines that it used and at most 4095 behind
-    // them, and none where it used no line, unless a line ended too far along.
-    ensures reads { IsTrue I.tells → IsTrue (runs_program (words_of (texts words.now))) → IsTrue (is_ended result)
-        → (items : Items)
+    // Where the input tells its bytes, a run took of it those of the lines that it used and at most 4095 behind them, and
+    // none where it used no line, unless a line ended too far along or a read failed. Behind a refusal of `out` it
+    // took none.
+    ensures reads { IsTrue I.tells → IsTrue (runs_program (words_of (texts words.now))) → IsTrue (is_run_status result)
+        → ReadBy result (input.new ≡ input.old) ((items : Items)
         × AreGiven I.tells (I.faults input.old) (I.faults input.new) (I.left input.old) (I.left input.new) items
-        × RunRead items (I.left input.old) (I.left input.new)
+        × RunRead items (sink_call O.tells (O.taken out.old) (O.taken out.new)) (I.left input.old) (I.left input.new)
+        (λ code. (bytes : List ℕ) → IsTrue F.tells → named_content (F.content files.old) (texts words.now) ≡ Some bytes
+        → IsTrue (runs_text (words_of (texts words.now))) → code_text code ≡ bytes)
         (λ text lines status. IsTrue F.tells → F.faults files.old < count_end → Answer (texts words.now)
         (file_meaning (has_risen (F.faults files.old) (F.faults files.new)) (F.is_open files.new)
         (named_content (F.content files.old) (texts words.now)))
-        items text lines status) result }
+        items text lines status) result) }
     // Never is more read than one byte more than a run may use, whatever comes of it.
     ensures reads_at_most { IsTrue I.tells → GivesAtMost most_taken (I.left input.old) (I.left input.new) }
     // A file is read to its limit, and one byte further at most, whatever comes of it.

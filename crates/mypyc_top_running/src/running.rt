@@ -73,7 +73,8 @@ pub fn run_and_send<I: Source, O: Sink, E: Sink>(
     ensures status { IsTrue (is_run_status result) }
     ensures reads { IsTrue I.tells → (items : Items)
         × AreGiven I.tells (I.faults input.old) (I.faults input.new) (I.left input.old) (I.left input.new) items
-        × RunTook program.now items (I.left input.old) (I.left input.new) result }
+        × RunTook program.now items (sink_call O.tells (O.taken out.old) (O.taken out.new))
+        (I.left input.old) (I.left input.new) result }
     ensures input_fault { result ≡ Status.InputFault → Rose (I.faults input.old) (I.faults input.new) }
     ensures write_fault { result ≡ Status.WriteFault →
         Rose (O.faults out.old) (O.faults out.new) ⊎ Rose (E.faults err.old) (E.faults err.new) }
@@ -98,7 +99,8 @@ fn run_program<I: Source, O: Sink>(
         × ((stop : Stop) × (machine_run program.now.turns items program.now.code ≡ Some stop)
         × Finishes program.now stop (sink_call O.tells (O.taken out.old) (O.taken out.new)) result
         × (stop.state.output ≡ [] → out.new ≡ out.old)
-        × (IsTrue I.tells → TookBefore result items stop (I.left input.old) (I.left input.new))) }
+        × (IsTrue I.tells → TookBefore result program.now (sink_call O.tells (O.taken out.old) (O.taken out.new))
+        items stop (I.left input.old) (I.left input.new))) }
     ensures input_fault { IfOk result (λ rest. rest.reply.status ≡ Status.InputFault →
         Rose (I.faults input.old) (I.faults input.new)) }
     ensures calm { OnOk result (O.faults out.new ≡ O.faults out.old) }

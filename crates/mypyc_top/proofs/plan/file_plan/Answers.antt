@@ -1,6 +1,8 @@
+use Rattle.std.proofs.Common.{refl}
 use Rattle.mypyc_top_words.specs.declared.words.Emit.TheVariants.{Check, C, Run, Runc}
 use Rattle.mypyc_top.specs.Answer.{ModuleAnswer, Checked, Compiled}
 use Rattle.mypyc_top.specs.Running.{TextRun, ModuleRun}
+use Rattle.mypyc_top.proofs.ReadLemmas.{no_text}
 use Rattle.mypyc_top.proofs.PlanLemmas.{mode_plan}
 use Rattle.mypyc_top.proofs.plan.file_plan.Goals as goal
 
@@ -19,3 +21,12 @@ returns-in-Run-clause-answer c =
 pub returns-in-Runc-clause-answer : goal.returns-in-Runc-clause-answer
 returns-in-Runc-clause-answer c =
     mode_plan c.args.request.now Runc c.as_str-file.result.now c.args.bytes.now (λ file. TextRun file c.args.bytes.now c.args.request.now.turns) c.text_plan.result c.in-Runc.is c.as_str-file.ensures (λ plan p. p) c.text_plan.ensures.answer
+
+pub returns-in-Check-clause-text : goal.returns-in-Check-clause-text
+returns-in-Check-clause-text c = λ text. no_text _ c.args.request.now.emit Check c.in-Check.is refl text
+
+pub returns-in-C-clause-text : goal.returns-in-C-clause-text
+returns-in-C-clause-text c = λ text. no_text _ c.args.request.now.emit C c.in-C.is refl text
+
+pub returns-in-Run-clause-text : goal.returns-in-Run-clause-text
+returns-in-Run-clause-text c = λ text. no_text _ c.args.request.now.emit Run c.in-Run.is refl text

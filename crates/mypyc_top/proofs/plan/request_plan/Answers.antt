@@ -5,6 +5,7 @@ use Rattle.mypyc_top_compiler.proofs.Values.{if_ok}
 use Rattle.mypyc_top.specs.Answer.{ModeAnswer}
 use Rattle.mypyc_top.specs.Plans.{Plans}
 use Rattle.mypyc_top.proofs.PlanLemmas.{read_plan, large_answer}
+use Rattle.mypyc_top.proofs.ReadLemmas.{same_text}
 use Rattle.mypyc_top.proofs.plan.request_plan.Goals as goal
 
 pub returns-in-Ok-clause-answer : goal.returns-in-Ok-clause-answer
@@ -29,3 +30,9 @@ returns-in_ok-large_reply-in-Err-TooLarge-clause-answer g c = λ tells below ite
     large.1
     (subst (λ m. m < length large.0) c.most_bytes_of.ensures large.2)
     sent.0 (sent.1 ∙ ap large_line c.as_str-file.ensures) sent.2
+
+pub returns-in-Ok-clause-text : goal.returns-in-Ok-clause-text
+returns-in-Ok-clause-text g c = λ bytes tells content text.
+    same_text bytes c.deref.result.now c.file_plan.result
+    (sym content ∙ c.in-Ok.ensures.whole tells ∙ ap (λ (b : List ℕ). Some b) (sym c.deref.ensures.value))
+    (c.file_plan.ensures.text text)

@@ -17,3 +17,6 @@ returns-in_ok-ill_formed_reply-in-Err-IllFormed-clause-answer c = λ items.
     let e = c.in_ok-ill_formed_reply-in-Err-IllFormed.ensures in
     let fault = rw c.in-Err-IllFormed.field-0-is at c.in-Err-IllFormed.ensures.fault in
     ill_formed fault.0 fault.1 e.0 e.1 e.2
+
+pub returns-in-Ok-clause-text : goal.returns-in-Ok-clause-text
+returns-in-Ok-clause-text c = c.in-Ok.ensures.code.1

@@ -9,7 +9,7 @@ use Rattle.mypyc_top_running.proofs.RunGaveLemmas.{given_lines}
 use Rattle.mypyc_top.specs.Reads.{runs_program}
 use Rattle.mypyc_top.proofs.AllowedLemmas.{sent_is_replied, sent_is_calm, yields_allowed, sent_allowed, run_allowed, usage_only, usage_comes}
 use Rattle.mypyc_top.proofs.Statuses.{by_bytes, complete}
-use Rattle.mypyc_top.proofs.ReadsLemmas.{none_taken, run_at_most, run_read, ran_alone, sent_not_ended}
+use Rattle.mypyc_top.proofs.ReadsLemmas.{none_taken, run_at_most, run_read, was_read, not_read, sent_read, ran_alone}
 use Rattle.mypyc_top.proofs.top.mypyc.Goals as goal
 
 pub returns-in-Ok-Send-clause-answer : goal.returns-in-Ok-Send-clause-answer
@@ -76,9 +76,12 @@ returns-in-Err-clause-answer g c = λ tells below.
     )
 
 pub returns-in-Ok-Send-clause-reads : goal.returns-in-Ok-Send-clause-reads
-returns-in-Ok-Send-clause-reads g c = λ tells runs ended.
+returns-in-Ok-Send-clause-reads g c = λ tells runs ran.
     let planned = rw c.in-Ok-Send.field-0-is at c.in-Ok-Send.ensures.runs in
-    sent_not_ended _ (runs_program (words_of (texts c.args.words.now))) c.in-Ok-Send.reply c.send_reply.result planned runs c.send_reply.ensures.status ended
+    sent_read (runs_program (words_of (texts c.args.words.now))) c.in-Ok-Send.reply c.send_reply.result _ _ planned runs c.send_reply.ensures.status ran refl
+
+pub returns-in-Err-clause-reads : goal.returns-in-Err-clause-reads
+returns-in-Err-clause-reads g c = λ tells runs ran. not_read c.out_of_memory.result _ _ (inr c.out_of_memory.ensures.status) refl
 
 pub returns-in-Ok-Send-clause-reads_at_most : goal.returns-in-Ok-Send-clause-reads_at_most
 returns-in-Ok-Send-clause-reads_at_most g c = λ tells. none_taken _
@@ -87,14 +90,15 @@ pub returns-in-Err-clause-reads_at_most : goal.returns-in-Err-clause-reads_at_mo
 returns-in-Err-clause-reads_at_most g c = λ tells. none_taken _
 
 pub returns-in-Ok-Run-clause-reads : goal.returns-in-Ok-Run-clause-reads
-returns-in-Ok-Run-clause-reads g c = λ tells runs ended.
+returns-in-Ok-Run-clause-reads g c = λ tells runs ran.
     let planned = rw c.in-Ok-Run.field-0-is at c.in-Ok-Run.ensures.answer in
     let r = c.run_and_send.ensures.reads tells in
-    (r.0, r.1, run_read c.in-Ok-Run.program r.0 _ _ _ c.run_and_send.result (λ stop run file_tells below. planned file_tells below r.0 r.1.0 stop run) ended r.2)
+    let of_text = rw c.in-Ok-Run.field-0-is at c.in-Ok-Run.ensures.text in
+    was_read c.run_and_send.result _ _ (r.0, r.1, run_read c.in-Ok-Run.program r.0 _ _ _ _ _ c.run_and_send.result (λ stop run file_tells below. planned file_tells below r.0 r.1.0 stop run) of_text r.2)
 
 pub returns-in-Ok-Run-clause-reads_at_most : goal.returns-in-Ok-Run-clause-reads_at_most
 returns-in-Ok-Run-clause-reads_at_most g c = λ tells.
-    let r = c.run_and_send.ensures.reads tells in run_at_most c.in-Ok-Run.program r.0 _ _ c.run_and_send.result r.2
+    let r = c.run_and_send.ensures.reads tells in run_at_most c.in-Ok-Run.program r.0 _ _ _ c.run_and_send.result r.2
 
 pub returns-in-Ok-Run-clause-input : goal.returns-in-Ok-Run-clause-input
 returns-in-Ok-Run-clause-input g c = λ left.

@@ -1,7 +1,9 @@
 use Rattle.std.proofs.Common.{refl, subst, ℕ, ◌⊎◌, inl, inr}
 use Rattle.outside_core.specs.Counts.{Rose}
+use Rattle.mypyc_top_status.specs.Output.{output_text}
+use Rattle.mypyc_top_status.specs.Sinks.{sink_call}
 use Rattle.mypyc_top_running.proofs.RunGaveLemmas.{rest_is_replied, rest_sent, not_written, no_memory, sent_run_status}
-use Rattle.mypyc_top_running.proofs.TookLemmas.{took_sent, took_refused, ending_sent}
+use Rattle.mypyc_top_running.proofs.TookLemmas.{gave_grows, took_sent, took_refused, ending_sent}
 use Rattle.mypyc_top_running.proofs.running.run_and_send.Goals as goal
 
 pub returns-in-Ok-clause-gave : goal.returns-in-Ok-clause-gave
@@ -37,7 +39,14 @@ returns-in-Ok-clause-reads g c = λ tells.
         stop = r.2.0;
         run = r.2.1;
         ending = ending_sent c.in-Ok.rest.reply.status c.send_reply.result _ r.2.2.1.2 c.send_reply.ensures.status;
-        took = took_sent r.0 r.2.0 _ _ c.in-Ok.rest.reply.status c.send_reply.result c.send_reply.ensures.status (r.2.4 tells);
+        took =
+            took_sent c.args.program.now.code c.args.program.now.turns r.0 r.2.0 _ _ c.in-Ok.rest.reply.status c.send_reply.result g.O.Sink.tells
+            (g.O.Sink.taken c.args.out.now) (g.O.Sink.taken c.run_program.new.out) (g.O.Sink.taken c.send_reply.new.out)
+            (gave_grows g.O.Sink.tells (g.O.Sink.taken c.run_program.new.out) (g.O.Sink.taken c.send_reply.new.out)
+            (sink_call g.E.Sink.tells (g.E.Sink.taken c.args.err.now) (g.E.Sink.taken c.send_reply.new.err))
+            (output_text c.in-Ok.rest.reply.out) c.in-Ok.rest.reply.err.items c.in-Ok.rest.reply.status c.send_reply.result
+            (c.send_reply.ensures.gave (rest_is_replied c.args.program.now r.2.0 _ c.in-Ok.rest r.2.2)))
+            r.2.1 r.2.2.0 r.2.2.1.2 c.send_reply.ensures.status (r.2.4 tells);
       },
     )
 
@@ -54,6 +63,8 @@ returns-in-Err-Memory-clause-reads g c = λ tells.
         stop = r.2.0;
         run = r.2.1;
         ending = inr (inr c.out_of_memory.ensures.status);
-        took = took_refused r.0 r.2.0 _ _ c.out_of_memory.result c.out_of_memory.ensures.status (r.2.4 tells);
+        took =
+            took_refused c.args.program.now.code c.args.program.now.turns r.0 r.2.0 _ _ c.out_of_memory.result
+            (sink_call g.O.Sink.tells (g.O.Sink.taken c.args.out.now) (g.O.Sink.taken c.run_program.new.out)) c.out_of_memory.ensures.status (r.2.4 tells);
       },
     )

@@ -1,0 +1,198 @@
+//! Lines that are done at once, one after the other: they take no memory, end no run, and change no more than the place and the variables
+//! of the frame that runs, and the turns that are left.
+ghost use Rattle.std.specs.Prelude.{◌≡◌, ◌+◌, ◌^◌, ◌<◌, ◌≤◌, true, cond, Some, map, slice_get, IfSome};
+ghost use Rattle.std.specs.Option.{option_map, option_and_then};
+ghost use Rattle.c_core.specs.Functions.{label_places};
+ghost use Rattle.c_core.specs.Laws.{Reaches};
+ghost use Rattle.c_core.specs.Step as machine_step;
+ghost use Rattle.c_core.specs.Step.{if_calm, step_at, turned};
+ghost use Rattle.c_runner.specs.AtOnce.{Done, Wrote, Went};
+ghost use Rattle.c_runner.specs.AtOnce as at_once;
+ghost use Rattle.c_runner_deeds.specs.Parts.{is_there};
+ghost use Rattle.c_runner_deeds.specs.States.{Rest, state_of};
+ghost use Rattle.c_runner_table.specs.Targets.{target_of, table_of};
+ghost use Rattle.cell_heap.specs.Contents.{word_of};
+
+use crate::at_once::answer_at_once;
+use c_core::{CFunc, CLit, Code, Line};
+use c_runner_deeds::{State, equals_error, kind_of, of_literal};
+use c_runner_table::{Callee, Tables, Target, target_at};
+use cell_heap::Word;
+
+/// Does the next lines, as long as each can be done at once, but no more than so many, and says how many it did.
+pub(crate) fn do_lines(state: &mut State, code: &Code, table: &Tables, most: usize) -> usize
+    requires table { table.now ≡ table_of code.now }
+    ensures reaches { (rest : Rest) → Reaches code.now result (state_of rest state.old) (state_of rest state.new) }
+    ensures output { state.new.output ≡ state.old.output }
+    ensures most { result ≤ most }
+{
+    let func = state.top.func;
+    let Some(function) = code.funcs.get(func) else {
+        return 0;
+    };
+    let lines = function.lines.as_slice();
+    let mut done = 0;
+    'lines: while done < most {
+        let Some(line) = lines.get(state.top.place) else {
+            return done;
+        };
+        let target = target_at(&table.lines, func, state.top.place);
+        if !do_line(state, code, function, line, target) {
+            return done;
+        }
+        done += 1;
+    }
+    done
+}
+
+/// Does a line of a function, if it can be done at once, and says whether it did.
+fn do_line(state: &mut State, code: &Code, function: &CFunc, line: &Line, target: Target) -> bool
+    requires place { state.old.top.place + 1 < 2 ^ 64 }
+    requires function { slice_get code.now.funcs state.old.top.func ≡ Some function.now }
+    requires target { target ≡ target_of code.now (label_places function.now.lines) line.now }
+    ensures { Done (λ s. step_at true code.now s (Some line.now)) result state.old state.new }
+{
+    match line {
+        Line::Move(x, y) => {
+            let word = word_there(state, *y);
+            write(state, Some(*x), word)
+        }
+        Line::Lit(x, literal) => write(state, Some(*x), literal_word(function, *x, *literal)),
+        Line::Call(x, _, args) => match target.callee {
+            None => false,
+            Some(callee) => match callee {
+                Callee::Primitive(primitive) => {
+                    let word = answer_at_once(state, primitive, args.as_slice());
+                    write(state, *x, word)
+                }
+                Callee::Function(_) => false,
+            },
+        },
+        Line::Turn => spend_turn(state),
+        _ => {
+            let place = place_behind(state, line, target);
+            go_to(state, place)
+        }
+    }
+}
+
+/// Writes a word, if there is one, and goes on to the next line.
+fn write(state: &mut State, target: Option<usize>, word: Option<Word>) -> bool
+    requires { state.old.top.place + 1 < 2 ^ 64 }
+    ensures { Wrote target word result state.old state.new }
+{
+    match word {
+        None => false,
+        Some(word) => {
+            state.top.set_target(target, word);
+            state.top.place += 1;
+            true
+        }
+    }
+}
+
+/// Goes on at a place, if there is one.
+fn go_to(state: &mut State, place: Option<usize>) -> bool
+    ensures { Went place result state.old state.new }
+{
+    match place {
+        None => false,
+        Some(place) => {
+            state.top.place = place;
+            true
+        }
+    }
+}
+
+/// The word of a variable, where its cell is there if it has one.
+fn word_there(state: &State, x: usize) -> Option<Word>
+    ensures value { IfSome result (λ word. slice_get state.now.top.vars x ≡ Some word) }
+    ensures there { IfSome result (λ word. is_there state.now.cells (word_of word) ≡ true) }
+{
+    let Some(word) = state.top.vars.get(x) else {
+        return None;
+    };
+    let word = *word;
+    if state.is_there(word) {
+        Some(word)
+    } else {
+        None
+    }
+}
+
+/// The word of a literal in a variable of a function.
+fn literal_word(function: &CFunc, x: usize, literal: CLit) -> Option<Word>
+    ensures { option_map word_of result
+        ≡ option_and_then (λ k. machine_step.literal_word k literal) (option_map (λ v. v.1) (slice_get function.now.vars x)) }
+{
+    match kind_of(function, x) {
+        None => None,
+        Some(kind) => of_literal(kind, literal),
+    }
+}
+
+/// Spends a turn, if there is one and no exception is pending, and goes on to the next line.
+fn spend_turn(state: &mut State) -> bool
+    requires { state.old.top.place + 1 < 2 ^ 64 }
+    ensures { Done (λ s. if_calm true s s.pending (turned true s s.turns)) result state.old state.new }
+{
+    if state.pending.is_some() || state.turns == 0 {
+        return false;
+    }
+    state.turns -= 1;
+    state.top.place += 1;
+    true
+}
+
+/// Where the run goes on behind a line that only leads there.
+fn place_behind(state: &State, line: &Line, target: Target) -> Option<usize>
+    requires { state.now.top.place + 1 < 2 ^ 64 }
+    ensures { result ≡ at_once.place_behind state.now.top.place (map word_of state.now.top.vars) target line.now }
+{
+    match line {
+        Line::Label => Some(state.top.place + 1),
+        Line::Goto(_) => target.first,
+        Line::If(x, _, _) => place_chosen(state, *x, target),
+        Line::IfError(x, _, _) => place_by_error(state, *x, target),
+        Line::Inc(x) | Line::Dec(x) | Line::XDec(x) => place_uncounted(state, *x),
+        _ => None,
+    }
+}
+
+/// The first place of a line where a variable is 1, and the second one where it is 0.
+fn place_chosen(state: &State, x: usize, target: Target) -> Option<usize>
+    ensures { result ≡ option_and_then (at_once.place_chosen target.first target.second) (slice_get (map word_of state.now.top.vars) x) }
+{
+    match state.top.vars.get(x) {
+        Some(Word::Char(0)) => target.second,
+        Some(Word::Char(1)) => target.first,
+        _ => None,
+    }
+}
+
+/// The first place of a line where a variable equals the error value of its kind, and else the second one.
+fn place_by_error(state: &State, x: usize, target: Target) -> Option<usize>
+    ensures { result ≡ option_and_then (λ w. cond (machine_step.equals_error w) target.first target.second) (slice_get (map word_of state.now.top.vars) x) }
+{
+    let Some(word) = state.top.vars.get(x) else {
+        return None;
+    };
+    if equals_error(*word) {
+        target.first
+    } else {
+        target.second
+    }
+}
+
+/// The next line's place, where a variable has no cell whose references are counted.
+fn place_uncounted(state: &State, x: usize) -> Option<usize>
+    requires { state.now.top.place + 1 < 2 ^ 64 }
+    ensures { result ≡ option_and_then (at_once.place_uncounted state.now.top.place) (slice_get (map word_of state.now.top.vars) x) }
+{
+    match state.top.vars.get(x) {
+        Some(Word::Short(_) | Word::PyNone | Word::PyTrue | Word::PyFalse) => {
+            Some(state.top.place + 1)
+        }
+        _ => None,
+    }
+}
