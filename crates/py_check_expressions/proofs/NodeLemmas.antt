@@ -5,15 +5,20 @@ use Rattle.std.specs.Option.{option_map}
 use Rattle.value_core.specs.declared.memory.Memory.{Memory}
 use Rattle.std.specs.declared.boxed.Box.{Box}
 use Rattle.std.specs.declared.alloc.Global.{Global}
+use Rattle.py_syntax.specs.declared.token.Span.{Span}
+use Rattle.py_syntax.specs.declared.expression.CmpOp.{CmpOp}
 use Rattle.py_syntax.specs.declared.expression.Expr.{Expr}
 use Rattle.py_syntax.specs.Expressions.{ExprNode, at, expr_tree, expr_node}
 use Rattle.py_syntax.proofs.ExpressionLemmas.{expr_tree_at}
 use Rattle.py_syntax_diagnostics.specs.declared.diagnostic.Diag.{Diag}
 use Rattle.py_typed.specs.declared.expression.TExpr.{TExpr}
+use Rattle.py_typed.specs.Classes.{ClassEntry}
+use Rattle.py_typed.specs.Expressions.{TypedExpr}
 use Rattle.py_check_context.specs.Context.{Context, VarSorts, Wanted, free}
 use Rattle.py_check_messages.specs.Seen.{Seen, Tells, is, behind}
 use Rattle.py_check_messages.proofs.RowLemmas.{behind_parts}
 use Rattle.py_check_coercions.specs.Boxes.{boxed}
+use Rattle.py_check_operators.specs.Chains.{chain_of}
 use Rattle.py_check_calls.specs.Callees.{is_named_tree}
 use Rattle.py_check_expressions.specs.Typing.{typing, node_typing, part, receiver}
 
@@ -47,3 +52,13 @@ module _ (C : Context) (V : VarSorts) (w : Wanted) (K : List ℕ) (e : Expr) whe
       ap (part C V K) (expr_tree_at e)
       ∙ ap (λ b. if b then receiver C V K (expr_node e.kind) else node_typing C V free K e.span (expr_node e.kind)) (sym (ap (is_named_tree C) (expr_tree_at e)) ∙ h)
       ∙ ap (typing C V free K) (sym (expr_tree_at e))
+
+-- ---- a chain
+
+-- by its operands, and by what is said of them
+pub chain_says : (classes : List ClassEntry) (span : Span) (a b : Option TypedExpr) (ps qs : List (CmpOp × Option TypedExpr)) (l m : List Diag) (r : Result (Option (Box TExpr Global)) Memory) (old new : List Diag) → a ≡ b → ps ≡ qs → l ≡ m → IfOk r (λ x. Tells boxed x old new (chain_of classes span a ps l)) → IfOk r (λ x. Tells boxed x old new (chain_of classes span b qs m))
+chain_says classes span a b ps qs l m r old new first more said h =
+    let A : Option TypedExpr → Type 0 = λ o. IfOk r (λ x. Tells boxed x old new (chain_of classes span o ps l)) in
+    let P : List (CmpOp × Option TypedExpr) → Type 0 = λ xs. IfOk r (λ x. Tells boxed x old new (chain_of classes span b xs l)) in
+    let S : List Diag → Type 0 = λ xs. IfOk r (λ x. Tells boxed x old new (chain_of classes span b qs xs)) in
+    subst S said (subst P more (subst A first h))

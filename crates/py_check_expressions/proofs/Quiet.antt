@@ -1,7 +1,8 @@
 -- What is typed has said nothing: of the words of typing, and of each kind of expression.
-use Rattle.std.proofs.Common.{◌≡◌, ℕ, suc, Bool, true, false, List, [], ◌∷◌, ◌++◌, Option, Some, None, Result, Ok, Err, refl, ap, sym, ◌∙◌, not, if◌then◌else◌}
+use Rattle.std.proofs.Common.{◌≡◌, ℕ, suc, Bool, true, false, List, [], ◌∷◌, ◌++◌, map, Option, Some, None, Result, Ok, Err, refl, ap, sym, ◌∙◌, not, if◌then◌else◌}
 use Rattle.std.specs.Option.{option_map, option_zip}
 use Rattle.py_syntax.specs.declared.token.Span.{Span}
+use Rattle.py_syntax.specs.declared.expression.CmpOp.{CmpOp}
 use Rattle.py_syntax.specs.Expressions as tree
 use Rattle.py_syntax.specs.Expressions.{ExprTree, ExprNode, at, ExprTrees, no_exprs, expr_then, Comparisons, no_comparisons, comparison_then, Arguments, no_arguments, argument_then, keyed_then}
 use Rattle.py_typed.specs.Expressions.{TypedExpr, TypedNode}
@@ -10,18 +11,20 @@ use Rattle.py_check_context.specs.declared.scope.Meaning.{Meaning}
 use Rattle.py_check_context.specs.declared.scope.Meaning.TheVariants as meaning
 use Rattle.py_check_context.specs.Context.{Context, VarSort, unset, untyped, has, VarSorts, var_at, Wanted, free, test, WantedRow, wanted_in}
 use Rattle.py_typed.specs.Narrowing.{is_in}
-use Rattle.py_check_messages.specs.Seen.{Seen, Message, is, silent, fails, both, judged, ruled, behind, rule, made}
+use Rattle.py_check_messages.specs.Seen.{Seen, Message, diag, is, silent, fails, both, judged, ruled, behind, rule, made}
 use Rattle.py_check_messages.specs.Rows.{row_then}
-use Rattle.py_check_coercions.specs.Several.{told, ruled_all, with_part}
+use Rattle.py_check_coercions.specs.Several.{with_part}
 use Rattle.py_check_operators.specs.Facts.{facts}
 use Rattle.py_check_operators.specs.Names.{variable, named}
-use Rattle.py_check_operators.specs.Chains.{faults_of, chain}
+use Rattle.py_check_operators.specs.Chains.{all_typed, chain_of}
+use Rattle.py_check_operators.proofs.ChainLemmas.{chain_right, chain_operands}
 use Rattle.py_check_operators.specs.Choices.{operand}
 use Rattle.py_check_displays.specs.Displays.{item_sort, items_row, parts_row}
 use Rattle.py_check_calls.specs.Callees.{Callee, function, print, input, range, single, method, unknown, voiceless, uncalled, value, callee, has_key, is_named, is_variable, name_called}
 use Rattle.py_check_messages.specs.Messages.{range_outside_for, not_callable}
 use Rattle.py_check_calls.specs.Calls.{arguments_row, positional, no_keys, refused, called}
-use Rattle.py_check_expressions.specs.Typing.{typing, node_typing, items, operands, arguments, part, receiver, count}
+use Rattle.py_check_expressions.specs.Typing.{typing, node_typing, items, operands, each_operand, arguments, part, receiver, count}
+use Rattle.py_check_expressions.proofs.RowLemmas.{operands_got}
 
 pub record IsQuiet {A : Type 0} (s : Seen A) : Type 0 where
   pub says : (a : A) → s.got ≡ Some a → s.said ≡ []
@@ -65,12 +68,16 @@ quiet_judged span (Err m) = quiet_fails span m
 pub quiet_rule : {A B : Type 0} (span : Span) (f : A → Result B Message) (s : Seen A) → IsQuiet s → IsQuiet (rule span f s)
 quiet_rule span f s q = quiet_behind s (ruled span f) q refl (λ a. quiet_judged span (f a))
 
-pub quiet_told : {A : Type 0} (span : Span) (ms : List Message) (a : A) → IsQuiet (told span ms a)
-quiet_told span [] a = quiet_is a
-quiet_told span (m ∷ ms) a = record { says = λ x e. absurd (cc) }
-
 pub quiet_row : {A : Type 0} (one : Seen A) (rest : Seen (List A)) → IsQuiet one → IsQuiet rest → IsQuiet (row_then one rest)
 quiet_row one rest q r = quiet_made (λ p. p.0 ∷ p.1) (both one rest) (quiet_both one rest q r)
+
+-- a chain and what is said of its operands, a row of which is typed where each is
+pub quiet_chain : (classes : List ClassEntry) (span : Span) (s : Seen TypedExpr) (r : Seen (List (CmpOp × TypedExpr))) (ps : List (CmpOp × Option TypedExpr)) → r.got ≡ all_typed ps → IsQuiet s → IsQuiet r → IsQuiet (chain_of classes span s.got ps (s.said ++ r.said))
+quiet_chain classes span s r ps g qs qr = record {
+  says = λ b e.
+      let p = chain_operands classes span s.got ps (s.said ++ r.said) b e in
+      ap (λ l. map (diag span) l ++ (s.said ++ r.said)) (chain_right classes span s.got ps (s.said ++ r.said) b e) ∙ (quiet_both s r qs qr).says p.0 (ap (option_zip s.got) g ∙ p.1);
+}
 
 -- ---- names and calls
 
@@ -209,8 +216,7 @@ module _ (C : Context) (V : VarSorts) where
     quiet_node w known span (tree.Not e) = quiet_made _ (typing C V test known e) (quiet_typing test known e)
     quiet_node w known span (tree.Bin o a b) = quiet_rule span _ (both (typing C V free known a) (typing C V free known b)) (quiet_both (typing C V free known a) (typing C V free known b) (quiet_typing free known a) (quiet_typing free known b))
     quiet_node w known span (tree.Compare e cs) =
-        quiet_behind (both (typing C V free known e) (operands C V known cs)) (ruled_all span (faults_of C.classes) (chain span)) (quiet_both (typing C V free known e) (operands C V known cs) (quiet_typing free known e) (quiet_operands known cs)) refl
-        (λ q. quiet_told span (faults_of C.classes q) (chain span q))
+        quiet_chain C.classes span (typing C V free known e) (operands C V known cs) (each_operand C V known cs) (operands_got C V known cs) (quiet_typing free known e) (quiet_operands known cs)
     quiet_node w known span (tree.And a b) =
         quiet_rule span _ (both (typing C V (operand w) known a) (typing C V (operand w) (facts C true a ++ known) b)) (quiet_both (typing C V (operand w) known a) (typing C V (operand w) (facts C true a ++ known) b) (quiet_typing (operand w) known a) (quiet_typing (operand w) (facts C true a ++ known) b))
     quiet_node w known span (tree.Or a b) =

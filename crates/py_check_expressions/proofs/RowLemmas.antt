@@ -1,14 +1,16 @@
 -- Expressions, operands and arguments in rows, from a place on.
 use Rattle.std.proofs.Common.{◌≡◌, ◌<◌, ℕ, ◌+◌, suc, List, [], ◌∷◌, Option, Some, None, length, map, drop, get_or, refl, ap, sym, ◌∙◌, drop-cons, add-one}
+use Rattle.std.specs.Option.{option_map, option_zip}
 use Rattle.py_syntax.specs.declared.expression.CmpOp.{CmpOp}
 use Rattle.py_syntax.specs.declared.expression.Expr.{Expr}
 use Rattle.py_syntax.specs.declared.expression.Arg.{Arg, out-Arg}
-use Rattle.py_syntax.specs.Expressions.{ExprTree, ArgTree, Arguments, expr_tree, exprs_of, arg_tree, comparison_tree, comparisons_of, arguments_of, with_key}
+use Rattle.py_syntax.specs.Expressions.{ExprTree, ArgTree, Arguments, expr_tree, exprs_of, arg_tree, Comparisons, no_comparisons, comparison_then, comparison_tree, comparisons_of, arguments_of, with_key}
 use Rattle.py_syntax.proofs.ExpressionLemmas.{arg_tree_at}
 use Rattle.py_check_context.specs.Context.{Context, VarSorts, free, WantedRow, wanted_in}
 use Rattle.py_check_messages.specs.Seen.{made}
 use Rattle.py_check_messages.specs.Rows.{row_then}
-use Rattle.py_check_expressions.specs.Typing.{typing, items, operands, arguments, count}
+use Rattle.py_check_operators.specs.Chains.{all_typed}
+use Rattle.py_check_expressions.specs.Typing.{typing, items, operands, each_operand, arguments, count}
 
 pub counted : (es : List Expr) → count (exprs_of (map expr_tree es)) ≡ length es
 counted [] = refl
@@ -30,6 +32,17 @@ module _ (C : Context) (V : VarSorts) (K : List ℕ) where
       ap (λ l. operands C V K (comparisons_of (map comparison_tree l))) (drop-cons cs i p h)
       ∙ ap (λ (q : CmpOp × Expr). row_then (made (λ t. (q.0, t)) (typing C V free K (expr_tree q.1))) (operands C V K (comparisons_of (map comparison_tree (drop (suc i) cs))))) (sym is)
       ∙ ap (λ k. row_then (made (λ t. (p.0, t)) (typing C V free K (expr_tree p.1))) (operands C V K (comparisons_of (map comparison_tree (drop k cs))))) (sym (add-one i))
+
+  pub each_at : (cs : List (CmpOp × Expr)) (i : ℕ) (p : CmpOp × Expr) → i < length cs → p ≡ get_or cs i p → each_operand C V K (comparisons_of (map comparison_tree (drop i cs))) ≡ (p.0, (typing C V free K (expr_tree p.1)).got) ∷ each_operand C V K (comparisons_of (map comparison_tree (drop (i + 1) cs)))
+  each_at cs i p h is =
+      ap (λ l. each_operand C V K (comparisons_of (map comparison_tree l))) (drop-cons cs i p h)
+      ∙ ap (λ (q : CmpOp × Expr). (q.0, (typing C V free K (expr_tree q.1)).got) ∷ each_operand C V K (comparisons_of (map comparison_tree (drop (suc i) cs)))) (sym is)
+      ∙ ap (λ k. (p.0, (typing C V free K (expr_tree p.1)).got) ∷ each_operand C V K (comparisons_of (map comparison_tree (drop k cs)))) (sym (add-one i))
+
+  -- a row of operands is typed where each of them is
+  pub operands_got : (cs : Comparisons) → (operands C V K cs).got ≡ all_typed (each_operand C V K cs)
+  operands_got no_comparisons = refl
+  operands_got (comparison_then o e more) = ap (λ r. option_map (λ q. q.0 ∷ q.1) (option_zip (option_map (λ b. (o, b)) (typing C V free K e).got) r)) (operands_got more)
 
   -- ---- arguments
 

@@ -148,6 +148,13 @@ chain_holds = refl
 each_pair_says : types (e (tree.Compare (number 1) (comparison_then op.Lt text (comparison_then op.Lt (number 2) no_comparisons)))) ≡ record { got = None; said = diag p (unsupported_operands [] (codes "<") sort.Int sort.Str) ∷ diag p (unsupported_operands [] (codes "<") sort.Str sort.Int) ∷ [] }
 each_pair_says = refl
 
+-- a pair is asked by itself, and what it says stands in front of what is said of the operands
+pair_beside_unknown : types (e (tree.Compare text (comparison_then op.Lt (number 1) (comparison_then op.Lt (name (codes "k")) no_comparisons)))) ≡ record { got = None; said = diag p (unsupported_operands [] (codes "<") sort.Str sort.Int) ∷ diag p (not_defined (codes "k")) ∷ [] }
+pair_beside_unknown = refl
+
+pair_behind_unknown : types (e (tree.Compare (name (codes "k")) (comparison_then op.Lt (number 1) (comparison_then op.Lt text no_comparisons)))) ≡ record { got = None; said = diag p (unsupported_operands [] (codes "<") sort.Int sort.Str) ∷ diag p (not_defined (codes "k")) ∷ [] }
+pair_behind_unknown = refl
+
 is_for_none : types (e (tree.Compare (number 1) (comparison_then op.Is (number 1) no_comparisons))) ≡ fails p only_for_none
 is_for_none = refl
 

@@ -1,8 +1,9 @@
 -- The typing of expressions, a clause for each kind (PEP 484; Python Language Reference, "Expressions").
 --
 -- A node is asked for its rule once each part of it has a type, and a broken rule is a diagnostic at the node, which has no type
--- then. Where a part has none, neither has the node, and nothing is said of it.
-use Rattle.std.specs.Prelude.{ℕ, suc, true, false, List, [], ◌++◌, if◌then◌else◌}
+-- then. Where a part has none, neither has the node, and nothing is said of it. The pairs of a chain of comparisons are asked by
+-- themselves.
+use Rattle.std.specs.Prelude.{ℕ, suc, true, false, List, [], ◌∷◌, ◌++◌, Option, if◌then◌else◌}
 use Rattle.py_syntax.specs.declared.token.Span.{Span}
 use Rattle.py_syntax.specs.declared.expression.CmpOp.{CmpOp}
 use Rattle.py_syntax.specs.Expressions as tree
@@ -14,11 +15,10 @@ use Rattle.py_check_context.specs.Context.{Context, VarSorts, Wanted, free, test
 use Rattle.py_check_messages.specs.Seen.{Seen, is, silent, fails, both, behind, rule, made}
 use Rattle.py_check_messages.specs.Rows.{row_then}
 use Rattle.py_check_messages.specs.Messages.{no_common_entry}
-use Rattle.py_check_coercions.specs.Several.{ruled_all}
 use Rattle.py_check_operators.specs.Facts.{facts}
 use Rattle.py_check_operators.specs.Names.{named}
 use Rattle.py_check_operators.specs.Operators.{negation, affirmation, inversion, arithmetic}
-use Rattle.py_check_operators.specs.Chains.{faults_of, chain}
+use Rattle.py_check_operators.specs.Chains.{chain_of}
 use Rattle.py_check_operators.specs.Choices.{junction, operand, choice}
 use Rattle.py_check_displays.specs.Displays.{item_sort, items_row, list_display, parts_row, tuple_display}
 use Rattle.py_check_displays.specs.Indexing.{literal, indexing}
@@ -49,7 +49,7 @@ module _ (c : Context) (vars : VarSorts) where
     node_typing w known span (tree.Not e) = made (inversion span) (typing test known e)
     node_typing w known span (tree.Bin o a b) = rule span (arithmetic c.classes span o) (both (typing free known a) (typing free known b))
     node_typing w known span (tree.Compare e cs) =
-        behind (both (typing free known e) (operands known cs)) (ruled_all span (faults_of c.classes) (chain span))
+        chain_of c.classes span (typing free known e).got (each_operand known cs) ((typing free known e).said ++ (operands known cs).said)
     node_typing w known span (tree.And a b) =
         rule span (junction c.classes w true span) (both (typing (operand w) known a) (typing (operand w) (facts c true a ++ known) b))
     node_typing w known span (tree.Or a b) =
@@ -71,10 +71,14 @@ module _ (c : Context) (vars : VarSorts) where
     items row i known no_exprs = is []
     items row i known (expr_then e more) = row_then (typing (wanted_in row i) known e) (items row (suc i) known more)
 
-    -- the further operands of a chain
+    -- the further operands of a chain, in a row and each by itself
     pub operands : List ℕ → Comparisons → Seen (List (CmpOp × TypedExpr))
     operands known no_comparisons = is []
     operands known (comparison_then o e more) = row_then (made (λ t. (o, t)) (typing free known e)) (operands known more)
+
+    pub each_operand : List ℕ → Comparisons → List (CmpOp × Option TypedExpr)
+    each_operand known no_comparisons = []
+    each_operand known (comparison_then o e more) = (o, (typing free known e).got) ∷ each_operand known more
 
     -- arguments; a key is not looked at
     pub arguments : WantedRow → ℕ → List ℕ → Arguments → Seen (List TypedExpr)

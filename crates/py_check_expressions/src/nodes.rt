@@ -4,11 +4,11 @@ ghost use Rattle.py_syntax.specs.Expressions.{expr_tree, expr_node, exprs_of, co
 ghost use Rattle.py_typed.specs.Expressions.{TypedExpr, typed_expr};
 ghost use Rattle.py_check_context.specs.Context.{context, var_sorts, wanted, free, test, row};
 ghost use Rattle.py_check_messages.specs.Seen.{Tells, both, behind, rule, made};
-ghost use Rattle.py_check_coercions.specs.Boxes.{boxed, operand_pair};
-ghost use Rattle.py_check_coercions.specs.Several.{ruled_all};
+ghost use Rattle.py_check_coercions.specs.Boxes.{boxed};
 ghost use Rattle.py_check_operators.specs.Facts.{facts};
 ghost use Rattle.py_check_operators.specs.Operators as operators;
 ghost use Rattle.py_check_operators.specs.Chains as chains;
+ghost use Rattle.py_check_operators.specs.Operands.{maybe_pair};
 ghost use Rattle.py_check_operators.specs.Choices as choices;
 ghost use Rattle.py_check_displays.specs.Displays as displays;
 ghost use Rattle.py_check_displays.specs.Indexing as items_of;
@@ -19,7 +19,7 @@ ghost use Rattle.py_check_expressions.specs.Typing as rule_of;
 
 use crate::leaves::{dict, flag, nothing, number, text};
 use py_check_calls::{arguments_row, attribute, called, callee_of, has_key, is_named};
-use py_check_coercions::{with_item, with_operand};
+use py_check_coercions::with_item;
 use py_check_context::{Row, Scope, Variables, Want, wanted_at};
 use py_check_displays::{
     indexing, item_type, items_row, list_display, literal_of, parts_row, tuple_display,
@@ -172,14 +172,15 @@ fn compared(
     cs: &[(CmpOp, Expr)],
     faults: &mut Many<Diag>,
 ) -> Result<Option<Box<TExpr>>, Memory>
-    ensures { IfOk result (λ t. Tells boxed t faults.old faults.new (behind (both (rule_of.typing (context scope.now) (var_sorts vars.now) free known.now (expr_tree e.now)) (rule_of.operands (context scope.now) (var_sorts vars.now) known.now (comparisons_of (map comparison_tree cs.now)))) (ruled_all span (chains.faults_of (context scope.now).classes) (chains.chain span)))) }
+    ensures { IfOk result (λ t. Tells boxed t faults.old faults.new (chains.chain_of (context scope.now).classes span (rule_of.typing (context scope.now) (var_sorts vars.now) free known.now (expr_tree e.now)).got (rule_of.each_operand (context scope.now) (var_sorts vars.now) known.now (comparisons_of (map comparison_tree cs.now))) ((rule_of.typing (context scope.now) (var_sorts vars.now) free known.now (expr_tree e.now)).said ++ (rule_of.operands (context scope.now) (var_sorts vars.now) known.now (comparisons_of (map comparison_tree cs.now))).said))) }
 {
-    let first = expression(alloc, scope, vars, Want::Free, known, e, faults)?;
-    let more = operands(alloc, scope, vars, known, cs, faults)?;
-    chain(alloc, scope.classes, span, first, more, faults)
+    let mut said = Many::new(alloc);
+    let first = expression(alloc, scope, vars, Want::Free, known, e, &mut said)?;
+    let more = operands(alloc, scope, vars, known, cs, &mut said)?;
+    chain(alloc, scope.classes, span, first, more, said, faults)
 }
 
-// The further operands of a chain.
+// The further operands of a chain, which may have no type.
 #[cycle(expression)]
 fn operands(
     alloc: Global,
@@ -188,13 +189,14 @@ fn operands(
     known: &[usize],
     cs: &[(CmpOp, Expr)],
     faults: &mut Many<Diag>,
-) -> Result<Option<Many<(CmpOp, TExpr)>>, Memory>
-    ensures { IfOk result (λ t. Tells (map operand_pair) t faults.old faults.new (rule_of.operands (context scope.now) (var_sorts vars.now) known.now (comparisons_of (map comparison_tree cs.now)))) }
+) -> Result<Many<(CmpOp, Option<Box<TExpr>>)>, Memory>
+    ensures each { IfOk result (λ found. map maybe_pair found ≡ rule_of.each_operand (context scope.now) (var_sorts vars.now) known.now (comparisons_of (map comparison_tree cs.now))) }
+    ensures told { IfOk result (λ found. faults.new ≡ faults.old ++ (rule_of.operands (context scope.now) (var_sorts vars.now) known.now (comparisons_of (map comparison_tree cs.now))).said) }
 {
-    let mut found = Some(Many::new(alloc));
+    let mut found = Many::new(alloc);
     for (op, e) in cs {
         let e = expression(alloc, scope, vars, Want::Free, known, e, faults)?;
-        found = with_operand(found, *op, e)?;
+        found.push((*op, e))?;
     }
     Ok(found)
 }

@@ -36,7 +36,7 @@ use Rattle.py_check_calls.specs.Methods.{is_list_method, attribute}
 use Rattle.py_check_expressions.specs.Typing.{typing, operands, items, count}
 use Rattle.py_check_expressions_laws.specs.WellTyped.{Within}
 use Rattle.py_check_expressions_laws.specs.Bare.{is_itself, are_themselves, is_bare}
-use Rattle.py_check_expressions_laws.proofs.Given.{Gives, gives_is, gives_silent, gives_fails, gives_both, gives_made, gives_rule, gives_ruled_all, gives_row}
+use Rattle.py_check_expressions_laws.proofs.Given.{Gives, gives_is, gives_silent, gives_fails, gives_both, gives_made, gives_rule, gives_ruled_all, gives_compare, gives_row}
 use Rattle.py_check_expressions_laws.proofs.Inside.{within_none, within_append, within_shared}
 use Rattle.py_check_expressions_laws.proofs.Telling.{ok_same, truth_tells, coerced_tells, junction_is, pair_tells}
 
@@ -264,7 +264,7 @@ module _ (C : Context) (V : VarSorts) where
       gives_made (λ t. Unit {0}) (LeafOf (at (tree.Not e) span)) (inversion span) (typing C V test known e) (record { each = λ t q. tt }) (λ t u. leaf_made (at (tree.Not e) span) (inversion span t) refl)
   leaf_typing w known (at (tree.Bin o a b) span) h = gives_made_leaf w known (at (tree.Bin o a b) span) (made_operation w known o a b span)
   leaf_typing w known (at (tree.Compare e cs) span) h =
-      gives_ruled_all (λ p. Unit {0}) (LeafOf (at (tree.Compare e cs) span)) span (faults_of C.classes) (chain span) (both (typing C V free known e) (operands C V known cs)) (record { each = λ p q. tt }) (λ p u none. leaf_made (at (tree.Compare e cs) span) (chain span p) refl)
+      gives_compare C V w known span e cs (LeafOf (at (tree.Compare e cs) span)) (gives_ruled_all (λ p. Unit {0}) (LeafOf (at (tree.Compare e cs) span)) span (faults_of C.classes) (chain span) (both (typing C V free known e) (operands C V known cs)) (record { each = λ p q. tt }) (λ p u none. leaf_made (at (tree.Compare e cs) span) (chain span p) refl))
   leaf_typing w known (at (tree.And a b) span) h =
       gives_rule (λ p. Unit {0}) (LeafOf (at (tree.And a b) span)) span (junction C.classes w true span) (both (typing C V (operand w) known a) (typing C V (operand w) (facts C true a ++ known) b)) (record { each = λ p q. tt })
       (λ p u e q. junction_is (LeafOf (at (tree.And a b) span)) C.classes w true span p e (leaf_made (at (tree.And a b) span) _ refl) (λ t. leaf_made (at (tree.And a b) span) _ refl) q)
@@ -344,7 +344,7 @@ module _ (C : Context) (V : VarSorts) where
       h
 
   pub less_typing : (w : Wanted) (known : List ℕ) (x : ExprTree) → is_bare x ≡ true → Gives (typing C V w known x) (Less x)
-  less_typing w known (at (tree.Compare e cs) span) h = compare_less known span e cs (and_left (is_itself e) (are_themselves cs) h) (and_right (is_itself e) (are_themselves cs) h)
+  less_typing w known (at (tree.Compare e cs) span) h = gives_compare C V w known span e cs (Less (at (tree.Compare e cs) span)) (compare_less known span e cs (and_left (is_itself e) (are_themselves cs) h) (and_right (is_itself e) (are_themselves cs) h))
   less_typing w known (at (tree.Not e) span) h = gives_made (Less e) (Less (at (tree.Not e) span)) (inversion span) (typing C V test known e) (less_typing test known e h) (λ t less b. not_less b span e t less)
   less_typing w known (at (tree.And a c) span) h =
       let sa = typing C V (operand w) known a in

@@ -1,11 +1,17 @@
 -- What holds of each typed part that typing gives: of the words of typing.
-use Rattle.std.proofs.Common.{◌≡◌, List, [], ◌∷◌, Option, Some, None, Result, Ok, Err, refl, subst}
+use Rattle.std.proofs.Common.{◌≡◌, ℕ, List, [], ◌∷◌, Option, Some, None, Result, Ok, Err, refl, ap, ◌∙◌, subst}
 use Rattle.std.proofs.lemmas.Option.{same_Some}
 use Rattle.std.specs.Option.{option_map, option_zip}
 use Rattle.py_syntax.specs.declared.token.Span.{Span}
+use Rattle.py_syntax.specs.Expressions.{ExprTree, Comparisons, Compare}
+use Rattle.py_typed.specs.Expressions.{TypedExpr}
+use Rattle.py_check_context.specs.Context.{Context, VarSorts, Wanted, free}
 use Rattle.py_check_messages.specs.Seen.{Seen, Message, is, silent, fails, both, judged, ruled, behind, rule, made}
 use Rattle.py_check_messages.specs.Rows.{row_then}
 use Rattle.py_check_coercions.specs.Several.{told, ruled_all}
+use Rattle.py_check_operators.specs.Chains.{faults_of, chain}
+use Rattle.py_check_expressions.specs.Typing.{typing, node_typing, operands}
+use Rattle.py_check_expressions.proofs.RowLemmas.{operands_got}
 
 pub record Gives {A : Type 0} (s : Seen A) (P : A → Type 0) : Type 0 where
   pub each : (a : A) → s.got ≡ Some a → P a
@@ -69,3 +75,9 @@ gives_ruled_all P Q span faults make s g next = gives_behind P Q s (ruled_all sp
 pub gives_row : {A : Type 0} (P : A → Type 0) (R : List A → Type 0) (Q : List A → Type 0) (one : Seen A) (rest : Seen (List A)) → Gives one P → Gives rest R → ((a : A) (more : List A) → P a → R more → Q (a ∷ more)) → Gives (row_then one rest) Q
 gives_row {A = A} P R Q one rest g h next =
     gives_made (λ (p : A × List A). P p.0 × R p.1) Q (λ p. p.0 ∷ p.1) (both one rest) (gives_both P R one rest g h) (λ p q. next p.0 p.1 q.0 q.1)
+
+-- a chain is typed by the rule of the row of its operands
+pub gives_compare : (C : Context) (V : VarSorts) (w : Wanted) (known : List ℕ) (span : Span) (e : ExprTree) (cs : Comparisons) (Q : TypedExpr → Type 0) → Gives (behind (both (typing C V free known e) (operands C V known cs)) (ruled_all span (faults_of C.classes) (chain span))) Q → Gives (node_typing C V w known span (Compare e cs)) Q
+gives_compare C V w known span e cs Q g = record {
+  each = λ b h. g.each b (ap (λ o. (ruled_all span (faults_of C.classes) (chain span) (option_zip (typing C V free known e).got o)).got) (operands_got C V known cs) ∙ h);
+}

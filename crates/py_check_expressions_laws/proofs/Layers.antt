@@ -10,13 +10,12 @@ use Rattle.py_typed.specs.Narrowing.{is_in}
 use Rattle.py_check_context.specs.declared.scope.Meaning.{Meaning}
 use Rattle.py_check_context.specs.declared.scope.Meaning.TheVariants as meaning
 use Rattle.py_check_context.specs.Context.{Context, VarSort, unset, untyped, has, VarSorts, var_at, Wanted, free, test, WantedRow, wanted_in}
-use Rattle.py_check_messages.specs.Seen.{Seen, Message, diag, silent, both, judged, ruled, behind, rule, made}
+use Rattle.py_check_messages.specs.Seen.{Seen, Message, diag, silent, both, judged, ruled, behind, rule}
 use Rattle.py_check_messages.specs.Messages as message
-use Rattle.py_check_coercions.specs.Several.{told, ruled_all}
 use Rattle.py_check_operators.specs.Facts.{facts}
 use Rattle.py_check_operators.specs.Names.{variable, named}
 use Rattle.py_check_operators.specs.Operators.{negation, affirmation, arithmetic}
-use Rattle.py_check_operators.specs.Chains.{faults_of, chain}
+use Rattle.py_check_operators.specs.Chains.{pairs_faults}
 use Rattle.py_check_operators.specs.Choices.{junction, operand, choice}
 use Rattle.py_check_displays.specs.Displays.{item_sort, items_row, list_display, parts_row, tuple_display}
 use Rattle.py_check_displays.specs.Indexing.{literal, indexing}
@@ -24,8 +23,9 @@ use Rattle.py_check_calls.specs.Callees.{Callee, function, print, input, range, 
 use Rattle.py_check_calls.specs.Builtins.{print_call, input_call, single_call}
 use Rattle.py_check_calls.specs.Methods.{attribute, method_call}
 use Rattle.py_check_calls.specs.Calls.{arguments_row, positional, refused, function_call, called}
-use Rattle.py_check_expressions.specs.Typing.{typing, node_typing, items, operands, arguments, part, count}
-use Rattle.py_check_expressions.proofs.Quiet.{IsQuiet, quiet_is, quiet_silent, quiet_both, quiet_made, quiet_row, quiet_typing}
+use Rattle.py_check_expressions.specs.Typing.{typing, node_typing, items, operands, each_operand, arguments, part, count}
+use Rattle.py_check_expressions_laws.specs.Laws.{is_comparison}
+use Rattle.py_check_expressions.proofs.Quiet.{IsQuiet, quiet_is, quiet_silent, quiet_both, quiet_row, quiet_typing}
 
 -- what is said at each place: all of it at this one by itself, or the same at each
 abbrev Layer : (Span → List Diag) → Span → Type 0
@@ -55,10 +55,6 @@ judged_own span (Err m) = (m ∷ [], refl)
 
 rule_layer : {A B : Type 0} (span : Span) (f : Span → A → Result B Message) (s : Seen A) → IsQuiet s → Layer (λ place. (rule place (f place) s).said) span
 rule_layer span f s q = behind_layer span s q (λ place o. (ruled place (f place) o).said) (λ place. refl) (λ a. inl (judged_own span (f span a)))
-
-told_own : {A : Type 0} (span : Span) (ms : List Message) (a : A) → IsOwn span (told span ms a).said
-told_own span [] a = ([], refl)
-told_own span (m ∷ ms) a = (m ∷ ms, refl)
 
 -- ---- names
 
@@ -131,11 +127,6 @@ module _ (C : Context) (V : VarSorts) where
   quiet_items row i known no_exprs = quiet_is []
   quiet_items row i known (expr_then e more) = quiet_row (typing C V (wanted_in row i) known e) (items C V row (suc i) known more) (quiet_typing C V (wanted_in row i) known e) (quiet_items row (suc i) known more)
 
-  quiet_operands : (known : List ℕ) (cs : Comparisons) → IsQuiet (operands C V known cs)
-  quiet_operands known no_comparisons = quiet_is []
-  quiet_operands known (comparison_then o e more) =
-      quiet_row (made (λ t. (o, t)) (typing C V free known e)) (operands C V known more) (quiet_made (λ t. (o, t)) (typing C V free known e) (quiet_typing C V free known e)) (quiet_operands known more)
-
   quiet_arguments : (row : WantedRow) (i : ℕ) (known : List ℕ) (args : Arguments) → IsQuiet (arguments C V row i known args)
   quiet_arguments row i known no_arguments = quiet_is []
   quiet_arguments row i known (argument_then e more) = quiet_row (typing C V (wanted_in row i) known e) (arguments C V row (suc i) known more) (quiet_typing C V (wanted_in row i) known e) (quiet_arguments row (suc i) known more)
@@ -201,33 +192,33 @@ module _ (C : Context) (V : VarSorts) where
         by None q (inl e) = behind_front span e
         by None q (inr z) = silent_call span z q
 
-  pub node_layer : (w : Wanted) (known : List ℕ) (span : Span) (n : ExprNode) → Layer (λ place. (node_typing C V w known place n).said) span
-  node_layer w known span (tree.Name x) = inl (named_own V known span x (C.meaning x))
-  node_layer w known span (tree.Neg e) = rule_layer span (negation C.classes) (typing C V free known e) (quiet_typing C V free known e)
-  node_layer w known span (tree.Plus e) = rule_layer span (λ place. affirmation C.classes) (typing C V free known e) (quiet_typing C V free known e)
-  node_layer w known span (tree.Not e) = inr (λ place. refl)
-  node_layer w known span (tree.Bin o a b) = rule_layer span (λ place. arithmetic C.classes place o) (both (typing C V free known a) (typing C V free known b)) (quiet_two free free known known a b)
+  -- of a chain: of its pairs, in front of what is said of its operands
+  abbrev Chained : (Span → List Diag) → Type 0
+  Chained said = (ms : List Message) × (parts : List Diag) × ((place : Span) → said place ≡ map (diag place) ms ++ parts)
+
+  pub node_layer : (w : Wanted) (known : List ℕ) (span : Span) (n : ExprNode) → Layer (λ place. (node_typing C V w known place n).said) span ⊎ ((is_comparison n ≡ true) × Chained (λ place. (node_typing C V w known place n).said))
+  node_layer w known span (tree.Name x) = inl (inl (named_own V known span x (C.meaning x)))
+  node_layer w known span (tree.Neg e) = inl (rule_layer span (negation C.classes) (typing C V free known e) (quiet_typing C V free known e))
+  node_layer w known span (tree.Plus e) = inl (rule_layer span (λ place. affirmation C.classes) (typing C V free known e) (quiet_typing C V free known e))
+  node_layer w known span (tree.Not e) = inl (inr (λ place. refl))
+  node_layer w known span (tree.Bin o a b) = inl (rule_layer span (λ place. arithmetic C.classes place o) (both (typing C V free known a) (typing C V free known b)) (quiet_two free free known known a b))
   node_layer w known span (tree.Compare e cs) =
-      let s = both (typing C V free known e) (operands C V known cs) in
-      behind_layer span s (quiet_both (typing C V free known e) (operands C V known cs) (quiet_typing C V free known e) (quiet_operands known cs)) (λ place o. (ruled_all place (faults_of C.classes) (chain place) o).said) (λ place. refl)
-      (λ q. inl (told_own span (faults_of C.classes q) (chain span q)))
-  node_layer w known span (tree.And a b) =
-      rule_layer span (λ place. junction C.classes w true place) (both (typing C V (operand w) known a) (typing C V (operand w) (facts C true a ++ known) b)) (quiet_two (operand w) (operand w) known (facts C true a ++ known) a b)
-  node_layer w known span (tree.Or a b) =
-      rule_layer span (λ place. junction C.classes w false place) (both (typing C V (operand w) known a) (typing C V (operand w) (facts C false a ++ known) b)) (quiet_two (operand w) (operand w) known (facts C false a ++ known) a b)
+      inr (refl, (pairs_faults C.classes (typing C V free known e).got (each_operand C V known cs), (typing C V free known e).said ++ (operands C V known cs).said, λ place. refl))
+  node_layer w known span (tree.And a b) = inl (rule_layer span (λ place. junction C.classes w true place) (both (typing C V (operand w) known a) (typing C V (operand w) (facts C true a ++ known) b)) (quiet_two (operand w) (operand w) known (facts C true a ++ known) a b))
+  node_layer w known span (tree.Or a b) = inl (rule_layer span (λ place. junction C.classes w false place) (both (typing C V (operand w) known a) (typing C V (operand w) (facts C false a ++ known) b)) (quiet_two (operand w) (operand w) known (facts C false a ++ known) a b))
   node_layer w known span (tree.Cond a t b) =
       let sa = typing C V free (facts C true t ++ known) a in
       let st = typing C V test known t in
       let sb = typing C V free (facts C false t ++ known) b in
-      rule_layer span (λ place. choice C.classes w place) (both (both sa st) sb) (quiet_both (both sa st) sb (quiet_two free test (facts C true t ++ known) known a t) (quiet_typing C V free (facts C false t ++ known) b))
-  node_layer w known span (tree.ListOf es) = rule_layer span (λ place. list_display C.classes (item_sort w) place) (items C V (items_row (item_sort w)) 0 known es) (quiet_items (items_row (item_sort w)) 0 known es)
-  node_layer w known span (tree.TupleOf es) = rule_layer span (λ place. tuple_display C.classes (parts_row w (count es)) place) (items C V (parts_row w (count es)) 0 known es) (quiet_items (parts_row w (count es)) 0 known es)
-  node_layer w known span (tree.Index e i) = rule_layer span (λ place. indexing C.classes place (literal i)) (both (typing C V free known e) (typing C V free known i)) (quiet_two free free known known e i)
-  node_layer w known span (tree.Call f args) = whole_call w known f args span
-  node_layer w known span (tree.Attr e a) = rule_layer span (λ place. attribute C.classes a) (typing C V free known e) (quiet_typing C V free known e)
-  node_layer w known span (tree.DictOf es) = inl (message.no_common_entry ∷ [], refl)
-  node_layer w known span (tree.Int n) = inr (λ place. refl)
-  node_layer w known span (tree.Str n) = inr (λ place. refl)
-  node_layer w known span tree.True = inr (λ place. refl)
-  node_layer w known span tree.False = inr (λ place. refl)
-  node_layer w known span tree.Nothing = inr (λ place. refl)
+      inl (rule_layer span (λ place. choice C.classes w place) (both (both sa st) sb) (quiet_both (both sa st) sb (quiet_two free test (facts C true t ++ known) known a t) (quiet_typing C V free (facts C false t ++ known) b)))
+  node_layer w known span (tree.ListOf es) = inl (rule_layer span (λ place. list_display C.classes (item_sort w) place) (items C V (items_row (item_sort w)) 0 known es) (quiet_items (items_row (item_sort w)) 0 known es))
+  node_layer w known span (tree.TupleOf es) = inl (rule_layer span (λ place. tuple_display C.classes (parts_row w (count es)) place) (items C V (parts_row w (count es)) 0 known es) (quiet_items (parts_row w (count es)) 0 known es))
+  node_layer w known span (tree.Index e i) = inl (rule_layer span (λ place. indexing C.classes place (literal i)) (both (typing C V free known e) (typing C V free known i)) (quiet_two free free known known e i))
+  node_layer w known span (tree.Call f args) = inl (whole_call w known f args span)
+  node_layer w known span (tree.Attr e a) = inl (rule_layer span (λ place. attribute C.classes a) (typing C V free known e) (quiet_typing C V free known e))
+  node_layer w known span (tree.DictOf es) = inl (inl (message.no_common_entry ∷ [], refl))
+  node_layer w known span (tree.Int n) = inl (inr (λ place. refl))
+  node_layer w known span (tree.Str n) = inl (inr (λ place. refl))
+  node_layer w known span tree.True = inl (inr (λ place. refl))
+  node_layer w known span tree.False = inl (inr (λ place. refl))
+  node_layer w known span tree.Nothing = inl (inr (λ place. refl))

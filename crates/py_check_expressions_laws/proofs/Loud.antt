@@ -1,8 +1,9 @@
 -- What is not typed has said why, where no name is without a type: of the words of typing, and of each kind of expression.
-use Rattle.std.proofs.Common.{◌≡◌, ℕ, suc, Bool, true, false, List, [], ◌∷◌, ◌++◌, Option, Some, None, Result, Ok, Err, refl, ap, sym, ◌∙◌, not, if◌then◌else◌, slice_get, ◌⊎◌, inl, inr}
+use Rattle.std.proofs.Common.{◌≡◌, ℕ, suc, Bool, true, false, List, [], ◌∷◌, ◌++◌, map, Option, Some, None, Result, Ok, Err, refl, ap, sym, ◌∙◌, not, if◌then◌else◌, slice_get, ◌⊎◌, inl, inr}
 use Rattle.std.specs.Prelude.{is_none}
 use Rattle.std.specs.Option.{option_map, option_zip}
 use Rattle.py_syntax.specs.declared.token.Span.{Span}
+use Rattle.py_syntax.specs.declared.expression.CmpOp.{CmpOp}
 use Rattle.py_syntax.specs.Expressions as tree
 use Rattle.py_syntax.specs.Expressions.{ExprTree, ExprNode, at, ExprTrees, no_exprs, expr_then, Comparisons, no_comparisons, comparison_then, Arguments, no_arguments, argument_then, keyed_then}
 use Rattle.py_typed.specs.Classes.{ClassEntry, Signature}
@@ -15,18 +16,19 @@ use Rattle.py_check_context.specs.declared.scope.Builtin.TheVariants as builtin
 use Rattle.py_check_context.specs.declared.scope.Imported.{Imported}
 use Rattle.py_check_context.specs.declared.scope.Imported.TheVariants as imported
 use Rattle.py_check_context.specs.Context.{Context, VarSort, unset, untyped, has, VarSorts, var_at, Wanted, free, test, WantedRow, wanted_in, some_signature}
-use Rattle.py_check_messages.specs.Seen.{Seen, Message, is, silent, fails, both, judged, behind, rule, made, ruled}
+use Rattle.py_check_messages.specs.Seen.{Seen, Message, diag, is, silent, fails, both, judged, behind, rule, made, ruled}
 use Rattle.py_check_messages.specs.Rows.{row_then}
-use Rattle.py_check_coercions.specs.Several.{told, ruled_all}
 use Rattle.py_check_operators.specs.Facts.{facts}
 use Rattle.py_check_operators.specs.Names.{variable, named}
-use Rattle.py_check_operators.specs.Chains.{faults_of, chain}
+use Rattle.py_check_operators.specs.Chains.{pairs_faults, all_typed, chain_of}
+use Rattle.py_check_operators.proofs.ChainLemmas.{chain_made}
 use Rattle.py_check_operators.specs.Choices.{operand}
 use Rattle.py_check_displays.specs.Displays.{item_sort, items_row, parts_row}
 use Rattle.py_check_calls.specs.Callees.{Callee, function, print, input, range, single, method, unknown, voiceless, uncalled, value, callee, has_key, is_variable, function_called, builtin_called, import_called, name_called}
 use Rattle.py_check_calls.specs.Calls.{arguments_row, positional, no_keys, refused, called}
 use Rattle.py_check_messages.specs.Messages.{range_outside_for, not_callable}
-use Rattle.py_check_expressions.specs.Typing.{typing, node_typing, items, operands, arguments, part, count}
+use Rattle.py_check_expressions.specs.Typing.{typing, node_typing, items, operands, each_operand, arguments, part, count}
+use Rattle.py_check_expressions.proofs.RowLemmas.{operands_got}
 use Rattle.py_check_expressions_laws.specs.Laws.{is_voiceless, is_untyped, AllHaveTypes}
 
 pub record IsLoud {A : Type 0} (s : Seen A) : Type 0 where
@@ -73,16 +75,27 @@ loud_either s f l each = record { says = λ e g. behind_says s f l each s.got re
 pub loud_behind : {A B : Type 0} (s : Seen A) (f : Option A → Seen B) → IsLoud s → ((a : A) → IsLoud (f (Some a))) → IsLoud (behind s f)
 loud_behind s f l each = loud_either s f (inl l) each
 
+unmapped : (span : Span) (ms : List Message) → map (diag span) ms ≡ [] → ms ≡ []
+unmapped span [] e = refl
+unmapped span (m ∷ ms) e = absurd (cc)
+
+-- a chain and what is said of its operands, a row of which is typed where each is
+loud_chain : (classes : List ClassEntry) (span : Span) (s : Seen TypedExpr) (r : Seen (List (CmpOp × TypedExpr))) (ps : List (CmpOp × Option TypedExpr)) → r.got ≡ all_typed ps → IsLoud s → IsLoud r → IsLoud (chain_of classes span s.got ps (s.said ++ r.said))
+loud_chain classes span s r ps g ls lr = record { says = λ e f. by (option_zip s.got (all_typed ps)) refl e f }
+  where
+    by : (o : Option (TypedExpr × List (CmpOp × TypedExpr))) → option_zip s.got (all_typed ps) ≡ o → (chain_of classes span s.got ps (s.said ++ r.said)).got ≡ None → map (diag span) (pairs_faults classes s.got ps) ++ (s.said ++ r.said) ≡ [] → ⊥
+    by None z e f = (loud_both s r ls lr).says (ap (option_zip s.got) g ∙ z) (none_behind (map (diag span) (pairs_faults classes s.got ps)) (s.said ++ r.said) f)
+    by (Some p) z e f =
+        let none = unmapped span (pairs_faults classes s.got ps) (none_before (map (diag span) (pairs_faults classes s.got ps)) (s.said ++ r.said) f) in
+        let made = chain_made classes span s.got ps (s.said ++ r.said) p z none in
+        let h = sym e ∙ made.1 in absurd (cc)
+
 pub loud_judged : {A : Type 0} (span : Span) (r : Result A Message) → IsLoud (judged span r)
 loud_judged span (Ok a) = loud_is a
 loud_judged span (Err m) = loud_fails span m
 
 pub loud_rule : {A B : Type 0} (span : Span) (f : A → Result B Message) (s : Seen A) → IsLoud s → IsLoud (rule span f s)
 loud_rule span f s l = loud_behind s (ruled span f) l (λ a. loud_judged span (f a))
-
-pub loud_told : {A : Type 0} (span : Span) (ms : List Message) (a : A) → IsLoud (told span ms a)
-loud_told span [] a = loud_is a
-loud_told span (m ∷ ms) a = record { says = λ e f. absurd (cc) }
 
 pub loud_row : {A : Type 0} (one : Seen A) (rest : Seen (List A)) → IsLoud one → IsLoud rest → IsLoud (row_then one rest)
 loud_row one rest l r = loud_made (λ p. p.0 ∷ p.1) (both one rest) (loud_both one rest l r)
@@ -245,8 +258,7 @@ module _ (C : Context) (V : VarSorts) (all : AllHaveTypes C V) where
     loud_node w known span (tree.Not e) = loud_made _ (typing C V test known e) (loud_typing test known e)
     loud_node w known span (tree.Bin o a b) = loud_rule span _ (both (typing C V free known a) (typing C V free known b)) (loud_both (typing C V free known a) (typing C V free known b) (loud_typing free known a) (loud_typing free known b))
     loud_node w known span (tree.Compare e cs) =
-        loud_behind (both (typing C V free known e) (operands C V known cs)) (ruled_all span (faults_of C.classes) (chain span)) (loud_both (typing C V free known e) (operands C V known cs) (loud_typing free known e) (loud_operands known cs))
-        (λ q. loud_told span (faults_of C.classes q) (chain span q))
+        loud_chain C.classes span (typing C V free known e) (operands C V known cs) (each_operand C V known cs) (operands_got C V known cs) (loud_typing free known e) (loud_operands known cs)
     loud_node w known span (tree.And a b) =
         loud_rule span _ (both (typing C V (operand w) known a) (typing C V (operand w) (facts C true a ++ known) b)) (loud_both (typing C V (operand w) known a) (typing C V (operand w) (facts C true a ++ known) b) (loud_typing (operand w) known a) (loud_typing (operand w) (facts C true a ++ known) b))
     loud_node w known span (tree.Or a b) =

@@ -21,7 +21,7 @@ use Rattle.py_check_coercions.specs.Values.{coerced, truth}
 use Rattle.py_check_coercions.specs.Several.{fault_unless}
 use Rattle.py_check_coercions.specs.Rows.{Misfit, unfit, changed_row}
 use Rattle.py_check_operators.specs.Operators.{signed, negation, affirmation, op_text, is_concat, is_numeric, arithmetic}
-use Rattle.py_check_operators.specs.Chains.{is_identity, comparison_text, are_comparable, pair_faults, chain_faults, faults_of}
+use Rattle.py_check_operators.specs.Chains.{is_identity, comparison_text, are_comparable, pair_faults, asked_pair, pairs_faults}
 use Rattle.py_check_operators.specs.Choices.{joined, word_text, word_node, is_test, junction, choice_type, choice}
 use Rattle.py_check_displays.specs.Displays.{list_of, item_fault, common, joined_list, inferred_list, list_display, is_invalid_tuple, tuple_of, kept_row, tuple_display}
 use Rattle.py_check_displays.specs.Indexing.{Literal, keyed_by, item_at, part_at, parts_of, part_made, part_of, is_tuple, indexing}
@@ -57,12 +57,14 @@ pair_right cs s o b =
     (are_unless (is_none_literal b) message.only_for_none rules.only_for_none)
     (are_unless (are_comparable cs o s (type_of b)) (message.unsupported_operands cs (comparison_text o) s (type_of b)) (rules.unsupported_operands cs (comparison_text o) s (type_of b)))
 
-chain_right : (cs : List ClassEntry) (s : Sort) (ps : List (CmpOp × TypedExpr)) → AreRules (chain_faults cs s ps)
-chain_right cs s [] = tt
-chain_right cs s (p ∷ ps) = are_two (pair_faults cs s p.0 p.1) (chain_faults cs (type_of p.1) ps) (pair_right cs s p.0 p.1) (chain_right cs (type_of p.1) ps)
+asked_right : (cs : List ClassEntry) (a : Option TypedExpr) (o : CmpOp) (b : Option TypedExpr) → AreRules (asked_pair cs a o b)
+asked_right cs None o b = tt
+asked_right cs (Some a) o None = tt
+asked_right cs (Some a) o (Some b) = pair_right cs (type_of a) o b
 
-pub faults_right : (cs : List ClassEntry) (p : TypedExpr × List (CmpOp × TypedExpr)) → AreRules (faults_of cs p)
-faults_right cs p = chain_right cs (type_of p.0) p.1
+pub pairs_right : (cs : List ClassEntry) (a : Option TypedExpr) (ps : List (CmpOp × Option TypedExpr)) → AreRules (pairs_faults cs a ps)
+pairs_right cs a [] = tt
+pairs_right cs a (p ∷ ps) = are_two (asked_pair cs a p.0 p.1) (pairs_faults cs p.1 ps) (asked_right cs a p.0 p.1) (pairs_right cs p.1 ps)
 
 joined_right : (cs : List ClassEntry) (word : List ℕ) (make : TypedExpr → TypedExpr → TypedNode) (span : Span) (a b : TypedExpr) (o : Option Sort) → Right (joined cs word make span a b o)
 joined_right cs word make span a b None = rules.no_common_type cs word (type_of a) (type_of b)

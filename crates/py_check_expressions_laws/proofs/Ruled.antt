@@ -1,14 +1,17 @@
 -- What the rules of typing say: the texts that are those of rules, and the words of typing where all that is said of parts is of
 -- rules.
-use Rattle.std.proofs.Common.{ℕ, Bool, true, false, List, [], ◌∷◌, ◌++◌, Option, Some, None, Result, Ok, Err, if◌then◌else◌}
+use Rattle.std.proofs.Common.{ℕ, Bool, true, false, List, [], ◌∷◌, ◌++◌, map, Option, Some, None, Result, Ok, Err, if◌then◌else◌}
 use Rattle.py_syntax.specs.declared.token.Span.{Span}
+use Rattle.py_syntax.specs.declared.expression.CmpOp.{CmpOp}
 use Rattle.py_syntax_diagnostics.specs.declared.diagnostic.Diag.{Diag}
 use Rattle.py_typed.specs.Sorts.{Sort}
 use Rattle.py_typed.specs.Classes.{ClassEntry}
+use Rattle.py_typed.specs.Expressions.{TypedExpr}
 use Rattle.py_check_messages.specs.Seen.{Seen, Message, diag, is, silent, fails, both, judged, behind, rule, made, ruled}
 use Rattle.py_check_messages.specs.Rows.{row_then}
 use Rattle.py_check_messages.specs.Messages as message
-use Rattle.py_check_coercions.specs.Several.{fault_unless, told, ruled_all, unless, with_part}
+use Rattle.py_check_coercions.specs.Several.{fault_unless, unless, with_part}
+use Rattle.py_check_operators.specs.Chains.{pairs_faults, chain_of}
 
 -- ---- the texts of rules
 
@@ -145,13 +148,8 @@ fair_ruled span f each (Some a) = fair_judged span (f a) (each a)
 pub fair_rule : {A B : Type 0} (span : Span) (f : A → Result B Message) (s : Seen A) → IsFair s → ((a : A) → Right (f a)) → IsFair (rule span f s)
 fair_rule span f s p each = fair_behind s (ruled span f) p (fair_ruled span f each)
 
-pub fair_told : {A : Type 0} (span : Span) (ms : List Message) (a : A) → AreRules ms → IsFair (told span ms a)
-fair_told span [] a h = fair_is a
-fair_told span (m ∷ ms) a h = record { all = rules_mapped span (m ∷ ms) h }
-
-pub fair_ruled_all : {A B : Type 0} (span : Span) (faults : A → List Message) (make : A → B) → ((a : A) → AreRules (faults a)) → (o : Option A) → IsFair (ruled_all span faults make o)
-fair_ruled_all span faults make each None = fair_silent
-fair_ruled_all span faults make each (Some a) = fair_told span (faults a) (make a) (each a)
+pub fair_chain : (classes : List ClassEntry) (span : Span) (first : Option TypedExpr) (ps : List (CmpOp × Option TypedExpr)) (said : List Diag) → AreRules (pairs_faults classes first ps) → AllOfRules said → IsFair (chain_of classes span first ps said)
+fair_chain classes span first ps said h p = record { all = rules_two (map (diag span) (pairs_faults classes first ps)) said (rules_mapped span (pairs_faults classes first ps) h) p }
 
 pub fair_row : {A : Type 0} (one : Seen A) (rest : Seen (List A)) → IsFair one → IsFair rest → IsFair (row_then one rest)
 fair_row one rest p q = fair_made (λ p. p.0 ∷ p.1) (both one rest) (fair_both one rest p q)

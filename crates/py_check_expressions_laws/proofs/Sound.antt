@@ -38,7 +38,7 @@ use Rattle.py_check_calls.specs.Methods.{attribute, is_list_method}
 use Rattle.py_check_calls.specs.Calls.{arguments_row, called}
 use Rattle.py_check_expressions.specs.Typing.{typing, node_typing, items, operands, arguments, part, count}
 use Rattle.py_check_expressions_laws.specs.WellTyped.{is_written, is_written_node, are_written, are_operands, are_arguments, is_chain, is_asked, is_taken, is_good, Within, IsSigned, Describes}
-use Rattle.py_check_expressions_laws.proofs.Given.{Gives, gives_is, gives_silent, gives_fails, gives_any, gives_also, gives_both, gives_made, gives_rule, gives_ruled_all, gives_row, gives_after}
+use Rattle.py_check_expressions_laws.proofs.Given.{Gives, gives_is, gives_silent, gives_fails, gives_any, gives_also, gives_both, gives_made, gives_rule, gives_ruled_all, gives_compare, gives_row, gives_after}
 use Rattle.py_check_expressions_laws.proofs.Types.{result_of_value, reads_value}
 use Rattle.py_check_expressions_laws.proofs.Stands.{stands_made, value_type}
 use Rattle.py_check_expressions_laws.proofs.Telling.{told_typing}
@@ -229,10 +229,10 @@ module _ (means : List ℕ → Meaning) (signatures : List (Option Signature)) (
           (λ p r u q. arithmetic_sound m locals init w known span o p u r.0 r.1 q)
       sound_node w known span (tree.Compare e cs) h a =
           let r = three_parts (is_written e) (is_chain cs) (are_operands cs) h in
-          gives_ruled_all (λ (p : TypedExpr × List (CmpOp × TypedExpr)). S free known p.0 × (ChainSound m locals init known p.1 × (p.1 ≡ [] → ⊥))) (S w known) span (faults_of m.classes.classes) (chain span) (both (typing here V free known e) (operands here V known cs))
+          gives_compare here V w known span e cs (S w known) (gives_ruled_all (λ (p : TypedExpr × List (CmpOp × TypedExpr)). S free known p.0 × (ChainSound m locals init known p.1 × (p.1 ≡ [] → ⊥))) (S w known) span (faults_of m.classes.classes) (chain span) (both (typing here V free known e) (operands here V known cs))
           (gives_both (S free known) (λ (ps : List (CmpOp × TypedExpr)). ChainSound m locals init known ps × (ps ≡ [] → ⊥)) (typing here V free known e) (operands here V known cs) (sound_typing free known e r.0 refl)
           (gives_also (ChainSound m locals init known) (λ ps. ps ≡ [] → ⊥) (operands here V known cs) (sound_operands known cs r.2) (filled known cs r.1)))
-          (λ p s q. chain_sound m locals init w known span p.0 p.1 s.0 s.1.0 s.1.1 q)
+          (λ p s q. chain_sound m locals init w known span p.0 p.1 s.0 s.1.0 s.1.1 q))
       sound_node w known span (tree.And x y) h a =
           let sx = typing here V (operand w) known x in
           let sy = typing here V (operand w) (facts here true x ++ known) y in

@@ -26,7 +26,7 @@ use Rattle.py_check_operators.specs.Choices.{joined, word_text, word_node, is_te
 use Rattle.py_check_operators.specs.Facts.{facts, subject, local_of, tells, is_none_tree, none_test, joined_facts}
 use Rattle.py_check_expressions.specs.Typing.{typing, operands}
 use Rattle.py_check_expressions_laws.specs.WellTyped.{Within}
-use Rattle.py_check_expressions_laws.proofs.Given.{Gives, gives_is, gives_silent, gives_fails, gives_any, gives_both, gives_made, gives_rule, gives_ruled_all, gives_row}
+use Rattle.py_check_expressions_laws.proofs.Given.{Gives, gives_is, gives_silent, gives_fails, gives_any, gives_both, gives_made, gives_rule, gives_ruled_all, gives_compare, gives_row}
 use Rattle.py_check_expressions_laws.proofs.Inside.{within_none, within_append, within_shared}
 
 -- a result of a rule
@@ -183,7 +183,7 @@ module _ (C : Context) (V : VarSorts) where
       h
 
   pub told_typing : (w : Wanted) (known : List ℕ) (x : ExprTree) → Gives (typing C V w known x) (Told x)
-  told_typing w known (at (tree.Compare e cs) span) = compare_told known span e cs
+  told_typing w known (at (tree.Compare e cs) span) = gives_compare C V w known span e cs (Told (at (tree.Compare e cs) span)) (compare_told known span e cs)
   told_typing w known (at (tree.Not e) span) = gives_made (Told e) (Told (at (tree.Not e) span)) (inversion span) (typing C V test known e) (told_typing test known e) (λ t told b. not_told b span e t told)
   told_typing w known (at (tree.And a c) span) =
       let sa = typing C V (operand w) known a in

@@ -1,7 +1,9 @@
 -- What holds of the typing of every expression, beside that it says nothing where there is a type.
-use Rattle.std.specs.Prelude.{◌≡◌, ◌≢◌, ℕ, Bool, true, false, is_none, List, [], map, Option, None, slice_get, ◌⊎◌}
+use Rattle.std.specs.Prelude.{◌≡◌, ◌≢◌, ℕ, Bool, true, false, is_none, List, [], ◌++◌, map, Option, None, slice_get, ◌⊎◌}
 use Rattle.py_syntax.specs.declared.token.Span.{Span}
+use Rattle.py_syntax.specs.Expressions as tree
 use Rattle.py_syntax.specs.Expressions.{ExprTree, ExprNode}
+use Rattle.py_syntax_diagnostics.specs.declared.diagnostic.Diag.{Diag}
 use Rattle.py_typed.specs.Classes.{Signature}
 use Rattle.py_check_context.specs.declared.scope.Meaning.{Meaning}
 use Rattle.py_check_context.specs.declared.scope.Meaning.TheVariants as meaning
@@ -35,10 +37,15 @@ UntypedIsLoud =
 
 -- ---- one place
 
+abbrev pub is_comparison : ExprNode → Bool
+is_comparison (tree.Compare e cs) = true
+is_comparison n = false
+
 -- all that is said of an expression is at its own place, or else it is what is said of its parts and hangs nowhere on the place. So
 -- where an expression has an entry, nothing is said of any part of it: no two entries are of an outer and an inner one. Only a chain
--- of comparisons has several at its place, in the order of its pairs
+-- of comparisons may have entries beside those of its operands: they stand at its place, in front of these, in the order of its pairs
 abbrev pub OwnOrOfParts : Type 0
 OwnOrOfParts =
     (c : Context) (vars : VarSorts) (w : Wanted) (known : List ℕ) (span : Span) (n : ExprNode)
-    → ((ms : List Message) × ((node_typing c vars w known span n).said ≡ map (diag span) ms)) ⊎ ((place : Span) → (node_typing c vars w known place n).said ≡ (node_typing c vars w known span n).said)
+    → (((ms : List Message) × ((node_typing c vars w known span n).said ≡ map (diag span) ms)) ⊎ ((place : Span) → (node_typing c vars w known place n).said ≡ (node_typing c vars w known span n).said))
+    ⊎ ((is_comparison n ≡ true) × ((ms : List Message) × (parts : List Diag) × ((place : Span) → (node_typing c vars w known place n).said ≡ map (diag place) ms ++ parts)))

@@ -23,4 +23,4 @@ is_placeholder d = list_any (λ m. bytes_eq d.text m.text) placeholders
 -- where no form without typing rules stands in an expression, typing says nothing of the kind of it
 abbrev pub NoFormNoPlaceholder : Type 0
 NoFormNoPlaceholder =
-    (c : Context) (vars : VarSorts) (w : Wanted) (known : List ℕ) (e : ExprTree) → expression_forms false e ≡ [] → list_any is_placeholder (typing c vars w known e).said ≡ false
+    (c : Context) (vars : VarSorts) (w : Wanted) (known : List ℕ) (e : ExprTree) → expression_forms false false e ≡ [] → list_any is_placeholder (typing c vars w known e).said ≡ false

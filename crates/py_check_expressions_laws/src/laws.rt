@@ -9,7 +9,8 @@ pub fn what_is_not_typed_has_said_why()
     ensures { UntypedIsLoud }
 {}
 
-/// All that is said of an expression is at its own place, or else it is what is said of its parts: never of both.
+/// All that is said of an expression is at its own place, or else it is what is said of its parts: of both only of a chain of
+/// comparisons, whose own entries stand in front.
 pub fn an_expression_has_an_entry_or_its_parts_have()
     ensures { OwnOrOfParts }
 {}

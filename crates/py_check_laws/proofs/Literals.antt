@@ -38,7 +38,7 @@ use Rattle.py_check_calls.specs.Builtins.{as_value, gives_value, unprintable, pr
 use Rattle.py_check_calls.specs.Methods.{attribute, is_list_method, pop_call, append_given, append_call, value_call, method_call, item_of as item_sort_of}
 use Rattle.py_check_calls.specs.Calls.{arguments_row, call_made, function_given, function_call, positional, refused, called}
 use Rattle.py_check_expressions.specs.Typing.{typing, items, operands, arguments, part, count}
-use Rattle.py_check_expressions_laws.proofs.Given.{Gives, gives_is, gives_silent, gives_fails, gives_any, gives_made, gives_rule, gives_ruled_all, gives_row, gives_after, gives_judged}
+use Rattle.py_check_expressions_laws.proofs.Given.{Gives, gives_is, gives_silent, gives_fails, gives_any, gives_made, gives_rule, gives_ruled_all, gives_compare, gives_row, gives_after, gives_judged}
 use Rattle.py_check_expressions_laws.proofs.Types.{clash}
 use Rattle.py_check_expressions_laws.proofs.Telling.{done, ok_same, joined_made, junction_is}
 use Rattle.py_check_expressions_laws.proofs.Nodes.{if_ok}
@@ -310,8 +310,8 @@ module _ (C : Context) (V : VarSorts) where
         plain_all (at (tree.Not a) span) _ refl refl (gives_made (λ (t : TypedExpr). Unit {0}) IsPlain (inversion span) (typing C V test known a) (gives_any (λ (t : TypedExpr). Unit {0}) _ (λ t. tt)) (λ t u. record { flag = refl; none = refl }))
     heads w known (at (tree.Bin o a b) span) = plain_all (at (tree.Bin o a b) span) _ refl refl (ruled_plain span (arithmetic C.classes span o) (both (typing C V free known a) (typing C V free known b)) (λ p e q. arithmetic_plain C.classes span o p e q))
     heads w known (at (tree.Compare a cs) span) =
-        plain_all (at (tree.Compare a cs) span) _ refl refl (gives_ruled_all (λ (p : TypedExpr × List (Rattle.py_syntax.specs.declared.expression.CmpOp.CmpOp × TypedExpr)). Unit {0}) IsPlain span (faults_of C.classes) (chain span) (both (typing C V free known a) (operands C V known cs))
-        (gives_any (λ (p : TypedExpr × List (Rattle.py_syntax.specs.declared.expression.CmpOp.CmpOp × TypedExpr)). Unit {0}) _ (λ p. tt)) (λ p u q. record { flag = refl; none = refl }))
+        plain_all (at (tree.Compare a cs) span) _ refl refl (gives_compare C V w known span a cs IsPlain (gives_ruled_all (λ (p : TypedExpr × List (Rattle.py_syntax.specs.declared.expression.CmpOp.CmpOp × TypedExpr)). Unit {0}) IsPlain span (faults_of C.classes) (chain span) (both (typing C V free known a) (operands C V known cs))
+        (gives_any (λ (p : TypedExpr × List (Rattle.py_syntax.specs.declared.expression.CmpOp.CmpOp × TypedExpr)). Unit {0}) _ (λ p. tt)) (λ p u q. record { flag = refl; none = refl })))
     heads w known (at (tree.And a b) span) =
         plain_all (at (tree.And a b) span) _ refl refl (ruled_plain span (junction C.classes w true span) (both (typing C V (operand w) known a) (typing C V (operand w) (facts C true a ++ known) b)) (λ p e q. junction_plain C.classes w true span p e q))
     heads w known (at (tree.Or a b) span) =

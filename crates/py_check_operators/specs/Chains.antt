@@ -1,12 +1,17 @@
 -- Chains of comparisons (Python Language Reference, "Comparisons").
 --
 -- Each operand is compared with the next one. `is` and `is not` are only for the literal `None` on the right; `in` and
--- `not in` ask for a dict on the right whose key type the left one fits; the others take two numbers or two texts. Each pair
--- that breaks its rule has a diagnostic of its own, and all of these stand at the chain.
-use Rattle.std.specs.Prelude.{ℕ, Bool, true, false, ◌||◌, List, [], ◌∷◌, ◌++◌, codes, if◌then◌else◌}
+-- `not in` ask for a dict on the right whose key type the left one fits; the others take two numbers or two texts.
+--
+-- A pair is asked for its rule where both its operands have types, whatever the other operands are. Each pair that breaks its rule
+-- has a diagnostic of its own, and all of these stand at the chain, in front of what is said of the operands. A chain has a type
+-- where all its operands have one and no pair breaks its rule.
+use Rattle.std.specs.Prelude.{ℕ, Bool, true, false, ◌||◌, List, [], ◌∷◌, ◌++◌, map, codes, Option, Some, None, if◌then◌else◌}
+use Rattle.std.specs.Option.{option_map, option_zip}
 use Rattle.py_syntax.specs.declared.token.Span.{Span}
 use Rattle.py_syntax.specs.declared.expression.CmpOp.{CmpOp}
 use Rattle.py_syntax.specs.declared.expression.CmpOp.TheVariants.{Eq, Ne, Lt, Le, Gt, Ge, Member, NotMember, Is, IsNot}
+use Rattle.py_syntax_diagnostics.specs.declared.diagnostic.Diag.{Diag}
 use Rattle.py_typed.specs.Sorts.{Sort}
 use Rattle.py_typed.specs.Sorts as sort
 use Rattle.py_typed.specs.Classes.{ClassEntry}
@@ -14,9 +19,9 @@ use Rattle.py_typed.specs.Fits.{fits}
 use Rattle.py_typed.specs.Expressions as node
 use Rattle.py_typed.specs.Expressions.{TypedExpr, typed, type_of, comparisons_of}
 use Rattle.py_typed.specs.WellTypedExpr.{are_texts, are_numbers, is_none_literal}
-use Rattle.py_check_messages.specs.Seen.{Message}
+use Rattle.py_check_messages.specs.Seen.{Seen, Message, diag}
 use Rattle.py_check_messages.specs.Messages.{unsupported_operands, only_for_none}
-use Rattle.py_check_coercions.specs.Several.{fault_unless}
+use Rattle.py_check_coercions.specs.Several.{fault_unless, ruled_all}
 
 abbrev pub comparison_text : CmpOp → List ℕ
 comparison_text Eq = codes "=="
@@ -67,3 +72,28 @@ faults_of classes p = chain_faults classes (type_of p.0) p.1
 
 abbrev pub chain : Span → TypedExpr × List (CmpOp × TypedExpr) → TypedExpr
 chain span p = typed (node.Compare p.0 (comparisons_of p.1)) sort.Bool span
+
+-- ---- operands that may have no type
+
+-- of a pair, where both its operands have types
+abbrev pub asked_pair : List ClassEntry → Option TypedExpr → CmpOp → Option TypedExpr → List Message
+asked_pair classes None o b = []
+asked_pair classes (Some a) o None = []
+asked_pair classes (Some a) o (Some b) = pair_faults classes (type_of a) o b
+
+-- of all pairs, behind an operand
+abbrev pub pairs_faults : List ClassEntry → Option TypedExpr → List (CmpOp × Option TypedExpr) → List Message
+pairs_faults classes a [] = []
+pairs_faults classes a (p ∷ ps) = asked_pair classes a p.0 p.1 ++ pairs_faults classes p.1 ps
+
+-- the operands, where each has a type
+abbrev pub all_typed : List (CmpOp × Option TypedExpr) → Option (List (CmpOp × TypedExpr))
+all_typed [] = Some []
+all_typed (p ∷ ps) = option_map (λ q. q.0 ∷ q.1) (option_zip (option_map (λ b. (p.0, b)) p.1) (all_typed ps))
+
+-- THE CHAIN of an operand and those behind it, of which this is said
+abbrev pub chain_of : List ClassEntry → Span → Option TypedExpr → List (CmpOp × Option TypedExpr) → List Diag → Seen TypedExpr
+chain_of classes span first pairs said = record {
+  got = (ruled_all span (faults_of classes) (chain span) (option_zip first (all_typed pairs))).got;
+  said = map (diag span) (pairs_faults classes first pairs) ++ said;
+}

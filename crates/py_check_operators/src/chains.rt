@@ -1,17 +1,18 @@
 //! Chains of comparisons.
-ghost use Rattle.std.specs.Prelude.{◌≡◌, ◌++◌, map, IfOk};
+ghost use Rattle.std.specs.Prelude.{◌≡◌, ◌++◌, map, None, IfOk, if◌then◌else◌};
 ghost use Rattle.std.specs.Option.{option_map, option_zip};
 ghost use Rattle.py_typed.specs.Sorts.{sort};
 ghost use Rattle.py_typed.specs.Classes.{class_entry};
 ghost use Rattle.py_typed.specs.Expressions.{typed_expr};
 ghost use Rattle.py_typed.specs.WellTypedExpr as typing;
-ghost use Rattle.py_check_messages.specs.Seen.{Tells, diag};
+ghost use Rattle.py_check_messages.specs.Seen.{Tells};
 ghost use Rattle.py_check_coercions.specs.Boxes.{boxed, operand_pair};
-ghost use Rattle.py_check_coercions.specs.Several.{ruled_all, Says};
+ghost use Rattle.py_check_coercions.specs.Several.{Says};
 ghost use Rattle.py_check_operators.specs.Chains as rule_of;
+ghost use Rattle.py_check_operators.specs.Operands.{maybe_pair};
 
 use crate::operators::{are_numbers, are_texts};
-use py_check_coercions::kept;
+use py_check_coercions::{kept, with_operand};
 use py_check_messages::{only_for_none, unsupported_operands};
 use py_syntax::{CmpOp, Span};
 use py_syntax_diagnostics::Diag;
@@ -19,16 +20,34 @@ use py_typed::{Classes, TExpr, TKind, Ty, fits};
 use std::alloc::Global;
 use value_core::{Many, Memory};
 
-/// A chain of comparisons (Python Language Reference, "Comparisons").
+/// A chain of comparisons (Python Language Reference, "Comparisons"), of operands that may have no type, and of what is said of
+/// them: what is wrong with the pairs goes in front of that.
 pub fn chain(
     alloc: Global,
     classes: &Classes,
     span: Span,
     first: Option<Box<TExpr>>,
-    more: Option<Many<(CmpOp, TExpr)>>,
+    more: Many<(CmpOp, Option<Box<TExpr>>)>,
+    said: Many<Diag>,
     faults: &mut Many<Diag>,
 ) -> Result<Option<Box<TExpr>>, Memory>
-    ensures { IfOk result (λ t. Tells boxed t faults.old faults.new (ruled_all span (rule_of.faults_of (map class_entry classes.now.list)) (rule_of.chain span) (option_zip (option_map boxed first) (option_map (map operand_pair) more)))) }
+    ensures { IfOk result (λ t. Tells boxed t faults.old faults.new (rule_of.chain_of (map class_entry classes.now.list) span (option_map boxed first) (map maybe_pair more) said)) }
+{
+    let right = pairs_hold(alloc, classes, span, &first, more.as_slice(), faults)?;
+    put_behind(faults, said)?;
+    let more = all_typed(alloc, more)?;
+    chain_typed(alloc, span, right, first, more)
+}
+
+// A chain whose pairs hold, where all its operands are typed.
+fn chain_typed(
+    alloc: Global,
+    span: Span,
+    right: bool,
+    first: Option<Box<TExpr>>,
+    more: Option<Many<(CmpOp, TExpr)>>,
+) -> Result<Option<Box<TExpr>>, Memory>
+    ensures { IfOk result (λ t. option_map boxed t ≡ (if right then option_map (rule_of.chain span) (option_zip (option_map boxed first) (option_map (map operand_pair) more)) else None)) }
 {
     let Some(first) = first else {
         return Ok(None);
@@ -36,7 +55,6 @@ pub fn chain(
     let Some(more) = more else {
         return Ok(None);
     };
-    let right = pairs_hold(alloc, classes, span, &first.ty, more.as_slice(), faults)?;
     if !right {
         return Ok(None);
     }
@@ -44,25 +62,71 @@ pub fn chain(
     Ok(Some(e))
 }
 
-// Whether all pairs hold; what is wrong is said.
+// Diagnostics behind others.
+fn put_behind(faults: &mut Many<Diag>, more: Many<Diag>) -> Result<(), Memory>
+    ensures { IfOk result (λ done. faults.new ≡ faults.old ++ more) }
+{
+    for fault in more.into_vec() {
+        faults.push(fault)?;
+    }
+    Ok(())
+}
+
+// The operands, where each has a type.
+#[tactic(auto, using(crate::proofs::ChainLemmas::typed_rows))]
+fn all_typed(
+    alloc: Global,
+    more: Many<(CmpOp, Option<Box<TExpr>>)>,
+) -> Result<Option<Many<(CmpOp, TExpr)>>, Memory>
+    ensures { IfOk result (λ t. option_map (map operand_pair) t ≡ rule_of.all_typed (map maybe_pair more)) }
+{
+    let mut found = Some(Many::new(alloc));
+    for (op, e) in more.into_vec() {
+        found = with_operand(found, op, e)?;
+    }
+    Ok(found)
+}
+
+// Whether all pairs hold whose operands are typed; what is wrong is said.
 fn pairs_hold(
     alloc: Global,
     classes: &Classes,
     span: Span,
-    first: &Ty,
-    more: &[(CmpOp, TExpr)],
+    first: &Option<Box<TExpr>>,
+    more: &[(CmpOp, Option<Box<TExpr>>)],
     faults: &mut Many<Diag>,
 ) -> Result<bool, Memory>
-    ensures { IfOk result (λ right. Says right faults.old faults.new span (rule_of.chain_faults (map class_entry classes.now.list) (sort first.now) (map operand_pair more.now))) }
+    ensures { IfOk result (λ right. Says right faults.old faults.new span (rule_of.pairs_faults (map class_entry classes.now.list) (option_map boxed first.now) (map maybe_pair more.now))) }
 {
     let mut right = true;
     let mut left = first;
     for (op, e) in more {
-        let holds = pair_holds(alloc, classes, span, left, *op, e, faults)?;
+        let holds = asked_pair(alloc, classes, span, left, *op, e, faults)?;
         right = right && holds;
-        left = &e.ty;
+        left = e;
     }
     Ok(right)
+}
+
+// A pair, where both its operands are typed.
+fn asked_pair(
+    alloc: Global,
+    classes: &Classes,
+    span: Span,
+    left: &Option<Box<TExpr>>,
+    op: CmpOp,
+    right: &Option<Box<TExpr>>,
+    faults: &mut Many<Diag>,
+) -> Result<bool, Memory>
+    ensures { IfOk result (λ holds. Says holds faults.old faults.new span (rule_of.asked_pair (map class_entry classes.now.list) (option_map boxed left.now) op (option_map boxed right.now))) }
+{
+    let Some(left) = left else {
+        return Ok(true);
+    };
+    let Some(right) = right else {
+        return Ok(true);
+    };
+    pair_holds(alloc, classes, span, &left.ty, op, right, faults)
 }
 
 // A value of a type with the operand behind it.

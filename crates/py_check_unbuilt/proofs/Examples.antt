@@ -48,6 +48,22 @@ dict_in_function = refl
 imported : later_form (suite_of (s.at (s.From (codes "typing") ((codes "List", None) ∷ (codes "Dict", None) ∷ [])) (on 5) ∷ [])) ≡ Some (unbuilt 5 form.NameTypingDict)
 imported = refl
 
+-- a text in an annotation, at any depth, and one that is a value
+abbrev quoted : List ℕ → ExprTree
+quoted x = e.at (e.Str x) (on 2)
+
+named_in_quotes : later_form (suite_of (s.at (s.Annot (name 2 (codes "x")) (e.at (e.Index (quoted (codes "dict")) (quoted (codes "str"))) (on 2)) None) (on 2) ∷ [])) ≡ Some (unbuilt 2 form.NameDict)
+named_in_quotes = refl
+
+deep_in_quotes : later_form (suite_of (s.at (s.Def (codes "f") ((codes "a", Some (e.at (e.Index (name 2 (codes "list")) (quoted (codes "ValueError"))) (on 2))) ∷ []) None (suite_of (s.at s.Pass (on 3) ∷ [])) []) (on 2) ∷ [])) ≡ Some (unbuilt 2 form.ExceptionClass)
+deep_in_quotes = refl
+
+returned_in_quotes : later_form (suite_of (s.at (s.Def (codes "f") [] (Some (quoted (codes "dict"))) (suite_of (s.at s.Pass (on 3) ∷ [])) []) (on 2) ∷ [])) ≡ Some (unbuilt 2 form.NameDict)
+returned_in_quotes = refl
+
+text_alone : later_form (suite_of (s.at (s.Assign (name 2 (codes "x")) (quoted (codes "dict"))) (on 2) ∷ [])) ≡ None
+text_alone = refl
+
 nothing_later : later_form (suite_of (doing 1 (name 1 (codes "range")) ∷ s.at s.Pass (on 2) ∷ [])) ≡ None
 nothing_later = refl
 

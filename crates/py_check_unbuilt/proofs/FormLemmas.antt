@@ -27,84 +27,84 @@ noted_same None span found = refl
 noted_same (Some f) span found = refl
 
 mutual
-  expression_same : (found : Option Unbuilt) (called : Bool) (t : ExprTree) → expression_least found called t ≡ least found (expression_forms called t)
-  expression_same found called (e.at node span) = joined found _ _ (form_at (form_of_node called node) span) (node_forms node) (noted_same (form_of_node called node) span found) (node_same (noted (form_of_node called node) span.line found) node)
+  expression_same : (found : Option Unbuilt) (marked called : Bool) (t : ExprTree) → expression_least found marked called t ≡ least found (expression_forms marked called t)
+  expression_same found marked called (e.at node span) = joined found _ _ (form_at (form_of_node marked called node) span) (node_forms marked node) (noted_same (form_of_node marked called node) span found) (node_same (noted (form_of_node marked called node) span.line found) marked node)
 
-  node_same : (found : Option Unbuilt) (t : ExprNode) → node_least found t ≡ least found (node_forms t)
-  node_same found (e.Int n) = refl
-  node_same found (e.Str text) = refl
-  node_same found e.True = refl
-  node_same found e.False = refl
-  node_same found e.Nothing = refl
-  node_same found (e.Name name) = refl
-  node_same found (e.Neg a) = expression_same found false a
-  node_same found (e.Plus a) = expression_same found false a
-  node_same found (e.Not a) = expression_same found false a
-  node_same found (e.Bin op a b) = joined found _ _ (expression_forms false a) (expression_forms false b) (expression_same found false a) (expression_same (expression_least found false a) false b)
-  node_same found (e.Compare a more) = joined found _ _ (expression_forms false a) (comparison_forms more) (expression_same found false a) (comparison_same (expression_least found false a) more)
-  node_same found (e.And a b) = joined found _ _ (expression_forms false a) (expression_forms false b) (expression_same found false a) (expression_same (expression_least found false a) false b)
-  node_same found (e.Or a b) = joined found _ _ (expression_forms false a) (expression_forms false b) (expression_same found false a) (expression_same (expression_least found false a) false b)
-  node_same found (e.Cond a test b) = joined found _ _ (expression_forms false a) (expression_forms false test ++ expression_forms false b) (expression_same found false a) (joined (expression_least found false a) _ _ (expression_forms false test) (expression_forms false b) (expression_same (expression_least found false a) false test) (expression_same (expression_least (expression_least found false a) false test) false b))
-  node_same found (e.ListOf items) = row_same found items
-  node_same found (e.DictOf entries) = entry_same found entries
-  node_same found (e.TupleOf items) = row_same found items
-  node_same found (e.Attr a name) = expression_same found false a
-  node_same found (e.Index a i) = joined found _ _ (expression_forms false a) (expression_forms false i) (expression_same found false a) (expression_same (expression_least found false a) false i)
-  node_same found (e.Call callee more) = joined found _ _ (expression_forms true callee) (argument_forms more) (expression_same found true callee) (argument_same (expression_least found true callee) more)
+  node_same : (found : Option Unbuilt) (marked : Bool) (t : ExprNode) → node_least found marked t ≡ least found (node_forms marked t)
+  node_same found marked (e.Int n) = refl
+  node_same found marked (e.Str text) = refl
+  node_same found marked e.True = refl
+  node_same found marked e.False = refl
+  node_same found marked e.Nothing = refl
+  node_same found marked (e.Name name) = refl
+  node_same found marked (e.Neg a) = expression_same found marked false a
+  node_same found marked (e.Plus a) = expression_same found marked false a
+  node_same found marked (e.Not a) = expression_same found marked false a
+  node_same found marked (e.Bin op a b) = joined found _ _ (expression_forms marked false a) (expression_forms marked false b) (expression_same found marked false a) (expression_same (expression_least found marked false a) marked false b)
+  node_same found marked (e.Compare a more) = joined found _ _ (expression_forms marked false a) (comparison_forms marked more) (expression_same found marked false a) (comparison_same (expression_least found marked false a) marked more)
+  node_same found marked (e.And a b) = joined found _ _ (expression_forms marked false a) (expression_forms marked false b) (expression_same found marked false a) (expression_same (expression_least found marked false a) marked false b)
+  node_same found marked (e.Or a b) = joined found _ _ (expression_forms marked false a) (expression_forms marked false b) (expression_same found marked false a) (expression_same (expression_least found marked false a) marked false b)
+  node_same found marked (e.Cond a test b) = joined found _ _ (expression_forms marked false a) (expression_forms marked false test ++ expression_forms marked false b) (expression_same found marked false a) (joined (expression_least found marked false a) _ _ (expression_forms marked false test) (expression_forms marked false b) (expression_same (expression_least found marked false a) marked false test) (expression_same (expression_least (expression_least found marked false a) marked false test) marked false b))
+  node_same found marked (e.ListOf items) = row_same found marked items
+  node_same found marked (e.DictOf entries) = entry_same found marked entries
+  node_same found marked (e.TupleOf items) = row_same found marked items
+  node_same found marked (e.Attr a name) = expression_same found marked false a
+  node_same found marked (e.Index a i) = joined found _ _ (expression_forms marked false a) (expression_forms marked false i) (expression_same found marked false a) (expression_same (expression_least found marked false a) marked false i)
+  node_same found marked (e.Call callee more) = joined found _ _ (expression_forms marked true callee) (argument_forms marked more) (expression_same found marked true callee) (argument_same (expression_least found marked true callee) marked more)
 
-  row_same : (found : Option Unbuilt) (t : ExprTrees) → row_least found t ≡ least found (row_forms t)
-  row_same found e.no_exprs = refl
-  row_same found (e.expr_then a more) = joined found _ _ (expression_forms false a) (row_forms more) (expression_same found false a) (row_same (expression_least found false a) more)
+  row_same : (found : Option Unbuilt) (marked : Bool) (t : ExprTrees) → row_least found marked t ≡ least found (row_forms marked t)
+  row_same found marked e.no_exprs = refl
+  row_same found marked (e.expr_then a more) = joined found _ _ (expression_forms marked false a) (row_forms marked more) (expression_same found marked false a) (row_same (expression_least found marked false a) marked more)
 
-  comparison_same : (found : Option Unbuilt) (t : Comparisons) → comparison_least found t ≡ least found (comparison_forms t)
-  comparison_same found e.no_comparisons = refl
-  comparison_same found (e.comparison_then op a more) = joined found _ _ (expression_forms false a) (comparison_forms more) (expression_same found false a) (comparison_same (expression_least found false a) more)
+  comparison_same : (found : Option Unbuilt) (marked : Bool) (t : Comparisons) → comparison_least found marked t ≡ least found (comparison_forms marked t)
+  comparison_same found marked e.no_comparisons = refl
+  comparison_same found marked (e.comparison_then op a more) = joined found _ _ (expression_forms marked false a) (comparison_forms marked more) (expression_same found marked false a) (comparison_same (expression_least found marked false a) marked more)
 
-  entry_same : (found : Option Unbuilt) (t : Entries) → entry_least found t ≡ least found (entry_forms t)
-  entry_same found e.no_entries = refl
-  entry_same found (e.entry_then key value more) = joined found _ _ (expression_forms false key) (expression_forms false value ++ entry_forms more) (expression_same found false key) (joined (expression_least found false key) _ _ (expression_forms false value) (entry_forms more) (expression_same (expression_least found false key) false value) (entry_same (expression_least (expression_least found false key) false value) more))
+  entry_same : (found : Option Unbuilt) (marked : Bool) (t : Entries) → entry_least found marked t ≡ least found (entry_forms marked t)
+  entry_same found marked e.no_entries = refl
+  entry_same found marked (e.entry_then key value more) = joined found _ _ (expression_forms marked false key) (expression_forms marked false value ++ entry_forms marked more) (expression_same found marked false key) (joined (expression_least found marked false key) _ _ (expression_forms marked false value) (entry_forms marked more) (expression_same (expression_least found marked false key) marked false value) (entry_same (expression_least (expression_least found marked false key) marked false value) marked more))
 
-  argument_same : (found : Option Unbuilt) (t : Arguments) → argument_least found t ≡ least found (argument_forms t)
-  argument_same found e.no_arguments = refl
-  argument_same found (e.argument_then value more) = joined found _ _ (expression_forms false value) (argument_forms more) (expression_same found false value) (argument_same (expression_least found false value) more)
-  argument_same found (e.keyed_then key value more) = joined found _ _ (expression_forms false value) (argument_forms more) (expression_same found false value) (argument_same (expression_least found false value) more)
+  argument_same : (found : Option Unbuilt) (marked : Bool) (t : Arguments) → argument_least found marked t ≡ least found (argument_forms marked t)
+  argument_same found marked e.no_arguments = refl
+  argument_same found marked (e.argument_then value more) = joined found _ _ (expression_forms marked false value) (argument_forms marked more) (expression_same found marked false value) (argument_same (expression_least found marked false value) marked more)
+  argument_same found marked (e.keyed_then key value more) = joined found _ _ (expression_forms marked false value) (argument_forms marked more) (expression_same found marked false value) (argument_same (expression_least found marked false value) marked more)
 
-maybe_same : (found : Option Unbuilt) (t : Option ExprTree) → maybe_least found t ≡ least found (maybe_forms t)
-maybe_same found None = refl
-maybe_same found (Some a) = expression_same found false a
+maybe_same : (found : Option Unbuilt) (marked : Bool) (t : Option ExprTree) → maybe_least found marked t ≡ least found (maybe_forms marked t)
+maybe_same found marked None = refl
+maybe_same found marked (Some a) = expression_same found marked false a
 
 list_same : (found : Option Unbuilt) (t : List ExprTree) → list_least found t ≡ least found (list_forms t)
 list_same found [] = refl
-list_same found (a ∷ more) = joined found _ _ (expression_forms false a) (list_forms more) (expression_same found false a) (list_same (expression_least found false a) more)
+list_same found (a ∷ more) = joined found _ _ (expression_forms false false a) (list_forms more) (expression_same found false false a) (list_same (expression_least found false false a) more)
 
 parameter_same : (found : Option Unbuilt) (t : List (List ℕ × Option ExprTree)) → parameter_least found t ≡ least found (parameter_forms t)
 parameter_same found [] = refl
-parameter_same found (p ∷ more) = joined found _ _ (maybe_forms p.1) (parameter_forms more) (maybe_same found p.1) (parameter_same (maybe_least found p.1) more)
+parameter_same found (p ∷ more) = joined found _ _ (maybe_forms true p.1) (parameter_forms more) (maybe_same found true p.1) (parameter_same (maybe_least found true p.1) more)
 
 mutual
   statement_same : (found : Option Unbuilt) (t : StmtTree) → statement_least found t ≡ least found (statement_forms t)
   statement_same found (s.at node span) = joined found _ _ (form_at (form_of_act node) span) (act_forms node) (noted_same (form_of_act node) span found) (act_same (noted (form_of_act node) span.line found) node)
 
   act_same : (found : Option Unbuilt) (t : StmtNode) → act_least found t ≡ least found (act_forms t)
-  act_same found (s.Do a) = expression_same found false a
-  act_same found (s.Assign to a) = joined found _ _ (expression_forms false to) (expression_forms false a) (expression_same found false to) (expression_same (expression_least found false to) false a)
-  act_same found (s.Annot to mark a) = joined found _ _ (expression_forms false to) (expression_forms false mark ++ maybe_forms a) (expression_same found false to) (joined (expression_least found false to) _ _ (expression_forms false mark) (maybe_forms a) (expression_same (expression_least found false to) false mark) (maybe_same (expression_least (expression_least found false to) false mark) a))
-  act_same found (s.Aug to op a) = joined found _ _ (expression_forms false to) (expression_forms false a) (expression_same found false to) (expression_same (expression_least found false to) false a)
-  act_same found (s.Del a) = expression_same found false a
+  act_same found (s.Do a) = expression_same found false false a
+  act_same found (s.Assign to a) = joined found _ _ (expression_forms false false to) (expression_forms false false a) (expression_same found false false to) (expression_same (expression_least found false false to) false false a)
+  act_same found (s.Annot to mark a) = joined found _ _ (expression_forms false false to) (expression_forms true false mark ++ maybe_forms false a) (expression_same found false false to) (joined (expression_least found false false to) _ _ (expression_forms true false mark) (maybe_forms false a) (expression_same (expression_least found false false to) true false mark) (maybe_same (expression_least (expression_least found false false to) true false mark) false a))
+  act_same found (s.Aug to op a) = joined found _ _ (expression_forms false false to) (expression_forms false false a) (expression_same found false false to) (expression_same (expression_least found false false to) false false a)
+  act_same found (s.Del a) = expression_same found false false a
   act_same found s.Pass = refl
   act_same found s.Break = refl
   act_same found s.Continue = refl
-  act_same found (s.Return a) = maybe_same found a
-  act_same found (s.Raise a) = maybe_same found a
+  act_same found (s.Return a) = maybe_same found false a
+  act_same found (s.Raise a) = maybe_same found false a
   act_same found (s.Global names) = refl
-  act_same found (s.Assert a message) = joined found _ _ (expression_forms false a) (maybe_forms message) (expression_same found false a) (maybe_same (expression_least found false a) message)
+  act_same found (s.Assert a message) = joined found _ _ (expression_forms false false a) (maybe_forms false message) (expression_same found false false a) (maybe_same (expression_least found false false a) false message)
   act_same found (s.Import name other) = refl
   act_same found (s.From name names) = refl
   act_same found (s.If arms other) = joined found _ _ (arm_forms arms) (suite_forms other) (arm_same found arms) (suite_same (arm_least found arms) other)
-  act_same found (s.While a body) = joined found _ _ (expression_forms false a) (suite_forms body) (expression_same found false a) (suite_same (expression_least found false a) body)
-  act_same found (s.For to a body) = joined found _ _ (expression_forms false to) (expression_forms false a ++ suite_forms body) (expression_same found false to) (joined (expression_least found false to) _ _ (expression_forms false a) (suite_forms body) (expression_same (expression_least found false to) false a) (suite_same (expression_least (expression_least found false to) false a) body))
+  act_same found (s.While a body) = joined found _ _ (expression_forms false false a) (suite_forms body) (expression_same found false false a) (suite_same (expression_least found false false a) body)
+  act_same found (s.For to a body) = joined found _ _ (expression_forms false false to) (expression_forms false false a ++ suite_forms body) (expression_same found false false to) (joined (expression_least found false false to) _ _ (expression_forms false false a) (suite_forms body) (expression_same (expression_least found false false to) false false a) (suite_same (expression_least (expression_least found false false to) false false a) body))
   act_same found (s.Try body others last) = refl
-  act_same found (s.Def name params ret body marks) = joined found _ _ (list_forms marks) (parameter_forms params ++ (maybe_forms ret ++ suite_forms body)) (list_same found marks) (joined (list_least found marks) _ _ (parameter_forms params) (maybe_forms ret ++ suite_forms body) (parameter_same (list_least found marks) params) (joined (parameter_least (list_least found marks) params) _ _ (maybe_forms ret) (suite_forms body) (maybe_same (parameter_least (list_least found marks) params) ret) (suite_same (maybe_least (parameter_least (list_least found marks) params) ret) body)))
+  act_same found (s.Def name params ret body marks) = joined found _ _ (list_forms marks) (parameter_forms params ++ (maybe_forms true ret ++ suite_forms body)) (list_same found marks) (joined (list_least found marks) _ _ (parameter_forms params) (maybe_forms true ret ++ suite_forms body) (parameter_same (list_least found marks) params) (joined (parameter_least (list_least found marks) params) _ _ (maybe_forms true ret) (suite_forms body) (maybe_same (parameter_least (list_least found marks) params) true ret) (suite_same (maybe_least (parameter_least (list_least found marks) params) true ret) body)))
   act_same found (s.ClassDef name bases body marks) = refl
 
   suite_same : (found : Option Unbuilt) (t : Suite) → suite_least found t ≡ least found (suite_forms t)
@@ -113,7 +113,7 @@ mutual
 
   arm_same : (found : Option Unbuilt) (t : Arms) → arm_least found t ≡ least found (arm_forms t)
   arm_same found s.no_arms = refl
-  arm_same found (s.arm_then test body more) = joined found _ _ (expression_forms false test) (suite_forms body ++ arm_forms more) (expression_same found false test) (joined (expression_least found false test) _ _ (suite_forms body) (arm_forms more) (suite_same (expression_least found false test) body) (arm_same (suite_least (expression_least found false test) body) more))
+  arm_same found (s.arm_then test body more) = joined found _ _ (expression_forms false false test) (suite_forms body ++ arm_forms more) (expression_same found false false test) (joined (expression_least found false false test) _ _ (suite_forms body) (arm_forms more) (suite_same (expression_least found false false test) body) (arm_same (suite_least (expression_least found false false test) body) more))
 
 pub module_same : (m : Suite) → suite_least None m ≡ least None (suite_forms m)
 module_same m = suite_same None m

@@ -2,7 +2,7 @@
 -- `in` and `not in`, the names `dict` and `Dict`, and `del`; classes, decorators, attributes but for the two methods of lists
 -- where they are called, and the names `super` and `trait`; `try`, `raise`, `assert`, and the names of exception classes.
 --
--- A name counts where it is an expression, be it a target, and where `from` imports it.
+-- A name counts where it is an expression, be it a target, where it is a text in an annotation, and where `from` imports it.
 use Rattle.std.specs.Prelude.{ℕ, nat_lt, Bool, true, false, ◌||◌, if◌then◌else◌, List, [], ◌∷◌, ◌++◌, Option, Some, None, codes}
 use Rattle.std.specs.Option.{option_or, option_map}
 use Rattle.std.specs.Str.{bytes_eq}
@@ -53,13 +53,19 @@ abbrev pub attribute_form : Bool → List ℕ → Option Form
 attribute_form false name = Some form.Attribute
 attribute_form true name = if is_list_method name then None else Some form.MethodCall
 
--- of an expression that is called, or is not
-abbrev pub form_of_node : Bool → ExprNode → Option Form
-form_of_node called (e.Name name) = name_form name
-form_of_node called (e.DictOf pairs) = Some form.DictDisplay
-form_of_node called (e.Compare a more) = chain_form more
-form_of_node called (e.Attr a name) = attribute_form called name
-form_of_node called _ = None
+-- a text in an annotation, where it is such a name as it stands
+abbrev pub quoted_form : Bool → List ℕ → Option Form
+quoted_form false text = None
+quoted_form true text = name_form text
+
+-- of an expression that is in an annotation, or is not, and is called, or is not
+abbrev pub form_of_node : Bool → Bool → ExprNode → Option Form
+form_of_node marked called (e.Name name) = name_form name
+form_of_node marked called (e.Str text) = quoted_form marked text
+form_of_node marked called (e.DictOf pairs) = Some form.DictDisplay
+form_of_node marked called (e.Compare a more) = chain_form more
+form_of_node marked called (e.Attr a name) = attribute_form called name
+form_of_node marked called _ = None
 
 -- the first name that is imported
 abbrev pub import_form : List (List ℕ × Option (List ℕ)) → Option Form
@@ -89,85 +95,85 @@ form_at None span = []
 form_at (Some f) span = record { line = span.line; form = f } ∷ []
 
 abbrev mutual
-  pub expression_forms : Bool → ExprTree → List Unbuilt
-  expression_forms called (e.at node span) = form_at (form_of_node called node) span ++ node_forms node
+  pub expression_forms : Bool → Bool → ExprTree → List Unbuilt
+  expression_forms marked called (e.at node span) = form_at (form_of_node marked called node) span ++ node_forms marked node
 
-  pub node_forms : ExprNode → List Unbuilt
-  node_forms (e.Int n) = []
-  node_forms (e.Str text) = []
-  node_forms e.True = []
-  node_forms e.False = []
-  node_forms e.Nothing = []
-  node_forms (e.Name name) = []
-  node_forms (e.Neg a) = expression_forms false a
-  node_forms (e.Plus a) = expression_forms false a
-  node_forms (e.Not a) = expression_forms false a
-  node_forms (e.Bin op a b) = expression_forms false a ++ expression_forms false b
-  node_forms (e.Compare a more) = expression_forms false a ++ comparison_forms more
-  node_forms (e.And a b) = expression_forms false a ++ expression_forms false b
-  node_forms (e.Or a b) = expression_forms false a ++ expression_forms false b
-  node_forms (e.Cond a test b) = expression_forms false a ++ (expression_forms false test ++ expression_forms false b)
-  node_forms (e.ListOf items) = row_forms items
-  node_forms (e.DictOf entries) = entry_forms entries
-  node_forms (e.TupleOf items) = row_forms items
-  node_forms (e.Attr a name) = expression_forms false a
-  node_forms (e.Index a i) = expression_forms false a ++ expression_forms false i
-  node_forms (e.Call callee more) = expression_forms true callee ++ argument_forms more
+  pub node_forms : Bool → ExprNode → List Unbuilt
+  node_forms marked (e.Int n) = []
+  node_forms marked (e.Str text) = []
+  node_forms marked e.True = []
+  node_forms marked e.False = []
+  node_forms marked e.Nothing = []
+  node_forms marked (e.Name name) = []
+  node_forms marked (e.Neg a) = expression_forms marked false a
+  node_forms marked (e.Plus a) = expression_forms marked false a
+  node_forms marked (e.Not a) = expression_forms marked false a
+  node_forms marked (e.Bin op a b) = expression_forms marked false a ++ expression_forms marked false b
+  node_forms marked (e.Compare a more) = expression_forms marked false a ++ comparison_forms marked more
+  node_forms marked (e.And a b) = expression_forms marked false a ++ expression_forms marked false b
+  node_forms marked (e.Or a b) = expression_forms marked false a ++ expression_forms marked false b
+  node_forms marked (e.Cond a test b) = expression_forms marked false a ++ (expression_forms marked false test ++ expression_forms marked false b)
+  node_forms marked (e.ListOf items) = row_forms marked items
+  node_forms marked (e.DictOf entries) = entry_forms marked entries
+  node_forms marked (e.TupleOf items) = row_forms marked items
+  node_forms marked (e.Attr a name) = expression_forms marked false a
+  node_forms marked (e.Index a i) = expression_forms marked false a ++ expression_forms marked false i
+  node_forms marked (e.Call callee more) = expression_forms marked true callee ++ argument_forms marked more
 
-  pub row_forms : ExprTrees → List Unbuilt
-  row_forms e.no_exprs = []
-  row_forms (e.expr_then a more) = expression_forms false a ++ row_forms more
+  pub row_forms : Bool → ExprTrees → List Unbuilt
+  row_forms marked e.no_exprs = []
+  row_forms marked (e.expr_then a more) = expression_forms marked false a ++ row_forms marked more
 
-  pub comparison_forms : Comparisons → List Unbuilt
-  comparison_forms e.no_comparisons = []
-  comparison_forms (e.comparison_then op a more) = expression_forms false a ++ comparison_forms more
+  pub comparison_forms : Bool → Comparisons → List Unbuilt
+  comparison_forms marked e.no_comparisons = []
+  comparison_forms marked (e.comparison_then op a more) = expression_forms marked false a ++ comparison_forms marked more
 
-  pub entry_forms : Entries → List Unbuilt
-  entry_forms e.no_entries = []
-  entry_forms (e.entry_then key value more) = expression_forms false key ++ (expression_forms false value ++ entry_forms more)
+  pub entry_forms : Bool → Entries → List Unbuilt
+  entry_forms marked e.no_entries = []
+  entry_forms marked (e.entry_then key value more) = expression_forms marked false key ++ (expression_forms marked false value ++ entry_forms marked more)
 
   -- the key of an argument is no expression that is there to be typed
-  pub argument_forms : Arguments → List Unbuilt
-  argument_forms e.no_arguments = []
-  argument_forms (e.argument_then value more) = expression_forms false value ++ argument_forms more
-  argument_forms (e.keyed_then key value more) = expression_forms false value ++ argument_forms more
+  pub argument_forms : Bool → Arguments → List Unbuilt
+  argument_forms marked e.no_arguments = []
+  argument_forms marked (e.argument_then value more) = expression_forms marked false value ++ argument_forms marked more
+  argument_forms marked (e.keyed_then key value more) = expression_forms marked false value ++ argument_forms marked more
 
-abbrev pub maybe_forms : Option ExprTree → List Unbuilt
-maybe_forms None = []
-maybe_forms (Some a) = expression_forms false a
+abbrev pub maybe_forms : Bool → Option ExprTree → List Unbuilt
+maybe_forms marked None = []
+maybe_forms marked (Some a) = expression_forms marked false a
 
 abbrev pub list_forms : List ExprTree → List Unbuilt
 list_forms [] = []
-list_forms (a ∷ more) = expression_forms false a ++ list_forms more
+list_forms (a ∷ more) = expression_forms false false a ++ list_forms more
 
 abbrev pub parameter_forms : List (List ℕ × Option ExprTree) → List Unbuilt
 parameter_forms [] = []
-parameter_forms (p ∷ more) = maybe_forms p.1 ++ parameter_forms more
+parameter_forms (p ∷ more) = maybe_forms true p.1 ++ parameter_forms more
 
 abbrev mutual
   pub statement_forms : StmtTree → List Unbuilt
   statement_forms (s.at node span) = form_at (form_of_act node) span ++ act_forms node
 
   pub act_forms : StmtNode → List Unbuilt
-  act_forms (s.Do a) = expression_forms false a
-  act_forms (s.Assign to a) = expression_forms false to ++ expression_forms false a
-  act_forms (s.Annot to mark a) = expression_forms false to ++ (expression_forms false mark ++ maybe_forms a)
-  act_forms (s.Aug to op a) = expression_forms false to ++ expression_forms false a
-  act_forms (s.Del a) = expression_forms false a
+  act_forms (s.Do a) = expression_forms false false a
+  act_forms (s.Assign to a) = expression_forms false false to ++ expression_forms false false a
+  act_forms (s.Annot to mark a) = expression_forms false false to ++ (expression_forms true false mark ++ maybe_forms false a)
+  act_forms (s.Aug to op a) = expression_forms false false to ++ expression_forms false false a
+  act_forms (s.Del a) = expression_forms false false a
   act_forms s.Pass = []
   act_forms s.Break = []
   act_forms s.Continue = []
-  act_forms (s.Return a) = maybe_forms a
-  act_forms (s.Raise a) = maybe_forms a
+  act_forms (s.Return a) = maybe_forms false a
+  act_forms (s.Raise a) = maybe_forms false a
   act_forms (s.Global names) = []
-  act_forms (s.Assert a message) = expression_forms false a ++ maybe_forms message
+  act_forms (s.Assert a message) = expression_forms false false a ++ maybe_forms false message
   act_forms (s.Import name other) = []
   act_forms (s.From name names) = []
   act_forms (s.If arms other) = arm_forms arms ++ suite_forms other
-  act_forms (s.While a body) = expression_forms false a ++ suite_forms body
-  act_forms (s.For to a body) = expression_forms false to ++ (expression_forms false a ++ suite_forms body)
+  act_forms (s.While a body) = expression_forms false false a ++ suite_forms body
+  act_forms (s.For to a body) = expression_forms false false to ++ (expression_forms false false a ++ suite_forms body)
   act_forms (s.Try body others last) = []
-  act_forms (s.Def name params ret body marks) = list_forms marks ++ (parameter_forms params ++ (maybe_forms ret ++ suite_forms body))
+  act_forms (s.Def name params ret body marks) = list_forms marks ++ (parameter_forms params ++ (maybe_forms true ret ++ suite_forms body))
   act_forms (s.ClassDef name bases body marks) = []
 
   pub suite_forms : Suite → List Unbuilt
@@ -176,7 +182,7 @@ abbrev mutual
 
   pub arm_forms : Arms → List Unbuilt
   arm_forms s.no_arms = []
-  arm_forms (s.arm_then test body more) = expression_forms false test ++ (suite_forms body ++ arm_forms more)
+  arm_forms (s.arm_then test body more) = expression_forms false false test ++ (suite_forms body ++ arm_forms more)
 
 -- ---- the least of them
 

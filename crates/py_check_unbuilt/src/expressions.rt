@@ -7,7 +7,7 @@ ghost use Rattle.py_check_unbuilt.specs.Least as find;
 
 use crate::form::{Form, Unbuilt};
 use py_syntax::{Arg, CmpOp, Expr, ExprKind};
-use value_core::{ExcClass, Name};
+use value_core::{ExcClass, Name, Text};
 
 /// The one on the lesser line, of a form and of one found before it; on one line the one found before.
 pub fn lesser(unbuilt: Unbuilt, found: Option<Unbuilt>) -> Unbuilt
@@ -26,12 +26,23 @@ pub fn lesser(unbuilt: Unbuilt, found: Option<Unbuilt>) -> Unbuilt
 }
 
 /// The form without typing rules that a name belongs to, where there is one.
-pub(crate) fn name_form(name: &Name) -> Option<Form>
+pub(crate) fn name_form(name: &str) -> Option<Form>
     ensures { result ≡ spec.name_form name.now }
 {
-    match word_form(name.as_str()) {
+    match word_form(name) {
         Some(form) => Some(form),
-        None => exception_form(name.as_str()),
+        None => exception_form(name),
+    }
+}
+
+// The same of a text, which stands for a name in an annotation alone.
+fn quoted_form(marked: bool, text: &Text) -> Option<Form>
+    ensures { result ≡ spec.quoted_form marked text.now }
+{
+    if marked {
+        name_form(text.as_str())
+    } else {
+        None
     }
 }
 
@@ -100,12 +111,13 @@ fn attribute_form(called: bool, name: &Name) -> Option<Form>
     }
 }
 
-/// The form without typing rules that an expression is, which is called or not.
-fn form_of(called: bool, e: &Expr) -> Option<Form>
-    ensures { result ≡ spec.form_of_node called (expr_node e.now.kind) }
+/// The form without typing rules that an expression is, which is in an annotation or not, and called or not.
+fn form_of(marked: bool, called: bool, e: &Expr) -> Option<Form>
+    ensures { result ≡ spec.form_of_node marked called (expr_node e.now.kind) }
 {
     match &e.kind {
-        ExprKind::Name(name) => name_form(name),
+        ExprKind::Name(name) => name_form(name.as_str()),
+        ExprKind::Str(text) => quoted_form(marked, text),
         ExprKind::Dict(_) => Some(Form::DictDisplay),
         ExprKind::Compare(_, more) => chain_form(more.as_slice()),
         ExprKind::Attr(_, name) => attribute_form(called, name),
@@ -123,35 +135,62 @@ pub(crate) fn noted(form: Option<Form>, line: usize, found: Option<Unbuilt>) -> 
     }
 }
 
-/// The first form without typing rules in an expression, which is called or not, or one found before.
+/// The first form without typing rules in an expression, which is in an annotation or not, and called or not; or one found before.
 #[cycle(expression)]
-pub(crate) fn in_expression(e: &Expr, called: bool, found: Option<Unbuilt>) -> Option<Unbuilt>
-    ensures { result ≡ find.expression_least found called (expr_tree e.now) }
+pub(crate) fn in_expression(
+    e: &Expr,
+    marked: bool,
+    called: bool,
+    found: Option<Unbuilt>,
+) -> Option<Unbuilt>
+    ensures { result ≡ find.expression_least found marked called (expr_tree e.now) }
 {
-    let found = noted(form_of(called, e), e.span.line, found);
+    let found = noted(form_of(marked, called, e), e.span.line, found);
     match &e.kind {
-        ExprKind::Neg(a) => in_expression(a, false, found),
-        ExprKind::Plus(a) => in_expression(a, false, found),
-        ExprKind::Not(a) => in_expression(a, false, found),
-        ExprKind::Bin(_, a, b) => in_expression(b, false, in_expression(a, false, found)),
+        ExprKind::Neg(a) => in_expression(a, marked, false, found),
+        ExprKind::Plus(a) => in_expression(a, marked, false, found),
+        ExprKind::Not(a) => in_expression(a, marked, false, found),
+        ExprKind::Bin(_, a, b) => in_expression(
+            b,
+            marked,
+            false,
+            in_expression(a, marked, false, found),
+        ),
         ExprKind::Compare(a, more) => in_comparisons(
             more.as_slice(),
-            in_expression(a, false, found),
+            marked,
+            in_expression(a, marked, false, found),
         ),
-        ExprKind::And(a, b) => in_expression(b, false, in_expression(a, false, found)),
-        ExprKind::Or(a, b) => in_expression(b, false, in_expression(a, false, found)),
+        ExprKind::And(a, b) => in_expression(
+            b,
+            marked,
+            false,
+            in_expression(a, marked, false, found),
+        ),
+        ExprKind::Or(a, b) => in_expression(
+            b,
+            marked,
+            false,
+            in_expression(a, marked, false, found),
+        ),
         ExprKind::Cond(a, test, b) => {
-            let found = in_expression(test, false, in_expression(a, false, found));
-            in_expression(b, false, found)
+            let found = in_expression(test, marked, false, in_expression(a, marked, false, found));
+            in_expression(b, marked, false, found)
         }
-        ExprKind::List(items) => in_row(items.as_slice(), found),
-        ExprKind::Dict(entries) => in_entries(entries.as_slice(), found),
-        ExprKind::Tuple(items) => in_row(items.as_slice(), found),
-        ExprKind::Attr(a, _) => in_expression(a, false, found),
-        ExprKind::Index(a, i) => in_expression(i, false, in_expression(a, false, found)),
+        ExprKind::List(items) => in_row(items.as_slice(), marked, found),
+        ExprKind::Dict(entries) => in_entries(entries.as_slice(), marked, found),
+        ExprKind::Tuple(items) => in_row(items.as_slice(), marked, found),
+        ExprKind::Attr(a, _) => in_expression(a, marked, false, found),
+        ExprKind::Index(a, i) => in_expression(
+            i,
+            marked,
+            false,
+            in_expression(a, marked, false, found),
+        ),
         ExprKind::Call(callee, arguments) => in_arguments(
             arguments.as_slice(),
-            in_expression(callee, true, found),
+            marked,
+            in_expression(callee, marked, true, found),
         ),
         ExprKind::Name(_) => found,
         ExprKind::Int(_) => found,
@@ -163,56 +202,61 @@ pub(crate) fn in_expression(e: &Expr, called: bool, found: Option<Unbuilt>) -> O
 }
 
 #[cycle(expression)]
-fn in_row(items: &[Expr], found: Option<Unbuilt>) -> Option<Unbuilt>
-    ensures { result ≡ find.row_least found (exprs_of (map expr_tree items.now)) }
+fn in_row(items: &[Expr], marked: bool, found: Option<Unbuilt>) -> Option<Unbuilt>
+    ensures { result ≡ find.row_least found marked (exprs_of (map expr_tree items.now)) }
 {
     let mut found = found;
     for item in items {
-        found = in_expression(item, false, found);
+        found = in_expression(item, marked, false, found);
     }
     found
 }
 
 #[cycle(expression)]
-fn in_comparisons(more: &[(CmpOp, Expr)], found: Option<Unbuilt>) -> Option<Unbuilt>
-    ensures { result ≡ find.comparison_least found (comparisons_of (map comparison_tree more.now)) }
+fn in_comparisons(more: &[(CmpOp, Expr)], marked: bool, found: Option<Unbuilt>) -> Option<Unbuilt>
+    ensures { result ≡ find.comparison_least found marked (comparisons_of (map comparison_tree more.now)) }
 {
     let mut found = found;
     for (_, operand) in more {
-        found = in_expression(operand, false, found);
+        found = in_expression(operand, marked, false, found);
     }
     found
 }
 
 #[cycle(expression)]
-fn in_entries(entries: &[(Expr, Expr)], found: Option<Unbuilt>) -> Option<Unbuilt>
-    ensures { result ≡ find.entry_least found (entries_of (map entry_tree entries.now)) }
+fn in_entries(entries: &[(Expr, Expr)], marked: bool, found: Option<Unbuilt>) -> Option<Unbuilt>
+    ensures { result ≡ find.entry_least found marked (entries_of (map entry_tree entries.now)) }
 {
     let mut found = found;
     for (key, value) in entries {
-        found = in_expression(value, false, in_expression(key, false, found));
+        found = in_expression(
+            value,
+            marked,
+            false,
+            in_expression(key, marked, false, found),
+        );
     }
     found
 }
 
 #[cycle(expression)]
-fn in_arguments(arguments: &[Arg], found: Option<Unbuilt>) -> Option<Unbuilt>
-    ensures { result ≡ find.argument_least found (arguments_of (map arg_tree arguments.now)) }
+fn in_arguments(arguments: &[Arg], marked: bool, found: Option<Unbuilt>) -> Option<Unbuilt>
+    ensures { result ≡ find.argument_least found marked (arguments_of (map arg_tree arguments.now)) }
 {
     let mut found = found;
     for argument in arguments {
-        found = in_expression(&argument.value, false, found);
+        found = in_expression(&argument.value, marked, false, found);
     }
     found
 }
 
 /// In an expression that may be absent.
-pub(crate) fn in_maybe(e: &Option<Expr>, found: Option<Unbuilt>) -> Option<Unbuilt>
-    ensures { result ≡ find.maybe_least found (maybe_expr e.now) }
+pub(crate) fn in_maybe(e: &Option<Expr>, marked: bool, found: Option<Unbuilt>) -> Option<Unbuilt>
+    ensures { result ≡ find.maybe_least found marked (maybe_expr e.now) }
 {
     match e {
         None => found,
-        Some(e) => in_expression(e, false, found),
+        Some(e) => in_expression(e, marked, false, found),
     }
 }
 
@@ -222,7 +266,7 @@ pub(crate) fn in_list(items: &[Expr], found: Option<Unbuilt>) -> Option<Unbuilt>
 {
     let mut found = found;
     for item in items {
-        found = in_expression(item, false, found);
+        found = in_expression(item, false, false, found);
     }
     found
 }
@@ -236,7 +280,7 @@ pub(crate) fn in_parameters(
 {
     let mut found = found;
     for (_, mark) in parameters {
-        found = in_maybe(mark, found);
+        found = in_maybe(mark, true, found);
     }
     found
 }

@@ -61,28 +61,46 @@ fn in_statement(s: &Stmt, found: Option<Unbuilt>) -> Option<Unbuilt>
 {
     let found = noted(form_of(s), s.span.line, found);
     match &s.kind {
-        StmtKind::Expr(a) => in_expression(a, false, found),
-        StmtKind::Assign(to, a) => in_expression(a, false, in_expression(to, false, found)),
+        StmtKind::Expr(a) => in_expression(a, false, false, found),
+        StmtKind::Assign(to, a) => in_expression(
+            a,
+            false,
+            false,
+            in_expression(to, false, false, found),
+        ),
         StmtKind::Annot(to, mark, a) => in_maybe(
             a,
-            in_expression(mark, false, in_expression(to, false, found)),
+            false,
+            in_expression(mark, true, false, in_expression(to, false, false, found)),
         ),
-        StmtKind::Aug(to, _, a) => in_expression(a, false, in_expression(to, false, found)),
-        StmtKind::Del(a) => in_expression(a, false, found),
-        StmtKind::Return(a) => in_maybe(a, found),
-        StmtKind::Raise(a) => in_maybe(a, found),
-        StmtKind::Assert(a, message) => in_maybe(message, in_expression(a, false, found)),
+        StmtKind::Aug(to, _, a) => in_expression(
+            a,
+            false,
+            false,
+            in_expression(to, false, false, found),
+        ),
+        StmtKind::Del(a) => in_expression(a, false, false, found),
+        StmtKind::Return(a) => in_maybe(a, false, found),
+        StmtKind::Raise(a) => in_maybe(a, false, found),
+        StmtKind::Assert(a, message) => in_maybe(
+            message,
+            false,
+            in_expression(a, false, false, found),
+        ),
         StmtKind::If(arms, other) => {
             let mut found = found;
             let arms = arms.as_slice();
             'arms: for (test, body) in arms {
-                found = in_suite(body.as_slice(), in_expression(test, false, found));
+                found = in_suite(body.as_slice(), in_expression(test, false, false, found));
             }
             in_suite(other.as_slice(), found)
         }
-        StmtKind::While(a, body) => in_suite(body.as_slice(), in_expression(a, false, found)),
+        StmtKind::While(a, body) => in_suite(
+            body.as_slice(),
+            in_expression(a, false, false, found),
+        ),
         StmtKind::For(to, a, body) => {
-            let found = in_expression(a, false, in_expression(to, false, found));
+            let found = in_expression(a, false, false, in_expression(to, false, false, found));
             in_suite(body.as_slice(), found)
         }
         StmtKind::Def(f) => in_function(f, found),
@@ -102,7 +120,7 @@ fn import_form(names: &[(Name, Option<Name>)]) -> Option<Form>
     ensures { result ≡ spec.import_form names.now }
 {
     for (name, _) in names {
-        if let Some(form) = name_form(name) {
+        if let Some(form) = name_form(name.as_str()) {
             return Some(form);
         }
     }
@@ -114,5 +132,5 @@ fn in_function(f: &Func, found: Option<Unbuilt>) -> Option<Unbuilt>
     ensures { result ≡ find.act_least found (def_of (func_tree f.now)) }
 {
     let found = in_parameters(f.params.as_slice(), in_list(f.marks.as_slice(), found));
-    in_suite(f.body.as_slice(), in_maybe(&f.ret, found))
+    in_suite(f.body.as_slice(), in_maybe(&f.ret, true, found))
 }

@@ -1,4 +1,5 @@
-use Rattle.std.proofs.Common.{◌≡◌, ◌∙◌, ◌+◌, rules, sym, ap, map, drop, length, Option, List, subst, IfOk}
+use Rattle.std.proofs.Common.{◌≡◌, ◌∙◌, ◌+◌, ◌∷◌, ◌++◌, [], rules, sym, ap, map, drop, length, Option, List, subst, IfOk}
+use Rattle.std.proofs.lemmas.List.{append_assoc, map-append}
 use Rattle.std.specs.Option.{option_map}
 use Rattle.py_syntax.specs.declared.expression.CmpOp.{CmpOp}
 use Rattle.py_syntax.specs.declared.expression.Arg.{out-Arg}
@@ -7,15 +8,16 @@ use Rattle.py_syntax.specs.Expressions.{expr_tree, exprs_of, comparison_tree, co
 use Rattle.py_syntax.proofs.ExpressionLemmas.{expr_node-Str, expr_node-True, expr_node-False, expr_node-Nothing, expr_node-Name, expr_node-Neg, expr_node-Plus, expr_node-Not, expr_node-Bin, expr_node-Compare, expr_node-And, expr_node-Or, expr_node-Cond, expr_node-List, expr_node-Dict, expr_node-Tuple, expr_node-Attr, expr_node-Index, expr_node-Call}
 use Rattle.py_typed.specs.Expressions.{TypedExpr, typed_expr}
 use Rattle.py_check_context.specs.Context.{Wanted, free, context, var_sorts, wanted, row, WantedRow, wanted_in}
-use Rattle.py_check_messages.specs.Seen.{Seen, Tells, made, ruled}
+use Rattle.py_check_messages.specs.Seen.{Seen, Tells, ruled}
 use Rattle.py_check_messages.specs.Rows.{row_then}
 use Rattle.py_check_messages.proofs.RowLemmas.{Remains, row_step}
-use Rattle.py_check_coercions.specs.Boxes.{boxed, operand_pair}
+use Rattle.py_check_coercions.specs.Boxes.{boxed}
+use Rattle.py_check_operators.specs.Operands.{maybe_pair}
 use Rattle.py_check_operators.proofs.FactLemmas.{tree_of}
 use Rattle.py_check_displays.specs.Displays as displays
-use Rattle.py_check_expressions.specs.Typing.{typing, node_typing, operands, items, arguments, count}
-use Rattle.py_check_expressions.proofs.NodeLemmas.{leaf_says, one_says, node_says, named_part, value_part}
-use Rattle.py_check_expressions.proofs.RowLemmas.{counted, items_at, operands_at, arguments_at}
+use Rattle.py_check_expressions.specs.Typing.{typing, node_typing, operands, each_operand, items, arguments, count}
+use Rattle.py_check_expressions.proofs.NodeLemmas.{leaf_says, one_says, node_says, named_part, value_part, chain_says}
+use Rattle.py_check_expressions.proofs.RowLemmas.{counted, items_at, operands_at, each_at, arguments_at}
 use Rattle.py_check_expressions.proofs.nodes.+expression.Goals as goal
 
 pub expression-returns-in-Str : goal.expression-returns-in-Str
@@ -213,6 +215,18 @@ part-returns-else-is_named t c =
     let P : Seen TypedExpr → Type 0 = λ s. IfOk c.expression.result (λ x. Tells boxed x c.args.faults.now c.expression.new.faults s) in
     subst P (sym (value_part C V free K c.args.f.now (sym c.is_named.ensures ∙ c.if-is_named.false))) c.expression.ensures
 
+pub compared-returns : goal.compared-returns
+compared-returns t c =
+    let C = context c.args.scope.now in
+    let V = var_sorts c.args.vars.now in
+    let K = c.args.known.now in
+    let cs = comparisons_of (map comparison_tree c.args.cs.now) in
+    let s = typing C V free K (expr_tree c.args.e.now) in
+    let rest = (operands C V K cs).said in
+    chain_says C.classes c.args.span (option_map boxed c.in_ok-first.first) s.got (map maybe_pair c.in_ok-more.more) (each_operand C V K cs) c.operands.new.faults (s.said ++ rest) c.chain.result c.args.faults.now c.chain.new.faults
+    c.in_ok-first.ensures.0 c.in_ok-more.ensures.each
+    (c.in_ok-more.ensures.told ∙ ap (λ l. l ++ rest) (c.in_ok-first.ensures.1 ∙ ap (λ l. l ++ s.said) c.new-said.ensures)) c.chain.ensures
+
 pub operands-loop-op-preserved : goal.operands-loop-op-preserved
 operands-loop-op-preserved t c =
     let C = context c.args.scope.now in
@@ -222,15 +236,22 @@ operands-loop-op-preserved t c =
     let i = c.loop-op.op-index in
     let p = c.loop-op-item.result in
     let s : Seen TypedExpr = typing C V free K (expr_tree p.1) in
-    let one : Seen (CmpOp × TypedExpr) = made (λ x. (p.0, x)) s in
-    let whole : Seen (List (CmpOp × TypedExpr)) = operands C V K (comparisons_of (map comparison_tree xs)) in
-    let rest : Seen (List (CmpOp × TypedExpr)) = operands C V K (comparisons_of (map comparison_tree (drop (i + 1) xs))) in
-    let front : Option (List (CmpOp × TypedExpr)) = option_map (map operand_pair) c.loop-op.found in
+    let rest = comparisons_of (map comparison_tree (drop (i + 1) xs)) in
     let e : Tells boxed c.in_ok-e.e c.loop-op.faults c.expression.new.faults s = c.in_ok-e.ensures in
-    let P : Seen (List (CmpOp × TypedExpr)) → Type 0 = λ q. Remains front c.args.faults.now c.loop-op.faults whole q in
-    let now : Remains front c.args.faults.now c.loop-op.faults whole (row_then one rest) = subst P (operands_at C V K xs i p c.loop-op-test.true c.loop-op-item.is) c.loop-op.invariant in
-    let Q : Option (List (CmpOp × TypedExpr)) → Type 0 = λ f. Remains f c.args.faults.now c.expression.new.faults whole rest in
-    subst Q (sym c.in_ok-found.ensures) (row_step front (option_map (λ x. (p.0, x)) (option_map boxed c.in_ok-e.e)) c.args.faults.now c.loop-op.faults c.expression.new.faults whole rest one now (ap (option_map (λ x. (p.0, x))) e.0) e.1)
+    record {
+      each =
+          ap (λ l. map maybe_pair l ++ each_operand C V K rest) c.in_ok-push.ensures.ok
+          ∙ ap (λ l. l ++ each_operand C V K rest) (map-append maybe_pair c.loop-op.found ((p.0, c.in_ok-e.e) ∷ []))
+          ∙ append_assoc (map maybe_pair c.loop-op.found) ((p.0, option_map boxed c.in_ok-e.e) ∷ []) (each_operand C V K rest)
+          ∙ ap (λ o. map maybe_pair c.loop-op.found ++ (p.0, o) ∷ each_operand C V K rest) e.0
+          ∙ ap (λ l. map maybe_pair c.loop-op.found ++ l) (sym (each_at C V K xs i p c.loop-op-test.true c.loop-op-item.is))
+          ∙ c.loop-op.invariant.each;
+      told =
+          c.loop-op.invariant.told
+          ∙ ap (λ (q : Seen (List (CmpOp × TypedExpr))). c.loop-op.faults ++ q.said) (operands_at C V K xs i p c.loop-op-test.true c.loop-op-item.is)
+          ∙ sym (append_assoc c.loop-op.faults s.said (operands C V K rest).said)
+          ∙ ap (λ l. l ++ (operands C V K rest).said) (sym e.1);
+    }
 
 pub items-loop-i-preserved : goal.items-loop-i-preserved
 items-loop-i-preserved t c =

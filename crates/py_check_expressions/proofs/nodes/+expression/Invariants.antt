@@ -1,11 +1,11 @@
-use Rattle.std.proofs.Common.{◌+◌, ◌*◌, max, map, drop}
+use Rattle.std.proofs.Common.{◌≡◌, ◌++◌, ◌+◌, ◌*◌, max, map, drop}
 use Rattle.std.specs.Option.{option_map}
 use Rattle.py_syntax.specs.Expressions.{expr_tree, exprs_of, comparison_tree, comparisons_of, arg_tree, arguments_of}
 use Rattle.py_typed.specs.Expressions.{typed_expr}
 use Rattle.py_check_context.specs.Context.{context, var_sorts, row}
 use Rattle.py_check_messages.proofs.RowLemmas.{Remains}
-use Rattle.py_check_coercions.specs.Boxes.{operand_pair}
-use Rattle.py_check_expressions.specs.Typing.{items, operands, arguments}
+use Rattle.py_check_operators.specs.Operands.{maybe_pair}
+use Rattle.py_check_expressions.specs.Typing.{items, operands, each_operand, arguments}
 use denote.Param.Weighed.{most}
 use Rattle.py_syntax.specs.declared.expression.Expr.{size-Expr}
 use Rattle.py_syntax.specs.declared.expression.Arg.{size-Arg}
@@ -71,10 +71,10 @@ abbrev pub decreases-arguments : goal.decreases-arguments
 decreases-arguments l = most size-Arg l.args.now * 3
 
 abbrev pub invariant-operands-loop-op : goal.invariant-operands-loop-op
-invariant-operands-loop-op l =
-    Remains (option_map (map operand_pair) l.found) l.fn.faults l.faults
-    (operands (context l.scope) (var_sorts l.vars) l.known (comparisons_of (map comparison_tree l.cs)))
-    (operands (context l.scope) (var_sorts l.vars) l.known (comparisons_of (map comparison_tree (drop l.op-index l.cs))))
+invariant-operands-loop-op l = record {
+  each : map maybe_pair l.found ++ each_operand (context l.scope) (var_sorts l.vars) l.known (comparisons_of (map comparison_tree (drop l.op-index l.cs))) ≡ each_operand (context l.scope) (var_sorts l.vars) l.known (comparisons_of (map comparison_tree l.cs));
+  told : l.fn.faults ++ (operands (context l.scope) (var_sorts l.vars) l.known (comparisons_of (map comparison_tree l.cs))).said ≡ l.faults ++ (operands (context l.scope) (var_sorts l.vars) l.known (comparisons_of (map comparison_tree (drop l.op-index l.cs)))).said;
+}
 
 abbrev pub invariant-items-loop-i : goal.invariant-items-loop-i
 invariant-items-loop-i l =

@@ -5,18 +5,18 @@ use Rattle.py_check_unbuilt.proofs.expressions.+expression.Given as goal
 
 abbrev pub invariant-in_row-loop-item : goal.invariant-in_row-loop-item
 invariant-in_row-loop-item l =
-    row_least l.found (exprs_of (map expr_tree (drop l.item-index l.items))) ≡ row_least l.fn.found (exprs_of (map expr_tree l.items))
+    row_least l.found l.marked (exprs_of (map expr_tree (drop l.item-index l.items))) ≡ row_least l.fn.found l.marked (exprs_of (map expr_tree l.items))
 
 abbrev pub invariant-in_comparisons-loop-operand : goal.invariant-in_comparisons-loop-operand
 invariant-in_comparisons-loop-operand l =
-    comparison_least l.found (comparisons_of (map comparison_tree (drop l.operand-index l.more)))
-    ≡ comparison_least l.fn.found (comparisons_of (map comparison_tree l.more))
+    comparison_least l.found l.marked (comparisons_of (map comparison_tree (drop l.operand-index l.more)))
+    ≡ comparison_least l.fn.found l.marked (comparisons_of (map comparison_tree l.more))
 
 abbrev pub invariant-in_entries-loop-key : goal.invariant-in_entries-loop-key
 invariant-in_entries-loop-key l =
-    entry_least l.found (entries_of (map entry_tree (drop l.key-index l.entries))) ≡ entry_least l.fn.found (entries_of (map entry_tree l.entries))
+    entry_least l.found l.marked (entries_of (map entry_tree (drop l.key-index l.entries))) ≡ entry_least l.fn.found l.marked (entries_of (map entry_tree l.entries))
 
 abbrev pub invariant-in_arguments-loop-argument : goal.invariant-in_arguments-loop-argument
 invariant-in_arguments-loop-argument l =
-    argument_least l.found (arguments_of (map arg_tree (drop l.argument-index l.arguments)))
-    ≡ argument_least l.fn.found (arguments_of (map arg_tree l.arguments))
+    argument_least l.found l.marked (arguments_of (map arg_tree (drop l.argument-index l.arguments)))
+    ≡ argument_least l.fn.found l.marked (arguments_of (map arg_tree l.arguments))

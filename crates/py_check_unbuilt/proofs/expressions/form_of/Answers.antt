@@ -8,4 +8,4 @@ pub returns-in-Compare : goal.returns-in-Compare
 returns-in-Compare c =
     c.chain_form.ensures
     ∙ ap (λ more. chain_form (comparisons_of (map comparison_tree more))) c.as_slice.ensures
-    ∙ sym (ap (form_of_node c.args.called) (ap expr_node c.in-Compare.is ∙ expr_node-Compare c.in-Compare.field-0 c.in-Compare.more))
+    ∙ sym (ap (form_of_node c.args.marked c.args.called) (ap expr_node c.in-Compare.is ∙ expr_node-Compare c.in-Compare.field-0 c.in-Compare.more))
