@@ -22,6 +22,8 @@ mod py_syntax_tests;
 #[cfg(test)]
 mod py_typed_tests;
 #[cfg(test)]
+mod refcount_insert_counts_tests;
+#[cfg(test)]
 mod slot_arena_tests;
 #[cfg(test)]
 mod tree_text;
