@@ -4,8 +4,8 @@
 -- `not in` ask for a dict on the right whose key type the left one fits; the others take two numbers or two texts.
 --
 -- A pair is asked for its rule where both its operands have types, whatever the other operands are. Each pair that breaks its rule
--- has a diagnostic of its own, and all of these stand at the chain, in front of what is said of the operands. A chain has a type
--- where all its operands have one and no pair breaks its rule.
+-- has a diagnostic of its own, and all of these stand at the chain, in front of what is said of the operands. Bool is the type of a
+-- chain without a pair that breaks its rule and without an operand of unknown type; any other chain is of unknown type.
 use Rattle.std.specs.Prelude.{ℕ, Bool, true, false, ◌||◌, List, [], ◌∷◌, ◌++◌, map, codes, Option, Some, None, if◌then◌else◌}
 use Rattle.std.specs.Option.{option_map, option_zip}
 use Rattle.py_syntax.specs.declared.token.Span.{Span}
