@@ -1,0 +1,18 @@
+use Rattle.std.proofs.Common.{◌≡◌, ◌++◌, ℕ, List, [], map, drop, slice_get}
+use Rattle.std.specs.List.{flat_map}
+use Rattle.std.specs.Option.{option_or}
+use Rattle.std.specs.Str.{bytes_eq}
+use Rattle.indexmap.specs.IndexMap.{get}
+use Rattle.indexmap.specs.IndexSet.{insert_all}
+use Rattle.py_typed.specs.Classes.{class_entry}
+use Rattle.py_typed.specs.Order.{named, method_along}
+use Rattle.class_layout.specs.Slots.{attributes_at, methods_at}
+use Rattle.class_layout.proofs.places.methods_of.Given as goal
+
+abbrev pub invariant-loop-base : goal.invariant-loop-base
+invariant-loop-base l =
+    insert_all bytes_eq l.names.keys (flat_map (methods_at l.earlier) (drop l.base-index l.bases)) ≡ insert_all bytes_eq [] (flat_map (methods_at l.earlier) l.bases)
+
+abbrev pub invariant-loop-name : goal.invariant-loop-name
+invariant-loop-name l =
+    insert_all bytes_eq l.names.keys (map (λ p. p.0) (drop l.name-index l.own)) ≡ insert_all bytes_eq (insert_all bytes_eq [] (flat_map (methods_at l.earlier) l.bases)) (map (λ p. p.0) l.own)

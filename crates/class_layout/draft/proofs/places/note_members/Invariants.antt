@@ -1,0 +1,14 @@
+use Rattle.std.proofs.Common.{◌≡◌, ◌++◌, ℕ, List, [], map, drop, slice_get}
+use Rattle.std.specs.List.{flat_map}
+use Rattle.std.specs.Option.{option_or}
+use Rattle.std.specs.Str.{bytes_eq}
+use Rattle.indexmap.specs.IndexMap.{get}
+use Rattle.indexmap.specs.IndexSet.{insert_all}
+use Rattle.py_typed.specs.Classes.{class_entry}
+use Rattle.py_typed.specs.Order.{named, method_along}
+use Rattle.class_layout.specs.Slots.{attributes_at, methods_at}
+use Rattle.class_layout.proofs.places.note_members.Given as goal
+
+abbrev pub invariant-loop-name : goal.invariant-loop-name
+invariant-loop-name l =
+    (name : List ℕ) → option_or (get bytes_eq l.members name) (named name (drop l.name-index l.own)) ≡ option_or (get bytes_eq l.fn.members name) (named name l.own)
