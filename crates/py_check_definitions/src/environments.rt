@@ -3,7 +3,7 @@ ghost use Rattle.std.specs.Prelude.{◌≡◌, [], map};
 ghost use Rattle.py_typed.specs.Classes.{class_entry};
 
 use py_check_names::ModuleNames;
-use py_typed::{Classes, Sig};
+use py_typed::{ClassList, Classes, Sig};
 use std::alloc::Global;
 use value_core::Many;
 
@@ -20,7 +20,7 @@ pub fn no_classes(alloc: Global) -> Classes
     ensures { map class_entry result.list ≡ [] }
 {
     Classes {
-        list: Many::new(alloc),
+        list: ClassList::new(alloc),
         sigs: Many::new(alloc),
     }
 }

@@ -220,7 +220,7 @@ module _ (m : Suite) (nothing : said m ≡ []) where
   describes : (means : List ℕ → Meaning) (V : VarSorts) (locals : List Variable) → AreDeclared tree locals V → Valued 0 V → Describes (record { meaning = means; signatures = signatures m; classes = [] }) V tree locals
   describes means V locals d v = record {
     classes = refl;
-    tree = record { falls = λ c. refl; lists = λ c. refl };
+    tree = record { falls = λ c. refl };
     locals_are = λ i t q. record { is = d.of_function i t q; type = v.locals i t q };
     globals_are = λ i t q. record { is = d.of_module i t q; type = v.globals i t q };
     functions_are = λ x i t p q. signed_there i t q;

@@ -1,5 +1,6 @@
 -- What fits, and what a join is to its parts.
-use Rattle.std.proofs.Common.{◌≡◌, ℕ, Bool, true, false, ◌&&◌, ◌||◌, List, Option, Some, None, refl, sym, ap, subst, ◌∙◌, ◌⊎◌, inl, inr, if◌then◌else◌}
+use Rattle.std.proofs.Common.{◌≡◌, ℕ, zero, suc, nat_lt, Bool, true, false, ◌&&◌, ◌||◌, List, Option, Some, None, refl, sym, ap, subst, ◌∙◌, ◌⊎◌, inl, inr, if◌then◌else◌}
+use Rattle.std.specs.List.{list_any}
 use Rattle.std.proofs.lemmas.Slice.Eq.{bytes_eq-Decides}
 use Rattle.std.proofs.lemmas.Bool.{eqb-true, eq-eqb}
 use Rattle.std.proofs.lemmas.Option.{same_Some}
@@ -8,7 +9,7 @@ use Rattle.value_core.specs.declared.exception.ExcClass.TheVariants.{Exception, 
 use Rattle.value_core.specs.Exceptions.{class_name, is_under}
 use Rattle.value_core.proofs.ValueLemmas.{names_differ}
 use Rattle.py_typed.specs.Sorts.{Sort, Int, I64, Bool as BoolSort, Str, Nothing, ListOf, DictOf, TupleOf, Optional, Instance, Exc, Sorts, no_sorts, sort_then}
-use Rattle.py_typed.specs.Classes.{ClassEntry, above_of, has_class, is_class_under}
+use Rattle.py_typed.specs.Classes.{ClassEntry, bases_of, reaches, is_class_under}
 use Rattle.py_typed.specs.Fits.{is_same_type, are_same_types, is_number, is_nothing, number_join, optional, same, all_same, fits, join}
 
 pub and_left : (a b : Bool) → (a && b) ≡ true → a ≡ true
@@ -82,8 +83,9 @@ exception_under_itself RuntimeError = refl
 exception_under_itself EOFError = refl
 
 module _ (classes : List ClassEntry) where
-  class_under_itself : (c : ℕ) → is_class_under classes c c ≡ true
-  class_under_itself c = ap (λ b. b || has_class c (above_of classes c)) (eq-eqb c c refl)
+  pub class_under_itself : (c : ℕ) → is_class_under classes c c ≡ true
+  class_under_itself zero = refl
+  class_under_itself (suc c) = ap (λ b. b || list_any (λ x. nat_lt x (suc c) && reaches classes c x (suc c)) (bases_of classes (suc c))) (eq-eqb (suc c) (suc c) refl)
 
   mutual
     pub same_itself : (t : Sort) → same classes t t ≡ true

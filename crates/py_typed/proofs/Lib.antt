@@ -3,6 +3,7 @@ pub mod ExpressionLemmas
 pub mod StatementLemmas
 pub mod FitLemmas
 pub mod ClassLemmas
+pub mod AboveLemmas
 pub mod ExceptionLemmas
 pub mod OneWayLemmas
 pub mod OnwardLemmas

@@ -10,7 +10,7 @@ use Rattle.py_typed.proofs.ExceptionLemmas.{exception_one_way}
 
 module _ (classes : List ClassEntry) (tree : IsClassTree classes) where
   class_one_way : (c d : ℕ) → is_class_under classes c d ≡ true → is_class_under classes d c ≡ true → c ≡ d
-  class_one_way c d e f = choose (under_falls classes tree c d e) (λ p. p) (λ p. choose (under_falls classes tree d c f) (λ q. sym q) (λ q. absurd (omega (arith, p, q))))
+  class_one_way c d e f = choose (under_falls classes c d e) (λ p. p) (λ p. choose (under_falls classes d c f) (λ q. sym q) (λ q. absurd (omega (arith, p, q))))
 
   mutual
     pub one_way : (s t : Sort) → same classes s t ≡ true → same classes t s ≡ true → s ≡ t

@@ -2,23 +2,23 @@
 use Rattle.std.proofs.Common.{◌≡◌, ℕ, true, false, List, [], ◌∷◌, Some, None, refl, codes}
 use Rattle.value_core.specs.declared.exception.ExcClass.TheVariants.{Exception, ArithmeticError, OverflowError}
 use Rattle.py_typed.specs.Sorts.{Int, I64, Bool as BoolSort, Str, Nothing, ListOf, DictOf, TupleOf, Optional, Instance, Exc, sorts_of}
-use Rattle.py_typed.specs.Classes.{ClassEntry, is_class_under, lists_what_is_above}
-use Rattle.py_typed.specs.Fits.{same, fits, join}
+use Rattle.py_typed.specs.Classes.{ClassEntry, is_class_under}
+use Rattle.py_typed.specs.Fits.{fits, join}
 use Rattle.py_typed.specs.TypeTexts.{type_text}
 use Rattle.py_typed.specs.Order.{order}
 
-abbrev class_over : List ℕ → List ℕ → List ℕ → ClassEntry
-class_over name bases above = record { name = name; is_trait = true; bases = bases; above = above; attributes = []; methods = [] }
+abbrev class_over : List ℕ → List ℕ → ClassEntry
+class_over name bases = record { name = name; is_trait = true; bases = bases; attributes = []; methods = [] }
 
 -- A; B(A); C(A); D(B, C); E(C, B); F(D, E), of which the last has no order
 abbrev diamond : List ClassEntry
 diamond =
-    class_over (codes "A") [] [] ∷ class_over (codes "B") (0 ∷ []) (0 ∷ []) ∷ class_over (codes "C") (0 ∷ []) (0 ∷ []) ∷ class_over (codes "D") (1 ∷ 2 ∷ []) (1 ∷ 2 ∷ 0 ∷ [])
-    ∷ class_over (codes "E") (2 ∷ 1 ∷ []) (2 ∷ 1 ∷ 0 ∷ []) ∷ class_over (codes "F") (3 ∷ 4 ∷ []) (3 ∷ 4 ∷ 1 ∷ 2 ∷ 0 ∷ []) ∷ []
+    class_over (codes "A") [] ∷ class_over (codes "B") (0 ∷ []) ∷ class_over (codes "C") (0 ∷ []) ∷ class_over (codes "D") (1 ∷ 2 ∷ [])
+    ∷ class_over (codes "E") (2 ∷ 1 ∷ []) ∷ class_over (codes "F") (3 ∷ 4 ∷ []) ∷ []
 
--- A; B(A); C(B), which leaves out A
-abbrev badly_listed : List ClassEntry
-badly_listed = class_over (codes "A") [] [] ∷ class_over (codes "B") (0 ∷ []) (0 ∷ []) ∷ class_over (codes "C") (1 ∷ []) (1 ∷ []) ∷ []
+-- A, whose base is behind it; B(A); C(B)
+abbrev base_behind : List ClassEntry
+base_behind = class_over (codes "A") (2 ∷ []) ∷ class_over (codes "B") (0 ∷ []) ∷ class_over (codes "C") (1 ∷ []) ∷ []
 
 order_of_d : order diamond 3 ≡ Some (3 ∷ 1 ∷ 2 ∷ 0 ∷ [])
 order_of_d = refl
@@ -30,7 +30,7 @@ no_order_of_f : order diamond 5 ≡ None
 no_order_of_f = refl
 
 -- a class before its own base cannot stand
-base_first : order (class_over (codes "A") [] [] ∷ class_over (codes "B") (0 ∷ []) (0 ∷ []) ∷ class_over (codes "C") (0 ∷ 1 ∷ []) (0 ∷ 1 ∷ []) ∷ []) 2 ≡ None
+base_first : order (class_over (codes "A") [] ∷ class_over (codes "B") (0 ∷ []) ∷ class_over (codes "C") (0 ∷ 1 ∷ []) ∷ []) 2 ≡ None
 base_first = refl
 
 under : is_class_under diamond 5 0 ≡ true
@@ -39,16 +39,9 @@ under = refl
 not_under : is_class_under diamond 1 2 ≡ false
 not_under = refl
 
--- F lists all that is above it; a class that leaves out what its base lists does not
-listed : lists_what_is_above diamond 5 ≡ true
-listed = refl
-
-one_left_out : lists_what_is_above badly_listed 2 ≡ false
-one_left_out = refl
-
--- where classes do not list what is above them, what stands under another need not stand under what that one does
-under_and_under : (same badly_listed (Instance 2) (Instance 1) ≡ true) × (same badly_listed (Instance 1) (Instance 0) ≡ true) × (same badly_listed (Instance 2) (Instance 0) ≡ false)
-under_and_under = (refl, refl, refl)
+-- a base that stands behind its class counts as none
+none_behind : (is_class_under base_behind 0 2 ≡ false) × (is_class_under base_behind 2 0 ≡ true) × (is_class_under base_behind 0 0 ≡ true)
+none_behind = (refl, refl, refl)
 
 bool_fits_int : fits [] BoolSort Int ≡ true
 bool_fits_int = refl

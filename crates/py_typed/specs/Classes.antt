@@ -1,10 +1,9 @@
 -- Classes and signatures as plain data, what declared ones stand for, and which class stands under which.
-use Rattle.std.specs.Prelude.{ℕ, Bool, ◌==◌, ◌||◌, ◌&&◌, if◌then◌else◌, List, [], ◌∷◌, ◌++◌, map, Option, Some, None, slice_get}
-use Rattle.std.specs.List.{list_any, list_all, flat_map}
+use Rattle.std.specs.Prelude.{ℕ, zero, suc, Bool, ◌==◌, ◌||◌, ◌&&◌, nat_lt, List, [], map, Option, Some, None, slice_get}
+use Rattle.std.specs.List.{list_any, list_all}
 use Rattle.py_typed.specs.declared.types.Ty.{Ty}
 use Rattle.py_typed.specs.declared.classes.Sig.{Sig}
 use Rattle.py_typed.specs.declared.classes.ClassInfo.{ClassInfo}
-use Rattle.py_typed.specs.declared.classes.Classes.{Classes}
 use Rattle.py_typed.specs.Sorts.{Sort, sort}
 
 -- what a function takes and gives, and a method without its first parameter
@@ -12,13 +11,12 @@ pub record Signature : Type 0 where
   pub params : List Sort
   pub ret : Sort
 
--- a class: its bases by number, all classes above it, the attributes that it declares itself, and its own methods, each with
--- its place among the functions and their signatures
+-- a class: its bases by number, the attributes that it declares itself, and its own methods, each with its place among the
+-- functions and their signatures
 pub record ClassEntry : Type 0 where
   pub name : List ℕ
   pub is_trait : Bool
   pub bases : List ℕ
-  pub above : List ℕ
   pub attributes : List (List ℕ × Sort)
   pub methods : List (List ℕ × ℕ)
 
@@ -34,11 +32,7 @@ abbrev pub with_sort : List ℕ × Ty → List ℕ × Sort
 with_sort p = (p.0, sort p.1)
 
 abbrev pub class_entry : ClassInfo → ClassEntry
-class_entry c = record { name = c.name; is_trait = c.is_trait; bases = c.bases; above = c.above; attributes = map with_sort c.attrs; methods = c.methods }
-
--- what declared classes stand for
-abbrev pub class_table : Classes → ClassTable
-class_table t = record { classes = map class_entry t.list; signatures = map signature t.sigs }
+class_entry c = record { name = c.name; is_trait = c.is_trait; bases = c.bases; attributes = map with_sort c.attrs; methods = c.methods }
 
 -- the bases of the class of a number: none where there is no such class
 abbrev pub bases_in : Option ClassEntry → List ℕ
@@ -48,41 +42,25 @@ bases_in (Some c) = c.bases
 abbrev pub bases_of : List ClassEntry → ℕ → List ℕ
 bases_of classes c = bases_in (slice_get classes c)
 
--- the classes above the class of a number, as it lists them: none where there is no such class
-abbrev pub above_in : Option ClassEntry → List ℕ
-above_in None = []
-above_in (Some c) = c.above
-
-abbrev pub above_of : List ClassEntry → ℕ → List ℕ
-above_of classes c = above_in (slice_get classes c)
-
 abbrev pub has_class : ℕ → List ℕ → Bool
 has_class c row = list_any (λ d. d == c) row
 
--- the class c stands under the class d: it is d, or d stands above it
-abbrev pub is_class_under : List ClassEntry → ℕ → ℕ → Bool
-is_class_under classes c d = (c == d) || has_class d (above_of classes c)
+module _ (classes : List ClassEntry) where
+  -- from the class c the class d is reached by at most n steps, each from a class to a base of it. A base stands earlier in the
+  -- text, so it has a smaller number than its class: one that has not counts as none
+  abbrev pub reaches : ℕ → ℕ → ℕ → Bool
+  reaches zero c d = c == d
+  reaches (suc n) c d = (c == d) || list_any (λ b. nat_lt b c && reaches n b d) (bases_of classes c)
 
--- each class of the first row is in the second
-abbrev pub has_all : List ℕ → List ℕ → Bool
-has_all row others = list_all (λ c. has_class c others) row
+  -- the class c stands under the class d: it is d, or a base of it stands under d. As numbers fall with each step, there are at
+  -- most c of them
+  abbrev pub is_class_under : ℕ → ℕ → Bool
+  is_class_under c d = reaches c c d
 
-abbrev pub has_the_same : List ℕ → List ℕ → Bool
-has_the_same row others = has_all row others && has_all others row
+  -- a base of the class c stands under the class d
+  abbrev pub is_above : ℕ → ℕ → Bool
+  is_above c d = list_any (λ b. nat_lt b c && is_class_under b d) (bases_of classes c)
 
--- bases, and what they list as above them
-abbrev pub bases_and_above : List ClassEntry → List ℕ → List ℕ
-bases_and_above classes bases = bases ++ flat_map (above_of classes) bases
-
--- a class lists as above it its bases and what they list, and nothing else
-abbrev pub lists_what_is_above : List ClassEntry → ℕ → Bool
-lists_what_is_above classes c = has_the_same (above_of classes c) (bases_and_above classes (bases_of classes c))
-
--- a row, and behind it what is new of another one
-abbrev pub with_classes : List ℕ → List ℕ → List ℕ
-with_classes row [] = row
-with_classes row (c ∷ more) = with_classes (if has_class c row then row else row ++ c ∷ []) more
-
--- what a class with these bases has to list, each class once
-abbrev pub those_above : List ClassEntry → List ℕ → List ℕ
-those_above classes bases = with_classes [] (bases_and_above classes bases)
+  -- the bases of a class have smaller numbers
+  abbrev pub bases_fall : ℕ → Bool
+  bases_fall c = list_all (λ b. nat_lt b c) (bases_of classes c)

@@ -1,8 +1,8 @@
 -- What holds of what fits, of joins and of trees of classes.
-use Rattle.std.specs.Prelude.{◌≡◌, true, ◌==◌, ◌||◌, nat_lt, ℕ, List, Some}
-use Rattle.std.specs.List.{list_any, list_all}
+use Rattle.std.specs.Prelude.{◌≡◌, true, ◌==◌, ◌||◌, ℕ, List, Some}
+use Rattle.std.specs.List.{list_any}
 use Rattle.py_typed.specs.Sorts.{Sort}
-use Rattle.py_typed.specs.Classes.{ClassEntry, bases_of, has_the_same, is_class_under, bases_and_above, lists_what_is_above, those_above}
+use Rattle.py_typed.specs.Classes.{ClassEntry, bases_of, bases_fall, is_class_under}
 use Rattle.py_typed.specs.Fits.{same, fits, join}
 
 -- each type fits itself, and what is of a type as it stands fits it
@@ -16,19 +16,14 @@ SameFits = (classes : List ClassEntry) (s t : Sort) → same classes s t ≡ tru
 abbrev pub JoinHoldsBoth : Type 0
 JoinHoldsBoth = (classes : List ClassEntry) (s t u : Sort) → join classes s t ≡ Some u → (fits classes s u ≡ true) × (fits classes t u ≡ true)
 
--- a class that lists what is above it stands under another exactly where it is that one, or one of its bases stands under it
+-- a class whose bases have smaller numbers stands under another exactly where it is that one, or one of its bases stands under it
 abbrev pub UnderByBases : Type 0
-UnderByBases = (classes : List ClassEntry) (c d : ℕ) → lists_what_is_above classes c ≡ true
+UnderByBases = (classes : List ClassEntry) (c d : ℕ) → bases_fall classes c ≡ true
     → is_class_under classes c d ≡ ((c == d) || list_any (λ b. is_class_under classes b d) (bases_of classes c))
 
--- what is made for a class with some bases is what it has to list
-abbrev pub AboveIsMade : Type 0
-AboveIsMade = (classes : List ClassEntry) (bases : List ℕ) → has_the_same (those_above classes bases) (bases_and_above classes bases) ≡ true
-
--- a tree of classes: each base has a smaller number than its class, and each class lists what is above it
+-- a tree of classes: the number of a base is below its class's
 pub record IsClassTree (classes : List ClassEntry) : Type 0 where
-  pub falls : (c : ℕ) → list_all (λ b. nat_lt b c) (bases_of classes c) ≡ true
-  pub lists : (c : ℕ) → lists_what_is_above classes c ≡ true
+  pub falls : (c : ℕ) → bases_fall classes c ≡ true
 
 -- then what is of a type as it stands is also of what that type is of, and what fits a type fits also what that type fits
 abbrev pub SameGoesOn : Type 0

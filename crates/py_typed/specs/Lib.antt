@@ -1,5 +1,7 @@
 pub mod Sorts
 pub mod Classes
+pub mod ClassTables
+pub mod Above
 pub mod Fits
 pub mod TypeTexts
 pub mod Expressions

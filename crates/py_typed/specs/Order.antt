@@ -80,7 +80,7 @@ with_new row (p ∷ more) = with_new (if is_named_in row p.0 then row else row +
 module _ (classes : List ClassEntry) where
   -- ---- orders
 
-  -- a class, then the merge of its bases' orders and the row of its bases. A base has a smaller number than its class, so at most
+  -- a class, then the merge of its bases' orders and the row of its bases. The number of a base is below its class's, so at most
   -- as many levels as that number stand above it
   abbrev pub order_by : ℕ → ℕ → Option (List ℕ)
   order_by zero c = Some (c ∷ [])

@@ -14,7 +14,8 @@ use Rattle.py_typed.specs.declared.checked.Var.{Var}
 use Rattle.py_typed.specs.declared.checked.TFunc.{TFunc}
 use Rattle.py_typed.specs.declared.checked.Checked.{Checked}
 use Rattle.py_typed.specs.Sorts.{Sort, sort}
-use Rattle.py_typed.specs.Classes.{ClassTable, class_table}
+use Rattle.py_typed.specs.Classes.{ClassTable}
+use Rattle.py_typed.specs.ClassTables.{class_table}
 use Rattle.py_typed.specs.Expressions.{TypedExpr, typed_expr}
 
 -- what is assigned to

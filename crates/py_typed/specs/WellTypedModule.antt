@@ -4,7 +4,7 @@ use Rattle.std.specs.Prelude.{ℕ, suc, Bool, true, false, not, ◌==◌, ◌&&�
 use Rattle.std.specs.List.{list_any, list_all, flat_map}
 use Rattle.std.specs.Str.{bytes_eq}
 use Rattle.py_typed.specs.Sorts.{Sort, Instance, sorts_of}
-use Rattle.py_typed.specs.Classes.{ClassEntry, Signature, lists_what_is_above}
+use Rattle.py_typed.specs.Classes.{ClassEntry, Signature}
 use Rattle.py_typed.specs.Fits.{is_same_type, are_same_types, is_nothing}
 use Rattle.py_typed.specs.Order.{order, listed_order, own_method, own_attribute}
 use Rattle.py_typed.specs.Statements.{Variable, TypedFunc, TypedModule}
@@ -161,7 +161,7 @@ module _ (is_identifier : List ℕ → Bool) (m : TypedModule) where
 
   abbrev pub class_typed : ℕ → ClassEntry → Bool
   class_typed c entry =
-      is_identifier entry.name && list_all (λ b. nat_lt b c) entry.bases && differing entry.bases && lists_what_is_above classes c && bases_typed entry
+      is_identifier entry.name && list_all (λ b. nat_lt b c) entry.bases && differing entry.bases && bases_typed entry
       && list_all is_identifier (names_of entry.attributes ++ names_of entry.methods) && all_differ (names_of entry.attributes ++ names_of entry.methods)
       && list_all (is_value_type (length classes)) (map (λ p. p.1) entry.attributes) && list_all (method_typed c) entry.methods
       && has_order (order classes c) && list_all (members_agree (listed_order (order classes c))) (listed_order (order classes c))

@@ -1,4 +1,5 @@
 //! Classes and signatures.
+use crate::class_list::ClassList;
 use crate::types::Ty;
 use value_core::{Many, Name};
 
@@ -9,14 +10,13 @@ pub struct Sig {
     pub ret: Ty,
 }
 
-/// A class: its bases by their numbers, all classes above it (its bases and those above them), the attributes that it
-/// declares itself, and its own methods by the numbers of their functions.
+/// A class: its bases by their numbers, the attributes that it declares itself, and its own methods by the numbers of their
+/// functions.
 #[derive(Drop)]
 pub struct ClassInfo {
     pub name: Name,
     pub is_trait: bool,
     pub bases: Many<usize>,
-    pub above: Many<usize>,
     pub attrs: Many<(Name, Ty)>,
     pub methods: Many<(Name, usize)>,
 }
@@ -24,6 +24,6 @@ pub struct ClassInfo {
 /// The classes by their numbers, and the signatures of functions by theirs.
 #[derive(Drop)]
 pub struct Classes {
-    pub list: Many<ClassInfo>,
+    pub list: ClassList,
     pub sigs: Many<Sig>,
 }

@@ -1,30 +1,29 @@
 //! When a value of one type stands where another is asked for, and the type of a choice.
 ghost use Rattle.std.specs.Prelude.{◌≡◌, map, IfOk};
-ghost use Rattle.std.specs.List.{flat_map};
 ghost use Rattle.std.specs.Option.{option_map};
 ghost use Rattle.py_typed.specs.Sorts.{sort, sorts_of};
 ghost use Rattle.py_typed.specs.Classes.{class_entry};
-ghost use Rattle.py_typed.specs.Classes as class;
 ghost use Rattle.py_typed.specs.Fits as fit;
 
-use crate::classes::{ClassInfo, Classes};
+use crate::class_list::ClassList;
+use crate::classes::Classes;
 use crate::copies::copy_of;
 use crate::types::Ty;
 use std::alloc::Global;
-use value_core::{Many, Memory, is_under};
+use value_core::{Memory, is_under};
 
 /// Whether a value of the first type stands where the second is asked for, changed if need be.
 pub fn fits(s: &Ty, t: &Ty, classes: &Classes) -> bool
     ensures { result ≡ fit.fits (map class_entry classes.now.list) (sort s.now) (sort t.now) }
 {
-    takes(t, s, classes.list.as_slice())
+    takes(t, s, &classes.list)
 }
 
 /// The type of a choice between two, if there is one.
 pub fn join(alloc: Global, s: &Ty, t: &Ty, classes: &Classes) -> Result<Option<Ty>, Memory>
     ensures { IfOk result (λ j. option_map sort j ≡ fit.join (map class_entry classes.now.list) (sort s.now) (sort t.now)) }
 {
-    let list = classes.list.as_slice();
+    let list = &classes.list;
     let joined = if is_same_type(s, t) {
         copy_of(alloc, s)?
     } else if is_number(s) && is_number(t) {
@@ -47,7 +46,7 @@ pub fn join(alloc: Global, s: &Ty, t: &Ty, classes: &Classes) -> Result<Option<T
 pub fn same(s: &Ty, t: &Ty, classes: &Classes) -> bool
     ensures { result ≡ fit.same (map class_entry classes.now.list) (sort s.now) (sort t.now) }
 {
-    is_also(t, s, classes.list.as_slice())
+    is_also(t, s, &classes.list)
 }
 
 /// Whether two types are one.
@@ -89,7 +88,7 @@ fn are_same_types(ss: &[Ty], ts: &[Ty]) -> bool
 
 // Whether a value of the second type is one of the first as it stands: the recursion goes down the first.
 #[cycle(also)]
-fn is_also(t: &Ty, s: &Ty, classes: &[ClassInfo]) -> bool
+fn is_also(t: &Ty, s: &Ty, classes: &ClassList) -> bool
     ensures { result ≡ fit.same (map class_entry classes.now) (sort s.now) (sort t.now) }
 {
     match (t, s) {
@@ -97,7 +96,7 @@ fn is_also(t: &Ty, s: &Ty, classes: &[ClassInfo]) -> bool
         (Ty::Optional(t), Ty::Optional(s)) => is_also(t, s, classes),
         (Ty::Optional(t), _) => is_also(t, s, classes),
         (Ty::Tuple(ts), Ty::Tuple(ss)) => are_also(ts.as_slice(), ss.as_slice(), classes),
-        (Ty::Class(d), Ty::Class(c)) => is_class_under(classes, *c, *d),
+        (Ty::Class(d), Ty::Class(c)) => classes.is_under(*c, *d),
         (Ty::Exc(d), Ty::Exc(c)) => is_under(*c, *d),
         _ => is_same_type(s, t),
     }
@@ -105,7 +104,7 @@ fn is_also(t: &Ty, s: &Ty, classes: &[ClassInfo]) -> bool
 
 #[cycle(also)]
 #[tactic(auto, using(crate::proofs::TypeLemmas::also_at_end))]
-fn are_also(ts: &[Ty], ss: &[Ty], classes: &[ClassInfo]) -> bool
+fn are_also(ts: &[Ty], ss: &[Ty], classes: &ClassList) -> bool
     ensures { result ≡ fit.all_same (map class_entry classes.now) (sorts_of (map sort ss.now)) (sorts_of (map sort ts.now)) }
 {
     for (i, t) in ts.iter().enumerate() {
@@ -120,7 +119,7 @@ fn are_also(ts: &[Ty], ss: &[Ty], classes: &[ClassInfo]) -> bool
 }
 
 // Whether a value of the second type stands where the first is asked for.
-fn takes(t: &Ty, s: &Ty, classes: &[ClassInfo]) -> bool
+fn takes(t: &Ty, s: &Ty, classes: &ClassList) -> bool
     ensures { result ≡ fit.fits (map class_entry classes.now) (sort s.now) (sort t.now) }
 {
     match (t, s) {
@@ -131,69 +130,6 @@ fn takes(t: &Ty, s: &Ty, classes: &[ClassInfo]) -> bool
         (Ty::Optional(t), _) => takes(t, s, classes),
         _ => is_also(t, s, classes),
     }
-}
-
-// Whether the class c stands under the class d.
-fn is_class_under(classes: &[ClassInfo], c: usize, d: usize) -> bool
-    ensures { result ≡ class.is_class_under (map class_entry classes.now) c d }
-{
-    c == d || has_class(d, above_of(classes, c))
-}
-
-// Whether a class is in a row.
-fn has_class(c: usize, row: &[usize]) -> bool
-    ensures { result ≡ class.has_class c row.now }
-{
-    for d in row {
-        if *d == c {
-            return true;
-        }
-    }
-    false
-}
-
-// The classes above the class of a number, as it lists them.
-#[tactic(auto, using(crate::proofs::TypeLemmas::entry_found))]
-fn above_of(classes: &[ClassInfo], c: usize) -> &[usize]
-    ensures { result.now ≡ class.above_of (map class_entry classes.now) c }
-{
-    match classes.get(c) {
-        Some(info) => info.above.as_slice(),
-        None => &[],
-    }
-}
-
-/// What stands above a class with these bases: they, and all that stands above them, each once.
-#[tactic(auto, using(crate::proofs::ClassLemmas::with_rows))]
-pub fn above(alloc: Global, bases: &[usize], classes: &[ClassInfo]) -> Result<Many<usize>, Memory>
-    ensures { IfOk result (λ all. all ≡ class.those_above (map class_entry classes.now) bases.now) }
-{
-    let mut all = Many::new(alloc);
-    add_new(&mut all, bases)?;
-    add_above(&mut all, bases, classes)?;
-    Ok(all)
-}
-
-// Puts what is new of a row behind another.
-fn add_new(all: &mut Many<usize>, row: &[usize]) -> Result<(), Memory>
-    ensures { IfOk result (λ done. all.new ≡ class.with_classes all.old row.now) }
-{
-    for c in row {
-        if !has_class(*c, all.as_slice()) {
-            all.push(*c)?;
-        }
-    }
-    Ok(())
-}
-
-// The same with what stands above some bases.
-fn add_above(all: &mut Many<usize>, bases: &[usize], classes: &[ClassInfo]) -> Result<(), Memory>
-    ensures { IfOk result (λ done. all.new ≡ class.with_classes all.old (flat_map (class.above_of (map class_entry classes.now)) bases.now)) }
-{
-    for base in bases {
-        add_new(all, above_of(classes, *base))?;
-    }
-    Ok(())
 }
 
 /// Whether a type is one of numbers: int, i64 or bool.

@@ -1,5 +1,5 @@
 //! The laws of the definitions. Each function is its clause, and does nothing when it runs.
-ghost use Rattle.py_typed.specs.Laws.{FitsItself, SameFits, UnderByBases, AboveIsMade, SameGoesOn, FitsGoesOn, JoinHoldsBoth, JoinIsSymmetric};
+ghost use Rattle.py_typed.specs.Laws.{FitsItself, SameFits, UnderByBases, SameGoesOn, FitsGoesOn, JoinHoldsBoth, JoinIsSymmetric};
 
 /// Each type fits itself.
 pub fn fits_itself()
@@ -11,14 +11,10 @@ pub fn same_fits()
     ensures { SameFits }
 {}
 
-/// A class that lists what is above it stands under another exactly where it is that one, or one of its bases stands under it.
+/// A class whose bases have smaller numbers stands under another exactly where it is that one, or one of its bases stands
+/// under it.
 pub fn under_by_bases()
     ensures { UnderByBases }
-{}
-
-/// What `above` makes for a class with some bases is what the class has to list.
-pub fn above_is_made()
-    ensures { AboveIsMade }
 {}
 
 /// In a tree of classes: what is of a type as it stands is also of what that type is of.

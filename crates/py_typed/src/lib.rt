@@ -11,6 +11,7 @@
 #![tactic(auto)]
 
 mod checked;
+mod class_list;
 mod classes;
 mod copies;
 mod expression;
@@ -20,15 +21,14 @@ mod statement;
 mod types;
 
 pub use checked::{Checked, TFunc, Var};
+pub use class_list::ClassList;
 pub use classes::{ClassInfo, Classes, Sig};
 pub use copies::{copy_of, type_text};
 pub use expression::{TExpr, TKind};
-pub use fitting::{
-    above, fits, is_nothing, is_number, is_same_type, join, number_join, optional, same,
-};
+pub use fitting::{fits, is_nothing, is_number, is_same_type, join, number_join, optional, same};
 pub use laws::{
-    above_is_made, fits_goes_on, fits_itself, join_holds_both, join_is_symmetric, same_fits,
-    same_goes_on, under_by_bases,
+    fits_goes_on, fits_itself, join_holds_both, join_is_symmetric, same_fits, same_goes_on,
+    under_by_bases,
 };
 pub use statement::{THandler, TStmt, TStmtKind, Target};
 pub use types::Ty;

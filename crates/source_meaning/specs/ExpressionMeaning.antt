@@ -39,7 +39,7 @@ read_global globals i =
 -- ---- instances
 
 module _ (classes : List ClassEntry) where
-  -- an attribute that is unset is reported with the class of the object
+  -- an unset attribute is told with the object's own class
   abbrev pub unset_attribute : ℕ → List ℕ → Does Value
   unset_attribute c name = raise_new AttributeError (codes "attribute '" ++ name ++ codes "' of '" ++ name_in (slice_get classes c) ++ codes "' undefined")
 

@@ -5,10 +5,10 @@ use Rattle.std.specs.List.{list_any, list_all, flat_map}
 use Rattle.std.specs.Option.{option_map, option_and_then}
 use Rattle.std.proofs.lemmas.Bool.{eq-eqb, eqb-true}
 use Rattle.std.proofs.lemmas.Option.{same_Some}
-use Rattle.py_typed.specs.Classes.{ClassEntry, bases_of, above_of, has_class, is_class_under}
+use Rattle.py_typed.specs.Classes.{ClassEntry, bases_of, has_class, is_class_under}
 use Rattle.py_typed.specs.Order.{all_there, is_free, headless, heads, merge_by, merge, order_by}
 use Rattle.py_typed.specs.Laws.{IsClassTree}
-use Rattle.py_typed.proofs.FitLemmas.{and_left, and_right}
+use Rattle.py_typed.proofs.FitLemmas.{and_left, and_right, class_under_itself}
 use Rattle.py_typed.proofs.ClassLemmas.{under_by_bases, or_cases, or_left, or_right}
 
 -- a class in one of the rows
@@ -300,7 +300,7 @@ orders classes l c row h = by (all_there (map (order_by classes l) (bases_of cla
 
 module _ (classes : List ClassEntry) (tree : IsClassTree classes) where
   under_itself : (c : ℕ) → is_class_under classes c c ≡ true
-  under_itself c = or_left (c == c) (has_class c (above_of classes c)) (eq-eqb c c refl)
+  under_itself c = class_under_itself classes c
 
   any_of : (d b : ℕ) (bs : List ℕ) → has_class b bs ≡ true → is_class_under classes b d ≡ true → list_any (λ x. is_class_under classes x d) bs ≡ true
   any_of d b [] h u = absurd (cc)
@@ -312,7 +312,7 @@ module _ (classes : List ClassEntry) (tree : IsClassTree classes) where
 
   -- what a base stands under its class does too
   pub by_base : (c b d : ℕ) → has_class b (bases_of classes c) ≡ true → is_class_under classes b d ≡ true → is_class_under classes c d ≡ true
-  by_base c b d h u = under_by_bases classes c d (tree.lists c) ∙ or_right (c == d) (list_any (λ b. is_class_under classes b d) (bases_of classes c)) (any_of d b (bases_of classes c) h u)
+  by_base c b d h u = under_by_bases classes c d (tree.falls c) ∙ or_right (c == d) (list_any (λ b. is_class_under classes b d) (bases_of classes c)) (any_of d b (bases_of classes c) h u)
 
   -- all of an order are above its class
   pub order_under : (l c : ℕ) (row : List ℕ) (x : ℕ) → order_by classes l c ≡ Some row → has_class x row ≡ true → is_class_under classes c x ≡ true
@@ -336,7 +336,7 @@ module _ (classes : List ClassEntry) (tree : IsClassTree classes) where
 
   -- and all above the class are in its order
   pub order_has : (l c : ℕ) (row : List ℕ) (x : ℕ) → c ≤ l → order_by classes l c ≡ Some row → is_class_under classes c x ≡ true → has_class x row ≡ true
-  order_has zero c row x le e u = ap (has_class x) (some_is (c ∷ []) row e) ∙ by (or_cases (c == x) (list_any (λ b. is_class_under classes b x) (bases_of classes c)) (sym (under_by_bases classes c x (tree.lists c)) ∙ u))
+  order_has zero c row x le e u = ap (has_class x) (some_is (c ∷ []) row e) ∙ by (or_cases (c == x) (list_any (λ b. is_class_under classes b x) (bases_of classes c)) (sym (under_by_bases classes c x (tree.falls c)) ∙ u))
     where
       no_base : (bs : List ℕ) → list_all (λ b. nat_lt b c) bs ≡ true → list_any (λ b. is_class_under classes b x) bs ≡ true → ⊥
       no_base [] f k = cc
@@ -364,7 +364,7 @@ module _ (classes : List ClassEntry) (tree : IsClassTree classes) where
           pick (inr q) r = r q (and_right (nat_lt d c) (list_all (λ b. nat_lt b c) bs) f)
 
       by : Orders classes l c row → ((b : ℕ) (r : List ℕ) → b ≤ l → order_by classes l b ≡ Some r → is_class_under classes b x ≡ true → has_class x r ≡ true) → has_class x row ≡ true
-      by (ordered rows more q r s) rec = ap (has_class x) s ∙ either (or_cases (c == x) (list_any (λ b. is_class_under classes b x) (bases_of classes c)) (sym (under_by_bases classes c x (tree.lists c)) ∙ u))
+      by (ordered rows more q r s) rec = ap (has_class x) s ∙ either (or_cases (c == x) (list_any (λ b. is_class_under classes b x) (bases_of classes c)) (sym (under_by_bases classes c x (tree.falls c)) ∙ u))
         where
           either : ((c == x) ≡ true) ⊎ (list_any (λ b. is_class_under classes b x) (bases_of classes c) ≡ true) → ((c == x) || has_class x more) ≡ true
           either (inl k) = or_left (c == x) (has_class x more) k

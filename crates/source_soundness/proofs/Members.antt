@@ -8,7 +8,7 @@ use Rattle.std.specs.Option.{option_map, option_and_then, option_or}
 use Rattle.std.specs.Str.{bytes_eq, is_utf8}
 use Rattle.std.proofs.lemmas.Bool.{eq-eqb, eqb-true}
 use Rattle.py_typed.specs.Sorts.{Sort, sorts_of}
-use Rattle.py_typed.specs.Classes.{ClassEntry, Signature, bases_of, above_of, has_class, is_class_under, lists_what_is_above, bases_in}
+use Rattle.py_typed.specs.Classes.{ClassEntry, Signature, bases_of, has_class, is_class_under, is_above, bases_in}
 use Rattle.py_typed.specs.Fits.{is_same_type}
 use Rattle.py_typed.specs.Order.{first_there, named, place_in, own_attributes, is_named_in, with_new, order, listed_order, own_method, own_attribute, method_along, method_of, attribute_of, attributes_by, attributes}
 use Rattle.py_typed.specs.Laws.{IsClassTree}
@@ -18,8 +18,8 @@ use Rattle.source_meaning.specs.ExpressionMeaning.{name_at}
 use Rattle.py_typed.specs.WellTyped.{suite_typed, all_differ, has_statement}
 use Rattle.py_typed.specs.WellTypedExpr.{is_value_type, is_result_type, init_class, is_same_place}
 use Rattle.py_typed.specs.WellTypedModule.{all_at, types_in, names_of, has_self, signature_fits, same_row, ends_well, init_gives_nothing, is_init_of_trait, variables_typed, func_typed, method_typed, is_listed, bases_typed, differing, has_order, same_signature, agrees_with_method, agrees_with_attribute, methods_agree, attributes_agree, members_agree, class_typed, is_well_typed}
-use Rattle.py_typed.proofs.FitLemmas.{and_left, and_right, one_type}
-use Rattle.py_typed.proofs.ClassLemmas.{or_cases, under_on, under_by_bases, or_left, or_right}
+use Rattle.py_typed.proofs.FitLemmas.{and_left, and_right, one_type, class_under_itself}
+use Rattle.py_typed.proofs.ClassLemmas.{or_cases, under_on, by_falling, under_by_bases, or_left, or_right}
 use Rattle.source_soundness.proofs.Facts.{Facts, Signed, MethodOf, AttributeOf, two, three, one_row}
 use Rattle.source_soundness.proofs.TextLemmas.{ascii_text}
 use Rattle.source_soundness.proofs.Fine.{NamesAre}
@@ -115,7 +115,6 @@ module _ (is_identifier : List ℕ → Bool) (m : TypedModule) (w : is_well_type
     pub name : is_identifier e.name ≡ true
     pub names : list_all is_identifier (names_of e.attributes ++ names_of e.methods) ≡ true
     pub falls : list_all (λ b. nat_lt b c) e.bases ≡ true
-    pub lists : lists_what_is_above C c ≡ true
     pub bases : bases_typed is_identifier m e ≡ true
     pub methods : list_all (method_typed is_identifier m c) e.methods ≡ true
     pub has : has_order is_identifier m (order C c) ≡ true
@@ -130,10 +129,9 @@ module _ (is_identifier : List ℕ → Bool) (m : TypedModule) (w : is_well_type
       let g = two _ (all_differ (names_of e.attributes ++ names_of e.methods)) f.0 in
       let i = two _ (list_all is_identifier (names_of e.attributes ++ names_of e.methods)) g.0 in
       let j = two _ (bases_typed is_identifier m e) i.0 in
-      let k = two _ (lists_what_is_above C c) j.0 in
-      let l = two _ (differing is_identifier m e.bases) k.0 in
+      let l = two _ (differing is_identifier m e.bases) j.0 in
       let n = two _ (list_all (λ b. nat_lt b c) e.bases) l.0 in
-      record { name = n.0; names = i.1; falls = n.1; lists = k.1; bases = j.1; methods = d.1; has = b.1; agree = a.1 }
+      record { name = n.0; names = i.1; falls = n.1; bases = j.1; methods = d.1; has = b.1; agree = a.1 }
 
   -- ---- the tree of classes
 
@@ -141,12 +139,8 @@ module _ (is_identifier : List ℕ → Bool) (m : TypedModule) (w : is_well_type
   falls_at c None q = refl
   falls_at c (Some e) q = (class_parts c e q).falls
 
-  lists_at : (c : ℕ) (o : Option ClassEntry) → slice_get C c ≡ o → lists_what_is_above C c ≡ true
-  lists_at c None q = rw (q, lists_what_is_above, above_of, bases_of) refl
-  lists_at c (Some e) q = (class_parts c e q).lists
-
   pub tree_is : IsClassTree C
-  tree_is = record { falls = λ c. falls_at c (slice_get C c) refl; lists = λ c. lists_at c (slice_get C c) refl }
+  tree_is = record { falls = λ c. falls_at c (slice_get C c) refl }
 
   -- ---- functions
 
@@ -219,11 +213,11 @@ module _ (is_identifier : List ℕ → Bool) (m : TypedModule) (w : is_well_type
   order_there b d e h u = by (slice_get C b) refl
     where
       alone : slice_get C b ≡ None → (b == d) ≡ true
-      alone q = either (or_cases (b == d) (has_class d (above_of C b)) u)
+      alone q = either (or_cases (b == d) (is_above C b d) (sym (by_falling C b d) ∙ u))
         where
-          either : ((b == d) ≡ true) ⊎ (has_class d (above_of C b) ≡ true) → (b == d) ≡ true
+          either : ((b == d) ≡ true) ⊎ (is_above C b d ≡ true) → (b == d) ≡ true
           either (inl k) = k
-          either (inr k) = absurd (cc (rw (q, above_of) at k))
+          either (inr k) = absurd (cc (rw (q, is_above, bases_of) at k))
 
       by : (o : Option ClassEntry) → slice_get C b ≡ o → (x : ClassEntry) × (slice_get C b ≡ Some x)
       by None q = absurd (cc (sym q ∙ ap (slice_get C) (eqb-true b d (alone q)) ∙ h))
@@ -394,7 +388,7 @@ module _ (classes : List ClassEntry) (tree : IsClassTree classes) where
 
   -- the attributes of a class have each name that a class above it has
   attributes_named : (l b d : ℕ) (name : List ℕ) (t : Sort) → b ≤ l → is_class_under classes b d ≡ true → own_attribute classes name d ≡ Some t → is_named_in (attributes_by classes l b) name ≡ true
-  attributes_named zero b d name t le u h = by (or_cases (b == d) (list_any (λ x. is_class_under classes x d) (bases_of classes b)) (sym (under_by_bases classes b d (tree.lists b)) ∙ u))
+  attributes_named zero b d name t le u h = by (or_cases (b == d) (list_any (λ x. is_class_under classes x d) (bases_of classes b)) (sym (under_by_bases classes b d (tree.falls b)) ∙ u))
     where
       by : ((b == d) ≡ true) ⊎ (list_any (λ x. is_class_under classes x d) (bases_of classes b) ≡ true) → is_named_in (with_new [] (own_attributes (slice_get classes b))) name ≡ true
       by (inl q) = new_named [] (own_attributes (slice_get classes b)) name (inr (own_named (slice_get classes b) name t (ap (own_attribute classes name) (eqb-true b d q) ∙ h)))
@@ -402,7 +396,7 @@ module _ (classes : List ClassEntry) (tree : IsClassTree classes) where
           let r : _ = base_under classes d (bases_of classes b) q in
           let less = below_class b r.0 (bases_of classes b) r.1 (tree.falls b) in
           absurd (grind (arith, nat_tests, less, le))
-  attributes_named (suc l) b d name t le u h = by (or_cases (b == d) (list_any (λ x. is_class_under classes x d) (bases_of classes b)) (sym (under_by_bases classes b d (tree.lists b)) ∙ u)) (λ x k v. attributes_named l x d name t k v h)
+  attributes_named (suc l) b d name t le u h = by (or_cases (b == d) (list_any (λ x. is_class_under classes x d) (bases_of classes b)) (sym (under_by_bases classes b d (tree.falls b)) ∙ u)) (λ x k v. attributes_named l x d name t k v h)
     where
       by : ((b == d) ≡ true) ⊎ (list_any (λ x. is_class_under classes x d) (bases_of classes b) ≡ true) → ((x : ℕ) → x ≤ l → is_class_under classes x d ≡ true → is_named_in (attributes_by classes l x) name ≡ true)
           → is_named_in (with_new [] (flat_map (attributes_by classes l) (bases_of classes b) ++ own_attributes (slice_get classes b))) name ≡ true
@@ -426,7 +420,7 @@ module _ (classes : List ClassEntry) (tree : IsClassTree classes) where
       none i e = absurd (cc)
 
   itself_under : (c : ℕ) → is_class_under classes c c ≡ true
-  itself_under c = or_left (c == c) (has_class c (above_of classes c)) (eq-eqb c c refl)
+  itself_under c = class_under_itself classes c
 
   -- and each is one that a class above it declares
   attributes_from : (l b : ℕ) (p : List ℕ × Sort) → Among (attributes_by classes l b) p → (e : ℕ) × (x : ClassEntry) × (slice_get classes e ≡ Some x) × (is_class_under classes b e ≡ true) × Among x.attributes p

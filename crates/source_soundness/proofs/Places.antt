@@ -143,7 +143,7 @@ module _ (is_identifier : List ℕ → Bool) (m : TypedModule) (w : is_well_type
   -- all above a trait are traits, which have no attributes
   trait_up : (n d c : ℕ) → d < n → IsTrait d → is_class_under C d c ≡ true → IsTrait c
   trait_up zero d c l t u = absurd (omega (arith, l))
-  trait_up (suc n) d c l t u = by (or_cases (d == c) (list_any (λ b. is_class_under C b c) (bases_of C d)) (sym (under_by_bases C d c ((tree_is is_identifier m w).lists d)) ∙ u)) (λ b k t' u'. trait_up n b c k t' u')
+  trait_up (suc n) d c l t u = by (or_cases (d == c) (list_any (λ b. is_class_under C b c) (bases_of C d)) (sym (under_by_bases C d c ((tree_is is_identifier m w).falls d)) ∙ u)) (λ b k t' u'. trait_up n b c k t' u')
     where
       by : ((d == c) ≡ true) ⊎ (list_any (λ b. is_class_under C b c) (bases_of C d) ≡ true) → ((b : ℕ) → b < n → IsTrait b → is_class_under C b c ≡ true → IsTrait c) → IsTrait c
       by (inl q) r = subst IsTrait (eqb-true d c q) t
@@ -165,7 +165,7 @@ module _ (is_identifier : List ℕ → Bool) (m : TypedModule) (w : is_well_type
   -- an attribute of a class has its place in each class under it
   kept_by : (n b c : ℕ) (name : List ℕ) (i : ℕ) → b < n → is_class_under C b c ≡ true → place_in name (attributes C c) ≡ Some i → place_in name (attributes C b) ≡ Some i
   kept_by zero b c name i l u p = absurd (omega (arith, l))
-  kept_by (suc n) b c name i l u p = by (or_cases (b == c) (list_any (λ d. is_class_under C d c) (bases_of C b)) (sym (under_by_bases C b c ((tree_is is_identifier m w).lists b)) ∙ u)) (λ d k v. kept_by n d c name i k v p)
+  kept_by (suc n) b c name i l u p = by (or_cases (b == c) (list_any (λ d. is_class_under C d c) (bases_of C b)) (sym (under_by_bases C b c ((tree_is is_identifier m w).falls b)) ∙ u)) (λ d k v. kept_by n d c name i k v p)
     where
       no_trait : (d : ℕ) → is_class_under C d c ≡ true → IsTrait d → ⊥
       no_trait d v t = absurd (cc (sym (ap (place_in name) (trait_none c c (trait_up (suc d) d c (omega arith) t v))) ∙ p))

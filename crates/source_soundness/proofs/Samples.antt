@@ -125,7 +125,7 @@ local_stops = refl
 -- a.n, = "a",
 -- a.n += "b"
 abbrev class_a : ClassEntry
-class_a = record { name = codes "A"; is_trait = false; bases = []; above = []; attributes = (codes "n", Int) ∷ []; methods = [] }
+class_a = record { name = codes "A"; is_trait = false; bases = []; attributes = (codes "n", Int) ∷ []; methods = [] }
 
 abbrev attribute_n : TypedTarget
 attribute_n = AttrTarget (g 0 (Instance 0)) (codes "n")

@@ -1,18 +1,17 @@
 //! What fits what, and the type of a choice, among a few types and a small tree of classes.
 
 use crate::case::check;
-use py_typed::{ClassInfo, Classes, Ty, fits, join, type_text};
+use py_typed::{ClassInfo, ClassList, Classes, Ty, fits, join, type_text};
 use std::alloc::Global;
 use std::test::Fail;
 use value_core::{ExcClass, Many, Memory, Name};
 
-/// A class: its name, its bases and all classes above it.
-fn class(alloc: Global, name: &str, bases: &[usize], above: &[usize]) -> Result<ClassInfo, Memory> {
+/// A class: its name and its bases.
+fn class(alloc: Global, name: &str, bases: &[usize]) -> Result<ClassInfo, Memory> {
     Ok(ClassInfo {
         name: Name::from_str(alloc, name)?,
         is_trait: false,
         bases: Many::from_slice(alloc, bases)?,
-        above: Many::from_slice(alloc, above)?,
         attrs: Many::new(alloc),
         methods: Many::new(alloc),
     })
@@ -20,11 +19,11 @@ fn class(alloc: Global, name: &str, bases: &[usize], above: &[usize]) -> Result<
 
 /// A; B(A); C(B); D(A).
 fn classes(alloc: Global) -> Result<Classes, Memory> {
-    let mut list = Many::new(alloc);
-    list.push(class(alloc, "A", &[], &[])?)?;
-    list.push(class(alloc, "B", &[0], &[0])?)?;
-    list.push(class(alloc, "C", &[1], &[1, 0])?)?;
-    list.push(class(alloc, "D", &[0], &[0])?)?;
+    let list = ClassList::new(alloc)
+        .and(alloc, class(alloc, "A", &[])?)?
+        .and(alloc, class(alloc, "B", &[0])?)?
+        .and(alloc, class(alloc, "C", &[1])?)?
+        .and(alloc, class(alloc, "D", &[0])?)?;
     let sigs = Many::new(alloc);
     Ok(Classes { list, sigs })
 }

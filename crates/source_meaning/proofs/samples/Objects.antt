@@ -17,7 +17,7 @@ use Rattle.source_meaning.specs.SourceRun.{source_run}
 use Rattle.source_meaning.proofs.samples.Building.{as_type, num, g, l, row, arith, compare, call, print, set, set_l, when, return, ◌▸◌, end, func, method, module_of, run, most, fails}
 
 abbrev class_of : List ℕ → List ℕ → List (List ℕ × Sort) → List (List ℕ × ℕ) → ClassEntry
-class_of name bases attributes methods = record { name = name; is_trait = false; bases = bases; above = bases; attributes = attributes; methods = methods }
+class_of name bases attributes methods = record { name = name; is_trait = false; bases = bases; attributes = attributes; methods = methods }
 
 -- class A: n: int; def __init__(self, n: int): self.n = n; def get(self) -> int: return self.n
 -- class B(A): m: int; def get(self) -> int: return 7

@@ -67,7 +67,7 @@ no_return = refl
 -- class A: n: int; def __init__(self, n: int): self.n = n
 -- print(A(1).n)
 abbrev class_a : ClassEntry
-class_a = record { name = codes "A"; is_trait = false; bases = []; above = []; attributes = (codes "n", Int) ∷ []; methods = (codes "__init__", 0) ∷ [] }
+class_a = record { name = codes "A"; is_trait = false; bases = []; attributes = (codes "n", Int) ∷ []; methods = (codes "__init__", 0) ∷ [] }
 
 abbrev init_a : TypedFunc
 init_a = method (codes "__init__") 0 2 ((codes "self", Instance 0) ∷ (codes "n", Int) ∷ []) Nothing (Assign (AttrTarget (l 0 (Instance 0)) (codes "n") ∷ []) (l 1 Int) ▸ end)
@@ -122,7 +122,7 @@ empty_body = refl
 
 -- an attribute named as the method that begins an instance is one like any other, where no class of the order has that method
 abbrev class_named : List ℕ → List ℕ → List (List ℕ × Sort) → List (List ℕ × ℕ) → ClassEntry
-class_named name bases attributes methods = record { name = name; is_trait = false; bases = bases; above = bases; attributes = attributes; methods = methods }
+class_named name bases attributes methods = record { name = name; is_trait = false; bases = bases; attributes = attributes; methods = methods }
 
 attribute_init : is_well_typed any (signed (class_named (codes "A") [] ((codes "__init__", Int) ∷ []) [] ∷ []) [] [] [] (Do (as_type (Instance 0) (tree.Make 0 (row []))) ▸ end)) ≡ true
 attribute_init = refl
