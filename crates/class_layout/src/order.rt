@@ -1,0 +1,98 @@
+//! The orders of all classes (C3).
+ghost use Rattle.std.specs.Prelude.{◌≡◌, ◌<◌, true, ℕ, IfOk, map, length, slice_get};
+ghost use Rattle.py_typed.specs.Classes.{class_entry, bases_of, bases_fall};
+ghost use Rattle.py_typed.specs.Order as order;
+ghost use Rattle.class_layout.specs.Merging.{rows_of, are_below, behind};
+ghost use Rattle.class_layout.specs.Orders.{rows_above, order_from, IsOrdered};
+
+use crate::layout_error::LayoutError;
+use crate::merge::merge;
+use py_typed::ClassInfo;
+use std::alloc::Global;
+use value_core::{Many, Memory};
+
+/// The order of each class, by the class's number. Each base has a smaller number than its class.
+///
+/// # Errors
+///
+/// `NoOrder` exactly where a class has no order, with the first such class; else `Memory`.
+pub fn orders(alloc: Global, classes: &[ClassInfo]) -> Result<Many<Many<usize>>, LayoutError>
+    requires { (c : ℕ) → bases_fall (map class_entry classes.now) c ≡ true }
+    ensures { IsOrdered (map class_entry classes.now) result }
+{
+    let mut orders = Many::new(alloc);
+    for number in 0..classes.len() {
+        match next_order(alloc, classes, &orders, number)? {
+            Some(order) => orders.push(order)?,
+            None => return Err(LayoutError::NoOrder(number)),
+        }
+    }
+    Ok(orders)
+}
+
+/// The order of the next class, from those of the classes before it.
+fn next_order(
+    alloc: Global,
+    classes: &[ClassInfo],
+    orders: &Many<Many<usize>>,
+    number: usize,
+) -> Result<Option<Many<usize>>, Memory>
+    requires falls { (c : ℕ) → bases_fall (map class_entry classes.now) c ≡ true }
+    requires known { (c : ℕ) → c < length orders.now → slice_get orders.now c ≡ order.order (map class_entry classes.now) c }
+    requires counted { number ≡ length orders.now }
+    ensures { IfOk result (λ row. row ≡ order.order (map class_entry classes.now) number) }
+{
+    order_of(alloc, number, bases_at(classes, number), orders)
+}
+
+/// The bases of the class of a number.
+#[tactic(auto, using(py_typed::proofs::TypeLemmas::entry_found))]
+fn bases_at(classes: &[ClassInfo], number: usize) -> &[usize]
+    ensures { result.now ≡ bases_of (map class_entry classes.now) number }
+{
+    match classes.get(number) {
+        Some(class) => class.bases.as_slice(),
+        None => &[],
+    }
+}
+
+/// The order of the class of this number, from those of its bases.
+fn order_of(
+    alloc: Global,
+    number: usize,
+    bases: &[usize],
+    orders: &Many<Many<usize>>,
+) -> Result<Option<Many<usize>>, Memory>
+    requires { are_below number (rows_above orders.now bases.now) ≡ true }
+    ensures { IfOk result (λ order. order ≡ order_from orders.now number bases.now) }
+{
+    let mut first = Many::new(alloc);
+    first.push(number)?;
+    let mut rows = rows_to_merge(alloc, bases, orders)?;
+    merge(alloc, first, &mut rows, number)
+}
+
+/// The orders of the bases, and behind them the row of the bases.
+fn rows_to_merge<'a>(
+    alloc: Global,
+    bases: &'a [usize],
+    orders: &'a Many<Many<usize>>,
+) -> Result<Vec<&'a [usize]>, Memory>
+    ensures { IfOk result (λ rows. rows_of rows.items ≡ rows_above orders.now bases.now) }
+{
+    let mut rows = Vec::new(alloc);
+    for base in bases {
+        rows.push(order_at(orders, *base))?;
+    }
+    rows.push(bases)?;
+    Ok(rows)
+}
+
+fn order_at(orders: &Many<Many<usize>>, class: usize) -> &[usize]
+    ensures { result.now ≡ order.listed_order (slice_get orders.now class) }
+{
+    match orders.get(class) {
+        Some(order) => order.as_slice(),
+        None => &[],
+    }
+}
