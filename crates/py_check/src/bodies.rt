@@ -13,7 +13,7 @@ ghost use Rattle.py_check.specs.Module as spec;
 ghost use Rattle.py_check.specs.Parts as views;
 
 use indexmap::IndexSet;
-use py_check_context::{Scope, VarType};
+use py_check_context::{Context, VarType};
 use py_check_definitions::{
     Environment, Function, numbers_of, own_types, param_numbers, type_or_none, typed_variables,
 };
@@ -59,7 +59,7 @@ fn typed_function(
     ensures known { IfOk result (λ t. (known_at place.new).types.globals ≡ spec.sorts_behind (views.environment_of environment.now) (known_at place.old).types.globals (headed_of f.now)) }
 {
     let names = names_in(alloc, environment.known, f.inside)?;
-    let scope = Scope {
+    let scope = Context {
         names: &names,
         sigs: environment.signatures,
         classes: environment.classes,
@@ -77,7 +77,7 @@ fn typed_function(
 /// The same in its scope.
 fn function_in(
     alloc: Global,
-    scope: &Scope<'_>,
+    scope: &Context<'_>,
     variables: &IndexSet<Name>,
     f: &Function<'_>,
     place: &mut Place,
@@ -95,7 +95,7 @@ fn function_in(
 /// The statements of a function that has these variables of its own.
 fn body_in(
     alloc: Global,
-    scope: &Scope<'_>,
+    scope: &Context<'_>,
     variables: &IndexSet<Name>,
     own: &IndexSet<Name>,
     f: &Function<'_>,
@@ -121,7 +121,7 @@ fn body_in(
 /// Where a function begins, its parameters are bound, and so are the module's variables, which keep their types.
 fn begin(
     alloc: Global,
-    scope: &Scope<'_>,
+    scope: &Context<'_>,
     variables: &IndexSet<Name>,
     own: &IndexSet<Name>,
     f: &Function<'_>,

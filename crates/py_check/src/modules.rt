@@ -31,7 +31,7 @@ use py_check_statements::block;
 use py_check_values::Returns;
 use py_syntax::Stmt;
 use py_syntax_diagnostics::Diag;
-use py_typed::{Checked, Classes, Sig, TFunc, TStmt, Ty};
+use py_typed::{Checked, ClassList, Classes, Sig, TFunc, TStmt, Ty};
 use std::alloc::Global;
 use value_core::{Many, Memory, Name};
 
@@ -142,7 +142,7 @@ fn own_statements(
     ensures known { IfOk result (λ o. (known_at o.place).types.globals ≡ spec.fixed_sorts (spec.context_in (views.environment_of environment.now) top.now) environment.now.known.now.variables.keys (body_tree body.now)) }
 {
     let names = names_in(alloc, environment.known, top)?;
-    let scope = py_check_context::Scope {
+    let scope = py_check_context::Context {
         names: &names,
         sigs: environment.signatures,
         classes: environment.classes,
@@ -153,7 +153,7 @@ fn own_statements(
 /// The same in their scope.
 fn statements_in(
     alloc: Global,
-    scope: &py_check_context::Scope<'_>,
+    scope: &py_check_context::Context<'_>,
     variables: &IndexSet<Name>,
     body: &[Stmt],
     faults: &mut Many<Diag>,
@@ -177,7 +177,7 @@ fn statements_in(
 /// What is known where a module begins.
 fn start(
     alloc: Global,
-    scope: &py_check_context::Scope<'_>,
+    scope: &py_check_context::Context<'_>,
     variables: &IndexSet<Name>,
     body: &[Stmt],
 ) -> Result<Place, Memory>
@@ -210,7 +210,7 @@ fn with_functions(
     let globals = typed_variables(alloc, variables.as_slice(), globals)?;
     Ok(Checked {
         classes: Classes {
-            list: Many::new(alloc),
+            list: ClassList::new(alloc),
             sigs,
         },
         globals,

@@ -12,7 +12,7 @@ ghost use Rattle.py_check_annotations.specs.Annotations as spec;
 
 use crate::look_up::look_up;
 use crate::names::{Former, applied, former_of, is_untyped, named, or_none, valid};
-use py_check_context::{Scope, meaning_of};
+use py_check_context::{Context, meaning_of};
 use py_check_messages::invalid_type;
 use py_lexer_words::name_in_quotes;
 use py_syntax::{BinOp, Expr, ExprKind, Span};
@@ -24,7 +24,7 @@ use value_core::{Many, Memory, Name, Text};
 /// The type of what a function returns, which may be `None`.
 pub fn return_annotation(
     alloc: Global,
-    scope: &Scope<'_>,
+    scope: &Context<'_>,
     e: &Expr,
     faults: &mut Many<Diag>,
 ) -> Result<Option<Ty>, Memory>
@@ -40,7 +40,7 @@ pub fn return_annotation(
 #[cycle(annotation)]
 pub fn annotation(
     alloc: Global,
-    scope: &Scope<'_>,
+    scope: &Context<'_>,
     e: &Expr,
     faults: &mut Many<Diag>,
 ) -> Result<Option<Ty>, Memory>
@@ -79,7 +79,7 @@ pub fn annotation(
 #[cycle(annotation)]
 fn parts(
     alloc: Global,
-    scope: &Scope<'_>,
+    scope: &Context<'_>,
     e: &Expr,
     faults: &mut Many<Diag>,
 ) -> Result<Option<Many<Ty>>, Memory>
@@ -96,7 +96,7 @@ fn parts(
 #[cycle(annotation)]
 fn items(
     alloc: Global,
-    scope: &Scope<'_>,
+    scope: &Context<'_>,
     e: &Expr,
     faults: &mut Many<Diag>,
 ) -> Result<Option<Many<Ty>>, Memory>
@@ -111,7 +111,7 @@ fn items(
 #[cycle(annotation)]
 fn row(
     alloc: Global,
-    scope: &Scope<'_>,
+    scope: &Context<'_>,
     items: &[Expr],
     faults: &mut Many<Diag>,
 ) -> Result<Option<Many<Ty>>, Memory>
@@ -159,7 +159,7 @@ fn formed(
 /// A text in quotes.
 fn quoted(
     alloc: Global,
-    scope: &Scope<'_>,
+    scope: &Context<'_>,
     text: &Text,
     span: Span,
     faults: &mut Many<Diag>,
@@ -178,7 +178,7 @@ fn quoted(
 /// What can be no type.
 fn no_type(
     alloc: Global,
-    scope: &Scope<'_>,
+    scope: &Context<'_>,
     e: &Expr,
     faults: &mut Many<Diag>,
 ) -> Result<Option<Ty>, Memory>
@@ -195,7 +195,7 @@ fn no_type(
 /// What has no type because a name in front has none.
 fn without_type(
     alloc: Global,
-    scope: &Scope<'_>,
+    scope: &Context<'_>,
     e: &Expr,
     faults: &mut Many<Diag>,
 ) -> Result<Option<Ty>, Memory>
@@ -213,7 +213,7 @@ pub(crate) enum Head {
     NoForm,
 }
 
-fn head_of(alloc: Global, scope: &Scope<'_>, e: &Expr) -> Result<Head, Memory>
+fn head_of(alloc: Global, scope: &Context<'_>, e: &Expr) -> Result<Head, Memory>
     ensures { IfOk result (λ head. head ≡ spec.head_named (context scope.now).meaning (spec.name_of (expr_tree e.now))) }
 {
     match &e.kind {
@@ -226,7 +226,7 @@ fn head_of(alloc: Global, scope: &Scope<'_>, e: &Expr) -> Result<Head, Memory>
     }
 }
 
-fn head_named(scope: &Scope<'_>, x: &Name) -> Head
+fn head_named(scope: &Context<'_>, x: &Name) -> Head
     ensures { result ≡ spec.head_named (context scope.now).meaning (Some x.now) }
 {
     let meaning = meaning_of(scope, x);

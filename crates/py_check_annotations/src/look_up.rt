@@ -7,7 +7,7 @@ ghost use Rattle.py_check_context.specs.Context.{context};
 ghost use Rattle.py_check_annotations.specs.Names as spec;
 
 use crate::names::is_unknown;
-use py_check_context::{Scope, meaning_of};
+use py_check_context::{Context, meaning_of};
 use py_check_messages::not_defined;
 use py_lexer_words::name_in_quotes;
 use py_syntax::{Arg, Expr, ExprKind, Span};
@@ -19,7 +19,7 @@ use value_core::{Many, Memory, Name, Text};
 #[cycle(look_up)]
 pub(crate) fn look_up(
     alloc: Global,
-    scope: &Scope<'_>,
+    scope: &Context<'_>,
     e: &Expr,
     faults: &mut Many<Diag>,
 ) -> Result<(), Memory>
@@ -85,7 +85,7 @@ pub(crate) fn look_up(
 #[cycle(look_up)]
 fn look_up_all(
     alloc: Global,
-    scope: &Scope<'_>,
+    scope: &Context<'_>,
     items: &[Expr],
     faults: &mut Many<Diag>,
 ) -> Result<(), Memory>
@@ -100,7 +100,7 @@ fn look_up_all(
 #[cycle(look_up)]
 fn look_up_arguments(
     alloc: Global,
-    scope: &Scope<'_>,
+    scope: &Context<'_>,
     arguments: &[Arg],
     faults: &mut Many<Diag>,
 ) -> Result<(), Memory>
@@ -115,7 +115,7 @@ fn look_up_arguments(
 /// The same of the name that a text in quotes stands for, if it does.
 fn look_up_text(
     alloc: Global,
-    scope: &Scope<'_>,
+    scope: &Context<'_>,
     text: &Text,
     span: Span,
     faults: &mut Many<Diag>,
@@ -130,7 +130,7 @@ fn look_up_text(
 
 fn look_up_name(
     alloc: Global,
-    scope: &Scope<'_>,
+    scope: &Context<'_>,
     x: &Name,
     span: Span,
     faults: &mut Many<Diag>,

@@ -23,9 +23,10 @@ ghost use Rattle.py_check_assignments.specs.Views.{Shows};
 use crate::assignments::{Assignment, act_of, kept, put_target};
 use crate::parts::{has_aims, refuse, refuse_value};
 use py_check_annotations::annotation;
-use py_check_context::{Meaning, Scope, VarType, Want, meaning_of};
+use py_check_context::{Context, Meaning, VarType, Want, meaning_of};
+use py_check_flow::name_in;
 use py_check_messages::{already_defined, cannot_assign};
-use py_check_places::{Place, bind_target, name_in};
+use py_check_places::{Place, bind_target};
 use py_check_targets::{Aim, in_box, name_aim, slot_of, typed_at, value_type};
 use py_check_values::assigned;
 use py_syntax::{Expr, Span};
@@ -37,7 +38,7 @@ use value_core::{Many, Memory, Name};
 /// `target: mark`, or `target: mark = e`, and what is known behind it (PEP 526).
 pub fn annotate(
     alloc: Global,
-    scope: &Scope<'_>,
+    scope: &Context<'_>,
     place: &mut Place,
     span: Span,
     target: &Expr,
@@ -69,7 +70,7 @@ pub fn annotate(
 // A name with its annotation, and a value if one is given.
 fn annotated_name(
     alloc: Global,
-    scope: &Scope<'_>,
+    scope: &Context<'_>,
     place: &Place,
     span: Span,
     x: &Name,
@@ -94,7 +95,7 @@ fn annotated_name(
 
 fn declares(
     alloc: Global,
-    scope: &Scope<'_>,
+    scope: &Context<'_>,
     place: &Place,
     span: Span,
     x: &Name,
@@ -114,7 +115,7 @@ fn declares(
 
 fn gives_value(
     alloc: Global,
-    scope: &Scope<'_>,
+    scope: &Context<'_>,
     place: &Place,
     span: Span,
     x: &Name,
@@ -135,7 +136,7 @@ fn gives_value(
 // The same where the name and its annotation were looked at.
 fn with_value(
     alloc: Global,
-    scope: &Scope<'_>,
+    scope: &Context<'_>,
     place: &Place,
     span: Span,
     x: &Name,
@@ -332,7 +333,7 @@ fn is_first(
 // What is no name has no annotation.
 fn annotates_other(
     alloc: Global,
-    scope: &Scope<'_>,
+    scope: &Context<'_>,
     place: &Place,
     span: Span,
     target: &Expr,
@@ -354,7 +355,7 @@ fn annotates_other(
 // Whether an annotation is a type; what is wrong is said.
 fn is_type(
     alloc: Global,
-    scope: &Scope<'_>,
+    scope: &Context<'_>,
     mark: &Expr,
     faults: &mut Many<Diag>,
 ) -> Result<bool, Memory>

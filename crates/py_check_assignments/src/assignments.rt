@@ -19,7 +19,7 @@ ghost use Rattle.py_check_places.specs.Views.{known_at};
 ghost use Rattle.py_check_targets.specs.Views.{aim_seen, boxed_act};
 
 use crate::parts::refused;
-use py_check_context::Scope;
+use py_check_context::Context;
 use py_check_messages::no_target;
 use py_check_places::{Place, bind_target, is_flat, is_row};
 use py_check_targets::{Aim, binds_several, slot_of, target_aims, value_for, value_type};
@@ -33,7 +33,7 @@ use value_core::{Many, Memory};
 /// `target = e`, and what is known behind it (Python Language Reference, "Assignment statements").
 pub fn assign(
     alloc: Global,
-    scope: &Scope<'_>,
+    scope: &Context<'_>,
     place: &mut Place,
     span: Span,
     target: &Expr,
@@ -61,7 +61,7 @@ pub(crate) struct Assignment {
 // The statement, before its names are bound.
 fn typed_assignment(
     alloc: Global,
-    scope: &Scope<'_>,
+    scope: &Context<'_>,
     place: &Place,
     span: Span,
     target: &Expr,

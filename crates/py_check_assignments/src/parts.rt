@@ -10,7 +10,7 @@ ghost use Rattle.py_check_places.specs.Views.{known_at};
 ghost use Rattle.py_check_targets.specs.Views.{boxed_act};
 ghost use Rattle.py_check_assignments.specs.Views.{Shows};
 
-use py_check_context::{Scope, Want};
+use py_check_context::{Context, Want};
 use py_check_messages::no_target;
 use py_check_places::Place;
 use py_check_targets::{target_aims, typed_at};
@@ -23,7 +23,7 @@ use value_core::{Many, Memory};
 /// Whether all single targets of a target are something; what is wrong with them is said.
 pub(crate) fn has_aims(
     alloc: Global,
-    scope: &Scope<'_>,
+    scope: &Context<'_>,
     place: &Place,
     target: &Expr,
     faults: &mut Many<Diag>,
@@ -37,7 +37,7 @@ pub(crate) fn has_aims(
 // Whether an expression of which nothing is asked is typed; what is wrong with it is said.
 fn has_type(
     alloc: Global,
-    scope: &Scope<'_>,
+    scope: &Context<'_>,
     place: &Place,
     e: &Expr,
     faults: &mut Many<Diag>,
@@ -66,7 +66,7 @@ pub(crate) fn refuse(
 /// Says the same behind one more part, where the parts before it are typed or not.
 pub(crate) fn refuse_value(
     alloc: Global,
-    scope: &Scope<'_>,
+    scope: &Context<'_>,
     place: &Place,
     span: Span,
     complete: bool,

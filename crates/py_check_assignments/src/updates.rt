@@ -21,9 +21,10 @@ ghost use Rattle.py_check_assignments.specs.Views.{boxed_sort};
 
 use crate::assignments::{is_placed, kept, written};
 use crate::parts::{has_aims, refuse_value, refused};
-use py_check_context::{Meaning, Scope, Want, meaning_of};
+use py_check_context::{Context, Meaning, Want, meaning_of};
+use py_check_flow::name_in;
 use py_check_operators::arithmetic_type;
-use py_check_places::{Place, bind_target, is_item, is_row, name_in};
+use py_check_places::{Place, bind_target, is_item, is_row};
 use py_check_targets::{Aim, name_aim, slot_of, typed_at, value_aim};
 use py_check_values::binds;
 use py_syntax::{BinOp, Expr, Span};
@@ -35,7 +36,7 @@ use value_core::{Many, Memory, Name};
 /// `target op= e`, and what is known behind it (Python Language Reference, "Augmented assignment statements").
 pub fn update(
     alloc: Global,
-    scope: &Scope<'_>,
+    scope: &Context<'_>,
     place: &mut Place,
     span: Span,
     target: &Expr,
@@ -54,7 +55,7 @@ pub fn update(
 // The same at a place that stays.
 fn updated(
     alloc: Global,
-    scope: &Scope<'_>,
+    scope: &Context<'_>,
     place: &Place,
     span: Span,
     target: &Expr,
@@ -74,7 +75,7 @@ fn updated(
 // A tuple or a list is not updated.
 fn update_row(
     alloc: Global,
-    scope: &Scope<'_>,
+    scope: &Context<'_>,
     place: &Place,
     span: Span,
     target: &Expr,
@@ -91,7 +92,7 @@ fn update_row(
 // A single target.
 fn update_one(
     alloc: Global,
-    scope: &Scope<'_>,
+    scope: &Context<'_>,
     place: &Place,
     span: Span,
     target: &Expr,
@@ -109,7 +110,7 @@ fn update_one(
 // The operation on a target that was read, and its operand.
 fn operation(
     alloc: Global,
-    scope: &Scope<'_>,
+    scope: &Context<'_>,
     place: &Place,
     span: Span,
     target: &Expr,
@@ -132,7 +133,7 @@ fn operation(
 // The same of parts that are typed.
 fn operation_on(
     alloc: Global,
-    scope: &Scope<'_>,
+    scope: &Context<'_>,
     place: &Place,
     span: Span,
     target: &Expr,
@@ -172,7 +173,7 @@ fn result_type(
 // What a target that was read is to an assignment.
 fn read_aim<'a>(
     alloc: Global,
-    scope: &Scope<'_>,
+    scope: &Context<'_>,
     place: &Place,
     target: &'a Expr,
     read: Box<TExpr>,

@@ -7,7 +7,7 @@ ghost use Rattle.py_check_context.specs.Context.{context};
 ghost use Rattle.py_check_calls.specs.Callees as spec;
 ghost use Rattle.py_check_calls.specs.CalleesSeen.{callee_seen};
 
-use py_check_context::{Builtin, Imported, Meaning, Scope, meaning_of, signature_at};
+use py_check_context::{Builtin, Context, Imported, Meaning, meaning_of, signature_at};
 use py_syntax::{Expr, ExprKind, Span};
 use py_typed::Sig;
 use value_core::Name;
@@ -43,7 +43,7 @@ pub enum Callee<'a> {
 }
 
 /// What is called.
-pub fn callee_of<'a>(scope: &Scope<'a>, f: &'a Expr) -> Callee<'a>
+pub fn callee_of<'a>(scope: &Context<'a>, f: &'a Expr) -> Callee<'a>
     ensures { callee_seen result ≡ spec.callee (context scope.now) (expr_tree f.now) }
 {
     match &f.kind {
@@ -53,7 +53,7 @@ pub fn callee_of<'a>(scope: &Scope<'a>, f: &'a Expr) -> Callee<'a>
     }
 }
 
-fn name_called<'a>(scope: &Scope<'a>, span: Span, x: &'a Name) -> Callee<'a>
+fn name_called<'a>(scope: &Context<'a>, span: Span, x: &'a Name) -> Callee<'a>
     ensures { callee_seen result ≡ spec.name_called (context scope.now) span x.now ((context scope.now).meaning x.now) }
 {
     match meaning_of(scope, x) {
@@ -100,7 +100,7 @@ fn import_called(i: Imported) -> Callee<'static>
 }
 
 /// Whether a callee is not typed itself: a name of no variable, or the method of a value.
-pub fn is_named(scope: &Scope<'_>, f: &Expr) -> bool
+pub fn is_named(scope: &Context<'_>, f: &Expr) -> bool
     ensures { result ≡ spec.is_named_tree (context scope.now) (expr_tree f.now) }
 {
     match &f.kind {

@@ -13,6 +13,7 @@ pub record Misfit : Type 0 where
   pub found : Sort
   pub asked : Sort
 
+-- the first of two, where it is there, else the second
 abbrev pub first_of : {A : Type 0} → Option A → Option A → Option A
 first_of None other = other
 first_of (Some a) other = Some a

@@ -8,7 +8,7 @@ use Rattle.py_typed.specs.Sorts.{Sort, sort}
 use Rattle.py_typed.specs.Classes.{ClassEntry, class_entry, Signature, signature}
 use Rattle.py_check_context.specs.declared.scope.Meaning.{Meaning}
 use Rattle.py_check_context.specs.declared.scope.Meaning.TheVariants.{Unknown}
-use Rattle.py_check_context.specs.declared.scope.Scope.{Scope}
+use Rattle.py_check_context.specs.declared.scope.Context as declared
 use Rattle.py_check_context.specs.declared.variables.VarType.{VarType}
 use Rattle.py_check_context.specs.declared.variables.VarType.TheVariants.{Unset, Untyped, Has}
 use Rattle.py_check_context.specs.declared.variables.Variables.{Variables}
@@ -25,7 +25,7 @@ pub record Context : Type 0 where
   pub signatures : List (Option Signature)
   pub classes : List ClassEntry
 
-abbrev pub context : Scope → Context
+abbrev pub context : declared.Context → Context
 context s = record {
   meaning = λ x. unwrap_or (get bytes_eq s.names.now x) Unknown;
   signatures = map (option_map signature) s.sigs.now;

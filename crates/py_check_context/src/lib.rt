@@ -8,6 +8,6 @@ mod scope;
 mod variables;
 mod wanted;
 
-pub use scope::{Builtin, Imported, Meaning, Scope, meaning_of, signature_at};
+pub use scope::{Builtin, Context, Imported, Meaning, meaning_of, signature_at};
 pub use variables::{VarType, Variables};
 pub use wanted::{Row, Want, wanted_at};

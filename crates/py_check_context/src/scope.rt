@@ -63,14 +63,14 @@ pub enum Builtin {
 /// The names of a function or of the module, the signatures of all functions by their numbers, where they have one, and the
 /// classes.
 #[derive(Drop)]
-pub struct Scope<'a> {
+pub struct Context<'a> {
     pub names: &'a IndexMap<Name, Meaning>,
     pub sigs: &'a [Option<Sig>],
     pub classes: &'a Classes,
 }
 
 /// What a name means.
-pub fn meaning_of(scope: &Scope<'_>, x: &Name) -> Meaning
+pub fn meaning_of(scope: &Context<'_>, x: &Name) -> Meaning
     ensures { result ≡ (spec.context scope.now).meaning x.now }
 {
     match scope.names.get(x) {
@@ -80,7 +80,7 @@ pub fn meaning_of(scope: &Scope<'_>, x: &Name) -> Meaning
 }
 
 /// The signature of the function of a number, if it has one.
-pub fn signature_at<'a>(scope: &Scope<'a>, i: usize) -> Option<&'a Sig>
+pub fn signature_at<'a>(scope: &Context<'a>, i: usize) -> Option<&'a Sig>
     ensures { option_map signature (option_copied result) ≡ spec.some_signature (slice_get (spec.context scope.now).signatures i) }
 {
     match scope.sigs.get(i) {

@@ -7,7 +7,7 @@ use value_core::Many;
 pub enum VarType {
     /// No assignment stands before this place.
     Unset,
-    /// Its type hangs on a node without a type.
+    /// Its type would come from a node that has none.
     Untyped,
     Has(Ty),
 }

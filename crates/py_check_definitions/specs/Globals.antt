@@ -1,6 +1,6 @@
 -- What is said of `global` statements (Python Language Reference, "The global statement").
 --
--- A `global` statement has at most one entry: of its first name that is no variable of the module, wherever the statement
+-- A `global` statement has one entry or none: of its first name that is no variable of the module, wherever the statement
 -- stands; or else, in a function, of the first that is a parameter or is seen before it. Binding finds both; its entries of
 -- the second kind are known by their code, since all its others are of names that are not defined.
 use Rattle.std.specs.Prelude.{ℕ, Bool, not, List, [], ◌∷◌, ◌++◌, filter, find, codes, Option}

@@ -1,6 +1,6 @@
 -- The types of variables where a module or a function begins (PEP 484).
 --
--- A parameter has the type of its annotation; of two of one name the first gives the type. Any other variable has the type of its
+-- A parameter has the type of its annotation; of two with one name the earlier one counts. Any other variable has the type of its
 -- annotation, if it is annotated where it is first bound in the text, and else none yet. One whose annotation has no type has none
 -- for good, nor has a parameter without annotation.
 use Rattle.std.specs.Prelude.{ℕ, List, map, Option, Some, None}

@@ -27,7 +27,7 @@ pub struct Function<'a> {
 /// Functions with their scopes, one to one; their annotations are seen in the module's scope.
 pub fn functions_of<'a>(
     alloc: Global,
-    scope: &py_check_context::Scope<'_>,
+    scope: &py_check_context::Context<'_>,
     found: &[&'a Func],
     insides: &'a [Scope],
     faults: &mut Many<Diag>,

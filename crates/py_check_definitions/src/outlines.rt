@@ -90,7 +90,7 @@ fn headed<'a>(
 {
     let names = names_in(alloc, &found.known, &scopes.top)?;
     let classes = no_classes(alloc);
-    let scope = py_check_context::Scope {
+    let scope = py_check_context::Context {
         names: &names,
         sigs: &[],
         classes: &classes,

@@ -14,7 +14,7 @@ ghost use Rattle.py_check_definitions.specs.Views as views;
 
 use indexmap::IndexMap;
 use py_check_annotations::annotation;
-use py_check_context::{Scope, VarType};
+use py_check_context::{Context, VarType};
 use py_check_flow::{Binding, bindings_in};
 use py_syntax::{Expr, Stmt};
 use py_typed::{Ty, copy_of};
@@ -24,7 +24,7 @@ use value_core::{Many, Memory, Name};
 /// The types of variables that these statements bind, before the first of them.
 pub fn start_types(
     alloc: Global,
-    scope: &Scope<'_>,
+    scope: &Context<'_>,
     body: &[Stmt],
     names: &[Name],
 ) -> Result<Many<VarType>, Memory>
@@ -36,7 +36,7 @@ pub fn start_types(
 /// The types of a function's own variables before its first statement, where its parameters have these names and types.
 pub fn own_types(
     alloc: Global,
-    scope: &Scope<'_>,
+    scope: &Context<'_>,
     body: &[Stmt],
     params: &[(Name, Option<Expr>)],
     sorts: &Many<Option<Ty>>,
@@ -51,7 +51,7 @@ pub fn own_types(
 /// The same by the annotations of the first bindings of names.
 fn types_by(
     alloc: Global,
-    scope: &Scope<'_>,
+    scope: &Context<'_>,
     marks: &IndexMap<Name, Option<&Expr>>,
     params: &[(Name, Option<Expr>)],
     sorts: &Many<Option<Ty>>,
@@ -68,7 +68,7 @@ fn types_by(
 
 fn own_type(
     alloc: Global,
-    scope: &Scope<'_>,
+    scope: &Context<'_>,
     marks: &IndexMap<Name, Option<&Expr>>,
     params: &[(Name, Option<Expr>)],
     sorts: &Many<Option<Ty>>,
@@ -133,7 +133,7 @@ fn add_mark<'a>(
 
 fn start_type(
     alloc: Global,
-    scope: &Scope<'_>,
+    scope: &Context<'_>,
     marks: &IndexMap<Name, Option<&Expr>>,
     name: &Name,
 ) -> Result<VarType, Memory>
@@ -146,7 +146,7 @@ fn start_type(
 }
 
 /// What is wrong with the annotation is said where its statement is typed.
-fn marked_type(alloc: Global, scope: &Scope<'_>, mark: &Expr) -> Result<VarType, Memory>
+fn marked_type(alloc: Global, scope: &Context<'_>, mark: &Expr) -> Result<VarType, Memory>
     ensures { IfOk result (λ t. var_sort t ≡ spec.given_sort (meant.annotation (context scope.now).meaning (expr_tree mark.now)).got) }
 {
     let mut unsaid = Many::new(alloc);

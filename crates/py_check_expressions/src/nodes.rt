@@ -20,7 +20,7 @@ ghost use Rattle.py_check_expressions.specs.Typing as rule_of;
 use crate::leaves::{dict, flag, nothing, number, text};
 use py_check_calls::{arguments_row, attribute, called, callee_of, has_key, is_named};
 use py_check_coercions::with_item;
-use py_check_context::{Row, Scope, Variables, Want, wanted_at};
+use py_check_context::{Context, Row, Variables, Want, wanted_at};
 use py_check_displays::{
     indexing, item_type, items_row, list_display, literal_of, parts_row, tuple_display,
 };
@@ -41,7 +41,7 @@ use value_core::{Many, Memory, Name};
 #[cycle(expression)]
 pub fn expression(
     alloc: Global,
-    scope: &Scope<'_>,
+    scope: &Context<'_>,
     vars: &Variables,
     want: Want<'_>,
     known: &[usize],
@@ -93,7 +93,7 @@ pub fn expression(
 #[cycle(expression)]
 fn negated(
     alloc: Global,
-    scope: &Scope<'_>,
+    scope: &Context<'_>,
     vars: &Variables,
     known: &[usize],
     span: Span,
@@ -110,7 +110,7 @@ fn negated(
 #[cycle(expression)]
 fn affirmed(
     alloc: Global,
-    scope: &Scope<'_>,
+    scope: &Context<'_>,
     vars: &Variables,
     known: &[usize],
     span: Span,
@@ -127,7 +127,7 @@ fn affirmed(
 #[cycle(expression)]
 fn inverted(
     alloc: Global,
-    scope: &Scope<'_>,
+    scope: &Context<'_>,
     vars: &Variables,
     known: &[usize],
     span: Span,
@@ -144,7 +144,7 @@ fn inverted(
 #[cycle(expression)]
 fn computed(
     alloc: Global,
-    scope: &Scope<'_>,
+    scope: &Context<'_>,
     vars: &Variables,
     known: &[usize],
     span: Span,
@@ -164,7 +164,7 @@ fn computed(
 #[cycle(expression)]
 fn compared(
     alloc: Global,
-    scope: &Scope<'_>,
+    scope: &Context<'_>,
     vars: &Variables,
     known: &[usize],
     span: Span,
@@ -184,7 +184,7 @@ fn compared(
 #[cycle(expression)]
 fn operands(
     alloc: Global,
-    scope: &Scope<'_>,
+    scope: &Context<'_>,
     vars: &Variables,
     known: &[usize],
     cs: &[(CmpOp, Expr)],
@@ -205,7 +205,7 @@ fn operands(
 #[cycle(expression)]
 fn joined(
     alloc: Global,
-    scope: &Scope<'_>,
+    scope: &Context<'_>,
     vars: &Variables,
     want: Want<'_>,
     known: &[usize],
@@ -236,7 +236,7 @@ fn joined(
 #[cycle(expression)]
 fn chosen(
     alloc: Global,
-    scope: &Scope<'_>,
+    scope: &Context<'_>,
     vars: &Variables,
     want: Want<'_>,
     known: &[usize],
@@ -267,7 +267,7 @@ fn chosen(
 #[cycle(expression)]
 fn narrowed(
     alloc: Global,
-    scope: &Scope<'_>,
+    scope: &Context<'_>,
     vars: &Variables,
     want: Want<'_>,
     known: &[usize],
@@ -286,7 +286,7 @@ fn narrowed(
 #[cycle(expression)]
 fn list(
     alloc: Global,
-    scope: &Scope<'_>,
+    scope: &Context<'_>,
     vars: &Variables,
     want: Want<'_>,
     known: &[usize],
@@ -305,7 +305,7 @@ fn list(
 #[cycle(expression)]
 fn tuple(
     alloc: Global,
-    scope: &Scope<'_>,
+    scope: &Context<'_>,
     vars: &Variables,
     want: Want<'_>,
     known: &[usize],
@@ -324,7 +324,7 @@ fn tuple(
 #[cycle(expression)]
 fn items(
     alloc: Global,
-    scope: &Scope<'_>,
+    scope: &Context<'_>,
     vars: &Variables,
     known: &[usize],
     es: &[Expr],
@@ -345,7 +345,7 @@ fn items(
 #[cycle(expression)]
 fn indexed(
     alloc: Global,
-    scope: &Scope<'_>,
+    scope: &Context<'_>,
     vars: &Variables,
     known: &[usize],
     span: Span,
@@ -372,7 +372,7 @@ fn indexed(
 #[cycle(expression)]
 fn member(
     alloc: Global,
-    scope: &Scope<'_>,
+    scope: &Context<'_>,
     vars: &Variables,
     known: &[usize],
     span: Span,
@@ -390,7 +390,7 @@ fn member(
 #[cycle(expression)]
 fn call(
     alloc: Global,
-    scope: &Scope<'_>,
+    scope: &Context<'_>,
     vars: &Variables,
     want: Want<'_>,
     known: &[usize],
@@ -422,7 +422,7 @@ fn call(
 #[cycle(expression)]
 fn part(
     alloc: Global,
-    scope: &Scope<'_>,
+    scope: &Context<'_>,
     vars: &Variables,
     known: &[usize],
     f: &Expr,
@@ -441,7 +441,7 @@ fn part(
 #[cycle(expression)]
 fn receiver(
     alloc: Global,
-    scope: &Scope<'_>,
+    scope: &Context<'_>,
     vars: &Variables,
     known: &[usize],
     f: &ExprKind,
@@ -460,7 +460,7 @@ fn receiver(
 #[cycle(expression)]
 pub fn arguments(
     alloc: Global,
-    scope: &Scope<'_>,
+    scope: &Context<'_>,
     vars: &Variables,
     known: &[usize],
     args: &[Arg],

@@ -43,7 +43,7 @@ is_comparison n = false
 
 -- all that is said of an expression is at its own place, or else it is what is said of its parts and hangs nowhere on the place. So
 -- where an expression has an entry, nothing is said of any part of it: no two entries are of an outer and an inner one. Only a chain
--- of comparisons may have entries beside those of its operands: they stand at its place, in front of these, in the order of its pairs
+-- of comparisons may have entries of its own beside others: they stand at its place, in front
 abbrev pub OwnOrOfParts : Type 0
 OwnOrOfParts =
     (c : Context) (vars : VarSorts) (w : Wanted) (known : List ℕ) (span : Span) (n : ExprNode)

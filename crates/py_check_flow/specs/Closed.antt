@@ -1,7 +1,7 @@
 -- Lists of statements whose end no run comes to, by what stands in them alone (Python Language Reference, "Compound statements").
 --
 -- No run comes to the end of a list in which some statement is closed. Closed are `return`, `raise`, `break` and `continue`;
--- an `if` with `else` whose bodies all are; `while True` without a `break` of its own; and a `try` whose body and handlers all
+-- an `if` with `else` whose bodies all are; `while True` that no `break` of its own leaves; and a `try` whose body and handlers all
 -- are, or whose `finally` is.
 use Rattle.std.specs.Prelude.{Bool, true, false, not, ◌&&◌, ◌||◌}
 use Rattle.py_syntax.specs.Expressions as e

@@ -114,7 +114,7 @@ fn bind_marked<'a>(
 }
 
 /// The name that an expression is.
-fn name_in(e: &Expr) -> Option<&Name>
+pub fn name_in(e: &Expr) -> Option<&Name>
     ensures { option_copied result ≡ spec.name_in (expr_tree e.now) }
 {
     match &e.kind {

@@ -7,5 +7,5 @@
 mod bindings;
 mod closed;
 
-pub use bindings::{Binding, bindings_in, statement_bindings};
+pub use bindings::{Binding, bindings_in, name_in, statement_bindings};
 pub use closed::{breaks_out, is_closed};

@@ -17,11 +17,12 @@ use Rattle.py_check_context.specs.Context.{Context}
 use Rattle.py_check_flow.specs.Bindings.{name_in}
 use Rattle.py_check_messages.specs.Seen.{Message}
 use Rattle.py_check_messages.specs.Messages.{no_target, cannot_assign, index_target}
+use Rattle.py_check_coercions.specs.Rows.{first_of}
 use Rattle.py_check_operators.specs.Operators.{arithmetic}
-use Rattle.py_check_values.specs.Assignments.{binding_fault, as_bound, assignment, first_refused, first_itemless, items_for, first_of, first_misfit, items_fault, unpacking_fault}
+use Rattle.py_check_values.specs.Assignments.{binding_fault, as_bound, assignment, first_refused, first_itemless, items_for, items_fault, unpacking_fault}
 use Rattle.py_check_places.specs.Places.{Known, bind_name, bind_names}
 use Rattle.py_check_places.specs.Shapes.{is_row, is_flat, leaves, target_names, some_parts, parts_for}
-use Rattle.py_check_targets.specs.Targets.{Aim, slot_of, is_placed, targets_of, are_placed, twice_fault, several_fault, one_assigned, value_assigned, act_of, assigned, annotation_fault, given_after, given, target_of, written_back, of_operation, updated, single_aim, aims}
+use Rattle.py_check_targets.specs.Targets.{Aim, slot_of, is_placed, targets_of, are_placed, parts_fault, several_fault, one_assigned, value_assigned, act_of, assigned, annotation_fault, given_after, given, target_of, written_back, of_operation, updated, single_aim, aims}
 use Rattle.py_check_places.specs.Shapes.{bind_target}
 use Rattle.py_check_loops.specs.Loops.{Course, course_type, course_items, are_names, head_fault, head}
 use Rattle.py_check_loops.specs.Loops as loops
@@ -81,16 +82,15 @@ pub record RowBound (classes : List ClassEntry) (l : List Aim) (t : Sort) : Type
   pub items : items_for t (length l) ≡ Some parts
   pub refused : first_refused (map slot_of l) ≡ None
   pub itemless : first_itemless (map slot_of l) ≡ None
-  pub misfit : first_misfit classes parts (map slot_of l) ≡ None
-  pub twice : twice_fault classes [] l parts ≡ None
+  pub fit : parts_fault classes [] l parts ≡ None
 
 -- and to one, or to several
 abbrev pub BoundTo : List ClassEntry → Bool → List Aim → Sort → Type 0
 BoundTo classes true l t = RowBound classes l t
 BoundTo classes false l t = (a : Aim) × (l ≡ a ∷ []) × (binding_fault classes (slot_of a) t ≡ None)
 
-row_by : (classes : List ClassEntry) (l : List Aim) (t : Sort) (n : ℕ) (o : Option (List Sort)) → n ≡ length l → items_for t n ≡ o → first_refused (map slot_of l) ≡ None → first_itemless (map slot_of l) ≡ None → items_fault classes (map slot_of l) t o ≡ None
-    → twice_fault classes [] l (some_parts (items_for t (length l))) ≡ None → RowBound classes l t
+row_by : (classes : List ClassEntry) (l : List Aim) (t : Sort) (n : ℕ) (o : Option (List Sort)) → n ≡ length l → items_for t n ≡ o → first_refused (map slot_of l) ≡ None → first_itemless (map slot_of l) ≡ None → items_fault classes n t o ≡ None
+    → parts_fault classes [] l (some_parts (items_for t (length l))) ≡ None → RowBound classes l t
 row_by classes l t n None same q ref less e w = absurd (cc)
 row_by classes l t n (Some ss) same q ref less e w =
     let items : items_for t (length l) ≡ Some ss = ap (items_for t) (sym same) ∙ q in
@@ -99,13 +99,12 @@ row_by classes l t n (Some ss) same q ref less e w =
       items = items;
       refused = ref;
       itemless = less;
-      misfit = mapped_none _ (first_misfit classes ss (map slot_of l)) e;
-      twice = ap (λ (o : Option (List Sort)). twice_fault classes [] l (some_parts o)) (sym items) ∙ w;
+      fit = ap (λ (o : Option (List Sort)). parts_fault classes [] l (some_parts o)) (sym items) ∙ w;
     }
 
 pub several_bound : (classes : List ClassEntry) (l : List Aim) (t : Sort) → several_fault classes l t ≡ None → RowBound classes l t
 several_bound classes l t e =
-    let p = first_none (unpacking_fault classes (map slot_of l) t) (twice_fault classes [] l (some_parts (items_for t (length l)))) e in
+    let p = first_none (unpacking_fault classes (map slot_of l) t) (parts_fault classes [] l (some_parts (items_for t (length l)))) e in
     let q = first_none (option_map cannot_assign (first_refused (map slot_of l))) _ p.0 in
     let r = first_none (option_map (index_target classes) (first_itemless (map slot_of l))) _ q.1 in
     row_by classes l t (length (map slot_of l)) (items_for t (length (map slot_of l))) (length-map l slot_of) refl (mapped_none cannot_assign (first_refused (map slot_of l)) q.0) (mapped_none (index_target classes) (first_itemless (map slot_of l)) r.0) r.1 p.1

@@ -196,7 +196,7 @@ module _ (means : List ℕ → Meaning) (signatures : List (Option Signature)) (
   assign_by loops handling k target sc l v all n written D end same E others w sv true q r =
       let i = items_are (type_of v) (length l) r.parts r.items in
       let p : end ≡ bind_names here true k (target_names target) r.parts = same ∙ row_bound here true k target (type_of v) r.parts q (ap (items_for (type_of v)) (sym n) ∙ r.items) in
-      let g = rows means signatures m locals init result k D (leaves target) l r.parts [] k others (follows_itself k.types) sc (given_start here k.types) w (inl w) all written r.refused r.itemless r.misfit r.twice i.3 (subst (λ (z : Known). Describes here z.types m locals) p E) in
+      let g = rows means signatures m locals init result k D (leaves target) l r.parts [] k others (follows_itself k.types) sc (given_start here k.types) w (inl w) all written r.refused r.itemless r.fit i.3 (subst (λ (z : Known). Describes here z.types m locals) p E) in
       subst (λ (z : Known). Good loops handling others z.names (act.Assign (targets_of l) v)) (sym p)
       (bound_row loops handling others (bind_names here true k (target_names target) r.parts).names l i.0 v sv i.1
       (subst (λ z. RowStands means signatures m locals init result others l z (bind_names here true k (target_names target) r.parts).names) (sym i.2) g))

@@ -220,7 +220,7 @@ module _ (means : List ℕ → Meaning) (signatures : List (Option Signature)) (
       let a = are_named k (leaves target) l all names r.refused r.itemless in
       let inside = without (bound_by_all (targets_of l) ++ bound_suite body) others in
       let g = rows means signatures m locals init result k D (leaves target) l r.parts [] inner inside (subst (Follows k.types) (sym same) (follows_itself k.types)) (subst (IsScope here) (sym same) sc)
-      (subst (λ V. Rattle.py_check_laws.proofs.Targets.Given here k.types V []) (sym same) (given_start here k.types)) w (inr a.named) all a.written r.refused r.itemless r.misfit r.twice i.3 (subst (λ (z : Known). Describes here z.types m locals) b E) in
+      (subst (λ V. Rattle.py_check_laws.proofs.Targets.Given here k.types V []) (sym same) (given_start here k.types)) w (inr a.named) all a.written r.refused r.itemless r.fit i.3 (subst (λ (z : Known). Describes here z.types m locals) b E) in
       subst (λ (z : Known). HeadStands others (targets_of l) item body z.names) (sym b)
       (by i.0 i.1 r.parts i.2 a.names g)
     where

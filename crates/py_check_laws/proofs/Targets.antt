@@ -27,9 +27,9 @@ use Rattle.py_check_flow.specs.Bindings.{name_in}
 use Rattle.py_check_coercions.specs.Values.{place_of, coerced}
 use Rattle.py_check_calls.specs.Callees.{is_variable}
 use Rattle.py_check_values.specs.Slots.{known}
-use Rattle.py_check_values.specs.Assignments.{first_refused, first_itemless, misfit, first_misfit}
+use Rattle.py_check_values.specs.Assignments.{first_refused, first_itemless}
 use Rattle.py_check_places.specs.Places.{Known, is_unset, fix, first_type, bind_variable, bind_name, bind_names}
-use Rattle.py_check_targets.specs.Targets.{Aim, held, first, barred, unwritten, misplaced, slot_of, targets_of, is_written, again_fault, twice_fault}
+use Rattle.py_check_targets.specs.Targets.{Aim, held, first, barred, unwritten, misplaced, slot_of, targets_of, is_written, again_fault, parts_fault}
 use Rattle.py_check_expressions_laws.specs.WellTyped as law
 use Rattle.py_check_expressions_laws.specs.WellTyped.{Describes, Within}
 use Rattle.py_check_expressions_laws.proofs.Types.{clash}
@@ -39,7 +39,7 @@ use Rattle.py_check_laws.proofs.Kept.{fix_set, fix_open, fix_first, Follows, fol
 use Rattle.py_check_laws.proofs.Assigned.{first_none}
 use Rattle.py_check_laws.proofs.Names.{within_kept}
 use Rattle.py_check_laws.proofs.Aims.{beyond, AimsOf, Held, held_local, held_global, held_item, aim_held, First, first_local, first_global, aim_first, first_name, Aimed, held_aimed, first_aimed, aimed_bound, aimed_behind}
-use Rattle.py_check_laws.proofs.Values.{scene, declared_there, misfit_none, item_at_place}
+use Rattle.py_check_laws.proofs.Values.{scene, declared_there, part_fits, item_at_place}
 use Rattle.py_check_laws.proofs.Closed.{is_there, scope_there, scope_on, open_follows}
 
 -- ---- names
@@ -332,31 +332,31 @@ module _ (means : List ℕ → Meaning) (signatures : List (Option Signature)) (
 
   -- SEVERAL TARGETS that were looked at in one place, and are bound one behind the other to parts that fit them
   pub rows : (k0 : Known) → Describes here k0.types m locals → (es : List ExprTree) (l : List Aim) (ts : List Sort) (seen : Seen) (k : Known) (others : List ℕ) → Follows k0.types k.types → IsScope here k.types → Given here k0.types k.types seen → Within k.names others → Near k0.names others es → AimsOf here k0 es l
-      → list_all law.is_written es ≡ true → first_refused (map slot_of l) ≡ None → first_itemless (map slot_of l) ≡ None → first_misfit m.classes.classes ts (map slot_of l) ≡ None → twice_fault m.classes.classes seen l ts ≡ None → length ts ≡ length l
+      → list_all law.is_written es ≡ true → first_refused (map slot_of l) ≡ None → first_itemless (map slot_of l) ≡ None → parts_fault m.classes.classes seen l ts ≡ None → length ts ≡ length l
       → Describes here (bind_names here true k (map name_in es) ts).types m locals → RowStands others l ts (bind_names here true k (map name_in es) ts).names
-  rows k0 D [] [] [] seen k others f s g w near a wr ref less mis twice n E = record { typed = refl; fit = refl; types = refl; names = within_kept k.names others w }
-  rows k0 D [] [] (t ∷ ts) seen k others f s g w near a wr ref less mis twice n E = absurd (cc)
-  rows k0 D [] (x ∷ l) ts seen k others f s g w near a wr ref less mis twice n E = absurd a
-  rows k0 D (e ∷ es) [] ts seen k others f s g w near a wr ref less mis twice n E = absurd a
-  rows k0 D (e ∷ es) (x ∷ l) [] seen k others f s g w near a wr ref less mis twice n E = absurd (cc)
-  rows k0 D (e ∷ es) (held target r ∷ l) (t ∷ ts) seen k others f s g w near a wr ref less mis twice n E =
+  rows k0 D [] [] [] seen k others f s g w near a wr ref less part n E = record { typed = refl; fit = refl; types = refl; names = within_kept k.names others w }
+  rows k0 D [] [] (t ∷ ts) seen k others f s g w near a wr ref less part n E = absurd (cc)
+  rows k0 D [] (x ∷ l) ts seen k others f s g w near a wr ref less part n E = absurd a
+  rows k0 D (e ∷ es) [] ts seen k others f s g w near a wr ref less part n E = absurd a
+  rows k0 D (e ∷ es) (x ∷ l) [] seen k others f s g w near a wr ref less part n E = absurd (cc)
+  rows k0 D (e ∷ es) (held target r ∷ l) (t ∷ ts) seen k others f s g w near a wr ref less part n E =
       let k1 = bind_name here true k (name_in e) (Some t) in
       let h = aim_held here k0 e target r a.here in
-      let p = first_none (misfit m.classes.classes (known r) t) (first_misfit m.classes.classes ts (map slot_of l)) mis in
+      let p = first_none (again_fault m.classes.classes (Some r) t) (parts_fault m.classes.classes seen l ts) part in
       let st = held_stands k0 D e (λ q. and_left (law.is_written e) (list_all law.is_written es) wr) target r h others (near_item k0.names others e es near) in
       let w1 = aimed_bound here e target (held_aimed here k0 e target r h) true k (Some t) t others w (λ q. not_true (may_be_none t) q) in
       let rest = rows (beyond here k0 e) D es l ts seen k1 (after_target others target t) (follows_on k0.types k.types k1.types f (follows_name here true k (name_in e) (Some t))) (scope_on here k.types k1.types (follows_name here true k (name_in e) (Some t)) s)
       (given_same here k0.types k.types k1.types seen (held_kept k0 k e target r (Some t) h f) g) w1
       (near_rest k0 e es target t others (held_aimed here k0 e target r h) near)
-      a.rest (and_right (law.is_written e) (list_all law.is_written es) wr) ref less p.1 twice (one_less (length ts) (length l) n) E in
-      let q = in_front others target (targets_of l) r t ts st (misfit_none m.classes.classes t r p.0) rest.typed rest.fit in
+      a.rest (and_right (law.is_written e) (list_all law.is_written es) wr) ref less p.1 (one_less (length ts) (length l) n) E in
+      let q = in_front others target (targets_of l) r t ts st (part_fits m.classes.classes t r p.0) rest.typed rest.fit in
       record { typed = q.0; fit = q.1; types = type_in_front others target (targets_of l) r st rest.types; names = rest.names }
-  rows k0 D (e ∷ es) (first target y ∷ l) (t ∷ ts) seen k others f s g w near a wr ref less mis twice n E =
+  rows k0 D (e ∷ es) (first target y ∷ l) (t ∷ ts) seen k others f s g w near a wr ref less part n E =
       let k1 = bind_name here true k (name_in e) (Some t) in
       let end = bind_names here true k1 (map name_in es) ts in
       let x = first_name here k0 e target y a.here in
       let h = aim_first here k0 e target y a.here in
-      let p = first_none (again_fault m.classes.classes (lookup (bytes_eq y) seen) t) (twice_fault m.classes.classes (seen ++ (y, t) ∷ []) l ts) twice in
+      let p = first_none (again_fault m.classes.classes (lookup (bytes_eq y) seen) t) (parts_fault m.classes.classes (seen ++ (y, t) ∷ []) l ts) part in
       let o = first_open k0 e target y h x in
       let g1 = given_same here k0.types (bind_variable true k (means y) (Some t)).types k1.types (seen ++ (y, t) ∷ []) (ap (λ (z : Known). z.types) (same_bound k e y t x)) (given_on here k0.types k seen y t s o g) in
       let r = seen_type (lookup (bytes_eq y) seen) t in
@@ -366,9 +366,9 @@ module _ (means : List ℕ → Meaning) (signatures : List (Option Signature)) (
       let w1 = aimed_bound here e target (first_aimed here k0 e target h) true k (Some t) t others w (λ q. not_true (may_be_none t) q) in
       let rest = rows (beyond here k0 e) D es l ts (seen ++ (y, t) ∷ []) k1 (after_target others target t) (follows_on k0.types k.types k1.types f (follows_name here true k (name_in e) (Some t))) (scope_on here k.types k1.types (follows_name here true k (name_in e) (Some t)) s)
       g1 w1 (near_rest k0 e es target t others (first_aimed here k0 e target h) near)
-      a.rest (and_right (law.is_written e) (list_all law.is_written es) wr) ref less mis p.1 (one_less (length ts) (length l) n) E in
+      a.rest (and_right (law.is_written e) (list_all law.is_written es) wr) ref less p.1 (one_less (length ts) (length l) n) E in
       let q = in_front others target (targets_of l) r.0 t ts st (again_fits t (lookup (bytes_eq y) seen) p.0 r.0 r.1) rest.typed rest.fit in
       record { typed = q.0; fit = q.1; types = type_in_front others target (targets_of l) r.0 st rest.types; names = rest.names }
-  rows k0 D (e ∷ es) (barred x ∷ l) (t ∷ ts) seen k others f s g w near a wr ref less mis twice n E = absurd (cc)
-  rows k0 D (e ∷ es) (unwritten x ∷ l) (t ∷ ts) seen k others f s g w near a wr ref less mis twice n E = absurd (cc)
-  rows k0 D (e ∷ es) (misplaced x ∷ l) (t ∷ ts) seen k others f s g w near a wr ref less mis twice n E = absurd (cc)
+  rows k0 D (e ∷ es) (barred x ∷ l) (t ∷ ts) seen k others f s g w near a wr ref less part n E = absurd (cc)
+  rows k0 D (e ∷ es) (unwritten x ∷ l) (t ∷ ts) seen k others f s g w near a wr ref less part n E = absurd (cc)
+  rows k0 D (e ∷ es) (misplaced x ∷ l) (t ∷ ts) seen k others f s g w near a wr ref less part n E = absurd (cc)

@@ -19,10 +19,12 @@ use Rattle.py_typed.proofs.FitLemmas.{one_type, and_left, and_right}
 use Rattle.py_check_context.specs.declared.scope.Meaning.{Meaning}
 use Rattle.py_check_context.specs.Context.{Context, free, wants, wants_some}
 use Rattle.py_check_flow.specs.Bindings.{name_in}
+use Rattle.py_check_messages.specs.Seen.{Message}
+use Rattle.py_check_messages.specs.Messages.{wrong_assignment}
 use Rattle.py_check_values.specs.Slots.{known}
-use Rattle.py_check_values.specs.Assignments.{binding_fault, misfit, first_misfit}
+use Rattle.py_check_values.specs.Assignments.{binding_fault}
 use Rattle.py_check_places.specs.Places.{Known}
-use Rattle.py_check_targets.specs.Targets.{Aim, held, first, barred, unwritten, misplaced, slot_of, is_written, held_sorts, tuple_sort, single_sort, asked_by, typed_at}
+use Rattle.py_check_targets.specs.Targets.{Aim, held, first, barred, unwritten, misplaced, slot_of, is_written, held_sorts, tuple_sort, single_sort, asked_by, again_fault, parts_fault, typed_at}
 use Rattle.py_check_expressions_laws.specs.WellTyped as law
 use Rattle.py_check_expressions_laws.specs.WellTyped.{Describes, Within}
 use Rattle.py_check_expressions_laws.proofs.Types.{result_of_value, value_of_result}
@@ -83,12 +85,12 @@ declared_there l i t h = lt-ltb i (length l) (by l i h)
 
 -- ---- parts that fit
 
-fits_known : (b : Bool) (p : Sort × Sort) → (if b then None else Some p) ≡ None → b ≡ true
-fits_known true p h = refl
-fits_known false p h = absurd (cc)
+fits_known : (b : Bool) (m : Message) → (if b then None else Some m) ≡ None → b ≡ true
+fits_known true m h = refl
+fits_known false m h = absurd (cc)
 
-pub misfit_none : (classes : List ClassEntry) (s t : Sort) → misfit classes (known t) s ≡ None → fits classes s t ≡ true
-misfit_none classes s t h = fits_known (fits classes s t) (s, t) h
+pub part_fits : (classes : List ClassEntry) (s t : Sort) → again_fault classes (Some t) s ≡ None → fits classes s t ≡ true
+part_fits classes s t h = fits_known (fits classes s t) (wrong_assignment classes s t) h
 
 module _ (means : List ℕ → Meaning) (signatures : List (Option Signature)) (m : TypedModule) (locals : List Variable) (init : Option ℕ) where
   -- the context, with the classes of the module
@@ -145,15 +147,15 @@ module _ (means : List ℕ → Meaning) (signatures : List (Option Signature)) (
   sorts_sought k D (e ∷ es) w (unwritten s ∷ l) a ts h = absurd (cc)
   sorts_sought k D (e ∷ es) w (misplaced s ∷ l) a ts h = absurd (cc)
 
-  sorts_fit : (l : List Aim) (ts ss : List Sort) → held_sorts l ≡ Some ts → length ss ≡ length l → first_misfit m.classes.classes ss (map slot_of l) ≡ None → all_fits m.classes.classes (sorts_of ss) (sorts_of ts) ≡ true
+  sorts_fit : (l : List Aim) (ts ss : List Sort) → held_sorts l ≡ Some ts → length ss ≡ length l → parts_fault m.classes.classes [] l ss ≡ None → all_fits m.classes.classes (sorts_of ss) (sorts_of ts) ≡ true
   sorts_fit [] ts [] h n f = subst (λ z. all_fits m.classes.classes no_sorts (sorts_of z) ≡ true) (same_Some [] ts h) refl
   sorts_fit [] ts (s ∷ ss) h n f = absurd (cc)
   sorts_fit (a ∷ l) ts [] h n f = absurd (cc)
   sorts_fit (held t r ∷ l) ts (s ∷ ss) h n f =
       let q = some_sorts r (held_sorts l) ts h in
-      let p = first_none (misfit m.classes.classes (known r) s) (first_misfit m.classes.classes ss (map slot_of l)) f in
+      let p = first_none (again_fault m.classes.classes (Some r) s) (parts_fault m.classes.classes [] l ss) f in
       subst (λ z. all_fits m.classes.classes (sorts_of (s ∷ ss)) (sorts_of z) ≡ true) q.2
-      (and_from (fits m.classes.classes s r) (all_fits m.classes.classes (sorts_of ss) (sorts_of q.0)) (misfit_none m.classes.classes s r p.0) (sorts_fit l q.0 ss q.1 (one_less (length ss) (length l) n) p.1))
+      (and_from (fits m.classes.classes s r) (all_fits m.classes.classes (sorts_of ss) (sorts_of q.0)) (part_fits m.classes.classes s r p.0) (sorts_fit l q.0 ss q.1 (one_less (length ss) (length l) n) p.1))
     where
       one_less : (a b : ℕ) → suc a ≡ suc b → a ≡ b
       one_less a b e = cc
@@ -168,12 +170,12 @@ module _ (means : List ℕ → Meaning) (signatures : List (Option Signature)) (
   row_stands k D es we l a e w v r (Some ts) q g others wi =
       let i = items_are (type_of v) (length l) r.parts r.items in
       stands_parts k D e w (sorts_of ts) i.0 (sorts_sought k D es we l a ts q) v g i.1
-      (subst (λ z. all_fits m.classes.classes z (sorts_of ts) ≡ true) (ap sorts_of (sym i.2) ∙ sorts_again i.0) (sorts_fit l ts r.parts q i.3 r.misfit)) others wi
+      (subst (λ z. all_fits m.classes.classes z (sorts_of ts) ≡ true) (ap sorts_of (sym i.2) ∙ sorts_again i.0) (sorts_fit l ts r.parts q i.3 r.fit)) others wi
 
   pub fault_fits : (t s : Sort) → binding_fault m.classes.classes (known t) s ≡ None → fits m.classes.classes s t ≡ true
   fault_fits t s h = by (fits m.classes.classes s t) h
     where
-      by : (b : Bool) → (if b then None else Some (Rattle.py_check_messages.specs.Messages.wrong_assignment m.classes.classes s t)) ≡ None → b ≡ true
+      by : (b : Bool) → (if b then None else Some (wrong_assignment m.classes.classes s t)) ≡ None → b ≡ true
       by true q = refl
       by false q = absurd (cc)
 

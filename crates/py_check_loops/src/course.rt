@@ -21,10 +21,11 @@ ghost use Rattle.py_check_loops.specs.Views.{course_seen};
 
 use py_check_calls::{has_key, positional};
 use py_check_coercions::coerced;
-use py_check_context::{Builtin, Meaning, Row, Scope, Want, meaning_of};
+use py_check_context::{Builtin, Context, Meaning, Row, Want, meaning_of};
 use py_check_expressions::arguments;
+use py_check_flow::name_in;
 use py_check_messages::{wrong_argument, wrong_number};
-use py_check_places::{Place, name_in};
+use py_check_places::Place;
 use py_check_targets::typed_at;
 use py_syntax::{Arg, Expr, ExprKind, Span};
 use py_syntax_diagnostics::Diag;
@@ -44,7 +45,7 @@ pub enum Course {
 /// What a `for` over this expression goes over (Python Language Reference, "The for statement").
 pub fn course_of(
     alloc: Global,
-    scope: &Scope<'_>,
+    scope: &Context<'_>,
     place: &Place,
     e: &Expr,
     faults: &mut Many<Diag>,
@@ -58,7 +59,7 @@ pub fn course_of(
 }
 
 // The arguments of a call of `range`.
-fn range_arguments<'a>(scope: &Scope<'_>, e: &'a Expr) -> Option<&'a [Arg]>
+fn range_arguments<'a>(scope: &Context<'_>, e: &'a Expr) -> Option<&'a [Arg]>
     ensures { option_map (λ args. arguments_of (map arg_tree args)) (option_copied result) ≡ rule_of.range_arguments (context scope.now) (expr_tree e.now) }
 {
     match &e.kind {
@@ -73,7 +74,7 @@ fn range_arguments<'a>(scope: &Scope<'_>, e: &'a Expr) -> Option<&'a [Arg]>
     }
 }
 
-fn is_range_name(scope: &Scope<'_>, x: Option<&Name>) -> bool
+fn is_range_name(scope: &Context<'_>, x: Option<&Name>) -> bool
     ensures { result ≡ rule_of.is_range_name (context scope.now) (option_copied x.entry) }
 {
     match x {
@@ -91,7 +92,7 @@ fn is_range(meaning: Meaning) -> bool
 // The items of a value.
 fn over_value(
     alloc: Global,
-    scope: &Scope<'_>,
+    scope: &Context<'_>,
     place: &Place,
     e: &Expr,
     faults: &mut Many<Diag>,
@@ -108,7 +109,7 @@ fn over_value(
 // The numbers of a call of `range`.
 fn over_range(
     alloc: Global,
-    scope: &Scope<'_>,
+    scope: &Context<'_>,
     place: &Place,
     span: Span,
     args: &[Arg],
@@ -123,7 +124,7 @@ fn over_range(
 // The arguments of a call of `range`, where none has a key.
 fn range_values(
     alloc: Global,
-    scope: &Scope<'_>,
+    scope: &Context<'_>,
     place: &Place,
     span: Span,
     args: &[Arg],
@@ -138,7 +139,7 @@ fn range_values(
 // Arguments at a place, of which no type is expected.
 fn arguments_at(
     alloc: Global,
-    scope: &Scope<'_>,
+    scope: &Context<'_>,
     place: &Place,
     args: &[Arg],
     faults: &mut Many<Diag>,

@@ -19,7 +19,7 @@ ghost use Rattle.py_check_loops.specs.Heads as rule_of;
 ghost use Rattle.py_check_loops.specs.Views.{boxed_head, boxed_sort, course_seen};
 
 use crate::course::{Course, course_items, course_of, course_type};
-use py_check_context::Scope;
+use py_check_context::Context;
 use py_check_messages::{no_target, not_iterable};
 use py_check_places::{Place, bind_target, enter, is_flat, is_row};
 use py_check_targets::{Aim, binds_several, slot_of, target_aims};
@@ -47,7 +47,7 @@ pub struct Begun {
 /// The head of the `for` statement `s`, and what is known where its body begins.
 pub fn begin_for(
     alloc: Global,
-    scope: &Scope<'_>,
+    scope: &Context<'_>,
     place: &mut Place,
     s: &Stmt,
     span: Span,
@@ -76,7 +76,7 @@ struct HeadParts {
 
 fn typed_head(
     alloc: Global,
-    scope: &Scope<'_>,
+    scope: &Context<'_>,
     place: &Place,
     span: Span,
     target: &Expr,

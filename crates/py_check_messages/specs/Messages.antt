@@ -123,7 +123,7 @@ gives_nothing f = record { text = codes "\"" ++ f ++ codes "\" does not return a
 unfoldable pub invalid_type : Message
 invalid_type = record { text = codes "Invalid type"; code = codes "valid-type" }
 
--- a target that is no name, attribute, index or flat tuple of these
+-- a target that is neither a name, an attribute, an item, nor a row of such
 unfoldable pub no_target : Message
 no_target = record { text = codes "Cannot assign to this expression"; code = codes "misc" }
 

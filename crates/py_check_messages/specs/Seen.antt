@@ -1,7 +1,8 @@
 -- What typing says of a part of the tree: the typed part, if it is typed, and the diagnostics in it.
 --
 -- Where each part of a node has a type and the rule of the node itself is broken, there is a diagnostic at the node, and there
--- alone. Such a node has no type, and what holds it says nothing of it: a fault is told once, where it stands.
+-- alone. Such a node has no type, and what holds it says nothing of it: a fault is told once, where it stands. The pairs of a chain
+-- of comparisons are nodes of their own.
 use Rattle.std.specs.Prelude.{◌≡◌, ℕ, Bool, true, false, List, [], ◌∷◌, ◌++◌, Option, Some, None, Result, Ok, Err}
 use Rattle.std.specs.Option.{option_map, option_zip}
 use Rattle.py_syntax.specs.declared.token.Span.{Span}

@@ -20,7 +20,7 @@ pub fn invalid_type(alloc: Global, span: Span, faults: &mut Many<Diag>) -> Resul
     say_text(alloc, span, "Invalid type", "valid-type", faults)
 }
 
-/// A target that is no name, attribute, index or flat tuple of these.
+/// A target that is neither a name, an attribute, an item, nor a row of such.
 #[tactic(auto, unfolding(crate::specs::Messages::no_target))]
 pub fn no_target(alloc: Global, span: Span, faults: &mut Many<Diag>) -> Result<(), Memory>
     ensures { IfOk result (λ done. faults.new ≡ faults.old ++ diag span message.no_target ∷ []) }

@@ -10,7 +10,7 @@ ghost use Rattle.py_check_coercions.specs.Boxes.{boxed};
 ghost use Rattle.py_check_operators.specs.Names as rule_of;
 
 use py_check_coercions::kept;
-use py_check_context::{Meaning, Scope, VarType, Variables, meaning_of};
+use py_check_context::{Context, Meaning, VarType, Variables, meaning_of};
 use py_check_messages::{no_type_yet, not_a_value, not_defined};
 use py_syntax::Span;
 use py_syntax_diagnostics::Diag;
@@ -22,7 +22,7 @@ use value_core::{Many, Memory, Name, Text};
 #[tactic(auto, using(crate::proofs::NameLemmas::var_found))]
 pub fn named(
     alloc: Global,
-    scope: &Scope<'_>,
+    scope: &Context<'_>,
     vars: &Variables,
     known: &[usize],
     span: Span,

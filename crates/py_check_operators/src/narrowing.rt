@@ -5,7 +5,7 @@ ghost use Rattle.py_typed.specs.Narrowing as narrowing;
 ghost use Rattle.py_check_context.specs.Context.{context};
 ghost use Rattle.py_check_operators.specs.Facts as rule_of;
 
-use py_check_context::{Meaning, Scope, meaning_of};
+use py_check_context::{Context, Meaning, meaning_of};
 use py_syntax::{CmpOp, Expr, ExprKind};
 use std::alloc::Global;
 use value_core::Memory;
@@ -13,7 +13,7 @@ use value_core::Memory;
 /// The locals that are known not to be None where the test has this outcome (mypy's guide, "Union types").
 pub fn facts(
     alloc: Global,
-    scope: &Scope<'_>,
+    scope: &Context<'_>,
     outcome: bool,
     e: &Expr,
 ) -> Result<Vec<usize>, Memory>
@@ -68,7 +68,7 @@ pub fn shared(alloc: Global, names: &[usize], others: &[usize]) -> Result<Vec<us
 // What a comparison tells.
 fn compared(
     alloc: Global,
-    scope: &Scope<'_>,
+    scope: &Context<'_>,
     outcome: bool,
     who: &Expr,
     cs: &[(CmpOp, Expr)],
@@ -104,7 +104,7 @@ fn tells(op: CmpOp, outcome: bool) -> bool
     }
 }
 
-fn subject(alloc: Global, scope: &Scope<'_>, e: &Expr) -> Result<Vec<usize>, Memory>
+fn subject(alloc: Global, scope: &Context<'_>, e: &Expr) -> Result<Vec<usize>, Memory>
     ensures { IfOk result (λ v. v.items ≡ rule_of.subject (context scope.now) (expr_tree e.now)) }
 {
     match &e.kind {
@@ -126,7 +126,7 @@ fn local(alloc: Global, meaning: Meaning) -> Result<Vec<usize>, Memory>
 /// What the test tells, before the names that are known.
 pub fn with_facts(
     alloc: Global,
-    scope: &Scope<'_>,
+    scope: &Context<'_>,
     known: &[usize],
     outcome: bool,
     e: &Expr,

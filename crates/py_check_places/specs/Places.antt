@@ -104,7 +104,7 @@ module _ (c : Context) where
   abbrev pub locals_in : StmtTree → List ℕ
   locals_in s = locals_among (stmt_bindings s)
 
-  -- a loop drops the names that it binds
+  -- what a loop binds is forgotten where it is entered
   abbrev pub entering : Known → StmtTree → Known
   entering k s = with_names k (without (locals_in s) k.names)
 

@@ -12,4 +12,4 @@ mod shapes;
 pub use names::bind_target;
 pub use parts::some_parts;
 pub use places::{Place, all_known, bind_name, enter, learn, meet, put_local, without};
-pub use shapes::{is_flat, is_item, is_row, leaves, name_in};
+pub use shapes::{is_flat, is_item, is_row, leaves};

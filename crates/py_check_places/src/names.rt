@@ -11,8 +11,9 @@ ghost use Rattle.py_check_places.specs.Views.{known_at, trees};
 
 use crate::parts::parts_of;
 use crate::places::{Place, bind_name};
-use crate::shapes::{is_row, leaves, name_in};
-use py_check_context::Scope;
+use crate::shapes::{is_row, leaves};
+use py_check_context::Context;
+use py_check_flow::name_in;
 use py_syntax::Expr;
 use py_typed::Ty;
 use std::alloc::Global;
@@ -21,7 +22,7 @@ use value_core::Memory;
 /// Binds all names of a target to the parts of a value of this type, as far as it has such.
 pub fn bind_target(
     alloc: Global,
-    scope: &Scope<'_>,
+    scope: &Context<'_>,
     place: &mut Place,
     holds: bool,
     target: &Expr,
@@ -37,7 +38,7 @@ pub fn bind_target(
 // Binds single targets that are names, each to the part at its place, if there is one.
 fn bind_names(
     alloc: Global,
-    scope: &Scope<'_>,
+    scope: &Context<'_>,
     place: &mut Place,
     holds: bool,
     targets: &[&Expr],

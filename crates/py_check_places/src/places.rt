@@ -11,7 +11,7 @@ ghost use Rattle.py_check_operators.specs.Facts.{local_of};
 ghost use Rattle.py_check_places.specs.Places as rule_of;
 ghost use Rattle.py_check_places.specs.Views.{known_at};
 
-use py_check_context::{Meaning, Scope, VarType, Variables, meaning_of};
+use py_check_context::{Context, Meaning, VarType, Variables, meaning_of};
 use py_check_flow::{Binding, statement_bindings};
 use py_check_operators::{shared, with_facts};
 use py_syntax::{Expr, Stmt};
@@ -32,7 +32,7 @@ pub struct Place {
 /// What a test tells is known from here on.
 pub fn learn(
     alloc: Global,
-    scope: &Scope<'_>,
+    scope: &Context<'_>,
     place: &mut Place,
     outcome: bool,
     e: &Expr,
@@ -43,8 +43,8 @@ pub fn learn(
     Ok(())
 }
 
-/// A loop drops the names that it binds.
-pub fn enter(alloc: Global, scope: &Scope<'_>, place: &mut Place, s: &Stmt) -> Result<(), Memory>
+/// What a loop binds is forgotten where it is entered.
+pub fn enter(alloc: Global, scope: &Context<'_>, place: &mut Place, s: &Stmt) -> Result<(), Memory>
     ensures { IfOk result (λ done. known_at place.new ≡ rule_of.entering (context scope.now) (known_at place.old) (stmt_tree s.now)) }
 {
     let bound = statement_bindings(alloc, s)?;
@@ -56,7 +56,7 @@ pub fn enter(alloc: Global, scope: &Scope<'_>, place: &mut Place, s: &Stmt) -> R
 // The function's own variables among bindings.
 fn locals_among(
     alloc: Global,
-    scope: &Scope<'_>,
+    scope: &Context<'_>,
     bound: &[Binding<'_>],
 ) -> Result<Vec<usize>, Memory>
     ensures { IfOk result (λ v. v.items ≡ rule_of.locals_among (context scope.now) (bindings_of bound.now)) }
@@ -110,7 +110,7 @@ pub fn all_known(alloc: Global, ends: Option<Vec<usize>>) -> Vec<usize>
 /// A name of a target is bound to a value of this type, if it has one.
 pub fn bind_name(
     alloc: Global,
-    scope: &Scope<'_>,
+    scope: &Context<'_>,
     place: &mut Place,
     holds: bool,
     x: Option<&Name>,

@@ -1,14 +1,12 @@
 //! The single targets in a target, and what kind of expression each is.
 ghost use Rattle.std.specs.Prelude.{◌≡◌, ◌++◌, ◌∷◌, [], map, IfOk};
-ghost use Rattle.std.specs.Option.{option_copied};
 ghost use Rattle.py_syntax.specs.Expressions.{expr_tree, exprs_of};
-ghost use Rattle.py_check_flow.specs.Bindings as bindings;
 ghost use Rattle.py_check_places.specs.Shapes as shapes;
 ghost use Rattle.py_check_places.specs.Views.{trees};
 
 use py_syntax::{Expr, ExprKind};
 use std::alloc::Global;
-use value_core::{Memory, Name};
+use value_core::Memory;
 
 /// The single targets in a target, at any depth.
 pub fn leaves<'a>(alloc: Global, target: &'a Expr) -> Result<Vec<&'a Expr>, Memory>
@@ -45,16 +43,6 @@ fn put<'a>(found: &mut Vec<&'a Expr>, e: &'a Expr) -> Result<(), Memory>
 {
     found.push(e)?;
     Ok(())
-}
-
-/// The name that an expression is.
-pub fn name_in(e: &Expr) -> Option<&Name>
-    ensures { option_copied result ≡ bindings.name_in (expr_tree e.now) }
-{
-    match &e.kind {
-        ExprKind::Name(x) => Some(x),
-        _ => None,
-    }
 }
 
 /// Whether an expression is an item.

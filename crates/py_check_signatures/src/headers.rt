@@ -10,7 +10,7 @@ ghost use Rattle.py_check_signatures.specs.Views.{header_sorts, parts};
 ghost use Rattle.py_check_signatures.specs.Headers as spec;
 
 use py_check_annotations::{annotation, return_annotation};
-use py_check_context::Scope;
+use py_check_context::Context;
 use py_syntax::{Expr, Func};
 use py_syntax_diagnostics::Diag;
 use py_typed::{Sig, Ty, copy_of};
@@ -29,7 +29,7 @@ pub struct Header {
 /// The types of a definition's annotations, whose names mean what they mean in this scope.
 pub fn header_of(
     alloc: Global,
-    scope: &Scope<'_>,
+    scope: &Context<'_>,
     f: &Func,
     faults: &mut Many<Diag>,
 ) -> Result<Header, Memory>
@@ -41,7 +41,7 @@ pub fn header_of(
 
 fn read(
     alloc: Global,
-    scope: &Scope<'_>,
+    scope: &Context<'_>,
     f: &Func,
     faults: &mut Many<Diag>,
 ) -> Result<Header, Memory>
@@ -58,7 +58,7 @@ fn read(
 /// Adds the types of parameters, and answers whether each annotation has one.
 fn add_params(
     alloc: Global,
-    scope: &Scope<'_>,
+    scope: &Context<'_>,
     params: &[(Name, Option<Expr>)],
     types: &mut Many<Option<Ty>>,
     faults: &mut Many<Diag>,
@@ -79,7 +79,7 @@ fn add_params(
 /// The type of a parameter's annotation.
 fn marked(
     alloc: Global,
-    scope: &Scope<'_>,
+    scope: &Context<'_>,
     mark: &Option<Expr>,
     faults: &mut Many<Diag>,
 ) -> Result<Option<Ty>, Memory>
@@ -94,7 +94,7 @@ fn marked(
 /// The type of the annotation of what is returned.
 fn returned(
     alloc: Global,
-    scope: &Scope<'_>,
+    scope: &Context<'_>,
     mark: &Option<Expr>,
     faults: &mut Many<Diag>,
 ) -> Result<Option<Ty>, Memory>

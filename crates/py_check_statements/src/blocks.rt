@@ -28,7 +28,7 @@ use crate::statements::{
     alone, broken, continued, deleted, passed, placed, untyped, with_statement,
 };
 use py_check_assignments::{annotate, assign, update};
-use py_check_context::Scope;
+use py_check_context::Context;
 use py_check_loops::{Begun, begin_for, looped};
 use py_check_places::{Place, learn};
 use py_check_values::Returns;
@@ -42,7 +42,7 @@ use value_core::{Many, Memory};
 #[cycle(statement)]
 pub fn block(
     alloc: Global,
-    scope: &Scope<'_>,
+    scope: &Context<'_>,
     body: &[Stmt],
     returns: Returns<'_>,
     loops: bool,
@@ -68,7 +68,7 @@ pub fn block(
 #[cycle(statement)]
 fn act(
     alloc: Global,
-    scope: &Scope<'_>,
+    scope: &Context<'_>,
     s: &Stmt,
     returns: Returns<'_>,
     loops: bool,
@@ -134,7 +134,7 @@ fn act(
 #[cycle(statement)]
 fn guarded(
     alloc: Global,
-    scope: &Scope<'_>,
+    scope: &Context<'_>,
     body: &[Stmt],
     e: &Expr,
     returns: Returns<'_>,
@@ -155,7 +155,7 @@ fn guarded(
 #[cycle(statement)]
 fn branches(
     alloc: Global,
-    scope: &Scope<'_>,
+    scope: &Context<'_>,
     arms: &[(Expr, Many<Stmt>)],
     returns: Returns<'_>,
     loops: bool,
@@ -181,7 +181,7 @@ fn branches(
 #[cycle(statement)]
 fn conditional(
     alloc: Global,
-    scope: &Scope<'_>,
+    scope: &Context<'_>,
     arms: &[(Expr, Many<Stmt>)],
     other: &[Stmt],
     returns: Returns<'_>,
@@ -202,7 +202,7 @@ fn conditional(
 #[cycle(statement)]
 fn while_loop(
     alloc: Global,
-    scope: &Scope<'_>,
+    scope: &Context<'_>,
     body: &[Stmt],
     s: &Stmt,
     e: &Expr,
@@ -223,7 +223,7 @@ fn while_loop(
 #[cycle(statement)]
 fn for_loop(
     alloc: Global,
-    scope: &Scope<'_>,
+    scope: &Context<'_>,
     body: &[Stmt],
     s: &Stmt,
     target: &Expr,

@@ -10,7 +10,7 @@ ghost use Rattle.py_check_statements.specs.Bodies as rules_of;
 ghost use Rattle.py_check_places.specs.Views.{known_at};
 
 use py_check_coercions::truth;
-use py_check_context::{Scope, Want};
+use py_check_context::{Context, Want};
 use py_check_places::Place;
 use py_check_targets::typed_at;
 use py_check_values::Returns;
@@ -23,7 +23,7 @@ use value_core::{Many, Memory};
 /// A test, as a truth value.
 pub fn condition(
     alloc: Global,
-    scope: &Scope<'_>,
+    scope: &Context<'_>,
     place: &Place,
     e: &Expr,
     faults: &mut Many<Diag>,

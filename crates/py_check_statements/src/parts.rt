@@ -17,7 +17,7 @@ ghost use Rattle.py_check_statements.specs.Bodies as rules_of;
 ghost use Rattle.py_check_statements.specs.Views.{guarded_seen};
 
 use crate::statements::in_box;
-use py_check_context::Scope;
+use py_check_context::Context;
 use py_check_flow::{breaks_out, is_closed};
 use py_check_operators::with_facts;
 use py_check_places::{Place, all_known, enter, meet};
@@ -115,7 +115,7 @@ pub(crate) fn repeated(
 /// The names that are known to be not None where a test is false.
 pub(crate) fn otherwise(
     alloc: Global,
-    scope: &Scope<'_>,
+    scope: &Context<'_>,
     place: &Place,
     e: &Expr,
 ) -> Result<Vec<usize>, Memory>
@@ -157,7 +157,7 @@ pub(crate) fn leave_branches(
 /// Enters the `while` statement `s`, and gives the names that are known to be not None behind it.
 pub(crate) fn begin_while(
     alloc: Global,
-    scope: &Scope<'_>,
+    scope: &Context<'_>,
     place: &mut Place,
     s: &Stmt,
     e: &Expr,
@@ -173,7 +173,7 @@ pub(crate) fn begin_while(
 // Behind a `while` that is entered here its test is false, unless the loop was left before.
 fn left_while(
     alloc: Global,
-    scope: &Scope<'_>,
+    scope: &Context<'_>,
     place: &Place,
     e: &Expr,
     body: &[Stmt],

@@ -18,7 +18,7 @@ ghost use Rattle.py_check_targets.specs.Views.{boxed_act};
 ghost use Rattle.py_check_statements.specs.Views.{boxed_stmt};
 
 use crate::bodies::return_wanted;
-use py_check_context::{Scope, Want};
+use py_check_context::{Context, Want};
 use py_check_messages::{no_exception, only_entries, outside_loop};
 use py_check_places::Place;
 use py_check_targets::typed_at;
@@ -32,7 +32,7 @@ use value_core::{Many, Memory};
 /// An expression that stands alone (Python Language Reference, "Expression statements").
 pub fn alone(
     alloc: Global,
-    scope: &Scope<'_>,
+    scope: &Context<'_>,
     place: &Place,
     e: &Expr,
     faults: &mut Many<Diag>,
@@ -63,7 +63,7 @@ fn of_value(alloc: Global, e: Option<Box<TExpr>>) -> Result<Option<Box<TStmtKind
 /// A `return`, with or without a value (Python Language Reference, "The return statement").
 pub fn returns(
     alloc: Global,
-    scope: &Scope<'_>,
+    scope: &Context<'_>,
     place: &Place,
     span: Span,
     ret: Returns<'_>,

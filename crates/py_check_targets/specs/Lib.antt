@@ -1,3 +1,2 @@
 pub mod Targets
-pub mod NewNames
 pub mod Views

@@ -30,11 +30,12 @@ use Rattle.py_check_messages.specs.Seen.{Seen, Message, is, made}
 use Rattle.py_check_messages.specs.Rows.{row_then}
 use Rattle.py_check_messages.specs.Messages.{no_target, cannot_assign, already_defined, wrong_assignment}
 use Rattle.py_check_operators.specs.Facts.{local_of}
+use Rattle.py_check_coercions.specs.Rows.{first_of}
 use Rattle.py_check_coercions.specs.Several.{unless}
 use Rattle.py_check_operators.specs.Operators.{arithmetic}
 use Rattle.py_check_expressions.specs.Typing.{typing}
 use Rattle.py_check_values.specs.Slots.{SlotSort, known, fresh, refused, itemless}
-use Rattle.py_check_values.specs.Assignments.{first_of, assignment, binding_fault, unpacking_fault, items_for}
+use Rattle.py_check_values.specs.Assignments.{assignment, binding_fault, unpacking_fault, items_for}
 use Rattle.py_check_places.specs.Places.{Known, with_names}
 
 -- ---- single targets
@@ -143,21 +144,31 @@ targets_of aims = flat_map target_of aims
 abbrev pub are_placed : Bool → List Aim → Bool
 are_placed flat aims = flat && list_all is_placed aims
 
--- a new name that stands twice has the type of its first part
+-- what has a type takes what fits it; so does a new name that stands twice, by the type of its first part
 abbrev pub again_fault : List ClassEntry → Option Sort → Sort → Option Message
 again_fault classes None s = None
 again_fault classes (Some t) s = if fits classes s t then None else Some (wrong_assignment classes s t)
 
-abbrev pub twice_fault : List ClassEntry → List (List ℕ × Sort) → List Aim → List Sort → Option Message
-twice_fault classes seen (first target x ∷ more) (s ∷ ss) =
-    first_of (again_fault classes (lookup (bytes_eq x) seen) s) (twice_fault classes (seen ++ (x, s) ∷ []) more ss)
-twice_fault classes seen (a ∷ more) (s ∷ ss) = twice_fault classes seen more ss
-twice_fault classes seen aims ss = None
+-- what is wrong with the part that one target takes, behind these new names with the types of their first parts
+abbrev pub part_fault : List ClassEntry → List (List ℕ × Sort) → Aim → Sort → Option Message
+part_fault classes seen (held target t) s = again_fault classes (Some t) s
+part_fault classes seen (first target x) s = again_fault classes (lookup (bytes_eq x) seen) s
+part_fault classes seen a s = None
+
+-- the new names with that of one more target
+abbrev pub with_new_name : List (List ℕ × Sort) → Aim → Sort → List (List ℕ × Sort)
+with_new_name seen (first target x) s = seen ++ (x, s) ∷ []
+with_new_name seen a s = seen
+
+-- the first part that does not fit
+abbrev pub parts_fault : List ClassEntry → List (List ℕ × Sort) → List Aim → List Sort → Option Message
+parts_fault classes seen (a ∷ more) (s ∷ ss) = first_of (part_fault classes seen a s) (parts_fault classes (with_new_name seen a s) more ss)
+parts_fault classes seen aims ss = None
 
 -- what is wrong where a value of a type is bound to several targets
 abbrev pub several_fault : List ClassEntry → List Aim → Sort → Option Message
 several_fault classes aims t =
-    first_of (unpacking_fault classes (map slot_of aims) t) (twice_fault classes [] aims (some_parts (items_for t (length aims))))
+    first_of (unpacking_fault classes (map slot_of aims) t) (parts_fault classes [] aims (some_parts (items_for t (length aims))))
 
 abbrev pub one_assigned : List ClassEntry → List Aim → TypedExpr → Result TypedExpr Message
 one_assigned classes (a ∷ []) e = assignment classes (slot_of a) e

@@ -1,7 +1,6 @@
 //! What is assigned to at a place of a body, and when a value may be.
 //!
-//! `specs/Targets.antt` has the targets of an assignment, each by what it is, and the rules of a value for them; what one more new
-//! name among several does to these is in `specs/NewNames.antt`.
+//! `specs/Targets.antt` has the targets of an assignment, each by what it is, and the rules of a value for them.
 #![tactic(auto)]
 
 mod several;

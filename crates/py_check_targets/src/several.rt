@@ -8,9 +8,7 @@ ghost use Rattle.py_typed.specs.Classes.{class_entry};
 ghost use Rattle.py_check_messages.specs.Seen.{Finds};
 ghost use Rattle.py_check_values.specs.Slots.{slot_sort};
 ghost use Rattle.py_check_targets.specs.Targets as rule_of;
-ghost use Rattle.py_check_targets.specs.NewNames as new_names;
-ghost use Rattle.py_check_targets.specs.NewNames.{part_seen};
-ghost use Rattle.py_check_targets.specs.Views.{aim_seen};
+ghost use Rattle.py_check_targets.specs.Views.{aim_seen, part_seen};
 
 use crate::targets::{Aim, slot_of};
 use py_check_messages::wrong_assignment;
@@ -38,7 +36,7 @@ pub fn binds_several(
         return Ok(false);
     }
     let parts = some_parts(items_for(t, aims.len()));
-    fit_first_parts(alloc, classes, span, aims, parts, faults)
+    fit_parts(alloc, classes, span, aims, parts, faults)
 }
 
 // What targets are for values.
@@ -59,8 +57,8 @@ pub(crate) struct NewName<'a> {
     pub(crate) ty: &'a Ty,
 }
 
-// Whether each new name that stands twice has the type of its first part; what is wrong is said.
-fn fit_first_parts(
+// Whether each part fits its target; the first that does not is said.
+fn fit_parts(
     alloc: Global,
     classes: &Classes,
     span: Span,
@@ -68,14 +66,14 @@ fn fit_first_parts(
     parts: &[Ty],
     faults: &mut Many<Diag>,
 ) -> Result<bool, Memory>
-    ensures { IfOk result (λ right. Finds right faults.old faults.new span (rule_of.twice_fault (map class_entry classes.now.list) [] (map aim_seen aims.now) (map sort parts.now))) }
+    ensures { IfOk result (λ right. Finds right faults.old faults.new span (rule_of.parts_fault (map class_entry classes.now.list) [] (map aim_seen aims.now) (map sort parts.now))) }
 {
     let mut seen = Vec::new(alloc);
     for (i, a) in aims.iter().enumerate() {
         let Some(t) = parts.get(i) else {
             return Ok(true);
         };
-        if !fits_first_part(alloc, classes, span, seen.as_slice(), a, t, faults)? {
+        if !fits_part(alloc, classes, span, seen.as_slice(), a, t, faults)? {
             return Ok(false);
         }
         put_new_name(&mut seen, a, t)?;
@@ -84,7 +82,7 @@ fn fit_first_parts(
 }
 
 // The same of one target, behind these new names.
-fn fits_first_part(
+fn fits_part(
     alloc: Global,
     classes: &Classes,
     span: Span,
@@ -93,11 +91,11 @@ fn fits_first_part(
     s: &Ty,
     faults: &mut Many<Diag>,
 ) -> Result<bool, Memory>
-    ensures { IfOk result (λ right. Finds right faults.old faults.new span (new_names.part_fault (map class_entry classes.now.list) (map part_seen seen.now) (aim_seen a.now) (sort s.now))) }
+    ensures { IfOk result (λ right. Finds right faults.old faults.new span (rule_of.part_fault (map class_entry classes.now.list) (map part_seen seen.now) (aim_seen a.now) (sort s.now))) }
 {
     match a {
+        Aim::Held(_, t) => fits_again(alloc, classes, span, Some(t), s, faults),
         Aim::First(_, x) => fits_again(alloc, classes, span, first_part(seen, x), s, faults),
-        Aim::Held(_, _) => Ok(true),
         Aim::Barred(_) => Ok(true),
         Aim::Unwritten(_) => Ok(true),
         Aim::Misplaced(_) => Ok(true),
@@ -116,7 +114,7 @@ fn first_part<'a>(seen: &[NewName<'a>], x: &Name) -> Option<&'a Ty>
     None
 }
 
-// A part fits the first one of its name, if there is one before it.
+// A part fits what its target has, if that has a type.
 fn fits_again(
     alloc: Global,
     classes: &Classes,
@@ -139,7 +137,7 @@ fn fits_again(
 
 // The new names with that of one more target.
 fn put_new_name<'a>(seen: &mut Vec<NewName<'a>>, a: &'a Aim<'_>, ty: &'a Ty) -> Result<(), Memory>
-    ensures { IfOk result (λ done. map part_seen seen.new.items ≡ new_names.with_new_name (map part_seen seen.old.items) (aim_seen a.now) (sort ty.now)) }
+    ensures { IfOk result (λ done. map part_seen seen.new.items ≡ rule_of.with_new_name (map part_seen seen.old.items) (aim_seen a.now) (sort ty.now)) }
 {
     match a {
         Aim::First(_, name) => {

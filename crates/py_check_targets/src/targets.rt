@@ -18,9 +18,10 @@ ghost use Rattle.py_check_targets.specs.Targets as rule_of;
 ghost use Rattle.py_check_places.specs.Views.{known_at, trees};
 ghost use Rattle.py_check_targets.specs.Views.{aim_seen, boxed_aim};
 
-use py_check_context::{Meaning, Scope, VarType, Want, meaning_of};
+use py_check_context::{Context, Meaning, VarType, Want, meaning_of};
 use py_check_expressions::expression;
-use py_check_places::{Place, is_item, leaves, name_in, put_local, without};
+use py_check_flow::name_in;
+use py_check_places::{Place, is_item, leaves, put_local, without};
 use py_check_values::Slot;
 use py_syntax::Expr;
 use py_syntax_diagnostics::Diag;
@@ -46,7 +47,7 @@ pub enum Aim<'a> {
 /// An expression at a place.
 pub fn typed_at(
     alloc: Global,
-    scope: &Scope<'_>,
+    scope: &Context<'_>,
     place: &Place,
     want: Want<'_>,
     e: &Expr,
@@ -167,7 +168,7 @@ fn is_written(t: &Ty) -> bool
 #[tactic(auto, using(crate::proofs::PlaceLemmas::name_aim_kept))]
 fn single_aim<'a>(
     alloc: Global,
-    scope: &Scope<'_>,
+    scope: &Context<'_>,
     place: &Place,
     names: &[usize],
     e: &'a Expr,
@@ -208,7 +209,7 @@ pub fn in_box<'a>(alloc: Global, a: Option<Aim<'a>>) -> Result<Option<Box<Aim<'a
 /// The single targets of a target, each by what it is.
 pub fn aims<'a>(
     alloc: Global,
-    scope: &Scope<'_>,
+    scope: &Context<'_>,
     place: &Place,
     leaves: &[&'a Expr],
     faults: &mut Many<Diag>,
@@ -228,7 +229,7 @@ pub fn aims<'a>(
 /// The single targets of a target, each by what it is.
 pub fn target_aims<'a>(
     alloc: Global,
-    scope: &Scope<'_>,
+    scope: &Context<'_>,
     place: &Place,
     target: &'a Expr,
     faults: &mut Many<Diag>,
@@ -242,7 +243,7 @@ pub fn target_aims<'a>(
 // The names that are known behind a target, once it is bound.
 fn forgotten(
     alloc: Global,
-    scope: &Scope<'_>,
+    scope: &Context<'_>,
     names: &[usize],
     e: &Expr,
 ) -> Result<Vec<usize>, Memory>

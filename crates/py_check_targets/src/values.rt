@@ -12,7 +12,7 @@ ghost use Rattle.py_check_places.specs.Views.{known_at};
 ghost use Rattle.py_check_targets.specs.Views.{aim_seen};
 
 use crate::targets::{Aim, typed_at};
-use py_check_context::{Scope, Want};
+use py_check_context::{Context, Want};
 use py_check_places::Place;
 use py_syntax::Expr;
 use py_syntax_diagnostics::Diag;
@@ -23,7 +23,7 @@ use value_core::{Many, Memory};
 /// A value for one target or for several, which ask it for their types.
 pub fn value_for(
     alloc: Global,
-    scope: &Scope<'_>,
+    scope: &Context<'_>,
     place: &Place,
     several: bool,
     aims: &Option<Many<Aim<'_>>>,

@@ -1,15 +1,15 @@
 -- Values that are bound and returned, and some that are not.
-use Rattle.std.proofs.Common.{◌≡◌, [], ◌∷◌, Ok, Err, refl, codes}
+use Rattle.std.proofs.Common.{◌≡◌, [], ◌∷◌, Some, None, Ok, Err, refl, codes}
 use Rattle.std.specs.Prelude.{pos}
 use Rattle.py_syntax.specs.declared.token.Span.{Span}
 use Rattle.py_typed.specs.Sorts as sort
 use Rattle.py_typed.specs.Sorts.{sorts_of, TupleOf, Optional}
 use Rattle.py_typed.specs.Expressions as node
-use Rattle.py_typed.specs.Expressions.{TypedExpr, typed, exprs_of}
+use Rattle.py_typed.specs.Expressions.{TypedExpr, typed, type_of, exprs_of}
 use Rattle.py_check_messages.specs.Seen.{is, silent, fails}
 use Rattle.py_check_messages.specs.Messages.{wrong_assignment, needs_annotation, cannot_unpack, cannot_assign, wrong_return, no_return_expected, return_outside, return_expected}
 use Rattle.py_check_values.specs.Slots.{known, fresh, refused}
-use Rattle.py_check_values.specs.Assignments.{assignment, unpacking}
+use Rattle.py_check_values.specs.Assignments.{assignment, unpacking_fault}
 use Rattle.py_check_values.specs.Returns.{bare_return, value_return, outside, untyped, gives}
 
 abbrev place : Span
@@ -34,18 +34,15 @@ misfit = refl
 first_none : assignment [] (fresh (codes "x")) nothing ≡ Err (needs_annotation (codes "x"))
 first_none = refl
 
--- `a, b = (1, 1)` keeps the tuple as it is, whatever the targets are changed to
-two_targets : unpacking [] (known (Optional sort.Int) ∷ fresh (codes "b") ∷ []) pair ≡ Ok pair
+-- a tuple of two for two targets, and for three
+two_targets : unpacking_fault [] (known (Optional sort.Int) ∷ fresh (codes "b") ∷ []) (type_of pair) ≡ None
 two_targets = refl
 
-second_misfit : unpacking [] (fresh (codes "a") ∷ known sort.Str ∷ []) pair ≡ Err (wrong_assignment [] sort.Int sort.Str)
-second_misfit = refl
-
-three_targets : unpacking [] (fresh (codes "a") ∷ fresh (codes "b") ∷ fresh (codes "c") ∷ []) pair ≡ Err (cannot_unpack [] (TupleOf (sorts_of (sort.Int ∷ sort.Int ∷ []))) 3)
+three_targets : unpacking_fault [] (fresh (codes "a") ∷ fresh (codes "b") ∷ fresh (codes "c") ∷ []) (type_of pair) ≡ Some (cannot_unpack [] (type_of pair) 3)
 three_targets = refl
 
--- a name that cannot be assigned comes before what does not fit
-names_first : unpacking [] (known sort.Str ∷ refused (codes "len") ∷ []) one ≡ Err (cannot_assign (codes "len"))
+-- a name that cannot be assigned comes before the number
+names_first : unpacking_fault [] (known sort.Str ∷ refused (codes "len") ∷ []) sort.Int ≡ Some (cannot_assign (codes "len"))
 names_first = refl
 
 returned : value_return [] place (gives sort.I64) one ≡ is (typed (node.Coerce one) sort.I64 place)

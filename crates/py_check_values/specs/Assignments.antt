@@ -1,8 +1,8 @@
 -- Assignments (Python Language Reference, "Assignment statements"; PEP 484).
 --
 -- A value is assigned to one target, whose type it fits, and is changed to that type. A variable without a type takes that of
--- its first value, which is not None. Several targets take the items of a tuple of as many, each the item at its place, and
--- the tuple stays as it is. Names of functions, classes, imports and builtins are not assigned, and of items only those of
+-- its first value, which is not None. Several targets take the items of a tuple of as many, each the item at its place; whether
+-- these fit is not asked here. Names of functions, classes, imports and builtins are not assigned, and of items only those of
 -- lists and dicts.
 use Rattle.std.specs.Prelude.{ℕ, nat_eq, List, [], ◌∷◌, length, Option, Some, None, Result, if◌then◌else◌}
 use Rattle.std.specs.Option.{option_map}
@@ -13,6 +13,7 @@ use Rattle.py_typed.specs.Expressions.{TypedExpr, type_of}
 use Rattle.py_check_messages.specs.Seen.{Message}
 use Rattle.py_check_messages.specs.Messages.{cannot_assign, index_target, cannot_unpack, needs_annotation, wrong_assignment}
 use Rattle.py_check_coercions.specs.Values.{coerced}
+use Rattle.py_check_coercions.specs.Rows.{first_of}
 use Rattle.py_check_coercions.specs.Several.{unless}
 use Rattle.py_check_values.specs.Slots.{SlotSort, known, fresh, refused, itemless}
 
@@ -54,29 +55,14 @@ abbrev pub items_for : Sort → ℕ → Option (List Sort)
 items_for (TupleOf ts) n = as_many (listed_sorts ts) n
 items_for s n = None
 
--- an item's type with that of the target, where it does not fit. No item has the type None
-abbrev pub misfit : List ClassEntry → SlotSort → Sort → Option (Sort × Sort)
-misfit classes (known t) s = if fits classes s t then None else Some (s, t)
-misfit classes slot s = None
+-- what is wrong where a value of a type has not so many items
+abbrev pub items_fault : List ClassEntry → ℕ → Sort → Option (List Sort) → Option Message
+items_fault classes n s None = Some (cannot_unpack classes s n)
+items_fault classes n s (Some ss) = None
 
-abbrev pub first_of : {A : Type 0} → Option A → Option A → Option A
-first_of None other = other
-first_of (Some a) other = Some a
-
-abbrev pub first_misfit : List ClassEntry → List Sort → List SlotSort → Option (Sort × Sort)
-first_misfit classes (s ∷ ss) (slot ∷ slots) = first_of (misfit classes slot s) (first_misfit classes ss slots)
-first_misfit classes ss slots = None
-
-abbrev pub items_fault : List ClassEntry → List SlotSort → Sort → Option (List Sort) → Option Message
-items_fault classes slots s None = Some (cannot_unpack classes s (length slots))
-items_fault classes slots s (Some ss) = option_map (λ p. wrong_assignment classes p.0 p.1) (first_misfit classes ss slots)
-
--- what is wrong where a value of a type is bound to them
+-- what is wrong where a value of a type is taken apart for them, whatever its items are
 abbrev pub unpacking_fault : List ClassEntry → List SlotSort → Sort → Option Message
 unpacking_fault classes slots s =
     first_of (option_map cannot_assign (first_refused slots))
     (first_of (option_map (index_target classes) (first_itemless slots))
-    (items_fault classes slots s (items_for s (length slots))))
-
-abbrev pub unpacking : List ClassEntry → List SlotSort → TypedExpr → Result TypedExpr Message
-unpacking classes slots e = unless (unpacking_fault classes slots (type_of e)) e
+    (items_fault classes (length slots) s (items_for s (length slots))))

@@ -81,27 +81,7 @@ pub fn binds(
     Ok(false)
 }
 
-/// A value whose items are bound to several targets.
-pub fn unpacked(
-    alloc: Global,
-    classes: &Classes,
-    span: Span,
-    slots: &[Slot<'_>],
-    e: Option<Box<TExpr>>,
-    faults: &mut Many<Diag>,
-) -> Result<Option<Box<TExpr>>, Memory>
-    ensures { IfOk result (λ t. Tells boxed t faults.old faults.new (ruled span (rule_of.unpacking (map class_entry classes.now.list) (map slot_sort slots.entry.now)) (option_map boxed e))) }
-{
-    let Some(e) = e else {
-        return Ok(None);
-    };
-    if !unpacks(alloc, classes, span, slots, &e.ty, faults)? {
-        return Ok(None);
-    }
-    Ok(Some(e))
-}
-
-/// Whether the items of a value of a type may be bound to several targets; what is wrong is said.
+/// Whether a value of a type is taken apart for several targets, whatever its items are; what is wrong is said.
 pub fn unpacks(
     alloc: Global,
     classes: &Classes,
@@ -120,14 +100,10 @@ pub fn unpacks(
         index_target(alloc, classes, span, t, faults)?;
         return Ok(false);
     }
-    let Some(items) = items_for(s, slots.len()) else {
+    let Some(_) = items_for(s, slots.len()) else {
         cannot_unpack(alloc, classes, span, s, slots.len(), faults)?;
         return Ok(false);
     };
-    if let Some((s, t)) = first_misfit(classes, slots, items) {
-        wrong_assignment(alloc, classes, span, s, t, faults)?;
-        return Ok(false);
-    }
     Ok(true)
 }
 
@@ -169,33 +145,4 @@ fn as_many(ts: &[Ty], n: usize) -> Option<&[Ty]>
     ensures { option_map (map sort) (option_copied result) ≡ rule_of.as_many (map sort ts.now) n }
 {
     if ts.len() == n { Some(ts) } else { None }
-}
-
-/// The first item's type that does not fit its target, with the target's.
-pub fn first_misfit<'a>(
-    classes: &Classes,
-    slots: &[Slot<'a>],
-    items: &'a [Ty],
-) -> Option<(&'a Ty, &'a Ty)>
-    ensures { option_map (λ p. (sort p.0.now, sort p.1.now)) result ≡ rule_of.first_misfit (map class_entry classes.now.list) (map sort items.now) (map slot_sort slots.entry.now) }
-{
-    for (i, s) in items.iter().enumerate() {
-        let Some(slot) = slots.get(i) else {
-            return None;
-        };
-        if let Some(t) = misfit(classes, *slot, s) {
-            return Some((s, t));
-        }
-    }
-    None
-}
-
-/// The type of a target that an item does not fit.
-fn misfit<'a>(classes: &Classes, slot: Slot<'a>, s: &Ty) -> Option<&'a Ty>
-    ensures { option_map (λ t. (sort s.now, sort t.now)) result ≡ rule_of.misfit (map class_entry classes.now.list) (slot_sort slot.entry) (sort s.now) }
-{
-    match slot {
-        Slot::Known(t) if !fits(s, t, classes) => Some(t),
-        _ => None,
-    }
 }

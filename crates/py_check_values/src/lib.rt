@@ -9,6 +9,6 @@ mod assignments;
 mod returns;
 mod slots;
 
-pub use assignments::{assigned, binds, first_misfit, items_for, unpacked, unpacks};
+pub use assignments::{assigned, binds, items_for, unpacks};
 pub use returns::{Returns, returned, returned_nothing};
 pub use slots::Slot;

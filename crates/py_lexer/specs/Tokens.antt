@@ -74,6 +74,6 @@ pieces_of text = pieces (end_of start text) (length text) (placed start text)
 abbrev pub items_of : List ℕ → List Item
 items_of text = laid (end_of start text) [] (logical_lines start.line (nested None [] (pieces_of text)))
 
--- the tokens of a text, or its first fault with its line
+-- a text's tokens, or where its first fault is and which
 unfoldable pub tokens_of : List ℕ → Result (List Token) Fault
 tokens_of text = settled (items_of (plain text))

@@ -2,7 +2,7 @@
 ghost use Rattle.std.specs.Prelude.{◌≡◌, ◌+◌, ◌∷◌, if◌then◌else◌};
 ghost use Rattle.py_parser_source.specs.Faults.{line_ends};
 
-/// The line of the place behind these bytes, from 1: lines end at LF, CR LF or CR.
+/// The line of the place behind these bytes, from 1: a line's end is LF, CR or both.
 pub(crate) fn line_behind(bytes: &[u8]) -> usize
     ensures { result ≡ 1 + line_ends bytes.now }
 {

@@ -1,7 +1,7 @@
 use Rattle.std.proofs.Common.{◌≡◌, map, drop}
 use Rattle.std.specs.Map.{lookup}
 use Rattle.std.specs.Str.{bytes_eq}
-use Rattle.py_check_targets.specs.NewNames.{part_seen}
+use Rattle.py_check_targets.specs.Views.{part_seen}
 use Rattle.py_check_targets.proofs.several.first_part.Given as goal
 
 abbrev pub invariant-loop-part : goal.invariant-loop-part
