@@ -20,12 +20,12 @@ use Rattle.liveness.specs.Apart.{size_with, size_of, home_between, home_of, home
 
 -- ---- lists
 
-get_front : {A : Type 0} (xs ys : List A) (j : ℕ) (x : A) → slice_get xs j ≡ Some x → slice_get (xs ++ ys) j ≡ Some x
+pub get_front : {A : Type 0} (xs ys : List A) (j : ℕ) (x : A) → slice_get xs j ≡ Some x → slice_get (xs ++ ys) j ≡ Some x
 get_front [] ys j x e = cc
 get_front (y ∷ xs) ys zero x e = e
 get_front (y ∷ xs) ys (suc j) x e = get_front xs ys j x e
 
-get_back : {A : Type 0} (xs ys : List A) (j k : ℕ) → k ≡ length xs + j → slice_get (xs ++ ys) k ≡ slice_get ys j
+pub get_back : {A : Type 0} (xs ys : List A) (j k : ℕ) → k ≡ length xs + j → slice_get (xs ++ ys) k ≡ slice_get ys j
 get_back [] ys j k e = let same : k ≡ j = omega (arith, e) in ap (slice_get ys) same
 get_back (x ∷ xs) ys j zero e = absurd (omega (arith, e))
 get_back (x ∷ xs) ys j (suc k) e = get_back xs ys j k (omega (arith, e))

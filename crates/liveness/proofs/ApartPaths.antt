@@ -14,12 +14,12 @@ use Rattle.ir_core.specs.Rows.{edge_of_op}
 use Rattle.ir_core.specs.Items.{Item, Do, End, in_block, item_of, item_in, handler_of, handler_in}
 use Rattle.liveness.specs.declared.apart.Home.{Home}
 use Rattle.liveness.specs.declared.apart.Home.TheVariants.{Whole, Apart}
-use Rattle.liveness.specs.Paths.{is_caught, reads, writes, targets, Goes, passes, fails, jumps, LiveAt, reads_here, goes_on, MetAt, entry, onward, OwnedAt, no_parameter, written, kept, BorrowedAt}
+use Rattle.liveness.specs.Paths.{is_caught, reads, writes, gives_lent, targets, Goes, passes, fails, jumps, LiveAt, reads_here, goes_on, MetAt, entry, onward, OwnedAt, no_parameter, written, kept, BorrowedAt}
 use Rattle.liveness.specs.Apart.{size_of, home_between, home_of, homes_from, pieces_in, first_in, piece_in, place_in, first_or, moved, bare_piece, choice, pieces_from, pieces_with, pieces_of, apart}
 use Rattle.liveness.specs.Apart as spec
 use Rattle.liveness.proofs.FloodLemmas.{among_one}
 use Rattle.liveness.proofs.PathLemmas.{get_map, get_unmap}
-use Rattle.liveness.proofs.OwnedLemmas.{no_lent, get_none, below_or_not}
+use Rattle.liveness.proofs.OwnedLemmas.{get_none, below_or_not}
 use Rattle.liveness.proofs.ApartLemmas.{behind_in, from_first, first_before, pieces_size, piece_do, piece_end, home_there}
 
 -- ---- ends and operations
@@ -94,6 +94,10 @@ moved_reads to (End Unreachable) r = refl
 moved_writes : (to : ℕ → ℕ) (i : Item) (r : ℕ) → writes (moved_item to i) r ≡ writes i r
 moved_writes to (Do o line) r = refl
 moved_writes to (End l) r = refl
+
+moved_lent : (to : ℕ → ℕ) (i : Item) → gives_lent (moved_item to i) ≡ gives_lent i
+moved_lent to (Do o line) = refl
+moved_lent to (End l) = refl
 
 item_moved : (to : ℕ → ℕ) (ops : List (Op × ℕ)) (last : Last) (p : ℕ) (i : Item) → in_block ops last p ≡ Some i → in_block ops (moved to last) p ≡ Some (moved_item to i)
 item_moved to [] last zero i e = let same : End last ≡ i = same_Some _ _ e in ap (λ z. Some (moved_item to z)) same
@@ -463,9 +467,9 @@ module _ (f : Func) where
     where
       by_way : (x y : ℕ) → Stands f a o x y → MetAt (apart f) x y → (u v : ℕ) → Way x y u v → OwnedAt (apart f) r u v
       by_way x y st met u v (straight to_u) =
-          written x y u v (moved_item to i) met (view_item a o x y i (view a o x y i st e)) (moved_writes to i r ∙ w) (no_lent (moved_item to i)) to_u
+          written x y u v (moved_item to i) met (view_item a o x y i (view a o x y i st e)) (moved_writes to i r ∙ w) (moved_lent to i ∙ lent) to_u
       by_way x y st met u v (over l end first second) =
-          kept x 1 u v (End l) (written x y x 1 (moved_item to i) met (view_item a o x y i (view a o x y i st e)) (moved_writes to i r ∙ w) (no_lent (moved_item to i)) first) end refl second
+          kept x 1 u v (End l) (written x y x 1 (moved_item to i) met (view_item a o x y i (view a o x y i st e)) (moved_writes to i r ∙ w) (moved_lent to i ∙ lent) first) end refl second
   owned_there r b p (kept a o c q i on e w g) =
       let was = owned_there r a o on in
       let there = go_there a o b p g was.0 was.1 was.2 in
@@ -518,7 +522,7 @@ module _ (f : Func) where
       let i = item_back s.0 s.1 a o j s.2 e in
       let same : moved_item to i.0 ≡ j = two_items a o _ _ (view_item s.0 s.1 a o i.0 (view s.0 s.1 a o i.0 s.2 i.1)) e in
       let wrote : writes i.0 r ≡ true = sym (moved_writes to i.0 r) ∙ ap (λ z. writes z r) same ∙ w in
-      owned_on r a o x y s.0 s.1 i.0 s.2 i.1 (λ c q to_c. written s.0 s.1 c q i.0 s.3 i.1 wrote (no_lent i.0) to_c) g)
+      owned_on r a o x y s.0 s.1 i.0 s.2 i.1 (λ c q to_c. written s.0 s.1 c q i.0 s.3 i.1 wrote (sym (moved_lent to i.0) ∙ ap gives_lent same ∙ lent) to_c) g)
       (λ s.
       let same = two_items a o _ _ (ap (item_in all a) s.3 ∙ s.2.end) e in
       let clash : false ≡ true = ap (λ z. writes z r) same ∙ w in

@@ -1,15 +1,15 @@
 -- Marks of the blocks that read a register before they write it.
 use Rattle.std.proofs.Common.{◌≡◌, ℕ, ◌<◌, ◌⊎◌, Bool, true, false, List, [], ◌∷◌, ◌++◌, length, sym, ap, ◌∙◌, subst, inl, inr, ⊎_elim, arith, get_or}
 use Rattle.std.specs.Prelude.{◌↔◌}
-use Rattle.std.proofs.lemmas.List.{get_or_past}
 use Rattle.liveness.specs.declared.places.Touches.{Touches}
 use Rattle.liveness.specs.Paths.{is_among}
 use Rattle.liveness.specs.Rising.{AreAtMost, with_number, has, with_mark}
-use Rattle.liveness.specs.Places.{lets, reads_first}
-use Rattle.liveness.specs.Flood.{Comes, at_first, onward}
+use Rattle.liveness.specs.Places.{lets_by, reads_first}
+use Rattle.liveness.specs.declared.flood.Stop.TheVariants.{Before}
+use Rattle.liveness.specs.Flood.{Comes, at_first, onward, entered, onto}
 use Rattle.liveness.specs.Rows.{Found, reads_it, leads_on, AreBelow}
-use Rattle.liveness.proofs.RisingLemmas.{lt_tells, none_among}
-use Rattle.liveness.proofs.FloodLemmas.{among_front, among_back, among_parts, among_one, size_set, mark_has, mark_keeps, mark_from, mark_other, mark_most, one_among}
+use Rattle.liveness.proofs.RisingLemmas.{none_among}
+use Rattle.liveness.proofs.FloodLemmas.{among_front, among_back, among_parts, among_one, size_set, mark_has, mark_keeps, mark_from, mark_other, mark_most, one_among, edge_within}
 
 pub record Exposing (reads : ℕ → Bool) (edges old : List (List ℕ)) (r : ℕ) (seen : List ℕ) (rows : List (List ℕ)) (work : List ℕ) : Type 0 where
   pub size : length rows ≡ length old
@@ -74,30 +74,25 @@ module _ (reads : ℕ → Bool) (edges old : List (List ℕ)) (r : ℕ) where
 -- what the walk from the exposed blocks marks is what is found
 module _ (touches : Touches) (readers : List ℕ) (edges : List (List ℕ)) (r : ℕ) (marked rows : List (List ℕ)) (work : List ℕ) (sound : (t : ℕ) → has marked r t ≡ true → (is_among readers t ≡ true) × (reads_first touches r t ≡ true)) (marks : (t : ℕ) → is_among readers t ≡ true → reads_first touches r t ≡ true → t < length marked → has marked r t ≡ true) (waits : (b t : ℕ) → has marked r b ≡ true → is_among (get_or edges b []) t ≡ true → is_among work t ≡ true) (comes : (t : ℕ) → is_among work t ≡ true → (b : ℕ) × (has marked r b ≡ true) × (is_among (get_or edges b []) t ≡ true)) (size : length edges ≡ length marked) where
   abbrev through : ℕ → Bool
-  through = lets touches.spans (get_or touches.writes r [])
+  through = lets_by touches r
 
-  come_found : (t : ℕ) → Comes edges through work t → Found touches readers edges r t
+  abbrev Coming : ℕ → Type 0
+  Coming = Comes (onto Before through edges) (entered Before through) work
+
+  come_found : (t : ℕ) → Coming t → Found touches readers edges r t
   come_found t (at_first s e lets_it) =
       let h = comes t e in
       let g = sound h.0 h.1 in
       leads_on h.0 t (reads_it h.0 g.0 g.1) h.2 lets_it
   come_found t (onward b s come e lets_it) = leads_on b t (come_found b come) e lets_it
 
-  edge_within : (b t : ℕ) → is_among (get_or edges b []) t ≡ true → b < length marked
-  edge_within b t e =
-      ⊎_elim
-      (λ a. omega (arith, a.1, size))
-      (λ a.
-      let none : false ≡ true = ap (λ z. is_among z t) (sym (get_or_past edges b [] a.1)) ∙ e in
-      absurd (cc))
-      (lt_tells b (length edges))
-
-  found_come : (t : ℕ) → Found touches readers edges r t → t < length marked → (has marked r t ≡ true) ⊎ Comes edges through work t
+  found_come : (t : ℕ) → Found touches readers edges r t → t < length marked → (has marked r t ≡ true) ⊎ Coming t
   found_come t (reads_it s e reads_t) lt = inl (marks t e reads_t lt)
   found_come t (leads_on b s found e lets_it) lt =
-      inr (⊎_elim (λ a. at_first t (waits b t a e) lets_it) (λ a. onward b t a e lets_it) (found_come b found (edge_within b t e)))
+      let within = edge_within edges b t e in
+      inr (⊎_elim (λ a. at_first t (waits b t a e) lets_it) (λ a. onward b t a e lets_it) (found_come b found (omega (arith, within, size))))
 
-  pub found_exact : ((t : ℕ) → t < length marked → (has rows r t ≡ true) ↔ ((has marked r t ≡ true) ⊎ Comes edges through work t)) → (t : ℕ) → t < length marked → (has rows r t ≡ true) ↔ Found touches readers edges r t
+  pub found_exact : ((t : ℕ) → t < length marked → (has rows r t ≡ true) ↔ ((has marked r t ≡ true) ⊎ Coming t)) → (t : ℕ) → t < length marked → (has rows r t ≡ true) ↔ Found touches readers edges r t
   found_exact flooded t lt = (
     λ e.
         ⊎_elim

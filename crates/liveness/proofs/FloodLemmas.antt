@@ -6,7 +6,9 @@ use Rattle.std.proofs.Math.Seq.{get_or-append_seam}
 use Rattle.std.proofs.lemmas.List.Folds.{list_any-append}
 use Rattle.liveness.specs.Paths.{is_among}
 use Rattle.liveness.specs.Rising.{IsAtMost, AreAtMost, with_number, has, with_mark, lacks}
-use Rattle.liveness.specs.Flood.{Comes, at_first, onward}
+use Rattle.liveness.specs.declared.flood.Stop.{Stop}
+use Rattle.liveness.specs.declared.flood.Stop.TheVariants.{Before, Behind, Nowhere}
+use Rattle.liveness.specs.Flood.{Comes, at_first, onward, onto}
 use Rattle.liveness.proofs.RisingLemmas.{lt_tells, eq_tells, eq_same, size_more}
 
 -- ---- one number more
@@ -155,22 +157,20 @@ weight_mark key (row ∷ rows) (e ∷ edges) (suc t) lt fits none =
 
 -- ---- the walk
 
-pub record Flooding (edges : List (List ℕ)) (lets : ℕ → Bool) (old : List (List ℕ)) (tried : List ℕ) (key : ℕ) (rows : List (List ℕ)) (work : List ℕ) : Type 0 where
+pub record Flooding (onto : ℕ → List ℕ) (enters : ℕ → Bool) (old : List (List ℕ)) (tried : List ℕ) (key : ℕ) (rows : List (List ℕ)) (work : List ℕ) : Type 0 where
   pub size : length rows ≡ length old
-  pub fits : length edges ≡ length old
   pub most : AreAtMost key rows
   pub others : (n t : ℕ) → (n ≡ key → ⊥) → has rows n t ≡ has old n t
   pub keeps : (t : ℕ) → has old key t ≡ true → has rows key t ≡ true
-  pub sound : (t : ℕ) → has rows key t ≡ true → (has old key t ≡ true) ⊎ Comes edges lets tried t
-  pub waits : (t : ℕ) → is_among work t ≡ true → lets t ≡ true → Comes edges lets tried t
-  pub tries : (t : ℕ) → is_among tried t ≡ true → lets t ≡ true → t < length old → (has rows key t ≡ true) ⊎ (is_among work t ≡ true)
-  pub closed : (b t : ℕ) → has rows key b ≡ true → is_among (get_or edges b []) t ≡ true → lets t ≡ true → t < length old → (has rows key t ≡ true) ⊎ (is_among work t ≡ true)
+  pub sound : (t : ℕ) → has rows key t ≡ true → (has old key t ≡ true) ⊎ Comes onto enters tried t
+  pub waits : (t : ℕ) → is_among work t ≡ true → enters t ≡ true → Comes onto enters tried t
+  pub tries : (t : ℕ) → is_among tried t ≡ true → enters t ≡ true → t < length old → (has rows key t ≡ true) ⊎ (is_among work t ≡ true)
+  pub closed : (b t : ℕ) → has rows key b ≡ true → is_among (onto b) t ≡ true → enters t ≡ true → t < length old → (has rows key t ≡ true) ⊎ (is_among work t ≡ true)
 
-module _ (edges : List (List ℕ)) (lets : ℕ → Bool) (old : List (List ℕ)) (tried : List ℕ) (key : ℕ) where
-  pub flood_start : length edges ≡ length old → AreAtMost key old → ((b t : ℕ) → has old key b ≡ true → is_among (get_or edges b []) t ≡ true → is_among tried t ≡ true) → Flooding edges lets old tried key old tried
-  flood_start fits most waits = record {
+module _ (onto : ℕ → List ℕ) (enters : ℕ → Bool) (old : List (List ℕ)) (tried : List ℕ) (key : ℕ) where
+  pub flood_start : AreAtMost key old → ((b t : ℕ) → has old key b ≡ true → is_among (onto b) t ≡ true → is_among tried t ≡ true) → Flooding onto enters old tried key old tried
+  flood_start most waits = record {
     size = refl;
-    fits = fits;
     most = most;
     others = λ n t other. refl;
     keeps = λ t e. e;
@@ -181,11 +181,10 @@ module _ (edges : List (List ℕ)) (lets : ℕ → Bool) (old : List (List ℕ))
   }
 
   module _ (rows : List (List ℕ)) (work : List ℕ) (t : ℕ) where
-    -- a block that is passed over: it does not let through, it is marked, or it is not there
-    pub flood_past : Flooding edges lets old tried key rows (work ++ t ∷ []) → (lets t ≡ true → t < length rows → has rows key t ≡ true) → Flooding edges lets old tried key rows work
+    -- a block that is passed over: it is not to be entered, it is marked, or it is not there
+    pub flood_past : Flooding onto enters old tried key rows (work ++ t ∷ []) → (enters t ≡ true → t < length rows → has rows key t ≡ true) → Flooding onto enters old tried key rows work
     flood_past f none = record {
       size = f.size;
-      fits = f.fits;
       most = f.most;
       others = f.others;
       keeps = f.keeps;
@@ -195,7 +194,7 @@ module _ (edges : List (List ℕ)) (lets : ℕ → Bool) (old : List (List ℕ))
       closed = λ b x e to through lt. still x through lt (f.closed b x e to through lt);
     }
       where
-        still : (x : ℕ) → lets x ≡ true → x < length old → (has rows key x ≡ true) ⊎ (is_among (work ++ t ∷ []) x ≡ true) → (has rows key x ≡ true) ⊎ (is_among work x ≡ true)
+        still : (x : ℕ) → enters x ≡ true → x < length old → (has rows key x ≡ true) ⊎ (is_among (work ++ t ∷ []) x ≡ true) → (has rows key x ≡ true) ⊎ (is_among work x ≡ true)
         still x through lt which =
             ⊎_elim
             (λ a. inl a)
@@ -205,71 +204,92 @@ module _ (edges : List (List ℕ)) (lets : ℕ → Bool) (old : List (List ℕ))
             (λ b.
             let same : t ≡ x = among_one t x b in
             let within : t < length rows = omega (arith, same, lt, f.size) in
-            inl (subst (λ z. has rows key z ≡ true) same (none (ap lets same ∙ through) within)))
+            inl (subst (λ z. has rows key z ≡ true) same (none (ap enters same ∙ through) within)))
             (among_parts work (t ∷ []) x a))
             which
 
     -- one that is marked
-    pub flood_marks : Flooding edges lets old tried key rows (work ++ t ∷ []) → lets t ≡ true → t < length rows → Flooding edges lets old tried key (with_mark rows key t) (work ++ get_or edges t [])
+    pub flood_marks : Flooding onto enters old tried key rows (work ++ t ∷ []) → enters t ≡ true → t < length rows → Flooding onto enters old tried key (with_mark rows key t) (work ++ onto t)
     flood_marks f through within = record {
       size = size_set rows t (with_number (get_or rows t []) key) ∙ f.size;
-      fits = f.fits;
       most = mark_most rows key t f.most;
       others = λ n c other. mark_other rows key t n c other ∙ f.others n c other;
       keeps = λ c e. mark_keeps rows key t c (f.keeps c e);
       sound = λ c e.
           ⊎_elim
-          (λ a. inr (subst (Comes edges lets tried) (sym a) here))
+          (λ a. inr (subst (Comes onto enters tried) (sym a) here))
           (λ a. f.sound c a)
           (mark_from rows key t c e);
       waits = λ c e through.
           ⊎_elim
           (λ a. f.waits c (among_front work (t ∷ []) c a) through)
           (λ a. onward t c here a through)
-          (among_parts work (get_or edges t []) c e);
+          (among_parts work (onto t) c e);
       tries = λ c e through lt. still c (f.tries c e through lt);
       closed = λ b c e to through lt.
           ⊎_elim
-          (λ a. inr (among_back work (get_or edges t []) c (subst (λ z. is_among (get_or edges z []) c ≡ true) a to)))
+          (λ a. inr (among_back work (onto t) c (subst (λ z. is_among (onto z) c ≡ true) a to)))
           (λ a. still c (f.closed b c a to through lt))
           (mark_from rows key t b e);
     }
       where
-        here : Comes edges lets tried t
+        here : Comes onto enters tried t
         here = f.waits t (among_back work (t ∷ []) t (one_among t)) through
 
-        still : (c : ℕ) → (has rows key c ≡ true) ⊎ (is_among (work ++ t ∷ []) c ≡ true) → (has (with_mark rows key t) key c ≡ true) ⊎ (is_among (work ++ get_or edges t []) c ≡ true)
+        still : (c : ℕ) → (has rows key c ≡ true) ⊎ (is_among (work ++ t ∷ []) c ≡ true) → (has (with_mark rows key t) key c ≡ true) ⊎ (is_among (work ++ onto t) c ≡ true)
         still c which =
             ⊎_elim
             (λ a. inl (mark_keeps rows key t c a))
             (λ a.
             ⊎_elim
-            (λ b. inr (among_front work (get_or edges t []) c b))
+            (λ b. inr (among_front work (onto t) c b))
             (λ b. inl (subst (λ z. has (with_mark rows key t) key z ≡ true) (among_one t c b) (mark_has rows key t within)))
             (among_parts work (t ∷ []) c a))
             which
 
-  module _ (rows : List (List ℕ)) (f : Flooding edges lets old tried key rows []) where
+  -- nothing is onward from a block that is not there
+  module _ (rows : List (List ℕ)) (f : Flooding onto enters old tried key rows []) (inside : (b t : ℕ) → is_among (onto b) t ≡ true → b < length old) where
     no_work : {P : Type 0} (x : ℕ) → P ⊎ (is_among [] x ≡ true) → P
     no_work x which = ⊎_elim (λ a. a) (λ a. let z : false ≡ true = a in absurd (cc)) which
 
-    edge_within : (b t : ℕ) → is_among (get_or edges b []) t ≡ true → b < length old
-    edge_within b t e =
-        ⊎_elim
-        (λ a. let fits = f.fits in omega (arith, a.1, fits))
-        (λ a.
-        let none : false ≡ true = ap (λ z. is_among z t) (sym (get_or_past edges b [] a.1)) ∙ e in
-        absurd (cc))
-        (lt_tells b (length edges))
-
-    come_marked : (t : ℕ) → Comes edges lets tried t → t < length old → has rows key t ≡ true
+    come_marked : (t : ℕ) → Comes onto enters tried t → t < length old → has rows key t ≡ true
     come_marked t (at_first s e through) lt = no_work t (f.tries t e through lt)
     come_marked t (onward b s come e through) lt =
-        no_work t (f.closed b t (come_marked b come (edge_within b t e)) e through lt)
+        no_work t (f.closed b t (come_marked b come (inside b t e)) e through lt)
 
-    pub flood_done : (t : ℕ) → t < length old → (has rows key t ≡ true) ↔ ((has old key t ≡ true) ⊎ Comes edges lets tried t)
+    pub flood_done : (t : ℕ) → t < length old → (has rows key t ≡ true) ↔ ((has old key t ≡ true) ⊎ Comes onto enters tried t)
     flood_done t lt =
         (λ e. f.sound t e, λ which. ⊎_elim (λ a. f.keeps t a) (λ a. come_marked t a lt) which)
+
+-- ---- what is onward, by where a walk stops
+
+pub edge_within : (edges : List (List ℕ)) (b t : ℕ) → is_among (get_or edges b []) t ≡ true → b < length edges
+edge_within edges b t e =
+    ⊎_elim
+    (λ a. a.1)
+    (λ a.
+    let none : false ≡ true = ap (λ z. is_among z t) (sym (get_or_past edges b [] a.1)) ∙ e in
+    absurd (cc))
+    (lt_tells b (length edges))
+
+-- it is an edge
+pub onto_edge : (stop : Stop) (lets : ℕ → Bool) (edges : List (List ℕ)) (b t : ℕ) → is_among (onto stop lets edges b) t ≡ true → is_among (get_or edges b []) t ≡ true
+onto_edge Before lets edges b t e = e
+onto_edge Nowhere lets edges b t e = e
+onto_edge Behind lets edges b t e = by_case (lets b) e
+  where
+    by_case : (c : Bool) → is_among (cond c (get_or edges b []) []) t ≡ true → is_among (get_or edges b []) t ≡ true
+    by_case true h = h
+    by_case false h = let f : false ≡ true = h in absurd (cc)
+
+pub onto_size : (stop : Stop) (lets : ℕ → Bool) (edges : List (List ℕ)) (b : ℕ) → length (onto stop lets edges b) ≤ length (get_or edges b [])
+onto_size Before lets edges b = omega arith
+onto_size Nowhere lets edges b = omega arith
+onto_size Behind lets edges b = by_case (lets b)
+  where
+    by_case : (c : Bool) → length (cond c (get_or edges b []) []) ≤ length (get_or edges b [])
+    by_case true = omega arith
+    by_case false = omega arith
 
 -- ---- what a mark tells
 

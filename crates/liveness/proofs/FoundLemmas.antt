@@ -140,7 +140,7 @@ module _ (blocks : List Steps) (r : ℕ) where
         let e : h.0 ≡ h.0 + 0 = omega arith in
         ap (λ z. reads_span touches z r) h.1 ∙ ap (λ z. is_read (touch_from touches (span_of h.0 k) z r) false) e ∙ ap (λ z. is_read z false) h.2
 
-    lets_is : (b : ℕ) (k : Steps) → slice_get blocks b ≡ Some k → lets touches.spans (get_or touches.writes r []) b ≡ not (is_written k.steps r)
+    pub lets_is : (b : ℕ) (k : Steps) → slice_get blocks b ≡ Some k → lets touches.spans (get_or touches.writes r []) b ≡ not (is_written k.steps r)
     lets_is b k is =
         let h = span_there blocks 0 b k is in
         let size = length (places_of k) in

@@ -5,9 +5,11 @@ pub mod PlaceLemmas
 pub mod ExposedLemmas
 pub mod RowLemmas
 pub mod FoundLemmas
+pub mod LastLemmas
 pub mod SpreadLemmas
 pub mod PathLemmas
 pub mod OwnedLemmas
+pub mod OwningLemmas
 pub mod ApartLemmas
 pub mod ApartPaths
 pub mod TableLemmas

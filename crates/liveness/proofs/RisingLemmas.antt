@@ -1,10 +1,10 @@
 -- Rising numbers.
-use Rattle.std.proofs.Common.{◌≡◌, ℕ, zero, suc, ◌+◌, ◌<◌, ◌≤◌, ◌⊎◌, true, false, List, [], ◌∷◌, ◌++◌, length, Some, None, refl, sym, ap, ◌∙◌, ◌-◌, ⊎_elim, arith, get_or}
+use Rattle.std.proofs.Common.{◌≡◌, ℕ, zero, suc, ◌+◌, ◌<◌, ◌≤◌, ◌⊎◌, true, false, List, [], ◌∷◌, ◌++◌, length, Some, None, cond, refl, sym, ap, ◌∙◌, ◌-◌, ⊎_elim, arith, get_or}
 use Rattle.std.specs.Prelude.{slice_get, ◌||◌, nat_lt, nat_eq}
 use Rattle.std.proofs.lemmas.Bool.Decides.{nat_tests}
 use Rattle.std.proofs.lemmas.Option.{slice_get_within, get_or_from_slice_get}
 use Rattle.liveness.specs.Paths.{is_among}
-use Rattle.liveness.specs.Rising.{IsRising, IsAtMost, next_from}
+use Rattle.liveness.specs.Rising.{IsRising, IsAtMost, next_from, later, last_below}
 
 pub lt_test : (a b : ℕ) → a < b → nat_lt a b ≡ true
 lt_test a b h = grind (arith, nat_tests)
@@ -21,6 +21,21 @@ eq_tells a b = grind (arith, nat_tests)
 pub eq_same : (a : ℕ) → nat_eq a a ≡ true
 eq_same a = grind (arith, nat_tests)
 
+-- where none is below a bound
+pub none_below : (xs : List ℕ) (bound : ℕ) → ((i : ℕ) → i < length xs → bound ≤ get_or xs i 0) → last_below xs bound ≡ None
+none_below [] bound h = refl
+none_below (x ∷ xs) bound h =
+    ap (λ z. cond z (later x (last_below xs bound)) (last_below xs bound)) (ge_test x bound (h 0 (omega arith))) ∙ none_below xs bound (λ i lt. h (suc i) (omega (arith, lt)))
+
+pub before_some : (n : ℕ) → (n ≡ 0 → ⊥) → suc (n - 1) ≡ n
+before_some zero h = absurd (h refl)
+before_some (suc n) h = omega arith
+
+slice_get_there : (xs : List ℕ) (i : ℕ) → i < length xs → (x : ℕ) × (slice_get xs i ≡ Some x)
+slice_get_there [] i lt = absurd (omega (arith, lt))
+slice_get_there (x ∷ xs) zero lt = (x, refl)
+slice_get_there (x ∷ xs) (suc i) lt = slice_get_there xs i (omega (arith, lt))
+
 pub next_split : (xs : List ℕ) (bound p : ℕ) → p ≤ length xs → ((i : ℕ) → i < p → get_or xs i 0 < bound) → ((i : ℕ) → p ≤ i → i < length xs → bound ≤ get_or xs i 0) → slice_get xs p ≡ next_from xs bound
 next_split [] bound p le below behind = refl
 next_split (x ∷ xs) bound zero le below behind =
@@ -29,6 +44,20 @@ next_split (x ∷ xs) bound zero le below behind =
 next_split (x ∷ xs) bound (suc p) le below behind =
     let first : x < bound = below 0 (omega arith) in
     rw (lt_test x bound first) (next_split xs bound p (omega (arith, le)) (λ i lt. below (suc i) (omega (arith, lt))) (λ i ge lt. behind (suc i) (omega (arith, ge)) (omega (arith, lt))))
+
+-- the last one below a bound, where those below it come first
+pub last_split : (xs : List ℕ) (bound p : ℕ) → suc p ≤ length xs → ((i : ℕ) → i < suc p → get_or xs i 0 < bound) → ((i : ℕ) → suc p ≤ i → i < length xs → bound ≤ get_or xs i 0) → slice_get xs p ≡ last_below xs bound
+last_split [] bound p le below behind = absurd (omega (arith, le))
+last_split (x ∷ xs) bound zero le below behind =
+    let first : x < bound = below 0 (omega arith) in
+    let none = none_below xs bound (λ i lt. behind (suc i) (omega arith) (omega (arith, lt))) in
+    sym (ap (λ z. cond z (later x (last_below xs bound)) (last_below xs bound)) (lt_test x bound first) ∙ ap (later x) none)
+last_split (x ∷ xs) bound (suc p) le below behind =
+    let first : x < bound = below 0 (omega arith) in
+    let rest = last_split xs bound p (omega (arith, le)) (λ i lt. below (suc i) (omega (arith, lt))) (λ i ge lt. behind (suc i) (omega (arith, ge)) (omega (arith, lt))) in
+    let there = slice_get_there xs p (omega (arith, le)) in
+    let is : last_below xs bound ≡ Some there.0 = sym rest ∙ there.1 in
+    there.1 ∙ sym (ap (λ z. cond z (later x (last_below xs bound)) (last_below xs bound)) (lt_test x bound first) ∙ ap (later x) is)
 
 pub none_among : (xs : List ℕ) (n : ℕ) → ((i : ℕ) → i < length xs → get_or xs i 0 ≡ n → ⊥) → is_among xs n ≡ false
 none_among [] n h = refl

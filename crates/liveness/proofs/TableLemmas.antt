@@ -1,5 +1,5 @@
 -- What tables of pieces say of a function.
-use Rattle.std.proofs.Common.{◌≡◌, ℕ, ◌<◌, Bool, true, false, List, length, map, Some, None, sym, ap, ◌∙◌, subst, ⊎_elim, arith, min}
+use Rattle.std.proofs.Common.{◌≡◌, ℕ, ◌<◌, Bool, true, false, List, length, map, Some, None, sym, ap, ◌∙◌, subst, ⊎_elim, arith}
 use Rattle.std.specs.Prelude.{slice_get}
 use Rattle.std.proofs.lemmas.List.{length-map}
 use Rattle.std.proofs.lemmas.Option.{slice_get_within}
@@ -21,7 +21,7 @@ use Rattle.liveness.specs.Tables.{live_by, borrowed_by}
 use Rattle.liveness.specs.declared.apart.Layout.{Layout}
 use Rattle.liveness.specs.Apart.{homes_from, pieces_in, begin, pieces_of, first_in, piece_in, place_in, first_or, at_home, row_at, apart}
 use Rattle.liveness.specs.Apart as spec
-use Rattle.liveness.specs.Liveness.{IsLiveTable, AreStarts, AreMarked, IsBorrowTable}
+use Rattle.liveness.specs.Liveness.{IsLiveTable, AreStarts, known_count, AreMarked, IsBorrowTable}
 use Rattle.liveness.proofs.PathLemmas.{item_was, item_within, item_block, steps_bare, live_table_is, starts_are}
 use Rattle.liveness.proofs.OwnedLemmas.{marked_is, get_none, below_or_not}
 use Rattle.liveness.proofs.ApartPaths.{Stands, moved_item, apart_is_bare, get_or_not, homes_none, block_stands, entry_stands, item_there, stands_number, home_is, view, view_item, number_of, offset_of, live_same, borrowed_same}
@@ -97,12 +97,12 @@ module _ (f : Func) where
       no_block b r none (goes_on x y c q i e w g on) =
           let clash : None ≡ Some i = sym (ap (λ z. item_of z 0) none) ∙ e in absurd (cc)
 
-  pub lent_apart : (table : BorrowTable) (pieces : List Steps) (count : ℕ) → table.homes ≡ homes_from 0 f.blocks → pieces ≡ all → count ≡ min f.params (length f.regs) → AreMarked pieces count table → IsBorrowTable f table
-  lent_apart table pieces count homes same size marked b p r i e lt =
+  pub lent_apart : (table : BorrowTable) (pieces : List Steps) (regs : ℕ) → table.homes ≡ homes_from 0 f.blocks → pieces ≡ all → regs ≡ length f.regs → AreMarked pieces f.params (known_count pieces f.params regs) table → IsBorrowTable f table
+  lent_apart table pieces regs homes same size marked b p r i e lt =
       let at = place_of b p i e in
-      let says = borrowed_by table.touches.spans table.touches.writes table.met table.rows in
+      let says = borrowed_by table in
       let told = ap (λ z. at_home says true (slice_get z b) p r) homes ∙ at.told says true r in
-      let is = marked_is (apart f) (apart_is_bare f) count table size (subst (λ z. AreMarked z count table) same marked) at.x at.y r (moved_item (spec.entry f.blocks) i) at.item lt in
+      let is = marked_is (apart f) (apart_is_bare f) table (subst (λ z. AreMarked all f.params (known_count all f.params z) table) size (subst (λ z. AreMarked z f.params (known_count z f.params regs) table) same marked)) at.x at.y r (moved_item (spec.entry f.blocks) i) at.item lt in
       let path = borrowed_same f r b p i e at.x at.y at.stands in
       (λ h. path.0 (is.0 (sym told ∙ h)), λ h. told ∙ is.1 (path.1 h))
 
@@ -142,9 +142,9 @@ module _ (f : Func) (homes : List Home) (blocks : List Steps) (are : (b : ℕ) �
       (λ h. let clash : false ≡ true = sym told ∙ h in absurd (cc), λ h. let inside = row.0 b (is.1 h) in absurd (omega (arith, inside, past))))
       (below_or_not b (length blocks))
 
-  pub lent_kept : (table : BorrowTable) (count : ℕ) → table.homes ≡ homes → count ≡ min f.params (length f.regs) → AreMarked blocks count table → IsBorrowTable (bare f) table
-  lent_kept table count same regs marked b p r i e lt =
-      let says = borrowed_by table.touches.spans table.touches.writes table.met table.rows in
+  pub lent_kept : (table : BorrowTable) (regs : ℕ) → table.homes ≡ homes → regs ≡ length f.regs → AreMarked blocks f.params (known_count blocks f.params regs) table → IsBorrowTable (bare f) table
+  lent_kept table regs same number_of_regs marked b p r i e lt =
+      let says = borrowed_by table in
       let told = ap (λ z. at_home says true (slice_get z b) p r) same ∙ ap (λ z. at_home says true z p r) (home_at b p i e) in
-      let is = marked_is (bare f) (bare_is_bare f) count table regs (subst (λ z. AreMarked z count table) same_blocks marked) b p r i e lt in
+      let is = marked_is (bare f) (bare_is_bare f) table (subst (λ z. AreMarked (map steps_of (bare f).blocks) f.params (known_count (map steps_of (bare f).blocks) f.params z) table) number_of_regs (subst (λ z. AreMarked z f.params (known_count z f.params regs) table) same_blocks marked)) b p r i e lt in
       (λ h. is.0 (sym told ∙ h), λ h. told ∙ is.1 h)

@@ -5,5 +5,6 @@ pub mod Places
 pub mod Flood
 pub mod Rows
 pub mod Tables
+pub mod Spread
 pub mod Apart
 pub mod Liveness

@@ -83,19 +83,23 @@ abbrev pub writes : Item → ℕ → Bool
 writes (Do o line) r = is_target (write_of o) r
 writes (End l) r = false
 
--- A primitive whose result is only lent: what it is read from goes on to own it. No register is written so yet, since no operation fits
--- whose row lends (`is_target_of` of the intermediate code), and such a row counts as one that gives a reference
+-- a primitive whose result is only lent: what it is read from goes on to own it
 abbrev pub lends : Outcome → Bool
 lends Nothing = false
 lends (Owned k) = false
-lends (Lent k) = false
+lends (Lent k) = true
 
 abbrev pub is_lent : Primitive → Bool
 is_lent p = lends (row_of p).outcome
 
+-- an operation that only lends to the register that it writes
+abbrev pub lends_to : Op → Bool
+lends_to (Prim to p args) = is_lent p
+lends_to _ = false
+
 abbrev pub gives_lent : Item → Bool
-gives_lent (Do (Prim to p args) line) = is_lent p
-gives_lent _ = false
+gives_lent (Do o line) = lends_to o
+gives_lent (End l) = false
 
 -- ---- paths
 

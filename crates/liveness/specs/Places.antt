@@ -1,7 +1,7 @@
 -- The places of a function, counted through: the operations of each block and, behind them, its end.
 use Rattle.std.specs.Prelude.{◌≡◌, ◌+◌, ℕ, Bool, true, false, not, cond, nat_lt, List, [], ◌∷◌, ◌++◌, length, map, Option, Some, None, slice_get, get_or}
 use Rattle.std.specs.Option.{option_to_list}
-use Rattle.std.specs.List.{flat_map}
+use Rattle.std.specs.List.{list_any, flat_map}
 use Rattle.ir_core.specs.declared.code.Last.{Last}
 use Rattle.liveness.specs.declared.step.Step.{Step}
 use Rattle.liveness.specs.declared.step.Steps.{Steps}
@@ -9,12 +9,14 @@ use Rattle.liveness.specs.declared.places.Span.{Span}
 use Rattle.liveness.specs.declared.places.Touches.{Touches}
 use Rattle.liveness.specs.declared.places.Touch.{Touch}
 use Rattle.liveness.specs.declared.places.Touch.TheVariants.{Read, Written, Neither}
+use Rattle.liveness.specs.declared.places.Asked.{Asked}
+use Rattle.liveness.specs.declared.places.Asked.TheVariants.{AllWrites, LendingWrites}
 use Rattle.liveness.specs.Paths.{is_among, is_target, reads_of_last, targets}
 use Rattle.liveness.specs.Rising.{next_from, IsInverse}
 
 -- an end as a step that writes nothing
 abbrev pub end_of : Last → Step
-end_of l = record { reads = reads_of_last l; write = None }
+end_of l = record { reads = reads_of_last l; write = None; lends = false }
 
 abbrev pub places_of : Steps → List Step
 places_of k = k.steps ++ end_of k.last ∷ []
@@ -37,6 +39,15 @@ reads_in s = s.reads
 abbrev pub writes_in : Step → List ℕ
 writes_in s = option_to_list s.write
 
+-- and, where it only lends, to what
+abbrev pub lends_in : Step → List ℕ
+lends_in s = cond s.lends (option_to_list s.write) []
+
+-- what a step writes, by the writes that are asked for
+abbrev pub asked_in : Asked → Step → List ℕ
+asked_in AllWrites = writes_in
+asked_in LendingWrites = lends_in
+
 -- what the places of a block read
 abbrev pub reads_of_block : Steps → List ℕ
 reads_of_block k = flat_map reads_in (places_of k)
@@ -44,6 +55,13 @@ reads_of_block k = flat_map reads_in (places_of k)
 -- and what its operations write
 abbrev pub writes_of_block : Steps → List ℕ
 writes_of_block k = flat_map writes_in k.steps
+
+-- whether one of them only lends
+abbrev pub lends_step : Step → Bool
+lends_step s = s.lends
+
+abbrev pub lends_some : Steps → Bool
+lends_some k = list_any lends_step k.steps
 
 abbrev pub targets_of : Steps → List ℕ
 targets_of k = targets k.last
@@ -61,6 +79,10 @@ lets_span walls (Some k) = not (is_below (next_from walls k.first) k.behind)
 
 abbrev pub lets : List Span → List ℕ → ℕ → Bool
 lets spans walls t = lets_span walls (slice_get spans t)
+
+-- whether a block does not write a register
+abbrev pub lets_by : Touches → ℕ → ℕ → Bool
+lets_by touches r t = lets touches.spans (get_or touches.writes r []) t
 
 -- ---- what touches a register first
 

@@ -14,6 +14,15 @@ abbrev pub next_from : List ℕ → ℕ → Option ℕ
 next_from [] bound = None
 next_from (x ∷ xs) bound = cond (nat_lt x bound) (next_from xs bound) (Some x)
 
+abbrev pub later : ℕ → Option ℕ → Option ℕ
+later n None = Some n
+later n (Some m) = Some m
+
+-- the last of them that is below a bound
+abbrev pub last_below : List ℕ → ℕ → Option ℕ
+last_below [] bound = None
+last_below (x ∷ xs) bound = cond (nat_lt x bound) (later x (last_below xs bound)) (last_below xs bound)
+
 -- a number put at the end, unless it is there
 abbrev pub with_number : List ℕ → ℕ → List ℕ
 with_number xs n = cond (is_among xs n) xs (xs ++ n ∷ [])

@@ -1,5 +1,5 @@
--- Marks of blocks: at whose start a register is read again, and to which ones paths come.
-use Rattle.std.specs.Prelude.{◌≡◌, ◌<◌, ℕ, Bool, true, false, not, ◌&&◌, ◌||◌, List, [], ◌∷◌, length, Some, slice_get, get_or, ◌↔◌}
+-- Marks of blocks: at whose start a register is read again, to which ones paths come, and at whose start a register is owned.
+use Rattle.std.specs.Prelude.{◌≡◌, ◌≤◌, ◌<◌, ℕ, Bool, true, false, not, ◌&&◌, ◌||◌, cond, List, [], ◌∷◌, length, Some, slice_get, get_or, ◌↔◌}
 use Rattle.std.specs.List.{list_any}
 use Rattle.ir_core.specs.declared.code.Last.{Last}
 use Rattle.liveness.specs.declared.step.Step.{Step}
@@ -44,11 +44,6 @@ AreFound touches readers from n rows =
 
 -- ---- where paths come
 
--- one comes from a seed over edges, over one or more
-pub data Spread (edges : List (List ℕ)) (seeds : ℕ → Bool) : ℕ → Type 0 where
-  starts : (b t : ℕ) → seeds b ≡ true → is_among (get_or edges b []) t ≡ true → Spread edges seeds t
-  goes_further : (b t : ℕ) → Spread edges seeds b → is_among (get_or edges b []) t ≡ true → Spread edges seeds t
-
 -- some path from the entry comes to the start of a block
 pub data Met (blocks : List Steps) : ℕ → Type 0 where
   first : Met blocks 0
@@ -57,20 +52,24 @@ pub data Met (blocks : List Steps) : ℕ → Type 0 where
 abbrev pub IsMetRow : List Steps → List Bool → Type 0
 IsMetRow blocks met = (b : ℕ) → b < length blocks → (get_or met b false ≡ true) ↔ Met blocks b
 
+-- ---- what is owned
+
 -- whether one of some operations writes a register
 abbrev pub is_written : List Step → ℕ → Bool
 is_written ss r = list_any (λ s. is_target s.write r) ss
 
--- the blocks that are met and write a register
-abbrev pub AreSeeds : List Steps → List Bool → ℕ → (ℕ → Bool) → Type 0
-AreSeeds blocks met r seeds =
-    (b : ℕ) (k : Steps) → slice_get blocks b ≡ Some k → seeds b ≡ (get_or met b false && is_written k.steps r)
+-- whether a register is owned behind some operations, where it is told whether it is so before them: the last write decides
+abbrev pub owned_after : List Step → ℕ → Bool → Bool
+owned_after [] r before = before
+owned_after (s ∷ ss) r before = owned_after ss r (cond (is_target s.write r) (not s.lends) before)
 
--- whether a block is met and is one of some that write a parameter
-abbrev pub seeds_of : List ℕ → List Bool → ℕ → Bool
-seeds_of writers met b = get_or met b false && is_among writers b
+-- some path from the entry comes to the start of a block on which the last write of a register is an operation that does not only lend,
+-- or on which there is none and the register is none of so many parameters
+pub data Owned (blocks : List Steps) (params r : ℕ) : ℕ → Type 0 where
+  from_entry : params ≤ r → Owned blocks params r 0
+  given : (b i t : ℕ) (k : Steps) → Met blocks b → slice_get blocks b ≡ Some k → owned_after k.steps r false ≡ true → slice_get (targets k.last) i ≡ Some t → Owned blocks params r t
+  passes_on : (b i t : ℕ) (k : Steps) → Owned blocks params r b → slice_get blocks b ≡ Some k → is_written k.steps r ≡ false → slice_get (targets k.last) i ≡ Some t → Owned blocks params r t
 
--- the rows have exactly the parameters below n of which one comes there from a block that writes them
-abbrev pub AreSpread : List (List ℕ) → List Bool → List (List ℕ) → ℕ → List (List ℕ) → Type 0
-AreSpread writers met edges n rows =
-    AreBelow n rows × ((r t : ℕ) → r < n → t < length rows → (has rows r t ≡ true) ↔ Spread edges (seeds_of (get_or writers r []) met) t)
+-- marks that say it exactly
+abbrev pub IsOwnedRow : List Steps → ℕ → ℕ → (ℕ → Bool) → Type 0
+IsOwnedRow blocks params r marked = (t : ℕ) → t < length blocks → (marked t ≡ true) ↔ Owned blocks params r t

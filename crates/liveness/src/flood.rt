@@ -2,10 +2,10 @@
 ghost use Rattle.std.specs.Prelude.{◌≡◌, ◌<◌, ◌⊎◌, ◌↔◌, ℕ, [], true, length, get_or, IfOk, OnOk, slice_get};
 ghost use Rattle.liveness.specs.Paths.{is_among};
 ghost use Rattle.liveness.specs.Rising.{next_from, has, AreAtMost};
-ghost use Rattle.liveness.specs.Places.{is_below, lets};
-ghost use Rattle.liveness.specs.Flood.{Comes};
+ghost use Rattle.liveness.specs.Places.{is_below, lets, lets_by};
+ghost use Rattle.liveness.specs.Flood.{Comes, entered, onto};
 
-use crate::places::Span;
+use crate::places::{Span, Touches};
 use crate::rising::{Rising, mark};
 use value_core::{Many, Memory};
 
@@ -49,26 +49,73 @@ pub(crate) fn numbers_of(rows: &[Many<usize>], t: usize) -> &[usize]
     }
 }
 
-/// Marks the blocks that one comes to, beginning with those in `work`, over edges and never into a block that has a place in
-/// the row of the key. Blocks that are marked before have been left: where their edges end is in `work`.
+/// Where a walk stops at blocks that write the register which it is for: in front of them, behind them, or nowhere.
+#[derive(Clone, Copy)]
+pub(crate) enum Stop {
+    Before,
+    Behind,
+    Nowhere,
+}
+
+/// Whether a block does not write a register.
+fn lets_by(touches: &Touches, r: usize, t: usize) -> bool
+    ensures { result ≡ lets_by touches.now r t }
+{
+    lets_through(touches.spans.as_slice(), touches.writes.as_slice(), r, t)
+}
+
+/// Whether a walk enters a block.
+fn is_entered(touches: &Touches, stop: Stop, r: usize, t: usize) -> bool
+    ensures { result ≡ entered stop (lets_by touches.now r) t }
+{
+    match stop {
+        Stop::Before => lets_by(touches, r, t),
+        Stop::Behind | Stop::Nowhere => true,
+    }
+}
+
+/// The blocks that a walk goes on to from one.
+fn onto<'a>(
+    touches: &Touches,
+    stop: Stop,
+    edges: &'a [Many<usize>],
+    r: usize,
+    t: usize,
+) -> &'a [usize]
+    ensures { result.now ≡ onto stop (lets_by touches.now r) edges.now t }
+{
+    match stop {
+        Stop::Before | Stop::Nowhere => numbers_of(edges, t),
+        Stop::Behind => {
+            if lets_by(touches, r, t) {
+                numbers_of(edges, t)
+            } else {
+                &[]
+            }
+        }
+    }
+}
+
+/// Marks with a register the blocks that one comes to, beginning with those in `work`, over edges, by a walk that stops so at
+/// blocks that write the register. Blocks that are marked before have been left: where their edges end is in `work`.
 pub(crate) fn flood(
-    spans: &[Span],
-    walls: &[Rising],
+    touches: &Touches,
+    stop: Stop,
     edges: &[Many<usize>],
     rows: &mut [Rising],
-    key: usize,
+    r: usize,
     mut work: Vec<usize>,
 ) -> Result<(), Memory>
     requires size { length edges.now ≡ length rows.old }
-    requires most { AreAtMost key rows.old }
-    requires waits { (b t : ℕ) → has rows.old key b ≡ true → is_among (get_or edges.now b []) t ≡ true → is_among work.items t ≡ true }
-    ensures most { OnOk result (AreAtMost key rows.new) }
-    ensures others { OnOk result ((n t : ℕ) → (n ≡ key → ⊥) → has rows.new n t ≡ has rows.old n t) }
-    ensures comes { OnOk result ((t : ℕ) → t < length rows.old → (has rows.new key t ≡ true) ↔ ((has rows.old key t ≡ true) ⊎ Comes edges.now (lets spans.now (get_or walls.now key [])) work.items t)) }
+    requires most { AreAtMost r rows.old }
+    requires waits { (b t : ℕ) → has rows.old r b ≡ true → is_among (get_or edges.now b []) t ≡ true → is_among work.items t ≡ true }
+    ensures most { OnOk result (AreAtMost r rows.new) }
+    ensures others { OnOk result ((n t : ℕ) → (n ≡ r → ⊥) → has rows.new n t ≡ has rows.old n t) }
+    ensures comes { OnOk result ((t : ℕ) → t < length rows.old → (has rows.new r t ≡ true) ↔ ((has rows.old r t ≡ true) ⊎ Comes (onto stop (lets_by touches.now r) edges.now) (entered stop (lets_by touches.now r)) work.items t)) }
 {
     while let Some(t) = work.pop() {
-        if lets_through(spans, walls, key, t) && mark(rows, key, t)? {
-            work.extend_from_slice(numbers_of(edges, t))?;
+        if is_entered(touches, stop, r, t) && mark(rows, r, t)? {
+            work.extend_from_slice(onto(touches, stop, edges, r, t))?;
         }
     }
     Ok(())

@@ -12,7 +12,7 @@ ghost use Rattle.liveness.specs.Tables.{live_in, live_by};
 ghost use Rattle.liveness.specs.Liveness.{says_live, starts_of, IsLiveTable, AreStarts};
 
 use crate::apart::{Home, kept_pieces, layout_of, whole};
-use crate::flood::{flood, numbers_of};
+use crate::flood::{Stop, flood, numbers_of};
 use crate::places::{Span, Touch, Touches, readers, reads_first, sources, touch_from, touches_of};
 use crate::rising::{Rising, empty_rows, mark, stands};
 use crate::step::{Steps, kept_blocks};
@@ -72,14 +72,7 @@ fn live_row(
     ensures finds { OnOk result ((t : ℕ) → t < length rows.old → (has rows.new r t ≡ true) ↔ Found touches.now readers.now edges.now r t) }
 {
     let work = exposed(alloc, touches, readers, edges, rows, r)?;
-    flood(
-        touches.spans.as_slice(),
-        touches.writes.as_slice(),
-        edges,
-        rows,
-        r,
-        work,
-    )?;
+    flood(touches, Stop::Before, edges, rows, r, work)?;
     Ok(())
 }
 

@@ -3,7 +3,7 @@ ghost use Rattle.std.specs.Prelude.{◌≡◌, ◌++◌, ◌∷◌, ℕ, [], Som
 ghost use Rattle.std.specs.Option.{option_to_list};
 ghost use Rattle.liveness.specs.Paths.{reads_of_last, targets};
 ghost use Rattle.liveness.specs.Rising.{next_from, IsInverse};
-ghost use Rattle.liveness.specs.Places.{places_of, places, spans_from, reads_in, writes_in, reads_of_block, writes_of_block, targets_of, is_below, first_of, touch_from, is_read, reads_first, AreTouches};
+ghost use Rattle.liveness.specs.Places.{places_of, places, spans_from, reads_in, asked_in, reads_of_block, writes_of_block, targets_of, is_below, first_of, touch_from, is_read, reads_first, AreTouches};
 
 use crate::flood::{is_before, next_in};
 use crate::rising::{Rising, as_rows, inverse};
@@ -27,6 +27,13 @@ pub struct Touches {
     pub spans: Many<Span>,
     pub reads: Many<Rising>,
     pub writes: Many<Rising>,
+}
+
+/// Which writes are asked for: all of them, or those that only lend.
+#[derive(Clone, Copy)]
+pub(crate) enum Asked {
+    AllWrites,
+    LendingWrites,
 }
 
 /// How what is left of a block touches a register first.
@@ -84,6 +91,16 @@ fn laid_out(alloc: Global, blocks: &[Steps]) -> Result<Laid, Memory>
     })
 }
 
+/// The register that a step writes, where it is one of the writes that are asked for.
+fn asked_write(step: &Step, asked: Asked) -> Option<usize>
+    ensures { option_to_list result ≡ asked_in asked step.now }
+{
+    match asked {
+        Asked::AllWrites => step.write,
+        Asked::LendingWrites => { if step.lends { step.write } else { None } }
+    }
+}
+
 fn written(alloc: Global, write: Option<usize>) -> Result<Many<usize>, Memory>
     ensures { IfOk result (λ row. row ≡ option_to_list write) }
 {
@@ -95,25 +112,44 @@ fn written(alloc: Global, write: Option<usize>) -> Result<Many<usize>, Memory>
     Ok(row)
 }
 
-fn push_writes(alloc: Global, rows: &mut Vec<Many<usize>>, steps: &[Step]) -> Result<(), Memory>
-    ensures { OnOk result (rows.new.items ≡ rows.old.items ++ (map writes_in steps.now ++ [] ∷ [])) }
+fn push_writes(
+    alloc: Global,
+    rows: &mut Vec<Many<usize>>,
+    steps: &[Step],
+    asked: Asked,
+) -> Result<(), Memory>
+    ensures { OnOk result (rows.new.items ≡ rows.old.items ++ (map (asked_in asked) steps.now ++ [] ∷ [])) }
 {
     for step in steps {
-        rows.push(written(alloc, step.write)?)?;
+        rows.push(written(alloc, asked_write(step, asked))?)?;
     }
     rows.push(Many::new(alloc))?;
     Ok(())
 }
 
-/// What each place writes.
-fn place_writes(alloc: Global, blocks: &[Steps]) -> Result<Many<Many<usize>>, Memory>
-    ensures { IfOk result (λ rows. rows ≡ map writes_in (places blocks.now)) }
+/// What each place writes, by the writes that are asked for.
+fn place_writes(alloc: Global, blocks: &[Steps], asked: Asked) -> Result<Many<Many<usize>>, Memory>
+    ensures { IfOk result (λ rows. rows ≡ map (asked_in asked) (places blocks.now)) }
 {
     let mut rows = Vec::new(alloc);
     for block in blocks {
-        push_writes(alloc, &mut rows, block.steps.as_slice())?;
+        push_writes(alloc, &mut rows, block.steps.as_slice(), asked)?;
     }
     Ok(Many::from_vec(rows))
+}
+
+/// Under each register below a count the places that write it, by the writes that are asked for.
+pub(crate) fn writing_places(
+    alloc: Global,
+    blocks: &[Steps],
+    count: usize,
+    asked: Asked,
+) -> Result<Many<Rising>, Memory>
+    ensures size { IfOk result (λ writes. length writes ≡ count) }
+    ensures turns { IfOk result (λ writes. IsInverse (map (asked_in asked) (places blocks.now)) writes) }
+{
+    let rows = place_writes(alloc, blocks, asked)?;
+    inverse(alloc, rows.as_slice(), count)
 }
 
 /// The places of blocks, and those that touch each register below a count.
@@ -122,8 +158,7 @@ pub(crate) fn touches_of(alloc: Global, blocks: &[Steps], count: usize) -> Resul
 {
     let laid = laid_out(alloc, blocks)?;
     let reads = inverse(alloc, laid.reads.as_slice(), count)?;
-    let rows = place_writes(alloc, blocks)?;
-    let writes = inverse(alloc, rows.as_slice(), count)?;
+    let writes = writing_places(alloc, blocks, count, Asked::AllWrites)?;
     Ok(Touches {
         spans: laid.spans,
         reads,

@@ -1,7 +1,7 @@
 //! Numbers that rise, and rows of them.
 ghost use Rattle.std.specs.Prelude.{◌≡◌, ◌≤◌, ◌<◌, ℕ, List, [], ◌∷◌, ◌++◌, cond, not, length, replicate, get_or, IfOk, OnOk};
 ghost use Rattle.liveness.specs.Paths.{is_among};
-ghost use Rattle.liveness.specs.Rising.{IsRising, IsAtMost, next_from, with_number, has, with_mark, lacks, AreAtMost, rows_with, IsInverse};
+ghost use Rattle.liveness.specs.Rising.{IsRising, IsAtMost, next_from, last_below, with_number, has, with_mark, lacks, AreAtMost, rows_with, IsInverse};
 
 use std::alloc::Global;
 use std::marker::Model;
@@ -77,6 +77,17 @@ impl Rising {
     {
         let place = count_below(self.numbers.as_slice(), bound);
         self.numbers.get(place).copied()
+    }
+
+    /// The last number that is below a bound.
+    pub fn last_below(&self, bound: usize) -> Option<usize>
+        ensures { result ≡ last_below self.now bound }
+    {
+        let place = count_below(self.numbers.as_slice(), bound);
+        if place == 0 {
+            return None;
+        }
+        self.numbers.get(place - 1).copied()
     }
 
     /// Whether a number is among them.

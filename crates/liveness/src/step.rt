@@ -1,18 +1,21 @@
-//! What a table keeps of a function: of each operation the registers that it reads and the one that it writes.
+//! What a table keeps of a function: of each operation the registers that it reads, the one that it writes, and whether it
+//! only lends to that one.
 ghost use Rattle.std.specs.Prelude.{◌≡◌, ◌∷◌, [], ◌++◌, map, IfOk, OnOk};
 ghost use Rattle.std.specs.Option.{option_map};
-ghost use Rattle.liveness.specs.Paths.{number_of, registers_in, reads_of, write_of};
+ghost use Rattle.liveness.specs.Paths.{number_of, registers_in, reads_of, write_of, is_lent, lends_to};
 ghost use Rattle.liveness.specs.Steps.{step_over, step_of, steps_of};
 
+use c_core::{AttrPrim, ListPrim, Prim, TuplePrim};
 use ir_core::{Block, Last, Op, PArg, Reg};
 use std::alloc::Global;
 use value_core::{Many, Memory};
 
-/// An operation: the registers that it reads, and the one that it writes.
+/// An operation: the registers that it reads, the one that it writes, and whether that one is only lent to.
 #[derive(Drop)]
 pub struct Step {
     pub reads: Many<usize>,
     pub write: Option<usize>,
+    pub lends: bool,
 }
 
 /// A block: its operations, and its end.
@@ -106,12 +109,35 @@ pub fn register_written(op: &Op) -> Option<usize>
     }
 }
 
+/// Whether the result of a primitive is only lent.
+fn is_lent(p: Prim) -> bool
+    ensures { result ≡ is_lent p }
+{
+    match p {
+        Prim::List(ListPrim::GetItemBorrow)
+        | Prim::Tuple(TuplePrim::GetItemBorrow)
+        | Prim::Attr(AttrPrim::GetBorrow) => true,
+        _ => false,
+    }
+}
+
+/// Whether an operation only lends to the register that it writes.
+fn lends_to(op: &Op) -> bool
+    ensures { result ≡ lends_to op.now }
+{
+    match op {
+        Op::Prim(_, p, _) => is_lent(*p),
+        _ => false,
+    }
+}
+
 fn step_over(alloc: Global, op: &Op) -> Result<Step, Memory>
     ensures { IfOk result (λ step. step ≡ step_over op.now) }
 {
     Ok(Step {
         reads: registers_read(alloc, op)?,
         write: register_written(op),
+        lends: lends_to(op),
     })
 }
 
