@@ -1,7 +1,8 @@
 -- The counts of what is read again at an end are all counts of its edges: any other register has nothing there, and is to have
--- nothing at the targets.
-use Rattle.std.proofs.Common.{◌≡◌, ◌≢◌, ℕ, zero, suc, ◌+◌, ◌-◌, ◌<◌, ◌⊎◌, Bool, true, false, not, List, [], ◌∷◌, ◌++◌, length, Option, Some, None, refl, sym, ap, ◌∙◌, inl, inr, ⊎_elim, subst, arith}
-use Rattle.std.specs.Prelude.{◌↔◌, ◌&&◌, ◌||◌, cond, nat_eq}
+-- nothing at the targets. So the edges of tests go where the rule wants them to go.
+use Rattle.std.proofs.Common.{◌≡◌, ℕ, zero, suc, ◌+◌, ◌-◌, ◌<◌, ◌⊎◌, Bool, true, false, not, List, [], ◌∷◌, length, get_or, Option, Some, None, refl, sym, ap, ◌∙◌, inl, inr, ⊎_elim, subst, arith}
+use Rattle.std.specs.Prelude.{◌↔◌, ◌≤◌, ◌&&◌, ◌||◌, cond, nat_eq, slice_get}
+use Rattle.std.proofs.lemmas.Option.{slice_get_within}
 use Rattle.c_core.specs.Cells.{times}
 use Rattle.ir_core.specs.declared.code.Reg.{Reg}
 use Rattle.ir_core.specs.declared.code.Func.{Func}
@@ -14,17 +15,21 @@ use Rattle.liveness.specs.Liveness.{says_live, says_borrowed, starts_of}
 use Rattle.liveness.proofs.OwnedLemmas.{below_or_not}
 use Rattle.liveness.proofs.RisingLemmas.{eq_tells, eq_same}
 use Rattle.liveness.proofs.RowLemmas.{or_cases, or_left, or_right}
-use Rattle.refcount_insert_rule.specs.Rule.{ups, downs, given_up, AreUnsure, IsEdge}
-use Rattle.refcount_insert_rule.specs.Counted.{counts_register, Tables, owned, IsEdgeTo, AreEdgesTo}
+use Rattle.refcount_insert_rule.specs.Rule.{given_up, AreUnsure, IsEdge}
+use Rattle.refcount_insert_rule.specs.Counted.{counts_register, Tables, owned, IsEdgeTo}
 use Rattle.refcount_insert_counts.specs.declared.counts.Counts.{Counts}
 use Rattle.refcount_insert_counts.specs.declared.known.KnownRegisters.{KnownRegisters}
 use Rattle.refcount_insert_counts.specs.Known.{IsKnown, owned_at, held_at, entered}
 use Rattle.refcount_insert_counts.specs.Counts.{many, AreOnce, AreEach, short_on, over_on, AreEdgeCounts}
 use Rattle.refcount_insert_counts.specs.Ends.{is_read_again}
-use Rattle.refcount_insert_counts.specs.Edges.{are_none, is_none, edge_ops}
-use Rattle.refcount_insert.specs.Layout.{room, edge_to, edge_block}
+use Rattle.refcount_insert_counts.specs.Edges.{are_none, edge_ops}
+use Rattle.refcount_insert.specs.declared.sharing.EdgeCounts.{EdgeCounts}
+use Rattle.refcount_insert.specs.declared.detours.Front.{Front}
+use Rattle.refcount_insert.specs.Sharing.{kept_at, IsShared}
+use Rattle.refcount_insert.specs.Detours.{taken, given, IsWay, IsFrontOf}
+use Rattle.refcount_insert.specs.Layout.{entry_of, edge_to}
 use Rattle.refcount_insert_counts.proofs.Times.{many_if}
-use Rattle.refcount_insert.proofs.Laying.{own_count}
+use Rattle.refcount_insert.proofs.FrontLemmas.{total_none}
 use Rattle.refcount_insert.proofs.Steps.{same_truth, live_at_end, read_at_end, live_at_target}
 use Rattle.refcount_insert.proofs.GroupLemmas.{not_counted}
 
@@ -196,29 +201,49 @@ module _ (f : Func) (known : KnownRegisters) (is : IsKnown f known) where
       or_first true e = refl
       or_first false e = e
 
--- ---- whether an edge has a block of its own
+-- ---- where the edge of a test goes
 
 none_ups : (ups : List ℕ) (downs : List (ℕ × Bool)) → are_none ups downs ≡ true → (ups ≡ []) × (downs ≡ [])
 none_ups [] [] e = (refl, refl)
 none_ups [] (d ∷ ds) e = cc
 none_ups (r ∷ rs) ds e = cc
 
-some_ops : (rs : List ℕ) (ds : List (ℕ × Bool)) → are_none rs ds ≡ false → ups rs 0 ++ downs ds 0 ≢ []
-some_ops [] [] e is = cc
-some_ops [] (d ∷ ds) e is = cc
-some_ops (r ∷ rs) ds e is = cc
+-- a block that edges go to, and the detours to it: where they stand, and what registers have there
+module _ (f : Func) (t : Tables f) (number first : ℕ → ℕ) (at_start : ℕ → ℕ → ℕ) (kept : List (List EdgeCounts)) (fronts : List Front) (b : ℕ) (front : Front) (there : slice_get fronts b ≡ Some front) (is : IsFrontOf (kept_at kept b) front) (low : first b + length front.detours ≡ number b) (starts : (n r : ℕ) → n ≤ length front.detours → at_start (number b - n) r ≡ owned f t b 0 r + given front.detours n r - taken front.detours n r) where
+  straight : (have : ℕ → ℕ) → ((r : ℕ) → have r ≡ owned f t b 0 r) → IsEdgeTo f t number first at_start have b (number b - 0)
+  straight have same = (
+    omega (arith, low),
+    omega arith,
+    λ r.
+        let none : given front.detours 0 r ≡ 0 = total_none (λ e. e.downs) front.detours r in
+        let no : taken front.detours 0 r ≡ 0 = total_none (λ e. e.ups) front.detours r in
+        omega (arith, same r, starts 0 r (omega arith), none, no),
+  )
 
-module _ (f : Func) (t : Tables f) (number : ℕ → ℕ) where
-  pub edge_to_is : (have : ℕ → ℕ) (b n : ℕ) (c : Counts) → AreExact have (λ r. owned f t b 0 r) c → IsEdgeTo f t number have b n (edge_to c (number b) n) (edge_block c (number b))
-  edge_to_is have b n c exact = which (is_none c) refl
+  over_detours : (have : ℕ → ℕ) (c : Counts) (i : ℕ) → AreExact have (owned f t b 0) c → IsShared kept b c (Some i) → IsEdgeTo f t number first at_start have b (number b - entry_of (slice_get fronts b) i)
+  over_detours have c i exact shared =
+      let found = entry_there front.entries i (omega (arith, is.size, slice_get_within (kept_at kept b) i shared.0 shared.1)) in
+      let n : ℕ = found.0 in
+      let way = is.ways i n found.1 in
+      let both : Some way.0 ≡ Some shared.0 = sym way.1 ∙ shared.1 in
+      let same : way.0 ≡ shared.0 = cc in
+      let counted : IsWay front.detours n shared.0 = subst (IsWay front.detours n) same way.3 in
+      let entry : entry_of (slice_get fronts b) i ≡ n = ap (λ z. entry_of z i) there ∙ found.2 in
+      subst (λ z. IsEdgeTo f t number first at_start have b (number b - z)) (sym entry) (
+        omega (arith, low, way.2),
+        omega arith,
+        λ r.
+            let up : taken front.detours n r ≡ times c.ups r = (counted r).0 ∙ ap (λ z. times z r) shared.2.0 in
+            let down : given front.detours n r ≡ times (given_up c.downs) r = (counted r).1 ∙ ap (λ z. times z r) shared.2.1 in
+            omega (arith, starts n r way.2, up, down, exact.0 r, exact.1 r),
+      )
     where
-      which : (e : Bool) → is_none c ≡ e → IsEdgeTo f t number have b n (cond e (number b) n) (cond e [] (record { ops = edge_ops c; last = Goto (number b); handler = None } ∷ []))
-      which true none =
-          let both = none_ups c.ups c.downs none in
-          inl (refl, refl, λ r. let up : times [] r ≡ _ = ap (λ z. times z r) (sym both.0) ∙ exact.0 r in let down : times [] r ≡ _ = ap (λ z. times (given_up z) r) (sym both.1) ∙ exact.1 r in omega (arith, up, down))
-      which false some = inr (refl, edge_ops c, refl, edge_is have _ c exact, some_ops c.ups c.downs some)
+      entry_there : (xs : List ℕ) (i : ℕ) → i < length xs → (n : ℕ) × (slice_get xs i ≡ Some n) × (get_or xs i 0 ≡ n)
+      entry_there [] i lt = absurd (omega (arith, lt))
+      entry_there (x ∷ xs) zero lt = (x, refl, refl)
+      entry_there (x ∷ xs) (suc i) lt = entry_there xs i (omega (arith, lt))
 
-  pub edges_to_are : (first second : ℕ → ℕ) (a b n : ℕ) (c d : Counts) → AreExact first (λ r. owned f t a 0 r) c → AreExact second (λ r. owned f t b 0 r) d → AreEdgesTo f t number first second a b n (edge_to c (number a) n) (edge_to d (number b) (n + room c)) (edge_block c (number a) ++ edge_block d (number b))
-  edges_to_are first second a b n c d one other =
-      let size = own_count c (number a) in
-      (edge_block c (number a), edge_block d (number b), refl, edge_to_is first a n c one, subst (λ z. IsEdgeTo f t number second b (n + z) (edge_to d (number b) (n + room c)) (edge_block d (number b))) (sym size) (edge_to_is second b (n + room c) d other))
+  pub edge_to_is : (have : ℕ → ℕ) (c : Counts) (o : Option ℕ) → AreExact have (owned f t b 0) c → IsShared kept b c o → IsEdgeTo f t number first at_start have b (edge_to number fronts b o)
+  edge_to_is have c None exact none =
+      straight have (λ r. let both = none_ups c.ups c.downs none in let up : times [] r ≡ owned f t b 0 r - have r = ap (λ z. times z r) (sym both.0) ∙ exact.0 r in let down : times [] r ≡ have r - owned f t b 0 r = ap (λ z. times (given_up z) r) (sym both.1) ∙ exact.1 r in omega (arith, up, down))
+  edge_to_is have c (Some i) exact shared = over_detours have c i exact shared

@@ -1,6 +1,10 @@
-mod Laying
-mod Steps
-mod GroupLemmas
-mod EdgeLemmas
-mod BlockLemmas
-mod Following
+pub mod Laying
+pub mod Steps
+pub mod GroupLemmas
+pub mod FrontLemmas
+pub mod PairSteps
+pub mod DetourSteps
+pub mod SharingSteps
+pub mod EdgeLemmas
+pub mod BlockLemmas
+pub mod Following

@@ -1,60 +1,77 @@
--- The blocks with their counts, from what is planned of them.
-use Rattle.std.specs.Prelude.{ℕ, ◌+◌, cond, List, None, [], ◌∷◌, ◌++◌, get_or}
+-- The blocks with their counts, from what is planned of them and the detours to them.
+use Rattle.std.specs.Prelude.{◌≡◌, ℕ, suc, ◌+◌, ◌-◌, Bool, false, List, None, Some, Option, [], ◌∷◌, ◌++◌, map, length, get_or, slice_get}
+use Rattle.std.specs.Option.{option_map_or}
 use Rattle.ir_core.specs.declared.code.Op.{Op}
 use Rattle.ir_core.specs.declared.code.Last.{Last}
 use Rattle.ir_core.specs.declared.code.Last.TheVariants.{Goto, If, IfError, Return, Unreachable}
 use Rattle.ir_core.specs.declared.code.Block.{Block}
-use Rattle.refcount_insert_counts.specs.declared.counts.Counts.{Counts}
-use Rattle.refcount_insert_counts.specs.Edges.{is_none, edge_ops}
+use Rattle.refcount_insert_rule.specs.Rule.{ups, downs}
+use Rattle.refcount_insert.specs.declared.sharing.EdgeCounts.{EdgeCounts}
+use Rattle.refcount_insert.specs.declared.detours.Detour.{Detour}
+use Rattle.refcount_insert.specs.declared.detours.Front.{Front}
 use Rattle.refcount_insert.specs.declared.plan.Planned.{Planned}
+use Rattle.ir_core.specs.Rows.{Declared}
+use Rattle.refcount_insert_counts.specs.declared.known.KnownRegisters.{KnownRegisters}
+use Rattle.refcount_insert.specs.Sharing.{AreProper}
+use Rattle.refcount_insert.specs.Detours.{AreFronts}
+use Rattle.refcount_insert.specs.Plan.{ArePlanned}
 
--- how many blocks the counts of an edge take
-abbrev pub room : Counts → ℕ
-room c = cond (is_none c) 0 1
-
-abbrev pub rooms : Counts → Counts → Last → ℕ
-rooms first second (If x t u) = room first + room second
-rooms first second (IfError x t u line) = room first + room second
-rooms first second _ = 0
-
-abbrev pub size_of : Planned → ℕ
-size_of p = 1 + rooms p.first p.second p.last
-
--- the new numbers of the blocks, from number n on
-abbrev pub starts_from : ℕ → List Planned → List ℕ
-starts_from n [] = []
-starts_from n (p ∷ ps) = n ∷ starts_from (n + size_of p) ps
+-- the new numbers of the blocks, from number n on: each stands behind the detours to it
+abbrev pub numbers_from : ℕ → List Front → List ℕ
+numbers_from n [] = []
+numbers_from n (f ∷ fs) = (n + length f.detours) ∷ numbers_from (n + length f.detours + 1) fs
 
 abbrev pub number_at : List ℕ → ℕ → ℕ
-number_at starts b = get_or starts b 0
+number_at numbers b = get_or numbers b 0
 
--- where an edge goes: to its target, or to the block of its counts
-abbrev pub edge_to : Counts → ℕ → ℕ → ℕ
-edge_to c there own = cond (is_none c) there own
+-- what is given up on an edge may be an error value
+abbrev pub unsure : List ℕ → List (ℕ × Bool)
+unsure rs = map (λ r. (r, false)) rs
 
--- the block of its counts
-abbrev pub edge_block : Counts → ℕ → List Block
-edge_block c there = cond (is_none c) [] (record { ops = edge_ops c; last = Goto there; handler = None } ∷ [])
+abbrev pub detour_ops : EdgeCounts → List (Op × ℕ)
+detour_ops e = ups e.ups 0 ++ downs (unsure e.downs) 0
 
-module _ (number : ℕ → ℕ) where
-  -- the end of a block, where those of its edges begin at n
-  abbrev pub end_at : Counts → Counts → Last → ℕ → Last
-  end_at first second (Goto t) n = Goto (number t)
-  end_at first second (If x t u) n = If x (edge_to first (number t) n) (edge_to second (number u) (n + room first))
-  end_at first second (IfError x t u line) n = IfError x (edge_to first (number t) n) (edge_to second (number u) (n + room first)) line
-  end_at first second (Return x) n = Return x
-  end_at first second Unreachable n = Unreachable
+-- a detour to the block of a number
+abbrev pub detour_to : ℕ → Detour → Block
+detour_to there d = record { ops = detour_ops d.counts; last = Goto (there - d.next); handler = None }
 
-  -- and these blocks
-  abbrev pub edge_blocks : Counts → Counts → Last → List Block
-  edge_blocks first second (If x t u) = edge_block first (number t) ++ edge_block second (number u)
-  edge_blocks first second (IfError x t u line) = edge_block first (number t) ++ edge_block second (number u)
-  edge_blocks first second _ = []
+abbrev pub detours_to : ℕ → List Detour → List Block
+detours_to there ds = map (detour_to there) ds
 
-  -- a block with those of its edges, from number n on
-  abbrev pub laid : ℕ → Planned → List Block
-  laid n p = record { ops = p.ops; last = end_at p.first p.second p.last (n + 1); handler = None } ∷ edge_blocks p.first p.second p.last
+-- how far in front of its block an edge goes
+abbrev pub entry_of : Option Front → ℕ → ℕ
+entry_of o i = option_map_or (λ (f : Front). get_or f.entries i 0) o 0
 
-  abbrev pub all_laid : ℕ → List Planned → List Block
-  all_laid n [] = []
-  all_laid n (p ∷ ps) = laid n p ++ all_laid (n + size_of p) ps
+abbrev pub distance : List Front → ℕ → Option ℕ → ℕ
+distance fronts t None = 0
+distance fronts t (Some i) = entry_of (slice_get fronts t) i
+
+module _ (number : ℕ → ℕ) (fronts : List Front) where
+  abbrev pub edge_to : ℕ → Option ℕ → ℕ
+  edge_to t o = number t - distance fronts t o
+
+  abbrev pub end_at : Option ℕ → Option ℕ → Last → Last
+  end_at first second (Goto t) = Goto (number t)
+  end_at first second (If x t u) = If x (edge_to t first) (edge_to u second)
+  end_at first second (IfError x t u line) = IfError x (edge_to t first) (edge_to u second) line
+  end_at first second (Return x) = Return x
+  end_at first second Unreachable = Unreachable
+
+  abbrev pub main_of : Planned → Block
+  main_of p = record { ops = p.ops; last = end_at p.first p.second p.last; handler = None }
+
+  -- blocks from number b on, each behind the detours to it
+  abbrev pub all_laid : ℕ → List Front → List Planned → List Block
+  all_laid b (f ∷ fs) (p ∷ ps) = detours_to (number b) f.detours ++ (main_of p ∷ all_laid (suc b) fs ps)
+  all_laid b _ _ = []
+
+-- new blocks that are the old ones with their counts, where so much is known
+pub record AreLaid (known : KnownRegisters) (regs : Declared) (old new : List Block) : Type 0 where
+  pub kept : List (List EdgeCounts)
+  pub fronts : List Front
+  pub planned : List Planned
+  pub plan : ArePlanned known regs kept 0 old planned
+  pub proper : AreProper known regs kept
+  pub size : length kept ≡ length old
+  pub are_fronts : AreFronts kept fronts
+  pub laid : new ≡ all_laid (number_at (numbers_from 0 fronts)) fronts 0 fronts planned

@@ -1,2 +1,5 @@
+pub mod Sharing
+pub mod Pairs
+pub mod Detours
 pub mod Plan
 pub mod Layout

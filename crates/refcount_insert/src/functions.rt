@@ -1,22 +1,23 @@
 //! The functions of a program, and the program.
-ghost use Rattle.std.specs.Prelude.{◌≡◌, ◌≤◌, ◌^◌, List, length, map, IfOk};
+ghost use Rattle.std.specs.Prelude.{◌≡◌, ◌≤◌, ◌^◌, length, map, IfOk};
 ghost use Rattle.ir_core.specs.declared.code.Program.{Program as ProgramItem};
 ghost use Rattle.ir_core.specs.Bare.{bare, bare_program};
 ghost use Rattle.ir_core.specs.Lower as spec;
 ghost use Rattle.ir_core.specs.Runs.{MeansSame, Fit};
 ghost use Rattle.ir_core.specs.Shape.{Shape, FuncFits, FuncsFit};
 ghost use Rattle.refcount_insert_counts.specs.declared.known.KnownRegisters.{KnownRegisters as KnownItem};
-ghost use Rattle.refcount_insert.specs.declared.plan.Planned.{Planned as PlannedItem};
 ghost use Rattle.refcount_insert_counts.specs.Known.{IsKnown};
+ghost use Rattle.refcount_insert.specs.Sharing.{AreProper};
 ghost use Rattle.refcount_insert.specs.Plan.{ArePlanned};
-ghost use Rattle.refcount_insert.specs.Layout.{starts_from, number_at, all_laid};
+ghost use Rattle.refcount_insert.specs.Layout.{AreLaid};
 ghost use Rattle.refcount_insert_lines_laws.specs.Follows.{Follows};
 ghost use Rattle.refcount_insert_meaning_laws.specs.Uncounted.{uncounted};
 ghost use Rattle.refcount_insert_rule.specs.Counted.{IsCountedFunc, AreCounted, IsCountedProgram};
 
 use crate::copies::copy_declared;
+use crate::detours::fronts_of;
 use crate::layout::laid_out;
-use crate::plan::plan;
+use crate::plan::{FunctionPlan, plan};
 use c_core::Code;
 use error_edges::Edged;
 use ir_core::{Block, Func, Program};
@@ -25,14 +26,26 @@ use refcount_insert_lowering::{copy_classes, lower};
 use std::alloc::Global;
 use value_core::{Many, Memory, Name};
 
-/// The blocks of a function with their counts. They are as few as numbers of 64 bits can name.
-fn counted_blocks(alloc: Global, f: &Func) -> Result<Many<Block>, Memory>
-    ensures laid { IfOk result (λ blocks. (known : KnownItem) × (planned : List PlannedItem) × IsKnown (bare f.now) known × ArePlanned known f.now.regs 0 f.now.blocks planned × (blocks ≡ all_laid (number_at (starts_from 0 planned)) 0 planned)) }
-    ensures few { IfOk result (λ blocks. length blocks ≤ 2 ^ 64) }
+/// The plan of a function.
+fn planned_function(alloc: Global, f: &Func) -> Result<FunctionPlan, Memory>
+    requires { FuncFits f.now }
+    ensures planned { IfOk result (λ plan. (known : KnownItem) × IsKnown (bare f.now) known × ArePlanned known f.now.regs plan.kept.items 0 f.now.blocks plan.blocks.items × AreProper known f.now.regs plan.kept.items) }
+    ensures size { IfOk result (λ plan. length plan.kept.items ≡ length f.now.blocks) }
 {
     let known = known_of(alloc, f)?;
     let planned = plan(alloc, f.regs.as_slice(), &known, f.blocks.as_slice())?;
-    let blocks = laid_out(alloc, planned)?;
+    Ok(planned)
+}
+
+/// The blocks of a function with their counts. They are as few as numbers of 64 bits can name.
+fn counted_blocks(alloc: Global, f: &Func) -> Result<Many<Block>, Memory>
+    requires { FuncFits f.now }
+    ensures laid { IfOk result (λ blocks. (known : KnownItem) × IsKnown (bare f.now) known × AreLaid known f.now.regs f.now.blocks blocks) }
+    ensures few { IfOk result (λ blocks. length blocks ≤ 2 ^ 64) }
+{
+    let plan = planned_function(alloc, f)?;
+    let fronts = fronts_of(alloc, &plan.kept)?;
+    let blocks = laid_out(alloc, plan.blocks, &fronts)?;
     Ok(blocks)
 }
 
@@ -92,8 +105,9 @@ pub fn with_counts(alloc: Global, e: &Edged) -> Result<Program, Memory>
     Ok(counted)
 }
 
-/// The C text of a program with its counts, as data. It does what the program does, its runs never fault, and at their end each
-/// count is the number of places that hold the cell (mypyc's developer guide, "Reference counting").
+/// The C text of a program with its counts, as data. It does what the program does, its runs never fault, and where they end by
+/// themselves or by an exception each count is the number of places that hold the cell (mypyc's developer guide, "Reference
+/// counting").
 pub fn insert_counts(alloc: Global, e: &Edged) -> Result<Code, Memory>
     requires shape { Shape e.now.program }
     requires fits { Fit e.now.program }

@@ -1,156 +1,145 @@
 //! The blocks with their new numbers.
-ghost use Rattle.std.specs.Prelude.{◌≡◌, ◌≤◌, ◌+◌, ◌++◌, ◌∷◌, [], length, IfOk, OnOk};
+ghost use Rattle.std.specs.Prelude.{◌≡◌, ◌≤◌, ◌++◌, length, slice_get, IfOk, OnOk};
 ghost use Rattle.refcount_insert.specs.Layout as spec;
-ghost use Rattle.refcount_insert.specs.Layout.{room, rooms, starts_from, number_at, edge_block, edge_blocks, end_at, laid, all_laid};
+ghost use Rattle.refcount_insert.specs.Layout.{numbers_from, number_at, detour_ops, detours_to, entry_of, end_at, all_laid};
 
+use crate::detours::{Detour, Front};
 use crate::plan::Planned;
-use ir_core::{Block, Last};
-use refcount_insert_counts::{Counts, lay_edge};
+use crate::sharing::EdgeCounts;
+use ir_core::{Block, Last, Op, Reg};
+use refcount_insert_counts::lay_ups;
 use std::alloc::Global;
 use value_core::{Many, Memory};
 
-/// How many blocks the counts of an edge take.
-fn room(counts: &Counts) -> usize
-    ensures value { result ≡ room counts.now }
-    ensures few { result ≤ 1 }
+/// The new numbers of the blocks. It is want of memory where there is no number for a block.
+fn numbers(alloc: Global, fronts: &[Front]) -> Result<Vec<usize>, Memory>
+    ensures { IfOk result (λ numbers. numbers.items ≡ numbers_from 0 fronts.now) }
 {
-    usize::from(!counts.is_none())
+    let mut numbers = Vec::new(alloc);
+    let mut next = 0usize;
+    for front in fronts {
+        let number = next.checked_add(front.detours.len()).ok_or(Memory)?;
+        numbers.push(number)?;
+        next = number.checked_add(1).ok_or(Memory)?;
+    }
+    Ok(numbers)
 }
 
-/// How many blocks the counts of both edges take.
-fn rooms(p: &Planned) -> usize
-    ensures value { result ≡ rooms p.now.first p.now.second p.now.last }
-    ensures few { result ≤ 2 }
+/// The number at a place.
+fn number(numbers: &[usize], place: usize) -> usize
+    ensures { result ≡ number_at numbers.now place }
+{
+    numbers.get(place).copied().unwrap_or(0)
+}
+
+/// Where the way of the counts at a place begins.
+fn entry(fronts: &[Front], t: usize, place: usize) -> usize
+    ensures { result ≡ entry_of (slice_get fronts.now t) place }
+{
+    if t < fronts.len() {
+        number(fronts[t].entries.as_slice(), place)
+    } else {
+        0
+    }
+}
+
+/// How far in front of its block an edge goes.
+fn distance(fronts: &[Front], t: usize, place: Option<usize>) -> usize
+    ensures { result ≡ spec.distance fronts.now t place }
+{
+    match place {
+        Some(place) => entry(fronts, t, place),
+        None => 0,
+    }
+}
+
+/// Where an edge goes: to its target, or to a detour in front of it.
+fn edge_to(numbers: &[usize], fronts: &[Front], t: usize, place: Option<usize>) -> usize
+    ensures { result ≡ spec.edge_to (number_at numbers.now) fronts.now t place }
+{
+    number(numbers, t).saturating_sub(distance(fronts, t, place))
+}
+
+/// The end of a block.
+fn end(numbers: &[usize], fronts: &[Front], p: &Planned) -> Last
+    ensures { result ≡ end_at (number_at numbers.now) fronts.now p.now.first p.now.second p.now.last }
 {
     match p.last {
-        Last::If(_, _, _) | Last::IfError(_, _, _, _) => room(&p.first) + room(&p.second),
-        Last::Goto(_) | Last::Return(_) | Last::Unreachable => 0,
-    }
-}
-
-/// The new numbers of the blocks. It is want of memory where there is no number for a block.
-fn starts(alloc: Global, planned: &[Planned]) -> Result<Vec<usize>, Memory>
-    ensures { IfOk result (λ starts. starts.items ≡ starts_from 0 planned.now) }
-{
-    let mut starts = Vec::new(alloc);
-    let mut next = 0usize;
-    for p in planned {
-        starts.push(next)?;
-        next = next.checked_add(1 + rooms(p)).ok_or(Memory)?;
-    }
-    Ok(starts)
-}
-
-fn number(starts: &[usize], b: usize) -> usize
-    ensures { result ≡ number_at starts.now b }
-{
-    starts.get(b).copied().unwrap_or(0)
-}
-
-/// Where an edge goes: to its target, or to the block of its counts.
-fn edge_to(counts: &Counts, there: usize, own: usize) -> usize
-    ensures { result ≡ spec.edge_to counts.now there own }
-{
-    if counts.is_none() { there } else { own }
-}
-
-/// The end of a block, where the blocks of its edges have numbers from n on.
-fn end(starts: &[usize], p: &Planned, n: usize) -> Result<Last, Memory>
-    ensures { IfOk result (λ last. last ≡ end_at (number_at starts.now) p.now.first p.now.second p.now.last n) }
-{
-    let other = n.checked_add(room(&p.first)).ok_or(Memory)?;
-    Ok(match p.last {
-        Last::Goto(t) => Last::Goto(number(starts, t)),
+        Last::Goto(t) => Last::Goto(number(numbers, t)),
         Last::If(x, t, u) => Last::If(
             x,
-            edge_to(&p.first, number(starts, t), n),
-            edge_to(&p.second, number(starts, u), other),
+            edge_to(numbers, fronts, t, p.first),
+            edge_to(numbers, fronts, u, p.second),
         ),
         Last::IfError(x, t, u, line) => Last::IfError(
             x,
-            edge_to(&p.first, number(starts, t), n),
-            edge_to(&p.second, number(starts, u), other),
+            edge_to(numbers, fronts, t, p.first),
+            edge_to(numbers, fronts, u, p.second),
             line,
         ),
         Last::Return(x) => Last::Return(x),
         Last::Unreachable => Last::Unreachable,
-    })
+    }
 }
 
-/// Puts the block of an edge behind the others, if the edge has counts.
-fn lay_own(
+/// The operations of a detour.
+fn counted(alloc: Global, counts: &EdgeCounts) -> Result<Many<(Op, usize)>, Memory>
+    ensures { IfOk result (λ ops. ops ≡ detour_ops counts.now) }
+{
+    let mut ops = Vec::new(alloc);
+    lay_ups(&mut ops, counts.ups.as_slice(), 0)?;
+    for r in counts.downs.as_slice() {
+        ops.push((Op::XDec(Reg(*r)), 0))?;
+    }
+    Ok(Many::from_vec(ops))
+}
+
+/// Puts the detours to the block of a number behind the others.
+fn lay_detours(
     alloc: Global,
     blocks: &mut Vec<Block>,
-    counts: &Counts,
+    detours: &[Detour],
     there: usize,
 ) -> Result<(), Memory>
-    ensures { OnOk result (blocks.new.items ≡ blocks.old.items ++ edge_block counts.now there) }
+    ensures { OnOk result (blocks.new.items ≡ blocks.old.items ++ detours_to there detours.now) }
 {
-    if counts.is_none() {
-        return Ok(());
+    for detour in detours {
+        let ops = counted(alloc, &detour.counts)?;
+        blocks.push(Block {
+            ops,
+            last: Last::Goto(there.saturating_sub(detour.next)),
+            handler: None,
+        })?;
     }
-    let mut ops = Vec::new(alloc);
-    lay_edge(&mut ops, counts)?;
-    blocks.push(Block {
-        ops: Many::from_vec(ops),
-        last: Last::Goto(there),
-        handler: None,
-    })?;
     Ok(())
 }
 
-/// Puts the blocks of the edges of a test behind the others.
-fn lay_both(
-    alloc: Global,
-    blocks: &mut Vec<Block>,
-    starts: &[usize],
-    last: Last,
-    first: &Counts,
-    second: &Counts,
-) -> Result<(), Memory>
-    ensures { OnOk result (blocks.new.items ≡ blocks.old.items ++ edge_blocks (number_at starts.now) first.now second.now last) }
-{
-    match last {
-        Last::If(_, t, u) | Last::IfError(_, t, u, _) => {
-            lay_own(alloc, blocks, first, number(starts, t))?;
-            lay_own(alloc, blocks, second, number(starts, u))
-        }
-        Last::Goto(_) | Last::Return(_) | Last::Unreachable => Ok(()),
-    }
-}
-
-/// Puts a block with those of its edges behind the others.
-fn lay_block(
-    alloc: Global,
-    blocks: &mut Vec<Block>,
-    starts: &[usize],
-    planned: Planned,
-) -> Result<(), Memory>
-    ensures { OnOk result (blocks.new.items ≡ blocks.old.items ++ laid (number_at starts.now) (length blocks.old.items) planned) }
-{
-    let last = end(starts, &planned, blocks.len() + 1)?;
-    let Planned {
-        ops,
-        last: old,
-        first,
-        second,
-    } = planned;
-    blocks.push(Block {
-        ops,
-        last,
-        handler: None,
-    })?;
-    lay_both(alloc, blocks, starts, old, &first, &second)
-}
-
 /// The blocks that are planned, with their new numbers.
-pub(crate) fn laid_out(alloc: Global, planned: Vec<Planned>) -> Result<Many<Block>, Memory>
-    ensures { IfOk result (λ blocks. blocks ≡ all_laid (number_at (starts_from 0 planned.items)) 0 planned.items) }
+pub(crate) fn laid_out(
+    alloc: Global,
+    planned: Vec<Planned>,
+    fronts: &[Front],
+) -> Result<Many<Block>, Memory>
+    requires { length planned.items ≤ length fronts.now }
+    ensures { IfOk result (λ blocks. blocks ≡ all_laid (number_at (numbers_from 0 fronts.now)) fronts.now 0 fronts.now planned.items) }
 {
-    let starts = starts(alloc, &planned)?;
+    let numbers = numbers(alloc, fronts)?;
     let mut blocks = Vec::new(alloc);
+    let mut b = 0usize;
     for p in planned {
-        lay_block(alloc, &mut blocks, &starts, p)?;
+        lay_detours(
+            alloc,
+            &mut blocks,
+            fronts[b].detours.as_slice(),
+            number(&numbers, b),
+        )?;
+        let last = end(&numbers, fronts, &p);
+        blocks.push(Block {
+            ops: p.ops,
+            last,
+            handler: None,
+        })?;
+        b += 1;
     }
     Ok(Many::from_vec(blocks))
 }

@@ -1,11 +1,15 @@
 //! What is planned of the blocks of a function.
-ghost use Rattle.std.specs.Prelude.{◌≡◌, ◌<◌, ◌≤◌, ◌+◌, ◌^◌, ◌++◌, ℕ, List, IfOk, OnOk};
+ghost use Rattle.std.specs.Prelude.{◌≡◌, ◌<◌, ◌≤◌, ◌+◌, ◌^◌, ◌++◌, [], ℕ, List, length, replicate, IfOk, OnOk};
 ghost use Rattle.ir_core.specs.declared.code.Op.{Op as OpItem};
+ghost use Rattle.ir_core.specs.Shape.{LastFits, BlocksFit};
 ghost use Rattle.refcount_insert_counts.specs.Known.{owned_at};
+ghost use Rattle.refcount_insert.specs.Sharing.{Keeps, AreTargetsWithin, AddsBoth, AreShared, AreProper};
 ghost use Rattle.refcount_insert.specs.Plan.{IsCountedOp, AreCountedOps, IsPlannedBody, IsPlanned, ArePlanned};
 ghost use Rattle.refcount_insert.specs.Plan as spec;
 
 use crate::copies::copy_op;
+use crate::sharing::{EdgeCounts, share};
+use indexmap::IndexMap;
 use ir_core::{Block, Last, Op, RType};
 use refcount_insert_counts::{
     Counts, KnownRegisters, end_counts, group_counts, lay_downs, lay_edge, lay_ups, test_counts,
@@ -13,14 +17,21 @@ use refcount_insert_counts::{
 use std::alloc::Global;
 use value_core::{Many, Memory, Name};
 
-/// A block with its counts, before the blocks have their new numbers: its operations, its end with the old numbers, and the
-/// counts of both edges, if it ends in a test.
+/// A block with its counts, before the blocks have their new numbers: its operations, its end with the old numbers, and where the
+/// counts of both edges stand among those of edges to the same block, if it ends in a test whose edges have counts.
 #[derive(Drop)]
 pub struct Planned {
     pub ops: Many<(Op, usize)>,
     pub last: Last,
-    pub first: Counts,
-    pub second: Counts,
+    pub first: Option<usize>,
+    pub second: Option<usize>,
+}
+
+/// The plan of a function: its blocks, and for each block the different counts of edges to it.
+#[derive(Drop)]
+pub struct FunctionPlan {
+    pub blocks: Vec<Planned>,
+    pub kept: Vec<Many<EdgeCounts>>,
 }
 
 /// Puts an operation with its counts behind the others.
@@ -99,16 +110,46 @@ fn planned_body(
     Ok(done)
 }
 
+/// Where the counts of both edges of a test stand.
+fn shared_edges(
+    alloc: Global,
+    kept: &mut [Many<EdgeCounts>],
+    places: &mut IndexMap<usize, usize>,
+    last: Last,
+    counts: &(Counts, Counts),
+) -> Result<(Option<usize>, Option<usize>), Memory>
+    requires { AreTargetsWithin (length kept.old) last }
+    ensures keeps { OnOk result (Keeps kept.old kept.new) }
+    ensures adds { OnOk result (AddsBoth kept.old kept.new last counts.now) }
+    ensures shared { IfOk result (AreShared kept.new last counts.now) }
+{
+    match last {
+        Last::If(_, t, u) | Last::IfError(_, t, u, _) => {
+            let first = share(alloc, kept, places, t, &counts.0)?;
+            let second = share(alloc, kept, places, u, &counts.1)?;
+            Ok((first, second))
+        }
+        Last::Goto(_) | Last::Return(_) | Last::Unreachable => Ok((None, None)),
+    }
+}
+
 fn planned_block(
     alloc: Global,
     regs: &[(Name, RType)],
     known: &KnownRegisters,
+    kept: &mut [Many<EdgeCounts>],
+    places: &mut IndexMap<usize, usize>,
     b: usize,
     block: &Block,
 ) -> Result<Planned, Memory>
-    ensures { IfOk result (λ p. IsPlanned known.now regs.now b block.now p) }
+    requires fits { LastFits (length kept.old) b block.now.ops block.now.last }
+    requires proper { AreProper known.now regs.now kept.old }
+    ensures keeps { OnOk result (Keeps kept.old kept.new) }
+    ensures proper { OnOk result (AreProper known.now regs.now kept.new) }
+    ensures planned { IfOk result (λ p. IsPlanned known.now regs.now kept.new b block.now p) }
 {
-    let (first, second) = test_counts(alloc, regs, known, b, block.ops.len(), block.last)?;
+    let counts = test_counts(alloc, regs, known, b, block.ops.len(), block.last)?;
+    let (first, second) = shared_edges(alloc, kept, places, block.last, &counts)?;
     let ops = planned_body(alloc, regs, known, b, block.ops.as_slice(), block.last)?;
     Ok(Planned {
         ops: Many::from_vec(ops),
@@ -118,19 +159,35 @@ fn planned_block(
     })
 }
 
+/// For each of so many blocks no counts of edges.
+fn none_kept(alloc: Global, count: usize) -> Result<Vec<Many<EdgeCounts>>, Memory>
+    ensures { IfOk result (λ kept. kept.items ≡ replicate count []) }
+{
+    let mut kept = Vec::new(alloc);
+    for _ in 0..count {
+        kept.push(Many::new(alloc))?;
+    }
+    Ok(kept)
+}
+
 /// The plan of a function's blocks.
 pub(crate) fn plan(
     alloc: Global,
     regs: &[(Name, RType)],
     known: &KnownRegisters,
     blocks: &[Block],
-) -> Result<Vec<Planned>, Memory>
-    ensures { IfOk result (λ all. ArePlanned known.now regs.now 0 blocks.now all.items) }
+) -> Result<FunctionPlan, Memory>
+    requires { BlocksFit (length blocks.now) 0 blocks.now }
+    ensures planned { IfOk result (λ plan. ArePlanned known.now regs.now plan.kept.items 0 blocks.now plan.blocks.items) }
+    ensures proper { IfOk result (λ plan. AreProper known.now regs.now plan.kept.items) }
+    ensures size { IfOk result (λ plan. length plan.kept.items ≡ length blocks.now) }
 {
     let mut all = Vec::new(alloc);
+    let mut kept = none_kept(alloc, blocks.len())?;
+    let mut places = IndexMap::new(alloc);
     for (b, block) in blocks.iter().enumerate() {
-        let planned = planned_block(alloc, regs, known, b, block)?;
+        let planned = planned_block(alloc, regs, known, &mut kept, &mut places, b, block)?;
         all.push(planned)?;
     }
-    Ok(all)
+    Ok(FunctionPlan { blocks: all, kept })
 }

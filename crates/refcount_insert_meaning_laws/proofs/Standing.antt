@@ -1,5 +1,5 @@
 -- Where each block of a function stands among the blocks with counts, and what is left of it without them.
-use Rattle.std.proofs.Common.{◌≡◌, refl, sym, ◌∙◌, ap, subst, ℕ, zero, suc, ◌+◌, ◌≤◌, ◌<◌, ◌-◌, arith, List, [], ◌∷◌, ◌++◌, length, Some, None, append_assoc, length-append, ⊎_elim}
+use Rattle.std.proofs.Common.{◌≡◌, refl, sym, ◌∙◌, ap, subst, ℕ, zero, suc, ◌+◌, ◌≤◌, ◌<◌, arith, List, [], ◌∷◌, ◌++◌, length, Some, None, append_assoc, length-append, ⊎_elim}
 use Rattle.std.specs.Prelude.{slice_get}
 use Rattle.ir_core.specs.declared.code.Op.{Op}
 use Rattle.ir_core.specs.declared.code.Last.{Last}
@@ -8,7 +8,8 @@ use Rattle.ir_core.specs.declared.code.Block.{Block}
 use Rattle.ir_core.specs.declared.code.Func.{Func}
 use Rattle.ir_core.specs.Shape.{LastFits, BlocksFit, FuncFits}
 use Rattle.c_core_ownership_laws.specs.Shares.{put}
-use Rattle.refcount_insert_rule.specs.Counted.{Tables, owned, wanted, IsEdgeTo, AreEdgesTo, IsLast, AreBlocks, IsCountedFunc}
+use Rattle.liveness.proofs.OwnedLemmas.{below_or_not}
+use Rattle.refcount_insert_rule.specs.Counted.{Tables, owned, wanted, AreDetours, IsEdgeTo, IsLast, AreBlocks, IsCountedFunc}
 use Rattle.refcount_insert_meaning_laws.specs.Uncounted.{without_counts, passed_to, goal, led, uncounted_block}
 use Rattle.refcount_insert_meaning_laws.proofs.Counts.{left_of_edge, left_of_body}
 use Rattle.refcount_insert_meaning_laws.proofs.Goals.{passes_there, passed_at, goal_past}
@@ -22,65 +23,92 @@ get_before [] ys i a e = let f : None ≡ Some a = e in absurd (cc)
 get_before (x ∷ xs) ys zero a e = e
 get_before (x ∷ xs) ys (suc i) a e = get_before xs ys i a e
 
-module _ (f : Func) (t : Tables f) (number : ℕ → ℕ) (all : List Block) where
+past_main : (before detours rest : List Block) (main : Block) → before ++ (detours ++ (main ∷ rest)) ≡ (before ++ (detours ++ (main ∷ []))) ++ rest
+past_main before detours rest main =
+    ap (λ z. before ++ z) (sym (append_assoc detours (main ∷ []) rest)) ∙ sym (append_assoc before (detours ++ (main ∷ [])) rest)
+
+past_size : (before detours : List Block) (main : Block) → length (before ++ (detours ++ (main ∷ []))) ≡ length before + length detours + 1
+past_size before detours main =
+    length-append before (detours ++ (main ∷ [])) ∙ (ap (λ z. length before + z) (length-append detours (main ∷ [])) ∙ omega arith)
+
+module _ (f : Func) (t : Tables f) (number first : ℕ → ℕ) (at_start : ℕ → ℕ → ℕ) (all : List Block) where
   -- where an edge to an old block leads
   abbrev pub goal_of : ℕ → ℕ
   goal_of k = goal all (number k)
 
+  -- each detour to an old block leads where the block itself leads
+  abbrev Leads : ℕ → Type 0
+  Leads b = (n : ℕ) → first b ≤ n → n ≤ number b → goal all n ≡ goal_of b
+
+  -- ---- detours
+  detours_lead : (b m : ℕ) (xs : List Block) → AreDetours f t number first at_start b m xs → number b ≡ m + length xs → ((j : ℕ) (x : Block) → slice_get xs j ≡ Some x → slice_get all (m + j) ≡ Some x) → (n : ℕ) → m ≤ n → n ≤ number b → goal all n ≡ goal_of b
+  detours_lead b m [] are size there n low high = let same : n ≡ number b = omega (arith, size, low, high) in ap (goal all) same
+  detours_lead b m (x ∷ xs) are size there n low high =
+      onward (detours_lead b (suc m) xs are.1 (omega (arith, size)) behind)
+    where
+      behind : (j : ℕ) (y : Block) → slice_get xs j ≡ Some y → slice_get all (suc m + j) ≡ Some y
+      behind j y e = let z : suc m + j ≡ m + suc j = omega arith in ap (slice_get all) z ∙ there (suc j) y e
+
+      found : slice_get all m ≡ Some x
+      found = let z : m ≡ m + 0 = omega arith in ap (slice_get all) z ∙ there 0 x refl
+
+      passed : passed_to all m ≡ Some are.0.next
+      passed =
+          passed_at all m x found
+          ∙ (ap (λ z. Rattle.refcount_insert_meaning_laws.specs.Uncounted.passes m x.ops (without_counts x.ops) z) are.0.goes
+          ∙ (ap (λ z. Rattle.refcount_insert_meaning_laws.specs.Uncounted.passes m x.ops z (Goto are.0.next)) (left_of_edge (at_start m) (at_start are.0.next) x.ops are.0.counts)
+          ∙ passes_there m x.ops are.0.next are.0.some are.0.ahead))
+
+      onward : ((i : ℕ) → suc m ≤ i → i ≤ number b → goal all i ≡ goal_of b) → goal all n ≡ goal_of b
+      onward later = ⊎_elim
+          (λ lt. later n lt high)
+          (λ le. let same : n ≡ m = omega (arith, low, le) in ap (goal all) same ∙ (goal_past all m are.0.next passed ∙ later are.0.next are.0.ahead are.0.within))
+          (below_or_not m n)
+
+  leads_from : (k m : ℕ) (bs blocks before : List Block) → all ≡ before ++ blocks → length before ≡ m → AreBlocks f t number first at_start k m bs blocks → (j : ℕ) → j < length bs → Leads (k + j)
+  leads_from k m [] blocks before is size are j lt = absurd (omega (arith, lt))
+  leads_from k m (x ∷ bs) blocks before is size are zero lt =
+      let none : k ≡ k + 0 = omega arith in
+      subst Leads none (λ n low high. detours_lead k m are.0 are.7 are.5 there n (omega (arith, low, are.4)) high)
+    where
+      there : (j : ℕ) (y : Block) → slice_get are.0 j ≡ Some y → slice_get all (m + j) ≡ Some y
+      there j y e =
+          let whole : all ≡ before ++ (are.0 ++ (are.1 ∷ are.2)) = is ∙ ap (λ z. before ++ z) are.3 in
+          let place : m + j ≡ length before + j = omega (arith, size) in
+          ap (λ z. slice_get z (m + j)) whole
+          ∙ (ap (slice_get (before ++ (are.0 ++ (are.1 ∷ are.2)))) place ∙ (get_behind before (are.0 ++ (are.1 ∷ are.2)) j ∙ get_before are.0 (are.1 ∷ are.2) j y e))
+  leads_from k m (x ∷ bs) blocks before is size are (suc j) lt =
+      let whole : all ≡ (before ++ (are.0 ++ (are.1 ∷ []))) ++ are.2 = is ∙ (ap (λ z. before ++ z) are.3 ∙ past_main before are.0 are.2 are.1) in
+      let longer : length (before ++ (are.0 ++ (are.1 ∷ []))) ≡ m + length are.0 + 1 = past_size before are.0 are.1 ∙ omega (arith, size) in
+      let next : suc k + j ≡ k + suc j = omega arith in
+      subst Leads next (leads_from (suc k) (m + length are.0 + 1) bs are.2 (before ++ (are.0 ++ (are.1 ∷ []))) whole longer are.10 j (omega (arith, lt)))
+
   -- ---- edges
-  edge_leads : (have : ℕ → ℕ) (b n to : ℕ) (own : List Block) → ((j : ℕ) (x : Block) → slice_get own j ≡ Some x → slice_get all (n + j) ≡ Some x) → n + length own ≤ number b → IsEdgeTo f t number have b n to own → goal all to ≡ goal_of b
-  edge_leads have b n to own there later e =
-      ⊎_elim
-      (λ (a : (to ≡ number b) × (own ≡ []) × ((r : ℕ) → have r ≡ wanted f t number b r)). ap (goal all) a.0)
-      (λ a.
-      let counts : List (Op × ℕ) = a.1 in
-      let x : Block = record { ops = counts; last = Goto (number b); handler = None } in
-      let size : length own ≡ 1 = ap length a.2 in
-      let place : n + 0 ≡ to = omega (arith, a.0) in
-      let found : slice_get all to ≡ Some x = ap (slice_get all) (sym place) ∙ there 0 x (ap (λ z. slice_get z 0) a.2) in
-      let none : without_counts counts ≡ [] = left_of_edge have (wanted f t number b) counts a.3 in
-      let ahead : to < number b = omega (arith, size, later, a.0) in
-      let passed : passed_to all to ≡ Some (number b) = passed_at all to x found ∙ (ap (λ z. Rattle.refcount_insert_meaning_laws.specs.Uncounted.passes to counts z (Goto (number b))) none ∙ passes_there to counts (number b) a.4 ahead) in
-      goal_past all to (number b) passed)
-      e
+  module _ (total : ℕ) (leads : (b : ℕ) → b < total → Leads b) where
+    edge_leads : (have : ℕ → ℕ) (b to : ℕ) → b < total → IsEdgeTo f t number first at_start have b to → goal all to ≡ goal_of b
+    edge_leads have b to lt e = leads b lt to e.0 e.1
 
-  both_lead : (first second : ℕ → ℕ) (a b n p q : ℕ) (own : List Block) → ((j : ℕ) (x : Block) → slice_get own j ≡ Some x → slice_get all (n + j) ≡ Some x) → n + length own ≤ number a → n + length own ≤ number b → AreEdgesTo f t number first second a b n p q own → (goal all p ≡ goal_of a) × (goal all q ≡ goal_of b)
-  both_lead first second a b n p q own there la lb e =
-      let one : List Block = e.0 in
-      let other : List Block = e.1 in
-      let size : length own ≡ length one + length other = ap length e.2 ∙ length-append one other in
-      let front : (j : ℕ) (x : Block) → slice_get one j ≡ Some x → slice_get all (n + j) ≡ Some x = λ j x is. there j x (ap (λ z. slice_get z j) e.2 ∙ get_before one other j x is) in
-      let back : (j : ℕ) (x : Block) → slice_get other j ≡ Some x → slice_get all (n + length one + j) ≡ Some x = λ j x is. let z : n + length one + j ≡ n + (length one + j) = omega arith in ap (slice_get all) z ∙ there (length one + j) x (ap (λ z. slice_get z (length one + j)) e.2 ∙ (get_behind one other j ∙ is)) in
-      (edge_leads first a n p one front (omega (arith, la, size)) e.3, edge_leads second b (n + length one) q other back (omega (arith, lb, size)) e.4)
-
-  abbrev Later : ℕ → ℕ → Last → Type 0
-  Later n size (Goto b) = Unit {0}
-  Later n size (If x a b) = (n + size ≤ number a) × (n + size ≤ number b)
-  Later n size (IfError x a b line) = (n + size ≤ number a) × (n + size ≤ number b)
-  Later n size (Return x) = Unit {0}
-  Later n size Unreachable = Unit {0}
-
-  last_leads : (have : ℕ → ℕ) (l : Last) (n : ℕ) (last : Last) (own : List Block) → ((j : ℕ) (x : Block) → slice_get own j ≡ Some x → slice_get all (n + j) ≡ Some x) → Later n (length own) l → IsLast f t number have l n last own → led (goal all) last ≡ led goal_of l
-  last_leads have (Goto b) n last own there later e = ap (led (goal all)) e.0
-  last_leads have (If x a b) n last own there later e =
-      let h = both_lead have have a b n e.0 e.1 own there later.0 later.1 e.3 in
-      ap (led (goal all)) e.2 ∙ (ap (λ z. If x z (goal all e.1)) h.0 ∙ ap (If x (goal_of a)) h.1)
-  last_leads have (IfError x a b line) n last own there later e =
-      let h = both_lead (put x.0 (wanted f t number a x.0) have) have a b n e.0 e.1 own there later.0 later.1 e.3 in
-      ap (led (goal all)) e.2 ∙ (ap (λ z. IfError x z (goal all e.1) line) h.0 ∙ ap (λ z. IfError x (goal_of a) z line) h.1)
-  last_leads have (Return x) n last own there later e = ap (led (goal all)) e.0
-  last_leads have Unreachable n last own there later e = ap (led (goal all)) e.0
+    last_leads : (have : ℕ → ℕ) (k : ℕ) (ops : List (Op × ℕ)) (l last : Last) → LastFits total k ops l → IsLast f t number first at_start have l last → led (goal all) last ≡ led goal_of l
+    last_leads have k ops (Goto b) last fits e = ap (led (goal all)) e
+    last_leads have k ops (If x a b) last fits e =
+        ap (led (goal all)) e.2
+        ∙ (ap (λ z. If x z (goal all e.1)) (edge_leads have a e.0 fits.0.1 e.3) ∙ ap (If x (goal_of a)) (edge_leads have b e.1 fits.1.1 e.4))
+    last_leads have k ops (IfError x a b line) last fits e =
+        ap (led (goal all)) e.2
+        ∙ (ap (λ z. IfError x z (goal all e.1) line) (edge_leads (put x.0 (wanted f t number a x.0) have) a e.0 fits.0.1 e.3) ∙ ap (λ z. IfError x (goal_of a) z line) (edge_leads have b e.1 fits.1.1 e.4))
+    last_leads have k ops (Return x) last fits e = ap (led (goal all)) e
+    last_leads have k ops Unreachable last fits e = ap (led (goal all)) e
 
   -- a jump was one before
-  jump_was : (have : ℕ → ℕ) (l : Last) (n : ℕ) (last : Last) (own : List Block) (c : ℕ) → IsLast f t number have l n last own → last ≡ Goto c → (b : ℕ) × (l ≡ Goto b) × (c ≡ number b)
-  jump_was have (Goto b) n last own c e is =
-      let both : Goto c ≡ Goto (number b) = sym is ∙ e.0 in
+  jump_was : (have : ℕ → ℕ) (l last : Last) (c : ℕ) → IsLast f t number first at_start have l last → last ≡ Goto c → (b : ℕ) × (l ≡ Goto b) × (c ≡ number b)
+  jump_was have (Goto b) last c e is =
+      let both : Goto c ≡ Goto (number b) = sym is ∙ e in
       let same : c ≡ number b = cc in
       (b, refl, same)
-  jump_was have (If x a b) n last own c e is = let both : Goto c ≡ If x e.0 e.1 = sym is ∙ e.2 in absurd (cc)
-  jump_was have (IfError x a b line) n last own c e is = let both : Goto c ≡ IfError x e.0 e.1 line = sym is ∙ e.2 in absurd (cc)
-  jump_was have (Return x) n last own c e is = let both : Goto c ≡ Return x = sym is ∙ e.0 in absurd (cc)
-  jump_was have Unreachable n last own c e is = let both : Goto c ≡ Unreachable = sym is ∙ e.0 in absurd (cc)
+  jump_was have (If x a b) last c e is = let both : Goto c ≡ If x e.0 e.1 = sym is ∙ e.2 in absurd (cc)
+  jump_was have (IfError x a b line) last c e is = let both : Goto c ≡ IfError x e.0 e.1 line = sym is ∙ e.2 in absurd (cc)
+  jump_was have (Return x) last c e is = let both : Goto c ≡ Return x = sym is ∙ e in absurd (cc)
+  jump_was have Unreachable last c e is = let both : Goto c ≡ Unreachable = sym is ∙ e in absurd (cc)
 
   -- ---- blocks
   pub record Stands (k : ℕ) (b : Block) : Type 0 where
@@ -90,69 +118,39 @@ module _ (f : Func) (t : Tables f) (number : ℕ → ℕ) (all : List Block) whe
     pub leads : led (goal all) main.last ≡ led goal_of b.last
     pub jumps : (c : ℕ) → main.last ≡ Goto c → (a : ℕ) × (b.last ≡ Goto a) × (c ≡ number a)
 
-  -- numbers grow
-  low : (k m : ℕ) (bs blocks : List Block) → AreBlocks f t number k m bs blocks → (j : ℕ) → j < length bs → m ≤ number (k + j)
-  low k m [] blocks are j lt = absurd (omega (arith, lt))
-  low k m (x ∷ bs) blocks are zero lt = let z : k + 0 ≡ k = omega arith in omega (arith, ap number z, are.4)
-  low k m (x ∷ bs) blocks are (suc j) lt =
-      let z : suc k + j ≡ k + suc j = omega arith in
-      omega (arith, ap number z, low (suc k) (m + 1 + length are.1) bs are.2 are.7 j (omega (arith, lt)))
-
-  later_than : (k size : ℕ) (l : Last) (n w : ℕ) (ops : List (Op × ℕ)) → LastFits n k ops l → ((b : ℕ) → k < b → b < n → w + size ≤ number b) → Later w size l
-  later_than k size (Goto b) n w ops fits h = tt
-  later_than k size (If x a b) n w ops fits h = (h a fits.0.0 fits.0.1, h b fits.1.0 fits.1.1)
-  later_than k size (IfError x a b line) n w ops fits h = (h a fits.0.0 fits.0.1, h b fits.1.0 fits.1.1)
-  later_than k size (Return x) n w ops fits h = tt
-  later_than k size Unreachable n w ops fits h = tt
-
-  stands_from : (k m : ℕ) (bs blocks before : List Block) → all ≡ before ++ blocks → length before ≡ m → BlocksFit (k + length bs) k bs → AreBlocks f t number k m bs blocks → (j : ℕ) (b : Block) → slice_get bs j ≡ Some b → Stands (k + j) b
-  stands_from k m [] blocks before is size fits are j b e = let g : None ≡ Some b = e in absurd (cc)
-  stands_from k m (x ∷ bs) blocks before is size fits are zero b e =
+  stands_from : (total : ℕ) → ((b : ℕ) → b < total → Leads b) → (k m : ℕ) (bs blocks before : List Block) → all ≡ before ++ blocks → length before ≡ m → BlocksFit total k bs → AreBlocks f t number first at_start k m bs blocks → (j : ℕ) (b : Block) → slice_get bs j ≡ Some b → Stands (k + j) b
+  stands_from total leads k m [] blocks before is size fits are j b e = let g : None ≡ Some b = e in absurd (cc)
+  stands_from total leads k m (x ∷ bs) blocks before is size fits are zero b e =
       let g : Some x ≡ Some b = e in
       let same : x ≡ b = cc in
       let none : k ≡ k + 0 = omega arith in
-      let main : Block = are.0 in
-      let own : List Block = are.1 in
-      let rest : List Block = are.2 in
-      let whole : all ≡ before ++ (main ∷ (own ++ rest)) = is ∙ ap (λ z. before ++ z) are.3 in
-      let num : number k ≡ m = are.4 in
-      let first : number k ≡ length before + 0 = omega (arith, num, size) in
-      let owns : (i : ℕ) (y : Block) → slice_get own i ≡ Some y → slice_get all (m + 1 + i) ≡ Some y = λ i y own_e. let place : m + 1 + i ≡ length before + suc i = omega (arith, size) in ap (λ z. slice_get z (m + 1 + i)) whole ∙ (ap (slice_get (before ++ (main ∷ (own ++ rest)))) place ∙ (get_behind before (main ∷ (own ++ rest)) (suc i) ∙ get_before own rest i y own_e)) in
-      let above : (a : ℕ) → k < a → a < k + length (x ∷ bs) → m + 1 + length own ≤ number a = λ a lo hi. on_above a lo hi in
+      let main : Block = are.1 in
+      let whole : all ≡ before ++ (are.0 ++ (main ∷ are.2)) = is ∙ ap (λ z. before ++ z) are.3 in
+      let place : number k ≡ length before + (length are.0 + 0) = omega (arith, are.5, size) in
       let stands : Stands k x = record {
         main = main;
-        there = ap (λ z. slice_get z (number k)) whole ∙ (ap (slice_get (before ++ (main ∷ (own ++ rest)))) first ∙ get_behind before (main ∷ (own ++ rest)) 0);
-        left = left_of_body f t number k (owned f t k) x.ops x.last main.ops fits.0.ops are.5;
-        leads = last_leads (owned f t k (length x.ops)) x.last (m + 1) main.last own owns (later_than k (length own) x.last (k + length (x ∷ bs)) (m + 1) x.ops fits.0.last above) are.6;
-        jumps = λ c. jump_was (owned f t k (length x.ops)) x.last (m + 1) main.last own c are.6;
+        there = ap (λ z. slice_get z (number k)) whole ∙ (ap (slice_get (before ++ (are.0 ++ (main ∷ are.2)))) place ∙ (get_behind before (are.0 ++ (main ∷ are.2)) (length are.0 + 0) ∙ get_behind are.0 (main ∷ are.2) 0));
+        left = left_of_body f t number k (owned f t k) x.ops x.last main.ops fits.0.ops are.8;
+        leads = last_leads total leads (owned f t k (length x.ops)) k x.ops x.last main.last fits.0.last are.9;
+        jumps = λ c. jump_was (owned f t k (length x.ops)) x.last main.last c are.9;
       } in
       subst (λ z. Stands z b) none (subst (Stands k) same stands)
-    where
-      on_above : (a : ℕ) → k < a → a < k + length (x ∷ bs) → m + 1 + length are.1 ≤ number a
-      on_above a lo hi =
-          let j : ℕ = a - suc k in
-          let z : suc k + j ≡ a = omega (arith, lo) in
-          subst (λ y. m + 1 + length are.1 ≤ number y) z (low (suc k) (m + 1 + length are.1) bs are.2 are.7 j (omega (arith, lo, hi)))
-  stands_from k m (x ∷ bs) blocks before is size fits are (suc j) b e =
-      let main : Block = are.0 in
-      let own : List Block = are.1 in
-      let rest : List Block = are.2 in
-      let whole : all ≡ (before ++ (main ∷ own)) ++ rest = is ∙ (ap (λ z. before ++ z) are.3 ∙ sym (append_assoc before (main ∷ own) rest)) in
-      let longer : length (before ++ (main ∷ own)) ≡ m + 1 + length own = length-append before (main ∷ own) ∙ omega (arith, size) in
+  stands_from total leads k m (x ∷ bs) blocks before is size fits are (suc j) b e =
+      let whole : all ≡ (before ++ (are.0 ++ (are.1 ∷ []))) ++ are.2 = is ∙ (ap (λ z. before ++ z) are.3 ∙ past_main before are.0 are.2 are.1) in
+      let longer : length (before ++ (are.0 ++ (are.1 ∷ []))) ≡ m + length are.0 + 1 = past_size before are.0 are.1 ∙ omega (arith, size) in
       let next : suc k + j ≡ k + suc j = omega arith in
-      let many : k + length (x ∷ bs) ≡ suc k + length bs = omega arith in
-      subst (λ z. Stands z b) next (stands_from (suc k) (m + 1 + length own) bs rest (before ++ (main ∷ own)) whole longer (subst (λ z. BlocksFit z (suc k) bs) many fits.1) are.7 j b e)
+      subst (λ z. Stands z b) next (stands_from total leads (suc k) (m + length are.0 + 1) bs are.2 (before ++ (are.0 ++ (are.1 ∷ []))) whole longer fits.1 are.10 j b e)
 
 -- each block of a function stands so, and the first one first
-pub stands_at : (f g : Func) (c : IsCountedFunc f g) → FuncFits f → (k : ℕ) (b : Block) → slice_get f.blocks k ≡ Some b → Stands f c.tables c.number g.blocks k b
+pub stands_at : (f g : Func) (c : IsCountedFunc f g) → FuncFits f → (k : ℕ) (b : Block) → slice_get f.blocks k ≡ Some b → Stands f c.tables c.number c.first c.at_start g.blocks k b
 stands_at f g c fits k b e =
     let same : 0 + k ≡ k = omega arith in
-    let size : length f.blocks ≡ 0 + length f.blocks = omega arith in
-    subst (λ z. Stands f c.tables c.number g.blocks z b) same (stands_from f c.tables c.number g.blocks 0 0 f.blocks g.blocks [] refl refl (subst (λ z. BlocksFit z 0 f.blocks) size fits) c.blocks k b e)
-
-pub first_stands : (f g : Func) (c : IsCountedFunc f g) (b : Block) → slice_get f.blocks 0 ≡ Some b → 0 ≡ c.number 0
-first_stands f g c b e = by f.blocks g.blocks c.blocks e
+    subst (λ z. Stands f c.tables c.number c.first c.at_start g.blocks z b) same (stands_from f c.tables c.number c.first c.at_start g.blocks (length f.blocks) leads 0 0 f.blocks g.blocks [] refl refl fits c.blocks k b e)
   where
-    by : (bs blocks : List Block) → AreBlocks f c.tables c.number 0 0 bs blocks → slice_get bs 0 ≡ Some b → 0 ≡ c.number 0
-    by [] blocks are e = let g : None ≡ Some b = e in absurd (cc)
-    by (x ∷ bs) blocks are e = sym are.4
+    leads : (i : ℕ) → i < length f.blocks → Leads f c.tables c.number c.first c.at_start g.blocks i
+    leads i lt =
+        let here : 0 + i ≡ i = omega arith in
+        subst (Leads f c.tables c.number c.first c.at_start g.blocks) here (leads_from f c.tables c.number c.first c.at_start g.blocks 0 0 f.blocks g.blocks [] refl refl c.blocks i lt)
+
+pub first_stands : (f g : Func) (c : IsCountedFunc f g) → 0 ≡ c.number 0
+first_stands f g c = sym c.begins

@@ -241,10 +241,10 @@ module _ (p : Program) (gs : List Func) (shape : Shape p) (counted : AreCounted 
   -- ---- places
   module _ (fn : ℕ) (a : FuncAt fn) where
     abbrev to : ℕ → ℕ
-    to = goal_of a.func a.is.tables a.is.number a.new.blocks
+    to = goal_of a.func a.is.tables a.is.number a.is.first a.is.at_start a.new.blocks
 
     abbrev StandsAt : ℕ → Block → Type 0
-    StandsAt = Stands a.func a.is.tables a.is.number a.new.blocks
+    StandsAt = Stands a.func a.is.tables a.is.number a.is.first a.is.at_start a.new.blocks
 
     fits : FuncFits a.func
     fits = func_fits p.funcs shape.funcs fn a.func a.there
@@ -478,7 +478,7 @@ module _ (p : Program) (gs : List Func) (shape : Shape p) (counted : AreCounted 
                   block = 0;
                   waiting = record { frame = h; into = x } ∷ waiting;
                   is = ap (λ ds. Runs (record { fn = k; block = 0; place = 0; regs = first_regs ds xs }) (record { frame = h; into = x } ∷ waiting) w) b.is.regs;
-                  known = record { at = b; known = λ z there. first_stands b.func b.new b.is z there };
+                  known = record { at = b; known = λ z there. first_stands b.func b.new b.is };
                   wait = ((n, refl, known), wait);
                 },
               ))),

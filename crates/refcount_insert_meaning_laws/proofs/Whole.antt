@@ -70,7 +70,7 @@ module _ (p : Program) (gs : List Func) (shape : Shape p) (counted : AreCounted 
             block = 0;
             waiting = [];
             is = ap (λ ds. Runs (record { fn = top; block = 0; place = 0; regs = first_regs ds [] }) [] (first_world p turns items)) a.is.regs;
-            known = record { at = a; known = λ z there. first_stands a.func a.new a.is z there };
+            known = record { at = a; known = λ z there. first_stands a.func a.new a.is };
             wait = tt;
           }))
 

@@ -86,7 +86,7 @@ module _ (q : Program) (code : Code) (g : CFunc) (start : ℕ → Option Shares)
       pub is_main : slice_get blocks place ≡ Some main
       pub is_number : number b ≡ n + place
       pub front : List (Op × ℕ)
-      pub is_front : IsFront front k.ops
+      pub is_front : IsFront b k.last front k.ops
       pub groups : List (Op × ℕ)
       pub others : List (Op × ℕ)
       pub split : main.ops ≡ groups ++ others

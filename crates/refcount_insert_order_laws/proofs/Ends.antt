@@ -1,6 +1,7 @@
--- The end of a block with its counts is in order, and so are the blocks of its edges.
+-- The end of a block with its counts is in order, and so are the detours to a block.
 use Rattle.std.proofs.Common.{◌≡◌, refl, sym, ap, ◌∙◌, subst, ℕ, zero, suc, ◌+◌, ◌-◌, ◌≤◌, ◌<◌, inl, inr, ⊎_elim, Bool, true, false, cond, List, None, [], ◌∷◌, ◌++◌, map, length, arith, append_assoc, Option, Some, eqb-true}
-use Rattle.std.specs.Prelude.{slice_get, nat_eq}
+use Rattle.std.specs.Prelude.{slice_get, nat_eq, nat_lt, ◌||◌}
+use Rattle.std.proofs.lemmas.Bool.{lt-ltb, ltb-true, or_cases}
 use Rattle.c_core.specs.declared.code.Line.{Line}
 use Rattle.c_core.specs.declared.code.Line.TheVariants as line
 use Rattle.c_core.specs.declared.code.CFunc.{CFunc}
@@ -22,12 +23,13 @@ use Rattle.ir_core.proofs.ItemLemmas.{end_item}
 use Rattle.c_core_ownership_laws.specs.Shares.{put, Shares, with_share, has_cells, may_have_cells, may_refer, one_if, IsUsable, Jumps, Checks}
 use Rattle.c_core_ownership_laws.proofs.Weaken.{within_self}
 use Rattle.liveness.specs.Paths.{targets, MetAt}
+use Rattle.liveness.proofs.OwnedLemmas.{below_or_not}
 use Rattle.refcount_insert_rule.specs.Rule.{IsEdge, IsReturned}
-use Rattle.refcount_insert_rule.specs.Counted.{counts_register, Tables, owned, AreLast, IsEdgeTo, IsLast}
-use Rattle.refcount_insert_order_laws.proofs.Numbers.{put_is, put_off, same_is, or_left, is_short, same_found}
+use Rattle.refcount_insert_rule.specs.Counted.{counts_register, Tables, owned, AreLast, IsDetour, IsEdgeTo, IsLast}
+use Rattle.refcount_insert_order_laws.proofs.Numbers.{put_is, put_off, same_is, or_left, or_right, is_short, same_found}
 use Rattle.refcount_insert_order_laws.proofs.Counts.{lines_append, ups_check, edge_check}
 use Rattle.refcount_insert_order_laws.proofs.Variables.{agrees, has_kind_is}
-use Rattle.refcount_insert_order_laws.proofs.Equations.{at, lent_at, end_usable, edge_usable, edge_lent, dead_returned, few_owned, off_owned}
+use Rattle.refcount_insert_order_laws.proofs.Equations.{one_tells, at, lent_at, end_usable, edge_usable, edge_lent, dead_returned, counted_same, few_owned, off_owned}
 use Rattle.refcount_insert_order_laws.proofs.MetBlocks.{in_met, Marks}
 use Rattle.refcount_insert_order_laws.proofs.Bodies.{text_of}
 
@@ -57,14 +59,6 @@ item_first (o ∷ os) last = (Do o.0 o.1, refl)
 abbrev pub failed_at : (f : Func) → Tables f → ℕ → ℕ → Reg → ℕ → Shares
 failed_at f t b n x a = with_share x.0 (owned f t a 0 x.0) true (at f t b n)
 
--- the shares with which the blocks of edges start
-abbrev pub starts_of : (f : Func) (t : Tables f) (number : ℕ → ℕ) (b n : ℕ) (l : Last) (first : ℕ) (last : Last) (own : List Block) → IsLast f t number (owned f t b n) l first last own → List Shares
-starts_of f t number b n (If x a c) first last own h =
-    map (λ z. at f t b n) h.3.0 ++ map (λ z. at f t b n) h.3.1
-starts_of f t number b n (IfError x a c source) first last own h =
-    map (λ z. failed_at f t b n x a) h.3.0 ++ map (λ z. at f t b n) h.3.1
-starts_of f t number b n _ first last own h = []
-
 -- no shares
 abbrev pub Never : Shares → Type 0
 Never ρ = ⊥
@@ -75,7 +69,22 @@ returned_number true true h u eu dead few off = omega (arith, eu, few)
 returned_number true false h u eu dead few off = omega (arith, eu, dead refl)
 returned_number false e h u eu dead few off = omega (arith, eu, off refl)
 
-module _ (p q : Program) (f : Func) (t : Tables f) (number : ℕ → ℕ) (code : Code) (name : List ℕ) (lines : List Line) (start : ℕ → Option Shares) (m : Marks f) (known : (b : ℕ) (k : Block) → slice_get f.blocks b ≡ Some k → m.marked b ≡ true → 0 < b → (1 ≤ number b) × (start (number b) ≡ Some (at f t b 0))) where
+-- the shares with which a detour to block b starts: what is lent is lent at that block, or short there
+abbrev pub way : (f : Func) → Tables f → (ℕ → ℕ → ℕ) → ℕ → ℕ → Shares
+way f t at_start b n = record {
+  owns = at_start n;
+  lent = λ r. lent_at f t b 0 r || nat_lt (at_start n r) (owned f t b 0 r);
+  held = λ r. false;
+  empty = λ r. false;
+}
+
+-- the shares with which blocks that are met start, and the detours to them
+pub record AreStarts (f : Func) (t : Tables f) (number first : ℕ → ℕ) (at_start : ℕ → ℕ → ℕ) (start : ℕ → Option Shares) (m : Marks f) : Type 0 where
+  pub block : (b : ℕ) (k : Block) → slice_get f.blocks b ≡ Some k → m.marked b ≡ true → 0 < b → (1 ≤ number b) × (start (number b) ≡ Some (at f t b 0))
+  pub detour : (b : ℕ) (k : Block) → slice_get f.blocks b ≡ Some k → m.marked b ≡ true → 0 < b → (n : ℕ) → first b ≤ n → n < number b → (1 ≤ n) × (start n ≡ Some (way f t at_start b n))
+  pub wants : (b : ℕ) (k : Block) → slice_get f.blocks b ≡ Some k → (r : ℕ) → at_start (number b) r ≡ owned f t b 0 r
+
+module _ (p q : Program) (f : Func) (t : Tables f) (number first : ℕ → ℕ) (at_start : ℕ → ℕ → ℕ) (code : Code) (name : List ℕ) (lines : List Line) (start : ℕ → Option Shares) (m : Marks f) (known : AreStarts f t number first at_start start m) where
   abbrev g : CFunc
   g = text_of f name lines
 
@@ -84,6 +93,43 @@ module _ (p q : Program) (f : Func) (t : Tables f) (number : ℕ → ℕ) (code 
 
   abbrev counted : ℕ → Bool
   counted = counts_register f.regs
+
+  -- ---- a jump to a block that is met, or to a detour to it
+  module _ (b : ℕ) (k : Block) (is : slice_get f.blocks b ≡ Some k) (marked : m.marked b ≡ true) (higher : 0 < b) where
+    onto : (σ : Shares) (into : ℕ) → first b ≤ into → into ≤ number b → ((r : ℕ) → σ.owns r ≡ at_start into r) → ((r : ℕ) → lent_at f t b 0 r ≡ true → σ.lent r ≡ true) → ((r : ℕ) → at_start into r < owned f t b 0 r → σ.lent r ≡ true) → Jumps code g (Starts start) σ (label_of into)
+    onto σ into low high owns lent short = ⊎_elim detour block (below_or_not into (number b))
+      where
+        detour : into < number b → Jumps code g (Starts start) σ (label_of into)
+        detour lt =
+            let there = known.detour b k is marked higher into low lt in
+            (way f t at_start b into, enter start into (way f t at_start b into) there.0 there.1, λ r. inr (owns r, (λ h. ⊎_elim (λ l. lent r l) (λ l. short r (ltb-true (at_start into r) (owned f t b 0 r) l)) (or_cases (lent_at f t b 0 r) (nat_lt (at_start into r) (owned f t b 0 r)) h)), (λ h. absurd (cc)), refl))
+
+        block : number b ≤ into → Jumps code g (Starts start) σ (label_of into)
+        block le =
+            let there = known.block b k is marked higher in
+            let same : into ≡ number b = omega (arith, le, high) in
+            subst (λ z. Jumps code g (Starts start) σ (label_of z)) (sym same) (at f t b 0, enter start (number b) (at f t b 0) there.0 there.1, λ r. inr (owns r ∙ (ap (λ z. at_start z r) same ∙ known.wants b k is r), (λ h. lent r h), (λ h. absurd (cc)), refl))
+
+    -- the counts of a detour, and its jump
+    pub detour_check : (n : ℕ) (x : Block) → first b ≤ n → IsDetour f t number first at_start b n x → (j : ℕ) → Good (way f t at_start b n) (op_lines q x.ops ++ end_lines label_of j x.last)
+    detour_check n x low d j =
+        subst (λ z. Good (way f t at_start b n) (op_lines q x.ops ++ end_lines label_of j z)) (sym d.goes)
+        (edge_check q code g (Starts start) Never (way f t at_start b n) (at_start d.next) x.ops (line.Goto (label_of d.next) ∷ []) d.counts usable (λ r. refl) (onto (record { owns = at_start d.next; lent = (way f t at_start b n).lent; held = λ r. false; empty = λ r. false }) d.next (omega (arith, low, d.ahead)) d.within (λ r. refl) lent short))
+      where
+        lent : (r : ℕ) → lent_at f t b 0 r ≡ true → (way f t at_start b n).lent r ≡ true
+        lent r h = or_left (lent_at f t b 0 r) (nat_lt (at_start n r) (owned f t b 0 r)) h
+
+        below : (r : ℕ) → at_start n r < owned f t b 0 r → (way f t at_start b n).lent r ≡ true
+        below r lt = or_right (lent_at f t b 0 r) (nat_lt (at_start n r) (owned f t b 0 r)) (lt-ltb (at_start n r) (owned f t b 0 r) lt)
+
+        short : (r : ℕ) → at_start d.next r < owned f t b 0 r → (way f t at_start b n).lent r ≡ true
+        short r lt = ⊎_elim (λ e. below r (omega (arith, e, lt))) (λ e. absurd (omega (arith, e, lt))) (d.each r)
+
+        usable : (r : ℕ) → 1 ≤ at_start d.next r → IsUsable g.vars (way f t at_start b n) r
+        usable r le = ⊎_elim
+            (λ e. inl (omega (arith, e, le)))
+            (λ e. ⊎_elim (λ lt. inr (inl (below r (omega (arith, lt, e, le))))) (λ some. inl some) (below_or_not (at_start n r) 1))
+            (d.each r)
 
   -- ---- a block that is met
   module _ (b : ℕ) (k : Block) (is : slice_get f.blocks b ≡ Some k) (marked : m.marked b ≡ true) where
@@ -106,7 +152,7 @@ module _ (p q : Program) (f : Func) (t : Tables f) (number : ℕ → ℕ) (code 
 
       entered : (1 ≤ number to) × (start (number to) ≡ Some (at f t to 0))
       entered =
-          known to block.0 block.1 (m.closed b k is marked i to goes lower) higher
+          known.block to block.0 block.1 (m.closed b k is marked i to goes lower) higher
 
       -- shares that lend as much as those of the end
       jump_to : (σ : Shares) → ((r : ℕ) → σ.owns r ≡ owned f t to 0 r) → ((r : ℕ) → lent_at f t b (length k.ops) r ≡ true → σ.lent r ≡ true) → Jumps code g (Starts start) σ (label_of (number to))
@@ -119,20 +165,20 @@ module _ (p q : Program) (f : Func) (t : Tables f) (number : ℕ → ℕ) (code 
           edge_check q code g (Starts start) Never σ (owned f t to 0) counts ls edge (λ r le. u r (edge_usable f t b (length k.ops) k.last item met i to goes first_item.0 first_item.1 r le)) off (rest (record { owns = owned f t to 0; lent = σ.lent; held = λ r. false; empty = σ.empty }) (jump_to (record { owns = owned f t to 0; lent = σ.lent; held = λ r. false; empty = σ.empty }) (λ r. refl) l))
 
       -- the edge of a test
-      edge_jump : (σ : Shares) (at_block into : ℕ) (own : List Block) → IsEdgeTo f t number σ.owns to at_block into own → 1 ≤ at_block → ((x : Block) (xs : List Block) → own ≡ x ∷ xs → start at_block ≡ Some σ) → ((r : ℕ) → lent_at f t b (length k.ops) r ≡ true → σ.lent r ≡ true) → Jumps code g (Starts start) σ (label_of into)
-      edge_jump σ at_block into own (inl h) le begins l =
-          subst (λ z. Jumps code g (Starts start) σ (label_of z)) (sym h.0) (jump_to σ h.2 l)
-      edge_jump σ at_block into own (inr h) le begins l =
-          subst (λ z. Jumps code g (Starts start) σ (label_of z)) (sym h.0) (σ, enter start at_block σ le (begins (record { ops = h.1; last = Goto (number to); handler = None }) [] h.2), within_self σ)
-
-      -- the block of the edge
-      pub own_check : (σ : Shares) (at_block into : ℕ) (x : Block) (xs : List Block) → IsEdgeTo f t number σ.owns to at_block into (x ∷ xs) → ((r : ℕ) → IsUsable g.vars (at f t b (length k.ops)) r → IsUsable g.vars σ r) → ((r : ℕ) → lent_at f t b (length k.ops) r ≡ true → σ.lent r ≡ true) → ((r : ℕ) → σ.held r ≡ false) → (j : ℕ) → (xs ≡ []) × Good σ (op_lines q x.ops ++ end_lines label_of j x.last)
-      own_check σ at_block into x xs (inl h) u l off j = let e : x ∷ xs ≡ [] = h.1 in absurd (cc)
-      own_check σ at_block into x xs (inr h) u l off j =
-          let e : x ∷ xs ≡ record { ops = h.1; last = Goto (number to); handler = None } ∷ [] = h.2 in
-          let one : record { ops = h.1; last = Goto (number to); handler = None } ≡ x = cc in
-          let none : xs ≡ [] = cc in
-          (none, subst (λ (z : Block). Good σ (op_lines q z.ops ++ end_lines label_of j z.last)) one (counted_goto σ h.1 (line.Goto (label_of (number to)) ∷ []) h.3 u l off (λ ρ a. a)))
+      edge_jump : (σ : Shares) (into : ℕ) → IsEdgeTo f t number first at_start σ.owns to into → ((r : ℕ) → IsUsable g.vars (at f t b (length k.ops)) r → IsUsable g.vars σ r) → ((r : ℕ) → lent_at f t b (length k.ops) r ≡ true → σ.lent r ≡ true) → ((r : ℕ) → σ.empty r ≡ false) → Jumps code g (Starts start) σ (label_of into)
+      edge_jump σ into h u l full =
+          onto to block.0 block.1 (m.closed b k is marked i to goes lower) higher σ into h.0 h.1 h.2
+          (λ r lent. l r (edge_lent f t b (length k.ops) k.last item met i to goes first_item.0 first_item.1 r lent))
+          (λ r lt. ⊎_elim
+          (λ own. absurd (omega (arith, own, lt, h.2 r, few_owned f t to 0 r)))
+          (λ o. ⊎_elim
+          (λ lent. lent)
+          (λ none. ⊎_elim
+          (λ off. let yes : counts_register f.regs r ≡ true = (one_tells (counts_register f.regs r) (t.live to 0 r) (t.lent to 0 r) (omega (arith, lt))).0 in let both : true ≡ false = sym (counted_same f.regs r yes ∙ yes) ∙ off in absurd (cc))
+          (λ e. let both : true ≡ false = sym e ∙ full r in absurd (cc))
+          none)
+          o)
+          (u r (edge_usable f t b (length k.ops) k.last item met i to goes first_item.0 first_item.1 r (omega (arith, lt)))))
 
     -- the shares at the end, and those of a test's error edge
     abbrev pub here : Shares
@@ -141,17 +187,14 @@ module _ (p q : Program) (f : Func) (t : Tables f) (number : ℕ → ℕ) (code 
     abbrev failed : Reg → ℕ → Shares
     failed x a = failed_at f t b (length k.ops) x a
 
-    pub failed_lent : (x : Reg) (a r : ℕ) → here.lent r ≡ true → (failed x a).lent r ≡ true
+    failed_lent : (x : Reg) (a r : ℕ) → here.lent r ≡ true → (failed x a).lent r ≡ true
     failed_lent x a r e = put_is x.0 true here.lent r ∙ by (nat_eq x.0 r)
       where
         by : (c : Bool) → cond c true (here.lent r) ≡ true
         by true = refl
         by false = e
 
-    pub failed_off : (x : Reg) (a r : ℕ) → (failed x a).held r ≡ false
-    failed_off x a r = put_off x.0 (λ r. false) (λ r. refl) r
-
-    pub failed_usable : (x : Reg) (a r : ℕ) → IsUsable g.vars here r → IsUsable g.vars (failed x a) r
+    failed_usable : (x : Reg) (a r : ℕ) → IsUsable g.vars here r → IsUsable g.vars (failed x a) r
     failed_usable x a r u = by (nat_eq x.0 r) refl
       where
         own_is : put x.0 (owned f t a 0 x.0) here.owns r ≡ cond (nat_eq x.0 r) (owned f t a 0 x.0) (here.owns r)
@@ -164,22 +207,8 @@ module _ (p q : Program) (f : Func) (t : Tables f) (number : ℕ → ℕ) (code 
             (λ l. inr (⊎_elim (λ lent. inl (failed_lent x a r lent)) (λ off. inr (⊎_elim (λ f. inl f) (λ t. absurd (cc)) off)) l))
             u
 
-    -- the blocks of the edges of a test, where shares stand at their starts
-    abbrev pub Begins : ℕ → List Shares → Type 0
-    Begins first ss = (i : ℕ) (σ : Shares) → slice_get ss i ≡ Some σ → start (first + i) ≡ Some σ
-
-    first_begins : (first : ℕ) (one other : List Block) (σ τ : Shares) → Begins first (map (λ z. σ) one ++ map (λ z. τ) other) → (x : Block) (xs : List Block) → one ≡ x ∷ xs → start first ≡ Some σ
-    first_begins first one other σ τ begins x xs e =
-        let z : first ≡ first + 0 = omega arith in
-        ap start z ∙ begins 0 σ (ap (λ ys. slice_get (map (λ z. σ) ys ++ map (λ z. τ) other) 0) e)
-
-    second_begins : (first : ℕ) (one other : List Block) (σ τ : Shares) → Begins first (map (λ z. σ) one ++ map (λ z. τ) other) → (x : Block) (xs : List Block) → other ≡ x ∷ xs → start (first + length one) ≡ Some τ
-    second_begins first one other σ τ begins x xs e =
-        begins (length one) τ (at_second one ∙ ap (λ ys. slice_get (map (λ z. τ) ys) 0) e)
-      where
-        at_second : (one : List Block) → slice_get (map (λ z. σ) one ++ map (λ z. τ) other) (length one) ≡ slice_get (map (λ z. τ) other) 0
-        at_second [] = refl
-        at_second (y ∷ one) = at_second one
+    failed_full : (x : Reg) (a r : ℕ) → (failed x a).empty r ≡ false
+    failed_full x a r = put_off x.0 (λ r. false) (λ r. refl) r
 
     returned : (x : Reg) (ops : List (Op × ℕ)) → k.last ≡ Return x → IsReturned counted x here.owns ops → IsLastFit f (Return x) → Good here (op_lines q ops ++ line.Return x.0 ∷ [])
     returned x ops e h fit =
@@ -226,25 +255,25 @@ module _ (p q : Program) (f : Func) (t : Tables f) (number : ℕ → ℕ) (code 
                 zero_both false true = refl
                 zero_both false false = refl
 
-    pub end_check : (l : Last) → k.last ≡ l → (behind : List (Op × ℕ)) → AreLast f t number here.owns l behind → (first : ℕ) (last : Last) (own : List Block) (h : IsLast f t number here.owns l first last own) → LastFits (length f.blocks) b k.ops l → IsLastFit f l → 1 ≤ first → Begins first (starts_of f t number b (length k.ops) l first last own h) → (j : ℕ) → j ≡ number b → Good here (op_lines q behind ++ end_lines label_of j last)
-    end_check (Goto to) e behind counts first last own h fits of_text le begins j is_number =
-        subst (λ z. Good here (op_lines q behind ++ end_lines label_of j z)) (sym h.0) (counted_goto 0 to (ap (λ z. slice_get (targets z) 0) e) fits.0 fits.1 here behind (line.Goto (label_of (number to)) ∷ []) counts (λ r u. u) (λ r lent. lent) (λ r. refl) (λ ρ a. a))
-    end_check (If x a c) e behind counts first last own h fits of_text le begins j is_number =
+    pub end_check : (l : Last) → k.last ≡ l → (behind : List (Op × ℕ)) → AreLast f t number here.owns l behind → (last : Last) → IsLast f t number first at_start here.owns l last → LastFits (length f.blocks) b k.ops l → IsLastFit f l → (j : ℕ) → j ≡ number b → Good here (op_lines q behind ++ end_lines label_of j last)
+    end_check (Goto to) e behind counts last h fits of_text j is_number =
+        subst (λ z. Good here (op_lines q behind ++ end_lines label_of j z)) (sym h) (counted_goto 0 to (ap (λ z. slice_get (targets z) 0) e) fits.0 fits.1 here behind (line.Goto (label_of (number to)) ∷ []) counts (λ r u. u) (λ r lent. lent) (λ r. refl) (λ ρ a. a))
+    end_check (If x a c) e behind counts last h fits of_text j is_number =
         subst (λ z. Good here (op_lines q behind ++ end_lines label_of j z)) (sym h.2) (subst (λ z. Good here (op_lines q z ++ (line.If x.0 (label_of h.0) (label_of h.1) ∷ []))) (sym counts) (
-          edge_jump 0 a (ap (λ z. slice_get (targets z) 0) e) (omega (arith, fits.0.0)) fits.0.1 here first h.0 h.3.0 h.3.3 le (first_begins first h.3.0 h.3.1 here here begins) (λ r lent. lent),
-          edge_jump 1 c (ap (λ z. slice_get (targets z) 1) e) (omega (arith, fits.1.0)) fits.1.1 here (first + length h.3.0) h.1 h.3.1 h.3.4 (omega (arith, le)) (second_begins first h.3.0 h.3.1 here here begins) (λ r lent. lent),
+          edge_jump 0 a (ap (λ z. slice_get (targets z) 0) e) (omega (arith, fits.0.0)) fits.0.1 here h.0 h.3 (λ r u. u) (λ r lent. lent) (λ r. refl),
+          edge_jump 1 c (ap (λ z. slice_get (targets z) 1) e) (omega (arith, fits.1.0)) fits.1.1 here h.1 h.4 (λ r u. u) (λ r lent. lent) (λ r. refl),
         ))
-    end_check (IfError x a c source) e behind counts first last own h fits of_text le begins j is_number =
+    end_check (IfError x a c source) e behind counts last h fits of_text j is_number =
         subst (λ z. Good here (op_lines q behind ++ end_lines label_of j z)) (sym h.2) (subst (λ z. Good here (op_lines q z ++ (line.IfError x.0 (label_of h.0) (label_of h.1) ∷ []))) (sym counts) (
-          (record { owns = owned f t a 0 x.0; lent = true; held = false; empty = false }, edge_jump 0 a (ap (λ z. slice_get (targets z) 0) e) (omega (arith, fits.0.0)) fits.0.1 (failed x a) first h.0 h.3.0 h.3.3 le (first_begins first h.3.0 h.3.1 (failed x a) here begins) (failed_lent x a)),
-          edge_jump 1 c (ap (λ z. slice_get (targets z) 1) e) (omega (arith, fits.1.0)) fits.1.1 here (first + length h.3.0) h.1 h.3.1 h.3.4 (omega (arith, le)) (second_begins first h.3.0 h.3.1 (failed x a) here begins) (λ r lent. lent),
+          (record { owns = owned f t a 0 x.0; lent = true; held = false; empty = false }, edge_jump 0 a (ap (λ z. slice_get (targets z) 0) e) (omega (arith, fits.0.0)) fits.0.1 (failed x a) h.0 h.3 (failed_usable x a) (failed_lent x a) (failed_full x a)),
+          edge_jump 1 c (ap (λ z. slice_get (targets z) 1) e) (omega (arith, fits.1.0)) fits.1.1 here h.1 h.4 (λ r u. u) (λ r lent. lent) (λ r. refl),
         ))
-    end_check (Return x) e behind counts first last own h fits of_text le begins j is_number =
-        subst (λ z. Good here (op_lines q behind ++ end_lines label_of j z)) (sym h.0) (returned x behind e counts of_text)
-    end_check Unreachable e behind counts first last own h fits of_text le begins j is_number =
-        let there = known b k is marked fits.0 in
+    end_check (Return x) e behind counts last h fits of_text j is_number =
+        subst (λ z. Good here (op_lines q behind ++ end_lines label_of j z)) (sym h) (returned x behind e counts of_text)
+    end_check Unreachable e behind counts last h fits of_text j is_number =
+        let there = known.block b k is marked fits.0 in
         let none : here ≡ at f t b 0 = ap (λ z. at f t b (length z)) fits.1 in
-        subst (λ z. Good here (op_lines q behind ++ end_lines label_of j z)) (sym h.0) (subst (λ z. Good here (op_lines q z ++ (line.Turn ∷ line.Goto (label_of j) ∷ []))) (sym counts)
+        subst (λ z. Good here (op_lines q behind ++ end_lines label_of j z)) (sym h) (subst (λ z. Good here (op_lines q z ++ (line.Turn ∷ line.Goto (label_of j) ∷ []))) (sym counts)
         (here, enter start j here (omega (arith, there.0, is_number)) (ap start is_number ∙ (there.1 ∙ ap Some (sym none))), within_self here))
 
     -- a jump directly behind a turn

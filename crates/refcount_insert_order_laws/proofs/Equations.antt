@@ -18,11 +18,12 @@ use Rattle.ir_core.specs.Bare.{IsBare}
 use Rattle.ir_core.specs.Items.{Item, Do, End, in_block, item_of, item_in}
 use Rattle.ir_core.specs.Rows.{Declared}
 use Rattle.ir_core.specs.Lower.{variable_of}
+use Rattle.ir_core.specs.Shape.{op_fits}
 use Rattle.ir_core.proofs.ItemLemmas.{next_item}
 use Rattle.c_core_ownership_laws.specs.Shares.{one_if, Shares, may_refer, IsUsable}
 use Rattle.liveness.specs.Paths.{is_among, reads_of, reads_of_last, write_of, is_target, is_lent, targets, Goes, passes, fails, jumps, LiveAt, reads_here, goes_on, MetAt, entry, onward, OwnedAt, no_parameter, written, kept, BorrowedAt}
 use Rattle.liveness.specs.Paths as path
-use Rattle.liveness.proofs.OwnedLemmas.{no_lent}
+use Rattle.liveness.proofs.OwningLemmas.{fits_owning}
 use Rattle.refcount_insert_rule.specs.Rule.{is_counted}
 use Rattle.refcount_insert_rule.specs.Counted.{counts_register, Tables, owned}
 use Rattle.refcount_insert_order_laws.proofs.Numbers.{either}
@@ -220,15 +221,15 @@ module _ (f : Func) where
           (λ e. (t.is_lent b p r (Do o line) is lt).1 (λ own. (t.is_lent b (suc p) r behind.0 behind.1 lt).0 e (kept b p b (suc p) (Do o line) own is off (passes b p o is))))
           (λ e. (t.is_lent b (suc p) r behind.0 behind.1 lt).1 (λ own. (t.is_lent b p r (Do o line) is lt).0 e (owned_from r b p b (suc p) o is off own refl refl)))
 
-      lent_off : (r : ℕ) → r < length f.regs → is_target (write_of o) r ≡ true → t.lent b (suc p) r ≡ false
-      lent_off r lt hit = by (t.lent b (suc p) r) refl
+      lent_off : op_fits o ≡ true → (r : ℕ) → r < length f.regs → is_target (write_of o) r ≡ true → t.lent b (suc p) r ≡ false
+      lent_off fits r lt hit = by (t.lent b (suc p) r) refl
         where
           by : (l : Bool) → t.lent b (suc p) r ≡ l → l ≡ false
-          by true e = absurd ((t.is_lent b (suc p) r behind.0 behind.1 lt).0 e (written b p b (suc p) (Do o line) met is hit (no_lent (Do o line)) (passes b p o is)))
+          by true e = absurd ((t.is_lent b (suc p) r behind.0 behind.1 lt).0 e (written b p b (suc p) (Do o line) met is hit (fits_owning o fits) (passes b p o is)))
           by false e = refl
 
-      pub suits : ((r : ℕ) → is_among (reads_of o) r ≡ true → is_declared (map variable_of f.regs) r ≡ true) → ((r : ℕ) → is_declared (map variable_of f.regs) r ≡ true → may_refer (map variable_of f.regs) r ≡ counted r) → Suits (map variable_of f.regs) counted o (at b p) (at b (suc p))
-      suits there agree =
+      pub suits : op_fits o ≡ true → ((r : ℕ) → is_among (reads_of o) r ≡ true → is_declared (map variable_of f.regs) r ≡ true) → ((r : ℕ) → is_declared (map variable_of f.regs) r ≡ true → may_refer (map variable_of f.regs) r ≡ counted r) → Suits (map variable_of f.regs) counted o (at b p) (at b (suc p))
+      suits fits there agree =
           record {
             few = few_owned b p;
             few_after = few_owned b (suc p);
@@ -257,7 +258,7 @@ module _ (f : Func) where
               (either (counted r))
 
           lent_next : (r : ℕ) (w : Bool) → is_target (write_of o) r ≡ w → (lt : Bool) → nat_lt r (length f.regs) ≡ lt → (nat_lt r (length f.regs) && t.lent b (suc p) r) ≡ cond w false (nat_lt r (length f.regs) && t.lent b p r)
-          lent_next r true hit true lt = ap (λ z. z && t.lent b (suc p) r) lt ∙ lent_off r (ltb-true r (length f.regs) lt) hit
+          lent_next r true hit true lt = ap (λ z. z && t.lent b (suc p) r) lt ∙ lent_off fits r (ltb-true r (length f.regs) lt) hit
           lent_next r true hit false lt = ap (λ z. z && t.lent b (suc p) r) lt
           lent_next r false off true lt = ap (λ z. z && t.lent b (suc p) r) lt ∙ (lent_on r (ltb-true r (length f.regs) lt) off ∙ ap (λ z. z && t.lent b p r) (sym lt))
           lent_next r false off false lt = ap (λ z. z && t.lent b (suc p) r) lt ∙ ap (λ z. z && t.lent b p r) (sym lt)

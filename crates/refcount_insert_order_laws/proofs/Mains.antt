@@ -1,7 +1,7 @@
 -- The new block of an old one that is met has shares at each of its places.
 use Rattle.std.proofs.Common.{◌≡◌, refl, sym, ap, ◌∙◌, subst, ℕ, zero, suc, ◌≤◌, ◌<◌, inl, inr, ⊎_elim, Bool, true, false, cond, List, [], ◌∷◌, ◌++◌, length, drop, arith, append_assoc, length-append, Option, Some, None}
 use Rattle.std.specs.Prelude.{slice_get, nat_lt}
-use Rattle.std.proofs.lemmas.Bool.{lt-ltb}
+use Rattle.std.proofs.lemmas.Bool.{ltb-false, lt-ltb}
 use Rattle.c_core.specs.declared.code.Line.{Line}
 use Rattle.c_core.specs.declared.code.CFunc.{CFunc}
 use Rattle.c_core.specs.declared.code.Code.{Code}
@@ -25,7 +25,7 @@ use Rattle.refcount_insert_order_laws.proofs.Equations.{at, suits, turn_same}
 use Rattle.refcount_insert_order_laws.proofs.MetBlocks.{in_met, Marks}
 use Rattle.refcount_insert_order_laws.proofs.Trails.{head, head_append, Leads, leads_append, leads_size, Trail, trail}
 use Rattle.refcount_insert_order_laws.proofs.Bodies.{text_of, AreAlike, OpsSuit, Groups, groups_trail, lines_size}
-use Rattle.refcount_insert_order_laws.proofs.Ends.{Starts, IsLastFit, Never, starts_of, Begins, end_check, turned_check}
+use Rattle.refcount_insert_order_laws.proofs.Ends.{Starts, IsLastFit, Never, AreStarts, end_check, turned_check}
 
 -- what is known of a block
 pub record BlockFacts (p : Program) (old : Code) (f : Func) (name : List ℕ) (lines : List Line) (b : ℕ) (k : Block) : Type 0 where
@@ -88,7 +88,7 @@ operations_within f t number at [] ops h (suc i) = omega arith
 operations_within f t number at (o ∷ os) ops h (suc i) =
     omega (arith, operations_within f t number (λ p. at (suc p)) os h.1 h.4 i, ap length h.2, length-append h.0 h.1)
 
-module _ (p q : Program) (f : Func) (t : Tables f) (number : ℕ → ℕ) (code old : Code) (name : List ℕ) (lines : List Line) (same : AreAlike p q code old) (start : ℕ → Option Shares) (m : Marks f) (known : (b : ℕ) (k : Block) → slice_get f.blocks b ≡ Some k → m.marked b ≡ true → 0 < b → (1 ≤ number b) × (start (number b) ≡ Some (at f t b 0))) where
+module _ (p q : Program) (f : Func) (t : Tables f) (number first : ℕ → ℕ) (at_start : ℕ → ℕ → ℕ) (code old : Code) (name : List ℕ) (lines : List Line) (same : AreAlike p q code old) (start : ℕ → Option Shares) (m : Marks f) (known : AreStarts f t number first at_start start m) where
   abbrev g : CFunc
   g = text_of f name lines
 
@@ -96,7 +96,7 @@ module _ (p q : Program) (f : Func) (t : Tables f) (number : ℕ → ℕ) (code 
   pub record Main (b : ℕ) (k : Block) (main : Block) (j : ℕ) (next : Option Shares) : Type 0 where
     pub trail : Trail code (text_of f name lines) (Starts start) (at f t b 0) (op_lines q main.ops ++ end_lines label_of j main.last) next
     pub front : List (Op × ℕ)
-    pub is_front : IsFront front k.ops
+    pub is_front : IsFront b k.last front k.ops
     pub groups : List (Op × ℕ)
     pub others : List (Op × ℕ)
     pub split : main.ops ≡ groups ++ others
@@ -107,10 +107,10 @@ module _ (p q : Program) (f : Func) (t : Tables f) (number : ℕ → ℕ) (code 
     suit_at : (i : ℕ) (o : Op × ℕ) → slice_get k.ops i ≡ Some o → Suits g.vars (counts_register f.regs) o.0 (at f t b i) (at f t b (suc i)) × IsFit p old g o.0
     suit_at i o e =
         let fit = facts.ops i o e in
-        (suits f t b i o.0 (ap (λ z. item_of z i) is ∙ item_here k.ops k.last i o e) (in_met f b k is (m.sound b marked) i (omega (arith, get_within k.ops i o e))) (reads_declared g.vars p o.0 fit.op fit.spelled) (agrees f.regs), fit)
+        (suits f t b i o.0 (ap (λ z. item_of z i) is ∙ item_here k.ops k.last i o e) (in_met f b k is (m.sound b marked) i (omega (arith, get_within k.ops i o e))) fit.op (reads_declared g.vars p o.0 fit.op fit.spelled) (agrees f.regs), fit)
 
     -- groups, and what follows them
-    behind_groups : (front groups others : List (Op × ℕ)) (tail : List Line) (next : Option Shares) (main : Block) (j : ℕ) → IsFront front k.ops → main.ops ≡ groups ++ others → (h : AreGroups f t number (owned f t b) front groups) → op_lines q main.ops ++ end_lines label_of j main.last ≡ op_lines q groups ++ tail → OpsSuit p old g (counts_register f.regs) (at f t b) front → Checks code g (Starts start) Never (at f t b (length front)) tail → Main b k main j next
+    behind_groups : (front groups others : List (Op × ℕ)) (tail : List Line) (next : Option Shares) (main : Block) (j : ℕ) → IsFront b k.last front k.ops → main.ops ≡ groups ++ others → (h : AreGroups f t number (owned f t b) front groups) → op_lines q main.ops ++ end_lines label_of j main.last ≡ op_lines q groups ++ tail → OpsSuit p old g (counts_register f.regs) (at f t b) front → Checks code g (Starts start) Never (at f t b (length front)) tail → Main b k main j next
     behind_groups front groups others tail next main j is_front split h lines_are suit checks =
         let last : Trail code g (Starts start) (at f t b (length front)) tail next = trail code g (Starts start) Never next (λ ρ e. absurd e) (at f t b (length front)) tail checks in
         let first : Groups p q f t number code old name lines same (Starts start) (at f t b) front groups h (head last.shares next) =
@@ -132,19 +132,19 @@ module _ (p q : Program) (f : Func) (t : Tables f) (number : ℕ → ℕ) (code 
         }
 
     -- a block whose counts of the end stand behind all operations
-    all_main : (l : Last) → k.last ≡ l → (main : Block) (own : List Block) (first : ℕ) (next : Option Shares) (j : ℕ) → AreAll f t number (owned f t b) k.ops l main.ops → (h : IsLast f t number (owned f t b (length k.ops)) l first main.last own) → LastFits (length f.blocks) b k.ops l → IsLastFit f l → 1 ≤ first → Begins p q f t number code name lines start m known b k is marked first (starts_of f t number b (length k.ops) l first main.last own h) → j ≡ number b → Main b k main j next
-    all_main l e main own first next j body h fits text le begins is_number =
+    all_main : (l : Last) → k.last ≡ l → (main : Block) (next : Option Shares) (j : ℕ) → AreAll f t number (owned f t b) k.ops l main.ops → IsLast f t number first at_start (owned f t b (length k.ops)) l main.last → LastFits (length f.blocks) b k.ops l → IsLastFit f l → j ≡ number b → Main b k main j next
+    all_main l e main next j body h fits text is_number =
         let tail : List Line = op_lines q body.1 ++ end_lines label_of j main.last in
         let lines_are : op_lines q main.ops ++ end_lines label_of j main.last ≡ op_lines q body.0 ++ tail =
         ap (λ z. op_lines q z ++ end_lines label_of j main.last) body.2
         ∙ (ap (λ z. z ++ end_lines label_of j main.last) (lines_append q body.0 body.1) ∙ append_assoc (op_lines q body.0) (op_lines q body.1) (end_lines label_of j main.last)) in
         behind_groups k.ops body.0 body.1 tail next main j (inl refl) body.2 body.3 lines_are
         (suit_all p old g (counts_register f.regs) (at f t b) k.ops suit_at)
-        (end_check p q f t number code name lines start m known b k is marked l e body.1 body.4 first main.last own h fits text le begins j is_number)
+        (end_check p q f t number first at_start code name lines start m known b k is marked l e body.1 body.4 main.last h fits text j is_number)
 
     -- a block that ends in a turn and a jump to its own or a lower block
-    turned_main : (to : ℕ) → k.last ≡ Goto to → (main : Block) (next : Option Shares) (j : ℕ) → AreTurned f t number (owned f t b) k.ops to main.ops → main.last ≡ Goto (number to) → ends_in_turn k.ops ≡ true → 0 < to → to < length f.blocks → Main b k main j next
-    turned_main to e main next j body is_last ends higher lower =
+    turned_main : (to : ℕ) → k.last ≡ Goto to → (main : Block) (next : Option Shares) (j : ℕ) → AreTurned f t number (owned f t b) k.ops to main.ops → main.last ≡ Goto (number to) → ends_in_turn k.ops ≡ true → to ≤ b → 0 < to → to < length f.blocks → Main b k main j next
+    turned_main to e main next j body is_last ends back higher lower =
         let before : List (Op × ℕ) = body.0 in
         let turn : Op × ℕ = body.1 in
         let is_a_turn : turn.0 ≡ Turn = turn_is turn.0 (last_turn before turn (ap ends_in_turn (sym body.4) ∙ ends)) in
@@ -160,26 +160,25 @@ module _ (p q : Program) (f : Func) (t : Tables f) (number : ℕ → ℕ) (code 
         ∙ (ap (λ z. z ++ end_lines label_of j (Goto (number to))) (lines_append q body.2 (body.3 ++ turn ∷ [])) ∙ append_assoc (op_lines q body.2) (op_lines q (body.3 ++ turn ∷ [])) (end_lines label_of j (Goto (number to))))) in
         let suit : OpsSuit p old g (counts_register f.regs) (at f t b) before =
         suit_all p old g (counts_register f.regs) (at f t b) before (λ i o there. suit_at i o (ap (λ z. slice_get z i) body.4 ∙ get_front before (turn ∷ []) i o there)) in
-        behind_groups before body.2 (body.3 ++ turn ∷ []) tail next main j (inr (turn.1, body.4 ∙ ap (λ (z : Op). before ++ (z, turn.1) ∷ []) is_a_turn)) body.5 body.6 lines_are suit
-        (subst (λ σ. Checks code g (Starts start) Never σ tail) alike (turned_check p q f t number code name lines start m known b k is marked to e turn is_a_turn body.3 body.7 higher lower))
+        behind_groups before body.2 (body.3 ++ turn ∷ []) tail next main j (inr (turn.1, to, e, back, body.4 ∙ ap (λ (z : Op). before ++ (z, turn.1) ∷ []) is_a_turn)) body.5 body.6 lines_are suit
+        (subst (λ σ. Checks code g (Starts start) Never σ tail) alike (turned_check p q f t number first at_start code name lines start m known b k is marked to e turn is_a_turn body.3 body.7 higher lower))
 
-    pub main_of : (l : Last) → k.last ≡ l → (main : Block) (own : List Block) (first : ℕ) (next : Option Shares) (j : ℕ) → IsBody f t number b (owned f t b) k.ops l main.ops → (h : IsLast f t number (owned f t b (length k.ops)) l first main.last own) → 1 ≤ first → Begins p q f t number code name lines start m known b k is marked first (starts_of f t number b (length k.ops) l first main.last own h) → j ≡ number b → Main b k main j next
-    main_of (Goto to) e main own first next j body h le begins is_number =
-        by (nat_lt b to) refl body
+    pub main_of : (l : Last) → k.last ≡ l → (main : Block) (next : Option Shares) (j : ℕ) → IsBody f t number b (owned f t b) k.ops l main.ops → IsLast f t number first at_start (owned f t b (length k.ops)) l main.last → j ≡ number b → Main b k main j next
+    main_of (Goto to) e main next j body h is_number = by (nat_lt b to) refl body
       where
         fits : LastFits (length f.blocks) b k.ops (Goto to)
         fits = subst (LastFits (length f.blocks) b k.ops) e facts.last
 
         by : (c : Bool) → nat_lt b to ≡ c → cond c (AreAll f t number (owned f t b) k.ops (Goto to) main.ops) (AreTurned f t number (owned f t b) k.ops to main.ops) → Main b k main j next
-        by true up all = all_main (Goto to) e main own first next j all h fits tt le begins is_number
+        by true up all = all_main (Goto to) e main next j all h fits tt is_number
         by false up turned =
             let ends : ends_in_turn k.ops ≡ true = ⊎_elim (λ lt. let both : true ≡ false = sym (lt-ltb b to lt) ∙ up in absurd (cc)) (λ is_turn. is_turn) fits.2 in
-            turned_main to e main next j turned h.0 ends fits.0 fits.1
-    main_of (If x a c) e main own first next j body h le begins is_number =
-        all_main (If x a c) e main own first next j body h (subst (LastFits (length f.blocks) b k.ops) e facts.last) tt le begins is_number
-    main_of (IfError x a c source) e main own first next j body h le begins is_number =
-        all_main (IfError x a c source) e main own first next j body h (subst (LastFits (length f.blocks) b k.ops) e facts.last) tt le begins is_number
-    main_of (Return x) e main own first next j body h le begins is_number =
-        all_main (Return x) e main own first next j body h tt (subst (IsLastFit f) e facts.text) le begins is_number
-    main_of Unreachable e main own first next j body h le begins is_number =
-        all_main Unreachable e main own first next j body h (subst (LastFits (length f.blocks) b k.ops) e facts.last) tt le begins is_number
+            turned_main to e main next j turned h ends (ltb-false b to up) fits.0 fits.1
+    main_of (If x a c) e main next j body h is_number =
+        all_main (If x a c) e main next j body h (subst (LastFits (length f.blocks) b k.ops) e facts.last) tt is_number
+    main_of (IfError x a c source) e main next j body h is_number =
+        all_main (IfError x a c source) e main next j body h (subst (LastFits (length f.blocks) b k.ops) e facts.last) tt is_number
+    main_of (Return x) e main next j body h is_number =
+        all_main (Return x) e main next j body h tt (subst (IsLastFit f) e facts.text) is_number
+    main_of Unreachable e main next j body h is_number =
+        all_main Unreachable e main next j body h (subst (LastFits (length f.blocks) b k.ops) e facts.last) tt is_number

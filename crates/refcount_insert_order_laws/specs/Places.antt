@@ -1,8 +1,10 @@
 -- Where the operations of a program with its counts stand in its C text, and which of them are the groups of the old operations.
-use Rattle.std.specs.Prelude.{◌≡◌, ◌<◌, ◌⊎◌, ℕ, zero, suc, ◌+◌, List, [], ◌∷◌, ◌++◌, length, Option, Some, slice_get}
+use Rattle.std.specs.Prelude.{◌≡◌, ◌≤◌, ◌<◌, ◌⊎◌, ℕ, zero, suc, ◌+◌, List, [], ◌∷◌, ◌++◌, length, Option, Some, slice_get}
 use Rattle.c_core.specs.declared.code.Line.{Line}
 use Rattle.ir_core.specs.declared.code.Op.{Op}
 use Rattle.ir_core.specs.declared.code.Op.TheVariants.{Turn}
+use Rattle.ir_core.specs.declared.code.Last.{Last}
+use Rattle.ir_core.specs.declared.code.Last.TheVariants.{Goto}
 use Rattle.ir_core.specs.declared.code.Block.{Block}
 use Rattle.ir_core.specs.declared.code.Func.{Func}
 use Rattle.ir_core.specs.declared.code.Program.{Program}
@@ -20,9 +22,9 @@ operations_before f t number at [] ops h (suc i) = 0
 operations_before f t number at (o ∷ os) ops h (suc i) =
     length h.0 + operations_before f t number (λ p. at (suc p)) os h.1 h.4 i
 
--- the old operations of a block, but for a turn in front of a jump to its own or a lower block
-abbrev pub IsFront : List (Op × ℕ) → List (Op × ℕ) → Type 0
-IsFront old ops = (ops ≡ old) ⊎ ((source : ℕ) × (ops ≡ old ++ (Turn, source) ∷ []))
+-- all operations of a block of this number and end; or all but the turn in front of a jump to the same or a lower block
+abbrev pub IsFront : ℕ → Last → List (Op × ℕ) → List (Op × ℕ) → Type 0
+IsFront b last front ops = (ops ≡ front) ⊎ ((source : ℕ) × (to : ℕ) × (last ≡ Goto to) × (to ≤ b) × (ops ≡ front ++ (Turn, source) ∷ []))
 
 -- the new block of the old block k of number b: it stands at its label, and its first operations are the groups of the old ones
 pub record NewBlock (q : Program) (f g : Func) (c : IsCountedFunc f g) (b : ℕ) (k : Block) : Type 0 where
@@ -33,7 +35,7 @@ pub record NewBlock (q : Program) (f g : Func) (c : IsCountedFunc f g) (b : ℕ)
   pub rest : List Line
   pub lines : from (label + length (label_before (c.number b))) (lines_from q 0 g.blocks) ≡ op_lines q main.ops ++ rest
   pub front : List (Op × ℕ)
-  pub is_front : IsFront front k.ops
+  pub is_front : IsFront b k.last front k.ops
   pub groups : List (Op × ℕ)
   pub others : List (Op × ℕ)
   pub split : main.ops ≡ groups ++ others

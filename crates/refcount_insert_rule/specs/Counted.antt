@@ -1,6 +1,8 @@
 -- When one program is another one with its counts. The blocks are the old ones in their order, each operation with its counts by
 -- the one rule. An edge whose registers have other references before it than behind it has counts of its own: those of a jump
--- stand in the block that it leaves, those of a test in a block of their own, which stands directly behind the block of the test.
+-- stand in the block that it leaves, those of a test in detours, which are blocks of counts alone. A detour stands in front of the block
+-- to which its edges go, and edges share it that come with the same references: it counts some of what is to be counted, and goes to that block
+-- or to another detour in front of it, which counts what is left.
 use Rattle.std.specs.Prelude.{◌≡◌, ◌≢◌, ◌↔◌, ◌≤◌, ◌<◌, ◌⊎◌, ℕ, suc, ◌+◌, ◌^◌, Bool, true, false, not, ◌&&◌, cond, nat_lt, List, [], ◌∷◌, ◌++◌, length, Some, None}
 use Rattle.std.specs.Option.{option_map_or}
 use Rattle.ir_core.specs.declared.code.Op.{Op}
@@ -75,37 +77,52 @@ module _ (f : Func) (t : Tables f) (number : ℕ → ℕ) where
   IsBody k at old (Goto b) ops = cond (is_ahead k b) (AreAll at old (Goto b) ops) (AreTurned at old b ops)
   IsBody k at old last ops = AreAll at old last ops
 
-  -- the edge of a test to block b goes there, where that block wants what registers have, or to block n, which has its counts. An edge
-  -- without counts has no block of its own
-  abbrev pub IsEdgeTo : (ℕ → ℕ) → ℕ → ℕ → ℕ → List Block → Type 0
-  IsEdgeTo have b n to own =
-      ((to ≡ number b) × (own ≡ []) × ((r : ℕ) → have r ≡ wanted b r)) ⊎ ((to ≡ n) × (counts : List (Op × ℕ)) × (own ≡ record { ops = counts; last = Goto (number b); handler = None } ∷ []) × IsEdge have (wanted b) counts × (counts ≢ []))
+  -- The new blocks from number `first b` on that stand in front of that of block b are detours on the way to it. `at_start n` says how
+  -- many references registers have where new block n begins
+  module _ (first : ℕ → ℕ) (at_start : ℕ → ℕ → ℕ) where
+    -- new block n, as a detour to block b: it goes on to b, or to a later detour. Behind it each register has what it had, or already what
+    -- is wanted; it does have counts, and only counted registers have references
+    pub record IsDetour (b n : ℕ) (x : Block) : Type 0 where
+      pub next : ℕ
+      pub goes : x.last ≡ Goto next
+      pub ahead : n < next
+      pub within : next ≤ number b
+      pub counts : IsEdge (at_start n) (at_start next) x.ops
+      pub some : x.ops ≢ []
+      pub each : (r : ℕ) → (at_start next r ≡ at_start n r) ⊎ (at_start next r ≡ wanted b r)
+      pub owns : (r : ℕ) → 1 ≤ at_start n r → counted r ≡ true
 
-  -- both edges of a test, whose blocks begin at n
-  abbrev pub AreEdgesTo : (ℕ → ℕ) → (ℕ → ℕ) → ℕ → ℕ → ℕ → ℕ → ℕ → List Block → Type 0
-  AreEdgesTo first second a b n p q own =
-      (one : List Block) × (other : List Block) × (own ≡ one ++ other) × IsEdgeTo first a n p one × IsEdgeTo second b (n + length one) q other
+    -- detours to block b, from new number n on
+    abbrev pub AreDetours : ℕ → ℕ → List Block → Type 0
+    AreDetours b n [] = Unit {0}
+    AreDetours b n (x ∷ xs) = IsDetour b n x × AreDetours b (suc n) xs
 
-  -- the end of a block with the new numbers, and the blocks of its edges, which begin at n. A register that holds its error value
-  -- has no cell, so it may have as many references as are wanted
-  abbrev pub IsLast : (ℕ → ℕ) → Last → ℕ → Last → List Block → Type 0
-  IsLast have (Goto b) n last own = (last ≡ Goto (number b)) × (own ≡ [])
-  IsLast have (If x a b) n last own =
-      (p : ℕ) × (q : ℕ) × (last ≡ If x p q) × AreEdgesTo have have a b n p q own
-  IsLast have (IfError x a b line) n last own =
-      (p : ℕ) × (q : ℕ) × (last ≡ IfError x p q line) × AreEdgesTo (put x.0 (wanted a x.0) have) have a b n p q own
-  IsLast have (Return x) n last own = (last ≡ Return x) × (own ≡ [])
-  IsLast have Unreachable n last own = (last ≡ Unreachable) × (own ≡ [])
+    -- the edge of a test to block b goes to the new block of b or to a detour in front of it, where registers are to have what they have
+    abbrev pub IsEdgeTo : (ℕ → ℕ) → ℕ → ℕ → Type 0
+    IsEdgeTo have b to =
+        (first b ≤ to) × (to ≤ number b) × ((r : ℕ) → have r ≡ at_start to r)
 
-  -- old blocks from number k on, as new ones from number m on
-  abbrev pub AreBlocks : ℕ → ℕ → List Block → List Block → Type 0
-  AreBlocks k m [] blocks = blocks ≡ []
-  AreBlocks k m (b ∷ bs) blocks =
-      (main : Block) × (own : List Block) × (rest : List Block) × (blocks ≡ main ∷ (own ++ rest)) × (number k ≡ m) × IsBody k (owned f t k) b.ops b.last main.ops × IsLast (owned f t k (length b.ops)) b.last (m + 1) main.last own × AreBlocks (suc k) (m + 1 + length own) bs rest
+    -- the end of a block with the new numbers. A register that holds its error value has no cell, so it may have as many references as
+    -- are wanted
+    abbrev pub IsLast : (ℕ → ℕ) → Last → Last → Type 0
+    IsLast have (Goto b) last = last ≡ Goto (number b)
+    IsLast have (If x a b) last =
+        (p : ℕ) × (q : ℕ) × (last ≡ If x p q) × IsEdgeTo have a p × IsEdgeTo have b q
+    IsLast have (IfError x a b line) last =
+        (p : ℕ) × (q : ℕ) × (last ≡ IfError x p q line) × IsEdgeTo (put x.0 (wanted a x.0) have) a p × IsEdgeTo have b q
+    IsLast have (Return x) last = last ≡ Return x
+    IsLast have Unreachable last = last ≡ Unreachable
+
+    -- old blocks from number k on, as new ones from number m on: each behind the detours to it
+    abbrev pub AreBlocks : ℕ → ℕ → List Block → List Block → Type 0
+    AreBlocks k m [] blocks = blocks ≡ []
+    AreBlocks k m (b ∷ bs) blocks =
+        (detours : List Block) × (main : Block) × (rest : List Block) × (blocks ≡ detours ++ (main ∷ rest)) × (first k ≡ m) × (number k ≡ m + length detours) × ((r : ℕ) → at_start (number k) r ≡ wanted k r) × AreDetours k m detours × IsBody k (owned f t k) b.ops b.last main.ops × IsLast (owned f t k (length b.ops)) b.last main.last × AreBlocks (suc k) (m + length detours + 1) bs rest
 
 -- ---- programs
 
--- a function with its counts: nothing but the blocks has changed. They are as few as numbers of 64 bits can name, and none has a handler
+-- a function with its counts: nothing but the blocks has changed. It begins with the first one. They are as few as numbers of 64 bits can
+-- name, and none has a handler
 pub record IsCountedFunc (f g : Func) : Type 0 where
   pub name : g.name ≡ f.name
   pub params : g.params ≡ f.params
@@ -113,7 +130,10 @@ pub record IsCountedFunc (f g : Func) : Type 0 where
   pub regs : g.regs ≡ f.regs
   pub tables : Tables f
   pub number : ℕ → ℕ
-  pub blocks : AreBlocks f tables number 0 0 f.blocks g.blocks
+  pub first : ℕ → ℕ
+  pub at_start : ℕ → ℕ → ℕ
+  pub blocks : AreBlocks f tables number first at_start 0 0 f.blocks g.blocks
+  pub begins : number 0 ≡ 0
   pub few : length g.blocks ≤ 2 ^ 64
   pub bare : IsBare g
 

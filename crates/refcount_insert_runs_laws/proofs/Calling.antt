@@ -1,5 +1,5 @@
 -- A call of a function or a method: the counts before it, and into the function. The frame that waits has the counts behind the call before it.
-use Rattle.std.proofs.Common.{◌≡◌, refl, sym, ◌∙◌, ap, subst, ℕ, suc, ◌+◌, false, List, [], ◌∷◌, Option, Some, None, ◌⊎◌, ⊎_elim, inl, inr}
+use Rattle.std.proofs.Common.{◌≡◌, refl, sym, ◌∙◌, ap, subst, ℕ, suc, ◌+◌, true, false, List, [], ◌∷◌, Option, Some, None, ◌⊎◌, ⊎_elim, inl, inr}
 use Rattle.std.specs.Prelude.{slice_get}
 use Rattle.std.proofs.lemmas.Option.{same_Some}
 use Rattle.c_core.specs.declared.code.Line.{Line}
@@ -18,7 +18,7 @@ use Rattle.ir_core.specs.Effects.{World}
 use Rattle.ir_core.specs.Meaning.{Frame, Waiting, Config, Runs, Stuck, Fitting, act, do_op, step, steps}
 use Rattle.ir_core.specs.Items.{item_in}
 use Rattle.ir_core.specs.Lower.{line_of}
-use Rattle.ir_core.specs.Shape.{Shape}
+use Rattle.ir_core.specs.Shape.{op_fits, Shape}
 use Rattle.liveness.specs.Paths.{is_target, write_of, MetAt, BorrowedAt}
 use Rattle.refcount_insert_rule.specs.Counted.{IsCountedProgram}
 use Rattle.refcount_insert_lines_laws.specs.Matching.{RegsFit, WorldFits, RunsIn}
@@ -48,7 +48,7 @@ module _ (p q : Program) (shape : Shape p) (counted : IsCountedProgram p q) (wf 
       ap (λ z. act Fitting p (item_in (blocks_of z) 0 0) (record { fn = n; block = 0; place = 0; regs = regs }) ks w) there
       ∙ ap (λ z. act Fitting p (item_of z 0) (record { fn = n; block = 0; place = 0; regs = regs }) ks w) none
 
-  module _ (f : Frame) (below : List Waiting) (w : World) (s : MachineState) (x : Op) (into : Reg) (writes : write_of x ≡ Some into.0) (source : ℕ) (os : List (Op × ℕ)) (a : FrameAt p q f s.top [] ((x, source) ∷ os)) (fit : RegsFit s a.at.func.regs f.regs s.top.vars) (met : MetAt a.at.func f.block f.place) (lent : (r : ℕ) → BorrowedAt a.at.func r f.block f.place → is_unset (f.regs r) ≡ false) (stack : StackAt p q s f.fn s.top.into below s.below) (world : WorldFits p w s) where
+  module _ (f : Frame) (below : List Waiting) (w : World) (s : MachineState) (x : Op) (into : Reg) (writes : write_of x ≡ Some into.0) (source : ℕ) (os : List (Op × ℕ)) (a : FrameAt p q f s.top [] ((x, source) ∷ os)) (fits : op_fits x ≡ true) (fit : RegsFit s a.at.func.regs f.regs s.top.vars) (met : MetAt a.at.func f.block f.place) (lent : (r : ℕ) → BorrowedAt a.at.func r f.block f.place → is_unset (f.regs r) ≡ false) (stack : StackAt p q s f.fn s.top.into below s.below) (world : WorldFits p w s) where
     abbrev call : Op × ℕ
     call = (x, source)
 
@@ -102,7 +102,7 @@ module _ (p q : Program) (shape : Shape p) (counted : IsCountedProgram p q) (wf 
             regs = regs_grow t u enters.grows a.at.func.regs f.regs t.top.vars runs.regs;
             held = counts_by a.at.func.regs (After a.at.func f.block x) (λ r. (is_unset (f.regs r) ≡ false) × (is_target (Some into.0) r ≡ false)) (group p q counts_do f below w s call os a).after (λ r cells reason. (read_set p q counts_do f below w s call os a lent holds r cells reason.0, ap (λ z. is_target z r) (sym writes) ∙ reason.1)) (group p q counts_do f below w s call os a).after_count;
             met = met_behind p q counts_do f below w s call os a met;
-            lent = λ r l. let before = lent_before p q counts_do f below w s call os a met r l in (lent r before.1, ap (λ z. is_target z r) (sym writes) ∙ before.0);
+            lent = λ r l. let before = lent_before p q counts_do f below w s call os a fits met r l in (lent r before.1, ap (λ z. is_target z r) (sym writes) ∙ before.0);
             is_into = enters.into_is;
             target = λ g e. let same : h ≡ g = same_Some h g (sym there ∙ e) in type ∙ ap (λ (z : Func). Some z.ret) same;
           } in

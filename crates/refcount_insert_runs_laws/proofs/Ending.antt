@@ -1,5 +1,5 @@
--- The end of a block that goes to another one: the counts before it, its line, and the counts of the edge.
-use Rattle.std.proofs.Common.{◌≡◌, refl, sym, ◌∙◌, ap, subst, ℕ, ◌+◌, ◌<◌, arith, Bool, true, false, List, None, [], ◌∷◌, ◌++◌, length, Some, inl, inr}
+-- The end of a block that goes to another one: the counts before it, its line, and the detours of the edge.
+use Rattle.std.proofs.Common.{◌≡◌, refl, sym, ◌∙◌, ap, subst, ℕ, ◌+◌, ◌<◌, arith, Bool, true, false, List, [], ◌∷◌, ◌++◌, length, Some}
 use Rattle.std.specs.Prelude.{slice_get, nat_eq}
 use Rattle.std.proofs.lemmas.Bool.{eqb-true, eqb-false}
 use Rattle.c_core.specs.declared.code.Line.{Line}
@@ -21,20 +21,20 @@ use Rattle.ir_core.specs.Lower.{end_lines, label_of}
 use Rattle.ir_core.specs.Shape.{LastFits, Shape}
 use Rattle.c_core_ownership_laws.specs.Shares.{put}
 use Rattle.liveness.specs.Paths.{targets, MetAt, BorrowedAt}
-use Rattle.refcount_insert_rule.specs.Counted.{owned, IsEdgeTo, AreEdgesTo, IsLast, IsCountedProgram}
+use Rattle.refcount_insert_rule.specs.Counted.{owned, IsEdgeTo, IsLast, IsCountedProgram}
 use Rattle.refcount_insert_lines_laws.specs.Matching.{RegsFit, WorldFits, RunsIn}
 use Rattle.refcount_insert_lines_laws.specs.Lines.{TestDoes, test_sticks, first_taken, second_taken, IfsDo, IfErrorsDo, CountsDo}
-use Rattle.refcount_insert_runs_laws.proofs.Lists.{within, get_behind, get_before}
+use Rattle.refcount_insert_runs_laws.proofs.Lists.{within}
 use Rattle.refcount_insert_runs_laws.proofs.Numbers.{put_here, put_there}
 use Rattle.refcount_insert_runs_laws.proofs.Heads.{heads}
 use Rattle.refcount_insert_runs_laws.proofs.Ways.{met_over, borrowed_over}
-use Rattle.refcount_insert_runs_laws.proofs.Counts.{AreCounts, counts_by}
-use Rattle.refcount_insert_runs_laws.proofs.Forms.{edge_counts}
+use Rattle.refcount_insert_runs_laws.proofs.Counts.{counts_by}
+use Rattle.refcount_insert_runs_laws.proofs.Forms.{edge_lent, edge_cells}
 use Rattle.refcount_insert_runs_laws.proofs.Shapes.{end_place}
 use Rattle.refcount_insert_runs_laws.proofs.Growing.{regs_past, world_past}
 use Rattle.refcount_insert_runs_laws.proofs.Relation.{code, machine, lines_of, FrameAt, StackAt, Arrives, gets_stuck, line_in, end_here}
 use Rattle.refcount_insert_runs_laws.proofs.Counting.{stack_past, Counted, run_counts}
-use Rattle.refcount_insert_runs_laws.proofs.Entering.{jump, over}
+use Rattle.refcount_insert_runs_laws.proofs.Entering.{jump, CanCount, walk}
 
 -- ---- numbers: the tested register has what is wanted of it
 put_less : (x a : ℕ) (have want : ℕ → ℕ) → a ≡ want x → (r : ℕ) → put x a have r < want r → have r < want r
@@ -60,9 +60,6 @@ put_more x a have want same r lt = by (nat_eq x r) refl
 module _ (p q : Program) (shape : Shape p) (counted : IsCountedProgram p q) (wf : WellFormed (code p q)) (counts_do : CountsDo) (f : Frame) (below : List Waiting) (w : World) (s : MachineState) (a : FrameAt p q f s.top [] []) (fit : RegsFit s a.at.func.regs f.regs s.top.vars) (met : MetAt a.at.func f.block f.place) (lent : (r : ℕ) → BorrowedAt a.at.func r f.block f.place → is_unset (f.regs r) ≡ false) (stack : StackAt p q s f.fn s.top.into below s.below) (world : WorldFits p w s) where
   abbrev pub main : Block
   main = a.placed.stands.main
-
-  abbrev pub own : List Block
-  own = a.placed.stands.own
 
   abbrev pub number : ℕ → ℕ
   number = a.at.counted.number
@@ -101,12 +98,12 @@ module _ (p q : Program) (shape : Shape p) (counted : IsCountedProgram p q) (wf 
       line_in p q f.fn a.at at_end.top same_here l ls (first.at ∙ (ap (λ z. end_lines label_of (number f.block) z ++ a.rest) is ∙ e))
 
   -- ---- an edge
-  module _ (l : Last) (is : a.block.last ≡ l) (i c : ℕ) (goes : slice_get (targets l) i ≡ Some c) (some : 0 < c) (lt : c < length a.at.func.blocks) where
+  module _ (l : Last) (is : a.block.last ≡ l) (i c : ℕ) (goes : slice_get (targets l) i ≡ Some c) (some : 0 < c) (lt_there : c < length a.at.func.blocks) where
     last_here : item_in a.at.func.blocks f.block f.place ≡ Some (End l)
     last_here = end_here p q f s.top a ∙ ap (λ z. Some (End z)) is
 
     block_there : (b : Block) × (slice_get a.at.func.blocks c ≡ Some b)
-    block_there = within a.at.func.blocks c lt
+    block_there = within a.at.func.blocks c lt_there
 
     met_there : MetAt a.at.func c 0
     met_there = met_over a.at.func f.block f.place i c l last_here goes met
@@ -119,56 +116,47 @@ module _ (p q : Program) (shape : Shape p) (counted : IsCountedProgram p q) (wf 
     straight =
         jump p q shape f below w a.at c block_there.0 block_there.1 at_end same_here fit_here met_there lent_there stack_here world_here some
 
-    -- over its counts, if it has any
-    pub edge : (have : ℕ → ℕ) → ((r : ℕ) → have r < owned a.at.func a.at.counted.tables c 0 r → owned a.at.func a.at.counted.tables f.block (length a.block.ops) r < owned a.at.func a.at.counted.tables c 0 r) → ((r : ℕ) → owned a.at.func a.at.counted.tables c 0 r < have r → owned a.at.func a.at.counted.tables c 0 r < owned a.at.func a.at.counted.tables f.block (length a.block.ops) r) → (n to : ℕ) (blocks : List Block) → IsEdgeTo a.at.func a.at.counted.tables number have c n to blocks → 0 < n → ((j : ℕ) (x : Block) → slice_get blocks j ≡ Some x → slice_get a.at.new.blocks (n + j) ≡ Some x) → Arrives p q (jumped false at_end (label_at (code p q) at_end.top (label_of to))) (to_block f c below w)
-    edge have short more n to blocks (inl e) high owns =
-        subst (λ z. Arrives p q (jumped false at_end (label_at (code p q) at_end.top (label_of z))) (to_block f c below w)) (sym e.0) straight
-    edge have short more n to blocks (inr e) high owns =
-        let counts : List (Op × ℕ) = e.1 in
-        let detour : Block = record { ops = counts; last = Goto (number c); handler = None } in
-        let far : n + 0 ≡ n = omega arith in
-        let there : slice_get a.at.new.blocks n ≡ Some detour = ap (slice_get a.at.new.blocks) (sym far) ∙ owns 0 detour (ap (λ z. slice_get z 0) e.2) in
+    -- over the detours to it, if there are any
+    pub edge : (have : ℕ → ℕ) → ((r : ℕ) → have r < owned a.at.func a.at.counted.tables c 0 r → owned a.at.func a.at.counted.tables f.block (length a.block.ops) r < owned a.at.func a.at.counted.tables c 0 r) → ((r : ℕ) → owned a.at.func a.at.counted.tables c 0 r < have r → owned a.at.func a.at.counted.tables c 0 r < owned a.at.func a.at.counted.tables f.block (length a.block.ops) r) → (to : ℕ) → IsEdgeTo a.at.func a.at.counted.tables number a.at.counted.first a.at.counted.at_start have c to → Arrives p q (jumped false at_end (label_at (code p q) at_end.top (label_of to))) (to_block f c below w)
+    edge have short more to e =
         let place : f.place ≡ length a.block.ops = end_place a.block.ops a.block.last f.place a.block.last a.left in
-        let are : AreCounts a.at.func.regs (λ r. BorrowedAt a.at.func r f.block (length a.block.ops)) counts = edge_counts a.at.func a.at.counted.tables number f.block a.block a.here l is i c goes lt have short more counts e.3 in
-        let set : AreCounts a.at.func.regs (λ r. is_unset (f.regs r) ≡ false) counts = counts_by a.at.func.regs (λ r. BorrowedAt a.at.func r f.block (length a.block.ops)) (λ r. is_unset (f.regs r) ≡ false) counts (λ r cells b. lent r (subst (BorrowedAt a.at.func r f.block) (sym place) b)) are in
-        subst (λ z. Arrives p q (jumped false at_end (label_at (code p q) at_end.top (label_of z))) (to_block f c below w)) (sym e.0) (over p q shape counts_do f below w a.at c block_there.0 block_there.1 met_there lent_there some n counts high there set at_end same_here fit_here stack_here world_here)
+        let can : CanCount p q shape counts_do f below w a.at c block_there.0 block_there.1 met_there lent_there some (a.at.counted.at_start to) = (
+          λ r lt.
+              let h = edge_lent a.at.func a.at.counted.tables number f.block a.block a.here l is i c goes lt_there r (short r (omega (arith, lt, e.2 r))) in
+              (h.0, lent r (subst (BorrowedAt a.at.func r f.block) (sym place) h.1)),
+          λ r lt. edge_cells a.at.func a.at.counted.tables number f.block a.block a.here l is i c goes lt_there r (more r (omega (arith, lt, e.2 r))),
+        ) in
+        walk p q shape counts_do f below w a.at c block_there.0 block_there.1 met_there lent_there some (number c) to (omega arith) e.0 e.1 can at_end same_here fit_here stack_here world_here
 
   -- ---- ends
-  pub goto_arrives : (c : ℕ) → a.block.last ≡ Goto c → LastFits (length a.at.func.blocks) f.block a.block.ops (Goto c) → IsLast a.at.func a.at.counted.tables number (owned a.at.func a.at.counted.tables f.block (length a.block.ops)) (Goto c) (number f.block + 1) main.last own → Arrives p q (machine p q at_end) (do_last Fitting p (Goto c) f below w)
+  pub goto_arrives : (c : ℕ) → a.block.last ≡ Goto c → LastFits (length a.at.func.blocks) f.block a.block.ops (Goto c) → main.last ≡ Goto (number c) → Arrives p q (machine p q at_end) (do_last Fitting p (Goto c) f below w)
   goto_arrives c is fits form =
-      subst (λ z. Arrives p q z (to_block f c below w)) (sym (ap (step_at false (code p q) at_end) (line_here (Goto (number c)) (line.Goto (label_of (number c))) a.rest form.0 refl))) (straight (Goto c) is 0 c refl fits.0 fits.1)
+      subst (λ z. Arrives p q z (to_block f c below w)) (sym (ap (step_at false (code p q) at_end) (line_here (Goto (number c)) (line.Goto (label_of (number c))) a.rest form refl))) (straight (Goto c) is 0 c refl fits.0 fits.1)
 
   by_test : (x y n m : ℕ) (c : Config) (k : Next) → TestDoes (code p q) f below w at_end x y n m c k → Arrives p q (jumped false at_end (label_at (code p q) at_end.top n)) (to_block f x below w) → Arrives p q (jumped false at_end (label_at (code p q) at_end.top m)) (to_block f y below w) → Arrives p q k c
   by_test x y n m c k (test_sticks j) one other = gets_stuck refl
   by_test x y n m c k first_taken one other = one
   by_test x y n m c k second_taken one other = other
 
-  high : 0 < number f.block + 1
-  high = omega arith
+  abbrev IsTestEdge : (ℕ → ℕ) → ℕ → ℕ → Type 0
+  IsTestEdge = IsEdgeTo a.at.func a.at.counted.tables number a.at.counted.first a.at.counted.at_start
 
-  module _ (l : Last) (is : a.block.last ≡ l) (x y : ℕ) (goes_x : slice_get (targets l) 0 ≡ Some x) (goes_y : slice_get (targets l) 1 ≡ Some y) (some_x : 0 < x) (lt_x : x < length a.at.func.blocks) (some_y : 0 < y) (lt_y : y < length a.at.func.blocks) (n m : ℕ) where
-    abbrev have : ℕ → ℕ
-    have = owned a.at.func a.at.counted.tables f.block (length a.block.ops)
+  abbrev IsEndOf : Last → Type 0
+  IsEndOf l = IsLast a.at.func a.at.counted.tables number a.at.counted.first a.at.counted.at_start (owned a.at.func a.at.counted.tables f.block (length a.block.ops)) l main.last
 
-    abbrev want : ℕ → ℕ
-    want = owned a.at.func a.at.counted.tables x 0
-
-    both : (earlier : ℕ → ℕ) → ((r : ℕ) → earlier r < want r → have r < want r) → ((r : ℕ) → want r < earlier r → want r < have r) → AreEdgesTo a.at.func a.at.counted.tables number earlier have x y (number f.block + 1) n m own → Arrives p q (jumped false at_end (label_at (code p q) at_end.top (label_of n))) (to_block f x below w) × Arrives p q (jumped false at_end (label_at (code p q) at_end.top (label_of m))) (to_block f y below w)
-    both earlier short more e = (
-      edge l is 0 x goes_x some_x lt_x earlier short more (number f.block + 1) n e.0 e.3 high (λ j b there. a.placed.stands.owns j b (ap (λ z. slice_get z j) e.2 ∙ get_before e.0 e.1 j b there)),
-      edge l is 1 y goes_y some_y lt_y have (λ r lt. lt) (λ r lt. lt) (number f.block + 1 + length e.0) m e.1 e.4 (omega arith) (λ j b there. let far : number f.block + 1 + length e.0 + j ≡ number f.block + 1 + (length e.0 + j) = omega arith in ap (slice_get a.at.new.blocks) far ∙ a.placed.stands.owns (length e.0 + j) b (ap (λ z. slice_get z (length e.0 + j)) e.2 ∙ (get_behind e.0 e.1 j ∙ there))),
-    )
-
-  pub if_arrives : IfsDo → (x : Reg) (y z : ℕ) → a.block.last ≡ If x y z → LastFits (length a.at.func.blocks) f.block a.block.ops (If x y z) → IsLast a.at.func a.at.counted.tables number (owned a.at.func a.at.counted.tables f.block (length a.block.ops)) (If x y z) (number f.block + 1) main.last own → Arrives p q (machine p q at_end) (do_last Fitting p (If x y z) f below w)
+  pub if_arrives : IfsDo → (x : Reg) (y z : ℕ) → a.block.last ≡ If x y z → LastFits (length a.at.func.blocks) f.block a.block.ops (If x y z) → IsEndOf (If x y z) → Arrives p q (machine p q at_end) (do_last Fitting p (If x y z) f below w)
   if_arrives ifs_do x y z is fits form =
-      let edges = both (If x y z) is y z refl refl (omega (arith, fits.0.0)) fits.0.1 (omega (arith, fits.1.0)) fits.1.1 form.0 form.1 (owned a.at.func a.at.counted.tables f.block (length a.block.ops)) (λ r lt. lt) (λ r lt. lt) form.3 in
+      let have : ℕ → ℕ = owned a.at.func a.at.counted.tables f.block (length a.block.ops) in
+      let one = edge (If x y z) is 0 y refl (omega (arith, fits.0.0)) fits.0.1 have (λ r lt. lt) (λ r lt. lt) form.0 form.3 in
+      let other = edge (If x y z) is 1 z refl (omega (arith, fits.1.0)) fits.1.1 have (λ r lt. lt) (λ r lt. lt) form.1 form.4 in
       let here = line_here (If x form.0 form.1) (line.If x.0 (label_of form.0) (label_of form.1)) a.rest form.2 refl in
-      by_test y z (label_of form.0) (label_of form.1) (do_last Fitting p (If x y z) f below w) (machine p q at_end) (ifs_do p (code p q) (heads p q counted) wf x y z (label_of form.0) (label_of form.1) f below w at_end runs here) edges.0 edges.1
+      by_test y z (label_of form.0) (label_of form.1) (do_last Fitting p (If x y z) f below w) (machine p q at_end) (ifs_do p (code p q) (heads p q counted) wf x y z (label_of form.0) (label_of form.1) f below w at_end runs here) one other
 
-  pub if_error_arrives : IfErrorsDo → (x : Reg) (y z source : ℕ) → a.block.last ≡ IfError x y z source → LastFits (length a.at.func.blocks) f.block a.block.ops (IfError x y z source) → IsLast a.at.func a.at.counted.tables number (owned a.at.func a.at.counted.tables f.block (length a.block.ops)) (IfError x y z source) (number f.block + 1) main.last own → Arrives p q (machine p q at_end) (do_last Fitting p (IfError x y z source) f below w)
+  pub if_error_arrives : IfErrorsDo → (x : Reg) (y z source : ℕ) → a.block.last ≡ IfError x y z source → LastFits (length a.at.func.blocks) f.block a.block.ops (IfError x y z source) → IsEndOf (IfError x y z source) → Arrives p q (machine p q at_end) (do_last Fitting p (IfError x y z source) f below w)
   if_error_arrives if_errors_do x y z source is fits form =
       let have : ℕ → ℕ = owned a.at.func a.at.counted.tables f.block (length a.block.ops) in
       let want : ℕ → ℕ = owned a.at.func a.at.counted.tables y 0 in
-      let edges = both (IfError x y z source) is y z refl refl (omega (arith, fits.0.0)) fits.0.1 (omega (arith, fits.1.0)) fits.1.1 form.0 form.1 (put x.0 (want x.0) have) (put_less x.0 (want x.0) have want refl) (put_more x.0 (want x.0) have want refl) form.3 in
+      let one = edge (IfError x y z source) is 0 y refl (omega (arith, fits.0.0)) fits.0.1 (put x.0 (want x.0) have) (put_less x.0 (want x.0) have want refl) (put_more x.0 (want x.0) have want refl) form.0 form.3 in
+      let other = edge (IfError x y z source) is 1 z refl (omega (arith, fits.1.0)) fits.1.1 have (λ r lt. lt) (λ r lt. lt) form.1 form.4 in
       let here = line_here (IfError x form.0 form.1 source) (line.IfError x.0 (label_of form.0) (label_of form.1)) a.rest form.2 refl in
-      by_test y z (label_of form.0) (label_of form.1) (do_last Fitting p (IfError x y z source) f below w) (machine p q at_end) (if_errors_do p (code p q) (heads p q counted) wf x y z source (label_of form.0) (label_of form.1) f below w at_end runs here) edges.0 edges.1
+      by_test y z (label_of form.0) (label_of form.1) (do_last Fitting p (IfError x y z source) f below w) (machine p q at_end) (if_errors_do p (code p q) (heads p q counted) wf x y z source (label_of form.0) (label_of form.1) f below w at_end runs here) one other

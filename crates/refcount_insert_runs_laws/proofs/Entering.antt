@@ -1,5 +1,5 @@
--- Into a block: at the start of a function, at a label, and over the counts of an edge.
-use Rattle.std.proofs.Common.{◌≡◌, refl, sym, ◌∙◌, ap, subst, ℕ, zero, suc, ◌+◌, ◌<◌, arith, false, List, None, ◌∷◌, ◌++◌, Some, drop, ⊎_elim}
+-- Into a block: at the start of a function, at a label, and over detours.
+use Rattle.std.proofs.Common.{◌≡◌, refl, sym, ◌∙◌, ap, subst, ℕ, zero, suc, ◌+◌, ◌<◌, ◌≤◌, arith, false, List, ◌∷◌, ◌++◌, Some, drop, ⊎_elim}
 use Rattle.std.specs.Prelude.{slice_get}
 use Rattle.c_core.specs.declared.code.Line.{Line}
 use Rattle.c_core.specs.declared.code.Line.TheVariants as line
@@ -18,12 +18,13 @@ use Rattle.ir_core.specs.Shape.{Shape}
 use Rattle.ir_core.proofs.LowerLemmas.{place_of, labelled}
 use Rattle.liveness.specs.Paths.{MetAt, entry, BorrowedAt, no_parameter}
 use Rattle.refcount_insert_lines_laws.specs.Matching.{RegsFit, WorldFits}
-use Rattle.refcount_insert_lines_laws.specs.Lines.{CountsDo}
+use Rattle.refcount_insert_rule.specs.Counted.{owned, IsDetour}
+use Rattle.refcount_insert_lines_laws.specs.Lines.{HasCells, CountsDo}
 use Rattle.refcount_insert_runs_laws.proofs.Lists.{drop_next}
 use Rattle.refcount_insert_runs_laws.proofs.Laid.{block_at}
 use Rattle.refcount_insert_runs_laws.proofs.Numbers.{below_or_not}
 use Rattle.refcount_insert_runs_laws.proofs.Heads.{FuncAt}
-use Rattle.refcount_insert_runs_laws.proofs.Counts.{AreCounts}
+use Rattle.refcount_insert_runs_laws.proofs.Counts.{AreCounts, edge_count}
 use Rattle.refcount_insert_runs_laws.proofs.Forms.{body_form}
 use Rattle.refcount_insert_runs_laws.proofs.Placed.{BlockAt, block_placed}
 use Rattle.refcount_insert_runs_laws.proofs.Shapes.{block_fits}
@@ -129,13 +130,10 @@ module _ (p q : Program) (shape : Shape p) where
           refl
           (inside t found.rest same (drop_next found.place (lines_of p q at.new) line.Label (op_lines q placed.stands.main.ops ++ (end_lines label_of number placed.stands.main.last ++ found.rest)) found.at) (regs_past u t past at.func.regs f.regs fit) met lent (stack_past p q u t past f.fn below stack) (world_past u t past p w world))
 
-  -- over a block of counts
-  module _ (counts_do : CountsDo) (f : Frame) (below : List Waiting) (w : World) (at : FuncAt p q f.fn) (k : ℕ) (block : Block) (here : slice_get at.func.blocks k ≡ Some block) (met : MetAt at.func k 0) (lent : (r : ℕ) → BorrowedAt at.func r k 0 → is_unset (f.regs r) ≡ false) (some : 0 < k) (n : ℕ) (counts : List (Op × ℕ)) where
-    abbrev detour : Block
-    detour = record { ops = counts; last = Goto (at.counted.number k); handler = None }
-
+  -- over a detour that goes on to another block
+  module _ (counts_do : CountsDo) (f : Frame) (below : List Waiting) (w : World) (at : FuncAt p q f.fn) (k next : ℕ) (on : (v : MachineState) → v.top.func ≡ f.fn → RegsFit v at.func.regs f.regs v.top.vars → StackAt p q v f.fn v.top.into below v.below → WorldFits p w v → Arrives p q (jumped false v (label_at (code p q) v.top (label_of next))) (to_block f k below w)) where
     abbrev goto : Line
-    goto = line.Goto (label_of (at.counted.number k))
+    goto = line.Goto (label_of next)
 
     abbrev lines_here : List Line
     lines_here = lines_of p q at.new
@@ -143,26 +141,71 @@ module _ (p q : Program) (shape : Shape p) where
     -- from the line of its jump
     from_goto : (v : MachineState) (rest : List Line) → drop v.top.place lines_here ≡ goto ∷ rest → v.top.func ≡ f.fn → RegsFit v at.func.regs f.regs v.top.vars → StackAt p q v f.fn v.top.into below v.below → WorldFits p w v → Arrives p q (machine p q v) (to_block f k below w)
     from_goto v rest e same fit stack world =
-        let goto_is : machine p q v ≡ jumped false v (label_at (code p q) v.top (label_of (at.counted.number k))) = ap (step_at false (code p q) v) (line_in p q f.fn at v.top same goto rest e) in
-        subst (λ z. Arrives p q z (to_block f k below w)) (sym goto_is) (jump f below w at k block here v same fit met lent stack world some)
+        let goto_is : machine p q v ≡ jumped false v (label_at (code p q) v.top (label_of next)) = ap (step_at false (code p q) v) (line_in p q f.fn at v.top same goto rest e) in
+        subst (λ z. Arrives p q z (to_block f k below w)) (sym goto_is) (on v same fit stack world)
 
     -- from the first of its counts
-    from_counts : AreCounts at.func.regs (λ r. is_unset (f.regs r) ≡ false) counts → (t : MachineState) (rest : List Line) → drop t.top.place lines_here ≡ op_lines q counts ++ (goto ∷ rest) → t.top.func ≡ f.fn → RegsFit t at.func.regs f.regs t.top.vars → StackAt p q t f.fn t.top.into below t.below → WorldFits p w t → Arrives p q (Goes t) (to_block f k below w)
-    from_counts are t rest e same fit stack world =
+    from_counts : (counts : List (Op × ℕ)) → AreCounts at.func.regs (λ r. is_unset (f.regs r) ≡ false) counts → (t : MachineState) (rest : List Line) → drop t.top.place lines_here ≡ op_lines q counts ++ (goto ∷ rest) → t.top.func ≡ f.fn → RegsFit t at.func.regs f.regs t.top.vars → StackAt p q t f.fn t.top.into below t.below → WorldFits p w t → Arrives p q (Goes t) (to_block f k below w)
+    from_counts counts are t rest e same fit stack world =
         let r = run_counts p q counts_do f w at counts (goto ∷ rest) t same fit world are e in
         let last = from_goto r.state rest r.at (r.past.func ∙ same) (regs_past t r.state r.past at.func.regs f.regs fit) (stack_past p q t r.state r.past f.fn below stack) (world_past t r.state r.past p w world) in
         arrives_on p q (Goes t) (Goes r.state) (to_block f k below w) r.leads (arrives_on p q (Goes r.state) (machine p q r.state) (to_block f k below w) (one_step p q r.state (machine p q r.state) refl) last)
 
-    pub over : 0 < n → slice_get at.new.blocks n ≡ Some detour → AreCounts at.func.regs (λ r. is_unset (f.regs r) ≡ false) counts → (u : MachineState) → u.top.func ≡ f.fn → RegsFit u at.func.regs f.regs u.top.vars → StackAt p q u f.fn u.top.into below u.below → WorldFits p w u → Arrives p q (jumped false u (label_at (code p q) u.top (label_of n))) (to_block f k below w)
-    over high there are u same fit stack world =
-        let found = label_found q at.new.blocks n detour high there in
+    over : (n : ℕ) (x : Block) → 0 < n → slice_get at.new.blocks n ≡ Some x → x.last ≡ Goto next → AreCounts at.func.regs (λ r. is_unset (f.regs r) ≡ false) x.ops → (u : MachineState) → u.top.func ≡ f.fn → RegsFit u at.func.regs f.regs u.top.vars → StackAt p q u f.fn u.top.into below u.below → WorldFits p w u → Arrives p q (jumped false u (label_at (code p q) u.top (label_of n))) (to_block f k below w)
+    over n x high there goes are u same fit stack world =
+        let found = label_found q at.new.blocks n x high there in
         let a : MachineState = at_place found.place u in
         let t : MachineState = next_line a in
         let past : Past u t = moved u (found.place + 1) in
-        let behind : List Line = op_lines q counts ++ (goto ∷ found.rest) in
-        let label_is : machine p q a ≡ Goes t = ap (step_at false (code p q) a) (line_in p q f.fn at a.top same line.Label behind found.at) in
-        let last = from_counts are t found.rest (drop_next found.place lines_here line.Label behind found.at) same (regs_past u t past at.func.regs f.regs fit) (stack_past p q u t past f.fn below stack) (world_past u t past p w world) in
+        let behind : List Line = op_lines q x.ops ++ (goto ∷ found.rest) in
+        let laid : drop found.place lines_here ≡ line.Label ∷ behind = found.at ∙ ap (λ z. line.Label ∷ (op_lines q x.ops ++ (end_lines label_of n z ++ found.rest))) goes in
+        let label_is : machine p q a ≡ Goes t = ap (step_at false (code p q) a) (line_in p q f.fn at a.top same line.Label behind laid) in
+        let last = from_counts x.ops are t found.rest (drop_next found.place lines_here line.Label behind laid) same (regs_past u t past at.func.regs f.regs fit) (stack_past p q u t past f.fn below stack) (world_past u t past p w world) in
         subst (λ z. Arrives p q (jumped false u z) (to_block f k below w)) (sym (label_in p q f.fn at u.top same (label_of n) ∙ found.there)) (arrives_on p q (Goes a) (Goes t) (to_block f k below w) (one_step p q a (Goes t) label_is) last)
+
+  -- over all detours that are left to a block
+  module _ (counts_do : CountsDo) (f : Frame) (below : List Waiting) (w : World) (at : FuncAt p q f.fn) (k : ℕ) (block : Block) (here : slice_get at.func.blocks k ≡ Some block) (met : MetAt at.func k 0) (lent : (r : ℕ) → BorrowedAt at.func r k 0 → is_unset (f.regs r) ≡ false) (some : 0 < k) where
+    abbrev target : BlockAt at.func at.new at.counted k block
+    target = block_placed at.func at.new at.counted k block here
+
+    abbrev has : ℕ → ℕ → ℕ
+    has = at.counted.at_start
+
+    abbrev wants : ℕ → ℕ
+    wants = owned at.func at.counted.tables k 0
+
+    -- what is left to be counted where a new block begins can be counted
+    abbrev pub CanCount : (ℕ → ℕ) → Type 0
+    CanCount have =
+        ((r : ℕ) → have r < wants r → HasCells at.func.regs r × (is_unset (f.regs r) ≡ false)) × ((r : ℕ) → wants r < have r → HasCells at.func.regs r)
+
+    counts_can : (n : ℕ) (x : Block) (d : IsDetour at.func at.counted.tables at.counted.number at.counted.first at.counted.at_start k n x) → CanCount (has n) → AreCounts at.func.regs (λ r. is_unset (f.regs r) ≡ false) x.ops
+    counts_can n x d can =
+        edge_count at.func.regs (λ r. is_unset (f.regs r) ≡ false) (has n) (has d.next) x.ops d.counts
+        (λ r lt. can.0 r (⊎_elim (λ e. absurd (omega (arith, e, lt))) (λ e. omega (arith, e, lt)) (d.each r)))
+        (λ r lt. can.1 r (⊎_elim (λ e. absurd (omega (arith, e, lt))) (λ e. omega (arith, e, lt)) (d.each r)))
+
+    next_can : (n : ℕ) (x : Block) (d : IsDetour at.func at.counted.tables at.counted.number at.counted.first at.counted.at_start k n x) → CanCount (has n) → CanCount (has d.next)
+    next_can n x d can = (
+      λ r lt. can.0 r (⊎_elim (λ e. omega (arith, e, lt)) (λ e. absurd (omega (arith, e, lt))) (d.each r)),
+      λ r lt. can.1 r (⊎_elim (λ e. omega (arith, e, lt)) (λ e. absurd (omega (arith, e, lt))) (d.each r)),
+    )
+
+    arrived : (n : ℕ) → n ≡ at.counted.number k → (u : MachineState) → u.top.func ≡ f.fn → RegsFit u at.func.regs f.regs u.top.vars → StackAt p q u f.fn u.top.into below u.below → WorldFits p w u → Arrives p q (jumped false u (label_at (code p q) u.top (label_of n))) (to_block f k below w)
+    arrived n e u same fit stack world =
+        subst (λ z. Arrives p q (jumped false u (label_at (code p q) u.top (label_of z))) (to_block f k below w)) (sym e) (jump f below w at k block here u same fit met lent stack world some)
+
+    pub walk : (most n : ℕ) → at.counted.number k ≤ n + most → at.counted.first k ≤ n → n ≤ at.counted.number k → CanCount (has n) → (u : MachineState) → u.top.func ≡ f.fn → RegsFit u at.func.regs f.regs u.top.vars → StackAt p q u f.fn u.top.into below u.below → WorldFits p w u → Arrives p q (jumped false u (label_at (code p q) u.top (label_of n))) (to_block f k below w)
+    walk zero n far low high can u same fit stack world =
+        arrived n (omega (arith, far, high)) u same fit stack world
+    walk (suc most) n far low high can u same fit stack world = ⊎_elim
+        (λ lt.
+        let d = target.stands.detours n low lt in
+        over counts_do f below w at k d.detour.next
+        (λ v is regs stack_at world_at. walk most d.detour.next (omega (arith, far, d.detour.ahead)) (omega (arith, low, d.detour.ahead)) d.detour.within (next_can n d.block d.detour can) v is regs stack_at world_at)
+        n d.block (omega (arith, target.higher some, low)) d.there d.detour.goes (counts_can n d.block d.detour can) u same fit stack world)
+        (λ ge. arrived n (omega (arith, ge, high)) u same fit stack world)
+        (below_or_not n (at.counted.number k))
 
   -- a function begins
   pub begin_at : (f : Frame) (below : List Waiting) (w : World) (at : FuncAt p q f.fn) (block : Block) → slice_get at.func.blocks 0 ≡ Some block → (u : MachineState) → u.top.func ≡ f.fn → u.top.place ≡ 0 → RegsFit u at.func.regs f.regs u.top.vars → ((r : ℕ) → r < at.func.params → is_unset (f.regs r) ≡ false) → StackAt p q u f.fn u.top.into below u.below → WorldFits p w u → At p q (record f { block = 0; place = 0 }) below w u

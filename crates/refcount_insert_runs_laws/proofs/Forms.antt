@@ -16,6 +16,7 @@ use Rattle.ir_core.proofs.ItemLemmas.{end_item}
 use Rattle.liveness.specs.Paths.{is_among, is_target, reads_of, write_of, targets, BorrowedAt}
 use Rattle.refcount_insert_rule.specs.Rule.{ups, downs, IsGroup, IsEdge}
 use Rattle.refcount_insert_rule.specs.Counted.{counts_register, Tables, owned, AreGroups, AreLast, AreAll, AreTurned, IsBody}
+use Rattle.refcount_insert_lines_laws.specs.Lines.{HasCells}
 use Rattle.refcount_insert_runs_laws.proofs.Lists.{within}
 use Rattle.refcount_insert_runs_laws.proofs.Numbers.{counted_cells}
 use Rattle.refcount_insert_runs_laws.proofs.Ways.{borrowed_before}
@@ -130,14 +131,24 @@ module _ (f : Func) (t : Tables f) (number : ℕ → ℕ) (k : ℕ) where
           let block = within f.blocks c lt in
           let first = first_item block.0 in (first.0, ap (λ z. item_of z 0) block.1 ∙ first.1)
 
-      pub edge_counts : (have : ℕ → ℕ) → ((r : ℕ) → have r < owned f t c 0 r → owned f t k end_place r < owned f t c 0 r) → ((r : ℕ) → owned f t c 0 r < have r → owned f t c 0 r < owned f t k end_place r) → (ops : List (Op × ℕ)) → IsEdge have (owned f t c 0) ops → AreCounts f.regs (λ r. BorrowedAt f r k end_place) ops
-      edge_counts have short over ops e =
-          edge_count f.regs (λ r. BorrowedAt f r k end_place) have (owned f t c 0) ops e (λ r lt. let h = edge_short f t k end_place last (end_here last is) r i c goes first_of.0 first_of.1 (short r lt) in (counted_cells f.regs r h.0, h.1)) (λ r lt. counted_cells f.regs r (edge_over f t k end_place last (end_here last is) r i c goes first_of.0 first_of.1 (over r lt)))
+      -- what is short over the edge is lent at the end, and what is over is counted
+      pub edge_lent : (r : ℕ) → owned f t k end_place r < owned f t c 0 r → HasCells f.regs r × BorrowedAt f r k end_place
+      edge_lent r lt =
+          let h = edge_short f t k end_place last (end_here last is) r i c goes first_of.0 first_of.1 lt in
+          (counted_cells f.regs r h.0, h.1)
+
+      pub edge_cells : (r : ℕ) → owned f t c 0 r < owned f t k end_place r → HasCells f.regs r
+      edge_cells r lt =
+          counted_cells f.regs r (edge_over f t k end_place last (end_here last is) r i c goes first_of.0 first_of.1 lt)
+
+      edge_counts : (ops : List (Op × ℕ)) → IsEdge (owned f t k end_place) (owned f t c 0) ops → AreCounts f.regs (λ r. BorrowedAt f r k end_place) ops
+      edge_counts ops e =
+          edge_count f.regs (λ r. BorrowedAt f r k end_place) (owned f t k end_place) (owned f t c 0) ops e edge_lent edge_cells
 
     -- so can those of an end
     end_counts : (last : Last) → b.last ≡ last → LastFits (length f.blocks) k b.ops last → (ops : List (Op × ℕ)) → AreLast f t number (owned f t k end_place) last ops → AreCounts f.regs (λ r. BorrowedAt f r k end_place) ops
     end_counts (Goto c) is fits ops e =
-        edge_counts (Goto c) is 0 c refl fits.1 (owned f t k end_place) (λ r lt. lt) (λ r lt. lt) ops e
+        edge_counts (Goto c) is 0 c refl fits.1 ops e
     end_counts (If x y z) is fits ops e = subst (AreCounts f.regs (λ r. BorrowedAt f r k end_place)) (sym e) tt
     end_counts (IfError x y z n) is fits ops e =
         subst (AreCounts f.regs (λ r. BorrowedAt f r k end_place)) (sym e) tt
@@ -164,7 +175,7 @@ module _ (f : Func) (t : Tables f) (number : ℕ → ℕ) (k : ℕ) where
         let far : length before ≡ 0 + length before = omega arith in
         let is_last : is_turn turn.0 ≡ true = sym (ap ends_in_turn all.4 ∙ turn_behind before turn) ∙ turns in
         let at_turn : item_in f.blocks k (length before) ≡ Some (Do turn.0 turn.1) = item_here (length before) (Do turn.0 turn.1) (ap (λ z. in_block z b.last (length before)) all.4 ∙ item_behind before turn b.last) in
-        let counts : AreCounts f.regs (λ r. BorrowedAt f r k end_place) all.3 = edge_counts (Goto c) is 0 c refl lt (owned f t k end_place) (λ r lt. lt) (λ r lt. lt) all.3 all.7 in
+        let counts : AreCounts f.regs (λ r. BorrowedAt f r k end_place) all.3 = edge_counts (Goto c) is 0 c refl lt all.3 all.7 in
         let earlier : AreCounts f.regs (Before f k turn.0 (length before)) all.3 = counts_by f.regs (λ r. BorrowedAt f r k end_place) (Before f k turn.0 (length before)) all.3 (λ r cells lent. inr (borrowed_before f k (length before) turn.0 at_turn r (turn_writes turn.0 r is_last) (subst (BorrowedAt f r k) size lent))) counts in
         let tail : Form f k (length before) (turn ∷ []) (all.3 ++ (turn ∷ [])) = ([], record { before = all.3; after = []; is = refl; before_count = earlier; after_count = tt }, tt) in
         subst (λ z. Form f k 0 b.ops z) (sym all.5) (subst (λ z. Form f k 0 z (all.2 ++ (all.3 ++ (turn ∷ [])))) (sym all.4) (groups_form before (turn ∷ []) 0 (owned f t k) start whole all.2 all.6 (all.3 ++ (turn ∷ [])) (subst (λ z. Form f k z (turn ∷ []) (all.3 ++ (turn ∷ []))) far tail)))

@@ -13,6 +13,7 @@ use Rattle.ir_core.specs.Registers.{Regs, is_unset}
 use Rattle.ir_core.specs.Effects.{World}
 use Rattle.ir_core.specs.Meaning.{Frame, Waiting, Config, Runs, Fitting, next, do_op, act, step}
 use Rattle.ir_core.specs.Lower.{line_of, op_lines, end_lines, label_of}
+use Rattle.ir_core.specs.Shape.{op_fits}
 use Rattle.ir_core.proofs.PlaceLemmas.{left_goes_on}
 use Rattle.liveness.specs.Paths.{is_among, is_target, reads_of, write_of, MetAt, BorrowedAt}
 use Rattle.refcount_insert_rule.specs.Counted.{IsCountedProgram}
@@ -83,12 +84,12 @@ module _ (p q : Program) (counts_do : CountsDo) (f : Frame) (below : List Waitin
       }
 
   -- what is only lent behind it was lent before, and is not written
-  pub lent_before : MetAt a.at.func f.block f.place → (r : ℕ) → BorrowedAt a.at.func r f.block (f.place + 1) → (is_target (write_of o.0) r ≡ false) × BorrowedAt a.at.func r f.block f.place
-  lent_before met r lent =
+  pub lent_before : op_fits o.0 ≡ true → MetAt a.at.func f.block f.place → (r : ℕ) → BorrowedAt a.at.func r f.block (f.place + 1) → (is_target (write_of o.0) r ≡ false) × BorrowedAt a.at.func r f.block f.place
+  lent_before fits met r lent =
       let one : f.place + 1 ≡ suc f.place = omega arith in
       let later : BorrowedAt a.at.func r f.block (suc f.place) = subst (BorrowedAt a.at.func r f.block) one lent in
       let here = op_here p q f s.top o os a in
-      let calm = borrowed_kept a.at.func f.block f.place o.0 here r met later in
+      let calm = borrowed_kept a.at.func f.block f.place o.0 here r fits met later in
       (calm, borrowed_before a.at.func f.block f.place o.0 here r calm later)
 
   pub met_behind : MetAt a.at.func f.block f.place → MetAt a.at.func f.block (f.place + 1)
@@ -97,7 +98,7 @@ module _ (p q : Program) (counts_do : CountsDo) (f : Frame) (below : List Waitin
       subst (MetAt a.at.func f.block) one (met_next a.at.func f.block f.place o.0 (op_here p q f s.top o os a) met)
 
 module _ (p q : Program) (counted : IsCountedProgram p q) (wf : WellFormed (code p q)) (ops_do : OpsDo) (counts_do : CountsDo) where
-  module _ (f : Frame) (below : List Waiting) (w : World) (s : MachineState) (o : Op × ℕ) (os : List (Op × ℕ)) (a : FrameAt p q f s.top [] (o ∷ os)) (fit : RegsFit s a.at.func.regs f.regs s.top.vars) (met : MetAt a.at.func f.block f.place) (lent : (r : ℕ) → BorrowedAt a.at.func r f.block f.place → is_unset (f.regs r) ≡ false) (stack : StackAt p q s f.fn s.top.into below s.below) (world : WorldFits p w s) (at_home : stays o.0 ≡ true) where
+  module _ (f : Frame) (below : List Waiting) (w : World) (s : MachineState) (o : Op × ℕ) (os : List (Op × ℕ)) (a : FrameAt p q f s.top [] (o ∷ os)) (fits : op_fits o.0 ≡ true) (fit : RegsFit s a.at.func.regs f.regs s.top.vars) (met : MetAt a.at.func f.block f.place) (lent : (r : ℕ) → BorrowedAt a.at.func r f.block f.place → is_unset (f.regs r) ≡ false) (stack : StackAt p q s f.fn s.top.into below s.below) (world : WorldFits p w s) (at_home : stays o.0 ≡ true) where
     abbrev done : Config
     done = do_op Fitting p o.0 f below w
 
@@ -130,7 +131,7 @@ module _ (p q : Program) (counted : IsCountedProgram p q) (wf : WellFormed (code
           let old : StackAt p q t f.fn t.top.into below t.below = stack_past p q s t first.past f.fn below stack in
           let grown : StackAt p q u f.fn t.top.into below t.below = stack_grow p q t u goes.grows f.fn t.top.into below t.below old in
           let new : StackAt p q u f.fn u.top.into below u.below = subst (λ z. StackAt p q u f.fn z below u.below) (sym goes.into) (subst (StackAt p q u f.fn t.top.into below) (sym goes.below) grown) in
-          let r = settle p q counts_do (next f regs) below v u (group p q counts_do f below w s o os a).after os frame after goes.registers (met_behind p q counts_do f below w s o os a met) (λ r l. let h = lent_before p q counts_do f below w s o os a met r l in ap is_unset (same r h.0) ∙ lent r h.1) new goes.world in
+          let r = settle p q counts_do (next f regs) below v u (group p q counts_do f below w s o os a).after os frame after goes.registers (met_behind p q counts_do f below w s o os a met) (λ r l. let h = lent_before p q counts_do f below w s o os a fits met r l in ap is_unset (same r h.0) ∙ lent r h.1) new goes.world in
           comes (next f regs) below v r.state r.leads refl r.at
 
       by_does : (c : Config) (n : Next) → OpDoes p a.at.func.regs f below t c n → Kept f.regs (write_of o.0) c → Arrives p q n c

@@ -45,19 +45,19 @@ module _ (lines_do : LinesDo) (p q : Program) (shape : Shape p) (counted : IsCou
   module _ (f : Frame) (below : List Waiting) (w : World) (s : MachineState) where
     by_op : (x : Op) (source : ℕ) (os : List (Op × ℕ)) (a : FrameAt p q f s.top [] ((x, source) ∷ os)) (fit : RegsFit s a.at.func.regs f.regs s.top.vars) (met : MetAt a.at.func f.block f.place) (lent : (r : ℕ) → BorrowedAt a.at.func r f.block f.place → is_unset (f.regs r) ≡ false) (stack : StackAt p q s f.fn s.top.into below s.below) (world : WorldFits p w s) → Moves p q f below w (machine p q s)
     by_op (Move r y) source os a fit met lent stack world =
-        record { more = 0; arrives = op_arrives p q counted wf lines_do.ops lines_do.counts f below w s (Move r y, source) os a fit met lent stack world refl }
+        record { more = 0; arrives = op_arrives p q counted wf lines_do.ops lines_do.counts f below w s (Move r y, source) os a (op_fits_here f below w s (Move r y) source os a) fit met lent stack world refl }
     by_op (Lit r l) source os a fit met lent stack world =
-        record { more = 0; arrives = op_arrives p q counted wf lines_do.ops lines_do.counts f below w s (Lit r l, source) os a fit met lent stack world refl }
+        record { more = 0; arrives = op_arrives p q counted wf lines_do.ops lines_do.counts f below w s (Lit r l, source) os a (op_fits_here f below w s (Lit r l) source os a) fit met lent stack world refl }
     by_op (Prim to y args) source os a fit met lent stack world =
-        record { more = 0; arrives = op_arrives p q counted wf lines_do.ops lines_do.counts f below w s (Prim to y args, source) os a fit met lent stack world refl }
+        record { more = 0; arrives = op_arrives p q counted wf lines_do.ops lines_do.counts f below w s (Prim to y args, source) os a (op_fits_here f below w s (Prim to y args) source os a) fit met lent stack world refl }
     by_op (Call r g args) source os a fit met lent stack world =
-        call_arrives p q shape counted wf lines_do.counts f below w s (Call r g args) r refl source os a fit met lent stack world (call_reads_hold p f below w r g args) (λ t runs line. (g, lines_do.calls p (code p q) (heads p q counted) wf r g args f below w t runs line))
+        call_arrives p q shape counted wf lines_do.counts f below w s (Call r g args) r refl source os a (op_fits_here f below w s (Call r g args) source os a) fit met lent stack world (call_reads_hold p f below w r g args) (λ t runs line. (g, lines_do.calls p (code p q) (heads p q counted) wf r g args f below w t runs line))
     by_op (Virtual r o n args) source os a fit met lent stack world =
-        call_arrives p q shape counted wf lines_do.counts f below w s (Virtual r o n args) r refl source os a fit met lent stack world (method_reads_hold p f below w (Virtual r o n args) r refl) (λ t runs line. lines_do.methods p (code p q) (heads p q counted) wf (Virtual r o n args) r refl f below w t runs line)
+        call_arrives p q shape counted wf lines_do.counts f below w s (Virtual r o n args) r refl source os a (op_fits_here f below w s (Virtual r o n args) source os a) fit met lent stack world (method_reads_hold p f below w (Virtual r o n args) r refl) (λ t runs line. lines_do.methods p (code p q) (heads p q counted) wf (Virtual r o n args) r refl f below w t runs line)
     by_op (TraitCall r o k n args) source os a fit met lent stack world =
-        call_arrives p q shape counted wf lines_do.counts f below w s (TraitCall r o k n args) r refl source os a fit met lent stack world (method_reads_hold p f below w (TraitCall r o k n args) r refl) (λ t runs line. lines_do.methods p (code p q) (heads p q counted) wf (TraitCall r o k n args) r refl f below w t runs line)
+        call_arrives p q shape counted wf lines_do.counts f below w s (TraitCall r o k n args) r refl source os a (op_fits_here f below w s (TraitCall r o k n args) source os a) fit met lent stack world (method_reads_hold p f below w (TraitCall r o k n args) r refl) (λ t runs line. lines_do.methods p (code p q) (heads p q counted) wf (TraitCall r o k n args) r refl f below w t runs line)
     by_op Turn source os a fit met lent stack world =
-        record { more = 0; arrives = op_arrives p q counted wf lines_do.ops lines_do.counts f below w s (Turn, source) os a fit met lent stack world refl }
+        record { more = 0; arrives = op_arrives p q counted wf lines_do.ops lines_do.counts f below w s (Turn, source) os a (op_fits_here f below w s Turn source os a) fit met lent stack world refl }
     by_op (Inc r) source os a fit met lent stack world =
         let fits : op_fits (Inc r) ≡ true = op_fits_here f below w s (Inc r) source os a in absurd (cc)
     by_op (Dec r) source os a fit met lent stack world =
@@ -70,7 +70,7 @@ module _ (lines_do : LinesDo) (p q : Program) (shape : Shape p) (counted : IsCou
       abbrev state : MachineState
       state = at_end p q shape counted wf lines_do.counts f below w s a fit met lent stack world
 
-      by_last : (l : Last) → a.block.last ≡ l → LastFits (length a.at.func.blocks) f.block a.block.ops l → IsBody a.at.func a.at.counted.tables a.at.counted.number f.block (owned a.at.func a.at.counted.tables f.block) a.block.ops l a.placed.stands.main.ops → IsLast a.at.func a.at.counted.tables a.at.counted.number (owned a.at.func a.at.counted.tables f.block (length a.block.ops)) l (a.at.counted.number f.block + 1) a.placed.stands.main.last a.placed.stands.own → Arrives p q (machine p q state) (do_last Fitting p l f below w)
+      by_last : (l : Last) → a.block.last ≡ l → LastFits (length a.at.func.blocks) f.block a.block.ops l → IsBody a.at.func a.at.counted.tables a.at.counted.number f.block (owned a.at.func a.at.counted.tables f.block) a.block.ops l a.placed.stands.main.ops → IsLast a.at.func a.at.counted.tables a.at.counted.number a.at.counted.first a.at.counted.at_start (owned a.at.func a.at.counted.tables f.block (length a.block.ops)) l a.placed.stands.main.last → Arrives p q (machine p q state) (do_last Fitting p l f below w)
       by_last (Goto c) is fits body form =
           goto_arrives p q shape counted wf lines_do.counts f below w s a fit met lent stack world c is fits form
       by_last (If x y z) is fits body form =
@@ -78,9 +78,9 @@ module _ (lines_do : LinesDo) (p q : Program) (shape : Shape p) (counted : IsCou
       by_last (IfError x y z n) is fits body form =
           if_error_arrives p q shape counted wf lines_do.counts f below w s a fit met lent stack world lines_do.if_errors x y z n is fits form
       by_last (Return x) is fits body form =
-          return_arrives p q shape counted wf lines_do.counts f below w s a fit met lent stack world lines_do.returns lines_do.ends x form.0
+          return_arrives p q shape counted wf lines_do.counts f below w s a fit met lent stack world lines_do.returns lines_do.ends x form
       by_last Unreachable is fits body form =
-          unreachable_arrives p q shape counted wf lines_do.counts f below w s a fit met lent stack world fits body form.0
+          unreachable_arrives p q shape counted wf lines_do.counts f below w s a fit met lent stack world fits body form
 
       end_arrives : Arrives p q (machine p q s) (step Fitting p (Runs f below w))
       end_arrives =

@@ -7,8 +7,9 @@ use Rattle.ir_core.specs.declared.code.Last.{Last}
 use Rattle.ir_core.specs.declared.code.Func.{Func}
 use Rattle.ir_core.specs.Bare.{IsBare}
 use Rattle.ir_core.specs.Items.{Item, Do, End, item_in}
+use Rattle.ir_core.specs.Shape.{op_fits}
 use Rattle.liveness.specs.Paths.{is_among, is_target, reads_of, write_of, reads, writes, targets, Goes, passes, fails, jumps, LiveAt, reads_here, goes_on, MetAt, onward, OwnedAt, no_parameter, written, kept, BorrowedAt}
-use Rattle.liveness.proofs.OwnedLemmas.{no_lent}
+use Rattle.liveness.proofs.OwningLemmas.{fits_owning}
 
 module _ (f : Func) where
   -- what comes to a place that is no start of a block came from the place before it
@@ -79,13 +80,13 @@ module _ (f : Func) where
         borrowed_before lent =
             λ owned. lent (kept b p b (suc p) (Do o line) owned here calm (passes b p o here))
 
-      -- and what is written, where a path comes, is not
-      pub borrowed_kept : MetAt f b p → BorrowedAt f r b (suc p) → is_target (write_of o) r ≡ false
-      borrowed_kept met lent = by (is_target (write_of o) r) refl
+      -- and what is written by what fits, where a path comes, is not
+      pub borrowed_kept : op_fits o ≡ true → MetAt f b p → BorrowedAt f r b (suc p) → is_target (write_of o) r ≡ false
+      borrowed_kept fits met lent = by (is_target (write_of o) r) refl
         where
           by : (z : Bool) → is_target (write_of o) r ≡ z → z ≡ false
           by false e = refl
-          by true e = absurd (lent (written b p b (suc p) (Do o line) met here e (no_lent (Do o line)) (passes b p o here)))
+          by true e = absurd (lent (written b p b (suc p) (Do o line) met here e (fits_owning o fits) (passes b p o here)))
 
   -- over an edge
   module _ (b p i t : ℕ) (l : Last) (here : item_in f.blocks b p ≡ Some (End l)) (goes : slice_get (targets l) i ≡ Some t) where

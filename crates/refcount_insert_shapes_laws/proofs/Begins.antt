@@ -43,6 +43,10 @@ none_short : (b : Bool) (x y : ℕ) → x ≤ y → cond b (0 + x - y) 0 ≡ 0
 none_short true x y le = omega (arith, le)
 none_short false x y le = refl
 
+no_detours : (xs : List Block) → length xs ≡ 0 → xs ≡ []
+no_detours [] e = refl
+no_detours (x ∷ xs) e = absurd (omega (arith, e))
+
 -- ---- the first place of a function that begins with a turn
 module _ (f : Func) {source : ℕ} (first : item_in f.blocks 0 0 ≡ Some (Do Turn source)) where
   -- one comes to the second place from the first one alone
@@ -112,13 +116,14 @@ module _ (f : Func) {source : ℕ} (first : item_in f.blocks 0 0 ≡ Some (Do Tu
         let g = first_group o all.3.0 is all.3.3 in
         (o, (g.0 ++ all.3.1) ++ all.1, all.2 ∙ ap (λ l. l ++ all.1) (all.3.2 ∙ ap (λ l. l ++ all.3.1) g.1), is)
 
-    begins_by : (p : Program) (n : ℕ) (bs blocks : List Block) → item_in bs 0 0 ≡ Some (Do Turn source) → BlocksFit n 0 bs → AreBlocks f t number 0 0 bs blocks → slice_get (lines_from p 0 blocks) 0 ≡ Some line.Turn
-    begins_by p n [] blocks e fits are = absurd (cc)
-    begins_by p n (b ∷ bs) blocks e fits are =
-        let op = first_op n b.ops are.0.ops b.last e fits.0.last are.5 in
-        let rest = are.1 ++ are.2 in
-        ap (λ bs. slice_get (lines_from p 0 bs) 0) are.3
-        ∙ (ap (λ ops. slice_get ((op_lines p ops ++ end_lines label_of 0 are.0.last) ++ lines_from p 1 rest) 0) op.2 ∙ ap (λ o. Some (line_of p o)) op.3)
+    module _ (first_of : ℕ → ℕ) (at_start : ℕ → ℕ → ℕ) where
+      begins_by : (p : Program) (n : ℕ) (bs blocks : List Block) → number 0 ≡ 0 → item_in bs 0 0 ≡ Some (Do Turn source) → BlocksFit n 0 bs → AreBlocks f t number first_of at_start 0 0 bs blocks → slice_get (lines_from p 0 blocks) 0 ≡ Some line.Turn
+      begins_by p n [] blocks none e fits are = absurd (cc)
+      begins_by p n (b ∷ bs) blocks none e fits are =
+          let op = first_op n b.ops are.1.ops b.last e fits.0.last are.8 in
+          let whole : blocks ≡ are.1 ∷ are.2 = are.3 ∙ ap (λ l. l ++ (are.1 ∷ are.2)) (no_detours are.0 (omega (arith, none, are.5))) in
+          ap (λ bs. slice_get (lines_from p 0 bs) 0) whole
+          ∙ (ap (λ ops. slice_get ((op_lines p ops ++ end_lines label_of 0 are.1.last) ++ lines_from p 1 are.2) 0) op.2 ∙ ap (λ o. Some (line_of p o)) op.3)
 
-    pub begins : (p : Program) (n : ℕ) (blocks : List Block) → BlocksFit n 0 f.blocks → AreBlocks f t number 0 0 f.blocks blocks → slice_get (lines_from p 0 blocks) 0 ≡ Some line.Turn
-    begins p n blocks fits are = begins_by p n f.blocks blocks first fits are
+      pub begins : (p : Program) (n : ℕ) (blocks : List Block) → number 0 ≡ 0 → BlocksFit n 0 f.blocks → AreBlocks f t number first_of at_start 0 0 f.blocks blocks → slice_get (lines_from p 0 blocks) 0 ≡ Some line.Turn
+      begins p n blocks none fits are = begins_by p n f.blocks blocks none first fits are

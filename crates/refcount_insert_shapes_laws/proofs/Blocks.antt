@@ -1,5 +1,5 @@
--- The blocks with counts end as their shape wants it: what goes to a higher block still does, also by way of a block for the counts of an edge,
--- and a jump back stays behind its turn.
+-- The blocks with counts end as their shape wants it: what goes to a higher block still does, also by way of detours, and a jump back
+-- stays behind its turn.
 use Rattle.std.proofs.Common.{◌≡◌, ◌⊎◌, inl, inr, ⊎_elim, refl, sym, ◌∙◌, ap, subst, ℕ, zero, suc, ◌+◌, ◌-◌, ◌<◌, ◌≤◌, arith, Bool, true, false, cond, List, [], ◌∷◌, ◌++◌, length, length-append, append_assoc}
 use Rattle.std.specs.Prelude.{nat_lt}
 use Rattle.std.proofs.lemmas.Bool.{ltb-true}
@@ -11,7 +11,7 @@ use Rattle.ir_core.specs.declared.code.Block.{Block}
 use Rattle.ir_core.specs.declared.code.Func.{Func}
 use Rattle.ir_core.specs.Shape.{is_turn, ends_in_turn, IsHigher, LastFits}
 use Rattle.c_core_ownership_laws.specs.Shares.{put}
-use Rattle.refcount_insert_rule.specs.Counted.{counts_register, Tables, owned, wanted, AreGroups, AreAll, AreTurned, IsBody, IsEdgeTo, AreEdgesTo, IsLast, AreBlocks}
+use Rattle.refcount_insert_rule.specs.Counted.{counts_register, Tables, owned, wanted, AreGroups, AreAll, AreTurned, IsBody, AreDetours, IsEdgeTo, IsLast, AreBlocks}
 use Rattle.refcount_insert_shapes_laws.proofs.Jumps.{LastsFit}
 use Rattle.refcount_insert_shapes_laws.proofs.Bodies.{put_some, AllOps, Owns, owned_owns, edge_is, body_is}
 
@@ -20,19 +20,23 @@ turn_ends [] o = refl
 turn_ends (x ∷ []) o = refl
 turn_ends (x ∷ y ∷ xs) o = turn_ends (y ∷ xs) o
 
--- ---- where the old blocks stand among the new ones
-module _ (f : Func) (t : Tables f) (number : ℕ → ℕ) where
-  pub numbers : (k m : ℕ) (bs blocks : List Block) → AreBlocks f t number k m bs blocks → (j : ℕ) → j < length bs → (m + j ≤ number (k + j)) × (number (k + j) < m + length blocks)
+-- ---- where the old blocks stand among the new ones, and the detours to them
+module _ (f : Func) (t : Tables f) (number first : ℕ → ℕ) (at_start : ℕ → ℕ → ℕ) where
+  pub numbers : (k m : ℕ) (bs blocks : List Block) → AreBlocks f t number first at_start k m bs blocks → (j : ℕ) → j < length bs → (m + j ≤ first (k + j)) × (first (k + j) ≤ number (k + j)) × (number (k + j) < m + length blocks)
   numbers k m [] blocks are j lt = absurd (omega (arith, lt))
   numbers k m (b ∷ bs) blocks are zero lt =
       let z : k + 0 ≡ k = omega arith in
-      let at : number (k + 0) ≡ m = ap number z ∙ are.4 in
-      (omega (arith, at), omega (arith, at, ap length are.3))
+      let low : first (k + 0) ≡ m = ap first z ∙ are.4 in
+      let at : number (k + 0) ≡ m + length are.0 = ap number z ∙ are.5 in
+      let size = length-append are.0 (are.1 ∷ are.2) in
+      (omega (arith, low), omega (arith, low, at), omega (arith, at, ap length are.3, size))
   numbers k m (b ∷ bs) blocks are (suc j) lt =
       let z : k + suc j ≡ suc k + j = omega arith in
+      let low : first (k + suc j) ≡ first (suc k + j) = ap first z in
       let at : number (k + suc j) ≡ number (suc k + j) = ap number z in
-      let h = numbers (suc k) (m + 1 + length are.1) bs are.2 are.7 j (omega (arith, lt)) in
-      (omega (arith, at, h.0), omega (arith, at, h.1, ap length are.3, length-append are.1 are.2))
+      let size = length-append are.0 (are.1 ∷ are.2) in
+      let h = numbers (suc k) (m + length are.0 + 1) bs are.2 are.10 j (omega (arith, lt)) in
+      (omega (arith, low, h.0), omega (arith, low, at, h.1), omega (arith, at, h.2, ap length are.3, size))
 
 -- ---- the blocks: registers that may be tested, those that may be returned, and operations
 module _ (D R : ℕ → Type 0) (O : Op → Type 0) where
@@ -64,7 +68,7 @@ module _ (D R : ℕ → Type 0) (O : Op → Type 0) where
       let z : n + suc (length xs) ≡ suc n + length xs = omega arith in
       (a.0, blocks_append size (suc n) xs ys a.1 (subst (λ k. BlocksAre size k ys) z b))
 
-  module _ (f : Func) (t : Tables f) (number : ℕ → ℕ) (counts : (r : ℕ) → counts_register f.regs r ≡ true → O (Inc record { 0 = r }) × O (Dec record { 0 = r }) × O (XDec record { 0 = r })) where
+  module _ (f : Func) (t : Tables f) (number first : ℕ → ℕ) (at_start : ℕ → ℕ → ℕ) (counts : (r : ℕ) → counts_register f.regs r ≡ true → O (Inc record { 0 = r }) × O (Dec record { 0 = r }) × O (XDec record { 0 = r })) where
     -- a jump behind these operations goes up, or stands behind a turn
     turn_kept : (k b : ℕ) (at : ℕ → ℕ → ℕ) (old ops : List (Op × ℕ)) → IsBody f t number k at old (Goto b) ops → (k < b) ⊎ (ends_in_turn old ≡ true) → (k < b) ⊎ (ends_in_turn ops ≡ true)
     turn_kept k b at old ops body fits = by (nat_lt k b) refl body
@@ -81,118 +85,97 @@ module _ (D R : ℕ → Type 0) (O : Op → Type 0) where
     none_are at [] ops e g = g
     none_are at (o ∷ os) ops e g = absurd (cc)
 
+    -- detours to a block that is there, from new number n on
+    detours_are : (size b n : ℕ) (xs : List Block) → AreDetours f t number first at_start b n xs → number b < size → BlocksAre size n xs
+    detours_are size b n [] h inside = tt
+    detours_are size b n (x ∷ xs) h inside =
+        let d = h.0 in
+        let lasts : LastFits size n x.ops (Goto d.next) =
+        (omega (arith, d.ahead), omega (arith, d.within, inside), inl d.ahead) in
+        let behind : Owns O f t number (at_start d.next) =
+        λ r le. ⊎_elim (λ e. d.owns r (omega (arith, e, le))) (λ e. owned_owns O f t number b 0 r (omega (arith, e, le))) (d.each r) in (
+          record {
+            last = subst (LastFits size n x.ops) (sym d.goes) lasts;
+            ops = edge_is O f t number counts (at_start n) (at_start d.next) x.ops d.owns behind d.counts;
+            end = subst EndIs (sym d.goes) tt;
+          },
+          detours_are size b (suc n) xs h.1 inside,
+        )
+
     -- of so many old blocks and new ones
-    module _ (n size : ℕ) (known : (b : ℕ) → b < n → (b ≤ number b) × (number b < size)) where
-      -- an edge of block m, whose counts would stand in block x
-      edge_higher : (have : ℕ → ℕ) (m b x to : ℕ) (own : List Block) → IsEdgeTo f t number have b x to own → m < x → m < number b → x + length own ≤ number b → number b < size → IsHigher size m to
-      edge_higher have m b x to own e lt up le inside =
-          ⊎_elim (λ a. (omega (arith, a.0, up), omega (arith, a.0, inside)))
-          (λ a. (omega (arith, a.0, lt), omega (arith, a.0, ap length a.2, le, inside))) e
-
-      edge_blocks : (have : ℕ → ℕ) (b x to : ℕ) (own : List Block) → Owns O f t number have → IsEdgeTo f t number have b x to own → x + length own ≤ number b → 0 < number b → number b < size → BlocksAre size x own
-      edge_blocks have b x to own h e le some inside =
-          ⊎_elim (λ a. subst (BlocksAre size x) (sym a.1) tt)
-          (λ a. subst (BlocksAre size x) (sym a.2) (
-            record {
-              last = (some, inside, inl (omega (arith, ap length a.2, le)));
-              ops = edge_is O f t number counts have (wanted f t number b) a.1 h (owned_owns O f t number b 0) a.3;
-              end = tt;
-            },
-            tt,
-          )) e
-
+    module _ (n size : ℕ) (known : (b : ℕ) → b < n → (b ≤ first b) × (first b ≤ number b) × (number b < size)) where
       -- what follows from the old end of block k for the new one of block m, which has these operations
-      module _ (k m : ℕ) (old ops : List (Op × ℕ)) (up : k ≤ m) (own : List Block) (ahead : (b : ℕ) → k < b → b < n → m + 1 + length own ≤ number b) where
+      module _ (k m : ℕ) (old ops : List (Op × ℕ)) (up : k ≤ m) (ahead : (b : ℕ) → k < b → b < n → m < first b) where
         abbrev have : ℕ → ℕ
         have = owned f t k (length old)
 
         abbrev Ends : Last → Type 0
-        Ends last = LastFits size m ops last × EndIs last × BlocksAre size (m + 1) own
+        Ends last = LastFits size m ops last × EndIs last
 
-        have_owns : Owns O f t number have
-        have_owns = owned_owns O f t number k (length old)
+        -- an edge to a block
+        edge : (here : ℕ → ℕ) (b to : ℕ) → IsEdgeTo f t number first at_start here b to → IsHigher n k b → IsHigher size m to
+        edge here b to e higher =
+            let low = ahead b higher.0 higher.1 in
+            let high = known b higher.1 in
+            (omega (arith, low, e.0), omega (arith, e.1, high.2))
 
-        edges : (first second : ℕ → ℕ) (a b p q : ℕ) → Owns O f t number first → Owns O f t number second → AreEdgesTo f t number first second a b (m + 1) p q own → IsHigher n k a → IsHigher n k b → IsHigher size m p × IsHigher size m q × BlocksAre size (m + 1) own
-        edges first second a b p q h i e one two =
-            let size_own = length-append e.0 e.1 in
-            let all = ap length e.2 in
-            let x = ahead a one.0 one.1 in
-            let y = ahead b two.0 two.1 in
-            let some : m < number a = omega (arith, x) in
-            let other : m < number b = omega (arith, y) in
-            let le : m + 1 + length e.0 ≤ number a = omega (arith, x, all, size_own) in
-            let more : m + 1 + length e.0 + length e.1 ≤ number b = omega (arith, y, all, size_own) in (
-              edge_higher first m a (m + 1) p e.0 e.3 (omega arith) some le (known a one.1).1,
-              edge_higher second m b (m + 1 + length e.0) q e.1 e.4 (omega arith) other more (known b two.1).1,
-              subst (BlocksAre size (m + 1)) (sym e.2)
-                  (blocks_append size (m + 1) e.0 e.1 (edge_blocks first a (m + 1) p e.0 h e.3 le (omega (arith, some)) (known a one.1).1)
-                  (edge_blocks second b (m + 1 + length e.0) q e.1 i e.4 more (omega (arith, other)) (known b two.1).1)),
-            )
-
-        -- on the side of the error the register may have what is wanted
-        error_owns : (x a : ℕ) → Owns O f t number (put x (wanted f t number a x) have)
-        error_owns x a r le =
-            put_some (λ j. counts_register f.regs j ≡ true) x (wanted f t number a x) have r (owned_owns O f t number a 0 x) have_owns le
-
-        new_end : (last new : Last) → LastFits n k old last → EndIs last → IsBody f t number k (owned f t k) old last ops → IsLast f t number have last (m + 1) new own → Ends new
+        new_end : (last new : Last) → LastFits n k old last → EndIs last → IsBody f t number k (owned f t k) old last ops → IsLast f t number first at_start have last new → Ends new
         new_end (Goto b) new fits end body is =
-            subst Ends (sym is.0) (
+            let high = known b fits.1 in
+            subst Ends (sym is) (
               (
-                omega (arith, fits.0, (known b fits.1).0),
-                (known b fits.1).1,
-                ⊎_elim (λ l. inl (omega (arith, ahead b l fits.1))) (λ turn. inr turn) (turn_kept k b (owned f t k) old ops body fits.2),
+                omega (arith, fits.0, high.0, high.1),
+                high.2,
+                ⊎_elim (λ l. inl (omega (arith, ahead b l fits.1, high.1))) (λ turn. inr turn) (turn_kept k b (owned f t k) old ops body fits.2),
               ),
               tt,
-              subst (BlocksAre size (m + 1)) (sym is.1) tt,
             )
         new_end (If x a b) new fits end body is =
-            let e = edges have have a b is.0 is.1 have_owns have_owns is.3 fits.0 fits.1 in
-            subst Ends (sym is.2) ((e.0, e.1), end, e.2)
+            subst Ends (sym is.2) ((edge have a is.0 is.3 fits.0, edge have b is.1 is.4 fits.1), end)
         new_end (IfError x a b line) new fits end body is =
-            let e = edges (put x.0 (wanted f t number a x.0) have) have a b is.0 is.1 (error_owns x.0 a) have_owns is.3 fits.0 fits.1 in
-            subst Ends (sym is.2) ((e.0, e.1), end, e.2)
-        new_end (Return x) new fits end body is =
-            subst Ends (sym is.0) (tt, end, subst (BlocksAre size (m + 1)) (sym is.1) tt)
+            subst Ends (sym is.2) ((edge (put x.0 (wanted f t number a x.0) have) a is.0 is.3 fits.0, edge have b is.1 is.4 fits.1), end)
+        new_end (Return x) new fits end body is = subst Ends (sym is) (tt, end)
         new_end Unreachable new fits end body is =
             let groups : body.0 ≡ [] = none_are (owned f t k) old body.0 fits.1 body.3 in
             let none : ops ≡ [] = body.2 ∙ (ap (λ l. l ++ body.1) groups ∙ body.4) in
-            subst Ends (sym is.0) ((omega (arith, fits.0, up), none), tt, subst (BlocksAre size (m + 1)) (sym is.1) tt)
+            subst Ends (sym is) ((omega (arith, fits.0, up), none), tt)
 
       -- ---- all blocks
-      new_blocks : (k m : ℕ) (bs blocks : List Block) → AreBlocks f t number k m bs blocks → k + length bs ≡ n → m + length blocks ≡ size → k ≤ m → BlocksAre n k bs → BlocksAre size m blocks
+      new_blocks : (k m : ℕ) (bs blocks : List Block) → AreBlocks f t number first at_start k m bs blocks → k + length bs ≡ n → m + length blocks ≡ size → k ≤ m → BlocksAre n k bs → BlocksAre size m blocks
       new_blocks k m [] blocks are count all up h = subst (BlocksAre size m) (sym are) tt
       new_blocks k m (b ∷ bs) blocks are count all up h =
-          let main : Block = are.0 in
-          let own : List Block = are.1 in
+          let detours : List Block = are.0 in
+          let main : Block = are.1 in
           let rest : List Block = are.2 in
-          let total : length blocks ≡ suc (length own + length rest) = ap length are.3 ∙ ap suc (length-append own rest) in
-          let ahead : (x : ℕ) → k < x → x < n → m + 1 + length own ≤ number x = λ x lt in_old.
+          let at : ℕ = m + length detours in
+          let total : length blocks ≡ length detours + suc (length rest) = ap length are.3 ∙ length-append detours (main ∷ rest) in
+          let ahead : (x : ℕ) → k < x → x < n → at < first x = λ x lt in_old.
           (let z : suc k + (x - suc k) ≡ x = omega (arith, lt) in
-          let step = numbers f t number (suc k) (m + 1 + length own) bs rest are.7 (x - suc k) (omega (arith, lt, in_old, count)) in
-          omega (arith, step.0, ap number z)) in
-          let end = new_end k m b.ops main.ops up own ahead b.last main.last h.0.last h.0.end are.5 are.6 in
-          let first : BlockIs size m main = record {
+          let step = numbers f t number first at_start (suc k) (at + 1) bs rest are.10 (x - suc k) (omega (arith, lt, in_old, count)) in
+          omega (arith, step.0, ap first z)) in
+          let end = new_end k at b.ops main.ops (omega (arith, up)) ahead b.last main.last h.0.last h.0.end are.8 are.9 in
+          let here : BlockIs size at main = record {
             last = end.0;
-            ops = body_is O f t number counts k (owned f t k) b.ops b.last main.ops (λ p. owned_owns O f t number k p) h.0.ops are.5;
+            ops = body_is O f t number counts k (owned f t k) b.ops b.last main.ops (λ p. owned_owns O f t number k p) h.0.ops are.8;
             end = end.1;
           } in
-          let others : BlocksAre size (m + 1 + length own) rest = new_blocks (suc k) (m + 1 + length own) bs rest are.7 (omega (arith, count)) (omega (arith, all, total)) (omega (arith, up)) h.1 in
-          let z : m + 1 ≡ suc m = omega arith in
+          let others : BlocksAre size (at + 1) rest = new_blocks (suc k) (at + 1) bs rest are.10 (omega (arith, count)) (omega (arith, all, total)) (omega (arith, up)) h.1 in
+          let z : at + 1 ≡ suc at = omega arith in
           subst (BlocksAre size m) (sym are.3)
-          (first, subst (λ i. BlocksAre size i (own ++ rest)) z (blocks_append size (m + 1) own rest end.2 others))
+          (blocks_append size m detours (main ∷ rest) (detours_are size k m detours are.7 (omega (arith, are.5, all, total))) (here, subst (λ i. BlocksAre size i rest) z others))
 
-    pub blocks_are : (blocks : List Block) → AreBlocks f t number 0 0 f.blocks blocks → BlocksAre (length f.blocks) 0 f.blocks → BlocksAre (length blocks) 0 blocks
+    pub blocks_are : (blocks : List Block) → AreBlocks f t number first at_start 0 0 f.blocks blocks → BlocksAre (length f.blocks) 0 f.blocks → BlocksAre (length blocks) 0 blocks
     blocks_are blocks are h =
-        let known : (b : ℕ) → b < length f.blocks → (b ≤ number b) × (number b < length blocks) = λ b lt.
+        let known : (b : ℕ) → b < length f.blocks → (b ≤ first b) × (first b ≤ number b) × (number b < length blocks) = λ b lt.
         (let z : 0 + b ≡ b = omega arith in
-        let at = numbers f t number 0 0 f.blocks blocks are b lt in
-        (omega (arith, at.0, ap number z), omega (arith, at.1, ap number z))) in
+        let at = numbers f t number first at_start 0 0 f.blocks blocks are b lt in
+        (omega (arith, at.0, ap first z), omega (arith, at.1, ap first z, ap number z), omega (arith, at.2, ap number z))) in
         let count : 0 + length f.blocks ≡ length f.blocks = omega arith in
         let all : 0 + length blocks ≡ length blocks = omega arith in
         let up : 0 ≤ 0 = omega arith in
         new_blocks (length f.blocks) (length blocks) known 0 0 f.blocks blocks are count all up h
 
 -- a function with blocks still has some
-pub some_blocks : (f : Func) (t : Tables f) (number : ℕ → ℕ) (blocks : List Block) → AreBlocks f t number 0 0 f.blocks blocks → 0 < length f.blocks → 0 < length blocks
-some_blocks f t number blocks are lt =
-    let at = numbers f t number 0 0 f.blocks blocks are 0 lt in omega (arith, at.1)
+pub some_blocks : (f : Func) (t : Tables f) (number first : ℕ → ℕ) (at_start : ℕ → ℕ → ℕ) (blocks : List Block) → AreBlocks f t number first at_start 0 0 f.blocks blocks → 0 < length f.blocks → 0 < length blocks
+some_blocks f t number first at_start blocks are lt =
+    let at = numbers f t number first at_start 0 0 f.blocks blocks are 0 lt in omega (arith, at.2)

@@ -49,10 +49,10 @@ module _ (p q : Program) (counted : IsCountedProgram p q) (shape : Shape p) wher
       let before : BlocksAre (D (lower p) old.vars old.ret p) (R (lower p) old.vars old.ret p) (O (lower p) old.vars old.ret p) (length f.blocks) 0 f.blocks =
       blocks_of (lower p) old.vars old.ret p (length f.blocks) 0 f.blocks blocks (lines_from_all (lower p) old.vars old.ret old.lines named.1 two.0) in
       let after : BlocksAre (D (lower p) old.vars old.ret p) (R (lower p) old.vars old.ret p) (O (lower p) old.vars old.ret p) (length g.blocks) 0 g.blocks =
-      blocks_are (D (lower p) old.vars old.ret p) (R (lower p) old.vars old.ret p) (O (lower p) old.vars old.ret p) f c.tables c.number (counts_are (lower p) old.ret p f.regs) g.blocks c.blocks before in
+      blocks_are (D (lower p) old.vars old.ret p) (R (lower p) old.vars old.ret p) (O (lower p) old.vars old.ret p) f c.tables c.number c.first c.at_start (counts_are (lower p) old.ret p f.regs) g.blocks c.blocks before in
       let none : 0 + length g.blocks ≡ length g.blocks = omega arith in
       let lines : LinesAre (lower p) old.vars old.ret new.lines = of_blocks (lower p) old.vars old.ret p (length g.blocks) c.few 0 g.blocks none after in
-      let some : 0 < length g.blocks = some_blocks f c.tables c.number g.blocks c.blocks (has_blocks p f.blocks four.1) in
+      let some : 0 < length g.blocks = some_blocks f c.tables c.number c.first c.at_start g.blocks c.blocks (has_blocks p f.blocks four.1) in
       let lead : lines_lead_on new.lines ≡ true =
       and_from (jumps_fit (label_places new.lines) 0 false new.lines) (is_leaving (slice_get new.lines (length new.lines - 1)))
       (jumps_lead p g.blocks (lasts_fit (D (lower p) old.vars old.ret p) (R (lower p) old.vars old.ret p) (O (lower p) old.vars old.ret p) (length g.blocks) 0 g.blocks after))
@@ -85,7 +85,7 @@ module _ (p q : Program) (counted : IsCountedProgram p q) (shape : Shape p) wher
       let one = and_parts (is_identifier old.name) (nat_le old.params (length old.vars) && spelled_body old) spelled in
       let two = and_parts (nat_le old.params (length old.vars)) (spelled_body old) one.1 in
       let h : IsNew n f g = is_new n f g c blocks two.1 fit in
-      let first : slice_get new.lines 0 ≡ Some line.Turn = begins f turn c.tables c.number p (length f.blocks) g.blocks blocks c.blocks in (
+      let first : slice_get new.lines 0 ≡ Some line.Turn = begins f turn c.tables c.number c.first c.at_start p (length f.blocks) g.blocks c.begins blocks c.blocks in (
         and_from (is_identifier new.name) (nat_le new.params (length new.vars) && spelled_body new) one.0
             (and_from (nat_le new.params (length new.vars)) (spelled_body new) two.0 h.body),
         h.fits (or_right (bytes_eq new.name []) (is_turn_at (slice_get new.lines 0)) (ap is_turn_at first)),
