@@ -19,7 +19,7 @@ use Rattle.cell_heap.proofs.MarkLemmas.{Narrows, MakesNoKey, marked_written, mar
 use Rattle.cell_heap.proofs.RefillLemmas.{rewritten}
 
 -- ---- what is no key of a dict stays none
-abbrev KeepsKey : (machine.Content → machine.Content) → Type 0
+abbrev pub KeepsKey : (machine.Content → machine.Content) → Type 0
 KeepsKey f = (x : machine.Content) → key_in (f x) ≡ key_in x
 
 pub same_key_in : KeepsKey (λ x. x)

@@ -4,5 +4,6 @@ pub mod ReleaseLemmas
 pub mod ItemLemmas
 pub mod RefillLemmas
 pub mod KeptLemmas
+pub mod ChangeLemmas
 pub mod PairLemmas
 mod Examples

@@ -5,3 +5,4 @@ pub mod Pairs
 pub mod Seen
 pub mod Held
 pub mod Marks
+pub mod Lends

@@ -1,11 +1,13 @@
 //! Cells in an arena. A key names the cell of its serial: it stands in the slot of the key, where the arena made the key, and
 //! only a key whose cell is gone, or that another arena made, has to be looked for in all slots.
 ghost use Rattle.std.specs.Prelude.{◌≡◌, nat_lt};
-ghost use Rattle.std.specs.Option.{option_map, option_copied};
+ghost use Rattle.std.specs.Borrow.{sem};
+ghost use Rattle.std.specs.Option.{option_map, option_copied, option_copied_mut};
 ghost use Rattle.c_core.specs.Cells.{count_at};
 ghost use Rattle.slot_arena.specs.Contents.{key_at};
 ghost use Rattle.cell_heap.specs.Contents.{number_of};
 ghost use Rattle.cell_heap.specs.Held.{cell_at, cell_of, cells_of};
+ghost use Rattle.cell_heap.specs.Lends.{LendsCell, value_under};
 
 use crate::content::Content;
 use slot_arena::{Arena, Key};
@@ -37,6 +39,17 @@ pub(crate) fn lookup(cells: &Arena<CountedCell>, key: Key) -> Option<&CountedCel
             None => None,
             Some(key) => cells.get(key),
         },
+    }
+}
+
+/// The cell that a key names, for a change, if it is there.
+pub(crate) fn lookup_mut(cells: &mut Arena<CountedCell>, key: Key) -> Option<&mut CountedCell>
+    ensures* writes_back { sem 𝓛 (LendsCell cells.entry (number_of key) result) }
+    ensures cell { option_copied_mut result ≡ value_under cells.old (number_of key) }
+{
+    match found(cells, key) {
+        None => None,
+        Some(key) => cells.get_mut(key),
     }
 }
 

@@ -1,4 +1,4 @@
-use crate::cells::{CountedCell, found, lookup};
+use crate::cells::{CountedCell, found, lookup, lookup_mut};
 use crate::content::Content;
 use crate::dicts::{has_cell, mark_of_word, place_of_key};
 use crate::release::give;
@@ -107,16 +107,11 @@ impl Heap {
         ensures dead { OnErr result (self.new ≡ self.old) }
         ensures made { length self.new ≡ length self.old }
     {
-        let Some(key) = found(&self.cells, key) else {
+        let Some(cell) = lookup_mut(&mut self.cells, key) else {
             return Err(Dead);
         };
-        match self.cells.get_mut(key) {
-            None => Err(Dead),
-            Some(cell) => {
-                cell.count += 1;
-                Ok(())
-            }
-        }
+        cell.count += 1;
+        Ok(())
     }
 
     /// Gives one reference to a cell up. With the last one the cell goes and gives up each reference that it holds, to any
@@ -203,13 +198,10 @@ impl Heap {
         ensures dead { OnErr result (self.new ≡ self.old) }
         ensures made { length self.new ≡ length self.old }
     {
-        let Some(key) = found(&self.cells, key) else {
+        let Some(cell) = lookup_mut(&mut self.cells, key) else {
             return Err(Dead);
         };
-        match self.cells.get_mut(key) {
-            None => Err(Dead),
-            Some(cell) => Ok(cell.content.set_word(place, word)),
-        }
+        Ok(cell.content.set_word(place, word))
     }
 
     /// Puts a word at the end of the list that a cell holds. The reference in the word is now the cell's.
@@ -224,16 +216,11 @@ impl Heap {
         ensures err { OnErr result (self.new ≡ self.old) }
         ensures made { length self.new ≡ length self.old }
     {
-        let Some(key) = found(&self.cells, key) else {
+        let Some(cell) = lookup_mut(&mut self.cells, key) else {
             return Err(HeapError::Dead);
         };
-        match self.cells.get_mut(key) {
-            None => Err(HeapError::Dead),
-            Some(cell) => {
-                cell.content.push_word(word)?;
-                Ok(())
-            }
-        }
+        cell.content.push_word(word)?;
+        Ok(())
     }
 
     /// Takes the last word off the list that a cell holds, and answers it. There is none where the list is empty, and none
@@ -249,13 +236,10 @@ impl Heap {
         ensures dead { OnErr result (self.new ≡ self.old) }
         ensures made { length self.new ≡ length self.old }
     {
-        let Some(key) = found(&self.cells, key) else {
+        let Some(cell) = lookup_mut(&mut self.cells, key) else {
             return Err(Dead);
         };
-        match self.cells.get_mut(key) {
-            None => Err(Dead),
-            Some(cell) => Ok(cell.content.pop_word()),
-        }
+        Ok(cell.content.pop_word())
     }
 
     /// The place of the first pair of the dict that a cell holds whose key equals the key that a word is: a number a number, a text
@@ -296,17 +280,12 @@ impl Heap {
         ensures err { OnErr result (self.new ≡ self.old) }
         ensures made { length self.new ≡ length self.old }
     {
-        let Some(dict) = found(&self.cells, dict) else {
+        let mark = mark_of_word(&self.cells, pair.0);
+        let Some(cell) = lookup_mut(&mut self.cells, dict) else {
             return Err(HeapError::Dead);
         };
-        let mark = mark_of_word(&self.cells, pair.0);
-        match self.cells.get_mut(dict) {
-            None => Err(HeapError::Dead),
-            Some(cell) => {
-                cell.content.push_pair(pair, mark)?;
-                Ok(())
-            }
-        }
+        cell.content.push_pair(pair, mark)?;
+        Ok(())
     }
 
     /// Takes the pair at a place out of the dict that a cell holds, and answers it; those behind it move up. There is none where
@@ -323,14 +302,11 @@ impl Heap {
         ensures dead { OnErr result (self.new ≡ self.old) }
         ensures made { length self.new ≡ length self.old }
     {
-        let Some(dict) = found(&self.cells, dict) else {
+        let alloc = self.alloc;
+        let Some(cell) = lookup_mut(&mut self.cells, dict) else {
             return Err(Dead);
         };
-        let alloc = self.alloc;
-        match self.cells.get_mut(dict) {
-            None => Err(Dead),
-            Some(cell) => Ok(cell.content.take_pair(alloc, place)),
-        }
+        Ok(cell.content.take_pair(alloc, place))
     }
 
     /// The keys of the cells that are there, in the order in which they were made.

@@ -32,6 +32,13 @@ impl Letters {
         Letters { text, is_ascii }
     }
 
+    /// The text alone. It takes no memory.
+    pub fn into_text(self) -> Text
+        ensures { result ≡ self }
+    {
+        self.text
+    }
+
     pub fn as_text(&self) -> &Text
         ensures { result.now ≡ self.now }
     {

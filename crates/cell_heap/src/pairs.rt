@@ -28,6 +28,24 @@ impl Pairs {
         })
     }
 
+    /// Takes these pairs over, in their order. The keys of pairs that are there from the start get no marks: each is looked at
+    /// where a key is looked for.
+    pub fn from_pairs(alloc: Global, pairs: Many<(Word, Word)>) -> Result<Pairs, Memory>
+        ensures { IfOk result (λ dict. dict.pairs ≡ pairs) }
+    {
+        if pairs.is_empty() {
+            return Pairs::new(alloc);
+        }
+        Ok(Pairs { pairs, marks: None })
+    }
+
+    /// The pairs alone, in the order of their insertion. It takes no memory.
+    pub fn into_pairs(self) -> Many<(Word, Word)>
+        ensures { result ≡ self.pairs }
+    {
+        self.pairs
+    }
+
     /// The pairs, in the order of their insertion.
     pub fn pairs(&self) -> &Many<(Word, Word)>
         ensures { result.now ≡ self.now.pairs }

@@ -1,55 +1,31 @@
-use Rattle.std.proofs.Common.{refl, sym, ap, ◌∙◌, is_ok}
+use Rattle.std.proofs.Common.{refl, sym, ap, ◌∙◌}
 use Rattle.std.specs.Option.{is_some, option_and_then}
-use Rattle.cell_heap.specs.Contents.{number_of}
 use Rattle.cell_heap.specs.declared.cells.CountedCell.{CountedCell}
-use Rattle.cell_heap.specs.Held.{cells_of}
+use Rattle.cell_heap.specs.Contents.{number_of}
 use Rattle.cell_heap.specs.Pairs.{pair_in, without_pair}
-use Rattle.cell_heap.proofs.RefillLemmas.{content_none, content_lost, content_found, refill-writes}
-use Rattle.std.proofs.Common.{subst}
-use Rattle.cell_heap.specs.Marks.{IsKept}
 use Rattle.cell_heap.proofs.MarkLemmas.{has_taken}
-use Rattle.cell_heap.proofs.KeptLemmas.{kept_written, without_pair-key}
+use Rattle.cell_heap.proofs.KeptLemmas.{without_pair-key}
+use Rattle.cell_heap.proofs.ChangeLemmas.{none_under, content_under, put_writes, kept_put}
 use Rattle.cell_heap.proofs.heap.Heap.dict_take.Goals as goal
-use Rattle.cell_heap.proofs.heap.Heap.dict_take.Goals.{in-None, in-Some-get_mut}
 
 pub returns-in_default-clause-there : goal.returns-in_default-clause-there
 returns-in_default-clause-there c =
-    rw (← c.self.view_is) (sym (ap is_some (content_none c.self.inside.cells.entries (number_of c.args.dict) c.in_default.ensures)))
+    rw (← c.self.view_is) (sym (ap is_some (none_under c.self.inside.cells (number_of c.args.dict) c.in_default.ensures.cell)))
 
 pub returns-clause-there : goal.returns-clause-there
 returns-clause-there c =
-    rw (← c.self.view_is) (elim c.match-get_mut.branch [
-      | in-None w ↦ ap is_ok w.result-is ∙ sym (ap is_some (content_lost c.self.inside.cells.entries (number_of c.args.dict) c.in-Some.dict c.in-Some.ensures w.in-None.ensures.value))
-      | in-Some-get_mut w ↦ ap is_ok w.result-is ∙ sym (ap is_some (content_found c.self.inside.cells.entries (number_of c.args.dict) c.in-Some.dict w.in-Some-get_mut.cell.now c.in-Some.ensures w.in-Some-get_mut.ensures.value))
-    ])
+    rw (← c.self.view_is) (sym (ap is_some (content_under c.self.inside.cells (number_of c.args.dict) c.in-Some.cell.now c.in-Some.ensures.cell)))
 
 pub returns-clause-ok : goal.returns-clause-ok
 returns-clause-ok c =
-    rw (← c.self.view_is) (elim c.match-get_mut.branch [
-      | in-None w ↦ rw w.result-is tt
-      | in-Some-get_mut w ↦
-          let cell = w.in-Some-get_mut.cell.now in
-          let new : CountedCell = record { count = cell.count; content = w.take_pair.new.self } in
-          rw w.result-is (ap (λ i. cells_of i.cells.entries) w.self-inside-is
-          ∙ refill-writes (without_pair c.args.place) c.self.inside.cells.entries (number_of c.args.dict) c.in-Some.dict cell new c.in-Some.ensures w.in-Some-get_mut.ensures.value refl w.take_pair.ensures.rest)
-    ])
+    let new : CountedCell = record { count = c.in-Some.cell.now.count; content = c.take_pair.new.self } in
+    rw (← c.self.view_is) (put_writes (without_pair c.args.place) c.self.inside.cells (number_of c.args.dict) c.in-Some.cell.now new c.in-Some.ensures.cell refl c.take_pair.ensures.rest)
 
 pub returns-clause-pair : goal.returns-clause-pair
 returns-clause-pair c =
-    rw (← c.self.view_is) (elim c.match-get_mut.branch [
-      | in-None w ↦ rw w.result-is tt
-      | in-Some-get_mut w ↦
-          rw w.result-is (w.take_pair.ensures.pair
-          ∙ sym (ap (option_and_then (pair_in c.args.place)) (content_found c.self.inside.cells.entries (number_of c.args.dict) c.in-Some.dict w.in-Some-get_mut.cell.now c.in-Some.ensures w.in-Some-get_mut.ensures.value)))
-    ])
+    rw (← c.self.view_is) (c.take_pair.ensures.pair ∙ sym (ap (option_and_then (pair_in c.args.place)) (content_under c.self.inside.cells (number_of c.args.dict) c.in-Some.cell.now c.in-Some.ensures.cell)))
 
-pub invariant_of-self : goal.invariant_of-self
-invariant_of-self c =
-    elim c.match-get_mut.branch [
-      | in-None w ↦ subst (λ i. IsKept i.cells) (sym w.self-inside-is) c.self.invariant
-      | in-Some-get_mut w ↦
-          let cell = w.in-Some-get_mut.cell.now in
-          let new : CountedCell = record { count = cell.count; content = w.take_pair.new.self } in
-          subst (λ i. IsKept i.cells) (sym w.self-inside-is)
-          (kept_written (without_pair c.args.place) c.self.inside.cells (number_of c.args.dict) c.in-Some.dict cell new (without_pair-key c.args.place) c.in-Some.ensures w.in-Some-get_mut.ensures.value refl w.take_pair.ensures.rest (λ after narrows. has_taken after c.args.place cell.content w.take_pair.new.self w.take_pair.ensures.marked) c.self.invariant)
-    ]
+pub invariant_of-self-2 : goal.invariant_of-self-2
+invariant_of-self-2 c =
+    let new : CountedCell = record { count = c.in-Some.cell.now.count; content = c.take_pair.new.self } in
+    kept_put (without_pair c.args.place) c.self.inside.cells (number_of c.args.dict) c.in-Some.cell.now new (without_pair-key c.args.place) c.in-Some.ensures.cell refl c.take_pair.ensures.rest (λ after narrows. has_taken after c.args.place c.in-Some.cell.now.content c.take_pair.new.self c.take_pair.ensures.marked) c.self.invariant

@@ -1,65 +1,44 @@
-use Rattle.std.proofs.Common.{refl, sym, ap, ◌∙◌}
+use Rattle.std.proofs.Common.{refl, sym, ap}
 use Rattle.std.specs.Option.{is_none}
 use Rattle.std.proofs.lemmas.Result.{err_from_is_err_and}
 use Rattle.cell_heap.specs.declared.cells.CountedCell.{CountedCell}
 use Rattle.cell_heap.specs.Contents.{number_of, word_of}
-use Rattle.cell_heap.specs.Held.{cells_of}
-use Rattle.cell_heap.specs.Words.{with_last, is_dead}
-use Rattle.cell_heap.proofs.RefillLemmas.{content_none, content_lost, content_found, refill-writes, refill-same}
-use Rattle.std.proofs.Common.{subst}
-use Rattle.cell_heap.specs.Marks.{IsKept}
+use Rattle.cell_heap.specs.Words.{with_last}
 use Rattle.cell_heap.proofs.MarkLemmas.{has_kept}
-use Rattle.cell_heap.proofs.KeptLemmas.{kept_written, same_key_in, with_last-key}
+use Rattle.cell_heap.proofs.KeptLemmas.{same_key_in, with_last-key}
+use Rattle.cell_heap.proofs.ChangeLemmas.{none_under, content_under, put_writes, put_same, kept_put}
 use Rattle.cell_heap.proofs.heap.Heap.push_word.Goals as goal
-use Rattle.cell_heap.proofs.heap.Heap.push_word.Goals.{in-None, in-Some-get_mut+in_ok-push_word-in-Some-get_mut}
 
 pub returns-in_default-clause-there : goal.returns-in_default-clause-there
 returns-in_default-clause-there c =
-    rw (← c.self.view_is) (sym (ap is_none (content_none c.self.inside.cells.entries (number_of c.args.key) c.in_default.ensures)))
+    rw (← c.self.view_is) (sym (ap is_none (none_under c.self.inside.cells (number_of c.args.key) c.in_default.ensures.cell)))
 
-pub returns-in_err-push_word-in-Some-get_mut-clause-there : goal.returns-in_err-push_word-in-Some-get_mut-clause-there
-returns-in_err-push_word-in-Some-get_mut-clause-there c =
+pub returns-in_err-push_word-clause-there : goal.returns-in_err-push_word-clause-there
+returns-in_err-push_word-clause-there c =
     let failed = err_from_is_err_and c.from_residual.result c.from_residual.ensures.1 in
-    rw (failed.1, failed.2, ← c.self.view_is) (sym (ap is_none (content_found c.self.inside.cells.entries (number_of c.args.key) c.in-Some.key c.in-Some-get_mut.cell.now c.in-Some.ensures c.in-Some-get_mut.ensures.value)))
+    rw (failed.1, failed.2, ← c.self.view_is) (sym (ap is_none (content_under c.self.inside.cells (number_of c.args.key) c.in-Some.cell.now c.in-Some.ensures.cell)))
 
-pub returns-in_err-push_word-in-Some-get_mut-clause-err : goal.returns-in_err-push_word-in-Some-get_mut-clause-err
-returns-in_err-push_word-in-Some-get_mut-clause-err c =
+pub returns-in_err-push_word-clause-err : goal.returns-in_err-push_word-clause-err
+returns-in_err-push_word-clause-err c =
     let failed = err_from_is_err_and c.from_residual.result c.from_residual.ensures.1 in
-    let cell = c.in-Some-get_mut.cell.now in
-    let new : CountedCell = record { count = cell.count; content = c.push_word.new.self } in
-    rw (failed.1, ← c.self.view_is) (refill-same c.self.inside.cells.entries (number_of c.args.key) c.in-Some.key cell new c.in-Some.ensures c.in-Some-get_mut.ensures.value refl c.in_err-push_word-in-Some-get_mut.ensures.err)
+    let new : CountedCell = record { count = c.in-Some.cell.now.count; content = c.push_word.new.self } in
+    rw (failed.1, ← c.self.view_is) (put_same c.self.inside.cells (number_of c.args.key) c.in-Some.cell.now new c.in-Some.ensures.cell refl c.in_err-push_word.ensures.err)
+
+pub invariant_of-self-in_err-push_word : goal.invariant_of-self-in_err-push_word
+invariant_of-self-in_err-push_word c =
+    let new : CountedCell = record { count = c.in-Some.cell.now.count; content = c.push_word.new.self } in
+    kept_put (λ x. x) c.self.inside.cells (number_of c.args.key) c.in-Some.cell.now new same_key_in c.in-Some.ensures.cell refl c.in_err-push_word.ensures.err (λ after narrows. has_kept after c.in-Some.cell.now.content c.push_word.new.self c.push_word.ensures.keys) c.self.invariant
 
 pub returns-clause-there : goal.returns-clause-there
 returns-clause-there c =
-    rw (← c.self.view_is) (elim c.match-get_mut.branch [
-      | in-None w ↦ ap is_dead w.result-is ∙ sym (ap is_none (content_lost c.self.inside.cells.entries (number_of c.args.key) c.in-Some.key c.in-Some.ensures w.in-None.ensures.value))
-      | in-Some-get_mut+in_ok-push_word-in-Some-get_mut w ↦ ap is_dead w.result-is ∙ sym (ap is_none (content_found c.self.inside.cells.entries (number_of c.args.key) c.in-Some.key w.in-Some-get_mut.cell.now c.in-Some.ensures w.in-Some-get_mut.ensures.value))
-    ])
+    rw (← c.self.view_is) (sym (ap is_none (content_under c.self.inside.cells (number_of c.args.key) c.in-Some.cell.now c.in-Some.ensures.cell)))
 
 pub returns-clause-ok : goal.returns-clause-ok
 returns-clause-ok c =
-    rw (← c.self.view_is) (elim c.match-get_mut.branch [
-      | in-None w ↦ rw w.result-is tt
-      | in-Some-get_mut+in_ok-push_word-in-Some-get_mut w ↦
-          let cell = w.in-Some-get_mut.cell.now in
-          let new : CountedCell = record { count = cell.count; content = w.push_word.new.self } in
-          rw w.result-is (ap (λ i. cells_of i.cells.entries) w.self-inside-is
-          ∙ refill-writes (with_last (word_of c.args.word)) c.self.inside.cells.entries (number_of c.args.key) c.in-Some.key cell new c.in-Some.ensures w.in-Some-get_mut.ensures.value refl w.in_ok-push_word-in-Some-get_mut.ensures.ok)
-    ])
-
-pub invariant_of-self : goal.invariant_of-self
-invariant_of-self c =
-    let cell = c.in-Some-get_mut.cell.now in
-    let new : CountedCell = record { count = cell.count; content = c.push_word.new.self } in
-    kept_written (λ x. x) c.self.inside.cells (number_of c.args.key) c.in-Some.key cell new same_key_in c.in-Some.ensures c.in-Some-get_mut.ensures.value refl c.in_err-push_word-in-Some-get_mut.ensures.err (λ after narrows. has_kept after cell.content c.push_word.new.self c.push_word.ensures.keys) c.self.invariant
+    let new : CountedCell = record { count = c.in-Some.cell.now.count; content = c.push_word.new.self } in
+    rw (← c.self.view_is) (put_writes (with_last (word_of c.args.word)) c.self.inside.cells (number_of c.args.key) c.in-Some.cell.now new c.in-Some.ensures.cell refl c.in_ok-push_word.ensures.ok)
 
 pub invariant_of-self-2 : goal.invariant_of-self-2
 invariant_of-self-2 c =
-    elim c.match-get_mut.branch [
-      | in-None w ↦ subst (λ i. IsKept i.cells) (sym w.self-inside-is) c.self.invariant
-      | in-Some-get_mut+in_ok-push_word-in-Some-get_mut w ↦
-          let cell = w.in-Some-get_mut.cell.now in
-          let new : CountedCell = record { count = cell.count; content = w.push_word.new.self } in
-          subst (λ i. IsKept i.cells) (sym w.self-inside-is)
-          (kept_written (with_last (word_of c.args.word)) c.self.inside.cells (number_of c.args.key) c.in-Some.key cell new (with_last-key (word_of c.args.word)) c.in-Some.ensures w.in-Some-get_mut.ensures.value refl w.in_ok-push_word-in-Some-get_mut.ensures.ok (λ after narrows. has_kept after cell.content w.push_word.new.self w.push_word.ensures.keys) c.self.invariant)
-    ]
+    let new : CountedCell = record { count = c.in-Some.cell.now.count; content = c.push_word.new.self } in
+    kept_put (with_last (word_of c.args.word)) c.self.inside.cells (number_of c.args.key) c.in-Some.cell.now new (with_last-key (word_of c.args.word)) c.in-Some.ensures.cell refl c.in_ok-push_word.ensures.ok (λ after narrows. has_kept after c.in-Some.cell.now.content c.push_word.new.self c.push_word.ensures.keys) c.self.invariant
