@@ -20,12 +20,12 @@ use Rattle.c_runner.specs.declared.pause.Pause.{Pause}
 use Rattle.c_runner.specs.declared.pause.Pause.TheVariants.{Waits}
 use Rattle.c_runner_deeds.specs.declared.ending.Ending.{Ending}
 use Rattle.c_runner_deeds.specs.declared.ending.Ending.TheVariants as ending
-use Rattle.c_runner.specs.declared.report.RunError.{RunError}
-use Rattle.c_runner.specs.declared.report.RunError.TheVariants.{InputFault, WriteFault, Memory}
+use Rattle.c_runner.specs.declared.refusal.Refusal.{Refusal}
+use Rattle.c_runner.specs.declared.refusal.Refusal.TheVariants.{InputFault, WriteFault, Memory}
 use Rattle.c_runner_deeds.specs.declared.state.State.{State}
-use Rattle.c_runner.specs.Advancing.{HandsFront, HandsAll, Fetches, UsesLines, StaysNear, Moves, ReadsOn, Stalls, Advances}
+use Rattle.c_runner.specs.Advancing.{HandsFront, HandsAll, Fetches, UsesLines, StaysNear, Moves, ReadsOn, Stalls, Advances, refusal_of_read}
 use Rattle.c_runner_deeds.specs.Handing.{HandsOn}
-use Rattle.c_runner.specs.Ran.{line_count, error_of_read}
+use Rattle.c_runner.specs.Ran.{line_count}
 use Rattle.c_runner_deeds.specs.States.{Rest, state_of, next_of, Leads}
 use Rattle.c_runner.specs.Waiting.{input_step, Asks, Steps, before, behind, Receives}
 use Rattle.c_runner.proofs.Running.{no_front, no_rest}
@@ -54,7 +54,7 @@ hands_all tells sink sink' held kept Untouched hands none =
 pub fetch_emptied : (reader : ReaderState) (held' : List ℕ) (will_read : Bool) → will_read ≡ not (is_ready reader) → (IsTrue will_read → held' ≡ []) → is_ready reader ≡ false → held' ≡ []
 fetch_emptied reader held' will_read will emptied wait = emptied (will ∙ ap not wait)
 
-pub fetch_failed : (reader reader' : ReaderState) (held held' : List ℕ) (out_tells : Bool) (sink sink' : List ℕ) (Untouched : Type 0) (in_tells : Bool) (left left' : List ℕ) (will_read : Bool) (fault : ReadFault) → HandsOn out_tells sink sink' held held' Untouched → will_read ≡ not (is_ready reader) → (IsTrue will_read → held' ≡ []) → Takes reader in_tells left left' (Refuses fault reader) → (fault ≡ read.Failed → is_ready reader ≡ false) → Fetches reader reader' held held' out_tells sink sink' Untouched in_tells left left' (Err (error_of_read fault))
+pub fetch_failed : (reader reader' : ReaderState) (held held' : List ℕ) (out_tells : Bool) (sink sink' : List ℕ) (Untouched : Type 0) (in_tells : Bool) (left left' : List ℕ) (will_read : Bool) (fault : ReadFault) → HandsOn out_tells sink sink' held held' Untouched → will_read ≡ not (is_ready reader) → (IsTrue will_read → held' ≡ []) → Takes reader in_tells left left' (Refuses fault reader) → (fault ≡ read.Failed → is_ready reader ≡ false) → Fetches reader reader' held held' out_tells sink sink' Untouched in_tells left left' (Err (refusal_of_read fault))
 fetch_failed reader reader' held held' out_tells sink sink' Untouched in_tells left left' will_read read.Failed hands will emptied takes unready =
     let wait = unready refl in
     (hands_all out_tells sink sink' held held' Untouched hands (emptied (will ∙ ap not wait)), takes, wait)
@@ -349,7 +349,7 @@ stalls_at_once does old reader out_tells sink Untouched in_tells left same = rec
   why = inl refl;
 }
 
-failed_from : (does : MachineState → Next) (old new : State) (target : Option ℕ) (reader reader' : ReaderState) (kept : List ℕ) (out_tells : Bool) (sink sink' : List ℕ) (Untouched : Type 0) (in_tells : Bool) (left left' : List ℕ) (e : RunError) → Asks does target old old → Fetches reader reader' old.output kept out_tells sink sink' Untouched in_tells left left' (Err e) → Advances does old new reader reader' out_tells sink sink' Untouched in_tells left left' (Err e)
+failed_from : (does : MachineState → Next) (old new : State) (target : Option ℕ) (reader reader' : ReaderState) (kept : List ℕ) (out_tells : Bool) (sink sink' : List ℕ) (Untouched : Type 0) (in_tells : Bool) (left left' : List ℕ) (e : Refusal) → Asks does target old old → Fetches reader reader' old.output kept out_tells sink sink' Untouched in_tells left left' (Err e) → Advances does old new reader reader' out_tells sink sink' Untouched in_tells left left' (Err e)
 failed_from does old new target reader reader' kept out_tells sink sink' Untouched in_tells left left' InputFault asks fetches = record {
   hands = fetches.0;
   takes = fetches.1;
@@ -360,7 +360,7 @@ failed_from does old new target reader reader' kept out_tells sink sink' Untouch
 failed_from does old new target reader reader' kept out_tells sink sink' Untouched in_tells left left' Memory asks fetches =
     stalls does old target reader out_tells sink sink' Untouched in_tells left left' (IsForOneLine reader) asks fetches.0 fetches.1 (λ taken one. one) fetches.2
 
-pub advance_failed : (does : MachineState → Next) (old asked new : State) (target : Option ℕ) (reader reader' : ReaderState) (kept : List ℕ) (out_tells : Bool) (sink sink' : List ℕ) (Untouched : Type 0) (in_tells : Bool) (left left' : List ℕ) (e : RunError) → Asks does target old asked → Fetches reader reader' asked.output kept out_tells sink sink' Untouched in_tells left left' (Err e) → Advances does old new reader reader' out_tells sink sink' Untouched in_tells left left' (Err e)
+pub advance_failed : (does : MachineState → Next) (old asked new : State) (target : Option ℕ) (reader reader' : ReaderState) (kept : List ℕ) (out_tells : Bool) (sink sink' : List ℕ) (Untouched : Type 0) (in_tells : Bool) (left left' : List ℕ) (e : Refusal) → Asks does target old asked → Fetches reader reader' asked.output kept out_tells sink sink' Untouched in_tells left left' (Err e) → Advances does old new reader reader' out_tells sink sink' Untouched in_tells left left' (Err e)
 advance_failed does old asked new target reader reader' kept out_tells sink sink' Untouched in_tells left left' e asks fetches =
     subst (λ s. Advances does s new reader reader' out_tells sink sink' Untouched in_tells left left' (Err e)) asks.same
     (failed_from does asked new target reader reader' kept out_tells sink sink' Untouched in_tells left left' e (subst (λ s. Asks does target s asked) (sym asks.same) asks) fetches)

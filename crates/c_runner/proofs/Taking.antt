@@ -9,7 +9,7 @@ use Rattle.value_core.specs.Items as item
 use Rattle.value_core.specs.Items.{Items, InputEnd, AtEof, AtFailure, Broken, input_items, pieces, lines_from}
 use Rattle.value_core.specs.Ending as source
 use Rattle.outside_core.specs.Bytes.{TakesFront}
-use Rattle.outside_core.specs.Counts.{count_end, one_more, has_risen}
+use Rattle.outside_core.specs.Counts.{count_end, one_more, has_risen, Rose}
 use Rattle.outside_core.proofs.Fronts.{TakesFront-all, TakesFront-none, bytes_between-split}
 use Rattle.c_core.specs.declared.code.Code.{Code}
 use Rattle.c_core.specs.Machine.{MachineState}
@@ -23,13 +23,15 @@ use Rattle.c_runner_lines.specs.Reading.{items_left, is_ready, Suits, EndIsSeen}
 use Rattle.c_runner_lines.proofs.TakeLemmas.{waits}
 use Rattle.c_runner_deeds.specs.declared.ending.Ending.{Ending}
 use Rattle.c_runner_deeds.specs.declared.ending.Ending.TheVariants.{Over}
+use Rattle.c_runner.specs.declared.refusal.Refusal.{Refusal}
+use Rattle.c_runner.specs.declared.refusal.Refusal.TheVariants as refusal
 use Rattle.c_runner.specs.declared.report.Report.{Report}
 use Rattle.c_runner.specs.declared.report.RunError.{RunError}
 use Rattle.c_runner.specs.declared.report.RunError.TheVariants.{InputFault, WriteFault, Memory}
 use Rattle.c_runner_deeds.specs.declared.state.State.{State}
-use Rattle.c_runner.specs.Advancing.{HandsFront, UsesLines, StaysNear, Moves, BreaksOff, ReadsOn, Stalls, Advances, faults_of_input}
+use Rattle.c_runner.specs.Advancing.{HandsFront, UsesLines, StaysNear, Moves, BreaksOff, ReadsOn, Stalls, Advances, error_after, faults_of_input, faults_of_output}
 use Rattle.c_runner_deeds.specs.Handing.{HandsOn, has_bytes}
-use Rattle.c_runner.specs.Ran.{AreGiven, Ran, line_count, lines_used, lines_end, TookLines, TookNear, TookUpTo, TookSome, Took, given_items}
+use Rattle.c_runner.specs.Ran.{AreGiven, Ran, line_count, lines_used, lines_end, TookLines, TookNear, TookUpTo, TookSome, Took, given_items, faults_of_out}
 use Rattle.c_runner_deeds.specs.States.{Rest, ending_of, first_rest, state_of}
 use Rattle.c_runner.specs.Report.{live_cells}
 use Rattle.c_runner.proofs.StepLemmas.{one_further, reached}
@@ -447,6 +449,27 @@ given_failed tells faults faults' left left' read risen given = (
       ∙ ap (λ b. given_items b left left') (sym (ap (has_risen faults) risen ∙ same_count (one_more faults))),
 )
 
+at_least : (n m : ℕ) → m ≡ n → n ≤ m
+at_least n m e = omega (arith, e)
+
+-- an input that could not be read counted that
+pub rose_where_unread : (any has : Bool) (e : Refusal) (result : Result Report RunError) (n m : ℕ) → m ≡ faults_of_input {T = Option Ending} (Err e) n → result ≡ Err (error_after any e) → result ≡ Err (InputFault has) → Rose n m
+rose_where_unread any has refusal.InputFault result n m counted is e = at_least (one_more n) m counted
+rose_where_unread any has refusal.WriteFault result n m counted is e =
+    let was : result ≡ Err WriteFault = is in
+    let bad : WriteFault ≡ InputFault has = cc in
+    absurd (cc)
+rose_where_unread any has refusal.Memory result n m counted is e =
+    let was : result ≡ Err Memory = is in
+    let bad : Memory ≡ InputFault has = cc in
+    absurd (cc)
+
+-- a sink counted its refusal, and nothing else
+pub faults_where_failed : (any : Bool) (e : Refusal) (n m : ℕ) → m ≡ faults_of_output {T = Option Ending} (Err e) n → m ≡ faults_of_out (Err (error_after any e)) n
+faults_where_failed any refusal.InputFault n m counted = counted
+faults_where_failed any refusal.WriteFault n m counted = counted
+faults_where_failed any refusal.Memory n m counted = counted
+
 -- a refusal of memory or of the sink
 pub data Refused : RunError → Type 0 where
   NoMemory : Refused Memory
@@ -455,12 +478,12 @@ pub data Refused : RunError → Type 0 where
 ran_refused : (e : RunError) → Refused e → (code : Code) (stop : Stop) (tells : Bool) (sink sink' : List ℕ) → (IsTrue tells → TakesFront sink sink' stop.state.output) → Ran code stop tells sink sink' (Err e)
 ran_refused Memory NoMemory code stop tells sink sink' front = front
 ran_refused WriteFault NoSink code stop tells sink sink' front = front
-ran_refused InputFault refused code stop tells sink sink' front = elim refused [ ]
+ran_refused (InputFault any) refused code stop tells sink sink' front = elim refused [ ]
 
 took_refused : (e : RunError) → Refused e → (code : Code) (turns : ℕ) (tells : Bool) (sink sink' : List ℕ) (items : Items) (stop : Stop) (left left' : List ℕ) → TookSome code turns items stop tells sink sink' left left' → Took code turns tells sink sink' (Err e) items stop left left'
 took_refused Memory NoMemory code turns tells sink sink' items stop left left' some = some
 took_refused WriteFault NoSink code turns tells sink sink' items stop left left' some = some
-took_refused InputFault refused code turns tells sink sink' items stop left left' some = elim refused [ ]
+took_refused (InputFault any) refused code turns tells sink sink' items stop left left' some = elim refused [ ]
 
 -- what was taken up to a moment
 up_to : (items left_items : Items) (left left' taken : List ℕ) → left ≡ taken ++ left' → ReadFor items left_items left taken → TookUpTo (lines_used items left_items) left left'
@@ -641,7 +664,7 @@ module _ (in_tells : Bool) (faults faults' : ℕ) (left : List ℕ) (code : Code
           (λ stop run t. moment_same sink'' hands.front [] refl stop t)
 
       -- a read failed
-      pub answers_broken : (sink'' after : List ℕ) (Still StillUntouched : Type 0) → (Untouched → Still → StillUntouched) → faults' ≡ one_more faults → 1 ≤ steps_left → BreaksOff (step code) state reader out_tells sink' sink'' Still in_tells now after → Answered in_tells faults faults' left after code turns out_tells sink sink'' StillUntouched (Err InputFault)
+      pub answers_broken : (sink'' after : List ℕ) (Still StillUntouched : Type 0) → (Untouched → Still → StillUntouched) → faults' ≡ one_more faults → 1 ≤ steps_left → BreaksOff (step code) state reader out_tells sink' sink'' Still in_tells now after → Answered in_tells faults faults' left after code turns out_tells sink sink'' StillUntouched (Err (InputFault any))
       answers_broken sink'' after Still StillUntouched both risen more breaks =
           let taken = breaks.takes.taken in
           let items = input_items (going.read ++ taken) AtFailure in
@@ -656,7 +679,7 @@ module _ (in_tells : Bool) (faults faults' : ℕ) (left : List ℕ) (code : Code
             (
               run.0,
               run.1,
-              (ap (λ s. s.ending) stop_is, λ t. breaks.hands.all t ∙ ap (λ l. l ++ state.output) (running.taken t) ∙ append_assoc sink running.handed state.output ∙ ap (λ l. sink ++ l) (sym output_is)),
+              (ap (λ s. s.ending) stop_is, λ t. breaks.hands.all t ∙ ap (λ l. l ++ state.output) (running.taken t) ∙ append_assoc sink running.handed state.output ∙ ap (λ l. sink ++ l) (sym output_is), running.any_is ∙ ap has_bytes (sym output_is)),
               λ none.
                   let all : running.handed ++ state.output ≡ [] = sym output_is ∙ none in
                   both (running.alone (no_front running.handed state.output all)) (breaks.hands.alone (no_rest running.handed state.output all)),
@@ -669,10 +692,10 @@ module _ (in_tells : Bool) (faults faults' : ℕ) (left : List ℕ) (code : Code
           )
 
       -- a step was not made
-      pub answers_failed : (new : State) (reader' : ReaderState) (sink'' after : List ℕ) (Still StillUntouched : Type 0) → (Untouched → Still → StillUntouched) → (e : RunError) → faults' ≡ faults_of_input {T = Option Ending} (Err e) faults → 1 ≤ steps_left → Advances (step code) state new reader reader' out_tells sink' sink'' Still in_tells now after (Err e) → Answered in_tells faults faults' left after code turns out_tells sink sink'' StillUntouched (Err e)
-      answers_failed new reader' sink'' after Still StillUntouched both InputFault counted more advances = answers_broken sink'' after Still StillUntouched both counted more advances
-      answers_failed new reader' sink'' after Still StillUntouched both WriteFault counted more advances = answers_unsent sink'' after Still StillUntouched both counted advances.0 advances.1
-      answers_failed new reader' sink'' after Still StillUntouched both Memory counted more advances = answers_stalled sink'' after Still StillUntouched both counted more advances
+      pub answers_failed : (new : State) (reader' : ReaderState) (sink'' after : List ℕ) (Still StillUntouched : Type 0) → (Untouched → Still → StillUntouched) → (e : Refusal) → faults' ≡ faults_of_input {T = Option Ending} (Err e) faults → 1 ≤ steps_left → Advances (step code) state new reader reader' out_tells sink' sink'' Still in_tells now after (Err e) → Answered in_tells faults faults' left after code turns out_tells sink sink'' StillUntouched (Err (error_after any e))
+      answers_failed new reader' sink'' after Still StillUntouched both refusal.InputFault counted more advances = answers_broken sink'' after Still StillUntouched both counted more advances
+      answers_failed new reader' sink'' after Still StillUntouched both refusal.WriteFault counted more advances = answers_unsent sink'' after Still StillUntouched both counted advances.0 advances.1
+      answers_failed new reader' sink'' after Still StillUntouched both refusal.Memory counted more advances = answers_stalled sink'' after Still StillUntouched both counted more advances
 
     -- where the run stopped
     module _ (ending : Ending) (halted : Halted out_tells sink sink' Untouched in_tells left now code turns any state reader ending) where

@@ -8,26 +8,41 @@ use Rattle.value_core.specs.Items.{InputEnd, Broken, pieces}
 use Rattle.c_core.specs.Machine.{MachineState}
 use Rattle.c_core.specs.Step.{Next, Ends, Ended}
 use Rattle.c_runner_lines.specs.declared.item.Item.{Item}
+use Rattle.c_runner_lines.specs.declared.read_fault.ReadFault.{ReadFault}
 use Rattle.c_runner_lines.specs.declared.read_fault.ReadFault.TheVariants.{Failed}
+use Rattle.c_runner_lines.specs.declared.read_fault.ReadFault.TheVariants as read
 use Rattle.c_runner_lines.specs.Held.{most_read, piece_size}
 use Rattle.c_runner_lines.specs.ReaderState.{ReaderState, total_of}
 use Rattle.c_runner_lines.specs.Reading.{items_left, is_ready, Suits, IsForOneLine, Refuses, Found, Takes, Uses, EndIsSeen}
 use Rattle.c_runner_deeds.specs.declared.ending.Ending.{Ending}
 use Rattle.c_runner_deeds.specs.declared.ending.Ending.TheVariants.{Over}
+use Rattle.c_runner.specs.declared.refusal.Refusal.{Refusal}
+use Rattle.c_runner.specs.declared.refusal.Refusal.TheVariants.{InputFault, WriteFault, Memory}
 use Rattle.c_runner.specs.declared.report.RunError.{RunError}
-use Rattle.c_runner.specs.declared.report.RunError.TheVariants.{InputFault, WriteFault, Memory}
+use Rattle.c_runner.specs.declared.report.RunError.TheVariants as error
 use Rattle.c_runner_deeds.specs.declared.state.State.{State}
 use Rattle.c_runner_deeds.specs.Handing.{HandsOn}
 use Rattle.c_runner_deeds.specs.States.{Rest, state_of, next_of}
 use Rattle.c_runner.specs.Ran.{line_count}
 use Rattle.c_runner.specs.Waiting.{input_step}
 
+-- what refused a step for which no line could be read
+abbrev pub refusal_of_read : ReadFault → Refusal
+refusal_of_read read.Failed = InputFault
+refusal_of_read read.Memory = Memory
+
+-- why a run ends behind a step that was not made, where there was some output before, or none
+abbrev pub error_after : Bool → Refusal → RunError
+error_after any InputFault = error.InputFault any
+error_after any WriteFault = error.WriteFault
+error_after any Memory = error.Memory
+
 -- counts of faults: a failed read, and a refused call of the sink
-abbrev pub faults_of_input : {T : Type 0} → Result T RunError → ℕ → ℕ
+abbrev pub faults_of_input : {T : Type 0} → Result T Refusal → ℕ → ℕ
 faults_of_input (Err InputFault) n = one_more n
 faults_of_input _ n = n
 
-abbrev pub faults_of_output : {T : Type 0} → Result T RunError → ℕ → ℕ
+abbrev pub faults_of_output : {T : Type 0} → Result T Refusal → ℕ → ℕ
 faults_of_output (Err WriteFault) n = one_more n
 faults_of_output _ n = n
 
@@ -48,7 +63,7 @@ pub record TakesSome (reader : ReaderState) (tells : Bool) (left left' : List �
   pub within : total_of reader ≤ most_read → total_of reader + length taken ≤ most_read
 
 -- what came of the call for a line
-abbrev pub Fetches : ReaderState → ReaderState → List ℕ → List ℕ → Bool → List ℕ → List ℕ → Type 0 → Bool → List ℕ → List ℕ → Result Item RunError → Type 0
+abbrev pub Fetches : ReaderState → ReaderState → List ℕ → List ℕ → Bool → List ℕ → List ℕ → Type 0 → Bool → List ℕ → List ℕ → Result Item Refusal → Type 0
 Fetches reader reader' held held' out_tells sink sink' Untouched in_tells left left' (Ok item) =
     HandsOn out_tells sink sink' held held' Untouched × Takes reader in_tells left left' (Found item reader reader')
     × (IsTrue in_tells → EndIsSeen reader left → EndIsSeen reader' left') × (is_ready reader ≡ false → held' ≡ [])
@@ -110,7 +125,7 @@ pub record Stalls (does : MachineState → Next) (old : State) (reader : ReaderS
   pub takes : TakesSome reader in_tells left left'
   pub why : (takes.taken ≡ []) ⊎ ReadsOn does old reader out_tells sink sink' Untouched takes.taken
 
-abbrev pub Advances : (MachineState → Next) → State → State → ReaderState → ReaderState → Bool → List ℕ → List ℕ → Type 0 → Bool → List ℕ → List ℕ → Result (Option Ending) RunError → Type 0
+abbrev pub Advances : (MachineState → Next) → State → State → ReaderState → ReaderState → Bool → List ℕ → List ℕ → Type 0 → Bool → List ℕ → List ℕ → Result (Option Ending) Refusal → Type 0
 Advances does old new reader reader' out_tells sink sink' Untouched in_tells left left' (Ok ending) =
     Moves does old new reader reader' out_tells sink sink' Untouched in_tells left left' ending
 Advances does old new reader reader' out_tells sink sink' Untouched in_tells left left' (Err InputFault) =

@@ -11,11 +11,10 @@ use Rattle.c_core.specs.Step.{Ended}
 use Rattle.c_core.specs.Run.{Stop, start}
 use Rattle.c_core.specs.Laws.{Reaches}
 use Rattle.c_runner_lines.specs.Held.{most_read, piece_size}
-use Rattle.c_runner_lines.specs.declared.read_fault.ReadFault.{ReadFault}
-use Rattle.c_runner_lines.specs.declared.read_fault.ReadFault.TheVariants as read
 use Rattle.c_runner.specs.declared.report.Report.{Report}
 use Rattle.c_runner.specs.declared.report.RunError.{RunError}
 use Rattle.c_runner.specs.declared.report.RunError.TheVariants.{InputFault, WriteFault, Memory}
+use Rattle.c_runner_deeds.specs.Handing.{has_bytes}
 use Rattle.c_runner.specs.Report.{Reports}
 
 -- the lines that a source gave in a call: those of all that it told before where no read failed in the call, and else
@@ -34,13 +33,13 @@ abbrev pub AreGiven : Bool → ℕ → ℕ → List ℕ → List ℕ → Items �
 AreGiven tells faults_before faults_after before after items =
     AreLines items × (IsTrue tells → faults_before < count_end → items ≡ given_items (has_risen faults_before faults_after) before after)
 
--- A report is that of the run, whose output the sink took; where reading the input failed the run is broken off there;
--- where the sink refused a call or memory ran out the sink took a front of the output
+-- A report is that of the run, whose output the sink took; where reading the input failed the run is broken off there, and it is told
+-- whether there was any output; where the sink refused a call or memory ran out the sink took a front of the output
 abbrev pub Ran : Code → Stop → Bool → List ℕ → List ℕ → Result Report RunError → Type 0
 Ran code stop tells before after (Ok report) =
     Reports code report stop × (IsTrue tells → after ≡ before ++ stop.state.output)
-Ran code stop tells before after (Err InputFault) =
-    (stop.ending ≡ Ended source.Broken) × (IsTrue tells → after ≡ before ++ stop.state.output)
+Ran code stop tells before after (Err (InputFault any)) =
+    (stop.ending ≡ Ended source.Broken) × (IsTrue tells → after ≡ before ++ stop.state.output) × (any ≡ has_bytes stop.state.output)
 Ran code stop tells before after (Err WriteFault) = IsTrue tells → TakesFront before after stop.state.output
 Ran code stop tells before after (Err Memory) = IsTrue tells → TakesFront before after stop.state.output
 
@@ -81,8 +80,8 @@ pub record TookUpTo (lines : ℕ) (left left' : List ℕ) : Type 0 where
   pub none : lines ≡ 0 → taken ≡ []
 
 -- What a run took that was broken off, because memory ran out or the sink refused a call: what was taken up to some state that the run
--- comes to is all, and the sink took the whole output up to that state. So nothing was read behind a call that the sink refused. The run may stop
--- there, at a line that ends too far along
+-- comes to is all, and the sink took the whole output up to that state. So no line was used behind a call that a sink that tells refused. The
+-- run may stop there, at a line that ends too far along
 pub record TookSome (code : Code) (turns : ℕ) (items : Items) (stop : Stop) (tells : Bool) (sink sink' left left' : List ℕ) : Type 0 where
   pub state : MachineState
   pub steps : ℕ
@@ -94,14 +93,9 @@ pub record TookSome (code : Code) (turns : ℕ) (items : Items) (stop : Stop) (t
 -- what a call took by its answer; where a read failed, the run's lines end with the bytes that were taken
 abbrev pub Took : Code → ℕ → Bool → List ℕ → List ℕ → Result Report RunError → Items → Stop → List ℕ → List ℕ → Type 0
 Took code turns tells sink sink' (Ok report) items stop left left' = TookLines items stop left left'
-Took code turns tells sink sink' (Err InputFault) items stop left left' = GivesAtMost most_read left left'
+Took code turns tells sink sink' (Err (InputFault any)) items stop left left' = GivesAtMost most_read left left'
 Took code turns tells sink sink' (Err WriteFault) items stop left left' = TookSome code turns items stop tells sink sink' left left'
 Took code turns tells sink sink' (Err Memory) items stop left left' = TookSome code turns items stop tells sink sink' left left'
-
--- why a run ends that could not read a line
-abbrev pub error_of_read : ReadFault → RunError
-error_of_read read.Failed = InputFault
-error_of_read read.Memory = Memory
 
 -- the sink's count of faults: a refusal is counted once, and ends the call
 abbrev pub faults_of_out : Result Report RunError → ℕ → ℕ

@@ -23,6 +23,7 @@ mod live;
 mod methods;
 mod pause;
 mod reading;
+mod refusal;
 mod report;
 mod runner;
 mod start;

@@ -7,7 +7,7 @@ ghost use Rattle.c_runner_table.specs.Targets.{table_of};
 
 use crate::input::receive;
 use crate::pause::Pause;
-use crate::report::RunError;
+use crate::refusal::Refusal;
 use crate::step::step;
 use c_core::Code;
 use c_runner_deeds::{Ending, Output, State};
@@ -25,7 +25,7 @@ pub(crate) fn advance<I: Source, O: Sink>(
     reader: &mut LineReader,
     input: &mut I,
     out: &mut O,
-) -> Result<Option<Ending>, RunError>
+) -> Result<Option<Ending>, Refusal>
     requires table { table.now ≡ table_of code.now }
     requires small { IsSmall state.old }
     ensures advances { Advances (step code.now) state.old state.new reader.old reader.new
@@ -36,7 +36,7 @@ pub(crate) fn advance<I: Source, O: Sink>(
 {
     match step(state, alloc, code, table) {
         Ok(ending) => Ok(ending),
-        Err(Pause::Memory) => Err(RunError::Memory),
+        Err(Pause::Memory) => Err(Refusal::Memory),
         Err(Pause::Waits(target)) => {
             let item = next_item(reader, &mut state.output, input, out)?;
             Ok(receive(state, alloc, target, item)?)
@@ -50,7 +50,7 @@ fn next_item<I: Source, O: Sink>(
     output: &mut Output,
     input: &mut I,
     out: &mut O,
-) -> Result<Item, RunError>
+) -> Result<Item, Refusal>
     ensures fetches { Fetches reader.old reader.new output.old output.new
         O.tells (O.taken out.old) (O.taken out.new) (out.new ≡ out.old)
         I.tells (I.left input.old) (I.left input.new) result }

@@ -1,5 +1,4 @@
 use c_runner_deeds::Ending;
-use c_runner_lines::ReadFault;
 use outside_core::WriteFault;
 use thiserror::Error;
 use value_core::{Many, Memory as NoMemory, Text};
@@ -24,8 +23,9 @@ pub struct LiveCell {
 /// Why a run has no report.
 #[derive(Clone, Copy, Debug, PartialEq, Eq, Error)]
 pub enum RunError {
+    /// The input refused a call. The output up to there was handed on, and this says whether there was any.
     #[error("the input refused a call")]
-    InputFault,
+    InputFault { has_output: bool },
     #[error("the output refused a call")]
     WriteFault,
     #[error("there is no memory")]
@@ -51,19 +51,5 @@ impl From<WriteFault> for RunError {
 
     fn from(_refused: WriteFault) -> RunError {
         RunError::WriteFault
-    }
-}
-
-impl From<ReadFault> for RunError {
-    ghost use Rattle.std.specs.Prelude.{◌≡◌};
-    ghost use Rattle.c_runner.specs.Ran.{error_of_read};
-
-    ghost from_gives = { λ refused e. e ≡ error_of_read refused };
-
-    fn from(refused: ReadFault) -> RunError {
-        match refused {
-            ReadFault::Failed => RunError::InputFault,
-            ReadFault::Memory => RunError::Memory,
-        }
     }
 }

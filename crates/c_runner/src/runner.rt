@@ -1,4 +1,4 @@
-ghost use Rattle.std.specs.Prelude.{◌≡◌, ◌<◌, ◌≤◌, [], Some, IsTrue, IsErrOf};
+ghost use Rattle.std.specs.Prelude.{◌≡◌, ◌<◌, ◌≤◌, Bool, [], Some, IsTrue, IsErrOf};
 ghost use Rattle.outside_core.specs.Counts.{Rose};
 ghost use Rattle.value_core.specs.Items.{Items};
 ghost use Rattle.c_core.specs.Run.{Stop, machine_run, most_turns, most_steps, most_lines};
@@ -21,8 +21,8 @@ const MOST_AT_ONCE: usize = 65_536;
 
 /// Runs a well-formed code for so many turns, on the lines of the input. What the program writes goes to `out`,
 /// whenever 65536 bytes have come together, before each read of the input, and what is left before the answer; where it writes nothing, nothing
-/// happens to `out`. The input is read only for a line that is asked for, and of the bytes behind the lines that were used at most 4095 are taken;
-/// behind a call that `out` refused nothing is read.
+/// happens to `out`. It is never told to pass on what it got: the answer says whether there was any. The input is read only for a line that is
+/// asked for, and of the bytes behind the lines that were used at most 4095 are taken; no line is used behind a call that `out` refused.
 pub fn run<I: Source, O: Sink>(
     alloc: Global,
     code: &Code,
@@ -39,7 +39,7 @@ pub fn run<I: Source, O: Sink>(
         × (stop.state.output ≡ [] → out.new ≡ out.old)
         × (IsTrue I.tells → Took code.now turns O.tells (O.taken out.old) (O.taken out.new) result
         items stop (I.left input.old) (I.left input.new))) }
-    ensures input_fault { IsErrOf result RunError.InputFault → Rose (I.faults input.old) (I.faults input.new) }
+    ensures input_fault { (has_output : Bool) → IsErrOf result (RunError.InputFault has_output) → Rose (I.faults input.old) (I.faults input.new) }
     ensures out_faults { O.faults out.new ≡ faults_of_out result (O.faults out.old) }
 {
     run_exists();
@@ -55,7 +55,10 @@ pub fn run<I: Source, O: Sink>(
         let done = do_lines(&mut state, code, &table, some_steps(left));
         left -= done as u128;
         left -= 1;
-        let ending = advance(alloc, code, &table, &mut state, &mut reader, input, out)?;
+        let ending = match advance(alloc, code, &table, &mut state, &mut reader, input, out) {
+            Ok(ending) => ending,
+            Err(refusal) => return Err(refusal.after(has_output)),
+        };
         has_output = state.output.has_any(has_output);
         match ending {
             None => state.output.hand_on_if_full(out)?,
@@ -87,7 +90,7 @@ fn most_steps(code: &Code, turns: u64) -> u128
     (turns as u128 + 2) * most_lines(code.funcs.as_slice()) as u128
 }
 
-/// The greatest number of lines of a function.
+/// How many lines the longest function has.
 fn most_lines(functions: &[CFunc]) -> usize
     ensures { result ≡ most_lines functions.now }
 {

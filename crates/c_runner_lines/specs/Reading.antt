@@ -44,7 +44,8 @@ abbrev pub Refuses : ReadFault → ReaderState → List ℕ → Type 0
 Refuses Failed old taken = items_left old taken AtFailure ≡ Broken
 Refuses Memory old taken = IsForOneLine old taken
 
--- how far was read beyond what an answer used: a line has less than one read behind it, the end nothing, and one byte too many was read at most
+-- how far was read beyond what an answer used: a line has less than one read behind it, the end nothing, and where there are too many
+-- bytes exactly one of those was read
 abbrev pub ReadsNear : Item → ReaderState → Type 0
 ReadsNear (Line text) new = length new.held < piece_size
 ReadsNear Bad new = length new.held < piece_size

@@ -4,6 +4,7 @@ use Rattle.value_core.specs.Items.{Items}
 use Rattle.outside_core.specs.Bytes.{GivesAtMost}
 use Rattle.mypyc_top_running.specs.Takes.{most_taken, RunTook}
 use Rattle.c_core.specs.declared.code.Code.{Code}
+use Rattle.c_core.specs.WellFormed.{WellFormed}
 use Rattle.c_core.specs.Run.{Stop, machine_run}
 use Rattle.mypyc_top_words.specs.declared.words.Words.{Words}
 use Rattle.mypyc_top_status.specs.declared.status.Status.{Status}
@@ -28,18 +29,20 @@ pub run_at_most : (program : Program) (items : Items) (out : SinkCall) (left lef
 run_at_most program items out left left' s t = at_most program.code program.turns items t.stop left left' s out t.took
 
 -- the run behind an answer
-pub run_read : (program : Program) (items : Items) (out : SinkCall) (left left' : List ℕ) (IsCode : Code → Type 0) (IsAnswer : List ℕ → List ℕ → Status → Type 0) (s : Status) → ((stop : Stop) → machine_run program.turns items program.code ≡ Some stop → IsAnswer (program_text program stop) (program_line program stop) (machine_status stop.ending)) → IsCode program.code → RunTook program items out left left' s → RunRead items out left left' IsCode IsAnswer s
-run_read program items out left left' IsCode IsAnswer s answers is_code t = record {
-  code = program.code;
-  is_code = is_code;
-  turns = program.turns;
-  has_summary = program.has_summary;
-  stop = t.stop;
-  run = t.run;
-  ending = t.ending;
-  answer = answers t.stop t.run;
-  took = t.took;
-}
+pub run_read : (program : Program) (items : Items) (turns : ℕ) (out : SinkCall) (left left' : List ℕ) (IsCode : Code → Type 0) (IsAnswer : List ℕ → List ℕ → Status → Type 0) (s : Status) → program.turns ≡ turns → WellFormed program.code → ((stop : Stop) → machine_run program.turns items program.code ≡ Some stop → IsAnswer (program_text program stop) (program_line program stop) (machine_status stop.ending)) → IsCode program.code → RunTook program items out left left' s → RunRead items turns out left left' IsCode IsAnswer s
+run_read program items turns out left left' IsCode IsAnswer s is formed answers is_code t =
+    let P : ℕ → Type 0 = λ n. RunRead items n out left left' IsCode IsAnswer s in
+    subst P is (record {
+      code = program.code;
+      formed = formed;
+      is_code = is_code;
+      has_summary = program.has_summary;
+      stop = t.stop;
+      run = t.run;
+      ending = t.ending;
+      answer = answers t.stop t.run;
+      took = t.took;
+    })
 
 -- where a program was run
 pub was_read : (s : Status) (Alone Read : Type 0) → Read → ReadBy s Alone Read

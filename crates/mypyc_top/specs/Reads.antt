@@ -3,6 +3,7 @@ use Rattle.std.specs.Prelude.{◌≡◌, ◌⊎◌, ℕ, ◌+◌, Bool, true, fa
 use Rattle.value_core.specs.Items.{Items}
 use Rattle.c_core.specs.declared.code.Code.{Code}
 use Rattle.c_core.specs.Text.{code_text}
+use Rattle.c_core.specs.WellFormed.{WellFormed}
 use Rattle.c_core.specs.Run.{Stop, machine_run}
 use Rattle.mypyc_top_words.specs.declared.words.Emit.{Emit}
 use Rattle.mypyc_top_words.specs.declared.words.Emit.TheVariants as emit
@@ -30,6 +31,11 @@ abbrev pub runs_program : Words → Bool
 runs_program Usage = false
 runs_program (Go r) = runs r.emit
 
+-- the turns that the words give a run
+abbrev pub turns_of : Words → ℕ
+turns_of Usage = 0
+turns_of (Go r) = r.turns
+
 -- whether the words ask for the run of a C text
 abbrev pub is_text : Emit → Bool
 is_text emit.Runc = true
@@ -43,6 +49,11 @@ runs_text (Go r) = is_text r.emit
 abbrev pub OfText : List ℕ → Plan → Type 0
 OfText bytes (Send reply) = Unit {0}
 OfText bytes (Run program) = code_text program.code ≡ bytes
+
+-- a program that is planned has so many turns
+abbrev pub HasTurns : ℕ → Plan → Type 0
+HasTurns n (Send reply) = Unit {0}
+HasTurns n (Run program) = program.turns ≡ n
 
 -- the statuses of a call that ran no program
 abbrev pub is_unrun : Status → Bool
@@ -58,13 +69,13 @@ is_unrun _ = false
 abbrev pub leaves_input : Words → Status → Bool
 leaves_input words s = not (runs_program words) || is_unrun s
 
--- The run behind an answer, and what it took of an input that tells its bytes: the output, the line and the status of the run of a code on
--- these lines are the answer, and what was taken is what that very run says of its lines; where a C text is run it is that text's code. Want of
--- memory or a refusal of a sink can come between.
-pub record RunRead (items : Items) (out : SinkCall) (left left' : List ℕ) (IsCode : Code → Type 0) (IsAnswer : List ℕ → List ℕ → Status → Type 0) (s : Status) : Type 0 where
+-- The run behind an answer, and what it took of an input that tells its bytes: the output, the line and the status of the run of a well-formed
+-- code for so many turns on these lines are the answer, and what was taken is what that very run says of its lines; where a C text is run it
+-- is that text's code. Want of memory or a refusal of a sink can come between.
+pub record RunRead (items : Items) (turns : ℕ) (out : SinkCall) (left left' : List ℕ) (IsCode : Code → Type 0) (IsAnswer : List ℕ → List ℕ → Status → Type 0) (s : Status) : Type 0 where
   pub code : Code
+  pub formed : WellFormed code
   pub is_code : IsCode code
-  pub turns : ℕ
   pub has_summary : Bool
   pub stop : Stop
   pub run : machine_run turns items code ≡ Some stop

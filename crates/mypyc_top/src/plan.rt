@@ -13,7 +13,7 @@ ghost use Rattle.mypyc_top_compiler.specs.Found.{entries_of};
 ghost use Rattle.mypyc_top.specs.Running.{TextRun, ModuleRun};
 ghost use Rattle.mypyc_top.specs.Answer.{Answer, RequestAnswer, ModeAnswer, ModuleAnswer, Checked, Compiled, file_meaning};
 ghost use Rattle.mypyc_top.specs.Plans.{MatchPlan, ForReply, Plans, CanCome, Allowed};
-ghost use Rattle.mypyc_top.specs.Reads.{runs, runs_program, is_text, runs_text, OfText, PlanRuns};
+ghost use Rattle.mypyc_top.specs.Reads.{runs, runs_program, turns_of, is_text, runs_text, OfText, HasTurns, PlanRuns};
 
 use mypyc_top_compiler::{Faults, ModuleError, code_of, lines_of, notes_of, read_typed};
 use mypyc_top_reading::{Refusal, TextFault, read_file, text_code};
@@ -48,6 +48,7 @@ pub(crate) fn plan_of<F: Files>(
     ensures fit { IfOk result (λ plan. MatchPlan plan (λ reply. IsSent reply.status) IsRunnable) }
     ensures allowed { IfOk result (Allowed (words_of (texts words.now))) }
     ensures runs { IfOk result (PlanRuns (runs_program (words_of (texts words.now)))) }
+    ensures turns { IfOk result (HasTurns (turns_of (words_of (texts words.now)))) }
     ensures open_fault { IfOk result (λ plan. ForReply plan (λ reply. reply.status ≡ Status.OpenFault →
         Rose (F.faults files.old) (F.faults files.new) × (F.is_open files.new ≡ false))) }
     ensures read_fault { IfOk result (λ plan. ForReply plan (λ reply. reply.status ≡ Status.ReadFault →
@@ -76,6 +77,7 @@ fn request_plan<F: Files>(alloc: Global, request: &Request, files: &mut F) -> Re
     ensures fit { IfOk result (λ plan. MatchPlan plan (λ reply. IsSent reply.status) IsRunnable) }
     ensures allowed { IfOk result (CanCome request.now.emit) }
     ensures runs { IfOk result (PlanRuns (runs request.now.emit)) }
+    ensures turns { IfOk result (HasTurns request.now.turns) }
     ensures open_fault { IfOk result (λ plan. ForReply plan (λ reply. reply.status ≡ Status.OpenFault →
         Rose (F.faults files.old) (F.faults files.new) × (F.is_open files.new ≡ false))) }
     ensures read_fault { IfOk result (λ plan. ForReply plan (λ reply. reply.status ≡ Status.ReadFault →
@@ -109,6 +111,7 @@ fn file_plan(alloc: Global, request: &Request, bytes: &[u8]) -> Result<Plan, Mem
     ensures fit { IfOk result (λ plan. MatchPlan plan (λ reply. IsTrue (is_file_status reply.status)) IsRunnable) }
     ensures allowed { IfOk result (CanCome request.now.emit) }
     ensures runs { IfOk result (PlanRuns (runs request.now.emit)) }
+    ensures turns { IfOk result (HasTurns request.now.turns) }
     ensures answer { IfOk result (Plans (ModeAnswer request.now.emit request.now bytes.now)) }
     ensures text { IsTrue (is_text request.now.emit) → IfOk result (OfText bytes.now) }
 {
@@ -165,6 +168,7 @@ fn run_plan(alloc: Global, file: &str, turns: u64, bytes: &[u8]) -> Result<Plan,
     ensures fit { IfOk result (λ plan. MatchPlan plan (λ reply. IsTrue (is_module_status reply.status)) IsRunnable) }
     ensures allowed { IfOk result (CanCome Emit.Run) }
     ensures runs { IfOk result (PlanRuns true) }
+    ensures turns { IfOk result (HasTurns turns) }
     ensures answer { IfOk result (Plans (λ items out err s.
         ModuleAnswer Emit.Run file.now bytes.now (λ m. ModuleRun m turns items out err s) out err s)) }
 {
@@ -190,6 +194,7 @@ fn text_plan(alloc: Global, file: &str, turns: u64, bytes: &[u8]) -> Result<Plan
     ensures fit { IfOk result (λ plan. MatchPlan plan (λ reply. reply.status ≡ Status.TextRefused) IsRunnable) }
     ensures allowed { IfOk result (CanCome Emit.Runc) }
     ensures runs { IfOk result (PlanRuns true) }
+    ensures turns { IfOk result (HasTurns turns) }
     ensures answer { IfOk result (Plans (TextRun file.now bytes.now turns)) }
     ensures text { IfOk result (OfText bytes.now) }
 {

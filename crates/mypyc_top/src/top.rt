@@ -13,7 +13,7 @@ ghost use Rattle.mypyc_top_running.specs.Takes.{most_taken};
 ghost use Rattle.mypyc_top.specs.Answer.{file_meaning, Answer, IsStatus};
 ghost use Rattle.mypyc_top.specs.Modes.{IsAllowed};
 ghost use Rattle.mypyc_top.specs.Answered.{Answered};
-ghost use Rattle.mypyc_top.specs.Reads.{runs_program, runs_text, leaves_input, RunRead, ReadBy};
+ghost use Rattle.mypyc_top.specs.Reads.{runs_program, turns_of, runs_text, leaves_input, RunRead, ReadBy};
 
 use crate::plan::{Plan, plan_of};
 use mypyc_top_running::{run_and_send, send_reply};
@@ -64,13 +64,14 @@ pub fn mypyc<F: Files, I: Source, O: Sink, E: Sink>(
     ensures input_fault { result ≡ Status.InputFault → Rose (I.faults input.old) (I.faults input.new) }
     // The input is left as it was where no program is run.
     ensures input { IsTrue (leaves_input (words_of (texts words.now)) result) → input.new ≡ input.old }
-    // Where the input tells its bytes, a run took of it those of the lines that it used and at most 4095 behind them, and
-    // none where it used no line, unless a line ended too far along or a read failed. Behind a refusal of `out` it
-    // took none.
+    // Where the input tells its bytes, a run for the turns of the words took of it those of the lines that it used and at
+    // most 4095 behind them, and none where it used no line, unless a line ended too far along or a read failed. Where
+    // `out` tells, no line was used behind a call that it refused.
     ensures reads { IsTrue I.tells → IsTrue (runs_program (words_of (texts words.now))) → IsTrue (is_run_status result)
         → ReadBy result (input.new ≡ input.old) ((items : Items)
         × AreGiven I.tells (I.faults input.old) (I.faults input.new) (I.left input.old) (I.left input.new) items
-        × RunRead items (sink_call O.tells (O.taken out.old) (O.taken out.new)) (I.left input.old) (I.left input.new)
+        × RunRead items (turns_of (words_of (texts words.now)))
+        (sink_call O.tells (O.taken out.old) (O.taken out.new)) (I.left input.old) (I.left input.new)
         (λ code. (bytes : List ℕ) → IsTrue F.tells → named_content (F.content files.old) (texts words.now) ≡ Some bytes
         → IsTrue (runs_text (words_of (texts words.now))) → code_text code ≡ bytes)
         (λ text lines status. IsTrue F.tells → F.faults files.old < count_end → Answer (texts words.now)

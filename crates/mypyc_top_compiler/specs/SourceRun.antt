@@ -1,4 +1,4 @@
--- Where the run of a module stops by the rules of the source (`py_typed/specs/SourceRun.antt`), in the terms in which the
+-- Where the run of a module stops by the rules of the source (`source_meaning/specs/SourceRun.antt`), in the terms in which the
 -- machine's run is held to it.
 use Rattle.std.specs.Prelude.{◌≡◌, ℕ, Some}
 use Rattle.value_core.specs.Items.{Items}

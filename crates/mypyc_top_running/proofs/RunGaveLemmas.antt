@@ -40,9 +40,9 @@ ended program stop out ending cells (Ok rest) took e l rests has =
     (took, subst Q l (subst P e rests), has)
 ended program stop out ending cells (Err unfinished) took e l rests has = λ h. TakesFront-all out.before out.after stop.state.output (took h)
 
-pub has_of_report : (stop : Stop) (has : Bool) (r : Result Rest Unfinished) → has ≡ has_bytes stop.state.output → IfOk r (λ rest. rest.has_output ≡ has) → IfOk r (λ rest. stop.state.output ≡ [] → rest.has_output ≡ false)
-has_of_report stop has (Ok rest) is same = λ none. same ∙ no_bytes has stop.state.output is none
-has_of_report stop has (Err unfinished) is same = same
+pub has_of_run : (stop : Stop) (has : Bool) (r : Result Rest Unfinished) → has ≡ has_bytes stop.state.output → IfOk r (λ rest. rest.has_output ≡ has) → IfOk r (λ rest. stop.state.output ≡ [] → rest.has_output ≡ false)
+has_of_run stop has (Ok rest) is same = λ none. same ∙ no_bytes has stop.state.output is none
+has_of_run stop has (Err unfinished) is same = same
 
 nothing_behind : (b : Bool) (cells : List LiveCell) → behind_output b (Ended Broken) cells ≡ []
 nothing_behind true cells = refl
@@ -55,13 +55,9 @@ broken_rest : (b : Bool) (cells : List LiveCell) (r : Result Rest Unfinished) �
 broken_rest b cells (Ok rest) p = (p.0 ∙ sym (nothing_behind b cells), p.1, p.2)
 broken_rest b cells (Err unfinished) p = p
 
-broken_has : (stop : Stop) (r : Result Rest Unfinished) → IfOk r (λ rest. rest.has_output ≡ false) → IfOk r (λ rest. stop.state.output ≡ [] → rest.has_output ≡ false)
-broken_has stop (Ok rest) same = λ none. same
-broken_has stop (Err unfinished) same = same
-
-pub broken : (program : Program) (stop : Stop) (out : SinkCall) (r : Result Rest Unfinished) → (IsTrue out.tells → out.after ≡ out.before ++ stop.state.output) → stop.ending ≡ Ended Broken → IfOk r IsBroken → IfOk r (λ rest. rest.has_output ≡ false) → Finishes program stop out r
+pub broken : (program : Program) (stop : Stop) (out : SinkCall) (r : Result Rest Unfinished) → (IsTrue out.tells → out.after ≡ out.before ++ stop.state.output) → stop.ending ≡ Ended Broken → IfOk r IsBroken → IfOk r (λ rest. stop.state.output ≡ [] → rest.has_output ≡ false) → Finishes program stop out r
 broken program stop out r took e rests has =
-    ended program stop out (Ended Broken) (cells_left program.code stop) r took (sym e) refl (broken_rest program.has_summary (cells_left program.code stop) r rests) (broken_has stop r has)
+    ended program stop out (Ended Broken) (cells_left program.code stop) r took (sym e) refl (broken_rest program.has_summary (cells_left program.code stop) r rests) has
 
 -- behind what the output took already
 module _ (tells : Bool) (o0 o1 o2 : List ℕ) (err : SinkCall) (text b l : List ℕ) (s : Status) (took : IsTrue tells → o1 ≡ o0 ++ text) where

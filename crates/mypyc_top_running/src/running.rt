@@ -1,4 +1,4 @@
-ghost use Rattle.std.specs.Prelude.{◌≡◌, ◌⊎◌, [], false, Some, IsTrue, IfOk, IfErr, OnOk, IsErrOf};
+ghost use Rattle.std.specs.Prelude.{◌≡◌, ◌⊎◌, [], Some, IsTrue, IfOk, IfErr, OnOk, IsErrOf};
 ghost use Rattle.value_core.specs.Items.{Items};
 ghost use Rattle.outside_core.specs.Counts.{Rose};
 ghost use Rattle.c_core.specs.Run.{Stop, machine_run};
@@ -108,7 +108,7 @@ fn run_program<I: Source, O: Sink>(
 {
     match run(alloc, &program.code, program.turns, input, out) {
         Ok(report) => rest_of(alloc, program.has_summary, &report),
-        Err(RunError::InputFault) => broken_off(alloc),
+        Err(RunError::InputFault { has_output }) => broken_off(alloc, has_output),
         Err(RunError::WriteFault) => Err(Unfinished::WriteFault),
         Err(RunError::Memory) => Err(Unfinished::Memory),
     }
@@ -133,18 +133,15 @@ fn rest_of(alloc: Global, has_summary: bool, report: &Report) -> Result<Rest, Un
     })
 }
 
-/// What is left to send of a run that could not read its input, and has passed its output on.
-fn broken_off(alloc: Global) -> Result<Rest, Unfinished>
+/// What is left to send of a run that could not read its input: its line, where all of its output went before.
+fn broken_off(alloc: Global, has_output: bool) -> Result<Rest, Unfinished>
     ensures ok { IfOk result (λ rest. (output_text rest.reply.out ≡ []) × (rest.reply.err.items ≡ input_line)
         × (rest.reply.status ≡ Status.InputFault)) }
-    ensures output { IfOk result (λ rest. rest.has_output ≡ false) }
+    ensures output { IfOk result (λ rest. rest.has_output ≡ has_output) }
     ensures err { IfErr result (λ reason. reason ≡ Unfinished.Memory) }
 {
     let reply = ending_reply(alloc, &ProgramEnd::Broken, 0, Output::Nothing)?;
-    Ok(Rest {
-        reply,
-        has_output: false,
-    })
+    Ok(Rest { reply, has_output })
 }
 
 /// How the program of a report ended.

@@ -2,8 +2,9 @@
 use Rattle.std.specs.Prelude.{ℕ, List, [], ◌∷◌, ◌++◌, codes, decimal}
 use Rattle.value_core.specs.Exceptions.{Thrown, class_name}
 
+-- how the command is used: with all the modes that it is to have, though `ir` and `selftest` are not built and no words of a command yet
 abbrev pub usage_line : List ℕ
-usage_line = codes "usage: mypyc [--emit=check|c|run|runc] [--stage=build|errors|owned] [--turns=N] FILE\n"
+usage_line = codes "usage: mypyc [--emit=check|ir|c|run|runc|selftest] [--stage=build|errors|owned] [--turns=N] FILE\n"
 
 abbrev pub open_line : List ℕ → List ℕ
 open_line file = codes "mypyc: cannot open " ++ (file ++ codes "\n")

@@ -10,7 +10,7 @@ use value_core::Memory;
 
 /// How the command is used.
 const USAGE: &[u8] =
-    b"usage: mypyc [--emit=check|c|run|runc] [--stage=build|errors|owned] [--turns=N] FILE\n";
+    b"usage: mypyc [--emit=check|ir|c|run|runc|selftest] [--stage=build|errors|owned] [--turns=N] FILE\n";
 
 /// What goes to the output.
 #[derive(Drop)]

@@ -34,7 +34,7 @@ pub enum Status {
     InputFault,
 }
 
-/// The number that a status exits with: 0 to 13, in the order of the statuses.
+/// The number that a status exits with: from 0 on, as the statuses follow one another.
 pub fn status_number(status: Status) -> u8
     ensures { result ≡ number_of status }
 {

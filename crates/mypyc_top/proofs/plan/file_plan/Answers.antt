@@ -1,8 +1,10 @@
-use Rattle.std.proofs.Common.{refl}
+use Rattle.std.proofs.Common.{refl, IsTrue}
 use Rattle.mypyc_top_words.specs.declared.words.Emit.TheVariants.{Check, C, Run, Runc}
+use Rattle.mypyc_top_status.specs.Replies.{is_module_status}
+use Rattle.mypyc_top_compiler.proofs.Values.{if_ok}
 use Rattle.mypyc_top.specs.Answer.{ModuleAnswer, Checked, Compiled}
 use Rattle.mypyc_top.specs.Running.{TextRun, ModuleRun}
-use Rattle.mypyc_top.proofs.ReadLemmas.{no_text}
+use Rattle.mypyc_top.proofs.ReadLemmas.{no_text, sent_turns}
 use Rattle.mypyc_top.proofs.PlanLemmas.{mode_plan}
 use Rattle.mypyc_top.proofs.plan.file_plan.Goals as goal
 
@@ -21,6 +23,12 @@ returns-in-Run-clause-answer c =
 pub returns-in-Runc-clause-answer : goal.returns-in-Runc-clause-answer
 returns-in-Runc-clause-answer c =
     mode_plan c.args.request.now Runc c.as_str-file.result.now c.args.bytes.now (λ file. TextRun file c.args.bytes.now c.args.request.now.turns) c.text_plan.result c.in-Runc.is c.as_str-file.ensures (λ plan p. p) c.text_plan.ensures.answer
+
+pub returns-in-Check-clause-turns : goal.returns-in-Check-clause-turns
+returns-in-Check-clause-turns c = if_ok c.check_plan.result _ _ (sent_turns (λ reply. IsTrue (is_module_status reply.status)) c.args.request.now.turns) c.check_plan.ensures.fit
+
+pub returns-in-C-clause-turns : goal.returns-in-C-clause-turns
+returns-in-C-clause-turns c = if_ok c.compile_plan.result _ _ (sent_turns (λ reply. IsTrue (is_module_status reply.status)) c.args.request.now.turns) c.compile_plan.ensures.fit
 
 pub returns-in-Check-clause-text : goal.returns-in-Check-clause-text
 returns-in-Check-clause-text c = λ text. no_text _ c.args.request.now.emit Check c.in-Check.is refl text

@@ -94,7 +94,9 @@ returns-in-Ok-Run-clause-reads g c = λ tells runs ran.
     let planned = rw c.in-Ok-Run.field-0-is at c.in-Ok-Run.ensures.answer in
     let r = c.run_and_send.ensures.reads tells in
     let of_text = rw c.in-Ok-Run.field-0-is at c.in-Ok-Run.ensures.text in
-    was_read c.run_and_send.result _ _ (r.0, r.1, run_read c.in-Ok-Run.program r.0 _ _ _ _ _ c.run_and_send.result (λ stop run file_tells below. planned file_tells below r.0 r.1.0 stop run) of_text r.2)
+    let fit = rw c.in-Ok-Run.field-0-is at c.in-Ok-Run.ensures.fit in
+    let turns = rw c.in-Ok-Run.field-0-is at c.in-Ok-Run.ensures.turns in
+    was_read c.run_and_send.result _ _ (r.0, r.1, run_read c.in-Ok-Run.program r.0 _ _ _ _ _ _ c.run_and_send.result turns fit.0 (λ stop run file_tells below. planned file_tells below r.0 r.1.0 stop run) of_text r.2)
 
 pub returns-in-Ok-Run-clause-reads_at_most : goal.returns-in-Ok-Run-clause-reads_at_most
 returns-in-Ok-Run-clause-reads_at_most g c = λ tells.
