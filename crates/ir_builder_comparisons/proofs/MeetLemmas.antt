@@ -17,6 +17,7 @@ use Rattle.ir_builder_frames.specs.Placing.{HasType}
 use Rattle.ir_builder_frames.specs.Matching.{HasKind, IsThrown}
 use Rattle.ir_builder_frames.specs.Computing.{Shows, Makes, Attempts, OfTwo}
 use Rattle.ir_builder_frames.proofs.ComingLemmas.{on_assoc}
+use Rattle.ir_builder_frames.proofs.HeldLemmas.{type_below}
 use Rattle.ir_builder_frames.proofs.MatchLemmas.{same_refl, makes_arrives}
 use Rattle.ir_builder_comparisons.specs.declared.comparisons.Compared.TheVariants.{Ints, Natives, Texts}
 use Rattle.ir_builder_comparisons.specs.Comparing.{ordered}
@@ -24,7 +25,7 @@ use Rattle.ir_builder_operations.specs.Operating.{is_whole, ActsOn, ActsOnTwo}
 use Rattle.ir_builder_comparisons.specs.Comparing.{is_ordering, as_whole, as_value, TellsOfTwo}
 use Rattle.ir_builder_operations.proofs.KindLemmas.{by_int, by_i64, by_bool}
 use Rattle.ir_builder_comparisons.proofs.OrderLemmas.{holds_is}
-use Rattle.ir_builder_operations.proofs.ThenLemmas.{attempts_as, both_coerced}
+use Rattle.ir_builder_operations.proofs.ThenLemmas.{attempts_as, two_attempts}
 
 -- ---- a truth that was found, as a value
 
@@ -127,14 +128,14 @@ mixed_holds op s t v w st o e f k l = absurd (cc)
 
 -- ---- comparisons
 
-pub mixed_comparison : (s s' t : Sort) (op : CmpOp) (b0 b1 b2 b3 : Building) (q w r x y : ℕ) (type_y : RType) → is_ordering op ≡ true → is_number s ≡ true → is_number s' ≡ true → is_whole t ≡ true → t ≡ as_whole (compared_as s s') → HasType b0 y type_y → Attempts (Shows t) b0 b1 q (rtype_of t) (ActsOn s x (coerced t)) → Attempts (Shows t) b1 b2 w (rtype_of t) (ActsOn s' y (coerced t)) → Makes b2 b3 r rtype.Bool (OfTwo q w (TellsOfTwo t (holds op t t))) → Attempts (Shows sort.Bool) b0 b3 r rtype.Bool (ActsOnTwo s s' x y (λ v w. as_value (holds op s s' v w)))
-mixed_comparison s s' t op b0 b1 b2 b3 q w r x y type_y o e e' whole is there m m' n =
+pub mixed_comparison : (s s' t : Sort) (op : CmpOp) (b0 b1 b2 b3 : Building) (q w r x y : ℕ) (type_x type_y : RType) → is_ordering op ≡ true → is_number s ≡ true → is_number s' ≡ true → is_whole t ≡ true → t ≡ as_whole (compared_as s s') → HasType b0 x type_x → HasType b0 y type_y → Attempts (Shows t) b0 b1 q (rtype_of t) (ActsOn s x (coerced t)) → Attempts (Shows t) b1 b2 w (rtype_of t) (ActsOn s' y (coerced t)) → Makes b2 b3 r rtype.Bool (OfTwo q w (TellsOfTwo t (holds op t t))) → Attempts (Shows sort.Bool) b0 b3 r rtype.Bool (ActsOnTwo s s' x y (λ v w. as_value (holds op s s' v w)))
+mixed_comparison s s' t op b0 b1 b2 b3 q w r x y type_x type_y o e e' whole is here there m m' n =
     let k = two_tell_attempt t (holds op t t) b2 b3 r q w (λ v z k l. (ordered op v z, λ st. whole_holds t op v z st o whole k l)) n in
     let k2 = attempts_as (Shows sort.Bool) b2 b3 r rtype.Bool (ActsOnTwo t t q w (λ v z. as_value (holds op t t v z))) (ActsOnTwo t t q w (λ v z. as_value (meet op v z)))
     (λ regs st res f. record { v = f.v; left = f.left; w = f.w; right = f.right; does = f.does ∙ ap (λ z. on_to z of_truth) (whole_meets t op f.v f.w st whole f.left.1 f.right.1 ∙ sym (whole_holds t op f.v f.w st o whole f.left.1 f.right.1)) }) k in
     attempts_as (Shows sort.Bool) b0 b3 r rtype.Bool (ActsOnTwo s s' x y (coerced_both t op)) (ActsOnTwo s s' x y (λ v z. as_value (holds op s s' v z)))
     (λ regs st res f. record { v = f.v; left = f.left; w = f.w; right = f.right; does = f.does ∙ mixed_holds op s s' f.v f.w st o e e' f.left.1 f.right.1 ∙ ap (λ u. coerced_both u op f.v f.w st) (sym is) })
-    (both_coerced s s' t (Shows sort.Bool) (λ a b. as_value (meet op a b)) b0 b1 b2 b3 q w r x y (rtype_of t) type_y rtype.Bool there m m' k2)
+    (two_attempts (Shows sort.Bool) s s' t (rtype_of t) rtype.Bool x y q w r b0 b1 b2 b3 (coerced t) (coerced t) (λ a b. as_value (meet op a b)) (type_below b0 x type_x here) (type_below b0 y type_y there) m m' k2)
 
 -- two texts
 pub text_comparison_attempt : (op : CmpOp) (b c : Building) (r x y : ℕ) → is_ordering op ≡ true → Makes b c r rtype.Bool (OfTwo x y (TellsOfTwo sort.Str (holds op sort.Str sort.Str))) → Attempts (Shows sort.Bool) b c r rtype.Bool (ActsOnTwo sort.Str sort.Str x y (λ v w. as_value (holds op sort.Str sort.Str v w)))

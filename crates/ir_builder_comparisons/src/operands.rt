@@ -1,25 +1,22 @@
-//! Arithmetic on numbers and bools of any types, and their comparisons.
+//! Comparisons of numbers and bools of any types.
 ghost use Rattle.std.specs.Prelude.{◌≡◌, IfOk, true};
 ghost use Rattle.py_typed.specs.Fits.{is_number};
 ghost use Rattle.py_typed.specs.Sorts.{sort, Bool};
-ghost use Rattle.source_meaning.specs.Operations.{arithmetic, negated, compared_as, holds};
+ghost use Rattle.source_meaning.specs.Operations.{compared_as, holds};
 ghost use Rattle.ir_core.specs.Building.{Extends};
 ghost use Rattle.ir_builder_frames.specs.Computing.{Shows, Makes, Attempts, OfTwo};
 ghost use Rattle.ir_builder_frames.specs.Placing.{HasType};
 ghost use Rattle.ir_builder_frames.specs.Settings.{rtype_of};
 ghost use Rattle.ir_builder_frames.specs.Shaped.{Keeps};
 ghost use Rattle.ir_builder_frames.specs.Kinds.{KeepsKinds};
-ghost use Rattle.ir_builder_operations.specs.Operating.{is_arithmetic, is_whole, ActsOn, ActsOnTwo};
+ghost use Rattle.ir_builder_operations.specs.Operating.{is_whole, ActsOnTwo};
 ghost use Rattle.ir_builder_comparisons.specs.Comparing.{is_native as is_native_sort, is_ordering, as_whole, as_value, TellsOfTwo};
 
 use crate::comparisons::{emit_int_comparison, emit_native_comparison};
 use ir_builder_frames::Emitter;
-use ir_builder_operations::{
-    emit_coercion, emit_int_arithmetic, emit_int_negation, emit_native_arithmetic,
-    emit_native_negation,
-};
+use ir_builder_operations::emit_coercion;
 use ir_core::{RType, Reg};
-use py_syntax::{BinOp, CmpOp};
+use py_syntax::CmpOp;
 use py_typed::Ty;
 use std::alloc::Global;
 use value_core::Memory;
@@ -29,108 +26,6 @@ fn is_native(t: &Ty) -> bool
     ensures { result ≡ is_native_sort (sort t.now) }
 {
     matches!(t, Ty::I64)
-}
-
-// Operands that have the type of the result.
-fn emit_equal_arithmetic(
-    b: &mut Emitter,
-    alloc: Global,
-    t: &Ty,
-    op: BinOp,
-    x: Reg,
-    y: Reg,
-    line: usize,
-) -> Result<Reg, Memory>
-    requires operator { is_arithmetic op ≡ true }
-    requires whole { is_whole (sort t.now) ≡ true }
-    requires left { HasType b.old x.0 (rtype_of (sort t.now)) }
-    requires right { HasType b.old y.0 (rtype_of (sort t.now)) }
-    ensures kept { Extends b.old b.new }
-    ensures made { IfOk result (λ r. Attempts (Shows (sort t.now)) b.old b.new r.0 (rtype_of (sort t.now)) (ActsOnTwo (sort t.now) (sort t.now) x.0 y.0 (arithmetic (sort t.now) op))) }
-    ensures shaped { Keeps b.old b.new }
-    ensures kinds { KeepsKinds b.old b.new }
-{
-    if is_native(t) {
-        emit_native_arithmetic(b, alloc, op, x, y, line)
-    } else {
-        emit_int_arithmetic(b, alloc, op, x, y, line)
-    }
-}
-
-/// The result of an operator on numbers or bools, at the type of the result, an `int` or a native integer. Both operands are there
-/// before the first is coerced (Python Language Reference, "Arithmetic conversions"; mypyc's "Native integer types"). At run time an
-/// exception is raised where `emit_coercion` says so of an operand, and where `emit_int_arithmetic` or `emit_native_arithmetic` does of
-/// the operator.
-pub fn emit_arithmetic(
-    b: &mut Emitter,
-    alloc: Global,
-    to: &Ty,
-    op: BinOp,
-    left: &Ty,
-    x: Reg,
-    right: &Ty,
-    y: Reg,
-    line: usize,
-) -> Result<Reg, Memory>
-    requires operator { is_arithmetic op ≡ true }
-    requires whole { is_whole (sort to.now) ≡ true }
-    requires left_numeric { is_number (sort left.now) ≡ true }
-    requires right_numeric { is_number (sort right.now) ≡ true }
-    requires left { HasType b.old x.0 (rtype_of (sort left.now)) }
-    requires right { HasType b.old y.0 (rtype_of (sort right.now)) }
-    ensures kept { Extends b.old b.new }
-    ensures made { IfOk result (λ r. Attempts (Shows (sort to.now)) b.old b.new r.0 (rtype_of (sort to.now)) (ActsOnTwo (sort left.now) (sort right.now) x.0 y.0 (arithmetic (sort to.now) op))) }
-    ensures shaped { Keeps b.old b.new }
-    ensures kinds { KeepsKinds b.old b.new }
-{
-    let first = emit_coercion(b, alloc, left, to, x, line)?;
-    let second = emit_coercion(b, alloc, right, to, y, line)?;
-    emit_equal_arithmetic(b, alloc, to, op, first, second, line)
-}
-
-// An operand that has the type of the result.
-fn emit_equal_negation(
-    b: &mut Emitter,
-    alloc: Global,
-    t: &Ty,
-    x: Reg,
-    line: usize,
-) -> Result<Reg, Memory>
-    requires whole { is_whole (sort t.now) ≡ true }
-    requires value { HasType b.old x.0 (rtype_of (sort t.now)) }
-    ensures kept { Extends b.old b.new }
-    ensures made { IfOk result (λ r. Attempts (Shows (sort t.now)) b.old b.new r.0 (rtype_of (sort t.now)) (ActsOn (sort t.now) x.0 (negated (sort t.now)))) }
-    ensures shaped { Keeps b.old b.new }
-    ensures kinds { KeepsKinds b.old b.new }
-{
-    if is_native(t) {
-        emit_native_negation(b, alloc, x, line)
-    } else {
-        emit_int_negation(b, alloc, x, line)
-    }
-}
-
-/// A number or a bool with the other sign, at the type of the result, an `int` or a native integer (Python Language Reference, "Unary
-/// arithmetic and bitwise operations"). At run time an exception is raised where `emit_coercion` says so of the operand, and
-/// where `emit_int_negation` does.
-pub fn emit_negation(
-    b: &mut Emitter,
-    alloc: Global,
-    to: &Ty,
-    from: &Ty,
-    x: Reg,
-    line: usize,
-) -> Result<Reg, Memory>
-    requires whole { is_whole (sort to.now) ≡ true }
-    requires numeric { is_number (sort from.now) ≡ true }
-    requires value { HasType b.old x.0 (rtype_of (sort from.now)) }
-    ensures kept { Extends b.old b.new }
-    ensures made { IfOk result (λ r. Attempts (Shows (sort to.now)) b.old b.new r.0 (rtype_of (sort to.now)) (ActsOn (sort from.now) x.0 (negated (sort to.now)))) }
-    ensures shaped { Keeps b.old b.new }
-    ensures kinds { KeepsKinds b.old b.new }
-{
-    let operand = emit_coercion(b, alloc, from, to, x, line)?;
-    emit_equal_negation(b, alloc, to, operand, line)
 }
 
 // The type in which two numbers or bools are compared.

@@ -1,5 +1,5 @@
 -- An operation on one or two parts does with their values what it is to do, whichever it is.
-use Rattle.std.proofs.Common.{◌≡◌, refl, sym, ap, ◌∙◌, subst, ℕ, true, false, Option, None}
+use Rattle.std.proofs.Common.{◌≡◌, refl, sym, ap, ◌∙◌, subst, ℕ, true, false, [], ◌∷◌, Option, None}
 use Rattle.std.specs.Prelude.{ℤ, not}
 use Rattle.value_core.specs.Value.{Value, BoolVal, StrVal}
 use Rattle.py_syntax.specs.declared.expression.BinOp.{BinOp}
@@ -16,9 +16,12 @@ use Rattle.ir_core.specs.Building.{Building}
 use Rattle.ir_builder_frames.specs.Settings.{rtype_of}
 use Rattle.ir_builder_frames.specs.Matching.{HasKind}
 use Rattle.ir_builder_frames.specs.Computing.{Shows, Makes, Attempts, OfOne}
+use Rattle.ir_builder_frames.specs.Operands.{ActsOnAll}
 use Rattle.ir_builder_operations.specs.Operating.{ActsOn, ActsOnTwo}
 use Rattle.ir_builder_operations.proofs.KindLemmas.{by_int, by_i64, by_bool, by_text}
+use Rattle.ir_builder_operations.specs.Rows.{of_one, of_two}
 use Rattle.ir_builder_operations.proofs.ThenLemmas.{attempts_as}
+use Rattle.ir_builder_operations.proofs.PartLemmas.{as_one, as_two}
 use Rattle.ir_builder_expressions.specs.declared.applying.Unary.{Unary}
 use Rattle.ir_builder_expressions.specs.declared.applying.Unary.TheVariants as unary
 use Rattle.ir_builder_expressions.specs.declared.applying.Binary.{Binary}
@@ -105,10 +108,10 @@ module _ (op : Unary) (t : Sort) (e : TExpr) (b c : Building) (r x : ℕ) where
       let h = suited unary.Tested is suits in
       moved op unary.Tested t sort.Bool (part_sort t (typed_expr e)) (sort_of e.ty) b c r x is h.0 (own_sort t sort.Bool e h.0 refl) (truth_attempts (sort_of e.ty) b c x r tests)
 
-  pub applies_counted : op ≡ unary.Counted → UnarySuits op t (sort_of e.ty) → Attempts (Shows sort.Int) b c r rtype.Int (ActsOn sort.Str x length_of) → Whole
+  pub applies_counted : op ≡ unary.Counted → UnarySuits op t (sort_of e.ty) → Attempts (Shows sort.Int) b c r rtype.Int (ActsOnAll (sort.Str ∷ []) (record { 0 = x } ∷ []) (of_one length_of)) → Whole
   applies_counted is suits a =
       let h = suited unary.Counted is suits in
-      moved op unary.Counted t sort.Int (part_sort t (typed_expr e)) sort.Str b c r x is h.0 (own_sort t sort.Int e h.0 refl ∙ h.1) a
+      moved op unary.Counted t sort.Int (part_sort t (typed_expr e)) sort.Str b c r x is h.0 (own_sort t sort.Int e h.0 refl ∙ h.1) (as_one sort.Str sort.Int length_of b c r (record { 0 = x }) a)
 
   pub applies_written : op ≡ unary.Written → UnarySuits op t (sort_of e.ty) → Attempts (Shows sort.Str) b c r rtype.Ref (ActsOn (sort_of e.ty) x (λ v. give (StrVal (text_of v)))) → Whole
   applies_written is suits a =
@@ -138,12 +141,12 @@ module _ (op : Binary) (t : Sort) (left right : TExpr) (b c : Building) (r x y :
   both_suited : (op' : Binary) → op ≡ op' → BinarySuits op t (sort_of left.ty) (sort_of right.ty) → BinarySuits op' t (sort_of left.ty) (sort_of right.ty)
   both_suited op' is = subst (λ z. BinarySuits z t (sort_of left.ty) (sort_of right.ty)) is
 
-  pub applies_joined : op ≡ binary.Joined → BinarySuits op t (sort_of left.ty) (sort_of right.ty) → Attempts (Shows sort.Str) b c r rtype.Ref (ActsOnTwo sort.Str sort.Str x y joined) → Both
+  pub applies_joined : op ≡ binary.Joined → BinarySuits op t (sort_of left.ty) (sort_of right.ty) → Attempts (Shows sort.Str) b c r rtype.Ref (ActsOnAll (sort.Str ∷ sort.Str ∷ []) (record { 0 = x } ∷ record { 0 = y } ∷ []) (of_two joined)) → Both
   applies_joined is suits a =
       let h = both_suited binary.Joined is suits in
-      moved_two op binary.Joined t sort.Str (part_sort t (typed_expr left)) sort.Str (part_sort t (typed_expr right)) sort.Str b c r x y is h.0 (own_sort t sort.Str left h.0 refl ∙ h.1) (own_sort t sort.Str right h.0 refl ∙ h.2) a
+      moved_two op binary.Joined t sort.Str (part_sort t (typed_expr left)) sort.Str (part_sort t (typed_expr right)) sort.Str b c r x y is h.0 (own_sort t sort.Str left h.0 refl ∙ h.1) (own_sort t sort.Str right h.0 refl ∙ h.2) (as_two sort.Str sort.Str sort.Str joined b c r (record { 0 = x }) (record { 0 = y }) a)
 
-  pub applies_indexed : op ≡ binary.Indexed → BinarySuits op t (sort_of left.ty) (sort_of right.ty) → Attempts (Shows sort.Str) b c r rtype.Ref (ActsOnTwo sort.Str sort.Int x y letter) → Both
+  pub applies_indexed : op ≡ binary.Indexed → BinarySuits op t (sort_of left.ty) (sort_of right.ty) → Attempts (Shows sort.Str) b c r rtype.Ref (ActsOnAll (sort.Str ∷ sort.Int ∷ []) (record { 0 = x } ∷ record { 0 = y } ∷ []) (of_two letter)) → Both
   applies_indexed is suits a =
       let h = both_suited binary.Indexed is suits in
-      moved_two op binary.Indexed t sort.Str (part_sort t (typed_expr left)) sort.Str (part_sort t (typed_expr right)) sort.Int b c r x y is h.0 (own_sort t sort.Str left h.0 refl ∙ h.1) (own_sort t sort.Str right h.0 refl ∙ h.2) a
+      moved_two op binary.Indexed t sort.Str (part_sort t (typed_expr left)) sort.Str (part_sort t (typed_expr right)) sort.Int b c r x y is h.0 (own_sort t sort.Str left h.0 refl ∙ h.1) (own_sort t sort.Str right h.0 refl ∙ h.2) (as_two sort.Str sort.Int sort.Str letter b c r (record { 0 = x }) (record { 0 = y }) a)

@@ -1,5 +1,5 @@
 -- What is asked of an expression is asked of its parts, and what its parts promise it promises.
-use Rattle.std.proofs.Common.{◌≡◌, sym, ◌∙◌, ap, subst, ℕ, Bool, List, map}
+use Rattle.std.proofs.Common.{◌≡◌, sym, ◌∙◌, ap, subst, ℕ, Bool, List, map, Some, None}
 use Rattle.std.specs.Prelude.{ℤ}
 use Rattle.std.specs.declared.boxed.Box.{Box}
 use Rattle.std.specs.declared.alloc.Global.{Global}
@@ -15,6 +15,8 @@ use Rattle.py_typed.proofs.ExpressionLemmas.{typed_expr_of, typed_node-Bool, typ
 use Rattle.ir_core.specs.Building.{Building}
 use Rattle.ir_builder_frames.specs.Settings.{Setting}
 use Rattle.ir_builder_expressions.specs.Suiting.{Suits, NodeSuits}
+use Rattle.ir_builder_expressions.specs.Parts.{is_simple}
+use Rattle.ir_builder_expressions.specs.Arms.{ChoiceSuits}
 use Rattle.ir_builder_expressions.specs.Emitting.{Emits}
 
 abbrev Part : Type 0
@@ -89,26 +91,21 @@ module _ (m : TypedModule) (vs : List Variable) where
   pub asked : (e : TExpr) (n : TypedNode) → Is e n → Suits m vs (typed_expr e) → NodeSuits m vs n (sort_of e.ty)
   asked e n is s = subst (Suits m vs) is s
 
-  pub and_left : (e : TExpr) (a b : Part) → e.kind ≡ kind.And a b → Suits m vs (typed_expr e) → Suits m vs (typed_expr a.value)
-  and_left e a b is s = (asked e _ (is_and e a b is) s).3
+  -- of a choice by the truth of a part: each row, and its arms
+  pub and_asked : (e : TExpr) (a b : Part) → e.kind ≡ kind.And a b → Suits m vs (typed_expr e) → ChoiceSuits m vs (sort_of e.ty) (typed_expr a.value) (Some (typed_expr b.value)) None
+  and_asked e a b is s =
+      let h = asked e _ (is_and e a b is) s in
+      record { tested = ap is_simple h.1 ∙ h.0; test_suits = h.3; body_type = h.2; other_type = h.1; body_suits = h.4; other_suits = tt }
 
-  pub and_right : (e : TExpr) (a b : Part) → e.kind ≡ kind.And a b → Suits m vs (typed_expr e) → Suits m vs (typed_expr b.value)
-  and_right e a b is s = (asked e _ (is_and e a b is) s).4
+  pub or_asked : (e : TExpr) (a b : Part) → e.kind ≡ kind.Or a b → Suits m vs (typed_expr e) → ChoiceSuits m vs (sort_of e.ty) (typed_expr a.value) None (Some (typed_expr b.value))
+  or_asked e a b is s =
+      let h = asked e _ (is_or e a b is) s in
+      record { tested = ap is_simple h.1 ∙ h.0; test_suits = h.3; body_type = h.1; other_type = h.2; body_suits = tt; other_suits = h.4 }
 
-  pub or_left : (e : TExpr) (a b : Part) → e.kind ≡ kind.Or a b → Suits m vs (typed_expr e) → Suits m vs (typed_expr a.value)
-  or_left e a b is s = (asked e _ (is_or e a b is) s).3
-
-  pub or_right : (e : TExpr) (a b : Part) → e.kind ≡ kind.Or a b → Suits m vs (typed_expr e) → Suits m vs (typed_expr b.value)
-  or_right e a b is s = (asked e _ (is_or e a b is) s).4
-
-  pub cond_first : (e : TExpr) (a test b : Part) → e.kind ≡ kind.Cond a test b → Suits m vs (typed_expr e) → Suits m vs (typed_expr a.value)
-  cond_first e a test b is s = (asked e _ (is_cond e a test b is) s).4
-
-  pub cond_test : (e : TExpr) (a test b : Part) → e.kind ≡ kind.Cond a test b → Suits m vs (typed_expr e) → Suits m vs (typed_expr test.value)
-  cond_test e a test b is s = (asked e _ (is_cond e a test b is) s).5
-
-  pub cond_second : (e : TExpr) (a test b : Part) → e.kind ≡ kind.Cond a test b → Suits m vs (typed_expr e) → Suits m vs (typed_expr b.value)
-  cond_second e a test b is s = (asked e _ (is_cond e a test b is) s).6
+  pub cond_asked : (e : TExpr) (a test b : Part) → e.kind ≡ kind.Cond a test b → Suits m vs (typed_expr e) → ChoiceSuits m vs (sort_of e.ty) (typed_expr test.value) (Some (typed_expr a.value)) (Some (typed_expr b.value))
+  cond_asked e a test b is s =
+      let h = asked e _ (is_cond e a test b is) s in
+      record { tested = ap is_simple h.2; test_suits = h.5; body_type = h.1; other_type = h.3; body_suits = h.4; other_suits = h.6 }
 
 -- what it promises
 pub emits_as : (x : Setting) (e : TExpr) (n : TypedNode) (t : Sort) (b c : Building) (r : ℕ) → Is e n → sort_of e.ty ≡ t → Emits x (typed n t e.span) b c r → Emits x (typed_expr e) b c r

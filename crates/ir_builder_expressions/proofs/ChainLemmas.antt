@@ -1,5 +1,5 @@
 -- The comparisons of a chain, from the left, up to the first that does not hold.
-use Rattle.std.proofs.Common.{◌≡◌, refl, sym, ◌∙◌, ap, subst, ℕ, ◌≤◌, arith, le_refl, Bool, true, false, List, length, Option, None}
+use Rattle.std.proofs.Common.{◌≡◌, refl, sym, ◌∙◌, ap, subst, ℕ, arith, le_refl, Bool, true, false, length}
 use Rattle.std.specs.Prelude.{if◌then◌else◌}
 use Rattle.value_core.specs.Value.{Value, BoolVal}
 use Rattle.py_syntax.specs.declared.token.Span.{Span}
@@ -11,44 +11,39 @@ use Rattle.source_meaning.specs.State.{State, Outcome, Gives, Raises, Stops, Doe
 use Rattle.source_meaning.specs.Operations.{holds}
 use Rattle.ir_core.specs.declared.code.RType.TheVariants as rtype
 use Rattle.ir_core.specs.declared.code.Op.TheVariants.{Lit}
-use Rattle.ir_core.specs.declared.code.Program.{Program}
-use Rattle.ir_core.specs.Registers.{Holds, Regs}
-use Rattle.ir_core.specs.Building.{Building, Extends}
-use Rattle.ir_core.specs.Meaning.{Waiting}
+use Rattle.ir_core.specs.Registers.{Holds}
+use Rattle.ir_core.specs.Building.{Building}
 use Rattle.ir_builder_frames.specs.Settings.{Setting, rtype_of}
-use Rattle.ir_builder_frames.specs.Placing.{HasType, Placed}
+use Rattle.ir_builder_frames.specs.Placing.{HasType}
 use Rattle.ir_builder_frames.specs.Calling.{Adds}
-use Rattle.ir_builder_frames.specs.Coming.{world, running, Ends}
-use Rattle.ir_builder_frames.specs.Matching.{Matches, HasRoom, IsThrown, CallsWork}
-use Rattle.ir_builder_frames.specs.Computing.{Shows, Arrives, Computes, Attempts}
+use Rattle.ir_builder_frames.specs.Matching.{HasRoom, IsThrown}
+use Rattle.ir_builder_frames.specs.Computing.{Shows, Meaning, Arrives, Computes, Attempts}
 use Rattle.ir_builder_frames.proofs.HeldLemmas.{extends_refl, extends_trans, type_below, type_kept, placed_part}
 use Rattle.ir_builder_frames.proofs.ComingLemmas.{ends_now, ends_of, ends_map}
 use Rattle.ir_builder_frames.proofs.StepLemmas.{literal_makes}
-use Rattle.ir_builder_frames.proofs.MatchLemmas.{room_on, same_refl, same_trans, thrown_from, computes_then, makes_arrives}
+use Rattle.ir_builder_frames.proofs.MatchLemmas.{room_on, same_refl, same_trans, thrown_from, computes_then, made_computes}
 use Rattle.ir_builder_operations.specs.Operating.{ActsOnTwo}
 use Rattle.ir_builder_expressions.specs.Comparing.{holds_as}
 use Rattle.ir_builder_expressions.specs.Literals.{literal_of_truth}
 use Rattle.ir_builder_expressions.specs.Emitting.{means, means_chain, Emits, EmitsChain}
-use Rattle.ir_builder_expressions.specs.Choices.{Opens, Brings, Meets}
-use Rattle.ir_builder_expressions.proofs.FollowLemmas.{attempt_then}
-use Rattle.ir_builder_expressions.proofs.ChoiceLemmas.{shows_set, choice_runs, meet_within}
+use Rattle.ir_builder_choices.specs.Choices.{Opens, Brings, Meets}
+use Rattle.ir_builder_choices.specs.Choosing.{Behind, HasValue, ComputesFrom}
+use Rattle.ir_builder_operations.proofs.ThenLemmas.{attempt_then}
+use Rattle.ir_builder_choices.proofs.ChoiceLemmas.{Told, any_from, value_from, from_by, from_ends, computes_behind, choice_by}
 
 -- no comparison is left
 pub chain_done : {line : ℕ} (x : Setting) (s u : Sort) (first : ℕ) (b c : Building) (r : ℕ) → Adds b c r rtype.Bool (Lit record { 0 = r } (literal_of_truth true)) line → EmitsChain x s u first no_comparisons b c r
 chain_done x s u first b c r a =
     let made = literal_makes b c r rtype.Bool (literal_of_truth true) (Holds (BoolVal true)) a refl in
-    record {
-      extends = a.extends;
-      type = a.type;
-      runs = λ p fn h at n calls regs below st v match le shows.
-          makes_arrives p fn (Shows sort.Bool) _ b c r rtype.Bool below (length b.regs) regs regs x st st (BoolVal true) (Holds (BoolVal true)) (means_chain x s v no_comparisons n st) (IsThrown fn h below x (length b.regs) regs) made at.has (le_refl _) (λ j lt. refl) (same_refl x regs st match) refl refl (refl, (true, refl));
-    }
+    let holds : Meaning Value = λ n. give (BoolVal true) in
+    any_from x (HasValue u first) sort.Bool holds b c r (made_computes x (Shows sort.Bool) rtype.Bool holds _ b c r made (λ n s regs. (BoolVal true, Holds (BoolVal true), refl, refl, (refl, (true, refl)))))
 
 -- what comes behind a comparison whose truth is in a register: the rest of the chain where it holds
-pub record EmitsRest (x : Setting) (s u : Sort) (left holds : ℕ) (more : Comparisons) (old new : Building) (r : ℕ) : Type 0 where
-  pub extends : Extends old new
-  pub type : HasType new r rtype.Bool
-  pub runs : (p : Program) (fn : ℕ) (h : Option ℕ) → Placed p fn old new h → (n : ℕ) → CallsWork p x.source n → (regs : Regs) (below : List Waiting) (st : State) (v : Value) (hv : Bool) → Matches x regs st → st.turns ≤ n → Shows u v (regs left) → regs holds ≡ Holds (BoolVal hv) → Ends p st.turns (running fn (length old.blocks) (length old.ops) regs below (world None st)) ((if hv then (means_chain x s v more n) else (give (BoolVal false))) st) (Arrives (Shows sort.Bool) fn (length new.blocks) (length new.ops) below (length old.regs) regs x st r) (IsThrown fn h below x (length old.regs) regs)
+abbrev rest_goes : Setting → Sort → Comparisons → Behind (Value × Bool)
+rest_goes x s more n z = if z.1 then means_chain x s z.0 more n else give (BoolVal false)
+
+abbrev pub EmitsRest : Setting → Sort → Sort → ℕ → ℕ → Comparisons → Building → Building → ℕ → Type 0
+EmitsRest x s u left holds more old new r = ComputesFrom x (Told u left holds) sort.Bool (rest_goes x s more) old new r
 
 flag_back : (h : Bool) (s : State) → (if h then (give (BoolVal true)) else (give (BoolVal false))) s ≡ Gives (BoolVal h) s
 flag_back true s = refl
@@ -59,38 +54,20 @@ pub rest_done : (x : Setting) (s u : Sort) (left holds : ℕ) (b : Building) →
 rest_done x s u left holds b type = record {
   extends = extends_refl b;
   type = type;
-  runs = λ p fn h at n calls regs below st v hv match le shows is.
+  runs = λ p fn h at n calls regs below st z match le told.
       let R = Arrives (Shows sort.Bool) fn (length b.blocks) (length b.ops) below (length b.regs) regs x st holds in
       let T = IsThrown fn h below x (length b.regs) regs in
-      ends_of p st.turns _ _ (Gives (BoolVal hv) st) R T (flag_back hv st)
-      (ends_now p (BoolVal hv) st _ R T record { now = regs; is = refl; shows = (is, (hv, refl)); kept = λ j lt. refl; same = same_refl x regs st match });
+      ends_of p st.turns _ _ (Gives (BoolVal z.1) st) R T (flag_back z.1 st)
+      (ends_now p (BoolVal z.1) st _ R T record { now = regs; is = refl; shows = (told.1, (z.1, refl)); kept = λ j lt. refl; same = same_refl x regs st match });
 }
 
 -- other comparisons, in a choice by its truth
-pub rest_more : (x : Setting) (s u : Sort) (left holds : ℕ) (more : Comparisons) (b0 b1 b2 b3 b4 : Building) (target test first end r : ℕ) → HasRoom x b0 → HasType b0 holds rtype.Bool → Opens b0 b1 target test first rtype.Bool → EmitsChain x s u left more b1 b2 r → Brings b2 b3 target r end → Meets b3 b4 target holds holds test first end (length b3.blocks) → EmitsRest x s u left holds more b0 b4 target
-rest_more x s u left holds more b0 b1 b2 b3 b4 target test first end r room holds_type opens chain brings meets =
-    let x13 = extends_trans b1 b2 b3 chain.extends brings.extends in
-    let x03 = extends_trans b0 b1 b3 opens.extends x13 in
-    let k01 = opens.blocks in
-    let l01 = opens.extends.regs_grow in
-    let k12 = chain.extends.blocks_grow in
-    record {
-      extends = meets.extends b0 x03 (let z = opens.test_is in omega arith) (let z = brings.end_is in omega arith);
-      type = meets.types target rtype.Bool (type_kept b1 b3 target rtype.Bool x13 opens.type);
-      runs = λ p fn h at n calls regs below st v hv match le shows is.
-          let p1 = meet_within p fn b3 b4 b1 b2 target holds holds test first end (length b3.blocks) _ _ h meets (omega arith) refl brings.extends at in
-          let f : Does Value = means_chain x s v more n in
-          let g : Does Value = give (BoolVal false) in
-          let A = Arrives (Shows sort.Bool) fn (length b2.blocks) (length b2.ops) below (length b0.regs) regs x st r in
-          let B = Arrives (Shows sort.Bool) fn (length b3.blocks) (length b3.ops) below (length b0.regs) regs x st holds in
-          let T = IsThrown fn h below x (length b0.regs) regs in
-          choice_runs p fn below (Shows sort.Bool) (shows_set sort.Bool) rtype.Bool (length b0.regs) regs x st hv b0 b1 b2 b3 b3 b4 holds target test first end (length b3.blocks) r holds f g regs st T opens chain.extends brings refl (extends_refl b3) meets holds_type chain.type (type_kept b0 b3 holds rtype.Bool x03 holds_type) at.has (le_refl _) is
-          (λ yes. ends_map p st.turns _ (f st) _ A _ T
-          (λ u s2 w a. record { now = a.now; is = a.is; shows = a.shows; kept = λ j lt. a.kept j (omega arith); same = a.same })
-          (λ u s2 w z. thrown_from fn h below x (length b0.regs) (length b1.regs) regs regs u s2 w (omega arith) (λ j i lt o. refl) z)
-          (chain.runs p fn h p1 n calls regs below st v match le shows))
-          (λ no. ends_now p (BoolVal false) st _ B T record { now = regs; is = refl; shows = (is ∙ ap (λ z. Holds (BoolVal z)) no, (false, refl)); kept = λ j lt. refl; same = same_refl x regs st match });
-    }
+pub rest_more : (x : Setting) (s u : Sort) (left holds : ℕ) (more : Comparisons) (b0 b1 b2 b3 b4 : Building) (target test first end r : ℕ) → HasType b0 holds rtype.Bool → Opens b0 b1 target test first rtype.Bool → EmitsChain x s u left more b1 b2 r → Brings b2 b3 target r end → Meets b3 b4 target holds holds test first end (length b3.blocks) → EmitsRest x s u left holds more b0 b4 target
+rest_more x s u left holds more b0 b1 b2 b3 b4 target test first end r type opens chain brings meets =
+    let x03 = extends_trans b0 b1 b3 opens.extends (extends_trans b1 b2 b3 chain.extends brings.extends) in
+    choice_by x (Told u left holds) (λ z. z.1) sort.Bool (λ n z. means_chain x s z.0 more n) (λ n z. give (BoolVal false)) b0 b1 b2 b3 b3 b4 holds target test first end (length b3.blocks) r holds type (λ z regs k. k.1) opens
+    (from_by x _ (HasValue u left) sort.Bool (λ z. z.0) (λ n v. means_chain x s v more n) b1 b2 r (λ z regs k. k.0.0) chain) brings refl
+    (value_from x _ sort.Bool (λ z. BoolVal false) b3 holds (type_kept b0 b3 holds rtype.Bool x03 type) (λ z regs k. (k.0.1 ∙ ap (λ y. Holds (BoolVal y)) k.1, (false, refl)))) meets
 
 -- where a truth goes on
 abbrev after_flag : Does Value → Does Value → Value → Does Value
@@ -141,29 +118,9 @@ chain_from x s u w x0 op e more b0 b1 b2 b3 q c r room type ce made rest =
           let holds_is : now2 c ≡ Holds (BoolVal hv) = told.0 ∙ ap Holds told.1.1 in
           let goes : go z s2 ≡ (if hv then f else g) s2 = ap (λ k. after_flag f g k s2) told.1.1 in
           ends_of p s2.turns _ (go z s2) ((if hv then f else g) s2) S1 T1 goes
-          (ends_map p s2.turns _ ((if hv then f else g) s2) _ S1 _ T1
-          (λ k s3 d a. record { now = a.now; is = a.is; shows = a.shows; kept = λ j lt. a.kept j (omega arith) ∙ kept2 j lt; same = same_trans x s1 s2 s3 same2 a.same })
-          (λ k s3 d t. thrown_from fn h below x (length b1.regs) (length b2.regs) now now2 k s3 d l12 (λ j i lt o. kept2 j lt) t)
-          (rest.runs p fn h p3 n calls now2 below s2 y hv match2 (omega arith) shows2 holds_is))))));
+          (from_ends p fn h below x n calls (Told w q c) sort.Bool (rest_goes x (type_of e) more) b2 b3 r now2 now s2 s1 (y, hv) (length b1.regs) rest p3 l12 kept2 same2 match2 (omega arith) (shows2, holds_is))))));
     }
 
 -- the first operand, and the chain behind it
 pub compare_emits : (x : Setting) (u : Sort) (e : TypedExpr) (more : Comparisons) (place : Span) (b0 b1 b2 : Building) (q r : ℕ) → HasRoom x b0 → Computes x (Shows u) (rtype_of u) (means x e) b0 b1 q → EmitsChain x (type_of e) u q more b1 b2 r → Emits x (typed (Compare e more) sort.Bool place) b0 b2 r
-compare_emits x u e more place b0 b1 b2 q r room c chain =
-    let k01 = c.extends.blocks_grow in
-    let l01 = c.extends.regs_grow in
-    record {
-      extends = extends_trans b0 b1 b2 c.extends chain.extends;
-      type = chain.type;
-      runs = λ p fn h at n calls regs below s match le.
-          let p1 = placed_part p fn b0 b0 b1 b2 h (le_refl _) chain.extends at in
-          let p2 = placed_part p fn b0 b1 b2 b2 h k01 (extends_refl b2) at in
-          let R = Arrives (Shows sort.Bool) fn (length b2.blocks) (length b2.ops) below (length b0.regs) regs x s r in
-          let T = IsThrown fn h below x (length b0.regs) regs in
-          computes_then p fn h below x n calls (Shows u) (rtype_of u) (means x e) b0 b1 q regs s _ R (length b0.regs) regs c p1 room (le_refl _) (λ j i z o. refl) match le
-          (λ now v s1 le1 shows kept same1 match1.
-          ends_map p s1.turns _ (means_chain x (type_of e) v more n s1) _ R _ T
-          (λ u s2 w a. record { now = a.now; is = a.is; shows = a.shows; kept = λ j lt. a.kept j (omega arith) ∙ kept j lt; same = same_trans x s s1 s2 same1 a.same })
-          (λ u s2 w z. thrown_from fn h below x (length b0.regs) (length b1.regs) regs now u s2 w l01 (λ j i lt o. kept j lt) z)
-          (chain.runs p fn h p2 n calls now below s1 v match1 le1 shows));
-    }
+compare_emits x u e more place b0 b1 b2 q r room c chain = computes_behind x u q sort.Bool (means x e) (λ n v. means_chain x (type_of e) v more n) b0 b1 b2 r room c chain

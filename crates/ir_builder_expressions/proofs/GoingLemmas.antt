@@ -103,7 +103,7 @@ going_on x first whole p more start b b1 b2 b3 links links' left holds left' hol
           let met = last.1 in
           let chain = one_more x left left' p more b1 b2 b3 c holds' q (room_on x start b1 w01.kept room) (type_kept b b1 left.reg.0 (rtype_of (kind_sort left.shown)) w1.kept g.operand) ce made rest in
           g.ends last.0 d l.choice.target.0 r
-          (rest_more x (kind_sort left.own) (kind_sort left.shown) left.reg.0 holds.0 (chain_of (p ∷ more)) b b1 c met.mid last.0 l.choice.target.0 l.choice.test l.choice.first met.end q (room_on x start b g.walks.kept room) g.flag linked.2 chain met.brings met.meets)
+          (rest_more x (kind_sort left.own) (kind_sort left.shown) left.reg.0 holds.0 (chain_of (p ∷ more)) b b1 c met.mid last.0 l.choice.target.0 l.choice.test l.choice.first met.end q g.flag linked.2 chain met.brings met.meets)
           last.2;
     }
 

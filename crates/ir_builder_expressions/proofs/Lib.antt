@@ -1,5 +1,4 @@
 pub mod WalkingLemmas
-pub mod BuildLemmas
 pub mod CallLemmas
 pub mod ArgumentLemmas
 pub mod ArmLemmas
@@ -11,14 +10,14 @@ pub mod PieceLemmas
 pub mod PairLemmas
 pub mod SideLemmas
 pub mod ApplyLemmas
-pub mod ChoiceLemmas
-pub mod OpenLemmas
 pub mod LinkLemmas
+pub mod ChosenLemmas
 pub mod NodeLemmas
 pub mod ReadingLemmas
 pub mod ChainLemmas
 pub mod GoingLemmas
 pub mod UnsuitedLemmas
 pub mod WeightLemmas
+pub mod AppliedLemmas
 pub mod WalkLemmas
 pub mod SuitLemmas

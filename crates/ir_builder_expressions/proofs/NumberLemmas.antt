@@ -1,5 +1,5 @@
 -- Parts that are brought to a type of numbers, and what operators make of them there.
-use Rattle.std.proofs.Common.{◌≡◌, refl, sym, ap, ◌∙◌, subst, ℕ, true, false, Option, Some, None}
+use Rattle.std.proofs.Common.{◌≡◌, refl, sym, ap, ◌∙◌, subst, ℕ, true, false, [], ◌∷◌, Option, Some, None}
 use Rattle.std.specs.Prelude.{ℤ}
 use Rattle.value_core.specs.Value.{Value}
 use Rattle.py_syntax.specs.declared.expression.BinOp.{BinOp}
@@ -10,20 +10,24 @@ use Rattle.py_typed.specs.Expressions.{TypedExpr, type_of}
 use Rattle.source_meaning.specs.State.{State, Gives, Does, on_to}
 use Rattle.source_meaning.specs.Operations.{coerced, with_number, of_numbers, arithmetic, negated_as, negated}
 use Rattle.ir_core.specs.declared.code.RType.TheVariants as rtype
+use Rattle.ir_core.specs.declared.code.Reg.{Reg}
+use Rattle.ir_core.specs.Rows.{Declared, type_of_reg}
 use Rattle.ir_core.specs.Building.{Building}
 use Rattle.ir_builder_frames.specs.Settings.{rtype_of}
 use Rattle.ir_builder_frames.specs.Placing.{HasType}
 use Rattle.ir_builder_frames.specs.Matching.{HasKind}
-use Rattle.ir_builder_frames.specs.Computing.{Shows, Attempts}
+use Rattle.ir_builder_frames.specs.Computing.{Shows, HaveTypes, Attempts}
+use Rattle.ir_builder_frames.specs.Operands.{ActsOnAll}
 use Rattle.ir_builder_frames.proofs.HeldLemmas.{type_below}
-use Rattle.ir_builder_operations.specs.Operating.{is_whole, ActsOn, ActsOnTwo}
+use Rattle.ir_builder_operations.specs.Operating.{is_arithmetic, is_whole, ActsOn, ActsOnTwo}
+use Rattle.ir_builder_operations.specs.Rows.{is_known, operands_of, result_of, goes}
+use Rattle.ir_builder_expressions.specs.Applying.{arithmetic_of, negation_of}
 use Rattle.ir_builder_operations.proofs.KindLemmas.{by_int, by_i64}
-use Rattle.ir_builder_operations.proofs.PartLemmas.{stays}
-use Rattle.ir_builder_operations.proofs.ThenLemmas.{attempts_as}
+use Rattle.ir_builder_operations.proofs.PartLemmas.{stays, as_one, as_two}
+use Rattle.ir_builder_operations.proofs.ThenLemmas.{attempts_as, attempts_then, two_attempts}
 use Rattle.ir_builder_expressions.specs.Compiled.{literal_in}
 use Rattle.ir_builder_expressions.specs.Parts.{native_in, sort_by, part_sort}
 use Rattle.ir_builder_expressions.proofs.ValueLemmas.{number_coerced}
-use Rattle.ir_builder_expressions.proofs.FollowLemmas.{attempts_then, two_attempts}
 
 pub whole_numeric : (t : Sort) → is_whole t ≡ true → is_number t ≡ true
 whole_numeric sort.Int e = refl
@@ -51,6 +55,28 @@ native_stays t e n b x is type =
     let Q : Sort → Type 0 = λ u. Attempts (Shows u) b b x (rtype_of u) (ActsOn (part_sort t e) x (coerced u)) in
     let R : Sort → Type 0 = λ u. Attempts (Shows sort.I64) b b x rtype.I64 (ActsOn u x (coerced sort.I64)) in
     subst Q native (subst R part (stays sort.I64 (coerced sort.I64) b x rtype.I64 (subst P (sym part) type) (λ v s k. same_number sort.I64 refl v s k)))
+
+-- ---- the operations on numbers of a type
+
+pub arithmetic_ready : (t : Sort) (op : BinOp) (regs : Declared) (x y : Reg) → is_whole t ≡ true → is_arithmetic op ≡ true → type_of_reg regs x ≡ Some (rtype_of t) → type_of_reg regs y ≡ Some (rtype_of t) → (is_known (arithmetic_of t op) ≡ true) × HaveTypes regs (operands_of (arithmetic_of t op)) (x ∷ y ∷ [])
+arithmetic_ready sort.Int op regs x y e o k l = (o, (k, (l, tt)))
+arithmetic_ready sort.I64 op regs x y e o k l = (o, (k, (l, tt)))
+arithmetic_ready t op regs x y e o k l = let g : false ≡ true = e in absurd (cc)
+
+pub arithmetic_attempts : (t : Sort) (op : BinOp) (b c : Building) (r : ℕ) (x y : Reg) → is_whole t ≡ true → Attempts (Shows (result_of (arithmetic_of t op))) b c r (rtype_of (result_of (arithmetic_of t op))) (ActsOnAll (operands_of (arithmetic_of t op)) (x ∷ y ∷ []) (goes (arithmetic_of t op))) → Attempts (Shows t) b c r (rtype_of t) (ActsOnTwo t t x.0 y.0 (arithmetic t op))
+arithmetic_attempts sort.Int op b c r x y e a = as_two sort.Int sort.Int sort.Int (arithmetic sort.Int op) b c r x y a
+arithmetic_attempts sort.I64 op b c r x y e a = as_two sort.I64 sort.I64 sort.I64 (arithmetic sort.I64 op) b c r x y a
+arithmetic_attempts t op b c r x y e a = let g : false ≡ true = e in absurd (cc)
+
+pub negation_ready : (t : Sort) (regs : Declared) (x : Reg) → is_whole t ≡ true → type_of_reg regs x ≡ Some (rtype_of t) → (is_known (negation_of t) ≡ true) × HaveTypes regs (operands_of (negation_of t)) (x ∷ [])
+negation_ready sort.Int regs x e k = (refl, (k, tt))
+negation_ready sort.I64 regs x e k = (refl, (k, tt))
+negation_ready t regs x e k = let g : false ≡ true = e in absurd (cc)
+
+pub negation_attempts : (t : Sort) (b c : Building) (r : ℕ) (x : Reg) → is_whole t ≡ true → Attempts (Shows (result_of (negation_of t))) b c r (rtype_of (result_of (negation_of t))) (ActsOnAll (operands_of (negation_of t)) (x ∷ []) (goes (negation_of t))) → Attempts (Shows t) b c r (rtype_of t) (ActsOn t x.0 (negated t))
+negation_attempts sort.Int b c r x e a = as_one sort.Int sort.Int (negated sort.Int) b c r x a
+negation_attempts sort.I64 b c r x e a = as_one sort.I64 sort.I64 (negated sort.I64) b c r x a
+negation_attempts t b c r x e a = let g : false ≡ true = e in absurd (cc)
 
 -- ---- the other sign
 

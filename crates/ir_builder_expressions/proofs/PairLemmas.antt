@@ -14,7 +14,7 @@ use Rattle.ir_builder_frames.specs.Placing.{HasType}
 use Rattle.ir_builder_frames.specs.Computing.{Shows, Makes, Attempts, OfTwo}
 use Rattle.ir_builder_frames.proofs.HeldLemmas.{type_below}
 use Rattle.ir_builder_operations.specs.Operating.{ActsOn, ActsOnTwo, is_whole}
-use Rattle.ir_builder_operations.proofs.ThenLemmas.{attempts_as}
+use Rattle.ir_builder_operations.proofs.ThenLemmas.{attempts_as, two_attempts}
 use Rattle.ir_builder_comparisons.specs.Comparing.{as_value, TellsOfTwo}
 use Rattle.ir_builder_comparisons.proofs.MeetLemmas.{text_comparison_attempt}
 use Rattle.ir_builder_expressions.specs.Compiled.{is_ordering}
@@ -23,7 +23,6 @@ use Rattle.ir_builder_expressions.specs.declared.comparing.Kind.TheVariants as k
 use Rattle.ir_builder_expressions.specs.declared.comparing.Side.{Side}
 use Rattle.ir_builder_expressions.specs.Comparing.{kind_sort, is_compared, is_shown_as, holds_as, taken_as, test_of}
 use Rattle.ir_builder_expressions.proofs.ValueLemmas.{holds_is}
-use Rattle.ir_builder_expressions.proofs.FollowLemmas.{two_attempts}
 use Rattle.ir_builder_expressions.proofs.NumberLemmas.{same_number}
 
 -- ---- one after another

@@ -18,7 +18,7 @@ use Rattle.ir_builder_frames.specs.Computing.{HaveTypes}
 use Rattle.ir_builder_frames.specs.Kinds.{Surrounding, IsOf, Take, AreAlike, Calls, LiteralFits, head_of, IsAmong, KeepsKinds, KeepsKindsIf}
 use Rattle.ir_builder_frames.proofs.HeldLemmas.{extends_refl, extends_trans, type_kept}
 use Rattle.ir_builder_expressions.specs.Literals.{literal_of_truth}
-use Rattle.ir_builder_expressions.specs.Choices.{Opens, Meets}
+use Rattle.ir_builder_choices.specs.Choices.{Opens, Meets}
 use Rattle.ir_builder_expressions.specs.Walking.{Walks}
 
 module _ (m : TypedModule) where

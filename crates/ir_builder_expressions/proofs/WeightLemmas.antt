@@ -1,14 +1,14 @@
 -- The number of nodes that a walk over an expression goes through, which falls from each node to its parts.
-use Rattle.std.proofs.Common.{◌≡◌, ap, ℕ, ◌+◌, ◌-◌, ◌<◌, ◌≤◌, arith, List, [], ◌∷◌, length, map, take, drop, get_or}
+use Rattle.std.proofs.Common.{◌≡◌, ap, ℕ, ◌+◌, ◌-◌, ◌<◌, ◌≤◌, arith, List, [], ◌∷◌, length, map, take, drop, get_or, Option, Some, None}
 use Rattle.std.proofs.lemmas.List.{take_all}
+use Rattle.std.specs.Borrow.{Bor}
 use Rattle.std.specs.declared.boxed.Box.{Box}
 use Rattle.std.specs.declared.alloc.Global.{Global}
-use Rattle.py_syntax.specs.declared.expression.BinOp.{BinOp}
 use Rattle.py_syntax.specs.declared.expression.CmpOp.{CmpOp}
 use Rattle.py_typed.specs.declared.expression.TExpr.{TExpr}
 use Rattle.py_typed.specs.declared.expression.TKind as kind
 use Rattle.py_typed.specs.Expressions.{TypedExpr, TypedNode, typed, Neg, Not, Truth, Arith, Concat, Compare, And, Or, Cond, At, Call, Len, ToStr, Coerce, TypedExprs, no_exprs, expr_then, Comparisons, no_comparisons, comparison_then, typed_expr, exprs_of, comparisons_of, typed_comparison}
-use Rattle.ir_builder_expressions.proofs.ArmLemmas.{Is, is_neg, is_not, is_truth, is_arith, is_compare, is_and, is_or, is_cond, is_call, is_coerce, is_concat, is_at, is_len, is_to_str}
+use Rattle.ir_builder_expressions.proofs.ArmLemmas.{Is, is_compare, is_and, is_or, is_cond, is_call}
 
 abbrev Part : Type 0
 Part = Box TExpr Global
@@ -51,39 +51,17 @@ weight_of_all es = row_weight (exprs_of (map typed_expr es))
 abbrev pub weight_of_chain : List (CmpOp × TExpr) → ℕ
 weight_of_chain cs = chain_weight (comparisons_of (map typed_comparison cs))
 
+-- one that may be missing
+abbrev pub weight_of_arm : Option (Bor TExpr) → ℕ
+weight_of_arm None = 0
+weight_of_arm (Some e) = weight_of e.now
+
 weight_as : (e : TExpr) (n : TypedNode) → Is e n → weight_of e ≡ node_weight n
 weight_as e n is = ap weight is
 
 -- a part by another name
 pub same_weight : (a e : TExpr) → a ≡ e → weight_of a ≡ weight_of e
 same_weight a e is = ap weight_of is
-
-pub neg_weight : (e : TExpr) (a : Part) → e.kind ≡ kind.Neg a → weight_of e ≡ weight_of a.value + 1
-neg_weight e a is = weight_as e (Neg (typed_expr a.value)) (is_neg e a is)
-
-pub not_weight : (e : TExpr) (a : Part) → e.kind ≡ kind.Not a → weight_of e ≡ weight_of a.value + 1
-not_weight e a is = weight_as e (Not (typed_expr a.value)) (is_not e a is)
-
-pub truth_weight : (e : TExpr) (a : Part) → e.kind ≡ kind.Truth a → weight_of e ≡ weight_of a.value + 1
-truth_weight e a is = weight_as e (Truth (typed_expr a.value)) (is_truth e a is)
-
-pub coerce_weight : (e : TExpr) (a : Part) → e.kind ≡ kind.Coerce a → weight_of e ≡ weight_of a.value + 1
-coerce_weight e a is = weight_as e (Coerce (typed_expr a.value)) (is_coerce e a is)
-
-pub arith_weight : (e : TExpr) (op : BinOp) (a b : Part) → e.kind ≡ kind.Arith op a b → weight_of e ≡ weight_of a.value + weight_of b.value + 1
-arith_weight e op a b is = weight_as e (Arith op (typed_expr a.value) (typed_expr b.value)) (is_arith e op a b is)
-
-pub len_weight : (e : TExpr) (a : Part) → e.kind ≡ kind.Len a → weight_of e ≡ weight_of a.value + 1
-len_weight e a is = weight_as e (Len (typed_expr a.value)) (is_len e a is)
-
-pub to_str_weight : (e : TExpr) (a : Part) → e.kind ≡ kind.ToStr a → weight_of e ≡ weight_of a.value + 1
-to_str_weight e a is = weight_as e (ToStr (typed_expr a.value)) (is_to_str e a is)
-
-pub concat_weight : (e : TExpr) (a b : Part) → e.kind ≡ kind.Concat a b → weight_of e ≡ weight_of a.value + weight_of b.value + 1
-concat_weight e a b is = weight_as e (Concat (typed_expr a.value) (typed_expr b.value)) (is_concat e a b is)
-
-pub at_weight : (e : TExpr) (a b : Part) → e.kind ≡ kind.At a b → weight_of e ≡ weight_of a.value + weight_of b.value + 1
-at_weight e a b is = weight_as e (At (typed_expr a.value) (typed_expr b.value)) (is_at e a b is)
 
 pub compare_weight : (e : TExpr) (a : Part) (cs : List (CmpOp × TExpr)) → e.kind ≡ kind.Compare a cs → weight_of e ≡ weight_of a.value + weight_of_chain cs + 1
 compare_weight e a cs is = weight_as e (Compare (typed_expr a.value) (comparisons_of (map typed_comparison cs))) (is_compare e a cs is)

@@ -1,28 +1,22 @@
 -- What the code of an expression does.
-use Rattle.std.specs.Prelude.{◌≡◌, ℕ, ◌≤◌, true, List, length, Option, None}
+use Rattle.std.specs.Prelude.{◌≡◌, ℕ, true, List}
 use Rattle.value_core.specs.Value.{Value}
 use Rattle.py_typed.specs.Sorts.{Sort, Bool}
 use Rattle.py_typed.specs.Expressions.{TypedExpr, TypedExprs, Comparisons, type_of}
 use Rattle.source_meaning.specs.ExpressionMeaning.{expression, expressions, chain}
-use Rattle.source_meaning.specs.State.{State, on_to}
+use Rattle.source_meaning.specs.State.{on_to}
 use Rattle.source_meaning.specs.SourceRun.{call_of}
-use Rattle.ir_core.specs.declared.code.Program.{Program}
-use Rattle.ir_core.specs.declared.code.RType.TheVariants as rtype
 use Rattle.ir_core.specs.declared.code.Reg.{Reg}
-use Rattle.ir_core.specs.Registers.{Regs}
-use Rattle.ir_core.specs.Building.{Building, Extends}
-use Rattle.ir_core.specs.Meaning.{Waiting}
+use Rattle.ir_core.specs.Building.{Building}
 use Rattle.ir_builder_frames.specs.Settings.{Setting, rtype_of}
-use Rattle.ir_builder_frames.specs.Placing.{HasType, Placed}
-use Rattle.ir_builder_frames.specs.Coming.{world, running, Ends}
-use Rattle.ir_builder_frames.specs.Matching.{Matches, IsThrown, CallsWork}
 use Rattle.ir_builder_expressions.specs.declared.applying.Unary.{Unary}
 use Rattle.ir_builder_expressions.specs.declared.applying.Binary.{Binary}
 use Rattle.ir_builder_expressions.specs.Parts.{part_sort}
 use Rattle.ir_builder_expressions.specs.Applying.{unary_goes, binary_goes}
 use Rattle.ir_builder_expressions.specs.declared.comparing.Side.{Side}
 use Rattle.ir_builder_expressions.specs.Comparing.{kind_sort, is_shown_as}
-use Rattle.ir_builder_frames.specs.Computing.{Shows, Meaning, Arrives, Computes, ComputesAll}
+use Rattle.ir_builder_frames.specs.Computing.{Shows, Meaning, Computes, ComputesAll}
+use Rattle.ir_builder_choices.specs.Choosing.{HasValue, ComputesFrom}
 
 -- what an expression means, by the bound of calls and turns
 abbrev pub means : Setting → TypedExpr → Meaning Value
@@ -61,7 +55,5 @@ pub record EmitsSide (x : Setting) (e : TypedExpr) (q : Side) (old new : Buildin
   pub emits : Computes x (Shows (kind_sort q.shown)) (rtype_of (kind_sort q.shown)) (means x e) old new q.reg.0
 
 -- the comparisons of a chain behind an operand of a type, whose value is in a register of a type
-pub record EmitsChain (x : Setting) (s u : Sort) (first : ℕ) (more : Comparisons) (old new : Building) (r : ℕ) : Type 0 where
-  pub extends : Extends old new
-  pub type : HasType new r rtype.Bool
-  pub runs : (p : Program) (fn : ℕ) (h : Option ℕ) → Placed p fn old new h → (n : ℕ) → CallsWork p x.source n → (regs : Regs) (below : List Waiting) (st : State) (v : Value) → Matches x regs st → st.turns ≤ n → Shows u v (regs first) → Ends p st.turns (running fn (length old.blocks) (length old.ops) regs below (world None st)) (means_chain x s v more n st) (Arrives (Shows Bool) fn (length new.blocks) (length new.ops) below (length old.regs) regs x st r) (IsThrown fn h below x (length old.regs) regs)
+abbrev pub EmitsChain : Setting → Sort → Sort → ℕ → Comparisons → Building → Building → ℕ → Type 0
+EmitsChain x s u first more old new r = ComputesFrom x (HasValue u first) Bool (λ n v. means_chain x s v more n) old new r

@@ -4,9 +4,9 @@ use Rattle.ir_core.specs.declared.code.RType.TheVariants as rtype
 use Rattle.ir_core.specs.declared.code.Reg.{Reg}
 use Rattle.ir_core.specs.Building.{Building, Extends}
 use Rattle.ir_builder_frames.specs.Placing.{HasType}
-use Rattle.ir_builder_expressions.specs.declared.choice.Choice.{Choice}
+use Rattle.ir_builder_choices.specs.declared.choice.Choice.{Choice}
 use Rattle.ir_builder_expressions.specs.declared.chain.Link.{Link}
-use Rattle.ir_builder_expressions.specs.Choices.{Opens, Brings, Meets}
+use Rattle.ir_builder_choices.specs.Choices.{Opens, Brings, Meets}
 
 -- the choice of a comparison was begun, whose truth is in a register
 pub record Begins (old new : Building) (l : Link) : Type 0 where

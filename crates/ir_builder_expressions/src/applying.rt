@@ -1,5 +1,5 @@
 //! Operations on the values of one or two parts of an expression.
-ghost use Rattle.std.specs.Prelude.{◌≡◌, IfOk, true};
+ghost use Rattle.std.specs.Prelude.{◌≡◌, IfOk, true, Some, is_some};
 ghost use Rattle.py_typed.specs.Fits.{is_number};
 ghost use Rattle.py_typed.specs.Sorts.{sort};
 ghost use Rattle.py_typed.specs.Expressions.{typed_expr};
@@ -13,12 +13,12 @@ ghost use Rattle.ir_builder_frames.specs.Kinds.{KeepsKinds};
 ghost use Rattle.ir_builder_operations.specs.Operating.{is_whole, ActsOn, ActsOnTwo};
 ghost use Rattle.ir_builder_expressions.specs.Compiled.{is_built, literal_in};
 ghost use Rattle.ir_builder_expressions.specs.Parts.{fitting_in, native_in, part_sort};
-ghost use Rattle.ir_builder_expressions.specs.Applying.{unary_goes, binary_goes, UnarySuits, BinarySuits};
+ghost use Rattle.ir_builder_expressions.specs.Applying.{unary_goes, binary_goes, UnarySuits, BinarySuits, arithmetic_of, negation_of, applied_in, node_in, seen};
 
 use crate::types::is_native;
-use ir_builder_comparisons::{emit_arithmetic, emit_inversion, emit_negation, emit_truth};
+use ir_builder_comparisons::{emit_inversion, emit_truth};
 use ir_builder_frames::Emitter;
-use ir_builder_operations::{emit_coercion, emit_concat, emit_item, emit_length, emit_text_of};
+use ir_builder_operations::{Operation, emit_coercion, emit_operation, emit_text_of};
 use ir_core::Reg;
 use py_syntax::BinOp;
 use py_typed::{TExpr, TKind, Ty};
@@ -43,6 +43,32 @@ pub enum Binary {
     Arithmetic(BinOp),
     Joined,
     Indexed,
+}
+
+/// An operation with its parts.
+#[derive(Clone, Copy)]
+pub(crate) enum Applied<'a> {
+    One(Unary, &'a TExpr),
+    Two(Binary, &'a TExpr, &'a TExpr),
+}
+
+/// The operation that an expression is, with its parts.
+pub(crate) fn operation_in(e: &TExpr) -> Applied<'_>
+    requires { is_some (applied_in (node_in (typed_expr e.now))) ≡ true }
+    ensures { Some (seen result) ≡ applied_in (node_in (typed_expr e.now)) }
+{
+    match &e.kind {
+        TKind::Neg(x) => Applied::One(Unary::Negated, x),
+        TKind::Not(x) => Applied::One(Unary::Inverted, x),
+        TKind::Truth(x) => Applied::One(Unary::Tested, x),
+        TKind::Len(x) => Applied::One(Unary::Counted, x),
+        TKind::ToStr(x) => Applied::One(Unary::Written, x),
+        TKind::Coerce(x) => Applied::One(Unary::Coerced, x),
+        TKind::Arith(op, x, y) => Applied::Two(Binary::Arithmetic(*op), x, y),
+        TKind::Concat(x, y) => Applied::Two(Binary::Joined, x, y),
+        TKind::At(x, y) => Applied::Two(Binary::Indexed, x, y),
+        _ => unreachable!(),
+    }
 }
 
 // The number, where it is a native integer.
@@ -99,6 +125,26 @@ fn emit_coerced(
     }
 }
 
+// The operation of an operator on numbers of a type.
+fn arithmetic_on(t: &Ty, op: BinOp) -> Operation
+    ensures { result ≡ arithmetic_of (sort t.now) op }
+{
+    match t {
+        Ty::I64 => Operation::NativeArithmetic(op),
+        _ => Operation::IntArithmetic(op),
+    }
+}
+
+// The operation that gives a number of a type with the other sign.
+fn negation_on(t: &Ty) -> Operation
+    ensures { result ≡ negation_of (sort t.now) }
+{
+    match t {
+        Ty::I64 => Operation::NativeNegation,
+        _ => Operation::IntNegation,
+    }
+}
+
 // The result of an operator on two parts in a type. Both are there before the first is coerced.
 fn emit_numbers(
     b: &mut Emitter,
@@ -124,7 +170,8 @@ fn emit_numbers(
 {
     let first = emit_coerced(b, alloc, left, t, x, line)?;
     let second = emit_coerced(b, alloc, right, t, y, line)?;
-    emit_arithmetic(b, alloc, t, op, t, first, t, second, line)
+    let operation = arithmetic_on(t, op);
+    emit_operation(b, alloc, operation, &[first, second], line)
 }
 
 // The other sign of a part in a type.
@@ -145,7 +192,8 @@ fn emit_negated(
     ensures kinds { KeepsKinds b.old b.new }
 {
     let number = emit_coerced(b, alloc, e, t, x, line)?;
-    emit_negation(b, alloc, t, t, number, line)
+    let operation = negation_on(t);
+    emit_operation(b, alloc, operation, &[number], line)
 }
 
 /// The result of an operation on a part, whose value is in a register.
@@ -169,7 +217,7 @@ pub(crate) fn emit_unary(
         Unary::Negated => emit_negated(b, alloc, t, e, x, line),
         Unary::Inverted => emit_inversion(b, alloc, x, line),
         Unary::Tested => emit_truth(b, alloc, &e.ty, x, line),
-        Unary::Counted => emit_length(b, alloc, x, line),
+        Unary::Counted => emit_operation(b, alloc, Operation::Length, &[x], line),
         Unary::Written => emit_text_of(b, alloc, &e.ty, x, line),
         Unary::Coerced => emit_coerced(b, alloc, e, t, x, line),
     }
@@ -197,7 +245,7 @@ pub(crate) fn emit_binary(
 {
     match op {
         Binary::Arithmetic(op) => emit_numbers(b, alloc, op, t, left, right, x, y, line),
-        Binary::Joined => emit_concat(b, alloc, x, y, line),
-        Binary::Indexed => emit_item(b, alloc, x, y, line),
+        Binary::Joined => emit_operation(b, alloc, Operation::Concatenation, &[x, y], line),
+        Binary::Indexed => emit_operation(b, alloc, Operation::Letter, &[x, y], line),
     }
 }

@@ -6,7 +6,7 @@ ghost use Rattle.ir_builder_frames.specs.Shaped.{Keeps};
 ghost use Rattle.ir_builder_frames.specs.Kinds.{KeepsKinds};
 ghost use Rattle.ir_builder_expressions.specs.Linking.{Begins, Linked, Pending, Met, Ended};
 
-use crate::choice::{Choice, begin, meet, turn};
+use ir_builder_choices::{Choice, begin, meet, turn};
 use ir_builder_frames::Emitter;
 use ir_core::{RType, Reg};
 use value_core::{Many, Memory};

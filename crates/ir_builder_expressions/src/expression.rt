@@ -1,7 +1,7 @@
 //! The code of expressions.
-ghost use Rattle.std.specs.Prelude.{◌≡◌, ℕ, ◌≤◌, true, length, map, IfOk};
-ghost use Rattle.py_typed.specs.Sorts.{Sort, sort, Bool as BoolSort};
-ghost use Rattle.py_typed.specs.Expressions.{typed, And, Or, Cond, typed_expr, exprs_of, comparisons_of, typed_comparison, type_of};
+ghost use Rattle.std.specs.Prelude.{◌≡◌, ℕ, ◌≤◌, true, length, map, IfOk, is_some};
+ghost use Rattle.py_typed.specs.Sorts.{Sort, sort};
+ghost use Rattle.py_typed.specs.Expressions.{typed_expr, exprs_of, comparisons_of, typed_comparison, type_of};
 ghost use Rattle.py_typed.specs.Statements.{typed_module, variable};
 ghost use Rattle.ir_core.specs.Building.{Extends};
 ghost use Rattle.ir_builder_frames.specs.Settings.{setting, rtype_of};
@@ -10,21 +10,24 @@ ghost use Rattle.ir_builder_frames.specs.Placing.{HasType};
 ghost use Rattle.ir_builder_frames.specs.Shaped.{Keeps};
 ghost use Rattle.ir_builder_frames.specs.Kinds.{IsAmong, KeepsKindsIf};
 ghost use Rattle.ir_builder_expressions.specs.Parts.{is_simple};
-ghost use Rattle.ir_builder_expressions.specs.Applying.{UnarySuits, BinarySuits};
+ghost use Rattle.ir_builder_expressions.specs.Applying.{UnarySuits, BinarySuits, applied_in, node_in};
 ghost use Rattle.ir_builder_expressions.specs.Comparing.{kind_sort, is_shown_as};
 ghost use Rattle.ir_builder_expressions.specs.Suiting.{Suits, SomeSuit, ComparisonsSuit};
+ghost use Rattle.ir_builder_expressions.specs.Arms.{arm_of, ArmSuits, ChoiceSuits, EmitsArm, EmitsChoice};
 ghost use Rattle.ir_builder_expressions.specs.Walking.{Walks};
 ghost use Rattle.ir_builder_expressions.specs.Emitting.{Emits, EmitsPart, EmitsOne, EmitsTwo, EmitsAll, EmitsSide, EmitsChain};
 
-use crate::applying::{Binary, Unary, emit_binary, emit_unary, native_literal};
+use crate::applying::{
+    Applied, Binary, Unary, emit_binary, emit_unary, native_literal, operation_in,
+};
 use crate::chain::{begin_link, meet_links};
-use crate::choice::{begin, meet, turn};
 use crate::comparing::{
     Kind, Side, emit_pair, joined_kind, kind_of, other_kind, shown_kind, type_of_kind,
 };
 use crate::global::emit_global_value;
 use crate::local::emit_local;
 use crate::types::{register_type, truth};
+use ir_builder_choices::{begin, meet, turn};
 use ir_builder_comparisons::emit_truth;
 use ir_builder_frames::{Emitter, Frame};
 use ir_builder_operations::{emit_input, emit_int, emit_text};
@@ -59,42 +62,6 @@ pub fn emit_expression(
         TKind::Bool(value) => b.literal(RType::Bool, truth(*value), line),
         TKind::Local(i) => emit_local(b, alloc, locals, frame, *i, line),
         TKind::Global(i) => emit_global_value(b, alloc, checked, *i, line),
-        TKind::Neg(x) => {
-            let op = Unary::Negated;
-            emit_one_part(b, alloc, checked, locals, frame, op, &e.ty, x, line)
-        }
-        TKind::Not(x) => {
-            let op = Unary::Inverted;
-            emit_one_part(b, alloc, checked, locals, frame, op, &e.ty, x, line)
-        }
-        TKind::Truth(x) => {
-            let op = Unary::Tested;
-            emit_one_part(b, alloc, checked, locals, frame, op, &e.ty, x, line)
-        }
-        TKind::Arith(op, x, y) => {
-            let op = Binary::Arithmetic(*op);
-            emit_two_parts(b, alloc, checked, locals, frame, op, &e.ty, x, y, line)
-        }
-        TKind::Concat(x, y) => {
-            let op = Binary::Joined;
-            emit_two_parts(b, alloc, checked, locals, frame, op, &e.ty, x, y, line)
-        }
-        TKind::At(x, y) => {
-            let op = Binary::Indexed;
-            emit_two_parts(b, alloc, checked, locals, frame, op, &e.ty, x, y, line)
-        }
-        TKind::Len(x) => {
-            let op = Unary::Counted;
-            emit_one_part(b, alloc, checked, locals, frame, op, &e.ty, x, line)
-        }
-        TKind::ToStr(x) => {
-            let op = Unary::Written;
-            emit_one_part(b, alloc, checked, locals, frame, op, &e.ty, x, line)
-        }
-        TKind::Coerce(x) => {
-            let op = Unary::Coerced;
-            emit_one_part(b, alloc, checked, locals, frame, op, &e.ty, x, line)
-        }
         TKind::Compare(x, rest) => {
             let other = other_kind(x, rest.as_slice());
             let first = emit_side(b, alloc, checked, locals, frame, other, x, line)?;
@@ -109,15 +76,57 @@ pub fn emit_expression(
                 line,
             )
         }
-        TKind::And(x, y) => emit_and(b, alloc, checked, locals, frame, x, y, line),
-        TKind::Or(x, y) => emit_or(b, alloc, checked, locals, frame, x, y, line),
-        TKind::Cond(x, test, y) => emit_choice(b, alloc, checked, locals, frame, x, test, y, line),
+        TKind::And(x, y) => {
+            let right = Some(&**y);
+            emit_choice(
+                b, alloc, checked, locals, frame, &e.ty, x, right, None, line,
+            )
+        }
+        TKind::Or(x, y) => {
+            let right = Some(&**y);
+            emit_choice(
+                b, alloc, checked, locals, frame, &e.ty, x, None, right, line,
+            )
+        }
+        TKind::Cond(x, test, y) => {
+            let (body, other) = (Some(&**x), Some(&**y));
+            emit_choice(
+                b, alloc, checked, locals, frame, &e.ty, test, body, other, line,
+            )
+        }
         TKind::Call(f, args) => {
             let args = emit_arguments(b, alloc, checked, locals, frame, args.as_slice(), line)?;
             b.call(register_type(&e.ty), *f, args, line)
         }
         TKind::Input => emit_input(b, alloc, line),
-        _ => unreachable!(),
+        _ => emit_applied(b, alloc, checked, locals, frame, e, line),
+    }
+}
+
+// An operation on parts.
+#[cycle(expression)]
+fn emit_applied(
+    b: &mut Emitter,
+    alloc: Global,
+    checked: &Checked,
+    locals: &[Var],
+    frame: Frame,
+    e: &TExpr,
+    line: usize,
+) -> Result<Reg, Memory>
+    requires applied { is_some (applied_in (node_in (typed_expr e.now))) ≡ true }
+    requires suits { Suits (typed_module checked.now) (map variable locals.now) (typed_expr e.now) }
+    requires room { HasRoom (setting checked.now locals.now frame) b.old }
+    ensures walked { Walks (typed_module checked.now) b.old b.new }
+    ensures emitted { IfOk result (λ r. Emits (setting checked.now locals.now frame) (typed_expr e.now) b.old b.new r.0) }
+{
+    match operation_in(e) {
+        Applied::One(op, x) => {
+            emit_one_part(b, alloc, checked, locals, frame, op, &e.ty, x, line)
+        }
+        Applied::Two(op, x, y) => {
+            emit_two_parts(b, alloc, checked, locals, frame, op, &e.ty, x, y, line)
+        }
     }
 }
 
@@ -218,67 +227,7 @@ pub fn emit_arguments(
     Ok(regs)
 }
 
-// `a and b`, in the type of both.
-#[cycle(expression)]
-fn emit_and(
-    b: &mut Emitter,
-    alloc: Global,
-    checked: &Checked,
-    locals: &[Var],
-    frame: Frame,
-    left: &TExpr,
-    right: &TExpr,
-    line: usize,
-) -> Result<Reg, Memory>
-    requires simple { is_simple (sort left.now.ty) ≡ true }
-    requires same { sort right.now.ty ≡ sort left.now.ty }
-    requires left { Suits (typed_module checked.now) (map variable locals.now) (typed_expr left.now) }
-    requires right { Suits (typed_module checked.now) (map variable locals.now) (typed_expr right.now) }
-    requires room { HasRoom (setting checked.now locals.now frame) b.old }
-    ensures walked { Walks (typed_module checked.now) b.old b.new }
-    ensures emitted { IfOk result (λ r. Emits (setting checked.now locals.now frame) (typed (And (typed_expr left.now) (typed_expr right.now)) (sort left.now.ty) left.now.span) b.old b.new r.0) }
-{
-    let x = emit_expression(b, alloc, checked, locals, frame, left, line)?;
-    let condition = emit_truth(b, alloc, &left.ty, x, line)?;
-    let choice = begin(b, register_type(&left.ty))?;
-    let y = emit_expression(b, alloc, checked, locals, frame, right, line)?;
-    let end = turn(b, choice, y, line)?;
-    let second = b.here();
-    meet(b, choice, condition, end, second, x, line)?;
-    Ok(choice.target)
-}
-
-// `a or b`, in the type of both.
-#[cycle(expression)]
-fn emit_or(
-    b: &mut Emitter,
-    alloc: Global,
-    checked: &Checked,
-    locals: &[Var],
-    frame: Frame,
-    left: &TExpr,
-    right: &TExpr,
-    line: usize,
-) -> Result<Reg, Memory>
-    requires simple { is_simple (sort left.now.ty) ≡ true }
-    requires same { sort right.now.ty ≡ sort left.now.ty }
-    requires left { Suits (typed_module checked.now) (map variable locals.now) (typed_expr left.now) }
-    requires right { Suits (typed_module checked.now) (map variable locals.now) (typed_expr right.now) }
-    requires room { HasRoom (setting checked.now locals.now frame) b.old }
-    ensures walked { Walks (typed_module checked.now) b.old b.new }
-    ensures emitted { IfOk result (λ r. Emits (setting checked.now locals.now frame) (typed (Or (typed_expr left.now) (typed_expr right.now)) (sort left.now.ty) left.now.span) b.old b.new r.0) }
-{
-    let x = emit_expression(b, alloc, checked, locals, frame, left, line)?;
-    let condition = emit_truth(b, alloc, &left.ty, x, line)?;
-    let choice = begin(b, register_type(&left.ty))?;
-    let end = turn(b, choice, x, line)?;
-    let second = b.here();
-    let y = emit_expression(b, alloc, checked, locals, frame, right, line)?;
-    meet(b, choice, condition, end, second, y, line)?;
-    Ok(choice.target)
-}
-
-// `a if test else b`, in the type of both.
+// A choice of a type by the truth of a part. A missing arm gives the tested value itself.
 #[cycle(expression)]
 fn emit_choice(
     b: &mut Emitter,
@@ -286,29 +235,49 @@ fn emit_choice(
     checked: &Checked,
     locals: &[Var],
     frame: Frame,
-    left: &TExpr,
+    t: &Ty,
     test: &TExpr,
-    right: &TExpr,
+    body: Option<&TExpr>,
+    other: Option<&TExpr>,
     line: usize,
 ) -> Result<Reg, Memory>
-    requires simple { is_simple (sort left.now.ty) ≡ true }
-    requires same { sort right.now.ty ≡ sort left.now.ty }
-    requires flag { sort test.now.ty ≡ BoolSort }
-    requires left { Suits (typed_module checked.now) (map variable locals.now) (typed_expr left.now) }
-    requires test { Suits (typed_module checked.now) (map variable locals.now) (typed_expr test.now) }
-    requires right { Suits (typed_module checked.now) (map variable locals.now) (typed_expr right.now) }
+    requires suits { ChoiceSuits (typed_module checked.now) (map variable locals.now) (sort t.now) (typed_expr test.now) (arm_of body) (arm_of other) }
     requires room { HasRoom (setting checked.now locals.now frame) b.old }
     ensures walked { Walks (typed_module checked.now) b.old b.new }
-    ensures emitted { IfOk result (λ r. Emits (setting checked.now locals.now frame) (typed (Cond (typed_expr left.now) (typed_expr test.now) (typed_expr right.now)) (sort left.now.ty) left.now.span) b.old b.new r.0) }
+    ensures emitted { IfOk result (λ r. EmitsChoice (setting checked.now locals.now frame) (sort t.now) (typed_expr test.now) (arm_of body.entry) (arm_of other.entry) b.old b.new r.0) }
 {
-    let condition = emit_expression(b, alloc, checked, locals, frame, test, line)?;
-    let choice = begin(b, register_type(&left.ty))?;
-    let x = emit_expression(b, alloc, checked, locals, frame, left, line)?;
+    let tested = emit_expression(b, alloc, checked, locals, frame, test, line)?;
+    let condition = emit_truth(b, alloc, &test.ty, tested, line)?;
+    let choice = begin(b, register_type(t))?;
+    let x = emit_arm(b, alloc, checked, locals, frame, body, tested, line)?;
     let end = turn(b, choice, x, line)?;
     let second = b.here();
-    let y = emit_expression(b, alloc, checked, locals, frame, right, line)?;
+    let y = emit_arm(b, alloc, checked, locals, frame, other, tested, line)?;
     meet(b, choice, condition, end, second, y, line)?;
     Ok(choice.target)
+}
+
+// An arm of a choice, behind the tested value.
+#[cycle(expression)]
+fn emit_arm(
+    b: &mut Emitter,
+    alloc: Global,
+    checked: &Checked,
+    locals: &[Var],
+    frame: Frame,
+    arm: Option<&TExpr>,
+    tested: Reg,
+    line: usize,
+) -> Result<Reg, Memory>
+    requires suits { ArmSuits (typed_module checked.now) (map variable locals.now) (arm_of arm) }
+    requires room { HasRoom (setting checked.now locals.now frame) b.old }
+    ensures walked { Walks (typed_module checked.now) b.old b.new }
+    ensures emitted { IfOk result (λ r. EmitsArm (setting checked.now locals.now frame) tested.0 (arm_of arm.entry) b.old b.new r.0) }
+{
+    match arm {
+        Some(e) => emit_expression(b, alloc, checked, locals, frame, e, line),
+        None => Ok(tested),
+    }
 }
 
 // Emits an operand that is compared with one of a type.

@@ -1,35 +1,40 @@
 -- Operations that may fail: what they leave in registers, and where their exceptions go.
-use Rattle.std.specs.Prelude.{◌&&◌}
-use Rattle.std.proofs.Common.{◌≡◌, ℕ, ◌+◌, ◌<◌, true, false, cond, List, length, Option, Some, None, Result, Ok, Err, refl, sym, ap, ◌∙◌, subst, arith, le_refl}
+use Rattle.std.specs.Prelude.{◌&&◌, map}
+use Rattle.std.proofs.Common.{◌≡◌, ℕ, ◌+◌, ◌<◌, ◌≤◌, true, false, cond, List, [], ◌∷◌, length, Option, Some, None, refl, sym, ap, ◌∙◌, subst, arith, le_refl}
+use Rattle.value_core.specs.Ending.{Ending}
 use Rattle.value_core.specs.Exceptions.{Thrown}
 use Rattle.value_core.specs.Value.{Value, ExcVal}
 use Rattle.c_core.specs.declared.primitive.Primitive.{Primitive}
-use Rattle.source_meaning.specs.State.{State, Outcome, Gives, Raises, Does, on_to}
+use Rattle.py_typed.specs.Sorts.{Sort}
+use Rattle.source_meaning.specs.State.{State, Outcome, Gives, Raises, Stops, Stop, Does, on_to}
+use Rattle.source_meaning.specs.SourceRun.{ending_by}
 use Rattle.ir_core.specs.declared.code.RType.{RType}
 use Rattle.ir_core.specs.declared.code.RType.TheVariants.{Int, I64, Bool as BoolType, Ref}
 use Rattle.ir_core.specs.declared.code.Reg.{Reg}
 use Rattle.ir_core.specs.declared.code.PArg.{PArg}
+use Rattle.ir_core.specs.declared.code.PArg.TheVariants.{Var}
 use Rattle.ir_core.specs.declared.code.Op.TheVariants.{Prim}
 use Rattle.ir_core.specs.declared.code.Last.TheVariants as last
 use Rattle.ir_core.specs.declared.code.Program.{Program}
 use Rattle.ir_core.specs.declared.kind.Edge.TheVariants.{Tests, TestsTwice}
 use Rattle.ir_core.specs.Items.{Item, Do, End}
-use Rattle.ir_core.specs.Rows.{Failing, NeverFails, MayFail, AlwaysFails, failing, type_of_reg, edge_of_kind, kind_by_result}
+use Rattle.ir_core.specs.Rows.{Failing, NeverFails, MayFail, AlwaysFails, failing, Declared, type_of_reg, edge_of_kind, edge_of_prim, kind_by_result}
 use Rattle.ir_core.specs.Registers.{Held, Holds, Regs, put, error_of}
-use Rattle.ir_core.specs.Effects.{World, Argument, Effect, Gives as Giving, Fails, effect}
+use Rattle.ir_core.specs.Effects.{World, Argument, Given, Effect, Gives as Giving, Fails, Ends as Finishing, effect}
 use Rattle.ir_core.specs.Building.{Building}
-use Rattle.ir_core.specs.Meaning.{Frame, Waiting, Config, Runs, Stuck, Strict, arguments, is_tested, is_asked, is_clear, away, registers_of, item_at, handler_at, failed, step}
+use Rattle.ir_core.specs.Meaning.{Frame, Waiting, Config, Runs, Ended, Stuck, Strict, read, arguments, typed, applied, is_tested, is_asked, is_clear, away, registers_of, item_at, handler_at, failed, step}
 use Rattle.ir_core.proofs.StepLemmas.{put_same, put_other, op_step}
-use Rattle.ir_builder_frames.specs.Settings.{Setting}
+use Rattle.ir_builder_frames.specs.Settings.{Setting, rtype_of}
 use Rattle.ir_builder_frames.specs.Placing.{Has, Placed, where_it_may}
 use Rattle.ir_builder_frames.specs.Calling.{Adds}
 use Rattle.ir_builder_frames.specs.Coming.{world, running, Ends}
-use Rattle.ir_builder_frames.specs.Matching.{Matches, HasRoom, IsThrown, CallsWork}
-use Rattle.ir_builder_frames.specs.Computing.{Showing, Meaning, Arrives, Computes, Attempts}
+use Rattle.ir_builder_frames.specs.Matching.{HaveKinds, HaveTypes as HaveValues, Matches, SameLocals, HasRoom, IsThrown, CallsWork}
+use Rattle.ir_builder_frames.specs.Computing.{Showing, Meaning, Arrives, Computes, ShowAll, HaveTypes, ComputesAll, Attempts}
+use Rattle.ir_builder_frames.specs.Operands.{ActsOnAll}
 use Rattle.ir_builder_frames.proofs.HeldLemmas.{extends_refl, extends_trans, has_less, type_below, type_has, adds_has, placed_part, guard_at}
-use Rattle.ir_builder_frames.proofs.ComingLemmas.{leads_step, ends_of, ends_step, ends_map}
-use Rattle.ir_builder_frames.proofs.StepLemmas.{prim_step}
-use Rattle.ir_builder_frames.proofs.MatchLemmas.{room_on, same_refl, same_trans, match_here, thrown_now, thrown_from, computes_then}
+use Rattle.ir_builder_frames.proofs.ComingLemmas.{leads_step, ends_of, ends_map}
+use Rattle.ir_builder_frames.proofs.StepLemmas.{read_is}
+use Rattle.ir_builder_frames.proofs.MatchLemmas.{room_on, same_trans, match_kept, thrown_now, thrown_from, computes_then, computes_all_then}
 
 -- ---- where no test stands behind
 
@@ -47,72 +52,115 @@ clear_none I64 r = refl
 clear_none BoolType r = refl
 clear_none Ref r = refl
 
--- ---- a single operation
+-- ---- what comes of an operation
 
--- a value or an exception, as a primitive leaves it and as the source does
-abbrev pub effect_of : Result Value Thrown → World → Effect
-effect_of (Ok v) w = Giving v w
-effect_of (Err e) w = Fails e w
+-- a value, an exception, or the end of the run, for which the source has a word of its own
+pub data Answer : Type 0 where
+  Answers : (v : Value) → Answer
+  Throws : (e : Thrown) → Answer
+  Finishes : (x : Stop) (e : Ending) → ending_by x ≡ Some e → Answer
 
-abbrev pub outcome_of : Result Value Thrown → Does Value
-outcome_of (Ok v) s = Gives v s
-outcome_of (Err e) s = Raises (ExcVal e) s
+-- as a primitive leaves it, and as the source does
+abbrev pub effect_of : Answer → World → Effect
+effect_of (Answers v) w = Giving v w
+effect_of (Throws e) w = Fails e w
+effect_of (Finishes x e is) w = Finishing e w
+
+abbrev pub outcome_of : Answer → Does Value
+outcome_of (Answers v) s = Gives v s
+outcome_of (Throws e) s = Raises (ExcVal e) s
+outcome_of (Finishes x e is) s = Stops x s
 
 -- what never fails gives a value
-abbrev pub Allows : Failing → Result Value Thrown → Type 0
-Allows NeverFails (Ok v) = Unit {0}
-Allows NeverFails (Err e) = ⊥
-Allows MayFail o = Unit {0}
-Allows AlwaysFails o = ⊥
+abbrev pub Allows : Failing → Answer → Type 0
+Allows NeverFails (Answers v) = Unit {0}
+Allows NeverFails a = ⊥
+Allows MayFail a = Unit {0}
+Allows AlwaysFails a = ⊥
 
 -- a value is shown as the register holds it
-abbrev pub ShownIfGiven : Showing → Result Value Thrown → Type 0
-ShownIfGiven K (Ok v) = K v (Holds v)
-ShownIfGiven K (Err e) = Unit {0}
+abbrev pub ShownIfGiven : Showing → Answer → Type 0
+ShownIfGiven K (Answers v) = K v (Holds v)
+ShownIfGiven K a = Unit {0}
 
--- where a run comes to by a value or by an exception
-abbrev ByResult : (Value → Config) → (Thrown → Config) → Result Value Thrown → Config
-ByResult good bad (Ok v) = good v
-ByResult good bad (Err e) = bad e
+-- a state behind another, with the same variables and turns: objects, output and input may be others
+pub record LeavesVariables (before behind : State) : Type 0 where
+  pub locals : behind.locals ≡ before.locals
+  pub globals : behind.globals ≡ before.globals
+  pub turns : behind.turns ≡ before.turns
+
+pub leaves_all : (s : State) → LeavesVariables s s
+leaves_all s = record { locals = refl; globals = refl; turns = refl }
+
+-- an effect of a primitive on what the machine has in a state is what the source does in it
+pub record ActsAs (K : Showing) (q : Primitive) (found : Effect) (s : State) (res : Outcome Value) : Type 0 where
+  pub answer : Answer
+  pub behind : State
+  pub leaves : LeavesVariables s behind
+  pub allowed : Allows (failing q) answer
+  pub effects : found ≡ effect_of answer (world None behind)
+  pub shown : ShownIfGiven K answer
+  pub does : res ≡ outcome_of answer behind
+
+-- where a run comes to by an answer
+abbrev ByAnswer : (Value → Config) → (Thrown → Config) → (Ending → Config) → Answer → Config
+ByAnswer good bad over (Answers v) = good v
+ByAnswer good bad over (Throws e) = bad e
+ByAnswer good bad over (Finishes x e is) = over e
+
+-- ---- a single operation
 
 module _ (p : Program) (fn k i : ℕ) (regs : Regs) (below : List Waiting) (s : State) (r : ℕ) (q : Primitive) (args : List PArg) (t : RType) (xs : List Argument) {line : ℕ} (at : item_at p fn k i ≡ Some (Do (Prim (Some record { 0 = r }) q args) line)) (type : type_of_reg (registers_of p fn) (record { 0 = r }) ≡ Some t) (given : arguments (registers_of p fn) regs args ≡ Some xs) where
-  -- where the machine comes to
-  abbrev Comes : Result Value Thrown → Config
-  Comes o = ByResult (λ v. running fn k (i + 1) (put regs r (Holds v)) below (world None s)) (λ e. away (handler_at p fn k) (record { fn = fn; block = k; place = i + 1; regs = put regs r (error_of t) }) below (world (Some e) s)) o
+  abbrev Found : Effect
+  Found = typed (registers_of p fn) (Some record { 0 = r }) args (effect p q xs (world None s))
 
-  may_give : (v : Value) → failing q ≡ MayFail → effect p q xs (world None s) ≡ Giving v (world None s) → step Strict p (running fn k i regs below (world None s)) ≡ Comes (Ok v)
-  may_give v may does =
-      op_step Strict p (record { fn = fn; block = k; place = i; regs = regs }) below (world None s) (Prim (Some record { 0 = r }) q args) at
-      ∙ rw (given, does, type, may) (ap (λ b. cond b (running fn k (i + 1) (put regs r (Holds v)) below (world None s)) Stuck) (clear_none t (record { 0 = r })))
+  -- where the machine comes to, with a state behind it
+  abbrev Comes : State → Answer → Config
+  Comes u a =
+      ByAnswer (λ v. running fn k (i + 1) (put regs r (Holds v)) below (world None u)) (λ e. away (handler_at p fn k) (record { fn = fn; block = k; place = i + 1; regs = put regs r (error_of t) }) below (world (Some e) u)) (λ e. Ended e (world None u)) a
 
-  may_fail : (e : Thrown) → failing q ≡ MayFail → effect p q xs (world None s) ≡ Fails e (world None s) → is_tested (record { 0 = r }) (item_at p fn k (i + 1)) ≡ false → step Strict p (running fn k i regs below (world None s)) ≡ Comes (Err e)
-  may_fail e may does edge =
-      op_step Strict p (record { fn = fn; block = k; place = i; regs = regs }) below (world None s) (Prim (Some record { 0 = r }) q args) at
-      ∙ rw (given, does, type, may) (failed_off p t (record { 0 = r }) (record { fn = fn; block = k; place = i + 1; regs = put regs r (error_of t) }) below (world (Some e) s) edge)
+  met : step Strict p (running fn k i regs below (world None s)) ≡ applied Strict p (edge_of_prim (registers_of p fn) (Some record { 0 = r }) q) (Some record { 0 = r }) (record { fn = fn; block = k; place = i; regs = regs }) below Found
+  met = op_step Strict p (record { fn = fn; block = k; place = i; regs = regs }) below (world None s) (Prim (Some record { 0 = r }) q args) at ∙ rw given refl
 
-  comes : (f : Failing) (o : Result Value Thrown) → failing q ≡ f → Allows f o → effect p q xs (world None s) ≡ effect_of o (world None s) → (failing q ≡ MayFail → is_tested (record { 0 = r }) (item_at p fn k (i + 1)) ≡ false) → step Strict p (running fn k i regs below (world None s)) ≡ Comes o
-  comes NeverFails (Ok v) is allowed does edge = prim_step p fn k i regs below s r q args t xs v at type given is does
-  comes NeverFails (Err e) is allowed does edge = absurd allowed
-  comes MayFail (Ok v) is allowed does edge = may_give v is does
-  comes MayFail (Err e) is allowed does edge = may_fail e is does (edge is)
-  comes AlwaysFails o is allowed does edge = absurd allowed
+  abbrev Goes : Effect → Config
+  Goes e = applied Strict p (edge_of_prim (registers_of p fn) (Some record { 0 = r }) q) (Some record { 0 = r }) (record { fn = fn; block = k; place = i; regs = regs }) below e
 
-ends_by : (p : Program) (K : Showing) (c : Config) (s : State) (o : Result Value Thrown) (R T : Value → State → Config → Type 0) (good : Value → Config) (bad : Thrown → Config) → step Strict p c ≡ ByResult good bad o → ((v : Value) → K v (Holds v) → R v s (good v)) → ((e : Thrown) → T (ExcVal e) s (bad e)) → ShownIfGiven K o → Ends p s.turns c (outcome_of o s) R T
-ends_by p K c s (Ok v) R T good bad is well badly shown = ends_step p v s c (good v) R T is (well v shown)
-ends_by p K c s (Err e) R T good bad is well badly shown = (le_refl s.turns, bad e, leads_step p c (bad e) is, badly e)
+  never_gives : (u : State) (v : Value) → failing q ≡ NeverFails → Goes (Giving v (world None u)) ≡ Comes u (Answers v)
+  never_gives u v never = rw (type, never) refl
+
+  may_give : (u : State) (v : Value) → failing q ≡ MayFail → Goes (Giving v (world None u)) ≡ Comes u (Answers v)
+  may_give u v may =
+      rw (type, may) (ap (λ b. cond b (running fn k (i + 1) (put regs r (Holds v)) below (world None u)) Stuck) (clear_none t (record { 0 = r })))
+
+  may_fail : (u : State) (e : Thrown) → failing q ≡ MayFail → is_tested (record { 0 = r }) (item_at p fn k (i + 1)) ≡ false → Goes (Fails e (world None u)) ≡ Comes u (Throws e)
+  may_fail u e may edge =
+      rw (type, may) (failed_off p t (record { 0 = r }) (record { fn = fn; block = k; place = i + 1; regs = put regs r (error_of t) }) below (world (Some e) u) edge)
+
+  goes_on : (u : State) (f : Failing) (a : Answer) → failing q ≡ f → Allows f a → (failing q ≡ MayFail → is_tested (record { 0 = r }) (item_at p fn k (i + 1)) ≡ false) → Goes (effect_of a (world None u)) ≡ Comes u a
+  goes_on u NeverFails (Answers v) is allowed edge = never_gives u v is
+  goes_on u NeverFails (Throws e) is allowed edge = absurd allowed
+  goes_on u NeverFails (Finishes x e by) is allowed edge = absurd allowed
+  goes_on u MayFail (Answers v) is allowed edge = may_give u v is
+  goes_on u MayFail (Throws e) is allowed edge = may_fail u e is (edge is)
+  goes_on u MayFail (Finishes x e by) is allowed edge = refl
+  goes_on u AlwaysFails a is allowed edge = absurd allowed
+
+  comes : (u : State) (a : Answer) → Allows (failing q) a → Found ≡ effect_of a (world None u) → (failing q ≡ MayFail → is_tested (record { 0 = r }) (item_at p fn k (i + 1)) ≡ false) → step Strict p (running fn k i regs below (world None s)) ≡ Comes u a
+  comes u a allowed does edge = met ∙ ap Goes does ∙ goes_on u (failing q) a refl allowed edge
+
+ends_by : (p : Program) (K : Showing) (t : ℕ) (c : Config) (u : State) (a : Answer) (R T : Value → State → Config → Type 0) (good : Value → Config) (bad : Thrown → Config) → u.turns ≤ t → step Strict p c ≡ ByAnswer good bad (λ e. Ended e (world None u)) a → ((v : Value) → K v (Holds v) → R v u (good v)) → ((e : Thrown) → T (ExcVal e) u (bad e)) → ShownIfGiven K a → Ends p t c (outcome_of a u) R T
+ends_by p K t c u (Answers v) R T good bad le is well badly shown = (le, good v, leads_step p c (good v) is, well v shown)
+ends_by p K t c u (Throws e) R T good bad le is well badly shown = (le, bad e, leads_step p c (bad e) is, badly e)
+ends_by p K t c u (Finishes x e by) R T good bad le is well badly shown = (e, by, leads_step p c _ is)
 
 -- what a primitive does with its arguments, as the source does it
-pub record DoesAs (K : Showing) (p : Program) (fn : ℕ) (q : Primitive) (args : List PArg) (regs : Regs) (s : State) (res : Outcome Value) : Type 0 where
+pub record DoesAs (K : Showing) (p : Program) (fn r : ℕ) (q : Primitive) (args : List PArg) (regs : Regs) (s : State) (res : Outcome Value) : Type 0 where
   pub values : List Argument
   pub given : arguments (registers_of p fn) regs args ≡ Some values
-  pub result : Result Value Thrown
-  pub allowed : Allows (failing q) result
-  pub effects : effect p q values (world None s) ≡ effect_of result (world None s)
-  pub shown : ShownIfGiven K result
-  pub does : res ≡ outcome_of result s
+  pub acts : ActsAs K q (typed (registers_of p fn) (Some record { 0 = r }) args (effect p q values (world None s))) s res
 
 -- where the code of a single operation comes to
-pub prim_ends : {line : ℕ} (K : Showing) (b c : Building) (r : ℕ) (t : RType) (q : Primitive) (args : List PArg) → Adds b c r t (Prim (Some record { 0 = r }) q args) line → (p : Program) (fn : ℕ) (h : Option ℕ) → Placed p fn b c h → (x : Setting) → HasRoom x b → (regs : Regs) (below : List Waiting) (s : State) → Matches x regs s → (res : Outcome Value) → DoesAs K p fn q args regs s res → Ends p s.turns (running fn (length b.blocks) (length b.ops) regs below (world None s)) res (Arrives K fn (length c.blocks) (length c.ops) below (length b.regs) regs x s r) (IsThrown fn h below x (length b.regs) regs)
+pub prim_ends : {line : ℕ} (K : Showing) (b c : Building) (r : ℕ) (t : RType) (q : Primitive) (args : List PArg) → Adds b c r t (Prim (Some record { 0 = r }) q args) line → (p : Program) (fn : ℕ) (h : Option ℕ) → Placed p fn b c h → (x : Setting) → HasRoom x b → (regs : Regs) (below : List Waiting) (s : State) → Matches x regs s → (res : Outcome Value) → DoesAs K p fn r q args regs s res → Ends p s.turns (running fn (length b.blocks) (length b.ops) regs below (world None s)) res (Arrives K fn (length c.blocks) (length c.ops) below (length b.regs) regs x s r) (IsThrown fn h below x (length b.regs) regs)
 prim_ends K b c r t q args a p fn h placed x room regs below s match res d =
     let R = Arrives K fn (length c.blocks) (length c.ops) below (length b.regs) regs x s r in
     let T = IsThrown fn h below x (length b.regs) regs in
@@ -120,18 +168,21 @@ prim_ends K b c r t q args a p fn h placed x room regs below s match res d =
     let target = type_has p fn c r t placed.has a.type in
     let here = guard_at p fn b c h (let z = a.blocks in omega arith) placed (length b.blocks) (sym a.blocks) in
     let edge : failing q ≡ MayFail → is_tested (record { 0 = r }) (item_at p fn (length b.blocks) (length b.ops + 1)) ≡ false = λ may. placed.has.edges.each _ _ r _ _ at (ap (λ f. where_it_may f r) may) in
-    let leads = comes p fn (length b.blocks) (length b.ops) regs below s r q args t d.values at target d.given (failing q) d.result refl d.allowed d.effects edge in
+    let u : State = d.acts.behind in
+    let same : SameLocals x s u = record { locals = d.acts.leaves.locals; globals = subst (HaveValues x.source.globals) (sym d.acts.leaves.globals) match.globals } in
+    let le : u.turns ≤ s.turns = omega (arith, d.acts.leaves.turns) in
+    let leads = comes p fn (length b.blocks) (length b.ops) regs below s r q args t d.values at target d.given u d.acts.answer d.acts.allowed d.acts.effects edge in
     let kept : (w : Held) (j : ℕ) → j < length b.regs → put regs r w j ≡ regs j = λ w j lt. put_other regs r j w (let z = a.made in λ e. omega arith) in
-    ends_of p s.turns _ res (outcome_of d.result s) R T d.does
-    (ends_by p K (running fn (length b.blocks) (length b.ops) regs below (world None s)) s d.result R T
-    (λ v. running fn (length b.blocks) (length b.ops + 1) (put regs r (Holds v)) below (world None s))
-    (λ e. away (handler_at p fn (length b.blocks)) (record { fn = fn; block = length b.blocks; place = length b.ops + 1; regs = put regs r (error_of t) }) below (world (Some e) s))
-    leads
-    (λ v k. record { now = put regs r (Holds v); is = rw (a.blocks, a.ops) refl; shows = subst (K v) (sym (put_same regs r (Holds v))) k; kept = kept (Holds v); same = same_refl x regs s match })
-    (λ e. thrown_now p fn (length b.blocks) (length b.ops + 1) h below x (length b.regs) regs (put regs r (error_of t)) e s here (match_here x b regs (put regs r (error_of t)) s room (λ j lt. kept (error_of t) j (let z = room.top in omega arith)) match) (λ j i lt o. kept (error_of t) j lt))
-    d.shown)
+    ends_of p s.turns _ res (outcome_of d.acts.answer u) R T d.acts.does
+    (ends_by p K s.turns (running fn (length b.blocks) (length b.ops) regs below (world None s)) u d.acts.answer R T
+    (λ v. running fn (length b.blocks) (length b.ops + 1) (put regs r (Holds v)) below (world None u))
+    (λ e. away (handler_at p fn (length b.blocks)) (record { fn = fn; block = length b.blocks; place = length b.ops + 1; regs = put regs r (error_of t) }) below (world (Some e) u))
+    le leads
+    (λ v k. record { now = put regs r (Holds v); is = rw (a.blocks, a.ops) refl; shows = subst (K v) (sym (put_same regs r (Holds v))) k; kept = kept (Holds v); same = same })
+    (λ e. thrown_now p fn (length b.blocks) (length b.ops + 1) h below x (length b.regs) regs (put regs r (error_of t)) e u here (match_kept x b regs (put regs r (error_of t)) s u room (λ j lt. kept (error_of t) j (let z = room.top in omega arith)) same match) (λ j i lt o. kept (error_of t) j lt))
+    d.acts.shown)
 
-pub prim_attempts : {line : ℕ} (K : Showing) (b c : Building) (r : ℕ) (t : RType) (q : Primitive) (args : List PArg) (from : Regs → State → Outcome Value → Type 0) → Adds b c r t (Prim (Some record { 0 = r }) q args) line → ((p : Program) (fn : ℕ) → Has p fn b → (regs : Regs) (s : State) (res : Outcome Value) → from regs s res → DoesAs K p fn q args regs s res) → Attempts K b c r t from
+pub prim_attempts : {line : ℕ} (K : Showing) (b c : Building) (r : ℕ) (t : RType) (q : Primitive) (args : List PArg) (from : Regs → State → Outcome Value → Type 0) → Adds b c r t (Prim (Some record { 0 = r }) q args) line → ((p : Program) (fn : ℕ) → Has p fn b → (regs : Regs) (s : State) (res : Outcome Value) → from regs s res → DoesAs K p fn r q args regs s res) → Attempts K b c r t from
 prim_attempts K b c r t q args from a by = record {
   extends = a.extends;
   type = a.type;
@@ -140,13 +191,103 @@ prim_attempts K b c r t q args from a by = record {
 }
 
 -- with nothing before it, in a program whose calls work
-pub prim_computes : {line : ℕ} (x : Setting) (K : Showing) (m : Meaning Value) (b c : Building) (r : ℕ) (t : RType) (q : Primitive) (args : List PArg) → HasRoom x b → Adds b c r t (Prim (Some record { 0 = r }) q args) line → ((p : Program) (fn : ℕ) → Has p fn b → (n : ℕ) → CallsWork p x.source n → (regs : Regs) (s : State) → Matches x regs s → DoesAs K p fn q args regs s (m n s)) → Computes x K t m b c r
+pub prim_computes : {line : ℕ} (x : Setting) (K : Showing) (m : Meaning Value) (b c : Building) (r : ℕ) (t : RType) (q : Primitive) (args : List PArg) → HasRoom x b → Adds b c r t (Prim (Some record { 0 = r }) q args) line → ((p : Program) (fn : ℕ) → Has p fn b → (n : ℕ) → CallsWork p x.source n → (regs : Regs) (s : State) → Matches x regs s → DoesAs K p fn r q args regs s (m n s)) → Computes x K t m b c r
 prim_computes x K m b c r t q args room a by = record {
   extends = a.extends;
   type = a.type;
   runs = λ p fn h placed n calls regs below s match le.
       prim_ends K b c r t q args a p fn h placed x room regs below s match (m n s) (by p fn (has_less p fn b c a.extends placed.has) n calls regs s match);
 }
+
+-- ---- on any number of registers
+
+-- what a primitive does with these arguments is what a part of the source does, in any state
+abbrev pub Performs : Showing → Primitive → List Argument → Does Value → Type 0
+Performs K q values go = (p : Program) (s : State) → ActsAs K q (effect p q values (world None s)) s (go s)
+
+-- one that only answers
+pub performs : (K : Showing) (q : Primitive) (values : List Argument) (go : Does Value) (a : Answer) → Allows (failing q) a → ((p : Program) (w : World) → effect p q values w ≡ effect_of a w) → ShownIfGiven K a → ((s : State) → go s ≡ outcome_of a s) → Performs K q values go
+performs K q values go a allowed effects shown does p s = record { answer = a; behind = s; leaves = leaves_all s; allowed = allowed; effects = effects p (world None s); shown = shown; does = does s }
+
+-- no register's kind is asked for
+typed_answer : (declared : Declared) (to : Option Reg) (args : List PArg) (a : Answer) (w : World) → typed declared to args (effect_of a w) ≡ effect_of a w
+typed_answer declared to args (Answers v) w = refl
+typed_answer declared to args (Throws e) w = refl
+typed_answer declared to args (Finishes x e is) w = refl
+
+pub acts_typed : (K : Showing) (q : Primitive) (found : Effect) (s : State) (res : Outcome Value) (declared : Declared) (to : Option Reg) (args : List PArg) → ActsAs K q found s res → ActsAs K q (typed declared to args found) s res
+acts_typed K q found s res declared to args a = record {
+  answer = a.answer;
+  behind = a.behind;
+  leaves = a.leaves;
+  allowed = a.allowed;
+  effects = ap (typed declared to args) a.effects ∙ typed_answer declared to args a.answer (world None a.behind);
+  shown = a.shown;
+  does = a.does;
+}
+
+-- the values of registers, of types
+pub kinds_shown : (ts : List Sort) (vs : List Value) (regs : Regs) (rs : List Reg) → ShowAll ts vs regs rs → HaveKinds ts vs
+kinds_shown [] [] regs [] h = tt
+kinds_shown [] [] regs (r ∷ rs) h = absurd h
+kinds_shown [] (v ∷ vs) regs rs h = absurd h
+kinds_shown (t ∷ ts) [] regs rs h = absurd h
+kinds_shown (t ∷ ts) (v ∷ vs) regs [] h = absurd h
+kinds_shown (t ∷ ts) (v ∷ vs) regs (r ∷ rs) h = (h.0.1, kinds_shown ts vs regs rs h.1)
+
+abbrev pub all_given : List Value → List Argument
+all_given vs = map Given vs
+
+abbrev pub all_registers : List Reg → List PArg
+all_registers rs = map Var rs
+
+more_given : (declared : Declared) (regs : Regs) (r : Reg) (v : Value) (args : List PArg) (xs : List Argument) → read declared regs r ≡ Some v → arguments declared regs args ≡ Some xs → arguments declared regs (Var r ∷ args) ≡ Some (Given v ∷ xs)
+more_given declared regs r v args xs e f = rw (e, f) refl
+
+registers_given : (p : Program) (fn : ℕ) (b : Building) → Has p fn b → (ts : List Sort) (vs : List Value) (regs : Regs) (rs : List Reg) → HaveTypes b.regs ts rs → ShowAll ts vs regs rs → arguments (registers_of p fn) regs (all_registers rs) ≡ Some (all_given vs)
+registers_given p fn b has [] [] regs [] types h = refl
+registers_given p fn b has [] [] regs (r ∷ rs) types h = absurd h
+registers_given p fn b has [] (v ∷ vs) regs rs types h = absurd h
+registers_given p fn b has (t ∷ ts) [] regs rs types h = absurd h
+registers_given p fn b has (t ∷ ts) (v ∷ vs) regs [] types h = absurd h
+registers_given p fn b has (t ∷ ts) (v ∷ vs) regs (r ∷ rs) types h =
+    more_given (registers_of p fn) regs r v (all_registers rs) (all_given vs) (read_is (registers_of p fn) regs r.0 (rtype_of t) v (type_has p fn b r.0 (rtype_of t) has types.0) h.0.0) (registers_given p fn b has ts vs regs rs types.1 h.1)
+
+-- a primitive on arguments among which are registers
+pub all_perform_with : {line : ℕ} (ts : List Sort) (K : Showing) (go : List Value → Does Value) (b c : Building) (r : ℕ) (t : RType) (rs : List Reg) (q : Primitive) (args : List PArg) (values : List Value → List Argument) → Adds b c r t (Prim (Some record { 0 = r }) q args) line → ((p : Program) (fn : ℕ) → Has p fn b → (regs : Regs) (vs : List Value) → ShowAll ts vs regs rs → arguments (registers_of p fn) regs args ≡ Some (values vs)) → ((vs : List Value) → HaveKinds ts vs → Performs K q (values vs) (go vs)) → Attempts K b c r t (ActsOnAll ts rs go)
+all_perform_with ts K go b c r t rs q args values a given by =
+    prim_attempts K b c r t q args (ActsOnAll ts rs go) a
+    (λ p fn has regs s res needs.
+    let P : Outcome Value → Type 0 = λ z. ActsAs K q (effect p q (values needs.values) (world None s)) s z in
+    record {
+      values = values needs.values;
+      given = given p fn has regs needs.values needs.shows;
+      acts = acts_typed K q _ s res (registers_of p fn) (Some record { 0 = r }) args (subst P (sym needs.does) (by needs.values (kinds_shown ts needs.values regs rs needs.shows) p s));
+    })
+
+-- a primitive on registers alone
+pub all_perform : {line : ℕ} (ts : List Sort) (K : Showing) (go : List Value → Does Value) (b c : Building) (r : ℕ) (t : RType) (rs : List Reg) (q : Primitive) → HaveTypes b.regs ts rs → Adds b c r t (Prim (Some record { 0 = r }) q (all_registers rs)) line → ((vs : List Value) → HaveKinds ts vs → Performs K q (all_given vs) (go vs)) → Attempts K b c r t (ActsOnAll ts rs go)
+all_perform ts K go b c r t rs q types a by =
+    all_perform_with ts K go b c r t rs q (all_registers rs) all_given a (λ p fn has regs vs shows. registers_given p fn b has ts vs regs rs types shows) by
+
+-- behind the code of the registers' values
+pub all_attempt : (x : Setting) (ts : List Sort) (K : Showing) (u : RType) (m : Meaning (List Value)) (go : List Value → Does Value) (b0 b1 b2 : Building) (rs : List Reg) (r : ℕ) → HasRoom x b0 → ComputesAll x ts m b0 b1 rs → Attempts K b1 b2 r u (ActsOnAll ts rs go) → Computes x K u (λ n s. on_to (m n s) go) b0 b2 r
+all_attempt x ts K u m go b0 b1 b2 rs r room c made =
+    let k1 = c.extends.blocks_grow in
+    let l1 = c.extends.regs_grow in
+    record {
+      extends = extends_trans b0 b1 b2 c.extends made.extends;
+      type = made.type;
+      runs = λ p fn h at n calls regs below s match le.
+          let p1 = placed_part p fn b0 b0 b1 b2 h (le_refl _) made.extends at in
+          let p2 = placed_part p fn b0 b1 b2 b2 h k1 (extends_refl b2) at in
+          computes_all_then p fn h below x n calls ts m b0 b1 rs regs s go _ (length b0.regs) regs c p1 room (le_refl _) (λ j i z o. refl) match le
+          (λ now vs s1 le1 shows kept same match1.
+          ends_map p s1.turns _ (go vs s1) _ _ _ _
+          (λ z s2 d a. record { now = a.now; is = a.is; shows = a.shows; kept = λ j lt. a.kept j (omega arith) ∙ kept j lt; same = same_trans x s s1 s2 same a.same })
+          (λ z s2 d e. thrown_from fn h below x (length b0.regs) (length b1.regs) regs now z s2 d l1 (λ j i lt o. kept j lt) e)
+          (made.runs p fn h p2 x (room_on x b0 b1 c.extends room) now below s1 match1 (go vs s1) record { values = vs; shows = shows; does = refl }));
+    }
 
 -- ---- behind the code of two values
 

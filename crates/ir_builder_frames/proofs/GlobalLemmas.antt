@@ -39,7 +39,7 @@ use Rattle.ir_builder_frames.specs.Kinds.{Surrounding, IsOf, IsGlobal, ReadsGlob
 use Rattle.ir_builder_frames.proofs.HeldLemmas.{get_below}
 use Rattle.ir_builder_frames.proofs.NameLemmas.{or_false, not_false, and_parts}
 use Rattle.ir_builder_frames.proofs.StepLemmas.{read_is, acts_step}
-use Rattle.ir_builder_frames.proofs.AttemptLemmas.{effect_of, outcome_of, ShownIfGiven, prim_computes}
+use Rattle.ir_builder_frames.proofs.AttemptLemmas.{Answer, Answers, Throws, effect_of, outcome_of, ShownIfGiven, leaves_all, acts_typed, prim_computes}
 
 -- ---- lists
 
@@ -130,9 +130,9 @@ number_of_variable p m i v has at =
 -- ---- what a read and a write do
 
 -- what a variable of the module gives: its value, or the exception that it is unset
-abbrev pub value_or_unset : List ℕ → Option Value → Result Value Thrown
-value_or_unset name None = Err (not_defined name)
-value_or_unset name (Some v) = Ok v
+abbrev pub value_or_unset : List ℕ → Option Value → Answer
+value_or_unset name None = Throws (not_defined name)
+value_or_unset name (Some v) = Answers v
 
 module _ (p : Program) (m : TypedModule) (i : ℕ) (v : Variable) (s : State) (o : Option Value) (has : HasGlobals p m) (at : slice_get m.globals i ≡ Some v) (held : slice_get s.globals i ≡ Some o) where
   pub global_held : global_at p (world None s) v.0 ≡ Some o
@@ -184,11 +184,15 @@ global_computes x i v b c r room at a =
     record {
       values = Written (arg.Global v.0) ∷ [];
       given = refl;
-      result = value_or_unset v.0 k.0;
-      allowed = tt;
-      effects = global_read p x.source i v s k.0 calls.variables at k.1;
-      shown = shown_if v.1 v.0 k.0 k.2;
-      does = read_gives x.source.globals i v s k.0 at k.1;
+      acts = acts_typed (Shows v.1) (prim.Global global.Get) (effect p (prim.Global global.Get) (Written (arg.Global v.0) ∷ []) (world None s)) s (read_global x.source.globals i s) (registers_of p fn) (Some record { 0 = r }) (arg.Global v.0 ∷ []) record {
+        answer = value_or_unset v.0 k.0;
+        behind = s;
+        leaves = leaves_all s;
+        allowed = tt;
+        effects = global_read p x.source i v s k.0 calls.variables at k.1;
+        shown = shown_if v.1 v.0 k.0 k.2;
+        does = read_gives x.source.globals i v s k.0 at k.1;
+      };
     })
 
 write_arguments : (declared : Declared) (regs : Regs) (name : List ℕ) (r : ℕ) (w : Value) → read declared regs (record { 0 = r }) ≡ Some w → arguments declared regs (arg.Global name ∷ arg.Var record { 0 = r } ∷ []) ≡ Some (Written (arg.Global name) ∷ Given w ∷ [])

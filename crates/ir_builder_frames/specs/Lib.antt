@@ -4,6 +4,7 @@ pub mod Calling
 pub mod Coming
 pub mod Matching
 pub mod Computing
+pub mod Operands
 pub mod Shaped
 pub mod Kinds
 pub mod Naming

@@ -1,8 +1,7 @@
 -- What is emitted for each kind of statement does what the statement means.
-use Rattle.std.proofs.Common.{◌≡◌, ℕ, ◌+◌, ◌<◌, ◌≤◌, Bool, true, false, List, [], ◌∷◌, ◌++◌, length, map, Option, Some, None, refl, sym, ap, ◌∙◌, subst, arith, append_assoc, append-nil, le_refl, get_or, take, add-one}
+use Rattle.std.proofs.Common.{◌≡◌, ℕ, ◌≤◌, suc, ◌+◌, ◌<◌, Bool, true, false, List, [], ◌∷◌, ◌++◌, length, map, Option, Some, None, refl, sym, ap, ◌∙◌, subst, arith, append_assoc, append-nil, le_refl, get_or, take, add-one}
 use Rattle.std.specs.Prelude.{◌||◌}
 use Rattle.std.proofs.Math.Seq.{take-suc}
-use Rattle.value_core.specs.Value.{Value}
 use Rattle.py_syntax.specs.declared.expression.BinOp.{BinOp}
 use Rattle.py_typed.specs.Sorts as sort
 use Rattle.py_typed.specs.Sorts.{Sort, sort as sort_of}
@@ -18,31 +17,35 @@ use Rattle.source_meaning.specs.State.{State, on_to}
 use Rattle.source_meaning.specs.SourceRun.{call_of}
 use Rattle.source_meaning.specs.Operations.{truth_of}
 use Rattle.source_meaning.specs.StatementMeaning.{suite}
-use Rattle.source_meaning.specs.WaysOut.{Flow, flow_on}
-use Rattle.py_typed.proofs.StatementLemmas.{typed_stmt_of, typed_act-Expr, typed_act-Assign, typed_act-Aug, typed_act-Return, typed_act-Break, typed_act-Continue, typed_act-Pass, typed_stmt-If, typed_stmt-While}
+use Rattle.source_meaning.specs.WaysOut.{Flow, flow_on, loop}
+use Rattle.py_typed.proofs.StatementLemmas.{typed_stmt_of, typed_act-Expr, typed_act-Assign, typed_act-Aug, typed_act-Return, typed_act-Break, typed_act-Continue, typed_act-Pass, typed_stmt-If}
+use Rattle.ir_core.specs.declared.code.Last.TheVariants.{Goto, Unreachable}
 use Rattle.ir_core.specs.declared.code.RType.TheVariants.{Bool as BoolType}
-use Rattle.ir_core.specs.declared.code.Last.TheVariants.{Goto, If, Unreachable}
-use Rattle.ir_core.specs.declared.code.Op.TheVariants.{Turn}
-use Rattle.ir_core.specs.declared.code.Reg.{Reg}
-use Rattle.ir_core.specs.Building.{Building, with_last, Extends}
+use Rattle.ir_core.specs.Building.{Building, held, Extends}
+use Rattle.ir_core.specs.Items.{End}
 use Rattle.ir_builder_frames.specs.Settings.{Setting, rtype_of}
-use Rattle.ir_builder_frames.specs.Calling.{Pushes, Closes}
+use Rattle.ir_builder_frames.specs.Calling.{Open, Closes}
 use Rattle.ir_builder_frames.specs.Matching.{HasRoom}
 use Rattle.ir_builder_frames.specs.Computing.{Shows, Meaning, Computes}
 use Rattle.ir_builder_loops_and_jumps.specs.declared.ways.Way.{Way}
-use Rattle.ir_builder_loops_and_jumps.specs.declared.ways.Way.TheVariants.{Break, Continue, Return, Join}
+use Rattle.ir_builder_loops_and_jumps.specs.declared.ways.Way.TheVariants.{Break, Continue, Join}
 use Rattle.ir_builder_loops_and_jumps.specs.declared.ways.Exit.{Exit}
-use Rattle.ir_builder_loops_and_jumps.specs.declared.ways.ExitPlan.{ExitPlan}
+use Rattle.ir_builder_loops_and_jumps.specs.declared.ways.Test.{Test}
+use Rattle.ir_builder_loops_and_jumps.specs.declared.ways.LoopStart.{LoopStart}
 use Rattle.ir_builder_loops_and_jumps.specs.Ways.{uses, is_same_way, stays, planned, left}
 use Rattle.ir_builder_loops_and_jumps.specs.Branches.{Tried, Branch, tried, try_next}
-use Rattle.ir_builder_loops_and_jumps.specs.Runs.{Works, Tests, LeavesNoLoop, Emitted, OpenIn, Patching}
+use Rattle.ir_builder_loops_and_jumps.specs.Runs.{Works, Tests, LeavesNoLoop, Emitted, OpenIn}
+use Rattle.ir_builder_loops_and_jumps.specs.Loops.{Always, Asks}
+use Rattle.ir_builder_loops_and_jumps.specs.Around.{Splits, SplitsBy, EndsArm, joining, Joins, looping_to, EndsLoop, Begins}
 use Rattle.ir_builder_loops_and_jumps.specs.Tested.{means_arms, Tested}
-use Rattle.ir_builder_loops_and_jumps.specs.Means.{means, means_statement, means_suite, means_alone, means_assignment, means_update, means_return}
+use Rattle.ir_builder_loops_and_jumps.specs.Means.{means, means_loop, means_statement, means_suite, means_alone, means_assignment, means_update, means_return}
 use Rattle.ir_builder_frames.proofs.ComingLemmas.{ends_of}
-use Rattle.ir_builder_frames.proofs.HeldLemmas.{extends_trans}
+use Rattle.ir_builder_frames.proofs.HeldLemmas.{extends_trans, type_kept}
+use Rattle.ir_builder_frames.proofs.MatchLemmas.{room_on}
 use Rattle.ir_builder_loops_and_jumps.proofs.ExitLemmas.{stays_by, open_on, open_append, same_way_is}
-use Rattle.ir_builder_loops_and_jumps.proofs.FlowLemmas.{none_works, then_works}
-use Rattle.ir_builder_loops_and_jumps.proofs.LoopLemmas.{while_works}
+use Rattle.ir_builder_loops_and_jumps.proofs.FlowLemmas.{none_works, works_at, at_works, then_works}
+use Rattle.ir_builder_loops_and_jumps.proofs.SplitLemmas.{asks_by}
+use Rattle.ir_builder_loops_and_jumps.proofs.LoopLemmas.{loop_works, no_step}
 use Rattle.ir_builder_loops_and_jumps.proofs.BranchLemmas.{tests_none, tests_next, if_works}
 use Rattle.ir_builder_loops_and_jumps.proofs.SimpleLemmas.{break_works, continue_works}
 use Rattle.ir_builder_loops_and_jumps.proofs.MeaningLemmas.{row_last, arms_are, tried_last, branch_of}
@@ -132,62 +135,88 @@ next_emitted x result looping ss i s b0 b1 b2 x0 x1 x2 lt is p q =
 
 -- ---- single statements
 
-stmt_is : (x : Setting) (s : TStmt) (a : TypedAct) (line : ℕ) → typed_stmt s ≡ on_line a line → (n : ℕ) (u : State) → means_statement x (typed_stmt s) n u ≡ means_statement x (on_line a line) n u
-stmt_is x s a line is n u = ap (λ t. means_statement x t n u) is
+module _ (x : Setting) (result : Option Sort) (looping : Bool) (s : TStmt) where
+  stmt_is : (k : kind.TStmtKind) (a : TypedAct) → s.kind ≡ k → tree.typed_act k ≡ a → (n : ℕ) (u : State) → means_statement x (typed_stmt s) n u ≡ means_statement x (on_line a s.line) n u
+  stmt_is k a is e n u = ap (λ t. means_statement x t n u) (typed_stmt_of s k is ∙ ap (λ z. on_line z s.line) e)
 
-act_is : (s : TStmt) (k : kind.TStmtKind) (a : TypedAct) → s.kind ≡ k → tree.typed_act k ≡ a → typed_stmt s ≡ on_line a s.line
-act_is s k a is e = typed_stmt_of s k is ∙ ap (λ z. on_line z s.line) e
+  -- a simple statement
+  simple_emitted : (k : kind.TStmtKind) (a : TypedAct) (m : Meaning Flow) (b0 b1 : Building) (xs : List Exit) → s.kind ≡ k → tree.typed_act k ≡ a → ((n : ℕ) (u : State) → means_statement x (on_line a s.line) n u ≡ m n u) → Works x result m b0 b1 [] → Emitted x result looping (means_statement x (typed_stmt s)) b0 b1 xs xs
+  simple_emitted k a m b0 b1 xs is is_act same w =
+      emitted_as x result looping _ m b0 b1 xs xs [] (λ n u. stmt_is k a is is_act n u ∙ same n u) (sym (append-nil xs)) w (λ z. (refl, refl))
 
--- a simple statement
-pub simple_emitted : (x : Setting) (result : Option Sort) (looping : Bool) (s : TStmt) (k : kind.TStmtKind) (a : TypedAct) (m : Meaning Flow) (b0 b1 : Building) (xs : List Exit) → s.kind ≡ k → tree.typed_act k ≡ a → ((n : ℕ) (u : State) → means_statement x (on_line a s.line) n u ≡ m n u) → Works x result m b0 b1 [] → Emitted x result looping (means_statement x (typed_stmt s)) b0 b1 xs xs
-simple_emitted x result looping s k a m b0 b1 xs is is_act same w =
-    emitted_as x result looping _ m b0 b1 xs xs [] (λ n u. stmt_is x s a s.line (act_is s k a is is_act) n u ∙ same n u) (sym (append-nil xs)) w (λ z. (refl, refl))
+  pub alone_emitted : (e : TExpr) (b0 b1 : Building) (xs : List Exit) → s.kind ≡ kind.Expr e → ((g : Option Sort) → Works x g (means_alone x (typed_expr e)) b0 b1 []) → Emitted x result looping (means_statement x (typed_stmt s)) b0 b1 xs xs
+  alone_emitted e b0 b1 xs is w = simple_emitted (kind.Expr e) _ _ b0 b1 xs is (typed_act-Expr e) (λ n u. refl) (w result)
 
-pub alone_emitted : (x : Setting) (result : Option Sort) (looping : Bool) (s : TStmt) (e : TExpr) (b0 b1 : Building) (xs : List Exit) → s.kind ≡ kind.Expr e → Works x result (means_alone x (typed_expr e)) b0 b1 [] → Emitted x result looping (means_statement x (typed_stmt s)) b0 b1 xs xs
-alone_emitted x result looping s e b0 b1 xs is w = simple_emitted x result looping s _ _ _ b0 b1 xs is (typed_act-Expr e) (λ n u. refl) w
+  pub assignment_emitted : (ts all : List Target) (e : TExpr) (b0 b1 : Building) (xs : List Exit) → s.kind ≡ kind.Assign all e → ts ≡ all → ((g : Option Sort) → Works x g (means_assignment x (map typed_target ts) (typed_expr e)) b0 b1 []) → Emitted x result looping (means_statement x (typed_stmt s)) b0 b1 xs xs
+  assignment_emitted ts all e b0 b1 xs is same w =
+      let P : List Target → Type 0 = λ z. Works x result (means_assignment x (map typed_target z) (typed_expr e)) b0 b1 [] in
+      simple_emitted (kind.Assign all e) _ _ b0 b1 xs is (typed_act-Assign all e) (λ n u. refl) (subst P same (w result))
 
-pub assignment_emitted : (x : Setting) (result : Option Sort) (looping : Bool) (s : TStmt) (ts all : List Target) (e : TExpr) (b0 b1 : Building) (xs : List Exit) → s.kind ≡ kind.Assign all e → ts ≡ all → Works x result (means_assignment x (map typed_target ts) (typed_expr e)) b0 b1 [] → Emitted x result looping (means_statement x (typed_stmt s)) b0 b1 xs xs
-assignment_emitted x result looping s ts all e b0 b1 xs is same w =
-    let P : List Target → Type 0 = λ z. Works x result (means_assignment x (map typed_target z) (typed_expr e)) b0 b1 [] in
-    simple_emitted x result looping s _ _ _ b0 b1 xs is (typed_act-Assign all e) (λ n u. refl) (subst P same w)
+  pub update_emitted : (t : Target) (op : BinOp) (e : TExpr) (ty : Ty) (b0 b1 : Building) (xs : List Exit) → s.kind ≡ kind.Aug t op e ty → ((g : Option Sort) → Works x g (means_update x (typed_target t) op (typed_expr e) (sort_of ty)) b0 b1 []) → Emitted x result looping (means_statement x (typed_stmt s)) b0 b1 xs xs
+  update_emitted t op e ty b0 b1 xs is w = simple_emitted (kind.Aug t op e ty) _ _ b0 b1 xs is (typed_act-Aug t op e ty) (λ n u. refl) (w result)
 
-pub update_emitted : (x : Setting) (result : Option Sort) (looping : Bool) (s : TStmt) (t : Target) (op : BinOp) (e : TExpr) (ty : Ty) (b0 b1 : Building) (xs : List Exit) → s.kind ≡ kind.Aug t op e ty → Works x result (means_update x (typed_target t) op (typed_expr e) (sort_of ty)) b0 b1 [] → Emitted x result looping (means_statement x (typed_stmt s)) b0 b1 xs xs
-update_emitted x result looping s t op e ty b0 b1 xs is w =
-    simple_emitted x result looping s _ _ _ b0 b1 xs is (typed_act-Aug t op e ty) (λ n u. refl) w
+  pub return_emitted : (o : Option TExpr) (b0 b1 : Building) (xs : List Exit) → s.kind ≡ kind.Return o → Works x result (means_return x (maybe_typed o)) b0 b1 [] → Emitted x result looping (means_statement x (typed_stmt s)) b0 b1 xs xs
+  return_emitted o b0 b1 xs is w = simple_emitted (kind.Return o) _ _ b0 b1 xs is (typed_act-Return o) (λ n u. refl) w
 
-pub return_emitted : (x : Setting) (result : Option Sort) (looping : Bool) (s : TStmt) (o : Option TExpr) (b0 b1 : Building) (xs : List Exit) → s.kind ≡ kind.Return o → Works x result (means_return x (maybe_typed o)) b0 b1 [] → Emitted x result looping (means_statement x (typed_stmt s)) b0 b1 xs xs
-return_emitted x result looping s o b0 b1 xs is w = simple_emitted x result looping s _ _ _ b0 b1 xs is (typed_act-Return o) (λ n u. refl) w
+  pub pass_emitted : (b : Building) (xs : List Exit) → s.kind ≡ kind.Pass → Emitted x result looping (means_statement x (typed_stmt s)) b b xs xs
+  pass_emitted b xs is = simple_emitted kind.Pass _ _ b b xs is typed_act-Pass (λ n u. refl) (none_works x result b)
 
-pub pass_emitted : (x : Setting) (result : Option Sort) (looping : Bool) (s : TStmt) (b : Building) (xs : List Exit) → s.kind ≡ kind.Pass → Emitted x result looping (means_statement x (typed_stmt s)) b b xs xs
-pass_emitted x result looping s b xs is =
-    emitted_as x result looping _ _ b b xs xs [] (stmt_is x s tree.Pass s.line (act_is s _ _ is typed_act-Pass)) (sym (append-nil xs)) (none_works x result b) (λ z. (refl, refl))
+  -- a jump out of a loop
+  jump_emitted : (k : kind.TStmtKind) (a : TypedAct) (b0 b1 : Building) (w : Way) (xs ys : List Exit) → looping ≡ true → s.kind ≡ k → tree.typed_act k ≡ a → ys ≡ xs ++ record { way = w; block = length b0.blocks } ∷ [] → Works x result (means_statement x (on_line a s.line)) b0 b1 (record { way = w; block = length b0.blocks } ∷ []) → Emitted x result looping (means_statement x (typed_stmt s)) b0 b1 xs ys
+  jump_emitted k a b0 b1 w xs ys loops is is_act noted works =
+      emitted_as x result looping _ _ b0 b1 xs ys _ (stmt_is k a is is_act) noted works (λ f. absurd (let g : true ≡ false = sym loops ∙ f in cc))
 
-only_where : (looping : Bool) (P : Type 0) → looping ≡ true → looping ≡ false → P
-only_where looping P e f = absurd (let g : true ≡ false = sym e ∙ f in cc)
+  pub break_emitted : (b0 b1 : Building) (xs ys : List Exit) → looping ≡ true → s.kind ≡ kind.Break → ys ≡ xs ++ record { way = Break; block = length b0.blocks } ∷ [] → Closes b0 b1 Unreachable → Emitted x result looping (means_statement x (typed_stmt s)) b0 b1 xs ys
+  break_emitted b0 b1 xs ys loops is noted c = jump_emitted kind.Break tree.Break b0 b1 Break xs ys loops is typed_act-Break noted (break_works x result b0 b1 c)
 
-pub break_emitted : (x : Setting) (result : Option Sort) (looping : Bool) (s : TStmt) (b0 b1 : Building) (xs ys : List Exit) → looping ≡ true → s.kind ≡ kind.Break → ys ≡ xs ++ record { way = Break; block = length b0.blocks } ∷ [] → Closes b0 b1 Unreachable → Emitted x result looping (means_statement x (typed_stmt s)) b0 b1 xs ys
-break_emitted x result looping s b0 b1 xs ys loops is noted c =
-    emitted_as x result looping _ _ b0 b1 xs ys _ (stmt_is x s tree.Break s.line (act_is s _ _ is typed_act-Break)) noted (break_works x result b0 b1 c) (only_where looping _ loops)
+  pub continue_emitted : (b0 b1 : Building) (xs ys : List Exit) → looping ≡ true → s.kind ≡ kind.Continue → ys ≡ xs ++ record { way = Continue; block = length b0.blocks } ∷ [] → Closes b0 b1 Unreachable → Emitted x result looping (means_statement x (typed_stmt s)) b0 b1 xs ys
+  continue_emitted b0 b1 xs ys loops is noted c = jump_emitted kind.Continue tree.Continue b0 b1 Continue xs ys loops is typed_act-Continue noted (continue_works x result b0 b1 c)
 
-pub continue_emitted : (x : Setting) (result : Option Sort) (looping : Bool) (s : TStmt) (b0 b1 : Building) (xs ys : List Exit) → looping ≡ true → s.kind ≡ kind.Continue → ys ≡ xs ++ record { way = Continue; block = length b0.blocks } ∷ [] → Closes b0 b1 Unreachable → Emitted x result looping (means_statement x (typed_stmt s)) b0 b1 xs ys
-continue_emitted x result looping s b0 b1 xs ys loops is noted c =
-    emitted_as x result looping _ _ b0 b1 xs ys _ (stmt_is x s tree.Continue s.line (act_is s _ _ is typed_act-Continue)) noted (continue_works x result b0 b1 c) (only_where looping _ loops)
+-- ---- loops
 
--- a bool where a test stands
-bool_is : (t : Sort) → t ≡ sort.Bool → (x : Setting) (m : Meaning Value) (b0 b1 : Building) (r : ℕ) → Computes x (Shows t) (rtype_of t) m b0 b1 r → Computes x (Shows sort.Bool) BoolType m b0 b1 r
-bool_is t is x m b0 b1 r cx = let P : Sort → Type 0 = λ z. Computes x (Shows z) (rtype_of z) m b0 b1 r in subst P is cx
+-- the value of a bool answers a test
+answered : (x : Setting) (e : TypedExpr) (b0 b1 : Building) (t : Test) → type_of e ≡ sort.Bool → HasRoom x b0 → SplitsBy x e b0 b1 t → Splits (λ c r. Asks x (Always ℕ) (Always ℕ) (λ i n u. on_to (means x e n u) truth_of) b0 c r) b1 t
+answered x e b0 b1 t bool room sp =
+    let P : Sort → Type 0 = λ z. Computes x (Shows z) (rtype_of z) (means x e) b0 sp.middle t.condition.0 in
+    record { middle = sp.middle; answered = asks_by x (means x e) b0 sp.middle t.condition.0 room (subst P bool sp.answered); block = sp.block; closes = sp.closes; start = sp.start }
 
-pub while_emitted : {line : ℕ} (x : Setting) (result : Option Sort) (looping : Bool) (s : TStmt) (e : TExpr) (ss body : List TStmt) (b0 b1 b2 b3 b4 b5 b6 b7 b8 b9 : Building) (r : Reg) (head test start next exit : ℕ) (x0 x1 xs0 xs ks ls : List Exit) (plan : ExitPlan) → HasRoom x b0 → s.kind ≡ kind.While e ss → body ≡ ss → type_of (typed_expr e) ≡ sort.Bool → head ≡ length b1.blocks → Closes b0 b1 (Goto head) → Computes x (Shows (type_of (typed_expr e))) (rtype_of (type_of (typed_expr e))) (means x (typed_expr e)) b1 b2 r.0 → test ≡ length b2.blocks → Closes b2 b3 Unreachable → start ≡ length b3.blocks → xs0 ≡ [] → Emitted x result true (means_suite x (typed_suite body)) b3 b4 xs0 xs → next ≡ length b5.blocks → Closes b4 b5 (Goto next) → Pushes b5 b6 Turn line → Closes b6 b7 (Goto head) → exit ≡ length b7.blocks → plan ≡ record { breaks = Some exit; continues = Some next; returns = None; joins = None } → ls ≡ xs → x1 ≡ x0 ++ left (planned plan) ls → b8 ≡ record b7 { blocks = with_last b7.blocks test (If r start exit) } → ks ≡ xs → Patching b8 b9 ks [] (planned plan) → Emitted x result looping (means_statement x (typed_stmt s)) b0 b9 x0 x1
-while_emitted x result looping s e ss body b0 b1 b2 b3 b4 b5 b6 b7 b8 b9 r head test start next exit x0 x1 xs0 xs ks ls plan room is same bool is_head c1 cx is_test c3 is_start none p is_next c5 t c7 is_exit planis ls_is more e8 ks_is all =
-    let mine : xs ≡ p.mine = p.is ∙ ap (λ z. z ++ p.mine) none in
-    let planis' : plan ≡ record { breaks = Some (length b7.blocks); continues = Some (length b5.blocks); returns = None; joins = None } = planis ∙ rw (is_exit, is_next) refl in
-    let body' : Works x result (means_suite x (typed_suite ss)) b3 b4 p.mine = (let P : List TStmt → Type 0 = λ z. Works x result (means_suite x (typed_suite z)) b3 b4 p.mine in subst P same p.works) in
-    let all' : Patching b8 b9 p.mine [] (planned plan) = (let P : List Exit → Type 0 = λ z. Patching b8 b9 z [] (planned plan) in subst P (ks_is ∙ mine) all) in
-    emitted_as x result looping _ _ b0 b9 x0 x1 (left (planned plan) p.mine)
-    (stmt_is x s (tree.While (typed_expr e) (typed_suite ss)) s.line (typed_stmt-While s e ss is))
-    (more ∙ ap (λ z. x0 ++ left (planned plan) z) (ls_is ∙ mine))
-    (while_works x result (means x (typed_expr e)) (means_suite x (typed_suite ss)) b0 b1 b2 b3 b4 b5 b6 b7 b8 b9 r.0 p.mine plan planis' room (rw is_head at c1) (bool_is _ bool x _ b1 b2 r.0 cx) c3 body' (rw is_next at c5) t (rw is_head at c7) (rw (is_test, is_start, is_exit) at e8) all')
-    (λ z. (planned_none (planned plan) Break exit p.mine (ap (λ q. planned q Break) planis), planned_none (planned plan) Continue next p.mine (ap (λ q. planned q Continue) planis)))
+-- a `while` was begun
+pub while_begins : (x : Setting) (e : TypedExpr) (ss : tree.TypedSuite) (line : ℕ) (b0 b1 b3 : Building) (o : LoopStart) → HasRoom x b0 → type_of e ≡ sort.Bool → o.head ≡ length b1.blocks → Closes b0 b1 (Goto o.head) → SplitsBy x e b1 b3 o.test → Begins x (means_loop x (on_line (tree.While e ss) line)) b0 b3 o
+while_begins x e ss line b0 b1 b3 o room bool is_head c1 sp =
+    let split = answered x e b1 b3 o.test bool (room_on x b0 b1 c1.extends room) sp in
+    let test : ℕ → Meaning Bool = λ i n u. on_to (means x e n u) truth_of in
+    let n1 = c1.blocks in let k2 = split.answered.extends.blocks_grow in let n3 = split.closes.blocks in
+    let is_block = split.block in let is_start = split.start in
+    let P : ℕ → Type 0 = λ z. held b3 z (length split.middle.ops) ≡ Some (End Unreachable) in
+    record {
+      head = (omega arith, omega arith);
+      waits = record { place = length split.middle.ops; is = subst P (sym split.block) split.closes.at };
+      start = (omega arith, omega arith);
+      type = type_kept split.middle b3 o.test.condition.0 BoolType split.closes.extends split.answered.type;
+      works = λ result m b4 b5 b9 next xs x0 x1 q is_next c5 l.
+          at_works x result (Always ℕ) (λ i n. loop (suc n) (λ j. test j n) (λ j. m n) (λ j. j) i) b0 b9 (left (planned (looping_to l.exit next)) xs) 0 (λ regs. tt)
+          (loop_works x result (Always ℕ) (Always ℕ) test (λ i. m) (λ i. i) (length b0.regs) b0 b1 b3 b4 b5 b5 b9 o next xs x0 x1 (le_refl _) (λ i regs now kept held. tt) is_head c1 split (works_at x result (Always ℕ) m b3 b4 xs q) is_next c5 (no_step x (length b0.regs) b5) l);
+    }
+
+-- what is open where a loop ends
+pub loop_open : (x : Setting) (result : Option Sort) (whole : Meaning Flow → Meaning Flow) (m : Meaning Flow) (b0 b3 b4 b5 : Building) (o : LoopStart) (next : ℕ) (xs0 xs ks : List Exit) → Begins x whole b0 b3 o → xs0 ≡ [] → Emitted x result true m b3 b4 xs0 xs → next ≡ length b5.blocks → Closes b4 b5 (Goto next) → ks ≡ xs → (o.head ≤ length b5.blocks) × Open b5 o.test.block × (o.test.start ≤ next) × OpenIn b5 o.test.start next ks
+loop_open x result whole m b0 b3 b4 b5 o next xs0 xs ks g none p is_next c5 same =
+    let x35 = extends_trans b3 b4 b5 p.works.extends c5.extends in
+    let k = p.works.extends.blocks_grow in let n5 = c5.blocks in let low = g.head.1 in let start = g.start.1 in
+    let P : List Exit → Type 0 = λ z. OpenIn b5 o.test.start next z in (
+      omega arith,
+      record { place = g.waits.place; is = x35.items _ _ _ g.waits.is },
+      omega arith,
+      subst P (sym (same ∙ p.is ∙ ap (λ z. z ++ p.mine) none)) (open_on b4 b5 (length b3.blocks) (length b4.blocks) o.test.start next p.mine (stays_by b4 b5 _ _ c5.extends) start (omega arith) p.works.opens),
+    )
+
+-- a loop does what it means, whatever it goes over; of the exits of its body it hands on those that leave the function
+pub loop_emitted : (x : Setting) (result : Option Sort) (looping : Bool) (whole : Meaning Flow → Meaning Flow) (m m' : Meaning Flow) (b0 b3 b4 b5 b9 : Building) (o : LoopStart) (next : ℕ) (x0 x1 xs0 xs ks : List Exit) → ((n : ℕ) (s : State) → m' n s ≡ whole m n s) → Begins x whole b0 b3 o → xs0 ≡ [] → Emitted x result true m b3 b4 xs0 xs → next ≡ length b5.blocks → Closes b4 b5 (Goto next) → ks ≡ xs → EndsLoop b5 b9 o next ks x0 x1 → Emitted x result looping m' b0 b9 x0 x1
+loop_emitted x result looping whole m m' b0 b3 b4 b5 b9 o next x0 x1 xs0 xs ks is g none p is_next c5 same e =
+    let P : List Exit → Type 0 = λ z. EndsLoop b5 b9 o next z x0 x1 in
+    let l : EndsLoop b5 b9 o next p.mine x0 x1 = subst P (same ∙ p.is ∙ ap (λ z. z ++ p.mine) none) e in
+    let plan : Way → Option ℕ = planned (looping_to l.exit next) in
+    emitted_as x result looping m' (whole m) b0 b9 x0 x1 (left plan p.mine) is l.passed (g.works result m b4 b5 b9 next p.mine x0 x1 p.works is_next c5 l) (λ z. (planned_none plan Break l.exit p.mine refl, planned_none plan Continue next p.mine refl))
 
 -- ---- an `if`
 
@@ -195,30 +224,31 @@ pub nothing_tested : (x : Setting) (result : Option Sort) (looping : Bool) (b : 
 nothing_tested x result looping b xs none =
     let P : List Exit → Type 0 = λ z. Tested x result looping (means_arms x []) b b z in subst P (sym none) record { works = tests_none x result b; inside = λ e. (refl, refl) }
 
-pub next_tested : (x : Setting) (result : Option Sort) (looping : Bool) (arms : List (TExpr × List TStmt)) (i : ℕ) (a : TExpr × List TStmt) (body : List TStmt) (b0 b1 b2 b3 b4 b5 b6 : Building) (r : Reg) (test start next : ℕ) (xs ys zs : List Exit) → i < length arms → a ≡ get_or arms i a → body ≡ a.1 → HasRoom x b0 → type_of (typed_expr a.0) ≡ sort.Bool → Tested x result looping (means_arms x (take i arms)) b0 b1 xs → Computes x (Shows (type_of (typed_expr a.0))) (rtype_of (type_of (typed_expr a.0))) (means x (typed_expr a.0)) b1 b2 r.0 → test ≡ length b2.blocks → Closes b2 b3 Unreachable → start ≡ length b3.blocks → Emitted x result looping (means_suite x (typed_suite body)) b3 b4 xs ys → zs ≡ ys ++ record { way = Join; block = length b4.blocks } ∷ [] → Closes b4 b5 Unreachable → next ≡ length b5.blocks → b6 ≡ record b5 { blocks = with_last b5.blocks test (If r start next) } → Tested x result looping (means_arms x (take (i + 1) arms)) b0 b6 zs
-next_tested x result looping arms i a body b0 b1 b2 b3 b4 b5 b6 r test start next xs ys zs lt is same room bool so_far cx is_test c3 is_start p noted c5 is_next e6 =
+pub next_tested : (x : Setting) (result : Option Sort) (looping : Bool) (arms : List (TExpr × List TStmt)) (i : ℕ) (a : TExpr × List TStmt) (body : List TStmt) (b0 b1 b3 b4 b6 : Building) (t : Test) (xs ys zs : List Exit) → i < length arms → a ≡ get_or arms i a → body ≡ a.1 → HasRoom x b0 → type_of (typed_expr a.0) ≡ sort.Bool → Tested x result looping (means_arms x (take i arms)) b0 b1 xs → SplitsBy x (typed_expr a.0) b1 b3 t → Emitted x result looping (means_suite x (typed_suite body)) b3 b4 xs ys → EndsArm b4 b6 t ys zs → Tested x result looping (means_arms x (take (i + 1) arms)) b0 b6 zs
+next_tested x result looping arms i a body b0 b1 b3 b4 b6 t xs ys zs lt is same room bool so_far sp p e =
     let last : List Exit = record { way = Join; block = length b4.blocks } ∷ [] in
-    let body' : Works x result (means_suite x (typed_suite a.1)) b3 b4 p.mine = (let P : List TStmt → Type 0 = λ z. Works x result (means_suite x (typed_suite z)) b3 b4 p.mine in subst P same p.works) in
-    let one = tests_next x result (means_arms x (take i arms)) (means x (typed_expr a.0)) (means_suite x (typed_suite a.1)) b0 b1 b2 b3 b4 b5 b6 r.0 xs p.mine room so_far.works (bool_is _ bool x _ b1 b2 r.0 cx) c3 body' c5 (rw (is_test, is_start, is_next) at e6) in
+    let before : Meaning Tried = means_arms x (take i arms) in
+    let test : Meaning Bool = λ n w. on_to (means x (typed_expr a.0) n w) truth_of in
+    let m : Meaning Flow = means_suite x (typed_suite a.1) in
+    let m_works : Works x result m b3 b4 p.mine = (let P : List TStmt → Type 0 = λ z. Works x result (means_suite x (typed_suite z)) b3 b4 p.mine in subst P same p.works) in
+    let one = tests_next x result before test m b0 b1 b3 b4 b6 t xs p.mine ys zs so_far.works (answered x (typed_expr a.0) b1 b3 t bool (room_on x b0 b1 so_far.works.extends room) sp) m_works e in
     let row : (n : ℕ) → TypedExpr × tree.TypedSuite → Branch = λ n. branch_of x.source.classes.classes (call_of x.source n) x.source.globals x.variables n in
-    let named = tests_of x result (means_arms x (take i arms ++ a ∷ [])) (λ n u. on_to (means_arms x (take i arms) n u) (try_next ((λ w. on_to (means x (typed_expr a.0) n w) truth_of), means_suite x (typed_suite a.1) n))) b0 b6 (xs ++ (p.mine ++ last))
+    let named = tests_of x result (means_arms x (take i arms ++ a ∷ [])) (λ n u. on_to (before n u) (try_next (test n, m n))) b0 b6 (xs ++ (p.mine ++ last))
     (λ n u. ap (λ l. tried (map (row n) l) u) (map_last typed_arm (take i arms) a) ∙ ap (λ l. tried l u) (map_last (row n) (map typed_arm (take i arms)) (typed_arm a)) ∙ tried_last (map (row n) (map typed_arm (take i arms))) (row n (typed_arm a)) u) one in
-    let exits : zs ≡ xs ++ (p.mine ++ last) = noted ∙ ap (λ l. l ++ last) p.is ∙ append_assoc xs p.mine last in
+    let exits : zs ≡ xs ++ (p.mine ++ last) = e.noted ∙ ap (λ l. l ++ last) p.is ∙ append_assoc xs p.mine last in
     let P : List Exit → Type 0 = λ z. Tested x result looping (means_arms x (take i arms ++ a ∷ [])) b0 b6 z in
     rw (add-one, take-suc arms i a lt, ← is)
     (subst P (sym exits) record { works = named; inside = λ z. leaves_both xs (p.mine ++ last) (so_far.inside z) (leaves_both p.mine last (p.inside z) (refl, refl)) })
 
-pub if_emitted : (x : Setting) (result : Option Sort) (looping : Bool) (s : TStmt) (arms all_arms : List (TExpr × List TStmt)) (ss other : List TStmt) (i : ℕ) (b0 b1 b2 b3 b4 : Building) (end : ℕ) (xs ys ks ls x0 x1 : List Exit) (plan : ExitPlan) → s.kind ≡ kind.If all_arms ss → arms ≡ all_arms → length arms ≤ i → take i arms ≡ arms → other ≡ ss → Tested x result looping (means_arms x (take i arms)) b0 b1 xs → Emitted x result looping (means_suite x (typed_suite other)) b1 b2 xs ys → end ≡ length b3.blocks → Closes b2 b3 (Goto end) → plan ≡ record { breaks = None; continues = None; returns = None; joins = Some end } → ls ≡ ys → x1 ≡ x0 ++ left (planned plan) ls → ks ≡ ys → Patching b3 b4 ks [] (planned plan) → Emitted x result looping (means_statement x (typed_stmt s)) b0 b4 x0 x1
-if_emitted x result looping s arms all_arms ss other i b0 b1 b2 b3 b4 end xs ys ks ls x0 x1 plan is same_arms past took same t p is_end c3 planis ls_is more ks_is all =
-    let t' : Tested x result looping (means_arms x all_arms) b0 b1 xs = (let P : List (TExpr × List TStmt) → Type 0 = λ z. Tested x result looping (means_arms x z) b0 b1 xs in subst P (took ∙ same_arms) t) in
-    let other' : Works x result (means_suite x (typed_suite ss)) b1 b2 p.mine = (let P : List TStmt → Type 0 = λ z. Works x result (means_suite x (typed_suite z)) b1 b2 p.mine in subst P same p.works) in
-    let planis' : plan ≡ record { breaks = None; continues = None; returns = None; joins = Some (length b3.blocks) } = planis ∙ rw is_end refl in
-    let all' : Patching b3 b4 (xs ++ p.mine) [] (planned plan) = (let P : List Exit → Type 0 = λ z. Patching b3 b4 z [] (planned plan) in subst P (ks_is ∙ p.is) all) in
-    emitted_as x result looping _ _ b0 b4 x0 x1 (left (planned plan) (xs ++ p.mine))
-    (λ n u. stmt_is x s (tree.If (arms_of (map typed_arm all_arms)) (typed_suite ss)) s.line (typed_stmt-If s all_arms ss is) n u ∙ arms_are x.source.classes.classes (call_of x.source n) x.source.globals x.variables n (map typed_arm all_arms) (means_suite x (typed_suite ss) n) u)
-    (more ∙ ap (λ z. x0 ++ left (planned plan) z) (ls_is ∙ p.is))
-    (if_works x result (means_arms x all_arms) (means_suite x (typed_suite ss)) b0 b1 b2 b3 b4 xs p.mine plan planis' t'.works other' (rw is_end at c3) all')
-    (λ z. leaves_left (planned plan) (xs ++ p.mine) (leaves_both xs p.mine (t'.inside z) (p.inside z)))
+pub if_emitted : (x : Setting) (result : Option Sort) (looping : Bool) (s : TStmt) (arms : List (TExpr × List TStmt)) (ss : List TStmt) (b0 b1 b2 b4 : Building) (xs ys ks x0 x1 : List Exit) → s.kind ≡ kind.If arms ss → Tested x result looping (means_arms x arms) b0 b1 xs → Emitted x result looping (means_suite x (typed_suite ss)) b1 b2 xs ys → ks ≡ ys → Joins b2 b4 ks x0 x1 → Emitted x result looping (means_statement x (typed_stmt s)) b0 b4 x0 x1
+if_emitted x result looping s arms ss b0 b1 b2 b4 xs ys ks x0 x1 is t p same j =
+    let plan : Way → Option ℕ = planned (joining j.end) in
+    let mine : ks ≡ xs ++ p.mine = same ∙ p.is in
+    emitted_as x result looping _ _ b0 b4 x0 x1 (left plan (xs ++ p.mine))
+    (λ n u. ap (λ z. means_statement x z n u) (typed_stmt-If s arms ss is) ∙ arms_are x.source.classes.classes (call_of x.source n) x.source.globals x.variables n (map typed_arm arms) (means_suite x (typed_suite ss) n) u)
+    (j.passed ∙ ap (λ z. x0 ++ left plan z) mine)
+    (if_works x result (means_arms x arms) (means_suite x (typed_suite ss)) b0 b1 b2 b4 xs p.mine ks x0 x1 t.works p.works j mine)
+    (λ z. leaves_left plan (xs ++ p.mine) (leaves_both xs p.mine (t.inside z) (p.inside z)))
 
 -- ---- what is open when it is written
 

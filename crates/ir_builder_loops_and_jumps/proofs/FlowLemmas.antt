@@ -1,13 +1,9 @@
 -- How stretches of code for statements follow one another.
-use Rattle.std.proofs.Common.{◌≡◌, ℕ, ◌<◌, ◌≤◌, List, [], ◌++◌, length, Option, Some, None, Bool, true, false, cond, refl, sym, ap, ◌∙◌, subst, arith, le_refl}
-use Rattle.std.specs.Prelude.{if◌then◌else◌}
+use Rattle.std.proofs.Common.{◌≡◌, ℕ, ◌≤◌, List, [], ◌++◌, length, Option, Some, None, Bool, cond, refl, sym, ap, ◌∙◌, subst, arith, le_refl}
 use Rattle.value_core.specs.Value.{Value, BoolVal}
-use Rattle.py_typed.specs.Sorts as sort
 use Rattle.py_typed.specs.Sorts.{Sort}
-use Rattle.source_meaning.specs.State.{State, Outcome, Gives, Raises, Stops, Does, on_to}
-use Rattle.source_meaning.specs.Operations.{truth_of}
+use Rattle.source_meaning.specs.State.{State, Outcome, Gives, Raises, Stops, on_to}
 use Rattle.source_meaning.specs.WaysOut.{Flow, Goes, Breaks, Continues, Returns, flow_on}
-use Rattle.ir_core.specs.declared.code.RType.{RType}
 use Rattle.ir_core.specs.declared.code.RType.TheVariants.{Bool as BoolType}
 use Rattle.ir_core.specs.declared.code.Last.TheVariants.{Goto, If}
 use Rattle.ir_core.specs.declared.code.Reg.{Reg}
@@ -22,21 +18,17 @@ use Rattle.ir_core.proofs.StepLemmas.{goto_step, if_step}
 use Rattle.ir_builder_frames.specs.Settings.{Setting}
 use Rattle.ir_builder_frames.specs.Placing.{Placed}
 use Rattle.ir_builder_frames.specs.Coming.{world, running, Leads, Ends}
-use Rattle.ir_builder_frames.specs.Matching.{HasRoom, Matches, SameLocals, SameIn, Stands, IsThrown, CallsWork}
-use Rattle.ir_builder_frames.specs.Computing.{Showing, Shows, Meaning, Arrives, Computes}
+use Rattle.ir_builder_frames.specs.Matching.{Matches, SameIn, Stands, IsThrown, CallsWork}
+use Rattle.ir_builder_frames.specs.Computing.{Meaning}
 use Rattle.ir_builder_loops_and_jumps.specs.declared.ways.Way.{Way}
 use Rattle.ir_builder_loops_and_jumps.specs.declared.ways.Way.TheVariants.{Break, Continue, Return}
 use Rattle.ir_builder_loops_and_jumps.specs.declared.ways.Exit.{Exit}
 use Rattle.ir_builder_loops_and_jumps.specs.Runs.{JumpTo, Back, Flows, Works}
+use Rattle.ir_builder_loops_and_jumps.specs.Loops.{Always, WorksAt}
 use Rattle.ir_builder_frames.proofs.ComingLemmas.{leads_trans, leads_step, ends_on, ends_now, ends_at, ends_map}
 use Rattle.ir_builder_frames.proofs.HeldLemmas.{extends_refl, extends_trans, placed_part}
-use Rattle.ir_builder_frames.proofs.MatchLemmas.{stands_from, thrown_from, match_kept}
+use Rattle.ir_builder_frames.proofs.MatchLemmas.{stands_from, thrown_from}
 use Rattle.ir_builder_loops_and_jumps.proofs.ExitLemmas.{stays_by, jump_back, open_on, open_append, jump_front, jump_rest, UsesToo, uses_front, uses_rest}
-
-pub on_assoc : {A B C : Type 0} (r : Outcome A) (f : A → Does B) (g : B → Does C) → on_to (on_to r f) g ≡ on_to r (λ a s. on_to (f a s) g)
-on_assoc (Gives a s) f g = refl
-on_assoc (Raises v s) f g = refl
-on_assoc (Stops w s) f g = refl
 
 -- ---- single steps
 
@@ -46,11 +38,6 @@ module _ (p : Program) (fn : ℕ) (below : List Waiting) where
 
   pub goes_by : (k i : ℕ) (r : Reg) (a b : ℕ) (h : Bool) (regs : Regs) (w : World) → item_at p fn k i ≡ Some (End (If r a b)) → type_of_reg (registers_of p fn) r ≡ Some BoolType → regs r.0 ≡ Holds (BoolVal h) → Leads p (running fn k i regs below w) (running fn (cond h a b) 0 regs below w)
   goes_by k i r a b h regs w at t is = leads_step p _ _ (if_step Strict p (record { fn = fn; block = k; place = i; regs = regs }) below w r a b h at t is)
-
-  -- by the value of a test
-  pub branch_ends : {A : Type 0} (t : ℕ) (h : Bool) (a b : ℕ) (regs : Regs) (w : World) (f g : Does A) (s : State) (R : A → State → Config → Type 0) (E : Value → State → Config → Type 0) → Ends p t (running fn a 0 regs below w) (f s) R E → Ends p t (running fn b 0 regs below w) (g s) R E → Ends p t (running fn (cond h a b) 0 regs below w) ((if h then f else g) s) R E
-  branch_ends t true a b regs w f g s R E first second = first
-  branch_ends t false a b regs w f g s R E first second = second
 
 -- ---- seen from a whole
 
@@ -66,21 +53,6 @@ module _ (p : Program) (result : Option Sort) where
   flows_from fn k i to xs ys below x keep keep' regs regs' (Returns v) s d more le same t = (t.0, back_from x.frame.ret fn to xs ys below x keep keep' regs regs' v s d more le same t.1)
 
 module _ (p : Program) (result : Option Sort) (fn : ℕ) (below : List Waiting) (x : Setting) (n : ℕ) (calls : CallsWork p x.source n) where
-  -- what follows a value
-  pub value_then : {B : Type 0} (h : Option ℕ) (K : Showing) (t : RType) (m : Meaning Value) (b c : Building) (r : ℕ) (regs : Regs) (s : State) (go : Value → Does B) (S : B → State → Config → Type 0) (keep : ℕ) (old : Regs) → Computes x K t m b c r → Placed p fn b c h → HasRoom x b → keep ≤ length b.regs → SameIn x.frame keep regs old → Matches x regs s → s.turns ≤ n → ((now : Regs) (v : Value) (s1 : State) → s1.turns ≤ s.turns → K v (now r) → ((j : ℕ) → j < length b.regs → now j ≡ regs j) → SameLocals x s s1 → Matches x now s1 → Ends p s1.turns (running fn (length c.blocks) (length c.ops) now below (world None s1)) (go v s1) S (IsThrown fn h below x keep old)) → Ends p s.turns (running fn (length b.blocks) (length b.ops) regs below (world None s)) (on_to (m n s) go) S (IsThrown fn h below x keep old)
-  value_then h K t m b c r regs s go S keep old cx at room wide same match le next =
-      ends_on p s.turns _ (m n s) (Arrives K fn (length c.blocks) (length c.ops) below (length b.regs) regs x s r) (IsThrown fn h below x (length b.regs) regs) (IsThrown fn h below x keep old) go S (cx.runs p fn h at n calls regs below s match le)
-      (λ v s1 d le1 a. ends_at p s1.turns (running fn (length c.blocks) (length c.ops) a.now below (world None s1)) d (go v s1) S _ a.is (next a.now v s1 le1 a.shows a.kept a.same (let top = room.top in match_kept x b regs a.now s s1 room (λ j lt. a.kept j (omega arith)) a.same match)))
-      (λ v s1 d z. thrown_from fn h below x keep (length b.regs) old regs v s1 d wide same z)
-
-  -- what follows a test
-  pub test_then : {B : Type 0} (h : Option ℕ) (m : Meaning Value) (b c : Building) (r : ℕ) (regs : Regs) (s : State) (go : Bool → Does B) (S : B → State → Config → Type 0) (keep : ℕ) (old : Regs) → Computes x (Shows sort.Bool) BoolType m b c r → Placed p fn b c h → HasRoom x b → keep ≤ length b.regs → SameIn x.frame keep regs old → Matches x regs s → s.turns ≤ n → ((now : Regs) (t : Bool) (s1 : State) → s1.turns ≤ s.turns → now r ≡ Holds (BoolVal t) → ((j : ℕ) → j < length b.regs → now j ≡ regs j) → Matches x now s1 → Ends p s1.turns (running fn (length c.blocks) (length c.ops) now below (world None s1)) (go t s1) S (IsThrown fn h below x keep old)) → Ends p s.turns (running fn (length b.blocks) (length b.ops) regs below (world None s)) (on_to (on_to (m n s) truth_of) go) S (IsThrown fn h below x keep old)
-  test_then h m b c r regs s go S keep old cx at room wide same match le next =
-      rw on_assoc (value_then h (Shows sort.Bool) BoolType m b c r regs s (λ v s1. on_to (truth_of v s1) go) S keep old cx at room wide same match le
-      (λ now v s1 le1 shows kept loc match1.
-      let P : Value → Type 0 = λ z. Ends p s1.turns (running fn (length c.blocks) (length c.ops) now below (world None s1)) (on_to (truth_of z s1) go) S (IsThrown fn h below x keep old) in
-      subst P (sym shows.1.1) (next now shows.1.0 s1 le1 (shows.0 ∙ ap Holds shows.1.1) kept match1)))
-
   -- a part of a statement
   pub part_works : (h : Option ℕ) (m : Meaning Flow) (b c : Building) (xs ys : List Exit) (to : Way → ℕ) (keep : ℕ) (old regs : Regs) (s : State) → Works x result m b c xs → UsesToo xs ys → Placed p fn b c h → JumpTo p fn c to xs → keep ≤ length b.regs → SameIn x.frame keep regs old → Matches x regs s → s.turns ≤ n → Ends p s.turns (running fn (length b.blocks) (length b.ops) regs below (world None s)) (m n s) (Flows p result fn (length c.blocks) (length c.ops) to ys below x keep old) (IsThrown fn h below x keep old)
   part_works h m b c xs ys to keep old regs s q more at j le same match fits =
@@ -121,23 +93,36 @@ none_works x result b = record {
       ends_now p Goes s _ (Flows p result fn (length b.blocks) (length b.ops) to [] below x (length b.regs) regs) (IsThrown fn h below x (length b.regs) regs) record { now = regs; is = refl; match = match; kept = λ j a z o. refl };
 }
 
+-- what works anywhere works for any item, and what works for an item works where nothing is asked of registers
+pub works_at : {X : Type 0} (x : Setting) (result : Option Sort) (At : X → Regs → Type 0) (m : Meaning Flow) (b c : Building) (xs : List Exit) → Works x result m b c xs → WorksAt x result At (λ i. m) (length b.regs) b c xs
+works_at x result At m b c xs w = record { extends = w.extends; opens = w.opens; runs = λ p fn h to at jumps n calls i regs below s held. w.runs p fn h to at jumps n calls regs below s }
+
+pub at_works : {X : Type 0} (x : Setting) (result : Option Sort) (At : X → Regs → Type 0) (m : X → Meaning Flow) (b c : Building) (xs : List Exit) (i : X) → ((regs : Regs) → At i regs) → WorksAt x result At m (length b.regs) b c xs → Works x result (m i) b c xs
+at_works x result At m b c xs i all w = record { extends = w.extends; opens = w.opens; runs = λ p fn h to at jumps n calls regs below s. w.runs p fn h to at jumps n calls i regs below s (all regs) }
+
 -- one statement after another
-pub then_works : (x : Setting) (result : Option Sort) (m1 m2 : Meaning Flow) (b0 b1 b2 : Building) (x1 x2 : List Exit) → Works x result m1 b0 b1 x1 → Works x result m2 b1 b2 x2 → Works x result (λ n s. on_to (m1 n s) (flow_on (m2 n))) b0 b2 (x1 ++ x2)
-then_works x result m1 m2 b0 b1 b2 x1 x2 q r =
+pub then_at : {X : Type 0} (x : Setting) (result : Option Sort) (At : X → Regs → Type 0) (m1 : X → Meaning Flow) (m2 : Meaning Flow) (keep : ℕ) (b0 b1 b2 : Building) (x1 x2 : List Exit) → keep ≤ length b1.regs → WorksAt x result At m1 keep b0 b1 x1 → Works x result m2 b1 b2 x2 → WorksAt x result At (λ i n s. on_to (m1 i n s) (flow_on (m2 n))) keep b0 b2 (x1 ++ x2)
+then_at x result At m1 m2 keep b0 b1 b2 x1 x2 wide q r =
     let st = stays_by b1 b2 (length b0.blocks) (length b1.blocks) r.extends in
-    let l1 = q.extends.blocks_grow in let l2 = r.extends.blocks_grow in let r1 = q.extends.regs_grow in
+    let l1 = q.extends.blocks_grow in let l2 = r.extends.blocks_grow in
     record {
       extends = extends_trans b0 b1 b2 q.extends r.extends;
       opens = open_append b2 (length b0.blocks) (length b1.blocks) (length b2.blocks) x1 x2 l1 l2 (open_on b1 b2 _ _ _ _ x1 st (le_refl _) (le_refl _) q.opens) r.opens;
-      runs = λ p fn h to at jumps n calls regs below s match le.
+      runs = λ p fn h to at jumps n calls i regs below s held match le.
           let j1 = jump_back p fn b1 b2 _ _ to x1 st q.opens (jump_front p fn b2 to x1 x2 jumps) in
           let j2 = jump_rest p fn b2 to x1 x2 jumps in
           let at1 = placed_part p fn b0 b0 b1 b2 h (le_refl _) r.extends at in
           let at2 = placed_part p fn b0 b1 b2 b2 h l1 (extends_refl b2) at in
-          let R1 = Flows p result fn (length b1.blocks) (length b1.ops) to (x1 ++ x2) below x (length b0.regs) regs in
-          let R2 = Flows p result fn (length b2.blocks) (length b2.ops) to (x1 ++ x2) below x (length b0.regs) regs in
-          let T = IsThrown fn h below x (length b0.regs) regs in
-          ends_on p s.turns _ (m1 n s) R1 T T (flow_on (m2 n)) R2 (part_works p result fn below x n calls h m1 b0 b1 x1 (x1 ++ x2) to (length b0.regs) regs regs s q (uses_front x1 x2) at1 j1 (le_refl _) (λ j a b c. refl) match le)
-          (λ g s1 d le1 t. flow_then p result fn below x n calls h m2 b1 b2 x2 (x1 ++ x2) to (length b0.regs) regs r (uses_rest x1 x2) at2 j2 r1 g s1 d (omega arith) t)
+          let R1 = Flows p result fn (length b1.blocks) (length b1.ops) to x1 below x keep regs in
+          let R2 = Flows p result fn (length b2.blocks) (length b2.ops) to (x1 ++ x2) below x keep regs in
+          let T = IsThrown fn h below x keep regs in
+          ends_on p s.turns _ (m1 i n s) R1 T T (flow_on (m2 n)) R2 (q.runs p fn h to at1 j1 n calls i regs below s held match le)
+          (λ g s1 d le1 t. flow_then p result fn below x n calls h m2 b1 b2 x2 (x1 ++ x2) to keep regs r (uses_rest x1 x2) at2 j2 wide g s1 d (omega arith)
+          (flows_from p result fn _ _ to x1 (x1 ++ x2) below x keep keep regs regs g s1 d (uses_front x1 x2) (le_refl _) (λ j a z o. refl) t))
           (λ v s1 d t. t);
     }
+
+pub then_works : (x : Setting) (result : Option Sort) (m1 m2 : Meaning Flow) (b0 b1 b2 : Building) (x1 x2 : List Exit) → Works x result m1 b0 b1 x1 → Works x result m2 b1 b2 x2 → Works x result (λ n s. on_to (m1 n s) (flow_on (m2 n))) b0 b2 (x1 ++ x2)
+then_works x result m1 m2 b0 b1 b2 x1 x2 q r =
+    at_works x result (Always ℕ) (λ i n s. on_to (m1 n s) (flow_on (m2 n))) b0 b2 (x1 ++ x2) 0 (λ regs. tt)
+    (then_at x result (Always ℕ) (λ i. m1) m2 (length b0.regs) b0 b1 b2 x1 x2 q.extends.regs_grow (works_at x result (Always ℕ) m1 b0 b1 x1 q) r)

@@ -1,5 +1,6 @@
 pub mod ExitLemmas
 pub mod FlowLemmas
+pub mod SplitLemmas
 pub mod LoopLemmas
 pub mod BranchLemmas
 pub mod SimpleLemmas

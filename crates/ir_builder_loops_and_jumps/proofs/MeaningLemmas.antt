@@ -8,7 +8,7 @@ use Rattle.source_meaning.specs.State.{State, Outcome, Gives, Raises, Stops, Doe
 use Rattle.source_meaning.specs.StatementMeaning.{test_of, statement, suite, first_arm}
 use Rattle.source_meaning.specs.WaysOut.{Flow, Goes, Breaks, Continues, Returns, flow_on}
 use Rattle.ir_builder_loops_and_jumps.specs.Branches.{taken, Branch, tried, try_next, or_else}
-use Rattle.ir_builder_loops_and_jumps.proofs.FlowLemmas.{on_assoc}
+use Rattle.ir_builder_frames.proofs.ComingLemmas.{on_assoc}
 
 -- the same after each result
 pub on_same : {A B : Type 0} (r : Outcome A) (f g : A → Does B) → ((a : A) (s : State) → f a s ≡ g a s) → on_to r f ≡ on_to r g

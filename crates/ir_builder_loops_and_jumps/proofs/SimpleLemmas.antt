@@ -38,11 +38,11 @@ use Rattle.ir_builder_loops_and_jumps.specs.declared.ways.Exit.{Exit}
 use Rattle.ir_builder_loops_and_jumps.specs.Runs.{Back, Flows, Works}
 use Rattle.ir_builder_loops_and_jumps.specs.Simple.{with_value, Sets, Leaves}
 use Rattle.ir_builder_frames.proofs.ComingLemmas.{leads_trans, leads_step, ends_from, ends_now}
-use Rattle.ir_builder_frames.proofs.HeldLemmas.{extends_refl, extends_trans, has_less, type_has, pushes_has, placed_part}
+use Rattle.ir_builder_frames.proofs.HeldLemmas.{extends_refl, extends_trans, get_below, has_less, type_has, pushes_has, placed_part}
 use Rattle.ir_builder_frames.proofs.GlobalLemmas.{global_matches, global_step}
-use Rattle.ir_builder_frames.proofs.MatchLemmas.{either_flag, not_below, keeps_as}
+use Rattle.ir_builder_frames.proofs.MatchLemmas.{either_flag, not_below, keeps_as, computes_then}
 use Rattle.ir_builder_loops_and_jumps.proofs.ExitLemmas.{close_at, stays_by, open_on}
-use Rattle.ir_builder_loops_and_jumps.proofs.FlowLemmas.{goes_to, value_then, flows_from}
+use Rattle.ir_builder_loops_and_jumps.proofs.FlowLemmas.{goes_to, flows_from}
 
 -- ---- assignment
 
@@ -57,11 +57,6 @@ get_other (b ∷ ls) zero zero a ne = absurd (ne refl)
 get_other (b ∷ ls) zero (suc j) a ne = refl
 get_other (b ∷ ls) (suc k) zero a ne = refl
 get_other (b ∷ ls) (suc k) (suc j) a ne = get_other ls k j a (λ e. ne (ap suc e))
-
-pub get_below : {A : Type 0} (ls : List A) (k : ℕ) (a : A) → slice_get ls k ≡ Some a → k < length ls
-get_below [] k a e = let f : None ≡ Some a = e in absurd (cc)
-get_below (b ∷ ls) zero a e = omega arith
-get_below (b ∷ ls) (suc k) a e = let l = get_below ls k a e in omega arith
 
 value_kept : (t : RType) (v : Value) → is_refused Strict t (Holds v) ≡ false
 value_kept Int v = refl
@@ -171,7 +166,7 @@ set_works x result m t target r go b0 b1 b2 room cx q puts = record {
   runs = λ p fn h to at jumps n calls regs below s match le.
       let R = Flows p result fn (length b2.blocks) (length b2.ops) to [] below x (length b0.regs) regs in
       let T = IsThrown fn h below x (length b0.regs) regs in
-      value_then p result fn below x n calls h (Shows t) (rtype_of t) m b0 b1 r regs s (go n) R (length b0.regs) regs cx (placed_part p fn b0 b0 b1 b2 h (le_refl _) q.extends at) room (le_refl _) (λ j a z o. refl) match le
+      computes_then p fn h below x n calls (Shows t) (rtype_of t) m b0 b1 r regs s (go n) R (length b0.regs) regs cx (placed_part p fn b0 b0 b1 b2 h (le_refl _) q.extends at) room (le_refl _) (λ j a z o. refl) match le
       (λ now v s1 le1 shows kept same1 match1.
       let done = q.does p fn at.has calls.variables now below s1 v match1 shows.0 shows.1 in
       let s2 : State = with_value target v s1 in
@@ -189,7 +184,7 @@ alone_works x result K t m b0 b1 r room cx = record {
   runs = λ p fn h to at jumps n calls regs below s match le.
       let R = Flows p result fn (length b1.blocks) (length b1.ops) to [] below x (length b0.regs) regs in
       let T = IsThrown fn h below x (length b0.regs) regs in
-      value_then p result fn below x n calls h K t m b0 b1 r regs s (λ v. Gives Goes) R (length b0.regs) regs cx at room (le_refl _) (λ j a z o. refl) match le
+      computes_then p fn h below x n calls K t m b0 b1 r regs s (λ v. Gives Goes) R (length b0.regs) regs cx at room (le_refl _) (λ j a z o. refl) match le
       (λ now v s1 le1 shows kept loc match1. ends_now p Goes s1 _ R T record { now = now; is = refl; match = match1; kept = λ j a z o. kept j z });
 }
 
@@ -224,7 +219,7 @@ return_works x t m b0 b1 b2 r xs room cx q =
       runs = λ p fn h to at jumps n calls regs below s match le.
           let R = Flows p (Some t) fn (length b2.blocks) (length b2.ops) to xs below x (length b0.regs) regs in
           let T = IsThrown fn h below x (length b0.regs) regs in
-          value_then p (Some t) fn below x n calls h (Shows t) (rtype_of t) m b0 b1 r regs s (λ v. Gives (Returns v)) R (length b0.regs) regs cx (placed_part p fn b0 b0 b1 b2 h (le_refl _) q.extends at) room (le_refl _) (λ j a z o. refl) match le
+          computes_then p fn h below x n calls (Shows t) (rtype_of t) m b0 b1 r regs s (λ v. Gives (Returns v)) R (length b0.regs) regs cx (placed_part p fn b0 b0 b1 b2 h (le_refl _) q.extends at) room (le_refl _) (λ j a z o. refl) match le
           (λ now v s1 le1 shows kept loc match1.
           let one = q.does p (Some t) fn to at.has jumps (length b2.blocks) (length b2.ops) now below s1 v match1 shows.0 shows.1 in
           (le_refl _, one.0, one.1, flows_from p (Some t) fn (length b2.blocks) (length b2.ops) to xs xs below x (length b0.regs) (length b1.regs) regs now (Returns v) s1 one.0 (λ w u. u) g1 (λ j a z o. kept j z) one.2));

@@ -6,3 +6,5 @@ pub mod Printing
 pub mod Simple
 pub mod Means
 pub mod Tested
+pub mod Loops
+pub mod Around

@@ -1,15 +1,15 @@
 -- What statements mean, by the bound of the calls and turns.
-use Rattle.std.specs.Prelude.{List, Option, Some, None}
+use Rattle.std.specs.Prelude.{ℕ, suc, List, Option, Some, None}
 use Rattle.value_core.specs.Value.{Value, NoneVal}
 use Rattle.py_syntax.specs.declared.expression.BinOp.{BinOp}
 use Rattle.py_typed.specs.Sorts as sort
 use Rattle.py_typed.specs.Sorts.{Sort}
 use Rattle.py_typed.specs.Expressions.{TypedExpr, type_of}
-use Rattle.py_typed.specs.Statements.{TypedTarget, TypedStmt, TypedSuite}
+use Rattle.py_typed.specs.Statements.{TypedTarget, TypedStmt, on_line, While, TypedSuite}
 use Rattle.source_meaning.specs.State.{◌>>=◌, ◌>>◌, give}
 use Rattle.source_meaning.specs.SourceRun.{call_of}
-use Rattle.source_meaning.specs.StatementMeaning.{bind, update, changed, value_or, statement, suite}
-use Rattle.source_meaning.specs.WaysOut.{Flow, Goes, Returns}
+use Rattle.source_meaning.specs.StatementMeaning.{bind, update, changed, test_of, value_or, statement, suite}
+use Rattle.source_meaning.specs.WaysOut.{Flow, Goes, Returns, loop}
 use Rattle.ir_builder_frames.specs.Settings.{Setting}
 use Rattle.ir_builder_frames.specs.Computing.{Meaning}
 use Rattle.source_meaning.specs.ExpressionMeaning.{expression}
@@ -46,3 +46,9 @@ module _ (x : Setting) where
 
   abbrev pub means_return : Option TypedExpr → Meaning Flow
   means_return o n = means_returned o n >>= λ v. give (Returns v)
+
+  -- a loop, whatever its body means
+  abbrev pub means_loop : TypedStmt → Meaning Flow → Meaning Flow
+  means_loop (on_line (While test b) line) body n =
+      loop {X = ℕ} (suc n) (λ i. test_of x.source.classes.classes (call_of x.source n) x.source.globals x.variables test) (λ i. body n) (λ i. i) 0
+  means_loop s body n = body n

@@ -13,4 +13,4 @@ mod printing;
 mod ways;
 
 pub use printing::emit_print;
-pub use ways::{Exit, ExitPlan, Way};
+pub use ways::{Exit, ExitPlan, LoopStart, Test, Way};

@@ -1,5 +1,7 @@
 //! The ways out of a statement, and the blocks that are left by them.
 
+use ir_core::Reg;
+
 /// How a statement is left other than at its end or by an exception.
 #[derive(Clone, Copy, PartialEq, Eq)]
 pub enum Way {
@@ -27,4 +29,20 @@ pub struct ExitPlan {
     pub continues: Option<usize>,
     pub returns: Option<usize>,
     pub joins: Option<usize>,
+}
+
+/// A test before a body: its register, the block that ends with it, whose jumps are still to be written, and the block that the
+/// body begins with.
+#[derive(Clone, Copy)]
+pub struct Test {
+    pub condition: Reg,
+    pub block: usize,
+    pub start: usize,
+}
+
+/// A loop that was begun, whose body comes next: the block that its test begins with, and the test.
+#[derive(Clone, Copy)]
+pub struct LoopStart {
+    pub head: usize,
+    pub test: Test,
 }

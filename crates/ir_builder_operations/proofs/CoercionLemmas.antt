@@ -5,9 +5,7 @@ use Rattle.std.specs.Prelude.{ℤ, pos, negsuc, if◌then◌else◌}
 use Rattle.value_core.specs.declared.arith.Arith.{Arith}
 use Rattle.value_core.specs.declared.arith.Arith.TheVariants.{Overflow, OutOfRange}
 use Rattle.value_core.specs.Arithmetic.{lies_within, int_to_i64}
-use Rattle.value_core.specs.Exceptions.{Thrown}
 use Rattle.value_core.specs.Value.{Value, IntVal, BoolVal}
-use Rattle.c_core.specs.declared.primitive.Primitive.{Primitive}
 use Rattle.c_core.specs.declared.primitive.Primitive.TheVariants as prim
 use Rattle.c_core.specs.declared.primitive.Int64Prim.TheVariants as int64
 use Rattle.c_core.specs.declared.primitive.TaggedPrim.TheVariants as tagged
@@ -18,22 +16,22 @@ use Rattle.py_typed.specs.Sorts.{Sort}
 use Rattle.source_meaning.specs.State.{State, Gives}
 use Rattle.source_meaning.specs.Operations.{fitting, coerced}
 use Rattle.ir_core.specs.declared.code.Reg.{Reg}
-use Rattle.ir_core.specs.declared.code.Op.TheVariants.{Prim}
-use Rattle.ir_core.specs.declared.code.PArg.TheVariants.{Var}
 use Rattle.ir_core.specs.Effects.{World, Given, truth_number, fitted}
 use Rattle.ir_core.specs.Rows.{Declared, type_of_reg}
 use Rattle.ir_core.specs.Building.{Building}
 use Rattle.ir_builder_frames.specs.Settings.{rtype_of}
 use Rattle.ir_builder_frames.specs.Placing.{HasType}
-use Rattle.ir_builder_frames.specs.Calling.{Adds}
-use Rattle.ir_builder_frames.specs.Kinds.{Answers}
 use Rattle.ir_builder_frames.specs.Matching.{HasKind}
-use Rattle.ir_builder_frames.specs.Computing.{Shows, Attempts}
-use Rattle.ir_builder_frames.proofs.AttemptLemmas.{effect_of, outcome_of, ShownIfGiven}
+use Rattle.ir_builder_frames.specs.Computing.{Shows, HaveTypes, Attempts}
+use Rattle.ir_builder_frames.specs.Operands.{ActsOnAll}
+use Rattle.ir_builder_frames.proofs.AttemptLemmas.{Answer, Answers, Throws, effect_of, outcome_of, ShownIfGiven, Performs, performs}
+use Rattle.ir_builder_operations.specs.declared.operation.Operation.{Operation}
+use Rattle.ir_builder_operations.specs.declared.operation.Operation.TheVariants.{BoolToInt, BoolToNative, NativeToInt, IntToNative}
 use Rattle.ir_builder_operations.specs.Operating.{is_whole, ActsOn}
-use Rattle.ir_builder_operations.specs.Selecting.{coercion}
-use Rattle.ir_builder_operations.proofs.KindLemmas.{by_int, by_i64, by_bool}
-use Rattle.ir_builder_operations.proofs.PartLemmas.{Performs, one_performs, stays}
+use Rattle.ir_builder_operations.specs.Rows.{is_known, operands_of, result_of, goes}
+use Rattle.ir_builder_operations.specs.Converting.{coercion}
+use Rattle.ir_builder_operations.proofs.KindLemmas.{by_int, by_i64}
+use Rattle.ir_builder_operations.proofs.PartLemmas.{as_one, stays}
 
 -- ---- each coercion
 
@@ -53,37 +51,19 @@ truth_is : (b : Bool) → (if b then pos 1 else pos 0) ≡ truth_number b
 truth_is true = refl
 truth_is false = refl
 
-int_of_bool : (b : Bool) → Performs (Shows sort.Int) (prim.Tagged tagged.FromBool) (Given (BoolVal b) ∷ []) (coerced sort.Int (BoolVal b))
-int_of_bool b = record {
-  result = Ok (IntVal (truth_number b));
-  allowed = tt;
-  effects = λ p w. refl;
-  shown = (refl, truth_kind b);
-  does = λ s. ap (λ n. Gives (IntVal n) s) (truth_is b);
-}
+pub int_of_bool : (b : Bool) → Performs (Shows sort.Int) (prim.Tagged tagged.FromBool) (Given (BoolVal b) ∷ []) (coerced sort.Int (BoolVal b))
+int_of_bool b = performs (Shows sort.Int) (prim.Tagged tagged.FromBool) (Given (BoolVal b) ∷ []) _ (Answers (IntVal (truth_number b))) tt (λ p w. refl) (refl, truth_kind b) (λ s. ap (λ n. Gives (IntVal n) s) (truth_is b))
 
-native_of_bool : (b : Bool) → Performs (Shows sort.I64) (prim.Int64 int64.FromBool) (Given (BoolVal b) ∷ []) (coerced sort.I64 (BoolVal b))
-native_of_bool b = record {
-  result = Ok (IntVal (truth_number b));
-  allowed = tt;
-  effects = λ p w. refl;
-  shown = (refl, truth_native b);
-  does = λ s. ap (λ n. Gives (IntVal n) s) (truth_is b);
-}
+pub native_of_bool : (b : Bool) → Performs (Shows sort.I64) (prim.Int64 int64.FromBool) (Given (BoolVal b) ∷ []) (coerced sort.I64 (BoolVal b))
+native_of_bool b = performs (Shows sort.I64) (prim.Int64 int64.FromBool) (Given (BoolVal b) ∷ []) _ (Answers (IntVal (truth_number b))) tt (λ p w. refl) (refl, truth_native b) (λ s. ap (λ n. Gives (IntVal n) s) (truth_is b))
 
-int_of_native : (n : ℤ) → lies_within 63 n ≡ true → Performs (Shows sort.Int) (prim.Tagged tagged.FromInt64) (Given (IntVal n) ∷ []) (coerced sort.Int (IntVal n))
-int_of_native n e = record {
-  result = Ok (IntVal n);
-  allowed = tt;
-  effects = λ p w. refl;
-  shown = (refl, (n, refl, wider n e));
-  does = λ s. refl;
-}
+pub int_of_native : (n : ℤ) → lies_within 63 n ≡ true → Performs (Shows sort.Int) (prim.Tagged tagged.FromInt64) (Given (IntVal n) ∷ []) (coerced sort.Int (IntVal n))
+int_of_native n e = performs (Shows sort.Int) (prim.Tagged tagged.FromInt64) (Given (IntVal n) ∷ []) _ (Answers (IntVal n)) tt (λ p w. refl) (refl, (n, refl, wider n e)) (λ s. refl)
 
 -- an `int` as a native integer, or the exception
-abbrev as_native : Result ℤ Arith → Result Value Thrown
-as_native (Ok n) = Ok (IntVal n)
-as_native (Err fault) = Err (int64_exception Overflow)
+abbrev as_native : Result ℤ Arith → Answer
+as_native (Ok n) = Answers (IntVal n)
+as_native (Err fault) = Throws (int64_exception Overflow)
 
 native_effect : (o : Result ℤ Arith) (w : World) → fitted o w ≡ effect_of (as_native o) w
 native_effect (Ok n) w = refl
@@ -97,43 +77,36 @@ native_by : (b : Bool) (n : ℤ) → lies_within 63 n ≡ b → ShownIfGiven (Sh
 native_by true n e = (refl, (n, refl, e))
 native_by false n e = tt
 
-native_of_int : (n : ℤ) → Performs (Shows sort.I64) (prim.Tagged tagged.AsInt64) (Given (IntVal n) ∷ []) (coerced sort.I64 (IntVal n))
-native_of_int n = record {
-  result = as_native (int_to_i64 n);
-  allowed = tt;
-  effects = λ p w. native_effect (int_to_i64 n) w;
-  shown = native_by (lies_within 63 n) n refl;
-  does = λ s. native_outcome (int_to_i64 n) s;
-}
+pub native_of_int : (n : ℤ) → Performs (Shows sort.I64) (prim.Tagged tagged.AsInt64) (Given (IntVal n) ∷ []) (coerced sort.I64 (IntVal n))
+native_of_int n =
+    performs (Shows sort.I64) (prim.Tagged tagged.AsInt64) (Given (IntVal n) ∷ []) _ (as_native (int_to_i64 n)) tt (λ p w. native_effect (int_to_i64 n) w) (native_by (lies_within 63 n) n refl) (λ s. native_outcome (int_to_i64 n) s)
 
 -- ---- all coercions
 
--- what holds of each coercion
-by_coercion : (P : Sort → Sort → Primitive → Type 0) → P sort.Bool sort.Int (prim.Tagged tagged.FromBool) → P sort.Bool sort.I64 (prim.Int64 int64.FromBool) → P sort.I64 sort.Int (prim.Tagged tagged.FromInt64) → P sort.Int sort.I64 (prim.Tagged tagged.AsInt64) → (s t : Sort) (q : Primitive) → coercion s t ≡ Some q → P s t q
-by_coercion P f g h i sort.Bool sort.Int q e = let k : Some (prim.Tagged tagged.FromBool) ≡ Some q = e in subst (P sort.Bool sort.Int) (cc) f
-by_coercion P f g h i sort.Bool sort.I64 q e = let k : Some (prim.Int64 int64.FromBool) ≡ Some q = e in subst (P sort.Bool sort.I64) (cc) g
-by_coercion P f g h i sort.I64 sort.Int q e = let k : Some (prim.Tagged tagged.FromInt64) ≡ Some q = e in subst (P sort.I64 sort.Int) (cc) h
-by_coercion P f g h i sort.Int sort.I64 q e = let k : Some (prim.Tagged tagged.AsInt64) ≡ Some q = e in subst (P sort.Int sort.I64) (cc) i
-by_coercion P f g h i s t q e = let k : None ≡ Some q = e in absurd (cc)
+-- what holds of each of them
+by_coercion : (P : Sort → Sort → Operation → Type 0) → P sort.Bool sort.Int BoolToInt → P sort.Bool sort.I64 BoolToNative → P sort.I64 sort.Int NativeToInt → P sort.Int sort.I64 IntToNative → (s t : Sort) (op : Operation) → coercion s t ≡ Some op → P s t op
+by_coercion P f g h i sort.Bool sort.Int op e = let k : Some BoolToInt ≡ Some op = e in subst (P sort.Bool sort.Int) (cc) f
+by_coercion P f g h i sort.Bool sort.I64 op e = let k : Some BoolToNative ≡ Some op = e in subst (P sort.Bool sort.I64) (cc) g
+by_coercion P f g h i sort.I64 sort.Int op e = let k : Some NativeToInt ≡ Some op = e in subst (P sort.I64 sort.Int) (cc) h
+by_coercion P f g h i sort.Int sort.I64 op e = let k : Some IntToNative ≡ Some op = e in subst (P sort.Int sort.I64) (cc) i
+by_coercion P f g h i s t op e = let k : None ≡ Some op = e in absurd (cc)
 
-coerces : (s t : Sort) (q : Primitive) → coercion s t ≡ Some q → (v : Value) → HasKind s v → Performs (Shows t) q (Given v ∷ []) (coerced t v)
-coerces =
-    by_coercion (λ s t q. (v : Value) → HasKind s v → Performs (Shows t) q (Given v ∷ []) (coerced t v))
-    (by_bool (λ v. Performs (Shows sort.Int) (prim.Tagged tagged.FromBool) (Given v ∷ []) (coerced sort.Int v)) int_of_bool)
-    (by_bool (λ v. Performs (Shows sort.I64) (prim.Int64 int64.FromBool) (Given v ∷ []) (coerced sort.I64 v)) native_of_bool)
-    (by_i64 (λ v. Performs (Shows sort.Int) (prim.Tagged tagged.FromInt64) (Given v ∷ []) (coerced sort.Int v)) int_of_native)
-    (by_int (λ v. Performs (Shows sort.I64) (prim.Tagged tagged.AsInt64) (Given v ∷ []) (coerced sort.I64 v)) (λ n e. native_of_int n))
+-- what is asked of an operand, and what the operation does with it
+pub coercion_ready : (s t : Sort) (op : Operation) → coercion s t ≡ Some op → (regs : Declared) (x : Reg) → type_of_reg regs x ≡ Some (rtype_of s) → (is_known op ≡ true) × HaveTypes regs (operands_of op) (x ∷ [])
+coercion_ready =
+    by_coercion (λ s t op. (regs : Declared) (x : Reg) → type_of_reg regs x ≡ Some (rtype_of s) → (is_known op ≡ true) × HaveTypes regs (operands_of op) (x ∷ []))
+    (λ regs x is. (refl, (is, tt)))
+    (λ regs x is. (refl, (is, tt)))
+    (λ regs x is. (refl, (is, tt)))
+    (λ regs x is. (refl, (is, tt)))
 
-pub coercion_attempts : {line : ℕ} (s t : Sort) (q : Primitive) (b c : Building) (r x : ℕ) → coercion s t ≡ Some q → HasType b x (rtype_of s) → Adds b c r (rtype_of t) (Prim (Some record { 0 = r }) q (Var record { 0 = x } ∷ [])) line → Attempts (Shows t) b c r (rtype_of t) (ActsOn s x (coerced t))
-coercion_attempts s t q b c r x is type a = one_performs s t (coerced t) b c r x (rtype_of t) (rtype_of s) q type a (coerces s t q is)
-
-pub coercion_answers : (s t : Sort) (q : Primitive) → coercion s t ≡ Some q → (regs : Declared) (x : Reg) → type_of_reg regs x ≡ Some (rtype_of s) → Answers (rtype_of t) regs q (Var x ∷ [])
-coercion_answers =
-    by_coercion (λ s t q. (regs : Declared) (x : Reg) → type_of_reg regs x ≡ Some (rtype_of s) → Answers (rtype_of t) regs q (Var x ∷ []))
-    (λ regs x is. (refl, (rtype_of sort.Bool, is, refl, tt)))
-    (λ regs x is. (refl, (rtype_of sort.Bool, is, refl, tt)))
-    (λ regs x is. (refl, (rtype_of sort.I64, is, refl, tt)))
-    (λ regs x is. (refl, (rtype_of sort.Int, is, refl, tt)))
+pub coercion_attempts : (s t : Sort) (op : Operation) → coercion s t ≡ Some op → (b c : Building) (r : ℕ) (x : Reg) → Attempts (Shows (result_of op)) b c r (rtype_of (result_of op)) (ActsOnAll (operands_of op) (x ∷ []) (goes op)) → Attempts (Shows t) b c r (rtype_of t) (ActsOn s x.0 (coerced t))
+coercion_attempts =
+    by_coercion (λ s t op. (b c : Building) (r : ℕ) (x : Reg) → Attempts (Shows (result_of op)) b c r (rtype_of (result_of op)) (ActsOnAll (operands_of op) (x ∷ []) (goes op)) → Attempts (Shows t) b c r (rtype_of t) (ActsOn s x.0 (coerced t)))
+    (λ b c r x a. as_one sort.Bool sort.Int (coerced sort.Int) b c r x a)
+    (λ b c r x a. as_one sort.Bool sort.I64 (coerced sort.I64) b c r x a)
+    (λ b c r x a. as_one sort.I64 sort.Int (coerced sort.Int) b c r x a)
+    (λ b c r x a. as_one sort.Int sort.I64 (coerced sort.I64) b c r x a)
 
 -- ---- where there is nothing to do
 

@@ -1,11 +1,12 @@
 pub mod RangeLemmas
 pub mod TextLemmas
-pub mod LiteralLemmas
-pub mod PartLemmas
 pub mod KindLemmas
+pub mod PartLemmas
+pub mod LiteralLemmas
 pub mod NumberLemmas
+pub mod NativeLemmas
 pub mod CoercionLemmas
 pub mod WrittenLemmas
 pub mod InputLemmas
+pub mod OperationLemmas
 pub mod ThenLemmas
-pub mod NativeLemmas

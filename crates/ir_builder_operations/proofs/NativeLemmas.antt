@@ -8,8 +8,7 @@ use Rattle.std.specs.Prelude.{ℤ, pos, negsuc, neg_ℤ, ◌*ℤ◌, ◌≤ℤ�
 use Rattle.value_core.specs.declared.arith.Arith.{Arith}
 use Rattle.value_core.specs.declared.arith.Arith.TheVariants.{Overflow, ZeroDivisor, NegativeShift, OutOfRange}
 use Rattle.value_core.specs.Arithmetic.{lies_within, floor_div, modulo, i64_add, i64_sub, i64_mul, i64_neg, i64_floor_div, i64_modulo, i64_shl, i64_shr}
-use Rattle.value_core.specs.Exceptions.{Thrown}
-use Rattle.value_core.specs.Value.{Value, IntVal}
+use Rattle.value_core.specs.Value.{IntVal}
 use Rattle.value_core.proofs.RestLemmas.{rest_near}
 use Rattle.c_core.specs.declared.primitive.Primitive.TheVariants as prim
 use Rattle.c_core.specs.declared.primitive.Int64Prim.TheVariants as int64
@@ -19,21 +18,13 @@ use Rattle.py_syntax.specs.declared.expression.BinOp.TheVariants as bin
 use Rattle.py_typed.specs.Sorts as sort
 use Rattle.source_meaning.specs.State.{State, Gives, on_to}
 use Rattle.source_meaning.specs.Operations.{fitting, coerced, with_number, number_of, no_i64, of_i64, of_numbers, arithmetic, negated_as, negated}
-use Rattle.ir_core.specs.declared.code.Op.TheVariants.{Prim}
-use Rattle.ir_core.specs.declared.code.PArg.TheVariants.{Var}
 use Rattle.ir_core.specs.declared.code.Program.{Program}
-use Rattle.ir_core.specs.declared.code.RType.TheVariants as rtype
 use Rattle.ir_core.specs.Rows.{failing}
 use Rattle.ir_core.specs.Effects.{World, Given, native_or, effect}
-use Rattle.ir_core.specs.Building.{Building}
-use Rattle.ir_builder_frames.specs.Placing.{HasType}
-use Rattle.ir_builder_frames.specs.Calling.{Adds}
-use Rattle.ir_builder_frames.specs.Computing.{Shows, Attempts}
-use Rattle.ir_builder_frames.proofs.AttemptLemmas.{effect_of, outcome_of, Allows, ShownIfGiven}
-use Rattle.ir_builder_operations.specs.Operating.{is_arithmetic, ActsOn, ActsOnTwo}
+use Rattle.ir_builder_frames.specs.Computing.{Shows}
+use Rattle.ir_builder_frames.proofs.AttemptLemmas.{Answer, Answers, Throws, effect_of, outcome_of, Allows, ShownIfGiven, Performs, performs}
+use Rattle.ir_builder_operations.specs.Operating.{is_arithmetic}
 use Rattle.ir_builder_operations.specs.Selecting.{native_primitive}
-use Rattle.ir_builder_operations.proofs.KindLemmas.{by_i64}
-use Rattle.ir_builder_operations.proofs.PartLemmas.{Performs, one_performs, two_perform}
 
 -- ---- range
 
@@ -115,9 +106,9 @@ given_native bin.Shl a b e f = left_native a b
 given_native bin.Shr a b e f = right_native a b e
 given_native bin.Bar a b e f = wrap_within _
 
-abbrev with_exception : Result ℤ Arith → Result Value Thrown
-with_exception (Ok n) = Ok (IntVal n)
-with_exception (Err fault) = Err (int64_exception fault)
+abbrev with_exception : Result ℤ Arith → Answer
+with_exception (Ok n) = Answers (IntVal n)
+with_exception (Err fault) = Throws (int64_exception fault)
 
 given_allowed : (op : BinOp) (a b : ℤ) → Allows (failing (prim.Int64 (native_primitive op))) (with_exception (given_by op a b))
 given_allowed bin.Add a b = tt
@@ -174,37 +165,18 @@ arithmetic_is op a b s e f =
     ap (λ o. on_to o (λ m s1. on_to (coerced sort.I64 (IntVal b) s1) (λ n. with_number m (λ i. with_number n (λ j. of_numbers sort.I64 op i j))))) (native_kept a s e)
     ∙ ap (λ o. on_to o (λ n. with_number n (λ j. of_numbers sort.I64 op a j))) (native_kept b s f)
 
-numbers_perform : (op : BinOp) (a b : ℤ) → is_arithmetic op ≡ true → lies_within 63 a ≡ true → lies_within 63 b ≡ true → Performs (Shows sort.I64) (prim.Int64 (native_primitive op)) (Given (IntVal a) ∷ Given (IntVal b) ∷ []) (arithmetic sort.I64 op (IntVal a) (IntVal b))
-numbers_perform op a b is e f = record {
-  result = with_exception (given_by op a b);
-  allowed = given_allowed op a b;
-  effects = λ p w. given_effect op a b p w;
-  shown = native_shown (given_by op a b) (given_native op a b e f);
-  does = λ s. arithmetic_is op a b s e f ∙ given_outcome op a b s is;
-}
-
-pub native_attempts : {line : ℕ} (op : BinOp) (b c : Building) (r x y : ℕ) → is_arithmetic op ≡ true → HasType b x rtype.I64 → HasType b y rtype.I64 → Adds b c r rtype.I64 (Prim (Some record { 0 = r }) (prim.Int64 (native_primitive op)) (Var record { 0 = x } ∷ Var record { 0 = y } ∷ [])) line → Attempts (Shows sort.I64) b c r rtype.I64 (ActsOnTwo sort.I64 sort.I64 x y (arithmetic sort.I64 op))
-native_attempts op b c r x y is type_x type_y a =
-    two_perform sort.I64 sort.I64 sort.I64 (arithmetic sort.I64 op) b c r x y rtype.I64 rtype.I64 rtype.I64 (prim.Int64 (native_primitive op)) type_x type_y a
-    (λ v w k l.
-    by_i64 (λ v. Performs (Shows sort.I64) (prim.Int64 (native_primitive op)) (Given v ∷ Given w ∷ []) (arithmetic sort.I64 op v w))
-    (λ m e. by_i64 (λ w. Performs (Shows sort.I64) (prim.Int64 (native_primitive op)) (Given (IntVal m) ∷ Given w ∷ []) (arithmetic sort.I64 op (IntVal m) w)) (λ n f. numbers_perform op m n is e f) w l) v k)
+pub arithmetic_performs : (op : BinOp) (a b : ℤ) → is_arithmetic op ≡ true → lies_within 63 a ≡ true → lies_within 63 b ≡ true → Performs (Shows sort.I64) (prim.Int64 (native_primitive op)) (Given (IntVal a) ∷ Given (IntVal b) ∷ []) (arithmetic sort.I64 op (IntVal a) (IntVal b))
+arithmetic_performs op a b is e f =
+    performs (Shows sort.I64) (prim.Int64 (native_primitive op)) (Given (IntVal a) ∷ Given (IntVal b) ∷ []) _ (with_exception (given_by op a b)) (given_allowed op a b)
+    (λ p w. given_effect op a b p w)
+    (native_shown (given_by op a b) (given_native op a b e f))
+    (λ s. arithmetic_is op a b s e f ∙ given_outcome op a b s is)
 
 -- ---- the other sign
 
 pub negated_is : (a : ℤ) (s : State) → lies_within 63 a ≡ true → negated sort.I64 (IntVal a) s ≡ Gives (IntVal (i64_neg a)) s
 negated_is a s e = ap (λ o. on_to o (λ z. with_number z (negated_as sort.I64))) (native_kept a s e)
 
-negation_performs : (a : ℤ) → lies_within 63 a ≡ true → Performs (Shows sort.I64) (prim.Int64 int64.Negate) (Given (IntVal a) ∷ []) (negated sort.I64 (IntVal a))
-negation_performs a e = record {
-  result = Ok (IntVal (i64_neg a));
-  allowed = tt;
-  effects = λ p w. refl;
-  shown = (refl, (i64_neg a, refl, wrap_within (neg_ℤ a)));
-  does = λ s. negated_is a s e;
-}
-
-pub native_negation_attempts : {line : ℕ} (b c : Building) (r x : ℕ) → HasType b x rtype.I64 → Adds b c r rtype.I64 (Prim (Some record { 0 = r }) (prim.Int64 int64.Negate) (Var record { 0 = x } ∷ [])) line → Attempts (Shows sort.I64) b c r rtype.I64 (ActsOn sort.I64 x (negated sort.I64))
-native_negation_attempts b c r x type a =
-    one_performs sort.I64 sort.I64 (negated sort.I64) b c r x rtype.I64 rtype.I64 (prim.Int64 int64.Negate) type a
-    (λ v k. by_i64 (λ v. Performs (Shows sort.I64) (prim.Int64 int64.Negate) (Given v ∷ []) (negated sort.I64 v)) (λ n e. negation_performs n e) v k)
+pub negation_performs : (a : ℤ) → lies_within 63 a ≡ true → Performs (Shows sort.I64) (prim.Int64 int64.Negate) (Given (IntVal a) ∷ []) (negated sort.I64 (IntVal a))
+negation_performs a e =
+    performs (Shows sort.I64) (prim.Int64 int64.Negate) (Given (IntVal a) ∷ []) _ (Answers (IntVal (i64_neg a))) tt (λ p w. refl) (refl, (i64_neg a, refl, wrap_within (neg_ℤ a))) (λ s. negated_is a s e)

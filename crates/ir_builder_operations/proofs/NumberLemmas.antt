@@ -4,8 +4,7 @@ use Rattle.std.specs.Prelude.{ℤ, neg_ℤ}
 use Rattle.value_core.specs.declared.arith.Arith.{Arith}
 use Rattle.value_core.specs.declared.arith.Arith.TheVariants.{Overflow, ZeroDivisor, NegativeShift, OutOfRange}
 use Rattle.value_core.specs.Arithmetic.{lies_within, int_neg}
-use Rattle.value_core.specs.Exceptions.{Thrown}
-use Rattle.value_core.specs.Value.{Value, IntVal}
+use Rattle.value_core.specs.Value.{IntVal}
 use Rattle.c_core.specs.declared.primitive.Primitive.TheVariants as prim
 use Rattle.c_core.specs.declared.primitive.TaggedPrim.TheVariants as tagged
 use Rattle.c_core.specs.Step.{int_exception}
@@ -14,28 +13,20 @@ use Rattle.py_syntax.specs.declared.expression.BinOp.TheVariants as bin
 use Rattle.py_typed.specs.Sorts as sort
 use Rattle.source_meaning.specs.State.{State}
 use Rattle.source_meaning.specs.Operations.{number_of, past_range, arithmetic, negated}
-use Rattle.ir_core.specs.declared.code.Op.TheVariants.{Prim}
-use Rattle.ir_core.specs.declared.code.PArg.TheVariants.{Var}
 use Rattle.ir_core.specs.declared.code.Program.{Program}
-use Rattle.ir_core.specs.declared.code.RType.TheVariants as rtype
 use Rattle.ir_core.specs.Rows.{failing}
 use Rattle.ir_core.specs.Effects.{World, Given, int_or, effect}
-use Rattle.ir_core.specs.Building.{Building}
-use Rattle.ir_builder_frames.specs.Placing.{HasType}
-use Rattle.ir_builder_frames.specs.Calling.{Adds}
-use Rattle.ir_builder_frames.specs.Computing.{Shows, Attempts}
-use Rattle.ir_builder_frames.proofs.AttemptLemmas.{effect_of, outcome_of, Allows, ShownIfGiven}
-use Rattle.ir_builder_operations.specs.Operating.{is_arithmetic, ActsOn, ActsOnTwo}
+use Rattle.ir_builder_frames.specs.Computing.{Shows}
+use Rattle.ir_builder_frames.proofs.AttemptLemmas.{Answer, Answers, Throws, effect_of, outcome_of, Allows, ShownIfGiven, Performs, performs}
+use Rattle.ir_builder_operations.specs.Operating.{is_arithmetic}
 use Rattle.ir_builder_operations.specs.Selecting.{int_primitive}
-use Rattle.ir_builder_operations.proofs.KindLemmas.{by_int}
 use Rattle.source_meaning.proofs.RangeLemmas.{IsInt, checked_int}
 use Rattle.ir_builder_operations.proofs.RangeLemmas.{given_by, given_int}
-use Rattle.ir_builder_operations.proofs.PartLemmas.{Performs, one_performs, two_perform}
 
 -- a number as a value, and a fault as the exception that stands for it
-abbrev with_exception : Result ℤ Arith → Result Value Thrown
-with_exception (Ok n) = Ok (IntVal n)
-with_exception (Err fault) = Err (int_exception fault)
+abbrev with_exception : Result ℤ Arith → Answer
+with_exception (Ok n) = Answers (IntVal n)
+with_exception (Err fault) = Throws (int_exception fault)
 
 int_effect : (o : Result ℤ Arith) (w : World) → int_or o w ≡ effect_of (with_exception o) w
 int_effect (Ok n) w = refl
@@ -54,7 +45,7 @@ int_shown (Err fault) e = tt
 
 -- ---- arithmetic
 
-given_allowed : (op : BinOp) (o : Result Value Thrown) → Allows (failing (prim.Tagged (int_primitive op))) o
+given_allowed : (op : BinOp) (a : Answer) → Allows (failing (prim.Tagged (int_primitive op))) a
 given_allowed bin.Add o = tt
 given_allowed bin.Sub o = tt
 given_allowed bin.Mul o = tt
@@ -84,34 +75,15 @@ given_outcome bin.Shl a b s e = refl
 given_outcome bin.Shr a b s e = refl
 given_outcome bin.Bar a b s e = let f : false ≡ true = e in absurd (cc)
 
-numbers_perform : (op : BinOp) (a b : ℤ) → is_arithmetic op ≡ true → lies_within 127 a ≡ true → lies_within 127 b ≡ true → Performs (Shows sort.Int) (prim.Tagged (int_primitive op)) (Given (IntVal a) ∷ Given (IntVal b) ∷ []) (arithmetic sort.Int op (IntVal a) (IntVal b))
-numbers_perform op a b is e f = record {
-  result = with_exception (given_by op a b);
-  allowed = given_allowed op _;
-  effects = λ p w. given_effect op a b p w ∙ int_effect (given_by op a b) w;
-  shown = int_shown (given_by op a b) (given_int op a b e f);
-  does = λ s. given_outcome op a b s is ∙ int_outcome (given_by op a b) s;
-}
-
-pub arithmetic_attempts : {line : ℕ} (op : BinOp) (b c : Building) (r x y : ℕ) → is_arithmetic op ≡ true → HasType b x rtype.Int → HasType b y rtype.Int → Adds b c r rtype.Int (Prim (Some record { 0 = r }) (prim.Tagged (int_primitive op)) (Var record { 0 = x } ∷ Var record { 0 = y } ∷ [])) line → Attempts (Shows sort.Int) b c r rtype.Int (ActsOnTwo sort.Int sort.Int x y (arithmetic sort.Int op))
-arithmetic_attempts op b c r x y is type_x type_y a =
-    two_perform sort.Int sort.Int sort.Int (arithmetic sort.Int op) b c r x y rtype.Int rtype.Int rtype.Int (prim.Tagged (int_primitive op)) type_x type_y a
-    (λ v w k l.
-    by_int (λ v. Performs (Shows sort.Int) (prim.Tagged (int_primitive op)) (Given v ∷ Given w ∷ []) (arithmetic sort.Int op v w))
-    (λ m e. by_int (λ w. Performs (Shows sort.Int) (prim.Tagged (int_primitive op)) (Given (IntVal m) ∷ Given w ∷ []) (arithmetic sort.Int op (IntVal m) w)) (λ n f. numbers_perform op m n is e f) w l) v k)
+pub arithmetic_performs : (op : BinOp) (a b : ℤ) → is_arithmetic op ≡ true → lies_within 127 a ≡ true → lies_within 127 b ≡ true → Performs (Shows sort.Int) (prim.Tagged (int_primitive op)) (Given (IntVal a) ∷ Given (IntVal b) ∷ []) (arithmetic sort.Int op (IntVal a) (IntVal b))
+arithmetic_performs op a b is e f =
+    performs (Shows sort.Int) (prim.Tagged (int_primitive op)) (Given (IntVal a) ∷ Given (IntVal b) ∷ []) _ (with_exception (given_by op a b)) (given_allowed op _)
+    (λ p w. given_effect op a b p w ∙ int_effect (given_by op a b) w)
+    (int_shown (given_by op a b) (given_int op a b e f))
+    (λ s. given_outcome op a b s is ∙ int_outcome (given_by op a b) s)
 
 -- ---- the other sign
 
-negation_performs : (a : ℤ) → Performs (Shows sort.Int) (prim.Tagged tagged.Negate) (Given (IntVal a) ∷ []) (negated sort.Int (IntVal a))
-negation_performs a = record {
-  result = with_exception (int_neg a);
-  allowed = tt;
-  effects = λ p w. int_effect (int_neg a) w;
-  shown = int_shown (int_neg a) (checked_int (neg_ℤ a));
-  does = λ s. int_outcome (int_neg a) s;
-}
-
-pub negation_attempts : {line : ℕ} (b c : Building) (r x : ℕ) → HasType b x rtype.Int → Adds b c r rtype.Int (Prim (Some record { 0 = r }) (prim.Tagged tagged.Negate) (Var record { 0 = x } ∷ [])) line → Attempts (Shows sort.Int) b c r rtype.Int (ActsOn sort.Int x (negated sort.Int))
-negation_attempts b c r x type a =
-    one_performs sort.Int sort.Int (negated sort.Int) b c r x rtype.Int rtype.Int (prim.Tagged tagged.Negate) type a
-    (λ v k. by_int (λ v. Performs (Shows sort.Int) (prim.Tagged tagged.Negate) (Given v ∷ []) (negated sort.Int v)) (λ n e. negation_performs n) v k)
+pub negation_performs : (a : ℤ) → Performs (Shows sort.Int) (prim.Tagged tagged.Negate) (Given (IntVal a) ∷ []) (negated sort.Int (IntVal a))
+negation_performs a =
+    performs (Shows sort.Int) (prim.Tagged tagged.Negate) (Given (IntVal a) ∷ []) _ (with_exception (int_neg a)) tt (λ p w. int_effect (int_neg a) w) (int_shown (int_neg a) (checked_int (neg_ℤ a))) (λ s. int_outcome (int_neg a) s)

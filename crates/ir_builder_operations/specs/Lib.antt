@@ -1,2 +1,4 @@
 pub mod Operating
 pub mod Selecting
+pub mod Rows
+pub mod Converting

@@ -10,38 +10,25 @@ ghost use Rattle.ir_builder_frames.specs.Settings.{rtype_of};
 ghost use Rattle.ir_builder_frames.specs.Shaped.{Keeps};
 ghost use Rattle.ir_builder_frames.specs.Kinds.{KeepsKinds};
 ghost use Rattle.ir_builder_operations.specs.Operating.{is_whole, ActsOn};
-ghost use Rattle.ir_builder_operations.specs.Selecting.{coercion};
+ghost use Rattle.ir_builder_operations.specs.Converting.{coercion};
 
-use crate::parts::emit_one;
-use c_core::{Int64Prim, Prim, TaggedPrim};
+use crate::operation::{Operation, emit_operation};
 use ir_builder_frames::Emitter;
-use ir_core::{RType, Reg};
+use ir_core::Reg;
 use py_typed::Ty;
 use std::alloc::Global;
 use value_core::Memory;
 
-// The primitive from one type to another, where the value is not the same.
-fn primitive_between(from: &Ty, to: &Ty) -> Option<Prim>
+// The operation from one type to another, where the value is not the same.
+fn operation_between(from: &Ty, to: &Ty) -> Option<Operation>
     ensures { result ≡ coercion (sort from.now) (sort to.now) }
 {
     match (from, to) {
-        (Ty::Bool, Ty::Int) => Some(Prim::Tagged(TaggedPrim::FromBool)),
-        (Ty::Bool, Ty::I64) => Some(Prim::Int64(Int64Prim::FromBool)),
-        (Ty::I64, Ty::Int) => Some(Prim::Tagged(TaggedPrim::FromInt64)),
-        (Ty::Int, Ty::I64) => Some(Prim::Tagged(TaggedPrim::AsInt64)),
+        (Ty::Bool, Ty::Int) => Some(Operation::BoolToInt),
+        (Ty::Bool, Ty::I64) => Some(Operation::BoolToNative),
+        (Ty::I64, Ty::Int) => Some(Operation::NativeToInt),
+        (Ty::Int, Ty::I64) => Some(Operation::IntToNative),
         _ => None,
-    }
-}
-
-// The type of the registers for values of a type.
-fn register_type(t: &Ty) -> RType
-    ensures { result ≡ rtype_of (sort t.now) }
-{
-    match t {
-        Ty::Int => RType::Int,
-        Ty::I64 => RType::I64,
-        Ty::Bool => RType::Bool,
-        _ => RType::Ref,
     }
 }
 
@@ -64,8 +51,8 @@ pub fn emit_coercion(
     ensures shaped { Keeps b.old b.new }
     ensures kinds { KeepsKinds b.old b.new }
 {
-    match primitive_between(from, to) {
-        Some(primitive) => emit_one(b, alloc, register_type(to), primitive, x, line),
+    match operation_between(from, to) {
+        Some(op) => emit_operation(b, alloc, op, &[x], line),
         None => Ok(x),
     }
 }

@@ -9,11 +9,11 @@ ghost use Rattle.ir_builder_frames.specs.Shaped.{Keeps};
 ghost use Rattle.ir_builder_frames.specs.Kinds.{KeepsKinds};
 ghost use Rattle.ir_builder_operations.specs.Operating.{Acts};
 
-use c_core::{IoPrim, Prim};
+use crate::operation::{Operation, emit_operation};
 use ir_builder_frames::Emitter;
 use ir_core::{RType, Reg};
 use std::alloc::Global;
-use value_core::{Many, Memory};
+use value_core::Memory;
 
 /// The next line of input, without its line feed (Python Library Reference, "Built-in Functions", `input`). At run time the end
 /// of the input raises EOFError, and a line that is not UTF-8 ValueError. The run ends at a line that ends too far along, and
@@ -24,6 +24,5 @@ pub fn emit_input(b: &mut Emitter, alloc: Global, line: usize) -> Result<Reg, Me
     ensures shaped { Keeps b.old b.new }
     ensures kinds { KeepsKinds b.old b.new }
 {
-    let primitive = Prim::Io(IoPrim::Input);
-    b.primitive(RType::Ref, primitive, Many::new(alloc), line)
+    emit_operation(b, alloc, Operation::Line, &[], line)
 }

@@ -45,7 +45,8 @@ use Rattle.ir_builder_expressions.proofs.FollowLemmas.{part_attempts}
 use Rattle.ir_builder_loops_and_jumps.specs.Means.{means, means_assignment, means_update}
 use Rattle.ir_builder_loops_and_jumps.specs.Runs.{Works}
 use Rattle.ir_builder_loops_and_jumps.specs.Simple.{with_value}
-use Rattle.ir_builder_loops_and_jumps.proofs.SimpleLemmas.{get_below, set_works}
+use Rattle.ir_builder_frames.proofs.HeldLemmas.{get_below}
+use Rattle.ir_builder_loops_and_jumps.proofs.SimpleLemmas.{set_works}
 use Rattle.ir_builder_loops_and_jumps.proofs.EmitLemmas.{works_of}
 use Rattle.ir_builder_statements.specs.Suiting.{IsVariable, IsOnly, UpdateSuits, VariableUpdates}
 use Rattle.ir_builder_statements.specs.Parts.{TakesRegister, SetsVariable, reading_of, update_binary, TurnsInto, ComputesAs}

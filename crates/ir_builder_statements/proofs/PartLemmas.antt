@@ -1,5 +1,5 @@
 -- What is open stays so, and plans fit, while the parts of `if` and `while` end.
-use Rattle.std.proofs.Common.{◌≡◌, ◌<◌, ℕ, List, length, arith, le_refl}
+use Rattle.std.proofs.Common.{◌≡◌, ◌<◌, ◌≤◌, ℕ, List, length, arith, le_refl}
 use Rattle.ir_core.specs.declared.code.Last.TheVariants.{If}
 use Rattle.ir_core.specs.declared.code.Reg.{Reg}
 use Rattle.ir_core.specs.Building.{Building, with_last, Extends}
@@ -9,8 +9,10 @@ use Rattle.ir_builder_loops_and_jumps.specs.declared.ways.Exit.{Exit}
 use Rattle.ir_builder_loops_and_jumps.specs.Runs.{OpenIn}
 use Rattle.ir_builder_loops_and_jumps.proofs.ExitLemmas.{stays_by, stays_patch_below, open_on}
 
-pub open_kept : (b c : Building) (from : ℕ) (es : List Exit) → Extends b c → OpenIn b from (length b.blocks) es → OpenIn c from (length c.blocks) es
-open_kept b c from es x o = open_on b c from (length b.blocks) from (length c.blocks) es (stays_by b c from (length b.blocks) x) (le_refl from) x.blocks_grow o
+pub open_kept : (b c : Building) (from to : ℕ) (es : List Exit) → Extends b c → to ≤ length b.blocks → OpenIn b from to es → OpenIn c from (length c.blocks) es
+open_kept b c from to es x le o =
+    let more = x.blocks_grow in
+    open_on b c from to from (length c.blocks) es (stays_by b c from to x) (le_refl from) (omega arith) o
 
 -- a test before all of them was written
 pub open_tested : (b c : Building) (k from start exit : ℕ) (r : Reg) (es : List Exit) → k < from → Open b k → c ≡ record b { blocks = with_last b.blocks k (If r start exit) } → OpenIn b from (length b.blocks) es → OpenIn c from (length c.blocks) es

@@ -1,5 +1,5 @@
 -- What is asked of statements is asked of their parts.
-use Rattle.std.proofs.Common.{◌≡◌, ℕ, ◌+◌, ◌<◌, Bool, true, List, ◌∷◌, length, map, drop, get_or, Option, sym, ap, ◌∙◌, subst}
+use Rattle.std.proofs.Common.{◌≡◌, ℕ, ◌+◌, ◌<◌, Bool, true, List, ◌∷◌, length, map, drop, get_or, Option, refl, sym, ap, ◌∙◌, subst}
 use Rattle.std.proofs.lemmas.List.{drop_more}
 use Rattle.py_typed.specs.declared.expression.TExpr.{TExpr}
 use Rattle.py_typed.specs.declared.statement.TStmt.{TStmt}
@@ -8,9 +8,12 @@ use Rattle.py_typed.specs.declared.statement.TStmtKind as kind
 use Rattle.py_typed.specs.Sorts.{Sort}
 use Rattle.py_typed.specs.Expressions.{typed_expr}
 use Rattle.py_typed.specs.Statements as tree
-use Rattle.py_typed.specs.Statements.{Variable, TypedModule, TypedStmt, TypedAct, HandlerParts, on_line, act_step, handler_step, stmt_step, typed_stmt, typed_act, typed_handler, typed_suite, typed_arm, maybe_typed, suite_of, arms_of}
-use Rattle.py_typed.proofs.StatementLemmas.{typed_stmt_of, typed_act-If, typed_act-Return, typed_act-Break, typed_act-Continue}
-use Rattle.ir_builder_statements.specs.Suiting.{TestSuits, ReturnSuits, StatementSuits, ActSuits, SuiteSuits, ArmsSuit}
+use Rattle.py_typed.specs.Statements.{Variable, TypedModule, TypedStmt, TypedSuite, TypedAct, HandlerParts, on_line, act_step, handler_step, stmt_step, typed_stmt, typed_act, typed_handler, typed_suite, typed_arm, maybe_typed, suite_of, arms_of}
+use Rattle.py_typed.proofs.StatementLemmas.{typed_stmt_of, typed_stmt-While, typed_act-If, typed_act-While, typed_act-Return, typed_act-Break, typed_act-Continue}
+use Rattle.source_meaning.specs.State.{State}
+use Rattle.ir_builder_frames.specs.Settings.{Setting}
+use Rattle.ir_builder_loops_and_jumps.specs.Means.{means_loop, means_statement, means_suite}
+use Rattle.ir_builder_statements.specs.Suiting.{TestSuits, ReturnSuits, StatementSuits, ActSuits, SuiteSuits, ArmsSuit, LoopSuits}
 
 module _ (m : TypedModule) (vs : List Variable) (gives : Option Sort) (looping : Bool) where
   -- ---- rows
@@ -52,3 +55,25 @@ module _ (m : TypedModule) (vs : List Variable) (gives : Option Sort) (looping :
 
     pub continue_suits : s.kind ≡ kind.Continue → looping ≡ true
     continue_suits is = act_suits kind.Continue tree.Continue is typed_act-Continue
+
+    pub loop_suits : (e : TExpr) (all body : List TStmt) → s.kind ≡ kind.While e all → body ≡ all → LoopSuits m vs gives (typed_stmt s) (typed_suite body)
+    loop_suits e all body is same =
+        let P : List TStmt → Type 0 = λ z. LoopSuits m vs gives (typed_stmt s) (typed_suite z) in
+        let Q : TypedStmt → Type 0 = λ z. LoopSuits m vs gives z (typed_suite all) in
+        let k = act_suits (kind.While e all) (tree.While (typed_expr e) (typed_suite all)) is (typed_act-While e all) in
+        subst P (sym same) (subst Q (sym (typed_stmt-While s e all is)) (refl, k.0, k.1))
+
+-- ---- loops
+
+module _ (x : Setting) (gives : Option Sort) where
+  pub loop_body : (s : TypedStmt) (ss : TypedSuite) → LoopSuits x.source x.variables gives s ss → SuiteSuits x.source x.variables gives true ss
+  loop_body (on_line (tree.While test b) line) ss suits = let P : TypedSuite → Type 0 = λ z. SuiteSuits x.source x.variables gives true z in subst P suits.0 suits.2
+  loop_body (on_line a line) ss suits = absurd suits
+
+  pub loop_means : (s : TypedStmt) (ss : TypedSuite) → LoopSuits x.source x.variables gives s ss → (n : ℕ) (u : State) → means_statement x s n u ≡ means_loop x s (means_suite x ss) n u
+  loop_means (on_line (tree.While test b) line) ss suits n u = ap (λ z. means_loop x (on_line (tree.While test b) line) (means_suite x z) n u) suits.0
+  loop_means (on_line a line) ss suits n u = absurd suits
+
+  -- the test of a `while`
+  pub while_suits : (s : TStmt) (e : TExpr) (all : List TStmt) (ss : TypedSuite) → s.kind ≡ kind.While e all → LoopSuits x.source x.variables gives (typed_stmt s) ss → TestSuits x.source x.variables gives (typed_expr e)
+  while_suits s e all ss is suits = let P : TypedStmt → Type 0 = λ z. LoopSuits x.source x.variables gives z ss in (subst P (typed_stmt-While s e all is) suits).1

@@ -22,12 +22,12 @@ use Rattle.ir_builder_frames.specs.Calling.{Pushes}
 use Rattle.ir_builder_frames.specs.declared.frame.Frame.{Frame}
 use Rattle.ir_builder_frames.specs.Matching.{flag_of, HasRoom}
 use Rattle.ir_builder_frames.specs.Kinds.{Surrounding, AreAlike, OpKinds, IsAmong, WritesGlobal}
-use Rattle.ir_builder_frames.proofs.HeldLemmas.{type_kept}
+use Rattle.ir_builder_frames.proofs.HeldLemmas.{type_kept, get_below}
 use Rattle.ir_builder_frames.proofs.GlobalLemmas.{write_fits}
 use Rattle.ir_builder_expressions.specs.Parts.{is_simple}
 use Rattle.ir_builder_expressions.specs.Reading.{setting_in}
 use Rattle.ir_builder_loops_and_jumps.specs.Simple.{Sets}
-use Rattle.ir_builder_loops_and_jumps.proofs.SimpleLemmas.{get_below, param_set, other_set, global_set}
+use Rattle.ir_builder_loops_and_jumps.proofs.SimpleLemmas.{param_set, other_set, global_set}
 use Rattle.ir_builder_statements.specs.Parts.{HasFlag, SetsLocal, TakesGlobal, SetsGlobal, TakesRegister, SetsVariable}
 
 pub type_by : (b : Building) (r : ℕ) (t u : Sort) → t ≡ u → HasType b r (rtype_of t) → HasType b r (rtype_of u)

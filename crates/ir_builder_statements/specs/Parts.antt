@@ -1,23 +1,20 @@
 -- What the parts of the code of statements are, one behind another.
-use Rattle.std.specs.Prelude.{◌≡◌, ◌<◌, ◌≤◌, ◌⊎◌, ℕ, true, List, [], ◌∷◌, ◌++◌, length, Option, Some, None, slice_get}
+use Rattle.std.specs.Prelude.{◌≡◌, ◌<◌, ◌≤◌, ◌⊎◌, ℕ, true, List, Option, Some, None, slice_get}
 use Rattle.py_syntax.specs.declared.token.Span.{Span}
 use Rattle.py_syntax.specs.declared.expression.BinOp.{BinOp}
 use Rattle.py_typed.specs.Fits.{is_number}
 use Rattle.py_typed.specs.Sorts as sort
 use Rattle.py_typed.specs.Sorts.{Sort}
-use Rattle.py_typed.specs.Expressions.{TypedExpr, typed, Local, Global, Nothing, type_of}
+use Rattle.py_typed.specs.Expressions.{TypedExpr, typed, Local, Global, Nothing}
 use Rattle.py_typed.specs.Statements.{Variable, TypedModule, TypedTarget, LocalTarget, GlobalTarget}
 use Rattle.source_meaning.specs.State.{on_to}
 use Rattle.source_meaning.specs.Operations.{coerced}
-use Rattle.ir_core.specs.declared.code.Last.TheVariants.{Goto, If, Unreachable}
-use Rattle.ir_core.specs.declared.code.Op.TheVariants.{Turn}
-use Rattle.ir_core.specs.Building.{Building, with_last}
+use Rattle.ir_core.specs.Building.{Building}
 use Rattle.ir_core.specs.declared.code.RType.TheVariants.{Bool}
 use Rattle.ir_builder_frames.specs.declared.frame.Frame.{Frame}
 use Rattle.ir_builder_frames.specs.Settings.{Setting, rtype_of}
 use Rattle.ir_builder_frames.specs.Placing.{HasType}
 use Rattle.ir_builder_frames.specs.Matching.{flag_of, HasRoom}
-use Rattle.ir_builder_frames.specs.Calling.{Pushes, Closes}
 use Rattle.ir_builder_frames.specs.Computing.{Shows, Computes}
 use Rattle.ir_builder_operations.specs.Operating.{is_whole}
 use Rattle.ir_builder_expressions.specs.declared.applying.Binary.{Binary}
@@ -25,14 +22,8 @@ use Rattle.ir_builder_expressions.specs.declared.applying.Binary.TheVariants.{Ar
 use Rattle.ir_builder_expressions.specs.Parts.{is_simple}
 use Rattle.ir_builder_expressions.specs.Applying.{binary_goes}
 use Rattle.ir_builder_expressions.specs.Reading.{setting_in}
-use Rattle.ir_builder_loops_and_jumps.specs.declared.ways.Way.TheVariants.{Join}
-use Rattle.ir_builder_loops_and_jumps.specs.declared.ways.Exit.{Exit}
-use Rattle.ir_builder_loops_and_jumps.specs.declared.ways.ExitPlan.{ExitPlan}
 use Rattle.ir_builder_loops_and_jumps.specs.Means.{means, means_returned, returned_type}
 use Rattle.ir_builder_loops_and_jumps.specs.Simple.{Sets}
-use Rattle.ir_builder_loops_and_jumps.specs.Runs.{Patching}
-use Rattle.ir_builder_loops_and_jumps.specs.Ways.{planned, left}
-use Rattle.ir_builder_statements.specs.declared.branch.Test.{Test}
 use Rattle.ir_builder_statements.specs.Suiting.{IsVariable}
 
 -- ---- variables that are read and set
@@ -87,61 +78,9 @@ abbrev pub ComputesAs : Setting → Binary → Sort → Sort → TypedExpr → T
 ComputesAs x op t u a b old new r =
     Computes x (Shows u) (rtype_of u) (λ n s. on_to (on_to (means x a n s) (λ v s1. on_to (means x b n s1) (binary_goes op t v))) (coerced u)) old new r
 
--- ---- values and tests
+-- ---- returned values
 
 -- the value of a return, or None, was computed
 abbrev pub ComputesReturned : Setting → Option TypedExpr → Building → Building → ℕ → Type 0
 ComputesReturned x o old new r =
     Computes x (Shows (returned_type o)) (rtype_of (returned_type o)) (means_returned x o) old new r
-
--- a test was computed, and the block that ends with it is still to be given its jumps
-pub record Splits (x : Setting) (e : TypedExpr) (old new : Building) (t : Test) : Type 0 where
-  pub middle : Building
-  pub computes : Computes x (Shows (type_of e)) (rtype_of (type_of e)) (means x e) old middle t.condition.0
-  pub block : t.block ≡ length middle.blocks
-  pub closes : Closes middle new Unreachable
-  pub start : t.start ≡ length new.blocks
-
--- the body of an arm was left, and the test of the arm goes to the body or to what comes next
-pub record EndsArm (old new : Building) (t : Test) (before after : List Exit) : Type 0 where
-  pub closed : Building
-  pub noted : after ≡ before ++ record { way = Join; block = length old.blocks } ∷ []
-  pub closes : Closes old closed Unreachable
-  pub next : ℕ
-  pub here : next ≡ length closed.blocks
-  pub set : new ≡ record closed { blocks = with_last closed.blocks t.block (If t.condition t.start next) }
-
--- behind an `if`
-abbrev pub joining : ℕ → ExitPlan
-joining end = record { breaks = None; continues = None; returns = None; joins = Some end }
-
--- the last body of an `if` was left, and the others go to where it does
-pub record Joins (old new : Building) (inner before after : List Exit) : Type 0 where
-  pub closed : Building
-  pub end : ℕ
-  pub here : end ≡ length closed.blocks
-  pub closes : Closes old closed (Goto end)
-  pub passed : after ≡ before ++ left (planned (joining end)) inner
-  pub patching : Patching closed new inner [] (planned (joining end))
-
--- behind a loop, and to its turn
-abbrev pub looping_to : ℕ → ℕ → ExitPlan
-looping_to exit next = record { breaks = Some exit; continues = Some next; returns = None; joins = None }
-
--- the body of a loop was left: a turn is spent, and the test comes again
-pub record EndsLoop (old new : Building) (head : ℕ) (t : Test) (inner before after : List Exit) : Type 0 where
-  pub left_body : Building
-  pub next : ℕ
-  pub here : next ≡ length left_body.blocks
-  pub leaves : Closes old left_body (Goto next)
-  pub turned : Building
-  pub line : ℕ
-  pub turns : Pushes left_body turned Turn line
-  pub closed : Building
-  pub closes : Closes turned closed (Goto head)
-  pub exit : ℕ
-  pub behind : exit ≡ length closed.blocks
-  pub passed : after ≡ before ++ left (planned (looping_to exit next)) inner
-  pub tested : Building
-  pub set : tested ≡ record closed { blocks = with_last closed.blocks t.block (If t.condition t.start exit) }
-  pub patching : Patching tested new inner [] (planned (looping_to exit next))

@@ -77,3 +77,8 @@ module _ (m : TypedModule) (vs : List Variable) (gives : Option Sort) where
     pub ArmsSuit : Bool → Arms → Type 0
     ArmsSuit looping no_arms = Unit {0}
     ArmsSuit looping (arm_then test body more) = TestSuits test × SuiteSuits looping body × ArmsSuit looping more
+
+  -- a loop with this body
+  abbrev pub LoopSuits : TypedStmt → TypedSuite → Type 0
+  LoopSuits (on_line (While test b) line) body = (b ≡ body) × TestSuits test × SuiteSuits true b
+  LoopSuits s body = ⊥

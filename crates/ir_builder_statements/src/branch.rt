@@ -1,4 +1,4 @@
-//! What stands around the bodies of `if` and `while`.
+//! What stands around the bodies of `if` and of loops.
 ghost use Rattle.std.specs.Prelude.{◌≤◌, ◌<◌, ℕ, map, length, IfOk, OnOk, OnErr};
 ghost use Rattle.py_typed.specs.Expressions.{typed_expr};
 ghost use Rattle.py_typed.specs.Statements.{typed_module, variable};
@@ -10,25 +10,16 @@ ghost use Rattle.ir_builder_frames.specs.Shaped.{Keeps};
 ghost use Rattle.ir_builder_frames.specs.Kinds.{IsAmong, IsOf, KeepsKinds, KeepsKindsIf};
 ghost use Rattle.ir_builder_expressions.specs.Suiting.{Suits};
 ghost use Rattle.ir_builder_loops_and_jumps.specs.Runs.{OpenIn};
-ghost use Rattle.ir_builder_statements.specs.Parts.{Splits, EndsArm, Joins, EndsLoop};
+ghost use Rattle.ir_builder_loops_and_jumps.specs.Around.{SplitsBy, EndsArm, Joins, EndsLoop};
 
 use crate::exits::{leave_by, pass_on, patch_all};
 use ir_builder_expressions::emit_expression;
 use ir_builder_frames::{Emitter, Frame};
-use ir_builder_loops_and_jumps::{Exit, ExitPlan, Way};
-use ir_core::{Last, Op, RType, Reg};
+use ir_builder_loops_and_jumps::{Exit, ExitPlan, LoopStart, Test, Way};
+use ir_core::{Last, Op, RType};
 use py_typed::{Checked, TExpr, Var};
 use std::alloc::Global;
 use value_core::Memory;
-
-/// A test before a body: its register, the block that ends with it, whose jumps are still to be written, and the block that the
-/// body begins with.
-#[derive(Clone, Copy)]
-pub struct Test {
-    pub condition: Reg,
-    pub block: usize,
-    pub start: usize,
-}
 
 /// Emits a test, and ends the block.
 pub(crate) fn emit_split(
@@ -42,7 +33,7 @@ pub(crate) fn emit_split(
     requires suits { Suits (typed_module checked.now) (map variable locals.now) (typed_expr e.now) }
     requires room { HasRoom (setting checked.now locals.now frame) b.old }
     ensures kept { Extends b.old b.new }
-    ensures splits { IfOk result (λ t. Splits (setting checked.now locals.now frame) (typed_expr e.now) b.old b.new t) }
+    ensures splits { IfOk result (λ t. SplitsBy (setting checked.now locals.now frame) (typed_expr e.now) b.old b.new t) }
     ensures shaped { Keeps b.old b.new }
     ensures kinds { KeepsKindsIf (IsAmong (typed_module checked.now)) b.old b.new }
 {
@@ -90,27 +81,28 @@ pub(crate) fn join(b: &mut Emitter, inner: &[Exit], exits: &mut Vec<Exit>) -> Re
     Ok(())
 }
 
-/// Ends the body of a `while`: it spends a turn and goes to the block of its number `head`, where the test begins. The test goes
-/// to the body or to what comes next.
+/// Ends a loop behind its body and its step: it spends a turn and goes to the block where the test begins. The test goes to the
+/// body or to what comes next, and `continue` to the block `next`.
 pub(crate) fn end_loop(
     b: &mut Emitter,
-    head: usize,
-    test: Test,
+    start: LoopStart,
+    next: usize,
     inner: &[Exit],
     exits: &mut Vec<Exit>,
     line: usize,
 ) -> Result<(), Memory>
-    requires head { (1 ≤ head) × (head ≤ length b.old.blocks) }
-    requires open { Open b.old test.block }
-    requires start { test.block < test.start }
-    requires here { test.start ≤ length b.old.blocks }
-    requires opens { OpenIn b.old test.start (length b.old.blocks) inner.now }
+    requires head { (1 ≤ start.head) × (start.head ≤ length b.old.blocks) }
+    requires open { Open b.old start.test.block }
+    requires start { start.test.block < start.test.start }
+    requires here { start.test.start ≤ next }
+    requires next { next ≤ length b.old.blocks }
+    requires opens { OpenIn b.old start.test.start next inner.now }
     ensures kept { OnErr result (Extends b.old b.new) }
-    ensures ends { OnOk result (EndsLoop b.old b.new head test inner.now exits.old.items exits.new.items) }
+    ensures ends { OnOk result (EndsLoop b.old b.new start next inner.now exits.old.items exits.new.items) }
     ensures shaped { OnOk result (Keeps b.old b.new) }
-    ensures kinds { OnOk result (KeepsKindsIf (λ g. IsOf b.old.regs test.condition RType.Bool) b.old b.new) }
+    ensures kinds { OnOk result (KeepsKindsIf (λ g. IsOf b.old.regs start.test.condition RType.Bool) b.old b.new) }
 {
-    let next = b.step_on()?;
+    let LoopStart { head, test } = start;
     b.push(Op::Turn, line)?;
     b.close(Last::Goto(head))?;
     let exit = b.here();

@@ -1,18 +1,18 @@
 //! The code of statements.
-ghost use Rattle.std.specs.Prelude.{◌≡◌, ◌≤◌, [], true, map, length, None, OnOk};
+ghost use Rattle.std.specs.Prelude.{◌≡◌, [], map, Option, None, IfOk, OnOk};
 ghost use Rattle.std.specs.Option.{option_map, option_copied};
-ghost use Rattle.py_typed.specs.Sorts.{sort};
-ghost use Rattle.py_typed.specs.Expressions.{typed_expr};
-ghost use Rattle.py_typed.specs.Statements.{typed_module, typed_stmt, typed_suite, typed_arm, arms_of, variable};
+ghost use Rattle.py_typed.specs.Sorts.{Sort, sort};
+ghost use Rattle.py_typed.specs.Statements.{TypedSuite, typed_module, typed_stmt, typed_suite, typed_arm, arms_of, variable};
 ghost use Rattle.ir_core.specs.Building.{Extends};
 ghost use Rattle.ir_builder_frames.specs.Settings.{setting};
 ghost use Rattle.ir_builder_frames.specs.Matching.{HasRoom};
 ghost use Rattle.ir_builder_frames.specs.Shaped.{Keeps};
-ghost use Rattle.ir_builder_frames.specs.Kinds.{KeepsKindsIf};
-ghost use Rattle.ir_builder_loops_and_jumps.specs.Means.{means_statement, means_suite};
+ghost use Rattle.ir_builder_frames.specs.Kinds.{IsAmong, KeepsKindsIf};
+ghost use Rattle.ir_builder_loops_and_jumps.specs.Means.{means_loop, means_statement, means_suite};
+ghost use Rattle.ir_builder_loops_and_jumps.specs.Around.{Begins};
 ghost use Rattle.ir_builder_loops_and_jumps.specs.Runs.{Emitted};
 ghost use Rattle.ir_builder_loops_and_jumps.specs.Tested.{means_arms, Tested};
-ghost use Rattle.ir_builder_statements.specs.Suiting.{TestSuits, StatementSuits, SuiteSuits, ArmsSuit};
+ghost use Rattle.ir_builder_statements.specs.Suiting.{LoopSuits, StatementSuits, SuiteSuits, ArmsSuit};
 ghost use Rattle.ir_builder_statements.specs.Kinds.{IsAround};
 
 use crate::alone::emit_alone;
@@ -20,7 +20,7 @@ use crate::branch::{emit_split, end_arm, end_loop, join};
 use crate::exits::leave_by;
 use crate::simple::{emit_assignment, emit_return, emit_update};
 use ir_builder_frames::{Emitter, Frame};
-use ir_builder_loops_and_jumps::{Exit, Way};
+use ir_builder_loops_and_jumps::{Exit, LoopStart, Way};
 use py_typed::{Checked, TExpr, TStmt, TStmtKind, Ty, Var};
 use std::alloc::Global;
 use value_core::{Many, Memory};
@@ -92,10 +92,10 @@ fn emit_statement(
                 b, alloc, checked, locals, frame, gives, looping, s, arms, other, exits,
             )
         }
-        TStmtKind::While(e, body) => {
+        TStmtKind::While(_, body) => {
             let body = body.as_slice();
-            emit_while(
-                b, alloc, checked, locals, frame, gives, looping, s, e, body, exits,
+            emit_loop(
+                b, alloc, checked, locals, frame, gives, looping, s, body, exits,
             )
         }
         TStmtKind::Return(value) => emit_return(b, alloc, checked, locals, frame, value, line),
@@ -174,9 +174,35 @@ fn emit_arms(
     Ok(())
 }
 
-// The `while` statement `s`, with its test and its body.
+// Begins the loop `s`: what comes before its body.
+fn begin_loop(
+    b: &mut Emitter,
+    alloc: Global,
+    checked: &Checked,
+    locals: &[Var],
+    frame: Frame,
+    s: &TStmt,
+) -> Result<LoopStart, Memory>
+    requires suits { (gives : Option Sort) × (body : TypedSuite) × LoopSuits (typed_module checked.now) (map variable locals.now) gives (typed_stmt s.now) body }
+    requires room { HasRoom (setting checked.now locals.now frame) b.old }
+    ensures kept { Extends b.old b.new }
+    ensures begins { IfOk result (λ o. Begins (setting checked.now locals.now frame) (means_loop (setting checked.now locals.now frame) (typed_stmt s.now)) b.old b.new o) }
+    ensures shaped { Keeps b.old b.new }
+    ensures kinds { KeepsKindsIf (IsAmong (typed_module checked.now)) b.old b.new }
+{
+    match &s.kind {
+        TStmtKind::While(e, _) => {
+            let head = b.step_on()?;
+            let test = emit_split(b, alloc, checked, locals, frame, e)?;
+            Ok(LoopStart { head, test })
+        }
+        _ => unreachable!(),
+    }
+}
+
+// The loop `s`, with its body: behind the body it spends a turn.
 #[cycle(statement)]
-fn emit_while(
+fn emit_loop(
     b: &mut Emitter,
     alloc: Global,
     checked: &Checked,
@@ -185,13 +211,10 @@ fn emit_while(
     gives: Option<&Ty>,
     looping: bool,
     s: &TStmt,
-    e: &TExpr,
     body: &[TStmt],
     exits: &mut Vec<Exit>,
 ) -> Result<(), Memory>
-    requires is { s.now.kind ≡ TStmtKind.While e.now body.now }
-    requires test { TestSuits (typed_module checked.now) (map variable locals.now) (option_map sort (option_copied gives)) (typed_expr e.now) }
-    requires suits { SuiteSuits (typed_module checked.now) (map variable locals.now) (option_map sort (option_copied gives)) true (typed_suite body.now) }
+    requires suits { LoopSuits (typed_module checked.now) (map variable locals.now) (option_map sort (option_copied gives)) (typed_stmt s.now) (typed_suite body.now) }
     requires room { HasRoom (setting checked.now locals.now frame) b.old }
     requires alone { frame.ret ≡ None }
     ensures kept { Extends b.old b.new }
@@ -200,10 +223,10 @@ fn emit_while(
     ensures kinds { OnOk result (KeepsKindsIf (IsAround (typed_module checked.now) (option_map sort (option_copied gives.entry))) b.old b.new) }
 {
     let mut inner = Vec::new(alloc);
-    let head = b.step_on()?;
-    let test = emit_split(b, alloc, checked, locals, frame, e)?;
+    let start = begin_loop(b, alloc, checked, locals, frame, s)?;
     emit_block(
         b, alloc, checked, locals, frame, gives, true, body, &mut inner,
     )?;
-    end_loop(b, head, test, &inner, exits, s.line)
+    let next = b.step_on()?;
+    end_loop(b, start, next, &inner, exits, s.line)
 }

@@ -16,7 +16,7 @@ pub returns-in-Tested-clause-made : goal.returns-in-Tested-clause-made
 returns-in-Tested-clause-made c = ok_map _ _ _ (λ (r : Reg) a. applies_tested c.args.op (sort c.args.t.now) c.args.e.now _ _ r.0 _ c.in-Tested.is c.requires.fits a) c.emit_truth.ensures.found
 
 pub returns-in-Counted-clause-made : goal.returns-in-Counted-clause-made
-returns-in-Counted-clause-made c = ok_map _ _ _ (λ (r : Reg) a. applies_counted c.args.op (sort c.args.t.now) c.args.e.now _ _ r.0 _ c.in-Counted.is c.requires.fits a) c.emit_length.ensures.made
+returns-in-Counted-clause-made c = ok_map _ _ _ (λ (r : Reg) a. applies_counted c.args.op (sort c.args.t.now) c.args.e.now _ _ r.0 _ c.in-Counted.is c.requires.fits a) c.emit_operation.ensures.made
 
 pub returns-in-Written-clause-made : goal.returns-in-Written-clause-made
 returns-in-Written-clause-made c = ok_map _ _ _ (λ (r : Reg) a. applies_written c.args.op (sort c.args.t.now) c.args.e.now _ _ r.0 _ c.in-Written.is c.requires.fits a) c.emit_text_of.ensures.made

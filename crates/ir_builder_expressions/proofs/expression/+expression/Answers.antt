@@ -1,9 +1,9 @@
-use Rattle.std.proofs.Common.{◌≡◌, true, subst, rules, refl, sym, ◌∙◌, ap, ◌+◌, ◌-◌, arith, length, map, drop, take, IfOk, List}
+use Rattle.std.proofs.Common.{◌≡◌, true, subst, rules, refl, sym, ◌∙◌, ap, ◌+◌, ◌-◌, arith, length, map, drop, take, IfOk, List, Some, None}
 use Rattle.std.proofs.lemmas.List.{length-map}
 use Rattle.std.proofs.lemmas.Int.{to_z-of_z}
 use Rattle.std.specs.Int.{w128}
-use Rattle.py_typed.specs.Sorts.{sort, Bool as BoolSort}
-use Rattle.py_typed.specs.Expressions.{typed, And, Or, Cond, typed_expr, exprs_of, comparisons_of, typed_comparison, type_of}
+use Rattle.py_typed.specs.Sorts.{sort}
+use Rattle.py_typed.specs.Expressions.{And, Or, Cond, typed_expr, exprs_of, comparisons_of, typed_comparison, type_of}
 use Rattle.py_typed.specs.Statements.{Variable, TypedModule, typed_module, variable}
 use Rattle.ir_core.specs.declared.code.Reg.{Reg}
 use Rattle.ir_core.specs.declared.code.RType.TheVariants as rtype
@@ -15,30 +15,34 @@ use Rattle.value_core.specs.Value.{IntVal, StrVal}
 use Rattle.ir_builder_frames.specs.Computing.{Makes}
 use Rattle.ir_builder_frames.specs.Calling.{Adds}
 use Rattle.ir_builder_frames.specs.Kinds.{LiteralFits, KeepsKindsIf}
-use Rattle.ir_builder_frames.proofs.HeldLemmas.{ok_map, ok_join, extends_refl, extends_trans, type_kept}
+use Rattle.ir_builder_frames.proofs.HeldLemmas.{ok_map, ok_join, extends_trans, type_kept}
 use Rattle.ir_builder_frames.proofs.MatchLemmas.{room_on}
-use Rattle.ir_builder_expressions.specs.Emitting.{Emits, EmitsAll, EmitsChain}
+use Rattle.ir_builder_expressions.specs.Emitting.{EmitsAll, EmitsChain}
+use Rattle.ir_builder_expressions.specs.Arms.{arm_of, EmitsChoice}
 use Rattle.ir_builder_expressions.specs.Walking.{Walks}
-use Rattle.ir_builder_expressions.proofs.OpenLemmas.{meet_ready}
-use Rattle.ir_builder_expressions.proofs.WalkingLemmas.{walks_known, meets_grow, walks_trans, walks_if, walks_by, then_by, then_if, turned, met, truth_fits, number_fits}
+use Rattle.ir_builder_choices.proofs.OpenLemmas.{meet_ready}
+use Rattle.ir_builder_expressions.proofs.WalkingLemmas.{walks_refl, walks_known, meets_grow, walks_trans, walks_if, walks_by, then_by, then_if, turned, met, truth_fits, number_fits}
 use Rattle.ir_builder_expressions.proofs.ArgumentLemmas.{argument_suits, passing_none, passing_on, passing_ends}
 use Rattle.ir_builder_expressions.proofs.GoingLemmas.{going_walks, going_start, going_at, going_on, going_over, first_suits, item_suits, chain_empty, Chain}
 use Rattle.ir_builder_expressions.specs.declared.comparing.Side.{Side}
 use Rattle.ir_builder_expressions.specs.Comparing.{kind_sort, is_compared}
 use Rattle.ir_builder_expressions.proofs.SideLemmas.{side_emits}
-use Rattle.ir_builder_expressions.proofs.WeightLemmas.{weight_of_all, weight_of_chain, same_weight, neg_weight, not_weight, truth_weight, len_weight, to_str_weight, coerce_weight, arith_weight, concat_weight, at_weight, compare_weight, and_weight, or_weight, cond_weight, call_weight, member_weight, first_weight, later_weight}
-use Rattle.ir_builder_expressions.proofs.UnsuitedLemmas.{none_left}
-use Rattle.ir_builder_expressions.proofs.WalkLemmas.{part_type, and_made, or_made, choice_made, int_within, int_walked, text_walked, input_walked, flag_walked, local_below, local_walked, global_simple, global_walked, neg_part, neg_walked, not_part, not_walked, truth_part, truth_walked, len_part, len_walked, to_str_part, to_str_walked, coerce_part, coerce_walked, arith_parts, arith_walked, concat_parts, concat_walked, at_parts, at_walked, compare_part, compare_rest, compare_walked, and_simple, and_same, and_walked, or_simple, or_same, or_walked, cond_simple, cond_same, cond_flag, cond_walked, call_suits, call_below, call_walked, call_walks, suits_same, simple_same, sort_same, sorts_same}
+use Rattle.ir_builder_expressions.proofs.WeightLemmas.{weight_of_arm, weight_of_all, weight_of_chain, same_weight, compare_weight, and_weight, or_weight, cond_weight, call_weight, member_weight, first_weight, later_weight}
+use Rattle.ir_builder_expressions.proofs.UnsuitedLemmas.{applied_left}
+use Rattle.ir_builder_expressions.specs.Applying.{one, two, seen}
+use Rattle.ir_builder_expressions.proofs.AppliedLemmas.{applied_weight, applied_above, one_suits, two_suit, applied_emits}
+use Rattle.ir_builder_expressions.proofs.WalkLemmas.{int_within, int_walked, text_walked, input_walked, flag_walked, local_below, local_walked, global_simple, global_walked, compare_part, compare_rest, compare_walked, call_suits, call_below, call_walked, call_walks}
 use Rattle.ir_builder_expressions.proofs.PieceLemmas.{int_fits, native_is, native_part, own_part, one_emits, two_emit}
-use Rattle.ir_builder_expressions.proofs.ArmLemmas.{and_left, and_right, or_left, or_right, cond_first, cond_test, cond_second}
+use Rattle.ir_builder_expressions.proofs.ArmLemmas.{emits_as, is_and, is_or, is_cond, and_asked, or_asked, cond_asked}
+use Rattle.ir_builder_expressions.proofs.ChosenLemmas.{arm_asked, arm_there, arm_missing, test_written, tested_type, arm_typed, choice_made}
 use Rattle.ir_builder_expressions.proofs.expression.+expression.Goals as goal
 
 pub emit_expression-emit_side-requires : goal.emit_expression-emit_side-requires
 emit_expression-emit_side-requires t c =
     let x : Setting = setting c.args.checked.now c.args.locals.now c.args.frame in
     let h0 = compare_weight c.args.e.now c.in-Compare.x c.in-Compare.rest c.in-Compare.is in
-    let h1 = same_weight _ _ c.deref-in-Compare-2.ensures in
-    let part = compare_part x c.args.e.now c.requires.suits c.in-Compare.x _ c.in-Compare.rest c.in-Compare.is c.deref-in-Compare-2.ensures in
+    let h1 = same_weight _ _ c.deref-in-Compare.ensures in
+    let part = compare_part x c.args.e.now c.requires.suits c.in-Compare.x _ c.in-Compare.rest c.in-Compare.is c.deref-in-Compare.ensures in
     (omega arith, (part.0, (part.1, c.requires.room)))
 
 pub emit_expression-emit_chain-requires : goal.emit_expression-emit_chain-requires
@@ -47,7 +51,7 @@ emit_expression-emit_chain-requires t c =
     let h0 = compare_weight c.args.e.now c.in-Compare.x c.in-Compare.rest c.in-Compare.is in
     let h1 = ap weight_of_chain c.as_slice-in-Compare.ensures in
     let side = c.in_ok-first-in-Compare.ensures.emitted in
-    (omega arith, (rw c.as_slice-in-Compare.ensures (compare_rest x c.args.e.now c.requires.suits c.in-Compare.x _ c.in-Compare.rest _ _ _ c.in-Compare.is c.deref-in-Compare-2.ensures side), (side.shown, (room_on _ _ _ c.in_ok-first-in-Compare.ensures.walked.kept c.requires.room, side.emits.type))))
+    (omega arith, (rw c.as_slice-in-Compare.ensures (compare_rest x c.args.e.now c.requires.suits c.in-Compare.x _ c.in-Compare.rest _ _ _ c.in-Compare.is c.deref-in-Compare.ensures side), (side.shown, (room_on _ _ _ c.in_ok-first-in-Compare.ensures.walked.kept c.requires.room, side.emits.type))))
 
 pub emit_expression-returns-in_ok-first-in-Compare : goal.emit_expression-returns-in_ok-first-in-Compare
 emit_expression-returns-in_ok-first-in-Compare t c =
@@ -57,7 +61,7 @@ emit_expression-returns-in_ok-first-in-Compare t c =
     let w = walks_trans m _ _ _ side.walked c.emit_chain.ensures.walked in
     let q : Side = c.in_ok-first-in-Compare.first in
     let chain : IfOk c.emit_chain.result (λ r. EmitsChain x (kind_sort q.own) (kind_sort q.shown) q.reg.0 (comparisons_of (map typed_comparison c.in-Compare.rest)) c.emit_side.new.b c.emit_chain.new.b r.0) = rw c.as_slice-in-Compare.ensures at c.emit_chain.ensures.emitted in
-    record { kept = w.kept; emitted = ok_map _ _ _ (λ (r : Reg) z. compare_walked x c.args.e.now c.requires.suits c.in-Compare.x _ c.in-Compare.rest _ _ _ q r.0 c.in-Compare.is c.deref-in-Compare-2.ensures c.requires.room side.emitted z) chain; shaped = w.shaped; kinds = w.kinds }
+    record { kept = w.kept; emitted = ok_map _ _ _ (λ (r : Reg) z. compare_walked x c.args.e.now c.requires.suits c.in-Compare.x _ c.in-Compare.rest _ _ _ q r.0 c.in-Compare.is c.deref-in-Compare.ensures c.requires.room side.emitted z) chain; shaped = w.shaped; kinds = w.kinds }
 
 pub emit_expression-returns-in-Int : goal.emit_expression-returns-in-Int
 emit_expression-returns-in-Int t c =
@@ -91,141 +95,50 @@ emit_expression-returns-in-Input t c =
     let e = c.emit_input.ensures in
     record { kept = e.kept; emitted = ok_map _ _ _ (λ (r : Reg) a. input_walked x c.args.e.now c.requires.suits _ _ r.0 c.in-Input.is c.requires.room a) e.made; shaped = e.shaped; kinds = λ g among h. e.kinds g h }
 
-pub emit_expression-emit_one_part-requires : goal.emit_expression-emit_one_part-requires
-emit_expression-emit_one_part-requires t c =
-    let x : Setting = setting c.args.checked.now c.args.locals.now c.args.frame in
-    let h0 = neg_weight c.args.e.now c.in-Neg.x c.in-Neg.is in
-    let h1 = same_weight _ _ c.deref.ensures in
-    let part = neg_part x c.args.e.now c.requires.suits c.in-Neg.x _ c.in-Neg.is c.deref.ensures in
-    (omega arith, (part.0, (part.1, c.requires.room)))
-
-pub emit_expression-returns-in-Neg : goal.emit_expression-returns-in-Neg
-emit_expression-returns-in-Neg t c =
-    let x : Setting = setting c.args.checked.now c.args.locals.now c.args.frame in
-    let w = c.emit_one_part.ensures.walked in
-    record { kept = w.kept; emitted = ok_map _ _ _ (λ (r : Reg) q. neg_walked x c.args.e.now c.requires.suits c.in-Neg.x _ _ _ r.0 c.in-Neg.is c.deref.ensures q) c.emit_one_part.ensures.emitted; shaped = w.shaped; kinds = w.kinds }
-
-pub emit_expression-emit_one_part-requires-in-Not : goal.emit_expression-emit_one_part-requires-in-Not
-emit_expression-emit_one_part-requires-in-Not t c =
-    let x : Setting = setting c.args.checked.now c.args.locals.now c.args.frame in
-    let h0 = not_weight c.args.e.now c.in-Not.x c.in-Not.is in
-    let h1 = same_weight _ _ c.deref-in-Not.ensures in
-    let part = not_part x c.args.e.now c.requires.suits c.in-Not.x _ c.in-Not.is c.deref-in-Not.ensures in
-    (omega arith, (part.0, (part.1, c.requires.room)))
-
-pub emit_expression-returns-in-Not : goal.emit_expression-returns-in-Not
-emit_expression-returns-in-Not t c =
-    let x : Setting = setting c.args.checked.now c.args.locals.now c.args.frame in
-    let w = c.emit_one_part-in-Not.ensures.walked in
-    record { kept = w.kept; emitted = ok_map _ _ _ (λ (r : Reg) q. not_walked x c.args.e.now c.requires.suits c.in-Not.x _ _ _ r.0 c.in-Not.is c.deref-in-Not.ensures q) c.emit_one_part-in-Not.ensures.emitted; shaped = w.shaped; kinds = w.kinds }
-
-pub emit_expression-emit_one_part-requires-in-Truth : goal.emit_expression-emit_one_part-requires-in-Truth
-emit_expression-emit_one_part-requires-in-Truth t c =
-    let x : Setting = setting c.args.checked.now c.args.locals.now c.args.frame in
-    let h0 = truth_weight c.args.e.now c.in-Truth.x c.in-Truth.is in
-    let h1 = same_weight _ _ c.deref-in-Truth.ensures in
-    let part = truth_part x c.args.e.now c.requires.suits c.in-Truth.x _ c.in-Truth.is c.deref-in-Truth.ensures in
-    (omega arith, (part.0, (part.1, c.requires.room)))
-
-pub emit_expression-returns-in-Truth : goal.emit_expression-returns-in-Truth
-emit_expression-returns-in-Truth t c =
-    let x : Setting = setting c.args.checked.now c.args.locals.now c.args.frame in
-    let w = c.emit_one_part-in-Truth.ensures.walked in
-    record { kept = w.kept; emitted = ok_map _ _ _ (λ (r : Reg) q. truth_walked x c.args.e.now c.requires.suits c.in-Truth.x _ _ _ r.0 c.in-Truth.is c.deref-in-Truth.ensures q) c.emit_one_part-in-Truth.ensures.emitted; shaped = w.shaped; kinds = w.kinds }
-
-pub emit_expression-emit_one_part-requires-in-Len : goal.emit_expression-emit_one_part-requires-in-Len
-emit_expression-emit_one_part-requires-in-Len t c =
-    let x : Setting = setting c.args.checked.now c.args.locals.now c.args.frame in
-    let h0 = len_weight c.args.e.now c.in-Len.x c.in-Len.is in
-    let h1 = same_weight _ _ c.deref-in-Len.ensures in
-    let part = len_part x c.args.e.now c.requires.suits c.in-Len.x _ c.in-Len.is c.deref-in-Len.ensures in
-    (omega arith, (part.0, (part.1, c.requires.room)))
-
-pub emit_expression-returns-in-Len : goal.emit_expression-returns-in-Len
-emit_expression-returns-in-Len t c =
-    let x : Setting = setting c.args.checked.now c.args.locals.now c.args.frame in
-    let w = c.emit_one_part-in-Len.ensures.walked in
-    record { kept = w.kept; emitted = ok_map _ _ _ (λ (r : Reg) q. len_walked x c.args.e.now c.requires.suits c.in-Len.x _ _ _ r.0 c.in-Len.is c.deref-in-Len.ensures q) c.emit_one_part-in-Len.ensures.emitted; shaped = w.shaped; kinds = w.kinds }
-
-pub emit_expression-emit_one_part-requires-in-ToStr : goal.emit_expression-emit_one_part-requires-in-ToStr
-emit_expression-emit_one_part-requires-in-ToStr t c =
-    let x : Setting = setting c.args.checked.now c.args.locals.now c.args.frame in
-    let h0 = to_str_weight c.args.e.now c.in-ToStr.x c.in-ToStr.is in
-    let h1 = same_weight _ _ c.deref-in-ToStr.ensures in
-    let part = to_str_part x c.args.e.now c.requires.suits c.in-ToStr.x _ c.in-ToStr.is c.deref-in-ToStr.ensures in
-    (omega arith, (part.0, (part.1, c.requires.room)))
-
-pub emit_expression-returns-in-ToStr : goal.emit_expression-returns-in-ToStr
-emit_expression-returns-in-ToStr t c =
-    let x : Setting = setting c.args.checked.now c.args.locals.now c.args.frame in
-    let w = c.emit_one_part-in-ToStr.ensures.walked in
-    record { kept = w.kept; emitted = ok_map _ _ _ (λ (r : Reg) q. to_str_walked x c.args.e.now c.requires.suits c.in-ToStr.x _ _ _ r.0 c.in-ToStr.is c.deref-in-ToStr.ensures q) c.emit_one_part-in-ToStr.ensures.emitted; shaped = w.shaped; kinds = w.kinds }
-
-pub emit_expression-emit_one_part-requires-in-Coerce : goal.emit_expression-emit_one_part-requires-in-Coerce
-emit_expression-emit_one_part-requires-in-Coerce t c =
-    let x : Setting = setting c.args.checked.now c.args.locals.now c.args.frame in
-    let h0 = coerce_weight c.args.e.now c.in-Coerce.x c.in-Coerce.is in
-    let h1 = same_weight _ _ c.deref-in-Coerce.ensures in
-    let part = coerce_part x c.args.e.now c.requires.suits c.in-Coerce.x _ c.in-Coerce.is c.deref-in-Coerce.ensures in
-    (omega arith, (part.0, (part.1, c.requires.room)))
-
-pub emit_expression-returns-in-Coerce : goal.emit_expression-returns-in-Coerce
-emit_expression-returns-in-Coerce t c =
-    let x : Setting = setting c.args.checked.now c.args.locals.now c.args.frame in
-    let w = c.emit_one_part-in-Coerce.ensures.walked in
-    record { kept = w.kept; emitted = ok_map _ _ _ (λ (r : Reg) q. coerce_walked x c.args.e.now c.requires.suits c.in-Coerce.x _ _ _ r.0 c.in-Coerce.is c.deref-in-Coerce.ensures q) c.emit_one_part-in-Coerce.ensures.emitted; shaped = w.shaped; kinds = w.kinds }
-
-pub emit_expression-emit_two_parts-requires : goal.emit_expression-emit_two_parts-requires
-emit_expression-emit_two_parts-requires t c =
-    let x : Setting = setting c.args.checked.now c.args.locals.now c.args.frame in
-    let h0 = arith_weight c.args.e.now c.in-Arith.op c.in-Arith.x c.in-Arith.y c.in-Arith.is in
-    let h1 = same_weight _ _ c.deref-in-Arith.ensures in
-    let h2 = same_weight _ _ c.deref-in-Arith-2.ensures in
-    let parts = arith_parts x c.args.e.now c.requires.suits c.in-Arith.op c.in-Arith.x c.in-Arith.y _ _ c.in-Arith.is c.deref-in-Arith.ensures c.deref-in-Arith-2.ensures in
-    (omega arith, (parts.0, (parts.1, (parts.2, c.requires.room))))
-
-pub emit_expression-returns-in-Arith : goal.emit_expression-returns-in-Arith
-emit_expression-returns-in-Arith t c =
-    let x : Setting = setting c.args.checked.now c.args.locals.now c.args.frame in
-    let w = c.emit_two_parts.ensures.walked in
-    record { kept = w.kept; emitted = ok_map _ _ _ (λ (r : Reg) q. arith_walked x c.args.e.now c.requires.suits c.in-Arith.op c.in-Arith.x c.in-Arith.y _ _ _ _ r.0 c.in-Arith.is c.deref-in-Arith.ensures c.deref-in-Arith-2.ensures q) c.emit_two_parts.ensures.emitted; shaped = w.shaped; kinds = w.kinds }
-
-pub emit_expression-emit_two_parts-requires-in-Concat : goal.emit_expression-emit_two_parts-requires-in-Concat
-emit_expression-emit_two_parts-requires-in-Concat t c =
-    let x : Setting = setting c.args.checked.now c.args.locals.now c.args.frame in
-    let h0 = concat_weight c.args.e.now c.in-Concat.x c.in-Concat.y c.in-Concat.is in
-    let h1 = same_weight _ _ c.deref-in-Concat.ensures in
-    let h2 = same_weight _ _ c.deref-in-Concat-2.ensures in
-    let parts = concat_parts x c.args.e.now c.requires.suits c.in-Concat.x c.in-Concat.y _ _ c.in-Concat.is c.deref-in-Concat.ensures c.deref-in-Concat-2.ensures in
-    (omega arith, (parts.0, (parts.1, (parts.2, c.requires.room))))
-
-pub emit_expression-returns-in-Concat : goal.emit_expression-returns-in-Concat
-emit_expression-returns-in-Concat t c =
-    let x : Setting = setting c.args.checked.now c.args.locals.now c.args.frame in
-    let w = c.emit_two_parts-in-Concat.ensures.walked in
-    record { kept = w.kept; emitted = ok_map _ _ _ (λ (r : Reg) q. concat_walked x c.args.e.now c.requires.suits c.in-Concat.x c.in-Concat.y _ _ _ _ r.0 c.in-Concat.is c.deref-in-Concat.ensures c.deref-in-Concat-2.ensures q) c.emit_two_parts-in-Concat.ensures.emitted; shaped = w.shaped; kinds = w.kinds }
-
-pub emit_expression-emit_two_parts-requires-in-At : goal.emit_expression-emit_two_parts-requires-in-At
-emit_expression-emit_two_parts-requires-in-At t c =
-    let x : Setting = setting c.args.checked.now c.args.locals.now c.args.frame in
-    let h0 = at_weight c.args.e.now c.in-At.x c.in-At.y c.in-At.is in
-    let h1 = same_weight _ _ c.deref-in-At.ensures in
-    let h2 = same_weight _ _ c.deref-in-At-2.ensures in
-    let parts = at_parts x c.args.e.now c.requires.suits c.in-At.x c.in-At.y _ _ c.in-At.is c.deref-in-At.ensures c.deref-in-At-2.ensures in
-    (omega arith, (parts.0, (parts.1, (parts.2, c.requires.room))))
-
-pub emit_expression-returns-in-At : goal.emit_expression-returns-in-At
-emit_expression-returns-in-At t c =
-    let x : Setting = setting c.args.checked.now c.args.locals.now c.args.frame in
-    let w = c.emit_two_parts-in-At.ensures.walked in
-    record { kept = w.kept; emitted = ok_map _ _ _ (λ (r : Reg) q. at_walked x c.args.e.now c.requires.suits c.in-At.x c.in-At.y _ _ _ _ r.0 c.in-At.is c.deref-in-At.ensures c.deref-in-At-2.ensures q) c.emit_two_parts-in-At.ensures.emitted; shaped = w.shaped; kinds = w.kinds }
-
-pub emit_expression-unreachable-requires : goal.emit_expression-unreachable-requires
-emit_expression-unreachable-requires t c =
+pub emit_expression-emit_applied-requires : goal.emit_expression-emit_applied-requires
+emit_expression-emit_applied-requires t c =
     let m : TypedModule = typed_module c.args.checked.now in
     let vs : List Variable = map variable c.args.locals.now in
+    let x : Setting = setting c.args.checked.now c.args.locals.now c.args.frame in
     let d = c.in_default in
-    none_left m vs c.args.e.now c.requires.suits d.not-Int d.not-Str d.not-Bool d.not-Local d.not-Global d.not-Neg d.not-Not d.not-Truth d.not-Arith d.not-Concat d.not-At d.not-Len d.not-ToStr d.not-Coerce d.not-Compare d.not-And d.not-Or d.not-Cond d.not-Call d.not-Input
+    let is = applied_left m vs c.args.e.now c.requires.suits d.not-Int d.not-Str d.not-Bool d.not-Local d.not-Global d.not-Compare d.not-And d.not-Or d.not-Cond d.not-Call d.not-Input in
+    let h = applied_above x c.args.e.now c.requires.suits is in
+    (omega (arith, h.1), (is, (c.requires.suits, c.requires.room)))
+
+pub emit_expression-returns-in_default : goal.emit_expression-returns-in_default
+emit_expression-returns-in_default t c =
+    let e = c.emit_applied.ensures in
+    record { kept = e.walked.kept; emitted = e.emitted; shaped = e.walked.shaped; kinds = e.walked.kinds }
+
+pub emit_applied-emit_one_part-requires : goal.emit_applied-emit_one_part-requires
+emit_applied-emit_one_part-requires t c =
+    let x : Setting = setting c.args.checked.now c.args.locals.now c.args.frame in
+    let is = ap (λ z. Some (seen z)) (sym c.in-One.is) ∙ c.operation_in.ensures in
+    let h = applied_weight x c.args.e.now c.requires.suits _ is in
+    let part = one_suits x c.args.e.now c.requires.suits c.in-One.op c.in-One.x.now is in
+    (omega (arith, h), (part.0, (part.1, c.requires.room)))
+
+pub emit_applied-returns-in-One : goal.emit_applied-returns-in-One
+emit_applied-returns-in-One t c =
+    let x : Setting = setting c.args.checked.now c.args.locals.now c.args.frame in
+    let is = ap (λ z. Some (seen z)) (sym c.in-One.is) ∙ c.operation_in.ensures in
+    let e = c.emit_one_part.ensures in
+    record { walked = e.walked; emitted = ok_map _ _ _ (λ (r : Reg) q. applied_emits x c.args.e.now c.requires.suits (one c.in-One.op (typed_expr c.in-One.x.now)) _ _ r.0 is q) e.emitted }
+
+pub emit_applied-emit_two_parts-requires : goal.emit_applied-emit_two_parts-requires
+emit_applied-emit_two_parts-requires t c =
+    let x : Setting = setting c.args.checked.now c.args.locals.now c.args.frame in
+    let is = ap (λ z. Some (seen z)) (sym c.in-Two.is) ∙ c.operation_in.ensures in
+    let h = applied_weight x c.args.e.now c.requires.suits _ is in
+    let parts = two_suit x c.args.e.now c.requires.suits c.in-Two.op c.in-Two.x.now c.in-Two.y.now is in
+    (omega (arith, h), (parts.0, (parts.1, (parts.2, c.requires.room))))
+
+pub emit_applied-returns-in-Two : goal.emit_applied-returns-in-Two
+emit_applied-returns-in-Two t c =
+    let x : Setting = setting c.args.checked.now c.args.locals.now c.args.frame in
+    let is = ap (λ z. Some (seen z)) (sym c.in-Two.is) ∙ c.operation_in.ensures in
+    let e = c.emit_two_parts.ensures in
+    record { walked = e.walked; emitted = ok_map _ _ _ (λ (r : Reg) q. applied_emits x c.args.e.now c.requires.suits (two c.in-Two.op (typed_expr c.in-Two.x.now) (typed_expr c.in-Two.y.now)) _ _ r.0 is q) e.emitted }
 
 pub emit_expression-returns-in-Bool : goal.emit_expression-returns-in-Bool
 emit_expression-returns-in-Bool t c =
@@ -248,57 +161,54 @@ emit_expression-returns-in-Local t c =
     let e = c.emit_local.ensures in
     record { kept = e.kept; emitted = ok_join _ _ _ _ (λ (r : Reg) is q. local_walked x c.args.e.now c.requires.suits c.in-Local.i _ _ r.0 c.in-Local.is is q) e.is e.emitted; shaped = e.shaped; kinds = λ g among h. e.kinds g h }
 
-pub emit_expression-emit_and-requires : goal.emit_expression-emit_and-requires
-emit_expression-emit_and-requires t c =
-    let m : TypedModule = typed_module c.args.checked.now in
-    let vs : List Variable = map variable c.args.locals.now in
-    let x : Setting = setting c.args.checked.now c.args.locals.now c.args.frame in
-    let h0 = and_weight c.args.e.now c.in-And.x c.in-And.y c.in-And.is in
-    let h1 = same_weight _ _ c.deref-in-And.ensures in
-    let h2 = same_weight _ _ c.deref-in-And-2.ensures in
-    (omega arith, (simple_same _ _ c.deref-in-And.ensures (and_simple x c.args.e.now c.requires.suits c.in-And.x c.in-And.y c.in-And.is), (sorts_same _ _ _ _ c.deref-in-And.ensures c.deref-in-And-2.ensures (and_same x c.args.e.now c.requires.suits c.in-And.x c.in-And.y c.in-And.is), (suits_same m vs _ _ c.deref-in-And.ensures (and_left m vs c.args.e.now c.in-And.x c.in-And.y c.in-And.is c.requires.suits), (suits_same m vs _ _ c.deref-in-And-2.ensures (and_right m vs c.args.e.now c.in-And.x c.in-And.y c.in-And.is c.requires.suits), c.requires.room)))))
-
-pub emit_expression-returns-in-And : goal.emit_expression-returns-in-And
-emit_expression-returns-in-And t c =
-    let x : Setting = setting c.args.checked.now c.args.locals.now c.args.frame in
-    let w = c.emit_and.ensures.walked in
-    let emitted : IfOk c.emit_and.result (λ r. Emits x (typed (And (typed_expr c.in-And.x.value) (typed_expr c.in-And.y.value)) (sort c.in-And.x.value.ty) c.in-And.x.value.span) c.args.b.now c.emit_and.new.b r.0) = rw (c.deref-in-And.ensures, c.deref-in-And-2.ensures) at c.emit_and.ensures.emitted in
-    record { kept = w.kept; emitted = ok_map _ _ _ (λ (r : Reg) q. and_walked x c.args.e.now c.requires.suits c.in-And.x c.in-And.y _ _ r.0 c.in-And.is q) emitted; shaped = w.shaped; kinds = w.kinds }
-
-pub emit_expression-emit_or-requires : goal.emit_expression-emit_or-requires
-emit_expression-emit_or-requires t c =
-    let m : TypedModule = typed_module c.args.checked.now in
-    let vs : List Variable = map variable c.args.locals.now in
-    let x : Setting = setting c.args.checked.now c.args.locals.now c.args.frame in
-    let h0 = or_weight c.args.e.now c.in-Or.x c.in-Or.y c.in-Or.is in
-    let h1 = same_weight _ _ c.deref-in-Or.ensures in
-    let h2 = same_weight _ _ c.deref-in-Or-2.ensures in
-    (omega arith, (simple_same _ _ c.deref-in-Or.ensures (or_simple x c.args.e.now c.requires.suits c.in-Or.x c.in-Or.y c.in-Or.is), (sorts_same _ _ _ _ c.deref-in-Or.ensures c.deref-in-Or-2.ensures (or_same x c.args.e.now c.requires.suits c.in-Or.x c.in-Or.y c.in-Or.is), (suits_same m vs _ _ c.deref-in-Or.ensures (or_left m vs c.args.e.now c.in-Or.x c.in-Or.y c.in-Or.is c.requires.suits), (suits_same m vs _ _ c.deref-in-Or-2.ensures (or_right m vs c.args.e.now c.in-Or.x c.in-Or.y c.in-Or.is c.requires.suits), c.requires.room)))))
-
-pub emit_expression-returns-in-Or : goal.emit_expression-returns-in-Or
-emit_expression-returns-in-Or t c =
-    let x : Setting = setting c.args.checked.now c.args.locals.now c.args.frame in
-    let w = c.emit_or.ensures.walked in
-    let emitted : IfOk c.emit_or.result (λ r. Emits x (typed (Or (typed_expr c.in-Or.x.value) (typed_expr c.in-Or.y.value)) (sort c.in-Or.x.value.ty) c.in-Or.x.value.span) c.args.b.now c.emit_or.new.b r.0) = rw (c.deref-in-Or.ensures, c.deref-in-Or-2.ensures) at c.emit_or.ensures.emitted in
-    record { kept = w.kept; emitted = ok_map _ _ _ (λ (r : Reg) q. or_walked x c.args.e.now c.requires.suits c.in-Or.x c.in-Or.y _ _ r.0 c.in-Or.is q) emitted; shaped = w.shaped; kinds = w.kinds }
-
 pub emit_expression-emit_choice-requires : goal.emit_expression-emit_choice-requires
 emit_expression-emit_choice-requires t c =
     let m : TypedModule = typed_module c.args.checked.now in
     let vs : List Variable = map variable c.args.locals.now in
+    let h0 = and_weight c.args.e.now c.in-And.x c.in-And.y c.in-And.is in
+    let h1 = same_weight _ _ c.deref-in-And.ensures in
+    let h2 = same_weight _ _ c.deref-in-And-2.ensures in
+    (omega arith, (rw (c.deref-in-And.ensures, c.deref-in-And-2.ensures) (and_asked m vs c.args.e.now c.in-And.x c.in-And.y c.in-And.is c.requires.suits), c.requires.room))
+
+pub emit_expression-returns-in-And : goal.emit_expression-returns-in-And
+emit_expression-returns-in-And t c =
     let x : Setting = setting c.args.checked.now c.args.locals.now c.args.frame in
+    let w = c.emit_choice.ensures.walked in
+    let emitted : IfOk c.emit_choice.result (λ r. EmitsChoice x (sort c.args.e.now.ty) (typed_expr c.in-And.x.value) (Some (typed_expr c.in-And.y.value)) None c.args.b.now c.emit_choice.new.b r.0) = rw (c.deref-in-And.ensures, c.deref-in-And-2.ensures) at c.emit_choice.ensures.emitted in
+    record { kept = w.kept; emitted = ok_map _ _ _ (λ (r : Reg) q. emits_as x c.args.e.now (And (typed_expr c.in-And.x.value) (typed_expr c.in-And.y.value)) (sort c.args.e.now.ty) _ _ r.0 (is_and c.args.e.now c.in-And.x c.in-And.y c.in-And.is) refl q) emitted; shaped = w.shaped; kinds = w.kinds }
+
+pub emit_expression-emit_choice-requires-in-Or : goal.emit_expression-emit_choice-requires-in-Or
+emit_expression-emit_choice-requires-in-Or t c =
+    let m : TypedModule = typed_module c.args.checked.now in
+    let vs : List Variable = map variable c.args.locals.now in
+    let h0 = or_weight c.args.e.now c.in-Or.x c.in-Or.y c.in-Or.is in
+    let h1 = same_weight _ _ c.deref-in-Or.ensures in
+    let h2 = same_weight _ _ c.deref-in-Or-2.ensures in
+    (omega arith, (rw (c.deref-in-Or.ensures, c.deref-in-Or-2.ensures) (or_asked m vs c.args.e.now c.in-Or.x c.in-Or.y c.in-Or.is c.requires.suits), c.requires.room))
+
+pub emit_expression-returns-in-Or : goal.emit_expression-returns-in-Or
+emit_expression-returns-in-Or t c =
+    let x : Setting = setting c.args.checked.now c.args.locals.now c.args.frame in
+    let w = c.emit_choice-in-Or.ensures.walked in
+    let emitted : IfOk c.emit_choice-in-Or.result (λ r. EmitsChoice x (sort c.args.e.now.ty) (typed_expr c.in-Or.x.value) None (Some (typed_expr c.in-Or.y.value)) c.args.b.now c.emit_choice-in-Or.new.b r.0) = rw (c.deref-in-Or.ensures, c.deref-in-Or-2.ensures) at c.emit_choice-in-Or.ensures.emitted in
+    record { kept = w.kept; emitted = ok_map _ _ _ (λ (r : Reg) q. emits_as x c.args.e.now (Or (typed_expr c.in-Or.x.value) (typed_expr c.in-Or.y.value)) (sort c.args.e.now.ty) _ _ r.0 (is_or c.args.e.now c.in-Or.x c.in-Or.y c.in-Or.is) refl q) emitted; shaped = w.shaped; kinds = w.kinds }
+
+pub emit_expression-emit_choice-requires-in-Cond : goal.emit_expression-emit_choice-requires-in-Cond
+emit_expression-emit_choice-requires-in-Cond t c =
+    let m : TypedModule = typed_module c.args.checked.now in
+    let vs : List Variable = map variable c.args.locals.now in
     let h0 = cond_weight c.args.e.now c.in-Cond.x c.in-Cond.test c.in-Cond.y c.in-Cond.is in
     let h1 = same_weight _ _ c.deref-in-Cond.ensures in
     let h2 = same_weight _ _ c.deref-in-Cond-2.ensures in
     let h3 = same_weight _ _ c.deref-in-Cond-3.ensures in
-    (omega arith, (simple_same _ _ c.deref-in-Cond.ensures (cond_simple x c.args.e.now c.requires.suits c.in-Cond.x c.in-Cond.test c.in-Cond.y c.in-Cond.is), (sorts_same _ _ _ _ c.deref-in-Cond.ensures c.deref-in-Cond-3.ensures (cond_same x c.args.e.now c.requires.suits c.in-Cond.x c.in-Cond.test c.in-Cond.y c.in-Cond.is), (sort_same _ _ _ c.deref-in-Cond-2.ensures (cond_flag x c.args.e.now c.requires.suits c.in-Cond.x c.in-Cond.test c.in-Cond.y c.in-Cond.is), (suits_same m vs _ _ c.deref-in-Cond.ensures (cond_first m vs c.args.e.now c.in-Cond.x c.in-Cond.test c.in-Cond.y c.in-Cond.is c.requires.suits), (suits_same m vs _ _ c.deref-in-Cond-2.ensures (cond_test m vs c.args.e.now c.in-Cond.x c.in-Cond.test c.in-Cond.y c.in-Cond.is c.requires.suits), (suits_same m vs _ _ c.deref-in-Cond-3.ensures (cond_second m vs c.args.e.now c.in-Cond.x c.in-Cond.test c.in-Cond.y c.in-Cond.is c.requires.suits), c.requires.room)))))))
+    (omega arith, (rw (c.deref-in-Cond.ensures, c.deref-in-Cond-2.ensures, c.deref-in-Cond-3.ensures) (cond_asked m vs c.args.e.now c.in-Cond.x c.in-Cond.test c.in-Cond.y c.in-Cond.is c.requires.suits), c.requires.room))
 
 pub emit_expression-returns-in-Cond : goal.emit_expression-returns-in-Cond
 emit_expression-returns-in-Cond t c =
     let x : Setting = setting c.args.checked.now c.args.locals.now c.args.frame in
-    let w = c.emit_choice.ensures.walked in
-    let emitted : IfOk c.emit_choice.result (λ r. Emits x (typed (Cond (typed_expr c.in-Cond.x.value) (typed_expr c.in-Cond.test.value) (typed_expr c.in-Cond.y.value)) (sort c.in-Cond.x.value.ty) c.in-Cond.x.value.span) c.args.b.now c.emit_choice.new.b r.0) = rw (c.deref-in-Cond.ensures, c.deref-in-Cond-2.ensures, c.deref-in-Cond-3.ensures) at c.emit_choice.ensures.emitted in
-    record { kept = w.kept; emitted = ok_map _ _ _ (λ (r : Reg) q. cond_walked x c.args.e.now c.requires.suits c.in-Cond.x c.in-Cond.test c.in-Cond.y _ _ r.0 c.in-Cond.is q) emitted; shaped = w.shaped; kinds = w.kinds }
+    let w = c.emit_choice-in-Cond.ensures.walked in
+    let emitted : IfOk c.emit_choice-in-Cond.result (λ r. EmitsChoice x (sort c.args.e.now.ty) (typed_expr c.in-Cond.test.value) (Some (typed_expr c.in-Cond.x.value)) (Some (typed_expr c.in-Cond.y.value)) c.args.b.now c.emit_choice-in-Cond.new.b r.0) = rw (c.deref-in-Cond.ensures, c.deref-in-Cond-2.ensures, c.deref-in-Cond-3.ensures) at c.emit_choice-in-Cond.ensures.emitted in
+    record { kept = w.kept; emitted = ok_map _ _ _ (λ (r : Reg) q. emits_as x c.args.e.now (Cond (typed_expr c.in-Cond.x.value) (typed_expr c.in-Cond.test.value) (typed_expr c.in-Cond.y.value)) (sort c.args.e.now.ty) _ _ r.0 (is_cond c.args.e.now c.in-Cond.x c.in-Cond.test c.in-Cond.y c.in-Cond.is) refl q) emitted; shaped = w.shaped; kinds = w.kinds }
 
 pub emit_expression-emit_arguments-requires : goal.emit_expression-emit_arguments-requires
 emit_expression-emit_arguments-requires t c =
@@ -362,251 +272,133 @@ emit_arguments-returns t c =
     let x : Setting = setting c.args.checked.now c.args.locals.now c.args.frame in
     record { walked = c.loop-e.invariant.walks; emitted = passing_ends x c.args.args.now c.loop-e.e-index c.args.b.now c.loop-e.b c.loop-e.regs c.loop-e-test.false c.loop-e.invariant }
 
-pub emit_and-emit_expression-requires : goal.emit_and-emit_expression-requires
-emit_and-emit_expression-requires t c =
-    (omega arith, (c.requires.left, c.requires.room))
-
-pub emit_and-emit_expression-requires-2 : goal.emit_and-emit_expression-requires-2
-emit_and-emit_expression-requires-2 t c =
-    (omega arith, (c.requires.right, (room_on _ _ _ (extends_trans _ _ _ c.in_ok-x.ensures.kept (extends_trans _ _ _ c.in_ok-condition.ensures.kept c.in_ok-choice.ensures.kept)) c.requires.room)))
-
-pub emit_and-returns-in_err-x : goal.emit_and-returns-in_err-x
-emit_and-returns-in_err-x t c =
-    let m : TypedModule = typed_module c.args.checked.now in
-    let w1 = walks_if m _ _ c.in_err-x.ensures.kept c.in_err-x.ensures.shaped c.in_err-x.ensures.kinds in
-    record { walked = w1; emitted = search rules }
-
-pub emit_and-returns-in_err-condition : goal.emit_and-returns-in_err-condition
-emit_and-returns-in_err-condition t c =
-    let m : TypedModule = typed_module c.args.checked.now in
-    let w1 = walks_if m _ _ c.in_ok-x.ensures.kept c.in_ok-x.ensures.shaped c.in_ok-x.ensures.kinds in
-    let w2 = then_by m _ _ _ w1 c.in_err-condition.ensures.kept c.in_err-condition.ensures.shaped c.in_err-condition.ensures.kinds in
-    record { walked = w2; emitted = search rules }
-
-pub emit_and-returns-in_err-choice : goal.emit_and-returns-in_err-choice
-emit_and-returns-in_err-choice t c =
-    let m : TypedModule = typed_module c.args.checked.now in
-    let w1 = walks_if m _ _ c.in_ok-x.ensures.kept c.in_ok-x.ensures.shaped c.in_ok-x.ensures.kinds in
-    let w2 = then_by m _ _ _ w1 c.in_ok-condition.ensures.kept c.in_ok-condition.ensures.shaped c.in_ok-condition.ensures.kinds in
-    let w3 = then_by m _ _ _ w2 c.in_err-choice.ensures.kept c.in_err-choice.ensures.shaped c.in_err-choice.ensures.kinds in
-    record { walked = w3; emitted = search rules }
-
-pub emit_and-returns-in_err-y : goal.emit_and-returns-in_err-y
-emit_and-returns-in_err-y t c =
-    let m : TypedModule = typed_module c.args.checked.now in
-    let w1 = walks_if m _ _ c.in_ok-x.ensures.kept c.in_ok-x.ensures.shaped c.in_ok-x.ensures.kinds in
-    let w2 = then_by m _ _ _ w1 c.in_ok-condition.ensures.kept c.in_ok-condition.ensures.shaped c.in_ok-condition.ensures.kinds in
-    let w3 = then_by m _ _ _ w2 c.in_ok-choice.ensures.kept c.in_ok-choice.ensures.shaped c.in_ok-choice.ensures.kinds in
-    let w4 = then_if m _ _ _ w3 c.in_err-y.ensures.kept c.in_err-y.ensures.shaped c.in_err-y.ensures.kinds in
-    record { walked = w4; emitted = search rules }
-
-pub emit_and-returns-in_err-end : goal.emit_and-returns-in_err-end
-emit_and-returns-in_err-end t c =
-    let m : TypedModule = typed_module c.args.checked.now in
-    let x : Setting = setting c.args.checked.now c.args.locals.now c.args.frame in
-    let w1 = walks_if m _ _ c.in_ok-x.ensures.kept c.in_ok-x.ensures.shaped c.in_ok-x.ensures.kinds in
-    let w2 = then_by m _ _ _ w1 c.in_ok-condition.ensures.kept c.in_ok-condition.ensures.shaped c.in_ok-condition.ensures.kinds in
-    let w3 = then_by m _ _ _ w2 c.in_ok-choice.ensures.kept c.in_ok-choice.ensures.shaped c.in_ok-choice.ensures.kinds in
-    let w4 = then_if m _ _ _ w3 c.in_ok-y.ensures.kept c.in_ok-y.ensures.shaped c.in_ok-y.ensures.kinds in
-    let w5 = turned m c.register_type.result _ _ _ _ _ c.in_ok-choice.choice.target c.in_ok-y.y _ _ w4 c.in_ok-choice.ensures.opens c.in_ok-y.ensures.kept (part_type x c.args.right.now (sort c.args.left.now.ty) c.register_type.result _ _ _ c.requires.same c.register_type.ensures c.in_ok-y.ensures.emitted) c.in_err-end.ensures.kept c.in_err-end.ensures.shaped c.in_err-end.ensures.kinds in
-    record { walked = w5; emitted = search rules }
-
-pub emit_and-meet-requires : goal.emit_and-meet-requires
-emit_and-meet-requires t c =
-    let r = meet_ready _ _ _ _ _ _ _ _ _ _ _ _ _ c.in_ok-choice.ensures.opens c.in_ok-y.ensures.kept c.in_ok-end.ensures.brings c.here-second.ensures (extends_refl _) in
-    record { test_open = r.0; end_open = r.1.0; first = r.1.1.0; end = r.1.1.1.0; second = r.1.1.1.1.0; here = r.1.1.1.1.1 }
-
-pub emit_and-returns-in_err-meet : goal.emit_and-returns-in_err-meet
-emit_and-returns-in_err-meet t c =
-    let m : TypedModule = typed_module c.args.checked.now in
-    let x : Setting = setting c.args.checked.now c.args.locals.now c.args.frame in
-    let w1 = walks_if m _ _ c.in_ok-x.ensures.kept c.in_ok-x.ensures.shaped c.in_ok-x.ensures.kinds in
-    let w2 = then_by m _ _ _ w1 c.in_ok-condition.ensures.kept c.in_ok-condition.ensures.shaped c.in_ok-condition.ensures.kinds in
-    let w3 = then_by m _ _ _ w2 c.in_ok-choice.ensures.kept c.in_ok-choice.ensures.shaped c.in_ok-choice.ensures.kinds in
-    let w4 = then_if m _ _ _ w3 c.in_ok-y.ensures.kept c.in_ok-y.ensures.shaped c.in_ok-y.ensures.kinds in
-    let w5 = turned m c.register_type.result _ _ _ _ _ c.in_ok-choice.choice.target c.in_ok-y.y _ _ w4 c.in_ok-choice.ensures.opens c.in_ok-y.ensures.kept (part_type x c.args.right.now (sort c.args.left.now.ty) c.register_type.result _ _ _ c.requires.same c.register_type.ensures c.in_ok-y.ensures.emitted) c.in_ok-end.ensures.kept c.in_ok-end.ensures.shaped c.in_ok-end.ensures.kinds in
-    let e = c.in_err-meet.ensures.kept in
-    let w = met m c.register_type.result _ _ _ _ _ c.in_ok-choice.choice.target c.in_ok-x.x c.in_ok-condition.condition _ _ w5 c.in_ok-choice.ensures.opens (extends_trans _ _ _ c.in_ok-y.ensures.kept c.in_ok-end.ensures.kept) (type_kept _ _ _ _ (extends_trans _ _ _ c.in_ok-condition.ensures.kept (extends_trans _ _ _ c.in_ok-choice.ensures.kept (extends_trans _ _ _ c.in_ok-y.ensures.kept c.in_ok-end.ensures.kept))) (part_type x c.args.left.now (sort c.args.left.now.ty) c.register_type.result _ _ _ refl c.register_type.ensures c.in_ok-x.ensures.emitted)) (type_kept _ _ _ _ (extends_trans _ _ _ c.in_ok-choice.ensures.kept (extends_trans _ _ _ c.in_ok-y.ensures.kept c.in_ok-end.ensures.kept)) c.in_ok-condition.ensures.found.type) (extends_trans _ _ _ w5.kept e) e.blocks_grow c.meet.ensures.shaped c.meet.ensures.kinds in
-    record { walked = w; emitted = search rules }
-
-pub emit_and-returns : goal.emit_and-returns
-emit_and-returns t c =
-    let m : TypedModule = typed_module c.args.checked.now in
-    let x : Setting = setting c.args.checked.now c.args.locals.now c.args.frame in
-    let w1 = walks_if m _ _ c.in_ok-x.ensures.kept c.in_ok-x.ensures.shaped c.in_ok-x.ensures.kinds in
-    let w2 = then_by m _ _ _ w1 c.in_ok-condition.ensures.kept c.in_ok-condition.ensures.shaped c.in_ok-condition.ensures.kinds in
-    let w3 = then_by m _ _ _ w2 c.in_ok-choice.ensures.kept c.in_ok-choice.ensures.shaped c.in_ok-choice.ensures.kinds in
-    let w4 = then_if m _ _ _ w3 c.in_ok-y.ensures.kept c.in_ok-y.ensures.shaped c.in_ok-y.ensures.kinds in
-    let w5 = turned m c.register_type.result _ _ _ _ _ c.in_ok-choice.choice.target c.in_ok-y.y _ _ w4 c.in_ok-choice.ensures.opens c.in_ok-y.ensures.kept (part_type x c.args.right.now (sort c.args.left.now.ty) c.register_type.result _ _ _ c.requires.same c.register_type.ensures c.in_ok-y.ensures.emitted) c.in_ok-end.ensures.kept c.in_ok-end.ensures.shaped c.in_ok-end.ensures.kinds in
-    let all : Emits x (typed (And (typed_expr c.args.left.now) (typed_expr c.args.right.now)) (sort c.args.left.now.ty) c.args.left.now.span) c.args.b.now c.meet.new.b c.in_ok-choice.choice.target.0 = and_made x c.args.left.now c.args.right.now c.requires.same _ _ _ _ _ _ _ _ _ _ _ _ _ _ _ _ c.register_type.ensures c.requires.room c.in_ok-x.ensures.emitted c.in_ok-condition.ensures.found c.in_ok-choice.ensures.opens c.in_ok-y.ensures.emitted c.in_ok-end.ensures.brings c.here-second.ensures c.in_ok-meet.ensures.meets in
-    let w = met m c.register_type.result _ _ _ _ _ c.in_ok-choice.choice.target c.in_ok-x.x c.in_ok-condition.condition _ _ w5 c.in_ok-choice.ensures.opens (extends_trans _ _ _ c.in_ok-y.ensures.kept c.in_ok-end.ensures.kept) (type_kept _ _ _ _ (extends_trans _ _ _ c.in_ok-condition.ensures.kept (extends_trans _ _ _ c.in_ok-choice.ensures.kept (extends_trans _ _ _ c.in_ok-y.ensures.kept c.in_ok-end.ensures.kept))) (part_type x c.args.left.now (sort c.args.left.now.ty) c.register_type.result _ _ _ refl c.register_type.ensures c.in_ok-x.ensures.emitted)) (type_kept _ _ _ _ (extends_trans _ _ _ c.in_ok-choice.ensures.kept (extends_trans _ _ _ c.in_ok-y.ensures.kept c.in_ok-end.ensures.kept)) c.in_ok-condition.ensures.found.type) (all.extends) (meets_grow _ _ _ _ _ _ _ _ _ c.in_ok-meet.ensures.meets) c.meet.ensures.shaped c.meet.ensures.kinds in
-    record { walked = w; emitted = all }
-
-pub emit_or-emit_expression-requires : goal.emit_or-emit_expression-requires
-emit_or-emit_expression-requires t c =
-    (omega arith, (c.requires.left, c.requires.room))
-
-pub emit_or-emit_expression-requires-2 : goal.emit_or-emit_expression-requires-2
-emit_or-emit_expression-requires-2 t c =
-    (omega arith, (c.requires.right, (room_on _ _ _ (extends_trans _ _ _ c.in_ok-x.ensures.kept (extends_trans _ _ _ c.in_ok-condition.ensures.kept (extends_trans _ _ _ c.in_ok-choice.ensures.kept c.in_ok-end.ensures.kept))) c.requires.room)))
-
-pub emit_or-returns-in_err-x : goal.emit_or-returns-in_err-x
-emit_or-returns-in_err-x t c =
-    let m : TypedModule = typed_module c.args.checked.now in
-    let w1 = walks_if m _ _ c.in_err-x.ensures.kept c.in_err-x.ensures.shaped c.in_err-x.ensures.kinds in
-    record { walked = w1; emitted = search rules }
-
-pub emit_or-returns-in_err-condition : goal.emit_or-returns-in_err-condition
-emit_or-returns-in_err-condition t c =
-    let m : TypedModule = typed_module c.args.checked.now in
-    let w1 = walks_if m _ _ c.in_ok-x.ensures.kept c.in_ok-x.ensures.shaped c.in_ok-x.ensures.kinds in
-    let w2 = then_by m _ _ _ w1 c.in_err-condition.ensures.kept c.in_err-condition.ensures.shaped c.in_err-condition.ensures.kinds in
-    record { walked = w2; emitted = search rules }
-
-pub emit_or-returns-in_err-choice : goal.emit_or-returns-in_err-choice
-emit_or-returns-in_err-choice t c =
-    let m : TypedModule = typed_module c.args.checked.now in
-    let w1 = walks_if m _ _ c.in_ok-x.ensures.kept c.in_ok-x.ensures.shaped c.in_ok-x.ensures.kinds in
-    let w2 = then_by m _ _ _ w1 c.in_ok-condition.ensures.kept c.in_ok-condition.ensures.shaped c.in_ok-condition.ensures.kinds in
-    let w3 = then_by m _ _ _ w2 c.in_err-choice.ensures.kept c.in_err-choice.ensures.shaped c.in_err-choice.ensures.kinds in
-    record { walked = w3; emitted = search rules }
-
-pub emit_or-returns-in_err-end : goal.emit_or-returns-in_err-end
-emit_or-returns-in_err-end t c =
-    let m : TypedModule = typed_module c.args.checked.now in
-    let x : Setting = setting c.args.checked.now c.args.locals.now c.args.frame in
-    let w1 = walks_if m _ _ c.in_ok-x.ensures.kept c.in_ok-x.ensures.shaped c.in_ok-x.ensures.kinds in
-    let w2 = then_by m _ _ _ w1 c.in_ok-condition.ensures.kept c.in_ok-condition.ensures.shaped c.in_ok-condition.ensures.kinds in
-    let w3 = then_by m _ _ _ w2 c.in_ok-choice.ensures.kept c.in_ok-choice.ensures.shaped c.in_ok-choice.ensures.kinds in
-    let w4 = turned m c.register_type.result _ _ _ _ _ c.in_ok-choice.choice.target c.in_ok-x.x _ _ w3 c.in_ok-choice.ensures.opens (extends_refl _) (type_kept _ _ _ _ (extends_trans _ _ _ c.in_ok-condition.ensures.kept c.in_ok-choice.ensures.kept) (part_type x c.args.left.now (sort c.args.left.now.ty) c.register_type.result _ _ _ refl c.register_type.ensures c.in_ok-x.ensures.emitted)) c.in_err-end.ensures.kept c.in_err-end.ensures.shaped c.in_err-end.ensures.kinds in
-    record { walked = w4; emitted = search rules }
-
-pub emit_or-returns-in_err-y : goal.emit_or-returns-in_err-y
-emit_or-returns-in_err-y t c =
-    let m : TypedModule = typed_module c.args.checked.now in
-    let x : Setting = setting c.args.checked.now c.args.locals.now c.args.frame in
-    let w1 = walks_if m _ _ c.in_ok-x.ensures.kept c.in_ok-x.ensures.shaped c.in_ok-x.ensures.kinds in
-    let w2 = then_by m _ _ _ w1 c.in_ok-condition.ensures.kept c.in_ok-condition.ensures.shaped c.in_ok-condition.ensures.kinds in
-    let w3 = then_by m _ _ _ w2 c.in_ok-choice.ensures.kept c.in_ok-choice.ensures.shaped c.in_ok-choice.ensures.kinds in
-    let w4 = turned m c.register_type.result _ _ _ _ _ c.in_ok-choice.choice.target c.in_ok-x.x _ _ w3 c.in_ok-choice.ensures.opens (extends_refl _) (type_kept _ _ _ _ (extends_trans _ _ _ c.in_ok-condition.ensures.kept c.in_ok-choice.ensures.kept) (part_type x c.args.left.now (sort c.args.left.now.ty) c.register_type.result _ _ _ refl c.register_type.ensures c.in_ok-x.ensures.emitted)) c.in_ok-end.ensures.kept c.in_ok-end.ensures.shaped c.in_ok-end.ensures.kinds in
-    let w5 = then_if m _ _ _ w4 c.in_err-y.ensures.kept c.in_err-y.ensures.shaped c.in_err-y.ensures.kinds in
-    record { walked = w5; emitted = search rules }
-
-pub emit_or-meet-requires : goal.emit_or-meet-requires
-emit_or-meet-requires t c =
-    let r = meet_ready _ _ _ _ _ _ _ _ _ _ _ _ _ c.in_ok-choice.ensures.opens (extends_refl _) c.in_ok-end.ensures.brings c.here-second.ensures c.in_ok-y.ensures.kept in
-    record { test_open = r.0; end_open = r.1.0; first = r.1.1.0; end = r.1.1.1.0; second = r.1.1.1.1.0; here = r.1.1.1.1.1 }
-
-pub emit_or-returns-in_err-meet : goal.emit_or-returns-in_err-meet
-emit_or-returns-in_err-meet t c =
-    let m : TypedModule = typed_module c.args.checked.now in
-    let x : Setting = setting c.args.checked.now c.args.locals.now c.args.frame in
-    let w1 = walks_if m _ _ c.in_ok-x.ensures.kept c.in_ok-x.ensures.shaped c.in_ok-x.ensures.kinds in
-    let w2 = then_by m _ _ _ w1 c.in_ok-condition.ensures.kept c.in_ok-condition.ensures.shaped c.in_ok-condition.ensures.kinds in
-    let w3 = then_by m _ _ _ w2 c.in_ok-choice.ensures.kept c.in_ok-choice.ensures.shaped c.in_ok-choice.ensures.kinds in
-    let w4 = turned m c.register_type.result _ _ _ _ _ c.in_ok-choice.choice.target c.in_ok-x.x _ _ w3 c.in_ok-choice.ensures.opens (extends_refl _) (type_kept _ _ _ _ (extends_trans _ _ _ c.in_ok-condition.ensures.kept c.in_ok-choice.ensures.kept) (part_type x c.args.left.now (sort c.args.left.now.ty) c.register_type.result _ _ _ refl c.register_type.ensures c.in_ok-x.ensures.emitted)) c.in_ok-end.ensures.kept c.in_ok-end.ensures.shaped c.in_ok-end.ensures.kinds in
-    let w5 = then_if m _ _ _ w4 c.in_ok-y.ensures.kept c.in_ok-y.ensures.shaped c.in_ok-y.ensures.kinds in
-    let e = c.in_err-meet.ensures.kept in
-    let w = met m c.register_type.result _ _ _ _ _ c.in_ok-choice.choice.target c.in_ok-y.y c.in_ok-condition.condition _ _ w5 c.in_ok-choice.ensures.opens (extends_trans _ _ _ c.in_ok-end.ensures.kept c.in_ok-y.ensures.kept) (part_type x c.args.right.now (sort c.args.left.now.ty) c.register_type.result _ _ _ c.requires.same c.register_type.ensures c.in_ok-y.ensures.emitted) (type_kept _ _ _ _ (extends_trans _ _ _ c.in_ok-choice.ensures.kept (extends_trans _ _ _ c.in_ok-end.ensures.kept c.in_ok-y.ensures.kept)) c.in_ok-condition.ensures.found.type) (extends_trans _ _ _ w5.kept e) e.blocks_grow c.meet.ensures.shaped c.meet.ensures.kinds in
-    record { walked = w; emitted = search rules }
-
-pub emit_or-returns : goal.emit_or-returns
-emit_or-returns t c =
-    let m : TypedModule = typed_module c.args.checked.now in
-    let x : Setting = setting c.args.checked.now c.args.locals.now c.args.frame in
-    let w1 = walks_if m _ _ c.in_ok-x.ensures.kept c.in_ok-x.ensures.shaped c.in_ok-x.ensures.kinds in
-    let w2 = then_by m _ _ _ w1 c.in_ok-condition.ensures.kept c.in_ok-condition.ensures.shaped c.in_ok-condition.ensures.kinds in
-    let w3 = then_by m _ _ _ w2 c.in_ok-choice.ensures.kept c.in_ok-choice.ensures.shaped c.in_ok-choice.ensures.kinds in
-    let w4 = turned m c.register_type.result _ _ _ _ _ c.in_ok-choice.choice.target c.in_ok-x.x _ _ w3 c.in_ok-choice.ensures.opens (extends_refl _) (type_kept _ _ _ _ (extends_trans _ _ _ c.in_ok-condition.ensures.kept c.in_ok-choice.ensures.kept) (part_type x c.args.left.now (sort c.args.left.now.ty) c.register_type.result _ _ _ refl c.register_type.ensures c.in_ok-x.ensures.emitted)) c.in_ok-end.ensures.kept c.in_ok-end.ensures.shaped c.in_ok-end.ensures.kinds in
-    let w5 = then_if m _ _ _ w4 c.in_ok-y.ensures.kept c.in_ok-y.ensures.shaped c.in_ok-y.ensures.kinds in
-    let all : Emits x (typed (Or (typed_expr c.args.left.now) (typed_expr c.args.right.now)) (sort c.args.left.now.ty) c.args.left.now.span) c.args.b.now c.meet.new.b c.in_ok-choice.choice.target.0 = or_made x c.args.left.now c.args.right.now c.requires.same _ _ _ _ _ _ _ _ _ _ _ _ _ _ _ _ c.register_type.ensures c.requires.room c.in_ok-x.ensures.emitted c.in_ok-condition.ensures.found c.in_ok-choice.ensures.opens c.in_ok-end.ensures.brings c.here-second.ensures c.in_ok-y.ensures.emitted c.in_ok-meet.ensures.meets in
-    let w = met m c.register_type.result _ _ _ _ _ c.in_ok-choice.choice.target c.in_ok-y.y c.in_ok-condition.condition _ _ w5 c.in_ok-choice.ensures.opens (extends_trans _ _ _ c.in_ok-end.ensures.kept c.in_ok-y.ensures.kept) (part_type x c.args.right.now (sort c.args.left.now.ty) c.register_type.result _ _ _ c.requires.same c.register_type.ensures c.in_ok-y.ensures.emitted) (type_kept _ _ _ _ (extends_trans _ _ _ c.in_ok-choice.ensures.kept (extends_trans _ _ _ c.in_ok-end.ensures.kept c.in_ok-y.ensures.kept)) c.in_ok-condition.ensures.found.type) (all.extends) (meets_grow _ _ _ _ _ _ _ _ _ c.in_ok-meet.ensures.meets) c.meet.ensures.shaped c.meet.ensures.kinds in
-    record { walked = w; emitted = all }
-
 pub emit_choice-emit_expression-requires : goal.emit_choice-emit_expression-requires
 emit_choice-emit_expression-requires t c =
-    (omega arith, (c.requires.test, c.requires.room))
+    (omega arith, (c.requires.suits.test_suits, c.requires.room))
 
-pub emit_choice-emit_expression-requires-2 : goal.emit_choice-emit_expression-requires-2
-emit_choice-emit_expression-requires-2 t c =
-    (omega arith, (c.requires.left, (room_on _ _ _ (extends_trans _ _ _ c.in_ok-condition.ensures.kept c.in_ok-choice.ensures.kept) c.requires.room)))
-
-pub emit_choice-emit_expression-requires-3 : goal.emit_choice-emit_expression-requires-3
-emit_choice-emit_expression-requires-3 t c =
-    (omega arith, (c.requires.right, (room_on _ _ _ (extends_trans _ _ _ c.in_ok-condition.ensures.kept (extends_trans _ _ _ c.in_ok-choice.ensures.kept (extends_trans _ _ _ c.in_ok-x.ensures.kept c.in_ok-end.ensures.kept))) c.requires.room)))
-
-pub emit_choice-returns-in_err-condition : goal.emit_choice-returns-in_err-condition
-emit_choice-returns-in_err-condition t c =
-    let m : TypedModule = typed_module c.args.checked.now in
-    let w1 = walks_if m _ _ c.in_err-condition.ensures.kept c.in_err-condition.ensures.shaped c.in_err-condition.ensures.kinds in
-    record { walked = w1; emitted = search rules }
-
-pub emit_choice-returns-in_err-choice : goal.emit_choice-returns-in_err-choice
-emit_choice-returns-in_err-choice t c =
-    let m : TypedModule = typed_module c.args.checked.now in
-    let w1 = walks_if m _ _ c.in_ok-condition.ensures.kept c.in_ok-condition.ensures.shaped c.in_ok-condition.ensures.kinds in
-    let w2 = then_by m _ _ _ w1 c.in_err-choice.ensures.kept c.in_err-choice.ensures.shaped c.in_err-choice.ensures.kinds in
-    record { walked = w2; emitted = search rules }
-
-pub emit_choice-returns-in_err-x : goal.emit_choice-returns-in_err-x
-emit_choice-returns-in_err-x t c =
-    let m : TypedModule = typed_module c.args.checked.now in
-    let w1 = walks_if m _ _ c.in_ok-condition.ensures.kept c.in_ok-condition.ensures.shaped c.in_ok-condition.ensures.kinds in
-    let w2 = then_by m _ _ _ w1 c.in_ok-choice.ensures.kept c.in_ok-choice.ensures.shaped c.in_ok-choice.ensures.kinds in
-    let w3 = then_if m _ _ _ w2 c.in_err-x.ensures.kept c.in_err-x.ensures.shaped c.in_err-x.ensures.kinds in
-    record { walked = w3; emitted = search rules }
-
-pub emit_choice-returns-in_err-end : goal.emit_choice-returns-in_err-end
-emit_choice-returns-in_err-end t c =
-    let m : TypedModule = typed_module c.args.checked.now in
+pub emit_choice-emit_truth-requires : goal.emit_choice-emit_truth-requires
+emit_choice-emit_truth-requires t c =
     let x : Setting = setting c.args.checked.now c.args.locals.now c.args.frame in
-    let w1 = walks_if m _ _ c.in_ok-condition.ensures.kept c.in_ok-condition.ensures.shaped c.in_ok-condition.ensures.kinds in
-    let w2 = then_by m _ _ _ w1 c.in_ok-choice.ensures.kept c.in_ok-choice.ensures.shaped c.in_ok-choice.ensures.kinds in
-    let w3 = then_if m _ _ _ w2 c.in_ok-x.ensures.kept c.in_ok-x.ensures.shaped c.in_ok-x.ensures.kinds in
-    let w4 = turned m c.register_type.result _ _ _ _ _ c.in_ok-choice.choice.target c.in_ok-x.x _ _ w3 c.in_ok-choice.ensures.opens c.in_ok-x.ensures.kept (part_type x c.args.left.now (sort c.args.left.now.ty) c.register_type.result _ _ _ refl c.register_type.ensures c.in_ok-x.ensures.emitted) c.in_err-end.ensures.kept c.in_err-end.ensures.shaped c.in_err-end.ensures.kinds in
-    record { walked = w4; emitted = search rules }
+    record { written = test_written c.args.test.now c.requires.suits.tested; value = tested_type x c.args.test.now _ _ _ c.in_ok-tested.ensures.emitted }
 
-pub emit_choice-returns-in_err-y : goal.emit_choice-returns-in_err-y
-emit_choice-returns-in_err-y t c =
-    let m : TypedModule = typed_module c.args.checked.now in
-    let x : Setting = setting c.args.checked.now c.args.locals.now c.args.frame in
-    let w1 = walks_if m _ _ c.in_ok-condition.ensures.kept c.in_ok-condition.ensures.shaped c.in_ok-condition.ensures.kinds in
-    let w2 = then_by m _ _ _ w1 c.in_ok-choice.ensures.kept c.in_ok-choice.ensures.shaped c.in_ok-choice.ensures.kinds in
-    let w3 = then_if m _ _ _ w2 c.in_ok-x.ensures.kept c.in_ok-x.ensures.shaped c.in_ok-x.ensures.kinds in
-    let w4 = turned m c.register_type.result _ _ _ _ _ c.in_ok-choice.choice.target c.in_ok-x.x _ _ w3 c.in_ok-choice.ensures.opens c.in_ok-x.ensures.kept (part_type x c.args.left.now (sort c.args.left.now.ty) c.register_type.result _ _ _ refl c.register_type.ensures c.in_ok-x.ensures.emitted) c.in_ok-end.ensures.kept c.in_ok-end.ensures.shaped c.in_ok-end.ensures.kinds in
-    let w5 = then_if m _ _ _ w4 c.in_err-y.ensures.kept c.in_err-y.ensures.shaped c.in_err-y.ensures.kinds in
-    record { walked = w5; emitted = search rules }
+pub emit_choice-emit_arm-requires : goal.emit_choice-emit_arm-requires
+emit_choice-emit_arm-requires t c =
+    (omega arith, (c.requires.suits.body_suits, room_on _ _ _ (extends_trans _ _ _ c.in_ok-tested.ensures.kept (extends_trans _ _ _ c.in_ok-condition.ensures.kept c.in_ok-choice.ensures.kept)) c.requires.room))
+
+pub emit_choice-emit_arm-requires-2 : goal.emit_choice-emit_arm-requires-2
+emit_choice-emit_arm-requires-2 t c =
+    (omega arith, (c.requires.suits.other_suits, room_on _ _ _ (extends_trans _ _ _ c.in_ok-tested.ensures.kept (extends_trans _ _ _ c.in_ok-condition.ensures.kept (extends_trans _ _ _ c.in_ok-choice.ensures.kept (extends_trans _ _ _ c.in_ok-x.ensures.walked.kept c.in_ok-end.ensures.kept)))) c.requires.room))
 
 pub emit_choice-meet-requires : goal.emit_choice-meet-requires
 emit_choice-meet-requires t c =
-    let r = meet_ready _ _ _ _ _ _ _ _ _ _ _ _ _ c.in_ok-choice.ensures.opens c.in_ok-x.ensures.kept c.in_ok-end.ensures.brings c.here-second.ensures c.in_ok-y.ensures.kept in
+    let r = meet_ready _ _ _ _ _ _ _ _ _ _ _ _ _ c.in_ok-choice.ensures.opens c.in_ok-x.ensures.walked.kept c.in_ok-end.ensures.brings c.here-second.ensures c.in_ok-y.ensures.walked.kept in
     record { test_open = r.0; end_open = r.1.0; first = r.1.1.0; end = r.1.1.1.0; second = r.1.1.1.1.0; here = r.1.1.1.1.1 }
 
-pub emit_choice-returns-in_err-meet : goal.emit_choice-returns-in_err-meet
-emit_choice-returns-in_err-meet t c =
+pub emit_choice-returns-in_err-tested-clause-walked : goal.emit_choice-returns-in_err-tested-clause-walked
+emit_choice-returns-in_err-tested-clause-walked t c =
+    let m : TypedModule = typed_module c.args.checked.now in
+    walks_if m _ _ c.in_err-tested.ensures.kept c.in_err-tested.ensures.shaped c.in_err-tested.ensures.kinds
+
+pub emit_choice-returns-in_err-condition-clause-walked : goal.emit_choice-returns-in_err-condition-clause-walked
+emit_choice-returns-in_err-condition-clause-walked t c =
+    let m : TypedModule = typed_module c.args.checked.now in
+    let w1 = walks_if m _ _ c.in_ok-tested.ensures.kept c.in_ok-tested.ensures.shaped c.in_ok-tested.ensures.kinds in
+    then_by m _ _ _ w1 c.in_err-condition.ensures.kept c.in_err-condition.ensures.shaped c.in_err-condition.ensures.kinds
+
+pub emit_choice-returns-in_err-choice-clause-walked : goal.emit_choice-returns-in_err-choice-clause-walked
+emit_choice-returns-in_err-choice-clause-walked t c =
+    let m : TypedModule = typed_module c.args.checked.now in
+    let w1 = walks_if m _ _ c.in_ok-tested.ensures.kept c.in_ok-tested.ensures.shaped c.in_ok-tested.ensures.kinds in
+    let w2 = then_by m _ _ _ w1 c.in_ok-condition.ensures.kept c.in_ok-condition.ensures.shaped c.in_ok-condition.ensures.kinds in
+    then_by m _ _ _ w2 c.in_err-choice.ensures.kept c.in_err-choice.ensures.shaped c.in_err-choice.ensures.kinds
+
+pub emit_choice-returns-in_err-x-clause-walked : goal.emit_choice-returns-in_err-x-clause-walked
+emit_choice-returns-in_err-x-clause-walked t c =
+    let m : TypedModule = typed_module c.args.checked.now in
+    let w1 = walks_if m _ _ c.in_ok-tested.ensures.kept c.in_ok-tested.ensures.shaped c.in_ok-tested.ensures.kinds in
+    let w2 = then_by m _ _ _ w1 c.in_ok-condition.ensures.kept c.in_ok-condition.ensures.shaped c.in_ok-condition.ensures.kinds in
+    let w3 = then_by m _ _ _ w2 c.in_ok-choice.ensures.kept c.in_ok-choice.ensures.shaped c.in_ok-choice.ensures.kinds in
+    walks_trans m _ _ _ w3 c.in_err-x.ensures.walked
+
+pub emit_choice-returns-in_err-end-clause-walked : goal.emit_choice-returns-in_err-end-clause-walked
+emit_choice-returns-in_err-end-clause-walked t c =
     let m : TypedModule = typed_module c.args.checked.now in
     let x : Setting = setting c.args.checked.now c.args.locals.now c.args.frame in
-    let w1 = walks_if m _ _ c.in_ok-condition.ensures.kept c.in_ok-condition.ensures.shaped c.in_ok-condition.ensures.kinds in
-    let w2 = then_by m _ _ _ w1 c.in_ok-choice.ensures.kept c.in_ok-choice.ensures.shaped c.in_ok-choice.ensures.kinds in
-    let w3 = then_if m _ _ _ w2 c.in_ok-x.ensures.kept c.in_ok-x.ensures.shaped c.in_ok-x.ensures.kinds in
-    let w4 = turned m c.register_type.result _ _ _ _ _ c.in_ok-choice.choice.target c.in_ok-x.x _ _ w3 c.in_ok-choice.ensures.opens c.in_ok-x.ensures.kept (part_type x c.args.left.now (sort c.args.left.now.ty) c.register_type.result _ _ _ refl c.register_type.ensures c.in_ok-x.ensures.emitted) c.in_ok-end.ensures.kept c.in_ok-end.ensures.shaped c.in_ok-end.ensures.kinds in
-    let w5 = then_if m _ _ _ w4 c.in_ok-y.ensures.kept c.in_ok-y.ensures.shaped c.in_ok-y.ensures.kinds in
+    let x13 = extends_trans _ _ _ c.in_ok-condition.ensures.kept c.in_ok-choice.ensures.kept in
+    let first = arm_typed x (sort c.args.t.now) c.args.test.now c.register_type.result c.register_type.ensures _ _ _ c.in_ok-tested.ensures.emitted (arm_of c.args.body) _ _ _ c.requires.suits.body_type x13 c.in_ok-x.ensures.emitted in
+    let w1 = walks_if m _ _ c.in_ok-tested.ensures.kept c.in_ok-tested.ensures.shaped c.in_ok-tested.ensures.kinds in
+    let w2 = then_by m _ _ _ w1 c.in_ok-condition.ensures.kept c.in_ok-condition.ensures.shaped c.in_ok-condition.ensures.kinds in
+    let w3 = then_by m _ _ _ w2 c.in_ok-choice.ensures.kept c.in_ok-choice.ensures.shaped c.in_ok-choice.ensures.kinds in
+    let w4 = walks_trans m _ _ _ w3 c.in_ok-x.ensures.walked in
+    turned m c.register_type.result _ _ _ _ _ c.in_ok-choice.choice.target c.in_ok-x.x _ _ w4 c.in_ok-choice.ensures.opens c.in_ok-x.ensures.walked.kept first c.in_err-end.ensures.kept c.in_err-end.ensures.shaped c.in_err-end.ensures.kinds
+
+pub emit_choice-returns-in_err-y-clause-walked : goal.emit_choice-returns-in_err-y-clause-walked
+emit_choice-returns-in_err-y-clause-walked t c =
+    let m : TypedModule = typed_module c.args.checked.now in
+    let x : Setting = setting c.args.checked.now c.args.locals.now c.args.frame in
+    let x13 = extends_trans _ _ _ c.in_ok-condition.ensures.kept c.in_ok-choice.ensures.kept in
+    let first = arm_typed x (sort c.args.t.now) c.args.test.now c.register_type.result c.register_type.ensures _ _ _ c.in_ok-tested.ensures.emitted (arm_of c.args.body) _ _ _ c.requires.suits.body_type x13 c.in_ok-x.ensures.emitted in
+    let w1 = walks_if m _ _ c.in_ok-tested.ensures.kept c.in_ok-tested.ensures.shaped c.in_ok-tested.ensures.kinds in
+    let w2 = then_by m _ _ _ w1 c.in_ok-condition.ensures.kept c.in_ok-condition.ensures.shaped c.in_ok-condition.ensures.kinds in
+    let w3 = then_by m _ _ _ w2 c.in_ok-choice.ensures.kept c.in_ok-choice.ensures.shaped c.in_ok-choice.ensures.kinds in
+    let w4 = walks_trans m _ _ _ w3 c.in_ok-x.ensures.walked in
+    let w5 = turned m c.register_type.result _ _ _ _ _ c.in_ok-choice.choice.target c.in_ok-x.x _ _ w4 c.in_ok-choice.ensures.opens c.in_ok-x.ensures.walked.kept first c.in_ok-end.ensures.kept c.in_ok-end.ensures.shaped c.in_ok-end.ensures.kinds in
+    walks_trans m _ _ _ w5 c.in_err-y.ensures.walked
+
+pub emit_choice-returns-in_err-meet-clause-walked : goal.emit_choice-returns-in_err-meet-clause-walked
+emit_choice-returns-in_err-meet-clause-walked t c =
+    let m : TypedModule = typed_module c.args.checked.now in
+    let x : Setting = setting c.args.checked.now c.args.locals.now c.args.frame in
+    let x13 = extends_trans _ _ _ c.in_ok-condition.ensures.kept c.in_ok-choice.ensures.kept in
+    let first = arm_typed x (sort c.args.t.now) c.args.test.now c.register_type.result c.register_type.ensures _ _ _ c.in_ok-tested.ensures.emitted (arm_of c.args.body) _ _ _ c.requires.suits.body_type x13 c.in_ok-x.ensures.emitted in
+    let x15 = extends_trans _ _ _ x13 (extends_trans _ _ _ c.in_ok-x.ensures.walked.kept c.in_ok-end.ensures.kept) in
+    let second = arm_typed x (sort c.args.t.now) c.args.test.now c.register_type.result c.register_type.ensures _ _ _ c.in_ok-tested.ensures.emitted (arm_of c.args.other) _ _ _ c.requires.suits.other_type x15 c.in_ok-y.ensures.emitted in
+    let w1 = walks_if m _ _ c.in_ok-tested.ensures.kept c.in_ok-tested.ensures.shaped c.in_ok-tested.ensures.kinds in
+    let w2 = then_by m _ _ _ w1 c.in_ok-condition.ensures.kept c.in_ok-condition.ensures.shaped c.in_ok-condition.ensures.kinds in
+    let w3 = then_by m _ _ _ w2 c.in_ok-choice.ensures.kept c.in_ok-choice.ensures.shaped c.in_ok-choice.ensures.kinds in
+    let w4 = walks_trans m _ _ _ w3 c.in_ok-x.ensures.walked in
+    let w5 = turned m c.register_type.result _ _ _ _ _ c.in_ok-choice.choice.target c.in_ok-x.x _ _ w4 c.in_ok-choice.ensures.opens c.in_ok-x.ensures.walked.kept first c.in_ok-end.ensures.kept c.in_ok-end.ensures.shaped c.in_ok-end.ensures.kinds in
+    let w6 = walks_trans m _ _ _ w5 c.in_ok-y.ensures.walked in
+    let to_second = extends_trans _ _ _ c.in_ok-x.ensures.walked.kept (extends_trans _ _ _ c.in_ok-end.ensures.kept c.in_ok-y.ensures.walked.kept) in
     let e = c.in_err-meet.ensures.kept in
-    let w = met m c.register_type.result _ _ _ _ _ c.in_ok-choice.choice.target c.in_ok-y.y c.in_ok-condition.condition _ _ w5 c.in_ok-choice.ensures.opens (extends_trans _ _ _ c.in_ok-x.ensures.kept (extends_trans _ _ _ c.in_ok-end.ensures.kept c.in_ok-y.ensures.kept)) (part_type x c.args.right.now (sort c.args.left.now.ty) c.register_type.result _ _ _ c.requires.same c.register_type.ensures c.in_ok-y.ensures.emitted) (type_kept _ _ _ _ (extends_trans _ _ _ c.in_ok-choice.ensures.kept (extends_trans _ _ _ c.in_ok-x.ensures.kept (extends_trans _ _ _ c.in_ok-end.ensures.kept c.in_ok-y.ensures.kept))) (part_type x c.args.test.now BoolSort rtype.Bool _ _ _ c.requires.flag refl c.in_ok-condition.ensures.emitted)) (extends_trans _ _ _ w5.kept e) e.blocks_grow c.meet.ensures.shaped c.meet.ensures.kinds in
-    record { walked = w; emitted = search rules }
+    met m c.register_type.result _ _ _ _ _ c.in_ok-choice.choice.target c.in_ok-y.y c.in_ok-condition.condition _ _ w6 c.in_ok-choice.ensures.opens to_second second (type_kept _ _ _ _ (extends_trans _ _ _ c.in_ok-choice.ensures.kept to_second) c.in_ok-condition.ensures.found.type) (extends_trans _ _ _ w6.kept e) e.blocks_grow c.meet.ensures.shaped c.meet.ensures.kinds
 
 pub emit_choice-returns : goal.emit_choice-returns
 emit_choice-returns t c =
     let m : TypedModule = typed_module c.args.checked.now in
     let x : Setting = setting c.args.checked.now c.args.locals.now c.args.frame in
-    let w1 = walks_if m _ _ c.in_ok-condition.ensures.kept c.in_ok-condition.ensures.shaped c.in_ok-condition.ensures.kinds in
-    let w2 = then_by m _ _ _ w1 c.in_ok-choice.ensures.kept c.in_ok-choice.ensures.shaped c.in_ok-choice.ensures.kinds in
-    let w3 = then_if m _ _ _ w2 c.in_ok-x.ensures.kept c.in_ok-x.ensures.shaped c.in_ok-x.ensures.kinds in
-    let w4 = turned m c.register_type.result _ _ _ _ _ c.in_ok-choice.choice.target c.in_ok-x.x _ _ w3 c.in_ok-choice.ensures.opens c.in_ok-x.ensures.kept (part_type x c.args.left.now (sort c.args.left.now.ty) c.register_type.result _ _ _ refl c.register_type.ensures c.in_ok-x.ensures.emitted) c.in_ok-end.ensures.kept c.in_ok-end.ensures.shaped c.in_ok-end.ensures.kinds in
-    let w5 = then_if m _ _ _ w4 c.in_ok-y.ensures.kept c.in_ok-y.ensures.shaped c.in_ok-y.ensures.kinds in
-    let all : Emits x (typed (Cond (typed_expr c.args.left.now) (typed_expr c.args.test.now) (typed_expr c.args.right.now)) (sort c.args.left.now.ty) c.args.left.now.span) c.args.b.now c.meet.new.b c.in_ok-choice.choice.target.0 = choice_made x c.args.left.now c.args.right.now c.requires.same c.args.test.now _ _ _ _ _ _ _ _ _ _ _ _ _ _ _ _ c.requires.flag c.register_type.ensures c.requires.room c.in_ok-condition.ensures.emitted c.in_ok-choice.ensures.opens c.in_ok-x.ensures.emitted c.in_ok-end.ensures.brings c.here-second.ensures c.in_ok-y.ensures.emitted c.in_ok-meet.ensures.meets in
-    let w = met m c.register_type.result _ _ _ _ _ c.in_ok-choice.choice.target c.in_ok-y.y c.in_ok-condition.condition _ _ w5 c.in_ok-choice.ensures.opens (extends_trans _ _ _ c.in_ok-x.ensures.kept (extends_trans _ _ _ c.in_ok-end.ensures.kept c.in_ok-y.ensures.kept)) (part_type x c.args.right.now (sort c.args.left.now.ty) c.register_type.result _ _ _ c.requires.same c.register_type.ensures c.in_ok-y.ensures.emitted) (type_kept _ _ _ _ (extends_trans _ _ _ c.in_ok-choice.ensures.kept (extends_trans _ _ _ c.in_ok-x.ensures.kept (extends_trans _ _ _ c.in_ok-end.ensures.kept c.in_ok-y.ensures.kept))) (part_type x c.args.test.now BoolSort rtype.Bool _ _ _ c.requires.flag refl c.in_ok-condition.ensures.emitted)) (all.extends) (meets_grow _ _ _ _ _ _ _ _ _ c.in_ok-meet.ensures.meets) c.meet.ensures.shaped c.meet.ensures.kinds in
+    let x13 = extends_trans _ _ _ c.in_ok-condition.ensures.kept c.in_ok-choice.ensures.kept in
+    let first = arm_typed x (sort c.args.t.now) c.args.test.now c.register_type.result c.register_type.ensures _ _ _ c.in_ok-tested.ensures.emitted (arm_of c.args.body) _ _ _ c.requires.suits.body_type x13 c.in_ok-x.ensures.emitted in
+    let x15 = extends_trans _ _ _ x13 (extends_trans _ _ _ c.in_ok-x.ensures.walked.kept c.in_ok-end.ensures.kept) in
+    let second = arm_typed x (sort c.args.t.now) c.args.test.now c.register_type.result c.register_type.ensures _ _ _ c.in_ok-tested.ensures.emitted (arm_of c.args.other) _ _ _ c.requires.suits.other_type x15 c.in_ok-y.ensures.emitted in
+    let w1 = walks_if m _ _ c.in_ok-tested.ensures.kept c.in_ok-tested.ensures.shaped c.in_ok-tested.ensures.kinds in
+    let w2 = then_by m _ _ _ w1 c.in_ok-condition.ensures.kept c.in_ok-condition.ensures.shaped c.in_ok-condition.ensures.kinds in
+    let w3 = then_by m _ _ _ w2 c.in_ok-choice.ensures.kept c.in_ok-choice.ensures.shaped c.in_ok-choice.ensures.kinds in
+    let w4 = walks_trans m _ _ _ w3 c.in_ok-x.ensures.walked in
+    let w5 = turned m c.register_type.result _ _ _ _ _ c.in_ok-choice.choice.target c.in_ok-x.x _ _ w4 c.in_ok-choice.ensures.opens c.in_ok-x.ensures.walked.kept first c.in_ok-end.ensures.kept c.in_ok-end.ensures.shaped c.in_ok-end.ensures.kinds in
+    let w6 = walks_trans m _ _ _ w5 c.in_ok-y.ensures.walked in
+    let to_second = extends_trans _ _ _ c.in_ok-x.ensures.walked.kept (extends_trans _ _ _ c.in_ok-end.ensures.kept c.in_ok-y.ensures.walked.kept) in
+    let all : EmitsChoice x (sort c.args.t.now) (typed_expr c.args.test.now) (arm_of c.args.body) (arm_of c.args.other) c.args.b.now c.meet.new.b c.in_ok-choice.choice.target.0 = choice_made x (sort c.args.t.now) c.args.test.now c.register_type.result c.register_type.ensures _ _ _ c.in_ok-tested.ensures.emitted _ _ _ _ _ _ _ _ _ _ _ _ _ _ _ _ c.requires.suits c.requires.room c.in_ok-condition.ensures.found c.in_ok-choice.ensures.opens c.in_ok-x.ensures.walked.kept c.in_ok-x.ensures.emitted c.in_ok-end.ensures.brings c.here-second.ensures c.in_ok-y.ensures.emitted c.in_ok-meet.ensures.meets in
+    let w = met m c.register_type.result _ _ _ _ _ c.in_ok-choice.choice.target c.in_ok-y.y c.in_ok-condition.condition _ _ w6 c.in_ok-choice.ensures.opens to_second second (type_kept _ _ _ _ (extends_trans _ _ _ c.in_ok-choice.ensures.kept to_second) c.in_ok-condition.ensures.found.type) all.extends (meets_grow _ _ _ _ _ _ _ _ _ c.in_ok-meet.ensures.meets) c.meet.ensures.shaped c.meet.ensures.kinds in
     record { walked = w; emitted = all }
+
+pub emit_arm-emit_expression-requires : goal.emit_arm-emit_expression-requires
+emit_arm-emit_expression-requires t c =
+    let m : TypedModule = typed_module c.args.checked.now in
+    let vs : List Variable = map variable c.args.locals.now in
+    let h0 = ap weight_of_arm c.in-Some.is in
+    (omega arith, (arm_asked m vs c.args.arm c.in-Some.e c.in-Some.is c.requires.suits, c.requires.room))
+
+pub emit_arm-returns-in-Some : goal.emit_arm-returns-in-Some
+emit_arm-returns-in-Some t c =
+    let x : Setting = setting c.args.checked.now c.args.locals.now c.args.frame in
+    let e = c.emit_expression.ensures in
+    record { walked = walks_if x.source _ _ e.kept e.shaped e.kinds; emitted = ok_map _ _ _ (λ (r : Reg) q. arm_there x c.args.arm c.in-Some.e c.args.tested.0 _ _ r.0 c.in-Some.is q) e.emitted }
+
+pub emit_arm-returns-in-None : goal.emit_arm-returns-in-None
+emit_arm-returns-in-None t c =
+    let x : Setting = setting c.args.checked.now c.args.locals.now c.args.frame in
+    record { walked = walks_refl x.source c.args.b.now; emitted = arm_missing x c.args.arm c.args.tested.0 c.args.b.now c.in-None.is }
 
 pub emit_part-returns-in-Some : goal.emit_part-returns-in-Some
 emit_part-returns-in-Some t c =

@@ -1,12 +1,15 @@
-use Rattle.std.proofs.Common.{◌+◌, ◌*◌, drop}
+use Rattle.std.proofs.Common.{◌+◌, ◌-◌, ◌*◌, drop}
 use Rattle.ir_builder_frames.specs.Settings.{setting}
-use Rattle.ir_builder_expressions.proofs.WeightLemmas.{weight_of, weight_of_all, weight_of_chain}
+use Rattle.ir_builder_expressions.proofs.WeightLemmas.{weight_of, weight_of_arm, weight_of_all, weight_of_chain}
 use Rattle.ir_builder_expressions.proofs.ArgumentLemmas.{Passing}
 use Rattle.ir_builder_expressions.proofs.GoingLemmas.{Going}
 use Rattle.ir_builder_expressions.proofs.expression.+expression.Given as goal
 
 abbrev pub decreases-emit_expression : goal.decreases-emit_expression
 decreases-emit_expression l = weight_of l.e.now * 4
+
+abbrev pub decreases-emit_applied : goal.decreases-emit_applied
+decreases-emit_applied l = weight_of l.e.now * 4 - 1
 
 abbrev pub decreases-emit_part : goal.decreases-emit_part
 decreases-emit_part l = weight_of l.e.now * 4 + 1
@@ -23,14 +26,11 @@ decreases-emit_side l = weight_of l.e.now * 4 + 2
 abbrev pub decreases-emit_arguments : goal.decreases-emit_arguments
 decreases-emit_arguments l = weight_of_all l.args.now * 4 + 1
 
-abbrev pub decreases-emit_and : goal.decreases-emit_and
-decreases-emit_and l = (weight_of l.left.now + weight_of l.right.now) * 4 + 1
-
-abbrev pub decreases-emit_or : goal.decreases-emit_or
-decreases-emit_or l = (weight_of l.left.now + weight_of l.right.now) * 4 + 1
-
 abbrev pub decreases-emit_choice : goal.decreases-emit_choice
-decreases-emit_choice l = (weight_of l.left.now + weight_of l.test.now + weight_of l.right.now) * 4 + 1
+decreases-emit_choice l = (weight_of l.test.now + weight_of_arm l.body + weight_of_arm l.other) * 4 + 2
+
+abbrev pub decreases-emit_arm : goal.decreases-emit_arm
+decreases-emit_arm l = weight_of_arm l.arm * 4 + 1
 
 abbrev pub decreases-emit_chain : goal.decreases-emit_chain
 decreases-emit_chain l = weight_of_chain l.rest.now * 4 + 3

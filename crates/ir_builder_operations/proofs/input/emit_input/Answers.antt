@@ -1,7 +1,10 @@
+use Rattle.py_typed.specs.Sorts.{Str}
+use Rattle.source_meaning.specs.State.{State, look}
+use Rattle.source_meaning.specs.Operations.{next_line}
 use Rattle.ir_core.specs.declared.code.Reg.{Reg}
 use Rattle.ir_builder_frames.proofs.HeldLemmas.{ok_map}
-use Rattle.ir_builder_operations.proofs.InputLemmas.{input_attempts}
+use Rattle.ir_builder_operations.proofs.PartLemmas.{as_none}
 use Rattle.ir_builder_operations.proofs.input.emit_input.Goals as goal
 
 pub returns-clause-made : goal.returns-clause-made
-returns-clause-made c = ok_map _ _ _ (λ (r : Reg) a. input_attempts _ _ r.0 a) (rw c.new.ensures at c.primitive.ensures.added)
+returns-clause-made c = ok_map _ _ _ (λ (r : Reg) a. as_none Str (look (λ (s : State). s.items) next_line) c.args.b.now c.emit_operation.new.b r.0 a) c.emit_operation.ensures.made

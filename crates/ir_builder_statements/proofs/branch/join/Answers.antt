@@ -1,11 +1,11 @@
-use Rattle.std.proofs.Common.{arith}
+use Rattle.std.proofs.Common.{arith, le_refl}
 use Rattle.ir_builder_loops_and_jumps.specs.Ways.{planned}
 use Rattle.ir_builder_loops_and_jumps.proofs.PlanLemmas.{plan_fits, join_above}
 use Rattle.ir_builder_statements.proofs.PartLemmas.{open_kept}
 use Rattle.ir_builder_statements.proofs.branch.join.Goals as goal
 
 pub patch_all-requires : goal.patch_all-requires
-patch_all-requires c = record { opens = (c.requires.opens.0, open_kept _ _ _ _ c.in_ok-end.ensures.kept c.requires.opens.1) }
+patch_all-requires c = record { opens = (c.requires.opens.0, open_kept _ _ _ _ _ c.in_ok-end.ensures.kept (le_refl _) c.requires.opens.1) }
 
 pub returns-clause-shaped : goal.returns-clause-shaped
 returns-clause-shaped c = λ n m low up s.

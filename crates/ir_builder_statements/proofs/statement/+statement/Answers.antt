@@ -1,17 +1,19 @@
 use Rattle.std.specs.Option.{option_map, option_copied}
 use Rattle.py_typed.specs.Sorts.{sort}
-use Rattle.std.proofs.Common.{rules, map}
+use Rattle.std.proofs.Common.{rules, map, true, le_refl}
 use Rattle.py_typed.specs.declared.statement.TStmt.{the_lemmas}
 use Rattle.py_typed.specs.Expressions.{typed_expr}
-use Rattle.py_typed.specs.Statements.{typed_module, maybe_typed, typed_suite, typed_arm, arms_of}
+use Rattle.py_typed.specs.Statements.{typed_module, maybe_typed, typed_stmt, typed_suite, typed_arm, arms_of}
+use Rattle.ir_core.specs.declared.code.RType.TheVariants.{Bool}
 use Rattle.ir_builder_frames.specs.Settings.{Setting, setting}
 use Rattle.ir_builder_frames.specs.Matching.{HasRoom}
-use Rattle.ir_builder_frames.proofs.HeldLemmas.{extends_refl, extends_trans, on_ok_map, either_way}
+use Rattle.ir_builder_frames.proofs.HeldLemmas.{extends_refl, extends_trans, type_kept, on_ok_map, either_way}
 use Rattle.ir_builder_frames.proofs.MatchLemmas.{room_on}
-use Rattle.ir_builder_loops_and_jumps.proofs.EmitLemmas.{nothing_emitted, next_emitted, nothing_tested, pass_emitted, break_emitted, continue_emitted, join_open}
-use Rattle.ir_builder_statements.specs.Suiting.{SuiteSuits, ArmsSuit}
-use Rattle.ir_builder_statements.proofs.SuiteLemmas.{suite_step, arms_step, if_suits, return_suits, break_suits, continue_suits}
-use Rattle.ir_builder_statements.proofs.BodyLemmas.{on_ok_both, alone_made, assignment_made, update_made, return_made, condition_type, arm_tested, if_made, while_made, keeps_then, four_keep, arm_blocks, loop_blocks, kinds_among, kinds_always, kinds_returned, if_kinds, loop_kinds}
+use Rattle.ir_builder_loops_and_jumps.specs.Means.{means_loop, means_statement, means_suite}
+use Rattle.ir_builder_loops_and_jumps.proofs.EmitLemmas.{nothing_emitted, next_emitted, alone_emitted, assignment_emitted, update_emitted, loop_open, loop_emitted, nothing_tested, next_tested, if_emitted, pass_emitted, break_emitted, continue_emitted, join_open}
+use Rattle.ir_builder_statements.specs.Suiting.{SuiteSuits, ArmsSuit, LoopSuits}
+use Rattle.ir_builder_statements.proofs.SuiteLemmas.{suite_step, arms_step, loop_suits, loop_body, loop_means, if_suits, return_suits, break_suits, continue_suits}
+use Rattle.ir_builder_statements.proofs.BodyLemmas.{on_ok_both, return_made, condition_type, keeps_then, four_keep, arm_blocks, loop_blocks, kinds_among, kinds_always, kinds_returned, if_kinds, loop_kinds}
 use Rattle.ir_builder_statements.proofs.statement.+statement.Goals as goal
 
 -- ---- rows
@@ -53,17 +55,17 @@ emit_statement-emit_if-requires t c =
 pub emit_statement-returns-in-Expr-clause-emitted : goal.emit_statement-returns-in-Expr-clause-emitted
 emit_statement-returns-in-Expr-clause-emitted t c =
     let x : Setting = setting c.args.checked.now c.args.locals.now c.args.frame in
-    on_ok_map _ _ _ (alone_made x (option_map sort (option_copied c.args.gives)) c.args.looping c.args.s.now c.in-Expr.e _ _ _ c.in-Expr.is) c.emit_alone.ensures.works
+    on_ok_map _ _ _ (alone_emitted x (option_map sort (option_copied c.args.gives)) c.args.looping c.args.s.now c.in-Expr.e _ _ _ c.in-Expr.is) c.emit_alone.ensures.works
 
 pub emit_statement-returns-in-Assign-clause-emitted : goal.emit_statement-returns-in-Assign-clause-emitted
 emit_statement-returns-in-Assign-clause-emitted t c =
     let x : Setting = setting c.args.checked.now c.args.locals.now c.args.frame in
-    on_ok_map _ _ _ (assignment_made x (option_map sort (option_copied c.args.gives)) c.args.looping c.args.s.now c.as_slice-targets.result.now c.in-Assign.targets c.in-Assign.e _ _ _ c.in-Assign.is c.as_slice-targets.ensures) c.emit_assignment.ensures.works
+    on_ok_map _ _ _ (assignment_emitted x (option_map sort (option_copied c.args.gives)) c.args.looping c.args.s.now c.as_slice-targets.result.now c.in-Assign.targets c.in-Assign.e _ _ _ c.in-Assign.is c.as_slice-targets.ensures) c.emit_assignment.ensures.works
 
 pub emit_statement-returns-in-Aug-clause-emitted : goal.emit_statement-returns-in-Aug-clause-emitted
 emit_statement-returns-in-Aug-clause-emitted t c =
     let x : Setting = setting c.args.checked.now c.args.locals.now c.args.frame in
-    on_ok_map _ _ _ (update_made x (option_map sort (option_copied c.args.gives)) c.args.looping c.args.s.now c.in-Aug.target c.in-Aug.op c.in-Aug.e _ _ _ _ c.in-Aug.is) c.emit_update.ensures.works
+    on_ok_map _ _ _ (update_emitted x (option_map sort (option_copied c.args.gives)) c.args.looping c.args.s.now c.in-Aug.target c.in-Aug.op c.in-Aug.e _ _ _ _ c.in-Aug.is) c.emit_update.ensures.works
 
 pub emit_statement-returns-in-Return-clause-emitted : goal.emit_statement-returns-in-Return-clause-emitted
 emit_statement-returns-in-Return-clause-emitted t c =
@@ -150,7 +152,7 @@ emit_arms-loop-e-preserved t c =
     let p = c.in_ok-test.ensures in
     let q = c.in_ok-emit_block.ensures in
     let e = c.in_ok-end_arm.ensures in
-    let all = arm_tested x (option_map sort (option_copied c.args.gives)) c.args.looping c.args.arms.now c.loop-e.e-index a c.as_slice-body.result.now c.args.b.now c.loop-e.b c.emit_split.new.b c.emit_block.new.b c.end_arm.new.b c.in_ok-test.test _ _ _ c.loop-e-test.true c.loop-e-item.is c.as_slice-body.ensures c.requires.room step.0 i.so_far p.splits q.emitted e.ends in
+    let all = next_tested x (option_map sort (option_copied c.args.gives)) c.args.looping c.args.arms.now c.loop-e.e-index a c.as_slice-body.result.now c.args.b.now c.loop-e.b c.emit_split.new.b c.emit_block.new.b c.end_arm.new.b c.in_ok-test.test _ _ _ c.loop-e-test.true c.loop-e-item.is c.as_slice-body.ensures c.requires.room step.0.0 i.so_far p.splits q.emitted e.ends in
     record {
       so_far = all;
       suits = step.2;
@@ -173,13 +175,13 @@ emit_if-join-requires t c =
 pub emit_if-returns-clause-emitted : goal.emit_if-returns-clause-emitted
 emit_if-returns-clause-emitted t c =
     let x : Setting = setting c.args.checked.now c.args.locals.now c.args.frame in
-    on_ok_map _ _ _ (if_made x (option_map sort (option_copied c.args.gives)) c.args.looping c.args.s.now c.args.arms.now c.args.other.now _ _ _ _ _ _ c.deref.result.now _ _ c.requires.is c.in_ok-emit_arms.ensures.tested c.in_ok-emit_block.ensures.emitted c.deref.ensures.value) c.join.ensures.joins
+    on_ok_map _ _ _ (if_emitted x (option_map sort (option_copied c.args.gives)) c.args.looping c.args.s.now c.args.arms.now c.args.other.now _ _ _ _ _ _ c.deref.result.now _ _ c.requires.is c.in_ok-emit_arms.ensures.tested c.in_ok-emit_block.ensures.emitted c.deref.ensures.value) c.join.ensures.joins
 
 pub emit_if-returns-clause-kept : goal.emit_if-returns-clause-kept
 emit_if-returns-clause-kept t c =
     let x : Setting = setting c.args.checked.now c.args.locals.now c.args.frame in
     either_way c.join.result _ _ _
-    (λ j. (if_made x (option_map sort (option_copied c.args.gives)) c.args.looping c.args.s.now c.args.arms.now c.args.other.now c.args.b.now c.emit_arms.new.b c.emit_block.new.b c.join.new.b _ _ c.deref.result.now c.args.exits.now.items c.join.new.exits.items c.requires.is c.in_ok-emit_arms.ensures.tested c.in_ok-emit_block.ensures.emitted c.deref.ensures.value j).works.extends)
+    (λ j. (if_emitted x (option_map sort (option_copied c.args.gives)) c.args.looping c.args.s.now c.args.arms.now c.args.other.now c.args.b.now c.emit_arms.new.b c.emit_block.new.b c.join.new.b _ _ c.deref.result.now c.args.exits.now.items c.join.new.exits.items c.requires.is c.in_ok-emit_arms.ensures.tested c.in_ok-emit_block.ensures.emitted c.deref.ensures.value j).works.extends)
     (λ k. extends_trans _ _ _ c.in_ok-emit_arms.ensures.kept (extends_trans _ _ _ c.in_ok-emit_block.ensures.kept k))
     c.join.ensures.joins c.join.ensures.kept
 
@@ -189,41 +191,64 @@ emit_if-returns-clause-kinds t c =
     (if_kinds (typed_module c.args.checked.now) (option_map sort (option_copied c.args.gives)) c.args.b.now c.emit_arms.new.b c.emit_block.new.b c.join.new.b c.in_ok-emit_arms.ensures.kinds c.in_ok-emit_block.ensures.kinds)
     c.join.ensures.kinds
 
--- ---- `while`
+-- ---- loops
 
-pub emit_while-emit_split-requires-clause-room : goal.emit_while-emit_split-requires-clause-room
-emit_while-emit_split-requires-clause-room t c =
+pub emit_statement-emit_loop-requires : goal.emit_statement-emit_loop-requires
+emit_statement-emit_loop-requires t c =
     let x : Setting = setting c.args.checked.now c.args.locals.now c.args.frame in
-    room_on x _ _ c.in_ok-head.ensures.kept c.requires.room
-
-pub emit_while-emit_block-requires : goal.emit_while-emit_block-requires
-emit_while-emit_block-requires t c =
-    let x : Setting = setting c.args.checked.now c.args.locals.now c.args.frame in
-    let room : HasRoom x c.emit_split.new.b = room_on x _ _ (extends_trans _ _ _ c.in_ok-head.ensures.kept c.in_ok-test.ensures.kept) c.requires.room in
+    let suits : LoopSuits x.source x.variables (option_map sort (option_copied c.args.gives)) (typed_stmt c.args.s.now) (typed_suite c.as_slice-body.result.now) = loop_suits x.source x.variables (option_map sort (option_copied c.args.gives)) c.args.looping c.args.s.now c.requires.suits _ _ c.as_slice-body.result.now c.in-While.is c.as_slice-body.ensures in
     search (rules, the_lemmas)
 
-pub emit_while-returns-clause-emitted : goal.emit_while-returns-clause-emitted
-emit_while-returns-clause-emitted t c =
-    let x : Setting = setting c.args.checked.now c.args.locals.now c.args.frame in
-    on_ok_map _ _ _ (while_made x (option_map sort (option_copied c.args.gives)) c.args.looping c.args.s.now c.args.e.now c.args.body.now _ _ _ _ _ c.in_ok-head.head c.in_ok-test.test _ _ _ _ c.deref.result.now c.requires.room c.requires.is c.requires.test c.in_ok-head.ensures.number c.in_ok-head.ensures.closed c.in_ok-test.ensures.splits c.new-inner.ensures.items c.in_ok-emit_block.ensures.emitted c.deref.ensures.value) c.end_loop.ensures.ends
+pub emit_loop-begin_loop-requires : goal.emit_loop-begin_loop-requires
+emit_loop-begin_loop-requires t c = record {
+  suits = (option_map sort (option_copied c.args.gives), typed_suite c.args.body.now, c.requires.suits);
+  room = c.requires.room;
+}
 
-pub emit_while-returns-clause-kept : goal.emit_while-returns-clause-kept
-emit_while-returns-clause-kept t c =
+pub emit_loop-emit_block-requires : goal.emit_loop-emit_block-requires
+emit_loop-emit_block-requires t c =
+    let x : Setting = setting c.args.checked.now c.args.locals.now c.args.frame in
+    let suits : SuiteSuits x.source x.variables (option_map sort (option_copied c.args.gives)) true (typed_suite c.args.body.now) = loop_body x (option_map sort (option_copied c.args.gives)) (typed_stmt c.args.s.now) (typed_suite c.args.body.now) c.requires.suits in
+    let room : HasRoom x c.begin_loop.new.b = room_on x _ _ c.in_ok-start.ensures.kept c.requires.room in
+    search (rules, the_lemmas)
+
+pub emit_loop-end_loop-requires : goal.emit_loop-end_loop-requires
+emit_loop-end_loop-requires t c =
+    let x : Setting = setting c.args.checked.now c.args.locals.now c.args.frame in
+    let g = c.in_ok-start.ensures.begins in
+    let k = loop_open x (option_map sort (option_copied c.args.gives)) _ _ _ _ _ _ c.in_ok-start.start c.in_ok-next.next _ _ c.deref.result.now g c.new-inner.ensures.items c.in_ok-emit_block.ensures.emitted c.in_ok-next.ensures.number c.in_ok-next.ensures.closed c.deref.ensures.value in
+    record {
+      head = (g.head.0, k.0);
+      «open» = k.1;
+      start = g.start.0;
+      here = k.2;
+      next = rw c.in_ok-next.ensures.number (le_refl _);
+      opens = k.3;
+    }
+
+pub emit_loop-returns-clause-emitted : goal.emit_loop-returns-clause-emitted
+emit_loop-returns-clause-emitted t c =
+    let x : Setting = setting c.args.checked.now c.args.locals.now c.args.frame in
+    on_ok_map _ _ _ (loop_emitted x (option_map sort (option_copied c.args.gives)) c.args.looping (means_loop x (typed_stmt c.args.s.now)) (means_suite x (typed_suite c.args.body.now)) _ _ _ _ _ _ c.in_ok-start.start c.in_ok-next.next _ _ _ _ c.deref.result.now (loop_means x (option_map sort (option_copied c.args.gives)) (typed_stmt c.args.s.now) (typed_suite c.args.body.now) c.requires.suits) c.in_ok-start.ensures.begins c.new-inner.ensures.items c.in_ok-emit_block.ensures.emitted c.in_ok-next.ensures.number c.in_ok-next.ensures.closed c.deref.ensures.value) c.end_loop.ensures.ends
+
+pub emit_loop-returns-clause-kept : goal.emit_loop-returns-clause-kept
+emit_loop-returns-clause-kept t c =
     let x : Setting = setting c.args.checked.now c.args.locals.now c.args.frame in
     either_way c.end_loop.result _ _ _
-    (λ l. (while_made x (option_map sort (option_copied c.args.gives)) c.args.looping c.args.s.now c.args.e.now c.args.body.now c.args.b.now c.step_on.new.self c.emit_split.new.b c.emit_block.new.b c.end_loop.new.b c.in_ok-head.head c.in_ok-test.test c.args.exits.now.items c.end_loop.new.exits.items _ _ c.deref.result.now c.requires.room c.requires.is c.requires.test c.in_ok-head.ensures.number c.in_ok-head.ensures.closed c.in_ok-test.ensures.splits c.new-inner.ensures.items c.in_ok-emit_block.ensures.emitted c.deref.ensures.value l).works.extends)
-    (λ k. extends_trans _ _ _ c.in_ok-head.ensures.kept (extends_trans _ _ _ c.in_ok-test.ensures.kept (extends_trans _ _ _ c.in_ok-emit_block.ensures.kept k)))
+    (λ l. (loop_emitted x (option_map sort (option_copied c.args.gives)) c.args.looping (means_loop x (typed_stmt c.args.s.now)) (means_suite x (typed_suite c.args.body.now)) (means_statement x (typed_stmt c.args.s.now)) c.args.b.now c.begin_loop.new.b c.emit_block.new.b c.step_on.new.self c.end_loop.new.b c.in_ok-start.start c.in_ok-next.next c.args.exits.now.items c.end_loop.new.exits.items _ _ c.deref.result.now (loop_means x (option_map sort (option_copied c.args.gives)) (typed_stmt c.args.s.now) (typed_suite c.args.body.now) c.requires.suits) c.in_ok-start.ensures.begins c.new-inner.ensures.items c.in_ok-emit_block.ensures.emitted c.in_ok-next.ensures.number c.in_ok-next.ensures.closed c.deref.ensures.value l).works.extends)
+    (λ k. extends_trans _ _ _ c.in_ok-start.ensures.kept (extends_trans _ _ _ c.in_ok-emit_block.ensures.kept (extends_trans _ _ _ c.in_ok-next.ensures.kept k)))
     c.end_loop.ensures.ends c.end_loop.ensures.kept
 
-pub emit_while-returns-clause-shaped : goal.emit_while-returns-clause-shaped
-emit_while-returns-clause-shaped t c =
+pub emit_loop-returns-clause-shaped : goal.emit_loop-returns-clause-shaped
+emit_loop-returns-clause-shaped t c =
     on_ok_both _ _ _ _
-    (λ l. four_keep c.args.b.now c.step_on.new.self c.emit_split.new.b c.emit_block.new.b c.end_loop.new.b c.in_ok-head.ensures.kept c.in_ok-test.ensures.kept c.in_ok-emit_block.ensures.kept (loop_blocks c.emit_block.new.b c.end_loop.new.b c.in_ok-head.head c.in_ok-test.test c.deref.result.now c.args.exits.now.items c.end_loop.new.exits.items l) c.in_ok-head.ensures.shaped c.in_ok-test.ensures.shaped c.in_ok-emit_block.ensures.shaped)
+    (λ l. four_keep c.args.b.now c.begin_loop.new.b c.emit_block.new.b c.step_on.new.self c.end_loop.new.b c.in_ok-start.ensures.kept c.in_ok-emit_block.ensures.kept c.in_ok-next.ensures.kept (loop_blocks c.step_on.new.self c.end_loop.new.b c.in_ok-start.start c.in_ok-next.next c.deref.result.now c.args.exits.now.items c.end_loop.new.exits.items l) c.in_ok-start.ensures.shaped c.in_ok-emit_block.ensures.shaped c.in_ok-next.ensures.shaped)
     c.end_loop.ensures.ends c.end_loop.ensures.shaped
 
-pub emit_while-returns-clause-kinds : goal.emit_while-returns-clause-kinds
-emit_while-returns-clause-kinds t c =
+pub emit_loop-returns-clause-kinds : goal.emit_loop-returns-clause-kinds
+emit_loop-returns-clause-kinds t c =
     let x : Setting = setting c.args.checked.now c.args.locals.now c.args.frame in
+    let r = c.in_ok-start.start.test.condition in
     on_ok_map _ _ _
-    (loop_kinds x.source (option_map sort (option_copied c.args.gives)) c.args.b.now c.step_on.new.self c.emit_split.new.b c.emit_block.new.b c.end_loop.new.b c.in_ok-test.test.condition c.in_ok-head.ensures.kinds c.in_ok-test.ensures.kinds c.in_ok-emit_block.ensures.kinds (condition_type x (option_map sort (option_copied c.args.gives)) (typed_expr c.args.e.now) c.step_on.new.self c.emit_split.new.b c.emit_block.new.b c.in_ok-test.test c.requires.test c.in_ok-test.ensures.splits c.in_ok-emit_block.ensures.kept))
+    (loop_kinds x.source (option_map sort (option_copied c.args.gives)) c.args.b.now c.begin_loop.new.b c.emit_block.new.b c.step_on.new.self c.end_loop.new.b r c.in_ok-start.ensures.kinds c.in_ok-emit_block.ensures.kinds c.in_ok-next.ensures.kinds (type_kept c.begin_loop.new.b c.step_on.new.self r.0 Bool (extends_trans _ _ _ c.in_ok-emit_block.ensures.kept c.in_ok-next.ensures.kept) c.in_ok-start.ensures.begins.type))
     c.end_loop.ensures.kinds

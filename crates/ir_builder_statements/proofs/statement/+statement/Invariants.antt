@@ -25,8 +25,8 @@ decreases-emit_block l = most size-TStmt l.body.now * 4 + 1
 abbrev pub decreases-emit_arms : goal.decreases-emit_arms
 decreases-emit_arms l = most arm_size l.arms.now * 4 + 2
 
-abbrev pub decreases-emit_while : goal.decreases-emit_while
-decreases-emit_while l = most size-TStmt l.body.now * 4 + 2
+abbrev pub decreases-emit_loop : goal.decreases-emit_loop
+decreases-emit_loop l = most size-TStmt l.body.now * 4 + 2
 
 abbrev pub decreases-emit_if : goal.decreases-emit_if
 decreases-emit_if l = max (most arm_size l.arms.now) (most size-TStmt l.other.now) * 4 + 3

@@ -1,0 +1,77 @@
+//! A choice between two values.
+ghost use Rattle.std.specs.Prelude.{◌≡◌, ◌<◌, ◌≤◌, length, IfOk, OnOk, OnErr};
+ghost use Rattle.ir_core.specs.Building.{Extends};
+ghost use Rattle.ir_builder_frames.specs.Calling.{Open};
+ghost use Rattle.ir_builder_frames.specs.Shaped.{Keeps};
+ghost use Rattle.ir_builder_frames.specs.Kinds.{IsOf, AreAlike, KeepsKinds, KeepsKindsIf};
+ghost use Rattle.ir_builder_choices.specs.Choices.{Opens, Brings, Meets};
+
+use ir_builder_frames::Emitter;
+use ir_core::{Last, Op, RType, Reg};
+use value_core::Memory;
+
+/// A choice that was begun: the register that both values are brought into, the block where the test will stand, and the
+/// block of the first value.
+#[derive(Clone, Copy)]
+pub struct Choice {
+    pub target: Reg,
+    pub test: usize,
+    pub first: usize,
+}
+
+/// Begins a choice between two values of a type. Behind it comes the first value.
+pub fn begin(b: &mut Emitter, t: RType) -> Result<Choice, Memory>
+    ensures kept { Extends b.old b.new }
+    ensures opens { IfOk result (λ c. Opens b.old b.new c.target.0 c.test c.first t) }
+    ensures shaped { Keeps b.old b.new }
+    ensures kinds { KeepsKinds b.old b.new }
+{
+    let target = b.temporary(t)?;
+    let test = b.close(Last::Unreachable)?;
+    let first = b.here();
+    Ok(Choice {
+        target,
+        test,
+        first,
+    })
+}
+
+/// Brings the first value, and answers the block that ends with it. Behind it comes the second value.
+pub fn turn(b: &mut Emitter, choice: Choice, r: Reg, line: usize) -> Result<usize, Memory>
+    ensures kept { Extends b.old b.new }
+    ensures brings { IfOk result (λ k. Brings b.old b.new choice.target.0 r.0 k) }
+    ensures shaped { Keeps b.old b.new }
+    ensures kinds { KeepsKindsIf (λ g. AreAlike b.old.regs choice.target r) b.old b.new }
+{
+    b.push(Op::Move(choice.target, r), line)?;
+    b.close(Last::Unreachable)
+}
+
+/// Brings the second value, and writes the test of the condition and both jumps. `end` is the block that the first value
+/// ends with, and `second` the one that the second begins with.
+pub fn meet(
+    b: &mut Emitter,
+    choice: Choice,
+    condition: Reg,
+    end: usize,
+    second: usize,
+    r: Reg,
+    line: usize,
+) -> Result<(), Memory>
+    requires test_open { Open b.old choice.test }
+    requires end_open { Open b.old end }
+    requires first { choice.test < choice.first }
+    requires end { choice.first ≤ end }
+    requires second { end < second }
+    requires here { second ≤ length b.old.blocks }
+    ensures kept { OnErr result (Extends b.old b.new) }
+    ensures meets { OnOk result (Meets b.old b.new choice.target.0 r.0 condition.0 choice.test choice.first end second) }
+    ensures shaped { Keeps b.old b.new }
+    ensures kinds { KeepsKindsIf (λ g. AreAlike b.old.regs choice.target r × IsOf b.old.regs condition RType.Bool) b.old b.new }
+{
+    b.push(Op::Move(choice.target, r), line)?;
+    let join = b.step_on()?;
+    b.patch(choice.test, Last::If(condition, choice.first, second));
+    b.patch(end, Last::Goto(join));
+    Ok(())
+}

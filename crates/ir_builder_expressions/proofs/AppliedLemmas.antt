@@ -1,0 +1,105 @@
+-- An expression that is an operation on parts: what it asks of them, what its code does, and what it weighs.
+use Rattle.std.proofs.Common.{◌≡◌, refl, sym, ◌∙◌, ap, subst, ℕ, ◌+◌, true, List, Option, Some, None}
+use Rattle.std.specs.Prelude.{is_some}
+use Rattle.py_syntax.specs.declared.token.Span.{Span}
+use Rattle.py_typed.specs.declared.expression.TExpr.{TExpr}
+use Rattle.py_typed.specs.Sorts.{Sort, sort as sort_of}
+use Rattle.py_typed.specs.Expressions.{TypedExpr, TypedNode, typed, type_of, typed_expr, Neg, Not, Truth, Arith, Concat, At, Len, ToStr, Coerce}
+use Rattle.py_typed.specs.Statements.{TypedModule, Variable}
+use Rattle.py_typed.proofs.ExpressionLemmas.{typed_expr_of, type_at}
+use Rattle.ir_core.specs.Building.{Building}
+use Rattle.ir_builder_frames.specs.Settings.{Setting}
+use Rattle.ir_builder_expressions.specs.declared.applying.Unary.{Unary}
+use Rattle.ir_builder_expressions.specs.declared.applying.Unary.TheVariants.{Negated, Inverted, Tested, Counted, Written, Coerced}
+use Rattle.ir_builder_expressions.specs.declared.applying.Binary.{Binary}
+use Rattle.ir_builder_expressions.specs.declared.applying.Binary.TheVariants.{Arithmetic, Joined, Indexed}
+use Rattle.ir_builder_expressions.specs.Applying.{UnarySuits, BinarySuits, Applied, one, two, applied_in, node_in}
+use Rattle.ir_builder_expressions.specs.Suiting.{Suits, NodeSuits}
+use Rattle.ir_builder_expressions.specs.Emitting.{Emits, EmitsOne, EmitsTwo}
+use Rattle.ir_builder_expressions.proofs.ArmLemmas.{Is, asked, emits_as}
+use Rattle.ir_builder_expressions.proofs.PieceLemmas.{item_emits}
+use Rattle.ir_builder_expressions.proofs.WeightLemmas.{weight, node_weight, weight_of}
+
+-- ---- what the parts are to be, and what their code does
+
+abbrev pub AppliedSuits : TypedModule → List Variable → Sort → Applied → Type 0
+AppliedSuits m vs t (one op e) = UnarySuits op t (type_of e) × Suits m vs e
+AppliedSuits m vs t (two op a b) = BinarySuits op t (type_of a) (type_of b) × Suits m vs a × Suits m vs b
+
+abbrev pub EmitsApplied : Setting → Sort → Building → Building → ℕ → Applied → Type 0
+EmitsApplied x t b c r (one op e) = EmitsOne x op t e b c r
+EmitsApplied x t b c r (two op e f) = EmitsTwo x op t e f b c r
+
+abbrev pub weight_in : Applied → ℕ
+weight_in (one op e) = weight e
+weight_in (two op a b) = weight a + weight b
+
+-- an operation has these
+pub record Fits (x : Setting) (n : TypedNode) (t : Sort) (place : Span) (a : Applied) : Type 0 where
+  pub suits : AppliedSuits x.source x.variables t a
+  pub emits : (b c : Building) (r : ℕ) → EmitsApplied x t b c r a → Emits x (typed n t place) b c r
+  pub weighs : node_weight n ≡ weight_in a + 1
+
+by_some : {A : Type 0} (P : A → Type 0) (x a : A) → Some x ≡ Some a → P x → P a
+by_some P x a e h = let same : x ≡ a = cc in subst P same h
+
+fits : (x : Setting) (n : TypedNode) (t : Sort) (place : Span) (a : Applied) → applied_in n ≡ Some a → NodeSuits x.source x.variables n t → Fits x n t place a
+fits x (Neg e) t place a is h = by_some (Fits x (Neg e) t place) (one Negated e) a is record { suits = h; emits = λ b c r q. q; weighs = refl }
+fits x (Not e) t place a is h = by_some (Fits x (Not e) t place) (one Inverted e) a is record { suits = h; emits = λ b c r q. q; weighs = refl }
+fits x (Truth e) t place a is h = by_some (Fits x (Truth e) t place) (one Tested e) a is record { suits = h; emits = λ b c r q. q; weighs = refl }
+fits x (Len e) t place a is h = by_some (Fits x (Len e) t place) (one Counted e) a is record { suits = h; emits = λ b c r q. q; weighs = refl }
+fits x (ToStr e) t place a is h = by_some (Fits x (ToStr e) t place) (one Written e) a is record { suits = h; emits = λ b c r q. q; weighs = refl }
+fits x (Coerce e) t place a is h = by_some (Fits x (Coerce e) t place) (one Coerced e) a is record { suits = h; emits = λ b c r q. q; weighs = refl }
+fits x (Arith op e f) t place a is h = by_some (Fits x (Arith op e f) t place) (two (Arithmetic op) e f) a is record { suits = h; emits = λ b c r q. q; weighs = refl }
+fits x (Concat e f) t place a is h = by_some (Fits x (Concat e f) t place) (two Joined e f) a is record { suits = h; emits = λ b c r q. q; weighs = refl }
+fits x (At e f) t place a is h = by_some (Fits x (At e f) t place) (two Indexed e f) a is record { suits = h; emits = λ b c r q. item_emits x e f t place b c r h.0.1 q; weighs = refl }
+fits x n t place a is h = let f : None ≡ Some a = is in absurd (cc)
+
+-- ---- of a declared expression
+
+-- it has its node
+pub own_node : (e : TExpr) → Is e (node_in (typed_expr e))
+own_node e =
+    let h = typed_expr_of e e.kind refl in
+    h ∙ ap (λ n. typed n (sort_of e.ty) e.span) (sym (ap node_in h))
+
+module _ (x : Setting) (e : TExpr) (suits : Suits x.source x.variables (typed_expr e)) where
+  abbrev pub node : TypedNode
+  node = node_in (typed_expr e)
+
+  own_fits : (a : Applied) → Some a ≡ applied_in node → Fits x node (sort_of e.ty) e.span a
+  own_fits a is = fits x node (sort_of e.ty) e.span a (sym is) (asked x.source x.variables e node (own_node e) suits)
+
+  pub applied_weight : (a : Applied) → Some a ≡ applied_in node → weight_of e ≡ weight_in a + 1
+  applied_weight a is = ap weight (own_node e) ∙ (own_fits a is).weighs
+
+  pub one_suits : (op : Unary) (p : TExpr) → Some (one op (typed_expr p)) ≡ applied_in node → UnarySuits op (sort_of e.ty) (sort_of p.ty) × Suits x.source x.variables (typed_expr p)
+  one_suits op p is =
+      let h = (own_fits (one op (typed_expr p)) is).suits in
+      (subst (λ s. UnarySuits op (sort_of e.ty) s) (type_at p) h.0, h.1)
+
+  pub two_suit : (op : Binary) (p q : TExpr) → Some (two op (typed_expr p) (typed_expr q)) ≡ applied_in node → BinarySuits op (sort_of e.ty) (sort_of p.ty) (sort_of q.ty) × Suits x.source x.variables (typed_expr p) × Suits x.source x.variables (typed_expr q)
+  two_suit op p q is =
+      let h = (own_fits (two op (typed_expr p) (typed_expr q)) is).suits in
+      let left : BinarySuits op (sort_of e.ty) (sort_of p.ty) (type_of (typed_expr q)) = subst (λ s. BinarySuits op (sort_of e.ty) s (type_of (typed_expr q))) (type_at p) h.0 in
+      (subst (λ s. BinarySuits op (sort_of e.ty) (sort_of p.ty) s) (type_at q) left, h.1, h.2)
+
+  pub applied_emits : (a : Applied) (b c : Building) (r : ℕ) → Some a ≡ applied_in node → EmitsApplied x (sort_of e.ty) b c r a → Emits x (typed_expr e) b c r
+  applied_emits a b c r is q = emits_as x e node (sort_of e.ty) b c r (own_node e) refl ((own_fits a is).emits b c r q)
+
+  -- it weighs something
+  some_weight : (o : Option Applied) → o ≡ applied_in node → is_some o ≡ true → (k : ℕ) × (weight_of e ≡ k + 1)
+  some_weight None is h = absurd (cc)
+  some_weight (Some a) is h = (weight_in a, applied_weight a is)
+
+  pub applied_above : is_some (applied_in node) ≡ true → (k : ℕ) × (weight_of e ≡ k + 1)
+  applied_above h = some_weight (applied_in node) refl h
+
+-- ---- the operation that the program finds
+
+pub one_found : (e : TExpr) (op : Unary) (n : TypedNode) (a p : TExpr) → Is e n → applied_in n ≡ Some (one op (typed_expr a)) → p ≡ a → Some (one op (typed_expr p)) ≡ applied_in (node_in (typed_expr e))
+one_found e op n a p is at same = ap (λ z. Some (one op (typed_expr z))) same ∙ sym at ∙ ap applied_in (sym (ap node_in is))
+
+pub two_found : (e : TExpr) (op : Binary) (n : TypedNode) (a b p q : TExpr) → Is e n → applied_in n ≡ Some (two op (typed_expr a) (typed_expr b)) → p ≡ a → q ≡ b → Some (two op (typed_expr p) (typed_expr q)) ≡ applied_in (node_in (typed_expr e))
+two_found e op n a b p q is at same same' =
+    ap (λ z. Some (two op (typed_expr z) (typed_expr q))) same ∙ ap (λ z. Some (two op (typed_expr a) (typed_expr z))) same' ∙ sym at ∙ ap applied_in (sym (ap node_in is))

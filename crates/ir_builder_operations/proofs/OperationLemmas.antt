@@ -1,0 +1,125 @@
+-- Each operation does with its operands' values what the source does, and its primitive takes registers of their types.
+use Rattle.std.proofs.Common.{◌≡◌, refl, sym, subst, ℕ, length, true, List, [], ◌∷◌, Some}
+use Rattle.std.specs.Prelude.{map}
+use Rattle.value_core.specs.Value.{Value}
+use Rattle.c_core.specs.declared.primitive.Primitive.{Primitive}
+use Rattle.c_core.specs.Primitives.{Is, Parameter, Borrows, Owned, row_of}
+use Rattle.py_syntax.specs.declared.expression.BinOp.TheVariants as bin
+use Rattle.py_typed.specs.Sorts.{Sort}
+use Rattle.ir_core.specs.declared.code.Reg.{Reg}
+use Rattle.ir_core.specs.declared.code.RType.{RType}
+use Rattle.ir_core.specs.declared.code.PArg.{PArg}
+use Rattle.ir_core.specs.declared.code.PArg.TheVariants.{Var}
+use Rattle.ir_core.specs.declared.code.Op.TheVariants.{Prim}
+use Rattle.ir_core.specs.Lower.{kind_of_type}
+use Rattle.ir_core.specs.Rows.{Declared}
+use Rattle.ir_core.specs.Building.{Building}
+use Rattle.ir_builder_frames.specs.Calling.{Adds}
+use Rattle.ir_builder_frames.specs.Computing.{Shows, HaveTypes, Attempts}
+use Rattle.ir_builder_frames.specs.Operands.{ActsOnAll}
+use Rattle.ir_builder_frames.specs.Kinds.{AreArguments, Answers}
+use Rattle.ir_builder_frames.specs.Matching.{HaveKinds}
+use Rattle.ir_builder_frames.specs.Settings.{rtype_of}
+use Rattle.ir_builder_frames.specs.Shaped.{AreBelow}
+use Rattle.ir_builder_frames.proofs.HeldLemmas.{type_below}
+use Rattle.ir_builder_frames.proofs.AttemptLemmas.{all_given, Performs, all_perform}
+use Rattle.ir_builder_operations.specs.declared.operation.Operation.{Operation}
+use Rattle.ir_builder_operations.specs.declared.operation.Operation.TheVariants.{IntArithmetic, NativeArithmetic, IntNegation, NativeNegation, Concatenation, Length, Letter, IntText, NativeText, BoolText, BoolToInt, BoolToNative, NativeToInt, IntToNative, Line}
+use Rattle.ir_builder_operations.specs.Rows.{is_known, operands_of, result_of, primitive_of, goes}
+use Rattle.ir_builder_operations.proofs.KindLemmas.{on_none, one_int, one_native, one_bool, one_text, two_ints, two_natives, two_texts, text_and_int}
+use Rattle.ir_builder_operations.proofs.NumberLemmas as int
+use Rattle.ir_builder_operations.proofs.NativeLemmas as native
+use Rattle.ir_builder_operations.proofs.CoercionLemmas.{int_of_bool, native_of_bool, int_of_native, native_of_int}
+use Rattle.ir_builder_operations.proofs.WrittenLemmas.{concat_performs, length_performs, item_performs, int_written, native_written, flag_written}
+use Rattle.ir_builder_operations.proofs.InputLemmas.{line_performs}
+
+-- ---- what it does
+
+abbrev Does : Operation → List Value → Type 0
+Does op vs = Performs (Shows (result_of op)) (primitive_of op) (all_given vs) (goes op vs)
+
+operation_performs : (op : Operation) → is_known op ≡ true → (vs : List Value) → HaveKinds (operands_of op) vs → Does op vs
+operation_performs (IntArithmetic op) e = two_ints (Does (IntArithmetic op)) (λ m n f g. int.arithmetic_performs op m n e f g)
+operation_performs (NativeArithmetic op) e = two_natives (Does (NativeArithmetic op)) (λ m n f g. native.arithmetic_performs op m n e f g)
+operation_performs IntNegation e = one_int (Does IntNegation) (λ n f. int.negation_performs n)
+operation_performs NativeNegation e = one_native (Does NativeNegation) (λ n f. native.negation_performs n f)
+operation_performs Concatenation e = two_texts (Does Concatenation) (λ a b. concat_performs a b)
+operation_performs Length e = one_text (Does Length) (λ t. length_performs t)
+operation_performs Letter e = text_and_int (Does Letter) (λ t n f. item_performs t n)
+operation_performs IntText e = one_int (Does IntText) (λ n f. int_written n)
+operation_performs NativeText e = one_native (Does NativeText) (λ n f. native_written n)
+operation_performs BoolText e = one_bool (Does BoolText) (λ b. flag_written b)
+operation_performs BoolToInt e = one_bool (Does BoolToInt) (λ b. int_of_bool b)
+operation_performs BoolToNative e = one_bool (Does BoolToNative) (λ b. native_of_bool b)
+operation_performs NativeToInt e = one_native (Does NativeToInt) (λ n f. int_of_native n f)
+operation_performs IntToNative e = one_int (Does IntToNative) (λ n f. native_of_int n)
+operation_performs Line e = on_none (Does Line) line_performs
+
+module _ (op : Operation) (rs : List Reg) (t : RType) (q : Primitive) (args : List PArg) (type : t ≡ rtype_of (result_of op)) (does : q ≡ primitive_of op) (given : args ≡ map Var rs) where
+  pub operation_attempts : {line : ℕ} (b c : Building) (r : ℕ) → is_known op ≡ true → HaveTypes b.regs (operands_of op) rs → Adds b c r t (Prim (Some record { 0 = r }) q args) line → Attempts (Shows (result_of op)) b c r (rtype_of (result_of op)) (ActsOnAll (operands_of op) rs (goes op))
+  operation_attempts {line} b c r known types a =
+      let P : RType → Type 0 = λ z. Adds b c r z (Prim (Some record { 0 = r }) q args) line in
+      let Q : Primitive → Type 0 = λ z. Adds b c r (rtype_of (result_of op)) (Prim (Some record { 0 = r }) z args) line in
+      let R : List PArg → Type 0 = λ z. Adds b c r (rtype_of (result_of op)) (Prim (Some record { 0 = r }) (primitive_of op) z) line in
+      all_perform (operands_of op) (Shows (result_of op)) (goes op) b c r (rtype_of (result_of op)) rs (primitive_of op) types (subst R given (subst Q does (subst P type a))) (operation_performs op known)
+
+-- ---- what it takes
+
+abbrev Takes : List Parameter → List Sort → Type 0
+Takes [] [] = Unit {0}
+Takes (Borrows (Is k) h ∷ ps) (t ∷ ts) = (kind_of_type (rtype_of t) ≡ k) × Takes ps ts
+Takes ps ts = ⊥
+
+abbrev Row : Operation → Type 0
+Row op = ((row_of (primitive_of op)).outcome ≡ Owned (Is (kind_of_type (rtype_of (result_of op))))) × Takes (row_of (primitive_of op)).parameters (operands_of op)
+
+row : (op : Operation) → Row op
+row (IntArithmetic bin.Add) = (refl, (refl, (refl, tt)))
+row (IntArithmetic bin.Sub) = (refl, (refl, (refl, tt)))
+row (IntArithmetic bin.Mul) = (refl, (refl, (refl, tt)))
+row (IntArithmetic bin.FloorDiv) = (refl, (refl, (refl, tt)))
+row (IntArithmetic bin.Mod) = (refl, (refl, (refl, tt)))
+row (IntArithmetic bin.Shl) = (refl, (refl, (refl, tt)))
+row (IntArithmetic bin.Shr) = (refl, (refl, (refl, tt)))
+row (IntArithmetic bin.Bar) = (refl, (refl, (refl, tt)))
+row (NativeArithmetic bin.Add) = (refl, (refl, (refl, tt)))
+row (NativeArithmetic bin.Sub) = (refl, (refl, (refl, tt)))
+row (NativeArithmetic bin.Mul) = (refl, (refl, (refl, tt)))
+row (NativeArithmetic bin.FloorDiv) = (refl, (refl, (refl, tt)))
+row (NativeArithmetic bin.Mod) = (refl, (refl, (refl, tt)))
+row (NativeArithmetic bin.Shl) = (refl, (refl, (refl, tt)))
+row (NativeArithmetic bin.Shr) = (refl, (refl, (refl, tt)))
+row (NativeArithmetic bin.Bar) = (refl, (refl, (refl, tt)))
+row IntNegation = (refl, (refl, tt))
+row NativeNegation = (refl, (refl, tt))
+row Concatenation = (refl, (refl, (refl, tt)))
+row Length = (refl, (refl, tt))
+row Letter = (refl, (refl, (refl, tt)))
+row IntText = (refl, (refl, tt))
+row NativeText = (refl, (refl, tt))
+row BoolText = (refl, (refl, tt))
+row BoolToInt = (refl, (refl, tt))
+row BoolToNative = (refl, (refl, tt))
+row NativeToInt = (refl, (refl, tt))
+row IntToNative = (refl, (refl, tt))
+row Line = (refl, tt)
+
+taken : (regs : Declared) (ps : List Parameter) (ts : List Sort) (rs : List Reg) → Takes ps ts → HaveTypes regs ts rs → AreArguments regs ps (map Var rs)
+taken regs [] [] [] k h = tt
+taken regs [] [] (r ∷ rs) k h = absurd h
+taken regs (Borrows (Is k) g ∷ ps) (t ∷ ts) (r ∷ rs) k' h = (rtype_of t, h.0, k'.0, taken regs ps ts rs k'.1 h.1)
+taken regs (Borrows (Is k) g ∷ ps) (t ∷ ts) [] k' h = absurd h
+taken regs ps ts rs k h = absurd k
+
+pub operation_answers : (op : Operation) (rs : List Reg) (t : RType) (q : Primitive) (args : List PArg) → t ≡ rtype_of (result_of op) → q ≡ primitive_of op → args ≡ map Var rs → (regs : Declared) → HaveTypes regs (operands_of op) rs → Answers t regs q args
+operation_answers op rs t q args type does given regs h =
+    let P : RType → Type 0 = λ z. Answers z regs q args in
+    let Q : Primitive → Type 0 = λ z. Answers (rtype_of (result_of op)) regs z args in
+    let R : List PArg → Type 0 = λ z. Answers (rtype_of (result_of op)) regs (primitive_of op) z in
+    subst P (sym type) (subst Q (sym does) (subst R (sym given) ((row op).0, taken regs (row_of (primitive_of op)).parameters (operands_of op) rs (row op).1 h)))
+
+pub operands_below : (b : Building) (ts : List Sort) (rs : List Reg) → HaveTypes b.regs ts rs → AreBelow (length b.regs) (map Var rs)
+operands_below b [] [] h = tt
+operands_below b [] (r ∷ rs) h = absurd h
+operands_below b (t ∷ ts) [] h = absurd h
+operands_below b (t ∷ ts) (r ∷ rs) h = (type_below b r.0 (rtype_of t) h.0, operands_below b ts rs h.1)

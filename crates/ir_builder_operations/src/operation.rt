@@ -1,0 +1,154 @@
+//! Operations that one primitive does, each on operands of types of its own.
+ghost use Rattle.std.specs.Prelude.{◌≡◌, IfOk, true, map};
+ghost use Rattle.ir_core.specs.Building.{Extends};
+ghost use Rattle.ir_builder_frames.specs.Computing.{Shows, HaveTypes, Attempts};
+ghost use Rattle.ir_builder_frames.specs.Operands.{ActsOnAll};
+ghost use Rattle.ir_builder_frames.specs.Settings.{rtype_of};
+ghost use Rattle.ir_builder_frames.specs.Shaped.{Keeps};
+ghost use Rattle.ir_builder_frames.specs.Kinds.{KeepsKinds};
+ghost use Rattle.ir_builder_operations.specs.Rows.{is_known, operands_of, result_of, primitive_of, goes};
+ghost use Rattle.ir_builder_operations.specs.Selecting.{int_primitive, native_primitive};
+
+use c_core::{BoolPrim, Int64Prim, IoPrim, Prim, StrPrim, TaggedPrim};
+use ir_builder_frames::Emitter;
+use ir_core::{PArg, RType, Reg};
+use py_syntax::BinOp;
+use std::alloc::Global;
+use value_core::{Many, Memory};
+
+/// An operation that one primitive does (Python Language Reference, "Expressions"; mypyc's "Native integer types").
+#[derive(Clone, Copy)]
+pub enum Operation {
+    /// An operator on two `int`s. At run time a divisor of 0 raises ZeroDivisionError, a negative shift count ValueError, and a
+    /// result past 128 bits OverflowError.
+    IntArithmetic(BinOp),
+    /// An operator on two native integers. Sums, differences, products and left shifts wrap. At run time a divisor of 0 raises
+    /// ZeroDivisionError, a shift count outside 0 to 63 ValueError, and a quotient past 64 bits OverflowError.
+    NativeArithmetic(BinOp),
+    /// The other sign of an `int`. At run time that of the least one raises OverflowError.
+    IntNegation,
+    /// The other sign of a native integer. That of the least one is itself.
+    NativeNegation,
+    /// One text behind another.
+    Concatenation,
+    /// The number of a text's code points.
+    Length,
+    /// The text of the one code point at an index, which counts from the end where it is negative. At run time an index out of range
+    /// raises IndexError.
+    Letter,
+    /// The texts of an `int`, of a native integer and of a bool, as `str` gives them.
+    IntText,
+    NativeText,
+    BoolText,
+    /// A bool as the number 0 or 1.
+    BoolToInt,
+    BoolToNative,
+    /// A native integer as an `int`.
+    NativeToInt,
+    /// An `int` as a native integer. At run time OverflowError is raised where it has no place in 64 bits.
+    IntToNative,
+    /// The next line of input, without its line feed. At run time the end of the input raises EOFError, and a line that is not
+    /// UTF-8 ValueError. The run ends at a line that ends too far along, and where the input cannot be read.
+    Line,
+}
+
+// The primitive of an operator.
+fn int_operator(op: BinOp) -> TaggedPrim
+    ensures { result ≡ int_primitive op }
+{
+    match op {
+        BinOp::Add => TaggedPrim::Add,
+        BinOp::Sub => TaggedPrim::Subtract,
+        BinOp::FloorDiv => TaggedPrim::FloorDivide,
+        BinOp::Mod => TaggedPrim::Remainder,
+        BinOp::Shl => TaggedPrim::Lshift,
+        BinOp::Shr => TaggedPrim::Rshift,
+        _ => TaggedPrim::Multiply,
+    }
+}
+
+// The primitive of an operator on native integers.
+fn native_operator(op: BinOp) -> Int64Prim
+    ensures { result ≡ native_primitive op }
+{
+    match op {
+        BinOp::Add => Int64Prim::Add,
+        BinOp::Sub => Int64Prim::Subtract,
+        BinOp::FloorDiv => Int64Prim::FloorDivide,
+        BinOp::Mod => Int64Prim::Remainder,
+        BinOp::Shl => Int64Prim::Lshift,
+        BinOp::Shr => Int64Prim::Rshift,
+        _ => Int64Prim::Multiply,
+    }
+}
+
+// The primitive that does an operation.
+fn primitive(op: Operation) -> Prim
+    ensures { result ≡ primitive_of op }
+{
+    match op {
+        Operation::IntArithmetic(op) => Prim::Tagged(int_operator(op)),
+        Operation::NativeArithmetic(op) => Prim::Int64(native_operator(op)),
+        Operation::IntNegation => Prim::Tagged(TaggedPrim::Negate),
+        Operation::NativeNegation => Prim::Int64(Int64Prim::Negate),
+        Operation::Concatenation => Prim::Str(StrPrim::Concat),
+        Operation::Length => Prim::Str(StrPrim::Len),
+        Operation::Letter => Prim::Str(StrPrim::GetItem),
+        Operation::IntText => Prim::Tagged(TaggedPrim::Str),
+        Operation::NativeText => Prim::Int64(Int64Prim::Str),
+        Operation::BoolText => Prim::Bool(BoolPrim::Str),
+        Operation::BoolToInt => Prim::Tagged(TaggedPrim::FromBool),
+        Operation::BoolToNative => Prim::Int64(Int64Prim::FromBool),
+        Operation::NativeToInt => Prim::Tagged(TaggedPrim::FromInt64),
+        Operation::IntToNative => Prim::Tagged(TaggedPrim::AsInt64),
+        Operation::Line => Prim::Io(IoPrim::Input),
+    }
+}
+
+// The type of the register for its result.
+fn result_type(op: Operation) -> RType
+    ensures { result ≡ rtype_of (result_of op) }
+{
+    match op {
+        Operation::IntArithmetic(_)
+        | Operation::IntNegation
+        | Operation::Length
+        | Operation::BoolToInt
+        | Operation::NativeToInt => RType::Int,
+        Operation::NativeArithmetic(_)
+        | Operation::NativeNegation
+        | Operation::BoolToNative
+        | Operation::IntToNative => RType::I64,
+        _ => RType::Ref,
+    }
+}
+
+// Registers as arguments.
+fn arguments(alloc: Global, operands: &[Reg]) -> Result<Many<PArg>, Memory>
+    ensures { IfOk result (λ args. args ≡ map PArg.Var operands.now) }
+{
+    let mut args = Many::new(alloc);
+    for r in operands {
+        args.push(PArg::Var(*r))?;
+    }
+    Ok(args)
+}
+
+/// The result of an operation on registers, in a register of its own. What it raises is said at the operation.
+pub fn emit_operation(
+    b: &mut Emitter,
+    alloc: Global,
+    op: Operation,
+    operands: &[Reg],
+    line: usize,
+) -> Result<Reg, Memory>
+    requires known { is_known op ≡ true }
+    requires operands { HaveTypes b.old.regs (operands_of op) operands.now }
+    ensures kept { Extends b.old b.new }
+    ensures made { IfOk result (λ r. Attempts (Shows (result_of op)) b.old b.new r.0 (rtype_of (result_of op)) (ActsOnAll (operands_of op) operands.now (goes op))) }
+    ensures shaped { Keeps b.old b.new }
+    ensures kinds { KeepsKinds b.old b.new }
+{
+    let args = arguments(alloc, operands)?;
+    b.primitive(result_type(op), primitive(op), args, line)
+}

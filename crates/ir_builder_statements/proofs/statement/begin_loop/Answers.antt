@@ -1,0 +1,21 @@
+use Rattle.ir_builder_frames.specs.Settings.{Setting, setting}
+use Rattle.ir_builder_frames.proofs.MatchLemmas.{room_on}
+use Rattle.ir_builder_loops_and_jumps.specs.declared.ways.LoopStart.{LoopStart}
+use Rattle.ir_builder_statements.proofs.BodyLemmas.{while_begun}
+use Rattle.ir_builder_statements.proofs.SuiteLemmas.{while_suits}
+use Rattle.ir_builder_statements.proofs.statement.begin_loop.Goals as goal
+
+pub emit_split-requires-clause-room : goal.emit_split-requires-clause-room
+emit_split-requires-clause-room c =
+    let x : Setting = setting c.args.checked.now c.args.locals.now c.args.frame in
+    room_on x _ _ c.in_ok-head-in-While.ensures.kept c.requires.room
+
+pub returns-clause-begins : goal.returns-clause-begins
+returns-clause-begins c =
+    let x : Setting = setting c.args.checked.now c.args.locals.now c.args.frame in
+    let o : LoopStart = record { head = c.in_ok-head-in-While.head; test = c.in_ok-test-in-While.test } in
+    let test = while_suits x c.requires.suits.0 c.args.s.now c.in-While.e _ c.requires.suits.1 c.in-While.is c.requires.suits.2 in
+    while_begun x c.args.s.now c.in-While.e _ c.args.b.now c.step_on.new.self c.emit_split.new.b o c.in-While.is c.requires.room test.0 c.in_ok-head-in-While.ensures.number c.in_ok-head-in-While.ensures.closed c.in_ok-test-in-While.ensures.splits
+
+pub returns-clause-kinds : goal.returns-clause-kinds
+returns-clause-kinds c = λ g among h. c.in_ok-test-in-While.ensures.kinds g among (c.in_ok-head-in-While.ensures.kinds g h)
