@@ -1,6 +1,6 @@
 //! Reads files of cases of whole programs, and tells where what a compiler gives differs from what they say. A case has a
-//! module, and what commands over it give; the head of `data/words.test` of the program over this library says how it is
-//! written.
+//! module, and what commands over it give; the head of `test_cases/data/words.test`, of the program over this library, says
+//! how it is written.
 #![tactic(auto)]
 
 mod case;
