@@ -5,6 +5,5 @@ pub mod LoopLemmas
 pub mod BranchLemmas
 pub mod SimpleLemmas
 pub mod PrintLemmas
-pub mod MeaningLemmas
 pub mod EmitLemmas
 pub mod PlanLemmas
