@@ -18,7 +18,7 @@ use Rattle.ir_builder_loops_and_jumps.specs.declared.ways.Test.{Test}
 use Rattle.ir_builder_loops_and_jumps.specs.declared.ways.LoopStart.{LoopStart}
 use Rattle.ir_builder_loops_and_jumps.specs.Means.{means}
 use Rattle.ir_builder_loops_and_jumps.specs.Ways.{planned, left}
-use Rattle.ir_builder_loops_and_jumps.specs.Runs.{all_jumping, Works}
+use Rattle.ir_builder_loops_and_jumps.specs.Runs.{Patching, Works}
 
 -- a test was answered in a register as is said, and the block that ends with it is still to be given its jumps
 pub record Splits (IsAnswered : Building → ℕ → Type 0) (new : Building) (t : Test) : Type 0 where
@@ -52,7 +52,7 @@ pub record Joins (old new : Building) (inner before after : List Exit) : Type 0 
   pub here : end ≡ length closed.blocks
   pub closes : Closes old closed (Goto end)
   pub passed : after ≡ before ++ left (planned (joining end)) inner
-  pub jumps : new ≡ all_jumping (planned (joining end)) inner closed
+  pub patching : Patching closed new inner [] (planned (joining end))
 
 -- behind a loop, and to what it does behind its body
 abbrev pub looping_to : ℕ → ℕ → ExitPlan
@@ -70,7 +70,7 @@ pub record EndsLoop (old new : Building) (o : LoopStart) (next : ℕ) (inner bef
   pub passed : after ≡ before ++ left (planned (looping_to exit next)) inner
   pub tested : Building
   pub set : tested ≡ record closed { blocks = with_last closed.blocks o.test.block (If o.test.condition o.test.start exit) }
-  pub jumps : new ≡ all_jumping (planned (looping_to exit next)) inner tested
+  pub patching : Patching tested new inner [] (planned (looping_to exit next))
 
 -- a loop was begun: whatever its body means, where the code of the body works behind this, and the loop is ended behind that, the whole
 -- means the loop with this body

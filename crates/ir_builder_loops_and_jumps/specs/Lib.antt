@@ -1,5 +1,6 @@
 pub mod Ways
 pub mod Plans
+pub mod Branches
 pub mod Runs
 pub mod Printing
 pub mod Simple

@@ -25,9 +25,7 @@ use Rattle.ir_builder_loops_and_jumps.specs.Means.{means_loop, means_statement, 
 use Rattle.ir_builder_loops_and_jumps.specs.declared.ways.Test.{Test}
 use Rattle.ir_builder_loops_and_jumps.specs.declared.ways.LoopStart.{LoopStart}
 use Rattle.ir_builder_loops_and_jumps.specs.Runs.{Works, Emitted}
-use Rattle.ir_builder_loops_and_jumps.specs.Around.{SplitsBy, EndsArm, looping_to, EndsLoop, Begins}
-use Rattle.ir_builder_loops_and_jumps.specs.Ways.{planned}
-use Rattle.ir_builder_loops_and_jumps.proofs.ExitLemmas.{jumping_blocks}
+use Rattle.ir_builder_loops_and_jumps.specs.Around.{SplitsBy, EndsArm, EndsLoop, Begins}
 use Rattle.ir_builder_loops_and_jumps.proofs.EmitLemmas.{return_emitted, while_begins}
 use Rattle.ir_builder_statements.specs.Suiting.{TestSuits, ReturnSuits}
 use Rattle.ir_builder_statements.specs.Kinds.{IsAround}
@@ -85,7 +83,7 @@ loop_blocks b c o next ks xs ys l =
     let n2 = l.turns.blocks in
     let n3 = l.closes.blocks in
     let n4 = ap (λ (v : Building). length v.blocks) l.set ∙ with_last_length l.closed.blocks o.test.block _ in
-    let n5 = ap (λ (v : Building). length v.blocks) l.jumps ∙ jumping_blocks (planned (looping_to l.exit next)) ks l.tested in
+    let n5 = l.patching.blocks in
     omega arith
 
 -- ---- the kinds of simple statements
