@@ -35,13 +35,14 @@ pub record Asks {X : Type 0} (x : Setting) (At Inside : X → Regs → Type 0) (
   pub type : HasType new r BoolType
   pub runs : (p : Program) (fn : ℕ) (h : Option ℕ) → Placed p fn old new h → (n : ℕ) → CallsWork p x.source n → (i : X) (regs : Regs) (below : List Waiting) (s : State) → At i regs → Matches x regs s → s.turns ≤ n → Ends p s.turns (running fn (length old.blocks) (length old.ops) regs below (world None s)) (test i n s) (Asked fn (length new.blocks) (length new.ops) below x (length old.regs) regs r (Inside i)) (IsThrown fn h below x (length old.regs) regs)
 
--- code that works where registers hold what an item asks for, and leaves the registers below a number as they were
+-- code that works where registers hold what an item asks for. Behind the variables and their flags it leaves the registers below a
+-- number as they were, but for the one for a returned value
 pub record WorksAt {X : Type 0} (x : Setting) (result : Option Sort) (At : X → Regs → Type 0) (m : X → Meaning Flow) (keep : ℕ) (old new : Building) (exits : List Exit) : Type 0 where
   pub extends : Extends old new
   pub opens : OpenIn new (length old.blocks) (length new.blocks) exits
   pub runs : (p : Program) (fn : ℕ) (h : Option ℕ) (to : Way → ℕ) → Placed p fn old new h → JumpTo p fn new to exits → (n : ℕ) → CallsWork p x.source n → (i : X) (regs : Regs) (below : List Waiting) (s : State) → At i regs → Matches x regs s → s.turns ≤ n → Ends p s.turns (running fn (length old.blocks) (length old.ops) regs below (world None s)) (m i n s) (Flows p result fn (length new.blocks) (length new.ops) to exits below x keep regs) (IsThrown fn h below x keep regs)
 
--- code that goes from an item to the next one, and leaves the registers below a number as they were
+-- code that goes from an item to the next one, and of the registers leaves those as they were that such code leaves
 pub record Steps {X : Type 0} (x : Setting) (Inside At : X → Regs → Type 0) (next : X → X) (keep : ℕ) (old new : Building) : Type 0 where
   pub extends : Extends old new
   pub runs : (p : Program) (fn : ℕ) (h : Option ℕ) → Placed p fn old new h → (i : X) (regs : Regs) (below : List Waiting) (s : State) → Inside i regs → Matches x regs s → (now : Regs) × Leads p (running fn (length old.blocks) (length old.ops) regs below (world None s)) (running fn (length new.blocks) (length new.ops) now below (world None s)) × At (next i) now × Matches x now s × SameIn x.frame keep now regs

@@ -47,7 +47,7 @@ module _ (x : Setting) where
   abbrev pub means_return : Option TypedExpr → Meaning Flow
   means_return o n = means_returned o n >>= λ v. give (Returns v)
 
-  -- a loop, whatever its body means
+  -- a loop, whatever its body means; of a statement that is none, the body
   abbrev pub means_loop : TypedStmt → Meaning Flow → Meaning Flow
   means_loop (on_line (While test b) line) body n =
       loop {X = ℕ} (suc n) (λ i. test_of x.source.classes.classes (call_of x.source n) x.source.globals x.variables test) (λ i. body n) (λ i. i) 0

@@ -7,7 +7,7 @@ use ir_core::Reg;
 pub enum Way {
     /// To behind the loop.
     Break,
-    /// To the turn of the loop.
+    /// To the step of the loop, and behind it to its turn.
     Continue,
     /// Out of the function.
     Return,

@@ -2,8 +2,8 @@
 //!
 //! What comes in is a row of typed statements of a function of numbers, bools and texts; what goes out are operations
 //! and blocks in an `Emitter` (`emit_block`), which do what the statements mean, wherever they are left: `specs/Suiting.antt`
-//! says which statements are built, `Emitted` of `ir_builder_loops_and_jumps` what their code does, and `specs/Parts.antt` what stands around the
-//! bodies of `if` and `while`.
+//! says which statements are built, `Emitted` of `ir_builder_loops_and_jumps` what their code does and `Around` there what stands around the bodies of
+//! `if` and `while`, and `specs/Parts.antt` what the parts of the code of a statement are.
 #![tactic(auto)]
 
 mod alone;

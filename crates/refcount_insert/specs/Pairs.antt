@@ -1,4 +1,4 @@
--- Counts of which each two have something in common.
+-- Counts two by two, by what both have in common.
 use Rattle.std.specs.Prelude.{◌≡◌, ℕ, ◌+◌, List, [], ◌∷◌, ◌++◌, length, Some, slice_get}
 use Rattle.c_core.specs.Cells.{times}
 use Rattle.refcount_insert.specs.declared.sharing.EdgeCounts.{EdgeCounts}

@@ -1,4 +1,4 @@
--- The different counts of edges to each block, of which equal ones are kept once.
+-- The different counts of edges to each block, of which most that are equal are kept once.
 use Rattle.std.specs.Prelude.{◌≡◌, ◌⊎◌, ◌<◌, ◌≤◌, ℕ, ◌+◌, Bool, true, false, List, [], ◌∷◌, length, get_or, slice_get, Option, Some, None}
 use Rattle.c_core.specs.Cells.{times}
 use Rattle.ir_core.specs.declared.code.Last.{Last}
