@@ -11,7 +11,7 @@ ghost use Rattle.py_check_operators.specs.Names as rule_of;
 
 use py_check_coercions::kept;
 use py_check_context::{Context, Meaning, VarType, Variables, meaning_of};
-use py_check_messages::{no_type_yet, not_a_value, not_defined};
+use py_check_messages::{no_type_yet, not_a_value};
 use py_syntax::Span;
 use py_syntax_diagnostics::Diag;
 use py_typed::{TExpr, TKind, Ty, copy_of};
@@ -55,11 +55,7 @@ pub fn named(
             let e = kept(alloc, TKind::Str(name), Ty::Str, span)?;
             Ok(Some(e))
         }
-        Meaning::Untyped => Ok(None),
-        Meaning::Unknown => {
-            not_defined(alloc, span, x.as_str(), faults)?;
-            Ok(None)
-        }
+        Meaning::Untyped | Meaning::Unknown => Ok(None),
         Meaning::Function(_)
         | Meaning::Class(_)
         | Meaning::UntypedClass
