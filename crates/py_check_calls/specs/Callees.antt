@@ -1,10 +1,9 @@
 -- What is called (Python Language Reference, "Calls").
 --
--- A name that is called is only asked to be known: a function that has a signature, or a builtin that is called; a variable is
--- read like everywhere, and any other expression is typed, though neither is callable. Of a name without a type nothing is
--- said, nor of a function without a signature.
+-- A name that is called is not typed itself: a function that has a signature, or a builtin that is called; a variable is read
+-- like everywhere, and any other expression is typed, though neither is callable. Of a name without a type nothing is said, nor
+-- of a function without a signature; nor of a name that is not known, of which binding says so.
 use Rattle.std.specs.Prelude.{ℕ, Bool, true, false, not, List, Option, Some, None, slice_get}
-use Rattle.py_syntax.specs.declared.token.Span.{Span}
 use Rattle.py_syntax.specs.Expressions as tree
 use Rattle.py_syntax.specs.Expressions.{ExprTree, ExprNode, at, Arguments, no_arguments, argument_then, keyed_then}
 use Rattle.py_typed.specs.Classes.{Signature}
@@ -28,8 +27,6 @@ pub data Callee : Type 0 where
   single : Single → Callee
   -- of a value, by its name
   method : List ℕ → Callee
-  -- a name that is not known, at its place
-  unknown : Span → List ℕ → Callee
   -- nothing is said of it
   voiceless : Callee
   -- a name of what is not called
@@ -60,24 +57,24 @@ is_variable (meaning.Global i) = true
 is_variable m = false
 
 module _ (c : Context) where
-  abbrev pub name_called : Span → List ℕ → Meaning → Callee
-  name_called span x (meaning.Function i) = function_called x i (some_signature (slice_get c.signatures i))
-  name_called span x (meaning.Builtin b) = builtin_called b
-  name_called span x (meaning.Import i) = import_called i
-  name_called span x (meaning.Local i) = value
-  name_called span x (meaning.Global i) = value
-  name_called span x meaning.Unknown = unknown span x
-  name_called span x meaning.Untyped = voiceless
-  name_called span x meaning.UntypedClass = voiceless
-  name_called span x m = uncalled
+  abbrev pub name_called : List ℕ → Meaning → Callee
+  name_called x (meaning.Function i) = function_called x i (some_signature (slice_get c.signatures i))
+  name_called x (meaning.Builtin b) = builtin_called b
+  name_called x (meaning.Import i) = import_called i
+  name_called x (meaning.Local i) = value
+  name_called x (meaning.Global i) = value
+  name_called x meaning.Unknown = voiceless
+  name_called x meaning.Untyped = voiceless
+  name_called x meaning.UntypedClass = voiceless
+  name_called x m = uncalled
 
-  abbrev pub node_called : Span → ExprNode → Callee
-  node_called span (tree.Name x) = name_called span x (c.meaning x)
-  node_called span (tree.Attr e m) = method m
-  node_called span node = value
+  abbrev pub node_called : ExprNode → Callee
+  node_called (tree.Name x) = name_called x (c.meaning x)
+  node_called (tree.Attr e m) = method m
+  node_called node = value
 
   abbrev pub callee : ExprTree → Callee
-  callee (at node span) = node_called span node
+  callee (at node span) = node_called node
 
   -- a callee that is not typed itself: a name of no variable, or the method of a value
   abbrev pub is_named : ExprNode → Bool

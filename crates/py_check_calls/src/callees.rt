@@ -8,7 +8,7 @@ ghost use Rattle.py_check_calls.specs.Callees as spec;
 ghost use Rattle.py_check_calls.specs.CalleesSeen.{callee_seen};
 
 use py_check_context::{Builtin, Context, Imported, Meaning, meaning_of, signature_at};
-use py_syntax::{Expr, ExprKind, Span};
+use py_syntax::{Expr, ExprKind};
 use py_typed::Sig;
 use value_core::Name;
 
@@ -32,8 +32,6 @@ pub enum Callee<'a> {
     Single(Single),
     /// The method of a value, by its name.
     Method(&'a Name),
-    /// A name that is not known, at its place.
-    Unknown(Span, &'a Name),
     /// Nothing is said of it.
     Voiceless,
     /// A name of what is not called.
@@ -47,22 +45,21 @@ pub fn callee_of<'a>(scope: &Context<'a>, f: &'a Expr) -> Callee<'a>
     ensures { callee_seen result ≡ spec.callee (context scope.now) (expr_tree f.now) }
 {
     match &f.kind {
-        ExprKind::Name(x) => name_called(scope, f.span, x),
+        ExprKind::Name(x) => name_called(scope, x),
         ExprKind::Attr(_, m) => Callee::Method(m),
         _ => Callee::Value,
     }
 }
 
-fn name_called<'a>(scope: &Context<'a>, span: Span, x: &'a Name) -> Callee<'a>
-    ensures { callee_seen result ≡ spec.name_called (context scope.now) span x.now ((context scope.now).meaning x.now) }
+fn name_called<'a>(scope: &Context<'a>, x: &'a Name) -> Callee<'a>
+    ensures { callee_seen result ≡ spec.name_called (context scope.now) x.now ((context scope.now).meaning x.now) }
 {
     match meaning_of(scope, x) {
         Meaning::Function(i) => function_called(x, i, signature_at(scope, i)),
         Meaning::Builtin(b) => builtin_called(b),
         Meaning::Import(i) => import_called(i),
         Meaning::Local(_) | Meaning::Global(_) => Callee::Value,
-        Meaning::Unknown => Callee::Unknown(span, x),
-        Meaning::Untyped | Meaning::UntypedClass => Callee::Voiceless,
+        Meaning::Unknown | Meaning::Untyped | Meaning::UntypedClass => Callee::Voiceless,
         Meaning::Class(_) | Meaning::Exception(_) | Meaning::ModuleName => Callee::Uncalled,
     }
 }

@@ -18,7 +18,7 @@ use crate::methods::method_call;
 use py_check_coercions::{changed_row, kept, unfit};
 use py_check_context::{Row, Want};
 use py_check_messages::{
-    gives_nothing, not_callable, not_defined, range_outside_for, wrong_argument_type, wrong_number,
+    gives_nothing, not_callable, range_outside_for, wrong_argument_type, wrong_number,
 };
 use py_syntax::Span;
 use py_syntax_diagnostics::Diag;
@@ -67,10 +67,6 @@ pub fn called(
             };
             let es = positional(alloc, span, keyed, es, faults)?;
             method_call(alloc, classes, span, want, m, e, es, faults)
-        }
-        Callee::Unknown(place, x) => {
-            not_defined(alloc, place, x.as_str(), faults)?;
-            Ok(None)
         }
         Callee::Voiceless => Ok(None),
         Callee::Uncalled => {
