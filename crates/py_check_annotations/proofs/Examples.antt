@@ -12,7 +12,7 @@ use Rattle.py_check_context.specs.declared.scope.Meaning.TheVariants as meaning
 use Rattle.py_check_context.specs.declared.scope.Imported.TheVariants as imported
 use Rattle.py_check_context.specs.declared.scope.Builtin.TheVariants as builtin
 use Rattle.py_check_messages.specs.Seen.{is, silent, fails}
-use Rattle.py_check_messages.specs.Messages.{invalid_type, not_defined}
+use Rattle.py_check_messages.specs.Messages.{invalid_type}
 use Rattle.py_check_annotations.specs.Annotations.{annotation, return_annotation}
 
 abbrev meanings : List ℕ → Meaning
@@ -64,11 +64,11 @@ two_items = refl
 no_key : annotation meanings (on 1 (Index (on 1 (Name (codes "dict"))) (on 6 (TupleOf (exprs_of (on 6 (Name (codes "C")) ∷ int 9 ∷ [])))))) ≡ fails (place 1) invalid_type
 no_key = refl
 
--- `f(int)`, and `f(x)` of an unknown x
+-- `f(int)`, and `f(x)` of an x that is not known, of which binding says so
 call : annotation meanings (on 1 (Call (on 1 (Name (codes "f"))) (argument_then (int 3) no_arguments))) ≡ fails (place 1) invalid_type
 call = refl
 
-call_of_unknown : annotation meanings (on 1 (Call (on 1 (Name (codes "f"))) (argument_then (on 3 (Name (codes "x"))) no_arguments))) ≡ fails (place 3) (not_defined (codes "x"))
+call_of_unknown : annotation meanings (on 1 (Call (on 1 (Name (codes "f"))) (argument_then (on 3 (Name (codes "x"))) no_arguments))) ≡ silent
 call_of_unknown = refl
 
 -- a class that is refused

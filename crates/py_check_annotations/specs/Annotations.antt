@@ -4,8 +4,8 @@
 -- `Optional[T]` are, of types; `T | None` and `None | T` are `Optional[T]`. A text of one identifier stands for that name.
 -- `None` is a type of what is returned alone.
 --
--- The fault of what is no type stands at that part, and nothing is said of what holds it. Of an expression of no such form only
--- the unknown names have faults; without such a name there is one fault, of the whole.
+-- The fault of what is no type stands at that part, and nothing is said of what holds it. An expression of no such form has one
+-- fault, of the whole, unless a name in it is not known: of such a name binding says so, and nothing is said here.
 use Rattle.std.specs.Prelude.{ℕ, Bool, true, false, ◌&&◌, if◌then◌else◌, List, [], Option, Some, None, Result}
 use Rattle.std.specs.Option.{ok_or}
 use Rattle.py_syntax.specs.declared.token.Span.{Span}
@@ -24,7 +24,7 @@ use Rattle.py_check_messages.specs.Messages as message
 use Rattle.py_check_annotations.specs.declared.names.Former.{Former}
 use Rattle.py_check_annotations.specs.declared.annotations.Head.{Head}
 use Rattle.py_check_annotations.specs.declared.annotations.Head.TheVariants.{Form, Untyped, NoForm}
-use Rattle.py_check_annotations.specs.Names.{former_of, is_untyped, named, applied, unknown_names, or_invalid}
+use Rattle.py_check_annotations.specs.Names.{former_of, is_untyped, named, applied, has_unknown, invalid_unless}
 
 abbrev pub is_none : ExprTree → Bool
 is_none (e.at e.Nothing span) = true
@@ -71,22 +71,19 @@ module _ (meanings : List ℕ → Meaning) where
   head_named None = NoForm
   head_named (Some x) = form_or (former_of (meanings x)) (is_untyped (meanings x))
 
-  -- what can be no type, and what has none
+  -- what can be no type
   abbrev pub no_type : ExprTree → Span → Seen Sort
-  no_type whole span = record { got = None; said = or_invalid span (unknown_names meanings whole) }
-
-  abbrev pub without_type : ExprTree → Seen Sort
-  without_type whole = record { got = None; said = unknown_names meanings whole }
+  no_type whole span = record { got = None; said = invalid_unless (has_unknown meanings whole) span }
 
   -- a text in quotes
   abbrev pub quoted : Option (List ℕ) → Span → Seen Sort
   quoted None span = fails span message.invalid_type
-  quoted (Some x) span = named (meanings x) x span
+  quoted (Some x) span = named (meanings x) span
 
   -- brackets behind a head, with the types in them
   abbrev pub formed : Head → ExprTree → Span → Seen (List Sort) → Seen Sort
   formed (Form f) whole span parts = rule span (application f) parts
-  formed Untyped whole span parts = without_type whole
+  formed Untyped whole span parts = silent
   formed NoForm whole span parts = no_type whole span
 
   abbrev mutual
@@ -98,7 +95,7 @@ module _ (meanings : List ℕ → Meaning) where
 
     -- of what may be a type
     pub type_by_form : ExprNode → Span → Seen Sort
-    type_by_form (e.Name x) span = named (meanings x) x span
+    type_by_form (e.Name x) span = named (meanings x) span
     type_by_form (e.Str text) span = quoted (name_in_quotes text) span
     type_by_form (e.Bin op a b) span =
         if is_or_none op b then made optional (annotation a) else

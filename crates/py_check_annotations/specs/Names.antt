@@ -1,15 +1,16 @@
 -- What the names of an annotation stand for (PEP 484).
 --
 -- A name stands for a type, for a form of types that takes others in brackets, or for neither. A class that is refused, and a
--- name of an import that is refused, have no type, and nothing is said of them.
-use Rattle.std.specs.Prelude.{ℕ, Bool, true, false, ◌&&◌, if◌then◌else◌, nat_lt, List, [], ◌∷◌, length, Option, Some, None}
-use Rattle.std.specs.List.{flat_map}
+-- name of an import that is refused, have no type, and nothing is said of them; nor of a name that is not known, of which
+-- binding says so.
+use Rattle.std.specs.Prelude.{ℕ, Bool, true, false, ◌&&◌, ◌||◌, if◌then◌else◌, nat_lt, List, [], ◌∷◌, length, Option, Some, None}
+use Rattle.std.specs.List.{list_any}
 use Rattle.std.specs.Option.{option_map}
 use Rattle.py_syntax.specs.declared.token.Span.{Span}
 use Rattle.py_syntax.specs.Expressions.{ExprTree}
 use Rattle.py_syntax_diagnostics.specs.declared.diagnostic.Diag.{Diag}
 use Rattle.py_binder.specs.declared.sight.Manner.TheVariants.{Annotation}
-use Rattle.py_binder.specs.Sights.{Use, Reads, Sight, reads}
+use Rattle.py_binder.specs.Sights.{Use, Reads, Binds, Sight, reads}
 use Rattle.py_typed.specs.Sorts as sort
 use Rattle.py_typed.specs.Sorts.{Sort, sorts_of}
 use Rattle.py_typed.specs.Fits.{optional}
@@ -61,11 +62,8 @@ valid span None = fails span message.invalid_type
 valid span (Some t) = is t
 
 -- a name, by what it means
-abbrev pub named : Meaning → List ℕ → Span → Seen Sort
-named m x span =
-    if is_unknown m then fails span (message.not_defined x) else
-    if is_untyped m then silent
-    else valid span (plain_type m)
+abbrev pub named : Meaning → Span → Seen Sort
+named m span = if is_unknown m || is_untyped m then silent else valid span (plain_type m)
 
 -- ---- forms of types
 
@@ -99,19 +97,19 @@ applied former.Tuple ts = tuple_of ts
 
 -- ---- what is no type
 
--- of a name that is looked up
-abbrev pub unknown_there : (List ℕ → Meaning) → Use → Span → List Diag
-unknown_there meanings (Reads x) span = if is_unknown (meanings x) then diag span (message.not_defined x) ∷ [] else []
-unknown_there meanings _ span = []
+-- a name that is looked up or bound there is not known
+abbrev pub unknown_there : (List ℕ → Meaning) → Use → Bool
+unknown_there meanings (Reads x) = is_unknown (meanings x)
+unknown_there meanings (Binds x) = is_unknown (meanings x)
+unknown_there meanings _ = false
 
--- the unknown names among some that are seen
-abbrev pub unknown_among : (List ℕ → Meaning) → List Sight → List Diag
-unknown_among meanings sights = flat_map (λ x. unknown_there meanings x.does x.span) sights
+abbrev pub any_unknown : (List ℕ → Meaning) → List Sight → Bool
+any_unknown meanings sights = list_any (λ x. unknown_there meanings x.does) sights
 
-abbrev pub unknown_names : (List ℕ → Meaning) → ExprTree → List Diag
-unknown_names meanings e = unknown_among meanings (reads Annotation e)
+-- among the names in an annotation is one that is not known
+abbrev pub has_unknown : (List ℕ → Meaning) → ExprTree → Bool
+has_unknown meanings e = any_unknown meanings (reads Annotation e)
 
--- what is said of an expression that can be no type: that its unknown names are, or else that it is no type
-abbrev pub or_invalid : Span → List Diag → List Diag
-or_invalid span [] = diag span message.invalid_type ∷ []
-or_invalid span (d ∷ more) = d ∷ more
+-- what is said of what can be no type, by whether a name in it is not known
+abbrev pub invalid_unless : Bool → Span → List Diag
+invalid_unless unknown span = if unknown then [] else diag span message.invalid_type ∷ []

@@ -10,7 +10,7 @@ ghost use Rattle.py_check_messages.specs.Rows.{kept};
 ghost use Rattle.py_check_annotations.specs.Names as names;
 ghost use Rattle.py_check_annotations.specs.Annotations as spec;
 
-use crate::look_up::look_up;
+use crate::look_up::has_unknown;
 use crate::names::{Former, applied, former_of, is_untyped, named, or_none, valid};
 use py_check_context::{Context, meaning_of};
 use py_check_messages::invalid_type;
@@ -50,7 +50,7 @@ pub fn annotation(
         return no_type(alloc, scope, e, faults);
     }
     match &e.kind {
-        ExprKind::Name(x) => named(alloc, meaning_of(scope, x), x, e.span, faults),
+        ExprKind::Name(x) => named(alloc, meaning_of(scope, x), e.span, faults),
         ExprKind::Str(text) => quoted(alloc, scope, text, e.span, faults),
         ExprKind::Bin(op, a, b) => {
             if is_or_none(*op, b) {
@@ -68,7 +68,7 @@ pub fn annotation(
                 let types = parts(alloc, scope, inside, faults)?;
                 formed(alloc, former, types, e.span, faults)
             }
-            Head::Untyped => without_type(alloc, scope, e, faults),
+            Head::Untyped => Ok(None),
             Head::NoForm => no_type(alloc, scope, e, faults),
         },
         _ => Ok(None),
@@ -167,7 +167,7 @@ fn quoted(
     ensures { IfOk result (λ t. Tells sort t faults.old faults.new (spec.quoted (context scope.now).meaning (words.name_in_quotes text.now) span)) }
 {
     match name_in_quotes(alloc, text)? {
-        Some(x) => named(alloc, meaning_of(scope, &x), &x, span, faults),
+        Some(x) => named(alloc, meaning_of(scope, &x), span, faults),
         None => {
             invalid_type(alloc, span, faults)?;
             Ok(None)
@@ -184,24 +184,9 @@ fn no_type(
 ) -> Result<Option<Ty>, Memory>
     ensures { IfOk result (λ t. Tells sort t faults.old faults.new (spec.no_type (context scope.now).meaning (expr_tree e.now) e.now.span)) }
 {
-    let before = faults.len();
-    look_up(alloc, scope, e, faults)?;
-    if faults.len() == before {
+    if !has_unknown(alloc, scope, e)? {
         invalid_type(alloc, e.span, faults)?;
     }
-    Ok(None)
-}
-
-/// What has no type because a name in front has none.
-fn without_type(
-    alloc: Global,
-    scope: &Context<'_>,
-    e: &Expr,
-    faults: &mut Many<Diag>,
-) -> Result<Option<Ty>, Memory>
-    ensures { IfOk result (λ t. Tells sort t faults.old faults.new (spec.without_type (context scope.now).meaning (expr_tree e.now))) }
-{
-    look_up(alloc, scope, e, faults)?;
     Ok(None)
 }
 

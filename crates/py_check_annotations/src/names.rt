@@ -8,12 +8,12 @@ ghost use Rattle.py_check_messages.specs.Seen.{Tells};
 ghost use Rattle.py_check_annotations.specs.Names as spec;
 
 use py_check_context::{Builtin, Imported, Meaning};
-use py_check_messages::{invalid_type, not_defined};
+use py_check_messages::invalid_type;
 use py_syntax::Span;
 use py_syntax_diagnostics::Diag;
 use py_typed::{Ty, is_number, optional};
 use std::alloc::Global;
-use value_core::{Many, Memory, Name};
+use value_core::{Many, Memory};
 
 /// A form of types, which takes others in brackets.
 #[derive(Clone, Copy, PartialEq, Eq)]
@@ -72,21 +72,16 @@ pub(crate) fn is_untyped(meaning: Meaning) -> bool
     }
 }
 
-/// The type that a name is as an annotation.
+/// The type that a name is as an annotation; of one that is not known nothing is said.
 pub(crate) fn named(
     alloc: Global,
     meaning: Meaning,
-    x: &Name,
     span: Span,
     faults: &mut Many<Diag>,
 ) -> Result<Option<Ty>, Memory>
-    ensures { IfOk result (λ t. Tells sort t faults.old faults.new (spec.named meaning x.now span)) }
+    ensures { IfOk result (λ t. Tells sort t faults.old faults.new (spec.named meaning span)) }
 {
-    if is_unknown(meaning) {
-        not_defined(alloc, span, x.as_str(), faults)?;
-        return Ok(None);
-    }
-    if is_untyped(meaning) {
+    if is_unknown(meaning) || is_untyped(meaning) {
         return Ok(None);
     }
     valid(alloc, plain_type(meaning), span, faults)
