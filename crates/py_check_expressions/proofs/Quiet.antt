@@ -20,7 +20,7 @@ use Rattle.py_check_operators.specs.Chains.{all_typed, chain_of}
 use Rattle.py_check_operators.proofs.ChainLemmas.{chain_right, chain_operands}
 use Rattle.py_check_operators.specs.Choices.{operand}
 use Rattle.py_check_displays.specs.Displays.{item_sort, items_row, parts_row}
-use Rattle.py_check_calls.specs.Callees.{Callee, function, print, input, range, single, method, unknown, voiceless, uncalled, value, callee, has_key, is_named, is_variable, name_called}
+use Rattle.py_check_calls.specs.Callees.{Callee, function, print, input, range, single, method, voiceless, uncalled, value, callee, has_key, is_named, is_variable, name_called}
 use Rattle.py_check_messages.specs.Messages.{range_outside_for, not_callable}
 use Rattle.py_check_calls.specs.Calls.{arguments_row, positional, no_keys, refused, called}
 use Rattle.py_check_expressions.specs.Typing.{typing, node_typing, items, operands, each_operand, arguments, part, receiver, count}
@@ -91,7 +91,7 @@ quiet_named vars known span x (meaning.Local i) = quiet_variable span x _ (is_in
 quiet_named vars known span x (meaning.Global i) = quiet_variable span x _ false (var_at vars.globals i)
 quiet_named vars known span x meaning.ModuleName = quiet_is _
 quiet_named vars known span x meaning.Untyped = quiet_silent
-quiet_named vars known span x meaning.Unknown = quiet_fails span _
+quiet_named vars known span x meaning.Unknown = quiet_silent
 quiet_named vars known span x (meaning.Function i) = quiet_fails span _
 quiet_named vars known span x (meaning.Class i) = quiet_fails span _
 quiet_named vars known span x meaning.UntypedClass = quiet_fails span _
@@ -114,7 +114,6 @@ quiet_called classes w span keyed input p args = quiet_rule span _ (positional s
 quiet_called classes w span keyed range p args = quiet_rule span (refused range_outside_for) (positional span keyed args) (quiet_positional span keyed args)
 quiet_called classes w span keyed (single f) p args = quiet_rule span _ (positional span keyed args) (quiet_positional span keyed args)
 quiet_called classes w span keyed (method m) p args = quiet_with_part p _ (λ e. quiet_rule span _ (positional span keyed args) (quiet_positional span keyed args))
-quiet_called classes w span keyed (unknown place x) p args = quiet_fails place _
 quiet_called classes w span keyed voiceless p args = quiet_silent
 quiet_called classes w span keyed uncalled p args = quiet_rule span (refused not_callable) (positional span keyed args) (quiet_positional span keyed args)
 quiet_called classes w span keyed value p args = quiet_with_part p _ (λ e. quiet_rule span (refused not_callable) (positional span keyed args) (quiet_positional span keyed args))
@@ -131,8 +130,8 @@ plain C V known place x m e v =
     ap (λ n. (if not (is_variable n) then silent else node_typing C V free known place (tree.Name x)).said) e ∙ ap (λ b. (if not b then silent else node_typing C V free known place (tree.Name x)).said) v
 
 name_lost : (C : Context) (V : VarSorts) (known : List ℕ) (place : Span) (x : List ℕ) (m : Meaning) → C.meaning x ≡ m → Lost C V known (at (tree.Name x) place)
-name_lost C V known place x (meaning.Local i) e = ungiven (λ w span keyed args. ap (λ n. (called C.classes w span keyed (name_called C place x n) None args).got) e)
-name_lost C V known place x (meaning.Global i) e = ungiven (λ w span keyed args. ap (λ n. (called C.classes w span keyed (name_called C place x n) None args).got) e)
+name_lost C V known place x (meaning.Local i) e = ungiven (λ w span keyed args. ap (λ n. (called C.classes w span keyed (name_called C x n) None args).got) e)
+name_lost C V known place x (meaning.Global i) e = ungiven (λ w span keyed args. ap (λ n. (called C.classes w span keyed (name_called C x n) None args).got) e)
 name_lost C V known place x (meaning.Function i) e = unsaid (plain C V known place x (meaning.Function i) e refl)
 name_lost C V known place x (meaning.Class i) e = unsaid (plain C V known place x (meaning.Class i) e refl)
 name_lost C V known place x meaning.UntypedClass e = unsaid (plain C V known place x meaning.UntypedClass e refl)
@@ -190,7 +189,6 @@ called_none classes w span keyed range p b e = cc
 called_none classes w span keyed (single f) p b e = cc
 called_none classes w span keyed (method m) None b e = cc
 called_none classes w span keyed (method m) (Some a) b e = cc
-called_none classes w span keyed (unknown place x) p b e = cc
 called_none classes w span keyed voiceless p b e = cc
 called_none classes w span keyed uncalled p b e = cc
 called_none classes w span keyed value None b e = cc

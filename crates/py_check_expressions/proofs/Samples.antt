@@ -18,7 +18,7 @@ use Rattle.py_check_context.specs.declared.scope.Builtin.TheVariants as builtin
 use Rattle.py_check_context.specs.declared.scope.Imported.TheVariants as imported
 use Rattle.py_check_context.specs.Context.{Context, VarSorts, unset, untyped, has, free, test, wants, dropped}
 use Rattle.py_check_messages.specs.Seen.{Seen, diag, is, silent, fails}
-use Rattle.py_check_messages.specs.Messages.{not_defined, not_a_value, no_type_yet, unsupported_operand, unsupported_operands, only_for_none, no_common_type, wrong_item, empty_display, no_common_item, invalid_tuple, no_attribute, not_indexable, tuple_index, invalid_index, keyword_argument, not_callable, range_outside_for, wrong_number, wrong_argument, gives_nothing}
+use Rattle.py_check_messages.specs.Messages.{not_a_value, no_type_yet, unsupported_operand, unsupported_operands, only_for_none, no_common_type, wrong_item, empty_display, no_common_item, invalid_tuple, no_attribute, not_indexable, tuple_index, invalid_index, keyword_argument, not_callable, range_outside_for, wrong_number, wrong_argument, gives_nothing}
 use Rattle.py_check_expressions.specs.Typing.{typing}
 
 -- all at one place
@@ -92,7 +92,8 @@ global_is_not_narrowed = refl
 name_of_module : types (name (codes "__name__")) ≡ is (t (node.Str (codes "__main__")) sort.Str)
 name_of_module = refl
 
-name_unknown : types (name (codes "k")) ≡ fails p (not_defined (codes "k"))
+-- of a name that is not known binding says so
+name_unknown : types (name (codes "k")) ≡ silent
 name_unknown = refl
 
 name_no_variable : types (name (codes "f")) ≡ fails p (not_a_value (codes "f"))
@@ -137,7 +138,7 @@ bar_of_numbers : types (e (tree.Bin bin.Bar (number 1) (number 2))) ≡ fails p 
 bar_of_numbers = refl
 
 -- both parts are looked at, and what holds them says nothing more
-both_parts_say : types (e (tree.Bin bin.Add (name (codes "k")) (name (codes "m")))) ≡ record { got = None; said = diag p (not_defined (codes "k")) ∷ diag p (not_defined (codes "m")) ∷ [] }
+both_parts_say : types (e (tree.Bin bin.Add (name (codes "late")) (name (codes "print")))) ≡ record { got = None; said = diag p (no_type_yet (codes "late")) ∷ diag p (not_a_value (codes "print")) ∷ [] }
 both_parts_say = refl
 
 -- ---- chains
@@ -148,11 +149,11 @@ chain_holds = refl
 each_pair_says : types (e (tree.Compare (number 1) (comparison_then op.Lt text (comparison_then op.Lt (number 2) no_comparisons)))) ≡ record { got = None; said = diag p (unsupported_operands [] (codes "<") sort.Int sort.Str) ∷ diag p (unsupported_operands [] (codes "<") sort.Str sort.Int) ∷ [] }
 each_pair_says = refl
 
--- a pair is asked by itself, and what it says stands in front of what is said of the operands
-pair_beside_unknown : types (e (tree.Compare text (comparison_then op.Lt (number 1) (comparison_then op.Lt (name (codes "k")) no_comparisons)))) ≡ record { got = None; said = diag p (unsupported_operands [] (codes "<") sort.Str sort.Int) ∷ diag p (not_defined (codes "k")) ∷ [] }
+-- a pair is asked by itself, whatever the other operands are
+pair_beside_unknown : types (e (tree.Compare text (comparison_then op.Lt (number 1) (comparison_then op.Lt (name (codes "k")) no_comparisons)))) ≡ record { got = None; said = diag p (unsupported_operands [] (codes "<") sort.Str sort.Int) ∷ [] }
 pair_beside_unknown = refl
 
-pair_behind_unknown : types (e (tree.Compare (name (codes "k")) (comparison_then op.Lt (number 1) (comparison_then op.Lt text no_comparisons)))) ≡ record { got = None; said = diag p (unsupported_operands [] (codes "<") sort.Int sort.Str) ∷ diag p (not_defined (codes "k")) ∷ [] }
+pair_behind_unknown : types (e (tree.Compare (name (codes "k")) (comparison_then op.Lt (number 1) (comparison_then op.Lt text no_comparisons)))) ≡ record { got = None; said = diag p (unsupported_operands [] (codes "<") sort.Int sort.Str) ∷ [] }
 pair_behind_unknown = refl
 
 is_for_none : types (e (tree.Compare (number 1) (comparison_then op.Is (number 1) no_comparisons))) ≡ fails p only_for_none
@@ -273,7 +274,7 @@ call_changes_arguments = refl
 call_misfits : types (call (codes "f") (argument text)) ≡ fails p (wrong_argument [] 1 (codes "f") sort.Str (codes "i64"))
 call_misfits = refl
 
-call_of_unknown : types (call (codes "k") (argument (name (codes "m")))) ≡ record { got = None; said = diag p (not_defined (codes "m")) ∷ diag p (not_defined (codes "k")) ∷ [] }
+call_of_unknown : types (call (codes "k") (argument (name (codes "late")))) ≡ fails p (no_type_yet (codes "late"))
 call_of_unknown = refl
 
 call_without_signature : types (call (codes "bad") no_arguments) ≡ silent
