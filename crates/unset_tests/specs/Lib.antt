@@ -1,0 +1,3 @@
+pub mod Unset
+pub mod Without
+pub mod Walk

@@ -1,0 +1,35 @@
+//! The pass that leaves out tests which are of no use: those of a register that is surely set where it is tested.
+//!
+//! What comes in is a program as the builder makes it, which tests a variable in front of each read; what goes out does the same,
+//! step by step. `specs/Unset.antt` says where a register may be unset, by the paths of a function, `specs/Walk.antt` the same block
+//! by block, and `specs/Without.antt` which tests are left out. Of each register that is tested the blocks are marked at whose start
+//! it may be unset, over the edges by which it comes unset from one to the next.
+#![tactic(auto)]
+
+ghost use Rattle.std.specs.Prelude.{IfOk};
+ghost use Rattle.ir_core.specs.Runs.{MeansSame, Calm};
+ghost use Rattle.ir_core.specs.Shape.{Shape};
+ghost use Rattle.unset_tests.specs.Without.{IsProgramWithout};
+
+mod functions;
+mod marks;
+mod tests;
+mod walk;
+
+use crate::functions::program_without;
+use ir_core::Program;
+use std::alloc::Global;
+use value_core::Memory;
+
+/// A program without the tests of registers that are surely set (mypyc's pass `uninit`, which tests a variable only where not all
+/// paths define it). Such a test becomes a jump to where it would go on; nothing else changes.
+pub fn without_sure_tests(alloc: Global, p: Program) -> Result<Program, Memory>
+    requires shape { Shape p }
+    requires calm { Calm p }
+    ensures tests { IfOk result (λ q. IsProgramWithout p q) }
+    ensures kept { IfOk result (λ q. MeansSame p q) }
+    ensures calm { IfOk result (λ q. Calm q) }
+    ensures shaped { IfOk result (λ q. Shape q) }
+{
+    program_without(alloc, p)
+}

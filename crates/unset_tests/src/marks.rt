@@ -1,0 +1,68 @@
+//! Marks of the blocks at whose start a register may be unset.
+ghost use Rattle.std.specs.Prelude.{◌≡◌, ◌<◌, ◌∷◌, false, length, replicate, get_or, IfOk};
+ghost use Rattle.std.specs.List.{flat_map};
+ghost use Rattle.unset_tests.specs.Walk.{onward, AreUnset};
+
+use crate::walk::push_onward;
+use ir_core::{Block, RType};
+use std::alloc::Global;
+use value_core::{Memory, Name};
+
+/// So many marks, none of them set.
+pub(crate) fn no_marks(alloc: Global, count: usize) -> Result<Vec<bool>, Memory>
+    ensures { IfOk result (λ marks. marks.items ≡ replicate count false) }
+{
+    let mut marks = Vec::new(alloc);
+    for _ in 0..count {
+        marks.push(false)?;
+    }
+    Ok(marks)
+}
+
+/// Whether a number is marked.
+pub(crate) fn is_marked(marks: &[bool], t: usize) -> bool
+    ensures { result ≡ get_or marks.now t false }
+{
+    match marks.get(t) {
+        Some(mark) => *mark,
+        None => false,
+    }
+}
+
+/// Where a register comes unset at first: to the entry, and from operations that may leave it so.
+fn first_work(
+    alloc: Global,
+    regs: &[(Name, RType)],
+    blocks: &[Block],
+    r: usize,
+) -> Result<Vec<usize>, Memory>
+    ensures { IfOk result (λ work. work.items ≡ 0 ∷ flat_map (λ b. onward regs.now r b false) blocks.now) }
+{
+    let mut work = Vec::new(alloc);
+    work.push(0)?;
+    for block in blocks {
+        push_onward(&mut work, regs, r, block, false)?;
+    }
+    Ok(work)
+}
+
+/// Of each block whether a register may be unset at its start.
+pub(crate) fn unset_starts(
+    alloc: Global,
+    regs: &[(Name, RType)],
+    blocks: &[Block],
+    r: usize,
+) -> Result<Vec<bool>, Memory>
+    requires { r < length regs.now }
+    ensures { IfOk result (λ marks. AreUnset regs.now blocks.now r marks.items) }
+{
+    let mut marks = no_marks(alloc, blocks.len())?;
+    let mut work = first_work(alloc, regs, blocks, r)?;
+    while let Some(t) = work.pop() {
+        if t < marks.len() && !marks[t] {
+            marks[t] = true;
+            push_onward(&mut work, regs, r, &blocks[t], true)?;
+        }
+    }
+    Ok(marks)
+}
