@@ -1,0 +1,5 @@
+mod Items
+mod Edges
+mod Frames
+mod Kept
+mod Same

@@ -61,12 +61,10 @@ fn blocks_without(
     ensures { IfOk result (λ all. all ≡ spec.blocks_without sure.now 0 blocks) }
 {
     let mut done = Vec::new(alloc);
-    let mut k = 0;
     for block in blocks.into_vec() {
         let Block { ops, last, handler } = block;
-        let last = left_out(is_marked(sure, k), last);
+        let last = left_out(is_marked(sure, done.len()), last);
         done.push(Block { ops, last, handler })?;
-        k += 1;
     }
     Ok(Many::from_vec(done))
 }

@@ -95,7 +95,7 @@ pub(crate) struct Walked {
 }
 
 /// The same of a block, by whether the register may be unset at its start.
-pub(crate) fn walked(regs: &[(Name, RType)], r: usize, block: &Block, before: bool) -> Walked
+pub(crate) fn walk(regs: &[(Name, RType)], r: usize, block: &Block, before: bool) -> Walked
     ensures at_end { result.at_end ≡ end_unset regs.now r block.now.last block.now.ops before }
     ensures caught { result.caught ≡ caught_unset regs.now r block.now.last block.now.ops before }
 {
@@ -168,7 +168,7 @@ pub(crate) fn push_onward(
 ) -> Result<(), Memory>
     ensures { OnOk result (work.new.items ≡ work.old.items ++ onward regs.now r block.now before) }
 {
-    let walked = walked(regs, r, block, before);
+    let walked = walk(regs, r, block, before);
     push_handler(work, walked.caught, block.handler)?;
     if walked.at_end {
         push_targets(work, r, block.last)?;
@@ -190,5 +190,5 @@ fn ends_in_failure(regs: &[(Name, RType)], ops: &[(Op, usize)]) -> bool
 pub(crate) fn may_go(regs: &[(Name, RType)], r: usize, block: &Block, marked: bool) -> bool
     ensures { result ≡ may_go regs.now r block.now marked }
 {
-    !(ends_in_failure(regs, block.ops.as_slice()) || walked(regs, r, block, marked).at_end)
+    !(ends_in_failure(regs, block.ops.as_slice()) || walk(regs, r, block, marked).at_end)
 }

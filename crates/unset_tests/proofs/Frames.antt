@@ -1,0 +1,250 @@
+-- What holds in every run: each register that holds the error value of its type may be unset where its frame stands.
+use Rattle.std.proofs.Common.{◌≡◌, refl, sym, ◌∙◌, ap, subst, ℕ, suc, ◌+◌, arith, Bool, true, false, not, cond, List, [], ◌∷◌, Option, Some, None, ◌⊎◌, inl, inr}
+use Rattle.std.specs.Prelude.{slice_get, nat_eq, ◌||◌, ◌%◌, ◌/◌, ◌==◌, ℤ, pos, negsuc, zero}
+use Rattle.std.specs.Ordering.{int_eq}
+use Rattle.std.specs.Option.{option_and_then}
+use Rattle.std.proofs.lemmas.Bool.{eq-eqb, eqb-true}
+use Rattle.value_core.specs.Ending.{Ending}
+use Rattle.value_core.specs.Exceptions.{Thrown}
+use Rattle.value_core.specs.Value.{Value, IntVal, BoolVal, NoneVal, StrVal, TupleVal, ExcVal, ObjVal}
+use Rattle.c_core.specs.declared.code.CClass.{CClass}
+use Rattle.c_core.specs.Functions.{method_at, trait_method_at}
+use Rattle.ir_core.specs.declared.code.Reg.{Reg}
+use Rattle.ir_core.specs.declared.code.RType.{RType}
+use Rattle.ir_core.specs.declared.code.RType.TheVariants.{Int, I64, Bool as BoolType, Ref}
+use Rattle.ir_core.specs.declared.code.Lit.{Lit as Literal}
+use Rattle.ir_core.specs.declared.code.Lit.TheVariants.{Number, Null, PyNone, PyTrue, PyFalse}
+use Rattle.ir_core.specs.declared.code.ErrorKind.{ErrorKind}
+use Rattle.ir_core.specs.declared.code.ErrorKind.TheVariants.{Never, Magic, Always, MagicOverlapping}
+use Rattle.ir_core.specs.declared.code.Op.{Op}
+use Rattle.ir_core.specs.declared.code.Op.TheVariants.{Move, Lit, Prim, Call, Virtual, TraitCall, Turn, Inc, Dec, XDec}
+use Rattle.ir_core.specs.declared.code.Last.{Last}
+use Rattle.ir_core.specs.declared.code.Last.TheVariants.{Goto, If, IfError, Return, Unreachable}
+use Rattle.ir_core.specs.declared.code.Func.{Func}
+use Rattle.ir_core.specs.declared.code.Program.{Program}
+use Rattle.ir_core.specs.declared.kind.Edge.{Edge}
+use Rattle.ir_core.specs.declared.kind.Edge.TheVariants.{NoEdge, Tests, TestsTwice, Jumps}
+use Rattle.ir_core.specs.Items.{Item, Do, End, item_in, handler_in, blocks_of}
+use Rattle.ir_core.specs.Rows.{Declared, type_of_reg, kind_by_result, edge_of_kind, edge_of_call, edge_of_prim, edge_of_op}
+use Rattle.ir_core.specs.Registers.{Held, Unset, Holds, error_of, is_error, halved, truth, literal_of, Regs, put, look, first_regs}
+use Rattle.ir_core.specs.Effects.{World, Effect, Wrong, Gives, Acts, Fails, Ends, IfTarget, IfWritten, effect}
+use Rattle.ir_core.specs.Meaning.{Frame, Waiting, Config, Runs, Leaves, Ended, Stuck, Mode, Plain, Strict, Fitting, if_some, if_calm, next, to_block, goes, read, read_all, arguments, is_refused, is_fit, Way, Well, Badly, Wrongly, way, is_jump, is_edge, is_clear, unfit, away, may_stand, typed, turned, chosen, declared_of, registers_of, item_at, handler_at, method_of, trait_name, class_of, ended_well, raised_by, ended, halted, enters, calls, calls_method, failed, succeeds, applied, returned, leave, do_op, do_last, act, step}
+use Rattle.ir_core.specs.Missing.{is_some_edge}
+use Rattle.liveness.specs.Paths.{is_among, is_target, write_of}
+use Rattle.unset_tests.specs.Unset.{is_error_literal, is_value, sets, is_passed, Goes, passes, fails, of_test, goes_unset, UnsetAt, entry, written, kept, jumped}
+
+-- ---- literals
+halved_error : (n : ℤ) (h : Held) → halved n ≡ Some h → is_error Int h ≡ true → int_eq n (pos 1) ≡ true
+halved_error (pos n) h e f = by (n % 2 == 0) e
+  where
+    one : (b : Bool) → (n == 1) ≡ b → cond b (Some Unset) None ≡ Some h → int_eq (pos n) (pos 1) ≡ true
+    one true g k = let same : n ≡ 1 = eqb-true n 1 g in ap (λ x. int_eq (pos x) (pos 1)) same
+    one false g k = absurd (cc)
+
+    by : (b : Bool) → cond b (Some (Holds (IntVal (pos (n / 2))))) (cond (n == 1) (Some Unset) None) ≡ Some h → int_eq (pos n) (pos 1) ≡ true
+    by true k = let is : Holds (IntVal (pos (n / 2))) ≡ h = cc in let g : false ≡ true = ap (is_error Int) is ∙ f in absurd (cc)
+    by false k = one (n == 1) refl k
+halved_error (negsuc n) h e f = by (n % 2 == 1) e
+  where
+    by : (b : Bool) → cond b (Some (Holds (IntVal (negsuc (n / 2))))) None ≡ Some h → int_eq (negsuc n) (pos 1) ≡ true
+    by true k = let is : Holds (IntVal (negsuc (n / 2))) ≡ h = cc in let g : false ≡ true = ap (is_error Int) is ∙ f in absurd (cc)
+    by false k = absurd (cc)
+
+truth_error : (n : ℤ) (h : Held) → truth n ≡ Some h → is_error BoolType h ≡ true → int_eq n (pos 2) ≡ true
+truth_error (pos zero) h e f = let is : Holds (BoolVal false) ≡ h = cc in let g : false ≡ true = ap (is_error BoolType) is ∙ f in absurd (cc)
+truth_error (pos (suc zero)) h e f = let is : Holds (BoolVal true) ≡ h = cc in let g : false ≡ true = ap (is_error BoolType) is ∙ f in absurd (cc)
+truth_error (pos (suc (suc zero))) h e f = refl
+truth_error (pos (suc (suc (suc n)))) h e f = absurd (cc)
+truth_error (negsuc n) h e f = absurd (cc)
+
+native_error : (n : ℤ) → is_error I64 (Holds (IntVal n)) ≡ true → int_eq n (negsuc 112) ≡ true
+native_error (pos n) e = absurd (cc)
+native_error (negsuc n) e = let same : n ≡ 112 = eqb-true n 112 e in ap (λ x. int_eq (negsuc x) (negsuc 112)) same
+
+-- the error value is written by its literal alone
+pub literal_error : (t : RType) (l : Literal) (h : Held) → literal_of t l ≡ Some h → is_error t h ≡ true → is_error_literal t l ≡ true
+literal_error Int (Number n) h e f = halved_error n h e f
+literal_error Int Null h e f = absurd (cc)
+literal_error Int PyNone h e f = absurd (cc)
+literal_error Int PyTrue h e f = absurd (cc)
+literal_error Int PyFalse h e f = absurd (cc)
+literal_error I64 (Number n) h e f = let is : Holds (IntVal n) ≡ h = cc in native_error n (ap (is_error I64) is ∙ f)
+literal_error I64 Null h e f = absurd (cc)
+literal_error I64 PyNone h e f = absurd (cc)
+literal_error I64 PyTrue h e f = absurd (cc)
+literal_error I64 PyFalse h e f = absurd (cc)
+literal_error BoolType (Number n) h e f = truth_error n h e f
+literal_error BoolType Null h e f = absurd (cc)
+literal_error BoolType PyNone h e f = absurd (cc)
+literal_error BoolType PyTrue h e f = absurd (cc)
+literal_error BoolType PyFalse h e f = absurd (cc)
+literal_error Ref (Number n) h e f = absurd (cc)
+literal_error Ref Null h e f = refl
+literal_error Ref PyNone h e f = let is : Holds NoneVal ≡ h = cc in let g : false ≡ true = ap (is_error Ref) is ∙ f in absurd (cc)
+literal_error Ref PyTrue h e f = let is : Holds (BoolVal true) ≡ h = cc in let g : false ≡ true = ap (is_error Ref) is ∙ f in absurd (cc)
+literal_error Ref PyFalse h e f = let is : Holds (BoolVal false) ≡ h = cc in let g : false ≡ true = ap (is_error Ref) is ∙ f in absurd (cc)
+
+-- ---- small facts
+pub among_first : (n : ℕ) (ns : List ℕ) → is_among (n ∷ ns) n ≡ true
+among_first n ns = ap (λ b. b || is_among ns n) (eq-eqb n n refl)
+
+pub among_second : (m n : ℕ) (ns : List ℕ) → is_among (m ∷ n ∷ ns) n ≡ true
+among_second m n ns = by (nat_eq m n)
+  where
+    by : (b : Bool) → (b || is_among (n ∷ ns) n) ≡ true
+    by true = refl
+    by false = among_first n ns
+
+pub call_passed : (ds : Declared) (r : Reg) (behind : Option Item) → is_passed (edge_of_call ds r) behind ≡ true
+call_passed ds r behind = by (type_of_reg ds r)
+  where
+    by : (t : Option RType) → is_passed (edge_of_kind (kind_by_result t) (Some r)) behind ≡ true
+    by None = refl
+    by (Some Int) = refl
+    by (Some I64) = refl
+    by (Some BoolType) = refl
+    by (Some Ref) = refl
+
+module _ (p : Program) where
+  -- ---- frames
+  abbrev pub GoodFrame : Frame → Type 0
+  GoodFrame f =
+      (g : Func) → slice_get p.funcs f.fn ≡ Some g → (r : ℕ) (t : RType) → type_of_reg g.regs (record { 0 = r }) ≡ Some t → is_error t (f.regs r) ≡ true → UnsetAt g.regs g.blocks r f.block f.place
+
+  -- a call whose result goes into a register
+  pub record IsCallInto (ds : Declared) (o : Op) (into : Reg) : Type 0 where
+    pub writes : write_of o ≡ Some into.0
+    pub unsure : sets ds o ≡ false
+    pub edge : edge_of_op ds o ≡ edge_of_call ds into
+
+  pub record GoodWaiting (c : Waiting) : Type 0 where
+    pub frame : GoodFrame c.frame
+    pub o : Op
+    pub line : ℕ
+    pub here : item_at p c.frame.fn c.frame.block c.frame.place ≡ Some (Do o line)
+    pub into : IsCallInto (registers_of p c.frame.fn) o c.into
+
+  abbrev pub AllGood : List Waiting → Type 0
+  AllGood [] = Unit {0}
+  AllGood (c ∷ cs) = GoodWaiting c × AllGood cs
+
+  abbrev pub Good : Config → Type 0
+  Good (Runs f below w) = GoodFrame f × AllGood below
+  Good (Leaves fn below w) = AllGood below
+  Good (Ended e w) = Unit {0}
+  Good Stuck = Unit {0}
+
+  pub good_some : {A : Type 0} (o : Option A) (go : A → Config) → ((a : A) → o ≡ Some a → Good (go a)) → Good (if_some o go)
+  good_some None go h = tt
+  good_some (Some a) go h = h a refl
+
+  pub good_cond : (b : Bool) (x y : Config) → (b ≡ true → Good x) → (b ≡ false → Good y) → Good (cond b x y)
+  good_cond true x y h k = h refl
+  good_cond false x y h k = k refl
+
+  pub good_calm : (e : Option Thrown) (x : Config) → Good x → Good (if_calm e x)
+  good_calm None x h = h
+  good_calm (Some e) x h = tt
+
+  -- the registers that are there when a function begins count as unset
+  pub begins_good : (fn : ℕ) (regs : Regs) → GoodFrame (record { fn = fn; block = 0; place = 0; regs = regs })
+  begins_good fn regs g at r t type error = entry
+
+  -- ---- one operation
+  module _ (f : Frame) (o : Op) {line : ℕ} (here : item_at p f.fn f.block f.place ≡ Some (Do o line)) (good : GoodFrame f) where
+    item : (g : Func) → slice_get p.funcs f.fn ≡ Some g → item_in g.blocks f.block f.place ≡ Some (Do o line)
+    item g at = sym (ap (λ x. item_in (blocks_of x) f.block f.place) at) ∙ here
+
+    declared : (g : Func) → slice_get p.funcs f.fn ≡ Some g → registers_of p f.fn ≡ g.regs
+    declared g at = ap declared_of at
+
+    -- what it leaves in registers: each error value is one that it may write, or was there before
+    abbrev pub Puts : Regs → Type 0
+    Puts regs =
+        (ds : Declared) → registers_of p f.fn ≡ ds → (r : ℕ) (t : RType) → type_of_reg ds (record { 0 = r }) ≡ Some t → is_error t (regs r) ≡ true → ((is_target (write_of o) r ≡ true) × (sets ds o ≡ false)) ⊎ ((is_target (write_of o) r ≡ false) × (is_error t (f.regs r) ≡ true))
+
+    pub leaves_all : write_of o ≡ None → Puts f.regs
+    leaves_all none ds is r t type error = inr (ap (λ z. is_target z r) none, error)
+
+    pub leaves_put : (s : Reg) (h : Held) → write_of o ≡ Some s.0 → ((t : RType) → type_of_reg (registers_of p f.fn) s ≡ Some t → is_error t h ≡ true → sets (registers_of p f.fn) o ≡ false) → Puts (put f.regs s.0 h)
+    leaves_put s h writes unsure ds is r t type error = by (nat_eq r s.0) refl error
+      where
+        by : (b : Bool) → nat_eq r s.0 ≡ b → is_error t (cond b h (f.regs r)) ≡ true → ((is_target (write_of o) r ≡ true) × (sets ds o ≡ false)) ⊎ ((is_target (write_of o) r ≡ false) × (is_error t (f.regs r) ≡ true))
+        by true e k =
+            let same : r ≡ s.0 = eqb-true r s.0 e in
+            let type_is : type_of_reg (registers_of p f.fn) s ≡ Some t = ap (λ z. type_of_reg z s) is ∙ (ap (λ n. type_of_reg ds (record { 0 = n })) (sym same) ∙ type) in
+            inl (ap (λ z. is_target z r) writes ∙ eq-eqb s.0 r (sym same), ap (λ z. sets z o) (sym is) ∙ unsure t type_is k)
+        by false e k = inr (ap (λ z. is_target z r) writes ∙ other (nat_eq s.0 r) refl, k)
+          where
+            other : (b : Bool) → nat_eq s.0 r ≡ b → nat_eq s.0 r ≡ false
+            other false x = x
+            other true x =
+                let same : s.0 ≡ r = eqb-true s.0 r x in
+                let g : true ≡ false = sym (eq-eqb r s.0 (sym same)) ∙ e in
+                absurd (cc)
+
+    -- so a frame is good where the operation goes to
+    moved_good : (regs : Regs) → Puts regs → (c k : ℕ) → ((g : Func) → slice_get p.funcs f.fn ≡ Some g → Goes g.regs g.blocks f.block f.place c k) → GoodFrame (record { fn = f.fn; block = c; place = k; regs = regs })
+    moved_good regs left c k goes_to g at r t type error = by (left g.regs (declared g at) r t type error)
+      where
+        by : ((is_target (write_of o) r ≡ true) × (sets g.regs o ≡ false)) ⊎ ((is_target (write_of o) r ≡ false) × (is_error t (f.regs r) ≡ true)) → UnsetAt g.regs g.blocks r c k
+        by (inl h) = written f.block f.place c k o (item g at) h.0 h.1 (goes_to g at)
+        by (inr h) = kept f.block f.place c k o (good g at r t type h.1) (item g at) h.0 (goes_to g at)
+
+    -- behind the operation
+    pub next_good : (regs : Regs) → Puts regs → is_passed (edge_of_op (registers_of p f.fn) o) (item_at p f.fn f.block (suc f.place)) ≡ true → GoodFrame (next f regs)
+    next_good regs left passed =
+        let more : suc f.place ≡ f.place + 1 = omega arith in
+        subst (λ n. GoodFrame (record { fn = f.fn; block = f.block; place = n; regs = regs })) more
+        (moved_good regs left f.block (suc f.place) (λ g at.
+        passes f.block f.place o (item g at) (sym (ap (λ z. is_passed (edge_of_op (declared_of z) o) (item_in (blocks_of z) f.block (suc f.place))) at) ∙ passed)))
+
+    clear_passed : (e : Edge) (x : Option Thrown) (behind : Option Item) → is_clear e x ≡ true → is_passed e behind ≡ true
+    clear_passed NoEdge x behind h = refl
+    clear_passed (Tests r) x behind h = refl
+    clear_passed (TestsTwice r) x behind h = refl
+    clear_passed Jumps x behind h = absurd (cc)
+
+    pub succeeds_good : (e : Edge) → e ≡ edge_of_op (registers_of p f.fn) o → (regs : Regs) → Puts regs → (below : List Waiting) (w : World) (m : Mode) → AllGood below → Good (succeeds m p e f below regs w)
+    succeeds_good e is regs left below w m rest =
+        good_cond (is_clear e w.pending) (goes f below regs w) Stuck
+        (λ clear. (next_good regs left (subst (λ z. is_passed z (item_at p f.fn f.block (suc f.place)) ≡ true) is (clear_passed e w.pending (item_at p f.fn f.block (suc f.place)) clear)), rest))
+        (λ n. tt)
+
+    -- where it fails
+    edge_passed : (e : Edge) → is_edge (item_at p f.fn) e (item_at p f.fn f.block (f.place + 1)) ≡ true → is_passed e (item_at p f.fn f.block (suc f.place)) ≡ true
+    edge_passed NoEdge h = absurd (cc)
+    edge_passed (Tests r) h = refl
+    edge_passed (TestsTwice r) h = refl
+    edge_passed Jumps h =
+        let more : suc f.place ≡ f.place + 1 = omega arith in
+        ap (λ n. is_jump (item_at p f.fn f.block n)) more ∙ h
+
+    away_good : (regs : Regs) → Puts regs → (below : List Waiting) (w : World) → AllGood below → is_some_edge (edge_of_op (registers_of p f.fn) o) ≡ true → (h : Option ℕ) → handler_at p f.fn f.block ≡ h → Good (away h (next f regs) below w)
+    away_good regs left below w rest some None is = rest
+    away_good regs left below w rest some (Some h) is =
+        (
+          moved_good regs left h 0 (λ g at.
+          fails f.block f.place h o (item g at) (ap (λ z. is_some_edge (edge_of_op (declared_of z) o)) (sym at) ∙ some) (ap (λ z. handler_in (blocks_of z) f.block) (sym at) ∙ is)),
+          rest,
+        )
+
+    unfit_good : (m : Mode) (x : Config) → Good x → Good (unfit m x)
+    unfit_good Plain x h = h
+    unfit_good Strict x h = h
+    unfit_good Fitting x h = tt
+
+    pub failed_good : (m : Mode) (e : Edge) → e ≡ edge_of_op (registers_of p f.fn) o → (regs : Regs) → Puts regs → (below : List Waiting) (w : World) → AllGood below → Good (failed m p e (next f regs) below w)
+    failed_good m e is regs left below w rest = by e is refl
+      where
+        some_way : (e : Edge) → e ≡ edge_of_op (registers_of p f.fn) o → is_some_edge e ≡ true → Good (cond (is_edge (item_at p f.fn) e (item_at p f.fn f.block (f.place + 1))) (Runs (next f regs) below w) (unfit m (away (handler_at p f.fn f.block) (next f regs) below w)))
+        some_way e is some =
+            good_cond (is_edge (item_at p f.fn) e (item_at p f.fn f.block (f.place + 1))) (Runs (next f regs) below w) (unfit m (away (handler_at p f.fn f.block) (next f regs) below w))
+            (λ h. (next_good regs left (subst (λ z. is_passed z (item_at p f.fn f.block (suc f.place)) ≡ true) is (edge_passed e h)), rest))
+            (λ h. unfit_good m (away (handler_at p f.fn f.block) (next f regs) below w) (away_good regs left below w rest (ap is_some_edge (sym is) ∙ some) (handler_at p f.fn f.block) refl))
+
+        by : (e : Edge) → e ≡ edge_of_op (registers_of p f.fn) o → e ≡ e → Good (failed m p e (next f regs) below w)
+        by NoEdge is same = tt
+        by (Tests r) is same = some_way (Tests r) is refl
+        by (TestsTwice r) is same = some_way (TestsTwice r) is refl
+        by Jumps is same = some_way Jumps is refl
