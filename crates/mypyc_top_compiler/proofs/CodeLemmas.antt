@@ -37,7 +37,7 @@ same_variables (v ∷ vs) =
 -- ---- runs
 
 -- a program that comes to the same ends does what the module does too
-same_does : (m : TypedModule) (p q : Program) → DoesAsModule m p → MeansSame p q → DoesAsModule m q
+pub same_does : (m : TypedModule) (p q : Program) → DoesAsModule m p → MeansSame p q → DoesAsModule m q
 same_does m p q does same n items =
     let run = does n items in
     record { ending = run.ending; world = run.world; comes = (same n items run.ending run.world).0 run.comes; same = run.same }

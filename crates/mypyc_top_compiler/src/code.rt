@@ -10,14 +10,17 @@ use ir_builder::build;
 use py_typed::Checked;
 use refcount_insert::insert_counts;
 use std::alloc::Global;
+use unset_tests::without_sure_tests;
 use value_core::Memory;
 
-/// The code of a module all of whose forms are compiled: its intermediate code, with error edges and counts, as C text.
+/// The code of a module all of whose forms are compiled: its intermediate code, without tests of variables that are surely set, with error
+/// edges and counts, as C text.
 pub fn code_of(alloc: Global, checked: &Checked) -> Result<Code, Memory>
     requires { ModuleSuits (typed_module checked.now) }
     ensures { IfOk result (Faithful (typed_module checked.now)) }
 {
     let program = build(alloc, checked)?;
-    let edged = add_error_edges(alloc, program)?;
+    let tested = without_sure_tests(alloc, program)?;
+    let edged = add_error_edges(alloc, tested)?;
     insert_counts(alloc, &edged)
 }

@@ -2,4 +2,10 @@ mod Items
 mod Edges
 mod Frames
 mod Kept
-mod Same
+mod Stepping
+mod Lines
+mod Shaping
+mod Whole
+mod Walking
+mod Marking
+mod Settling

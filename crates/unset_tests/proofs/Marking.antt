@@ -1,5 +1,5 @@
 -- Marks of the blocks to which a register comes unset.
-use Rattle.std.proofs.Common.{◌≡◌, refl, sym, ◌∙◌, ap, subst, ℕ, zero, suc, ◌+◌, ◌-◌, ◌<◌, ◌≤◌, arith, Bool, true, false, cond, List, [], ◌∷◌, ◌++◌, length, Option, Some, None, ◌⊎◌, inl, inr, ⊎_elim, get_or, take}
+use Rattle.std.proofs.Common.{◌≡◌, refl, sym, ◌∙◌, ap, subst, ℕ, zero, suc, ◌+◌, ◌-◌, ◌<◌, ◌≤◌, arith, Bool, true, false, cond, List, [], ◌∷◌, ◌++◌, length, length-append, Option, Some, None, ◌⊎◌, inl, inr, ⊎_elim, get_or, take}
 use Rattle.std.specs.Prelude.{slice_get, slice_set, replicate, not, nat_eq, ◌&&◌, ◌||◌, ◌↔◌}
 use Rattle.std.specs.List.{flat_map}
 use Rattle.std.specs.Option.{option_to_list}
@@ -47,13 +47,17 @@ same_or (suc c) (suc t) = on (same_or c t)
     on (inr ne) = inr (λ e. ne (omega (arith, e)))
 
 -- how much is left: of each block without a mark room for itself and the three at most that it goes to
+abbrev pub room : Bool → ℕ
+room true = 0
+room false = 4
+
 abbrev pub weight : List Bool → ℕ
 weight [] = 0
-weight (x ∷ xs) = cond x 0 4 + weight xs
+weight (x ∷ xs) = room x + weight xs
 
 pub weight_set : (xs : List Bool) (t : ℕ) → t < length xs → get_or xs t false ≡ false → weight (slice_set xs t true) + 4 ≡ weight xs
 weight_set [] t lt e = absurd (omega (arith, lt))
-weight_set (x ∷ xs) zero lt e = let was : cond x 0 4 ≡ 4 = ap (λ b. cond b 0 4) e in omega (arith, was)
+weight_set (x ∷ xs) zero lt e = let was = ap room e in omega (arith, was)
 weight_set (x ∷ xs) (suc t) lt e = let h = weight_set xs t (omega (arith, lt)) e in omega (arith, h)
 
 goes_few : (r : ℕ) (l : Last) → length (goes_unset r l) ≤ 2
@@ -67,15 +71,11 @@ goes_few r (IfError s e n line) = by (nat_eq s.0 r)
 goes_few r (Return s) = omega arith
 goes_few r Unreachable = omega arith
 
-append_size : (xs ys : List ℕ) → length (xs ++ ys) ≡ length xs + length ys
-append_size [] ys = refl
-append_size (x ∷ xs) ys = let h = append_size xs ys in omega (arith, h)
-
 pub onward_few : (regs : Declared) (r : ℕ) (b : Block) (before : Bool) → length (onward regs r b before) ≤ 3
 onward_few regs r b before =
     let one = first (caught_unset regs r b.last b.ops before) b.handler in
     let two = second (end_unset regs r b.last b.ops before) in
-    let both = append_size (cond (caught_unset regs r b.last b.ops before) (option_to_list b.handler) []) (cond (end_unset regs r b.last b.ops before) (goes_unset r b.last) []) in
+    let both = length-append (cond (caught_unset regs r b.last b.ops before) (option_to_list b.handler) []) (cond (end_unset regs r b.last b.ops before) (goes_unset r b.last) []) in
     omega (arith, one, two, both)
   where
     first : (c : Bool) (h : Option ℕ) → length (cond c (option_to_list h) []) ≤ 1
@@ -96,7 +96,7 @@ module _ (regs : Declared) (blocks : List Block) (r : ℕ) where
     pub size : length marks ≡ length blocks
     pub sound : (t : ℕ) → get_or marks t false ≡ true → UnsetAt regs blocks r t 0
     pub waits : (t : ℕ) → is_among work t ≡ true → UnsetAt regs blocks r t 0
-    pub entry : (get_or marks 0 false ≡ true) ⊎ (is_among work 0 ≡ true)
+    pub begins : 0 < length blocks → (get_or marks 0 false ≡ true) ⊎ (is_among work 0 ≡ true)
     pub closed : (b t : ℕ) (k : Block) → slice_get blocks b ≡ Some k → is_among (onward regs r k (get_or marks b false)) t ≡ true → t < length blocks → (get_or marks t false ≡ true) ⊎ (is_among work t ≡ true)
 
   -- what is onward from a block where the register is set at its start
@@ -120,7 +120,7 @@ module _ (regs : Declared) (blocks : List Block) (r : ℕ) where
     size = replicate_size (length blocks);
     sound = λ t e. let f : false ≡ true = sym (no_mark (length blocks) t) ∙ e in absurd (cc);
     waits = λ t e. ⊎_elim (λ h. subst (λ z. UnsetAt regs blocks r z 0) (among_one 0 t h) entry) (λ h. from_seed t h) (among_parts (0 ∷ []) (seeds blocks) t e);
-    entry = inr (among_front (0 ∷ []) (seeds blocks) 0 (one_among 0));
+    begins = λ l. inr (among_front (0 ∷ []) (seeds blocks) 0 (one_among 0));
     closed = λ b t k at e lt. inr (among_back (0 ∷ []) (seeds blocks) t (seed_there blocks b t k at (ap (λ z. is_among (onward regs r k z) t) (sym (no_mark (length blocks) b)) ∙ e)));
   }
     where
@@ -140,7 +140,7 @@ module _ (regs : Declared) (blocks : List Block) (r : ℕ) where
       size = m.size;
       sound = m.sound;
       waits = λ x e. m.waits x (among_front work (t ∷ []) x e);
-      entry = first m.entry;
+      begins = λ l. still 0 l (m.begins l);
       closed = λ b x k at e lt. still x lt (m.closed b x k at e lt);
     }
       where
@@ -155,7 +155,7 @@ module _ (regs : Declared) (blocks : List Block) (r : ℕ) where
       size = set_size marks t true ∙ m.size;
       sound = λ x e. sound x (same_or x t) e;
       waits = λ x e. ⊎_elim (λ h. m.waits x (among_front work (t ∷ []) x h)) (λ h. onward_sound regs r blocks t k at true (λ z. here) x h) (among_parts work (onward regs r k true) x e);
-      entry = still 0 m.entry;
+      begins = λ l. still 0 (m.begins l);
       closed = λ b x j there e lt. closed b x j there (same_or b t) e lt;
     }
       where
@@ -201,7 +201,7 @@ module _ (regs : Declared) (blocks : List Block) (r : ℕ) where
 
       closed : AreClosed regs r blocks marks
       closed = record {
-        entry = λ l. no_work 0 m.entry;
+        begins = λ l. no_work 0 (m.begins l);
         closed = λ b x k at e l. no_work x (m.closed b x k at e l);
       }
 

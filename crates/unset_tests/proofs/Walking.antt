@@ -118,14 +118,14 @@ module _ (regs : Declared) (r : ℕ) where
     caught_from [] before e = absurd (cc)
     caught_from (x ∷ os) before e =
         let later : Bool = passed_unset regs r last x os before in
-        by (or_parts (is_some_edge (edge_of_op regs x.0) && left_unset regs r x.0 before) (caught_unset regs r last os later) e)
+        by (λ h. caught_from os later h) (or_parts (is_some_edge (edge_of_op regs x.0) && left_unset regs r x.0 before) (caught_unset regs r last os later) e)
       where
-        by : ((is_some_edge (edge_of_op regs x.0) && left_unset regs r x.0 before) ≡ true) ⊎ (caught_unset regs r last os (passed_unset regs r last x os before) ≡ true) → IsCaught (x ∷ os) before
-        by (inl h) =
+        by : (caught_unset regs r last os (passed_unset regs r last x os before) ≡ true → IsCaught os (passed_unset regs r last x os before)) → ((is_some_edge (edge_of_op regs x.0) && left_unset regs r x.0 before) ≡ true) ⊎ (caught_unset regs r last os (passed_unset regs r last x os before) ≡ true) → IsCaught (x ∷ os) before
+        by more (inl h) =
             let both = and_parts (is_some_edge (edge_of_op regs x.0)) (left_unset regs r x.0 before) h in
             record { place = 0; o = x.0; line = x.1; item = refl; some = both.0; left = both.1 }
-        by (inr h) =
-            let c : IsCaught os (passed_unset regs r last x os before) = caught_from os (passed_unset regs r last x os before) h in
+        by more (inr h) =
+            let c : IsCaught os (passed_unset regs r last x os before) = more h in
             record { place = suc c.place; o = c.o; line = c.line; item = c.item; some = c.some; left = c.left }
 
   -- what may be unset behind an operation
@@ -189,7 +189,7 @@ module _ (regs : Declared) (r : ℕ) where
 
     -- ---- and marks that are closed tell all
     pub record AreClosed (marks : List Bool) : Type 0 where
-      pub entry : 0 < length blocks → get_or marks 0 false ≡ true
+      pub begins : 0 < length blocks → get_or marks 0 false ≡ true
       pub closed : (b t : ℕ) (k : Block) → slice_get blocks b ≡ Some k → is_among (onward regs r k (get_or marks b false)) t ≡ true → t < length blocks → get_or marks t false ≡ true
 
     module _ (declared : r < length regs) (marks : List Bool) (c : AreClosed marks) where
@@ -198,13 +198,13 @@ module _ (regs : Declared) (r : ℕ) where
 
       -- where an operation goes to
       told_on : (b p : ℕ) (o : Op) {line : ℕ} → item_in blocks b p ≡ Some (Do o line) → ((k : Block) → slice_get blocks b ≡ Some k → left_unset regs r o (state_at k.last k.ops p (get_or marks b false)) ≡ true) → (d i : ℕ) → Goes regs blocks b p d i → Told d i
-      told_on b p o {line} at left d i (passes b p x is passed) k there =
+      told_on b p o {line} at left d i (passes b2 p2 x is passed) k there =
           let item : in_block k.ops k.last p ≡ Some (Do o line) = sym (ap (λ z. item_of z p) there) ∙ at in
           let same : x ≡ o = item_op x o (sym is ∙ at) in
           let behind : is_passed (edge_of_op regs o) (in_block k.ops k.last (suc p)) ≡ true = sym (ap (λ z. is_passed (edge_of_op regs o) (item_of z (suc p))) there) ∙ (ap (λ z. is_passed (edge_of_op regs z) (item_in blocks b (suc p))) (sym same) ∙ passed) in
           state_step k.last k.ops p (get_or marks b false) o item
           ∙ and_from (is_passed (edge_of_op regs o) (in_block k.ops k.last (suc p))) (left_unset regs r o (state_at k.last k.ops p (get_or marks b false))) behind (left k there)
-      told_on b p o {line} at left d i (fails b p h x is some handler) k there =
+      told_on b p o {line} at left d i (fails b2 p2 h x is some handler) k there =
           let same : x ≡ o = item_op x o (sym is ∙ at) in
           let found = block_of_item blocks b p (Do o line) at in
           let j : Block = found.0 in
@@ -219,13 +219,13 @@ module _ (regs : Declared) (r : ℕ) where
           (there_within blocks h k there)
 
       pub complete : (b p : ℕ) → UnsetAt regs blocks r b p → Told b p
-      complete b p (undeclared b p far) k there = absurd (omega (arith, declared, far))
-      complete b p entry k there = c.entry (there_within blocks 0 k there)
-      complete d i (written b p d i o at writes unsure goes_to) k there =
+      complete b p (undeclared b2 p2 far) k there = absurd (omega (arith, declared, far))
+      complete b p entry k there = c.begins (there_within blocks 0 k there)
+      complete d i (written b p d2 i2 o at writes unsure goes_to) k there =
           told_on b p o at (λ j is. left_written o (state_at j.last j.ops p (get_or marks b false)) writes unsure) d i goes_to k there
-      complete d i (kept b p d i o unset at other goes_to) k there =
+      complete d i (kept b p d2 i2 o unset at other goes_to) k there =
           told_on b p o at (λ j is. left_kept o (state_at j.last j.ops p (get_or marks b false)) other (complete b p unset j is)) d i goes_to k there
-      complete t i (jumped b p t l unset at among) k there =
+      complete t i (jumped b p t2 l unset at among) k there =
           let found = block_of_item blocks b p (End l) at in
           let j : Block = found.0 in
           let before : Bool = get_or marks b false in

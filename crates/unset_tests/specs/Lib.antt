@@ -1,3 +1,4 @@
 pub mod Unset
 pub mod Without
 pub mod Walk
+pub mod Same

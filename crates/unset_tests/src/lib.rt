@@ -9,6 +9,7 @@
 ghost use Rattle.std.specs.Prelude.{IfOk};
 ghost use Rattle.ir_core.specs.Runs.{MeansSame, Calm};
 ghost use Rattle.ir_core.specs.Shape.{Shape};
+ghost use Rattle.unset_tests.specs.Same.{RunsSame};
 ghost use Rattle.unset_tests.specs.Without.{IsProgramWithout};
 
 mod functions;
@@ -25,10 +26,10 @@ use value_core::Memory;
 /// paths define it). Such a test becomes a jump to where it would go on; nothing else changes.
 pub fn without_sure_tests(alloc: Global, p: Program) -> Result<Program, Memory>
     requires shape { Shape p }
-    requires calm { Calm p }
     ensures tests { IfOk result (λ q. IsProgramWithout p q) }
+    ensures runs { IfOk result (λ q. RunsSame p q) }
     ensures kept { IfOk result (λ q. MeansSame p q) }
-    ensures calm { IfOk result (λ q. Calm q) }
+    ensures calm { IfOk result (λ q. Calm p → Calm q) }
     ensures shaped { IfOk result (λ q. Shape q) }
 {
     program_without(alloc, p)
