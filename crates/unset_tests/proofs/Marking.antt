@@ -3,7 +3,7 @@ use Rattle.std.proofs.Common.{◌≡◌, refl, sym, ◌∙◌, ap, subst, ℕ, z
 use Rattle.std.specs.Prelude.{slice_get, slice_set, replicate, not, nat_eq, ◌&&◌, ◌||◌, ◌↔◌}
 use Rattle.std.specs.List.{flat_map}
 use Rattle.std.specs.Option.{option_to_list}
-use Rattle.std.proofs.lemmas.Bool.{eq-eqb}
+use Rattle.std.proofs.lemmas.Option.{slice_get_read}
 use Rattle.ir_core.specs.declared.code.Last.{Last}
 use Rattle.ir_core.specs.declared.code.Last.TheVariants.{Goto, If, IfError, Return, Unreachable}
 use Rattle.ir_core.specs.declared.code.Block.{Block}
@@ -209,3 +209,13 @@ pub empty_work : (xs rest : List ℕ) (n : ℕ) → xs ≡ rest ++ [] → rest �
 empty_work xs rest n e f z =
     let none : rest ≡ [] = f ∙ ap (λ k. take (k - 1) xs) z in
     e ∙ ap (λ r. r ++ []) none
+
+-- ---- what a mark and a block are
+pub block_there : (blocks : List Block) (t : ℕ) (k : Block) → t < length blocks → k ≡ get_or blocks t k → slice_get blocks t ≡ Some k
+block_there blocks t k lt is = slice_get_read blocks (length blocks) t k refl lt is
+
+pub mark_false : (marks xs : List Bool) (t : ℕ) (x : Bool) → xs ≡ marks → x ≡ get_or xs t false → x ≡ false → get_or marks t false ≡ false
+mark_false marks xs t x same is e = ap (λ z. get_or z t false) (sym same) ∙ (sym is ∙ e)
+
+pub mark_true : (marks xs : List Bool) (t : ℕ) (x : Bool) → xs ≡ marks → x ≡ get_or xs t false → x ≡ true → get_or marks t false ≡ true
+mark_true marks xs t x same is e = ap (λ z. get_or z t false) (sym same) ∙ (sym is ∙ e)

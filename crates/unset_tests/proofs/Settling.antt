@@ -11,11 +11,12 @@ use Rattle.ir_core.specs.declared.kind.Edge.TheVariants.{NoEdge, Tests, TestsTwi
 use Rattle.ir_core.specs.Items.{in_block}
 use Rattle.ir_core.specs.Rows.{Declared, edge_of_op}
 use Rattle.ir_core.specs.Meaning.{is_jump}
+use Rattle.std.proofs.lemmas.Option.{slice_get_read}
 use Rattle.unset_tests.specs.Unset.{is_jumps, is_passed, ends_in_failure, UnsetAt, undeclared, entry}
 use Rattle.unset_tests.specs.Without.{Stays, IsEndWithout, IsBlockWithout, AreBlocksWithout}
-use Rattle.unset_tests.specs.Walk.{end_unset, AreUnset, is_tested_by, is_test_of, may_go, left_out, blocks_without, AreSure}
+use Rattle.unset_tests.specs.Walk.{end_unset, AreUnset, is_tested_by, is_test_of, may_go, settled, left_out, blocks_without, AreSure}
 use Rattle.unset_tests.proofs.Walking.{state_at, end_is, state_sound, onward_sound, AreClosed, complete, there_within}
-use Rattle.unset_tests.proofs.Marking.{no_mark, same_or}
+use Rattle.unset_tests.proofs.Marking.{no_mark, same_or, set_there, set_other}
 
 -- ---- the last operation
 pub last_is : (regs : Declared) (ops : List (Op × ℕ)) (o : Op × ℕ) → slice_get ops (length ops - 1) ≡ Some o → is_jumps (edge_of_op regs o.0) ≡ ends_in_failure regs ops
@@ -59,6 +60,9 @@ passed_to_other e rest last h other = sym (ap (λ z. is_passed z (in_block rest 
     by [] (IfError r a b line) ne = refl
     by [] (Return r) ne = refl
     by [] Unreachable ne = refl
+
+some_block : (x b : Block) → Some x ≡ Some b → x ≡ b
+some_block x b e = cc
 
 -- ---- which tests may go
 below_or : (a c : ℕ) → (a < c) ⊎ (c ≤ a)
@@ -143,8 +147,8 @@ module _ (regs : Declared) (blocks : List Block) where
                 absurd (cc)
             no_reason (inr h) = let g : true ≡ false = sym h ∙ e in absurd (cc)
 
-    pub settled_more : (old new : List Bool) → ((k : ℕ) (b : Block) → slice_get blocks k ≡ Some b → get_or new k false ≡ cond (is_test_of r b) (may_go regs r b (get_or marks k false)) (get_or old k false)) → AreSettled old r → AreSettled new (r + 1)
-    settled_more old new settled h k s b at is = by (same_or s r)
+    pub settled_more : (old new : List Bool) → ((k : ℕ) (b : Block) → slice_get blocks k ≡ Some b → get_or new k false ≡ settled regs r b (get_or marks k false) (get_or old k false)) → AreSettled old r → AreSettled new (r + 1)
+    settled_more old new by_marks h k s b at is = by (same_or s r)
       where
         untested : (s ≡ r → ⊥) → (x : Bool) → is_test_of r b ≡ x → is_test_of r b ≡ false
         untested ne false e = e
@@ -153,10 +157,10 @@ module _ (regs : Declared) (blocks : List Block) where
         by : (s ≡ r) ⊎ (s ≡ r → ⊥) → (s < r + 1 → IsSettled k s b (get_or new k false)) × (r + 1 ≤ s → get_or new k false ≡ false)
         by (inl same) =
             let own : is_test_of r b ≡ true = ap (λ z. is_test_of z b) (sym same) ∙ is in
-            let goes : may_go regs r b (get_or marks k false) ≡ get_or new k false = sym (settled k b at ∙ ap (λ z. cond z (may_go regs r b (get_or marks k false)) (get_or old k false)) own) in
+            let goes : may_go regs r b (get_or marks k false) ≡ get_or new k false = sym (by_marks k b at ∙ ap (λ z. cond z (may_go regs r b (get_or marks k false)) (get_or old k false)) own) in
             (λ lt. subst (λ z. IsSettled k z b (get_or new k false)) (sym same) (subst (IsSettled k r b) goes (settled_one k b at)), λ le. absurd (omega (arith, same, le)))
         by (inr ne) =
-            let kept : get_or old k false ≡ get_or new k false = sym (settled k b at ∙ ap (λ z. cond z (may_go regs r b (get_or marks k false)) (get_or old k false)) (untested ne (is_test_of r b) refl)) in
+            let kept : get_or old k false ≡ get_or new k false = sym (by_marks k b at ∙ ap (λ z. cond z (may_go regs r b (get_or marks k false)) (get_or old k false)) (untested ne (is_test_of r b) refl)) in
             let was = h k s b at is in
             (λ lt. subst (IsSettled k s b) kept (was.0 (below_not s r ne lt)), λ le. sym kept ∙ was.1 (omega (arith, le)))
 
@@ -202,3 +206,30 @@ module _ (regs : Declared) (blocks : List Block) (sure : List Bool) (are : AreSu
 
   pub blocks_are : AreBlocksWithout regs blocks 0 blocks (blocks_without sure 0 blocks)
   blocks_are = blocks_from 0 blocks (λ j. let n : j ≡ 0 + j = omega arith in ap (slice_get blocks) n)
+
+-- a function that is made so. What was settled was made from copies of its registers and blocks
+pub blocks_by : (regs ds : Declared) (blocks bs new : List Block) (sure marks : List Bool) → ds ≡ regs → bs ≡ blocks → AreSure ds bs sure → marks ≡ sure → new ≡ blocks_without marks 0 blocks → AreBlocksWithout regs blocks 0 blocks new
+blocks_by regs ds blocks bs new sure marks same_ds same_bs are same_marks is =
+    let all : AreSure regs blocks sure = subst (λ z. AreSure z blocks sure) same_ds (subst (λ z. AreSure ds z sure) same_bs are) in
+    subst (AreBlocksWithout regs blocks 0 blocks) (sym (is ∙ ap (λ z. blocks_without z 0 blocks) same_marks)) (blocks_are regs blocks sure all)
+
+-- ---- one block more is settled
+module _ (regs : Declared) (blocks : List Block) (r : ℕ) (marks old : List Bool) where
+  abbrev pub IsSettledTo : List Bool → ℕ → Type 0
+  IsSettledTo sure n =
+      (j : ℕ) (b : Block) → slice_get blocks j ≡ Some b → (j < n → get_or sure j false ≡ settled regs r b (get_or marks j false) (get_or old j false)) × (n ≤ j → get_or sure j false ≡ get_or old j false)
+
+  pub settled_next : (sure : List Bool) (k : ℕ) (x : Block) (v was : Bool) → k < length blocks → length sure ≡ length blocks → x ≡ get_or blocks k x → was ≡ get_or sure k false → v ≡ settled regs r x (get_or marks k false) was → IsSettledTo sure k → IsSettledTo (slice_set sure k v) (k + 1)
+  settled_next sure k x v was lt size there before is h j b at = by (same_or j k)
+    where
+      by : (j ≡ k) ⊎ (j ≡ k → ⊥) → (j < k + 1 → get_or (slice_set sure k v) j false ≡ settled regs r b (get_or marks j false) (get_or old j false)) × (k + 1 ≤ j → get_or (slice_set sure k v) j false ≡ get_or old j false)
+      by (inl same) =
+          let found : x ≡ b = some_block x b (sym (slice_get_read blocks (length blocks) k x refl lt there) ∙ (ap (slice_get blocks) (sym same) ∙ at)) in
+          let written : get_or (slice_set sure k v) j false ≡ v = ap (λ z. get_or (slice_set sure k v) z false) same ∙ set_there sure k v (omega (arith, lt, size)) in
+          let kept : was ≡ get_or old j false = before ∙ (ap (λ z. get_or sure z false) (sym same) ∙ (h j b at).1 (omega (arith, same))) in
+          let value : v ≡ settled regs r b (get_or marks j false) (get_or old j false) =
+          is ∙ (ap (λ z. settled regs r z (get_or marks k false) was) found ∙ (ap (λ z. settled regs r b (get_or marks z false) was) (sym same) ∙ ap (settled regs r b (get_or marks j false)) kept)) in
+          (λ l. written ∙ value, λ l. absurd (omega (arith, same, l)))
+      by (inr ne) =
+          let other : get_or (slice_set sure k v) j false ≡ get_or sure j false = set_other sure k j v ne in
+          (λ l. other ∙ (h j b at).0 (below_not j k ne l), λ l. other ∙ (h j b at).1 (omega (arith, l)))

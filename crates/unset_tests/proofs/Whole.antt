@@ -1,5 +1,5 @@
 -- The program without tests: its runs are the program's.
-use Rattle.std.proofs.Common.{◌≡◌, sym, ◌∙◌, ap, subst, ℕ}
+use Rattle.std.proofs.Common.{◌≡◌, sym, ◌∙◌, ap, subst, ℕ, Result, Ok, Err, IfOk}
 use Rattle.value_core.specs.Ending.{Ending}
 use Rattle.value_core.specs.Items.{Items}
 use Rattle.ir_core.specs.declared.code.Program.{Program}
@@ -11,6 +11,11 @@ use Rattle.unset_tests.specs.Same.{RunsSame}
 use Rattle.unset_tests.specs.Without.{IsProgramWithout}
 use Rattle.unset_tests.proofs.Stepping.{runs_same}
 use Rattle.unset_tests.proofs.Shaping.{shape_kept}
+
+-- what holds of a value where there is one
+pub if_ok : {T E : Type 0} (r : Result T E) (P Q : T → Type 0) → ((x : T) → P x → Q x) → IfOk r P → IfOk r Q
+if_ok (Ok x) P Q f h = f x h
+if_ok (Err e) P Q f h = h
 
 module _ (p q : Program) (without : IsProgramWithout p q) where
   -- it differs in its functions alone

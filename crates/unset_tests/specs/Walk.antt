@@ -57,6 +57,10 @@ is_test_of r b = is_tested_by r b.last
 abbrev pub may_go : Declared → ℕ → Block → Bool → Bool
 may_go regs r b marked = not (ends_in_failure regs b.ops || end_unset regs r b.last b.ops marked)
 
+-- and of a block that tests another register or none what was settled before
+abbrev pub settled : Declared → ℕ → Block → Bool → Bool → Bool
+settled regs r b marked was = cond (is_test_of r b) (may_go regs r b marked) was
+
 -- which tests go, by block: those that are marked; each block of which the test goes jumps to where it would go on
 abbrev pub left_out : Bool → Last → Last
 left_out true (IfError r e n line) = Goto n

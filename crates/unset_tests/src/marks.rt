@@ -59,7 +59,7 @@ pub(crate) fn unset_starts(
     let mut marks = no_marks(alloc, blocks.len())?;
     let mut work = first_work(alloc, regs, blocks, r)?;
     while let Some(t) = work.pop() {
-        if t < marks.len() && !marks[t] {
+        if t < blocks.len() && !is_marked(marks.as_slice(), t) {
             marks[t] = true;
             push_onward(&mut work, regs, r, &blocks[t], true)?;
         }

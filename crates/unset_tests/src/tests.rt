@@ -1,7 +1,7 @@
 //! Which tests may go.
-ghost use Rattle.std.specs.Prelude.{◌≡◌, ◌<◌, ℕ, true, false, cond, length, Some, get_or, slice_get, IfOk};
+ghost use Rattle.std.specs.Prelude.{◌≡◌, ◌<◌, ℕ, true, false, length, Some, get_or, slice_get, IfOk};
 ghost use Rattle.ir_core.specs.declared.code.Block.{Block as BlockItem};
-ghost use Rattle.unset_tests.specs.Walk.{is_tested_by, is_test_of, may_go, AreSure};
+ghost use Rattle.unset_tests.specs.Walk.{is_tested_by, is_test_of, may_go, settled, AreSure};
 
 use crate::marks::{is_marked, no_marks, unset_starts};
 use crate::walk::may_go;
@@ -47,22 +47,38 @@ fn is_test_of(block: &Block, r: usize) -> bool
     }
 }
 
+/// Whether a block's test may go: of one that tests this register by its mark, of any other as it was settled.
+fn settled(
+    regs: &[(Name, RType)],
+    block: &Block,
+    r: usize,
+    marked: bool,
+    was: bool,
+) -> bool
+    ensures { result ≡ settled regs.now r block.now marked was }
+{
+    if is_test_of(block, r) {
+        may_go(regs, r, block, marked)
+    } else {
+        was
+    }
+}
+
 /// Marks the tests of a register that may go, by the blocks at whose start it may be unset.
 fn settle(
     regs: &[(Name, RType)],
     blocks: &[Block],
     r: usize,
     marks: &[bool],
-    sure: &mut [bool],
+    sure: &mut Vec<bool>,
 )
-    requires { length sure.old ≡ length blocks.now }
-    ensures size { length sure.new ≡ length sure.old }
-    ensures settled { (k : ℕ) (b : BlockItem) → slice_get blocks.now k ≡ Some b → get_or sure.new k false ≡ cond (is_test_of r b) (may_go regs.now r b (get_or marks.now k false)) (get_or sure.old k false) }
+    requires { length sure.old.items ≡ length blocks.now }
+    ensures size { length sure.new.items ≡ length sure.old.items }
+    ensures settled { (k : ℕ) (b : BlockItem) → slice_get blocks.now k ≡ Some b → get_or sure.new.items k false ≡ settled regs.now r b (get_or marks.now k false) (get_or sure.old.items k false) }
 {
     for k in 0..blocks.len() {
-        if is_test_of(&blocks[k], r) {
-            sure[k] = may_go(regs, r, &blocks[k], is_marked(marks, k));
-        }
+        let was = is_marked(sure.as_slice(), k);
+        sure[k] = settled(regs, &blocks[k], r, is_marked(marks, k), was);
     }
 }
 
@@ -77,9 +93,10 @@ pub(crate) fn sure_tests(
     let mut sure = no_marks(alloc, blocks.len())?;
     let tested = tested_registers(alloc, regs.len(), blocks)?;
     for r in 0..regs.len() {
-        if tested[r] {
+        let is_tested = is_marked(tested.as_slice(), r);
+        if is_tested {
             let marks = unset_starts(alloc, regs, blocks, r)?;
-            settle(regs, blocks, r, marks.as_slice(), sure.as_mut_slice());
+            settle(regs, blocks, r, marks.as_slice(), &mut sure);
         }
     }
     Ok(sure)

@@ -1,14 +1,26 @@
-use Rattle.unset_tests.proofs.Whole.{runs, means, calm}
+use Rattle.ir_core.specs.Runs.{MeansSame, Calm}
+use Rattle.ir_core.specs.Shape.{Shape}
+use Rattle.unset_tests.specs.Same.{RunsSame}
+use Rattle.unset_tests.specs.Without.{IsProgramWithout}
+use Rattle.unset_tests.proofs.Whole.{if_ok, runs, means, calm, shaped}
 use Rattle.unset_tests.proofs.without_sure_tests.Goals as goal
 
 pub returns-clause-runs : goal.returns-clause-runs
-returns-clause-runs c = ?
+returns-clause-runs c =
+    let p = c.args.p in
+    if_ok c.program_without.result (IsProgramWithout p) (RunsSame p) (λ q h. runs p q h) c.program_without.ensures
 
 pub returns-clause-kept : goal.returns-clause-kept
-returns-clause-kept c = ?
+returns-clause-kept c =
+    let p = c.args.p in
+    if_ok c.program_without.result (IsProgramWithout p) (MeansSame p) (λ q h. means p q h) c.program_without.ensures
 
 pub returns-clause-calm : goal.returns-clause-calm
-returns-clause-calm c = ?
+returns-clause-calm c =
+    let p = c.args.p in
+    if_ok c.program_without.result (IsProgramWithout p) (λ q. Calm p → Calm q) (λ q h. calm p q h) c.program_without.ensures
 
 pub returns-clause-shaped : goal.returns-clause-shaped
-returns-clause-shaped c = ?
+returns-clause-shaped c =
+    let p = c.args.p in
+    if_ok c.program_without.result (IsProgramWithout p) Shape (λ q h. shaped p q h c.requires.shape) c.program_without.ensures
