@@ -6,6 +6,7 @@ mod Stepping
 mod Lines
 mod Shaping
 mod Whole
+mod Samples
 mod Walking
 mod Marking
 mod Settling

@@ -3,14 +3,18 @@ use Rattle.std.proofs.Common.{◌≡◌, refl, sym, ◌∙◌, ap, subst, ℕ, z
 use Rattle.std.specs.Prelude.{slice_get, slice_set, replicate, not, nat_eq, ◌&&◌, ◌||◌, ◌↔◌}
 use Rattle.std.specs.List.{flat_map}
 use Rattle.std.specs.Option.{option_to_list}
+use Rattle.std.proofs.lemmas.Bool.{or_parts}
 use Rattle.std.proofs.lemmas.Option.{slice_get_read}
+use Rattle.ir_core.specs.declared.code.Op.{Op}
+use Rattle.ir_core.specs.Items.{in_block}
+use Rattle.ir_core.specs.Missing.{is_some_edge}
 use Rattle.ir_core.specs.declared.code.Last.{Last}
 use Rattle.ir_core.specs.declared.code.Last.TheVariants.{Goto, If, IfError, Return, Unreachable}
 use Rattle.ir_core.specs.declared.code.Block.{Block}
-use Rattle.ir_core.specs.Rows.{Declared}
+use Rattle.ir_core.specs.Rows.{Declared, edge_of_op}
 use Rattle.liveness.specs.Paths.{is_among}
-use Rattle.unset_tests.specs.Unset.{of_test, goes_unset, UnsetAt, entry}
-use Rattle.unset_tests.specs.Walk.{end_unset, caught_unset, onward, AreUnset}
+use Rattle.unset_tests.specs.Unset.{is_passed, of_test, goes_unset, UnsetAt, entry}
+use Rattle.unset_tests.specs.Walk.{left_unset, passed_unset, end_unset, caught_unset, leave_unset, onward, AreUnset}
 use Rattle.unset_tests.proofs.Walking.{among_front, among_back, among_parts, among_one, one_among, there_within, onward_sound, AreClosed, complete}
 
 -- ---- marks
@@ -219,3 +223,39 @@ mark_false marks xs t x same is e = ap (λ z. get_or z t false) (sym same) ∙ (
 
 pub mark_true : (marks xs : List Bool) (t : ℕ) (x : Bool) → xs ≡ marks → x ≡ get_or xs t false → x ≡ true → get_or marks t false ≡ true
 mark_true marks xs t x same is e = ap (λ z. get_or z t false) (sym same) ∙ (sym is ∙ e)
+
+-- ---- a register that no operation leaves unset comes unset from nowhere but the entry
+module _ (regs : Declared) (r : ℕ) where
+  sure_end : (last : Last) (ops : List (Op × ℕ)) → leave_unset regs r ops ≡ false → (end_unset regs r last ops false ≡ false) × (caught_unset regs r last ops false ≡ false)
+  sure_end last [] e = (refl, refl)
+  sure_end last (o ∷ os) e =
+      let both = or_parts (left_unset regs r o.0 false) (leave_unset regs r os) e in
+      let passed : passed_unset regs r last o os false ≡ false = and_off (is_passed (edge_of_op regs o.0) (in_block os last 0)) (left_unset regs r o.0 false) both.0 in
+      let rest = sure_end last os both.1 in
+      (
+        ap (end_unset regs r last os) passed ∙ rest.0,
+        or_off (is_some_edge (edge_of_op regs o.0) && left_unset regs r o.0 false) (caught_unset regs r last os (passed_unset regs r last o os false)) (and_off (is_some_edge (edge_of_op regs o.0)) (left_unset regs r o.0 false) both.0) (ap (caught_unset regs r last os) passed ∙ rest.1),
+      )
+    where
+      and_off : (a b : Bool) → b ≡ false → (a && b) ≡ false
+      and_off true b h = h
+      and_off false b h = refl
+
+      or_off : (a b : Bool) → a ≡ false → b ≡ false → (a || b) ≡ false
+      or_off false b h k = k
+      or_off true b h k = absurd (cc)
+
+  sure_onward : (b : Block) → leave_unset regs r b.ops ≡ false → onward regs r b false ≡ []
+  sure_onward b e =
+      let both = sure_end b.last b.ops e in
+      ap (λ z. cond z (option_to_list b.handler) [] ++ cond (end_unset regs r b.last b.ops false) (goes_unset r b.last) []) both.1 ∙ ap (λ z. cond z (goes_unset r b.last) []) both.0
+
+  pub sure_work : (blocks : List Block) → ((k : ℕ) (b : Block) → slice_get blocks k ≡ Some b → leave_unset regs r b.ops ≡ true → ⊥) → flat_map (λ b. onward regs r b false) blocks ≡ []
+  sure_work [] sure = refl
+  sure_work (b ∷ bs) sure =
+      ap (λ l. l ++ flat_map (λ x. onward regs r x false) bs) (sure_onward b (off (leave_unset regs r b.ops) (sure 0 b refl)))
+      ∙ sure_work bs (λ k x at. sure (suc k) x at)
+    where
+      off : (z : Bool) → (z ≡ true → ⊥) → z ≡ false
+      off false h = refl
+      off true h = absurd (h refl)

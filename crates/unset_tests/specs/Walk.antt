@@ -1,5 +1,6 @@
 -- The same block by block: whether a register may be unset at the end of a block, and to which blocks it comes unset.
 use Rattle.std.specs.Prelude.{◌≡◌, ◌<◌, ◌↔◌, ℕ, suc, Bool, true, false, not, ◌&&◌, ◌||◌, cond, nat_eq, List, [], ◌∷◌, ◌++◌, length, Option, Some, None, slice_get, get_or}
+use Rattle.std.specs.List.{list_any}
 use Rattle.std.specs.Option.{option_to_list}
 use Rattle.ir_core.specs.declared.code.Reg.{Reg}
 use Rattle.ir_core.specs.declared.code.Op.{Op}
@@ -33,10 +34,19 @@ module _ (regs : Declared) (r : ℕ) (last : Last) where
   caught_unset (o ∷ os) before =
       (is_some_edge (edge_of_op regs o.0) && left_unset regs r o.0 before) || caught_unset os (passed_unset o os before)
 
+-- whether one of some operations leaves a register unset that was set before
+abbrev pub leave_unset : Declared → ℕ → List (Op × ℕ) → Bool
+leave_unset regs r ops = list_any (λ o. left_unset regs r o.0 false) ops
+
 -- to which blocks it comes unset from a block
 abbrev pub onward : Declared → ℕ → Block → Bool → List ℕ
 onward regs r b before =
     cond (caught_unset regs r b.last b.ops before) (option_to_list b.handler) [] ++ cond (end_unset regs r b.last b.ops before) (goes_unset r b.last) []
+
+-- no operation leaves it so, unless that is told
+abbrev pub IsSureOf : Declared → List Block → ℕ → Bool → Type 0
+IsSureOf regs blocks r is_unsure =
+    (k : ℕ) (b : Block) → slice_get blocks k ≡ Some b → leave_unset regs r b.ops ≡ true → is_unsure ≡ true
 
 -- marks of the blocks at whose start it may be unset
 abbrev pub AreUnset : Declared → List Block → ℕ → List Bool → Type 0

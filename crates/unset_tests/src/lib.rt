@@ -15,6 +15,7 @@ ghost use Rattle.unset_tests.specs.Without.{IsProgramWithout};
 mod functions;
 mod marks;
 mod tests;
+mod unsure;
 mod walk;
 
 use crate::functions::program_without;

@@ -1,7 +1,7 @@
 //! Marks of the blocks at whose start a register may be unset.
 ghost use Rattle.std.specs.Prelude.{◌≡◌, ◌<◌, ◌∷◌, false, length, replicate, get_or, IfOk};
 ghost use Rattle.std.specs.List.{flat_map};
-ghost use Rattle.unset_tests.specs.Walk.{onward, AreUnset};
+ghost use Rattle.unset_tests.specs.Walk.{onward, IsSureOf, AreUnset};
 
 use crate::walk::push_onward;
 use ir_core::{Block, RType};
@@ -46,18 +46,39 @@ fn first_work(
     Ok(work)
 }
 
+/// The same, where it is told whether some operation may leave it so.
+fn work_of(
+    alloc: Global,
+    regs: &[(Name, RType)],
+    blocks: &[Block],
+    r: usize,
+    is_unsure: bool,
+) -> Result<Vec<usize>, Memory>
+    requires { IsSureOf regs.now blocks.now r is_unsure }
+    ensures { IfOk result (λ work. work.items ≡ 0 ∷ flat_map (λ b. onward regs.now r b false) blocks.now) }
+{
+    if is_unsure {
+        return first_work(alloc, regs, blocks, r);
+    }
+    let mut work = Vec::new(alloc);
+    work.push(0)?;
+    Ok(work)
+}
+
 /// Of each block whether a register may be unset at its start.
 pub(crate) fn unset_starts(
     alloc: Global,
     regs: &[(Name, RType)],
     blocks: &[Block],
     r: usize,
+    is_unsure: bool,
 ) -> Result<Vec<bool>, Memory>
-    requires { r < length regs.now }
+    requires declared { r < length regs.now }
+    requires sure { IsSureOf regs.now blocks.now r is_unsure }
     ensures { IfOk result (λ marks. AreUnset regs.now blocks.now r marks.items) }
 {
     let mut marks = no_marks(alloc, blocks.len())?;
-    let mut work = first_work(alloc, regs, blocks, r)?;
+    let mut work = work_of(alloc, regs, blocks, r, is_unsure)?;
     while let Some(t) = work.pop() {
         if t < blocks.len() && !is_marked(marks.as_slice(), t) {
             marks[t] = true;

@@ -4,6 +4,7 @@ ghost use Rattle.ir_core.specs.declared.code.Block.{Block as BlockItem};
 ghost use Rattle.unset_tests.specs.Walk.{is_tested_by, is_test_of, may_go, settled, AreSure};
 
 use crate::marks::{is_marked, no_marks, unset_starts};
+use crate::unsure::unsure_registers;
 use crate::walk::may_go;
 use ir_core::{Block, Last, RType};
 use std::alloc::Global;
@@ -92,10 +93,12 @@ pub(crate) fn sure_tests(
 {
     let mut sure = no_marks(alloc, blocks.len())?;
     let tested = tested_registers(alloc, regs.len(), blocks)?;
+    let unsure = unsure_registers(alloc, regs, blocks)?;
     for r in 0..regs.len() {
         let is_tested = is_marked(tested.as_slice(), r);
+        let is_unsure = is_marked(unsure.as_slice(), r);
         if is_tested {
-            let marks = unset_starts(alloc, regs, blocks, r)?;
+            let marks = unset_starts(alloc, regs, blocks, r, is_unsure)?;
             settle(regs, blocks, r, marks.as_slice(), &mut sure);
         }
     }

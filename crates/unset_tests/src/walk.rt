@@ -36,7 +36,7 @@ fn is_value(regs: &[(Name, RType)], r: Reg, l: Lit) -> bool
 }
 
 /// Whether an operation surely sets the register that it writes.
-fn sets(regs: &[(Name, RType)], op: &Op) -> bool
+pub(crate) fn sets(regs: &[(Name, RType)], op: &Op) -> bool
     ensures { result ≡ spec.sets regs.now op.now }
 {
     match op {

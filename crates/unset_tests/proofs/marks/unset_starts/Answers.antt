@@ -53,4 +53,4 @@ returns c =
     let regs = c.args.regs.now in
     let blocks = c.args.blocks.now in
     let none : c.loop-t.work.items ≡ [] = empty_work c.loop-t.work.items c.pop.new.self.items (vec_len c.loop-t.work) c.in_default.ensures.items c.in_default.ensures.rest c.in_default.ensures.cases.0 in
-    marking_done regs blocks c.args.r c.requires c.loop-t.marks.items (subst (Marking regs blocks c.args.r c.loop-t.marks.items) none c.loop-t.invariant)
+    marking_done regs blocks c.args.r c.requires.declared c.loop-t.marks.items (subst (Marking regs blocks c.args.r c.loop-t.marks.items) none c.loop-t.invariant)
