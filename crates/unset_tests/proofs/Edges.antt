@@ -1,10 +1,9 @@
 -- Both programs have the same edges behind operations.
-use Rattle.std.proofs.Common.{◌≡◌, refl, sym, ◌∙◌, ap, subst, ℕ, suc, ◌+◌, arith, Bool, true, false, cond, List, Option, Some, None}
+use Rattle.std.proofs.Common.{◌≡◌, refl, sym, ◌∙◌, ap, subst, ℕ, suc, ◌+◌, arith, Bool, true, false, List, Option, Some, None}
 use Rattle.std.specs.Prelude.{slice_get, nat_eq, ◌&&◌}
 use Rattle.std.specs.Option.{option_map_or}
 use Rattle.std.proofs.lemmas.Bool.{eq-eqb, eqb-true}
 use Rattle.ir_core.specs.declared.code.Reg.{Reg}
-use Rattle.ir_core.specs.declared.code.RType.{RType}
 use Rattle.ir_core.specs.declared.code.Op.{Op}
 use Rattle.ir_core.specs.declared.code.Op.TheVariants.{Move, Lit, Prim, Call, Virtual, TraitCall, Turn, Inc, Dec, XDec}
 use Rattle.ir_core.specs.declared.code.Last.TheVariants.{Goto, If, IfError, Return, Unreachable}
@@ -15,11 +14,11 @@ use Rattle.ir_core.specs.declared.code.Program.{Program}
 use Rattle.ir_core.specs.declared.kind.Edge.{Edge}
 use Rattle.ir_core.specs.declared.kind.Edge.TheVariants.{NoEdge, Tests, TestsTwice, Jumps}
 use Rattle.ir_core.specs.Items.{Item, Do, End, item_in, handler_in, blocks_of}
-use Rattle.ir_core.specs.Rows.{Declared, type_of_reg, error_kind, kind_by_result, edge_of_kind, edge_of_call, edge_of_op}
-use Rattle.ir_core.specs.Meaning.{declared_of, registers_of, item_at, handler_at, question, is_answered, is_second_test, is_tested, is_asked, is_jump, is_edge}
+use Rattle.ir_core.specs.Rows.{Declared, type_of_reg, error_kind, kind_by_result, edge_of_kind, edge_of_op}
+use Rattle.ir_core.specs.Meaning.{declared_of, registers_of, item_at, handler_at, question, is_answered, is_second_test, is_tested, is_asked, is_edge}
 use Rattle.liveness.specs.Paths.{is_target, write_of}
 use Rattle.unset_tests.specs.Unset.{sets, is_passed, passes, UnsetAt, written}
-use Rattle.unset_tests.specs.Without.{IsWithout, AreWithout}
+use Rattle.unset_tests.specs.Without.{AreWithout}
 use Rattle.unset_tests.proofs.Items.{IsFree, ItemWithout, same, less, item_without, handler_same, Pair, neither, both, each_at}
 
 -- ---- an operation whose edge tests a register writes it, and need not set it

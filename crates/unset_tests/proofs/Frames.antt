@@ -1,37 +1,29 @@
 -- What holds in every run: each register that holds the error value of its type may be unset where its frame stands.
-use Rattle.std.proofs.Common.{◌≡◌, refl, sym, ◌∙◌, ap, subst, ℕ, suc, ◌+◌, arith, Bool, true, false, not, cond, List, [], ◌∷◌, Option, Some, None, ◌⊎◌, inl, inr}
+use Rattle.std.proofs.Common.{◌≡◌, refl, sym, ◌∙◌, ap, subst, ℕ, suc, ◌+◌, arith, Bool, true, false, cond, List, [], ◌∷◌, Option, Some, None, ◌⊎◌, inl, inr}
 use Rattle.std.specs.Prelude.{slice_get, nat_eq, ◌||◌, ◌%◌, ◌/◌, ◌==◌, ℤ, pos, negsuc, zero}
 use Rattle.std.specs.Ordering.{int_eq}
-use Rattle.std.specs.Option.{option_and_then}
 use Rattle.std.proofs.lemmas.Bool.{eq-eqb, eqb-true}
-use Rattle.value_core.specs.Ending.{Ending}
 use Rattle.value_core.specs.Exceptions.{Thrown}
-use Rattle.value_core.specs.Value.{Value, IntVal, BoolVal, NoneVal, StrVal, TupleVal, ExcVal, ObjVal}
-use Rattle.c_core.specs.declared.code.CClass.{CClass}
-use Rattle.c_core.specs.Functions.{method_at, trait_method_at}
+use Rattle.value_core.specs.Value.{IntVal, BoolVal, NoneVal}
 use Rattle.ir_core.specs.declared.code.Reg.{Reg}
 use Rattle.ir_core.specs.declared.code.RType.{RType}
 use Rattle.ir_core.specs.declared.code.RType.TheVariants.{Int, I64, Bool as BoolType, Ref}
 use Rattle.ir_core.specs.declared.code.Lit.{Lit as Literal}
 use Rattle.ir_core.specs.declared.code.Lit.TheVariants.{Number, Null, PyNone, PyTrue, PyFalse}
-use Rattle.ir_core.specs.declared.code.ErrorKind.{ErrorKind}
-use Rattle.ir_core.specs.declared.code.ErrorKind.TheVariants.{Never, Magic, Always, MagicOverlapping}
 use Rattle.ir_core.specs.declared.code.Op.{Op}
-use Rattle.ir_core.specs.declared.code.Op.TheVariants.{Move, Lit, Prim, Call, Virtual, TraitCall, Turn, Inc, Dec, XDec}
-use Rattle.ir_core.specs.declared.code.Last.{Last}
-use Rattle.ir_core.specs.declared.code.Last.TheVariants.{Goto, If, IfError, Return, Unreachable}
+use Rattle.ir_core.specs.declared.code.Op.TheVariants.{Prim}
 use Rattle.ir_core.specs.declared.code.Func.{Func}
 use Rattle.ir_core.specs.declared.code.Program.{Program}
 use Rattle.ir_core.specs.declared.kind.Edge.{Edge}
 use Rattle.ir_core.specs.declared.kind.Edge.TheVariants.{NoEdge, Tests, TestsTwice, Jumps}
-use Rattle.ir_core.specs.Items.{Item, Do, End, item_in, handler_in, blocks_of}
-use Rattle.ir_core.specs.Rows.{Declared, type_of_reg, kind_by_result, edge_of_kind, edge_of_call, edge_of_prim, edge_of_op}
-use Rattle.ir_core.specs.Registers.{Held, Unset, Holds, error_of, is_error, halved, truth, literal_of, Regs, put, look, first_regs}
-use Rattle.ir_core.specs.Effects.{World, Effect, Wrong, Gives, Acts, Fails, Ends, IfTarget, IfWritten, effect}
-use Rattle.ir_core.specs.Meaning.{Frame, Waiting, Config, Runs, Leaves, Ended, Stuck, Mode, Plain, Strict, Fitting, if_some, if_calm, next, to_block, goes, read, read_all, arguments, is_refused, is_fit, Way, Well, Badly, Wrongly, way, is_jump, is_edge, is_clear, unfit, away, may_stand, typed, turned, chosen, declared_of, registers_of, item_at, handler_at, method_of, trait_name, class_of, ended_well, raised_by, ended, halted, enters, calls, calls_method, failed, succeeds, applied, returned, leave, do_op, do_last, act, step}
+use Rattle.ir_core.specs.Items.{Item, Do, item_in, handler_in, blocks_of}
+use Rattle.ir_core.specs.Rows.{Declared, type_of_reg, kind_by_result, edge_of_kind, edge_of_call, edge_of_op}
+use Rattle.ir_core.specs.Registers.{Held, Unset, Holds, is_error, halved, truth, literal_of, Regs, put}
+use Rattle.ir_core.specs.Effects.{World}
+use Rattle.ir_core.specs.Meaning.{Frame, Waiting, Config, Runs, Leaves, Ended, Stuck, Mode, Plain, Strict, Fitting, if_some, if_calm, next, goes, is_jump, is_edge, is_clear, unfit, away, declared_of, registers_of, item_at, handler_at, failed, succeeds}
 use Rattle.ir_core.specs.Missing.{is_some_edge}
 use Rattle.liveness.specs.Paths.{is_among, is_target, write_of}
-use Rattle.unset_tests.specs.Unset.{is_error_literal, is_value, sets, is_passed, Goes, passes, fails, of_test, goes_unset, UnsetAt, entry, written, kept, jumped}
+use Rattle.unset_tests.specs.Unset.{is_error_literal, sets, is_passed, Goes, passes, fails, UnsetAt, entry, written, kept}
 
 -- ---- literals
 halved_error : (n : ℤ) (h : Held) → halved n ≡ Some h → is_error Int h ≡ true → int_eq n (pos 1) ≡ true
@@ -222,12 +214,11 @@ module _ (p : Program) where
 
     away_good : (regs : Regs) → Puts regs → (below : List Waiting) (w : World) → AllGood below → is_some_edge (edge_of_op (registers_of p f.fn) o) ≡ true → (h : Option ℕ) → handler_at p f.fn f.block ≡ h → Good (away h (next f regs) below w)
     away_good regs left below w rest some None is = rest
-    away_good regs left below w rest some (Some h) is =
-        (
-          moved_good regs left h 0 (λ g at.
+    away_good regs left below w rest some (Some h) is = (
+      moved_good regs left h 0 (λ g at.
           fails f.block f.place h o (item g at) (ap (λ z. is_some_edge (edge_of_op (declared_of z) o)) (sym at) ∙ some) (ap (λ z. handler_in (blocks_of z) f.block) (sym at) ∙ is)),
-          rest,
-        )
+      rest,
+    )
 
     unfit_good : (m : Mode) (x : Config) → Good x → Good (unfit m x)
     unfit_good Plain x h = h

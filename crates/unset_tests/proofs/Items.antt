@@ -1,5 +1,5 @@
 -- The items of a function, and those of the function without tests: the same, but for tests that became jumps.
-use Rattle.std.proofs.Common.{◌≡◌, refl, sym, ◌∙◌, ap, subst, ℕ, zero, suc, ◌+◌, arith, Bool, true, false, List, [], ◌∷◌, ◌++◌, length, Option, Some, None, ◌⊎◌, inl, inr}
+use Rattle.std.proofs.Common.{◌≡◌, refl, sym, ◌∙◌, ap, subst, ℕ, zero, suc, ◌+◌, arith, true, List, [], ◌∷◌, ◌++◌, length, Option, Some, None, ◌⊎◌, inl, inr}
 use Rattle.std.specs.Prelude.{slice_get}
 use Rattle.ir_core.specs.declared.code.Op.{Op}
 use Rattle.ir_core.specs.declared.code.Last.{Last}
@@ -12,7 +12,7 @@ use Rattle.ir_core.specs.Items.{Item, Do, End, in_block, item_of, item_in, handl
 use Rattle.ir_core.specs.Rows.{Declared, edge_of_op}
 use Rattle.ir_core.proofs.ItemLemmas.{end_item}
 use Rattle.unset_tests.specs.Unset.{ends_in_failure, UnsetAt}
-use Rattle.unset_tests.specs.Without.{Stays, IsEndWithout, IsBlockWithout, AreBlocksWithout, IsWithout, AreWithout}
+use Rattle.unset_tests.specs.Without.{IsEndWithout, IsBlockWithout, AreBlocksWithout, IsWithout, AreWithout}
 
 -- ---- one block
 

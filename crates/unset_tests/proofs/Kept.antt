@@ -1,31 +1,28 @@
 -- A step leaves a good run good.
-use Rattle.std.proofs.Common.{◌≡◌, refl, sym, ◌∙◌, ap, subst, ℕ, zero, suc, ◌+◌, ◌-◌, arith, Bool, true, false, not, cond, List, [], ◌∷◌, length, Option, Some, None, ◌⊎◌, inl, inr}
+use Rattle.std.proofs.Common.{◌≡◌, refl, sym, ◌∙◌, ap, ℕ, zero, suc, ◌-◌, Bool, true, false, not, cond, List, [], ◌∷◌, length, Option, Some, None}
 use Rattle.std.specs.Prelude.{slice_get, nat_eq}
-use Rattle.std.specs.Option.{option_and_then}
-use Rattle.std.proofs.lemmas.Bool.{eq-eqb, eqb-true}
+use Rattle.std.proofs.lemmas.Bool.{eqb-true}
 use Rattle.value_core.specs.Items.{Items}
-use Rattle.value_core.specs.Value.{Value, IntVal, BoolVal, NoneVal, StrVal, TupleVal, ExcVal, ObjVal}
+use Rattle.value_core.specs.Value.{IntVal, BoolVal, NoneVal, StrVal, TupleVal, ExcVal, ObjVal}
 use Rattle.c_core.specs.declared.code.CClass.{CClass}
 use Rattle.c_core.specs.Functions.{method_at, trait_method_at}
 use Rattle.ir_core.specs.declared.code.Reg.{Reg}
 use Rattle.ir_core.specs.declared.code.RType.{RType}
 use Rattle.ir_core.specs.declared.code.RType.TheVariants.{Int, I64, Bool as BoolType, Ref}
-use Rattle.ir_core.specs.declared.code.Lit.{Lit as Literal}
 use Rattle.ir_core.specs.declared.code.Op.{Op}
 use Rattle.ir_core.specs.declared.code.Op.TheVariants.{Move, Lit, Prim, Call, Virtual, TraitCall, Turn, Inc, Dec, XDec}
 use Rattle.ir_core.specs.declared.code.Last.{Last}
 use Rattle.ir_core.specs.declared.code.Last.TheVariants.{Goto, If, IfError, Return, Unreachable}
 use Rattle.ir_core.specs.declared.code.Func.{Func}
 use Rattle.ir_core.specs.declared.code.Program.{Program}
-use Rattle.ir_core.specs.declared.kind.Edge.{Edge}
 use Rattle.ir_core.specs.Items.{Item, Do, End, item_in, blocks_of}
-use Rattle.ir_core.specs.Rows.{Declared, type_of_reg, edge_of_call, edge_of_prim, edge_of_op}
-use Rattle.ir_core.specs.Registers.{Held, Unset, Holds, error_of, is_error, literal_of, Regs, put, look, first_regs}
+use Rattle.ir_core.specs.Rows.{Declared, type_of_reg, edge_of_call, edge_of_prim}
+use Rattle.ir_core.specs.Registers.{Held, Unset, Holds, error_of, is_error, literal_of, put, look, first_regs}
 use Rattle.ir_core.specs.Effects.{World, Effect, Wrong, Gives, Acts, Fails, Ends, IfTarget, IfWritten, effect}
-use Rattle.ir_core.specs.Meaning.{Frame, Waiting, Config, Runs, Leaves, Ended, Stuck, Mode, if_some, if_calm, next, to_block, goes, read, read_all, arguments, is_refused, is_fit, Way, Well, Badly, Wrongly, way, may_stand, typed, turned, chosen, declared_of, registers_of, item_at, method_of, trait_name, ended_well, raised_by, ended, halted, write, write_error, enters, calls, calls_method, failed, succeeds, applied, returned, leave, do_op, do_last, act, step, steps}
+use Rattle.ir_core.specs.Meaning.{Frame, Waiting, Config, Runs, Leaves, Ended, Stuck, Mode, if_some, next, to_block, goes, read, read_all, arguments, is_refused, is_fit, Way, Well, Badly, Wrongly, way, may_stand, typed, turned, chosen, declared_of, registers_of, item_at, method_of, trait_name, raised_by, ended, write, enters, calls, calls_method, failed, succeeds, applied, returned, leave, do_op, do_last, act, step}
 use Rattle.ir_core.specs.Runs.{first_world, begins, start}
 use Rattle.liveness.specs.Paths.{is_among}
-use Rattle.unset_tests.specs.Unset.{is_error_literal, is_value, sets, is_passed, of_test, goes_unset, UnsetAt, jumped}
+use Rattle.unset_tests.specs.Unset.{is_value, is_passed, of_test, goes_unset, jumped}
 use Rattle.unset_tests.proofs.Frames.{literal_error, among_first, among_second, call_passed, GoodFrame, IsCallInto, GoodWaiting, AllGood, Good, good_some, good_cond, good_calm, begins_good, leaves_all, leaves_put, next_good, succeeds_good, failed_good}
 
 some_same : (t u : RType) → Some t ≡ Some u → t ≡ u
@@ -57,8 +54,8 @@ module _ (p : Program) where
       good_some p (type_of_reg (registers_of p c.frame.fn) c.into) (λ t. goes c.frame cs (put c.frame.regs c.into.0 h) w)
       (λ t e. (
         next_good p c.frame g.o g.here g.frame (put c.frame.regs c.into.0 h)
-        (leaves_put p c.frame g.o g.here g.frame c.into h g.into.writes (λ u f k. g.into.unsure))
-        (ap (λ z. is_passed z (item_at p c.frame.fn c.frame.block (suc c.frame.place))) g.into.edge ∙ call_passed (registers_of p c.frame.fn) c.into (item_at p c.frame.fn c.frame.block (suc c.frame.place))),
+            (leaves_put p c.frame g.o g.here g.frame c.into h g.into.writes (λ u f k. g.into.unsure))
+            (ap (λ z. is_passed z (item_at p c.frame.fn c.frame.block (suc c.frame.place))) g.into.edge ∙ call_passed (registers_of p c.frame.fn) c.into (item_at p c.frame.fn c.frame.block (suc c.frame.place))),
         rest.1,
       ))
   returned_good m Badly h (c ∷ cs) w rest =
@@ -130,10 +127,13 @@ module _ (p : Program) where
     op_good (Lit r l) line here w =
         good_some p (type_of_reg ds r) _
         (λ t e. good_some p (literal_of t l) (λ h. goes f below (put f.regs r.0 h) w)
-        (λ h k. (next_good p f (Lit r l) here good (put f.regs r.0 h)
-        (leaves_put p f (Lit r l) here good r h refl
-        (λ u g j. let same : t ≡ u = some_same t u (sym e ∙ g) in
-        ap (is_value l) g ∙ ap not (literal_error u l h (ap (λ z. literal_of z l) (sym same) ∙ k) j))) refl, rest)))
+        (λ h k. (
+          next_good p f (Lit r l) here good (put f.regs r.0 h)
+              (leaves_put p f (Lit r l) here good r h refl
+              (λ u g j. let same : t ≡ u = some_same t u (sym e ∙ g) in
+              ap (is_value l) g ∙ ap not (literal_error u l h (ap (λ z. literal_of z l) (sym same) ∙ k) j))) refl,
+          rest,
+        )))
     op_good (Prim to c args) line here w =
         good_cond p (may_stand w.pending c) _ Stuck
         (λ h. good_some p (arguments ds f.regs args) _

@@ -1,6 +1,6 @@
 -- Marks of the blocks to which a register comes unset.
 use Rattle.std.proofs.Common.{◌≡◌, refl, sym, ◌∙◌, ap, subst, ℕ, zero, suc, ◌+◌, ◌-◌, ◌<◌, ◌≤◌, arith, Bool, true, false, cond, List, [], ◌∷◌, ◌++◌, length, length-append, Option, Some, None, ◌⊎◌, inl, inr, ⊎_elim, get_or, take}
-use Rattle.std.specs.Prelude.{slice_get, slice_set, replicate, not, nat_eq, ◌&&◌, ◌||◌, ◌↔◌}
+use Rattle.std.specs.Prelude.{slice_get, slice_set, replicate, nat_eq, ◌&&◌, ◌||◌}
 use Rattle.std.specs.List.{flat_map}
 use Rattle.std.specs.Option.{option_to_list}
 use Rattle.std.proofs.lemmas.Bool.{or_parts}
@@ -231,8 +231,7 @@ module _ (regs : Declared) (r : ℕ) where
   sure_end last (o ∷ os) e =
       let both = or_parts (left_unset regs r o.0 false) (leave_unset regs r os) e in
       let passed : passed_unset regs r last o os false ≡ false = and_off (is_passed (edge_of_op regs o.0) (in_block os last 0)) (left_unset regs r o.0 false) both.0 in
-      let rest = sure_end last os both.1 in
-      (
+      let rest = sure_end last os both.1 in (
         ap (end_unset regs r last os) passed ∙ rest.0,
         or_off (is_some_edge (edge_of_op regs o.0) && left_unset regs r o.0 false) (caught_unset regs r last os (passed_unset regs r last o os false)) (and_off (is_some_edge (edge_of_op regs o.0)) (left_unset regs r o.0 false) both.0) (ap (caught_unset regs r last os) passed ∙ rest.1),
       )

@@ -4,7 +4,7 @@
 --         if b:
 --             x = True
 --         return x
-use Rattle.std.proofs.Common.{◌≡◌, refl, ℕ, Bool, true, false, pos, List, [], ◌∷◌, Some, None}
+use Rattle.std.proofs.Common.{◌≡◌, refl, ℕ, true, false, pos, List, [], ◌∷◌, None}
 use Rattle.std.specs.Prelude.{codes}
 use Rattle.c_core.specs.declared.primitive.Primitive.TheVariants as prim
 use Rattle.c_core.specs.declared.primitive.ErrPrim.TheVariants as err

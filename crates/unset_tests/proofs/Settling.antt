@@ -1,6 +1,6 @@
 -- Which tests may go, and what stands behind a failure.
-use Rattle.std.proofs.Common.{◌≡◌, refl, sym, ◌∙◌, ap, subst, ℕ, zero, suc, ◌+◌, ◌-◌, ◌<◌, ◌≤◌, arith, Bool, true, false, cond, List, [], ◌∷◌, ◌++◌, length, Option, Some, None, ◌⊎◌, inl, inr, get_or}
-use Rattle.std.specs.Prelude.{slice_get, slice_set, replicate, not, nat_eq, ◌&&◌, ◌||◌, ◌==◌}
+use Rattle.std.proofs.Common.{◌≡◌, refl, sym, ◌∙◌, ap, subst, ℕ, zero, suc, ◌+◌, ◌-◌, ◌<◌, ◌≤◌, arith, Bool, true, false, cond, List, [], ◌∷◌, length, Some, None, ◌⊎◌, inl, inr, get_or}
+use Rattle.std.specs.Prelude.{slice_get, slice_set, replicate, not, ◌||◌, ◌==◌}
 use Rattle.std.proofs.lemmas.Bool.{eq-eqb, eqb-true, ne_eqb}
 use Rattle.ir_core.specs.declared.code.Op.{Op}
 use Rattle.ir_core.specs.declared.code.Last.{Last}
@@ -13,9 +13,9 @@ use Rattle.ir_core.specs.Rows.{Declared, edge_of_op}
 use Rattle.ir_core.specs.Meaning.{is_jump}
 use Rattle.std.proofs.lemmas.Option.{slice_get_read}
 use Rattle.unset_tests.specs.Unset.{is_jumps, is_passed, ends_in_failure, UnsetAt, undeclared, entry}
-use Rattle.unset_tests.specs.Without.{Stays, IsEndWithout, IsBlockWithout, AreBlocksWithout}
+use Rattle.unset_tests.specs.Without.{Stays, IsEndWithout, AreBlocksWithout}
 use Rattle.unset_tests.specs.Walk.{end_unset, AreUnset, is_tested_by, is_test_of, may_go, settled, left_out, blocks_without, AreSure}
-use Rattle.unset_tests.proofs.Walking.{state_at, end_is, state_sound, onward_sound, AreClosed, complete, there_within}
+use Rattle.unset_tests.proofs.Walking.{end_is, state_sound, onward_sound, AreClosed, complete, there_within}
 use Rattle.unset_tests.proofs.Marking.{no_mark, same_or, set_there, set_other}
 
 -- ---- the last operation

@@ -1,5 +1,5 @@
 -- The program without tests has the shape of the program.
-use Rattle.std.proofs.Common.{◌≡◌, refl, sym, ◌∙◌, ap, subst, ℕ, zero, suc, ◌+◌, ◌-◌, ◌<◌, ◌≤◌, arith, Bool, true, false, not, cond, List, [], ◌∷◌, ◌++◌, length, map, take, Option, Some, None, ◌⊎◌, inl, inr}
+use Rattle.std.proofs.Common.{◌≡◌, refl, sym, ◌∙◌, ap, subst, ℕ, zero, suc, ◌+◌, ◌-◌, ◌<◌, arith, true, false, not, cond, List, [], ◌∷◌, ◌++◌, length, map, Option, Some, None, inl, inr}
 use Rattle.std.specs.Prelude.{slice_get, ◌&&◌, ◌||◌, nat_lt, nat_le, nat_eq, ◌==◌, codes}
 use Rattle.std.specs.List.{list_all, position_or_len}
 use Rattle.std.specs.Option.{option_map_or, option_and_then}
@@ -7,10 +7,9 @@ use Rattle.std.specs.Str.{bytes_eq}
 use Rattle.std.proofs.lemmas.Bool.{and_from, and_parts}
 use Rattle.c_core.specs.declared.code.Kind.{Kind}
 use Rattle.c_core.specs.declared.code.Line.{Line}
-use Rattle.c_core.specs.declared.code.Line.TheVariants as line
 use Rattle.c_core.specs.declared.code.CFunc.{CFunc}
 use Rattle.c_core.specs.declared.code.Code.{Code}
-use Rattle.c_core.specs.Functions.{label_places, after_prefix, number_of as number_named, function_named, parameter_kinds}
+use Rattle.c_core.specs.Functions.{label_places, after_prefix, number_of as number_named, function_named}
 use Rattle.c_core.specs.WellFormed.{WellFormed, Declared as Variable, is_identifier, is_char, is_declared, spelled_label, is_leaving, is_turn_at, begins_right, jumps_fit, lines_lead_on, line_fits, function_fits, names_differ, classes_fit, functions_fit, spelled_line, spelled_body, spelled_top, spelled_function, spelled_functions, spelled_globals, spelled_class, is_spelled}
 use Rattle.ir_core.specs.declared.code.Op.{Op}
 use Rattle.ir_core.specs.declared.code.Op.TheVariants.{Turn}
@@ -19,17 +18,17 @@ use Rattle.ir_core.specs.declared.code.Last.TheVariants.{Goto, If, IfError, Retu
 use Rattle.ir_core.specs.declared.code.Block.{Block}
 use Rattle.ir_core.specs.declared.code.Func.{Func}
 use Rattle.ir_core.specs.declared.code.Program.{Program}
-use Rattle.ir_core.specs.Items.{Item, Do, item_in}
+use Rattle.ir_core.specs.Items.{Item, Do}
 use Rattle.ir_core.specs.Rows.{Declared}
 use Rattle.ir_core.specs.Names.{function_id}
 use Rattle.ir_core.specs.Lower.{kind_of_type, variable_of, call_name, called_as, line_of, op_lines, label_before, label_of, end_lines, block_lines, lines_from, lowered_as, name_in, lowered_from, lower}
-use Rattle.ir_core.specs.Shape.{OpsFit, LastFits, HandlerFits, BlockFits, BlocksFit, FuncFits, FuncsFit, BeginsInTurn, Shape}
+use Rattle.ir_core.specs.Shape.{OpsFit, LastFits, HandlerFits, BlocksFit, FuncFits, FuncsFit, BeginsInTurn, Shape}
 use Rattle.ir_core.proofs.JumpLemmas.{jumps_go, last_leaves}
 use Rattle.ir_core.proofs.TextLemmas.{LineIs, LinesAre, lines_from_all, all_spelled, all_fit, lines_append, lines_parts, line_same}
 use Rattle.ir_core.proofs.ClassLemmas.{classes_same}
-use Rattle.unset_tests.specs.Without.{IsEndWithout, IsBlockWithout, AreBlocksWithout, IsWithout, AreWithout}
+use Rattle.unset_tests.specs.Without.{IsEndWithout, AreBlocksWithout, IsWithout, AreWithout}
 use Rattle.unset_tests.proofs.Items.{ItemWithout, same, less, item_without, count_from, each_count}
-use Rattle.unset_tests.proofs.Lines.{TakesSame, EachSame, no_function, functions, with_new, fits_same}
+use Rattle.unset_tests.proofs.Lines.{EachSame, no_function, functions, fits_same}
 
 -- ---- blocks
 module _ (regs : Declared) (all : List Block) where
@@ -46,15 +45,14 @@ module _ (regs : Declared) (all : List Block) where
   blocks_fit n k [] [] h fits = tt
   blocks_fit n k [] (c ∷ cs) h fits = absurd h
   blocks_fit n k (b ∷ bs) [] h fits = absurd h
-  blocks_fit n k (b ∷ bs) (c ∷ cs) h fits =
-      (
-        record {
-          ops = subst OpsFit (sym h.0.ops) fits.0.ops;
-          last = subst (λ ops. LastFits n k ops c.last) (sym h.0.ops) (last_fits n k b.ops b.last c.last fits.0.last h.0.last);
-          handler = subst (HandlerFits n k) (sym h.0.handler) fits.0.handler;
-        },
-        blocks_fit n (suc k) bs cs h.1 fits.1,
-      )
+  blocks_fit n k (b ∷ bs) (c ∷ cs) h fits = (
+    record {
+      ops = subst OpsFit (sym h.0.ops) fits.0.ops;
+      last = subst (λ ops. LastFits n k ops c.last) (sym h.0.ops) (last_fits n k b.ops b.last c.last fits.0.last h.0.last);
+      handler = subst (HandlerFits n k) (sym h.0.handler) fits.0.handler;
+    },
+    blocks_fit n (suc k) bs cs h.1 fits.1,
+  )
 
 func_fits : (f g : Func) → IsWithout f g → FuncFits f → FuncFits g
 func_fits f g h fits =

@@ -1,8 +1,8 @@
 -- Both programs take the same steps: each step of one from a good run is the other's.
-use Rattle.std.proofs.Common.{◌≡◌, refl, sym, ◌∙◌, ap, subst, ℕ, zero, suc, ◌+◌, ◌-◌, ◌≤◌, arith, Bool, true, false, not, cond, List, [], ◌∷◌, length, Option, Some, None, ◌⊎◌, inl, inr}
+use Rattle.std.proofs.Common.{◌≡◌, refl, sym, ◌∙◌, ap, ℕ, zero, suc, ◌+◌, ◌-◌, ◌≤◌, arith, Bool, true, false, not, cond, List, [], ◌∷◌, length, Option, Some, None}
 use Rattle.std.specs.Prelude.{slice_get, nat_lt, nat_eq, ◌&&◌}
 use Rattle.std.specs.List.{position_or_len}
-use Rattle.std.specs.Option.{option_map, option_map_or, option_and_then}
+use Rattle.std.specs.Option.{option_map, option_and_then}
 use Rattle.std.specs.Str.{bytes_eq}
 use Rattle.value_core.specs.Exceptions.{Thrown}
 use Rattle.value_core.specs.Items.{Items}
@@ -19,8 +19,8 @@ use Rattle.ir_core.specs.declared.code.Func.{Func}
 use Rattle.ir_core.specs.declared.code.Program.{Program}
 use Rattle.ir_core.specs.declared.kind.Edge.{Edge}
 use Rattle.ir_core.specs.declared.kind.Edge.TheVariants.{NoEdge, Tests, TestsTwice, Jumps}
-use Rattle.ir_core.specs.Items.{Item, Do, End, item_in, blocks_of}
-use Rattle.ir_core.specs.Rows.{Declared, type_of_reg, edge_of_call, edge_of_prim, edge_of_op}
+use Rattle.ir_core.specs.Items.{Item, Do, End}
+use Rattle.ir_core.specs.Rows.{Declared, type_of_reg, edge_of_call, edge_of_prim}
 use Rattle.ir_core.specs.Registers.{Held, Holds, error_of, is_error, literal_of, put, look, first_regs}
 use Rattle.ir_core.specs.Names.{function_id, is_called, function_called}
 use Rattle.ir_core.specs.Effects.{World, Effect, Wrong, Gives, Acts, Fails, Ends, IfTarget, IfWritten, effect}
@@ -28,9 +28,9 @@ use Rattle.ir_core.specs.Meaning.{Frame, Waiting, Config, Runs, Leaves, Ended, S
 use Rattle.ir_core.specs.Runs.{first_world, begins, start}
 use Rattle.unset_tests.specs.Unset.{UnsetAt, undeclared}
 use Rattle.unset_tests.specs.Without.{IsWithout, AreWithout}
-use Rattle.unset_tests.proofs.Items.{IsFree, Pair, neither, both, each_at, each_count}
+use Rattle.unset_tests.proofs.Items.{Pair, neither, both, each_at, each_count}
 use Rattle.unset_tests.proofs.Edges.{q, registers, handlers, Beside, alike, fewer, beside, SameEdge, edge_same}
-use Rattle.unset_tests.proofs.Frames.{GoodFrame, IsCallInto, GoodWaiting, AllGood, Good}
+use Rattle.unset_tests.proofs.Frames.{GoodFrame, GoodWaiting, AllGood, Good}
 use Rattle.unset_tests.proofs.Kept.{step_good, start_good}
 
 same_go : {A : Type 0} (o : Option A) (go other : A → Config) → ((a : A) → go a ≡ other a) → if_some o go ≡ if_some o other

@@ -1,19 +1,19 @@
 -- What a block tells of a register is what paths tell: at each of its places, and of the blocks that it goes to.
-use Rattle.std.proofs.Common.{◌≡◌, refl, sym, ◌∙◌, ap, subst, ℕ, zero, suc, ◌+◌, ◌<◌, ◌≤◌, arith, Bool, true, false, cond, List, [], ◌∷◌, ◌++◌, length, Option, Some, None, ◌⊎◌, inl, inr, ⊎_elim, get_or}
-use Rattle.std.specs.Prelude.{slice_get, not, nat_eq, ◌&&◌, ◌||◌, ◌↔◌}
+use Rattle.std.proofs.Common.{◌≡◌, refl, sym, ◌∙◌, ap, ℕ, zero, suc, ◌<◌, arith, Bool, true, false, cond, List, [], ◌∷◌, ◌++◌, length, Option, Some, None, ◌⊎◌, inl, inr, ⊎_elim, get_or}
+use Rattle.std.specs.Prelude.{slice_get, not, nat_eq, ◌&&◌, ◌||◌}
 use Rattle.std.specs.Option.{option_to_list, option_and_then}
 use Rattle.std.proofs.lemmas.Bool.{and_parts, and_from, eq-eqb, eqb-true}
 use Rattle.std.proofs.lemmas.List.Folds.{list_any-append}
 use Rattle.ir_core.specs.declared.code.Op.{Op}
 use Rattle.ir_core.specs.declared.code.Last.{Last}
 use Rattle.ir_core.specs.declared.code.Block.{Block}
-use Rattle.ir_core.specs.Items.{Item, Do, End, in_block, item_of, item_in, handler_of, handler_in}
+use Rattle.ir_core.specs.Items.{Item, Do, End, in_block, item_of, item_in, handler_of}
 use Rattle.ir_core.specs.Rows.{Declared, edge_of_op}
 use Rattle.ir_core.specs.Missing.{is_some_edge}
 use Rattle.ir_core.proofs.ItemLemmas.{end_item}
 use Rattle.liveness.specs.Paths.{is_among, is_target, write_of}
 use Rattle.unset_tests.specs.Unset.{sets, is_passed, Goes, passes, fails, goes_unset, UnsetAt, undeclared, entry, written, kept, jumped}
-use Rattle.unset_tests.specs.Walk.{left_unset, passed_unset, end_unset, caught_unset, onward, AreUnset}
+use Rattle.unset_tests.specs.Walk.{left_unset, passed_unset, end_unset, caught_unset, onward}
 
 -- ---- small facts
 or_parts : (a b : Bool) → (a || b) ≡ true → (a ≡ true) ⊎ (b ≡ true)

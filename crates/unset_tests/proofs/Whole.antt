@@ -1,9 +1,6 @@
 -- The program without tests: its runs are the program's.
-use Rattle.std.proofs.Common.{◌≡◌, sym, ◌∙◌, ap, subst, ℕ, Result, Ok, Err, IfOk}
-use Rattle.value_core.specs.Ending.{Ending}
-use Rattle.value_core.specs.Items.{Items}
+use Rattle.std.proofs.Common.{◌≡◌, sym, ◌∙◌, ap, subst, Result, Ok, Err, IfOk}
 use Rattle.ir_core.specs.declared.code.Program.{Program}
-use Rattle.ir_core.specs.Effects.{World}
 use Rattle.ir_core.specs.Meaning.{Plain, Strict}
 use Rattle.ir_core.specs.Runs.{MeansSame, Calm}
 use Rattle.ir_core.specs.Shape.{Shape}

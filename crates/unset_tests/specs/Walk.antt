@@ -1,8 +1,7 @@
 -- The same block by block: whether a register may be unset at the end of a block, and to which blocks it comes unset.
-use Rattle.std.specs.Prelude.{◌≡◌, ◌<◌, ◌↔◌, ℕ, suc, Bool, true, false, not, ◌&&◌, ◌||◌, cond, nat_eq, List, [], ◌∷◌, ◌++◌, length, Option, Some, None, slice_get, get_or}
+use Rattle.std.specs.Prelude.{◌≡◌, ◌<◌, ◌↔◌, ℕ, suc, Bool, true, false, not, ◌&&◌, ◌||◌, cond, nat_eq, List, [], ◌∷◌, ◌++◌, length, Some, slice_get, get_or}
 use Rattle.std.specs.List.{list_any}
 use Rattle.std.specs.Option.{option_to_list}
-use Rattle.ir_core.specs.declared.code.Reg.{Reg}
 use Rattle.ir_core.specs.declared.code.Op.{Op}
 use Rattle.ir_core.specs.declared.code.Last.{Last}
 use Rattle.ir_core.specs.declared.code.Last.TheVariants.{Goto, IfError}
@@ -10,7 +9,7 @@ use Rattle.ir_core.specs.declared.code.Block.{Block}
 use Rattle.ir_core.specs.Items.{in_block}
 use Rattle.ir_core.specs.Rows.{Declared, edge_of_op}
 use Rattle.ir_core.specs.Missing.{is_some_edge}
-use Rattle.liveness.specs.Paths.{is_among, is_target, write_of}
+use Rattle.liveness.specs.Paths.{is_target, write_of}
 use Rattle.unset_tests.specs.Unset.{sets, is_passed, goes_unset, ends_in_failure, UnsetAt}
 use Rattle.unset_tests.specs.Without.{Stays}
 

@@ -53,11 +53,7 @@ fn function_without(alloc: Global, f: Func) -> Result<Func, Memory>
 }
 
 /// The blocks, where the tests at the ends of those that are marked are left out.
-fn blocks_without(
-    alloc: Global,
-    sure: &[bool],
-    blocks: Many<Block>,
-) -> Result<Many<Block>, Memory>
+fn blocks_without(alloc: Global, sure: &[bool], blocks: Many<Block>) -> Result<Many<Block>, Memory>
     ensures { IfOk result (λ all. all ≡ spec.blocks_without sure.now 0 blocks) }
 {
     let mut done = Vec::new(alloc);

@@ -49,13 +49,7 @@ fn is_test_of(block: &Block, r: usize) -> bool
 }
 
 /// Whether a block's test may go: of one that tests this register by its mark, of any other as it was settled.
-fn settled(
-    regs: &[(Name, RType)],
-    block: &Block,
-    r: usize,
-    marked: bool,
-    was: bool,
-) -> bool
+fn settled(regs: &[(Name, RType)], block: &Block, r: usize, marked: bool, was: bool) -> bool
     ensures { result ≡ settled regs.now r block.now marked was }
 {
     if is_test_of(block, r) {
@@ -66,13 +60,7 @@ fn settled(
 }
 
 /// Marks the tests of a register that may go, by the blocks at whose start it may be unset.
-fn settle(
-    regs: &[(Name, RType)],
-    blocks: &[Block],
-    r: usize,
-    marks: &[bool],
-    sure: &mut Vec<bool>,
-)
+fn settle(regs: &[(Name, RType)], blocks: &[Block], r: usize, marks: &[bool], sure: &mut Vec<bool>)
     requires { length sure.old.items ≡ length blocks.now }
     ensures size { length sure.new.items ≡ length sure.old.items }
     ensures settled { (k : ℕ) (b : BlockItem) → slice_get blocks.now k ≡ Some b → get_or sure.new.items k false ≡ settled regs.now r b (get_or marks.now k false) (get_or sure.old.items k false) }

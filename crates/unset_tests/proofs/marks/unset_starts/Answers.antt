@@ -1,6 +1,6 @@
-use Rattle.std.proofs.Common.{◌≡◌, ◌∙◌, ◌<◌, ◌+◌, [], ◌++◌, ◌∷◌, true, false, length, length-append, sym, ap, subst, arith, get_or, Some, vec_len}
+use Rattle.std.proofs.Common.{◌≡◌, ◌<◌, ◌+◌, [], ◌∷◌, true, false, length, length-append, sym, ap, subst, arith, vec_len}
 use Rattle.std.specs.List.{flat_map}
-use Rattle.std.specs.Prelude.{slice_get, slice_set}
+use Rattle.std.specs.Prelude.{slice_set}
 use Rattle.unset_tests.specs.Walk.{onward}
 use Rattle.unset_tests.proofs.Marking.{Marking, weight, weight_set, onward_few, marking_start, marking_past, marking_more, marking_done, block_there, mark_false, mark_true, empty_work}
 use Rattle.unset_tests.proofs.marks.unset_starts.Goals as goal

@@ -1,4 +1,4 @@
-use Rattle.std.proofs.Common.{◌≡◌, ◌∙◌, ◌<◌, ◌+◌, length, ap, arith, get_or, false}
+use Rattle.std.proofs.Common.{◌∙◌, ap, arith, get_or, false}
 use Rattle.unset_tests.specs.Walk.{settled}
 use Rattle.unset_tests.proofs.Walking.{there_within}
 use Rattle.unset_tests.proofs.Marking.{set_size}

@@ -1,5 +1,4 @@
 use Rattle.std.proofs.Common.{sym, ap, ◌∙◌}
-use Rattle.ir_core.specs.Rows.{edge_of_op}
 use Rattle.unset_tests.specs.Unset.{is_jumps}
 use Rattle.unset_tests.proofs.Settling.{last_is}
 use Rattle.unset_tests.proofs.walk.ends_in_failure.Goals as goal

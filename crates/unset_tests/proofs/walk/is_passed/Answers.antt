@@ -1,4 +1,4 @@
-use Rattle.std.proofs.Common.{sym, ap, ◌∙◌}
+use Rattle.std.proofs.Common.{sym, ◌∙◌}
 use Rattle.unset_tests.proofs.Settling.{passed_to_jump, passed_to_other}
 use Rattle.unset_tests.proofs.walk.is_passed.Goals as goal
 
