@@ -5,7 +5,7 @@ ghost use Rattle.unset_tests.specs.Walk.{left_out};
 ghost use Rattle.unset_tests.specs.Without.{IsWithout, IsProgramWithout};
 
 use crate::marks::is_marked;
-use crate::tests::sure_tests;
+use crate::sure::sure_tests;
 use ir_core::{Block, Func, Last, Program};
 use std::alloc::Global;
 use value_core::{Many, Memory};

@@ -14,7 +14,7 @@ ghost use Rattle.unset_tests.specs.Without.{IsProgramWithout};
 
 mod functions;
 mod marks;
-mod tests;
+mod sure;
 mod unsure;
 mod walk;
 

@@ -1,8 +1,8 @@
 use Rattle.std.proofs.Common.{◌≡◌, ◌∙◌, ◌+◌, length, sym, ap, subst, arith, get_or, true, false}
 use Rattle.unset_tests.specs.Walk.{AreUnset}
 use Rattle.unset_tests.proofs.Settling.{AreSettled, untested_settled, settled_more, all_settled}
-use Rattle.unset_tests.proofs.tests.sure_tests.Goals as goal
-use Rattle.unset_tests.proofs.tests.sure_tests.Goals.{then-is_tested+in_ok-marks, else-is_tested}
+use Rattle.unset_tests.proofs.sure.sure_tests.Goals as goal
+use Rattle.unset_tests.proofs.sure.sure_tests.Goals.{then-is_tested+in_ok-marks, else-is_tested}
 
 pub loop-r-preserved : goal.loop-r-preserved
 loop-r-preserved c =

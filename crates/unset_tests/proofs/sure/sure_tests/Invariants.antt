@@ -1,6 +1,6 @@
 use Rattle.std.proofs.Common.{◌≡◌, length}
 use Rattle.unset_tests.proofs.Settling.{AreSettled}
-use Rattle.unset_tests.proofs.tests.sure_tests.Given as goal
+use Rattle.unset_tests.proofs.sure.sure_tests.Given as goal
 
 abbrev pub invariant-loop-r : goal.invariant-loop-r
 invariant-loop-r l = record {

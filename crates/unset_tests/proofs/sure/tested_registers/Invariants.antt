@@ -2,7 +2,7 @@ use Rattle.std.proofs.Common.{◌≡◌, ◌<◌, ℕ, true, false, length, Some
 use Rattle.std.specs.Prelude.{slice_get}
 use Rattle.ir_core.specs.declared.code.Block.{Block}
 use Rattle.unset_tests.specs.Walk.{is_test_of}
-use Rattle.unset_tests.proofs.tests.tested_registers.Given as goal
+use Rattle.unset_tests.proofs.sure.tested_registers.Given as goal
 
 abbrev pub invariant-loop-block : goal.invariant-loop-block
 invariant-loop-block l = record {

@@ -1,6 +1,6 @@
 use Rattle.std.proofs.Common.{◌≡◌, length}
 use Rattle.unset_tests.proofs.Settling.{IsSettledTo}
-use Rattle.unset_tests.proofs.tests.settle.Given as goal
+use Rattle.unset_tests.proofs.sure.settle.Given as goal
 
 abbrev pub invariant-loop-k : goal.invariant-loop-k
 invariant-loop-k l = record {

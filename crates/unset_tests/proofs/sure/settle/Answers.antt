@@ -3,7 +3,7 @@ use Rattle.unset_tests.specs.Walk.{settled}
 use Rattle.unset_tests.proofs.Walking.{there_within}
 use Rattle.unset_tests.proofs.Marking.{set_size}
 use Rattle.unset_tests.proofs.Settling.{settled_next}
-use Rattle.unset_tests.proofs.tests.settle.Goals as goal
+use Rattle.unset_tests.proofs.sure.settle.Goals as goal
 
 pub loop-k-preserved : goal.loop-k-preserved
 loop-k-preserved c =
